@@ -1,0 +1,47 @@
+-- Connected cores and the backbone.
+--   Reachable g over v w     links lead from v to w over radios that pass the test `over`
+--   at-least g k             the test: radios with number k or more
+--   In-core g v k w          document 01: w is in the connected core of v at level k
+--   reached, core-of         the same, worked out by rounds, as an ascending list
+--   backbone g               document 01: the radios whose number is the greatest at the site; none if that is 0
+-- That rounds give what is reachable is `core-of-iff` in proofs/Reach.antt. Definitions only.
+use mathlib.Core.Path.{_≡_}
+use mathlib.Core.Bool.{Bool, true, false, _&&_, _||_}
+use mathlib.Core.List.{List, [], _∷_}
+use Prim.Native.Nat.{ℕ, zero, suc, _<_, max}
+use lib.Dec.{ltb, leb, eqb}
+use Rattle.mesh.specs.Lists.{filter, member}
+use Rattle.mesh.specs.Graph.{Graph, radios, linked, neighbours-among}
+use Rattle.mesh.specs.Cores.{number, numbers}
+
+-- ---- connected cores
+
+pub data Reachable (g : Graph) (over : ℕ → Bool) (v : ℕ) : ℕ → Type 0 where
+  here : Reachable g over v v
+  onward : {w x : ℕ} → Reachable g over v w → linked g w x ≡ true → x < g .n → over x ≡ true → Reachable g over v x
+
+unfoldable pub at-least : Graph → (k v : ℕ) → Bool
+at-least g k = let num = number g in λ v. leb k (num v)
+
+unfoldable pub In-core : Graph → (v k w : ℕ) → Type 0
+In-core g v k w = Reachable g (at-least g k) v w
+
+-- in each round those come in that pass the test and have a neighbour that is in
+unfoldable pub reached : (rounds : ℕ) → Graph → (over : ℕ → Bool) → List ℕ → List ℕ
+reached zero g over xs = xs
+reached (suc r) g over xs =
+    reached r g over (filter (λ w. member w xs || (over w && ltb 0 (neighbours-among (linked g) w xs))) (radios g))
+
+unfoldable pub core-of : Graph → (v k : ℕ) → List ℕ
+core-of g v k = reached (g .n) g (at-least g k) (v ∷ [])
+
+-- ---- backbone
+
+unfoldable pub greatest : List ℕ → ℕ
+greatest [] = 0
+greatest (x ∷ xs) = max x (greatest xs)
+
+unfoldable pub backbone : Graph → List ℕ
+backbone g =
+    let num = number g in
+    let top = greatest (numbers g) in filter (λ v. ltb 0 top && eqb (num v) top) (radios g)

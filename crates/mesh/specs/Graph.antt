@@ -1,0 +1,85 @@
+-- Radios and links.
+--   Link                     a link, its lower radio first
+--   Graph                    n radios, numbered 0 to n - 1, and their links; a site's order is no part of it
+--   linked g a b             is there a link between a and b
+--   neighbours-among f v xs  how many radios of xs are neighbours of v, where f tells neighbours
+--   neighbours-in g v s      how many neighbours v has in the set s
+--   degree g v               how many neighbours v has
+--   relinked up a b g        the graph with the link between a and b taken up or down
+--   proper, ascending        links as an image lists them: lower radio first, radios below n, by lower and then higher
+-- Laws are in proofs/GraphLaws.antt. Definitions only.
+use mathlib.Core.Bool.{Bool, true, false, _&&_, _||_, cond}
+use mathlib.Core.List.{List, [], _∷_}
+use Prim.Native.Nat.{ℕ, zero, suc, _+_}
+use lib.Dec.{ltb, eqb}
+use Rattle.mesh.specs.Lists.{range, count, member}
+
+pub record Link : Type 0 where
+  pub low : ℕ
+  pub high : ℕ
+
+pub record Graph : Type 0 where
+  pub n : ℕ
+  pub links : List Link
+
+abbrev pub graph : (n : ℕ) → List Link → Graph
+graph n ls = record { n = n; links = ls }
+
+unfoldable pub radios : Graph → List ℕ
+radios g = range 0 (g .n)
+
+-- ---- neighbours
+
+-- the other ends of the links of a
+unfoldable pub other-ends : (a : ℕ) → List Link → List ℕ
+other-ends a [] = []
+other-ends a (l ∷ ls) =
+    let rest = other-ends a ls in cond (eqb (l .low) a) (l .high ∷ rest) (cond (eqb (l .high) a) (l .low ∷ rest) rest)
+
+unfoldable pub linked : Graph → (a b : ℕ) → Bool
+linked g a = let ends = other-ends a (g .links) in λ b. member b ends
+
+unfoldable pub neighbours-among : (neighbour : ℕ → ℕ → Bool) → (v : ℕ) → List ℕ → ℕ
+neighbours-among f v xs = let near = f v in count near xs
+
+unfoldable pub neighbours-in : Graph → (v : ℕ) → (set : ℕ → Bool) → ℕ
+neighbours-in g v s = let near = linked g v in count (λ b. near b && s b) (radios g)
+
+unfoldable pub degree : Graph → (v : ℕ) → ℕ
+degree g v = neighbours-among (linked g) v (radios g)
+
+-- ---- one link more or less
+
+unfoldable pub link : (a b : ℕ) → Link
+link a b = cond (ltb a b) (record { low = a; high = b }) (record { low = b; high = a })
+
+unfoldable pub link-before : Link → Link → Bool
+link-before l m = ltb (l .low) (m .low) || (eqb (l .low) (m .low) && ltb (l .high) (m .high))
+
+unfoldable pub same-link : Link → Link → Bool
+same-link l m = eqb (l .low) (m .low) && eqb (l .high) (m .high)
+
+unfoldable pub with-link : Link → List Link → List Link
+with-link l [] = l ∷ []
+with-link l (m ∷ ms) = let rest = with-link l ms in cond (link-before l m) (l ∷ m ∷ ms) (m ∷ rest)
+
+unfoldable pub without-link : Link → List Link → List Link
+without-link l [] = []
+without-link l (m ∷ ms) = let rest = without-link l ms in cond (same-link m l) ms (m ∷ rest)
+
+unfoldable pub new-links : (up : Bool) → (a b : ℕ) → List Link → List Link
+new-links u a b ls = cond u (with-link (link a b) ls) (without-link (link a b) ls)
+
+unfoldable pub relinked : (up : Bool) → (a b : ℕ) → Graph → Graph
+relinked u a b g = graph (g .n) (new-links u a b (g .links))
+
+-- ---- links as an image lists them
+
+unfoldable pub proper : (n : ℕ) → List Link → Bool
+proper n [] = true
+proper n (l ∷ ls) = (ltb (l .low) (l .high) && ltb (l .high) n) && proper n ls
+
+unfoldable pub ascending : List Link → Bool
+ascending [] = true
+ascending (l ∷ []) = true
+ascending (l ∷ m ∷ ls) = link-before l m && ascending (m ∷ ls)

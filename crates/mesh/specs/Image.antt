@@ -1,0 +1,130 @@
+-- The site image: blocks of 512 bytes, numbers little-endian.
+--   word, long               a number as two or four bytes
+--   check-sum bs             the sum of byte × (position + 1)
+--   block kind index bytes   a block: kind, zero, index, payload filled up with zeros, check
+--   block-at g xs i          block i of the image of the graph g with the order xs
+--   image-of g xs            the image
+--   word-at, image-order, image-links, image-graph   read back
+--   whole-blocks             question 9, reading: a multiple of 512 bytes, not 0
+--   checks-good              question 10: every block passes its check
+--   is-image n bs            question 11: the bytes are the image of sound tables with this n
+--   payload-at bs i          the payload of block i, as the block reader gives it
+-- Definitions only.
+use mathlib.Core.Bool.{Bool, true, false, _&&_, not, cond}
+use mathlib.Core.List.{List, [], _∷_, _++_, map, flatMap}
+use Prim.Native.Nat.{ℕ, zero, suc, _+_, _*_, _-_, _/_, _%_}
+use lib.Dec.{ltb, eqb}
+use lib.ListN.{length, getD, take, drop, replicate}
+use Rattle.mesh.specs.Lists.{range, all, same}
+use Rattle.mesh.specs.Graph.{Link, Graph, graph, proper, ascending}
+use Rattle.mesh.specs.Tables.{tables-of}
+use Rattle.mesh.specs.Sound.{sound}
+
+abbrev pub block-bytes : ℕ
+block-bytes = 512
+
+abbrev pub payload-bytes : ℕ
+payload-bytes = 504
+
+-- entries of the order in a block of kind 1, links in a block of kind 2
+abbrev pub block-entries : ℕ
+block-entries = 252
+
+abbrev pub block-links : ℕ
+block-links = 126
+
+-- ---- a block
+
+unfoldable pub word : ℕ → List ℕ
+word x = x % 256 ∷ x / 256 % 256 ∷ []
+
+unfoldable pub long : ℕ → List ℕ
+long x = x % 256 ∷ x / 256 % 256 ∷ x / 65536 % 256 ∷ x / 16777216 % 256 ∷ []
+
+-- `weight` is the position of the first byte, and 1
+unfoldable pub weighted-sum : (weight : ℕ) → List ℕ → ℕ
+weighted-sum i [] = 0
+weighted-sum i (x ∷ xs) = x * i + weighted-sum (suc i) xs
+
+unfoldable pub check-sum : List ℕ → ℕ
+check-sum bs = weighted-sum 1 bs
+
+unfoldable pub block : (kind index : ℕ) → (payload : List ℕ) → List ℕ
+block k i xs =
+    let body = k ∷ 0 ∷ word i ++ xs ++ replicate (payload-bytes - length xs) 0 in body ++ long (check-sum body)
+
+-- ---- the image
+
+-- how many blocks hold so many entries
+unfoldable pub blocks-for : (entries each : ℕ) → ℕ
+blocks-for x each = (x + (each - 1)) / each
+
+unfoldable pub order-blocks : (n : ℕ) → ℕ
+order-blocks n = blocks-for n block-entries
+
+unfoldable pub block-count : (n links : ℕ) → ℕ
+block-count n m = 1 + order-blocks n + blocks-for m block-links
+
+unfoldable pub link-bytes : Link → List ℕ
+link-bytes l = word (l .low) ++ word (l .high)
+
+-- the payloads of kind 1 and of kind 2, counted from 0
+unfoldable pub order-payload : (order : List ℕ) → (j : ℕ) → List ℕ
+order-payload xs j = flatMap word (take block-entries (drop (block-entries * j) xs))
+
+unfoldable pub links-payload : List Link → (j : ℕ) → List ℕ
+links-payload ls j = flatMap link-bytes (take block-links (drop (block-links * j) ls))
+
+unfoldable pub block-at : Graph → (order : List ℕ) → (i : ℕ) → List ℕ
+block-at g xs zero = block 0 0 (word (g .n) ++ word (length (g .links)))
+block-at g xs (suc j) =
+    let kinds = order-blocks (g .n) in
+    cond (ltb j kinds) (block 1 (suc j) (order-payload xs j)) (block 2 (suc j) (links-payload (g .links) (j - kinds)))
+
+unfoldable pub image-of : Graph → (order : List ℕ) → List ℕ
+image-of g xs = flatMap (block-at g xs) (range 0 (block-count (g .n) (length (g .links))))
+
+-- ---- read back
+
+unfoldable pub word-at : (image : List ℕ) → (at : ℕ) → ℕ
+word-at bs i = getD bs i 0 + 256 * getD bs (i + 1) 0
+
+-- where entry j stands among blocks from `first` on, `each` entries a block, `size` bytes an entry
+unfoldable pub entry-at : (first each size j : ℕ) → ℕ
+entry-at first each size j = block-bytes * (first + j / each) + 4 + size * (j % each)
+
+unfoldable pub image-order : (n : ℕ) → (image : List ℕ) → List ℕ
+image-order n bs = map (λ j. word-at bs (entry-at 1 block-entries 2 j)) (range 0 n)
+
+unfoldable pub image-link : (n : ℕ) → (image : List ℕ) → (j : ℕ) → Link
+image-link n bs j =
+    let i = entry-at (1 + order-blocks n) block-links 4 j in record { low = word-at bs i; high = word-at bs (i + 2) }
+
+unfoldable pub image-links : (n : ℕ) → (image : List ℕ) → List Link
+image-links n bs = map (image-link n bs) (range 0 (word-at bs 6))
+
+unfoldable pub image-graph : (n : ℕ) → (image : List ℕ) → Graph
+image-graph n bs = graph n (image-links n bs)
+
+-- ---- questions 9 to 11
+
+unfoldable pub whole-blocks : (image : List ℕ) → Bool
+whole-blocks bs = not (eqb (length bs) 0) && eqb (length bs % block-bytes) 0
+
+unfoldable pub block-check : (image : List ℕ) → (i : ℕ) → Bool
+block-check bs i =
+    let b = take block-bytes (drop (block-bytes * i) bs) in same (long (check-sum (take 508 b))) (drop 508 b)
+
+unfoldable pub checks-good : (image : List ℕ) → Bool
+checks-good bs = all (block-check bs) (range 0 (length bs / block-bytes))
+
+unfoldable pub is-image : (n : ℕ) → (image : List ℕ) → Bool
+is-image n bs =
+    let g = image-graph n bs in
+    let xs = image-order n bs in
+    (proper n (g .links) && ascending (g .links)) && (sound n (tables-of g xs) && same (image-of g xs) bs)
+
+-- ---- the block reader
+
+unfoldable pub payload-at : (image : List ℕ) → (i : ℕ) → List ℕ
+payload-at bs i = take payload-bytes (drop (block-bytes * i + 4) bs)

@@ -1,0 +1,15 @@
+-- The limits of a site, each number once. `Site` in src/lib.rt has the same three; proofs/SiteLimits.antt ties them.
+--   max-radios        how many radios a site may have
+--   max-neighbours    how many neighbours a radio may have
+--   row-bytes         how many bytes a row of the links table has
+-- Definitions only.
+use Prim.Native.Nat.{ℕ}
+
+abbrev pub max-radios : ℕ
+max-radios = 512
+
+abbrev pub max-neighbours : ℕ
+max-neighbours = 32
+
+abbrev pub row-bytes : ℕ
+row-bytes = 64

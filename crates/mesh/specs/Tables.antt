@@ -1,0 +1,74 @@
+-- The lent tables, read as bits and numbers.
+--   Tables             links, numbers and order, as lists of bytes and entries
+--   marked ts a b      document 01: bit b of row a of the links table ts is set
+--   put-bit on a b ts  the links table ts with bit b of row a set or cleared
+--   put-link           both bits of a link set or cleared
+--   links-table g      the links table that marks exactly the links of g, each in both rows
+--   graph-in n ts      the graph that the links table ts marks, read back from the bits above the diagonal
+--   tables-of g xs     the tables of the graph g with the order xs
+-- Laws are in proofs/TableLaws.antt. Definitions only.
+use mathlib.Core.Bool.{Bool, true, false, cond}
+use mathlib.Core.List.{List, [], _∷_, map, flatMap}
+use Prim.Native.Nat.{ℕ, zero, suc, _+_, _*_, _-_, _/_, _%_, _^_}
+use lib.Dec.{eqb}
+use lib.ListN.{getD, set}
+use Rattle.mesh.specs.Limits.{row-bytes}
+use Rattle.mesh.specs.Lists.{range, filter}
+use Rattle.mesh.specs.Graph.{Link, Graph, graph, radios, linked}
+use Rattle.mesh.specs.Cores.{numbers}
+
+pub record Tables : Type 0 where
+  pub links : List ℕ
+  pub numbers : List ℕ
+  pub order : List ℕ
+
+abbrev pub tables : (links numbers order : List ℕ) → Tables
+tables l k o = record { links = l; numbers = k; order = o }
+
+-- ---- bits of a row: value 2^(b mod 8) in byte b div 8
+
+-- bit i of x, lowest first
+unfoldable pub digit : (x i : ℕ) → Bool
+digit x i = eqb (x / 2 ^ i % 2) 1
+
+-- where bit b of row a stands
+unfoldable pub byte-at : (a b : ℕ) → ℕ
+byte-at a b = row-bytes * a + b / 8
+
+unfoldable pub marked : (links : List ℕ) → (a b : ℕ) → Bool
+marked ts a b = digit (getD ts (byte-at a b) 0) (b % 8)
+
+-- x with bit i set or cleared
+unfoldable pub put-digit : (on : Bool) → (x i : ℕ) → ℕ
+put-digit on x i = cond (digit x i) (x - 2 ^ i) x + cond on (2 ^ i) 0
+
+unfoldable pub put-bit : (on : Bool) → (a b : ℕ) → (links : List ℕ) → List ℕ
+put-bit on a b ts = set ts (byte-at a b) (put-digit on (getD ts (byte-at a b) 0) (b % 8))
+
+unfoldable pub put-link : (up : Bool) → (a b : ℕ) → (links : List ℕ) → List ℕ
+put-link u a b ts = put-bit u b a (put-bit u a b ts)
+
+-- ---- the table of a graph
+
+-- the number whose lowest k bits the test gives
+unfoldable pub from-digits : (k : ℕ) → (ℕ → Bool) → ℕ
+from-digits zero f = 0
+from-digits (suc k) f = cond (f 0) 1 0 + 2 * from-digits k (λ i. f (suc i))
+
+unfoldable pub row-of : Graph → (a : ℕ) → List ℕ
+row-of g a = let near = linked g a in map (λ j. from-digits 8 (λ i. near (8 * j + i))) (range 0 row-bytes)
+
+unfoldable pub links-table : Graph → List ℕ
+links-table g = flatMap (row-of g) (radios g)
+
+unfoldable pub tables-of : Graph → (order : List ℕ) → Tables
+tables-of g xs = tables (links-table g) (numbers g) xs
+
+-- ---- read back
+
+-- the links that row a marks to radios above a
+unfoldable pub row-links : (n : ℕ) → (links : List ℕ) → (a : ℕ) → List Link
+row-links n ts a = map (λ b. record { low = a; high = b }) (filter (λ b. marked ts a b) (range (suc a) (n - suc a)))
+
+unfoldable pub graph-in : (n : ℕ) → (links : List ℕ) → Graph
+graph-in n ts = graph n (flatMap (row-links n ts) (range 0 n))

@@ -1,0 +1,129 @@
+-- The shell tree: by its sets, and worked out.
+--   Core-set g k s       the set s is a connected core at level k
+--   Node-set g k s       document 01: a node stands for the set s, at the largest k where it occurs
+--   Named g k s v        v is the name of that node: the lowest radio of number k in s
+--   Parent g s p         p names the smallest node set strictly containing s, else the root
+--   Is-node g x          the record x is a node of the shell tree, other than the root
+--   Is-tree g xs         xs is the answer: the root, then the nodes, by level and then name ascending
+--   Node-name g v x      x is the name of the node whose shell has v
+--   tree g, node-name    the same, worked out
+-- Definitions only.
+use mathlib.Core.Path.{_≡_}
+use mathlib.Core.Logic.{_⊎_, _↔_}
+use mathlib.Core.Bool.{Bool, true, false, _&&_, cond}
+use mathlib.Core.List.{List, [], _∷_, _++_, map, flatMap, List·Memᴰ}
+use Prim.Native.Nat.{ℕ, zero, suc, _+_, _-_, _≤_, _<_}
+use lib.Dec.{eqb}
+use Rattle.mesh.specs.Lists.{range, filter, head-or}
+use Rattle.mesh.specs.Graph.{Graph, radios}
+use Rattle.mesh.specs.Cores.{number}
+use Rattle.mesh.specs.Connected.{In-core, core-of}
+use Rattle.mesh.specs.declared.Node.{Node}
+
+-- document 01: the root's name, and its parent
+abbrev pub root-name : ℕ
+root-name = 65535
+
+abbrev pub node : (name level parent : ℕ) → Node
+node a b c = record { name = a; level = b; parent = c }
+
+abbrev pub root : Node
+root = node root-name 0 root-name
+
+-- ---- by sets
+
+pub record Core-set (g : Graph) (k : ℕ) (set : ℕ → Bool) : Type 0 where
+  pub radio : ℕ
+  pub is-radio : radio < g .n
+  pub level : k ≤ number g radio
+  pub reaches : (w : ℕ) → w < g .n → (set w ≡ true) ↔ In-core g radio k w
+
+pub record Node-set (g : Graph) (k : ℕ) (set : ℕ → Bool) : Type 0 where
+  pub positive : 1 ≤ k
+  pub core : Core-set g k set
+  pub largest : (j : ℕ) → Core-set g j set → j ≤ k
+
+pub record Named (g : Graph) (k : ℕ) (set : ℕ → Bool) (name : ℕ) : Type 0 where
+  pub is-radio : name < g .n
+  pub in-set : set name ≡ true
+  pub level : number g name ≡ k
+  pub lowest : (w : ℕ) → set w ≡ true → number g w ≡ k → w < g .n → name ≤ w
+
+abbrev pub Contains : Graph → (outer inner : ℕ → Bool) → Type 0
+Contains g t s = (w : ℕ) → w < g .n → s w ≡ true → t w ≡ true
+
+pub record Strictly-contains (g : Graph) (outer inner : ℕ → Bool) : Type 0 where
+  pub contains : Contains g outer inner
+  pub extra : ℕ
+  pub is-radio : extra < g .n
+  pub in-outer : outer extra ≡ true
+  pub not-inner : inner extra ≡ false
+
+-- the smallest node set that strictly contains s
+pub record Parent-set (g : Graph) (s : ℕ → Bool) (name : ℕ) : Type 0 where
+  pub level : ℕ
+  pub set : ℕ → Bool
+  pub is-node : Node-set g level set
+  pub strict : Strictly-contains g set s
+  pub smallest : (k : ℕ) (t : ℕ → Bool) → Node-set g k t → Strictly-contains g t s → Contains g t set
+  pub named : Named g level set name
+
+pub record Root-parent (g : Graph) (s : ℕ → Bool) (name : ℕ) : Type 0 where
+  pub is-root : name ≡ root-name
+  pub none : (k : ℕ) (t : ℕ → Bool) → Node-set g k t → Strictly-contains g t s → ⊥
+
+abbrev pub Parent : Graph → (s : ℕ → Bool) → (name : ℕ) → Type 0
+Parent g s p = Parent-set g s p ⊎ Root-parent g s p
+
+pub record Is-node (g : Graph) (x : Node) : Type 0 where
+  pub set : ℕ → Bool
+  pub is-node : Node-set g (x .level) set
+  pub named : Named g (x .level) set (x .name)
+  pub under : Parent g set (x .parent)
+
+-- by level and then name
+abbrev pub Node-before : (x y : Node) → Type 0
+Node-before x y = (x .level < y .level) ⊎ ((x .level ≡ y .level) × (x .name < y .name))
+
+abbrev pub Nodes-ascending : List Node → Type 0
+Nodes-ascending [] = Unit {0}
+Nodes-ascending (x ∷ xs) = ((y : Node) → List·Memᴰ y xs → Node-before x y) × Nodes-ascending xs
+
+pub record Is-tree (g : Graph) (xs : List Node) : Type 0 where
+  pub others : List Node
+  pub starts : xs ≡ root ∷ others
+  pub ordered : Nodes-ascending others
+  pub exactly : (x : Node) → List·Memᴰ x others ↔ Is-node g x
+
+-- the root's shell is the radios with number 0
+pub record Node-name (g : Graph) (v name : ℕ) : Type 0 where
+  pub at-root : number g v ≡ 0 → name ≡ root-name
+  pub elsewhere :
+      (set : ℕ → Bool) → Node-set g (number g v) set → set v ≡ true → Named g (number g v) set name
+
+-- ---- worked out
+
+-- the shell of level k in the connected core of v at k
+unfoldable pub shell : Graph → (v k : ℕ) → List ℕ
+shell g v k = let num = number g in filter (λ x. eqb (num x) k) (core-of g v k)
+
+unfoldable pub node-name : Graph → (v : ℕ) → ℕ
+node-name g v = let k = number g v in cond (eqb k 0) root-name (head-or root-name (shell g v k))
+
+-- the name of the nearest connected core of v below level k that has a shell
+unfoldable pub parent-name : Graph → (v k : ℕ) → ℕ
+parent-name g v zero = root-name
+parent-name g v (suc zero) = root-name
+parent-name g v (suc (suc k)) = let rest = parent-name g v (suc k) in head-or rest (shell g v (suc k))
+
+-- level k: the radios of number k that name their own node
+unfoldable pub nodes-at : Graph → (k : ℕ) → List Node
+nodes-at g k =
+    let num = number g in
+    map (λ v. node v k (parent-name g v k)) (filter (λ v. eqb (num v) k && eqb (node-name g v) v) (radios g))
+
+unfoldable pub tree : Graph → List Node
+tree g = root ∷ flatMap (nodes-at g) (range 1 (g .n))
+
+unfoldable pub node-names : Graph → List ℕ
+node-names g = map (node-name g) (radios g)
