@@ -1,1 +1,4 @@
--- The theory of the definitions.
+-- The theory of the definitions, from the bottom up.
+pub mod BoolLaws
+pub mod ListLaws
+pub mod Valid

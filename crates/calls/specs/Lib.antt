@@ -1,0 +1,2 @@
+-- What calls promise, in the order in which a reader needs it.
+pub mod Questions

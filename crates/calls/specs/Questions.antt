@@ -1,0 +1,108 @@
+-- Document 01's questions, each a definition of its own, and the chains in which calls put them.
+--   ask r yes later        question r: a "no" gives its number, a "yes" goes on
+--   Lengths                the lengths of links, numbers and order
+--   size-good .. is-image  questions 1 to 11 (3 is `sound`, 10 `checks-good`, 11 `is-image` of mesh)
+--   site-refusal, link-refusal, ..   the first "no" of a call's questions, or 0
+-- A chain takes the answer to question 3 and the graph that 6 to 8 are put to, since the link book answers those from its
+-- pairs and gives 3 a yes. Definitions only.
+use mathlib.Core.Bool.{Bool, true, false, _&&_, not, cond}
+use mathlib.Core.List.{List}
+use Prim.Native.Nat.{ℕ, zero, suc, _+_, _*_}
+use lib.Dec.{ltb, leb, eqb}
+use lib.ListN.{length}
+use Rattle.mesh.specs.Limits.{max-radios, max-neighbours, row-bytes}
+use Rattle.mesh.specs.Graph.{Graph, linked, degree}
+use Rattle.mesh.specs.Cores.{number}
+use Rattle.mesh.specs.Tables.{Tables}
+use Rattle.mesh.specs.Image.{block-bytes, block-count, whole-blocks, checks-good, is-image}
+
+unfoldable pub ask : (number : ℕ) → (yes : Bool) → (later : ℕ) → ℕ
+ask r true later = later
+ask r false later = r
+
+-- ---- questions 1 and 2: sizes and lengths
+
+pub record Lengths : Type 0 where
+  pub links : ℕ
+  pub numbers : ℕ
+  pub order : ℕ
+
+unfoldable pub lengths-of : Tables → Lengths
+lengths-of t = record { links = length (t .links); numbers = length (t .numbers); order = length (t .order) }
+
+-- 1. Is n from 1 to 512?
+unfoldable pub size-good : (n : ℕ) → Bool
+size-good n = leb 1 n && leb n max-radios
+
+-- 2. Do the tables used have their lengths? (answer and node lists may be longer)
+unfoldable pub site-lengths : (n : ℕ) → Lengths → Bool
+site-lengths n l = eqb (l .links) (row-bytes * n) && (eqb (l .numbers) n && eqb (l .order) n)
+
+unfoldable pub answer-length : (n answer : ℕ) → Bool
+answer-length n w = leb n w
+
+unfoldable pub nodes-length : (n nodes : ℕ) → Bool
+nodes-length n w = leb (n + 1) w
+
+-- ---- questions 4 to 8: radios, links, levels
+
+-- 4. Is every radio named below n?
+unfoldable pub is-radio : (n v : ℕ) → Bool
+is-radio n v = ltb v n
+
+unfoldable pub are-radios : (n a b : ℕ) → Bool
+are-radios n a b = is-radio n a && is-radio n b
+
+-- 5. Are the ends different?
+unfoldable pub ends-differ : (a b : ℕ) → Bool
+ends-differ a b = not (eqb a b)
+
+-- 6. Going up: is the link down? Going down: is it up?
+unfoldable pub can-switch : (up : Bool) → Graph → (a b : ℕ) → Bool
+can-switch true g a b = not (linked g a b)
+can-switch false g a b = linked g a b
+
+-- 7. Going up: has each end fewer than `most` neighbours?
+unfoldable pub has-room : (most : ℕ) → (up : Bool) → Graph → (a b : ℕ) → Bool
+has-room most true g a b = ltb (degree g a) most && ltb (degree g b) most
+has-room most false g a b = true
+
+-- 8. Is the level at most the radio's number?
+unfoldable pub has-level : Graph → (v k : ℕ) → Bool
+has-level g v k = leb k (number g v)
+
+-- ---- question 9: images
+
+-- writing: does the buffer hold the image?
+unfoldable pub image-length : Graph → ℕ
+image-length g = block-bytes * block-count (g .n) (length (g .links))
+
+unfoldable pub holds-image : Graph → (buffer : ℕ) → Bool
+holds-image g room = leb (image-length g) room
+
+-- ---- chains
+
+-- 1 and 2, where `others` is what 2 asks of further tables; then the later questions
+unfoldable pub lent-refusal : (n : ℕ) → Lengths → (others : Bool) → (later : ℕ) → ℕ
+lent-refusal n l others later = ask 1 (size-good n) (ask 2 (site-lengths n l && others) later)
+
+-- 1 to 3; then the later questions
+unfoldable pub site-refusal : (n : ℕ) → Lengths → (others sound : Bool) → (later : ℕ) → ℕ
+site-refusal n l others sound later = lent-refusal n l others (ask 3 sound later)
+
+-- 4 to 7
+unfoldable pub ends-refusal : (most : ℕ) → (up : Bool) → (n a b : ℕ) → Graph → ℕ
+ends-refusal most up n a b g =
+    ask 4 (are-radios n a b) (ask 5 (ends-differ a b) (ask 6 (can-switch up g a b) (ask 7 (has-room most up g a b) 0)))
+
+-- a link call: 1 to 7
+unfoldable pub link-refusal : (up : Bool) → (n a b : ℕ) → Lengths → (answer : ℕ) → (sound : Bool) → Graph → ℕ
+link-refusal up n a b l w sound g =
+    site-refusal n l (answer-length n w) sound (ends-refusal max-neighbours up n a b g)
+
+-- reading an image: 1, 2, 9, 10, 11
+unfoldable pub image-refusal : (n : ℕ) → (image : List ℕ) → ℕ
+image-refusal n bs = ask 9 (whole-blocks bs) (ask 10 (checks-good bs) (ask 11 (is-image n bs) 0))
+
+unfoldable pub read-refusal : (n : ℕ) → Lengths → (image : List ℕ) → ℕ
+read-refusal n l bs = lent-refusal n l true (image-refusal n bs)
