@@ -44,5 +44,5 @@ unfoldable pub head-or : (default : ℕ) → List ℕ → ℕ
 head-or d [] = d
 head-or d (x ∷ xs) = x
 
-unfoldable pub overwrite : (new old : List ℕ) → List ℕ
+unfoldable pub overwrite : {A : Type 0} → (new old : List A) → List A
 overwrite new old = new ++ drop (length new) old
