@@ -3,3 +3,6 @@ pub mod BoolLaws
 pub mod ListLaws
 pub mod Valid
 pub mod GraphLaws
+pub mod OrderLaws
+pub mod Certificate
+pub mod Peeling
