@@ -6,3 +6,6 @@ pub mod GraphLaws
 pub mod OrderLaws
 pub mod Certificate
 pub mod Peeling
+pub mod KOrders
+pub mod Peel
+pub mod PeelSound
