@@ -9,3 +9,5 @@ pub mod Peeling
 pub mod KOrders
 pub mod Peel
 pub mod PeelSound
+pub mod LinkMoves
+pub mod LevelCut
