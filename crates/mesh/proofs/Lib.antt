@@ -11,3 +11,4 @@ pub mod Peel
 pub mod PeelSound
 pub mod LinkMoves
 pub mod LevelCut
+pub mod LinkCall
