@@ -3,3 +3,4 @@ pub mod BoolLaws
 pub mod ListLaws
 pub mod Valid
 pub mod GraphLaws
+pub mod Reach
