@@ -4,3 +4,4 @@ pub mod ListLaws
 pub mod Valid
 pub mod GraphLaws
 pub mod Reach
+pub mod RunningMaximum
