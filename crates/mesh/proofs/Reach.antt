@@ -59,9 +59,11 @@ module _ {g : Graph} {over : ℕ → Bool} where
   reachable-sym l p (onward {w} {x} r e lx o) =
       reachable-trans (onward here (linked-sym g x w ∙ e) (reachable-below l r) (reachable-passes p r)) (reachable-sym l p r)
 
-pub reachable-mono : {g : Graph} {over wider : ℕ → Bool} {v w : ℕ} → ((x : ℕ) → over x ≡ true → wider x ≡ true) → Reachable g over v w → Reachable g wider v w
+-- from one test to another that the reachable radios pass too
+pub reachable-mono : {g : Graph} {over wider : ℕ → Bool} {v w : ℕ}
+    → ((x : ℕ) → Reachable g over v x → over x ≡ true → wider x ≡ true) → Reachable g over v w → Reachable g wider v w
 reachable-mono h here = here
-reachable-mono h (onward {w} {x} r e lx o) = onward (reachable-mono h r) e lx (h x o)
+reachable-mono h (onward {w} {x} r e lx o) = onward (reachable-mono h r) e lx (h x (onward r e lx o) o)
 
 -- ---- rounds
 
@@ -252,11 +254,14 @@ module _ (g : Graph) where
   unfolding In-core
   in-core-trans v k w x r s = reachable-trans r s
 
+  -- from one level to another that the members have too
+  pub in-core-mono : (v j k w : ℕ) → ((x : ℕ) → In-core g v j x → j ≤ number g x → k ≤ number g x) → In-core g v j w → In-core g v k w
+  unfolding In-core
+  in-core-mono v j k w h r = reachable-mono (λ x s p. le-at-least k x (h x s (at-least-le j x p))) r
+
   -- a connected core lies within that of the same radio at a lower level
   pub in-core-lower : (v j k w : ℕ) → j ≤ k → In-core g v k w → In-core g v j w
-  unfolding In-core
-  in-core-lower v j k w h r =
-      reachable-mono (λ x p. le-at-least j x (omega (arith, at-least-le k x p))) r
+  in-core-lower v j k w h r = in-core-mono v k j w (λ x s p. omega arith) r
 
   -- cores of two levels are nested or apart: one at level k that shares a radio x with one at level j, j ≤ k, lies within it
   pub in-core-nested : (u j v k x w : ℕ) → j ≤ k → v < g .n → k ≤ number g v → In-core g u j x → In-core g v k x → In-core g v k w → In-core g u j w
