@@ -5,3 +5,4 @@ pub mod Valid
 pub mod GraphLaws
 pub mod Reach
 pub mod RunningMaximum
+pub mod NodeSets
