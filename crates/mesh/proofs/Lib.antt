@@ -6,3 +6,4 @@ pub mod GraphLaws
 pub mod Reach
 pub mod RunningMaximum
 pub mod NodeSets
+pub mod ShellNames
