@@ -7,3 +7,4 @@ pub mod Reach
 pub mod RunningMaximum
 pub mod NodeSets
 pub mod ShellNames
+pub mod TreeLaws

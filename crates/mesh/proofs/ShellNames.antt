@@ -76,14 +76,14 @@ module _ (g : Graph) where
   unfolding node-name
   node-name-root v e = rw e
 
-  pub node-name-named : (v : ℕ) {s : ℕ → Bool} → v < g .n → Node-set g (number g v) s → s v ≡ true → Named g (number g v) s (node-name g v)
+  pub node-name-named : {k : ℕ} {s : ℕ → Bool} (v : ℕ) → v < g .n → number g v ≡ k → Node-set g k s → s v ≡ true → Named g k s (node-name g v)
   unfolding node-name
-  node-name-named v l nd p =
-      rw (ne-eqb (number g v) 0 (λ e. omega (arith, nd .positive, e)))
-      (shell-named (nd .core) root-name v v l p (in-shell g v (number g v) v l (in-core-here g v (number g v)) refl))
+  node-name-named {k} v l e nd p =
+      rw (e, ne-eqb k 0 (λ z. omega (arith, nd .positive)))
+      (shell-named (nd .core) root-name v v l p (in-shell g v k v l (in-core-here g v k) e))
 
   pub node-name-right : (v : ℕ) → v < g .n → Node-name g v (node-name g v)
-  node-name-right v l = record { at-root = node-name-root v; elsewhere = λ s nd p. node-name-named v l nd p }
+  node-name-right v l = record { at-root = node-name-root v; elsewhere = λ s nd p. node-name-named v l refl nd p }
 
   -- ---- the parent of a node
 
