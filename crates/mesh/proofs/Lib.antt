@@ -12,3 +12,8 @@ pub mod PeelSound
 pub mod LinkMoves
 pub mod LevelCut
 pub mod LinkCall
+pub mod Reach
+pub mod RunningMaximum
+pub mod NodeSets
+pub mod ShellNames
+pub mod TreeLaws

@@ -3,10 +3,11 @@
 --   rising num xs        the numbers never fall along xs
 --   few-later f num xs   no radio of xs has more later neighbours than its number, where f tells neighbours
 --   is-k-order g xs      document 01: core numbers never fall along it, and no radio has more later neighbours than its core number
+--   running-maxima f m xs  for each radio of xs, the greatest count of later neighbours up to it, and at least m
 -- Laws are in proofs/OrderLaws.antt. Definitions only.
 use mathlib.Core.Bool.{Bool, true, false, _&&_}
 use mathlib.Core.List.{List, [], _∷_}
-use Prim.Native.Nat.{ℕ}
+use Prim.Native.Nat.{ℕ, max}
 use lib.Dec.{leb, eqb}
 use lib.ListN.{length}
 use Rattle.mesh.specs.Lists.{range, count, all}
@@ -28,3 +29,9 @@ few-later f num (x ∷ xs) = leb (neighbours-among f x xs) (num x) && few-later 
 unfoldable pub is-k-order : Graph → List ℕ → Bool
 is-k-order g xs =
     let num = number g in each-once (g .n) xs && (rising num xs && few-later (linked g) num xs)
+
+-- Along a k-order the core number is the running maximum of the later-neighbour counts: so a read image's numbers are
+-- worked out. `top` is the maximum so far.
+unfoldable pub running-maxima : (neighbour : ℕ → ℕ → Bool) → (top : ℕ) → List ℕ → List ℕ
+running-maxima f m [] = []
+running-maxima f m (x ∷ xs) = let top = max m (neighbours-among f x xs) in top ∷ running-maxima f top xs

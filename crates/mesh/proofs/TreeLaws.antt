@@ -1,0 +1,179 @@
+-- The shell tree that is worked out is document 01's: `tree-right`. That the names by radio are right is `node-name-right` in
+-- ShellNames.antt.
+-- In order: entries of maps and of joined lists, core numbers are at most n, the nodes of a level, their order, the tree.
+use mathlib.Core.Path.{_≡_, refl, sym, ap, ap₂, _∙_}
+use mathlib.Core.Logic.{_⊎_, inl, inr, _↔_}
+use mathlib.Core.Bool.{Bool, true, false, _&&_, cond}
+use mathlib.Core.List.{List, [], _∷_, _++_, map, flatMap, List·Memᴰ, List·Memᴰ·head, List·Memᴰ·tail, List·Memᴰ·cases-cons, List·Memᴰ·not-nil, List·Memᴰ·append-cases, Memᴰ·append-left, Memᴰ·append-right}
+use Prim.Native.Nat.{ℕ, zero, suc, _+_, _≤_, _<_}
+use native.Mathlib.Omega.{arith}
+use lib.Dec.{eqb}
+use lib.ListN.{length}
+use borrow.Author.Tests.{eqb-true, eq-eqb}
+use Rattle.mesh.specs.Lists.{range, filter, member}
+use Rattle.mesh.specs.Graph.{Graph, radios}
+use Rattle.mesh.specs.Cores.{number, cores, cores-from, depth, peeled}
+use Rattle.mesh.specs.declared.Node.{Node}
+use Rattle.mesh.specs.Tree.{root, node, Core-set, Node-set, Named, Parent, Is-node, Node-before, Nodes-ascending, Is-tree, node-name, parent-name, nodes-at, tree}
+use Rattle.mesh.proofs.BoolLaws.{bit-one, and-left, and-right, and-both}
+use Rattle.mesh.proofs.ListLaws.{In, in-range, range-in, in-filter, filter-in}
+use Rattle.mesh.proofs.Reach.{core-of-iff, in-core-here}
+use Rattle.mesh.proofs.NodeSets.{core-has, core-set-of, node-set-of, named-unique, parent-unique}
+use Rattle.mesh.proofs.ShellNames.{Increasing, increasing-range, increasing-filter, node-name-named, parent-name-right}
+
+-- ---- laws of lists: entries of maps and of joined lists
+
+pub mem-map : {A : Type 0} (f : ℕ → A) (x : A) (xs : List ℕ) → List·Memᴰ x (map f xs) → (v : ℕ) × In v xs × (x ≡ f v)
+mem-map f x [] m = absurd (List·Memᴰ·not-nil m)
+mem-map f x (y ∷ ys) m = go (mem-map f x ys) (List·Memᴰ·cases-cons m)
+  where
+    go : (List·Memᴰ x (map f ys) → (v : ℕ) × In v ys × (x ≡ f v)) → (x ≡ f y) ⊎ List·Memᴰ x (map f ys) → (v : ℕ) × In v (y ∷ ys) × (x ≡ f v)
+    go rec (inl e) = (y, inl refl, e)
+    go rec (inr n) = let r = rec n in (r .0, inr (r .1), r .2)
+
+pub map-mem : {A : Type 0} (f : ℕ → A) (x : A) (v : ℕ) (xs : List ℕ) → In v xs → x ≡ f v → List·Memᴰ x (map f xs)
+map-mem f x v (y ∷ ys) (inl q) e = List·Memᴰ·head (e ∙ ap f (sym q))
+map-mem f x v (y ∷ ys) (inr m) e = List·Memᴰ·tail (map-mem f x v ys m e)
+
+pub mem-flatMap : {A : Type 0} (f : ℕ → List A) (x : A) (ks : List ℕ) → List·Memᴰ x (flatMap f ks) → (k : ℕ) × In k ks × List·Memᴰ x (f k)
+unfolding flatMap
+mem-flatMap f x [] m = absurd (List·Memᴰ·not-nil m)
+mem-flatMap f x (k ∷ ks) m = go (mem-flatMap f x ks) (List·Memᴰ·append-cases (f k) m)
+  where
+    go : (List·Memᴰ x (flatMap f ks) → (j : ℕ) × In j ks × List·Memᴰ x (f j)) → List·Memᴰ x (f k) ⊎ List·Memᴰ x (flatMap f ks)
+        → (j : ℕ) × In j (k ∷ ks) × List·Memᴰ x (f j)
+    go rec (inl n) = (k, inl refl, n)
+    go rec (inr n) = let r = rec n in (r .0, inr (r .1), r .2)
+
+pub flatMap-mem : {A : Type 0} (f : ℕ → List A) (x : A) (k : ℕ) (ks : List ℕ) → In k ks → List·Memᴰ x (f k) → List·Memᴰ x (flatMap f ks)
+unfolding flatMap
+flatMap-mem f x k (j ∷ js) (inl e) m = Memᴰ·append-left (flatMap f js) (rw (← e) at m)
+flatMap-mem f x k (j ∷ js) (inr i) m = Memᴰ·append-right (f j) (flatMap-mem f x k js i m)
+
+-- ---- core numbers are at most n
+
+depth-cores-from : (f k : ℕ) (g : Graph) (xs : List ℕ) (v : ℕ) → depth (cores-from f k g xs) v ≤ f
+unfolding cores-from depth
+depth-cores-from zero k g xs v = omega arith
+depth-cores-from (suc f) k g [] v = omega arith
+depth-cores-from (suc f) k g (x ∷ xs) v =
+    let core = peeled (length (x ∷ xs)) g k (x ∷ xs) in omega (arith, bit-one (member v core), depth-cores-from f (suc k) g core v)
+
+pub number-le-n : (g : Graph) (v : ℕ) → number g v ≤ g .n
+unfolding number cores
+number-le-n g v = depth-cores-from (g .n) 1 g (radios g) v
+
+-- ---- order
+
+nodes-ascending-append : (xs ys : List Node) → Nodes-ascending xs → Nodes-ascending ys
+    → ((x y : Node) → List·Memᴰ x xs → List·Memᴰ y ys → Node-before x y) → Nodes-ascending (xs ++ ys)
+nodes-ascending-append [] ys a b h = b
+nodes-ascending-append (x ∷ xs) ys a b h = (
+  λ y m. pick y (List·Memᴰ·append-cases xs m),
+  nodes-ascending-append xs ys (a .1) b (λ z y m n. h z y (List·Memᴰ·tail m) n),
+)
+  where
+    pick : (y : Node) → List·Memᴰ y xs ⊎ List·Memᴰ y ys → Node-before x y
+    pick y (inl m) = a .0 y m
+    pick y (inr m) = h x y (List·Memᴰ·head refl) m
+
+nodes-ascending-map : (k : ℕ) (p : ℕ → ℕ) (vs : List ℕ) → Increasing vs → Nodes-ascending (map (λ v. node v k (p v)) vs)
+nodes-ascending-map k p [] a = tt
+nodes-ascending-map k p (v ∷ vs) a = (
+  λ y m. let r = mem-map (λ w. node w k (p w)) y vs m in inr (rw (r .2) (refl, a .0 (r .0) (r .1))),
+  nodes-ascending-map k p vs (a .1),
+)
+
+-- ---- the nodes of a level
+
+module _ (g : Graph) where
+  -- the radios of number k that name their own node
+  abbrev own : (k v : ℕ) → Bool
+  own k v = eqb (number g v) k && eqb (node-name g v) v
+
+  -- a node, by its name and level
+  record Own-node (x : Node) : Type 0 where
+    is-radio : x .name < g .n
+    number-is : number g (x .name) ≡ x .level
+    own-name : node-name g (x .name) ≡ x .name
+    parent-is : x .parent ≡ parent-name g (x .name) (x .level)
+
+  nodes-at-in : (k : ℕ) (x : Node) → List·Memᴰ x (nodes-at g k) → Own-node x × (x .level ≡ k)
+  unfolding nodes-at radios
+  nodes-at-in k x m =
+      let r = mem-map (λ v. node v k (parent-name g v k)) x (filter (own k) (range 0 (g .n))) m in
+      let q = in-filter (own k) (range 0 (g .n)) (r .0) (r .1) in
+      rw (r .2) (
+        record {
+          is-radio = omega (arith, range-in 0 (g .n) (r .0) (q .0));
+          number-is = eqb-true (number g (r .0)) k (and-left (eqb (number g (r .0)) k) (eqb (node-name g (r .0)) (r .0)) (q .1));
+          own-name = eqb-true (node-name g (r .0)) (r .0) (and-right (eqb (number g (r .0)) k) (eqb (node-name g (r .0)) (r .0)) (q .1));
+          parent-is = refl;
+        },
+        refl,
+      )
+
+  in-nodes-at : (x : Node) → Own-node x → List·Memᴰ x (nodes-at g (x .level))
+  unfolding nodes-at radios
+  in-nodes-at x a =
+      let v = x .name in
+      let k = x .level in
+      map-mem (λ w. node w k (parent-name g w k)) x v (filter (own k) (range 0 (g .n)))
+      (filter-in (own k) (range 0 (g .n)) v (in-range 0 (g .n) v (omega arith) (omega (arith, a .is-radio)))
+      (and-both (eqb (number g v) k) (eqb (node-name g v) v) (eq-eqb (number g v) k (a .number-is)) (eq-eqb (node-name g v) v (a .own-name))))
+      (ap (λ (p : ℕ). node v k p) (a .parent-is))
+
+  own-node-is : (x : Node) → 1 ≤ x .level → Own-node x → Is-node g x
+  own-node-is x h a =
+      let v = x .name in
+      let k = x .level in
+      let has : core-has g v k v ≡ true = core-of-iff g v k (a .is-radio) v .1 (in-core-here g v k) in
+      let c = core-set-of g v k (a .is-radio) (omega (arith, a .number-is)) in
+      let nd = node-set-of g h c v (a .is-radio) has (a .number-is) in
+      record {
+        set = core-has g v k;
+        is-node = nd;
+        named = rw (a .own-name) at (node-name-named g v (a .is-radio) (a .number-is) nd has);
+        under = rw (a .parent-is) (parent-name-right g v (a .is-radio) (a .number-is) c has);
+      }
+
+  is-node-own : (x : Node) → Is-node g x → Own-node x
+  is-node-own x nd =
+      let l = nd .named .is-radio in
+      let e = nd .named .level in
+      record {
+        is-radio = l;
+        number-is = e;
+        own-name = named-unique g (node-name-named g (x .name) l e (nd .is-node) (nd .named .in-set)) (nd .named);
+        parent-is = parent-unique g (nd .under) (parent-name-right g (x .name) l e (nd .is-node .core) (nd .named .in-set));
+      }
+
+  -- ---- the tree
+
+  nodes-ascending-at : (k : ℕ) → Nodes-ascending (nodes-at g k)
+  unfolding nodes-at radios
+  nodes-ascending-at k =
+      nodes-ascending-map k (λ v. parent-name g v k) (filter (own k) (range 0 (g .n))) (increasing-filter (own k) (range 0 (g .n)) (increasing-range 0 (g .n)))
+
+  nodes-ascending-from : (i m : ℕ) → Nodes-ascending (flatMap (nodes-at g) (range i m))
+  unfolding flatMap range
+  nodes-ascending-from i zero = tt
+  nodes-ascending-from i (suc m) =
+      nodes-ascending-append (nodes-at g i) (flatMap (nodes-at g) (range (suc i) m)) (nodes-ascending-at i) (nodes-ascending-from (suc i) m) (λ x y a b.
+      let r = mem-flatMap (nodes-at g) y (range (suc i) m) b in
+      inl (omega (arith, nodes-at-in i x a .1, nodes-at-in (r .0) y (r .2) .1, range-in (suc i) m (r .0) (r .1))))
+
+  pub tree-right : Is-tree g (tree g)
+  unfolding tree
+  tree-right = record {
+    others = flatMap (nodes-at g) (range 1 (g .n));
+    starts = refl;
+    ordered = nodes-ascending-from 1 (g .n);
+    exactly = λ x. (
+      λ m. let r = mem-flatMap (nodes-at g) x (range 1 (g .n)) m in
+          let q = nodes-at-in (r .0) x (r .2) in own-node-is x (omega (arith, q .1, range-in 1 (g .n) (r .0) (r .1))) (q .0),
+      λ nd. let a = is-node-own x nd in
+          flatMap-mem (nodes-at g) x (x .level) (range 1 (g .n))
+          (in-range 1 (g .n) (x .level) (nd .is-node .positive) (omega (arith, a .number-is, number-le-n g (x .name)))) (in-nodes-at x a),
+    );
+  }
