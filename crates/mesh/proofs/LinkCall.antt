@@ -261,3 +261,34 @@ module _ (most : ℕ) (u : Bool) (a b : ℕ) (g : Graph) (xs : List ℕ) (valid 
     unfolding relinked
     new-order-k-order =
         rw new-order-is (certificate-k-order after (new-number peeled-level) (new-list peeled-level) irreflexive-after (peel-certificate peeled-level))
+
+    -- ---- by one
+
+    -- a changed radio has the peel's bound in the graph without the link, and one more in the graph with it
+    pub changed-numbers : (v : ℕ) → member v (changed u a b g) ≡ true
+        → (number (smaller u a b g) v ≡ bound u K) × (number (larger u a b g) v ≡ suc (bound u K))
+    unfolding smaller larger
+    changed-numbers v m = go u refl (level-cases v (changed-below v m) (changed-level v m))
+      where
+        l : v < g .n
+        l = changed-below v m
+
+        go : (w : Bool) → u ≡ w → In v taken ⊎ In v stuck → (number (smaller w a b g) v ≡ bound w K) × (number (larger w a b g) v ≡ suc (bound w K))
+        go true e (inl p) = never (member v (changed u a b g)) m (changed-taken v l p ∙ ap not e)
+        go true e (inr p) = (
+          changed-level v m,
+          sym (ap (λ (x : Bool). number (relinked x a b g) v) e) ∙ number-after v l ∙ new-stuck peeled-level v p ∙ ap (λ (x : Bool). suc (bound x K)) e,
+        )
+        go false e (inl p) = (
+          sym (ap (λ (x : Bool). number (relinked x a b g) v) e) ∙ number-after v l ∙ new-taken peeled-level v p ∙ ap (λ (x : Bool). bound x K) e,
+          omega (arith, changed-level v m, positive e),
+        )
+        go false e (inr p) = never (member v (changed u a b g)) m (changed-stuck v l p ∙ e)
+
+    pub unchanged-numbers : (v : ℕ) → v < g .n → member v (changed u a b g) ≡ false → number (smaller u a b g) v ≡ number (larger u a b g) v
+    unfolding smaller larger
+    unchanged-numbers v l m = go u refl
+      where
+        go : (w : Bool) → u ≡ w → number (smaller w a b g) v ≡ number (larger w a b g) v
+        go true e = unchanged-number v l m ∙ ap (λ (x : Bool). number (relinked x a b g) v) e
+        go false e = sym (unchanged-number v l m ∙ ap (λ (x : Bool). number (relinked x a b g) v) e)
