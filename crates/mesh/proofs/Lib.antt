@@ -3,3 +3,5 @@ pub mod BoolLaws
 pub mod ListLaws
 pub mod Valid
 pub mod GraphLaws
+pub mod DigitLaws
+pub mod TableLaws
