@@ -5,3 +5,4 @@ pub mod Valid
 pub mod GraphLaws
 pub mod DigitLaws
 pub mod TableLaws
+pub mod AscendingLinks
