@@ -107,7 +107,7 @@ abbrev pub Sorted : List Link → Type 0
 Sorted [] = Unit {0}
 Sorted (l ∷ ls) = ((m : Link) → In-links m ls → Before l m) × Sorted ls
 
-first-before : (l m : Link) (ls : List Link) → Before l m → Sorted (m ∷ ls) → (x : Link) → In-links x (m ∷ ls) → Before l x
+pub first-before : (l m : Link) (ls : List Link) → Before l m → Sorted (m ∷ ls) → (x : Link) → In-links x (m ∷ ls) → Before l x
 first-before l m ls h s x (inl e) = subst (λ (z : Link). Before l z) e h
 first-before l m ls h s x (inr i) = before-trans l m x h (s .0 x i)
 

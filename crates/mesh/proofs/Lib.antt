@@ -6,3 +6,4 @@ pub mod GraphLaws
 pub mod DigitLaws
 pub mod TableLaws
 pub mod AscendingLinks
+pub mod Relinked
