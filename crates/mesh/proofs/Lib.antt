@@ -7,3 +7,4 @@ pub mod DigitLaws
 pub mod TableLaws
 pub mod AscendingLinks
 pub mod Relinked
+pub mod ReadBack
