@@ -5,6 +5,7 @@ pub mod Valid
 pub mod GraphLaws
 pub mod DigitLaws
 pub mod TableLaws
+pub mod RowLaws
 pub mod AscendingLinks
 pub mod Relinked
 pub mod ReadBack

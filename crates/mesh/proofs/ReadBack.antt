@@ -20,6 +20,7 @@ use Rattle.mesh.proofs.BoolLaws.{bool-cases, never, and-both, iff-eq, b
 use Rattle.mesh.proofs.ListLaws.{In, in-range, range-in, in-filter, filter-in, in-all, all-in, all-below, below-all, distinct-range, count-sub}
 use Rattle.mesh.proofs.GraphLaws.{linked-by, linked-by-proper, linked-sym, linked-self, Proper, proper-of, of-proper}
 use Rattle.mesh.proofs.TableLaws.{Bytes, table-eq, length-links-table, bytes-links-table, marked-links-table}
+use Rattle.mesh.proofs.RowLaws.{symmetric-of, irreflexive-of, within-of, row-degree-count, linked-within}
 use Rattle.mesh.proofs.AscendingLinks.{In-links, in-links-left, in-links-right, in-links-cases, in-links-proper, proper-in-links, Before, link-eq, link-less, Sorted, sorted-of, of-sorted, sorted-append, sorted-eq, in-linked, linked-in}
 
 -- ---- members of joined lists of links
@@ -123,3 +124,69 @@ sorted-graph-in n ts = sorted-rows (row-links n ts)
 
 pub ascending-graph-in : (n : ℕ) (ts : List ℕ) → ascending (graph-in n ts .links) ≡ true
 ascending-graph-in n ts = of-sorted (graph-in n ts .links) (sorted-graph-in n ts)
+
+-- ---- the graph of a table, and back
+
+pub graph-in-links-table : (g : Graph) → g .n ≤ max-radios → proper (g .n) (g .links) ≡ true → ascending (g .links) ≡ true
+    → graph-in (g .n) (links-table g) ≡ g
+unfolding graph-in linked
+graph-in-links-table g big p s = ap (graph (g .n)) (sorted-eq (graph-in (g .n) (links-table g) .links) (g .links)
+    (sorted-graph-in (g .n) (links-table g)) (sorted-of (g .links) s) there back)
+  where
+    q : Proper (g .n) (g .links)
+    q = proper-of (g .n) (g .links) p
+
+    there : (m : Link) → In-links m (graph-in (g .n) (links-table g) .links) → In-links m (g .links)
+    there m i =
+        let k = in-graph-in (g .n) (links-table g) m i in
+        let e = marked-links-table g (m .low) (m .high) (omega (arith, k .lower-first, k .is-radio)) (omega (arith, k .is-radio)) in
+        subst (λ (l : Link). In-links l (g .links)) (link-less (m .low) (m .high) (k .lower-first))
+        (linked-in (g .n) (g .links) (m .low) (m .high) q (sym e ∙ k .is-marked))
+
+    back : (m : Link) → In-links m (g .links) → In-links m (graph-in (g .n) (links-table g) .links)
+    back m i =
+        let k = in-links-proper (g .n) (g .links) m q i in
+        graph-in-in (g .n) (links-table g) m (record {
+          lower-first = k .0;
+          is-radio = k .1;
+          is-marked = marked-links-table g (m .low) (m .high) (omega (arith, k .0, k .1)) (omega (arith, k .1))
+              ∙ in-linked (g .links) (m .low) (m .high) (subst (λ (l : Link). In-links l (g .links)) (sym (link-less (m .low) (m .high) (k .0))) i);
+        })
+
+module _ (n : ℕ) (ts : List ℕ) (is-symmetric : symmetric n ts ≡ true) (is-irreflexive : irreflexive n ts ≡ true) where
+  linked-above : (a b : ℕ) → a < b → b < n → linked (graph-in n ts) a b ≡ marked ts a b
+  unfolding linked
+  linked-above a b h l = iff-eq (linked (graph-in n ts) a b) (marked ts a b)
+      (λ e. in-graph-in n ts (record { low = a; high = b })
+      (subst (λ (m : Link). In-links m (graph-in n ts .links)) (link-less a b h)
+      (linked-in n (graph-in n ts .links) a b (proper-of n (graph-in n ts .links) (proper-graph-in n ts)) e)) .is-marked)
+      (λ e. in-linked (graph-in n ts .links) a b
+      (subst (λ (m : Link). In-links m (graph-in n ts .links)) (sym (link-less a b h))
+      (graph-in-in n ts (record { low = a; high = b }) (record { lower-first = h; is-radio = l; is-marked = e }))))
+
+  pub linked-graph-in : (a b : ℕ) → a < n → b < n → linked (graph-in n ts) a b ≡ marked ts a b
+  unfolding graph-in
+  linked-graph-in a b la lb = go (trichotomy a b)
+    where
+      go : (a < b) ⊎ ((a ≡ b) ⊎ (b < a)) → linked (graph-in n ts) a b ≡ marked ts a b
+      go (inl h) = linked-above a b h lb
+      go (inr (inl e)) = rw (← e) (linked-self (graph-in n ts) (proper-graph-in n ts) a ∙ sym (irreflexive-of n ts is-irreflexive a la))
+      go (inr (inr h)) = linked-sym (graph-in n ts) a b ∙ linked-above b a h la ∙ symmetric-of n ts is-symmetric b a lb la
+
+pub links-table-graph-in : (n : ℕ) (ts : List ℕ) → n ≤ max-radios → length ts ≡ row-bytes * n → Bytes ts
+    → symmetric n ts ≡ true → irreflexive n ts ≡ true → within n ts ≡ true → links-table (graph-in n ts) ≡ ts
+unfolding graph-in
+links-table-graph-in n ts big len bytes s r w = table-eq n (links-table (graph-in n ts)) ts
+    (length-links-table (graph-in n ts)) len (bytes-links-table (graph-in n ts)) bytes
+    (λ a b la lb. marked-links-table (graph-in n ts) a b la lb ∙ go a b la lb (bool-cases (ltb b n)))
+  where
+    go : (a b : ℕ) → a < n → b < max-radios → (ltb b n ≡ true) ⊎ (ltb b n ≡ false) → linked (graph-in n ts) a b ≡ marked ts a b
+    go a b la lb (inl e) = linked-graph-in n ts s r a b la (ltb-true b n e)
+    go a b la lb (inr e) =
+        linked-within (graph-in n ts) (proper-graph-in n ts) a b (ltb-false b n e) ∙ sym (within-of n ts w a b la (ltb-false b n e) lb)
+
+pub degree-graph-in : (n : ℕ) (ts : List ℕ) → n ≤ max-radios → symmetric n ts ≡ true → irreflexive n ts ≡ true → within n ts ≡ true
+    → (a : ℕ) → a < n → degree (graph-in n ts) a ≡ row-degree ts a
+unfolding degree neighbours-among radios graph-in
+degree-graph-in n ts big s r w a la = sym (row-degree-count n ts a (linked (graph-in n ts) a) big
+    (λ b lb. sym (linked-graph-in n ts s r a b la lb)) (λ b nb lb. within-of n ts w a b la nb lb))
