@@ -1,22 +1,17 @@
 -- Links in their order.
--- In order: membership of links, a link before another, sorted lists of links, members and neighbours, a link put in or taken
--- out, the links table of a graph with one link more or less.
+-- In order: membership of links, a link before another, sorted lists of links, members and neighbours.
 use mathlib.Core.Path.{_≡_, refl, sym, ap, ap₂, subst, _∙_}
 use mathlib.Core.Logic.{_⊎_, inl, inr}
-use mathlib.Core.Bool.{Bool, true, false, _&&_, _||_, not, cond}
+use mathlib.Core.Bool.{true, false, _&&_, _||_}
 use mathlib.Core.List.{List, [], _∷_, _++_}
-use Prim.Native.Nat.{ℕ, _*_, _≤_, _<_}
+use Prim.Native.Nat.{ℕ, _<_}
 use native.Mathlib.Omega.{arith}
 use lib.Dec.{ltb, eqb}
-use lib.ListN.{length}
-use borrow.Author.Tests.{ltb-true, ltb-false, lt-ltb, le-ltb, eqb-true, eq-eqb}
-use Rattle.mesh.specs.Limits.{max-radios, row-bytes}
+use borrow.Author.Tests.{ltb-true, lt-ltb, le-ltb, eqb-true, eq-eqb}
 use Rattle.mesh.specs.Lists.{member}
-use Rattle.mesh.specs.Graph.{Link, Graph, graph, other-ends, linked, link, link-before, same-link, with-link, without-link, new-links, relinked, proper, ascending}
-use Rattle.mesh.specs.Tables.{marked, put-link, links-table}
-use Rattle.mesh.proofs.BoolLaws.{bool-cases, never, and-left, and-right, and-both, or-cases, or-left, or-right, trichotomy}
-use Rattle.mesh.proofs.GraphLaws.{ends, Ends, ends-of, of-ends, joins, joins-link, linked-by, linked-by-cons, linked-by-sym, linked-by-with, linked-by-without, same-link-eq, Proper, proper-of, proper-new-links}
-use Rattle.mesh.proofs.TableLaws.{table-eq, length-put-link, bytes-put-link, marked-put-link, length-links-table, bytes-links-table, marked-links-table}
+use Rattle.mesh.specs.Graph.{Link, other-ends, link, link-before, ascending}
+use Rattle.mesh.proofs.BoolLaws.{never, and-left, and-right, and-both, or-cases, or-left, or-right, trichotomy}
+use Rattle.mesh.proofs.GraphLaws.{Ends, ends-of, of-ends, joins, joins-link, linked-by, linked-by-cons, Proper}
 
 -- ---- membership of links
 
@@ -151,13 +146,14 @@ sorted-eq [] (y ∷ ys) s t f g = absurd (g y (inl refl))
 sorted-eq (x ∷ xs) [] s t f g = absurd (f x (inl refl))
 sorted-eq (x ∷ xs) (y ∷ ys) s t f g = go (sorted-eq xs ys (s .1) (t .1)) (f x (inl refl)) (g y (inl refl))
   where
+    rest : (((m : Link) → In-links m xs → In-links m ys) → ((m : Link) → In-links m ys → In-links m xs) → xs ≡ ys) → x ≡ y → x ∷ xs ≡ y ∷ ys
+    rest rec e = ap₂ {C = List Link} (λ z zs. z ∷ zs) e (rec (sorted-tail x y xs ys e s f) (sorted-tail y x ys xs (sym e) t g))
+
     go : (((m : Link) → In-links m xs → In-links m ys) → ((m : Link) → In-links m ys → In-links m xs) → xs ≡ ys)
         → (y ≡ x) ⊎ In-links x ys → (x ≡ y) ⊎ In-links y xs → x ∷ xs ≡ y ∷ ys
+    go rec (inl e) q = rest rec (sym e)
+    go rec (inr i) (inl e) = rest rec e
     go rec (inr i) (inr k) = absurd (before-irreflexive x (before-trans x y x (s .0 y k) (t .0 x i)))
-    go rec (inl e) q =
-        ap₂ {C = List Link} (λ z zs. z ∷ zs) (sym e) (rec (sorted-tail x y xs ys (sym e) s f) (sorted-tail y x ys xs e t g))
-    go rec (inr i) (inl e) =
-        ap₂ {C = List Link} (λ z zs. z ∷ zs) e (rec (sorted-tail x y xs ys e s f) (sorted-tail y x ys xs (sym e) t g))
 
 -- ---- members and neighbours
 

@@ -3,25 +3,24 @@
 -- proper rows and degrees.
 use mathlib.Core.Path.{_≡_, refl, sym, ap, subst, _∙_}
 use mathlib.Core.Logic.{_⊎_, inl, inr}
-use mathlib.Core.Bool.{Bool, true, false, _&&_, not, cond, Bool·beq}
-use mathlib.Core.List.{List, [], _∷_, _++_, map, flatMap}
-use Prim.Native.Nat.{ℕ, zero, suc, _+_, _*_, _-_, _≤_, _<_}
+use mathlib.Core.Bool.{Bool, true, false, cond}
+use mathlib.Core.List.{List, [], _∷_, map, flatMap}
+use Prim.Native.Nat.{ℕ, zero, suc, _*_, _-_, _≤_, _<_}
 use native.Mathlib.Omega.{arith}
-use native.Mathlib.Nat.{le-antisymm}
-use lib.Dec.{ltb, leb}
+use lib.Dec.{ltb}
 use lib.ListN.{length}
-use borrow.Author.Tests.{ltb-true, ltb-false, le-leb, not-true}
+use borrow.Author.Tests.{ltb-true, ltb-false}
 use Rattle.mesh.specs.Limits.{max-radios, row-bytes}
-use Rattle.mesh.specs.Lists.{range, count, filter, all}
-use Rattle.mesh.specs.Graph.{Link, Graph, graph, radios, linked, link, degree, neighbours-among, proper, ascending}
+use Rattle.mesh.specs.Lists.{range, filter}
+use Rattle.mesh.specs.Graph.{Link, Graph, graph, radios, linked, degree, neighbours-among, proper, ascending}
 use Rattle.mesh.specs.Tables.{marked, links-table, row-links, graph-in}
-use Rattle.mesh.specs.Sound.{symmetric, irreflexive, within, row-degree, few, rows-proper}
-use Rattle.mesh.proofs.BoolLaws.{bool-cases, never, and-both, iff-eq, beq-eq, eq-beq, trichotomy}
-use Rattle.mesh.proofs.ListLaws.{In, in-range, range-in, in-filter, filter-in, in-all, all-in, all-below, below-all, distinct-range, count-sub}
-use Rattle.mesh.proofs.GraphLaws.{linked-by, linked-by-proper, linked-sym, linked-self, Proper, proper-of, of-proper}
+use Rattle.mesh.specs.Sound.{symmetric, irreflexive, within, row-degree}
+use Rattle.mesh.proofs.BoolLaws.{bool-cases, iff-eq, trichotomy}
+use Rattle.mesh.proofs.ListLaws.{In, in-range, range-in, in-filter, filter-in}
+use Rattle.mesh.proofs.GraphLaws.{linked-sym, linked-self, Proper, proper-of, of-proper}
 use Rattle.mesh.proofs.TableLaws.{Bytes, table-eq, length-links-table, bytes-links-table, marked-links-table}
 use Rattle.mesh.proofs.RowLaws.{symmetric-of, irreflexive-of, within-of, row-degree-count, linked-within}
-use Rattle.mesh.proofs.AscendingLinks.{In-links, in-links-left, in-links-right, in-links-cases, in-links-proper, proper-in-links, Before, link-eq, link-less, Sorted, sorted-of, of-sorted, sorted-append, sorted-eq, in-linked, linked-in}
+use Rattle.mesh.proofs.AscendingLinks.{In-links, in-links-left, in-links-right, in-links-cases, in-links-proper, proper-in-links, Before, link-less, Sorted, sorted-of, of-sorted, sorted-append, sorted-eq, in-linked, linked-in}
 
 -- ---- members of joined lists of links
 

@@ -5,16 +5,15 @@ use mathlib.Core.Logic.{_⊎_, inl, inr}
 use mathlib.Core.Bool.{Bool, true, false, _||_, not, cond}
 use mathlib.Core.List.{List, [], _∷_}
 use Prim.Native.Nat.{ℕ, _≤_, _<_}
-use native.Mathlib.Omega.{arith}
 use lib.Dec.{eqb}
 use borrow.Author.Tests.{eq-eqb}
 use Rattle.mesh.specs.Limits.{max-radios}
 use Rattle.mesh.specs.Graph.{Link, Graph, linked, link, link-before, same-link, with-link, without-link, new-links, relinked, proper, ascending}
 use Rattle.mesh.specs.Tables.{put-link, links-table}
 use Rattle.mesh.proofs.BoolLaws.{bool-cases, never, and-both}
-use Rattle.mesh.proofs.GraphLaws.{ends, Ends, ends-of, joins, joins-link, linked-by, linked-by-sym, linked-by-with, linked-by-without, same-link-eq, Proper, proper-of, proper-new-links}
+use Rattle.mesh.proofs.GraphLaws.{ends, Ends, ends-of, joins-link, linked-by, linked-by-sym, linked-by-with, linked-by-without, same-link-eq, Proper, proper-of, proper-new-links}
 use Rattle.mesh.proofs.TableLaws.{table-eq, length-put-link, bytes-put-link, marked-put-link, length-links-table, bytes-links-table, marked-links-table}
-use Rattle.mesh.proofs.AscendingLinks.{In-links, Before, first-before, before-irreflexive, before-trans, before-of, of-before, before-cases, link-eq, Sorted, sorted-of, of-sorted, in-linked, linked-in}
+use Rattle.mesh.proofs.AscendingLinks.{In-links, Before, first-before, before-irreflexive, before-of, of-before, before-cases, link-eq, Sorted, sorted-of, of-sorted, in-linked, linked-in}
 
 -- ---- the links stay in their order
 
@@ -126,7 +125,6 @@ linked-by-without-link n a b ls v w p s = go (ends a b v w) refl
 
 module _ (u : Bool) (a b : ℕ) (g : Graph) (links-proper : proper (g .n) (g .links) ≡ true) (links-ascending : ascending (g .links) ≡ true)
     (a-radio : a < g .n) (b-radio : b < g .n) (differ : a ≡ b → ⊥) where
-
   pub linked-relinked : (v w : ℕ) → linked (relinked u a b g) v w ≡ cond (ends a b v w) u (linked g v w)
   unfolding linked relinked new-links
   linked-relinked v w = go u (proper-new-links u a b (g .n) (g .links) a-radio b-radio differ (proper-of (g .n) (g .links) links-proper))

@@ -1,6 +1,6 @@
 -- The conditions on rows of the links table, as facts about marks, and the rows of a graph's table.
 -- In order: each condition from its test and back, the bits of a row counted, the table of a graph.
-use mathlib.Core.Path.{_≡_, refl, sym, _∙_}
+use mathlib.Core.Path.{_≡_, sym, _∙_}
 use mathlib.Core.Logic.{_⊎_, inl, inr}
 use mathlib.Core.Bool.{Bool, true, false, not, Bool·beq}
 use mathlib.Core.List.{List}
@@ -100,7 +100,7 @@ pub rows-proper-links-table : (most : ℕ) (g : Graph) → g .n ≤ max-radios �
 unfolding rows-proper
 rows-proper-links-table most g big p degrees = rw (
   of-symmetric (g .n) (links-table g)
-  (λ a b la lb. marked-links-table g a b la (omega arith) ∙ linked-sym g a b ∙ sym (marked-links-table g b a lb (omega arith))),
+      (λ a b la lb. marked-links-table g a b la (omega arith) ∙ linked-sym g a b ∙ sym (marked-links-table g b a lb (omega arith))),
   of-irreflexive (g .n) (links-table g) (λ a la. marked-links-table g a a la (omega arith) ∙ linked-self g p a),
   of-within (g .n) (links-table g) (λ a b la nb lb. marked-links-table g a b la lb ∙ linked-within g p a b nb),
 ) (of-few most (g .n) (links-table g) (λ a la. omega (arith, row-degree-links-table g big p a la, degrees a la)))

@@ -3,8 +3,8 @@
 use mathlib.Core.Path.{_≡_, refl, sym, ap, ap₂, _∙_}
 use mathlib.Core.Logic.{_⊎_, inl, inr}
 use mathlib.Core.Bool.{Bool, true, false, _&&_, _||_, cond, and-comm}
-use mathlib.Core.List.{List, [], _∷_, _++_, map, flatMap}
-use Prim.Native.Nat.{ℕ, zero, suc, _+_, _*_, _-_, _/_, _%_, _^_, _≤_, _<_}
+use mathlib.Core.List.{List, [], _++_, flatMap}
+use Prim.Native.Nat.{ℕ, zero, suc, _+_, _*_, _/_, _%_, _≤_, _<_}
 use native.Mathlib.Omega.{arith}
 use native.Mathlib.Nat.{mod-lt, zero-lt-suc, mul-suc}
 use lib.Dec.{eqb}
@@ -13,9 +13,9 @@ use lib.Seq.{getD-append-add, getD-set-same, getD-set-other, ext-getD}
 use borrow.Author.Tests.{eqb-true, eqb-false, eq-eqb, ne-eqb}
 use Rattle.mesh.specs.Limits.{max-radios, row-bytes}
 use Rattle.mesh.specs.Lists.{range, member}
-use Rattle.mesh.specs.Graph.{Link, Graph, graph, radios, other-ends, linked}
+use Rattle.mesh.specs.Graph.{Graph, graph, radios, other-ends, linked}
 use Rattle.mesh.specs.Tables.{digit, byte-at, marked, put-digit, put-bit, put-link, from-digits, row-of, links-table}
-use Rattle.mesh.proofs.BoolLaws.{bool-cases, never, bit-one}
+use Rattle.mesh.proofs.BoolLaws.{bool-cases}
 use Rattle.mesh.proofs.ListLaws.{length-range, length-map, getD-map-range}
 use Rattle.mesh.proofs.GraphLaws.{ends}
 use Rattle.mesh.proofs.DigitLaws.{from-digits-less, digit-from-digits, digit-nothing, digits-eq, digit-put-digit, put-digit-less}
