@@ -1,6 +1,6 @@
 -- The links table read back as a graph.
--- In order: members of joined lists of links, the links that a table marks, their order, their neighbours, the round trips,
--- proper rows and degrees.
+-- In order: members of joined lists of links, the links that a table marks, their order, the round trips, neighbours and
+-- degrees.
 use mathlib.Core.Path.{_≡_, refl, sym, ap, subst, _∙_}
 use mathlib.Core.Logic.{_⊎_, inl, inr}
 use mathlib.Core.Bool.{Bool, true, false, cond}
