@@ -18,3 +18,9 @@ pub mod RunningMaximum
 pub mod NodeSets
 pub mod ShellNames
 pub mod TreeLaws
+pub mod DigitLaws
+pub mod TableLaws
+pub mod RowLaws
+pub mod AscendingLinks
+pub mod Relinked
+pub mod ReadBack
