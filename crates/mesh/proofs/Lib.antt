@@ -24,3 +24,4 @@ pub mod RowLaws
 pub mod AscendingLinks
 pub mod Relinked
 pub mod ReadBack
+pub mod Soundness
