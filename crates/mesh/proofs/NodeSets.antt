@@ -1,20 +1,20 @@
 -- Laws of the shell tree's sets.
 -- In order: shells, connected cores as sets, node sets (they are the connected cores with a radio of their own level), names,
 -- parents (there is one at most).
-use mathlib.Core.Path.{_≡_, refl, sym, ap, _∙_}
+use mathlib.Core.Path.{_≡_, refl, sym, _∙_}
 use mathlib.Core.Logic.{_⊎_, inl, inr, _↔_}
 use mathlib.Core.Bool.{Bool, true, false}
 use mathlib.Core.List.{List, [], _∷_}
-use Prim.Native.Nat.{ℕ, zero, suc, _+_, _≤_, _<_}
+use Prim.Native.Nat.{ℕ, suc, _≤_, _<_}
 use native.Mathlib.Omega.{arith}
 use native.Mathlib.Nat.{le-antisymm}
 use lib.Dec.{eqb}
 use borrow.Author.Tests.{eqb-true, eqb-false, eq-eqb}
-use Rattle.mesh.specs.Lists.{filter, member}
+use Rattle.mesh.specs.Lists.{member}
 use Rattle.mesh.specs.Graph.{Graph}
 use Rattle.mesh.specs.Cores.{number}
 use Rattle.mesh.specs.Connected.{In-core, core-of}
-use Rattle.mesh.specs.Tree.{Core-set, Node-set, Named, Contains, Strictly-contains, Parent-set, Root-parent, Parent, shell}
+use Rattle.mesh.specs.Tree.{Core-set, Node-set, Named, Contains, Parent, shell}
 use Rattle.mesh.proofs.BoolLaws.{bool-cases}
 use Rattle.mesh.proofs.ListLaws.{In, member-in, in-member, in-filter, filter-in}
 use Rattle.mesh.proofs.Reach.{core-of-iff, in-core-here, in-core-below, in-core-level, in-core-sym, in-core-trans, in-core-mono, in-core-lower}

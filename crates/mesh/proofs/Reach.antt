@@ -3,13 +3,13 @@
 -- connected cores of two levels.
 use mathlib.Core.Path.{_≡_, refl, sym, ap, _∙_}
 use mathlib.Core.Logic.{_⊎_, inl, inr, _↔_}
-use mathlib.Core.Bool.{Bool, true, false, _&&_, _||_, not, cond}
+use mathlib.Core.Bool.{Bool, true, false, _&&_, _||_, not}
 use mathlib.Core.List.{List, [], _∷_}
 use Prim.Native.Nat.{ℕ, zero, suc, _+_, _≤_, _<_}
 use native.Mathlib.Omega.{arith}
-use lib.Dec.{ltb, leb, eqb}
+use lib.Dec.{ltb}
 use lib.ListN.{length}
-use borrow.Author.Tests.{ltb-true, lt-ltb, leb-true, le-leb, eqb-true, eq-eqb, not-true}
+use borrow.Author.Tests.{ltb-true, lt-ltb, leb-true, le-leb, not-true}
 use Rattle.mesh.specs.Lists.{range, count, filter, member}
 use Rattle.mesh.specs.Graph.{Graph, radios, linked, neighbours-among}
 use Rattle.mesh.specs.Cores.{number}

@@ -2,13 +2,13 @@
 -- At least: each count is at most its radio's number, and numbers never fall. At most: while the maximum so far is below the
 -- number of the next radio v, everybody before v has a smaller number, so the largest group that has v stands from v on, and
 -- v's neighbours in it are later.
-use mathlib.Core.Path.{_≡_, refl, sym, ap, ap₂, _∙_}
+use mathlib.Core.Path.{_≡_, refl, ap, ap₂, _∙_}
 use mathlib.Core.Logic.{_⊎_, inl, inr}
 use mathlib.Core.Bool.{Bool, true, false, _&&_}
 use mathlib.Core.List.{List, [], _∷_, map}
-use Prim.Native.Nat.{ℕ, zero, suc, _+_, _≤_, _<_, max}
+use Prim.Native.Nat.{ℕ, _≤_, _<_, max}
 use native.Mathlib.Omega.{arith}
-use native.Mathlib.Nat.{le-antisymm, le-trans}
+use native.Mathlib.Nat.{le-trans}
 use Rattle.mesh.specs.Lists.{range, count}
 use Rattle.mesh.specs.Graph.{Graph, radios, linked, neighbours-among, neighbours-in}
 use Rattle.mesh.specs.Cores.{Group, Core}

@@ -1,18 +1,18 @@
 -- The names that the shell tree works out: of a radio's node, and of a node's parent.
 -- In order: increasing lists and their first entry, the name of a shell, the node of a radio, the parent of a node.
-use mathlib.Core.Path.{_≡_, refl, sym, ap, _∙_}
-use mathlib.Core.Logic.{_⊎_, inl, inr, _↔_}
+use mathlib.Core.Path.{_≡_, refl}
+use mathlib.Core.Logic.{_⊎_, inl, inr}
 use mathlib.Core.Bool.{Bool, true, false, cond}
 use mathlib.Core.List.{List, [], _∷_}
-use Prim.Native.Nat.{ℕ, zero, suc, _+_, _≤_, _<_}
+use Prim.Native.Nat.{ℕ, zero, suc, _≤_, _<_}
 use native.Mathlib.Omega.{arith}
 use lib.Dec.{eqb}
-use borrow.Author.Tests.{eq-eqb, ne-eqb}
+use borrow.Author.Tests.{ne-eqb}
 use Rattle.mesh.specs.Lists.{range, filter, member, head-or}
 use Rattle.mesh.specs.Graph.{Graph, radios}
 use Rattle.mesh.specs.Cores.{number}
-use Rattle.mesh.specs.Connected.{In-core, core-of}
-use Rattle.mesh.specs.Tree.{root-name, Core-set, Node-set, Named, Contains, Strictly-contains, Parent-set, Root-parent, Parent, Node-name, shell, node-name, parent-name}
+use Rattle.mesh.specs.Connected.{core-of}
+use Rattle.mesh.specs.Tree.{root-name, Core-set, Node-set, Named, Strictly-contains, Parent, Node-name, shell, node-name, parent-name}
 use Rattle.mesh.proofs.BoolLaws.{bool-cases, never, trichotomy}
 use Rattle.mesh.proofs.ListLaws.{In, range-in, in-filter}
 use Rattle.mesh.proofs.Reach.{core-of-iff, core-of-ascending, in-core-here, in-core-below}

@@ -1,11 +1,11 @@
 -- The shell tree that is worked out is document 01's: `tree-right`. That the names by radio are right is `node-name-right` in
 -- ShellNames.antt.
 -- In order: entries of maps and of joined lists, core numbers are at most n, the nodes of a level, their order, the tree.
-use mathlib.Core.Path.{_≡_, refl, sym, ap, ap₂, _∙_}
-use mathlib.Core.Logic.{_⊎_, inl, inr, _↔_}
-use mathlib.Core.Bool.{Bool, true, false, _&&_, cond}
+use mathlib.Core.Path.{_≡_, refl, sym, ap, _∙_}
+use mathlib.Core.Logic.{_⊎_, inl, inr}
+use mathlib.Core.Bool.{Bool, true, _&&_}
 use mathlib.Core.List.{List, [], _∷_, _++_, map, flatMap, List·Memᴰ, List·Memᴰ·head, List·Memᴰ·tail, List·Memᴰ·cases-cons, List·Memᴰ·not-nil, List·Memᴰ·append-cases, Memᴰ·append-left, Memᴰ·append-right}
-use Prim.Native.Nat.{ℕ, zero, suc, _+_, _≤_, _<_}
+use Prim.Native.Nat.{ℕ, zero, suc, _≤_, _<_}
 use native.Mathlib.Omega.{arith}
 use lib.Dec.{eqb}
 use lib.ListN.{length}
@@ -14,7 +14,7 @@ use Rattle.mesh.specs.Lists.{range, filter, member}
 use Rattle.mesh.specs.Graph.{Graph, radios}
 use Rattle.mesh.specs.Cores.{number, cores, cores-from, depth, peeled}
 use Rattle.mesh.specs.declared.Node.{Node}
-use Rattle.mesh.specs.Tree.{root, node, Core-set, Node-set, Named, Parent, Is-node, Node-before, Nodes-ascending, Is-tree, node-name, parent-name, nodes-at, tree}
+use Rattle.mesh.specs.Tree.{node, Is-node, Node-before, Nodes-ascending, Is-tree, node-name, parent-name, nodes-at, tree}
 use Rattle.mesh.proofs.BoolLaws.{bit-one, and-left, and-right, and-both}
 use Rattle.mesh.proofs.ListLaws.{In, in-range, range-in, in-filter, filter-in}
 use Rattle.mesh.proofs.Reach.{core-of-iff, in-core-here}
