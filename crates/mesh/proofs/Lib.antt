@@ -8,3 +8,4 @@ pub mod RunningMaximum
 pub mod NodeSets
 pub mod ShellNames
 pub mod TreeLaws
+pub mod TreeUnique

@@ -39,6 +39,9 @@ module _ (g : Graph) where
 
   -- ---- connected cores
 
+  pub core-has-self : (v k : ℕ) → v < g .n → core-has g v k v ≡ true
+  core-has-self v k l = core-of-iff g v k l v .1 (in-core-here g v k)
+
   pub core-set-of : (v k : ℕ) → v < g .n → k ≤ number g v → Core-set g k (core-has g v k)
   core-set-of v k l h = record { radio = v; is-radio = l; level = h; reaches = λ w lw. core-of-iff g v k l w }
 
@@ -72,6 +75,10 @@ module _ (g : Graph) where
 
   pub node-set-of : {k : ℕ} {s : ℕ → Bool} → 1 ≤ k → Core-set g k s → (x : ℕ) → x < g .n → s x ≡ true → number g x ≡ k → Node-set g k s
   node-set-of h c x l p e = record { positive = h; core = c; largest = λ j d. omega (arith, core-set-level d x l p) }
+
+  -- each radio of number 1 or more is in the shell of a node
+  pub node-set-of-radio : {k : ℕ} (v : ℕ) → v < g .n → number g v ≡ k → 1 ≤ k → Node-set g k (core-has g v k)
+  node-set-of-radio {k} v l e h = node-set-of h (core-set-of v k l (omega arith)) v l (core-has-self v k l) e
 
   -- where no radio of a connected core has its level, it is a connected core at the next level too
   core-set-next : {k : ℕ} {s : ℕ → Bool} → Core-set g k s → ((x : ℕ) → x < g .n → s x ≡ true → number g x ≡ k → ⊥) → Core-set g (suc k) s

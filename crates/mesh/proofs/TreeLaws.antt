@@ -17,8 +17,7 @@ use Rattle.mesh.specs.declared.Node.{Node}
 use Rattle.mesh.specs.Tree.{node, Is-node, Node-before, Nodes-ascending, Is-tree, node-name, parent-name, nodes-at, tree}
 use Rattle.mesh.proofs.BoolLaws.{bit-one, and-left, and-right, and-both}
 use Rattle.mesh.proofs.ListLaws.{In, in-range, range-in, in-filter, filter-in}
-use Rattle.mesh.proofs.Reach.{core-of-iff, in-core-here}
-use Rattle.mesh.proofs.NodeSets.{core-has, core-set-of, node-set-of, named-unique, parent-unique}
+use Rattle.mesh.proofs.NodeSets.{core-has, core-has-self, node-set-of-radio, named-unique, parent-unique}
 use Rattle.mesh.proofs.ShellNames.{Increasing, increasing-range, increasing-filter, node-name-named, parent-name-right}
 
 -- ---- laws of lists: entries of maps and of joined lists
@@ -127,14 +126,13 @@ module _ (g : Graph) where
   own-node-is x h a =
       let v = x .name in
       let k = x .level in
-      let has : core-has g v k v ≡ true = core-of-iff g v k (a .is-radio) v .1 (in-core-here g v k) in
-      let c = core-set-of g v k (a .is-radio) (omega (arith, a .number-is)) in
-      let nd = node-set-of g h c v (a .is-radio) has (a .number-is) in
+      let has = core-has-self g v k (a .is-radio) in
+      let nd = node-set-of-radio g v (a .is-radio) (a .number-is) h in
       record {
         set = core-has g v k;
         is-node = nd;
         named = rw (a .own-name) at (node-name-named g v (a .is-radio) (a .number-is) nd has);
-        under = rw (a .parent-is) (parent-name-right g v (a .is-radio) (a .number-is) c has);
+        under = rw (a .parent-is) (parent-name-right g v (a .is-radio) (a .number-is) (nd .core) has);
       }
 
   is-node-own : (x : Node) → Is-node g x → Own-node x
