@@ -3,6 +3,15 @@ pub mod BoolLaws
 pub mod ListLaws
 pub mod Valid
 pub mod GraphLaws
+pub mod OrderLaws
+pub mod Certificate
+pub mod Peeling
+pub mod KOrders
+pub mod Peel
+pub mod PeelSound
+pub mod LinkMoves
+pub mod LevelCut
+pub mod LinkCall
 pub mod Reach
 pub mod RunningMaximum
 pub mod NodeSets

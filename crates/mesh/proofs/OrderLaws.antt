@@ -1,0 +1,157 @@
+-- Laws of orders: the conditions of a k-order as types, with a bridge to each test, and how they pass along parts of a list.
+use mathlib.Core.Path.{_≡_, refl, sym, ap, _∙_}
+use mathlib.Core.Logic.{_⊎_, inl, inr}
+use mathlib.Core.Bool.{Bool, true, false, _&&_, not, cond}
+use mathlib.Core.List.{List, [], _∷_, _++_}
+use Prim.Native.Nat.{ℕ, zero, suc, _+_, _≤_, _<_}
+use native.Mathlib.Omega.{arith}
+use native.Mathlib.Nat.{le-trans, le-refl, le-of-eq}
+use lib.Dec.{leb, eqb}
+use lib.ListN.{length}
+use borrow.Author.Tests.{leb-true, le-leb, eqb-true, eq-eqb}
+use Rattle.mesh.specs.Lists.{range, count, all}
+use Rattle.mesh.specs.Graph.{Graph, linked, neighbours-among, neighbours-in}
+use Rattle.mesh.specs.Orders.{each-once, rising, few-later}
+use Rattle.mesh.proofs.BoolLaws.{and-left, and-right, and-both}
+use Rattle.mesh.proofs.ListLaws.{In, in-left, in-cases, Distinct, distinct-range, distinct-one, count-append, count-mid, count-mono, count-not, count-some, count-pos, count-sub, in-range, range-in, length-range, Permutation, Each-once, once-in, once-distinct, once-length, all-below, below-all}
+
+-- ---- each radio once
+
+-- as many entries as radios, and every radio among them
+once-from : (n : ℕ) (xs : List ℕ) → length xs ≡ n → ((v : ℕ) → v < n → In v xs) → Each-once n xs
+once-from n xs e h f =
+    let le : (g : ℕ → Bool) → count g (range 0 n) ≤ count g xs =
+    λ g. count-sub g g (range 0 n) xs (distinct-range 0 n) (λ v m p. (h v (omega (arith, range-in 0 n v m)), p)) in
+    omega (arith, le f, le (λ x. not (f x)), count-not f xs, count-not f (range 0 n), length-range 0 n)
+
+pub each-once-of : (n : ℕ) (xs : List ℕ) → each-once n xs ≡ true → Each-once n xs
+unfolding each-once
+each-once-of n xs h = once-from n xs (eqb-true (length xs) n (and-left (eqb (length xs) n) (all one (range 0 n)) h)) there
+  where
+    one : ℕ → Bool
+    one v = eqb (count (λ x. eqb x v) xs) 1
+
+    there : (v : ℕ) → v < n → In v xs
+    there v l =
+        let e = eqb-true (count (λ x. eqb x v) xs) 1 (all-below one n (and-right (eqb (length xs) n) (all one (range 0 n)) h) v l) in
+        let r = count-some (λ x. eqb x v) xs (omega arith) in rw (eqb-true (r .0) v (r .2)) at (r .1)
+
+pub of-each-once : (n : ℕ) (xs : List ℕ) → Each-once n xs → each-once n xs ≡ true
+unfolding each-once
+of-each-once n xs o =
+    and-both (eqb (length xs) n) (all one (range 0 n)) (eq-eqb (length xs) n (once-length n xs o))
+    (below-all one n (λ v l. eq-eqb (count (λ x. eqb x v) xs) 1 (omega (
+      arith,
+      distinct-one v xs (once-distinct n xs o),
+      count-pos (λ x. eqb x v) v xs (once-in n xs o v l) (eq-eqb v v refl),
+    ))))
+  where
+    one : ℕ → Bool
+    one v = eqb (count (λ x. eqb x v) xs) 1
+
+-- ---- rising
+
+-- no later entry has a smaller number
+abbrev pub Rising : (num : ℕ → ℕ) → List ℕ → Type 0
+Rising num [] = Unit {0}
+Rising num (x ∷ xs) = ((w : ℕ) → In w xs → num x ≤ num w) × Rising num xs
+
+pub rising-of : (num : ℕ → ℕ) (xs : List ℕ) → rising num xs ≡ true → Rising num xs
+unfolding rising
+rising-of num [] h = tt
+rising-of num (x ∷ []) h = (λ w m. absurd m, tt)
+rising-of num (x ∷ y ∷ ys) h =
+    let r = rising-of num (y ∷ ys) (and-right (leb (num x) (num y)) (rising num (y ∷ ys)) h) in
+    (λ w m. go (leb-true (num x) (num y) (and-left (leb (num x) (num y)) (rising num (y ∷ ys)) h)) r w m, r)
+  where
+    go : num x ≤ num y → Rising num (y ∷ ys) → (w : ℕ) → In w (y ∷ ys) → num x ≤ num w
+    go l r w (inl e) = rw (← e) l
+    go l r w (inr m) = le-trans l (r .0 w m)
+
+pub of-rising : (num : ℕ → ℕ) (xs : List ℕ) → Rising num xs → rising num xs ≡ true
+unfolding rising
+of-rising num [] r = refl
+of-rising num (x ∷ []) r = refl
+of-rising num (x ∷ y ∷ ys) r =
+    and-both (leb (num x) (num y)) (rising num (y ∷ ys)) (le-leb (num x) (num y) (r .0 y (inl refl))) (of-rising num (y ∷ ys) (r .1))
+
+pub rising-append : (num : ℕ → ℕ) (xs ys : List ℕ) → Rising num xs → Rising num ys
+    → ((x y : ℕ) → In x xs → In y ys → num x ≤ num y) → Rising num (xs ++ ys)
+rising-append num [] ys a b h = b
+rising-append num (x ∷ xs) ys a b h =
+    (λ w m. go w (in-cases w xs ys m), rising-append num xs ys (a .1) b (λ x y m p. h x y (inr m) p))
+  where
+    go : (w : ℕ) → In w xs ⊎ In w ys → num x ≤ num w
+    go w (inl m) = a .0 w m
+    go w (inr m) = h x w (inl refl) m
+
+pub rising-left : (num : ℕ → ℕ) (xs ys : List ℕ) → Rising num (xs ++ ys) → Rising num xs
+rising-left num [] ys r = tt
+rising-left num (x ∷ xs) ys r = (λ w m. r .0 w (in-left w xs ys m), rising-left num xs ys (r .1))
+
+pub rising-right : (num : ℕ → ℕ) (xs ys : List ℕ) → Rising num (xs ++ ys) → Rising num ys
+rising-right num [] ys r = r
+rising-right num (x ∷ xs) ys r = rising-right num xs ys (r .1)
+
+pub rising-level : (num : ℕ → ℕ) (k : ℕ) (xs : List ℕ) → ((x : ℕ) → In x xs → num x ≡ k) → Rising num xs
+rising-level num k [] h = tt
+rising-level num k (x ∷ xs) h = (λ w m. omega (arith, h x (inl refl), h w (inr m)), rising-level num k xs (λ w m. h w (inr m)))
+
+pub rising-cong : (num new : ℕ → ℕ) (xs : List ℕ) → ((x : ℕ) → In x xs → num x ≡ new x) → Rising num xs → Rising new xs
+rising-cong num new [] h r = tt
+rising-cong num new (x ∷ xs) h r =
+    (λ w m. omega (arith, h x (inl refl), h w (inr m), r .0 w m), rising-cong num new xs (λ w m. h w (inr m)) (r .1))
+
+-- ---- few later neighbours
+
+-- no entry has more later neighbours than its number
+abbrev pub Few-later : (neighbour : ℕ → ℕ → Bool) → (num : ℕ → ℕ) → List ℕ → Type 0
+Few-later f num [] = Unit {0}
+Few-later f num (x ∷ xs) = (count (f x) xs ≤ num x) × Few-later f num xs
+
+pub few-later-of : (f : ℕ → ℕ → Bool) (num : ℕ → ℕ) (xs : List ℕ) → few-later f num xs ≡ true → Few-later f num xs
+unfolding few-later neighbours-among
+few-later-of f num [] h = tt
+few-later-of f num (x ∷ xs) h = (
+  leb-true (count (f x) xs) (num x) (and-left (leb (count (f x) xs) (num x)) (few-later f num xs) h),
+  few-later-of f num xs (and-right (leb (count (f x) xs) (num x)) (few-later f num xs) h),
+)
+
+pub of-few-later : (f : ℕ → ℕ → Bool) (num : ℕ → ℕ) (xs : List ℕ) → Few-later f num xs → few-later f num xs ≡ true
+unfolding few-later neighbours-among
+of-few-later f num [] h = refl
+of-few-later f num (x ∷ xs) h =
+    and-both (leb (count (f x) xs) (num x)) (few-later f num xs) (le-leb (count (f x) xs) (num x) (h .0)) (of-few-later f num xs (h .1))
+
+pub few-later-right : (f : ℕ → ℕ → Bool) (num : ℕ → ℕ) (xs ys : List ℕ) → Few-later f num (xs ++ ys) → Few-later f num ys
+few-later-right f num [] ys h = h
+few-later-right f num (x ∷ xs) ys h = few-later-right f num xs ys (h .1)
+
+-- an entry less in the middle
+pub few-later-drop : (f : ℕ → ℕ → Bool) (num : ℕ → ℕ) (x : ℕ) (ps qs : List ℕ) → Few-later f num (ps ++ x ∷ qs) → Few-later f num (ps ++ qs)
+few-later-drop f num x [] qs h = h .1
+few-later-drop f num x (p ∷ ps) qs h = (omega (arith, h .0, count-mid (f p) x ps qs), few-later-drop f num x ps qs (h .1))
+
+-- other neighbours and numbers, and what stands behind in another order
+pub few-later-front : (f h : ℕ → ℕ → Bool) (num new : ℕ → ℕ) (ps ys zs : List ℕ) → Permutation ys zs → Distinct (ps ++ zs)
+    → ((v : ℕ) (ws : List ℕ) → In v ps → Distinct ws → count (f v) ws ≤ num v → count (h v) ws ≤ new v)
+    → Few-later f num (ps ++ ys) → Few-later h new zs → Few-later h new (ps ++ zs)
+few-later-front f h num new [] ys zs e d k a b = b
+few-later-front f h num new (p ∷ ps) ys zs e d k a b = (
+  k p (ps ++ zs) (inl refl) (d .1) (omega (arith, a .0, count-append (f p) ps ys, count-append (f p) ps zs, e (f p))),
+  few-later-front f h num new ps ys zs e (d .1) (λ v ws m dw q. k v ws (inr m) dw q) (a .1) b,
+)
+
+-- the whole list at once, where a condition may speak of its entries
+pub few-later-cong : (f h : ℕ → ℕ → Bool) (num new : ℕ → ℕ) (zs : List ℕ)
+    → ((v w : ℕ) → In v zs → In w zs → h v w ≡ true → f v w ≡ true) → ((v : ℕ) → In v zs → num v ≤ new v) → Few-later f num zs → Few-later h new zs
+few-later-cong f h num new [] k l a = tt
+few-later-cong f h num new (z ∷ zs) k l a = (
+  le-trans (count-mono (h z) (f z) zs (λ w m q. k z w (inl refl) (inr m) q)) (le-trans (a .0) (l z (inl refl))),
+  few-later-cong f h num new zs (λ v w m p q. k v w (inr m) (inr p) q) (λ v m. l v (inr m)) (a .1),
+)
+
+-- ---- enough neighbours that are not below
+
+abbrev pub Enough : Graph → (num : ℕ → ℕ) → Type 0
+Enough g num = (v : ℕ) → v < g .n → num v ≤ neighbours-in g v (λ w. leb (num v) (num w))
