@@ -13,6 +13,7 @@ pub mod LinkMoves
 pub mod LevelCut
 pub mod LinkCall
 pub mod Reach
+pub mod CoreLevels
 pub mod RunningMaximum
 pub mod NodeSets
 pub mod ShellNames

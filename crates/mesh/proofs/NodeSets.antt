@@ -17,7 +17,8 @@ use Rattle.mesh.specs.Connected.{In-core, core-of}
 use Rattle.mesh.specs.Tree.{Core-set, Node-set, Named, Contains, Parent, shell}
 use Rattle.mesh.proofs.BoolLaws.{bool-cases}
 use Rattle.mesh.proofs.ListLaws.{In, member-in, in-member, in-filter, filter-in}
-use Rattle.mesh.proofs.Reach.{core-of-iff, in-core-here, in-core-below, in-core-level, in-core-sym, in-core-trans, in-core-mono, in-core-lower}
+use Rattle.mesh.proofs.Reach.{core-of-iff}
+use Rattle.mesh.proofs.CoreLevels.{in-core-here, in-core-below, in-core-level, in-core-sym, in-core-trans, in-core-mono, in-core-lower}
 
 -- the connected core of v at level k, as a set
 abbrev pub core-has : Graph → (v k w : ℕ) → Bool

@@ -15,7 +15,8 @@ use Rattle.mesh.specs.Connected.{In-core, core-of}
 use Rattle.mesh.specs.Tree.{root-name, Core-set, Node-set, Named, Strictly-contains, Parent, Node-name, shell, node-name, parent-name}
 use Rattle.mesh.proofs.BoolLaws.{bool-cases, never, trichotomy}
 use Rattle.mesh.proofs.ListLaws.{In, range-in, in-filter}
-use Rattle.mesh.proofs.Reach.{core-of-iff, core-of-ascending, core-of-same, in-core-here, in-core-below, in-core-lower}
+use Rattle.mesh.proofs.Reach.{core-of-iff, core-of-ascending}
+use Rattle.mesh.proofs.CoreLevels.{core-of-same, in-core-here, in-core-below, in-core-lower}
 use Rattle.mesh.proofs.NodeSets.{core-has, core-has-self, shell-in, in-shell, core-set-of, core-set-level, core-set-reaches, core-set-contains, node-set-of, node-set-shell}
 
 -- ---- laws of lists: increasing, and the first entry
