@@ -1,23 +1,29 @@
--- The theory of the definitions, from the bottom up.
+-- The theory of the definitions, from the bottom up. Laws of a definition stand in the module that bears its subject's name.
 pub mod BoolLaws
 pub mod ListLaws
 pub mod Valid
 pub mod GraphLaws
 pub mod OrderLaws
+-- core numbers: the certificate, peeling, k-orders
 pub mod Certificate
 pub mod Peeling
 pub mod KOrders
+pub mod RunningMaximum
+-- the one peel of both link calls
 pub mod Peel
 pub mod PeelSound
 pub mod LinkMoves
 pub mod LevelCut
 pub mod LinkCall
+-- connected cores and the shell tree
 pub mod Reach
 pub mod Connectedness
-pub mod RunningMaximum
+pub mod CoreLevels
 pub mod NodeSets
 pub mod ShellNames
 pub mod TreeLaws
+pub mod TreeUnique
+-- tables
 pub mod DigitLaws
 pub mod TableLaws
 pub mod RowLaws
@@ -25,3 +31,5 @@ pub mod AscendingLinks
 pub mod Relinked
 pub mod ReadBack
 pub mod Soundness
+-- what an accepted link call keeps and changes
+pub mod LinkLaws

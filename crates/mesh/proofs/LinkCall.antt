@@ -76,7 +76,7 @@ module _ (most : ℕ) (u : Bool) (a b : ℕ) (g : Graph) (xs : List ℕ) (valid 
   pub link-adds : Adds (smaller u a b g) (larger u a b g) a b
   link-adds = relinked-adds u a b g (ok .differ) (ok .state)
 
-  cut : xs ≡ low-part ++ (level-part ++ high-part)
+  pub cut : xs ≡ low-part ++ (level-part ++ high-part)
   cut = level-cut (number g) K xs (certified .rising)
 
   positive : u ≡ false → 1 ≤ K
@@ -239,10 +239,10 @@ module _ (most : ℕ) (u : Bool) (a b : ℕ) (g : Graph) (xs : List ℕ) (valid 
             (subst (λ (w : Bool). Takes (linked after) (bound w K) high-part level-part taken stuck) e (peel .peels .takes))
             (λ v. member v (changed u a b g)) (λ v. not (member v (changed u a b g))) h (λ v m. ap not (h v m) ∙ Bool·not-not (member v stuck))
 
-    start-is : stretch-start g K ≡ length low-part
+    pub start-is : stretch-start g K ≡ length low-part
     start-is = stretch-start-is g K xs (certified .once)
 
-    length-is : stretch-length g K ≡ length level-part
+    pub length-is : stretch-length g K ≡ length level-part
     length-is = stretch-length-is g K xs (certified .once)
 
     pub new-order-is : new-order u a b g xs ≡ low-part ++ (taken ++ (stuck ++ high-part))

@@ -1,23 +1,24 @@
 -- Laws of the shell tree's sets.
 -- In order: shells, connected cores as sets, node sets (they are the connected cores with a radio of their own level), names,
 -- parents (there is one at most).
-use mathlib.Core.Path.{_≡_, refl, sym, ap, _∙_}
+use mathlib.Core.Path.{_≡_, refl, sym, _∙_}
 use mathlib.Core.Logic.{_⊎_, inl, inr, _↔_}
 use mathlib.Core.Bool.{Bool, true, false}
 use mathlib.Core.List.{List, [], _∷_}
-use Prim.Native.Nat.{ℕ, zero, suc, _+_, _≤_, _<_}
+use Prim.Native.Nat.{ℕ, suc, _≤_, _<_}
 use native.Mathlib.Omega.{arith}
 use native.Mathlib.Nat.{le-antisymm}
 use lib.Dec.{eqb}
 use borrow.Author.Tests.{eqb-true, eqb-false, eq-eqb}
-use Rattle.mesh.specs.Lists.{filter, member}
+use Rattle.mesh.specs.Lists.{member}
 use Rattle.mesh.specs.Graph.{Graph}
 use Rattle.mesh.specs.Cores.{number}
 use Rattle.mesh.specs.Connected.{In-core, core-of}
-use Rattle.mesh.specs.Tree.{Core-set, Node-set, Named, Contains, Strictly-contains, Parent-set, Root-parent, Parent, shell}
+use Rattle.mesh.specs.Tree.{Core-set, Node-set, Named, Contains, Parent, shell}
 use Rattle.mesh.proofs.BoolLaws.{bool-cases}
 use Rattle.mesh.proofs.ListLaws.{In, member-in, in-member, in-filter, filter-in}
-use Rattle.mesh.proofs.Reach.{core-of-iff, in-core-here, in-core-below, in-core-level, in-core-sym, in-core-trans, in-core-mono, in-core-lower}
+use Rattle.mesh.proofs.Reach.{core-of-iff}
+use Rattle.mesh.proofs.CoreLevels.{in-core-here, in-core-below, in-core-level, in-core-sym, in-core-trans, in-core-mono, in-core-lower}
 
 -- the connected core of v at level k, as a set
 abbrev pub core-has : Graph → (v k w : ℕ) → Bool
@@ -38,6 +39,9 @@ module _ (g : Graph) where
       filter-in (λ y. eqb (number g y) k) (core-of g v k) x (member-in x (core-of g v k) (core-of-iff g v k l x .1 r)) (eq-eqb (number g x) k e)
 
   -- ---- connected cores
+
+  pub core-has-self : (v k : ℕ) → v < g .n → core-has g v k v ≡ true
+  core-has-self v k l = core-of-iff g v k l v .1 (in-core-here g v k)
 
   pub core-set-of : (v k : ℕ) → v < g .n → k ≤ number g v → Core-set g k (core-has g v k)
   core-set-of v k l h = record { radio = v; is-radio = l; level = h; reaches = λ w lw. core-of-iff g v k l w }
@@ -72,6 +76,10 @@ module _ (g : Graph) where
 
   pub node-set-of : {k : ℕ} {s : ℕ → Bool} → 1 ≤ k → Core-set g k s → (x : ℕ) → x < g .n → s x ≡ true → number g x ≡ k → Node-set g k s
   node-set-of h c x l p e = record { positive = h; core = c; largest = λ j d. omega (arith, core-set-level d x l p) }
+
+  -- each radio of number 1 or more is in the shell of a node
+  pub node-set-of-radio : {k : ℕ} (v : ℕ) → v < g .n → number g v ≡ k → 1 ≤ k → Node-set g k (core-has g v k)
+  node-set-of-radio {k} v l e h = node-set-of h (core-set-of v k l (omega arith)) v l (core-has-self v k l) e
 
   -- where no radio of a connected core has its level, it is a connected core at the next level too
   core-set-next : {k : ℕ} {s : ℕ → Bool} → Core-set g k s → ((x : ℕ) → x < g .n → s x ≡ true → number g x ≡ k → ⊥) → Core-set g (suc k) s

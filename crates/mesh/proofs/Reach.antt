@@ -1,15 +1,14 @@
--- Reachable radios, and connected cores.
--- In order: laws of reachability, the rounds of `reached` take in exactly the reachable radios, connected cores as lists, and
--- connected cores of two levels.
+-- Reachable radios: laws of reachability, the rounds of `reached` take in exactly the reachable radios, and so connected cores
+-- as lists. More on connected cores is in CoreLevels.antt.
 use mathlib.Core.Path.{_≡_, refl, sym, ap, _∙_}
 use mathlib.Core.Logic.{_⊎_, inl, inr, _↔_}
-use mathlib.Core.Bool.{Bool, true, false, _&&_, _||_, not, cond}
+use mathlib.Core.Bool.{Bool, true, false, _&&_, _||_, not}
 use mathlib.Core.List.{List, [], _∷_}
 use Prim.Native.Nat.{ℕ, zero, suc, _+_, _≤_, _<_}
 use native.Mathlib.Omega.{arith}
-use lib.Dec.{ltb, leb, eqb}
+use lib.Dec.{ltb}
 use lib.ListN.{length}
-use borrow.Author.Tests.{ltb-true, lt-ltb, leb-true, le-leb, eqb-true, eq-eqb, not-true}
+use borrow.Author.Tests.{ltb-true, lt-ltb, leb-true, le-leb, not-true}
 use Rattle.mesh.specs.Lists.{range, count, filter, member}
 use Rattle.mesh.specs.Graph.{Graph, radios, linked, neighbours-among}
 use Rattle.mesh.specs.Cores.{number}
@@ -78,14 +77,14 @@ round g over xs = filter (near g over xs) (range 0 (g .n))
 abbrev Closed : Graph → (over : ℕ → Bool) → List ℕ → Type 0
 Closed g over xs = (w : ℕ) → w < g .n → near g over xs w ≡ true → In w xs
 
--- each radio at most once, ascending
-abbrev pub Ascending : ℕ → List ℕ → Type 0
-Ascending n xs = xs ≡ filter (λ w. member w xs) (range 0 n)
+-- radios below n, each once, ascending
+abbrev pub Ascending-below : ℕ → List ℕ → Type 0
+Ascending-below n xs = xs ≡ filter (λ w. member w xs) (range 0 n)
 
-pub ascending-filter : (n : ℕ) (f : ℕ → Bool) → Ascending n (filter f (range 0 n))
+pub ascending-filter : (n : ℕ) (f : ℕ → Bool) → Ascending-below n (filter f (range 0 n))
 ascending-filter n f = filter-ext f (λ w. member w (filter f (range 0 n))) (range 0 n) (λ w m. sym (member-filter f (range 0 n) w m))
 
-pub ascending-one : (n v : ℕ) → v < n → Ascending n (v ∷ [])
+pub ascending-one : (n v : ℕ) → v < n → Ascending-below n (v ∷ [])
 ascending-one n v l =
     sym (filter-one (λ w. member w (v ∷ [])) v (range 0 n) (distinct-range 0 n) (in-range 0 n v (omega arith) (omega arith))
     (in-member v (v ∷ []) (inl refl)) (λ w p. only w (member-in w (v ∷ []) p)))
@@ -93,11 +92,11 @@ ascending-one n v l =
     only : (w : ℕ) → In w (v ∷ []) → w ≡ v
     only w (inl e) = sym e
 
-pub ascending-distinct : (n : ℕ) (xs : List ℕ) → Ascending n xs → Distinct xs
+pub ascending-distinct : (n : ℕ) (xs : List ℕ) → Ascending-below n xs → Distinct xs
 ascending-distinct n xs a = rw a (distinct-filter (λ w. member w xs) (range 0 n) (distinct-range 0 n))
 
-pub ascending-below : (n : ℕ) (xs : List ℕ) → Ascending n xs → (w : ℕ) → In w xs → w < n
-ascending-below n xs a w m = omega (arith, range-in 0 n w (in-filter (λ w. member w xs) (range 0 n) w (rw a at m) .0))
+pub ascending-lt : (n : ℕ) (xs : List ℕ) → Ascending-below n xs → (w : ℕ) → In w xs → w < n
+ascending-lt n xs a w m = omega (arith, range-in 0 n w (in-filter (λ w. member w xs) (range 0 n) w (rw a at m) .0))
 
 module _ (g : Graph) (over : ℕ → Bool) where
   in-round : (xs : List ℕ) (w : ℕ) → w < g .n → near g over xs w ≡ true → In w (round g over xs)
@@ -123,13 +122,13 @@ module _ (g : Graph) (over : ℕ → Bool) where
   reached-reachable zero v xs h w m = h w m
   reached-reachable (suc r) v xs h w m = reached-reachable r v (round g over xs) (round-reachable v xs h) w m
 
-  round-keeps : (xs : List ℕ) → Ascending (g .n) xs → (w : ℕ) → In w xs → In w (round g over xs)
+  round-keeps : (xs : List ℕ) → Ascending-below (g .n) xs → (w : ℕ) → In w xs → In w (round g over xs)
   round-keeps xs a w m =
-      in-round xs w (ascending-below (g .n) xs a w m)
+      in-round xs w (ascending-lt (g .n) xs a w m)
       (or-left (member w xs) (over w && ltb 0 (neighbours-among (linked g) w xs)) (in-member w xs m))
 
   -- either nobody new is near, or a round takes somebody in
-  round-grows : (xs : List ℕ) → Ascending (g .n) xs → Closed g over xs ⊎ (length xs < length (round g over xs))
+  round-grows : (xs : List ℕ) → Ascending-below (g .n) xs → Closed g over xs ⊎ (length xs < length (round g over xs))
   round-grows xs a = go (count new (range 0 (g .n))) refl
     where
       new : ℕ → Bool
@@ -154,19 +153,19 @@ module _ (g : Graph) (over : ℕ → Bool) where
           ))
       go (suc c) e = let r = count-some new (range 0 (g .n)) (omega arith) in inr (bigger (r .0) (r .1) (r .2))
 
-  closed-round : (xs : List ℕ) → Ascending (g .n) xs → Closed g over xs → round g over xs ≡ xs
+  closed-round : (xs : List ℕ) → Ascending-below (g .n) xs → Closed g over xs → round g over xs ≡ xs
   closed-round xs a c =
       filter-ext (near g over xs) (λ w. member w xs) (range 0 (g .n)) (λ w m. iff-eq (near g over xs w) (member w xs)
       (λ p. in-member w xs (c w (omega (arith, range-in 0 (g .n) w m)) p))
       (λ p. or-left (member w xs) (over w && ltb 0 (neighbours-among (linked g) w xs)) p)) ∙ sym a
 
-  closed-reached : (r : ℕ) (xs : List ℕ) → Ascending (g .n) xs → Closed g over xs → reached r g over xs ≡ xs
+  closed-reached : (r : ℕ) (xs : List ℕ) → Ascending-below (g .n) xs → Closed g over xs → reached r g over xs ≡ xs
   unfolding reached radios
   closed-reached zero xs a c = refl
   closed-reached (suc r) xs a c = ap (reached r g over) (closed-round xs a c) ∙ closed-reached r xs a c
 
   -- as many rounds as there are radios are enough
-  reached-closed : (r : ℕ) (xs : List ℕ) → Ascending (g .n) xs → g .n ≤ r + length xs → Closed g over (reached r g over xs)
+  reached-closed : (r : ℕ) (xs : List ℕ) → Ascending-below (g .n) xs → g .n ≤ r + length xs → Closed g over (reached r g over xs)
   unfolding reached radios
   reached-closed zero xs a h = go (round-grows xs a)
     where
@@ -185,12 +184,12 @@ module _ (g : Graph) (over : ℕ → Bool) where
       go rec (inl c) = rw (closed-reached (suc r) xs a c) c
       go rec (inr l) = rec (omega arith)
 
-  reached-keeps : (r : ℕ) (xs : List ℕ) → Ascending (g .n) xs → (w : ℕ) → In w xs → In w (reached r g over xs)
+  reached-keeps : (r : ℕ) (xs : List ℕ) → Ascending-below (g .n) xs → (w : ℕ) → In w xs → In w (reached r g over xs)
   unfolding reached radios
   reached-keeps zero xs a w m = m
   reached-keeps (suc r) xs a w m = reached-keeps r (round g over xs) (ascending-filter (g .n) (near g over xs)) w (round-keeps xs a w m)
 
-  pub ascending-reached : (r : ℕ) (xs : List ℕ) → Ascending (g .n) xs → Ascending (g .n) (reached r g over xs)
+  pub ascending-reached : (r : ℕ) (xs : List ℕ) → Ascending-below (g .n) xs → Ascending-below (g .n) (reached r g over xs)
   unfolding reached radios
   ascending-reached zero xs a = a
   ascending-reached (suc r) xs a = ascending-reached r (round g over xs) (ascending-filter (g .n) (near g over xs))
@@ -224,46 +223,3 @@ module _ (g : Graph) where
   pub core-of-ascending : (v k : ℕ) → v < g .n → core-of g v k ≡ filter (λ w. member w (core-of g v k)) (radios g)
   unfolding core-of radios
   core-of-ascending v k l = ascending-reached g (at-least g k) (g .n) (v ∷ []) (ascending-one (g .n) v l)
-
-  at-least-le : (k v : ℕ) → at-least g k v ≡ true → k ≤ number g v
-  unfolding at-least
-  at-least-le k v h = leb-true k (number g v) h
-
-  le-at-least : (k v : ℕ) → k ≤ number g v → at-least g k v ≡ true
-  unfolding at-least
-  le-at-least k v h = le-leb k (number g v) h
-
-  pub in-core-here : (v k : ℕ) → In-core g v k v
-  unfolding In-core
-  in-core-here v k = here
-
-  pub in-core-below : (v k w : ℕ) → v < g .n → In-core g v k w → w < g .n
-  unfolding In-core
-  in-core-below v k w l r = reachable-below l r
-
-  -- members of a connected core at level k have number k or more
-  pub in-core-level : (v k w : ℕ) → k ≤ number g v → In-core g v k w → k ≤ number g w
-  unfolding In-core
-  in-core-level v k w h r = at-least-le k w (reachable-passes (le-at-least k v h) r)
-
-  pub in-core-sym : (v k w : ℕ) → v < g .n → k ≤ number g v → In-core g v k w → In-core g w k v
-  unfolding In-core
-  in-core-sym v k w l h r = reachable-sym l (le-at-least k v h) r
-
-  pub in-core-trans : (v k w x : ℕ) → In-core g v k w → In-core g w k x → In-core g v k x
-  unfolding In-core
-  in-core-trans v k w x r s = reachable-trans r s
-
-  -- from one level to another that the members have too
-  pub in-core-mono : (v j k w : ℕ) → ((x : ℕ) → In-core g v j x → j ≤ number g x → k ≤ number g x) → In-core g v j w → In-core g v k w
-  unfolding In-core
-  in-core-mono v j k w h r = reachable-mono (λ x s p. le-at-least k x (h x s (at-least-le j x p))) r
-
-  -- a connected core lies within that of the same radio at a lower level
-  pub in-core-lower : (v j k w : ℕ) → j ≤ k → In-core g v k w → In-core g v j w
-  in-core-lower v j k w h r = in-core-mono v k j w (λ x s p. omega arith) r
-
-  -- cores of two levels are nested or apart: one at level k that shares a radio x with one at level j, j ≤ k, lies within it
-  pub in-core-nested : (u j v k x w : ℕ) → j ≤ k → v < g .n → k ≤ number g v → In-core g u j x → In-core g v k x → In-core g v k w → In-core g u j w
-  in-core-nested u j v k x w h l e p q r =
-      in-core-trans u j x w p (in-core-lower x j k w h (in-core-trans x k v w (in-core-sym v k x l e q) r))

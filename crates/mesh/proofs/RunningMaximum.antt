@@ -2,29 +2,22 @@
 -- At least: each count is at most its radio's number, and numbers never fall. At most: while the maximum so far is below the
 -- number of the next radio v, everybody before v has a smaller number, so the largest group that has v stands from v on, and
 -- v's neighbours in it are later.
-use mathlib.Core.Path.{_≡_, refl, sym, ap, ap₂, _∙_}
+use mathlib.Core.Path.{_≡_, refl, ap, ap₂, _∙_}
 use mathlib.Core.Logic.{_⊎_, inl, inr}
 use mathlib.Core.Bool.{Bool, true, false, _&&_}
 use mathlib.Core.List.{List, [], _∷_, map}
-use Prim.Native.Nat.{ℕ, zero, suc, _+_, _≤_, _<_, max}
+use Prim.Native.Nat.{ℕ, _≤_, _<_, max}
 use native.Mathlib.Omega.{arith}
-use native.Mathlib.Nat.{le-antisymm, le-trans}
+use native.Mathlib.Nat.{le-trans}
 use Rattle.mesh.specs.Lists.{range, count}
 use Rattle.mesh.specs.Graph.{Graph, radios, linked, neighbours-among, neighbours-in}
-use Rattle.mesh.specs.Cores.{Group, Core}
-use Rattle.mesh.specs.Orders.{running-maxima}
+use Rattle.mesh.specs.Cores.{Group, Core, number}
+use Rattle.mesh.specs.Orders.{is-k-order, running-maxima}
 use Rattle.mesh.proofs.BoolLaws.{never, and-left, and-right, trichotomy}
 use Rattle.mesh.proofs.ListLaws.{In, range-in, distinct-range, count-sub, Each-once, once-in, once-below}
-
--- numbers never fall along the list
-abbrev pub Rising : (num : ℕ → ℕ) → List ℕ → Type 0
-Rising num [] = Unit {0}
-Rising num (x ∷ xs) = ((w : ℕ) → In w xs → num x ≤ num w) × Rising num xs
-
--- no radio of the list has more later neighbours than its number
-abbrev pub Few-later : (neighbour : ℕ → ℕ → Bool) → (num : ℕ → ℕ) → List ℕ → Type 0
-Few-later f num [] = Unit {0}
-Few-later f num (x ∷ xs) = (count (f x) xs ≤ num x) × Few-later f num xs
+use Rattle.mesh.proofs.OrderLaws.{Rising, Few-later}
+use Rattle.mesh.proofs.Peeling.{number-core}
+use Rattle.mesh.proofs.KOrders.{k-order-certificate}
 
 module _ (g : Graph) (num : ℕ → ℕ) (apart : (w : ℕ) → linked g w w ≡ false) (core : (v : ℕ) → v < g .n → Core g v (num v)) where
   -- x comes next, xs after it; whoever is in neither has at most the maximum so far
@@ -71,3 +64,8 @@ module _ (g : Graph) (num : ℕ → ℕ) (apart : (w : ℕ) → linked g w w ≡
   pub numbers-running : (xs : List ℕ) → Each-once (g .n) xs → Rising num xs → Few-later (linked g) num xs → map num xs ≡ running-maxima (linked g) 0 xs
   numbers-running xs once r o =
       numbers-running-from 0 xs (once-below (g .n) xs once) r o (λ v i. omega arith) (λ w l. inl (once-in (g .n) xs once w l))
+
+pub numbers-k-order : (g : Graph) → ((w : ℕ) → linked g w w ≡ false) → (xs : List ℕ) → is-k-order g xs ≡ true
+    → map (number g) xs ≡ running-maxima (linked g) 0 xs
+numbers-k-order g apart xs h =
+    let c = k-order-certificate g xs h in numbers-running g (number g) apart (number-core g) xs (c .once) (c .rising) (c .few)

@@ -1,22 +1,23 @@
 -- The names that the shell tree works out: of a radio's node, and of a node's parent.
 -- In order: increasing lists and their first entry, the name of a shell, the node of a radio, the parent of a node.
-use mathlib.Core.Path.{_≡_, refl, sym, ap, _∙_}
-use mathlib.Core.Logic.{_⊎_, inl, inr, _↔_}
+use mathlib.Core.Path.{_≡_, refl, _∙_}
+use mathlib.Core.Logic.{_⊎_, inl, inr}
 use mathlib.Core.Bool.{Bool, true, false, cond}
 use mathlib.Core.List.{List, [], _∷_}
-use Prim.Native.Nat.{ℕ, zero, suc, _+_, _≤_, _<_}
+use Prim.Native.Nat.{ℕ, zero, suc, _≤_, _<_}
 use native.Mathlib.Omega.{arith}
 use lib.Dec.{eqb}
-use borrow.Author.Tests.{eq-eqb, ne-eqb}
+use borrow.Author.Tests.{ne-eqb}
 use Rattle.mesh.specs.Lists.{range, filter, member, head-or}
 use Rattle.mesh.specs.Graph.{Graph, radios}
 use Rattle.mesh.specs.Cores.{number}
 use Rattle.mesh.specs.Connected.{In-core, core-of}
-use Rattle.mesh.specs.Tree.{root-name, Core-set, Node-set, Named, Contains, Strictly-contains, Parent-set, Root-parent, Parent, Node-name, shell, node-name, parent-name}
+use Rattle.mesh.specs.Tree.{root-name, Core-set, Node-set, Named, Strictly-contains, Parent, Node-name, shell, node-name, parent-name}
 use Rattle.mesh.proofs.BoolLaws.{bool-cases, never, trichotomy}
 use Rattle.mesh.proofs.ListLaws.{In, range-in, in-filter}
-use Rattle.mesh.proofs.Reach.{core-of-iff, core-of-ascending, in-core-here, in-core-below}
-use Rattle.mesh.proofs.NodeSets.{core-has, shell-in, in-shell, core-set-of, core-set-level, core-set-reaches, core-set-contains, node-set-of, node-set-shell}
+use Rattle.mesh.proofs.Reach.{core-of-iff, core-of-ascending}
+use Rattle.mesh.proofs.CoreLevels.{core-of-same, in-core-here, in-core-below, in-core-lower}
+use Rattle.mesh.proofs.NodeSets.{core-has, core-has-self, shell-in, in-shell, core-set-of, core-set-level, core-set-reaches, core-set-contains, node-set-of, node-set-shell}
 
 -- ---- laws of lists: increasing, and the first entry
 
@@ -41,6 +42,10 @@ increasing-filter f (x ∷ xs) a = go (increasing-filter f xs (a .1)) (f x)
 pub head-or-in : (d v : ℕ) (xs : List ℕ) → In v xs → In (head-or d xs) xs
 unfolding head-or
 head-or-in d v (x ∷ xs) m = inl refl
+
+pub head-or-any : (c d v : ℕ) (xs : List ℕ) → In v xs → head-or c xs ≡ head-or d xs
+unfolding head-or
+head-or-any c d v (x ∷ xs) m = refl
 
 pub head-or-lowest : (d v : ℕ) (xs : List ℕ) → Increasing xs → In v xs → head-or d xs ≤ v
 unfolding head-or
@@ -76,11 +81,13 @@ module _ (g : Graph) where
   unfolding node-name
   node-name-root v e = rw e
 
-  pub node-name-named : {k : ℕ} {s : ℕ → Bool} (v : ℕ) → v < g .n → number g v ≡ k → Node-set g k s → s v ≡ true → Named g k s (node-name g v)
+  node-name-shell : (v k : ℕ) → number g v ≡ k → 1 ≤ k → node-name g v ≡ head-or root-name (shell g v k)
   unfolding node-name
+  node-name-shell v k e h = rw (e, ne-eqb k 0 (λ z. omega arith))
+
+  pub node-name-named : {k : ℕ} {s : ℕ → Bool} (v : ℕ) → v < g .n → number g v ≡ k → Node-set g k s → s v ≡ true → Named g k s (node-name g v)
   node-name-named {k} v l e nd p =
-      rw (e, ne-eqb k 0 (λ z. omega (arith, nd .positive)))
-      (shell-named (nd .core) root-name v v l p (in-shell g v k v l (in-core-here g v k) e))
+      rw (node-name-shell v k e (nd .positive)) (shell-named (nd .core) root-name v v l p (in-shell g v k v l (in-core-here g v k) e))
 
   pub node-name-right : (v : ℕ) → v < g .n → Node-name g v (node-name g v)
   node-name-right v l = record { at-root = node-name-root v; elsewhere = λ s nd p. node-name-named v l refl nd p }
@@ -117,7 +124,7 @@ module _ (g : Graph) where
           let r = shell-in g v (suc k) x l m in
           let lx = in-core-below g v (suc k) x l (r .0) in
           let d = core-set-of g v (suc k) l (omega arith) in
-          let has : core-has g v (suc k) v ≡ true = core-of-iff g v (suc k) l v .1 (in-core-here g v (suc k)) in
+          let has : core-has g v (suc k) v ≡ true = core-has-self g v (suc k) l in
           let has-x : core-has g v (suc k) x ≡ true = core-of-iff g v (suc k) l x .1 (r .0) in
           inl (record {
             level = suc k;
@@ -148,3 +155,23 @@ module _ (g : Graph) where
           go (inl a) = a
           go (inr (inl a)) = never (s (st .extra)) (core-set-contains g (omega arith) c (nd .core) v l (st .contains v l p) p (st .extra) (st .is-radio) (st .in-outer)) (st .not-inner)
           go (inr (inr a)) = absurd (omega (arith, core-set-level g (nd .core) v l (st .contains v l p)))
+
+  -- ---- names alike
+
+  -- the radios of a connected core at level k have the same names above it
+  pub parent-name-same : (v k w : ℕ) → v < g .n → k ≤ number g v → In-core g v k w → parent-name g w (suc k) ≡ parent-name g v (suc k)
+  unfolding parent-name shell
+  parent-name-same v zero w l h r = refl
+  parent-name-same v (suc k) w l h r =
+      rw (core-of-same g v (suc k) w l h r, parent-name-same v k w l (omega arith) (in-core-lower g v k (suc k) w (omega arith) r))
+
+  node-name-parent-at : (v k : ℕ) → v < g .n → number g v ≡ k → node-name g v ≡ parent-name g v (suc k)
+  unfolding parent-name
+  node-name-parent-at v zero l e = node-name-root v e
+  node-name-parent-at v (suc k) l e =
+      node-name-shell v (suc k) e (omega arith)
+      ∙ head-or-any root-name (parent-name g v (suc k)) v (shell g v (suc k)) (in-shell g v (suc k) v l (in-core-here g v (suc k)) e)
+
+  -- a radio's node is the parent that a node just above its number would have
+  pub node-name-parent : (v : ℕ) → v < g .n → node-name g v ≡ parent-name g v (suc (number g v))
+  node-name-parent v l = node-name-parent-at v (number g v) l refl

@@ -1,11 +1,11 @@
 -- The shell tree that is worked out is document 01's: `tree-right`. That the names by radio are right is `node-name-right` in
 -- ShellNames.antt.
 -- In order: entries of maps and of joined lists, core numbers are at most n, the nodes of a level, their order, the tree.
-use mathlib.Core.Path.{_≡_, refl, sym, ap, ap₂, _∙_}
-use mathlib.Core.Logic.{_⊎_, inl, inr, _↔_}
-use mathlib.Core.Bool.{Bool, true, false, _&&_, cond}
+use mathlib.Core.Path.{_≡_, refl, sym, ap, _∙_}
+use mathlib.Core.Logic.{_⊎_, inl, inr}
+use mathlib.Core.Bool.{Bool, true, _&&_}
 use mathlib.Core.List.{List, [], _∷_, _++_, map, flatMap, List·Memᴰ, List·Memᴰ·head, List·Memᴰ·tail, List·Memᴰ·cases-cons, List·Memᴰ·not-nil, List·Memᴰ·append-cases, Memᴰ·append-left, Memᴰ·append-right}
-use Prim.Native.Nat.{ℕ, zero, suc, _+_, _≤_, _<_}
+use Prim.Native.Nat.{ℕ, zero, suc, _≤_, _<_}
 use native.Mathlib.Omega.{arith}
 use lib.Dec.{eqb}
 use lib.ListN.{length}
@@ -14,11 +14,10 @@ use Rattle.mesh.specs.Lists.{range, filter, member}
 use Rattle.mesh.specs.Graph.{Graph, radios}
 use Rattle.mesh.specs.Cores.{number, cores, cores-from, depth, peeled}
 use Rattle.mesh.specs.declared.Node.{Node}
-use Rattle.mesh.specs.Tree.{root, node, Core-set, Node-set, Named, Parent, Is-node, Node-before, Nodes-ascending, Is-tree, node-name, parent-name, nodes-at, tree}
+use Rattle.mesh.specs.Tree.{node, Is-node, Node-before, Nodes-ascending, Is-tree, node-name, parent-name, nodes-at, tree}
 use Rattle.mesh.proofs.BoolLaws.{bit-one, and-left, and-right, and-both}
 use Rattle.mesh.proofs.ListLaws.{In, in-range, range-in, in-filter, filter-in}
-use Rattle.mesh.proofs.Reach.{core-of-iff, in-core-here}
-use Rattle.mesh.proofs.NodeSets.{core-has, core-set-of, node-set-of, named-unique, parent-unique}
+use Rattle.mesh.proofs.NodeSets.{core-has, core-has-self, node-set-of-radio, named-unique, parent-unique}
 use Rattle.mesh.proofs.ShellNames.{Increasing, increasing-range, increasing-filter, node-name-named, parent-name-right}
 
 -- ---- laws of lists: entries of maps and of joined lists
@@ -127,14 +126,13 @@ module _ (g : Graph) where
   own-node-is x h a =
       let v = x .name in
       let k = x .level in
-      let has : core-has g v k v ≡ true = core-of-iff g v k (a .is-radio) v .1 (in-core-here g v k) in
-      let c = core-set-of g v k (a .is-radio) (omega (arith, a .number-is)) in
-      let nd = node-set-of g h c v (a .is-radio) has (a .number-is) in
+      let has = core-has-self g v k (a .is-radio) in
+      let nd = node-set-of-radio g v (a .is-radio) (a .number-is) h in
       record {
         set = core-has g v k;
         is-node = nd;
         named = rw (a .own-name) at (node-name-named g v (a .is-radio) (a .number-is) nd has);
-        under = rw (a .parent-is) (parent-name-right g v (a .is-radio) (a .number-is) c has);
+        under = rw (a .parent-is) (parent-name-right g v (a .is-radio) (a .number-is) (nd .core) has);
       }
 
   is-node-own : (x : Node) → Is-node g x → Own-node x
