@@ -31,5 +31,9 @@ pub mod AscendingLinks
 pub mod Relinked
 pub mod ReadBack
 pub mod Soundness
+pub mod Sites
 -- what an accepted link call keeps and changes
 pub mod LinkLaws
+
+-- the limits of the code
+pub mod SiteLimits
