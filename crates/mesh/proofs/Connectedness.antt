@@ -1,6 +1,6 @@
 -- Radios whose number differs between two graphs one link apart are connected through one another alone, in the graph that
 -- has the link, and include an end of it.
--- Why: take those that one of them reaches over changed radios. With no end among them, they and the radios above the level
+-- Why: take the radios that one of them reaches over changed radios. With no end among them, they and the radios above the level
 -- would be a group of the larger number in the graph without the link already.
 use mathlib.Core.Path.{_≡_, refl, sym, ap, _∙_}
 use mathlib.Core.Logic.{_⊎_, inl, inr, _↔_}

@@ -34,6 +34,5 @@ pub mod Soundness
 pub mod Sites
 -- what an accepted link call keeps and changes
 pub mod LinkLaws
-
 -- the limits of the code
 pub mod SiteLimits

@@ -150,7 +150,7 @@ pub distinct-apart : (xs ys : List ℕ) → Distinct (xs ++ ys) → (v : ℕ) �
 distinct-apart (x ∷ xs) ys d v (inl e) m = d .0 (in-right x xs ys (rw (← e) at m))
 distinct-apart (x ∷ xs) ys d v (inr p) m = distinct-apart xs ys (d .1) v p m
 
--- entries without repeats that pass, and that stand in ys and pass there, are no more than those of ys that pass
+-- entries without repeats that pass, and that stand in ys and pass there, are no more than the entries of ys that pass
 pub count-sub : (f g : ℕ → Bool) (xs ys : List ℕ) → Distinct xs
     → ((x : ℕ) → In x xs → f x ≡ true → In x ys × (g x ≡ true)) → count f xs ≤ count g ys
 unfolding count

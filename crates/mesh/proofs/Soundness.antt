@@ -1,4 +1,4 @@
--- Sound tables are exactly those with proper rows, core numbers and a k-order.
+-- Sound tables are exactly the ones with proper rows, core numbers and a k-order.
 --   sound-iff     soundness by the local conditions, on any tables of the right lengths
 --   valid-sound   the tables of a valid site are sound
 --   sound-valid   sound tables of proper ascending links are a valid site's
@@ -162,7 +162,7 @@ module _ (most n : ℕ) (t : Tables) where
       (certificate-cong marks (number marks) num (t .order)
       (λ v l. sym (getD-numbers marks v l) ∙ ap (λ (z : List ℕ). getD z v 0) (sym (r .core-numbers))) (k-order-certificate marks (t .order) (r .k-order)))
 
--- document 01: sound tables are exactly those with proper rows, core numbers and a k-order
+-- document 01: sound tables are exactly the ones with proper rows, core numbers and a k-order
 pub sound-iff : (most n : ℕ) (t : Tables) → length (t .numbers) ≡ n → (sound-within most n t ≡ true) ↔ Right most n t
 sound-iff most n t e = (sound-right most n t e, right-sound most n t)
 

@@ -26,7 +26,7 @@ at-least g k = let num = number g in λ v. leb k (num v)
 unfoldable pub In-core : Graph → (v k w : ℕ) → Type 0
 In-core g v k w = Reachable g (at-least g k) v w
 
--- in each round those come in that pass the test and have a neighbour that is in
+-- in each round the radios come in that pass the test and have a neighbour that is in
 unfoldable pub reached : (rounds : ℕ) → Graph → (over : ℕ → Bool) → List ℕ → List ℕ
 reached zero g over xs = xs
 reached (suc r) g over xs =

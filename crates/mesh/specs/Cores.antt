@@ -3,7 +3,7 @@
 --   Core g v k        k is the core number of v: the largest k such that a group of k has v
 --   survivors, peeled radios with fewer than k neighbours left go, until none goes
 --   cores g           what peeling leaves for k = 1, 2, .., until nothing is left
---   number g v        the core number of v: how many of those have v
+--   number g v        the core number of v: how many of these have v
 --   numbers g         the core numbers by radio
 -- That `number` is the core number is `number-core` in proofs/Peeling.antt. Definitions only.
 use mathlib.Core.Path.{_≡_}

@@ -43,7 +43,7 @@ stretch-length g k = let num = number g in count (λ v. eqb (num v) k) (radios g
 
 -- ---- the stretch laid out anew
 
--- the first of xs with at most so many neighbours among `left` (those not yet laid out) and `others`
+-- the first of xs with at most so many neighbours among `left` (what is not yet laid out) and `others`
 unfoldable pub first-fitting : (neighbour : ℕ → ℕ → Bool) → (most : ℕ) → (left others xs : List ℕ) → ℕ
 first-fitting f m ls os [] = 0
 first-fitting f m ls os (x ∷ xs) =

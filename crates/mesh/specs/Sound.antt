@@ -1,4 +1,4 @@
--- Soundness by document 01's local conditions, clause by clause. That sound tables are exactly those with proper rows, core
+-- Soundness by document 01's local conditions, clause by clause. That sound tables are exactly the ones with proper rows, core
 -- numbers and a k-order is `sound-iff` in proofs/Soundness.antt.
 --   symmetric          rows are symmetric
 --   irreflexive        no radio is its own neighbour
