@@ -2,3 +2,6 @@
 pub mod Questions
 pub mod Writes
 pub mod Answers
+pub mod Book
+pub mod Runs
+pub mod Demand
