@@ -1,1 +1,3 @@
 -- Proofs about calls.
+pub mod QuestionLaws
+pub mod SingleCalls
