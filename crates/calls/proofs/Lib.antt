@@ -1,3 +1,4 @@
--- Proofs about calls.
+-- Proofs about calls: `QuestionLaws` for the crates whose functions put questions, the others for demand 3.
 pub mod QuestionLaws
 pub mod SingleCalls
+pub mod LinkKept
