@@ -2,3 +2,4 @@
 pub mod QuestionLaws
 pub mod SingleCalls
 pub mod LinkKept
+pub mod Steps
