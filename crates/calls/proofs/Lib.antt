@@ -3,3 +3,4 @@ pub mod QuestionLaws
 pub mod SingleCalls
 pub mod LinkKept
 pub mod Steps
+pub mod WholeList

@@ -110,7 +110,7 @@ module _ (laws : Laws) (n : ℕ) (ps : List Link) (t : Tables) (k : Holds n ps t
       ap (λ (o : Tables). graph-in n (o .links)) (k .is)
       ∙ laws .graph-in-links-table (graph n ps) (k .most) (k .valid .links-proper) (k .valid .links-ascending)
 
-  is-sound : sound n t ≡ true
+  pub is-sound : sound n t ≡ true
   is-sound = ap (sound n) (k .is) ∙ laws .valid-sound (graph n ps) (k .xs) (k .most) (k .valid)
 
   -- question 3 gets yes, and the links are the book's
