@@ -26,6 +26,7 @@ use Rattle.calls.specs.Runs.{Call, clearing, reading, linking, other, gi
 use Rattle.calls.specs.Demand.{Link-kept}
 use Rattle.calls.specs.declared.Reply.{Reply}
 use Rattle.calls.proofs.QuestionLaws.{Lent-good, Site-lengths, lent-zero, lent-later, site-zero, ends-zero, image-zero}
+use Rattle.calls.proofs.RecordLaws.{tables-ext, refused-same}
 use Rattle.calls.proofs.SingleCalls.{Laws, Link-laws}
 use Rattle.calls.proofs.LinkKept.{length-numbers, link-kept}
 
@@ -34,14 +35,6 @@ pub record Holds (n : ℕ) (ps : List Link) (t : Tables) : Type 0 where
   pub xs : List ℕ
   pub valid : Valid max-neighbours (graph n ps) xs
   pub is : t ≡ tables-of (graph n ps) xs
-
--- ---- tables, part by part
-
-tables-ext : (v : Tables) (l k o : List ℕ) → v .links ≡ l → v .numbers ≡ k → v .order ≡ o → v ≡ tables l k o
-tables-ext v l k o p q r = rw (← p, ← q, ← r)
-
-refused-same : (q r : ℕ) (t v : Tables) → Tables-refused q r t v → v ≡ t
-refused-same q r t v d = tables-ext v (t .links) (t .numbers) (t .order) (d .links) (d .numbers) (d .order)
 
 -- ---- after an accepted clearing or reading
 
