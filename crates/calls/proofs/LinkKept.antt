@@ -2,24 +2,24 @@
 -- In order: the numbers table, changed radios, the call.
 use mathlib.Core.Path.{_≡_, refl, ap, sym, _∙_}
 use mathlib.Core.Logic.{_⊎_, inl, inr}
-use mathlib.Core.Bool.{Bool, true, false, not}
+use mathlib.Core.Bool.{Bool, true, false}
 use mathlib.Core.List.{List}
-use Prim.Native.Nat.{ℕ, suc, _+_, _≤_, _<_}
+use Prim.Native.Nat.{ℕ, suc, _≤_, _<_}
 use native.Mathlib.Omega.{arith}
-use lib.Dec.{ltb, eqb}
-use lib.ListN.{length, getD, List·getD-eq-default}
+use lib.Dec.{ltb}
+use lib.ListN.{length, List·getD-eq-default}
 use borrow.Author.Tests.{eqb-true, not-false, ltb-true, ltb-false}
-use Rattle.mesh.specs.Lists.{range, filter, member}
-use Rattle.mesh.specs.Graph.{Graph, graph, radios, relinked}
+use Rattle.mesh.specs.Lists.{range, member}
+use Rattle.mesh.specs.Graph.{Graph, radios, relinked}
 use Rattle.mesh.specs.Cores.{number, numbers}
-use Rattle.mesh.specs.Levels.{changed, lower-level, stretch-start, stretch-length, new-order}
-use Rattle.mesh.specs.Tables.{Tables, tables-of}
+use Rattle.mesh.specs.Levels.{changed, lower-level, new-order}
+use Rattle.mesh.specs.Tables.{tables-of}
 use Rattle.mesh.specs.Sound.{number-in}
 use Rattle.mesh.proofs.BoolLaws.{bool-cases}
 use Rattle.mesh.proofs.ListLaws.{in-range, range-in, length-range, in-filter, member-in, member-filter, length-map, getD-map-range}
 use Rattle.mesh.proofs.Valid.{smaller, larger}
-use Rattle.calls.specs.Book.{Answer, reported}
-use Rattle.calls.specs.Demand.{By-one, graph-with-link, Changed-end, Link-kept-at, Link-kept}
+use Rattle.calls.specs.Book.{reported}
+use Rattle.calls.specs.Demand.{By-one, graph-with-link, Changed-end, Link-kept}
 use Rattle.calls.proofs.SingleCalls.{Link-laws}
 
 -- ---- the numbers table

@@ -1,12 +1,12 @@
 -- Every contract decides its call: on every path one outcome meets it, and no other.
 --   One-outcome P     an outcome that P holds of, and that every other such outcome equals
 -- An outcome is the result with the lent tables after the call. Below: the outcome at a refusal number, then each contract.
-use mathlib.Core.Path.{_≡_, refl, ap, _∙_}
+use mathlib.Core.Path.{_≡_, refl}
 use mathlib.Core.Bool.{Bool, true, false}
 use mathlib.Core.List.{List}
 use Prim.Native.Nat.{ℕ, zero, suc, _+_, _*_, _/_}
 use lib.Dec.{ltb}
-use lib.IntN.{ℤ, pos}
+use lib.IntN.{pos}
 use lib.ListN.{length, replicate}
 use Rattle.mesh.specs.Limits.{row-bytes}
 use Rattle.mesh.specs.Lists.{range, overwrite}
@@ -21,7 +21,6 @@ use Rattle.calls.specs.Writes.{Tables-refused, Clear-by, Clear-contract,
 use Rattle.calls.specs.Answers.{Value-by, Check-contract, Number-contract, Neighbours-contract, Linked-contract, First-contract, Listing-by, Core-contract, Backbone-contract, Write-contract, Tree-by, Tree-contract, Block-none, Block-accepted, Block-by, Block-contract}
 use Rattle.calls.specs.declared.Reply.{Reply}
 use Rattle.calls.specs.declared.Value.{Value}
-use Rattle.calls.specs.declared.Block.{Block}
 use Rattle.calls.proofs.RecordLaws.{tables-ext, refused-same, reply-ext, value-ext, block-ext}
 
 pub record One-outcome {A : Type 0} (P : A → Type 0) : Type 0 where

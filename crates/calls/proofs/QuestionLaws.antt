@@ -1,19 +1,17 @@
--- Laws of the questions and their chains, for proofs about calls.
--- In order: one question, sizes and lengths, radios and links, chains with no "no", chains that go on.
-use mathlib.Core.Path.{_≡_, refl, sym, ap, _∙_}
+-- Laws of the questions: one question of a chain, then each question as what it asks, both ways. Chains are in ChainLaws.antt.
+use mathlib.Core.Path.{_≡_, refl}
 use mathlib.Core.Bool.{Bool, true, false, _&&_, not}
-use mathlib.Core.List.{List}
-use Prim.Native.Nat.{ℕ, zero, suc, _*_, _≤_, _<_}
+use Prim.Native.Nat.{ℕ, suc, _+_, _*_, _≤_, _<_}
 use native.Mathlib.Omega.{arith}
 use lib.Dec.{ltb, leb, eqb}
 use borrow.Author.Tests.{ltb-true, leb-true, eqb-true, eqb-false, lt-ltb, le-leb, eq-eqb, ne-eqb, not-true}
-use Rattle.mesh.specs.Limits.{max-radios, max-neighbours, row-bytes}
+use Rattle.mesh.specs.Limits.{max-radios, row-bytes}
 use Rattle.mesh.specs.Graph.{Graph, linked, degree}
 use Rattle.mesh.specs.Cores.{number}
-use Rattle.mesh.specs.Image.{whole-blocks, checks-good, is-image}
-use Rattle.mesh.proofs.BoolLaws.{bool-cases, never, and-left, and-right, and-both}
-use Rattle.mesh.proofs.Valid.{Allowed}
-use Rattle.calls.specs.Questions.{ask, Lengths, size-good, site-lengths, answer-length, nodes-length, is-radio, are-radios, ends-differ, can-switch, has-room, has-level, holds-image, lent-refusal, site-refusal, ends-refusal, link-refusal, blocks-refusal, image-refusal, read-refusal}
+use Rattle.mesh.proofs.BoolLaws.{never, and-left, and-right, and-both}
+use Rattle.calls.specs.Questions.{ask, Lengths, size-good, site-lengths, answer-length, nodes-length}
+use Rattle.calls.specs.Questions.{is-radio, are-radios, ends-differ, can-switch, has-room, has-level}
+use Rattle.calls.specs.Questions.{image-length, holds-image}
 
 -- ---- one question
 
@@ -37,7 +35,7 @@ unfolding ask
 ask-later r true x y e = e refl
 ask-later r false x y e = refl
 
--- ---- 1 and 2
+-- ---- 1 and 2: sizes and lengths
 
 pub size-good-true : (n : ℕ) → size-good n ≡ true → (1 ≤ n) × (n ≤ max-radios)
 unfolding size-good
@@ -71,60 +69,31 @@ unfolding site-lengths
 true-site-lengths n l s =
     rw (eq-eqb (l .links) (row-bytes * n) (s .links), eq-eqb (l .numbers) n (s .numbers), eq-eqb (l .order) n (s .order))
 
--- 1 and 2 got yes
-pub record Lent-good (n : ℕ) (l : Lengths) (others : Bool) : Type 0 where
-  pub least : 1 ≤ n
-  pub most : n ≤ max-radios
-  pub lengths : Site-lengths n l
-  pub further : others ≡ true
+pub answer-length-true : (n w : ℕ) → answer-length n w ≡ true → n ≤ w
+unfolding answer-length
+answer-length-true n w p = leb-true n w p
 
-pub lent-good : (n : ℕ) (l : Lengths) (others : Bool) → size-good n ≡ true → (site-lengths n l && others) ≡ true → Lent-good n l others
-lent-good n l others p q =
-    let s = size-good-true n p in
-    record {
-      least = s .0;
-      most = s .1;
-      lengths = site-lengths-true n l (and-left (site-lengths n l) others q);
-      further = and-right (site-lengths n l) others q;
-    }
+pub true-answer-length : (n w : ℕ) → n ≤ w → answer-length n w ≡ true
+unfolding answer-length
+true-answer-length n w l = le-leb n w l
 
-pub lent-zero : (n : ℕ) (l : Lengths) (others : Bool) (later : ℕ) → lent-refusal n l others later ≡ 0 → Lent-good n l others × (later ≡ 0)
-unfolding lent-refusal
-lent-zero n l others later p =
-    let q = ask-zero 0 (size-good n) (ask 2 (site-lengths n l && others) later) p in
-    let r = ask-zero 1 (site-lengths n l && others) later (q .1) in (lent-good n l others (q .0) (r .0), r .1)
+pub nodes-length-true : (n w : ℕ) → nodes-length n w ≡ true → n + 1 ≤ w
+unfolding nodes-length
+nodes-length-true n w p = leb-true (n + 1) w p
 
-pub lent-yes : (n : ℕ) (l : Lengths) (others : Bool) (later : ℕ) → Lent-good n l others → lent-refusal n l others later ≡ later
-unfolding lent-refusal ask
-lent-yes n l others later g =
-    rw (true-size-good n (g .least) (g .most), true-site-lengths n l (g .lengths), g .further)
+pub true-nodes-length : (n w : ℕ) → n + 1 ≤ w → nodes-length n w ≡ true
+unfolding nodes-length
+true-nodes-length n w l = le-leb (n + 1) w l
 
-pub lent-later : (n : ℕ) (l : Lengths) (others : Bool) (x y : ℕ) → (Lent-good n l others → x ≡ y) → lent-refusal n l others x ≡ lent-refusal n l others y
-unfolding lent-refusal
-lent-later n l others x y e =
-    ask-later 1 (size-good n) _ _ (λ p. ask-later 2 (site-lengths n l && others) x y (λ q. e (lent-good n l others p q)))
+-- ---- 4 to 9: radios, links, levels, room
 
--- ---- 1 to 3
+pub is-radio-true : (n v : ℕ) → is-radio n v ≡ true → v < n
+unfolding is-radio
+is-radio-true n v p = ltb-true v n p
 
-pub record Site-good (n : ℕ) (l : Lengths) (others sound : Bool) : Type 0 where
-  pub lent : Lent-good n l others
-  pub is-sound : sound ≡ true
-
-pub site-zero :
-    (n : ℕ) (l : Lengths) (others sound : Bool) (later : ℕ) → site-refusal n l others sound later ≡ 0 →
-    Site-good n l others sound × (later ≡ 0)
-unfolding site-refusal
-site-zero n l others sound later p =
-    let q = lent-zero n l others (ask 3 sound later) p in
-    let r = ask-zero 2 sound later (q .1) in (record { lent = q .0; is-sound = r .0 }, r .1)
-
-pub site-yes :
-    (n : ℕ) (l : Lengths) (others sound : Bool) (later : ℕ) → Site-good n l others sound → site-refusal n l others sound later ≡ later
-unfolding site-refusal
-site-yes n l others sound later g =
-    lent-yes n l others (ask 3 sound later) (g .lent) ∙ ask-yes 3 sound later (g .is-sound)
-
--- ---- 4 to 7
+pub true-is-radio : (n v : ℕ) → v < n → is-radio n v ≡ true
+unfolding is-radio
+true-is-radio n v l = lt-ltb v n l
 
 pub are-radios-true : (n a b : ℕ) → are-radios n a b ≡ true → (a < n) × (b < n)
 unfolding are-radios is-radio
@@ -166,49 +135,18 @@ true-has-room most true g a b h =
     and-both (ltb (degree g a) most) (ltb (degree g b) most) (lt-ltb (degree g a) most (h refl .0)) (lt-ltb (degree g b) most (h refl .1))
 true-has-room most false g a b h = refl
 
-pub ends-zero : (most : ℕ) (up : Bool) (a b : ℕ) (g : Graph) → ends-refusal most up (g .n) a b g ≡ 0 → Allowed most up a b g
-unfolding ends-refusal
-ends-zero most up a b g p =
-    let q = ask-zero 3 (are-radios (g .n) a b) _ p in
-    let r = ask-zero 4 (ends-differ a b) _ (q .1) in
-    let s = ask-zero 5 (can-switch up g a b) _ (r .1) in
-    let t = ask-zero 6 (has-room most up g a b) 0 (s .1) in
-    record {
-      a-radio = are-radios-true (g .n) a b (q .0) .0;
-      b-radio = are-radios-true (g .n) a b (q .0) .1;
-      differ = ends-differ-true a b (r .0);
-      state = can-switch-true up g a b (s .0);
-      room = has-room-true most up g a b (t .0);
-    }
+pub has-level-true : (g : Graph) (v k : ℕ) → has-level g v k ≡ true → k ≤ number g v
+unfolding has-level
+has-level-true g v k p = leb-true k (number g v) p
 
-pub ends-yes : (most : ℕ) (up : Bool) (a b : ℕ) (g : Graph) → Allowed most up a b g → ends-refusal most up (g .n) a b g ≡ 0
-unfolding ends-refusal ask
-ends-yes most up a b g h =
-    rw (
-      true-are-radios (g .n) a b (h .a-radio) (h .b-radio),
-      true-ends-differ a b (h .differ),
-      true-can-switch up g a b (h .state),
-      true-has-room most up g a b (h .room),
-    )
+pub true-has-level : (g : Graph) (v k : ℕ) → k ≤ number g v → has-level g v k ≡ true
+unfolding has-level
+true-has-level g v k l = le-leb k (number g v) l
 
--- ---- 9 to 11
+pub holds-image-true : (g : Graph) (room : ℕ) → holds-image g room ≡ true → image-length g ≤ room
+unfolding holds-image
+holds-image-true g room p = leb-true (image-length g) room p
 
-pub record Blocks-good (image : List ℕ) : Type 0 where
-  pub whole : whole-blocks image ≡ true
-  pub checks : checks-good image ≡ true
-
-pub blocks-zero : (bs : List ℕ) (later : ℕ) → blocks-refusal bs later ≡ 0 → Blocks-good bs × (later ≡ 0)
-unfolding blocks-refusal
-blocks-zero bs later p =
-    let q = ask-zero 8 (whole-blocks bs) (ask 10 (checks-good bs) later) p in
-    let r = ask-zero 9 (checks-good bs) later (q .1) in (record { whole = q .0; checks = r .0 }, r .1)
-
-pub blocks-yes : (bs : List ℕ) (later : ℕ) → Blocks-good bs → blocks-refusal bs later ≡ later
-unfolding blocks-refusal
-blocks-yes bs later g =
-    ask-yes 9 (whole-blocks bs) (ask 10 (checks-good bs) later) (g .whole) ∙ ask-yes 10 (checks-good bs) later (g .checks)
-
-pub image-zero : (n : ℕ) (bs : List ℕ) → image-refusal n bs ≡ 0 → Blocks-good bs × (is-image n bs ≡ true)
-unfolding image-refusal
-image-zero n bs p =
-    let q = blocks-zero bs (ask 11 (is-image n bs) 0) p in (q .0, ask-zero 10 (is-image n bs) 0 (q .1) .0)
+pub true-holds-image : (g : Graph) (room : ℕ) → image-length g ≤ room → holds-image g room ≡ true
+unfolding holds-image
+true-holds-image g room l = le-leb (image-length g) room l

@@ -3,29 +3,28 @@
 --   clear-holds, read-holds   so they do after an accepted clearing or reading
 --   Stepped, step     what one call keeps
 use mathlib.Core.Path.{_≡_, refl, ap, sym, subst, _∙_}
-use mathlib.Core.Bool.{Bool, true, false, _&&_}
+use mathlib.Core.Bool.{Bool, true}
 use mathlib.Core.List.{List, [], _∷_}
 use Prim.Native.Nat.{ℕ, zero, suc, _≤_}
 use native.Mathlib.Omega.{arith}
-use lib.ListN.{length, take}
+use lib.ListN.{length}
 use lib.IntN.{pos}
 use Rattle.mesh.specs.Limits.{max-radios, max-neighbours}
 use Rattle.mesh.specs.Lists.{range, overwrite}
-use Rattle.mesh.specs.Graph.{Link, Graph, graph, relinked, new-links}
-use Rattle.mesh.specs.Cores.{numbers}
+use Rattle.mesh.specs.Graph.{Link, graph, relinked, new-links}
 use Rattle.mesh.specs.Levels.{changed, step-of, new-order}
-use Rattle.mesh.specs.Tables.{Tables, tables, links-table, graph-in, tables-of}
+use Rattle.mesh.specs.Tables.{Tables, graph-in, tables-of}
 use Rattle.mesh.specs.Sound.{sound}
 use Rattle.mesh.specs.Image.{image-graph, image-links, image-order}
 use Rattle.mesh.proofs.ListLaws.{take-overwrite}
 use Rattle.mesh.proofs.Valid.{Valid, Allowed}
-use Rattle.calls.specs.Questions.{ask, lengths-of, answer-length, lent-refusal, site-refusal, tables-refusal, ends-refusal, link-refusal, image-refusal, read-refusal}
-use Rattle.calls.specs.Writes.{Tables-refused, Clear-accepted, Clear-by, Clear-contract, Link-accepted, Link-refused, Link-by, Link-contract, Read-accepted, Read-by, Read-contract}
-use Rattle.calls.specs.Book.{Given, Answer, plain, reported, book-number, accepted-answer, accepted-pairs, answer-by, pairs-by, book-answer, book-pairs}
+use Rattle.calls.specs.Questions.{lengths-of, answer-length, site-refusal, tables-refusal, link-refusal, read-refusal}
+use Rattle.calls.specs.Writes.{Clear-accepted, Clear-by, Clear-contract, Link-accepted, Link-by, Link-contract, Read-accepted, Read-by, Read-contract}
+use Rattle.calls.specs.Book.{Answer, plain, reported, book-number, accepted-answer, accepted-pairs, answer-by, pairs-by, book-answer, book-pairs}
 use Rattle.calls.specs.Runs.{Call, clearing, reading, linking, other, given, answer-of, Does, compared}
 use Rattle.calls.specs.Demand.{Link-kept}
 use Rattle.calls.specs.declared.Reply.{Reply}
-use Rattle.calls.proofs.QuestionLaws.{Lent-good, Site-lengths, lent-zero, lent-later, site-zero, ends-zero, image-zero}
+use Rattle.calls.proofs.ChainLaws.{Lent-good, lent-zero, lent-later, link-zero, read-zero}
 use Rattle.calls.proofs.RecordLaws.{tables-ext, refused-same}
 use Rattle.calls.proofs.SingleCalls.{Laws, Link-laws}
 use Rattle.calls.proofs.LinkKept.{length-numbers, link-kept}
@@ -52,11 +51,11 @@ pub read-holds :
     Holds m (image-links m bs) v
 unfolding read-refusal tables-of image-graph
 read-holds laws m bs r t v p d =
-    let q = lent-zero m (lengths-of t) true (image-refusal m bs) p in
+    let q = read-zero m (lengths-of t) bs p in
     record {
       most = q .0 .most;
       xs = image-order m bs;
-      valid = laws .image-valid m bs (q .0 .most) (image-zero m bs (q .1) .1);
+      valid = laws .image-valid m bs (q .0 .most) (q .2);
       is = tables-ext v _ _ _ (d .links) (d .numbers) (d .order);
     }
 
@@ -136,7 +135,7 @@ module _ (laws : Laws) (n : ℕ) (ps : List Link) (t : Tables) (k : Holds n ps t
   unfolding Read-by answer-by pairs-by given accepted-answer accepted-pairs read-refusal
   read-step zero m r bs v h p d q = (
     one-answer (q ∙ ap plain (d .number)),
-    with-n m (image-links m bs) v true (lent-zero m (lengths-of t) true (image-refusal m bs) p .0) (read-holds laws m bs r t v p d),
+    with-n m (image-links m bs) v true (read-zero m (lengths-of t) bs p .0) (read-holds laws m bs r t v p d),
   )
   read-step (suc x) m r bs v h p d q = (one-answer (q ∙ ap plain (d .number)), kept (refused-same (suc x) r t v d))
 
@@ -177,11 +176,10 @@ module _ (laws : Laws) (n : ℕ) (ps : List Link) (t : Tables) (k : Holds n ps t
       Link-by R u a b (graph-in m (t .links)) t w r v x → h ≡ answer-of r x → Link-done R u m a b w h v
   unfolding Link-by answer-by pairs-by given accepted-answer accepted-pairs link-refusal answer-of
   link-step zero u m a b r w x v h p d q =
-      let z = site-zero m (lengths-of t) (answer-length m (length w)) true (ends-refusal max-neighbours u m a b (graph m ps)) p in
+      let z = link-zero u a b (lengths-of t) (length w) true (graph m ps) p in
       let e = same-n m (answer-length m (length w)) (z .0 .lent) in
       let f : graph-in m (t .links) ≡ graph n ps = rw e read-back in
-      let o = rw e at (ends-zero max-neighbours u a b (graph m ps) (z .1)) in
-      let g = accepted u a b r w x v h o (rw f at d) q in
+      let g = accepted u a b r w x v h (rw e at (z .1)) (rw f at d) q in
       record { answered = one-answer (rw e (g .0)); holds = g .1; link-call = λ j. g .2 }
   link-step (suc y) u m a b r w x v h p d q = record {
     answered = one-answer (q ∙ answer-refused r (suc y) x (d .number) (d .step) (d .count));

@@ -1,5 +1,5 @@
 -- Demand 3, from the laws of single calls, by induction over the list of calls.
-use mathlib.Core.Path.{_≡_, refl, ap, subst, _∙_}
+use mathlib.Core.Path.{_≡_, refl, ap, subst}
 use mathlib.Core.Bool.{Bool, true}
 use mathlib.Core.List.{List, [], _∷_, _++_}
 use Prim.Native.Nat.{ℕ, zero, suc, _<_}
@@ -14,7 +14,7 @@ use Rattle.calls.specs.Questions.{lengths-of, tables-refusal, read-refus
 use Rattle.calls.specs.Writes.{Clear-by, Clear-contract, Read-by, Read-contract}
 use Rattle.calls.specs.Book.{Answer, book-pairs, book-answers, book-after}
 use Rattle.calls.specs.Runs.{linking, given, Event, event, Run, ended, next, givens, answers}
-use Rattle.calls.specs.Demand.{Link-kept, Start, cleared, read, Kept, Demand-3}
+use Rattle.calls.specs.Demand.{Link-kept, Start, cleared, read, Demand-3}
 use Rattle.calls.proofs.SingleCalls.{Laws}
 use Rattle.calls.proofs.LinkKept.{number-in-numbers}
 use Rattle.calls.proofs.Steps.{Holds, clear-holds, read-holds, Link-part, step, is-sound}

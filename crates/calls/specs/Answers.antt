@@ -21,7 +21,8 @@ use Rattle.mesh.specs.Connected.{core-of, backbone}
 use Rattle.mesh.specs.Tree.{tree, node-names}
 use Rattle.mesh.specs.Image.{block-bytes, payload-bytes, image-of}
 use Rattle.mesh.specs.declared.Node.{Node}
-use Rattle.calls.specs.Questions.{lengths-of, image-length, tables-refusal, radio-refusal, pair-refusal, core-refusal, backbone-refusal, tree-refusal, write-refusal, block-refusal}
+use Rattle.calls.specs.Questions.{lengths-of, image-length, tables-refusal, radio-refusal, pair-refusal}
+use Rattle.calls.specs.Questions.{core-refusal, backbone-refusal, tree-refusal, write-refusal, block-refusal}
 use Rattle.calls.specs.declared.Value.{Value}
 use Rattle.calls.specs.declared.Block.{Block}
 
@@ -112,11 +113,15 @@ pub record Tree-refused (q : ℕ) (m : List Node) (w : List ℕ) (r : Value) (p 
   pub nodes : p ≡ m
   pub answer : x ≡ w
 
-unfoldable pub Tree-by : (refusal : ℕ) → Graph → (nodes : List Node) → (answer : List ℕ) → Value → (nodes-after : List Node) → (answer-after : List ℕ) → Type 0
+unfoldable pub Tree-by :
+    (refusal : ℕ) → Graph → (nodes : List Node) → (answer : List ℕ) → Value → (nodes-after : List Node) →
+    (answer-after : List ℕ) → Type 0
 Tree-by zero g m w r p x = Tree-accepted g m w r p x
 Tree-by (suc q) g m w r p x = Tree-refused (suc q) m w r p x
 
-unfoldable pub Tree-contract : (n : ℕ) → Tables → (nodes : List Node) → (answer : List ℕ) → Value → (nodes-after : List Node) → (answer-after : List ℕ) → Type 0
+unfoldable pub Tree-contract :
+    (n : ℕ) → Tables → (nodes : List Node) → (answer : List ℕ) → Value → (nodes-after : List Node) →
+    (answer-after : List ℕ) → Type 0
 Tree-contract n t m w r p x =
     Tree-by (tree-refusal n (lengths-of t) (length m) (length w) (sound n t)) (graph-in n (t .links)) m w r p x
 

@@ -8,7 +8,7 @@ use mathlib.Core.Path.{_≡_}
 use mathlib.Core.Bool.{Bool}
 use mathlib.Core.List.{List}
 use Prim.Native.Nat.{ℕ, zero, suc, _*_}
-use lib.IntN.{ℤ, pos}
+use lib.IntN.{pos}
 use lib.ListN.{length, replicate}
 use Rattle.mesh.specs.Limits.{row-bytes}
 use Rattle.mesh.specs.Lists.{range, overwrite}
@@ -47,7 +47,8 @@ Clear-contract n t r v = Clear-by (tables-refusal n (lengths-of t)) n t r v
 -- ---- link up, link down
 
 -- g is the graph before, t and w are the tables and the answer table before, v and x those after
-pub record Link-accepted (up : Bool) (a b : ℕ) (g : Graph) (t : Tables) (w : List ℕ) (r : Reply) (v : Tables) (x : List ℕ) : Type 0 where
+pub record Link-accepted (up : Bool) (a b : ℕ) (g : Graph) (t : Tables) (w : List ℕ) (r : Reply) (v : Tables) (x : List ℕ)
+    : Type 0 where
   pub number : r .number ≡ 0
   pub step : r .step ≡ step-of up (changed up a b g)
   pub count : r .count ≡ length (changed up a b g)
@@ -65,13 +66,17 @@ pub record Link-refused (q : ℕ) (t : Tables) (w : List ℕ) (r : Reply) (v : T
   pub order : v .order ≡ t .order
   pub answer : x ≡ w
 
-unfoldable pub Link-by : (refusal : ℕ) → (up : Bool) → (a b : ℕ) → Graph → Tables → (answer : List ℕ) → Reply → (after : Tables) → (answer-after : List ℕ) → Type 0
+unfoldable pub Link-by :
+    (refusal : ℕ) → (up : Bool) → (a b : ℕ) → Graph → Tables → (answer : List ℕ) → Reply → (after : Tables) →
+    (answer-after : List ℕ) → Type 0
 Link-by zero up a b g t w r v x = Link-accepted up a b g t w r v x
 Link-by (suc q) up a b g t w r v x = Link-refused (suc q) t w r v x
 
-unfoldable pub Link-contract : (up : Bool) → (n a b : ℕ) → Tables → (answer : List ℕ) → Reply → (after : Tables) → (answer-after : List ℕ) → Type 0
+unfoldable pub Link-contract :
+    (up : Bool) → (n a b : ℕ) → Tables → (answer : List ℕ) → Reply → (after : Tables) → (answer-after : List ℕ) → Type 0
 Link-contract up n a b t w r v x =
-    let g = graph-in n (t .links) in Link-by (link-refusal up n a b (lengths-of t) (length w) (sound n t) g) up a b g t w r v x
+    let g = graph-in n (t .links) in
+    Link-by (link-refusal up n a b (lengths-of t) (length w) (sound n t) g) up a b g t w r v x
 
 -- ---- reading an image
 
