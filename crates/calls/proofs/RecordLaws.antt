@@ -1,30 +1,26 @@
 -- Tables and answers are equal when their parts are.
 use mathlib.Core.Path.{_≡_}
-use mathlib.Core.List.{List}
 use Prim.Native.Nat.{ℕ}
-use lib.IntN.{ℤ}
-use Rattle.mesh.specs.Tables.{Tables, tables}
+use Rattle.mesh.specs.Tables.{Tables}
 use Rattle.calls.specs.Writes.{Tables-refused}
 use Rattle.calls.specs.declared.Reply.{Reply}
 use Rattle.calls.specs.declared.Value.{Value}
 use Rattle.calls.specs.declared.Block.{Block}
 
-pub tables-ext : (v : Tables) (l k o : List ℕ) → v .links ≡ l → v .numbers ≡ k → v .order ≡ o → v ≡ tables l k o
-tables-ext v l k o p q r = rw (← p, ← q, ← r)
+pub tables-ext : (t v : Tables) → t .links ≡ v .links → t .numbers ≡ v .numbers → t .order ≡ v .order → t ≡ v
+tables-ext t v p q r = rw (← p, ← q, ← r)
 
 -- a refusal leaves the tables
 pub refused-same : (q r : ℕ) (t v : Tables) → Tables-refused q r t v → v ≡ t
-refused-same q r t v d = tables-ext v (t .links) (t .numbers) (t .order) (d .links) (d .numbers) (d .order)
+refused-same q r t v d = tables-ext v t (d .links) (d .numbers) (d .order)
 
-pub reply-ext :
-    (r : Reply) (x : ℕ) (y : ℤ) (z : ℕ) → r .number ≡ x → r .step ≡ y → r .count ≡ z →
-    r ≡ record { number = x; step = y; count = z }
-reply-ext r x y z p q s = rw (← p, ← q, ← s)
+pub reply-ext : (r s : Reply) → r .number ≡ s .number → r .step ≡ s .step → r .count ≡ s .count → r ≡ s
+reply-ext r s p q t = rw (← p, ← q, ← t)
 
-pub value-ext : (r : Value) (x y : ℕ) → r .number ≡ x → r .value ≡ y → r ≡ record { number = x; value = y }
-value-ext r x y p q = rw (← p, ← q)
+pub value-ext : (r s : Value) → r .number ≡ s .number → r .value ≡ s .value → r ≡ s
+value-ext r s p q = rw (← p, ← q)
 
 pub block-ext :
-    (r : Block) (x e o l i : ℕ) → r .number ≡ x → r .end ≡ e → r .offset ≡ o → r .length ≡ l → r .next ≡ i →
-    r ≡ record { number = x; end = e; offset = o; length = l; next = i }
-block-ext r x e o l i p q s t u = rw (← p, ← q, ← s, ← t, ← u)
+    (r s : Block) → r .number ≡ s .number → r .end ≡ s .end → r .offset ≡ s .offset → r .length ≡ s .length → r .next ≡ s .next →
+    r ≡ s
+block-ext r s p q t u v = rw (← p, ← q, ← t, ← u, ← v)

@@ -43,7 +43,7 @@ clear-holds laws m r t v p d = record {
   most = lent-zero m (lengths-of t) true 0 p .0 .most;
   xs = range 0 m;
   valid = laws .valid-cleared m;
-  is = tables-ext v _ _ _ (d .links ∙ sym (laws .cleared-links m)) (d .numbers ∙ sym (laws .cleared-numbers m)) (d .order);
+  is = tables-ext v _ (d .links ∙ sym (laws .cleared-links m)) (d .numbers ∙ sym (laws .cleared-numbers m)) (d .order);
 }
 
 pub read-holds :
@@ -56,7 +56,7 @@ read-holds laws m bs r t v p d =
       most = q .0 .most;
       xs = image-order m bs;
       valid = laws .image-valid m bs (q .0 .most) (q .2);
-      is = tables-ext v _ _ _ (d .links) (d .numbers) (d .order);
+      is = tables-ext v _ (d .links) (d .numbers) (d .order);
     }
 
 -- ---- what one call keeps
@@ -158,7 +158,7 @@ module _ (laws : Laws) (n : ℕ) (ps : List Link) (t : Tables) (k : Holds n ps t
       v ≡ tables-of (relinked u a b (graph n ps)) (new-order u a b (graph n ps) (k .xs))
   unfolding tables-of
   tables-after u a b r w x v l d =
-      tables-ext v _ _ _ (d .links ∙ rw (k .is) (sym (l .bits))) (d .numbers) (d .order ∙ rw (k .is))
+      tables-ext v _ (d .links ∙ rw (k .is) (sym (l .bits))) (d .numbers) (d .order ∙ rw (k .is))
 
   accepted :
       (u : Bool) (a b : ℕ) (r : Reply) (w x : List ℕ) (v : Tables) (h : Answer) → Allowed max-neighbours u a b (graph n ps) →
@@ -183,7 +183,7 @@ module _ (laws : Laws) (n : ℕ) (ps : List Link) (t : Tables) (k : Holds n ps t
       record { answered = one-answer (rw e (g .0)); holds = g .1; link-call = λ j. g .2 }
   link-step (suc y) u m a b r w x v h p d q = record {
     answered = one-answer (q ∙ answer-refused r (suc y) x (d .number) (d .step) (d .count));
-    holds = kept (tables-ext v (t .links) (t .numbers) (t .order) (d .links) (d .numbers) (d .order));
+    holds = kept (tables-ext v t (d .links) (d .numbers) (d .order));
     link-call = λ j. absurd (omega (arith, ap (λ (o : Answer). o .number) q, d .number, j));
   }
 
