@@ -8,3 +8,4 @@ pub mod SingleCalls
 pub mod LinkKept
 pub mod Steps
 pub mod WholeList
+pub mod Sample
