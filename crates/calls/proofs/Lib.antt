@@ -8,4 +8,3 @@ pub mod SingleCalls
 pub mod LinkKept
 pub mod Steps
 pub mod WholeList
-pub mod Sample

@@ -1,6 +1,6 @@
 -- What demand 3 needs of single calls: statements about graphs, orders and tables, which the theory of mesh supplies.
 --   Link-laws    an accepted link call on a valid graph and order
---   Laws         those, and what clearing, reading and the tables need
+--   Laws         all of them, and what clearing, reading and the tables need
 use mathlib.Core.Path.{_≡_}
 use mathlib.Core.Logic.{_⊎_}
 use mathlib.Core.Bool.{Bool, true}

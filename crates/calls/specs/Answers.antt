@@ -1,9 +1,9 @@
--- What the calls that only read links, numbers and order promise. They cannot change those tables, so a contract takes them once.
+-- What the calls that only read links, numbers and order promise. They cannot change these tables, so a contract takes them once.
 --   first-of-two a b xs   which of a and b stands first in the list xs
 --   Value-by              a value: check, number, neighbours, linked, first
 --   Listing-by            a value, and a lent list that gets entries in front: core, backbone, image writing
 --   Tree-by               a value, the lent list of nodes and the answer table: shell tree
---   Block-by              a step of the block reader
+--   Block-by              where a block's payload lies: a step of the block reader
 -- Each contract puts the call's questions: `..-by` has a clause for 0, where nothing was refused, and one for a refusal.
 -- Definitions only.
 use mathlib.Core.Path.{_≡_}
@@ -28,14 +28,17 @@ use Rattle.calls.specs.declared.Block.{Block}
 
 -- ---- a value
 
+-- the value asked for is x
 pub record Value-accepted (x : ℕ) (r : Value) : Type 0 where
   pub number : r .number ≡ 0
   pub value : r .value ≡ x
 
+-- refused by q
 pub record Value-refused (q : ℕ) (r : Value) : Type 0 where
   pub number : r .number ≡ q
   pub value : r .value ≡ 0
 
+-- the value x, or the refusal
 unfoldable pub Value-by : (refusal x : ℕ) → Value → Type 0
 Value-by zero x r = Value-accepted x r
 Value-by (suc q) x r = Value-refused (suc q) r
@@ -44,22 +47,25 @@ Value-by (suc q) x r = Value-refused (suc q) r
 unfoldable pub Check-contract : (n : ℕ) → Tables → Value → Type 0
 Check-contract n t r = Value-by (tables-refusal n (lengths-of t)) (cond (sound n t) 1 0) r
 
+-- the number of v
 unfoldable pub Number-contract : (n v : ℕ) → Tables → Value → Type 0
 Number-contract n v t r = Value-by (radio-refusal n v (lengths-of t) (sound n t)) (number (graph-in n (t .links)) v) r
 
+-- how many neighbours v has
 unfoldable pub Neighbours-contract : (n v : ℕ) → Tables → Value → Type 0
 Neighbours-contract n v t r = Value-by (radio-refusal n v (lengths-of t) (sound n t)) (degree (graph-in n (t .links)) v) r
 
--- 1 when the radios are linked, 0 when not
+-- 1 when a and b are linked, 0 when not
 unfoldable pub Linked-contract : (n a b : ℕ) → Tables → Value → Type 0
 Linked-contract n a b t r =
     Value-by (pair-refusal n a b (lengths-of t) (sound n t)) (cond (linked (graph-in n (t .links)) a b) 1 0) r
 
--- the same radio twice: that radio; in a list with neither of them: a
+-- which of a and b stands first in the list; the same radio twice: that radio; neither of them there: a
 unfoldable pub first-of-two : (a b : ℕ) → List ℕ → ℕ
 first-of-two a b [] = a
 first-of-two a b (x ∷ xs) = let rest = first-of-two a b xs in cond (eqb x a) a (cond (eqb x b) b rest)
 
+-- which of a and b stands first in the order
 unfoldable pub First-contract : (n a b : ℕ) → Tables → Value → Type 0
 First-contract n a b t r = Value-by (pair-refusal n a b (lengths-of t) (sound n t)) (first-of-two a b (t .order)) r
 
@@ -71,22 +77,25 @@ pub record Listing-accepted (x : ℕ) (new old : List ℕ) (r : Value) (now : Li
   pub value : r .value ≡ x
   pub lent : now ≡ overwrite new old
 
+-- refused by q: the lent list keeps its content
 pub record Listing-refused (q : ℕ) (old : List ℕ) (r : Value) (now : List ℕ) : Type 0 where
   pub number : r .number ≡ q
   pub value : r .value ≡ 0
   pub lent : now ≡ old
 
+-- the value x and the list `new`, or the refusal
 unfoldable pub Listing-by : (refusal x : ℕ) → (new old : List ℕ) → Value → (now : List ℕ) → Type 0
 Listing-by zero x new old r now = Listing-accepted x new old r now
 Listing-by (suc q) x new old r now = Listing-refused (suc q) old r now
 
--- the count, and the radios ascending in front of the answer table
+-- the connected core of v at level k: the count, and the radios ascending in front of the answer table
 unfoldable pub Core-contract : (n v k : ℕ) → Tables → (answer : List ℕ) → Value → (answer-after : List ℕ) → Type 0
 Core-contract n v k t w r x =
     let g = graph-in n (t .links) in
     let radios = core-of g v k in
     Listing-by (core-refusal n v k (lengths-of t) (length w) (sound n t) g) (length radios) radios w r x
 
+-- the backbone: the count, and the radios ascending in front of the answer table
 unfoldable pub Backbone-contract : (n : ℕ) → Tables → (answer : List ℕ) → Value → (answer-after : List ℕ) → Type 0
 Backbone-contract n t w r x =
     let radios = backbone (graph-in n (t .links)) in
@@ -100,25 +109,28 @@ Write-contract n t w r x =
 
 -- ---- the shell tree
 
--- m and w are the list of nodes and the answer table before, p and x those after
+-- m and w are the list of nodes and the answer table before the call, p and x the same after it
 pub record Tree-accepted (g : Graph) (m : List Node) (w : List ℕ) (r : Value) (p : List Node) (x : List ℕ) : Type 0 where
   pub number : r .number ≡ 0
   pub value : r .value ≡ length (tree g)
   pub nodes : p ≡ overwrite (tree g) m
   pub answer : x ≡ overwrite (node-names g) w
 
+-- refused by q: both lent lists keep their content
 pub record Tree-refused (q : ℕ) (m : List Node) (w : List ℕ) (r : Value) (p : List Node) (x : List ℕ) : Type 0 where
   pub number : r .number ≡ q
   pub value : r .value ≡ 0
   pub nodes : p ≡ m
   pub answer : x ≡ w
 
+-- the tree of g, or the refusal
 unfoldable pub Tree-by :
     (refusal : ℕ) → Graph → (nodes : List Node) → (answer : List ℕ) → Value → (nodes-after : List Node) →
     (answer-after : List ℕ) → Type 0
 Tree-by zero g m w r p x = Tree-accepted g m w r p x
 Tree-by (suc q) g m w r p x = Tree-refused (suc q) m w r p x
 
+-- the count with the root, the nodes in front of their list, and each radio's node name in front of the answer table
 unfoldable pub Tree-contract :
     (n : ℕ) → Tables → (nodes : List Node) → (answer : List ℕ) → Value → (nodes-after : List Node) →
     (answer-after : List ℕ) → Type 0
@@ -143,13 +155,16 @@ pub record Block-none (q e i : ℕ) (r : Block) : Type 0 where
   pub length : r .length ≡ 0
   pub next : r .next ≡ i
 
+-- block i where there is one, the end where there is none
 unfoldable pub Block-accepted : (there : Bool) → (i : ℕ) → Block → Type 0
 Block-accepted true i r = Block-given i r
 Block-accepted false i r = Block-none 0 1 i r
 
+-- what is said of block i, or the refusal
 unfoldable pub Block-by : (refusal : ℕ) → (image : List ℕ) → (i : ℕ) → Block → Type 0
 Block-by zero bs i r = Block-accepted (ltb i (length bs / block-bytes)) i r
 Block-by (suc q) bs i r = Block-none (suc q) 0 i r
 
+-- a step of a reader whose next block is i
 unfoldable pub Block-contract : (image : List ℕ) → (i : ℕ) → Block → Type 0
 Block-contract bs i r = Block-by (block-refusal bs) bs i r

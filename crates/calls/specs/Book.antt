@@ -23,6 +23,7 @@ pub data Given : Type 0 where
   linking : (up : Bool) → (n a b : ℕ) → Lengths → (answer : ℕ) → Given
   other : Given
 
+-- what is compared of a call
 pub record Answer : Type 0 where
   pub number : ℕ
   pub step : ℤ
@@ -46,6 +47,7 @@ book-number (reading n bs l) ps = read-refusal n l bs
 book-number (linking up n a b l w) ps = link-refusal up n a b l w true (graph n ps)
 book-number other ps = 0
 
+-- what an accepted call answers
 unfoldable pub accepted-answer : Given → (pairs : List Link) → List Answer
 accepted-answer (clearing n l) ps = plain 0 ∷ []
 accepted-answer (reading n bs l) ps = plain 0 ∷ []
@@ -64,22 +66,27 @@ unfoldable pub answer-by : (refusal : ℕ) → Given → (pairs : List Link) →
 answer-by zero c ps = accepted-answer c ps
 answer-by (suc q) c ps = plain (suc q) ∷ []
 
+-- the pairs after a call with this number
 unfoldable pub pairs-by : (refusal : ℕ) → Given → (pairs : List Link) → List Link
 pairs-by zero c ps = accepted-pairs c ps
 pairs-by (suc q) c ps = ps
 
+-- the book's answer to a call
 unfoldable pub book-answer : Given → (pairs : List Link) → List Answer
 book-answer c ps = answer-by (book-number c ps) c ps
 
+-- the book's pairs after a call
 unfoldable pub book-pairs : Given → (pairs : List Link) → List Link
 book-pairs c ps = pairs-by (book-number c ps) c ps
 
 -- ---- a list of calls
 
+-- the book's answers to a list
 unfoldable pub book-answers : List Given → (pairs : List Link) → List Answer
 book-answers [] ps = []
 book-answers (c ∷ cs) ps = book-answer c ps ++ book-answers cs (book-pairs c ps)
 
+-- the book's pairs after a list
 unfoldable pub book-after : List Given → (pairs : List Link) → List Link
 book-after [] ps = ps
 book-after (c ∷ cs) ps = book-after cs (book-pairs c ps)

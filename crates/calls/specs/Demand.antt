@@ -46,7 +46,7 @@ pub record Link-kept-at (up : Bool) (a b : ℕ) (g : Graph) (K start size : ℕ)
   pub reports : cs ≡ changed up a b g
   pub level : (x : ℕ) → member x cs ≡ true → number-in (t .numbers) x ≡ K
   pub by-one : (x : ℕ) → member x cs ≡ true → By-one up (number-in (t .numbers) x) (number-in (v .numbers) x)
-  -- of links, two bits change; of numbers, those of the radios reported
+  -- of links, two bits change; of numbers, only the ones of the radios reported
   pub links : v .links ≡ put-link up a b (t .links)
   pub numbers-length : length (v .numbers) ≡ length (t .numbers)
   pub numbers : (x : ℕ) → member x cs ≡ false → number-in (v .numbers) x ≡ number-in (t .numbers) x
@@ -61,20 +61,21 @@ pub record Link-kept-at (up : Bool) (a b : ℕ) (g : Graph) (K start size : ℕ)
       (x y : ℕ) → member x cs ≡ true → member y cs ≡ true → Reachable (graph-with-link up a b g) (λ z. member z cs) x y
   pub has-end : (x : ℕ) → member x cs ≡ true → Changed-end g K cs a ⊎ Changed-end g K cs b
 
--- g is the graph of the book's pairs before the call
+-- the same by the graph g of the book's pairs before the call, for the answer h
 unfoldable pub Link-kept : (up : Bool) → (a b : ℕ) → (g : Graph) → (t : Tables) → Answer → (v : Tables) → Type 0
 Link-kept up a b g t h v =
     let k = lower-level g a b in Link-kept-at up a b g k (stretch-start g k) (stretch-length g k) (h .listed) t v
 
 -- ---- a list of calls
 
+-- left by an accepted clearing: no pairs; left by an accepted reading: the pairs that the image lists
 pub data Start : (n : ℕ) → (pairs : List Link) → Tables → Type 0 where
   cleared : (n : ℕ) (t v : Tables) → Clear-contract n t 0 v → Start n [] v
   read : (n : ℕ) (image : List ℕ) (t v : Tables) → Read-contract n image t 0 v → Start n (image-links n image) v
 
 -- g is the graph of the book's pairs after the list, v are the tables that the list leaves
 pub record Kept (n : ℕ) (ps : List Link) (es : List Event) (g : Graph) (v : Tables) : Type 0 where
-  -- the links table marks exactly the book's pairs, and the numbers are the core numbers by those pairs
+  -- the links table marks exactly the book's pairs, and the numbers are the core numbers by these pairs
   pub links : v .links ≡ links-table g
   pub numbers : v .numbers ≡ numbers g
   pub cores : (x : ℕ) → x < n → Core g x (number-in (v .numbers) x)
@@ -88,6 +89,7 @@ pub record Kept (n : ℕ) (ps : List Link) (es : List Event) (g : Graph) (v : Ta
       es ≡ before ++ (event (linking up m a b w) t h u ∷ after) → h .number ≡ 0 →
       Link-kept up a b (graph n (book-after (givens before) ps)) t h u
 
+-- every run from a start keeps it
 unfoldable pub Demand-3 : Type 0
 Demand-3 =
     (n : ℕ) (ps : List Link) (t v : Tables) (es : List Event) → Start n ps t → Run t es v →

@@ -37,16 +37,18 @@ pub record Clear-accepted (n r : ℕ) (v : Tables) : Type 0 where
   pub numbers : v .numbers ≡ replicate n 0
   pub order : v .order ≡ range 0 n
 
+-- cleared, or the refusal
 unfoldable pub Clear-by : (refusal n : ℕ) → Tables → (r : ℕ) → (after : Tables) → Type 0
 Clear-by zero n t r v = Clear-accepted n r v
 Clear-by (suc q) n t r v = Tables-refused (suc q) r t v
 
+-- clearing a site of n radios
 unfoldable pub Clear-contract : (n : ℕ) → Tables → (r : ℕ) → (after : Tables) → Type 0
 Clear-contract n t r v = Clear-by (tables-refusal n (lengths-of t)) n t r v
 
 -- ---- link up, link down
 
--- g is the graph before, t and w are the tables and the answer table before, v and x those after
+-- g is the graph before the call, t and w are the tables and the answer table before it, v and x the same after it
 pub record Link-accepted (up : Bool) (a b : ℕ) (g : Graph) (t : Tables) (w : List ℕ) (r : Reply) (v : Tables) (x : List ℕ)
     : Type 0 where
   pub number : r .number ≡ 0
@@ -57,6 +59,7 @@ pub record Link-accepted (up : Bool) (a b : ℕ) (g : Graph) (t : Tables) (w : L
   pub order : v .order ≡ new-order up a b g (t .order)
   pub answer : x ≡ overwrite (changed up a b g) w
 
+-- refused by q: every table keeps its content
 pub record Link-refused (q : ℕ) (t : Tables) (w : List ℕ) (r : Reply) (v : Tables) (x : List ℕ) : Type 0 where
   pub number : r .number ≡ q
   pub step : r .step ≡ pos 0
@@ -66,12 +69,14 @@ pub record Link-refused (q : ℕ) (t : Tables) (w : List ℕ) (r : Reply) (v : T
   pub order : v .order ≡ t .order
   pub answer : x ≡ w
 
+-- the link taken up or down, or the refusal
 unfoldable pub Link-by :
     (refusal : ℕ) → (up : Bool) → (a b : ℕ) → Graph → Tables → (answer : List ℕ) → Reply → (after : Tables) →
     (answer-after : List ℕ) → Type 0
 Link-by zero up a b g t w r v x = Link-accepted up a b g t w r v x
 Link-by (suc q) up a b g t w r v x = Link-refused (suc q) t w r v x
 
+-- taking the link between a and b up or down
 unfoldable pub Link-contract :
     (up : Bool) → (n a b : ℕ) → Tables → (answer : List ℕ) → Reply → (after : Tables) → (answer-after : List ℕ) → Type 0
 Link-contract up n a b t w r v x =
@@ -80,16 +85,18 @@ Link-contract up n a b t w r v x =
 
 -- ---- reading an image
 
--- numbers are not stored: reading works them out
+-- the tables of the image; numbers are not stored: reading works them out
 pub record Read-accepted (n : ℕ) (image : List ℕ) (r : ℕ) (v : Tables) : Type 0 where
   pub number : r ≡ 0
   pub links : v .links ≡ links-table (image-graph n image)
   pub numbers : v .numbers ≡ numbers (image-graph n image)
   pub order : v .order ≡ image-order n image
 
+-- read, or the refusal
 unfoldable pub Read-by : (refusal n : ℕ) → (image : List ℕ) → Tables → (r : ℕ) → (after : Tables) → Type 0
 Read-by zero n bs t r v = Read-accepted n bs r v
 Read-by (suc q) n bs t r v = Tables-refused (suc q) r t v
 
+-- reading an image of n radios
 unfoldable pub Read-contract : (n : ℕ) → (image : List ℕ) → Tables → (r : ℕ) → (after : Tables) → Type 0
 Read-contract n bs t r v = Read-by (read-refusal n (lengths-of t) bs) n bs t r v
