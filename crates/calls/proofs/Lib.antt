@@ -2,6 +2,7 @@
 -- `Outcomes` that each contract decides its call, the others for demand 3.
 pub mod QuestionLaws
 pub mod ChainLaws
+pub mod ContractLaws
 pub mod RecordLaws
 pub mod Outcomes
 pub mod SingleCalls
