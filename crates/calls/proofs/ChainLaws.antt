@@ -1,15 +1,14 @@
 -- Laws of the chains of questions: a chain is 0 exactly when every question gets yes.
---   by-number     what is defined by the clauses for 0 and for a refusal, proved by them
 --   Lent-good     1 and 2 got yes
 --   Site-good     1 to 3 got yes
 --   Blocks-good   9 and 10 got yes
 --   ..-zero       a chain that is 0: what was asked holds
 --   ..-yes        the way back
 -- Questions 4 to 7 are `Allowed` of mesh. In order: parts of chains, then the chain of each call.
-use mathlib.Core.Path.{_≡_, refl, _∙_}
+use mathlib.Core.Path.{_≡_, _∙_}
 use mathlib.Core.Bool.{Bool, true, _&&_}
 use mathlib.Core.List.{List}
-use Prim.Native.Nat.{ℕ, zero, suc, _≤_, _<_}
+use Prim.Native.Nat.{ℕ, _≤_, _<_}
 use Rattle.mesh.specs.Limits.{max-radios, max-neighbours}
 use Rattle.mesh.specs.Graph.{Graph}
 use Rattle.mesh.specs.Cores.{number}
@@ -25,10 +24,6 @@ use Rattle.calls.proofs.QuestionLaws.{site-lengths-true, true-site-leng
 use Rattle.calls.proofs.QuestionLaws.{are-radios-true, true-are-radios, ends-differ-true, true-ends-differ}
 use Rattle.calls.proofs.QuestionLaws.{can-switch-true, true-can-switch, has-room-true, true-has-room}
 use Rattle.calls.proofs.QuestionLaws.{has-level-true, true-has-level, holds-image-true, true-holds-image}
-
-pub by-number : (P : ℕ → Type 0) (R : ℕ) → (R ≡ 0 → P 0) → ((q : ℕ) → R ≡ suc q → P (suc q)) → P R
-by-number P zero accepted refused = accepted refl
-by-number P (suc q) accepted refused = refused q refl
 
 -- ---- 1 and 2
 

@@ -18,8 +18,8 @@ use Rattle.mesh.specs.Sound.{sound}
 use Rattle.mesh.specs.Image.{image-graph, image-links, image-order}
 use Rattle.mesh.proofs.ListLaws.{take-overwrite}
 use Rattle.mesh.proofs.Valid.{Valid, Allowed}
-use Rattle.calls.specs.Questions.{lengths-of, answer-length, site-refusal, tables-refusal, link-refusal, read-refusal}
-use Rattle.calls.specs.Writes.{Clear-accepted, Clear-by, Clear-contract, Link-accepted, Link-by, Link-contract, Read-accepted, Read-by, Read-contract}
+use Rattle.calls.specs.Questions.{By-number, lengths-of, answer-length, site-refusal, tables-refusal, link-refusal, read-refusal}
+use Rattle.calls.specs.Writes.{Tables-refused, Clear-accepted, Clear-contract, Link-accepted, Link-refused, Link-contract, Read-accepted, Read-contract}
 use Rattle.calls.specs.Book.{Answer, plain, reported, book-number, accepted-answer, accepted-pairs, answer-by, pairs-by, book-answer, book-pairs}
 use Rattle.calls.specs.Runs.{Call, clearing, reading, linking, other, given, answer-of, Does, compared}
 use Rattle.calls.specs.Demand.{Link-kept}
@@ -120,9 +120,9 @@ module _ (laws : Laws) (n : ℕ) (ps : List Link) (t : Tables) (k : Holds n ps t
   -- ---- clearing and reading
 
   clear-step :
-      (R m r : ℕ) (v : Tables) (h : Answer) → tables-refusal m (lengths-of t) ≡ R → Clear-by R m t r v → h ≡ plain r →
+      (R m r : ℕ) (v : Tables) (h : Answer) → tables-refusal m (lengths-of t) ≡ R → By-number R (Clear-accepted m r v) (λ q. Tables-refused q r t v) → h ≡ plain r →
       (h ∷ [] ≡ answer-by R (given (clearing m) t) ps) × Holds n (pairs-by R (given (clearing m) t) ps) v
-  unfolding Clear-by answer-by pairs-by given accepted-answer accepted-pairs tables-refusal
+  unfolding By-number answer-by pairs-by given accepted-answer accepted-pairs tables-refusal
   clear-step zero m r v h p d q = (
     one-answer (q ∙ ap plain (d .number)),
     with-n m [] v true (lent-zero m (lengths-of t) true 0 p .0) (clear-holds laws m r t v p d),
@@ -130,9 +130,9 @@ module _ (laws : Laws) (n : ℕ) (ps : List Link) (t : Tables) (k : Holds n ps t
   clear-step (suc x) m r v h p d q = (one-answer (q ∙ ap plain (d .number)), kept (refused-same (suc x) r t v d))
 
   read-step :
-      (R m r : ℕ) (bs : List ℕ) (v : Tables) (h : Answer) → read-refusal m (lengths-of t) bs ≡ R → Read-by R m bs t r v → h ≡ plain r →
+      (R m r : ℕ) (bs : List ℕ) (v : Tables) (h : Answer) → read-refusal m (lengths-of t) bs ≡ R → By-number R (Read-accepted m bs r v) (λ q. Tables-refused q r t v) → h ≡ plain r →
       (h ∷ [] ≡ answer-by R (given (reading m bs) t) ps) × Holds n (pairs-by R (given (reading m bs) t) ps) v
-  unfolding Read-by answer-by pairs-by given accepted-answer accepted-pairs read-refusal
+  unfolding By-number answer-by pairs-by given accepted-answer accepted-pairs read-refusal
   read-step zero m r bs v h p d q = (
     one-answer (q ∙ ap plain (d .number)),
     with-n m (image-links m bs) v true (read-zero m (lengths-of t) bs p .0) (read-holds laws m bs r t v p d),
@@ -173,8 +173,8 @@ module _ (laws : Laws) (n : ℕ) (ps : List Link) (t : Tables) (k : Holds n ps t
   link-step :
       (R : ℕ) (u : Bool) (m a b : ℕ) (r : Reply) (w x : List ℕ) (v : Tables) (h : Answer) →
       link-refusal u m a b (lengths-of t) (length w) true (graph m ps) ≡ R →
-      Link-by R u a b (graph-in m (t .links)) t w r v x → h ≡ answer-of r x → Link-done R u m a b w h v
-  unfolding Link-by answer-by pairs-by given accepted-answer accepted-pairs link-refusal answer-of
+      By-number R (Link-accepted u a b (graph-in m (t .links)) t w r v x) (λ q. Link-refused q t w r v x) → h ≡ answer-of r x → Link-done R u m a b w h v
+  unfolding By-number answer-by pairs-by given accepted-answer accepted-pairs link-refusal answer-of
   link-step zero u m a b r w x v h p d q =
       let z = link-zero u a b (lengths-of t) (length w) true (graph m ps) p in
       let e = same-n m (answer-length m (length w)) (z .0 .lent) in
@@ -198,7 +198,7 @@ module _ (laws : Laws) (n : ℕ) (ps : List Link) (t : Tables) (k : Holds n ps t
       let g = read-step _ m (d .result) bs v h refl (d .contract) (d .answer) in
       record { answered = g .0; holds = g .1; link-call = tt }
   step (linking u m a b w) h v d =
-      let f = subst (λ (R : ℕ). Link-by R u a b (graph-in m (t .links)) t w (d .result) v (d .table)) (link-asked u m a b (length w)) (d .contract) in
+      let f = subst (λ (R : ℕ). By-number R (Link-accepted u a b (graph-in m (t .links)) t w (d .result) v (d .table)) (λ q. Link-refused q t w (d .result) v (d .table))) (link-asked u m a b (length w)) (d .contract) in
       let g = link-step _ u m a b (d .result) w (d .table) v h refl f (d .answer) in
       record { answered = g .answered; holds = g .holds; link-call = g .link-call }
   step other h v d = record { answered = refl; holds = kept d; link-call = tt }

@@ -9,9 +9,8 @@ use Rattle.mesh.specs.Cores.{Core}
 use Rattle.mesh.specs.Orders.{is-k-order}
 use Rattle.mesh.specs.Tables.{Tables, tables-of}
 use Rattle.mesh.specs.Sound.{number-in}
-use Rattle.mesh.specs.Image.{image-links}
-use Rattle.calls.specs.Questions.{lengths-of, tables-refusal, read-refusal}
-use Rattle.calls.specs.Writes.{Clear-by, Clear-contract, Read-by, Read-contract}
+use Rattle.calls.specs.Questions.{By-number, lengths-of, tables-refusal, read-refusal}
+use Rattle.calls.specs.Writes.{Tables-refused, Clear-accepted, Clear-contract, Read-accepted, Read-contract}
 use Rattle.calls.specs.Book.{Answer, book-pairs, book-answers, book-after}
 use Rattle.calls.specs.Runs.{linking, given, Event, event, Run, ended, next, givens, answers}
 use Rattle.calls.specs.Demand.{Link-kept, Start, cleared, read, Demand-3}
@@ -59,20 +58,21 @@ k-order-at n ps v k = rw (k .is) (k .valid .k-order)
 
 -- ---- the start
 
-clear-start : Laws → (R n : ℕ) (t v : Tables) → tables-refusal n (lengths-of t) ≡ R → Clear-by R n t 0 v → Holds n [] v
-unfolding Clear-by
-clear-start laws zero n t v p d = clear-holds laws n 0 t v p d
-clear-start laws (suc q) n t v p d = absurd (omega (arith, d .number))
-
-read-start : Laws → (R n : ℕ) (bs : List ℕ) (t v : Tables) → read-refusal n (lengths-of t) bs ≡ R → Read-by R n bs t 0 v → Holds n (image-links n bs) v
-unfolding Read-by
-read-start laws zero n bs t v p d = read-holds laws n bs 0 t v p d
-read-start laws (suc q) n bs t v p d = absurd (omega (arith, d .number))
+-- the number 0 is no refusal
+start-with :
+    (R : ℕ) (A : Type 0) (t v : Tables) → By-number R A (λ q. Tables-refused q 0 t v) → (R ≡ 0) × A
+unfolding By-number
+start-with zero A t v d = (refl, d)
+start-with (suc q) A t v d = absurd (omega (arith, d .number))
 
 start : Laws → {n : ℕ} {ps : List Link} {t : Tables} → Start n ps t → Holds n ps t
 unfolding Clear-contract Read-contract
-start laws (cleared n t v d) = clear-start laws _ n t v refl d
-start laws (read n bs t v d) = read-start laws _ n bs t v refl d
+start laws (cleared n t v d) =
+    let a = start-with (tables-refusal n (lengths-of t)) (Clear-accepted n 0 v) t v d in
+    clear-holds laws n 0 t v (a .0) (a .1)
+start laws (read n bs t v d) =
+    let a = start-with (read-refusal n (lengths-of t) bs) (Read-accepted n bs 0 v) t v d in
+    read-holds laws n bs 0 t v (a .0) (a .1)
 
 -- ---- demand 3
 

@@ -2,14 +2,14 @@
 --   first-of-two a b xs   which of a and b stands first in the list xs
 --   Value-by              a value: check, number, neighbours, linked, first
 --   Listing-by            a value, and a lent list that gets entries in front: core, backbone, image writing
---   Tree-by               a value, the lent list of nodes and the answer table: shell tree
---   Block-by              where a block's payload lies: a step of the block reader
--- Each contract puts the call's questions: `..-by` has a clause for 0, where nothing was refused, and one for a refusal.
+--   Tree-accepted         a value, the lent list of nodes and the answer table: shell tree
+--   Block-accepted        where a block's payload lies: a step of the block reader
+-- Each contract goes by the number that the call's questions give: `..-accepted` when it is 0, `..-refused` when it is a refusal.
 -- Definitions only.
 use mathlib.Core.Path.{_≡_}
 use mathlib.Core.Bool.{Bool, true, false, cond}
 use mathlib.Core.List.{List, [], _∷_}
-use Prim.Native.Nat.{ℕ, zero, suc, _+_, _*_, _/_}
+use Prim.Native.Nat.{ℕ, _+_, _*_, _/_}
 use lib.Dec.{ltb, eqb}
 use lib.ListN.{length}
 use Rattle.mesh.specs.Lists.{overwrite}
@@ -21,7 +21,7 @@ use Rattle.mesh.specs.Connected.{core-of, backbone}
 use Rattle.mesh.specs.Tree.{tree, node-names}
 use Rattle.mesh.specs.Image.{block-bytes, payload-bytes, image-of}
 use Rattle.mesh.specs.declared.Node.{Node}
-use Rattle.calls.specs.Questions.{lengths-of, image-length, tables-refusal, radio-refusal, pair-refusal}
+use Rattle.calls.specs.Questions.{By-number, lengths-of, image-length, tables-refusal, radio-refusal, pair-refusal}
 use Rattle.calls.specs.Questions.{core-refusal, backbone-refusal, tree-refusal, write-refusal, block-refusal}
 use Rattle.calls.specs.declared.Value.{Value}
 use Rattle.calls.specs.declared.Block.{Block}
@@ -39,9 +39,8 @@ pub record Value-refused (q : ℕ) (r : Value) : Type 0 where
   pub value : r .value ≡ 0
 
 -- the value x, or the refusal
-unfoldable pub Value-by : (refusal x : ℕ) → Value → Type 0
-Value-by zero x r = Value-accepted x r
-Value-by (suc q) x r = Value-refused (suc q) r
+abbrev pub Value-by : (refusal x : ℕ) → Value → Type 0
+Value-by R x r = By-number R (Value-accepted x r) (λ q. Value-refused q r)
 
 -- 1 when the tables are sound, 0 when not
 unfoldable pub Check-contract : (n : ℕ) → Tables → Value → Type 0
@@ -84,9 +83,8 @@ pub record Listing-refused (q : ℕ) (old : List ℕ) (r : Value) (now : List �
   pub lent : now ≡ old
 
 -- the value x and the list `new`, or the refusal
-unfoldable pub Listing-by : (refusal x : ℕ) → (new old : List ℕ) → Value → (now : List ℕ) → Type 0
-Listing-by zero x new old r now = Listing-accepted x new old r now
-Listing-by (suc q) x new old r now = Listing-refused (suc q) old r now
+abbrev pub Listing-by : (refusal x : ℕ) → (new old : List ℕ) → Value → (now : List ℕ) → Type 0
+Listing-by R x new old r now = By-number R (Listing-accepted x new old r now) (λ q. Listing-refused q old r now)
 
 -- the connected core of v at level k: the count, and the radios ascending in front of the answer table
 unfoldable pub Core-contract : (n v k : ℕ) → Tables → (answer : List ℕ) → Value → (answer-after : List ℕ) → Type 0
@@ -123,19 +121,15 @@ pub record Tree-refused (q : ℕ) (m : List Node) (w : List ℕ) (r : Value) (p 
   pub nodes : p ≡ m
   pub answer : x ≡ w
 
--- the tree of g, or the refusal
-unfoldable pub Tree-by :
-    (refusal : ℕ) → Graph → (nodes : List Node) → (answer : List ℕ) → Value → (nodes-after : List Node) →
-    (answer-after : List ℕ) → Type 0
-Tree-by zero g m w r p x = Tree-accepted g m w r p x
-Tree-by (suc q) g m w r p x = Tree-refused (suc q) m w r p x
-
 -- the count with the root, the nodes in front of their list, and each radio's node name in front of the answer table
 unfoldable pub Tree-contract :
     (n : ℕ) → Tables → (nodes : List Node) → (answer : List ℕ) → Value → (nodes-after : List Node) →
     (answer-after : List ℕ) → Type 0
 Tree-contract n t m w r p x =
-    Tree-by (tree-refusal n (lengths-of t) (length m) (length w) (sound n t)) (graph-in n (t .links)) m w r p x
+    By-number
+    (tree-refusal n (lengths-of t) (length m) (length w) (sound n t))
+    (Tree-accepted (graph-in n (t .links)) m w r p x)
+    (λ q. Tree-refused q m w r p x)
 
 -- ---- a step of the block reader: where the payload lies in the image, and the number of the next block
 
@@ -160,11 +154,7 @@ unfoldable pub Block-accepted : (there : Bool) → (i : ℕ) → Block → Type 
 Block-accepted true i r = Block-given i r
 Block-accepted false i r = Block-none 0 1 i r
 
--- what is said of block i, or the refusal
-unfoldable pub Block-by : (refusal : ℕ) → (image : List ℕ) → (i : ℕ) → Block → Type 0
-Block-by zero bs i r = Block-accepted (ltb i (length bs / block-bytes)) i r
-Block-by (suc q) bs i r = Block-none (suc q) 0 i r
-
 -- a step of a reader whose next block is i
 unfoldable pub Block-contract : (image : List ℕ) → (i : ℕ) → Block → Type 0
-Block-contract bs i r = Block-by (block-refusal bs) bs i r
+Block-contract bs i r =
+    By-number (block-refusal bs) (Block-accepted (ltb i (length bs / block-bytes)) i r) (λ q. Block-none q 0 i r)

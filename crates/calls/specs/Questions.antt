@@ -1,5 +1,6 @@
 -- Document 01's questions, each a definition of its own, and the chains in which calls put them.
 --   ask r yes later        question r: a "no" gives its number, a "yes" goes on
+--   By-number              a contract by the number that its chain gives
 --   Lengths                the lengths of links, numbers and order
 --   size-good .. is-image  questions 1 to 11 (3 is `sound`, 10 `checks-good`, 11 `is-image` of mesh)
 --   tables-refusal .. block-refusal   the first "no" of a call's questions, or 0
@@ -7,7 +8,7 @@
 -- pairs and gives 3 a yes. Definitions only.
 use mathlib.Core.Bool.{Bool, true, false, _&&_, not}
 use mathlib.Core.List.{List}
-use Prim.Native.Nat.{ℕ, _+_, _*_}
+use Prim.Native.Nat.{ℕ, zero, suc, _+_, _*_}
 use lib.Dec.{ltb, leb, eqb}
 use lib.ListN.{length}
 use Rattle.mesh.specs.Limits.{max-radios, max-neighbours, row-bytes}
@@ -19,6 +20,11 @@ use Rattle.mesh.specs.Image.{block-bytes, block-count, whole-blocks, checks-goo
 unfoldable pub ask : (number : ℕ) → (yes : Bool) → (later : ℕ) → ℕ
 ask r true later = later
 ask r false later = r
+
+-- a contract by the number that the call's questions give: what holds when no question got "no", and what holds of a refusal
+unfoldable pub By-number : (refusal : ℕ) → (accepted : Type 0) → (refused : ℕ → Type 0) → Type 0
+By-number zero accepted refused = accepted
+By-number (suc q) accepted refused = refused (suc q)
 
 -- ---- questions 1 and 2: sizes and lengths
 

@@ -2,12 +2,12 @@
 --   Tables-refused             a refusal with a bare number: every table keeps its content
 --   Clear-contract, Read-contract   n, then what is given, the tables before, the number, the tables after
 --   Link-contract up           n, both ends, tables and answer table before, the reply, tables and answer table after
--- Each contract puts the call's questions: `..-by` has a clause for 0, where nothing was refused, and one for a refusal.
+-- Each contract goes by the number that the call's questions give: `..-accepted` when it is 0, `..-refused` when it is a refusal.
 -- Definitions only.
 use mathlib.Core.Path.{_≡_}
 use mathlib.Core.Bool.{Bool}
 use mathlib.Core.List.{List}
-use Prim.Native.Nat.{ℕ, zero, suc, _*_}
+use Prim.Native.Nat.{ℕ, _*_}
 use lib.IntN.{pos}
 use lib.ListN.{length, replicate}
 use Rattle.mesh.specs.Limits.{row-bytes}
@@ -18,7 +18,7 @@ use Rattle.mesh.specs.Levels.{changed, step-of, new-order}
 use Rattle.mesh.specs.Tables.{Tables, put-link, links-table, graph-in}
 use Rattle.mesh.specs.Sound.{sound}
 use Rattle.mesh.specs.Image.{image-graph, image-order}
-use Rattle.calls.specs.Questions.{lengths-of, tables-refusal, link-refusal, read-refusal}
+use Rattle.calls.specs.Questions.{By-number, lengths-of, tables-refusal, link-refusal, read-refusal}
 use Rattle.calls.specs.declared.Reply.{Reply}
 
 -- refused by q: r is the number, t and v are the tables before and after
@@ -37,14 +37,10 @@ pub record Clear-accepted (n r : ℕ) (v : Tables) : Type 0 where
   pub numbers : v .numbers ≡ replicate n 0
   pub order : v .order ≡ range 0 n
 
--- cleared, or the refusal
-unfoldable pub Clear-by : (refusal n : ℕ) → Tables → (r : ℕ) → (after : Tables) → Type 0
-Clear-by zero n t r v = Clear-accepted n r v
-Clear-by (suc q) n t r v = Tables-refused (suc q) r t v
-
 -- clearing a site of n radios
 unfoldable pub Clear-contract : (n : ℕ) → Tables → (r : ℕ) → (after : Tables) → Type 0
-Clear-contract n t r v = Clear-by (tables-refusal n (lengths-of t)) n t r v
+Clear-contract n t r v =
+    By-number (tables-refusal n (lengths-of t)) (Clear-accepted n r v) (λ q. Tables-refused q r t v)
 
 -- ---- link up, link down
 
@@ -69,19 +65,15 @@ pub record Link-refused (q : ℕ) (t : Tables) (w : List ℕ) (r : Reply) (v : T
   pub order : v .order ≡ t .order
   pub answer : x ≡ w
 
--- the link taken up or down, or the refusal
-unfoldable pub Link-by :
-    (refusal : ℕ) → (up : Bool) → (a b : ℕ) → Graph → Tables → (answer : List ℕ) → Reply → (after : Tables) →
-    (answer-after : List ℕ) → Type 0
-Link-by zero up a b g t w r v x = Link-accepted up a b g t w r v x
-Link-by (suc q) up a b g t w r v x = Link-refused (suc q) t w r v x
-
 -- taking the link between a and b up or down
 unfoldable pub Link-contract :
     (up : Bool) → (n a b : ℕ) → Tables → (answer : List ℕ) → Reply → (after : Tables) → (answer-after : List ℕ) → Type 0
 Link-contract up n a b t w r v x =
     let g = graph-in n (t .links) in
-    Link-by (link-refusal up n a b (lengths-of t) (length w) (sound n t) g) up a b g t w r v x
+    By-number
+    (link-refusal up n a b (lengths-of t) (length w) (sound n t) g)
+    (Link-accepted up a b g t w r v x)
+    (λ q. Link-refused q t w r v x)
 
 -- ---- reading an image
 
@@ -92,11 +84,7 @@ pub record Read-accepted (n : ℕ) (image : List ℕ) (r : ℕ) (v : Tables) : T
   pub numbers : v .numbers ≡ numbers (image-graph n image)
   pub order : v .order ≡ image-order n image
 
--- read, or the refusal
-unfoldable pub Read-by : (refusal n : ℕ) → (image : List ℕ) → Tables → (r : ℕ) → (after : Tables) → Type 0
-Read-by zero n bs t r v = Read-accepted n bs r v
-Read-by (suc q) n bs t r v = Tables-refused (suc q) r t v
-
 -- reading an image of n radios
 unfoldable pub Read-contract : (n : ℕ) → (image : List ℕ) → Tables → (r : ℕ) → (after : Tables) → Type 0
-Read-contract n bs t r v = Read-by (read-refusal n (lengths-of t) bs) n bs t r v
+Read-contract n bs t r v =
+    By-number (read-refusal n (lengths-of t) bs) (Read-accepted n bs r v) (λ q. Tables-refused q r t v)
