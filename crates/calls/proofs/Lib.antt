@@ -1,5 +1,5 @@
--- Proofs about calls: `QuestionLaws`, `ChainLaws` and `RecordLaws` for the crates whose functions meet the contracts,
--- `Outcomes` that each contract decides its call, the others for demand 3.
+-- Proofs about calls: `QuestionLaws`, `ChainLaws`, `ContractLaws` and `RecordLaws` for the crates whose functions meet the
+-- contracts, `Outcomes` that each contract decides its call, the others for demand 3.
 pub mod QuestionLaws
 pub mod ChainLaws
 pub mod ContractLaws
