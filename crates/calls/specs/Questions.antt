@@ -1,11 +1,12 @@
 -- Document 01's questions, each a definition of its own, and the chains in which calls put them.
 --   ask r yes later        question r: a "no" gives its number, a "yes" goes on
+--   By-number              a contract by the number that its chain gives
 --   Lengths                the lengths of links, numbers and order
 --   size-good .. is-image  questions 1 to 11 (3 is `sound`, 10 `checks-good`, 11 `is-image` of mesh)
---   site-refusal, link-refusal, ..   the first "no" of a call's questions, or 0
+--   tables-refusal .. block-refusal   the first "no" of a call's questions, or 0
 -- A chain takes the answer to question 3 and the graph that 6 to 8 are put to, since the link book answers these from its
 -- pairs and gives 3 a yes. Definitions only.
-use mathlib.Core.Bool.{Bool, true, false, _&&_, not, cond}
+use mathlib.Core.Bool.{Bool, true, false, _&&_, not}
 use mathlib.Core.List.{List}
 use Prim.Native.Nat.{ℕ, zero, suc, _+_, _*_}
 use lib.Dec.{ltb, leb, eqb}
@@ -19,6 +20,11 @@ use Rattle.mesh.specs.Image.{block-bytes, block-count, whole-blocks, checks-goo
 unfoldable pub ask : (number : ℕ) → (yes : Bool) → (later : ℕ) → ℕ
 ask r true later = later
 ask r false later = r
+
+-- a contract by the number that the call's questions give: what holds when no question got "no", and what holds of a refusal
+unfoldable pub By-number : (refusal : ℕ) → (accepted : Type 0) → (refused : ℕ → Type 0) → Type 0
+By-number zero accepted refused = accepted
+By-number (suc q) accepted refused = refused (suc q)
 
 -- ---- questions 1 and 2: sizes and lengths
 
@@ -90,6 +96,10 @@ lent-refusal n l others later = ask 1 (size-good n) (ask 2 (site-lengths n l && 
 unfoldable pub site-refusal : (n : ℕ) → Lengths → (others sound : Bool) → (later : ℕ) → ℕ
 site-refusal n l others sound later = lent-refusal n l others (ask 3 sound later)
 
+-- clearing, and checking soundness: 1 and 2
+unfoldable pub tables-refusal : (n : ℕ) → Lengths → ℕ
+tables-refusal n l = lent-refusal n l true 0
+
 -- 4 to 7
 unfoldable pub ends-refusal : (most : ℕ) → (up : Bool) → (n a b : ℕ) → Graph → ℕ
 ends-refusal most up n a b g =
@@ -100,9 +110,43 @@ unfoldable pub link-refusal : (up : Bool) → (n a b : ℕ) → Lengths → (ans
 link-refusal up n a b l w sound g =
     site-refusal n l (answer-length n w) sound (ends-refusal max-neighbours up n a b g)
 
--- reading an image: 1, 2, 9, 10, 11
-unfoldable pub image-refusal : (n : ℕ) → (image : List ℕ) → ℕ
-image-refusal n bs = ask 9 (whole-blocks bs) (ask 10 (checks-good bs) (ask 11 (is-image n bs) 0))
+-- a radio's number, its neighbour count: 1 to 4
+unfoldable pub radio-refusal : (n v : ℕ) → Lengths → (sound : Bool) → ℕ
+radio-refusal n v l sound = site-refusal n l true sound (ask 4 (is-radio n v) 0)
 
+-- whether two radios are linked, which stands first: 1 to 4
+unfoldable pub pair-refusal : (n a b : ℕ) → Lengths → (sound : Bool) → ℕ
+pair-refusal n a b l sound = site-refusal n l true sound (ask 4 (are-radios n a b) 0)
+
+-- a connected core: 1 to 4 and 8
+unfoldable pub core-refusal : (n v k : ℕ) → Lengths → (answer : ℕ) → (sound : Bool) → Graph → ℕ
+core-refusal n v k l w sound g =
+    site-refusal n l (answer-length n w) sound (ask 4 (is-radio n v) (ask 8 (has-level g v k) 0))
+
+-- the backbone: 1 to 3
+unfoldable pub backbone-refusal : (n : ℕ) → Lengths → (answer : ℕ) → (sound : Bool) → ℕ
+backbone-refusal n l w sound = site-refusal n l (answer-length n w) sound 0
+
+-- the shell tree: 1 to 3
+unfoldable pub tree-refusal : (n : ℕ) → Lengths → (nodes answer : ℕ) → (sound : Bool) → ℕ
+tree-refusal n l m w sound = site-refusal n l (nodes-length n m && answer-length n w) sound 0
+
+-- writing an image: 1 to 3 and 9
+unfoldable pub write-refusal : (n : ℕ) → Lengths → (buffer : ℕ) → (sound : Bool) → Graph → ℕ
+write-refusal n l room sound g = site-refusal n l true sound (ask 9 (holds-image g room) 0)
+
+-- 9 and 10 of the whole image; then the later questions
+unfoldable pub blocks-refusal : (image : List ℕ) → (later : ℕ) → ℕ
+blocks-refusal bs later = ask 9 (whole-blocks bs) (ask 10 (checks-good bs) later)
+
+-- 9 to 11
+unfoldable pub image-refusal : (n : ℕ) → (image : List ℕ) → ℕ
+image-refusal n bs = blocks-refusal bs (ask 11 (is-image n bs) 0)
+
+-- reading an image: 1, 2, 9, 10, 11
 unfoldable pub read-refusal : (n : ℕ) → Lengths → (image : List ℕ) → ℕ
 read-refusal n l bs = lent-refusal n l true (image-refusal n bs)
+
+-- a step of the block reader: 9 and 10
+unfoldable pub block-refusal : (image : List ℕ) → ℕ
+block-refusal bs = blocks-refusal bs 0

@@ -1,0 +1,223 @@
+-- Laws of the chains of questions: a chain is 0 exactly when every question gets yes.
+--   Lent-good     1 and 2 got yes
+--   Site-good     1 to 3 got yes
+--   Blocks-good   9 and 10 got yes
+--   ..-zero       a chain that is 0: what was asked holds
+--   ..-yes        the way back
+-- Questions 4 to 7 are `Allowed` of mesh. In order: parts of chains, then the chain of each call.
+use mathlib.Core.Path.{_≡_, _∙_}
+use mathlib.Core.Bool.{Bool, true, _&&_}
+use mathlib.Core.List.{List}
+use Prim.Native.Nat.{ℕ, _≤_, _<_}
+use Rattle.mesh.specs.Limits.{max-radios, max-neighbours}
+use Rattle.mesh.specs.Graph.{Graph}
+use Rattle.mesh.specs.Cores.{number}
+use Rattle.mesh.specs.Image.{whole-blocks, checks-good, is-image}
+use Rattle.mesh.proofs.BoolLaws.{and-left, and-right}
+use Rattle.mesh.proofs.Valid.{Allowed}
+use Rattle.calls.specs.Questions.{ask, Lengths, size-good, site-lengths, answer-length, are-radios, is-radio}
+use Rattle.calls.specs.Questions.{ends-differ, can-switch, has-room, has-level, image-length, holds-image}
+use Rattle.calls.specs.Questions.{lent-refusal, site-refusal, ends-refusal, link-refusal, radio-refusal, pair-refusal}
+use Rattle.calls.specs.Questions.{core-refusal, write-refusal, blocks-refusal, image-refusal, read-refusal}
+use Rattle.calls.proofs.QuestionLaws.{ask-yes, ask-zero, ask-later, size-good-true, true-size-good, Site-lengths}
+use Rattle.calls.proofs.QuestionLaws.{site-lengths-true, true-site-lengths, is-radio-true, true-is-radio}
+use Rattle.calls.proofs.QuestionLaws.{are-radios-true, true-are-radios, ends-differ-true, true-ends-differ}
+use Rattle.calls.proofs.QuestionLaws.{can-switch-true, true-can-switch, has-room-true, true-has-room}
+use Rattle.calls.proofs.QuestionLaws.{has-level-true, true-has-level, holds-image-true, true-holds-image}
+
+-- ---- 1 and 2
+
+pub record Lent-good (n : ℕ) (l : Lengths) (others : Bool) : Type 0 where
+  pub least : 1 ≤ n
+  pub most : n ≤ max-radios
+  pub lengths : Site-lengths n l
+  pub further : others ≡ true
+
+pub lent-good : (n : ℕ) (l : Lengths) (others : Bool) → size-good n ≡ true → (site-lengths n l && others) ≡ true → Lent-good n l others
+lent-good n l others p q =
+    let s = size-good-true n p in
+    record {
+      least = s .0;
+      most = s .1;
+      lengths = site-lengths-true n l (and-left (site-lengths n l) others q);
+      further = and-right (site-lengths n l) others q;
+    }
+
+pub lent-zero : (n : ℕ) (l : Lengths) (others : Bool) (later : ℕ) → lent-refusal n l others later ≡ 0 → Lent-good n l others × (later ≡ 0)
+unfolding lent-refusal
+lent-zero n l others later p =
+    let q = ask-zero 0 (size-good n) (ask 2 (site-lengths n l && others) later) p in
+    let r = ask-zero 1 (site-lengths n l && others) later (q .1) in (lent-good n l others (q .0) (r .0), r .1)
+
+pub lent-yes : (n : ℕ) (l : Lengths) (others : Bool) (later : ℕ) → Lent-good n l others → lent-refusal n l others later ≡ later
+unfolding lent-refusal ask
+lent-yes n l others later g =
+    rw (true-size-good n (g .least) (g .most), true-site-lengths n l (g .lengths), g .further)
+
+pub lent-later : (n : ℕ) (l : Lengths) (others : Bool) (x y : ℕ) → (Lent-good n l others → x ≡ y) → lent-refusal n l others x ≡ lent-refusal n l others y
+unfolding lent-refusal
+lent-later n l others x y e =
+    ask-later 1 (size-good n) _ _ (λ p. ask-later 2 (site-lengths n l && others) x y (λ q. e (lent-good n l others p q)))
+
+-- ---- 1 to 3
+
+pub record Site-good (n : ℕ) (l : Lengths) (others sound : Bool) : Type 0 where
+  pub lent : Lent-good n l others
+  pub is-sound : sound ≡ true
+
+pub site-zero :
+    (n : ℕ) (l : Lengths) (others sound : Bool) (later : ℕ) → site-refusal n l others sound later ≡ 0 →
+    Site-good n l others sound × (later ≡ 0)
+unfolding site-refusal
+site-zero n l others sound later p =
+    let q = lent-zero n l others (ask 3 sound later) p in
+    let r = ask-zero 2 sound later (q .1) in (record { lent = q .0; is-sound = r .0 }, r .1)
+
+pub site-yes :
+    (n : ℕ) (l : Lengths) (others sound : Bool) (later : ℕ) → Site-good n l others sound → site-refusal n l others sound later ≡ later
+unfolding site-refusal
+site-yes n l others sound later g =
+    lent-yes n l others (ask 3 sound later) (g .lent) ∙ ask-yes 3 sound later (g .is-sound)
+
+-- ---- 4 to 7
+
+pub ends-zero : (most : ℕ) (up : Bool) (a b : ℕ) (g : Graph) → ends-refusal most up (g .n) a b g ≡ 0 → Allowed most up a b g
+unfolding ends-refusal
+ends-zero most up a b g p =
+    let q = ask-zero 3 (are-radios (g .n) a b) _ p in
+    let r = ask-zero 4 (ends-differ a b) _ (q .1) in
+    let s = ask-zero 5 (can-switch up g a b) _ (r .1) in
+    let t = ask-zero 6 (has-room most up g a b) 0 (s .1) in
+    record {
+      a-radio = are-radios-true (g .n) a b (q .0) .0;
+      b-radio = are-radios-true (g .n) a b (q .0) .1;
+      differ = ends-differ-true a b (r .0);
+      state = can-switch-true up g a b (s .0);
+      room = has-room-true most up g a b (t .0);
+    }
+
+pub ends-yes : (most : ℕ) (up : Bool) (a b : ℕ) (g : Graph) → Allowed most up a b g → ends-refusal most up (g .n) a b g ≡ 0
+unfolding ends-refusal ask
+ends-yes most up a b g h =
+    rw (
+      true-are-radios (g .n) a b (h .a-radio) (h .b-radio),
+      true-ends-differ a b (h .differ),
+      true-can-switch up g a b (h .state),
+      true-has-room most up g a b (h .room),
+    )
+
+-- ---- 9 to 11
+
+pub record Blocks-good (image : List ℕ) : Type 0 where
+  pub whole : whole-blocks image ≡ true
+  pub checks : checks-good image ≡ true
+
+pub blocks-zero : (bs : List ℕ) (later : ℕ) → blocks-refusal bs later ≡ 0 → Blocks-good bs × (later ≡ 0)
+unfolding blocks-refusal
+blocks-zero bs later p =
+    let q = ask-zero 8 (whole-blocks bs) (ask 10 (checks-good bs) later) p in
+    let r = ask-zero 9 (checks-good bs) later (q .1) in (record { whole = q .0; checks = r .0 }, r .1)
+
+pub blocks-yes : (bs : List ℕ) (later : ℕ) → Blocks-good bs → blocks-refusal bs later ≡ later
+unfolding blocks-refusal
+blocks-yes bs later g =
+    ask-yes 9 (whole-blocks bs) (ask 10 (checks-good bs) later) (g .whole) ∙ ask-yes 10 (checks-good bs) later (g .checks)
+
+pub image-zero : (n : ℕ) (bs : List ℕ) → image-refusal n bs ≡ 0 → Blocks-good bs × (is-image n bs ≡ true)
+unfolding image-refusal
+image-zero n bs p =
+    let q = blocks-zero bs (ask 11 (is-image n bs) 0) p in (q .0, ask-zero 10 (is-image n bs) 0 (q .1) .0)
+
+pub image-yes : (n : ℕ) (bs : List ℕ) → Blocks-good bs → is-image n bs ≡ true → image-refusal n bs ≡ 0
+unfolding image-refusal
+image-yes n bs g p = blocks-yes bs (ask 11 (is-image n bs) 0) g ∙ ask-yes 11 (is-image n bs) 0 p
+
+-- ---- the chain of each call; clearing, checking, backbone, shell tree and block reader have the parts above
+
+pub link-zero :
+    (up : Bool) (a b : ℕ) (l : Lengths) (w : ℕ) (sound : Bool) (g : Graph) → link-refusal up (g .n) a b l w sound g ≡ 0 →
+    Site-good (g .n) l (answer-length (g .n) w) sound × Allowed max-neighbours up a b g
+unfolding link-refusal
+link-zero up a b l w sound g p =
+    let q = site-zero (g .n) l (answer-length (g .n) w) sound (ends-refusal max-neighbours up (g .n) a b g) p in
+    (q .0, ends-zero max-neighbours up a b g (q .1))
+
+pub link-yes :
+    (up : Bool) (a b : ℕ) (l : Lengths) (w : ℕ) (sound : Bool) (g : Graph) → Site-good (g .n) l (answer-length (g .n) w) sound →
+    Allowed max-neighbours up a b g → link-refusal up (g .n) a b l w sound g ≡ 0
+unfolding link-refusal
+link-yes up a b l w sound g s h =
+    site-yes (g .n) l (answer-length (g .n) w) sound _ s ∙ ends-yes max-neighbours up a b g h
+
+pub radio-zero :
+    (n v : ℕ) (l : Lengths) (sound : Bool) → radio-refusal n v l sound ≡ 0 → Site-good n l true sound × (v < n)
+unfolding radio-refusal
+radio-zero n v l sound p =
+    let q = site-zero n l true sound (ask 4 (is-radio n v) 0) p in
+    (q .0, is-radio-true n v (ask-zero 3 (is-radio n v) 0 (q .1) .0))
+
+pub radio-yes : (n v : ℕ) (l : Lengths) (sound : Bool) → Site-good n l true sound → v < n → radio-refusal n v l sound ≡ 0
+unfolding radio-refusal
+radio-yes n v l sound s h =
+    site-yes n l true sound (ask 4 (is-radio n v) 0) s ∙ ask-yes 4 (is-radio n v) 0 (true-is-radio n v h)
+
+pub pair-zero :
+    (n a b : ℕ) (l : Lengths) (sound : Bool) → pair-refusal n a b l sound ≡ 0 →
+    Site-good n l true sound × (a < n) × (b < n)
+unfolding pair-refusal
+pair-zero n a b l sound p =
+    let q = site-zero n l true sound (ask 4 (are-radios n a b) 0) p in
+    let r = are-radios-true n a b (ask-zero 3 (are-radios n a b) 0 (q .1) .0) in (q .0, r .0, r .1)
+
+pub pair-yes :
+    (n a b : ℕ) (l : Lengths) (sound : Bool) → Site-good n l true sound → a < n → b < n → pair-refusal n a b l sound ≡ 0
+unfolding pair-refusal
+pair-yes n a b l sound s p q =
+    site-yes n l true sound (ask 4 (are-radios n a b) 0) s ∙ ask-yes 4 (are-radios n a b) 0 (true-are-radios n a b p q)
+
+pub core-zero :
+    (n v k : ℕ) (l : Lengths) (w : ℕ) (sound : Bool) (g : Graph) → core-refusal n v k l w sound g ≡ 0 →
+    Site-good n l (answer-length n w) sound × (v < n) × (k ≤ number g v)
+unfolding core-refusal
+core-zero n v k l w sound g p =
+    let q = site-zero n l (answer-length n w) sound (ask 4 (is-radio n v) (ask 8 (has-level g v k) 0)) p in
+    let r = ask-zero 3 (is-radio n v) (ask 8 (has-level g v k) 0) (q .1) in
+    (q .0, is-radio-true n v (r .0), has-level-true g v k (ask-zero 7 (has-level g v k) 0 (r .1) .0))
+
+pub core-yes :
+    (n v k : ℕ) (l : Lengths) (w : ℕ) (sound : Bool) (g : Graph) → Site-good n l (answer-length n w) sound → v < n →
+    k ≤ number g v → core-refusal n v k l w sound g ≡ 0
+unfolding core-refusal
+core-yes n v k l w sound g s p q =
+    site-yes n l (answer-length n w) sound (ask 4 (is-radio n v) (ask 8 (has-level g v k) 0)) s
+    ∙ ask-yes 4 (is-radio n v) (ask 8 (has-level g v k) 0) (true-is-radio n v p)
+    ∙ ask-yes 8 (has-level g v k) 0 (true-has-level g v k q)
+
+pub write-zero :
+    (n : ℕ) (l : Lengths) (room : ℕ) (sound : Bool) (g : Graph) → write-refusal n l room sound g ≡ 0 →
+    Site-good n l true sound × (image-length g ≤ room)
+unfolding write-refusal
+write-zero n l room sound g p =
+    let q = site-zero n l true sound (ask 9 (holds-image g room) 0) p in
+    (q .0, holds-image-true g room (ask-zero 8 (holds-image g room) 0 (q .1) .0))
+
+pub write-yes :
+    (n : ℕ) (l : Lengths) (room : ℕ) (sound : Bool) (g : Graph) → Site-good n l true sound → image-length g ≤ room →
+    write-refusal n l room sound g ≡ 0
+unfolding write-refusal
+write-yes n l room sound g s h =
+    site-yes n l true sound (ask 9 (holds-image g room) 0) s ∙ ask-yes 9 (holds-image g room) 0 (true-holds-image g room h)
+
+pub read-zero :
+    (n : ℕ) (l : Lengths) (bs : List ℕ) → read-refusal n l bs ≡ 0 →
+    Lent-good n l true × Blocks-good bs × (is-image n bs ≡ true)
+unfolding read-refusal
+read-zero n l bs p =
+    let q = lent-zero n l true (image-refusal n bs) p in
+    let r = image-zero n bs (q .1) in (q .0, r .0, r .1)
+
+pub read-yes :
+    (n : ℕ) (l : Lengths) (bs : List ℕ) → Lent-good n l true → Blocks-good bs → is-image n bs ≡ true →
+    read-refusal n l bs ≡ 0
+unfolding read-refusal
+read-yes n l bs g s p = lent-yes n l true (image-refusal n bs) g ∙ image-yes n bs s p

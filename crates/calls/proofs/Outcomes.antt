@@ -1,0 +1,156 @@
+-- Every contract decides its call: on every path, outcomes that meet it are equal. An outcome is the result with the lent
+-- tables after the call.
+--   Decides P     outcomes that P holds of are equal
+-- In order: pairs and triples, contracts by the refusal number, then the contract of each call.
+use mathlib.Core.Path.{_≡_, ap₂}
+use mathlib.Core.Bool.{Bool, true, false}
+use mathlib.Core.List.{List}
+use Prim.Native.Nat.{ℕ, zero, suc, _/_}
+use lib.Dec.{ltb}
+use lib.ListN.{length}
+use Rattle.mesh.specs.Tables.{Tables, graph-in}
+use Rattle.mesh.specs.Image.{block-bytes}
+use Rattle.mesh.specs.declared.Node.{Node}
+use Rattle.calls.specs.Questions.{By-number}
+use Rattle.calls.specs.Writes.{Tables-refused, Clear-accepted, Clear-contract, Link-accepted, Link-refused, Link-contract}
+use Rattle.calls.specs.Writes.{Read-accepted, Read-contract}
+use Rattle.calls.specs.Answers.{Value-accepted, Value-refused, Value-by, Check-contract, Number-contract}
+use Rattle.calls.specs.Answers.{Neighbours-contract, Linked-contract, First-contract}
+use Rattle.calls.specs.Answers.{Listing-accepted, Listing-refused, Listing-by, Core-contract, Backbone-contract}
+use Rattle.calls.specs.Answers.{Write-contract, Tree-accepted, Tree-refused, Tree-contract}
+use Rattle.calls.specs.Answers.{Block-none, Block-accepted, Block-contract}
+use Rattle.calls.specs.declared.Reply.{Reply}
+use Rattle.calls.specs.declared.Value.{Value}
+use Rattle.calls.proofs.RecordLaws.{tables-ext, reply-ext, value-ext, block-ext}
+
+abbrev pub Decides : {A : Type 0} → (A → Type 0) → Type 0
+Decides {A} P = (o s : A) → P o → P s → o ≡ s
+
+-- ---- pairs and triples
+
+pair-ext : {A B : Type 0} (o s : A × B) → o .0 ≡ s .0 → o .1 ≡ s .1 → o ≡ s
+pair-ext {A} {B} o s p q = ap₂ {C = A × B} (λ x y. (x, y)) p q
+
+triple-ext : {A B C : Type 0} (o s : A × B × C) → o .0 ≡ s .0 → o .1 ≡ s .1 → o .2 ≡ s .2 → o ≡ s
+triple-ext {A} {B} {C} o s p q r = rw (← p, ← q, ← r)
+
+-- ---- by the refusal number
+
+-- accepted and refused outcomes decide: so does the contract
+by-decides :
+    {A : Type 0} (R : ℕ) (P : A → Type 0) (Q : ℕ → A → Type 0) → Decides P → ((q : ℕ) → Decides (Q q)) →
+    Decides (λ o. By-number R (P o) (λ q. Q q o))
+unfolding By-number
+by-decides zero P Q f g o s p q = f o s p q
+by-decides (suc x) P Q f g o s p q = g (suc x) o s p q
+
+value-by : (R x : ℕ) → Decides (Value-by R x)
+value-by R x =
+    by-decides R (Value-accepted x) Value-refused (λ o s p q. value-ext o s (cc) (cc)) (λ y o s p q. value-ext o s (cc) (cc))
+
+listing-by : (R x : ℕ) (new old : List ℕ) → Decides {A = Value × List ℕ} (λ o. Listing-by R x new old (o .0) (o .1))
+listing-by R x new old =
+    by-decides
+    R
+    (λ o. Listing-accepted x new old (o .0) (o .1))
+    (λ y o. Listing-refused y old (o .0) (o .1))
+    (λ o s p q. pair-ext o s (value-ext (o .0) (s .0) (cc) (cc)) (cc))
+    (λ y o s p q. pair-ext o s (value-ext (o .0) (s .0) (cc) (cc)) (cc))
+
+-- a number and the three tables
+tables-refused : (q : ℕ) (t : Tables) → Decides {A = ℕ × Tables} (λ o. Tables-refused q (o .0) t (o .1))
+tables-refused x t o s p q = pair-ext o s (cc) (tables-ext (o .1) (s .1) (cc) (cc) (cc))
+
+block-none : (q e i : ℕ) → Decides (Block-none q e i)
+block-none x e i o s p q = block-ext o s (cc) (cc) (cc) (cc) (cc)
+
+block-accepted : (there : Bool) (i : ℕ) → Decides (Block-accepted there i)
+unfolding Block-accepted
+block-accepted true i o s p q = block-ext o s (cc) (cc) (cc) (cc) (cc)
+block-accepted false i o s p q = block-none 0 1 i o s p q
+
+-- ---- each call
+
+pub clear-decided : (n : ℕ) (t : Tables) → Decides {A = ℕ × Tables} (λ o. Clear-contract n t (o .0) (o .1))
+unfolding Clear-contract
+clear-decided n t =
+    by-decides
+    _
+    (λ o. Clear-accepted n (o .0) (o .1))
+    (λ x o. Tables-refused x (o .0) t (o .1))
+    (λ o s p q. pair-ext o s (cc) (tables-ext (o .1) (s .1) (cc) (cc) (cc)))
+    (λ x. tables-refused x t)
+
+pub check-decided : (n : ℕ) (t : Tables) → Decides (Check-contract n t)
+unfolding Check-contract
+check-decided n t = value-by _ _
+
+pub link-decided :
+    (up : Bool) (n a b : ℕ) (t : Tables) (w : List ℕ) →
+    Decides {A = Reply × Tables × List ℕ} (λ o. Link-contract up n a b t w (o .0) (o .1) (o .2))
+unfolding Link-contract
+link-decided up n a b t w =
+    by-decides
+    _
+    (λ o. Link-accepted up a b (graph-in n (t .links)) t w (o .0) (o .1) (o .2))
+    (λ x o. Link-refused x t w (o .0) (o .1) (o .2))
+    (λ o s p q. triple-ext o s (reply-ext (o .0) (s .0) (cc) (cc) (cc)) (tables-ext (o .1) (s .1) (cc) (cc) (cc)) (cc))
+    (λ x o s p q. triple-ext o s (reply-ext (o .0) (s .0) (cc) (cc) (cc)) (tables-ext (o .1) (s .1) (cc) (cc) (cc)) (cc))
+
+pub number-decided : (n v : ℕ) (t : Tables) → Decides (Number-contract n v t)
+unfolding Number-contract
+number-decided n v t = value-by _ _
+
+pub neighbours-decided : (n v : ℕ) (t : Tables) → Decides (Neighbours-contract n v t)
+unfolding Neighbours-contract
+neighbours-decided n v t = value-by _ _
+
+pub linked-decided : (n a b : ℕ) (t : Tables) → Decides (Linked-contract n a b t)
+unfolding Linked-contract
+linked-decided n a b t = value-by _ _
+
+pub first-decided : (n a b : ℕ) (t : Tables) → Decides (First-contract n a b t)
+unfolding First-contract
+first-decided n a b t = value-by _ _
+
+pub core-decided :
+    (n v k : ℕ) (t : Tables) (w : List ℕ) → Decides {A = Value × List ℕ} (λ o. Core-contract n v k t w (o .0) (o .1))
+unfolding Core-contract
+core-decided n v k t w = listing-by _ _ _ w
+
+pub backbone-decided :
+    (n : ℕ) (t : Tables) (w : List ℕ) → Decides {A = Value × List ℕ} (λ o. Backbone-contract n t w (o .0) (o .1))
+unfolding Backbone-contract
+backbone-decided n t w = listing-by _ _ _ w
+
+pub tree-decided :
+    (n : ℕ) (t : Tables) (m : List Node) (w : List ℕ) →
+    Decides {A = Value × List Node × List ℕ} (λ o. Tree-contract n t m w (o .0) (o .1) (o .2))
+unfolding Tree-contract
+tree-decided n t m w =
+    by-decides
+    _
+    (λ o. Tree-accepted (graph-in n (t .links)) m w (o .0) (o .1) (o .2))
+    (λ x o. Tree-refused x m w (o .0) (o .1) (o .2))
+    (λ o s p q. triple-ext o s (value-ext (o .0) (s .0) (cc) (cc)) (cc) (cc))
+    (λ x o s p q. triple-ext o s (value-ext (o .0) (s .0) (cc) (cc)) (cc) (cc))
+
+pub write-decided :
+    (n : ℕ) (t : Tables) (w : List ℕ) → Decides {A = Value × List ℕ} (λ o. Write-contract n t w (o .0) (o .1))
+unfolding Write-contract
+write-decided n t w = listing-by _ _ _ w
+
+pub read-decided : (n : ℕ) (bs : List ℕ) (t : Tables) → Decides {A = ℕ × Tables} (λ o. Read-contract n bs t (o .0) (o .1))
+unfolding Read-contract
+read-decided n bs t =
+    by-decides
+    _
+    (λ o. Read-accepted n bs (o .0) (o .1))
+    (λ x o. Tables-refused x (o .0) t (o .1))
+    (λ o s p q. pair-ext o s (cc) (tables-ext (o .1) (s .1) (cc) (cc) (cc)))
+    (λ x. tables-refused x t)
+
+pub block-decided : (bs : List ℕ) (i : ℕ) → Decides (Block-contract bs i)
+unfolding Block-contract
+block-decided bs i =
+    by-decides _ (Block-accepted (ltb i (length bs / block-bytes)) i) (λ x. Block-none x 0 i) (block-accepted _ i) (λ x. block-none x 0 i)

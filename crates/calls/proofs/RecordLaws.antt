@@ -1,0 +1,26 @@
+-- Tables and answers are equal when their parts are.
+use mathlib.Core.Path.{_≡_}
+use Prim.Native.Nat.{ℕ}
+use Rattle.mesh.specs.Tables.{Tables}
+use Rattle.calls.specs.Writes.{Tables-refused}
+use Rattle.calls.specs.declared.Reply.{Reply}
+use Rattle.calls.specs.declared.Value.{Value}
+use Rattle.calls.specs.declared.Block.{Block}
+
+pub tables-ext : (t v : Tables) → t .links ≡ v .links → t .numbers ≡ v .numbers → t .order ≡ v .order → t ≡ v
+tables-ext t v p q r = rw (← p, ← q, ← r)
+
+-- a refusal leaves the tables
+pub refused-same : (q r : ℕ) (t v : Tables) → Tables-refused q r t v → v ≡ t
+refused-same q r t v d = tables-ext v t (d .links) (d .numbers) (d .order)
+
+pub reply-ext : (r s : Reply) → r .number ≡ s .number → r .step ≡ s .step → r .count ≡ s .count → r ≡ s
+reply-ext r s p q t = rw (← p, ← q, ← t)
+
+pub value-ext : (r s : Value) → r .number ≡ s .number → r .value ≡ s .value → r ≡ s
+value-ext r s p q = rw (← p, ← q)
+
+pub block-ext :
+    (r s : Block) → r .number ≡ s .number → r .end ≡ s .end → r .offset ≡ s .offset → r .length ≡ s .length → r .next ≡ s .next →
+    r ≡ s
+block-ext r s p q t u v = rw (← p, ← q, ← t, ← u, ← v)

@@ -1,0 +1,96 @@
+-- Demand 3: one claim about a whole list of calls.
+--   Start n ps t      the tables t were left by an accepted clearing or reading of n radios; ps are the pairs that the book then keeps
+--   Link-kept         what an accepted link call of the list keeps, by the book's pairs before it
+--   Kept              what the list keeps: tables, answers, each accepted link call
+--   Demand-3          every run from such a start keeps it
+-- The proof is `demand-3-from` in proofs/WholeList.antt. Definitions only.
+use mathlib.Core.Path.{_≡_}
+use mathlib.Core.Logic.{_⊎_}
+use mathlib.Core.Bool.{Bool, true, false}
+use mathlib.Core.List.{List, [], _∷_, _++_}
+use Prim.Native.Nat.{ℕ, suc, _+_, _<_}
+use lib.ListN.{length, take, drop}
+use Rattle.mesh.specs.Lists.{member}
+use Rattle.mesh.specs.Graph.{Link, Graph, graph, relinked}
+use Rattle.mesh.specs.Cores.{Core, number, numbers}
+use Rattle.mesh.specs.Orders.{is-k-order}
+use Rattle.mesh.specs.Levels.{changed, lower-level, stretch-start, stretch-length, new-stretch}
+use Rattle.mesh.specs.Tables.{Tables, put-link, links-table}
+use Rattle.mesh.specs.Sound.{sound, number-in}
+use Rattle.mesh.specs.Connected.{Reachable}
+use Rattle.mesh.specs.Image.{image-links}
+use Rattle.calls.specs.Writes.{Clear-contract, Read-contract}
+use Rattle.calls.specs.Book.{Answer, book-answers, book-after}
+use Rattle.calls.specs.Runs.{linking, Event, event, Run, givens, answers}
+
+-- ---- an accepted link call
+
+-- a number changes by one, up or down
+unfoldable pub By-one : (up : Bool) → (before after : ℕ) → Type 0
+By-one true x y = y ≡ suc x
+By-one false x y = x ≡ suc y
+
+-- the links after an up, before a down
+unfoldable pub graph-with-link : (up : Bool) → (a b : ℕ) → Graph → Graph
+graph-with-link true a b g = relinked true a b g
+graph-with-link false a b g = g
+
+-- v is one of the radios cs, and its level is K
+pub record Changed-end (g : Graph) (K : ℕ) (cs : List ℕ) (v : ℕ) : Type 0 where
+  pub listed : member v cs ≡ true
+  pub level : number g v ≡ K
+
+-- t and v are the tables before and after; K is the lower end's level, start and size its stretch; cs are the radios listed
+pub record Link-kept-at (up : Bool) (a b : ℕ) (g : Graph) (K start size : ℕ) (cs : List ℕ) (t v : Tables) : Type 0 where
+  -- exactly the radios whose core number changed are reported; each had level K and changed by one
+  pub reports : cs ≡ changed up a b g
+  pub level : (x : ℕ) → member x cs ≡ true → number-in (t .numbers) x ≡ K
+  pub by-one : (x : ℕ) → member x cs ≡ true → By-one up (number-in (t .numbers) x) (number-in (v .numbers) x)
+  -- of links, two bits change; of numbers, only the ones of the radios reported
+  pub links : v .links ≡ put-link up a b (t .links)
+  pub numbers-length : length (v .numbers) ≡ length (t .numbers)
+  pub numbers : (x : ℕ) → member x cs ≡ false → number-in (v .numbers) x ≡ number-in (t .numbers) x
+  -- of the order, the stretch of level K, laid out as document 01 says
+  pub below : take start (v .order) ≡ take start (t .order)
+  pub above : drop (start + size) (v .order) ≡ drop (start + size) (t .order)
+  pub stretch :
+      take size (drop start (v .order))
+      ≡ new-stretch up (relinked up a b g) K cs (take size (drop start (t .order))) (drop (start + size) (t .order))
+  -- the radios reported are connected through one another alone, and an end of level K is one of them
+  pub connected :
+      (x y : ℕ) → member x cs ≡ true → member y cs ≡ true → Reachable (graph-with-link up a b g) (λ z. member z cs) x y
+  pub has-end : (x : ℕ) → member x cs ≡ true → Changed-end g K cs a ⊎ Changed-end g K cs b
+
+-- the same by the graph g of the book's pairs before the call, for the answer h
+unfoldable pub Link-kept : (up : Bool) → (a b : ℕ) → (g : Graph) → (t : Tables) → Answer → (v : Tables) → Type 0
+Link-kept up a b g t h v =
+    let k = lower-level g a b in Link-kept-at up a b g k (stretch-start g k) (stretch-length g k) (h .listed) t v
+
+-- ---- a list of calls
+
+-- left by an accepted clearing: no pairs; left by an accepted reading: the pairs that the image lists
+pub data Start : (n : ℕ) → (pairs : List Link) → Tables → Type 0 where
+  cleared : (n : ℕ) (t v : Tables) → Clear-contract n t 0 v → Start n [] v
+  read : (n : ℕ) (image : List ℕ) (t v : Tables) → Read-contract n image t 0 v → Start n (image-links n image) v
+
+-- g is the graph of the book's pairs after the list, v are the tables that the list leaves
+pub record Kept (n : ℕ) (ps : List Link) (es : List Event) (g : Graph) (v : Tables) : Type 0 where
+  -- the links table marks exactly the book's pairs, and the numbers are the core numbers by these pairs
+  pub links : v .links ≡ links-table g
+  pub numbers : v .numbers ≡ numbers g
+  pub cores : (x : ℕ) → x < n → Core g x (number-in (v .numbers) x)
+  pub k-order : is-k-order g (v .order) ≡ true
+  pub sound : sound n v ≡ true
+  -- every call answered as the book does
+  pub answered : answers es ≡ book-answers (givens es) ps
+  -- every accepted link call, wherever it stands in the list
+  pub link-calls :
+      (before after : List Event) (up : Bool) (m a b : ℕ) (w : List ℕ) (t u : Tables) (h : Answer) →
+      es ≡ before ++ (event (linking up m a b w) t h u ∷ after) → h .number ≡ 0 →
+      Link-kept up a b (graph n (book-after (givens before) ps)) t h u
+
+-- every run from a start keeps it
+unfoldable pub Demand-3 : Type 0
+Demand-3 =
+    (n : ℕ) (ps : List Link) (t v : Tables) (es : List Event) → Start n ps t → Run t es v →
+    Kept n ps es (graph n (book-after (givens es) ps)) v
