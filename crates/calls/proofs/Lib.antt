@@ -1,1 +1,2 @@
 -- Proofs about calls.
+pub mod Cases

@@ -1,0 +1,193 @@
+-- Document 01's cases M1 to M10 as one table, and the form of its rows, which the histories of crate `vectors` have too.
+--   Link-call, Answer      a link call, and what it answers
+--   State                  what link calls leave: graph, order, their answers
+--   after calls state      the state after the calls; each puts questions 4 to 7
+--   Want                   what a row wants of the state
+--   Row                    a site of n radios is cleared, the calls are made, and the wants are met
+--   right row              is it so
+--   cases                  the table
+-- That every row is right is `cases-right` in proofs/Cases.antt. Definitions only.
+use mathlib.Core.Bool.{Bool, true, false, _&&_, cond}
+use mathlib.Core.List.{List, [], _∷_, _++_, map, flatMap}
+use Prim.Native.Nat.{ℕ, zero, suc, _+_, _*_, _-_}
+use lib.Dec.{eqb}
+use lib.IntN.{ℤ, pos, negsuc}
+use lib.ListN.{length, drop, take}
+use Rattle.mesh.specs.Limits.{max-neighbours}
+use Rattle.mesh.specs.Lists.{range, count, filter, member, all, same, head-or}
+use Rattle.mesh.specs.Graph.{Link, Graph, graph, radios, other-ends, linked, neighbours-among, degree, link, link-before, same-link, with-link, without-link, new-links, relinked}
+use Rattle.mesh.specs.Cores.{survivors, peeled, cores-from, cores, depth, number, numbers}
+use Rattle.mesh.specs.Levels.{changed, step-of, lower-level, stretch-start, stretch-length, first-fitting, without, laid-out, stretch-up, stretch-down, new-stretch, with-stretch, new-order}
+use Rattle.mesh.specs.Connected.{at-least, reached, core-of, greatest, backbone}
+use Rattle.mesh.specs.Tree.{root-name, node, root, shell, node-name, parent-name, nodes-at, tree, node-names}
+use Rattle.mesh.specs.Image.{block-bytes, word, long, weighted-sum, check-sum, block, blocks-for, order-blocks, block-count, link-bytes, order-payload, links-payload, block-at, image-of}
+use Rattle.mesh.specs.declared.Node.{Node}
+use Rattle.calls.specs.Questions.{ask, is-radio, are-radios, ends-differ, can-switch, has-room, has-level, image-length, ends-refusal}
+use Rattle.calls.specs.Replay.{digit-byte, digits-in, decimal, step-text, further-fields, printed-line, link-line, numbers-line, order-line, closing-lines}
+
+-- ---- link calls and what they leave
+
+pub data Link-call : Type 0 where
+  up : (a b : ℕ) → Link-call
+  down : (a b : ℕ) → Link-call
+
+pub record Answer : Type 0 where
+  pub number : ℕ
+  pub step : ℤ
+  pub changed : List ℕ
+
+unfoldable pub accepted : (step : ℤ) → (changed : List ℕ) → Answer
+accepted s cs = record { number = 0; step = s; changed = cs }
+
+unfoldable pub refused : (number : ℕ) → Answer
+refused r = record { number = r; step = pos 0; changed = [] }
+
+pub record State : Type 0 where
+  pub graph : Graph
+  pub order : List ℕ
+  pub answers : List Answer
+
+unfoldable pub state : Graph → (order : List ℕ) → (answers : List Answer) → State
+state g xs ss = record { graph = g; order = xs; answers = ss }
+
+unfoldable pub cleared : (n : ℕ) → State
+cleared n = state (graph n []) (range 0 n) []
+
+-- a call with this refusal number, 0 if it is accepted
+unfoldable pub carried-out : (number : ℕ) → (up : Bool) → (a b : ℕ) → State → State
+carried-out zero u a b s =
+    let cs = changed u a b (s .graph) in
+    state (relinked u a b (s .graph)) (new-order u a b (s .graph) (s .order)) (s .answers ++ (accepted (step-of u cs) cs ∷ []))
+carried-out (suc x) u a b s = state (s .graph) (s .order) (s .answers ++ (refused (suc x) ∷ []))
+
+unfoldable pub link-called : (up : Bool) → (a b : ℕ) → State → State
+link-called u a b s =
+    carried-out (ends-refusal max-neighbours u (s .graph .n) a b (s .graph)) u a b s
+
+unfoldable pub called : Link-call → State → State
+called (up a b) s = link-called true a b s
+called (down a b) s = link-called false a b s
+
+unfoldable pub after : List Link-call → State → State
+after [] s = s
+after (c ∷ cs) s = after cs (called c s)
+
+-- ---- what a row wants
+
+pub data Want : Type 0 where
+  -- the last answers, the numbers and the order
+  last-answers : List Answer → Want
+  all-numbers : List ℕ → Want
+  whole-order : List ℕ → Want
+  -- the shell tree, and each radio's node name
+  shell-tree : List Node → (names : List ℕ) → Want
+  -- the connected core of v at level k: refusal number and radios
+  connected-core : (v k : ℕ) → (number : ℕ) → (radios : List ℕ) → Want
+  backbone-radios : List ℕ → Want
+  -- the image's length in bytes and the checks of its blocks
+  image-checks : (bytes : ℕ) → (checks : List ℕ) → Want
+  -- what the replay program prints
+  printed : (bytes : List ℕ) → Want
+
+pub record Row : Type 0 where
+  pub n : ℕ
+  pub calls : List Link-call
+  pub wants : List Want
+
+abbrev pub row : (n : ℕ) → List Link-call → List Want → Row
+row n cs ws = record { n = n; calls = cs; wants = ws }
+
+unfoldable pub same-step : ℤ → ℤ → Bool
+same-step (pos a) (pos b) = eqb a b
+same-step (negsuc a) (negsuc b) = eqb a b
+same-step (pos a) (negsuc b) = false
+same-step (negsuc a) (pos b) = false
+
+unfoldable pub same-answers : List Answer → List Answer → Bool
+same-answers [] [] = true
+same-answers [] (y ∷ ys) = false
+same-answers (x ∷ xs) [] = false
+same-answers (x ∷ xs) (y ∷ ys) =
+    (eqb (x .number) (y .number) && same-step (x .step) (y .step)) && (same (x .changed) (y .changed) && same-answers xs ys)
+
+unfoldable pub same-nodes : List Node → List Node → Bool
+same-nodes [] [] = true
+same-nodes [] (y ∷ ys) = false
+same-nodes (x ∷ xs) [] = false
+same-nodes (x ∷ xs) (y ∷ ys) =
+    (eqb (x .name) (y .name) && eqb (x .level) (y .level)) && (eqb (x .parent) (y .parent) && same-nodes xs ys)
+
+-- questions 4 and 8
+unfoldable pub level-refusal : Graph → (v k : ℕ) → ℕ
+level-refusal g v k = ask 4 (is-radio (g .n) v) (ask 8 (has-level g v k) 0)
+
+unfoldable pub core-answer : (number : ℕ) → Graph → (v k : ℕ) → List ℕ
+core-answer zero g v k = core-of g v k
+core-answer (suc x) g v k = []
+
+-- the last four bytes of each block, as bytes
+unfoldable pub block-checks : (blocks : ℕ) → (image : List ℕ) → List ℕ
+block-checks zero bs = []
+block-checks (suc m) bs = take 4 (drop 508 bs) ++ block-checks m (drop block-bytes bs)
+
+unfoldable pub answer-line : Answer → List ℕ
+answer-line x = link-line (x .number) (x .step) (x .changed)
+
+unfoldable pub printed-by : State → List ℕ
+printed-by s = flatMap answer-line (s .answers) ++ closing-lines (numbers (s .graph)) (s .order)
+
+unfoldable pub meets : State → Want → Bool
+meets s (last-answers xs) = same-answers (drop (length (s .answers) - length xs) (s .answers)) xs
+meets s (all-numbers ns) = same (numbers (s .graph)) ns
+meets s (whole-order xs) = same (s .order) xs
+meets s (shell-tree ns vs) = same-nodes (tree (s .graph)) ns && same (node-names (s .graph)) vs
+meets s (connected-core v k r xs) =
+    eqb (level-refusal (s .graph) v k) r && same (core-answer r (s .graph) v k) xs
+meets s (backbone-radios xs) = same (backbone (s .graph)) xs
+meets s (image-checks m cs) =
+    let bs = image-of (s .graph) (s .order) in
+    (eqb (length bs) m && eqb (image-length (s .graph)) m) && same (block-checks (length cs) bs) (flatMap long cs)
+meets s (printed bs) = same (printed-by s) bs
+
+unfoldable pub meets-all : List Want → State → Bool
+meets-all [] s = true
+meets-all (w ∷ ws) s = meets s w && meets-all ws s
+
+unfoldable pub right : Row → Bool
+right r = meets-all (r .wants) (after (r .calls) (cleared (r .n)))
+
+unfoldable pub all-right : List Row → Bool
+all-right [] = true
+all-right (r ∷ rs) = right r && all-right rs
+
+-- ---- the table
+
+unfoldable pub m1 : Row
+m1 =
+    row 4 (up 0 1 ∷ up 1 2 ∷ up 0 2 ∷ down 0 1 ∷ []) (
+        last-answers (
+            accepted (pos 1) (0 ∷ 1 ∷ [])
+            ∷ accepted (pos 1) (2 ∷ [])
+            ∷ accepted (pos 1) (0 ∷ 1 ∷ 2 ∷ [])
+            ∷ accepted (negsuc 0) (0 ∷ 1 ∷ 2 ∷ [])
+            ∷ [])
+        ∷ all-numbers (1 ∷ 1 ∷ 1 ∷ 0 ∷ [])
+        ∷ whole-order (3 ∷ 0 ∷ 2 ∷ 1 ∷ [])
+        ∷ [])
+
+unfoldable pub m10 : Row
+m10 =
+    row 34 (map (up 0) (range 1 32) ++ (up 0 33 ∷ up 33 0 ∷ down 0 1 ∷ up 0 33 ∷ [])) (
+        last-answers (
+            accepted (pos 1) (32 ∷ [])
+            ∷ refused 7
+            ∷ refused 7
+            ∷ accepted (negsuc 0) (1 ∷ [])
+            ∷ accepted (pos 1) (33 ∷ [])
+            ∷ [])
+        ∷ [])
+
+-- what a proof about rows unfolds
+unfoldable pub compute : Unit {0}
+unfolding range count filter member all same head-or radios other-ends linked neighbours-among degree link link-before same-link with-link without-link new-links relinked survivors peeled cores-from cores depth number numbers changed step-of lower-level stretch-start stretch-length first-fitting without laid-out stretch-up stretch-down new-stretch with-stretch new-order at-least reached core-of greatest backbone shell node-name parent-name nodes-at tree node-names word long weighted-sum check-sum block blocks-for order-blocks block-count link-bytes order-payload links-payload block-at image-of ask is-radio are-radios ends-differ can-switch has-room has-level image-length ends-refusal digit-byte digits-in decimal step-text further-fields printed-line link-line numbers-line order-line closing-lines accepted refused state cleared carried-out link-called called after same-step same-answers same-nodes level-refusal core-answer block-checks answer-line printed-by meets meets-all right all-right
+compute = tt
