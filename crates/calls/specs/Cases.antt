@@ -162,32 +162,104 @@ all-right (r ∷ rs) = right r && all-right rs
 
 -- ---- the table
 
-unfoldable pub m1 : Row
-m1 =
-    row 4 (up 0 1 ∷ up 1 2 ∷ up 0 2 ∷ down 0 1 ∷ []) (
-        last-answers (
-            accepted (pos 1) (0 ∷ 1 ∷ [])
-            ∷ accepted (pos 1) (2 ∷ [])
-            ∷ accepted (pos 1) (0 ∷ 1 ∷ 2 ∷ [])
-            ∷ accepted (negsuc 0) (0 ∷ 1 ∷ 2 ∷ [])
-            ∷ [])
-        ∷ all-numbers (1 ∷ 1 ∷ 1 ∷ 0 ∷ [])
-        ∷ whole-order (3 ∷ 0 ∷ 2 ∷ 1 ∷ [])
-        ∷ [])
+unfoldable pub triangle : (a b c : ℕ) → List Link-call
+triangle a b c = up a b ∷ up b c ∷ up a c ∷ []
 
+unfoldable pub two-triangles : List Link-call
+two-triangles = triangle 0 1 2 ++ triangle 3 4 5
+
+-- what M5 and M6 speak of
+unfoldable pub two-triangles-tied : List Link-call
+two-triangles-tied = two-triangles ++ (up 2 3 ∷ up 0 6 ∷ [])
+
+-- M1, and what it prints, line by line:
+--   0 +1 0 1
+--   0 +1 2
+--   0 +1 0 1 2
+--   0 -1 0 1 2
+--   numbers 1 1 1 0
+--   order 3 0 2 1
+unfoldable pub m1 : Row
+m1 = row 4 (up 0 1 ∷ up 1 2 ∷ up 0 2 ∷ down 0 1 ∷ []) (
+    last-answers (
+      accepted (pos 1) (0 ∷ 1 ∷ [])
+      ∷ accepted (pos 1) (2 ∷ [])
+      ∷ accepted (pos 1) (0 ∷ 1 ∷ 2 ∷ [])
+      ∷ accepted (negsuc 0) (0 ∷ 1 ∷ 2 ∷ [])
+      ∷ [])
+    ∷ all-numbers (1 ∷ 1 ∷ 1 ∷ 0 ∷ [])
+    ∷ whole-order (3 ∷ 0 ∷ 2 ∷ 1 ∷ [])
+    ∷ printed (
+      (48 ∷ 32 ∷ 43 ∷ 49 ∷ 32 ∷ 48 ∷ 32 ∷ 49 ∷ 10 ∷ [])
+      ++ (48 ∷ 32 ∷ 43 ∷ 49 ∷ 32 ∷ 50 ∷ 10 ∷ [])
+      ++ (48 ∷ 32 ∷ 43 ∷ 49 ∷ 32 ∷ 48 ∷ 32 ∷ 49 ∷ 32 ∷ 50 ∷ 10 ∷ [])
+      ++ (48 ∷ 32 ∷ 45 ∷ 49 ∷ 32 ∷ 48 ∷ 32 ∷ 49 ∷ 32 ∷ 50 ∷ 10 ∷ [])
+      ++ (110 ∷ 117 ∷ 109 ∷ 98 ∷ 101 ∷ 114 ∷ 115 ∷ 32 ∷ 49 ∷ 32 ∷ 49 ∷ 32 ∷ 49 ∷ 32 ∷ 48 ∷ 10 ∷ [])
+      ++ (111 ∷ 114 ∷ 100 ∷ 101 ∷ 114 ∷ 32 ∷ 51 ∷ 32 ∷ 48 ∷ 32 ∷ 50 ∷ 32 ∷ 49 ∷ 10 ∷ []))
+    ∷ [])
+
+-- M2: the last call changes no number, and the order
+unfoldable pub m2-before : Row
+m2-before = row 4 (up 0 1 ∷ up 2 3 ∷ []) (
+    all-numbers (1 ∷ 1 ∷ 1 ∷ 1 ∷ []) ∷ whole-order (2 ∷ 3 ∷ 0 ∷ 1 ∷ []) ∷ [])
+
+unfoldable pub m2 : Row
+m2 = row 4 (up 0 1 ∷ up 2 3 ∷ up 0 2 ∷ []) (
+    last-answers (accepted (pos 0) [] ∷ [])
+    ∷ all-numbers (1 ∷ 1 ∷ 1 ∷ 1 ∷ [])
+    ∷ whole-order (3 ∷ 2 ∷ 0 ∷ 1 ∷ [])
+    ∷ [])
+
+unfoldable pub m3 : Row
+m3 = row 6 two-triangles (
+    all-numbers (2 ∷ 2 ∷ 2 ∷ 2 ∷ 2 ∷ 2 ∷ [])
+    ∷ shell-tree (root ∷ node 0 2 root-name ∷ node 3 2 root-name ∷ []) (0 ∷ 0 ∷ 0 ∷ 3 ∷ 3 ∷ 3 ∷ [])
+    ∷ [])
+
+unfoldable pub m4 : Row
+m4 = row 6 (two-triangles ++ (up 2 3 ∷ [])) (
+    last-answers (accepted (pos 0) [] ∷ [])
+    ∷ all-numbers (2 ∷ 2 ∷ 2 ∷ 2 ∷ 2 ∷ 2 ∷ [])
+    ∷ shell-tree (root ∷ node 0 2 root-name ∷ []) (0 ∷ 0 ∷ 0 ∷ 0 ∷ 0 ∷ 0 ∷ [])
+    ∷ [])
+
+unfoldable pub m5 : Row
+m5 = row 7 two-triangles-tied (
+    shell-tree (root ∷ node 6 1 root-name ∷ node 0 2 6 ∷ []) (0 ∷ 0 ∷ 0 ∷ 0 ∷ 0 ∷ 0 ∷ 6 ∷ []) ∷ [])
+
+unfoldable pub m6 : Row
+m6 = row 7 two-triangles-tied (
+    connected-core 6 1 0 (0 ∷ 1 ∷ 2 ∷ 3 ∷ 4 ∷ 5 ∷ 6 ∷ []) ∷ connected-core 6 2 8 [] ∷ [])
+
+unfoldable pub m7 : Row
+m7 = row 5 (triangle 0 1 2 ++ (up 3 4 ∷ [])) (backbone-radios (0 ∷ 1 ∷ 2 ∷ []) ∷ [])
+
+unfoldable pub m8 : Row
+m8 = row 1 [] (image-checks 1024 (5 ∷ 4 ∷ []) ∷ [])
+
+-- M9, going up and going down
+unfoldable pub m9 : Row
+m9 = row 3 (up 3 3 ∷ down 3 3 ∷ []) (
+    last-answers (refused 4 ∷ refused 4 ∷ [])
+    ∷ all-numbers (0 ∷ 0 ∷ 0 ∷ [])
+    ∷ whole-order (0 ∷ 1 ∷ 2 ∷ [])
+    ∷ [])
+
+-- M10: radio 0 gets neighbours 1 to 32; the 33rd is refused from either end, and taken after a link went down
 unfoldable pub m10 : Row
-m10 =
-    row 34 (map (up 0) (range 1 32) ++ (up 0 33 ∷ up 33 0 ∷ down 0 1 ∷ up 0 33 ∷ [])) (
-        last-answers (
-            accepted (pos 1) (32 ∷ [])
-            ∷ refused 7
-            ∷ refused 7
-            ∷ accepted (negsuc 0) (1 ∷ [])
-            ∷ accepted (pos 1) (33 ∷ [])
-            ∷ [])
-        ∷ [])
+m10 = row 34 (map (up 0) (range 1 32) ++ (up 0 33 ∷ up 33 0 ∷ down 0 1 ∷ up 0 33 ∷ [])) (
+    last-answers (
+      accepted (pos 1) (0 ∷ 1 ∷ [])
+      ∷ map (λ v. accepted (pos 1) (v ∷ [])) (range 2 31)
+      ++ (refused 7 ∷ refused 7 ∷ accepted (negsuc 0) (1 ∷ []) ∷ accepted (pos 1) (33 ∷ []) ∷ []))
+    ∷ all-numbers (1 ∷ 0 ∷ map (λ v. 1) (range 2 32))
+    ∷ whole-order (1 ∷ map (λ i. 33 - i) (range 0 32) ++ (0 ∷ []))
+    ∷ [])
+
+unfoldable pub cases : List Row
+cases = m1 ∷ m2-before ∷ m2 ∷ m3 ∷ m4 ∷ m5 ∷ m6 ∷ m7 ∷ m8 ∷ m9 ∷ m10 ∷ []
 
 -- what a proof about rows unfolds
 unfoldable pub compute : Unit {0}
-unfolding range count filter member all same head-or radios other-ends linked neighbours-among degree link link-before same-link with-link without-link new-links relinked survivors peeled cores-from cores depth number numbers changed step-of lower-level stretch-start stretch-length first-fitting without laid-out stretch-up stretch-down new-stretch with-stretch new-order at-least reached core-of greatest backbone shell node-name parent-name nodes-at tree node-names word long weighted-sum check-sum block blocks-for order-blocks block-count link-bytes order-payload links-payload block-at image-of ask is-radio are-radios ends-differ can-switch has-room has-level image-length ends-refusal digit-byte digits-in decimal step-text further-fields printed-line link-line numbers-line order-line closing-lines accepted refused state cleared carried-out link-called called after same-step same-answers same-nodes level-refusal core-answer block-checks answer-line printed-by meets meets-all right all-right
+unfolding range count filter member all same head-or radios other-ends linked neighbours-among degree link link-before same-link with-link without-link new-links relinked survivors peeled cores-from cores depth number numbers changed step-of lower-level stretch-start stretch-length first-fitting without laid-out stretch-up stretch-down new-stretch with-stretch new-order at-least reached core-of greatest backbone shell node-name parent-name nodes-at tree node-names word long weighted-sum check-sum block blocks-for order-blocks block-count link-bytes order-payload links-payload block-at image-of ask is-radio are-radios ends-differ can-switch has-room has-level image-length ends-refusal digit-byte digits-in decimal step-text further-fields printed-line link-line numbers-line order-line closing-lines accepted refused state cleared carried-out link-called called after same-step same-answers same-nodes level-refusal core-answer block-checks answer-line printed-by meets meets-all right all-right triangle two-triangles two-triangles-tied flatMap
 compute = tt
