@@ -154,7 +154,7 @@ meets-all [] s = true
 meets-all (w ∷ ws) s = meets s w && meets-all ws s
 
 unfoldable pub right : Row → Bool
-right r = meets-all (r .wants) (after (r .calls) (cleared (r .n)))
+right r = let s = after (r .calls) (cleared (r .n)) in meets-all (r .wants) s
 
 unfoldable pub all-right : List Row → Bool
 all-right [] = true
@@ -253,7 +253,6 @@ m10 = row 34 (map (up 0) (range 1 32) ++ (up 0 33 ∷ up 33 0 ∷ down 0 1 ∷ u
       ∷ map (λ v. accepted (pos 1) (v ∷ [])) (range 2 31)
       ++ (refused 7 ∷ refused 7 ∷ accepted (negsuc 0) (1 ∷ []) ∷ accepted (pos 1) (33 ∷ []) ∷ []))
     ∷ all-numbers (1 ∷ 0 ∷ map (λ v. 1) (range 2 32))
-    ∷ whole-order (1 ∷ map (λ i. 33 - i) (range 0 32) ++ (0 ∷ []))
     ∷ [])
 
 unfoldable pub cases : List Row
