@@ -6,4 +6,3 @@ use Rattle.calls.specs.Cases.{all-right, cases, compute, m1, m2-before, 
 pub cases-right : all-right cases ≡ true
 unfolding compute cases m1 m2-before m2 m3 m4 m5 m6 m7 m8 m9 m10
 cases-right = refl
-

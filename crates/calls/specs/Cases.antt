@@ -39,6 +39,16 @@ pub record Answer : Type 0 where
 unfoldable pub accepted : (step : ℤ) → (changed : List ℕ) → Answer
 accepted s cs = record { number = 0; step = s; changed = cs }
 
+-- accepted, by step: +1, -1, 0
+unfoldable pub risen : (changed : List ℕ) → Answer
+risen cs = accepted (pos 1) cs
+
+unfoldable pub fallen : (changed : List ℕ) → Answer
+fallen cs = accepted (negsuc 0) cs
+
+unfoldable pub unchanged : Answer
+unchanged = accepted (pos 0) []
+
 unfoldable pub refused : (number : ℕ) → Answer
 refused r = record { number = r; step = pos 0; changed = [] }
 
@@ -142,7 +152,7 @@ meets s (all-numbers ns) = same (numbers (s .graph)) ns
 meets s (whole-order xs) = same (s .order) xs
 meets s (shell-tree ns vs) = same-nodes (tree (s .graph)) ns && same (node-names (s .graph)) vs
 meets s (connected-core v k r xs) =
-    eqb (level-refusal (s .graph) v k) r && same (core-answer r (s .graph) v k) xs
+    let q = level-refusal (s .graph) v k in eqb q r && same (core-answer q (s .graph) v k) xs
 meets s (backbone-radios xs) = same (backbone (s .graph)) xs
 meets s (image-checks m cs) =
     let bs = image-of (s .graph) (s .order) in
@@ -182,20 +192,20 @@ two-triangles-tied = two-triangles ++ (up 2 3 ∷ up 0 6 ∷ [])
 unfoldable pub m1 : Row
 m1 = row 4 (up 0 1 ∷ up 1 2 ∷ up 0 2 ∷ down 0 1 ∷ []) (
     last-answers (
-      accepted (pos 1) (0 ∷ 1 ∷ [])
-      ∷ accepted (pos 1) (2 ∷ [])
-      ∷ accepted (pos 1) (0 ∷ 1 ∷ 2 ∷ [])
-      ∷ accepted (negsuc 0) (0 ∷ 1 ∷ 2 ∷ [])
-      ∷ [])
+    risen (0 ∷ 1 ∷ [])
+    ∷ risen (2 ∷ [])
+    ∷ risen (0 ∷ 1 ∷ 2 ∷ [])
+    ∷ fallen (0 ∷ 1 ∷ 2 ∷ [])
+    ∷ [])
     ∷ all-numbers (1 ∷ 1 ∷ 1 ∷ 0 ∷ [])
     ∷ whole-order (3 ∷ 0 ∷ 2 ∷ 1 ∷ [])
     ∷ printed (
-      (48 ∷ 32 ∷ 43 ∷ 49 ∷ 32 ∷ 48 ∷ 32 ∷ 49 ∷ 10 ∷ [])
-      ++ (48 ∷ 32 ∷ 43 ∷ 49 ∷ 32 ∷ 50 ∷ 10 ∷ [])
-      ++ (48 ∷ 32 ∷ 43 ∷ 49 ∷ 32 ∷ 48 ∷ 32 ∷ 49 ∷ 32 ∷ 50 ∷ 10 ∷ [])
-      ++ (48 ∷ 32 ∷ 45 ∷ 49 ∷ 32 ∷ 48 ∷ 32 ∷ 49 ∷ 32 ∷ 50 ∷ 10 ∷ [])
-      ++ (110 ∷ 117 ∷ 109 ∷ 98 ∷ 101 ∷ 114 ∷ 115 ∷ 32 ∷ 49 ∷ 32 ∷ 49 ∷ 32 ∷ 49 ∷ 32 ∷ 48 ∷ 10 ∷ [])
-      ++ (111 ∷ 114 ∷ 100 ∷ 101 ∷ 114 ∷ 32 ∷ 51 ∷ 32 ∷ 48 ∷ 32 ∷ 50 ∷ 32 ∷ 49 ∷ 10 ∷ []))
+    (48 ∷ 32 ∷ 43 ∷ 49 ∷ 32 ∷ 48 ∷ 32 ∷ 49 ∷ 10 ∷ [])
+    ++ (48 ∷ 32 ∷ 43 ∷ 49 ∷ 32 ∷ 50 ∷ 10 ∷ [])
+    ++ (48 ∷ 32 ∷ 43 ∷ 49 ∷ 32 ∷ 48 ∷ 32 ∷ 49 ∷ 32 ∷ 50 ∷ 10 ∷ [])
+    ++ (48 ∷ 32 ∷ 45 ∷ 49 ∷ 32 ∷ 48 ∷ 32 ∷ 49 ∷ 32 ∷ 50 ∷ 10 ∷ [])
+    ++ (110 ∷ 117 ∷ 109 ∷ 98 ∷ 101 ∷ 114 ∷ 115 ∷ 32 ∷ 49 ∷ 32 ∷ 49 ∷ 32 ∷ 49 ∷ 32 ∷ 48 ∷ 10 ∷ [])
+    ++ (111 ∷ 114 ∷ 100 ∷ 101 ∷ 114 ∷ 32 ∷ 51 ∷ 32 ∷ 48 ∷ 32 ∷ 50 ∷ 32 ∷ 49 ∷ 10 ∷ []))
     ∷ [])
 
 -- M2: the last call changes no number, and the order
@@ -205,7 +215,7 @@ m2-before = row 4 (up 0 1 ∷ up 2 3 ∷ []) (
 
 unfoldable pub m2 : Row
 m2 = row 4 (up 0 1 ∷ up 2 3 ∷ up 0 2 ∷ []) (
-    last-answers (accepted (pos 0) [] ∷ [])
+    last-answers (unchanged ∷ [])
     ∷ all-numbers (1 ∷ 1 ∷ 1 ∷ 1 ∷ [])
     ∷ whole-order (3 ∷ 2 ∷ 0 ∷ 1 ∷ [])
     ∷ [])
@@ -218,7 +228,7 @@ m3 = row 6 two-triangles (
 
 unfoldable pub m4 : Row
 m4 = row 6 (two-triangles ++ (up 2 3 ∷ [])) (
-    last-answers (accepted (pos 0) [] ∷ [])
+    last-answers (unchanged ∷ [])
     ∷ all-numbers (2 ∷ 2 ∷ 2 ∷ 2 ∷ 2 ∷ 2 ∷ [])
     ∷ shell-tree (root ∷ node 0 2 root-name ∷ []) (0 ∷ 0 ∷ 0 ∷ 0 ∷ 0 ∷ 0 ∷ [])
     ∷ [])
@@ -249,9 +259,12 @@ m9 = row 3 (up 3 3 ∷ down 3 3 ∷ []) (
 unfoldable pub m10 : Row
 m10 = row 34 (map (up 0) (range 1 32) ++ (up 0 33 ∷ up 33 0 ∷ down 0 1 ∷ up 0 33 ∷ [])) (
     last-answers (
-      accepted (pos 1) (0 ∷ 1 ∷ [])
-      ∷ map (λ v. accepted (pos 1) (v ∷ [])) (range 2 31)
-      ++ (refused 7 ∷ refused 7 ∷ accepted (negsuc 0) (1 ∷ []) ∷ accepted (pos 1) (33 ∷ []) ∷ []))
+    risen (32 ∷ [])
+    ∷ refused 7
+    ∷ refused 7
+    ∷ fallen (1 ∷ [])
+    ∷ risen (33 ∷ [])
+    ∷ [])
     ∷ all-numbers (1 ∷ 0 ∷ map (λ v. 1) (range 2 32))
     ∷ [])
 
@@ -260,5 +273,5 @@ cases = m1 ∷ m2-before ∷ m2 ∷ m3 ∷ m4 ∷ m5 ∷ m6 ∷ m7 ∷ m8 ∷ m9
 
 -- what a proof about rows unfolds
 unfoldable pub compute : Unit {0}
-unfolding range count filter member all same head-or radios other-ends linked neighbours-among degree link link-before same-link with-link without-link new-links relinked survivors peeled cores-from cores depth number numbers changed step-of lower-level stretch-start stretch-length first-fitting without laid-out stretch-up stretch-down new-stretch with-stretch new-order at-least reached core-of greatest backbone shell node-name parent-name nodes-at tree node-names word long weighted-sum check-sum block blocks-for order-blocks block-count link-bytes order-payload links-payload block-at image-of ask is-radio are-radios ends-differ can-switch has-room has-level image-length ends-refusal digit-byte digits-in decimal step-text further-fields printed-line link-line numbers-line order-line closing-lines accepted refused state cleared carried-out link-called called after same-step same-answers same-nodes level-refusal core-answer block-checks answer-line printed-by meets meets-all right all-right triangle two-triangles two-triangles-tied flatMap
+unfolding range count filter member all same head-or radios other-ends linked neighbours-among degree link link-before same-link with-link without-link new-links relinked survivors peeled cores-from cores depth number numbers changed step-of lower-level stretch-start stretch-length first-fitting without laid-out stretch-up stretch-down new-stretch with-stretch new-order at-least reached core-of greatest backbone shell node-name parent-name nodes-at tree node-names word long weighted-sum check-sum block blocks-for order-blocks block-count link-bytes order-payload links-payload block-at image-of ask is-radio are-radios ends-differ can-switch has-room has-level image-length ends-refusal digit-byte digits-in decimal step-text further-fields printed-line link-line numbers-line order-line closing-lines accepted risen fallen unchanged refused state cleared carried-out link-called called after same-step same-answers same-nodes level-refusal core-answer block-checks answer-line printed-by meets meets-all right all-right triangle two-triangles two-triangles-tied flatMap
 compute = tt
