@@ -263,7 +263,8 @@ def text():
             out += row_text(what, n, calls, prints=(i % 4 == 3)).replace("HERE", "∷ " if i else "")
         out += "    ∷ []\n"
     names = [name for name, _, _ in GROUPS]
-    out += "\nunfoldable pub histories : List Row\nhistories = " + " ++ ".join(names) + "\n"
+    out += ("\nunfoldable pub histories : List Row\nhistories = " + " ++ (".join(names)
+            + ")" * (len(names) - 1) + "\n")
     return out
 
 

@@ -1,9 +1,49 @@
--- t
+-- Every history is right: by computing, group by group, because one declaration may compute only so much.
 use mathlib.Core.Path.{_≡_, refl}
 use mathlib.Core.Bool.{true}
 use Rattle.calls.specs.Cases.{all-right, compute}
+use Rattle.calls.proofs.Cases.{all-right-append}
 use Rattle.vectors.specs.Histories.{refusals, cliques, joins, rises, falls, trees, random-small, random-large, histories}
 
-pub refusals-right : all-right refusals ≡ true
+refusals-right : all-right refusals ≡ true
 unfolding compute refusals
 refusals-right = refl
+
+cliques-right : all-right cliques ≡ true
+unfolding compute cliques
+cliques-right = refl
+
+joins-right : all-right joins ≡ true
+unfolding compute joins
+joins-right = refl
+
+rises-right : all-right rises ≡ true
+unfolding compute rises
+rises-right = refl
+
+falls-right : all-right falls ≡ true
+unfolding compute falls
+falls-right = refl
+
+trees-right : all-right trees ≡ true
+unfolding compute trees
+trees-right = refl
+
+random-small-right : all-right random-small ≡ true
+unfolding compute random-small
+random-small-right = refl
+
+random-large-right : all-right random-large ≡ true
+unfolding compute random-large
+random-large-right = refl
+
+pub histories-right : all-right histories ≡ true
+unfolding histories
+histories-right =
+    all-right-append refusals _ refusals-right (
+    all-right-append cliques _ cliques-right (
+    all-right-append joins _ joins-right (
+    all-right-append rises _ rises-right (
+    all-right-append falls _ falls-right (
+    all-right-append trees _ trees-right (
+    all-right-append random-small random-large random-small-right random-large-right))))))
