@@ -232,14 +232,14 @@ def row_text(about, n, calls, prints):
         number, radios = site.core(v, k)
         wants.append(f"connected-core {v} {k} {number} {short(radios)}")
     wants.append(f"image-checks {len(site.image())} {short(site.checks())}")
-    made, text = "[]", " " * 6
+    made, text = "[]", " " * 4
     if calls:
-        made = "(\n" + filled([call_text(c) for c in calls], 8) + ")"
-        text += "last-answers (\n" + filled([answer_text(x) for x in answers], 8) + ")\n      ∷ "
+        made = "(\n" + filled([call_text(c) for c in calls], 4) + ")"
+        text += "last-answers (\n" + filled([answer_text(x) for x in answers], 4) + ")\n    ∷ "
     if prints:
         line = "".join(map(line_of, answers)) + site.closing_lines()
-        text += "printed (\n" + filled([str(x) for x in line.encode()], 8) + ")\n      ∷ "
-    text += filled(wants, 6).lstrip()
+        text += "printed (\n" + filled([str(x) for x in line.encode()], 4) + ")\n    ∷ "
+    text += filled(wants, 4).lstrip()
     return f"    -- {about}\n    HERErow {n} {made} (\n{text})\n"
 
 

@@ -68,6 +68,62 @@ def lay_out(links, waiting, above, most):
     return laid
 
 
+# ---- tables as bytes
+
+def marked(links, a, b):
+    """Bit b of row a."""
+    return links[64 * a + b // 8] >> b % 8 & 1 == 1
+
+
+def sound(n, links, numbers, order):
+    """Document 01: tables are sound when .., clause by clause."""
+    place = {v: i for i, v in enumerate(order)}
+    if sorted(order) != list(range(n)):
+        return False
+    near = [[b for b in range(RADIOS) if marked(links, a, b)] for a in range(n)]
+    return (all(b < n and a in near[b] and a != b for a in range(n) for b in near[a])
+            and all(len(row) <= NEIGHBOURS for row in near)
+            and all(numbers[v] <= numbers[w] for v, w in zip(order, order[1:]))
+            and all(sum(place[u] > place[v] for u in near[v]) <= numbers[v]
+                    <= sum(numbers[u] >= numbers[v] for u in near[v]) for v in range(n)))
+
+
+def with_bytes(content, puts):
+    content = list(content)
+    for at, x in puts:
+        content[at] = x
+    return content
+
+
+def check_bytes(block):
+    """The four check bytes that a block should have."""
+    check = sum(x * (at + 1) for at, x in enumerate(block[:508]))
+    return [check >> 8 * i & 255 for i in range(4)]
+
+
+def reading(n, image):
+    """The refusal number of reading an image for n radios: questions 9 to 11."""
+    if not image or len(image) % 512:
+        return 9
+    blocks = [image[at:at + 512] for at in range(0, len(image), 512)]
+    if any(check_bytes(block) != block[508:] for block in blocks):
+        return 10
+    # the only site whose image it can be is the one that its entries tell
+    two = lambda block, at: block[4 + at] + 256 * block[5 + at]
+    orders, pairs = -(-n // 252), two(blocks[0], 2)
+    if len(blocks) != 1 + orders + -(-pairs // 126):
+        return 11
+    site = Site(n)
+    site.order = [two(blocks[1 + j // 252], 2 * (j % 252)) for j in range(n)]
+    for j in range(pairs):
+        block, at = blocks[1 + orders + j // 126], 4 * (j % 126)
+        site.links.add((two(block, at), two(block, at + 2)))
+    if not all(a < b < n for a, b in site.links):
+        return 11
+    site.numbers = core_numbers(n, site.links)
+    return 0 if site.sound() and site.image() == image else 11
+
+
 class Site:
     def __init__(self, n):
         self.n, self.links = n, set()
@@ -128,18 +184,16 @@ class Site:
                 + [v for v in self.order if before[v] == level and v not in changed]
                 + [v for v in self.order if before[v] > level])
 
+    def rows(self):
+        """The links table."""
+        table = [0] * (64 * self.n)
+        for a, b in self.links:
+            table[64 * a + b // 8] += 2 ** (b % 8)
+            table[64 * b + a // 8] += 2 ** (a % 8)
+        return table
+
     def sound(self):
-        place = {v: i for i, v in enumerate(self.order)}
-        rows = all(a < b < self.n for a, b in self.links)
-        full = all(self.degree(v) <= NEIGHBOURS for v in range(self.n))
-        once = sorted(self.order) == list(range(self.n))
-        along = [self.numbers[v] for v in self.order]
-        later = all(inside(self.links, v, [u for u in range(self.n) if place[u] > place[v]])
-                    <= self.numbers[v] for v in range(self.n))
-        not_below = all(inside(self.links, v, [u for u in range(self.n)
-                                               if self.numbers[u] >= self.numbers[v]])
-                        >= self.numbers[v] for v in range(self.n))
-        return rows and full and once and along == sorted(along) and later and not_below
+        return sound(self.n, self.rows(), self.numbers, self.order)
 
     # ---- questions about a site
 
@@ -199,8 +253,7 @@ class Site:
         for index, (kind, payload) in enumerate(payloads):
             block = [kind, 0] + little(index) + payload
             block += [0] * (508 - len(block))
-            check = sum(x * (at + 1) for at, x in enumerate(block))
-            image += block + [check >> 8 * i & 255 for i in range(4)]
+            image += block + check_bytes(block)
         return image
 
     def checks(self):

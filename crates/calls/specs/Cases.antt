@@ -7,22 +7,25 @@
 --   right row              is it so
 --   cases                  the table
 -- That every row is right is `cases-right` in proofs/Cases.antt. Definitions only.
-use mathlib.Core.Bool.{Bool, true, false, _&&_, cond}
+use mathlib.Core.Bool.{Bool, true, false, _&&_, cond, Bool·beq}
 use mathlib.Core.List.{List, [], _∷_, _++_, map, flatMap}
 use Prim.Native.Nat.{ℕ, zero, suc, _+_, _*_, _-_}
 use lib.Dec.{eqb}
 use lib.IntN.{ℤ, pos, negsuc}
-use lib.ListN.{length, drop, take}
+use lib.ListN.{length, drop, take, getD, set}
 use Rattle.mesh.specs.Limits.{max-neighbours}
 use Rattle.mesh.specs.Lists.{range, count, filter, member, all, same, head-or}
-use Rattle.mesh.specs.Graph.{Link, Graph, graph, radios, other-ends, linked, neighbours-among, degree, link, link-before, same-link, with-link, without-link, new-links, relinked}
+use Rattle.mesh.specs.Graph.{Link, Graph, graph, radios, other-ends, linked, neighbours-among, degree, link, link-before, same-link, with-link, without-link, new-links, relinked, proper, ascending}
 use Rattle.mesh.specs.Cores.{survivors, peeled, cores-from, cores, depth, number, numbers}
 use Rattle.mesh.specs.Levels.{changed, step-of, lower-level, stretch-start, stretch-length, first-fitting, without, laid-out, stretch-up, stretch-down, new-stretch, with-stretch, new-order}
+use Rattle.mesh.specs.Orders.{each-once, rising, few-later}
+use Rattle.mesh.specs.Tables.{tables, digit, byte-at, marked, from-digits, row-of, links-table, tables-of}
+use Rattle.mesh.specs.Sound.{symmetric, irreflexive, within, row-degree, few, rows-proper, enough, sound-within, sound}
 use Rattle.mesh.specs.Connected.{at-least, reached, core-of, greatest, backbone}
 use Rattle.mesh.specs.Tree.{root-name, node, root, shell, node-name, parent-name, nodes-at, tree, node-names}
-use Rattle.mesh.specs.Image.{block-bytes, word, long, weighted-sum, check-sum, block, blocks-for, order-blocks, block-count, link-bytes, order-payload, links-payload, block-at, image-of}
+use Rattle.mesh.specs.Image.{block-bytes, word, long, weighted-sum, check-sum, block, blocks-for, order-blocks, block-count, link-bytes, order-payload, links-payload, block-at, image-of, word-at, entry-at, image-order, image-link, image-links, image-graph, whole-blocks, block-check, checks-good, is-image}
 use Rattle.mesh.specs.declared.Node.{Node}
-use Rattle.calls.specs.Questions.{ask, is-radio, are-radios, ends-differ, can-switch, has-room, has-level, image-length, ends-refusal}
+use Rattle.calls.specs.Questions.{ask, is-radio, are-radios, ends-differ, can-switch, has-room, has-level, image-length, ends-refusal, image-refusal}
 use Rattle.calls.specs.Replay.{digit-byte, digits-in, decimal, step-text, further-fields, printed-line, link-line, numbers-line, order-line, closing-lines}
 
 -- ---- link calls and what they leave
@@ -84,6 +87,14 @@ after (c ∷ cs) s = after cs (called c s)
 
 -- ---- what a row wants
 
+-- a byte to be put into a table or an image
+pub record Put : Type 0 where
+  pub at : ℕ
+  pub byte : ℕ
+
+abbrev pub put : (at byte : ℕ) → Put
+put i x = record { at = i; byte = x }
+
 pub data Want : Type 0 where
   -- the last answers, the numbers and the order
   last-answers : List Answer → Want
@@ -98,6 +109,10 @@ pub data Want : Type 0 where
   image-checks : (bytes : ℕ) → (checks : List ℕ) → Want
   -- what the replay program prints
   printed : (bytes : List ℕ) → Want
+  -- the soundness check of the links table with these bytes put in, these numbers and this order
+  soundness : List Put → (numbers order : List ℕ) → (yes : Bool) → Want
+  -- questions 9 to 11 of reading so many bytes of the image, with these put in, for n radios
+  image-reading : (n bytes : ℕ) → List Put → (number : ℕ) → Want
 
 pub record Row : Type 0 where
   pub n : ℕ
@@ -140,6 +155,10 @@ unfoldable pub block-checks : (blocks : ℕ) → (image : List ℕ) → List ℕ
 block-checks zero bs = []
 block-checks (suc m) bs = take 4 (drop 508 bs) ++ block-checks m (drop block-bytes bs)
 
+unfoldable pub put-in : List Put → List ℕ → List ℕ
+put-in [] bs = bs
+put-in (p ∷ ps) bs = put-in ps (set bs (p .at) (p .byte))
+
 unfoldable pub answer-line : Answer → List ℕ
 answer-line x = link-line (x .number) (x .step) (x .changed)
 
@@ -158,6 +177,10 @@ meets s (image-checks m cs) =
     let bs = image-of (s .graph) (s .order) in
     (eqb (length bs) m && eqb (image-length (s .graph)) m) && same (block-checks (length cs) bs) (flatMap long cs)
 meets s (printed bs) = same (printed-by s) bs
+meets s (soundness ps ns xs b) =
+    Bool·beq (sound (s .graph .n) (tables (put-in ps (links-table (s .graph))) ns xs)) b
+meets s (image-reading n m ps r) =
+    eqb (image-refusal n (take m (put-in ps (image-of (s .graph) (s .order))))) r
 
 unfoldable pub meets-all : List Want → State → Bool
 meets-all [] s = true
@@ -273,5 +296,5 @@ cases = m1 ∷ m2-before ∷ m2 ∷ m3 ∷ m4 ∷ m5 ∷ m6 ∷ m7 ∷ m8 ∷ m9
 
 -- what a proof about rows unfolds
 unfoldable pub compute : Unit {0}
-unfolding range count filter member all same head-or radios other-ends linked neighbours-among degree link link-before same-link with-link without-link new-links relinked survivors peeled cores-from cores depth number numbers changed step-of lower-level stretch-start stretch-length first-fitting without laid-out stretch-up stretch-down new-stretch with-stretch new-order at-least reached core-of greatest backbone shell node-name parent-name nodes-at tree node-names word long weighted-sum check-sum block blocks-for order-blocks block-count link-bytes order-payload links-payload block-at image-of ask is-radio are-radios ends-differ can-switch has-room has-level image-length ends-refusal digit-byte digits-in decimal step-text further-fields printed-line link-line numbers-line order-line closing-lines accepted risen fallen unchanged refused state cleared carried-out link-called called after same-step same-answers same-nodes level-refusal core-answer block-checks answer-line printed-by meets meets-all right all-right triangle two-triangles two-triangles-tied flatMap
+unfolding range count filter member all same head-or radios other-ends linked neighbours-among degree link link-before same-link with-link without-link new-links relinked survivors peeled cores-from cores depth number numbers changed step-of lower-level stretch-start stretch-length first-fitting without laid-out stretch-up stretch-down new-stretch with-stretch new-order at-least reached core-of greatest backbone shell node-name parent-name nodes-at tree node-names word long weighted-sum check-sum block blocks-for order-blocks block-count link-bytes order-payload links-payload block-at image-of word-at entry-at image-order image-link image-links image-graph whole-blocks block-check checks-good is-image proper ascending each-once rising few-later digit byte-at marked from-digits row-of links-table tables-of symmetric irreflexive within row-degree few rows-proper enough sound-within sound ask is-radio are-radios ends-differ can-switch has-room has-level image-length ends-refusal image-refusal digit-byte digits-in decimal step-text further-fields printed-line link-line numbers-line order-line closing-lines accepted risen fallen unchanged refused state cleared carried-out link-called called after same-step same-answers same-nodes level-refusal core-answer block-checks put-in answer-line printed-by meets meets-all right all-right triangle two-triangles two-triangles-tied flatMap map getD set Bool·beq
 compute = tt
