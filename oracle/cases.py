@@ -30,7 +30,7 @@ def compared():
     document says."""
     def prints(n, calls):
         site, answers = play(n, calls)
-        return "".join(map(line_of, answers)) + site.closing_lines()
+        return "".join([line_of(x) for x in answers] + site.closing_lines())
 
     yield "M1", prints(4, [up(0, 1), up(1, 2), up(0, 2), down(0, 1)]), M1
 

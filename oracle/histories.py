@@ -15,9 +15,12 @@ from pathlib import Path
 
 import cases
 from cases import down, triangle, up
-from reference import ROOT, line_of, play
+from reference import ROOT, check_bytes, line_of, play, reading, sound, with_bytes
 
 FILE = Path(__file__).resolve().parent.parent / "crates/vectors/specs/Histories.antt"
+
+# up to how many radios soundness and image reading are tried too: they take long to prove
+SOUNDNESS, READING = 4, 3
 
 
 # ---- the histories: groups of (what it is about, n, calls)
@@ -176,13 +179,13 @@ GROUPS = [
 
 # ---- as definitions
 
-def filled(words, indent, width=118):
-    """Words of a list, filled into lines."""
-    lines, line = [], " " * indent + words[0]
+def filled(words, width=118):
+    """Words of a list, filled into lines in the layout of `rt fmt`."""
+    lines, line = [], "    " + words[0]
     for word in words[1:] + ["[]"]:
         if len(line) + 3 + len(word) > width:
             lines.append(line)
-            line = " " * indent + "∷ " + word
+            line = "    ∷ " + word
         else:
             line += " ∷ " + word
     return "\n".join(lines + [line])
@@ -221,9 +224,61 @@ def cores_asked(site):
     return list(dict.fromkeys(asked))
 
 
-def row_text(about, n, calls, prints):
+def text_of(line):
+    return '"' + line.replace("\n", "\\n") + '"'
+
+
+def put_text(puts):
+    return short([f"put {at} {x}" for at, x in puts])
+
+
+def soundness_wants(site):
+    """The tables as they are, then damaged: a number one more and one less,
+    the order turned round, one radio twice in it, a link in one row only, a
+    radio its own neighbour, a bit at n."""
+    n, rows, numbers, order = site.n, site.rows(), site.numbers, site.order
+    last = n - 1
+    raised = [k + (v == 0) for v, k in enumerate(numbers)]
+    lowered = [k - (v == last and k > 0) for v, k in enumerate(numbers)]
+    tried = [([], numbers, order), ([], raised, order), ([], lowered, order), ([], numbers, order[::-1]),
+             ([], numbers, order[:-1] + order[:1])]
+    for a, b in ((0, last), (0, 0), (last, n)):
+        at = 64 * a + b // 8
+        tried.append(([(at, rows[at] ^ 1 << b % 8)], numbers, order))
+    for puts, ks, vs in tried:
+        answer = "true" if sound(n, with_bytes(rows, puts), ks, vs) else "false"
+        yield f"soundness {put_text(puts)} {short(ks)} {short(vs)} {answer}"
+
+
+def checked(image, puts):
+    """The puts, and those that make the checks good again."""
+    changed = with_bytes(image, puts)
+    for at in sorted({512 * (at // 512) for at, _ in puts}):
+        puts = puts + [(at + 508 + i, x) for i, x in enumerate(check_bytes(changed[at:at + 512]))
+                       if changed[at + 508 + i] != x]
+    return puts
+
+
+def reading_wants(site):
+    """The image as it is, for another n, cut short, empty, with a byte changed;
+    then with good checks: a byte of the unused payload, two entries of the
+    order exchanged, the count of links one more, the first link's ends equal."""
+    n, image = site.n, site.image()
+    whole = len(image)
+    tried = [(n, whole, []), (n + 1, whole, []), (n, whole - 1, []), (n, 0, []), (n, whole - 512, []),
+             (n, whole, [(4, image[4] ^ 3)]), (n, whole, checked(image, [(900, 1)])),
+             (n, whole, checked(image, [(516, image[518]), (518, image[516])])),
+             (n, whole, checked(image, [(6, image[6] + 1)]))]
+    if site.links:
+        tried.append((n, whole, checked(image, [(1028, image[1030])])))
+    for m, many, puts in tried:
+        yield f"image-reading {m} {many} {put_text(puts)} {reading(m, with_bytes(image, puts)[:many])}"
+
+
+def row_text(about, n, calls, start):
     site, answers = play(n, calls)
     nodes, names = site.tree()
+    lines = [line_of(x) for x in answers] + site.closing_lines()
     wants = ["all-numbers " + short(site.numbers),
              "whole-order " + short(site.order),
              f"shell-tree {short([node_text(x) for x in nodes])} {short([name_text(x) for x in names])}",
@@ -232,24 +287,24 @@ def row_text(about, n, calls, prints):
         number, radios = site.core(v, k)
         wants.append(f"connected-core {v} {k} {number} {short(radios)}")
     wants.append(f"image-checks {len(site.image())} {short(site.checks())}")
-    made, text = "[]", " " * 4
-    if calls:
-        made = "(\n" + filled([call_text(c) for c in calls], 4) + ")"
-        text += "last-answers (\n" + filled([answer_text(x) for x in answers], 4) + ")\n    ∷ "
-    if prints:
-        line = "".join(map(line_of, answers)) + site.closing_lines()
-        text += "printed (\n" + filled([str(x) for x in line.encode()], 4) + ")\n    ∷ "
-    text += filled(wants, 4).lstrip()
-    return f"    -- {about}\n    HERErow {n} {made} (\n{text})\n"
+    if n <= SOUNDNESS:
+        wants += soundness_wants(site)
+    if n <= READING:
+        wants += reading_wants(site)
+    made = "(\n" + filled([call_text(c) for c in calls]) + ")" if calls else "[]"
+    answered = "(\n" + filled([answer_text(x) for x in answers]) + ")" if calls else "[]"
+    return (f"    -- {about}\n    {start}row {n} {made} (\n    last-answers {answered}\n"
+            f"    ∷ printed (\n{filled([text_of(x) for x in lines])})\n    ∷ {filled(wants).lstrip()})\n")
 
 
 HEAD = """-- Link histories from cleared sites, with every answer and what they leave. Written by `python3 oracle/histories.py`,
 -- whose expected values come from document 01 alone, by all sets of radios; not to be changed by hand.
 INDEX--   histories       all of them, TOTAL rows
 -- That every row is right is `histories-right` in proofs/Histories.antt. Definitions only.
+use mathlib.Core.Bool.{true, false}
 use mathlib.Core.List.{List, [], _∷_, _++_}
 use Rattle.mesh.specs.Tree.{root-name, node, root}
-use Rattle.calls.specs.Cases.{Row, row, up, down, risen, fallen, unchanged, refused, last-answers, all-numbers, whole-order, shell-tree, connected-core, backbone-radios, image-checks, printed}
+use Rattle.calls.specs.Cases.{Row, row, up, down, risen, fallen, unchanged, refused, last-answers, all-numbers, whole-order, shell-tree, connected-core, backbone-radios, image-checks, printed, put, soundness, image-reading}
 """
 
 
@@ -260,7 +315,7 @@ def text():
     for name, about, rows in GROUPS:
         out += f"\nunfoldable pub {name} : List Row\n{name} =\n"
         for i, (what, n, calls) in enumerate(rows):
-            out += row_text(what, n, calls, prints=(i % 4 == 3)).replace("HERE", "∷ " if i else "")
+            out += row_text(what, n, calls, "∷ " if i else "")
         out += "    ∷ []\n"
     names = [name for name, _, _ in GROUPS]
     out += ("\nunfoldable pub histories : List Row\nhistories = " + " ++ (".join(names)

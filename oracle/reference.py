@@ -264,8 +264,8 @@ class Site:
     # ---- what the replay program prints
 
     def closing_lines(self):
-        return (" ".join(["numbers"] + [str(k) for k in self.numbers]) + "\n"
-                + " ".join(["order"] + [str(v) for v in self.order]) + "\n")
+        return [" ".join(["numbers"] + [str(k) for k in self.numbers]) + "\n",
+                " ".join(["order"] + [str(v) for v in self.order]) + "\n"]
 
 
 def line_of(answer):

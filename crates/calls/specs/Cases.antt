@@ -10,6 +10,7 @@
 use mathlib.Core.Bool.{Bool, true, false, _&&_, cond, Bool·beq}
 use mathlib.Core.List.{List, [], _∷_, _++_, map, flatMap}
 use Prim.Native.Nat.{ℕ, zero, suc, _+_, _*_, _-_}
+use Prim.Native.String.{String}
 use lib.Dec.{eqb}
 use lib.IntN.{ℤ, pos, negsuc}
 use lib.ListN.{length, drop, take, getD, set}
@@ -26,7 +27,7 @@ use Rattle.mesh.specs.Tree.{root-name, node, root, shell, node-name, parent-nam
 use Rattle.mesh.specs.Image.{block-bytes, word, long, weighted-sum, check-sum, block, blocks-for, order-blocks, block-count, link-bytes, order-payload, links-payload, block-at, image-of, word-at, entry-at, image-order, image-link, image-links, image-graph, whole-blocks, block-check, checks-good, is-image}
 use Rattle.mesh.specs.declared.Node.{Node}
 use Rattle.calls.specs.Questions.{ask, is-radio, are-radios, ends-differ, can-switch, has-room, has-level, image-length, ends-refusal, image-refusal}
-use Rattle.calls.specs.Replay.{digit-byte, digits-in, decimal, step-text, further-fields, printed-line, link-line, numbers-line, order-line, closing-lines}
+use Rattle.calls.specs.Replay.{bytes-of, digit-byte, digits-in, decimal, step-text, further-fields, printed-line, link-line, numbers-line, order-line, closing-lines}
 
 -- ---- link calls and what they leave
 
@@ -107,8 +108,8 @@ pub data Want : Type 0 where
   backbone-radios : List ℕ → Want
   -- the image's length in bytes and the checks of its blocks
   image-checks : (bytes : ℕ) → (checks : List ℕ) → Want
-  -- what the replay program prints
-  printed : (bytes : List ℕ) → Want
+  -- what the replay program prints, line by line
+  printed : List String → Want
   -- the soundness check of the links table with these bytes put in, these numbers and this order
   soundness : List Put → (numbers order : List ℕ) → (yes : Bool) → Want
   -- questions 9 to 11 of reading so many bytes of the image, with these put in, for n radios
@@ -176,7 +177,7 @@ meets s (backbone-radios xs) = same (backbone (s .graph)) xs
 meets s (image-checks m cs) =
     let bs = image-of (s .graph) (s .order) in
     (eqb (length bs) m && eqb (image-length (s .graph)) m) && same (block-checks (length cs) bs) (flatMap long cs)
-meets s (printed bs) = same (printed-by s) bs
+meets s (printed ls) = same (printed-by s) (flatMap bytes-of ls)
 meets s (soundness ps ns xs b) =
     Bool·beq (sound (s .graph .n) (tables (put-in ps (links-table (s .graph))) ns xs)) b
 meets s (image-reading n m ps r) =
@@ -205,13 +206,6 @@ two-triangles = triangle 0 1 2 ++ triangle 3 4 5
 unfoldable pub two-triangles-tied : List Link-call
 two-triangles-tied = two-triangles ++ (up 2 3 ∷ up 0 6 ∷ [])
 
--- M1, and what it prints, line by line:
---   0 +1 0 1
---   0 +1 2
---   0 +1 0 1 2
---   0 -1 0 1 2
---   numbers 1 1 1 0
---   order 3 0 2 1
 unfoldable pub m1 : Row
 m1 = row 4 (up 0 1 ∷ up 1 2 ∷ up 0 2 ∷ down 0 1 ∷ []) (
     last-answers (
@@ -223,12 +217,13 @@ m1 = row 4 (up 0 1 ∷ up 1 2 ∷ up 0 2 ∷ down 0 1 ∷ []) (
     ∷ all-numbers (1 ∷ 1 ∷ 1 ∷ 0 ∷ [])
     ∷ whole-order (3 ∷ 0 ∷ 2 ∷ 1 ∷ [])
     ∷ printed (
-    (48 ∷ 32 ∷ 43 ∷ 49 ∷ 32 ∷ 48 ∷ 32 ∷ 49 ∷ 10 ∷ [])
-    ++ (48 ∷ 32 ∷ 43 ∷ 49 ∷ 32 ∷ 50 ∷ 10 ∷ [])
-    ++ (48 ∷ 32 ∷ 43 ∷ 49 ∷ 32 ∷ 48 ∷ 32 ∷ 49 ∷ 32 ∷ 50 ∷ 10 ∷ [])
-    ++ (48 ∷ 32 ∷ 45 ∷ 49 ∷ 32 ∷ 48 ∷ 32 ∷ 49 ∷ 32 ∷ 50 ∷ 10 ∷ [])
-    ++ (110 ∷ 117 ∷ 109 ∷ 98 ∷ 101 ∷ 114 ∷ 115 ∷ 32 ∷ 49 ∷ 32 ∷ 49 ∷ 32 ∷ 49 ∷ 32 ∷ 48 ∷ 10 ∷ [])
-    ++ (111 ∷ 114 ∷ 100 ∷ 101 ∷ 114 ∷ 32 ∷ 51 ∷ 32 ∷ 48 ∷ 32 ∷ 50 ∷ 32 ∷ 49 ∷ 10 ∷ []))
+    "0 +1 0 1\n"
+    ∷ "0 +1 2\n"
+    ∷ "0 +1 0 1 2\n"
+    ∷ "0 -1 0 1 2\n"
+    ∷ "numbers 1 1 1 0\n"
+    ∷ "order 3 0 2 1\n"
+    ∷ [])
     ∷ [])
 
 -- M2: the last call changes no number, and the order

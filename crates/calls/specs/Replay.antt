@@ -1,4 +1,5 @@
 -- What the replay program prints, as bytes.
+--   bytes-of text                 a text as bytes
 --   decimal x                     a number in decimal digits, no leading zeros
 --   step-text s                   a step: +1, -1, 0
 --   printed-line fields           fields parted by single spaces, ended by a line feed
@@ -9,25 +10,22 @@
 -- Definitions only.
 use mathlib.Core.List.{List, [], _∷_, _++_, map}
 use Prim.Native.Nat.{ℕ, zero, suc, _+_, _/_, _%_}
+use Prim.Native.Char.{Char, code}
+use Prim.Native.String.{String, [] as empty-text, _∷_ as text}
 use lib.IntN.{ℤ, pos, negsuc}
 
 -- ---- bytes
+
+-- a text as bytes, one for each character: texts here are ASCII
+abbrev pub bytes-of : String → List ℕ
+bytes-of empty-text = []
+bytes-of (text c s) = code c ∷ bytes-of s
 
 abbrev pub space : ℕ
 space = 32
 
 abbrev pub line-feed : ℕ
 line-feed = 10
-
--- the words `numbers`, `order` and `bad`
-abbrev pub word-numbers : List ℕ
-word-numbers = 110 ∷ 117 ∷ 109 ∷ 98 ∷ 101 ∷ 114 ∷ 115 ∷ []
-
-abbrev pub word-order : List ℕ
-word-order = 111 ∷ 114 ∷ 100 ∷ 101 ∷ 114 ∷ []
-
-abbrev pub word-bad : List ℕ
-word-bad = 98 ∷ 97 ∷ 100 ∷ []
 
 -- ---- numbers and steps
 
@@ -64,13 +62,13 @@ unfoldable pub link-line : (number : ℕ) → (step : ℤ) → (changed : List �
 link-line r s cs = printed-line (decimal r) (step-text s ∷ map decimal cs)
 
 unfoldable pub numbers-line : (numbers : List ℕ) → List ℕ
-numbers-line ns = printed-line word-numbers (map decimal ns)
+numbers-line ns = printed-line (bytes-of "numbers") (map decimal ns)
 
 unfoldable pub order-line : (order : List ℕ) → List ℕ
-order-line xs = printed-line word-order (map decimal xs)
+order-line xs = printed-line (bytes-of "order") (map decimal xs)
 
 unfoldable pub closing-lines : (numbers order : List ℕ) → List ℕ
 closing-lines ns xs = numbers-line ns ++ order-line xs
 
 unfoldable pub bad-line : (line : ℕ) → List ℕ
-bad-line l = printed-line word-bad (decimal l ∷ [])
+bad-line l = printed-line (bytes-of "bad") (decimal l ∷ [])

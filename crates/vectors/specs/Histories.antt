@@ -10,34 +10,65 @@
 --   random-large    random calls at 6 to 8 radios
 --   histories       all of them, 55 rows
 -- That every row is right is `histories-right` in proofs/Histories.antt. Definitions only.
+use mathlib.Core.Bool.{true, false}
 use mathlib.Core.List.{List, [], _∷_, _++_}
 use Rattle.mesh.specs.Tree.{root-name, node, root}
-use Rattle.calls.specs.Cases.{Row, row, up, down, risen, fallen, unchanged, refused, last-answers, all-numbers, whole-order, shell-tree, connected-core, backbone-radios, image-checks, printed}
+use Rattle.calls.specs.Cases.{Row, row, up, down, risen, fallen, unchanged, refused, last-answers, all-numbers, whole-order, shell-tree, connected-core, backbone-radios, image-checks, printed, put, soundness, image-reading}
 
 unfoldable pub refusals : List Row
 refusals =
     -- one radio, no call
     row 1 [] (
-    all-numbers (0 ∷ []) ∷ whole-order (0 ∷ []) ∷ shell-tree (root ∷ []) (root-name ∷ []) ∷ backbone-radios []
+    last-answers []
+    ∷ printed (
+    "numbers 0\n" ∷ "order 0\n" ∷ [])
+    ∷ all-numbers (0 ∷ []) ∷ whole-order (0 ∷ []) ∷ shell-tree (root ∷ []) (root-name ∷ []) ∷ backbone-radios []
     ∷ connected-core 0 0 0 (0 ∷ []) ∷ connected-core 0 1 8 [] ∷ connected-core 1 0 4 []
-    ∷ image-checks 1024 (5 ∷ 4 ∷ []) ∷ [])
+    ∷ image-checks 1024 (5 ∷ 4 ∷ []) ∷ soundness [] (0 ∷ []) (0 ∷ []) true ∷ soundness [] (1 ∷ []) (0 ∷ []) false
+    ∷ soundness [] (0 ∷ []) (0 ∷ []) true ∷ soundness [] (0 ∷ []) (0 ∷ []) true ∷ soundness [] (0 ∷ []) (0 ∷ []) true
+    ∷ soundness (put 0 1 ∷ []) (0 ∷ []) (0 ∷ []) false ∷ soundness (put 0 1 ∷ []) (0 ∷ []) (0 ∷ []) false
+    ∷ soundness (put 0 2 ∷ []) (0 ∷ []) (0 ∷ []) false ∷ image-reading 1 1024 [] 0 ∷ image-reading 2 1024 [] 11
+    ∷ image-reading 1 1023 [] 9 ∷ image-reading 1 0 [] 9 ∷ image-reading 1 512 [] 11
+    ∷ image-reading 1 1024 (put 4 2 ∷ []) 10 ∷ image-reading 1 1024 (put 900 1 ∷ put 1020 137 ∷ put 1021 1 ∷ []) 11
+    ∷ image-reading 1 1024 (put 516 0 ∷ put 518 0 ∷ []) 0 ∷ image-reading 1 1024 (put 6 1 ∷ put 508 12 ∷ []) 11 ∷ [])
     -- one radio: every call is refused
     ∷ row 1 (
     up 0 0 ∷ up 0 1 ∷ up 1 0 ∷ up 1 1 ∷ down 0 0 ∷ down 0 1 ∷ []) (
     last-answers (
     refused 5 ∷ refused 4 ∷ refused 4 ∷ refused 4 ∷ refused 5 ∷ refused 4 ∷ [])
+    ∷ printed (
+    "5 0\n" ∷ "4 0\n" ∷ "4 0\n" ∷ "4 0\n" ∷ "5 0\n" ∷ "4 0\n" ∷ "numbers 0\n" ∷ "order 0\n" ∷ [])
     ∷ all-numbers (0 ∷ []) ∷ whole-order (0 ∷ []) ∷ shell-tree (root ∷ []) (root-name ∷ []) ∷ backbone-radios []
     ∷ connected-core 0 0 0 (0 ∷ []) ∷ connected-core 0 1 8 [] ∷ connected-core 1 0 4 []
-    ∷ image-checks 1024 (5 ∷ 4 ∷ []) ∷ [])
+    ∷ image-checks 1024 (5 ∷ 4 ∷ []) ∷ soundness [] (0 ∷ []) (0 ∷ []) true ∷ soundness [] (1 ∷ []) (0 ∷ []) false
+    ∷ soundness [] (0 ∷ []) (0 ∷ []) true ∷ soundness [] (0 ∷ []) (0 ∷ []) true ∷ soundness [] (0 ∷ []) (0 ∷ []) true
+    ∷ soundness (put 0 1 ∷ []) (0 ∷ []) (0 ∷ []) false ∷ soundness (put 0 1 ∷ []) (0 ∷ []) (0 ∷ []) false
+    ∷ soundness (put 0 2 ∷ []) (0 ∷ []) (0 ∷ []) false ∷ image-reading 1 1024 [] 0 ∷ image-reading 2 1024 [] 11
+    ∷ image-reading 1 1023 [] 9 ∷ image-reading 1 0 [] 9 ∷ image-reading 1 512 [] 11
+    ∷ image-reading 1 1024 (put 4 2 ∷ []) 10 ∷ image-reading 1 1024 (put 900 1 ∷ put 1020 137 ∷ put 1021 1 ∷ []) 11
+    ∷ image-reading 1 1024 (put 516 0 ∷ put 518 0 ∷ []) 0 ∷ image-reading 1 1024 (put 6 1 ∷ put 508 12 ∷ []) 11 ∷ [])
     -- a link is taken up once and down once, ends in either order
     ∷ row 2 (
     down 0 1 ∷ up 0 1 ∷ up 0 1 ∷ up 1 0 ∷ down 1 0 ∷ down 0 1 ∷ up 1 0 ∷ []) (
     last-answers (
     refused 6 ∷ risen (0 ∷ 1 ∷ []) ∷ refused 6 ∷ refused 6 ∷ fallen (0 ∷ 1 ∷ []) ∷ refused 6 ∷ risen (0 ∷ 1 ∷ []) ∷ [])
+    ∷ printed (
+    "6 0\n" ∷ "0 +1 0 1\n" ∷ "6 0\n" ∷ "6 0\n" ∷ "0 -1 0 1\n" ∷ "6 0\n" ∷ "0 +1 0 1\n" ∷ "numbers 1 1\n"
+    ∷ "order 0 1\n" ∷ [])
     ∷ all-numbers (1 ∷ 1 ∷ []) ∷ whole-order (0 ∷ 1 ∷ []) ∷ shell-tree (root ∷ node 0 1 root-name ∷ []) (0 ∷ 0 ∷ [])
     ∷ backbone-radios (0 ∷ 1 ∷ []) ∷ connected-core 1 0 0 (0 ∷ 1 ∷ []) ∷ connected-core 0 1 0 (0 ∷ 1 ∷ [])
     ∷ connected-core 1 1 0 (0 ∷ 1 ∷ []) ∷ connected-core 0 2 8 [] ∷ connected-core 2 0 4 []
-    ∷ image-checks 1536 (17 ∷ 11 ∷ 15 ∷ []) ∷ [])
+    ∷ image-checks 1536 (17 ∷ 11 ∷ 15 ∷ []) ∷ soundness [] (1 ∷ 1 ∷ []) (0 ∷ 1 ∷ []) true
+    ∷ soundness [] (2 ∷ 1 ∷ []) (0 ∷ 1 ∷ []) false ∷ soundness [] (1 ∷ 0 ∷ []) (0 ∷ 1 ∷ []) false
+    ∷ soundness [] (1 ∷ 1 ∷ []) (1 ∷ 0 ∷ []) true ∷ soundness [] (1 ∷ 1 ∷ []) (0 ∷ 0 ∷ []) false
+    ∷ soundness (put 0 0 ∷ []) (1 ∷ 1 ∷ []) (0 ∷ 1 ∷ []) false
+    ∷ soundness (put 0 3 ∷ []) (1 ∷ 1 ∷ []) (0 ∷ 1 ∷ []) false
+    ∷ soundness (put 64 5 ∷ []) (1 ∷ 1 ∷ []) (0 ∷ 1 ∷ []) false ∷ image-reading 2 1536 [] 0
+    ∷ image-reading 3 1536 [] 11 ∷ image-reading 2 1535 [] 9 ∷ image-reading 2 0 [] 9 ∷ image-reading 2 1024 [] 11
+    ∷ image-reading 2 1536 (put 4 1 ∷ []) 10 ∷ image-reading 2 1536 (put 900 1 ∷ put 1020 144 ∷ put 1021 1 ∷ []) 11
+    ∷ image-reading 2 1536 (put 516 1 ∷ put 518 0 ∷ put 1020 9 ∷ []) 0
+    ∷ image-reading 2 1536 (put 6 2 ∷ put 508 24 ∷ []) 11 ∷ image-reading 2 1536 (put 1028 1 ∷ put 1532 20 ∷ []) 11
+    ∷ [])
     -- 4 before 5, 5 before 6, and a refused call changes nothing
     ∷ row 4 (
     up 0 1 ∷ up 1 2 ∷ up 4 4 ∷ down 9 9 ∷ up 2 2 ∷ down 2 2 ∷ up 0 4 ∷ down 65535 0 ∷ up 1 0 ∷ down 0 2 ∷ up 2 3 ∷ []) (
@@ -45,20 +76,27 @@ refusals =
     risen (0 ∷ 1 ∷ []) ∷ risen (2 ∷ []) ∷ refused 4 ∷ refused 4 ∷ refused 5 ∷ refused 5 ∷ refused 4 ∷ refused 4
     ∷ refused 6 ∷ refused 6 ∷ risen (3 ∷ []) ∷ [])
     ∷ printed (
-    48 ∷ 32 ∷ 43 ∷ 49 ∷ 32 ∷ 48 ∷ 32 ∷ 49 ∷ 10 ∷ 48 ∷ 32 ∷ 43 ∷ 49 ∷ 32 ∷ 50 ∷ 10 ∷ 52 ∷ 32 ∷ 48 ∷ 10 ∷ 52 ∷ 32 ∷ 48
-    ∷ 10 ∷ 53 ∷ 32 ∷ 48 ∷ 10 ∷ 53 ∷ 32 ∷ 48 ∷ 10 ∷ 52 ∷ 32 ∷ 48 ∷ 10 ∷ 52 ∷ 32 ∷ 48 ∷ 10 ∷ 54 ∷ 32 ∷ 48 ∷ 10 ∷ 54 ∷ 32
-    ∷ 48 ∷ 10 ∷ 48 ∷ 32 ∷ 43 ∷ 49 ∷ 32 ∷ 51 ∷ 10 ∷ 110 ∷ 117 ∷ 109 ∷ 98 ∷ 101 ∷ 114 ∷ 115 ∷ 32 ∷ 49 ∷ 32 ∷ 49 ∷ 32
-    ∷ 49 ∷ 32 ∷ 49 ∷ 10 ∷ 111 ∷ 114 ∷ 100 ∷ 101 ∷ 114 ∷ 32 ∷ 51 ∷ 32 ∷ 50 ∷ 32 ∷ 48 ∷ 32 ∷ 49 ∷ 10 ∷ [])
+    "0 +1 0 1\n" ∷ "0 +1 2\n" ∷ "4 0\n" ∷ "4 0\n" ∷ "5 0\n" ∷ "5 0\n" ∷ "4 0\n" ∷ "4 0\n" ∷ "6 0\n" ∷ "6 0\n"
+    ∷ "0 +1 3\n" ∷ "numbers 1 1 1 1\n" ∷ "order 3 2 0 1\n" ∷ [])
     ∷ all-numbers (1 ∷ 1 ∷ 1 ∷ 1 ∷ []) ∷ whole-order (3 ∷ 2 ∷ 0 ∷ 1 ∷ [])
     ∷ shell-tree (root ∷ node 0 1 root-name ∷ []) (0 ∷ 0 ∷ 0 ∷ 0 ∷ []) ∷ backbone-radios (0 ∷ 1 ∷ 2 ∷ 3 ∷ [])
     ∷ connected-core 3 0 0 (0 ∷ 1 ∷ 2 ∷ 3 ∷ []) ∷ connected-core 0 1 0 (0 ∷ 1 ∷ 2 ∷ 3 ∷ [])
     ∷ connected-core 2 1 0 (0 ∷ 1 ∷ 2 ∷ 3 ∷ []) ∷ connected-core 0 2 8 [] ∷ connected-core 4 0 4 []
-    ∷ image-checks 1536 (41 ∷ 44 ∷ 117 ∷ []) ∷ [])
+    ∷ image-checks 1536 (41 ∷ 44 ∷ 117 ∷ []) ∷ soundness [] (1 ∷ 1 ∷ 1 ∷ 1 ∷ []) (3 ∷ 2 ∷ 0 ∷ 1 ∷ []) true
+    ∷ soundness [] (2 ∷ 1 ∷ 1 ∷ 1 ∷ []) (3 ∷ 2 ∷ 0 ∷ 1 ∷ []) false
+    ∷ soundness [] (1 ∷ 1 ∷ 1 ∷ 0 ∷ []) (3 ∷ 2 ∷ 0 ∷ 1 ∷ []) false
+    ∷ soundness [] (1 ∷ 1 ∷ 1 ∷ 1 ∷ []) (1 ∷ 0 ∷ 2 ∷ 3 ∷ []) false
+    ∷ soundness [] (1 ∷ 1 ∷ 1 ∷ 1 ∷ []) (3 ∷ 2 ∷ 0 ∷ 3 ∷ []) false
+    ∷ soundness (put 0 10 ∷ []) (1 ∷ 1 ∷ 1 ∷ 1 ∷ []) (3 ∷ 2 ∷ 0 ∷ 1 ∷ []) false
+    ∷ soundness (put 0 3 ∷ []) (1 ∷ 1 ∷ 1 ∷ 1 ∷ []) (3 ∷ 2 ∷ 0 ∷ 1 ∷ []) false
+    ∷ soundness (put 192 20 ∷ []) (1 ∷ 1 ∷ 1 ∷ 1 ∷ []) (3 ∷ 2 ∷ 0 ∷ 1 ∷ []) false ∷ [])
     -- eight radios, no link
     ∷ row 8 (
     up 8 0 ∷ down 0 7 ∷ up 7 7 ∷ []) (
     last-answers (
     refused 4 ∷ refused 6 ∷ refused 5 ∷ [])
+    ∷ printed (
+    "4 0\n" ∷ "6 0\n" ∷ "5 0\n" ∷ "numbers 0 0 0 0 0 0 0 0\n" ∷ "order 0 1 2 3 4 5 6 7\n" ∷ [])
     ∷ all-numbers (0 ∷ 0 ∷ 0 ∷ 0 ∷ 0 ∷ 0 ∷ 0 ∷ 0 ∷ []) ∷ whole-order (0 ∷ 1 ∷ 2 ∷ 3 ∷ 4 ∷ 5 ∷ 6 ∷ 7 ∷ [])
     ∷ shell-tree (root ∷ []) (root-name ∷ root-name ∷ root-name ∷ root-name ∷ root-name ∷ root-name ∷ root-name ∷ root-name ∷ [])
     ∷ backbone-radios [] ∷ connected-core 7 0 0 (7 ∷ []) ∷ connected-core 0 0 0 (0 ∷ []) ∷ connected-core 4 1 8 []
@@ -75,10 +113,22 @@ cliques =
     risen (0 ∷ 1 ∷ []) ∷ risen (2 ∷ []) ∷ risen (3 ∷ []) ∷ risen (0 ∷ 1 ∷ 2 ∷ []) ∷ risen (3 ∷ [])
     ∷ risen (0 ∷ 1 ∷ 2 ∷ 3 ∷ []) ∷ fallen (0 ∷ 1 ∷ 2 ∷ 3 ∷ []) ∷ fallen (0 ∷ []) ∷ fallen (0 ∷ [])
     ∷ fallen (1 ∷ 2 ∷ 3 ∷ []) ∷ fallen (1 ∷ []) ∷ fallen (2 ∷ 3 ∷ []) ∷ [])
+    ∷ printed (
+    "0 +1 0 1\n" ∷ "0 +1 2\n" ∷ "0 +1 3\n" ∷ "0 +1 0 1 2\n" ∷ "0 +1 3\n" ∷ "0 +1 0 1 2 3\n" ∷ "0 -1 0 1 2 3\n"
+    ∷ "0 -1 0\n" ∷ "0 -1 0\n" ∷ "0 -1 1 2 3\n" ∷ "0 -1 1\n" ∷ "0 -1 2 3\n" ∷ "numbers 0 0 0 0\n" ∷ "order 0 1 2 3\n"
+    ∷ [])
     ∷ all-numbers (0 ∷ 0 ∷ 0 ∷ 0 ∷ []) ∷ whole-order (0 ∷ 1 ∷ 2 ∷ 3 ∷ [])
     ∷ shell-tree (root ∷ []) (root-name ∷ root-name ∷ root-name ∷ root-name ∷ []) ∷ backbone-radios []
     ∷ connected-core 3 0 0 (3 ∷ []) ∷ connected-core 0 0 0 (0 ∷ []) ∷ connected-core 2 1 8 []
-    ∷ connected-core 0 1 8 [] ∷ connected-core 4 0 4 [] ∷ image-checks 1024 (20 ∷ 62 ∷ []) ∷ [])
+    ∷ connected-core 0 1 8 [] ∷ connected-core 4 0 4 [] ∷ image-checks 1024 (20 ∷ 62 ∷ [])
+    ∷ soundness [] (0 ∷ 0 ∷ 0 ∷ 0 ∷ []) (0 ∷ 1 ∷ 2 ∷ 3 ∷ []) true
+    ∷ soundness [] (1 ∷ 0 ∷ 0 ∷ 0 ∷ []) (0 ∷ 1 ∷ 2 ∷ 3 ∷ []) false
+    ∷ soundness [] (0 ∷ 0 ∷ 0 ∷ 0 ∷ []) (0 ∷ 1 ∷ 2 ∷ 3 ∷ []) true
+    ∷ soundness [] (0 ∷ 0 ∷ 0 ∷ 0 ∷ []) (3 ∷ 2 ∷ 1 ∷ 0 ∷ []) true
+    ∷ soundness [] (0 ∷ 0 ∷ 0 ∷ 0 ∷ []) (0 ∷ 1 ∷ 2 ∷ 0 ∷ []) false
+    ∷ soundness (put 0 8 ∷ []) (0 ∷ 0 ∷ 0 ∷ 0 ∷ []) (0 ∷ 1 ∷ 2 ∷ 3 ∷ []) false
+    ∷ soundness (put 0 1 ∷ []) (0 ∷ 0 ∷ 0 ∷ 0 ∷ []) (0 ∷ 1 ∷ 2 ∷ 3 ∷ []) false
+    ∷ soundness (put 192 16 ∷ []) (0 ∷ 0 ∷ 0 ∷ 0 ∷ []) (0 ∷ 1 ∷ 2 ∷ 3 ∷ []) false ∷ [])
     -- a clique of 5 built, and torn down from its last radio
     ∷ row 5 (
     up 0 1 ∷ up 0 2 ∷ up 0 3 ∷ up 0 4 ∷ up 1 2 ∷ up 1 3 ∷ up 1 4 ∷ up 2 3 ∷ up 2 4 ∷ up 3 4 ∷ down 3 4 ∷ down 2 4
@@ -87,6 +137,10 @@ cliques =
     risen (0 ∷ 1 ∷ []) ∷ risen (2 ∷ []) ∷ risen (3 ∷ []) ∷ risen (4 ∷ []) ∷ risen (0 ∷ 1 ∷ 2 ∷ []) ∷ risen (3 ∷ [])
     ∷ risen (4 ∷ []) ∷ risen (0 ∷ 1 ∷ 2 ∷ 3 ∷ []) ∷ risen (4 ∷ []) ∷ risen (0 ∷ 1 ∷ 2 ∷ 3 ∷ 4 ∷ [])
     ∷ fallen (0 ∷ 1 ∷ 2 ∷ 3 ∷ 4 ∷ []) ∷ fallen (4 ∷ []) ∷ fallen (4 ∷ []) ∷ fallen (4 ∷ []) ∷ [])
+    ∷ printed (
+    "0 +1 0 1\n" ∷ "0 +1 2\n" ∷ "0 +1 3\n" ∷ "0 +1 4\n" ∷ "0 +1 0 1 2\n" ∷ "0 +1 3\n" ∷ "0 +1 4\n" ∷ "0 +1 0 1 2 3\n"
+    ∷ "0 +1 4\n" ∷ "0 +1 0 1 2 3 4\n" ∷ "0 -1 0 1 2 3 4\n" ∷ "0 -1 4\n" ∷ "0 -1 4\n" ∷ "0 -1 4\n"
+    ∷ "numbers 3 3 3 3 0\n" ∷ "order 4 3 2 0 1\n" ∷ [])
     ∷ all-numbers (3 ∷ 3 ∷ 3 ∷ 3 ∷ 0 ∷ []) ∷ whole-order (4 ∷ 3 ∷ 2 ∷ 0 ∷ 1 ∷ [])
     ∷ shell-tree (root ∷ node 0 3 root-name ∷ []) (0 ∷ 0 ∷ 0 ∷ 0 ∷ root-name ∷ [])
     ∷ backbone-radios (0 ∷ 1 ∷ 2 ∷ 3 ∷ []) ∷ connected-core 4 0 0 (4 ∷ []) ∷ connected-core 0 3 0 (0 ∷ 1 ∷ 2 ∷ 3 ∷ [])
@@ -101,6 +155,10 @@ cliques =
     ∷ risen (3 ∷ []) ∷ risen (4 ∷ []) ∷ risen (5 ∷ []) ∷ risen (0 ∷ 1 ∷ 2 ∷ 3 ∷ []) ∷ risen (4 ∷ []) ∷ risen (5 ∷ [])
     ∷ risen (0 ∷ 1 ∷ 2 ∷ 3 ∷ 4 ∷ []) ∷ risen (5 ∷ []) ∷ risen (0 ∷ 1 ∷ 2 ∷ 3 ∷ 4 ∷ 5 ∷ [])
     ∷ fallen (0 ∷ 1 ∷ 2 ∷ 3 ∷ 4 ∷ 5 ∷ []) ∷ [])
+    ∷ printed (
+    "0 +1 0 1\n" ∷ "0 +1 2\n" ∷ "0 +1 3\n" ∷ "0 +1 4\n" ∷ "0 +1 5\n" ∷ "0 +1 0 1 2\n" ∷ "0 +1 3\n" ∷ "0 +1 4\n"
+    ∷ "0 +1 5\n" ∷ "0 +1 0 1 2 3\n" ∷ "0 +1 4\n" ∷ "0 +1 5\n" ∷ "0 +1 0 1 2 3 4\n" ∷ "0 +1 5\n" ∷ "0 +1 0 1 2 3 4 5\n"
+    ∷ "0 -1 0 1 2 3 4 5\n" ∷ "numbers 4 4 4 4 4 4\n" ∷ "order 4 5 3 2 0 1\n" ∷ [])
     ∷ all-numbers (4 ∷ 4 ∷ 4 ∷ 4 ∷ 4 ∷ 4 ∷ []) ∷ whole-order (4 ∷ 5 ∷ 3 ∷ 2 ∷ 0 ∷ 1 ∷ [])
     ∷ shell-tree (root ∷ node 0 4 root-name ∷ []) (0 ∷ 0 ∷ 0 ∷ 0 ∷ 0 ∷ 0 ∷ [])
     ∷ backbone-radios (0 ∷ 1 ∷ 2 ∷ 3 ∷ 4 ∷ 5 ∷ []) ∷ connected-core 5 0 0 (0 ∷ 1 ∷ 2 ∷ 3 ∷ 4 ∷ 5 ∷ [])
@@ -119,20 +177,11 @@ cliques =
     ∷ risen (0 ∷ 1 ∷ 2 ∷ 3 ∷ 4 ∷ 5 ∷ []) ∷ risen (6 ∷ []) ∷ risen (7 ∷ []) ∷ risen (0 ∷ 1 ∷ 2 ∷ 3 ∷ 4 ∷ 5 ∷ 6 ∷ [])
     ∷ risen (7 ∷ []) ∷ risen (0 ∷ 1 ∷ 2 ∷ 3 ∷ 4 ∷ 5 ∷ 6 ∷ 7 ∷ []) ∷ [])
     ∷ printed (
-    48 ∷ 32 ∷ 43 ∷ 49 ∷ 32 ∷ 48 ∷ 32 ∷ 49 ∷ 10 ∷ 48 ∷ 32 ∷ 43 ∷ 49 ∷ 32 ∷ 50 ∷ 10 ∷ 48 ∷ 32 ∷ 43 ∷ 49 ∷ 32 ∷ 51 ∷ 10
-    ∷ 48 ∷ 32 ∷ 43 ∷ 49 ∷ 32 ∷ 52 ∷ 10 ∷ 48 ∷ 32 ∷ 43 ∷ 49 ∷ 32 ∷ 53 ∷ 10 ∷ 48 ∷ 32 ∷ 43 ∷ 49 ∷ 32 ∷ 54 ∷ 10 ∷ 48 ∷ 32
-    ∷ 43 ∷ 49 ∷ 32 ∷ 55 ∷ 10 ∷ 48 ∷ 32 ∷ 43 ∷ 49 ∷ 32 ∷ 48 ∷ 32 ∷ 49 ∷ 32 ∷ 50 ∷ 10 ∷ 48 ∷ 32 ∷ 43 ∷ 49 ∷ 32 ∷ 51 ∷ 10
-    ∷ 48 ∷ 32 ∷ 43 ∷ 49 ∷ 32 ∷ 52 ∷ 10 ∷ 48 ∷ 32 ∷ 43 ∷ 49 ∷ 32 ∷ 53 ∷ 10 ∷ 48 ∷ 32 ∷ 43 ∷ 49 ∷ 32 ∷ 54 ∷ 10 ∷ 48 ∷ 32
-    ∷ 43 ∷ 49 ∷ 32 ∷ 55 ∷ 10 ∷ 48 ∷ 32 ∷ 43 ∷ 49 ∷ 32 ∷ 48 ∷ 32 ∷ 49 ∷ 32 ∷ 50 ∷ 32 ∷ 51 ∷ 10 ∷ 48 ∷ 32 ∷ 43 ∷ 49 ∷ 32
-    ∷ 52 ∷ 10 ∷ 48 ∷ 32 ∷ 43 ∷ 49 ∷ 32 ∷ 53 ∷ 10 ∷ 48 ∷ 32 ∷ 43 ∷ 49 ∷ 32 ∷ 54 ∷ 10 ∷ 48 ∷ 32 ∷ 43 ∷ 49 ∷ 32 ∷ 55 ∷ 10
-    ∷ 48 ∷ 32 ∷ 43 ∷ 49 ∷ 32 ∷ 48 ∷ 32 ∷ 49 ∷ 32 ∷ 50 ∷ 32 ∷ 51 ∷ 32 ∷ 52 ∷ 10 ∷ 48 ∷ 32 ∷ 43 ∷ 49 ∷ 32 ∷ 53 ∷ 10 ∷ 48
-    ∷ 32 ∷ 43 ∷ 49 ∷ 32 ∷ 54 ∷ 10 ∷ 48 ∷ 32 ∷ 43 ∷ 49 ∷ 32 ∷ 55 ∷ 10 ∷ 48 ∷ 32 ∷ 43 ∷ 49 ∷ 32 ∷ 48 ∷ 32 ∷ 49 ∷ 32 ∷ 50
-    ∷ 32 ∷ 51 ∷ 32 ∷ 52 ∷ 32 ∷ 53 ∷ 10 ∷ 48 ∷ 32 ∷ 43 ∷ 49 ∷ 32 ∷ 54 ∷ 10 ∷ 48 ∷ 32 ∷ 43 ∷ 49 ∷ 32 ∷ 55 ∷ 10 ∷ 48 ∷ 32
-    ∷ 43 ∷ 49 ∷ 32 ∷ 48 ∷ 32 ∷ 49 ∷ 32 ∷ 50 ∷ 32 ∷ 51 ∷ 32 ∷ 52 ∷ 32 ∷ 53 ∷ 32 ∷ 54 ∷ 10 ∷ 48 ∷ 32 ∷ 43 ∷ 49 ∷ 32 ∷ 55
-    ∷ 10 ∷ 48 ∷ 32 ∷ 43 ∷ 49 ∷ 32 ∷ 48 ∷ 32 ∷ 49 ∷ 32 ∷ 50 ∷ 32 ∷ 51 ∷ 32 ∷ 52 ∷ 32 ∷ 53 ∷ 32 ∷ 54 ∷ 32 ∷ 55 ∷ 10
-    ∷ 110 ∷ 117 ∷ 109 ∷ 98 ∷ 101 ∷ 114 ∷ 115 ∷ 32 ∷ 55 ∷ 32 ∷ 55 ∷ 32 ∷ 55 ∷ 32 ∷ 55 ∷ 32 ∷ 55 ∷ 32 ∷ 55 ∷ 32 ∷ 55
-    ∷ 32 ∷ 55 ∷ 10 ∷ 111 ∷ 114 ∷ 100 ∷ 101 ∷ 114 ∷ 32 ∷ 55 ∷ 32 ∷ 54 ∷ 32 ∷ 53 ∷ 32 ∷ 52 ∷ 32 ∷ 51 ∷ 32 ∷ 50 ∷ 32 ∷ 48
-    ∷ 32 ∷ 49 ∷ 10 ∷ [])
+    "0 +1 0 1\n" ∷ "0 +1 2\n" ∷ "0 +1 3\n" ∷ "0 +1 4\n" ∷ "0 +1 5\n" ∷ "0 +1 6\n" ∷ "0 +1 7\n" ∷ "0 +1 0 1 2\n"
+    ∷ "0 +1 3\n" ∷ "0 +1 4\n" ∷ "0 +1 5\n" ∷ "0 +1 6\n" ∷ "0 +1 7\n" ∷ "0 +1 0 1 2 3\n" ∷ "0 +1 4\n" ∷ "0 +1 5\n"
+    ∷ "0 +1 6\n" ∷ "0 +1 7\n" ∷ "0 +1 0 1 2 3 4\n" ∷ "0 +1 5\n" ∷ "0 +1 6\n" ∷ "0 +1 7\n" ∷ "0 +1 0 1 2 3 4 5\n"
+    ∷ "0 +1 6\n" ∷ "0 +1 7\n" ∷ "0 +1 0 1 2 3 4 5 6\n" ∷ "0 +1 7\n" ∷ "0 +1 0 1 2 3 4 5 6 7\n"
+    ∷ "numbers 7 7 7 7 7 7 7 7\n" ∷ "order 7 6 5 4 3 2 0 1\n" ∷ [])
     ∷ all-numbers (7 ∷ 7 ∷ 7 ∷ 7 ∷ 7 ∷ 7 ∷ 7 ∷ 7 ∷ []) ∷ whole-order (7 ∷ 6 ∷ 5 ∷ 4 ∷ 3 ∷ 2 ∷ 0 ∷ 1 ∷ [])
     ∷ shell-tree (root ∷ node 0 7 root-name ∷ []) (0 ∷ 0 ∷ 0 ∷ 0 ∷ 0 ∷ 0 ∷ 0 ∷ 0 ∷ [])
     ∷ backbone-radios (0 ∷ 1 ∷ 2 ∷ 3 ∷ 4 ∷ 5 ∷ 6 ∷ 7 ∷ []) ∷ connected-core 7 0 0 (0 ∷ 1 ∷ 2 ∷ 3 ∷ 4 ∷ 5 ∷ 6 ∷ 7 ∷ [])
@@ -148,6 +197,10 @@ cliques =
     ∷ risen (0 ∷ 2 ∷ 4 ∷ 6 ∷ []) ∷ risen (1 ∷ 3 ∷ []) ∷ risen (5 ∷ []) ∷ risen (7 ∷ []) ∷ risen (1 ∷ 3 ∷ 5 ∷ [])
     ∷ risen (7 ∷ []) ∷ risen (1 ∷ 3 ∷ 5 ∷ 7 ∷ []) ∷ fallen (0 ∷ 2 ∷ 4 ∷ 6 ∷ []) ∷ fallen (1 ∷ 3 ∷ 5 ∷ 7 ∷ [])
     ∷ unchanged ∷ unchanged ∷ fallen (0 ∷ 2 ∷ 4 ∷ 6 ∷ []) ∷ [])
+    ∷ printed (
+    "0 +1 0 2\n" ∷ "0 +1 4\n" ∷ "0 +1 6\n" ∷ "0 +1 0 2 4\n" ∷ "0 +1 6\n" ∷ "0 +1 0 2 4 6\n" ∷ "0 +1 1 3\n"
+    ∷ "0 +1 5\n" ∷ "0 +1 7\n" ∷ "0 +1 1 3 5\n" ∷ "0 +1 7\n" ∷ "0 +1 1 3 5 7\n" ∷ "0 -1 0 2 4 6\n" ∷ "0 -1 1 3 5 7\n"
+    ∷ "0 0\n" ∷ "0 0\n" ∷ "0 -1 0 2 4 6\n" ∷ "numbers 1 2 1 2 1 2 1 2\n" ∷ "order 0 6 4 2 1 7 5 3\n" ∷ [])
     ∷ all-numbers (1 ∷ 2 ∷ 1 ∷ 2 ∷ 1 ∷ 2 ∷ 1 ∷ 2 ∷ []) ∷ whole-order (0 ∷ 6 ∷ 4 ∷ 2 ∷ 1 ∷ 7 ∷ 5 ∷ 3 ∷ [])
     ∷ shell-tree (root ∷ node 0 1 root-name ∷ node 1 2 root-name ∷ []) (0 ∷ 1 ∷ 0 ∷ 1 ∷ 0 ∷ 1 ∷ 0 ∷ 1 ∷ [])
     ∷ backbone-radios (1 ∷ 3 ∷ 5 ∷ 7 ∷ []) ∷ connected-core 7 0 0 (1 ∷ 3 ∷ 5 ∷ 7 ∷ [])
@@ -160,6 +213,10 @@ cliques =
     risen (0 ∷ 1 ∷ []) ∷ risen (2 ∷ []) ∷ risen (3 ∷ []) ∷ risen (0 ∷ 1 ∷ 2 ∷ []) ∷ risen (3 ∷ [])
     ∷ risen (0 ∷ 1 ∷ 2 ∷ 3 ∷ []) ∷ risen (4 ∷ []) ∷ risen (5 ∷ []) ∷ risen (6 ∷ []) ∷ risen (4 ∷ 5 ∷ [])
     ∷ risen (6 ∷ []) ∷ risen (4 ∷ 5 ∷ 6 ∷ []) ∷ [])
+    ∷ printed (
+    "0 +1 0 1\n" ∷ "0 +1 2\n" ∷ "0 +1 3\n" ∷ "0 +1 0 1 2\n" ∷ "0 +1 3\n" ∷ "0 +1 0 1 2 3\n" ∷ "0 +1 4\n" ∷ "0 +1 5\n"
+    ∷ "0 +1 6\n" ∷ "0 +1 4 5\n" ∷ "0 +1 6\n" ∷ "0 +1 4 5 6\n" ∷ "numbers 3 3 3 3 3 3 3\n" ∷ "order 6 5 4 3 2 0 1\n"
+    ∷ [])
     ∷ all-numbers (3 ∷ 3 ∷ 3 ∷ 3 ∷ 3 ∷ 3 ∷ 3 ∷ []) ∷ whole-order (6 ∷ 5 ∷ 4 ∷ 3 ∷ 2 ∷ 0 ∷ 1 ∷ [])
     ∷ shell-tree (root ∷ node 0 3 root-name ∷ []) (0 ∷ 0 ∷ 0 ∷ 0 ∷ 0 ∷ 0 ∷ 0 ∷ [])
     ∷ backbone-radios (0 ∷ 1 ∷ 2 ∷ 3 ∷ 4 ∷ 5 ∷ 6 ∷ []) ∷ connected-core 6 0 0 (0 ∷ 1 ∷ 2 ∷ 3 ∷ 4 ∷ 5 ∷ 6 ∷ [])
@@ -172,6 +229,9 @@ cliques =
     risen (0 ∷ 3 ∷ []) ∷ risen (4 ∷ []) ∷ risen (5 ∷ []) ∷ risen (1 ∷ []) ∷ risen (0 ∷ 1 ∷ 3 ∷ 4 ∷ [])
     ∷ risen (5 ∷ []) ∷ risen (2 ∷ []) ∷ risen (2 ∷ []) ∷ risen (0 ∷ 1 ∷ 2 ∷ 3 ∷ 4 ∷ 5 ∷ []) ∷ unchanged
     ∷ fallen (0 ∷ 1 ∷ 2 ∷ 3 ∷ 4 ∷ 5 ∷ []) ∷ [])
+    ∷ printed (
+    "0 +1 0 3\n" ∷ "0 +1 4\n" ∷ "0 +1 5\n" ∷ "0 +1 1\n" ∷ "0 +1 0 1 3 4\n" ∷ "0 +1 5\n" ∷ "0 +1 2\n" ∷ "0 +1 2\n"
+    ∷ "0 +1 0 1 2 3 4 5\n" ∷ "0 0\n" ∷ "0 -1 0 1 2 3 4 5\n" ∷ "numbers 2 2 2 2 2 2\n" ∷ "order 3 2 5 1 4 0\n" ∷ [])
     ∷ all-numbers (2 ∷ 2 ∷ 2 ∷ 2 ∷ 2 ∷ 2 ∷ []) ∷ whole-order (3 ∷ 2 ∷ 5 ∷ 1 ∷ 4 ∷ 0 ∷ [])
     ∷ shell-tree (root ∷ node 0 2 root-name ∷ []) (0 ∷ 0 ∷ 0 ∷ 0 ∷ 0 ∷ 0 ∷ [])
     ∷ backbone-radios (0 ∷ 1 ∷ 2 ∷ 3 ∷ 4 ∷ 5 ∷ []) ∷ connected-core 5 0 0 (0 ∷ 1 ∷ 2 ∷ 3 ∷ 4 ∷ 5 ∷ [])
@@ -186,17 +246,29 @@ joins =
     up 0 1 ∷ up 2 3 ∷ up 1 2 ∷ down 1 2 ∷ []) (
     last-answers (
     risen (0 ∷ 1 ∷ []) ∷ risen (2 ∷ 3 ∷ []) ∷ unchanged ∷ unchanged ∷ [])
+    ∷ printed (
+    "0 +1 0 1\n" ∷ "0 +1 2 3\n" ∷ "0 0\n" ∷ "0 0\n" ∷ "numbers 1 1 1 1\n" ∷ "order 3 2 0 1\n" ∷ [])
     ∷ all-numbers (1 ∷ 1 ∷ 1 ∷ 1 ∷ []) ∷ whole-order (3 ∷ 2 ∷ 0 ∷ 1 ∷ [])
     ∷ shell-tree (root ∷ node 0 1 root-name ∷ node 2 1 root-name ∷ []) (0 ∷ 0 ∷ 2 ∷ 2 ∷ [])
     ∷ backbone-radios (0 ∷ 1 ∷ 2 ∷ 3 ∷ []) ∷ connected-core 3 0 0 (2 ∷ 3 ∷ []) ∷ connected-core 0 1 0 (0 ∷ 1 ∷ [])
     ∷ connected-core 2 1 0 (2 ∷ 3 ∷ []) ∷ connected-core 0 2 8 [] ∷ connected-core 4 0 4 []
-    ∷ image-checks 1536 (34 ∷ 44 ∷ 66 ∷ []) ∷ [])
+    ∷ image-checks 1536 (34 ∷ 44 ∷ 66 ∷ []) ∷ soundness [] (1 ∷ 1 ∷ 1 ∷ 1 ∷ []) (3 ∷ 2 ∷ 0 ∷ 1 ∷ []) true
+    ∷ soundness [] (2 ∷ 1 ∷ 1 ∷ 1 ∷ []) (3 ∷ 2 ∷ 0 ∷ 1 ∷ []) false
+    ∷ soundness [] (1 ∷ 1 ∷ 1 ∷ 0 ∷ []) (3 ∷ 2 ∷ 0 ∷ 1 ∷ []) false
+    ∷ soundness [] (1 ∷ 1 ∷ 1 ∷ 1 ∷ []) (1 ∷ 0 ∷ 2 ∷ 3 ∷ []) true
+    ∷ soundness [] (1 ∷ 1 ∷ 1 ∷ 1 ∷ []) (3 ∷ 2 ∷ 0 ∷ 3 ∷ []) false
+    ∷ soundness (put 0 10 ∷ []) (1 ∷ 1 ∷ 1 ∷ 1 ∷ []) (3 ∷ 2 ∷ 0 ∷ 1 ∷ []) false
+    ∷ soundness (put 0 3 ∷ []) (1 ∷ 1 ∷ 1 ∷ 1 ∷ []) (3 ∷ 2 ∷ 0 ∷ 1 ∷ []) false
+    ∷ soundness (put 192 20 ∷ []) (1 ∷ 1 ∷ 1 ∷ 1 ∷ []) (3 ∷ 2 ∷ 0 ∷ 1 ∷ []) false ∷ [])
     -- two triangles join by one link, by two, by three
     ∷ row 6 (
     up 0 1 ∷ up 1 2 ∷ up 0 2 ∷ up 3 4 ∷ up 4 5 ∷ up 3 5 ∷ up 0 3 ∷ up 1 4 ∷ up 2 5 ∷ []) (
     last-answers (
     risen (0 ∷ 1 ∷ []) ∷ risen (2 ∷ []) ∷ risen (0 ∷ 1 ∷ 2 ∷ []) ∷ risen (3 ∷ 4 ∷ []) ∷ risen (5 ∷ [])
     ∷ risen (3 ∷ 4 ∷ 5 ∷ []) ∷ unchanged ∷ unchanged ∷ risen (0 ∷ 1 ∷ 2 ∷ 3 ∷ 4 ∷ 5 ∷ []) ∷ [])
+    ∷ printed (
+    "0 +1 0 1\n" ∷ "0 +1 2\n" ∷ "0 +1 0 1 2\n" ∷ "0 +1 3 4\n" ∷ "0 +1 5\n" ∷ "0 +1 3 4 5\n" ∷ "0 0\n" ∷ "0 0\n"
+    ∷ "0 +1 0 1 2 3 4 5\n" ∷ "numbers 3 3 3 3 3 3\n" ∷ "order 5 3 4 2 0 1\n" ∷ [])
     ∷ all-numbers (3 ∷ 3 ∷ 3 ∷ 3 ∷ 3 ∷ 3 ∷ []) ∷ whole-order (5 ∷ 3 ∷ 4 ∷ 2 ∷ 0 ∷ 1 ∷ [])
     ∷ shell-tree (root ∷ node 0 3 root-name ∷ []) (0 ∷ 0 ∷ 0 ∷ 0 ∷ 0 ∷ 0 ∷ [])
     ∷ backbone-radios (0 ∷ 1 ∷ 2 ∷ 3 ∷ 4 ∷ 5 ∷ []) ∷ connected-core 5 0 0 (0 ∷ 1 ∷ 2 ∷ 3 ∷ 4 ∷ 5 ∷ [])
@@ -208,6 +280,9 @@ joins =
     last-answers (
     risen (0 ∷ 1 ∷ []) ∷ risen (2 ∷ []) ∷ risen (0 ∷ 1 ∷ 2 ∷ []) ∷ risen (4 ∷ 5 ∷ []) ∷ risen (6 ∷ [])
     ∷ risen (4 ∷ 5 ∷ 6 ∷ []) ∷ risen (3 ∷ []) ∷ risen (3 ∷ []) ∷ fallen (3 ∷ []) ∷ fallen (3 ∷ []) ∷ [])
+    ∷ printed (
+    "0 +1 0 1\n" ∷ "0 +1 2\n" ∷ "0 +1 0 1 2\n" ∷ "0 +1 4 5\n" ∷ "0 +1 6\n" ∷ "0 +1 4 5 6\n" ∷ "0 +1 3\n" ∷ "0 +1 3\n"
+    ∷ "0 -1 3\n" ∷ "0 -1 3\n" ∷ "numbers 2 2 2 0 2 2 2\n" ∷ "order 3 6 4 5 2 0 1\n" ∷ [])
     ∷ all-numbers (2 ∷ 2 ∷ 2 ∷ 0 ∷ 2 ∷ 2 ∷ 2 ∷ []) ∷ whole-order (3 ∷ 6 ∷ 4 ∷ 5 ∷ 2 ∷ 0 ∷ 1 ∷ [])
     ∷ shell-tree (root ∷ node 0 2 root-name ∷ node 4 2 root-name ∷ []) (0 ∷ 0 ∷ 0 ∷ root-name ∷ 4 ∷ 4 ∷ 4 ∷ [])
     ∷ backbone-radios (0 ∷ 1 ∷ 2 ∷ 4 ∷ 5 ∷ 6 ∷ []) ∷ connected-core 6 0 0 (4 ∷ 5 ∷ 6 ∷ [])
@@ -221,13 +296,9 @@ joins =
     ∷ risen (3 ∷ []) ∷ risen (0 ∷ 1 ∷ 2 ∷ []) ∷ risen (3 ∷ []) ∷ risen (0 ∷ 1 ∷ 2 ∷ 3 ∷ []) ∷ unchanged
     ∷ risen (4 ∷ []) ∷ risen (4 ∷ []) ∷ [])
     ∷ printed (
-    48 ∷ 32 ∷ 43 ∷ 49 ∷ 32 ∷ 53 ∷ 32 ∷ 54 ∷ 10 ∷ 48 ∷ 32 ∷ 43 ∷ 49 ∷ 32 ∷ 55 ∷ 10 ∷ 48 ∷ 32 ∷ 43 ∷ 49 ∷ 32 ∷ 53 ∷ 32
-    ∷ 54 ∷ 32 ∷ 55 ∷ 10 ∷ 48 ∷ 32 ∷ 43 ∷ 49 ∷ 32 ∷ 48 ∷ 32 ∷ 49 ∷ 10 ∷ 48 ∷ 32 ∷ 43 ∷ 49 ∷ 32 ∷ 50 ∷ 10 ∷ 48 ∷ 32 ∷ 43
-    ∷ 49 ∷ 32 ∷ 51 ∷ 10 ∷ 48 ∷ 32 ∷ 43 ∷ 49 ∷ 32 ∷ 48 ∷ 32 ∷ 49 ∷ 32 ∷ 50 ∷ 10 ∷ 48 ∷ 32 ∷ 43 ∷ 49 ∷ 32 ∷ 51 ∷ 10 ∷ 48
-    ∷ 32 ∷ 43 ∷ 49 ∷ 32 ∷ 48 ∷ 32 ∷ 49 ∷ 32 ∷ 50 ∷ 32 ∷ 51 ∷ 10 ∷ 48 ∷ 32 ∷ 48 ∷ 10 ∷ 48 ∷ 32 ∷ 43 ∷ 49 ∷ 32 ∷ 52 ∷ 10
-    ∷ 48 ∷ 32 ∷ 43 ∷ 49 ∷ 32 ∷ 52 ∷ 10 ∷ 110 ∷ 117 ∷ 109 ∷ 98 ∷ 101 ∷ 114 ∷ 115 ∷ 32 ∷ 51 ∷ 32 ∷ 51 ∷ 32 ∷ 51 ∷ 32
-    ∷ 51 ∷ 32 ∷ 50 ∷ 32 ∷ 50 ∷ 32 ∷ 50 ∷ 32 ∷ 50 ∷ 10 ∷ 111 ∷ 114 ∷ 100 ∷ 101 ∷ 114 ∷ 32 ∷ 52 ∷ 32 ∷ 55 ∷ 32 ∷ 53 ∷ 32
-    ∷ 54 ∷ 32 ∷ 51 ∷ 32 ∷ 50 ∷ 32 ∷ 48 ∷ 32 ∷ 49 ∷ 10 ∷ [])
+    "0 +1 5 6\n" ∷ "0 +1 7\n" ∷ "0 +1 5 6 7\n" ∷ "0 +1 0 1\n" ∷ "0 +1 2\n" ∷ "0 +1 3\n" ∷ "0 +1 0 1 2\n" ∷ "0 +1 3\n"
+    ∷ "0 +1 0 1 2 3\n" ∷ "0 0\n" ∷ "0 +1 4\n" ∷ "0 +1 4\n" ∷ "numbers 3 3 3 3 2 2 2 2\n" ∷ "order 4 7 5 6 3 2 0 1\n"
+    ∷ [])
     ∷ all-numbers (3 ∷ 3 ∷ 3 ∷ 3 ∷ 2 ∷ 2 ∷ 2 ∷ 2 ∷ []) ∷ whole-order (4 ∷ 7 ∷ 5 ∷ 6 ∷ 3 ∷ 2 ∷ 0 ∷ 1 ∷ [])
     ∷ shell-tree (root ∷ node 4 2 root-name ∷ node 0 3 4 ∷ []) (0 ∷ 0 ∷ 0 ∷ 0 ∷ 4 ∷ 4 ∷ 4 ∷ 4 ∷ [])
     ∷ backbone-radios (0 ∷ 1 ∷ 2 ∷ 3 ∷ []) ∷ connected-core 7 0 0 (0 ∷ 1 ∷ 2 ∷ 3 ∷ 4 ∷ 5 ∷ 6 ∷ 7 ∷ [])
@@ -239,6 +310,9 @@ joins =
     last-answers (
     risen (0 ∷ 1 ∷ []) ∷ risen (2 ∷ 3 ∷ []) ∷ risen (4 ∷ 5 ∷ []) ∷ unchanged ∷ unchanged
     ∷ risen (0 ∷ 1 ∷ 2 ∷ 3 ∷ 4 ∷ 5 ∷ []) ∷ [])
+    ∷ printed (
+    "0 +1 0 1\n" ∷ "0 +1 2 3\n" ∷ "0 +1 4 5\n" ∷ "0 0\n" ∷ "0 0\n" ∷ "0 +1 0 1 2 3 4 5\n" ∷ "numbers 2 2 2 2 2 2\n"
+    ∷ "order 5 4 3 2 0 1\n" ∷ [])
     ∷ all-numbers (2 ∷ 2 ∷ 2 ∷ 2 ∷ 2 ∷ 2 ∷ []) ∷ whole-order (5 ∷ 4 ∷ 3 ∷ 2 ∷ 0 ∷ 1 ∷ [])
     ∷ shell-tree (root ∷ node 0 2 root-name ∷ []) (0 ∷ 0 ∷ 0 ∷ 0 ∷ 0 ∷ 0 ∷ [])
     ∷ backbone-radios (0 ∷ 1 ∷ 2 ∷ 3 ∷ 4 ∷ 5 ∷ []) ∷ connected-core 5 0 0 (0 ∷ 1 ∷ 2 ∷ 3 ∷ 4 ∷ 5 ∷ [])
@@ -254,6 +328,9 @@ rises =
     last-answers (
     risen (0 ∷ 1 ∷ []) ∷ risen (2 ∷ []) ∷ risen (0 ∷ 1 ∷ 2 ∷ []) ∷ risen (3 ∷ []) ∷ risen (4 ∷ [])
     ∷ risen (3 ∷ 4 ∷ []) ∷ [])
+    ∷ printed (
+    "0 +1 0 1\n" ∷ "0 +1 2\n" ∷ "0 +1 0 1 2\n" ∷ "0 +1 3\n" ∷ "0 +1 4\n" ∷ "0 +1 3 4\n" ∷ "numbers 2 2 2 2 2\n"
+    ∷ "order 4 3 2 0 1\n" ∷ [])
     ∷ all-numbers (2 ∷ 2 ∷ 2 ∷ 2 ∷ 2 ∷ []) ∷ whole-order (4 ∷ 3 ∷ 2 ∷ 0 ∷ 1 ∷ [])
     ∷ shell-tree (root ∷ node 0 2 root-name ∷ []) (0 ∷ 0 ∷ 0 ∷ 0 ∷ 0 ∷ []) ∷ backbone-radios (0 ∷ 1 ∷ 2 ∷ 3 ∷ 4 ∷ [])
     ∷ connected-core 4 0 0 (0 ∷ 1 ∷ 2 ∷ 3 ∷ 4 ∷ []) ∷ connected-core 0 2 0 (0 ∷ 1 ∷ 2 ∷ 3 ∷ 4 ∷ [])
@@ -265,6 +342,9 @@ rises =
     last-answers (
     risen (0 ∷ 1 ∷ []) ∷ risen (2 ∷ []) ∷ risen (0 ∷ 1 ∷ 2 ∷ []) ∷ risen (3 ∷ []) ∷ risen (4 ∷ []) ∷ risen (5 ∷ [])
     ∷ risen (6 ∷ []) ∷ risen (3 ∷ 4 ∷ 5 ∷ 6 ∷ []) ∷ [])
+    ∷ printed (
+    "0 +1 0 1\n" ∷ "0 +1 2\n" ∷ "0 +1 0 1 2\n" ∷ "0 +1 3\n" ∷ "0 +1 4\n" ∷ "0 +1 5\n" ∷ "0 +1 6\n" ∷ "0 +1 3 4 5 6\n"
+    ∷ "numbers 2 2 2 2 2 2 2\n" ∷ "order 6 5 4 3 2 0 1\n" ∷ [])
     ∷ all-numbers (2 ∷ 2 ∷ 2 ∷ 2 ∷ 2 ∷ 2 ∷ 2 ∷ []) ∷ whole-order (6 ∷ 5 ∷ 4 ∷ 3 ∷ 2 ∷ 0 ∷ 1 ∷ [])
     ∷ shell-tree (root ∷ node 0 2 root-name ∷ []) (0 ∷ 0 ∷ 0 ∷ 0 ∷ 0 ∷ 0 ∷ 0 ∷ [])
     ∷ backbone-radios (0 ∷ 1 ∷ 2 ∷ 3 ∷ 4 ∷ 5 ∷ 6 ∷ []) ∷ connected-core 6 0 0 (0 ∷ 1 ∷ 2 ∷ 3 ∷ 4 ∷ 5 ∷ 6 ∷ [])
@@ -277,6 +357,9 @@ rises =
     risen (0 ∷ 1 ∷ []) ∷ risen (2 ∷ []) ∷ risen (3 ∷ []) ∷ risen (0 ∷ 1 ∷ 2 ∷ []) ∷ risen (3 ∷ [])
     ∷ risen (0 ∷ 1 ∷ 2 ∷ 3 ∷ []) ∷ risen (4 ∷ []) ∷ risen (4 ∷ []) ∷ risen (5 ∷ []) ∷ risen (5 ∷ [])
     ∷ risen (4 ∷ 5 ∷ []) ∷ [])
+    ∷ printed (
+    "0 +1 0 1\n" ∷ "0 +1 2\n" ∷ "0 +1 3\n" ∷ "0 +1 0 1 2\n" ∷ "0 +1 3\n" ∷ "0 +1 0 1 2 3\n" ∷ "0 +1 4\n" ∷ "0 +1 4\n"
+    ∷ "0 +1 5\n" ∷ "0 +1 5\n" ∷ "0 +1 4 5\n" ∷ "numbers 3 3 3 3 3 3\n" ∷ "order 5 4 3 2 0 1\n" ∷ [])
     ∷ all-numbers (3 ∷ 3 ∷ 3 ∷ 3 ∷ 3 ∷ 3 ∷ []) ∷ whole-order (5 ∷ 4 ∷ 3 ∷ 2 ∷ 0 ∷ 1 ∷ [])
     ∷ shell-tree (root ∷ node 0 3 root-name ∷ []) (0 ∷ 0 ∷ 0 ∷ 0 ∷ 0 ∷ 0 ∷ [])
     ∷ backbone-radios (0 ∷ 1 ∷ 2 ∷ 3 ∷ 4 ∷ 5 ∷ []) ∷ connected-core 5 0 0 (0 ∷ 1 ∷ 2 ∷ 3 ∷ 4 ∷ 5 ∷ [])
@@ -289,11 +372,8 @@ rises =
     risen (0 ∷ 1 ∷ []) ∷ risen (2 ∷ []) ∷ risen (3 ∷ []) ∷ risen (4 ∷ []) ∷ risen (5 ∷ []) ∷ risen (6 ∷ [])
     ∷ risen (7 ∷ []) ∷ risen (5 ∷ 6 ∷ 7 ∷ []) ∷ [])
     ∷ printed (
-    48 ∷ 32 ∷ 43 ∷ 49 ∷ 32 ∷ 48 ∷ 32 ∷ 49 ∷ 10 ∷ 48 ∷ 32 ∷ 43 ∷ 49 ∷ 32 ∷ 50 ∷ 10 ∷ 48 ∷ 32 ∷ 43 ∷ 49 ∷ 32 ∷ 51 ∷ 10
-    ∷ 48 ∷ 32 ∷ 43 ∷ 49 ∷ 32 ∷ 52 ∷ 10 ∷ 48 ∷ 32 ∷ 43 ∷ 49 ∷ 32 ∷ 53 ∷ 10 ∷ 48 ∷ 32 ∷ 43 ∷ 49 ∷ 32 ∷ 54 ∷ 10 ∷ 48 ∷ 32
-    ∷ 43 ∷ 49 ∷ 32 ∷ 55 ∷ 10 ∷ 48 ∷ 32 ∷ 43 ∷ 49 ∷ 32 ∷ 53 ∷ 32 ∷ 54 ∷ 32 ∷ 55 ∷ 10 ∷ 110 ∷ 117 ∷ 109 ∷ 98 ∷ 101 ∷ 114
-    ∷ 115 ∷ 32 ∷ 49 ∷ 32 ∷ 49 ∷ 32 ∷ 49 ∷ 32 ∷ 49 ∷ 32 ∷ 49 ∷ 32 ∷ 50 ∷ 32 ∷ 50 ∷ 32 ∷ 50 ∷ 10 ∷ 111 ∷ 114 ∷ 100 ∷ 101
-    ∷ 114 ∷ 32 ∷ 48 ∷ 32 ∷ 49 ∷ 32 ∷ 50 ∷ 32 ∷ 51 ∷ 32 ∷ 52 ∷ 32 ∷ 55 ∷ 32 ∷ 54 ∷ 32 ∷ 53 ∷ 10 ∷ [])
+    "0 +1 0 1\n" ∷ "0 +1 2\n" ∷ "0 +1 3\n" ∷ "0 +1 4\n" ∷ "0 +1 5\n" ∷ "0 +1 6\n" ∷ "0 +1 7\n" ∷ "0 +1 5 6 7\n"
+    ∷ "numbers 1 1 1 1 1 2 2 2\n" ∷ "order 0 1 2 3 4 7 6 5\n" ∷ [])
     ∷ all-numbers (1 ∷ 1 ∷ 1 ∷ 1 ∷ 1 ∷ 2 ∷ 2 ∷ 2 ∷ []) ∷ whole-order (0 ∷ 1 ∷ 2 ∷ 3 ∷ 4 ∷ 7 ∷ 6 ∷ 5 ∷ [])
     ∷ shell-tree (root ∷ node 0 1 root-name ∷ node 5 2 0 ∷ []) (0 ∷ 0 ∷ 0 ∷ 0 ∷ 0 ∷ 5 ∷ 5 ∷ 5 ∷ [])
     ∷ backbone-radios (5 ∷ 6 ∷ 7 ∷ []) ∷ connected-core 7 0 0 (0 ∷ 1 ∷ 2 ∷ 3 ∷ 4 ∷ 5 ∷ 6 ∷ 7 ∷ [])
@@ -305,6 +385,9 @@ rises =
     last-answers (
     risen (1 ∷ 3 ∷ []) ∷ risen (4 ∷ []) ∷ risen (0 ∷ []) ∷ risen (5 ∷ []) ∷ risen (2 ∷ []) ∷ risen (6 ∷ [])
     ∷ risen (7 ∷ []) ∷ risen (0 ∷ 1 ∷ 2 ∷ 3 ∷ 4 ∷ 5 ∷ 6 ∷ 7 ∷ []) ∷ [])
+    ∷ printed (
+    "0 +1 1 3\n" ∷ "0 +1 4\n" ∷ "0 +1 0\n" ∷ "0 +1 5\n" ∷ "0 +1 2\n" ∷ "0 +1 6\n" ∷ "0 +1 7\n"
+    ∷ "0 +1 0 1 2 3 4 5 6 7\n" ∷ "numbers 2 2 2 2 2 2 2 2\n" ∷ "order 7 6 2 5 0 4 1 3\n" ∷ [])
     ∷ all-numbers (2 ∷ 2 ∷ 2 ∷ 2 ∷ 2 ∷ 2 ∷ 2 ∷ 2 ∷ []) ∷ whole-order (7 ∷ 6 ∷ 2 ∷ 5 ∷ 0 ∷ 4 ∷ 1 ∷ 3 ∷ [])
     ∷ shell-tree (root ∷ node 0 2 root-name ∷ []) (0 ∷ 0 ∷ 0 ∷ 0 ∷ 0 ∷ 0 ∷ 0 ∷ 0 ∷ [])
     ∷ backbone-radios (0 ∷ 1 ∷ 2 ∷ 3 ∷ 4 ∷ 5 ∷ 6 ∷ 7 ∷ []) ∷ connected-core 7 0 0 (0 ∷ 1 ∷ 2 ∷ 3 ∷ 4 ∷ 5 ∷ 6 ∷ 7 ∷ [])
@@ -317,6 +400,9 @@ rises =
     last-answers (
     risen (0 ∷ 1 ∷ []) ∷ risen (2 ∷ []) ∷ risen (3 ∷ []) ∷ risen (0 ∷ 1 ∷ 2 ∷ []) ∷ risen (3 ∷ [])
     ∷ risen (0 ∷ 1 ∷ 2 ∷ 3 ∷ []) ∷ risen (4 ∷ 5 ∷ []) ∷ unchanged ∷ risen (4 ∷ 5 ∷ []) ∷ [])
+    ∷ printed (
+    "0 +1 0 1\n" ∷ "0 +1 2\n" ∷ "0 +1 3\n" ∷ "0 +1 0 1 2\n" ∷ "0 +1 3\n" ∷ "0 +1 0 1 2 3\n" ∷ "0 +1 4 5\n" ∷ "0 0\n"
+    ∷ "0 +1 4 5\n" ∷ "numbers 3 3 3 3 2 2\n" ∷ "order 5 4 3 2 0 1\n" ∷ [])
     ∷ all-numbers (3 ∷ 3 ∷ 3 ∷ 3 ∷ 2 ∷ 2 ∷ []) ∷ whole-order (5 ∷ 4 ∷ 3 ∷ 2 ∷ 0 ∷ 1 ∷ [])
     ∷ shell-tree (root ∷ node 4 2 root-name ∷ node 0 3 4 ∷ []) (0 ∷ 0 ∷ 0 ∷ 0 ∷ 4 ∷ 4 ∷ [])
     ∷ backbone-radios (0 ∷ 1 ∷ 2 ∷ 3 ∷ []) ∷ connected-core 5 0 0 (0 ∷ 1 ∷ 2 ∷ 3 ∷ 4 ∷ 5 ∷ [])
@@ -327,6 +413,9 @@ rises =
     up 0 1 ∷ up 2 3 ∷ up 4 5 ∷ up 1 4 ∷ up 0 3 ∷ []) (
     last-answers (
     risen (0 ∷ 1 ∷ []) ∷ risen (2 ∷ 3 ∷ []) ∷ risen (4 ∷ 5 ∷ []) ∷ unchanged ∷ unchanged ∷ [])
+    ∷ printed (
+    "0 +1 0 1\n" ∷ "0 +1 2 3\n" ∷ "0 +1 4 5\n" ∷ "0 0\n" ∷ "0 0\n" ∷ "numbers 1 1 1 1 1 1\n" ∷ "order 5 4 2 3 0 1\n"
+    ∷ [])
     ∷ all-numbers (1 ∷ 1 ∷ 1 ∷ 1 ∷ 1 ∷ 1 ∷ []) ∷ whole-order (5 ∷ 4 ∷ 2 ∷ 3 ∷ 0 ∷ 1 ∷ [])
     ∷ shell-tree (root ∷ node 0 1 root-name ∷ []) (0 ∷ 0 ∷ 0 ∷ 0 ∷ 0 ∷ 0 ∷ [])
     ∷ backbone-radios (0 ∷ 1 ∷ 2 ∷ 3 ∷ 4 ∷ 5 ∷ []) ∷ connected-core 5 0 0 (0 ∷ 1 ∷ 2 ∷ 3 ∷ 4 ∷ 5 ∷ [])
@@ -342,6 +431,10 @@ falls =
     last-answers (
     risen (0 ∷ 1 ∷ []) ∷ risen (2 ∷ []) ∷ risen (3 ∷ []) ∷ risen (4 ∷ []) ∷ risen (5 ∷ []) ∷ risen (6 ∷ [])
     ∷ risen (7 ∷ []) ∷ risen (0 ∷ 1 ∷ 2 ∷ 3 ∷ 4 ∷ 5 ∷ 6 ∷ 7 ∷ []) ∷ fallen (0 ∷ 1 ∷ 2 ∷ 3 ∷ 4 ∷ 5 ∷ 6 ∷ 7 ∷ []) ∷ [])
+    ∷ printed (
+    "0 +1 0 1\n" ∷ "0 +1 2\n" ∷ "0 +1 3\n" ∷ "0 +1 4\n" ∷ "0 +1 5\n" ∷ "0 +1 6\n" ∷ "0 +1 7\n"
+    ∷ "0 +1 0 1 2 3 4 5 6 7\n" ∷ "0 -1 0 1 2 3 4 5 6 7\n" ∷ "numbers 1 1 1 1 1 1 1 1\n" ∷ "order 4 5 6 7 3 2 0 1\n"
+    ∷ [])
     ∷ all-numbers (1 ∷ 1 ∷ 1 ∷ 1 ∷ 1 ∷ 1 ∷ 1 ∷ 1 ∷ []) ∷ whole-order (4 ∷ 5 ∷ 6 ∷ 7 ∷ 3 ∷ 2 ∷ 0 ∷ 1 ∷ [])
     ∷ shell-tree (root ∷ node 0 1 root-name ∷ []) (0 ∷ 0 ∷ 0 ∷ 0 ∷ 0 ∷ 0 ∷ 0 ∷ 0 ∷ [])
     ∷ backbone-radios (0 ∷ 1 ∷ 2 ∷ 3 ∷ 4 ∷ 5 ∷ 6 ∷ 7 ∷ []) ∷ connected-core 7 0 0 (0 ∷ 1 ∷ 2 ∷ 3 ∷ 4 ∷ 5 ∷ 6 ∷ 7 ∷ [])
@@ -354,6 +447,9 @@ falls =
     last-answers (
     risen (0 ∷ 1 ∷ []) ∷ risen (2 ∷ []) ∷ risen (3 ∷ []) ∷ risen (4 ∷ []) ∷ fallen (0 ∷ []) ∷ fallen (1 ∷ [])
     ∷ fallen (2 ∷ []) ∷ fallen (3 ∷ 4 ∷ []) ∷ [])
+    ∷ printed (
+    "0 +1 0 1\n" ∷ "0 +1 2\n" ∷ "0 +1 3\n" ∷ "0 +1 4\n" ∷ "0 -1 0\n" ∷ "0 -1 1\n" ∷ "0 -1 2\n" ∷ "0 -1 3 4\n"
+    ∷ "numbers 0 0 0 0 0\n" ∷ "order 0 1 2 4 3\n" ∷ [])
     ∷ all-numbers (0 ∷ 0 ∷ 0 ∷ 0 ∷ 0 ∷ []) ∷ whole-order (0 ∷ 1 ∷ 2 ∷ 4 ∷ 3 ∷ [])
     ∷ shell-tree (root ∷ []) (root-name ∷ root-name ∷ root-name ∷ root-name ∷ root-name ∷ []) ∷ backbone-radios []
     ∷ connected-core 4 0 0 (4 ∷ []) ∷ connected-core 0 0 0 (0 ∷ []) ∷ connected-core 2 1 8 []
@@ -364,6 +460,9 @@ falls =
     last-answers (
     risen (2 ∷ 4 ∷ []) ∷ risen (0 ∷ []) ∷ risen (1 ∷ []) ∷ risen (3 ∷ []) ∷ fallen (3 ∷ []) ∷ fallen (1 ∷ [])
     ∷ fallen (0 ∷ []) ∷ fallen (2 ∷ 4 ∷ []) ∷ [])
+    ∷ printed (
+    "0 +1 2 4\n" ∷ "0 +1 0\n" ∷ "0 +1 1\n" ∷ "0 +1 3\n" ∷ "0 -1 3\n" ∷ "0 -1 1\n" ∷ "0 -1 0\n" ∷ "0 -1 2 4\n"
+    ∷ "numbers 0 0 0 0 0\n" ∷ "order 3 1 0 2 4\n" ∷ [])
     ∷ all-numbers (0 ∷ 0 ∷ 0 ∷ 0 ∷ 0 ∷ []) ∷ whole-order (3 ∷ 1 ∷ 0 ∷ 2 ∷ 4 ∷ [])
     ∷ shell-tree (root ∷ []) (root-name ∷ root-name ∷ root-name ∷ root-name ∷ root-name ∷ []) ∷ backbone-radios []
     ∷ connected-core 4 0 0 (4 ∷ []) ∷ connected-core 0 0 0 (0 ∷ []) ∷ connected-core 2 1 8 []
@@ -377,14 +476,9 @@ falls =
     ∷ risen (1 ∷ 2 ∷ 3 ∷ 4 ∷ 5 ∷ 6 ∷ []) ∷ risen (0 ∷ []) ∷ risen (0 ∷ []) ∷ unchanged ∷ unchanged ∷ unchanged
     ∷ risen (0 ∷ 1 ∷ 2 ∷ 3 ∷ 4 ∷ 5 ∷ 6 ∷ []) ∷ fallen (0 ∷ 1 ∷ 2 ∷ 3 ∷ 4 ∷ 5 ∷ 6 ∷ []) ∷ unchanged ∷ [])
     ∷ printed (
-    48 ∷ 32 ∷ 43 ∷ 49 ∷ 32 ∷ 49 ∷ 32 ∷ 50 ∷ 10 ∷ 48 ∷ 32 ∷ 43 ∷ 49 ∷ 32 ∷ 51 ∷ 10 ∷ 48 ∷ 32 ∷ 43 ∷ 49 ∷ 32 ∷ 52 ∷ 10
-    ∷ 48 ∷ 32 ∷ 43 ∷ 49 ∷ 32 ∷ 53 ∷ 10 ∷ 48 ∷ 32 ∷ 43 ∷ 49 ∷ 32 ∷ 54 ∷ 10 ∷ 48 ∷ 32 ∷ 43 ∷ 49 ∷ 32 ∷ 49 ∷ 32 ∷ 50 ∷ 32
-    ∷ 51 ∷ 32 ∷ 52 ∷ 32 ∷ 53 ∷ 32 ∷ 54 ∷ 10 ∷ 48 ∷ 32 ∷ 43 ∷ 49 ∷ 32 ∷ 48 ∷ 10 ∷ 48 ∷ 32 ∷ 43 ∷ 49 ∷ 32 ∷ 48 ∷ 10 ∷ 48
-    ∷ 32 ∷ 48 ∷ 10 ∷ 48 ∷ 32 ∷ 48 ∷ 10 ∷ 48 ∷ 32 ∷ 48 ∷ 10 ∷ 48 ∷ 32 ∷ 43 ∷ 49 ∷ 32 ∷ 48 ∷ 32 ∷ 49 ∷ 32 ∷ 50 ∷ 32 ∷ 51
-    ∷ 32 ∷ 52 ∷ 32 ∷ 53 ∷ 32 ∷ 54 ∷ 10 ∷ 48 ∷ 32 ∷ 45 ∷ 49 ∷ 32 ∷ 48 ∷ 32 ∷ 49 ∷ 32 ∷ 50 ∷ 32 ∷ 51 ∷ 32 ∷ 52 ∷ 32 ∷ 53
-    ∷ 32 ∷ 54 ∷ 10 ∷ 48 ∷ 32 ∷ 48 ∷ 10 ∷ 110 ∷ 117 ∷ 109 ∷ 98 ∷ 101 ∷ 114 ∷ 115 ∷ 32 ∷ 50 ∷ 32 ∷ 50 ∷ 32 ∷ 50 ∷ 32
-    ∷ 50 ∷ 32 ∷ 50 ∷ 32 ∷ 50 ∷ 32 ∷ 50 ∷ 10 ∷ 111 ∷ 114 ∷ 100 ∷ 101 ∷ 114 ∷ 32 ∷ 51 ∷ 32 ∷ 52 ∷ 32 ∷ 53 ∷ 32 ∷ 54 ∷ 32
-    ∷ 48 ∷ 32 ∷ 49 ∷ 32 ∷ 50 ∷ 10 ∷ [])
+    "0 +1 1 2\n" ∷ "0 +1 3\n" ∷ "0 +1 4\n" ∷ "0 +1 5\n" ∷ "0 +1 6\n" ∷ "0 +1 1 2 3 4 5 6\n" ∷ "0 +1 0\n" ∷ "0 +1 0\n"
+    ∷ "0 0\n" ∷ "0 0\n" ∷ "0 0\n" ∷ "0 +1 0 1 2 3 4 5 6\n" ∷ "0 -1 0 1 2 3 4 5 6\n" ∷ "0 0\n"
+    ∷ "numbers 2 2 2 2 2 2 2\n" ∷ "order 3 4 5 6 0 1 2\n" ∷ [])
     ∷ all-numbers (2 ∷ 2 ∷ 2 ∷ 2 ∷ 2 ∷ 2 ∷ 2 ∷ []) ∷ whole-order (3 ∷ 4 ∷ 5 ∷ 6 ∷ 0 ∷ 1 ∷ 2 ∷ [])
     ∷ shell-tree (root ∷ node 0 2 root-name ∷ []) (0 ∷ 0 ∷ 0 ∷ 0 ∷ 0 ∷ 0 ∷ 0 ∷ [])
     ∷ backbone-radios (0 ∷ 1 ∷ 2 ∷ 3 ∷ 4 ∷ 5 ∷ 6 ∷ []) ∷ connected-core 6 0 0 (0 ∷ 1 ∷ 2 ∷ 3 ∷ 4 ∷ 5 ∷ 6 ∷ [])
@@ -396,6 +490,9 @@ falls =
     last-answers (
     risen (0 ∷ 5 ∷ []) ∷ risen (1 ∷ []) ∷ risen (2 ∷ []) ∷ risen (3 ∷ []) ∷ risen (4 ∷ []) ∷ fallen (0 ∷ [])
     ∷ fallen (1 ∷ []) ∷ fallen (2 ∷ []) ∷ fallen (3 ∷ []) ∷ fallen (4 ∷ 5 ∷ []) ∷ [])
+    ∷ printed (
+    "0 +1 0 5\n" ∷ "0 +1 1\n" ∷ "0 +1 2\n" ∷ "0 +1 3\n" ∷ "0 +1 4\n" ∷ "0 -1 0\n" ∷ "0 -1 1\n" ∷ "0 -1 2\n"
+    ∷ "0 -1 3\n" ∷ "0 -1 4 5\n" ∷ "numbers 0 0 0 0 0 0\n" ∷ "order 0 1 2 3 4 5\n" ∷ [])
     ∷ all-numbers (0 ∷ 0 ∷ 0 ∷ 0 ∷ 0 ∷ 0 ∷ []) ∷ whole-order (0 ∷ 1 ∷ 2 ∷ 3 ∷ 4 ∷ 5 ∷ [])
     ∷ shell-tree (root ∷ []) (root-name ∷ root-name ∷ root-name ∷ root-name ∷ root-name ∷ root-name ∷ [])
     ∷ backbone-radios [] ∷ connected-core 5 0 0 (5 ∷ []) ∷ connected-core 0 0 0 (0 ∷ []) ∷ connected-core 3 1 8 []
@@ -406,6 +503,9 @@ falls =
     last-answers (
     risen (3 ∷ 4 ∷ []) ∷ risen (5 ∷ []) ∷ risen (3 ∷ 4 ∷ 5 ∷ []) ∷ risen (0 ∷ 1 ∷ []) ∷ risen (2 ∷ []) ∷ unchanged
     ∷ fallen (3 ∷ 4 ∷ 5 ∷ []) ∷ [])
+    ∷ printed (
+    "0 +1 3 4\n" ∷ "0 +1 5\n" ∷ "0 +1 3 4 5\n" ∷ "0 +1 0 1\n" ∷ "0 +1 2\n" ∷ "0 0\n" ∷ "0 -1 3 4 5\n"
+    ∷ "numbers 1 1 1 1 1 1\n" ∷ "order 0 1 2 5 3 4\n" ∷ [])
     ∷ all-numbers (1 ∷ 1 ∷ 1 ∷ 1 ∷ 1 ∷ 1 ∷ []) ∷ whole-order (0 ∷ 1 ∷ 2 ∷ 5 ∷ 3 ∷ 4 ∷ [])
     ∷ shell-tree (root ∷ node 0 1 root-name ∷ []) (0 ∷ 0 ∷ 0 ∷ 0 ∷ 0 ∷ 0 ∷ [])
     ∷ backbone-radios (0 ∷ 1 ∷ 2 ∷ 3 ∷ 4 ∷ 5 ∷ []) ∷ connected-core 5 0 0 (0 ∷ 1 ∷ 2 ∷ 3 ∷ 4 ∷ 5 ∷ [])
@@ -417,6 +517,9 @@ falls =
     last-answers (
     risen (0 ∷ 1 ∷ []) ∷ risen (2 ∷ []) ∷ risen (0 ∷ 1 ∷ 2 ∷ []) ∷ risen (3 ∷ 4 ∷ []) ∷ risen (5 ∷ [])
     ∷ risen (3 ∷ 4 ∷ 5 ∷ []) ∷ fallen (3 ∷ 4 ∷ 5 ∷ []) ∷ [])
+    ∷ printed (
+    "0 +1 0 1\n" ∷ "0 +1 2\n" ∷ "0 +1 0 1 2\n" ∷ "0 +1 3 4\n" ∷ "0 +1 5\n" ∷ "0 +1 3 4 5\n" ∷ "0 -1 3 4 5\n"
+    ∷ "numbers 2 2 2 1 1 1\n" ∷ "order 5 3 4 2 0 1\n" ∷ [])
     ∷ all-numbers (2 ∷ 2 ∷ 2 ∷ 1 ∷ 1 ∷ 1 ∷ []) ∷ whole-order (5 ∷ 3 ∷ 4 ∷ 2 ∷ 0 ∷ 1 ∷ [])
     ∷ shell-tree (root ∷ node 3 1 root-name ∷ node 0 2 root-name ∷ []) (0 ∷ 0 ∷ 0 ∷ 3 ∷ 3 ∷ 3 ∷ [])
     ∷ backbone-radios (0 ∷ 1 ∷ 2 ∷ []) ∷ connected-core 5 0 0 (3 ∷ 4 ∷ 5 ∷ []) ∷ connected-core 0 2 0 (0 ∷ 1 ∷ 2 ∷ [])
@@ -429,12 +532,8 @@ falls =
     risen (0 ∷ 1 ∷ []) ∷ risen (2 ∷ []) ∷ risen (3 ∷ []) ∷ risen (0 ∷ 1 ∷ 2 ∷ []) ∷ risen (3 ∷ [])
     ∷ risen (0 ∷ 1 ∷ 2 ∷ 3 ∷ []) ∷ risen (4 ∷ []) ∷ risen (4 ∷ []) ∷ risen (4 ∷ []) ∷ fallen (3 ∷ []) ∷ [])
     ∷ printed (
-    48 ∷ 32 ∷ 43 ∷ 49 ∷ 32 ∷ 48 ∷ 32 ∷ 49 ∷ 10 ∷ 48 ∷ 32 ∷ 43 ∷ 49 ∷ 32 ∷ 50 ∷ 10 ∷ 48 ∷ 32 ∷ 43 ∷ 49 ∷ 32 ∷ 51 ∷ 10
-    ∷ 48 ∷ 32 ∷ 43 ∷ 49 ∷ 32 ∷ 48 ∷ 32 ∷ 49 ∷ 32 ∷ 50 ∷ 10 ∷ 48 ∷ 32 ∷ 43 ∷ 49 ∷ 32 ∷ 51 ∷ 10 ∷ 48 ∷ 32 ∷ 43 ∷ 49 ∷ 32
-    ∷ 48 ∷ 32 ∷ 49 ∷ 32 ∷ 50 ∷ 32 ∷ 51 ∷ 10 ∷ 48 ∷ 32 ∷ 43 ∷ 49 ∷ 32 ∷ 52 ∷ 10 ∷ 48 ∷ 32 ∷ 43 ∷ 49 ∷ 32 ∷ 52 ∷ 10 ∷ 48
-    ∷ 32 ∷ 43 ∷ 49 ∷ 32 ∷ 52 ∷ 10 ∷ 48 ∷ 32 ∷ 45 ∷ 49 ∷ 32 ∷ 51 ∷ 10 ∷ 110 ∷ 117 ∷ 109 ∷ 98 ∷ 101 ∷ 114 ∷ 115 ∷ 32
-    ∷ 51 ∷ 32 ∷ 51 ∷ 32 ∷ 51 ∷ 32 ∷ 50 ∷ 32 ∷ 51 ∷ 10 ∷ 111 ∷ 114 ∷ 100 ∷ 101 ∷ 114 ∷ 32 ∷ 51 ∷ 32 ∷ 52 ∷ 32 ∷ 50 ∷ 32
-    ∷ 48 ∷ 32 ∷ 49 ∷ 10 ∷ [])
+    "0 +1 0 1\n" ∷ "0 +1 2\n" ∷ "0 +1 3\n" ∷ "0 +1 0 1 2\n" ∷ "0 +1 3\n" ∷ "0 +1 0 1 2 3\n" ∷ "0 +1 4\n" ∷ "0 +1 4\n"
+    ∷ "0 +1 4\n" ∷ "0 -1 3\n" ∷ "numbers 3 3 3 2 3\n" ∷ "order 3 4 2 0 1\n" ∷ [])
     ∷ all-numbers (3 ∷ 3 ∷ 3 ∷ 2 ∷ 3 ∷ []) ∷ whole-order (3 ∷ 4 ∷ 2 ∷ 0 ∷ 1 ∷ [])
     ∷ shell-tree (root ∷ node 3 2 root-name ∷ node 0 3 3 ∷ []) (0 ∷ 0 ∷ 0 ∷ 3 ∷ 0 ∷ [])
     ∷ backbone-radios (0 ∷ 1 ∷ 2 ∷ 4 ∷ []) ∷ connected-core 4 0 0 (0 ∷ 1 ∷ 2 ∷ 3 ∷ 4 ∷ [])
@@ -450,6 +549,9 @@ trees =
     last-answers (
     risen (1 ∷ 2 ∷ []) ∷ risen (3 ∷ []) ∷ risen (4 ∷ []) ∷ risen (1 ∷ 2 ∷ 3 ∷ []) ∷ risen (4 ∷ [])
     ∷ risen (1 ∷ 2 ∷ 3 ∷ 4 ∷ []) ∷ risen (0 ∷ []) ∷ [])
+    ∷ printed (
+    "0 +1 1 2\n" ∷ "0 +1 3\n" ∷ "0 +1 4\n" ∷ "0 +1 1 2 3\n" ∷ "0 +1 4\n" ∷ "0 +1 1 2 3 4\n" ∷ "0 +1 0\n"
+    ∷ "numbers 1 3 3 3 3\n" ∷ "order 0 4 3 1 2\n" ∷ [])
     ∷ all-numbers (1 ∷ 3 ∷ 3 ∷ 3 ∷ 3 ∷ []) ∷ whole-order (0 ∷ 4 ∷ 3 ∷ 1 ∷ 2 ∷ [])
     ∷ shell-tree (root ∷ node 0 1 root-name ∷ node 1 3 0 ∷ []) (0 ∷ 1 ∷ 1 ∷ 1 ∷ 1 ∷ [])
     ∷ backbone-radios (1 ∷ 2 ∷ 3 ∷ 4 ∷ []) ∷ connected-core 4 0 0 (0 ∷ 1 ∷ 2 ∷ 3 ∷ 4 ∷ [])
@@ -462,6 +564,10 @@ trees =
     risen (0 ∷ 1 ∷ []) ∷ risen (2 ∷ []) ∷ risen (3 ∷ []) ∷ risen (4 ∷ []) ∷ risen (0 ∷ 1 ∷ 2 ∷ []) ∷ risen (3 ∷ [])
     ∷ risen (4 ∷ []) ∷ risen (0 ∷ 1 ∷ 2 ∷ 3 ∷ []) ∷ risen (4 ∷ []) ∷ risen (0 ∷ 1 ∷ 2 ∷ 3 ∷ 4 ∷ []) ∷ risen (5 ∷ [])
     ∷ risen (6 ∷ []) ∷ [])
+    ∷ printed (
+    "0 +1 0 1\n" ∷ "0 +1 2\n" ∷ "0 +1 3\n" ∷ "0 +1 4\n" ∷ "0 +1 0 1 2\n" ∷ "0 +1 3\n" ∷ "0 +1 4\n" ∷ "0 +1 0 1 2 3\n"
+    ∷ "0 +1 4\n" ∷ "0 +1 0 1 2 3 4\n" ∷ "0 +1 5\n" ∷ "0 +1 6\n" ∷ "numbers 4 4 4 4 4 1 1\n" ∷ "order 6 5 4 3 2 0 1\n"
+    ∷ [])
     ∷ all-numbers (4 ∷ 4 ∷ 4 ∷ 4 ∷ 4 ∷ 1 ∷ 1 ∷ []) ∷ whole-order (6 ∷ 5 ∷ 4 ∷ 3 ∷ 2 ∷ 0 ∷ 1 ∷ [])
     ∷ shell-tree (root ∷ node 5 1 root-name ∷ node 0 4 5 ∷ []) (0 ∷ 0 ∷ 0 ∷ 0 ∷ 0 ∷ 5 ∷ 5 ∷ [])
     ∷ backbone-radios (0 ∷ 1 ∷ 2 ∷ 3 ∷ 4 ∷ []) ∷ connected-core 6 0 0 (0 ∷ 1 ∷ 2 ∷ 3 ∷ 4 ∷ 5 ∷ 6 ∷ [])
@@ -475,6 +581,10 @@ trees =
     risen (0 ∷ 1 ∷ []) ∷ risen (2 ∷ []) ∷ risen (3 ∷ []) ∷ risen (0 ∷ 1 ∷ 2 ∷ []) ∷ risen (3 ∷ [])
     ∷ risen (0 ∷ 1 ∷ 2 ∷ 3 ∷ []) ∷ risen (7 ∷ []) ∷ risen (4 ∷ []) ∷ risen (5 ∷ []) ∷ risen (6 ∷ [])
     ∷ risen (4 ∷ 5 ∷ 6 ∷ 7 ∷ []) ∷ fallen (7 ∷ []) ∷ risen (7 ∷ []) ∷ [])
+    ∷ printed (
+    "0 +1 0 1\n" ∷ "0 +1 2\n" ∷ "0 +1 3\n" ∷ "0 +1 0 1 2\n" ∷ "0 +1 3\n" ∷ "0 +1 0 1 2 3\n" ∷ "0 +1 7\n" ∷ "0 +1 4\n"
+    ∷ "0 +1 5\n" ∷ "0 +1 6\n" ∷ "0 +1 4 5 6 7\n" ∷ "0 -1 7\n" ∷ "0 +1 7\n" ∷ "numbers 3 3 3 3 2 2 2 2\n"
+    ∷ "order 7 6 5 4 3 2 0 1\n" ∷ [])
     ∷ all-numbers (3 ∷ 3 ∷ 3 ∷ 3 ∷ 2 ∷ 2 ∷ 2 ∷ 2 ∷ []) ∷ whole-order (7 ∷ 6 ∷ 5 ∷ 4 ∷ 3 ∷ 2 ∷ 0 ∷ 1 ∷ [])
     ∷ shell-tree (root ∷ node 4 2 root-name ∷ node 0 3 4 ∷ []) (0 ∷ 0 ∷ 0 ∷ 0 ∷ 4 ∷ 4 ∷ 4 ∷ 4 ∷ [])
     ∷ backbone-radios (0 ∷ 1 ∷ 2 ∷ 3 ∷ []) ∷ connected-core 7 0 0 (0 ∷ 1 ∷ 2 ∷ 3 ∷ 4 ∷ 5 ∷ 6 ∷ 7 ∷ [])
@@ -487,12 +597,8 @@ trees =
     risen (2 ∷ 3 ∷ []) ∷ risen (4 ∷ []) ∷ risen (5 ∷ []) ∷ risen (2 ∷ 3 ∷ 4 ∷ []) ∷ risen (5 ∷ [])
     ∷ risen (2 ∷ 3 ∷ 4 ∷ 5 ∷ []) ∷ risen (1 ∷ []) ∷ risen (1 ∷ []) ∷ risen (0 ∷ 6 ∷ []) ∷ [])
     ∷ printed (
-    48 ∷ 32 ∷ 43 ∷ 49 ∷ 32 ∷ 50 ∷ 32 ∷ 51 ∷ 10 ∷ 48 ∷ 32 ∷ 43 ∷ 49 ∷ 32 ∷ 52 ∷ 10 ∷ 48 ∷ 32 ∷ 43 ∷ 49 ∷ 32 ∷ 53 ∷ 10
-    ∷ 48 ∷ 32 ∷ 43 ∷ 49 ∷ 32 ∷ 50 ∷ 32 ∷ 51 ∷ 32 ∷ 52 ∷ 10 ∷ 48 ∷ 32 ∷ 43 ∷ 49 ∷ 32 ∷ 53 ∷ 10 ∷ 48 ∷ 32 ∷ 43 ∷ 49 ∷ 32
-    ∷ 50 ∷ 32 ∷ 51 ∷ 32 ∷ 52 ∷ 32 ∷ 53 ∷ 10 ∷ 48 ∷ 32 ∷ 43 ∷ 49 ∷ 32 ∷ 49 ∷ 10 ∷ 48 ∷ 32 ∷ 43 ∷ 49 ∷ 32 ∷ 49 ∷ 10 ∷ 48
-    ∷ 32 ∷ 43 ∷ 49 ∷ 32 ∷ 48 ∷ 32 ∷ 54 ∷ 10 ∷ 110 ∷ 117 ∷ 109 ∷ 98 ∷ 101 ∷ 114 ∷ 115 ∷ 32 ∷ 49 ∷ 32 ∷ 50 ∷ 32 ∷ 51
-    ∷ 32 ∷ 51 ∷ 32 ∷ 51 ∷ 32 ∷ 51 ∷ 32 ∷ 49 ∷ 32 ∷ 48 ∷ 10 ∷ 111 ∷ 114 ∷ 100 ∷ 101 ∷ 114 ∷ 32 ∷ 55 ∷ 32 ∷ 48 ∷ 32 ∷ 54
-    ∷ 32 ∷ 49 ∷ 32 ∷ 53 ∷ 32 ∷ 52 ∷ 32 ∷ 50 ∷ 32 ∷ 51 ∷ 10 ∷ [])
+    "0 +1 2 3\n" ∷ "0 +1 4\n" ∷ "0 +1 5\n" ∷ "0 +1 2 3 4\n" ∷ "0 +1 5\n" ∷ "0 +1 2 3 4 5\n" ∷ "0 +1 1\n" ∷ "0 +1 1\n"
+    ∷ "0 +1 0 6\n" ∷ "numbers 1 2 3 3 3 3 1 0\n" ∷ "order 7 0 6 1 5 4 2 3\n" ∷ [])
     ∷ all-numbers (1 ∷ 2 ∷ 3 ∷ 3 ∷ 3 ∷ 3 ∷ 1 ∷ 0 ∷ []) ∷ whole-order (7 ∷ 0 ∷ 6 ∷ 1 ∷ 5 ∷ 4 ∷ 2 ∷ 3 ∷ [])
     ∷ shell-tree (root ∷ node 0 1 root-name ∷ node 1 2 root-name ∷ node 2 3 1 ∷ []) (0 ∷ 1 ∷ 2 ∷ 2 ∷ 2 ∷ 2 ∷ 0 ∷ root-name ∷ [])
     ∷ backbone-radios (2 ∷ 3 ∷ 4 ∷ 5 ∷ []) ∷ connected-core 7 0 0 (7 ∷ []) ∷ connected-core 2 3 0 (2 ∷ 3 ∷ 4 ∷ 5 ∷ [])
@@ -505,6 +611,9 @@ trees =
     risen (3 ∷ 4 ∷ []) ∷ risen (5 ∷ []) ∷ risen (6 ∷ []) ∷ risen (3 ∷ 4 ∷ 5 ∷ []) ∷ risen (6 ∷ [])
     ∷ risen (3 ∷ 4 ∷ 5 ∷ 6 ∷ []) ∷ risen (1 ∷ []) ∷ risen (1 ∷ []) ∷ risen (2 ∷ []) ∷ risen (2 ∷ []) ∷ risen (0 ∷ [])
     ∷ [])
+    ∷ printed (
+    "0 +1 3 4\n" ∷ "0 +1 5\n" ∷ "0 +1 6\n" ∷ "0 +1 3 4 5\n" ∷ "0 +1 6\n" ∷ "0 +1 3 4 5 6\n" ∷ "0 +1 1\n" ∷ "0 +1 1\n"
+    ∷ "0 +1 2\n" ∷ "0 +1 2\n" ∷ "0 +1 0\n" ∷ "numbers 1 2 2 3 3 3 3\n" ∷ "order 0 2 1 6 5 3 4\n" ∷ [])
     ∷ all-numbers (1 ∷ 2 ∷ 2 ∷ 3 ∷ 3 ∷ 3 ∷ 3 ∷ []) ∷ whole-order (0 ∷ 2 ∷ 1 ∷ 6 ∷ 5 ∷ 3 ∷ 4 ∷ [])
     ∷ shell-tree (root ∷ node 0 1 root-name ∷ node 1 2 0 ∷ node 3 3 1 ∷ []) (0 ∷ 1 ∷ 1 ∷ 3 ∷ 3 ∷ 3 ∷ 3 ∷ [])
     ∷ backbone-radios (3 ∷ 4 ∷ 5 ∷ 6 ∷ []) ∷ connected-core 6 0 0 (0 ∷ 1 ∷ 2 ∷ 3 ∷ 4 ∷ 5 ∷ 6 ∷ [])
@@ -517,6 +626,9 @@ trees =
     risen (0 ∷ 1 ∷ []) ∷ risen (2 ∷ []) ∷ risen (0 ∷ 1 ∷ 2 ∷ []) ∷ risen (5 ∷ 6 ∷ []) ∷ risen (7 ∷ [])
     ∷ risen (5 ∷ 6 ∷ 7 ∷ []) ∷ risen (3 ∷ []) ∷ risen (4 ∷ []) ∷ risen (3 ∷ 4 ∷ []) ∷ fallen (3 ∷ 4 ∷ [])
     ∷ risen (3 ∷ 4 ∷ []) ∷ [])
+    ∷ printed (
+    "0 +1 0 1\n" ∷ "0 +1 2\n" ∷ "0 +1 0 1 2\n" ∷ "0 +1 5 6\n" ∷ "0 +1 7\n" ∷ "0 +1 5 6 7\n" ∷ "0 +1 3\n" ∷ "0 +1 4\n"
+    ∷ "0 +1 3 4\n" ∷ "0 -1 3 4\n" ∷ "0 +1 3 4\n" ∷ "numbers 2 2 2 2 2 2 2 2\n" ∷ "order 4 3 7 5 6 2 0 1\n" ∷ [])
     ∷ all-numbers (2 ∷ 2 ∷ 2 ∷ 2 ∷ 2 ∷ 2 ∷ 2 ∷ 2 ∷ []) ∷ whole-order (4 ∷ 3 ∷ 7 ∷ 5 ∷ 6 ∷ 2 ∷ 0 ∷ 1 ∷ [])
     ∷ shell-tree (root ∷ node 0 2 root-name ∷ []) (0 ∷ 0 ∷ 0 ∷ 0 ∷ 0 ∷ 0 ∷ 0 ∷ 0 ∷ [])
     ∷ backbone-radios (0 ∷ 1 ∷ 2 ∷ 3 ∷ 4 ∷ 5 ∷ 6 ∷ 7 ∷ []) ∷ connected-core 7 0 0 (0 ∷ 1 ∷ 2 ∷ 3 ∷ 4 ∷ 5 ∷ 6 ∷ 7 ∷ [])
@@ -529,6 +641,9 @@ trees =
     last-answers (
     risen (0 ∷ 1 ∷ []) ∷ risen (2 ∷ []) ∷ risen (0 ∷ 1 ∷ 2 ∷ []) ∷ risen (4 ∷ 5 ∷ []) ∷ risen (6 ∷ [])
     ∷ risen (4 ∷ 5 ∷ 6 ∷ []) ∷ risen (3 ∷ []) ∷ risen (3 ∷ []) ∷ unchanged ∷ unchanged ∷ fallen (3 ∷ []) ∷ [])
+    ∷ printed (
+    "0 +1 0 1\n" ∷ "0 +1 2\n" ∷ "0 +1 0 1 2\n" ∷ "0 +1 4 5\n" ∷ "0 +1 6\n" ∷ "0 +1 4 5 6\n" ∷ "0 +1 3\n" ∷ "0 +1 3\n"
+    ∷ "0 0\n" ∷ "0 0\n" ∷ "0 -1 3\n" ∷ "numbers 2 2 2 1 2 2 2\n" ∷ "order 3 6 4 5 2 0 1\n" ∷ [])
     ∷ all-numbers (2 ∷ 2 ∷ 2 ∷ 1 ∷ 2 ∷ 2 ∷ 2 ∷ []) ∷ whole-order (3 ∷ 6 ∷ 4 ∷ 5 ∷ 2 ∷ 0 ∷ 1 ∷ [])
     ∷ shell-tree (root ∷ node 3 1 root-name ∷ node 0 2 3 ∷ node 4 2 root-name ∷ []) (0 ∷ 0 ∷ 0 ∷ 3 ∷ 4 ∷ 4 ∷ 4 ∷ [])
     ∷ backbone-radios (0 ∷ 1 ∷ 2 ∷ 4 ∷ 5 ∷ 6 ∷ []) ∷ connected-core 6 0 0 (4 ∷ 5 ∷ 6 ∷ [])
@@ -544,20 +659,45 @@ random-small =
     last-answers (
     refused 6 ∷ risen (0 ∷ 1 ∷ []) ∷ refused 6 ∷ refused 6 ∷ fallen (0 ∷ 1 ∷ []) ∷ refused 6 ∷ risen (0 ∷ 1 ∷ [])
     ∷ fallen (0 ∷ 1 ∷ []) ∷ [])
+    ∷ printed (
+    "6 0\n" ∷ "0 +1 0 1\n" ∷ "6 0\n" ∷ "6 0\n" ∷ "0 -1 0 1\n" ∷ "6 0\n" ∷ "0 +1 0 1\n" ∷ "0 -1 0 1\n"
+    ∷ "numbers 0 0\n" ∷ "order 0 1\n" ∷ [])
     ∷ all-numbers (0 ∷ 0 ∷ []) ∷ whole-order (0 ∷ 1 ∷ []) ∷ shell-tree (root ∷ []) (root-name ∷ root-name ∷ [])
     ∷ backbone-radios [] ∷ connected-core 1 0 0 (1 ∷ []) ∷ connected-core 0 0 0 (0 ∷ []) ∷ connected-core 1 1 8 []
-    ∷ connected-core 0 1 8 [] ∷ connected-core 2 0 4 [] ∷ image-checks 1024 (10 ∷ 11 ∷ []) ∷ [])
+    ∷ connected-core 0 1 8 [] ∷ connected-core 2 0 4 [] ∷ image-checks 1024 (10 ∷ 11 ∷ [])
+    ∷ soundness [] (0 ∷ 0 ∷ []) (0 ∷ 1 ∷ []) true ∷ soundness [] (1 ∷ 0 ∷ []) (0 ∷ 1 ∷ []) false
+    ∷ soundness [] (0 ∷ 0 ∷ []) (0 ∷ 1 ∷ []) true ∷ soundness [] (0 ∷ 0 ∷ []) (1 ∷ 0 ∷ []) true
+    ∷ soundness [] (0 ∷ 0 ∷ []) (0 ∷ 0 ∷ []) false ∷ soundness (put 0 2 ∷ []) (0 ∷ 0 ∷ []) (0 ∷ 1 ∷ []) false
+    ∷ soundness (put 0 1 ∷ []) (0 ∷ 0 ∷ []) (0 ∷ 1 ∷ []) false
+    ∷ soundness (put 64 4 ∷ []) (0 ∷ 0 ∷ []) (0 ∷ 1 ∷ []) false ∷ image-reading 2 1024 [] 0
+    ∷ image-reading 3 1024 [] 11 ∷ image-reading 2 1023 [] 9 ∷ image-reading 2 0 [] 9 ∷ image-reading 2 512 [] 11
+    ∷ image-reading 2 1024 (put 4 1 ∷ []) 10 ∷ image-reading 2 1024 (put 900 1 ∷ put 1020 144 ∷ put 1021 1 ∷ []) 11
+    ∷ image-reading 2 1024 (put 516 1 ∷ put 518 0 ∷ put 1020 9 ∷ []) 0
+    ∷ image-reading 2 1024 (put 6 1 ∷ put 508 17 ∷ []) 11 ∷ [])
     -- random, seed 102
     ∷ row 3 (
     up 0 2 ∷ up 2 0 ∷ down 0 2 ∷ up 0 2 ∷ down 0 2 ∷ up 1 0 ∷ up 2 3 ∷ down 0 1 ∷ up 1 0 ∷ up 1 2 ∷ []) (
     last-answers (
     risen (0 ∷ 2 ∷ []) ∷ refused 6 ∷ fallen (0 ∷ 2 ∷ []) ∷ risen (0 ∷ 2 ∷ []) ∷ fallen (0 ∷ 2 ∷ [])
     ∷ risen (0 ∷ 1 ∷ []) ∷ refused 4 ∷ fallen (0 ∷ 1 ∷ []) ∷ risen (0 ∷ 1 ∷ []) ∷ risen (2 ∷ []) ∷ [])
+    ∷ printed (
+    "0 +1 0 2\n" ∷ "6 0\n" ∷ "0 -1 0 2\n" ∷ "0 +1 0 2\n" ∷ "0 -1 0 2\n" ∷ "0 +1 0 1\n" ∷ "4 0\n" ∷ "0 -1 0 1\n"
+    ∷ "0 +1 0 1\n" ∷ "0 +1 2\n" ∷ "numbers 1 1 1\n" ∷ "order 2 1 0\n" ∷ [])
     ∷ all-numbers (1 ∷ 1 ∷ 1 ∷ []) ∷ whole-order (2 ∷ 1 ∷ 0 ∷ [])
     ∷ shell-tree (root ∷ node 0 1 root-name ∷ []) (0 ∷ 0 ∷ 0 ∷ []) ∷ backbone-radios (0 ∷ 1 ∷ 2 ∷ [])
     ∷ connected-core 2 0 0 (0 ∷ 1 ∷ 2 ∷ []) ∷ connected-core 0 1 0 (0 ∷ 1 ∷ 2 ∷ [])
     ∷ connected-core 1 1 0 (0 ∷ 1 ∷ 2 ∷ []) ∷ connected-core 0 2 8 [] ∷ connected-core 3 0 4 []
-    ∷ image-checks 1536 (29 ∷ 21 ∷ 46 ∷ []) ∷ [])
+    ∷ image-checks 1536 (29 ∷ 21 ∷ 46 ∷ []) ∷ soundness [] (1 ∷ 1 ∷ 1 ∷ []) (2 ∷ 1 ∷ 0 ∷ []) true
+    ∷ soundness [] (2 ∷ 1 ∷ 1 ∷ []) (2 ∷ 1 ∷ 0 ∷ []) false ∷ soundness [] (1 ∷ 1 ∷ 0 ∷ []) (2 ∷ 1 ∷ 0 ∷ []) false
+    ∷ soundness [] (1 ∷ 1 ∷ 1 ∷ []) (0 ∷ 1 ∷ 2 ∷ []) true ∷ soundness [] (1 ∷ 1 ∷ 1 ∷ []) (2 ∷ 1 ∷ 2 ∷ []) false
+    ∷ soundness (put 0 6 ∷ []) (1 ∷ 1 ∷ 1 ∷ []) (2 ∷ 1 ∷ 0 ∷ []) false
+    ∷ soundness (put 0 3 ∷ []) (1 ∷ 1 ∷ 1 ∷ []) (2 ∷ 1 ∷ 0 ∷ []) false
+    ∷ soundness (put 128 10 ∷ []) (1 ∷ 1 ∷ 1 ∷ []) (2 ∷ 1 ∷ 0 ∷ []) false ∷ image-reading 3 1536 [] 0
+    ∷ image-reading 4 1536 [] 11 ∷ image-reading 3 1535 [] 9 ∷ image-reading 3 0 [] 9 ∷ image-reading 3 1024 [] 11
+    ∷ image-reading 3 1536 (put 4 0 ∷ []) 10 ∷ image-reading 3 1536 (put 900 1 ∷ put 1020 154 ∷ put 1021 1 ∷ []) 11
+    ∷ image-reading 3 1536 (put 516 1 ∷ put 518 2 ∷ put 1020 23 ∷ []) 11
+    ∷ image-reading 3 1536 (put 6 3 ∷ put 508 36 ∷ []) 11 ∷ image-reading 3 1536 (put 1028 1 ∷ put 1532 51 ∷ []) 11
+    ∷ [])
     -- random, seed 103
     ∷ row 3 (
     down 2 0 ∷ down 2 0 ∷ down 1 0 ∷ up 2 0 ∷ up 2 0 ∷ down 0 2 ∷ up 2 0 ∷ up 0 1 ∷ down 0 1 ∷ down 0 2 ∷ up 0 1
@@ -565,10 +705,24 @@ random-small =
     last-answers (
     refused 6 ∷ refused 6 ∷ refused 6 ∷ risen (0 ∷ 2 ∷ []) ∷ refused 6 ∷ fallen (0 ∷ 2 ∷ []) ∷ risen (0 ∷ 2 ∷ [])
     ∷ risen (1 ∷ []) ∷ fallen (1 ∷ []) ∷ fallen (0 ∷ 2 ∷ []) ∷ risen (0 ∷ 1 ∷ []) ∷ refused 6 ∷ [])
+    ∷ printed (
+    "6 0\n" ∷ "6 0\n" ∷ "6 0\n" ∷ "0 +1 0 2\n" ∷ "6 0\n" ∷ "0 -1 0 2\n" ∷ "0 +1 0 2\n" ∷ "0 +1 1\n" ∷ "0 -1 1\n"
+    ∷ "0 -1 0 2\n" ∷ "0 +1 0 1\n" ∷ "6 0\n" ∷ "numbers 1 1 0\n" ∷ "order 2 1 0\n" ∷ [])
     ∷ all-numbers (1 ∷ 1 ∷ 0 ∷ []) ∷ whole-order (2 ∷ 1 ∷ 0 ∷ [])
     ∷ shell-tree (root ∷ node 0 1 root-name ∷ []) (0 ∷ 0 ∷ root-name ∷ []) ∷ backbone-radios (0 ∷ 1 ∷ [])
     ∷ connected-core 2 0 0 (2 ∷ []) ∷ connected-core 0 1 0 (0 ∷ 1 ∷ []) ∷ connected-core 1 1 0 (0 ∷ 1 ∷ [])
-    ∷ connected-core 0 2 8 [] ∷ connected-core 3 0 4 [] ∷ image-checks 1536 (22 ∷ 21 ∷ 15 ∷ []) ∷ [])
+    ∷ connected-core 0 2 8 [] ∷ connected-core 3 0 4 [] ∷ image-checks 1536 (22 ∷ 21 ∷ 15 ∷ [])
+    ∷ soundness [] (1 ∷ 1 ∷ 0 ∷ []) (2 ∷ 1 ∷ 0 ∷ []) true ∷ soundness [] (2 ∷ 1 ∷ 0 ∷ []) (2 ∷ 1 ∷ 0 ∷ []) false
+    ∷ soundness [] (1 ∷ 1 ∷ 0 ∷ []) (2 ∷ 1 ∷ 0 ∷ []) true ∷ soundness [] (1 ∷ 1 ∷ 0 ∷ []) (0 ∷ 1 ∷ 2 ∷ []) false
+    ∷ soundness [] (1 ∷ 1 ∷ 0 ∷ []) (2 ∷ 1 ∷ 2 ∷ []) false
+    ∷ soundness (put 0 6 ∷ []) (1 ∷ 1 ∷ 0 ∷ []) (2 ∷ 1 ∷ 0 ∷ []) false
+    ∷ soundness (put 0 3 ∷ []) (1 ∷ 1 ∷ 0 ∷ []) (2 ∷ 1 ∷ 0 ∷ []) false
+    ∷ soundness (put 128 8 ∷ []) (1 ∷ 1 ∷ 0 ∷ []) (2 ∷ 1 ∷ 0 ∷ []) false ∷ image-reading 3 1536 [] 0
+    ∷ image-reading 4 1536 [] 11 ∷ image-reading 3 1535 [] 9 ∷ image-reading 3 0 [] 9 ∷ image-reading 3 1024 [] 11
+    ∷ image-reading 3 1536 (put 4 0 ∷ []) 10 ∷ image-reading 3 1536 (put 900 1 ∷ put 1020 154 ∷ put 1021 1 ∷ []) 11
+    ∷ image-reading 3 1536 (put 516 1 ∷ put 518 2 ∷ put 1020 23 ∷ []) 11
+    ∷ image-reading 3 1536 (put 6 2 ∷ put 508 29 ∷ []) 11 ∷ image-reading 3 1536 (put 1028 1 ∷ put 1532 20 ∷ []) 11
+    ∷ [])
     -- random, seed 104
     ∷ row 4 (
     down 1 3 ∷ up 0 3 ∷ up 0 2 ∷ down 0 3 ∷ up 1 2 ∷ up 3 4 ∷ up 0 3 ∷ up 0 3 ∷ up 0 1 ∷ up 0 3 ∷ down 0 2 ∷ down 0 1
@@ -577,16 +731,20 @@ random-small =
     refused 6 ∷ risen (0 ∷ 3 ∷ []) ∷ risen (2 ∷ []) ∷ fallen (3 ∷ []) ∷ risen (1 ∷ []) ∷ refused 4 ∷ risen (3 ∷ [])
     ∷ refused 6 ∷ risen (0 ∷ 1 ∷ 2 ∷ []) ∷ refused 6 ∷ fallen (0 ∷ 1 ∷ 2 ∷ []) ∷ unchanged ∷ [])
     ∷ printed (
-    54 ∷ 32 ∷ 48 ∷ 10 ∷ 48 ∷ 32 ∷ 43 ∷ 49 ∷ 32 ∷ 48 ∷ 32 ∷ 51 ∷ 10 ∷ 48 ∷ 32 ∷ 43 ∷ 49 ∷ 32 ∷ 50 ∷ 10 ∷ 48 ∷ 32 ∷ 45
-    ∷ 49 ∷ 32 ∷ 51 ∷ 10 ∷ 48 ∷ 32 ∷ 43 ∷ 49 ∷ 32 ∷ 49 ∷ 10 ∷ 52 ∷ 32 ∷ 48 ∷ 10 ∷ 48 ∷ 32 ∷ 43 ∷ 49 ∷ 32 ∷ 51 ∷ 10 ∷ 54
-    ∷ 32 ∷ 48 ∷ 10 ∷ 48 ∷ 32 ∷ 43 ∷ 49 ∷ 32 ∷ 48 ∷ 32 ∷ 49 ∷ 32 ∷ 50 ∷ 10 ∷ 54 ∷ 32 ∷ 48 ∷ 10 ∷ 48 ∷ 32 ∷ 45 ∷ 49 ∷ 32
-    ∷ 48 ∷ 32 ∷ 49 ∷ 32 ∷ 50 ∷ 10 ∷ 48 ∷ 32 ∷ 48 ∷ 10 ∷ 110 ∷ 117 ∷ 109 ∷ 98 ∷ 101 ∷ 114 ∷ 115 ∷ 32 ∷ 49 ∷ 32 ∷ 49
-    ∷ 32 ∷ 49 ∷ 32 ∷ 49 ∷ 10 ∷ 111 ∷ 114 ∷ 100 ∷ 101 ∷ 114 ∷ 32 ∷ 51 ∷ 32 ∷ 50 ∷ 32 ∷ 49 ∷ 32 ∷ 48 ∷ 10 ∷ [])
+    "6 0\n" ∷ "0 +1 0 3\n" ∷ "0 +1 2\n" ∷ "0 -1 3\n" ∷ "0 +1 1\n" ∷ "4 0\n" ∷ "0 +1 3\n" ∷ "6 0\n" ∷ "0 +1 0 1 2\n"
+    ∷ "6 0\n" ∷ "0 -1 0 1 2\n" ∷ "0 0\n" ∷ "numbers 1 1 1 1\n" ∷ "order 3 2 1 0\n" ∷ [])
     ∷ all-numbers (1 ∷ 1 ∷ 1 ∷ 1 ∷ []) ∷ whole-order (3 ∷ 2 ∷ 1 ∷ 0 ∷ [])
     ∷ shell-tree (root ∷ node 0 1 root-name ∷ node 1 1 root-name ∷ []) (0 ∷ 1 ∷ 1 ∷ 0 ∷ [])
     ∷ backbone-radios (0 ∷ 1 ∷ 2 ∷ 3 ∷ []) ∷ connected-core 3 0 0 (0 ∷ 3 ∷ []) ∷ connected-core 0 1 0 (0 ∷ 3 ∷ [])
     ∷ connected-core 2 1 0 (1 ∷ 2 ∷ []) ∷ connected-core 0 2 8 [] ∷ connected-core 4 0 4 []
-    ∷ image-checks 1536 (34 ∷ 42 ∷ 60 ∷ []) ∷ [])
+    ∷ image-checks 1536 (34 ∷ 42 ∷ 60 ∷ []) ∷ soundness [] (1 ∷ 1 ∷ 1 ∷ 1 ∷ []) (3 ∷ 2 ∷ 1 ∷ 0 ∷ []) true
+    ∷ soundness [] (2 ∷ 1 ∷ 1 ∷ 1 ∷ []) (3 ∷ 2 ∷ 1 ∷ 0 ∷ []) false
+    ∷ soundness [] (1 ∷ 1 ∷ 1 ∷ 0 ∷ []) (3 ∷ 2 ∷ 1 ∷ 0 ∷ []) false
+    ∷ soundness [] (1 ∷ 1 ∷ 1 ∷ 1 ∷ []) (0 ∷ 1 ∷ 2 ∷ 3 ∷ []) true
+    ∷ soundness [] (1 ∷ 1 ∷ 1 ∷ 1 ∷ []) (3 ∷ 2 ∷ 1 ∷ 3 ∷ []) false
+    ∷ soundness (put 0 0 ∷ []) (1 ∷ 1 ∷ 1 ∷ 1 ∷ []) (3 ∷ 2 ∷ 1 ∷ 0 ∷ []) false
+    ∷ soundness (put 0 9 ∷ []) (1 ∷ 1 ∷ 1 ∷ 1 ∷ []) (3 ∷ 2 ∷ 1 ∷ 0 ∷ []) false
+    ∷ soundness (put 192 17 ∷ []) (1 ∷ 1 ∷ 1 ∷ 1 ∷ []) (3 ∷ 2 ∷ 1 ∷ 0 ∷ []) false ∷ [])
     -- random, seed 105
     ∷ row 4 (
     down 0 3 ∷ up 2 1 ∷ up 1 0 ∷ down 1 2 ∷ down 0 1 ∷ down 2 0 ∷ down 0 1 ∷ down 1 2 ∷ down 3 2 ∷ up 0 2 ∷ up 2 3
@@ -595,10 +753,22 @@ random-small =
     refused 6 ∷ risen (1 ∷ 2 ∷ []) ∷ risen (0 ∷ []) ∷ fallen (2 ∷ []) ∷ fallen (0 ∷ 1 ∷ []) ∷ refused 6 ∷ refused 6
     ∷ refused 6 ∷ refused 6 ∷ risen (0 ∷ 2 ∷ []) ∷ risen (3 ∷ []) ∷ risen (1 ∷ []) ∷ fallen (0 ∷ []) ∷ refused 6
     ∷ fallen (1 ∷ []) ∷ refused 6 ∷ [])
+    ∷ printed (
+    "6 0\n" ∷ "0 +1 1 2\n" ∷ "0 +1 0\n" ∷ "0 -1 2\n" ∷ "0 -1 0 1\n" ∷ "6 0\n" ∷ "6 0\n" ∷ "6 0\n" ∷ "6 0\n"
+    ∷ "0 +1 0 2\n" ∷ "0 +1 3\n" ∷ "0 +1 1\n" ∷ "0 -1 0\n" ∷ "6 0\n" ∷ "0 -1 1\n" ∷ "6 0\n" ∷ "numbers 0 0 1 1\n"
+    ∷ "order 0 1 3 2\n" ∷ [])
     ∷ all-numbers (0 ∷ 0 ∷ 1 ∷ 1 ∷ []) ∷ whole-order (0 ∷ 1 ∷ 3 ∷ 2 ∷ [])
     ∷ shell-tree (root ∷ node 2 1 root-name ∷ []) (root-name ∷ root-name ∷ 2 ∷ 2 ∷ []) ∷ backbone-radios (2 ∷ 3 ∷ [])
     ∷ connected-core 3 0 0 (2 ∷ 3 ∷ []) ∷ connected-core 2 1 0 (2 ∷ 3 ∷ []) ∷ connected-core 0 1 8 []
-    ∷ connected-core 4 0 4 [] ∷ image-checks 1536 (27 ∷ 60 ∷ 39 ∷ []) ∷ [])
+    ∷ connected-core 4 0 4 [] ∷ image-checks 1536 (27 ∷ 60 ∷ 39 ∷ [])
+    ∷ soundness [] (0 ∷ 0 ∷ 1 ∷ 1 ∷ []) (0 ∷ 1 ∷ 3 ∷ 2 ∷ []) true
+    ∷ soundness [] (1 ∷ 0 ∷ 1 ∷ 1 ∷ []) (0 ∷ 1 ∷ 3 ∷ 2 ∷ []) false
+    ∷ soundness [] (0 ∷ 0 ∷ 1 ∷ 0 ∷ []) (0 ∷ 1 ∷ 3 ∷ 2 ∷ []) false
+    ∷ soundness [] (0 ∷ 0 ∷ 1 ∷ 1 ∷ []) (2 ∷ 3 ∷ 1 ∷ 0 ∷ []) false
+    ∷ soundness [] (0 ∷ 0 ∷ 1 ∷ 1 ∷ []) (0 ∷ 1 ∷ 3 ∷ 0 ∷ []) false
+    ∷ soundness (put 0 8 ∷ []) (0 ∷ 0 ∷ 1 ∷ 1 ∷ []) (0 ∷ 1 ∷ 3 ∷ 2 ∷ []) false
+    ∷ soundness (put 0 1 ∷ []) (0 ∷ 0 ∷ 1 ∷ 1 ∷ []) (0 ∷ 1 ∷ 3 ∷ 2 ∷ []) false
+    ∷ soundness (put 192 20 ∷ []) (0 ∷ 0 ∷ 1 ∷ 1 ∷ []) (0 ∷ 1 ∷ 3 ∷ 2 ∷ []) false ∷ [])
     -- random, seed 106
     ∷ row 5 (
     down 0 3 ∷ up 0 1 ∷ down 0 1 ∷ up 2 3 ∷ up 2 3 ∷ up 2 1 ∷ up 0 5 ∷ up 2 3 ∷ up 2 3 ∷ up 1 3 ∷ up 2 1 ∷ down 2 3
@@ -607,6 +777,10 @@ random-small =
     refused 6 ∷ risen (0 ∷ 1 ∷ []) ∷ fallen (0 ∷ 1 ∷ []) ∷ risen (2 ∷ 3 ∷ []) ∷ refused 6 ∷ risen (1 ∷ []) ∷ refused 4
     ∷ refused 6 ∷ refused 6 ∷ risen (1 ∷ 2 ∷ 3 ∷ []) ∷ refused 6 ∷ fallen (1 ∷ 2 ∷ 3 ∷ []) ∷ fallen (2 ∷ [])
     ∷ refused 6 ∷ [])
+    ∷ printed (
+    "6 0\n" ∷ "0 +1 0 1\n" ∷ "0 -1 0 1\n" ∷ "0 +1 2 3\n" ∷ "6 0\n" ∷ "0 +1 1\n" ∷ "4 0\n" ∷ "6 0\n" ∷ "6 0\n"
+    ∷ "0 +1 1 2 3\n" ∷ "6 0\n" ∷ "0 -1 1 2 3\n" ∷ "0 -1 2\n" ∷ "6 0\n" ∷ "numbers 0 1 0 1 0\n" ∷ "order 4 0 2 1 3\n"
+    ∷ [])
     ∷ all-numbers (0 ∷ 1 ∷ 0 ∷ 1 ∷ 0 ∷ []) ∷ whole-order (4 ∷ 0 ∷ 2 ∷ 1 ∷ 3 ∷ [])
     ∷ shell-tree (root ∷ node 1 1 root-name ∷ []) (root-name ∷ 1 ∷ root-name ∷ 1 ∷ root-name ∷ [])
     ∷ backbone-radios (1 ∷ 3 ∷ []) ∷ connected-core 4 0 0 (4 ∷ []) ∷ connected-core 1 1 0 (1 ∷ 3 ∷ [])
@@ -621,6 +795,10 @@ random-small =
     ∷ risen (1 ∷ []) ∷ unchanged ∷ risen (0 ∷ 1 ∷ 2 ∷ 3 ∷ 4 ∷ []) ∷ refused 6 ∷ refused 4
     ∷ fallen (0 ∷ 1 ∷ 2 ∷ 3 ∷ 4 ∷ []) ∷ refused 6 ∷ risen (0 ∷ 1 ∷ 2 ∷ 3 ∷ 4 ∷ []) ∷ refused 6 ∷ unchanged ∷ refused 6
     ∷ [])
+    ∷ printed (
+    "0 +1 3 4\n" ∷ "0 +1 0\n" ∷ "0 +1 2\n" ∷ "0 +1 1\n" ∷ "0 +1 0 2 3 4\n" ∷ "0 +1 1\n" ∷ "0 0\n" ∷ "0 +1 0 1 2 3 4\n"
+    ∷ "6 0\n" ∷ "4 0\n" ∷ "0 -1 0 1 2 3 4\n" ∷ "6 0\n" ∷ "0 +1 0 1 2 3 4\n" ∷ "6 0\n" ∷ "0 0\n" ∷ "6 0\n"
+    ∷ "numbers 3 3 3 3 3\n" ∷ "order 2 0 1 3 4\n" ∷ [])
     ∷ all-numbers (3 ∷ 3 ∷ 3 ∷ 3 ∷ 3 ∷ []) ∷ whole-order (2 ∷ 0 ∷ 1 ∷ 3 ∷ 4 ∷ [])
     ∷ shell-tree (root ∷ node 0 3 root-name ∷ []) (0 ∷ 0 ∷ 0 ∷ 0 ∷ 0 ∷ []) ∷ backbone-radios (0 ∷ 1 ∷ 2 ∷ 3 ∷ 4 ∷ [])
     ∷ connected-core 4 0 0 (0 ∷ 1 ∷ 2 ∷ 3 ∷ 4 ∷ []) ∷ connected-core 0 3 0 (0 ∷ 1 ∷ 2 ∷ 3 ∷ 4 ∷ [])
@@ -636,15 +814,9 @@ random-small =
     ∷ refused 6 ∷ fallen (0 ∷ []) ∷ refused 6 ∷ fallen (0 ∷ []) ∷ fallen (1 ∷ 3 ∷ 4 ∷ []) ∷ fallen (4 ∷ [])
     ∷ fallen (1 ∷ 3 ∷ []) ∷ risen (1 ∷ 4 ∷ []) ∷ refused 6 ∷ [])
     ∷ printed (
-    48 ∷ 32 ∷ 43 ∷ 49 ∷ 32 ∷ 50 ∷ 32 ∷ 51 ∷ 10 ∷ 48 ∷ 32 ∷ 43 ∷ 49 ∷ 32 ∷ 49 ∷ 10 ∷ 54 ∷ 32 ∷ 48 ∷ 10 ∷ 48 ∷ 32 ∷ 43
-    ∷ 49 ∷ 32 ∷ 52 ∷ 10 ∷ 48 ∷ 32 ∷ 43 ∷ 49 ∷ 32 ∷ 49 ∷ 32 ∷ 50 ∷ 32 ∷ 51 ∷ 10 ∷ 48 ∷ 32 ∷ 45 ∷ 49 ∷ 32 ∷ 49 ∷ 32 ∷ 50
-    ∷ 32 ∷ 51 ∷ 10 ∷ 48 ∷ 32 ∷ 43 ∷ 49 ∷ 32 ∷ 49 ∷ 32 ∷ 51 ∷ 32 ∷ 52 ∷ 10 ∷ 48 ∷ 32 ∷ 43 ∷ 49 ∷ 32 ∷ 48 ∷ 10 ∷ 48 ∷ 32
-    ∷ 45 ∷ 49 ∷ 32 ∷ 50 ∷ 10 ∷ 48 ∷ 32 ∷ 43 ∷ 49 ∷ 32 ∷ 48 ∷ 10 ∷ 54 ∷ 32 ∷ 48 ∷ 10 ∷ 54 ∷ 32 ∷ 48 ∷ 10 ∷ 48 ∷ 32 ∷ 45
-    ∷ 49 ∷ 32 ∷ 48 ∷ 10 ∷ 54 ∷ 32 ∷ 48 ∷ 10 ∷ 48 ∷ 32 ∷ 45 ∷ 49 ∷ 32 ∷ 48 ∷ 10 ∷ 48 ∷ 32 ∷ 45 ∷ 49 ∷ 32 ∷ 49 ∷ 32 ∷ 51
-    ∷ 32 ∷ 52 ∷ 10 ∷ 48 ∷ 32 ∷ 45 ∷ 49 ∷ 32 ∷ 52 ∷ 10 ∷ 48 ∷ 32 ∷ 45 ∷ 49 ∷ 32 ∷ 49 ∷ 32 ∷ 51 ∷ 10 ∷ 48 ∷ 32 ∷ 43 ∷ 49
-    ∷ 32 ∷ 49 ∷ 32 ∷ 52 ∷ 10 ∷ 54 ∷ 32 ∷ 48 ∷ 10 ∷ 110 ∷ 117 ∷ 109 ∷ 98 ∷ 101 ∷ 114 ∷ 115 ∷ 32 ∷ 48 ∷ 32 ∷ 49 ∷ 32
-    ∷ 48 ∷ 32 ∷ 48 ∷ 32 ∷ 49 ∷ 10 ∷ 111 ∷ 114 ∷ 100 ∷ 101 ∷ 114 ∷ 32 ∷ 50 ∷ 32 ∷ 48 ∷ 32 ∷ 51 ∷ 32 ∷ 52 ∷ 32 ∷ 49 ∷ 10
-    ∷ [])
+    "0 +1 2 3\n" ∷ "0 +1 1\n" ∷ "6 0\n" ∷ "0 +1 4\n" ∷ "0 +1 1 2 3\n" ∷ "0 -1 1 2 3\n" ∷ "0 +1 1 3 4\n" ∷ "0 +1 0\n"
+    ∷ "0 -1 2\n" ∷ "0 +1 0\n" ∷ "6 0\n" ∷ "6 0\n" ∷ "0 -1 0\n" ∷ "6 0\n" ∷ "0 -1 0\n" ∷ "0 -1 1 3 4\n" ∷ "0 -1 4\n"
+    ∷ "0 -1 1 3\n" ∷ "0 +1 1 4\n" ∷ "6 0\n" ∷ "numbers 0 1 0 0 1\n" ∷ "order 2 0 3 4 1\n" ∷ [])
     ∷ all-numbers (0 ∷ 1 ∷ 0 ∷ 0 ∷ 1 ∷ []) ∷ whole-order (2 ∷ 0 ∷ 3 ∷ 4 ∷ 1 ∷ [])
     ∷ shell-tree (root ∷ node 1 1 root-name ∷ []) (root-name ∷ 1 ∷ root-name ∷ root-name ∷ 1 ∷ [])
     ∷ backbone-radios (1 ∷ 4 ∷ []) ∷ connected-core 4 0 0 (1 ∷ 4 ∷ []) ∷ connected-core 1 1 0 (1 ∷ 4 ∷ [])
@@ -662,6 +834,10 @@ random-large =
     risen (0 ∷ 2 ∷ []) ∷ risen (3 ∷ 5 ∷ []) ∷ risen (4 ∷ []) ∷ refused 6 ∷ risen (1 ∷ []) ∷ unchanged ∷ unchanged
     ∷ unchanged ∷ unchanged ∷ unchanged ∷ risen (0 ∷ 2 ∷ 3 ∷ 4 ∷ []) ∷ fallen (0 ∷ 2 ∷ 3 ∷ 4 ∷ []) ∷ fallen (5 ∷ [])
     ∷ refused 6 ∷ risen (0 ∷ 2 ∷ 4 ∷ []) ∷ refused 6 ∷ [])
+    ∷ printed (
+    "0 +1 0 2\n" ∷ "0 +1 3 5\n" ∷ "0 +1 4\n" ∷ "6 0\n" ∷ "0 +1 1\n" ∷ "0 0\n" ∷ "0 0\n" ∷ "0 0\n" ∷ "0 0\n" ∷ "0 0\n"
+    ∷ "0 +1 0 2 3 4\n" ∷ "0 -1 0 2 3 4\n" ∷ "0 -1 5\n" ∷ "6 0\n" ∷ "0 +1 0 2 4\n" ∷ "6 0\n" ∷ "numbers 2 1 2 1 2 0\n"
+    ∷ "order 5 1 3 4 0 2\n" ∷ [])
     ∷ all-numbers (2 ∷ 1 ∷ 2 ∷ 1 ∷ 2 ∷ 0 ∷ []) ∷ whole-order (5 ∷ 1 ∷ 3 ∷ 4 ∷ 0 ∷ 2 ∷ [])
     ∷ shell-tree (root ∷ node 1 1 root-name ∷ node 0 2 1 ∷ []) (0 ∷ 1 ∷ 0 ∷ 1 ∷ 0 ∷ root-name ∷ [])
     ∷ backbone-radios (0 ∷ 2 ∷ 4 ∷ []) ∷ connected-core 5 0 0 (5 ∷ []) ∷ connected-core 0 2 0 (0 ∷ 2 ∷ 4 ∷ [])
@@ -676,6 +852,10 @@ random-large =
     ∷ risen (0 ∷ 3 ∷ 5 ∷ []) ∷ unchanged ∷ refused 6 ∷ unchanged ∷ risen (1 ∷ []) ∷ risen (2 ∷ []) ∷ refused 6
     ∷ fallen (2 ∷ []) ∷ risen (2 ∷ []) ∷ refused 6 ∷ refused 6 ∷ risen (4 ∷ []) ∷ risen (0 ∷ 1 ∷ 2 ∷ 3 ∷ 5 ∷ [])
     ∷ unchanged ∷ [])
+    ∷ printed (
+    "6 0\n" ∷ "0 +1 0 3\n" ∷ "0 +1 2 4\n" ∷ "0 +1 5\n" ∷ "0 +1 1\n" ∷ "0 0\n" ∷ "0 +1 0 3 5\n" ∷ "0 0\n" ∷ "6 0\n"
+    ∷ "0 0\n" ∷ "0 +1 1\n" ∷ "0 +1 2\n" ∷ "6 0\n" ∷ "0 -1 2\n" ∷ "0 +1 2\n" ∷ "6 0\n" ∷ "6 0\n" ∷ "0 +1 4\n"
+    ∷ "0 +1 0 1 2 3 5\n" ∷ "0 0\n" ∷ "numbers 3 3 3 3 2 3\n" ∷ "order 4 1 2 5 0 3\n" ∷ [])
     ∷ all-numbers (3 ∷ 3 ∷ 3 ∷ 3 ∷ 2 ∷ 3 ∷ []) ∷ whole-order (4 ∷ 1 ∷ 2 ∷ 5 ∷ 0 ∷ 3 ∷ [])
     ∷ shell-tree (root ∷ node 4 2 root-name ∷ node 0 3 4 ∷ []) (0 ∷ 0 ∷ 0 ∷ 0 ∷ 4 ∷ 0 ∷ [])
     ∷ backbone-radios (0 ∷ 1 ∷ 2 ∷ 3 ∷ 5 ∷ []) ∷ connected-core 5 0 0 (0 ∷ 1 ∷ 2 ∷ 3 ∷ 4 ∷ 5 ∷ [])
@@ -689,6 +869,10 @@ random-large =
     risen (1 ∷ 4 ∷ []) ∷ risen (2 ∷ 6 ∷ []) ∷ unchanged ∷ risen (1 ∷ 2 ∷ 6 ∷ []) ∷ risen (4 ∷ []) ∷ risen (3 ∷ [])
     ∷ risen (0 ∷ []) ∷ risen (0 ∷ 3 ∷ []) ∷ unchanged ∷ risen (0 ∷ 1 ∷ 2 ∷ 3 ∷ 4 ∷ []) ∷ unchanged ∷ risen (5 ∷ [])
     ∷ risen (5 ∷ []) ∷ fallen (5 ∷ []) ∷ refused 6 ∷ risen (5 ∷ []) ∷ refused 6 ∷ refused 6 ∷ [])
+    ∷ printed (
+    "0 +1 1 4\n" ∷ "0 +1 2 6\n" ∷ "0 0\n" ∷ "0 +1 1 2 6\n" ∷ "0 +1 4\n" ∷ "0 +1 3\n" ∷ "0 +1 0\n" ∷ "0 +1 0 3\n"
+    ∷ "0 0\n" ∷ "0 +1 0 1 2 3 4\n" ∷ "0 0\n" ∷ "0 +1 5\n" ∷ "0 +1 5\n" ∷ "0 -1 5\n" ∷ "6 0\n" ∷ "0 +1 5\n" ∷ "6 0\n"
+    ∷ "6 0\n" ∷ "numbers 3 3 3 3 3 2 2\n" ∷ "order 5 6 0 3 4 2 1\n" ∷ [])
     ∷ all-numbers (3 ∷ 3 ∷ 3 ∷ 3 ∷ 3 ∷ 2 ∷ 2 ∷ []) ∷ whole-order (5 ∷ 6 ∷ 0 ∷ 3 ∷ 4 ∷ 2 ∷ 1 ∷ [])
     ∷ shell-tree (root ∷ node 5 2 root-name ∷ node 0 3 5 ∷ []) (0 ∷ 0 ∷ 0 ∷ 0 ∷ 0 ∷ 5 ∷ 5 ∷ [])
     ∷ backbone-radios (0 ∷ 1 ∷ 2 ∷ 3 ∷ 4 ∷ []) ∷ connected-core 6 0 0 (0 ∷ 1 ∷ 2 ∷ 3 ∷ 4 ∷ 5 ∷ 6 ∷ [])
@@ -706,16 +890,10 @@ random-large =
     ∷ risen (5 ∷ []) ∷ risen (2 ∷ []) ∷ fallen (5 ∷ []) ∷ risen (6 ∷ []) ∷ risen (0 ∷ 2 ∷ 3 ∷ [])
     ∷ fallen (0 ∷ 2 ∷ 3 ∷ []) ∷ [])
     ∷ printed (
-    48 ∷ 32 ∷ 43 ∷ 49 ∷ 32 ∷ 50 ∷ 32 ∷ 51 ∷ 10 ∷ 48 ∷ 32 ∷ 43 ∷ 49 ∷ 32 ∷ 48 ∷ 32 ∷ 53 ∷ 10 ∷ 48 ∷ 32 ∷ 48 ∷ 10 ∷ 48
-    ∷ 32 ∷ 43 ∷ 49 ∷ 32 ∷ 52 ∷ 10 ∷ 48 ∷ 32 ∷ 48 ∷ 10 ∷ 48 ∷ 32 ∷ 45 ∷ 49 ∷ 32 ∷ 53 ∷ 10 ∷ 48 ∷ 32 ∷ 43 ∷ 49 ∷ 32 ∷ 53
-    ∷ 10 ∷ 48 ∷ 32 ∷ 43 ∷ 49 ∷ 32 ∷ 50 ∷ 32 ∷ 52 ∷ 32 ∷ 53 ∷ 10 ∷ 48 ∷ 32 ∷ 43 ∷ 49 ∷ 32 ∷ 54 ∷ 10 ∷ 48 ∷ 32 ∷ 48 ∷ 10
-    ∷ 48 ∷ 32 ∷ 43 ∷ 49 ∷ 32 ∷ 49 ∷ 10 ∷ 52 ∷ 32 ∷ 48 ∷ 10 ∷ 48 ∷ 32 ∷ 45 ∷ 49 ∷ 32 ∷ 50 ∷ 32 ∷ 52 ∷ 32 ∷ 53 ∷ 10 ∷ 48
-    ∷ 32 ∷ 45 ∷ 49 ∷ 32 ∷ 54 ∷ 10 ∷ 48 ∷ 32 ∷ 48 ∷ 10 ∷ 48 ∷ 32 ∷ 45 ∷ 49 ∷ 32 ∷ 52 ∷ 10 ∷ 48 ∷ 32 ∷ 45 ∷ 49 ∷ 32 ∷ 50
-    ∷ 32 ∷ 53 ∷ 10 ∷ 48 ∷ 32 ∷ 45 ∷ 49 ∷ 32 ∷ 49 ∷ 10 ∷ 48 ∷ 32 ∷ 43 ∷ 49 ∷ 32 ∷ 53 ∷ 10 ∷ 48 ∷ 32 ∷ 43 ∷ 49 ∷ 32 ∷ 50
-    ∷ 10 ∷ 48 ∷ 32 ∷ 45 ∷ 49 ∷ 32 ∷ 53 ∷ 10 ∷ 48 ∷ 32 ∷ 43 ∷ 49 ∷ 32 ∷ 54 ∷ 10 ∷ 48 ∷ 32 ∷ 43 ∷ 49 ∷ 32 ∷ 48 ∷ 32 ∷ 50
-    ∷ 32 ∷ 51 ∷ 10 ∷ 48 ∷ 32 ∷ 45 ∷ 49 ∷ 32 ∷ 48 ∷ 32 ∷ 50 ∷ 32 ∷ 51 ∷ 10 ∷ 110 ∷ 117 ∷ 109 ∷ 98 ∷ 101 ∷ 114 ∷ 115
-    ∷ 32 ∷ 49 ∷ 32 ∷ 48 ∷ 32 ∷ 49 ∷ 32 ∷ 49 ∷ 32 ∷ 48 ∷ 32 ∷ 48 ∷ 32 ∷ 49 ∷ 10 ∷ 111 ∷ 114 ∷ 100 ∷ 101 ∷ 114 ∷ 32 ∷ 52
-    ∷ 32 ∷ 49 ∷ 32 ∷ 53 ∷ 32 ∷ 54 ∷ 32 ∷ 50 ∷ 32 ∷ 51 ∷ 32 ∷ 48 ∷ 10 ∷ [])
+    "0 +1 2 3\n" ∷ "0 +1 0 5\n" ∷ "0 0\n" ∷ "0 +1 4\n" ∷ "0 0\n" ∷ "0 -1 5\n" ∷ "0 +1 5\n" ∷ "0 +1 2 4 5\n"
+    ∷ "0 +1 6\n" ∷ "0 0\n" ∷ "0 +1 1\n" ∷ "4 0\n" ∷ "0 -1 2 4 5\n" ∷ "0 -1 6\n" ∷ "0 0\n" ∷ "0 -1 4\n" ∷ "0 -1 2 5\n"
+    ∷ "0 -1 1\n" ∷ "0 +1 5\n" ∷ "0 +1 2\n" ∷ "0 -1 5\n" ∷ "0 +1 6\n" ∷ "0 +1 0 2 3\n" ∷ "0 -1 0 2 3\n"
+    ∷ "numbers 1 0 1 1 0 0 1\n" ∷ "order 4 1 5 6 2 3 0\n" ∷ [])
     ∷ all-numbers (1 ∷ 0 ∷ 1 ∷ 1 ∷ 0 ∷ 0 ∷ 1 ∷ []) ∷ whole-order (4 ∷ 1 ∷ 5 ∷ 6 ∷ 2 ∷ 3 ∷ 0 ∷ [])
     ∷ shell-tree (root ∷ node 0 1 root-name ∷ []) (0 ∷ root-name ∷ 0 ∷ 0 ∷ root-name ∷ root-name ∷ 0 ∷ [])
     ∷ backbone-radios (0 ∷ 2 ∷ 3 ∷ 6 ∷ []) ∷ connected-core 6 0 0 (0 ∷ 2 ∷ 3 ∷ 6 ∷ [])
@@ -730,6 +908,10 @@ random-large =
     ∷ risen (3 ∷ []) ∷ risen (5 ∷ []) ∷ risen (2 ∷ []) ∷ risen (5 ∷ []) ∷ risen (3 ∷ []) ∷ refused 6
     ∷ risen (1 ∷ 2 ∷ 3 ∷ 4 ∷ 6 ∷ []) ∷ risen (5 ∷ []) ∷ fallen (3 ∷ []) ∷ refused 6 ∷ refused 6 ∷ risen (0 ∷ [])
     ∷ risen (3 ∷ []) ∷ refused 6 ∷ [])
+    ∷ printed (
+    "0 +1 3 4\n" ∷ "0 +1 6\n" ∷ "0 +1 1\n" ∷ "0 +1 1 4 6\n" ∷ "0 -1 3\n" ∷ "0 +1 2\n" ∷ "0 +1 3\n" ∷ "0 +1 5\n"
+    ∷ "0 +1 2\n" ∷ "0 +1 5\n" ∷ "0 +1 3\n" ∷ "6 0\n" ∷ "0 +1 1 2 3 4 6\n" ∷ "0 +1 5\n" ∷ "0 -1 3\n" ∷ "6 0\n"
+    ∷ "6 0\n" ∷ "0 +1 0\n" ∷ "0 +1 3\n" ∷ "6 0\n" ∷ "numbers 1 3 3 3 3 3 3\n" ∷ "order 0 3 5 2 1 6 4\n" ∷ [])
     ∷ all-numbers (1 ∷ 3 ∷ 3 ∷ 3 ∷ 3 ∷ 3 ∷ 3 ∷ []) ∷ whole-order (0 ∷ 3 ∷ 5 ∷ 2 ∷ 1 ∷ 6 ∷ 4 ∷ [])
     ∷ shell-tree (root ∷ node 0 1 root-name ∷ node 1 3 0 ∷ []) (0 ∷ 1 ∷ 1 ∷ 1 ∷ 1 ∷ 1 ∷ 1 ∷ [])
     ∷ backbone-radios (1 ∷ 2 ∷ 3 ∷ 4 ∷ 5 ∷ 6 ∷ []) ∷ connected-core 6 0 0 (0 ∷ 1 ∷ 2 ∷ 3 ∷ 4 ∷ 5 ∷ 6 ∷ [])
@@ -744,6 +926,10 @@ random-large =
     ∷ fallen (0 ∷ 4 ∷ []) ∷ unchanged ∷ refused 4 ∷ fallen (1 ∷ 3 ∷ []) ∷ refused 5 ∷ risen (6 ∷ 7 ∷ [])
     ∷ risen (1 ∷ []) ∷ unchanged ∷ risen (4 ∷ []) ∷ risen (0 ∷ []) ∷ risen (0 ∷ 2 ∷ 4 ∷ 5 ∷ []) ∷ refused 6
     ∷ fallen (6 ∷ []) ∷ risen (3 ∷ 6 ∷ []) ∷ [])
+    ∷ printed (
+    "0 +1 3 6\n" ∷ "0 +1 1\n" ∷ "0 +1 2 5\n" ∷ "0 0\n" ∷ "0 -1 6\n" ∷ "0 +1 0 4\n" ∷ "0 -1 0 4\n" ∷ "0 0\n" ∷ "4 0\n"
+    ∷ "0 -1 1 3\n" ∷ "5 0\n" ∷ "0 +1 6 7\n" ∷ "0 +1 1\n" ∷ "0 0\n" ∷ "0 +1 4\n" ∷ "0 +1 0\n" ∷ "0 +1 0 2 4 5\n"
+    ∷ "6 0\n" ∷ "0 -1 6\n" ∷ "0 +1 3 6\n" ∷ "numbers 2 1 2 1 2 2 1 1\n" ∷ "order 3 6 1 7 0 4 5 2\n" ∷ [])
     ∷ all-numbers (2 ∷ 1 ∷ 2 ∷ 1 ∷ 2 ∷ 2 ∷ 1 ∷ 1 ∷ []) ∷ whole-order (3 ∷ 6 ∷ 1 ∷ 7 ∷ 0 ∷ 4 ∷ 5 ∷ 2 ∷ [])
     ∷ shell-tree (root ∷ node 1 1 root-name ∷ node 3 1 root-name ∷ node 0 2 1 ∷ []) (0 ∷ 1 ∷ 0 ∷ 3 ∷ 0 ∷ 0 ∷ 3 ∷ 1 ∷ [])
     ∷ backbone-radios (0 ∷ 2 ∷ 4 ∷ 5 ∷ []) ∷ connected-core 7 0 0 (0 ∷ 1 ∷ 2 ∷ 4 ∷ 5 ∷ 7 ∷ [])
@@ -758,6 +944,11 @@ random-large =
     ∷ risen (1 ∷ []) ∷ risen (3 ∷ 4 ∷ 5 ∷ []) ∷ risen (0 ∷ []) ∷ risen (2 ∷ []) ∷ risen (6 ∷ []) ∷ risen (1 ∷ [])
     ∷ refused 6 ∷ unchanged ∷ unchanged ∷ refused 6 ∷ risen (7 ∷ []) ∷ risen (0 ∷ 1 ∷ 2 ∷ 3 ∷ 4 ∷ 5 ∷ []) ∷ refused 6
     ∷ refused 6 ∷ refused 6 ∷ risen (6 ∷ 7 ∷ []) ∷ unchanged ∷ unchanged ∷ [])
+    ∷ printed (
+    "0 +1 3 5\n" ∷ "0 +1 1\n" ∷ "0 +1 0 2\n" ∷ "0 +1 4\n" ∷ "0 -1 1\n" ∷ "0 0\n" ∷ "0 +1 1\n" ∷ "0 +1 3 4 5\n"
+    ∷ "0 +1 0\n" ∷ "0 +1 2\n" ∷ "0 +1 6\n" ∷ "0 +1 1\n" ∷ "6 0\n" ∷ "0 0\n" ∷ "0 0\n" ∷ "6 0\n" ∷ "0 +1 7\n"
+    ∷ "0 +1 0 1 2 3 4 5\n" ∷ "6 0\n" ∷ "6 0\n" ∷ "6 0\n" ∷ "0 +1 6 7\n" ∷ "0 0\n" ∷ "0 0\n"
+    ∷ "numbers 3 3 3 3 3 3 2 2\n" ∷ "order 6 7 1 2 0 4 3 5\n" ∷ [])
     ∷ all-numbers (3 ∷ 3 ∷ 3 ∷ 3 ∷ 3 ∷ 3 ∷ 2 ∷ 2 ∷ []) ∷ whole-order (6 ∷ 7 ∷ 1 ∷ 2 ∷ 0 ∷ 4 ∷ 3 ∷ 5 ∷ [])
     ∷ shell-tree (root ∷ node 6 2 root-name ∷ node 0 3 6 ∷ []) (0 ∷ 0 ∷ 0 ∷ 0 ∷ 0 ∷ 0 ∷ 6 ∷ 6 ∷ [])
     ∷ backbone-radios (0 ∷ 1 ∷ 2 ∷ 3 ∷ 4 ∷ 5 ∷ []) ∷ connected-core 7 0 0 (0 ∷ 1 ∷ 2 ∷ 3 ∷ 4 ∷ 5 ∷ 6 ∷ 7 ∷ [])
@@ -774,16 +965,10 @@ random-large =
     ∷ unchanged ∷ refused 6 ∷ risen (0 ∷ 1 ∷ 2 ∷ 3 ∷ 5 ∷ 6 ∷ []) ∷ risen (7 ∷ []) ∷ unchanged ∷ risen (7 ∷ [])
     ∷ unchanged ∷ risen (4 ∷ []) ∷ refused 6 ∷ refused 6 ∷ fallen (0 ∷ 1 ∷ 2 ∷ 3 ∷ 5 ∷ 6 ∷ []) ∷ refused 6 ∷ [])
     ∷ printed (
-    48 ∷ 32 ∷ 43 ∷ 49 ∷ 32 ∷ 48 ∷ 32 ∷ 52 ∷ 10 ∷ 48 ∷ 32 ∷ 45 ∷ 49 ∷ 32 ∷ 48 ∷ 32 ∷ 52 ∷ 10 ∷ 48 ∷ 32 ∷ 43 ∷ 49 ∷ 32
-    ∷ 50 ∷ 32 ∷ 51 ∷ 10 ∷ 54 ∷ 32 ∷ 48 ∷ 10 ∷ 48 ∷ 32 ∷ 43 ∷ 49 ∷ 32 ∷ 49 ∷ 10 ∷ 48 ∷ 32 ∷ 43 ∷ 49 ∷ 32 ∷ 54 ∷ 10 ∷ 48
-    ∷ 32 ∷ 43 ∷ 49 ∷ 32 ∷ 53 ∷ 10 ∷ 48 ∷ 32 ∷ 43 ∷ 49 ∷ 32 ∷ 49 ∷ 32 ∷ 50 ∷ 32 ∷ 51 ∷ 32 ∷ 54 ∷ 10 ∷ 48 ∷ 32 ∷ 43 ∷ 49
-    ∷ 32 ∷ 48 ∷ 10 ∷ 48 ∷ 32 ∷ 43 ∷ 49 ∷ 32 ∷ 48 ∷ 32 ∷ 53 ∷ 10 ∷ 48 ∷ 32 ∷ 48 ∷ 10 ∷ 54 ∷ 32 ∷ 48 ∷ 10 ∷ 48 ∷ 32 ∷ 48
-    ∷ 10 ∷ 54 ∷ 32 ∷ 48 ∷ 10 ∷ 48 ∷ 32 ∷ 43 ∷ 49 ∷ 32 ∷ 48 ∷ 32 ∷ 49 ∷ 32 ∷ 50 ∷ 32 ∷ 51 ∷ 32 ∷ 53 ∷ 32 ∷ 54 ∷ 10 ∷ 48
-    ∷ 32 ∷ 43 ∷ 49 ∷ 32 ∷ 55 ∷ 10 ∷ 48 ∷ 32 ∷ 48 ∷ 10 ∷ 48 ∷ 32 ∷ 43 ∷ 49 ∷ 32 ∷ 55 ∷ 10 ∷ 48 ∷ 32 ∷ 48 ∷ 10 ∷ 48 ∷ 32
-    ∷ 43 ∷ 49 ∷ 32 ∷ 52 ∷ 10 ∷ 54 ∷ 32 ∷ 48 ∷ 10 ∷ 54 ∷ 32 ∷ 48 ∷ 10 ∷ 48 ∷ 32 ∷ 45 ∷ 49 ∷ 32 ∷ 48 ∷ 32 ∷ 49 ∷ 32 ∷ 50
-    ∷ 32 ∷ 51 ∷ 32 ∷ 53 ∷ 32 ∷ 54 ∷ 10 ∷ 54 ∷ 32 ∷ 48 ∷ 10 ∷ 110 ∷ 117 ∷ 109 ∷ 98 ∷ 101 ∷ 114 ∷ 115 ∷ 32 ∷ 50 ∷ 32
-    ∷ 50 ∷ 32 ∷ 50 ∷ 32 ∷ 50 ∷ 32 ∷ 49 ∷ 32 ∷ 50 ∷ 32 ∷ 50 ∷ 32 ∷ 50 ∷ 10 ∷ 111 ∷ 114 ∷ 100 ∷ 101 ∷ 114 ∷ 32 ∷ 52 ∷ 32
-    ∷ 55 ∷ 32 ∷ 54 ∷ 32 ∷ 49 ∷ 32 ∷ 48 ∷ 32 ∷ 51 ∷ 32 ∷ 53 ∷ 32 ∷ 50 ∷ 10 ∷ [])
+    "0 +1 0 4\n" ∷ "0 -1 0 4\n" ∷ "0 +1 2 3\n" ∷ "6 0\n" ∷ "0 +1 1\n" ∷ "0 +1 6\n" ∷ "0 +1 5\n" ∷ "0 +1 1 2 3 6\n"
+    ∷ "0 +1 0\n" ∷ "0 +1 0 5\n" ∷ "0 0\n" ∷ "6 0\n" ∷ "0 0\n" ∷ "6 0\n" ∷ "0 +1 0 1 2 3 5 6\n" ∷ "0 +1 7\n" ∷ "0 0\n"
+    ∷ "0 +1 7\n" ∷ "0 0\n" ∷ "0 +1 4\n" ∷ "6 0\n" ∷ "6 0\n" ∷ "0 -1 0 1 2 3 5 6\n" ∷ "6 0\n"
+    ∷ "numbers 2 2 2 2 1 2 2 2\n" ∷ "order 4 7 6 1 0 3 5 2\n" ∷ [])
     ∷ all-numbers (2 ∷ 2 ∷ 2 ∷ 2 ∷ 1 ∷ 2 ∷ 2 ∷ 2 ∷ []) ∷ whole-order (4 ∷ 7 ∷ 6 ∷ 1 ∷ 0 ∷ 3 ∷ 5 ∷ 2 ∷ [])
     ∷ shell-tree (root ∷ node 4 1 root-name ∷ node 0 2 4 ∷ []) (0 ∷ 0 ∷ 0 ∷ 0 ∷ 4 ∷ 0 ∷ 0 ∷ 0 ∷ [])
     ∷ backbone-radios (0 ∷ 1 ∷ 2 ∷ 3 ∷ 5 ∷ 6 ∷ 7 ∷ []) ∷ connected-core 7 0 0 (0 ∷ 1 ∷ 2 ∷ 3 ∷ 4 ∷ 5 ∷ 6 ∷ 7 ∷ [])
