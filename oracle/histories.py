@@ -19,9 +19,6 @@ from reference import ROOT, check_bytes, line_of, play, reading, sound, with_byt
 
 FILE = Path(__file__).resolve().parent.parent / "crates/vectors/specs/Histories.antt"
 
-# up to how many radios soundness and image reading are tried too: they take long to prove
-SOUNDNESS, READING = 4, 3
-
 
 # ---- the histories: groups of (what it is about, n, calls)
 
@@ -133,6 +130,15 @@ TREES = [
 ]
 
 
+# of these, soundness and image reading are tried too, with damaged tables and images
+DAMAGED = [
+    ("one radio", 1, []),
+    ("a pair, a radio beside it", 3, ups((2, 0))),
+    ("a triangle", 3, triangle(0, 1, 2)),
+    ("a triangle with a tail", 4, triangle(1, 2, 3) + ups((0, 1))),
+]
+
+
 def mixed(seed, n, length, upward):
     """Random calls: about one in ten names a radio that may not be there or
     one radio twice; of the others a share `upward` goes up."""
@@ -168,6 +174,7 @@ GROUPS = [
     ("rises", "links going up", RISES),
     ("falls", "links going down", FALLS),
     ("trees", "shell trees", TREES),
+    ("damaged", "soundness and image reading, with damage", DAMAGED),
     ("random-small", "random calls at 2 to 5 radios",
      random_group(101, [(2, 8, 0.5), (3, 10, 0.6), (3, 12, 0.5), (4, 12, 0.7), (4, 16, 0.6),
                         (5, 14, 0.7), (5, 16, 0.8), (5, 20, 0.6)])),
@@ -275,7 +282,7 @@ def reading_wants(site):
         yield f"image-reading {m} {many} {put_text(puts)} {reading(m, with_bytes(image, puts)[:many])}"
 
 
-def row_text(about, n, calls, start):
+def row_text(about, n, calls, start, damaged):
     site, answers = play(n, calls)
     nodes, names = site.tree()
     lines = [line_of(x) for x in answers] + site.closing_lines()
@@ -287,10 +294,8 @@ def row_text(about, n, calls, start):
         number, radios = site.core(v, k)
         wants.append(f"connected-core {v} {k} {number} {short(radios)}")
     wants.append(f"image-checks {len(site.image())} {short(site.checks())}")
-    if n <= SOUNDNESS:
-        wants += soundness_wants(site)
-    if n <= READING:
-        wants += reading_wants(site)
+    if damaged:
+        wants += [*soundness_wants(site), *reading_wants(site)]
     made = "(\n" + filled([call_text(c) for c in calls]) + ")" if calls else "[]"
     answered = "(\n" + filled([answer_text(x) for x in answers]) + ")" if calls else "[]"
     return (f"    -- {about}\n    {start}row {n} {made} (\n    last-answers {answered}\n"
@@ -315,7 +320,7 @@ def text():
     for name, about, rows in GROUPS:
         out += f"\nunfoldable pub {name} : List Row\n{name} =\n"
         for i, (what, n, calls) in enumerate(rows):
-            out += row_text(what, n, calls, "∷ " if i else "")
+            out += row_text(what, n, calls, "∷ " if i else "", rows is DAMAGED)
         out += "    ∷ []\n"
     names = [name for name, _, _ in GROUPS]
     out += ("\nunfoldable pub histories : List Row\nhistories = " + " ++ (".join(names)

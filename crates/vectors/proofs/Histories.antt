@@ -3,7 +3,7 @@ use mathlib.Core.Path.{_≡_, refl}
 use mathlib.Core.Bool.{true}
 use Rattle.calls.specs.Cases.{all-right, compute}
 use Rattle.calls.proofs.Cases.{all-right-append}
-use Rattle.vectors.specs.Histories.{refusals, cliques, joins, rises, falls, trees, random-small, random-large, histories}
+use Rattle.vectors.specs.Histories.{refusals, cliques, joins, rises, falls, trees, damaged, random-small, random-large, histories}
 
 refusals-right : all-right refusals ≡ true
 unfolding compute refusals
@@ -29,6 +29,10 @@ trees-right : all-right trees ≡ true
 unfolding compute trees
 trees-right = refl
 
+damaged-right : all-right damaged ≡ true
+unfolding compute damaged
+damaged-right = refl
+
 random-small-right : all-right random-small ≡ true
 unfolding compute random-small
 random-small-right = refl
@@ -46,4 +50,5 @@ histories-right =
     all-right-append rises _ rises-right (
     all-right-append falls _ falls-right (
     all-right-append trees _ trees-right (
-    all-right-append random-small random-large random-small-right random-large-right))))))
+    all-right-append damaged _ damaged-right (
+    all-right-append random-small random-large random-small-right random-large-right)))))))

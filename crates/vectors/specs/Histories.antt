@@ -6,9 +6,10 @@
 --   rises           links going up
 --   falls           links going down
 --   trees           shell trees
+--   damaged         soundness and image reading, with damage
 --   random-small    random calls at 2 to 5 radios
 --   random-large    random calls at 6 to 8 radios
---   histories       all of them, 55 rows
+--   histories       all of them, 59 rows
 -- That every row is right is `histories-right` in proofs/Histories.antt. Definitions only.
 use mathlib.Core.Bool.{true, false}
 use mathlib.Core.List.{List, [], _∷_, _++_}
@@ -24,13 +25,7 @@ refusals =
     "numbers 0\n" ∷ "order 0\n" ∷ [])
     ∷ all-numbers (0 ∷ []) ∷ whole-order (0 ∷ []) ∷ shell-tree (root ∷ []) (root-name ∷ []) ∷ backbone-radios []
     ∷ connected-core 0 0 0 (0 ∷ []) ∷ connected-core 0 1 8 [] ∷ connected-core 1 0 4 []
-    ∷ image-checks 1024 (5 ∷ 4 ∷ []) ∷ soundness [] (0 ∷ []) (0 ∷ []) true ∷ soundness [] (1 ∷ []) (0 ∷ []) false
-    ∷ soundness [] (0 ∷ []) (0 ∷ []) true ∷ soundness [] (0 ∷ []) (0 ∷ []) true ∷ soundness [] (0 ∷ []) (0 ∷ []) true
-    ∷ soundness (put 0 1 ∷ []) (0 ∷ []) (0 ∷ []) false ∷ soundness (put 0 1 ∷ []) (0 ∷ []) (0 ∷ []) false
-    ∷ soundness (put 0 2 ∷ []) (0 ∷ []) (0 ∷ []) false ∷ image-reading 1 1024 [] 0 ∷ image-reading 2 1024 [] 11
-    ∷ image-reading 1 1023 [] 9 ∷ image-reading 1 0 [] 9 ∷ image-reading 1 512 [] 11
-    ∷ image-reading 1 1024 (put 4 2 ∷ []) 10 ∷ image-reading 1 1024 (put 900 1 ∷ put 1020 137 ∷ put 1021 1 ∷ []) 11
-    ∷ image-reading 1 1024 (put 516 0 ∷ put 518 0 ∷ []) 0 ∷ image-reading 1 1024 (put 6 1 ∷ put 508 12 ∷ []) 11 ∷ [])
+    ∷ image-checks 1024 (5 ∷ 4 ∷ []) ∷ [])
     -- one radio: every call is refused
     ∷ row 1 (
     up 0 0 ∷ up 0 1 ∷ up 1 0 ∷ up 1 1 ∷ down 0 0 ∷ down 0 1 ∷ []) (
@@ -40,13 +35,7 @@ refusals =
     "5 0\n" ∷ "4 0\n" ∷ "4 0\n" ∷ "4 0\n" ∷ "5 0\n" ∷ "4 0\n" ∷ "numbers 0\n" ∷ "order 0\n" ∷ [])
     ∷ all-numbers (0 ∷ []) ∷ whole-order (0 ∷ []) ∷ shell-tree (root ∷ []) (root-name ∷ []) ∷ backbone-radios []
     ∷ connected-core 0 0 0 (0 ∷ []) ∷ connected-core 0 1 8 [] ∷ connected-core 1 0 4 []
-    ∷ image-checks 1024 (5 ∷ 4 ∷ []) ∷ soundness [] (0 ∷ []) (0 ∷ []) true ∷ soundness [] (1 ∷ []) (0 ∷ []) false
-    ∷ soundness [] (0 ∷ []) (0 ∷ []) true ∷ soundness [] (0 ∷ []) (0 ∷ []) true ∷ soundness [] (0 ∷ []) (0 ∷ []) true
-    ∷ soundness (put 0 1 ∷ []) (0 ∷ []) (0 ∷ []) false ∷ soundness (put 0 1 ∷ []) (0 ∷ []) (0 ∷ []) false
-    ∷ soundness (put 0 2 ∷ []) (0 ∷ []) (0 ∷ []) false ∷ image-reading 1 1024 [] 0 ∷ image-reading 2 1024 [] 11
-    ∷ image-reading 1 1023 [] 9 ∷ image-reading 1 0 [] 9 ∷ image-reading 1 512 [] 11
-    ∷ image-reading 1 1024 (put 4 2 ∷ []) 10 ∷ image-reading 1 1024 (put 900 1 ∷ put 1020 137 ∷ put 1021 1 ∷ []) 11
-    ∷ image-reading 1 1024 (put 516 0 ∷ put 518 0 ∷ []) 0 ∷ image-reading 1 1024 (put 6 1 ∷ put 508 12 ∷ []) 11 ∷ [])
+    ∷ image-checks 1024 (5 ∷ 4 ∷ []) ∷ [])
     -- a link is taken up once and down once, ends in either order
     ∷ row 2 (
     down 0 1 ∷ up 0 1 ∷ up 0 1 ∷ up 1 0 ∷ down 1 0 ∷ down 0 1 ∷ up 1 0 ∷ []) (
@@ -58,17 +47,7 @@ refusals =
     ∷ all-numbers (1 ∷ 1 ∷ []) ∷ whole-order (0 ∷ 1 ∷ []) ∷ shell-tree (root ∷ node 0 1 root-name ∷ []) (0 ∷ 0 ∷ [])
     ∷ backbone-radios (0 ∷ 1 ∷ []) ∷ connected-core 1 0 0 (0 ∷ 1 ∷ []) ∷ connected-core 0 1 0 (0 ∷ 1 ∷ [])
     ∷ connected-core 1 1 0 (0 ∷ 1 ∷ []) ∷ connected-core 0 2 8 [] ∷ connected-core 2 0 4 []
-    ∷ image-checks 1536 (17 ∷ 11 ∷ 15 ∷ []) ∷ soundness [] (1 ∷ 1 ∷ []) (0 ∷ 1 ∷ []) true
-    ∷ soundness [] (2 ∷ 1 ∷ []) (0 ∷ 1 ∷ []) false ∷ soundness [] (1 ∷ 0 ∷ []) (0 ∷ 1 ∷ []) false
-    ∷ soundness [] (1 ∷ 1 ∷ []) (1 ∷ 0 ∷ []) true ∷ soundness [] (1 ∷ 1 ∷ []) (0 ∷ 0 ∷ []) false
-    ∷ soundness (put 0 0 ∷ []) (1 ∷ 1 ∷ []) (0 ∷ 1 ∷ []) false
-    ∷ soundness (put 0 3 ∷ []) (1 ∷ 1 ∷ []) (0 ∷ 1 ∷ []) false
-    ∷ soundness (put 64 5 ∷ []) (1 ∷ 1 ∷ []) (0 ∷ 1 ∷ []) false ∷ image-reading 2 1536 [] 0
-    ∷ image-reading 3 1536 [] 11 ∷ image-reading 2 1535 [] 9 ∷ image-reading 2 0 [] 9 ∷ image-reading 2 1024 [] 11
-    ∷ image-reading 2 1536 (put 4 1 ∷ []) 10 ∷ image-reading 2 1536 (put 900 1 ∷ put 1020 144 ∷ put 1021 1 ∷ []) 11
-    ∷ image-reading 2 1536 (put 516 1 ∷ put 518 0 ∷ put 1020 9 ∷ []) 0
-    ∷ image-reading 2 1536 (put 6 2 ∷ put 508 24 ∷ []) 11 ∷ image-reading 2 1536 (put 1028 1 ∷ put 1532 20 ∷ []) 11
-    ∷ [])
+    ∷ image-checks 1536 (17 ∷ 11 ∷ 15 ∷ []) ∷ [])
     -- 4 before 5, 5 before 6, and a refused call changes nothing
     ∷ row 4 (
     up 0 1 ∷ up 1 2 ∷ up 4 4 ∷ down 9 9 ∷ up 2 2 ∷ down 2 2 ∷ up 0 4 ∷ down 65535 0 ∷ up 1 0 ∷ down 0 2 ∷ up 2 3 ∷ []) (
@@ -82,14 +61,7 @@ refusals =
     ∷ shell-tree (root ∷ node 0 1 root-name ∷ []) (0 ∷ 0 ∷ 0 ∷ 0 ∷ []) ∷ backbone-radios (0 ∷ 1 ∷ 2 ∷ 3 ∷ [])
     ∷ connected-core 3 0 0 (0 ∷ 1 ∷ 2 ∷ 3 ∷ []) ∷ connected-core 0 1 0 (0 ∷ 1 ∷ 2 ∷ 3 ∷ [])
     ∷ connected-core 2 1 0 (0 ∷ 1 ∷ 2 ∷ 3 ∷ []) ∷ connected-core 0 2 8 [] ∷ connected-core 4 0 4 []
-    ∷ image-checks 1536 (41 ∷ 44 ∷ 117 ∷ []) ∷ soundness [] (1 ∷ 1 ∷ 1 ∷ 1 ∷ []) (3 ∷ 2 ∷ 0 ∷ 1 ∷ []) true
-    ∷ soundness [] (2 ∷ 1 ∷ 1 ∷ 1 ∷ []) (3 ∷ 2 ∷ 0 ∷ 1 ∷ []) false
-    ∷ soundness [] (1 ∷ 1 ∷ 1 ∷ 0 ∷ []) (3 ∷ 2 ∷ 0 ∷ 1 ∷ []) false
-    ∷ soundness [] (1 ∷ 1 ∷ 1 ∷ 1 ∷ []) (1 ∷ 0 ∷ 2 ∷ 3 ∷ []) false
-    ∷ soundness [] (1 ∷ 1 ∷ 1 ∷ 1 ∷ []) (3 ∷ 2 ∷ 0 ∷ 3 ∷ []) false
-    ∷ soundness (put 0 10 ∷ []) (1 ∷ 1 ∷ 1 ∷ 1 ∷ []) (3 ∷ 2 ∷ 0 ∷ 1 ∷ []) false
-    ∷ soundness (put 0 3 ∷ []) (1 ∷ 1 ∷ 1 ∷ 1 ∷ []) (3 ∷ 2 ∷ 0 ∷ 1 ∷ []) false
-    ∷ soundness (put 192 20 ∷ []) (1 ∷ 1 ∷ 1 ∷ 1 ∷ []) (3 ∷ 2 ∷ 0 ∷ 1 ∷ []) false ∷ [])
+    ∷ image-checks 1536 (41 ∷ 44 ∷ 117 ∷ []) ∷ [])
     -- eight radios, no link
     ∷ row 8 (
     up 8 0 ∷ down 0 7 ∷ up 7 7 ∷ []) (
@@ -120,15 +92,7 @@ cliques =
     ∷ all-numbers (0 ∷ 0 ∷ 0 ∷ 0 ∷ []) ∷ whole-order (0 ∷ 1 ∷ 2 ∷ 3 ∷ [])
     ∷ shell-tree (root ∷ []) (root-name ∷ root-name ∷ root-name ∷ root-name ∷ []) ∷ backbone-radios []
     ∷ connected-core 3 0 0 (3 ∷ []) ∷ connected-core 0 0 0 (0 ∷ []) ∷ connected-core 2 1 8 []
-    ∷ connected-core 0 1 8 [] ∷ connected-core 4 0 4 [] ∷ image-checks 1024 (20 ∷ 62 ∷ [])
-    ∷ soundness [] (0 ∷ 0 ∷ 0 ∷ 0 ∷ []) (0 ∷ 1 ∷ 2 ∷ 3 ∷ []) true
-    ∷ soundness [] (1 ∷ 0 ∷ 0 ∷ 0 ∷ []) (0 ∷ 1 ∷ 2 ∷ 3 ∷ []) false
-    ∷ soundness [] (0 ∷ 0 ∷ 0 ∷ 0 ∷ []) (0 ∷ 1 ∷ 2 ∷ 3 ∷ []) true
-    ∷ soundness [] (0 ∷ 0 ∷ 0 ∷ 0 ∷ []) (3 ∷ 2 ∷ 1 ∷ 0 ∷ []) true
-    ∷ soundness [] (0 ∷ 0 ∷ 0 ∷ 0 ∷ []) (0 ∷ 1 ∷ 2 ∷ 0 ∷ []) false
-    ∷ soundness (put 0 8 ∷ []) (0 ∷ 0 ∷ 0 ∷ 0 ∷ []) (0 ∷ 1 ∷ 2 ∷ 3 ∷ []) false
-    ∷ soundness (put 0 1 ∷ []) (0 ∷ 0 ∷ 0 ∷ 0 ∷ []) (0 ∷ 1 ∷ 2 ∷ 3 ∷ []) false
-    ∷ soundness (put 192 16 ∷ []) (0 ∷ 0 ∷ 0 ∷ 0 ∷ []) (0 ∷ 1 ∷ 2 ∷ 3 ∷ []) false ∷ [])
+    ∷ connected-core 0 1 8 [] ∷ connected-core 4 0 4 [] ∷ image-checks 1024 (20 ∷ 62 ∷ []) ∷ [])
     -- a clique of 5 built, and torn down from its last radio
     ∷ row 5 (
     up 0 1 ∷ up 0 2 ∷ up 0 3 ∷ up 0 4 ∷ up 1 2 ∷ up 1 3 ∷ up 1 4 ∷ up 2 3 ∷ up 2 4 ∷ up 3 4 ∷ down 3 4 ∷ down 2 4
@@ -252,14 +216,7 @@ joins =
     ∷ shell-tree (root ∷ node 0 1 root-name ∷ node 2 1 root-name ∷ []) (0 ∷ 0 ∷ 2 ∷ 2 ∷ [])
     ∷ backbone-radios (0 ∷ 1 ∷ 2 ∷ 3 ∷ []) ∷ connected-core 3 0 0 (2 ∷ 3 ∷ []) ∷ connected-core 0 1 0 (0 ∷ 1 ∷ [])
     ∷ connected-core 2 1 0 (2 ∷ 3 ∷ []) ∷ connected-core 0 2 8 [] ∷ connected-core 4 0 4 []
-    ∷ image-checks 1536 (34 ∷ 44 ∷ 66 ∷ []) ∷ soundness [] (1 ∷ 1 ∷ 1 ∷ 1 ∷ []) (3 ∷ 2 ∷ 0 ∷ 1 ∷ []) true
-    ∷ soundness [] (2 ∷ 1 ∷ 1 ∷ 1 ∷ []) (3 ∷ 2 ∷ 0 ∷ 1 ∷ []) false
-    ∷ soundness [] (1 ∷ 1 ∷ 1 ∷ 0 ∷ []) (3 ∷ 2 ∷ 0 ∷ 1 ∷ []) false
-    ∷ soundness [] (1 ∷ 1 ∷ 1 ∷ 1 ∷ []) (1 ∷ 0 ∷ 2 ∷ 3 ∷ []) true
-    ∷ soundness [] (1 ∷ 1 ∷ 1 ∷ 1 ∷ []) (3 ∷ 2 ∷ 0 ∷ 3 ∷ []) false
-    ∷ soundness (put 0 10 ∷ []) (1 ∷ 1 ∷ 1 ∷ 1 ∷ []) (3 ∷ 2 ∷ 0 ∷ 1 ∷ []) false
-    ∷ soundness (put 0 3 ∷ []) (1 ∷ 1 ∷ 1 ∷ 1 ∷ []) (3 ∷ 2 ∷ 0 ∷ 1 ∷ []) false
-    ∷ soundness (put 192 20 ∷ []) (1 ∷ 1 ∷ 1 ∷ 1 ∷ []) (3 ∷ 2 ∷ 0 ∷ 1 ∷ []) false ∷ [])
+    ∷ image-checks 1536 (34 ∷ 44 ∷ 66 ∷ []) ∷ [])
     -- two triangles join by one link, by two, by three
     ∷ row 6 (
     up 0 1 ∷ up 1 2 ∷ up 0 2 ∷ up 3 4 ∷ up 4 5 ∷ up 3 5 ∷ up 0 3 ∷ up 1 4 ∷ up 2 5 ∷ []) (
@@ -651,6 +608,92 @@ trees =
     ∷ connected-core 7 0 4 [] ∷ image-checks 1536 (84 ∷ 195 ∷ 963 ∷ []) ∷ [])
     ∷ []
 
+unfoldable pub damaged : List Row
+damaged =
+    -- one radio
+    row 1 [] (
+    last-answers []
+    ∷ printed (
+    "numbers 0\n" ∷ "order 0\n" ∷ [])
+    ∷ all-numbers (0 ∷ []) ∷ whole-order (0 ∷ []) ∷ shell-tree (root ∷ []) (root-name ∷ []) ∷ backbone-radios []
+    ∷ connected-core 0 0 0 (0 ∷ []) ∷ connected-core 0 1 8 [] ∷ connected-core 1 0 4 []
+    ∷ image-checks 1024 (5 ∷ 4 ∷ []) ∷ soundness [] (0 ∷ []) (0 ∷ []) true ∷ soundness [] (1 ∷ []) (0 ∷ []) false
+    ∷ soundness [] (0 ∷ []) (0 ∷ []) true ∷ soundness [] (0 ∷ []) (0 ∷ []) true ∷ soundness [] (0 ∷ []) (0 ∷ []) true
+    ∷ soundness (put 0 1 ∷ []) (0 ∷ []) (0 ∷ []) false ∷ soundness (put 0 1 ∷ []) (0 ∷ []) (0 ∷ []) false
+    ∷ soundness (put 0 2 ∷ []) (0 ∷ []) (0 ∷ []) false ∷ image-reading 1 1024 [] 0 ∷ image-reading 2 1024 [] 11
+    ∷ image-reading 1 1023 [] 9 ∷ image-reading 1 0 [] 9 ∷ image-reading 1 512 [] 11
+    ∷ image-reading 1 1024 (put 4 2 ∷ []) 10 ∷ image-reading 1 1024 (put 900 1 ∷ put 1020 137 ∷ put 1021 1 ∷ []) 11
+    ∷ image-reading 1 1024 (put 516 0 ∷ put 518 0 ∷ []) 0 ∷ image-reading 1 1024 (put 6 1 ∷ put 508 12 ∷ []) 11 ∷ [])
+    -- a pair, a radio beside it
+    ∷ row 3 (
+    up 2 0 ∷ []) (
+    last-answers (
+    risen (0 ∷ 2 ∷ []) ∷ [])
+    ∷ printed (
+    "0 +1 0 2\n" ∷ "numbers 1 0 1\n" ∷ "order 1 0 2\n" ∷ [])
+    ∷ all-numbers (1 ∷ 0 ∷ 1 ∷ []) ∷ whole-order (1 ∷ 0 ∷ 2 ∷ [])
+    ∷ shell-tree (root ∷ node 0 1 root-name ∷ []) (0 ∷ root-name ∷ 0 ∷ []) ∷ backbone-radios (0 ∷ 2 ∷ [])
+    ∷ connected-core 2 0 0 (0 ∷ 2 ∷ []) ∷ connected-core 0 1 0 (0 ∷ 2 ∷ []) ∷ connected-core 1 1 8 []
+    ∷ connected-core 0 2 8 [] ∷ connected-core 3 0 4 [] ∷ image-checks 1536 (22 ∷ 27 ∷ 22 ∷ [])
+    ∷ soundness [] (1 ∷ 0 ∷ 1 ∷ []) (1 ∷ 0 ∷ 2 ∷ []) true ∷ soundness [] (2 ∷ 0 ∷ 1 ∷ []) (1 ∷ 0 ∷ 2 ∷ []) false
+    ∷ soundness [] (1 ∷ 0 ∷ 0 ∷ []) (1 ∷ 0 ∷ 2 ∷ []) false ∷ soundness [] (1 ∷ 0 ∷ 1 ∷ []) (2 ∷ 0 ∷ 1 ∷ []) false
+    ∷ soundness [] (1 ∷ 0 ∷ 1 ∷ []) (1 ∷ 0 ∷ 1 ∷ []) false
+    ∷ soundness (put 0 0 ∷ []) (1 ∷ 0 ∷ 1 ∷ []) (1 ∷ 0 ∷ 2 ∷ []) false
+    ∷ soundness (put 0 5 ∷ []) (1 ∷ 0 ∷ 1 ∷ []) (1 ∷ 0 ∷ 2 ∷ []) false
+    ∷ soundness (put 128 9 ∷ []) (1 ∷ 0 ∷ 1 ∷ []) (1 ∷ 0 ∷ 2 ∷ []) false ∷ image-reading 3 1536 [] 0
+    ∷ image-reading 4 1536 [] 11 ∷ image-reading 3 1535 [] 9 ∷ image-reading 3 0 [] 9 ∷ image-reading 3 1024 [] 11
+    ∷ image-reading 3 1536 (put 4 0 ∷ []) 10 ∷ image-reading 3 1536 (put 900 1 ∷ put 1020 160 ∷ put 1021 1 ∷ []) 11
+    ∷ image-reading 3 1536 (put 516 0 ∷ put 518 1 ∷ put 1020 29 ∷ []) 11
+    ∷ image-reading 3 1536 (put 6 2 ∷ put 508 29 ∷ []) 11 ∷ image-reading 3 1536 (put 1028 2 ∷ put 1532 32 ∷ []) 11
+    ∷ [])
+    -- a triangle
+    ∷ row 3 (
+    up 0 1 ∷ up 1 2 ∷ up 0 2 ∷ []) (
+    last-answers (
+    risen (0 ∷ 1 ∷ []) ∷ risen (2 ∷ []) ∷ risen (0 ∷ 1 ∷ 2 ∷ []) ∷ [])
+    ∷ printed (
+    "0 +1 0 1\n" ∷ "0 +1 2\n" ∷ "0 +1 0 1 2\n" ∷ "numbers 2 2 2\n" ∷ "order 2 0 1\n" ∷ [])
+    ∷ all-numbers (2 ∷ 2 ∷ 2 ∷ []) ∷ whole-order (2 ∷ 0 ∷ 1 ∷ [])
+    ∷ shell-tree (root ∷ node 0 2 root-name ∷ []) (0 ∷ 0 ∷ 0 ∷ []) ∷ backbone-radios (0 ∷ 1 ∷ 2 ∷ [])
+    ∷ connected-core 2 0 0 (0 ∷ 1 ∷ 2 ∷ []) ∷ connected-core 0 2 0 (0 ∷ 1 ∷ 2 ∷ [])
+    ∷ connected-core 1 1 0 (0 ∷ 1 ∷ 2 ∷ []) ∷ connected-core 0 3 8 [] ∷ connected-core 3 0 4 []
+    ∷ image-checks 1536 (36 ∷ 23 ∷ 80 ∷ []) ∷ soundness [] (2 ∷ 2 ∷ 2 ∷ []) (2 ∷ 0 ∷ 1 ∷ []) true
+    ∷ soundness [] (3 ∷ 2 ∷ 2 ∷ []) (2 ∷ 0 ∷ 1 ∷ []) false ∷ soundness [] (2 ∷ 2 ∷ 1 ∷ []) (2 ∷ 0 ∷ 1 ∷ []) false
+    ∷ soundness [] (2 ∷ 2 ∷ 2 ∷ []) (1 ∷ 0 ∷ 2 ∷ []) true ∷ soundness [] (2 ∷ 2 ∷ 2 ∷ []) (2 ∷ 0 ∷ 2 ∷ []) false
+    ∷ soundness (put 0 2 ∷ []) (2 ∷ 2 ∷ 2 ∷ []) (2 ∷ 0 ∷ 1 ∷ []) false
+    ∷ soundness (put 0 7 ∷ []) (2 ∷ 2 ∷ 2 ∷ []) (2 ∷ 0 ∷ 1 ∷ []) false
+    ∷ soundness (put 128 11 ∷ []) (2 ∷ 2 ∷ 2 ∷ []) (2 ∷ 0 ∷ 1 ∷ []) false ∷ image-reading 3 1536 [] 0
+    ∷ image-reading 4 1536 [] 11 ∷ image-reading 3 1535 [] 9 ∷ image-reading 3 0 [] 9 ∷ image-reading 3 1024 [] 11
+    ∷ image-reading 3 1536 (put 4 0 ∷ []) 10 ∷ image-reading 3 1536 (put 900 1 ∷ put 1020 156 ∷ put 1021 1 ∷ []) 11
+    ∷ image-reading 3 1536 (put 516 0 ∷ put 518 2 ∷ put 1020 27 ∷ []) 0
+    ∷ image-reading 3 1536 (put 6 4 ∷ put 508 43 ∷ []) 11 ∷ image-reading 3 1536 (put 1028 1 ∷ put 1532 85 ∷ []) 11
+    ∷ [])
+    -- a triangle with a tail
+    ∷ row 4 (
+    up 1 2 ∷ up 2 3 ∷ up 1 3 ∷ up 0 1 ∷ []) (
+    last-answers (
+    risen (1 ∷ 2 ∷ []) ∷ risen (3 ∷ []) ∷ risen (1 ∷ 2 ∷ 3 ∷ []) ∷ risen (0 ∷ []) ∷ [])
+    ∷ printed (
+    "0 +1 1 2\n" ∷ "0 +1 3\n" ∷ "0 +1 1 2 3\n" ∷ "0 +1 0\n" ∷ "numbers 1 2 2 2\n" ∷ "order 0 3 1 2\n" ∷ [])
+    ∷ all-numbers (1 ∷ 2 ∷ 2 ∷ 2 ∷ []) ∷ whole-order (0 ∷ 3 ∷ 1 ∷ 2 ∷ [])
+    ∷ shell-tree (root ∷ node 0 1 root-name ∷ node 1 2 0 ∷ []) (0 ∷ 1 ∷ 1 ∷ 1 ∷ []) ∷ backbone-radios (1 ∷ 2 ∷ 3 ∷ [])
+    ∷ connected-core 3 0 0 (0 ∷ 1 ∷ 2 ∷ 3 ∷ []) ∷ connected-core 1 2 0 (1 ∷ 2 ∷ 3 ∷ [])
+    ∷ connected-core 2 1 0 (0 ∷ 1 ∷ 2 ∷ 3 ∷ []) ∷ connected-core 0 2 8 [] ∷ connected-core 4 0 4 []
+    ∷ image-checks 1536 (48 ∷ 56 ∷ 195 ∷ []) ∷ soundness [] (1 ∷ 2 ∷ 2 ∷ 2 ∷ []) (0 ∷ 3 ∷ 1 ∷ 2 ∷ []) true
+    ∷ soundness [] (2 ∷ 2 ∷ 2 ∷ 2 ∷ []) (0 ∷ 3 ∷ 1 ∷ 2 ∷ []) false
+    ∷ soundness [] (1 ∷ 2 ∷ 2 ∷ 1 ∷ []) (0 ∷ 3 ∷ 1 ∷ 2 ∷ []) false
+    ∷ soundness [] (1 ∷ 2 ∷ 2 ∷ 2 ∷ []) (2 ∷ 1 ∷ 3 ∷ 0 ∷ []) false
+    ∷ soundness [] (1 ∷ 2 ∷ 2 ∷ 2 ∷ []) (0 ∷ 3 ∷ 1 ∷ 0 ∷ []) false
+    ∷ soundness (put 0 10 ∷ []) (1 ∷ 2 ∷ 2 ∷ 2 ∷ []) (0 ∷ 3 ∷ 1 ∷ 2 ∷ []) false
+    ∷ soundness (put 0 3 ∷ []) (1 ∷ 2 ∷ 2 ∷ 2 ∷ []) (0 ∷ 3 ∷ 1 ∷ 2 ∷ []) false
+    ∷ soundness (put 192 22 ∷ []) (1 ∷ 2 ∷ 2 ∷ 2 ∷ []) (0 ∷ 3 ∷ 1 ∷ 2 ∷ []) false ∷ image-reading 4 1536 [] 0
+    ∷ image-reading 5 1536 [] 11 ∷ image-reading 4 1535 [] 9 ∷ image-reading 4 0 [] 9 ∷ image-reading 4 1024 [] 11
+    ∷ image-reading 4 1536 (put 4 7 ∷ []) 10 ∷ image-reading 4 1536 (put 900 1 ∷ put 1020 189 ∷ put 1021 1 ∷ []) 11
+    ∷ image-reading 4 1536 (put 516 3 ∷ put 518 0 ∷ put 1020 50 ∷ []) 11
+    ∷ image-reading 4 1536 (put 6 5 ∷ put 508 55 ∷ []) 11 ∷ image-reading 4 1536 (put 1028 1 ∷ put 1532 200 ∷ []) 11
+    ∷ [])
+    ∷ []
+
 unfoldable pub random-small : List Row
 random-small =
     -- random, seed 101
@@ -664,16 +707,7 @@ random-small =
     ∷ "numbers 0 0\n" ∷ "order 0 1\n" ∷ [])
     ∷ all-numbers (0 ∷ 0 ∷ []) ∷ whole-order (0 ∷ 1 ∷ []) ∷ shell-tree (root ∷ []) (root-name ∷ root-name ∷ [])
     ∷ backbone-radios [] ∷ connected-core 1 0 0 (1 ∷ []) ∷ connected-core 0 0 0 (0 ∷ []) ∷ connected-core 1 1 8 []
-    ∷ connected-core 0 1 8 [] ∷ connected-core 2 0 4 [] ∷ image-checks 1024 (10 ∷ 11 ∷ [])
-    ∷ soundness [] (0 ∷ 0 ∷ []) (0 ∷ 1 ∷ []) true ∷ soundness [] (1 ∷ 0 ∷ []) (0 ∷ 1 ∷ []) false
-    ∷ soundness [] (0 ∷ 0 ∷ []) (0 ∷ 1 ∷ []) true ∷ soundness [] (0 ∷ 0 ∷ []) (1 ∷ 0 ∷ []) true
-    ∷ soundness [] (0 ∷ 0 ∷ []) (0 ∷ 0 ∷ []) false ∷ soundness (put 0 2 ∷ []) (0 ∷ 0 ∷ []) (0 ∷ 1 ∷ []) false
-    ∷ soundness (put 0 1 ∷ []) (0 ∷ 0 ∷ []) (0 ∷ 1 ∷ []) false
-    ∷ soundness (put 64 4 ∷ []) (0 ∷ 0 ∷ []) (0 ∷ 1 ∷ []) false ∷ image-reading 2 1024 [] 0
-    ∷ image-reading 3 1024 [] 11 ∷ image-reading 2 1023 [] 9 ∷ image-reading 2 0 [] 9 ∷ image-reading 2 512 [] 11
-    ∷ image-reading 2 1024 (put 4 1 ∷ []) 10 ∷ image-reading 2 1024 (put 900 1 ∷ put 1020 144 ∷ put 1021 1 ∷ []) 11
-    ∷ image-reading 2 1024 (put 516 1 ∷ put 518 0 ∷ put 1020 9 ∷ []) 0
-    ∷ image-reading 2 1024 (put 6 1 ∷ put 508 17 ∷ []) 11 ∷ [])
+    ∷ connected-core 0 1 8 [] ∷ connected-core 2 0 4 [] ∷ image-checks 1024 (10 ∷ 11 ∷ []) ∷ [])
     -- random, seed 102
     ∷ row 3 (
     up 0 2 ∷ up 2 0 ∷ down 0 2 ∷ up 0 2 ∷ down 0 2 ∷ up 1 0 ∷ up 2 3 ∷ down 0 1 ∷ up 1 0 ∷ up 1 2 ∷ []) (
@@ -687,17 +721,7 @@ random-small =
     ∷ shell-tree (root ∷ node 0 1 root-name ∷ []) (0 ∷ 0 ∷ 0 ∷ []) ∷ backbone-radios (0 ∷ 1 ∷ 2 ∷ [])
     ∷ connected-core 2 0 0 (0 ∷ 1 ∷ 2 ∷ []) ∷ connected-core 0 1 0 (0 ∷ 1 ∷ 2 ∷ [])
     ∷ connected-core 1 1 0 (0 ∷ 1 ∷ 2 ∷ []) ∷ connected-core 0 2 8 [] ∷ connected-core 3 0 4 []
-    ∷ image-checks 1536 (29 ∷ 21 ∷ 46 ∷ []) ∷ soundness [] (1 ∷ 1 ∷ 1 ∷ []) (2 ∷ 1 ∷ 0 ∷ []) true
-    ∷ soundness [] (2 ∷ 1 ∷ 1 ∷ []) (2 ∷ 1 ∷ 0 ∷ []) false ∷ soundness [] (1 ∷ 1 ∷ 0 ∷ []) (2 ∷ 1 ∷ 0 ∷ []) false
-    ∷ soundness [] (1 ∷ 1 ∷ 1 ∷ []) (0 ∷ 1 ∷ 2 ∷ []) true ∷ soundness [] (1 ∷ 1 ∷ 1 ∷ []) (2 ∷ 1 ∷ 2 ∷ []) false
-    ∷ soundness (put 0 6 ∷ []) (1 ∷ 1 ∷ 1 ∷ []) (2 ∷ 1 ∷ 0 ∷ []) false
-    ∷ soundness (put 0 3 ∷ []) (1 ∷ 1 ∷ 1 ∷ []) (2 ∷ 1 ∷ 0 ∷ []) false
-    ∷ soundness (put 128 10 ∷ []) (1 ∷ 1 ∷ 1 ∷ []) (2 ∷ 1 ∷ 0 ∷ []) false ∷ image-reading 3 1536 [] 0
-    ∷ image-reading 4 1536 [] 11 ∷ image-reading 3 1535 [] 9 ∷ image-reading 3 0 [] 9 ∷ image-reading 3 1024 [] 11
-    ∷ image-reading 3 1536 (put 4 0 ∷ []) 10 ∷ image-reading 3 1536 (put 900 1 ∷ put 1020 154 ∷ put 1021 1 ∷ []) 11
-    ∷ image-reading 3 1536 (put 516 1 ∷ put 518 2 ∷ put 1020 23 ∷ []) 11
-    ∷ image-reading 3 1536 (put 6 3 ∷ put 508 36 ∷ []) 11 ∷ image-reading 3 1536 (put 1028 1 ∷ put 1532 51 ∷ []) 11
-    ∷ [])
+    ∷ image-checks 1536 (29 ∷ 21 ∷ 46 ∷ []) ∷ [])
     -- random, seed 103
     ∷ row 3 (
     down 2 0 ∷ down 2 0 ∷ down 1 0 ∷ up 2 0 ∷ up 2 0 ∷ down 0 2 ∷ up 2 0 ∷ up 0 1 ∷ down 0 1 ∷ down 0 2 ∷ up 0 1
@@ -711,18 +735,7 @@ random-small =
     ∷ all-numbers (1 ∷ 1 ∷ 0 ∷ []) ∷ whole-order (2 ∷ 1 ∷ 0 ∷ [])
     ∷ shell-tree (root ∷ node 0 1 root-name ∷ []) (0 ∷ 0 ∷ root-name ∷ []) ∷ backbone-radios (0 ∷ 1 ∷ [])
     ∷ connected-core 2 0 0 (2 ∷ []) ∷ connected-core 0 1 0 (0 ∷ 1 ∷ []) ∷ connected-core 1 1 0 (0 ∷ 1 ∷ [])
-    ∷ connected-core 0 2 8 [] ∷ connected-core 3 0 4 [] ∷ image-checks 1536 (22 ∷ 21 ∷ 15 ∷ [])
-    ∷ soundness [] (1 ∷ 1 ∷ 0 ∷ []) (2 ∷ 1 ∷ 0 ∷ []) true ∷ soundness [] (2 ∷ 1 ∷ 0 ∷ []) (2 ∷ 1 ∷ 0 ∷ []) false
-    ∷ soundness [] (1 ∷ 1 ∷ 0 ∷ []) (2 ∷ 1 ∷ 0 ∷ []) true ∷ soundness [] (1 ∷ 1 ∷ 0 ∷ []) (0 ∷ 1 ∷ 2 ∷ []) false
-    ∷ soundness [] (1 ∷ 1 ∷ 0 ∷ []) (2 ∷ 1 ∷ 2 ∷ []) false
-    ∷ soundness (put 0 6 ∷ []) (1 ∷ 1 ∷ 0 ∷ []) (2 ∷ 1 ∷ 0 ∷ []) false
-    ∷ soundness (put 0 3 ∷ []) (1 ∷ 1 ∷ 0 ∷ []) (2 ∷ 1 ∷ 0 ∷ []) false
-    ∷ soundness (put 128 8 ∷ []) (1 ∷ 1 ∷ 0 ∷ []) (2 ∷ 1 ∷ 0 ∷ []) false ∷ image-reading 3 1536 [] 0
-    ∷ image-reading 4 1536 [] 11 ∷ image-reading 3 1535 [] 9 ∷ image-reading 3 0 [] 9 ∷ image-reading 3 1024 [] 11
-    ∷ image-reading 3 1536 (put 4 0 ∷ []) 10 ∷ image-reading 3 1536 (put 900 1 ∷ put 1020 154 ∷ put 1021 1 ∷ []) 11
-    ∷ image-reading 3 1536 (put 516 1 ∷ put 518 2 ∷ put 1020 23 ∷ []) 11
-    ∷ image-reading 3 1536 (put 6 2 ∷ put 508 29 ∷ []) 11 ∷ image-reading 3 1536 (put 1028 1 ∷ put 1532 20 ∷ []) 11
-    ∷ [])
+    ∷ connected-core 0 2 8 [] ∷ connected-core 3 0 4 [] ∷ image-checks 1536 (22 ∷ 21 ∷ 15 ∷ []) ∷ [])
     -- random, seed 104
     ∷ row 4 (
     down 1 3 ∷ up 0 3 ∷ up 0 2 ∷ down 0 3 ∷ up 1 2 ∷ up 3 4 ∷ up 0 3 ∷ up 0 3 ∷ up 0 1 ∷ up 0 3 ∷ down 0 2 ∷ down 0 1
@@ -737,14 +750,7 @@ random-small =
     ∷ shell-tree (root ∷ node 0 1 root-name ∷ node 1 1 root-name ∷ []) (0 ∷ 1 ∷ 1 ∷ 0 ∷ [])
     ∷ backbone-radios (0 ∷ 1 ∷ 2 ∷ 3 ∷ []) ∷ connected-core 3 0 0 (0 ∷ 3 ∷ []) ∷ connected-core 0 1 0 (0 ∷ 3 ∷ [])
     ∷ connected-core 2 1 0 (1 ∷ 2 ∷ []) ∷ connected-core 0 2 8 [] ∷ connected-core 4 0 4 []
-    ∷ image-checks 1536 (34 ∷ 42 ∷ 60 ∷ []) ∷ soundness [] (1 ∷ 1 ∷ 1 ∷ 1 ∷ []) (3 ∷ 2 ∷ 1 ∷ 0 ∷ []) true
-    ∷ soundness [] (2 ∷ 1 ∷ 1 ∷ 1 ∷ []) (3 ∷ 2 ∷ 1 ∷ 0 ∷ []) false
-    ∷ soundness [] (1 ∷ 1 ∷ 1 ∷ 0 ∷ []) (3 ∷ 2 ∷ 1 ∷ 0 ∷ []) false
-    ∷ soundness [] (1 ∷ 1 ∷ 1 ∷ 1 ∷ []) (0 ∷ 1 ∷ 2 ∷ 3 ∷ []) true
-    ∷ soundness [] (1 ∷ 1 ∷ 1 ∷ 1 ∷ []) (3 ∷ 2 ∷ 1 ∷ 3 ∷ []) false
-    ∷ soundness (put 0 0 ∷ []) (1 ∷ 1 ∷ 1 ∷ 1 ∷ []) (3 ∷ 2 ∷ 1 ∷ 0 ∷ []) false
-    ∷ soundness (put 0 9 ∷ []) (1 ∷ 1 ∷ 1 ∷ 1 ∷ []) (3 ∷ 2 ∷ 1 ∷ 0 ∷ []) false
-    ∷ soundness (put 192 17 ∷ []) (1 ∷ 1 ∷ 1 ∷ 1 ∷ []) (3 ∷ 2 ∷ 1 ∷ 0 ∷ []) false ∷ [])
+    ∷ image-checks 1536 (34 ∷ 42 ∷ 60 ∷ []) ∷ [])
     -- random, seed 105
     ∷ row 4 (
     down 0 3 ∷ up 2 1 ∷ up 1 0 ∷ down 1 2 ∷ down 0 1 ∷ down 2 0 ∷ down 0 1 ∷ down 1 2 ∷ down 3 2 ∷ up 0 2 ∷ up 2 3
@@ -760,15 +766,7 @@ random-small =
     ∷ all-numbers (0 ∷ 0 ∷ 1 ∷ 1 ∷ []) ∷ whole-order (0 ∷ 1 ∷ 3 ∷ 2 ∷ [])
     ∷ shell-tree (root ∷ node 2 1 root-name ∷ []) (root-name ∷ root-name ∷ 2 ∷ 2 ∷ []) ∷ backbone-radios (2 ∷ 3 ∷ [])
     ∷ connected-core 3 0 0 (2 ∷ 3 ∷ []) ∷ connected-core 2 1 0 (2 ∷ 3 ∷ []) ∷ connected-core 0 1 8 []
-    ∷ connected-core 4 0 4 [] ∷ image-checks 1536 (27 ∷ 60 ∷ 39 ∷ [])
-    ∷ soundness [] (0 ∷ 0 ∷ 1 ∷ 1 ∷ []) (0 ∷ 1 ∷ 3 ∷ 2 ∷ []) true
-    ∷ soundness [] (1 ∷ 0 ∷ 1 ∷ 1 ∷ []) (0 ∷ 1 ∷ 3 ∷ 2 ∷ []) false
-    ∷ soundness [] (0 ∷ 0 ∷ 1 ∷ 0 ∷ []) (0 ∷ 1 ∷ 3 ∷ 2 ∷ []) false
-    ∷ soundness [] (0 ∷ 0 ∷ 1 ∷ 1 ∷ []) (2 ∷ 3 ∷ 1 ∷ 0 ∷ []) false
-    ∷ soundness [] (0 ∷ 0 ∷ 1 ∷ 1 ∷ []) (0 ∷ 1 ∷ 3 ∷ 0 ∷ []) false
-    ∷ soundness (put 0 8 ∷ []) (0 ∷ 0 ∷ 1 ∷ 1 ∷ []) (0 ∷ 1 ∷ 3 ∷ 2 ∷ []) false
-    ∷ soundness (put 0 1 ∷ []) (0 ∷ 0 ∷ 1 ∷ 1 ∷ []) (0 ∷ 1 ∷ 3 ∷ 2 ∷ []) false
-    ∷ soundness (put 192 20 ∷ []) (0 ∷ 0 ∷ 1 ∷ 1 ∷ []) (0 ∷ 1 ∷ 3 ∷ 2 ∷ []) false ∷ [])
+    ∷ connected-core 4 0 4 [] ∷ image-checks 1536 (27 ∷ 60 ∷ 39 ∷ []) ∷ [])
     -- random, seed 106
     ∷ row 5 (
     down 0 3 ∷ up 0 1 ∷ down 0 1 ∷ up 2 3 ∷ up 2 3 ∷ up 2 1 ∷ up 0 5 ∷ up 2 3 ∷ up 2 3 ∷ up 1 3 ∷ up 2 1 ∷ down 2 3
@@ -978,4 +976,4 @@ random-large =
     ∷ []
 
 unfoldable pub histories : List Row
-histories = refusals ++ (cliques ++ (joins ++ (rises ++ (falls ++ (trees ++ (random-small ++ (random-large)))))))
+histories = refusals ++ (cliques ++ (joins ++ (rises ++ (falls ++ (trees ++ (damaged ++ (random-small ++ (random-large))))))))
