@@ -177,10 +177,12 @@ GROUPS = [
     ("damaged", "soundness and image reading, with damage", DAMAGED),
     ("random-small", "random calls at 2 to 5 radios",
      random_group(101, [(2, 8, 0.5), (3, 10, 0.6), (3, 12, 0.5), (4, 12, 0.7), (4, 16, 0.6),
-                        (5, 14, 0.7), (5, 16, 0.8), (5, 20, 0.6)])),
-    ("random-large", "random calls at 6 to 8 radios",
-     random_group(201, [(6, 16, 0.8), (6, 20, 0.7), (7, 18, 0.8), (7, 24, 0.7), (7, 20, 0.9),
-                        (8, 20, 0.8), (8, 24, 0.9), (8, 24, 0.75)])),
+                        (5, 14, 0.7), (5, 16, 0.8), (5, 20, 0.6), (5, 24, 0.7)])),
+    ("random-middle", "random calls at 6 and 7 radios",
+     random_group(201, [(6, 16, 0.8), (6, 20, 0.7), (6, 24, 0.8), (7, 18, 0.8), (7, 20, 0.9),
+                        (7, 24, 0.7)])),
+    ("random-large", "random calls at 8 radios",
+     random_group(301, [(8, 20, 0.8), (8, 24, 0.9), (8, 24, 0.75), (8, 28, 0.85)])),
 ]
 
 
@@ -295,7 +297,7 @@ def row_text(about, n, calls, start, damaged):
         wants.append(f"connected-core {v} {k} {number} {short(radios)}")
     wants.append(f"image-checks {len(site.image())} {short(site.checks())}")
     if damaged:
-        wants += [*soundness_wants(site), *reading_wants(site)]
+        wants += dict.fromkeys([*soundness_wants(site), *reading_wants(site)])
     made = "(\n" + filled([call_text(c) for c in calls]) + ")" if calls else "[]"
     answered = "(\n" + filled([answer_text(x) for x in answers]) + ")" if calls else "[]"
     return (f"    -- {about}\n    {start}row {n} {made} (\n    last-answers {answered}\n"
@@ -323,8 +325,8 @@ def text():
             out += row_text(what, n, calls, "∷ " if i else "", rows is DAMAGED)
         out += "    ∷ []\n"
     names = [name for name, _, _ in GROUPS]
-    out += ("\nunfoldable pub histories : List Row\nhistories = " + " ++ (".join(names)
-            + ")" * (len(names) - 1) + "\n")
+    joined = " ++ (".join(names[:-1]) + " ++ " + names[-1] + ")" * (len(names) - 2)
+    out += f"\nunfoldable pub histories : List Row\nhistories = {joined}\n"
     return out
 
 

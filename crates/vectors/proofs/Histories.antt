@@ -1,9 +1,10 @@
--- Every history is right: by computing, group by group, because one declaration may compute only so much.
+-- Every history is right: by computing, group by group, since many rows in one declaration take longer than the same rows
+-- in several, and a declaration may compute only so much.
 use mathlib.Core.Path.{_≡_, refl}
 use mathlib.Core.Bool.{true}
 use Rattle.calls.specs.Cases.{all-right, compute}
 use Rattle.calls.proofs.Cases.{all-right-append}
-use Rattle.vectors.specs.Histories.{refusals, cliques, joins, rises, falls, trees, damaged, random-small, random-large, histories}
+use Rattle.vectors.specs.Histories.{refusals, cliques, joins, rises, falls, trees, damaged, random-small, random-middle, random-large, histories}
 
 refusals-right : all-right refusals ≡ true
 unfolding compute refusals
@@ -37,6 +38,10 @@ random-small-right : all-right random-small ≡ true
 unfolding compute random-small
 random-small-right = refl
 
+random-middle-right : all-right random-middle ≡ true
+unfolding compute random-middle
+random-middle-right = refl
+
 random-large-right : all-right random-large ≡ true
 unfolding compute random-large
 random-large-right = refl
@@ -51,4 +56,5 @@ histories-right =
     all-right-append falls _ falls-right (
     all-right-append trees _ trees-right (
     all-right-append damaged _ damaged-right (
-    all-right-append random-small random-large random-small-right random-large-right)))))))
+    all-right-append random-small _ random-small-right (
+    all-right-append random-middle random-large random-middle-right random-large-right))))))))

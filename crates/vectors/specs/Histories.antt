@@ -8,8 +8,9 @@
 --   trees           shell trees
 --   damaged         soundness and image reading, with damage
 --   random-small    random calls at 2 to 5 radios
---   random-large    random calls at 6 to 8 radios
---   histories       all of them, 59 rows
+--   random-middle   random calls at 6 and 7 radios
+--   random-large    random calls at 8 radios
+--   histories       all of them, 62 rows
 -- That every row is right is `histories-right` in proofs/Histories.antt. Definitions only.
 use mathlib.Core.Bool.{true, false}
 use mathlib.Core.List.{List, [], _∷_, _++_}
@@ -618,11 +619,10 @@ damaged =
     ∷ all-numbers (0 ∷ []) ∷ whole-order (0 ∷ []) ∷ shell-tree (root ∷ []) (root-name ∷ []) ∷ backbone-radios []
     ∷ connected-core 0 0 0 (0 ∷ []) ∷ connected-core 0 1 8 [] ∷ connected-core 1 0 4 []
     ∷ image-checks 1024 (5 ∷ 4 ∷ []) ∷ soundness [] (0 ∷ []) (0 ∷ []) true ∷ soundness [] (1 ∷ []) (0 ∷ []) false
-    ∷ soundness [] (0 ∷ []) (0 ∷ []) true ∷ soundness [] (0 ∷ []) (0 ∷ []) true ∷ soundness [] (0 ∷ []) (0 ∷ []) true
-    ∷ soundness (put 0 1 ∷ []) (0 ∷ []) (0 ∷ []) false ∷ soundness (put 0 1 ∷ []) (0 ∷ []) (0 ∷ []) false
-    ∷ soundness (put 0 2 ∷ []) (0 ∷ []) (0 ∷ []) false ∷ image-reading 1 1024 [] 0 ∷ image-reading 2 1024 [] 11
-    ∷ image-reading 1 1023 [] 9 ∷ image-reading 1 0 [] 9 ∷ image-reading 1 512 [] 11
-    ∷ image-reading 1 1024 (put 4 2 ∷ []) 10 ∷ image-reading 1 1024 (put 900 1 ∷ put 1020 137 ∷ put 1021 1 ∷ []) 11
+    ∷ soundness (put 0 1 ∷ []) (0 ∷ []) (0 ∷ []) false ∷ soundness (put 0 2 ∷ []) (0 ∷ []) (0 ∷ []) false
+    ∷ image-reading 1 1024 [] 0 ∷ image-reading 2 1024 [] 11 ∷ image-reading 1 1023 [] 9 ∷ image-reading 1 0 [] 9
+    ∷ image-reading 1 512 [] 11 ∷ image-reading 1 1024 (put 4 2 ∷ []) 10
+    ∷ image-reading 1 1024 (put 900 1 ∷ put 1020 137 ∷ put 1021 1 ∷ []) 11
     ∷ image-reading 1 1024 (put 516 0 ∷ put 518 0 ∷ []) 0 ∷ image-reading 1 1024 (put 6 1 ∷ put 508 12 ∷ []) 11 ∷ [])
     -- a pair, a radio beside it
     ∷ row 3 (
@@ -820,10 +820,31 @@ random-small =
     ∷ backbone-radios (1 ∷ 4 ∷ []) ∷ connected-core 4 0 0 (1 ∷ 4 ∷ []) ∷ connected-core 1 1 0 (1 ∷ 4 ∷ [])
     ∷ connected-core 2 1 8 [] ∷ connected-core 0 1 8 [] ∷ connected-core 5 0 4 []
     ∷ image-checks 1536 (32 ∷ 98 ∷ 41 ∷ []) ∷ [])
+    -- random, seed 109
+    ∷ row 5 (
+    up 4 0 ∷ up 2 0 ∷ down 0 2 ∷ down 0 4 ∷ up 0 2 ∷ up 1 3 ∷ down 1 3 ∷ up 0 3 ∷ down 0 2 ∷ down 0 3 ∷ up 3 0
+    ∷ down 0 3 ∷ up 4 2 ∷ up 4 3 ∷ up 4 0 ∷ up 1 0 ∷ up 4 1 ∷ down 1 4 ∷ down 3 4 ∷ up 2 3 ∷ down 0 0 ∷ up 3 0
+    ∷ up 0 3 ∷ up 1 0 ∷ []) (
+    last-answers (
+    risen (0 ∷ 4 ∷ []) ∷ risen (2 ∷ []) ∷ fallen (2 ∷ []) ∷ fallen (0 ∷ 4 ∷ []) ∷ risen (0 ∷ 2 ∷ [])
+    ∷ risen (1 ∷ 3 ∷ []) ∷ fallen (1 ∷ 3 ∷ []) ∷ risen (3 ∷ []) ∷ fallen (2 ∷ []) ∷ fallen (0 ∷ 3 ∷ [])
+    ∷ risen (0 ∷ 3 ∷ []) ∷ fallen (0 ∷ 3 ∷ []) ∷ risen (2 ∷ 4 ∷ []) ∷ risen (3 ∷ []) ∷ risen (0 ∷ []) ∷ risen (1 ∷ [])
+    ∷ risen (0 ∷ 1 ∷ 4 ∷ []) ∷ fallen (0 ∷ 1 ∷ 4 ∷ []) ∷ fallen (3 ∷ []) ∷ risen (3 ∷ []) ∷ refused 5
+    ∷ risen (0 ∷ 2 ∷ 3 ∷ 4 ∷ []) ∷ refused 6 ∷ refused 6 ∷ [])
+    ∷ printed (
+    "0 +1 0 4\n" ∷ "0 +1 2\n" ∷ "0 -1 2\n" ∷ "0 -1 0 4\n" ∷ "0 +1 0 2\n" ∷ "0 +1 1 3\n" ∷ "0 -1 1 3\n" ∷ "0 +1 3\n"
+    ∷ "0 -1 2\n" ∷ "0 -1 0 3\n" ∷ "0 +1 0 3\n" ∷ "0 -1 0 3\n" ∷ "0 +1 2 4\n" ∷ "0 +1 3\n" ∷ "0 +1 0\n" ∷ "0 +1 1\n"
+    ∷ "0 +1 0 1 4\n" ∷ "0 -1 0 1 4\n" ∷ "0 -1 3\n" ∷ "0 +1 3\n" ∷ "5 0\n" ∷ "0 +1 0 2 3 4\n" ∷ "6 0\n" ∷ "6 0\n"
+    ∷ "numbers 2 1 2 2 2\n" ∷ "order 1 3 2 0 4\n" ∷ [])
+    ∷ all-numbers (2 ∷ 1 ∷ 2 ∷ 2 ∷ 2 ∷ []) ∷ whole-order (1 ∷ 3 ∷ 2 ∷ 0 ∷ 4 ∷ [])
+    ∷ shell-tree (root ∷ node 1 1 root-name ∷ node 0 2 1 ∷ []) (0 ∷ 1 ∷ 0 ∷ 0 ∷ 0 ∷ [])
+    ∷ backbone-radios (0 ∷ 2 ∷ 3 ∷ 4 ∷ []) ∷ connected-core 4 0 0 (0 ∷ 1 ∷ 2 ∷ 3 ∷ 4 ∷ [])
+    ∷ connected-core 0 2 0 (0 ∷ 2 ∷ 3 ∷ 4 ∷ []) ∷ connected-core 2 1 0 (0 ∷ 1 ∷ 2 ∷ 3 ∷ 4 ∷ [])
+    ∷ connected-core 0 3 8 [] ∷ connected-core 5 0 4 [] ∷ image-checks 1536 (60 ∷ 100 ∷ 333 ∷ []) ∷ [])
     ∷ []
 
-unfoldable pub random-large : List Row
-random-large =
+unfoldable pub random-middle : List Row
+random-middle =
     -- random, seed 201
     row 6 (
     up 0 2 ∷ up 5 3 ∷ up 3 4 ∷ up 4 3 ∷ up 5 1 ∷ up 4 2 ∷ down 3 5 ∷ down 2 4 ∷ up 2 4 ∷ up 3 1 ∷ up 0 3 ∷ down 0 3
@@ -860,43 +881,42 @@ random-large =
     ∷ connected-core 0 3 0 (0 ∷ 1 ∷ 2 ∷ 3 ∷ 5 ∷ []) ∷ connected-core 3 1 0 (0 ∷ 1 ∷ 2 ∷ 3 ∷ 4 ∷ 5 ∷ [])
     ∷ connected-core 0 4 8 [] ∷ connected-core 6 0 4 [] ∷ image-checks 1536 (107 ∷ 149 ∷ 1726 ∷ []) ∷ [])
     -- random, seed 203
-    ∷ row 7 (
-    up 4 1 ∷ up 6 2 ∷ up 6 1 ∷ up 2 1 ∷ up 2 4 ∷ up 1 3 ∷ up 0 3 ∷ up 1 0 ∷ up 3 4 ∷ up 2 0 ∷ up 3 2 ∷ up 5 2 ∷ up 1 5
-    ∷ down 2 5 ∷ up 3 4 ∷ up 6 5 ∷ up 2 6 ∷ up 0 3 ∷ []) (
+    ∷ row 6 (
+    up 4 1 ∷ up 2 4 ∷ up 1 2 ∷ up 1 0 ∷ up 2 4 ∷ up 1 3 ∷ up 0 3 ∷ up 1 0 ∷ up 3 4 ∷ up 2 0 ∷ up 3 2 ∷ up 5 2 ∷ up 1 0
+    ∷ up 5 0 ∷ up 2 5 ∷ up 0 5 ∷ down 2 3 ∷ up 0 2 ∷ down 0 5 ∷ up 3 2 ∷ down 2 4 ∷ up 1 3 ∷ up 1 4 ∷ up 6 1 ∷ []) (
     last-answers (
-    risen (1 ∷ 4 ∷ []) ∷ risen (2 ∷ 6 ∷ []) ∷ unchanged ∷ risen (1 ∷ 2 ∷ 6 ∷ []) ∷ risen (4 ∷ []) ∷ risen (3 ∷ [])
-    ∷ risen (0 ∷ []) ∷ risen (0 ∷ 3 ∷ []) ∷ unchanged ∷ risen (0 ∷ 1 ∷ 2 ∷ 3 ∷ 4 ∷ []) ∷ unchanged ∷ risen (5 ∷ [])
-    ∷ risen (5 ∷ []) ∷ fallen (5 ∷ []) ∷ refused 6 ∷ risen (5 ∷ []) ∷ refused 6 ∷ refused 6 ∷ [])
+    risen (1 ∷ 4 ∷ []) ∷ risen (2 ∷ []) ∷ risen (1 ∷ 2 ∷ 4 ∷ []) ∷ risen (0 ∷ []) ∷ refused 6 ∷ risen (3 ∷ [])
+    ∷ risen (0 ∷ 3 ∷ []) ∷ refused 6 ∷ unchanged ∷ risen (0 ∷ 1 ∷ 2 ∷ 3 ∷ 4 ∷ []) ∷ unchanged ∷ risen (5 ∷ [])
+    ∷ refused 6 ∷ risen (5 ∷ []) ∷ refused 6 ∷ refused 6 ∷ unchanged ∷ refused 6 ∷ fallen (5 ∷ []) ∷ unchanged
+    ∷ fallen (4 ∷ []) ∷ refused 6 ∷ refused 6 ∷ refused 4 ∷ [])
     ∷ printed (
-    "0 +1 1 4\n" ∷ "0 +1 2 6\n" ∷ "0 0\n" ∷ "0 +1 1 2 6\n" ∷ "0 +1 4\n" ∷ "0 +1 3\n" ∷ "0 +1 0\n" ∷ "0 +1 0 3\n"
-    ∷ "0 0\n" ∷ "0 +1 0 1 2 3 4\n" ∷ "0 0\n" ∷ "0 +1 5\n" ∷ "0 +1 5\n" ∷ "0 -1 5\n" ∷ "6 0\n" ∷ "0 +1 5\n" ∷ "6 0\n"
-    ∷ "6 0\n" ∷ "numbers 3 3 3 3 3 2 2\n" ∷ "order 5 6 0 3 4 2 1\n" ∷ [])
-    ∷ all-numbers (3 ∷ 3 ∷ 3 ∷ 3 ∷ 3 ∷ 2 ∷ 2 ∷ []) ∷ whole-order (5 ∷ 6 ∷ 0 ∷ 3 ∷ 4 ∷ 2 ∷ 1 ∷ [])
-    ∷ shell-tree (root ∷ node 5 2 root-name ∷ node 0 3 5 ∷ []) (0 ∷ 0 ∷ 0 ∷ 0 ∷ 0 ∷ 5 ∷ 5 ∷ [])
-    ∷ backbone-radios (0 ∷ 1 ∷ 2 ∷ 3 ∷ 4 ∷ []) ∷ connected-core 6 0 0 (0 ∷ 1 ∷ 2 ∷ 3 ∷ 4 ∷ 5 ∷ 6 ∷ [])
-    ∷ connected-core 0 3 0 (0 ∷ 1 ∷ 2 ∷ 3 ∷ 4 ∷ []) ∷ connected-core 3 1 0 (0 ∷ 1 ∷ 2 ∷ 3 ∷ 4 ∷ 5 ∷ 6 ∷ [])
-    ∷ connected-core 0 4 8 [] ∷ connected-core 7 0 4 [] ∷ image-checks 1536 (126 ∷ 203 ∷ 2550 ∷ []) ∷ [])
+    "0 +1 1 4\n" ∷ "0 +1 2\n" ∷ "0 +1 1 2 4\n" ∷ "0 +1 0\n" ∷ "6 0\n" ∷ "0 +1 3\n" ∷ "0 +1 0 3\n" ∷ "6 0\n" ∷ "0 0\n"
+    ∷ "0 +1 0 1 2 3 4\n" ∷ "0 0\n" ∷ "0 +1 5\n" ∷ "6 0\n" ∷ "0 +1 5\n" ∷ "6 0\n" ∷ "6 0\n" ∷ "0 0\n" ∷ "6 0\n"
+    ∷ "0 -1 5\n" ∷ "0 0\n" ∷ "0 -1 4\n" ∷ "6 0\n" ∷ "6 0\n" ∷ "4 0\n" ∷ "numbers 3 3 3 3 2 1\n"
+    ∷ "order 5 4 0 3 2 1\n" ∷ [])
+    ∷ all-numbers (3 ∷ 3 ∷ 3 ∷ 3 ∷ 2 ∷ 1 ∷ []) ∷ whole-order (5 ∷ 4 ∷ 0 ∷ 3 ∷ 2 ∷ 1 ∷ [])
+    ∷ shell-tree (root ∷ node 5 1 root-name ∷ node 4 2 5 ∷ node 0 3 4 ∷ []) (0 ∷ 0 ∷ 0 ∷ 0 ∷ 4 ∷ 5 ∷ [])
+    ∷ backbone-radios (0 ∷ 1 ∷ 2 ∷ 3 ∷ []) ∷ connected-core 5 0 0 (0 ∷ 1 ∷ 2 ∷ 3 ∷ 4 ∷ 5 ∷ [])
+    ∷ connected-core 0 3 0 (0 ∷ 1 ∷ 2 ∷ 3 ∷ []) ∷ connected-core 3 1 0 (0 ∷ 1 ∷ 2 ∷ 3 ∷ 4 ∷ 5 ∷ [])
+    ∷ connected-core 0 4 8 [] ∷ connected-core 6 0 4 [] ∷ image-checks 1536 (93 ∷ 131 ∷ 1019 ∷ []) ∷ [])
     -- random, seed 204
     ∷ row 7 (
     up 3 2 ∷ up 0 5 ∷ up 3 0 ∷ up 4 2 ∷ down 2 3 ∷ down 0 5 ∷ up 5 2 ∷ up 5 4 ∷ up 4 6 ∷ up 4 0 ∷ up 1 3 ∷ up 7 2
-    ∷ down 2 4 ∷ down 4 6 ∷ down 0 4 ∷ down 4 5 ∷ down 2 5 ∷ down 1 3 ∷ up 5 0 ∷ up 2 3 ∷ down 0 5 ∷ up 6 3 ∷ up 2 0
-    ∷ down 2 3 ∷ []) (
+    ∷ down 2 4 ∷ up 5 3 ∷ up 4 3 ∷ down 4 6 ∷ up 3 4 ∷ up 4 6 ∷ []) (
     last-answers (
     risen (2 ∷ 3 ∷ []) ∷ risen (0 ∷ 5 ∷ []) ∷ unchanged ∷ risen (4 ∷ []) ∷ unchanged ∷ fallen (5 ∷ [])
     ∷ risen (5 ∷ []) ∷ risen (2 ∷ 4 ∷ 5 ∷ []) ∷ risen (6 ∷ []) ∷ unchanged ∷ risen (1 ∷ []) ∷ refused 4
-    ∷ fallen (2 ∷ 4 ∷ 5 ∷ []) ∷ fallen (6 ∷ []) ∷ unchanged ∷ fallen (4 ∷ []) ∷ fallen (2 ∷ 5 ∷ []) ∷ fallen (1 ∷ [])
-    ∷ risen (5 ∷ []) ∷ risen (2 ∷ []) ∷ fallen (5 ∷ []) ∷ risen (6 ∷ []) ∷ risen (0 ∷ 2 ∷ 3 ∷ [])
-    ∷ fallen (0 ∷ 2 ∷ 3 ∷ []) ∷ [])
+    ∷ fallen (2 ∷ 4 ∷ 5 ∷ []) ∷ risen (0 ∷ 3 ∷ 4 ∷ 5 ∷ []) ∷ unchanged ∷ fallen (6 ∷ []) ∷ refused 6 ∷ risen (6 ∷ [])
+    ∷ [])
     ∷ printed (
     "0 +1 2 3\n" ∷ "0 +1 0 5\n" ∷ "0 0\n" ∷ "0 +1 4\n" ∷ "0 0\n" ∷ "0 -1 5\n" ∷ "0 +1 5\n" ∷ "0 +1 2 4 5\n"
-    ∷ "0 +1 6\n" ∷ "0 0\n" ∷ "0 +1 1\n" ∷ "4 0\n" ∷ "0 -1 2 4 5\n" ∷ "0 -1 6\n" ∷ "0 0\n" ∷ "0 -1 4\n" ∷ "0 -1 2 5\n"
-    ∷ "0 -1 1\n" ∷ "0 +1 5\n" ∷ "0 +1 2\n" ∷ "0 -1 5\n" ∷ "0 +1 6\n" ∷ "0 +1 0 2 3\n" ∷ "0 -1 0 2 3\n"
-    ∷ "numbers 1 0 1 1 0 0 1\n" ∷ "order 4 1 5 6 2 3 0\n" ∷ [])
-    ∷ all-numbers (1 ∷ 0 ∷ 1 ∷ 1 ∷ 0 ∷ 0 ∷ 1 ∷ []) ∷ whole-order (4 ∷ 1 ∷ 5 ∷ 6 ∷ 2 ∷ 3 ∷ 0 ∷ [])
-    ∷ shell-tree (root ∷ node 0 1 root-name ∷ []) (0 ∷ root-name ∷ 0 ∷ 0 ∷ root-name ∷ root-name ∷ 0 ∷ [])
-    ∷ backbone-radios (0 ∷ 2 ∷ 3 ∷ 6 ∷ []) ∷ connected-core 6 0 0 (0 ∷ 2 ∷ 3 ∷ 6 ∷ [])
-    ∷ connected-core 0 1 0 (0 ∷ 2 ∷ 3 ∷ 6 ∷ []) ∷ connected-core 3 1 0 (0 ∷ 2 ∷ 3 ∷ 6 ∷ []) ∷ connected-core 0 2 8 []
-    ∷ connected-core 7 0 4 [] ∷ image-checks 1536 (56 ∷ 213 ∷ 184 ∷ []) ∷ [])
+    ∷ "0 +1 6\n" ∷ "0 0\n" ∷ "0 +1 1\n" ∷ "4 0\n" ∷ "0 -1 2 4 5\n" ∷ "0 +1 0 3 4 5\n" ∷ "0 0\n" ∷ "0 -1 6\n" ∷ "6 0\n"
+    ∷ "0 +1 6\n" ∷ "numbers 2 1 1 2 2 2 1\n" ∷ "order 6 1 2 0 3 4 5\n" ∷ [])
+    ∷ all-numbers (2 ∷ 1 ∷ 1 ∷ 2 ∷ 2 ∷ 2 ∷ 1 ∷ []) ∷ whole-order (6 ∷ 1 ∷ 2 ∷ 0 ∷ 3 ∷ 4 ∷ 5 ∷ [])
+    ∷ shell-tree (root ∷ node 1 1 root-name ∷ node 0 2 1 ∷ []) (0 ∷ 1 ∷ 1 ∷ 0 ∷ 0 ∷ 0 ∷ 1 ∷ [])
+    ∷ backbone-radios (0 ∷ 3 ∷ 4 ∷ 5 ∷ []) ∷ connected-core 6 0 0 (0 ∷ 1 ∷ 2 ∷ 3 ∷ 4 ∷ 5 ∷ 6 ∷ [])
+    ∷ connected-core 0 2 0 (0 ∷ 3 ∷ 4 ∷ 5 ∷ []) ∷ connected-core 3 1 0 (0 ∷ 1 ∷ 2 ∷ 3 ∷ 4 ∷ 5 ∷ 6 ∷ [])
+    ∷ connected-core 0 3 8 [] ∷ connected-core 7 0 4 [] ∷ image-checks 1536 (91 ∷ 243 ∷ 1238 ∷ []) ∷ [])
     -- random, seed 205
     ∷ row 7 (
     up 4 3 ∷ up 6 4 ∷ up 6 1 ∷ up 1 4 ∷ down 3 4 ∷ up 6 2 ∷ up 4 3 ∷ up 4 5 ∷ up 4 2 ∷ up 2 5 ∷ up 1 3 ∷ up 6 4
@@ -916,64 +936,113 @@ random-large =
     ∷ connected-core 1 3 0 (1 ∷ 2 ∷ 3 ∷ 4 ∷ 5 ∷ 6 ∷ []) ∷ connected-core 3 1 0 (0 ∷ 1 ∷ 2 ∷ 3 ∷ 4 ∷ 5 ∷ 6 ∷ [])
     ∷ connected-core 0 2 8 [] ∷ connected-core 7 0 4 [] ∷ image-checks 1536 (119 ∷ 263 ∷ 2489 ∷ []) ∷ [])
     -- random, seed 206
-    ∷ row 8 (
-    up 3 6 ∷ up 3 1 ∷ up 2 5 ∷ up 3 2 ∷ down 3 6 ∷ up 4 0 ∷ down 0 4 ∷ down 2 3 ∷ up 8 8 ∷ down 1 3 ∷ down 5 5
-    ∷ up 6 7 ∷ up 1 7 ∷ up 5 7 ∷ up 2 4 ∷ up 5 0 ∷ up 0 4 ∷ up 5 2 ∷ down 6 7 ∷ up 3 6 ∷ []) (
+    ∷ row 7 (
+    up 5 1 ∷ down 1 5 ∷ up 5 4 ∷ up 2 5 ∷ up 3 6 ∷ up 2 0 ∷ down 0 2 ∷ down 2 5 ∷ up 0 3 ∷ up 6 0 ∷ up 0 1 ∷ up 5 6
+    ∷ up 6 1 ∷ down 0 1 ∷ down 3 6 ∷ up 4 6 ∷ down 0 3 ∷ up 7 7 ∷ down 5 6 ∷ up 4 1 ∷ up 5 6 ∷ down 5 6 ∷ up 6 4
+    ∷ up 5 0 ∷ []) (
     last-answers (
-    risen (3 ∷ 6 ∷ []) ∷ risen (1 ∷ []) ∷ risen (2 ∷ 5 ∷ []) ∷ unchanged ∷ fallen (6 ∷ []) ∷ risen (0 ∷ 4 ∷ [])
-    ∷ fallen (0 ∷ 4 ∷ []) ∷ unchanged ∷ refused 4 ∷ fallen (1 ∷ 3 ∷ []) ∷ refused 5 ∷ risen (6 ∷ 7 ∷ [])
-    ∷ risen (1 ∷ []) ∷ unchanged ∷ risen (4 ∷ []) ∷ risen (0 ∷ []) ∷ risen (0 ∷ 2 ∷ 4 ∷ 5 ∷ []) ∷ refused 6
-    ∷ fallen (6 ∷ []) ∷ risen (3 ∷ 6 ∷ []) ∷ [])
+    risen (1 ∷ 5 ∷ []) ∷ fallen (1 ∷ 5 ∷ []) ∷ risen (4 ∷ 5 ∷ []) ∷ risen (2 ∷ []) ∷ risen (3 ∷ 6 ∷ [])
+    ∷ risen (0 ∷ []) ∷ fallen (0 ∷ []) ∷ fallen (2 ∷ []) ∷ risen (0 ∷ []) ∷ risen (0 ∷ 3 ∷ 6 ∷ []) ∷ risen (1 ∷ [])
+    ∷ unchanged ∷ risen (1 ∷ []) ∷ fallen (1 ∷ []) ∷ fallen (0 ∷ 3 ∷ 6 ∷ []) ∷ risen (4 ∷ 5 ∷ 6 ∷ [])
+    ∷ fallen (3 ∷ []) ∷ refused 4 ∷ fallen (4 ∷ 5 ∷ 6 ∷ []) ∷ risen (1 ∷ 4 ∷ 6 ∷ []) ∷ risen (5 ∷ [])
+    ∷ fallen (5 ∷ []) ∷ refused 6 ∷ risen (0 ∷ 5 ∷ []) ∷ [])
     ∷ printed (
-    "0 +1 3 6\n" ∷ "0 +1 1\n" ∷ "0 +1 2 5\n" ∷ "0 0\n" ∷ "0 -1 6\n" ∷ "0 +1 0 4\n" ∷ "0 -1 0 4\n" ∷ "0 0\n" ∷ "4 0\n"
-    ∷ "0 -1 1 3\n" ∷ "5 0\n" ∷ "0 +1 6 7\n" ∷ "0 +1 1\n" ∷ "0 0\n" ∷ "0 +1 4\n" ∷ "0 +1 0\n" ∷ "0 +1 0 2 4 5\n"
-    ∷ "6 0\n" ∷ "0 -1 6\n" ∷ "0 +1 3 6\n" ∷ "numbers 2 1 2 1 2 2 1 1\n" ∷ "order 3 6 1 7 0 4 5 2\n" ∷ [])
-    ∷ all-numbers (2 ∷ 1 ∷ 2 ∷ 1 ∷ 2 ∷ 2 ∷ 1 ∷ 1 ∷ []) ∷ whole-order (3 ∷ 6 ∷ 1 ∷ 7 ∷ 0 ∷ 4 ∷ 5 ∷ 2 ∷ [])
-    ∷ shell-tree (root ∷ node 1 1 root-name ∷ node 3 1 root-name ∷ node 0 2 1 ∷ []) (0 ∷ 1 ∷ 0 ∷ 3 ∷ 0 ∷ 0 ∷ 3 ∷ 1 ∷ [])
-    ∷ backbone-radios (0 ∷ 2 ∷ 4 ∷ 5 ∷ []) ∷ connected-core 7 0 0 (0 ∷ 1 ∷ 2 ∷ 4 ∷ 5 ∷ 7 ∷ [])
-    ∷ connected-core 0 2 0 (0 ∷ 2 ∷ 4 ∷ 5 ∷ []) ∷ connected-core 4 1 0 (0 ∷ 1 ∷ 2 ∷ 4 ∷ 5 ∷ 7 ∷ [])
-    ∷ connected-core 0 3 8 [] ∷ connected-core 8 0 4 [] ∷ image-checks 1536 (89 ∷ 330 ∷ 1075 ∷ []) ∷ [])
-    -- random, seed 207
-    ∷ row 8 (
-    up 3 5 ∷ up 5 1 ∷ up 0 2 ∷ up 5 4 ∷ down 1 5 ∷ up 5 0 ∷ up 1 2 ∷ up 4 3 ∷ up 4 0 ∷ up 5 2 ∷ up 5 6 ∷ up 3 1
-    ∷ up 5 2 ∷ down 0 5 ∷ up 5 0 ∷ up 1 3 ∷ up 7 6 ∷ up 4 1 ∷ up 4 5 ∷ up 5 0 ∷ up 1 3 ∷ up 7 3 ∷ up 2 4 ∷ up 1 7 ∷ []) (
+    "0 +1 1 5\n" ∷ "0 -1 1 5\n" ∷ "0 +1 4 5\n" ∷ "0 +1 2\n" ∷ "0 +1 3 6\n" ∷ "0 +1 0\n" ∷ "0 -1 0\n" ∷ "0 -1 2\n"
+    ∷ "0 +1 0\n" ∷ "0 +1 0 3 6\n" ∷ "0 +1 1\n" ∷ "0 0\n" ∷ "0 +1 1\n" ∷ "0 -1 1\n" ∷ "0 -1 0 3 6\n" ∷ "0 +1 4 5 6\n"
+    ∷ "0 -1 3\n" ∷ "4 0\n" ∷ "0 -1 4 5 6\n" ∷ "0 +1 1 4 6\n" ∷ "0 +1 5\n" ∷ "0 -1 5\n" ∷ "6 0\n" ∷ "0 +1 0 5\n"
+    ∷ "numbers 2 2 0 0 2 2 2\n" ∷ "order 2 3 0 5 1 4 6\n" ∷ [])
+    ∷ all-numbers (2 ∷ 2 ∷ 0 ∷ 0 ∷ 2 ∷ 2 ∷ 2 ∷ []) ∷ whole-order (2 ∷ 3 ∷ 0 ∷ 5 ∷ 1 ∷ 4 ∷ 6 ∷ [])
+    ∷ shell-tree (root ∷ node 0 2 root-name ∷ []) (0 ∷ 0 ∷ root-name ∷ root-name ∷ 0 ∷ 0 ∷ 0 ∷ [])
+    ∷ backbone-radios (0 ∷ 1 ∷ 4 ∷ 5 ∷ 6 ∷ []) ∷ connected-core 6 0 0 (0 ∷ 1 ∷ 4 ∷ 5 ∷ 6 ∷ [])
+    ∷ connected-core 0 2 0 (0 ∷ 1 ∷ 4 ∷ 5 ∷ 6 ∷ []) ∷ connected-core 3 1 8 [] ∷ connected-core 0 3 8 []
+    ∷ connected-core 7 0 4 [] ∷ image-checks 1536 (77 ∷ 265 ∷ 774 ∷ []) ∷ [])
+    ∷ []
+
+unfoldable pub random-large : List Row
+random-large =
+    -- random, seed 301
+    row 8 (
+    up 7 4 ∷ up 4 0 ∷ down 4 7 ∷ down 0 4 ∷ up 5 3 ∷ up 7 0 ∷ up 1 7 ∷ up 2 6 ∷ down 2 6 ∷ up 6 0 ∷ up 6 7 ∷ up 1 4
+    ∷ down 0 7 ∷ up 4 5 ∷ up 6 7 ∷ up 7 6 ∷ up 3 0 ∷ up 4 0 ∷ down 0 6 ∷ up 5 1 ∷ []) (
     last-answers (
-    risen (3 ∷ 5 ∷ []) ∷ risen (1 ∷ []) ∷ risen (0 ∷ 2 ∷ []) ∷ risen (4 ∷ []) ∷ fallen (1 ∷ []) ∷ unchanged
-    ∷ risen (1 ∷ []) ∷ risen (3 ∷ 4 ∷ 5 ∷ []) ∷ risen (0 ∷ []) ∷ risen (2 ∷ []) ∷ risen (6 ∷ []) ∷ risen (1 ∷ [])
-    ∷ refused 6 ∷ unchanged ∷ unchanged ∷ refused 6 ∷ risen (7 ∷ []) ∷ risen (0 ∷ 1 ∷ 2 ∷ 3 ∷ 4 ∷ 5 ∷ []) ∷ refused 6
-    ∷ refused 6 ∷ refused 6 ∷ risen (6 ∷ 7 ∷ []) ∷ unchanged ∷ unchanged ∷ [])
+    risen (4 ∷ 7 ∷ []) ∷ risen (0 ∷ []) ∷ fallen (7 ∷ []) ∷ fallen (0 ∷ 4 ∷ []) ∷ risen (3 ∷ 5 ∷ [])
+    ∷ risen (0 ∷ 7 ∷ []) ∷ risen (1 ∷ []) ∷ risen (2 ∷ 6 ∷ []) ∷ fallen (2 ∷ 6 ∷ []) ∷ risen (6 ∷ [])
+    ∷ risen (0 ∷ 6 ∷ 7 ∷ []) ∷ risen (4 ∷ []) ∷ fallen (0 ∷ 6 ∷ 7 ∷ []) ∷ unchanged ∷ refused 6 ∷ refused 6
+    ∷ risen (0 ∷ 1 ∷ 3 ∷ 4 ∷ 5 ∷ 6 ∷ 7 ∷ []) ∷ unchanged ∷ fallen (1 ∷ 6 ∷ 7 ∷ []) ∷ risen (1 ∷ []) ∷ [])
     ∷ printed (
-    "0 +1 3 5\n" ∷ "0 +1 1\n" ∷ "0 +1 0 2\n" ∷ "0 +1 4\n" ∷ "0 -1 1\n" ∷ "0 0\n" ∷ "0 +1 1\n" ∷ "0 +1 3 4 5\n"
-    ∷ "0 +1 0\n" ∷ "0 +1 2\n" ∷ "0 +1 6\n" ∷ "0 +1 1\n" ∷ "6 0\n" ∷ "0 0\n" ∷ "0 0\n" ∷ "6 0\n" ∷ "0 +1 7\n"
-    ∷ "0 +1 0 1 2 3 4 5\n" ∷ "6 0\n" ∷ "6 0\n" ∷ "6 0\n" ∷ "0 +1 6 7\n" ∷ "0 0\n" ∷ "0 0\n"
-    ∷ "numbers 3 3 3 3 3 3 2 2\n" ∷ "order 6 7 1 2 0 4 3 5\n" ∷ [])
-    ∷ all-numbers (3 ∷ 3 ∷ 3 ∷ 3 ∷ 3 ∷ 3 ∷ 2 ∷ 2 ∷ []) ∷ whole-order (6 ∷ 7 ∷ 1 ∷ 2 ∷ 0 ∷ 4 ∷ 3 ∷ 5 ∷ [])
-    ∷ shell-tree (root ∷ node 6 2 root-name ∷ node 0 3 6 ∷ []) (0 ∷ 0 ∷ 0 ∷ 0 ∷ 0 ∷ 0 ∷ 6 ∷ 6 ∷ [])
-    ∷ backbone-radios (0 ∷ 1 ∷ 2 ∷ 3 ∷ 4 ∷ 5 ∷ []) ∷ connected-core 7 0 0 (0 ∷ 1 ∷ 2 ∷ 3 ∷ 4 ∷ 5 ∷ 6 ∷ 7 ∷ [])
-    ∷ connected-core 0 3 0 (0 ∷ 1 ∷ 2 ∷ 3 ∷ 4 ∷ 5 ∷ []) ∷ connected-core 4 1 0 (0 ∷ 1 ∷ 2 ∷ 3 ∷ 4 ∷ 5 ∷ 6 ∷ 7 ∷ [])
-    ∷ connected-core 0 4 8 [] ∷ connected-core 8 0 4 [] ∷ image-checks 1536 (145 ∷ 320 ∷ 4242 ∷ []) ∷ [])
-    -- random, seed 208
+    "0 +1 4 7\n" ∷ "0 +1 0\n" ∷ "0 -1 7\n" ∷ "0 -1 0 4\n" ∷ "0 +1 3 5\n" ∷ "0 +1 0 7\n" ∷ "0 +1 1\n" ∷ "0 +1 2 6\n"
+    ∷ "0 -1 2 6\n" ∷ "0 +1 6\n" ∷ "0 +1 0 6 7\n" ∷ "0 +1 4\n" ∷ "0 -1 0 6 7\n" ∷ "0 0\n" ∷ "6 0\n" ∷ "6 0\n"
+    ∷ "0 +1 0 1 3 4 5 6 7\n" ∷ "0 0\n" ∷ "0 -1 1 6 7\n" ∷ "0 +1 1\n" ∷ "numbers 2 2 0 2 2 2 1 1\n"
+    ∷ "order 2 6 7 1 3 5 4 0\n" ∷ [])
+    ∷ all-numbers (2 ∷ 2 ∷ 0 ∷ 2 ∷ 2 ∷ 2 ∷ 1 ∷ 1 ∷ []) ∷ whole-order (2 ∷ 6 ∷ 7 ∷ 1 ∷ 3 ∷ 5 ∷ 4 ∷ 0 ∷ [])
+    ∷ shell-tree (root ∷ node 6 1 root-name ∷ node 0 2 6 ∷ []) (0 ∷ 0 ∷ root-name ∷ 0 ∷ 0 ∷ 0 ∷ 6 ∷ 6 ∷ [])
+    ∷ backbone-radios (0 ∷ 1 ∷ 3 ∷ 4 ∷ 5 ∷ []) ∷ connected-core 7 0 0 (0 ∷ 1 ∷ 3 ∷ 4 ∷ 5 ∷ 6 ∷ 7 ∷ [])
+    ∷ connected-core 0 2 0 (0 ∷ 1 ∷ 3 ∷ 4 ∷ 5 ∷ []) ∷ connected-core 4 1 0 (0 ∷ 1 ∷ 3 ∷ 4 ∷ 5 ∷ 6 ∷ 7 ∷ [])
+    ∷ connected-core 0 3 8 [] ∷ connected-core 8 0 4 [] ∷ image-checks 1536 (96 ∷ 312 ∷ 1364 ∷ []) ∷ [])
+    -- random, seed 302
     ∷ row 8 (
-    up 0 4 ∷ down 0 4 ∷ up 3 2 ∷ up 2 3 ∷ up 3 1 ∷ up 6 1 ∷ up 5 6 ∷ up 2 6 ∷ up 0 5 ∷ up 0 1 ∷ up 5 2 ∷ up 6 5
-    ∷ up 6 0 ∷ up 2 3 ∷ up 5 3 ∷ up 7 0 ∷ up 3 0 ∷ up 1 7 ∷ down 5 6 ∷ up 4 6 ∷ up 5 0 ∷ down 3 7 ∷ down 0 6 ∷ up 6 1
-    ∷ []) (
+    down 6 3 ∷ down 6 3 ∷ up 6 2 ∷ up 0 5 ∷ up 0 5 ∷ down 5 6 ∷ up 7 3 ∷ up 2 0 ∷ up 6 2 ∷ up 6 5 ∷ up 3 0 ∷ up 1 4
+    ∷ up 4 0 ∷ up 2 6 ∷ up 2 3 ∷ up 0 6 ∷ up 0 2 ∷ down 5 6 ∷ up 7 0 ∷ up 4 3 ∷ up 3 7 ∷ up 3 6 ∷ up 7 5 ∷ up 6 1 ∷ []) (
     last-answers (
-    risen (0 ∷ 4 ∷ []) ∷ fallen (0 ∷ 4 ∷ []) ∷ risen (2 ∷ 3 ∷ []) ∷ refused 6 ∷ risen (1 ∷ []) ∷ risen (6 ∷ [])
-    ∷ risen (5 ∷ []) ∷ risen (1 ∷ 2 ∷ 3 ∷ 6 ∷ []) ∷ risen (0 ∷ []) ∷ risen (0 ∷ 5 ∷ []) ∷ unchanged ∷ refused 6
-    ∷ unchanged ∷ refused 6 ∷ risen (0 ∷ 1 ∷ 2 ∷ 3 ∷ 5 ∷ 6 ∷ []) ∷ risen (7 ∷ []) ∷ unchanged ∷ risen (7 ∷ [])
-    ∷ unchanged ∷ risen (4 ∷ []) ∷ refused 6 ∷ refused 6 ∷ fallen (0 ∷ 1 ∷ 2 ∷ 3 ∷ 5 ∷ 6 ∷ []) ∷ refused 6 ∷ [])
+    refused 6 ∷ refused 6 ∷ risen (2 ∷ 6 ∷ []) ∷ risen (0 ∷ 5 ∷ []) ∷ refused 6 ∷ refused 6 ∷ risen (3 ∷ 7 ∷ [])
+    ∷ unchanged ∷ refused 6 ∷ risen (0 ∷ 2 ∷ 5 ∷ 6 ∷ []) ∷ unchanged ∷ risen (1 ∷ 4 ∷ []) ∷ unchanged ∷ refused 6
+    ∷ risen (3 ∷ []) ∷ unchanged ∷ refused 6 ∷ fallen (5 ∷ []) ∷ risen (7 ∷ []) ∷ risen (4 ∷ []) ∷ refused 6
+    ∷ risen (0 ∷ 2 ∷ 3 ∷ 6 ∷ []) ∷ risen (5 ∷ []) ∷ risen (1 ∷ []) ∷ [])
     ∷ printed (
-    "0 +1 0 4\n" ∷ "0 -1 0 4\n" ∷ "0 +1 2 3\n" ∷ "6 0\n" ∷ "0 +1 1\n" ∷ "0 +1 6\n" ∷ "0 +1 5\n" ∷ "0 +1 1 2 3 6\n"
-    ∷ "0 +1 0\n" ∷ "0 +1 0 5\n" ∷ "0 0\n" ∷ "6 0\n" ∷ "0 0\n" ∷ "6 0\n" ∷ "0 +1 0 1 2 3 5 6\n" ∷ "0 +1 7\n" ∷ "0 0\n"
-    ∷ "0 +1 7\n" ∷ "0 0\n" ∷ "0 +1 4\n" ∷ "6 0\n" ∷ "6 0\n" ∷ "0 -1 0 1 2 3 5 6\n" ∷ "6 0\n"
-    ∷ "numbers 2 2 2 2 1 2 2 2\n" ∷ "order 4 7 6 1 0 3 5 2\n" ∷ [])
-    ∷ all-numbers (2 ∷ 2 ∷ 2 ∷ 2 ∷ 1 ∷ 2 ∷ 2 ∷ 2 ∷ []) ∷ whole-order (4 ∷ 7 ∷ 6 ∷ 1 ∷ 0 ∷ 3 ∷ 5 ∷ 2 ∷ [])
-    ∷ shell-tree (root ∷ node 4 1 root-name ∷ node 0 2 4 ∷ []) (0 ∷ 0 ∷ 0 ∷ 0 ∷ 4 ∷ 0 ∷ 0 ∷ 0 ∷ [])
-    ∷ backbone-radios (0 ∷ 1 ∷ 2 ∷ 3 ∷ 5 ∷ 6 ∷ 7 ∷ []) ∷ connected-core 7 0 0 (0 ∷ 1 ∷ 2 ∷ 3 ∷ 4 ∷ 5 ∷ 6 ∷ 7 ∷ [])
-    ∷ connected-core 0 2 0 (0 ∷ 1 ∷ 2 ∷ 3 ∷ 5 ∷ 6 ∷ 7 ∷ [])
+    "6 0\n" ∷ "6 0\n" ∷ "0 +1 2 6\n" ∷ "0 +1 0 5\n" ∷ "6 0\n" ∷ "6 0\n" ∷ "0 +1 3 7\n" ∷ "0 0\n" ∷ "6 0\n"
+    ∷ "0 +1 0 2 5 6\n" ∷ "0 0\n" ∷ "0 +1 1 4\n" ∷ "0 0\n" ∷ "6 0\n" ∷ "0 +1 3\n" ∷ "0 0\n" ∷ "6 0\n" ∷ "0 -1 5\n"
+    ∷ "0 +1 7\n" ∷ "0 +1 4\n" ∷ "6 0\n" ∷ "0 +1 0 2 3 6\n" ∷ "0 +1 5\n" ∷ "0 +1 1\n" ∷ "numbers 3 2 3 3 2 2 3 2\n"
+    ∷ "order 1 5 4 7 3 0 2 6\n" ∷ [])
+    ∷ all-numbers (3 ∷ 2 ∷ 3 ∷ 3 ∷ 2 ∷ 2 ∷ 3 ∷ 2 ∷ []) ∷ whole-order (1 ∷ 5 ∷ 4 ∷ 7 ∷ 3 ∷ 0 ∷ 2 ∷ 6 ∷ [])
+    ∷ shell-tree (root ∷ node 1 2 root-name ∷ node 0 3 1 ∷ []) (0 ∷ 1 ∷ 0 ∷ 0 ∷ 1 ∷ 1 ∷ 0 ∷ 1 ∷ [])
+    ∷ backbone-radios (0 ∷ 2 ∷ 3 ∷ 6 ∷ []) ∷ connected-core 7 0 0 (0 ∷ 1 ∷ 2 ∷ 3 ∷ 4 ∷ 5 ∷ 6 ∷ 7 ∷ [])
+    ∷ connected-core 0 3 0 (0 ∷ 2 ∷ 3 ∷ 6 ∷ []) ∷ connected-core 4 1 0 (0 ∷ 1 ∷ 2 ∷ 3 ∷ 4 ∷ 5 ∷ 6 ∷ 7 ∷ [])
+    ∷ connected-core 0 4 8 [] ∷ connected-core 8 0 4 [] ∷ image-checks 1536 (138 ∷ 344 ∷ 3482 ∷ []) ∷ [])
+    -- random, seed 303
+    ∷ row 8 (
+    up 3 0 ∷ down 0 3 ∷ up 1 2 ∷ up 0 4 ∷ down 1 2 ∷ down 0 4 ∷ up 2 1 ∷ up 3 6 ∷ up 4 7 ∷ down 3 6 ∷ down 4 7
+    ∷ up 7 1 ∷ up 1 6 ∷ up 2 3 ∷ up 6 0 ∷ up 3 1 ∷ down 0 6 ∷ up 3 5 ∷ up 0 2 ∷ up 4 3 ∷ up 6 0 ∷ up 2 5 ∷ up 6 2
+    ∷ up 5 4 ∷ []) (
+    last-answers (
+    risen (0 ∷ 3 ∷ []) ∷ fallen (0 ∷ 3 ∷ []) ∷ risen (1 ∷ 2 ∷ []) ∷ risen (0 ∷ 4 ∷ []) ∷ fallen (1 ∷ 2 ∷ [])
+    ∷ fallen (0 ∷ 4 ∷ []) ∷ risen (1 ∷ 2 ∷ []) ∷ risen (3 ∷ 6 ∷ []) ∷ risen (4 ∷ 7 ∷ []) ∷ fallen (3 ∷ 6 ∷ [])
+    ∷ fallen (4 ∷ 7 ∷ []) ∷ risen (7 ∷ []) ∷ risen (6 ∷ []) ∷ risen (3 ∷ []) ∷ risen (0 ∷ []) ∷ risen (1 ∷ 2 ∷ 3 ∷ [])
+    ∷ fallen (0 ∷ []) ∷ risen (5 ∷ []) ∷ risen (0 ∷ []) ∷ risen (4 ∷ []) ∷ risen (0 ∷ 6 ∷ []) ∷ risen (5 ∷ [])
+    ∷ unchanged ∷ risen (4 ∷ []) ∷ [])
+    ∷ printed (
+    "0 +1 0 3\n" ∷ "0 -1 0 3\n" ∷ "0 +1 1 2\n" ∷ "0 +1 0 4\n" ∷ "0 -1 1 2\n" ∷ "0 -1 0 4\n" ∷ "0 +1 1 2\n"
+    ∷ "0 +1 3 6\n" ∷ "0 +1 4 7\n" ∷ "0 -1 3 6\n" ∷ "0 -1 4 7\n" ∷ "0 +1 7\n" ∷ "0 +1 6\n" ∷ "0 +1 3\n" ∷ "0 +1 0\n"
+    ∷ "0 +1 1 2 3\n" ∷ "0 -1 0\n" ∷ "0 +1 5\n" ∷ "0 +1 0\n" ∷ "0 +1 4\n" ∷ "0 +1 0 6\n" ∷ "0 +1 5\n" ∷ "0 0\n"
+    ∷ "0 +1 4\n" ∷ "numbers 2 2 2 2 2 2 2 1\n" ∷ "order 7 4 5 0 6 3 1 2\n" ∷ [])
+    ∷ all-numbers (2 ∷ 2 ∷ 2 ∷ 2 ∷ 2 ∷ 2 ∷ 2 ∷ 1 ∷ []) ∷ whole-order (7 ∷ 4 ∷ 5 ∷ 0 ∷ 6 ∷ 3 ∷ 1 ∷ 2 ∷ [])
+    ∷ shell-tree (root ∷ node 7 1 root-name ∷ node 0 2 7 ∷ []) (0 ∷ 0 ∷ 0 ∷ 0 ∷ 0 ∷ 0 ∷ 0 ∷ 7 ∷ [])
+    ∷ backbone-radios (0 ∷ 1 ∷ 2 ∷ 3 ∷ 4 ∷ 5 ∷ 6 ∷ []) ∷ connected-core 7 0 0 (0 ∷ 1 ∷ 2 ∷ 3 ∷ 4 ∷ 5 ∷ 6 ∷ 7 ∷ [])
+    ∷ connected-core 0 2 0 (0 ∷ 1 ∷ 2 ∷ 3 ∷ 4 ∷ 5 ∷ 6 ∷ [])
     ∷ connected-core 4 1 0 (0 ∷ 1 ∷ 2 ∷ 3 ∷ 4 ∷ 5 ∷ 6 ∷ 7 ∷ []) ∷ connected-core 0 3 8 [] ∷ connected-core 8 0 4 []
-    ∷ image-checks 1536 (124 ∷ 306 ∷ 2431 ∷ []) ∷ [])
+    ∷ image-checks 1536 (124 ∷ 290 ∷ 2394 ∷ []) ∷ [])
+    -- random, seed 304
+    ∷ row 8 (
+    up 7 0 ∷ up 4 1 ∷ up 0 7 ∷ up 1 2 ∷ up 6 3 ∷ up 3 2 ∷ up 5 0 ∷ up 6 5 ∷ down 2 3 ∷ up 6 0 ∷ up 1 0 ∷ up 0 3
+    ∷ up 2 6 ∷ up 7 0 ∷ down 3 0 ∷ up 7 4 ∷ up 7 6 ∷ up 7 4 ∷ up 0 3 ∷ up 6 3 ∷ up 0 1 ∷ up 4 2 ∷ up 1 6 ∷ up 0 6
+    ∷ up 4 7 ∷ down 0 7 ∷ down 2 6 ∷ up 4 1 ∷ []) (
+    last-answers (
+    risen (0 ∷ 7 ∷ []) ∷ risen (1 ∷ 4 ∷ []) ∷ refused 6 ∷ risen (2 ∷ []) ∷ risen (3 ∷ 6 ∷ []) ∷ unchanged
+    ∷ risen (5 ∷ []) ∷ unchanged ∷ unchanged ∷ risen (0 ∷ 5 ∷ 6 ∷ []) ∷ unchanged ∷ risen (3 ∷ [])
+    ∷ risen (1 ∷ 2 ∷ []) ∷ refused 6 ∷ fallen (3 ∷ []) ∷ risen (4 ∷ 7 ∷ []) ∷ unchanged ∷ refused 6 ∷ risen (3 ∷ [])
+    ∷ refused 6 ∷ refused 6 ∷ risen (0 ∷ 1 ∷ 2 ∷ 4 ∷ 6 ∷ 7 ∷ []) ∷ unchanged ∷ refused 6 ∷ refused 6
+    ∷ fallen (0 ∷ 1 ∷ 2 ∷ 4 ∷ 6 ∷ 7 ∷ []) ∷ unchanged ∷ refused 6 ∷ [])
+    ∷ printed (
+    "0 +1 0 7\n" ∷ "0 +1 1 4\n" ∷ "6 0\n" ∷ "0 +1 2\n" ∷ "0 +1 3 6\n" ∷ "0 0\n" ∷ "0 +1 5\n" ∷ "0 0\n" ∷ "0 0\n"
+    ∷ "0 +1 0 5 6\n" ∷ "0 0\n" ∷ "0 +1 3\n" ∷ "0 +1 1 2\n" ∷ "6 0\n" ∷ "0 -1 3\n" ∷ "0 +1 4 7\n" ∷ "0 0\n" ∷ "6 0\n"
+    ∷ "0 +1 3\n" ∷ "6 0\n" ∷ "6 0\n" ∷ "0 +1 0 1 2 4 6 7\n" ∷ "0 0\n" ∷ "6 0\n" ∷ "6 0\n" ∷ "0 -1 0 1 2 4 6 7\n"
+    ∷ "0 0\n" ∷ "6 0\n" ∷ "numbers 2 2 2 2 2 2 2 2\n" ∷ "order 3 5 7 4 2 1 6 0\n" ∷ [])
+    ∷ all-numbers (2 ∷ 2 ∷ 2 ∷ 2 ∷ 2 ∷ 2 ∷ 2 ∷ 2 ∷ []) ∷ whole-order (3 ∷ 5 ∷ 7 ∷ 4 ∷ 2 ∷ 1 ∷ 6 ∷ 0 ∷ [])
+    ∷ shell-tree (root ∷ node 0 2 root-name ∷ []) (0 ∷ 0 ∷ 0 ∷ 0 ∷ 0 ∷ 0 ∷ 0 ∷ 0 ∷ [])
+    ∷ backbone-radios (0 ∷ 1 ∷ 2 ∷ 3 ∷ 4 ∷ 5 ∷ 6 ∷ 7 ∷ []) ∷ connected-core 7 0 0 (0 ∷ 1 ∷ 2 ∷ 3 ∷ 4 ∷ 5 ∷ 6 ∷ 7 ∷ [])
+    ∷ connected-core 0 2 0 (0 ∷ 1 ∷ 2 ∷ 3 ∷ 4 ∷ 5 ∷ 6 ∷ 7 ∷ [])
+    ∷ connected-core 4 1 0 (0 ∷ 1 ∷ 2 ∷ 3 ∷ 4 ∷ 5 ∷ 6 ∷ 7 ∷ []) ∷ connected-core 0 3 8 [] ∷ connected-core 8 0 4 []
+    ∷ image-checks 1536 (124 ∷ 304 ∷ 2826 ∷ []) ∷ [])
     ∷ []
 
 unfoldable pub histories : List Row
-histories = refusals ++ (cliques ++ (joins ++ (rises ++ (falls ++ (trees ++ (damaged ++ (random-small ++ (random-large))))))))
+histories = refusals ++ (cliques ++ (joins ++ (rises ++ (falls ++ (trees ++ (damaged ++ (random-small ++ (random-middle ++ random-large))))))))
