@@ -1,11 +1,11 @@
 -- Proofs about calls: `QuestionLaws`, `ChainLaws`, `ContractLaws` and `RecordLaws` for the crates whose functions meet the
--- contracts, `Outcomes` that each contract decides its call, the others for demand 3.
+-- contracts, `Outcomes` that each contract decides its call, `Cases` that the worked cases hold, the others for demand 3.
 pub mod QuestionLaws
 pub mod ChainLaws
 pub mod ContractLaws
 pub mod RecordLaws
 pub mod Outcomes
-pub mod SingleCalls
 pub mod LinkKept
 pub mod Steps
 pub mod WholeList
+pub mod Cases

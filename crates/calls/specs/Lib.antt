@@ -1,7 +1,9 @@
--- What calls promise, in the order in which a reader needs it.
+-- What calls promise, in the order in which a reader needs it. `Cases` and `Replay` are the worked cases of document 01.
 pub mod Questions
 pub mod Writes
 pub mod Answers
 pub mod Book
 pub mod Runs
 pub mod Demand
+pub mod Replay
+pub mod Cases

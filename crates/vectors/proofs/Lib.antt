@@ -1,0 +1,2 @@
+-- The histories are right.
+pub mod Histories

@@ -1,0 +1,2 @@
+-- Link histories, written by a separate program.
+pub mod Histories
