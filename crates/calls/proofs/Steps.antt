@@ -17,6 +17,12 @@ use Rattle.mesh.specs.Tables.{Tables, graph-in, tables-of}
 use Rattle.mesh.specs.Sound.{sound}
 use Rattle.mesh.specs.Image.{image-graph, image-links, image-order}
 use Rattle.mesh.proofs.ListLaws.{take-overwrite}
+use Rattle.mesh.proofs.Peeling.{length-numbers}
+use Rattle.mesh.proofs.TableLaws.{links-table-cleared}
+use Rattle.mesh.proofs.ReadBack.{graph-in-links-table}
+use Rattle.mesh.proofs.Soundness.{valid-sound}
+use Rattle.mesh.proofs.Sites.{valid-cleared, numbers-cleared, image-valid}
+use Rattle.mesh.proofs.LinkLaws.{link-valid, link-table}
 use Rattle.mesh.proofs.Valid.{Valid, Allowed}
 use Rattle.calls.specs.Questions.{By-number, lengths-of, answer-length, site-refusal, tables-refusal, link-refusal, read-refusal}
 use Rattle.calls.specs.Writes.{Tables-refused, Clear-accepted, Clear-contract, Link-accepted, Link-refused, Link-contract, Read-accepted, Read-contract}
@@ -26,8 +32,7 @@ use Rattle.calls.specs.Demand.{Link-kept}
 use Rattle.calls.specs.declared.Reply.{Reply}
 use Rattle.calls.proofs.ChainLaws.{Lent-good, lent-zero, lent-later, link-zero, read-zero}
 use Rattle.calls.proofs.RecordLaws.{tables-ext, refused-same}
-use Rattle.calls.proofs.SingleCalls.{Laws, Link-laws}
-use Rattle.calls.proofs.LinkKept.{length-numbers, link-kept}
+use Rattle.calls.proofs.LinkKept.{link-kept}
 
 pub record Holds (n : ℕ) (ps : List Link) (t : Tables) : Type 0 where
   pub most : n ≤ max-radios
@@ -37,25 +42,25 @@ pub record Holds (n : ℕ) (ps : List Link) (t : Tables) : Type 0 where
 
 -- ---- after an accepted clearing or reading
 
-pub clear-holds : Laws → (m r : ℕ) (t v : Tables) → tables-refusal m (lengths-of t) ≡ 0 → Clear-accepted m r v → Holds m [] v
+pub clear-holds : (m r : ℕ) (t v : Tables) → tables-refusal m (lengths-of t) ≡ 0 → Clear-accepted m r v → Holds m [] v
 unfolding tables-refusal tables-of
-clear-holds laws m r t v p d = record {
+clear-holds m r t v p d = record {
   most = lent-zero m (lengths-of t) true 0 p .0 .most;
   xs = range 0 m;
-  valid = laws .valid-cleared m;
-  is = tables-ext v _ (d .links ∙ sym (laws .cleared-links m)) (d .numbers ∙ sym (laws .cleared-numbers m)) (d .order);
+  valid = valid-cleared m max-neighbours;
+  is = tables-ext v _ (d .links ∙ sym (links-table-cleared m)) (d .numbers ∙ sym (numbers-cleared m)) (d .order);
 }
 
 pub read-holds :
-    Laws → (m : ℕ) (bs : List ℕ) (r : ℕ) (t v : Tables) → read-refusal m (lengths-of t) bs ≡ 0 → Read-accepted m bs r v →
+    (m : ℕ) (bs : List ℕ) (r : ℕ) (t v : Tables) → read-refusal m (lengths-of t) bs ≡ 0 → Read-accepted m bs r v →
     Holds m (image-links m bs) v
 unfolding read-refusal tables-of image-graph
-read-holds laws m bs r t v p d =
+read-holds m bs r t v p d =
     let q = read-zero m (lengths-of t) bs p in
     record {
       most = q .0 .most;
       xs = image-order m bs;
-      valid = laws .image-valid m bs (q .0 .most) (q .2);
+      valid = image-valid m bs (q .0 .most) (q .2);
       is = tables-ext v _ (d .links) (d .numbers) (d .order);
     }
 
@@ -86,7 +91,7 @@ answer-refused : (r : Reply) (q : ℕ) (x : List ℕ) → r .number ≡ q → r 
 unfolding answer-of plain
 answer-refused r q x e f g = rw (e, f, g)
 
-module _ (laws : Laws) (n : ℕ) (ps : List Link) (t : Tables) (k : Holds n ps t) where
+module _ (n : ℕ) (ps : List Link) (t : Tables) (k : Holds n ps t) where
   kept : {v : Tables} → v ≡ t → Holds n ps v
   kept e = record { most = k .most; xs = k .xs; valid = k .valid; is = e ∙ k .is }
 
@@ -100,10 +105,11 @@ module _ (laws : Laws) (n : ℕ) (ps : List Link) (t : Tables) (k : Holds n ps t
   unfolding tables-of
   read-back =
       ap (λ (o : Tables). graph-in n (o .links)) (k .is)
-      ∙ laws .graph-in-links-table (graph n ps) (k .most) (k .valid .links-proper) (k .valid .links-ascending)
+      ∙ graph-in-links-table (graph n ps) (k .most) (k .valid .links-proper) (k .valid .links-ascending)
 
   pub is-sound : sound n t ≡ true
-  is-sound = ap (sound n) (k .is) ∙ laws .valid-sound (graph n ps) (k .xs) (k .most) (k .valid)
+  unfolding sound
+  is-sound = ap (sound n) (k .is) ∙ valid-sound max-neighbours (graph n ps) (k .xs) (k .most) (k .valid)
 
   -- question 3 gets yes, and the links are the book's
   link-asked :
@@ -125,7 +131,7 @@ module _ (laws : Laws) (n : ℕ) (ps : List Link) (t : Tables) (k : Holds n ps t
   unfolding By-number answer-by pairs-by given accepted-answer accepted-pairs tables-refusal
   clear-step zero m r v h p d q = (
     one-answer (q ∙ ap plain (d .number)),
-    with-n m [] v true (lent-zero m (lengths-of t) true 0 p .0) (clear-holds laws m r t v p d),
+    with-n m [] v true (lent-zero m (lengths-of t) true 0 p .0) (clear-holds m r t v p d),
   )
   clear-step (suc x) m r v h p d q = (one-answer (q ∙ ap plain (d .number)), kept (refused-same (suc x) r t v d))
 
@@ -135,7 +141,7 @@ module _ (laws : Laws) (n : ℕ) (ps : List Link) (t : Tables) (k : Holds n ps t
   unfolding By-number answer-by pairs-by given accepted-answer accepted-pairs read-refusal
   read-step zero m r bs v h p d q = (
     one-answer (q ∙ ap plain (d .number)),
-    with-n m (image-links m bs) v true (read-zero m (lengths-of t) bs p .0) (read-holds laws m bs r t v p d),
+    with-n m (image-links m bs) v true (read-zero m (lengths-of t) bs p .0) (read-holds m bs r t v p d),
   )
   read-step (suc x) m r bs v h p d q = (one-answer (q ∙ ap plain (d .number)), kept (refused-same (suc x) r t v d))
 
@@ -147,28 +153,32 @@ module _ (laws : Laws) (n : ℕ) (ps : List Link) (t : Tables) (k : Holds n ps t
     link-call : h .number ≡ 0 → Link-kept u a b (graph n ps) t h v
 
   holds-after :
-      (u : Bool) (a b : ℕ) (v : Tables) → Link-laws u a b (graph n ps) (k .xs) →
+      (u : Bool) (a b : ℕ) (v : Tables) → Allowed max-neighbours u a b (graph n ps) →
       v ≡ tables-of (relinked u a b (graph n ps)) (new-order u a b (graph n ps) (k .xs)) → Holds n (new-links u a b ps) v
   unfolding relinked
-  holds-after u a b v l e = record { most = k .most; xs = new-order u a b (graph n ps) (k .xs); valid = l .stays; is = e }
+  holds-after u a b v p e = record {
+    most = k .most;
+    xs = new-order u a b (graph n ps) (k .xs);
+    valid = link-valid max-neighbours u a b (graph n ps) (k .xs) (k .valid) p;
+    is = e;
+  }
 
   tables-after :
-      (u : Bool) (a b : ℕ) (r : Reply) (w x : List ℕ) (v : Tables) → Link-laws u a b (graph n ps) (k .xs) →
+      (u : Bool) (a b : ℕ) (r : Reply) (w x : List ℕ) (v : Tables) → Allowed max-neighbours u a b (graph n ps) →
       Link-accepted u a b (graph n ps) t w r v x →
       v ≡ tables-of (relinked u a b (graph n ps)) (new-order u a b (graph n ps) (k .xs))
   unfolding tables-of
-  tables-after u a b r w x v l d =
-      tables-ext v _ (d .links ∙ rw (k .is) (sym (l .bits))) (d .numbers) (d .order ∙ rw (k .is))
+  tables-after u a b r w x v p d =
+      tables-ext v _ (d .links ∙ rw (k .is) (sym (link-table max-neighbours u a b (graph n ps) (k .xs) (k .valid) p (k .most)))) (d .numbers) (d .order ∙ rw (k .is))
 
   accepted :
       (u : Bool) (a b : ℕ) (r : Reply) (w x : List ℕ) (v : Tables) (h : Answer) → Allowed max-neighbours u a b (graph n ps) →
       Link-accepted u a b (graph n ps) t w r v x → h ≡ answer-of r x →
       (h ≡ reported u (changed u a b (graph n ps))) × Holds n (new-links u a b ps) v × Link-kept u a b (graph n ps) t h v
   accepted u a b r w x v h p d q =
-      let l = laws .link-laws u a b (graph n ps) (k .xs) (k .most) (k .valid) p in
       let e = q ∙ answer-accepted u r (changed u a b (graph n ps)) w x (d .number) (d .step) (d .count) (d .answer) in
-      let f = tables-after u a b r w x v l d in
-      (e, holds-after u a b v l f, rw (e, k .is, f) (link-kept u a b (graph n ps) (k .xs) l))
+      let f = tables-after u a b r w x v p d in
+      (e, holds-after u a b v p f, rw (e, k .is, f) (link-kept u a b (graph n ps) (k .xs) (k .most) (k .valid) p))
 
   link-step :
       (R : ℕ) (u : Bool) (m a b : ℕ) (r : Reply) (w x : List ℕ) (v : Tables) (h : Answer) →

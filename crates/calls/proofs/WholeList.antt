@@ -1,4 +1,4 @@
--- Demand 3, from the laws of single calls, by induction over the list of calls.
+-- Demand 3, closed: by induction over the list of calls, from the theory of mesh.
 use mathlib.Core.Path.{_≡_, refl, ap, subst}
 use mathlib.Core.Bool.{Bool, true}
 use mathlib.Core.List.{List, [], _∷_, _++_}
@@ -14,8 +14,7 @@ use Rattle.calls.specs.Writes.{Tables-refused, Clear-accepted, Clear-con
 use Rattle.calls.specs.Book.{Answer, book-pairs, book-answers, book-after}
 use Rattle.calls.specs.Runs.{linking, given, Event, event, Run, ended, next, givens, answers}
 use Rattle.calls.specs.Demand.{Link-kept, Start, cleared, read, Demand-3}
-use Rattle.calls.proofs.SingleCalls.{Laws}
-use Rattle.calls.proofs.LinkKept.{number-in-numbers}
+use Rattle.mesh.proofs.Peeling.{number-core, getD-numbers}
 use Rattle.calls.proofs.Steps.{Holds, clear-holds, read-holds, Link-part, step, is-sound}
 
 -- each accepted link call of a list
@@ -28,12 +27,12 @@ record List-kept (n : ℕ) (ps : List Link) (es : List Event) (v : Tables) : Typ
   answered : answers es ≡ book-answers (givens es) ps
   each : Each n ps es
 
-list-kept : Laws → (n : ℕ) (ps : List Link) {t v : Tables} {es : List Event} → Holds n ps t → Run t es v → List-kept n ps es v
+list-kept : (n : ℕ) (ps : List Link) {t v : Tables} {es : List Event} → Holds n ps t → Run t es v → List-kept n ps es v
 unfolding givens answers book-after book-answers Each
-list-kept laws n ps k ended = record { holds = k; answered = refl; each = tt }
-list-kept laws n ps k (next {c = c} {t = t} {u = u} {h = h} d r) =
-    let s = step laws n ps t k c h u d in
-    let i = list-kept laws n (book-pairs (given c t) ps) (s .holds) r in
+list-kept n ps k ended = record { holds = k; answered = refl; each = tt }
+list-kept n ps k (next {c = c} {t = t} {u = u} {h = h} d r) =
+    let s = step n ps t k c h u d in
+    let i = list-kept n (book-pairs (given c t) ps) (s .holds) r in
     record { holds = i .holds; answered = rw (s .answered, i .answered); each = (s .link-call, i .each) }
 
 -- an accepted link call anywhere in the list
@@ -48,9 +47,9 @@ link-call-at n ps (event c t₁ h₁ u₁ ∷ es) after up m a b w t u h e z =
 
 -- ---- the tables
 
-core-at : Laws → (n : ℕ) (ps : List Link) (v : Tables) → Holds n ps v → (x : ℕ) → x < n → Core (graph n ps) x (number-in (v .numbers) x)
+core-at : (n : ℕ) (ps : List Link) (v : Tables) → Holds n ps v → (x : ℕ) → x < n → Core (graph n ps) x (number-in (v .numbers) x)
 unfolding tables-of
-core-at laws n ps v k x l = rw (k .is, number-in-numbers (graph n ps) x l) (laws .number-core (graph n ps) x l)
+core-at n ps v k x l = rw (k .is, getD-numbers (graph n ps) x l) (number-core (graph n ps) x l)
 
 k-order-at : (n : ℕ) (ps : List Link) (v : Tables) → Holds n ps v → is-k-order (graph n ps) (v .order) ≡ true
 unfolding tables-of
@@ -65,28 +64,28 @@ unfolding By-number
 start-with zero A t v d = (refl, d)
 start-with (suc q) A t v d = absurd (omega (arith, d .number))
 
-start : Laws → {n : ℕ} {ps : List Link} {t : Tables} → Start n ps t → Holds n ps t
+start : {n : ℕ} {ps : List Link} {t : Tables} → Start n ps t → Holds n ps t
 unfolding Clear-contract Read-contract
-start laws (cleared n t v d) =
+start (cleared n t v d) =
     let a = start-with (tables-refusal n (lengths-of t)) (Clear-accepted n 0 v) t v d in
-    clear-holds laws n 0 t v (a .0) (a .1)
-start laws (read n bs t v d) =
+    clear-holds n 0 t v (a .0) (a .1)
+start (read n bs t v d) =
     let a = start-with (read-refusal n (lengths-of t) bs) (Read-accepted n bs 0 v) t v d in
-    read-holds laws n bs 0 t v (a .0) (a .1)
+    read-holds n bs 0 t v (a .0) (a .1)
 
 -- ---- demand 3
 
-pub demand-3-from : Laws → Demand-3
+pub demand-3 : Demand-3
 unfolding Demand-3 tables-of
-demand-3-from laws n ps t v es s r =
-    let i = list-kept laws n ps (start laws s) r in
+demand-3 n ps t v es s r =
+    let i = list-kept n ps (start s) r in
     let k = i .holds in
     record {
       links = ap (λ (o : Tables). o .links) (k .is);
       numbers = ap (λ (o : Tables). o .numbers) (k .is);
-      cores = core-at laws n (book-after (givens es) ps) v k;
+      cores = core-at n (book-after (givens es) ps) v k;
       k-order = k-order-at n (book-after (givens es) ps) v k;
-      sound = is-sound laws n (book-after (givens es) ps) v k;
+      sound = is-sound n (book-after (givens es) ps) v k;
       answered = i .answered;
       link-calls = λ before after up m a b w t u h e z.
           link-call-at n ps before after up m a b w t u h (subst (Each n ps) e (i .each)) z;

@@ -3,7 +3,7 @@
 --   Link-kept         what an accepted link call of the list keeps, by the book's pairs before it
 --   Kept              what the list keeps: tables, answers, each accepted link call
 --   Demand-3          every run from such a start keeps it
--- The proof is `demand-3-from` in proofs/WholeList.antt. Definitions only.
+-- The proof is `demand-3` in proofs/WholeList.antt. Definitions only.
 use mathlib.Core.Path.{_≡_}
 use mathlib.Core.Logic.{_⊎_}
 use mathlib.Core.Bool.{Bool, true, false}

@@ -42,6 +42,28 @@ linked-positive g a b la lb h = number-core g a la .largest 1 pair (λ v l q. on
     one v (inl e) = has v b lb (rw (eqb-true v a e) h) (or-right (eqb b a) (eqb b b) (eq-eqb b b refl))
     one v (inr e) = has v a la (rw (eqb-true v b e) (linked-sym g b a ∙ h)) (or-left (eqb a a) (eqb a b) (eq-eqb a a refl))
 
+-- ---- the changed radios, by their numbers
+
+module _ (u : Bool) (a b : ℕ) (g : Graph) (v : ℕ) where
+  changed-member : v < g .n → member v (changed u a b g) ≡ not (eqb (number g v) (number (relinked u a b g) v))
+  unfolding changed radios
+  changed-member l =
+      member-filter (λ v. not (eqb (number g v) (number (relinked u a b g) v))) (range 0 (g .n)) v (in-range 0 (g .n) v (omega arith) (omega arith))
+
+  pub changed-below : member v (changed u a b g) ≡ true → v < g .n
+  unfolding changed radios
+  changed-below m =
+      omega (arith, range-in 0 (g .n) v (in-filter (λ v. not (eqb (number g v) (number (relinked u a b g) v))) (range 0 (g .n)) v (member-in v (changed u a b g) m) .0))
+
+  pub changed-differs : member v (changed u a b g) ≡ true → number g v ≡ number (relinked u a b g) v → ⊥
+  changed-differs m =
+      eqb-false (number g v) (number (relinked u a b g) v)
+      (not-true (eqb (number g v) (number (relinked u a b g) v)) (sym (changed-member (changed-below m)) ∙ m))
+
+  pub unchanged-number : v < g .n → member v (changed u a b g) ≡ false → number g v ≡ number (relinked u a b g) v
+  unchanged-number l m =
+      eqb-true (number g v) (number (relinked u a b g) v) (not-false (eqb (number g v) (number (relinked u a b g) v)) (sym (changed-member l) ∙ m))
+
 -- ---- a stretch laid out is the peel
 
 -- `front` and `back` tell what is laid out anew and what keeps its order behind it
@@ -149,35 +171,17 @@ module _ (most : ℕ) (u : Bool) (a b : ℕ) (g : Graph) (xs : List ℕ) (valid 
 
     -- ---- the changed radios
 
-    changed-member : (v : ℕ) → v < g .n → member v (changed u a b g) ≡ not (eqb (number g v) (number after v))
-    unfolding changed radios
-    changed-member v l =
-        member-filter (λ v. not (eqb (number g v) (number after v))) (range 0 (g .n)) v (in-range 0 (g .n) v (omega arith) (omega arith))
-
-    pub changed-below : (v : ℕ) → member v (changed u a b g) ≡ true → v < g .n
-    unfolding changed radios
-    changed-below v m =
-        omega (arith, range-in 0 (g .n) v (in-filter (λ v. not (eqb (number g v) (number after v))) (range 0 (g .n)) v (member-in v (changed u a b g) m) .0))
-
-    pub unchanged-number : (v : ℕ) → v < g .n → member v (changed u a b g) ≡ false → number g v ≡ number after v
-    unchanged-number v l m =
-        eqb-true (number g v) (number after v) (not-false (eqb (number g v) (number after v)) (sym (changed-member v l) ∙ m))
-
     -- changed radios stood at the lower end's level
     pub changed-level : (v : ℕ) → member v (changed u a b g) ≡ true → number g v ≡ K
     changed-level v m = go (bool-cases (eqb (number g v) K))
       where
-        l : v < g .n
-        l = changed-below v m
-
         go : (eqb (number g v) K ≡ true) ⊎ (eqb (number g v) K ≡ false) → number g v ≡ K
         go (inl e) = eqb-true (number g v) K e
         go (inr e) =
-            absurd (eqb-false (number g v) (number after v) (not-true (eqb (number g v) (number after v)) (sym (changed-member v l) ∙ m))
-            (sym (number-else v l (eqb-false (number g v) K e))))
+            absurd (changed-differs u a b g v m (sym (number-else v (changed-below u a b g v m) (eqb-false (number g v) K e))))
 
     changed-taken : (v : ℕ) → v < g .n → In v taken → member v (changed u a b g) ≡ not u
-    changed-taken v l m = changed-member v l ∙ go u refl
+    changed-taken v l m = changed-member u a b g v l ∙ go u refl
       where
         new : number after v ≡ bound u K
         new = number-after v l ∙ new-taken peeled-level v m
@@ -188,7 +192,7 @@ module _ (most : ℕ) (u : Bool) (a b : ℕ) (g : Graph) (xs : List ℕ) (valid 
             (λ q. omega (arith, taken-level peeled-level v m, new, ap (λ (x : Bool). bound x K) e, positive e)))
 
     changed-stuck : (v : ℕ) → v < g .n → In v stuck → member v (changed u a b g) ≡ u
-    changed-stuck v l m = changed-member v l ∙ go u refl
+    changed-stuck v l m = changed-member u a b g v l ∙ go u refl
       where
         new : number after v ≡ suc (bound u K)
         new = number-after v l ∙ new-stuck peeled-level v m
@@ -268,10 +272,10 @@ module _ (most : ℕ) (u : Bool) (a b : ℕ) (g : Graph) (xs : List ℕ) (valid 
     pub changed-numbers : (v : ℕ) → member v (changed u a b g) ≡ true
         → (number (smaller u a b g) v ≡ bound u K) × (number (larger u a b g) v ≡ suc (bound u K))
     unfolding smaller larger
-    changed-numbers v m = go u refl (level-cases v (changed-below v m) (changed-level v m))
+    changed-numbers v m = go u refl (level-cases v (changed-below u a b g v m) (changed-level v m))
       where
         l : v < g .n
-        l = changed-below v m
+        l = changed-below u a b g v m
 
         go : (w : Bool) → u ≡ w → In v taken ⊎ In v stuck → (number (smaller w a b g) v ≡ bound w K) × (number (larger w a b g) v ≡ suc (bound w K))
         go true e (inl p) = never (member v (changed u a b g)) m (changed-taken v l p ∙ ap not e)
@@ -290,5 +294,5 @@ module _ (most : ℕ) (u : Bool) (a b : ℕ) (g : Graph) (xs : List ℕ) (valid 
     unchanged-numbers v l m = go u refl
       where
         go : (w : Bool) → u ≡ w → number (smaller w a b g) v ≡ number (larger w a b g) v
-        go true e = unchanged-number v l m ∙ ap (λ (x : Bool). number (relinked x a b g) v) e
-        go false e = sym (unchanged-number v l m ∙ ap (λ (x : Bool). number (relinked x a b g) v) e)
+        go true e = unchanged-number u a b g v l m ∙ ap (λ (x : Bool). number (relinked x a b g) v) e
+        go false e = sym (unchanged-number u a b g v l m ∙ ap (λ (x : Bool). number (relinked x a b g) v) e)

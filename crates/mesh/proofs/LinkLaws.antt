@@ -119,13 +119,13 @@ module _ (most : ℕ) (u : Bool) (a b : ℕ) (g : Graph) (xs : List ℕ) (valid 
       → Reachable (larger u a b g) (λ z. member z (changed u a b g)) x y
   link-connected =
       changed-connected (link-adds most u a b g xs valid ok) (rw larger-n (ok .a-radio)) (rw larger-n (ok .b-radio)) (bound u K) (changed u a b g)
-      (λ v m. rw larger-n (changed-below most u a b g xs valid ok peel v m)) (changed-numbers most u a b g xs valid ok peel)
+      (λ v m. rw larger-n (changed-below u a b g v m)) (changed-numbers most u a b g xs valid ok peel)
       (λ v l m. unchanged-numbers most u a b g xs valid ok peel v (rw larger-n at l) m)
 
   pub link-has-end : (x : ℕ) → member x (changed u a b g) ≡ true → (member a (changed u a b g) ≡ true) ⊎ (member b (changed u a b g) ≡ true)
   link-has-end =
       changed-has-end (link-adds most u a b g xs valid ok) (rw larger-n (ok .a-radio)) (rw larger-n (ok .b-radio)) (bound u K) (changed u a b g)
-      (λ v m. rw larger-n (changed-below most u a b g xs valid ok peel v m)) (changed-numbers most u a b g xs valid ok peel)
+      (λ v m. rw larger-n (changed-below u a b g v m)) (changed-numbers most u a b g xs valid ok peel)
       (λ v l m. unchanged-numbers most u a b g xs valid ok peel v (rw larger-n at l) m)
 
   -- ---- the order
