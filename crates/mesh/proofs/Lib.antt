@@ -32,6 +32,7 @@ pub mod Relinked
 pub mod ReadBack
 pub mod Soundness
 pub mod Sites
+pub mod ImageLaws
 -- what an accepted link call keeps and changes
 pub mod LinkLaws
 -- the limits of the code
