@@ -130,12 +130,16 @@ TREES = [
 ]
 
 
-# of these, soundness and image reading are tried too, with damaged tables and images
-DAMAGED = [
-    ("one radio", 1, []),
+# of these the soundness check is tried too, with damaged tables
+TABLES = [
     ("a pair, a radio beside it", 3, ups((2, 0))),
     ("a triangle", 3, triangle(0, 1, 2)),
-    ("a triangle with a tail", 4, triangle(1, 2, 3) + ups((0, 1))),
+]
+
+# of these image reading is tried too, with damaged images
+IMAGES = [
+    ("one radio", 1, []),
+    ("two radios, one link", 2, ups((0, 1))),
 ]
 
 
@@ -174,7 +178,8 @@ GROUPS = [
     ("rises", "links going up", RISES),
     ("falls", "links going down", FALLS),
     ("trees", "shell trees", TREES),
-    ("damaged", "soundness and image reading, with damage", DAMAGED),
+    ("tables", "soundness, with damaged tables", TABLES),
+    ("images", "image reading, with damaged images", IMAGES),
     ("random-small", "random calls at 2 to 5 radios",
      random_group(101, [(2, 8, 0.5), (3, 10, 0.6), (3, 12, 0.5), (4, 12, 0.7), (4, 16, 0.6),
                         (5, 14, 0.7), (5, 16, 0.8), (5, 20, 0.6), (5, 24, 0.7)])),
@@ -284,7 +289,10 @@ def reading_wants(site):
         yield f"image-reading {m} {many} {put_text(puts)} {reading(m, with_bytes(image, puts)[:many])}"
 
 
-def row_text(about, n, calls, start, damaged):
+MORE = {"tables": soundness_wants, "images": reading_wants}
+
+
+def row_text(about, n, calls, start, more):
     site, answers = play(n, calls)
     nodes, names = site.tree()
     lines = [line_of(x) for x in answers] + site.closing_lines()
@@ -296,8 +304,7 @@ def row_text(about, n, calls, start, damaged):
         number, radios = site.core(v, k)
         wants.append(f"connected-core {v} {k} {number} {short(radios)}")
     wants.append(f"image-checks {len(site.image())} {short(site.checks())}")
-    if damaged:
-        wants += dict.fromkeys([*soundness_wants(site), *reading_wants(site)])
+    wants += dict.fromkeys(more(site))
     made = "(\n" + filled([call_text(c) for c in calls]) + ")" if calls else "[]"
     answered = "(\n" + filled([answer_text(x) for x in answers]) + ")" if calls else "[]"
     return (f"    -- {about}\n    {start}row {n} {made} (\n    last-answers {answered}\n"
@@ -322,7 +329,7 @@ def text():
     for name, about, rows in GROUPS:
         out += f"\nunfoldable pub {name} : List Row\n{name} =\n"
         for i, (what, n, calls) in enumerate(rows):
-            out += row_text(what, n, calls, "∷ " if i else "", rows is DAMAGED)
+            out += row_text(what, n, calls, "∷ " if i else "", MORE.get(name, lambda site: []))
         out += "    ∷ []\n"
     names = [name for name, _, _ in GROUPS]
     joined = " ++ (".join(names[:-1]) + " ++ " + names[-1] + ")" * (len(names) - 2)

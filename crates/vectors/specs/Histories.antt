@@ -6,7 +6,8 @@
 --   rises           links going up
 --   falls           links going down
 --   trees           shell trees
---   damaged         soundness and image reading, with damage
+--   tables          soundness, with damaged tables
+--   images          image reading, with damaged images
 --   random-small    random calls at 2 to 5 radios
 --   random-middle   random calls at 6 and 7 radios
 --   random-large    random calls at 8 radios
@@ -609,23 +610,10 @@ trees =
     ∷ connected-core 7 0 4 [] ∷ image-checks 1536 (84 ∷ 195 ∷ 963 ∷ []) ∷ [])
     ∷ []
 
-unfoldable pub damaged : List Row
-damaged =
-    -- one radio
-    row 1 [] (
-    last-answers []
-    ∷ printed (
-    "numbers 0\n" ∷ "order 0\n" ∷ [])
-    ∷ all-numbers (0 ∷ []) ∷ whole-order (0 ∷ []) ∷ shell-tree (root ∷ []) (root-name ∷ []) ∷ backbone-radios []
-    ∷ connected-core 0 0 0 (0 ∷ []) ∷ connected-core 0 1 8 [] ∷ connected-core 1 0 4 []
-    ∷ image-checks 1024 (5 ∷ 4 ∷ []) ∷ soundness [] (0 ∷ []) (0 ∷ []) true ∷ soundness [] (1 ∷ []) (0 ∷ []) false
-    ∷ soundness (put 0 1 ∷ []) (0 ∷ []) (0 ∷ []) false ∷ soundness (put 0 2 ∷ []) (0 ∷ []) (0 ∷ []) false
-    ∷ image-reading 1 1024 [] 0 ∷ image-reading 2 1024 [] 11 ∷ image-reading 1 1023 [] 9 ∷ image-reading 1 0 [] 9
-    ∷ image-reading 1 512 [] 11 ∷ image-reading 1 1024 (put 4 2 ∷ []) 10
-    ∷ image-reading 1 1024 (put 900 1 ∷ put 1020 137 ∷ put 1021 1 ∷ []) 11
-    ∷ image-reading 1 1024 (put 516 0 ∷ put 518 0 ∷ []) 0 ∷ image-reading 1 1024 (put 6 1 ∷ put 508 12 ∷ []) 11 ∷ [])
+unfoldable pub tables : List Row
+tables =
     -- a pair, a radio beside it
-    ∷ row 3 (
+    row 3 (
     up 2 0 ∷ []) (
     last-answers (
     risen (0 ∷ 2 ∷ []) ∷ [])
@@ -640,12 +628,7 @@ damaged =
     ∷ soundness [] (1 ∷ 0 ∷ 1 ∷ []) (1 ∷ 0 ∷ 1 ∷ []) false
     ∷ soundness (put 0 0 ∷ []) (1 ∷ 0 ∷ 1 ∷ []) (1 ∷ 0 ∷ 2 ∷ []) false
     ∷ soundness (put 0 5 ∷ []) (1 ∷ 0 ∷ 1 ∷ []) (1 ∷ 0 ∷ 2 ∷ []) false
-    ∷ soundness (put 128 9 ∷ []) (1 ∷ 0 ∷ 1 ∷ []) (1 ∷ 0 ∷ 2 ∷ []) false ∷ image-reading 3 1536 [] 0
-    ∷ image-reading 4 1536 [] 11 ∷ image-reading 3 1535 [] 9 ∷ image-reading 3 0 [] 9 ∷ image-reading 3 1024 [] 11
-    ∷ image-reading 3 1536 (put 4 0 ∷ []) 10 ∷ image-reading 3 1536 (put 900 1 ∷ put 1020 160 ∷ put 1021 1 ∷ []) 11
-    ∷ image-reading 3 1536 (put 516 0 ∷ put 518 1 ∷ put 1020 29 ∷ []) 11
-    ∷ image-reading 3 1536 (put 6 2 ∷ put 508 29 ∷ []) 11 ∷ image-reading 3 1536 (put 1028 2 ∷ put 1532 32 ∷ []) 11
-    ∷ [])
+    ∷ soundness (put 128 9 ∷ []) (1 ∷ 0 ∷ 1 ∷ []) (1 ∷ 0 ∷ 2 ∷ []) false ∷ [])
     -- a triangle
     ∷ row 3 (
     up 0 1 ∷ up 1 2 ∷ up 0 2 ∷ []) (
@@ -662,35 +645,37 @@ damaged =
     ∷ soundness [] (2 ∷ 2 ∷ 2 ∷ []) (1 ∷ 0 ∷ 2 ∷ []) true ∷ soundness [] (2 ∷ 2 ∷ 2 ∷ []) (2 ∷ 0 ∷ 2 ∷ []) false
     ∷ soundness (put 0 2 ∷ []) (2 ∷ 2 ∷ 2 ∷ []) (2 ∷ 0 ∷ 1 ∷ []) false
     ∷ soundness (put 0 7 ∷ []) (2 ∷ 2 ∷ 2 ∷ []) (2 ∷ 0 ∷ 1 ∷ []) false
-    ∷ soundness (put 128 11 ∷ []) (2 ∷ 2 ∷ 2 ∷ []) (2 ∷ 0 ∷ 1 ∷ []) false ∷ image-reading 3 1536 [] 0
-    ∷ image-reading 4 1536 [] 11 ∷ image-reading 3 1535 [] 9 ∷ image-reading 3 0 [] 9 ∷ image-reading 3 1024 [] 11
-    ∷ image-reading 3 1536 (put 4 0 ∷ []) 10 ∷ image-reading 3 1536 (put 900 1 ∷ put 1020 156 ∷ put 1021 1 ∷ []) 11
-    ∷ image-reading 3 1536 (put 516 0 ∷ put 518 2 ∷ put 1020 27 ∷ []) 0
-    ∷ image-reading 3 1536 (put 6 4 ∷ put 508 43 ∷ []) 11 ∷ image-reading 3 1536 (put 1028 1 ∷ put 1532 85 ∷ []) 11
-    ∷ [])
-    -- a triangle with a tail
-    ∷ row 4 (
-    up 1 2 ∷ up 2 3 ∷ up 1 3 ∷ up 0 1 ∷ []) (
-    last-answers (
-    risen (1 ∷ 2 ∷ []) ∷ risen (3 ∷ []) ∷ risen (1 ∷ 2 ∷ 3 ∷ []) ∷ risen (0 ∷ []) ∷ [])
+    ∷ soundness (put 128 11 ∷ []) (2 ∷ 2 ∷ 2 ∷ []) (2 ∷ 0 ∷ 1 ∷ []) false ∷ [])
+    ∷ []
+
+unfoldable pub images : List Row
+images =
+    -- one radio
+    row 1 [] (
+    last-answers []
     ∷ printed (
-    "0 +1 1 2\n" ∷ "0 +1 3\n" ∷ "0 +1 1 2 3\n" ∷ "0 +1 0\n" ∷ "numbers 1 2 2 2\n" ∷ "order 0 3 1 2\n" ∷ [])
-    ∷ all-numbers (1 ∷ 2 ∷ 2 ∷ 2 ∷ []) ∷ whole-order (0 ∷ 3 ∷ 1 ∷ 2 ∷ [])
-    ∷ shell-tree (root ∷ node 0 1 root-name ∷ node 1 2 0 ∷ []) (0 ∷ 1 ∷ 1 ∷ 1 ∷ []) ∷ backbone-radios (1 ∷ 2 ∷ 3 ∷ [])
-    ∷ connected-core 3 0 0 (0 ∷ 1 ∷ 2 ∷ 3 ∷ []) ∷ connected-core 1 2 0 (1 ∷ 2 ∷ 3 ∷ [])
-    ∷ connected-core 2 1 0 (0 ∷ 1 ∷ 2 ∷ 3 ∷ []) ∷ connected-core 0 2 8 [] ∷ connected-core 4 0 4 []
-    ∷ image-checks 1536 (48 ∷ 56 ∷ 195 ∷ []) ∷ soundness [] (1 ∷ 2 ∷ 2 ∷ 2 ∷ []) (0 ∷ 3 ∷ 1 ∷ 2 ∷ []) true
-    ∷ soundness [] (2 ∷ 2 ∷ 2 ∷ 2 ∷ []) (0 ∷ 3 ∷ 1 ∷ 2 ∷ []) false
-    ∷ soundness [] (1 ∷ 2 ∷ 2 ∷ 1 ∷ []) (0 ∷ 3 ∷ 1 ∷ 2 ∷ []) false
-    ∷ soundness [] (1 ∷ 2 ∷ 2 ∷ 2 ∷ []) (2 ∷ 1 ∷ 3 ∷ 0 ∷ []) false
-    ∷ soundness [] (1 ∷ 2 ∷ 2 ∷ 2 ∷ []) (0 ∷ 3 ∷ 1 ∷ 0 ∷ []) false
-    ∷ soundness (put 0 10 ∷ []) (1 ∷ 2 ∷ 2 ∷ 2 ∷ []) (0 ∷ 3 ∷ 1 ∷ 2 ∷ []) false
-    ∷ soundness (put 0 3 ∷ []) (1 ∷ 2 ∷ 2 ∷ 2 ∷ []) (0 ∷ 3 ∷ 1 ∷ 2 ∷ []) false
-    ∷ soundness (put 192 22 ∷ []) (1 ∷ 2 ∷ 2 ∷ 2 ∷ []) (0 ∷ 3 ∷ 1 ∷ 2 ∷ []) false ∷ image-reading 4 1536 [] 0
-    ∷ image-reading 5 1536 [] 11 ∷ image-reading 4 1535 [] 9 ∷ image-reading 4 0 [] 9 ∷ image-reading 4 1024 [] 11
-    ∷ image-reading 4 1536 (put 4 7 ∷ []) 10 ∷ image-reading 4 1536 (put 900 1 ∷ put 1020 189 ∷ put 1021 1 ∷ []) 11
-    ∷ image-reading 4 1536 (put 516 3 ∷ put 518 0 ∷ put 1020 50 ∷ []) 11
-    ∷ image-reading 4 1536 (put 6 5 ∷ put 508 55 ∷ []) 11 ∷ image-reading 4 1536 (put 1028 1 ∷ put 1532 200 ∷ []) 11
+    "numbers 0\n" ∷ "order 0\n" ∷ [])
+    ∷ all-numbers (0 ∷ []) ∷ whole-order (0 ∷ []) ∷ shell-tree (root ∷ []) (root-name ∷ []) ∷ backbone-radios []
+    ∷ connected-core 0 0 0 (0 ∷ []) ∷ connected-core 0 1 8 [] ∷ connected-core 1 0 4 []
+    ∷ image-checks 1024 (5 ∷ 4 ∷ []) ∷ image-reading 1 1024 [] 0 ∷ image-reading 2 1024 [] 11
+    ∷ image-reading 1 1023 [] 9 ∷ image-reading 1 0 [] 9 ∷ image-reading 1 512 [] 11
+    ∷ image-reading 1 1024 (put 4 2 ∷ []) 10 ∷ image-reading 1 1024 (put 900 1 ∷ put 1020 137 ∷ put 1021 1 ∷ []) 11
+    ∷ image-reading 1 1024 (put 516 0 ∷ put 518 0 ∷ []) 0 ∷ image-reading 1 1024 (put 6 1 ∷ put 508 12 ∷ []) 11 ∷ [])
+    -- two radios, one link
+    ∷ row 2 (
+    up 0 1 ∷ []) (
+    last-answers (
+    risen (0 ∷ 1 ∷ []) ∷ [])
+    ∷ printed (
+    "0 +1 0 1\n" ∷ "numbers 1 1\n" ∷ "order 0 1\n" ∷ [])
+    ∷ all-numbers (1 ∷ 1 ∷ []) ∷ whole-order (0 ∷ 1 ∷ []) ∷ shell-tree (root ∷ node 0 1 root-name ∷ []) (0 ∷ 0 ∷ [])
+    ∷ backbone-radios (0 ∷ 1 ∷ []) ∷ connected-core 1 0 0 (0 ∷ 1 ∷ []) ∷ connected-core 0 1 0 (0 ∷ 1 ∷ [])
+    ∷ connected-core 1 1 0 (0 ∷ 1 ∷ []) ∷ connected-core 0 2 8 [] ∷ connected-core 2 0 4 []
+    ∷ image-checks 1536 (17 ∷ 11 ∷ 15 ∷ []) ∷ image-reading 2 1536 [] 0 ∷ image-reading 3 1536 [] 11
+    ∷ image-reading 2 1535 [] 9 ∷ image-reading 2 0 [] 9 ∷ image-reading 2 1024 [] 11
+    ∷ image-reading 2 1536 (put 4 1 ∷ []) 10 ∷ image-reading 2 1536 (put 900 1 ∷ put 1020 144 ∷ put 1021 1 ∷ []) 11
+    ∷ image-reading 2 1536 (put 516 1 ∷ put 518 0 ∷ put 1020 9 ∷ []) 0
+    ∷ image-reading 2 1536 (put 6 2 ∷ put 508 24 ∷ []) 11 ∷ image-reading 2 1536 (put 1028 1 ∷ put 1532 20 ∷ []) 11
     ∷ [])
     ∷ []
 
@@ -1045,4 +1030,4 @@ random-large =
     ∷ []
 
 unfoldable pub histories : List Row
-histories = refusals ++ (cliques ++ (joins ++ (rises ++ (falls ++ (trees ++ (damaged ++ (random-small ++ (random-middle ++ random-large))))))))
+histories = refusals ++ (cliques ++ (joins ++ (rises ++ (falls ++ (trees ++ (tables ++ (images ++ (random-small ++ (random-middle ++ random-large)))))))))
