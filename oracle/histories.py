@@ -130,6 +130,11 @@ TREES = [
 ]
 
 
+PRINTING = [
+    ("two digits", 12, ups((9, 10), (11, 10), (9, 11), (0, 11)) + [down(10, 9), up(12, 3)]),
+    ("three digits", 101, ups((99, 100))),
+]
+
 # of these the soundness check is tried too, with damaged tables
 TABLES = [
     ("a pair, a radio beside it", 3, ups((2, 0))),
@@ -169,26 +174,6 @@ def alive(n, calls):
 def random_group(start, rows):
     return [(f"random, seed {seed}", n, mixed(seed, n, length, upward))
             for seed, (n, length, upward) in enumerate(rows, start)]
-
-
-GROUPS = [
-    ("refusals", "calls that are refused", REFUSALS),
-    ("cliques", "cliques built and torn down", CLIQUES),
-    ("joins", "parts that join", JOINS),
-    ("rises", "links going up", RISES),
-    ("falls", "links going down", FALLS),
-    ("trees", "shell trees", TREES),
-    ("tables", "soundness, with damaged tables", TABLES),
-    ("images", "image reading, with damaged images", IMAGES),
-    ("random-small", "random calls at 2 to 5 radios",
-     random_group(101, [(2, 8, 0.5), (3, 10, 0.6), (3, 12, 0.5), (4, 12, 0.7), (4, 16, 0.6),
-                        (5, 14, 0.7), (5, 16, 0.8), (5, 20, 0.6), (5, 24, 0.7)])),
-    ("random-middle", "random calls at 6 and 7 radios",
-     random_group(201, [(6, 16, 0.8), (6, 20, 0.7), (6, 24, 0.8), (7, 18, 0.8), (7, 20, 0.9),
-                        (7, 24, 0.7)])),
-    ("random-large", "random calls at 8 radios",
-     random_group(301, [(8, 20, 0.8), (8, 24, 0.9), (8, 24, 0.75), (8, 28, 0.85)])),
-]
 
 
 # ---- as definitions
@@ -246,7 +231,23 @@ def put_text(puts):
     return short([f"put {at} {x}" for at, x in puts])
 
 
-def soundness_wants(site):
+def only_printed(site):
+    return []
+
+
+def what_is_left(site):
+    nodes, names = site.tree()
+    yield "all-numbers " + short(site.numbers)
+    yield "whole-order " + short(site.order)
+    yield f"shell-tree {short([node_text(x) for x in nodes])} {short([name_text(x) for x in names])}"
+    yield "backbone-radios " + short(site.backbone())
+    for v, k in cores_asked(site):
+        number, radios = site.core(v, k)
+        yield f"connected-core {v} {k} {number} {short(radios)}"
+    yield f"image-checks {len(site.image())} {short(site.checks())}"
+
+
+def soundness_tried(site):
     """The tables as they are, then damaged: a number one more and one less,
     the order turned round, one radio twice in it, a link in one row only, a
     radio its own neighbour, a bit at n."""
@@ -273,7 +274,7 @@ def checked(image, puts):
     return puts
 
 
-def reading_wants(site):
+def reading_tried(site):
     """The image as it is, for another n, cut short, empty, with a byte changed;
     then with good checks: a byte of the unused payload, two entries of the
     order exchanged, the count of links one more, the first link's ends equal."""
@@ -289,26 +290,36 @@ def reading_wants(site):
         yield f"image-reading {m} {many} {put_text(puts)} {reading(m, with_bytes(image, puts)[:many])}"
 
 
-MORE = {"tables": soundness_wants, "images": reading_wants}
-
-
-def row_text(about, n, calls, start, more):
+def row_text(about, n, calls, start, wanted):
     site, answers = play(n, calls)
-    nodes, names = site.tree()
     lines = [line_of(x) for x in answers] + site.closing_lines()
-    wants = ["all-numbers " + short(site.numbers),
-             "whole-order " + short(site.order),
-             f"shell-tree {short([node_text(x) for x in nodes])} {short([name_text(x) for x in names])}",
-             "backbone-radios " + short(site.backbone())]
-    for v, k in cores_asked(site):
-        number, radios = site.core(v, k)
-        wants.append(f"connected-core {v} {k} {number} {short(radios)}")
-    wants.append(f"image-checks {len(site.image())} {short(site.checks())}")
-    wants += dict.fromkeys(more(site))
     made = "(\n" + filled([call_text(c) for c in calls]) + ")" if calls else "[]"
     answered = "(\n" + filled([answer_text(x) for x in answers]) + ")" if calls else "[]"
+    wants = [f"printed (\n{filled([text_of(x) for x in lines])})"] + list(dict.fromkeys(wanted(site)))
     return (f"    -- {about}\n    {start}row {n} {made} (\n    last-answers {answered}\n"
-            f"    ∷ printed (\n{filled([text_of(x) for x in lines])})\n    ∷ {filled(wants).lstrip()})\n")
+            f"    ∷ {filled(wants).lstrip()})\n")
+
+
+# name, what it is about, the histories, what is wanted besides answers and printed lines
+GROUPS = [
+    ("refusals", "calls that are refused", REFUSALS, what_is_left),
+    ("cliques", "cliques built and torn down", CLIQUES, what_is_left),
+    ("joins", "parts that join", JOINS, what_is_left),
+    ("rises", "links going up", RISES, what_is_left),
+    ("falls", "links going down", FALLS, what_is_left),
+    ("trees", "shell trees", TREES, what_is_left),
+    ("printing", "numbers of two and three digits", PRINTING, only_printed),
+    ("tables", "soundness, with damaged tables", TABLES, soundness_tried),
+    ("images", "image reading, with damaged images", IMAGES, reading_tried),
+    ("random-small", "random calls at 2 to 5 radios",
+     random_group(101, [(2, 8, 0.5), (3, 10, 0.6), (3, 12, 0.5), (4, 12, 0.7), (4, 16, 0.6),
+                        (5, 14, 0.7), (5, 16, 0.8), (5, 20, 0.6), (5, 24, 0.7)]), what_is_left),
+    ("random-middle", "random calls at 6 and 7 radios",
+     random_group(201, [(6, 16, 0.8), (6, 20, 0.7), (6, 24, 0.8), (7, 18, 0.8), (7, 20, 0.9),
+                        (7, 24, 0.7)]), what_is_left),
+    ("random-large", "random calls at 8 radios",
+     random_group(301, [(8, 20, 0.8), (8, 24, 0.9), (8, 24, 0.75), (8, 28, 0.85)]), what_is_left),
+]
 
 
 HEAD = """-- Link histories from cleared sites, with every answer and what they leave. Written by `python3 oracle/histories.py`,
@@ -323,15 +334,15 @@ use Rattle.calls.specs.Cases.{Row, row, up, down, risen, fallen, unchanged, ref
 
 
 def text():
-    index = "".join(f"--   {name:<15} {about}\n" for name, about, _ in GROUPS)
-    total = sum(len(rows) for _, _, rows in GROUPS)
+    index = "".join(f"--   {name:<15} {about}\n" for name, about, _, _ in GROUPS)
+    total = sum(len(rows) for _, _, rows, _ in GROUPS)
     out = HEAD.replace("INDEX", index).replace("TOTAL", str(total))
-    for name, about, rows in GROUPS:
+    for name, _, rows, wanted in GROUPS:
         out += f"\nunfoldable pub {name} : List Row\n{name} =\n"
         for i, (what, n, calls) in enumerate(rows):
-            out += row_text(what, n, calls, "∷ " if i else "", MORE.get(name, lambda site: []))
+            out += row_text(what, n, calls, "∷ " if i else "", wanted)
         out += "    ∷ []\n"
-    names = [name for name, _, _ in GROUPS]
+    names = [name for name, _, _, _ in GROUPS]
     joined = " ++ (".join(names[:-1]) + " ++ " + names[-1] + ")" * (len(names) - 2)
     out += f"\nunfoldable pub histories : List Row\nhistories = {joined}\n"
     return out

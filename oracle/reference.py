@@ -8,7 +8,7 @@ looked for among all sets of radios, a tree is made by comparing sets.
 from itertools import combinations
 
 RADIOS, NEIGHBOURS, ROOT = 512, 32, 65535
-SMALL = 10  # up to this many radios all sets of radios are looked at
+SMALL = 12  # up to this many radios all sets of radios are looked at
 
 
 def linked(links, a, b):
