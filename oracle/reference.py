@@ -58,7 +58,7 @@ def core_numbers(n, links):
 
 def lay_out(links, waiting, above, most):
     """The next is always the first that has at most `most` neighbours among
-    those not yet laid out and the radios above."""
+    the ones not yet laid out and the radios above."""
     waiting, laid = list(waiting), []
     while waiting:
         fits = [v for v in waiting
