@@ -8,182 +8,15 @@ Expected values come from `reference`, which is written from document 01 alone.
 Seeds are fixed: the same file comes out each time.
 """
 
-import random
 import sys
-from itertools import combinations
 from pathlib import Path
 
 import cases
-from cases import down, triangle, up
+from calls import (CLIQUES, FALLS, IMAGES, JOINS, PRINTING, REFUSALS, RISES, TABLES, TREES,
+                   random_group)
 from reference import ROOT, check_bytes, line_of, play, reading, sound, with_bytes
 
 FILE = Path(__file__).resolve().parent.parent / "crates/vectors/specs/Histories.antt"
-
-
-# ---- the histories: groups of (what it is about, n, calls)
-
-def ups(*pairs):
-    return [up(a, b) for a, b in pairs]
-
-
-def downs(*pairs):
-    return [down(a, b) for a, b in pairs]
-
-
-def path(*radios):
-    return list(zip(radios, radios[1:]))
-
-
-def cycle(*radios):
-    return path(*radios) + [(radios[-1], radios[0])]
-
-
-def clique(*radios):
-    return list(combinations(radios, 2))
-
-
-def sides(left, right):
-    return [(a, b) for a in left for b in right]
-
-
-REFUSALS = [
-    ("one radio, no call", 1, []),
-    ("one radio: every call is refused", 1,
-     [up(0, 0), up(0, 1), up(1, 0), up(1, 1), down(0, 0), down(0, 1)]),
-    ("a link is taken up once and down once, ends in either order", 2,
-     [down(0, 1), up(0, 1), up(0, 1), up(1, 0), down(1, 0), down(0, 1), up(1, 0)]),
-    ("4 before 5, 5 before 6, and a refused call changes nothing", 4,
-     ups(*path(0, 1, 2)) + [up(4, 4), down(9, 9), up(2, 2), down(2, 2), up(0, 4), down(65535, 0),
-                            up(1, 0), down(0, 2), up(2, 3)]),
-    ("eight radios, no link", 8, [up(8, 0), down(0, 7), up(7, 7)]),
-]
-
-CLIQUES = [
-    ("a clique of 4 built and torn down to nothing", 4,
-     ups(*clique(0, 1, 2, 3)) + downs(*clique(0, 1, 2, 3))),
-    ("a clique of 5 built, and torn down from its last radio", 5,
-     ups(*clique(0, 1, 2, 3, 4)) + downs((3, 4), (2, 4), (1, 4), (0, 4))),
-    ("a clique of 6, one link down", 6, ups(*clique(0, 1, 2, 3, 4, 5)) + downs((2, 4))),
-    ("a clique of 8", 8, ups(*clique(*range(8)))),
-    ("two cliques of 4 torn down in turn", 8,
-     ups(*clique(0, 2, 4, 6), *clique(1, 3, 5, 7)) + downs((0, 2), (1, 3), (4, 6), (5, 7), (0, 6))),
-    ("two cliques of 4 with one radio in both", 7, ups(*clique(0, 1, 2, 3), *clique(3, 4, 5, 6))),
-    ("three against three, then a link inside a side", 6,
-     ups(*sides((0, 1, 2), (3, 4, 5)), (0, 1)) + downs((0, 3))),
-]
-
-JOINS = [
-    ("two pairs join, and part again", 4, ups((0, 1), (2, 3), (1, 2)) + downs((1, 2))),
-    ("two triangles join by one link, by two, by three", 6,
-     triangle(0, 1, 2) + triangle(3, 4, 5) + ups((0, 3), (1, 4), (2, 5))),
-    ("two triangles joined, the joint goes down", 7,
-     triangle(0, 1, 2) + triangle(4, 5, 6) + ups((2, 3), (3, 4)) + downs((2, 3), (3, 4))),
-    ("a triangle and a clique of 4 join", 8,
-     triangle(5, 6, 7) + ups(*clique(0, 1, 2, 3), (3, 5), (2, 4), (4, 7))),
-    ("three pairs join to a ring", 6, ups((0, 1), (2, 3), (4, 5), (1, 2), (3, 4), (5, 0))),
-]
-
-RISES = [
-    ("equal ends in two subcores, both rise: two radios held by one triangle", 5,
-     triangle(0, 1, 2) + ups((0, 3), (1, 4), (3, 4))),
-    ("equal ends in two subcores of several radios, all rise", 7,
-     triangle(0, 1, 2) + ups((0, 3), (3, 4), (1, 5), (5, 6), (4, 6))),
-    ("equal ends in two subcores, level 2, both rise", 6,
-     ups(*clique(0, 1, 2, 3), (0, 4), (1, 4), (2, 5), (3, 5), (4, 5))),
-    ("a long path is looked at, three radios rise", 8, ups(*path(0, 1, 2, 3, 4, 5, 6, 7), (5, 7))),
-    ("a ring closes, all rise", 8, ups(*path(3, 1, 4, 0, 5, 2, 6, 7), (7, 3))),
-    ("ends of different numbers, the lower level alone changes", 6,
-     ups(*clique(0, 1, 2, 3), (4, 5), (4, 0), (5, 1))),
-    ("no radio rises, level 1 is laid out anew", 6, ups((0, 1), (2, 3), (4, 5), (1, 4), (0, 3))),
-]
-
-FALLS = [
-    ("a link goes down, and a whole ring falls with it", 8,
-     ups(*cycle(0, 1, 2, 3, 4, 5, 6, 7)) + downs((3, 4))),
-    ("links up, then down to nothing, in the same order", 5,
-     ups(*path(0, 1, 2, 3, 4)) + downs(*path(0, 1, 2, 3, 4))),
-    ("links up, then down to nothing, in the other order", 5,
-     ups(*path(4, 2, 0, 1, 3)) + downs(*reversed(path(4, 2, 0, 1, 3)))),
-    ("a wheel loses a spoke, then a link of its rim", 7,
-     ups(*cycle(1, 2, 3, 4, 5, 6), *sides((0,), range(1, 7))) + downs((0, 3), (5, 6))),
-    ("a star loses its links one by one", 6,
-     ups(*sides((5,), range(5))) + downs(*sides((5,), range(5)))),
-    ("a triangle opens at the end of a tail", 6, triangle(3, 4, 5) + ups(*path(0, 1, 2, 3)) + downs((4, 5))),
-    ("one part of a level falls, the other stays", 6,
-     triangle(0, 1, 2) + triangle(3, 4, 5) + downs((4, 5))),
-    ("a link goes down and nothing falls", 5, ups(*clique(0, 1, 2, 3), (0, 4), (1, 4), (2, 4)) + downs((3, 0))),
-]
-
-TREES = [
-    ("an empty level is skipped: level 3 under level 1", 5, ups(*clique(1, 2, 3, 4), (0, 1))),
-    ("empty levels are skipped: level 4 under level 1", 7, ups(*clique(0, 1, 2, 3, 4), (4, 5), (5, 6))),
-    ("levels 3 and 2 under one node of level 1", 8,
-     ups(*clique(0, 1, 2, 3), (3, 7), (7, 4)) + triangle(4, 5, 6) + downs((4, 7)) + ups((7, 6))),
-    ("level 3 under level 2, and a part of level 1 beside it", 8,
-     ups(*clique(2, 3, 4, 5), (2, 1), (3, 1), (0, 6))),
-    ("levels 1, 2 and 3, one inside the other, names not in order", 7,
-     ups(*clique(3, 4, 5, 6), (3, 1), (6, 1), (1, 2), (2, 6), (0, 1))),
-    ("two nodes of level 2 under one of level 1, tied by a path", 8,
-     triangle(0, 1, 2) + triangle(5, 6, 7) + ups((2, 3), (3, 4), (4, 5)) + downs((3, 4)) + ups((4, 3))),
-    ("a node falls apart when its tie goes down", 7,
-     triangle(0, 1, 2) + triangle(4, 5, 6) + ups((2, 3), (3, 4), (0, 4)) + downs((0, 4), (3, 4))),
-]
-
-
-# of these, soundness and image reading are tried too, with damaged tables and images
-DAMAGED = [
-    ("one radio", 1, []),
-    ("a pair, a radio beside it", 3, ups((2, 0))),
-    ("a triangle", 3, triangle(0, 1, 2)),
-    ("a triangle with a tail", 4, triangle(1, 2, 3) + ups((0, 1))),
-]
-
-
-def mixed(seed, n, length, upward):
-    """Random calls: about one in ten names a radio that may not be there or
-    one radio twice; of the others a share `upward` goes up."""
-    chance = random.Random(seed)
-    calls = []
-    for _ in range(length):
-        going = chance.random() < upward
-        if chance.random() < 0.1:
-            a, b = chance.randrange(n + 1), chance.randrange(n + 1)
-        else:
-            a, b = chance.sample(range(n), 2)
-            linked = {(x, y) for u, x, y in alive(n, calls)}
-            if not going and linked:
-                a, b = chance.choice(sorted(linked))
-        calls.append((going, a, b))
-    return calls
-
-
-def alive(n, calls):
-    site, _ = play(n, calls)
-    return [(True, a, b) for a, b in site.links]
-
-
-def random_group(start, rows):
-    return [(f"random, seed {seed}", n, mixed(seed, n, length, upward))
-            for seed, (n, length, upward) in enumerate(rows, start)]
-
-
-GROUPS = [
-    ("refusals", "calls that are refused", REFUSALS),
-    ("cliques", "cliques built and torn down", CLIQUES),
-    ("joins", "parts that join", JOINS),
-    ("rises", "links going up", RISES),
-    ("falls", "links going down", FALLS),
-    ("trees", "shell trees", TREES),
-    ("damaged", "soundness and image reading, with damage", DAMAGED),
-    ("random-small", "random calls at 2 to 5 radios",
-     random_group(101, [(2, 8, 0.5), (3, 10, 0.6), (3, 12, 0.5), (4, 12, 0.7), (4, 16, 0.6),
-                        (5, 14, 0.7), (5, 16, 0.8), (5, 20, 0.6), (5, 24, 0.7)])),
-    ("random-middle", "random calls at 6 and 7 radios",
-     random_group(201, [(6, 16, 0.8), (6, 20, 0.7), (6, 24, 0.8), (7, 18, 0.8), (7, 20, 0.9),
-                        (7, 24, 0.7)])),
-    ("random-large", "random calls at 8 radios",
-     random_group(301, [(8, 20, 0.8), (8, 24, 0.9), (8, 24, 0.75), (8, 28, 0.85)])),
-]
 
 
 # ---- as definitions
@@ -241,7 +74,23 @@ def put_text(puts):
     return short([f"put {at} {x}" for at, x in puts])
 
 
-def soundness_wants(site):
+def only_printed(site):
+    return []
+
+
+def what_is_left(site):
+    nodes, names = site.tree()
+    yield "all-numbers " + short(site.numbers)
+    yield "whole-order " + short(site.order)
+    yield f"shell-tree {short([node_text(x) for x in nodes])} {short([name_text(x) for x in names])}"
+    yield "backbone-radios " + short(site.backbone())
+    for v, k in cores_asked(site):
+        number, radios = site.core(v, k)
+        yield f"connected-core {v} {k} {number} {short(radios)}"
+    yield f"image-checks {len(site.image())} {short(site.checks())}"
+
+
+def soundness_tried(site):
     """The tables as they are, then damaged: a number one more and one less,
     the order turned round, one radio twice in it, a link in one row only, a
     radio its own neighbour, a bit at n."""
@@ -260,7 +109,7 @@ def soundness_wants(site):
 
 
 def checked(image, puts):
-    """The puts, and those that make the checks good again."""
+    """The puts, and further ones that make the checks good again."""
     changed = with_bytes(image, puts)
     for at in sorted({512 * (at // 512) for at, _ in puts}):
         puts = puts + [(at + 508 + i, x) for i, x in enumerate(check_bytes(changed[at:at + 512]))
@@ -268,7 +117,7 @@ def checked(image, puts):
     return puts
 
 
-def reading_wants(site):
+def reading_tried(site):
     """The image as it is, for another n, cut short, empty, with a byte changed;
     then with good checks: a byte of the unused payload, two entries of the
     order exchanged, the count of links one more, the first link's ends equal."""
@@ -284,24 +133,36 @@ def reading_wants(site):
         yield f"image-reading {m} {many} {put_text(puts)} {reading(m, with_bytes(image, puts)[:many])}"
 
 
-def row_text(about, n, calls, start, damaged):
+def row_text(about, n, calls, start, wanted):
     site, answers = play(n, calls)
-    nodes, names = site.tree()
     lines = [line_of(x) for x in answers] + site.closing_lines()
-    wants = ["all-numbers " + short(site.numbers),
-             "whole-order " + short(site.order),
-             f"shell-tree {short([node_text(x) for x in nodes])} {short([name_text(x) for x in names])}",
-             "backbone-radios " + short(site.backbone())]
-    for v, k in cores_asked(site):
-        number, radios = site.core(v, k)
-        wants.append(f"connected-core {v} {k} {number} {short(radios)}")
-    wants.append(f"image-checks {len(site.image())} {short(site.checks())}")
-    if damaged:
-        wants += dict.fromkeys([*soundness_wants(site), *reading_wants(site)])
     made = "(\n" + filled([call_text(c) for c in calls]) + ")" if calls else "[]"
     answered = "(\n" + filled([answer_text(x) for x in answers]) + ")" if calls else "[]"
+    wants = [f"printed (\n{filled([text_of(x) for x in lines])})"] + list(dict.fromkeys(wanted(site)))
     return (f"    -- {about}\n    {start}row {n} {made} (\n    last-answers {answered}\n"
-            f"    ∷ printed (\n{filled([text_of(x) for x in lines])})\n    ∷ {filled(wants).lstrip()})\n")
+            f"    ∷ {filled(wants).lstrip()})\n")
+
+
+# name, what it is about, the histories, what is wanted besides answers and printed lines
+GROUPS = [
+    ("refusals", "calls that are refused", REFUSALS, what_is_left),
+    ("cliques", "cliques built and torn down", CLIQUES, what_is_left),
+    ("joins", "parts that join", JOINS, what_is_left),
+    ("rises", "links going up", RISES, what_is_left),
+    ("falls", "links going down", FALLS, what_is_left),
+    ("trees", "shell trees", TREES, what_is_left),
+    ("printing", "numbers of two and three digits", PRINTING, only_printed),
+    ("tables", "soundness, with damaged tables", TABLES, soundness_tried),
+    ("images", "image reading, with damaged images", IMAGES, reading_tried),
+    ("random-small", "random calls at 2 to 5 radios",
+     random_group(101, [(2, 8, 0.5), (3, 10, 0.6), (3, 12, 0.5), (4, 12, 0.7), (4, 16, 0.6),
+                        (5, 14, 0.7), (5, 16, 0.8), (5, 20, 0.6), (5, 24, 0.7)]), what_is_left),
+    ("random-middle", "random calls at 6 and 7 radios",
+     random_group(201, [(6, 16, 0.8), (6, 20, 0.7), (6, 24, 0.8), (7, 18, 0.8), (7, 20, 0.9),
+                        (7, 24, 0.7)]), what_is_left),
+    ("random-large", "random calls at 8 radios",
+     random_group(301, [(8, 20, 0.8), (8, 24, 0.9), (8, 24, 0.75), (8, 28, 0.85)]), what_is_left),
+]
 
 
 HEAD = """-- Link histories from cleared sites, with every answer and what they leave. Written by `python3 oracle/histories.py`,
@@ -316,15 +177,15 @@ use Rattle.calls.specs.Cases.{Row, row, up, down, risen, fallen, unchanged, ref
 
 
 def text():
-    index = "".join(f"--   {name:<15} {about}\n" for name, about, _ in GROUPS)
-    total = sum(len(rows) for _, _, rows in GROUPS)
+    index = "".join(f"--   {name:<15} {about}\n" for name, about, _, _ in GROUPS)
+    total = sum(len(rows) for _, _, rows, _ in GROUPS)
     out = HEAD.replace("INDEX", index).replace("TOTAL", str(total))
-    for name, about, rows in GROUPS:
+    for name, _, rows, wanted in GROUPS:
         out += f"\nunfoldable pub {name} : List Row\n{name} =\n"
         for i, (what, n, calls) in enumerate(rows):
-            out += row_text(what, n, calls, "∷ " if i else "", rows is DAMAGED)
+            out += row_text(what, n, calls, "∷ " if i else "", wanted)
         out += "    ∷ []\n"
-    names = [name for name, _, _ in GROUPS]
+    names = [name for name, _, _, _ in GROUPS]
     joined = " ++ (".join(names[:-1]) + " ++ " + names[-1] + ")" * (len(names) - 2)
     out += f"\nunfoldable pub histories : List Row\nhistories = {joined}\n"
     return out

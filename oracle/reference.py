@@ -8,7 +8,7 @@ looked for among all sets of radios, a tree is made by comparing sets.
 from itertools import combinations
 
 RADIOS, NEIGHBOURS, ROOT = 512, 32, 65535
-SMALL = 10  # up to this many radios all sets of radios are looked at
+SMALL = 12  # up to this many radios all sets of radios are looked at
 
 
 def linked(links, a, b):
@@ -58,7 +58,7 @@ def core_numbers(n, links):
 
 def lay_out(links, waiting, above, most):
     """The next is always the first that has at most `most` neighbours among
-    those not yet laid out and the radios above."""
+    the ones not yet laid out and the radios above."""
     waiting, laid = list(waiting), []
     while waiting:
         fits = [v for v in waiting

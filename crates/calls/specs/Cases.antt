@@ -2,21 +2,21 @@
 --   Link-call, Answer      a link call, and what it answers
 --   State                  what link calls leave: graph, order, their answers
 --   after calls state      the state after the calls; each puts questions 4 to 7
---   Want                   what a row wants of the state
---   Row                    a site of n radios is cleared, the calls are made, and the wants are met
---   right row              is it so
---   cases                  the table
+--   Want, meets            what a row wants of the state, and whether the state is so
+--   Row, right             n radios are cleared, the calls are made; is every want met
+--   m1 .. m10, cases       the table
+--   compute                what a proof about rows unfolds
 -- That every row is right is `cases-right` in proofs/Cases.antt. Definitions only.
-use mathlib.Core.Bool.{Bool, true, false, _&&_, cond, Bool·beq}
+use mathlib.Core.Bool.{Bool, true, false, _&&_, Bool·beq}
 use mathlib.Core.List.{List, [], _∷_, _++_, map, flatMap}
-use Prim.Native.Nat.{ℕ, zero, suc, _+_, _*_, _-_}
+use Prim.Native.Nat.{ℕ, zero, suc, _-_}
 use Prim.Native.String.{String}
 use lib.Dec.{eqb}
 use lib.IntN.{ℤ, pos, negsuc}
 use lib.ListN.{length, drop, take, getD, set}
 use Rattle.mesh.specs.Limits.{max-neighbours}
 use Rattle.mesh.specs.Lists.{range, count, filter, member, all, same, head-or}
-use Rattle.mesh.specs.Graph.{Link, Graph, graph, radios, other-ends, linked, neighbours-among, degree, link, link-before, same-link, with-link, without-link, new-links, relinked, proper, ascending}
+use Rattle.mesh.specs.Graph.{Graph, graph, radios, other-ends, linked, neighbours-among, degree, link, link-before, same-link, with-link, without-link, new-links, relinked, proper, ascending}
 use Rattle.mesh.specs.Cores.{survivors, peeled, cores-from, cores, depth, number, numbers}
 use Rattle.mesh.specs.Levels.{changed, step-of, lower-level, stretch-start, stretch-length, first-fitting, without, laid-out, stretch-up, stretch-down, new-stretch, with-stretch, new-order}
 use Rattle.mesh.specs.Orders.{each-once, rising, few-later}
@@ -40,10 +40,10 @@ pub record Answer : Type 0 where
   pub step : ℤ
   pub changed : List ℕ
 
+-- what an accepted call answers; below, by its step: +1, -1, 0
 unfoldable pub accepted : (step : ℤ) → (changed : List ℕ) → Answer
 accepted s cs = record { number = 0; step = s; changed = cs }
 
--- accepted, by step: +1, -1, 0
 unfoldable pub risen : (changed : List ℕ) → Answer
 risen cs = accepted (pos 1) cs
 
@@ -53,6 +53,7 @@ fallen cs = accepted (negsuc 0) cs
 unfoldable pub unchanged : Answer
 unchanged = accepted (pos 0) []
 
+-- a refused call: its number and zeros
 unfoldable pub refused : (number : ℕ) → Answer
 refused r = record { number = r; step = pos 0; changed = [] }
 
@@ -67,13 +68,14 @@ state g xs ss = record { graph = g; order = xs; answers = ss }
 unfoldable pub cleared : (n : ℕ) → State
 cleared n = state (graph n []) (range 0 n) []
 
--- a call with this refusal number, 0 if it is accepted
+-- the state after a call with this refusal number: a refused call changes nothing
 unfoldable pub carried-out : (number : ℕ) → (up : Bool) → (a b : ℕ) → State → State
 carried-out zero u a b s =
     let cs = changed u a b (s .graph) in
     state (relinked u a b (s .graph)) (new-order u a b (s .graph) (s .order)) (s .answers ++ (accepted (step-of u cs) cs ∷ []))
 carried-out (suc x) u a b s = state (s .graph) (s .order) (s .answers ++ (refused (suc x) ∷ []))
 
+-- the questions are the definitions' own
 unfoldable pub link-called : (up : Bool) → (a b : ℕ) → State → State
 link-called u a b s =
     carried-out (ends-refusal max-neighbours u (s .graph .n) a b (s .graph)) u a b s
@@ -97,8 +99,9 @@ abbrev pub put : (at byte : ℕ) → Put
 put i x = record { at = i; byte = x }
 
 pub data Want : Type 0 where
-  -- the last answers, the numbers and the order
+  -- the last calls answer so
   last-answers : List Answer → Want
+  -- numbers by radio
   all-numbers : List ℕ → Want
   whole-order : List ℕ → Want
   -- the shell tree, and each radio's node name
@@ -143,7 +146,7 @@ same-nodes (x ∷ xs) [] = false
 same-nodes (x ∷ xs) (y ∷ ys) =
     (eqb (x .name) (y .name) && eqb (x .level) (y .level)) && (eqb (x .parent) (y .parent) && same-nodes xs ys)
 
--- questions 4 and 8
+-- questions 4 and 8 of a connected core, and its radios where they get yes
 unfoldable pub level-refusal : Graph → (v k : ℕ) → ℕ
 level-refusal g v k = ask 4 (is-radio (g .n) v) (ask 8 (has-level g v k) 0)
 
@@ -151,7 +154,7 @@ unfoldable pub core-answer : (number : ℕ) → Graph → (v k : ℕ) → List �
 core-answer zero g v k = core-of g v k
 core-answer (suc x) g v k = []
 
--- the last four bytes of each block, as bytes
+-- the check bytes of each block
 unfoldable pub block-checks : (blocks : ℕ) → (image : List ℕ) → List ℕ
 block-checks zero bs = []
 block-checks (suc m) bs = take 4 (drop 508 bs) ++ block-checks m (drop block-bytes bs)
@@ -166,6 +169,7 @@ answer-line x = link-line (x .number) (x .step) (x .changed)
 unfoldable pub printed-by : State → List ℕ
 printed-by s = flatMap answer-line (s .answers) ++ closing-lines (numbers (s .graph)) (s .order)
 
+-- an image's length is that of question 9 too
 unfoldable pub meets : State → Want → Bool
 meets s (last-answers xs) = same-answers (drop (length (s .answers) - length xs) (s .answers)) xs
 meets s (all-numbers ns) = same (numbers (s .graph)) ns
@@ -202,10 +206,11 @@ triangle a b c = up a b ∷ up b c ∷ up a c ∷ []
 unfoldable pub two-triangles : List Link-call
 two-triangles = triangle 0 1 2 ++ triangle 3 4 5
 
--- what M5 and M6 speak of
+-- the links of M5 and M6
 unfoldable pub two-triangles-tied : List Link-call
 two-triangles-tied = two-triangles ++ (up 2 3 ∷ up 0 6 ∷ [])
 
+-- M1, its answers and what it prints, whole
 unfoldable pub m1 : Row
 m1 = row 4 (up 0 1 ∷ up 1 2 ∷ up 0 2 ∷ down 0 1 ∷ []) (
     last-answers (
@@ -226,7 +231,7 @@ m1 = row 4 (up 0 1 ∷ up 1 2 ∷ up 0 2 ∷ down 0 1 ∷ []) (
     ∷ [])
     ∷ [])
 
--- M2: the last call changes no number, and the order
+-- M2: the last call changes no number; the order goes from 2 3 0 1 to 3 2 0 1
 unfoldable pub m2-before : Row
 m2-before = row 4 (up 0 1 ∷ up 2 3 ∷ []) (
     all-numbers (1 ∷ 1 ∷ 1 ∷ 1 ∷ []) ∷ whole-order (2 ∷ 3 ∷ 0 ∷ 1 ∷ []) ∷ [])
@@ -238,12 +243,14 @@ m2 = row 4 (up 0 1 ∷ up 2 3 ∷ up 0 2 ∷ []) (
     ∷ whole-order (3 ∷ 2 ∷ 0 ∷ 1 ∷ [])
     ∷ [])
 
+-- M3: all have 2; nodes 0 and 3 at level 2 under the root
 unfoldable pub m3 : Row
 m3 = row 6 two-triangles (
     all-numbers (2 ∷ 2 ∷ 2 ∷ 2 ∷ 2 ∷ 2 ∷ [])
     ∷ shell-tree (root ∷ node 0 2 root-name ∷ node 3 2 root-name ∷ []) (0 ∷ 0 ∷ 0 ∷ 3 ∷ 3 ∷ 3 ∷ [])
     ∷ [])
 
+-- M4: no change of numbers; one node beside the root, 0 at level 2
 unfoldable pub m4 : Row
 m4 = row 6 (two-triangles ++ (up 2 3 ∷ [])) (
     last-answers (unchanged ∷ [])
@@ -251,21 +258,25 @@ m4 = row 6 (two-triangles ++ (up 2 3 ∷ [])) (
     ∷ shell-tree (root ∷ node 0 2 root-name ∷ []) (0 ∷ 0 ∷ 0 ∷ 0 ∷ 0 ∷ 0 ∷ [])
     ∷ [])
 
+-- M5: node 6 at level 1, node 0 at level 2 with parent 6
 unfoldable pub m5 : Row
 m5 = row 7 two-triangles-tied (
     shell-tree (root ∷ node 6 1 root-name ∷ node 0 2 6 ∷ []) (0 ∷ 0 ∷ 0 ∷ 0 ∷ 0 ∷ 0 ∷ 6 ∷ []) ∷ [])
 
+-- M6: the core of radio 6 at level 1 is all seven; at level 2: refusal 8
 unfoldable pub m6 : Row
 m6 = row 7 two-triangles-tied (
     connected-core 6 1 0 (0 ∷ 1 ∷ 2 ∷ 3 ∷ 4 ∷ 5 ∷ 6 ∷ []) ∷ connected-core 6 2 8 [] ∷ [])
 
+-- M7: triangle 0 1 2, pair 3 4: backbone 0 1 2
 unfoldable pub m7 : Row
 m7 = row 5 (triangle 0 1 2 ++ (up 3 4 ∷ [])) (backbone-radios (0 ∷ 1 ∷ 2 ∷ []) ∷ [])
 
+-- M8: an image of 1,024 bytes, checks 5 and 4
 unfoldable pub m8 : Row
 m8 = row 1 [] (image-checks 1024 (5 ∷ 4 ∷ []) ∷ [])
 
--- M9, going up and going down
+-- M9: refusal 4, not 5, going up and going down
 unfoldable pub m9 : Row
 m9 = row 3 (up 3 3 ∷ down 3 3 ∷ []) (
     last-answers (refused 4 ∷ refused 4 ∷ [])
@@ -273,7 +284,7 @@ m9 = row 3 (up 3 3 ∷ down 3 3 ∷ []) (
     ∷ whole-order (0 ∷ 1 ∷ 2 ∷ [])
     ∷ [])
 
--- M10: radio 0 gets neighbours 1 to 32; the 33rd is refused from either end, and taken after a link went down
+-- M10: a 32nd neighbour is taken; a 33rd gets 7, from either end; after one link goes down it is taken
 unfoldable pub m10 : Row
 m10 = row 34 (map (up 0) (range 1 32) ++ (up 0 33 ∷ up 33 0 ∷ down 0 1 ∷ up 0 33 ∷ [])) (
     last-answers (
@@ -289,7 +300,7 @@ m10 = row 34 (map (up 0) (range 1 32) ++ (up 0 33 ∷ up 33 0 ∷ down 0 1 ∷ u
 unfoldable pub cases : List Row
 cases = m1 ∷ m2-before ∷ m2 ∷ m3 ∷ m4 ∷ m5 ∷ m6 ∷ m7 ∷ m8 ∷ m9 ∷ m10 ∷ []
 
--- what a proof about rows unfolds
+-- everything that rows compute with
 unfoldable pub compute : Unit {0}
 unfolding range count filter member all same head-or radios other-ends linked neighbours-among degree link link-before same-link with-link without-link new-links relinked survivors peeled cores-from cores depth number numbers changed step-of lower-level stretch-start stretch-length first-fitting without laid-out stretch-up stretch-down new-stretch with-stretch new-order at-least reached core-of greatest backbone shell node-name parent-name nodes-at tree node-names word long weighted-sum check-sum block blocks-for order-blocks block-count link-bytes order-payload links-payload block-at image-of word-at entry-at image-order image-link image-links image-graph whole-blocks block-check checks-good is-image proper ascending each-once rising few-later digit byte-at marked from-digits row-of links-table tables-of symmetric irreflexive within row-degree few rows-proper enough sound-within sound ask is-radio are-radios ends-differ can-switch has-room has-level image-length ends-refusal image-refusal digit-byte digits-in decimal step-text further-fields printed-line link-line numbers-line order-line closing-lines accepted risen fallen unchanged refused state cleared carried-out link-called called after same-step same-answers same-nodes level-refusal core-answer block-checks put-in answer-line printed-by meets meets-all right all-right triangle two-triangles two-triangles-tied flatMap map getD set Bool·beq
 compute = tt

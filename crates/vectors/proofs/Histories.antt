@@ -4,7 +4,7 @@ use mathlib.Core.Path.{_≡_, refl}
 use mathlib.Core.Bool.{true}
 use Rattle.calls.specs.Cases.{all-right, compute}
 use Rattle.calls.proofs.Cases.{all-right-append}
-use Rattle.vectors.specs.Histories.{refusals, cliques, joins, rises, falls, trees, damaged, random-small, random-middle, random-large, histories}
+use Rattle.vectors.specs.Histories.{refusals, cliques, joins, rises, falls, trees, printing, tables, images, random-small, random-middle, random-large, histories}
 
 refusals-right : all-right refusals ≡ true
 unfolding compute refusals
@@ -30,9 +30,17 @@ trees-right : all-right trees ≡ true
 unfolding compute trees
 trees-right = refl
 
-damaged-right : all-right damaged ≡ true
-unfolding compute damaged
-damaged-right = refl
+printing-right : all-right printing ≡ true
+unfolding compute printing
+printing-right = refl
+
+tables-right : all-right tables ≡ true
+unfolding compute tables
+tables-right = refl
+
+images-right : all-right images ≡ true
+unfolding compute images
+images-right = refl
 
 random-small-right : all-right random-small ≡ true
 unfolding compute random-small
@@ -55,6 +63,8 @@ histories-right =
     all-right-append rises _ rises-right (
     all-right-append falls _ falls-right (
     all-right-append trees _ trees-right (
-    all-right-append damaged _ damaged-right (
+    all-right-append printing _ printing-right (
+    all-right-append tables _ tables-right (
+    all-right-append images _ images-right (
     all-right-append random-small _ random-small-right (
-    all-right-append random-middle random-large random-middle-right random-large-right))))))))
+    all-right-append random-middle random-large random-middle-right random-large-right))))))))))

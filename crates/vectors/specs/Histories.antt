@@ -6,11 +6,13 @@
 --   rises           links going up
 --   falls           links going down
 --   trees           shell trees
---   damaged         soundness and image reading, with damage
+--   printing        numbers of two and three digits
+--   tables          soundness, with damaged tables
+--   images          image reading, with damaged images
 --   random-small    random calls at 2 to 5 radios
 --   random-middle   random calls at 6 and 7 radios
 --   random-large    random calls at 8 radios
---   histories       all of them, 62 rows
+--   histories       all of them, 64 rows
 -- That every row is right is `histories-right` in proofs/Histories.antt. Definitions only.
 use mathlib.Core.Bool.{true, false}
 use mathlib.Core.List.{List, [], _∷_, _++_}
@@ -23,10 +25,9 @@ refusals =
     row 1 [] (
     last-answers []
     ∷ printed (
-    "numbers 0\n" ∷ "order 0\n" ∷ [])
-    ∷ all-numbers (0 ∷ []) ∷ whole-order (0 ∷ []) ∷ shell-tree (root ∷ []) (root-name ∷ []) ∷ backbone-radios []
-    ∷ connected-core 0 0 0 (0 ∷ []) ∷ connected-core 0 1 8 [] ∷ connected-core 1 0 4 []
-    ∷ image-checks 1024 (5 ∷ 4 ∷ []) ∷ [])
+    "numbers 0\n" ∷ "order 0\n" ∷ []) ∷ all-numbers (0 ∷ []) ∷ whole-order (0 ∷ [])
+    ∷ shell-tree (root ∷ []) (root-name ∷ []) ∷ backbone-radios [] ∷ connected-core 0 0 0 (0 ∷ [])
+    ∷ connected-core 0 1 8 [] ∷ connected-core 1 0 4 [] ∷ image-checks 1024 (5 ∷ 4 ∷ []) ∷ [])
     -- one radio: every call is refused
     ∷ row 1 (
     up 0 0 ∷ up 0 1 ∷ up 1 0 ∷ up 1 1 ∷ down 0 0 ∷ down 0 1 ∷ []) (
@@ -609,43 +610,46 @@ trees =
     ∷ connected-core 7 0 4 [] ∷ image-checks 1536 (84 ∷ 195 ∷ 963 ∷ []) ∷ [])
     ∷ []
 
-unfoldable pub damaged : List Row
-damaged =
-    -- one radio
-    row 1 [] (
-    last-answers []
+unfoldable pub printing : List Row
+printing =
+    -- two digits
+    row 12 (
+    up 9 10 ∷ up 11 10 ∷ up 9 11 ∷ up 0 11 ∷ down 10 9 ∷ up 12 3 ∷ []) (
+    last-answers (
+    risen (9 ∷ 10 ∷ []) ∷ risen (11 ∷ []) ∷ risen (9 ∷ 10 ∷ 11 ∷ []) ∷ risen (0 ∷ []) ∷ fallen (9 ∷ 10 ∷ 11 ∷ [])
+    ∷ refused 4 ∷ [])
     ∷ printed (
-    "numbers 0\n" ∷ "order 0\n" ∷ [])
-    ∷ all-numbers (0 ∷ []) ∷ whole-order (0 ∷ []) ∷ shell-tree (root ∷ []) (root-name ∷ []) ∷ backbone-radios []
-    ∷ connected-core 0 0 0 (0 ∷ []) ∷ connected-core 0 1 8 [] ∷ connected-core 1 0 4 []
-    ∷ image-checks 1024 (5 ∷ 4 ∷ []) ∷ soundness [] (0 ∷ []) (0 ∷ []) true ∷ soundness [] (1 ∷ []) (0 ∷ []) false
-    ∷ soundness (put 0 1 ∷ []) (0 ∷ []) (0 ∷ []) false ∷ soundness (put 0 2 ∷ []) (0 ∷ []) (0 ∷ []) false
-    ∷ image-reading 1 1024 [] 0 ∷ image-reading 2 1024 [] 11 ∷ image-reading 1 1023 [] 9 ∷ image-reading 1 0 [] 9
-    ∷ image-reading 1 512 [] 11 ∷ image-reading 1 1024 (put 4 2 ∷ []) 10
-    ∷ image-reading 1 1024 (put 900 1 ∷ put 1020 137 ∷ put 1021 1 ∷ []) 11
-    ∷ image-reading 1 1024 (put 516 0 ∷ put 518 0 ∷ []) 0 ∷ image-reading 1 1024 (put 6 1 ∷ put 508 12 ∷ []) 11 ∷ [])
+    "0 +1 9 10\n" ∷ "0 +1 11\n" ∷ "0 +1 9 10 11\n" ∷ "0 +1 0\n" ∷ "0 -1 9 10 11\n" ∷ "4 0\n"
+    ∷ "numbers 1 0 0 0 0 0 0 0 0 1 1 1\n" ∷ "order 1 2 3 4 5 6 7 8 0 9 11 10\n" ∷ [])
+    ∷ [])
+    -- three digits
+    ∷ row 101 (
+    up 99 100 ∷ []) (
+    last-answers (
+    risen (99 ∷ 100 ∷ []) ∷ [])
+    ∷ printed (
+    "0 +1 99 100\n"
+    ∷ "numbers 0 0 0 0 0 0 0 0 0 0 0 0 0 0 0 0 0 0 0 0 0 0 0 0 0 0 0 0 0 0 0 0 0 0 0 0 0 0 0 0 0 0 0 0 0 0 0 0 0 0 0 0 0 0 0 0 0 0 0 0 0 0 0 0 0 0 0 0 0 0 0 0 0 0 0 0 0 0 0 0 0 0 0 0 0 0 0 0 0 0 0 0 0 0 0 0 0 0 0 1 1\n"
+    ∷ "order 0 1 2 3 4 5 6 7 8 9 10 11 12 13 14 15 16 17 18 19 20 21 22 23 24 25 26 27 28 29 30 31 32 33 34 35 36 37 38 39 40 41 42 43 44 45 46 47 48 49 50 51 52 53 54 55 56 57 58 59 60 61 62 63 64 65 66 67 68 69 70 71 72 73 74 75 76 77 78 79 80 81 82 83 84 85 86 87 88 89 90 91 92 93 94 95 96 97 98 99 100\n"
+    ∷ [])
+    ∷ [])
+    ∷ []
+
+unfoldable pub tables : List Row
+tables =
     -- a pair, a radio beside it
-    ∷ row 3 (
+    row 3 (
     up 2 0 ∷ []) (
     last-answers (
     risen (0 ∷ 2 ∷ []) ∷ [])
     ∷ printed (
     "0 +1 0 2\n" ∷ "numbers 1 0 1\n" ∷ "order 1 0 2\n" ∷ [])
-    ∷ all-numbers (1 ∷ 0 ∷ 1 ∷ []) ∷ whole-order (1 ∷ 0 ∷ 2 ∷ [])
-    ∷ shell-tree (root ∷ node 0 1 root-name ∷ []) (0 ∷ root-name ∷ 0 ∷ []) ∷ backbone-radios (0 ∷ 2 ∷ [])
-    ∷ connected-core 2 0 0 (0 ∷ 2 ∷ []) ∷ connected-core 0 1 0 (0 ∷ 2 ∷ []) ∷ connected-core 1 1 8 []
-    ∷ connected-core 0 2 8 [] ∷ connected-core 3 0 4 [] ∷ image-checks 1536 (22 ∷ 27 ∷ 22 ∷ [])
     ∷ soundness [] (1 ∷ 0 ∷ 1 ∷ []) (1 ∷ 0 ∷ 2 ∷ []) true ∷ soundness [] (2 ∷ 0 ∷ 1 ∷ []) (1 ∷ 0 ∷ 2 ∷ []) false
     ∷ soundness [] (1 ∷ 0 ∷ 0 ∷ []) (1 ∷ 0 ∷ 2 ∷ []) false ∷ soundness [] (1 ∷ 0 ∷ 1 ∷ []) (2 ∷ 0 ∷ 1 ∷ []) false
     ∷ soundness [] (1 ∷ 0 ∷ 1 ∷ []) (1 ∷ 0 ∷ 1 ∷ []) false
     ∷ soundness (put 0 0 ∷ []) (1 ∷ 0 ∷ 1 ∷ []) (1 ∷ 0 ∷ 2 ∷ []) false
     ∷ soundness (put 0 5 ∷ []) (1 ∷ 0 ∷ 1 ∷ []) (1 ∷ 0 ∷ 2 ∷ []) false
-    ∷ soundness (put 128 9 ∷ []) (1 ∷ 0 ∷ 1 ∷ []) (1 ∷ 0 ∷ 2 ∷ []) false ∷ image-reading 3 1536 [] 0
-    ∷ image-reading 4 1536 [] 11 ∷ image-reading 3 1535 [] 9 ∷ image-reading 3 0 [] 9 ∷ image-reading 3 1024 [] 11
-    ∷ image-reading 3 1536 (put 4 0 ∷ []) 10 ∷ image-reading 3 1536 (put 900 1 ∷ put 1020 160 ∷ put 1021 1 ∷ []) 11
-    ∷ image-reading 3 1536 (put 516 0 ∷ put 518 1 ∷ put 1020 29 ∷ []) 11
-    ∷ image-reading 3 1536 (put 6 2 ∷ put 508 29 ∷ []) 11 ∷ image-reading 3 1536 (put 1028 2 ∷ put 1532 32 ∷ []) 11
-    ∷ [])
+    ∷ soundness (put 128 9 ∷ []) (1 ∷ 0 ∷ 1 ∷ []) (1 ∷ 0 ∷ 2 ∷ []) false ∷ [])
     -- a triangle
     ∷ row 3 (
     up 0 1 ∷ up 1 2 ∷ up 0 2 ∷ []) (
@@ -653,44 +657,35 @@ damaged =
     risen (0 ∷ 1 ∷ []) ∷ risen (2 ∷ []) ∷ risen (0 ∷ 1 ∷ 2 ∷ []) ∷ [])
     ∷ printed (
     "0 +1 0 1\n" ∷ "0 +1 2\n" ∷ "0 +1 0 1 2\n" ∷ "numbers 2 2 2\n" ∷ "order 2 0 1\n" ∷ [])
-    ∷ all-numbers (2 ∷ 2 ∷ 2 ∷ []) ∷ whole-order (2 ∷ 0 ∷ 1 ∷ [])
-    ∷ shell-tree (root ∷ node 0 2 root-name ∷ []) (0 ∷ 0 ∷ 0 ∷ []) ∷ backbone-radios (0 ∷ 1 ∷ 2 ∷ [])
-    ∷ connected-core 2 0 0 (0 ∷ 1 ∷ 2 ∷ []) ∷ connected-core 0 2 0 (0 ∷ 1 ∷ 2 ∷ [])
-    ∷ connected-core 1 1 0 (0 ∷ 1 ∷ 2 ∷ []) ∷ connected-core 0 3 8 [] ∷ connected-core 3 0 4 []
-    ∷ image-checks 1536 (36 ∷ 23 ∷ 80 ∷ []) ∷ soundness [] (2 ∷ 2 ∷ 2 ∷ []) (2 ∷ 0 ∷ 1 ∷ []) true
-    ∷ soundness [] (3 ∷ 2 ∷ 2 ∷ []) (2 ∷ 0 ∷ 1 ∷ []) false ∷ soundness [] (2 ∷ 2 ∷ 1 ∷ []) (2 ∷ 0 ∷ 1 ∷ []) false
-    ∷ soundness [] (2 ∷ 2 ∷ 2 ∷ []) (1 ∷ 0 ∷ 2 ∷ []) true ∷ soundness [] (2 ∷ 2 ∷ 2 ∷ []) (2 ∷ 0 ∷ 2 ∷ []) false
+    ∷ soundness [] (2 ∷ 2 ∷ 2 ∷ []) (2 ∷ 0 ∷ 1 ∷ []) true ∷ soundness [] (3 ∷ 2 ∷ 2 ∷ []) (2 ∷ 0 ∷ 1 ∷ []) false
+    ∷ soundness [] (2 ∷ 2 ∷ 1 ∷ []) (2 ∷ 0 ∷ 1 ∷ []) false ∷ soundness [] (2 ∷ 2 ∷ 2 ∷ []) (1 ∷ 0 ∷ 2 ∷ []) true
+    ∷ soundness [] (2 ∷ 2 ∷ 2 ∷ []) (2 ∷ 0 ∷ 2 ∷ []) false
     ∷ soundness (put 0 2 ∷ []) (2 ∷ 2 ∷ 2 ∷ []) (2 ∷ 0 ∷ 1 ∷ []) false
     ∷ soundness (put 0 7 ∷ []) (2 ∷ 2 ∷ 2 ∷ []) (2 ∷ 0 ∷ 1 ∷ []) false
-    ∷ soundness (put 128 11 ∷ []) (2 ∷ 2 ∷ 2 ∷ []) (2 ∷ 0 ∷ 1 ∷ []) false ∷ image-reading 3 1536 [] 0
-    ∷ image-reading 4 1536 [] 11 ∷ image-reading 3 1535 [] 9 ∷ image-reading 3 0 [] 9 ∷ image-reading 3 1024 [] 11
-    ∷ image-reading 3 1536 (put 4 0 ∷ []) 10 ∷ image-reading 3 1536 (put 900 1 ∷ put 1020 156 ∷ put 1021 1 ∷ []) 11
-    ∷ image-reading 3 1536 (put 516 0 ∷ put 518 2 ∷ put 1020 27 ∷ []) 0
-    ∷ image-reading 3 1536 (put 6 4 ∷ put 508 43 ∷ []) 11 ∷ image-reading 3 1536 (put 1028 1 ∷ put 1532 85 ∷ []) 11
-    ∷ [])
-    -- a triangle with a tail
-    ∷ row 4 (
-    up 1 2 ∷ up 2 3 ∷ up 1 3 ∷ up 0 1 ∷ []) (
-    last-answers (
-    risen (1 ∷ 2 ∷ []) ∷ risen (3 ∷ []) ∷ risen (1 ∷ 2 ∷ 3 ∷ []) ∷ risen (0 ∷ []) ∷ [])
+    ∷ soundness (put 128 11 ∷ []) (2 ∷ 2 ∷ 2 ∷ []) (2 ∷ 0 ∷ 1 ∷ []) false ∷ [])
+    ∷ []
+
+unfoldable pub images : List Row
+images =
+    -- one radio
+    row 1 [] (
+    last-answers []
     ∷ printed (
-    "0 +1 1 2\n" ∷ "0 +1 3\n" ∷ "0 +1 1 2 3\n" ∷ "0 +1 0\n" ∷ "numbers 1 2 2 2\n" ∷ "order 0 3 1 2\n" ∷ [])
-    ∷ all-numbers (1 ∷ 2 ∷ 2 ∷ 2 ∷ []) ∷ whole-order (0 ∷ 3 ∷ 1 ∷ 2 ∷ [])
-    ∷ shell-tree (root ∷ node 0 1 root-name ∷ node 1 2 0 ∷ []) (0 ∷ 1 ∷ 1 ∷ 1 ∷ []) ∷ backbone-radios (1 ∷ 2 ∷ 3 ∷ [])
-    ∷ connected-core 3 0 0 (0 ∷ 1 ∷ 2 ∷ 3 ∷ []) ∷ connected-core 1 2 0 (1 ∷ 2 ∷ 3 ∷ [])
-    ∷ connected-core 2 1 0 (0 ∷ 1 ∷ 2 ∷ 3 ∷ []) ∷ connected-core 0 2 8 [] ∷ connected-core 4 0 4 []
-    ∷ image-checks 1536 (48 ∷ 56 ∷ 195 ∷ []) ∷ soundness [] (1 ∷ 2 ∷ 2 ∷ 2 ∷ []) (0 ∷ 3 ∷ 1 ∷ 2 ∷ []) true
-    ∷ soundness [] (2 ∷ 2 ∷ 2 ∷ 2 ∷ []) (0 ∷ 3 ∷ 1 ∷ 2 ∷ []) false
-    ∷ soundness [] (1 ∷ 2 ∷ 2 ∷ 1 ∷ []) (0 ∷ 3 ∷ 1 ∷ 2 ∷ []) false
-    ∷ soundness [] (1 ∷ 2 ∷ 2 ∷ 2 ∷ []) (2 ∷ 1 ∷ 3 ∷ 0 ∷ []) false
-    ∷ soundness [] (1 ∷ 2 ∷ 2 ∷ 2 ∷ []) (0 ∷ 3 ∷ 1 ∷ 0 ∷ []) false
-    ∷ soundness (put 0 10 ∷ []) (1 ∷ 2 ∷ 2 ∷ 2 ∷ []) (0 ∷ 3 ∷ 1 ∷ 2 ∷ []) false
-    ∷ soundness (put 0 3 ∷ []) (1 ∷ 2 ∷ 2 ∷ 2 ∷ []) (0 ∷ 3 ∷ 1 ∷ 2 ∷ []) false
-    ∷ soundness (put 192 22 ∷ []) (1 ∷ 2 ∷ 2 ∷ 2 ∷ []) (0 ∷ 3 ∷ 1 ∷ 2 ∷ []) false ∷ image-reading 4 1536 [] 0
-    ∷ image-reading 5 1536 [] 11 ∷ image-reading 4 1535 [] 9 ∷ image-reading 4 0 [] 9 ∷ image-reading 4 1024 [] 11
-    ∷ image-reading 4 1536 (put 4 7 ∷ []) 10 ∷ image-reading 4 1536 (put 900 1 ∷ put 1020 189 ∷ put 1021 1 ∷ []) 11
-    ∷ image-reading 4 1536 (put 516 3 ∷ put 518 0 ∷ put 1020 50 ∷ []) 11
-    ∷ image-reading 4 1536 (put 6 5 ∷ put 508 55 ∷ []) 11 ∷ image-reading 4 1536 (put 1028 1 ∷ put 1532 200 ∷ []) 11
+    "numbers 0\n" ∷ "order 0\n" ∷ []) ∷ image-reading 1 1024 [] 0 ∷ image-reading 2 1024 [] 11
+    ∷ image-reading 1 1023 [] 9 ∷ image-reading 1 0 [] 9 ∷ image-reading 1 512 [] 11
+    ∷ image-reading 1 1024 (put 4 2 ∷ []) 10 ∷ image-reading 1 1024 (put 900 1 ∷ put 1020 137 ∷ put 1021 1 ∷ []) 11
+    ∷ image-reading 1 1024 (put 516 0 ∷ put 518 0 ∷ []) 0 ∷ image-reading 1 1024 (put 6 1 ∷ put 508 12 ∷ []) 11 ∷ [])
+    -- two radios, one link
+    ∷ row 2 (
+    up 0 1 ∷ []) (
+    last-answers (
+    risen (0 ∷ 1 ∷ []) ∷ [])
+    ∷ printed (
+    "0 +1 0 1\n" ∷ "numbers 1 1\n" ∷ "order 0 1\n" ∷ []) ∷ image-reading 2 1536 [] 0
+    ∷ image-reading 3 1536 [] 11 ∷ image-reading 2 1535 [] 9 ∷ image-reading 2 0 [] 9 ∷ image-reading 2 1024 [] 11
+    ∷ image-reading 2 1536 (put 4 1 ∷ []) 10 ∷ image-reading 2 1536 (put 900 1 ∷ put 1020 144 ∷ put 1021 1 ∷ []) 11
+    ∷ image-reading 2 1536 (put 516 1 ∷ put 518 0 ∷ put 1020 9 ∷ []) 0
+    ∷ image-reading 2 1536 (put 6 2 ∷ put 508 24 ∷ []) 11 ∷ image-reading 2 1536 (put 1028 1 ∷ put 1532 20 ∷ []) 11
     ∷ [])
     ∷ []
 
@@ -1045,4 +1040,4 @@ random-large =
     ∷ []
 
 unfoldable pub histories : List Row
-histories = refusals ++ (cliques ++ (joins ++ (rises ++ (falls ++ (trees ++ (damaged ++ (random-small ++ (random-middle ++ random-large))))))))
+histories = refusals ++ (cliques ++ (joins ++ (rises ++ (falls ++ (trees ++ (printing ++ (tables ++ (images ++ (random-small ++ (random-middle ++ random-large))))))))))
