@@ -1,5 +1,5 @@
 -- Document 01's cases M1 to M10 as one table, and the form of its rows, which the histories of crate `vectors` have too.
---   Link-call, Answer      a link call, and what it answers
+--   Link-call              a link call; what it answers is the link book's `Answer`
 --   State                  what link calls leave: graph, order, their answers
 --   after calls state      the state after the calls; each puts questions 4 to 7
 --   Want, meets            what a row wants of the state, and whether the state is so
@@ -26,7 +26,8 @@ use Rattle.mesh.specs.Connected.{at-least, reached, core-of, greatest, backbone
 use Rattle.mesh.specs.Tree.{root-name, node, root, shell, node-name, parent-name, nodes-at, tree, node-names}
 use Rattle.mesh.specs.Image.{block-bytes, word, long, weighted-sum, check-sum, block, blocks-for, order-blocks, block-count, link-bytes, order-payload, links-payload, block-at, image-of, word-at, entry-at, image-order, image-link, image-links, image-graph, whole-blocks, block-check, checks-good, is-image}
 use Rattle.mesh.specs.declared.Node.{Node}
-use Rattle.calls.specs.Questions.{ask, is-radio, are-radios, ends-differ, can-switch, has-room, has-level, image-length, ends-refusal, image-refusal}
+use Rattle.calls.specs.Questions.{ask, is-radio, are-radios, ends-differ, can-switch, has-room, has-level, image-length, ends-refusal, blocks-refusal, image-refusal}
+use Rattle.calls.specs.Book.{Answer, plain, reported}
 use Rattle.calls.specs.Replay.{bytes-of, digit-byte, digits-in, decimal, step-text, further-fields, printed-line, link-line, numbers-line, order-line, closing-lines}
 
 -- ---- link calls and what they leave
@@ -35,27 +36,18 @@ pub data Link-call : Type 0 where
   up : (a b : ℕ) → Link-call
   down : (a b : ℕ) → Link-call
 
-pub record Answer : Type 0 where
-  pub number : ℕ
-  pub step : ℤ
-  pub changed : List ℕ
-
--- what an accepted call answers; below, by its step: +1, -1, 0
-unfoldable pub accepted : (step : ℤ) → (changed : List ℕ) → Answer
-accepted s cs = record { number = 0; step = s; changed = cs }
-
+-- accepted: +1, -1, or nothing changed
 unfoldable pub risen : (changed : List ℕ) → Answer
-risen cs = accepted (pos 1) cs
+risen cs = reported true cs
 
 unfoldable pub fallen : (changed : List ℕ) → Answer
-fallen cs = accepted (negsuc 0) cs
+fallen cs = reported false cs
 
 unfoldable pub unchanged : Answer
-unchanged = accepted (pos 0) []
+unchanged = plain 0
 
--- a refused call: its number and zeros
 unfoldable pub refused : (number : ℕ) → Answer
-refused r = record { number = r; step = pos 0; changed = [] }
+refused r = plain r
 
 pub record State : Type 0 where
   pub graph : Graph
@@ -72,7 +64,7 @@ cleared n = state (graph n []) (range 0 n) []
 unfoldable pub carried-out : (number : ℕ) → (up : Bool) → (a b : ℕ) → State → State
 carried-out zero u a b s =
     let cs = changed u a b (s .graph) in
-    state (relinked u a b (s .graph)) (new-order u a b (s .graph) (s .order)) (s .answers ++ (accepted (step-of u cs) cs ∷ []))
+    state (relinked u a b (s .graph)) (new-order u a b (s .graph) (s .order)) (s .answers ++ (reported u cs ∷ []))
 carried-out (suc x) u a b s = state (s .graph) (s .order) (s .answers ++ (refused (suc x) ∷ []))
 
 -- the questions are the definitions' own
@@ -137,7 +129,7 @@ same-answers [] [] = true
 same-answers [] (y ∷ ys) = false
 same-answers (x ∷ xs) [] = false
 same-answers (x ∷ xs) (y ∷ ys) =
-    (eqb (x .number) (y .number) && same-step (x .step) (y .step)) && (same (x .changed) (y .changed) && same-answers xs ys)
+    (eqb (x .number) (y .number) && same-step (x .step) (y .step)) && ((eqb (x .count) (y .count) && same (x .listed) (y .listed)) && same-answers xs ys)
 
 unfoldable pub same-nodes : List Node → List Node → Bool
 same-nodes [] [] = true
@@ -164,7 +156,7 @@ put-in [] bs = bs
 put-in (p ∷ ps) bs = put-in ps (set bs (p .at) (p .byte))
 
 unfoldable pub answer-line : Answer → List ℕ
-answer-line x = link-line (x .number) (x .step) (x .changed)
+answer-line x = link-line (x .number) (x .step) (x .listed)
 
 unfoldable pub printed-by : State → List ℕ
 printed-by s = flatMap answer-line (s .answers) ++ closing-lines (numbers (s .graph)) (s .order)
@@ -302,5 +294,5 @@ cases = m1 ∷ m2-before ∷ m2 ∷ m3 ∷ m4 ∷ m5 ∷ m6 ∷ m7 ∷ m8 ∷ m9
 
 -- everything that rows compute with
 unfoldable pub compute : Unit {0}
-unfolding range count filter member all same head-or radios other-ends linked neighbours-among degree link link-before same-link with-link without-link new-links relinked survivors peeled cores-from cores depth number numbers changed step-of lower-level stretch-start stretch-length first-fitting without laid-out stretch-up stretch-down new-stretch with-stretch new-order at-least reached core-of greatest backbone shell node-name parent-name nodes-at tree node-names word long weighted-sum check-sum block blocks-for order-blocks block-count link-bytes order-payload links-payload block-at image-of word-at entry-at image-order image-link image-links image-graph whole-blocks block-check checks-good is-image proper ascending each-once rising few-later digit byte-at marked from-digits row-of links-table tables-of symmetric irreflexive within row-degree few rows-proper enough sound-within sound ask is-radio are-radios ends-differ can-switch has-room has-level image-length ends-refusal image-refusal digit-byte digits-in decimal step-text further-fields printed-line link-line numbers-line order-line closing-lines accepted risen fallen unchanged refused state cleared carried-out link-called called after same-step same-answers same-nodes level-refusal core-answer block-checks put-in answer-line printed-by meets meets-all right all-right triangle two-triangles two-triangles-tied flatMap map getD set Bool·beq
+unfolding range count filter member all same head-or radios other-ends linked neighbours-among degree link link-before same-link with-link without-link new-links relinked survivors peeled cores-from cores depth number numbers changed step-of lower-level stretch-start stretch-length first-fitting without laid-out stretch-up stretch-down new-stretch with-stretch new-order at-least reached core-of greatest backbone shell node-name parent-name nodes-at tree node-names word long weighted-sum check-sum block blocks-for order-blocks block-count link-bytes order-payload links-payload block-at image-of word-at entry-at image-order image-link image-links image-graph whole-blocks block-check checks-good is-image proper ascending each-once rising few-later digit byte-at marked from-digits row-of links-table tables-of symmetric irreflexive within row-degree few rows-proper enough sound-within sound ask is-radio are-radios ends-differ can-switch has-room has-level image-length ends-refusal image-refusal digit-byte digits-in decimal step-text further-fields printed-line link-line numbers-line order-line closing-lines risen fallen unchanged refused state cleared carried-out link-called called after same-step same-answers same-nodes level-refusal core-answer block-checks put-in answer-line printed-by meets meets-all right all-right triangle two-triangles two-triangles-tied flatMap plain reported blocks-refusal
 compute = tt
