@@ -18,7 +18,7 @@ use Rattle.mesh.proofs.Valid.{Allowed}
 use Rattle.calls.specs.Questions.{ask, Lengths, size-good, site-lengths, answer-length, are-radios, is-radio}
 use Rattle.calls.specs.Questions.{ends-differ, can-switch, has-room, has-level, image-length, holds-image}
 use Rattle.calls.specs.Questions.{lent-refusal, site-refusal, ends-refusal, link-refusal, radio-refusal, pair-refusal}
-use Rattle.calls.specs.Questions.{core-refusal, write-refusal, blocks-refusal, image-refusal, read-refusal}
+use Rattle.calls.specs.Questions.{core-refusal, level-refusal, write-refusal, blocks-refusal, image-refusal, read-refusal}
 use Rattle.calls.proofs.QuestionLaws.{ask-yes, ask-zero, ask-later, size-good-true, true-size-good, Site-lengths}
 use Rattle.calls.proofs.QuestionLaws.{site-lengths-true, true-site-lengths, is-radio-true, true-is-radio}
 use Rattle.calls.proofs.QuestionLaws.{are-radios-true, true-are-radios, ends-differ-true, true-ends-differ}
@@ -178,7 +178,7 @@ pair-yes n a b l sound s p q =
 pub core-zero :
     (n v k : ℕ) (l : Lengths) (w : ℕ) (sound : Bool) (g : Graph) → core-refusal n v k l w sound g ≡ 0 →
     Site-good n l (answer-length n w) sound × (v < n) × (k ≤ number g v)
-unfolding core-refusal
+unfolding core-refusal level-refusal
 core-zero n v k l w sound g p =
     let q = site-zero n l (answer-length n w) sound (ask 4 (is-radio n v) (ask 8 (has-level g v k) 0)) p in
     let r = ask-zero 3 (is-radio n v) (ask 8 (has-level g v k) 0) (q .1) in
@@ -187,7 +187,7 @@ core-zero n v k l w sound g p =
 pub core-yes :
     (n v k : ℕ) (l : Lengths) (w : ℕ) (sound : Bool) (g : Graph) → Site-good n l (answer-length n w) sound → v < n →
     k ≤ number g v → core-refusal n v k l w sound g ≡ 0
-unfolding core-refusal
+unfolding core-refusal level-refusal
 core-yes n v k l w sound g s p q =
     site-yes n l (answer-length n w) sound (ask 4 (is-radio n v) (ask 8 (has-level g v k) 0)) s
     ∙ ask-yes 4 (is-radio n v) (ask 8 (has-level g v k) 0) (true-is-radio n v p)

@@ -1,4 +1,5 @@
--- What calls promise, in the order in which a reader needs it. `Cases` and `Replay` are the worked cases of document 01.
+-- What calls promise, in the order in which a reader needs it. `Replay` is what the replay program prints; `Rows` and
+-- `Cases` are the worked cases of document 01.
 pub mod Questions
 pub mod Writes
 pub mod Answers
@@ -6,4 +7,5 @@ pub mod Book
 pub mod Runs
 pub mod Demand
 pub mod Replay
+pub mod Rows
 pub mod Cases

@@ -118,10 +118,14 @@ radio-refusal n v l sound = site-refusal n l true sound (ask 4 (is-radio n v) 0)
 unfoldable pub pair-refusal : (n a b : ℕ) → Lengths → (sound : Bool) → ℕ
 pair-refusal n a b l sound = site-refusal n l true sound (ask 4 (are-radios n a b) 0)
 
+-- 4 and 8
+unfoldable pub level-refusal : (n v k : ℕ) → Graph → ℕ
+level-refusal n v k g = ask 4 (is-radio n v) (ask 8 (has-level g v k) 0)
+
 -- a connected core: 1 to 4 and 8
 unfoldable pub core-refusal : (n v k : ℕ) → Lengths → (answer : ℕ) → (sound : Bool) → Graph → ℕ
 core-refusal n v k l w sound g =
-    site-refusal n l (answer-length n w) sound (ask 4 (is-radio n v) (ask 8 (has-level g v k) 0))
+    site-refusal n l (answer-length n w) sound (level-refusal n v k g)
 
 -- the backbone: 1 to 3
 unfoldable pub backbone-refusal : (n : ℕ) → Lengths → (answer : ℕ) → (sound : Bool) → ℕ

@@ -2,7 +2,7 @@
 -- in several, and a declaration may compute only so much.
 use mathlib.Core.Path.{_≡_, refl}
 use mathlib.Core.Bool.{true}
-use Rattle.calls.specs.Cases.{all-right, compute}
+use Rattle.calls.specs.Rows.{all-right, compute}
 use Rattle.calls.proofs.Cases.{all-right-append}
 use Rattle.vectors.specs.Histories.{refusals, cliques, joins, rises, falls, trees, printing, tables, images, random-small, random-middle, random-large, histories}
 
