@@ -296,3 +296,31 @@ module _ (most : ℕ) (u : Bool) (a b : ℕ) (g : Graph) (xs : List ℕ) (valid 
         go : (w : Bool) → u ≡ w → number (smaller w a b g) v ≡ number (larger w a b g) v
         go true e = unchanged-number u a b g v l m ∙ ap (λ (x : Bool). number (relinked x a b g) v) e
         go false e = sym (unchanged-number u a b g v l m ∙ ap (λ (x : Bool). number (relinked x a b g) v) e)
+
+    -- the changed radios are the stuck ones going up, the taken ones going down
+    pub changed-part : (v : ℕ) → v < g .n → member v (changed u a b g) ≡ member v (cond u stuck taken)
+    changed-part v l = go (bool-cases (eqb (number g v) K))
+      where
+        outside : (w : Bool) → (In v taken → ⊥) → (In v stuck → ⊥) → member v (cond w stuck taken) ≡ false
+        outside true p q = not-member v stuck q
+        outside false p q = not-member v taken p
+
+        in-taken : (w : Bool) → In v taken → not w ≡ member v (cond w stuck taken)
+        in-taken true p = sym (not-member v stuck (λ q. apart peeled-level v p q))
+        in-taken false p = sym (in-member v taken p)
+
+        in-stuck : (w : Bool) → In v stuck → w ≡ member v (cond w stuck taken)
+        in-stuck true p = sym (in-member v stuck p)
+        in-stuck false p = sym (not-member v taken (λ q. apart peeled-level v q p))
+
+        at-level : In v taken ⊎ In v stuck → member v (changed u a b g) ≡ member v (cond u stuck taken)
+        at-level (inl p) = changed-taken v l p ∙ in-taken u p
+        at-level (inr p) = changed-stuck v l p ∙ in-stuck u p
+
+        go : (eqb (number g v) K ≡ true) ⊎ (eqb (number g v) K ≡ false) → member v (changed u a b g) ≡ member v (cond u stuck taken)
+        go (inl e) = at-level (level-cases v l (eqb-true (number g v) K e))
+        go (inr e) =
+            let ne = eqb-false (number g v) K e in
+            changed-member u a b g v l
+            ∙ ap not (eq-eqb (number g v) (number after v) (sym (number-else v l ne)))
+            ∙ sym (outside u (λ p. ne (taken-level peeled-level v p)) (λ p. ne (stuck-level peeled-level v p)))
