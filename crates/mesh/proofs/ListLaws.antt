@@ -94,6 +94,9 @@ unfolding count
 count-mono f g [] h = omega arith
 count-mono f g (x ∷ xs) h = omega (arith, bit-le (f x) (g x) (h x (inl refl)), count-mono f g xs (λ y m. h y (inr m)))
 
+pub count-ext : (f g : ℕ → Bool) (xs : List ℕ) → ((x : ℕ) → In x xs → f x ≡ g x) → count f xs ≡ count g xs
+count-ext f g xs h = le-antisymm (count-mono f g xs (λ x m e. sym (h x m) ∙ e)) (count-mono g f xs (λ x m e. h x m ∙ e))
+
 pub count-mid : (g : ℕ → Bool) (x : ℕ) (ps qs : List ℕ) → count g (ps ++ x ∷ qs) ≡ cond (g x) 1 0 + count g (ps ++ qs)
 unfolding count
 count-mid g x ps qs = omega (arith, count-append g ps (x ∷ qs), count-append g ps qs)

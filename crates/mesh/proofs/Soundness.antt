@@ -9,7 +9,7 @@ use mathlib.Core.Bool.{Bool, true, false, _&&_}
 use mathlib.Core.List.{List}
 use Prim.Native.Nat.{ℕ, _+_, _≤_, _<_}
 use native.Mathlib.Omega.{arith}
-use native.Mathlib.Nat.{le-trans, le-of-eq, le-antisymm}
+use native.Mathlib.Nat.{le-trans, le-of-eq}
 use lib.Dec.{leb}
 use lib.ListN.{length, getD}
 use lib.Seq.{ext-getD}
@@ -22,7 +22,7 @@ use Rattle.mesh.specs.Orders.{each-once, rising, few-later, is-k-order}
 use Rattle.mesh.specs.Tables.{Tables, tables, marked, links-table, graph-in, tables-of}
 use Rattle.mesh.specs.Sound.{symmetric, irreflexive, within, few, rows-proper, row-degree, enough, number-in, sound-within}
 use Rattle.mesh.proofs.BoolLaws.{and-left, and-right, and-both}
-use Rattle.mesh.proofs.ListLaws.{In, count-mono, Each-once, once-below, in-range, range-in, all-below, below-all}
+use Rattle.mesh.proofs.ListLaws.{In, count-ext, Each-once, once-below, in-range, range-in, all-below, below-all}
 use Rattle.mesh.proofs.GraphLaws.{linked-self, neighbours-in-subset}
 use Rattle.mesh.proofs.OrderLaws.{each-once-of, of-each-once, Rising, rising-of, of-rising, rising-cong, Few-later, few-later-of, of-few-later, few-later-cong, Enough}
 use Rattle.mesh.proofs.Certificate.{Certificate}
@@ -31,9 +31,6 @@ use Rattle.mesh.proofs.KOrders.{k-order-certificate, certificate-number
 use Rattle.mesh.proofs.RowLaws.{few-of, row-degree-links-table, rows-proper-links-table}
 use Rattle.mesh.proofs.ReadBack.{proper-graph-in, linked-graph-in, graph-in-links-table}
 use Rattle.mesh.proofs.Valid.{Valid}
-
-count-ext : (f g : ℕ → Bool) (xs : List ℕ) → ((x : ℕ) → In x xs → f x ≡ g x) → count f xs ≡ count g xs
-count-ext f g xs h = le-antisymm (count-mono f g xs (λ x m e. sym (h x m) ∙ e)) (count-mono g f xs (λ x m e. h x m ∙ e))
 
 -- numbers that agree on the radios are certified alike
 certificate-cong : (g : Graph) (num new : ℕ → ℕ) (xs : List ℕ) → ((v : ℕ) → v < g .n → num v ≡ new v) → Certificate g num xs → Certificate g new xs

@@ -7,7 +7,8 @@
 --   Is-tree g xs         xs is the answer: the root, then the nodes, by level and then name ascending
 --   Node-name g v x      x is the name of the node whose shell has v
 --   tree g, node-name    the same, worked out
--- Definitions only.
+-- That the tree worked out is the one defined by sets, and the only one, is `tree-iff` in proofs/TreeUnique.antt; of names it
+-- is `node-name-iff` there. Definitions only.
 use mathlib.Core.Path.{_≡_}
 use mathlib.Core.Logic.{_⊎_, _↔_}
 use mathlib.Core.Bool.{Bool, true, false, _&&_, cond}
