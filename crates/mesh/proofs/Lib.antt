@@ -33,6 +33,8 @@ pub mod ReadBack
 pub mod Soundness
 pub mod Sites
 pub mod ImageLaws
+pub mod Parts
+pub mod WordLaws
 -- what an accepted link call keeps and changes
 pub mod LinkLaws
 -- the limits of the code
