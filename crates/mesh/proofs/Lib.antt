@@ -35,6 +35,8 @@ pub mod Sites
 pub mod ImageLaws
 pub mod Parts
 pub mod WordLaws
+pub mod ImageBlocks
+pub mod ImageOf
 -- what an accepted link call keeps and changes
 pub mod LinkLaws
 -- the limits of the code

@@ -50,15 +50,16 @@ pub long-value : (x : ℕ) → x < 4294967296
     → getD (long x) 0 0 + 256 * getD (long x) 1 0 + 65536 * getD (long x) 2 0 + 16777216 * getD (long x) 3 0 ≡ x
 unfolding long
 long-value x h =
-    joined (lowest x) (lowest (x / 256) ∙ ap (λ (q : ℕ). x / 256 % 256 + 256 * q) (div-div-eq-div-mul x 256 256))
+    joined (x % 256) (x / 256 % 256) (x / 65536 % 256) (lowest x)
+    (lowest (x / 256) ∙ ap (λ (q : ℕ). x / 256 % 256 + 256 * q) (div-div-eq-div-mul x 256 256))
     (lowest (x / 65536) ∙ ap (λ (q : ℕ). x / 65536 % 256 + 256 * q) (div-div-eq-div-mul x 65536 256)) (omega arith)
   where
     lowest : (y : ℕ) → y ≡ y % 256 + 256 * (y / 256)
     lowest y = omega arith
 
-    joined : {a b c d p q r : ℕ} → x ≡ a + 256 * p → p ≡ b + 256 * q → q ≡ c + 256 * r → r ≡ d
+    joined : (a b c : ℕ) {d p q r : ℕ} → x ≡ a + 256 * p → p ≡ b + 256 * q → q ≡ c + 256 * r → r ≡ d
         → a + 256 * b + 65536 * c + 16777216 * d ≡ x
-    joined i j k l = omega arith
+    joined a b c i j k l = omega arith
 
 -- ---- the check fits
 
