@@ -16,7 +16,7 @@ use Rattle.mesh.proofs.ListLaws.{length-range, below-all, same-refl}
 use Rattle.mesh.proofs.TableLaws.{Bytes, length-flatMap-range, getD-flatMap-range}
 use Rattle.mesh.proofs.Parts.{take-drop-flatMap, getD-range, bytes-append, bytes-flatMap}
 use Rattle.mesh.proofs.WordLaws.{bytes-word}
-use Rattle.mesh.proofs.ImageBlocks.{length-block, bytes-block, drop-block, length-order-payload, bytes-order-payload, length-links-payload, bytes-links-payload}
+use Rattle.mesh.proofs.ImageBlocks.{length-block, bytes-block, getD-block-payload, drop-block, length-order-payload, bytes-order-payload, length-links-payload, bytes-links-payload}
 
 module _ (g : Graph) (xs : List ℕ) where
   -- ---- kind and payload of block i
@@ -98,6 +98,23 @@ module _ (g : Graph) (xs : List ℕ) where
   unfolding image-of
   getD-image-of i j h l =
       getD-flatMap-range (block-at g xs) block-bytes length-block-at 0 blocks i j h l ∙ ap (λ (k : ℕ). getD (block-at g xs k) j 0) (omega arith)
+
+  -- byte j of its payload
+  pub getD-image-content : (i j : ℕ) → i < blocks → j < payload-bytes → getD (image-of g xs) (block-bytes * i + 4 + j) 0 ≡ getD (content-at i) j 0
+  getD-image-content i j h l =
+      ap (λ (k : ℕ). getD (image-of g xs) k 0) (omega arith) ∙ getD-image-of i (4 + j) h (omega arith)
+      ∙ ap (λ (b : List ℕ). getD b (4 + j) 0) (block-at-parts i)
+      ∙ getD-block-payload (kind-at i) i (content-at i) (length-content-at i) j l
+
+  pub content-at-order : (j : ℕ) → j < order-blocks (g .n) → content-at (suc j) ≡ order-payload xs j
+  unfolding content-at
+  content-at-order j h = rw (lt-ltb j (order-blocks (g .n)) h)
+
+  pub content-at-links : (j : ℕ) → content-at (suc (order-blocks (g .n) + j)) ≡ links-payload (g .links) j
+  unfolding content-at
+  content-at-links j =
+      let e : order-blocks (g .n) + j - order-blocks (g .n) ≡ j = omega arith in
+      rw (le-ltb (order-blocks (g .n) + j) (order-blocks (g .n)) (omega arith), e)
 
   -- ---- questions 9 and 10 get yes
 

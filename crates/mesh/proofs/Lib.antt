@@ -37,6 +37,7 @@ pub mod Parts
 pub mod WordLaws
 pub mod ImageBlocks
 pub mod ImageOf
+pub mod ImageRead
 -- what an accepted link call keeps and changes
 pub mod LinkLaws
 -- the limits of the code
