@@ -38,6 +38,7 @@ pub mod WordLaws
 pub mod ImageBlocks
 pub mod ImageOf
 pub mod ImageRead
+pub mod DegreeSum
 -- what an accepted link call keeps and changes
 pub mod LinkLaws
 -- the limits of the code

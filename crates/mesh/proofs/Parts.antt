@@ -12,6 +12,7 @@ use lib.Seq.{getD-append-add, drop-append-add, take-at}
 use borrow.Author.Tests.{ltb-true, ltb-false}
 use Rattle.mesh.specs.Lists.{range}
 use Rattle.mesh.proofs.BoolLaws.{bool-cases}
+use Rattle.mesh.proofs.ListLaws.{In}
 use Rattle.mesh.proofs.TableLaws.{Bytes}
 
 -- ---- parts of equal length, joined
@@ -51,6 +52,11 @@ unfolding range
 getD-range i zero v h = absurd (omega arith)
 getD-range i (suc k) zero h = omega arith
 getD-range i (suc k) (suc v) h = omega (arith, getD-range (suc i) k v (omega arith))
+
+pub in-getD : (xs : List ℕ) (j : ℕ) → j < length xs → In (getD xs j 0) xs
+in-getD [] j h = absurd (omega arith)
+in-getD (x ∷ xs) zero h = inl refl
+in-getD (x ∷ xs) (suc j) h = inr (in-getD xs j (omega arith))
 
 -- what each entry is read as, mapped over the places, is the list
 pub map-range-getD : {A : Type 0} (d : A) (f : ℕ → A) (i : ℕ) (xs : List A) → ((j : ℕ) → j < length xs → f (i + j) ≡ getD xs j d)
