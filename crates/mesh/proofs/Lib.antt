@@ -39,6 +39,7 @@ pub mod ImageBlocks
 pub mod ImageOf
 pub mod ImageRead
 pub mod DegreeSum
+pub mod ImageSites
 -- what an accepted link call keeps and changes
 pub mod LinkLaws
 -- the limits of the code
