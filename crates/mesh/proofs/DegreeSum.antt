@@ -1,17 +1,17 @@
 -- How many links a site can have: each counts in the degrees of both its ends.
-use mathlib.Core.Path.{_≡_, refl, sym, ap, subst, _∙_}
+use mathlib.Core.Path.{_≡_, refl, ap, subst, _∙_}
 use mathlib.Core.Logic.{_⊎_, inl, inr}
-use mathlib.Core.Bool.{Bool, true, false, _||_, cond}
+use mathlib.Core.Bool.{Bool, true, false, cond}
 use mathlib.Core.List.{List, [], _∷_}
-use Prim.Native.Nat.{ℕ, zero, suc, _+_, _*_, _≤_, _<_}
+use Prim.Native.Nat.{ℕ, _+_, _*_, _≤_, _<_}
 use native.Mathlib.Omega.{arith}
-use native.Mathlib.Nat.{mul-suc, le-trans}
+use native.Mathlib.Nat.{mul-suc}
 use lib.Dec.{eqb}
 use lib.ListN.{length}
-use borrow.Author.Tests.{eqb-true, eqb-false, eq-eqb, ne-eqb}
+use borrow.Author.Tests.{eqb-true, eq-eqb}
 use Rattle.mesh.specs.Limits.{max-radios, max-neighbours}
 use Rattle.mesh.specs.Lists.{range, count}
-use Rattle.mesh.specs.Graph.{Link, Graph, radios, linked, neighbours-among, degree, link}
+use Rattle.mesh.specs.Graph.{Link, Graph, radios, linked, neighbours-among, degree}
 use Rattle.mesh.specs.Image.{blocks-for, order-blocks, block-count}
 use Rattle.mesh.proofs.BoolLaws.{bool-cases, bit-le, bit-true, bit-false, or-left, or-right}
 use Rattle.mesh.proofs.ListLaws.{In, in-range, range-in, length-range, count-mono, count-pos}

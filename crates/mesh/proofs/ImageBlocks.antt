@@ -1,20 +1,13 @@
 -- Laws of a block and of the payloads.
 -- In order: a block's bytes by place, its length, its check; the payloads of kind 1 and kind 2, entry by entry.
-use mathlib.Core.Path.{_≡_, refl, sym, ap, subst, _∙_}
-use mathlib.Core.Logic.{_⊎_, inl, inr}
-use mathlib.Core.Bool.{true, false}
+use mathlib.Core.Path.{_≡_, refl, sym, ap, _∙_}
 use mathlib.Core.List.{List, [], _∷_, _++_, flatMap}
 use Prim.Native.Nat.{ℕ, zero, suc, _+_, _*_, _-_, _/_, _%_, _≤_, _<_, min}
 use native.Mathlib.Omega.{arith}
-use lib.Dec.{ltb}
-use lib.ListN.{length, getD, take, drop, replicate, length-append, length-take, length-replicate, getD-replicate, List·getD-append, List·getD-eq-default}
+use lib.ListN.{length, getD, take, drop, replicate, length-append, length-take, length-replicate, List·getD-append}
 use lib.Seq.{getD-append-add, getD-take, getD-drop, take-at, drop-at}
-use borrow.Author.Tests.{ltb-true, ltb-false}
-use Rattle.mesh.specs.Lists.{same}
 use Rattle.mesh.specs.Graph.{Link}
 use Rattle.mesh.specs.Image.{block-bytes, payload-bytes, block-entries, block-links, word, long, check-sum, block, link-bytes, order-payload, links-payload}
-use Rattle.mesh.proofs.BoolLaws.{bool-cases}
-use Rattle.mesh.proofs.ListLaws.{same-refl}
 use Rattle.mesh.proofs.TableLaws.{Bytes, bytes-replicate}
 use Rattle.mesh.proofs.Parts.{length-flatMap, getD-flatMap, bytes-cons, bytes-append, bytes-flatMap}
 use Rattle.mesh.proofs.WordLaws.{length-word, bytes-word, getD-word-zero, length-long, bytes-long}

@@ -1,15 +1,14 @@
 -- Laws of the image as a whole.
 -- In order: kind and payload of block i, an image's length and bytes, block i in the image, questions 9 and 10.
-use mathlib.Core.Path.{_≡_, refl, sym, ap, _∙_}
-use mathlib.Core.Logic.{_⊎_, inl, inr}
-use mathlib.Core.Bool.{Bool, true, false, _&&_, not, cond}
-use mathlib.Core.List.{List, [], _∷_, _++_, flatMap}
+use mathlib.Core.Path.{_≡_, refl, ap, _∙_}
+use mathlib.Core.Bool.{Bool, true, false, cond}
+use mathlib.Core.List.{List, _++_}
 use Prim.Native.Nat.{ℕ, zero, suc, _+_, _*_, _-_, _/_, _%_, _≤_, _<_}
 use native.Mathlib.Omega.{arith}
-use lib.Dec.{ltb, eqb}
+use lib.Dec.{ltb}
 use lib.ListN.{length, getD, take, drop}
 use borrow.Author.Tests.{eq-eqb, ne-eqb, lt-ltb, le-ltb}
-use Rattle.mesh.specs.Lists.{range, all, same}
+use Rattle.mesh.specs.Lists.{range, same}
 use Rattle.mesh.specs.Graph.{Graph}
 use Rattle.mesh.specs.Image.{block-bytes, payload-bytes, word, long, check-sum, block, order-blocks, block-count, order-payload, links-payload, block-at, image-of, whole-blocks, block-check, checks-good}
 use Rattle.mesh.proofs.ListLaws.{length-range, below-all, same-refl}

@@ -1,14 +1,14 @@
 -- What is read from an image is what was written.
 -- In order: words at their places, the order, the links, both round trips.
-use mathlib.Core.Path.{_≡_, refl, sym, ap, ap₂, subst, _∙_}
-use mathlib.Core.List.{List, [], _∷_, _++_, map}
+use mathlib.Core.Path.{_≡_, sym, ap, _∙_}
+use mathlib.Core.List.{List, [], _∷_, map}
 use Prim.Native.Nat.{ℕ, zero, suc, _+_, _*_, _/_, _%_, _≤_, _<_}
 use native.Mathlib.Omega.{arith}
 use lib.ListN.{length, getD, List·getD-append}
 use lib.Seq.{getD-append-add}
 use Rattle.mesh.specs.Lists.{range}
 use Rattle.mesh.specs.Graph.{Link, Graph, graph}
-use Rattle.mesh.specs.Image.{block-bytes, payload-bytes, block-entries, block-links, word, blocks-for, order-blocks, block-count, link-bytes, order-payload, links-payload, image-of, word-at, entry-at, image-order, image-link, image-links, image-graph}
+use Rattle.mesh.specs.Image.{block-bytes, payload-bytes, block-entries, block-links, word, blocks-for, order-blocks, block-count, link-bytes, links-payload, image-of, word-at, entry-at, image-order, image-link, image-links, image-graph}
 use Rattle.mesh.proofs.GraphLaws.{Proper}
 use Rattle.mesh.proofs.AscendingLinks.{link-eq}
 use Rattle.mesh.proofs.Parts.{map-range-getD}

@@ -40,6 +40,7 @@ pub mod ImageOf
 pub mod ImageRead
 pub mod DegreeSum
 pub mod ImageSites
+pub mod ImageTables
 -- what an accepted link call keeps and changes
 pub mod LinkLaws
 -- the limits of the code
