@@ -3,12 +3,12 @@ use mathlib.Core.Path.{_≡_, refl, sym, ap, ap₂, _∙_}
 use mathlib.Core.Logic.{_⊎_, inl, inr}
 use mathlib.Core.Bool.{true, false}
 use mathlib.Core.List.{List, [], _∷_, _++_, map, flatMap}
-use Prim.Native.Nat.{ℕ, zero, suc, _+_, _*_, _<_}
+use Prim.Native.Nat.{ℕ, zero, suc, _+_, _*_, _≤_, _<_}
 use native.Mathlib.Omega.{arith}
 use native.Mathlib.Nat.{mul-suc}
 use lib.Dec.{ltb}
-use lib.ListN.{length, getD, take, drop, length-append, List·getD-append, List·getD-eq-default}
-use lib.Seq.{getD-append-add, drop-append-add, take-at}
+use lib.ListN.{length, getD, take, drop, length-append, length-drop, take-append-drop, List·getD-append, List·getD-eq-default}
+use lib.Seq.{getD-drop, take-take, drop-drop, getD-append-add, drop-append-add, take-at}
 use borrow.Author.Tests.{ltb-true, ltb-false}
 use Rattle.mesh.specs.Lists.{range}
 use Rattle.mesh.proofs.BoolLaws.{bool-cases}
@@ -45,6 +45,30 @@ module _ {A : Type 0} (f : A → List ℕ) (size : ℕ) (sizes : (x : A) → len
       ap (λ (k : ℕ). take size (drop k (f x ++ flatMap f xs))) e
       ∙ ap (take size) (drop-append-add (f x) (flatMap f xs) (size * v)) ∙ take-drop-flatMap d xs v (omega arith)
 
+-- a list whose parts are the given ones
+pub flatMap-take-drop : (f : ℕ → List ℕ) (size i k : ℕ) (bs : List ℕ) → length bs ≡ size * k
+    → ((v : ℕ) → v < k → take size (drop (size * v) bs) ≡ f (i + v)) → flatMap f (range i k) ≡ bs
+unfolding flatMap range
+flatMap-take-drop f size i zero [] len h = refl
+flatMap-take-drop f size i zero (b ∷ bs) len h = absurd (omega arith)
+flatMap-take-drop f size i (suc k) bs len h =
+    let none : size * 0 ≡ 0 = omega arith in
+    let first : take size bs ≡ f i = sym (ap (λ (x : ℕ). take size (drop x bs)) none) ∙ h 0 (omega arith) ∙ ap f (omega arith) in
+    ap₂ {C = List ℕ} (λ xs ys. xs ++ ys) (sym first) (flatMap-take-drop f size (suc i) k (drop size bs) (omega (arith, length-drop size bs, mul-suc size k)) rest)
+    ∙ take-append-drop size bs
+  where
+    rest : (v : ℕ) → v < k → take size (drop (size * v) (drop size bs)) ≡ f (suc i + v)
+    rest v l =
+        let e : size + size * v ≡ size * suc v = omega (arith, mul-suc size v) in
+        ap (take size) (drop-drop (size * v) size bs ∙ ap (λ (x : ℕ). drop x bs) e) ∙ h (suc v) (omega arith) ∙ ap f (omega arith)
+
+-- a part of a part
+pub take-drop-take : {A : Type 0} (k m s : ℕ) (xs : List A) → k + m ≤ s → take m (drop k (take s xs)) ≡ take m (drop k xs)
+take-drop-take zero m s xs h = take-take m s xs (omega arith)
+take-drop-take (suc k) m zero xs h = absurd (omega arith)
+take-drop-take (suc k) m (suc s) [] h = refl
+take-drop-take (suc k) m (suc s) (x ∷ xs) h = take-drop-take k m s xs (omega arith)
+
 -- ---- entry by entry
 
 pub getD-range : (i k v : ℕ) → v < k → getD (range i k) v 0 ≡ i + v
@@ -52,6 +76,12 @@ unfolding range
 getD-range i zero v h = absurd (omega arith)
 getD-range i (suc k) zero h = omega arith
 getD-range i (suc k) (suc v) h = omega (arith, getD-range (suc i) k v (omega arith))
+
+pub getD-map-range : {A : Type 0} (d : A) (f : ℕ → A) (i k v : ℕ) → v < k → getD (map f (range i k)) v d ≡ f (i + v)
+unfolding range
+getD-map-range d f i zero v h = absurd (omega arith)
+getD-map-range d f i (suc k) zero h = ap f (omega arith)
+getD-map-range d f i (suc k) (suc v) h = getD-map-range d f (suc i) k v (omega arith) ∙ ap f (omega arith)
 
 pub in-getD : (xs : List ℕ) (j : ℕ) → j < length xs → In (getD xs j 0) xs
 in-getD [] j h = absurd (omega arith)
@@ -84,6 +114,14 @@ bytes-cons x bs h b (suc i) l = b i (omega arith)
 pub bytes-append : (bs cs : List ℕ) → Bytes bs → Bytes cs → Bytes (bs ++ cs)
 bytes-append [] cs b c = c
 bytes-append (x ∷ bs) cs b c = bytes-cons x (bs ++ cs) (b 0 (omega arith)) (bytes-append bs cs (λ i l. b (suc i) (omega arith)) c)
+
+pub bytes-take : (k : ℕ) (bs : List ℕ) → Bytes bs → Bytes (take k bs)
+bytes-take zero bs b = λ i l. absurd (omega arith)
+bytes-take (suc k) [] b = λ i l. absurd (omega arith)
+bytes-take (suc k) (x ∷ bs) b = bytes-cons x (take k bs) (b 0 (omega arith)) (bytes-take k bs (λ i l. b (suc i) (omega arith)))
+
+pub bytes-drop : (k : ℕ) (bs : List ℕ) → Bytes bs → Bytes (drop k bs)
+bytes-drop k bs b i l = rw (getD-drop k bs i 0) (getD-bytes bs b (k + i))
 
 pub bytes-flatMap : {A : Type 0} (f : A → List ℕ) → ((x : A) → Bytes (f x)) → (xs : List A) → Bytes (flatMap f xs)
 unfolding flatMap
