@@ -37,6 +37,7 @@ pub mod Parts
 pub mod WordLaws
 pub mod ImageBlocks
 pub mod ImageOf
+pub mod ImageChecks
 pub mod ImageRead
 pub mod DegreeSum
 pub mod ImageSites
