@@ -4,7 +4,7 @@ use mathlib.Core.Path.{_≡_, refl, sym, ap, _∙_}
 use mathlib.Core.List.{List, [], _∷_, _++_, flatMap}
 use Prim.Native.Nat.{ℕ, zero, suc, _+_, _*_, _-_, _/_, _%_, _≤_, _<_, min}
 use native.Mathlib.Omega.{arith}
-use lib.ListN.{length, getD, take, drop, replicate, length-append, length-take, length-replicate, List·getD-append}
+use lib.ListN.{length, getD, take, drop, replicate, length-append, length-take, length-drop, length-replicate, List·getD-append}
 use lib.Seq.{getD-append-add, getD-take, getD-drop, take-at, drop-at}
 use Rattle.mesh.specs.Graph.{Link}
 use Rattle.mesh.specs.Image.{block-bytes, payload-bytes, block-entries, block-links, word, long, check-sum, block, link-bytes, order-payload, links-payload}
@@ -19,7 +19,7 @@ getD-zeros zero j = refl
 getD-zeros (suc k) zero = refl
 getD-zeros (suc k) (suc j) = getD-zeros k j
 
-getD-append-zeros : (xs : List ℕ) (k j : ℕ) → getD (xs ++ replicate k 0) j 0 ≡ getD xs j 0
+pub getD-append-zeros : (xs : List ℕ) (k j : ℕ) → getD (xs ++ replicate k 0) j 0 ≡ getD xs j 0
 getD-append-zeros [] k j = getD-zeros k j
 getD-append-zeros (x ∷ xs) k zero = refl
 getD-append-zeros (x ∷ xs) k (suc j) = getD-append-zeros xs k j
@@ -110,9 +110,10 @@ module _ {A : Type 0} (f : A → List ℕ) (size : ℕ) (sizes : (x : A) → len
   abbrev part : List A → (j : ℕ) → List ℕ
   part xs j = flatMap f (take each (drop (each * j) xs))
 
-  length-part : (xs : List A) (j : ℕ) → length (part xs j) ≡ size * min each (length (drop (each * j) xs))
+  length-part : (xs : List A) (j : ℕ) → length (part xs j) ≡ size * min each (length xs - each * j)
   length-part xs j =
-      length-flatMap f size sizes (take each (drop (each * j) xs)) ∙ ap (λ (k : ℕ). size * k) (length-take each (drop (each * j) xs))
+      length-flatMap f size sizes (take each (drop (each * j) xs))
+      ∙ ap (λ (k : ℕ). size * k) (length-take each (drop (each * j) xs) ∙ ap (min each) (length-drop (each * j) xs))
 
   getD-part : (d : A) → ((e : ℕ) → getD (f d) e 0 ≡ 0) → (xs : List A) (j v e : ℕ) → v < each → e < size
       → getD (part xs j) (size * v + e) 0 ≡ getD (f (getD xs (each * j + v) d)) e 0
@@ -121,9 +122,9 @@ module _ {A : Type 0} (f : A → List ℕ) (size : ℕ) (sizes : (x : A) → len
       ∙ ap (λ (x : A). getD (f x) e 0) (getD-take each (drop (each * j) xs) v d h ∙ getD-drop (each * j) xs v d)
 
 -- kind 1
-pub length-order-payload : (xs : List ℕ) (j : ℕ) → length (order-payload xs j) ≤ payload-bytes
+pub length-order-payload : (xs : List ℕ) (j : ℕ) → length (order-payload xs j) ≡ 2 * min block-entries (length xs - block-entries * j)
 unfolding order-payload
-length-order-payload xs j = omega (arith, length-part word 2 length-word block-entries xs j)
+length-order-payload = length-part word 2 length-word block-entries
 
 pub bytes-order-payload : (xs : List ℕ) (j : ℕ) → Bytes (order-payload xs j)
 unfolding order-payload
@@ -160,9 +161,9 @@ getD-no-link zero = refl
 getD-no-link (suc zero) = refl
 getD-no-link (suc (suc e)) = getD-word-zero e
 
-pub length-links-payload : (ls : List Link) (j : ℕ) → length (links-payload ls j) ≤ payload-bytes
+pub length-links-payload : (ls : List Link) (j : ℕ) → length (links-payload ls j) ≡ 4 * min block-links (length ls - block-links * j)
 unfolding links-payload
-length-links-payload ls j = omega (arith, length-part link-bytes 4 length-link-bytes block-links ls j)
+length-links-payload = length-part link-bytes 4 length-link-bytes block-links
 
 pub bytes-links-payload : (ls : List Link) (j : ℕ) → Bytes (links-payload ls j)
 unfolding links-payload

@@ -2,8 +2,7 @@
 --   four-at, long-at       four bytes at a place, and the number they stand for
 --   block-check-value      a block passes its check when the sum of its first 508 bytes is the number in its last four
 --   payload-at-image-of    what the block reader gives back of an image
-use mathlib.Core.Path.{_≡_, refl, sym, ap, ap₂, _∙_}
-use mathlib.Core.Bool.{Bool, true}
+use mathlib.Core.Path.{_≡_, sym, ap, ap₂, _∙_}
 use mathlib.Core.List.{List, [], _∷_}
 use Prim.Native.Nat.{ℕ, zero, suc, _+_, _*_, _≤_, _<_}
 use native.Mathlib.Omega.{arith}
@@ -42,26 +41,27 @@ same-long bs i x b small =
 
 -- ---- question 10
 
+-- block i of any bytes
+abbrev pub part-at : (bs : List ℕ) → (i : ℕ) → List ℕ
+part-at bs i = take block-bytes (drop (block-bytes * i) bs)
+
 module _ (bs : List ℕ) (i : ℕ) (fits : block-bytes * i + block-bytes ≤ length bs) where
-  abbrev one-block : List ℕ
-  one-block = take block-bytes (drop (block-bytes * i) bs)
+  pub length-part-at : length (part-at bs i) ≡ block-bytes
+  length-part-at = length-take-le block-bytes (drop (block-bytes * i) bs) (omega (arith, length-drop (block-bytes * i) bs))
 
-  pub length-one-block : length one-block ≡ block-bytes
-  length-one-block = length-take-le block-bytes (drop (block-bytes * i) bs) (omega (arith, length-drop (block-bytes * i) bs))
+  pub getD-part-at : (j : ℕ) → j < block-bytes → getD (part-at bs i) j 0 ≡ getD bs (block-bytes * i + j) 0
+  getD-part-at j h = getD-take block-bytes (drop (block-bytes * i) bs) j 0 h ∙ getD-drop (block-bytes * i) bs j 0
 
-  pub getD-one-block : (j : ℕ) → j < block-bytes → getD one-block j 0 ≡ getD bs (block-bytes * i + j) 0
-  getD-one-block j h = getD-take block-bytes (drop (block-bytes * i) bs) j 0 h ∙ getD-drop (block-bytes * i) bs j 0
-
-  check-bytes : drop 508 one-block ≡ four-at bs (block-bytes * i + 508)
-  check-bytes = ext-getD 0 (drop 508 one-block) (four-at bs (block-bytes * i + 508)) len (λ j l. at j (omega (arith, len)))
+  check-bytes : drop 508 (part-at bs i) ≡ four-at bs (block-bytes * i + 508)
+  check-bytes = ext-getD 0 (drop 508 (part-at bs i)) (four-at bs (block-bytes * i + 508)) len (λ j l. at j (omega (arith, len)))
     where
-      len : length (drop 508 one-block) ≡ 4
-      len = omega (arith, length-drop 508 one-block, length-one-block)
+      len : length (drop 508 (part-at bs i)) ≡ 4
+      len = omega (arith, length-drop 508 (part-at bs i), length-part-at)
 
-      byte : (j : ℕ) → j < 4 → getD (drop 508 one-block) j 0 ≡ getD bs (block-bytes * i + 508 + j) 0
-      byte j h = getD-drop 508 one-block j 0 ∙ getD-one-block (508 + j) (omega arith) ∙ ap (λ (k : ℕ). getD bs k 0) (omega arith)
+      byte : (j : ℕ) → j < 4 → getD (drop 508 (part-at bs i)) j 0 ≡ getD bs (block-bytes * i + 508 + j) 0
+      byte j h = getD-drop 508 (part-at bs i) j 0 ∙ getD-part-at (508 + j) (omega arith) ∙ ap (λ (k : ℕ). getD bs k 0) (omega arith)
 
-      at : (j : ℕ) → j < 4 → getD (drop 508 one-block) j 0 ≡ getD (four-at bs (block-bytes * i + 508)) j 0
+      at : (j : ℕ) → j < 4 → getD (drop 508 (part-at bs i)) j 0 ≡ getD (four-at bs (block-bytes * i + 508)) j 0
       at zero h = byte 0 h ∙ ap (λ (k : ℕ). getD bs k 0) (omega arith)
       at (suc zero) h = byte 1 h
       at (suc (suc zero)) h = byte 2 h
@@ -72,7 +72,7 @@ module _ (bs : List ℕ) (i : ℕ) (fits : block-bytes * i + block-bytes ≤ len
   unfolding block-check
   block-check-value b =
       let front : List ℕ = take 508 (drop (block-bytes * i) bs) in
-      let same-front : take 508 one-block ≡ front = take-take 508 block-bytes (drop (block-bytes * i) bs) (omega arith) in
+      let same-front : take 508 (part-at bs i) ≡ front = take-take 508 block-bytes (drop (block-bytes * i) bs) (omega arith) in
       let small : check-sum front < 4294967296 =
       check-sum-less front (bytes-take 508 (drop (block-bytes * i) bs) (bytes-drop (block-bytes * i) bs b))
       (omega (arith, length-take 508 (drop (block-bytes * i) bs))) in

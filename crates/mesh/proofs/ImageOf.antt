@@ -54,8 +54,8 @@ module _ (g : Graph) (xs : List ℕ) where
   length-content-at (suc j) = go (ltb j (order-blocks (g .n)))
     where
       go : (t : Bool) → length (cond t (order-payload xs j) (links-payload (g .links) (j - order-blocks (g .n)))) ≤ payload-bytes
-      go true = length-order-payload xs j
-      go false = length-links-payload (g .links) (j - order-blocks (g .n))
+      go true = omega (arith, length-order-payload xs j)
+      go false = omega (arith, length-links-payload (g .links) (j - order-blocks (g .n)))
 
   pub bytes-content-at : (i : ℕ) → Bytes (content-at i)
   unfolding content-at

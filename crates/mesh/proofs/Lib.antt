@@ -42,6 +42,7 @@ pub mod ImageRead
 pub mod DegreeSum
 pub mod ImageSites
 pub mod ImageTables
+pub mod ImageCanonical
 -- what an accepted link call keeps and changes
 pub mod LinkLaws
 -- the limits of the code
