@@ -1,27 +1,34 @@
--- How many links a site can have: each counts in the degrees of both its ends.
-use mathlib.Core.Path.{_≡_, refl, ap, subst, _∙_}
+-- How many links there are: each counts in the degrees of both its ends.
+--   total f xs           the sum of f over a list
+--   degrees-total        the degrees of a graph add up to twice its links
+--   row-degrees-total    the bits of the rows add up to twice the links that they mark
+--   length-graph-in      the links that rows mark, row by row
+--   links-few            so a limit on neighbours limits the links; `links-most`, `block-count-most` with document 01's limits
+use mathlib.Core.Path.{_≡_, refl, sym, ap, subst, _∙_}
 use mathlib.Core.Logic.{_⊎_, inl, inr}
-use mathlib.Core.Bool.{Bool, true, false, cond}
-use mathlib.Core.List.{List, [], _∷_}
-use Prim.Native.Nat.{ℕ, _+_, _*_, _≤_, _<_}
+use mathlib.Core.Bool.{Bool, true, false, _||_, cond}
+use mathlib.Core.List.{List, [], _∷_, map, flatMap}
+use Prim.Native.Nat.{ℕ, zero, suc, _+_, _*_, _-_, _≤_, _<_}
 use native.Mathlib.Omega.{arith}
-use native.Mathlib.Nat.{mul-suc}
+use native.Mathlib.Nat.{mul-suc, le-antisymm}
 use lib.Dec.{eqb}
-use lib.ListN.{length}
-use borrow.Author.Tests.{eqb-true, eq-eqb}
+use lib.ListN.{length, length-append, length-map}
+use borrow.Author.Tests.{eqb-true, eqb-false, eq-eqb}
 use Rattle.mesh.specs.Limits.{max-radios, max-neighbours}
-use Rattle.mesh.specs.Lists.{range, count}
-use Rattle.mesh.specs.Graph.{Link, Graph, radios, linked, neighbours-among, degree}
+use Rattle.mesh.specs.Lists.{range, count, filter, member}
+use Rattle.mesh.specs.Graph.{Link, Graph, radios, linked, neighbours-among, degree, other-ends, proper, ascending}
+use Rattle.mesh.specs.Tables.{marked, row-links, graph-in}
+use Rattle.mesh.specs.Sound.{symmetric, irreflexive, within, row-degree}
 use Rattle.mesh.specs.Image.{blocks-for, order-blocks, block-count}
-use Rattle.mesh.proofs.BoolLaws.{bool-cases, bit-le, bit-true, bit-false, or-left, or-right}
-use Rattle.mesh.proofs.ListLaws.{In, in-range, range-in, length-range, count-mono, count-pos}
-use Rattle.mesh.proofs.GraphLaws.{joins, of-ends, linked-by, linked-by-cons, linked-by-sym, Proper, proper-of}
+use Rattle.mesh.proofs.BoolLaws.{bool-cases, never, bit-true, bit-false, iff-eq}
+use Rattle.mesh.proofs.ListLaws.{In, in-range, range-in, length-range, distinct-range, distinct-one, count-mono, count-none, count-pos, length-filter}
+use Rattle.mesh.proofs.GraphLaws.{Ends, joins, ends-of, of-ends, linked-by, linked-by-cons, linked-by-sym, Proper, proper-of}
 use Rattle.mesh.proofs.AscendingLinks.{In-links, before-irreflexive, Sorted, sorted-of, link-less, linked-in}
+use Rattle.mesh.proofs.ReadBack.{proper-graph-in, ascending-graph-in, degree-graph-in}
 use Rattle.mesh.proofs.Valid.{Valid}
 
--- ---- laws of lists: sums
+-- ---- laws of lists: sums and counts
 
--- the sum of f over a list
 abbrev pub total : (ℕ → ℕ) → List ℕ → ℕ
 total f [] = 0
 total f (x ∷ xs) = f x + total f xs
@@ -30,94 +37,149 @@ pub total-le : (f : ℕ → ℕ) (most : ℕ) (xs : List ℕ) → ((x : ℕ) →
 total-le f most [] h = omega arith
 total-le f most (x ∷ xs) h = omega (arith, h x (inl refl), total-le f most xs (λ y m. h y (inr m)), mul-suc most (length xs))
 
-pub total-more : (f h : ℕ → ℕ) (p q : ℕ → Bool) (xs : List ℕ) → ((x : ℕ) → f x + cond (p x) 1 0 + cond (q x) 1 0 ≤ h x)
-    → total f xs + count p xs + count q xs ≤ total h xs
-unfolding count
-total-more f h p q [] k = omega arith
-total-more f h p q (x ∷ xs) k = omega (arith, k x, total-more f h p q xs k)
+pub total-cong : (f h : ℕ → ℕ) (xs : List ℕ) → ((x : ℕ) → In x xs → f x ≡ h x) → total f xs ≡ total h xs
+total-cong f h [] e = refl
+total-cong f h (x ∷ xs) e = omega (arith, e x (inl refl), total-cong f h xs (λ y m. e y (inr m)))
 
--- one entry more passes
-pub count-less : (f h : ℕ → Bool) (w : ℕ) (xs : List ℕ) → ((x : ℕ) → f x ≡ true → h x ≡ true) → In w xs → f w ≡ false → h w ≡ true
-    → count f xs < count h xs
+-- a loop over the radios adds the next one
+pub total-range-suc : (f : ℕ → ℕ) (i k : ℕ) → total f (range i (suc k)) ≡ total f (range i k) + f (i + k)
+unfolding range
+total-range-suc f i zero = let e : i + 0 ≡ i = omega arith in rw e (omega arith)
+total-range-suc f i (suc k) = let e : suc i + k ≡ i + suc k = omega arith in omega (arith, total-range-suc f (suc i) k, ap f e)
+
+pub length-flatMap-total : {A : Type 0} (f : ℕ → List A) (xs : List ℕ) → length (flatMap f xs) ≡ total (λ x. length (f x)) xs
+unfolding flatMap
+length-flatMap-total f [] = refl
+length-flatMap-total f (x ∷ xs) = omega (arith, length-append (f x) (flatMap f xs), length-flatMap-total f xs)
+
+total-bits : (f h : ℕ → ℕ) (p q : ℕ → Bool) (xs : List ℕ) → ((x : ℕ) → h x ≡ f x + cond (p x) 1 0 + cond (q x) 1 0)
+    → total h xs ≡ total f xs + count p xs + count q xs
 unfolding count
-count-less f h w (x ∷ xs) k (inl e) before after =
-    omega (arith, bit-false (f x) (rw e before), bit-true (h x) (rw e after), count-mono f h xs (λ y m. k y))
-count-less f h w (x ∷ xs) k (inr m) before after = omega (arith, bit-le (f x) (h x) (k x), count-less f h w xs k m before after)
+total-bits f h p q [] k = refl
+total-bits f h p q (x ∷ xs) k = omega (arith, k x, total-bits f h p q xs k)
+
+count-cong : (f h : ℕ → Bool) (xs : List ℕ) → ((x : ℕ) → f x ≡ h x) → count f xs ≡ count h xs
+count-cong f h xs e = le-antisymm (count-mono f h xs (λ x m p. sym (e x) ∙ p)) (count-mono h f xs (λ x m p. e x ∙ p))
+
+-- tests that never pass together
+pub count-or : (f h : ℕ → Bool) (xs : List ℕ) → ((x : ℕ) → f x ≡ true → h x ≡ false) → count (λ x. f x || h x) xs ≡ count f xs + count h xs
+unfolding count
+count-or f h [] e = refl
+count-or f h (x ∷ xs) e = omega (arith, count-or f h xs e, bits (f x) (h x) (e x))
+  where
+    bits : (s t : Bool) → (s ≡ true → t ≡ false) → cond (s || t) 1 0 ≡ cond {A = ℕ} s 1 0 + cond t 1 0
+    bits true true k = never true refl (k refl)
+    bits true false k = refl
+    bits false t k = omega arith
+
+pub count-range-one : (n v : ℕ) → v < n → count (λ x. eqb x v) (range 0 n) ≡ 1
+count-range-one n v h = omega (
+  arith,
+  distinct-one v (range 0 n) (distinct-range 0 n),
+  count-pos (λ x. eqb x v) v (range 0 n) (in-range 0 n v (omega arith) (omega arith)) (eq-eqb v v refl),
+)
 
 -- ---- one link more
 
 module _ (n : ℕ) (l : Link) (ls : List Link) (p : Proper n (l ∷ ls)) (s : Sorted (l ∷ ls)) where
-  abbrev near : (v : ℕ) → ℕ
-  near v = count (linked-by ls v) (range 0 n)
+  fresh : linked-by ls (l .low) (l .high) ≡ true → ⊥
+  fresh e =
+      before-irreflexive l (s .0 l (subst (λ (m : Link). In-links m ls) (link-less (l .low) (l .high) (p .0))
+      (linked-in n ls (l .low) (l .high) (p .2) e)))
 
-  fresh : linked-by ls (l .low) (l .high) ≡ false
-  fresh = go (bool-cases (linked-by ls (l .low) (l .high)))
+  -- the link is not among the others
+  apart : (v w : ℕ) → joins l v w ≡ true → linked-by ls v w ≡ false
+  apart v w h = go (ends-of (l .low) (l .high) v w h) (bool-cases (linked-by ls v w))
     where
-      go : (linked-by ls (l .low) (l .high) ≡ true) ⊎ (linked-by ls (l .low) (l .high) ≡ false) → linked-by ls (l .low) (l .high) ≡ false
-      go (inr e) = e
-      go (inl e) =
-          absurd (before-irreflexive l (s .0 l (subst (λ (m : Link). In-links m ls) (link-less (l .low) (l .high) (p .0))
-          (linked-in n ls (l .low) (l .high) (p .2) e))))
+      go : Ends (l .low) (l .high) v w → (linked-by ls v w ≡ true) ⊎ (linked-by ls v w ≡ false) → linked-by ls v w ≡ false
+      go e (inr t) = t
+      go (inl e) (inl t) = absurd (fresh (rw (← (e .0), ← (e .1)) t))
+      go (inr e) (inl t) = absurd (fresh (linked-by-sym ls (l .low) (l .high) ∙ rw (← (e .0), ← (e .1)) t))
 
-  joined : linked-by (l ∷ ls) (l .low) (l .high) ≡ true
-  joined =
-      linked-by-cons l ls (l .low) (l .high)
-      ∙ or-left (joins l (l .low) (l .high)) (linked-by ls (l .low) (l .high)) (of-ends (l .low) (l .high) (l .low) (l .high) (inl (refl, refl)))
-
-  kept : (v w : ℕ) → linked-by ls v w ≡ true → linked-by (l ∷ ls) v w ≡ true
-  kept v w h = linked-by-cons l ls v w ∙ or-right (joins l v w) (linked-by ls v w) h
-
-  -- an end has one neighbour more: the other end
-  near-more : (v w : ℕ) → w < n → linked-by ls v w ≡ false → linked-by (l ∷ ls) v w ≡ true → near v < count (linked-by (l ∷ ls) v) (range 0 n)
-  near-more v w h before after = count-less (linked-by ls v) (linked-by (l ∷ ls) v) w (range 0 n) (kept v) (in-range 0 n w (omega arith) (omega arith)) before after
-
-  near-cons : (v : ℕ) → near v + cond (eqb v (l .low)) 1 0 + cond (eqb v (l .high)) 1 0 ≤ count (linked-by (l ∷ ls) v) (range 0 n)
-  near-cons v = go (bool-cases (eqb v (l .low))) (bool-cases (eqb v (l .high)))
+  -- it joins each end with the other
+  count-joins : (v : ℕ) → count (joins l v) (range 0 n) ≡ cond (eqb v (l .low)) 1 0 + cond (eqb v (l .high)) 1 0
+  count-joins v = go (bool-cases (eqb v (l .low))) (bool-cases (eqb v (l .high)))
     where
-      at-low : v ≡ l .low → near v < count (linked-by (l ∷ ls) v) (range 0 n)
-      at-low e = near-more v (l .high) (p .1) (rw e fresh) (rw e joined)
+      one : (end : ℕ) → end < n → ((w : ℕ) → joins l v w ≡ true → w ≡ end) → joins l v end ≡ true → count (joins l v) (range 0 n) ≡ 1
+      one end h only here =
+          count-cong (joins l v) (λ w. eqb w end) (range 0 n)
+          (λ w. iff-eq (joins l v w) (eqb w end) (λ t. eq-eqb w end (only w t)) (λ t. ap (joins l v) (eqb-true w end t) ∙ here))
+          ∙ count-range-one n end h
 
-      at-high : v ≡ l .high → near v < count (linked-by (l ∷ ls) v) (range 0 n)
-      at-high e =
-          near-more v (l .low) (omega (arith, p .0, p .1)) (rw e (linked-by-sym ls (l .high) (l .low) ∙ fresh))
-          (rw e (linked-by-sym (l ∷ ls) (l .high) (l .low) ∙ joined))
+      when-low : (v ≡ l .high → ⊥) → (w : ℕ) → Ends (l .low) (l .high) v w → w ≡ l .high
+      when-low ne w (inl e) = e .1
+      when-low ne w (inr e) = absurd (ne (e .0))
+
+      when-high : (v ≡ l .low → ⊥) → (w : ℕ) → Ends (l .low) (l .high) v w → w ≡ l .low
+      when-high ne w (inl e) = absurd (ne (e .0))
+      when-high ne w (inr e) = e .1
+
+      neither : (v ≡ l .low → ⊥) → (v ≡ l .high → ⊥) → (w : ℕ) → (joins l v w ≡ true) ⊎ (joins l v w ≡ false) → joins l v w ≡ false
+      neither ne nf w (inr t) = t
+      neither ne nf w (inl t) = absurd (no-end (ends-of (l .low) (l .high) v w t))
+        where
+          no-end : Ends (l .low) (l .high) v w → ⊥
+          no-end (inl e) = ne (e .0)
+          no-end (inr e) = nf (e .0)
 
       go : (eqb v (l .low) ≡ true) ⊎ (eqb v (l .low) ≡ false) → (eqb v (l .high) ≡ true) ⊎ (eqb v (l .high) ≡ false)
-          → near v + cond (eqb v (l .low)) 1 0 + cond (eqb v (l .high)) 1 0 ≤ count (linked-by (l ∷ ls) v) (range 0 n)
+          → count (joins l v) (range 0 n) ≡ cond (eqb v (l .low)) 1 0 + cond (eqb v (l .high)) 1 0
       go (inl a) (inl b) = absurd (omega (arith, p .0, eqb-true v (l .low) a, eqb-true v (l .high) b))
-      go (inl a) (inr b) = omega (arith, bit-true (eqb v (l .low)) a, bit-false (eqb v (l .high)) b, at-low (eqb-true v (l .low) a))
-      go (inr a) (inl b) = omega (arith, bit-false (eqb v (l .low)) a, bit-true (eqb v (l .high)) b, at-high (eqb-true v (l .high) b))
-      go (inr a) (inr b) = omega (
-        arith,
-        bit-false (eqb v (l .low)) a,
-        bit-false (eqb v (l .high)) b,
-        count-mono (linked-by ls v) (linked-by (l ∷ ls) v) (range 0 n) (λ w m. kept v w),
-      )
+      go (inl a) (inr b) =
+          one (l .high) (p .1) (λ w t. when-low (eqb-false v (l .high) b) w (ends-of (l .low) (l .high) v w t))
+          (of-ends (l .low) (l .high) v (l .high) (inl (eqb-true v (l .low) a, refl)))
+          ∙ omega (arith, bit-true (eqb v (l .low)) a, bit-false (eqb v (l .high)) b)
+      go (inr a) (inl b) =
+          one (l .low) (omega (arith, p .0, p .1)) (λ w t. when-high (eqb-false v (l .low) a) w (ends-of (l .low) (l .high) v w t))
+          (of-ends (l .low) (l .high) v (l .low) (inr (eqb-true v (l .high) b, refl)))
+          ∙ omega (arith, bit-false (eqb v (l .low)) a, bit-true (eqb v (l .high)) b)
+      go (inr a) (inr b) =
+          count-none (joins l v) (range 0 n) (λ w m. neither (eqb-false v (l .low) a) (eqb-false v (l .high) b) w (bool-cases (joins l v w)))
+          ∙ omega (arith, bit-false (eqb v (l .low)) a, bit-false (eqb v (l .high)) b)
 
-  here-once : (v : ℕ) → v < n → 1 ≤ count (λ x. eqb x v) (range 0 n)
-  here-once v h = count-pos (λ x. eqb x v) v (range 0 n) (in-range 0 n v (omega arith) (omega arith)) (eq-eqb v v refl)
+  abbrev near : List Link → (v : ℕ) → ℕ
+  near ks v = count (linked-by ks v) (range 0 n)
 
-  total-cons : total near (range 0 n) + 2 ≤ total (λ v. count (linked-by (l ∷ ls) v) (range 0 n)) (range 0 n)
+  near-cons : (v : ℕ) → near (l ∷ ls) v ≡ near ls v + cond (eqb v (l .low)) 1 0 + cond (eqb v (l .high)) 1 0
+  near-cons v = omega (
+    arith,
+    count-cong (linked-by (l ∷ ls) v) (λ w. joins l v w || linked-by ls v w) (range 0 n) (linked-by-cons l ls v),
+    count-or (joins l v) (linked-by ls v) (range 0 n) (apart v),
+    count-joins v,
+  )
+
+  total-cons : total (near (l ∷ ls)) (range 0 n) ≡ total (near ls) (range 0 n) + 2
   total-cons = omega (
     arith,
-    total-more near (λ v. count (linked-by (l ∷ ls) v) (range 0 n)) (λ v. eqb v (l .low)) (λ v. eqb v (l .high)) (range 0 n) near-cons,
-    here-once (l .low) (omega (arith, p .0, p .1)),
-    here-once (l .high) (p .1),
+    total-bits (near ls) (near (l ∷ ls)) (λ v. eqb v (l .low)) (λ v. eqb v (l .high)) (range 0 n) near-cons,
+    count-range-one n (l .low) (omega (arith, p .0, p .1)),
+    count-range-one n (l .high) (p .1),
   )
 
 -- ---- all links
 
-links-total : (n : ℕ) (ls : List Link) → Proper n ls → Sorted ls → 2 * length ls ≤ total (λ v. count (linked-by ls v) (range 0 n)) (range 0 n)
-links-total n [] p s = omega arith
+total-none : (xs : List ℕ) → total (λ v. 0) xs ≡ 0
+total-none [] = refl
+total-none (x ∷ xs) = omega (arith, total-none xs)
+
+links-total : (n : ℕ) (ls : List Link) → Proper n ls → Sorted ls → total (λ v. count (linked-by ls v) (range 0 n)) (range 0 n) ≡ 2 * length ls
+unfolding other-ends member
+links-total n [] p s =
+    total-cong (λ v. count (linked-by [] v) (range 0 n)) (λ v. 0) (range 0 n) (λ v m. count-none (linked-by [] v) (range 0 n) (λ w k. refl))
+    ∙ total-none (range 0 n)
 links-total n (l ∷ ls) p s = omega (arith, links-total n ls (p .2) (s .1), total-cons n l ls p s)
+
+pub degrees-total : (g : Graph) → proper (g .n) (g .links) ≡ true → ascending (g .links) ≡ true → total (degree g) (radios g) ≡ 2 * length (g .links)
+unfolding degree neighbours-among radios linked
+degrees-total g p s = links-total (g .n) (g .links) (proper-of (g .n) (g .links) p) (sorted-of (g .links) s)
 
 -- document 01's limit on neighbours limits the links
 pub links-few : (most : ℕ) (g : Graph) (xs : List ℕ) → Valid most g xs → 2 * length (g .links) ≤ most * g .n
-unfolding degree neighbours-among radios linked
+unfolding radios
 links-few most g xs v = omega (
   arith,
-  links-total (g .n) (g .links) (proper-of (g .n) (g .links) (v .links-proper)) (sorted-of (g .links) (v .links-ascending)),
-  total-le (λ w. count (linked-by (g .links) w) (range 0 (g .n))) most (range 0 (g .n)) (λ w m. v .degrees w (omega (arith, range-in 0 (g .n) w m))),
+  degrees-total g (v .links-proper) (v .links-ascending),
+  total-le (degree g) most (range 0 (g .n)) (λ w m. v .degrees w (omega (arith, range-in 0 (g .n) w m))),
   ap (λ (k : ℕ). most * k) (length-range 0 (g .n)),
 )
 
@@ -128,3 +190,22 @@ links-most g xs small v = omega (arith, links-few max-neighbours g xs v)
 pub block-count-most : (g : Graph) (xs : List ℕ) → g .n ≤ max-radios → Valid max-neighbours g xs → block-count (g .n) (length (g .links)) ≤ 70
 unfolding block-count order-blocks blocks-for
 block-count-most g xs small v = omega (arith, links-most g xs small v)
+
+-- ---- the links that a table marks, counted by its rows
+
+-- by the bits above the diagonal
+pub length-graph-in : (n : ℕ) (ts : List ℕ) → length (graph-in n ts .links) ≡ total (λ a. count (λ b. marked ts a b) (range (suc a) (n - suc a))) (range 0 n)
+unfolding graph-in row-links
+length-graph-in n ts =
+    length-flatMap-total (row-links n ts) (range 0 n)
+    ∙ total-cong (λ a. length (row-links n ts a)) (λ a. count (λ b. marked ts a b) (range (suc a) (n - suc a))) (range 0 n)
+    (λ a m. length-map (filter (λ b. marked ts a b) (range (suc a) (n - suc a))) (λ b. record { low = a; high = b })
+    ∙ length-filter (λ b. marked ts a b) (range (suc a) (n - suc a)))
+
+-- by all bits: each link is marked twice
+pub row-degrees-total : (n : ℕ) (ts : List ℕ) → n ≤ max-radios → symmetric n ts ≡ true → irreflexive n ts ≡ true → within n ts ≡ true
+    → total (row-degree ts) (range 0 n) ≡ 2 * length (graph-in n ts .links)
+unfolding radios graph-in
+row-degrees-total n ts small s i w =
+    total-cong (row-degree ts) (degree (graph-in n ts)) (range 0 n) (λ a m. sym (degree-graph-in n ts small s i w a (omega (arith, range-in 0 n a m))))
+    ∙ degrees-total (graph-in n ts) (proper-graph-in n ts) (ascending-graph-in n ts)
