@@ -57,7 +57,7 @@ module _ (n : ℕ) (bs : List ℕ) where
     pub whole : length bs ≡ block-bytes * listed-blocks
     pub radios : word-at bs 4 ≡ n
     pub checks : checks-good bs ≡ true
-    pub kinds : (i : ℕ) → i < listed-blocks → getD bs (block-bytes * i) 0 ≡ kind-at site order i
+    pub kinds : (i : ℕ) → i < listed-blocks → getD bs (block-bytes * i) 0 ≡ kind-at site i
     pub zeros : (i : ℕ) → i < listed-blocks → getD bs (block-bytes * i + 1) 0 ≡ 0
     pub indices : (i : ℕ) → i < listed-blocks → word-at bs (block-bytes * i + 2) ≡ i
     pub padding : (i j : ℕ) → i < listed-blocks → length (content-at site order i) ≤ j → j < payload-bytes → getD bs (block-bytes * i + 4 + j) 0 ≡ 0
@@ -146,7 +146,7 @@ module _ (n : ℕ) (bs : List ℕ) where
 
       module _ (i : ℕ) (h : i < listed-blocks) where
         abbrev body : List ℕ
-        body = block-body (kind-at site order i) i (content-at site order i)
+        body = block-body (kind-at site i) i (content-at site order i)
 
         fits : block-bytes * i + block-bytes ≤ length bs
         fits = omega (arith, c .whole)
@@ -171,7 +171,7 @@ module _ (n : ℕ) (bs : List ℕ) where
         body-at =
             let len : length (take 508 (part-at bs i)) ≡ 508 = length-take-le 508 (part-at bs i) (omega (arith, length-part-at bs i fits)) in
             ext-getD 0 (take 508 (part-at bs i)) body
-            (len ∙ sym (length-block-body (kind-at site order i) i (content-at site order i) (length-content-at site order i)))
+            (len ∙ sym (length-block-body (kind-at site i) i (content-at site order i) (length-content-at site order i)))
             (λ j l. body-place j (omega arith))
 
         check-at : drop 508 (part-at bs i) ≡ long (check-sum (take 508 (part-at bs i)))
@@ -184,7 +184,7 @@ module _ (n : ℕ) (bs : List ℕ) where
         part-written =
             sym (take-append-drop 508 (part-at bs i))
             ∙ ap₂ {C = List ℕ} (λ x y. x ++ y) body-at (check-at ∙ ap (λ (x : List ℕ). long (check-sum x)) body-at)
-            ∙ sym (block-check-last (kind-at site order i) i (content-at site order i)) ∙ sym (block-at-parts site order i)
+            ∙ sym (block-check-last (kind-at site i) i (content-at site order i)) ∙ sym (block-at-parts site order i)
 
       pub canonical-written : image-of site order ≡ bs
       unfolding image-of
@@ -200,7 +200,7 @@ module _ (n : ℕ) (bs : List ℕ) where
     radios-at = sym (ap (λ (x : List ℕ). word-at x 4) e) ∙ word-at-radios site order (omega arith)
 
     byte : (i j : ℕ) → i < listed-blocks → j < block-bytes
-        → getD bs (block-bytes * i + j) 0 ≡ getD (block (kind-at site order i) i (content-at site order i)) j 0
+        → getD bs (block-bytes * i + j) 0 ≡ getD (block (kind-at site i) i (content-at site order i)) j 0
     byte i j h l =
         sym (ap (λ (x : List ℕ). getD x (block-bytes * i + j) 0) e) ∙ getD-image-of site order i j (omega (arith, blocks-listed)) l
         ∙ ap (λ (x : List ℕ). getD x j 0) (block-at-parts site order i)
@@ -209,9 +209,9 @@ module _ (n : ℕ) (bs : List ℕ) where
     unfolding block-count order-blocks blocks-for word
     index-at i h =
         word-at-word bs (block-bytes * i + 2) i (omega (arith, word-at-less bs (subst Bytes e (bytes-image-of site order)) 6))
-        (byte i 2 h (omega arith) ∙ getD-block-index (kind-at site order i) i (content-at site order i))
+        (byte i 2 h (omega arith) ∙ getD-block-index (kind-at site i) i (content-at site order i))
         (ap (λ (k : ℕ). getD bs k 0) (omega arith) ∙ byte i 3 h (omega arith)
-        ∙ getD-block-index-high (kind-at site order i) i (content-at site order i))
+        ∙ getD-block-index-high (kind-at site i) i (content-at site order i))
 
     pub written-canonical : Canonical
     written-canonical = record {
@@ -219,8 +219,8 @@ module _ (n : ℕ) (bs : List ℕ) where
       radios = radios-at;
       checks = subst (λ (x : List ℕ). checks-good x ≡ true) e (checks-good-image-of site order);
       kinds = λ i h. ap (λ (k : ℕ). getD bs k 0) (omega arith) ∙ byte i 0 h (omega arith)
-          ∙ getD-block-kind (kind-at site order i) i (content-at site order i);
-      zeros = λ i h. byte i 1 h (omega arith) ∙ getD-block-zero (kind-at site order i) i (content-at site order i);
+          ∙ getD-block-kind (kind-at site i) i (content-at site order i);
+      zeros = λ i h. byte i 1 h (omega arith) ∙ getD-block-zero (kind-at site i) i (content-at site order i);
       indices = index-at;
       padding = λ i j h past l. sym (ap (λ (x : List ℕ). getD x (block-bytes * i + 4 + j) 0) e)
           ∙ getD-image-content site order i j (omega (arith, blocks-listed)) l ∙ List·getD-eq-default (content-at site order i) 0 {n = j} past;

@@ -86,4 +86,4 @@ payload-at-image-of g xs i h =
     ap (take payload-bytes) (sym (drop-drop 4 (block-bytes * i) (image-of g xs)))
     ∙ sym (take-drop-take 4 payload-bytes block-bytes (drop (block-bytes * i) (image-of g xs)) (omega arith))
     ∙ ap (λ (b : List ℕ). take payload-bytes (drop 4 b)) (take-drop-image-of g xs i h ∙ block-at-parts g xs i)
-    ∙ payload-block (kind-at g xs i) i (content-at g xs i) (length-content-at g xs i)
+    ∙ payload-block (kind-at g i) i (content-at g xs i) (length-content-at g xs i)

@@ -17,18 +17,19 @@ use Rattle.mesh.proofs.Parts.{take-drop-flatMap, getD-range, bytes-appe
 use Rattle.mesh.proofs.WordLaws.{bytes-word}
 use Rattle.mesh.proofs.ImageBlocks.{length-block, bytes-block, getD-block-payload, drop-block, length-order-payload, bytes-order-payload, length-links-payload, bytes-links-payload}
 
+-- ---- kind and payload of block i
+
+unfoldable pub kind-at : Graph → (i : ℕ) → ℕ
+kind-at g zero = 0
+kind-at g (suc j) = cond (ltb j (order-blocks (g .n))) 1 2
+
 module _ (g : Graph) (xs : List ℕ) where
-  -- ---- kind and payload of block i
-
-  unfoldable pub kind-at : (i : ℕ) → ℕ
-  kind-at zero = 0
-  kind-at (suc j) = cond (ltb j (order-blocks (g .n))) 1 2
-
+  -- what the block holds before it is filled up with zeros
   unfoldable pub content-at : (i : ℕ) → List ℕ
   content-at zero = word (g .n) ++ word (length (g .links))
   content-at (suc j) = cond (ltb j (order-blocks (g .n))) (order-payload xs j) (links-payload (g .links) (j - order-blocks (g .n)))
 
-  pub block-at-parts : (i : ℕ) → block-at g xs i ≡ block (kind-at i) i (content-at i)
+  pub block-at-parts : (i : ℕ) → block-at g xs i ≡ block (kind-at g i) i (content-at i)
   unfolding block-at kind-at content-at
   block-at-parts zero = refl
   block-at-parts (suc j) = go (ltb j (order-blocks (g .n)))
@@ -39,7 +40,7 @@ module _ (g : Graph) (xs : List ℕ) where
       go true = refl
       go false = refl
 
-  kind-at-less : (i : ℕ) → kind-at i < 256
+  kind-at-less : (i : ℕ) → kind-at g i < 256
   unfolding kind-at
   kind-at-less zero = omega arith
   kind-at-less (suc j) = go (ltb j (order-blocks (g .n)))
@@ -69,10 +70,10 @@ module _ (g : Graph) (xs : List ℕ) where
   -- ---- length and bytes
 
   pub length-block-at : (i : ℕ) → length (block-at g xs i) ≡ block-bytes
-  length-block-at i = ap length (block-at-parts i) ∙ length-block (kind-at i) i (content-at i) (length-content-at i)
+  length-block-at i = ap length (block-at-parts i) ∙ length-block (kind-at g i) i (content-at i) (length-content-at i)
 
   pub bytes-block-at : (i : ℕ) → Bytes (block-at g xs i)
-  bytes-block-at i = rw (block-at-parts i) (bytes-block (kind-at i) i (content-at i) (kind-at-less i) (bytes-content-at i))
+  bytes-block-at i = rw (block-at-parts i) (bytes-block (kind-at g i) i (content-at i) (kind-at-less i) (bytes-content-at i))
 
   abbrev pub blocks : ℕ
   blocks = block-count (g .n) (length (g .links))
@@ -103,7 +104,7 @@ module _ (g : Graph) (xs : List ℕ) where
   getD-image-content i j h l =
       ap (λ (k : ℕ). getD (image-of g xs) k 0) (omega arith) ∙ getD-image-of i (4 + j) h (omega arith)
       ∙ ap (λ (b : List ℕ). getD b (4 + j) 0) (block-at-parts i)
-      ∙ getD-block-payload (kind-at i) i (content-at i) (length-content-at i) j l
+      ∙ getD-block-payload (kind-at g i) i (content-at i) (length-content-at i) j l
 
   pub content-at-order : (j : ℕ) → j < order-blocks (g .n) → content-at (suc j) ≡ order-payload xs j
   unfolding content-at
@@ -130,8 +131,8 @@ module _ (g : Graph) (xs : List ℕ) where
       ap (λ (b : List ℕ). same (long (check-sum (take 508 b))) (drop 508 b)) e ∙ passes i)
     where
       passes : (i : ℕ)
-          → same (long (check-sum (take 508 (block (kind-at i) i (content-at i))))) (drop 508 (block (kind-at i) i (content-at i))) ≡ true
+          → same (long (check-sum (take 508 (block (kind-at g i) i (content-at i))))) (drop 508 (block (kind-at g i) i (content-at i))) ≡ true
       passes i =
-          let b : List ℕ = block (kind-at i) i (content-at i) in
-          ap (same (long (check-sum (take 508 b)))) (drop-block (kind-at i) i (content-at i) (length-content-at i))
+          let b : List ℕ = block (kind-at g i) i (content-at i) in
+          ap (same (long (check-sum (take 508 b)))) (drop-block (kind-at g i) i (content-at i) (length-content-at i))
           ∙ same-refl (long (check-sum (take 508 b)))

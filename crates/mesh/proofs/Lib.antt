@@ -39,6 +39,7 @@ pub mod ImageBlocks
 pub mod ImageOf
 pub mod ImageChecks
 pub mod ImageRead
+pub mod Sums
 pub mod DegreeSum
 pub mod ImageSites
 pub mod ImageTables
