@@ -9,6 +9,7 @@ pub mod Certificate
 pub mod Peeling
 pub mod KOrders
 pub mod RunningMaximum
+pub mod RunningCertificate
 -- the one peel of both link calls
 pub mod Peel
 pub mod PeelSound
