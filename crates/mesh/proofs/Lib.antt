@@ -33,15 +33,16 @@ pub mod Relinked
 pub mod ReadBack
 pub mod Soundness
 pub mod Sites
-pub mod ImageLaws
+pub mod Sums
+pub mod DegreeSum
+-- the site image
 pub mod Parts
+pub mod ImageLaws
 pub mod WordLaws
 pub mod ImageBlocks
 pub mod ImageOf
 pub mod ImageChecks
 pub mod ImageRead
-pub mod Sums
-pub mod DegreeSum
 pub mod ImageSites
 pub mod ImageTables
 pub mod ImageCanonical
