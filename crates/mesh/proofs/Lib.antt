@@ -9,6 +9,7 @@ pub mod Certificate
 pub mod Peeling
 pub mod KOrders
 pub mod RunningMaximum
+pub mod RunningCertificate
 -- the one peel of both link calls
 pub mod Peel
 pub mod PeelSound
@@ -32,7 +33,19 @@ pub mod Relinked
 pub mod ReadBack
 pub mod Soundness
 pub mod Sites
+pub mod Sums
+pub mod DegreeSum
+-- the site image
+pub mod Parts
 pub mod ImageLaws
+pub mod WordLaws
+pub mod ImageBlocks
+pub mod ImageOf
+pub mod ImageChecks
+pub mod ImageRead
+pub mod ImageSites
+pub mod ImageTables
+pub mod ImageCanonical
 -- what an accepted link call keeps and changes
 pub mod LinkLaws
 -- the limits of the code
