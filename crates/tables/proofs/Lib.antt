@@ -1,0 +1,3 @@
+-- Laws of leaf code on lent tables.
+-- one bit by shift and mask
+pub mod MaskLaws
