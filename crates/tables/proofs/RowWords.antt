@@ -1,0 +1,61 @@
+-- A row of the links table read word by word, as the loops over its words go: what is left of the row from word k on.
+use mathlib.Core.Path.{_≡_, refl, sym, ap, _∙_}
+use mathlib.Core.Bool.{true, false, cond}
+use mathlib.Core.List.{List, [], _++_}
+use Prim.Native.Nat.{ℕ, zero, suc, _+_, _*_, _-_, _/_, _%_, _≤_, _<_}
+use native.Mathlib.Omega.{arith}
+use lib.ListN.{length, getD}
+use borrow.Author.Tests.{le-leb, lt-leb}
+use Rattle.mesh.specs.Limits.{max-radios, row-bytes}
+use Rattle.mesh.specs.Lists.{range, filter}
+use Rattle.mesh.specs.Tables.{digit, byte-at, marked}
+use Rattle.mesh.proofs.ListLaws.{filter-append}
+use Rattle.tables.specs.Rows.{neighbours-of, row-listed, set-bits, word-at}
+use Rattle.tables.proofs.WordLaws.{set-bits-filter, digit-word-at}
+use Rattle.tables.proofs.Listing.{range-append}
+
+-- ---- row-listed
+
+pub row-listed-whole : (ts : List ℕ) (a : ℕ) → row-bytes * a + row-bytes ≤ length ts → row-listed ts a ≡ neighbours-of ts a
+unfolding row-listed
+row-listed-whole ts a h = rw (le-leb (row-bytes * a + row-bytes) (length ts) h)
+
+pub row-listed-short : (ts : List ℕ) (a : ℕ) → length ts < row-bytes * a + row-bytes → row-listed ts a ≡ []
+unfolding row-listed
+row-listed-short ts a h = rw (lt-leb (row-bytes * a + row-bytes) (length ts) h)
+
+-- ---- a row from word k on
+
+unfoldable pub row-from : (links : List ℕ) → (a k : ℕ) → List ℕ
+row-from ts a k = filter (λ b. marked ts a b) (range (64 * k) (max-radios - 64 * k))
+
+pub row-from-zero : (ts : List ℕ) (a : ℕ) → row-from ts a 0 ≡ neighbours-of ts a
+unfolding row-from neighbours-of
+row-from-zero ts a = refl
+
+pub row-from-end : (ts : List ℕ) (a k : ℕ) → 8 ≤ k → row-from ts a k ≡ []
+unfolding row-from range filter
+row-from-end ts a k h = let e : max-radios - 64 * k ≡ 0 = omega arith in rw e
+
+-- bit m of word k is the mark of radio 64 * k + m
+marked-word : (ts : List ℕ) → ((j : ℕ) → getD ts j 0 < 256) → (a k m : ℕ) → m < 64
+    → marked ts a (64 * k + m) ≡ digit (word-at 8 ts (row-bytes * a + 8 * k)) m
+unfolding marked byte-at
+marked-word ts bytes a k m h =
+    let e : row-bytes * a + (64 * k + m) / 8 ≡ row-bytes * a + 8 * k + m / 8 = omega arith in
+    let f : (64 * k + m) % 8 ≡ m % 8 = omega arith in
+    rw (e, f) (sym (digit-word-at ts bytes (row-bytes * a + 8 * k) 8 m h))
+
+pub row-from-word : (ts : List ℕ) → ((j : ℕ) → getD ts j 0 < 256) → (a k : ℕ) → k < 8
+    → row-from ts a k ≡ set-bits 64 (64 * k) (word-at 8 ts (row-bytes * a + 8 * k)) ++ row-from ts a (k + 1)
+unfolding row-from
+row-from-word ts bytes a k h =
+    let parts : max-radios - 64 * k ≡ 64 + (max-radios - 64 * (k + 1)) = omega arith in
+    let next : 64 * k + 64 ≡ 64 * (k + 1) = omega arith in
+    rw (
+      parts,
+      range-append (64 * k) 64 (max-radios - 64 * (k + 1)),
+      next,
+      filter-append (λ b. marked ts a b) (range (64 * k) 64) (range (64 * (k + 1)) (max-radios - 64 * (k + 1))),
+      set-bits-filter 64 (64 * k) (word-at 8 ts (row-bytes * a + 8 * k)) (λ b. marked ts a b) (λ m l. marked-word ts bytes a k m l),
+    )
