@@ -1,13 +1,14 @@
 -- `rows::row_neighbours` meets its contract: the neighbours listed so far and those from word k on are the row's
 -- (`Listing`). The measure is the words that are left.
-use mathlib.Core.Path.{_≡_, sym, ap, _∙_}
+use mathlib.Core.Path.{_≡_, refl, _∙_}
+use mathlib.Core.List.{[]}
 use Prim.Native.Nat.{_+_, _*_, _-_, _≤_, _<_}
 use native.Mathlib.Omega.{arith}
 use lib.ListN.{length}
 use borrow.Author.Needs.{needs}
 use Rattle.tables.specs.Rows.{neighbours-of}
 use Rattle.tables.proofs.Listing.{Listing, listing-none, listing-part, listing-end, sets-front}
-use Rattle.tables.proofs.RowWords.{row-from, row-from-zero, row-from-end, row-listed-whole, row-listed-short}
+use Rattle.tables.proofs.RowWords.{Rowing, rowing-turn, row-from-zero, row-from-end, row-listed-whole, row-listed-short}
 use Rattle.tables.proofs.rows.row_neighbours.Statement.{statement}
 use Rattle.tables.proofs.rows.row_neighbours.Tie as tie
 use Rattle.tables.proofs.rows.row_neighbours.Reads as reads
@@ -16,7 +17,7 @@ use Rattle.tables.proofs.rows.list_bits.Reads as list-bits-reads
 use Rattle.tables.proofs.rows.word_at.Reads as word-at-reads
 
 abbrev Inv-loop : tie.InvT-loop
-Inv-loop links a list₀ start n₀ k₀ list n k = (k ≤ 8) × (n ≤ 64 * k) × Listing (neighbours-of links a) 0 list₀ (row-from links a k) n list
+Inv-loop links a list₀ start n₀ k₀ list n k = Rowing links a list₀ n k list
 
 abbrev μ-loop : tie.MeasureT-loop
 μ-loop links a list₀ start n₀ k₀ list n k = 8 - k
@@ -31,11 +32,13 @@ add-if1 c = search needs
 
 -- src/rows.rt:95:9
 returns : tie.Need-returns Inv-loop μ-loop
-returns c = ?
+returns c =
+    let none = row-listed-short (c .before .before .before .args .links .now) (c .before .before .before .args .a) (c .if1 .taken) in
+    rw none (refl, sets-front (c .before .before .before .args .list .now) [])
 
 -- src/rows.rt:99:5
 loop-holds : tie.Need-loop-holds Inv-loop μ-loop
-loop-holds c = ?
+loop-holds c = (omega arith, omega arith, rw (row-from-zero (c .before .before .before .args .links .now) (c .before .before .before .args .a)) (listing-none _ 0 _))
 
 -- src/rows.rt:100:50
 cast-word-at : tie.Need-cast-word-at Inv-loop μ-loop
@@ -71,15 +74,26 @@ loop-less c = search needs
 
 -- src/rows.rt:99:5
 loop-again : tie.Need-loop-again Inv-loop μ-loop
-loop-again c = ?
+loop-again c =
+    let listed = c .before .before in
+    let read = listed .before .before in
+    let at-loop = read .before .before in
+    let given = at-loop .before .before in
+    rowing-turn _ (λ j. given .before .shared-slice-known .given j .fits) _ (given .before .before .args .list .now)
+    (at-loop .loop .n) (at-loop .loop .k) (read .word-at .result) _ (at-loop .loop .list) _
+    (read .before .loop-test .taken) (read .word-at .ensures) (listed .list-bits .ensures .0) (listed .list-bits .ensures .1) (at-loop .loop .inv)
 
 -- src/rows.rt:89:1
 same-length : tie.Need-same-length Inv-loop μ-loop
-same-length c = ?
+same-length c = c .before .loop .inv .2 .long
 
 -- src/rows.rt:89:1
 returns-2 : tie.Need-returns-2 Inv-loop μ-loop
-returns-2 c = ?
+returns-2 c =
+    let call = c .before .before .before .before .before .args in
+    let at-end = listing-end _ (c .before .loop .n) (c .before .loop .list) (row-from-end (call .links .now) (call .a) (c .before .loop .k) (c .loop-test .left)) (c .before .loop .inv .2) in
+    rw (row-listed-whole (call .links .now) (call .a) (c .before .before .if1 .left))
+    (omega (arith, at-end .0), at-end .1 ∙ sets-front (call .list .now) (neighbours-of (call .links .now) (call .a)))
 
 pub row-neighbours-spec : {M : Type 1} → statement M
 row-neighbours-spec =
