@@ -9,6 +9,12 @@ ghost use Rattle.mesh.specs.Lists.{overwrite};
 ghost use Rattle.mesh.specs.Tables.{marked, put-bit, put-link};
 ghost use Rattle.tables.specs.Rows.{row-listed, set-bits, word-at};
 
+// The bits of a word.
+const WORD_BITS: u32 = 64;
+
+// The words of a row.
+const ROW_WORDS: u32 = mesh::Site::RADIOS / WORD_BITS;
+
 // Whether bit b of row a is set; a bit past the table is not.
 pub fn is_marked(links: &[u8], a: u32, b: u32) -> bool
     ensures { λ r. ⌜ r ≡ marked (now (links .entry)) a b ⌝ }
@@ -68,7 +74,7 @@ pub fn row_degree(links: &[u8], a: u32) -> u32
     }
     let mut n: u32 = 0;
     let mut k: u32 = 0;
-    while k < mesh::Site::RADIOS / 64 {
+    while k < ROW_WORDS {
         n += u64::count_ones(word_at(links, start + 8 * k as usize));
         k += 1;
     }
@@ -107,8 +113,8 @@ pub fn row_neighbours(links: &[u8], a: u32, list: &mut [u16]) -> u32
     }
     let mut n: u32 = 0;
     let mut k: u32 = 0;
-    while k < mesh::Site::RADIOS / 64 {
-        n = list_bits(word_at(links, start + 8 * k as usize), 64 * k, list, n);
+    while k < ROW_WORDS {
+        n = list_bits(word_at(links, start + 8 * k as usize), WORD_BITS * k, list, n);
         k += 1;
     }
     // a list that is full may hold less than all
