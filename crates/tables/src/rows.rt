@@ -114,7 +114,12 @@ pub fn row_neighbours(links: &[u8], a: u32, list: &mut [u16]) -> u32
     let mut n: u32 = 0;
     let mut k: u32 = 0;
     while k < ROW_WORDS {
-        n = list_bits(word_at(links, start + 8 * k as usize), WORD_BITS * k, list, n);
+        n = list_bits(
+            word_at(links, start + 8 * k as usize),
+            WORD_BITS * k,
+            list,
+            n,
+        );
         k += 1;
     }
     // a list that is full may hold less than all

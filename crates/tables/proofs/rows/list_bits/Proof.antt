@@ -34,7 +34,7 @@ same-length c = c .before .before .loop .inv .1 .long
 
 -- src/rows.rt:89:13
 returns : tie.Need-returns Inv-loop μ-loop
-returns c = listing-full _ _ _ (c .if1 .taken) (c .before .before .loop .inv .1)
+returns c = listing-full _ _ _ (omega arith) (c .before .before .loop .inv .1)
 
 -- src/rows.rt:91:29
 add-list : tie.Need-add-list Inv-loop μ-loop
@@ -70,7 +70,7 @@ loop-less c = omega (arith, and-le-r (c .before .before .loop .rest) (c .before 
 
 -- src/rows.rt:87:5
 loop-again : tie.Need-loop-again Inv-loop μ-loop
-loop-again c = walking-turn _ _ _ _ (c .before .before .loop .rest) (c .before .before .loop .n) _ (c .before .loop-test .taken) (c .if1 .left) (c .before .before .loop .inv)
+loop-again c = walking-turn _ _ _ _ (c .before .before .loop .rest) (c .before .before .loop .n) _ (c .before .loop-test .taken) (omega arith) (c .before .before .loop .inv)
 
 -- src/rows.rt:80:1
 same-length-2 : tie.Need-same-length-2 Inv-loop μ-loop

@@ -51,11 +51,15 @@ add-word-at c = search needs
 word-at-requires : tie.Need-word-at-requires Inv-loop μ-loop
 word-at-requires c κs = search needs
 
+-- src/rows.rt:115:5
+loop-again : tie.Need-loop-again Inv-loop μ-loop
+loop-again c =
+    let at-loop = c .before .before in
+    counting-turn _ (λ j. at-loop .before .before .shared-slice-known .given j .fits) _ (at-loop .loop .n) (at-loop .loop .k) _ (omega arith) (c .word-at .ensures) (at-loop .loop .inv)
+
 -- src/rows.rt:116:9
 add-n : tie.Need-add-n Inv-loop μ-loop
-add-n c =
-    let at-loop = c .before .before in
-    omega (arith, counting-turn _ (λ j. at-loop .before .before .shared-slice-known .given j .fits) _ (at-loop .loop .n) (at-loop .loop .k) _ (c .before .loop-test .taken) (c .word-at .ensures) (at-loop .loop .inv) .1)
+add-n c = omega (arith, loop-again c .1)
 
 -- src/rows.rt:117:9
 add-k : tie.Need-add-k Inv-loop μ-loop
@@ -65,12 +69,6 @@ add-k c = search needs
 loop-less : tie.Need-loop-less Inv-loop μ-loop
 loop-less c = search needs
 
--- src/rows.rt:115:5
-loop-again : tie.Need-loop-again Inv-loop μ-loop
-loop-again c =
-    let at-loop = c .before .before in
-    counting-turn _ (λ j. at-loop .before .before .shared-slice-known .given j .fits) _ (at-loop .loop .n) (at-loop .loop .k) _ (c .before .loop-test .taken) (c .word-at .ensures) (at-loop .loop .inv)
-
 -- src/rows.rt:106:1
 returns-2 : tie.Need-returns-2 Inv-loop μ-loop
 returns-2 c =
@@ -78,7 +76,7 @@ returns-2 c =
     omega (
       arith,
       c .before .loop .inv .2,
-      ap length (row-from-end (call .links .now) (call .a) (c .before .loop .k) (c .loop-test .left)),
+      ap length (row-from-end (call .links .now) (call .a) (c .before .loop .k) (omega arith)),
       ap length (row-listed-whole (call .links .now) (call .a) (c .before .before .if1 .left)),
     )
 

@@ -82,7 +82,7 @@ loop-again c =
     let given = at-loop .before .before in
     rowing-turn _ (λ j. given .before .shared-slice-known .given j .fits) _ (given .before .before .args .list .now)
     (at-loop .loop .n) (at-loop .loop .k) (read .word-at .result) _ (at-loop .loop .list) _
-    (read .before .loop-test .taken) (read .word-at .ensures) (listed .list-bits .ensures .0) (listed .list-bits .ensures .1) (at-loop .loop .inv)
+    (omega arith) (read .word-at .ensures) (listed .list-bits .ensures .0) (listed .list-bits .ensures .1) (at-loop .loop .inv)
 
 -- src/rows.rt:115:9
 cast-if2 : tie.Need-cast-if2 Inv-loop μ-loop
@@ -98,7 +98,7 @@ returns-2 c =
     let at-loop = c .before .before in
     let call = at-loop .before .before .before .before .args in
     let at-end = rowing-end (call .links .now) (call .a) (call .list .now) (at-loop .loop .n) (at-loop .loop .k) (at-loop .loop .list)
-    (c .before .loop-test .left) (at-loop .before .if1 .left) (at-loop .loop .inv) in
+    (omega arith) (at-loop .before .if1 .left) (at-loop .loop .inv) in
     (omega (arith, at-end .0, at-loop .loop .inv .2 .long, c .if2 .taken), at-end .1)
 
 -- src/rows.rt:118:5
@@ -115,7 +115,7 @@ returns-3 c =
     let at-loop = c .before .before .before in
     let call = at-loop .before .before .before .before .args in
     let at-end = rowing-end (call .links .now) (call .a) (call .list .now) (at-loop .loop .n) (at-loop .loop .k) (at-loop .loop .list)
-    (c .before .before .loop-test .left) (at-loop .before .if1 .left) (at-loop .loop .inv) in
+    (omega arith) (at-loop .before .if1 .left) (at-loop .loop .inv) in
     (c .row-degree .ensures, at-end .1)
 
 pub row-neighbours-spec : {M : Type 1} → statement M
