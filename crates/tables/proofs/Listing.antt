@@ -9,7 +9,7 @@ use native.Mathlib.Omega.{arith}
 use native.Mathlib.Numerals.{add-one}
 use lib.Bits.{bitAnd, and-le-l}
 use lib.Count.{trailingZeros}
-use lib.ListN.{length, take, drop, set, length-set, length-append}
+use lib.ListN.{length, take, set, length-set, length-append}
 use lib.Dec.{ltb}
 use lib.Seq.{sets, length-sets, set-out}
 use borrow.Author.Tests.{ltb-true, ltb-false}

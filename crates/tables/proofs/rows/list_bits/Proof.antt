@@ -11,8 +11,6 @@ use Rattle.tables.proofs.WordLaws.{set-bits-nothing, length-set-bits-le
 use Rattle.tables.proofs.Listing.{Walking, walking-turn, listing-none, listing-end, listing-full}
 use Rattle.tables.proofs.rows.list_bits.Statement.{statement}
 use Rattle.tables.proofs.rows.list_bits.Tie as tie
-use Rattle.tables.proofs.rows.list_bits.Reads as reads
-use Rattle.tables.proofs.rows.list_bits.Lts as lts
 
 abbrev Inv-loop : tie.InvT-loop
 Inv-loop word first list₀ count rest₀ n₀ list rest n = Walking first word count list₀ rest n list
@@ -20,63 +18,48 @@ Inv-loop word first list₀ count rest₀ n₀ list rest n = Walking first word 
 abbrev μ-loop : tie.MeasureT-loop
 μ-loop word first list₀ count rest₀ n₀ list rest n = rest
 
--- src/rows.rt:87:5
 loop-holds : tie.Need-loop-holds Inv-loop μ-loop
 loop-holds c = (search needs, listing-none _ _ _ (c .pre .2))
 
--- src/rows.rt:88:26
 cast-if1 : tie.Need-cast-if1 Inv-loop μ-loop
 cast-if1 c = omega (arith, length-set-bits-le 64 (c .before .before .args .first) (c .before .before .args .word))
 
--- src/rows.rt:89:13
 same-length : tie.Need-same-length Inv-loop μ-loop
 same-length c = c .before .before .loop .inv .1 .long
 
--- src/rows.rt:89:13
 returns : tie.Need-returns Inv-loop μ-loop
 returns c = listing-full _ _ _ (omega arith) (c .before .before .loop .inv .1)
 
--- src/rows.rt:91:29
 add-list : tie.Need-add-list Inv-loop μ-loop
 add-list c = omega (arith, trailing-le 64 (c .before .before .loop .rest))
 
--- src/rows.rt:91:28
 cast-list : tie.Need-cast-list Inv-loop μ-loop
 cast-list c = omega (arith, trailing-le 64 (c .before .before .loop .rest))
 
--- src/rows.rt:91:14
 cast-list-2 : tie.Need-cast-list-2 Inv-loop μ-loop
 cast-list-2 c = omega (arith, length-set-bits-le 64 (c .before .before .before .args .first) (c .before .before .before .args .word))
 
--- src/rows.rt:91:9
 mul-list : tie.Need-mul-list Inv-loop μ-loop
 mul-list c = search needs
 
--- src/rows.rt:91:9
 slice-write-list : tie.Need-slice-write-list Inv-loop μ-loop
 slice-write-list c = search needs
 
--- src/rows.rt:92:24
 sub-rest : tie.Need-sub-rest Inv-loop μ-loop
 sub-rest c = search needs
 
--- src/rows.rt:93:9
 add-n : tie.Need-add-n Inv-loop μ-loop
 add-n c = omega (arith, length-set-bits-le 64 (c .before .before .before .args .first) (c .before .before .before .args .word))
 
--- src/rows.rt:87:5
 loop-less : tie.Need-loop-less Inv-loop μ-loop
 loop-less c = omega (arith, and-le-r (c .before .before .loop .rest) (c .before .before .loop .rest - 1))
 
--- src/rows.rt:87:5
 loop-again : tie.Need-loop-again Inv-loop μ-loop
 loop-again c = walking-turn _ _ _ _ (c .before .before .loop .rest) (c .before .before .loop .n) _ (c .before .loop-test .taken) (omega arith) (c .before .before .loop .inv)
 
--- src/rows.rt:80:1
 same-length-2 : tie.Need-same-length-2 Inv-loop μ-loop
 same-length-2 c = c .before .loop .inv .1 .long
 
--- src/rows.rt:80:1
 returns-2 : tie.Need-returns-2 Inv-loop μ-loop
 returns-2 c = listing-end _ _ _ (ap (set-bits 64 (c .before .before .args .first)) (c .loop-test .left) ∙ set-bits-nothing 64 _) (c .before .loop .inv .1)
 

@@ -6,14 +6,10 @@ use Prim.Native.Nat.{_-_}
 use native.Mathlib.Omega.{arith}
 use borrow.Author.Needs.{needs}
 use Rattle.tables.proofs.Listing.{listing-none, sets-front}
-use Rattle.tables.proofs.RowWords.{Rowing, rowing-turn, rowing-end, row-from-zero, row-listed-short}
+use Rattle.tables.proofs.RowListLaws.{row-listed-short}
+use Rattle.tables.proofs.RowWords.{Rowing, rowing-turn, rowing-end, row-from-zero}
 use Rattle.tables.proofs.rows.row_neighbours.Statement.{statement}
 use Rattle.tables.proofs.rows.row_neighbours.Tie as tie
-use Rattle.tables.proofs.rows.row_neighbours.Reads as reads
-use Rattle.tables.proofs.rows.row_neighbours.Lts as lts
-use Rattle.tables.proofs.rows.list_bits.Reads as list-bits-reads
-use Rattle.tables.proofs.rows.row_degree.Reads as row-degree-reads
-use Rattle.tables.proofs.rows.word_at.Reads as word-at-reads
 
 abbrev Inv-loop : tie.InvT-loop
 Inv-loop links a list₀ start n₀ k₀ list n k = Rowing links a list₀ n k list
@@ -21,59 +17,46 @@ Inv-loop links a list₀ start n₀ k₀ list n k = Rowing links a list₀ n k l
 abbrev μ-loop : tie.MeasureT-loop
 μ-loop links a list₀ start n₀ k₀ list n k = 8 - k
 
--- src/rows.rt:104:17
 mul-start : tie.Need-mul-start Inv-loop μ-loop
 mul-start c = search needs
 
--- src/rows.rt:105:22
 add-if1 : tie.Need-add-if1 Inv-loop μ-loop
 add-if1 c = search needs
 
--- src/rows.rt:106:9
 returns : tie.Need-returns Inv-loop μ-loop
 returns c =
     let call = c .before .before .before .args in
     rw (row-listed-short (call .links .now) (call .a) (c .if1 .taken)) (refl, sets-front (call .list .now) [])
 
--- src/rows.rt:110:5
 loop-holds : tie.Need-loop-holds Inv-loop μ-loop
 loop-holds c =
     let call = c .before .before .before .args in
     (omega arith, omega arith, rw (row-from-zero (call .links .now) (call .a)) (listing-none _ 0 _ (omega arith)))
 
--- src/rows.rt:111:50
 cast-word-at : tie.Need-cast-word-at Inv-loop μ-loop
 cast-word-at c = search needs
 
--- src/rows.rt:111:46
 mul-word-at : tie.Need-mul-word-at Inv-loop μ-loop
 mul-word-at c = search needs
 
--- src/rows.rt:111:38
 add-word-at : tie.Need-add-word-at Inv-loop μ-loop
 add-word-at c = search needs
 
--- src/rows.rt:111:23
 word-at-requires : tie.Need-word-at-requires Inv-loop μ-loop
 word-at-requires c κs = search needs
 
--- src/rows.rt:111:63
 mul-list-bits : tie.Need-mul-list-bits Inv-loop μ-loop
 mul-list-bits c = search needs
 
--- src/rows.rt:111:9
 list-bits-requires : tie.Need-list-bits-requires Inv-loop μ-loop
 list-bits-requires c κs = search needs
 
--- src/rows.rt:112:9
 add-k : tie.Need-add-k Inv-loop μ-loop
 add-k c = search needs
 
--- src/rows.rt:110:5
 loop-less : tie.Need-loop-less Inv-loop μ-loop
 loop-less c = search needs
 
--- src/rows.rt:110:5
 loop-again : tie.Need-loop-again Inv-loop μ-loop
 loop-again c =
     let listed = c .before .before in
@@ -84,15 +67,12 @@ loop-again c =
     (at-loop .loop .n) (at-loop .loop .k) (read .word-at .result) _ (at-loop .loop .list) _
     (omega arith) (read .word-at .ensures) (listed .list-bits .ensures .0) (listed .list-bits .ensures .1) (at-loop .loop .inv)
 
--- src/rows.rt:115:9
 cast-if2 : tie.Need-cast-if2 Inv-loop μ-loop
 cast-if2 c = search needs
 
--- src/rows.rt:116:9
 same-length : tie.Need-same-length Inv-loop μ-loop
 same-length c = c .before .before .loop .inv .2 .long
 
--- src/rows.rt:116:9
 returns-2 : tie.Need-returns-2 Inv-loop μ-loop
 returns-2 c =
     let at-loop = c .before .before in
@@ -101,15 +81,12 @@ returns-2 c =
     (omega arith) (at-loop .before .if1 .left) (at-loop .loop .inv) in
     (omega (arith, at-end .0, at-loop .loop .inv .2 .long, c .if2 .taken), at-end .1)
 
--- src/rows.rt:118:5
 row-degree-requires : tie.Need-row-degree-requires Inv-loop μ-loop
 row-degree-requires c κs = search needs
 
--- src/rows.rt:100:1
 same-length-2 : tie.Need-same-length-2 Inv-loop μ-loop
 same-length-2 c = c .before .before .before .loop .inv .2 .long
 
--- src/rows.rt:100:1
 returns-3 : tie.Need-returns-3 Inv-loop μ-loop
 returns-3 c =
     let at-loop = c .before .before .before in
