@@ -116,12 +116,12 @@ module _ {whole : List ℕ} {count : ℕ} {old : List ℕ} where
 
 -- ---- the set bits of a word, the lowest first
 
-abbrev pub Walking : (first word count : ℕ) → (old : List ℕ) → (rest n : ℕ) → (list : List ℕ) → Type 0
-Walking first word count old rest n list = (rest < 2 ^ 64) × Listing (set-bits 64 first word) count old (set-bits 64 first rest) n list
+abbrev pub Word-listing : (first word count : ℕ) → (old : List ℕ) → (rest n : ℕ) → (list : List ℕ) → Type 0
+Word-listing first word count old rest n list = (rest < 2 ^ 64) × Listing (set-bits 64 first word) count old (set-bits 64 first rest) n list
 
-pub walking-turn : (first word count : ℕ) (old : List ℕ) (rest n : ℕ) (list : List ℕ) → (rest ≡ 0 → ⊥) → n < length list → Walking first word count old rest n list
-    → Walking first word count old (bitAnd rest (rest - 1)) (n + 1) (set list n (first + trailingZeros 64 rest))
-walking-turn first word count old rest n list some l h =
+pub word-listing-turn : (first word count : ℕ) (old : List ℕ) (rest n : ℕ) (list : List ℕ) → (rest ≡ 0 → ⊥) → n < length list → Word-listing first word count old rest n list
+    → Word-listing first word count old (bitAnd rest (rest - 1)) (n + 1) (set list n (first + trailingZeros 64 rest))
+word-listing-turn first word count old rest n list some l h =
     let pos : 0 < rest = omega arith in
     let step = set-bits-lowest 64 first rest pos (h .0) in (
       omega (arith, and-le-l rest (rest - 1), h .0),

@@ -101,3 +101,10 @@ row-listed-whole ts a h = rw (le-leb (row-bytes * a + row-bytes) (length ts) h)
 pub row-listed-short : (ts : List ℕ) (a : ℕ) → length ts < row-bytes * a + row-bytes → row-listed ts a ≡ []
 unfolding row-listed
 row-listed-short ts a h = rw (lt-leb (row-bytes * a + row-bytes) (length ts) h)
+
+-- the rows of a table of n radios
+pub row-listed-radio : (n : ℕ) (ts : List ℕ) → length ts ≡ row-bytes * n → (a : ℕ) → a < n → row-listed ts a ≡ neighbours-of ts a
+row-listed-radio n ts e a h = row-listed-whole ts a (omega arith)
+
+pub length-row-listed-radio : (n : ℕ) (ts : List ℕ) → length ts ≡ row-bytes * n → (a : ℕ) → a < n → length (row-listed ts a) ≡ row-degree ts a
+length-row-listed-radio n ts e a h = ap length (row-listed-radio n ts e a h) ∙ length-neighbours-of ts a

@@ -1,5 +1,5 @@
 -- `rows::list_bits` meets its contract: each turn takes the lowest set bit off the word, and what is left of the word's set
--- bits gives what all of them give (`Walking`). The measure is the word that is left.
+-- bits gives what all of them give (`Word-listing`). The measure is the word that is left.
 use mathlib.Core.Path.{ap, _∙_}
 use Prim.Native.Nat.{_-_}
 use native.Mathlib.Omega.{arith}
@@ -8,12 +8,12 @@ use lib.Count.{trailing-le}
 use borrow.Author.Needs.{needs}
 use Rattle.tables.specs.Rows.{set-bits}
 use Rattle.tables.proofs.WordLaws.{set-bits-nothing, length-set-bits-le}
-use Rattle.tables.proofs.Listing.{Walking, walking-turn, listing-none, listing-end, listing-full}
+use Rattle.tables.proofs.Listing.{Word-listing, word-listing-turn, listing-none, listing-end, listing-full}
 use Rattle.tables.proofs.rows.list_bits.Statement.{statement}
 use Rattle.tables.proofs.rows.list_bits.Tie as tie
 
 abbrev Inv-loop : tie.InvT-loop
-Inv-loop word first list₀ count rest₀ n₀ list rest n = Walking first word count list₀ rest n list
+Inv-loop word first list₀ count rest₀ n₀ list rest n = Word-listing first word count list₀ rest n list
 
 abbrev μ-loop : tie.MeasureT-loop
 μ-loop word first list₀ count rest₀ n₀ list rest n = rest
@@ -55,7 +55,7 @@ loop-less : tie.Need-loop-less Inv-loop μ-loop
 loop-less c = omega (arith, and-le-r (c .before .before .loop .rest) (c .before .before .loop .rest - 1))
 
 loop-again : tie.Need-loop-again Inv-loop μ-loop
-loop-again c = walking-turn _ _ _ _ (c .before .before .loop .rest) (c .before .before .loop .n) _ (c .before .loop-test .taken) (omega arith) (c .before .before .loop .inv)
+loop-again c = word-listing-turn _ _ _ _ (c .before .before .loop .rest) (c .before .before .loop .n) _ (c .before .loop-test .taken) (omega arith) (c .before .before .loop .inv)
 
 same-length-2 : tie.Need-same-length-2 Inv-loop μ-loop
 same-length-2 c = c .before .loop .inv .1 .long

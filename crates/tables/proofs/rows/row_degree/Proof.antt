@@ -6,12 +6,12 @@ use native.Mathlib.Omega.{arith}
 use lib.ListN.{length}
 use borrow.Author.Needs.{needs}
 use Rattle.tables.proofs.RowListLaws.{row-listed-whole, row-listed-short}
-use Rattle.tables.proofs.RowWords.{Counting, counting-turn, row-from-zero, row-from-end}
+use Rattle.tables.proofs.RowWords.{Row-counting, row-counting-turn, row-from-zero, row-from-end}
 use Rattle.tables.proofs.rows.row_degree.Statement.{statement}
 use Rattle.tables.proofs.rows.row_degree.Tie as tie
 
 abbrev Inv-loop : tie.InvT-loop
-Inv-loop links a start n₀ k₀ n k = Counting links a n k
+Inv-loop links a start n₀ k₀ n k = Row-counting links a n k
 
 abbrev μ-loop : tie.MeasureT-loop
 μ-loop links a start n₀ k₀ n k = 8 - k
@@ -43,7 +43,7 @@ word-at-requires c κs = search needs
 loop-again : tie.Need-loop-again Inv-loop μ-loop
 loop-again c =
     let at-loop = c .before .before in
-    counting-turn _ (λ j. at-loop .before .before .shared-slice-known .given j .fits) _ (at-loop .loop .n) (at-loop .loop .k) _ (omega arith) (c .word-at .ensures) (at-loop .loop .inv)
+    row-counting-turn _ (λ j. at-loop .before .before .shared-slice-known .given j .fits) _ (at-loop .loop .n) (at-loop .loop .k) _ (omega arith) (c .word-at .ensures) (at-loop .loop .inv)
 
 add-n : tie.Need-add-n Inv-loop μ-loop
 add-n c = omega (arith, loop-again c .1)

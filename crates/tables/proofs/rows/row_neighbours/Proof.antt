@@ -1,5 +1,5 @@
 -- `rows::row_neighbours` meets its contract: the neighbours listed so far and those from word k on are the row's, as far as
--- the list reaches (`Rowing`); a list that is full leaves the count to `row_degree`. The measure is the words that are left.
+-- the list reaches (`Row-listing`); a list that is full leaves the count to `row_degree`. The measure is the words that are left.
 use mathlib.Core.Path.{refl}
 use mathlib.Core.List.{[]}
 use Prim.Native.Nat.{_-_}
@@ -7,12 +7,12 @@ use native.Mathlib.Omega.{arith}
 use borrow.Author.Needs.{needs}
 use Rattle.tables.proofs.Listing.{listing-none, sets-front}
 use Rattle.tables.proofs.RowListLaws.{row-listed-short}
-use Rattle.tables.proofs.RowWords.{Rowing, rowing-turn, rowing-end, row-from-zero}
+use Rattle.tables.proofs.RowWords.{Row-listing, row-listing-turn, row-listing-end, row-from-zero}
 use Rattle.tables.proofs.rows.row_neighbours.Statement.{statement}
 use Rattle.tables.proofs.rows.row_neighbours.Tie as tie
 
 abbrev Inv-loop : tie.InvT-loop
-Inv-loop links a list₀ start n₀ k₀ list n k = Rowing links a list₀ n k list
+Inv-loop links a list₀ start n₀ k₀ list n k = Row-listing links a list₀ n k list
 
 abbrev μ-loop : tie.MeasureT-loop
 μ-loop links a list₀ start n₀ k₀ list n k = 8 - k
@@ -63,7 +63,7 @@ loop-again c =
     let read = listed .before .before in
     let at-loop = read .before .before in
     let given = at-loop .before .before in
-    rowing-turn _ (λ j. given .before .shared-slice-known .given j .fits) _ (given .before .before .args .list .now)
+    row-listing-turn _ (λ j. given .before .shared-slice-known .given j .fits) _ (given .before .before .args .list .now)
     (at-loop .loop .n) (at-loop .loop .k) (read .word-at .result) _ (at-loop .loop .list) _
     (omega arith) (read .word-at .ensures) (listed .list-bits .ensures .0) (listed .list-bits .ensures .1) (at-loop .loop .inv)
 
@@ -77,7 +77,7 @@ returns-2 : tie.Need-returns-2 Inv-loop μ-loop
 returns-2 c =
     let at-loop = c .before .before in
     let call = at-loop .before .before .before .before .args in
-    let at-end = rowing-end (call .links .now) (call .a) (call .list .now) (at-loop .loop .n) (at-loop .loop .k) (at-loop .loop .list)
+    let at-end = row-listing-end (call .links .now) (call .a) (call .list .now) (at-loop .loop .n) (at-loop .loop .k) (at-loop .loop .list)
     (omega arith) (at-loop .before .if1 .left) (at-loop .loop .inv) in
     (omega (arith, at-end .0, at-loop .loop .inv .2 .long, c .if2 .taken), at-end .1)
 
@@ -91,7 +91,7 @@ returns-3 : tie.Need-returns-3 Inv-loop μ-loop
 returns-3 c =
     let at-loop = c .before .before .before in
     let call = at-loop .before .before .before .before .args in
-    let at-end = rowing-end (call .links .now) (call .a) (call .list .now) (at-loop .loop .n) (at-loop .loop .k) (at-loop .loop .list)
+    let at-end = row-listing-end (call .links .now) (call .a) (call .list .now) (at-loop .loop .n) (at-loop .loop .k) (at-loop .loop .list)
     (omega arith) (at-loop .before .if1 .left) (at-loop .loop .inv) in
     (c .row-degree .ensures, at-end .1)
 
