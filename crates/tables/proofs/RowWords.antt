@@ -6,14 +6,24 @@ use native.Mathlib.Omega.{arith}
 use lib.ListN.{length, getD, take, length-append}
 use lib.Seq.{sets}
 use lib.Count.{ones}
+use borrow.Author.Tests.{le-leb, lt-leb}
 use Rattle.mesh.specs.Limits.{max-radios, row-bytes}
 use Rattle.mesh.specs.Lists.{range, filter, overwrite}
 use Rattle.mesh.specs.Tables.{digit, byte-at, marked}
 use Rattle.mesh.proofs.ListLaws.{filter-append}
 use Rattle.tables.specs.Rows.{neighbours-of, row-listed, set-bits, word-at}
-use Rattle.tables.proofs.RowListLaws.{row-listed-whole}
 use Rattle.tables.proofs.WordLaws.{set-bits-filter, length-set-bits, length-set-bits-le, word-at-less, digit-word-at}
 use Rattle.tables.proofs.Listing.{range-append, sets-front, Listing, listing-part, listing-end}
+
+-- ---- row-listed: the whole row, or none of it
+
+pub row-listed-whole : (ts : List ℕ) (a : ℕ) → row-bytes * a + row-bytes ≤ length ts → row-listed ts a ≡ neighbours-of ts a
+unfolding row-listed
+row-listed-whole ts a h = rw (le-leb (row-bytes * a + row-bytes) (length ts) h)
+
+pub row-listed-short : (ts : List ℕ) (a : ℕ) → length ts < row-bytes * a + row-bytes → row-listed ts a ≡ []
+unfolding row-listed
+row-listed-short ts a h = rw (lt-leb (row-bytes * a + row-bytes) (length ts) h)
 
 -- ---- a row from word k on
 

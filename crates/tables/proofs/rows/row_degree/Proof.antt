@@ -5,8 +5,7 @@ use Prim.Native.Nat.{_-_}
 use native.Mathlib.Omega.{arith}
 use lib.ListN.{length}
 use borrow.Author.Needs.{needs}
-use Rattle.tables.proofs.RowListLaws.{row-listed-whole, row-listed-short}
-use Rattle.tables.proofs.RowWords.{Row-counting, row-counting-turn, row-from-zero, row-from-end}
+use Rattle.tables.proofs.RowWords.{Row-counting, row-counting-turn, row-from-zero, row-from-end, row-listed-whole, row-listed-short}
 use Rattle.tables.proofs.rows.row_degree.Statement.{statement}
 use Rattle.tables.proofs.rows.row_degree.Tie as tie
 

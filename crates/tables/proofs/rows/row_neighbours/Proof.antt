@@ -6,8 +6,7 @@ use Prim.Native.Nat.{_-_}
 use native.Mathlib.Omega.{arith}
 use borrow.Author.Needs.{needs}
 use Rattle.tables.proofs.Listing.{listing-none, sets-front}
-use Rattle.tables.proofs.RowListLaws.{row-listed-short}
-use Rattle.tables.proofs.RowWords.{Row-listing, row-listing-turn, row-listing-end, row-from-zero}
+use Rattle.tables.proofs.RowWords.{Row-listing, row-listing-turn, row-listing-end, row-from-zero, row-listed-short}
 use Rattle.tables.proofs.rows.row_neighbours.Statement.{statement}
 use Rattle.tables.proofs.rows.row_neighbours.Tie as tie
 
