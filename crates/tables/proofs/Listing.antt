@@ -1,5 +1,6 @@
 -- A list of radios written entry by entry into a lent list, as a loop's invariant: what is left gives what the whole gives.
--- In order: laws of ranges and stores, the invariant with its start, one entry more, a part more and its ends, the set bits of a word.
+-- In order: laws of ranges and stores, a loop that counts what has no place, a loop that stops when the list is full, the set bits of
+-- a word.
 use mathlib.Core.Path.{_≡_, refl, sym, ap, _∙_}
 use mathlib.Core.Logic.{_⊎_, inl, inr}
 use mathlib.Core.Bool.{true, false}
@@ -65,23 +66,55 @@ sets-min old i xs = go (bool-cases (ltb i (length old)))
         let l = ltb-false i (length old) e in
         sets-full old (min (length old) i) xs (omega arith) ∙ sym (sets-full old i xs l)
 
--- ---- the invariant
+-- ---- a loop that counts every entry, also one that has no place in the list
+
+-- n entries counted so far and `rest` left come to `whole` after `count`; list holds what fits of them
+pub record Listing (whole : List ℕ) (count : ℕ) (old rest : List ℕ) (n : ℕ) (list : List ℕ) : Type 0 where
+  pub long : length list ≡ length old
+  pub counted : n + length rest ≡ count + length whole
+  pub listed : sets list n rest ≡ sets old count whole
+
+pub listing-none : (whole : List ℕ) (count : ℕ) (old : List ℕ) → Listing whole count old whole count old
+listing-none whole count old = record { long = refl; counted = refl; listed = refl }
+
+module _ {whole : List ℕ} {count : ℕ} {old : List ℕ} where
+  pub listing-one : (x : ℕ) (rest : List ℕ) (n : ℕ) (list : List ℕ) → Listing whole count old (x ∷ rest) n list
+      → Listing whole count old rest (n + 1) (set list n x)
+  listing-one x rest n list h = record {
+    long = length-set list n x ∙ h .long;
+    counted = omega arith;
+    listed = ap (λ (k : ℕ). sets (set list n x) k rest) (add-one n) ∙ h .listed;
+  }
+
+  pub listing-part : (xs rest : List ℕ) (n : ℕ) (list : List ℕ) → Listing whole count old (xs ++ rest) n list
+      → Listing whole count old rest (n + length xs) (sets list n xs)
+  listing-part xs rest n list h = record {
+    long = length-sets list n xs ∙ h .long;
+    counted = omega (arith, length-append xs rest);
+    listed = sym (sets-append list n xs rest) ∙ h .listed;
+  }
+
+pub listing-end : {whole : List ℕ} {count : ℕ} {old : List ℕ} (rest : List ℕ) (n : ℕ) (list : List ℕ) → rest ≡ []
+    → Listing whole count old rest n list → (n ≡ count + length whole) × (list ≡ sets old count whole)
+listing-end rest n list e h = (omega (arith, h .counted, ap length e), ap (sets list n) (sym e) ∙ h .listed)
+
+-- ---- a loop that stops when the list is full
 
 -- n entries of list written so far and `rest` left come to `whole` from place `count` of old on, as far as old reaches
-pub record Listing (whole : List ℕ) (count : ℕ) (old rest : List ℕ) (n : ℕ) (list : List ℕ) : Type 0 where
+pub record Partial-listing (whole : List ℕ) (count : ℕ) (old rest : List ℕ) (n : ℕ) (list : List ℕ) : Type 0 where
   pub long : length list ≡ length old
   pub inside : n ≤ length old
   pub most : n + length rest ≤ count + length whole
   pub counted : min (length old) (n + length rest) ≡ min (length old) (count + length whole)
   pub listed : sets list n rest ≡ sets old count whole
 
-pub listing-none : (whole : List ℕ) (count : ℕ) (old : List ℕ) → count ≤ length old → Listing whole count old whole count old
-listing-none whole count old h = record { long = refl; inside = h; most = omega arith; counted = refl; listed = refl }
+pub partial-none : (whole : List ℕ) (count : ℕ) (old : List ℕ) → count ≤ length old → Partial-listing whole count old whole count old
+partial-none whole count old h = record { long = refl; inside = h; most = omega arith; counted = refl; listed = refl }
 
 module _ {whole : List ℕ} {count : ℕ} {old : List ℕ} where
-  pub listing-one : (x : ℕ) (rest : List ℕ) (n : ℕ) (list : List ℕ) → n < length list → Listing whole count old (x ∷ rest) n list
-      → Listing whole count old rest (n + 1) (set list n x)
-  listing-one x rest n list l h = record {
+  pub partial-one : (x : ℕ) (rest : List ℕ) (n : ℕ) (list : List ℕ) → n < length list → Partial-listing whole count old (x ∷ rest) n list
+      → Partial-listing whole count old rest (n + 1) (set list n x)
+  partial-one x rest n list l h = record {
     long = length-set list n x ∙ h .long;
     inside = omega arith;
     most = omega arith;
@@ -89,9 +122,9 @@ module _ {whole : List ℕ} {count : ℕ} {old : List ℕ} where
     listed = ap (λ (k : ℕ). sets (set list n x) k rest) (add-one n) ∙ h .listed;
   }
 
-  pub listing-part : (xs rest : List ℕ) (n : ℕ) (list : List ℕ) → Listing whole count old (xs ++ rest) n list
-      → Listing whole count old rest (min (length list) (n + length xs)) (sets list n xs)
-  listing-part xs rest n list h =
+  pub partial-part : (xs rest : List ℕ) (n : ℕ) (list : List ℕ) → Partial-listing whole count old (xs ++ rest) n list
+      → Partial-listing whole count old rest (min (length list) (n + length xs)) (sets list n xs)
+  partial-part xs rest n list h =
       let same = length-sets list n xs in
       let both = length-append xs rest in record {
         long = same ∙ h .long;
@@ -106,18 +139,18 @@ module _ {whole : List ℕ} {count : ℕ} {old : List ℕ} where
       }
 
   -- nothing left, or no room left
-  pub listing-end : (rest : List ℕ) (n : ℕ) (list : List ℕ) → rest ≡ [] → Listing whole count old rest n list
+  pub partial-end : (rest : List ℕ) (n : ℕ) (list : List ℕ) → rest ≡ [] → Partial-listing whole count old rest n list
       → (n ≡ min (length old) (count + length whole)) × (list ≡ sets old count whole)
-  listing-end rest n list e h = (omega (arith, h .counted, h .inside, ap length e), ap (sets list n) (sym e) ∙ h .listed)
+  partial-end rest n list e h = (omega (arith, h .counted, h .inside, ap length e), ap (sets list n) (sym e) ∙ h .listed)
 
-  pub listing-full : (rest : List ℕ) (n : ℕ) (list : List ℕ) → length list ≤ n → Listing whole count old rest n list
+  pub partial-full : (rest : List ℕ) (n : ℕ) (list : List ℕ) → length list ≤ n → Partial-listing whole count old rest n list
       → (n ≡ min (length old) (count + length whole)) × (list ≡ sets old count whole)
-  listing-full rest n list l h = (omega (arith, h .counted, h .inside, h .long), sym (sets-full list n rest l) ∙ h .listed)
+  partial-full rest n list l h = (omega (arith, h .counted, h .inside, h .long), sym (sets-full list n rest l) ∙ h .listed)
 
 -- ---- the set bits of a word, the lowest first
 
 abbrev pub Word-listing : (first word count : ℕ) → (old : List ℕ) → (rest n : ℕ) → (list : List ℕ) → Type 0
-Word-listing first word count old rest n list = (rest < 2 ^ 64) × Listing (set-bits 64 first word) count old (set-bits 64 first rest) n list
+Word-listing first word count old rest n list = (rest < 2 ^ 64) × Partial-listing (set-bits 64 first word) count old (set-bits 64 first rest) n list
 
 pub word-listing-turn : (first word count : ℕ) (old : List ℕ) (rest n : ℕ) (list : List ℕ) → (rest ≡ 0 → ⊥) → n < length list → Word-listing first word count old rest n list
     → Word-listing first word count old (bitAnd rest (rest - 1)) (n + 1) (set list n (first + trailingZeros 64 rest))
@@ -125,5 +158,5 @@ word-listing-turn first word count old rest n list some l h =
     let pos : 0 < rest = omega arith in
     let step = set-bits-lowest 64 first rest pos (h .0) in (
       omega (arith, and-le-l rest (rest - 1), h .0),
-      listing-one (first + trailingZeros 64 rest) (set-bits 64 first (bitAnd rest (rest - 1))) n list l (rw step at (h .1)),
+      partial-one (first + trailingZeros 64 rest) (set-bits 64 first (bitAnd rest (rest - 1))) n list l (rw step at (h .1)),
     )

@@ -13,7 +13,7 @@ use Rattle.mesh.specs.Tables.{digit, byte-at, marked}
 use Rattle.mesh.proofs.ListLaws.{filter-append}
 use Rattle.tables.specs.Rows.{neighbours-of, row-listed, set-bits, word-at}
 use Rattle.tables.proofs.WordLaws.{set-bits-filter, length-set-bits, length-set-bits-le, word-at-less, digit-word-at}
-use Rattle.tables.proofs.Listing.{range-append, sets-front, Listing, listing-part, listing-end}
+use Rattle.tables.proofs.Listing.{range-append, sets-front, Partial-listing, partial-part, partial-end}
 
 -- ---- row-listed: the whole row, or none of it
 
@@ -80,7 +80,7 @@ row-counting-turn ts bytes a n k w h e i =
 
 -- the neighbours before word k listed
 abbrev pub Row-listing : (links : List ℕ) → (a : ℕ) → (old : List ℕ) → (n k : ℕ) → (list : List ℕ) → Type 0
-Row-listing ts a old n k list = (k ≤ 8) × (n ≤ 64 * k) × Listing (neighbours-of ts a) 0 old (row-from ts a k) n list
+Row-listing ts a old n k list = (k ≤ 8) × (n ≤ 64 * k) × Partial-listing (neighbours-of ts a) 0 old (row-from ts a k) n list
 
 pub row-listing-turn : (ts : List ℕ) → ((j : ℕ) → getD ts j 0 < 256) → (a : ℕ) (old : List ℕ) (n k w m : ℕ) (list new : List ℕ) → k < 8
     → w ≡ word-at 8 ts (row-bytes * a + 8 * k) → m ≡ min (length list) (n + length (set-bits 64 (64 * k) w)) → new ≡ sets list n (set-bits 64 (64 * k) w)
@@ -88,12 +88,12 @@ pub row-listing-turn : (ts : List ℕ) → ((j : ℕ) → getD ts j 0 < 256) →
 row-listing-turn ts bytes a old n k w m list new h e f g i = (
   omega arith,
   omega (arith, length-set-bits-le 64 (64 * k) w, i .1),
-  rw (f, g, e) (listing-part (set-bits 64 (64 * k) (word-at 8 ts (row-bytes * a + 8 * k))) (row-from ts a (k + 1)) n list (rw (row-from-word ts bytes a k h) at (i .2))),
+  rw (f, g, e) (partial-part (set-bits 64 (64 * k) (word-at 8 ts (row-bytes * a + 8 * k))) (row-from ts a (k + 1)) n list (rw (row-from-word ts bytes a k h) at (i .2))),
 )
 
 pub row-listing-end : (ts : List ℕ) (a : ℕ) (old : List ℕ) (n k : ℕ) (list : List ℕ) → 8 ≤ k → row-bytes * a + row-bytes ≤ length ts
     → Row-listing ts a old n k list
     → (n ≡ min (length old) (length (row-listed ts a))) × (list ≡ overwrite (take (length old) (row-listed ts a)) old)
 row-listing-end ts a old n k list h l i =
-    let at-end = listing-end (row-from ts a k) n list (row-from-end ts a k h) (i .2) in
+    let at-end = partial-end (row-from ts a k) n list (row-from-end ts a k h) (i .2) in
     rw (row-listed-whole ts a l) (omega (arith, at-end .0), at-end .1 ∙ sets-front old (neighbours-of ts a))

@@ -8,7 +8,7 @@ use lib.Count.{trailing-le}
 use borrow.Author.Needs.{needs}
 use Rattle.tables.specs.Rows.{set-bits}
 use Rattle.tables.proofs.WordLaws.{set-bits-nothing, length-set-bits-le}
-use Rattle.tables.proofs.Listing.{Word-listing, word-listing-turn, listing-none, listing-end, listing-full}
+use Rattle.tables.proofs.Listing.{Word-listing, word-listing-turn, partial-none, partial-end, partial-full}
 use Rattle.tables.proofs.rows.list_bits.Statement.{statement}
 use Rattle.tables.proofs.rows.list_bits.Tie as tie
 
@@ -19,7 +19,7 @@ abbrev μ-loop : tie.MeasureT-loop
 μ-loop word first list₀ count rest₀ n₀ list rest n = rest
 
 loop-holds : tie.Need-loop-holds Inv-loop μ-loop
-loop-holds c = (search needs, listing-none _ _ _ (c .pre .2))
+loop-holds c = (search needs, partial-none _ _ _ (c .pre .2))
 
 cast-if1 : tie.Need-cast-if1 Inv-loop μ-loop
 cast-if1 c = omega (arith, length-set-bits-le 64 (c .before .before .args .first) (c .before .before .args .word))
@@ -28,7 +28,7 @@ same-length : tie.Need-same-length Inv-loop μ-loop
 same-length c = c .before .before .loop .inv .1 .long
 
 returns : tie.Need-returns Inv-loop μ-loop
-returns c = listing-full _ _ _ (omega arith) (c .before .before .loop .inv .1)
+returns c = partial-full _ _ _ (omega arith) (c .before .before .loop .inv .1)
 
 add-list : tie.Need-add-list Inv-loop μ-loop
 add-list c = omega (arith, trailing-le 64 (c .before .before .loop .rest))
@@ -61,7 +61,7 @@ same-length-2 : tie.Need-same-length-2 Inv-loop μ-loop
 same-length-2 c = c .before .loop .inv .1 .long
 
 returns-2 : tie.Need-returns-2 Inv-loop μ-loop
-returns-2 c = listing-end _ _ _ (ap (set-bits 64 (c .before .before .args .first)) (c .loop-test .left) ∙ set-bits-nothing 64 _) (c .before .loop .inv .1)
+returns-2 c = partial-end _ _ _ (ap (set-bits 64 (c .before .before .args .first)) (c .loop-test .left) ∙ set-bits-nothing 64 _) (c .before .loop .inv .1)
 
 pub list-bits-spec : {M : Type 1} → statement M
 list-bits-spec =

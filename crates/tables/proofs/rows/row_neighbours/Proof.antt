@@ -5,7 +5,7 @@ use mathlib.Core.List.{[]}
 use Prim.Native.Nat.{_-_}
 use native.Mathlib.Omega.{arith}
 use borrow.Author.Needs.{needs}
-use Rattle.tables.proofs.Listing.{listing-none, sets-front}
+use Rattle.tables.proofs.Listing.{partial-none, sets-front}
 use Rattle.tables.proofs.RowWords.{Row-listing, row-listing-turn, row-listing-end, row-from-zero, row-listed-short}
 use Rattle.tables.proofs.rows.row_neighbours.Statement.{statement}
 use Rattle.tables.proofs.rows.row_neighbours.Tie as tie
@@ -30,7 +30,7 @@ returns c =
 loop-holds : tie.Need-loop-holds Inv-loop μ-loop
 loop-holds c =
     let call = c .before .before .before .args in
-    (omega arith, omega arith, rw (row-from-zero (call .links .now) (call .a)) (listing-none _ 0 _ (omega arith)))
+    (omega arith, omega arith, rw (row-from-zero (call .links .now) (call .a)) (partial-none _ 0 _ (omega arith)))
 
 cast-word-at : tie.Need-cast-word-at Inv-loop μ-loop
 cast-word-at c = search needs
