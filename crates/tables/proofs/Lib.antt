@@ -1,0 +1,2 @@
+-- Laws of the definitions that the leaf code cites: `WidthLaws` for tables of both widths.
+pub mod WidthLaws
