@@ -2,3 +2,4 @@
 // widths are filled, copied and compared; questions 1 and 2 are put; tables are checked for soundness and cleared.
 // No public function has a `requires`: each says what it does with every length and every value that it is lent.
 pub mod fill;
+pub mod sizes;
