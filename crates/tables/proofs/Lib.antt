@@ -1,2 +1,3 @@
 -- Laws of the definitions that the leaf code cites: `WidthLaws` for tables of both widths.
 pub mod WidthLaws
+pub mod StepLaws

@@ -3,3 +3,4 @@
 // No public function has a `requires`: each says what it does with every length and every value that it is lent.
 pub mod fill;
 pub mod sizes;
+pub mod steps;
