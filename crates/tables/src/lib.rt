@@ -4,3 +4,4 @@
 pub mod fill;
 pub mod sizes;
 pub mod steps;
+pub mod clear;
