@@ -34,14 +34,14 @@ pub fn fill16(d: &mut [u16], x: u16)
     }
 }
 
-// Entry i of d is i mod 65536 after: to 65536 entries, the numbers from 0 up.
+// Entry v of d is v mod 65536 after: of at most 65536 entries, each is its own index.
 pub fn index16(d: &mut [u16])
     ensures { λ _. ⌜ now (d .exit) ≡ values 16 (λ (i : ℕ). i) (length (now (d .entry))) ⌝ }
 {
-    let mut i: usize = 0;
-    while i < d.len() {
-        d[i] = (i % 65536) as u16;
-        i += 1;
+    let mut v: usize = 0;
+    while v < d.len() {
+        d[v] = (v % 65536) as u16;
+        v += 1;
     }
 }
 

@@ -1,0 +1,10 @@
+-- A law of questions 1 and 2: the empty description of a site gets refusal 1, whatever is lent.
+use mathlib.Core.Path.{_≡_}
+use mathlib.Core.Bool.{Bool}
+use Prim.Native.Nat.{ℕ}
+use Rattle.mesh.specs.declared.Site.{Site}
+use Rattle.calls.specs.Questions.{ask, Lengths, size-good, lent-refusal}
+
+pub lent-empty : (s : Site) (l : Lengths) (others : Bool) (later : ℕ) → s .radios ≡ 0 → lent-refusal (s .radios) l others later ≡ 1
+unfolding lent-refusal size-good ask
+lent-empty s l others later e = rw e
