@@ -95,6 +95,29 @@ module _ (x : ℕ) (z : ℤ) (small : x < 256) (fits : SFits w8 z) where
   pub sum-within : ltZ (sum-of x z) (pos 0) ≡ false → ltZ (pos 255) (sum-of x z) ≡ false → natAbs (sum-of x z) ≡ stepped x z
   sum-within h l = held-within (sum-of x z) h l .is ∙ held-exact
 
+-- ---- stepped: the three steps of a link call, what is below 0, and the exact sum
+
+pub stepped-up : (x : ℕ) → x < 255 → stepped x (pos 1) ≡ x + 1
+unfolding stepped
+stepped-up x h = omega arith
+
+pub stepped-none : (x : ℕ) → x < 256 → stepped x (pos 0) ≡ x
+unfolding stepped
+stepped-none x h = omega arith
+
+pub stepped-down : (x : ℕ) → stepped x (negsuc 0) ≡ x - 1
+unfolding stepped
+stepped-down x = refl
+
+pub stepped-zero : (k : ℕ) → stepped 0 (negsuc k) ≡ 0
+unfolding stepped
+stepped-zero k = omega arith
+
+-- where the sum is a number of one byte, it is the number that comes back
+pub stepped-exact : (x : ℕ) (z : ℤ) (y : ℕ) → x < 256 → y < 256 → pos x +ℤ z ≡ pos y → stepped x z ≡ y
+stepped-exact x z y h l e =
+    let m : min 255 y ≡ y = omega arith in sym (held-sum x z h) ∙ ap held e ∙ m
+
 -- ---- step-at
 
 pub length-step-at : (v : ℕ) (z : ℤ) (ns : List ℕ) → length (step-at v z ns) ≡ length ns
