@@ -1,0 +1,48 @@
+-- `sizes::lent` meets its contract: each test is a question of the chain, and its "no" the number.
+use borrow.Author.Needs.{needs}
+use borrow.Author.Tests.{not-true, not-false}
+use Rattle.calls.specs.Questions.{ask, lent-refusal}
+use Rattle.tables.proofs.sizes.lent.Statement.{statement}
+use Rattle.tables.proofs.sizes.lent.Tie as tie
+
+is-size-requires : tie.Need-is-size-requires
+is-size-requires c κs = search needs
+
+returns : tie.Need-returns
+unfolding lent-refusal ask
+returns c = let size = c .before .is-size in rw (← size .ensures, not-true (size .result) (c .if1 .taken))
+
+are-lengths-requires : tie.Need-are-lengths-requires
+are-lengths-requires c κs = search needs
+
+returns-2 : tie.Need-returns-2
+unfolding lent-refusal ask
+returns-2 c =
+    let size = c .before .before .before .is-size in
+    let long = c .before .are-lengths in
+    rw (← size .ensures, not-false (size .result) (c .before .before .if1 .left), ← long .ensures, not-true (long .result) (c .if2 .taken))
+
+returns-3 : tie.Need-returns-3
+unfolding lent-refusal ask
+returns-3 c =
+    let asked = c .before .before .before .before in
+    let size = asked .is-size in
+    let long = c .before .before .are-lengths in
+    let others = asked .before .args .others in
+    rw (← size .ensures, not-false (size .result) (c .before .before .before .if1 .left), ← long .ensures)
+    (rw (not-false (long .result) (c .before .if2 .left), not-true others (c .if3 .taken)))
+
+returns-4 : tie.Need-returns-4
+unfolding lent-refusal ask
+returns-4 c =
+    let asked = c .before .before .before .before in
+    let size = asked .is-size in
+    let long = c .before .before .are-lengths in
+    let others = asked .before .args .others in
+    rw (← size .ensures, not-false (size .result) (c .before .before .before .if1 .left), ← long .ensures)
+    (rw (not-false (long .result) (c .before .if2 .left), not-false others (c .if3 .left)))
+
+pub lent-spec : {M : Type 1} → statement M
+lent-spec =
+    tie.close
+    (tie.spec is-size-requires returns are-lengths-requires returns-2 returns-3 returns-4)
