@@ -1,0 +1,38 @@
+-- The soundness check, row by row.
+--   Placed n order places    the table of places says where each radio stands in the order
+--   later-count              how many of some radios stand later in the order than a: document 01's "neighbours later in the order"
+--   high-count               how many of some radios have a number that is not below that of a
+--   ends-good                each of some radios is below n, is not a, and marks a too
+--   row-good                 the conditions of document 01 on radio a: its row, its later neighbours, its neighbours that are not below it
+-- That tables are sound when the order holds each radio once, numbers rise along it and every row is good is `sound-rows` in
+-- proofs/CheckLaws.antt. Definitions only.
+use mathlib.Core.Path.{_≡_}
+use mathlib.Core.Bool.{Bool, _&&_, not}
+use mathlib.Core.List.{List}
+use Prim.Native.Nat.{ℕ, _<_}
+use lib.Dec.{ltb, leb, eqb}
+use lib.ListN.{length, getD}
+use Rattle.mesh.specs.Lists.{count, all}
+use Rattle.mesh.specs.Tables.{Tables, marked}
+use Rattle.mesh.specs.Sound.{number-in}
+use Rattle.tables.specs.Rows.{neighbours-of}
+
+-- entry i of the order stands at place i
+pub record Placed (n : ℕ) (order places : List ℕ) : Type 0 where
+  pub at : (i : ℕ) → i < n → getD places (getD order i 0) 0 ≡ i
+
+unfoldable pub later-count : (places : List ℕ) → (a : ℕ) → (radios : List ℕ) → ℕ
+later-count ps a xs = count (λ b. ltb (getD ps a 0) (getD ps b 0)) xs
+
+unfoldable pub high-count : (numbers : List ℕ) → (a : ℕ) → (radios : List ℕ) → ℕ
+high-count ns a xs = count (λ b. leb (number-in ns a) (number-in ns b)) xs
+
+unfoldable pub ends-good : (n : ℕ) → (links : List ℕ) → (a : ℕ) → (radios : List ℕ) → Bool
+ends-good n ts a xs = all (λ b. ltb b n && (not (eqb b a) && marked ts b a)) xs
+
+unfoldable pub row-good : (most n : ℕ) → Tables → (places : List ℕ) → (a : ℕ) → Bool
+row-good most n t ps a =
+    let xs = neighbours-of (t .links) a in
+    leb (length xs) most
+    && (ends-good n (t .links) a xs
+    && (leb (later-count ps a xs) (number-in (t .numbers) a) && leb (number-in (t .numbers) a) (high-count (t .numbers) a xs)))
