@@ -1,1 +1,4 @@
+pub mod MaskLaws
+pub mod WordLaws
+pub mod WidthLaws
 pub mod CheckLaws

@@ -3,18 +3,22 @@
 --   later-count              how many of some radios stand later in the order than a: document 01's "neighbours later in the order"
 --   high-count               how many of some radios have a number that is not below that of a
 --   ends-good                each of some radios is below n, is not a, and marks a too
+--   rising-from              numbers never fall along a list, and do not begin below the given one
 --   row-good                 the conditions of document 01 on radio a: its row, its later neighbours, its neighbours that are not below it
+--   Placing, Ends-counted, Row-checked, Rows-checked, Examined   what the functions of src/check.rt come back with
 -- That tables are sound when the order holds each radio once, numbers rise along it and every row is good is `sound-rows` in
 -- proofs/CheckLaws.antt. Definitions only.
 use mathlib.Core.Path.{_≡_}
-use mathlib.Core.Bool.{Bool, _&&_, not}
-use mathlib.Core.List.{List}
-use Prim.Native.Nat.{ℕ, _<_}
+use mathlib.Core.Bool.{Bool, true, _&&_, not}
+use mathlib.Core.List.{List, [], _∷_}
+use Prim.Native.Nat.{ℕ, _≤_, _<_}
 use lib.Dec.{ltb, leb, eqb}
 use lib.ListN.{length, getD}
-use Rattle.mesh.specs.Lists.{count, all}
+use Rattle.mesh.specs.Limits.{max-radios, max-neighbours}
+use Rattle.mesh.specs.Lists.{range, count, all}
+use Rattle.mesh.specs.Orders.{each-once}
 use Rattle.mesh.specs.Tables.{Tables, marked}
-use Rattle.mesh.specs.Sound.{number-in}
+use Rattle.mesh.specs.Sound.{number-in, sound}
 use Rattle.tables.specs.Rows.{neighbours-of}
 
 -- entry i of the order stands at place i
@@ -36,3 +40,26 @@ row-good most n t ps a =
     leb (length xs) most
     && (ends-good n (t .links) a xs
     && (leb (later-count ps a xs) (number-in (t .numbers) a) && leb (number-in (t .numbers) a) (high-count (t .numbers) a xs)))
+
+-- `true` of an empty list whatever m
+unfoldable pub rising-from : (num : ℕ → ℕ) → (m : ℕ) → List ℕ → Bool
+rising-from num m [] = true
+rising-from num m (x ∷ xs) = leb m (num x) && rising-from num (num x) xs
+
+-- ---- what the functions of the check come back with
+
+-- every entry is below k
+abbrev pub Entries-below : (k : ℕ) → List ℕ → Type 0
+Entries-below k xs = (i : ℕ) → i < length xs → getD xs i 0 < k
+
+-- whether each radio stands once in the order, and then the places
+pub record Placing (order before after : List ℕ) (r : Bool) : Type 0 where
+  pub answer : r ≡ each-once (length order) order
+  pub placed : r ≡ true → Placed (length order) order after
+  pub long : length after ≡ length before
+
+-- whether the radios xs are good ends of a, and then how many are later and how many are not below
+pub record Ends-counted (n : ℕ) (links numbers places : List ℕ) (a : ℕ) (xs : List ℕ) (good : Bool) (later high : ℕ) : Type 0 where
+  pub answer : good ≡ ends-good n links a xs
+  pub later-is : good ≡ true → later ≡ later-count places a xs
+  pub high-is : good ≡ true → high ≡ high-count numbers a xs

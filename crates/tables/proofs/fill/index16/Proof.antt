@@ -1,0 +1,58 @@
+-- `fill::index16` meets its contract: 16-bit entries being written, each its own index. The measure is what is left of d.
+use Prim.Native.Nat.{ℕ, _-_}
+use native.Mathlib.Omega.{arith}
+use borrow.Author.Needs.{needs}
+use lib.ListN.{length}
+use Rattle.tables.proofs.WidthLaws.{Writing, writing-none, writing-turn, writing-all}
+use mathlib.Core.Path.{refl}
+use Rattle.tables.proofs.fill.index16.Statement.{statement}
+use Rattle.tables.proofs.fill.index16.Tie as tie
+
+abbrev Inv-loop : tie.InvT-loop
+Inv-loop d₀ i₀ d i = Writing 16 (λ (j : ℕ). j) d₀ d i
+
+abbrev μ-loop : tie.MeasureT-loop
+μ-loop d₀ i₀ d i = length d₀ - i
+
+loop-holds : tie.Need-loop-holds Inv-loop μ-loop
+loop-holds c = writing-none 16 _ _
+
+cast-d : tie.Need-cast-d Inv-loop μ-loop
+cast-d c = search needs
+
+mul-d : tie.Need-mul-d Inv-loop μ-loop
+mul-d c = search needs
+
+slice-write-d : tie.Need-slice-write-d Inv-loop μ-loop
+slice-write-d c = search needs
+
+add-i : tie.Need-add-i Inv-loop μ-loop
+add-i c = search needs
+
+loop-less : tie.Need-loop-less Inv-loop μ-loop
+loop-less c = search needs
+
+loop-again : tie.Need-loop-again Inv-loop μ-loop
+loop-again c = writing-turn 16 _ _ _ _ _ (c .before .loop .inv) (omega arith) refl
+
+same-length : tie.Need-same-length Inv-loop μ-loop
+same-length c = c .before .loop .inv .long
+
+returns : tie.Need-returns Inv-loop μ-loop
+returns c = writing-all 16 _ _ _ _ (c .before .loop .inv) (omega arith)
+
+pub index16-spec : {M : Type 1} → statement M
+index16-spec =
+    tie.close
+    (tie.spec
+    Inv-loop
+    μ-loop
+    loop-holds
+    cast-d
+    mul-d
+    slice-write-d
+    add-i
+    loop-less
+    loop-again
+    same-length
+    returns)

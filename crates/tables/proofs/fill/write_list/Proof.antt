@@ -1,0 +1,36 @@
+-- `fill::write_list` meets its contract: what it copies is the part of the list that has at most k entries.
+use mathlib.Core.Path.{sym, ap, _∙_}
+use mathlib.Core.List.{List}
+use Prim.Native.Nat.{ℕ}
+use native.Mathlib.Omega.{arith}
+use borrow.Author.Needs.{needs}
+use lib.ListN.{length, take}
+use lib.Seq.{length-take-le}
+use Rattle.mesh.specs.Lists.{overwrite}
+use Rattle.tables.proofs.WidthLaws.{take-min}
+use Rattle.tables.proofs.fill.write_list.Statement.{statement}
+use Rattle.tables.proofs.fill.write_list.Tie as tie
+
+least-requires : tie.Need-least-requires
+least-requires c κs = search needs
+
+slice-aggregate-copy16 : tie.Need-slice-aggregate-copy16
+slice-aggregate-copy16 c = sym (length-take-le (c .before .before .least .result) _ (omega arith))
+
+copy16-requires : tie.Need-copy16-requires
+copy16-requires c κs = search needs
+
+same-length : tie.Need-same-length
+same-length c = search needs
+
+returns : tie.Need-returns
+returns c =
+    let s = c .before .before .before .before .before .before .before .before .args in
+    let d = s .d .now in
+    let list = s .s .now in
+    c .before .before .copy16 .ensures
+    ∙ ap (λ (t : List ℕ). overwrite (take (length d) t) d)
+    (ap (λ (n : ℕ). take n list) (c .before .before .before .before .before .least .ensures) ∙ take-min (s .k) list)
+
+pub write-list-spec : {M : Type 1} → statement M
+write-list-spec = tie.close (tie.spec least-requires slice-aggregate-copy16 copy16-requires same-length returns)

@@ -1,0 +1,96 @@
+// The soundness check: document 01's local conditions, decided for any content of tables of the right lengths. An entry is
+// tested before it is used as an index.
+ghost use mathlib.Core.Path.{_≡_};
+ghost use Prim.Native.Nat.{_≤_, _<_};
+ghost use lib.ListN.{length, take};
+ghost use Rattle.mesh.specs.Limits.{max-radios};
+ghost use Rattle.mesh.specs.Orders.{rising};
+ghost use Rattle.mesh.specs.Sound.{number-in};
+ghost use Rattle.tables.specs.Checks.{Entries-below, Placing, Ends-counted};
+
+// A place that no entry of the order has.
+const NOWHERE: u16 = 65535;
+
+// Writes the place of each radio into `places`. Comes back with whether the order holds each radio below its length once;
+// where it does not, `places` holds anything.
+fn place(order: &[u16], places: &mut [u16]) -> bool
+    requires { ⌜ (length (now order) ≤ length (now places)) × (length (now order) ≤ max-radios) ⌝ }
+    ensures { λ r. ⌜ Placing (now (order .entry)) (now (places .entry)) (now (places .exit)) r ⌝ }
+{
+    crate::fill::fill16(places, NOWHERE);
+    let mut i: usize = 0;
+    while i < order.len() {
+        let v = order[i] as usize;
+        if order.len() <= v {
+            return false;
+        }
+        if places[v] != NOWHERE {
+            return false;
+        }
+        places[v] = i as u16;
+        i += 1;
+    }
+    true
+}
+
+// Whether the numbers never fall along the order.
+fn rises(numbers: &[u8], order: &[u16]) -> bool
+    requires { ⌜ Entries-below (length (now numbers)) (now order) ⌝ }
+    ensures { λ r. ⌜ r ≡ rising (number-in (now (numbers .entry))) (now (order .entry)) ⌝ }
+{
+    let mut last: u8 = 0;
+    let mut i: usize = 0;
+    while i < order.len() {
+        let v = order[i] as usize;
+        let x = numbers[v];
+        if x < last {
+            return false;
+        }
+        last = x;
+        i += 1;
+    }
+    true
+}
+
+struct Ends {
+    good: bool,
+    later: u32,
+    high: u32,
+}
+
+// Whether the first k listed radios are below n, are not a, and mark a too; how many of them stand later in the order than a,
+// and how many have a number that is not below that of a.
+fn count_ends<'a>(links: &'a [u8], numbers: &'a [u8], places: &'a [u16], list: &'a [u16], k: usize, n: usize, a: usize) -> Ends
+    requires { ⌜ (k ≤ length (now list)) × (k ≤ max-radios) × (n ≤ length (now numbers)) × (n ≤ length (now places)) × (a < n) × (n ≤ max-radios) ⌝ }
+    ensures { λ r. ⌜ Ends-counted n (now (links .entry)) (now (numbers .entry)) (now (places .entry)) a (take k (now (list .entry))) (r .good) (r .later) (r .high) ⌝ }
+{
+    let place = places[a];
+    let number = numbers[a];
+    let mut later: u32 = 0;
+    let mut high: u32 = 0;
+    let mut i: usize = 0;
+    while i < k {
+        let b = list[i] as usize;
+        if n <= b {
+            return Ends { good: false, later: 0, high: 0 };
+        }
+        if b == a {
+            return Ends { good: false, later: 0, high: 0 };
+        }
+        if !crate::rows::is_marked(links, b as u32, a as u32) {
+            return Ends { good: false, later: 0, high: 0 };
+        }
+        if place < places[b] {
+            later += 1;
+        }
+        if number <= numbers[b] {
+            high += 1;
+        }
+        i += 1;
+    }
+    Ends {
+        good: true,
+        later,
+        high,
+    }
+}

@@ -1,0 +1,110 @@
+// Tables of both widths, the 8-bit numbers and the 16-bit lists: filled, copied, compared, and lists written in front.
+// Nothing is refused: of what does not fit, as much is written as fits.
+ghost use mathlib.Core.Path.{_≡_};
+ghost use Prim.Native.Nat.{ℕ, min};
+ghost use lib.ListN.{length, take, replicate};
+ghost use Rattle.mesh.specs.Lists.{same, overwrite};
+ghost use Rattle.tables.specs.Widths.{values};
+
+// The smaller of two lengths.
+fn least(a: usize, b: usize) -> usize
+    ensures { λ r. ⌜ r ≡ min a b ⌝ }
+{
+    if a < b { a } else { b }
+}
+
+// Every entry of d is x after.
+pub fn fill8(d: &mut [u8], x: u8)
+    ensures { λ _. ⌜ now (d .exit) ≡ replicate (length (now (d .entry))) x ⌝ }
+{
+    let mut i: usize = 0;
+    while i < d.len() {
+        d[i] = x;
+        i += 1;
+    }
+}
+
+pub fn fill16(d: &mut [u16], x: u16)
+    ensures { λ _. ⌜ now (d .exit) ≡ replicate (length (now (d .entry))) x ⌝ }
+{
+    let mut i: usize = 0;
+    while i < d.len() {
+        d[i] = x;
+        i += 1;
+    }
+}
+
+// Entry i of d is i mod 65536 after: to 65536 entries, the numbers from 0 up.
+pub fn index16(d: &mut [u16])
+    ensures { λ _. ⌜ now (d .exit) ≡ values 16 (λ (i : ℕ). i) (length (now (d .entry))) ⌝ }
+{
+    let mut i: usize = 0;
+    while i < d.len() {
+        d[i] = (i % 65536) as u16;
+        i += 1;
+    }
+}
+
+// The entries of s stand in front of d after, as many as fit; later entries of d keep their content.
+pub fn copy8(d: &mut [u8], s: &[u8])
+    ensures { λ _. ⌜ now (d .exit) ≡ overwrite (take (length (now (d .entry))) (now (s .entry))) (now (d .entry)) ⌝ }
+{
+    let k = least(d.len(), s.len());
+    let mut i: usize = 0;
+    while i < k {
+        d[i] = s[i];
+        i += 1;
+    }
+}
+
+pub fn copy16(d: &mut [u16], s: &[u16])
+    ensures { λ _. ⌜ now (d .exit) ≡ overwrite (take (length (now (d .entry))) (now (s .entry))) (now (d .entry)) ⌝ }
+{
+    let k = least(d.len(), s.len());
+    let mut i: usize = 0;
+    while i < k {
+        d[i] = s[i];
+        i += 1;
+    }
+}
+
+// Whether both tables have the same entries. It stops at the first difference.
+pub fn same8(a: &[u8], b: &[u8]) -> bool
+    ensures { λ r. ⌜ r ≡ same (now (a .entry)) (now (b .entry)) ⌝ }
+{
+    if a.len() != b.len() {
+        return false;
+    }
+    let mut i: usize = 0;
+    while i < a.len() {
+        if a[i] != b[i] {
+            return false;
+        }
+        i += 1;
+    }
+    true
+}
+
+pub fn same16(a: &[u16], b: &[u16]) -> bool
+    ensures { λ r. ⌜ r ≡ same (now (a .entry)) (now (b .entry)) ⌝ }
+{
+    if a.len() != b.len() {
+        return false;
+    }
+    let mut i: usize = 0;
+    while i < a.len() {
+        if a[i] != b[i] {
+            return false;
+        }
+        i += 1;
+    }
+    true
+}
+
+// The first k entries of s stand in front of d after, as many as there are and fit; later entries of d keep their content.
+pub fn write_list(d: &mut [u16], s: &[u16], k: u32)
+    ensures { λ _. ⌜ now (d .exit) ≡ overwrite (take (length (now (d .entry))) (take k (now (s .entry)))) (now (d .entry)) ⌝ }
+{
+    let m = least(k as usize, s.len());
+    copy16(d, &s[..m]);
+}

@@ -1,0 +1,73 @@
+// Questions 1 and 2 for every combination of tables that a public call takes. Tables come as their lengths, which may be any;
+// what comes back is the refusal number so far: 1, 2, or 0 when both questions got yes.
+ghost use mathlib.Core.Path.{_≡_};
+ghost use mathlib.Core.Bool.{_&&_};
+ghost use Rattle.calls.specs.Questions.{size-good, site-lengths, answer-length, nodes-length, tables-refusal, lent-refusal};
+ghost use Rattle.tables.specs.Sizes.{lengths};
+use mesh::Site;
+
+// Question 1: has the site 1 to 512 radios?
+fn is_size(site: Site) -> bool
+    ensures { λ r. ⌜ r ≡ size-good (site .radios) ⌝ }
+{
+    let n = site.radios;
+    if n < 1 {
+        return false;
+    }
+    n <= Site::RADIOS
+}
+
+// Question 2 of links, numbers and order.
+fn are_lengths(site: Site, links: usize, numbers: usize, order: usize) -> bool
+    ensures { λ r. ⌜ r ≡ site-lengths (site .radios) (lengths links numbers order) ⌝ }
+{
+    let n = site.radios as usize;
+    if links != Site::ROW_BYTES * n {
+        return false;
+    }
+    if numbers != n {
+        return false;
+    }
+    order == n
+}
+
+// The number of questions 1 and 2, where `others` is the answer that 2 gets for further tables.
+fn lent(site: Site, links: usize, numbers: usize, order: usize, others: bool) -> u32
+    ensures { λ r. ⌜ r ≡ lent-refusal (site .radios) (lengths links numbers order) others 0 ⌝ }
+{
+    if !is_size(site) {
+        return 1;
+    }
+    if !are_lengths(site, links, numbers, order) {
+        return 2;
+    }
+    if !others {
+        return 2;
+    }
+    0
+}
+
+// Links, numbers and order.
+pub fn of_tables(site: Site, links: usize, numbers: usize, order: usize) -> u32
+    ensures { λ r. ⌜ r ≡ tables-refusal (site .radios) (lengths links numbers order) ⌝ }
+{
+    lent(site, links, numbers, order, true)
+}
+
+// Links, numbers, order and the answer table.
+pub fn with_answer(site: Site, links: usize, numbers: usize, order: usize, answer: usize) -> u32
+    ensures { λ r. ⌜ r ≡ lent-refusal (site .radios) (lengths links numbers order) (answer-length (site .radios) answer) 0 ⌝ }
+{
+    lent(site, links, numbers, order, site.radios as usize <= answer)
+}
+
+// Links, numbers, order, the list of nodes and the answer table.
+pub fn with_nodes(site: Site, links: usize, numbers: usize, order: usize, nodes: usize, answer: usize) -> u32
+    ensures { λ r. ⌜ r ≡ lent-refusal (site .radios) (lengths links numbers order) (nodes-length (site .radios) nodes && answer-length (site .radios) answer) 0 ⌝ }
+{
+    let n = site.radios as usize;
+    if nodes <= n {
+        return lent(site, links, numbers, order, false);
+    }
+    lent(site, links, numbers, order, n <= answer)
+}
