@@ -1,4 +1,15 @@
+-- Laws of leaf code on lent tables.
+-- one bit by shift and mask
 pub mod MaskLaws
+-- words of eight bytes, and their set bits
 pub mod WordLaws
+-- a list written from the front: what is left gives what the whole gives
+pub mod Listing
+-- the neighbours that a row marks, as a list: for callers
+pub mod RowListLaws
+-- a row word by word
+pub mod RowWords
+-- tables of both widths
 pub mod WidthLaws
+-- soundness row by row
 pub mod CheckLaws
