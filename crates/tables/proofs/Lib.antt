@@ -11,5 +11,7 @@ pub mod RowListLaws
 pub mod RowWords
 -- tables of both widths
 pub mod WidthLaws
+-- the signed step
+pub mod StepLaws
 -- soundness row by row
 pub mod CheckLaws

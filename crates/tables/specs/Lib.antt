@@ -2,4 +2,5 @@
 pub mod Rows
 pub mod Widths
 pub mod Sizes
+pub mod Steps
 pub mod Checks

@@ -7,7 +7,7 @@ ghost use Rattle.mesh.specs.Lists.{same, overwrite};
 ghost use Rattle.tables.specs.Widths.{values};
 
 // The smaller of two lengths.
-fn least(a: usize, b: usize) -> usize
+pub fn least(a: usize, b: usize) -> usize
     ensures { λ r. ⌜ r ≡ min a b ⌝ }
 {
     if a < b { a } else { b }

@@ -4,4 +4,5 @@
 pub mod rows;
 pub mod fill;
 pub mod sizes;
+pub mod steps;
 pub mod check;

@@ -1,0 +1,20 @@
+-- The step of a link call, a signed number, added to numbers of one byte.
+--   stepped x z            the number x with the step z added: 0 where it would fall below 0, 255 where it would go above
+--   step-at v z ns         the numbers ns with that of radio v stepped; as they are where there is no radio v
+--   all-stepped vs z ns    the same for each radio of the list vs, one after the other
+-- Laws are in proofs/StepLaws.antt. Definitions only.
+use mathlib.Core.List.{List, [], _∷_}
+use Prim.Native.Nat.{ℕ, suc, _+_, _-_, min}
+use lib.IntN.{ℤ, pos, negsuc}
+use lib.ListN.{getD, set}
+
+unfoldable pub stepped : (x : ℕ) → (step : ℤ) → ℕ
+stepped x (pos k) = min 255 (x + k)
+stepped x (negsuc k) = x - suc k
+
+unfoldable pub step-at : (v : ℕ) → (step : ℤ) → (numbers : List ℕ) → List ℕ
+step-at v z ns = set ns v (stepped (getD ns v 0) z)
+
+unfoldable pub all-stepped : (radios : List ℕ) → (step : ℤ) → (numbers : List ℕ) → List ℕ
+all-stepped [] z ns = ns
+all-stepped (v ∷ vs) z ns = all-stepped vs z (step-at v z ns)
