@@ -13,5 +13,7 @@ pub mod RowWords
 pub mod WidthLaws
 -- the signed step
 pub mod StepLaws
+-- the loops of the check
+pub mod CheckLoops
 -- soundness row by row
 pub mod CheckLaws

@@ -1,53 +1,55 @@
+-- `check::rises` meets its contract: what is left of the order, from the last number on, rises exactly when all of it does.
+-- The measure is what is left of the order.
+use mathlib.Core.Path.{sym}
+use Prim.Native.Nat.{_-_}
+use native.Mathlib.Omega.{arith}
+use borrow.Author.Needs.{needs}
+use lib.ListN.{length}
+use Rattle.mesh.specs.Sound.{number-in}
+use Rattle.tables.proofs.CheckLoops.{Rising-so-far, rising-none, rising-turn, rising-falls, rising-end}
 use Rattle.tables.proofs.check.rises.Statement.{statement}
 use Rattle.tables.proofs.check.rises.Tie as tie
-use Rattle.tables.proofs.check.rises.Reads as reads
-use Rattle.tables.proofs.check.rises.Lts as lts
 
 abbrev Inv-loop : tie.InvT-loop
-Inv-loop numbers order last₀ i₀ last i = ?
+Inv-loop numbers order last₀ i₀ last i = Rising-so-far (number-in numbers) order last i
 
 abbrev μ-loop : tie.MeasureT-loop
-μ-loop numbers order last₀ i₀ last i = ?
+μ-loop numbers order last₀ i₀ last i = length order - i
 
--- src/check.rt:43:5
 loop-holds : tie.Need-loop-holds Inv-loop μ-loop
-loop-holds c = ?
+loop-holds c = rising-none
 
--- src/check.rt:44:17
 mul-v : tie.Need-mul-v Inv-loop μ-loop
-mul-v c = ?
+mul-v c = search needs
 
--- src/check.rt:44:17
 shared-slice-read-v : tie.Need-shared-slice-read-v Inv-loop μ-loop
-shared-slice-read-v c = ?
+shared-slice-read-v c = search needs
 
--- src/check.rt:44:17
 cast-v : tie.Need-cast-v Inv-loop μ-loop
-cast-v c = ?
+cast-v c = omega (arith, c .shared-slice-known .given (c .before .before .loop .i))
 
--- src/check.rt:45:17
 shared-slice-read-x : tie.Need-shared-slice-read-x Inv-loop μ-loop
-shared-slice-read-x c = ?
+shared-slice-read-x c =
+    let at-loop = c .before .before .before in at-loop .before .pre (at-loop .loop .i) (omega arith)
 
--- src/check.rt:47:13
 returns : tie.Need-returns Inv-loop μ-loop
-returns c = ?
+returns c =
+    let at-loop = c .before .before .before .before in
+    sym (rising-falls (at-loop .loop .last) (at-loop .loop .i) (omega arith) (omega arith) (at-loop .loop .inv))
 
--- src/check.rt:50:9
 add-i : tie.Need-add-i Inv-loop μ-loop
-add-i c = ?
+add-i c = search needs
 
--- src/check.rt:43:5
 loop-less : tie.Need-loop-less Inv-loop μ-loop
-loop-less c = ?
+loop-less c = search needs
 
--- src/check.rt:43:5
 loop-again : tie.Need-loop-again Inv-loop μ-loop
-loop-again c = ?
+loop-again c =
+    let at-loop = c .before .before .before .before in
+    rising-turn (at-loop .loop .last) (at-loop .loop .i) (omega arith) (omega arith) (at-loop .loop .inv)
 
--- src/check.rt:37:1
 returns-2 : tie.Need-returns-2 Inv-loop μ-loop
-returns-2 c = ?
+returns-2 c = sym (rising-end (c .before .loop .last) (c .before .loop .i) (omega arith) (c .before .loop .inv))
 
 pub rises-spec : {M : Type 1} → statement M
 rises-spec =
