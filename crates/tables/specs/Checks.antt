@@ -52,6 +52,10 @@ rising-from num m (x ∷ xs) = leb m (num x) && rising-from num (num x) xs
 abbrev pub Entries-below : (k : ℕ) → List ℕ → Type 0
 Entries-below k xs = (i : ℕ) → i < length xs → getD xs i 0 < k
 
+-- a place that no entry of an order has
+abbrev pub nowhere : ℕ
+nowhere = 65535
+
 -- whether each radio stands once in the order, and then the places
 pub record Placing (order before after : List ℕ) (r : Bool) : Type 0 where
   pub answer : r ≡ each-once (length order) order
