@@ -15,5 +15,7 @@ pub mod WidthLaws
 pub mod StepLaws
 -- the loops of the check
 pub mod CheckLoops
+-- one row of the check, and all rows
+pub mod RowChecks
 -- soundness row by row
 pub mod CheckLaws

@@ -67,3 +67,12 @@ pub record Ends-counted (n : ℕ) (links numbers places : List ℕ) (a : ℕ) (x
   pub answer : good ≡ ends-good n links a xs
   pub later-is : good ≡ true → later ≡ later-count places a xs
   pub high-is : good ≡ true → high ≡ high-count numbers a xs
+
+-- what counting the ends of a row wants of the lengths of the tables it reads
+pub record Ends-room (n a k numbers places list : ℕ) : Type 0 where
+  pub listed : k ≤ list
+  pub few : k ≤ max-radios
+  pub numbered : n ≤ numbers
+  pub placed : n ≤ places
+  pub radio : a < n
+  pub small : n ≤ max-radios

@@ -6,7 +6,7 @@ ghost use lib.ListN.{length, take};
 ghost use Rattle.mesh.specs.Limits.{max-radios};
 ghost use Rattle.mesh.specs.Orders.{rising};
 ghost use Rattle.mesh.specs.Sound.{number-in};
-ghost use Rattle.tables.specs.Checks.{Entries-below, Placing, Ends-counted};
+ghost use Rattle.tables.specs.Checks.{Entries-below, Placing, Ends-room, Ends-counted};
 
 // A place that no entry of the order has.
 const NOWHERE: u16 = 65535;
@@ -61,7 +61,7 @@ struct Ends {
 // Whether the first k listed radios are below n, are not a, and mark a too; how many of them stand later in the order than a,
 // and how many have a number that is not below that of a.
 fn count_ends<'a>(links: &'a [u8], numbers: &'a [u8], places: &'a [u16], list: &'a [u16], k: usize, n: usize, a: usize) -> Ends
-    requires { ⌜ (k ≤ length (now list)) × (k ≤ max-radios) × (n ≤ length (now numbers)) × (n ≤ length (now places)) × (a < n) × (n ≤ max-radios) ⌝ }
+    requires { ⌜ Ends-room n a k (length (now numbers)) (length (now places)) (length (now list)) ⌝ }
     ensures { λ r. ⌜ Ends-counted n (now (links .entry)) (now (numbers .entry)) (now (places .entry)) a (take k (now (list .entry))) (r .good) (r .later) (r .high) ⌝ }
 {
     let place = places[a];
@@ -80,12 +80,8 @@ fn count_ends<'a>(links: &'a [u8], numbers: &'a [u8], places: &'a [u16], list: &
         if !crate::rows::is_marked(links, b as u32, a as u32) {
             return Ends { good: false, later: 0, high: 0 };
         }
-        if place < places[b] {
-            later += 1;
-        }
-        if number <= numbers[b] {
-            high += 1;
-        }
+        later += (place < places[b]) as u32;
+        high += (number <= numbers[b]) as u32;
         i += 1;
     }
     Ends {
