@@ -157,7 +157,7 @@ module _ (most n : ℕ) (t : Tables) (places : List ℕ) (small : n ≤ max-radi
   abbrev end-good : (a b : ℕ) → Bool
   end-good a b = ltb b n && (not (eqb b a) && marked ts b a)
 
-  good-of : (a : ℕ) → row-good most n t places a ≡ true → Good a
+  good-of : (a : ℕ) → row-good most n (t .links) (t .numbers) places a ≡ true → Good a
   unfolding row-good ends-good
   good-of a h =
       let xs = neighbours-of ts a in
@@ -179,7 +179,7 @@ module _ (most n : ℕ) (t : Tables) (places : List ℕ) (small : n ≤ max-radi
         high = leb-true (num a) (high-count (t .numbers) a xs) (and-right r s h2);
       }
 
-  of-good : (a : ℕ) → Good a → row-good most n t places a ≡ true
+  of-good : (a : ℕ) → Good a → row-good most n (t .links) (t .numbers) places a ≡ true
   unfolding row-good ends-good
   of-good a g =
       let xs = neighbours-of ts a in
@@ -204,10 +204,10 @@ module _ (most n : ℕ) (t : Tables) (places : List ℕ) (small : n ≤ max-radi
   -- ---- all rows
 
   abbrev rows : Bool
-  rows = all (row-good most n t places) (range 0 n)
+  rows = all (row-good most n (t .links) (t .numbers) places) (range 0 n)
 
   rows-good : rows ≡ true → (a : ℕ) → a < n → Good a
-  rows-good h a l = good-of a (all-below (row-good most n t places) n h a l)
+  rows-good h a l = good-of a (all-below (row-good most n (t .links) (t .numbers) places) n h a l)
 
   good-proper : ((a : ℕ) → a < n → Good a) → rows-proper most n ts ≡ true
   unfolding rows-proper
@@ -297,7 +297,7 @@ module _ (most n : ℕ) (t : Tables) (places : List ℕ) (small : n ≤ max-radi
           let h2 = and-right o (r && (f && e)) h1 in
           let h3 = and-right r (f && e) h2 in
           and-both r rows (and-left r (f && e) h2)
-          (below-all (row-good most n t places) n (λ a l. of-good a (good-row (and-left p (o && (r && (f && e))) h) (and-left f e h3) (and-right f e h3) a l)))
+          (below-all (row-good most n (t .links) (t .numbers) places) n (λ a l. of-good a (good-row (and-left p (o && (r && (f && e))) h) (and-left f e h3) (and-right f e h3) a l)))
 
       from : (r && rows) ≡ true → sound-within most n t ≡ true
       from h =

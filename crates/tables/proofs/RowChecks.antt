@@ -2,21 +2,23 @@
 use mathlib.Core.Path.{_≡_, refl, sym, ap, _∙_}
 use mathlib.Core.Bool.{Bool, true, false, _&&_, not, cond}
 use mathlib.Core.List.{List, [], _∷_}
-use Prim.Native.Nat.{ℕ, zero, suc, _+_, _≤_, _<_}
+use Prim.Native.Nat.{ℕ, zero, suc, _+_, _*_, _≤_, _<_}
 use native.Mathlib.Omega.{arith}
 use native.Mathlib.Numerals.{add-one}
 use mir.Syntax.{w32}
 use mir.Val.{boolByte, Fits}
 use lib.Dec.{ltb, leb, eqb}
 use lib.ListN.{length, getD, take, drop}
-use lib.Seq.{drop-cons, drop-length, getD-take, length-take-le}
-use borrow.Author.Tests.{lt-ltb, le-ltb, eq-eqb, ne-eqb}
-use Rattle.mesh.specs.Limits.{max-radios}
-use Rattle.mesh.specs.Lists.{count, all}
+use lib.Seq.{drop-cons, drop-length, getD-take, take-all, length-take-le}
+use borrow.Author.Tests.{lt-ltb, le-ltb, le-leb, lt-leb, eq-eqb, ne-eqb}
+use Rattle.mesh.specs.Limits.{max-radios, max-neighbours, row-bytes}
+use Rattle.mesh.specs.Lists.{count, all, overwrite}
 use Rattle.mesh.specs.Tables.{marked}
 use Rattle.mesh.specs.Sound.{number-in}
 use Rattle.mesh.proofs.BoolLaws.{never, bit-one}
-use Rattle.tables.specs.Checks.{later-count, high-count, ends-good, Ends-counted}
+use Rattle.mesh.proofs.ListLaws.{count-le-length, take-overwrite}
+use Rattle.tables.specs.Rows.{neighbours-of, row-listed}
+use Rattle.tables.specs.Checks.{later-count, high-count, ends-good, row-good, Ends-counted, Rows-room, Row-checked}
 
 -- a test as a number
 byte-bit : (t : Bool) → boolByte t ≡ cond {A = ℕ} t 1 0
@@ -120,4 +122,77 @@ module _ (n : ℕ) (links numbers places : List ℕ) (a : ℕ) (list : List ℕ)
         answer = rw e at (s .good);
         later-is = λ _. let z = rw e at (s .later-is) in omega (arith, z);
         high-is = λ _. let z = rw e at (s .high-is) in omega (arith, z);
+      }
+
+-- ---- one row
+
+row-listed-whole : (links : List ℕ) (a : ℕ) → row-bytes * a + row-bytes ≤ length links → row-listed links a ≡ neighbours-of links a
+unfolding row-listed
+row-listed-whole links a l = rw (le-leb (row-bytes * a + row-bytes) (length links) l)
+
+module _ (n : ℕ) (links numbers places : List ℕ) (a : ℕ) (list after : List ℕ) (k : ℕ)
+    (room : Rows-room n (length links) (length numbers) (length places) (length list)) (radio : a < n)
+    (counted : k ≡ length (row-listed links a)) (listed : after ≡ overwrite (take (length list) (row-listed links a)) list) where
+  abbrev near : List ℕ
+  near = neighbours-of links a
+
+  whole : row-listed links a ≡ near
+  whole = row-listed-whole links a (omega (arith, room .linked))
+
+  k-is : k ≡ length near
+  k-is = rw whole at counted
+
+  row-bad : row-good max-neighbours n links numbers places a ≡ false → Row-checked n links numbers places a false 0
+  row-bad e = record { answer = sym e; high-is = λ f. never false f refl; few = omega arith }
+
+  pub row-many : max-neighbours < k → Row-checked n links numbers places a false 0
+  unfolding row-good
+  row-many l = row-bad (rw (lt-leb (length near) max-neighbours (omega (arith, k-is))))
+
+  module _ (few : k ≤ max-neighbours) (good : Bool) (later high : ℕ) (ends : Ends-counted n links numbers places a (take k after) good later high) where
+    short : leb (length near) max-neighbours ≡ true
+    short = le-leb (length near) max-neighbours (omega (arith, k-is))
+
+    -- what is listed are the neighbours
+    near-is : take k after ≡ near
+    near-is =
+        let fits : length near ≤ length list = omega (arith, k-is, room .listed) in
+        ap (take k) (listed ∙ ap (λ (xs : List ℕ). overwrite (take (length list) xs) list) whole ∙ ap (λ (xs : List ℕ). overwrite xs list) (take-all (length list) near fits))
+        ∙ ap (λ (j : ℕ). take j (overwrite near list)) k-is ∙ take-overwrite near list
+
+    ends-are : Ends-counted n links numbers places a near good later high
+    ends-are = rw near-is at ends
+
+    pub row-ends-bad : good ≡ false → Row-checked n links numbers places a false 0
+    unfolding row-good
+    row-ends-bad e = row-bad (rw (short, sym (ends-are .answer) ∙ e))
+
+    module _ (g : good ≡ true) where
+      ends-good-are : ends-good n links a near ≡ true
+      ends-good-are = sym (ends-are .answer) ∙ g
+
+      pub row-later-bad : number-in numbers a < later → Row-checked n links numbers places a false 0
+      unfolding row-good
+      row-later-bad l = row-bad (rw (short, ends-good-are, lt-leb (later-count places a near) (number-in numbers a) (omega (arith, ends-are .later-is g))))
+
+      pub row-high-bad : later ≤ number-in numbers a → high < number-in numbers a → Row-checked n links numbers places a false 0
+      unfolding row-good
+      row-high-bad l h = row-bad (rw (
+        short,
+        ends-good-are,
+        le-leb (later-count places a near) (number-in numbers a) (omega (arith, ends-are .later-is g)),
+        lt-leb (number-in numbers a) (high-count numbers a near) (omega (arith, ends-are .high-is g)),
+      ))
+
+      pub row-right : later ≤ number-in numbers a → number-in numbers a ≤ high → Row-checked n links numbers places a true high
+      unfolding row-good high-count
+      row-right l h = record {
+        answer = sym (rw (
+          short,
+          ends-good-are,
+          le-leb (later-count places a near) (number-in numbers a) (omega (arith, ends-are .later-is g)),
+          le-leb (number-in numbers a) (high-count numbers a near) (omega (arith, ends-are .high-is g)),
+        ));
+        high-is = λ _. ends-are .high-is g;
+        few = omega (arith, ends-are .high-is g, count-le-length (λ b. leb (number-in numbers a) (number-in numbers b)) near, k-is);
       }

@@ -11,10 +11,10 @@
 use mathlib.Core.Path.{_≡_}
 use mathlib.Core.Bool.{Bool, true, _&&_, not}
 use mathlib.Core.List.{List, [], _∷_}
-use Prim.Native.Nat.{ℕ, _≤_, _<_}
+use Prim.Native.Nat.{ℕ, _*_, _≤_, _<_}
 use lib.Dec.{ltb, leb, eqb}
 use lib.ListN.{length, getD}
-use Rattle.mesh.specs.Limits.{max-radios, max-neighbours}
+use Rattle.mesh.specs.Limits.{max-radios, max-neighbours, row-bytes}
 use Rattle.mesh.specs.Lists.{range, count, all}
 use Rattle.mesh.specs.Orders.{each-once}
 use Rattle.mesh.specs.Tables.{Tables, marked}
@@ -34,12 +34,11 @@ high-count ns a xs = count (λ b. leb (number-in ns a) (number-in ns b)) xs
 unfoldable pub ends-good : (n : ℕ) → (links : List ℕ) → (a : ℕ) → (radios : List ℕ) → Bool
 ends-good n ts a xs = all (λ b. ltb b n && (not (eqb b a) && marked ts b a)) xs
 
-unfoldable pub row-good : (most n : ℕ) → Tables → (places : List ℕ) → (a : ℕ) → Bool
-row-good most n t ps a =
-    let xs = neighbours-of (t .links) a in
+unfoldable pub row-good : (most n : ℕ) → (links numbers places : List ℕ) → (a : ℕ) → Bool
+row-good most n ts ns ps a =
+    let xs = neighbours-of ts a in
     leb (length xs) most
-    && (ends-good n (t .links) a xs
-    && (leb (later-count ps a xs) (number-in (t .numbers) a) && leb (number-in (t .numbers) a) (high-count (t .numbers) a xs)))
+    && (ends-good n ts a xs && (leb (later-count ps a xs) (number-in ns a) && leb (number-in ns a) (high-count ns a xs)))
 
 -- `true` of an empty list whatever m
 unfoldable pub rising-from : (num : ℕ → ℕ) → (m : ℕ) → List ℕ → Bool
@@ -76,3 +75,27 @@ pub record Ends-room (n a k numbers places list : ℕ) : Type 0 where
   pub placed : n ≤ places
   pub radio : a < n
   pub small : n ≤ max-radios
+
+-- what checking rows wants of the lengths of the tables that it reads and of its list
+pub record Rows-room (n links numbers places list : ℕ) : Type 0 where
+  pub linked : links ≡ row-bytes * n
+  pub numbered : n ≤ numbers
+  pub placed : n ≤ places
+  pub listed : max-neighbours ≤ list
+  pub small : n ≤ max-radios
+
+-- whether row a is good, and then the high count of a
+pub record Row-checked (n : ℕ) (links numbers places : List ℕ) (a : ℕ) (good : Bool) (high : ℕ) : Type 0 where
+  pub answer : good ≡ row-good max-neighbours n links numbers places a
+  pub high-is : good ≡ true → high ≡ high-count numbers a (neighbours-of links a)
+  pub few : high ≤ max-neighbours
+
+-- the table `highs` holds the high count of each radio
+pub record Highs (n : ℕ) (links numbers highs : List ℕ) : Type 0 where
+  pub at : (v : ℕ) → v < n → getD highs v 0 ≡ high-count numbers v (neighbours-of links v)
+
+-- whether all rows are good, and then the high counts
+pub record Rows-checked (n : ℕ) (links numbers places before after : List ℕ) (r : Bool) : Type 0 where
+  pub answer : r ≡ all (row-good max-neighbours n links numbers places) (range 0 n)
+  pub highs : r ≡ true → Highs n links numbers after
+  pub long : length after ≡ length before

@@ -6,7 +6,8 @@ ghost use lib.ListN.{length, take};
 ghost use Rattle.mesh.specs.Limits.{max-radios};
 ghost use Rattle.mesh.specs.Orders.{rising};
 ghost use Rattle.mesh.specs.Sound.{number-in};
-ghost use Rattle.tables.specs.Checks.{Entries-below, Placing, Ends-room, Ends-counted};
+ghost use Rattle.tables.specs.Checks.{Entries-below, Placing, Ends-room, Ends-counted, Rows-room, Row-checked, Rows-checked};
+use mesh::Site;
 
 // A place that no entry of the order has.
 const NOWHERE: u16 = 65535;
@@ -89,4 +90,33 @@ fn count_ends<'a>(links: &'a [u8], numbers: &'a [u8], places: &'a [u16], list: &
         later,
         high,
     }
+}
+
+struct Row {
+    good: bool,
+    high: u32,
+}
+
+// Whether document 01's conditions on radio a hold, and then how many of its neighbours have a number that is not below its
+// own. `list` holds anything after.
+fn row_checked<'a>(n: u32, links: &'a [u8], numbers: &'a [u8], places: &'a [u16], list: &mut [u16], a: u32) -> Row
+    requires { ⌜ Rows-room n (length (now links)) (length (now numbers)) (length (now places)) (length (now list)) × (a < n) ⌝ }
+    ensures { λ r. ⌜ Row-checked n (now (links .entry)) (now (numbers .entry)) (now (places .entry)) a (r .good) (r .high) ⌝ }
+{
+    let k = crate::rows::row_neighbours(links, a, list);
+    if Site::NEIGHBOURS < k {
+        return Row { good: false, high: 0 };
+    }
+    let ends = count_ends(links, numbers, places, list, k as usize, n as usize, a as usize);
+    if !ends.good {
+        return Row { good: false, high: 0 };
+    }
+    let number = numbers[a as usize] as u32;
+    if number < ends.later {
+        return Row { good: false, high: 0 };
+    }
+    if ends.high < number {
+        return Row { good: false, high: 0 };
+    }
+    Row { good: true, high: ends.high }
 }
