@@ -15,7 +15,9 @@ pub mod WidthLaws
 pub mod StepLaws
 -- the loops of the check
 pub mod CheckLoops
--- one row of the check, and all rows
+-- one row of the check
 pub mod RowChecks
+-- all rows of the check
+pub mod AllRows
 -- soundness row by row
 pub mod CheckLaws

@@ -1,4 +1,4 @@
--- One row of the check on plain values: the ends of a row counted, a row good or not, all rows.
+-- One row of the check on plain values: the ends of a row counted, a row good or not.
 use mathlib.Core.Path.{_≡_, refl, sym, ap, _∙_}
 use mathlib.Core.Bool.{Bool, true, false, _&&_, not, cond}
 use mathlib.Core.List.{List, [], _∷_}

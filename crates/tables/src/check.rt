@@ -120,3 +120,21 @@ fn row_checked<'a>(n: u32, links: &'a [u8], numbers: &'a [u8], places: &'a [u16]
     }
     Row { good: true, high: ends.high }
 }
+
+// Whether document 01's conditions hold of every radio below n, and then `highs` holds for each of them how many of its
+// neighbours have a number that is not below its own; else `highs` holds anything. `list` holds anything after.
+fn rows_checked<'a>(n: u32, links: &'a [u8], numbers: &'a [u8], places: &'a [u16], list: &mut [u16], highs: &mut [u8]) -> bool
+    requires { ⌜ Rows-room n (length (now links)) (length (now numbers)) (length (now places)) (length (now list)) × (n ≤ length (now highs)) ⌝ }
+    ensures { λ r. ⌜ Rows-checked n (now (links .entry)) (now (numbers .entry)) (now (places .entry)) (now (highs .entry)) (now (highs .exit)) r ⌝ }
+{
+    let mut a: u32 = 0;
+    while a < n {
+        let row = row_checked(n, links, numbers, places, list, a);
+        if !row.good {
+            return false;
+        }
+        highs[a as usize] = row.high as u8;
+        a += 1;
+    }
+    true
+}
