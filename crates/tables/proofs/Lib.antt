@@ -21,3 +21,5 @@ pub mod RowChecks
 pub mod AllRows
 -- soundness row by row
 pub mod CheckLaws
+-- the whole check
+pub mod ExamineLaws

@@ -11,7 +11,7 @@
 use mathlib.Core.Path.{_≡_}
 use mathlib.Core.Bool.{Bool, true, _&&_, not}
 use mathlib.Core.List.{List, [], _∷_}
-use Prim.Native.Nat.{ℕ, _*_, _≤_, _<_}
+use Prim.Native.Nat.{ℕ, _*_, _≤_, _<_, min}
 use lib.Dec.{ltb, leb, eqb}
 use lib.ListN.{length, getD}
 use Rattle.mesh.specs.Limits.{max-radios, max-neighbours, row-bytes}
@@ -19,6 +19,7 @@ use Rattle.mesh.specs.Lists.{range, count, all}
 use Rattle.mesh.specs.Orders.{each-once}
 use Rattle.mesh.specs.Tables.{Tables, marked}
 use Rattle.mesh.specs.Sound.{number-in, sound}
+use Rattle.calls.specs.Questions.{Lengths, lengths-of, size-good, site-lengths, answer-length}
 use Rattle.tables.specs.Rows.{neighbours-of}
 
 -- entry i of the order stands at place i
@@ -99,3 +100,16 @@ pub record Rows-checked (n : ℕ) (links numbers places before after : List ℕ)
   pub answer : r ≡ all (row-good max-neighbours n links numbers places) (range 0 n)
   pub highs : r ≡ true → Highs n links numbers after
   pub long : length after ≡ length before
+
+-- questions 1 and 2 get yes, and the tables of places and of high counts have an entry for each radio
+unfoldable pub examinable : (n : ℕ) → Lengths → (places highs : ℕ) → Bool
+examinable n l p h = size-good n && (site-lengths n l && answer-length n (min p h))
+
+-- whether the tables are sound, and then the places and the high counts; ps and hs are the tables of places and of high
+-- counts before, qs and is the same after
+pub record Examined (n : ℕ) (t : Tables) (ps qs hs is : List ℕ) (r : Bool) : Type 0 where
+  pub answer : r ≡ (examinable n (lengths-of t) (length ps) (length hs) && sound n t)
+  pub placed : r ≡ true → Placed n (t .order) qs
+  pub highs : r ≡ true → Highs n (t .links) (t .numbers) is
+  pub places-long : length qs ≡ length ps
+  pub highs-long : length is ≡ length hs

@@ -6,7 +6,9 @@ ghost use lib.ListN.{length, take};
 ghost use Rattle.mesh.specs.Limits.{max-radios};
 ghost use Rattle.mesh.specs.Orders.{rising};
 ghost use Rattle.mesh.specs.Sound.{number-in};
-ghost use Rattle.tables.specs.Checks.{Entries-below, Placing, Ends-room, Ends-counted, Rows-room, Row-checked, Rows-checked};
+ghost use Rattle.mesh.specs.Tables.{tables};
+ghost use Rattle.tables.specs.Sizes.{lengths};
+ghost use Rattle.tables.specs.Checks.{Entries-below, Placing, Ends-room, Ends-counted, Rows-room, Row-checked, Rows-checked, examinable, Examined};
 use mesh::Site;
 
 // A place that no entry of the order has.
@@ -137,4 +139,30 @@ fn rows_checked<'a>(n: u32, links: &'a [u8], numbers: &'a [u8], places: &'a [u16
         a += 1;
     }
     true
+}
+
+// Whether n is from 1 to 512, links, numbers and order have their lengths, and places and highs an entry for each radio.
+fn is_examinable(n: u32, links: usize, numbers: usize, order: usize, places: usize, highs: usize) -> bool
+    ensures { λ r. ⌜ r ≡ examinable n (lengths links numbers order) places highs ⌝ }
+{
+    crate::sizes::with_answer(Site { radios: n }, links, numbers, order, crate::fill::least(places, highs)) == 0
+}
+
+// Whether the tables are sound. Then `places` holds where each radio stands in the order, and `highs` how many of its
+// neighbours have a number that is not below its own; else both hold anything. Not where n is not from 1 to 512, a table has
+// another length than document 01 says, or `places` or `highs` has fewer than n entries.
+pub fn examine<'a>(n: u32, links: &'a [u8], numbers: &'a [u8], order: &'a [u16], places: &mut [u16], highs: &mut [u8]) -> bool
+    ensures { λ r. ⌜ Examined n (tables (now (links .entry)) (now (numbers .entry)) (now (order .entry))) (now (places .entry)) (now (places .exit)) (now (highs .entry)) (now (highs .exit)) r ⌝ }
+{
+    if !is_examinable(n, links.len(), numbers.len(), order.len(), places.len(), highs.len()) {
+        return false;
+    }
+    if !place(order, places) {
+        return false;
+    }
+    if !rises(numbers, order) {
+        return false;
+    }
+    let mut list = [0u16; Site::NEIGHBOURS as usize];
+    rows_checked(n, links, numbers, places, &mut list, highs)
 }
