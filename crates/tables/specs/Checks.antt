@@ -113,3 +113,7 @@ pub record Examined (n : ℕ) (t : Tables) (ps qs hs is : List ℕ) (r : Bool) :
   pub highs : r ≡ true → Highs n (t .links) (t .numbers) is
   pub places-long : length qs ≡ length ps
   pub highs-long : length is ≡ length hs
+
+-- questions 1 to 3 get yes of links, numbers and order
+unfoldable pub fits-sound : (n : ℕ) → Tables → Bool
+fits-sound n t = size-good n && (site-lengths n (lengths-of t) && sound n t)

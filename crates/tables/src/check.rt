@@ -5,10 +5,13 @@ ghost use Prim.Native.Nat.{_≤_, _<_};
 ghost use lib.ListN.{length, take};
 ghost use Rattle.mesh.specs.Limits.{max-radios};
 ghost use Rattle.mesh.specs.Orders.{rising};
-ghost use Rattle.mesh.specs.Sound.{number-in};
+ghost use Rattle.mesh.specs.Sound.{number-in, sound};
 ghost use Rattle.mesh.specs.Tables.{tables};
+ghost use Rattle.calls.specs.Questions.{lengths-of, site-refusal};
+ghost use Rattle.calls.specs.Answers.{Check-contract};
 ghost use Rattle.tables.specs.Sizes.{lengths};
-ghost use Rattle.tables.specs.Checks.{Entries-below, Placing, Ends-room, Ends-counted, Rows-room, Row-checked, Rows-checked, examinable, Examined};
+ghost use Rattle.tables.specs.Checks.{Entries-below, Placing, Ends-room, Ends-counted, Rows-room, Row-checked, Rows-checked, examinable, Examined, fits-sound};
+use calls::Value;
 use mesh::Site;
 
 // A place that no entry of the order has.
@@ -165,4 +168,44 @@ pub fn examine<'a>(n: u32, links: &'a [u8], numbers: &'a [u8], order: &'a [u16],
     }
     let mut list = [0u16; Site::NEIGHBOURS as usize];
     rows_checked(n, links, numbers, places, &mut list, highs)
+}
+
+// Whether n is from 1 to 512, the tables have their lengths, and they are sound.
+pub fn is_sound<'a>(n: u32, links: &'a [u8], numbers: &'a [u8], order: &'a [u16]) -> bool
+    ensures { λ r. ⌜ r ≡ fits-sound n (tables (now (links .entry)) (now (numbers .entry)) (now (order .entry))) ⌝ }
+{
+    let mut places = [0u16; Site::RADIOS as usize];
+    let mut highs = [0u8; Site::RADIOS as usize];
+    examine(n, links, numbers, order, &mut places, &mut highs)
+}
+
+// Questions 1 to 3, where `others` is the answer that 2 gets for further tables: the refusal number so far, 0 when none got no.
+pub fn refusal<'a>(n: u32, links: &'a [u8], numbers: &'a [u8], order: &'a [u16], others: bool) -> u32
+    ensures { λ r. ⌜ r ≡ site-refusal n (lengths-of (tables (now (links .entry)) (now (numbers .entry)) (now (order .entry)))) others (sound n (tables (now (links .entry)) (now (numbers .entry)) (now (order .entry)))) 0 ⌝ }
+{
+    let number = crate::sizes::of_tables(Site { radios: n }, links.len(), numbers.len(), order.len());
+    if number != 0 {
+        return number;
+    }
+    if !others {
+        return 2;
+    }
+    if !is_sound(n, links, numbers, order) {
+        return 3;
+    }
+    0
+}
+
+// The soundness check: refusal number 1 or 2 and the value 0, or number 0 and the value 1 when the tables are sound, 0 when not.
+pub fn check<'a>(n: u32, links: &'a [u8], numbers: &'a [u8], order: &'a [u16]) -> Value
+    ensures { λ r. ⌜ Check-contract n (tables (now (links .entry)) (now (numbers .entry)) (now (order .entry))) r ⌝ }
+{
+    let number = crate::sizes::of_tables(Site { radios: n }, links.len(), numbers.len(), order.len());
+    if number != 0 {
+        return Value { number, value: 0 };
+    }
+    Value {
+        number: 0,
+        value: is_sound(n, links, numbers, order) as u32,
+    }
 }
