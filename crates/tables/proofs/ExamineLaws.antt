@@ -1,9 +1,11 @@
 -- The whole check on plain values: what its parts come back with decides soundness; and its tables, read over the graph.
 use mathlib.Core.Path.{_≡_, refl, sym, ap, _∙_}
-use mathlib.Core.Bool.{Bool, true, false, _&&_, and-false}
+use mathlib.Core.Logic.{_⊎_, inl, inr}
+use mathlib.Core.Bool.{Bool, true, false, _&&_, cond, and-true, and-false}
 use mathlib.Core.List.{List}
 use Prim.Native.Nat.{ℕ, _+_, _*_, _≤_, _<_, min}
 use native.Mathlib.Omega.{arith}
+use mir.Val.{boolByte}
 use lib.Dec.{leb, eqb}
 use lib.ListN.{length, getD}
 use Rattle.mesh.specs.Limits.{max-radios, max-neighbours, row-bytes}
@@ -11,13 +13,17 @@ use Rattle.mesh.specs.Lists.{range, all}
 use Rattle.mesh.specs.Orders.{each-once, rising}
 use Rattle.mesh.specs.Tables.{Tables}
 use Rattle.mesh.specs.Sound.{rows-proper, number-in, sound, sound-within}
-use Rattle.mesh.proofs.BoolLaws.{never, and-left, and-right}
+use Rattle.mesh.proofs.BoolLaws.{bool-cases, never, and-left, and-right}
 use Rattle.mesh.proofs.ListLaws.{Each-once, once-below}
 use Rattle.mesh.proofs.OrderLaws.{each-once-of}
-use Rattle.calls.specs.Questions.{ask, Lengths, lengths-of, size-good, site-lengths, answer-length, lent-refusal}
-use Rattle.calls.proofs.QuestionLaws.{size-good-true, Site-lengths, site-lengths-true, answer-length-true}
-use Rattle.tables.specs.Checks.{Entries-below, Placed, Placing, row-good, Rows-room, Rows-checked, examinable, Examined}
+use Rattle.calls.specs.Questions.{ask, Lengths, lengths-of, size-good, site-lengths, answer-length, lent-refusal, site-refusal, tables-refusal}
+use Rattle.calls.specs.Answers.{Check-contract, Value-accepted, Value-refused}
+use Rattle.calls.proofs.ContractLaws.{by-accepted, by-refused}
+use Rattle.calls.proofs.ChainLaws.{lent-zero}
+use Rattle.calls.proofs.QuestionLaws.{true-size-good, true-site-lengths, true-answer-length, size-good-true, Site-lengths, site-lengths-true, answer-length-true}
+use Rattle.tables.specs.Checks.{Entries-below, Placed, Placing, row-good, Rows-room, Rows-checked, examinable, Examined, fits-sound}
 use Rattle.tables.proofs.CheckLaws.{getD-in, sound-rows}
+use Rattle.tables.proofs.RowChecks.{byte-bit}
 
 -- ---- what can be examined
 
@@ -128,3 +134,60 @@ module _ (n : ℕ) (t : Tables) (ps hs : List ℕ) where
         places-long = d .long;
         highs-long = c .long;
       }
+
+-- ---- the calls
+
+-- with room for every site, questions 1 and 2 and soundness are all that is asked
+pub examinable-room : (n : ℕ) (t : Tables) → (examinable n (lengths-of t) max-radios max-radios && sound n t) ≡ fits-sound n t
+unfolding examinable fits-sound
+examinable-room n t = go (bool-cases (size-good n))
+  where
+    go : (size-good n ≡ true) ⊎ (size-good n ≡ false)
+        → ((size-good n && (site-lengths n (lengths-of t) && answer-length n (min max-radios max-radios))) && sound n t)
+            ≡ (size-good n && (site-lengths n (lengths-of t) && sound n t))
+    go (inl e) =
+        let room : answer-length n (min max-radios max-radios) ≡ true =
+        true-answer-length n (min max-radios max-radios) (omega (arith, size-good-true n e .1)) in
+        rw (e, room, and-true (site-lengths n (lengths-of t)))
+    go (inr e) = rw e
+
+-- the answer where questions 1 and 2 got yes
+pub fits-sound-lent : (n : ℕ) (t : Tables) → tables-refusal n (lengths-of t) ≡ 0 → fits-sound n t ≡ sound n t
+unfolding tables-refusal fits-sound
+fits-sound-lent n t e =
+    let g = lent-zero n (lengths-of t) true 0 e .0 in
+    rw (true-size-good n (g .least) (g .most), true-site-lengths n (lengths-of t) (g .lengths))
+
+-- question 1 or 2 got no, whatever the later ones are
+pub site-refused : (n : ℕ) (l : Lengths) (others sound : Bool) (later : ℕ) → (tables-refusal n l ≡ 0 → ⊥)
+    → site-refusal n l others sound later ≡ tables-refusal n l
+unfolding site-refusal tables-refusal lent-refusal ask
+site-refused n l others sound later = go (size-good n) (site-lengths n l) (ask 3 sound later)
+  where
+    go : (a b : Bool) (x : ℕ) → (ask 1 a (ask 2 (b && true) 0) ≡ 0 → ⊥) → ask 1 a (ask 2 (b && others) x) ≡ ask 1 a (ask 2 (b && true) 0)
+    go false b x h = refl
+    go true false x h = refl
+    go true true x h = absurd (h refl)
+
+-- both got yes of links, numbers and order: the further tables and soundness decide
+pub site-lent : (n : ℕ) (l : Lengths) (others sound : Bool) (later : ℕ) → tables-refusal n l ≡ 0
+    → site-refusal n l others sound later ≡ ask 2 others (ask 3 sound later)
+unfolding site-refusal tables-refusal lent-refusal ask
+site-lent n l others sound later e =
+    let g = lent-zero n l true 0 e .0 in rw (true-size-good n (g .least) (g .most), true-site-lengths n l (g .lengths))
+
+-- ---- contracts of the check
+
+pub check-refused : (n : ℕ) (t : Tables) (q : ℕ) → q ≡ tables-refusal n (lengths-of t) → (q ≡ 0 → ⊥)
+    → Check-contract n t (record { number = q; value = 0 })
+unfolding Check-contract
+check-refused n t q e h =
+    by-refused (tables-refusal n (lengths-of t)) (Value-accepted (cond (sound n t) 1 0) (record { number = q; value = 0 }))
+    (λ x. Value-refused x (record { number = q; value = 0 })) (λ z. h (e ∙ z)) (record { number = e; value = refl })
+
+pub check-answered : (n : ℕ) (t : Tables) (b : Bool) → tables-refusal n (lengths-of t) ≡ 0 → b ≡ fits-sound n t
+    → Check-contract n t (record { number = 0; value = boolByte b })
+unfolding Check-contract
+check-answered n t b e h =
+    by-accepted (tables-refusal n (lengths-of t)) (λ x. Value-refused x (record { number = 0; value = boolByte b })) e
+    (record { number = refl; value = byte-bit b ∙ ap (λ (x : Bool). cond {A = ℕ} x 1 0) (h ∙ fits-sound-lent n t e) })

@@ -1,4 +1,4 @@
--- Laws of leaf code on lent tables.
+-- Laws of what the contracts of the leaf code cite, for its functions and their callers.
 -- one bit by shift and mask
 pub mod MaskLaws
 -- words of eight bytes, and their set bits
@@ -11,15 +11,20 @@ pub mod RowListLaws
 pub mod RowWords
 -- tables of both widths
 pub mod WidthLaws
+-- questions 1 and 2
+pub mod SizeLaws
 -- the signed step
 pub mod StepLaws
--- the loops of the check
-pub mod CheckLoops
--- one row of the check
-pub mod RowChecks
--- all rows of the check
-pub mod AllRows
+-- clearing
+pub mod ClearLaws
 -- soundness row by row
 pub mod CheckLaws
--- the whole check
+-- the loops of the check: the order, one row, all rows
+pub mod CheckLoops
+pub mod RowChecks
+pub mod AllRows
+-- the whole check, and its callers
 pub mod ExamineLaws
+-- the contracts of clearing and of the check are the named ones, and nothing is required
+pub mod Ties
+pub mod CheckTie

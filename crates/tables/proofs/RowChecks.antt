@@ -21,7 +21,7 @@ use Rattle.tables.specs.Rows.{neighbours-of, row-listed}
 use Rattle.tables.specs.Checks.{later-count, high-count, ends-good, row-good, Ends-counted, Rows-room, Row-checked}
 
 -- a test as a number
-byte-bit : (t : Bool) → boolByte t ≡ cond {A = ℕ} t 1 0
+pub byte-bit : (t : Bool) → boolByte t ≡ cond {A = ℕ} t 1 0
 byte-bit true = refl
 byte-bit false = refl
 

@@ -3,21 +3,23 @@
 use mathlib.Core.Path.{_≡_, refl, sym, ap, ap₂, _∙_, subst}
 use mathlib.Core.Logic.{_⊎_, inl, inr}
 use mathlib.Core.Bool.{Bool, true, false, cond}
-use mathlib.Core.List.{List, [], _∷_}
-use Prim.Native.Nat.{ℕ, zero, suc, _+_, _-_, _≤_, _<_, _^_, min}
+use mathlib.Core.List.{List, [], _∷_, map}
+use Prim.Native.Nat.{ℕ, suc, _+_, _-_, _≤_, _<_, min}
+use native.Mathlib.Nat.{zero-add}
 use native.Mathlib.Omega.{arith}
 use native.Mathlib.Numerals.{add-one}
 use lib.Dec.{T, ltb}
 use lib.IntN.{ℤ, pos, negsuc, _+ℤ_, natAbs}
 use lib.Signed.{ltZ, nonNeg}
-use lib.ListN.{length, getD, set, take, drop, length-set, drop-of-length-le}
-use lib.Seq.{drop-cons, set-out, getD-set-same, getD-set-other}
-use borrow.Author.Tests.{lt-ltb, le-ltb, ltb-true, ltb-false}
+use lib.ListN.{length, getD, drop, length-set, drop-of-length-le}
+use lib.Seq.{drop-cons, getD-set-same, getD-set-other, ext-getD}
+use borrow.Author.Tests.{ltb-true, ltb-false}
 use mir.Syntax.{w8, w16}
 use mir.Val.{Fits, SFits, toZ, ofZ}
 use mir.Facts.{toZ-ofZ, toZ-pos, sfits-widen}
+use Rattle.mesh.specs.Lists.{range, member}
 use Rattle.mesh.proofs.BoolLaws.{bool-cases, never}
-use Rattle.mesh.proofs.ListLaws.{In, Distinct}
+use Rattle.mesh.proofs.ListLaws.{In, Distinct, member-in, in-member, length-map, length-range, getD-map-range}
 use Rattle.tables.specs.Steps.{stepped, step-at, all-stepped}
 
 -- ---- a sum held between 0 and 255
@@ -95,6 +97,29 @@ module _ (x : ℕ) (z : ℤ) (small : x < 256) (fits : SFits w8 z) where
   pub sum-within : ltZ (sum-of x z) (pos 0) ≡ false → ltZ (pos 255) (sum-of x z) ≡ false → natAbs (sum-of x z) ≡ stepped x z
   sum-within h l = held-within (sum-of x z) h l .is ∙ held-exact
 
+-- ---- stepped: the three steps of a link call, what is below 0, and the exact sum
+
+pub stepped-up : (x : ℕ) → x < 255 → stepped x (pos 1) ≡ x + 1
+unfolding stepped
+stepped-up x h = omega arith
+
+pub stepped-none : (x : ℕ) → x < 256 → stepped x (pos 0) ≡ x
+unfolding stepped
+stepped-none x h = omega arith
+
+pub stepped-down : (x : ℕ) → stepped x (negsuc 0) ≡ x - 1
+unfolding stepped
+stepped-down x = refl
+
+pub stepped-zero : (k : ℕ) → stepped 0 (negsuc k) ≡ 0
+unfolding stepped
+stepped-zero k = omega arith
+
+-- where the sum is a number of one byte, it is the number that comes back
+pub stepped-exact : (x : ℕ) (z : ℤ) (y : ℕ) → x < 256 → y < 256 → pos x +ℤ z ≡ pos y → stepped x z ≡ y
+stepped-exact x z y h l e =
+    let m : min 255 y ≡ y = omega arith in sym (held-sum x z h) ∙ ap held e ∙ m
+
 -- ---- step-at
 
 pub length-step-at : (v : ℕ) (z : ℤ) (ns : List ℕ) → length (step-at v z ns) ≡ length ns
@@ -133,6 +158,30 @@ getD-all-stepped-listed u (v ∷ vs) z ns d (inl e) h =
 getD-all-stepped-listed u (v ∷ vs) z ns d (inr m) h =
     getD-all-stepped-listed u vs z (step-at v z ns) (d .1) m (omega (arith, length-step-at v z ns))
     ∙ ap (λ x. stepped x z) (getD-step-at-other u v z ns (λ e. d .0 (rw (← e) at m)))
+
+-- the numbers after, radio by radio
+pub getD-all-stepped :
+    (u : ℕ) (vs : List ℕ) (z : ℤ) (ns : List ℕ) → Distinct vs → u < length ns →
+    getD (all-stepped vs z ns) u 0 ≡ cond (member u vs) (stepped (getD ns u 0) z) (getD ns u 0)
+getD-all-stepped u vs z ns d h = go (bool-cases (member u vs))
+  where
+    go :
+        (member u vs ≡ true) ⊎ (member u vs ≡ false) →
+        getD (all-stepped vs z ns) u 0 ≡ cond (member u vs) (stepped (getD ns u 0) z) (getD ns u 0)
+    go (inl e) = rw e (getD-all-stepped-listed u vs z ns d (member-in u vs e) h)
+    go (inr e) = rw e (getD-all-stepped-other u vs z ns (λ m. never (member u vs) (in-member u vs m) e))
+
+pub all-stepped-map :
+    (vs : List ℕ) (z : ℤ) (ns : List ℕ) → Distinct vs →
+    all-stepped vs z ns ≡ map (λ v. cond (member v vs) (stepped (getD ns v 0) z) (getD ns v 0)) (range 0 (length ns))
+all-stepped-map vs z ns d =
+    let e = length-all-stepped vs z ns in
+    let f : ℕ → ℕ = λ v. cond (member v vs) (stepped (getD ns v 0) z) (getD ns v 0) in
+    ext-getD 0 (all-stepped vs z ns) (map f (range 0 (length ns)))
+    (e ∙ sym (length-map f (range 0 (length ns)) ∙ length-range 0 (length ns)))
+    (λ u h.
+    let l : u < length ns = omega arith in
+    getD-all-stepped u vs z ns d l ∙ ap f (sym (zero-add u)) ∙ sym (getD-map-range f 0 (length ns) u l))
 
 -- ---- a list of radios being stepped: i so far
 

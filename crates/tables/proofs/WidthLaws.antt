@@ -3,15 +3,15 @@
 -- In order: laws of lists; values; a table being written, and what it holds at the end; a table being copied; tables compared.
 use mathlib.Core.Path.{_≡_, refl, sym, ap, ap₂, _∙_}
 use mathlib.Core.Logic.{_⊎_, inl, inr}
-use mathlib.Core.Bool.{Bool, true, false, _&&_}
+use mathlib.Core.Bool.{true, false, _&&_}
 use mathlib.Core.List.{List, [], _∷_, _++_, map, append-nil}
-use Prim.Native.Nat.{ℕ, zero, suc, _+_, _-_, _%_, _^_, _≤_, _<_, min}
+use Prim.Native.Nat.{ℕ, zero, suc, _+_, _%_, _^_, _≤_, _<_, min}
 use native.Mathlib.Nat.{mod-eq-of-lt, zero-add, zero-min, suc-min-suc}
 use native.Mathlib.Numerals.{add-one}
 use native.Mathlib.Omega.{arith}
 use lib.Dec.{eqb}
-use lib.ListN.{length, getD, set, take, drop, replicate, length-append, length-drop, length-set, length-take, drop-of-length-le}
-use lib.Seq.{drop-cons, take-nil}
+use lib.ListN.{length, getD, set, take, drop, replicate, length-set, length-take, drop-of-length-le}
+use lib.Seq.{drop-cons, take-all, take-nil}
 use borrow.Author.Tests.{eq-eqb, ne-eqb}
 use borrow.Author.Count.{below-more}
 use Rattle.mesh.specs.Lists.{range, same, overwrite}
@@ -52,9 +52,16 @@ take-min zero s = ap (λ n. take n s) (zero-min (length s))
 take-min (suc k) [] = take-nil (min (suc k) 0)
 take-min (suc k) (x ∷ s) = ap (λ n. take n (x ∷ s)) (suc-min-suc k (length s)) ∙ ap {B = List ℕ} (λ t. x ∷ t) (take-min k s)
 
-pub length-overwrite : (new old : List ℕ) → length new ≤ length old → length (overwrite new old) ≡ length old
+-- what a caller knows of a list that fits, and of a table of the same length
+pub take-take-fits : (k m : ℕ) (s : List ℕ) → k ≤ m → take m (take k s) ≡ take k s
+take-take-fits k m s h = take-all m (take k s) (omega (arith, length-take k s))
+
+pub overwrite-all : (s d : List ℕ) → length s ≡ length d → overwrite (take (length d) s) d ≡ s
 unfolding overwrite
-length-overwrite new old h = omega (arith, length-append new (drop (length new) old), length-drop (length new) old)
+overwrite-all s d e =
+    let t : take (length d) s ≡ s = take-all (length d) s (omega arith) in
+    let g : length d ≤ length s = omega arith in
+    rw t (ap (λ r. s ++ r) (drop-of-length-le d g) ∙ append-nil s)
 
 -- the rule agrees with another where it is asked
 map-range-ext : (f g : ℕ → ℕ) (i k : ℕ) → ((j : ℕ) → j < i + k → f j ≡ g j) → map f (range i k) ≡ map g (range i k)

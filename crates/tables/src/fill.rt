@@ -13,7 +13,7 @@ pub fn least(a: usize, b: usize) -> usize
     if a < b { a } else { b }
 }
 
-// Every entry of d is x after.
+// Every 8-bit entry of d is x after.
 pub fn fill8(d: &mut [u8], x: u8)
     ensures { λ _. ⌜ now (d .exit) ≡ replicate (length (now (d .entry))) x ⌝ }
 {
@@ -24,6 +24,7 @@ pub fn fill8(d: &mut [u8], x: u8)
     }
 }
 
+// Every 16-bit entry of d is x after.
 pub fn fill16(d: &mut [u16], x: u16)
     ensures { λ _. ⌜ now (d .exit) ≡ replicate (length (now (d .entry))) x ⌝ }
 {
@@ -34,18 +35,18 @@ pub fn fill16(d: &mut [u16], x: u16)
     }
 }
 
-// Entry i of d is i mod 65536 after: to 65536 entries, the numbers from 0 up.
+// Entry v of d is v mod 65536 after: of at most 65536 entries, each is its own index.
 pub fn index16(d: &mut [u16])
     ensures { λ _. ⌜ now (d .exit) ≡ values 16 (λ (i : ℕ). i) (length (now (d .entry))) ⌝ }
 {
-    let mut i: usize = 0;
-    while i < d.len() {
-        d[i] = (i % 65536) as u16;
-        i += 1;
+    let mut v: usize = 0;
+    while v < d.len() {
+        d[v] = (v % 65536) as u16;
+        v += 1;
     }
 }
 
-// The entries of s stand in front of d after, as many as fit; later entries of d keep their content.
+// The 8-bit entries of s stand in front of d after, as many as fit; later entries of d keep their content.
 pub fn copy8(d: &mut [u8], s: &[u8])
     ensures { λ _. ⌜ now (d .exit) ≡ overwrite (take (length (now (d .entry))) (now (s .entry))) (now (d .entry)) ⌝ }
 {
@@ -57,6 +58,7 @@ pub fn copy8(d: &mut [u8], s: &[u8])
     }
 }
 
+// The 16-bit entries of s stand in front of d after, as many as fit; later entries of d keep their content.
 pub fn copy16(d: &mut [u16], s: &[u16])
     ensures { λ _. ⌜ now (d .exit) ≡ overwrite (take (length (now (d .entry))) (now (s .entry))) (now (d .entry)) ⌝ }
 {
@@ -68,7 +70,7 @@ pub fn copy16(d: &mut [u16], s: &[u16])
     }
 }
 
-// Whether both tables have the same entries. It stops at the first difference.
+// Whether both tables have the same 8-bit entries, and as many. It stops at the first difference.
 pub fn same8(a: &[u8], b: &[u8]) -> bool
     ensures { λ r. ⌜ r ≡ same (now (a .entry)) (now (b .entry)) ⌝ }
 {
@@ -85,6 +87,7 @@ pub fn same8(a: &[u8], b: &[u8]) -> bool
     true
 }
 
+// Whether both tables have the same 16-bit entries, and as many. It stops at the first difference.
 pub fn same16(a: &[u16], b: &[u16]) -> bool
     ensures { λ r. ⌜ r ≡ same (now (a .entry)) (now (b .entry)) ⌝ }
 {

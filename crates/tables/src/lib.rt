@@ -5,4 +5,5 @@ pub mod rows;
 pub mod fill;
 pub mod sizes;
 pub mod steps;
+pub mod clear;
 pub mod check;

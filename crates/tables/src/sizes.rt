@@ -62,7 +62,14 @@ pub fn with_answer(site: Site, links: usize, numbers: usize, order: usize, answe
 }
 
 // Links, numbers, order, the list of nodes and the answer table.
-pub fn with_nodes(site: Site, links: usize, numbers: usize, order: usize, nodes: usize, answer: usize) -> u32
+pub fn with_nodes(
+    site: Site,
+    links: usize,
+    numbers: usize,
+    order: usize,
+    nodes: usize,
+    answer: usize,
+) -> u32
     ensures { λ r. ⌜ r ≡ lent-refusal (site .radios) (lengths links numbers order) (nodes-length (site .radios) nodes && answer-length (site .radios) answer) 0 ⌝ }
 {
     let n = site.radios as usize;

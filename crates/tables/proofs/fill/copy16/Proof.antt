@@ -2,7 +2,6 @@
 use Prim.Native.Nat.{_-_}
 use native.Mathlib.Omega.{arith}
 use borrow.Author.Needs.{needs}
-use lib.ListN.{length}
 use Rattle.tables.proofs.WidthLaws.{Copying, copying-none, copying-turn, copying-end}
 use Rattle.tables.proofs.fill.copy16.Statement.{statement}
 use Rattle.tables.proofs.fill.copy16.Tie as tie

@@ -9,10 +9,10 @@ use Rattle.tables.proofs.fill.index16.Statement.{statement}
 use Rattle.tables.proofs.fill.index16.Tie as tie
 
 abbrev Inv-loop : tie.InvT-loop
-Inv-loop d₀ i₀ d i = Writing 16 (λ (j : ℕ). j) d₀ d i
+Inv-loop d₀ v₀ d v = Writing 16 (λ (j : ℕ). j) d₀ d v
 
 abbrev μ-loop : tie.MeasureT-loop
-μ-loop d₀ i₀ d i = length d₀ - i
+μ-loop d₀ v₀ d v = length d₀ - v
 
 loop-holds : tie.Need-loop-holds Inv-loop μ-loop
 loop-holds c = writing-none 16 _ _
@@ -26,8 +26,8 @@ mul-d c = search needs
 slice-write-d : tie.Need-slice-write-d Inv-loop μ-loop
 slice-write-d c = search needs
 
-add-i : tie.Need-add-i Inv-loop μ-loop
-add-i c = search needs
+add-v : tie.Need-add-v Inv-loop μ-loop
+add-v c = search needs
 
 loop-less : tie.Need-loop-less Inv-loop μ-loop
 loop-less c = search needs
@@ -51,7 +51,7 @@ index16-spec =
     cast-d
     mul-d
     slice-write-d
-    add-i
+    add-v
     loop-less
     loop-again
     same-length

@@ -10,7 +10,7 @@ is-size-requires c κs = search needs
 
 returns : tie.Need-returns
 unfolding lent-refusal ask
-returns c = rw (← c .before .is-size .ensures, not-true (c .before .is-size .result) (c .if1 .taken))
+returns c = let size = c .before .is-size in rw (← size .ensures, not-true (size .result) (c .if1 .taken))
 
 are-lengths-requires : tie.Need-are-lengths-requires
 are-lengths-requires c κs = search needs
@@ -18,17 +18,29 @@ are-lengths-requires c κs = search needs
 returns-2 : tie.Need-returns-2
 unfolding lent-refusal ask
 returns-2 c =
-    rw (← c .before .before .before .is-size .ensures, not-false (c .before .before .before .is-size .result) (c .before .before .if1 .left), ← c .before .are-lengths .ensures, not-true (c .before .are-lengths .result) (c .if2 .taken))
+    let size = c .before .before .before .is-size in
+    let long = c .before .are-lengths in
+    rw (← size .ensures, not-false (size .result) (c .before .before .if1 .left), ← long .ensures, not-true (long .result) (c .if2 .taken))
 
 returns-3 : tie.Need-returns-3
 unfolding lent-refusal ask
 returns-3 c =
-    rw (← c .before .before .before .before .is-size .ensures, not-false (c .before .before .before .before .is-size .result) (c .before .before .before .if1 .left), ← c .before .before .are-lengths .ensures, not-false (c .before .before .are-lengths .result) (c .before .if2 .left), not-true (c .before .before .before .before .before .args .others) (c .if3 .taken))
+    let asked = c .before .before .before .before in
+    let size = asked .is-size in
+    let long = c .before .before .are-lengths in
+    let others = asked .before .args .others in
+    rw (← size .ensures, not-false (size .result) (c .before .before .before .if1 .left), ← long .ensures)
+    (rw (not-false (long .result) (c .before .if2 .left), not-true others (c .if3 .taken)))
 
 returns-4 : tie.Need-returns-4
 unfolding lent-refusal ask
 returns-4 c =
-    rw (← c .before .before .before .before .is-size .ensures, not-false (c .before .before .before .before .is-size .result) (c .before .before .before .if1 .left), ← c .before .before .are-lengths .ensures, not-false (c .before .before .are-lengths .result) (c .before .if2 .left), not-false (c .before .before .before .before .before .args .others) (c .if3 .left))
+    let asked = c .before .before .before .before in
+    let size = asked .is-size in
+    let long = c .before .before .are-lengths in
+    let others = asked .before .args .others in
+    rw (← size .ensures, not-false (size .result) (c .before .before .before .if1 .left), ← long .ensures)
+    (rw (not-false (long .result) (c .before .if2 .left), not-false others (c .if3 .left)))
 
 pub lent-spec : {M : Type 1} → statement M
 lent-spec =

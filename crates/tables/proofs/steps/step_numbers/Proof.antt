@@ -5,7 +5,7 @@ use Prim.Native.Nat.{_-_}
 use native.Mathlib.Omega.{arith}
 use borrow.Author.Needs.{needs}
 use lib.IntN.{ℤ}
-use lib.ListN.{length, getD, take, length-take}
+use lib.ListN.{getD, take, length-take}
 use lib.Seq.{getD-take}
 use mir.Syntax.{w8}
 use mir.Val.{toZ}
