@@ -59,7 +59,7 @@ module _ (n : ℕ) (links numbers places before : List ℕ) where
 
   pub rows-end : (highs : List ℕ) (a : ℕ) → n ≤ a → Rows-so-far n links numbers places before highs a → Rows-checked n links numbers places before highs true
   unfolding all range
-  rows-end highs a l s = 
+  rows-end highs a l s =
       let e : n - a ≡ 0 = omega (arith, s .low) in
       record {
         answer = rw e at (s .left);

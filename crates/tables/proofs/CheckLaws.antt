@@ -254,7 +254,7 @@ module _ (most n : ℕ) (t : Tables) (places : List ℕ) (small : n ≤ max-radi
       let h2 = and-right (s && i) (w && k) h in
       let out : Below a = λ b lb m. within-of n ts (and-left w k h2) a b l lb m in
       let at = few-later-at (marked ts) num (t .order) (few-later-of (marked ts) num (t .order) f) (getD places a 0)
-          (omega (arith, place-below n (t .order) places once placed a l, once-length n (t .order) once)) in
+      (omega (arith, place-below n (t .order) places once placed a l, once-length n (t .order) once)) in
       record {
         few = few-of most n ts (and-right w k h2) a l;
         ends = λ b lb m. let small = inside out b lb m (bool-cases (ltb b n)) in (

@@ -117,13 +117,16 @@ module _ (n : ℕ) (t : Tables) (ps hs : List ℕ) where
 
       pub rows-room : (list : ℕ) → max-neighbours ≤ list → Rows-room n (length (t .links)) (length (t .numbers)) (length qs) list × (n ≤ length hs)
       unfolding lengths-of
-      rows-room list l = (record {
-        linked = sizes .lengths .links;
-        numbered = omega (arith, sizes .lengths .numbers);
-        placed = omega (arith, sizes .places, d .long);
-        listed = l;
-        small = sizes .small;
-      }, sizes .highs)
+      rows-room list l = (
+        record {
+          linked = sizes .lengths .links;
+          numbered = omega (arith, sizes .lengths .numbers);
+          placed = omega (arith, sizes .places, d .long);
+          listed = l;
+          small = sizes .small;
+        },
+        sizes .highs,
+      )
 
       pub examined-rows : (u : Bool) → u ≡ rising (number-in (t .numbers)) (t .order) → u ≡ true
           → (is : List ℕ) (v : Bool) → Rows-checked n (t .links) (t .numbers) qs hs is v → Examined n t ps qs hs is v
@@ -144,7 +147,7 @@ examinable-room n t = go (bool-cases (size-good n))
   where
     go : (size-good n ≡ true) ⊎ (size-good n ≡ false)
         → ((size-good n && (site-lengths n (lengths-of t) && answer-length n (min max-radios max-radios))) && sound n t)
-            ≡ (size-good n && (site-lengths n (lengths-of t) && sound n t))
+        ≡ (size-good n && (site-lengths n (lengths-of t) && sound n t))
     go (inl e) =
         let room : answer-length n (min max-radios max-radios) ≡ true =
         true-answer-length n (min max-radios max-radios) (omega (arith, size-good-true n e .1)) in

@@ -95,10 +95,10 @@ module _ (n : ℕ) (links numbers places : List ℕ) (a : ℕ) (list : List ℕ)
 
     pub counting-turn : getD list i 0 < n → (getD list i 0 ≡ a → ⊥) → marked links (getD list i 0) a ≡ true
         → Counting n links numbers places a xs
-            (later + boolByte (ltb (getD places a 0) (getD places (getD list i 0) 0)))
-            (high + boolByte (leb (getD numbers a 0) (getD numbers (getD list i 0) 0))) (i + 1)
+        (later + boolByte (ltb (getD places a 0) (getD places (getD list i 0) 0)))
+        (high + boolByte (leb (getD numbers a 0) (getD numbers (getD list i 0) 0))) (i + 1)
     unfolding later-count high-count
-    counting-turn h d m = 
+    counting-turn h d m =
         let is-later : ℕ → Bool = λ b. ltb (getD places a 0) (getD places b 0) in
         let is-high : ℕ → Bool = λ b. leb (getD numbers a 0) (getD numbers b 0) in
         let x = rw entry at (count-drop is-later xs i (omega (arith, long))) in

@@ -83,7 +83,7 @@ neighbours-of-filter n ts a f big same none =
     ∙ ap (filter row) (range-append 0 n (max-radios - n))
     ∙ filter-append row (range 0 n) rest
     ∙ ap (λ (xs : List ℕ). filter row (range 0 n) ++ xs)
-        (filter-none row rest (λ b m. let r = range-in (0 + n) (max-radios - n) b m in none b (omega (arith, r .0)) (omega (arith, r .1))))
+    (filter-none row rest (λ b m. let r = range-in (0 + n) (max-radios - n) b m in none b (omega (arith, r .0)) (omega (arith, r .1))))
     ∙ append-nil (filter row (range 0 n))
     ∙ filter-ext row f (range 0 n) (λ b m. same b (omega (arith, range-in 0 n b m)))
 

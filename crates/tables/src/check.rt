@@ -66,7 +66,15 @@ struct Ends {
 
 // Whether the first k listed radios are below n, are not a, and mark a too; how many of them stand later in the order than a,
 // and how many have a number that is not below that of a.
-fn count_ends<'a>(links: &'a [u8], numbers: &'a [u8], places: &'a [u16], list: &'a [u16], k: usize, n: usize, a: usize) -> Ends
+fn count_ends<'a>(
+    links: &'a [u8],
+    numbers: &'a [u8],
+    places: &'a [u16],
+    list: &'a [u16],
+    k: usize,
+    n: usize,
+    a: usize,
+) -> Ends
     requires { ⌜ Ends-room n a k (length (now numbers)) (length (now places)) (length (now list)) ⌝ }
     ensures { λ r. ⌜ Ends-counted n (now (links .entry)) (now (numbers .entry)) (now (places .entry)) a (take k (now (list .entry))) (r .good) (r .later) (r .high) ⌝ }
 {
@@ -78,13 +86,25 @@ fn count_ends<'a>(links: &'a [u8], numbers: &'a [u8], places: &'a [u16], list: &
     while i < k {
         let b = list[i] as usize;
         if n <= b {
-            return Ends { good: false, later: 0, high: 0 };
+            return Ends {
+                good: false,
+                later: 0,
+                high: 0,
+            };
         }
         if b == a {
-            return Ends { good: false, later: 0, high: 0 };
+            return Ends {
+                good: false,
+                later: 0,
+                high: 0,
+            };
         }
         if !crate::rows::is_marked(links, b as u32, a as u32) {
-            return Ends { good: false, later: 0, high: 0 };
+            return Ends {
+                good: false,
+                later: 0,
+                high: 0,
+            };
         }
         later += (place < places[b]) as u32;
         high += (number <= numbers[b]) as u32;
@@ -104,31 +124,68 @@ struct Row {
 
 // Whether document 01's conditions on radio a hold, and then how many of its neighbours have a number that is not below its
 // own. `list` holds anything after.
-fn row_checked<'a>(n: u32, links: &'a [u8], numbers: &'a [u8], places: &'a [u16], list: &mut [u16], a: u32) -> Row
+fn row_checked<'a>(
+    n: u32,
+    links: &'a [u8],
+    numbers: &'a [u8],
+    places: &'a [u16],
+    list: &mut [u16],
+    a: u32,
+) -> Row
     requires { ⌜ Rows-room n (length (now links)) (length (now numbers)) (length (now places)) (length (now list)) × (a < n) ⌝ }
     ensures { λ r. ⌜ Row-checked n (now (links .entry)) (now (numbers .entry)) (now (places .entry)) a (r .good) (r .high) ⌝ }
 {
     let k = crate::rows::row_neighbours(links, a, list);
     if Site::NEIGHBOURS < k {
-        return Row { good: false, high: 0 };
+        return Row {
+            good: false,
+            high: 0,
+        };
     }
-    let ends = count_ends(links, numbers, places, list, k as usize, n as usize, a as usize);
+    let ends = count_ends(
+        links,
+        numbers,
+        places,
+        list,
+        k as usize,
+        n as usize,
+        a as usize,
+    );
     if !ends.good {
-        return Row { good: false, high: 0 };
+        return Row {
+            good: false,
+            high: 0,
+        };
     }
     let number = numbers[a as usize] as u32;
     if number < ends.later {
-        return Row { good: false, high: 0 };
+        return Row {
+            good: false,
+            high: 0,
+        };
     }
     if ends.high < number {
-        return Row { good: false, high: 0 };
+        return Row {
+            good: false,
+            high: 0,
+        };
     }
-    Row { good: true, high: ends.high }
+    Row {
+        good: true,
+        high: ends.high,
+    }
 }
 
 // Whether document 01's conditions hold of every radio below n, and then `highs` holds for each of them how many of its
 // neighbours have a number that is not below its own; else `highs` holds anything. `list` holds anything after.
-fn rows_checked<'a>(n: u32, links: &'a [u8], numbers: &'a [u8], places: &'a [u16], list: &mut [u16], highs: &mut [u8]) -> bool
+fn rows_checked<'a>(
+    n: u32,
+    links: &'a [u8],
+    numbers: &'a [u8],
+    places: &'a [u16],
+    list: &mut [u16],
+    highs: &mut [u8],
+) -> bool
     requires { ⌜ Rows-room n (length (now links)) (length (now numbers)) (length (now places)) (length (now list)) × (n ≤ length (now highs)) ⌝ }
     ensures { λ r. ⌜ Rows-checked n (now (links .entry)) (now (numbers .entry)) (now (places .entry)) (now (highs .entry)) (now (highs .exit)) r ⌝ }
 {
@@ -145,19 +202,47 @@ fn rows_checked<'a>(n: u32, links: &'a [u8], numbers: &'a [u8], places: &'a [u16
 }
 
 // Whether n is from 1 to 512, links, numbers and order have their lengths, and places and highs an entry for each radio.
-fn is_examinable(n: u32, links: usize, numbers: usize, order: usize, places: usize, highs: usize) -> bool
+fn is_examinable(
+    n: u32,
+    links: usize,
+    numbers: usize,
+    order: usize,
+    places: usize,
+    highs: usize,
+) -> bool
     ensures { λ r. ⌜ r ≡ examinable n (lengths links numbers order) places highs ⌝ }
 {
-    crate::sizes::with_answer(Site { radios: n }, links, numbers, order, crate::fill::least(places, highs)) == 0
+    crate::sizes::with_answer(
+        Site { radios: n },
+        links,
+        numbers,
+        order,
+        crate::fill::least(places, highs),
+    )
+        == 0
 }
 
 // Whether the tables are sound. Then `places` holds where each radio stands in the order, and `highs` how many of its
 // neighbours have a number that is not below its own; else both hold anything. Not where n is not from 1 to 512, a table has
 // another length than document 01 says, or `places` or `highs` has fewer than n entries.
-pub fn examine<'a>(n: u32, links: &'a [u8], numbers: &'a [u8], order: &'a [u16], places: &mut [u16], highs: &mut [u8]) -> bool
+pub fn examine<'a>(
+    n: u32,
+    links: &'a [u8],
+    numbers: &'a [u8],
+    order: &'a [u16],
+    places: &mut [u16],
+    highs: &mut [u8],
+) -> bool
     ensures { λ r. ⌜ Examined n (tables (now (links .entry)) (now (numbers .entry)) (now (order .entry))) (now (places .entry)) (now (places .exit)) (now (highs .entry)) (now (highs .exit)) r ⌝ }
 {
-    if !is_examinable(n, links.len(), numbers.len(), order.len(), places.len(), highs.len()) {
+    if !is_examinable(
+        n,
+        links.len(),
+        numbers.len(),
+        order.len(),
+        places.len(),
+        highs.len(),
+    ) {
         return false;
     }
     if !place(order, places) {
@@ -180,10 +265,21 @@ pub fn is_sound<'a>(n: u32, links: &'a [u8], numbers: &'a [u8], order: &'a [u16]
 }
 
 // Questions 1 to 3, where `others` is the answer that 2 gets for further tables: the refusal number so far, 0 when none got no.
-pub fn refusal<'a>(n: u32, links: &'a [u8], numbers: &'a [u8], order: &'a [u16], others: bool) -> u32
+pub fn refusal<'a>(
+    n: u32,
+    links: &'a [u8],
+    numbers: &'a [u8],
+    order: &'a [u16],
+    others: bool,
+) -> u32
     ensures { λ r. ⌜ r ≡ site-refusal n (lengths-of (tables (now (links .entry)) (now (numbers .entry)) (now (order .entry)))) others (sound n (tables (now (links .entry)) (now (numbers .entry)) (now (order .entry)))) 0 ⌝ }
 {
-    let number = crate::sizes::of_tables(Site { radios: n }, links.len(), numbers.len(), order.len());
+    let number = crate::sizes::of_tables(
+        Site { radios: n },
+        links.len(),
+        numbers.len(),
+        order.len(),
+    );
     if number != 0 {
         return number;
     }
@@ -200,7 +296,12 @@ pub fn refusal<'a>(n: u32, links: &'a [u8], numbers: &'a [u8], order: &'a [u16],
 pub fn check<'a>(n: u32, links: &'a [u8], numbers: &'a [u8], order: &'a [u16]) -> Value
     ensures { λ r. ⌜ Check-contract n (tables (now (links .entry)) (now (numbers .entry)) (now (order .entry))) r ⌝ }
 {
-    let number = crate::sizes::of_tables(Site { radios: n }, links.len(), numbers.len(), order.len());
+    let number = crate::sizes::of_tables(
+        Site { radios: n },
+        links.len(),
+        numbers.len(),
+        order.len(),
+    );
     if number != 0 {
         return Value { number, value: 0 };
     }

@@ -31,7 +31,7 @@ returns-2 c =
     let call = asked .before .before .before .before .args in
     let t = tables (call .links .now) (call .numbers .now) (call .order .now) in
     let e = sym (asked .of-tables .ensures) ∙ c .before .if1 .left in
-    sym (site-lent _ (lengths-of t) _ _ 0 e ∙ rw (not-true _ (c .if2 .taken)))
+    sym (site-lent _ (lengths-of t) _ _ 0 e ∙ rw (not-true (call .others) (c .if2 .taken)))
 
 is-sound-requires : tie.Need-is-sound-requires
 is-sound-requires c κs = search needs
@@ -44,7 +44,7 @@ returns-3 c =
     let t = tables (call .links .now) (call .numbers .now) (call .order .now) in
     let e = sym (asked .of-tables .ensures) ∙ c .before .before .before .if1 .left in
     let no = sym (fits-sound-lent _ t e) ∙ sym (c .before .is-sound .ensures) ∙ not-true _ (c .if3 .taken) in
-    sym (site-lent _ (lengths-of t) _ _ 0 e ∙ rw (not-false _ (c .before .before .if2 .left), no))
+    sym (site-lent _ (lengths-of t) _ _ 0 e ∙ rw (not-false (call .others) (c .before .before .if2 .left), no))
 
 returns-4 : tie.Need-returns-4
 unfolding lengths-of ask
@@ -54,7 +54,7 @@ returns-4 c =
     let t = tables (call .links .now) (call .numbers .now) (call .order .now) in
     let e = sym (asked .of-tables .ensures) ∙ c .before .before .before .if1 .left in
     let yes = sym (fits-sound-lent _ t e) ∙ sym (c .before .is-sound .ensures) ∙ not-false _ (c .if3 .left) in
-    sym (site-lent _ (lengths-of t) _ _ 0 e ∙ rw (not-false _ (c .before .before .if2 .left), yes))
+    sym (site-lent _ (lengths-of t) _ _ 0 e ∙ rw (not-false (call .others) (c .before .before .if2 .left), yes))
 
 pub refusal-spec : {M : Type 1} → statement M
 refusal-spec =
