@@ -1,13 +1,13 @@
 -- The neighbours that a row of the links table marks, as a list: laws for callers.
--- In order: ascending and without repeats, membership, counts, the neighbours in the graph that the table marks.
-use mathlib.Core.Path.{_≡_, refl, sym, ap, _∙_}
-use mathlib.Core.Logic.{_⊎_, inl, inr}
+-- In order: ascending entries, neighbours-of (order, repeats, membership, counts), the graph that the table marks, row-listed.
+use mathlib.Core.Path.{_≡_, sym, ap, _∙_}
 use mathlib.Core.Bool.{Bool, true, false, _&&_, cond}
 use mathlib.Core.List.{List, [], _∷_, _++_, append-nil}
-use Prim.Native.Nat.{ℕ, zero, suc, _+_, _-_, _≤_, _<_}
+use Prim.Native.Nat.{ℕ, zero, suc, _+_, _*_, _-_, _≤_, _<_}
 use native.Mathlib.Omega.{arith}
 use lib.ListN.{length}
-use Rattle.mesh.specs.Limits.{max-radios}
+use borrow.Author.Tests.{le-leb, lt-leb}
+use Rattle.mesh.specs.Limits.{max-radios, row-bytes}
 use Rattle.mesh.specs.Lists.{range, count, filter, member}
 use Rattle.mesh.specs.Graph.{linked}
 use Rattle.mesh.specs.Tables.{marked, graph-in}
@@ -15,7 +15,7 @@ use Rattle.mesh.specs.Sound.{symmetric, irreflexive, within, row-degree}
 use Rattle.mesh.proofs.ListLaws.{In, Distinct, in-range, range-in, distinct-range, in-filter, member-filter, count-filter, length-filter, filter-none, filter-ext, filter-append, distinct-filter}
 use Rattle.mesh.proofs.RowLaws.{within-of}
 use Rattle.mesh.proofs.ReadBack.{linked-graph-in}
-use Rattle.tables.specs.Rows.{neighbours-of}
+use Rattle.tables.specs.Rows.{neighbours-of, row-listed}
 use Rattle.tables.proofs.Listing.{range-append}
 
 -- ---- laws of lists: ascending entries
@@ -91,3 +91,20 @@ pub neighbours-of-linked : (n : ℕ) (ts : List ℕ) → n ≤ max-radios → sy
     → (a : ℕ) → a < n → neighbours-of ts a ≡ filter (linked (graph-in n ts) a) (range 0 n)
 neighbours-of-linked n ts big s r w a la = neighbours-of-filter n ts a (linked (graph-in n ts) a) big
     (λ b lb. sym (linked-graph-in n ts s r a b la lb)) (λ b nb lb. within-of n ts w a b la nb lb)
+
+-- ---- row-listed: the whole row, or none of it
+
+pub row-listed-whole : (ts : List ℕ) (a : ℕ) → row-bytes * a + row-bytes ≤ length ts → row-listed ts a ≡ neighbours-of ts a
+unfolding row-listed
+row-listed-whole ts a h = rw (le-leb (row-bytes * a + row-bytes) (length ts) h)
+
+pub row-listed-short : (ts : List ℕ) (a : ℕ) → length ts < row-bytes * a + row-bytes → row-listed ts a ≡ []
+unfolding row-listed
+row-listed-short ts a h = rw (lt-leb (row-bytes * a + row-bytes) (length ts) h)
+
+-- the rows of a table of n radios
+pub row-listed-radio : (n : ℕ) (ts : List ℕ) → length ts ≡ row-bytes * n → (a : ℕ) → a < n → row-listed ts a ≡ neighbours-of ts a
+row-listed-radio n ts e a h = row-listed-whole ts a (omega arith)
+
+pub length-row-listed-radio : (n : ℕ) (ts : List ℕ) → length ts ≡ row-bytes * n → (a : ℕ) → a < n → length (row-listed ts a) ≡ row-degree ts a
+length-row-listed-radio n ts e a h = ap length (row-listed-radio n ts e a h) ∙ length-neighbours-of ts a

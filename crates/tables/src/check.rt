@@ -66,11 +66,11 @@ struct Ends {
 
 // Whether the first k listed radios are below n, are not a, and mark a too; how many of them stand later in the order than a,
 // and how many have a number that is not below that of a.
-fn count_ends<'a>(
-    links: &'a [u8],
-    numbers: &'a [u8],
-    places: &'a [u16],
-    list: &'a [u16],
+fn count_ends(
+    links: &[u8],
+    numbers: &[u8],
+    places: &[u16],
+    list: &[u16],
     k: usize,
     n: usize,
     a: usize,
@@ -124,11 +124,11 @@ struct Row {
 
 // Whether document 01's conditions on radio a hold, and then how many of its neighbours have a number that is not below its
 // own. `list` holds anything after.
-fn row_checked<'a>(
+fn row_checked(
     n: u32,
-    links: &'a [u8],
-    numbers: &'a [u8],
-    places: &'a [u16],
+    links: &[u8],
+    numbers: &[u8],
+    places: &[u16],
     list: &mut [u16],
     a: u32,
 ) -> Row
@@ -178,11 +178,11 @@ fn row_checked<'a>(
 
 // Whether document 01's conditions hold of every radio below n, and then `highs` holds for each of them how many of its
 // neighbours have a number that is not below its own; else `highs` holds anything. `list` holds anything after.
-fn rows_checked<'a>(
+fn rows_checked(
     n: u32,
-    links: &'a [u8],
-    numbers: &'a [u8],
-    places: &'a [u16],
+    links: &[u8],
+    numbers: &[u8],
+    places: &[u16],
     list: &mut [u16],
     highs: &mut [u8],
 ) -> bool
@@ -225,11 +225,11 @@ fn is_examinable(
 // Whether the tables are sound. Then `places` holds where each radio stands in the order, and `highs` how many of its
 // neighbours have a number that is not below its own; else both hold anything. Not where n is not from 1 to 512, a table has
 // another length than document 01 says, or `places` or `highs` has fewer than n entries.
-pub fn examine<'a>(
+pub fn examine(
     n: u32,
-    links: &'a [u8],
-    numbers: &'a [u8],
-    order: &'a [u16],
+    links: &[u8],
+    numbers: &[u8],
+    order: &[u16],
     places: &mut [u16],
     highs: &mut [u8],
 ) -> bool
@@ -256,7 +256,7 @@ pub fn examine<'a>(
 }
 
 // Whether n is from 1 to 512, the tables have their lengths, and they are sound.
-pub fn is_sound<'a>(n: u32, links: &'a [u8], numbers: &'a [u8], order: &'a [u16]) -> bool
+pub fn is_sound(n: u32, links: &[u8], numbers: &[u8], order: &[u16]) -> bool
     ensures { λ r. ⌜ r ≡ fits-sound n (tables (now (links .entry)) (now (numbers .entry)) (now (order .entry))) ⌝ }
 {
     let mut places = [0u16; Site::RADIOS as usize];
@@ -265,11 +265,11 @@ pub fn is_sound<'a>(n: u32, links: &'a [u8], numbers: &'a [u8], order: &'a [u16]
 }
 
 // Questions 1 to 3, where `others` is the answer that 2 gets for further tables: the refusal number so far, 0 when none got no.
-pub fn refusal<'a>(
+pub fn refusal(
     n: u32,
-    links: &'a [u8],
-    numbers: &'a [u8],
-    order: &'a [u16],
+    links: &[u8],
+    numbers: &[u8],
+    order: &[u16],
     others: bool,
 ) -> u32
     ensures { λ r. ⌜ r ≡ site-refusal n (lengths-of (tables (now (links .entry)) (now (numbers .entry)) (now (order .entry)))) others (sound n (tables (now (links .entry)) (now (numbers .entry)) (now (order .entry)))) 0 ⌝ }
@@ -293,7 +293,7 @@ pub fn refusal<'a>(
 }
 
 // The soundness check: refusal number 1 or 2 and the value 0, or number 0 and the value 1 when the tables are sound, 0 when not.
-pub fn check<'a>(n: u32, links: &'a [u8], numbers: &'a [u8], order: &'a [u16]) -> Value
+pub fn check(n: u32, links: &[u8], numbers: &[u8], order: &[u16]) -> Value
     ensures { λ r. ⌜ Check-contract n (tables (now (links .entry)) (now (numbers .entry)) (now (order .entry))) r ⌝ }
 {
     let number = crate::sizes::of_tables(
