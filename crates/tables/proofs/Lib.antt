@@ -5,10 +5,10 @@ pub mod MaskLaws
 pub mod WordLaws
 -- a list written from the front: what is left gives what the whole gives
 pub mod Listing
--- the neighbours that a row marks, as a list: for callers
-pub mod RowListLaws
 -- a row word by word
 pub mod RowWords
+-- the neighbours that a row marks, as a list: for callers
+pub mod RowListLaws
 -- tables of both widths
 pub mod WidthLaws
 -- questions 1 and 2

@@ -6,7 +6,6 @@ use mathlib.Core.List.{List, [], _∷_, _++_, append-nil}
 use Prim.Native.Nat.{ℕ, zero, suc, _+_, _*_, _-_, _≤_, _<_}
 use native.Mathlib.Omega.{arith}
 use lib.ListN.{length}
-use borrow.Author.Tests.{le-leb, lt-leb}
 use Rattle.mesh.specs.Limits.{max-radios, row-bytes}
 use Rattle.mesh.specs.Lists.{range, count, filter, member}
 use Rattle.mesh.specs.Graph.{linked}
@@ -17,6 +16,7 @@ use Rattle.mesh.proofs.RowLaws.{within-of}
 use Rattle.mesh.proofs.ReadBack.{linked-graph-in}
 use Rattle.tables.specs.Rows.{neighbours-of, row-listed}
 use Rattle.tables.proofs.Listing.{range-append}
+use Rattle.tables.proofs.RowWords.{row-listed-whole}
 
 -- ---- laws of lists: ascending entries
 
@@ -92,15 +92,7 @@ pub neighbours-of-linked : (n : ℕ) (ts : List ℕ) → n ≤ max-radios → sy
 neighbours-of-linked n ts big s r w a la = neighbours-of-filter n ts a (linked (graph-in n ts) a) big
     (λ b lb. sym (linked-graph-in n ts s r a b la lb)) (λ b nb lb. within-of n ts w a b la nb lb)
 
--- ---- row-listed: the whole row, or none of it
-
-pub row-listed-whole : (ts : List ℕ) (a : ℕ) → row-bytes * a + row-bytes ≤ length ts → row-listed ts a ≡ neighbours-of ts a
-unfolding row-listed
-row-listed-whole ts a h = rw (le-leb (row-bytes * a + row-bytes) (length ts) h)
-
-pub row-listed-short : (ts : List ℕ) (a : ℕ) → length ts < row-bytes * a + row-bytes → row-listed ts a ≡ []
-unfolding row-listed
-row-listed-short ts a h = rw (lt-leb (row-bytes * a + row-bytes) (length ts) h)
+-- ---- row-listed
 
 -- the rows of a table of n radios
 pub row-listed-radio : (n : ℕ) (ts : List ℕ) → length ts ≡ row-bytes * n → (a : ℕ) → a < n → row-listed ts a ≡ neighbours-of ts a

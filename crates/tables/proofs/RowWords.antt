@@ -1,22 +1,21 @@
 -- A row of the links table read word by word, as the loops over its words go: what is left of the row from word k on.
 use mathlib.Core.Path.{_≡_, refl, sym, ap, _∙_}
-use mathlib.Core.Bool.{true, false, cond}
 use mathlib.Core.List.{List, [], _++_}
-use Prim.Native.Nat.{ℕ, zero, suc, _+_, _*_, _-_, _/_, _%_, _≤_, _<_}
+use Prim.Native.Nat.{ℕ, _+_, _*_, _-_, _/_, _%_, _≤_, _<_, min}
 use native.Mathlib.Omega.{arith}
-use lib.ListN.{length, getD, length-append}
+use lib.ListN.{length, getD, take, length-append}
 use lib.Seq.{sets}
 use lib.Count.{ones}
 use borrow.Author.Tests.{le-leb, lt-leb}
 use Rattle.mesh.specs.Limits.{max-radios, row-bytes}
-use Rattle.mesh.specs.Lists.{range, filter}
+use Rattle.mesh.specs.Lists.{range, filter, overwrite}
 use Rattle.mesh.specs.Tables.{digit, byte-at, marked}
 use Rattle.mesh.proofs.ListLaws.{filter-append}
 use Rattle.tables.specs.Rows.{neighbours-of, row-listed, set-bits, word-at}
 use Rattle.tables.proofs.WordLaws.{set-bits-filter, length-set-bits, length-set-bits-le, word-at-less, digit-word-at}
-use Rattle.tables.proofs.Listing.{range-append, Listing, listing-part}
+use Rattle.tables.proofs.Listing.{range-append, sets-front, Listing, listing-part, listing-end}
 
--- ---- row-listed
+-- ---- row-listed: the whole row, or none of it
 
 pub row-listed-whole : (ts : List ℕ) (a : ℕ) → row-bytes * a + row-bytes ≤ length ts → row-listed ts a ≡ neighbours-of ts a
 unfolding row-listed
@@ -65,12 +64,12 @@ row-from-word ts bytes a k h =
 -- ---- one word more, as the loops' invariants have it
 
 -- n bits counted before word k
-abbrev pub Counting : (links : List ℕ) → (a n k : ℕ) → Type 0
-Counting ts a n k = (k ≤ 8) × (n ≤ 64 * k) × (n + length (row-from ts a k) ≡ length (neighbours-of ts a))
+abbrev pub Row-counting : (links : List ℕ) → (a n k : ℕ) → Type 0
+Row-counting ts a n k = (k ≤ 8) × (n ≤ 64 * k) × (n + length (row-from ts a k) ≡ length (neighbours-of ts a))
 
-pub counting-turn : (ts : List ℕ) → ((j : ℕ) → getD ts j 0 < 256) → (a n k w : ℕ) → k < 8 → w ≡ word-at 8 ts (row-bytes * a + 8 * k)
-    → Counting ts a n k → Counting ts a (n + ones w) (k + 1)
-counting-turn ts bytes a n k w h e i =
+pub row-counting-turn : (ts : List ℕ) → ((j : ℕ) → getD ts j 0 < 256) → (a n k w : ℕ) → k < 8 → w ≡ word-at 8 ts (row-bytes * a + 8 * k)
+    → Row-counting ts a n k → Row-counting ts a (n + ones w) (k + 1)
+row-counting-turn ts bytes a n k w h e i =
     let word = word-at 8 ts (row-bytes * a + 8 * k) in
     let bits = set-bits 64 (64 * k) word in
     let counted : length bits ≡ ones w = length-set-bits 64 (64 * k) word (word-at-less ts bytes (row-bytes * a + 8 * k) 8) ∙ ap ones (sym e) in (
@@ -80,14 +79,21 @@ counting-turn ts bytes a n k w h e i =
     )
 
 -- the neighbours before word k listed
-abbrev pub Rowing : (links : List ℕ) → (a : ℕ) → (old : List ℕ) → (n k : ℕ) → (list : List ℕ) → Type 0
-Rowing ts a old n k list = (k ≤ 8) × (n ≤ 64 * k) × Listing (neighbours-of ts a) 0 old (row-from ts a k) n list
+abbrev pub Row-listing : (links : List ℕ) → (a : ℕ) → (old : List ℕ) → (n k : ℕ) → (list : List ℕ) → Type 0
+Row-listing ts a old n k list = (k ≤ 8) × (n ≤ 64 * k) × Listing (neighbours-of ts a) 0 old (row-from ts a k) n list
 
-pub rowing-turn : (ts : List ℕ) → ((j : ℕ) → getD ts j 0 < 256) → (a : ℕ) (old : List ℕ) (n k w m : ℕ) (list new : List ℕ) → k < 8
-    → w ≡ word-at 8 ts (row-bytes * a + 8 * k) → m ≡ n + length (set-bits 64 (64 * k) w) → new ≡ sets list n (set-bits 64 (64 * k) w)
-    → Rowing ts a old n k list → Rowing ts a old m (k + 1) new
-rowing-turn ts bytes a old n k w m list new h e f g i = (
+pub row-listing-turn : (ts : List ℕ) → ((j : ℕ) → getD ts j 0 < 256) → (a : ℕ) (old : List ℕ) (n k w m : ℕ) (list new : List ℕ) → k < 8
+    → w ≡ word-at 8 ts (row-bytes * a + 8 * k) → m ≡ min (length list) (n + length (set-bits 64 (64 * k) w)) → new ≡ sets list n (set-bits 64 (64 * k) w)
+    → Row-listing ts a old n k list → Row-listing ts a old m (k + 1) new
+row-listing-turn ts bytes a old n k w m list new h e f g i = (
   omega arith,
   omega (arith, length-set-bits-le 64 (64 * k) w, i .1),
   rw (f, g, e) (listing-part (set-bits 64 (64 * k) (word-at 8 ts (row-bytes * a + 8 * k))) (row-from ts a (k + 1)) n list (rw (row-from-word ts bytes a k h) at (i .2))),
 )
+
+pub row-listing-end : (ts : List ℕ) (a : ℕ) (old : List ℕ) (n k : ℕ) (list : List ℕ) → 8 ≤ k → row-bytes * a + row-bytes ≤ length ts
+    → Row-listing ts a old n k list
+    → (n ≡ min (length old) (length (row-listed ts a))) × (list ≡ overwrite (take (length old) (row-listed ts a)) old)
+row-listing-end ts a old n k list h l i =
+    let at-end = listing-end (row-from ts a k) n list (row-from-end ts a k h) (i .2) in
+    rw (row-listed-whole ts a l) (omega (arith, at-end .0), at-end .1 ∙ sets-front old (neighbours-of ts a))

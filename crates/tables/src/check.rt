@@ -251,7 +251,7 @@ pub fn examine(
     if !rises(numbers, order) {
         return false;
     }
-    let mut list = [0u16; Site::NEIGHBOURS as usize];
+    let mut list = [0u16; Site::NEIGHBOURS as usize + 1];
     rows_checked(n, links, numbers, places, &mut list, highs)
 }
 

@@ -1,13 +1,19 @@
 // Rows of the links table: one bit tested, set or cleared, a row's neighbours listed, a row's neighbours counted.
 // The bits of a row are walked here and nowhere else.
 ghost use mathlib.Core.Path.{_≡_};
-ghost use Prim.Native.Nat.{_≤_, _<_, _+_, _*_};
+ghost use Prim.Native.Nat.{_≤_, _+_, min};
 ghost use lib.ListN.{length, take, set};
 ghost use lib.Seq.{sets};
 ghost use Rattle.mesh.specs.Limits.{max-radios};
 ghost use Rattle.mesh.specs.Lists.{overwrite};
 ghost use Rattle.mesh.specs.Tables.{marked, put-bit, put-link};
 ghost use Rattle.tables.specs.Rows.{row-listed, set-bits, word-at};
+
+// The bits of a word.
+const WORD_BITS: u32 = 64;
+
+// The words of a row.
+const ROW_WORDS: u32 = mesh::Site::RADIOS / WORD_BITS;
 
 // Whether bit b of row a is set; a bit past the table is not.
 pub fn is_marked(links: &[u8], a: u32, b: u32) -> bool
@@ -43,6 +49,15 @@ pub fn put_link(links: &mut [u8], up: bool, a: u32, b: u32)
     put_bit(links, up, b, a);
 }
 
+// Writes x at a place of the list; past the list nothing changes.
+pub fn put_entry(list: &mut [u16], at: usize, x: u16)
+    ensures { λ _. ⌜ now (list .exit) ≡ set (now (list .entry)) at x ⌝ }
+{
+    if at < list.len() {
+        list[at] = x;
+    }
+}
+
 // The eight bytes of the table from `at` on, as one word, lowest byte first.
 fn word_at(links: &[u8], at: usize) -> u64
     requires { ⌜ at + 8 ≤ length (now links) ⌝ }
@@ -58,26 +73,37 @@ fn word_at(links: &[u8], at: usize) -> u64
         | (links[at + 7] as u64) << 56
 }
 
-// Writes x at a place of the list; past the list nothing changes.
-pub fn put_entry(list: &mut [u16], at: usize, x: u16)
-    ensures { λ _. ⌜ now (list .exit) ≡ set (now (list .entry)) at x ⌝ }
+// How many radios row a marks; of a row that is not whole in the table 0.
+pub fn row_degree(links: &[u8], a: u32) -> u32
+    ensures { λ r. ⌜ r ≡ length (row-listed (now (links .entry)) a) ⌝ }
 {
-    if at < list.len() {
-        list[at] = x;
+    let start = mesh::Site::ROW_BYTES * a as usize;
+    if links.len() < start + mesh::Site::ROW_BYTES {
+        return 0;
     }
+    let mut n: u32 = 0;
+    let mut k: u32 = 0;
+    while k < ROW_WORDS {
+        n += u64::count_ones(word_at(links, start + 8 * k as usize));
+        k += 1;
+    }
+    n
 }
 
-// Writes the places of the word's set bits, counted from `first`, into the list from place `count` on, as far as it reaches.
-// Comes back with the count of all places so far, written or not.
+// Writes the places of the word's set bits, counted from `first`, into the list from place `count` on, until it is full, and
+// comes back with the count of entries so far. The loop is small, so that it is unrolled word by word.
 fn list_bits(word: u64, first: u32, list: &mut [u16], count: u32) -> u32
-    requires { ⌜ (count ≤ first) × (first + 64 ≤ max-radios) ⌝ }
-    ensures counted { λ r. ⌜ r ≡ count + length (set-bits 64 first word) ⌝ }
+    requires { ⌜ (count ≤ first) × (first + 64 ≤ max-radios) × (count ≤ length (now list)) ⌝ }
+    ensures counted { λ r. ⌜ r ≡ min (length (now (list .entry))) (count + length (set-bits 64 first word)) ⌝ }
     ensures listed { λ _. ⌜ now (list .exit) ≡ sets (now (list .entry)) count (set-bits 64 first word) ⌝ }
 {
     let mut rest = word;
     let mut n = count;
     while rest != 0 {
-        put_entry(list, n as usize, (first + u64::trailing_zeros(rest)) as u16);
+        if list.len() <= n as usize {
+            return n;
+        }
+        list[n as usize] = (first + u64::trailing_zeros(rest)) as u16;
         rest = rest & (rest - 1);
         n += 1;
     }
@@ -96,26 +122,18 @@ pub fn row_neighbours(links: &[u8], a: u32, list: &mut [u16]) -> u32
     }
     let mut n: u32 = 0;
     let mut k: u32 = 0;
-    while k < mesh::Site::RADIOS / 64 {
-        n = list_bits(word_at(links, start + 8 * k as usize), 64 * k, list, n);
+    while k < ROW_WORDS {
+        n = list_bits(
+            word_at(links, start + 8 * k as usize),
+            WORD_BITS * k,
+            list,
+            n,
+        );
         k += 1;
     }
-    n
-}
-
-// How many radios row a marks; of a row that is not whole in the table 0.
-pub fn row_degree(links: &[u8], a: u32) -> u32
-    ensures { λ r. ⌜ r ≡ length (row-listed (now (links .entry)) a) ⌝ }
-{
-    let start = mesh::Site::ROW_BYTES * a as usize;
-    if links.len() < start + mesh::Site::ROW_BYTES {
-        return 0;
+    // a list that is full may hold less than all
+    if (n as usize) < list.len() {
+        return n;
     }
-    let mut n: u32 = 0;
-    let mut k: u32 = 0;
-    while k < mesh::Site::RADIOS / 64 {
-        n += u64::count_ones(word_at(links, start + 8 * k as usize));
-        k += 1;
-    }
-    n
+    row_degree(links, a)
 }

@@ -5,72 +5,54 @@ use borrow.Author.Needs.{needs}
 use Rattle.tables.proofs.MaskLaws.{put-bit-true, put-bit-false, put-bit-past}
 use Rattle.tables.proofs.rows.put_bit.Statement.{statement}
 use Rattle.tables.proofs.rows.put_bit.Tie as tie
-use Rattle.tables.proofs.rows.put_bit.Reads as reads
-use Rattle.tables.proofs.rows.put_bit.Lts as lts
 
--- src/rows.rt:24:14
 mul-at : tie.Need-mul-at
 mul-at c = search needs
 
--- src/rows.rt:24:51
 cast-at : tie.Need-cast-at
 cast-at c = search needs
 
--- src/rows.rt:24:14
 add-at : tie.Need-add-at
 add-at c = search needs
 
--- src/rows.rt:27:32
 cast-links : tie.Need-cast-links
 cast-links c = search needs
 
--- src/rows.rt:27:26
 shl-links : tie.Need-shl-links
 shl-links c = search needs
 
--- src/rows.rt:27:13
 slice-read-links : tie.Need-slice-read-links
 slice-read-links c = search needs
 
--- src/rows.rt:27:13
 slice-write-links : tie.Need-slice-write-links
 slice-write-links c = search needs
 
--- src/rows.rt:29:34
 cast-links-2 : tie.Need-cast-links-2
 cast-links-2 c = search needs
 
--- src/rows.rt:29:28
 shl-links-2 : tie.Need-shl-links-2
 shl-links-2 c = search needs
 
--- src/rows.rt:29:13
 slice-read-links-2 : tie.Need-slice-read-links-2
 slice-read-links-2 c = search needs
 
--- src/rows.rt:29:13
 slice-write-links-2 : tie.Need-slice-write-links-2
 slice-write-links-2 c = search needs
 
--- src/rows.rt:21:1
 same-length : tie.Need-same-length
 same-length c = search needs
 
--- src/rows.rt:21:1
 returns : tie.Need-returns
 returns c = rw (c .before .if2 .taken) (put-bit-true _ _ _)
 
--- src/rows.rt:21:1
 same-length-2 : tie.Need-same-length-2
 same-length-2 c = search needs
 
--- src/rows.rt:21:1
 returns-2 : tie.Need-returns-2
 returns-2 c =
     let call = c .before .before .before .args in
     rw (c .before .if2 .left) (put-bit-false _ (call .a) (call .b) (c .slice-known2 .given (64 * call .a + call .b / 8) .fits))
 
--- src/rows.rt:21:1
 returns-3 : tie.Need-returns-3
 returns-3 c = sym (put-bit-past _ _ _ _ (c .if1 .left))
 

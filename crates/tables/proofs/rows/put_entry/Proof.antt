@@ -4,26 +4,19 @@ use lib.Seq.{set-out}
 use borrow.Author.Needs.{needs}
 use Rattle.tables.proofs.rows.put_entry.Statement.{statement}
 use Rattle.tables.proofs.rows.put_entry.Tie as tie
-use Rattle.tables.proofs.rows.put_entry.Reads as reads
-use Rattle.tables.proofs.rows.put_entry.Lts as lts
 
--- src/rows.rt:65:9
 mul-list : tie.Need-mul-list
 mul-list c = search needs
 
--- src/rows.rt:65:9
 slice-write-list : tie.Need-slice-write-list
 slice-write-list c = search needs
 
--- src/rows.rt:61:1
 same-length : tie.Need-same-length
 same-length c = search needs
 
--- src/rows.rt:61:1
 returns : tie.Need-returns
 returns c = search needs
 
--- src/rows.rt:61:1
 returns-2 : tie.Need-returns-2
 returns-2 c = sym (set-out _ _ _ (c .if1 .left))
 

@@ -4,23 +4,16 @@ use borrow.Author.Needs.{needs}
 use Rattle.mesh.specs.Tables.{put-bit, put-link}
 use Rattle.tables.proofs.rows.put_link.Statement.{statement}
 use Rattle.tables.proofs.rows.put_link.Tie as tie
-use Rattle.tables.proofs.rows.put_link.Reads as reads
-use Rattle.tables.proofs.rows.put_link.Lts as lts
-use Rattle.tables.proofs.rows.put_bit.Reads as put-bit-reads
 
--- src/rows.rt:38:5
 put-bit-requires : tie.Need-put-bit-requires
 put-bit-requires c κs = search needs
 
--- src/rows.rt:39:5
 put-bit-requires-2 : tie.Need-put-bit-requires-2
 put-bit-requires-2 c κs = search needs
 
--- src/rows.rt:35:1
 same-length : tie.Need-same-length
 same-length c = search needs
 
--- src/rows.rt:35:1
 returns : tie.Need-returns
 unfolding put-link
 returns c =

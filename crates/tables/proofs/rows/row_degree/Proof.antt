@@ -1,84 +1,65 @@
 -- `rows::row_degree` meets its contract: the bits counted so far and those from word k on are all bits of the row.
 -- The measure is the words that are left.
-use mathlib.Core.Path.{_≡_, sym, ap, _∙_}
-use Prim.Native.Nat.{_+_, _*_, _-_, _≤_, _<_}
+use mathlib.Core.Path.{sym, ap}
+use Prim.Native.Nat.{_-_}
 use native.Mathlib.Omega.{arith}
 use lib.ListN.{length}
 use borrow.Author.Needs.{needs}
-use Rattle.tables.specs.Rows.{neighbours-of}
-use Rattle.tables.proofs.RowWords.{Counting, counting-turn, row-from-zero, row-from-end, row-listed-whole, row-listed-short}
+use Rattle.tables.proofs.RowWords.{Row-counting, row-counting-turn, row-from-zero, row-from-end, row-listed-whole, row-listed-short}
 use Rattle.tables.proofs.rows.row_degree.Statement.{statement}
 use Rattle.tables.proofs.rows.row_degree.Tie as tie
-use Rattle.tables.proofs.rows.row_degree.Reads as reads
-use Rattle.tables.proofs.rows.row_degree.Lts as lts
-use Rattle.tables.proofs.rows.word_at.Reads as word-at-reads
 
 abbrev Inv-loop : tie.InvT-loop
-Inv-loop links a start n₀ k₀ n k = Counting links a n k
+Inv-loop links a start n₀ k₀ n k = Row-counting links a n k
 
 abbrev μ-loop : tie.MeasureT-loop
 μ-loop links a start n₀ k₀ n k = 8 - k
 
--- src/rows.rt:109:17
 mul-start : tie.Need-mul-start Inv-loop μ-loop
 mul-start c = search needs
 
--- src/rows.rt:110:22
 add-if1 : tie.Need-add-if1 Inv-loop μ-loop
 add-if1 c = search needs
 
--- src/rows.rt:111:9
 returns : tie.Need-returns Inv-loop μ-loop
 returns c = sym (ap length (row-listed-short _ _ (c .if1 .taken)))
 
--- src/rows.rt:115:5
 loop-holds : tie.Need-loop-holds Inv-loop μ-loop
 loop-holds c = (omega arith, omega arith, omega (arith, ap length (row-from-zero (c .before .before .args .links .now) (c .before .before .args .a))))
 
--- src/rows.rt:116:57
 cast-word-at : tie.Need-cast-word-at Inv-loop μ-loop
 cast-word-at c = search needs
 
--- src/rows.rt:116:53
 mul-word-at : tie.Need-mul-word-at Inv-loop μ-loop
 mul-word-at c = search needs
 
--- src/rows.rt:116:45
 add-word-at : tie.Need-add-word-at Inv-loop μ-loop
 add-word-at c = search needs
 
--- src/rows.rt:116:30
 word-at-requires : tie.Need-word-at-requires Inv-loop μ-loop
 word-at-requires c κs = search needs
 
--- src/rows.rt:116:9
-add-n : tie.Need-add-n Inv-loop μ-loop
-add-n c =
-    let at-loop = c .before .before in
-    omega (arith, counting-turn _ (λ j. at-loop .before .before .shared-slice-known .given j .fits) _ (at-loop .loop .n) (at-loop .loop .k) _ (c .before .loop-test .taken) (c .word-at .ensures) (at-loop .loop .inv) .1)
-
--- src/rows.rt:117:9
-add-k : tie.Need-add-k Inv-loop μ-loop
-add-k c = search needs
-
--- src/rows.rt:115:5
-loop-less : tie.Need-loop-less Inv-loop μ-loop
-loop-less c = search needs
-
--- src/rows.rt:115:5
 loop-again : tie.Need-loop-again Inv-loop μ-loop
 loop-again c =
     let at-loop = c .before .before in
-    counting-turn _ (λ j. at-loop .before .before .shared-slice-known .given j .fits) _ (at-loop .loop .n) (at-loop .loop .k) _ (c .before .loop-test .taken) (c .word-at .ensures) (at-loop .loop .inv)
+    row-counting-turn _ (λ j. at-loop .before .before .shared-slice-known .given j .fits) _ (at-loop .loop .n) (at-loop .loop .k) _ (omega arith) (c .word-at .ensures) (at-loop .loop .inv)
 
--- src/rows.rt:106:1
+add-n : tie.Need-add-n Inv-loop μ-loop
+add-n c = omega (arith, loop-again c .1)
+
+add-k : tie.Need-add-k Inv-loop μ-loop
+add-k c = search needs
+
+loop-less : tie.Need-loop-less Inv-loop μ-loop
+loop-less c = search needs
+
 returns-2 : tie.Need-returns-2 Inv-loop μ-loop
 returns-2 c =
     let call = c .before .before .before .before .args in
     omega (
       arith,
       c .before .loop .inv .2,
-      ap length (row-from-end (call .links .now) (call .a) (c .before .loop .k) (c .loop-test .left)),
+      ap length (row-from-end (call .links .now) (call .a) (c .before .loop .k) (omega arith)),
       ap length (row-listed-whole (call .links .now) (call .a) (c .before .before .if1 .left)),
     )
 

@@ -5,102 +5,76 @@ use borrow.Author.Needs.{needs}
 use Rattle.tables.proofs.WordLaws.{word-at-joined}
 use Rattle.tables.proofs.rows.word_at.Statement.{statement}
 use Rattle.tables.proofs.rows.word_at.Tie as tie
-use Rattle.tables.proofs.rows.word_at.Reads as reads
-use Rattle.tables.proofs.rows.word_at.Lts as lts
 
--- src/rows.rt:50:5
 shared-slice-read-result : tie.Need-shared-slice-read-result
 shared-slice-read-result c = search needs
 
--- src/rows.rt:50:5
 cast-result : tie.Need-cast-result
 cast-result c = omega (arith, c .shared-slice-known .given (c .before .args .at))
 
--- src/rows.rt:51:18
 add-result : tie.Need-add-result
 add-result c = search needs
 
--- src/rows.rt:51:12
 shared-slice-read-result-2 : tie.Need-shared-slice-read-result-2
 shared-slice-read-result-2 c = search needs
 
--- src/rows.rt:51:12
 cast-result-2 : tie.Need-cast-result-2
 cast-result-2 c = omega (arith, c .shared-slice-known2 .given (c .before .before .args .at + 1))
 
--- src/rows.rt:52:18
 add-result-2 : tie.Need-add-result-2
 add-result-2 c = search needs
 
--- src/rows.rt:52:12
 shared-slice-read-result-3 : tie.Need-shared-slice-read-result-3
 shared-slice-read-result-3 c = search needs
 
--- src/rows.rt:52:12
 cast-result-3 : tie.Need-cast-result-3
 cast-result-3 c = omega (arith, c .shared-slice-known3 .given (c .before .before .before .args .at + 2))
 
--- src/rows.rt:53:18
 add-result-3 : tie.Need-add-result-3
 add-result-3 c = search needs
 
--- src/rows.rt:53:12
 shared-slice-read-result-4 : tie.Need-shared-slice-read-result-4
 shared-slice-read-result-4 c = search needs
 
--- src/rows.rt:53:12
 cast-result-4 : tie.Need-cast-result-4
 cast-result-4 c = omega (arith, c .shared-slice-known4 .given (c .before .before .before .before .args .at + 3))
 
--- src/rows.rt:54:18
 add-result-4 : tie.Need-add-result-4
 add-result-4 c = search needs
 
--- src/rows.rt:54:12
 shared-slice-read-result-5 : tie.Need-shared-slice-read-result-5
 shared-slice-read-result-5 c = search needs
 
--- src/rows.rt:54:12
 cast-result-5 : tie.Need-cast-result-5
 cast-result-5 c = omega (arith, c .shared-slice-known5 .given (c .before .before .before .before .before .args .at + 4))
 
--- src/rows.rt:55:18
 add-result-5 : tie.Need-add-result-5
 add-result-5 c = search needs
 
--- src/rows.rt:55:12
 shared-slice-read-result-6 : tie.Need-shared-slice-read-result-6
 shared-slice-read-result-6 c = search needs
 
--- src/rows.rt:55:12
 cast-result-6 : tie.Need-cast-result-6
 cast-result-6 c = omega (arith, c .shared-slice-known6 .given (c .before .before .before .before .before .before .args .at + 5))
 
--- src/rows.rt:56:18
 add-result-6 : tie.Need-add-result-6
 add-result-6 c = search needs
 
--- src/rows.rt:56:12
 shared-slice-read-result-7 : tie.Need-shared-slice-read-result-7
 shared-slice-read-result-7 c = search needs
 
--- src/rows.rt:56:12
 cast-result-7 : tie.Need-cast-result-7
 cast-result-7 c = omega (arith, c .shared-slice-known7 .given (c .before .before .before .before .before .before .before .args .at + 6))
 
--- src/rows.rt:57:18
 add-result-7 : tie.Need-add-result-7
 add-result-7 c = search needs
 
--- src/rows.rt:57:12
 shared-slice-read-result-8 : tie.Need-shared-slice-read-result-8
 shared-slice-read-result-8 c = search needs
 
--- src/rows.rt:57:12
 cast-result-8 : tie.Need-cast-result-8
 cast-result-8 c = omega (arith, c .shared-slice-known8 .given (c .before .before .before .before .before .before .before .before .args .at + 7))
 
--- src/rows.rt:46:1
 returns : tie.Need-returns
 returns c = word-at-joined _ (λ j. c .shared-slice-known8 .given j .fits) _
 
