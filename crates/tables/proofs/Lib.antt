@@ -1,4 +1,4 @@
--- Laws of leaf code on lent tables.
+-- Laws of what the contracts of the leaf code cite, for its functions and their callers.
 -- one bit by shift and mask
 pub mod MaskLaws
 -- words of eight bytes, and their set bits
@@ -9,3 +9,22 @@ pub mod Listing
 pub mod RowWords
 -- the neighbours that a row marks, as a list: for callers
 pub mod RowListLaws
+-- tables of both widths
+pub mod WidthLaws
+-- questions 1 and 2
+pub mod SizeLaws
+-- the signed step
+pub mod StepLaws
+-- clearing
+pub mod ClearLaws
+-- soundness row by row
+pub mod CheckLaws
+-- the loops of the check: the order, one row, all rows
+pub mod CheckLoops
+pub mod RowChecks
+pub mod AllRows
+-- the whole check, and its callers
+pub mod ExamineLaws
+-- the contracts of clearing and of the check are the named ones, and nothing is required
+pub mod Ties
+pub mod CheckTie

@@ -1,2 +1,6 @@
--- What leaf code on lent tables gives back, in document 01's terms.
+-- What the contracts of the leaf code cite beside the definitions of mesh and calls.
 pub mod Rows
+pub mod Widths
+pub mod Sizes
+pub mod Steps
+pub mod Checks

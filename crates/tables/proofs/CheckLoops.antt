@@ -1,0 +1,181 @@
+-- The loops of the check on plain values: each invariant, its start, a turn, its end.
+-- In order: laws of lists, numbers along the order, places of the order.
+use mathlib.Core.Path.{_≡_, refl, sym, ap, _∙_}
+use mathlib.Core.Logic.{_⊎_, inl, inr}
+use mathlib.Core.Bool.{Bool, true, false, _&&_}
+use mathlib.Core.List.{List, [], _∷_}
+use Prim.Native.Nat.{ℕ, zero, suc, _+_, _≤_, _<_}
+use native.Mathlib.Omega.{arith}
+use native.Mathlib.Numerals.{add-one}
+use lib.Dec.{leb, eqb}
+use lib.ListN.{length, getD, drop, set, replicate, length-set, length-replicate, getD-replicate}
+use lib.Seq.{drop-cons, drop-length, getD-set-same, getD-set-other}
+use borrow.Author.Tests.{le-leb, lt-leb, eqb-true, eqb-false}
+use Rattle.mesh.specs.Limits.{max-radios}
+use Rattle.mesh.specs.Orders.{each-once, rising}
+use Rattle.mesh.specs.Sound.{number-in}
+use Rattle.mesh.proofs.BoolLaws.{bool-cases, never, trichotomy}
+use Rattle.mesh.proofs.ListLaws.{In, Distinct, Each-once, once-of, once-below, once-distinct}
+use Rattle.mesh.proofs.OrderLaws.{each-once-of, of-each-once}
+use Rattle.tables.specs.Checks.{Placed, Placing, nowhere, rising-from}
+use Rattle.tables.proofs.CheckLaws.{getD-in, in-getD}
+
+-- ---- numbers along the order
+
+rising-cons : (num : ℕ → ℕ) (x : ℕ) (xs : List ℕ) → rising-from num (num x) xs ≡ rising num (x ∷ xs)
+unfolding rising-from rising
+rising-cons num x [] = refl
+rising-cons num x (y ∷ ys) = ap (λ (b : Bool). leb (num x) (num y) && b) (rising-cons num y ys)
+
+rising-from-zero : (num : ℕ → ℕ) (xs : List ℕ) → rising-from num 0 xs ≡ rising num xs
+unfolding rising-from rising
+rising-from-zero num [] = refl
+rising-from-zero num (x ∷ xs) = rw (le-leb 0 (num x) (omega arith)) (rising-cons num x xs)
+
+rising-from-drop : (num : ℕ → ℕ) (xs : List ℕ) (m i : ℕ) → i < length xs
+    → rising-from num m (drop i xs) ≡ (leb m (num (getD xs i 0)) && rising-from num (num (getD xs i 0)) (drop (suc i) xs))
+unfolding rising-from
+rising-from-drop num xs m i l = rw (drop-cons xs i 0 l)
+
+-- no number has fallen along the first i entries, of which the last has number m
+pub record Rising-so-far (num : ℕ → ℕ) (xs : List ℕ) (m i : ℕ) : Type 0 where
+  pub low : i ≤ length xs
+  pub left : rising-from num m (drop i xs) ≡ rising num xs
+
+module _ {num : ℕ → ℕ} {xs : List ℕ} where
+  pub rising-none : Rising-so-far num xs 0 0
+  rising-none = record { low = omega arith; left = rising-from-zero num xs }
+
+  pub rising-turn : (m i : ℕ) → i < length xs → m ≤ num (getD xs i 0) → Rising-so-far num xs m i → Rising-so-far num xs (num (getD xs i 0)) (i + 1)
+  rising-turn m i l h s = record {
+    low = omega arith;
+    left = rw add-one (sym (rw (le-leb m (num (getD xs i 0)) h) at (rising-from-drop num xs m i l)) ∙ s .left);
+  }
+
+  pub rising-falls : (m i : ℕ) → i < length xs → num (getD xs i 0) < m → Rising-so-far num xs m i → rising num xs ≡ false
+  rising-falls m i l h s = sym (s .left) ∙ (rw (lt-leb m (num (getD xs i 0)) h) at (rising-from-drop num xs m i l))
+
+  pub rising-end : (m i : ℕ) → length xs ≤ i → Rising-so-far num xs m i → rising num xs ≡ true
+  unfolding rising-from
+  rising-end m i l s =
+      let e : i ≡ length xs = omega arith in
+      sym (s .left) ∙ ap (λ (k : ℕ). rising-from num m (drop k xs)) e ∙ ap (rising-from num m) (drop-length xs)
+
+-- ---- places of the order
+
+-- a list whose entries tell their own places has no repeats
+distinct-at : (place : ℕ → ℕ) (k : ℕ) (xs : List ℕ) → ((j : ℕ) → j < length xs → place (getD xs j 0) ≡ k + j) → Distinct xs
+distinct-at place k [] h = tt
+distinct-at place k (x ∷ xs) h = (
+  λ m. let r = in-getD x xs m in
+      omega (arith, h 0 (omega arith), h (suc (r .0)) (omega (arith, r .1)), ap place (r .2)),
+  distinct-at place (suc k) xs (λ j l. omega (arith, h (suc j) (omega arith))),
+)
+
+-- two places of one radio
+twice : (xs : List ℕ) (i j : ℕ) → i < j → j < length xs → getD xs i 0 ≡ getD xs j 0 → Distinct xs → ⊥
+twice [] i j h l e d = omega arith
+twice (x ∷ xs) i zero h l e d = omega arith
+twice (x ∷ xs) zero (suc j) h l e d = d .0 (rw (← e) at (getD-in xs j (omega arith)))
+twice (x ∷ xs) (suc i) (suc j) h l e d = twice xs i j (omega arith) (omega arith) e (d .1)
+
+not-once : (n : ℕ) (xs : List ℕ) → (Each-once n xs → ⊥) → each-once n xs ≡ false
+not-once n xs h = pick (bool-cases (each-once n xs))
+  where
+    pick : (each-once n xs ≡ true) ⊎ (each-once n xs ≡ false) → each-once n xs ≡ false
+    pick (inl e) = absurd (h (each-once-of n xs e))
+    pick (inr e) = e
+
+-- the first i entries of the order have their places, and no other radio has one
+pub record Placing-so-far (order : List ℕ) (size : ℕ) (places : List ℕ) (i : ℕ) : Type 0 where
+  pub low : i ≤ length order
+  pub long : length places ≡ size
+  pub at : (j : ℕ) → j < i → (getD order j 0 < length order) × (getD places (getD order j 0) 0 ≡ j)
+  pub from : (v : ℕ) → v < length order → (getD places v 0 ≡ nowhere) ⊎ ((getD places v 0 < i) × (getD order (getD places v 0) 0 ≡ v))
+
+module _ (order before filled : List ℕ) (pre : (length order ≤ length before) × (length order ≤ max-radios)) (e : filled ≡ replicate (length before) nowhere) where
+  size : length filled ≡ length before
+  size = ap length e ∙ length-replicate (length before) nowhere
+
+  pub placing-none : Placing-so-far order (length filled) filled 0
+  placing-none = record {
+    low = omega arith;
+    long = refl;
+    at = λ j l. absurd (omega arith);
+    from = λ v l. inl (ap (λ (xs : List ℕ). getD xs v 0) e ∙ getD-replicate (length before) v nowhere 0 (omega arith));
+  }
+
+  module _ (places : List ℕ) (i : ℕ) (l : i < length order) (s : Placing-so-far order (length filled) places i) where
+    -- an entry that is no radio
+    pub placing-high : length order ≤ getD order i 0 → each-once (length order) order ≡ false
+    placing-high h = not-once (length order) order (λ o. omega (arith, once-below (length order) order o (getD order i 0) (getD-in order i l)))
+
+    -- an entry that stood there before
+    pub placing-again : getD order i 0 < length order → (getD places (getD order i 0) 0 ≡ nowhere → ⊥) → each-once (length order) order ≡ false
+    placing-again h some = pick (s .from (getD order i 0) h)
+      where
+        pick : (getD places (getD order i 0) 0 ≡ nowhere) ⊎ ((getD places (getD order i 0) 0 < i) × (getD order (getD places (getD order i 0) 0) 0 ≡ getD order i 0))
+            → each-once (length order) order ≡ false
+        pick (inl e) = absurd (some e)
+        pick (inr r) = not-once (length order) order (λ o. twice order (getD places (getD order i 0) 0) i (r .0) l (r .1) (once-distinct (length order) order o))
+
+    pub placing-room : getD order i 0 < length order → getD order i 0 < length places
+    placing-room h = omega (arith, s .long, size)
+
+    pub placing-turn : getD order i 0 < length order → getD places (getD order i 0) 0 ≡ nowhere
+        → Placing-so-far order (length filled) (set places (getD order i 0) i) (i + 1)
+    placing-turn h free = record {
+      low = omega arith;
+      long = length-set places (getD order i 0) i ∙ s .long;
+      at = λ j k. at-next j (trichotomy j i) k;
+      from = λ w k. from-next w (bool-cases (eqb w (getD order i 0))) k;
+    }
+      where
+        after : List ℕ
+        after = set places (getD order i 0) i
+
+        room : getD order i 0 < length places
+        room = placing-room h
+
+        at-next : (j : ℕ) → (j < i) ⊎ ((j ≡ i) ⊎ (i < j)) → j < i + 1 → (getD order j 0 < length order) × (getD after (getD order j 0) 0 ≡ j)
+        at-next j (inl k) _ =
+            let old = s .at j k in (
+              old .0,
+              getD-set-other places (getD order i 0) (getD order j 0) i 0 (λ e. omega (arith, old .1, free, ap (λ (w : ℕ). getD places w 0) e)) ∙ old .1,
+            )
+        at-next j (inr (inl e)) _ = rw e (h, getD-set-same places (getD order i 0) i 0 room)
+        at-next j (inr (inr k)) m = absurd (omega arith)
+
+        from-next : (w : ℕ) → (eqb w (getD order i 0) ≡ true) ⊎ (eqb w (getD order i 0) ≡ false) → w < length order
+            → (getD after w 0 ≡ nowhere) ⊎ ((getD after w 0 < i + 1) × (getD order (getD after w 0) 0 ≡ w))
+        from-next w (inl e) k =
+            let q = eqb-true w (getD order i 0) e in
+            let r : getD after w 0 ≡ i = ap (λ (x : ℕ). getD after x 0) q ∙ getD-set-same places (getD order i 0) i 0 room in
+            inr (omega (arith, r), ap (λ (x : ℕ). getD order x 0) r ∙ sym q)
+        from-next w (inr e) k =
+            let r = getD-set-other places (getD order i 0) w i 0 (eqb-false w (getD order i 0) e) in
+            rw r (other (s .from w k))
+          where
+            other : (getD places w 0 ≡ nowhere) ⊎ ((getD places w 0 < i) × (getD order (getD places w 0) 0 ≡ w))
+                → (getD places w 0 ≡ nowhere) ⊎ ((getD places w 0 < i + 1) × (getD order (getD places w 0) 0 ≡ w))
+            other (inl f) = inl f
+            other (inr f) = inr (omega (arith, f .0), f .1)
+
+  pub placing-end : (places : List ℕ) (i : ℕ) → length order ≤ i → Placing-so-far order (length filled) places i → Placing order before places true
+  placing-end places i l s = record {
+    answer = sym (of-each-once (length order) order (once-of (length order) order
+        (distinct-at (λ v. getD places v 0) 0 order (λ j k. omega (arith, s .at j (omega arith) .1)))
+        (λ v m. let r = in-getD v order m in omega (arith, ap (λ (w : ℕ). w) (r .2), s .at (r .0) (omega (arith, r .1)) .0)) refl));
+    placed = λ _. record { at = λ j k. s .at j (omega arith) .1 };
+    long = s .long ∙ size;
+  }
+
+  pub placing-not : (places : List ℕ) (i : ℕ) → Placing-so-far order (length filled) places i → each-once (length order) order ≡ false → Placing order before places false
+  placing-not places i s h = record {
+    answer = sym h;
+    placed = λ f. never false f refl;
+    long = s .long ∙ size;
+  }
+
+  pub placing-long : (places : List ℕ) (i : ℕ) → Placing-so-far order (length filled) places i → length places ≡ length before
+  placing-long places i s = s .long ∙ size

@@ -1,0 +1,198 @@
+-- One row of the check on plain values: the ends of a row counted, a row good or not.
+use mathlib.Core.Path.{_≡_, refl, sym, ap, _∙_}
+use mathlib.Core.Bool.{Bool, true, false, _&&_, not, cond}
+use mathlib.Core.List.{List, [], _∷_}
+use Prim.Native.Nat.{ℕ, zero, suc, _+_, _*_, _≤_, _<_}
+use native.Mathlib.Omega.{arith}
+use native.Mathlib.Numerals.{add-one}
+use mir.Syntax.{w32}
+use mir.Val.{boolByte, Fits}
+use lib.Dec.{ltb, leb, eqb}
+use lib.ListN.{length, getD, take, drop}
+use lib.Seq.{drop-cons, drop-length, getD-take, take-all, length-take-le}
+use borrow.Author.Tests.{lt-ltb, le-ltb, le-leb, lt-leb, eq-eqb, ne-eqb}
+use Rattle.mesh.specs.Limits.{max-radios, max-neighbours, row-bytes}
+use Rattle.mesh.specs.Lists.{count, all, overwrite}
+use Rattle.mesh.specs.Tables.{marked}
+use Rattle.mesh.specs.Sound.{number-in}
+use Rattle.mesh.proofs.BoolLaws.{never, bit-one}
+use Rattle.mesh.proofs.ListLaws.{count-le-length, take-overwrite}
+use Rattle.tables.specs.Rows.{neighbours-of, row-listed}
+use Rattle.tables.specs.Checks.{later-count, high-count, ends-good, row-good, Ends-counted, Rows-room, Row-checked}
+
+-- a test as a number
+pub byte-bit : (t : Bool) → boolByte t ≡ cond {A = ℕ} t 1 0
+byte-bit true = refl
+byte-bit false = refl
+
+pub count-fits : (x : ℕ) (t : Bool) → x ≤ max-radios → Fits w32 (x + boolByte t)
+count-fits x t l = omega (arith, byte-bit t, bit-one t)
+
+count-drop : (f : ℕ → Bool) (xs : List ℕ) (i : ℕ) → i < length xs → count f (drop i xs) ≡ boolByte (f (getD xs i 0)) + count f (drop (suc i) xs)
+unfolding count
+count-drop f xs i l = rw (drop-cons xs i 0 l, byte-bit (f (getD xs i 0)))
+
+all-drop : (f : ℕ → Bool) (xs : List ℕ) (i : ℕ) → i < length xs → all f (drop i xs) ≡ (f (getD xs i 0) && all f (drop (suc i) xs))
+unfolding all
+all-drop f xs i l = rw (drop-cons xs i 0 l)
+
+-- ---- the ends of a row
+
+-- the first i of the radios are good ends, and are counted
+pub record Counting (n : ℕ) (links numbers places : List ℕ) (a : ℕ) (xs : List ℕ) (later high i : ℕ) : Type 0 where
+  pub low : i ≤ length xs
+  pub good : ends-good n links a (drop i xs) ≡ ends-good n links a xs
+  pub later-is : later + later-count places a (drop i xs) ≡ later-count places a xs
+  pub high-is : high + high-count numbers a (drop i xs) ≡ high-count numbers a xs
+  pub few-later : later ≤ i
+  pub few-high : high ≤ i
+
+module _ (n : ℕ) (links numbers places : List ℕ) (a : ℕ) (list : List ℕ) (k : ℕ) (fits : k ≤ length list) where
+  abbrev xs : List ℕ
+  xs = take k list
+
+  long : length xs ≡ k
+  long = length-take-le k list fits
+
+  pub counting-none : Counting n links numbers places a xs 0 0 0
+  counting-none = record {
+    low = omega arith;
+    good = refl;
+    later-is = omega arith;
+    high-is = omega arith;
+    few-later = omega arith;
+    few-high = omega arith;
+  }
+
+  abbrev end-good : ℕ → Bool
+  end-good b = ltb b n && (not (eqb b a) && marked links b a)
+
+  module _ (later high i : ℕ) (l : i < k) (s : Counting n links numbers places a xs later high i) where
+    entry : getD xs i 0 ≡ getD list i 0
+    entry = getD-take k list i 0 l
+
+    ends-next : ends-good n links a xs ≡ (end-good (getD list i 0) && ends-good n links a (drop (suc i) xs))
+    unfolding ends-good
+    ends-next =
+        sym (s .good) ∙ all-drop end-good xs i (omega (arith, long))
+        ∙ ap (λ (b : ℕ). end-good b && all end-good (drop (suc i) xs)) entry
+
+    not-good : ends-good n links a xs ≡ false → Ends-counted n links numbers places a xs false 0 0
+    not-good e = record { answer = sym e; later-is = λ f. never false f refl; high-is = λ f. never false f refl }
+
+    -- an entry that is no radio of the site
+    pub counting-high : n ≤ getD list i 0 → Ends-counted n links numbers places a xs false 0 0
+    counting-high h = not-good (ends-next ∙ rw (le-ltb (getD list i 0) n h))
+
+    -- the radio itself
+    pub counting-self : getD list i 0 < n → getD list i 0 ≡ a → Ends-counted n links numbers places a xs false 0 0
+    counting-self h e = not-good (ends-next ∙ rw (lt-ltb (getD list i 0) n h, eq-eqb (getD list i 0) a e))
+
+    -- an entry whose row does not mark a
+    pub counting-alone : getD list i 0 < n → (getD list i 0 ≡ a → ⊥) → marked links (getD list i 0) a ≡ false
+        → Ends-counted n links numbers places a xs false 0 0
+    counting-alone h d m = not-good (ends-next ∙ rw (lt-ltb (getD list i 0) n h, ne-eqb (getD list i 0) a d, m))
+
+    pub counting-turn : getD list i 0 < n → (getD list i 0 ≡ a → ⊥) → marked links (getD list i 0) a ≡ true
+        → Counting n links numbers places a xs
+        (later + boolByte (ltb (getD places a 0) (getD places (getD list i 0) 0)))
+        (high + boolByte (leb (getD numbers a 0) (getD numbers (getD list i 0) 0))) (i + 1)
+    unfolding later-count high-count
+    counting-turn h d m =
+        let is-later : ℕ → Bool = λ b. ltb (getD places a 0) (getD places b 0) in
+        let is-high : ℕ → Bool = λ b. leb (getD numbers a 0) (getD numbers b 0) in
+        let x = rw entry at (count-drop is-later xs i (omega (arith, long))) in
+        let y = rw entry at (count-drop is-high xs i (omega (arith, long))) in
+        record {
+          low = omega (arith, long);
+          good = rw add-one (sym (rw (lt-ltb (getD list i 0) n h, ne-eqb (getD list i 0) a d, m) at ends-next));
+          later-is = rw add-one (omega (arith, s .later-is, x));
+          high-is = rw add-one (omega (arith, s .high-is, y));
+          few-later = omega (arith, byte-bit (is-later (getD list i 0)), bit-one (is-later (getD list i 0)), s .few-later);
+          few-high = omega (arith, byte-bit (is-high (getD list i 0)), bit-one (is-high (getD list i 0)), s .few-high);
+        }
+
+  pub counting-end : (later high i : ℕ) → k ≤ i → Counting n links numbers places a xs later high i
+      → Ends-counted n links numbers places a xs true later high
+  unfolding ends-good later-count high-count all count
+  counting-end later high i l s =
+      let at : i ≡ length xs = omega (arith, s .low, long) in
+      let e : drop i xs ≡ [] = ap (λ (j : ℕ). drop j xs) at ∙ drop-length xs in
+      record {
+        answer = rw e at (s .good);
+        later-is = λ _. let z = rw e at (s .later-is) in omega (arith, z);
+        high-is = λ _. let z = rw e at (s .high-is) in omega (arith, z);
+      }
+
+-- ---- one row
+
+row-listed-whole : (links : List ℕ) (a : ℕ) → row-bytes * a + row-bytes ≤ length links → row-listed links a ≡ neighbours-of links a
+unfolding row-listed
+row-listed-whole links a l = rw (le-leb (row-bytes * a + row-bytes) (length links) l)
+
+module _ (n : ℕ) (links numbers places : List ℕ) (a : ℕ) (list after : List ℕ) (k : ℕ)
+    (room : Rows-room n (length links) (length numbers) (length places) (length list)) (radio : a < n)
+    (counted : k ≡ length (row-listed links a)) (listed : after ≡ overwrite (take (length list) (row-listed links a)) list) where
+  abbrev near : List ℕ
+  near = neighbours-of links a
+
+  whole : row-listed links a ≡ near
+  whole = row-listed-whole links a (omega (arith, room .linked))
+
+  k-is : k ≡ length near
+  k-is = rw whole at counted
+
+  row-bad : row-good max-neighbours n links numbers places a ≡ false → Row-checked n links numbers places a false 0
+  row-bad e = record { answer = sym e; high-is = λ f. never false f refl; few = omega arith }
+
+  pub row-many : max-neighbours < k → Row-checked n links numbers places a false 0
+  unfolding row-good
+  row-many l = row-bad (rw (lt-leb (length near) max-neighbours (omega (arith, k-is))))
+
+  module _ (few : k ≤ max-neighbours) (good : Bool) (later high : ℕ) (ends : Ends-counted n links numbers places a (take k after) good later high) where
+    short : leb (length near) max-neighbours ≡ true
+    short = le-leb (length near) max-neighbours (omega (arith, k-is))
+
+    -- what is listed are the neighbours
+    near-is : take k after ≡ near
+    near-is =
+        let fits : length near ≤ length list = omega (arith, k-is, room .listed) in
+        ap (take k) (listed ∙ ap (λ (xs : List ℕ). overwrite (take (length list) xs) list) whole ∙ ap (λ (xs : List ℕ). overwrite xs list) (take-all (length list) near fits))
+        ∙ ap (λ (j : ℕ). take j (overwrite near list)) k-is ∙ take-overwrite near list
+
+    ends-are : Ends-counted n links numbers places a near good later high
+    ends-are = rw near-is at ends
+
+    pub row-ends-bad : good ≡ false → Row-checked n links numbers places a false 0
+    unfolding row-good
+    row-ends-bad e = row-bad (rw (short, sym (ends-are .answer) ∙ e))
+
+    module _ (g : good ≡ true) where
+      ends-good-are : ends-good n links a near ≡ true
+      ends-good-are = sym (ends-are .answer) ∙ g
+
+      pub row-later-bad : number-in numbers a < later → Row-checked n links numbers places a false 0
+      unfolding row-good
+      row-later-bad l = row-bad (rw (short, ends-good-are, lt-leb (later-count places a near) (number-in numbers a) (omega (arith, ends-are .later-is g))))
+
+      pub row-high-bad : later ≤ number-in numbers a → high < number-in numbers a → Row-checked n links numbers places a false 0
+      unfolding row-good
+      row-high-bad l h = row-bad (rw (
+        short,
+        ends-good-are,
+        le-leb (later-count places a near) (number-in numbers a) (omega (arith, ends-are .later-is g)),
+        lt-leb (number-in numbers a) (high-count numbers a near) (omega (arith, ends-are .high-is g)),
+      ))
+
+      pub row-right : later ≤ number-in numbers a → number-in numbers a ≤ high → Row-checked n links numbers places a true high
+      unfolding row-good high-count
+      row-right l h = record {
+        answer = sym (rw (
+          short,
+          ends-good-are,
+          le-leb (later-count places a near) (number-in numbers a) (omega (arith, ends-are .later-is g)),
+          le-leb (number-in numbers a) (high-count numbers a near) (omega (arith, ends-are .high-is g)),
+        ));
+        high-is = λ _. ends-are .high-is g;
+        few = omega (arith, ends-are .high-is g, count-le-length (λ b. leb (number-in numbers a) (number-in numbers b)) near, k-is);
+      }

@@ -1,0 +1,40 @@
+-- `check::check` meets its contract: questions 1 and 2 give the number, and soundness the value.
+use Rattle.mesh.specs.Tables.{tables}
+use Rattle.calls.specs.Questions.{lengths-of}
+use Rattle.tables.proofs.ExamineLaws.{check-refused, check-answered}
+use mathlib.Core.Path.{sym, _∙_}
+use borrow.Author.Needs.{needs}
+use Rattle.tables.proofs.check.check.Statement.{statement}
+use Rattle.tables.proofs.check.check.Tie as tie
+use Rattle.tables.proofs.check.check.Reads as reads
+use Rattle.tables.proofs.check.check.Lts as lts
+use Rattle.tables.proofs.check.is_sound.Reads as is-sound-reads
+use Rattle.tables.proofs.sizes.of_tables.Reads as of-tables-reads
+
+of-tables-requires : tie.Need-of-tables-requires
+of-tables-requires c κs = search needs
+
+returns : tie.Need-returns
+unfolding lengths-of
+returns c =
+    let asked = c .before in
+    let call = asked .before .before .before .before .args in
+    let t = tables (call .links .now) (call .numbers .now) (call .order .now) in
+    check-refused _ t _ (asked .of-tables .ensures) (c .if1 .taken)
+
+is-sound-requires : tie.Need-is-sound-requires
+is-sound-requires c κs = search needs
+
+cast-t11 : tie.Need-cast-t11
+cast-t11 c = search needs
+
+returns-2 : tie.Need-returns-2
+unfolding lengths-of
+returns-2 c =
+    let asked = c .before .before in
+    let call = asked .before .before .before .before .args in
+    let t = tables (call .links .now) (call .numbers .now) (call .order .now) in
+    check-answered _ t _ (sym (asked .of-tables .ensures) ∙ c .before .if1 .left) (c .is-sound .ensures)
+
+pub check-spec : {M : Type 1} → statement M
+check-spec = tie.close (tie.spec of-tables-requires returns is-sound-requires cast-t11 returns-2)

@@ -1,0 +1,112 @@
+-- `check::examine` meets its contract: with the order placed and its numbers rising, the rows decide (`sound-rows`).
+use native.Mathlib.Omega.{arith}
+use mathlib.Core.Path.{sym, _∙_}
+use borrow.Author.Tests.{not-true, not-false}
+use Rattle.mesh.specs.Tables.{tables}
+use Rattle.calls.specs.Questions.{lengths-of}
+use Rattle.tables.proofs.ExamineLaws.{examined-unfit, place-room, examined-unplaced, entries-below, examined-falls, rows-room, examined-rows}
+use borrow.Author.Needs.{needs}
+use Rattle.tables.proofs.check.examine.Statement.{statement}
+use Rattle.tables.proofs.check.examine.Tie as tie
+use Rattle.tables.proofs.check.examine.Reads as reads
+use Rattle.tables.proofs.check.examine.Lts as lts
+use Rattle.tables.proofs.check.is_examinable.Reads as is-examinable-reads
+use Rattle.tables.proofs.check.place.Reads as place-reads
+use Rattle.tables.proofs.check.rises.Reads as rises-reads
+use Rattle.tables.proofs.check.rows_checked.Reads as rows-checked-reads
+
+is-examinable-requires : tie.Need-is-examinable-requires
+is-examinable-requires c κs = search needs
+
+returns : tie.Need-returns
+unfolding lengths-of
+returns c =
+    let asked = c .before in
+    let call = asked .before .before .before .before .before .before .args in
+    let t = tables (call .links .now) (call .numbers .now) (call .order .now) in
+    examined-unfit _ t (call .places .now) (call .highs .now) (sym (asked .is-examinable .ensures) ∙ not-true _ (c .if1 .taken))
+
+place-requires : tie.Need-place-requires
+unfolding lengths-of
+place-requires c κs =
+    let asked = c .before .before in
+    let call = asked .before .before .before .before .before .before .args in
+    let t = tables (call .links .now) (call .numbers .now) (call .order .now) in
+    place-room _ t (call .places .now) (call .highs .now) (sym (asked .is-examinable .ensures) ∙ not-false _ (c .before .if1 .left))
+
+same-length : tie.Need-same-length
+same-length c = search needs
+
+returns-2 : tie.Need-returns-2
+unfolding lengths-of
+returns-2 c =
+    let asked = c .before .before .before .before .before .before in
+    let call = asked .before .before .before .before .before .before .args in
+    let t = tables (call .links .now) (call .numbers .now) (call .order .now) in
+    examined-unplaced _ t (call .places .now) (call .highs .now) (sym (asked .is-examinable .ensures) ∙ not-false _ (c .before .before .before .before .before .if1 .left)) _ _ (c .before .before .before .place .ensures) (not-true _ (c .if2 .taken))
+
+rises-requires : tie.Need-rises-requires
+unfolding lengths-of
+rises-requires c κs =
+    let asked = c .before .before .before .before .before .before in
+    let call = asked .before .before .before .before .before .before .args in
+    let t = tables (call .links .now) (call .numbers .now) (call .order .now) in
+    entries-below _ t (call .places .now) (call .highs .now) (sym (asked .is-examinable .ensures) ∙ not-false _ (c .before .before .before .before .before .if1 .left)) _ _ (c .before .before .before .place .ensures) (not-false _ (c .if2 .left))
+
+same-length-2 : tie.Need-same-length-2
+same-length-2 c = search needs
+
+returns-3 : tie.Need-returns-3
+unfolding lengths-of
+returns-3 c =
+    let asked = c .before .before .before .before .before .before .before .before in
+    let call = asked .before .before .before .before .before .before .args in
+    let t = tables (call .links .now) (call .numbers .now) (call .order .now) in
+    examined-falls _ t (call .places .now) (call .highs .now) (sym (asked .is-examinable .ensures) ∙ not-false _ (c .before .before .before .before .before .before .before .if1 .left))
+    _ _ (c .before .before .before .before .before .place .ensures) (not-false _ (c .before .before .if2 .left)) _ (c .before .rises .ensures) (not-true _ (c .if3 .taken))
+
+slice-aggregate-rows-checked : tie.Need-slice-aggregate-rows-checked
+slice-aggregate-rows-checked c = search needs
+
+rows-checked-requires : tie.Need-rows-checked-requires
+unfolding lengths-of
+rows-checked-requires c κs =
+    let asked = c .before .before .before .before .before .before .before .before .before .before .before in
+    let call = asked .before .before .before .before .before .before .args in
+    let t = tables (call .links .now) (call .numbers .now) (call .order .now) in
+    rows-room _ t (call .places .now) (call .highs .now) (sym (asked .is-examinable .ensures) ∙ not-false _ (c .before .before .before .before .before .before .before .before .before .before .if1 .left))
+    _ _ (c .before .before .before .before .before .before .before .before .place .ensures) (not-false _ (c .before .before .before .before .before .if2 .left)) _ (omega arith)
+
+same-length-3 : tie.Need-same-length-3
+same-length-3 c = search needs
+
+same-length-4 : tie.Need-same-length-4
+same-length-4 c = search needs
+
+returns-4 : tie.Need-returns-4
+unfolding lengths-of
+returns-4 c =
+    let asked = c .before .before .before .before .before .before .before .before .before .before .before .before .before .before .before in
+    let call = asked .before .before .before .before .before .before .args in
+    let t = tables (call .links .now) (call .numbers .now) (call .order .now) in
+    examined-rows _ t (call .places .now) (call .highs .now) (sym (asked .is-examinable .ensures) ∙ not-false _ (c .before .before .before .before .before .before .before .before .before .before .before .before .before .before .if1 .left))
+    _ _ (c .before .before .before .before .before .before .before .before .before .before .before .before .place .ensures) (not-false _ (c .before .before .before .before .before .before .before .before .before .if2 .left))
+    _ (c .before .before .before .before .before .before .before .before .rises .ensures) (not-false _ (c .before .before .before .before .before .before .before .if3 .left)) _ _ (c .before .before .before .rows-checked .ensures)
+
+pub examine-spec : {M : Type 1} → statement M
+examine-spec =
+    tie.close
+    (tie.spec
+    is-examinable-requires
+    returns
+    place-requires
+    same-length
+    returns-2
+    rises-requires
+    same-length-2
+    returns-3
+    slice-aggregate-rows-checked
+    rows-checked-requires
+    same-length-3
+    same-length-4
+    returns-4)

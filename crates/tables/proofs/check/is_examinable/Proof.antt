@@ -1,0 +1,27 @@
+-- `check::is_examinable` meets its contract: questions 1 and 2 are put with the shorter of the two lent tables as the answer table.
+use mathlib.Core.Path.{_≡_, sym, ap, _∙_}
+use Prim.Native.Nat.{ℕ, min}
+use lib.Dec.{eqb}
+use borrow.Author.Needs.{needs}
+use Rattle.calls.specs.Questions.{answer-length, lent-refusal}
+use Rattle.tables.specs.Sizes.{lengths}
+use Rattle.tables.proofs.ExamineLaws.{examinable-refusal}
+use Rattle.tables.proofs.check.is_examinable.Statement.{statement}
+use Rattle.tables.proofs.check.is_examinable.Tie as tie
+
+least-requires : tie.Need-least-requires
+least-requires c κs = search needs
+
+with-answer-requires : tie.Need-with-answer-requires
+with-answer-requires c κs = search needs
+
+returns : tie.Need-returns
+returns c =
+    let call = c .before .before .args in
+    let l = lengths (call .links) (call .numbers) (call .order) in
+    ap (λ (x : ℕ). eqb x 0) (c .with-answer .ensures
+    ∙ ap (λ (x : ℕ). lent-refusal (call .n) l (answer-length (call .n) x) 0) (c .before .least .ensures))
+    ∙ examinable-refusal (call .n) l (call .places) (call .highs)
+
+pub is-examinable-spec : {M : Type 1} → statement M
+is-examinable-spec = tie.close (tie.spec least-requires with-answer-requires returns)

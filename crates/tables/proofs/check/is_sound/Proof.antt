@@ -1,0 +1,28 @@
+-- `check::is_sound` meets its contract: the two local tables have room for every site.
+use mathlib.Core.Path.{_∙_}
+use Rattle.mesh.specs.Tables.{tables}
+use Rattle.tables.proofs.ExamineLaws.{examinable-room}
+use borrow.Author.Needs.{needs}
+use Rattle.tables.proofs.check.is_sound.Statement.{statement}
+use Rattle.tables.proofs.check.is_sound.Tie as tie
+use Rattle.tables.proofs.check.is_sound.Reads as reads
+use Rattle.tables.proofs.check.is_sound.Lts as lts
+use Rattle.tables.proofs.check.examine.Reads as examine-reads
+
+slice-aggregate-examine : tie.Need-slice-aggregate-examine
+slice-aggregate-examine c = search needs
+
+slice-aggregate-examine-2 : tie.Need-slice-aggregate-examine-2
+slice-aggregate-examine-2 c = search needs
+
+examine-requires : tie.Need-examine-requires
+examine-requires c κs = search needs
+
+returns : tie.Need-returns
+returns c =
+    let call = c .before .before .before .before .before .before .before .before .args in
+    c .before .before .examine .ensures .answer ∙ examinable-room _ (tables (call .links .now) (call .numbers .now) (call .order .now))
+
+pub is-sound-spec : {M : Type 1} → statement M
+is-sound-spec =
+    tie.close (tie.spec slice-aggregate-examine slice-aggregate-examine-2 examine-requires returns)

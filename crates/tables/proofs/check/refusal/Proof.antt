@@ -1,0 +1,61 @@
+-- `check::refusal` meets its contract: the tests are the chain's questions, in its order.
+use mathlib.Core.Path.{_≡_, sym, ap, _∙_}
+use borrow.Author.Tests.{not-true, not-false}
+use Rattle.mesh.specs.Tables.{tables}
+use Rattle.calls.specs.Questions.{lengths-of, ask}
+use Rattle.tables.proofs.ExamineLaws.{site-refused, site-lent, fits-sound-lent}
+use borrow.Author.Needs.{needs}
+use Rattle.tables.proofs.check.refusal.Statement.{statement}
+use Rattle.tables.proofs.check.refusal.Tie as tie
+use Rattle.tables.proofs.check.refusal.Reads as reads
+use Rattle.tables.proofs.check.refusal.Lts as lts
+use Rattle.tables.proofs.check.is_sound.Reads as is-sound-reads
+use Rattle.tables.proofs.sizes.of_tables.Reads as of-tables-reads
+
+of-tables-requires : tie.Need-of-tables-requires
+of-tables-requires c κs = search needs
+
+returns : tie.Need-returns
+unfolding lengths-of
+returns c =
+    let asked = c .before in
+    let call = asked .before .before .before .before .args in
+    let t = tables (call .links .now) (call .numbers .now) (call .order .now) in
+    let e = asked .of-tables .ensures in
+    e ∙ sym (site-refused _ (lengths-of t) _ _ _ (λ z. c .if1 .taken (e ∙ z)))
+
+returns-2 : tie.Need-returns-2
+unfolding lengths-of ask
+returns-2 c =
+    let asked = c .before .before in
+    let call = asked .before .before .before .before .args in
+    let t = tables (call .links .now) (call .numbers .now) (call .order .now) in
+    let e = sym (asked .of-tables .ensures) ∙ c .before .if1 .left in
+    sym (site-lent _ (lengths-of t) _ _ 0 e ∙ rw (not-true (call .others) (c .if2 .taken)))
+
+is-sound-requires : tie.Need-is-sound-requires
+is-sound-requires c κs = search needs
+
+returns-3 : tie.Need-returns-3
+unfolding lengths-of ask
+returns-3 c =
+    let asked = c .before .before .before .before in
+    let call = asked .before .before .before .before .args in
+    let t = tables (call .links .now) (call .numbers .now) (call .order .now) in
+    let e = sym (asked .of-tables .ensures) ∙ c .before .before .before .if1 .left in
+    let no = sym (fits-sound-lent _ t e) ∙ sym (c .before .is-sound .ensures) ∙ not-true _ (c .if3 .taken) in
+    sym (site-lent _ (lengths-of t) _ _ 0 e ∙ rw (not-false (call .others) (c .before .before .if2 .left), no))
+
+returns-4 : tie.Need-returns-4
+unfolding lengths-of ask
+returns-4 c =
+    let asked = c .before .before .before .before in
+    let call = asked .before .before .before .before .args in
+    let t = tables (call .links .now) (call .numbers .now) (call .order .now) in
+    let e = sym (asked .of-tables .ensures) ∙ c .before .before .before .if1 .left in
+    let yes = sym (fits-sound-lent _ t e) ∙ sym (c .before .is-sound .ensures) ∙ not-false _ (c .if3 .left) in
+    sym (site-lent _ (lengths-of t) _ _ 0 e ∙ rw (not-false (call .others) (c .before .before .if2 .left), yes))
+
+pub refusal-spec : {M : Type 1} → statement M
+refusal-spec =
+    tie.close (tie.spec of-tables-requires returns returns-2 is-sound-requires returns-3 returns-4)

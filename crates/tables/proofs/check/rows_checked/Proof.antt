@@ -1,0 +1,97 @@
+-- `check::rows_checked` meets its contract: the rows passed are good, so what is left decides, and their high counts are written.
+-- The measure is what is left of the radios.
+use Prim.Native.Nat.{_-_}
+use native.Mathlib.Omega.{arith}
+use mathlib.Core.Path.{_≡_, refl}
+use borrow.Author.Needs.{needs}
+use borrow.Author.Tests.{not-true, not-false}
+use lib.ListN.{length}
+use Rattle.tables.proofs.AllRows.{Rows-so-far, rows-none, rows-bad, rows-turn, rows-end}
+use Rattle.tables.proofs.check.rows_checked.Statement.{statement}
+use Rattle.tables.proofs.check.rows_checked.Tie as tie
+use Rattle.tables.proofs.check.rows_checked.Reads as reads
+use Rattle.tables.proofs.check.rows_checked.Lts as lts
+use Rattle.tables.proofs.check.row_checked.Reads as row-checked-reads
+
+abbrev Inv-loop : tie.InvT-loop
+Inv-loop n links numbers places list₀ highs₀ a₀ list highs a = (length list ≡ length list₀) × Rows-so-far n links numbers places highs₀ highs a
+
+abbrev μ-loop : tie.MeasureT-loop
+μ-loop n links numbers places list₀ highs₀ a₀ list highs a = n - a
+
+loop-holds : tie.Need-loop-holds Inv-loop μ-loop
+loop-holds c =
+    let call = c .before .before .before .before .before .args in
+    (refl, rows-none (call .n) (call .links .now) (call .numbers .now) (call .places .now) (call .highs .now))
+
+row-checked-requires : tie.Need-row-checked-requires Inv-loop μ-loop
+row-checked-requires c κs = search needs
+
+same-length : tie.Need-same-length Inv-loop μ-loop
+same-length c = search needs
+
+same-length-2 : tie.Need-same-length-2 Inv-loop μ-loop
+same-length-2 c = search needs
+
+returns : tie.Need-returns Inv-loop μ-loop
+returns c =
+    let at-loop = c .before .before .before .before .before .before .before in
+    let start = at-loop .before .before .before .before .before .before in
+    let call = start .args in
+    rows-bad (call .n) (call .links .now) (call .numbers .now) (call .places .now) (call .highs .now) _ _ (c .before .before .before .before .before .before .loop-test .taken) (at-loop .loop .inv .1) _ _ (c .before .before .before .before .row-checked .ensures) (not-true _ (c .if1 .taken))
+
+cast-highs : tie.Need-cast-highs Inv-loop μ-loop
+cast-highs c = search needs
+
+cast-highs-2 : tie.Need-cast-highs-2 Inv-loop μ-loop
+cast-highs-2 c = search needs
+
+slice-write-highs : tie.Need-slice-write-highs Inv-loop μ-loop
+slice-write-highs c = search needs
+
+add-a : tie.Need-add-a Inv-loop μ-loop
+add-a c = search needs
+
+loop-less : tie.Need-loop-less Inv-loop μ-loop
+loop-less c = search needs
+
+loop-again : tie.Need-loop-again Inv-loop μ-loop
+loop-again c =
+    let at-loop = c .before .before .before .before .before .before .before .before in
+    let start = at-loop .before .before .before .before .before .before in
+    let call = start .args in
+    (search needs, rows-turn (call .n) (call .links .now) (call .numbers .now) (call .places .now) (call .highs .now) _ _ (c .before .before .before .before .before .before .before .loop-test .taken) (at-loop .loop .inv .1) _ _ (start .pre .1) (c .before .before .before .before .before .row-checked .ensures) (not-false _ (c .before .if1 .left)))
+
+same-length-3 : tie.Need-same-length-3 Inv-loop μ-loop
+same-length-3 c = search needs
+
+same-length-4 : tie.Need-same-length-4 Inv-loop μ-loop
+same-length-4 c = search needs
+
+returns-2 : tie.Need-returns-2 Inv-loop μ-loop
+returns-2 c =
+    let at-loop = c .before in
+    let start = at-loop .before .before .before .before .before .before in
+    let call = start .args in
+    rows-end (call .n) (call .links .now) (call .numbers .now) (call .places .now) (call .highs .now) _ _ (c .loop-test .left) (at-loop .loop .inv .1)
+
+pub rows-checked-spec : {M : Type 1} → statement M
+rows-checked-spec =
+    tie.close
+    (tie.spec
+    Inv-loop
+    μ-loop
+    loop-holds
+    row-checked-requires
+    same-length
+    same-length-2
+    returns
+    cast-highs
+    cast-highs-2
+    slice-write-highs
+    add-a
+    loop-less
+    loop-again
+    same-length-3
+    same-length-4
+    returns-2)

@@ -1,0 +1,119 @@
+-- The soundness check, row by row.
+--   Placed n order places    the table of places says where each radio stands in the order
+--   later-count              how many of some radios stand later in the order than a: document 01's "neighbours later in the order"
+--   high-count               how many of some radios have a number that is not below that of a
+--   ends-good                each of some radios is below n, is not a, and marks a too
+--   rising-from              numbers never fall along a list, and do not begin below the given one
+--   row-good                 the conditions of document 01 on radio a: its row, its later neighbours, its neighbours that are not below it
+--   Placing, Ends-counted, Row-checked, Rows-checked, Examined   what the functions of src/check.rt come back with
+-- That tables are sound when the order holds each radio once, numbers rise along it and every row is good is `sound-rows` in
+-- proofs/CheckLaws.antt. Definitions only.
+use mathlib.Core.Path.{_≡_}
+use mathlib.Core.Bool.{Bool, true, _&&_, not}
+use mathlib.Core.List.{List, [], _∷_}
+use Prim.Native.Nat.{ℕ, _*_, _≤_, _<_, min}
+use lib.Dec.{ltb, leb, eqb}
+use lib.ListN.{length, getD}
+use Rattle.mesh.specs.Limits.{max-radios, max-neighbours, row-bytes}
+use Rattle.mesh.specs.Lists.{range, count, all}
+use Rattle.mesh.specs.Orders.{each-once}
+use Rattle.mesh.specs.Tables.{Tables, marked}
+use Rattle.mesh.specs.Sound.{number-in, sound}
+use Rattle.calls.specs.Questions.{Lengths, lengths-of, size-good, site-lengths, answer-length}
+use Rattle.tables.specs.Rows.{neighbours-of}
+
+-- entry i of the order stands at place i
+pub record Placed (n : ℕ) (order places : List ℕ) : Type 0 where
+  pub at : (i : ℕ) → i < n → getD places (getD order i 0) 0 ≡ i
+
+unfoldable pub later-count : (places : List ℕ) → (a : ℕ) → (radios : List ℕ) → ℕ
+later-count ps a xs = count (λ b. ltb (getD ps a 0) (getD ps b 0)) xs
+
+unfoldable pub high-count : (numbers : List ℕ) → (a : ℕ) → (radios : List ℕ) → ℕ
+high-count ns a xs = count (λ b. leb (number-in ns a) (number-in ns b)) xs
+
+unfoldable pub ends-good : (n : ℕ) → (links : List ℕ) → (a : ℕ) → (radios : List ℕ) → Bool
+ends-good n ts a xs = all (λ b. ltb b n && (not (eqb b a) && marked ts b a)) xs
+
+unfoldable pub row-good : (most n : ℕ) → (links numbers places : List ℕ) → (a : ℕ) → Bool
+row-good most n ts ns ps a =
+    let xs = neighbours-of ts a in
+    leb (length xs) most
+    && (ends-good n ts a xs && (leb (later-count ps a xs) (number-in ns a) && leb (number-in ns a) (high-count ns a xs)))
+
+-- `true` of an empty list whatever m
+unfoldable pub rising-from : (num : ℕ → ℕ) → (m : ℕ) → List ℕ → Bool
+rising-from num m [] = true
+rising-from num m (x ∷ xs) = leb m (num x) && rising-from num (num x) xs
+
+-- ---- what the functions of the check come back with
+
+-- every entry is below k
+abbrev pub Entries-below : (k : ℕ) → List ℕ → Type 0
+Entries-below k xs = (i : ℕ) → i < length xs → getD xs i 0 < k
+
+-- a place that no entry of an order has
+abbrev pub nowhere : ℕ
+nowhere = 65535
+
+-- whether each radio stands once in the order, and then the places
+pub record Placing (order before after : List ℕ) (r : Bool) : Type 0 where
+  pub answer : r ≡ each-once (length order) order
+  pub placed : r ≡ true → Placed (length order) order after
+  pub long : length after ≡ length before
+
+-- whether the radios xs are good ends of a, and then how many are later and how many are not below
+pub record Ends-counted (n : ℕ) (links numbers places : List ℕ) (a : ℕ) (xs : List ℕ) (good : Bool) (later high : ℕ) : Type 0 where
+  pub answer : good ≡ ends-good n links a xs
+  pub later-is : good ≡ true → later ≡ later-count places a xs
+  pub high-is : good ≡ true → high ≡ high-count numbers a xs
+
+-- what counting the ends of a row wants of the lengths of the tables it reads
+pub record Ends-room (n a k numbers places list : ℕ) : Type 0 where
+  pub listed : k ≤ list
+  pub few : k ≤ max-radios
+  pub numbered : n ≤ numbers
+  pub placed : n ≤ places
+  pub radio : a < n
+  pub small : n ≤ max-radios
+
+-- what checking rows wants of the lengths of the tables that it reads and of its list
+pub record Rows-room (n links numbers places list : ℕ) : Type 0 where
+  pub linked : links ≡ row-bytes * n
+  pub numbered : n ≤ numbers
+  pub placed : n ≤ places
+  pub listed : max-neighbours ≤ list
+  pub small : n ≤ max-radios
+
+-- whether row a is good, and then the high count of a
+pub record Row-checked (n : ℕ) (links numbers places : List ℕ) (a : ℕ) (good : Bool) (high : ℕ) : Type 0 where
+  pub answer : good ≡ row-good max-neighbours n links numbers places a
+  pub high-is : good ≡ true → high ≡ high-count numbers a (neighbours-of links a)
+  pub few : high ≤ max-neighbours
+
+-- the table `highs` holds the high count of each radio
+pub record Highs (n : ℕ) (links numbers highs : List ℕ) : Type 0 where
+  pub at : (v : ℕ) → v < n → getD highs v 0 ≡ high-count numbers v (neighbours-of links v)
+
+-- whether all rows are good, and then the high counts
+pub record Rows-checked (n : ℕ) (links numbers places before after : List ℕ) (r : Bool) : Type 0 where
+  pub answer : r ≡ all (row-good max-neighbours n links numbers places) (range 0 n)
+  pub highs : r ≡ true → Highs n links numbers after
+  pub long : length after ≡ length before
+
+-- questions 1 and 2 get yes, and the tables of places and of high counts have an entry for each radio
+unfoldable pub examinable : (n : ℕ) → Lengths → (places highs : ℕ) → Bool
+examinable n l p h = size-good n && (site-lengths n l && answer-length n (min p h))
+
+-- whether the tables are sound, and then the places and the high counts; ps and hs are the tables of places and of high
+-- counts before, qs and is the same after
+pub record Examined (n : ℕ) (t : Tables) (ps qs hs is : List ℕ) (r : Bool) : Type 0 where
+  pub answer : r ≡ (examinable n (lengths-of t) (length ps) (length hs) && sound n t)
+  pub placed : r ≡ true → Placed n (t .order) qs
+  pub highs : r ≡ true → Highs n (t .links) (t .numbers) is
+  pub places-long : length qs ≡ length ps
+  pub highs-long : length is ≡ length hs
+
+-- questions 1 to 3 get yes of links, numbers and order
+unfoldable pub fits-sound : (n : ℕ) → Tables → Bool
+fits-sound n t = size-good n && (site-lengths n (lengths-of t) && sound n t)

@@ -1,0 +1,312 @@
+// The soundness check: document 01's local conditions, decided for any content of tables of the right lengths. An entry is
+// tested before it is used as an index.
+ghost use mathlib.Core.Path.{_≡_};
+ghost use Prim.Native.Nat.{_≤_, _<_};
+ghost use lib.ListN.{length, take};
+ghost use Rattle.mesh.specs.Limits.{max-radios};
+ghost use Rattle.mesh.specs.Orders.{rising};
+ghost use Rattle.mesh.specs.Sound.{number-in, sound};
+ghost use Rattle.mesh.specs.Tables.{tables};
+ghost use Rattle.calls.specs.Questions.{lengths-of, site-refusal};
+ghost use Rattle.calls.specs.Answers.{Check-contract};
+ghost use Rattle.tables.specs.Sizes.{lengths};
+ghost use Rattle.tables.specs.Checks.{Entries-below, Placing, Ends-room, Ends-counted, Rows-room, Row-checked, Rows-checked, examinable, Examined, fits-sound};
+use calls::Value;
+use mesh::Site;
+
+// A place that no entry of the order has.
+const NOWHERE: u16 = 65535;
+
+// Writes the place of each radio into `places`. Comes back with whether the order holds each radio below its length once;
+// where it does not, `places` holds anything.
+fn place(order: &[u16], places: &mut [u16]) -> bool
+    requires { ⌜ (length (now order) ≤ length (now places)) × (length (now order) ≤ max-radios) ⌝ }
+    ensures { λ r. ⌜ Placing (now (order .entry)) (now (places .entry)) (now (places .exit)) r ⌝ }
+{
+    crate::fill::fill16(places, NOWHERE);
+    let mut i: usize = 0;
+    while i < order.len() {
+        let v = order[i] as usize;
+        if order.len() <= v {
+            return false;
+        }
+        if places[v] != NOWHERE {
+            return false;
+        }
+        places[v] = i as u16;
+        i += 1;
+    }
+    true
+}
+
+// Whether the numbers never fall along the order.
+fn rises(numbers: &[u8], order: &[u16]) -> bool
+    requires { ⌜ Entries-below (length (now numbers)) (now order) ⌝ }
+    ensures { λ r. ⌜ r ≡ rising (number-in (now (numbers .entry))) (now (order .entry)) ⌝ }
+{
+    let mut last: u8 = 0;
+    let mut i: usize = 0;
+    while i < order.len() {
+        let v = order[i] as usize;
+        let x = numbers[v];
+        if x < last {
+            return false;
+        }
+        last = x;
+        i += 1;
+    }
+    true
+}
+
+struct Ends {
+    good: bool,
+    later: u32,
+    high: u32,
+}
+
+// Whether the first k listed radios are below n, are not a, and mark a too; how many of them stand later in the order than a,
+// and how many have a number that is not below that of a.
+fn count_ends(
+    links: &[u8],
+    numbers: &[u8],
+    places: &[u16],
+    list: &[u16],
+    k: usize,
+    n: usize,
+    a: usize,
+) -> Ends
+    requires { ⌜ Ends-room n a k (length (now numbers)) (length (now places)) (length (now list)) ⌝ }
+    ensures { λ r. ⌜ Ends-counted n (now (links .entry)) (now (numbers .entry)) (now (places .entry)) a (take k (now (list .entry))) (r .good) (r .later) (r .high) ⌝ }
+{
+    let place = places[a];
+    let number = numbers[a];
+    let mut later: u32 = 0;
+    let mut high: u32 = 0;
+    let mut i: usize = 0;
+    while i < k {
+        let b = list[i] as usize;
+        if n <= b {
+            return Ends {
+                good: false,
+                later: 0,
+                high: 0,
+            };
+        }
+        if b == a {
+            return Ends {
+                good: false,
+                later: 0,
+                high: 0,
+            };
+        }
+        if !crate::rows::is_marked(links, b as u32, a as u32) {
+            return Ends {
+                good: false,
+                later: 0,
+                high: 0,
+            };
+        }
+        later += (place < places[b]) as u32;
+        high += (number <= numbers[b]) as u32;
+        i += 1;
+    }
+    Ends {
+        good: true,
+        later,
+        high,
+    }
+}
+
+struct Row {
+    good: bool,
+    high: u32,
+}
+
+// Whether document 01's conditions on radio a hold, and then how many of its neighbours have a number that is not below its
+// own. `list` holds anything after.
+fn row_checked(
+    n: u32,
+    links: &[u8],
+    numbers: &[u8],
+    places: &[u16],
+    list: &mut [u16],
+    a: u32,
+) -> Row
+    requires { ⌜ Rows-room n (length (now links)) (length (now numbers)) (length (now places)) (length (now list)) × (a < n) ⌝ }
+    ensures { λ r. ⌜ Row-checked n (now (links .entry)) (now (numbers .entry)) (now (places .entry)) a (r .good) (r .high) ⌝ }
+{
+    let k = crate::rows::row_neighbours(links, a, list);
+    if Site::NEIGHBOURS < k {
+        return Row {
+            good: false,
+            high: 0,
+        };
+    }
+    let ends = count_ends(
+        links,
+        numbers,
+        places,
+        list,
+        k as usize,
+        n as usize,
+        a as usize,
+    );
+    if !ends.good {
+        return Row {
+            good: false,
+            high: 0,
+        };
+    }
+    let number = numbers[a as usize] as u32;
+    if number < ends.later {
+        return Row {
+            good: false,
+            high: 0,
+        };
+    }
+    if ends.high < number {
+        return Row {
+            good: false,
+            high: 0,
+        };
+    }
+    Row {
+        good: true,
+        high: ends.high,
+    }
+}
+
+// Whether document 01's conditions hold of every radio below n, and then `highs` holds for each of them how many of its
+// neighbours have a number that is not below its own; else `highs` holds anything. `list` holds anything after.
+fn rows_checked(
+    n: u32,
+    links: &[u8],
+    numbers: &[u8],
+    places: &[u16],
+    list: &mut [u16],
+    highs: &mut [u8],
+) -> bool
+    requires { ⌜ Rows-room n (length (now links)) (length (now numbers)) (length (now places)) (length (now list)) × (n ≤ length (now highs)) ⌝ }
+    ensures { λ r. ⌜ Rows-checked n (now (links .entry)) (now (numbers .entry)) (now (places .entry)) (now (highs .entry)) (now (highs .exit)) r ⌝ }
+{
+    let mut a: u32 = 0;
+    while a < n {
+        let row = row_checked(n, links, numbers, places, list, a);
+        if !row.good {
+            return false;
+        }
+        highs[a as usize] = row.high as u8;
+        a += 1;
+    }
+    true
+}
+
+// Whether n is from 1 to 512, links, numbers and order have their lengths, and places and highs an entry for each radio.
+fn is_examinable(
+    n: u32,
+    links: usize,
+    numbers: usize,
+    order: usize,
+    places: usize,
+    highs: usize,
+) -> bool
+    ensures { λ r. ⌜ r ≡ examinable n (lengths links numbers order) places highs ⌝ }
+{
+    crate::sizes::with_answer(
+        Site { radios: n },
+        links,
+        numbers,
+        order,
+        crate::fill::least(places, highs),
+    )
+        == 0
+}
+
+// Whether the tables are sound. Then `places` holds where each radio stands in the order, and `highs` how many of its
+// neighbours have a number that is not below its own; else both hold anything. Not where n is not from 1 to 512, a table has
+// another length than document 01 says, or `places` or `highs` has fewer than n entries.
+pub fn examine(
+    n: u32,
+    links: &[u8],
+    numbers: &[u8],
+    order: &[u16],
+    places: &mut [u16],
+    highs: &mut [u8],
+) -> bool
+    ensures { λ r. ⌜ Examined n (tables (now (links .entry)) (now (numbers .entry)) (now (order .entry))) (now (places .entry)) (now (places .exit)) (now (highs .entry)) (now (highs .exit)) r ⌝ }
+{
+    if !is_examinable(
+        n,
+        links.len(),
+        numbers.len(),
+        order.len(),
+        places.len(),
+        highs.len(),
+    ) {
+        return false;
+    }
+    if !place(order, places) {
+        return false;
+    }
+    if !rises(numbers, order) {
+        return false;
+    }
+    let mut list = [0u16; Site::NEIGHBOURS as usize + 1];
+    rows_checked(n, links, numbers, places, &mut list, highs)
+}
+
+// Whether n is from 1 to 512, the tables have their lengths, and they are sound.
+pub fn is_sound(n: u32, links: &[u8], numbers: &[u8], order: &[u16]) -> bool
+    ensures { λ r. ⌜ r ≡ fits-sound n (tables (now (links .entry)) (now (numbers .entry)) (now (order .entry))) ⌝ }
+{
+    let mut places = [0u16; Site::RADIOS as usize];
+    let mut highs = [0u8; Site::RADIOS as usize];
+    examine(n, links, numbers, order, &mut places, &mut highs)
+}
+
+// Questions 1 to 3, where `others` is the answer that 2 gets for further tables: the refusal number so far, 0 when none got no.
+pub fn refusal(
+    n: u32,
+    links: &[u8],
+    numbers: &[u8],
+    order: &[u16],
+    others: bool,
+) -> u32
+    ensures { λ r. ⌜ r ≡ site-refusal n (lengths-of (tables (now (links .entry)) (now (numbers .entry)) (now (order .entry)))) others (sound n (tables (now (links .entry)) (now (numbers .entry)) (now (order .entry)))) 0 ⌝ }
+{
+    let number = crate::sizes::of_tables(
+        Site { radios: n },
+        links.len(),
+        numbers.len(),
+        order.len(),
+    );
+    if number != 0 {
+        return number;
+    }
+    if !others {
+        return 2;
+    }
+    if !is_sound(n, links, numbers, order) {
+        return 3;
+    }
+    0
+}
+
+// The soundness check: refusal number 1 or 2 and the value 0, or number 0 and the value 1 when the tables are sound, 0 when not.
+pub fn check(n: u32, links: &[u8], numbers: &[u8], order: &[u16]) -> Value
+    ensures { λ r. ⌜ Check-contract n (tables (now (links .entry)) (now (numbers .entry)) (now (order .entry))) r ⌝ }
+{
+    let number = crate::sizes::of_tables(
+        Site { radios: n },
+        links.len(),
+        numbers.len(),
+        order.len(),
+    );
+    if number != 0 {
+        return Value { number, value: 0 };
+    }
+    Value {
+        number: 0,
+        value: is_sound(n, links, numbers, order) as u32,
+    }
+}
