@@ -17,14 +17,5 @@ pub mod SizeLaws
 pub mod StepLaws
 -- clearing
 pub mod ClearLaws
--- soundness row by row
-pub mod CheckLaws
--- the loops of the check: the order, one row, all rows
-pub mod CheckLoops
-pub mod RowChecks
-pub mod AllRows
--- the whole check, and its callers
-pub mod ExamineLaws
--- the contracts of clearing and of the check are the named ones, and nothing is required
+-- the contract of clearing is the named one, and nothing is required
 pub mod Ties
-pub mod CheckTie

@@ -3,4 +3,3 @@ pub mod Rows
 pub mod Widths
 pub mod Sizes
 pub mod Steps
-pub mod Checks

@@ -1,13 +1,13 @@
--- `check::is_sound` meets its contract: the two local tables have room for every site.
+-- `soundness::is_sound` meets its contract: the two local tables have room for every site.
 use mathlib.Core.Path.{_∙_}
 use Rattle.mesh.specs.Tables.{tables}
-use Rattle.tables.proofs.ExamineLaws.{examinable-room}
+use Rattle.soundness.proofs.ExamineLaws.{examinable-room}
 use borrow.Author.Needs.{needs}
-use Rattle.tables.proofs.check.is_sound.Statement.{statement}
-use Rattle.tables.proofs.check.is_sound.Tie as tie
-use Rattle.tables.proofs.check.is_sound.Reads as reads
-use Rattle.tables.proofs.check.is_sound.Lts as lts
-use Rattle.tables.proofs.check.examine.Reads as examine-reads
+use Rattle.soundness.proofs.is_sound.Statement.{statement}
+use Rattle.soundness.proofs.is_sound.Tie as tie
+use Rattle.soundness.proofs.is_sound.Reads as reads
+use Rattle.soundness.proofs.is_sound.Lts as lts
+use Rattle.soundness.proofs.examine.Reads as examine-reads
 
 slice-aggregate-examine : tie.Need-slice-aggregate-examine
 slice-aggregate-examine c = search needs

@@ -17,8 +17,8 @@ use Rattle.mesh.specs.Tables.{marked}
 use Rattle.mesh.specs.Sound.{number-in}
 use Rattle.mesh.proofs.BoolLaws.{never, bit-one}
 use Rattle.mesh.proofs.ListLaws.{count-le-length, take-overwrite}
 use Rattle.tables.specs.Rows.{neighbours-of, row-listed}
-use Rattle.tables.specs.Checks.{later-count, high-count, ends-good, row-good, Ends-counted, Rows-room, Row-checked}
+use Rattle.soundness.specs.Checks.{later-count, high-count, ends-good, row-good, Ends-counted, Rows-room, Row-checked}
 
 -- a test as a number
 pub byte-bit : (t : Bool) → boolByte t ≡ cond {A = ℕ} t 1 0

@@ -1,19 +1,19 @@
--- `check::examine` meets its contract: with the order placed and its numbers rising, the rows decide (`sound-rows`).
+-- `soundness::examine` meets its contract: with the order placed and its numbers rising, the rows decide (`sound-rows`).
 use native.Mathlib.Omega.{arith}
 use mathlib.Core.Path.{sym, _∙_}
 use borrow.Author.Tests.{not-true, not-false}
 use Rattle.mesh.specs.Tables.{tables}
 use Rattle.calls.specs.Questions.{lengths-of}
-use Rattle.tables.proofs.ExamineLaws.{examined-unfit, place-room, examined-unplaced, entries-below, examined-falls, rows-room, examined-rows}
+use Rattle.soundness.proofs.ExamineLaws.{examined-unfit, place-room, examined-unplaced, entries-below, examined-falls, rows-room, examined-rows}
 use borrow.Author.Needs.{needs}
-use Rattle.tables.proofs.check.examine.Statement.{statement}
-use Rattle.tables.proofs.check.examine.Tie as tie
-use Rattle.tables.proofs.check.examine.Reads as reads
-use Rattle.tables.proofs.check.examine.Lts as lts
-use Rattle.tables.proofs.check.is_examinable.Reads as is-examinable-reads
-use Rattle.tables.proofs.check.place.Reads as place-reads
-use Rattle.tables.proofs.check.rises.Reads as rises-reads
-use Rattle.tables.proofs.check.rows_checked.Reads as rows-checked-reads
+use Rattle.soundness.proofs.examine.Statement.{statement}
+use Rattle.soundness.proofs.examine.Tie as tie
+use Rattle.soundness.proofs.examine.Reads as reads
+use Rattle.soundness.proofs.examine.Lts as lts
+use Rattle.soundness.proofs.is_examinable.Reads as is-examinable-reads
+use Rattle.soundness.proofs.place.Reads as place-reads
+use Rattle.soundness.proofs.rises.Reads as rises-reads
+use Rattle.soundness.proofs.rows_checked.Reads as rows-checked-reads
 
 is-examinable-requires : tie.Need-is-examinable-requires
 is-examinable-requires c κs = search needs

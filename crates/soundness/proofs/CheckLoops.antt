@@ -17,8 +17,8 @@ use Rattle.mesh.specs.Sound.{number-in}
 use Rattle.mesh.proofs.BoolLaws.{bool-cases, never, trichotomy}
 use Rattle.mesh.proofs.ListLaws.{In, Distinct, Each-once, once-of, once-below, once-distinct}
 use Rattle.mesh.proofs.OrderLaws.{each-once-of, of-each-once}
-use Rattle.tables.specs.Checks.{Placed, Placing, nowhere, rising-from}
-use Rattle.tables.proofs.CheckLaws.{getD-in, in-getD}
+use Rattle.soundness.specs.Checks.{Placed, Placing, nowhere, rising-from}
+use Rattle.soundness.proofs.CheckLaws.{getD-in, in-getD}
 
 -- ---- numbers along the order
 

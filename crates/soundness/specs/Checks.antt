@@ -5,7 +5,7 @@
 --   ends-good                each of some radios is below n, is not a, and marks a too
 --   rising-from              numbers never fall along a list, and do not begin below the given one
 --   row-good                 the conditions of document 01 on radio a: its row, its later neighbours, its neighbours that are not below it
---   Placing, Ends-counted, Row-checked, Rows-checked, Examined   what the functions of src/check.rt come back with
+--   Placing, Ends-counted, Row-checked, Rows-checked, Examined   what the functions of src/lib.rt come back with
 -- That tables are sound when the order holds each radio once, numbers rise along it and every row is good is `sound-rows` in
 -- proofs/CheckLaws.antt. Definitions only.
 use mathlib.Core.Path.{_≡_}

@@ -1,13 +1,13 @@
--- `check::is_examinable` meets its contract: questions 1 and 2 are put with the shorter of the two lent tables as the answer table.
+-- `soundness::is_examinable` meets its contract: questions 1 and 2 are put with the shorter of the two lent tables as the answer table.
 use mathlib.Core.Path.{_≡_, sym, ap, _∙_}
 use Prim.Native.Nat.{ℕ, min}
 use lib.Dec.{eqb}
 use borrow.Author.Needs.{needs}
 use Rattle.calls.specs.Questions.{answer-length, lent-refusal}
 use Rattle.tables.specs.Sizes.{lengths}
-use Rattle.tables.proofs.ExamineLaws.{examinable-refusal}
-use Rattle.tables.proofs.check.is_examinable.Statement.{statement}
-use Rattle.tables.proofs.check.is_examinable.Tie as tie
+use Rattle.soundness.proofs.ExamineLaws.{examinable-refusal}
+use Rattle.soundness.proofs.is_examinable.Statement.{statement}
+use Rattle.soundness.proofs.is_examinable.Tie as tie
 
 least-requires : tie.Need-least-requires
 least-requires c κs = search needs

@@ -21,9 +21,9 @@ use Rattle.calls.specs.Answers.{Check-contract, Value-accepted, Value-refused}
 use Rattle.calls.proofs.ContractLaws.{by-accepted, by-refused}
 use Rattle.calls.proofs.ChainLaws.{lent-zero}
 use Rattle.calls.proofs.QuestionLaws.{true-size-good, true-site-lengths, true-answer-length, size-good-true, Site-lengths, site-lengths-true, answer-length-true}
-use Rattle.tables.specs.Checks.{Entries-below, Placed, Placing, row-good, Rows-room, Rows-checked, examinable, Examined, fits-sound}
-use Rattle.tables.proofs.CheckLaws.{getD-in, sound-rows}
-use Rattle.tables.proofs.RowChecks.{byte-bit}
+use Rattle.soundness.specs.Checks.{Entries-below, Placed, Placing, row-good, Rows-room, Rows-checked, examinable, Examined, fits-sound}
+use Rattle.soundness.proofs.CheckLaws.{getD-in, sound-rows}
+use Rattle.soundness.proofs.RowChecks.{byte-bit}
 
 -- ---- what can be examined
 

@@ -1,4 +1,4 @@
--- `check::count_ends` meets its contract: what is left of the list and what is counted give what the whole list gives.
+-- `soundness::count_ends` meets its contract: what is left of the list and what is counted give what the whole list gives.
 -- The measure is what is left of the list.
 use Prim.Native.Nat.{_-_}
 use native.Mathlib.Omega.{arith}
@@ -7,12 +7,12 @@ use borrow.Author.Needs.{needs}
 use borrow.Author.Tests.{not-true, not-false}
 use lib.Dec.{ltb, leb}
 use lib.ListN.{getD, take}
-use Rattle.tables.proofs.RowChecks.{Counting, counting-none, counting-high, counting-self, counting-alone, counting-turn, counting-end, count-fits}
-use Rattle.tables.proofs.check.count_ends.Statement.{statement}
-use Rattle.tables.proofs.check.count_ends.Tie as tie
-use Rattle.tables.proofs.check.count_ends.Reads as reads
-use Rattle.tables.proofs.check.count_ends.Lts as lts
+use Rattle.soundness.proofs.RowChecks.{Counting, counting-none, counting-high, counting-self, counting-alone, counting-turn, counting-end, count-fits}
+use Rattle.soundness.proofs.count_ends.Statement.{statement}
+use Rattle.soundness.proofs.count_ends.Tie as tie
+use Rattle.soundness.proofs.count_ends.Reads as reads
+use Rattle.soundness.proofs.count_ends.Lts as lts
 use Rattle.tables.proofs.rows.is_marked.Reads as is-marked-reads
 
 abbrev Inv-loop : tie.InvT-loop
 Inv-loop links numbers places list k n a place number later₀ high₀ i₀ later high i = Counting n links numbers places a (take k list) later high i
@@ -20,37 +20,37 @@ Inv-loop links numbers places list k n a place number later₀ high₀ i₀ late
 abbrev μ-loop : tie.MeasureT-loop
 μ-loop links numbers places list k n a place number later₀ high₀ i₀ later high i = k - i
 
--- src/check.rt:67:17
+-- src/lib.rt:67:17
 mul-place : tie.Need-mul-place Inv-loop μ-loop
 mul-place c = search needs
 
--- src/check.rt:67:17
+-- src/lib.rt:67:17
 shared-slice-read-place : tie.Need-shared-slice-read-place Inv-loop μ-loop
 shared-slice-read-place c = search needs
 
--- src/check.rt:68:18
+-- src/lib.rt:68:18
 shared-slice-read-number : tie.Need-shared-slice-read-number Inv-loop μ-loop
 shared-slice-read-number c = search needs
 
--- src/check.rt:72:5
+-- src/lib.rt:72:5
 loop-holds : tie.Need-loop-holds Inv-loop μ-loop
 loop-holds c =
     let start = c .before .before .before .before .before .before in
     counting-none _ _ _ _ _ _ _ (start .pre .listed)
 
--- src/check.rt:73:17
+-- src/lib.rt:73:17
 mul-b : tie.Need-mul-b Inv-loop μ-loop
 mul-b c = search needs
 
--- src/check.rt:73:17
+-- src/lib.rt:73:17
 shared-slice-read-b : tie.Need-shared-slice-read-b Inv-loop μ-loop
 shared-slice-read-b c = search needs
 
--- src/check.rt:73:17
+-- src/lib.rt:73:17
 cast-b : tie.Need-cast-b Inv-loop μ-loop
 cast-b c = omega (arith, c .shared-slice-known7 .given (c .before .before .loop .i))
 
--- src/check.rt:75:13
+-- src/lib.rt:75:13
 returns : tie.Need-returns Inv-loop μ-loop
 returns c =
     let at-loop = c .before .before .before in
@@ -58,7 +58,7 @@ returns c =
     let call = start .args in
     counting-high _ _ _ _ _ _ _ (start .pre .listed) _ _ _ (c .before .before .loop-test .taken) (at-loop .loop .inv) (c .if1 .taken)
 
--- src/check.rt:78:13
+-- src/lib.rt:78:13
 returns-2 : tie.Need-returns-2 Inv-loop μ-loop
 returns-2 c =
     let at-loop = c .before .before .before .before in
@@ -66,19 +66,19 @@ returns-2 c =
     let call = start .args in
     counting-self _ _ _ _ _ _ _ (start .pre .listed) _ _ _ (c .before .before .before .loop-test .taken) (at-loop .loop .inv) (c .before .if1 .left) (c .if2 .taken)
 
--- src/check.rt:80:43
+-- src/lib.rt:80:43
 cast-is-marked : tie.Need-cast-is-marked Inv-loop μ-loop
 cast-is-marked c = omega (arith, c .before .before .shared-slice-known7 .given (c .before .before .before .before .loop .i))
 
--- src/check.rt:80:53
+-- src/lib.rt:80:53
 cast-is-marked-2 : tie.Need-cast-is-marked-2 Inv-loop μ-loop
 cast-is-marked-2 c = search needs
 
--- src/check.rt:80:13
+-- src/lib.rt:80:13
 is-marked-requires : tie.Need-is-marked-requires Inv-loop μ-loop
 is-marked-requires c κs = search needs
 
--- src/check.rt:81:13
+-- src/lib.rt:81:13
 returns-3 : tie.Need-returns-3 Inv-loop μ-loop
 returns-3 c =
     let at-loop = c .before .before .before .before .before .before in
@@ -86,19 +86,19 @@ returns-3 c =
     let call = start .args in
     counting-alone _ _ _ _ _ _ _ (start .pre .listed) _ _ _ (c .before .before .before .before .before .loop-test .taken) (at-loop .loop .inv) (c .before .before .before .if1 .left) (c .before .before .if2 .left) (sym (c .before .is-marked .ensures) ∙ not-true _ (c .if3 .taken))
 
--- src/check.rt:83:27
+-- src/lib.rt:83:27
 mul-later : tie.Need-mul-later Inv-loop μ-loop
 mul-later c = search needs
 
--- src/check.rt:83:27
+-- src/lib.rt:83:27
 shared-slice-read-later : tie.Need-shared-slice-read-later Inv-loop μ-loop
 shared-slice-read-later c = search needs
 
--- src/check.rt:83:18
+-- src/lib.rt:83:18
 cast-later : tie.Need-cast-later Inv-loop μ-loop
 cast-later c = search needs
 
--- src/check.rt:83:9
+-- src/lib.rt:83:9
 add-later : tie.Need-add-later Inv-loop μ-loop
 add-later c =
     let at-loop = c .before .before .before .before .before .before .before in
@@ -108,15 +108,15 @@ add-later c =
     let few = start .pre .few in
     count-fits _ (ltb (getD (call .places .now) (call .a) 0) (getD (call .places .now) b 0)) (omega arith)
 
--- src/check.rt:84:28
+-- src/lib.rt:84:28
 shared-slice-read-high : tie.Need-shared-slice-read-high Inv-loop μ-loop
 shared-slice-read-high c = search needs
 
--- src/check.rt:84:17
+-- src/lib.rt:84:17
 cast-high : tie.Need-cast-high Inv-loop μ-loop
 cast-high c = search needs
 
--- src/check.rt:84:9
+-- src/lib.rt:84:9
 add-high : tie.Need-add-high Inv-loop μ-loop
 add-high c =
     let at-loop = c .before .before .before .before .before .before .before .before in
@@ -126,15 +126,15 @@ add-high c =
     let few = start .pre .few in
     count-fits _ (leb (getD (call .numbers .now) (call .a) 0) (getD (call .numbers .now) b 0)) (omega arith)
 
--- src/check.rt:85:9
+-- src/lib.rt:85:9
 add-i : tie.Need-add-i Inv-loop μ-loop
 add-i c = search needs
 
--- src/check.rt:72:5
+-- src/lib.rt:72:5
 loop-less : tie.Need-loop-less Inv-loop μ-loop
 loop-less c = search needs
 
--- src/check.rt:72:5
+-- src/lib.rt:72:5
 loop-again : tie.Need-loop-again Inv-loop μ-loop
 loop-again c =
     let at-loop = c .before .before .before .before .before .before .before .before in
@@ -142,7 +142,7 @@ loop-again c =
     let call = start .args in
     counting-turn _ _ _ _ _ _ _ (start .pre .listed) _ _ _ (c .before .before .before .before .before .before .before .loop-test .taken) (at-loop .loop .inv) (c .before .before .before .before .before .if1 .left) (c .before .before .before .before .if2 .left) (sym (c .before .before .before .is-marked .ensures) ∙ not-false _ (c .before .before .if3 .left))
 
--- src/check.rt:63:1
+-- src/lib.rt:63:1
 returns-4 : tie.Need-returns-4 Inv-loop μ-loop
 returns-4 c =
     let at-loop = c .before in

@@ -9,8 +9,8 @@ ghost use Rattle.mesh.specs.Sound.{number-in, sound};
 ghost use Rattle.mesh.specs.Tables.{tables};
 ghost use Rattle.calls.specs.Questions.{lengths-of, site-refusal};
 ghost use Rattle.calls.specs.Answers.{Check-contract};
 ghost use Rattle.tables.specs.Sizes.{lengths};
-ghost use Rattle.tables.specs.Checks.{Entries-below, Placing, Ends-room, Ends-counted, Rows-room, Row-checked, Rows-checked, examinable, Examined, fits-sound};
+ghost use Rattle.soundness.specs.Checks.{Entries-below, Placing, Ends-room, Ends-counted, Rows-room, Row-checked, Rows-checked, examinable, Examined, fits-sound};
 use calls::Value;
 use mesh::Site;
 
@@ -23,7 +23,7 @@ fn place(order: &[u16], places: &mut [u16]) -> bool
     requires { ⌜ (length (now order) ≤ length (now places)) × (length (now order) ≤ max-radios) ⌝ }
     ensures { λ r. ⌜ Placing (now (order .entry)) (now (places .entry)) (now (places .exit)) r ⌝ }
 {
-    crate::fill::fill16(places, NOWHERE);
+    tables::fill::fill16(places, NOWHERE);
     let mut i: usize = 0;
     while i < order.len() {
         let v = order[i] as usize;
@@ -99,7 +99,7 @@ fn count_ends(
                 high: 0,
             };
         }
-        if !crate::rows::is_marked(links, b as u32, a as u32) {
+        if !tables::rows::is_marked(links, b as u32, a as u32) {
             return Ends {
                 good: false,
                 later: 0,
@@ -135,7 +135,7 @@ fn row_checked(
     requires { ⌜ Rows-room n (length (now links)) (length (now numbers)) (length (now places)) (length (now list)) × (a < n) ⌝ }
     ensures { λ r. ⌜ Row-checked n (now (links .entry)) (now (numbers .entry)) (now (places .entry)) a (r .good) (r .high) ⌝ }
 {
-    let k = crate::rows::row_neighbours(links, a, list);
+    let k = tables::rows::row_neighbours(links, a, list);
     if Site::NEIGHBOURS < k {
         return Row {
             good: false,
@@ -212,12 +212,12 @@ fn is_examinable(
 ) -> bool
     ensures { λ r. ⌜ r ≡ examinable n (lengths links numbers order) places highs ⌝ }
 {
-    crate::sizes::with_answer(
+    tables::sizes::with_answer(
         Site { radios: n },
         links,
         numbers,
         order,
-        crate::fill::least(places, highs),
+        tables::fill::least(places, highs),
     )
         == 0
 }
@@ -265,16 +265,10 @@ pub fn is_sound(n: u32, links: &[u8], numbers: &[u8], order: &[u16]) -> bool
 }
 
 // Questions 1 to 3, where `others` is the answer that 2 gets for further tables: the refusal number so far, 0 when none got no.
-pub fn refusal(
-    n: u32,
-    links: &[u8],
-    numbers: &[u8],
-    order: &[u16],
-    others: bool,
-) -> u32
+pub fn refusal(n: u32, links: &[u8], numbers: &[u8], order: &[u16], others: bool) -> u32
     ensures { λ r. ⌜ r ≡ site-refusal n (lengths-of (tables (now (links .entry)) (now (numbers .entry)) (now (order .entry)))) others (sound n (tables (now (links .entry)) (now (numbers .entry)) (now (order .entry)))) 0 ⌝ }
 {
-    let number = crate::sizes::of_tables(
+    let number = tables::sizes::of_tables(
         Site { radios: n },
         links.len(),
         numbers.len(),
@@ -296,7 +290,7 @@ pub fn refusal(
 pub fn check(n: u32, links: &[u8], numbers: &[u8], order: &[u16]) -> Value
     ensures { λ r. ⌜ Check-contract n (tables (now (links .entry)) (now (numbers .entry)) (now (order .entry))) r ⌝ }
 {
-    let number = crate::sizes::of_tables(
+    let number = tables::sizes::of_tables(
         Site { radios: n },
         links.len(),
         numbers.len(),

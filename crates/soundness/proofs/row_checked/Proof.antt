@@ -1,14 +1,14 @@
--- `check::row_checked` meets its contract: what is listed are the row's neighbours, and each test is one condition of `row-good`.
+-- `soundness::row_checked` meets its contract: what is listed are the row's neighbours, and each test is one condition of `row-good`.
 use native.Mathlib.Omega.{arith}
 use borrow.Author.Tests.{not-true, not-false}
-use Rattle.tables.proofs.RowChecks.{row-many, row-ends-bad, row-later-bad, row-high-bad, row-right}
+use Rattle.soundness.proofs.RowChecks.{row-many, row-ends-bad, row-later-bad, row-high-bad, row-right}
 use borrow.Author.Needs.{needs}
-use Rattle.tables.proofs.check.row_checked.Statement.{statement}
-use Rattle.tables.proofs.check.row_checked.Tie as tie
-use Rattle.tables.proofs.check.row_checked.Reads as reads
-use Rattle.tables.proofs.check.row_checked.Lts as lts
-use Rattle.tables.proofs.check.count_ends.Reads as count-ends-reads
+use Rattle.soundness.proofs.row_checked.Statement.{statement}
+use Rattle.soundness.proofs.row_checked.Tie as tie
+use Rattle.soundness.proofs.row_checked.Reads as reads
+use Rattle.soundness.proofs.row_checked.Lts as lts
+use Rattle.soundness.proofs.count_ends.Reads as count-ends-reads
 use Rattle.tables.proofs.rows.row_neighbours.Reads as row-neighbours-reads
 
 row-neighbours-requires : tie.Need-row-neighbours-requires
 row-neighbours-requires c κs = search needs

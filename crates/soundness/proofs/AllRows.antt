@@ -11,8 +11,8 @@ use lib.Seq.{getD-set-same, getD-set-other}
 use Rattle.mesh.specs.Limits.{max-neighbours}
 use Rattle.mesh.specs.Lists.{range, all}
 use Rattle.mesh.proofs.BoolLaws.{never, trichotomy}
 use Rattle.tables.specs.Rows.{neighbours-of}
-use Rattle.tables.specs.Checks.{high-count, row-good, Row-checked, Rows-checked, Highs}
+use Rattle.soundness.specs.Checks.{high-count, row-good, Row-checked, Rows-checked, Highs}
 
 -- the rows below a are good, and their high counts are written
 pub record Rows-so-far (n : ℕ) (links numbers places before highs : List ℕ) (a : ℕ) : Type 0 where

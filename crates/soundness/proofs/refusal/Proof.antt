@@ -1,16 +1,16 @@
--- `check::refusal` meets its contract: the tests are the chain's questions, in its order.
+-- `soundness::refusal` meets its contract: the tests are the chain's questions, in its order.
 use mathlib.Core.Path.{_≡_, sym, ap, _∙_}
 use borrow.Author.Tests.{not-true, not-false}
 use Rattle.mesh.specs.Tables.{tables}
 use Rattle.calls.specs.Questions.{lengths-of, ask}
-use Rattle.tables.proofs.ExamineLaws.{site-refused, site-lent, fits-sound-lent}
+use Rattle.soundness.proofs.ExamineLaws.{site-refused, site-lent, fits-sound-lent}
 use borrow.Author.Needs.{needs}
-use Rattle.tables.proofs.check.refusal.Statement.{statement}
-use Rattle.tables.proofs.check.refusal.Tie as tie
-use Rattle.tables.proofs.check.refusal.Reads as reads
-use Rattle.tables.proofs.check.refusal.Lts as lts
-use Rattle.tables.proofs.check.is_sound.Reads as is-sound-reads
+use Rattle.soundness.proofs.refusal.Statement.{statement}
+use Rattle.soundness.proofs.refusal.Tie as tie
+use Rattle.soundness.proofs.refusal.Reads as reads
+use Rattle.soundness.proofs.refusal.Lts as lts
+use Rattle.soundness.proofs.is_sound.Reads as is-sound-reads
 use Rattle.tables.proofs.sizes.of_tables.Reads as of-tables-reads
 
 of-tables-requires : tie.Need-of-tables-requires
 of-tables-requires c κs = search needs

@@ -20,8 +20,8 @@ use Rattle.mesh.proofs.BoolLaws.{bool-cases, never, and-left, and-right, and-bo
 use Rattle.mesh.proofs.ListLaws.{In, in-filter, filter-in, in-range, range-in, count-append, count-mono, count-none, count-both, count-filter, length-filter, all-in, in-all, all-below, below-all, Each-once, once-in, once-below, once-length}
 use Rattle.mesh.proofs.OrderLaws.{of-each-once, Few-later, few-later-of, of-few-later}
 use Rattle.mesh.proofs.RowLaws.{symmetric-of, of-symmetric, irreflexive-of, of-irreflexive, within-of, of-within, few-of, of-few}
 use Rattle.tables.specs.Rows.{neighbours-of}
-use Rattle.tables.specs.Checks.{Placed, later-count, high-count, ends-good, row-good}
+use Rattle.soundness.specs.Checks.{Placed, later-count, high-count, ends-good, row-good}
 
 -- ---- laws of lists
 

@@ -1,15 +1,15 @@
--- `check::check` meets its contract: questions 1 and 2 give the number, and soundness the value.
+-- `soundness::check` meets its contract: questions 1 and 2 give the number, and soundness the value.
 use Rattle.mesh.specs.Tables.{tables}
 use Rattle.calls.specs.Questions.{lengths-of}
-use Rattle.tables.proofs.ExamineLaws.{check-refused, check-answered}
+use Rattle.soundness.proofs.ExamineLaws.{check-refused, check-answered}
 use mathlib.Core.Path.{sym, _∙_}
 use borrow.Author.Needs.{needs}
-use Rattle.tables.proofs.check.check.Statement.{statement}
-use Rattle.tables.proofs.check.check.Tie as tie
-use Rattle.tables.proofs.check.check.Reads as reads
-use Rattle.tables.proofs.check.check.Lts as lts
-use Rattle.tables.proofs.check.is_sound.Reads as is-sound-reads
+use Rattle.soundness.proofs.check.Statement.{statement}
+use Rattle.soundness.proofs.check.Tie as tie
+use Rattle.soundness.proofs.check.Reads as reads
+use Rattle.soundness.proofs.check.Lts as lts
+use Rattle.soundness.proofs.is_sound.Reads as is-sound-reads
 use Rattle.tables.proofs.sizes.of_tables.Reads as of-tables-reads
 
 of-tables-requires : tie.Need-of-tables-requires
 of-tables-requires c κs = search needs

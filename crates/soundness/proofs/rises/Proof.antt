@@ -1,4 +1,4 @@
--- `check::rises` meets its contract: what is left of the order, from the last number on, rises exactly when all of it does.
+-- `soundness::rises` meets its contract: what is left of the order, from the last number on, rises exactly when all of it does.
 -- The measure is what is left of the order.
 use mathlib.Core.Path.{sym}
 use Prim.Native.Nat.{_-_}
@@ -6,9 +6,9 @@ use native.Mathlib.Omega.{arith}
 use borrow.Author.Needs.{needs}
 use lib.ListN.{length}
 use Rattle.mesh.specs.Sound.{number-in}
-use Rattle.tables.proofs.CheckLoops.{Rising-so-far, rising-none, rising-turn, rising-falls, rising-end}
-use Rattle.tables.proofs.check.rises.Statement.{statement}
-use Rattle.tables.proofs.check.rises.Tie as tie
+use Rattle.soundness.proofs.CheckLoops.{Rising-so-far, rising-none, rising-turn, rising-falls, rising-end}
+use Rattle.soundness.proofs.rises.Statement.{statement}
+use Rattle.soundness.proofs.rises.Tie as tie
 
 abbrev Inv-loop : tie.InvT-loop
 Inv-loop numbers order last₀ i₀ last i = Rising-so-far (number-in numbers) order last i

@@ -1,0 +1,11 @@
+-- Laws of the soundness check, for its functions and their callers.
+-- soundness row by row
+pub mod CheckLaws
+-- the loops: the order, one row, all rows
+pub mod CheckLoops
+pub mod RowChecks
+pub mod AllRows
+-- the whole check, and its callers
+pub mod ExamineLaws
+-- the check's contract is the named one, and nothing is required
+pub mod CheckTie
