@@ -1,0 +1,83 @@
+/*
+ * summerbugle.h: the link engine of the bolt-tension hubs, for C and C++ hosts.
+ *
+ * The host lends every table; the engine keeps nothing between calls and allocates nothing. A table is a pointer and a count of
+ * ELEMENTS (bytes of the links, numbers, image; 16-bit entries of the order and the answer; nodes of the node list).
+ *
+ *   links    64 bytes a radio: radio b is a neighbour of a when bit b % 8 of byte b / 8 of row a is set
+ *   numbers  1 byte a radio: its core number
+ *   order    n entries: a k-order of the radios
+ *   answer   at least n entries: a list of radios is ascending and fills the first entries; later entries keep their content
+ *
+ * Every call checks its tables itself. A refused call answers the number of the first question that got "no" (sb_refusal),
+ * zeros beside it, and changes no byte of any table. A call with number 0 was carried out.
+ *
+ * Tables of one call must not overlap, except where a call only reads them; C cannot check that, and the proofs assume it.
+ * Calls on the same tables must not run at the same time.
+ */
+#ifndef SUMMERBUGLE_H
+#define SUMMERBUGLE_H
+
+#include <stddef.h>
+#include <stdint.h>
+
+#ifdef __cplusplus
+extern "C" {
+#endif
+
+/* The limits of a site. */
+#define SB_RADIOS 512u
+#define SB_NEIGHBOURS 32u
+#define SB_ROW_BYTES 64u
+/* The name and the parent of the shell tree's root. */
+#define SB_ROOT 65535u
+/* The bytes of a block of an image, and of its payload. */
+#define SB_BLOCK_BYTES 512u
+#define SB_PAYLOAD_BYTES 504u
+
+/* The refusal numbers: the first question that got "no". */
+enum sb_refusal {
+    SB_OK = 0,
+    SB_SIZE = 1,        /* n is not from 1 to 512 */
+    SB_LENGTH = 2,      /* a table has another length */
+    SB_UNSOUND = 3,     /* the tables are not sound */
+    SB_RADIO = 4,       /* a radio named is not below n */
+    SB_SAME_ENDS = 5,   /* the ends of the link are the same radio */
+    SB_LINK_STATE = 6,  /* going up: the link is up already; going down: it is down */
+    SB_NO_ROOM = 7,     /* going up: an end has 32 neighbours */
+    SB_LEVEL = 8,       /* the level is above the radio's number */
+    SB_IMAGE_SIZE = 9,  /* the buffer does not hold the image; or the length is 0 or no multiple of 512 */
+    SB_IMAGE_CHECK = 10, /* a block does not pass its check */
+    SB_IMAGE = 11       /* the bytes are not the image of sound tables with this n */
+};
+
+/* The answer of a question: refusal number, and the value asked for (0 when refused). */
+typedef struct {
+    uint32_t number;
+    uint32_t value;
+} sb_value;
+
+/**
+ * Clear a site: zero links, zero numbers, the order 0 to n - 1.
+ *
+ * \return 0; or SB_SIZE, SB_LENGTH, and then every table keeps its content.
+ */
+uint32_t sb_clear(uint32_t n,
+                  uint8_t *links, size_t links_len,
+                  uint8_t *numbers, size_t numbers_len,
+                  uint16_t *order, size_t order_len);
+
+/**
+ * Check whether the tables are sound. They are only read.
+ *
+ * \return number 0 and value 1 (sound) or 0 (not sound); or number SB_SIZE, SB_LENGTH and value 0.
+ */
+sb_value sb_check(uint32_t n,
+                  const uint8_t *links, size_t links_len,
+                  const uint8_t *numbers, size_t numbers_len,
+                  const uint16_t *order, size_t order_len);
+
+#ifdef __cplusplus
+}
+#endif
+#endif
