@@ -1,0 +1,5 @@
+-- `DecimalLaws` for whoever reads or prints a number; `Texts` for callers of the parser: what it takes is exactly the language;
+-- `LineLaws` for the parser's functions alone.
+pub mod DecimalLaws
+mod LineLaws
+pub mod Texts

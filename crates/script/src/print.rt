@@ -1,0 +1,2 @@
+// Printing into a lent buffer.
+ghost use mathlib.Core.Path.{_≡_};
