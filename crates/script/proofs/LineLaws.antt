@@ -7,11 +7,14 @@ use native.Mathlib.Omega.{arith}
 use native.Mathlib.Numerals.{add-one}
 use lib.Dec.{leb, eqb}
 use lib.ListN.{length, drop, getD, drop-of-length-le}
-use lib.Seq.{drop-cons}
+use lib.Seq.{drop-cons, drop-drop}
 use borrow.Author.Tests.{le-leb, lt-leb, eq-eqb, ne-eqb}
-use Rattle.calls.specs.Replay.{digit-byte}
+use Rattle.mesh.specs.Lists.{same}
+use Rattle.calls.specs.Replay.{bytes-of, space, line-feed, digit-byte}
+use Rattle.script.specs.declared.lines.Line.{Line}
+use Rattle.script.specs.declared.lines.Line.the-variants.{Radios, Up, Down, Bad}
 use Rattle.script.specs.declared.lines.Number.{Number}
-use Rattle.script.specs.Lines.{is-digit, Read, got, none, digits-on, number-of, starts, read-of}
+use Rattle.script.specs.Lines.{is-digit, Read, got, none, digits-on, number-of, ended, last-number-of, starts, radios-line, link-with, link-after, link-of, line-of, read-of}
 
 -- ---- read-of
 
@@ -94,3 +97,108 @@ module _ (s : List ℕ) (p b : ℕ) (h : p < length s) (e : b ≡ getD s p 0) wh
   pub number-digit : (b ≡ 48 → ⊥) → 48 ≤ b → b ≤ 57 → number-of (drop p s) ≡ digits-on (b - 48) (drop (p + 1) s)
   unfolding number-of digit-byte
   number-digit z l m = rw (drop-cons s p 0 h, ← e, ne-eqb b 48 z, digit-in b l m, add-one)
+
+-- ---- last-number-of
+
+module _ (s : List ℕ) (e : ℕ) where
+  pub end-past : length s ≤ e → same (drop e s) (line-feed ∷ []) ≡ false
+  unfolding same
+  end-past h = rw (drop-of-length-le s h)
+
+  pub end-differ : e < length s → (getD s e 0 ≡ 10 → ⊥) → same (drop e s) (line-feed ∷ []) ≡ false
+  unfolding same
+  end-differ h d = rw (drop-cons s e 0 h, ne-eqb (getD s e 0) 10 d)
+
+  pub end-long : e < length s → getD s e 0 ≡ 10 → (length s - 1 ≡ e → ⊥) → same (drop e s) (line-feed ∷ []) ≡ false
+  unfolding same
+  end-long h d l =
+      let k : suc e < length s = more (λ q. l (omega arith)) in
+      rw (drop-cons s e 0 h, eq-eqb (getD s e 0) 10 d, drop-cons s (suc e) 0 k)
+    where
+      more : (length s ≡ suc e → ⊥) → suc e < length s
+      more n = omega arith
+
+  pub end-is : e < length s → getD s e 0 ≡ 10 → length s - 1 ≡ e → same (drop e s) (line-feed ∷ []) ≡ true
+  unfolding same
+  end-is h d l =
+      let k : length s ≤ suc e = omega arith in
+      rw (drop-cons s e 0 h, eq-eqb (getD s e 0) 10 d, drop-of-length-le s k)
+
+-- r is the number at p
+module _ (s : List ℕ) (p : ℕ) (r : Number) (e : read-of s r ≡ number-of (drop p s)) where
+  pub last-none : r .ok ≡ false → last-number-of (drop p s) ≡ none
+  unfolding last-number-of ended
+  last-none h = rw (← e, read-of-none s r h)
+
+  pub last-other : r .ok ≡ true → same (drop (r .next) s) (line-feed ∷ []) ≡ false → last-number-of (drop p s) ≡ none
+  unfolding last-number-of ended
+  last-other h k = rw (← e, read-of-got s r h, k)
+
+  pub last-is : r .ok ≡ true → same (drop (r .next) s) (line-feed ∷ []) ≡ true → last-number-of (drop p s) ≡ read-of s r
+  unfolding last-number-of ended
+  last-is h k = rw (← e, read-of-got s r h, k)
+
+-- ---- link-of
+
+module _ (s : List ℕ) (q : ℕ) where
+  pub space-past : length s ≤ q → starts (space ∷ []) (drop q s) ≡ false
+  unfolding starts
+  space-past h = rw (drop-of-length-le s h)
+
+  pub space-differ : q < length s → (getD s q 0 ≡ 32 → ⊥) → starts (space ∷ []) (drop q s) ≡ false
+  unfolding starts
+  space-differ h d = rw (drop-cons s q 0 h, ne-eqb 32 (getD s q 0) (λ e. d (sym e)))
+
+  pub space-is : q < length s → getD s q 0 ≡ 32 → starts (space ∷ []) (drop q s) ≡ true
+  unfolding starts
+  space-is h d = rw (drop-cons s q 0 h, eq-eqb 32 (getD s q 0) (sym d))
+
+-- a is the first number
+module _ (up : Bool) (s : List ℕ) (p : ℕ) (a : Number) (e : read-of s a ≡ number-of (drop p s)) where
+  pub link-none : a .ok ≡ false → Bad ≡ link-of up (drop p s)
+  unfolding link-of link-after
+  link-none h = rw (← e, read-of-none s a h)
+
+  pub link-gap : a .ok ≡ true → starts (space ∷ []) (drop (a .next) s) ≡ false → Bad ≡ link-of up (drop p s)
+  unfolding link-of link-after
+  link-gap h k = rw (← e, read-of-got s a h, k)
+
+  -- b is the second
+  module _ (h : a .ok ≡ true) (k : starts (space ∷ []) (drop (a .next) s) ≡ true) (b : Number) (f : read-of s b ≡ last-number-of (drop (a .next + 1) s)) where
+    pub link-second : link-with up (a .value) (read-of s b) ≡ link-of up (drop p s)
+    unfolding link-of link-after
+    link-second = rw (← e, read-of-got s a h, k, drop-drop 1 (a .next) s, f)
+
+    pub link-one : b .ok ≡ false → Bad ≡ link-of up (drop p s)
+    unfolding link-with
+    link-one m = sym (ap (link-with up (a .value)) (read-of-none s b m)) ∙ link-second
+
+    -- t is the value of up
+    pub link-both : b .ok ≡ true → (t : Bool) → up ≡ t → cond t (Up (a .value) (b .value)) (Down (a .value) (b .value)) ≡ link-of up (drop p s)
+    unfolding link-with
+    link-both m t u =
+        ap (λ (w : Bool). cond w (Up (a .value) (b .value)) (Down (a .value) (b .value))) (sym u)
+        ∙ sym (ap (link-with up (a .value)) (read-of-got s b m))
+        ∙ link-second
+
+-- ---- line-of
+
+module _ (s : List ℕ) where
+  pub line-up : starts (bytes-of "up ") s ≡ true → link-of true (drop 3 s) ≡ line-of s
+  unfolding line-of
+  line-up h = rw h
+
+  module _ (h : starts (bytes-of "up ") s ≡ false) where
+    pub line-down : starts (bytes-of "down ") s ≡ true → link-of false (drop 5 s) ≡ line-of s
+    unfolding line-of
+    line-down k = rw (h, k)
+
+    module _ (k : starts (bytes-of "down ") s ≡ false) where
+      pub line-other : starts (bytes-of "radios ") s ≡ false → Bad ≡ line-of s
+      unfolding line-of
+      line-other l = rw (h, k, l)
+
+      -- r is what the number after the word is read as
+      pub line-radios : starts (bytes-of "radios ") s ≡ true → (r : Read) → r ≡ last-number-of (drop 7 s) → radios-line r ≡ line-of s
+      unfolding line-of
+      line-radios l r e = rw (h, k, l, e)

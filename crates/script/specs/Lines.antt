@@ -87,8 +87,7 @@ radios-line (got n rest) = Radios n
 -- the first number is a
 unfoldable pub link-with : (up : Bool) → (a : ℕ) → Read → Line
 link-with up a none = Bad
-link-with true a (got b rest) = Up a b
-link-with false a (got b rest) = Down a b
+link-with up a (got b rest) = cond up (Up a b) (Down a b)
 
 -- a space after the first number, then the second
 unfoldable pub link-after : (up : Bool) → Read → Line

@@ -126,10 +126,10 @@ fn read_last_number(s: &[u8], p: usize) -> Number
     if s.len() <= e {
         return none();
     }
-    if s.len() - 1 != e {
+    if s[e] != 10 {
         return none();
     }
-    if s[e] != 10 {
+    if s.len() - 1 != e {
         return none();
     }
     r
