@@ -2,4 +2,5 @@
 -- `LineLaws` for the parser's functions alone.
 pub mod DecimalLaws
 mod LineLaws
+pub mod NumberLaws
 pub mod Texts
