@@ -2,5 +2,6 @@
 -- `LineLaws` for the parser's functions alone.
 pub mod DecimalLaws
 mod LineLaws
+pub mod PrintLaws
 pub mod NumberLaws
 pub mod Texts

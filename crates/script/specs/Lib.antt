@@ -1,2 +1,3 @@
 -- What the contracts of this crate cite: `Lines` for the parser and its callers, `Print` for the printer and its callers.
 pub mod Lines
+pub mod Print

@@ -1,2 +1,78 @@
-// Printing into a lent buffer.
+// Texts printed into a lent buffer. Each function puts its text from the place `at` on and answers the place after it. A byte
+// past the buffer's end is left out and still counted, so an answer above the length tells that the text did not fit, and how
+// long the buffer must be. All other bytes keep their content.
 ghost use mathlib.Core.Path.{_≡_};
+ghost use mathlib.Core.List.{[], _∷_, map};
+ghost use lib.ListN.{take};
+ghost use Prim.Native.Nat.{_<_};
+ghost use Rattle.calls.specs.Replay.{space, digit-byte, decimal, step-text, further-fields, link-line, numbers-line, order-line, bad-line};
+ghost use Rattle.script.specs.Print.{lent, Puts};
+
+// Puts one byte.
+pub fn put_byte(buffer: &mut [u8], at: usize, byte: u8) -> usize
+    ensures { λ r. ⌜ Puts (lent (now (buffer .entry)) at) (byte ∷ []) (lent (now (buffer .exit)) r) ⌝ }
+{
+    if at < buffer.len() {
+        buffer[at] = byte;
+        return at + 1;
+    }
+    if at < usize::MAX {
+        return at + 1;
+    }
+    at
+}
+
+// Puts the bytes of a text.
+pub fn put_text(buffer: &mut [u8], at: usize, text: &[u8]) -> usize
+    ensures { λ r. ⌜ Puts (lent (now (buffer .entry)) at) (now (text .entry)) (lent (now (buffer .exit)) r) ⌝ }
+{
+    let mut place = at;
+    let mut i = 0;
+    while i < text.len() {
+        place = put_byte(buffer, place, text[i]);
+        i += 1;
+    }
+    place
+}
+
+// The byte of a digit.
+fn digit_byte(digit: u64) -> u8
+    requires { ⌜ digit < 10 ⌝ }
+    ensures { λ r. ⌜ r ≡ digit-byte digit ⌝ }
+{
+    48 + digit as u8
+}
+
+// Puts x in decimal: the digits before the last, then the last.
+pub fn put_decimal(buffer: &mut [u8], at: usize, x: u64) -> usize
+    ensures { λ r. ⌜ Puts (lent (now (buffer .entry)) at) (decimal x) (lent (now (buffer .exit)) r) ⌝ }
+{
+    if x < 10 {
+        return put_byte(buffer, at, digit_byte(x));
+    }
+    let place = put_decimal(buffer, at, x / 10);
+    put_byte(buffer, place, digit_byte(x % 10))
+}
+
+// Puts a step: its sign and its size, or 0.
+pub fn put_step(buffer: &mut [u8], at: usize, step: i8) -> usize
+    ensures { λ r. ⌜ Puts (lent (now (buffer .entry)) at) (step-text step) (lent (now (buffer .exit)) r) ⌝ }
+{
+    if step == 0 {
+        return put_decimal(buffer, at, 0);
+    }
+    if 0 < step {
+        let place = put_byte(buffer, at, b'+');
+        return put_decimal(buffer, place, step as u64);
+    }
+    let place = put_byte(buffer, at, b'-');
+    put_decimal(buffer, place, (0 - step as i16) as u64)
+}
+
+// Puts a further field of a line: a space and a number.
+fn put_field(buffer: &mut [u8], at: usize, x: u64) -> usize
+    ensures { λ r. ⌜ Puts (lent (now (buffer .entry)) at) (space ∷ decimal x) (lent (now (buffer .exit)) r) ⌝ }
+{
+    let place = put_byte(buffer, at, b' ');
+    put_decimal(buffer, place, x)
+}

@@ -1,0 +1,162 @@
+-- Laws of `put`: one text after another, lengths, the place, and what stands in the buffer where the text fits.
+use mathlib.Core.Path.{_≡_, refl, sym, ap, _∙_}
+use mathlib.Core.Logic.{_⊎_, inl, inr}
+use mathlib.Core.Bool.{Bool, true, false, cond}
+use mathlib.Core.List.{List, [], _∷_, _++_, map}
+use Prim.Native.Nat.{ℕ, zero, suc, _+_, _/_, _%_, _≤_, _<_, min}
+use native.Mathlib.Omega.{arith}
+use native.Mathlib.Numerals.{add-one}
+use lib.Dec.{ltb}
+use lib.ListN.{length, take, drop, getD, set, length-set, drop-of-length-le}
+use lib.Seq.{drop-cons, set-out, sets, sets-eq}
+use borrow.Author.Tests.{lt-ltb, le-ltb, ltb-true, ltb-false}
+use Rattle.mesh.proofs.BoolLaws.{bool-cases}
+use Rattle.calls.specs.Replay.{space, line-feed, digit-byte, decimal, further-fields}
+use Rattle.script.proofs.DecimalLaws.{decimal-digit, decimal-more}
+use Rattle.script.specs.Print.{Buffer, lent, max-place, next-place, put, Puts}
+
+-- ---- one byte
+
+module _ (bytes : List ℕ) (at x : ℕ) where
+  pub puts-byte-in : at < max-place → Puts (lent bytes at) (x ∷ []) (lent (set bytes at x) (at + 1))
+  unfolding put next-place
+  puts-byte-in h = record { is = rw (lt-ltb at max-place h) }
+
+  pub puts-byte-past : length bytes ≤ at → at < max-place → Puts (lent bytes at) (x ∷ []) (lent bytes (at + 1))
+  unfolding put next-place
+  puts-byte-past l h = record { is = rw (lt-ltb at max-place h, set-out bytes at x l) }
+
+  pub puts-byte-last : length bytes ≤ at → max-place ≤ at → Puts (lent bytes at) (x ∷ []) (lent bytes at)
+  unfolding put next-place
+  puts-byte-last l h = record { is = rw (le-ltb at max-place h, set-out bytes at x l) }
+
+-- ---- one text after another
+
+pub put-append : (b : Buffer) (xs ys : List ℕ) → put b (xs ++ ys) ≡ put (put b xs) ys
+unfolding put
+put-append b [] ys = refl
+put-append b (x ∷ xs) ys = put-append (lent (set (b .bytes) (b .at) x) (next-place (b .at))) xs ys
+
+pub puts-append : {b c d : Buffer} {xs ys : List ℕ} → Puts b xs c → Puts c ys d → Puts b (xs ++ ys) d
+puts-append {b} {c} {d} {xs} {ys} p q =
+    record { is = q .is ∙ ap (λ (a : Buffer). put a ys) (p .is) ∙ sym (put-append b xs ys) }
+
+-- the same text, said in another way
+pub puts-as : {b c : Buffer} {xs ys : List ℕ} → xs ≡ ys → Puts b xs c → Puts b ys c
+puts-as {b} e p = record { is = p .is ∙ ap (put b) e }
+
+-- ---- decimal
+
+-- d is the byte of the last digit
+pub puts-decimal-digit : {b c : Buffer} (x d : ℕ) → x < 10 → d ≡ digit-byte x → Puts b (d ∷ []) c → Puts b (decimal x) c
+puts-decimal-digit x d h e p = puts-as (ap (λ (y : ℕ). y ∷ []) e ∙ sym (decimal-digit x h)) p
+
+pub puts-decimal-more : {b c e : Buffer} (x d : ℕ) → 10 ≤ x → d ≡ digit-byte (x % 10) → Puts b (decimal (x / 10)) c → Puts c (d ∷ []) e
+    → Puts b (decimal x) e
+puts-decimal-more x d h f p q =
+    puts-as (ap (λ (y : ℕ). decimal (x / 10) ++ (y ∷ [])) f ∙ sym (decimal-more x h)) (puts-append p q)
+
+-- ---- a text put by pieces
+
+-- c is the buffer after the first pieces, and what is left takes it where the whole text takes b
+pub record Putting (b : Buffer) (whole : List ℕ) (c : Buffer) (left : List ℕ) : Type 0 where
+  pub is : put c left ≡ put b whole
+
+pub putting-none : {b : Buffer} {whole : List ℕ} → Putting b whole b whole
+putting-none = record { is = refl }
+
+pub putting-piece : {b c d : Buffer} {whole piece : List ℕ} (left more : List ℕ) → left ≡ piece ++ more → Putting b whole c left → Puts c piece d → Putting b whole d more
+putting-piece {b} {c} {d} {whole} {piece} left more e p q =
+    record { is = ap (λ (a : Buffer). put a more) (q .is) ∙ sym (put-append c piece more) ∙ ap (put c) (sym e) ∙ p .is }
+
+-- the last piece
+pub putting-last : {b c d : Buffer} {whole left : List ℕ} → Putting b whole c left → Puts c left d → Puts b whole d
+putting-last p q = record { is = q .is ∙ p .is }
+
+-- nothing is left
+pub putting-end : {b c : Buffer} {whole left : List ℕ} → Putting b whole c left → left ≡ [] → Puts b whole c
+unfolding put
+putting-end {b} {c} p e = record { is = ap (put c) (sym e) ∙ p .is }
+
+-- the pieces of a text are its bytes
+pub drop-byte : (text : List ℕ) (i : ℕ) → i < length text → drop i text ≡ (getD text i 0 ∷ []) ++ drop (i + 1) text
+drop-byte text i h = rw (add-one i) (drop-cons text i 0 h)
+
+-- the pieces of fields are a space and a number
+pub drop-field : (xs : List ℕ) (i : ℕ) → i < length xs
+    → further-fields (map decimal (drop i xs)) ≡ (space ∷ decimal (getD xs i 0)) ++ further-fields (map decimal (drop (i + 1) xs))
+unfolding further-fields
+drop-field xs i h = rw (add-one i, drop-cons xs i 0 h)
+
+pub drop-fields-end : (xs : List ℕ) (i : ℕ) → length xs ≤ i → further-fields (map decimal (drop i xs)) ≡ line-feed ∷ []
+unfolding further-fields
+drop-fields-end xs i h = rw (drop-of-length-le xs h)
+
+-- ---- length
+
+pub length-put : (b : Buffer) (xs : List ℕ) → length (put b xs .bytes) ≡ length (b .bytes)
+unfolding put
+length-put b [] = refl
+length-put b (x ∷ xs) = length-put (lent (set (b .bytes) (b .at) x) (next-place (b .at))) xs ∙ length-set (b .bytes) (b .at) x
+
+pub length-puts : {b c : Buffer} {xs : List ℕ} → Puts b xs c → length (c .bytes) ≡ length (b .bytes)
+length-puts {b} {c} {xs} p = ap (λ (a : Buffer). length (a .bytes)) (p .is) ∙ length-put b xs
+
+pub length-putting : {b c : Buffer} {xs ys : List ℕ} → Putting b xs c ys → length (c .bytes) ≡ length (b .bytes)
+length-putting {b} {c} {xs} {ys} p =
+    sym (length-put c ys) ∙ ap (λ (a : Buffer). length (a .bytes)) (p .is) ∙ length-put b xs
+
+-- ---- place
+
+next-place-below : (at : ℕ) → at < max-place → next-place at ≡ at + 1
+unfolding next-place
+next-place-below at h = rw (lt-ltb at max-place h)
+
+next-place-min : (at : ℕ) → at ≤ max-place → next-place at ≡ min (at + 1) max-place
+unfolding next-place
+next-place-min at h = go (bool-cases (ltb at max-place))
+  where
+    go : (ltb at max-place ≡ true) ⊎ (ltb at max-place ≡ false) → cond (ltb at max-place) (at + 1) at ≡ min (at + 1) max-place
+    go (inl e) = rw e (omega (arith, ltb-true at max-place e))
+    go (inr e) = rw e (omega (arith, ltb-false at max-place e))
+
+next-place-le : (at : ℕ) → at ≤ next-place at
+unfolding next-place
+next-place-le at = go (ltb at max-place)
+  where
+    go : (t : Bool) → at ≤ cond t (at + 1) at
+    go true = omega arith
+    go false = omega arith
+
+-- the place after a text is its length further on, at most the largest
+pub at-put : (b : Buffer) (xs : List ℕ) → b .at ≤ max-place → put b xs .at ≡ min (b .at + length xs) max-place
+unfolding put
+at-put b [] h = omega arith
+at-put b (x ∷ xs) h =
+    omega (arith, next-place-min (b .at) h, at-put (lent (set (b .bytes) (b .at) x) (next-place (b .at))) xs (omega (arith, next-place-min (b .at) h)))
+
+-- ---- what stands in the buffer
+
+bytes-put : (bytes : List ℕ) (at : ℕ) (xs : List ℕ) → at + length xs ≤ max-place → put (lent bytes at) xs ≡ lent (sets bytes at xs) (at + length xs)
+unfolding put
+bytes-put bytes at [] h = let e : at ≡ at + 0 = omega arith in ap (λ (p : ℕ). lent bytes p) e
+bytes-put bytes at (x ∷ xs) h =
+    let e : at + 1 + length xs ≡ at + suc (length xs) = omega arith in
+    rw (next-place-below at (omega arith))
+    (bytes-put (set bytes at x) (at + 1) xs (omega arith)
+    ∙ ap (λ (p : ℕ). lent (sets (set bytes at x) p xs) (at + 1 + length xs)) (add-one at)
+    ∙ ap (λ (p : ℕ). lent (sets (set bytes at x) (suc at) xs) p) e)
+
+-- a text that fits stands from the place on, and the place after it is answered; the bytes before and after are kept
+pub put-fits : (bytes : List ℕ) (at : ℕ) (xs : List ℕ) → at + length xs ≤ length bytes → length bytes ≤ max-place
+    → put (lent bytes at) xs ≡ lent (take at bytes ++ xs ++ drop (at + length xs) bytes) (at + length xs)
+put-fits bytes at xs h m =
+    bytes-put bytes at xs (omega arith) ∙ ap (λ (l : List ℕ). lent l (at + length xs)) (sets-eq xs bytes at h)
+
+-- a text that starts at the end or past it changes no byte
+pub put-past : (b : Buffer) (xs : List ℕ) → length (b .bytes) ≤ b .at → put b xs .bytes ≡ b .bytes
+unfolding put
+put-past b [] h = refl
+put-past b (x ∷ xs) h =
+    put-past (lent (set (b .bytes) (b .at) x) (next-place (b .at))) xs (omega (arith, length-set (b .bytes) (b .at) x, next-place-le (b .at)))
+    ∙ set-out (b .bytes) (b .at) x h
