@@ -3,5 +3,6 @@
 pub mod DecimalLaws
 mod LineLaws
 pub mod PrintLaws
+mod StepLaws
 pub mod NumberLaws
 pub mod Texts

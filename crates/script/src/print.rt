@@ -3,6 +3,7 @@
 // long the buffer must be. All other bytes keep their content.
 ghost use mathlib.Core.Path.{_≡_};
 ghost use mathlib.Core.List.{[], _∷_, map};
+ghost use lib.IntN.{natAbs};
 ghost use lib.ListN.{take};
 ghost use Prim.Native.Nat.{_<_};
 ghost use Rattle.calls.specs.Replay.{space, digit-byte, decimal, step-text, further-fields, link-line, numbers-line, order-line, bad-line};
@@ -54,19 +55,30 @@ pub fn put_decimal(buffer: &mut [u8], at: usize, x: u64) -> usize
     put_byte(buffer, place, digit_byte(x % 10))
 }
 
+// How far a step goes, either way.
+fn step_size(step: i8) -> u64
+    ensures { λ r. ⌜ r ≡ natAbs step ⌝ }
+{
+    if step < 0 {
+        return (0 - step as i16) as u64;
+    }
+    step as u64
+}
+
 // Puts a step: its sign and its size, or 0.
 pub fn put_step(buffer: &mut [u8], at: usize, step: i8) -> usize
     ensures { λ r. ⌜ Puts (lent (now (buffer .entry)) at) (step-text step) (lent (now (buffer .exit)) r) ⌝ }
 {
-    if step == 0 {
-        return put_decimal(buffer, at, 0);
+    let size = step_size(step);
+    if step < 0 {
+        let place = put_byte(buffer, at, b'-');
+        return put_decimal(buffer, place, size);
     }
-    if 0 < step {
-        let place = put_byte(buffer, at, b'+');
-        return put_decimal(buffer, place, step as u64);
+    if size == 0 {
+        return put_decimal(buffer, at, size);
     }
-    let place = put_byte(buffer, at, b'-');
-    put_decimal(buffer, place, (0 - step as i16) as u64)
+    let place = put_byte(buffer, at, b'+');
+    put_decimal(buffer, place, size)
 }
 
 // Puts a further field of a line: a space and a number.
