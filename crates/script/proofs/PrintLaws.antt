@@ -7,11 +7,12 @@ use Prim.Native.Nat.{ℕ, zero, suc, _+_, _/_, _%_, _≤_, _<_, min}
 use native.Mathlib.Omega.{arith}
 use native.Mathlib.Numerals.{add-one}
 use lib.Dec.{ltb}
+use lib.IntN.{ℤ}
 use lib.ListN.{length, take, drop, getD, set, length-set, drop-of-length-le}
 use lib.Seq.{drop-cons, set-out, sets, sets-eq}
 use borrow.Author.Tests.{lt-ltb, le-ltb, ltb-true, ltb-false}
 use Rattle.mesh.proofs.BoolLaws.{bool-cases}
-use Rattle.calls.specs.Replay.{space, line-feed, digit-byte, decimal, further-fields}
+use Rattle.calls.specs.Replay.{space, line-feed, digit-byte, decimal, step-text, further-fields, printed-line, link-line}
 use Rattle.script.proofs.DecimalLaws.{decimal-digit, decimal-more}
 use Rattle.script.specs.Print.{Buffer, lent, max-place, next-place, put, Puts}
 
@@ -82,15 +83,40 @@ putting-end {b} {c} p e = record { is = ap (put c) (sym e) ∙ p .is }
 pub drop-byte : (text : List ℕ) (i : ℕ) → i < length text → drop i text ≡ (getD text i 0 ∷ []) ++ drop (i + 1) text
 drop-byte text i h = rw (add-one i) (drop-cons text i 0 h)
 
--- the pieces of fields are a space and a number
-pub drop-field : (xs : List ℕ) (i : ℕ) → i < length xs
-    → further-fields (map decimal (drop i xs)) ≡ (space ∷ decimal (getD xs i 0)) ++ further-fields (map decimal (drop (i + 1) xs))
-unfolding further-fields
-drop-field xs i h = rw (add-one i, drop-cons xs i 0 h)
+-- ---- fields of a line, at any width
 
-pub drop-fields-end : (xs : List ℕ) (i : ℕ) → length xs ≤ i → further-fields (map decimal (drop i xs)) ≡ line-feed ∷ []
+-- the first i of the numbers xs are put, a field each
+pub record Fields (xs : List ℕ) (b c : Buffer) (i : ℕ) : Type 0 where
+  pub low : i ≤ length xs
+  pub is : Putting b (further-fields (map decimal xs)) c (further-fields (map decimal (drop i xs)))
+
+pub fields-none : (xs : List ℕ) {b : Buffer} → Fields xs b b 0
+fields-none xs = record { low = omega arith; is = putting-none }
+
+pub fields-next : {xs : List ℕ} {b c d : Buffer} {i : ℕ} (x : ℕ) → i < length xs → x ≡ getD xs i 0 → Fields xs b c i → Puts c (space ∷ decimal x) d
+    → Fields xs b d (i + 1)
 unfolding further-fields
-drop-fields-end xs i h = rw (drop-of-length-le xs h)
+fields-next {xs} {b} {c} {d} {i} x h e f p =
+    let split : further-fields (map decimal (drop i xs)) ≡ (space ∷ decimal x) ++ further-fields (map decimal (drop (i + 1) xs))
+    = rw (add-one i, drop-cons xs i 0 h, e) in
+    record { low = omega arith; is = putting-piece _ _ split (f .is) p }
+
+pub fields-last : {xs : List ℕ} {b c d : Buffer} {i : ℕ} → length xs ≤ i → Fields xs b c i → Puts c (line-feed ∷ []) d
+    → Puts b (further-fields (map decimal xs)) d
+unfolding further-fields
+fields-last {xs} {b} {c} {d} {i} h f p =
+    let none-left : line-feed ∷ [] ≡ further-fields (map decimal (drop i xs)) = rw (drop-of-length-le xs h) in
+    putting-last (f .is) (puts-as none-left p)
+
+-- ---- the line of a link call
+
+-- y is the step as the code keeps it, and xs the radios that it lists
+pub puts-link-line : {b c d e f : Buffer} (number : ℕ) {y : ℤ} (z : ℤ) {xs : List ℕ} (cs : List ℕ) → y ≡ z → xs ≡ cs
+    → Puts b (decimal number) c → Puts c (space ∷ []) d → Puts d (step-text y) e → Puts e (further-fields (map decimal xs)) f
+    → Puts b (link-line number z cs) f
+unfolding link-line printed-line further-fields
+puts-link-line number z cs same-step same-radios p q r s =
+    puts-append p (puts-append q (puts-append (puts-as (ap step-text same-step) r) (puts-as (ap (λ (l : List ℕ). further-fields (map decimal l)) same-radios) s)))
 
 -- ---- length
 

@@ -88,3 +88,80 @@ fn put_field(buffer: &mut [u8], at: usize, x: u64) -> usize
     let place = put_byte(buffer, at, b' ');
     put_decimal(buffer, place, x)
 }
+
+fn wide8(x: u8) -> u64
+    ensures { λ r. ⌜ r ≡ x ⌝ }
+{
+    x as u64
+}
+
+fn wide16(x: u16) -> u64
+    ensures { λ r. ⌜ r ≡ x ⌝ }
+{
+    x as u64
+}
+
+// Puts the rest of a line: a further field for each number, and the line feed.
+fn put_numbers(buffer: &mut [u8], at: usize, numbers: &[u8]) -> usize
+    ensures { λ r. ⌜ Puts (lent (now (buffer .entry)) at) (further-fields (map decimal (now (numbers .entry)))) (lent (now (buffer .exit)) r) ⌝ }
+{
+    let mut place = at;
+    let mut i = 0;
+    while i < numbers.len() {
+        place = put_field(buffer, place, wide8(numbers[i]));
+        i += 1;
+    }
+    put_byte(buffer, place, 10)
+}
+
+// The same for radios.
+fn put_radios(buffer: &mut [u8], at: usize, radios: &[u16]) -> usize
+    ensures { λ r. ⌜ Puts (lent (now (buffer .entry)) at) (further-fields (map decimal (now (radios .entry)))) (lent (now (buffer .exit)) r) ⌝ }
+{
+    let mut place = at;
+    let mut i = 0;
+    while i < radios.len() {
+        place = put_field(buffer, place, wide16(radios[i]));
+        i += 1;
+    }
+    put_byte(buffer, place, 10)
+}
+
+// Puts the line of a link call: refusal number, step, and the first count radios of changed (all of them, where it has fewer).
+pub fn put_link_line(buffer: &mut [u8], at: usize, number: u32, step: i8, changed: &[u16], count: u32) -> usize
+    ensures { λ r. ⌜ Puts (lent (now (buffer .entry)) at) (link-line number step (take count (now (changed .entry)))) (lent (now (buffer .exit)) r) ⌝ }
+{
+    let after_number = put_decimal(buffer, at, number as u64);
+    let after_space = put_byte(buffer, after_number, b' ');
+    let after_step = put_step(buffer, after_space, step);
+    let n = count as usize;
+    if changed.len() <= n {
+        return put_radios(buffer, after_step, changed);
+    }
+    put_radios(buffer, after_step, &changed[..n])
+}
+
+// Puts the closing line of the numbers, by radio.
+pub fn put_numbers_line(buffer: &mut [u8], at: usize, numbers: &[u8]) -> usize
+    ensures { λ r. ⌜ Puts (lent (now (buffer .entry)) at) (numbers-line (now (numbers .entry))) (lent (now (buffer .exit)) r) ⌝ }
+{
+    let place = put_text(buffer, at, b"numbers");
+    put_numbers(buffer, place, numbers)
+}
+
+// Puts the closing line of the order.
+pub fn put_order_line(buffer: &mut [u8], at: usize, order: &[u16]) -> usize
+    ensures { λ r. ⌜ Puts (lent (now (buffer .entry)) at) (order-line (now (order .entry))) (lent (now (buffer .exit)) r) ⌝ }
+{
+    let place = put_text(buffer, at, b"order");
+    put_radios(buffer, place, order)
+}
+
+// Puts what ends the run at a line of another form: lines are counted from 1.
+pub fn put_bad_line(buffer: &mut [u8], at: usize, line: u64) -> usize
+    ensures { λ r. ⌜ Puts (lent (now (buffer .entry)) at) (bad-line line) (lent (now (buffer .exit)) r) ⌝ }
+{
+    let after_word = put_text(buffer, at, b"bad");
+    let after_line = put_field(buffer, after_word, line);
+    put_byte(buffer, after_line, 10)
+}
