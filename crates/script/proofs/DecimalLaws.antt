@@ -1,9 +1,15 @@
 -- Laws of `decimal`: one digit, a digit more, the length, and that every byte is a digit.
 use mathlib.Core.Path.{_≡_, refl, sym, ap, _∙_}
+use mathlib.Core.Logic.{_⊎_, inl, inr}
+use mathlib.Core.Bool.{true, false}
 use mathlib.Core.List.{List, [], _∷_, _++_}
-use Prim.Native.Nat.{ℕ, zero, suc, _+_, _*_, _/_, _%_, _≤_, _<_}
+use Prim.Native.Nat.{ℕ, zero, suc, _+_, _*_, _/_, _%_, _^_, _≤_, _<_}
 use native.Mathlib.Omega.{arith}
+use native.Mathlib.Nat.{pow-succ'}
+use lib.Dec.{ltb}
 use lib.ListN.{length, length-append}
+use borrow.Author.Tests.{ltb-true, ltb-false}
+use Rattle.mesh.proofs.BoolLaws.{bool-cases}
 use Rattle.calls.specs.Replay.{digit-byte, digits-in, decimal}
 
 -- ---- digits-in
@@ -60,3 +66,13 @@ length-decimal-digit x h = rw (decimal-digit x h)
 
 pub length-decimal-more : (x : ℕ) → 10 ≤ x → length (decimal x) ≡ length (decimal (x / 10)) + 1
 length-decimal-more x h = rw (decimal-more x h) (length-append (decimal (x / 10)) (digit-byte (x % 10) ∷ []))
+
+-- a number below 10 ^ k has at most k digits
+pub length-decimal-le : (k x : ℕ) → x < 10 ^ suc k → length (decimal x) ≤ suc k
+length-decimal-le zero x h = omega (arith, length-decimal-digit x (omega arith))
+length-decimal-le (suc k) x h = go (length-decimal-le k (x / 10)) (bool-cases (ltb x 10))
+  where
+    go : (x / 10 < 10 ^ suc k → length (decimal (x / 10)) ≤ suc k) → (ltb x 10 ≡ true) ⊎ (ltb x 10 ≡ false) → length (decimal x) ≤ suc (suc k)
+    go rec (inl e) = omega (arith, length-decimal-digit x (ltb-true x 10 e))
+    go rec (inr e) =
+        omega (arith, length-decimal-more x (ltb-false x 10 e), rec (omega (arith, pow-succ' 10 (suc k))))

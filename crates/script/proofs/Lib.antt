@@ -2,6 +2,7 @@
 -- `LineLaws` for the parser's functions alone.
 pub mod DecimalLaws
 mod LineLaws
+pub mod LengthLaws
 pub mod PrintLaws
 mod StepLaws
 pub mod NumberLaws

@@ -186,3 +186,21 @@ put-past b [] h = refl
 put-past b (x ∷ xs) h =
     put-past (lent (set (b .bytes) (b .at) x) (next-place (b .at))) xs (omega (arith, length-set (b .bytes) (b .at) x, next-place-le (b .at)))
     ∙ set-out (b .bytes) (b .at) x h
+
+-- ---- what a caller learns from the answered place
+
+-- an answer at most the length: the whole text stands from the place on, and the bytes before and after it are kept
+pub puts-whole : {bytes text after : List ℕ} {at next : ℕ} → Puts (lent bytes at) text (lent after next)
+    → at ≤ max-place → length bytes < max-place → next ≤ length bytes
+    → (next ≡ at + length text) × (after ≡ take at bytes ++ text ++ drop (at + length text) bytes)
+puts-whole {bytes} {text} {after} {at} {next} p h m l =
+    let place : next ≡ min (at + length text) max-place = ap (λ (b : Buffer). b .at) (p .is) ∙ at-put (lent bytes at) text h in
+    let e : lent after next ≡ lent (take at bytes ++ text ++ drop (at + length text) bytes) (at + length text)
+    = p .is ∙ put-fits bytes at text (omega arith) (omega arith) in
+    (ap (λ (b : Buffer). b .at) e, ap (λ (b : Buffer). b .bytes) e)
+
+-- an answer above the length: the text does not fit
+pub puts-cut : {bytes text after : List ℕ} {at next : ℕ} → Puts (lent bytes at) text (lent after next)
+    → at ≤ max-place → length bytes < next → length bytes < at + length text
+puts-cut {bytes} {text} {after} {at} {next} p h l =
+    omega (arith, ap (λ (b : Buffer). b .at) (p .is) ∙ at-put (lent bytes at) text h)

@@ -5,6 +5,14 @@ ghost use Prim.Native.Nat.{_≤_, _<_};
 ghost use lib.ListN.{length, drop};
 ghost use Rattle.script.specs.Lines.{read-of, digits-on, number-of, last-number-of, link-of, starts, line-of};
 
+// The bytes of the digits 0 and 9.
+const ZERO: u32 = 48;
+
+const NINE: u32 = 57;
+
+// The largest number that a line may have.
+const MAX_VALUE: u32 = 65535;
+
 // What a line says.
 pub enum Line {
     Radios(u32),
@@ -62,22 +70,22 @@ fn read_digits(s: &[u8], p: usize, v: u32) -> Number
     let mut i = p;
     while i < s.len() {
         let b = wide(s[i]);
-        if b < 48 {
+        if b < ZERO {
             return Number {
                 ok: true,
                 value: v,
                 next: i,
             };
         }
-        if 57 < b {
+        if NINE < b {
             return Number {
                 ok: true,
                 value: v,
                 next: i,
             };
         }
-        let w = 10 * v + (b - 48);
-        if 65535 < w {
+        let w = 10 * v + (b - ZERO);
+        if MAX_VALUE < w {
             return none();
         }
         v = w;
@@ -98,20 +106,20 @@ fn read_number(s: &[u8], p: usize) -> Number
         return none();
     }
     let b = wide(s[p]);
-    if b == 48 {
+    if b == ZERO {
         return Number {
             ok: true,
             value: 0,
             next: p + 1,
         };
     }
-    if b < 48 {
+    if b < ZERO {
         return none();
     }
-    if 57 < b {
+    if NINE < b {
         return none();
     }
-    read_digits(s, p + 1, b - 48)
+    read_digits(s, p + 1, b - ZERO)
 }
 
 // The number at p, if nothing but the line feed stands after it.
@@ -126,7 +134,7 @@ fn read_last_number(s: &[u8], p: usize) -> Number
     if s.len() <= e {
         return none();
     }
-    if s[e] != 10 {
+    if s[e] != b'\n' {
         return none();
     }
     if s.len() - 1 != e {
@@ -147,7 +155,7 @@ fn read_link(s: &[u8], p: usize, up: bool) -> Line
     if s.len() <= q {
         return Line::Bad;
     }
-    if s[q] != 32 {
+    if s[q] != b' ' {
         return Line::Bad;
     }
     let b = read_last_number(s, q + 1);

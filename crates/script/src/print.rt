@@ -41,7 +41,7 @@ fn digit_byte(digit: u64) -> u8
     requires { ⌜ digit < 10 ⌝ }
     ensures { λ r. ⌜ r ≡ digit-byte digit ⌝ }
 {
-    48 + digit as u8
+    b'0' + digit as u8
 }
 
 // Puts x in decimal: the digits before the last, then the last.
@@ -111,7 +111,7 @@ fn put_numbers(buffer: &mut [u8], at: usize, numbers: &[u8]) -> usize
         place = put_field(buffer, place, wide8(numbers[i]));
         i += 1;
     }
-    put_byte(buffer, place, 10)
+    put_byte(buffer, place, b'\n')
 }
 
 // The same for radios.
@@ -124,7 +124,7 @@ fn put_radios(buffer: &mut [u8], at: usize, radios: &[u16]) -> usize
         place = put_field(buffer, place, wide16(radios[i]));
         i += 1;
     }
-    put_byte(buffer, place, 10)
+    put_byte(buffer, place, b'\n')
 }
 
 // Puts the line of a link call: refusal number, step, and the first count radios of changed (all of them, where it has fewer).
@@ -163,5 +163,5 @@ pub fn put_bad_line(buffer: &mut [u8], at: usize, line: u64) -> usize
 {
     let after_word = put_text(buffer, at, b"bad");
     let after_line = put_field(buffer, after_word, line);
-    put_byte(buffer, after_line, 10)
+    put_byte(buffer, after_line, b'\n')
 }
