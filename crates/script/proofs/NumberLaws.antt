@@ -9,10 +9,21 @@ use lib.Dec.{ltb, leb, eqb}
 use borrow.Author.Tests.{ltb-true, ltb-false, leb-true, leb-false, eqb-true, eqb-false, le-leb, eq-eqb, ne-eqb}
 use Rattle.mesh.proofs.BoolLaws.{bool-cases, never, and-left, and-right, and-both}
 use Rattle.mesh.proofs.ListLaws.{same-eq}
-use Rattle.mesh.specs.Lists.{same}
+use Rattle.mesh.specs.Lists.{all, same}
 use Rattle.calls.specs.Replay.{line-feed, digit-byte, decimal}
 use Rattle.script.specs.Lines.{max-value, Read, got, none, is-digit, digits-on, number-of, ended, last-number-of}
 use Rattle.script.proofs.DecimalLaws.{decimal-digit, decimal-more, decimal-append}
+
+-- ---- laws of lists
+
+pub all-append : (f : ℕ → Bool) (xs ys : List ℕ) → all f (xs ++ ys) ≡ (all f xs && all f ys)
+unfolding all
+all-append f [] ys = refl
+all-append f (x ∷ xs) ys = rw (all-append f xs ys) (go (f x) (all f xs) (all f ys))
+  where
+    go : (a b c : Bool) → (a && (b && c)) ≡ ((a && b) && c)
+    go true b c = refl
+    go false b c = refl
 
 -- ---- is-digit
 
@@ -29,6 +40,22 @@ digit-bound b h = omega (arith, leb-true b 57 (and-right (leb 48 b) (leb b 57) h
 pub digit-byte-of : (b : ℕ) → is-digit b ≡ true → digit-byte (b - digit-byte 0) ≡ b
 unfolding is-digit digit-byte
 digit-byte-of b h = omega (arith, leb-true 48 b (and-left (leb 48 b) (leb b 57) h))
+
+-- every byte of a number is a digit; as many turns as x are enough
+all-digits-in : (t x : ℕ) → x ≤ t → all is-digit (decimal x) ≡ true
+unfolding all
+all-digits-in zero x h = let k : x < 10 = omega arith in rw (decimal-digit x k, is-digit-byte x k)
+all-digits-in (suc t) x h = go (all-digits-in t (x / 10)) (bool-cases (ltb x 10))
+  where
+    go : (x / 10 ≤ t → all is-digit (decimal (x / 10)) ≡ true) → (ltb x 10 ≡ true) ⊎ (ltb x 10 ≡ false) → all is-digit (decimal x) ≡ true
+    go rec (inl e) = let k = ltb-true x 10 e in rw (decimal-digit x k, is-digit-byte x k)
+    go rec (inr e) =
+        let k = ltb-false x 10 e in
+        let d : x % 10 < 10 = omega arith in
+        rw (decimal-more x k, all-append is-digit (decimal (x / 10)) (digit-byte (x % 10) ∷ []), rec (omega arith), is-digit-byte (x % 10) d)
+
+pub all-digits : (x : ℕ) → all is-digit (decimal x) ≡ true
+all-digits x = all-digits-in x x (omega arith)
 
 -- ---- digits read from decimal
 
@@ -103,8 +130,8 @@ digits-text v w (b ∷ bs) rest p m e = go (λ q l. digits-text (10 * v + (b - d
             let r = rec (omega arith) (leb-true (10 * v + (b - digit-byte 0)) max-value l) (rw (d, l) at e) in
             record {
               text = sym (append-assoc (decimal v) (b ∷ []) bs)
-              ∙ ap (λ (ds : List ℕ). ds ++ bs) (sym (decimal-append v (b - digit-byte 0) p (digit-bound b d) ∙ ap (λ (x : ℕ). decimal v ++ (x ∷ [])) (digit-byte-of b d)))
-              ∙ r .text;
+                  ∙ ap (λ (ds : List ℕ). ds ++ bs) (sym (decimal-append v (b - digit-byte 0) p (digit-bound b d) ∙ ap (λ (x : ℕ). decimal v ++ (x ∷ [])) (digit-byte-of b d)))
+                  ∙ r .text;
               small = r .small;
             }
 

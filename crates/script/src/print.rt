@@ -128,7 +128,14 @@ fn put_radios(buffer: &mut [u8], at: usize, radios: &[u16]) -> usize
 }
 
 // Puts the line of a link call: refusal number, step, and the first count radios of changed (all of them, where it has fewer).
-pub fn put_link_line(buffer: &mut [u8], at: usize, number: u32, step: i8, changed: &[u16], count: u32) -> usize
+pub fn put_link_line(
+    buffer: &mut [u8],
+    at: usize,
+    number: u32,
+    step: i8,
+    changed: &[u16],
+    count: u32,
+) -> usize
     ensures { λ r. ⌜ Puts (lent (now (buffer .entry)) at) (link-line number step (take count (now (changed .entry)))) (lent (now (buffer .exit)) r) ⌝ }
 {
     let after_number = put_decimal(buffer, at, number as u64);
