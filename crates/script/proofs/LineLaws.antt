@@ -1,18 +1,16 @@
 -- One step of each reading at a place of the text: what the parser's functions cite.
-use mathlib.Core.Path.{_≡_, refl, sym, _∙_, ap}
-use mathlib.Core.Bool.{Bool, true, false, _&&_, cond}
+use mathlib.Core.Path.{_≡_, sym, _∙_, ap}
+use mathlib.Core.Bool.{Bool, true, false, cond}
 use mathlib.Core.List.{List, [], _∷_}
-use Prim.Native.Nat.{ℕ, zero, suc, _≤_, _<_, _-_, _+_, _*_}
+use Prim.Native.Nat.{ℕ, suc, _≤_, _<_, _-_, _+_, _*_}
 use native.Mathlib.Omega.{arith}
 use native.Mathlib.Numerals.{add-one}
-use lib.Dec.{leb, eqb}
 use lib.ListN.{length, drop, getD, drop-of-length-le}
 use lib.Seq.{drop-cons, drop-drop}
 use borrow.Author.Tests.{le-leb, lt-leb, eq-eqb, ne-eqb}
 use Rattle.mesh.specs.Lists.{same}
 use Rattle.calls.specs.Replay.{bytes-of, space, line-feed, digit-byte}
-use Rattle.script.specs.declared.lines.Line.{Line}
-use Rattle.script.specs.declared.lines.Line.the-variants.{Radios, Up, Down, Bad}
+use Rattle.script.specs.declared.lines.Line.the-variants.{Up, Down, Bad}
 use Rattle.script.specs.declared.lines.Number.{Number}
 use Rattle.script.specs.Lines.{is-digit, Read, got, none, digits-on, number-of, ended, last-number-of, starts, radios-line, link-with, link-after, link-of, line-of, read-of}
 

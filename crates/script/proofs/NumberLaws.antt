@@ -1,13 +1,13 @@
 -- A number read from its decimal digits is that number, and what is read as a number is its decimal digits.
 use mathlib.Core.Path.{_≡_, refl, sym, ap, _∙_}
 use mathlib.Core.Logic.{_⊎_, inl, inr}
-use mathlib.Core.Bool.{Bool, true, false, _&&_, cond}
+use mathlib.Core.Bool.{Bool, true, false, _&&_}
 use mathlib.Core.List.{List, [], _∷_, _++_, append-assoc}
 use Prim.Native.Nat.{ℕ, zero, suc, _+_, _*_, _-_, _/_, _%_, _≤_, _<_}
 use native.Mathlib.Omega.{arith}
 use lib.Dec.{ltb, leb, eqb}
-use borrow.Author.Tests.{ltb-true, ltb-false, leb-true, leb-false, eqb-true, eqb-false, le-leb, eq-eqb, ne-eqb}
-use Rattle.mesh.proofs.BoolLaws.{bool-cases, never, and-left, and-right, and-both}
+use borrow.Author.Tests.{ltb-true, ltb-false, leb-true, eqb-true, eqb-false, le-leb, ne-eqb}
+use Rattle.mesh.proofs.BoolLaws.{bool-cases, and-left, and-right, and-both}
 use Rattle.mesh.proofs.ListLaws.{same-eq}
 use Rattle.mesh.specs.Lists.{all, same}
 use Rattle.calls.specs.Replay.{line-feed, digit-byte, decimal}

@@ -2,19 +2,18 @@
 -- is read as a line is that line's text, with numbers to 65,535 (`text-parse`).
 use mathlib.Core.Path.{_≡_, refl, sym, ap, _∙_, subst}
 use mathlib.Core.Logic.{_⊎_, inl, inr}
-use mathlib.Core.Bool.{Bool, true, false, _&&_, cond}
+use mathlib.Core.Bool.{Bool, true, false, cond}
 use mathlib.Core.List.{List, [], _∷_, _++_}
-use Prim.Native.Nat.{ℕ, zero, suc, _≤_}
-use native.Mathlib.Omega.{arith}
+use Prim.Native.Nat.{ℕ, _≤_}
 use lib.Dec.{eqb}
 use lib.ListN.{length, drop}
-use borrow.Author.Tests.{eqb-true, eq-eqb}
+use borrow.Author.Tests.{eqb-true}
 use Rattle.mesh.proofs.BoolLaws.{bool-cases, never, and-left, and-right}
 use Rattle.calls.specs.Replay.{bytes-of, space, line-feed, digit-byte, decimal, further-fields, printed-line}
 use Rattle.script.specs.declared.lines.Line.{Line}
 use Rattle.script.specs.declared.lines.Line.the-variants.{Radios, Up, Down, Bad}
 use Rattle.script.specs.Lines.{text-of, Values, max-value, Read, got, none, is-digit, number-of, last-number-of, starts, radios-line, link-with, link-after, link-of, line-of}
-use Rattle.script.proofs.NumberLaws.{Reads, number-of-decimal, last-number-of-decimal, number-of-text, last-number-of-text}
+use Rattle.script.proofs.NumberLaws.{number-of-decimal, last-number-of-decimal, number-of-text, last-number-of-text}
 
 -- ---- a line's text is read back
 
@@ -102,3 +101,9 @@ text-parse s l e n = go (said-line s)
     go : Said s (line-of s) → Values l × (s ≡ text-of l)
     go (inl b) = absurd (n (sym e ∙ b))
     go (inr p) = rw e at p
+
+-- a text that is read as Bad is the text of no line
+pub bad-no-text : (s : List ℕ) (l : Line) → line-of s ≡ Bad → Values l → s ≡ text-of l → ⊥
+unfolding Values
+bad-no-text s l e v t =
+    let is-bad : l ≡ Bad = sym (parse-text l v) ∙ ap line-of (sym t) ∙ e in subst Values is-bad v

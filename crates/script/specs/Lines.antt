@@ -11,10 +11,10 @@
 -- That line-of takes exactly the texts of the language, and each back to its line, is proved in proofs/Texts.antt.
 -- Definitions only.
 use mathlib.Core.Bool.{Bool, true, false, _&&_, cond}
-use mathlib.Core.List.{List, [], _∷_, _++_}
-use Prim.Native.Nat.{ℕ, zero, suc, _+_, _*_, _-_, _≤_}
+use mathlib.Core.List.{List, [], _∷_}
+use Prim.Native.Nat.{ℕ, _+_, _*_, _-_, _≤_}
 use lib.Dec.{leb, eqb}
-use lib.ListN.{length, drop}
+use lib.ListN.{drop}
 use Rattle.mesh.specs.Lists.{same}
 use Rattle.calls.specs.Replay.{bytes-of, space, line-feed, digit-byte, decimal, printed-line}
 use Rattle.script.specs.declared.lines.Line.{Line}

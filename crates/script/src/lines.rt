@@ -28,6 +28,7 @@ struct Number {
     next: usize,
 }
 
+// No number.
 fn none() -> Number
     ensures { λ r. ⌜ r .ok ≡ false ⌝ }
 {
@@ -38,6 +39,7 @@ fn none() -> Number
     }
 }
 
+// A byte as a number.
 fn wide(x: u8) -> u32
     ensures { λ r. ⌜ r ≡ x ⌝ }
 {
@@ -61,7 +63,7 @@ fn starts_with(s: &[u8], word: &[u8]) -> bool
     true
 }
 
-// The digits from p on, read onto v.
+// The digits from p on, read onto v; none where they come to more than the largest number.
 fn read_digits(s: &[u8], p: usize, v: u32) -> Number
     requires { ⌜ (p ≤ length (now s)) × (v ≤ 65535) ⌝ }
     ensures { λ r. ⌜ read-of (now (s .entry)) r ≡ digits-on v (drop p (now (s .entry))) ⌝ }
@@ -98,7 +100,7 @@ fn read_digits(s: &[u8], p: usize, v: u32) -> Number
     }
 }
 
-// The number at p. A zero stands alone: after it no digit is read.
+// The number at p, with the place after it. A zero stands alone: after it no digit is read.
 fn read_number(s: &[u8], p: usize) -> Number
     ensures { λ r. ⌜ read-of (now (s .entry)) r ≡ number-of (drop p (now (s .entry))) ⌝ }
 {
@@ -143,7 +145,7 @@ fn read_last_number(s: &[u8], p: usize) -> Number
     r
 }
 
-// Two numbers from p on, to the end of the line.
+// What the two numbers from p on say, to the end of the line.
 fn read_link(s: &[u8], p: usize, up: bool) -> Line
     ensures { λ r. ⌜ r ≡ link-of up (drop p (now (s .entry))) ⌝ }
 {
@@ -168,7 +170,7 @@ fn read_link(s: &[u8], p: usize, up: bool) -> Line
     Line::Down(a.value, b.value)
 }
 
-// What the whole of s says, its line feed included.
+// What the whole of s says, its line feed included; `Bad` for every text that is no line of the language. s may have any length.
 pub fn parse(s: &[u8]) -> Line
     ensures { λ r. ⌜ r ≡ line-of (now (s .entry)) ⌝ }
 {

@@ -89,12 +89,14 @@ fn put_field(buffer: &mut [u8], at: usize, x: u64) -> usize
     put_decimal(buffer, place, x)
 }
 
+// A number as it is printed.
 fn wide8(x: u8) -> u64
     ensures { λ r. ⌜ r ≡ x ⌝ }
 {
     x as u64
 }
 
+// A radio as it is printed.
 fn wide16(x: u16) -> u64
     ensures { λ r. ⌜ r ≡ x ⌝ }
 {

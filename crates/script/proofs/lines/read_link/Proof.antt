@@ -1,5 +1,4 @@
 -- `lines::read_link` meets its contract: each test decides one step of `link-of`.
-use mathlib.Core.Path.{sym, _∙_}
 use native.Mathlib.Omega.{arith}
 use borrow.Author.Tests.{not-true, not-false}
 use Rattle.script.proofs.LineLaws.{space-past, space-differ, space-is, link-none, link-gap, link-one, link-both}

@@ -1,6 +1,6 @@
 -- `print::put_decimal` meets its contract: it calls itself on all digits but the last, as `decimal-more` takes them off.
 -- The measure is x.
-use mathlib.Core.Path.{sym, ap, _∙_}
+use mathlib.Core.Path.{_∙_}
 use native.Mathlib.Omega.{arith}
 use Rattle.script.proofs.PrintLaws.{puts-decimal-digit, puts-decimal-more}
 use Prim.Native.Nat.{ℕ, _<_}
