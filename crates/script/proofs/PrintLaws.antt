@@ -2,14 +2,14 @@
 use mathlib.Core.Path.{_≡_, refl, sym, ap, _∙_}
 use mathlib.Core.Logic.{_⊎_, inl, inr}
 use mathlib.Core.Bool.{Bool, true, false, cond}
-use mathlib.Core.List.{List, [], _∷_, _++_, map}
-use Prim.Native.Nat.{ℕ, suc, _+_, _/_, _%_, _≤_, _<_, min}
+use mathlib.Core.List.{List, [], _∷_, _++_, map, append-nil}
+use Prim.Native.Nat.{ℕ, suc, _+_, _-_, _/_, _%_, _≤_, _<_, min}
 use native.Mathlib.Omega.{arith}
 use native.Mathlib.Numerals.{add-one}
 use lib.Dec.{ltb}
 use lib.IntN.{ℤ}
-use lib.ListN.{length, take, drop, getD, set, length-set, drop-of-length-le}
-use lib.Seq.{drop-cons, set-out, sets, sets-eq}
+use lib.ListN.{length, take, drop, getD, set, length-set, take-append-drop, drop-of-length-le}
+use lib.Seq.{length-take-le, drop-cons, set-out, sets, sets-eq}
 use borrow.Author.Tests.{lt-ltb, le-ltb, ltb-true, ltb-false}
 use Rattle.mesh.proofs.BoolLaws.{bool-cases}
 use Rattle.calls.specs.Replay.{space, line-feed, digit-byte, decimal, step-text, further-fields, printed-line, link-line}
@@ -186,6 +186,23 @@ put-past b [] h = refl
 put-past b (x ∷ xs) h =
     put-past (lent (set (b .bytes) (b .at) x) (next-place (b .at))) xs (omega (arith, length-set (b .bytes) (b .at) x, next-place-le (b .at)))
     ∙ set-out (b .bytes) (b .at) x h
+
+-- a text that does not fit stands as far as the buffer goes; the bytes before it are kept
+pub put-cut : (bytes : List ℕ) (at : ℕ) (xs : List ℕ) → at ≤ length bytes → length bytes ≤ at + length xs → length bytes ≤ max-place
+    → put (lent bytes at) xs .bytes ≡ take at bytes ++ take (length bytes - at) xs
+put-cut bytes at xs h l m = go (take (length bytes - at) xs) (drop (length bytes - at) xs) (take-append-drop (length bytes - at) xs) (length-take-le (length bytes - at) xs (omega arith))
+  where
+    go : (front back : List ℕ) → front ++ back ≡ xs → length front ≡ length bytes - at → put (lent bytes at) xs .bytes ≡ take at bytes ++ front
+    go front back e k =
+        let whole = take at bytes ++ front ++ drop (at + length front) bytes in
+        let fits = put-fits bytes at front (omega arith) m in
+        let long : length whole ≤ at + length front = omega (arith, ap (λ (b : Buffer). length (b .bytes)) fits, length-put (lent bytes at) front) in
+        let none-after : length bytes ≤ at + length front = omega arith in
+        ap (λ (t : List ℕ). put (lent bytes at) t .bytes) (sym e)
+        ∙ ap (λ (b : Buffer). b .bytes) (put-append (lent bytes at) front back ∙ ap (λ (b : Buffer). put b back) fits)
+        ∙ put-past (lent whole (at + length front)) back long
+        ∙ ap (λ (t : List ℕ). take at bytes ++ front ++ t) (drop-of-length-le bytes none-after)
+        ∙ append-nil (take at bytes ++ front)
 
 -- ---- what a caller learns from the answered place
 

@@ -30,11 +30,11 @@ text-of (Up a b) = printed-line (bytes-of "up") (decimal a ∷ decimal b ∷ [])
 text-of (Down a b) = printed-line (bytes-of "down") (decimal a ∷ decimal b ∷ [])
 text-of Bad = []
 
--- the largest value
+-- the largest number of a line
 abbrev pub max-value : ℕ
 max-value = 65535
 
--- a line of the language: its numbers are at most the largest value
+-- a line of the language: its numbers are not larger
 unfoldable pub Values : Line → Type 0
 Values (Radios n) = n ≤ max-value
 Values (Up a b) = (a ≤ max-value) × (b ≤ max-value)
@@ -48,6 +48,7 @@ pub data Read : Type 0 where
   got : (value : ℕ) → (rest : List ℕ) → Read
   none : Read
 
+-- is the byte that of a digit, 0 to 9
 unfoldable pub is-digit : (byte : ℕ) → Bool
 is-digit b = leb (digit-byte 0) b && leb b (digit-byte 9)
 
@@ -64,11 +65,12 @@ number-of [] = none
 number-of (b ∷ bs) =
     cond (eqb b (digit-byte 0)) (got 0 bs) (cond (is-digit b) (digits-on (b - digit-byte 0) bs) none)
 
--- only the line feed is left
+-- none, unless just the line feed is left
 unfoldable pub ended : Read → Read
 ended none = none
 ended (got v rest) = cond (same rest (line-feed ∷ [])) (got v rest) none
 
+-- the number at the front, where the line ends after it
 unfoldable pub last-number-of : List ℕ → Read
 last-number-of s = ended (number-of s)
 
@@ -80,24 +82,27 @@ starts [] s = true
 starts (w ∷ ws) [] = false
 starts (w ∷ ws) (b ∷ bs) = eqb w b && starts ws bs
 
+-- what follows `radios `, read as a number
 unfoldable pub radios-line : Read → Line
 radios-line none = Bad
 radios-line (got n rest) = Radios n
 
--- the first number is a
+-- the first number is a, and the second is read
 unfoldable pub link-with : (up : Bool) → (a : ℕ) → Read → Line
 link-with up a none = Bad
 link-with up a (got b rest) = cond up (Up a b) (Down a b)
 
--- a space after the first number, then the second
+-- the first number is read: a space stands after it, then the second
 unfoldable pub link-after : (up : Bool) → Read → Line
 link-after up none = Bad
 link-after up (got a rest) =
     cond (starts (space ∷ []) rest) (link-with up a (last-number-of (drop 1 rest))) Bad
 
+-- what follows `up ` or `down `
 unfoldable pub link-of : (up : Bool) → List ℕ → Line
 link-of up s = link-after up (number-of s)
 
+-- what a text says; Bad where it is of another form
 unfoldable pub line-of : List ℕ → Line
 line-of s =
     cond (starts (bytes-of "up ") s) (link-of true (drop 3 s))
@@ -106,5 +111,6 @@ line-of s =
 
 -- ---- what the parser keeps
 
+-- the number found, and what follows it in s
 unfoldable pub read-of : (s : List ℕ) → Number → Read
 read-of s r = cond (r .ok) (got (r .value) (drop (r .next) s)) none
