@@ -1,0 +1,71 @@
+-- `lines::starts_with` meets its contract: what is left of the word and of the text gives what the whole gives.
+-- The measure is what is left of the word.
+use mathlib.Core.Path.{_≡_, refl, sym, _∙_}
+use Prim.Native.Nat.{_≤_, _-_}
+use native.Mathlib.Omega.{arith}
+use lib.ListN.{length, drop}
+use Rattle.script.specs.Lines.{starts}
+use Rattle.script.proofs.LineLaws.{starts-end, starts-short, starts-differ, starts-step}
+use Rattle.script.proofs.lines.starts_with.Statement.{statement}
+use Rattle.script.proofs.lines.starts_with.Tie as tie
+
+abbrev Inv-loop : tie.InvT-loop
+Inv-loop s word i₀ i = (i ≤ length word) × (starts (drop i word) (drop i s) ≡ starts word s)
+
+abbrev μ-loop : tie.MeasureT-loop
+μ-loop s word i₀ i = length word - i
+
+loop-holds : tie.Need-loop-holds Inv-loop μ-loop
+loop-holds c = (omega arith, refl)
+
+returns : tie.Need-returns Inv-loop μ-loop
+returns c =
+    let at-loop = c .before .before in
+    let call = at-loop .before .args in
+    sym (starts-short (call .word .now) (call .s .now) (at-loop .loop .i) (omega arith) (omega arith)) ∙ at-loop .loop .inv .1
+
+shared-slice-read-if2 : tie.Need-shared-slice-read-if2 Inv-loop μ-loop
+shared-slice-read-if2 c = omega arith
+
+shared-slice-read-if2-2 : tie.Need-shared-slice-read-if2-2 Inv-loop μ-loop
+shared-slice-read-if2-2 c = omega arith
+
+returns-2 : tie.Need-returns-2 Inv-loop μ-loop
+returns-2 c =
+    let at-loop = c .before .before .before .before .before in
+    let call = at-loop .before .args in
+    sym (starts-differ (call .word .now) (call .s .now) (at-loop .loop .i) (omega arith) (omega arith) (c .if2 .taken)) ∙ at-loop .loop .inv .1
+
+add-i : tie.Need-add-i Inv-loop μ-loop
+add-i c = omega arith
+
+loop-less : tie.Need-loop-less Inv-loop μ-loop
+loop-less c = omega arith
+
+loop-again : tie.Need-loop-again Inv-loop μ-loop
+loop-again c =
+    let at-loop = c .before .before .before .before .before in
+    let call = at-loop .before .args in
+    (omega arith, sym (starts-step (call .word .now) (call .s .now) (at-loop .loop .i) (omega arith) (omega arith) (c .if2 .left)) ∙ at-loop .loop .inv .1)
+
+returns-3 : tie.Need-returns-3 Inv-loop μ-loop
+returns-3 c =
+    let at-loop = c .before in
+    let call = at-loop .before .args in
+    sym (starts-end (call .word .now) (call .s .now) (at-loop .loop .i) (omega arith)) ∙ at-loop .loop .inv .1
+
+pub starts-with-spec : {M : Type 1} → statement M
+starts-with-spec =
+    tie.close
+    (tie.spec
+    Inv-loop
+    μ-loop
+    loop-holds
+    returns
+    shared-slice-read-if2
+    shared-slice-read-if2-2
+    returns-2
+    add-i
+    loop-less
+    loop-again
+    returns-3)

@@ -1,0 +1,116 @@
+-- The lines of the replay program, as bytes.
+--   text-of l         the text of a line, its line feed included
+--   Values l          are the line's numbers at most 65,535
+--   Read              what reading at the front of a text gives: a value and what follows it, or none
+--   digits-on v s     the digits at the front of s, read onto v
+--   number-of s       the number at the front of s
+--   last-number-of s  the number at the front of s, with nothing but the line feed after it
+--   link-of up s      what follows `up ` or `down `, read
+--   line-of s         what a text says: `Bad` for every text of another form
+--   read-of s r       what the parser's record r says about the text s
+-- That line-of takes exactly the texts of the language, and each back to its line, is proved in proofs/Texts.antt.
+-- Definitions only.
+use mathlib.Core.Bool.{Bool, true, false, _&&_, cond}
+use mathlib.Core.List.{List, [], _∷_}
+use Prim.Native.Nat.{ℕ, _+_, _*_, _-_, _≤_}
+use lib.Dec.{leb, eqb}
+use lib.ListN.{drop}
+use Rattle.mesh.specs.Lists.{same}
+use Rattle.calls.specs.Replay.{bytes-of, space, line-feed, digit-byte, decimal, printed-line}
+use Rattle.script.specs.declared.lines.Line.{Line}
+use Rattle.script.specs.declared.lines.Line.the-variants.{Radios, Up, Down, Bad}
+use Rattle.script.specs.declared.lines.Number.{Number}
+
+-- ---- the language
+
+-- a word, then the numbers in decimal, single spaces between, ended by a line feed; Bad has no text
+unfoldable pub text-of : Line → List ℕ
+text-of (Radios n) = printed-line (bytes-of "radios") (decimal n ∷ [])
+text-of (Up a b) = printed-line (bytes-of "up") (decimal a ∷ decimal b ∷ [])
+text-of (Down a b) = printed-line (bytes-of "down") (decimal a ∷ decimal b ∷ [])
+text-of Bad = []
+
+-- the largest number of a line
+abbrev pub max-value : ℕ
+max-value = 65535
+
+-- a line of the language: its numbers are not larger
+unfoldable pub Values : Line → Type 0
+Values (Radios n) = n ≤ max-value
+Values (Up a b) = (a ≤ max-value) × (b ≤ max-value)
+Values (Down a b) = (a ≤ max-value) × (b ≤ max-value)
+Values Bad = ⊥
+
+-- ---- numbers
+
+-- a value and what follows it, or none
+pub data Read : Type 0 where
+  got : (value : ℕ) → (rest : List ℕ) → Read
+  none : Read
+
+-- is the byte that of a digit, 0 to 9
+unfoldable pub is-digit : (byte : ℕ) → Bool
+is-digit b = leb (digit-byte 0) b && leb b (digit-byte 9)
+
+-- the digits at the front, read onto v; above the largest value none
+unfoldable pub digits-on : (v : ℕ) → List ℕ → Read
+digits-on v [] = got v []
+digits-on v (b ∷ bs) =
+    let w = 10 * v + (b - digit-byte 0) in
+    cond (is-digit b) (cond (leb w max-value) (digits-on w bs) none) (got v (b ∷ bs))
+
+-- at least one digit; a zero stands alone
+unfoldable pub number-of : List ℕ → Read
+number-of [] = none
+number-of (b ∷ bs) =
+    cond (eqb b (digit-byte 0)) (got 0 bs) (cond (is-digit b) (digits-on (b - digit-byte 0) bs) none)
+
+-- none, unless just the line feed is left
+unfoldable pub ended : Read → Read
+ended none = none
+ended (got v rest) = cond (same rest (line-feed ∷ [])) (got v rest) none
+
+-- the number at the front, where the line ends after it
+unfoldable pub last-number-of : List ℕ → Read
+last-number-of s = ended (number-of s)
+
+-- ---- lines
+
+-- does s start with the word
+unfoldable pub starts : (word s : List ℕ) → Bool
+starts [] s = true
+starts (w ∷ ws) [] = false
+starts (w ∷ ws) (b ∷ bs) = eqb w b && starts ws bs
+
+-- what follows `radios `, read as a number
+unfoldable pub radios-line : Read → Line
+radios-line none = Bad
+radios-line (got n rest) = Radios n
+
+-- the first number is a, and the second is read
+unfoldable pub link-with : (up : Bool) → (a : ℕ) → Read → Line
+link-with up a none = Bad
+link-with up a (got b rest) = cond up (Up a b) (Down a b)
+
+-- the first number is read: a space stands after it, then the second
+unfoldable pub link-after : (up : Bool) → Read → Line
+link-after up none = Bad
+link-after up (got a rest) =
+    cond (starts (space ∷ []) rest) (link-with up a (last-number-of (drop 1 rest))) Bad
+
+-- what follows `up ` or `down `
+unfoldable pub link-of : (up : Bool) → List ℕ → Line
+link-of up s = link-after up (number-of s)
+
+-- what a text says; Bad where it is of another form
+unfoldable pub line-of : List ℕ → Line
+line-of s =
+    cond (starts (bytes-of "up ") s) (link-of true (drop 3 s))
+    (cond (starts (bytes-of "down ") s) (link-of false (drop 5 s))
+    (cond (starts (bytes-of "radios ") s) (radios-line (last-number-of (drop 7 s))) Bad))
+
+-- ---- what the parser keeps
+
+-- the number found, and what follows it in s
+unfoldable pub read-of : (s : List ℕ) → Number → Read
+read-of s r = cond (r .ok) (got (r .value) (drop (r .next) s)) none
