@@ -52,8 +52,7 @@ def site(n=5, bits=LINKS, numbers=NUMBERS, order=ORDER):
 
 
 def star(k):
-    numbers = [1 if v >= 39 - k else 0 for v in range(40)]
-    return verdict(40, table(40, both((39, 38 - v) for v in range(k))), numbers, list(range(40)))
+    return verdict(k + 1, table(k + 1, both((v, k) for v in range(k))), [1] * (k + 1), list(range(k + 1)))
 
 
 CASES = [

@@ -36,19 +36,20 @@ fn say_bit(name: &[u8], on: bool, a: u32, b: u32) {
     say(name, 5, &links, &[2, 2, 2, 1, 0], &[4, 3, 2, 0, 1]);
 }
 
-// A radio linked to as many others, of 40; the others stand first in the order.
-fn say_star(name: &[u8], neighbours: u32) {
-    let mut links = [0u8; 2560];
-    let mut numbers = [0u8; 40];
-    let mut order = [0u16; 40];
-    tables::fill::index16(&mut order);
+// Links radio k to each of the radios below it.
+fn put_star(links: &mut [u8], k: u32) {
     let mut v: u32 = 0;
-    while v < neighbours {
-        tables::rows::put_link(&mut links, true, 39, 38 - v);
+    while v < k {
+        tables::rows::put_link(links, true, v, k);
         v += 1;
     }
-    tables::fill::fill8(&mut numbers[(39 - neighbours) as usize..], 1);
-    say(name, 40, &links, &numbers, &order);
+}
+
+// The last of n radios linked to all others, which stand before it in the order.
+fn say_star(name: &[u8], n: u32, k: u32, links: &mut [u8], numbers: &[u8], order: &mut [u16]) {
+    put_star(links, k);
+    tables::fill::index16(order);
+    say(name, n, links, numbers, order);
 }
 
 fn main() {
@@ -61,8 +62,22 @@ fn main() {
     say_bit(b"bit-at-n", true, 0, 5);
     say_bit(b"bit-at-511", true, 4, 511);
     say_bit(b"bit-lost", false, 3, 2);
-    say_star(b"neighbours-32", 32);
-    say_star(b"neighbours-33", 33);
+    say_star(
+        b"neighbours-32",
+        33,
+        32,
+        &mut [0u8; 2112],
+        &[1u8; 33],
+        &mut [0u16; 33],
+    );
+    say_star(
+        b"neighbours-33",
+        34,
+        33,
+        &mut [0u8; 2176],
+        &[1u8; 34],
+        &mut [0u16; 34],
+    );
     // order
     say_tables(b"entry-twice", 5, &numbers, &[4, 3, 2, 0, 0]);
     say_tables(b"entry-n", 5, &numbers, &[4, 3, 2, 0, 5]);

@@ -15,7 +15,12 @@ pub extern "C" fn sb_clear(n: u32, links: &mut [u8], numbers: &mut [u8], order: 
 
 // Checks the tables: value 1 when they are sound, 0 when not. Refused by 1 and 2: then the value is 0.
 #[no_mangle]
-pub extern "C" fn sb_check<'a>(n: u32, links: &'a [u8], numbers: &'a [u8], order: &'a [u16]) -> Value
+pub extern "C" fn sb_check<'a>(
+    n: u32,
+    links: &'a [u8],
+    numbers: &'a [u8],
+    order: &'a [u16],
+) -> Value
     ensures { λ r. ⌜ Check-contract n (tables (now (links .entry)) (now (numbers .entry)) (now (order .entry))) r ⌝ }
 {
     soundness::check(n, links, numbers, order)
