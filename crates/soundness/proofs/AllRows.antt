@@ -2,8 +2,8 @@
 use mathlib.Core.Path.{_≡_, refl, sym, ap, _∙_}
 use mathlib.Core.Logic.{_⊎_, inl, inr}
 use mathlib.Core.Bool.{Bool, true, false, _&&_}
-use mathlib.Core.List.{List, [], _∷_}
-use Prim.Native.Nat.{ℕ, zero, suc, _+_, _-_, _≤_, _<_}
+use mathlib.Core.List.{List}
+use Prim.Native.Nat.{ℕ, suc, _+_, _-_, _≤_, _<_}
 use native.Mathlib.Omega.{arith}
 use native.Mathlib.Numerals.{add-one}
 use lib.ListN.{length, getD, set, length-set}
@@ -12,7 +12,7 @@ use Rattle.mesh.specs.Limits.{max-neighbours}
 use Rattle.mesh.specs.Lists.{range, all}
 use Rattle.mesh.proofs.BoolLaws.{never, trichotomy}
 use Rattle.tables.specs.Rows.{neighbours-of}
-use Rattle.soundness.specs.Checks.{high-count, row-good, Row-checked, Rows-checked, Highs}
+use Rattle.soundness.specs.Checks.{high-count, row-good, Row-checked, Rows-checked}
 
 -- the rows below a are good, and their high counts are written
 pub record Rows-so-far (n : ℕ) (links numbers places before highs : List ℕ) (a : ℕ) : Type 0 where

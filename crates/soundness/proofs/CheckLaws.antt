@@ -3,24 +3,26 @@
 use mathlib.Core.Path.{_≡_, refl, sym, ap, _∙_}
 use mathlib.Core.Logic.{_⊎_, inl, inr}
 use mathlib.Core.Bool.{Bool, true, false, _&&_, not, and-false, and-true}
-use mathlib.Core.List.{List, [], _∷_, _++_}
+use mathlib.Core.List.{List, [], _∷_}
 use Prim.Native.Nat.{ℕ, zero, suc, _+_, _-_, _≤_, _<_}
 use native.Mathlib.Omega.{arith}
 use native.Mathlib.Nat.{le-trans, le-of-eq, le-antisymm}
 use lib.Dec.{ltb, leb, eqb}
 use lib.ListN.{length, getD, take, drop, take-append-drop, length-take, length-drop}
 use lib.Seq.{getD-take, getD-drop}
-use borrow.Author.Tests.{ltb-true, ltb-false, lt-ltb, le-ltb, leb-true, le-leb, lt-leb, eq-eqb, ne-eqb, eqb-true, not-true}
+use borrow.Author.Tests.{ltb-true, ltb-false, lt-ltb, leb-true, le-leb, lt-leb, eq-eqb, ne-eqb, not-true}
 use Rattle.mesh.specs.Limits.{max-radios}
-use Rattle.mesh.specs.Lists.{range, count, filter, all}
+use Rattle.mesh.specs.Lists.{range, count, all}
 use Rattle.mesh.specs.Orders.{each-once, rising, few-later}
 use Rattle.mesh.specs.Tables.{Tables, marked}
 use Rattle.mesh.specs.Sound.{symmetric, irreflexive, within, few, rows-proper, row-degree, enough, number-in, sound-within}
-use Rattle.mesh.proofs.BoolLaws.{bool-cases, never, and-left, and-right, and-both, iff-eq, bit-true, bit-false}
-use Rattle.mesh.proofs.ListLaws.{In, in-filter, filter-in, in-range, range-in, count-append, count-mono, count-none, count-both, count-filter, length-filter, all-in, in-all, all-below, below-all, Each-once, once-in, once-below, once-length}
+use Rattle.mesh.proofs.BoolLaws.{bool-cases, never, and-left, and-right, and-both, iff-eq}
+use Rattle.mesh.proofs.ListLaws.{In, filter-in, in-range, range-in, count-append, count-mono, count-none, all-in, in-all, all-below, below-all, Each-once, once-in, once-below, once-length}
 use Rattle.mesh.proofs.OrderLaws.{of-each-once, Few-later, few-later-of, of-few-later}
 use Rattle.mesh.proofs.RowLaws.{symmetric-of, of-symmetric, irreflexive-of, of-irreflexive, within-of, of-within, few-of, of-few}
 use Rattle.tables.specs.Rows.{neighbours-of}
+use Rattle.tables.proofs.Listing.{range-append}
+use Rattle.tables.proofs.RowListLaws.{in-neighbours-of, length-neighbours-of, count-neighbours-of}
 use Rattle.soundness.specs.Checks.{Placed, later-count, high-count, ends-good, row-good}
 
 -- ---- laws of lists
@@ -36,14 +38,6 @@ getD-in (x ∷ xs) (suc i) h = inr (getD-in xs i (omega arith))
 pub in-getD : (v : ℕ) (xs : List ℕ) → In v xs → (i : ℕ) × (i < length xs) × (getD xs i 0 ≡ v)
 in-getD v (x ∷ xs) (inl e) = (0, omega arith, e)
 in-getD v (x ∷ xs) (inr m) = let r = in-getD v xs m in (suc (r .0), omega (arith, r .1), r .2)
-
--- the numbers below n, and on to m
-range-append : (i k l : ℕ) → range i (k + l) ≡ range i k ++ range (i + k) l
-unfolding range
-range-append i zero l = let e : 0 + l ≡ l = omega arith in let f : i + 0 ≡ i = omega arith in rw (e, f)
-range-append i (suc k) l =
-    let e : suc k + l ≡ suc (k + l) = omega arith in
-    let f : i + suc k ≡ suc i + k = omega arith in rw (e, f, range-append (suc i) k l)
 
 -- what passes is below n
 count-below : (f : ℕ → Bool) (n m : ℕ) → n ≤ m → ((b : ℕ) → n ≤ b → b < m → f b ≡ false) → count f (range 0 m) ≡ count f (range 0 n)
@@ -118,9 +112,8 @@ module _ (most n : ℕ) (t : Tables) (places : List ℕ) (small : n ≤ max-radi
   Below a = (b : ℕ) → n ≤ b → b < max-radios → marked ts a b ≡ false
 
   count-neighbours : (a : ℕ) (f : ℕ → Bool) → Below a → count f (neighbours-of ts a) ≡ count (λ b. marked ts a b && f b) (range 0 n)
-  unfolding neighbours-of
   count-neighbours a f h =
-      count-filter f (λ b. marked ts a b) (range 0 max-radios)
+      count-neighbours-of f ts a
       ∙ count-below (λ b. marked ts a b && f b) n max-radios small (λ b l m. rw (h b l m))
 
   -- later neighbours by the list of a row and by the order
@@ -137,15 +130,6 @@ module _ (most n : ℕ) (t : Tables) (places : List ℕ) (small : n ≤ max-radi
   in-neighbours : (a b : ℕ) → b < max-radios → marked ts a b ≡ true → In b (neighbours-of ts a)
   unfolding neighbours-of
   in-neighbours a b l h = filter-in (λ b. marked ts a b) (range 0 max-radios) b (in-range 0 max-radios b (omega arith) (omega arith)) h
-
-  neighbours-in : (a b : ℕ) → In b (neighbours-of ts a) → (b < max-radios) × (marked ts a b ≡ true)
-  unfolding neighbours-of
-  neighbours-in a b m =
-      let r = in-filter (λ b. marked ts a b) (range 0 max-radios) b m in (omega (arith, range-in 0 max-radios b (r .0)), r .1)
-
-  length-neighbours : (a : ℕ) → length (neighbours-of ts a) ≡ row-degree ts a
-  unfolding neighbours-of row-degree
-  length-neighbours a = length-filter (λ b. marked ts a b) (range 0 max-radios)
 
   -- a good row, as facts
   pub record Good (a : ℕ) : Type 0 where
@@ -168,7 +152,7 @@ module _ (most n : ℕ) (t : Tables) (places : List ℕ) (small : n ≤ max-radi
       let h1 = and-right p (q && (r && s)) h in
       let h2 = and-right q (r && s) h1 in
       record {
-        few = omega (arith, leb-true (length xs) most (and-left p (q && (r && s)) h), length-neighbours a);
+        few = omega (arith, leb-true (length xs) most (and-left p (q && (r && s)) h), length-neighbours-of ts a);
         ends = λ b l m. let e = all-in (end-good a) xs (and-left q (r && s) h1) b (in-neighbours a b l m) in
             let f = and-right (ltb b n) (not (eqb b a) && marked ts b a) e in (
               ltb-true b n (and-left (ltb b n) (not (eqb b a) && marked ts b a) e),
@@ -187,8 +171,8 @@ module _ (most n : ℕ) (t : Tables) (places : List ℕ) (small : n ≤ max-radi
       let q = all (end-good a) xs in
       let r = leb (later-count places a xs) (num a) in
       let s = leb (num a) (high-count (t .numbers) a xs) in
-      and-both p (q && (r && s)) (le-leb (length xs) most (omega (arith, g .few, length-neighbours a)))
-      (and-both q (r && s) (in-all (end-good a) xs (λ b m. one b (neighbours-in a b m)))
+      and-both p (q && (r && s)) (le-leb (length xs) most (omega (arith, g .few, length-neighbours-of ts a)))
+      (and-both q (r && s) (in-all (end-good a) xs (λ b m. one b (in-neighbours-of ts a b m)))
       (and-both r s (le-leb (later-count places a xs) (num a) (g .later)) (le-leb (num a) (high-count (t .numbers) a xs) (g .high))))
     where
       one : (b : ℕ) → (b < max-radios) × (marked ts a b ≡ true) → end-good a b ≡ true

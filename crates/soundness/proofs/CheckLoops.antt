@@ -1,5 +1,5 @@
--- The loops of the check on plain values: each invariant, its start, a turn, its end.
--- In order: laws of lists, numbers along the order, places of the order.
+-- The loops over the order on plain values: each invariant, its start, a turn, its end.
+-- In order: numbers along the order, places of the order.
 use mathlib.Core.Path.{_≡_, refl, sym, ap, _∙_}
 use mathlib.Core.Logic.{_⊎_, inl, inr}
 use mathlib.Core.Bool.{Bool, true, false, _&&_}
@@ -13,11 +13,10 @@ use lib.Seq.{drop-cons, drop-length, getD-set-same, getD-set-other}
 use borrow.Author.Tests.{le-leb, lt-leb, eqb-true, eqb-false}
 use Rattle.mesh.specs.Limits.{max-radios}
 use Rattle.mesh.specs.Orders.{each-once, rising}
-use Rattle.mesh.specs.Sound.{number-in}
 use Rattle.mesh.proofs.BoolLaws.{bool-cases, never, trichotomy}
-use Rattle.mesh.proofs.ListLaws.{In, Distinct, Each-once, once-of, once-below, once-distinct}
+use Rattle.mesh.proofs.ListLaws.{Distinct, Each-once, once-of, once-below, once-distinct}
 use Rattle.mesh.proofs.OrderLaws.{each-once-of, of-each-once}
-use Rattle.soundness.specs.Checks.{Placed, Placing, nowhere, rising-from}
+use Rattle.soundness.specs.Checks.{Placing, nowhere, rising-from}
 use Rattle.soundness.proofs.CheckLaws.{getD-in, in-getD}
 
 -- ---- numbers along the order

@@ -1,14 +1,14 @@
--- The whole check on plain values: what its parts come back with decides soundness; and its tables, read over the graph.
+-- The whole check on plain values: what its parts come back with decides soundness, and the calls over it.
 use mathlib.Core.Path.{_≡_, refl, sym, ap, _∙_}
 use mathlib.Core.Logic.{_⊎_, inl, inr}
 use mathlib.Core.Bool.{Bool, true, false, _&&_, cond, and-true, and-false}
 use mathlib.Core.List.{List}
-use Prim.Native.Nat.{ℕ, _+_, _*_, _≤_, _<_, min}
+use Prim.Native.Nat.{ℕ, _≤_, min}
 use native.Mathlib.Omega.{arith}
 use mir.Val.{boolByte}
-use lib.Dec.{leb, eqb}
+use lib.Dec.{eqb}
 use lib.ListN.{length, getD}
-use Rattle.mesh.specs.Limits.{max-radios, max-neighbours, row-bytes}
+use Rattle.mesh.specs.Limits.{max-radios, max-neighbours}
 use Rattle.mesh.specs.Lists.{range, all}
 use Rattle.mesh.specs.Orders.{each-once, rising}
 use Rattle.mesh.specs.Tables.{Tables}
@@ -71,10 +71,13 @@ module _ (n : ℕ) (t : Tables) (ps hs : List ℕ) where
     highs-long = q;
   }
 
-  pub examined-unfit : fitting ≡ false → Examined n t ps ps hs hs false
-  examined-unfit e = examined-no ps hs refl refl (rw e)
+  pub examined-unfit : (u : Bool) → u ≡ fitting → u ≡ false → Examined n t ps ps hs hs false
+  examined-unfit u e f = examined-no ps hs refl refl (rw (sym e ∙ f))
 
-  module _ (fit : fitting ≡ true) where
+  module _ (asked : Bool) (asked-is : asked ≡ fitting) (asked-yes : asked ≡ true) where
+    fit : fitting ≡ true
+    fit = sym asked-is ∙ asked-yes
+
     sizes : Sizes n (lengths-of t) (length ps) (length hs)
     sizes = examinable-true n (lengths-of t) (length ps) (length hs) fit
 

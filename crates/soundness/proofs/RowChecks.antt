@@ -1,8 +1,9 @@
 -- One row of the check on plain values: the ends of a row counted, a row good or not.
 use mathlib.Core.Path.{_≡_, refl, sym, ap, _∙_}
-use mathlib.Core.Bool.{Bool, true, false, _&&_, not, cond}
-use mathlib.Core.List.{List, [], _∷_}
-use Prim.Native.Nat.{ℕ, zero, suc, _+_, _*_, _≤_, _<_}
+use mathlib.Core.Logic.{_⊎_, inl, inr}
+use mathlib.Core.Bool.{Bool, true, false, _&&_, not, cond, and-false}
+use mathlib.Core.List.{List, []}
+use Prim.Native.Nat.{ℕ, suc, _+_, _*_, _≤_, _<_}
 use native.Mathlib.Omega.{arith}
 use native.Mathlib.Numerals.{add-one}
 use mir.Syntax.{w32}
@@ -10,14 +11,16 @@ use mir.Val.{boolByte, Fits}
 use lib.Dec.{ltb, leb, eqb}
 use lib.ListN.{length, getD, take, drop}
 use lib.Seq.{drop-cons, drop-length, getD-take, take-all, length-take-le}
-use borrow.Author.Tests.{lt-ltb, le-ltb, le-leb, lt-leb, eq-eqb, ne-eqb}
+use borrow.Author.Tests.{ltb-true, ltb-false, lt-ltb, le-leb, lt-leb, eq-eqb, ne-eqb}
 use Rattle.mesh.specs.Limits.{max-radios, max-neighbours, row-bytes}
 use Rattle.mesh.specs.Lists.{count, all, overwrite}
 use Rattle.mesh.specs.Tables.{marked}
 use Rattle.mesh.specs.Sound.{number-in}
-use Rattle.mesh.proofs.BoolLaws.{never, bit-one}
+use Rattle.mesh.proofs.BoolLaws.{bool-cases, never, bit-one}
 use Rattle.mesh.proofs.ListLaws.{count-le-length, take-overwrite}
 use Rattle.tables.specs.Rows.{neighbours-of, row-listed}
+use Rattle.tables.proofs.MaskLaws.{marked-past}
+use Rattle.tables.proofs.RowListLaws.{row-listed-radio}
 use Rattle.soundness.specs.Checks.{later-count, high-count, ends-good, row-good, Ends-counted, Rows-room, Row-checked}
 
 -- a test as a number
@@ -37,6 +40,14 @@ unfolding all
 all-drop f xs i l = rw (drop-cons xs i 0 l)
 
 -- ---- the ends of a row
+
+-- only a radio of the site has a row that marks
+pub marked-radio : (n : ℕ) (ts : List ℕ) → length ts ≡ row-bytes * n → (b a : ℕ) → marked ts b a ≡ true → b < n
+marked-radio n ts e b a h = go (bool-cases (ltb b n))
+  where
+    go : (ltb b n ≡ true) ⊎ (ltb b n ≡ false) → b < n
+    go (inl q) = ltb-true b n q
+    go (inr q) = never (marked ts b a) h (marked-past ts b a (omega (arith, ltb-false b n q)))
 
 -- the first i of the radios are good ends, and are counted
 pub record Counting (n : ℕ) (links numbers places : List ℕ) (a : ℕ) (xs : List ℕ) (later high i : ℕ) : Type 0 where
@@ -80,18 +91,13 @@ module _ (n : ℕ) (links numbers places : List ℕ) (a : ℕ) (list : List ℕ)
     not-good : ends-good n links a xs ≡ false → Ends-counted n links numbers places a xs false 0 0
     not-good e = record { answer = sym e; later-is = λ f. never false f refl; high-is = λ f. never false f refl }
 
-    -- an entry that is no radio of the site
-    pub counting-high : n ≤ getD list i 0 → Ends-counted n links numbers places a xs false 0 0
-    counting-high h = not-good (ends-next ∙ rw (le-ltb (getD list i 0) n h))
-
     -- the radio itself
-    pub counting-self : getD list i 0 < n → getD list i 0 ≡ a → Ends-counted n links numbers places a xs false 0 0
-    counting-self h e = not-good (ends-next ∙ rw (lt-ltb (getD list i 0) n h, eq-eqb (getD list i 0) a e))
+    pub counting-self : getD list i 0 ≡ a → Ends-counted n links numbers places a xs false 0 0
+    counting-self e = not-good (ends-next ∙ rw (eq-eqb (getD list i 0) a e, and-false (ltb (getD list i 0) n)))
 
-    -- an entry whose row does not mark a
-    pub counting-alone : getD list i 0 < n → (getD list i 0 ≡ a → ⊥) → marked links (getD list i 0) a ≡ false
-        → Ends-counted n links numbers places a xs false 0 0
-    counting-alone h d m = not-good (ends-next ∙ rw (lt-ltb (getD list i 0) n h, ne-eqb (getD list i 0) a d, m))
+    -- an entry whose row does not mark a, or that has no row
+    pub counting-alone : marked links (getD list i 0) a ≡ false → Ends-counted n links numbers places a xs false 0 0
+    counting-alone m = not-good (ends-next ∙ rw (m, and-false (not (eqb (getD list i 0) a)), and-false (ltb (getD list i 0) n)))
 
     pub counting-turn : getD list i 0 < n → (getD list i 0 ≡ a → ⊥) → marked links (getD list i 0) a ≡ true
         → Counting n links numbers places a xs
@@ -126,10 +132,6 @@ module _ (n : ℕ) (links numbers places : List ℕ) (a : ℕ) (list : List ℕ)
 
 -- ---- one row
 
-row-listed-whole : (links : List ℕ) (a : ℕ) → row-bytes * a + row-bytes ≤ length links → row-listed links a ≡ neighbours-of links a
-unfolding row-listed
-row-listed-whole links a l = rw (le-leb (row-bytes * a + row-bytes) (length links) l)
-
 module _ (n : ℕ) (links numbers places : List ℕ) (a : ℕ) (list after : List ℕ) (k : ℕ)
     (room : Rows-room n (length links) (length numbers) (length places) (length list)) (radio : a < n)
     (counted : k ≡ length (row-listed links a)) (listed : after ≡ overwrite (take (length list) (row-listed links a)) list) where
@@ -137,7 +139,7 @@ module _ (n : ℕ) (links numbers places : List ℕ) (a : ℕ) (list after : Lis
   near = neighbours-of links a
 
   whole : row-listed links a ≡ near
-  whole = row-listed-whole links a (omega (arith, room .linked))
+  whole = row-listed-radio n links (room .linked) a radio
 
   k-is : k ≡ length near
   k-is = rw whole at counted

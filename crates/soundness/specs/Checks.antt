@@ -5,7 +5,11 @@
 --   ends-good                each of some radios is below n, is not a, and marks a too
 --   rising-from              numbers never fall along a list, and do not begin below the given one
 --   row-good                 the conditions of document 01 on radio a: its row, its later neighbours, its neighbours that are not below it
---   Placing, Ends-counted, Row-checked, Rows-checked, Examined   what the functions of src/lib.rt come back with
+--   Entries-below, Ends-room, Rows-room   what private functions of src/lib.rt want of the tables that they read
+--   Placing, Ends-counted, Row-checked, Highs, Rows-checked, Examined   what the functions of src/lib.rt come back with
+--   nowhere                  a place that no entry of an order has
+--   examinable               questions 1 and 2 get yes, and the lent tables of places and high counts are long enough
+--   fits-sound               questions 1 to 3 get yes
 -- That tables are sound when the order holds each radio once, numbers rise along it and every row is good is `sound-rows` in
 -- proofs/CheckLaws.antt. Definitions only.
 use mathlib.Core.Path.{_≡_}
@@ -69,7 +73,8 @@ pub record Ends-counted (n : ℕ) (links numbers places : List ℕ) (a : ℕ) (x
   pub high-is : good ≡ true → high ≡ high-count numbers a xs
 
 -- what counting the ends of a row wants of the lengths of the tables it reads
-pub record Ends-room (n a k numbers places list : ℕ) : Type 0 where
+pub record Ends-room (n a k links numbers places list : ℕ) : Type 0 where
+  pub linked : links ≡ row-bytes * n
   pub listed : k ≤ list
   pub few : k ≤ max-radios
   pub numbered : n ≤ numbers

@@ -75,9 +75,14 @@ fn count_ends(
     n: usize,
     a: usize,
 ) -> Ends
-    requires { ⌜ Ends-room n a k (length (now numbers)) (length (now places)) (length (now list)) ⌝ }
+    requires { ⌜ Ends-room n a k (length (now links)) (length (now numbers)) (length (now places)) (length (now list)) ⌝ }
     ensures { λ r. ⌜ Ends-counted n (now (links .entry)) (now (numbers .entry)) (now (places .entry)) a (take k (now (list .entry))) (r .good) (r .later) (r .high) ⌝ }
 {
+    let bad = Ends {
+        good: false,
+        later: 0,
+        high: 0,
+    };
     let place = places[a];
     let number = numbers[a];
     let mut later: u32 = 0;
@@ -85,26 +90,12 @@ fn count_ends(
     let mut i: usize = 0;
     while i < k {
         let b = list[i] as usize;
-        if n <= b {
-            return Ends {
-                good: false,
-                later: 0,
-                high: 0,
-            };
-        }
         if b == a {
-            return Ends {
-                good: false,
-                later: 0,
-                high: 0,
-            };
+            return bad;
         }
+        // a radio at n or above has no row, and so marks nothing
         if !tables::rows::is_marked(links, b as u32, a as u32) {
-            return Ends {
-                good: false,
-                later: 0,
-                high: 0,
-            };
+            return bad;
         }
         later += (place < places[b]) as u32;
         high += (number <= numbers[b]) as u32;
@@ -135,12 +126,13 @@ fn row_checked(
     requires { ⌜ Rows-room n (length (now links)) (length (now numbers)) (length (now places)) (length (now list)) × (a < n) ⌝ }
     ensures { λ r. ⌜ Row-checked n (now (links .entry)) (now (numbers .entry)) (now (places .entry)) a (r .good) (r .high) ⌝ }
 {
+    let bad = Row {
+        good: false,
+        high: 0,
+    };
     let k = tables::rows::row_neighbours(links, a, list);
     if Site::NEIGHBOURS < k {
-        return Row {
-            good: false,
-            high: 0,
-        };
+        return bad;
     }
     let ends = count_ends(
         links,
@@ -152,23 +144,14 @@ fn row_checked(
         a as usize,
     );
     if !ends.good {
-        return Row {
-            good: false,
-            high: 0,
-        };
+        return bad;
     }
     let number = numbers[a as usize] as u32;
     if number < ends.later {
-        return Row {
-            good: false,
-            high: 0,
-        };
+        return bad;
     }
     if ends.high < number {
-        return Row {
-            good: false,
-            high: 0,
-        };
+        return bad;
     }
     Row {
         good: true,

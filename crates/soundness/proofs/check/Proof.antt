@@ -6,10 +6,6 @@ use mathlib.Core.Path.{sym, _∙_}
 use borrow.Author.Needs.{needs}
 use Rattle.soundness.proofs.check.Statement.{statement}
 use Rattle.soundness.proofs.check.Tie as tie
-use Rattle.soundness.proofs.check.Reads as reads
-use Rattle.soundness.proofs.check.Lts as lts
-use Rattle.soundness.proofs.is_sound.Reads as is-sound-reads
-use Rattle.tables.proofs.sizes.of_tables.Reads as of-tables-reads
 
 of-tables-requires : tie.Need-of-tables-requires
 of-tables-requires c κs = search needs

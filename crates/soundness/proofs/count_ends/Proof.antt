@@ -7,18 +7,15 @@ use borrow.Author.Needs.{needs}
 use borrow.Author.Tests.{not-true, not-false}
 use lib.Dec.{ltb, leb}
 use lib.ListN.{getD, take}
-use Rattle.soundness.proofs.RowChecks.{Counting, counting-none, counting-high, counting-self, counting-alone, counting-turn, counting-end, count-fits}
+use Rattle.soundness.proofs.RowChecks.{Counting, counting-none, counting-self, counting-alone, counting-turn, counting-end, count-fits, marked-radio}
 use Rattle.soundness.proofs.count_ends.Statement.{statement}
 use Rattle.soundness.proofs.count_ends.Tie as tie
-use Rattle.soundness.proofs.count_ends.Reads as reads
-use Rattle.soundness.proofs.count_ends.Lts as lts
-use Rattle.tables.proofs.rows.is_marked.Reads as is-marked-reads
 
 abbrev Inv-loop : tie.InvT-loop
-Inv-loop links numbers places list k n a place number later₀ high₀ i₀ later high i = Counting n links numbers places a (take k list) later high i
+Inv-loop links numbers places list k n a bad place number later₀ high₀ i₀ later high i = Counting n links numbers places a (take k list) later high i
 
 abbrev μ-loop : tie.MeasureT-loop
-μ-loop links numbers places list k n a place number later₀ high₀ i₀ later high i = k - i
+μ-loop links numbers places list k n a bad place number later₀ high₀ i₀ later high i = k - i
 
 -- src/lib.rt:67:17
 mul-place : tie.Need-mul-place Inv-loop μ-loop
@@ -56,43 +53,45 @@ returns c =
     let at-loop = c .before .before .before in
     let start = at-loop .before .before .before .before .before .before .before in
     let call = start .args in
-    counting-high _ _ _ _ _ _ _ (start .pre .listed) _ _ _ (c .before .before .loop-test .taken) (at-loop .loop .inv) (c .if1 .taken)
-
--- src/lib.rt:78:13
-returns-2 : tie.Need-returns-2 Inv-loop μ-loop
-returns-2 c =
-    let at-loop = c .before .before .before .before in
-    let start = at-loop .before .before .before .before .before .before .before in
-    let call = start .args in
-    counting-self _ _ _ _ _ _ _ (start .pre .listed) _ _ _ (c .before .before .before .loop-test .taken) (at-loop .loop .inv) (c .before .if1 .left) (c .if2 .taken)
+    counting-self _ _ _ _ _ _ _ (start .pre .listed) _ _ _ (c .before .before .loop-test .taken) (at-loop .loop .inv) (c .if1 .taken)
 
 -- src/lib.rt:80:43
 cast-is-marked : tie.Need-cast-is-marked Inv-loop μ-loop
-cast-is-marked c = omega (arith, c .before .before .shared-slice-known7 .given (c .before .before .before .before .loop .i))
+cast-is-marked c = omega (arith, c .before .shared-slice-known7 .given (c .before .before .before .loop .i))
 
 -- src/lib.rt:80:53
 cast-is-marked-2 : tie.Need-cast-is-marked-2 Inv-loop μ-loop
-cast-is-marked-2 c = search needs
+cast-is-marked-2 c = omega (arith, c .before .shared-slice-known7 .given (c .before .before .before .loop .i))
 
 -- src/lib.rt:80:13
 is-marked-requires : tie.Need-is-marked-requires Inv-loop μ-loop
 is-marked-requires c κs = search needs
 
 -- src/lib.rt:81:13
-returns-3 : tie.Need-returns-3 Inv-loop μ-loop
-returns-3 c =
-    let at-loop = c .before .before .before .before .before .before in
+returns-2 : tie.Need-returns-2 Inv-loop μ-loop
+returns-2 c =
+    let at-loop = c .before .before .before .before .before in
     let start = at-loop .before .before .before .before .before .before .before in
     let call = start .args in
-    counting-alone _ _ _ _ _ _ _ (start .pre .listed) _ _ _ (c .before .before .before .before .before .loop-test .taken) (at-loop .loop .inv) (c .before .before .before .if1 .left) (c .before .before .if2 .left) (sym (c .before .is-marked .ensures) ∙ not-true _ (c .if3 .taken))
+    counting-alone _ _ _ _ _ _ _ (start .pre .listed) _ _ _ (c .before .before .before .before .loop-test .taken) (at-loop .loop .inv) (sym (c .before .is-marked .ensures) ∙ not-true _ (c .if2 .taken))
 
 -- src/lib.rt:83:27
 mul-later : tie.Need-mul-later Inv-loop μ-loop
-mul-later c = search needs
+mul-later c =
+    let at-loop = c .before .before .before .before .before in
+    let start = at-loop .before .before .before .before .before .before .before in
+    let call = start .args in
+    let radio = marked-radio _ (call .links .now) (start .pre .linked) _ _ (sym (c .before .is-marked .ensures) ∙ not-false _ (c .if2 .left)) in
+    omega (arith, start .pre .small)
 
 -- src/lib.rt:83:27
 shared-slice-read-later : tie.Need-shared-slice-read-later Inv-loop μ-loop
-shared-slice-read-later c = search needs
+shared-slice-read-later c =
+    let at-loop = c .before .before .before .before .before .before in
+    let start = at-loop .before .before .before .before .before .before .before in
+    let call = start .args in
+    let radio = marked-radio _ (call .links .now) (start .pre .linked) _ _ (sym (c .before .before .is-marked .ensures) ∙ not-false _ (c .before .if2 .left)) in
+    omega (arith, start .pre .placed)
 
 -- src/lib.rt:83:18
 cast-later : tie.Need-cast-later Inv-loop μ-loop
@@ -101,7 +100,7 @@ cast-later c = search needs
 -- src/lib.rt:83:9
 add-later : tie.Need-add-later Inv-loop μ-loop
 add-later c =
-    let at-loop = c .before .before .before .before .before .before .before in
+    let at-loop = c .before .before .before .before .before .before in
     let start = at-loop .before .before .before .before .before .before .before in
     let call = start .args in
     let b = getD (call .list .now) (at-loop .loop .i) 0 in
@@ -110,7 +109,12 @@ add-later c =
 
 -- src/lib.rt:84:28
 shared-slice-read-high : tie.Need-shared-slice-read-high Inv-loop μ-loop
-shared-slice-read-high c = search needs
+shared-slice-read-high c =
+    let at-loop = c .before .before .before .before .before .before .before in
+    let start = at-loop .before .before .before .before .before .before .before in
+    let call = start .args in
+    let radio = marked-radio _ (call .links .now) (start .pre .linked) _ _ (sym (c .before .before .before .is-marked .ensures) ∙ not-false _ (c .before .before .if2 .left)) in
+    omega (arith, start .pre .numbered)
 
 -- src/lib.rt:84:17
 cast-high : tie.Need-cast-high Inv-loop μ-loop
@@ -119,7 +123,7 @@ cast-high c = search needs
 -- src/lib.rt:84:9
 add-high : tie.Need-add-high Inv-loop μ-loop
 add-high c =
-    let at-loop = c .before .before .before .before .before .before .before .before in
+    let at-loop = c .before .before .before .before .before .before .before in
     let start = at-loop .before .before .before .before .before .before .before in
     let call = start .args in
     let b = getD (call .list .now) (at-loop .loop .i) 0 in
@@ -137,14 +141,15 @@ loop-less c = search needs
 -- src/lib.rt:72:5
 loop-again : tie.Need-loop-again Inv-loop μ-loop
 loop-again c =
-    let at-loop = c .before .before .before .before .before .before .before .before in
+    let at-loop = c .before .before .before .before .before .before .before in
     let start = at-loop .before .before .before .before .before .before .before in
     let call = start .args in
-    counting-turn _ _ _ _ _ _ _ (start .pre .listed) _ _ _ (c .before .before .before .before .before .before .before .loop-test .taken) (at-loop .loop .inv) (c .before .before .before .before .before .if1 .left) (c .before .before .before .before .if2 .left) (sym (c .before .before .before .is-marked .ensures) ∙ not-false _ (c .before .before .if3 .left))
+    let m = (sym (c .before .before .before .is-marked .ensures) ∙ not-false _ (c .before .before .if2 .left)) in
+    counting-turn _ _ _ _ _ _ _ (start .pre .listed) _ _ _ (c .before .before .before .before .before .before .loop-test .taken) (at-loop .loop .inv) (marked-radio _ (call .links .now) (start .pre .linked) _ _ m) (c .before .before .before .before .if1 .left) m
 
 -- src/lib.rt:63:1
-returns-4 : tie.Need-returns-4 Inv-loop μ-loop
-returns-4 c =
+returns-3 : tie.Need-returns-3 Inv-loop μ-loop
+returns-3 c =
     let at-loop = c .before in
     let start = at-loop .before .before .before .before .before .before .before in
     let call = start .args in
@@ -164,11 +169,10 @@ count-ends-spec =
     shared-slice-read-b
     cast-b
     returns
-    returns-2
     cast-is-marked
     cast-is-marked-2
     is-marked-requires
-    returns-3
+    returns-2
     mul-later
     shared-slice-read-later
     cast-later
@@ -179,4 +183,4 @@ count-ends-spec =
     add-i
     loop-less
     loop-again
-    returns-4)
+    returns-3)

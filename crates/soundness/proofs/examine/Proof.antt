@@ -1,6 +1,5 @@
 -- `soundness::examine` meets its contract: with the order placed and its numbers rising, the rows decide (`sound-rows`).
 use native.Mathlib.Omega.{arith}
-use mathlib.Core.Path.{sym, _∙_}
 use borrow.Author.Tests.{not-true, not-false}
 use Rattle.mesh.specs.Tables.{tables}
 use Rattle.calls.specs.Questions.{lengths-of}
@@ -8,12 +7,6 @@ use Rattle.soundness.proofs.ExamineLaws.{examined-unfit, place-room, ex
 use borrow.Author.Needs.{needs}
 use Rattle.soundness.proofs.examine.Statement.{statement}
 use Rattle.soundness.proofs.examine.Tie as tie
-use Rattle.soundness.proofs.examine.Reads as reads
-use Rattle.soundness.proofs.examine.Lts as lts
-use Rattle.soundness.proofs.is_examinable.Reads as is-examinable-reads
-use Rattle.soundness.proofs.place.Reads as place-reads
-use Rattle.soundness.proofs.rises.Reads as rises-reads
-use Rattle.soundness.proofs.rows_checked.Reads as rows-checked-reads
 
 is-examinable-requires : tie.Need-is-examinable-requires
 is-examinable-requires c κs = search needs
@@ -24,7 +17,7 @@ returns c =
     let asked = c .before in
     let call = asked .before .before .before .before .before .before .args in
     let t = tables (call .links .now) (call .numbers .now) (call .order .now) in
-    examined-unfit _ t (call .places .now) (call .highs .now) (sym (asked .is-examinable .ensures) ∙ not-true _ (c .if1 .taken))
+    examined-unfit _ t (call .places .now) (call .highs .now) _ (asked .is-examinable .ensures) (not-true _ (c .if1 .taken))
 
 place-requires : tie.Need-place-requires
 unfolding lengths-of
@@ -32,7 +25,7 @@ place-requires c κs =
     let asked = c .before .before in
     let call = asked .before .before .before .before .before .before .args in
     let t = tables (call .links .now) (call .numbers .now) (call .order .now) in
-    place-room _ t (call .places .now) (call .highs .now) (sym (asked .is-examinable .ensures) ∙ not-false _ (c .before .if1 .left))
+    place-room _ t (call .places .now) (call .highs .now) _ (asked .is-examinable .ensures) (not-false _ (c .before .if1 .left))
 
 same-length : tie.Need-same-length
 same-length c = search needs
@@ -43,7 +36,7 @@ returns-2 c =
     let asked = c .before .before .before .before .before .before in
     let call = asked .before .before .before .before .before .before .args in
     let t = tables (call .links .now) (call .numbers .now) (call .order .now) in
-    examined-unplaced _ t (call .places .now) (call .highs .now) (sym (asked .is-examinable .ensures) ∙ not-false _ (c .before .before .before .before .before .if1 .left)) _ _ (c .before .before .before .place .ensures) (not-true _ (c .if2 .taken))
+    examined-unplaced _ t (call .places .now) (call .highs .now) _ (asked .is-examinable .ensures) (not-false _ (c .before .before .before .before .before .if1 .left)) _ _ (c .before .before .before .place .ensures) (not-true _ (c .if2 .taken))
 
 rises-requires : tie.Need-rises-requires
 unfolding lengths-of
@@ -51,7 +44,7 @@ rises-requires c κs =
     let asked = c .before .before .before .before .before .before in
     let call = asked .before .before .before .before .before .before .args in
     let t = tables (call .links .now) (call .numbers .now) (call .order .now) in
-    entries-below _ t (call .places .now) (call .highs .now) (sym (asked .is-examinable .ensures) ∙ not-false _ (c .before .before .before .before .before .if1 .left)) _ _ (c .before .before .before .place .ensures) (not-false _ (c .if2 .left))
+    entries-below _ t (call .places .now) (call .highs .now) _ (asked .is-examinable .ensures) (not-false _ (c .before .before .before .before .before .if1 .left)) _ _ (c .before .before .before .place .ensures) (not-false _ (c .if2 .left))
 
 same-length-2 : tie.Need-same-length-2
 same-length-2 c = search needs
@@ -62,7 +55,7 @@ returns-3 c =
     let asked = c .before .before .before .before .before .before .before .before in
     let call = asked .before .before .before .before .before .before .args in
     let t = tables (call .links .now) (call .numbers .now) (call .order .now) in
-    examined-falls _ t (call .places .now) (call .highs .now) (sym (asked .is-examinable .ensures) ∙ not-false _ (c .before .before .before .before .before .before .before .if1 .left))
+    examined-falls _ t (call .places .now) (call .highs .now) _ (asked .is-examinable .ensures) (not-false _ (c .before .before .before .before .before .before .before .if1 .left))
     _ _ (c .before .before .before .before .before .place .ensures) (not-false _ (c .before .before .if2 .left)) _ (c .before .rises .ensures) (not-true _ (c .if3 .taken))
 
 slice-aggregate-rows-checked : tie.Need-slice-aggregate-rows-checked
@@ -74,7 +67,7 @@ rows-checked-requires c κs =
     let asked = c .before .before .before .before .before .before .before .before .before .before .before in
     let call = asked .before .before .before .before .before .before .args in
     let t = tables (call .links .now) (call .numbers .now) (call .order .now) in
-    rows-room _ t (call .places .now) (call .highs .now) (sym (asked .is-examinable .ensures) ∙ not-false _ (c .before .before .before .before .before .before .before .before .before .before .if1 .left))
+    rows-room _ t (call .places .now) (call .highs .now) _ (asked .is-examinable .ensures) (not-false _ (c .before .before .before .before .before .before .before .before .before .before .if1 .left))
     _ _ (c .before .before .before .before .before .before .before .before .place .ensures) (not-false _ (c .before .before .before .before .before .if2 .left)) _ (omega arith)
 
 same-length-3 : tie.Need-same-length-3
@@ -89,7 +82,7 @@ returns-4 c =
     let asked = c .before .before .before .before .before .before .before .before .before .before .before .before .before .before .before in
     let call = asked .before .before .before .before .before .before .args in
     let t = tables (call .links .now) (call .numbers .now) (call .order .now) in
-    examined-rows _ t (call .places .now) (call .highs .now) (sym (asked .is-examinable .ensures) ∙ not-false _ (c .before .before .before .before .before .before .before .before .before .before .before .before .before .before .if1 .left))
+    examined-rows _ t (call .places .now) (call .highs .now) _ (asked .is-examinable .ensures) (not-false _ (c .before .before .before .before .before .before .before .before .before .before .before .before .before .before .if1 .left))
     _ _ (c .before .before .before .before .before .before .before .before .before .before .before .before .place .ensures) (not-false _ (c .before .before .before .before .before .before .before .before .before .if2 .left))
     _ (c .before .before .before .before .before .before .before .before .rises .ensures) (not-false _ (c .before .before .before .before .before .before .before .if3 .left)) _ _ (c .before .before .before .rows-checked .ensures)
 

@@ -1,6 +1,6 @@
 -- `soundness::is_examinable` meets its contract: questions 1 and 2 are put with the shorter of the two lent tables as the answer table.
-use mathlib.Core.Path.{_≡_, sym, ap, _∙_}
-use Prim.Native.Nat.{ℕ, min}
+use mathlib.Core.Path.{ap, _∙_}
+use Prim.Native.Nat.{ℕ}
 use lib.Dec.{eqb}
 use borrow.Author.Needs.{needs}
 use Rattle.calls.specs.Questions.{answer-length, lent-refusal}

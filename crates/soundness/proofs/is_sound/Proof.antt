@@ -5,9 +5,6 @@ use Rattle.soundness.proofs.ExamineLaws.{examinable-room}
 use borrow.Author.Needs.{needs}
 use Rattle.soundness.proofs.is_sound.Statement.{statement}
 use Rattle.soundness.proofs.is_sound.Tie as tie
-use Rattle.soundness.proofs.is_sound.Reads as reads
-use Rattle.soundness.proofs.is_sound.Lts as lts
-use Rattle.soundness.proofs.examine.Reads as examine-reads
 
 slice-aggregate-examine : tie.Need-slice-aggregate-examine
 slice-aggregate-examine c = search needs

@@ -3,14 +3,10 @@
 use Prim.Native.Nat.{_-_}
 use native.Mathlib.Omega.{arith}
 use borrow.Author.Needs.{needs}
-use lib.ListN.{length, length-replicate}
-use mathlib.Core.Path.{ap, _∙_, sym}
+use lib.ListN.{length}
 use Rattle.soundness.proofs.CheckLoops.{Placing-so-far, placing-none, placing-high, placing-again, placing-room, placing-turn, placing-end, placing-not, placing-long}
 use Rattle.soundness.proofs.place.Statement.{statement}
 use Rattle.soundness.proofs.place.Tie as tie
-use Rattle.soundness.proofs.place.Reads as reads
-use Rattle.soundness.proofs.place.Lts as lts
-use Rattle.tables.proofs.fill.fill16.Reads as fill16-reads
 
 abbrev Inv-loop : tie.InvT-loop
 Inv-loop order places₀ i₀ places i = Placing-so-far order (length places₀) places i

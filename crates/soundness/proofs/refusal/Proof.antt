@@ -1,5 +1,5 @@
 -- `soundness::refusal` meets its contract: the tests are the chain's questions, in its order.
-use mathlib.Core.Path.{_≡_, sym, ap, _∙_}
+use mathlib.Core.Path.{sym, _∙_}
 use borrow.Author.Tests.{not-true, not-false}
 use Rattle.mesh.specs.Tables.{tables}
 use Rattle.calls.specs.Questions.{lengths-of, ask}
@@ -7,10 +7,6 @@ use Rattle.soundness.proofs.ExamineLaws.{site-refused, site-lent, fits-
 use borrow.Author.Needs.{needs}
 use Rattle.soundness.proofs.refusal.Statement.{statement}
 use Rattle.soundness.proofs.refusal.Tie as tie
-use Rattle.soundness.proofs.refusal.Reads as reads
-use Rattle.soundness.proofs.refusal.Lts as lts
-use Rattle.soundness.proofs.is_sound.Reads as is-sound-reads
-use Rattle.tables.proofs.sizes.of_tables.Reads as of-tables-reads
 
 of-tables-requires : tie.Need-of-tables-requires
 of-tables-requires c κs = search needs

@@ -5,10 +5,6 @@ use Rattle.soundness.proofs.RowChecks.{row-many, row-ends-bad, row-late
 use borrow.Author.Needs.{needs}
 use Rattle.soundness.proofs.row_checked.Statement.{statement}
 use Rattle.soundness.proofs.row_checked.Tie as tie
-use Rattle.soundness.proofs.row_checked.Reads as reads
-use Rattle.soundness.proofs.row_checked.Lts as lts
-use Rattle.soundness.proofs.count_ends.Reads as count-ends-reads
-use Rattle.tables.proofs.rows.row_neighbours.Reads as row-neighbours-reads
 
 row-neighbours-requires : tie.Need-row-neighbours-requires
 row-neighbours-requires c κs = search needs

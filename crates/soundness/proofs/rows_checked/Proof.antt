@@ -1,7 +1,6 @@
 -- `soundness::rows_checked` meets its contract: the rows passed are good, so what is left decides, and their high counts are written.
 -- The measure is what is left of the radios.
 use Prim.Native.Nat.{_-_}
-use native.Mathlib.Omega.{arith}
 use mathlib.Core.Path.{_≡_, refl}
 use borrow.Author.Needs.{needs}
 use borrow.Author.Tests.{not-true, not-false}
@@ -9,9 +8,6 @@ use lib.ListN.{length}
 use Rattle.soundness.proofs.AllRows.{Rows-so-far, rows-none, rows-bad, rows-turn, rows-end}
 use Rattle.soundness.proofs.rows_checked.Statement.{statement}
 use Rattle.soundness.proofs.rows_checked.Tie as tie
-use Rattle.soundness.proofs.rows_checked.Reads as reads
-use Rattle.soundness.proofs.rows_checked.Lts as lts
-use Rattle.soundness.proofs.row_checked.Reads as row-checked-reads
 
 abbrev Inv-loop : tie.InvT-loop
 Inv-loop n links numbers places list₀ highs₀ a₀ list highs a = (length list ≡ length list₀) × Rows-so-far n links numbers places highs₀ highs a

@@ -1,0 +1,74 @@
+-- The high counts of sound tables, over the graph that the links table marks: for the callers of `soundness::examine`.
+--   sound-symmetric .. sound-within-n   the conditions on rows that reading over the graph wants
+--   high-count-neighbours-in            a high count is the count of neighbours that are not below the radio
+--   examined-sound, examined-high       what a caller of examine knows when the answer is yes
+use mathlib.Core.Path.{_≡_, refl, sym, ap, _∙_}
+use mathlib.Core.Bool.{Bool, true, _&&_}
+use mathlib.Core.List.{List}
+use Prim.Native.Nat.{ℕ, _≤_, _<_}
+use lib.Dec.{leb}
+use lib.ListN.{length, getD}
+use Rattle.mesh.specs.Limits.{max-radios, max-neighbours}
+use Rattle.mesh.specs.Lists.{range, count}
+use Rattle.mesh.specs.Graph.{linked, radios, neighbours-in}
+use Rattle.mesh.specs.Orders.{each-once, rising, few-later}
+use Rattle.mesh.specs.Tables.{Tables, marked, graph-in}
+use Rattle.mesh.specs.Sound.{symmetric, irreflexive, within, few, rows-proper, enough, number-in, sound, sound-within}
+use Rattle.mesh.proofs.BoolLaws.{and-left, and-right}
+use Rattle.mesh.proofs.ListLaws.{count-filter}
+use Rattle.calls.specs.Questions.{lengths-of}
+use Rattle.tables.specs.Rows.{neighbours-of}
+use Rattle.soundness.specs.Checks.{high-count, examinable, Examined}
+use Rattle.tables.proofs.RowListLaws.{neighbours-of-linked}
+use Rattle.soundness.proofs.ExamineLaws.{Sizes, examinable-true}
+
+module _ (n : ℕ) (t : Tables) (yes : sound n t ≡ true) where
+  abbrev ts : List ℕ
+  ts = t .links
+
+  abbrev num : ℕ → ℕ
+  num = number-in (t .numbers)
+
+  proper-rows : rows-proper max-neighbours n ts ≡ true
+  unfolding sound sound-within
+  proper-rows =
+      and-left (rows-proper max-neighbours n ts)
+      (each-once n (t .order) && (rising num (t .order) && (few-later (marked ts) num (t .order) && enough n (marked ts) num))) yes
+
+  both-ways : (symmetric n ts && irreflexive n ts) ≡ true
+  unfolding rows-proper
+  both-ways = and-left (symmetric n ts && irreflexive n ts) (within n ts && few max-neighbours n ts) proper-rows
+
+  pub sound-symmetric : symmetric n ts ≡ true
+  sound-symmetric = and-left (symmetric n ts) (irreflexive n ts) both-ways
+
+  pub sound-irreflexive : irreflexive n ts ≡ true
+  sound-irreflexive = and-right (symmetric n ts) (irreflexive n ts) both-ways
+
+  pub sound-within-n : within n ts ≡ true
+  unfolding rows-proper
+  sound-within-n =
+      and-left (within n ts) (few max-neighbours n ts)
+      (and-right (symmetric n ts && irreflexive n ts) (within n ts && few max-neighbours n ts) proper-rows)
+
+  pub high-count-neighbours-in : n ≤ max-radios → (v : ℕ) → v < n
+      → high-count (t .numbers) v (neighbours-of ts v) ≡ neighbours-in (graph-in n ts) v (λ w. leb (num v) (num w))
+  unfolding high-count neighbours-in radios graph-in
+  high-count-neighbours-in small v l =
+      let high : ℕ → Bool = λ w. leb (num v) (num w) in
+      ap (count high) (neighbours-of-linked n ts small sound-symmetric sound-irreflexive sound-within-n v l)
+      ∙ count-filter high (linked (graph-in n ts) v) (range 0 n)
+
+module _ {n : ℕ} {t : Tables} {ps qs hs is : List ℕ} (d : Examined n t ps qs hs is true) where
+  abbrev fitting : Bool
+  fitting = examinable n (lengths-of t) (length ps) (length hs)
+
+  pub examined-sizes : Sizes n (lengths-of t) (length ps) (length hs)
+  examined-sizes = examinable-true n (lengths-of t) (length ps) (length hs) (and-left fitting (sound n t) (sym (d .answer)))
+
+  pub examined-sound : sound n t ≡ true
+  examined-sound = and-right fitting (sound n t) (sym (d .answer))
+
+  pub examined-high : (v : ℕ) → v < n
+      → getD is v 0 ≡ neighbours-in (graph-in n (t .links)) v (λ w. leb (number-in (t .numbers) v) (number-in (t .numbers) w))
+  examined-high v l = d .highs refl .at v l ∙ high-count-neighbours-in n t examined-sound (examined-sizes .small) v l
