@@ -123,7 +123,7 @@ module _ (n : ℕ) (t : Tables) (ps hs : List ℕ) where
       rows-room list l = (
         record {
           linked = sizes .lengths .links;
-          numbered = omega (arith, sizes .lengths .numbers);
+          numbered = sizes .lengths .numbers;
           placed = omega (arith, sizes .places, d .long);
           listed = l;
           small = sizes .small;

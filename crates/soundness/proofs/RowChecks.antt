@@ -151,7 +151,7 @@ module _ (n : ℕ) (links numbers places : List ℕ) (a : ℕ) (list after : Lis
   unfolding row-good
   row-many l = row-bad (rw (lt-leb (length near) max-neighbours (omega (arith, k-is))))
 
-  module _ (few : k ≤ max-neighbours) (good : Bool) (later high : ℕ) (ends : Ends-counted n links numbers places a (take k after) good later high) where
+  module _ (few : k ≤ max-neighbours) (good : Bool) (later high : ℕ) (ends : Ends-counted (length numbers) links numbers places a (take k after) good later high) where
     short : leb (length near) max-neighbours ≡ true
     short = le-leb (length near) max-neighbours (omega (arith, k-is))
 
@@ -163,7 +163,7 @@ module _ (n : ℕ) (links numbers places : List ℕ) (a : ℕ) (list after : Lis
         ∙ ap (λ (j : ℕ). take j (overwrite near list)) k-is ∙ take-overwrite near list
 
     ends-are : Ends-counted n links numbers places a near good later high
-    ends-are = rw near-is at ends
+    ends-are = rw (near-is, room .numbered) at ends
 
     pub row-ends-bad : good ≡ false → Row-checked n links numbers places a false 0
     unfolding row-good

@@ -73,19 +73,18 @@ pub record Ends-counted (n : ℕ) (links numbers places : List ℕ) (a : ℕ) (x
   pub high-is : good ≡ true → high ≡ high-count numbers a xs
 
 -- what counting the ends of a row wants of the lengths of the tables it reads
-pub record Ends-room (n a k links numbers places list : ℕ) : Type 0 where
-  pub linked : links ≡ row-bytes * n
+pub record Ends-room (a k links numbers places list : ℕ) : Type 0 where
+  pub linked : links ≡ row-bytes * numbers
   pub listed : k ≤ list
   pub few : k ≤ max-radios
-  pub numbered : n ≤ numbers
-  pub placed : n ≤ places
-  pub radio : a < n
-  pub small : n ≤ max-radios
+  pub placed : numbers ≤ places
+  pub radio : a < numbers
+  pub small : numbers ≤ max-radios
 
 -- what checking rows wants of the lengths of the tables that it reads and of its list
 pub record Rows-room (n links numbers places list : ℕ) : Type 0 where
   pub linked : links ≡ row-bytes * n
-  pub numbered : n ≤ numbers
+  pub numbered : numbers ≡ n
   pub placed : n ≤ places
   pub listed : max-neighbours ≤ list
   pub small : n ≤ max-radios

@@ -64,7 +64,7 @@ struct Ends {
     high: u32,
 }
 
-// Whether the first k listed radios are below n, are not a, and mark a too; how many of them stand later in the order than a,
+// Whether the first k listed radios are of the site, are not a, and mark a too; how many of them stand later in the order than a,
 // and how many have a number that is not below that of a.
 fn count_ends(
     links: &[u8],
@@ -72,11 +72,10 @@ fn count_ends(
     places: &[u16],
     list: &[u16],
     k: usize,
-    n: usize,
     a: usize,
 ) -> Ends
-    requires { ⌜ Ends-room n a k (length (now links)) (length (now numbers)) (length (now places)) (length (now list)) ⌝ }
-    ensures { λ r. ⌜ Ends-counted n (now (links .entry)) (now (numbers .entry)) (now (places .entry)) a (take k (now (list .entry))) (r .good) (r .later) (r .high) ⌝ }
+    requires { ⌜ Ends-room a k (length (now links)) (length (now numbers)) (length (now places)) (length (now list)) ⌝ }
+    ensures { λ r. ⌜ Ends-counted (length (now (numbers .entry))) (now (links .entry)) (now (numbers .entry)) (now (places .entry)) a (take k (now (list .entry))) (r .good) (r .later) (r .high) ⌝ }
 {
     let bad = Ends {
         good: false,
@@ -134,15 +133,7 @@ fn row_checked(
     if Site::NEIGHBOURS < k {
         return bad;
     }
-    let ends = count_ends(
-        links,
-        numbers,
-        places,
-        list,
-        k as usize,
-        n as usize,
-        a as usize,
-    );
+    let ends = count_ends(links, numbers, places, list, k as usize, a as usize);
     if !ends.good {
         return bad;
     }

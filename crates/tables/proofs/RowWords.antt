@@ -1,18 +1,18 @@
 -- A row of the links table read word by word, as the loops over its words go: what is left of the row from word k on.
 use mathlib.Core.Path.{_≡_, refl, sym, ap, _∙_}
 use mathlib.Core.List.{List, [], _++_}
-use Prim.Native.Nat.{ℕ, _+_, _*_, _-_, _/_, _%_, _≤_, _<_, min}
+use Prim.Native.Nat.{ℕ, zero, suc, _+_, _*_, _-_, _/_, _%_, _^_, _≤_, _<_, min}
 use native.Mathlib.Omega.{arith}
 use lib.ListN.{length, getD, take, length-append}
 use lib.Seq.{sets}
-use lib.Count.{ones}
+use lib.Count.{ones, trailingZeros}
 use borrow.Author.Tests.{le-leb, lt-leb}
 use Rattle.mesh.specs.Limits.{max-radios, row-bytes}
-use Rattle.mesh.specs.Lists.{range, filter, overwrite}
+use Rattle.mesh.specs.Lists.{range, filter, head-or, overwrite}
 use Rattle.mesh.specs.Tables.{digit, byte-at, marked}
 use Rattle.mesh.proofs.ListLaws.{filter-append}
 use Rattle.tables.specs.Rows.{neighbours-of, row-listed, set-bits, word-at}
-use Rattle.tables.proofs.WordLaws.{set-bits-filter, length-set-bits, length-set-bits-le, word-at-less, digit-word-at}
+use Rattle.tables.proofs.WordLaws.{set-bits-filter, set-bits-nothing, set-bits-lowest, length-set-bits, length-set-bits-le, word-at-less, digit-word-at}
 use Rattle.tables.proofs.Listing.{range-append, sets-front, Partial-listing, partial-part, partial-end}
 
 -- ---- row-listed: the whole row, or none of it
@@ -97,3 +97,29 @@ pub row-listing-end : (ts : List ℕ) (a : ℕ) (old : List ℕ) (n k : ℕ) (li
 row-listing-end ts a old n k list h l i =
     let at-end = partial-end (row-from ts a k) n list (row-from-end ts a k h) (i .2) in
     rw (row-listed-whole ts a l) (omega (arith, at-end .0), at-end .1 ∙ sets-front old (neighbours-of ts a))
+
+-- ---- the lowest radio of a row
+
+-- no radio is marked before word k
+abbrev pub Searching : (links : List ℕ) → (a k : ℕ) → Type 0
+Searching ts a k = (k ≤ 8) × (neighbours-of ts a ≡ row-from ts a k)
+
+pub searching-turn : (ts : List ℕ) → ((j : ℕ) → getD ts j 0 < 256) → (a k w : ℕ) → k < 8 → w ≡ word-at 8 ts (row-bytes * a + 8 * k) → w ≡ 0
+    → Searching ts a k → Searching ts a (k + 1)
+searching-turn ts bytes a k w h e z i = (
+  omega arith,
+  i .1
+      ∙ row-from-word ts bytes a k h
+      ∙ ap (λ (x : List ℕ). x ++ row-from ts a (k + 1)) (ap (set-bits 64 (64 * k)) (sym e ∙ z) ∙ set-bits-nothing 64 (64 * k)),
+)
+
+pub searching-found : (ts : List ℕ) → ((j : ℕ) → getD ts j 0 < 256) → (a k w : ℕ) → k < 8 → w ≡ word-at 8 ts (row-bytes * a + 8 * k) → (w ≡ 0 → ⊥)
+    → Searching ts a k → head-or max-radios (neighbours-of ts a) ≡ 64 * k + trailingZeros 64 w
+unfolding head-or
+searching-found ts bytes a k w h e some i =
+    let pos : 0 < w = omega arith in
+    let less : w < 2 ^ 64 = omega (arith, word-at-less ts bytes (row-bytes * a + 8 * k) 8) in
+    ap (head-or max-radios)
+    (i .1
+    ∙ row-from-word ts bytes a k h
+    ∙ ap (λ (x : List ℕ). x ++ row-from ts a (k + 1)) (ap (set-bits 64 (64 * k)) (sym e) ∙ set-bits-lowest 64 (64 * k) w pos less))

@@ -1,11 +1,11 @@
-// Rows of the links table: one bit tested, set or cleared, a row's neighbours listed, a row's neighbours counted.
+// Rows of the links table: one bit tested, set or cleared, a row's neighbours listed and counted, the lowest of them.
 // The bits of a row are walked here and nowhere else.
 ghost use mathlib.Core.Path.{_≡_};
 ghost use Prim.Native.Nat.{_≤_, _+_, min};
 ghost use lib.ListN.{length, take, set};
 ghost use lib.Seq.{sets};
 ghost use Rattle.mesh.specs.Limits.{max-radios};
-ghost use Rattle.mesh.specs.Lists.{overwrite};
+ghost use Rattle.mesh.specs.Lists.{head-or, overwrite};
 ghost use Rattle.mesh.specs.Tables.{marked, put-bit, put-link};
 ghost use Rattle.tables.specs.Rows.{row-listed, set-bits, word-at};
 
@@ -136,4 +136,23 @@ pub fn row_neighbours(links: &[u8], a: u32, list: &mut [u16]) -> u32
         return n;
     }
     row_degree(links, a)
+}
+
+// The lowest radio that row a marks; where it marks none, or is not whole in the table, the most radios that a site may have.
+pub fn first_marked(links: &[u8], a: u32) -> u32
+    ensures { λ r. ⌜ r ≡ head-or max-radios (row-listed (now (links .entry)) a) ⌝ }
+{
+    let start = mesh::Site::ROW_BYTES * a as usize;
+    if links.len() < start + mesh::Site::ROW_BYTES {
+        return mesh::Site::RADIOS;
+    }
+    let mut k: u32 = 0;
+    while k < mesh::Site::RADIOS / 64 {
+        let word = word_at(links, start + 8 * k as usize);
+        if word != 0 {
+            return 64 * k + u64::trailing_zeros(word);
+        }
+        k += 1;
+    }
+    mesh::Site::RADIOS
 }

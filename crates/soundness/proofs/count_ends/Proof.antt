@@ -6,16 +6,16 @@ use mathlib.Core.Path.{sym, _∙_}
 use borrow.Author.Needs.{needs}
 use borrow.Author.Tests.{not-true, not-false}
 use lib.Dec.{ltb, leb}
-use lib.ListN.{getD, take}
+use lib.ListN.{length, getD, take}
 use Rattle.soundness.proofs.RowChecks.{Counting, counting-none, counting-self, counting-alone, counting-turn, counting-end, count-fits, marked-radio}
 use Rattle.soundness.proofs.count_ends.Statement.{statement}
 use Rattle.soundness.proofs.count_ends.Tie as tie
 
 abbrev Inv-loop : tie.InvT-loop
-Inv-loop links numbers places list k n a bad place number later₀ high₀ i₀ later high i = Counting n links numbers places a (take k list) later high i
+Inv-loop links numbers places list k a bad place number later₀ high₀ i₀ later high i = Counting (length numbers) links numbers places a (take k list) later high i
 
 abbrev μ-loop : tie.MeasureT-loop
-μ-loop links numbers places list k n a bad place number later₀ high₀ i₀ later high i = k - i
+μ-loop links numbers places list k a bad place number later₀ high₀ i₀ later high i = k - i
 
 -- src/lib.rt:67:17
 mul-place : tie.Need-mul-place Inv-loop μ-loop
@@ -114,7 +114,7 @@ shared-slice-read-high c =
     let start = at-loop .before .before .before .before .before .before .before in
     let call = start .args in
     let radio = marked-radio _ (call .links .now) (start .pre .linked) _ _ (sym (c .before .before .before .is-marked .ensures) ∙ not-false _ (c .before .before .if2 .left)) in
-    omega (arith, start .pre .numbered)
+    omega arith
 
 -- src/lib.rt:84:17
 cast-high : tie.Need-cast-high Inv-loop μ-loop

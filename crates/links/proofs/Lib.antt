@@ -1,0 +1,31 @@
+-- Laws of link calls.
+-- questions 4 to 7; all questions, what a plan is made from and what it is applied to
+pub mod EndsLaws
+pub mod Asking
+-- the turns of the peel: the loops over counters and fitting places, and what they come to
+pub mod TurnLoops
+-- the neighbours of a radio after the call
+pub mod NearLaws
+-- the loops over a level's stretch
+pub mod StretchLoops
+-- what releasing comes to
+pub mod TurnLaws
+-- the stretch of a level, and the turns of its peel
+pub mod LevelLaws
+pub mod PeelTurns
+pub mod PeelLoop
+-- what stands before the first turn
+pub mod BeginLaws
+-- a link call's plan, from sound tables
+pub mod PlanLevel
+pub mod PlanStart
+pub mod PlanEnd
+pub mod PlanCall
+-- a set of radios kept as one row; the stretch and the step; a plan applied
+pub mod Marking
+pub mod ChangeLaws
+pub mod Applied
+-- a call refused and accepted
+pub mod CallLaws
+-- the contracts of the public calls are the named predicates
+pub mod Ties

@@ -1,0 +1,95 @@
+-- The facts that a plan's code hands from call to call, as the code names its values.
+use mathlib.Core.Path.{_≡_, refl, sym, ap, _∙_}
+use mathlib.Core.Logic.{_⊎_, inl, inr}
+use mathlib.Core.Bool.{Bool, true, false, not, _&&_, _||_}
+use mathlib.Core.List.{List}
+use Prim.Native.Nat.{ℕ, _+_, _≤_, _<_, min}
+use native.Mathlib.Omega.{arith}
+use lib.Dec.{eqb, ltb}
+use lib.ListN.{length, getD, replicate, length-replicate}
+use lib.Seq.{sets}
+use borrow.Author.Tests.{eqb-true, eq-eqb}
+use Rattle.mesh.specs.Limits.{max-radios, max-neighbours, row-bytes}
+use Rattle.mesh.specs.Lists.{range, count, filter}
+use Rattle.mesh.specs.Graph.{Graph, radios, linked, neighbours-in}
+use Rattle.mesh.specs.Cores.{Group, number}
+use Rattle.mesh.specs.Tables.{tables, byte-at, graph-in}
+use Rattle.mesh.proofs.BoolLaws.{and-both, or-cases, or-left, or-right}
+use Rattle.mesh.proofs.ListLaws.{count-pos, in-range}
+use Rattle.mesh.proofs.GraphLaws.{linked-sym}
+use Rattle.mesh.proofs.Peeling.{number-core}
+use Rattle.mesh.proofs.LinkMoves.{bound}
+use Rattle.mesh.proofs.TableLaws.{marked-replicate}
+use Rattle.links.specs.Plans.{Ready, Planned}
+use Rattle.links.specs.Turns.{ends-counted, places-fitting, Begin-ready}
+use Rattle.links.specs.Peels.{stretch, level-start, level-size, Peel-ready, Peel-done}
+use Rattle.links.proofs.PlanLevel.{a-below, b-below, number-is, level-is, is-level, stretch-fits}
+use Rattle.links.proofs.PlanStart.{begin-ready, peel-ready}
+use Rattle.links.proofs.PlanEnd.{plan-end}
+
+-- both ends of a link have a number above 0
+linked-positive : (g : Graph) (a b : ℕ) → a < g .n → b < g .n → linked g a b ≡ true → 1 ≤ number g a
+unfolding Group neighbours-in radios
+linked-positive g a b la lb h =
+    number-core g a la .largest 1 pair (λ v l q. one v (or-cases (eqb v a) (eqb v b) q)) (or-left (eqb a a) (eqb a b) (eq-eqb a a refl))
+  where
+    pair : ℕ → Bool
+    pair v = eqb v a || eqb v b
+
+    has : (v w : ℕ) → w < g .n → linked g v w ≡ true → pair w ≡ true → 1 ≤ neighbours-in g v pair
+    has v w l k q =
+        count-pos (λ x. linked g v x && pair x) w (range 0 (g .n)) (in-range 0 (g .n) w (omega arith) (omega arith)) (and-both (linked g v w) (pair w) k q)
+
+    one : (v : ℕ) → (eqb v a ≡ true) ⊎ (eqb v b ≡ true) → 1 ≤ neighbours-in g v pair
+    one v (inl e) = has v b lb (rw (eqb-true v a e) h) (or-right (eqb b a) (eqb b b) (eq-eqb b b refl))
+    one v (inr e) = has v a la (rw (eqb-true v b e) (linked-sym g b a ∙ h)) (or-left (eqb a a) (eqb a b) (eq-eqb a a refl))
+
+module _ {u : Bool} {a b : ℕ} {ts ns os ps cs : List ℕ} (r : Ready u (length os) a b (tables ts ns os) ps cs) where
+  abbrev lower : ℕ
+  lower = min (getD ns a 0) (getD ns b 0)
+
+  pub plan-level : (a < length ns) × (b < length ns) × (u ≡ false → 1 ≤ lower)
+  unfolding graph-in
+  plan-level = (omega (arith, a-below r, r .numbers-length), omega (arith, b-below r, r .numbers-length), positive)
+    where
+      positive : u ≡ false → 1 ≤ lower
+      positive e =
+          let h : linked (graph-in (length os) ts) a b ≡ true = r .allowed .state ∙ ap not e in
+          omega (
+            arith,
+            number-is r a (a-below r),
+            number-is r b (b-below r),
+            linked-positive (graph-in (length os) ts) a b (a-below r) (b-below r) h,
+            linked-positive (graph-in (length os) ts) b a (b-below r) (a-below r) (linked-sym (graph-in (length os) ts) b a ∙ h),
+          )
+
+  -- the call and its stretch, as `call_at` and `stretch_of` say them
+  module _ {w : Bool} {x y k m from many : ℕ} (call : (w ≡ u) × (x ≡ a) × (y ≡ b) × (k ≡ lower) × (m ≡ bound u lower))
+      (at : (from ≡ level-start ns k) × (many ≡ level-size ns k)) where
+    pub plan-begin : Begin-ready w x y k from many ns os cs
+    plan-begin = rw (call .0, call .1, call .2, at .0, at .1) (begin-ready r k (call .3))
+
+    pub plan-peel : (cs1 fs1 : List ℕ) (room : ℕ) → (cs1 ≡ ends-counted w x y k ns cs)
+        × (fs1 ≡ places-fitting os (ends-counted w x y k ns cs) m (range from many) (replicate row-bytes 0)) → length os ≤ room
+        → Peel-ready w x y k m ts ns os ps cs1 fs1 row-bytes max-neighbours room
+    unfolding byte-at
+    plan-peel cs1 fs1 room e l =
+        rw (e .0, e .1, call .0, call .1, call .2, at .0, at .1)
+        (peel-ready r k (call .3) m (replicate row-bytes 0) (length-replicate {A = ℕ} row-bytes 0) (λ q lq. marked-replicate row-bytes 0 q (omega arith))
+        row-bytes max-neighbours room refl refl l)
+
+    pub plan-stuck : (taken : ℕ) (cs2 list1 : List ℕ) → length cs2 ≡ length cs → Peel-done w x y k m ts ns os taken cs2 list1
+        → (from + many ≤ length os) × (from + many ≤ max-radios) × (taken ≤ max-radios) × ((p : ℕ) → p < length os → getD os p 0 < length cs2)
+    plan-stuck taken cs2 list1 e done =
+        let fits : from + many ≤ length os = omega (arith, at .0, at .1, stretch-fits r k) in (
+          fits,
+          omega (arith, fits, r .small),
+          omega (arith, done .fits, stretch-fits r k, r .small),
+          λ p l. omega (arith, is-level r k .radios p l, r .highs-length),
+        )
+
+    pub plan-done : (taken : ℕ) (cs2 list1 list2 : List ℕ) → Peel-done w x y k m ts ns os taken cs2 list1 → length os ≤ length list1
+        → list2 ≡ sets list1 taken (filter (λ v. ltb m (getD cs2 v 0)) (stretch os from many)) → Planned u a b (graph-in (length os) ts) os from many taken list2
+    plan-done taken cs2 list1 list2 done room written =
+        plan-end r w x y k m from many taken cs2 list1 list2 (call .0) (call .1) (call .2) (call .3 ∙ level-is r) (call .4 ∙ ap (bound u) (level-is r)) (at .0) (at .1)
+        done room written

@@ -1,0 +1,126 @@
+-- What a plan comes to: the taken, then the stuck, are document 01's layout of the stretch, and one part of them the changed radios.
+use mathlib.Core.Path.{_≡_, sym, ap, ap₂, subst, _∙_}
+use mathlib.Core.Logic.{_⊎_, inl, inr}
+use mathlib.Core.Bool.{Bool, true, false, cond}
+use mathlib.Core.List.{List, [], _∷_, _++_}
+use Prim.Native.Nat.{ℕ, _+_, _≤_, _<_}
+use native.Mathlib.Omega.{arith}
+use lib.Dec.{ltb}
+use lib.ListN.{length, getD, take, drop, length-append}
+use lib.Seq.{sets, sets-eq, length-sets, take-at, drop-at, take-take, getD-take, length-take-le}
+use Rattle.mesh.specs.Limits.{max-neighbours}
+use Rattle.mesh.specs.Lists.{filter, member}
+use Rattle.mesh.specs.Graph.{Graph, linked, relinked}
+use Rattle.mesh.specs.Cores.{number}
+use Rattle.mesh.specs.Levels.{changed, lower-level, new-stretch}
+use Rattle.mesh.specs.Tables.{tables, graph-in}
+use Rattle.mesh.proofs.ListLaws.{In, in-cases, count-all}
+use Rattle.mesh.proofs.LevelCut.{mids, highs}
+use Rattle.mesh.proofs.LinkMoves.{bound}
+use Rattle.mesh.proofs.LinkCall as link-call
+use Rattle.mesh.proofs.Peel.{Peels, Peeling, takes-permutation, takes-taken-in, takes-now-in}
+use Rattle.links.specs.Plans.{Ready, Planned, changed-part}
+use Rattle.links.specs.Peels.{stretch, above, level-start, level-size, linked-after, Peel-done}
+use Rattle.links.proofs.StretchLoops.{length-stretch}
+use Rattle.links.proofs.LevelLaws.{getD-in}
+use Rattle.links.proofs.PlanLevel.{is-valid, start-is, size-is, stretch-is, above-is, stretch-fits, stretch-number}
+
+module _ {u : Bool} {a b : ℕ} {ts ns os ps cs : List ℕ} (r : Ready u (length os) a b (tables ts ns os) ps cs) where
+  abbrev n : ℕ
+  n = length os
+
+  abbrev g : Graph
+  g = graph-in n ts
+
+  abbrev after : Graph
+  after = relinked u a b g
+
+  abbrev K : ℕ
+  K = lower-level g a b
+
+  abbrev start : ℕ
+  start = level-start ns K
+
+  abbrev size : ℕ
+  size = level-size ns K
+
+  abbrev level : List ℕ
+  level = stretch os start size
+
+  module _ (taken : ℕ) (cs1 list1 list2 : List ℕ) (done : Peel-done u a b K (bound u K) ts ns os taken cs1 list1) (room : n ≤ length list1)
+      (written : list2 ≡ sets list1 taken (filter (λ v. ltb (bound u K) (getD cs1 v 0)) level)) where
+    abbrev first : List ℕ
+    first = take taken list1
+
+    abbrev stuck : List ℕ
+    stuck = filter (λ v. ltb (bound u K) (getD cs1 v 0)) level
+
+    peel : Peeling (linked after) (bound u K) (highs (number g) K os) (mids (number g) K os)
+    peel = record {
+      taken = first;
+      stuck = stuck;
+      peels = subst (λ (z : List ℕ). Peels (linked after) (bound u K) z (mids (number g) K os) first stuck) (above-is r K)
+          (subst (λ (z : List ℕ). Peels (linked after) (bound u K) (above os start size) z first stuck) (stretch-is r K) (done .peels));
+    }
+
+    first-length : length first ≡ taken
+    first-length = length-take-le taken list1 (omega (arith, done .fits, stretch-fits r K))
+
+    both-length : length (first ++ stuck) ≡ size
+    both-length =
+        omega (
+          arith,
+          takes-permutation (linked after) (bound u K) (above os start size) (done .peels .takes) (λ x. true),
+          count-all level,
+          count-all (first ++ stuck),
+          length-stretch os start size (stretch-fits r K),
+        )
+
+    front : take size list2 ≡ first ++ stuck
+    front =
+        ap (take size) (written ∙ sets-eq stuck list1 taken (omega (arith, both-length, length-append first stuck, first-length, stretch-fits r K)))
+        ∙ take-at (first ++ stuck) (drop (taken + length stuck) list1) size both-length
+
+    front-taken : take taken list2 ≡ first
+    front-taken = sym (take-take taken size list2 (done .fits)) ∙ ap (take taken) front ∙ take-at first stuck taken first-length
+
+    front-stuck : drop taken (take size list2) ≡ stuck
+    front-stuck = ap (drop taken) front ∙ drop-at first stuck taken first-length
+
+    part-is : (w : Bool) → cond w stuck first ≡ cond w (drop taken (take size list2)) (take taken list2)
+    part-is true = sym front-stuck
+    part-is false = sym front-taken
+
+    front-in : (v : ℕ) → In v (first ++ stuck) → v < n
+    front-in v i = go (in-cases v first stuck i)
+      where
+        go : In v first ⊎ In v stuck → v < n
+        go (inl m) = stretch-number r K v (takes-taken-in (linked after) (bound u K) (above os start size) (done .peels .takes) v m) .0
+        go (inr m) = stretch-number r K v (takes-now-in (linked after) (bound u K) (above os start size) (done .peels .takes) v m) .0
+
+    long-list : n ≤ length list2
+    long-list = omega (arith, room, ap length written, length-sets list1 taken stuck)
+
+    plan-at : Planned u a b g os start size taken list2
+    unfolding changed-part graph-in peel
+    plan-at = record {
+      start-is = start-is r K;
+      size-is = size-is r K;
+      fits = stretch-fits r K;
+      long = omega (arith, stretch-fits r K, long-list);
+      taken-fits = done .fits;
+      laid = front
+          ∙ sym (link-call.new-stretch-is max-neighbours u a b g os (is-valid r) (r .allowed) peel)
+          ∙ sym (ap₂ (λ (xs ys : List ℕ). new-stretch u after K (changed u a b g) xs ys) (stretch-is r K) (above-is r K));
+      changed-is = λ v l. link-call.changed-part max-neighbours u a b g os (is-valid r) (r .allowed) peel v l ∙ ap (member v) (part-is u);
+      radios = λ i l. rw (sym (getD-take size list2 i 0 l) ∙ ap (λ (xs : List ℕ). getD xs i 0) front) (front-in (getD (first ++ stuck) i 0) (getD-in (first ++ stuck) i (omega (arith, both-length))));
+    }
+
+  -- as the code names its values
+  pub plan-end : (w : Bool) (x y k m from many taken : ℕ) (cs1 list1 list2 : List ℕ) → w ≡ u → x ≡ a → y ≡ b → k ≡ K → m ≡ bound u K
+      → from ≡ level-start ns k → many ≡ level-size ns k → Peel-done w x y k m ts ns os taken cs1 list1 → n ≤ length list1
+      → list2 ≡ sets list1 taken (filter (λ v. ltb m (getD cs1 v 0)) (stretch os from many)) → Planned u a b g os from many taken list2
+  plan-end w x y k m from many taken cs1 list1 list2 ew ex ey ek em es ez done room written =
+      let fs : from ≡ start = es ∙ ap (level-start ns) ek in
+      let fz : many ≡ size = ez ∙ ap (level-size ns) ek in
+      rw (fs, fz) (plan-at taken cs1 list1 list2 (rw (ew, ex, ey, em, ek) at done) room (rw (fs, fz, em) at written))

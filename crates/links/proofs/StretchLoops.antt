@@ -1,0 +1,93 @@
+-- The loops over a level's stretch, as invariants over what is left of their lists.
+-- In order: numbers counted below a level and at it; the radios of the stretch that a test passes, listed.
+use mathlib.Core.Path.{_≡_, refl, sym, ap, _∙_}
+use mathlib.Core.Bool.{Bool, true, false, cond}
+use mathlib.Core.List.{List, [], _∷_}
+use Prim.Native.Nat.{ℕ, _+_, _-_, _^_, _≤_, _<_}
+use native.Mathlib.Omega.{arith}
+use native.Mathlib.Numerals.{add-one}
+use lib.Dec.{ltb, eqb}
+use mir.Syntax.{w64}
+use mir.Val.{boolByte, Fits}
+use lib.ListN.{length, getD, set, take, drop, length-drop, length-set}
+use lib.Seq.{sets, drop-cons, drop-length, getD-take, getD-drop, length-take-le}
+use Rattle.mesh.specs.Lists.{count, filter}
+use Rattle.mesh.proofs.BoolLaws.{bit-one}
+use Rattle.links.specs.Peels.{stretch}
+
+-- ---- numbers counted
+
+-- from place i on is left
+abbrev pub Counted-from : (f : ℕ → Bool) → (xs : List ℕ) → (n i : ℕ) → Type 0
+Counted-from f xs n i = (n ≤ i) × (n + count f (drop i xs) ≡ count f xs)
+
+byte-bit : (t : Bool) → boolByte t ≡ cond {A = ℕ} t 1 0
+byte-bit true = refl
+byte-bit false = refl
+
+-- the count stays below what a length can be
+pub counted-fits : (n i : ℕ) (t : Bool) → n ≤ i → i + 1 < 2 ^ 64 → Fits w64 (n + boolByte t)
+counted-fits n i t h l = record { fits = omega (arith, byte-bit t, bit-one t) }
+
+pub counted-turn : (f : ℕ → Bool) (xs : List ℕ) (n i : ℕ) → i < length xs → Counted-from f xs n i → Counted-from f xs (n + boolByte (f (getD xs i 0))) (i + 1)
+unfolding count
+counted-turn f xs n i l h = (
+  omega (arith, h .0, bit-one (f (getD xs i 0)), byte-bit (f (getD xs i 0))),
+  omega (arith, h .1, byte-bit (f (getD xs i 0)), ap (count f) (drop-cons xs i 0 l), ap (λ (k : ℕ). count f (drop k xs)) (add-one i)),
+)
+
+pub counted-end : (f : ℕ → Bool) (xs : List ℕ) (n i : ℕ) → i ≡ length xs → Counted-from f xs n i → n ≡ count f xs
+unfolding count
+counted-end f xs n i e h = omega (arith, h .1, ap (count f) (ap (λ (k : ℕ). drop k xs) e ∙ drop-length xs))
+
+-- ---- radios listed
+
+pub length-stretch : (os : List ℕ) (start size : ℕ) → start + size ≤ length os → length (stretch os start size) ≡ size
+length-stretch os start size h = length-take-le size (drop start os) (omega (arith, length-drop start os))
+
+pub getD-stretch : (os : List ℕ) (start size i : ℕ) → i < size → getD (stretch os start size) i 0 ≡ getD os (start + i) 0
+getD-stretch os start size i h = getD-take size (drop start os) i 0 h ∙ getD-drop start os i 0
+
+-- the entries of the stretch from place i on that the test passes are left to list
+pub record Stretch-listed (f : ℕ → Bool) (order : List ℕ) (start size taken : ℕ) (old list : List ℕ) (at i : ℕ) : Type 0 where
+  pub low : i ≤ size
+  pub few : at ≤ taken + i
+  pub long : length list ≡ length old
+  pub rest : sets list at (filter f (drop i (stretch order start size))) ≡ sets old taken (filter f (stretch order start size))
+
+module _ (f : ℕ → Bool) (os : List ℕ) (start size taken : ℕ) (old : List ℕ) where
+  pub stretch-none : Stretch-listed f os start size taken old old taken 0
+  stretch-none = record { low = omega arith; few = omega arith; long = refl; rest = refl }
+
+  module _ (fits : start + size ≤ length os) (list : List ℕ) (at i : ℕ) (l : i < size) (h : Stretch-listed f os start size taken old list at i)
+      (new : List ℕ) (to : ℕ) where
+    next : drop i (stretch os start size) ≡ getD os (start + i) 0 ∷ drop (i + 1) (stretch os start size)
+    next =
+        drop-cons (stretch os start size) i 0 (omega (arith, length-stretch os start size fits))
+        ∙ rw (getD-stretch os start size i l, add-one i)
+
+    pub stretch-passed : f (getD os (start + i) 0) ≡ true → new ≡ set list at (getD os (start + i) 0) → to ≡ at + 1
+        → Stretch-listed f os start size taken old new to (i + 1)
+    unfolding filter
+    stretch-passed e d k =
+        let cut : filter f (drop i (stretch os start size)) ≡ getD os (start + i) 0 ∷ filter f (drop (i + 1) (stretch os start size)) = ap (filter f) next ∙ rw e in
+        record {
+          low = omega arith;
+          few = omega (arith, h .few);
+          long = ap length d ∙ length-set list at (getD os (start + i) 0) ∙ h .long;
+          rest = rw (d, k, add-one at) (rw cut at (h .rest));
+        }
+
+    pub stretch-failed : f (getD os (start + i) 0) ≡ false → new ≡ list → to ≡ at → Stretch-listed f os start size taken old new to (i + 1)
+    unfolding filter
+    stretch-failed e d k =
+        let cut : filter f (drop i (stretch os start size)) ≡ filter f (drop (i + 1) (stretch os start size)) = ap (filter f) next ∙ rw e in
+        record { low = omega arith; few = omega (arith, h .few); long = ap length d ∙ h .long; rest = rw (d, k) (rw cut at (h .rest)) }
+
+  pub stretch-end : start + size ≤ length os → (list : List ℕ) (at i : ℕ) → size ≤ i → Stretch-listed f os start size taken old list at i
+      → list ≡ sets old taken (filter f (stretch os start size))
+  unfolding filter
+  stretch-end fits list at i l h =
+      let all : i ≡ length (stretch os start size) = omega (arith, h .low, length-stretch os start size fits) in
+      let none = ap (filter f) (ap (λ (k : ℕ). drop k (stretch os start size)) all ∙ drop-length (stretch os start size)) in
+      rw none at (h .rest)

@@ -1,0 +1,163 @@
+-- What releasing listed radios comes to: each radio of the level that is listed has a counter one less, and its place is marked
+-- if that counter is then the bound; no other place of the level changes.
+use mathlib.Core.Path.{_≡_, refl, sym, ap, _∙_}
+use mathlib.Core.Logic.{_⊎_, inl, inr}
+use mathlib.Core.Bool.{Bool, true, false, _&&_, _||_, cond, or-true, or-false, and-false}
+use mathlib.Core.List.{List, [], _∷_}
+use Prim.Native.Nat.{ℕ, _+_, _-_, _≤_, _<_}
+use native.Mathlib.Omega.{arith}
+use lib.Dec.{leb, eqb}
+use lib.ListN.{length, getD, set}
+use lib.Seq.{getD-set-same, getD-set-other}
+use borrow.Author.Tests.{eqb-true, eqb-false, eq-eqb, ne-eqb}
+use Rattle.mesh.specs.Limits.{max-radios, row-bytes}
+use Rattle.mesh.specs.Lists.{member}
+use Rattle.mesh.specs.Tables.{byte-at, marked, put-bit}
+use Rattle.mesh.proofs.BoolLaws.{bool-cases, never, and-left, and-right}
+use Rattle.mesh.proofs.ListLaws.{In, not-member}
+use Rattle.mesh.proofs.TableLaws.{marked-put-bit}
+use Rattle.links.specs.Turns.{counter-less, released, place-marked, places-released, Releasable}
+use Rattle.links.proofs.TurnLoops.{length-counter-less, length-place-marked, releasable-tail}
+
+-- ---- laws of one row: bit p of a row of its own
+
+pub marked-put : (on : Bool) (p q : ℕ) (fs : List ℕ) → length fs ≡ row-bytes → p < max-radios → q < max-radios
+    → marked (put-bit on 0 p fs) 0 q ≡ cond (eqb p q) on (marked fs 0 q)
+unfolding byte-at
+marked-put on p q fs e lp lq = marked-put-bit on 0 p fs 0 q lp lq (omega arith)
+
+-- ---- counters
+
+module _ (ns : List ℕ) (k : ℕ) where
+  -- listed, and of the level
+  abbrev bit : (near : List ℕ) → (w : ℕ) → ℕ
+  bit vs w = cond (member w vs && eqb (getD ns w 0) k) 1 0
+
+  counter-same : (v : ℕ) (cs : List ℕ) → v < length cs → getD ns v 0 ≡ k → getD (counter-less ns k v cs) v 0 ≡ getD cs v 0 - 1
+  unfolding counter-less
+  counter-same v cs l e = rw (eq-eqb (getD ns v 0) k e) (getD-set-same cs v (getD cs v 0 - 1) 0 l)
+
+  counter-kept : (v w : ℕ) (cs : List ℕ) → (w ≡ v → ⊥) ⊎ (getD ns v 0 ≡ k → ⊥) → getD (counter-less ns k v cs) w 0 ≡ getD cs w 0
+  unfolding counter-less
+  counter-kept v w cs (inr ne) = rw (ne-eqb (getD ns v 0) k ne)
+  counter-kept v w cs (inl ne) = go (bool-cases (eqb (getD ns v 0) k))
+    where
+      go : (eqb (getD ns v 0) k ≡ true) ⊎ (eqb (getD ns v 0) k ≡ false)
+          → getD (cond (eqb (getD ns v 0) k) (set cs v (getD cs v 0 - 1)) cs) w 0 ≡ getD cs w 0
+      go (inl e) = rw e (getD-set-other cs v w (getD cs v 0 - 1) 0 ne)
+      go (inr e) = rw e
+
+  pub getD-released : (ps near cs : List ℕ) → Releasable ns ps k near cs → (w : ℕ) → getD (released ns k near cs) w 0 + bit near w ≡ getD cs w 0
+  unfolding released member
+  getD-released ps [] cs h w = omega arith
+  getD-released ps (v ∷ vs) cs h w =
+      let rec = getD-released ps vs (counter-less ns k v cs) (releasable-tail ns ps k v vs cs h) w in
+      go rec (bool-cases (eqb v w)) (bool-cases (eqb (getD ns w 0) k))
+    where
+      go : getD (released ns k vs (counter-less ns k v cs)) w 0 + bit vs w ≡ getD (counter-less ns k v cs) w 0
+          → (eqb v w ≡ true) ⊎ (eqb v w ≡ false) → (eqb (getD ns w 0) k ≡ true) ⊎ (eqb (getD ns w 0) k ≡ false)
+          → getD (released ns k vs (counter-less ns k v cs)) w 0 + bit (v ∷ vs) w ≡ getD cs w 0
+      go rec (inr ne) q =
+          rw ne (rec ∙ counter-kept v w cs (inl (λ e. eqb-false v w ne (sym e))))
+      go rec (inl e) (inr q) =
+          let same = eqb-true v w e in
+          rw (e, q) (let zero-bit : getD (released ns k vs (counter-less ns k v cs)) w 0 + 0 ≡ getD (counter-less ns k v cs) w 0 = ap (λ (x : ℕ). getD (released ns k vs (counter-less ns k v cs)) w 0 + x) (sym (none q (member w vs))) ∙ rec in
+          zero-bit ∙ counter-kept v w cs (inr (rw same (eqb-false (getD ns w 0) k q))))
+        where
+          none : eqb (getD ns w 0) k ≡ false → (t : Bool) → cond {A = ℕ} (t && eqb (getD ns w 0) k) 1 0 ≡ 0
+          none e true = rw e
+          none e false = refl
+      go rec (inl e) (inl q) =
+          let same = eqb-true v w e in
+          let at-level : getD ns v 0 ≡ k = rw same (eqb-true (getD ns w 0) k q) in
+          let out : member w vs ≡ false = not-member w vs (rw same at (h .once .0)) in
+          let rest : getD (released ns k vs (counter-less ns k v cs)) w 0 + 0 ≡ getD (counter-less ns k v cs) w 0 = rw out at rec in
+          let less = counter-same v cs (h .known v (inl refl) .2) at-level in
+          rw (e, q) (omega (
+            arith,
+            rest,
+            less,
+            ap (λ (x : ℕ). getD (counter-less ns k v cs) x 0) same,
+            ap (λ (x : ℕ). getD cs x 0) same,
+            h .above-zero v (inl refl) at-level,
+          ))
+
+-- ---- places
+
+module _ (ns ps : List ℕ) (k m : ℕ) (small : (v : ℕ) → v < length ns → getD ns v 0 ≡ k → getD ps v 0 < max-radios) where
+  -- a mark more is the place of a radio of the level
+  pub marked-released : (near cs fs : List ℕ) → length fs ≡ row-bytes → Releasable ns ps k near cs → (q : ℕ) → q < max-radios
+      → marked (places-released ns ps k m near cs fs) 0 q ≡ true
+      → (marked fs 0 q ≡ true) ⊎ ((w : ℕ) × (w < length ns) × (getD ns w 0 ≡ k) × (getD ps w 0 ≡ q))
+  unfolding places-released place-marked
+  marked-released [] cs fs e h q lq t = inl t
+  marked-released (v ∷ vs) cs fs e h q lq t =
+      let less = counter-less ns k v cs in
+      one (marked-released vs less (place-marked ns ps k m v less fs) (length-place-marked ns ps k m v less fs ∙ e) (releasable-tail ns ps k v vs cs h) q lq t)
+      (bool-cases (eqb (getD ns v 0) k && eqb (getD less v 0) m))
+    where
+      test : Bool
+      test = eqb (getD ns v 0) k && eqb (getD (counter-less ns k v cs) v 0) m
+
+      put : test ≡ true → marked (put-bit true 0 (getD ps v 0) fs) 0 q ≡ true → (eqb (getD ps v 0) q ≡ true) ⊎ (eqb (getD ps v 0) q ≡ false)
+          → (marked fs 0 q ≡ true) ⊎ ((w : ℕ) × (w < length ns) × (getD ns w 0 ≡ k) × (getD ps w 0 ≡ q))
+      put p u (inl s) =
+          let at-level = eqb-true (getD ns v 0) k (and-left (eqb (getD ns v 0) k) (eqb (getD (counter-less ns k v cs) v 0) m) p) in
+          inr (v, h .known v (inl refl) .0, at-level, eqb-true (getD ps v 0) q s)
+      put p u (inr s) =
+          let at-level = eqb-true (getD ns v 0) k (and-left (eqb (getD ns v 0) k) (eqb (getD (counter-less ns k v cs) v 0) m) p) in
+          inl (ap (λ (b : Bool). cond b true (marked fs 0 q)) (sym s) ∙ sym (marked-put true (getD ps v 0) q fs e (small v (h .known v (inl refl) .0) at-level) lq) ∙ u)
+
+      one : (marked (place-marked ns ps k m v (counter-less ns k v cs) fs) 0 q ≡ true) ⊎ ((w : ℕ) × (w < length ns) × (getD ns w 0 ≡ k) × (getD ps w 0 ≡ q))
+          → (test ≡ true) ⊎ (test ≡ false)
+          → (marked fs 0 q ≡ true) ⊎ ((w : ℕ) × (w < length ns) × (getD ns w 0 ≡ k) × (getD ps w 0 ≡ q))
+      one (inr r) s = inr r
+      one (inl u) (inr s) = inl (rw s at u)
+      one (inl u) (inl s) = put s (rw s at u) (bool-cases (eqb (getD ps v 0) q))
+
+  module _ (apart : (v w : ℕ) → v < length ns → w < length ns → getD ns v 0 ≡ k → getD ns w 0 ≡ k → getD ps v 0 ≡ getD ps w 0 → v ≡ w) where
+    -- the mark of a radio of the level
+    pub marked-released-place : (near cs fs : List ℕ) → length fs ≡ row-bytes → Releasable ns ps k near cs → (w : ℕ) → w < length ns → getD ns w 0 ≡ k
+        → marked (places-released ns ps k m near cs fs) 0 (getD ps w 0)
+        ≡ (marked fs 0 (getD ps w 0) || (member w near && eqb (getD (released ns k near cs) w 0) m))
+    unfolding places-released released place-marked member
+    marked-released-place [] cs fs e h w lw kw = sym (or-false (marked fs 0 (getD ps w 0)))
+    marked-released-place (v ∷ vs) cs fs e h w lw kw =
+        let less = counter-less ns k v cs in
+        marked-released-place vs less (place-marked ns ps k m v less fs) (length-place-marked ns ps k m v less fs ∙ e) (releasable-tail ns ps k v vs cs h) w lw kw
+        ∙ go (bool-cases (eqb v w))
+      where
+        less : List ℕ
+        less = counter-less ns k v cs
+
+        end : List ℕ
+        end = released ns k vs less
+
+        here : v ≡ w → (t : Bool) → eqb (getD less v 0) m ≡ t
+            → marked (cond (eqb (getD ns v 0) k && t) (put-bit true 0 (getD ps v 0) fs) fs) 0 (getD ps w 0) ≡ (marked fs 0 (getD ps w 0) || t)
+        here s true q =
+            rw (eq-eqb (getD ns v 0) k (rw s kw), s)
+            (marked-put true (getD ps w 0) (getD ps w 0) fs e (small w lw kw) (small w lw kw) ∙ rw (eq-eqb (getD ps w 0) (getD ps w 0) refl) (sym (or-true (marked fs 0 (getD ps w 0)))))
+        here s false q = rw (and-false (eqb (getD ns v 0) k)) (sym (or-false (marked fs 0 (getD ps w 0))))
+
+        elsewhere : (v ≡ w → ⊥) → (t : Bool) → (eqb (getD ns v 0) k && eqb (getD less v 0) m) ≡ t
+            → marked (cond t (put-bit true 0 (getD ps v 0) fs) fs) 0 (getD ps w 0) ≡ marked fs 0 (getD ps w 0)
+        elsewhere ne true q =
+            let kv = eqb-true (getD ns v 0) k (and-left (eqb (getD ns v 0) k) (eqb (getD less v 0) m) q) in
+            let lv = h .known v (inl refl) .0 in
+            marked-put true (getD ps v 0) (getD ps w 0) fs e (small v lv kv) (small w lw kw)
+            ∙ rw (ne-eqb (getD ps v 0) (getD ps w 0) (λ s. ne (apart v w lv lw kv kw s)))
+        elsewhere ne false q = refl
+
+        go : (eqb v w ≡ true) ⊎ (eqb v w ≡ false)
+            → (marked (place-marked ns ps k m v less fs) 0 (getD ps w 0) || (member w vs && eqb (getD end w 0) m))
+            ≡ (marked fs 0 (getD ps w 0) || ((eqb v w || member w vs) && eqb (getD end w 0) m))
+        go (inr s) =
+            rw (s, elsewhere (eqb-false v w s) (eqb (getD ns v 0) k && eqb (getD less v 0) m) refl)
+        go (inl s) =
+            let same = eqb-true v w s in
+            let out : member w vs ≡ false = not-member w vs (rw same at (h .once .0)) in
+            let kept : getD end w 0 ≡ getD less v 0 =
+            (let r = getD-released ns k ps vs less (releasable-tail ns ps k v vs cs h) w in
+            omega (arith, rw out at r, ap (λ (x : ℕ). getD less x 0) same)) in
+            rw (s, out, kept) (or-false (marked (place-marked ns ps k m v less fs) 0 (getD ps w 0)) ∙ here same (eqb (getD less v 0) m) refl)

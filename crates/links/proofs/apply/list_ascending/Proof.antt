@@ -1,0 +1,48 @@
+-- `apply::list_ascending` meets its contract: the radios marked in an empty row are listed by it, ascending.
+use mathlib.Core.Path.{refl, ap, _∙_}
+use mathlib.Core.List.{List}
+use Prim.Native.Nat.{ℕ}
+use lib.ListN.{length, take}
+use Rattle.mesh.specs.Lists.{overwrite}
+use Rattle.tables.specs.Rows.{row-listed}
+use Rattle.links.proofs.Marking.{row-listed-all-marked}
+use borrow.Author.Needs.{needs}
+use Rattle.links.proofs.apply.list_ascending.Statement.{statement}
+use Rattle.links.proofs.apply.list_ascending.Tie as tie
+
+slice-aggregate-mark-all : tie.Need-slice-aggregate-mark-all
+slice-aggregate-mark-all c = search needs
+
+mark-all-requires : tie.Need-mark-all-requires
+mark-all-requires c κs = search needs
+
+slice-aggregate-row-neighbours : tie.Need-slice-aggregate-row-neighbours
+slice-aggregate-row-neighbours c = search needs
+
+row-neighbours-requires : tie.Need-row-neighbours-requires
+row-neighbours-requires c κs = search needs
+
+same-length : tie.Need-same-length
+same-length c = search needs
+
+returns : tie.Need-returns
+returns c =
+    let listed = c .before .before in
+    let marking = c .before .before .before .before .before .before in
+    let s = marking .before .before .before .before in
+    let answer = s .args .answer .now in
+    let is = ap (λ (row : List ℕ). row-listed row 0) (marking .mark-all .ensures) ∙ row-listed-all-marked (s .args .list .now) _ refl (s .pre) in (
+      listed .row-neighbours .ensures .0 ∙ ap length is,
+      listed .row-neighbours .ensures .1 ∙ ap (λ (xs : List ℕ). overwrite (take (length answer) xs) answer) is,
+    )
+
+pub list-ascending-spec : {M : Type 1} → statement M
+list-ascending-spec =
+    tie.close
+    (tie.spec
+    slice-aggregate-mark-all
+    mark-all-requires
+    slice-aggregate-row-neighbours
+    row-neighbours-requires
+    same-length
+    returns)

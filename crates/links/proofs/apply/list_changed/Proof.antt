@@ -1,0 +1,85 @@
+-- `apply::list_changed` meets its contract: the part of the stretch that it lists is the plan's, going up and going down.
+use mathlib.Core.Path.{sym, ap, subst, _∙_}
+use mathlib.Core.List.{List}
+use Prim.Native.Nat.{ℕ}
+use native.Mathlib.Nat.{le-trans}
+use lib.ListN.{length, take}
+use lib.Seq.{length-take-le}
+use Rattle.mesh.specs.Limits.{max-radios}
+use Rattle.mesh.specs.Lists.{overwrite}
+use Rattle.soundness.specs.Checks.{Entries-below}
+use Rattle.links.specs.Changes.{in-order}
+use Rattle.links.proofs.ChangeLaws.{changed-part-up, changed-part-down}
+use borrow.Author.Needs.{needs}
+use Rattle.links.proofs.apply.list_changed.Statement.{statement}
+use Rattle.links.proofs.apply.list_changed.Tie as tie
+
+mul-list-ascending : tie.Need-mul-list-ascending
+mul-list-ascending c = search needs
+
+sub-list-ascending : tie.Need-sub-list-ascending
+sub-list-ascending c = search needs
+
+part-list-ascending-start : tie.Need-part-list-ascending-start
+part-list-ascending-start c = search needs
+
+part-list-ascending-end : tie.Need-part-list-ascending-end
+part-list-ascending-end c = search needs
+
+list-ascending-requires : tie.Need-list-ascending-requires
+list-ascending-requires c κs =
+    let s = c .before .before .before .before .before in
+    let is = changed-part-up (s .args .up) (s .args .taken) (s .args .size) (s .args .stretch .now) (c .before .before .if1 .taken) in
+    subst (Entries-below max-radios) is (s .pre .2)
+
+same-length : tie.Need-same-length
+same-length c = search needs
+
+returns : tie.Need-returns
+returns c =
+    let s = c .before .before .before .before .before .before .before .before in
+    let listed = c .before .before .list-ascending .ensures in
+    let answer = s .args .answer .now in
+    let is = sym (changed-part-up (s .args .up) (s .args .taken) (s .args .size) (s .args .stretch .now) (c .before .before .before .before .before .if1 .taken)) in (
+      listed .0 ∙ ap (λ (xs : List ℕ). length (in-order xs)) is,
+      listed .1 ∙ ap (λ (xs : List ℕ). overwrite (take (length answer) (in-order xs)) answer) is,
+    )
+
+slice-aggregate-list-ascending : tie.Need-slice-aggregate-list-ascending
+slice-aggregate-list-ascending c =
+    let s = c .before .before .before .before in sym (length-take-le (s .args .taken) (s .args .stretch .now) (le-trans (s .pre .0) (s .pre .1)))
+
+list-ascending-requires-2 : tie.Need-list-ascending-requires-2
+list-ascending-requires-2 c κs =
+    let s = c .before .before .before .before .before in
+    let is = changed-part-down (s .args .up) (s .args .taken) (s .args .size) (s .args .stretch .now) (c .before .before .if1 .left) in
+    subst (Entries-below max-radios) is (s .pre .2)
+
+same-length-2 : tie.Need-same-length-2
+same-length-2 c = search needs
+
+returns-2 : tie.Need-returns-2
+returns-2 c =
+    let s = c .before .before .before .before .before .before .before .before in
+    let listed = c .before .before .list-ascending2 .ensures in
+    let answer = s .args .answer .now in
+    let is = sym (changed-part-down (s .args .up) (s .args .taken) (s .args .size) (s .args .stretch .now) (c .before .before .before .before .before .if1 .left)) in (
+      listed .0 ∙ ap (λ (xs : List ℕ). length (in-order xs)) is,
+      listed .1 ∙ ap (λ (xs : List ℕ). overwrite (take (length answer) (in-order xs)) answer) is,
+    )
+
+pub list-changed-spec : {M : Type 1} → statement M
+list-changed-spec =
+    tie.close
+    (tie.spec
+    mul-list-ascending
+    sub-list-ascending
+    part-list-ascending-start
+    part-list-ascending-end
+    list-ascending-requires
+    same-length
+    returns
+    slice-aggregate-list-ascending
+    list-ascending-requires-2
+    same-length-2
+    returns-2)

@@ -1,0 +1,16 @@
+-- `apply::step_of` meets its contract: a count of 0, a way up, or a way down.
+use Rattle.links.proofs.ChangeLaws.{counted-step-none, counted-step-up, counted-step-down}
+use Rattle.links.proofs.apply.step_of.Statement.{statement}
+use Rattle.links.proofs.apply.step_of.Tie as tie
+
+returns : tie.Need-returns
+returns c = counted-step-none _ _ (c .if1 .taken)
+
+returns-2 : tie.Need-returns-2
+returns-2 c = counted-step-up _ _ (c .before .if1 .left) (c .if2 .taken)
+
+returns-3 : tie.Need-returns-3
+returns-3 c = counted-step-down _ _ (c .before .if1 .left) (c .if2 .left)
+
+pub step-of-spec : {M : Type 1} → statement M
+step-of-spec = tie.close (tie.spec returns returns-2 returns-3)

@@ -1,0 +1,10 @@
+-- What the parts of a link call come back with.
+pub mod Plans
+-- the questions
+pub mod Asked
+-- the turns of the peel
+pub mod Turns
+-- the peel of a level
+pub mod Peels
+-- a plan applied
+pub mod Changes

@@ -1,0 +1,51 @@
+-- A planned link call: what the lower end's stretch of the order becomes, and which radios change. Nothing is written yet.
+--   changed-part   the changed radios of a planned stretch: going up the ones after the taken, going down the taken
+--   Ready          what a plan is made from: sound tables, a call that is allowed, the places and the not-lower counts
+--   Planned        what a plan says
+-- Definitions only.
+use mathlib.Core.Path.{_≡_}
+use mathlib.Core.Bool.{Bool, true, cond}
+use mathlib.Core.List.{List}
+use Prim.Native.Nat.{ℕ, _+_, _*_, _≤_, _<_}
+use lib.Dec.{leb}
+use lib.ListN.{length, getD, take, drop}
+use Rattle.mesh.specs.Limits.{max-radios, max-neighbours, row-bytes}
+use Rattle.mesh.specs.Lists.{member}
+use Rattle.mesh.specs.Graph.{Graph, neighbours-in, relinked}
+use Rattle.mesh.specs.Cores.{number}
+use Rattle.mesh.specs.Levels.{changed, lower-level, stretch-start, stretch-length, new-stretch}
+use Rattle.mesh.specs.Tables.{Tables, graph-in}
+use Rattle.mesh.specs.Sound.{sound}
+use Rattle.mesh.proofs.Valid.{Allowed}
+
+unfoldable pub changed-part : (up : Bool) → (taken size : ℕ) → (stretch : List ℕ) → List ℕ
+changed-part up k m xs = cond up (drop k (take m xs)) (take k xs)
+
+-- places and highs are what the soundness check found: where each radio stands, and how many neighbours it has that are not below it
+pub record Ready (up : Bool) (n a b : ℕ) (t : Tables) (places highs : List ℕ) : Type 0 where
+  pub small : n ≤ max-radios
+  pub links-length : length (t .links) ≡ row-bytes * n
+  pub numbers-length : length (t .numbers) ≡ n
+  pub order-length : length (t .order) ≡ n
+  pub is-sound : sound n t ≡ true
+  pub allowed : Allowed max-neighbours up a b (graph-in n (t .links))
+  pub places-length : n ≤ length places
+  pub highs-length : n ≤ length highs
+  pub placed : (i : ℕ) → i < n → getD places (getD (t .order) i 0) 0 ≡ i
+  pub counted :
+      (v : ℕ) → v < n →
+      getD highs v 0
+      ≡ neighbours-in (graph-in n (t .links)) v (λ w. leb (number (graph-in n (t .links)) v) (number (graph-in n (t .links)) w))
+
+-- the first `size` entries of `stretch` are the stretch laid out anew; the first `taken` of them were taken by the peel
+pub record Planned (up : Bool) (a b : ℕ) (g : Graph) (order : List ℕ) (start size taken : ℕ) (stretch : List ℕ) : Type 0 where
+  pub start-is : start ≡ stretch-start g (lower-level g a b)
+  pub size-is : size ≡ stretch-length g (lower-level g a b)
+  pub fits : start + size ≤ g .n
+  pub long : size ≤ length stretch
+  pub taken-fits : taken ≤ size
+  pub laid :
+      take size stretch
+      ≡ new-stretch up (relinked up a b g) (lower-level g a b) (changed up a b g) (take size (drop start order)) (drop (start + size) order)
+  pub changed-is : (v : ℕ) → v < g .n → member v (changed up a b g) ≡ member v (changed-part up taken size stretch)
+  pub radios : (i : ℕ) → i < size → getD stretch i 0 < g .n

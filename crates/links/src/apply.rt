@@ -1,0 +1,103 @@
+// A planned link call, written into the tables. Nothing is refused here: what a plan says fits.
+ghost use mathlib.Core.Path.{_≡_};
+ghost use Prim.Native.Nat.{_+_, _≤_};
+ghost use lib.ListN.{length, take};
+ghost use lib.Seq.{paste};
+ghost use Rattle.mesh.specs.Limits.{max-radios};
+ghost use Rattle.mesh.specs.Lists.{overwrite};
+ghost use Rattle.mesh.specs.Tables.{tables, graph-in};
+ghost use Rattle.calls.specs.Writes.{Link-accepted};
+ghost use Rattle.links.specs.Plans.{changed-part, Planned};
+ghost use Rattle.soundness.specs.Checks.{Entries-below};
+ghost use Rattle.links.specs.Changes.{all-marked, in-order, counted-step, Applicable};
+use super::plan::Plan;
+use calls::Reply;
+use mesh::Site;
+use tables::fill;
+use tables::rows;
+use tables::steps;
+
+// Sets the bit of each listed radio in the set, which is one row.
+fn mark_all(set: &mut [u8], list: &[u16])
+    ensures { λ _. ⌜ now (set .exit) ≡ all-marked (now (list .entry)) (now (set .entry)) ⌝ }
+{
+    let mut i: usize = 0;
+    while i < list.len() {
+        rows::put_bit(set, true, 0, list[i] as u32);
+        i += 1;
+    }
+}
+
+// Writes the listed radios into the answer table, ascending, and comes back with their count; later entries keep their content.
+fn list_ascending(list: &[u16], answer: &mut [u16]) -> u32
+    requires { ⌜ Entries-below max-radios (now list) ⌝ }
+    ensures counted { λ r. ⌜ r ≡ length (in-order (now (list .entry))) ⌝ }
+    ensures listed { λ _. ⌜ now (answer .exit) ≡ overwrite (take (length (now (answer .entry))) (in-order (now (list .entry)))) (now (answer .entry)) ⌝ }
+{
+    let mut set = [0u8; Site::ROW_BYTES];
+    mark_all(&mut set, list);
+    rows::row_neighbours(&set, 0, answer)
+}
+
+// The step of a call that changed so many radios: +1 going up, -1 going down, 0 when nothing changed.
+fn step_of(up: bool, count: u32) -> i8
+    ensures { λ r. ⌜ r ≡ counted-step up count ⌝ }
+{
+    if count == 0 {
+        return 0;
+    }
+    if up {
+        return 1;
+    }
+    -1
+}
+
+// The first `size` entries of the stretch stand in the order from `start` on after; the others keep their places.
+fn put_stretch(order: &mut [u16], start: usize, size: usize, stretch: &[u16])
+    requires { ⌜ (start + size ≤ length (now order)) × (size ≤ length (now stretch)) ⌝ }
+    ensures { λ _. ⌜ now (order .exit) ≡ paste (now (order .entry)) start (now (stretch .entry)) size ⌝ }
+{
+    fill::copy16(&mut order[start..start + size], &stretch[..size]);
+}
+
+// Writes the changed radios of a plan into the answer table, ascending, and comes back with their count; later entries keep
+// their content.
+fn list_changed(up: bool, taken: usize, size: usize, stretch: &[u16], answer: &mut [u16]) -> u32
+    requires { ⌜ (taken ≤ size) × (size ≤ length (now stretch)) × Entries-below max-radios (changed-part up taken size (now stretch)) ⌝ }
+    ensures counted { λ r. ⌜ r ≡ length (in-order (changed-part up taken size (now (stretch .entry)))) ⌝ }
+    ensures listed { λ _. ⌜ now (answer .exit) ≡ overwrite (take (length (now (answer .entry))) (in-order (changed-part up taken size (now (stretch .entry))))) (now (answer .entry)) ⌝ }
+{
+    if up {
+        return list_ascending(&stretch[taken..size], answer);
+    }
+    list_ascending(&stretch[..taken], answer)
+}
+
+// Writes a plan into the tables: the link, the changed numbers, the stretch. The answer table gets the changed radios,
+// ascending, and the reply tells their count and step.
+pub(crate) fn apply(
+    up: bool,
+    a: u32,
+    b: u32,
+    plan: Plan,
+    stretch: &[u16],
+    links: &mut [u8],
+    numbers: &mut [u8],
+    order: &mut [u16],
+    answer: &mut [u16],
+) -> Reply
+    requires call { ⌜ Applicable up (length (now order)) a b (tables (now links) (now numbers) (now order)) (now answer) ⌝ }
+    requires planned { ⌜ Planned up a b (graph-in (length (now order)) (now links)) (now order) (plan .start) (plan .size) (plan .taken) (now stretch) ⌝ }
+    ensures { λ r. ⌜ Link-accepted up a b (graph-in (length (now (order .entry))) (now (links .entry))) (tables (now (links .entry)) (now (numbers .entry)) (now (order .entry))) (now (answer .entry)) r (tables (now (links .exit)) (now (numbers .exit)) (now (order .exit))) (now (answer .exit)) ⌝ }
+{
+    rows::put_link(links, up, a, b);
+    let count = list_changed(up, plan.taken, plan.size, stretch, answer);
+    let step = step_of(up, count);
+    steps::step_numbers(numbers, answer, count, step);
+    put_stretch(order, plan.start, plan.size, stretch);
+    Reply {
+        number: 0,
+        step,
+        count,
+    }
+}

@@ -1,0 +1,154 @@
+// The plan of a link call: the lower end's stretch laid out anew by one peel, up and down alike. Nothing of the tables is written.
+ghost use mathlib.Core.Path.{_≡_};
+ghost use mathlib.Core.Bool.{false};
+ghost use Prim.Native.Nat.{ℕ, _≤_, _<_, _+_, min};
+ghost use lib.Dec.{ltb};
+ghost use lib.ListN.{length, getD, take};
+ghost use Rattle.mesh.specs.Lists.{range};
+ghost use Rattle.mesh.specs.Tables.{tables, graph-in};
+ghost use Rattle.mesh.proofs.LinkMoves.{bound};
+ghost use Rattle.links.specs.Turns.{places-fitting, ends-counted, Begin-ready};
+ghost use Rattle.links.specs.Peels.{Peel-ready, Peel-done};
+ghost use Rattle.links.specs.Plans.{Ready, Planned};
+use super::turn::Call;
+
+// The call at the lower end's level K: the peel takes radios with at most K neighbours going up, K - 1 going down.
+fn call_at(up: bool, a: u32, b: u32, numbers: &[u8]) -> Call
+    requires { ⌜ (a < length (now numbers)) × (b < length (now numbers)) × (up ≡ false → 1 ≤ min (getD (now numbers) a 0) (getD (now numbers) b 0)) ⌝ }
+    ensures { λ r. ⌜ (r .up ≡ up) × (r .a ≡ a) × (r .b ≡ b) × (r .level ≡ min (getD (now (numbers .entry)) a 0) (getD (now (numbers .entry)) b 0)) × (r .most ≡ bound up (min (getD (now (numbers .entry)) a 0) (getD (now (numbers .entry)) b 0))) ⌝ }
+{
+    let level = lower(numbers[a as usize], numbers[b as usize]);
+    if up {
+        return Call {
+            up,
+            a,
+            b,
+            level,
+            most: level,
+        };
+    }
+    Call {
+        up,
+        a,
+        b,
+        level,
+        most: level - 1,
+    }
+}
+
+// The smaller of two numbers.
+fn lower(x: u8, y: u8) -> u8
+    ensures { λ r. ⌜ r ≡ min x y ⌝ }
+{
+    if x < y { x } else { y }
+}
+
+// The counters of both ends are brought to the graph after the call, and the places that fit before the first turn are marked.
+fn begin(
+    call: Call,
+    start: usize,
+    size: usize,
+    numbers: &[u8],
+    order: &[u16],
+    counters: &mut [u8],
+    fits: &mut [u8],
+)
+    requires { ⌜ Begin-ready (call .up) (call .a) (call .b) (call .level) start size (now numbers) (now order) (now counters) ⌝ }
+    ensures counted { λ _. ⌜ now (counters .exit) ≡ ends-counted (call .up) (call .a) (call .b) (call .level) (now (numbers .entry)) (now (counters .entry)) ⌝ }
+    ensures marked { λ _. ⌜ now (fits .exit) ≡ places-fitting (now (order .entry)) (ends-counted (call .up) (call .a) (call .b) (call .level) (now (numbers .entry)) (now (counters .entry))) (call .most) (range start size) (now (fits .entry)) ⌝ }
+{
+    super::turn::count_end(call.up, call.level, call.a as usize, numbers, counters);
+    super::turn::count_end(call.up, call.level, call.b as usize, numbers, counters);
+    super::turn::mark_fitting(start, size, call.most, order, counters, fits);
+}
+
+// Takes radios of the level in turn, always the first of the stretch that has at most `most` neighbours among what is left and
+// above, until none fits. Writes them in front of the list and comes back with their count; later entries keep their content.
+// A stuck radio then has a counter above `most`, a taken one has not. Fitting places, the row and the list `near` are scratch.
+fn peel(
+    call: Call,
+    links: &[u8],
+    numbers: &[u8],
+    order: &[u16],
+    places: &[u16],
+    counters: &mut [u8],
+    fits: &mut [u8],
+    row: &mut [u8],
+    near: &mut [u16],
+    list: &mut [u16],
+) -> usize
+    requires { ⌜ Peel-ready (call .up) (call .a) (call .b) (call .level) (call .most) (now links) (now numbers) (now order) (now places) (now counters) (now fits) (length (now row)) (length (now near)) (length (now list)) ⌝ }
+    ensures { λ r. ⌜ Peel-done (call .up) (call .a) (call .b) (call .level) (call .most) (now (links .entry)) (now (numbers .entry)) (now (order .entry)) r (now (counters .exit)) (now (list .exit)) ⌝ }
+{
+    let mut taken: usize = 0;
+    let mut p = tables::rows::first_marked(fits, 0);
+    while p < mesh::Site::RADIOS {
+        let v = order[p as usize];
+        list[taken] = v;
+        taken += 1;
+        super::turn::take_radio(
+            call,
+            p,
+            v as u32,
+            links,
+            numbers,
+            places,
+            counters,
+            fits,
+            row,
+            near,
+        );
+        p = tables::rows::first_marked(fits, 0);
+    }
+    taken
+}
+
+// What a plan comes back with: where the stretch stands, how long it is, and how many of its radios the peel took.
+pub(crate) struct Plan {
+    pub(crate) start: usize,
+    pub(crate) size: usize,
+    pub(crate) taken: usize,
+}
+
+// Plans the link a-b going up or down: writes the lower end's stretch, laid out anew, in front of `stretch`; later entries and the
+// counters hold anything.
+pub(crate) fn plan_link(
+    up: bool,
+    a: u32,
+    b: u32,
+    links: &[u8],
+    numbers: &[u8],
+    order: &[u16],
+    places: &[u16],
+    highs: &mut [u8],
+    stretch: &mut [u16],
+) -> Plan
+    requires ready { ⌜ Ready up (length (now order)) a b (tables (now links) (now numbers) (now order)) (now places) (now highs) ⌝ }
+    requires room { ⌜ length (now order) ≤ length (now stretch) ⌝ }
+    ensures { λ r. ⌜ Planned up a b (graph-in (length (now (order .entry))) (now (links .entry))) (now (order .entry)) (r .start) (r .size) (r .taken) (now (stretch .exit)) ⌝ }
+{
+    let call = call_at(up, a, b, numbers);
+    let at = super::stretch::stretch_of(numbers, call.level);
+    let mut fits = [0u8; mesh::Site::ROW_BYTES];
+    begin(call, at.start, at.size, numbers, order, highs, &mut fits);
+    let mut row = [0u8; mesh::Site::ROW_BYTES];
+    let mut near = [0u16; mesh::Site::NEIGHBOURS as usize];
+    let taken = peel(
+        call,
+        links,
+        numbers,
+        order,
+        places,
+        highs,
+        &mut fits,
+        &mut row,
+        &mut near,
+        stretch,
+    );
+    super::stretch::list_stuck(at.start, at.size, call.most, taken, order, highs, stretch);
+    Plan {
+        start: at.start,
+        size: at.size,
+        taken,
+    }
+}

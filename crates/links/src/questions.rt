@@ -1,0 +1,75 @@
+// The questions of a link call, in turn. Nothing is written but the scratch that a plan is made from.
+ghost use mathlib.Core.Path.{_≡_};
+ghost use mathlib.Core.Bool.{true};
+ghost use Prim.Native.Nat.{_*_, _≤_};
+ghost use lib.ListN.{length};
+ghost use Rattle.mesh.specs.Limits.{max-radios, max-neighbours, row-bytes};
+ghost use Rattle.mesh.specs.Tables.{tables, graph-in};
+ghost use Rattle.mesh.specs.Sound.{rows-proper};
+ghost use Rattle.calls.specs.Questions.{ends-refusal};
+ghost use Rattle.links.specs.Asked.{Asked};
+use mesh::Site;
+use tables::rows;
+use tables::sizes;
+
+// The refusal number of questions 4 to 7, put in turn to proper rows: 4, 5, 6, 7, or 0 when none got "no".
+fn ends_refusal(up: bool, n: u32, a: u32, b: u32, links: &[u8]) -> u32
+    requires { ⌜ (n ≤ max-radios) × (length (now links) ≡ row-bytes * n) × (rows-proper max-neighbours n (now links) ≡ true) ⌝ }
+    ensures { λ r. ⌜ r ≡ ends-refusal max-neighbours up n a b (graph-in n (now (links .entry))) ⌝ }
+{
+    if n <= a {
+        return 4;
+    }
+    if n <= b {
+        return 4;
+    }
+    if a == b {
+        return 5;
+    }
+    if rows::is_marked(links, a, b) == up {
+        return 6;
+    }
+    if !up {
+        return 0;
+    }
+    if Site::NEIGHBOURS <= rows::row_degree(links, a) {
+        return 7;
+    }
+    if Site::NEIGHBOURS <= rows::row_degree(links, b) {
+        return 7;
+    }
+    0
+}
+
+// The refusal number of a link call: the first "no" of questions 1 to 7, or 0. At 0, `places` holds where each radio stands in
+// the order and `highs` how many of its neighbours have a number that is not below its own; else both hold anything.
+pub(crate) fn refusal(
+    up: bool,
+    n: u32,
+    a: u32,
+    b: u32,
+    links: &[u8],
+    numbers: &[u8],
+    order: &[u16],
+    answer: usize,
+    places: &mut [u16],
+    highs: &mut [u8],
+) -> u32
+    requires { ⌜ (max-radios ≤ length (now places)) × (max-radios ≤ length (now highs)) ⌝ }
+    ensures { λ r. ⌜ Asked up n a b (tables (now (links .entry)) (now (numbers .entry)) (now (order .entry))) answer (now (places .exit)) (now (highs .exit)) r ⌝ }
+{
+    let number = sizes::with_answer(
+        Site { radios: n },
+        links.len(),
+        numbers.len(),
+        order.len(),
+        answer,
+    );
+    if number != 0 {
+        return number;
+    }
+    if !soundness::examine(n, links, numbers, order, places, highs) {
+        return 3;
+    }
+    ends_refusal(up, n, a, b, links)
+}

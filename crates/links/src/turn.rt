@@ -1,0 +1,175 @@
+// One turn of the peel: a radio is taken, and its neighbours after the call have one neighbour less that can still be taken.
+ghost use mathlib.Core.Path.{_≡_};
+ghost use mathlib.Core.Bool.{false};
+ghost use Prim.Native.Nat.{ℕ, _≤_, _<_, _+_, _*_};
+ghost use lib.ListN.{length, getD, take};
+ghost use Rattle.mesh.specs.Limits.{max-radios, row-bytes};
+ghost use Rattle.mesh.specs.Lists.{range};
+ghost use Rattle.mesh.specs.Tables.{put-bit, put-link};
+ghost use Rattle.tables.specs.Rows.{neighbours-of};
+ghost use Rattle.links.specs.Turns.{end-counted, counter-less, released, place-marked, places-released, places-fitting, Releasable, Near-ready, Lists-neighbours};
+
+// The counter of v is one more going up and one less going down after, where v is of the level; the others keep theirs.
+pub(crate) fn count_end(up: bool, level: u8, v: usize, numbers: &[u8], counters: &mut [u8])
+    requires { ⌜ (v < length (now numbers)) × (v < length (now counters)) × (up ≡ false → getD (now numbers) v 0 ≡ level → 1 ≤ getD (now counters) v 0) × (getD (now counters) v 0 < 255) ⌝ }
+    ensures { λ _. ⌜ now (counters .exit) ≡ end-counted up level (now (numbers .entry)) v (now (counters .entry)) ⌝ }
+{
+    if numbers[v] == level {
+        if up {
+            counters[v] += 1;
+        } else {
+            counters[v] -= 1;
+        }
+    }
+}
+
+// Adds to the fitting places each of `size` places from `start` on whose radio has a counter of at most `most`.
+pub(crate) fn mark_fitting(
+    start: usize,
+    size: usize,
+    most: u8,
+    order: &[u16],
+    counters: &[u8],
+    fits: &mut [u8],
+)
+    requires { ⌜ (start + size ≤ length (now order)) × (start + size ≤ max-radios) × ((p : ℕ) → p < length (now order) → getD (now order) p 0 < length (now counters)) ⌝ }
+    ensures { λ _. ⌜ now (fits .exit) ≡ places-fitting (now (order .entry)) (now (counters .entry)) most (range start size) (now (fits .entry)) ⌝ }
+{
+    let mut p = start;
+    while p < start + size {
+        let v = order[p] as usize;
+        if counters[v] <= most {
+            tables::rows::put_bit(fits, true, 0, p as u32);
+        }
+        p += 1;
+    }
+}
+
+// Takes one off the counter of v, where v is of the level; its place fits if the counter is then `most`.
+fn release_one(
+    v: usize,
+    level: u8,
+    most: u8,
+    numbers: &[u8],
+    places: &[u16],
+    counters: &mut [u8],
+    fits: &mut [u8],
+)
+    requires { ⌜ (v < length (now numbers)) × (v < length (now places)) × (v < length (now counters)) × (getD (now numbers) v 0 ≡ level → 1 ≤ getD (now counters) v 0) ⌝ }
+    ensures counted { λ _. ⌜ now (counters .exit) ≡ counter-less (now (numbers .entry)) level v (now (counters .entry)) ⌝ }
+    ensures marked { λ _. ⌜ now (fits .exit) ≡ place-marked (now (numbers .entry)) (now (places .entry)) level most v (counter-less (now (numbers .entry)) level v (now (counters .entry))) (now (fits .entry)) ⌝ }
+{
+    if numbers[v] == level {
+        counters[v] -= 1;
+        if counters[v] == most {
+            tables::rows::put_bit(fits, true, 0, places[v] as u32);
+        }
+    }
+}
+
+// Does so for the first k listed radios.
+fn release(
+    near: &[u16],
+    k: usize,
+    level: u8,
+    most: u8,
+    numbers: &[u8],
+    places: &[u16],
+    counters: &mut [u8],
+    fits: &mut [u8],
+)
+    requires { ⌜ (k ≤ length (now near)) × Releasable (now numbers) (now places) level (take k (now near)) (now counters) ⌝ }
+    ensures counted { λ _. ⌜ now (counters .exit) ≡ released (now (numbers .entry)) level (take k (now (near .entry))) (now (counters .entry)) ⌝ }
+    ensures marked { λ _. ⌜ now (fits .exit) ≡ places-released (now (numbers .entry)) (now (places .entry)) level most (take k (now (near .entry))) (now (counters .entry)) (now (fits .entry)) ⌝ }
+{
+    let mut i: usize = 0;
+    while i < k {
+        release_one(
+            near[i] as usize,
+            level,
+            most,
+            numbers,
+            places,
+            counters,
+            fits,
+        );
+        i += 1;
+    }
+}
+
+// Writes the radios that row v marks, once its bit w is set or cleared, into the list, ascending, and comes back with their count.
+// The row is scratch.
+fn end_neighbours(up: bool, v: u32, w: u32, links: &[u8], row: &mut [u8], near: &mut [u16]) -> u32
+    requires { ⌜ (row-bytes * v + row-bytes ≤ length (now links)) × (length (now row) ≡ row-bytes) × (w < max-radios) × (length (neighbours-of (put-bit up v w (now links)) v) ≤ length (now near)) ⌝ }
+    ensures { λ r. ⌜ Lists-neighbours (put-bit up v w (now (links .entry))) v r (now (near .exit)) ⌝ }
+{
+    let start = mesh::Site::ROW_BYTES * v as usize;
+    let end = start + mesh::Site::ROW_BYTES;
+    tables::fill::copy8(row, &links[start..end]);
+    tables::rows::put_bit(row, up, 0, w);
+    tables::rows::row_neighbours(row, 0, near)
+}
+
+// Writes the neighbours that v has after the link a-b went up or down into the list, ascending, and comes back with their count.
+// The row is scratch.
+fn neighbours_after(
+    up: bool,
+    a: u32,
+    b: u32,
+    v: u32,
+    links: &[u8],
+    row: &mut [u8],
+    near: &mut [u16],
+) -> u32
+    requires { ⌜ Near-ready up a b v (now links) (length (now row)) (length (now near)) ⌝ }
+    ensures { λ r. ⌜ Lists-neighbours (put-link up a b (now (links .entry))) v r (now (near .exit)) ⌝ }
+{
+    if v == a {
+        return end_neighbours(up, v, b, links, row, near);
+    }
+    if v == b {
+        return end_neighbours(up, v, a, links, row, near);
+    }
+    tables::rows::row_neighbours(links, v, near)
+}
+
+// A link call at the lower end's level: the peel takes radios with at most `most` neighbours.
+pub(crate) struct Call {
+    pub(crate) up: bool,
+    pub(crate) a: u32,
+    pub(crate) b: u32,
+    pub(crate) level: u8,
+    pub(crate) most: u8,
+}
+
+// Takes the radio v at place p: the place fits no more, and the neighbours that v has after the call are released.
+// The row and the list `near` are scratch.
+pub(crate) fn take_radio(
+    call: Call,
+    p: u32,
+    v: u32,
+    links: &[u8],
+    numbers: &[u8],
+    places: &[u16],
+    counters: &mut [u8],
+    fits: &mut [u8],
+    row: &mut [u8],
+    near: &mut [u16],
+)
+    requires { ⌜ Near-ready (call .up) (call .a) (call .b) v (now links) (length (now row)) (length (now near)) × Releasable (now numbers) (now places) (call .level) (neighbours-of (put-link (call .up) (call .a) (call .b) (now links)) v) (now counters) ⌝ }
+    ensures counted { λ _. ⌜ now (counters .exit) ≡ released (now (numbers .entry)) (call .level) (neighbours-of (put-link (call .up) (call .a) (call .b) (now (links .entry))) v) (now (counters .entry)) ⌝ }
+    ensures marked { λ _. ⌜ now (fits .exit) ≡ places-released (now (numbers .entry)) (now (places .entry)) (call .level) (call .most) (neighbours-of (put-link (call .up) (call .a) (call .b) (now (links .entry))) v) (now (counters .entry)) (put-bit false 0 p (now (fits .entry))) ⌝ }
+{
+    tables::rows::put_bit(fits, false, 0, p);
+    let k = neighbours_after(call.up, call.a, call.b, v, links, row, near) as usize;
+    release(
+        near,
+        k,
+        call.level,
+        call.most,
+        numbers,
+        places,
+        counters,
+        fits,
+    );
+}
