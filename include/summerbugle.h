@@ -57,6 +57,13 @@ typedef struct {
     uint32_t value;
 } sb_value;
 
+/* The answer of a link call: refusal number, step (+1, -1, or 0 when nothing changed), count of changed radios. */
+typedef struct {
+    uint32_t number;
+    int8_t step;
+    uint32_t count;
+} sb_reply;
+
 /**
  * Clear a site: zero links, zero numbers, the order 0 to n - 1.
  *
@@ -76,6 +83,33 @@ sb_value sb_check(uint32_t n,
                   const uint8_t *links, size_t links_len,
                   const uint8_t *numbers, size_t numbers_len,
                   const uint16_t *order, size_t order_len);
+
+/**
+ * Take the link between a and b up.
+ *
+ * Changed radios are the ones whose core number rises, each by one. In the order only the stretch of the lower end's level
+ * is laid out anew.
+ *
+ * \return number 0, step +1 (or 0 when no number changed) and count: answer[0] to answer[count - 1] are the changed radios,
+ *         ascending; later entries keep theirs. Or a number from SB_SIZE to SB_NO_ROOM, step and count 0, and then every table
+ *         keeps its content.
+ */
+sb_reply sb_link_up(uint32_t n, uint32_t a, uint32_t b,
+                    uint8_t *links, size_t links_len,
+                    uint8_t *numbers, size_t numbers_len,
+                    uint16_t *order, size_t order_len,
+                    uint16_t *answer, size_t answer_len);
+
+/**
+ * Take the link between a and b down: as sb_link_up, with step -1 and numbers falling by one.
+ *
+ * Refused by SB_SIZE to SB_LINK_STATE.
+ */
+sb_reply sb_link_down(uint32_t n, uint32_t a, uint32_t b,
+                      uint8_t *links, size_t links_len,
+                      uint8_t *numbers, size_t numbers_len,
+                      uint16_t *order, size_t order_len,
+                      uint16_t *answer, size_t answer_len);
 
 #ifdef __cplusplus
 }

@@ -1,8 +1,10 @@
 // The public interface: the calls of the link engine, exported to C, and nothing else. Each is the call of the crate that has
 // it, under the same contract. No call has a `requires`.
+ghost use mathlib.Core.Bool.{true, false};
 ghost use Rattle.mesh.specs.Tables.{tables};
-ghost use Rattle.calls.specs.Writes.{Clear-contract};
+ghost use Rattle.calls.specs.Writes.{Clear-contract, Link-contract};
 ghost use Rattle.calls.specs.Answers.{Check-contract};
+use calls::Reply;
 use calls::Value;
 
 // Clears a site: zero links, zero numbers, the order 0 to n - 1. Refused by 1 and 2: then every table keeps its content.
@@ -24,4 +26,37 @@ pub extern "C" fn sb_check<'a>(
     ensures { λ r. ⌜ Check-contract n (tables (now (links .entry)) (now (numbers .entry)) (now (order .entry))) r ⌝ }
 {
     soundness::check(n, links, numbers, order)
+}
+
+// Takes the link between a and b up. Accepted: step +1, or 0 when no number changed, and the changed radios ascending in front
+// of the answer table, whose later entries keep their content. Refused by 1 to 7: zeros, and every table keeps its content.
+#[no_mangle]
+pub extern "C" fn sb_link_up(
+    n: u32,
+    a: u32,
+    b: u32,
+    links: &mut [u8],
+    numbers: &mut [u8],
+    order: &mut [u16],
+    answer: &mut [u16],
+) -> Reply
+    ensures { λ r. ⌜ Link-contract true n a b (tables (now (links .entry)) (now (numbers .entry)) (now (order .entry))) (now (answer .entry)) r (tables (now (links .exit)) (now (numbers .exit)) (now (order .exit))) (now (answer .exit)) ⌝ }
+{
+    links::link::link_up(n, a, b, links, numbers, order, answer)
+}
+
+// Takes the link between a and b down: as `sb_link_up`, with the step -1, or 0 when no number changed. Refused by 1 to 6.
+#[no_mangle]
+pub extern "C" fn sb_link_down(
+    n: u32,
+    a: u32,
+    b: u32,
+    links: &mut [u8],
+    numbers: &mut [u8],
+    order: &mut [u16],
+    answer: &mut [u16],
+) -> Reply
+    ensures { λ r. ⌜ Link-contract false n a b (tables (now (links .entry)) (now (numbers .entry)) (now (order .entry))) (now (answer .entry)) r (tables (now (links .exit)) (now (numbers .exit)) (now (order .exit))) (now (answer .exit)) ⌝ }
+{
+    links::link::link_down(n, a, b, links, numbers, order, answer)
 }

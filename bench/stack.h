@@ -1,0 +1,1 @@
+unsigned stack_of(void (*call)(void));
