@@ -1,0 +1,2 @@
+-- The promises about the exported calls.
+pub mod Ties
