@@ -1,0 +1,120 @@
+-- Contracts of the questions, met: refused and answered. In order: any value, any listing, number, neighbours, linked, first.
+use mathlib.Core.Path.{_≡_, refl, sym, ap, _∙_}
+use mathlib.Core.Bool.{Bool, true, cond}
+use mathlib.Core.List.{List}
+use Prim.Native.Nat.{ℕ, _+_, _≤_, _<_}
+use native.Mathlib.Numerals.{add-one}
+use lib.ListN.{length, getD, drop, drop-of-length-le}
+use lib.Seq.{drop-cons}
+use borrow.Author.Tests.{eq-eqb, ne-eqb}
+use mir.Val.{boolByte}
+use Rattle.mesh.specs.Lists.{overwrite}
+use Rattle.mesh.specs.Cores.{number}
+use Rattle.mesh.specs.Tables.{Tables, marked}
+use Rattle.mesh.specs.Sound.{sound}
+use Rattle.calls.specs.Questions.{lengths-of, radio-refusal, pair-refusal}
+use Rattle.calls.specs.Answers.{Value-accepted, Value-refused, Value-by, Listing-accepted, Listing-refused, Listing-by}
+use Rattle.calls.specs.Answers.{first-of-two, Number-contract, Neighbours-contract, Linked-contract, First-contract}
+use Rattle.calls.specs.declared.Value.{Value}
+use Rattle.calls.proofs.ChainLaws.{radio-zero, pair-zero}
+use Rattle.calls.proofs.ContractLaws.{by-accepted, by-refused}
+use Rattle.tables.specs.Rows.{row-listed}
+use Rattle.soundness.proofs.RowChecks.{byte-bit}
+use Rattle.queries.proofs.SoundSite.{Sound-site, linked-marked, number-entry, degree-listed}
+use Rattle.queries.proofs.RefusalLaws.{site-good-sound}
+
+-- ---- any value
+
+abbrev pub answer : (number value : ℕ) → Value
+answer q x = record { number = q; value = x }
+
+pub value-refused : (R x q : ℕ) → q ≡ R → (q ≡ 0 → ⊥) → Value-by R x (answer q 0)
+value-refused R x q e h =
+    by-refused R (Value-accepted x (answer q 0)) (λ p. Value-refused p (answer q 0)) (λ z. h (e ∙ z)) (record { number = e; value = refl })
+
+pub value-answered : (R x y : ℕ) → R ≡ 0 → y ≡ x → Value-by R x (answer 0 y)
+value-answered R x y e h = by-accepted R (λ p. Value-refused p (answer 0 y)) e (record { number = refl; value = h })
+
+-- ---- any listing
+
+pub listing-refused : (R x : ℕ) (new old : List ℕ) (q : ℕ) → q ≡ R → (q ≡ 0 → ⊥) → Listing-by R x new old (answer q 0) old
+listing-refused R x new old q e h =
+    by-refused R (Listing-accepted x new old (answer q 0) old) (λ p. Listing-refused p old (answer q 0) old) (λ z. h (e ∙ z))
+    (record { number = e; value = refl; lent = refl })
+
+pub listing-answered : (R x : ℕ) (new old : List ℕ) (y : ℕ) (now : List ℕ) → R ≡ 0 → y ≡ x → now ≡ overwrite new old → Listing-by R x new old (answer 0 y) now
+listing-answered R x new old y now e h l =
+    by-accepted R (λ p. Listing-refused p old (answer 0 y) now) e (record { number = refl; value = h; lent = l })
+
+-- ---- one radio
+
+module _ (n v : ℕ) (t : Tables) where
+  pub number-refused : (q : ℕ) → q ≡ radio-refusal n v (lengths-of t) (sound n t) → (q ≡ 0 → ⊥) → Number-contract n v t (answer q 0)
+  unfolding Number-contract
+  number-refused q e h = value-refused _ _ q e h
+
+  pub neighbours-refused : (q : ℕ) → q ≡ radio-refusal n v (lengths-of t) (sound n t) → (q ≡ 0 → ⊥) → Neighbours-contract n v t (answer q 0)
+  unfolding Neighbours-contract
+  neighbours-refused q e h = value-refused _ _ q e h
+
+  module _ (e : radio-refusal n v (lengths-of t) (sound n t) ≡ 0) where
+    pub radio-site : Sound-site n t
+    radio-site = site-good-sound n t true (radio-zero n v (lengths-of t) (sound n t) e .0)
+
+    pub radio-below : v < n
+    radio-below = radio-zero n v (lengths-of t) (sound n t) e .1
+
+    pub number-answered : Number-contract n v t (answer 0 (getD (t .numbers) v 0))
+    unfolding Number-contract
+    number-answered = value-answered _ _ _ e (number-entry n t radio-site v radio-below)
+
+    pub neighbours-answered : (x : ℕ) → x ≡ length (row-listed (t .links) v) → Neighbours-contract n v t (answer 0 x)
+    unfolding Neighbours-contract
+    neighbours-answered x h = value-answered _ _ _ e (h ∙ degree-listed n t radio-site v radio-below)
+
+-- ---- two radios
+
+module _ (n a b : ℕ) (t : Tables) where
+  pub linked-refused : (q : ℕ) → q ≡ pair-refusal n a b (lengths-of t) (sound n t) → (q ≡ 0 → ⊥) → Linked-contract n a b t (answer q 0)
+  unfolding Linked-contract
+  linked-refused q e h = value-refused _ _ q e h
+
+  pub first-refused : (q : ℕ) → q ≡ pair-refusal n a b (lengths-of t) (sound n t) → (q ≡ 0 → ⊥) → First-contract n a b t (answer q 0)
+  unfolding First-contract
+  first-refused q e h = value-refused _ _ q e h
+
+  module _ (e : pair-refusal n a b (lengths-of t) (sound n t) ≡ 0) where
+    pub linked-answered : (x : Bool) → x ≡ marked (t .links) a b → Linked-contract n a b t (answer 0 (boolByte x))
+    unfolding Linked-contract
+    linked-answered x h =
+        let r = pair-zero n a b (lengths-of t) (sound n t) e in
+        value-answered _ _ _ e
+        (byte-bit x ∙ ap (λ (y : Bool). cond {A = ℕ} y 1 0) (h ∙ sym (linked-marked n t (site-good-sound n t true (r .0)) a b (r .1) (r .2))))
+
+    pub first-answered : (x : ℕ) → x ≡ first-of-two a b (t .order) → First-contract n a b t (answer 0 x)
+    unfolding First-contract
+    first-answered x h = value-answered _ _ _ e h
+
+-- ---- which stands first: what is left of the list decides
+
+abbrev pub First-so-far : (a b : ℕ) → (list : List ℕ) → (i : ℕ) → Type 0
+First-so-far a b xs i = first-of-two a b (drop i xs) ≡ first-of-two a b xs
+
+module _ (a b : ℕ) (xs : List ℕ) (i : ℕ) (l : i < length xs) (so-far : First-so-far a b xs i) where
+  pub first-is-a : getD xs i 0 ≡ a → a ≡ first-of-two a b xs
+  unfolding first-of-two
+  first-is-a e = sym (ap (first-of-two a b) (drop-cons xs i 0 l) ∙ rw (eq-eqb (getD xs i 0) a e)) ∙ so-far
+
+  pub first-is-b : (getD xs i 0 ≡ a → ⊥) → getD xs i 0 ≡ b → b ≡ first-of-two a b xs
+  unfolding first-of-two
+  first-is-b h e = sym (ap (first-of-two a b) (drop-cons xs i 0 l) ∙ rw (ne-eqb (getD xs i 0) a h, eq-eqb (getD xs i 0) b e)) ∙ so-far
+
+  pub first-later : (getD xs i 0 ≡ a → ⊥) → (getD xs i 0 ≡ b → ⊥) → First-so-far a b xs (i + 1)
+  unfolding first-of-two
+  first-later h e =
+      ap (λ (j : ℕ). first-of-two a b (drop j xs)) (add-one i)
+      ∙ sym (ap (first-of-two a b) (drop-cons xs i 0 l) ∙ rw (ne-eqb (getD xs i 0) a h, ne-eqb (getD xs i 0) b e)) ∙ so-far
+
+pub first-neither : (a b : ℕ) (xs : List ℕ) (i : ℕ) → length xs ≤ i → First-so-far a b xs i → a ≡ first-of-two a b xs
+unfolding first-of-two
+first-neither a b xs i l h = sym (ap (first-of-two a b) (drop-of-length-le xs {i = i} l)) ∙ h

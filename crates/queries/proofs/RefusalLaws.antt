@@ -1,0 +1,109 @@
+-- Chains of questions as the code puts them: questions 1 to 3 first, then the later ones. q is the number so far.
+use mathlib.Core.Path.{_≡_, refl, sym, _∙_}
+use mathlib.Core.Bool.{Bool, true, false, _&&_}
+use Prim.Native.Nat.{ℕ, _≤_, _<_}
+use native.Mathlib.Omega.{arith}
+use lib.Dec.{leb}
+use lib.ListN.{getD}
+use borrow.Author.Tests.{le-ltb, lt-leb}
+use Rattle.mesh.specs.Graph.{Graph}
+use Rattle.mesh.specs.Cores.{number}
+use Rattle.mesh.specs.Tables.{Tables, graph-in}
+use Rattle.mesh.specs.Sound.{sound}
+use Rattle.calls.specs.Questions.{ask, Lengths, lengths-of, size-good, site-lengths, answer-length, is-radio, are-radios, has-level}
+use Rattle.calls.specs.Questions.{lent-refusal, site-refusal, radio-refusal, pair-refusal, core-refusal, level-refusal}
+use Rattle.calls.proofs.QuestionLaws.{ask-yes, ask-no, true-is-radio}
+use Rattle.calls.proofs.ChainLaws.{Site-good, site-zero, site-yes, radio-zero, radio-yes, pair-yes, core-yes}
+use Rattle.queries.proofs.SoundSite.{Sound-site, sound-site, number-entry}
+
+-- ---- 1 to 3, and later questions
+
+module _ (n : ℕ) (l : Lengths) (others sound : Bool) (q : ℕ) (asked : q ≡ site-refusal n l others sound 0) where
+  -- one of them got no
+  pub site-later-no : (later : ℕ) → (q ≡ 0 → ⊥) → q ≡ site-refusal n l others sound later
+  unfolding site-refusal lent-refusal ask
+  site-later-no later h = asked ∙ go (size-good n) (site-lengths n l && others) sound (λ e. h (asked ∙ e))
+    where
+      go : (a b c : Bool) → (ask 1 a (ask 2 b (ask 3 c 0)) ≡ 0 → ⊥) → ask 1 a (ask 2 b (ask 3 c 0)) ≡ ask 1 a (ask 2 b (ask 3 c later))
+      go false b c z = refl
+      go true false c z = refl
+      go true true false z = refl
+      go true true true z = absurd (z refl)
+
+  -- all of them got yes
+  pub site-later-yes : (later : ℕ) → q ≡ 0 → site-refusal n l others sound later ≡ later
+  site-later-yes later e = site-yes n l others sound later (site-zero n l others sound 0 (sym asked ∙ e) .0)
+
+-- ---- 4: one radio
+
+not-radio : (n v : ℕ) → n ≤ v → is-radio n v ≡ false
+unfolding is-radio
+not-radio n v h = le-ltb v n h
+
+module _ (n v : ℕ) (l : Lengths) (sound : Bool) (q : ℕ) (asked : q ≡ site-refusal n l true sound 0) where
+  pub radio-no : (q ≡ 0 → ⊥) → q ≡ radio-refusal n v l sound
+  unfolding radio-refusal
+  radio-no h = site-later-no n l true sound q asked (ask 4 (is-radio n v) 0) h
+
+  pub radio-four : q ≡ 0 → n ≤ v → 4 ≡ radio-refusal n v l sound
+  unfolding radio-refusal
+  radio-four e h = sym (site-later-yes n l true sound q asked (ask 4 (is-radio n v) 0) e ∙ ask-no 4 (is-radio n v) 0 (not-radio n v h))
+
+  pub radio-none : q ≡ 0 → v < n → 0 ≡ radio-refusal n v l sound
+  radio-none e h = sym (radio-yes n v l sound (site-zero n l true sound 0 (sym asked ∙ e) .0) h)
+
+-- ---- 4: two radios
+
+module _ (n a b : ℕ) (l : Lengths) (sound : Bool) (q : ℕ) (asked : q ≡ radio-refusal n a l sound) where
+  pub pair-no : (q ≡ 0 → ⊥) → q ≡ pair-refusal n a b l sound
+  unfolding radio-refusal pair-refusal are-radios ask
+  pair-no h = go (is-radio n a) asked
+    where
+      go : (t : Bool) → q ≡ site-refusal n l true sound (ask 4 t 0) → q ≡ site-refusal n l true sound (ask 4 (t && is-radio n b) 0)
+      go true e = site-later-no n l true sound q e (ask 4 (is-radio n b) 0) h
+      go false e = e
+
+  pub pair-four : q ≡ 0 → n ≤ b → 4 ≡ pair-refusal n a b l sound
+  unfolding pair-refusal are-radios
+  pair-four e h =
+      let r = radio-zero n a l sound (sym asked ∙ e) in
+      let no : (is-radio n a && is-radio n b) ≡ false = rw (true-is-radio n a (r .1), not-radio n b h) in
+      sym (site-yes n l true sound (ask 4 (is-radio n a && is-radio n b) 0) (r .0) ∙ ask-no 4 (is-radio n a && is-radio n b) 0 no)
+
+  pub pair-none : q ≡ 0 → b < n → 0 ≡ pair-refusal n a b l sound
+  pair-none e h =
+      let r = radio-zero n a l sound (sym asked ∙ e) in sym (pair-yes n a b l sound (r .0) (r .1) h)
+
+-- ---- 4 and 8
+
+pub site-good-sound : (n : ℕ) (t : Tables) (others : Bool) → Site-good n (lengths-of t) others (sound n t) → Sound-site n t
+site-good-sound n t others g = sound-site n t (g .lent .most) (g .lent .lengths) (g .is-sound)
+
+module _ (n v k w : ℕ) (t : Tables) (q : ℕ) (asked : q ≡ site-refusal n (lengths-of t) (leb n w) (sound n t) 0) where
+  abbrev g : Graph
+  g = graph-in n (t .links)
+
+  pub core-no : (q ≡ 0 → ⊥) → q ≡ core-refusal n v k (lengths-of t) w (sound n t) g
+  unfolding core-refusal answer-length
+  core-no h = site-later-no n (lengths-of t) (leb n w) (sound n t) q asked (level-refusal n v k g) h
+
+  pub core-four : q ≡ 0 → n ≤ v → 4 ≡ core-refusal n v k (lengths-of t) w (sound n t) g
+  unfolding core-refusal answer-length level-refusal
+  core-four e h = sym (site-later-yes n (lengths-of t) (leb n w) (sound n t) q asked _ e ∙ ask-no 4 (is-radio n v) (ask 8 (has-level g v k) 0) (not-radio n v h))
+
+  -- the tables, once 1 to 3 got yes
+  pub core-site : q ≡ 0 → Sound-site n t
+  core-site e = site-good-sound n t (leb n w) (site-zero n (lengths-of t) (leb n w) (sound n t) 0 (sym asked ∙ e) .0)
+
+  pub core-eight : q ≡ 0 → v < n → getD (t .numbers) v 0 < k → 8 ≡ core-refusal n v k (lengths-of t) w (sound n t) g
+  unfolding core-refusal answer-length level-refusal has-level
+  core-eight e l h =
+      sym (site-later-yes n (lengths-of t) (leb n w) (sound n t) q asked _ e
+      ∙ ask-yes 4 (is-radio n v) (ask 8 (leb k (number g v)) 0) (true-is-radio n v l)
+      ∙ ask-no 8 (leb k (number g v)) 0 (lt-leb k (number g v) (omega (arith, number-entry n t (core-site e) v l))))
+
+  pub core-none : q ≡ 0 → v < n → k ≤ getD (t .numbers) v 0 → 0 ≡ core-refusal n v k (lengths-of t) w (sound n t) g
+  unfolding answer-length
+  core-none e l h =
+      sym (core-yes n v k (lengths-of t) w (sound n t) g (site-zero n (lengths-of t) (leb n w) (sound n t) 0 (sym asked ∙ e) .0) l
+      (omega (arith, number-entry n t (core-site e) v l)))

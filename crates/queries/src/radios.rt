@@ -1,0 +1,144 @@
+// A radio's number, its neighbour count, whether two radios are linked, which of two stands first in the order.
+// Each answers with the refusal number of questions 1 to 4 and the value 0, or with number 0 and the value.
+ghost use mathlib.Core.Path.{_≡_};
+ghost use Rattle.mesh.specs.Tables.{tables};
+ghost use Rattle.mesh.specs.Sound.{sound};
+ghost use Rattle.calls.specs.Questions.{lengths-of, radio-refusal, pair-refusal};
+ghost use Rattle.calls.specs.Answers.{first-of-two, Number-contract, Neighbours-contract, Linked-contract, First-contract};
+use calls::Value;
+
+// Questions 1 to 4 of one radio.
+fn radio_refusal<'a>(n: u32, v: u32, links: &'a [u8], numbers: &'a [u8], order: &'a [u16]) -> u32
+    ensures { λ r. ⌜ r ≡ radio-refusal n v (lengths-of (tables (now (links .entry)) (now (numbers .entry)) (now (order .entry)))) (sound n (tables (now (links .entry)) (now (numbers .entry)) (now (order .entry)))) ⌝ }
+{
+    let number = soundness::refusal(n, links, numbers, order, true);
+    if number != 0 {
+        return number;
+    }
+    if n <= v {
+        return 4;
+    }
+    0
+}
+
+// Questions 1 to 4 of two radios.
+fn pair_refusal<'a>(
+    n: u32,
+    a: u32,
+    b: u32,
+    links: &'a [u8],
+    numbers: &'a [u8],
+    order: &'a [u16],
+) -> u32
+    ensures { λ r. ⌜ r ≡ pair-refusal n a b (lengths-of (tables (now (links .entry)) (now (numbers .entry)) (now (order .entry)))) (sound n (tables (now (links .entry)) (now (numbers .entry)) (now (order .entry)))) ⌝ }
+{
+    let number = radio_refusal(n, a, links, numbers, order);
+    if number != 0 {
+        return number;
+    }
+    if n <= b {
+        return 4;
+    }
+    0
+}
+
+// The number of v.
+pub fn number<'a>(n: u32, v: u32, links: &'a [u8], numbers: &'a [u8], order: &'a [u16]) -> Value
+    ensures { λ r. ⌜ Number-contract n v (tables (now (links .entry)) (now (numbers .entry)) (now (order .entry))) r ⌝ }
+{
+    let refusal = radio_refusal(n, v, links, numbers, order);
+    if refusal != 0 {
+        return Value {
+            number: refusal,
+            value: 0,
+        };
+    }
+    let x = numbers[v as usize];
+    Value {
+        number: 0,
+        value: x as u32,
+    }
+}
+
+// How many neighbours v has.
+pub fn neighbours<'a>(n: u32, v: u32, links: &'a [u8], numbers: &'a [u8], order: &'a [u16]) -> Value
+    ensures { λ r. ⌜ Neighbours-contract n v (tables (now (links .entry)) (now (numbers .entry)) (now (order .entry))) r ⌝ }
+{
+    let refusal = radio_refusal(n, v, links, numbers, order);
+    if refusal != 0 {
+        return Value {
+            number: refusal,
+            value: 0,
+        };
+    }
+    Value {
+        number: 0,
+        value: tables::rows::row_degree(links, v),
+    }
+}
+
+// 1 when a and b are linked, 0 when not.
+pub fn linked<'a>(
+    n: u32,
+    a: u32,
+    b: u32,
+    links: &'a [u8],
+    numbers: &'a [u8],
+    order: &'a [u16],
+) -> Value
+    ensures { λ r. ⌜ Linked-contract n a b (tables (now (links .entry)) (now (numbers .entry)) (now (order .entry))) r ⌝ }
+{
+    let refusal = pair_refusal(n, a, b, links, numbers, order);
+    if refusal != 0 {
+        return Value {
+            number: refusal,
+            value: 0,
+        };
+    }
+    Value {
+        number: 0,
+        value: tables::rows::is_marked(links, a, b) as u32,
+    }
+}
+
+// Which of a and b stands first in the list; a where neither does.
+fn first_of_two(order: &[u16], a: u32, b: u32) -> u32
+    ensures { λ r. ⌜ r ≡ first-of-two a b (now (order .entry)) ⌝ }
+{
+    let mut i: usize = 0;
+    while i < order.len() {
+        let x = order[i] as u32;
+        if x == a {
+            return a;
+        }
+        if x == b {
+            return b;
+        }
+        i += 1;
+    }
+    a
+}
+
+// Which of a and b stands first in the order; the same radio twice: that radio.
+pub fn first<'a>(
+    n: u32,
+    a: u32,
+    b: u32,
+    links: &'a [u8],
+    numbers: &'a [u8],
+    order: &'a [u16],
+) -> Value
+    ensures { λ r. ⌜ First-contract n a b (tables (now (links .entry)) (now (numbers .entry)) (now (order .entry))) r ⌝ }
+{
+    let refusal = pair_refusal(n, a, b, links, numbers, order);
+    if refusal != 0 {
+        return Value {
+            number: refusal,
+            value: 0,
+        };
+    }
+    Value {
+        number: 0,
+        value: first_of_two(order, a, b),
+    }
+}
