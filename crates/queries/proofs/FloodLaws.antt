@@ -28,7 +28,7 @@ module _ (ts ns : List ℕ) (k v : ℕ) (old : List ℕ) where
   abbrev Spreads : ℕ → Type 0
   Spreads w = Spread ts ns k old v w
 
-  -- the set s has the radios xs beside the old ones; whom those of `done` lead to has come in
+  -- the set s has the radios xs beside the old ones; whom the radios of `done` lead to has come in
   pub record Spreading (done s xs : List ℕ) : Type 0 where
     pub long : length s ≡ row-bytes
     pub distinct : Distinct xs

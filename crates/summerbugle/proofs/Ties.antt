@@ -7,7 +7,7 @@ use contract.Notation
 use denote.Ref.{now}
 use Rattle.mesh.specs.Tables.{tables}
 use Rattle.calls.specs.Writes.{Clear-contract, Link-contract}
-use Rattle.calls.specs.Answers.{Check-contract}
+use Rattle.calls.specs.Answers.{Check-contract, Number-contract, Neighbours-contract, Linked-contract, First-contract, Core-contract, Backbone-contract}
 use Rattle.summerbugle.proofs.sb_clear as clear
 use Rattle.summerbugle.proofs.sb_clear.Met as clear-proof
 use Rattle.summerbugle.proofs.sb_clear.Statement as clear-statement
@@ -20,6 +20,24 @@ use Rattle.summerbugle.proofs.sb_link_up.Statement as link-up-statement
 use Rattle.summerbugle.proofs.sb_link_down as link-down
 use Rattle.summerbugle.proofs.sb_link_down.Met as link-down-proof
 use Rattle.summerbugle.proofs.sb_link_down.Statement as link-down-statement
+use Rattle.summerbugle.proofs.sb_number as number
+use Rattle.summerbugle.proofs.sb_number.Met as number-proof
+use Rattle.summerbugle.proofs.sb_number.Statement as number-statement
+use Rattle.summerbugle.proofs.sb_neighbours as neighbours
+use Rattle.summerbugle.proofs.sb_neighbours.Met as neighbours-proof
+use Rattle.summerbugle.proofs.sb_neighbours.Statement as neighbours-statement
+use Rattle.summerbugle.proofs.sb_linked as linked
+use Rattle.summerbugle.proofs.sb_linked.Met as linked-proof
+use Rattle.summerbugle.proofs.sb_linked.Statement as linked-statement
+use Rattle.summerbugle.proofs.sb_first as first
+use Rattle.summerbugle.proofs.sb_first.Met as first-proof
+use Rattle.summerbugle.proofs.sb_first.Statement as first-statement
+use Rattle.summerbugle.proofs.sb_core as core
+use Rattle.summerbugle.proofs.sb_core.Met as core-proof
+use Rattle.summerbugle.proofs.sb_core.Statement as core-statement
+use Rattle.summerbugle.proofs.sb_backbone as backbone
+use Rattle.summerbugle.proofs.sb_backbone.Met as backbone-proof
+use Rattle.summerbugle.proofs.sb_backbone.Statement as backbone-statement
 
 module _ {M : Type 1} (𝓤 : URA M) (H : Heap 𝓤) where
   abbrev 𝓛 : Notation.Connectives 𝓤
@@ -63,6 +81,60 @@ module _ {M : Type 1} (𝓤 : URA M) (H : Heap 𝓤) where
   pub link-down-asks : (A : _) (mem : _) (run : _) (κs : _) (args : _) (g : _) → link-down.clauses 𝓤 H A mem run κs args .requires g ≡ ⊤ₛ
   link-down-asks A mem run κs args g = refl
 
+  pub number-says :
+      (κs : _) (A : _) (mem : _) (run : _) (n v links numbers order : _) (n′ v′ l k o : _) (r : _) →
+      number.ensures-1 𝓤 H κs A mem run n v links numbers order n′ v′ l k o r
+      ≡ ⌜ Number-contract n v (tables (now (l .entry)) (now (k .entry)) (now (o .entry))) r ⌝
+  number-says κs A mem run n v links numbers order n′ v′ l k o r = refl
+
+  pub number-asks : (A : _) (mem : _) (run : _) (κs : _) (args : _) (g : _) → number.clauses 𝓤 H A mem run κs args .requires g ≡ ⊤ₛ
+  number-asks A mem run κs args g = refl
+
+  pub neighbours-says :
+      (κs : _) (A : _) (mem : _) (run : _) (n v links numbers order : _) (n′ v′ l k o : _) (r : _) →
+      neighbours.ensures-1 𝓤 H κs A mem run n v links numbers order n′ v′ l k o r
+      ≡ ⌜ Neighbours-contract n v (tables (now (l .entry)) (now (k .entry)) (now (o .entry))) r ⌝
+  neighbours-says κs A mem run n v links numbers order n′ v′ l k o r = refl
+
+  pub neighbours-asks : (A : _) (mem : _) (run : _) (κs : _) (args : _) (g : _) → neighbours.clauses 𝓤 H A mem run κs args .requires g ≡ ⊤ₛ
+  neighbours-asks A mem run κs args g = refl
+
+  pub linked-says :
+      (κs : _) (A : _) (mem : _) (run : _) (n a b links numbers order : _) (n′ a′ b′ l k o : _) (r : _) →
+      linked.ensures-1 𝓤 H κs A mem run n a b links numbers order n′ a′ b′ l k o r
+      ≡ ⌜ Linked-contract n a b (tables (now (l .entry)) (now (k .entry)) (now (o .entry))) r ⌝
+  linked-says κs A mem run n a b links numbers order n′ a′ b′ l k o r = refl
+
+  pub linked-asks : (A : _) (mem : _) (run : _) (κs : _) (args : _) (g : _) → linked.clauses 𝓤 H A mem run κs args .requires g ≡ ⊤ₛ
+  linked-asks A mem run κs args g = refl
+
+  pub first-says :
+      (κs : _) (A : _) (mem : _) (run : _) (n a b links numbers order : _) (n′ a′ b′ l k o : _) (r : _) →
+      first.ensures-1 𝓤 H κs A mem run n a b links numbers order n′ a′ b′ l k o r
+      ≡ ⌜ First-contract n a b (tables (now (l .entry)) (now (k .entry)) (now (o .entry))) r ⌝
+  first-says κs A mem run n a b links numbers order n′ a′ b′ l k o r = refl
+
+  pub first-asks : (A : _) (mem : _) (run : _) (κs : _) (args : _) (g : _) → first.clauses 𝓤 H A mem run κs args .requires g ≡ ⊤ₛ
+  first-asks A mem run κs args g = refl
+
+  pub core-says :
+      (κs : _) (A : _) (mem : _) (run : _) (n v j links numbers order answer : _) (n′ v′ j′ l k o w : _) (r : _) →
+      core.ensures-1 𝓤 H κs A mem run n v j links numbers order answer n′ v′ j′ l k o w r
+      ≡ ⌜ Core-contract n v j (tables (now (l .entry)) (now (k .entry)) (now (o .entry))) (now (w .entry)) r (now (w .exit)) ⌝
+  core-says κs A mem run n v j links numbers order answer n′ v′ j′ l k o w r = refl
+
+  pub core-asks : (A : _) (mem : _) (run : _) (κs : _) (args : _) (g : _) → core.clauses 𝓤 H A mem run κs args .requires g ≡ ⊤ₛ
+  core-asks A mem run κs args g = refl
+
+  pub backbone-says :
+      (κs : _) (A : _) (mem : _) (run : _) (n links numbers order answer : _) (n′ l k o w : _) (r : _) →
+      backbone.ensures-1 𝓤 H κs A mem run n links numbers order answer n′ l k o w r
+      ≡ ⌜ Backbone-contract n (tables (now (l .entry)) (now (k .entry)) (now (o .entry))) (now (w .entry)) r (now (w .exit)) ⌝
+  backbone-says κs A mem run n links numbers order answer n′ l k o w r = refl
+
+  pub backbone-asks : (A : _) (mem : _) (run : _) (κs : _) (args : _) (g : _) → backbone.clauses 𝓤 H A mem run κs args .requires g ≡ ⊤ₛ
+  backbone-asks A mem run κs args g = refl
+
 pub clear-met : {M : Type 1} → clear-statement.statement M
 clear-met = clear-proof.met
 
@@ -74,3 +146,21 @@ link-up-met = link-up-proof.met
 
 pub link-down-met : {M : Type 1} → link-down-statement.statement M
 link-down-met = link-down-proof.met
+
+pub number-met : {M : Type 1} → number-statement.statement M
+number-met = number-proof.met
+
+pub neighbours-met : {M : Type 1} → neighbours-statement.statement M
+neighbours-met = neighbours-proof.met
+
+pub linked-met : {M : Type 1} → linked-statement.statement M
+linked-met = linked-proof.met
+
+pub first-met : {M : Type 1} → first-statement.statement M
+first-met = first-proof.met
+
+pub core-met : {M : Type 1} → core-statement.statement M
+core-met = core-proof.met
+
+pub backbone-met : {M : Type 1} → backbone-statement.statement M
+backbone-met = backbone-proof.met

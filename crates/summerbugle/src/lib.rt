@@ -3,7 +3,7 @@
 ghost use mathlib.Core.Bool.{true, false};
 ghost use Rattle.mesh.specs.Tables.{tables};
 ghost use Rattle.calls.specs.Writes.{Clear-contract, Link-contract};
-ghost use Rattle.calls.specs.Answers.{Check-contract};
+ghost use Rattle.calls.specs.Answers.{Check-contract, Number-contract, Neighbours-contract, Linked-contract, First-contract, Core-contract, Backbone-contract};
 use calls::Reply;
 use calls::Value;
 
@@ -59,4 +59,94 @@ pub extern "C" fn sb_link_down(
     ensures { λ r. ⌜ Link-contract false n a b (tables (now (links .entry)) (now (numbers .entry)) (now (order .entry))) (now (answer .entry)) r (tables (now (links .exit)) (now (numbers .exit)) (now (order .exit))) (now (answer .exit)) ⌝ }
 {
     links::link::link_down(n, a, b, links, numbers, order, answer)
+}
+
+// The number of radio v. Refused by 1 to 4: then the value is 0.
+#[no_mangle]
+pub extern "C" fn sb_number<'a>(
+    n: u32,
+    v: u32,
+    links: &'a [u8],
+    numbers: &'a [u8],
+    order: &'a [u16],
+) -> Value
+    ensures { λ r. ⌜ Number-contract n v (tables (now (links .entry)) (now (numbers .entry)) (now (order .entry))) r ⌝ }
+{
+    queries::radios::number(n, v, links, numbers, order)
+}
+
+// How many neighbours radio v has. Refused by 1 to 4.
+#[no_mangle]
+pub extern "C" fn sb_neighbours<'a>(
+    n: u32,
+    v: u32,
+    links: &'a [u8],
+    numbers: &'a [u8],
+    order: &'a [u16],
+) -> Value
+    ensures { λ r. ⌜ Neighbours-contract n v (tables (now (links .entry)) (now (numbers .entry)) (now (order .entry))) r ⌝ }
+{
+    queries::radios::neighbours(n, v, links, numbers, order)
+}
+
+// 1 when a and b are linked, 0 when not; a radio with itself: 0. Refused by 1 to 4.
+#[no_mangle]
+pub extern "C" fn sb_linked<'a>(
+    n: u32,
+    a: u32,
+    b: u32,
+    links: &'a [u8],
+    numbers: &'a [u8],
+    order: &'a [u16],
+) -> Value
+    ensures { λ r. ⌜ Linked-contract n a b (tables (now (links .entry)) (now (numbers .entry)) (now (order .entry))) r ⌝ }
+{
+    queries::radios::linked(n, a, b, links, numbers, order)
+}
+
+// Which of a and b stands first in the order; the same radio twice: that radio. Refused by 1 to 4.
+#[no_mangle]
+pub extern "C" fn sb_first<'a>(
+    n: u32,
+    a: u32,
+    b: u32,
+    links: &'a [u8],
+    numbers: &'a [u8],
+    order: &'a [u16],
+) -> Value
+    ensures { λ r. ⌜ First-contract n a b (tables (now (links .entry)) (now (numbers .entry)) (now (order .entry))) r ⌝ }
+{
+    queries::radios::first(n, a, b, links, numbers, order)
+}
+
+// The connected core of v at level k: the count, and the radios ascending in front of the answer table. Refused by 1 to 4 and 8:
+// then the answer table keeps its content.
+#[no_mangle]
+pub extern "C" fn sb_core<'a>(
+    n: u32,
+    v: u32,
+    k: u32,
+    links: &'a [u8],
+    numbers: &'a [u8],
+    order: &'a [u16],
+    answer: &mut [u16],
+) -> Value
+    ensures { λ r. ⌜ Core-contract n v k (tables (now (links .entry)) (now (numbers .entry)) (now (order .entry))) (now (answer .entry)) r (now (answer .exit)) ⌝ }
+{
+    queries::cores::core(n, v, k, links, numbers, order, answer)
+}
+
+// The backbone: the count, and the radios ascending in front of the answer table. Refused by 1 to 3: then the answer table
+// keeps its content.
+#[no_mangle]
+pub extern "C" fn sb_backbone<'a>(
+    n: u32,
+    links: &'a [u8],
+    numbers: &'a [u8],
+    order: &'a [u16],
+    answer: &mut [u16],
+) -> Value
+    ensures { λ r. ⌜ Backbone-contract n (tables (now (links .entry)) (now (numbers .entry)) (now (order .entry))) (now (answer .entry)) r (now (answer .exit)) ⌝ }
+{
+    queries::backbone::backbone(n, links, numbers, order, answer)
 }

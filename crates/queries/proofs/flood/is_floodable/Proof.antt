@@ -1,4 +1,4 @@
--- `flood::is_floodable` meets its contract: the tests are those of `floodable`, in its order.
+-- `flood::is_floodable` meets its contract: the tests are the ones of `floodable`, in its order.
 use Rattle.queries.proofs.FloodSteps.{floodable-many, floodable-past, floodable-set, floodable-queue}
 use borrow.Author.Needs.{needs}
 use Rattle.queries.proofs.flood.is_floodable.Statement.{statement}
