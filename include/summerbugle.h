@@ -111,6 +111,52 @@ sb_reply sb_link_down(uint32_t n, uint32_t a, uint32_t b,
                       uint16_t *order, size_t order_len,
                       uint16_t *answer, size_t answer_len);
 
+/**
+ * Questions about the tables, which are only read. Each is refused by SB_SIZE, SB_LENGTH, SB_UNSOUND and SB_RADIO, with value 0.
+ *
+ * sb_number: the number of radio v. sb_neighbours: how many neighbours it has. sb_linked: 1 when a and b are linked, 0 when not
+ * (a radio with itself: 0). sb_first: which of a and b stands first in the order (the same radio twice: that radio).
+ */
+sb_value sb_number(uint32_t n, uint32_t v,
+                   const uint8_t *links, size_t links_len,
+                   const uint8_t *numbers, size_t numbers_len,
+                   const uint16_t *order, size_t order_len);
+sb_value sb_neighbours(uint32_t n, uint32_t v,
+                       const uint8_t *links, size_t links_len,
+                       const uint8_t *numbers, size_t numbers_len,
+                       const uint16_t *order, size_t order_len);
+sb_value sb_linked(uint32_t n, uint32_t a, uint32_t b,
+                   const uint8_t *links, size_t links_len,
+                   const uint8_t *numbers, size_t numbers_len,
+                   const uint16_t *order, size_t order_len);
+sb_value sb_first(uint32_t n, uint32_t a, uint32_t b,
+                  const uint8_t *links, size_t links_len,
+                  const uint8_t *numbers, size_t numbers_len,
+                  const uint16_t *order, size_t order_len);
+
+/**
+ * The connected core of radio v at level k: all radios reachable from v over radios with number k or more.
+ *
+ * \return number 0 and the count: answer[0] to answer[value - 1] are the radios, ascending; later entries keep theirs. Or a
+ *         number (SB_SIZE to SB_RADIO, SB_LEVEL) and value 0, and then the answer table keeps its content.
+ */
+sb_value sb_core(uint32_t n, uint32_t v, uint32_t k,
+                 const uint8_t *links, size_t links_len,
+                 const uint8_t *numbers, size_t numbers_len,
+                 const uint16_t *order, size_t order_len,
+                 uint16_t *answer, size_t answer_len);
+
+/**
+ * The backbone: the radios whose number is the greatest at the site; none if that is 0.
+ *
+ * \return as sb_core. Refused by SB_SIZE, SB_LENGTH, SB_UNSOUND.
+ */
+sb_value sb_backbone(uint32_t n,
+                     const uint8_t *links, size_t links_len,
+                     const uint8_t *numbers, size_t numbers_len,
+                     const uint16_t *order, size_t order_len,
+                     uint16_t *answer, size_t answer_len);
+
 #ifdef __cplusplus
 }
 #endif
