@@ -1,4 +1,4 @@
--- `rows::row_degree` meets its contract: the bits counted so far and those from word k on are all bits of the row.
+-- `rows::row_degree` meets its contract: the bits counted so far and the ones from word k on are all bits of the row.
 -- The measure is the words that are left.
 use mathlib.Core.Path.{sym, ap}
 use Prim.Native.Nat.{_-_}

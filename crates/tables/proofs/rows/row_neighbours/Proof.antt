@@ -1,4 +1,4 @@
--- `rows::row_neighbours` meets its contract: the neighbours listed so far and those from word k on are the row's, as far as
+-- `rows::row_neighbours` meets its contract: the neighbours listed so far and the ones from word k on are the row's, as far as
 -- the list reaches (`Row-listing`); a list that is full leaves the count to `row_degree`. The measure is the words that are left.
 use mathlib.Core.Path.{refl}
 use mathlib.Core.List.{[]}
