@@ -1,0 +1,99 @@
+-- One level as a loop over the radios: what its invariant says, and what it says at the end.
+use mathlib.Core.Path.{_≡_, refl, sym, ap, _∙_}
+use mathlib.Core.Logic.{_⊎_, inl, inr}
+use mathlib.Core.Bool.{Bool, true, false, _&&_}
+use mathlib.Core.List.{List}
+use Prim.Native.Nat.{ℕ, suc, _+_, _*_, _≤_, _<_}
+use native.Mathlib.Omega.{arith}
+use native.Mathlib.Numerals.{add-one}
+use lib.ListN.{length, replicate}
+use Rattle.mesh.specs.Limits.{max-radios, row-bytes}
+use Rattle.mesh.specs.Tables.{Tables, tables, graph-in}
+use Rattle.mesh.specs.Sound.{sound}
+use Rattle.mesh.proofs.BoolLaws.{bool-cases, and-left, and-right}
+use Rattle.calls.specs.Questions.{lengths-of, size-good, site-lengths}
+use Rattle.calls.proofs.QuestionLaws.{size-good-true, site-lengths-true}
+use Rattle.soundness.specs.Checks.{fits-sound}
+use Rattle.queries.proofs.SoundSite.{Sound-site, sound-site}
+use Rattle.tree.specs.Trees.{Lists, Room, takes-node, Visited, Growing, Marks, Levelled}
+use Rattle.tree.proofs.GrowLaws.{visited-next, marks-start, growing-end}
+
+-- what sound tables of the right lengths are
+pub fits-sound-site : (n : ℕ) (t : Tables) → fits-sound n t ≡ true → Sound-site n t
+unfolding fits-sound
+fits-sound-site n t h =
+    let rest = and-right (size-good n) (site-lengths n (lengths-of t) && sound n t) h in
+    sound-site n t (size-good-true n (and-left (size-good n) (site-lengths n (lengths-of t) && sound n t) h) .1)
+    (site-lengths-true n (lengths-of t) (and-left (site-lengths n (lengths-of t)) (sound n t) rest)) (and-right (site-lengths n (lengths-of t)) (sound n t) rest)
+
+-- the count grows by one at most
+pub visited-count : (ts ns : List ℕ) (k v : ℕ) (s q : List ℕ) (before : Lists) (c : ℕ) (t : List ℕ) (after : Lists) (r : ℕ)
+    → Visited ts ns k v s q before c t after r → r ≤ c + 1
+visited-count ts ns k v s q before c t after r h = go (bool-cases (takes-node ns k s v))
+  where
+    go : (takes-node ns k s v ≡ true) ⊎ (takes-node ns k s v ≡ false) → r ≤ c + 1
+    go (inl e) = omega (arith, h .taken e .counted)
+    go (inr e) = omega (arith, h .passed e .counted)
+
+-- the lists keep their lengths
+pub record Same-lengths (s t : Lists) : Type 0 where
+  pub names : length (t .names) ≡ length (s .names)
+  pub levels : length (t .levels) ≡ length (s .levels)
+  pub parents : length (t .parents) ≡ length (s .parents)
+  pub answer : length (t .answer) ≡ length (s .answer)
+
+-- before radio v: the set and the lists are right if they were so at the level's start
+pub record Levelling (ts ns : List ℕ) (k : ℕ) (s₀ q₀ : List ℕ) (before : Lists) (c₀ v : ℕ) (s q : List ℕ) (after : Lists) (c : ℕ) : Type 0 where
+  pub within : v ≤ length ns
+  pub few : c ≤ c₀ + v
+  pub set-long : length s ≡ length s₀
+  pub queue-long : length q ≡ length q₀
+  pub lengths : Same-lengths before after
+  pub right : (order : List ℕ) → fits-sound (length ns) (tables ts ns order) ≡ true → (old : Lists) → Room (length ns) old
+      → Marks (graph-in (length ns) ts) k 0 s₀ → Growing (graph-in (length ns) ts) k 0 old before c₀
+      → Marks (graph-in (length ns) ts) k v s × Growing (graph-in (length ns) ts) k v old after c
+
+pub levelling-none : (ts ns : List ℕ) (k : ℕ) (s q : List ℕ) (before : Lists) (c : ℕ) → Levelling ts ns k s q before c 0 s q before c
+levelling-none ts ns k s q before c = record {
+  within = omega arith;
+  few = omega arith;
+  set-long = refl;
+  queue-long = refl;
+  lengths = record { names = refl; levels = refl; parents = refl; answer = refl };
+  right = λ order h old room marks grown. (marks, grown);
+}
+
+pub levelling-turn : (ts ns : List ℕ) (k : ℕ) (s₀ q₀ : List ℕ) (before : Lists) (c₀ v : ℕ) (s q : List ℕ) (now : Lists) (c : ℕ) (t p : List ℕ) (after : Lists) (r : ℕ)
+    → 1 ≤ k → length ns ≤ length q₀ → v < length ns → length t ≡ length s → length p ≡ length q → Same-lengths now after
+    → Visited ts ns k v s q now c t after r → Levelling ts ns k s₀ q₀ before c₀ v s q now c → Levelling ts ns k s₀ q₀ before c₀ (v + 1) t p after r
+levelling-turn ts ns k s₀ q₀ before c₀ v s q now c t p after r positive space l st qt same h a = record {
+  within = omega arith;
+  few = omega (arith, a .few, visited-count ts ns k v s q now c t after r h);
+  set-long = st ∙ a .set-long;
+  queue-long = qt ∙ a .queue-long;
+  lengths = record {
+    names = same .names ∙ a .lengths .names;
+    levels = same .levels ∙ a .lengths .levels;
+    parents = same .parents ∙ a .lengths .parents;
+    answer = same .answer ∙ a .lengths .answer;
+  };
+  right = λ order e old room marks grown. turn order e old room (a .right order e old room marks grown);
+}
+  where
+    turn : (order : List ℕ) → fits-sound (length ns) (tables ts ns order) ≡ true → (old : Lists) → Room (length ns) old
+        → Marks (graph-in (length ns) ts) k v s × Growing (graph-in (length ns) ts) k v old now c
+        → Marks (graph-in (length ns) ts) k (v + 1) t × Growing (graph-in (length ns) ts) k (v + 1) old after r
+    turn order e old room m =
+        rw (add-one v) (visited-next (length ns) (tables ts ns order) (fits-sound-site (length ns) (tables ts ns order) e) k v l positive s q old now after c r t room
+        (omega (arith, a .queue-long)) (m .0) st (m .1) h)
+
+pub levelling-end : (ts ns : List ℕ) (k : ℕ) (s s₀ q₀ : List ℕ) (before : Lists) (c₀ v : ℕ) (t q : List ℕ) (after : Lists) (c : ℕ)
+    → 1 ≤ k → length ns ≤ max-radios → length s ≡ row-bytes → s₀ ≡ replicate (length s) 0 → length ns ≤ v
+    → Levelling ts ns k s₀ q₀ before c₀ v t q after c → Levelled ts ns k before c₀ after c
+unfolding Levelled graph-in
+levelling-end ts ns k s s₀ q₀ before c₀ v t q after c positive small long zeros l a order e old room grown =
+    let g = graph-in (length ns) ts in
+    let all : v ≡ length ns = omega (arith, a .within) in
+    let start : Marks g k 0 s₀ = rw (zeros ∙ ap (λ (j : ℕ). replicate {A = ℕ} j 0) long) (marks-start g k small) in
+    let last : Growing g k (length ns) old after c = rw all at (a .right order e old room start grown .1) in
+    rw (add-one k) (growing-end g k c old after positive last)

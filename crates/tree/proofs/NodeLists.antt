@@ -1,0 +1,239 @@
+-- The nodes that come before a radio at a level, and the lists with nodes and names in front.
+-- In order: laws of lists; nodes from one radio and one level to the next; how many they are; one node more in front.
+use mathlib.Core.Path.{_≡_, refl, sym, ap, ap₂, _∙_}
+use mathlib.Core.Logic.{_⊎_, inl, inr}
+use mathlib.Core.Bool.{Bool, true, false, _&&_, _||_, not, cond}
+use mathlib.Core.List.{List, [], _∷_, _++_, map, flatMap, append-nil, append-assoc}
+use Prim.Native.Nat.{ℕ, zero, suc, _+_, _-_, _≤_, _<_}
+use native.Mathlib.Omega.{arith}
+use native.Mathlib.Nat.{zero-add}
+use native.Mathlib.Numerals.{add-one}
+use lib.Dec.{ltb, leb, eqb}
+use lib.ListN.{length, getD, drop, set, length-append, length-set}
+use lib.Seq.{drop-cons, set-at, set-append-left}
+use borrow.Author.Tests.{ltb-true, lt-ltb, le-ltb, leb-true, le-leb, lt-leb, eqb-true, eqb-false, eq-eqb, ne-eqb}
+use Rattle.mesh.specs.Lists.{range, count, filter, member, overwrite}
+use Rattle.mesh.specs.Graph.{Graph, radios}
+use Rattle.mesh.specs.Cores.{number}
+use Rattle.mesh.specs.Tree.{root, node, node-name, parent-name, nodes-at, tree}
+use Rattle.mesh.specs.declared.Node.{Node}
+use Rattle.mesh.proofs.BoolLaws.{bool-cases, never, bit-one, bit-le, bit-true, bit-false}
+use Rattle.mesh.proofs.ListLaws.{In, range-in, filter-append, filter-none, length-filter, count-append, count-le-length, count-mono, length-range, length-map}
+use Rattle.mesh.proofs.TreeLaws.{number-le-n}
+use Rattle.tables.proofs.Listing.{range-append}
+use Rattle.tree.specs.Trees.{Lists, lists, with-front, entries-set, own, nodes-within, nodes-before}
+
+-- ---- laws of lists
+
+range-suc : (i k : ℕ) → range i (suc k) ≡ range i k ++ (i + k) ∷ []
+unfolding range
+range-suc i k = ap (range i) (sym (add-one k)) ∙ range-append i k 1
+
+pub map-append : {A B : Type 0} (f : A → B) (xs ys : List A) → map f (xs ++ ys) ≡ map f xs ++ map f ys
+map-append f [] ys = refl
+map-append {A} {B} f (x ∷ xs) ys = ap {B = List B} (λ zs. f x ∷ zs) (map-append f xs ys)
+
+pub length-map-any : {A B : Type 0} (f : A → B) (xs : List A) → length (map f xs) ≡ length xs
+length-map-any f [] = refl
+length-map-any f (x ∷ xs) = ap suc (length-map-any f xs)
+
+flatMap-append : {A : Type 0} (f : ℕ → List A) (xs ys : List ℕ) → flatMap f (xs ++ ys) ≡ flatMap f xs ++ flatMap f ys
+unfolding flatMap
+flatMap-append f [] ys = refl
+flatMap-append f (x ∷ xs) ys = ap (λ zs. f x ++ zs) (flatMap-append f xs ys) ∙ sym (append-assoc (f x) (flatMap f xs) (flatMap f ys))
+
+flatMap-none : {A : Type 0} (f : ℕ → List A) (xs : List ℕ) → ((x : ℕ) → In x xs → f x ≡ []) → flatMap f xs ≡ []
+unfolding flatMap
+flatMap-none f [] h = refl
+flatMap-none f (x ∷ xs) h = rw (h x (inl refl), flatMap-none f xs (λ y m. h y (inr m)))
+
+pub map-range-same : (f h : ℕ → ℕ) (i k : ℕ) → ((w : ℕ) → i ≤ w → w < i + k → f w ≡ h w) → map f (range i k) ≡ map h (range i k)
+unfolding range
+map-range-same f h i zero e = refl
+map-range-same f h i (suc k) e =
+    ap₂ {C = List ℕ} (λ x xs. x ∷ xs) (e i (omega arith) (omega arith)) (map-range-same f h (suc i) k (λ w m l. e w (omega arith) (omega arith)))
+
+-- one entry more in front
+pub set-overwrite : (xs d : List ℕ) (c x : ℕ) → c ≡ length xs → c < length d → set (overwrite xs d) c x ≡ overwrite (xs ++ x ∷ []) d
+unfolding overwrite
+set-overwrite xs d c x e l =
+    let long : length (xs ++ x ∷ []) ≡ suc c = length-append xs (x ∷ []) ∙ omega arith in
+    ap (λ (ys : List ℕ). set (xs ++ ys) c x) (ap (λ (j : ℕ). drop j d) (sym e) ∙ drop-cons d c 0 l)
+    ∙ set-at xs (getD d c 0) (drop (suc c) d) x c (sym e)
+    ∙ sym (append-assoc xs (x ∷ []) (drop (suc c) d)) ∙ ap (λ (j : ℕ). (xs ++ x ∷ []) ++ drop j d) (sym long)
+
+set-map-range : (f : ℕ → ℕ) (i k w x : ℕ) → w < k → set (map f (range i k)) w x ≡ map (λ u. cond (eqb (i + w) u) x (f u)) (range i k)
+unfolding range
+set-map-range f i zero w x l = absurd (omega arith)
+set-map-range f i (suc k) zero x l =
+    ap₂ {C = List ℕ} (λ y ys. y ∷ ys) (sym (rw (eq-eqb (i + 0) i (omega arith))))
+    (map-range-same f (λ u. cond (eqb (i + 0) u) x (f u)) (suc i) k (λ u m q. sym (rw (ne-eqb (i + 0) u (λ e. omega arith)))))
+set-map-range f i (suc k) (suc w) x l =
+    let e : suc i + w ≡ i + suc w = omega arith in
+    ap₂ {C = List ℕ} (λ y ys. y ∷ ys) (sym (rw (ne-eqb (i + suc w) i (λ q. omega arith)))) (set-map-range f (suc i) k w x (omega arith) ∙ rw e)
+
+set-front : (f : ℕ → ℕ) (k w x : ℕ) (d : List ℕ) → w < k
+    → set (overwrite (map f (range 0 k)) d) w x ≡ overwrite (map (λ u. cond (eqb w u) x (f u)) (range 0 k)) d
+unfolding overwrite
+set-front f k w x d l =
+    let long : (h : ℕ → ℕ) → length (map h (range 0 k)) ≡ k = λ h. length-map h (range 0 k) ∙ length-range 0 k in
+    let new : ℕ → ℕ = λ u. cond (eqb w u) x (f u) in
+    set-append-left (map f (range 0 k)) (drop (length (map f (range 0 k))) d) w x (omega (arith, long f))
+    ∙ ap₂ {C = List ℕ} (λ ys j. ys ++ drop j d)
+    (set-map-range f 0 k w x l ∙ map-range-same (λ u. cond (eqb (0 + w) u) x (f u)) new 0 k (λ u a b. ap (λ (i : ℕ). cond {A = ℕ} (eqb i u) x (f u)) (zero-add w)))
+    (long f ∙ sym (long new))
+
+-- x at each listed place
+pub entries-set-map : (f : ℕ → ℕ) (k x : ℕ) (ws : List ℕ) (d : List ℕ) → ((w : ℕ) → In w ws → w < k)
+    → entries-set x ws (overwrite (map f (range 0 k)) d) ≡ overwrite (map (λ u. cond (member u ws) x (f u)) (range 0 k)) d
+unfolding entries-set member
+entries-set-map f k x [] d h = refl
+entries-set-map f k x (w ∷ ws) d h =
+    ap (entries-set x ws) (set-front f k w x d (h w (inl refl)))
+    ∙ entries-set-map (λ u. cond (eqb w u) x (f u)) k x ws d (λ u m. h u (inr m))
+    ∙ ap (λ (ys : List ℕ). overwrite ys d) (map-range-same (λ u. cond (member u ws) x (cond (eqb w u) x (f u))) (λ u. cond (eqb w u || member u ws) x (f u)) 0 k
+    (λ u a b. either (eqb w u) (member u ws) (f u)))
+  where
+    either : (a b : Bool) (y : ℕ) → cond b x (cond a x y) ≡ cond (a || b) x y
+    either true true y = refl
+    either true false y = refl
+    either false b y = refl
+
+count-add : (f h m : ℕ → Bool) (xs : List ℕ) → ((x : ℕ) → cond {A = ℕ} (f x) 1 0 + cond (h x) 1 0 ≤ cond (m x) 1 0) → count f xs + count h xs ≤ count m xs
+unfolding count
+count-add f h m [] e = omega arith
+count-add f h m (x ∷ xs) e = omega (arith, e x, count-add f h m xs e)
+
+count-front : (f : ℕ → Bool) (v n : ℕ) → v ≤ n → count f (range 0 v) ≤ count f (range 0 n)
+count-front f v n l =
+    let e : n ≡ v + (n - v) = omega arith in
+    omega (arith, ap (λ (j : ℕ). count f (range 0 j)) e, ap (count f) (range-append 0 v (n - v)), count-append f (range 0 v) (range (0 + v) (n - v)))
+
+-- ---- nodes from one radio, and one level, to the next
+
+module _ (g : Graph) where
+  -- v brings a node where it names its own
+  abbrev pub node-of : (k v : ℕ) → List Node
+  node-of k v = cond (own g k v) (node v k (parent-name g v k) ∷ []) []
+
+  nodes-within-next : (k v : ℕ) → nodes-within g (suc k) (suc v) ≡ nodes-within g (suc k) v ++ node-of (suc k) v
+  unfolding nodes-within filter
+  nodes-within-next k v =
+      let at : ℕ → Node = λ w. node w (suc k) (parent-name g w (suc k)) in
+      let named = own g (suc k) in
+      ap (λ (xs : List ℕ). map at (filter named xs)) (range-suc 0 v ∙ ap (λ (j : ℕ). range 0 v ++ j ∷ []) (zero-add v))
+      ∙ ap (map at) (filter-append named (range 0 v) (v ∷ [])) ∙ map-append at (filter named (range 0 v)) (filter named (v ∷ []))
+      ∙ ap (λ (xs : List Node). map at (filter named (range 0 v)) ++ xs) (one (own g (suc k) v))
+    where
+      one : (b : Bool) → map {A = ℕ} {B = Node} (λ w. node w (suc k) (parent-name g w (suc k))) (cond b (v ∷ []) [])
+          ≡ cond b (node v (suc k) (parent-name g v (suc k)) ∷ []) []
+      one true = refl
+      one false = refl
+
+  pub nodes-before-next : (k v : ℕ) → 1 ≤ k → nodes-before g k (suc v) ≡ nodes-before g k v ++ node-of k v
+  unfolding nodes-before
+  nodes-before-next zero v h = absurd (omega arith)
+  nodes-before-next (suc k) v h =
+      let front = root ∷ flatMap (nodes-at g) (range 1 k) in
+      ap (λ (xs : List Node). front ++ xs) (nodes-within-next k v)
+      ∙ sym (append-assoc front (nodes-within g (suc k) v) (node-of (suc k) v))
+
+  -- a level at its end
+  nodes-within-all : (k : ℕ) → nodes-within g (suc k) (g .n) ≡ nodes-at g (suc k)
+  unfolding nodes-within nodes-at radios own
+  nodes-within-all k = refl
+
+  levels-next : (k : ℕ) → flatMap (nodes-at g) (range 1 (suc k)) ≡ flatMap (nodes-at g) (range 1 k) ++ nodes-at g (suc k)
+  unfolding flatMap
+  levels-next k =
+      let e : 1 + k ≡ suc k = omega arith in
+      ap (flatMap (nodes-at g)) (range-suc 1 k ∙ ap (λ (j : ℕ). range 1 k ++ j ∷ []) e) ∙ flatMap-append (nodes-at g) (range 1 k) (suc k ∷ [])
+      ∙ ap (λ (xs : List Node). flatMap (nodes-at g) (range 1 k) ++ xs) (append-nil (nodes-at g (suc k)))
+
+  nodes-before-zero : (k : ℕ) → nodes-before g (suc k) 0 ≡ root ∷ flatMap (nodes-at g) (range 1 k)
+  unfolding nodes-before nodes-within filter range
+  nodes-before-zero k = append-nil (root ∷ flatMap (nodes-at g) (range 1 k))
+
+  nodes-before-all : (k : ℕ) → nodes-before g (suc k) (g .n) ≡ root ∷ flatMap (nodes-at g) (range 1 (suc k))
+  unfolding nodes-before
+  nodes-before-all k =
+      ap (λ (xs : List Node). (root ∷ flatMap (nodes-at g) (range 1 k)) ++ xs) (nodes-within-all k)
+      ∙ ap {B = List Node} (λ xs. root ∷ xs) (sym (levels-next k))
+
+  pub nodes-before-end : (k : ℕ) → 1 ≤ k → nodes-before g k (g .n) ≡ nodes-before g (suc k) 0
+  nodes-before-end zero h = absurd (omega arith)
+  nodes-before-end (suc k) h = nodes-before-all k ∙ sym (nodes-before-zero (suc k))
+
+  pub nodes-before-start : nodes-before g 1 0 ≡ root ∷ []
+  unfolding range flatMap
+  nodes-before-start = nodes-before-zero 0
+
+  -- above the greatest number there is no node
+  nodes-at-above : (k : ℕ) → ((v : ℕ) → v < g .n → number g v < k) → nodes-at g k ≡ []
+  unfolding nodes-at radios
+  nodes-at-above k h =
+      ap (map (λ v. node v k (parent-name g v k))) (filter-none (λ v. eqb (number g v) k && eqb (node-name g v) v) (range 0 (g .n))
+      (λ v m. rw (ne-eqb (number g v) k (λ e. omega (arith, h v (omega (arith, range-in 0 (g .n) v m)))))))
+
+  pub nodes-before-tree : (k : ℕ) → k ≤ g .n → ((v : ℕ) → v < g .n → number g v ≤ k) → nodes-before g (suc k) 0 ≡ tree g
+  unfolding tree
+  nodes-before-tree k l h =
+      let rest : flatMap (nodes-at g) (range (1 + k) (g .n - k)) ≡ [] =
+      flatMap-none (nodes-at g) (range (1 + k) (g .n - k)) (λ j m. nodes-at-above j (λ v lv. omega (arith, h v lv, range-in (1 + k) (g .n - k) j m))) in
+      let parts : range 1 (g .n) ≡ range 1 k ++ range (1 + k) (g .n - k) =
+      ap (range 1) (omega arith) ∙ range-append 1 k (g .n - k) in
+      let all : flatMap (nodes-at g) (range 1 (g .n)) ≡ flatMap (nodes-at g) (range 1 k) =
+      ap (flatMap (nodes-at g)) parts ∙ flatMap-append (nodes-at g) (range 1 k) (range (1 + k) (g .n - k))
+      ∙ ap (λ (xs : List Node). flatMap (nodes-at g) (range 1 k) ++ xs) rest ∙ append-nil (flatMap (nodes-at g) (range 1 k)) in
+      nodes-before-zero k ∙ ap {B = List Node} (λ xs. root ∷ xs) (sym all)
+
+  -- ---- how many they are
+
+  -- the radios of number k at most
+  abbrev low : (k v : ℕ) → Bool
+  low k v = leb (number g v) k
+
+  low-own : (k v : ℕ) → cond {A = ℕ} (low k v) 1 0 + cond (own g (suc k) v) 1 0 ≤ cond (low (suc k) v) 1 0
+  unfolding own
+  low-own k v = go (bool-cases (eqb (number g v) (suc k)))
+    where
+      go : (eqb (number g v) (suc k) ≡ true) ⊎ (eqb (number g v) (suc k) ≡ false)
+          → cond {A = ℕ} (low k v) 1 0 + cond (own g (suc k) v) 1 0 ≤ cond (low (suc k) v) 1 0
+      go (inl e) =
+          let q = eqb-true (number g v) (suc k) e in
+          rw (lt-leb (number g v) k (omega arith), le-leb (number g v) (suc k) (omega arith), e) (omega (arith, bit-one (eqb (node-name g v) v)))
+      go (inr e) = rw e (omega (arith, bit-le (low k v) (low (suc k) v) (λ h. le-leb (number g v) (suc k) (omega (arith, leb-true (number g v) k h)))))
+
+  length-nodes-within : (k v : ℕ) → length (nodes-within g (suc k) v) ≡ count (own g (suc k)) (range 0 v)
+  unfolding nodes-within
+  length-nodes-within k v =
+      length-map-any (λ w. node w (suc k) (parent-name g w (suc k))) (filter (own g (suc k)) (range 0 v)) ∙ length-filter (own g (suc k)) (range 0 v)
+
+  length-levels : (k : ℕ) → length (flatMap (nodes-at g) (range 1 k)) ≤ count (low k) (range 0 (g .n))
+  unfolding range flatMap
+  length-levels zero = omega arith
+  length-levels (suc k) =
+      omega (
+        arith,
+        ap length (levels-next k),
+        length-append (flatMap (nodes-at g) (range 1 k)) (nodes-at g (suc k)),
+        ap length (nodes-within-all k),
+        length-nodes-within k (g .n),
+        length-levels k,
+        count-add (low k) (own g (suc k)) (low (suc k)) (range 0 (g .n)) (low-own k),
+      )
+
+  pub length-nodes-before : (k v : ℕ) → v ≤ g .n → length (nodes-before g k v) ≤ g .n + 1
+  unfolding nodes-before
+  length-nodes-before zero v l = omega arith
+  length-nodes-before (suc k) v l =
+      omega (
+        arith,
+        length-append (root ∷ flatMap (nodes-at g) (range 1 k)) (nodes-within g (suc k) v),
+        length-nodes-within k v,
+        length-levels k,
+        count-front (own g (suc k)) v (g .n) l,
+        count-add (low k) (own g (suc k)) (low (suc k)) (range 0 (g .n)) (low-own k),
+        count-le-length (low (suc k)) (range 0 (g .n)),
+        length-range 0 (g .n),
+      )

@@ -1,0 +1,92 @@
+-- The shell tree's answer: refused, and accepted.
+use mathlib.Core.Path.{_≡_, refl, sym, ap, _∙_}
+use mathlib.Core.Bool.{Bool, true, false, _&&_}
+use mathlib.Core.List.{List}
+use Prim.Native.Nat.{ℕ, _+_, _≤_, _<_, min}
+use native.Mathlib.Omega.{arith}
+use lib.Dec.{leb}
+use lib.ListN.{length}
+use borrow.Author.Tests.{lt-leb, le-leb}
+use Rattle.mesh.specs.Limits.{max-radios}
+use Rattle.mesh.specs.Tables.{tables, graph-in}
+use Rattle.mesh.specs.Sound.{sound}
+use Rattle.mesh.proofs.BoolLaws.{and-left, and-right, and-both}
+use Rattle.calls.specs.Questions.{lengths-of, size-good, site-lengths, site-refusal, tree-refusal, nodes-length, answer-length}
+use Rattle.calls.specs.declared.Value.{Value}
+use Rattle.calls.proofs.ContractLaws.{by-accepted, by-refused}
+use Rattle.calls.proofs.ChainLaws.{Site-good, site-zero}
+use Rattle.calls.proofs.QuestionLaws.{true-size-good, true-site-lengths, nodes-length-true, answer-length-true}
+use Rattle.soundness.specs.Checks.{fits-sound}
+use Rattle.tree.specs.Trees.{Lists, lists, Room, Grown, Tables-accepted, Tables-refused, places, Tables-contract}
+
+-- ---- room
+
+pub room-short : (n nodes answer : ℕ) → nodes ≤ n → false ≡ (nodes-length n nodes && answer-length n answer)
+unfolding nodes-length
+room-short n nodes answer h = rw (lt-leb (n + 1) nodes (omega arith))
+
+pub room-long : (n nodes answer : ℕ) → n < nodes → leb n answer ≡ (nodes-length n nodes && answer-length n answer)
+unfolding nodes-length answer-length
+room-long n nodes answer h = rw (le-leb (n + 1) nodes (omega arith))
+
+-- the shortest of four
+pub places-least : (room : ℕ) (s : Lists) (a b c : ℕ) → a ≡ min (length (s .names)) (length (s .levels)) → b ≡ min a (length (s .parents)) → c ≡ min room b
+    → c ≡ min room (places s)
+unfolding places
+places-least room s a b c p q r = r ∙ ap (min room) (q ∙ ap (λ (j : ℕ). min j (length (s .parents))) p)
+
+-- ---- the number that the questions give
+
+module _ (n room : ℕ) (ts ns xs : List ℕ) (s : Lists) (m q : ℕ) (others : Bool) (size : m ≡ min room (places s))
+    (asked : others ≡ (nodes-length n m && answer-length n (length (s .answer))))
+    (gave : q ≡ site-refusal n (lengths-of (tables ts ns xs)) others (sound n (tables ts ns xs)) 0) where
+  number-is : q ≡ tree-refusal n (lengths-of (tables ts ns xs)) (min room (places s)) (length (s .answer)) (sound n (tables ts ns xs))
+  unfolding tree-refusal
+  number-is = gave ∙ ap (λ (b : Bool). site-refusal n (lengths-of (tables ts ns xs)) b (sound n (tables ts ns xs)) 0)
+      (asked ∙ ap (λ (j : ℕ). nodes-length n j && answer-length n (length (s .answer))) size)
+
+  pub tree-refused : (r : Value) → (q ≡ 0 → ⊥) → r .number ≡ q → r .value ≡ 0 → Tables-contract n room (tables ts ns xs) s r s
+  unfolding Tables-contract
+  tree-refused r h e z =
+      by-refused _ (Tables-accepted (graph-in n ts) s r s) (λ p. Tables-refused p s r s) (λ p. h (number-is ∙ p))
+      (record { number = e ∙ number-is; value = z; kept = refl })
+
+  module _ (zero : q ≡ 0) where
+    good : Site-good n (lengths-of (tables ts ns xs)) others (sound n (tables ts ns xs))
+    good = site-zero n (lengths-of (tables ts ns xs)) others (sound n (tables ts ns xs)) 0 (sym gave ∙ zero) .0
+
+    pub tree-numbers : length ns ≡ n
+    unfolding lengths-of
+    tree-numbers = good .lent .lengths .numbers
+
+    pub tree-small : length ns ≤ max-radios
+    tree-small = omega (arith, tree-numbers, good .lent .most)
+
+    further : (nodes-length n m && answer-length n (length (s .answer))) ≡ true
+    further = sym asked ∙ good .lent .further
+
+    tree-room : Room n s
+    unfolding places
+    tree-room =
+        let nodes : n + 1 ≤ min room (min (min (length (s .names)) (length (s .levels))) (length (s .parents))) =
+        rw size at (nodes-length-true n m (and-left (nodes-length n m) (answer-length n (length (s .answer))) further)) in
+        record {
+          names = omega arith;
+          levels = omega arith;
+          parents = omega arith;
+          answer = answer-length-true n (length (s .answer)) (and-right (nodes-length n m) (answer-length n (length (s .answer))) further);
+        }
+
+    pub tree-answer : length ns ≤ length (s .answer)
+    tree-answer = omega (arith, tree-numbers, tree-room .answer)
+
+    fits : fits-sound n (tables ts ns xs) ≡ true
+    unfolding fits-sound
+    fits = and-both (size-good n) (site-lengths n (lengths-of (tables ts ns xs)) && sound n (tables ts ns xs)) (true-size-good n (good .lent .least) (good .lent .most))
+        (and-both (site-lengths n (lengths-of (tables ts ns xs))) (sound n (tables ts ns xs)) (true-site-lengths n (lengths-of (tables ts ns xs)) (good .lent .lengths)) (good .is-sound))
+
+    pub tree-accepted : (r : Value) (u : Lists) → r .number ≡ 0 → Grown ts ns s (r .value) u → Tables-contract n room (tables ts ns xs) s r u
+    unfolding Tables-contract Grown
+    tree-accepted r u e h =
+        let w = rw tree-numbers at (h xs (rw tree-numbers fits) (rw tree-numbers tree-room)) in
+        by-accepted _ (λ p. Tables-refused p s r u) (sym number-is ∙ zero) (record { number = e; value = w .count; front = w .front })

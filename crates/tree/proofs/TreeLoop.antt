@@ -1,0 +1,140 @@
+-- All levels as a loop: the root first, then level by level to the greatest number, and what the lists hold at the end.
+use mathlib.Core.Path.{_≡_, refl, sym, ap, ap₂, _∙_}
+use mathlib.Core.Bool.{Bool, true, false}
+use mathlib.Core.List.{List, [], _∷_, map}
+use Prim.Native.Nat.{ℕ, zero, suc, _+_, _*_, _≤_, _<_, min, max}
+use native.Mathlib.Omega.{arith}
+use native.Mathlib.Numerals.{add-one}
+use lib.ListN.{length, getD, drop, set, replicate, length-append, length-drop, length-replicate}
+use Rattle.mesh.specs.Limits.{max-radios}
+use Rattle.mesh.specs.Lists.{range, overwrite}
+use Rattle.mesh.specs.Graph.{Graph, radios}
+use Rattle.mesh.specs.Cores.{number}
+use Rattle.mesh.specs.Tables.{tables, graph-in}
+use Rattle.mesh.specs.Connected.{greatest}
+use Rattle.mesh.specs.Tree.{root-name, root, node-name, parent-name, tree, node-names}
+use Rattle.mesh.proofs.TreeLaws.{number-le-n}
+use Rattle.mesh.proofs.ShellNames.{node-name-parent}
+use Rattle.soundness.specs.Checks.{fits-sound}
+use Rattle.tables.proofs.WidthLaws.{map-range-constant}
+use Rattle.queries.proofs.SoundSite.{Sound-site, number-entry}
+use Rattle.tree.specs.Trees.{Lists, lists, with-front, Room, name-before, present, nodes-before, Growing, Levelled, Tree-written, Grown}
+use Rattle.tree.proofs.ShellCover.{present-start}
+use Rattle.tree.proofs.NodeLists.{map-range-same, set-overwrite, nodes-before-start, nodes-before-tree}
+use Rattle.tree.proofs.GrowLaws.{lists-same}
+use Rattle.tree.proofs.LevelLoop.{fits-sound-site, Same-lengths}
+
+-- ---- the greatest entry
+
+getD-le-greatest : (ns : List ℕ) (v : ℕ) → v < length ns → getD ns v 0 ≤ greatest ns
+unfolding greatest
+getD-le-greatest [] v l = absurd (omega arith)
+getD-le-greatest (x ∷ xs) zero l = omega arith
+getD-le-greatest (x ∷ xs) (suc v) l = omega (arith, getD-le-greatest xs v (omega arith))
+
+greatest-le : (ns : List ℕ) (m : ℕ) → ((v : ℕ) → v < length ns → getD ns v 0 ≤ m) → greatest ns ≤ m
+unfolding greatest
+greatest-le [] m h = omega arith
+greatest-le (x ∷ xs) m h = omega (arith, h 0 (omega arith), greatest-le xs m (λ v l. h (suc v) (omega arith)))
+
+-- ---- the root
+
+present-first : (g : Graph) → map (present g 1 0) (radios g) ≡ replicate (g .n) root-name
+unfolding radios name-before parent-name
+present-first g =
+    map-range-same (present g 1 0) (λ w. root-name) 0 (g .n)
+    (λ w a l. let e : min 1 (suc (number g w)) ≡ 1 = omega arith in present-start g 1 w ∙ ap (parent-name g w) e)
+    ∙ map-range-constant root-name 0 (g .n)
+
+pub growing-start : (g : Graph) (old new : Lists) (m : ℕ) → Room (g .n) old → m ≡ g .n → new .names ≡ set (old .names) 0 root-name → new .levels ≡ set (old .levels) 0 0
+    → new .parents ≡ set (old .parents) 0 root-name → new .answer ≡ overwrite (replicate (min m (length (old .answer))) root-name) (old .answer)
+    → Growing g 1 0 old new 1
+unfolding with-front overwrite
+growing-start g old new m room e names levels parents answer = start
+  where
+    all : min m (length (old .answer)) ≡ g .n
+    all = omega (arith, room .answer)
+
+    front : new ≡ with-front (root ∷ []) (replicate (g .n) root-name) old
+    front = lists-same new (with-front (root ∷ []) (replicate (g .n) root-name) old)
+        (names ∙ set-overwrite [] (old .names) 0 root-name refl (omega (arith, room .names)))
+        (levels ∙ set-overwrite [] (old .levels) 0 0 refl (omega (arith, room .levels)))
+        (parents ∙ set-overwrite [] (old .parents) 0 root-name refl (omega (arith, room .parents)))
+        (answer ∙ ap (λ (j : ℕ). overwrite (replicate j root-name) (old .answer)) all)
+
+    start : Growing g 1 0 old new 1
+    start = record {
+      counted = ap length (sym (nodes-before-start g));
+      front = front ∙ ap₂ (λ xs ys. with-front xs ys old) (sym (nodes-before-start g)) (sym (present-first g));
+    }
+
+-- ---- the end
+
+present-last : (g : Graph) (top w : ℕ) → w < g .n → number g w ≤ top → present g (suc top) 0 w ≡ node-name g w
+unfolding name-before
+present-last g top w l h =
+    let e : min (suc top) (suc (number g w)) ≡ suc (number g w) = omega arith in
+    present-start g (suc top) w ∙ ap (parent-name g w) e ∙ sym (node-name-parent g w l)
+
+growing-last : (g : Graph) (top c : ℕ) (old new : Lists) → top ≤ g .n → ((w : ℕ) → w < g .n → number g w ≤ top) → Growing g (suc top) 0 old new c
+    → Tree-written g old c new
+unfolding node-names radios
+growing-last g top c old new l h a = record {
+  count = a .counted ∙ ap length (nodes-before-tree g top l h);
+  front = a .front ∙ ap₂ (λ xs ys. with-front xs ys old) (nodes-before-tree g top l h)
+      (map-range-same (present g (suc top) 0) (node-name g) 0 (g .n) (λ w m q. present-last g top w (omega arith) (h w (omega arith))));
+}
+
+-- ---- the loop: before level k the lists are right if they were so at the start
+
+pub record Treeing (ts ns : List ℕ) (before : Lists) (c₀ k : ℕ) (after : Lists) (c : ℕ) : Type 0 where
+  pub low : 1 ≤ k
+  pub few : c ≤ max-radios * k
+  pub lengths : Same-lengths before after
+  pub right : (order : List ℕ) → fits-sound (length ns) (tables ts ns order) ≡ true → (old : Lists) → Room (length ns) old
+      → Growing (graph-in (length ns) ts) 1 0 old before c₀ → Growing (graph-in (length ns) ts) k 0 old after c
+
+pub treeing-none : (ts ns : List ℕ) (before : Lists) → Treeing ts ns before 1 1 before 1
+treeing-none ts ns before = record {
+  low = omega arith;
+  few = omega arith;
+  lengths = record { names = refl; levels = refl; parents = refl; answer = refl };
+  right = λ order h old room grown. grown;
+}
+
+pub treeing-turn : (ts ns : List ℕ) (before : Lists) (c₀ k : ℕ) (now : Lists) (c : ℕ) (after : Lists) (r : ℕ) → Same-lengths now after
+    → r ≤ max-radios * (k + 1) → Levelled ts ns k now c after r → Treeing ts ns before c₀ k now c → Treeing ts ns before c₀ (k + 1) after r
+unfolding Levelled
+treeing-turn ts ns before c₀ k now c after r same few h a = record {
+  low = omega arith;
+  few = few;
+  lengths = record {
+    names = same .names ∙ a .lengths .names;
+    levels = same .levels ∙ a .lengths .levels;
+    parents = same .parents ∙ a .lengths .parents;
+    answer = same .answer ∙ a .lengths .answer;
+  };
+  right = λ order e old room grown. h order e old room (a .right order e old room grown);
+}
+
+pub treeing-end : (ts ns : List ℕ) (old before : Lists) (top k : ℕ) (after : Lists) (c : ℕ) → top ≡ greatest ns → k ≡ top + 1
+    → before .names ≡ set (old .names) 0 root-name → before .levels ≡ set (old .levels) 0 0 → before .parents ≡ set (old .parents) 0 root-name
+    → before .answer ≡ overwrite (replicate (min (length ns) (length (old .answer))) root-name) (old .answer)
+    → Treeing ts ns before 1 k after c → Grown ts ns old c after
+unfolding Grown graph-in
+treeing-end ts ns old before top k after c e q names levels parents answer a order h room =
+    let g = graph-in (length ns) ts in
+    let site = fits-sound-site (length ns) (tables ts ns order) h in
+    let start = growing-start g old before (length ns) room refl names levels parents answer in
+    let last : Growing g (suc top) 0 old after c = rw (q ∙ add-one top) at (a .right order h old room start) in
+    growing-last g top c old after
+    (omega (arith, greatest-le ns (length ns) (λ v l. omega (arith, number-entry (length ns) (tables ts ns order) site v l, number-le-n g v))))
+    (λ w l. omega (arith, number-entry (length ns) (tables ts ns order) site w l, getD-le-greatest ns w l)) last
+
+-- the answer table keeps its length
+pub length-filled : (m x : ℕ) (d : List ℕ) → length (overwrite (replicate (min m (length d)) x) d) ≡ length d
+unfolding overwrite
+length-filled m x d =
+    let new = replicate (min m (length d)) x in
+    let long : length new ≡ min m (length d) = length-replicate (min m (length d)) x in
+    length-append new (drop (length new) d) ∙ omega (arith, long, length-drop (length new) d)

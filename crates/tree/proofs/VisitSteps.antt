@@ -1,0 +1,37 @@
+-- One radio of a level, as the code has it: the tests are those of `takes-node`.
+use mathlib.Core.Path.{_≡_, refl, sym, _∙_}
+use mathlib.Core.Bool.{true, false}
+use mathlib.Core.List.{List}
+use Prim.Native.Nat.{ℕ, _+_}
+use lib.ListN.{getD, set}
+use borrow.Author.Tests.{eq-eqb, ne-eqb}
+use Rattle.mesh.specs.Tables.{marked}
+use Rattle.mesh.proofs.BoolLaws.{never}
+use Rattle.tree.specs.Trees.{Lists, lists, Core-named, takes-node, Visited}
+
+module _ (ts ns : List ℕ) (k v : ℕ) (s q : List ℕ) (old : Lists) (c : ℕ) where
+  takes-node-false : takes-node ns k s v ≡ false → Visited ts ns k v s q old c s old c
+  takes-node-false h = record { taken = λ e. never _ e h; passed = λ e. record { set = refl; lists = refl; counted = refl } }
+
+  -- another number
+  pub visited-other : (getD ns v 0 ≡ k → ⊥) → Visited ts ns k v s q old c s old c
+  unfolding takes-node
+  visited-other h = takes-node-false (rw (ne-eqb (getD ns v 0) k h))
+
+  module _ (number : getD ns v 0 ≡ k) where
+    -- named at this level already
+    pub visited-marked : marked s 0 v ≡ true → Visited ts ns k v s q old c s old c
+    unfolding takes-node
+    visited-marked h = takes-node-false (rw (eq-eqb (getD ns v 0) k number, h))
+
+    -- a node
+    pub visited-node : (t : List ℕ) (new : Lists) → marked s 0 v ≡ false → new .names ≡ set (old .names) c v → new .levels ≡ set (old .levels) c k
+        → new .parents ≡ set (old .parents) c (getD (old .answer) v 0) → Core-named ts ns k v s q (old .answer) t (new .answer)
+        → Visited ts ns k v s q old c t new (c + 1)
+    unfolding takes-node
+    visited-node t new h names levels parents core =
+        let yes : takes-node ns k s v ≡ true = rw (eq-eqb (getD ns v 0) k number, h) in
+        record {
+          taken = λ e. record { names = names; levels = levels; parents = parents; core = core; counted = refl };
+          passed = λ e. never _ yes e;
+        }

@@ -1,0 +1,165 @@
+-- The shell tree over three tables of nodes and the answer table.
+--   Lists                   names, levels and parents of nodes, and the answer table
+--   with-front xs ys s      the lists s with the nodes xs and the radios' names ys in front
+--   entries-set x ws t      the table t with x at each place that ws lists
+--   Core-named              a flood from v, and v written for each radio that came in
+--   takes-node, Visited     radio v at level k: a node where it has number k and is not in the set, else nothing
+--   own g k v               v has number k and names its own node
+--   covered g k v w         the connected core of w at level k has a radio of number k below v
+--   name-before g k w       the name that w has before level k: of its nearest node below k
+--   present g k v w         the name that w has at level k before v
+--   nodes-before g k v      the root and the nodes that come before v at level k
+--   Growing                 the lists hold these nodes and names in front
+--   Levelled, Grown         what one level, and all of them, leave for sound tables
+--   Tables-contract         document 01: the shell tree, its nodes as three tables
+-- Definitions only.
+use mathlib.Core.Path.{_≡_}
+use mathlib.Core.Bool.{Bool, true, false, _&&_, not, cond}
+use mathlib.Core.List.{List, [], _∷_, _++_, map, flatMap}
+use Prim.Native.Nat.{ℕ, zero, suc, _+_, _*_, _≤_, _<_, min}
+use lib.Dec.{ltb, leb, eqb}
+use lib.ListN.{length, getD, take, set}
+use Rattle.mesh.specs.Limits.{max-radios, row-bytes}
+use Rattle.mesh.specs.Lists.{range, filter, head-or, overwrite}
+use Rattle.mesh.specs.Graph.{Graph, radios}
+use Rattle.mesh.specs.Cores.{number}
+use Rattle.mesh.specs.Tables.{Tables, tables, marked, graph-in}
+use Rattle.mesh.specs.Sound.{sound}
+use Rattle.mesh.specs.Tree.{root-name, root, node, shell, node-name, parent-name, nodes-at, tree, node-names}
+use Rattle.mesh.specs.declared.Node.{Node}
+use Rattle.calls.specs.Questions.{By-number, lengths-of, tree-refusal}
+use Rattle.calls.specs.declared.Value.{Value}
+use Rattle.soundness.specs.Checks.{fits-sound}
+use Rattle.queries.specs.Floods.{Flooded}
+
+pub record Lists : Type 0 where
+  pub names : List ℕ
+  pub levels : List ℕ
+  pub parents : List ℕ
+  pub answer : List ℕ
+
+abbrev pub lists : (names levels parents answer : List ℕ) → Lists
+lists a b c d = record { names = a; levels = b; parents = c; answer = d }
+
+-- later entries keep their content
+unfoldable pub with-front : (nodes : List Node) → (names : List ℕ) → Lists → Lists
+with-front xs ys s =
+    lists
+    (overwrite (map (λ (x : Node). x .name) xs) (s .names))
+    (overwrite (map (λ (x : Node). x .level) xs) (s .levels))
+    (overwrite (map (λ (x : Node). x .parent) xs) (s .parents))
+    (overwrite ys (s .answer))
+
+-- there are n + 1 places for nodes, and n for radios
+pub record Room (n : ℕ) (s : Lists) : Type 0 where
+  pub names : n + 1 ≤ length (s .names)
+  pub levels : n + 1 ≤ length (s .levels)
+  pub parents : n + 1 ≤ length (s .parents)
+  pub answer : n ≤ length (s .answer)
+
+-- ---- one radio
+
+unfoldable pub entries-set : (x : ℕ) → (places table : List ℕ) → List ℕ
+entries-set x [] t = t
+entries-set x (w ∷ ws) t = entries-set x ws (set t w x)
+
+-- s, q and a are the set, the queue and the answer table before, t and b the set and the answer table after
+pub record Core-named (ts ns : List ℕ) (k v : ℕ) (s q a t b : List ℕ) : Type 0 where
+  pub came : ℕ
+  pub queue : List ℕ
+  pub flooded : Flooded ts ns k v s q came t queue
+  pub named : b ≡ entries-set v (take came queue) a
+
+unfoldable pub takes-node : (numbers : List ℕ) → (level : ℕ) → (set : List ℕ) → (v : ℕ) → Bool
+takes-node ns k s v = eqb (getD ns v 0) k && not (marked s 0 v)
+
+-- a node comes behind the first c: v, the level and the name that v had
+pub record Node-taken (ts ns : List ℕ) (k v : ℕ) (s q : List ℕ) (old : Lists) (c : ℕ) (t : List ℕ) (new : Lists) (r : ℕ) : Type 0 where
+  pub names : new .names ≡ set (old .names) c v
+  pub levels : new .levels ≡ set (old .levels) c k
+  pub parents : new .parents ≡ set (old .parents) c (getD (old .answer) v 0)
+  pub core : Core-named ts ns k v s q (old .answer) t (new .answer)
+  pub counted : r ≡ c + 1
+
+pub record Nothing-taken (s : List ℕ) (old : Lists) (c : ℕ) (t : List ℕ) (new : Lists) (r : ℕ) : Type 0 where
+  pub set : t ≡ s
+  pub lists : new ≡ old
+  pub counted : r ≡ c
+
+pub record Visited (ts ns : List ℕ) (k v : ℕ) (s q : List ℕ) (old : Lists) (c : ℕ) (t : List ℕ) (new : Lists) (r : ℕ) : Type 0 where
+  pub taken : takes-node ns k s v ≡ true → Node-taken ts ns k v s q old c t new r
+  pub passed : takes-node ns k s v ≡ false → Nothing-taken s old c t new r
+
+-- ---- the tree on its way
+
+unfoldable pub own : Graph → (k v : ℕ) → Bool
+own g k v = eqb (number g v) k && eqb (node-name g v) v
+
+unfoldable pub covered : Graph → (k v w : ℕ) → Bool
+covered g k v w = leb k (number g w) && ltb (head-or (g .n) (shell g w k)) v
+
+unfoldable pub name-before : Graph → (k w : ℕ) → ℕ
+name-before g k w = parent-name g w (min k (suc (number g w)))
+
+unfoldable pub present : Graph → (k v w : ℕ) → ℕ
+present g k v w = cond (covered g k v w) (head-or root-name (shell g w k)) (name-before g k w)
+
+-- the nodes of level k whose names are below v
+unfoldable pub nodes-within : Graph → (k v : ℕ) → List Node
+nodes-within g zero v = []
+nodes-within g (suc k) v = map (λ w. node w (suc k) (parent-name g w (suc k))) (filter (own g (suc k)) (range 0 v))
+
+unfoldable pub nodes-before : Graph → (k v : ℕ) → List Node
+nodes-before g zero v = root ∷ []
+nodes-before g (suc k) v = (root ∷ flatMap (nodes-at g) (range 1 k)) ++ nodes-within g (suc k) v
+
+pub record Growing (g : Graph) (k v : ℕ) (old new : Lists) (c : ℕ) : Type 0 where
+  pub counted : c ≡ length (nodes-before g k v)
+  pub front : new ≡ with-front (nodes-before g k v) (map (present g k v) (radios g)) old
+
+-- the set has the radios that have got their name of level k
+pub record Marks (g : Graph) (k v : ℕ) (s : List ℕ) : Type 0 where
+  pub long : length s ≡ row-bytes
+  pub bits : (w : ℕ) → w < g .n → marked s 0 w ≡ covered g k v w
+
+-- ---- for sound tables
+
+-- level k, where the lists hold what comes before it
+unfoldable pub Levelled : (links numbers : List ℕ) → (k : ℕ) → (before : Lists) → (c : ℕ) → (after : Lists) → (r : ℕ) → Type 0
+Levelled ts ns k s c t r =
+    let g = graph-in (length ns) ts in
+    (order : List ℕ) → fits-sound (length ns) (tables ts ns order) ≡ true → (old : Lists) → Room (length ns) old → Growing g k 0 old s c → Growing g (k + 1) 0 old t r
+
+-- the whole tree in front
+pub record Tree-written (g : Graph) (before : Lists) (r : ℕ) (after : Lists) : Type 0 where
+  pub count : r ≡ length (tree g)
+  pub front : after ≡ with-front (tree g) (node-names g) before
+
+unfoldable pub Grown : (links numbers : List ℕ) → (before : Lists) → (r : ℕ) → (after : Lists) → Type 0
+Grown ts ns s r t =
+    (order : List ℕ) → fits-sound (length ns) (tables ts ns order) ≡ true → Room (length ns) s → Tree-written (graph-in (length ns) ts) s r t
+
+-- ---- the shell tree
+
+pub record Tables-accepted (g : Graph) (before : Lists) (r : Value) (after : Lists) : Type 0 where
+  pub number : r .number ≡ 0
+  pub value : r .value ≡ length (tree g)
+  pub front : after ≡ with-front (tree g) (node-names g) before
+
+-- refused by q: all four keep their content
+pub record Tables-refused (q : ℕ) (before : Lists) (r : Value) (after : Lists) : Type 0 where
+  pub number : r .number ≡ q
+  pub value : r .value ≡ 0
+  pub kept : after ≡ before
+
+-- how many nodes the three tables have place for
+unfoldable pub places : Lists → ℕ
+places s = min (min (length (s .names)) (length (s .levels))) (length (s .parents))
+
+-- `room` is how many places the caller has for nodes beside the three tables
+unfoldable pub Tables-contract : (n room : ℕ) → Tables → (before : Lists) → Value → (after : Lists) → Type 0
+Tables-contract n room t s r u =
+    By-number
+    (tree-refusal n (lengths-of t) (min room (places s)) (length (s .answer)) (sound n t))
+    (Tables-accepted (graph-in n (t .links)) s r u)
+    (λ q. Tables-refused q s r u)

@@ -1,0 +1,88 @@
+// Single writes of the shell tree: a node in three tables, a name for each radio of a core, the greatest number.
+ghost use mathlib.Core.Path.{_≡_};
+ghost use Prim.Native.Nat.{_≤_, min, max};
+ghost use lib.ListN.{length, take, set, replicate};
+ghost use Rattle.mesh.specs.Lists.{overwrite};
+ghost use Rattle.mesh.specs.Connected.{greatest};
+ghost use Rattle.tree.specs.Trees.{entries-set, Core-named};
+
+// Writes a node at a place of three tables; past a table nothing changes.
+pub fn put_node(
+    names: &mut [u16],
+    levels: &mut [u16],
+    parents: &mut [u16],
+    at: usize,
+    name: u16,
+    level: u16,
+    parent: u16,
+)
+    ensures named { λ _. ⌜ now (names .exit) ≡ set (now (names .entry)) at name ⌝ }
+    ensures levelled { λ _. ⌜ now (levels .exit) ≡ set (now (levels .entry)) at level ⌝ }
+    ensures parented { λ _. ⌜ now (parents .exit) ≡ set (now (parents .entry)) at parent ⌝ }
+{
+    tables::rows::put_entry(names, at, name);
+    tables::rows::put_entry(levels, at, level);
+    tables::rows::put_entry(parents, at, parent);
+}
+
+// Writes x at each place of the answer table that the first k entries of the list name; past the table nothing changes.
+fn name_all(list: &[u16], k: usize, x: u16, answer: &mut [u16])
+    requires { ⌜ k ≤ length (now list) ⌝ }
+    ensures { λ _. ⌜ now (answer .exit) ≡ entries-set x (take k (now (list .entry))) (now (answer .entry)) ⌝ }
+{
+    let mut i: usize = 0;
+    while i < k {
+        tables::rows::put_entry(answer, list[i] as usize, x);
+        i += 1;
+    }
+}
+
+// Floods from v over radios whose number is at least the level, and writes v in the answer table for each radio that came in.
+// The set has these beside what it had; the queue holds anything after.
+pub fn name_core<'a>(
+    links: &'a [u8],
+    numbers: &'a [u8],
+    level: u8,
+    v: u16,
+    set: &mut [u8],
+    queue: &mut [u16],
+    answer: &mut [u16],
+)
+    ensures { λ _. ⌜ Core-named (now (links .entry)) (now (numbers .entry)) level v (now (set .entry)) (now (queue .entry)) (now (answer .entry)) (now (set .exit)) (now (answer .exit)) ⌝ }
+{
+    let k = queries::flood::flood(links, numbers, level, v as u32, set, queue);
+    let m = tables::fill::least(k, queue.len());
+    name_all(queue, m, v, answer);
+}
+
+// The first k entries of the table are x after, or all where there are fewer; later entries keep their content.
+pub fn fill_front(table: &mut [u16], k: usize, x: u16)
+    ensures { λ _. ⌜ now (table .exit) ≡ overwrite (replicate (min k (length (now (table .entry)))) x) (now (table .entry)) ⌝ }
+{
+    let m = tables::fill::least(k, table.len());
+    let mut i: usize = 0;
+    while i < m {
+        table[i] = x;
+        i += 1;
+    }
+}
+
+// The larger of two numbers.
+fn larger(a: u8, b: u8) -> u8
+    ensures { λ r. ⌜ r ≡ max a b ⌝ }
+{
+    if a < b { b } else { a }
+}
+
+// The greatest number of the table; 0 where it is empty.
+pub fn greatest(numbers: &[u8]) -> u8
+    ensures { λ r. ⌜ r ≡ greatest (now (numbers .entry)) ⌝ }
+{
+    let mut top: u8 = 0;
+    let mut v: usize = 0;
+    while v < numbers.len() {
+        top = larger(top, numbers[v]);
+        v += 1;
+    }
+    top
+}
