@@ -7,7 +7,7 @@ use contract.Notation
 use denote.Ref.{now}
 use Rattle.mesh.specs.Tables.{tables}
 use Rattle.calls.specs.Writes.{Clear-contract, Link-contract}
-use Rattle.calls.specs.Answers.{Check-contract, Number-contract, Neighbours-contract, Linked-contract, First-contract, Core-contract, Backbone-contract}
+use Rattle.calls.specs.Answers.{Check-contract, Number-contract, Neighbours-contract, Linked-contract, First-contract, Core-contract, Backbone-contract, Write-contract, Block-contract}
 use Rattle.summerbugle.proofs.sb_clear as clear
 use Rattle.summerbugle.proofs.sb_clear.Met as clear-proof
 use Rattle.summerbugle.proofs.sb_clear.Statement as clear-statement
@@ -38,6 +38,12 @@ use Rattle.summerbugle.proofs.sb_core.Statement as core-statement
 use Rattle.summerbugle.proofs.sb_backbone as backbone
 use Rattle.summerbugle.proofs.sb_backbone.Met as backbone-proof
 use Rattle.summerbugle.proofs.sb_backbone.Statement as backbone-statement
+use Rattle.summerbugle.proofs.sb_image_write as image-write
+use Rattle.summerbugle.proofs.sb_image_write.Met as image-write-proof
+use Rattle.summerbugle.proofs.sb_image_write.Statement as image-write-statement
+use Rattle.summerbugle.proofs.sb_image_block as image-block
+use Rattle.summerbugle.proofs.sb_image_block.Met as image-block-proof
+use Rattle.summerbugle.proofs.sb_image_block.Statement as image-block-statement
 
 module _ {M : Type 1} (𝓤 : URA M) (H : Heap 𝓤) where
   abbrev 𝓛 : Notation.Connectives 𝓤
@@ -135,6 +141,24 @@ module _ {M : Type 1} (𝓤 : URA M) (H : Heap 𝓤) where
   pub backbone-asks : (A : _) (mem : _) (run : _) (κs : _) (args : _) (g : _) → backbone.clauses 𝓤 H A mem run κs args .requires g ≡ ⊤ₛ
   backbone-asks A mem run κs args g = refl
 
+  pub image-write-says :
+      (κs : _) (A : _) (mem : _) (run : _) (n links numbers order buffer : _) (n′ l k o w : _) (r : _) →
+      image-write.ensures-1 𝓤 H κs A mem run n links numbers order buffer n′ l k o w r
+      ≡ ⌜ Write-contract n (tables (now (l .entry)) (now (k .entry)) (now (o .entry))) (now (w .entry)) r (now (w .exit)) ⌝
+  image-write-says κs A mem run n links numbers order buffer n′ l k o w r = refl
+
+  pub image-write-asks : (A : _) (mem : _) (run : _) (κs : _) (args : _) (g : _) → image-write.clauses 𝓤 H A mem run κs args .requires g ≡ ⊤ₛ
+  image-write-asks A mem run κs args g = refl
+
+  pub image-block-says :
+      (κs : _) (A : _) (mem : _) (run : _) (image next : _) (w next′ : _) (r : _) →
+      image-block.ensures-1 𝓤 H κs A mem run image next w next′ r
+      ≡ ⌜ Block-contract (now (w .entry)) next r ⌝
+  image-block-says κs A mem run image next w next′ r = refl
+
+  pub image-block-asks : (A : _) (mem : _) (run : _) (κs : _) (args : _) (g : _) → image-block.clauses 𝓤 H A mem run κs args .requires g ≡ ⊤ₛ
+  image-block-asks A mem run κs args g = refl
+
 pub clear-met : {M : Type 1} → clear-statement.statement M
 clear-met = clear-proof.met
 
@@ -164,3 +188,9 @@ core-met = core-proof.met
 
 pub backbone-met : {M : Type 1} → backbone-statement.statement M
 backbone-met = backbone-proof.met
+
+pub image-write-met : {M : Type 1} → image-write-statement.statement M
+image-write-met = image-write-proof.met
+
+pub image-block-met : {M : Type 1} → image-block-statement.statement M
+image-block-met = image-block-proof.met

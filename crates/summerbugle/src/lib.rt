@@ -3,7 +3,8 @@
 ghost use mathlib.Core.Bool.{true, false};
 ghost use Rattle.mesh.specs.Tables.{tables};
 ghost use Rattle.calls.specs.Writes.{Clear-contract, Link-contract};
-ghost use Rattle.calls.specs.Answers.{Check-contract, Number-contract, Neighbours-contract, Linked-contract, First-contract, Core-contract, Backbone-contract};
+ghost use Rattle.calls.specs.Answers.{Check-contract, Number-contract, Neighbours-contract, Linked-contract, First-contract, Core-contract, Backbone-contract, Write-contract, Block-contract};
+use calls::Block;
 use calls::Reply;
 use calls::Value;
 
@@ -149,4 +150,28 @@ pub extern "C" fn sb_backbone<'a>(
     ensures { λ r. ⌜ Backbone-contract n (tables (now (links .entry)) (now (numbers .entry)) (now (order .entry))) (now (answer .entry)) r (now (answer .exit)) ⌝ }
 {
     queries::backbone::backbone(n, links, numbers, order, answer)
+}
+
+// Writes the site's image in front of the buffer: the value is its length in bytes, and bytes past it keep their content. Refused
+// by 1 to 3 and 9: then the buffer keeps its content.
+#[no_mangle]
+pub extern "C" fn sb_image_write(
+    n: u32,
+    links: &[u8],
+    numbers: &[u8],
+    order: &[u16],
+    buffer: &mut [u8],
+) -> Value
+    ensures { λ r. ⌜ Write-contract n (tables (now (links .entry)) (now (numbers .entry)) (now (order .entry))) (now (buffer .entry)) r (now (buffer .exit)) ⌝ }
+{
+    image::writer::write(n, links, numbers, order, buffer)
+}
+
+// A step of the block reader whose next block is `next`: where the payload lies in the image, and the number of the next block;
+// after the last block the end. Refused by 9 and 10. At the end and on a refusal the part is empty and the number is kept.
+#[no_mangle]
+pub extern "C" fn sb_image_block(image: &[u8], next: usize) -> Block
+    ensures { λ r. ⌜ Block-contract (now (image .entry)) next r ⌝ }
+{
+    image::blocks::block(image, next)
 }
