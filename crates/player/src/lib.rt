@@ -1,0 +1,56 @@
+// The replay program as a library: reads a descriptor to its end, plays its lines on a site of its own, and prints what each
+// line says to standard output. A line of another form ends the run with `bad L`. No public function has a `requires`.
+ghost use Prim.Native.Nat.{_≤_};
+ghost use Rattle.mesh.specs.Limits.{max-radios};
+
+mod first;
+mod play;
+mod reading;
+
+use mesh::Site;
+
+// The bytes of a site's largest links table.
+const LINKS_BYTES: usize = Site::ROW_BYTES * Site::RADIOS as usize;
+
+// Clears the site and plays the lines after the first on it.
+fn play_site(
+    fd: i32,
+    n: u32,
+    links: &mut [u8],
+    numbers: &mut [u8],
+    order: &mut [u16],
+    answer: &mut [u16],
+) {
+    tables::clear::clear(n, links, numbers, order);
+    reading::read_all(fd, n, links, numbers, order, answer);
+}
+
+// Plays the lines after the first on a site of n radios, whose tables are parts of the largest ones.
+fn run_site(fd: i32, n: u32)
+    requires { ⌜ n ≤ max-radios ⌝ }
+{
+    let many = n as usize;
+    let bytes = Site::ROW_BYTES * many;
+    let mut links = [0u8; LINKS_BYTES];
+    let mut numbers = [0u8; Site::RADIOS as usize];
+    let mut order = [0u16; Site::RADIOS as usize];
+    let mut answer = [0u16; Site::RADIOS as usize];
+    play_site(
+        fd,
+        n,
+        &mut links[..bytes],
+        &mut numbers[..many],
+        &mut order[..many],
+        &mut answer[..many],
+    );
+}
+
+// Plays what the descriptor holds, to its end.
+pub fn run(fd: i32) {
+    let n = first::read_first(fd);
+    if n == 0 {
+        reading::print_bad(1);
+        return;
+    }
+    run_site(fd, n);
+}

@@ -1,0 +1,4 @@
+// The replay program: plays standard input.
+fn main() {
+    player::run(0);
+}

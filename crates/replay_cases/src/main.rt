@@ -1,0 +1,76 @@
+// The replay program on each script of data/, in turn: the script's name, then what is printed. Scripts and expected output are
+// made by oracle/scripts.py.
+use libc::STDOUT_FILENO;
+
+// Plays one script.
+fn case(path: &[u8]) {
+    let fd = os::open_read(path);
+    if fd < 0 {
+        os::fail(path);
+        return;
+    }
+    io::write_all(STDOUT_FILENO, path);
+    io::write_all(STDOUT_FILENO, b"\n");
+    player::run(fd);
+    libc::close(fd);
+}
+
+// Document 01's cases, refusals, and sites of all sizes.
+fn sites() {
+    case(b"m1");
+    case(b"m2");
+    case(b"m4");
+    case(b"m5");
+    case(b"m9");
+    case(b"m10");
+    case(b"refusals");
+    case(b"one-radio");
+    case(b"no-calls-512");
+    case(b"clique-33");
+    case(b"ring-512");
+    case(b"circulant-512");
+}
+
+// First lines of another form.
+fn first_lines() {
+    case(b"empty");
+    case(b"empty-line");
+    case(b"no-first-line");
+    case(b"unterminated-first-line");
+    case(b"radios-0");
+    case(b"radios-513");
+    case(b"radios-65536");
+    case(b"radios-leading-zero");
+    case(b"radios-alone");
+    case(b"radios-two-numbers");
+    case(b"radios-very-long");
+}
+
+// Later lines of another form.
+fn later_lines() {
+    case(b"second-radios");
+    case(b"leading-zero");
+    case(b"value-65535");
+    case(b"value-65536");
+    case(b"two-spaces");
+    case(b"space-at-the-end");
+    case(b"space-at-the-front");
+    case(b"tab");
+    case(b"carriage-return");
+    case(b"empty-line-later");
+    case(b"capital");
+    case(b"sign");
+    case(b"one-number");
+    case(b"three-numbers");
+    case(b"unterminated");
+    case(b"very-long");
+    case(b"very-long-unterminated");
+    case(b"above-127");
+    case(b"zero-byte");
+}
+
+fn main() {
+    sites();
+    first_lines();
+    later_lines();
+}

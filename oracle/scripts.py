@@ -1,0 +1,222 @@
+"""Scripts for the replay program, with what it owes on each, worked out from document 01 alone.
+
+  python3 oracle/scripts.py           write crates/replay_cases/data and crates/replay_cases/stdout
+  python3 oracle/scripts.py --check   say whether the stored files are what would be written
+
+Core numbers come by discarding: for k rising, radios with fewer than k
+neighbours left are thrown out until none is. Neighbour counts are kept as
+counters, so that 512 radios are quick. Lines are read by a pattern.
+"""
+
+import re
+import sys
+from pathlib import Path
+
+RADIOS, NEIGHBOURS, LARGEST = 512, 32, 65535
+CRATE = Path(__file__).resolve().parent.parent / "crates/replay_cases"
+NUMBER = rb"(0|[1-9][0-9]{0,4})"
+LINE = re.compile(rb"(?:radios " + NUMBER + rb"|(up|down) " + NUMBER + rb" " + NUMBER + rb")\n")
+
+
+# ---- a site
+
+class Site:
+    def __init__(self, n):
+        self.n = n
+        self.near = [set() for _ in range(n)]
+        self.numbers, self.order = [0] * n, list(range(n))
+
+    def refusal(self, up, a, b):
+        if not (a < self.n and b < self.n):
+            return 4
+        if a == b:
+            return 5
+        if (b in self.near[a]) == up:
+            return 6
+        if up and max(len(self.near[a]), len(self.near[b])) >= NEIGHBOURS:
+            return 7
+        return 0
+
+    def core_numbers(self):
+        left = [len(near) for near in self.near]
+        numbers, members, k = [0] * self.n, set(range(self.n)), 0
+        while members:
+            poor = [v for v in members if left[v] < k]
+            while poor:
+                v = poor.pop()
+                if v not in members:
+                    continue
+                members.remove(v)
+                numbers[v] = k - 1
+                for u in self.near[v] & members:
+                    left[u] -= 1
+                    if left[u] < k:
+                        poor.append(u)
+            k += 1
+        return numbers
+
+    def lay_out(self, waiting, above, most):
+        """The next is always the first that has at most `most` neighbours
+        among the ones not yet laid out and the radios above."""
+        place = {v: i for i, v in enumerate(waiting)}
+        left = {v: sum(u in place or u in above for u in self.near[v]) for v in waiting}
+        fits = {place[v] for v in waiting if left[v] <= most}
+        laid, gone = [], set()
+        while len(laid) < len(waiting):
+            i = min(fits)
+            fits.remove(i)
+            v = waiting[i]
+            laid.append(v)
+            gone.add(v)
+            for u in self.near[v]:
+                if u in place and u not in gone:
+                    left[u] -= 1
+                    if left[u] == most:
+                        fits.add(place[u])
+        return laid
+
+    def call(self, up, a, b):
+        """Refusal number, step, changed radios."""
+        number = self.refusal(up, a, b)
+        if number:
+            return number, 0, []
+        before, level = self.numbers, min(self.numbers[a], self.numbers[b])
+        for v, u in ((a, b), (b, a)):
+            if up:
+                self.near[v].add(u)
+            else:
+                self.near[v].remove(u)
+        after = self.core_numbers()
+        changed = [v for v in range(self.n) if before[v] != after[v]]
+        moved = set(changed)
+        old = [v for v in self.order if before[v] == level]
+        gone, rest = [v for v in old if v in moved], [v for v in old if v not in moved]
+        if up:
+            above = {v for v in range(self.n) if after[v] > level}
+            stretch = self.lay_out(rest, above, level) + gone
+        else:
+            still = {v for v in range(self.n) if after[v] >= level}
+            stretch = self.lay_out(gone, still, level - 1) + rest
+        self.order = ([v for v in self.order if before[v] < level] + stretch
+                      + [v for v in self.order if before[v] > level])
+        self.numbers = after
+        return 0, (1 if up else -1) if changed else 0, changed
+
+
+# ---- the program
+
+def lines_of(script):
+    """The lines with their line feeds; the last may have none."""
+    parts = script.split(b"\n")
+    return [part + b"\n" for part in parts[:-1]] + [part for part in parts[-1:] if part]
+
+
+def printed(*fields):
+    return " ".join(str(f) for f in fields) + "\n"
+
+
+def replay(script):
+    """What the program prints."""
+    out, site, last = [], None, 0
+    for last, line in enumerate(lines_of(script), 1):
+        said = LINE.fullmatch(line)
+        if not said or max(int(x) for x in (said[1], said[3], said[4]) if x) > LARGEST:
+            return "".join(out) + printed("bad", last)
+        if (said[1] is not None) != (last == 1) or last == 1 and not 1 <= int(said[1]) <= RADIOS:
+            return "".join(out) + printed("bad", last)
+        if last == 1:
+            site = Site(int(said[1]))
+            continue
+        number, step, changed = site.call(said[2] == b"up", int(said[3]), int(said[4]))
+        out.append(printed(number, {1: "+1", -1: "-1", 0: "0"}[step], *changed))
+    if site is None:
+        return printed("bad", 1)
+    return "".join(out) + printed("numbers", *site.numbers) + printed("order", *site.order)
+
+
+# ---- scripts
+
+def script(n, calls):
+    return "".join([f"radios {n}\n"] + [f"{word} {a} {b}\n" for word, a, b in calls]).encode()
+
+
+def ups(pairs):
+    return [("up", a, b) for a, b in pairs]
+
+
+def downs(pairs):
+    return [("down", a, b) for a, b in pairs]
+
+
+def clique(n):
+    return [(a, b) for a in range(n) for b in range(a + 1, n)]
+
+
+def circulant(n, reach):
+    return [(v, (v + d) % n) for d in range(1, reach + 1) for v in range(n)]
+
+
+TRIANGLES = clique(3) + [(a + 3, b + 3) for a, b in clique(3)]
+START = b"radios 4\nup 0 1\n"
+
+SCRIPTS = {
+    # document 01's cases
+    "m1": script(4, ups([(0, 1), (1, 2), (0, 2)]) + downs([(0, 1)])),
+    "m2": script(4, ups([(0, 1), (2, 3), (0, 2)])),
+    "m4": script(6, ups(TRIANGLES + [(2, 3)])),
+    "m5": script(7, ups(TRIANGLES + [(2, 3), (0, 6)])),
+    "m9": script(3, ups([(3, 3)])),
+    "m10": script(34, ups([(0, v) for v in range(1, 34)] + [(33, 0)]) + downs([(0, 1)]) + ups([(0, 33)])),
+    # refusals of each kind
+    "refusals": script(3, ups([(0, 1), (0, 1), (1, 0), (1, 1), (0, 3), (3, 0), (0, 65535)])
+                       + downs([(0, 2), (2, 2), (3, 3), (1, 0), (0, 1)])),
+    # sizes
+    "one-radio": script(1, ups([(0, 0), (0, 1)])),
+    "no-calls-512": script(512, []),
+    "clique-33": script(33, ups(clique(33)) + downs(clique(33))),
+    "ring-512": script(512, ups(circulant(512, 1)) + downs([(0, 1), (511, 0)])),
+    "circulant-512": script(512, ups(circulant(512, 16)) + downs([(0, 1), (0, 16)])),
+    # edges of the language
+    "empty": b"",
+    "empty-line": b"\n",
+    "no-first-line": b"up 0 1\n",
+    "unterminated-first-line": b"radios 4",
+    "radios-0": b"radios 0\n",
+    "radios-513": b"radios 513\n",
+    "radios-65536": b"radios 65536\n",
+    "radios-leading-zero": b"radios 04\n",
+    "radios-alone": b"radios\n",
+    "radios-two-numbers": b"radios 4 4\n",
+    "radios-very-long": b"radios 4" + b"0" * 5000 + b"\n",
+    "second-radios": START + b"radios 4\nup 1 2\n",
+    "leading-zero": START + b"up 00 1\n",
+    "value-65535": START + b"up 65535 65535\ndown 65535 65535\nup 1 2\n",
+    "value-65536": START + b"up 1 65536\n",
+    "two-spaces": START + b"up 1  2\n",
+    "space-at-the-end": START + b"up 1 2 \n",
+    "space-at-the-front": START + b" up 1 2\n",
+    "tab": START + b"up\t1 2\n",
+    "carriage-return": START + b"up 1 2\r\n",
+    "empty-line-later": START + b"\nup 1 2\n",
+    "capital": START + b"Up 1 2\n",
+    "sign": START + b"up +1 2\n",
+    "one-number": START + b"up 1\n",
+    "three-numbers": START + b"up 1 2 3\n",
+    "unterminated": START + b"up 1 2",
+    "very-long": START + b"down 1 2" + b"0" * 20000 + b"\nup 1 2\n",
+    "very-long-unterminated": START + b"x" * 10000,
+    "above-127": START + b"up 1 \xb2\n",
+    "zero-byte": START + b"up 1 2\x00\n",
+}
+
+FILES = {CRATE / "data" / name: text for name, text in SCRIPTS.items()}
+FILES[CRATE / "stdout"] = "".join(f"{name}\n{replay(text)}" for name, text in SCRIPTS.items()).encode()
+
+if "--check" in sys.argv:
+    stored = {path for path in (CRATE / "data").iterdir()} | {CRATE / "stdout"}
+    same = stored == set(FILES) and all(path.read_bytes() == text for path, text in FILES.items())
+    print("crates/replay_cases:", "as written by this program" if same else "DIFFERENT")
+    sys.exit(not same)
+(CRATE / "data").mkdir(parents=True, exist_ok=True)
+for path, text in FILES.items():
+    path.write_bytes(text)
