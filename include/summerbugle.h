@@ -64,6 +64,18 @@ typedef struct {
     uint32_t count;
 } sb_reply;
 
+/*
+ * A step of the block reader: refusal number; end, 1 after the last block; where the block's payload lies in the image, and its
+ * length (both 0 at the end and on a refusal); and the number of the next block (kept at the end and on a refusal).
+ */
+typedef struct {
+    uint32_t number;
+    uint32_t end;
+    size_t offset;
+    size_t length;
+    size_t next;
+} sb_block;
+
 /**
  * Clear a site: zero links, zero numbers, the order 0 to n - 1.
  *
@@ -156,6 +168,27 @@ sb_value sb_backbone(uint32_t n,
                      const uint8_t *numbers, size_t numbers_len,
                      const uint16_t *order, size_t order_len,
                      uint16_t *answer, size_t answer_len);
+
+/**
+ * Write the site's image in front of the buffer. The tables are only read.
+ *
+ * \return number 0 and the image's length in bytes, a multiple of SB_BLOCK_BYTES; bytes past it keep their content. Or a number
+ *         (SB_SIZE, SB_LENGTH, SB_UNSOUND, SB_IMAGE_SIZE) and value 0, and then the buffer keeps its content.
+ */
+sb_value sb_image_write(uint32_t n,
+                        const uint8_t *links, size_t links_len,
+                        const uint8_t *numbers, size_t numbers_len,
+                        const uint16_t *order, size_t order_len,
+                        uint8_t *buffer, size_t buffer_len);
+
+/**
+ * A step of the block reader: start with next = 0, and go on with the next of the step before. Any value of next is safe.
+ *
+ * The length and the check of every block are tested at each step; whether the image is a site's is not.
+ *
+ * \return number 0 and a block, or end 1 after the last; or number SB_IMAGE_SIZE, SB_IMAGE_CHECK.
+ */
+sb_block sb_image_block(const uint8_t *image, size_t image_len, size_t next);
 
 #ifdef __cplusplus
 }
