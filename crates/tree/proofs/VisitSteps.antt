@@ -1,4 +1,4 @@
--- One radio of a level, as the code has it: the tests are those of `takes-node`.
+-- One radio of a level, as the code has it: it tests what `takes-node` does.
 use mathlib.Core.Path.{_≡_, refl, sym, _∙_}
 use mathlib.Core.Bool.{true, false}
 use mathlib.Core.List.{List}

@@ -1,4 +1,4 @@
--- `levels::visit` meets its contract: the tests are those of `takes-node`, in its order.
+-- `levels::visit` meets its contract: it tests what `takes-node` does, in its order.
 use mathlib.Core.Path.{sym, _∙_}
 use native.Mathlib.Omega.{arith}
 use Rattle.tree.specs.Trees.{lists}
