@@ -1,7 +1,4 @@
--- What the contracts of the image code cite beside the definitions of mesh and calls.
+-- What the contracts of the blocks' code cite beside the definitions of mesh and calls.
 pub mod Bytes
 pub mod Reader
-pub mod Filler
-pub mod Links
 pub mod Form
-pub mod Pairs

@@ -29,7 +29,7 @@ use Rattle.mesh.proofs.Sums.{total, total-le, total-cong, total-none, l
 -- ---- one link more
 
 module _ (n : ℕ) (l : Link) (ls : List Link) (p : Proper n (l ∷ ls)) (s : Sorted (l ∷ ls)) where
-  fresh : linked-by ls (l .low) (l .high) ≡ true → ⊥
+  pub fresh : linked-by ls (l .low) (l .high) ≡ true → ⊥
   fresh e =
       before-irreflexive l (s .0 l (subst (λ (m : Link). In-links m ls) (link-less (l .low) (l .high) (p .0))
       (linked-in n ls (l .low) (l .high) (p .2) e)))

@@ -35,6 +35,7 @@ pub mod Soundness
 pub mod Sites
 pub mod Sums
 pub mod DegreeSum
+pub mod OtherEnds
 -- the site image
 pub mod Parts
 pub mod ImageLaws

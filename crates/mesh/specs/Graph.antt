@@ -18,6 +18,9 @@ pub record Link : Type 0 where
   pub low : ℕ
   pub high : ℕ
 
+abbrev pub link-of : (low high : ℕ) → Link
+link-of a b = record { low = a; high = b }
+
 pub record Graph : Type 0 where
   pub n : ℕ
   pub links : List Link

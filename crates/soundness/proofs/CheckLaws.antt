@@ -65,7 +65,7 @@ module _ (n : ℕ) (xs places : List ℕ) (once : Each-once n xs) (placed : Plac
   long : length xs ≡ n
   long = once-length n xs once
 
-  count-later : (f : ℕ → Bool) (p : ℕ) → count f (drop p xs) ≡ count (λ b. f b && leb p (getD places b 0)) (range 0 n)
+  pub count-later : (f : ℕ → Bool) (p : ℕ) → count f (drop p xs) ≡ count (λ b. f b && leb p (getD places b 0)) (range 0 n)
   count-later f p =
       let g : ℕ → Bool = λ b. f b && leb p (getD places b 0) in
       let back : count g (drop p xs) ≡ count f (drop p xs) = count-ext g f (drop p xs) (λ b m. late b (in-getD b (drop p xs) m)) in

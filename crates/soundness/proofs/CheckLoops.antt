@@ -4,7 +4,7 @@ use mathlib.Core.Path.{_≡_, refl, sym, ap, _∙_}
 use mathlib.Core.Logic.{_⊎_, inl, inr}
 use mathlib.Core.Bool.{Bool, true, false, _&&_}
 use mathlib.Core.List.{List, [], _∷_}
-use Prim.Native.Nat.{ℕ, zero, suc, _+_, _≤_, _<_}
+use Prim.Native.Nat.{ℕ, zero, suc, _+_, _≤_, _<_, min}
 use native.Mathlib.Omega.{arith}
 use native.Mathlib.Numerals.{add-one}
 use lib.Dec.{leb, eqb}
@@ -16,7 +16,7 @@ use Rattle.mesh.specs.Orders.{each-once, rising}
 use Rattle.mesh.proofs.BoolLaws.{bool-cases, never, trichotomy}
 use Rattle.mesh.proofs.ListLaws.{Distinct, Each-once, once-of, once-below, once-distinct}
 use Rattle.mesh.proofs.OrderLaws.{each-once-of, of-each-once}
-use Rattle.soundness.specs.Checks.{Placing, nowhere, rising-from}
+use Rattle.soundness.specs.Checks.{Placing, Places-found, nowhere, rising-from}
 use Rattle.soundness.proofs.CheckLaws.{getD-in, in-getD}
 
 -- ---- numbers along the order
@@ -178,3 +178,19 @@ module _ (order before filled : List ℕ) (pre : (length order ≤ length before
 
   pub placing-long : (places : List ℕ) (i : ℕ) → Placing-so-far order (length filled) places i → length places ≡ length before
   placing-long places i s = s .long ∙ size
+
+-- ---- places of any order
+
+-- without room for it
+pub places-none : (order before : List ℕ) → min max-radios (length before) < length order → Places-found order before before false
+places-none order before h = record {
+  answer = rw (lt-leb (length order) (min max-radios (length before)) h);
+  placed = λ f. never false f refl;
+}
+
+pub places-some : (order before after : List ℕ) (r : Bool) → length order ≤ min max-radios (length before) → Placing order before after r
+    → Places-found order before after r
+places-some order before after r h p = record {
+  answer = rw (le-leb (length order) (min max-radios (length before)) h) (p .answer);
+  placed = p .placed;
+}

@@ -6,7 +6,7 @@
 --   rising-from              numbers never fall along a list, and do not begin below the given one
 --   row-good                 the conditions of document 01 on radio a: its row, its later neighbours, its neighbours that are not below it
 --   Entries-below, Ends-room, Rows-room   what private functions of src/lib.rt want of the tables that they read
---   Placing, Ends-counted, Row-checked, Highs, Rows-checked, Examined   what the functions of src/lib.rt come back with
+--   Placing, Places-found, Ends-counted, Row-checked, Highs, Rows-checked, Examined   what the functions of src/lib.rt come back with
 --   nowhere                  a place that no entry of an order has
 --   examinable               questions 1 and 2 get yes, and the lent tables of places and high counts are long enough
 --   fits-sound               questions 1 to 3 get yes
@@ -65,6 +65,11 @@ pub record Placing (order before after : List ℕ) (r : Bool) : Type 0 where
   pub answer : r ≡ each-once (length order) order
   pub placed : r ≡ true → Placed (length order) order after
   pub long : length after ≡ length before
+
+-- whether there is room for the order and each radio stands once in it, and then the places
+pub record Places-found (order before after : List ℕ) (r : Bool) : Type 0 where
+  pub answer : r ≡ (leb (length order) (min max-radios (length before)) && each-once (length order) order)
+  pub placed : r ≡ true → Placed (length order) order after
 
 -- whether the radios xs are good ends of a, and then how many are later and how many are not below
 pub record Ends-counted (n : ℕ) (links numbers places : List ℕ) (a : ℕ) (xs : List ℕ) (good : Bool) (later high : ℕ) : Type 0 where

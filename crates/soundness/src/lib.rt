@@ -10,7 +10,7 @@ ghost use Rattle.mesh.specs.Tables.{tables};
 ghost use Rattle.calls.specs.Questions.{lengths-of, site-refusal};
 ghost use Rattle.calls.specs.Answers.{Check-contract};
 ghost use Rattle.tables.specs.Sizes.{lengths};
-ghost use Rattle.soundness.specs.Checks.{Entries-below, Placing, Ends-room, Ends-counted, Rows-room, Row-checked, Rows-checked, examinable, Examined, fits-sound};
+ghost use Rattle.soundness.specs.Checks.{Entries-below, Placing, Places-found, Ends-room, Ends-counted, Rows-room, Row-checked, Rows-checked, examinable, Examined, fits-sound};
 use calls::Value;
 use mesh::Site;
 
@@ -37,6 +37,20 @@ fn place(order: &[u16], places: &mut [u16]) -> bool
         i += 1;
     }
     true
+}
+
+// Whether the order has at most 512 entries, no more than `places`, and holds each radio below its length once. Then `places`
+// holds where each radio stands; else it holds anything.
+pub fn places_of(order: &[u16], places: &mut [u16]) -> bool
+    ensures { λ r. ⌜ Places-found (now (order .entry)) (now (places .entry)) (now (places .exit)) r ⌝ }
+{
+    if (Site::RADIOS as usize) < order.len() {
+        return false;
+    }
+    if places.len() < order.len() {
+        return false;
+    }
+    place(order, places)
 }
 
 // Whether the numbers never fall along the order.

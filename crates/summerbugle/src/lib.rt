@@ -164,7 +164,7 @@ pub extern "C" fn sb_image_write(
 ) -> Value
     ensures { λ r. ⌜ Write-contract n (tables (now (links .entry)) (now (numbers .entry)) (now (order .entry))) (now (buffer .entry)) r (now (buffer .exit)) ⌝ }
 {
-    image::writer::write(n, links, numbers, order, buffer)
+    image_writer::writer::write(n, links, numbers, order, buffer)
 }
 
 // A step of the block reader whose next block is `next`: where the payload lies in the image, and the number of the next block;

@@ -1,0 +1,168 @@
+-- What the counts over an image's links decide: degrees within the limit, and whether its order is a k-order.
+use mathlib.Core.Path.{_≡_, refl, sym, ap, _∙_}
+use mathlib.Core.Logic.{_↔_}
+use mathlib.Core.Bool.{Bool, true, false, _&&_}
+use mathlib.Core.List.{List, [], _∷_, map}
+use Prim.Native.Nat.{ℕ, suc, _+_, _≤_, _<_, min}
+use native.Mathlib.Omega.{arith}
+use native.Mathlib.Nat.{add-zero}
+use lib.Dec.{ltb, leb}
+use lib.ListN.{length, getD, drop, replicate, getD-replicate}
+use borrow.Author.Tests.{ltb-true, lt-ltb, leb-true, le-leb, lt-leb}
+use Rattle.mesh.specs.Limits.{max-radios, max-neighbours}
+use Rattle.mesh.specs.Lists.{range, count, all}
+use Rattle.mesh.specs.Graph.{Link, Graph, graph, radios, other-ends, linked, neighbours-in, degree, proper, ascending}
+use Rattle.mesh.specs.Cores.{number}
+use Rattle.mesh.specs.Orders.{each-once, rising, few-later, is-k-order, running-maxima}
+use Rattle.mesh.proofs.BoolLaws.{never, iff-eq}
+use Rattle.mesh.proofs.ListLaws.{In, in-member, count-ext, count-all, all-below, below-all, Each-once, once-below, once-length}
+use Rattle.mesh.proofs.Sums.{count-cong}
+use Rattle.mesh.proofs.GraphLaws.{linked-self, linked-by-proper, proper-of, degree-in}
+use Rattle.mesh.proofs.OrderLaws.{each-once-of, Enough}
+use Rattle.mesh.proofs.OtherEnds.{ends-neighbours-in}
+use Rattle.mesh.proofs.RunningCertificate.{is-k-order-running, running-number}
+use Rattle.soundness.specs.Checks.{Placed, Places-found}
+use Rattle.soundness.proofs.CheckLaws.{getD-in, count-later}
+use Rattle.image.proofs.CheckLaws.{Testing, testing-turn, testing-stop}
+use Rattle.image_reader.specs.Pairs.{tallied, Tallied}
+use Rattle.image_reader.specs.Reading.{few-ends, tops, K-order-decided}
+use Rattle.image_reader.proofs.MaximaLaws.{tops-running}
+
+-- ---- laws of tests
+
+all-same : (f h : ℕ → Bool) (n : ℕ) → ((v : ℕ) → v < n → f v ≡ h v) → all f (range 0 n) ≡ all h (range 0 n)
+all-same f h n e = iff-eq (all f (range 0 n)) (all h (range 0 n))
+    (λ a. below-all h n (λ v l. sym (e v l) ∙ all-below f n a v l)) (λ a. below-all f n (λ v l. e v l ∙ all-below h n a v l))
+
+-- below the next number is not above the number
+ltb-next : (a b : ℕ) → ltb a (b + 1) ≡ leb a b
+ltb-next a b = iff-eq (ltb a (b + 1)) (leb a b) (λ e. le-leb a b (omega (arith, ltb-true a (b + 1) e))) (λ e. lt-ltb a (b + 1) (omega (arith, leb-true a b e)))
+
+-- ---- entries compared, one after the other
+
+abbrev pub at-most : (lows highs : List ℕ) → (v : ℕ) → Bool
+at-most xs ys v = leb (getD xs v 0) (getD ys v 0)
+
+pub at-most-turn : (xs ys : List ℕ) (v : ℕ) → Testing (at-most xs ys) (length xs) v → v < length xs → getD xs v 0 ≤ getD ys v 0
+    → Testing (at-most xs ys) (length xs) (v + 1)
+at-most-turn xs ys v t l h = testing-turn (at-most xs ys) (length xs) v t l (le-leb (getD xs v 0) (getD ys v 0) h)
+
+pub at-most-stop : (xs ys : List ℕ) (v : ℕ) → Testing (at-most xs ys) (length xs) v → v < length xs → getD ys v 0 < getD xs v 0
+    → all (at-most xs ys) (range 0 (length xs)) ≡ false
+at-most-stop xs ys v t l h = testing-stop (at-most xs ys) (length xs) v t l (lt-leb (getD xs v 0) (getD ys v 0) h)
+
+-- ---- degrees
+
+-- with one rank for all and a slack, every link counts
+tallied-all : (n : ℕ) (ls : List Link) (rs : List ℕ) (x : ℕ) → proper n ls ≡ true → ((v : ℕ) → v < n → getD rs v 0 ≡ x)
+    → (v : ℕ) → v < n → tallied rs 1 ls v ≡ length (other-ends v ls)
+unfolding tallied
+tallied-all n ls rs x p e v l =
+    count-ext (λ w. ltb (getD rs v 0) (getD rs w 0 + 1)) (λ w. true) (other-ends v ls)
+    (λ w i. lt-ltb (getD rs v 0) (getD rs w 0 + 1)
+    (omega (arith, e v l, e w (linked-by-proper n ls (proper-of n ls p) v w (in-member w (other-ends v ls) i) .1))))
+    ∙ count-all (other-ends v ls)
+
+pub few-tallied : (n : ℕ) (ls : List Link) (rs counts : List ℕ) → proper n ls ≡ true → length rs ≡ n → length counts ≡ n
+    → rs ≡ replicate (length rs) max-neighbours → Tallied n rs 1 ls counts
+    → all (at-most counts rs) (range 0 (length counts)) ≡ few-ends max-neighbours n ls
+unfolding few-ends
+few-tallied n ls rs counts p lr lc e t =
+    let rank : (v : ℕ) → v < n → getD rs v 0 ≡ max-neighbours =
+    λ v l. ap (λ (xs : List ℕ). getD xs v 0) e ∙ getD-replicate (length rs) v max-neighbours 0 (omega arith) in
+    rw lc (all-same (at-most counts rs) (λ v. leb (length (other-ends v ls)) max-neighbours) n
+    (λ v l. rw (t .at v l ∙ tallied-all n ls rs max-neighbours p rank v l, rank v l)))
+
+module _ (n : ℕ) (ls : List Link) (p : proper n ls ≡ true) (a : ascending ls ≡ true) where
+  abbrev g : Graph
+  g = graph n ls
+
+  ends-degree : (v : ℕ) → length (other-ends v ls) ≡ degree g v
+  ends-degree v = sym (count-all (other-ends v ls)) ∙ ends-neighbours-in g p a v (λ w. true) ∙ sym (degree-in g v)
+
+  pub few-degrees : (most : ℕ) → (few-ends most n ls ≡ true) ↔ ((v : ℕ) → v < n → degree g v ≤ most)
+  unfolding few-ends
+  few-degrees most = (
+    λ h v l. omega (arith, ends-degree v, leb-true (length (other-ends v ls)) most (all-below (λ w. leb (length (other-ends w ls)) most) n h v l)),
+    λ h. below-all (λ w. leb (length (other-ends w ls)) most) n (λ v l. le-leb (length (other-ends v ls)) most (omega (arith, ends-degree v, h v l))),
+  )
+
+  -- ---- the k-order
+
+  -- an order that does not hold each radio once is none
+  not-once : (xs after : List ℕ) → each-once n xs ≡ false → K-order-decided g xs after false
+  unfolding is-k-order
+  not-once xs after e = record {
+    answer = sym (ap (λ (b : Bool). b && (rising (number g) xs && few-later (linked g) (number g) xs)) e);
+    numbers = λ f. never false f refl;
+  }
+
+  -- what looking for places tells, where there is room
+  pub placed-once : (xs ps qs : List ℕ) (r : Bool) → n ≤ max-radios → length xs ≡ n → length ps ≡ n → Places-found xs ps qs r → r ≡ each-once (length xs) xs
+  placed-once xs ps qs r small lx lp d =
+      d .answer ∙ ap (λ (b : Bool). b && each-once (length xs) xs) (le-leb (length xs) (min max-radios (length ps)) (omega arith))
+
+  pub not-placed : (xs ps qs : List ℕ) (r : Bool) → n ≤ max-radios → length xs ≡ n → length ps ≡ n → Places-found xs ps qs r → r ≡ false
+      → K-order-decided g xs qs false
+  not-placed xs ps qs r small lx lp d e =
+      not-once xs qs (ap (λ (k : ℕ). each-once k xs) (sym lx) ∙ sym (placed-once xs ps qs r small lx lp d) ∙ e)
+
+  module _ (xs : List ℕ) (is-once : each-once n xs ≡ true) where
+    once : Each-once n xs
+    once = each-once-of n xs is-once
+
+    tallied-in : (rs : List ℕ) (s v : ℕ) → tallied rs s ls v ≡ neighbours-in g v (λ w. ltb (getD rs v 0) (getD rs w 0 + s))
+    unfolding tallied
+    tallied-in rs s v = ends-neighbours-in g p a v (λ w. ltb (getD rs v 0) (getD rs w 0 + s))
+
+    -- over places, the later neighbours are counted
+    later-at : (ps counts : List ℕ) → Placed n xs ps → Tallied n ps 0 ls counts → (q : ℕ) → q < length xs
+        → getD counts (getD xs q 0) 0 ≡ count (linked g (getD xs q 0)) (drop (suc q) xs)
+    unfolding neighbours-in radios
+    later-at ps counts placed t q l =
+        let v : ℕ = getD xs q 0 in
+        let here : getD ps v 0 ≡ q = placed .at q (omega (arith, once-length n xs once)) in
+        t .at v (once-below n xs once v (getD-in xs q l)) ∙ tallied-in ps 0 v
+        ∙ count-cong (λ b. linked g v b && ltb (getD ps v 0) (getD ps b 0 + 0)) (λ b. linked g v b && leb (suc q) (getD ps b 0)) (range 0 n)
+        (λ b. rw (here, add-zero (getD ps b 0)))
+        ∙ sym (count-later n xs ps once placed (linked g v) (suc q))
+
+    module _ (ps counts ranks highs : List ℕ) (placed : Placed n xs ps) (later : Tallied n ps 0 ls counts)
+        (maxima : map (λ v. getD ranks v 0) xs ≡ tops (λ v. getD counts v 0) 0 xs) (high : Tallied n ranks 1 ls highs) where
+      abbrev num : ℕ → ℕ
+      num v = getD ranks v 0
+
+      runs : map num xs ≡ running-maxima (linked g) 0 xs
+      runs = maxima ∙ tops-running (linked g) (λ v. getD counts v 0) 0 xs (later-at ps counts placed later)
+
+      high-at : (v : ℕ) → v < n → getD highs v 0 ≡ neighbours-in g v (λ w. leb (num v) (num w))
+      unfolding neighbours-in radios
+      high-at v l =
+          high .at v l ∙ tallied-in ranks 1 v
+          ∙ count-cong (λ b. linked g v b && ltb (num v) (num b + 1)) (λ b. linked g v b && leb (num v) (num b)) (range 0 n)
+          (λ b. ap (λ (t : Bool). linked g v b && t) (ltb-next (num v) (num b)))
+
+      abbrev enough : Bool
+      enough = all (at-most ranks highs) (range 0 n)
+
+      enough-of : enough ≡ true → Enough g num
+      enough-of h v l = omega (arith, leb-true (num v) (getD highs v 0) (all-below (at-most ranks highs) n h v l), high-at v l)
+
+      of-enough : Enough g num → enough ≡ true
+      of-enough h = below-all (at-most ranks highs) n (λ v l. le-leb (num v) (getD highs v 0) (omega (arith, h v l, high-at v l)))
+
+      by-counts : (r : Bool) → length ranks ≡ n → r ≡ all (at-most ranks highs) (range 0 (length ranks)) → K-order-decided g xs ranks r
+      by-counts r long e =
+          let apart = linked-self g p in
+          let d = is-k-order-running g apart num xs once runs in
+          let is : r ≡ is-k-order g xs =
+          e ∙ rw long (iff-eq enough (is-k-order g xs) (λ h. d .1 (enough-of h)) (λ h. of-enough (d .0 h))) in
+          record { answer = is; numbers = λ f v l. running-number g apart num xs once runs (sym is ∙ f) v l }
+
+  -- the parts of the test together
+  pub k-order-decided : (xs before ps counts ranks highs : List ℕ) (u r : Bool) → n ≤ max-radios → length xs ≡ n → length before ≡ n
+      → Places-found xs before ps u → u ≡ true → Tallied n ps 0 ls counts → map (λ v. getD ranks v 0) xs ≡ tops (λ v. getD counts v 0) 0 xs
+      → Tallied n ranks 1 ls highs → length ranks ≡ n → r ≡ all (at-most ranks highs) (range 0 (length ranks)) → K-order-decided g xs ranks r
+  k-order-decided xs before ps counts ranks highs u r small lx lb d there later maxima high lr e =
+      by-counts xs (ap (λ (k : ℕ). each-once k xs) (sym lx) ∙ sym (placed-once xs before ps u small lx lb d) ∙ there) ps counts ranks highs
+      (record { at = λ i l. d .placed there .at i (omega arith) }) later maxima high r lr e

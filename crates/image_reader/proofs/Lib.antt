@@ -1,0 +1,15 @@
+-- Laws of the reader.
+-- the links of an image
+pub mod PairLaws
+-- counts over the links of an image
+pub mod TallyLaws
+-- running maxima along an order
+pub mod MaximaLaws
+-- what the counts decide
+pub mod KOrderLaws
+-- the links table, link by link
+pub mod TableWritten
+-- question 11, part by part, and the tables
+pub mod SiteLaws
+-- the reader's outcomes
+pub mod ReadLaws

@@ -1,0 +1,70 @@
+-- The links table, link by link: marking one link more.
+use mathlib.Core.Path.{_≡_, refl, sym, ap, _∙_}
+use mathlib.Core.Bool.{Bool, true, false, _||_, cond}
+use mathlib.Core.List.{List, [], _∷_, _++_}
+use Prim.Native.Nat.{ℕ, _+_, _*_, _≤_, _<_}
+use native.Mathlib.Omega.{arith}
+use lib.ListN.{length, replicate}
+use Rattle.mesh.specs.Limits.{max-radios, row-bytes}
+use Rattle.mesh.specs.Lists.{range, member}
+use Rattle.mesh.specs.Graph.{Link, link-of, graph, other-ends, linked, proper}
+use Rattle.mesh.specs.Tables.{put-link, links-table}
+use Rattle.mesh.specs.Image.{image-link}
+use Rattle.mesh.proofs.GraphLaws.{ends, joins, linked-by, linked-by-cons}
+use Rattle.mesh.proofs.AscendingLinks.{link-eq}
+use Rattle.mesh.proofs.TableLaws.{table-eq, length-put-link, bytes-put-link, marked-put-link, length-links-table, bytes-links-table, marked-links-table, links-table-cleared}
+use Rattle.image_reader.specs.Pairs.{links-up-to, Pair-at}
+use Rattle.image_reader.proofs.TallyLaws.{links-one-more, proper-pair}
+
+-- ---- one link more, at the end of the list
+
+linked-append : (ls : List Link) (l : Link) (v w : ℕ) → linked-by (ls ++ (l ∷ [])) v w ≡ (joins l v w || linked-by ls v w)
+unfolding other-ends member
+linked-append [] l v w = linked-by-cons l [] v w
+linked-append (m ∷ ls) l v w =
+    linked-by-cons m (ls ++ (l ∷ [])) v w ∙ ap (λ (x : Bool). joins m v w || x) (linked-append ls l v w)
+    ∙ swap (joins m v w) (joins l v w) (linked-by ls v w) ∙ ap (λ (x : Bool). joins l v w || x) (sym (linked-by-cons m ls v w))
+  where
+    swap : (a b c : Bool) → (a || (b || c)) ≡ (b || (a || c))
+    swap true true c = refl
+    swap true false c = refl
+    swap false b c = refl
+
+put-link-append : (n a b : ℕ) (ls : List Link) → n ≤ max-radios → a < n → b < n
+    → put-link true a b (links-table (graph n ls)) ≡ links-table (graph n (ls ++ (link-of a b ∷ [])))
+unfolding linked
+put-link-append n a b ls small la lb =
+    let before : List ℕ = links-table (graph n ls) in
+    let more : List Link = ls ++ (link-of a b ∷ []) in
+    table-eq n (put-link true a b before) (links-table (graph n more))
+    (length-put-link true a b before ∙ length-links-table (graph n ls)) (length-links-table (graph n more))
+    (bytes-put-link true a b before (bytes-links-table (graph n ls))) (bytes-links-table (graph n more))
+    (λ v w lv lw. marked-put-link true n a b before v w small (length-links-table (graph n ls)) la lb lw
+    ∙ ap (λ (x : Bool). cond (ends a b v w) true x) (marked-links-table (graph n ls) v w lv lw)
+    ∙ either (ends a b v w) (linked-by ls v w) ∙ sym (linked-append ls (link-of a b) v w)
+    ∙ sym (marked-links-table (graph n more) v w lv lw))
+  where
+    either : (s t : Bool) → cond s true t ≡ (s || t)
+    either true t = refl
+    either false t = refl
+
+-- ---- the loop: the table of the first j links
+
+abbrev pub Linking : (n : ℕ) → (image : List ℕ) → (table : List ℕ) → (j : ℕ) → Type 0
+Linking n bs ts j = ts ≡ links-table (graph n (links-up-to n bs j))
+
+pub linking-none : (n : ℕ) (bs start ts : List ℕ) → length start ≡ row-bytes * n → ts ≡ replicate (length start) 0 → Linking n bs ts 0
+unfolding links-up-to range
+linking-none n bs start ts e h = h ∙ ap (λ (k : ℕ). replicate {A = ℕ} k 0) e ∙ sym (links-table-cleared n)
+
+pub linking-turn : (n m : ℕ) (bs ts after : List ℕ) (j a b : ℕ) → n ≤ max-radios → proper n (links-up-to n bs m) ≡ true → j < m
+    → Pair-at n bs j a b → Linking n bs ts j → after ≡ put-link true a b ts → Linking n bs after (j + 1)
+linking-turn n m bs ts after j a b small p l pair s e =
+    let r = proper-pair n bs m j a b p l pair in
+    e ∙ ap (put-link true a b) s ∙ put-link-append n a b (links-up-to n bs j) small (omega (arith, r .0, r .1)) (omega (arith, r .1))
+    ∙ ap (λ (x : Link). links-table (graph n (links-up-to n bs j ++ (x ∷ []))))
+    (sym (link-eq (image-link n bs j) (link-of a b) (sym (pair .low)) (sym (pair .high))))
+    ∙ ap (λ (ls : List Link). links-table (graph n ls)) (sym (links-one-more n bs j))
+
+pub linking-end : (n m : ℕ) (bs ts : List ℕ) (j : ℕ) → Linking n bs ts j → j ≤ m → m ≤ j → ts ≡ links-table (graph n (links-up-to n bs m))
+linking-end n m bs ts j s h k = let e : j ≡ m = omega arith in s ∙ ap (λ (i : ℕ). links-table (graph n (links-up-to n bs i))) e

@@ -1,0 +1,94 @@
+-- `numbers::is_k_order` meets its contract: each step hands its counts to the next; the mathematics is in `proofs.KOrderLaws`.
+use mathlib.Core.Path.{_≡_, sym, _∙_}
+use native.Mathlib.Omega.{arith}
+use borrow.Author.Tests.{not-true, not-false}
+use Rattle.image_reader.proofs.KOrderLaws.{placed-once, not-placed, k-order-decided}
+use borrow.Author.Needs.{needs}
+use Rattle.image_reader.proofs.numbers.is_k_order.Statement.{statement}
+use Rattle.image_reader.proofs.numbers.is_k_order.Tie as tie
+use Rattle.image_reader.proofs.numbers.is_k_order.Reads as reads
+use Rattle.image_reader.proofs.numbers.is_k_order.Lts as lts
+use Rattle.image_reader.proofs.numbers.each_at_most.Reads as each-at-most-reads
+use Rattle.image_reader.proofs.numbers.run_maxima.Reads as run-maxima-reads
+use Rattle.image_reader.proofs.pairs.tally.Reads as tally-reads
+use Rattle.soundness.proofs.places_of.Reads as places-of-reads
+
+-- src/numbers.rt:81:9
+places-of-requires : tie.Need-places-of-requires
+places-of-requires c κs = search needs
+
+-- src/numbers.rt:82:9
+same-length : tie.Need-same-length
+same-length c = search needs
+
+-- src/numbers.rt:82:9
+returns : tie.Need-returns
+returns c =
+    let placed = c .before .before .before in
+    let start = placed .before .before .before .before .before .before in
+    not-placed _ _ (start .pre .0 .is-proper) (start .pre .1 .0) _ _ _ _ (start .pre .0 .most) (start .pre .1 .1) (start .pre .0 .ranked) (placed .places-of .ensures)
+    (not-true (placed .places-of .result) (c .if1 .taken))
+
+-- src/numbers.rt:84:5
+tally-requires : tie.Need-tally-requires
+tally-requires c κs = search needs
+
+-- src/numbers.rt:85:5
+run-maxima-requires : tie.Need-run-maxima-requires
+run-maxima-requires c κs =
+    let tallied = c .before .before .before .before in
+    let else1 = tallied .before .before .before in
+    let placed = else1 .before .before .before in
+    let start = placed .before .before .before .before .before .before in
+    let ranked = start .pre .0 .ranked in
+    let counted = start .pre .0 .counted in
+    let long = start .pre .1 .1 in (
+      sym (placed-once _ _ (start .pre .0 .is-proper) (start .pre .1 .0) _ _ _ _ (start .pre .0 .most) long ranked (placed .places-of .ensures))
+          ∙ not-false (placed .places-of .result) (else1 .if1 .left),
+      omega (arith, tallied .tally .kept .1 .1 .1 .1 .1 .0),
+      omega (arith, placed .places-of .kept .1 .0),
+    )
+
+-- src/numbers.rt:86:5
+tally-requires-2 : tie.Need-tally-requires-2
+tally-requires-2 c κs = search needs
+
+-- src/numbers.rt:87:5
+each-at-most-requires : tie.Need-each-at-most-requires
+each-at-most-requires c κs = search needs
+
+-- src/numbers.rt:68:1
+same-length-2 : tie.Need-same-length-2
+same-length-2 c = search needs
+
+-- src/numbers.rt:68:1
+same-length-3 : tie.Need-same-length-3
+same-length-3 c = search needs
+
+-- src/numbers.rt:68:1
+returns-2 : tie.Need-returns-2
+returns-2 c =
+    let tallied2 = c .before .before .before .before .before in
+    let run = tallied2 .before .before .before .before .before in
+    let tallied = run .before .before .before .before .before in
+    let else1 = tallied .before .before .before in
+    let placed = else1 .before .before .before in
+    let start = placed .before .before .before .before .before .before in
+    k-order-decided _ _ (start .pre .0 .is-proper) (start .pre .1 .0) _ _ _ _ _ _ _ _ (start .pre .0 .most) (start .pre .1 .1) (start .pre .0 .ranked)
+    (placed .places-of .ensures) (not-false (placed .places-of .result) (else1 .if1 .left)) (tallied .tally .ensures) (run .run-maxima .ensures)
+    (tallied2 .tally2 .ensures) (run .run-maxima .kept .1 .1 .0 ∙ placed .places-of .kept .1 .0 ∙ start .pre .0 .ranked) (c .each-at-most .ensures)
+
+pub is-k-order-spec : {M : Type 1} → statement M
+is-k-order-spec =
+    tie.close
+    (tie.spec
+    places-of-requires
+    same-length
+    returns
+    tally-requires
+    run-maxima-requires
+    tally-requires-2
+    each-at-most-requires
+    same-length-2
+    same-length-3
+    returns-2)

@@ -1,0 +1,67 @@
+-- `writer::fill_links` meets its contract: the payload of an opened block, which is then sealed.
+use mathlib.Core.Path.{_≡_, ap, _∙_}
+use mathlib.Core.List.{List, flatMap}
+use Prim.Native.Nat.{ℕ}
+use lib.ListN.{take}
+use lib.Seq.{sets}
+use Rattle.mesh.specs.Image.{block-links, link-bytes}
+use Rattle.image_writer.specs.Filler.{sealed}
+use Rattle.image_writer.specs.Links.{links-from}
+use Rattle.image_writer.proofs.FillerLaws.{sealed-payload}
+use Rattle.image_writer.proofs.BlockFilling.{length-links-bytes}
+use borrow.Author.Needs.{needs}
+use Rattle.image_writer.proofs.writer.fill_links.Statement.{statement}
+use Rattle.image_writer.proofs.writer.fill_links.Tie as tie
+use Rattle.image_writer.proofs.writer.fill_links.Reads as reads
+use Rattle.image_writer.proofs.writer.fill_links.Lts as lts
+use Rattle.image_writer.proofs.writer.close_block.Reads as close-block-reads
+use Rattle.image_writer.proofs.writer.open_block.Reads as open-block-reads
+use Rattle.image_writer.proofs.writer.put_links.Reads as put-links-reads
+
+-- src/writer.rt:196:5
+open-block-requires : tie.Need-open-block-requires
+open-block-requires c κs = search needs
+
+-- src/writer.rt:197:9
+put-links-requires : tie.Need-put-links-requires
+put-links-requires c κs = search needs
+
+-- src/writer.rt:198:5
+close-block-requires : tie.Need-close-block-requires
+close-block-requires c κs = search needs
+
+-- src/writer.rt:192:1
+same-length : tie.Need-same-length
+same-length c = search needs
+
+-- src/writer.rt:192:1
+same-length-2 : tie.Need-same-length-2
+same-length-2 c = search needs
+
+-- src/writer.rt:192:1
+returns : tie.Need-returns
+returns c =
+    let closed = c .before .before in
+    let put = closed .before .before .before .before .before .before in
+    let opening = put .before .before .before .before .before in
+    let call = opening .before .before .before .before .before .args in
+    let ls = links-from (call .n) (call .links .now) (call .from .row) (call .from .place) in
+    record {
+      is =
+          closed .close-block .ensures
+          ∙ ap sealed (put .put-links .ensures .is ∙ ap (λ (b : List ℕ). sets b 4 (flatMap link-bytes (take block-links ls))) (opening .open-block .ensures))
+          ∙ sealed-payload 2 (call .index) (flatMap link-bytes (take block-links ls)) (length-links-bytes ls);
+      rest = put .put-links .ensures .rest;
+      good = put .put-links .ensures .good;
+    }
+
+pub fill-links-spec : {M : Type 1} → statement M
+fill-links-spec =
+    tie.close
+    (tie.spec
+    open-block-requires
+    put-links-requires
+    close-block-requires
+    same-length
+    same-length-2
+    returns)

@@ -1,0 +1,43 @@
+-- `writer::put_link` meets its contract: the lower radio's bytes, then the higher one's.
+use mathlib.Core.Path.{_≡_, ap, sym, _∙_}
+use mathlib.Core.List.{List}
+use Prim.Native.Nat.{ℕ, _+_}
+use lib.Seq.{sets}
+use Rattle.mesh.specs.Image.{word, link-bytes}
+use Rattle.tables.proofs.Listing.{sets-append}
+use borrow.Author.Needs.{needs}
+use Rattle.image_writer.proofs.writer.put_link.Statement.{statement}
+use Rattle.image_writer.proofs.writer.put_link.Tie as tie
+use Rattle.image_writer.proofs.writer.put_link.Reads as reads
+use Rattle.image_writer.proofs.writer.put_link.Lts as lts
+use Rattle.image_writer.proofs.writer.put_word.Reads as put-word-reads
+
+-- src/writer.rt:139:5
+put-word-requires : tie.Need-put-word-requires
+put-word-requires c κs = search needs
+
+-- src/writer.rt:140:20
+add-put-word : tie.Need-add-put-word
+add-put-word c = search needs
+
+-- src/writer.rt:140:5
+put-word-requires-2 : tie.Need-put-word-requires-2
+put-word-requires-2 c κs = search needs
+
+-- src/writer.rt:135:1
+same-length : tie.Need-same-length
+same-length c = search needs
+
+-- src/writer.rt:135:1
+returns : tie.Need-returns
+unfolding link-bytes word
+returns c =
+    let put2 = c .before .before in
+    let put = put2 .before .before .before .before in
+    let call = put .before .before .before .args in
+    put2 .put-word2 .ensures ∙ ap (λ (b : List ℕ). sets b (call .at + 2) (word (call .b))) (put .put-word .ensures)
+    ∙ sym (sets-append (call .part .now) (call .at) (word (call .a)) (word (call .b)))
+
+pub put-link-spec : {M : Type 1} → statement M
+put-link-spec =
+    tie.close (tie.spec put-word-requires add-put-word put-word-requires-2 same-length returns)
