@@ -13,3 +13,5 @@ pub mod TableWritten
 pub mod SiteLaws
 -- the reader's outcomes
 pub mod ReadLaws
+-- the contract of reading is the named predicate
+pub mod Ties

@@ -1,2 +1,4 @@
 -- The promises about the exported calls.
 pub mod Ties
+-- demand 3, undivided
+pub mod WholeList

@@ -2,7 +2,7 @@
 // it, under the same contract. No call has a `requires`.
 ghost use mathlib.Core.Bool.{true, false};
 ghost use Rattle.mesh.specs.Tables.{tables};
-ghost use Rattle.calls.specs.Writes.{Clear-contract, Link-contract};
+ghost use Rattle.calls.specs.Writes.{Clear-contract, Link-contract, Read-contract};
 ghost use Rattle.calls.specs.Answers.{Check-contract, Number-contract, Neighbours-contract, Linked-contract, First-contract, Core-contract, Backbone-contract, Write-contract, Block-contract};
 use calls::Block;
 use calls::Reply;
@@ -165,6 +165,21 @@ pub extern "C" fn sb_image_write(
     ensures { λ r. ⌜ Write-contract n (tables (now (links .entry)) (now (numbers .entry)) (now (order .entry))) (now (buffer .entry)) r (now (buffer .exit)) ⌝ }
 {
     image_writer::writer::write(n, links, numbers, order, buffer)
+}
+
+// Reads an image of n radios into the tables: links and order as the image lists them, the numbers worked out. Refused by 1, 2
+// and 9 to 11: then every table keeps its content.
+#[no_mangle]
+pub extern "C" fn sb_image_read(
+    n: u32,
+    links: &mut [u8],
+    numbers: &mut [u8],
+    order: &mut [u16],
+    image: &[u8],
+) -> u32
+    ensures { λ r. ⌜ Read-contract n (now (image .entry)) (tables (now (links .entry)) (now (numbers .entry)) (now (order .entry))) r (tables (now (links .exit)) (now (numbers .exit)) (now (order .exit))) ⌝ }
+{
+    image_reader::reader::read(n, links, numbers, order, image)
 }
 
 // A step of the block reader whose next block is `next`: where the payload lies in the image, and the number of the next block;
