@@ -1,16 +1,18 @@
 """Tables and a plot of a run of bench/run.
 
   python3 bench/report.py FILE           print the tables
-  python3 bench/report.py FILE --write   and put them into docs/BENCHMARKS.md, and the plot into docs/benchmarks.svg
+  python3 bench/report.py FILE --write   and put them into docs/BENCHMARKS.md, a summary into README.md, the plot into
+                                         docs/benchmarks.svg
 """
 
 import sys
+import textwrap
 from collections import defaultdict
 from pathlib import Path
 
 from plot import plot
 
-DOCS = Path(__file__).resolve().parent.parent / "docs"
+TOP = Path(__file__).resolve().parent.parent
 START, END = "<!-- measured: bench/run --write -->\n", "<!-- end -->\n"
 SITES = ["sparse", "dense", "ring", "circulant"]
 SIZES = [16, 64, 256, 512]
@@ -134,12 +136,34 @@ def report(run):
     return "\n".join(parts)
 
 
+# ---- pages
+
+def span(values, form):
+    values = list(values)
+    return f"{min(values):{form}} to {max(values):{form}}"
+
+
+def summary(run):
+    """A paragraph for README.md."""
+    ratio = span((run.ratio(call, n, site) for call in run.times for n, site in run.times[call]), ".2f")
+    words = [f"In one run a call took {ratio} times as long as the same algorithm in C at -O3.",
+             f"At 512 radios a link call took {span(run.change.values(), '.0f')} microseconds, the check of its tables with it."]
+    if run.igraph:
+        words.append(f"A change took {span((row[2] / row[0] for row in run.igraph.values()), '.1f')} times as long with igraph's C library.")
+    if run.networkx:
+        words.append(f"With networkx it took {span((run.networkx[site] / run.change[site] for site in run.networkx), '.0f')} times as long.")
+    return textwrap.fill(" ".join(words), 132) + "\n"
+
+
+def put(page, words):
+    before, rest = page.read_text().split(START)
+    page.write_text(before + START + "\n" + words + "\n" + END + rest.split(END)[1])
+
+
 def write(run):
-    page = DOCS / "BENCHMARKS.md"
-    text = page.read_text()
-    before, rest = text.split(START)
-    page.write_text(before + START + "\n" + report(run) + "\n" + END + rest.split(END)[1])
-    (DOCS / "benchmarks.svg").write_text(plot(run, goal, SIZES, SITES))
+    put(TOP / "docs/BENCHMARKS.md", report(run))
+    put(TOP / "README.md", summary(run))
+    (TOP / "docs/benchmarks.svg").write_text(plot(run, goal, SIZES, SITES))
 
 
 def main():
