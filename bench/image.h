@@ -142,12 +142,12 @@ static int c_is_image(const uint8_t *image, size_t length, uint32_t n, uint16_t 
     uint16_t places[RADIOS], counts[RADIOS];
     unsigned m = word_at(image + 6), top = 0;
     if (!c_formed(image, length, n) || !c_listed(image, n, m)) return 0;
-    for (unsigned i = 0; i < n; i++) order[i] = word_at(image + BLOCK * (1 + i / ENTRIES) + HEAD + 2 * (i % ENTRIES));
-    if (!c_place(n, order, places)) return 0;
     memset(numbers, 0, 2 * RADIOS);
     c_tally(image, n, m, numbers, 1, counts);
     for (unsigned v = 0; v < n; v++)
         if (counts[v] > NEIGHBOURS) return 0;
+    for (unsigned i = 0; i < n; i++) order[i] = word_at(image + BLOCK * (1 + i / ENTRIES) + HEAD + 2 * (i % ENTRIES));
+    if (!c_place(n, order, places)) return 0;
     c_tally(image, n, m, places, 0, counts);
     for (unsigned i = 0; i < n; i++) {
         if (counts[order[i]] > top) top = counts[order[i]];
