@@ -1,13 +1,8 @@
 /* Sites to measure on, with sound tables made by plain peeling. */
 #ifndef SITES_H
 #define SITES_H
-#include <stdint.h>
+#include "rows.h"
 #include <stdlib.h>
-#include <string.h>
-
-#define RADIOS 512
-#define NEIGHBOURS 32
-#define ROW 64
 
 struct site {
     uint32_t n;
@@ -16,23 +11,14 @@ struct site {
     uint16_t order[RADIOS];
 };
 
-static int marked(const uint8_t *links, unsigned a, unsigned b) { return links[ROW * a + b / 8] >> b % 8 & 1; }
-
-static unsigned degree(const struct site *s, unsigned a) {
-    unsigned d = 0;
-    for (unsigned b = 0; b < s->n; b++) d += marked(s->links, a, b);
-    return d;
-}
-
 static void mark(struct site *s, unsigned a, unsigned b) {
-    s->links[ROW * a + b / 8] |= 1 << b % 8;
-    s->links[ROW * b + a / 8] |= 1 << a % 8;
+    put_bit(s->links, 1, a, b), put_bit(s->links, 1, b, a);
 }
 
 /* numbers and order: always the first radio with the fewest neighbours left */
 static void peel(struct site *s) {
     unsigned left[RADIOS], gone[RADIOS] = {0}, k = 0;
-    for (unsigned v = 0; v < s->n; v++) left[v] = degree(s, v);
+    for (unsigned v = 0; v < s->n; v++) left[v] = row_count(s->links, v);
     for (unsigned i = 0; i < s->n; i++) {
         unsigned best = RADIOS;
         for (unsigned v = 0; v < s->n; v++)
@@ -47,7 +33,7 @@ static void peel(struct site *s) {
 static void random_links(struct site *s, unsigned links, unsigned most) {
     for (unsigned tries = 0, made = 0; made < links && tries < 60 * links; tries++) {
         unsigned a = rand() % s->n, b = rand() % s->n;
-        if (a == b || marked(s->links, a, b) || degree(s, a) >= most || degree(s, b) >= most) continue;
+        if (a == b || marked(s->links, a, b) || row_count(s->links, a) >= most || row_count(s->links, b) >= most) continue;
         mark(s, a, b), made++;
     }
 }
@@ -61,15 +47,33 @@ static void circulant(struct site *s, unsigned reach) {
 enum kind { SPARSE, DENSE, RING, CIRCULANT, KINDS };
 static const char *const kinds[KINDS] = {"sparse", "dense", "ring", "circulant"};
 
-static void make_site(struct site *s, uint32_t n, enum kind kind) {
+/* Random sites of the same size and kind differ by their index. */
+static void make_site(struct site *s, uint32_t n, enum kind kind, unsigned index) {
     memset(s, 0, sizeof *s);
     s->n = n;
-    srand(137 + n);
+    srand(137 + n + 1000 * index);
     unsigned reach = n > 2 * (NEIGHBOURS / 2) ? NEIGHBOURS / 2 : (n - 1) / 2;
     if (kind == SPARSE) random_links(s, 2 * n, NEIGHBOURS);
     if (kind == DENSE) random_links(s, n * reach, NEIGHBOURS);
     if (kind == RING) circulant(s, 1);
     if (kind == CIRCULANT) circulant(s, reach);
     peel(s);
+}
+
+#define CHANGES 32 /* links that are taken down and up again where changes are timed */
+
+struct ends {
+    uint16_t a, b;
+};
+
+/* Some links of the site, spread evenly over all of them; how many these are. */
+static unsigned some_links(const struct site *s, struct ends *list, unsigned room) {
+    unsigned all = 0, seen = 0, count = 0;
+    for (unsigned a = 0; a < s->n; a++) all += row_count(s->links, a);
+    all /= 2;
+    for (unsigned a = 0; a < s->n; a++)
+        for (unsigned b = a + 1; b < s->n; b++)
+            if (marked(s->links, a, b) && seen++ * room / all == count && count < room) list[count++] = (struct ends){a, b};
+    return count;
 }
 #endif

@@ -2,7 +2,7 @@
  * summerbugle.h: the link engine of the bolt-tension hubs, for C and C++ hosts.
  *
  * The host lends every table; the engine keeps nothing between calls and allocates nothing. A table is a pointer and a count of
- * ELEMENTS (bytes of the links, numbers, image; 16-bit entries of the order and the answer; nodes of the node list).
+ * ELEMENTS: bytes of the links, the numbers and an image, 16-bit entries of the order and the answer.
  *
  *   links    64 bytes a radio: radio b is a neighbour of a when bit b % 8 of byte b / 8 of row a is set
  *   numbers  1 byte a radio: its core number
@@ -12,8 +12,8 @@
  * Every call checks its tables itself. A refused call answers the number of the first question that got "no" (sb_refusal),
  * zeros beside it, and changes no byte of any table. A call with number 0 was carried out.
  *
- * Tables of one call must not overlap, except where a call only reads them; C cannot check that, and the proofs assume it.
- * Calls on the same tables must not run at the same time.
+ * What C cannot check, and the proofs assume: a pointer is not NULL, is aligned, and is good for its count of elements; a table
+ * that a call writes overlaps no other table of the call; calls on the same tables do not run at the same time.
  */
 #ifndef SUMMERBUGLE_H
 #define SUMMERBUGLE_H
@@ -31,7 +31,7 @@ extern "C" {
 #define SB_ROW_BYTES 64u
 /* The name and the parent of the shell tree's root. */
 #define SB_ROOT 65535u
-/* The bytes of a block of an image, and of its payload. */
+/* The bytes of a block of an image, and of its payload. The longest image has 70 blocks. */
 #define SB_BLOCK_BYTES 512u
 #define SB_PAYLOAD_BYTES 504u
 
@@ -81,20 +81,16 @@ typedef struct {
  *
  * \return 0; or SB_SIZE, SB_LENGTH, and then every table keeps its content.
  */
-uint32_t sb_clear(uint32_t n,
-                  uint8_t *links, size_t links_len,
-                  uint8_t *numbers, size_t numbers_len,
-                  uint16_t *order, size_t order_len);
+uint32_t sb_clear(uint32_t n, uint8_t *links, size_t links_len,
+                  uint8_t *numbers, size_t numbers_len, uint16_t *order, size_t order_len);
 
 /**
  * Check whether the tables are sound. They are only read.
  *
  * \return number 0 and value 1 (sound) or 0 (not sound); or number SB_SIZE, SB_LENGTH and value 0.
  */
-sb_value sb_check(uint32_t n,
-                  const uint8_t *links, size_t links_len,
-                  const uint8_t *numbers, size_t numbers_len,
-                  const uint16_t *order, size_t order_len);
+sb_value sb_check(uint32_t n, const uint8_t *links, size_t links_len,
+                  const uint8_t *numbers, size_t numbers_len, const uint16_t *order, size_t order_len);
 
 /**
  * Take the link between a and b up.
@@ -106,67 +102,71 @@ sb_value sb_check(uint32_t n,
  *         ascending; later entries keep theirs. Or a number from SB_SIZE to SB_NO_ROOM, step and count 0, and then every table
  *         keeps its content.
  */
-sb_reply sb_link_up(uint32_t n, uint32_t a, uint32_t b,
-                    uint8_t *links, size_t links_len,
-                    uint8_t *numbers, size_t numbers_len,
-                    uint16_t *order, size_t order_len,
+sb_reply sb_link_up(uint32_t n, uint32_t a, uint32_t b, uint8_t *links, size_t links_len,
+                    uint8_t *numbers, size_t numbers_len, uint16_t *order, size_t order_len,
                     uint16_t *answer, size_t answer_len);
 
 /**
- * Take the link between a and b down: as sb_link_up, with step -1 and numbers falling by one.
+ * Take the link between a and b down: as sb_link_up, with numbers that fall by one.
  *
- * Refused by SB_SIZE to SB_LINK_STATE.
+ * \return number 0, step -1 (or 0 when no number changed) and count, with the changed radios in the answer table. Or a number from
+ *         SB_SIZE to SB_LINK_STATE, step and count 0, and then every table keeps its content.
  */
-sb_reply sb_link_down(uint32_t n, uint32_t a, uint32_t b,
-                      uint8_t *links, size_t links_len,
-                      uint8_t *numbers, size_t numbers_len,
-                      uint16_t *order, size_t order_len,
+sb_reply sb_link_down(uint32_t n, uint32_t a, uint32_t b, uint8_t *links, size_t links_len,
+                      uint8_t *numbers, size_t numbers_len, uint16_t *order, size_t order_len,
                       uint16_t *answer, size_t answer_len);
 
 /**
- * Questions about the tables, which are only read. Each is refused by SB_SIZE, SB_LENGTH, SB_UNSOUND and SB_RADIO, with value 0.
+ * The number of radio v. The tables are only read, here and in the next three calls.
  *
- * sb_number: the number of radio v. sb_neighbours: how many neighbours it has. sb_linked: 1 when a and b are linked, 0 when not
- * (a radio with itself: 0). sb_first: which of a and b stands first in the order (the same radio twice: that radio).
+ * \return number 0 and the radio's number; or a number from SB_SIZE to SB_RADIO and value 0.
  */
-sb_value sb_number(uint32_t n, uint32_t v,
-                   const uint8_t *links, size_t links_len,
-                   const uint8_t *numbers, size_t numbers_len,
-                   const uint16_t *order, size_t order_len);
-sb_value sb_neighbours(uint32_t n, uint32_t v,
-                       const uint8_t *links, size_t links_len,
-                       const uint8_t *numbers, size_t numbers_len,
-                       const uint16_t *order, size_t order_len);
-sb_value sb_linked(uint32_t n, uint32_t a, uint32_t b,
-                   const uint8_t *links, size_t links_len,
-                   const uint8_t *numbers, size_t numbers_len,
-                   const uint16_t *order, size_t order_len);
-sb_value sb_first(uint32_t n, uint32_t a, uint32_t b,
-                  const uint8_t *links, size_t links_len,
-                  const uint8_t *numbers, size_t numbers_len,
-                  const uint16_t *order, size_t order_len);
+sb_value sb_number(uint32_t n, uint32_t v, const uint8_t *links, size_t links_len,
+                   const uint8_t *numbers, size_t numbers_len, const uint16_t *order, size_t order_len);
 
 /**
- * The connected core of radio v at level k: all radios reachable from v over radios with number k or more.
+ * How many neighbours radio v has.
+ *
+ * \return number 0 and the count, 0 to 32; or a number from SB_SIZE to SB_RADIO and value 0.
+ */
+sb_value sb_neighbours(uint32_t n, uint32_t v, const uint8_t *links, size_t links_len,
+                       const uint8_t *numbers, size_t numbers_len, const uint16_t *order, size_t order_len);
+
+/**
+ * Whether the radios a and b are linked.
+ *
+ * \return number 0 and 1 (linked) or 0 (not; a radio with itself); or a number from SB_SIZE to SB_RADIO and value 0.
+ */
+sb_value sb_linked(uint32_t n, uint32_t a, uint32_t b, const uint8_t *links, size_t links_len,
+                   const uint8_t *numbers, size_t numbers_len, const uint16_t *order, size_t order_len);
+
+/**
+ * Which of the radios a and b stands first in the order.
+ *
+ * \return number 0 and that radio (the same radio twice: it); or a number from SB_SIZE to SB_RADIO and value 0.
+ */
+sb_value sb_first(uint32_t n, uint32_t a, uint32_t b, const uint8_t *links, size_t links_len,
+                  const uint8_t *numbers, size_t numbers_len, const uint16_t *order, size_t order_len);
+
+/**
+ * The connected core of radio v at level k: all radios reachable from v over radios with number k or more. At level 0 it is v's
+ * connected part. Links, numbers and order are only read.
  *
  * \return number 0 and the count: answer[0] to answer[value - 1] are the radios, ascending; later entries keep theirs. Or a
  *         number (SB_SIZE to SB_RADIO, SB_LEVEL) and value 0, and then the answer table keeps its content.
  */
-sb_value sb_core(uint32_t n, uint32_t v, uint32_t k,
-                 const uint8_t *links, size_t links_len,
-                 const uint8_t *numbers, size_t numbers_len,
-                 const uint16_t *order, size_t order_len,
+sb_value sb_core(uint32_t n, uint32_t v, uint32_t k, const uint8_t *links, size_t links_len,
+                 const uint8_t *numbers, size_t numbers_len, const uint16_t *order, size_t order_len,
                  uint16_t *answer, size_t answer_len);
 
 /**
- * The backbone: the radios whose number is the greatest at the site; none if that is 0.
+ * The backbone: the radios whose number is the greatest at the site; none if that is 0. Links, numbers and order are only read.
  *
- * \return as sb_core. Refused by SB_SIZE, SB_LENGTH, SB_UNSOUND.
+ * \return number 0 and the count: answer[0] to answer[value - 1] are the radios, ascending; later entries keep theirs. Or number
+ *         SB_SIZE, SB_LENGTH, SB_UNSOUND and value 0, and then the answer table keeps its content.
  */
-sb_value sb_backbone(uint32_t n,
-                     const uint8_t *links, size_t links_len,
-                     const uint8_t *numbers, size_t numbers_len,
-                     const uint16_t *order, size_t order_len,
+sb_value sb_backbone(uint32_t n, const uint8_t *links, size_t links_len,
+                     const uint8_t *numbers, size_t numbers_len, const uint16_t *order, size_t order_len,
                      uint16_t *answer, size_t answer_len);
 
 /**
@@ -175,10 +175,8 @@ sb_value sb_backbone(uint32_t n,
  * \return number 0 and the image's length in bytes, a multiple of SB_BLOCK_BYTES; bytes past it keep their content. Or a number
  *         (SB_SIZE, SB_LENGTH, SB_UNSOUND, SB_IMAGE_SIZE) and value 0, and then the buffer keeps its content.
  */
-sb_value sb_image_write(uint32_t n,
-                        const uint8_t *links, size_t links_len,
-                        const uint8_t *numbers, size_t numbers_len,
-                        const uint16_t *order, size_t order_len,
+sb_value sb_image_write(uint32_t n, const uint8_t *links, size_t links_len,
+                        const uint8_t *numbers, size_t numbers_len, const uint16_t *order, size_t order_len,
                         uint8_t *buffer, size_t buffer_len);
 
 /**

@@ -1,0 +1,33 @@
+/* The time of a call: the best of many short batches, several programs in turn. */
+#ifndef CLOCK_H
+#define CLOCK_H
+#include <time.h>
+
+#define TURNS 40
+#define BATCH 500.0 /* microseconds */
+
+static double now(void) {
+    struct timespec t;
+    clock_gettime(CLOCK_MONOTONIC, &t);
+    return t.tv_sec * 1e6 + t.tv_nsec / 1e3;
+}
+
+static double batch(void (*run)(void), unsigned times) {
+    double start = now();
+    for (unsigned i = 0; i < times; i++) run();
+    return (now() - start) / times;
+}
+
+static void best_of(void (*const *runs)(void), unsigned count, double *best) {
+    unsigned times[count];
+    for (unsigned i = 0; i < count; i++) {
+        best[i] = batch(runs[i], 3);
+        times[i] = 1 + BATCH / best[i];
+    }
+    for (unsigned turn = 0; turn < TURNS; turn++)
+        for (unsigned i = 0; i < count; i++) {
+            double t = batch(runs[i], times[i]);
+            if (t < best[i]) best[i] = t;
+        }
+}
+#endif

@@ -1,0 +1,176 @@
+/* The site image in C: writer, block reader, and reader. The reader tests the image in place and writes the tables at the end. */
+#ifndef IMAGE_H
+#define IMAGE_H
+#include "check.h"
+
+#define BLOCK 512
+#define BODY 508
+#define HEAD 4
+#define ENTRIES 252
+#define LINKS 126
+#define MOST_BLOCKS 70
+
+static void put_word(uint8_t *p, unsigned x) { p[0] = x, p[1] = x >> 8; }
+
+static unsigned word_at(const uint8_t *p) { return p[0] | p[1] << 8; }
+
+static uint32_t c_sum(const uint8_t *block) {
+    uint32_t sum = 0;
+    for (unsigned i = 0; i < BODY; i++) sum += block[i] * (i + 1);
+    return sum;
+}
+
+/* ---- writer */
+
+static void open_block(uint8_t *block, unsigned kind, unsigned index) {
+    memset(block, 0, BLOCK);
+    block[0] = kind;
+    put_word(block + 2, index);
+}
+
+static void close_block(uint8_t *block) {
+    uint32_t sum = c_sum(block);
+    put_word(block + BODY, sum), put_word(block + BODY + 2, sum >> 16);
+}
+
+/* Lists row a; the place of the first neighbour above a, and the count. */
+static unsigned list_uppers(const uint8_t *links, unsigned a, uint16_t *list, unsigned *end) {
+    unsigned start = 0;
+    *end = row_list(links, a, list, NEIGHBOURS);
+    while (start < *end && list[start] <= a) start++;
+    return start;
+}
+
+static struct c_value c_image_write(const struct lent *t, uint8_t *buffer, size_t room) {
+    uint16_t list[NEIGHBOURS];
+    unsigned number = c_refusal(t, 1), count = 0, end;
+    if (number) return (struct c_value){number, 0};
+    for (unsigned a = 0; a < t->n; a++) {
+        unsigned start = list_uppers(t->links, a, list, &end);
+        count += end - start;
+    }
+    unsigned orders = (t->n + ENTRIES - 1) / ENTRIES, blocks = 1 + orders + (count + LINKS - 1) / LINKS;
+    if (room < BLOCK * blocks) return (struct c_value){9, 0};
+    for (unsigned i = 0, row = 0, place = 0; i < blocks; i++) {
+        uint8_t *block = buffer + BLOCK * i;
+        open_block(block, i == 0 ? 0 : i <= orders ? 1 : 2, i);
+        if (i == 0) {
+            put_word(block + HEAD, t->n), put_word(block + HEAD + 2, count);
+        } else if (i <= orders) {
+            unsigned from = ENTRIES * (i - 1);
+            for (unsigned j = 0; j < ENTRIES && from + j < t->n; j++) put_word(block + HEAD + 2 * j, t->order[from + j]);
+        } else {
+            for (unsigned put = 0; row < t->n; row++, place = 0) {
+                unsigned at = list_uppers(t->links, row, list, &end) + place;
+                for (; put < LINKS && at < end; put++, at++, place++)
+                    put_word(block + HEAD + 4 * put, row), put_word(block + HEAD + 4 * put + 2, list[at]);
+                if (at < end) break;
+            }
+        }
+        close_block(block);
+    }
+    return (struct c_value){0, BLOCK * blocks};
+}
+
+/* ---- questions 9 and 10, and the block reader */
+
+static unsigned c_image_checks(const uint8_t *image, size_t length) {
+    if (length == 0 || length % BLOCK) return 9;
+    for (size_t at = 0; at < length; at += BLOCK)
+        if (c_sum(image + at) != (word_at(image + at + BODY) | (uint32_t)word_at(image + at + BODY + 2) << 16)) return 10;
+    return 0;
+}
+
+struct c_block {
+    unsigned number, end;
+    size_t offset, length, next;
+};
+
+static struct c_block c_image_block(const uint8_t *image, size_t length, size_t next) {
+    unsigned number = c_image_checks(image, length);
+    if (number) return (struct c_block){number, 0, 0, 0, next};
+    if (next >= length / BLOCK) return (struct c_block){0, 1, 0, 0, next};
+    return (struct c_block){0, 0, BLOCK * next + HEAD, BODY - HEAD, next + 1};
+}
+
+/* ---- question 11 */
+
+/* Whether the image says n, has the length for its links, and each block its kind, zero byte, index and zeros behind what is used. */
+static int c_formed(const uint8_t *image, size_t length, uint32_t n) {
+    unsigned m = word_at(image + 6), orders = (n + ENTRIES - 1) / ENTRIES, blocks = 1 + orders + (m + LINKS - 1) / LINKS;
+    if (word_at(image + 4) != n || length != (size_t)BLOCK * blocks) return 0;
+    for (unsigned i = 0; i < blocks; i++) {
+        const uint8_t *block = image + BLOCK * i;
+        unsigned kind = i == 0 ? 0 : i <= orders ? 1 : 2, used = 4;
+        if (kind == 1) used = n - ENTRIES * (i - 1) < ENTRIES ? 2 * (n - ENTRIES * (i - 1)) : 2 * ENTRIES;
+        if (kind == 2) used = m - LINKS * (i - 1 - orders) < LINKS ? 4 * (m - LINKS * (i - 1 - orders)) : 4 * LINKS;
+        if (block[0] != kind || block[1] || word_at(block + 2) != i) return 0;
+        for (unsigned j = HEAD + used; j < BODY; j++)
+            if (block[j]) return 0;
+    }
+    return 1;
+}
+
+static const uint8_t *link_at(const uint8_t *image, uint32_t n, unsigned j) {
+    return image + BLOCK * (1 + (n + ENTRIES - 1) / ENTRIES + j / LINKS) + HEAD + 4 * (j % LINKS);
+}
+
+/* Whether the links have their lower radio first, radios below n, and stand ascending. */
+static int c_listed(const uint8_t *image, uint32_t n, unsigned m) {
+    for (unsigned j = 0, low = 0, high = 0; j < m; j++) {
+        const uint8_t *p = link_at(image, n, j);
+        unsigned a = word_at(p), b = word_at(p + 2);
+        if (b <= a || b >= n || a < low || (a == low && b <= high)) return 0;
+        low = a, high = b;
+    }
+    return 1;
+}
+
+/* For each radio, how many links lead to a radio with a rank of which, with the slack added, its own is below. */
+static void c_tally(const uint8_t *image, uint32_t n, unsigned m, const uint16_t *ranks, unsigned slack, uint16_t *counts) {
+    memset(counts, 0, 2 * RADIOS);
+    for (unsigned j = 0; j < m; j++) {
+        const uint8_t *p = link_at(image, n, j);
+        unsigned a = word_at(p), b = word_at(p + 2);
+        counts[a] += ranks[a] < ranks[b] + slack;
+        counts[b] += ranks[b] < ranks[a] + slack;
+    }
+}
+
+/* Question 11 for whole blocks: the order and the numbers worked out on yes. */
+static int c_is_image(const uint8_t *image, size_t length, uint32_t n, uint16_t *order, uint16_t *numbers) {
+    uint16_t places[RADIOS], counts[RADIOS];
+    unsigned m = word_at(image + 6), top = 0;
+    if (!c_formed(image, length, n) || !c_listed(image, n, m)) return 0;
+    memset(numbers, 0, 2 * RADIOS);
+    c_tally(image, n, m, numbers, 1, counts);
+    for (unsigned v = 0; v < n; v++)
+        if (counts[v] > NEIGHBOURS) return 0;
+    for (unsigned i = 0; i < n; i++) order[i] = word_at(image + BLOCK * (1 + i / ENTRIES) + HEAD + 2 * (i % ENTRIES));
+    if (!c_place(n, order, places)) return 0;
+    c_tally(image, n, m, places, 0, counts);
+    for (unsigned i = 0; i < n; i++) {
+        if (counts[order[i]] > top) top = counts[order[i]];
+        numbers[order[i]] = top;
+    }
+    c_tally(image, n, m, numbers, 1, counts);
+    for (unsigned v = 0; v < n; v++)
+        if (counts[v] < numbers[v]) return 0;
+    return 1;
+}
+
+static unsigned c_image_read(const struct lent *t, const uint8_t *image, size_t length) {
+    uint16_t order[RADIOS], numbers[RADIOS];
+    unsigned number = c_sizes(t, 1);
+    if (!number) number = c_image_checks(image, length);
+    if (!number && !c_is_image(image, length, t->n, order, numbers)) number = 11;
+    if (number) return number;
+    memset(t->links, 0, t->links_len);
+    for (unsigned j = 0, m = word_at(image + 6); j < m; j++) {
+        const uint8_t *p = link_at(image, t->n, j);
+        put_bit(t->links, 1, word_at(p), word_at(p + 2)), put_bit(t->links, 1, word_at(p + 2), word_at(p));
+    }
+    for (unsigned v = 0; v < t->n; v++) t->numbers[v] = numbers[v], t->order[v] = order[v];
+    return 0;
+}
+#endif

@@ -1,0 +1,65 @@
+/* Link up and link down in C: one peel of the lower end's level. */
+#ifndef LINK_H
+#define LINK_H
+#include "check.h"
+
+struct c_reply {
+    unsigned number;
+    int step;
+    unsigned count;
+};
+
+static unsigned first_bit(const uint64_t *set) {
+    for (unsigned i = 0; i < 8; i++)
+        if (set[i]) return 64 * i + __builtin_ctzll(set[i]);
+    return RADIOS;
+}
+
+/* Questions 4 to 7. */
+static unsigned c_ends(int up, uint32_t n, uint32_t a, uint32_t b, const uint8_t *links) {
+    if (a >= n || b >= n) return 4;
+    if (a == b) return 5;
+    if (marked(links, a, b) == up) return 6;
+    return up && (row_count(links, a) >= NEIGHBOURS || row_count(links, b) >= NEIGHBOURS) ? 7 : 0;
+}
+
+static struct c_reply c_link(int up, const struct lent *t, uint32_t a, uint32_t b, uint16_t *answer, size_t room) {
+    uint16_t places[RADIOS], stretch[RADIOS], list[NEIGHBOURS + 1];
+    uint8_t counters[RADIOS];
+    uint64_t fits[8] = {0}, set[8] = {0};
+    const uint32_t n = t->n;
+    uint8_t *links = t->links, *numbers = t->numbers;
+    uint16_t *order = t->order;
+    unsigned number = c_sizes(t, room >= n);
+    if (!number && !c_examine(n, links, numbers, order, places, counters)) number = 3;
+    if (!number) number = c_ends(up, n, a, b, links);
+    if (number) return (struct c_reply){number, 0, 0};
+    unsigned level = numbers[a] < numbers[b] ? numbers[a] : numbers[b], most = up ? level : level - 1;
+    unsigned start = 0, size = 0, taken = 0;
+    for (unsigned v = 0; v < n; v++) start += numbers[v] < level, size += numbers[v] == level;
+    if (numbers[a] == level) counters[a] += up ? 1 : -1;
+    if (numbers[b] == level) counters[b] += up ? 1 : -1;
+    for (unsigned p = start; p < start + size; p++)
+        if (counters[order[p]] <= most) fits[p / 64] |= 1ull << p % 64;
+    for (unsigned p; (p = first_bit(fits)) < RADIOS;) {
+        unsigned v = order[p], other = v == a ? b : v == b ? a : n;
+        stretch[taken++] = v;
+        fits[p / 64] &= ~(1ull << p % 64);
+        unsigned m = row_list(links, v, list, NEIGHBOURS + 1);
+        if (other < n && up) list[m++] = other;
+        for (unsigned i = 0; i < m; i++) {
+            unsigned x = list[i];
+            if (numbers[x] != level || (!up && x == other)) continue;
+            if (--counters[x] == most) fits[places[x] / 64] |= 1ull << places[x] % 64;
+        }
+    }
+    for (unsigned p = start, j = taken; p < start + size; p++)
+        if (counters[order[p]] > most) stretch[j++] = order[p];
+    put_bit(links, up, a, b), put_bit(links, up, b, a);
+    memcpy(order + start, stretch, 2 * size);
+    unsigned from = up ? taken : 0, to = up ? size : taken;
+    for (unsigned i = from; i < to; i++) set[stretch[i] / 64] |= 1ull << stretch[i] % 64, numbers[stretch[i]] += up ? 1 : -1;
+    unsigned count = row_list((const uint8_t *)set, 0, answer, room);
+    return (struct c_reply){0, count ? (up ? 1 : -1) : 0, count};
+}
+#endif

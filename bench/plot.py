@@ -1,0 +1,95 @@
+"""The plot of a run, as SVG: the ratio of each call, and the time of a call as sites grow."""
+
+import math
+
+WIDTH, HEIGHT = 960, 760
+LEFT, RIGHT = 60, 940
+COLOURS = ["#0072b2", "#d55e00", "#009e73", "#aa4499"]
+GROWING = ["clear", "check", "down+up", "core", "tree", "image_write", "image_read", "image_block"]
+
+
+def text(x, y, words, anchor="middle", size=12, colour="#222"):
+    return f'<text x="{x:.1f}" y="{y:.1f}" text-anchor="{anchor}" font-size="{size}" fill="{colour}">{words}</text>'
+
+
+def line(x, y, x2, y2, colour="#ddd", width=1, dash=""):
+    dashes = f' stroke-dasharray="{dash}"' if dash else ""
+    return f'<line x1="{x:.1f}" y1="{y:.1f}" x2="{x2:.1f}" y2="{y2:.1f}" stroke="{colour}" stroke-width="{width}"{dashes}/>'
+
+
+def dot(x, y, colour, size=3.5):
+    return f'<circle cx="{x:.1f}" cy="{y:.1f}" r="{size}" fill="{colour}"/>'
+
+
+def legend(sites, y):
+    parts, x = [], LEFT
+    for site, colour in zip(sites, COLOURS):
+        parts += [dot(x + 5, y - 4, colour), text(x + 14, y, site, "start")]
+        x += 90
+    return parts + [line(x, y - 4, x + 18, y - 4, "#c00", 2), text(x + 24, y, "goal, at most", "start")]
+
+
+def ratio_panel(run, goal, sizes, sites):
+    """A column for each call; in it the sizes from left to right, a dot for each site."""
+    top, bottom, highest = 70, 330, 1.75
+    step = (RIGHT - LEFT) / len(run.times)
+
+    def at(value):
+        return bottom - (bottom - top) * min(value, highest) / highest
+
+    parts = [text(LEFT, 24, "Time of a call, engine : C of the same algorithm (in each column n = 16, 64, 256, 512)", "start", 14)]
+    parts += legend(sites, 48)
+    for value in (0, 0.5, 1, 1.5):
+        parts += [line(LEFT, at(value), RIGHT, at(value), "#888" if value == 1 else "#ddd"), text(LEFT - 8, at(value) + 4, value, "end")]
+    for i, call in enumerate(run.times):
+        x = LEFT + i * step
+        parts += [line(x + 4, at(goal(call)), x + step - 4, at(goal(call)), "#c00", 2)]
+        parts += [text(x + step / 2, bottom + 18, call.replace("_", " "), size=11)]
+        for j, n in enumerate(sizes):
+            for site, colour in zip(sites, COLOURS):
+                parts.append(dot(x + step * (j + 1) / (len(sizes) + 1), at(run.ratio(call, n, site)), colour, 3))
+    return parts
+
+
+def spread(places, gap):
+    """The places, ascending, moved down so that neighbours are a gap apart."""
+    out = []
+    for place in places:
+        out.append(max(place, out[-1] + gap) if out else place)
+    return out
+
+
+def growth_panel(run, sizes):
+    """Time by size, both by powers; a label at the right end of each line."""
+    top, bottom, right = 420, 710, RIGHT - 110
+    calls = [call for call in GROWING if call in run.times]
+    times = {call: [run.times[call][n, "sparse"][0] for n in sizes] for call in calls}
+    low = math.floor(math.log10(min(map(min, times.values()))))
+    high = math.ceil(math.log10(max(map(max, times.values()))))
+
+    def across(n):
+        return LEFT + (right - LEFT) * math.log2(n / sizes[0]) / math.log2(sizes[-1] / sizes[0])
+
+    def down(time):
+        return bottom - (bottom - top) * (math.log10(time) - low) / (high - low)
+
+    parts = [text(LEFT, top - 24, "Time of a call of the engine on sparse sites, microseconds", "start", 14)]
+    for power in range(low, high + 1):
+        parts += [line(LEFT, down(10 ** power), right, down(10 ** power)), text(LEFT - 8, down(10 ** power) + 4, f"{10 ** power:g}", "end")]
+    for n in sizes:
+        parts += [line(across(n), top, across(n), bottom), text(across(n), bottom + 18, f"n = {n}")]
+    ordered = sorted(calls, key=lambda call: down(times[call][-1]))
+    labels = spread([down(times[call][-1]) for call in ordered], 14)
+    for i, (call, label) in enumerate(zip(ordered, labels)):
+        colour = COLOURS[i % len(COLOURS)]
+        points = " ".join(f"{across(n):.1f},{down(t):.1f}" for n, t in zip(sizes, times[call]))
+        parts += [f'<polyline points="{points}" fill="none" stroke="{colour}" stroke-width="1.5"/>']
+        parts += [dot(across(n), down(t), colour, 2.5) for n, t in zip(sizes, times[call])]
+        parts += [line(right + 3, down(times[call][-1]), right + 12, label, colour), text(right + 16, label + 4, call.replace("_", " "), "start", 12, colour)]
+    return parts
+
+
+def plot(run, goal, sizes, sites):
+    head = f'<svg xmlns="http://www.w3.org/2000/svg" viewBox="0 0 {WIDTH} {HEIGHT}" font-family="sans-serif">'
+    back = f'<rect width="{WIDTH}" height="{HEIGHT}" fill="#fff"/>'
+    return "\n".join([head, back, *ratio_panel(run, goal, sizes, sites), *growth_panel(run, sizes), "</svg>", ""])

@@ -1,0 +1,31 @@
+/* The shell tree in C: level by level, each core not yet named is flooded and named by its lowest radio of the level. */
+#ifndef TREE_H
+#define TREE_H
+#include "core.h"
+
+#define ROOT 65535
+
+struct c_node {
+    uint16_t name, level, parent;
+};
+
+static struct c_value c_tree(const struct lent *t, struct c_node *nodes, size_t places, uint16_t *answer, size_t room) {
+    uint8_t set[ROW];
+    uint16_t queue[RADIOS];
+    unsigned number = c_refusal(t, places > t->n && room >= t->n), count = 1;
+    if (number) return (struct c_value){number, 0};
+    for (unsigned v = 0; v < t->n; v++) answer[v] = ROOT;
+    nodes[0] = (struct c_node){ROOT, 0, ROOT};
+    unsigned top = c_greatest(t);
+    for (unsigned k = 1; k <= top; k++) {
+        memset(set, 0, sizeof set);
+        for (unsigned v = 0; v < t->n; v++) {
+            if (t->numbers[v] != k || marked(set, 0, v)) continue;
+            nodes[count++] = (struct c_node){v, k, answer[v]};
+            unsigned m = c_flood(t->links, t->numbers, k, v, set, queue);
+            for (unsigned i = 0; i < m; i++) answer[queue[i]] = v;
+        }
+    }
+    return (struct c_value){0, count};
+}
+#endif

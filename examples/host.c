@@ -1,0 +1,85 @@
+/* A C host: lends tables, takes links up and down, asks, writes an image and walks it. examples/run builds and runs it. */
+#include "../include/summerbugle.h"
+#include <stdio.h>
+
+enum { N = 7, IMAGE_ROOM = 4096 };
+
+static uint8_t links[SB_ROW_BYTES * N], numbers[N], image[IMAGE_ROOM];
+static uint16_t order[N], answer[N];
+
+#define TABLES links, sizeof links, numbers, N, order, N
+#define ANSWER answer, N
+
+static void print_list(const uint16_t *list, uint32_t count) {
+    for (uint32_t i = 0; i < count; i++) printf(" %u", list[i]);
+    printf("\n");
+}
+
+static void print_reply(const char *call, uint32_t a, uint32_t b, sb_reply r) {
+    printf("%s %u %u: number %u, step %d, changed", call, a, b, r.number, r.step);
+    print_list(answer, r.count);
+}
+
+static void up(uint32_t a, uint32_t b) { print_reply("up", a, b, sb_link_up(N, a, b, TABLES, ANSWER)); }
+
+static void down(uint32_t a, uint32_t b) { print_reply("down", a, b, sb_link_down(N, a, b, TABLES, ANSWER)); }
+
+static void print_value(const char *question, sb_value v) { printf("%s: number %u, value %u\n", question, v.number, v.value); }
+
+static void print_radios(const char *question, sb_value v) {
+    printf("%s: number %u, radios", question, v.number);
+    print_list(answer, v.value);
+}
+
+/* Two triangles, a link between them, and a radio that hangs on one. */
+static void make_links(void) {
+    static const uint8_t ends[][2] = {{0, 1}, {0, 2}, {1, 2}, {3, 4}, {3, 5}, {4, 5}, {2, 3}, {0, 6}};
+    printf("clear: number %u\n", sb_clear(N, TABLES));
+    for (unsigned i = 0; i < sizeof ends / sizeof *ends; i++) up(ends[i][0], ends[i][1]);
+    up(6, 7);
+    up(6, 6);
+    up(6, 0);
+    printf("order");
+    print_list(order, N);
+}
+
+static void ask(void) {
+    print_value("check", sb_check(N, TABLES));
+    print_value("number of 0", sb_number(N, 0, TABLES));
+    print_value("neighbours of 0", sb_neighbours(N, 0, TABLES));
+    print_value("linked 0 6", sb_linked(N, 0, 6, TABLES));
+    print_value("linked 1 6", sb_linked(N, 1, 6, TABLES));
+    print_value("first of 0 and 6", sb_first(N, 0, 6, TABLES));
+    print_radios("core of 6 at level 1", sb_core(N, 6, 1, TABLES, ANSWER));
+    print_radios("core of 6 at level 2", sb_core(N, 6, 2, TABLES, ANSWER));
+    print_radios("backbone", sb_backbone(N, TABLES, ANSWER));
+}
+
+/* The payload lies in the image itself; each step checks the whole image. */
+static void walk(size_t length) {
+    sb_block block = sb_image_block(image, length, 0);
+    for (; block.number == SB_OK && !block.end; block = sb_image_block(image, length, block.next)) {
+        const uint8_t *payload = image + block.offset;
+        printf("block at %zu, %zu bytes: %u %u %u %u ..\n", block.offset, block.length, payload[0], payload[1], payload[2], payload[3]);
+    }
+    printf("walk: number %u, end %u, next %zu\n", block.number, block.end, block.next);
+}
+
+static void keep(void) {
+    sb_value written = sb_image_write(N, TABLES, image, sizeof image);
+    print_value("image", written);
+    walk(written.value);
+    image[600] ^= 1;
+    walk(written.value);
+    image[600] ^= 1;
+}
+
+int main(void) {
+    make_links();
+    ask();
+    keep();
+    down(0, 6);
+    down(2, 3);
+    down(0, 1);
+    return 0;
+}

@@ -1,0 +1,164 @@
+// A Rust host: lends tables, takes links up and down, asks, writes an image and walks it. examples/run builds and runs it.
+
+#[repr(C)]
+struct Value {
+    number: u32,
+    value: u32,
+}
+
+#[repr(C)]
+struct Reply {
+    number: u32,
+    step: i8,
+    count: u32,
+}
+
+#[repr(C)]
+struct Block {
+    number: u32,
+    end: u32,
+    offset: usize,
+    length: usize,
+    next: usize,
+}
+
+// The engine's calls; include/summerbugle.h says what each takes and answers.
+mod engine {
+    use super::{Block, Reply, Value};
+
+    extern "C" {
+        pub fn sb_clear(n: u32, l: *mut u8, ll: usize, k: *mut u8, kl: usize, o: *mut u16, ol: usize) -> u32;
+        pub fn sb_check(n: u32, l: *const u8, ll: usize, k: *const u8, kl: usize, o: *const u16, ol: usize) -> Value;
+        pub fn sb_link_up(n: u32, a: u32, b: u32, l: *mut u8, ll: usize, k: *mut u8, kl: usize, o: *mut u16, ol: usize, w: *mut u16, wl: usize) -> Reply;
+        pub fn sb_link_down(n: u32, a: u32, b: u32, l: *mut u8, ll: usize, k: *mut u8, kl: usize, o: *mut u16, ol: usize, w: *mut u16, wl: usize) -> Reply;
+        pub fn sb_number(n: u32, v: u32, l: *const u8, ll: usize, k: *const u8, kl: usize, o: *const u16, ol: usize) -> Value;
+        pub fn sb_neighbours(n: u32, v: u32, l: *const u8, ll: usize, k: *const u8, kl: usize, o: *const u16, ol: usize) -> Value;
+        pub fn sb_linked(n: u32, a: u32, b: u32, l: *const u8, ll: usize, k: *const u8, kl: usize, o: *const u16, ol: usize) -> Value;
+        pub fn sb_first(n: u32, a: u32, b: u32, l: *const u8, ll: usize, k: *const u8, kl: usize, o: *const u16, ol: usize) -> Value;
+        pub fn sb_core(n: u32, v: u32, level: u32, l: *const u8, ll: usize, k: *const u8, kl: usize, o: *const u16, ol: usize, w: *mut u16, wl: usize) -> Value;
+        pub fn sb_backbone(n: u32, l: *const u8, ll: usize, k: *const u8, kl: usize, o: *const u16, ol: usize, w: *mut u16, wl: usize) -> Value;
+        pub fn sb_image_write(n: u32, l: *const u8, ll: usize, k: *const u8, kl: usize, o: *const u16, ol: usize, buffer: *mut u8, len: usize) -> Value;
+        pub fn sb_image_block(image: *const u8, len: usize, next: usize) -> Block;
+    }
+}
+
+// The tables of a site. They are separate vectors, borrowed for the call alone, so a call may lend all of them at once.
+struct Site {
+    n: u32,
+    links: Vec<u8>,
+    numbers: Vec<u8>,
+    order: Vec<u16>,
+    answer: Vec<u16>,
+}
+
+// The arguments of a call: n and what else it names, links, numbers and order, and what comes behind.
+macro_rules! call {
+    ($name:ident, $site:expr, [$($front:expr),*], [$($back:expr),*]) => {
+        unsafe {
+            engine::$name($site.n, $($front,)* $site.links.as_mut_ptr(), $site.links.len(), $site.numbers.as_mut_ptr(),
+                $site.numbers.len(), $site.order.as_mut_ptr(), $site.order.len() $(, $back)*)
+        }
+    };
+}
+
+impl Site {
+    fn new(n: u32) -> Site {
+        let count = n as usize;
+        Site { n, links: vec![0; 64 * count], numbers: vec![0; count], order: vec![0; count], answer: vec![0; count] }
+    }
+
+    fn print_reply(&self, name: &str, a: u32, b: u32, r: Reply) {
+        print!("{name} {a} {b}: number {}, step {}, changed", r.number, r.step);
+        print_list(&self.answer[..r.count as usize]);
+    }
+
+    fn up(&mut self, a: u32, b: u32) {
+        let r = call!(sb_link_up, self, [a, b], [self.answer.as_mut_ptr(), self.answer.len()]);
+        self.print_reply("up", a, b, r);
+    }
+
+    fn down(&mut self, a: u32, b: u32) {
+        let r = call!(sb_link_down, self, [a, b], [self.answer.as_mut_ptr(), self.answer.len()]);
+        self.print_reply("down", a, b, r);
+    }
+
+    fn print_radios(&self, question: &str, v: Value) {
+        print!("{question}: number {}, radios", v.number);
+        print_list(&self.answer[..v.value as usize]);
+    }
+
+    fn core(&mut self, v: u32, level: u32) {
+        let r = call!(sb_core, self, [v, level], [self.answer.as_mut_ptr(), self.answer.len()]);
+        self.print_radios(&format!("core of {v} at level {level}"), r);
+    }
+}
+
+fn print_list(list: &[u16]) {
+    for x in list {
+        print!(" {x}");
+    }
+    println!();
+}
+
+fn print_value(question: &str, v: Value) {
+    println!("{question}: number {}, value {}", v.number, v.value);
+}
+
+// Two triangles, a link between them, and a radio that hangs on one.
+fn make_links(s: &mut Site) {
+    println!("clear: number {}", call!(sb_clear, s, [], []));
+    for (a, b) in [(0, 1), (0, 2), (1, 2), (3, 4), (3, 5), (4, 5), (2, 3), (0, 6)] {
+        s.up(a, b);
+    }
+    s.up(6, 7);
+    s.up(6, 6);
+    s.up(6, 0);
+    print!("order");
+    print_list(&s.order);
+}
+
+fn ask(s: &mut Site) {
+    print_value("check", call!(sb_check, s, [], []));
+    print_value("number of 0", call!(sb_number, s, [0], []));
+    print_value("neighbours of 0", call!(sb_neighbours, s, [0], []));
+    print_value("linked 0 6", call!(sb_linked, s, [0, 6], []));
+    print_value("linked 1 6", call!(sb_linked, s, [1, 6], []));
+    print_value("first of 0 and 6", call!(sb_first, s, [0, 6], []));
+    s.core(6, 1);
+    s.core(6, 2);
+    let v = call!(sb_backbone, s, [], [s.answer.as_mut_ptr(), s.answer.len()]);
+    s.print_radios("backbone", v);
+}
+
+// The payload lies in the image itself; each step checks the whole image.
+fn walk(image: &[u8]) {
+    let step = |next| unsafe { engine::sb_image_block(image.as_ptr(), image.len(), next) };
+    let mut block = step(0);
+    while block.number == 0 && block.end == 0 {
+        let payload = &image[block.offset..block.offset + block.length];
+        println!("block at {}, {} bytes: {} {} {} {} ..", block.offset, block.length, payload[0], payload[1], payload[2], payload[3]);
+        block = step(block.next);
+    }
+    println!("walk: number {}, end {}, next {}", block.number, block.end, block.next);
+}
+
+fn keep(s: &mut Site) {
+    let mut image = vec![0u8; 4096];
+    let written = call!(sb_image_write, s, [], [image.as_mut_ptr(), image.len()]);
+    image.truncate(written.value as usize);
+    print_value("image", written);
+    walk(&image);
+    image[600] ^= 1;
+    walk(&image);
+    image[600] ^= 1;
+}
+
+fn main() {
+    let mut s = Site::new(7);
+    make_links(&mut s);
+    ask(&mut s);
+    keep(&mut s);
+    s.down(0, 6);
+    s.down(2, 3);
+    s.down(0, 1);
+}

@@ -1,0 +1,76 @@
+/* What the header says, held against the archive. It is C and C++; include/test builds it by both compilers. */
+#include "summerbugle.h"
+#include <stdio.h>
+#include <string.h>
+
+static int failures;
+
+static void expect(const char *what, size_t is, size_t should_be) {
+    if (is == should_be) return;
+    printf("%s: %zu, not %zu\n", what, is, should_be);
+    failures++;
+}
+
+#define SIZE(type, bytes) expect("size of " #type, sizeof(type), bytes)
+#define PART(type, part, at, bytes)                            \
+    expect("place of " #type "." #part, offsetof(type, part), at), \
+        expect("size of " #type "." #part, sizeof(((type *)0)->part), bytes)
+
+static void test_structs(void) {
+    SIZE(sb_value, 8), PART(sb_value, number, 0, 4), PART(sb_value, value, 4, 4);
+    SIZE(sb_reply, 12), PART(sb_reply, number, 0, 4), PART(sb_reply, step, 4, 1), PART(sb_reply, count, 8, 4);
+    SIZE(sb_block, 32), PART(sb_block, number, 0, 4), PART(sb_block, end, 4, 4);
+    PART(sb_block, offset, 8, 8), PART(sb_block, length, 16, 8), PART(sb_block, next, 24, 8);
+}
+
+/* The largest site that the header allows. */
+static uint8_t links[SB_ROW_BYTES * SB_RADIOS], numbers[SB_RADIOS], image[8 * SB_BLOCK_BYTES];
+static uint16_t order[SB_RADIOS], answer[SB_RADIOS];
+#define TABLES links, sizeof links, numbers, SB_RADIOS, order, SB_RADIOS
+#define ANSWER answer, SB_RADIOS
+
+static size_t up(uint32_t a, uint32_t b) { return sb_link_up(SB_RADIOS, a, b, TABLES, ANSWER).number; }
+
+static void test_limits(void) {
+    expect("clear at the limit", sb_clear(SB_RADIOS, TABLES), SB_OK);
+    expect("clear past the limit", sb_clear(SB_RADIOS + 1, TABLES), SB_SIZE);
+    expect("a byte short", sb_clear(SB_RADIOS, links, sizeof links - 1, numbers, SB_RADIOS, order, SB_RADIOS), SB_LENGTH);
+    for (uint32_t b = 1; b <= SB_NEIGHBOURS; b++) expect("a neighbour", up(0, b), SB_OK);
+    expect("a neighbour past the limit", up(0, SB_NEIGHBOURS + 1), SB_NO_ROOM);
+    expect("a step down", sb_link_down(SB_RADIOS, 0, 1, TABLES, ANSWER).step == -1, 1);
+    expect("a step up", sb_link_up(SB_RADIOS, 0, 1, TABLES, ANSWER).step == 1, 1);
+    expect("neighbours", sb_neighbours(SB_RADIOS, 0, TABLES).value, SB_NEIGHBOURS);
+}
+
+static void test_refusals(void) {
+    expect("radio", up(0, SB_RADIOS), SB_RADIO);
+    expect("same ends", up(3, 3), SB_SAME_ENDS);
+    expect("link state", up(0, 1), SB_LINK_STATE);
+    expect("level", sb_core(SB_RADIOS, 0, 2, TABLES, ANSWER).number, SB_LEVEL);
+    numbers[0] = 9;
+    expect("unsound", sb_backbone(SB_RADIOS, TABLES, ANSWER).number, SB_UNSOUND);
+    numbers[0] = 1;
+    expect("sound again", sb_check(SB_RADIOS, TABLES).value, 1);
+}
+
+static void test_images(void) {
+    size_t length = 5 * SB_BLOCK_BYTES; /* 1, 3 of the order, 1 of the links */
+    expect("short buffer", sb_image_write(SB_RADIOS, TABLES, image, length - 1).number, SB_IMAGE_SIZE);
+    expect("image", sb_image_write(SB_RADIOS, TABLES, image, sizeof image).value, length);
+    sb_block block = sb_image_block(image, length, 1);
+    expect("payload offset", block.offset, SB_BLOCK_BYTES + 4);
+    expect("payload length", block.length, SB_PAYLOAD_BYTES);
+    expect("next", block.next, 2);
+    expect("end", sb_image_block(image, length, 5).end, 1);
+    expect("image length", sb_image_block(image, length - 1, 0).number, SB_IMAGE_SIZE);
+    image[0] ^= 1;
+    expect("image check", sb_image_block(image, length, 0).number, SB_IMAGE_CHECK);
+}
+
+int main(void) {
+    test_structs();
+    test_limits();
+    test_refusals();
+    test_images();
+    return failures != 0;
+}
