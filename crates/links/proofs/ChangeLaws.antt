@@ -6,8 +6,8 @@ use Prim.Native.Nat.{ℕ, zero, suc, _+_, _-_, _≤_}
 use native.Mathlib.Omega.{arith}
 use native.Mathlib.Nat.{sub-zero, zero-sub, suc-sub-suc}
 use lib.IntN.{ℤ, pos, negsuc}
-use lib.ListN.{length, take, drop}
-use lib.Seq.{length-take-le, take-nil, paste}
+use lib.ListN.{length, take, drop, length-drop}
+use lib.Seq.{length-take-le, take-nil, take-all, take-take, take-add, drop-drop, paste, take-paste, drop-paste}
 use mir.Syntax.{w8}
 use mir.Val.{SFits, toZ, ofZ}
 use mir.Facts.{toZ-ofZ}
@@ -39,15 +39,49 @@ changed-part-down up k m xs e = rw e
 
 -- ---- the stretch
 
--- the first m entries of ys copied over the part of xs that is as long
-pub put-part : (xs ys new : List ℕ) (i m : ℕ) → i + m ≤ length xs → m ≤ length ys
-    → new ≡ overwrite (take (length (midOf i (i + m - i) xs)) (take m ys)) (midOf i (i + m - i) xs)
-    → putMid i (i + m - i) xs new ≡ paste xs i ys m
-put-part xs ys new i m h l e =
-    let part = midOf i (i + m - i) xs in
-    let is : new ≡ take m ys = e ∙ overwrite-all (take m ys) part (omega (arith, length-take-le m ys l, mid-len i (i + m) xs h)) in
-    ap (λ (z : List ℕ). take i xs ++ z) (ap₂ (λ (y z : List ℕ). y ++ z) is (post-is i (i + m) xs (omega arith)))
-    ∙ sym (append-assoc (take i xs) (take m ys) (drop (i + m) xs))
+-- ys copied over the part of xs that ends before place e
+pub put-part : (xs ys new : List ℕ) (i e : ℕ) → i + length ys ≡ e → e ≤ length xs
+    → new ≡ overwrite (take (length (midOf i (e - i) xs)) ys) (midOf i (e - i) xs) → putMid i (e - i) xs new ≡ paste xs i ys (length ys)
+put-part xs ys new i e h l q =
+    let part = midOf i (e - i) xs in
+    let is : new ≡ take (length ys) ys =
+    q ∙ overwrite-all ys part (omega (arith, mid-len i e xs l)) ∙ sym (take-all (length ys) ys (omega arith)) in
+    ap (λ (z : List ℕ). take i xs ++ z) (ap₂ (λ (y z : List ℕ). y ++ z) is (post-is i e xs (omega arith) ∙ ap (λ (k : ℕ). drop k xs) (sym h)))
+    ∙ sym (append-assoc (take i xs) (take (length ys) ys) (drop (i + length ys) xs))
+
+-- two parts of a stretch, one behind the other
+module _ (xs ys : List ℕ) (i k m : ℕ) (fits : i + m ≤ length xs) (long : m ≤ length ys) (less : k ≤ m) where
+  abbrev front : List ℕ
+  front = take k ys
+
+  abbrev back : List ℕ
+  back = take (m - k) (drop k ys)
+
+  paste-parts : paste (paste xs i front k) (i + k) back (m - k) ≡ paste xs i ys m
+  paste-parts =
+      let first = paste xs i front k in
+      let head : take (i + k) first ≡ take i xs ++ take k ys =
+      take-paste xs i front k (omega arith) (omega (arith, length-take-le k ys (omega arith)))
+      ∙ ap (λ (z : List ℕ). take i xs ++ z) (take-take k k ys (omega arith)) in
+      let mid : take (m - k) back ≡ back = take-take (m - k) (m - k) (drop k ys) (omega arith) in
+      let tail : drop (i + k + (m - k)) first ≡ drop (i + m) xs =
+      sym (drop-drop (m - k) (i + k) first)
+      ∙ ap (drop (m - k)) (drop-paste xs i front k (omega arith) (omega (arith, length-take-le k ys (omega arith))))
+      ∙ drop-drop (m - k) (i + k) xs ∙ ap (λ (j : ℕ). drop j xs) {x = i + k + (m - k)} {y = i + m} (omega arith) in
+      let whole : take k ys ++ back ≡ take m ys = sym (take-add k (m - k) ys) ∙ ap (λ (j : ℕ). take j ys) {x = k + (m - k)} {y = m} (omega arith) in
+      ap₂ (λ (y z : List ℕ). y ++ z) (ap₂ (λ (y z : List ℕ). y ++ z) head mid) tail
+      ∙ ap (λ (z : List ℕ). z ++ drop (i + m) xs)
+      (append-assoc (take i xs) (take k ys) back ∙ ap (λ (z : List ℕ). take i xs ++ z) whole)
+
+  -- each part put before its end
+  pub paste-stretch : (p q one two : List ℕ) → p ≡ front → q ≡ back → one ≡ paste xs (i + k - length p) p (length p)
+      → two ≡ paste one (i + m - length q) q (length q) → two ≡ paste xs i ys m
+  paste-stretch p q one two ep eq e1 e2 =
+      let lp : length p ≡ k = ap length ep ∙ length-take-le k ys (omega arith) in
+      let lq : length q ≡ m - k = ap length eq ∙ length-take-le (m - k) (drop k ys) (omega (arith, length-drop k ys)) in
+      let at1 : i + k - length p ≡ i = omega arith in
+      let at2 : i + m - length q ≡ i + k = omega arith in
+      e2 ∙ rw (at2, lq, eq) (ap (λ (z : List ℕ). paste z (i + k) back (m - k)) (e1 ∙ rw (at1, lp, ep)) ∙ paste-parts)
 
 -- ---- the step
 

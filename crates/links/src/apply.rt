@@ -1,6 +1,6 @@
 // A planned link call, written into the tables. Nothing is refused here: what a plan says fits.
 ghost use mathlib.Core.Path.{_≡_};
-ghost use Prim.Native.Nat.{_+_, _≤_};
+ghost use Prim.Native.Nat.{_+_, _-_, _≤_};
 ghost use lib.ListN.{length, take};
 ghost use lib.Seq.{paste};
 ghost use Rattle.mesh.specs.Limits.{max-radios};
@@ -52,12 +52,24 @@ fn step_of(up: bool, count: u32) -> i8
     -1
 }
 
-// The first `size` entries of the stretch stand in the order from `start` on after; the others keep their places.
-fn put_stretch(order: &mut [u16], start: usize, size: usize, stretch: &[u16])
-    requires { ⌜ (start + size ≤ length (now order)) × (size ≤ length (now stretch)) ⌝ }
+// The part stands in the order before place `end` after; the others keep their places.
+fn put_before(order: &mut [u16], end: usize, part: &[u16])
+    requires { ⌜ (length (now part) ≤ end) × (end ≤ length (now order)) ⌝ }
+    ensures { λ _. ⌜ now (order .exit) ≡ paste (now (order .entry)) (end - length (now (part .entry))) (now (part .entry)) (length (now (part .entry))) ⌝ }
+{
+    let start = end - part.len();
+    fill::copy16(&mut order[start..end], part);
+}
+
+// The first `size` entries of the stretch stand in the order from `start` on after; the others keep their places. The stuck
+// radios go behind the taken ones and so, going up, before the old members of level K + 1.
+fn put_stretch(order: &mut [u16], start: usize, size: usize, taken: usize, stretch: &[u16])
+    requires { ⌜ (start + size ≤ length (now order)) × (size ≤ length (now stretch)) × (taken ≤ size) ⌝ }
     ensures { λ _. ⌜ now (order .exit) ≡ paste (now (order .entry)) start (now (stretch .entry)) size ⌝ }
 {
-    fill::copy16(&mut order[start..start + size], &stretch[..size]);
+    let end = start + size;
+    put_before(order, start + taken, &stretch[..taken]);
+    put_before(order, end, &stretch[taken..size]);
 }
 
 // Writes the changed radios of a plan into the answer table, ascending, and comes back with their count; later entries keep
@@ -94,7 +106,7 @@ pub(crate) fn apply(
     let count = list_changed(up, plan.taken, plan.size, stretch, answer);
     let step = step_of(up, count);
     steps::step_numbers(numbers, answer, count, step);
-    put_stretch(order, plan.start, plan.size, stretch);
+    put_stretch(order, plan.start, plan.size, plan.taken, stretch);
     Reply {
         number: 0,
         step,

@@ -29,7 +29,7 @@ put-stretch-requires c κs =
     let s = c .before .before .before .before .before .before .before .before .before .before .before .before .before .before .before .before .before .before .before .before in
     let x = s .args in
     let t = tables (x .links .now) (x .numbers .now) (x .order .now) in
-    (stretch-fits (x .up) (length (x .order .now)) (x .a) (x .b) t (x .answer .now) (s .pre .0) (x .plan .start) (x .plan .size) (x .plan .taken) (x .stretch .now) (s .pre .1), s .pre .1 .long)
+    (stretch-fits (x .up) (length (x .order .now)) (x .a) (x .b) t (x .answer .now) (s .pre .0) (x .plan .start) (x .plan .size) (x .plan .taken) (x .stretch .now) (s .pre .1), s .pre .1 .long, s .pre .1 .taken-fits)
 
 same-length : tie.Need-same-length
 same-length c = search needs
