@@ -45,6 +45,9 @@ plan-links n m (suc j) h l =
     let k : suc j - 1 ≡ j = omega arith in
     let t : ltb j (order-blocks n) ≡ false = le-ltb j (order-blocks n) (omega arith) in rw (t, k) (refl, refl)
 
+pub links-most : (r x : ℕ) → r ≡ min block-links x → 4 * r ≤ payload-bytes
+links-most r x e = omega arith
+
 -- ---- a formed block, as facts
 
 zeros-at : (bs : List ℕ) (at k : ℕ) → zeros bs at k ≡ true → (j : ℕ) → j < k → getD bs (at + j) 0 ≡ 0

@@ -6,7 +6,7 @@ ghost use mathlib.Core.Bool.{_&&_};
 ghost use lib.Dec.{leb};
 ghost use lib.ListN.{length, getD};
 ghost use Rattle.mesh.specs.Limits.{max-radios};
-ghost use Rattle.mesh.specs.Image.{block-bytes, word-at, block-count};
+ghost use Rattle.mesh.specs.Image.{block-bytes, block-links, word-at, blocks-for, order-blocks, block-count};
 ghost use Rattle.image.specs.Form.{zeros, block-formed, kind-of, used-of, blocks-formed, is-formed};
 use super::checks;
 use mesh::Site;
@@ -64,6 +64,33 @@ fn is_block(image: &[u8], i: u32, kind: u8, used: u32) -> bool
     are_zeros(image, at + 4 + used as usize, 504 - used as usize)
 }
 
+// How many blocks of kind 1 the order of n radios has.
+pub fn order_blocks(n: u32) -> u32
+    ensures { λ r. ⌜ r ≡ order-blocks n ⌝ }
+{
+    if n % 252 == 0 {
+        return n / 252;
+    }
+    n / 252 + 1
+}
+
+// How many blocks of kind 2 hold m links.
+fn link_blocks(m: u32) -> u32
+    ensures { λ r. ⌜ r ≡ blocks-for m block-links ⌝ }
+{
+    if m % 126 == 0 {
+        return m / 126;
+    }
+    m / 126 + 1
+}
+
+// How many blocks an image of n radios and m links has.
+pub fn block_count(n: u32, m: u32) -> u32
+    ensures { λ r. ⌜ r ≡ block-count n m ⌝ }
+{
+    1 + order_blocks(n) + link_blocks(m)
+}
+
 // The kind of a block, and how many bytes of its payload are used.
 struct Plan {
     kind: u8,
@@ -79,7 +106,7 @@ fn plan_of(n: u32, m: u32, i: u32) -> Plan
         return Plan { kind: 0, used: 4 };
     }
     let j = i - 1;
-    let orders = (n + 251) / 252;
+    let orders = order_blocks(n);
     if j < orders {
         return Plan {
             kind: 1,
@@ -126,7 +153,7 @@ pub fn is_formed(image: &[u8], n: u32) -> bool
         return false;
     }
     let m = word_at(image, 6);
-    let blocks = 1 + (n + 251) / 252 + (m + 125) / 126;
+    let blocks = block_count(n, m);
     if image.len() != checks::BLOCK * blocks as usize {
         return false;
     }

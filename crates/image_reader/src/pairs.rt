@@ -22,7 +22,9 @@ pub(crate) fn pair_at(image: &[u8], n: u32, j: u32) -> Pair
     requires { ⌜ (n ≤ max-radios) × (j < 65536) ⌝ }
     ensures { λ r. ⌜ Pair-at n (now (image .entry)) j (r .low) (r .high) ⌝ }
 {
-    let at = checks::BLOCK * (1 + (n + 251) / 252 + j / 126) as usize + 4 + 4 * (j % 126) as usize;
+    let at = checks::BLOCK * (1 + form::order_blocks(n) + j / 126) as usize
+        + 4
+        + 4 * (j % 126) as usize;
     let low = form::word_at(image, at);
     let high = form::word_at(image, at + 2);
     Pair { low, high }

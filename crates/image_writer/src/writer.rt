@@ -16,6 +16,7 @@ ghost use Rattle.image_writer.specs.Links.{links-from, Rows-listed, Curs
 ghost use Rattle.image_writer.specs.Links.{Writable, Cursor-at, Block-filled, marked-graph};
 use calls::Value;
 use image::checks;
+use image::form;
 use mesh::Site;
 
 // Entries of the order in a block of kind 1.
@@ -212,14 +213,6 @@ fn fill_links(
     next
 }
 
-// How many blocks of kind 1 the order of n radios has.
-fn order_blocks(n: u32) -> u32
-    requires { ⌜ n ≤ max-radios ⌝ }
-    ensures { λ r. ⌜ r ≡ order-blocks n ⌝ }
-{
-    (n + 251) / 252
-}
-
 // Block i of the image. Comes back with the next link after it.
 fn fill_block(
     part: &mut [u8],
@@ -238,7 +231,7 @@ fn fill_block(
         fill_counts(part, n, count);
         return from;
     }
-    if i <= order_blocks(n) {
+    if i <= form::order_blocks(n) {
         fill_order(part, i, order, ENTRIES * (i as usize - 1));
         return from;
     }
@@ -269,14 +262,6 @@ fn write_blocks(
     }
 }
 
-// The image's length in blocks, for n radios and so many links.
-fn block_count(n: u32, count: u32) -> u32
-    requires { ⌜ (n ≤ max-radios) × (count ≤ max-neighbours * max-radios) ⌝ }
-    ensures { λ r. ⌜ (r ≡ block-count n count) × (r ≤ 1024) ⌝ }
-{
-    1 + order_blocks(n) + (count + 125) / 126
-}
-
 // Writes the image of sound tables in front of the buffer; the value is its length in bytes, and bytes past it keep their
 // content. Refused by 1 to 3 and 9: then the value is 0 and the buffer keeps its content.
 pub fn write(n: u32, links: &[u8], numbers: &[u8], order: &[u16], buffer: &mut [u8]) -> Value
@@ -288,7 +273,7 @@ pub fn write(n: u32, links: &[u8], numbers: &[u8], order: &[u16], buffer: &mut [
     }
     let mut list = [0u16; Site::NEIGHBOURS as usize];
     let count = count_links(n, links, &mut list);
-    let blocks = block_count(n, count);
+    let blocks = form::block_count(n, count);
     if buffer.len() < checks::BLOCK * blocks as usize {
         return Value {
             number: 9,

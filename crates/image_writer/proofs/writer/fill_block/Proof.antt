@@ -12,7 +12,7 @@ use Rattle.image_writer.proofs.writer.fill_block.Lts as lts
 use Rattle.image_writer.proofs.writer.fill_counts.Reads as fill-counts-reads
 use Rattle.image_writer.proofs.writer.fill_links.Reads as fill-links-reads
 use Rattle.image_writer.proofs.writer.fill_order.Reads as fill-order-reads
-use Rattle.image_writer.proofs.writer.order_blocks.Reads as order-blocks-reads
+use Rattle.image.proofs.form.order_blocks.Reads as order-blocks-reads
 
 -- src/writer.rt:225:9
 fill-counts-requires : tie.Need-fill-counts-requires

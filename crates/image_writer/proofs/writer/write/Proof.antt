@@ -4,7 +4,7 @@ use mathlib.Core.Path.{_≡_, refl, sym, ap, _∙_}
 use native.Mathlib.Omega.{arith}
 use lib.ListN.{length}
 use Rattle.mesh.specs.Tables.{Tables, tables}
-use Rattle.mesh.specs.Image.{block-count}
+use Rattle.mesh.specs.Image.{block-count, order-blocks, blocks-for}
 use Rattle.calls.specs.Questions.{lengths-of}
 use Rattle.image_writer.proofs.WriteLaws.{write-refused, write-small, write-order, write-rows, write-few, write-no-room, write-accepted}
 use borrow.Author.Needs.{needs}
@@ -12,7 +12,7 @@ use Rattle.image_writer.proofs.writer.write.Statement.{statement}
 use Rattle.image_writer.proofs.writer.write.Tie as tie
 use Rattle.image_writer.proofs.writer.write.Reads as reads
 use Rattle.image_writer.proofs.writer.write.Lts as lts
-use Rattle.image_writer.proofs.writer.block_count.Reads as block-count-reads
+use Rattle.image.proofs.form.block_count.Reads as block-count-reads
 use Rattle.image_writer.proofs.writer.count_links.Reads as count-links-reads
 use Rattle.image_writer.proofs.writer.write_blocks.Reads as write-blocks-reads
 use Rattle.soundness.proofs.refusal.Reads as refusal-reads
@@ -46,13 +46,7 @@ count-links-requires c κs =
 
 -- src/writer.rt:292:9
 block-count-requires : tie.Need-block-count-requires
-unfolding lengths-of
-block-count-requires c κs =
-    let asked = c .before .before .before .before in
-    let s = asked .before .before .before .before .before .args in
-    let t : Tables = tables (s .links .now) (s .numbers .now) (s .order .now) in
-    let good = sym (asked .refusal .ensures) ∙ c .before .before .before .if1 .left in
-    (write-small (s .n) t (s .buffer .now) good, omega (arith, write-few (s .n) t (s .buffer .now) good, c .before .count-links .ensures))
+block-count-requires c κs = search needs
 
 -- src/writer.rt:293:39
 cast-if2 : tie.Need-cast-if2
@@ -70,7 +64,7 @@ returns-2 c =
     let s = asked .before .before .before .before .before .args in
     let t : Tables = tables (s .links .now) (s .numbers .now) (s .order .now) in
     let good = sym (asked .refusal .ensures) ∙ c .before .before .before .before .before .if1 .left in
-    let counted = c .before .block-count .ensures .0 ∙ ap (block-count (s .n)) (c .before .before .before .count-links .ensures) in
+    let counted = c .before .block-count .ensures ∙ ap (block-count (s .n)) (c .before .before .before .count-links .ensures) in
     write-no-room (s .n) t (s .buffer .now) good (c .before .block-count .result) counted (c .if2 .taken)
 
 -- src/writer.rt:296:58
@@ -100,7 +94,15 @@ cast-t21 c = search needs
 
 -- src/writer.rt:297:31
 mul-t22 : tie.Need-mul-t22
-mul-t22 c = search needs
+unfolding lengths-of block-count order-blocks blocks-for
+mul-t22 c =
+    let put = c .before .before .before in
+    let test = put .before .before .before in
+    let asked = test .before .before .before .before .before .before in
+    let s = asked .before .before .before .before .before .args in
+    let t : Tables = tables (s .links .now) (s .numbers .now) (s .order .now) in
+    let good = sym (asked .refusal .ensures) ∙ test .before .before .before .before .before .if1 .left in
+    omega (arith, test .before .block-count .ensures, test .before .before .before .count-links .ensures, write-small (s .n) t (s .buffer .now) good, write-few (s .n) t (s .buffer .now) good)
 
 -- src/writer.rt:283:1
 same-length : tie.Need-same-length
@@ -116,7 +118,7 @@ returns-3 c =
     let s = asked .before .before .before .before .before .args in
     let t : Tables = tables (s .links .now) (s .numbers .now) (s .order .now) in
     let good = sym (asked .refusal .ensures) ∙ test .before .before .before .before .before .if1 .left in
-    let counted = test .before .block-count .ensures .0 ∙ ap (block-count (s .n)) (test .before .before .before .count-links .ensures) in
+    let counted = test .before .block-count .ensures ∙ ap (block-count (s .n)) (test .before .before .before .count-links .ensures) in
     write-accepted (s .n) t (s .buffer .now) good (test .before .block-count .result) counted (put .write-blocks .last .1 .1 .1 .1 .1 .0) (test .if2 .left) (put .write-blocks .ensures)
 
 pub write-spec : {M : Type 1} → statement M
