@@ -11,3 +11,8 @@ pub mod TreeLoop
 pub mod TreeAnswer
 -- one radio, as the code has it
 pub mod VisitSteps
+-- the lent list of nodes
+pub mod LentLaws
+pub mod LentAnswer
+-- a local array in a proof by hand
+pub mod LocalArray
