@@ -13,7 +13,7 @@ use Rattle.tree.proofs.levels.grow.Reads as reads
 use Rattle.tree.proofs.levels.grow.Lts as lts
 use Rattle.tree.proofs.levels.take_level.Reads as take-level-reads
 use Rattle.tree.proofs.nodes.fill_front.Reads as fill-front-reads
-use Rattle.tree.proofs.nodes.greatest.Reads as greatest-reads
+use Rattle.queries.proofs.backbone.greatest.Reads as greatest-reads
 use Rattle.tree.proofs.nodes.put_node.Reads as put-node-reads
 
 abbrev Inv-loop : tie.InvT-loop
