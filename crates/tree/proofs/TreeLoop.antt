@@ -5,7 +5,7 @@ use mathlib.Core.List.{List, [], _∷_, map}
 use Prim.Native.Nat.{ℕ, zero, suc, _+_, _*_, _≤_, _<_, min, max}
 use native.Mathlib.Omega.{arith}
 use native.Mathlib.Numerals.{add-one}
-use lib.ListN.{length, getD, drop, set, replicate, length-append, length-drop, length-replicate}
+use lib.ListN.{length, getD, set, replicate}
 use Rattle.mesh.specs.Limits.{max-radios}
 use Rattle.mesh.specs.Lists.{range, overwrite}
 use Rattle.mesh.specs.Graph.{Graph, radios}
@@ -130,11 +130,3 @@ treeing-end ts ns old before top k after c e q names levels parents answer a ord
     growing-last g top c old after
     (omega (arith, greatest-le ns (length ns) (λ v l. omega (arith, number-entry (length ns) (tables ts ns order) site v l, number-le-n g v))))
     (λ w l. omega (arith, number-entry (length ns) (tables ts ns order) site w l, getD-le-greatest ns w l)) last
-
--- the answer table keeps its length
-pub length-filled : (m x : ℕ) (d : List ℕ) → length (overwrite (replicate (min m (length d)) x) d) ≡ length d
-unfolding overwrite
-length-filled m x d =
-    let new = replicate (min m (length d)) x in
-    let long : length new ≡ min m (length d) = length-replicate (min m (length d)) x in
-    length-append new (drop (length new) d) ∙ omega (arith, long, length-drop (length new) d)
