@@ -32,7 +32,7 @@ use sound.WpLaws.{FmC, fmOf, WpFn-mono}
 use denote.RattleType.{RattleType, owns}
 use denote.Memory.{pointee}
 use denote.Laws.{Is, shows}
-use denote.Plain.{uint-makes, uint-vals, uint-tells}
+use denote.Plain.{uint-makes, uint-copy, uint-lawful, uint-vals, uint-tells}
 use denote.Builtin.{u8, u16, u32, usize, unit}
 use denote.Ref.{RefT, now}
 use denote.Slice.{finally, sliceTy, sliceVal, MutSlice, ShrSlice, Room, slice-vals, mut-slice-tells, shr-slice-tells, shr-slice-lawful, shr-slice-copy}
@@ -59,7 +59,7 @@ use Rattle.calls.proofs.Value.Laws as K′
 use Rattle.tree.specs.Lent.{nodes-in}
 use Rattle.tree.specs.Trees.{Lists, lists, Tables-contract}
 use Rattle.tree.proofs.LentAnswer.{lent-count, lent-tree}
-use Rattle.tree.proofs.LocalArray.{Lies, zeros-typed, made, lends, shows-it, back, freed}
+use Rattle.tree.proofs.LocalArray.{Lies, all-val, typed, made, lends, shows-it, back, freed}
 use Rattle.tree.proofs.levels.shell_tree as grow
 use Rattle.tree.proofs.levels.shell_tree.Symbol as grow-def
 use Rattle.tree.proofs.levels.shell_tree.Symbol.{name as #tree·grow}
@@ -205,7 +205,13 @@ module _ {M : Type 1} (𝓤 : URA M) (H : Heap 𝓤) (A : Atoms 𝓤) (W : Given
   twice16 r = shr-slice-copy 𝓤 H A W (named 0) κ u16 .twice r (m r ∷ [])
 
   abbrev lies : ℕ → List ℕ → Fml
-  lies l xs = Lies 𝓤 H A W 513 l xs
+  lies l xs = Lies 𝓤 H A W u16 tt 513 l xs
+
+  zeros-typed : (l : ℕ) → T (hasTy arrayTy (all-val 513 (vint w16 0))) × WT (all-val 513 (vint w16 0))
+  zeros-typed l = typed 𝓤 H A W u16 tt 513 l 0 (vint w16 0) (refl, lit< tt) (uint-lawful 𝓤 H A W w16)
+
+  zeros-made : (l : ℕ) → ent 𝓤 (H .at fullShare arrayTy l 0 (all-val 513 (vint w16 0))) (sem 𝓤 H A (lies l zeros))
+  zeros-made l = made 𝓤 H A W u16 tt 513 l 0 (vint w16 0) (refl, lit< tt) (uint-makes 𝓤 H A W w16) (uint-copy 𝓤 H A W w16)
 
   -- what the first call says
   abbrev Found : Value → Lists → Type 0
@@ -311,8 +317,8 @@ module _ {M : Type 1} (𝓤 : URA M) (H : Heap 𝓤) (A : Atoms 𝓤) (W : Given
           -- the arrays come back, and are room
           move ! (3 ∷ []) $ lft-end ! tt $ use1 W (‵ (fdead (β ∷ [])) ⊛ ‵ (fdead (β ∷ []))) (W .lfts .dead-dup (β ∷ [])) $ split ! $
           use1 W (‵ (fdead (β ∷ [])) ⊛ ‵ (fdead (β ∷ []))) (W .lfts .dead-dup (β ∷ [])) $ split ! $ move ! (0 ∷ 10 ∷ []) $ lent-back ! tt $
-          use1 W (‵ (froom arrayTy l₇ 0)) (freed 𝓤 H A W 513 l₇ (a .names)) $ move ! (2 ∷ 10 ∷ []) $ lent-back ! tt $ use1 W (‵ (froom arrayTy l₈ 0)) (freed 𝓤 H A W 513 l₈ (a .levels)) $
-          move ! (2 ∷ 10 ∷ []) $ lent-back ! tt $ use1 W (‵ (froom arrayTy l₉ 0)) (freed 𝓤 H A W 513 l₉ (a .parents)) $ returns ! (look ! 11 refl) $ forget ! 11 refl $ forget ! 13 refl $
+          use1 W (‵ (froom arrayTy l₇ 0)) (freed 𝓤 H A W u16 tt 513 l₇ (a .names)) $ move ! (2 ∷ 10 ∷ []) $ lent-back ! tt $ use1 W (‵ (froom arrayTy l₈ 0)) (freed 𝓤 H A W u16 tt 513 l₈ (a .levels)) $
+          move ! (2 ∷ 10 ∷ []) $ lent-back ! tt $ use1 W (‵ (froom arrayTy l₉ 0)) (freed 𝓤 H A W u16 tt 513 l₉ (a .parents)) $ returns ! (look ! 11 refl) $ forget ! 11 refl $ forget ! 13 refl $
           forget ! 15 refl $ forget ! 17 refl $ forget ! 19 refl $ forget ! 21 refl $ forget ! 23 refl $ forget ! 28 refl $ forget ! 30 refl $ forget ! 32 refl $ forget ! 34 refl $ forget ! 36 refl $
           forget ! 38 refl $ forget ! 40 refl $ forget ! 42 refl $ forget ! 44 refl $ forget ! 46 refl $ forget ! 48 refl $ forget ! 50 refl $ forget ! 52 refl $ forget ! 54 refl $ forget ! 56 refl $
           forget ! 58 refl $ forget ! 60 refl $ forget ! 62 refl $ forget ! 64 refl $ forget ! 66 refl $ move ! (11 ∷ 12 ∷ []) $ free1 ! $ move ! (11 ∷ 12 ∷ []) $ free1 ! $ move ! (11 ∷ 12 ∷ []) $
@@ -342,9 +348,9 @@ module _ {M : Type 1} (𝓤 : URA M) (H : Heap 𝓤) (A : Atoms 𝓤) (W : Given
       fills =
           assigns ! (un ! (load ! (from ! (fld ! refl (stop !))) (look-in ! 34 (sub ! 1 refl (whole !)))) (record { fits = count-fits })) (from ! (stop !)) (init ! 36 refl (tt, record { fits = count-fits })) $
           -- the arrays come back, each at its last list
-          move ! (3 ∷ []) $ lft-end ! tt $ move ! (0 ∷ 10 ∷ 13 ∷ []) $ use3 W (later (‵ (lies l₇ (a .names)))) (back 𝓤 H A W 513 l₇ (α₁ ∷ []) γ₁ (a .names)) $ await ! tt $ move ! (4 ∷ []) $
-          lft-end ! tt $ move ! (0 ∷ 10 ∷ 12 ∷ []) $ use3 W (later (‵ (lies l₈ (a .levels)))) (back 𝓤 H A W 513 l₈ (α₂ ∷ []) γ₂ (a .levels)) $ await ! tt $ move ! (5 ∷ []) $ lft-end ! tt $
-          move ! (0 ∷ 10 ∷ 11 ∷ []) $ use3 W (later (‵ (lies l₉ (a .parents)))) (back 𝓤 H A W 513 l₉ (α₃ ∷ []) γ₃ (a .parents)) $ await ! tt $
+          move ! (3 ∷ []) $ lft-end ! tt $ move ! (0 ∷ 10 ∷ 13 ∷ []) $ use3 W (later (‵ (lies l₇ (a .names)))) (back 𝓤 H A W u16 tt 513 l₇ (α₁ ∷ []) γ₁ (a .names)) $ await ! tt $ move ! (4 ∷ []) $
+          lft-end ! tt $ move ! (0 ∷ 10 ∷ 12 ∷ []) $ use3 W (later (‵ (lies l₈ (a .levels)))) (back 𝓤 H A W u16 tt 513 l₈ (α₂ ∷ []) γ₂ (a .levels)) $ await ! tt $ move ! (5 ∷ []) $ lft-end ! tt $
+          move ! (0 ∷ 10 ∷ 11 ∷ []) $ use3 W (later (‵ (lies l₉ (a .parents)))) (back 𝓤 H A W u16 tt 513 l₉ (α₃ ∷ []) γ₃ (a .parents)) $ await ! tt $
           -- slices of nodes and of the arrays
           assigns ! (addr ! (from ! (fld ! refl (hop ! (look-in ! 21 (sub ! 0 refl (whole !))) (stop !))))) (from ! (stop !)) (init ! 52 refl (tt, tt)) $
           assigns ! (agg ! (and-then ! (load ! (from ! (stop !)) (look ! 52 refl)) (and-then ! (load ! (from ! (fld ! refl (stop !))) (look-in ! 21 (sub ! 1 refl (whole !)))) (no-more !)))) (from ! (stop !)) (init ! 54 refl (tt, (tt, (record { fits = room .0 }, tt)))) $
@@ -357,11 +363,11 @@ module _ {M : Type 1} (𝓤 : URA M) (H : Heap 𝓤) (A : Atoms 𝓤) (W : Given
           -- the arrays are lent once more, to be read; nodes is given for good
           lft-new ! tt (λ β. move ! (3 ∷ []) $
           use1 W (later (some (λ (δ : GName). ‵ (ShrSlice (named 1) (β ∷ []) u16 .own (ref l₇ δ (a .names)) (part l₇ ∷ [])) ⊛ ‵ (flent (β ∷ []) (lies l₇ (a .names))))))
-          (shows-it 𝓤 H A W 513 l₇ (named 1) (β ∷ []) (a .names) many) $ await ! tt $ pick ! (λ δ₁. split ! $ move ! (4 ∷ []) $
+          (shows-it 𝓤 H A W u16 tt 513 l₇ (named 1) (β ∷ []) (a .names) many) $ await ! tt $ pick ! (λ δ₁. split ! $ move ! (4 ∷ []) $
           use1 W (later (some (λ (δ : GName). ‵ (ShrSlice (named 1) (β ∷ []) u16 .own (ref l₈ δ (a .levels)) (part l₈ ∷ [])) ⊛ ‵ (flent (β ∷ []) (lies l₈ (a .levels))))))
-          (shows-it 𝓤 H A W 513 l₈ (named 1) (β ∷ []) (a .levels) many) $ await ! tt $ pick ! (λ δ₂. split ! $ move ! (5 ∷ []) $
+          (shows-it 𝓤 H A W u16 tt 513 l₈ (named 1) (β ∷ []) (a .levels) many) $ await ! tt $ pick ! (λ δ₂. split ! $ move ! (5 ∷ []) $
           use1 W (later (some (λ (δ : GName). ‵ (ShrSlice (named 1) (β ∷ []) u16 .own (ref l₉ δ (a .parents)) (part l₉ ∷ [])) ⊛ ‵ (flent (β ∷ []) (lies l₉ (a .parents))))))
-          (shows-it 𝓤 H A W 513 l₉ (named 1) (β ∷ []) (a .parents) many) $ await ! tt $ pick ! (λ δ₃. split ! $ nothing ! $
+          (shows-it 𝓤 H A W u16 tt 513 l₉ (named 1) (β ∷ []) (a .parents) many) $ await ! tt $ pick ! (λ δ₃. split ! $ nothing ! $
           owned ! usize (Is usize) (uint-makes 𝓤 H A W w64) (r .value) _ (refl, count-fits) $ fjoin ! $ move ! (1 ∷ 0 ∷ []) $ fjoin ! $ move ! (2 ∷ 0 ∷ []) $ fjoin ! $ move ! (3 ∷ 0 ∷ []) $ fjoin ! $
           move ! (11 ∷ 0 ∷ []) $ fjoin ! $ nothing ! $ move ! (5 ∷ 0 ∷ []) $ join ! $ move ! (6 ∷ 0 ∷ []) $ join ! $ use2 W (raw (Fill 𝓤 H A mem run .pre (into β δ₁ δ₂ δ₃))) (asks β δ₁ δ₂ δ₃) $
           calls-at ! (fmOf 𝓤 H (W .laws) 𝓣) (Fill 𝓤 H A mem run) known-fill (into β δ₁ δ₂ δ₃) (and-then ! (load ! (from ! (stop !)) (look ! 53 refl)) (and-then ! (load ! (from ! (stop !)) (look ! 57 refl)) (and-then ! (load ! (from ! (stop !)) (look ! 61 refl)) (and-then ! (load ! (from ! (stop !)) (look ! 65 refl)) (and-then ! (load ! (from ! (stop !)) (look ! 29 refl)) (no-more !)))))) (λ w.
@@ -384,9 +390,8 @@ module _ {M : Type 1} (𝓤 : URA M) (H : Heap 𝓤) (A : Atoms 𝓤) (W : Given
         pass1 ! (init ! 52 refl (shr-slice-lawful 𝓤 H A W (named 0) κ u8 .typed t _ is-t .0)) $ pass1 ! (init ! 50 refl (shr-slice-lawful 𝓤 H A W (named 0) κ u16 .typed u _ is-u .0)) $
         pass1 ! (init ! 48 refl (tt, (tt, (record { fits = room .0 }, tt)))) $ pass1 ! (init ! 46 refl (tt, (tt, (record { fits = room′ .0 }, tt)))) $ pass0 ! $
         -- three arrays of zeros, and slices of them and of answer
-        assigns ! (rep ! 513 (lit ! tt)) (from ! (stop !)) (init ! 44 refl (zeros-typed 𝓤 H A W 513 l₇)) $
-        assigns ! (rep ! 513 (lit ! tt)) (from ! (stop !)) (init ! 42 refl (zeros-typed 𝓤 H A W 513 l₈)) $
-        assigns ! (rep ! 513 (lit ! tt)) (from ! (stop !)) (init ! 40 refl (zeros-typed 𝓤 H A W 513 l₉)) $
+        assigns ! (rep ! 513 (lit ! tt)) (from ! (stop !)) (init ! 44 refl (zeros-typed l₇)) $ assigns ! (rep ! 513 (lit ! tt)) (from ! (stop !)) (init ! 42 refl (zeros-typed l₈)) $
+        assigns ! (rep ! 513 (lit ! tt)) (from ! (stop !)) (init ! 40 refl (zeros-typed l₉)) $
         assigns ! (of-opd ! (load ! (from ! (fld ! refl (stop !))) (look-in ! 48 (sub ! 1 refl (whole !))))) (from ! (stop !)) (init ! 34 refl (tt, record { fits = room .0 })) $
         assigns ! (addr ! (from ! (stop !))) (from ! (stop !)) (init ! 32 refl (tt, tt)) $
         assigns ! (agg ! (and-then ! (load ! (from ! (stop !)) (look ! 32 refl)) (and-then ! (lit ! tt) (no-more !)))) (from ! (stop !)) (init ! 30 refl (tt, (tt, (record { fits = lit< tt }, tt)))) $
@@ -397,13 +402,13 @@ module _ {M : Type 1} (𝓤 : URA M) (H : Heap 𝓤) (A : Atoms 𝓤) (W : Given
         assigns ! (addr ! (from ! (fld ! refl (hop ! (look-in ! 46 (sub ! 0 refl (whole !))) (stop !))))) (from ! (stop !)) (init ! 20 refl (tt, tt)) $
         assigns ! (agg ! (and-then ! (load ! (from ! (stop !)) (look ! 20 refl)) (and-then ! (load ! (from ! (fld ! refl (stop !))) (look-in ! 46 (sub ! 1 refl (whole !)))) (no-more !)))) (from ! (stop !)) (init ! 18 refl (tt, (tt, (record { fits = room′ .0 }, tt)))) $
         -- each array is lent for a lifetime of its own
-        lft-new ! tt (λ α₁. lft-new ! tt (λ α₂. lft-new ! tt (λ α₃. move ! (47 ∷ []) $ use1 W (‵ (lies l₇ zeros)) (made 𝓤 H A W 513 l₇) $
+        lft-new ! tt (λ α₁. lft-new ! tt (λ α₂. lft-new ! tt (λ α₃. move ! (47 ∷ []) $ use1 W (‵ (lies l₇ zeros)) (zeros-made l₇) $
         use1 W (later (some (λ (δ : GName). ‵ (MutSlice (named 1) (α₁ ∷ []) u16 .own (ref l₇ δ zeros) (part l₇ ∷ [])) ⊛ ‵ (flent (α₁ ∷ []) (Held u16 513 l₇ 0 δ)))))
-        (lends 𝓤 H A W 513 l₇ (named 1) (α₁ ∷ []) zeros many) $ await ! tt $ pick ! (λ γ₁. split ! $ move ! (47 ∷ []) $ use1 W (‵ (lies l₈ zeros)) (made 𝓤 H A W 513 l₈) $
+        (lends 𝓤 H A W u16 tt 513 l₇ (named 1) (α₁ ∷ []) zeros many) $ await ! tt $ pick ! (λ γ₁. split ! $ move ! (47 ∷ []) $ use1 W (‵ (lies l₈ zeros)) (zeros-made l₈) $
         use1 W (later (some (λ (δ : GName). ‵ (MutSlice (named 2) (α₂ ∷ []) u16 .own (ref l₈ δ zeros) (part l₈ ∷ [])) ⊛ ‵ (flent (α₂ ∷ []) (Held u16 513 l₈ 0 δ)))))
-        (lends 𝓤 H A W 513 l₈ (named 2) (α₂ ∷ []) zeros many) $ await ! tt $ pick ! (λ γ₂. split ! $ move ! (47 ∷ []) $ use1 W (‵ (lies l₉ zeros)) (made 𝓤 H A W 513 l₉) $
+        (lends 𝓤 H A W u16 tt 513 l₈ (named 2) (α₂ ∷ []) zeros many) $ await ! tt $ pick ! (λ γ₂. split ! $ move ! (47 ∷ []) $ use1 W (‵ (lies l₉ zeros)) (zeros-made l₉) $
         use1 W (later (some (λ (δ : GName). ‵ (MutSlice (named 3) (α₃ ∷ []) u16 .own (ref l₉ δ zeros) (part l₉ ∷ [])) ⊛ ‵ (flent (α₃ ∷ []) (Held u16 513 l₉ 0 δ)))))
-        (lends 𝓤 H A W 513 l₉ (named 3) (α₃ ∷ []) zeros many) $ await ! tt $ pick ! (λ γ₃. split ! $
+        (lends 𝓤 H A W u16 tt 513 l₉ (named 3) (α₃ ∷ []) zeros many) $ await ! tt $ pick ! (λ γ₃. split ! $
         -- the tables are given and kept, answer is given for good
         move ! (67 ∷ []) $ fsplit ! $ drop ! $ fsplit ! $ use1 W (‵ (Own8 s) ⊛ ‵ (Own8 s)) (twice8 s) $ split ! $ move ! (2 ∷ []) $ fsplit ! $ use1 W (‵ (Own8 t) ⊛ ‵ (Own8 t)) (twice8 t) $ split ! $
         move ! (2 ∷ []) $ fsplit ! $ use1 W (‵ (Own16 u) ⊛ ‵ (Own16 u)) (twice16 u) $ split ! $ move ! (2 ∷ []) $ fsplit ! $ move ! (1 ∷ []) $ fsplit ! $ move ! (1 ∷ []) $ drop ! $
