@@ -1,0 +1,42 @@
+// The shell tree in a list of nodes of its own, whose fields are handed on as words. A function with a reference to structs is
+// proved by hand, and this file has the only one here.
+use calls::Value;
+use mesh::Node;
+
+// Two places more than the largest tree needs.
+pub const PLACES: usize = 515;
+
+// The words of their fields.
+pub const FIELDS: usize = 3 * PLACES;
+
+// Writes the fields of each place: name, level and parent.
+fn spread(nodes: [Node; PLACES], fields: &mut [u16]) {
+    let mut i: usize = 0;
+    while i < PLACES {
+        let node = nodes[i];
+        tables::rows::put_entry(fields, 3 * i, node.name);
+        tables::rows::put_entry(fields, 3 * i + 1, node.level);
+        tables::rows::put_entry(fields, 3 * i + 2, node.parent);
+        i += 1;
+    }
+}
+
+// Asks for the shell tree, and writes the fields of every place of the list after it.
+pub fn ask<'a, 't, 'f>(
+    n: u32,
+    links: &'a [u8],
+    numbers: &'a [u8],
+    order: &'a [u16],
+    answer: &'t mut [u16],
+    fields: &'f mut [u16],
+) -> Value {
+    let blank = Node {
+        name: crate::compare::KEPT,
+        level: crate::compare::KEPT,
+        parent: crate::compare::KEPT,
+    };
+    let mut nodes = [blank; PLACES];
+    let reply = tree::lent::shell_tree(n, links, numbers, order, &mut nodes, answer);
+    spread(nodes, fields);
+    reply
+}
