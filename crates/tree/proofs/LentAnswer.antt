@@ -18,7 +18,7 @@ use Rattle.mesh.specs.Lists.{overwrite}
 use Rattle.mesh.specs.Graph.{Graph}
 use Rattle.mesh.specs.Tables.{Tables, graph-in}
 use Rattle.mesh.specs.Sound.{sound}
-use Rattle.mesh.specs.Tree.{node, tree, node-names}
+use Rattle.mesh.specs.Tree.{node, tree}
 use Rattle.mesh.specs.declared.Node.{Node}
 use Rattle.mesh.proofs.BoolLaws.{bool-cases, and-left}
 use Rattle.mesh.proofs.TreeLaws.{number-le-n}
@@ -28,7 +28,7 @@ use Rattle.calls.specs.declared.Value.{Value}
 use Rattle.calls.proofs.ContractLaws.{by-accepted, by-refused, by-cases}
 use Rattle.calls.proofs.QuestionLaws.{ask-later, size-good-true, nodes-length-true}
 use Rattle.calls.proofs.ChainLaws.{site-zero}
-use Rattle.tree.specs.Lent.{node-in, nodes-in}
+use Rattle.tree.specs.Lent.{nodes-in}
 use Rattle.tree.specs.Trees.{Lists, lists, with-front, places, Tables-accepted, Tables-refused, Tables-contract}
 use Rattle.tree.proofs.NodeLists.{length-map-any, nodes-before-tree, length-nodes-before}
 

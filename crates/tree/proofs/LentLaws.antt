@@ -1,10 +1,10 @@
 -- The lent list of nodes, filled place by place.
 use mathlib.Core.Path.{_≡_, refl, sym, ap, _∙_}
-use mathlib.Core.List.{List, [], _∷_, _++_}
+use mathlib.Core.List.{List}
 use Prim.Native.Nat.{ℕ, zero, suc, _+_, _≤_, _<_}
 use native.Mathlib.Omega.{arith}
 use native.Mathlib.Numerals.{add-one}
-use lib.ListN.{length, drop, set, length-append, length-drop}
+use lib.ListN.{length, set, length-append, length-drop}
 use Rattle.mesh.specs.Lists.{overwrite}
 use Rattle.mesh.specs.declared.Node.{Node}
 use Rattle.tree.specs.Lent.{node-in, nodes-in}

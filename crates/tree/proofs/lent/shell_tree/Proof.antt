@@ -7,7 +7,7 @@
 use mathlib.Core.Path.{_≡_, refl, sym, _∙_, ap, subst}
 use mathlib.Core.List.{List, [], _∷_}
 use Prim.Native.Nat.{ℕ, _<_, _≤_, _^_}
-use native.Mathlib.Nat.{lt-trans, le-trans}
+use native.Mathlib.Nat.{lt-trans}
 use native.Mathlib.Omega.{arith}
 use lib.Dec.{T, lit<}
 use lib.ListN.{length, replicate, length-replicate}
@@ -28,7 +28,7 @@ use types.Kit.{Given, Item, ‵, raw, some, later, runs, atRet, Sq, _⊛_, ⋆, 
 use types.Run.{addr, look, init, forget, stop, hop, fld, from, load, lit, of-opd, un, and-then, no-more, assigns, land, returns, enter, alloc1, alloc0, params1, pass1, pass0, free1, free0}
 use types.Part.{agg, rep, whole, sub, look-in}
 use types.Tokens.{lft-new, lft-end, lent-back}
-use sound.WpLaws.{FmC, fmOf, WpFn-mono}
+use sound.WpLaws.{fmOf, WpFn-mono}
 use denote.RattleType.{RattleType, owns}
 use denote.Memory.{pointee}
 use denote.Laws.{Is, shows}
