@@ -9,8 +9,8 @@ sets: one node for each different connected core, at the largest k. Small sites 
 
 A file is words of 16 bits, lower byte first: n; the count of links and the links; the count of
 calls and the calls on the site; the same for calls after all numbers are set to 255. A call is
-its kind (1 tree, 2 backbone, 3 core), n, the length of the answer table, for a core the radio and
-the level; then what is owed: refusal number, value, for a tree the count of the nodes' words and
+its kind (1 tree, 2 backbone, 3 core), n, the length of the answer table, for a tree the places for
+nodes, for a core the radio and the level; then what is owed: refusal number, value, for a tree the count of the nodes' words and
 the words; the count of entries written and the entries.
 """
 
@@ -99,11 +99,11 @@ class File:
         self.made += 1
         self.compared += compared
 
-    def tree(self, n, w, sound=True):
-        number = self.refused(n, w, sound)
+    def tree(self, n, w, sound=True, room=PLACES):
+        number = self.refused(n, w if room > n else -1, sound)
         nodes, names = ([], []) if number else self.site.tree()
         flat = [x for node in nodes for x in node]
-        self.note(sound, [1, n, w, number, len(nodes), len(flat)] + flat + [len(names)] + names, 2 + 3 * PLACES + w)
+        self.note(sound, [1, n, w, room, number, len(nodes), len(flat)] + flat + [len(names)] + names, 2 + 3 * PLACES + w)
 
     def listing(self, head, number, radios, w, sound):
         self.note(sound, head + [number, len(radios), len(radios)] + radios, 2 + w)
@@ -130,6 +130,8 @@ class File:
                 self.core(n, PLACES, v, k)
         self.core(n, PLACES, n, 0)
         self.core(n, n, 0, 65535)
+        for room in (n + 1, n, 0):
+            self.tree(n, PLACES, room=room)
         for m, w in ((0, PLACES), (513, PLACES), (n % 512 + 1, PLACES), (n, n - 1)):
             self.tree(m, w)
             self.backbone(m, w)

@@ -1,5 +1,6 @@
 // The shell tree in a list of nodes of its own, whose fields are handed on as words. A function with a reference to structs is
 // proved by hand, and this file has the only one here.
+ghost use Prim.Native.Nat.{_≤_};
 use calls::Value;
 use mesh::Node;
 
@@ -21,22 +22,39 @@ fn spread(nodes: [Node; PLACES], fields: &mut [u16]) {
     }
 }
 
-// Asks for the shell tree, and writes the fields of every place of the list after it.
-pub fn ask<'a, 't, 'f>(
+// Asks for the shell tree, lending `room` places, and writes the fields of every place of the list after it.
+fn ask<'a, 't, 'f>(
     n: u32,
     links: &'a [u8],
     numbers: &'a [u8],
     order: &'a [u16],
+    room: usize,
     answer: &'t mut [u16],
     fields: &'f mut [u16],
-) -> Value {
+) -> Value
+    requires { ⌜ room ≤ 515 ⌝ }
+{
     let blank = Node {
         name: crate::compare::KEPT,
         level: crate::compare::KEPT,
         parent: crate::compare::KEPT,
     };
     let mut nodes = [blank; PLACES];
-    let reply = tree::lent::shell_tree(n, links, numbers, order, &mut nodes, answer);
+    let reply = tree::lent::shell_tree(n, links, numbers, order, &mut nodes[..room], answer);
     spread(nodes, fields);
     reply
+}
+
+// The same, for any `room`: at most all places are lent.
+pub fn ask_within<'a>(
+    n: u32,
+    links: &'a [u8],
+    numbers: &'a [u8],
+    order: &'a [u16],
+    room: usize,
+    answer: &mut [u16],
+    fields: &mut [u16],
+) -> Value {
+    let k = tables::fill::least(room, PLACES);
+    ask(n, links, numbers, order, k, answer, fields)
 }

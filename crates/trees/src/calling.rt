@@ -9,7 +9,7 @@ use mesh::Site;
 // The bytes of a site's largest links table.
 const LINKS_BYTES: usize = Site::ROW_BYTES * Site::RADIOS as usize;
 
-// A shell tree for n radios, with the answer table given.
+// A shell tree, with as many places for nodes as the file says.
 fn tree<'a>(
     fd: i32,
     n: u32,
@@ -20,7 +20,8 @@ fn tree<'a>(
     t: Tally,
 ) -> Tally {
     let mut fields = [0u16; FIELDS];
-    let r = crate::asking::ask(n, links, numbers, order, answer, &mut fields);
+    let room = crate::reading::word(fd) as usize;
+    let r = crate::asking::ask_within(n, links, numbers, order, room, answer, &mut fields);
     let after = crate::compare::reply(fd, r, t);
     let nodes = crate::compare::entries(fd, &fields, after);
     crate::compare::entries(fd, answer, nodes)
