@@ -122,7 +122,7 @@ class File:
 
     def all_calls(self, radios):
         n, numbers = self.site.n, self.site.numbers
-        for w in {n, PLACES}:
+        for w in (n, PLACES):
             self.tree(n, w)
             self.backbone(n, w)
         for v in radios:
