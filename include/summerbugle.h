@@ -64,6 +64,13 @@ typedef struct {
     uint32_t count;
 } sb_reply;
 
+/* A node of the shell tree: its name, its level and its parent's name. The root is SB_ROOT, 0, SB_ROOT. */
+typedef struct {
+    uint16_t name;
+    uint16_t level;
+    uint16_t parent;
+} sb_node;
+
 /*
  * A step of the block reader: refusal number; end, 1 after the last block; where the block's payload lies in the image, and its
  * length (both 0 at the end and on a refusal); and the number of the next block (kept at the end and on a refusal).
@@ -168,6 +175,22 @@ sb_value sb_core(uint32_t n, uint32_t v, uint32_t k, const uint8_t *links, size_
 sb_value sb_backbone(uint32_t n, const uint8_t *links, size_t links_len,
                      const uint8_t *numbers, size_t numbers_len, const uint16_t *order, size_t order_len,
                      uint16_t *answer, size_t answer_len);
+
+/**
+ * The shell tree: a node for each different connected core, at the largest level where it occurs, named by the lowest of its
+ * radios with that number; its parent is the smallest node around it, else the root. nodes must have n + 1 places.
+ *
+ * \return number 0 and the count of nodes, the root with them: nodes[0] to nodes[value - 1], by level and then name, the root
+ *         first; later places keep theirs. answer[0] to answer[n - 1] are the node names by radio, SB_ROOT where a radio's number
+ *         is 0; later entries keep theirs. Or number SB_SIZE, SB_LENGTH, SB_UNSOUND and value 0, and then nodes and answer keep
+ *         their content.
+ */
+sb_value sb_tree(uint32_t n,
+                 const uint8_t *links, size_t links_len,
+                 const uint8_t *numbers, size_t numbers_len,
+                 const uint16_t *order, size_t order_len,
+                 sb_node *nodes, size_t nodes_len,
+                 uint16_t *answer, size_t answer_len);
 
 /**
  * Write the site's image in front of the buffer. The tables are only read.

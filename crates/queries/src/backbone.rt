@@ -18,7 +18,7 @@ fn larger(a: u8, b: u8) -> u8
 }
 
 // The greatest number of the table; 0 where it is empty.
-fn greatest(numbers: &[u8]) -> u8
+pub fn greatest(numbers: &[u8]) -> u8
     ensures { λ r. ⌜ r ≡ greatest (now (numbers .entry)) ⌝ }
 {
     let mut top: u8 = 0;

@@ -6,7 +6,7 @@ use prog.Wp.{Heap}
 use contract.Notation
 use denote.Ref.{now}
 use Rattle.mesh.specs.Tables.{tables}
-use Rattle.calls.specs.Answers.{Check-contract, Number-contract, Neighbours-contract, Linked-contract, First-contract, Core-contract, Backbone-contract, Write-contract, Block-contract}
+use Rattle.calls.specs.Answers.{Check-contract, Number-contract, Neighbours-contract, Linked-contract, First-contract, Core-contract, Backbone-contract, Tree-contract, Write-contract, Block-contract}
 use Rattle.summerbugle.proofs.sb_check as check
 use Rattle.summerbugle.proofs.sb_check.Met as check-proof
 use Rattle.summerbugle.proofs.sb_check.Statement as check-statement
@@ -28,6 +28,9 @@ use Rattle.summerbugle.proofs.sb_core.Statement as core-statement
 use Rattle.summerbugle.proofs.sb_backbone as backbone
 use Rattle.summerbugle.proofs.sb_backbone.Met as backbone-proof
 use Rattle.summerbugle.proofs.sb_backbone.Statement as backbone-statement
+use Rattle.summerbugle.proofs.sb_tree as tree
+use Rattle.summerbugle.proofs.sb_tree.Met as tree-proof
+use Rattle.summerbugle.proofs.sb_tree.Statement as tree-statement
 use Rattle.summerbugle.proofs.sb_image_write as image-write
 use Rattle.summerbugle.proofs.sb_image_write.Met as image-write-proof
 use Rattle.summerbugle.proofs.sb_image_write.Statement as image-write-statement
@@ -104,6 +107,15 @@ module _ {M : Type 1} (𝓤 : URA M) (H : Heap 𝓤) where
   pub backbone-asks : (A : _) (mem : _) (run : _) (κs : _) (args : _) (g : _) → backbone.clauses 𝓤 H A mem run κs args .requires g ≡ ⊤ₛ
   backbone-asks A mem run κs args g = refl
 
+  pub tree-says :
+      (κs : _) (A : _) (mem : _) (run : _) (n links numbers order nodes answer : _) (n′ l k o m w : _) (r : _) →
+      tree.ensures-1 𝓤 H κs A mem run n links numbers order nodes answer n′ l k o m w r
+      ≡ ⌜ Tree-contract n (tables (now (l .entry)) (now (k .entry)) (now (o .entry))) (now (m .entry)) (now (w .entry)) r (now (m .exit)) (now (w .exit)) ⌝
+  tree-says κs A mem run n links numbers order nodes answer n′ l k o m w r = refl
+
+  pub tree-asks : (A : _) (mem : _) (run : _) (κs : _) (args : _) (g : _) → tree.clauses 𝓤 H A mem run κs args .requires g ≡ ⊤ₛ
+  tree-asks A mem run κs args g = refl
+
   pub image-write-says :
       (κs : _) (A : _) (mem : _) (run : _) (n links numbers order buffer : _) (n′ l k o w : _) (r : _) →
       image-write.ensures-1 𝓤 H κs A mem run n links numbers order buffer n′ l k o w r
@@ -142,6 +154,9 @@ core-met = core-proof.met
 
 pub backbone-met : {M : Type 1} → backbone-statement.statement M
 backbone-met = backbone-proof.met
+
+pub tree-met : {M : Type 1} → tree-statement.statement M
+tree-met = tree-proof.met
 
 pub image-write-met : {M : Type 1} → image-write-statement.statement M
 image-write-met = image-write-proof.met

@@ -3,10 +3,11 @@
 ghost use mathlib.Core.Bool.{true, false};
 ghost use Rattle.mesh.specs.Tables.{tables};
 ghost use Rattle.calls.specs.Writes.{Clear-contract, Link-contract, Read-contract};
-ghost use Rattle.calls.specs.Answers.{Check-contract, Number-contract, Neighbours-contract, Linked-contract, First-contract, Core-contract, Backbone-contract, Write-contract, Block-contract};
+ghost use Rattle.calls.specs.Answers.{Check-contract, Number-contract, Neighbours-contract, Linked-contract, First-contract, Core-contract, Backbone-contract, Tree-contract, Write-contract, Block-contract};
 use calls::Block;
 use calls::Reply;
 use calls::Value;
+use mesh::Node;
 
 // Clears a site: zero links, zero numbers, the order 0 to n - 1. Refused by 1 and 2: then every table keeps its content.
 #[no_mangle]
@@ -150,6 +151,23 @@ pub extern "C" fn sb_backbone<'a>(
     ensures { λ r. ⌜ Backbone-contract n (tables (now (links .entry)) (now (numbers .entry)) (now (order .entry))) (now (answer .entry)) r (now (answer .exit)) ⌝ }
 {
     queries::backbone::backbone(n, links, numbers, order, answer)
+}
+
+// The shell tree: the count of nodes, the root with them. The nodes stand by level and then name in front of the list of nodes,
+// which must have n + 1 places, and each radio's node name in front of the answer table. Refused by 1 to 3: then both keep their
+// content.
+#[no_mangle]
+pub extern "C" fn sb_tree<'a, 's, 't>(
+    n: u32,
+    links: &'a [u8],
+    numbers: &'a [u8],
+    order: &'a [u16],
+    nodes: &'s mut [Node],
+    answer: &'t mut [u16],
+) -> Value
+    ensures { λ r. ⌜ Tree-contract n (tables (now (links .entry)) (now (numbers .entry)) (now (order .entry))) (now (nodes .entry)) (now (answer .entry)) r (now (nodes .exit)) (now (answer .exit)) ⌝ }
+{
+    tree::lent::shell_tree(n, links, numbers, order, nodes, answer)
 }
 
 // Writes the site's image in front of the buffer: the value is its length in bytes, and bytes past it keep their content. Refused

@@ -54,12 +54,12 @@ map-range-same f h i (suc k) e =
     ap₂ {C = List ℕ} (λ x xs. x ∷ xs) (e i (omega arith) (omega arith)) (map-range-same f h (suc i) k (λ w m l. e w (omega arith) (omega arith)))
 
 -- one entry more in front
-pub set-overwrite : (xs d : List ℕ) (c x : ℕ) → c ≡ length xs → c < length d → set (overwrite xs d) c x ≡ overwrite (xs ++ x ∷ []) d
+pub set-overwrite : {A : Type 0} (xs d : List A) (c : ℕ) (x : A) → c ≡ length xs → c < length d → set (overwrite xs d) c x ≡ overwrite (xs ++ x ∷ []) d
 unfolding overwrite
-set-overwrite xs d c x e l =
+set-overwrite {A = A} xs d c x e l =
     let long : length (xs ++ x ∷ []) ≡ suc c = length-append xs (x ∷ []) ∙ omega arith in
-    ap (λ (ys : List ℕ). set (xs ++ ys) c x) (ap (λ (j : ℕ). drop j d) (sym e) ∙ drop-cons d c 0 l)
-    ∙ set-at xs (getD d c 0) (drop (suc c) d) x c (sym e)
+    ap (λ (ys : List A). set (xs ++ ys) c x) (ap (λ (j : ℕ). drop j d) (sym e) ∙ drop-cons d c x l)
+    ∙ set-at xs (getD d c x) (drop (suc c) d) x c (sym e)
     ∙ sym (append-assoc xs (x ∷ []) (drop (suc c) d)) ∙ ap (λ (j : ℕ). (xs ++ x ∷ []) ++ drop j d) (sym long)
 
 set-map-range : (f : ℕ → ℕ) (i k w x : ℕ) → w < k → set (map f (range i k)) w x ≡ map (λ u. cond (eqb (i + w) u) x (f u)) (range i k)

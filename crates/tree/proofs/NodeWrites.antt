@@ -1,13 +1,12 @@
--- Loops over one table: entries set at listed places, the first entries filled, the greatest entry.
+-- Loops over one table: entries set at listed places, the first entries filled.
 use mathlib.Core.Path.{_≡_, refl, sym, ap, _∙_}
-use mathlib.Core.List.{List, [], _∷_}
-use Prim.Native.Nat.{ℕ, _+_, _^_, _≤_, _<_, min, max}
+use mathlib.Core.List.{List, _∷_}
+use Prim.Native.Nat.{ℕ, _+_, _^_, _≤_, _<_, min}
 use native.Mathlib.Omega.{arith}
 use native.Mathlib.Numerals.{add-one}
 use lib.ListN.{length, getD, take, drop, set, replicate, length-set, drop-of-length-le}
 use lib.Seq.{drop-cons, length-take-le, getD-take}
 use Rattle.mesh.specs.Lists.{overwrite}
-use Rattle.mesh.specs.Connected.{greatest}
 use Rattle.tables.specs.Widths.{written}
 use Rattle.tables.proofs.WidthLaws.{Writing, values-constant, take-min}
 use Rattle.queries.specs.Floods.{Flooded}
@@ -57,23 +56,3 @@ unfolding written
 filling-end x k m i start table small e l h w =
     let last : i ≡ min k (length start) = omega arith in
     w .is ∙ ap (λ (ys : List ℕ). overwrite ys start) (values-constant 16 x i small ∙ ap (λ (j : ℕ). replicate j x) last)
-
--- ---- the greatest entry
-
-pub record Greatest (ns : List ℕ) (i top : ℕ) : Type 0 where
-  pub within : i ≤ length ns
-  pub rest : max top (greatest (drop i ns)) ≡ greatest ns
-
-pub greatest-none : (ns : List ℕ) → Greatest ns 0 0
-greatest-none ns = record { within = omega arith; rest = omega arith }
-
-pub greatest-turn : (ns : List ℕ) (i top next : ℕ) → i < length ns → next ≡ max top (getD ns i 0) → Greatest ns i top → Greatest ns (i + 1) next
-unfolding greatest
-greatest-turn ns i top next l e h =
-    let first : greatest (drop i ns) ≡ max (getD ns i 0) (greatest (drop (i + 1) ns)) =
-    ap greatest (drop-cons ns i 0 l) ∙ ap (λ (j : ℕ). max (getD ns i 0) (greatest (drop j ns))) (sym (add-one i)) in
-    record { within = omega arith; rest = omega (arith, h .rest, first) }
-
-pub greatest-end : (ns : List ℕ) (i top : ℕ) → length ns ≤ i → Greatest ns i top → top ≡ greatest ns
-unfolding greatest
-greatest-end ns i top l h = let e : greatest (drop i ns) ≡ 0 = ap greatest (drop-of-length-le ns {i = i} l) in omega (arith, h .rest)

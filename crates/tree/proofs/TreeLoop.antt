@@ -1,24 +1,24 @@
 -- All levels as a loop: the root first, then level by level to the greatest number, and what the lists hold at the end.
 use mathlib.Core.Path.{_≡_, refl, sym, ap, ap₂, _∙_}
-use mathlib.Core.Bool.{Bool, true, false}
+use mathlib.Core.Bool.{true}
 use mathlib.Core.List.{List, [], _∷_, map}
-use Prim.Native.Nat.{ℕ, zero, suc, _+_, _*_, _≤_, _<_, min, max}
+use Prim.Native.Nat.{ℕ, zero, suc, _+_, _*_, _≤_, _<_, min}
 use native.Mathlib.Omega.{arith}
 use native.Mathlib.Numerals.{add-one}
-use lib.ListN.{length, getD, drop, set, replicate, length-append, length-drop, length-replicate}
+use lib.ListN.{length, getD, set, replicate}
 use Rattle.mesh.specs.Limits.{max-radios}
-use Rattle.mesh.specs.Lists.{range, overwrite}
+use Rattle.mesh.specs.Lists.{overwrite}
 use Rattle.mesh.specs.Graph.{Graph, radios}
 use Rattle.mesh.specs.Cores.{number}
 use Rattle.mesh.specs.Tables.{tables, graph-in}
 use Rattle.mesh.specs.Connected.{greatest}
-use Rattle.mesh.specs.Tree.{root-name, root, node-name, parent-name, tree, node-names}
+use Rattle.mesh.specs.Tree.{root-name, root, node-name, parent-name, node-names}
 use Rattle.mesh.proofs.TreeLaws.{number-le-n}
 use Rattle.mesh.proofs.ShellNames.{node-name-parent}
 use Rattle.soundness.specs.Checks.{fits-sound}
 use Rattle.tables.proofs.WidthLaws.{map-range-constant}
-use Rattle.queries.proofs.SoundSite.{Sound-site, number-entry}
-use Rattle.tree.specs.Trees.{Lists, lists, with-front, Room, name-before, present, nodes-before, Growing, Levelled, Tree-written, Grown}
+use Rattle.queries.proofs.SoundSite.{number-entry}
+use Rattle.tree.specs.Trees.{Lists, with-front, Room, name-before, present, Growing, Levelled, Tree-written, Grown}
 use Rattle.tree.proofs.ShellCover.{present-start}
 use Rattle.tree.proofs.NodeLists.{map-range-same, set-overwrite, nodes-before-start, nodes-before-tree}
 use Rattle.tree.proofs.GrowLaws.{lists-same}
@@ -130,11 +130,3 @@ treeing-end ts ns old before top k after c e q names levels parents answer a ord
     growing-last g top c old after
     (omega (arith, greatest-le ns (length ns) (λ v l. omega (arith, number-entry (length ns) (tables ts ns order) site v l, number-le-n g v))))
     (λ w l. omega (arith, number-entry (length ns) (tables ts ns order) site w l, getD-le-greatest ns w l)) last
-
--- the answer table keeps its length
-pub length-filled : (m x : ℕ) (d : List ℕ) → length (overwrite (replicate (min m (length d)) x) d) ≡ length d
-unfolding overwrite
-length-filled m x d =
-    let new = replicate (min m (length d)) x in
-    let long : length new ≡ min m (length d) = length-replicate (min m (length d)) x in
-    length-append new (drop (length new) d) ∙ omega (arith, long, length-drop (length new) d)

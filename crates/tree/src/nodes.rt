@@ -1,9 +1,8 @@
-// Single writes of the shell tree: a node in three tables, a name for each radio of a core, the greatest number.
+// Single writes of the shell tree: a node in three tables, a name for each radio of a core, one name for the first entries.
 ghost use mathlib.Core.Path.{_≡_};
-ghost use Prim.Native.Nat.{_≤_, min, max};
+ghost use Prim.Native.Nat.{_≤_, min};
 ghost use lib.ListN.{length, take, set, replicate};
 ghost use Rattle.mesh.specs.Lists.{overwrite};
-ghost use Rattle.mesh.specs.Connected.{greatest};
 ghost use Rattle.tree.specs.Trees.{entries-set, Core-named};
 
 // Writes a node at a place of three tables; past a table nothing changes.
@@ -65,24 +64,4 @@ pub fn fill_front(table: &mut [u16], k: usize, x: u16)
         table[i] = x;
         i += 1;
     }
-}
-
-// The larger of two numbers.
-fn larger(a: u8, b: u8) -> u8
-    ensures { λ r. ⌜ r ≡ max a b ⌝ }
-{
-    if a < b { b } else { a }
-}
-
-// The greatest number of the table; 0 where it is empty.
-pub fn greatest(numbers: &[u8]) -> u8
-    ensures { λ r. ⌜ r ≡ greatest (now (numbers .entry)) ⌝ }
-{
-    let mut top: u8 = 0;
-    let mut v: usize = 0;
-    while v < numbers.len() {
-        top = larger(top, numbers[v]);
-        v += 1;
-    }
-    top
 }

@@ -6,14 +6,14 @@ use mathlib.Core.Path.{_≡_, refl, sym, ap, _∙_}
 use lib.ListN.{length, length-set}
 use borrow.Author.Needs.{needs}
 use Rattle.tree.specs.Trees.{lists}
-use Rattle.tree.proofs.TreeLoop.{Treeing, treeing-none, treeing-turn, treeing-end, length-filled}
+use Rattle.tree.proofs.TreeLoop.{Treeing, treeing-none, treeing-turn, treeing-end}
 use Rattle.tree.proofs.levels.grow.Statement.{statement}
 use Rattle.tree.proofs.levels.grow.Tie as tie
 use Rattle.tree.proofs.levels.grow.Reads as reads
 use Rattle.tree.proofs.levels.grow.Lts as lts
 use Rattle.tree.proofs.levels.take_level.Reads as take-level-reads
 use Rattle.tree.proofs.nodes.fill_front.Reads as fill-front-reads
-use Rattle.tree.proofs.nodes.greatest.Reads as greatest-reads
+use Rattle.queries.proofs.backbone.greatest.Reads as greatest-reads
 use Rattle.tree.proofs.nodes.put_node.Reads as put-node-reads
 
 abbrev Inv-loop : tie.InvT-loop
@@ -62,7 +62,7 @@ take-level-requires : tie.Need-take-level-requires Inv-loop μ-loop
 take-level-requires c κs =
     let at-loop = c .before .before .before .before .before .before .before in
     let start = c .before .before .before .before .before .before .before .before .before .before .before .before .before .before .before .before .before .before .before .before .before .before .before .before .before .before .before .before .before in
-    let long = ap length (c .before .before .before .before .before .before .before .before .before .before .before .before .before .before .before .before .before .before .before .before .before .fill-front .ensures) ∙ length-filled (length (start .args .numbers .now)) 65535 (start .args .answer .now) in (
+    let long = c .before .before .before .before .before .before .before .before .before .before .before .before .before .before .before .before .before .before .before .before .answer .given in (
       start .pre .0,
       omega (arith, start .pre .1, at-loop .loop .inv .4 .lengths .answer, long),
       at-loop .loop .inv .4 .low,
@@ -106,7 +106,7 @@ same-length-3 c = c .before .loop .inv .4 .lengths .parents ∙ ap length (c .be
 
 -- src/levels.rt:74:1
 same-length-4 : tie.Need-same-length-4 Inv-loop μ-loop
-same-length-4 c = c .before .loop .inv .4 .lengths .answer ∙ ap length (c .before .before .before .before .before .before .before .before .before .before .before .before .before .before .before .fill-front .ensures) ∙ length-filled (length (c .before .before .before .before .before .before .before .before .before .before .before .before .before .before .before .before .before .before .before .before .before .before .before .args .numbers .now)) 65535 (c .before .before .before .before .before .before .before .before .before .before .before .before .before .before .before .before .before .before .before .before .before .before .before .args .answer .now)
+same-length-4 c = c .before .loop .inv .4 .lengths .answer ∙ c .before .before .before .before .before .before .before .before .before .before .before .before .before .before .answer .given
 
 -- src/levels.rt:74:1
 returns : tie.Need-returns Inv-loop μ-loop

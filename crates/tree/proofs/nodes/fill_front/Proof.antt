@@ -18,39 +18,39 @@ Inv-loop table₀ k x m i₀ table i = Writing 16 (λ (j : ℕ). x) table₀ tab
 abbrev μ-loop : tie.MeasureT-loop
 μ-loop table₀ k x m i₀ table i = m - i
 
--- src/nodes.rt:62:9
+-- src/nodes.rt:61:9
 least-requires : tie.Need-least-requires Inv-loop μ-loop
 least-requires c κs = search needs
 
--- src/nodes.rt:64:5
+-- src/nodes.rt:63:5
 loop-holds : tie.Need-loop-holds Inv-loop μ-loop
 loop-holds c = (writing-none 16 _ _, omega arith)
 
--- src/nodes.rt:65:9
+-- src/nodes.rt:64:9
 mul-table : tie.Need-mul-table Inv-loop μ-loop
 mul-table c = search needs
 
--- src/nodes.rt:65:9
+-- src/nodes.rt:64:9
 slice-write-table : tie.Need-slice-write-table Inv-loop μ-loop
 slice-write-table c = search needs
 
--- src/nodes.rt:66:9
+-- src/nodes.rt:65:9
 add-i : tie.Need-add-i Inv-loop μ-loop
 add-i c = search needs
 
--- src/nodes.rt:64:5
+-- src/nodes.rt:63:5
 loop-less : tie.Need-loop-less Inv-loop μ-loop
 loop-less c = search needs
 
--- src/nodes.rt:64:5
+-- src/nodes.rt:63:5
 loop-again : tie.Need-loop-again Inv-loop μ-loop
 loop-again c = (writing-turn 16 _ _ _ _ _ (c .before .loop .inv .0) (omega (arith, c .before .before .least .ensures)) (sym (mod-eq-of-lt (c .before .before .before .before .fits .x .fits))), search needs)
 
--- src/nodes.rt:59:1
+-- src/nodes.rt:58:1
 same-length : tie.Need-same-length Inv-loop μ-loop
 same-length c = c .before .loop .inv .0 .long
 
--- src/nodes.rt:59:1
+-- src/nodes.rt:58:1
 returns : tie.Need-returns Inv-loop μ-loop
 returns c =
     let call = c .before .before .before .before in

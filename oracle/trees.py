@@ -1,0 +1,288 @@
+"""Shell trees, connected cores and backbones of sites, worked out from document 01 alone.
+
+  python3 oracle/trees.py           write crates/trees/data and crates/trees/stdout
+  python3 oracle/trees.py --check   say whether the stored files are what would be written
+
+A connected core is a part of the radios with number k or more. The tree is made by comparing
+sets: one node for each different connected core, at the largest k. Small sites are compared with
+`reference`, which looks at all sets of radios.
+
+A file is words of 16 bits, lower byte first: n; the count of links and the links; the count of
+calls and the calls on the site; the same for calls after all numbers are set to 255. A call is
+its kind (1 tree, 2 backbone, 3 core), n, the length of the answer table, for a tree the places for
+nodes, for a core the radio and the level; then what is owed: refusal number, value, for a tree the count of the nodes' words and
+the words; the count of entries written and the entries.
+"""
+
+import random
+import sys
+from pathlib import Path
+
+import reference
+
+ROOT, PLACES = 65535, 515
+CRATE = Path(__file__).resolve().parent.parent / "crates/trees"
+
+
+# ---- a site
+
+class Site:
+    def __init__(self, n, links):
+        self.n, self.links = n, sorted({(min(a, b), max(a, b)) for a, b in links})
+        self.near = [set() for _ in range(n)]
+        for a, b in self.links:
+            assert a != b
+            self.near[a].add(b)
+            self.near[b].add(a)
+        assert all(len(near) <= 32 for near in self.near)
+        self.numbers = self.core_numbers()
+
+    def core_numbers(self):
+        """Radios with fewer than k neighbours left are thrown out, k rising."""
+        numbers, left, k = [0] * self.n, set(range(self.n)), 0
+        while left:
+            poor = {v for v in left if len(self.near[v] & left) < k}
+            left -= poor
+            if not poor:
+                for v in left:
+                    numbers[v] = k
+                k += 1
+        return numbers
+
+    def core(self, v, k):
+        """All radios reachable from v over radios with number k or more."""
+        found, look = {v}, [v]
+        while look:
+            fresh = {u for u in self.near[look.pop()] if self.numbers[u] >= k} - found
+            found |= fresh
+            look += fresh
+        return frozenset(found)
+
+    def backbone(self):
+        top = max(self.numbers)
+        return [v for v in range(self.n) if self.numbers[v] == top and top > 0]
+
+    def tree(self):
+        """Node records (name, level, parent), the root first, and each radio's node name."""
+        highest = {}
+        for k in range(1, max(self.numbers) + 1):
+            rest = {v for v in range(self.n) if self.numbers[v] >= k}
+            while rest:
+                core = self.core(min(rest), k)
+                highest[core] = k
+                rest -= core
+        name = {s: min(v for v in s if self.numbers[v] == k) for s, k in highest.items()}
+        nodes = []
+        for s, k in highest.items():
+            around = [t for t in highest if s < t]
+            nodes.append((k, name[s], name[min(around, key=len)] if around else ROOT))
+        names = [name[self.core(v, k)] if k else ROOT for v, k in enumerate(self.numbers)]
+        return [(ROOT, 0, ROOT)] + [(v, k, p) for k, v, p in sorted(nodes)], names
+
+
+# ---- the calls of a file, and what is owed
+
+class File:
+    def __init__(self, site):
+        self.site, self.calls, self.later = site, [], []
+        self.made = self.compared = 0
+
+    def refused(self, n, w, sound):
+        if not 1 <= n <= 512:
+            return 1
+        if n != self.site.n or w < n:
+            return 2
+        return 0 if sound else 3
+
+    def note(self, sound, words, compared):
+        (self.calls if sound else self.later).append(words)
+        self.made += 1
+        self.compared += compared
+
+    def tree(self, n, w, sound=True, room=PLACES):
+        number = self.refused(n, w if room > n else -1, sound)
+        nodes, names = ([], []) if number else self.site.tree()
+        flat = [x for node in nodes for x in node]
+        self.note(sound, [1, n, w, room, number, len(nodes), len(flat)] + flat + [len(names)] + names, 2 + 3 * PLACES + w)
+
+    def listing(self, head, number, radios, w, sound):
+        self.note(sound, head + [number, len(radios), len(radios)] + radios, 2 + w)
+
+    def backbone(self, n, w, sound=True):
+        number = self.refused(n, w, sound)
+        self.listing([2, n, w], number, [] if number else self.site.backbone(), w, sound)
+
+    def core(self, n, w, v, k, sound=True):
+        number = self.refused(n, w, sound)
+        if not number and v >= n:
+            number = 4
+        if not number and k > self.site.numbers[v]:
+            number = 8
+        self.listing([3, n, w, v, k], number, [] if number else sorted(self.site.core(v, k)), w, sound)
+
+    def all_calls(self, radios):
+        n, numbers = self.site.n, self.site.numbers
+        for w in (n, PLACES):
+            self.tree(n, w)
+            self.backbone(n, w)
+        for v in radios:
+            for k in sorted({0, 1, numbers[v] // 2, numbers[v], numbers[v] + 1}):
+                self.core(n, PLACES, v, k)
+        self.core(n, PLACES, n, 0)
+        self.core(n, n, 0, 65535)
+        for room in (n + 1, n, 0):
+            self.tree(n, PLACES, room=room)
+        for m, w in ((0, PLACES), (513, PLACES), (n % 512 + 1, PLACES), (n, n - 1)):
+            self.tree(m, w)
+            self.backbone(m, w)
+            self.core(m, w, 0, 0)
+        for call in (self.tree, self.backbone):
+            call(n, PLACES, sound=False)
+        self.core(n, PLACES, 0, 0, sound=False)
+        return self
+
+    def bytes(self):
+        site = self.site
+        words = [site.n, len(site.links)] + [v for link in site.links for v in link]
+        for calls in (self.calls, self.later):
+            words += [len(calls)] + [x for call in calls for x in call]
+        return b"".join(x.to_bytes(2, "little") for x in words)
+
+
+# ---- sites
+
+def clique(radios):
+    return [(a, b) for i, a in enumerate(radios) for b in radios[:i]]
+
+
+def nested(levels):
+    """Cores of all levels down from `levels`, each in the next: a clique, and then always one
+    radio more with one link less, to the radios with the fewest neighbours."""
+    links, degree = clique(list(range(levels + 1))), [levels] * (levels + 1)
+    for k in range(levels - 1, 0, -1):
+        v = len(degree)
+        ends = sorted(range(v), key=lambda u: (degree[u], u))[:k]
+        links += [(u, v) for u in ends]
+        for u in ends:
+            degree[u] += 1
+        degree.append(k)
+    return len(degree), links
+
+
+def chain(levels):
+    """Cliques of 2, 3, .. radios one after another, each hung on the one before by one link: the
+    connected core at a level is all cliques from its size on."""
+    links, at = [], 0
+    for size in range(2, levels + 2):
+        links += clique(list(range(at, at + size)))
+        if at:
+            links.append((at - 1, at))
+        at += size
+    return at, links
+
+
+def moved(n, links, seed):
+    """The same with other radio numbers."""
+    names = list(range(n))
+    random.Random(seed).shuffle(names)
+    return [(names[a], names[b]) for a, b in links]
+
+
+def branches():
+    """A ring with cliques of three sizes on it, one of them hung on another, and a tail; some
+    radios alone."""
+    ring = list(range(10, 22))
+    links = list(zip(ring, ring[1:] + ring[:1]))
+    links += clique([0, 1, 2, 3, 10]) + clique([4, 5, 6, 7, 13]) + clique([16, 30, 31, 32, 33, 34, 35])
+    links += clique([40, 41, 42, 43]) + [(40, 30), (41, 31)] + [(21, 50), (50, 51), (51, 52)]
+    return 60, links
+
+
+def parts():
+    """Parts that share no link, in turn of the same kind: a clique with a tail, a ring, a pair."""
+    links, at = [], 0
+    for size in range(3, 13):
+        links += clique(list(range(at, at + size))) + [(at, at + size), (at + size, at + size + 1)]
+        ring = list(range(at + size + 2, at + 2 * size + 2))
+        links += list(zip(ring, ring[1:] + ring[:1])) + [(at + 2 * size + 2, at + 2 * size + 3)]
+        at += 2 * size + 5
+    return 210, moved(210, links, 6)
+
+
+def random_links(n, count, seed):
+    draw, links = random.Random(seed), set()
+    degree = [0] * n
+    while len(links) < count:
+        a, b = sorted(draw.sample(range(n), 2))
+        if (a, b) not in links and max(degree[a], degree[b]) < 32:
+            links.add((a, b))
+            degree[a] += 1
+            degree[b] += 1
+    return sorted(links)
+
+
+triangles = clique([0, 1, 2]) + clique([3, 4, 5])
+SITES = {
+    "m3": (6, triangles),
+    "m4": (6, triangles + [(2, 3)]),
+    "m5": (7, triangles + [(2, 3), (0, 6)]),
+    "m7": (5, clique([0, 1, 2]) + [(3, 4)]),
+    "one-radio": (1, []),
+    "cleared-512": (512, []),
+    "clique-33": (33, clique(list(range(33)))),
+    "pairs-512": (512, [(v, 511 - v) for v in range(256)]),
+    "nested-12": nested(12),
+    "nested-12-moved": (30, moved(30, nested(12)[1], 12)),
+    "chain-6": chain(6),
+    "chain-28": chain(28),
+    "chain-28-moved": (512, moved(512, chain(28)[1], 28)),
+    "branches": branches(),
+    "parts": parts(),
+    "sparse-512": (512, random_links(512, 700, 512)),
+}
+
+
+# ---- what is known beforehand
+
+def compared_with_reference(site):
+    other = reference.Site(site.n)
+    other.links, other.numbers = set(site.links), reference.core_numbers(site.n, set(site.links))
+    assert site.numbers == other.numbers and site.tree() == other.tree() and site.backbone() == other.backbone()
+    for v in range(site.n):
+        for k in range(site.numbers[v] + 1):
+            assert sorted(site.core(v, k)) == other.core(v, k)[1]
+
+
+def files():
+    written, lines = {}, []
+    for name, (n, links) in SITES.items():
+        site = Site(n, links)
+        if n <= 60:
+            compared_with_reference(site)
+        tops = sorted(range(n), key=lambda v: (site.numbers[v], v))
+        file = File(site).all_calls(sorted({0, n - 1, tops[n // 3], tops[n // 2], tops[-1]}))
+        written[name] = file.bytes()
+        lines.append(f"{name} calls {file.made} compared {file.compared} wrong 0\n")
+    for name, levels in (("nested-12-moved", 12), ("chain-6", 6), ("chain-28-moved", 28)):
+        nodes = Site(*SITES[name]).tree()[0]
+        assert [level for _, level, _ in nodes] == list(range(levels + 1))
+        assert all(node[2] == below[0] for below, node in zip(nodes, nodes[1:]))
+    return written, "".join(lines)
+
+
+def main():
+    written, text = files()
+    data, out = CRATE / "data", CRATE / "stdout"
+    if "--check" in sys.argv:
+        stored = {path.name: path.read_bytes() for path in data.iterdir()}
+        same = stored == written and out.read_text() == text
+        print("crates/trees:", "as written by this program" if same else "DIFFERENT")
+        sys.exit(not same)
+    data.mkdir(exist_ok=True)
+    for name, content in written.items():
+        (data / name).write_bytes(content)
+    out.write_text(text)
+
+
+if __name__ == "__main__":
+    main()
