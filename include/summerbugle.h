@@ -2,7 +2,7 @@
  * summerbugle.h: the link engine of the bolt-tension hubs, for C and C++ hosts.
  *
  * The host lends every table; the engine keeps nothing between calls and allocates nothing. A table is a pointer and a count of
- * ELEMENTS: bytes of the links, the numbers and an image, 16-bit entries of the order and the answer.
+ * ELEMENTS: bytes of the links, the numbers and an image, 16-bit entries of the order and the answer, nodes of the node list.
  *
  *   links    64 bytes a radio: radio b is a neighbour of a when bit b % 8 of byte b / 8 of row a is set
  *   numbers  1 byte a radio: its core number
@@ -75,6 +75,13 @@ typedef struct {
     size_t length;
     size_t next;
 } sb_block;
+
+/* A node of the shell tree: its name, its level, and its parent's name. */
+typedef struct {
+    uint16_t name;
+    uint16_t level;
+    uint16_t parent;
+} sb_node;
 
 /**
  * Clear a site: zero links, zero numbers, the order 0 to n - 1.
@@ -170,6 +177,19 @@ sb_value sb_backbone(uint32_t n, const uint8_t *links, size_t links_len,
                      uint16_t *answer, size_t answer_len);
 
 /**
+ * The shell tree: one node for each different connected core from level 1 up, at the largest level where it occurs, and the root,
+ * SB_ROOT at level 0. A node's name is its lowest radio of that number. The list must have n + 1 places. Links, numbers and order
+ * are only read.
+ *
+ * \return number 0 and the count of nodes, root included: nodes[0] to nodes[value - 1] are the nodes, by level, then name; answer[v]
+ *         is the name of radio v's node; later places and entries keep theirs. Or number SB_SIZE, SB_LENGTH, SB_UNSOUND and value
+ *         0, and then node list and answer table keep their content.
+ */
+sb_value sb_tree(uint32_t n, const uint8_t *links, size_t links_len,
+                 const uint8_t *numbers, size_t numbers_len, const uint16_t *order, size_t order_len,
+                 sb_node *nodes, size_t nodes_len, uint16_t *answer, size_t answer_len);
+
+/**
  * Write the site's image in front of the buffer. The tables are only read.
  *
  * \return number 0 and the image's length in bytes, a multiple of SB_BLOCK_BYTES; bytes past it keep their content. Or a number
@@ -178,6 +198,15 @@ sb_value sb_backbone(uint32_t n, const uint8_t *links, size_t links_len,
 sb_value sb_image_write(uint32_t n, const uint8_t *links, size_t links_len,
                         const uint8_t *numbers, size_t numbers_len, const uint16_t *order, size_t order_len,
                         uint8_t *buffer, size_t buffer_len);
+
+/**
+ * Read an image of a site of n radios into the tables; the numbers are worked out. What the tables held does not matter.
+ *
+ * \return 0; or SB_SIZE, SB_LENGTH, SB_IMAGE_SIZE, SB_IMAGE_CHECK, SB_IMAGE, and then every table keeps its content.
+ */
+uint32_t sb_image_read(uint32_t n, uint8_t *links, size_t links_len,
+                       uint8_t *numbers, size_t numbers_len, uint16_t *order, size_t order_len,
+                       const uint8_t *image, size_t image_len);
 
 /**
  * A step of the block reader: start with next = 0, and go on with the next of the step before. Any value of next is safe.
