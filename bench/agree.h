@@ -61,7 +61,6 @@ static int agree_questions(void) {
     return 1;
 }
 
-#ifdef HAVE_TREE
 /* Places for nodes: one too few, just enough, more. */
 static int agree_tree(void) {
     static sb_node p[RADIOS + 3];
@@ -74,7 +73,6 @@ static int agree_tree(void) {
     }
     return 1;
 }
-#endif
 
 /* Buffers: one byte too small, just right, larger. Blocks: each, the end, far past it; of an image with a changed byte too. */
 static int agree_writing(void) {
@@ -95,7 +93,6 @@ static int agree_writing(void) {
     return 1;
 }
 
-#ifdef HAVE_IMAGE_READ
 /* The image of the site, and the same with a changed byte, whose block mostly has its check again, into cleared tables. */
 static int agree_reading(void) {
     static uint8_t p[sizeof buffer];
@@ -112,7 +109,6 @@ static int agree_reading(void) {
     }
     return 1;
 }
-#endif
 
 /* What differs on the site of an entry, or NULL. */
 static const char *disagreement(struct entry *entry) {
@@ -122,12 +118,8 @@ static const char *disagreement(struct entry *entry) {
     if (!agree_links()) return "link calls";
     if (!agree_questions()) return "questions";
     if (!agree_writing()) return "image writing";
-#ifdef HAVE_TREE
     if (!agree_tree()) return "shell tree";
-#endif
-#ifdef HAVE_IMAGE_READ
     if (!agree_reading()) return "image reading";
-#endif
     return NULL;
 }
 #endif

@@ -86,12 +86,8 @@ CALL(core, sb_core(n, A, 1, SITE, answer, n).value, c_core(&e->site, A, 1, answe
 CALL(backbone, sb_backbone(n, SITE, answer, n).value, c_backbone(&e->site, answer, n).value)
 CALL(image_write, sb_image_write(n, SITE, buffer, sizeof buffer).value, c_image_write(&e->site, buffer, sizeof buffer).value)
 CALL(image_block, sb_image_block(e->image, e->image_length, 0).next, c_image_block(e->image, e->image_length, 0).next)
-#ifdef HAVE_TREE
 CALL(tree, sb_tree(n, SITE, (sb_node *)nodes, n + 1, answer, n).value, c_tree(&e->site, nodes, n + 1, answer, n).value)
-#endif
-#ifdef HAVE_IMAGE_READ
 CALL(image_read, sb_image_read(n, OF(e->other), e->image, e->image_length), c_image_read(&e->other, e->image, e->image_length))
-#endif
 
 static const struct call {
     const char *name;
@@ -106,13 +102,9 @@ static const struct call {
     {"down+up", engine_link, in_c_link},
     {"core", engine_core, in_c_core},
     {"backbone", engine_backbone, in_c_backbone},
-#ifdef HAVE_TREE
     {"tree", engine_tree, in_c_tree},
-#endif
     {"image_write", engine_image_write, in_c_image_write},
-#ifdef HAVE_IMAGE_READ
     {"image_read", engine_image_read, in_c_image_read},
-#endif
     {"image_block", engine_image_block, in_c_image_block},
 };
 #define CALLS (sizeof calls / sizeof *calls)

@@ -28,7 +28,7 @@ class Run:
     """The lines of a run: times[call][n, site] is the engine's time and that of C; others by site."""
 
     def __init__(self, path):
-        self.machine, self.absent = "", []
+        self.machine = ""
         self.times, self.stack = defaultdict(dict), {}
         self.change, self.igraph, self.networkx = {}, {}, {}
         for line in Path(path).read_text().splitlines():
@@ -37,9 +37,6 @@ class Run:
 
     def take_machine(self, rest):
         self.machine = rest.replace("x86_64", "x86-64")
-
-    def take_absent(self, rest):
-        self.absent.append(rest)
 
     def take_ratio(self, rest):
         call, n, site, engine, c, _ = rest.split()
@@ -118,7 +115,6 @@ def stacks(run):
 
 def report(run):
     parts = [f"Machine: {run.machine}.\n"]
-    parts += [f"The archive has no `sb_{call}` yet: not measured.\n" for call in run.absent]
     parts += ["### The worst ratio of each call\n",
               table(["call", "ratio", "at", "goal, at most", ""], worst(run)),
               "### Ratios\n",

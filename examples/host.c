@@ -1,4 +1,4 @@
-/* A C host: lends tables, takes links up and down, asks, writes an image and walks it. examples/run builds and runs it. */
+/* A C host: lends tables, takes links up and down, asks, writes an image, walks it and reads it. examples/run builds and runs it. */
 #include "../include/summerbugle.h"
 #include <stdio.h>
 
@@ -6,6 +6,7 @@ enum { N = 7, IMAGE_ROOM = 4096 };
 
 static uint8_t links[SB_ROW_BYTES * N], numbers[N], image[IMAGE_ROOM];
 static uint16_t order[N], answer[N];
+static sb_node nodes[N + 1];
 
 #define TABLES links, sizeof links, numbers, N, order, N
 #define ANSWER answer, N
@@ -55,6 +56,15 @@ static void ask(void) {
     print_radios("backbone", sb_backbone(N, TABLES, ANSWER));
 }
 
+/* The nodes, then each radio's node name. */
+static void print_tree(void) {
+    sb_value tree = sb_tree(N, TABLES, nodes, N + 1, ANSWER);
+    print_value("tree", tree);
+    for (uint32_t i = 0; i < tree.value; i++) printf("node %u, level %u, parent %u\n", nodes[i].name, nodes[i].level, nodes[i].parent);
+    printf("names");
+    print_list(answer, N);
+}
+
 /* The payload lies in the image itself; each step checks the whole image. */
 static void walk(size_t length) {
     sb_block block = sb_image_block(image, length, 0);
@@ -72,11 +82,15 @@ static void keep(void) {
     image[600] ^= 1;
     walk(written.value);
     image[600] ^= 1;
+    down(0, 6);
+    printf("read: number %u\n", sb_image_read(N, TABLES, image, written.value));
+    print_value("linked 0 6", sb_linked(N, 0, 6, TABLES));
 }
 
 int main(void) {
     make_links();
     ask();
+    print_tree();
     keep();
     down(0, 6);
     down(2, 3);

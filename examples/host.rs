@@ -1,4 +1,4 @@
-// A Rust host: lends tables, takes links up and down, asks, writes an image and walks it. examples/run builds and runs it.
+// A Rust host: lends tables, takes links up and down, asks, writes an image, walks it and reads it. examples/run builds and runs it.
 
 #[repr(C)]
 struct Value {
@@ -22,9 +22,17 @@ struct Block {
     next: usize,
 }
 
+#[repr(C)]
+#[derive(Clone, Copy)]
+struct Node {
+    name: u16,
+    level: u16,
+    parent: u16,
+}
+
 // The engine's calls; include/summerbugle.h says what each takes and answers.
 mod engine {
-    use super::{Block, Reply, Value};
+    use super::{Block, Node, Reply, Value};
 
     extern "C" {
         pub fn sb_clear(n: u32, l: *mut u8, ll: usize, k: *mut u8, kl: usize, o: *mut u16, ol: usize) -> u32;
@@ -37,7 +45,9 @@ mod engine {
         pub fn sb_first(n: u32, a: u32, b: u32, l: *const u8, ll: usize, k: *const u8, kl: usize, o: *const u16, ol: usize) -> Value;
         pub fn sb_core(n: u32, v: u32, level: u32, l: *const u8, ll: usize, k: *const u8, kl: usize, o: *const u16, ol: usize, w: *mut u16, wl: usize) -> Value;
         pub fn sb_backbone(n: u32, l: *const u8, ll: usize, k: *const u8, kl: usize, o: *const u16, ol: usize, w: *mut u16, wl: usize) -> Value;
+        pub fn sb_tree(n: u32, l: *const u8, ll: usize, k: *const u8, kl: usize, o: *const u16, ol: usize, nodes: *mut Node, len: usize, w: *mut u16, wl: usize) -> Value;
         pub fn sb_image_write(n: u32, l: *const u8, ll: usize, k: *const u8, kl: usize, o: *const u16, ol: usize, buffer: *mut u8, len: usize) -> Value;
+        pub fn sb_image_read(n: u32, l: *mut u8, ll: usize, k: *mut u8, kl: usize, o: *mut u16, ol: usize, image: *const u8, len: usize) -> u32;
         pub fn sb_image_block(image: *const u8, len: usize, next: usize) -> Block;
     }
 }
@@ -130,6 +140,19 @@ fn ask(s: &mut Site) {
     s.print_radios("backbone", v);
 }
 
+// The nodes, then each radio's node name.
+fn print_tree(s: &mut Site) {
+    let mut nodes = vec![Node { name: 0, level: 0, parent: 0 }; s.n as usize + 1];
+    let tree = call!(sb_tree, s, [], [nodes.as_mut_ptr(), nodes.len(), s.answer.as_mut_ptr(), s.answer.len()]);
+    let count = tree.value as usize;
+    print_value("tree", tree);
+    for node in &nodes[..count] {
+        println!("node {}, level {}, parent {}", node.name, node.level, node.parent);
+    }
+    print!("names");
+    print_list(&s.answer);
+}
+
 // The payload lies in the image itself; each step checks the whole image.
 fn walk(image: &[u8]) {
     let step = |next| unsafe { engine::sb_image_block(image.as_ptr(), image.len(), next) };
@@ -151,12 +174,16 @@ fn keep(s: &mut Site) {
     image[600] ^= 1;
     walk(&image);
     image[600] ^= 1;
+    s.down(0, 6);
+    println!("read: number {}", call!(sb_image_read, s, [], [image.as_ptr(), image.len()]));
+    print_value("linked 0 6", call!(sb_linked, s, [0, 6], []));
 }
 
 fn main() {
     let mut s = Site::new(7);
     make_links(&mut s);
     ask(&mut s);
+    print_tree(&mut s);
     keep(&mut s);
     s.down(0, 6);
     s.down(2, 3);

@@ -2,7 +2,7 @@
  * summerbugle.h: the link engine of the bolt-tension hubs, for C and C++ hosts.
  *
  * The host lends every table; the engine keeps nothing between calls and allocates nothing. A table is a pointer and a count of
- * ELEMENTS: bytes of the links, the numbers and an image, 16-bit entries of the order and the answer.
+ * ELEMENTS: bytes of the links, the numbers and an image, 16-bit entries of the order and the answer, nodes of the node list.
  *
  *   links    64 bytes a radio: radio b is a neighbour of a when bit b % 8 of byte b / 8 of row a is set
  *   numbers  1 byte a radio: its core number
@@ -82,6 +82,13 @@ typedef struct {
     size_t length;
     size_t next;
 } sb_block;
+
+/* A node of the shell tree: its name, its level, and its parent's name. */
+typedef struct {
+    uint16_t name;
+    uint16_t level;
+    uint16_t parent;
+} sb_node;
 
 /**
  * Clear a site: zero links, zero numbers, the order 0 to n - 1.
@@ -177,20 +184,17 @@ sb_value sb_backbone(uint32_t n, const uint8_t *links, size_t links_len,
                      uint16_t *answer, size_t answer_len);
 
 /**
- * The shell tree: a node for each different connected core, at the largest level where it occurs, named by the lowest of its
- * radios with that number; its parent is the smallest node around it, else the root. nodes must have n + 1 places.
+ * The shell tree: one node for each different connected core from level 1 up, at the largest level where it occurs, and the root,
+ * SB_ROOT at level 0. A node's name is its lowest radio of that number. The list must have n + 1 places. Links, numbers and order
+ * are only read.
  *
- * \return number 0 and the count of nodes, the root with them: nodes[0] to nodes[value - 1], by level and then name, the root
- *         first; later places keep theirs. answer[0] to answer[n - 1] are the node names by radio, SB_ROOT where a radio's number
- *         is 0; later entries keep theirs. Or number SB_SIZE, SB_LENGTH, SB_UNSOUND and value 0, and then nodes and answer keep
- *         their content.
+ * \return number 0 and the count of nodes, root included: nodes[0] to nodes[value - 1] are the nodes, by level, then name; answer[v]
+ *         is the name of radio v's node; later places and entries keep theirs. Or number SB_SIZE, SB_LENGTH, SB_UNSOUND and value
+ *         0, and then node list and answer table keep their content.
  */
-sb_value sb_tree(uint32_t n,
-                 const uint8_t *links, size_t links_len,
-                 const uint8_t *numbers, size_t numbers_len,
-                 const uint16_t *order, size_t order_len,
-                 sb_node *nodes, size_t nodes_len,
-                 uint16_t *answer, size_t answer_len);
+sb_value sb_tree(uint32_t n, const uint8_t *links, size_t links_len,
+                 const uint8_t *numbers, size_t numbers_len, const uint16_t *order, size_t order_len,
+                 sb_node *nodes, size_t nodes_len, uint16_t *answer, size_t answer_len);
 
 /**
  * Write the site's image in front of the buffer. The tables are only read.
@@ -201,6 +205,15 @@ sb_value sb_tree(uint32_t n,
 sb_value sb_image_write(uint32_t n, const uint8_t *links, size_t links_len,
                         const uint8_t *numbers, size_t numbers_len, const uint16_t *order, size_t order_len,
                         uint8_t *buffer, size_t buffer_len);
+
+/**
+ * Read an image of a site of n radios into the tables; the numbers are worked out. What the tables held does not matter.
+ *
+ * \return 0; or SB_SIZE, SB_LENGTH, SB_IMAGE_SIZE, SB_IMAGE_CHECK, SB_IMAGE, and then every table keeps its content.
+ */
+uint32_t sb_image_read(uint32_t n, uint8_t *links, size_t links_len,
+                       uint8_t *numbers, size_t numbers_len, uint16_t *order, size_t order_len,
+                       const uint8_t *image, size_t image_len);
 
 /**
  * A step of the block reader: start with next = 0, and go on with the next of the step before. Any value of next is safe.

@@ -19,6 +19,7 @@ static void expect(const char *what, size_t is, size_t should_be) {
 static void test_structs(void) {
     SIZE(sb_value, 8), PART(sb_value, number, 0, 4), PART(sb_value, value, 4, 4);
     SIZE(sb_reply, 12), PART(sb_reply, number, 0, 4), PART(sb_reply, step, 4, 1), PART(sb_reply, count, 8, 4);
+    SIZE(sb_node, 6), PART(sb_node, name, 0, 2), PART(sb_node, level, 2, 2), PART(sb_node, parent, 4, 2);
     SIZE(sb_block, 32), PART(sb_block, number, 0, 4), PART(sb_block, end, 4, 4);
     PART(sb_block, offset, 8, 8), PART(sb_block, length, 16, 8), PART(sb_block, next, 24, 8);
 }
@@ -26,6 +27,7 @@ static void test_structs(void) {
 /* The largest site that the header allows. */
 static uint8_t links[SB_ROW_BYTES * SB_RADIOS], numbers[SB_RADIOS], image[8 * SB_BLOCK_BYTES];
 static uint16_t order[SB_RADIOS], answer[SB_RADIOS];
+static sb_node nodes[SB_RADIOS + 1];
 #define TABLES links, sizeof links, numbers, SB_RADIOS, order, SB_RADIOS
 #define ANSWER answer, SB_RADIOS
 
@@ -53,6 +55,15 @@ static void test_refusals(void) {
     expect("sound again", sb_check(SB_RADIOS, TABLES).value, 1);
 }
 
+/* A star: the root, and one node at level 1. */
+static void test_tree(void) {
+    expect("too few nodes", sb_tree(SB_RADIOS, TABLES, nodes, SB_RADIOS, ANSWER).number, SB_LENGTH);
+    expect("nodes", sb_tree(SB_RADIOS, TABLES, nodes, SB_RADIOS + 1, ANSWER).value, 2);
+    expect("root", nodes[0].name, SB_ROOT);
+    expect("level", nodes[1].level, 1);
+    expect("parent", nodes[1].parent, SB_ROOT);
+}
+
 static void test_images(void) {
     size_t length = 5 * SB_BLOCK_BYTES; /* 1, 3 of the order, 1 of the links */
     expect("short buffer", sb_image_write(SB_RADIOS, TABLES, image, length - 1).number, SB_IMAGE_SIZE);
@@ -63,6 +74,9 @@ static void test_images(void) {
     expect("next", block.next, 2);
     expect("end", sb_image_block(image, length, 5).end, 1);
     expect("image length", sb_image_block(image, length - 1, 0).number, SB_IMAGE_SIZE);
+    expect("image of another n", sb_image_read(1, links, SB_ROW_BYTES, numbers, 1, order, 1, image, length), SB_IMAGE);
+    expect("image read", sb_image_read(SB_RADIOS, TABLES, image, length), SB_OK);
+    expect("neighbours read", sb_neighbours(SB_RADIOS, 0, TABLES).value, SB_NEIGHBOURS);
     image[0] ^= 1;
     expect("image check", sb_image_block(image, length, 0).number, SB_IMAGE_CHECK);
 }
@@ -71,6 +85,7 @@ int main(void) {
     test_structs();
     test_limits();
     test_refusals();
+    test_tree();
     test_images();
     return failures != 0;
 }
