@@ -83,13 +83,6 @@ typedef struct {
     size_t next;
 } sb_block;
 
-/* A node of the shell tree: its name, its level, and its parent's name. */
-typedef struct {
-    uint16_t name;
-    uint16_t level;
-    uint16_t parent;
-} sb_node;
-
 /**
  * Clear a site: zero links, zero numbers, the order 0 to n - 1.
  *
