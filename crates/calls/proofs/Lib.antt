@@ -1,5 +1,6 @@
 -- Proofs about calls: `QuestionLaws`, `ChainLaws`, `ContractLaws` and `RecordLaws` for the crates whose functions meet the
--- contracts, `Outcomes` that each contract decides its call, `Cases` that the worked cases hold, the others for demand 3.
+-- contracts, `Outcomes` that each contract decides its call, `Accepted` what a caller has after an accepted call (property 2), `Cases` that
+-- the worked cases hold, the others for demand 3.
 pub mod QuestionLaws
 pub mod ChainLaws
 pub mod ContractLaws
@@ -9,3 +10,4 @@ pub mod LinkKept
 pub mod Steps
 pub mod WholeList
 pub mod Cases
+pub mod Accepted

@@ -2,3 +2,5 @@
 pub mod Ties
 -- demand 3, undivided
 pub mod WholeList
+-- all promises
+pub mod Promises
