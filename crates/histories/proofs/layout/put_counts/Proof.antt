@@ -1,0 +1,57 @@
+use Prim.Native.Nat.{_-_}
+use borrow.Author.Needs.{needs}
+use lib.ListN.{length}
+use mathlib.Core.Path.{_≡_}
+use Rattle.histories.proofs.layout.put_counts.Statement.{statement}
+use Rattle.histories.proofs.layout.put_counts.Tie as tie
+use Rattle.histories.proofs.layout.put_counts.Reads as reads
+use Rattle.histories.proofs.layout.put_counts.Lts as lts
+use Rattle.histories.proofs.layout.put_count.Reads as put-count-reads
+
+abbrev Inv-loop : tie.InvT-loop
+Inv-loop table n after t parts left₀ v₀ left v = length left ≡ length left₀
+
+abbrev μ-loop : tie.MeasureT-loop
+μ-loop table n after t parts left₀ v₀ left v = n - v
+
+-- src/layout.rt:80:5
+loop-holds : tie.Need-loop-holds Inv-loop μ-loop
+loop-holds c = search needs
+
+-- src/layout.rt:81:9
+put-count-requires : tie.Need-put-count-requires Inv-loop μ-loop
+put-count-requires c κs = search needs
+
+-- src/layout.rt:82:9
+add-v : tie.Need-add-v Inv-loop μ-loop
+add-v c = search needs
+
+-- src/layout.rt:80:5
+loop-less : tie.Need-loop-less Inv-loop μ-loop
+loop-less c = search needs
+
+-- src/layout.rt:80:5
+loop-again : tie.Need-loop-again Inv-loop μ-loop
+loop-again c = search needs
+
+-- src/layout.rt:78:1
+same-length : tie.Need-same-length Inv-loop μ-loop
+same-length c = search needs
+
+-- src/layout.rt:78:1
+returns : tie.Need-returns Inv-loop μ-loop
+returns c = search needs
+
+pub put-counts-spec : {M : Type 1} → statement M
+put-counts-spec =
+    tie.close
+    (tie.spec
+    Inv-loop
+    μ-loop
+    loop-holds
+    put-count-requires
+    add-v
+    loop-less
+    loop-again
+    same-length
+    returns)

@@ -1,0 +1,74 @@
+use Prim.Native.Nat.{_-_}
+use borrow.Author.Needs.{needs}
+use lib.ListN.{length}
+use mathlib.Core.Path.{_≡_}
+use Rattle.histories.proofs.layout.put_parts.Statement.{statement}
+use Rattle.histories.proofs.layout.put_parts.Tie as tie
+use Rattle.histories.proofs.layout.put_parts.Reads as reads
+use Rattle.histories.proofs.layout.put_parts.Lts as lts
+use Rattle.histories.proofs.cells.get8.Reads as get8-reads
+use Rattle.histories.proofs.cells.put8.Reads as put8-reads
+use Rattle.histories.proofs.layout.part_of.Reads as part-of-reads
+
+abbrev Inv-loop : tie.InvT-loop
+Inv-loop n before after k t parts₀ v₀ parts v = length parts ≡ length parts₀
+
+abbrev μ-loop : tie.MeasureT-loop
+μ-loop n before after k t parts₀ v₀ parts v = n - v
+
+-- src/layout.rt:34:5
+loop-holds : tie.Need-loop-holds Inv-loop μ-loop
+loop-holds c = search needs
+
+-- src/layout.rt:35:25
+get8-requires : tie.Need-get8-requires Inv-loop μ-loop
+get8-requires c κs = search needs
+
+-- src/layout.rt:35:49
+get8-requires-2 : tie.Need-get8-requires-2 Inv-loop μ-loop
+get8-requires-2 c κs = search needs
+
+-- src/layout.rt:35:13
+part-of-requires : tie.Need-part-of-requires Inv-loop μ-loop
+part-of-requires c κs = search needs
+
+-- src/layout.rt:36:9
+put8-requires : tie.Need-put8-requires Inv-loop μ-loop
+put8-requires c κs = search needs
+
+-- src/layout.rt:37:9
+add-v : tie.Need-add-v Inv-loop μ-loop
+add-v c = search needs
+
+-- src/layout.rt:34:5
+loop-less : tie.Need-loop-less Inv-loop μ-loop
+loop-less c = search needs
+
+-- src/layout.rt:34:5
+loop-again : tie.Need-loop-again Inv-loop μ-loop
+loop-again c = search needs
+
+-- src/layout.rt:32:1
+same-length : tie.Need-same-length Inv-loop μ-loop
+same-length c = search needs
+
+-- src/layout.rt:32:1
+returns : tie.Need-returns Inv-loop μ-loop
+returns c = search needs
+
+pub put-parts-spec : {M : Type 1} → statement M
+put-parts-spec =
+    tie.close
+    (tie.spec
+    Inv-loop
+    μ-loop
+    loop-holds
+    get8-requires
+    get8-requires-2
+    part-of-requires
+    put8-requires
+    add-v
+    loop-less
+    loop-again
+    same-length
+    returns)

@@ -1,0 +1,63 @@
+use Prim.Native.Nat.{_-_}
+use borrow.Author.Needs.{needs}
+use lib.ListN.{length}
+use mathlib.Core.Path.{_≡_}
+use Rattle.histories.proofs.peeling.put_degrees.Statement.{statement}
+use Rattle.histories.proofs.peeling.put_degrees.Tie as tie
+use Rattle.histories.proofs.peeling.put_degrees.Reads as reads
+use Rattle.histories.proofs.peeling.put_degrees.Lts as lts
+use Rattle.histories.proofs.cells.put16.Reads as put16-reads
+use Rattle.histories.proofs.peeling.degree.Reads as degree-reads
+
+abbrev Inv-loop : tie.InvT-loop
+Inv-loop table n left₀ v₀ left v = length left ≡ length left₀
+
+abbrev μ-loop : tie.MeasureT-loop
+μ-loop table n left₀ v₀ left v = n - v
+
+-- src/peeling.rt:24:5
+loop-holds : tie.Need-loop-holds Inv-loop μ-loop
+loop-holds c = search needs
+
+-- src/peeling.rt:25:31
+degree-requires : tie.Need-degree-requires Inv-loop μ-loop
+degree-requires c κs = search needs
+
+-- src/peeling.rt:25:9
+put16-requires : tie.Need-put16-requires Inv-loop μ-loop
+put16-requires c κs = search needs
+
+-- src/peeling.rt:26:9
+add-v : tie.Need-add-v Inv-loop μ-loop
+add-v c = search needs
+
+-- src/peeling.rt:24:5
+loop-less : tie.Need-loop-less Inv-loop μ-loop
+loop-less c = search needs
+
+-- src/peeling.rt:24:5
+loop-again : tie.Need-loop-again Inv-loop μ-loop
+loop-again c = search needs
+
+-- src/peeling.rt:22:1
+same-length : tie.Need-same-length Inv-loop μ-loop
+same-length c = search needs
+
+-- src/peeling.rt:22:1
+returns : tie.Need-returns Inv-loop μ-loop
+returns c = search needs
+
+pub put-degrees-spec : {M : Type 1} → statement M
+put-degrees-spec =
+    tie.close
+    (tie.spec
+    Inv-loop
+    μ-loop
+    loop-holds
+    degree-requires
+    put16-requires
+    add-v
+    loop-less
+    loop-again
+    same-length
+    returns)
