@@ -104,6 +104,10 @@ SCRIPTS = {
     "radios-alone": b"radios\n",
     "radios-two-numbers": b"radios 4 4\n",
     "radios-very-long": b"radios 4" + b"0" * 5000 + b"\n",
+    "radios-space-at-the-end": b"radios 4 \nup 0 1\n",
+    "radios-space-at-the-front": b" radios 4\nup 0 1\n",
+    "radios-carriage-return": b"radios 4\r\nup 0 1\n",
+    "radios-byte-255": b"radios 4\xff\nup 0 1\n",
     "second-radios": START + b"radios 4\nup 1 2\n",
     "leading-zero": START + b"up 00 1\n",
     "value-65535": START + b"up 65535 65535\ndown 65535 65535\nup 1 2\n",
@@ -123,6 +127,7 @@ SCRIPTS = {
     "very-long-unterminated": START + b"x" * 10000,
     "above-127": START + b"up 1 \xb2\n",
     "zero-byte": START + b"up 1 2\x00\n",
+    "byte-255": START + b"\xff\nup 1 2\n",
 }
 
 FILES = {CRATE / "data" / name: text for name, text in SCRIPTS.items()}

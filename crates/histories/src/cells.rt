@@ -1,7 +1,4 @@
-// Entries of tables, read and written without a promise about their lengths: past the end 0 is read, and nothing is written.
-
-// The side of the neighbour table.
-pub const SIDE: usize = 512;
+// Entries of lent tables, read and written whatever the lengths are: past the end 0 is read, and nothing is written.
 
 pub fn get8(s: &[u8], i: usize) -> u8 {
     if i < s.len() {
@@ -27,22 +24,6 @@ pub fn put16(s: &mut [u16], i: usize, x: u16) {
     if i < s.len() {
         s[i] = x;
     }
-}
-
-// Where the neighbour table keeps whether a and b are linked: a byte for each two radios.
-pub fn cell(a: usize, b: usize) -> usize {
-    if SIDE <= a {
-        return SIDE * SIDE;
-    }
-    if SIDE <= b {
-        return SIDE * SIDE;
-    }
-    SIDE * a + b
-}
-
-// Whether the neighbour table has a and b linked.
-pub fn near(table: &[u8], a: usize, b: usize) -> bool {
-    get8(table, cell(a, b)) == 1
 }
 
 // Adds `more` to the count of kind i.

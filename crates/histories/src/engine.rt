@@ -12,6 +12,20 @@ fn least(x: usize, y: usize) -> usize
     y
 }
 
+// The link call, on tables that are cut already.
+fn link_cut(
+    call: Call,
+    links: &mut [u8],
+    numbers: &mut [u8],
+    order: &mut [u16],
+    answer: &mut [u16],
+) -> Reply {
+    if call.up {
+        return links::link::link_up(call.n, call.a, call.b, links, numbers, order, answer);
+    }
+    links::link::link_down(call.n, call.a, call.b, links, numbers, order, answer)
+}
+
 // The link call.
 pub fn link(
     call: Call,
@@ -24,21 +38,8 @@ pub fn link(
     let j = least(call.numbers, numbers.len());
     let k = least(call.order, order.len());
     let l = least(call.answer, answer.len());
-    if call.up {
-        return links::link::link_up(
-            call.n,
-            call.a,
-            call.b,
-            &mut links[..i],
-            &mut numbers[..j],
-            &mut order[..k],
-            &mut answer[..l],
-        );
-    }
-    links::link::link_down(
-        call.n,
-        call.a,
-        call.b,
+    link_cut(
+        call,
         &mut links[..i],
         &mut numbers[..j],
         &mut order[..k],

@@ -1,6 +1,6 @@
-// What document 01 expects of a link call, worked out on the neighbour table by peeling.
-use super::cells;
+// What document 01 expects of a link call, worked out by peeling.
 use super::layout;
+use super::model;
 use super::peeling;
 
 // The limits, as document 01 has them.
@@ -46,16 +46,6 @@ pub fn plain(n: u32, up: bool, a: u32, b: u32) -> Call {
     }
 }
 
-// The tables of a cleared site of n radios.
-pub fn clear(n: usize, numbers: &mut [u8], order: &mut [u16]) {
-    let mut v: usize = 0;
-    while v < n {
-        cells::put8(numbers, v, 0);
-        cells::put16(order, v, (v % 65536) as u16);
-        v += 1;
-    }
-}
-
 // Questions 1 to 3.
 fn tables_refusal(call: Call) -> u32 {
     if call.n == 0 {
@@ -84,77 +74,51 @@ fn tables_refusal(call: Call) -> u32 {
 }
 
 // Question 7: whether v has room for a neighbour more.
-fn has_room(table: &[u8], n: u32, v: u32) -> bool {
-    peeling::degree(table, n as usize, v as usize) < NEIGHBOURS
+fn has_room(model: &[u16], n: u32, v: u32) -> bool {
+    peeling::degree(model, n as usize, v as usize) < NEIGHBOURS
 }
 
 // Questions 4 to 7.
-fn ends_refusal(call: Call, table: &[u8]) -> u32 {
-    if call.n <= call.a || call.n <= call.b {
+fn ends_refusal(call: Call, model: &[u16]) -> u32 {
+    if call.n <= call.a {
+        return 4;
+    }
+    if call.n <= call.b {
         return 4;
     }
     if call.a == call.b {
         return 5;
     }
-    let linked = cells::near(table, call.a as usize, call.b as usize);
-    if linked == call.up {
+    if model::near(model, call.a as usize, call.b as usize) == call.up {
         return 6;
     }
     if !call.up {
         return 0;
     }
-    if !has_room(table, call.n, call.a) || !has_room(table, call.n, call.b) {
+    if !has_room(model, call.n, call.a) {
+        return 7;
+    }
+    if !has_room(model, call.n, call.b) {
         return 7;
     }
     0
 }
 
-// The first question that gets no.
-fn refusal(call: Call, table: &[u8]) -> u32 {
-    let number = tables_refusal(call);
-    if number != 0 {
-        return number;
-    }
-    ends_refusal(call, table)
-}
-
-// Writes a link into the neighbour table, up or down.
-fn put_link(table: &mut [u8], a: usize, b: usize, up: bool) {
-    cells::put8(table, cells::cell(a, b), up as u8);
-    cells::put8(table, cells::cell(b, a), up as u8);
-}
-
-fn least(x: u8, y: u8) -> u8 {
-    if x < y {
-        return x;
-    }
-    y
-}
-
-// Copies n numbers.
-fn copy8(n: usize, from: &[u8], to: &mut [u8]) {
-    let mut i: usize = 0;
-    while i < n {
-        cells::put8(to, i, cells::get8(from, i));
-        i += 1;
-    }
-}
-
 // Lists v after the radios found, if its numbers differ; how many are found then.
-fn list_one(v: usize, before: &[u8], after: &[u8], answer: &mut [u16], found: u32) -> u32 {
-    if cells::get8(before, v) == cells::get8(after, v) {
+fn list_one(model: &mut [u16], v: usize, found: u32) -> u32 {
+    if model::get(model, model::BEFORE, v) == model::get(model, model::NUMBERS, v) {
         return found;
     }
-    cells::put16(answer, found as usize, (v % 65536) as u16);
+    model::put(model, model::ANSWER, found as usize, (v % 65536) as u16);
     std::num::wrapping_add_u32(found, 1)
 }
 
 // Lists the radios whose numbers differ, ascending, in front of the answer table; how many there are.
-fn list_changed(n: usize, before: &[u8], after: &[u8], answer: &mut [u16]) -> u32 {
+fn list_changed(model: &mut [u16], n: usize) -> u32 {
     let mut found: u32 = 0;
     let mut v: usize = 0;
     while v < n {
-        found = list_one(v, before, after, answer, found);
+        found = list_one(model, v, found);
         v += 1;
     }
     found
@@ -170,25 +134,26 @@ fn step_of(up: bool, count: u32) -> i8 {
     -1
 }
 
-// Carries an accepted call out on the expected tables.
-fn carry_out(
-    call: Call,
-    table: &mut [u8],
-    numbers: &mut [u8],
-    order: &mut [u16],
-    answer: &mut [u16],
-) -> Owed {
+// The smaller number of the two ends.
+fn level_of(model: &[u16], a: u32, b: u32) -> u16 {
+    let x = model::get(model, model::NUMBERS, a as usize);
+    let y = model::get(model, model::NUMBERS, b as usize);
+    if x < y {
+        return x;
+    }
+    y
+}
+
+// Carries an accepted call out on the expected site.
+fn carry_out(call: Call, model: &mut [u16]) -> Owed {
     let n = call.n as usize;
-    let a = call.a as usize;
-    let b = call.b as usize;
-    let mut before = [0u8; cells::SIDE];
-    copy8(n, numbers, &mut before);
-    let k = least(cells::get8(&before, a), cells::get8(&before, b));
-    put_link(table, a, b, call.up);
-    peeling::peel(table, n, numbers);
-    let t = std::num::wrapping_sub_u8(k, !call.up as u8);
-    layout::relay(table, n, k, t, &before, numbers, order);
-    let count = list_changed(n, &before, numbers, answer);
+    let k = level_of(model, call.a, call.b);
+    let t = std::num::wrapping_sub_u16(k, !call.up as u16);
+    model::copy(model, n, model::NUMBERS, model::BEFORE);
+    model::put_link(model, call.a as usize, call.b as usize, call.up);
+    peeling::peel(model, n);
+    layout::relay(model, n, k, t);
+    let count = list_changed(model, n);
     Owed {
         number: 0,
         step: step_of(call.up, count),
@@ -196,21 +161,23 @@ fn carry_out(
     }
 }
 
-// What the call owes, and the expected tables after it.
-pub fn expect(
-    call: Call,
-    table: &mut [u8],
-    numbers: &mut [u8],
-    order: &mut [u16],
-    answer: &mut [u16],
-) -> Owed {
-    let number = refusal(call, table);
-    if number != 0 {
-        return Owed {
-            number,
-            step: 0,
-            count: 0,
-        };
+fn refused(number: u32) -> Owed {
+    Owed {
+        number,
+        step: 0,
+        count: 0,
     }
-    carry_out(call, table, numbers, order, answer)
+}
+
+// What the call owes; the expected site is as after it.
+pub fn expect(call: Call, model: &mut [u16]) -> Owed {
+    let tables = tables_refusal(call);
+    if tables != 0 {
+        return refused(tables);
+    }
+    let ends = ends_refusal(call, model);
+    if ends != 0 {
+        return refused(ends);
+    }
+    carry_out(call, model)
 }

@@ -6,6 +6,7 @@ mod cells;
 mod engine;
 mod expected;
 mod layout;
+mod model;
 mod own_check;
 mod peeling;
 mod picking;

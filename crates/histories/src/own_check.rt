@@ -63,13 +63,24 @@ fn rises(n: usize, numbers: &[u8], order: &[u16]) -> bool {
     true
 }
 
-// What a row has: bits, neighbours later in the order, neighbours whose number is not below its radio's own; and whether each bit
-// is below n, not its radio's own, and set in the other row too.
+// What a row has: bits, neighbours later in the order, neighbours whose number is not below its radio's own; and whether all its
+// bits are proper.
 struct Row {
     proper: bool,
     bits: u16,
     later: u16,
     high: u16,
+}
+
+// Whether b, which row a marks, is below n, not a itself, and marks a too.
+fn is_proper(n: usize, links: &[u8], a: usize, b: usize) -> bool {
+    if n <= b {
+        return false;
+    }
+    if a == b {
+        return false;
+    }
+    bit(links, b, a)
 }
 
 // The row after one more neighbour b of a.
@@ -82,11 +93,11 @@ fn with_bit(
     a: usize,
     b: usize,
 ) -> Row {
-    let proper = b < n && a != b && bit(links, b, a);
+    let proper = row.proper && is_proper(n, links, a, b);
     let later = cells::get16(places, a) < cells::get16(places, b);
     let high = cells::get8(numbers, a) <= cells::get8(numbers, b);
     Row {
-        proper: row.proper && proper,
+        proper,
         bits: std::num::wrapping_add_u16(row.bits, 1),
         later: std::num::wrapping_add_u16(row.later, later as u16),
         high: std::num::wrapping_add_u16(row.high, high as u16),
@@ -111,16 +122,26 @@ fn row_of(n: usize, links: &[u8], numbers: &[u8], places: &[u16], a: usize) -> R
     row
 }
 
+// Whether the conditions on a radio with this number and row hold.
+fn holds(row: Row, number: u16) -> bool {
+    if NEIGHBOURS < row.bits {
+        return false;
+    }
+    if number < row.later {
+        return false;
+    }
+    if row.high < number {
+        return false;
+    }
+    row.proper
+}
+
 // Whether the conditions on each radio hold.
 fn rows_hold(n: usize, links: &[u8], numbers: &[u8], places: &[u16]) -> bool {
     let mut a: usize = 0;
     while a < n {
         let row = row_of(n, links, numbers, places, a);
-        let number = cells::get8(numbers, a) as u16;
-        if !row.proper || NEIGHBOURS < row.bits {
-            return false;
-        }
-        if number < row.later || row.high < number {
+        if !holds(row, cells::get8(numbers, a) as u16) {
             return false;
         }
         a += 1;

@@ -1,5 +1,5 @@
 // The next call of a history: which link, which way, and now and then a call that is to be refused.
-use super::cells;
+use super::model;
 use super::peeling;
 use super::random;
 
@@ -24,16 +24,19 @@ pub struct Picked {
 }
 
 // Whether a and u are two radios that are linked, or are not.
-fn is_sought(table: &[u8], a: u32, u: u32, linked: bool) -> bool {
-    u != a && cells::near(table, a as usize, u as usize) == linked
+fn is_sought(model: &[u16], a: u32, u: u32, linked: bool) -> bool {
+    if u == a {
+        return false;
+    }
+    model::near(model, a as usize, u as usize) == linked
 }
 
 // The first radio from b on, round the m radios used, that is linked with a, or is not; b where there is none.
-fn seek(table: &[u8], m: u32, a: u32, b: u32, linked: bool) -> u32 {
+fn seek(model: &[u16], m: u32, a: u32, b: u32, linked: bool) -> u32 {
     let mut u = b;
     let mut turn: u32 = 0;
     while turn < m {
-        if is_sought(table, a, u, linked) {
+        if is_sought(model, a, u, linked) {
             return u;
         }
         u = random::after(u, m);
@@ -62,18 +65,18 @@ fn pick_in_clique(plan: Plan, i: u32, x: u64) -> Picked {
 }
 
 // A pseudo-random pair that fits the way it goes, where there is one.
-fn pick_pair(plan: Plan, x: u64, table: &[u8]) -> Picked {
+fn pick_pair(plan: Plan, x: u64, model: &[u16]) -> Picked {
     let x1 = random::next(x);
     let x2 = random::next(x1);
     let x3 = random::next(x2);
     let a = random::below(x1, plan.m);
     let b = random::below(x2, plan.m);
-    let few = peeling::degree(table, plan.n as usize, a as usize) < plan.most;
+    let few = peeling::degree(model, plan.n as usize, a as usize) < plan.most;
     let up = random::below(x3, 16) < plan.ups && few;
     Picked {
         up,
         a,
-        b: seek(table, plan.m, a, b, !up),
+        b: seek(model, plan.m, a, b, !up),
         x: x3,
     }
 }
@@ -98,9 +101,9 @@ fn disturbed(plan: Plan, picked: Picked) -> Picked {
 }
 
 // Call i of the history.
-pub fn pick(plan: Plan, i: u32, x: u64, table: &[u8]) -> Picked {
+pub fn pick(plan: Plan, i: u32, x: u64, model: &[u16]) -> Picked {
     if plan.pairs != 0 {
         return pick_in_clique(plan, i, x);
     }
-    disturbed(plan, pick_pair(plan, x, table))
+    disturbed(plan, pick_pair(plan, x, model))
 }

@@ -4,6 +4,7 @@ use super::engine;
 use super::expected;
 use super::expected::Call;
 use super::expected::Owed;
+use super::model;
 use super::own_check;
 use super::picking;
 use super::picking::Plan;
@@ -20,10 +21,8 @@ const CALLS: usize = 9;
 
 const DIFFERENT: usize = 10;
 
-// The longest tables that a call is lent: one entry more than 512 radios have. Entries past the site's hold these values.
-const ENTRIES: usize = 513;
-
-const LINKS: usize = 64 * ENTRIES;
+// The longest links table that a call is lent. Entries of the other tables past the site's hold these values.
+const LINKS: usize = 64 * model::ENTRIES;
 
 const NUMBER: u8 = 77;
 
@@ -45,13 +44,13 @@ fn is_found(call: Call, n: u32, links: &[u8], numbers: &[u8], order: &[u16]) -> 
     verdicts_agree(n, false, links, numbers, order)
 }
 
-// The engine's reply, and whether all is as expected so far.
+// The engine's reply, and whether spoiled tables were found out.
 struct Answer {
     reply: Reply,
     fine: bool,
 }
 
-// Carries the call out on the engine's tables, spoiled for it where that is its trouble; `fine`: they were found out.
+// Carries the call out on the engine's tables, spoiled for it where that is its trouble.
 fn answer_of(
     call: Call,
     n: u32,
@@ -68,100 +67,69 @@ fn answer_of(
     Answer { reply, fine }
 }
 
-// Whether the reply, every entry of the tables and their soundness are what is expected.
-fn agrees(
+// Whether the reply is what is owed.
+fn is_owed(reply: Reply, owed: Owed) -> bool {
+    if reply.number != owed.number {
+        return false;
+    }
+    if reply.step != owed.step {
+        return false;
+    }
+    reply.count == owed.count
+}
+
+// Whether every entry of the tables is what is expected, and they are sound.
+fn is_expected(
     n: u32,
-    given: Answer,
-    owed: Owed,
     links: &[u8],
     numbers: &[u8],
     order: &[u16],
     answer: &[u16],
-    table: &[u8],
-    peeled: &[u8],
-    laid: &[u16],
-    listed: &[u16],
+    model: &[u16],
 ) -> bool {
-    let reply = given.reply;
-    if !given.fine {
+    if !same::numbers(numbers, model) {
         return false;
     }
-    if reply.number != owed.number || reply.step != owed.step || reply.count != owed.count {
+    if !same::radios(order, model, model::ORDER) {
         return false;
     }
-    if !same::bytes(numbers, peeled) || !same::radios(order, laid) {
+    if !same::radios(answer, model, model::ANSWER) {
         return false;
     }
-    if !same::radios(answer, listed) {
-        return false;
-    }
-    if !same::links(std::num::wrapping_add_usize(n as usize, 1), links, table) {
+    if !same::links(links, model, n as usize) {
         return false;
     }
     verdicts_agree(n, true, links, numbers, order)
 }
 
 // Counts a call.
-fn tally(counts: &mut [u64], done: Answer) {
-    let reply = done.reply;
+fn tally(counts: &mut [u64], reply: Reply, fine: bool) {
     cells::count(counts, reply.number as usize % CHANGED, 1);
     cells::count(counts, CHANGED, reply.count);
     cells::count(counts, CALLS, 1);
-    cells::count(counts, DIFFERENT, !done.fine as u32);
+    cells::count(counts, DIFFERENT, !fine as u32);
 }
 
-// A call with its trouble.
-struct Next {
-    call: Call,
-    wrong: trouble::Trouble,
-}
-
-// Call i of the history.
-fn next_call(plan: Plan, i: u32, x: u64, table: &[u8]) -> Next {
-    let picked = picking::pick(plan, i, x, table);
-    let wrong = trouble::draw(plan.n, picked.x);
-    let call = expected::plain(plan.n, picked.up, picked.a, picked.b);
-    Next {
-        call: trouble::troubled(call, wrong.kind),
-        wrong,
-    }
-}
-
-// Puts the call to the engine and to the expected tables. `fine` of the answer: they agree.
+// Puts the call to the engine and to the expected site, compares and counts.
 fn put_call(
-    next: Next,
+    call: Call,
     n: u32,
+    wrong: trouble::Trouble,
     links: &mut [u8],
     numbers: &mut [u8],
     order: &mut [u16],
     answer: &mut [u16],
-    table: &mut [u8],
-    peeled: &mut [u8],
-    laid: &mut [u16],
-    listed: &mut [u16],
-) -> Answer {
-    let call = next.call;
-    let wrong = next.wrong;
+    model: &mut [u16],
+    counts: &mut [u64],
+) {
     let given = answer_of(call, n, wrong, links, numbers, order, answer);
+    let owed = expected::expect(call, model);
     let reply = given.reply;
-    let owed = expected::expect(call, table, peeled, laid, listed);
-    let fine = agrees(
-        n,
-        given,
-        owed,
-        links,
-        numbers,
-        order,
-        answer,
-        table,
-        peeled,
-        laid,
-        listed,
-    );
-    Answer { reply, fine }
+    let fine = is_expected(n, links, numbers, order, answer, model);
+    tally(counts, reply, fine && given.fine && is_owed(reply, owed));
 }
 
-// Call i, compared and counted. The random number to go on from.
+// Call i of the history. The random number to go on from.
 fn one_call(
     plan: Plan,
     i: u32,
@@ -170,27 +138,24 @@ fn one_call(
     numbers: &mut [u8],
     order: &mut [u16],
     answer: &mut [u16],
-    table: &mut [u8],
-    peeled: &mut [u8],
-    laid: &mut [u16],
-    listed: &mut [u16],
+    model: &mut [u16],
     counts: &mut [u64],
 ) -> u64 {
-    let next = next_call(plan, i, x, table);
-    let done = put_call(
-        next,
+    let picked = picking::pick(plan, i, x, model);
+    let wrong = trouble::draw(plan.n, picked.x);
+    let plain = expected::plain(plan.n, picked.up, picked.a, picked.b);
+    let call = trouble::troubled(plain, wrong.kind);
+    put_call(
+        call,
         plan.n,
+        wrong,
         links,
         numbers,
         order,
         answer,
-        table,
-        peeled,
-        laid,
-        listed,
+        model,
+        counts,
     );
-    tally(counts, done);
-    let wrong = next.wrong;
     wrong.x
 }
 
@@ -201,29 +166,13 @@ fn all_calls(
     numbers: &mut [u8],
     order: &mut [u16],
     answer: &mut [u16],
-    table: &mut [u8],
-    peeled: &mut [u8],
-    laid: &mut [u16],
-    listed: &mut [u16],
+    model: &mut [u16],
     counts: &mut [u64],
 ) {
     let mut x = plan.seed;
     let mut i: u32 = 0;
     while i < plan.calls {
-        x = one_call(
-            plan,
-            i,
-            x,
-            links,
-            numbers,
-            order,
-            answer,
-            table,
-            peeled,
-            laid,
-            listed,
-            counts,
-        );
+        x = one_call(plan, i, x, links, numbers, order, answer, model, counts);
         i += 1;
     }
 }
@@ -231,25 +180,19 @@ fn all_calls(
 // Plays the history from a cleared site and counts its calls.
 pub fn play(plan: Plan, counts: &mut [u64]) {
     let mut links = [0u8; LINKS];
-    let mut numbers = [NUMBER; ENTRIES];
-    let mut order = [RADIO; ENTRIES];
-    let mut answer = [RADIO; ENTRIES];
-    let mut table = [0u8; cells::SIDE * cells::SIDE];
-    let mut peeled = [NUMBER; ENTRIES];
-    let mut laid = [RADIO; ENTRIES];
-    let mut listed = [RADIO; ENTRIES];
+    let mut numbers = [NUMBER; model::ENTRIES];
+    let mut order = [RADIO; model::ENTRIES];
+    let mut answer = [RADIO; model::ENTRIES];
+    let mut model = [0u16; model::LEN];
     engine::clear(plan.n, &mut links, &mut numbers, &mut order);
-    expected::clear(plan.n as usize, &mut peeled, &mut laid);
+    model::clear(&mut model, plan.n as usize, NUMBER as u16, RADIO);
     all_calls(
         plan,
         &mut links,
         &mut numbers,
         &mut order,
         &mut answer,
-        &mut table,
-        &mut peeled,
-        &mut laid,
-        &mut listed,
+        &mut model,
         counts,
     );
 }

@@ -1,15 +1,13 @@
 // Lent tables compared with the expected ones, every entry.
 use super::cells;
+use super::model;
 use super::own_check;
 
-// Whether two tables of bytes are the same.
-pub fn bytes(s: &[u8], t: &[u8]) -> bool {
-    if s.len() != t.len() {
-        return false;
-    }
+// Whether the numbers are the expected ones, and the entries past them too.
+pub fn numbers(s: &[u8], model: &[u16]) -> bool {
     let mut i: usize = 0;
-    while i < s.len() {
-        if cells::get8(s, i) != cells::get8(t, i) {
+    while i < model::ENTRIES {
+        if cells::get8(s, i) as u16 != model::get(model, model::NUMBERS, i) {
             return false;
         }
         i += 1;
@@ -17,14 +15,11 @@ pub fn bytes(s: &[u8], t: &[u8]) -> bool {
     true
 }
 
-// Whether two tables of radios are the same.
-pub fn radios(s: &[u16], t: &[u16]) -> bool {
-    if s.len() != t.len() {
-        return false;
-    }
+// Whether the radios are the ones of the section, and the entries past them too.
+pub fn radios(s: &[u16], model: &[u16], section: usize) -> bool {
     let mut i: usize = 0;
-    while i < s.len() {
-        if cells::get16(s, i) != cells::get16(t, i) {
+    while i < model::ENTRIES {
+        if cells::get16(s, i) != model::get(model, section, i) {
             return false;
         }
         i += 1;
@@ -32,11 +27,11 @@ pub fn radios(s: &[u16], t: &[u16]) -> bool {
     true
 }
 
-// Whether row a of the links table has the bits that the neighbour table says, and no other.
-fn row(links: &[u8], table: &[u8], a: usize) -> bool {
+// Whether row a of the links table has the expected bits, and no other.
+fn row(links: &[u8], model: &[u16], a: usize) -> bool {
     let mut b: usize = 0;
-    while b < cells::SIDE {
-        if own_check::bit(links, a, b) != cells::near(table, a, b) {
+    while b < model::SIDE {
+        if own_check::bit(links, a, b) != model::near(model, a, b) {
             return false;
         }
         b += 1;
@@ -44,14 +39,14 @@ fn row(links: &[u8], table: &[u8], a: usize) -> bool {
     true
 }
 
-// Whether the first rows of the links table have the links of the neighbour table.
-pub fn links(rows: usize, links: &[u8], table: &[u8]) -> bool {
+// Whether the first n rows of the links table have the expected bits, and the row past them none.
+pub fn links(s: &[u8], model: &[u16], n: usize) -> bool {
     let mut a: usize = 0;
-    while a < rows {
-        if !row(links, table, a) {
+    while a < n {
+        if !row(s, model, a) {
             return false;
         }
         a += 1;
     }
-    true
+    row(s, model, n)
 }

@@ -1,3 +1,4 @@
+-- `engine::is_sound` is safe: each part lies within its table.
 use lib.Seq.{length-take-le}
 use mathlib.Core.Path.{sym}
 use borrow.Author.Needs.{needs}
@@ -8,43 +9,43 @@ use Rattle.histories.proofs.engine.is_sound.Lts as lts
 use Rattle.histories.proofs.engine.least.Reads as least-reads
 use Rattle.soundness.proofs.check.Reads as check-reads
 
--- src/engine.rt:52:19
+-- src/engine.rt:53:19
 mul-least : tie.Need-mul-least
 mul-least c = search needs
 
--- src/engine.rt:52:9
+-- src/engine.rt:53:9
 least-requires : tie.Need-least-requires
 least-requires c κs = search needs
 
--- src/engine.rt:53:9
+-- src/engine.rt:54:9
 least-requires-2 : tie.Need-least-requires-2
 least-requires-2 c κs = search needs
 
--- src/engine.rt:54:9
+-- src/engine.rt:55:9
 least-requires-3 : tie.Need-least-requires-3
 least-requires-3 c κs = search needs
 
--- src/engine.rt:55:39
+-- src/engine.rt:56:39
 slice-aggregate-check : tie.Need-slice-aggregate-check
 slice-aggregate-check c = sym (length-take-le _ _ (search needs))
 
--- src/engine.rt:55:52
+-- src/engine.rt:56:52
 slice-aggregate-check-2 : tie.Need-slice-aggregate-check-2
 slice-aggregate-check-2 c = sym (length-take-le _ _ (search needs))
 
--- src/engine.rt:55:67
+-- src/engine.rt:56:67
 slice-aggregate-check-3 : tie.Need-slice-aggregate-check-3
 slice-aggregate-check-3 c = sym (length-take-le _ _ (search needs))
 
--- src/engine.rt:55:9
+-- src/engine.rt:56:9
 check-requires : tie.Need-check-requires
 check-requires c κs = search needs
 
--- src/engine.rt:50:1
+-- src/engine.rt:51:1
 returns : tie.Need-returns
 returns c = search needs
 
--- src/engine.rt:50:1
+-- src/engine.rt:51:1
 returns-2 : tie.Need-returns-2
 returns-2 c = search needs
 

@@ -1,3 +1,4 @@
+-- `expected::list_changed` is safe and ends: every table keeps its length, and the measure is how many turns are left.
 use Prim.Native.Nat.{_-_}
 use borrow.Author.Needs.{needs}
 use lib.ListN.{length}
@@ -9,36 +10,36 @@ use Rattle.histories.proofs.expected.list_changed.Lts as lts
 use Rattle.histories.proofs.expected.list_one.Reads as list-one-reads
 
 abbrev Inv-loop : tie.InvT-loop
-Inv-loop n before after answer₀ found₀ v₀ answer found v = length answer ≡ length answer₀
+Inv-loop model₀ n found₀ v₀ model found v = length model ≡ length model₀
 
 abbrev μ-loop : tie.MeasureT-loop
-μ-loop n before after answer₀ found₀ v₀ answer found v = n - v
+μ-loop model₀ n found₀ v₀ model found v = n - v
 
--- src/expected.rt:156:5
+-- src/expected.rt:120:5
 loop-holds : tie.Need-loop-holds Inv-loop μ-loop
 loop-holds c = search needs
 
--- src/expected.rt:157:9
+-- src/expected.rt:121:9
 list-one-requires : tie.Need-list-one-requires Inv-loop μ-loop
 list-one-requires c κs = search needs
 
--- src/expected.rt:158:9
+-- src/expected.rt:122:9
 add-v : tie.Need-add-v Inv-loop μ-loop
 add-v c = search needs
 
--- src/expected.rt:156:5
+-- src/expected.rt:120:5
 loop-less : tie.Need-loop-less Inv-loop μ-loop
 loop-less c = search needs
 
--- src/expected.rt:156:5
+-- src/expected.rt:120:5
 loop-again : tie.Need-loop-again Inv-loop μ-loop
 loop-again c = search needs
 
--- src/expected.rt:153:1
+-- src/expected.rt:117:1
 same-length : tie.Need-same-length Inv-loop μ-loop
 same-length c = search needs
 
--- src/expected.rt:153:1
+-- src/expected.rt:117:1
 returns : tie.Need-returns Inv-loop μ-loop
 returns c = search needs
 

@@ -1,3 +1,4 @@
+-- `layout::count_row` is safe and ends: the measure is how many turns are left.
 use Prim.Native.Nat.{_-_}
 use borrow.Author.Needs.{needs}
 use Rattle.histories.proofs.layout.count_row.Statement.{statement}
@@ -8,40 +9,40 @@ use Rattle.histories.proofs.layout.is_counted.Reads as is-counted-reads
 use Rattle.std.proofs.num.wrapping_add_u16.Reads as wrapping-add-u16-reads
 
 abbrev Inv-loop : tie.InvT-loop
-Inv-loop table n v after t parts sum₀ u₀ sum u = Unit
+Inv-loop model n v t sum₀ u₀ sum u = Unit
 
 abbrev μ-loop : tie.MeasureT-loop
-μ-loop table n v after t parts sum₀ u₀ sum u = n - u
+μ-loop model n v t sum₀ u₀ sum u = n - u
 
--- src/layout.rt:53:5
+-- src/layout.rt:57:5
 loop-holds : tie.Need-loop-holds Inv-loop μ-loop
 loop-holds c = search needs
 
--- src/layout.rt:54:13
+-- src/layout.rt:58:47
 is-counted-requires : tie.Need-is-counted-requires Inv-loop μ-loop
 is-counted-requires c κs = search needs
 
--- src/layout.rt:55:47
+-- src/layout.rt:58:47
 cast-wrapping-add-u16 : tie.Need-cast-wrapping-add-u16 Inv-loop μ-loop
 cast-wrapping-add-u16 c = search needs
 
--- src/layout.rt:55:9
+-- src/layout.rt:58:9
 wrapping-add-u16-requires : tie.Need-wrapping-add-u16-requires Inv-loop μ-loop
 wrapping-add-u16-requires c κs = search needs
 
--- src/layout.rt:56:9
+-- src/layout.rt:59:9
 add-u : tie.Need-add-u Inv-loop μ-loop
 add-u c = search needs
 
--- src/layout.rt:53:5
+-- src/layout.rt:57:5
 loop-less : tie.Need-loop-less Inv-loop μ-loop
 loop-less c = search needs
 
--- src/layout.rt:53:5
+-- src/layout.rt:57:5
 loop-again : tie.Need-loop-again Inv-loop μ-loop
 loop-again c = search needs
 
--- src/layout.rt:50:1
+-- src/layout.rt:54:1
 returns : tie.Need-returns Inv-loop μ-loop
 returns c = search needs
 

@@ -1,3 +1,4 @@
+-- `layout::put_parts` is safe and ends: every table keeps its length, and the measure is how many turns are left.
 use Prim.Native.Nat.{_-_}
 use borrow.Author.Needs.{needs}
 use lib.ListN.{length}
@@ -6,37 +7,37 @@ use Rattle.histories.proofs.layout.put_parts.Statement.{statement}
 use Rattle.histories.proofs.layout.put_parts.Tie as tie
 use Rattle.histories.proofs.layout.put_parts.Reads as reads
 use Rattle.histories.proofs.layout.put_parts.Lts as lts
-use Rattle.histories.proofs.cells.get8.Reads as get8-reads
-use Rattle.histories.proofs.cells.put8.Reads as put8-reads
 use Rattle.histories.proofs.layout.part_of.Reads as part-of-reads
+use Rattle.histories.proofs.model.get.Reads as get-reads
+use Rattle.histories.proofs.model.put.Reads as put-reads
 
 abbrev Inv-loop : tie.InvT-loop
-Inv-loop n before after k t parts₀ v₀ parts v = length parts ≡ length parts₀
+Inv-loop model₀ n k t v₀ model v = length model ≡ length model₀
 
 abbrev μ-loop : tie.MeasureT-loop
-μ-loop n before after k t parts₀ v₀ parts v = n - v
+μ-loop model₀ n k t v₀ model v = n - v
 
 -- src/layout.rt:34:5
 loop-holds : tie.Need-loop-holds Inv-loop μ-loop
 loop-holds c = search needs
 
--- src/layout.rt:35:25
-get8-requires : tie.Need-get8-requires Inv-loop μ-loop
-get8-requires c κs = search needs
-
--- src/layout.rt:35:49
-get8-requires-2 : tie.Need-get8-requires-2 Inv-loop μ-loop
-get8-requires-2 c κs = search needs
-
 -- src/layout.rt:35:13
+get-requires : tie.Need-get-requires Inv-loop μ-loop
+get-requires c κs = search needs
+
+-- src/layout.rt:36:13
+get-requires-2 : tie.Need-get-requires-2 Inv-loop μ-loop
+get-requires-2 c κs = search needs
+
+-- src/layout.rt:37:44
 part-of-requires : tie.Need-part-of-requires Inv-loop μ-loop
 part-of-requires c κs = search needs
 
--- src/layout.rt:36:9
-put8-requires : tie.Need-put8-requires Inv-loop μ-loop
-put8-requires c κs = search needs
-
 -- src/layout.rt:37:9
+put-requires : tie.Need-put-requires Inv-loop μ-loop
+put-requires c κs = search needs
+
+-- src/layout.rt:38:9
 add-v : tie.Need-add-v Inv-loop μ-loop
 add-v c = search needs
 
@@ -63,10 +64,10 @@ put-parts-spec =
     Inv-loop
     μ-loop
     loop-holds
-    get8-requires
-    get8-requires-2
+    get-requires
+    get-requires-2
     part-of-requires
-    put8-requires
+    put-requires
     add-v
     loop-less
     loop-again

@@ -1,3 +1,4 @@
+-- `own_check::put_nowhere` is safe and ends: every table keeps its length, and the measure is how many turns are left.
 use Prim.Native.Nat.{_-_}
 use borrow.Author.Needs.{needs}
 use lib.ListN.{length}

@@ -1,3 +1,4 @@
+-- `own_check::rises` is safe and ends: the measure is how many turns are left.
 use Prim.Native.Nat.{_-_}
 use borrow.Author.Needs.{needs}
 use Rattle.histories.proofs.own_check.rises.Statement.{statement}

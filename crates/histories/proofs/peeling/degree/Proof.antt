@@ -1,17 +1,18 @@
+-- `peeling::degree` is safe and ends: the measure is how many turns are left.
 use Prim.Native.Nat.{_-_}
 use borrow.Author.Needs.{needs}
 use Rattle.histories.proofs.peeling.degree.Statement.{statement}
 use Rattle.histories.proofs.peeling.degree.Tie as tie
 use Rattle.histories.proofs.peeling.degree.Reads as reads
 use Rattle.histories.proofs.peeling.degree.Lts as lts
-use Rattle.histories.proofs.cells.near.Reads as near-reads
+use Rattle.histories.proofs.model.near.Reads as near-reads
 use Rattle.std.proofs.num.wrapping_add_u16.Reads as wrapping-add-u16-reads
 
 abbrev Inv-loop : tie.InvT-loop
-Inv-loop table n v sum₀ u₀ sum u = Unit
+Inv-loop model n v sum₀ u₀ sum u = Unit
 
 abbrev μ-loop : tie.MeasureT-loop
-μ-loop table n v sum₀ u₀ sum u = n - u
+μ-loop model n v sum₀ u₀ sum u = n - u
 
 -- src/peeling.rt:14:5
 loop-holds : tie.Need-loop-holds Inv-loop μ-loop

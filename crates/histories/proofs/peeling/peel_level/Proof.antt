@@ -1,3 +1,4 @@
+-- `peeling::peel_level` is safe and ends: every table keeps its length, and the measure is how many turns are left.
 use Prim.Native.Nat.{_-_}
 use borrow.Author.Needs.{needs}
 use lib.ListN.{length}
@@ -9,52 +10,44 @@ use Rattle.histories.proofs.peeling.peel_level.Lts as lts
 use Rattle.histories.proofs.peeling.throw_out.Reads as throw-out-reads
 
 abbrev Inv-loop : tie.InvT-loop
-Inv-loop table n k left₀ numbers₀ turn₀ left numbers turn = (length left ≡ length left₀) × (length numbers ≡ length numbers₀)
+Inv-loop model₀ n k turn₀ model turn = length model ≡ length model₀
 
 abbrev μ-loop : tie.MeasureT-loop
-μ-loop table n k left₀ numbers₀ turn₀ left numbers turn = n - turn
+μ-loop model₀ n k turn₀ model turn = n - turn
 
--- src/peeling.rt:83:5
+-- src/peeling.rt:77:5
 loop-holds : tie.Need-loop-holds Inv-loop μ-loop
 loop-holds c = search needs
 
--- src/peeling.rt:84:12
+-- src/peeling.rt:78:12
 throw-out-requires : tie.Need-throw-out-requires Inv-loop μ-loop
 throw-out-requires c κs = search needs
 
--- src/peeling.rt:85:13
+-- src/peeling.rt:79:13
 same-length : tie.Need-same-length Inv-loop μ-loop
 same-length c = search needs
 
--- src/peeling.rt:85:13
-same-length-2 : tie.Need-same-length-2 Inv-loop μ-loop
-same-length-2 c = search needs
-
--- src/peeling.rt:85:13
+-- src/peeling.rt:79:13
 returns : tie.Need-returns Inv-loop μ-loop
 returns c = search needs
 
--- src/peeling.rt:87:9
+-- src/peeling.rt:81:9
 add-turn : tie.Need-add-turn Inv-loop μ-loop
 add-turn c = search needs
 
--- src/peeling.rt:83:5
+-- src/peeling.rt:77:5
 loop-less : tie.Need-loop-less Inv-loop μ-loop
 loop-less c = search needs
 
--- src/peeling.rt:83:5
+-- src/peeling.rt:77:5
 loop-again : tie.Need-loop-again Inv-loop μ-loop
 loop-again c = search needs
 
--- src/peeling.rt:81:1
-same-length-3 : tie.Need-same-length-3 Inv-loop μ-loop
-same-length-3 c = search needs
+-- src/peeling.rt:75:1
+same-length-2 : tie.Need-same-length-2 Inv-loop μ-loop
+same-length-2 c = search needs
 
--- src/peeling.rt:81:1
-same-length-4 : tie.Need-same-length-4 Inv-loop μ-loop
-same-length-4 c = search needs
-
--- src/peeling.rt:81:1
+-- src/peeling.rt:75:1
 returns-2 : tie.Need-returns-2 Inv-loop μ-loop
 returns-2 c = search needs
 
@@ -67,11 +60,9 @@ peel-level-spec =
     loop-holds
     throw-out-requires
     same-length
-    same-length-2
     returns
     add-turn
     loop-less
     loop-again
-    same-length-3
-    same-length-4
+    same-length-2
     returns-2)

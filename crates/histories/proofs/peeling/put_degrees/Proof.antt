@@ -1,3 +1,4 @@
+-- `peeling::put_degrees` is safe and ends: every table keeps its length, and the measure is how many turns are left.
 use Prim.Native.Nat.{_-_}
 use borrow.Author.Needs.{needs}
 use lib.ListN.{length}
@@ -6,28 +7,28 @@ use Rattle.histories.proofs.peeling.put_degrees.Statement.{statement}
 use Rattle.histories.proofs.peeling.put_degrees.Tie as tie
 use Rattle.histories.proofs.peeling.put_degrees.Reads as reads
 use Rattle.histories.proofs.peeling.put_degrees.Lts as lts
-use Rattle.histories.proofs.cells.put16.Reads as put16-reads
+use Rattle.histories.proofs.model.put.Reads as put-reads
 use Rattle.histories.proofs.peeling.degree.Reads as degree-reads
 
 abbrev Inv-loop : tie.InvT-loop
-Inv-loop table n left₀ v₀ left v = length left ≡ length left₀
+Inv-loop model₀ n v₀ model v = length model ≡ length model₀
 
 abbrev μ-loop : tie.MeasureT-loop
-μ-loop table n left₀ v₀ left v = n - v
+μ-loop model₀ n v₀ model v = n - v
 
 -- src/peeling.rt:24:5
 loop-holds : tie.Need-loop-holds Inv-loop μ-loop
 loop-holds c = search needs
 
--- src/peeling.rt:25:31
+-- src/peeling.rt:25:13
 degree-requires : tie.Need-degree-requires Inv-loop μ-loop
 degree-requires c κs = search needs
 
--- src/peeling.rt:25:9
-put16-requires : tie.Need-put16-requires Inv-loop μ-loop
-put16-requires c κs = search needs
-
 -- src/peeling.rt:26:9
+put-requires : tie.Need-put-requires Inv-loop μ-loop
+put-requires c κs = search needs
+
+-- src/peeling.rt:27:9
 add-v : tie.Need-add-v Inv-loop μ-loop
 add-v c = search needs
 
@@ -55,7 +56,7 @@ put-degrees-spec =
     μ-loop
     loop-holds
     degree-requires
-    put16-requires
+    put-requires
     add-v
     loop-less
     loop-again

@@ -1,47 +1,48 @@
+-- `same::row` is safe and ends: the measure is how many turns are left.
 use Prim.Native.Nat.{_-_}
 use borrow.Author.Needs.{needs}
 use Rattle.histories.proofs.same.row.Statement.{statement}
 use Rattle.histories.proofs.same.row.Tie as tie
 use Rattle.histories.proofs.same.row.Reads as reads
 use Rattle.histories.proofs.same.row.Lts as lts
-use Rattle.histories.proofs.cells.near.Reads as near-reads
+use Rattle.histories.proofs.model.near.Reads as near-reads
 use Rattle.histories.proofs.own_check.bit.Reads as bit-reads
 
 abbrev Inv-loop : tie.InvT-loop
-Inv-loop links table a b₀ b = Unit
+Inv-loop links model a b₀ b = Unit
 
 abbrev μ-loop : tie.MeasureT-loop
-μ-loop links table a b₀ b = 512 - b
+μ-loop links model a b₀ b = 512 - b
 
--- src/same.rt:38:5
+-- src/same.rt:33:5
 loop-holds : tie.Need-loop-holds Inv-loop μ-loop
 loop-holds c = search needs
 
--- src/same.rt:39:12
+-- src/same.rt:34:12
 bit-requires : tie.Need-bit-requires Inv-loop μ-loop
 bit-requires c κs = search needs
 
--- src/same.rt:39:43
+-- src/same.rt:34:43
 near-requires : tie.Need-near-requires Inv-loop μ-loop
 near-requires c κs = search needs
 
--- src/same.rt:40:13
+-- src/same.rt:35:13
 returns : tie.Need-returns Inv-loop μ-loop
 returns c = search needs
 
--- src/same.rt:42:9
+-- src/same.rt:37:9
 add-b : tie.Need-add-b Inv-loop μ-loop
 add-b c = search needs
 
--- src/same.rt:38:5
+-- src/same.rt:33:5
 loop-less : tie.Need-loop-less Inv-loop μ-loop
 loop-less c = search needs
 
--- src/same.rt:38:5
+-- src/same.rt:33:5
 loop-again : tie.Need-loop-again Inv-loop μ-loop
 loop-again c = search needs
 
--- src/same.rt:36:1
+-- src/same.rt:31:1
 returns-2 : tie.Need-returns-2 Inv-loop μ-loop
 returns-2 c = search needs
 
