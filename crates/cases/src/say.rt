@@ -29,12 +29,20 @@ pub fn pair(text: &[u8], x: u32, y: u32) {
     end_line();
 }
 
+fn field8(x: u8) {
+    field(x as u32);
+}
+
+fn field16(x: u16) {
+    field(x as u32);
+}
+
 // All numbers of a table.
 pub fn numbers(text: &[u8], s: &[u8]) {
     word(text);
     let mut i: usize = 0;
     while i < s.len() {
-        field(s[i] as u32);
+        field8(s[i]);
         i += 1;
     }
     end_line();
@@ -45,7 +53,7 @@ pub fn radios(text: &[u8], s: &[u16]) {
     word(text);
     let mut i: usize = 0;
     while i < s.len() {
-        field(s[i] as u32);
+        field16(s[i]);
         i += 1;
     }
     end_line();

@@ -70,7 +70,7 @@ fn end_of(shape: u32, n: u32, a: u32) -> u32 {
     }
     if shape == LINE {
         if a < before(n) {
-            return a + 2;
+            return std::num::wrapping_add_u32(a, 2);
         }
     }
     n
