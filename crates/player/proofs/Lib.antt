@@ -1,2 +1,6 @@
 -- Laws of the definitions in specs/.
 pub mod PlayLaws
+pub mod MachineLaws
+pub mod ByteLaws
+pub mod BytesLaws
+pub mod LineLaws
