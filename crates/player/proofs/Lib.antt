@@ -3,4 +3,6 @@ pub mod PlayLaws
 pub mod MachineLaws
 pub mod ByteLaws
 pub mod BytesLaws
+pub mod SplitLaws
+pub mod WholeLaws
 pub mod LineLaws

@@ -27,7 +27,7 @@ next-number-more k h = rw (ne-eqb k 18446744073709551615 h)
 -- ---- one byte
 
 -- the three tests, as the code decides them
-step-as : {l f e x y z : Bool} (n b : ℕ) (p : Spot) (text : List ℕ) (q : Spot) → l ≡ x → f ≡ y → e ≡ z → Step x y z n b p text q
+pub step-as : {l f e x y z : Bool} (n b : ℕ) (p : Spot) (text : List ℕ) (q : Spot) → l ≡ x → f ≡ y → e ≡ z → Step x y z n b p text q
     → Step l f e n b p text q
 step-as n b p text q live full feed s = rw (live, full, feed) s
 

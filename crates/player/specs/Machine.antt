@@ -5,6 +5,7 @@
 --   Stop-put           `bad L` is put, as the code does it
 --   Stopped, Held-on, Line-taken, Ignored   the four things that a byte can do
 --   Takes m n byte p text q      a byte takes the spot p to q and prints the text; a line has room for m bytes
+--   line-room          the bytes that a line has room for
 --   full               how many bytes wait when the printing buffer is to be written
 --   Takes-all m n bytes p text q the same for bytes in turn
 --   ending p           what is printed at the end of the input
@@ -91,6 +92,10 @@ Step true false false n b p text q = Held-on b p text q
 Step true false true n b p text q =
     let line = p .held ++ (line-feed ∷ []) in
     Line-ends (is-call (line-of line)) n line p text q
+
+-- the longest line of the language, `down 65535 65535` and its line feed: the code's room for a line
+abbrev pub line-room : ℕ
+line-room = 17
 
 -- a byte of the input; a line has room for m bytes, and a longer one is of another form
 unfoldable pub Takes : (m n byte : ℕ) → Spot → (text : List ℕ) → Spot → Type 0

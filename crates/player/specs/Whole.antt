@@ -2,6 +2,7 @@
 --   lines-of input     the lines, each with its line feed; the last may have none
 --   front input, rest input   the first line, and what follows it
 --   Lines-print n ls   what the lines after the first print, with the closing lines or `bad L`
+--   start n            where the run stands after the first line
 --   Run-prints input   what a whole run prints
 -- That the bytes taken one by one print exactly this is proved in proofs/WholeLaws.antt. Definitions only.
 use mathlib.Core.Path.{_≡_}
@@ -16,7 +17,7 @@ use Rattle.mesh.specs.Tables.{Tables, tables}
 use Rattle.calls.specs.Replay.{line-feed, bad-line, closing-lines}
 use Rattle.script.specs.Lines.{line-of}
 use Rattle.player.specs.Lines.{is-call, Played}
-use Rattle.player.specs.Machine.{next-number}
+use Rattle.player.specs.Machine.{Spot, next-number}
 use Rattle.player.specs.Play.{radios-of}
 
 -- ---- lines
@@ -71,6 +72,10 @@ Lines-print n (l ∷ ls) k t w text =
 -- a cleared site
 unfoldable pub cleared : (n : ℕ) → Tables
 cleared n = tables (replicate (row-bytes * n) 0) (replicate n 0) (range 0 n)
+
+-- where the run stands after a first line that names n radios
+unfoldable pub start : (n : ℕ) → Spot
+start n = record { tables = cleared n; answer = replicate n 0; number = 2; held = []; live = true }
 
 -- after a first line that names n radios, 0 where it is missing or of another form
 unfoldable pub Run-from : (n : ℕ) → (after : List ℕ) → (text : List ℕ) → Type 0
