@@ -7,6 +7,7 @@
 --   Takes m n byte p text q      a byte takes the spot p to q and prints the text; a line has room for m bytes
 --   line-room          the bytes that a line has room for
 --   full               how many bytes wait when the printing buffer is to be written
+--   longest            the longest text that a byte can print
 --   Takes-all m n bytes p text q the same for bytes in turn
 --   ending p           what is printed at the end of the input
 -- What bytes and ending together print is said by lines in `Whole`. Definitions only.
@@ -106,6 +107,10 @@ Takes m n b p text q = Step (p .live) (leb m (length (p .held))) (eqb b line-fee
 -- with this many bytes waiting in it the printing buffer is full: it is written before another byte is taken
 abbrev pub full : ℕ
 full = 4096
+
+-- the most bytes that one byte of the input can print: the line of a call that changes all of 512 radios
+abbrev pub longest : ℕ
+longest = 3080
 
 -- first one byte, then others of which R holds
 pub record In-turn (m n byte : ℕ) (p : Spot) (text : List ℕ) (R : Spot → List ℕ → Type 0) : Type 0 where
