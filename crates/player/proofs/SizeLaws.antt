@@ -1,12 +1,15 @@
 -- How much a byte of the input prints at most, and that the printing buffer has room for it: nothing is lost.
 use mathlib.Core.Path.{_≡_, refl, sym, ap, subst, _∙_}
-use mathlib.Core.Logic.{inl, inr}
+use mathlib.Core.Logic.{_⊎_, inl, inr}
 use mathlib.Core.Bool.{Bool, true, false, cond}
 use mathlib.Core.List.{List, [], _∷_, _++_, map}
 use Prim.Native.Nat.{ℕ, zero, suc, _+_, _*_, _^_, _≤_, _<_, min}
 use native.Mathlib.Omega.{arith}
 use lib.IntN.{ℤ, pos, negsuc, natAbs}
-use lib.ListN.{length, take, drop}
+use lib.Dec.{eqb}
+use lib.ListN.{length, take, drop, length-append}
+use borrow.Author.Tests.{eqb-false}
+use Rattle.mesh.proofs.BoolLaws.{bool-cases, trichotomy}
 use Rattle.mesh.specs.Limits.{max-radios, max-neighbours}
 use Rattle.mesh.specs.Lists.{range, filter, overwrite}
 use Rattle.mesh.specs.Graph.{Graph, radios}
@@ -14,7 +17,7 @@ use Rattle.mesh.specs.Levels.{changed, step-of}
 use Rattle.mesh.specs.Sound.{sound}
 use Rattle.mesh.specs.Tables.{Tables, graph-in}
 use Rattle.mesh.proofs.ListLaws.{In, in-filter, length-filter, count-le-length, length-range, range-in, take-overwrite}
-use Rattle.calls.specs.Replay.{bytes-of, decimal, link-line, bad-line, printed-line}
+use Rattle.calls.specs.Replay.{bytes-of, decimal, link-line, bad-line, printed-line, numbers-line, order-line, closing-lines}
 use Rattle.calls.specs.Questions.{ask, By-number, Lengths, lengths-of, answer-length, link-refusal, site-refusal, lent-refusal, ends-refusal}
 use Rattle.calls.specs.Writes.{Link-accepted, Link-refused, Link-contract}
 use Rattle.calls.specs.declared.Reply.{Reply}
@@ -26,7 +29,8 @@ use Rattle.script.specs.declared.lines.Line.the-variants.{Radios, Up, Down, Bad
 use Rattle.script.proofs.LengthLaws.{length-line-le, length-link-line-le}
 use Rattle.script.proofs.PrintLaws.{at-put, puts-whole}
 use Rattle.player.specs.Lines.{is-call, Called, Passed-over, Played, Prints}
-use Rattle.player.specs.Machine.{Spot, next-number, Stopped, Held-on, Line-taken, Line-ends, Ignored, Step, Takes, full, longest}
+use Rattle.player.specs.declared.machine.Progress.{Progress}
+use Rattle.player.specs.Machine.{Spot, spot, next-number, Stopped, Held-on, Line-taken, Line-ends, Ignored, Step, Takes, full, longest, closing}
 
 -- ---- the reply of a call
 
@@ -146,3 +150,57 @@ byte-fits m n b p q out after at next k h room most w =
     let long = takes-length m n b p (w .text) q k (w .holds) in
     let place : next ≡ min (at + length (w .text)) max-place = ap (λ (c : Buffer). c .at) (w .puts .is) ∙ at-put (lent out at) (w .text) (omega arith) in
     puts-whole (w .puts) (omega arith) most (omega (arith, long, place))
+
+-- ---- the loop of `machine::take_bytes`
+
+next-number-le : (k : ℕ) → k ≤ max-place → next-number k ≤ max-place
+unfolding next-number
+next-number-le k h = go (bool-cases (eqb k 18446744073709551615))
+  where
+    go : (eqb k 18446744073709551615 ≡ true) ⊎ (eqb k 18446744073709551615 ≡ false) → cond (eqb k 18446744073709551615) k (k + 1) ≤ max-place
+    go (inl e) = rw e h
+    go (inr e) = rw e (below (trichotomy k 18446744073709551615) (eqb-false k 18446744073709551615 e))
+      where
+        below : (k < 18446744073709551615) ⊎ ((k ≡ 18446744073709551615) ⊎ (18446744073709551615 < k)) → (k ≡ 18446744073709551615 → ⊥) → k + 1 ≤ max-place
+        below (inl l) f = omega arith
+        below (inr (inl d)) f = absurd (f d)
+        below (inr (inr l)) f = absurd (omega arith)
+
+ends-number : (c : Bool) (n : ℕ) (line : List ℕ) (p : Spot) (text : List ℕ) (q : Spot) → p .number ≤ max-place → Line-ends c n line p text q
+    → q .number ≤ max-place
+unfolding Line-ends
+ends-number true n line p text q k h = omega (arith, h .number, next-number-le (p .number) k)
+ends-number false n line p text q k h = omega (arith, h .number)
+
+step-number : (live full feed : Bool) (n b : ℕ) (p : Spot) (text : List ℕ) (q : Spot) → p .number ≤ max-place → Step live full feed n b p text q
+    → q .number ≤ max-place
+unfolding Step
+step-number false full feed n b p text q k h = omega (arith, ap (λ (s : Spot). s .number) (h .same))
+step-number true true feed n b p text q k h = omega (arith, h .number)
+step-number true false false n b p text q k h = omega (arith, h .number)
+step-number true false true n b p text q k h = ends-number _ n _ p text q k h
+
+-- a byte taken while the buffer is not full leaves at most this many waiting
+pub byte-room : (m n b : ℕ) (s r : Progress) (t v : Tables) (w x line rest out after : List ℕ) → s .number ≤ max-place → s .at < full
+    → Prints (λ text. Takes m n b (spot t w line s) text (spot v x rest r)) (lent out (s .at)) (lent after (r .at))
+    → (r .number ≤ max-place) × (r .at < full + longest)
+unfolding spot Takes
+byte-room m n b s r t v w x line rest out after k h p =
+    let long = takes-length m n b (spot t w line s) (p .text) (spot v x rest r) k (p .holds) in
+    let place : r .at ≡ min (s .at + length (p .text)) max-place = ap (λ (c : Buffer). c .at) (p .puts .is) ∙ at-put (lent out (s .at)) (p .text) (omega arith) in
+    (step-number _ _ _ n b (spot t w line s) (p .text) (spot v x rest r) k (p .holds), omega (arith, long, place))
+
+-- ---- the closing lines
+
+-- numbers of eight bits and radios of sixteen, of at most 512 radios: both lines, or `bad L`
+pub closing-length : (h ns xs : List ℕ) (k : ℕ) → k ≤ max-place → length ns ≤ max-radios → length xs ≤ max-radios
+    → ((x : ℕ) → In x ns → x < 1000) → ((x : ℕ) → In x xs → x < 100000) → length (closing h ns xs k) ≤ 5134
+unfolding closing closing-lines numbers-line order-line
+closing-length [] ns xs k small f g a b =
+    omega (
+      arith,
+      length-append (printed-line (bytes-of "numbers") (map decimal ns)) (printed-line (bytes-of "order") (map decimal xs)),
+      length-line-le (bytes-of "numbers") 2 ns a,
+      length-line-le (bytes-of "order") 4 xs b,
+    )
+closing-length (y ∷ ys) ns xs k small f g a b = omega (arith, bad-length k small)

@@ -2,13 +2,13 @@
 // Nothing is read or written here.
 ghost use mathlib.Core.Path.{_≡_};
 ghost use mathlib.Core.Bool.{true};
-ghost use Prim.Native.Nat.{_≤_, _<_, _-_};
+ghost use Prim.Native.Nat.{_≤_, _<_, _+_, _-_};
 ghost use lib.ListN.{length, take, drop};
 ghost use Rattle.mesh.specs.Tables.{tables};
 ghost use Rattle.calls.specs.Replay.{bad-line};
-ghost use Rattle.script.specs.Print.{lent, Puts};
+ghost use Rattle.script.specs.Print.{lent, Puts, max-place};
 ghost use Rattle.player.specs.Lines.{Prints};
-ghost use Rattle.player.specs.Machine.{spot, next-number, Stop-put, Takes, Takes-all, closing, full};
+ghost use Rattle.player.specs.Machine.{spot, next-number, Stop-put, Takes, Takes-all, closing, full, longest};
 use super::play;
 
 // How full the printing buffer may be before another line is put into it.
@@ -107,6 +107,7 @@ pub fn take_bytes(
     out: &mut [u8],
 ) -> Taken
     ensures taken { λ r. ⌜ Prints (λ text. Takes-all (length (now (line .entry))) n (take (r .next - from) (drop from (now (chunk .entry)))) (spot (tables (now (links .entry)) (now (numbers .entry)) (now (order .entry))) (now (answer .entry)) (now (line .entry)) s) text (spot (tables (now (links .exit)) (now (numbers .exit)) (now (order .exit))) (now (answer .exit)) (now (line .exit)) (r .progress))) (lent (now (out .entry)) (s .at)) (lent (now (out .exit)) (r .progress .at)) ⌝ }
+    ensures room { λ r. ⌜ (s .number ≤ max-place → s .at < full → r .progress .at < full + longest) ⌝ }
     ensures moves { λ r. ⌜ (s .live ≡ true → s .at < full → from < length (now (chunk .entry)) → from < r .next) ⌝ }
     ensures whole { λ r. ⌜ (r .progress .live ≡ true → r .progress .at < full → length (now (chunk .entry)) ≤ r .next) ⌝ }
 {

@@ -2,13 +2,14 @@
 use mathlib.Core.Path.{_≡_, refl, sym, _∙_}
 use mathlib.Core.Bool.{true≢false}
 use borrow.Author.Tests.{not-true, not-false}
-use Prim.Native.Nat.{_-_}
+use Prim.Native.Nat.{_+_, _-_, _≤_, _<_}
 use native.Mathlib.Omega.{arith}
 use borrow.Author.Needs.{needs}
 use lib.ListN.{length}
 use Rattle.mesh.specs.Tables.{tables}
-use Rattle.script.specs.Print.{lent}
-use Rattle.player.specs.Machine.{spot}
+use Rattle.script.specs.Print.{lent, max-place}
+use Rattle.player.specs.Machine.{spot, full, longest}
+use Rattle.player.proofs.SizeLaws.{byte-room}
 use Rattle.player.proofs.BytesLaws.{Taking, taking-none, taking-more, moved}
 use Rattle.player.proofs.machine.take_bytes.Statement.{statement}
 use Rattle.player.proofs.machine.take_bytes.Tie as tie
@@ -23,6 +24,7 @@ Inv-loop chunk from n line₀ links₀ numbers₀ order₀ answer₀ out₀ s₀
     × Taking (length line₀) n chunk from i (spot (tables links₀ numbers₀ order₀) answer₀ line₀ s₀) (spot (tables links numbers order) answer line s)
     (lent out₀ (s₀ .at)) (lent out (s .at))
     × (i ≡ from → (s .live ≡ s₀ .live) × (s .at ≡ s₀ .at))
+    × (s₀ .number ≤ max-place → s₀ .at < full → (s .number ≤ max-place) × (s .at < full + longest))
 
 abbrev μ-loop : tie.MeasureT-loop
 μ-loop chunk from n line₀ links₀ numbers₀ order₀ answer₀ out₀ s₀ i₀ line links numbers order answer out s i =
@@ -30,7 +32,7 @@ abbrev μ-loop : tie.MeasureT-loop
 
 -- src/machine.rt:113:5
 loop-holds : tie.Need-loop-holds Inv-loop μ-loop
-loop-holds c = (refl, refl, refl, refl, refl, refl, taking-none _ _ _ _ _ _, λ e. (refl, refl))
+loop-holds c = (refl, refl, refl, refl, refl, refl, taking-none _ _ _ _ _ _, λ e. (refl, refl), λ k a. (k, omega arith))
 
 -- src/machine.rt:120:20
 shared-slice-read-byte : tie.Need-shared-slice-read-byte Inv-loop μ-loop
@@ -65,6 +67,7 @@ loop-again c =
       search needs,
       taking-more _ _ _ _ _ _ _ _ _ _ _ _ _ (read .before .before .before .before .before .loop-test .taken) refl (inv .0) (inv .6) (taken .take-byte .ensures),
       λ e. absurd (omega (arith, inv .6 .low, e)),
+      λ k a. byte-room _ _ _ _ _ _ _ _ _ _ _ _ _ (inv .8 k a .0) (omega (arith, read .before .if2 .left)) (taken .take-byte .ensures),
     )
 
 -- src/machine.rt:97:1
@@ -93,7 +96,9 @@ same-length-6 c = search needs
 
 -- src/machine.rt:97:1
 returns : tie.Need-returns Inv-loop μ-loop
-returns c = (c .before .loop .inv .6 .is, ((λ l a h. omega (arith, c .loop-test .left)), λ l h. c .loop-test .left))
+returns c =
+    let inv = c .before .loop .inv in
+    (inv .6 .is, ((λ k a. inv .8 k a .1), ((λ l a h. omega (arith, c .loop-test .left)), λ l h. c .loop-test .left)))
 
 -- src/machine.rt:97:1
 same-length-7 : tie.Need-same-length-7 Inv-loop μ-loop
@@ -124,7 +129,7 @@ returns-2 : tie.Need-returns-2 Inv-loop μ-loop
 returns-2 c =
     let inv = c .before .before .before .loop .inv in
     let dead = not-true (c .before .before .before .loop .s .live) (c .if1 .taken) in
-    (inv .6 .is, ((λ l a h. moved (inv .6 .low) (λ e. true≢false (sym l ∙ sym (inv .7 e .0) ∙ dead))), λ l h. absurd (true≢false (sym l ∙ dead))))
+    (inv .6 .is, ((λ k a. inv .8 k a .1), ((λ l a h. moved (inv .6 .low) (λ e. true≢false (sym l ∙ sym (inv .7 e .0) ∙ dead))), λ l h. absurd (true≢false (sym l ∙ dead)))))
 
 -- src/machine.rt:97:1
 same-length-13 : tie.Need-same-length-13 Inv-loop μ-loop
@@ -154,7 +159,7 @@ same-length-18 c = search needs
 returns-3 : tie.Need-returns-3 Inv-loop μ-loop
 returns-3 c =
     let inv = c .before .before .before .before .before .loop .inv in
-    (inv .6 .is, ((λ l a h. moved (inv .6 .low) (λ e. omega (arith, c .if2 .taken, inv .7 e .1, a))), λ l h. absurd (omega (arith, c .if2 .taken))))
+    (inv .6 .is, ((λ k a. inv .8 k a .1), ((λ l a h. moved (inv .6 .low) (λ e. omega (arith, c .if2 .taken, inv .7 e .1, a))), λ l h. absurd (omega (arith, c .if2 .taken)))))
 
 pub take-bytes-spec : {M : Type 1} → statement M
 take-bytes-spec =

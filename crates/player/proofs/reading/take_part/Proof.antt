@@ -44,7 +44,7 @@ returns : tie.Need-returns
 returns c =
     let taken = c .before .before .before .before .before .before .before .before .before .before .before .before .before .before .before in
     let start = taken .before .before .before .before .before .before .before .before .before .before .before .before .before .before in
-    (c .make-room .ensures .0, λ l h. taken .take-bytes .ensures .1 .0 l (start .pre) h)
+    (c .make-room .ensures .0, λ l h. taken .take-bytes .ensures .1 .1 .0 l (start .pre) h)
 
 pub take-part-spec : {M : Type 1} → statement M
 take-part-spec =
