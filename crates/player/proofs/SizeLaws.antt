@@ -30,7 +30,7 @@ use Rattle.script.proofs.LengthLaws.{length-line-le, length-link-line-le}
 use Rattle.script.proofs.PrintLaws.{at-put, puts-whole}
 use Rattle.player.specs.Lines.{is-call, Called, Passed-over, Played, Prints}
 use Rattle.player.specs.declared.machine.Progress.{Progress}
-use Rattle.player.specs.Machine.{Spot, spot, next-number, Stopped, Held-on, Line-taken, Line-ends, Ignored, Step, Takes, full, longest, closing}
+use Rattle.player.specs.Machine.{Spot, spot, next-number, Stopped, Held-on, Line-taken, Line-ends, Ignored, Step, Takes, full, longest, closing-longest, closing}
 
 -- ---- the reply of a call
 
@@ -194,7 +194,7 @@ byte-room m n b s r t v w x line rest out after k h p =
 
 -- numbers of eight bits and radios of sixteen, of at most 512 radios: both lines, or `bad L`
 pub closing-length : (h ns xs : List ℕ) (k : ℕ) → k ≤ max-place → length ns ≤ max-radios → length xs ≤ max-radios
-    → ((x : ℕ) → In x ns → x < 1000) → ((x : ℕ) → In x xs → x < 100000) → length (closing h ns xs k) ≤ 5134
+    → ((x : ℕ) → In x ns → x < 1000) → ((x : ℕ) → In x xs → x < 100000) → length (closing h ns xs k) ≤ closing-longest
 unfolding closing closing-lines numbers-line order-line
 closing-length [] ns xs k small f g a b =
     omega (

@@ -7,7 +7,7 @@
 --   Takes m n byte p text q      a byte takes the spot p to q and prints the text; a line has room for m bytes
 --   line-room          the bytes that a line has room for
 --   full               how many bytes wait when the printing buffer is to be written
---   longest            the longest text that a byte can print
+--   longest, closing-longest   the longest text that a byte can print, and that the end of the input can
 --   Takes-all m n bytes p text q the same for bytes in turn
 --   ending p           what is printed at the end of the input
 -- What bytes and ending together print is said by lines in `Whole`. Definitions only.
@@ -111,6 +111,10 @@ full = 4096
 -- the most bytes that one byte of the input can print: the line of a call that changes all of 512 radios
 abbrev pub longest : ℕ
 longest = 3080
+
+-- the most bytes that the end of the input can print: both closing lines of 512 radios
+abbrev pub closing-longest : ℕ
+closing-longest = 5134
 
 -- first one byte, then others of which R holds
 pub record In-turn (m n byte : ℕ) (p : Spot) (text : List ℕ) (R : Spot → List ℕ → Type 0) : Type 0 where

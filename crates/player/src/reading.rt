@@ -1,9 +1,9 @@
 // The lines after the first: read by chunks, taken, and written through a buffer.
 ghost use mathlib.Core.Path.{_≡_};
 ghost use mathlib.Core.Bool.{true, false};
-ghost use Prim.Native.Nat.{_<_};
+ghost use Prim.Native.Nat.{_+_, _<_, _≤_};
 ghost use lib.ListN.{length};
-ghost use Rattle.player.specs.Machine.{full};
+ghost use Rattle.player.specs.Machine.{line-room, full, closing-longest};
 use super::machine;
 use super::machine::Progress;
 use super::machine::Taken;
@@ -12,7 +12,7 @@ use libc::STDOUT_FILENO;
 // The longest line of the language: `down 65535 65535` and its line feed.
 const LINE_BYTES: usize = 17;
 
-// The printing buffer: room for a line after it counts as full, and for the closing lines.
+// The printing buffer: once it is full, a line more or the closing lines still fit.
 const OUT_BYTES: usize = 16384;
 
 // Writes what waits in the printing buffer.
@@ -143,7 +143,8 @@ fn turn(
     )
 }
 
-// Reads to the end of the input. The loop counts its turns down, from a number that no run uses up.
+// Reads to the end of the input. A line has its room, and a full printing buffer has room for the longest text. The loop counts
+// its turns down, from a number that no run uses up.
 fn read_turns(
     fd: i32,
     n: u32,
@@ -153,7 +154,10 @@ fn read_turns(
     order: &mut [u16],
     answer: &mut [u16],
     out: &mut [u8],
-) -> usize {
+) -> usize
+    requires line { ⌜ length (now line) ≡ line-room ⌝ }
+    requires out { ⌜ full + closing-longest ≤ length (now out) ⌝ }
+{
     let mut s = Progress {
         number: 2,
         held: 0,
