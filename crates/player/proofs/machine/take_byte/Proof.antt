@@ -98,10 +98,10 @@ returns-3 : tie.Need-returns-3
 returns-3 c =
     let tested = c .before .before .before .before in
     let played = tested .before .before .before .before .before .before .before .before .before .before .before .before in
-    let fed = played .before .before .before .before .before .before .before in
-    let start = fed .before .before .before .before .before .before .before .before in
+    let ended = played .before .before .before .before .before .before .before in
+    let start = ended .before .before .before .before .before .before .before .before in
     let call = start .args in
-    byte-bad (call .n) (call .byte) (call .s) (c .before .before .stopped2 .result) (tables (call .links .now) (call .numbers .now) (call .order .now)) _ (call .answer .now) _ (call .line .now) (start .pre) (fed .before .if1 .left) (fed .if2 .left) (sym (played .play-line .ensures .0) ∙ not-true (played .play-line .result .ok) (tested .if3 .taken)) (played .play-line .ensures .1) (c .before .before .stopped2 .ensures)
+    byte-bad (call .n) (call .byte) (call .s) (c .before .before .stopped2 .result) (tables (call .links .now) (call .numbers .now) (call .order .now)) _ (call .answer .now) _ (call .line .now) (start .pre) (ended .before .if1 .left) (ended .if2 .left) (sym (played .play-line .ensures .0) ∙ not-true (played .play-line .result .ok) (tested .if3 .taken)) (played .play-line .ensures .1) (c .before .before .stopped2 .ensures)
 
 -- src/machine.rt:83:17
 next-number-requires : tie.Need-next-number-requires
@@ -136,11 +136,11 @@ returns-4 : tie.Need-returns-4
 returns-4 c =
     let tested = c .before in
     let played = tested .before .before .before .before .before .before .before .before .before .before .before .before in
-    let fed = played .before .before .before .before .before .before .before in
-    let start = fed .before .before .before .before .before .before .before .before in
+    let ended = played .before .before .before .before .before .before .before in
+    let start = ended .before .before .before .before .before .before .before .before in
     let call = start .args in
     let after : Progress = record { number = c .next-number .result; held = 0; at = played .play-line .result .at; live = true } in
-    byte-call (call .n) (call .byte) (call .s) after (tables (call .links .now) (call .numbers .now) (call .order .now)) _ (call .answer .now) _ (call .line .now) (start .pre) (fed .before .if1 .left) (fed .if2 .left) (sym (played .play-line .ensures .0) ∙ not-false (played .play-line .result .ok) (tested .if3 .left)) (played .play-line .ensures .1) (c .next-number .ensures) refl refl
+    byte-call (call .n) (call .byte) (call .s) after (tables (call .links .now) (call .numbers .now) (call .order .now)) _ (call .answer .now) _ (call .line .now) (start .pre) (ended .before .if1 .left) (ended .if2 .left) (sym (played .play-line .ensures .0) ∙ not-false (played .play-line .result .ok) (tested .if3 .left)) (played .play-line .ensures .1) (c .next-number .ensures) refl refl
 
 pub take-byte-spec : {M : Type 1} → statement M
 take-byte-spec =
