@@ -1,7 +1,7 @@
 // The engine's calls, on the front of tables that are as long as any call is lent.
 ghost use Prim.Native.Nat.{_≤_};
-use super::expected::Call;
 use calls::Reply;
+use peeling::expected::Call;
 
 fn least(x: usize, y: usize) -> usize
     ensures { λ r. ⌜ (r ≤ x) × (r ≤ y) ⌝ }

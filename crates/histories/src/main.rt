@@ -1,21 +1,15 @@
-// Pseudo-random link histories, played on the engine and on a separate peeling program that shares no code with it: after every
-// call the refusal number, the step, the count, every entry of the lent tables and the verdict on soundness are compared. Some
-// calls are refused on purpose, some are put to spoiled tables. Prints for each history how many calls got which answer, and how
-// many differ. What is printed is worked out by oracle/walks.py.
-mod cells;
+// Pseudo-random link histories, played on the engine and on the separate peeling of crate `peeling`: after every call the refusal
+// number, the step, the count, every entry of the lent tables and the verdict on soundness are compared. Some calls are refused on
+// purpose, some are put to spoiled tables. Prints for each history how many calls got which answer, and how many differ. What is
+// printed is worked out by oracle/walks.py.
 mod engine;
-mod expected;
-mod layout;
-mod model;
-mod own_check;
-mod peeling;
 mod picking;
 mod play;
 mod random;
-mod same;
 mod trouble;
 
 use libc::STDOUT_FILENO;
+use peeling::cells;
 use picking::Plan;
 
 // Prints a space and a number.

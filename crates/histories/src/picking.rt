@@ -1,7 +1,6 @@
 // The next call of a history: which link, which way, and now and then a call that is to be refused.
-use super::model;
-use super::peeling;
 use super::random;
+use peeling::model;
 
 // A history on n radios: the first m of them are used; a radio with `most` neighbours gets none more, on purpose; `ups` of 16
 // calls go up. Where `pairs` is not 0 but m times m, all links between the m radios go up, each asked both ways, and then down.

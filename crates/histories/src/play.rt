@@ -1,16 +1,16 @@
 // A history, played on the engine and on the expected tables beside it, compared after every call.
-use super::cells;
 use super::engine;
-use super::expected;
-use super::expected::Call;
-use super::expected::Owed;
-use super::model;
-use super::own_check;
 use super::picking;
 use super::picking::Plan;
-use super::same;
 use super::trouble;
 use calls::Reply;
+use peeling::cells;
+use peeling::expected;
+use peeling::expected::Call;
+use peeling::expected::Owed;
+use peeling::model;
+use peeling::own_check;
+use peeling::same;
 
 // What is counted: calls by refusal number (0 to 7), then the changed radios, the calls, and the calls that differ.
 pub const KINDS: usize = 11;

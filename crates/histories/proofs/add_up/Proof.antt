@@ -7,7 +7,6 @@ use Rattle.histories.proofs.add_up.Statement.{statement}
 use Rattle.histories.proofs.add_up.Tie as tie
 use Rattle.histories.proofs.add_up.Reads as reads
 use Rattle.histories.proofs.add_up.Lts as lts
-use Rattle.histories.proofs.cells.count.Reads as count-reads
 
 abbrev Inv-loop : tie.InvT-loop
 Inv-loop counts sums₀ i₀ sums i = length sums ≡ length sums₀
