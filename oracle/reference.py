@@ -7,7 +7,9 @@ looked for among all sets of radios, a tree is made by comparing sets.
 
 from itertools import combinations
 
-RADIOS, NEIGHBOURS, ROOT = 512, 32, 65535
+from questions import NEIGHBOURS, RADIOS, link_refusal
+
+ROOT = 65535
 SMALL = 12  # up to this many radios all sets of radios are looked at
 
 
@@ -132,15 +134,7 @@ class Site:
     # ---- the questions of a link call, in turn
 
     def refusal(self, up, a, b):
-        if not (a < self.n and b < self.n):
-            return 4
-        if a == b:
-            return 5
-        if linked(self.links, a, b) == up:
-            return 6
-        if up and max(self.degree(a), self.degree(b)) >= NEIGHBOURS:
-            return 7
-        return 0
+        return link_refusal(self.n, up, a, b, lambda: linked(self.links, a, b), self.degree)
 
     def degree(self, v):
         return inside(self.links, v, range(self.n))

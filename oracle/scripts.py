@@ -3,104 +3,20 @@
   python3 oracle/scripts.py           write crates/replay_cases/data and crates/replay_cases/stdout
   python3 oracle/scripts.py --check   say whether the stored files are what would be written
 
-Core numbers come by discarding: for k rising, radios with fewer than k
-neighbours left are thrown out until none is. Neighbour counts are kept as
-counters, so that 512 radios are quick. Lines are read by a pattern.
+Lines are read by a pattern; a site is the one of oracle/peeled.py.
 """
 
 import re
 import sys
 from pathlib import Path
 
-RADIOS, NEIGHBOURS, LARGEST = 512, 32, 65535
+from peeled import Site
+from questions import RADIOS
+
+LARGEST = 65535
 CRATE = Path(__file__).resolve().parent.parent / "crates/replay_cases"
 NUMBER = rb"(0|[1-9][0-9]{0,4})"
 LINE = re.compile(rb"(?:radios " + NUMBER + rb"|(up|down) " + NUMBER + rb" " + NUMBER + rb")\n")
-
-
-# ---- a site
-
-class Site:
-    def __init__(self, n):
-        self.n = n
-        self.near = [set() for _ in range(n)]
-        self.numbers, self.order = [0] * n, list(range(n))
-
-    def refusal(self, up, a, b):
-        if not (a < self.n and b < self.n):
-            return 4
-        if a == b:
-            return 5
-        if (b in self.near[a]) == up:
-            return 6
-        if up and max(len(self.near[a]), len(self.near[b])) >= NEIGHBOURS:
-            return 7
-        return 0
-
-    def core_numbers(self):
-        left = [len(near) for near in self.near]
-        numbers, members, k = [0] * self.n, set(range(self.n)), 0
-        while members:
-            poor = [v for v in members if left[v] < k]
-            while poor:
-                v = poor.pop()
-                if v not in members:
-                    continue
-                members.remove(v)
-                numbers[v] = k - 1
-                for u in self.near[v] & members:
-                    left[u] -= 1
-                    if left[u] < k:
-                        poor.append(u)
-            k += 1
-        return numbers
-
-    def lay_out(self, waiting, above, most):
-        """The next is always the first that has at most `most` neighbours
-        among the ones not yet laid out and the radios above."""
-        place = {v: i for i, v in enumerate(waiting)}
-        left = {v: sum(u in place or u in above for u in self.near[v]) for v in waiting}
-        fits = {place[v] for v in waiting if left[v] <= most}
-        laid, gone = [], set()
-        while len(laid) < len(waiting):
-            i = min(fits)
-            fits.remove(i)
-            v = waiting[i]
-            laid.append(v)
-            gone.add(v)
-            for u in self.near[v]:
-                if u in place and u not in gone:
-                    left[u] -= 1
-                    if left[u] == most:
-                        fits.add(place[u])
-        return laid
-
-    def call(self, up, a, b):
-        """Refusal number, step, changed radios."""
-        number = self.refusal(up, a, b)
-        if number:
-            return number, 0, []
-        before, level = self.numbers, min(self.numbers[a], self.numbers[b])
-        for v, u in ((a, b), (b, a)):
-            if up:
-                self.near[v].add(u)
-            else:
-                self.near[v].remove(u)
-        after = self.core_numbers()
-        changed = [v for v in range(self.n) if before[v] != after[v]]
-        moved = set(changed)
-        old = [v for v in self.order if before[v] == level]
-        gone, rest = [v for v in old if v in moved], [v for v in old if v not in moved]
-        if up:
-            above = {v for v in range(self.n) if after[v] > level}
-            stretch = self.lay_out(rest, above, level) + gone
-        else:
-            still = {v for v in range(self.n) if after[v] >= level}
-            stretch = self.lay_out(gone, still, level - 1) + rest
-        self.order = ([v for v in self.order if before[v] < level] + stretch
-                      + [v for v in self.order if before[v] > level])
-        self.numbers = after
-        return 0, (1 if up else -1) if changed else 0, changed
 
 
 # ---- the program
@@ -188,6 +104,10 @@ SCRIPTS = {
     "radios-alone": b"radios\n",
     "radios-two-numbers": b"radios 4 4\n",
     "radios-very-long": b"radios 4" + b"0" * 5000 + b"\n",
+    "radios-space-at-the-end": b"radios 4 \nup 0 1\n",
+    "radios-space-at-the-front": b" radios 4\nup 0 1\n",
+    "radios-carriage-return": b"radios 4\r\nup 0 1\n",
+    "radios-byte-255": b"radios 4\xff\nup 0 1\n",
     "second-radios": START + b"radios 4\nup 1 2\n",
     "leading-zero": START + b"up 00 1\n",
     "value-65535": START + b"up 65535 65535\ndown 65535 65535\nup 1 2\n",
@@ -207,6 +127,7 @@ SCRIPTS = {
     "very-long-unterminated": START + b"x" * 10000,
     "above-127": START + b"up 1 \xb2\n",
     "zero-byte": START + b"up 1 2\x00\n",
+    "byte-255": START + b"\xff\nup 1 2\n",
 }
 
 FILES = {CRATE / "data" / name: text for name, text in SCRIPTS.items()}

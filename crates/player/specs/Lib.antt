@@ -1,2 +1,6 @@
--- What the contracts of this crate cite: `Play` for the functions that play a line.
+-- What the contracts of this crate cite: `Play` for the first line, `Lines` for what a line does, `Machine` for the bytes after
+-- the first line. `Whole` for readers: what a whole run prints, line by line.
+pub mod Lines
+pub mod Machine
 pub mod Play
+pub mod Whole

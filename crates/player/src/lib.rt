@@ -4,6 +4,7 @@ ghost use Prim.Native.Nat.{_≤_};
 ghost use Rattle.mesh.specs.Limits.{max-radios};
 
 mod first;
+mod machine;
 mod play;
 mod reading;
 

@@ -1,15 +1,20 @@
 // One line after the first, played on the site's tables.
+ghost use mathlib.Core.Path.{_≡_};
+ghost use mathlib.Core.Bool.{true, false};
+ghost use Rattle.mesh.specs.Tables.{tables};
+ghost use Rattle.script.specs.Lines.{line-of};
+ghost use Rattle.script.specs.Print.{lent};
+ghost use Rattle.player.specs.Lines.{is-call, Called, Played, Prints};
 use script::lines::Line;
 
-// Whether the line was one of the language, and the place after what it printed.
-pub struct Played {
+// Whether the line was a link call, and the place after what it printed.
+pub struct Done {
     pub ok: bool,
     pub at: usize,
 }
 
-// Carries out a link call and puts its line.
-fn play_link(
-    up: bool,
+// Takes a link up and puts the call's line.
+fn play_up(
     n: u32,
     a: u32,
     b: u32,
@@ -19,16 +24,32 @@ fn play_link(
     answer: &mut [u16],
     out: &mut [u8],
     at: usize,
-) -> usize {
-    if up {
-        let reply = links::link::link_up(n, a, b, links, numbers, order, answer);
-        return script::print::put_link_line(out, at, reply.number, reply.step, answer, reply.count);
-    }
+) -> usize
+    ensures { λ r. ⌜ Prints (λ text. Called true n a b (tables (now (links .entry)) (now (numbers .entry)) (now (order .entry))) (now (answer .entry)) text (tables (now (links .exit)) (now (numbers .exit)) (now (order .exit))) (now (answer .exit))) (lent (now (out .entry)) at) (lent (now (out .exit)) r) ⌝ }
+{
+    let reply = links::link::link_up(n, a, b, links, numbers, order, answer);
+    script::print::put_link_line(out, at, reply.number, reply.step, answer, reply.count)
+}
+
+// Takes a link down and puts the call's line.
+fn play_down(
+    n: u32,
+    a: u32,
+    b: u32,
+    links: &mut [u8],
+    numbers: &mut [u8],
+    order: &mut [u16],
+    answer: &mut [u16],
+    out: &mut [u8],
+    at: usize,
+) -> usize
+    ensures { λ r. ⌜ Prints (λ text. Called false n a b (tables (now (links .entry)) (now (numbers .entry)) (now (order .entry))) (now (answer .entry)) text (tables (now (links .exit)) (now (numbers .exit)) (now (order .exit))) (now (answer .exit))) (lent (now (out .entry)) at) (lent (now (out .exit)) r) ⌝ }
+{
     let reply = links::link::link_down(n, a, b, links, numbers, order, answer);
     script::print::put_link_line(out, at, reply.number, reply.step, answer, reply.count)
 }
 
-// Plays a line, its line feed included. A line that is no link call changes nothing.
+// Plays a line, its line feed included. A line that is no link call changes nothing and prints nothing.
 pub fn play_line(
     n: u32,
     line: &[u8],
@@ -38,17 +59,20 @@ pub fn play_line(
     answer: &mut [u16],
     out: &mut [u8],
     at: usize,
-) -> Played {
+) -> Done
+    ensures call { λ r. ⌜ r .ok ≡ is-call (line-of (now (line .entry))) ⌝ }
+    ensures played { λ r. ⌜ Prints (λ text. Played n (line-of (now (line .entry))) (tables (now (links .entry)) (now (numbers .entry)) (now (order .entry))) (now (answer .entry)) text (tables (now (links .exit)) (now (numbers .exit)) (now (order .exit))) (now (answer .exit))) (lent (now (out .entry)) at) (lent (now (out .exit)) (r .at)) ⌝ }
+{
     match script::lines::parse(line) {
         Line::Up(a, b) => {
-            let next = play_link(true, n, a, b, links, numbers, order, answer, out, at);
-            Played { ok: true, at: next }
+            let next = play_up(n, a, b, links, numbers, order, answer, out, at);
+            Done { ok: true, at: next }
         }
         Line::Down(a, b) => {
-            let next = play_link(false, n, a, b, links, numbers, order, answer, out, at);
-            Played { ok: true, at: next }
+            let next = play_down(n, a, b, links, numbers, order, answer, out, at);
+            Done { ok: true, at: next }
         }
-        Line::Radios(_) => Played { ok: false, at },
-        Line::Bad => Played { ok: false, at },
+        Line::Radios(_) => Done { ok: false, at },
+        Line::Bad => Done { ok: false, at },
     }
 }

@@ -1,23 +1,19 @@
-// The lines after the first: read by chunks, split at line feeds, played, and printed through a buffer.
-use super::play;
+// The lines after the first: read by chunks, taken, and written through a buffer.
+ghost use mathlib.Core.Path.{_≡_};
+ghost use mathlib.Core.Bool.{true, false};
+ghost use Prim.Native.Nat.{_+_, _<_, _≤_};
+ghost use lib.ListN.{length};
+ghost use Rattle.player.specs.Machine.{line-room, full, closing-longest};
+use super::machine;
+use super::machine::Progress;
+use super::machine::Taken;
 use libc::STDOUT_FILENO;
 
 // The longest line of the language: `down 65535 65535` and its line feed.
 const LINE_BYTES: usize = 17;
 
-// The printing buffer, and how full it may be before another line is put into it: the longest printed line has 3,080 bytes.
-const OUT_BYTES: usize = 8192;
-
-const FULL: usize = 4096;
-
-// Where the run stands: the number of the line being read, how many of its bytes are held, how many bytes of the printing buffer
-// wait to be written, and whether the run goes on.
-pub struct Progress {
-    pub number: u64,
-    pub held: usize,
-    pub at: usize,
-    pub live: bool,
-}
+// The printing buffer: once it is full, a line more or the closing lines still fit.
+const OUT_BYTES: usize = 16384;
 
 // Writes what waits in the printing buffer.
 fn flush(out: &[u8], at: usize) {
@@ -28,38 +24,27 @@ fn flush(out: &[u8], at: usize) {
     io::write_all(STDOUT_FILENO, out);
 }
 
-// The place for the next line, after writing what waits where that is much.
-fn make_room(out: &[u8], at: usize) -> usize {
-    if at < FULL {
-        return at;
+// Writes what waits, where the buffer is full.
+fn make_room(s: Progress, out: &[u8]) -> Progress
+    ensures { λ r. ⌜ (r .at < full) × (r .live ≡ s .live) ⌝ }
+{
+    if s.at < machine::FULL {
+        return s;
     }
-    flush(out, at);
-    0
-}
-
-// The run ends at a line of another form.
-fn stopped(s: Progress, out: &mut [u8]) -> Progress {
-    let at = script::print::put_bad_line(out, s.at, s.number);
+    flush(out, s.at);
     Progress {
         number: s.number,
-        held: 0,
-        at,
-        live: false,
+        held: s.held,
+        at: 0,
+        live: s.live,
     }
 }
 
-// The next line's number; counting stops at the largest.
-fn next_number(number: u64) -> u64 {
-    if number == u64::MAX {
-        return number;
-    }
-    number + 1
-}
-
-// One byte more of the input. A line feed plays the line; a line longer than any of the language is none.
-fn take_byte(
+// Bytes of a chunk from place `from` on, as many as fit the printing buffer, which has room again after.
+fn take_part(
     s: Progress,
-    byte: u8,
+    chunk: &[u8],
+    from: usize,
     n: u32,
     line: &mut [u8],
     links: &mut [u8],
@@ -67,35 +52,23 @@ fn take_byte(
     order: &mut [u16],
     answer: &mut [u16],
     out: &mut [u8],
-) -> Progress {
-    let held = s.held;
-    if line.len() <= held {
-        return stopped(s, out);
-    }
-    line[held] = byte;
-    let len = held + 1;
-    if byte != b'\n' {
-        return Progress {
-            number: s.number,
-            held: len,
-            at: s.at,
-            live: true,
-        };
-    }
-    let played = play::play_line(n, &line[..len], links, numbers, order, answer, out, s.at);
-    if !played.ok {
-        return stopped(s, out);
-    }
-    Progress {
-        number: next_number(s.number),
-        held: 0,
-        at: make_room(out, played.at),
-        live: true,
+) -> Taken
+    requires { ⌜ s .at < full ⌝ }
+    ensures { λ r. ⌜ r .progress .at < full ⌝ }
+    ensures { λ r. ⌜ (s .live ≡ true → from < length (now (chunk .entry)) → from < r .next) ⌝ }
+{
+    let taken = machine::take_bytes(s, chunk, from, n, line, links, numbers, order, answer, out);
+    let next = taken.next;
+    let progress = taken.progress;
+    let roomy = make_room(progress, out);
+    Taken {
+        progress: roomy,
+        next,
     }
 }
 
 // All bytes of a chunk, until the run ends.
-fn take_bytes(
+fn take_chunk(
     s: Progress,
     chunk: &[u8],
     n: u32,
@@ -105,28 +78,29 @@ fn take_bytes(
     order: &mut [u16],
     answer: &mut [u16],
     out: &mut [u8],
-) -> Progress {
+) -> Progress
+    requires { ⌜ s .at < full ⌝ }
+    ensures { λ r. ⌜ r .at < full ⌝ }
+{
     let mut s = s;
-    let mut i = 0;
-    while i < chunk.len() {
+    let mut next: usize = 0;
+    while next < chunk.len() {
         if !s.live {
             break;
         }
-        let byte = chunk[i];
-        i += 1;
-        s = take_byte(s, byte, n, line, links, numbers, order, answer, out);
+        let taken = take_part(s, chunk, next, n, line, links, numbers, order, answer, out);
+        next = taken.next;
+        let progress = taken.progress;
+        s = progress;
     }
     s
 }
 
-// The end of the input: the closing lines, or `bad L` where the last line has no line feed.
-fn finish(s: Progress, numbers: &[u8], order: &[u16], out: &mut [u8]) -> Progress {
-    if s.held != 0 {
-        return stopped(s, out);
-    }
-    let place = script::print::put_numbers_line(out, s.at, numbers);
-    let room = make_room(out, place);
-    let at = script::print::put_order_line(out, room, order);
+// The end of the input.
+fn end(s: Progress, line: &[u8], numbers: &[u8], order: &[u16], out: &mut [u8]) -> Progress
+    ensures { λ r. ⌜ r .live ≡ false ⌝ }
+{
+    let at = machine::finish(s, line, numbers, order, out);
     Progress {
         number: s.number,
         held: 0,
@@ -146,14 +120,17 @@ fn turn(
     order: &mut [u16],
     answer: &mut [u16],
     out: &mut [u8],
-) -> Progress {
+) -> Progress
+    requires { ⌜ s .at < full ⌝ }
+    ensures { λ r. ⌜ (r .live ≡ true → r .at < full) ⌝ }
+{
     let mut chunk = io::buffer();
     let got = libc::read(fd, &mut chunk);
     if got <= 0 {
-        return finish(s, numbers, order, out);
+        return end(s, line, numbers, order, out);
     }
     let count = io::count(got, &chunk);
-    take_bytes(
+    take_chunk(
         s,
         &chunk[..count],
         n,
@@ -166,7 +143,8 @@ fn turn(
     )
 }
 
-// Reads to the end of the input. The loop counts its turns down, from a number that no run uses up.
+// Reads to the end of the input. A line has its room, and a full printing buffer has room for the longest text. The loop counts
+// its turns down, from a number that no run uses up.
 fn read_turns(
     fd: i32,
     n: u32,
@@ -176,7 +154,10 @@ fn read_turns(
     order: &mut [u16],
     answer: &mut [u16],
     out: &mut [u8],
-) -> usize {
+) -> usize
+    requires line { ⌜ length (now line) ≡ line-room ⌝ }
+    requires out { ⌜ full + closing-longest ≤ length (now out) ⌝ }
+{
     let mut s = Progress {
         number: 2,
         held: 0,

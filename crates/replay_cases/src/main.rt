@@ -44,6 +44,10 @@ fn first_lines() {
     case(b"radios-alone");
     case(b"radios-two-numbers");
     case(b"radios-very-long");
+    case(b"radios-space-at-the-end");
+    case(b"radios-space-at-the-front");
+    case(b"radios-carriage-return");
+    case(b"radios-byte-255");
 }
 
 // Later lines of another form.
@@ -67,6 +71,7 @@ fn later_lines() {
     case(b"very-long-unterminated");
     case(b"above-127");
     case(b"zero-byte");
+    case(b"byte-255");
 }
 
 fn main() {

@@ -1,0 +1,206 @@
+-- How much a byte of the input prints at most, and that the printing buffer has room for it: nothing is lost.
+use mathlib.Core.Path.{_≡_, refl, sym, ap, subst, _∙_}
+use mathlib.Core.Logic.{_⊎_, inl, inr}
+use mathlib.Core.Bool.{Bool, true, false, cond}
+use mathlib.Core.List.{List, [], _∷_, _++_, map}
+use Prim.Native.Nat.{ℕ, zero, suc, _+_, _*_, _^_, _≤_, _<_, min}
+use native.Mathlib.Omega.{arith}
+use lib.IntN.{ℤ, pos, negsuc, natAbs}
+use lib.Dec.{eqb}
+use lib.ListN.{length, take, drop, length-append}
+use borrow.Author.Tests.{eqb-false}
+use Rattle.mesh.proofs.BoolLaws.{bool-cases, trichotomy}
+use Rattle.mesh.specs.Limits.{max-radios, max-neighbours}
+use Rattle.mesh.specs.Lists.{range, filter, overwrite}
+use Rattle.mesh.specs.Graph.{Graph, radios}
+use Rattle.mesh.specs.Levels.{changed, step-of}
+use Rattle.mesh.specs.Sound.{sound}
+use Rattle.mesh.specs.Tables.{Tables, graph-in}
+use Rattle.mesh.proofs.ListLaws.{In, in-filter, length-filter, count-le-length, length-range, range-in, take-overwrite}
+use Rattle.calls.specs.Replay.{bytes-of, decimal, link-line, bad-line, printed-line, numbers-line, order-line, closing-lines}
+use Rattle.calls.specs.Questions.{ask, By-number, Lengths, lengths-of, answer-length, link-refusal, site-refusal, lent-refusal, ends-refusal}
+use Rattle.calls.specs.Writes.{Link-accepted, Link-refused, Link-contract}
+use Rattle.calls.specs.declared.Reply.{Reply}
+use Rattle.calls.proofs.ChainLaws.{link-zero}
+use Rattle.script.specs.Lines.{line-of}
+use Rattle.script.specs.Print.{Buffer, lent, put, Puts, max-place}
+use Rattle.script.specs.declared.lines.Line.{Line}
+use Rattle.script.specs.declared.lines.Line.the-variants.{Radios, Up, Down, Bad}
+use Rattle.script.proofs.LengthLaws.{length-line-le, length-link-line-le}
+use Rattle.script.proofs.PrintLaws.{at-put, puts-whole}
+use Rattle.player.specs.Lines.{is-call, Called, Passed-over, Played, Prints}
+use Rattle.player.specs.declared.machine.Progress.{Progress}
+use Rattle.player.specs.Machine.{Spot, spot, next-number, Stopped, Held-on, Line-taken, Line-ends, Ignored, Step, Takes, full, longest, closing-longest, closing}
+
+-- ---- the reply of a call
+
+ask-le : (k r : ℕ) (yes : Bool) (later : ℕ) → r ≤ k → later ≤ k → ask r yes later ≤ k
+unfolding ask
+ask-le k r true later h l = l
+ask-le k r false later h l = h
+
+link-refusal-le : (up : Bool) (n a b : ℕ) (l : Lengths) (w : ℕ) (s : Bool) (g : Graph) → link-refusal up n a b l w s g ≤ 7
+unfolding link-refusal site-refusal lent-refusal ends-refusal
+link-refusal-le up n a b l w s g =
+    ask-le 7 1 _ _ (omega arith) (ask-le 7 2 _ _ (omega arith) (ask-le 7 3 _ _ (omega arith) (ask-le 7 4 _ _ (omega arith)
+    (ask-le 7 5 _ _ (omega arith) (ask-le 7 6 _ _ (omega arith) (ask-le 7 7 _ 0 (omega arith) (omega arith)))))))
+
+step-small : (up : Bool) (cs : List ℕ) → natAbs (step-of up cs) < 1000
+unfolding step-of
+step-small up [] = omega arith
+step-small true (c ∷ cs) = omega arith
+step-small false (c ∷ cs) = omega arith
+
+changed-small : (up : Bool) (a b n : ℕ) (links : List ℕ) (v : ℕ) → In v (changed up a b (graph-in n links)) → v < n
+unfolding changed radios graph-in
+changed-small up a b n links v m = omega (arith, range-in 0 n v (in-filter _ (range 0 n) v m .0))
+
+filter-le : (f : ℕ → Bool) (xs : List ℕ) (k : ℕ) → length xs ≡ k → length (filter f xs) ≤ k
+filter-le f xs k e = omega (arith, length-filter f xs, count-le-length f xs)
+
+length-changed-le : (up : Bool) (a b n : ℕ) (links : List ℕ) → length (changed up a b (graph-in n links)) ≤ n
+unfolding changed radios graph-in
+length-changed-le up a b n links = filter-le _ (range 0 n) n (length-range 0 n)
+
+-- a contract by its number
+by-number : {A : Type 0} {B : ℕ → Type 0} (C : Type 0) (R : ℕ) → (R ≡ 0 → A → C) → ((q : ℕ) → R ≡ q → B q → C) → By-number R A B → C
+unfolding By-number
+by-number C zero f g h = f refl h
+by-number C (suc q) f g h = g (suc q) refl h
+
+accepted-length : (up : Bool) (n a b : ℕ) (t v : Tables) (w x : List ℕ) (r : Reply) → n ≤ max-radios
+    → Link-accepted up a b (graph-in n (t .links)) t w r v x → length (link-line (r .number) (r .step) (take (r .count) x)) ≤ longest
+accepted-length up n a b t v w x r small h =
+    let cs = changed up a b (graph-in n (t .links)) in
+    let list : take (r .count) x ≡ cs = ap (λ (k : ℕ). take k x) (h .count) ∙ ap (take (length cs)) (h .answer) ∙ take-overwrite cs w in
+    let number : r .number < 100 = omega (arith, h .number) in
+    let step : natAbs (r .step) < 1000 = subst (λ (z : ℤ). natAbs z < 1000) (sym (h .step)) (step-small up cs) in
+    let below : (y : ℕ) → In y (take (r .count) x) → y < 100000
+    = λ y m. omega (arith, small, changed-small up a b n (t .links) y (subst (In y) list m)) in
+    omega (arith, small, ap length list, length-changed-le up a b n (t .links), length-link-line-le (r .number) (r .step) (take (r .count) x) number step below)
+
+refused-length : (q : ℕ) (t v : Tables) (w x : List ℕ) (r : Reply) → q ≤ 7 → Link-refused q t w r v x
+    → length (link-line (r .number) (r .step) (take (r .count) x)) ≤ longest
+refused-length q t v w x r small h =
+    let list : take (r .count) x ≡ [] = ap (λ (k : ℕ). take k x) (h .count) in
+    let number : r .number < 100 = omega (arith, h .number) in
+    let step : natAbs (r .step) < 1000 = subst (λ (z : ℤ). natAbs z < 1000) (sym (h .step)) (omega arith) in
+    let below : (y : ℕ) → In y (take (r .count) x) → y < 100000 = λ y m. absurd (subst (In y) list m) in
+    omega (arith, ap length list, length-link-line-le (r .number) (r .step) (take (r .count) x) number step below)
+
+radios-most : (up : Bool) (n a b : ℕ) (l : Lengths) (k : ℕ) (s : Bool) (links : List ℕ) → link-refusal up n a b l k s (graph-in n links) ≡ 0 → n ≤ max-radios
+unfolding graph-in
+radios-most up n a b l k s links z = link-zero up a b l k s (graph-in n links) z .0 .lent .most
+
+pub called-length : (up : Bool) (n a b : ℕ) (t v : Tables) (w x text : List ℕ) → Called up n a b t w text v x → length text ≤ longest
+unfolding Link-contract
+called-length up n a b t v w x text h =
+    let g = graph-in n (t .links) in
+    let R = link-refusal up n a b (lengths-of t) (length w) (sound n t) g in
+    let line : length (link-line (h .reply .number) (h .reply .step) (take (h .reply .count) x)) ≤ longest
+    = by-number _ R
+    (λ z d. accepted-length up n a b t v w x (h .reply) (radios-most up n a b (lengths-of t) (length w) (sound n t) (t .links) z) d)
+    (λ q e d. refused-length q t v w x (h .reply) (omega (arith, e, link-refusal-le up n a b (lengths-of t) (length w) (sound n t) g)) d)
+    (h .does) in
+    omega (arith, ap length (h .says), line)
+
+-- ---- one byte
+
+played-length : (n : ℕ) (l : Line) (t v : Tables) (w x text : List ℕ) → Played n l t w text v x → length text ≤ longest
+unfolding Played
+played-length n (Radios k) t v w x text h = omega (arith, ap length (h .says))
+played-length n (Up a b) t v w x text h = called-length true n a b t v w x text h
+played-length n (Down a b) t v w x text h = called-length false n a b t v w x text h
+played-length n Bad t v w x text h = omega (arith, ap length (h .says))
+
+in-one : (k x : ℕ) → k ≤ max-place → In x (k ∷ []) → x < 10 ^ 20
+in-one k x h (inl e) = omega (arith, e)
+in-one k x h (inr e) = absurd e
+
+bad-length : (k : ℕ) → k ≤ max-place → length (bad-line k) ≤ longest
+unfolding bad-line
+bad-length k h = omega (arith, length-line-le (bytes-of "bad") 19 (k ∷ []) (λ x m. in-one k x h m))
+
+ends-length : (c : Bool) (n : ℕ) (line : List ℕ) (p : Spot) (text : List ℕ) (q : Spot) → p .number ≤ max-place → Line-ends c n line p text q
+    → length text ≤ longest
+unfolding Line-ends
+ends-length true n line p text q k h = played-length n (line-of line) (p .tables) (q .tables) (p .answer) (q .answer) text (h .played)
+ends-length false n line p text q k h = omega (arith, ap length (h .says), bad-length (p .number) k)
+
+step-length : (live full feed : Bool) (n b : ℕ) (p : Spot) (text : List ℕ) (q : Spot) → p .number ≤ max-place → Step live full feed n b p text q
+    → length text ≤ longest
+unfolding Step
+step-length false full feed n b p text q k h = omega (arith, ap length (h .says))
+step-length true true feed n b p text q k h = omega (arith, ap length (h .says), bad-length (p .number) k)
+step-length true false false n b p text q k h = omega (arith, ap length (h .says))
+step-length true false true n b p text q k h = ends-length _ n _ p text q k h
+
+-- a byte of the input prints at most 3,080 bytes
+pub takes-length : (m n b : ℕ) (p : Spot) (text : List ℕ) (q : Spot) → p .number ≤ max-place → Takes m n b p text q → length text ≤ longest
+unfolding Takes
+takes-length m n b p text q k h = step-length _ _ _ n b p text q k h
+
+-- ---- the printing buffer
+
+-- a byte taken while the buffer is not full: its whole text stands after what waits there, in any buffer of this many bytes
+pub byte-fits : (m n b : ℕ) (p q : Spot) (out after : List ℕ) (at next : ℕ) → p .number ≤ max-place → at < full
+    → full + longest ≤ length out → length out < max-place → (w : Prints (λ text. Takes m n b p text q) (lent out at) (lent after next))
+    → (next ≡ at + length (w .text)) × (after ≡ take at out ++ w .text ++ drop (at + length (w .text)) out)
+byte-fits m n b p q out after at next k h room most w =
+    let long = takes-length m n b p (w .text) q k (w .holds) in
+    let place : next ≡ min (at + length (w .text)) max-place = ap (λ (c : Buffer). c .at) (w .puts .is) ∙ at-put (lent out at) (w .text) (omega arith) in
+    puts-whole (w .puts) (omega arith) most (omega (arith, long, place))
+
+-- ---- the loop of `machine::take_bytes`
+
+next-number-le : (k : ℕ) → k ≤ max-place → next-number k ≤ max-place
+unfolding next-number
+next-number-le k h = go (bool-cases (eqb k 18446744073709551615))
+  where
+    go : (eqb k 18446744073709551615 ≡ true) ⊎ (eqb k 18446744073709551615 ≡ false) → cond (eqb k 18446744073709551615) k (k + 1) ≤ max-place
+    go (inl e) = rw e h
+    go (inr e) = rw e (below (trichotomy k 18446744073709551615) (eqb-false k 18446744073709551615 e))
+      where
+        below : (k < 18446744073709551615) ⊎ ((k ≡ 18446744073709551615) ⊎ (18446744073709551615 < k)) → (k ≡ 18446744073709551615 → ⊥) → k + 1 ≤ max-place
+        below (inl l) f = omega arith
+        below (inr (inl d)) f = absurd (f d)
+        below (inr (inr l)) f = absurd (omega arith)
+
+ends-number : (c : Bool) (n : ℕ) (line : List ℕ) (p : Spot) (text : List ℕ) (q : Spot) → p .number ≤ max-place → Line-ends c n line p text q
+    → q .number ≤ max-place
+unfolding Line-ends
+ends-number true n line p text q k h = omega (arith, h .number, next-number-le (p .number) k)
+ends-number false n line p text q k h = omega (arith, h .number)
+
+step-number : (live full feed : Bool) (n b : ℕ) (p : Spot) (text : List ℕ) (q : Spot) → p .number ≤ max-place → Step live full feed n b p text q
+    → q .number ≤ max-place
+unfolding Step
+step-number false full feed n b p text q k h = omega (arith, ap (λ (s : Spot). s .number) (h .same))
+step-number true true feed n b p text q k h = omega (arith, h .number)
+step-number true false false n b p text q k h = omega (arith, h .number)
+step-number true false true n b p text q k h = ends-number _ n _ p text q k h
+
+-- a byte taken while the buffer is not full leaves at most this many waiting
+pub byte-room : (m n b : ℕ) (s r : Progress) (t v : Tables) (w x line rest out after : List ℕ) → s .number ≤ max-place → s .at < full
+    → Prints (λ text. Takes m n b (spot t w line s) text (spot v x rest r)) (lent out (s .at)) (lent after (r .at))
+    → (r .number ≤ max-place) × (r .at < full + longest)
+unfolding spot Takes
+byte-room m n b s r t v w x line rest out after k h p =
+    let long = takes-length m n b (spot t w line s) (p .text) (spot v x rest r) k (p .holds) in
+    let place : r .at ≡ min (s .at + length (p .text)) max-place = ap (λ (c : Buffer). c .at) (p .puts .is) ∙ at-put (lent out (s .at)) (p .text) (omega arith) in
+    (step-number _ _ _ n b (spot t w line s) (p .text) (spot v x rest r) k (p .holds), omega (arith, long, place))
+
+-- ---- the closing lines
+
+-- numbers of eight bits and radios of sixteen, of at most 512 radios: both lines, or `bad L`
+pub closing-length : (h ns xs : List ℕ) (k : ℕ) → k ≤ max-place → length ns ≤ max-radios → length xs ≤ max-radios
+    → ((x : ℕ) → In x ns → x < 1000) → ((x : ℕ) → In x xs → x < 100000) → length (closing h ns xs k) ≤ closing-longest
+unfolding closing closing-lines numbers-line order-line
+closing-length [] ns xs k small f g a b =
+    omega (
+      arith,
+      length-append (printed-line (bytes-of "numbers") (map decimal ns)) (printed-line (bytes-of "order") (map decimal xs)),
+      length-line-le (bytes-of "numbers") 2 ns a,
+      length-line-le (bytes-of "order") 4 xs b,
+    )
+closing-length (y ∷ ys) ns xs k small f g a b = omega (arith, bad-length k small)

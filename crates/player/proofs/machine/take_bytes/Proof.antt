@@ -1,0 +1,196 @@
+-- `machine::take_bytes` meets its contract: the bytes passed so far are taken, and the measure is what is left of the chunk.
+use mathlib.Core.Path.{_≡_, refl, sym, _∙_}
+use mathlib.Core.Bool.{true≢false}
+use borrow.Author.Tests.{not-true, not-false}
+use Prim.Native.Nat.{_+_, _-_, _≤_, _<_}
+use native.Mathlib.Omega.{arith}
+use borrow.Author.Needs.{needs}
+use lib.ListN.{length}
+use Rattle.mesh.specs.Tables.{tables}
+use Rattle.script.specs.Print.{lent, max-place}
+use Rattle.player.specs.Machine.{spot, full, longest}
+use Rattle.player.proofs.SizeLaws.{byte-room}
+use Rattle.player.proofs.BytesLaws.{Taking, taking-none, taking-more, moved}
+use Rattle.player.proofs.machine.take_bytes.Statement.{statement}
+use Rattle.player.proofs.machine.take_bytes.Tie as tie
+use Rattle.player.proofs.machine.take_bytes.Reads as reads
+use Rattle.player.proofs.machine.take_bytes.Lts as lts
+use Rattle.player.proofs.machine.take_byte.Reads as take-byte-reads
+
+abbrev Inv-loop : tie.InvT-loop
+Inv-loop chunk from n line₀ links₀ numbers₀ order₀ answer₀ out₀ s₀ i₀ line links numbers order answer out s i =
+    (length line ≡ length line₀) × (length links ≡ length links₀) × (length numbers ≡ length numbers₀) × (length order ≡ length order₀)
+    × (length answer ≡ length answer₀) × (length out ≡ length out₀)
+    × Taking (length line₀) n chunk from i (spot (tables links₀ numbers₀ order₀) answer₀ line₀ s₀) (spot (tables links numbers order) answer line s)
+    (lent out₀ (s₀ .at)) (lent out (s .at))
+    × (i ≡ from → (s .live ≡ s₀ .live) × (s .at ≡ s₀ .at))
+    × (s₀ .number ≤ max-place → s₀ .at < full → (s .number ≤ max-place) × (s .at < full + longest))
+
+abbrev μ-loop : tie.MeasureT-loop
+μ-loop chunk from n line₀ links₀ numbers₀ order₀ answer₀ out₀ s₀ i₀ line links numbers order answer out s i =
+    length chunk - i
+
+-- src/machine.rt:113:5
+loop-holds : tie.Need-loop-holds Inv-loop μ-loop
+loop-holds c = (refl, refl, refl, refl, refl, refl, taking-none _ _ _ _ _ _, λ e. (refl, refl), λ k a. (k, omega arith))
+
+-- src/machine.rt:120:20
+shared-slice-read-byte : tie.Need-shared-slice-read-byte Inv-loop μ-loop
+shared-slice-read-byte c = search needs
+
+-- src/machine.rt:121:9
+add-i : tie.Need-add-i Inv-loop μ-loop
+add-i c = search needs
+
+-- src/machine.rt:122:9
+take-byte-requires : tie.Need-take-byte-requires Inv-loop μ-loop
+take-byte-requires c κs =
+    let live = c .before .before .before .before .before .before .before .before .before in
+    not-false (live .before .before .before .loop .s .live) (live .if1 .left)
+
+-- src/machine.rt:113:5
+loop-less : tie.Need-loop-less Inv-loop μ-loop
+loop-less c = search needs
+
+-- src/machine.rt:113:5
+loop-again : tie.Need-loop-again Inv-loop μ-loop
+loop-again c =
+    let taken = c .before .before .before .before .before .before .before .before .before .before .before .before in
+    let read = taken .before .before .before .before .before .before .before in
+    let at-loop = read .before .before .before .before .before .before in
+    let inv = at-loop .loop .inv in (
+      search needs,
+      search needs,
+      search needs,
+      search needs,
+      search needs,
+      search needs,
+      taking-more _ _ _ _ _ _ _ _ _ _ _ _ _ (read .before .before .before .before .before .loop-test .taken) refl (inv .0) (inv .6) (taken .take-byte .ensures),
+      λ e. absurd (omega (arith, inv .6 .low, e)),
+      λ k a. byte-room _ _ _ _ _ _ _ _ _ _ _ _ _ (inv .8 k a .0) (omega (arith, read .before .if2 .left)) (taken .take-byte .ensures),
+    )
+
+-- src/machine.rt:97:1
+same-length : tie.Need-same-length Inv-loop μ-loop
+same-length c = search needs
+
+-- src/machine.rt:97:1
+same-length-2 : tie.Need-same-length-2 Inv-loop μ-loop
+same-length-2 c = search needs
+
+-- src/machine.rt:97:1
+same-length-3 : tie.Need-same-length-3 Inv-loop μ-loop
+same-length-3 c = search needs
+
+-- src/machine.rt:97:1
+same-length-4 : tie.Need-same-length-4 Inv-loop μ-loop
+same-length-4 c = search needs
+
+-- src/machine.rt:97:1
+same-length-5 : tie.Need-same-length-5 Inv-loop μ-loop
+same-length-5 c = search needs
+
+-- src/machine.rt:97:1
+same-length-6 : tie.Need-same-length-6 Inv-loop μ-loop
+same-length-6 c = search needs
+
+-- src/machine.rt:97:1
+returns : tie.Need-returns Inv-loop μ-loop
+returns c =
+    let inv = c .before .loop .inv in
+    (inv .6 .is, ((λ k a. inv .8 k a .1), ((λ l a h. omega (arith, c .loop-test .left)), λ l h. c .loop-test .left)))
+
+-- src/machine.rt:97:1
+same-length-7 : tie.Need-same-length-7 Inv-loop μ-loop
+same-length-7 c = search needs
+
+-- src/machine.rt:97:1
+same-length-8 : tie.Need-same-length-8 Inv-loop μ-loop
+same-length-8 c = search needs
+
+-- src/machine.rt:97:1
+same-length-9 : tie.Need-same-length-9 Inv-loop μ-loop
+same-length-9 c = search needs
+
+-- src/machine.rt:97:1
+same-length-10 : tie.Need-same-length-10 Inv-loop μ-loop
+same-length-10 c = search needs
+
+-- src/machine.rt:97:1
+same-length-11 : tie.Need-same-length-11 Inv-loop μ-loop
+same-length-11 c = search needs
+
+-- src/machine.rt:97:1
+same-length-12 : tie.Need-same-length-12 Inv-loop μ-loop
+same-length-12 c = search needs
+
+-- src/machine.rt:97:1
+returns-2 : tie.Need-returns-2 Inv-loop μ-loop
+returns-2 c =
+    let inv = c .before .before .before .loop .inv in
+    let dead = not-true (c .before .before .before .loop .s .live) (c .if1 .taken) in
+    (inv .6 .is, ((λ k a. inv .8 k a .1), ((λ l a h. moved (inv .6 .low) (λ e. true≢false (sym l ∙ sym (inv .7 e .0) ∙ dead))), λ l h. absurd (true≢false (sym l ∙ dead)))))
+
+-- src/machine.rt:97:1
+same-length-13 : tie.Need-same-length-13 Inv-loop μ-loop
+same-length-13 c = search needs
+
+-- src/machine.rt:97:1
+same-length-14 : tie.Need-same-length-14 Inv-loop μ-loop
+same-length-14 c = search needs
+
+-- src/machine.rt:97:1
+same-length-15 : tie.Need-same-length-15 Inv-loop μ-loop
+same-length-15 c = search needs
+
+-- src/machine.rt:97:1
+same-length-16 : tie.Need-same-length-16 Inv-loop μ-loop
+same-length-16 c = search needs
+
+-- src/machine.rt:97:1
+same-length-17 : tie.Need-same-length-17 Inv-loop μ-loop
+same-length-17 c = search needs
+
+-- src/machine.rt:97:1
+same-length-18 : tie.Need-same-length-18 Inv-loop μ-loop
+same-length-18 c = search needs
+
+-- src/machine.rt:97:1
+returns-3 : tie.Need-returns-3 Inv-loop μ-loop
+returns-3 c =
+    let inv = c .before .before .before .before .before .loop .inv in
+    (inv .6 .is, ((λ k a. inv .8 k a .1), ((λ l a h. moved (inv .6 .low) (λ e. omega (arith, c .if2 .taken, inv .7 e .1, a))), λ l h. absurd (omega (arith, c .if2 .taken)))))
+
+pub take-bytes-spec : {M : Type 1} → statement M
+take-bytes-spec =
+    tie.close
+    (tie.spec
+    Inv-loop
+    μ-loop
+    loop-holds
+    shared-slice-read-byte
+    add-i
+    take-byte-requires
+    loop-less
+    loop-again
+    same-length
+    same-length-2
+    same-length-3
+    same-length-4
+    same-length-5
+    same-length-6
+    returns
+    same-length-7
+    same-length-8
+    same-length-9
+    same-length-10
+    same-length-11
+    same-length-12
+    returns-2
+    same-length-13
+    same-length-14
+    same-length-15
+    same-length-16
+    same-length-17
+    same-length-18
+    returns-3)

@@ -1,0 +1,100 @@
+"""What crates/histories prints: its pseudo-random link histories, walked through again from document 01 alone.
+
+  python3 oracle/walks.py           write crates/histories/stdout
+  python3 oracle/walks.py --check   say whether the stored file is what would be written
+
+The picks follow crates/histories/src/picking.rt and trouble.rt, from the same
+seeds; every answer comes from the site of oracle/peeled.py.
+"""
+
+import sys
+from pathlib import Path
+
+from peeled import Site
+from questions import RADIOS
+
+OUT = Path(__file__).resolve().parent.parent / "crates/histories/stdout"
+WORD = 2 ** 64
+HEAD = "history radios: accepted, refused by 1 to 7, changed radios, calls, differences\n"
+
+
+class Draws:
+    """Marsaglia's xorshift over 64 bits."""
+
+    def __init__(self, seed):
+        self.x = seed
+
+    def below(self, n):
+        x = self.x
+        x = (x ^ x << 13) % WORD
+        x ^= x >> 7
+        self.x = x = (x ^ x << 17) % WORD
+        return (x >> 32) % n
+
+
+def seek(site, m, a, b, wanted):
+    """The first radio from b on, round the m used, that is a neighbour of a, or is not."""
+    for u in [(b + i) % m for i in range(m)]:
+        if u != a and (u in site.near[a]) == wanted:
+            return u
+    return b
+
+
+def pick(site, m, most, ups, draws):
+    a, b, way = draws.below(m), draws.below(m), draws.below(16)
+    up = way < ups and len(site.near[a]) < most
+    b = seek(site, m, a, b, not up)
+    luck = draws.below(48)
+    if luck == 0:
+        a = site.n
+    if luck == 1:
+        b = a
+    return up != (luck == 2), a, b
+
+
+def pick_in_clique(m, i):
+    j = i if i < m * m else i * 641 % (m * m)
+    return i < m * m, j // m, j % m
+
+
+def troubled(n, draws):
+    """The refusal that a call's trouble brings, 0 for none."""
+    kind = draws.below(112)
+    draws.below(n), draws.below(255)
+    if kind in (4, 5) or kind == 6 and n == RADIOS:
+        return 1
+    if 6 <= kind <= 13:
+        return 2
+    return 3 if 1 <= kind <= 3 else 0
+
+
+def history(n, m, most, ups, calls, seed, clique):
+    """The counts of a history's answers."""
+    site, draws, counts = Site(n), Draws(seed), [0] * 11
+    for i in range(calls):
+        up, a, b = pick_in_clique(m, i) if clique else pick(site, m, most, ups, draws)
+        number, changed = troubled(n, draws), []
+        if not number:
+            number, _, changed = site.call(up, a, b)
+        counts[number] += 1
+        counts[8] += len(changed)
+        counts[9] += 1
+    return counts
+
+
+def site_lines(n, calls, m):
+    return [("sparse", n, history(n, n, 4, 10, calls, 88172645463325252, False)),
+            ("dense", n, history(n, min(n, 40), 40, 14, calls, 362436069521288629, False)),
+            ("clique", n, history(n, m, 0, 0, 2 * m * m, 123456789123456789, True))]
+
+
+SITES = [(1, 500, 1), (2, 1000, 2), (33, 1800, 33), (34, 1800, 34), (64, 1800, 34), (253, 800, 16), (512, 800, 16)]
+
+lines = [line for n, calls, m in SITES for line in site_lines(n, calls, m)]
+lines.append(("all", 0, [sum(column) for column in zip(*(counts for _, _, counts in lines))]))
+text = HEAD + "".join(" ".join(str(x) for x in (name, n, *counts)) + "\n" for name, n, counts in lines)
+if "--check" in sys.argv:
+    same = OUT.read_text() == text
+    print("crates/histories/stdout:", "as written by this program" if same else "DIFFERENT")
+    sys.exit(not same)
+OUT.write_text(text)
