@@ -11,7 +11,7 @@ use Rattle.cases.proofs.say.end_line.Reads as end-line-reads
 use Rattle.cases.proofs.say.field.Reads as field-reads
 use Rattle.cases.proofs.say.word.Reads as word-reads
 use Rattle.cases.proofs.site.least.Reads as least-reads
-use Rattle.image.proofs.writer.write.Reads as write-reads
+use Rattle.image_writer.proofs.writer.write.Reads as write-reads
 
 -- src/pictures.rt:31:9
 least-requires : tie.Need-least-requires
