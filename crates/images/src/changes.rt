@@ -1,0 +1,203 @@
+// Every byte of an image changed in turn, as it is and with the check of its block mended.
+use super::digest;
+use super::lines;
+use super::parts;
+use super::pattern;
+use image_reader::reader;
+
+// How a byte is changed: a number added modulo 256, every bit flipped, or the byte swapped with the next but one.
+pub(crate) enum Change {
+    Added(u8),
+    Flipped,
+    Swapped,
+}
+
+// How often each refusal number came, how often a refusal changed a table, and a digest of every place, number and accepted
+// table.
+struct Tally {
+    accepted: u32,
+    tenth: u32,
+    eleventh: u32,
+    others: u32,
+    broken: u32,
+    digest: u64,
+}
+
+// What byte x becomes, where y is the next but one.
+fn changed(change: Change, x: u8, y: u8) -> u8 {
+    match change {
+        Change::Added(k) => std::num::wrapping_add_u8(x, k),
+        Change::Flipped => 255 - x,
+        Change::Swapped => y,
+    }
+}
+
+// What the next but one becomes.
+fn beside(change: Change, x: u8, y: u8) -> u8 {
+    match change {
+        Change::Added(_) => y,
+        Change::Flipped => y,
+        Change::Swapped => x,
+    }
+}
+
+// Changes byte `at`.
+fn put_change(image: &mut [u8], at: usize, change: Change) {
+    let other = std::num::wrapping_add_usize(at, 2);
+    let x = parts::byte_at(image, at);
+    let y = parts::byte_at(image, other);
+    parts::put_byte(image, at, changed(change, x, y));
+    parts::put_byte(image, other, beside(change, x, y));
+}
+
+// Writes the four bytes of a check, lowest first.
+fn put_check(image: &mut [u8], at: usize, sum: u32) {
+    parts::put_byte(image, at, (sum % 256) as u8);
+    let second = std::num::wrapping_add_usize(at, 1);
+    parts::put_byte(image, second, (sum / 256 % 256) as u8);
+    let third = std::num::wrapping_add_usize(at, 2);
+    parts::put_byte(image, third, (sum / 65536 % 256) as u8);
+    let fourth = std::num::wrapping_add_usize(at, 3);
+    parts::put_byte(image, fourth, (sum / 16777216 % 256) as u8);
+}
+
+// Gives the block that has byte `at` its check.
+fn mend(image: &mut [u8], at: usize) {
+    let start = at - at % 512;
+    let sum = image::checks::check_sum(parts::rest(image, start));
+    put_check(image, std::num::wrapping_add_usize(start, 508), sum);
+}
+
+// Makes the changed image.
+fn put_changed(image: &mut [u8], good: &[u8], at: usize, change: Change, mended: bool) {
+    tables::fill::copy8(image, good);
+    put_change(image, at, change);
+    if mended {
+        mend(image, at);
+    }
+}
+
+// One more where `on`.
+fn more(count: u32, on: bool) -> u32 {
+    if on {
+        return std::num::wrapping_add_u32(count, 1);
+    }
+    count
+}
+
+// Whether the number is none of 0, 10 and 11.
+fn is_other(number: u32) -> bool {
+    if number == 0 {
+        return false;
+    }
+    if number == 10 {
+        return false;
+    }
+    number != 11
+}
+
+// The tally with one more reading.
+fn counted(t: Tally, number: u32, kept: bool, digest: u64) -> Tally {
+    let broken = if number == 0 { false } else { !kept };
+    Tally {
+        accepted: more(t.accepted, number == 0),
+        tenth: more(t.tenth, number == 10),
+        eleventh: more(t.eleventh, number == 11),
+        others: more(t.others, is_other(number)),
+        broken: more(t.broken, broken),
+        digest,
+    }
+}
+
+// The digest with the tables, where the image was accepted.
+fn told(h: u64, number: u32, links: &[u8], numbers: &[u8], order: &[u16]) -> u64 {
+    if number != 0 {
+        return h;
+    }
+    digest::tables(h, links, numbers, order)
+}
+
+// Reads the changed image into tables that hold the pattern.
+fn try_one(
+    t: Tally,
+    at: usize,
+    n: u32,
+    links: &mut [u8],
+    numbers: &mut [u8],
+    order: &mut [u16],
+    image: &[u8],
+) -> Tally {
+    pattern::fill_tables(links, numbers, order);
+    let number = reader::read(n, links, numbers, order, image);
+    let kept = pattern::are_kept(links, numbers, order);
+    let h = digest::mixed(digest::mixed(t.digest, at as u64), number as u64);
+    counted(t, number, kept, told(h, number, links, numbers, order))
+}
+
+// Changes every byte of the good image in turn.
+fn try_all(
+    change: Change,
+    mended: bool,
+    n: u32,
+    links: &mut [u8],
+    numbers: &mut [u8],
+    order: &mut [u16],
+    good: &[u8],
+    image: &mut [u8],
+) -> Tally {
+    let mut t = Tally {
+        accepted: 0,
+        tenth: 0,
+        eleventh: 0,
+        others: 0,
+        broken: 0,
+        digest: 0,
+    };
+    let mut at: usize = 0;
+    while at < good.len() {
+        put_changed(image, good, at, change, mended);
+        t = try_one(t, at, n, links, numbers, order, image);
+        at += 1;
+    }
+    t
+}
+
+// Prints the line of a change: whether checks were mended, how often 0, 10, 11 and any other number came, how often a refusal
+// changed a table, and the digest.
+fn try_line(
+    name: &[u8],
+    change: Change,
+    mended: bool,
+    n: u32,
+    links: &mut [u8],
+    numbers: &mut [u8],
+    order: &mut [u16],
+    good: &[u8],
+    image: &mut [u8],
+) {
+    let t = try_all(change, mended, n, links, numbers, order, good, image);
+    lines::name(name);
+    lines::yes(mended);
+    lines::value(t.accepted as u64);
+    lines::value(t.tenth as u64);
+    lines::value(t.eleventh as u64);
+    lines::value(t.others as u64);
+    lines::value(t.broken as u64);
+    lines::value(t.digest);
+    lines::end();
+}
+
+// Both lines of a change.
+pub(crate) fn try_change(
+    name: &[u8],
+    change: Change,
+    n: u32,
+    links: &mut [u8],
+    numbers: &mut [u8],
+    order: &mut [u16],
+    good: &[u8],
+    image: &mut [u8],
+) {
+    try_line(name, change, false, n, links, numbers, order, good, image);
+    try_line(name, change, true, n, links, numbers, order, good, image);
+}

@@ -1,0 +1,257 @@
+// Images written, read and walked at the sizes where their form changes, and every byte of a small image changed in turn. The
+// expected lines are worked out by oracle/images.py.
+ghost use Prim.Native.Nat.{_≤_};
+ghost use Rattle.mesh.specs.Limits.{max-radios};
+
+mod changes;
+mod digest;
+mod lines;
+mod parts;
+mod pattern;
+mod reading;
+mod sites;
+mod writing;
+
+use changes::Change;
+use mesh::Site;
+use sites::Shape;
+
+// The bytes of a site's largest links table.
+const LINKS_BYTES: usize = Site::ROW_BYTES * Site::RADIOS as usize;
+
+// The bytes of the largest image, of 70 blocks, and two blocks more.
+const BUFFER: usize = 36864;
+
+// Prints whether the tables read are the site's.
+fn compare(
+    links: &[u8],
+    numbers: &[u8],
+    order: &[u16],
+    read_links: &[u8],
+    read_numbers: &[u8],
+    read_order: &[u16],
+) {
+    lines::name(b"same");
+    lines::yes(tables::fill::same8(links, read_links));
+    lines::yes(tables::fill::same8(numbers, read_numbers));
+    lines::yes(tables::fill::same16(order, read_order));
+    lines::end();
+}
+
+// Writes the site's image, reads it back and walks its blocks; then reads with other lengths and sizes. The read tables hold
+// anything before.
+fn try_image(
+    n: u32,
+    links: &[u8],
+    numbers: &[u8],
+    order: &[u16],
+    read_links: &mut [u8],
+    read_numbers: &mut [u8],
+    read_order: &mut [u16],
+) {
+    let mut buffer = [0u8; BUFFER];
+    let exact = writing::try_writes(n, links, numbers, order, &mut buffer);
+    let image = parts::front(&buffer, exact);
+    reading::try_read(b"read", n, read_links, read_numbers, read_order, image);
+    compare(links, numbers, order, read_links, read_numbers, read_order);
+    reading::try_blocks(b"blocks", image);
+    reading::try_lengths(n, read_links, read_numbers, read_order, &buffer, exact);
+    reading::try_sizes(n, read_links, read_numbers, read_order, image);
+}
+
+// Makes the site and tries its image.
+fn try_site(
+    shape: Shape,
+    links: &mut [u8],
+    numbers: &mut [u8],
+    order: &mut [u16],
+    read_links: &mut [u8],
+    read_numbers: &mut [u8],
+    read_order: &mut [u16],
+) {
+    let n = shape.radios;
+    lines::name(b"site");
+    lines::value(n as u64);
+    lines::value(shape.links as u64);
+    lines::end();
+    sites::put_site(shape, links, numbers, order);
+    try_image(
+        n,
+        links,
+        numbers,
+        order,
+        read_links,
+        read_numbers,
+        read_order,
+    );
+}
+
+// Tries a site whose tables are parts of the largest ones.
+fn run_site(shape: Shape)
+    requires { ⌜ shape .radios ≤ max-radios ⌝ }
+{
+    let many = shape.radios as usize;
+    let bytes = Site::ROW_BYTES * many;
+    let mut links = [0u8; LINKS_BYTES];
+    let mut numbers = [0u8; Site::RADIOS as usize];
+    let mut order = [0u16; Site::RADIOS as usize];
+    let mut read_links = [0u8; LINKS_BYTES];
+    let mut read_numbers = [0u8; Site::RADIOS as usize];
+    let mut read_order = [0u16; Site::RADIOS as usize];
+    try_site(
+        shape,
+        &mut links[0..bytes],
+        &mut numbers[0..many],
+        &mut order[0..many],
+        &mut read_links[0..bytes],
+        &mut read_numbers[0..many],
+        &mut read_order[0..many],
+    );
+}
+
+// Tries a site; one of more than 512 radios is passed over.
+fn site(shape: Shape) {
+    if shape.radios <= Site::RADIOS {
+        run_site(shape);
+    }
+}
+
+// The sizes where the order or the links take one block more.
+fn try_sites() {
+    site(sites::alone(1));
+    site(sites::alone(252));
+    site(sites::path(252, 126));
+    site(sites::path(252, 127));
+    site(sites::alone(253));
+    site(sites::path(253, 126));
+    site(sites::path(253, 127));
+    site(sites::ring(253, 253, 2));
+    site(sites::alone(512));
+    site(sites::path(512, 126));
+    site(sites::path(512, 127));
+    site(sites::ring(512, 8192, 32));
+}
+
+// Writes the image of a small site: a triangle 0 1 2, and 2 linked to 3, 3 to 4. The tables hold anything before.
+fn put_small(links: &mut [u8], image: &mut [u8]) {
+    tables::rows::put_link(links, true, 0, 1);
+    tables::rows::put_link(links, true, 0, 2);
+    tables::rows::put_link(links, true, 1, 2);
+    tables::rows::put_link(links, true, 2, 3);
+    tables::rows::put_link(links, true, 3, 4);
+    let numbers: [u8; 5] = [2, 2, 2, 1, 1];
+    let order: [u16; 5] = [4, 3, 2, 0, 1];
+    image_writer::writer::write(5, links, &numbers, &order, image);
+}
+
+// Reads the small image into tables of other lengths.
+fn try_small_lengths(image: &[u8]) {
+    let name = b"small-read";
+    reading::try_read(
+        name,
+        5,
+        &mut [0u8; 320],
+        &mut [0u8; 5],
+        &mut [0u16; 5],
+        image,
+    );
+    reading::try_read(
+        name,
+        4,
+        &mut [0u8; 256],
+        &mut [0u8; 4],
+        &mut [0u16; 4],
+        image,
+    );
+    reading::try_read(
+        name,
+        6,
+        &mut [0u8; 384],
+        &mut [0u8; 6],
+        &mut [0u16; 6],
+        image,
+    );
+    reading::try_read(
+        name,
+        5,
+        &mut [0u8; 319],
+        &mut [0u8; 5],
+        &mut [0u16; 5],
+        image,
+    );
+    reading::try_read(
+        name,
+        5,
+        &mut [0u8; 321],
+        &mut [0u8; 5],
+        &mut [0u16; 5],
+        image,
+    );
+    reading::try_read(
+        name,
+        5,
+        &mut [0u8; 320],
+        &mut [0u8; 4],
+        &mut [0u16; 5],
+        image,
+    );
+    reading::try_read(
+        name,
+        5,
+        &mut [0u8; 320],
+        &mut [0u8; 6],
+        &mut [0u16; 5],
+        image,
+    );
+    reading::try_read(
+        name,
+        5,
+        &mut [0u8; 320],
+        &mut [0u8; 5],
+        &mut [0u16; 4],
+        image,
+    );
+    reading::try_read(
+        name,
+        5,
+        &mut [0u8; 320],
+        &mut [0u8; 5],
+        &mut [0u16; 6],
+        image,
+    );
+    reading::try_blocks(b"small-blocks", image);
+    reading::try_blocks(b"small-blocks-cut", parts::front(image, 1535));
+}
+
+// Changes every byte of the small image in one way.
+fn change(name: &[u8], how: Change, good: &[u8]) {
+    changes::try_change(
+        name,
+        how,
+        5,
+        &mut [0u8; 320],
+        &mut [0u8; 5],
+        &mut [0u16; 5],
+        good,
+        &mut [0u8; 1536],
+    );
+}
+
+// Changes every byte of the small image in each way.
+fn try_small_changes(good: &[u8]) {
+    change(b"plus-1", Change::Added(1), good);
+    change(b"plus-2", Change::Added(2), good);
+    change(b"minus-1", Change::Added(255), good);
+    change(b"minus-2", Change::Added(254), good);
+    change(b"flipped", Change::Flipped, good);
+    change(b"swapped", Change::Swapped, good);
+}
+
+fn main() {
+    try_sites();
+    let mut links = [0u8; 320];
+    let mut good = [0u8; 1536];
+    put_small(&mut links, &mut good);
+    try_small_lengths(&good);
+    try_small_changes(&good);
+}
