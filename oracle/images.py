@@ -120,6 +120,10 @@ def read(n, lengths, image):
     return 0, (rows(n, pairs), peeled(n, pairs), order)
 
 
+# document 01, M8: one radio, cleared: 1,024 bytes, checks 5 and 4
+assert [len(image_of(1, [], [0]))] + [check(image_of(1, [], [0])[at:]) for at in (0, BLOCK)] == [1024, 5, 4]
+
+
 # ---- lines
 
 LINES = []
@@ -135,21 +139,21 @@ def tables_digest(h, tables):
     return h
 
 
-def read_line(name, n, lengths, image):
+def read_line(n, lengths, image):
     number, tables = read(n, lengths, image)
     if number:
         tables = [BYTE] * lengths[0], [BYTE] * lengths[1], [ENTRY] * lengths[2]
-    line(name, number, number != 0, tables_digest(0, tables))
+    line("read", n, *lengths, len(image), number, number != 0, tables_digest(0, tables))
 
 
-def write_line(name, image, room):
+def write_line(image, room):
     """Bytes past the image, or all of them, are kept."""
     held = len(image) <= room
     written = image if held else []
-    line(name, 0 if held else 9, len(written), digest(0, written), True)
+    line("write", room, 0 if held else 9, len(written), digest(0, written), True)
 
 
-def blocks_line(name, image):
+def blocks_line(image):
     """A reader's steps, two more than there are blocks."""
     number, count = block_refusal(image), len(image) // BLOCK
     at = given = ends = h = 0
@@ -166,28 +170,21 @@ def blocks_line(name, image):
             ends += 1
         given += len(part)
         h = digest(digest(h, said), part)
-    line(name, at, number, given, ends, h)
+    line("blocks", at, number, given, ends, h)
 
 
 def site_lines(n, pairs, order):
     assert is_site(n, pairs, order) and len(pairs) == len(set(pairs))
     lengths, image = (ROW * n, n, n), image_of(n, pairs, order)
     line("site", n, len(pairs))
-    write_line("write", image, BUFFER)
-    write_line("write-exact", image, len(image))
-    write_line("write-short", image, len(image) - 1)
-    write_line("write-none", image, 0)
-    read_line("read", n, lengths, image)
+    for room in (BUFFER, len(image), len(image) - 1, 0):
+        write_line(image, room)
+    for other in (image[:-1], image + [0], [], image + [0] * BLOCK):
+        read_line(n, lengths, other)
+    for size in (n - 1, n + 1, 0, 513, n):
+        read_line(size, lengths, image)
     line("same", 1, 1, 1)
-    blocks_line("blocks", image)
-    read_line("read-one-less", n, lengths, image[:-1])
-    read_line("read-none", n, lengths, [])
-    read_line("read-one-more", n, lengths, image + [0])
-    read_line("read-extra-block", n, lengths, image + [0] * BLOCK)
-    read_line("read-fewer", n - 1, lengths, image)
-    read_line("read-more", n + 1, lengths, image)
-    read_line("read-0", 0, lengths, image)
-    read_line("read-513", 513, lengths, image)
+    blocks_line(image)
 
 
 # ---- the sites tried
@@ -258,9 +255,9 @@ def small_lines():
         (5, (319, 5, 5)), (5, (321, 5, 5)), (5, (320, 4, 5)),
         (5, (320, 6, 5)), (5, (320, 5, 4)), (5, (320, 5, 6)),
     ]:
-        read_line("small-read", n, lengths, good)
-    blocks_line("small-blocks", good)
-    blocks_line("small-blocks-cut", good[:-1])
+        read_line(n, lengths, good)
+    blocks_line(good)
+    blocks_line(good[:-1])
     for name, change in CHANGES:
         changes_line(name, change, False, 5, good)
         changes_line(name, change, True, 5, good)

@@ -3,7 +3,7 @@ use super::digest;
 use super::lines;
 use super::parts;
 use super::pattern;
-use image_reader::reader;
+use super::reading;
 
 // How a byte is changed: a number added modulo 256, every bit flipped, or the byte swapped with the next but one.
 pub(crate) enum Change {
@@ -127,8 +127,7 @@ fn try_one(
     order: &mut [u16],
     image: &[u8],
 ) -> Tally {
-    pattern::fill_tables(links, numbers, order);
-    let number = reader::read(n, links, numbers, order, image);
+    let number = reading::read_fresh(n, links, numbers, order, image);
     let kept = pattern::are_kept(links, numbers, order);
     let h = digest::mixed(digest::mixed(t.digest, at as u64), number as u64);
     counted(t, number, kept, told(h, number, links, numbers, order))
@@ -162,20 +161,19 @@ fn try_all(
     t
 }
 
-// Prints the line of a change: whether checks were mended, how often 0, 10, 11 and any other number came, how often a refusal
-// changed a table, and the digest.
-fn try_line(
-    name: &[u8],
-    change: Change,
-    mended: bool,
-    n: u32,
-    links: &mut [u8],
-    numbers: &mut [u8],
-    order: &mut [u16],
-    good: &[u8],
-    image: &mut [u8],
-) {
-    let t = try_all(change, mended, n, links, numbers, order, good, image);
+// Changes every byte of an image of 5 radios and 3 blocks, and prints the line: whether checks were mended, how often 0, 10, 11
+// and any other number came, how often a refusal changed a table, and the digest.
+fn try_line(name: &[u8], change: Change, mended: bool, good: &[u8]) {
+    let t = try_all(
+        change,
+        mended,
+        5,
+        &mut [0u8; 320],
+        &mut [0u8; 5],
+        &mut [0u16; 5],
+        good,
+        &mut [0u8; 1536],
+    );
     lines::name(name);
     lines::yes(mended);
     lines::value(t.accepted as u64);
@@ -188,16 +186,7 @@ fn try_line(
 }
 
 // Both lines of a change.
-pub(crate) fn try_change(
-    name: &[u8],
-    change: Change,
-    n: u32,
-    links: &mut [u8],
-    numbers: &mut [u8],
-    order: &mut [u16],
-    good: &[u8],
-    image: &mut [u8],
-) {
-    try_line(name, change, false, n, links, numbers, order, good, image);
-    try_line(name, change, true, n, links, numbers, order, good, image);
+pub(crate) fn try_change(name: &[u8], change: Change, good: &[u8]) {
+    try_line(name, change, false, good);
+    try_line(name, change, true, good);
 }

@@ -38,7 +38,7 @@ fn compare(
     lines::end();
 }
 
-// Writes the site's image, reads it back and walks its blocks; then reads with other lengths and sizes. The read tables hold
+// Writes the site's image, reads it with each length and size and last as it is, and walks its blocks. The read tables hold
 // anything before.
 fn try_image(
     n: u32,
@@ -51,12 +51,9 @@ fn try_image(
 ) {
     let mut buffer = [0u8; BUFFER];
     let exact = writing::try_writes(n, links, numbers, order, &mut buffer);
-    let image = parts::front(&buffer, exact);
-    reading::try_read(b"read", n, read_links, read_numbers, read_order, image);
+    reading::try_cases(n, read_links, read_numbers, read_order, &buffer, exact);
     compare(links, numbers, order, read_links, read_numbers, read_order);
-    reading::try_blocks(b"blocks", image);
-    reading::try_lengths(n, read_links, read_numbers, read_order, &buffer, exact);
-    reading::try_sizes(n, read_links, read_numbers, read_order, image);
+    reading::try_blocks(parts::front(&buffer, exact));
 }
 
 // Makes the site and tries its image.
@@ -144,107 +141,43 @@ fn put_small(links: &mut [u8], image: &mut [u8]) {
     image_writer::writer::write(5, links, &numbers, &order, image);
 }
 
-// Reads the small image into tables of other lengths.
-fn try_small_lengths(image: &[u8]) {
-    let name = b"small-read";
-    reading::try_read(
-        name,
-        5,
-        &mut [0u8; 320],
-        &mut [0u8; 5],
-        &mut [0u16; 5],
-        image,
-    );
-    reading::try_read(
-        name,
-        4,
-        &mut [0u8; 256],
-        &mut [0u8; 4],
-        &mut [0u16; 4],
-        image,
-    );
-    reading::try_read(
-        name,
-        6,
+// Reads the small image into tables of these lengths.
+fn read_small(n: u32, rows: usize, radios: usize, entries: usize, image: &[u8]) {
+    reading::try_cut(
+        n,
+        rows,
+        radios,
+        entries,
         &mut [0u8; 384],
         &mut [0u8; 6],
         &mut [0u16; 6],
         image,
     );
-    reading::try_read(
-        name,
-        5,
-        &mut [0u8; 319],
-        &mut [0u8; 5],
-        &mut [0u16; 5],
-        image,
-    );
-    reading::try_read(
-        name,
-        5,
-        &mut [0u8; 321],
-        &mut [0u8; 5],
-        &mut [0u16; 5],
-        image,
-    );
-    reading::try_read(
-        name,
-        5,
-        &mut [0u8; 320],
-        &mut [0u8; 4],
-        &mut [0u16; 5],
-        image,
-    );
-    reading::try_read(
-        name,
-        5,
-        &mut [0u8; 320],
-        &mut [0u8; 6],
-        &mut [0u16; 5],
-        image,
-    );
-    reading::try_read(
-        name,
-        5,
-        &mut [0u8; 320],
-        &mut [0u8; 5],
-        &mut [0u16; 4],
-        image,
-    );
-    reading::try_read(
-        name,
-        5,
-        &mut [0u8; 320],
-        &mut [0u8; 5],
-        &mut [0u16; 6],
-        image,
-    );
-    reading::try_blocks(b"small-blocks", image);
-    reading::try_blocks(b"small-blocks-cut", parts::front(image, 1535));
 }
 
-// Changes every byte of the small image in one way.
-fn change(name: &[u8], how: Change, good: &[u8]) {
-    changes::try_change(
-        name,
-        how,
-        5,
-        &mut [0u8; 320],
-        &mut [0u8; 5],
-        &mut [0u16; 5],
-        good,
-        &mut [0u8; 1536],
-    );
+// Reads the small image with another n, and into tables of other lengths.
+fn try_small_reads(image: &[u8]) {
+    read_small(5, 320, 5, 5, image);
+    read_small(4, 256, 4, 4, image);
+    read_small(6, 384, 6, 6, image);
+    read_small(5, 319, 5, 5, image);
+    read_small(5, 321, 5, 5, image);
+    read_small(5, 320, 4, 5, image);
+    read_small(5, 320, 6, 5, image);
+    read_small(5, 320, 5, 4, image);
+    read_small(5, 320, 5, 6, image);
+    reading::try_blocks(image);
+    reading::try_blocks(parts::front(image, 1535));
 }
 
 // Changes every byte of the small image in each way.
 fn try_small_changes(good: &[u8]) {
-    change(b"plus-1", Change::Added(1), good);
-    change(b"plus-2", Change::Added(2), good);
-    change(b"minus-1", Change::Added(255), good);
-    change(b"minus-2", Change::Added(254), good);
-    change(b"flipped", Change::Flipped, good);
-    change(b"swapped", Change::Swapped, good);
+    changes::try_change(b"plus-1", Change::Added(1), good);
+    changes::try_change(b"plus-2", Change::Added(2), good);
+    changes::try_change(b"minus-1", Change::Added(255), good);
+    changes::try_change(b"minus-2", Change::Added(254), good);
+    changes::try_change(b"flipped", Change::Flipped, good);
+    changes::try_change(b"swapped", Change::Swapped, good);
 }
 
 fn main() {
@@ -252,6 +185,6 @@ fn main() {
     let mut links = [0u8; 320];
     let mut good = [0u8; 1536];
     put_small(&mut links, &mut good);
-    try_small_lengths(&good);
+    try_small_reads(&good);
     try_small_changes(&good);
 }

@@ -6,26 +6,66 @@ use super::pattern;
 use image::blocks;
 use image_reader::reader;
 
-// Reads into tables that hold the pattern and prints number, whether every table kept its content, and the tables' digest.
-pub(crate) fn try_read(
-    name: &[u8],
+// Reads into tables that hold the pattern.
+pub(crate) fn read_fresh(
     n: u32,
     links: &mut [u8],
     numbers: &mut [u8],
     order: &mut [u16],
     image: &[u8],
-) {
+) -> u32 {
     pattern::fill_tables(links, numbers, order);
-    let number = reader::read(n, links, numbers, order, image);
-    lines::name(name);
+    reader::read(n, links, numbers, order, image)
+}
+
+// Prints the line of a reading: n, the lengths of the tables and of the image, the number, whether every table kept its content,
+// and the tables' digest.
+fn print_read(n: u32, links: &[u8], numbers: &[u8], order: &[u16], image: &[u8], number: u32) {
+    lines::name(b"read");
+    lines::value(n as u64);
+    lines::value(links.len() as u64);
+    lines::value(numbers.len() as u64);
+    lines::value(order.len() as u64);
+    lines::value(image.len() as u64);
     lines::value(number as u64);
     lines::yes(pattern::are_kept(links, numbers, order));
     lines::value(digest::tables(0, links, numbers, order));
     lines::end();
 }
 
-// Reads fewer bytes than the image has.
-fn try_shorter(
+// Reads into tables that hold the pattern and prints the line.
+fn try_read(n: u32, links: &mut [u8], numbers: &mut [u8], order: &mut [u16], image: &[u8]) {
+    let number = read_fresh(n, links, numbers, order, image);
+    print_read(n, links, numbers, order, image, number);
+}
+
+// The cases of a site: four lengths of the image, four sizes of the site, and last the image as it is.
+const CASES: u32 = 9;
+
+// How many bytes are read in a case, where the image has so many.
+fn case_length(k: u32, exact: usize) -> usize {
+    match k {
+        0 => std::num::wrapping_sub_usize(exact, 1),
+        1 => std::num::wrapping_add_usize(exact, 1),
+        2 => 0,
+        3 => std::num::wrapping_add_usize(exact, 512),
+        _ => exact,
+    }
+}
+
+// The n that is given in a case, at a site of n radios.
+fn case_size(k: u32, n: u32) -> u32 {
+    match k {
+        4 => std::num::wrapping_sub_u32(n, 1),
+        5 => std::num::wrapping_add_u32(n, 1),
+        6 => 0,
+        7 => 513,
+        _ => n,
+    }
+}
+
+// Tries every case of a site whose image is the first `exact` bytes of the buffer, zeros after it.
+pub(crate) fn try_cases(
     n: u32,
     links: &mut [u8],
     numbers: &mut [u8],
@@ -33,64 +73,35 @@ fn try_shorter(
     buffer: &[u8],
     exact: usize,
 ) {
-    let shorter = parts::front(buffer, std::num::wrapping_sub_usize(exact, 1));
-    try_read(b"read-one-less", n, links, numbers, order, shorter);
-    let none = parts::front(buffer, 0);
-    try_read(b"read-none", n, links, numbers, order, none);
+    let mut k: u32 = 0;
+    while k < CASES {
+        let image = parts::front(buffer, case_length(k, exact));
+        try_read(case_size(k, n), links, numbers, order, image);
+        k += 1;
+    }
 }
 
-// Reads more bytes than the image has; they are zeros.
-fn try_longer(
+// Reads into tables of the lengths given, cut from the ones lent.
+pub(crate) fn try_cut(
     n: u32,
-    links: &mut [u8],
-    numbers: &mut [u8],
-    order: &mut [u16],
-    buffer: &[u8],
-    exact: usize,
-) {
-    let longer = parts::front(buffer, std::num::wrapping_add_usize(exact, 1));
-    try_read(b"read-one-more", n, links, numbers, order, longer);
-    let extra = parts::front(buffer, std::num::wrapping_add_usize(exact, 512));
-    try_read(b"read-extra-block", n, links, numbers, order, extra);
-}
-
-// Reads the image with sizes beside the site's.
-fn try_near_sizes(n: u32, links: &mut [u8], numbers: &mut [u8], order: &mut [u16], image: &[u8]) {
-    let fewer = std::num::wrapping_sub_u32(n, 1);
-    try_read(b"read-fewer", fewer, links, numbers, order, image);
-    let more = std::num::wrapping_add_u32(n, 1);
-    try_read(b"read-more", more, links, numbers, order, image);
-}
-
-// Reads the image with sizes that no site has.
-fn try_no_sizes(links: &mut [u8], numbers: &mut [u8], order: &mut [u16], image: &[u8]) {
-    try_read(b"read-0", 0, links, numbers, order, image);
-    try_read(b"read-513", 513, links, numbers, order, image);
-}
-
-// Reads with other lengths of the image, which is the first bytes of the buffer, zeros after it.
-pub(crate) fn try_lengths(
-    n: u32,
-    links: &mut [u8],
-    numbers: &mut [u8],
-    order: &mut [u16],
-    buffer: &[u8],
-    exact: usize,
-) {
-    try_shorter(n, links, numbers, order, buffer, exact);
-    try_longer(n, links, numbers, order, buffer, exact);
-}
-
-// Reads with other sizes of the site.
-pub(crate) fn try_sizes(
-    n: u32,
+    rows: usize,
+    radios: usize,
+    entries: usize,
     links: &mut [u8],
     numbers: &mut [u8],
     order: &mut [u16],
     image: &[u8],
 ) {
-    try_near_sizes(n, links, numbers, order, image);
-    try_no_sizes(links, numbers, order, image);
+    let a = tables::fill::least(rows, links.len());
+    let b = tables::fill::least(radios, numbers.len());
+    let c = tables::fill::least(entries, order.len());
+    try_read(
+        n,
+        &mut links[0..a],
+        &mut numbers[0..b],
+        &mut order[0..c],
+        image,
+    );
 }
 
 // Steps of the block reader so far: the number of its next block, the last refusal number, the bytes given, how often it said
@@ -143,9 +154,9 @@ fn steps(image: &[u8], count: usize) -> Walk {
 
 // Walks the image, two steps past its last block, and prints where the reader stands, its last number, the payload bytes
 // given, how often it said the end, and the digest.
-pub(crate) fn try_blocks(name: &[u8], image: &[u8]) {
+pub(crate) fn try_blocks(image: &[u8]) {
     let walk = steps(image, image.len() / 512 + 2);
-    lines::name(name);
+    lines::name(b"blocks");
     lines::value(walk.next as u64);
     lines::value(walk.number as u64);
     lines::value(walk.bytes as u64);

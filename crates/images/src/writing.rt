@@ -19,10 +19,9 @@ fn write_front(
     writer::write(n, links, numbers, order, &mut buffer[0..end])
 }
 
-// Writes into the first k bytes and prints number, length, the digest of the image, and whether every byte past it was kept.
+// Writes into the first k bytes and prints k, number, length, the digest of the image, and whether every byte past it was kept.
 // Comes back with the length.
 fn try_write(
-    name: &[u8],
     k: usize,
     n: u32,
     links: &[u8],
@@ -33,7 +32,8 @@ fn try_write(
     pattern::fill(buffer);
     let answer = write_front(k, n, links, numbers, order, buffer);
     let length = answer.value as usize;
-    lines::name(name);
+    lines::name(b"write");
+    lines::value(k as u64);
     lines::value(answer.number as u64);
     lines::value(answer.value as u64);
     lines::value(digest::bytes(0, parts::front(buffer, length)));
@@ -51,10 +51,10 @@ pub(crate) fn try_lengths(
     order: &[u16],
     buffer: &mut [u8],
 ) {
-    try_write(b"write-exact", exact, n, links, numbers, order, buffer);
+    try_write(exact, n, links, numbers, order, buffer);
     let short = std::num::wrapping_sub_usize(exact, 1);
-    try_write(b"write-short", short, n, links, numbers, order, buffer);
-    try_write(b"write-none", 0, n, links, numbers, order, buffer);
+    try_write(short, n, links, numbers, order, buffer);
+    try_write(0, n, links, numbers, order, buffer);
 }
 
 // Tries every length of the buffer that matters, and leaves the image with zeros after it. Comes back with its length.
@@ -66,7 +66,7 @@ pub(crate) fn try_writes(
     buffer: &mut [u8],
 ) -> usize {
     let whole = buffer.len();
-    let exact = try_write(b"write", whole, n, links, numbers, order, buffer);
+    let exact = try_write(whole, n, links, numbers, order, buffer);
     try_lengths(exact, n, links, numbers, order, buffer);
     tables::fill::fill8(buffer, 0);
     writer::write(n, links, numbers, order, buffer);
