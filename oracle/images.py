@@ -265,12 +265,12 @@ def small_lines():
 
 def work_out():
     alone(1)
-    for n in (252, 253, 512):
-        alone(n)
-        path(n, 126)
-        path(n, 127)
-        if n == 253:
-            ring(n, n)
+    alone(252)
+    path(252, 126)
+    path(252, 127)
+    path(253, 127)
+    ring(253, 253)
+    alone(512)
     ring(512, 8192)
     small_lines()
     return "".join(LINES)

@@ -174,15 +174,18 @@ fn try_line(name: &[u8], change: Change, mended: bool, good: &[u8]) {
         good,
         &mut [0u8; 1536],
     );
-    lines::name(name);
-    lines::yes(mended);
-    lines::value(t.accepted as u64);
-    lines::value(t.tenth as u64);
-    lines::value(t.eleventh as u64);
-    lines::value(t.others as u64);
-    lines::value(t.broken as u64);
-    lines::value(t.digest);
-    lines::end();
+    lines::print(
+        name,
+        &[
+            lines::yes(mended),
+            t.accepted as u64,
+            t.tenth as u64,
+            t.eleventh as u64,
+            t.others as u64,
+            t.broken as u64,
+            t.digest,
+        ],
+    );
 }
 
 // Both lines of a change.

@@ -31,11 +31,10 @@ fn compare(
     read_numbers: &[u8],
     read_order: &[u16],
 ) {
-    lines::name(b"same");
-    lines::yes(tables::fill::same8(links, read_links));
-    lines::yes(tables::fill::same8(numbers, read_numbers));
-    lines::yes(tables::fill::same16(order, read_order));
-    lines::end();
+    let same_links = lines::yes(tables::fill::same8(links, read_links));
+    let same_numbers = lines::yes(tables::fill::same8(numbers, read_numbers));
+    let same_order = lines::yes(tables::fill::same16(order, read_order));
+    lines::print(b"same", &[same_links, same_numbers, same_order]);
 }
 
 // Writes the site's image, reads it with each length and size and last as it is, and walks its blocks. The read tables hold
@@ -67,10 +66,7 @@ fn try_site(
     read_order: &mut [u16],
 ) {
     let n = shape.radios;
-    lines::name(b"site");
-    lines::value(n as u64);
-    lines::value(shape.links as u64);
-    lines::end();
+    lines::print(b"site", &[n as u64, shape.links as u64]);
     sites::put_site(shape, links, numbers, order);
     try_image(
         n,
@@ -119,13 +115,9 @@ fn try_sites() {
     site(sites::alone(252));
     site(sites::path(252, 126));
     site(sites::path(252, 127));
-    site(sites::alone(253));
-    site(sites::path(253, 126));
     site(sites::path(253, 127));
     site(sites::ring(253, 253, 2));
     site(sites::alone(512));
-    site(sites::path(512, 126));
-    site(sites::path(512, 127));
     site(sites::ring(512, 8192, 32));
 }
 

@@ -21,16 +21,21 @@ pub(crate) fn read_fresh(
 // Prints the line of a reading: n, the lengths of the tables and of the image, the number, whether every table kept its content,
 // and the tables' digest.
 fn print_read(n: u32, links: &[u8], numbers: &[u8], order: &[u16], image: &[u8], number: u32) {
-    lines::name(b"read");
-    lines::value(n as u64);
-    lines::value(links.len() as u64);
-    lines::value(numbers.len() as u64);
-    lines::value(order.len() as u64);
-    lines::value(image.len() as u64);
-    lines::value(number as u64);
-    lines::yes(pattern::are_kept(links, numbers, order));
-    lines::value(digest::tables(0, links, numbers, order));
-    lines::end();
+    let kept = lines::yes(pattern::are_kept(links, numbers, order));
+    let digest = digest::tables(0, links, numbers, order);
+    lines::print(
+        b"read",
+        &[
+            n as u64,
+            links.len() as u64,
+            numbers.len() as u64,
+            order.len() as u64,
+            image.len() as u64,
+            number as u64,
+            kept,
+            digest,
+        ],
+    );
 }
 
 // Reads into tables that hold the pattern and prints the line.
@@ -156,11 +161,14 @@ fn steps(image: &[u8], count: usize) -> Walk {
 // given, how often it said the end, and the digest.
 pub(crate) fn try_blocks(image: &[u8]) {
     let walk = steps(image, image.len() / 512 + 2);
-    lines::name(b"blocks");
-    lines::value(walk.next as u64);
-    lines::value(walk.number as u64);
-    lines::value(walk.bytes as u64);
-    lines::value(walk.ends as u64);
-    lines::value(walk.digest);
-    lines::end();
+    lines::print(
+        b"blocks",
+        &[
+            walk.next as u64,
+            walk.number as u64,
+            walk.bytes as u64,
+            walk.ends as u64,
+            walk.digest,
+        ],
+    );
 }

@@ -32,13 +32,12 @@ fn try_write(
     pattern::fill(buffer);
     let answer = write_front(k, n, links, numbers, order, buffer);
     let length = answer.value as usize;
-    lines::name(b"write");
-    lines::value(k as u64);
-    lines::value(answer.number as u64);
-    lines::value(answer.value as u64);
-    lines::value(digest::bytes(0, parts::front(buffer, length)));
-    lines::yes(pattern::is_kept(parts::rest(buffer, length)));
-    lines::end();
+    let digest = digest::bytes(0, parts::front(buffer, length));
+    let kept = lines::yes(pattern::is_kept(parts::rest(buffer, length)));
+    lines::print(
+        b"write",
+        &[k as u64, answer.number as u64, length as u64, digest, kept],
+    );
     length
 }
 
