@@ -176,14 +176,15 @@ def blocks_line(image):
 def site_lines(n, pairs, order):
     assert is_site(n, pairs, order) and len(pairs) == len(set(pairs))
     lengths, image = (ROW * n, n, n), image_of(n, pairs, order)
-    line("site", n, len(pairs))
+    tables = rows(n, pairs), peeled(n, pairs), order
+    line("site", n, len(pairs), tables_digest(0, tables))
     for room in (BUFFER, len(image), len(image) - 1, 0):
         write_line(image, room)
     for other in (image[:-1], image + [0], [], image + [0] * BLOCK):
         read_line(n, lengths, other)
     for size in (n - 1, n + 1, 0, 513, n):
         read_line(size, lengths, image)
-    line("same", 1, 1, 1)
+    line("again", 1)
     blocks_line(image)
 
 
@@ -222,21 +223,17 @@ def put(make):
     return change
 
 
-CHANGES = [
-    ("plus-1", put(lambda x: x + 1)),
-    ("plus-2", put(lambda x: x + 2)),
-    ("minus-1", put(lambda x: x - 1)),
-    ("minus-2", put(lambda x: x - 2)),
-    ("flipped", put(lambda x: x ^ 255)),
-    ("swapped", swap),
-]
+# by the number that the program gives each: below 256 what is added, 256 flipped, 257 swapped
+CHANGES = {how: put(lambda x, how=how: x + how) for how in (1, 2, 254, 255)}
+CHANGES[256] = put(lambda x: x ^ 255)
+CHANGES[257] = swap
 
 
-def changes_line(name, change, mended, n, good):
+def changes_line(how, mended, n, good):
     counts, h = dict.fromkeys((0, 9, 10, 11), 0), 0
     for at in range(len(good)):
         image = list(good)
-        change(image, at)
+        CHANGES[how](image, at)
         if mended:
             start = at // BLOCK * BLOCK
             image[start + 508:start + BLOCK] = little(check(image[start:start + BLOCK]), 4)
@@ -245,7 +242,7 @@ def changes_line(name, change, mended, n, good):
         h = digest(h, [at, number])
         if not number:
             h = tables_digest(h, tables)
-    line(name, mended, counts[0], counts[10], counts[11], counts[9], 0, h)
+    line("change", how, mended, counts[0], counts[10], counts[11], counts[9], 0, h)
 
 
 def small_lines():
@@ -258,9 +255,9 @@ def small_lines():
         read_line(n, lengths, good)
     blocks_line(good)
     blocks_line(good[:-1])
-    for name, change in CHANGES:
-        changes_line(name, change, False, 5, good)
-        changes_line(name, change, True, 5, good)
+    for how in CHANGES:
+        changes_line(how, False, 5, good)
+        changes_line(how, True, 5, good)
 
 
 def work_out():

@@ -5,12 +5,11 @@ use super::parts;
 use super::pattern;
 use super::reading;
 
-// How a byte is changed: a number added modulo 256, every bit flipped, or the byte swapped with the next but one.
-pub(crate) enum Change {
-    Added(u8),
-    Flipped,
-    Swapped,
-}
+// How a byte is changed: below 256 so much is added to it modulo 256; every bit flipped; swapped with the next but one, which
+// changes nothing where the two are equal.
+pub(crate) const FLIPPED: u32 = 256;
+
+pub(crate) const SWAPPED: u32 = 257;
 
 // How often each refusal number came, how often a refusal changed a table, and a digest of every place, number and accepted
 // table.
@@ -24,54 +23,50 @@ struct Tally {
 }
 
 // What byte x becomes, where y is the next but one.
-fn changed(change: Change, x: u8, y: u8) -> u8 {
-    match change {
-        Change::Added(k) => std::num::wrapping_add_u8(x, k),
-        Change::Flipped => 255 - x,
-        Change::Swapped => y,
+fn changed(how: u32, x: u8, y: u8) -> u8 {
+    if how == FLIPPED {
+        return 255 - x;
     }
+    if how == SWAPPED {
+        return y;
+    }
+    std::num::wrapping_add_u8(x, (how % 256) as u8)
 }
 
 // What the next but one becomes.
-fn beside(change: Change, x: u8, y: u8) -> u8 {
-    match change {
-        Change::Added(_) => y,
-        Change::Flipped => y,
-        Change::Swapped => x,
-    }
+fn beside(how: u32, x: u8, y: u8) -> u8 {
+    if how == SWAPPED { x } else { y }
 }
 
 // Changes byte `at`.
-fn put_change(image: &mut [u8], at: usize, change: Change) {
+fn put_change(image: &mut [u8], at: usize, how: u32) {
     let other = std::num::wrapping_add_usize(at, 2);
     let x = parts::byte_at(image, at);
     let y = parts::byte_at(image, other);
-    parts::put_byte(image, at, changed(change, x, y));
-    parts::put_byte(image, other, beside(change, x, y));
+    parts::put_byte(image, at, changed(how, x, y));
+    parts::put_byte(image, other, beside(how, x, y));
 }
 
-// Writes the four bytes of a check, lowest first.
-fn put_check(image: &mut [u8], at: usize, sum: u32) {
-    parts::put_byte(image, at, (sum % 256) as u8);
-    let second = std::num::wrapping_add_usize(at, 1);
-    parts::put_byte(image, second, (sum / 256 % 256) as u8);
-    let third = std::num::wrapping_add_usize(at, 2);
-    parts::put_byte(image, third, (sum / 65536 % 256) as u8);
-    let fourth = std::num::wrapping_add_usize(at, 3);
-    parts::put_byte(image, fourth, (sum / 16777216 % 256) as u8);
-}
-
-// Gives the block that has byte `at` its check.
+// Gives the block that has byte `at` its check, lowest byte first.
 fn mend(image: &mut [u8], at: usize) {
     let start = at - at % 512;
     let sum = image::checks::check_sum(parts::rest(image, start));
-    put_check(image, std::num::wrapping_add_usize(start, 508), sum);
+    let end = tables::fill::least(std::num::wrapping_add_usize(start, 508), image.len());
+    tables::fill::copy8(
+        &mut image[end..],
+        &[
+            (sum % 256) as u8,
+            (sum / 256 % 256) as u8,
+            (sum / 65536 % 256) as u8,
+            (sum / 16777216 % 256) as u8,
+        ],
+    );
 }
 
 // Makes the changed image.
-fn put_changed(image: &mut [u8], good: &[u8], at: usize, change: Change, mended: bool) {
+fn put_changed(image: &mut [u8], good: &[u8], at: usize, how: u32, mended: bool) {
     tables::fill::copy8(image, good);
-    put_change(image, at, change);
+    put_change(image, at, how);
     if mended {
         mend(image, at);
     }
@@ -135,7 +130,7 @@ fn try_one(
 
 // Changes every byte of the good image in turn.
 fn try_all(
-    change: Change,
+    how: u32,
     mended: bool,
     n: u32,
     links: &mut [u8],
@@ -154,18 +149,18 @@ fn try_all(
     };
     let mut at: usize = 0;
     while at < good.len() {
-        put_changed(image, good, at, change, mended);
+        put_changed(image, good, at, how, mended);
         t = try_one(t, at, n, links, numbers, order, image);
         at += 1;
     }
     t
 }
 
-// Changes every byte of an image of 5 radios and 3 blocks, and prints the line: whether checks were mended, how often 0, 10, 11
-// and any other number came, how often a refusal changed a table, and the digest.
-fn try_line(name: &[u8], change: Change, mended: bool, good: &[u8]) {
+// Changes every byte of an image of 5 radios and 3 blocks, and prints the line: how, whether checks were mended, how often 0, 10,
+// 11 and any other number came, how often a refusal changed a table, and the digest.
+fn try_line(how: u32, mended: bool, good: &[u8]) {
     let t = try_all(
-        change,
+        how,
         mended,
         5,
         &mut [0u8; 320],
@@ -175,8 +170,9 @@ fn try_line(name: &[u8], change: Change, mended: bool, good: &[u8]) {
         &mut [0u8; 1536],
     );
     lines::print(
-        name,
+        b"change",
         &[
+            how as u64,
             lines::yes(mended),
             t.accepted as u64,
             t.tenth as u64,
@@ -189,7 +185,7 @@ fn try_line(name: &[u8], change: Change, mended: bool, good: &[u8]) {
 }
 
 // Both lines of a change.
-pub(crate) fn try_change(name: &[u8], change: Change, good: &[u8]) {
-    try_line(name, change, false, good);
-    try_line(name, change, true, good);
+pub(crate) fn try_change(how: u32, good: &[u8]) {
+    try_line(how, false, good);
+    try_line(how, true, good);
 }

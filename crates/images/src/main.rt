@@ -12,7 +12,6 @@ mod reading;
 mod sites;
 mod writing;
 
-use changes::Change;
 use mesh::Site;
 use sites::Shape;
 
@@ -22,61 +21,29 @@ const LINKS_BYTES: usize = Site::ROW_BYTES * Site::RADIOS as usize;
 // The bytes of the largest image, of 70 blocks, and two blocks more.
 const BUFFER: usize = 36864;
 
-// Prints whether the tables read are the site's.
-fn compare(
-    links: &[u8],
-    numbers: &[u8],
-    order: &[u16],
-    read_links: &[u8],
-    read_numbers: &[u8],
-    read_order: &[u16],
-) {
-    let same_links = lines::yes(tables::fill::same8(links, read_links));
-    let same_numbers = lines::yes(tables::fill::same8(numbers, read_numbers));
-    let same_order = lines::yes(tables::fill::same16(order, read_order));
-    lines::print(b"same", &[same_links, same_numbers, same_order]);
-}
-
-// Writes the site's image, reads it with each length and size and last as it is, and walks its blocks. The read tables hold
-// anything before.
-fn try_image(
-    n: u32,
-    links: &[u8],
-    numbers: &[u8],
-    order: &[u16],
-    read_links: &mut [u8],
-    read_numbers: &mut [u8],
-    read_order: &mut [u16],
-) {
+// Writes the site's image and reads it with each length and size, last as it is. The tables read must give the same image again,
+// byte for byte; then its blocks are walked.
+fn try_image(n: u32, links: &mut [u8], numbers: &mut [u8], order: &mut [u16]) {
     let mut buffer = [0u8; BUFFER];
     let exact = writing::try_writes(n, links, numbers, order, &mut buffer);
-    reading::try_cases(n, read_links, read_numbers, read_order, &buffer, exact);
-    compare(links, numbers, order, read_links, read_numbers, read_order);
+    reading::try_cases(n, links, numbers, order, &buffer, exact);
+    let mut again = [0u8; BUFFER];
+    image_writer::writer::write(n, links, numbers, order, &mut again);
+    lines::print(
+        b"again",
+        &[lines::yes(tables::fill::same8(&buffer, &again))],
+    );
     reading::try_blocks(parts::front(&buffer, exact));
 }
 
 // Makes the site and tries its image.
-fn try_site(
-    shape: Shape,
-    links: &mut [u8],
-    numbers: &mut [u8],
-    order: &mut [u16],
-    read_links: &mut [u8],
-    read_numbers: &mut [u8],
-    read_order: &mut [u16],
-) {
+fn try_site(shape: Shape, links: &mut [u8], numbers: &mut [u8], order: &mut [u16]) {
     let n = shape.radios;
-    lines::print(b"site", &[n as u64, shape.links as u64]);
+    let count = shape.links;
     sites::put_site(shape, links, numbers, order);
-    try_image(
-        n,
-        links,
-        numbers,
-        order,
-        read_links,
-        read_numbers,
-        read_order,
-    );
+    let digest = digest::tables(0, links, numbers, order);
+    lines::print(b"site", &[n as u64, count as u64, digest]);
+    try_image(n, links, numbers, order);
 }
 
 // Tries a site whose tables are parts of the largest ones.
@@ -88,17 +55,11 @@ fn run_site(shape: Shape)
     let mut links = [0u8; LINKS_BYTES];
     let mut numbers = [0u8; Site::RADIOS as usize];
     let mut order = [0u16; Site::RADIOS as usize];
-    let mut read_links = [0u8; LINKS_BYTES];
-    let mut read_numbers = [0u8; Site::RADIOS as usize];
-    let mut read_order = [0u16; Site::RADIOS as usize];
     try_site(
         shape,
         &mut links[0..bytes],
         &mut numbers[0..many],
         &mut order[0..many],
-        &mut read_links[0..bytes],
-        &mut read_numbers[0..many],
-        &mut read_order[0..many],
     );
 }
 
@@ -164,12 +125,12 @@ fn try_small_reads(image: &[u8]) {
 
 // Changes every byte of the small image in each way.
 fn try_small_changes(good: &[u8]) {
-    changes::try_change(b"plus-1", Change::Added(1), good);
-    changes::try_change(b"plus-2", Change::Added(2), good);
-    changes::try_change(b"minus-1", Change::Added(255), good);
-    changes::try_change(b"minus-2", Change::Added(254), good);
-    changes::try_change(b"flipped", Change::Flipped, good);
-    changes::try_change(b"swapped", Change::Swapped, good);
+    changes::try_change(1, good);
+    changes::try_change(2, good);
+    changes::try_change(254, good);
+    changes::try_change(255, good);
+    changes::try_change(changes::FLIPPED, good);
+    changes::try_change(changes::SWAPPED, good);
 }
 
 fn main() {

@@ -8,11 +8,11 @@ use Rattle.images.proofs.changes.try_all.Statement.{statement}
 use Rattle.images.proofs.changes.try_all.Tie as tie
 
 abbrev Inv-loop : tie.InvT-loop
-Inv-loop change mended n links₀ numbers₀ order₀ good image₀ t₀ at₀ links numbers order image t at =
+Inv-loop how mended n links₀ numbers₀ order₀ good image₀ t₀ at₀ links numbers order image t at =
     (length links ≡ length links₀) × (length numbers ≡ length numbers₀) × (length order ≡ length order₀) × (length image ≡ length image₀)
 
 abbrev μ-loop : tie.MeasureT-loop
-μ-loop change mended n links₀ numbers₀ order₀ good image₀ t₀ at₀ links numbers order image t at =
+μ-loop how mended n links₀ numbers₀ order₀ good image₀ t₀ at₀ links numbers order image t at =
     length good - at
 
 loop-holds : tie.Need-loop-holds Inv-loop μ-loop
