@@ -21,18 +21,20 @@ const LINKS_BYTES: usize = Site::ROW_BYTES * Site::RADIOS as usize;
 // The bytes of the largest image, of 70 blocks, and two blocks more.
 const BUFFER: usize = 36864;
 
-// Writes the site's image and reads it with each length and size, last as it is. The tables read must give the same image again,
-// byte for byte; then its blocks are walked.
+// Prints whether the tables give what the buffer holds, an image and zeros after it, byte for byte.
+fn try_again(n: u32, links: &[u8], numbers: &[u8], order: &[u16], buffer: &[u8]) {
+    let mut again = [0u8; BUFFER];
+    image_writer::writer::write(n, links, numbers, order, &mut again);
+    lines::print(b"again", &[lines::yes(tables::fill::same8(buffer, &again))]);
+}
+
+// Writes the site's image, reads it with each length and size and last as it is, writes it again from the tables read, and walks
+// its blocks.
 fn try_image(n: u32, links: &mut [u8], numbers: &mut [u8], order: &mut [u16]) {
     let mut buffer = [0u8; BUFFER];
     let exact = writing::try_writes(n, links, numbers, order, &mut buffer);
     reading::try_cases(n, links, numbers, order, &buffer, exact);
-    let mut again = [0u8; BUFFER];
-    image_writer::writer::write(n, links, numbers, order, &mut again);
-    lines::print(
-        b"again",
-        &[lines::yes(tables::fill::same8(&buffer, &again))],
-    );
+    try_again(n, links, numbers, order, &buffer);
     reading::try_blocks(parts::front(&buffer, exact));
 }
 
@@ -82,7 +84,7 @@ fn try_sites() {
     site(sites::ring(512, 8192, 32));
 }
 
-// Writes the image of a small site: a triangle 0 1 2, and 2 linked to 3, 3 to 4. The tables hold anything before.
+// Writes the image of a small site: a triangle 0 1 2, and 2 linked to 3, 3 to 4. The links table holds zeros before.
 fn put_small(links: &mut [u8], image: &mut [u8]) {
     tables::rows::put_link(links, true, 0, 1);
     tables::rows::put_link(links, true, 0, 2);
