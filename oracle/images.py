@@ -209,6 +209,14 @@ def ring(n, count):
     site_lines(n, round_links(n, count), [5 * i % n for i in range(n)])
 
 
+def full(k):
+    """Radio k + 1 has k neighbours; the last link, k to k + 2, is made to lead to it too."""
+    n, star = k + 3, [(v, k + 1) for v in range(k)]
+    order = [(i + k + 2) % n for i in range(n)]
+    assert is_site(n, star + [(k, k + 2)], order)
+    read_line(n, (ROW * n, n, n), image_of(n, star + [(k, k + 1)], order))
+
+
 # ---- every byte of a small image changed
 
 def swap(image, at):
@@ -269,6 +277,8 @@ def work_out():
     ring(253, 253)
     alone(512)
     ring(512, 8192)
+    full(31)
+    full(32)
     small_lines()
     return "".join(LINES)
 

@@ -48,7 +48,7 @@ fn put_change(image: &mut [u8], at: usize, how: u32) {
 }
 
 // Gives the block that has byte `at` its check, lowest byte first.
-fn mend(image: &mut [u8], at: usize) {
+pub(crate) fn mend(image: &mut [u8], at: usize) {
     let start = at - at % 512;
     let sum = image::checks::check_sum(parts::rest(image, start));
     let end = tables::fill::least(std::num::wrapping_add_usize(start, 508), image.len());

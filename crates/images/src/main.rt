@@ -5,6 +5,7 @@ ghost use Rattle.mesh.specs.Limits.{max-radios};
 
 mod changes;
 mod digest;
+mod full;
 mod lines;
 mod parts;
 mod pattern;
@@ -84,6 +85,12 @@ fn try_sites() {
     site(sites::ring(512, 8192, 32));
 }
 
+// A radio with 32 neighbours is taken, one with 33 is not.
+fn try_full() {
+    full::try_neighbours(31, &mut [0u8; 2176], &mut [1u8; 34], &mut [0u16; 34]);
+    full::try_neighbours(32, &mut [0u8; 2240], &mut [1u8; 35], &mut [0u16; 35]);
+}
+
 // Writes the image of a small site: a triangle 0 1 2, and 2 linked to 3, 3 to 4. The links table holds zeros before.
 fn put_small(links: &mut [u8], image: &mut [u8]) {
     tables::rows::put_link(links, true, 0, 1);
@@ -137,6 +144,7 @@ fn try_small_changes(good: &[u8]) {
 
 fn main() {
     try_sites();
+    try_full();
     let mut links = [0u8; 320];
     let mut good = [0u8; 1536];
     put_small(&mut links, &mut good);

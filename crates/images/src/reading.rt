@@ -39,7 +39,13 @@ fn print_read(n: u32, links: &[u8], numbers: &[u8], order: &[u16], image: &[u8],
 }
 
 // Reads into tables that hold the pattern and prints the line.
-fn try_read(n: u32, links: &mut [u8], numbers: &mut [u8], order: &mut [u16], image: &[u8]) {
+pub(crate) fn try_read(
+    n: u32,
+    links: &mut [u8],
+    numbers: &mut [u8],
+    order: &mut [u16],
+    image: &[u8],
+) {
     let number = read_fresh(n, links, numbers, order, image);
     print_read(n, links, numbers, order, image, number);
 }

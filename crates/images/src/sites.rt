@@ -69,6 +69,15 @@ fn put_links(links: &mut [u8], n: u32, count: u32) {
     }
 }
 
+// Links radio `centre` to the radios below k.
+pub(crate) fn put_star(links: &mut [u8], k: u32, centre: u32) {
+    let mut v: u32 = 0;
+    while v < k {
+        tables::rows::put_link(links, true, v, centre);
+        v += 1;
+    }
+}
+
 // Entry i of an order of n radios that starts with radio `first`; spread, the next entry is five radios on, else one.
 fn entry(i: usize, spread: bool, first: u32, n: usize) -> u16 {
     if n == 0 {
@@ -82,7 +91,7 @@ fn entry(i: usize, spread: bool, first: u32, n: usize) -> u16 {
 }
 
 // Fills the order.
-fn put_order(order: &mut [u16], spread: bool, first: u32) {
+pub(crate) fn put_order(order: &mut [u16], spread: bool, first: u32) {
     let mut i: usize = 0;
     while i < order.len() {
         order[i] = entry(i, spread, first, order.len());
