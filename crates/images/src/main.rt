@@ -1,0 +1,153 @@
+// Images written, read and walked at the sizes where their form changes, and every byte of a small image changed in turn. The
+// expected lines are worked out by oracle/images.py.
+ghost use Prim.Native.Nat.{_≤_};
+ghost use Rattle.mesh.specs.Limits.{max-radios};
+
+mod changes;
+mod digest;
+mod full;
+mod lines;
+mod parts;
+mod pattern;
+mod reading;
+mod sites;
+mod writing;
+
+use mesh::Site;
+use sites::Shape;
+
+// The bytes of a site's largest links table.
+const LINKS_BYTES: usize = Site::ROW_BYTES * Site::RADIOS as usize;
+
+// The bytes of the largest image, of 70 blocks, and two blocks more.
+const BUFFER: usize = 36864;
+
+// Prints whether the tables give what the buffer holds, an image and zeros after it, byte for byte.
+fn try_again(n: u32, links: &[u8], numbers: &[u8], order: &[u16], buffer: &[u8]) {
+    let mut again = [0u8; BUFFER];
+    image_writer::writer::write(n, links, numbers, order, &mut again);
+    lines::print(b"again", &[lines::yes(tables::fill::same8(buffer, &again))]);
+}
+
+// Writes the site's image, reads it with each length and size and last as it is, writes it again from the tables read, and walks
+// its blocks.
+fn try_image(n: u32, links: &mut [u8], numbers: &mut [u8], order: &mut [u16]) {
+    let mut buffer = [0u8; BUFFER];
+    let exact = writing::try_writes(n, links, numbers, order, &mut buffer);
+    reading::try_cases(n, links, numbers, order, &buffer, exact);
+    try_again(n, links, numbers, order, &buffer);
+    reading::try_blocks(parts::front(&buffer, exact));
+}
+
+// Makes the site and tries its image.
+fn try_site(shape: Shape, links: &mut [u8], numbers: &mut [u8], order: &mut [u16]) {
+    let n = shape.radios;
+    let count = shape.links;
+    sites::put_site(shape, links, numbers, order);
+    let digest = digest::tables(0, links, numbers, order);
+    lines::print(b"site", &[n as u64, count as u64, digest]);
+    try_image(n, links, numbers, order);
+}
+
+// Tries a site whose tables are parts of the largest ones.
+fn run_site(shape: Shape)
+    requires { ⌜ shape .radios ≤ max-radios ⌝ }
+{
+    let many = shape.radios as usize;
+    let bytes = Site::ROW_BYTES * many;
+    let mut links = [0u8; LINKS_BYTES];
+    let mut numbers = [0u8; Site::RADIOS as usize];
+    let mut order = [0u16; Site::RADIOS as usize];
+    try_site(
+        shape,
+        &mut links[0..bytes],
+        &mut numbers[0..many],
+        &mut order[0..many],
+    );
+}
+
+// Tries a site; one of more than 512 radios is passed over.
+fn site(shape: Shape) {
+    if shape.radios <= Site::RADIOS {
+        run_site(shape);
+    }
+}
+
+// The sizes where the order or the links take one block more.
+fn try_sites() {
+    site(sites::alone(1));
+    site(sites::alone(252));
+    site(sites::path(252, 126));
+    site(sites::path(252, 127));
+    site(sites::path(253, 127));
+    site(sites::ring(253, 253, 2));
+    site(sites::alone(512));
+    site(sites::ring(512, 8192, 32));
+}
+
+// A radio with 32 neighbours is taken, one with 33 is not.
+fn try_full() {
+    full::try_neighbours(31, &mut [0u8; 2176], &mut [1u8; 34], &mut [0u16; 34]);
+    full::try_neighbours(32, &mut [0u8; 2240], &mut [1u8; 35], &mut [0u16; 35]);
+}
+
+// Writes the image of a small site: a triangle 0 1 2, and 2 linked to 3, 3 to 4. The links table holds zeros before.
+fn put_small(links: &mut [u8], image: &mut [u8]) {
+    tables::rows::put_link(links, true, 0, 1);
+    tables::rows::put_link(links, true, 0, 2);
+    tables::rows::put_link(links, true, 1, 2);
+    tables::rows::put_link(links, true, 2, 3);
+    tables::rows::put_link(links, true, 3, 4);
+    let numbers: [u8; 5] = [2, 2, 2, 1, 1];
+    let order: [u16; 5] = [4, 3, 2, 0, 1];
+    image_writer::writer::write(5, links, &numbers, &order, image);
+}
+
+// Reads the small image into tables of these lengths.
+fn read_small(n: u32, rows: usize, radios: usize, entries: usize, image: &[u8]) {
+    reading::try_cut(
+        n,
+        rows,
+        radios,
+        entries,
+        &mut [0u8; 384],
+        &mut [0u8; 6],
+        &mut [0u16; 6],
+        image,
+    );
+}
+
+// Reads the small image with another n, and into tables of other lengths.
+fn try_small_reads(image: &[u8]) {
+    read_small(5, 320, 5, 5, image);
+    read_small(4, 256, 4, 4, image);
+    read_small(6, 384, 6, 6, image);
+    read_small(5, 319, 5, 5, image);
+    read_small(5, 321, 5, 5, image);
+    read_small(5, 320, 4, 5, image);
+    read_small(5, 320, 6, 5, image);
+    read_small(5, 320, 5, 4, image);
+    read_small(5, 320, 5, 6, image);
+    reading::try_blocks(image);
+    reading::try_blocks(parts::front(image, 1535));
+}
+
+// Changes every byte of the small image in each way.
+fn try_small_changes(good: &[u8]) {
+    changes::try_change(1, good);
+    changes::try_change(2, good);
+    changes::try_change(254, good);
+    changes::try_change(255, good);
+    changes::try_change(changes::FLIPPED, good);
+    changes::try_change(changes::SWAPPED, good);
+}
+
+fn main() {
+    try_sites();
+    try_full();
+    let mut links = [0u8; 320];
+    let mut good = [0u8; 1536];
+    put_small(&mut links, &mut good);
+    try_small_reads(&good);
+    try_small_changes(&good);
+}
