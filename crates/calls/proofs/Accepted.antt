@@ -124,20 +124,20 @@ module _ (n : ℕ) (t : Tables) (w : List ℕ) (r : Value) (x : List ℕ) (d : W
   good : Site-good n (lengths-of t) true (sound n t)
   good = write-zero n (lengths-of t) (length w) (sound n t) g (given .0) .0
 
-  in-front : take (r .value) x ≡ written
+  bytes-written : take (r .value) x ≡ written
   unfolding image-length
-  in-front =
+  bytes-written =
       ap₂ (λ (i : ℕ) (ys : List ℕ). take i ys) (given .1 .value ∙ sym (length-image-of g (t .order))) (given .1 .lent)
       ∙ take-overwrite written w
 
   read-accepts : (u : Tables) → lengths-of u ≡ lengths-of t → read-refusal n (lengths-of u) (take (r .value) x) ≡ 0
   read-accepts u e =
-      rw (e, in-front) (read-yes n (lengths-of t) written (good .lent)
+      rw (e, bytes-written) (read-yes n (lengths-of t) written (good .lent)
       (record { whole = whole-blocks-image-of g (t .order); checks = checks-good-image-of g (t .order) })
       (is-image-sound n t (good .lent .most) (good .is-sound)))
 
   pub write-right : is-image n (take (r .value) x) ≡ true
-  write-right = rw in-front (is-image-sound n t (good .lent .most) (good .is-sound))
+  write-right = rw bytes-written (is-image-sound n t (good .lent .most) (good .is-sound))
 
   -- the same tables come back
   pub read-what-was-written : Tables-of-size n t → (u : Tables) (q : ℕ) (v : Tables) → lengths-of u ≡ lengths-of t
@@ -148,7 +148,7 @@ module _ (n : ℕ) (t : Tables) (w : List ℕ) (r : Value) (x : List ℕ) (d : W
       let c = by-zero (read-refusal n (lengths-of u) bs) (Read-accepted n bs q v) (λ k. Tables-refused k q u v) (read-accepts u e) f in (
         c .number,
         tables-ext v (tables-of (image-graph n bs) (image-order n bs)) (c .links) (c .numbers) (c .order)
-            ∙ ap (λ (ys : List ℕ). tables-of (image-graph n ys) (image-order n ys)) in-front
+            ∙ ap (λ (ys : List ℕ). tables-of (image-graph n ys) (image-order n ys)) bytes-written
             ∙ tables-read-written n t (good .lent .most) size (good .is-sound),
       )
 

@@ -11,3 +11,5 @@ pub mod Steps
 pub mod WholeList
 pub mod Cases
 pub mod Accepted
+-- decimal digits, for the script and the printer
+pub mod DecimalLaws

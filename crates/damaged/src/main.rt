@@ -4,10 +4,10 @@ use libc::STDOUT_FILENO;
 
 // A triangle 0 1 2, radio 3 linked to 2, radio 4 alone.
 fn put_site(links: &mut [u8]) {
-    tables::rows::put_link(links, true, 0, 1);
-    tables::rows::put_link(links, true, 1, 2);
-    tables::rows::put_link(links, true, 0, 2);
-    tables::rows::put_link(links, true, 2, 3);
+    rows::put_link(links, true, 0, 1);
+    rows::put_link(links, true, 1, 2);
+    rows::put_link(links, true, 0, 2);
+    rows::put_link(links, true, 2, 3);
 }
 
 // Checks the tables and prints the line.
@@ -32,7 +32,7 @@ fn say_tables(name: &[u8], n: u32, numbers: &[u8], order: &[u16]) {
 fn say_bit(name: &[u8], on: bool, a: u32, b: u32) {
     let mut links = [0u8; 320];
     put_site(&mut links);
-    tables::rows::put_bit(&mut links, on, a, b);
+    rows::put_bit(&mut links, on, a, b);
     say(name, 5, &links, &[2, 2, 2, 1, 0], &[4, 3, 2, 0, 1]);
 }
 
@@ -40,7 +40,7 @@ fn say_bit(name: &[u8], on: bool, a: u32, b: u32) {
 fn put_star(links: &mut [u8], k: u32) {
     let mut v: u32 = 0;
     while v < k {
-        tables::rows::put_link(links, true, v, k);
+        rows::put_link(links, true, v, k);
         v += 1;
     }
 }

@@ -16,7 +16,7 @@ use Rattle.mesh.specs.Image.{image-link}
 use Rattle.mesh.proofs.AscendingLinks.{link-eq}
 use Rattle.mesh.proofs.BoolLaws.{bool-cases, bit-one, and-left, and-right}
 use Rattle.mesh.proofs.ListLaws.{count-append, count-le-length, length-range}
-use Rattle.tables.proofs.Listing.{range-append}
+use Rattle.rows.proofs.Listing.{range-append}
 use Rattle.image_reader.specs.Pairs.{links-up-to, Pair-at, tallied, Tallied}
 
 -- ---- laws of lists

@@ -46,7 +46,7 @@ fn put_links(image: &[u8], n: u32, m: u32, links: &mut [u8])
     let mut j: u32 = 0;
     while j < m {
         let pair = pairs::pair_at(image, n, j);
-        tables::rows::put_link(links, true, pair.low, pair.high);
+        rows::put_link(links, true, pair.low, pair.high);
         j += 1;
     }
 }

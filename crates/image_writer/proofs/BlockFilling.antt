@@ -19,7 +19,7 @@ use Rattle.mesh.proofs.Parts.{length-flatMap}
 use Rattle.mesh.proofs.ImageBlocks.{length-link-bytes}
 use Rattle.mesh.proofs.ImageOf.{length-block-at}
 use Rattle.mesh.proofs.TableLaws.{length-flatMap-range}
-use Rattle.tables.proofs.Listing.{range-append}
+use Rattle.rows.proofs.Listing.{range-append}
 use Rattle.image_writer.specs.Links.{links-from, Cursor-good, Links-filled, marked-graph, Cursor-at, Block-filled}
 use Rattle.image_writer.proofs.FillerLaws.{flatMap-append}
 

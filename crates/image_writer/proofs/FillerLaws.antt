@@ -12,7 +12,7 @@ use Rattle.mesh.specs.Image.{block-bytes, payload-bytes, block-entries, word, l
 use Rattle.mesh.proofs.ImageBlocks.{block-body, block-check-last, length-block-body}
 use Rattle.mesh.proofs.Parts.{length-flatMap}
 use Rattle.mesh.proofs.WordLaws.{length-word, length-long}
-use Rattle.tables.proofs.Listing.{sets-append}
+use Rattle.rows.proofs.Listing.{sets-append}
 use Rattle.image_writer.specs.Filler.{opened, sealed}
 
 -- ---- laws of lists

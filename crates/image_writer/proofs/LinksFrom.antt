@@ -18,7 +18,7 @@ use Rattle.mesh.specs.Image.{block-bytes, block-links, link-bytes}
 use Rattle.mesh.proofs.ListLaws.{In, range-in, filter-append, filter-none}
 use Rattle.mesh.proofs.Parts.{length-flatMap}
 use Rattle.mesh.proofs.ImageBlocks.{length-link-bytes}
-use Rattle.tables.proofs.Listing.{range-append, sets-append}
+use Rattle.rows.proofs.Listing.{range-append, sets-append}
 use Rattle.image_writer.specs.Links.{uppers, links-to, upper-links, links-from, Rows-listed, Cursor-good, Row-put, Links-put, Span-of}
 use Rattle.image_writer.proofs.FillerLaws.{flatMap-append}
 use Rattle.image_writer.proofs.UpperLaws.{take-map, drop-map, length-links-to}

@@ -17,9 +17,9 @@ use Rattle.mesh.specs.Graph.{Link, link-of}
 use Rattle.mesh.specs.Tables.{marked, row-links, graph-in}
 use Rattle.mesh.proofs.BoolLaws.{bool-cases}
 use Rattle.mesh.proofs.ListLaws.{In, in-filter, in-range, range-in, filter-append, filter-none}
-use Rattle.tables.specs.Rows.{neighbours-of, row-listed}
-use Rattle.tables.proofs.Listing.{range-append}
-use Rattle.tables.proofs.RowWords.{row-listed-whole}
+use Rattle.rows.specs.Rows.{neighbours-of, row-listed}
+use Rattle.rows.proofs.Listing.{range-append}
+use Rattle.rows.proofs.RowWords.{row-listed-whole}
 use Rattle.image_writer.specs.Links.{uppers, links-to, upper-links, links-from, First-above, Span-of}
 
 -- ---- laws of lists

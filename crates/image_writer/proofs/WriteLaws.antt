@@ -27,8 +27,8 @@ use Rattle.calls.specs.declared.Value.{Value}
 use Rattle.calls.proofs.ContractLaws.{by-accepted, by-refused}
 use Rattle.calls.proofs.QuestionLaws.{ask-no}
 use Rattle.calls.proofs.ChainLaws.{Site-good, site-zero, site-yes, write-yes}
-use Rattle.tables.proofs.Listing.{range-append}
-use Rattle.tables.proofs.RowListLaws.{length-neighbours-of}
+use Rattle.rows.proofs.Listing.{range-append}
+use Rattle.rows.proofs.RowListLaws.{length-neighbours-of}
 use Rattle.image_writer.specs.Links.{uppers, links-to, upper-links, links-from, Rows-listed, marked-graph}
 
 -- ---- the links of a sound site

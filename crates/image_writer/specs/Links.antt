@@ -15,7 +15,7 @@ use Rattle.mesh.specs.Lists.{range, filter}
 use Rattle.mesh.specs.Graph.{Link, link-of, Graph, graph}
 use Rattle.mesh.specs.Tables.{marked}
 use Rattle.mesh.specs.Image.{block-links, link-bytes, block, order-blocks, block-at}
-use Rattle.tables.specs.Rows.{neighbours-of}
+use Rattle.rows.specs.Rows.{neighbours-of}
 
 unfoldable pub uppers : (links : List ℕ) → (a : ℕ) → List ℕ
 uppers ts a = filter (λ b. marked ts a b) (range (suc a) (max-radios - suc a))

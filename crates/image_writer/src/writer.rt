@@ -8,7 +8,7 @@ ghost use Rattle.mesh.specs.Limits.{max-radios, max-neighbours, row-bytes};
 ghost use Rattle.mesh.specs.Lists.{range};
 ghost use Rattle.mesh.specs.Graph.{link-of};
 ghost use Rattle.mesh.specs.Image.{block-bytes, block-entries, block-links, link-bytes, word, block, block-at, order-blocks, block-count};
-ghost use Rattle.tables.specs.Rows.{neighbours-of};
+ghost use Rattle.rows.specs.Rows.{neighbours-of};
 ghost use Rattle.mesh.specs.Tables.{tables};
 ghost use Rattle.calls.specs.Answers.{Write-contract};
 ghost use Rattle.image_writer.specs.Filler.{opened, sealed};
@@ -119,7 +119,7 @@ fn list_uppers(links: &[u8], a: u32, list: &mut [u16]) -> Span
     requires { ⌜ (a < max-radios) × (row-bytes * a + row-bytes ≤ length (now links)) × (length (neighbours-of (now links) a) ≤ length (now list)) ⌝ }
     ensures { λ r. ⌜ Span-of (now (links .entry)) a (now (list .entry)) (now (list .exit)) (r .start) (r .end) ⌝ }
 {
-    let end = tables::rows::row_neighbours(links, a, list) as usize;
+    let end = rows::row_neighbours(links, a, list) as usize;
     let start = first_above(list, end, a);
     Span { start, end }
 }

@@ -7,7 +7,7 @@ use super::sites;
 // Radio k + 1 linked to the k radios below k, and radio k to k + 2: all numbers are 1.
 fn put_site(k: u32, links: &mut [u8], order: &mut [u16]) {
     sites::put_star(links, k, std::num::wrapping_add_u32(k, 1));
-    tables::rows::put_link(links, true, k, std::num::wrapping_add_u32(k, 2));
+    rows::put_link(links, true, k, std::num::wrapping_add_u32(k, 2));
     sites::put_order(order, false, std::num::wrapping_add_u32(k, 2));
 }
 

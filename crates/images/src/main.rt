@@ -93,11 +93,11 @@ fn try_full() {
 
 // Writes the image of a small site: a triangle 0 1 2, and 2 linked to 3, 3 to 4. The links table holds zeros before.
 fn put_small(links: &mut [u8], image: &mut [u8]) {
-    tables::rows::put_link(links, true, 0, 1);
-    tables::rows::put_link(links, true, 0, 2);
-    tables::rows::put_link(links, true, 1, 2);
-    tables::rows::put_link(links, true, 2, 3);
-    tables::rows::put_link(links, true, 3, 4);
+    rows::put_link(links, true, 0, 1);
+    rows::put_link(links, true, 0, 2);
+    rows::put_link(links, true, 1, 2);
+    rows::put_link(links, true, 2, 3);
+    rows::put_link(links, true, 3, 4);
     let numbers: [u8; 5] = [2, 2, 2, 1, 1];
     let order: [u16; 5] = [4, 3, 2, 0, 1];
     image_writer::writer::write(5, links, &numbers, &order, image);

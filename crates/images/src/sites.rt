@@ -64,7 +64,7 @@ fn far_end(n: u32, j: u32) -> u32 {
 fn put_links(links: &mut [u8], n: u32, count: u32) {
     let mut j: u32 = 0;
     while j < count {
-        tables::rows::put_link(links, true, near_end(n, j), far_end(n, j));
+        rows::put_link(links, true, near_end(n, j), far_end(n, j));
         j += 1;
     }
 }
@@ -73,7 +73,7 @@ fn put_links(links: &mut [u8], n: u32, count: u32) {
 pub(crate) fn put_star(links: &mut [u8], k: u32, centre: u32) {
     let mut v: u32 = 0;
     while v < k {
-        tables::rows::put_link(links, true, v, centre);
+        rows::put_link(links, true, v, centre);
         v += 1;
     }
 }

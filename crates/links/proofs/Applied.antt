@@ -27,7 +27,7 @@ use Rattle.calls.specs.Writes.{Link-accepted}
 use Rattle.calls.specs.declared.Reply.{Reply}
 use Rattle.tables.specs.Steps.{stepped, all-stepped}
 use Rattle.soundness.proofs.CheckLaws.{in-getD}
-use Rattle.tables.proofs.Listing.{range-append}
+use Rattle.rows.proofs.Listing.{range-append}
 use Rattle.tables.proofs.StepLaws.{length-all-stepped, getD-all-stepped-other, getD-all-stepped-listed}
 use Rattle.links.specs.Plans.{Planned, changed-part}
 use Rattle.soundness.specs.Checks.{Entries-below}

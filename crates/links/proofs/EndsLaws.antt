@@ -14,9 +14,9 @@ use Rattle.mesh.specs.Sound.{symmetric, irreflexive, within, few, rows-proper}
 use Rattle.mesh.proofs.BoolLaws.{and-left, and-right}
 use Rattle.mesh.proofs.ReadBack.{linked-graph-in, degree-graph-in}
 use Rattle.calls.specs.Questions.{ask, is-radio, are-radios, ends-differ, can-switch, has-room, ends-refusal}
-use Rattle.tables.specs.Rows.{row-listed}
-use Rattle.tables.proofs.RowListLaws.{length-neighbours-of}
-use Rattle.tables.proofs.RowWords.{row-listed-whole}
+use Rattle.rows.specs.Rows.{row-listed}
+use Rattle.rows.proofs.RowListLaws.{length-neighbours-of}
+use Rattle.rows.proofs.RowWords.{row-listed-whole}
 
 -- ---- the rows of a proper table
 

@@ -13,8 +13,8 @@ use Rattle.mesh.specs.Tables.{marked}
 use Rattle.mesh.proofs.BoolLaws.{bool-cases, never}
 use Rattle.mesh.proofs.ListLaws.{In, member-in, in-filter, Distinct}
 use Rattle.mesh.proofs.OrderLaws.{Rising}
-use Rattle.tables.specs.Rows.{neighbours-of, row-listed}
-use Rattle.tables.proofs.RowListLaws.{Ascending, ascending-neighbours-of, in-neighbours-of, member-neighbours-of}
+use Rattle.rows.specs.Rows.{neighbours-of, row-listed}
+use Rattle.rows.proofs.RowListLaws.{Ascending, ascending-neighbours-of, in-neighbours-of, member-neighbours-of}
 use Rattle.links.specs.Peels.{stretch, Level}
 use Rattle.links.proofs.StretchLoops.{length-stretch, getD-stretch}
 

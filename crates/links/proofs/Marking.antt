@@ -15,8 +15,8 @@ use Rattle.mesh.specs.Lists.{range, member}
 use Rattle.mesh.specs.Tables.{marked, put-bit}
 use Rattle.mesh.proofs.ListLaws.{In, range-in, filter-ext}
 use Rattle.mesh.proofs.TableLaws.{length-put-bit, marked-put-bit, marked-replicate, byte-at-less}
-use Rattle.tables.specs.Rows.{neighbours-of, row-listed}
-use Rattle.tables.proofs.RowWords.{row-listed-whole}
+use Rattle.rows.specs.Rows.{neighbours-of, row-listed}
+use Rattle.rows.proofs.RowWords.{row-listed-whole}
 use Rattle.soundness.specs.Checks.{Entries-below}
 use Rattle.links.specs.Changes.{all-marked, in-order}
 

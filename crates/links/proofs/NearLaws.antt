@@ -14,8 +14,8 @@ use Rattle.mesh.specs.Lists.{range, filter, overwrite}
 use Rattle.mesh.specs.Tables.{digit, byte-at, marked, put-bit, put-link}
 use Rattle.mesh.proofs.ListLaws.{In, range-in, filter-ext, take-overwrite}
 use Rattle.mesh.proofs.TableLaws.{length-put-bit, marked-put-bit}
-use Rattle.tables.specs.Rows.{neighbours-of, row-listed}
-use Rattle.tables.proofs.RowWords.{row-listed-whole}
+use Rattle.rows.specs.Rows.{neighbours-of, row-listed}
+use Rattle.rows.proofs.RowWords.{row-listed-whole}
 use Rattle.links.specs.Turns.{released, places-released, Releasable, Near-ready, Lists-neighbours}
 
 -- rows that mark alike list alike

@@ -10,8 +10,8 @@ use lib.Seq.{length-take-le, take-suc-set}
 use Rattle.mesh.specs.Limits.{max-radios, row-bytes}
 use Rattle.mesh.specs.Lists.{head-or}
 use Rattle.mesh.specs.Tables.{marked, put-bit, put-link}
-use Rattle.tables.specs.Rows.{neighbours-of, row-listed}
-use Rattle.tables.proofs.RowWords.{row-listed-whole}
+use Rattle.rows.specs.Rows.{neighbours-of, row-listed}
+use Rattle.rows.proofs.RowWords.{row-listed-whole}
 use Rattle.links.specs.Turns.{released, places-released, Releasable, Near-ready}
 use Rattle.links.specs.Peels.{level-start, level-size, linked-after, Level, Turning, Peel-ready, Peel-done}
 use Rattle.links.proofs.TurnLoops.{length-released, length-places-released}

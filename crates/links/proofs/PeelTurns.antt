@@ -18,8 +18,8 @@ use Rattle.mesh.proofs.ListLaws.{In, in-left, in-right, in-cases, in-drop, memb
 use Rattle.mesh.proofs.TableLaws.{length-put-bit}
 use Rattle.mesh.proofs.OrderLaws.{Rising}
 use Rattle.mesh.proofs.Peel.{Takes, Peels, takes-more, takes-permutation, takes-now-in, takes-taken-in, takes-now-filter}
-use Rattle.tables.specs.Rows.{neighbours-of}
-use Rattle.tables.proofs.RowListLaws.{distinct-neighbours-of, in-neighbours-of, member-neighbours-of}
+use Rattle.rows.specs.Rows.{neighbours-of}
+use Rattle.rows.proofs.RowListLaws.{distinct-neighbours-of, in-neighbours-of, member-neighbours-of}
 use Rattle.links.specs.Turns.{released, places-released, Releasable}
 use Rattle.links.specs.Peels.{stretch, above, Level, Turning}
 use Rattle.links.proofs.TurnLaws.{marked-put, getD-released, marked-released, marked-released-place}

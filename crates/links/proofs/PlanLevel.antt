@@ -31,8 +31,8 @@ use Rattle.mesh.proofs.TableLaws.{marked-put-link}
 use Rattle.mesh.proofs.Relinked.{linked-relinked}
 use Rattle.mesh.proofs.ReadBack.{proper-graph-in, ascending-graph-in, linked-graph-in, degree-graph-in}
 use Rattle.mesh.proofs.Soundness.{Right, sound-right}
-use Rattle.tables.specs.Rows.{neighbours-of}
-use Rattle.tables.proofs.RowListLaws.{length-neighbours-of}
+use Rattle.rows.specs.Rows.{neighbours-of}
+use Rattle.rows.proofs.RowListLaws.{length-neighbours-of}
 use Rattle.links.specs.Plans.{Ready}
 use Rattle.links.specs.Peels.{stretch, above, level-start, level-size, linked-after, Level}
 use Rattle.links.proofs.StretchLoops.{length-stretch, getD-stretch}

@@ -21,7 +21,7 @@ use Rattle.mesh.specs.Graph.{linked, relinked}
 use Rattle.mesh.specs.Tables.{marked, put-link, graph-in}
 use Rattle.mesh.proofs.ListLaws.{In}
 use Rattle.mesh.proofs.Peel.{Takes, Peels}
-use Rattle.tables.specs.Rows.{neighbours-of}
+use Rattle.rows.specs.Rows.{neighbours-of}
 
 abbrev pub stretch : (order : List ℕ) → (start size : ℕ) → List ℕ
 stretch os start size = take size (drop start os)

@@ -21,7 +21,7 @@ use lib.ListN.{length, getD, set, take}
 use Rattle.mesh.specs.Limits.{max-radios, row-bytes}
 use Rattle.mesh.specs.Tables.{put-bit, put-link}
 use Rattle.mesh.proofs.ListLaws.{In, Distinct}
-use Rattle.tables.specs.Rows.{neighbours-of}
+use Rattle.rows.specs.Rows.{neighbours-of}
 
 unfoldable pub end-counted : (up : Bool) → (k : ℕ) → (numbers : List ℕ) → (v : ℕ) → (counters : List ℕ) → List ℕ
 end-counted up k ns v cs = cond (eqb (getD ns v 0) k) (set cs v (cond up (getD cs v 0 + 1) (getD cs v 0 - 1))) cs

@@ -14,7 +14,6 @@ use super::plan::Plan;
 use calls::Reply;
 use mesh::Site;
 use tables::fill;
-use tables::rows;
 use tables::steps;
 
 // Sets the bit of each listed radio in the set, which is one row.

@@ -81,7 +81,7 @@ fn peel(
     ensures { λ r. ⌜ Peel-done (call .up) (call .a) (call .b) (call .level) (call .most) (now (links .entry)) (now (numbers .entry)) (now (order .entry)) r (now (counters .exit)) (now (list .exit)) ⌝ }
 {
     let mut taken: usize = 0;
-    let mut p = tables::rows::first_marked(fits, 0);
+    let mut p = rows::first_marked(fits, 0);
     while p < mesh::Site::RADIOS {
         let v = order[p as usize];
         list[taken] = v;
@@ -98,7 +98,7 @@ fn peel(
             row,
             near,
         );
-        p = tables::rows::first_marked(fits, 0);
+        p = rows::first_marked(fits, 0);
     }
     taken
 }

@@ -9,7 +9,6 @@ ghost use Rattle.mesh.specs.Sound.{rows-proper};
 ghost use Rattle.calls.specs.Questions.{ends-refusal};
 ghost use Rattle.links.specs.Asked.{Asked};
 use mesh::Site;
-use tables::rows;
 use tables::sizes;
 
 // The refusal number of questions 4 to 7, put in turn to proper rows: 4, 5, 6, 7, or 0 when none got "no".

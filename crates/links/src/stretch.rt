@@ -48,7 +48,7 @@ pub(crate) fn list_stuck(
     while i < size {
         let v = order[start + i];
         if most < counters[v as usize] {
-            tables::rows::put_entry(list, at, v);
+            rows::put_entry(list, at, v);
             at += 1;
         }
         i += 1;

@@ -6,7 +6,7 @@ ghost use lib.ListN.{length, getD, take};
 ghost use Rattle.mesh.specs.Limits.{max-radios, row-bytes};
 ghost use Rattle.mesh.specs.Lists.{range};
 ghost use Rattle.mesh.specs.Tables.{put-bit, put-link};
-ghost use Rattle.tables.specs.Rows.{neighbours-of};
+ghost use Rattle.rows.specs.Rows.{neighbours-of};
 ghost use Rattle.links.specs.Turns.{end-counted, counter-less, released, place-marked, places-released, places-fitting, Releasable, Near-ready, Lists-neighbours};
 
 // The counter of v is one more going up and one less going down after, where v is of the level; the others keep theirs.
@@ -39,7 +39,7 @@ pub(crate) fn mark_fitting(
     while p < start + size {
         let v = order[p] as usize;
         if counters[v] <= most {
-            tables::rows::put_bit(fits, true, 0, p as u32);
+            rows::put_bit(fits, true, 0, p as u32);
         }
         p += 1;
     }
@@ -62,7 +62,7 @@ fn release_one(
     if numbers[v] == level {
         counters[v] -= 1;
         if counters[v] == most {
-            tables::rows::put_bit(fits, true, 0, places[v] as u32);
+            rows::put_bit(fits, true, 0, places[v] as u32);
         }
     }
 }
@@ -106,8 +106,8 @@ fn end_neighbours(up: bool, v: u32, w: u32, links: &[u8], row: &mut [u8], near: 
     let start = mesh::Site::ROW_BYTES * v as usize;
     let end = start + mesh::Site::ROW_BYTES;
     tables::fill::copy8(row, &links[start..end]);
-    tables::rows::put_bit(row, up, 0, w);
-    tables::rows::row_neighbours(row, 0, near)
+    rows::put_bit(row, up, 0, w);
+    rows::row_neighbours(row, 0, near)
 }
 
 // Writes the neighbours that v has after the link a-b went up or down into the list, ascending, and comes back with their count.
@@ -130,7 +130,7 @@ fn neighbours_after(
     if v == b {
         return end_neighbours(up, v, a, links, row, near);
     }
-    tables::rows::row_neighbours(links, v, near)
+    rows::row_neighbours(links, v, near)
 }
 
 // A link call at the lower end's level: the peel takes radios with at most `most` neighbours.
@@ -160,7 +160,7 @@ pub(crate) fn take_radio(
     ensures counted { λ _. ⌜ now (counters .exit) ≡ released (now (numbers .entry)) (call .level) (neighbours-of (put-link (call .up) (call .a) (call .b) (now (links .entry))) v) (now (counters .entry)) ⌝ }
     ensures marked { λ _. ⌜ now (fits .exit) ≡ places-released (now (numbers .entry)) (now (places .entry)) (call .level) (call .most) (neighbours-of (put-link (call .up) (call .a) (call .b) (now (links .entry))) v) (now (counters .entry)) (put-bit false 0 p (now (fits .entry))) ⌝ }
 {
-    tables::rows::put_bit(fits, false, 0, p);
+    rows::put_bit(fits, false, 0, p);
     let k = neighbours_after(call.up, call.a, call.b, v, links, row, near) as usize;
     release(
         near,

@@ -11,7 +11,7 @@ use lib.Seq.{take-suc-set}
 use Rattle.mesh.specs.Tables.{Tables}
 use Rattle.calls.specs.Replay.{line-feed, bad-line}
 use Rattle.script.specs.Lines.{line-of}
-use Rattle.script.specs.Print.{Buffer, lent, put, Puts}
+use Rattle.printing.specs.Print.{Buffer, lent, put, Puts}
 use Rattle.script.specs.declared.lines.Line.{Line}
 use Rattle.script.specs.declared.lines.Line.the-variants.{Radios, Up, Down, Bad}
 use Rattle.player.specs.Lines.{is-call, Passed-over, Played, Prints}

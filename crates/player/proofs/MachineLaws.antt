@@ -9,8 +9,8 @@ use lib.ListN.{length, take, length-take}
 use borrow.Author.Tests.{le-leb, lt-leb, eq-eqb, ne-eqb}
 use Rattle.calls.specs.Replay.{line-feed, bad-line, numbers-line, order-line, closing-lines}
 use Rattle.script.specs.Lines.{line-of}
-use Rattle.script.specs.Print.{Buffer, Puts}
-use Rattle.script.proofs.PrintLaws.{puts-as, puts-append}
+use Rattle.printing.specs.Print.{Buffer, Puts}
+use Rattle.printing.proofs.PrintLaws.{puts-as, puts-append}
 use Rattle.player.specs.Lines.{is-call}
 use Rattle.player.specs.Machine.{Spot, next-number, Stopped, Held-on, Line-taken, Line-ends, Ignored, Step, Takes, Takes-all, closing}
 

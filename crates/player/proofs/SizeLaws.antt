@@ -23,11 +23,11 @@ use Rattle.calls.specs.Writes.{Link-accepted, Link-refused, Link-contract}
 use Rattle.calls.specs.declared.Reply.{Reply}
 use Rattle.calls.proofs.ChainLaws.{link-zero}
 use Rattle.script.specs.Lines.{line-of}
-use Rattle.script.specs.Print.{Buffer, lent, put, Puts, max-place}
+use Rattle.printing.specs.Print.{Buffer, lent, put, Puts, max-place}
 use Rattle.script.specs.declared.lines.Line.{Line}
 use Rattle.script.specs.declared.lines.Line.the-variants.{Radios, Up, Down, Bad}
-use Rattle.script.proofs.LengthLaws.{length-line-le, length-link-line-le}
-use Rattle.script.proofs.PrintLaws.{at-put, puts-whole}
+use Rattle.printing.proofs.LengthLaws.{length-line-le, length-link-line-le}
+use Rattle.printing.proofs.PrintLaws.{at-put, puts-whole}
 use Rattle.player.specs.Lines.{is-call, Called, Passed-over, Played, Prints}
 use Rattle.player.specs.declared.machine.Progress.{Progress}
 use Rattle.player.specs.Machine.{Spot, spot, next-number, Stopped, Held-on, Line-taken, Line-ends, Ignored, Step, Takes, full, longest, closing-longest, closing}

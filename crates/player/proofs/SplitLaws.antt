@@ -14,7 +14,7 @@ use Rattle.calls.specs.Replay.{bytes-of, line-feed, decimal, further-fields, pr
 use Rattle.script.specs.Lines.{line-of, text-of, Values, max-value}
 use Rattle.script.specs.declared.lines.Line.{Line}
 use Rattle.script.specs.declared.lines.Line.the-variants.{Radios, Up, Down, Bad}
-use Rattle.script.proofs.LengthLaws.{length-line-le}
+use Rattle.printing.proofs.LengthLaws.{length-line-le}
 use Rattle.script.proofs.Texts.{text-parse}
 use Rattle.player.specs.Lines.{is-call}
 use Rattle.player.specs.Machine.{line-room}

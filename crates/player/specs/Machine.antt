@@ -20,7 +20,7 @@ use lib.ListN.{length, take}
 use Rattle.mesh.specs.Tables.{Tables}
 use Rattle.calls.specs.Replay.{line-feed, bad-line, closing-lines}
 use Rattle.script.specs.Lines.{line-of}
-use Rattle.script.specs.Print.{lent, Puts}
+use Rattle.printing.specs.Print.{lent, Puts}
 use Rattle.player.specs.Lines.{is-call, Played}
 use Rattle.player.specs.declared.machine.Progress.{Progress}
 

@@ -6,7 +6,7 @@ ghost use Prim.Native.Nat.{_≤_, _<_, _+_, _-_};
 ghost use lib.ListN.{length, take, drop};
 ghost use Rattle.mesh.specs.Tables.{tables};
 ghost use Rattle.calls.specs.Replay.{bad-line};
-ghost use Rattle.script.specs.Print.{lent, Puts, max-place};
+ghost use Rattle.printing.specs.Print.{lent, Puts, max-place};
 ghost use Rattle.player.specs.Lines.{Prints};
 ghost use Rattle.player.specs.Machine.{spot, next-number, Stop-put, Takes, Takes-all, closing, full, longest};
 use super::play;
@@ -27,7 +27,7 @@ pub struct Progress {
 fn stopped(s: Progress, out: &mut [u8]) -> Progress
     ensures { λ r. ⌜ Stop-put s (now (out .entry)) r (now (out .exit)) ⌝ }
 {
-    let at = script::print::put_bad_line(out, s.at, s.number);
+    let at = printing::put_bad_line(out, s.at, s.number);
     Progress {
         number: s.number,
         held: 0,
@@ -136,8 +136,8 @@ pub fn finish(s: Progress, line: &[u8], numbers: &[u8], order: &[u16], out: &mut
 {
     let held = tables::fill::least(s.held, line.len());
     if held != 0 {
-        return script::print::put_bad_line(out, s.at, s.number);
+        return printing::put_bad_line(out, s.at, s.number);
     }
-    let place = script::print::put_numbers_line(out, s.at, numbers);
-    script::print::put_order_line(out, place, order)
+    let place = printing::put_numbers_line(out, s.at, numbers);
+    printing::put_order_line(out, place, order)
 }

@@ -3,7 +3,7 @@ ghost use mathlib.Core.Path.{_≡_};
 ghost use mathlib.Core.Bool.{true, false};
 ghost use Rattle.mesh.specs.Tables.{tables};
 ghost use Rattle.script.specs.Lines.{line-of};
-ghost use Rattle.script.specs.Print.{lent};
+ghost use Rattle.printing.specs.Print.{lent};
 ghost use Rattle.player.specs.Lines.{is-call, Called, Played, Prints};
 use script::lines::Line;
 
@@ -28,7 +28,7 @@ fn play_up(
     ensures { λ r. ⌜ Prints (λ text. Called true n a b (tables (now (links .entry)) (now (numbers .entry)) (now (order .entry))) (now (answer .entry)) text (tables (now (links .exit)) (now (numbers .exit)) (now (order .exit))) (now (answer .exit))) (lent (now (out .entry)) at) (lent (now (out .exit)) r) ⌝ }
 {
     let reply = links::link::link_up(n, a, b, links, numbers, order, answer);
-    script::print::put_link_line(out, at, reply.number, reply.step, answer, reply.count)
+    printing::put_link_line(out, at, reply.number, reply.step, answer, reply.count)
 }
 
 // Takes a link down and puts the call's line.
@@ -46,7 +46,7 @@ fn play_down(
     ensures { λ r. ⌜ Prints (λ text. Called false n a b (tables (now (links .entry)) (now (numbers .entry)) (now (order .entry))) (now (answer .entry)) text (tables (now (links .exit)) (now (numbers .exit)) (now (order .exit))) (now (answer .exit))) (lent (now (out .entry)) at) (lent (now (out .exit)) r) ⌝ }
 {
     let reply = links::link::link_down(n, a, b, links, numbers, order, answer);
-    script::print::put_link_line(out, at, reply.number, reply.step, answer, reply.count)
+    printing::put_link_line(out, at, reply.number, reply.step, answer, reply.count)
 }
 
 // Plays a line, its line feed included. A line that is no link call changes nothing and prints nothing.

@@ -193,6 +193,6 @@ pub fn read_all(
 // Prints that a line is of another form.
 pub fn print_bad(number: u64) {
     let mut out = [0u8; 32];
-    let at = script::print::put_bad_line(&mut out, 0, number);
+    let at = printing::put_bad_line(&mut out, 0, number);
     flush(&out, at);
 }

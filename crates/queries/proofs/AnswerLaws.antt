@@ -18,9 +18,9 @@ use Rattle.calls.specs.Answers.{first-of-two, Number-contract, Neighbours-contr
 use Rattle.calls.specs.declared.Value.{Value}
 use Rattle.calls.proofs.ChainLaws.{radio-zero, pair-zero}
 use Rattle.calls.proofs.ContractLaws.{by-accepted, by-refused}
-use Rattle.tables.specs.Rows.{row-listed}
+use Rattle.rows.specs.Rows.{row-listed}
 use Rattle.soundness.proofs.RowChecks.{byte-bit}
-use Rattle.queries.proofs.SoundSite.{Sound-site, linked-marked, number-entry, degree-listed}
+use Rattle.floods.proofs.SoundSite.{Sound-site, linked-marked, number-entry, degree-listed}
 use Rattle.queries.proofs.RefusalLaws.{site-good-sound}
 
 -- ---- any value

@@ -20,13 +20,13 @@ use Rattle.calls.specs.Questions.{lengths-of, core-refusal}
 use Rattle.calls.specs.Answers.{Core-contract}
 use Rattle.calls.proofs.ChainLaws.{core-zero}
 use Rattle.calls.proofs.QuestionLaws.{answer-length-true}
-use Rattle.tables.specs.Rows.{row-listed}
-use Rattle.tables.proofs.RowListLaws.{neighbours-of-filter}
-use Rattle.tables.proofs.RowWords.{row-listed-whole}
-use Rattle.queries.specs.Floods.{Flood-done, Flooded}
-use Rattle.queries.proofs.SoundSite.{Sound-site, number-entry}
-use Rattle.queries.proofs.FloodSteps.{true-floodable}
-use Rattle.queries.proofs.FloodCore.{marked-flood}
+use Rattle.rows.specs.Rows.{row-listed}
+use Rattle.rows.proofs.RowListLaws.{neighbours-of-filter}
+use Rattle.rows.proofs.RowWords.{row-listed-whole}
+use Rattle.floods.specs.Floods.{Flood-done, Flooded}
+use Rattle.floods.proofs.SoundSite.{Sound-site, number-entry}
+use Rattle.floods.proofs.FloodSteps.{true-floodable}
+use Rattle.floods.proofs.FloodCore.{marked-flood}
 use Rattle.queries.proofs.RefusalLaws.{site-good-sound}
 use Rattle.queries.proofs.AnswerLaws.{answer, listing-refused, listing-answered}
 

@@ -20,9 +20,9 @@ use Rattle.mesh.proofs.ListLaws.{range-in, length-range, length-filter, count-l
 use Rattle.calls.specs.Questions.{lengths-of, answer-length, site-refusal, backbone-refusal}
 use Rattle.calls.specs.Answers.{Backbone-contract}
 use Rattle.calls.proofs.ChainLaws.{site-zero}
-use Rattle.tables.proofs.Listing.{Listing, listing-none, listing-one, listing-end, sets-front}
+use Rattle.rows.proofs.Listing.{Listing, listing-none, listing-one, listing-end, sets-front}
 use Rattle.queries.specs.Levels.{level-radios, count-one, listed-one}
-use Rattle.queries.proofs.SoundSite.{Sound-site, number-entry}
+use Rattle.floods.proofs.SoundSite.{Sound-site, number-entry}
 use Rattle.queries.proofs.RefusalLaws.{site-good-sound}
 use Rattle.queries.proofs.AnswerLaws.{answer, listing-refused, listing-answered}
 

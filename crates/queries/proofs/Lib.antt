@@ -1,11 +1,4 @@
 -- Laws of the questions' code.
--- what sound tables say
-pub mod SoundSite
--- the flood: its steps as the code has them, its test of radios, its invariant, and the connected core
-pub mod FloodSteps
-pub mod FloodRadios
-pub mod FloodLaws
-pub mod FloodCore
 -- chains of questions, and the contracts that go by them
 pub mod RefusalLaws
 pub mod AnswerLaws
@@ -18,4 +11,3 @@ pub mod LinkedTie
 pub mod FirstTie
 pub mod CoreTie
 pub mod BackboneTie
-pub mod FloodTie

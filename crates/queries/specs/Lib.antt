@@ -1,3 +1,2 @@
 -- What the contracts of the questions' leaf code cite beside the definitions of mesh, calls and tables.
-pub mod Floods
 pub mod Levels

@@ -39,7 +39,7 @@ fn list_one(numbers: &[u8], level: u8, v: usize, list: &mut [u16], count: u32) -
     if numbers[v] != level {
         return count;
     }
-    tables::rows::put_entry(list, count as usize, v as u16);
+    rows::put_entry(list, count as usize, v as u16);
     count + 1
 }
 

@@ -55,9 +55,9 @@ pub fn core<'a>(
     }
     let mut set = [0u8; Site::ROW_BYTES];
     let mut queue = [0u16; Site::RADIOS as usize];
-    crate::flood::flood(links, numbers, k as u8, v, &mut set, &mut queue);
+    floods::flood::flood(links, numbers, k as u8, v, &mut set, &mut queue);
     Value {
         number: 0,
-        value: tables::rows::row_neighbours(&set, 0, answer),
+        value: rows::row_neighbours(&set, 0, answer),
     }
 }

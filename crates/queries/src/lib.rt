@@ -3,5 +3,4 @@
 // leaves the answer table as it was. Links, numbers and order are only read. No public function has a `requires`.
 pub mod backbone;
 pub mod cores;
-pub mod flood;
 pub mod radios;

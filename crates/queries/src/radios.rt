@@ -73,7 +73,7 @@ pub fn neighbours<'a>(n: u32, v: u32, links: &'a [u8], numbers: &'a [u8], order:
     }
     Value {
         number: 0,
-        value: tables::rows::row_degree(links, v),
+        value: rows::row_degree(links, v),
     }
 }
 
@@ -97,7 +97,7 @@ pub fn linked<'a>(
     }
     Value {
         number: 0,
-        value: tables::rows::is_marked(links, a, b) as u32,
+        value: rows::is_marked(links, a, b) as u32,
     }
 }
 

@@ -12,7 +12,7 @@ use Rattle.mesh.proofs.ListLaws.{same-eq}
 use Rattle.mesh.specs.Lists.{all, same}
 use Rattle.calls.specs.Replay.{line-feed, digit-byte, decimal}
 use Rattle.script.specs.Lines.{max-value, Read, got, none, is-digit, digits-on, number-of, ended, last-number-of}
-use Rattle.script.proofs.DecimalLaws.{decimal-digit, decimal-more, decimal-append}
+use Rattle.calls.proofs.DecimalLaws.{decimal-digit, decimal-more, decimal-append}
 
 -- ---- laws of lists
 

@@ -11,7 +11,7 @@ use lib.Seq.{getD-set-same, getD-set-other}
 use Rattle.mesh.specs.Limits.{max-neighbours}
 use Rattle.mesh.specs.Lists.{range, all}
 use Rattle.mesh.proofs.BoolLaws.{never, trichotomy}
-use Rattle.tables.specs.Rows.{neighbours-of}
+use Rattle.rows.specs.Rows.{neighbours-of}
 use Rattle.soundness.specs.Checks.{high-count, row-good, Row-checked, Rows-checked}
 
 -- the rows below a are good, and their high counts are written

@@ -20,9 +20,9 @@ use Rattle.mesh.proofs.BoolLaws.{bool-cases, never, and-left, and-right, and-bo
 use Rattle.mesh.proofs.ListLaws.{In, filter-in, in-range, range-in, count-append, count-mono, count-none, all-in, in-all, all-below, below-all, Each-once, once-in, once-below, once-length}
 use Rattle.mesh.proofs.OrderLaws.{of-each-once, Few-later, few-later-of, of-few-later}
 use Rattle.mesh.proofs.RowLaws.{symmetric-of, of-symmetric, irreflexive-of, of-irreflexive, within-of, of-within, few-of, of-few}
-use Rattle.tables.specs.Rows.{neighbours-of}
-use Rattle.tables.proofs.Listing.{range-append}
-use Rattle.tables.proofs.RowListLaws.{in-neighbours-of, length-neighbours-of, count-neighbours-of}
+use Rattle.rows.specs.Rows.{neighbours-of}
+use Rattle.rows.proofs.Listing.{range-append}
+use Rattle.rows.proofs.RowListLaws.{in-neighbours-of, length-neighbours-of, count-neighbours-of}
 use Rattle.soundness.specs.Checks.{Placed, later-count, high-count, ends-good, row-good}
 
 -- ---- laws of lists

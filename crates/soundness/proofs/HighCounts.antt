@@ -17,9 +17,9 @@ use Rattle.mesh.specs.Sound.{symmetric, irreflexive, within, few, rows-proper, 
 use Rattle.mesh.proofs.BoolLaws.{and-left, and-right}
 use Rattle.mesh.proofs.ListLaws.{count-filter}
 use Rattle.calls.specs.Questions.{lengths-of}
-use Rattle.tables.specs.Rows.{neighbours-of}
+use Rattle.rows.specs.Rows.{neighbours-of}
 use Rattle.soundness.specs.Checks.{high-count, examinable, Examined}
-use Rattle.tables.proofs.RowListLaws.{neighbours-of-linked}
+use Rattle.rows.proofs.RowListLaws.{neighbours-of-linked}
 use Rattle.soundness.proofs.ExamineLaws.{Sizes, examinable-true}
 
 module _ (n : ℕ) (t : Tables) (yes : sound n t ≡ true) where

@@ -18,9 +18,9 @@ use Rattle.mesh.specs.Tables.{marked}
 use Rattle.mesh.specs.Sound.{number-in}
 use Rattle.mesh.proofs.BoolLaws.{bool-cases, never, bit-one}
 use Rattle.mesh.proofs.ListLaws.{count-le-length, take-overwrite}
-use Rattle.tables.specs.Rows.{neighbours-of, row-listed}
-use Rattle.tables.proofs.MaskLaws.{marked-past}
-use Rattle.tables.proofs.RowListLaws.{row-listed-radio}
+use Rattle.rows.specs.Rows.{neighbours-of, row-listed}
+use Rattle.rows.proofs.MaskLaws.{marked-past}
+use Rattle.rows.proofs.RowListLaws.{row-listed-radio}
 use Rattle.soundness.specs.Checks.{later-count, high-count, ends-good, row-good, Ends-counted, Rows-room, Row-checked}
 
 -- a test as a number

@@ -24,7 +24,7 @@ use Rattle.mesh.specs.Orders.{each-once}
 use Rattle.mesh.specs.Tables.{Tables, marked}
 use Rattle.mesh.specs.Sound.{number-in, sound}
 use Rattle.calls.specs.Questions.{Lengths, lengths-of, size-good, site-lengths, answer-length}
-use Rattle.tables.specs.Rows.{neighbours-of}
+use Rattle.rows.specs.Rows.{neighbours-of}
 
 -- entry i of the order stands at place i
 pub record Placed (n : ℕ) (order places : List ℕ) : Type 0 where

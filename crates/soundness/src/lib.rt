@@ -107,7 +107,7 @@ fn count_ends(
             return bad;
         }
         // a radio at n or above has no row, and so marks nothing
-        if !tables::rows::is_marked(links, b as u32, a as u32) {
+        if !rows::is_marked(links, b as u32, a as u32) {
             return bad;
         }
         later += (place < places[b]) as u32;
@@ -143,7 +143,7 @@ fn row_checked(
         good: false,
         high: 0,
     };
-    let k = tables::rows::row_neighbours(links, a, list);
+    let k = rows::row_neighbours(links, a, list);
     if Site::NEIGHBOURS < k {
         return bad;
     }

@@ -167,7 +167,7 @@ pub extern "C" fn sb_tree<'a, 's, 't>(
 ) -> Value
     ensures { λ r. ⌜ Tree-contract n (tables (now (links .entry)) (now (numbers .entry)) (now (order .entry))) (now (nodes .entry)) (now (answer .entry)) r (now (nodes .exit)) (now (answer .exit)) ⌝ }
 {
-    tree::lent::shell_tree(n, links, numbers, order, nodes, answer)
+    node_list::lent::shell_tree(n, links, numbers, order, nodes, answer)
 }
 
 // Writes the site's image in front of the buffer: the value is its length in bytes, and bytes past it keep their content. Refused

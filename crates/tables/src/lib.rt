@@ -1,8 +1,7 @@
-// Leaf code on lent tables. Rows of the links table are tested, set, cleared and listed by shifts and masks; tables of both
-// widths are filled, copied and compared; the signed step is added to numbers; questions 1 and 2 are put; a site is cleared.
-// No public function has a `requires`: each says what it does with every length and every value that it is lent.
+// Leaf code on lent tables: tables of both widths are filled, copied and compared; the signed step is added to numbers; questions
+// 1 and 2 are put; a site is cleared. No public function has a `requires`: each says what it does with every length and every
+// value that it is lent.
 pub mod clear;
 pub mod fill;
-pub mod rows;
 pub mod sizes;
 pub mod steps;

@@ -25,10 +25,10 @@ use Rattle.mesh.proofs.ListLaws.{In, in-member, take-overwrite, getD-map-range,
 use Rattle.mesh.proofs.TableLaws.{marked-replicate, byte-at-less}
 use Rattle.mesh.proofs.Reach.{core-of-iff}
 use Rattle.mesh.proofs.CoreLevels.{in-core-below}
-use Rattle.queries.specs.Floods.{Flood-done}
-use Rattle.queries.proofs.FloodSteps.{true-floodable}
-use Rattle.queries.proofs.FloodCore.{member-flood, marked-flood}
-use Rattle.queries.proofs.SoundSite.{Sound-site, number-entry}
+use Rattle.floods.specs.Floods.{Flood-done}
+use Rattle.floods.proofs.FloodSteps.{true-floodable}
+use Rattle.floods.proofs.FloodCore.{member-flood, marked-flood}
+use Rattle.floods.proofs.SoundSite.{Sound-site, number-entry}
 use Rattle.tree.specs.Trees.{Lists, lists, with-front, Room, entries-set, Core-named, takes-node, Node-taken, Nothing-taken, Visited}
 use Rattle.tree.specs.Trees.{own, covered, present, nodes-before, Growing, Marks}
 use Rattle.tree.proofs.ShellCover.{own-lead, own-covered, not-covered-own, core-not-covered, covered-none, covered-next, present-next, present-own, present-start, present-end}

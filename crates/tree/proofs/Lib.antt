@@ -11,10 +11,3 @@ pub mod TreeLoop
 pub mod TreeAnswer
 -- one radio, as the code has it
 pub mod VisitSteps
--- the lent list of nodes: filled place by place; from three tables to the list
-pub mod LentLaws
-pub mod LentAnswer
--- a local array in a proof by hand
-pub mod LocalArray
--- the contract of the public call is the named one, and nothing is required
-pub mod TreeTie

@@ -20,7 +20,7 @@ use Rattle.mesh.specs.declared.Node.{Node}
 use Rattle.mesh.proofs.BoolLaws.{bool-cases, never, bit-one, bit-le, bit-true, bit-false}
 use Rattle.mesh.proofs.ListLaws.{In, range-in, filter-append, filter-none, length-filter, count-append, count-le-length, count-mono, length-range, length-map}
 use Rattle.mesh.proofs.TreeLaws.{number-le-n}
-use Rattle.tables.proofs.Listing.{range-append}
+use Rattle.rows.proofs.Listing.{range-append}
 use Rattle.tree.specs.Trees.{Lists, lists, with-front, entries-set, own, nodes-within, nodes-before}
 
 -- ---- laws of lists

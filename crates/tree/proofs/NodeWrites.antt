@@ -9,7 +9,7 @@ use lib.Seq.{drop-cons, length-take-le, getD-take}
 use Rattle.mesh.specs.Lists.{overwrite}
 use Rattle.tables.specs.Widths.{written}
 use Rattle.tables.proofs.WidthLaws.{Writing, values-constant, take-min}
-use Rattle.queries.specs.Floods.{Flooded}
+use Rattle.floods.specs.Floods.{Flooded}
 use Rattle.tree.specs.Trees.{entries-set, Core-named}
 
 -- ---- entries set at listed places: what is left of the list gives what all of it gives

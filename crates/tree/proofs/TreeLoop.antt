@@ -17,7 +17,7 @@ use Rattle.mesh.proofs.TreeLaws.{number-le-n}
 use Rattle.mesh.proofs.ShellNames.{node-name-parent}
 use Rattle.soundness.specs.Checks.{fits-sound}
 use Rattle.tables.proofs.WidthLaws.{map-range-constant}
-use Rattle.queries.proofs.SoundSite.{number-entry}
+use Rattle.floods.proofs.SoundSite.{number-entry}
 use Rattle.tree.specs.Trees.{Lists, with-front, Room, name-before, present, Growing, Levelled, Tree-written, Grown}
 use Rattle.tree.proofs.ShellCover.{present-start}
 use Rattle.tree.proofs.NodeLists.{map-range-same, set-overwrite, nodes-before-start, nodes-before-tree}

@@ -30,7 +30,7 @@ use Rattle.mesh.specs.declared.Node.{Node}
 use Rattle.calls.specs.Questions.{By-number, lengths-of, tree-refusal}
 use Rattle.calls.specs.declared.Value.{Value}
 use Rattle.soundness.specs.Checks.{fits-sound}
-use Rattle.queries.specs.Floods.{Flooded}
+use Rattle.floods.specs.Floods.{Flooded}
 
 pub record Lists : Type 0 where
   pub names : List ℕ

@@ -35,7 +35,7 @@ fn visit<'a>(
     if numbers[v as usize] != level {
         return count;
     }
-    if tables::rows::is_marked(set, 0, v as u32) {
+    if rows::is_marked(set, 0, v as u32) {
         return count;
     }
     crate::nodes::put_node(

@@ -1,6 +1,4 @@
-// The shell tree. `levels` has it over three tables of 16 bits, names, levels and parents of the nodes, and the answer table,
-// which gets each radio's node name; `lent` hands it over in a lent list of nodes. Bitmaps and floods, no recursion. Refused, it
-// leaves every lent table as it was.
-pub mod lent;
+// The shell tree over three tables of 16 bits, names, levels and parents of the nodes, and the answer table, which gets each
+// radio's node name. Bitmaps and floods, no recursion. Refused, it leaves every lent table as it was.
 pub mod levels;
 pub mod nodes;

@@ -19,9 +19,9 @@ pub fn put_node(
     ensures levelled { λ _. ⌜ now (levels .exit) ≡ set (now (levels .entry)) at level ⌝ }
     ensures parented { λ _. ⌜ now (parents .exit) ≡ set (now (parents .entry)) at parent ⌝ }
 {
-    tables::rows::put_entry(names, at, name);
-    tables::rows::put_entry(levels, at, level);
-    tables::rows::put_entry(parents, at, parent);
+    rows::put_entry(names, at, name);
+    rows::put_entry(levels, at, level);
+    rows::put_entry(parents, at, parent);
 }
 
 // Writes x at each place of the answer table that the first k entries of the list name; past the table nothing changes.
@@ -31,7 +31,7 @@ fn name_all(list: &[u16], k: usize, x: u16, answer: &mut [u16])
 {
     let mut i: usize = 0;
     while i < k {
-        tables::rows::put_entry(answer, list[i] as usize, x);
+        rows::put_entry(answer, list[i] as usize, x);
         i += 1;
     }
 }
@@ -49,7 +49,7 @@ pub fn name_core<'a>(
 )
     ensures { λ _. ⌜ Core-named (now (links .entry)) (now (numbers .entry)) level v (now (set .entry)) (now (queue .entry)) (now (answer .entry)) (now (set .exit)) (now (answer .exit)) ⌝ }
 {
-    let k = queries::flood::flood(links, numbers, level, v as u32, set, queue);
+    let k = floods::flood::flood(links, numbers, level, v as u32, set, queue);
     let m = tables::fill::least(k, queue.len());
     name_all(queue, m, v, answer);
 }

@@ -15,9 +15,9 @@ fn spread(nodes: [Node; PLACES], fields: &mut [u16]) {
     let mut i: usize = 0;
     while i < PLACES {
         let node = nodes[i];
-        tables::rows::put_entry(fields, 3 * i, node.name);
-        tables::rows::put_entry(fields, 3 * i + 1, node.level);
-        tables::rows::put_entry(fields, 3 * i + 2, node.parent);
+        rows::put_entry(fields, 3 * i, node.name);
+        rows::put_entry(fields, 3 * i + 1, node.level);
+        rows::put_entry(fields, 3 * i + 2, node.parent);
         i += 1;
     }
 }
@@ -40,7 +40,7 @@ fn ask<'a, 't, 'f>(
         parent: crate::compare::KEPT,
     };
     let mut nodes = [blank; PLACES];
-    let reply = tree::lent::shell_tree(n, links, numbers, order, &mut nodes[..room], answer);
+    let reply = node_list::lent::shell_tree(n, links, numbers, order, &mut nodes[..room], answer);
     spread(nodes, fields);
     reply
 }

@@ -8,7 +8,7 @@ use Rattle.damaged.proofs.put_star.Statement.{statement}
 use Rattle.damaged.proofs.put_star.Tie as tie
 use Rattle.damaged.proofs.put_star.Reads as reads
 use Rattle.damaged.proofs.put_star.Lts as lts
-use Rattle.tables.proofs.rows.put_link.Reads as put-link-reads
+use Rattle.rows.proofs.put_link.Reads as put-link-reads
 
 abbrev Inv-loop : tie.InvT-loop
 Inv-loop links₀ k v₀ links v = length links ≡ length links₀

@@ -1,5 +1,5 @@
 -- `sb_tree` meets its contract: a walk of its MIR, by hand, since it has a reference to a list of structs. It hands its
--- parameters on to `tree::lent::shell_tree`, whose contract is the same: the tables are copied, nodes and answer given for good.
+-- parameters on to `node_list::lent::shell_tree`, whose contract is the same: the tables are copied, nodes and answer given for good.
 use mathlib.Core.Path.{_≡_, refl}
 use mathlib.Core.List.{List, [], _∷_}
 use Prim.Native.Nat.{ℕ, _<_, _^_}
@@ -44,10 +44,10 @@ use Rattle.calls.specs.Answers.{Tree-contract}
 use Rattle.calls.specs.declared.Value.{Value}
 use Rattle.calls.proofs.Value as K
 use Rattle.calls.proofs.Value.Laws as K′
-use Rattle.tree.proofs.lent.shell_tree as callee
-use Rattle.tree.proofs.lent.shell_tree.Symbol as callee-def
-use Rattle.tree.proofs.lent.shell_tree.Symbol.{name as #tree·shell-tree}
-use Rattle.tree.proofs.lent.shell_tree.Met as callee-thm
+use Rattle.node_list.proofs.lent.shell_tree as callee
+use Rattle.node_list.proofs.lent.shell_tree.Symbol as callee-def
+use Rattle.node_list.proofs.lent.shell_tree.Symbol.{name as #tree·shell-tree}
+use Rattle.node_list.proofs.lent.shell_tree.Met as callee-thm
 use Rattle.summerbugle.proofs.sb_tree.Key.{name as #sb-tree}
 use Rattle.summerbugle.proofs.sb_tree as shell
 use Rattle.summerbugle.proofs.sb_tree.Statement as stated
@@ -187,4 +187,4 @@ sb-tree-spec 𝓤 H 𝓜 𝓖 𝓡 =
     entered 𝓤 H (tripleOf 𝓤 H (𝓖 .A) shell.signature (shell.spec 𝓤 H (𝓖 .A) (𝓜 .mem) (𝓡 .run)))
     (calls-of 𝓤 H 𝓜 𝓡 code.env .C) (calls-of 𝓤 H 𝓜 𝓡 code.env .Λ) #sb-tree code.function (code.unfolded 𝓤 H 𝓜 𝓡)
     (shell-meets 𝓤 H (𝓖 .A) (givenOf 𝓤 H 𝓜 𝓖) (𝓜 .mem) (𝓡 .run) (tablesOf 𝓤 H 𝓜 (calls-of 𝓤 H 𝓜 𝓡 code.env))
-    (cited 𝓤 H (Shell 𝓤 H (𝓖 .A) (𝓜 .mem) (𝓡 .run)) 𝓜 𝓡 code.env #tree·shell-tree callee-def.routine code.calls-tree·lent·shell-tree (callee-thm.met 𝓤 H 𝓜 𝓖 𝓡)))
+    (cited 𝓤 H (Shell 𝓤 H (𝓖 .A) (𝓜 .mem) (𝓡 .run)) 𝓜 𝓡 code.env #tree·shell-tree callee-def.routine code.calls-node-list·lent·shell-tree (callee-thm.met 𝓤 H 𝓜 𝓖 𝓡)))

@@ -11,7 +11,7 @@ use Rattle.image_reader.proofs.reader.put_links.Reads as reads
 use Rattle.image_reader.proofs.reader.put_links.Lts as lts
 use Rattle.image_reader.proofs.pairs.pair_at.Reads as pair-at-reads
 use Rattle.tables.proofs.fill.fill8.Reads as fill8-reads
-use Rattle.tables.proofs.rows.put_link.Reads as put-link-reads
+use Rattle.rows.proofs.put_link.Reads as put-link-reads
 
 abbrev Inv-loop : tie.InvT-loop
 Inv-loop image n m links₀ j₀ links j = (j ≤ m) × (length links ≡ length links₀) × Linking n image links j

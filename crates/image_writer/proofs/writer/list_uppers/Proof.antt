@@ -7,7 +7,7 @@ use Rattle.image_writer.proofs.writer.list_uppers.Tie as tie
 use Rattle.image_writer.proofs.writer.list_uppers.Reads as reads
 use Rattle.image_writer.proofs.writer.list_uppers.Lts as lts
 use Rattle.image_writer.proofs.writer.first_above.Reads as first-above-reads
-use Rattle.tables.proofs.rows.row_neighbours.Reads as row-neighbours-reads
+use Rattle.rows.proofs.row_neighbours.Reads as row-neighbours-reads
 
 -- src/writer.rt:114:15
 row-neighbours-requires : tie.Need-row-neighbours-requires

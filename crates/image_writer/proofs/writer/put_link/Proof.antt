@@ -4,7 +4,7 @@ use mathlib.Core.List.{List}
 use Prim.Native.Nat.{ℕ, _+_}
 use lib.Seq.{sets}
 use Rattle.mesh.specs.Image.{word, link-bytes}
-use Rattle.tables.proofs.Listing.{sets-append}
+use Rattle.rows.proofs.Listing.{sets-append}
 use borrow.Author.Needs.{needs}
 use Rattle.image_writer.proofs.writer.put_link.Statement.{statement}
 use Rattle.image_writer.proofs.writer.put_link.Tie as tie

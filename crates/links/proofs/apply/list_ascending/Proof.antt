@@ -4,7 +4,7 @@ use mathlib.Core.List.{List}
 use Prim.Native.Nat.{ℕ}
 use lib.ListN.{length, take}
 use Rattle.mesh.specs.Lists.{overwrite}
-use Rattle.tables.specs.Rows.{row-listed}
+use Rattle.rows.specs.Rows.{row-listed}
 use Rattle.links.proofs.Marking.{row-listed-all-marked}
 use borrow.Author.Needs.{needs}
 use Rattle.links.proofs.apply.list_ascending.Statement.{statement}

@@ -11,7 +11,7 @@ use Rattle.links.proofs.plan.peel.Tie as tie
 use Rattle.links.proofs.plan.peel.Reads as reads
 use Rattle.links.proofs.plan.peel.Lts as lts
 use Rattle.links.proofs.turn.take_radio.Reads as take-radio-reads
-use Rattle.tables.proofs.rows.first_marked.Reads as first-marked-reads
+use Rattle.rows.proofs.first_marked.Reads as first-marked-reads
 
 abbrev Inv-loop : tie.InvT-loop
 Inv-loop call links numbers order places counters₀ fits₀ row₀ near₀ list₀ taken₀ p₀ counters fits row near list taken p =

@@ -13,7 +13,7 @@ use Rattle.links.proofs.stretch.list_stuck.Statement.{statement}
 use Rattle.links.proofs.stretch.list_stuck.Tie as tie
 use Rattle.links.proofs.stretch.list_stuck.Reads as reads
 use Rattle.links.proofs.stretch.list_stuck.Lts as lts
-use Rattle.tables.proofs.rows.put_entry.Reads as put-entry-reads
+use Rattle.rows.proofs.put_entry.Reads as put-entry-reads
 
 abbrev Inv-loop : tie.InvT-loop
 Inv-loop start size most taken order counters list₀ at₀ i₀ list at i = Stretch-listed (λ v. ltb most (getD counters v 0)) order start size taken list₀ list at i

@@ -7,8 +7,8 @@ use Rattle.links.proofs.turn.end_neighbours.Tie as tie
 use Rattle.links.proofs.turn.end_neighbours.Reads as reads
 use Rattle.links.proofs.turn.end_neighbours.Lts as lts
 use Rattle.tables.proofs.fill.copy8.Reads as copy8-reads
-use Rattle.tables.proofs.rows.put_bit.Reads as put-bit-reads
-use Rattle.tables.proofs.rows.row_neighbours.Reads as row-neighbours-reads
+use Rattle.rows.proofs.put_bit.Reads as put-bit-reads
+use Rattle.rows.proofs.row_neighbours.Reads as row-neighbours-reads
 
 -- src/turn.rt:74:17
 mul-start : tie.Need-mul-start

@@ -15,7 +15,7 @@ use Rattle.links.proofs.turn.mark_fitting.Statement.{statement}
 use Rattle.links.proofs.turn.mark_fitting.Tie as tie
 use Rattle.links.proofs.turn.mark_fitting.Reads as reads
 use Rattle.links.proofs.turn.mark_fitting.Lts as lts
-use Rattle.tables.proofs.rows.put_bit.Reads as put-bit-reads
+use Rattle.rows.proofs.put_bit.Reads as put-bit-reads
 
 abbrev Inv-loop : tie.InvT-loop
 Inv-loop start size most order counters fits₀ p₀ fits p = Fitting-from order counters most start size fits₀ p fits

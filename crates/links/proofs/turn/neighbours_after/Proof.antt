@@ -7,7 +7,7 @@ use Rattle.links.proofs.turn.neighbours_after.Tie as tie
 use Rattle.links.proofs.turn.neighbours_after.Reads as reads
 use Rattle.links.proofs.turn.neighbours_after.Lts as lts
 use Rattle.links.proofs.turn.end_neighbours.Reads as end-neighbours-reads
-use Rattle.tables.proofs.rows.row_neighbours.Reads as row-neighbours-reads
+use Rattle.rows.proofs.row_neighbours.Reads as row-neighbours-reads
 
 -- src/turn.rt:88:9
 end-neighbours-requires : tie.Need-end-neighbours-requires

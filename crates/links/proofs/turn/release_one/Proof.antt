@@ -7,7 +7,7 @@ use Rattle.links.proofs.turn.release_one.Statement.{statement}
 use Rattle.links.proofs.turn.release_one.Tie as tie
 use Rattle.links.proofs.turn.release_one.Reads as reads
 use Rattle.links.proofs.turn.release_one.Lts as lts
-use Rattle.tables.proofs.rows.put_bit.Reads as put-bit-reads
+use Rattle.rows.proofs.put_bit.Reads as put-bit-reads
 
 -- src/turn.rt:47:8
 shared-slice-read-if1 : tie.Need-shared-slice-read-if1

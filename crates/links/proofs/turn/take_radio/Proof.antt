@@ -9,7 +9,7 @@ use Rattle.links.proofs.turn.take_radio.Reads as reads
 use Rattle.links.proofs.turn.take_radio.Lts as lts
 use Rattle.links.proofs.turn.neighbours_after.Reads as neighbours-after-reads
 use Rattle.links.proofs.turn.release.Reads as release-reads
-use Rattle.tables.proofs.rows.put_bit.Reads as put-bit-reads
+use Rattle.rows.proofs.put_bit.Reads as put-bit-reads
 
 -- src/turn.rt:112:5
 put-bit-requires : tie.Need-put-bit-requires

@@ -6,9 +6,9 @@ use Rattle.player.proofs.machine.finish.Statement.{statement}
 use Rattle.player.proofs.machine.finish.Tie as tie
 use Rattle.player.proofs.machine.finish.Reads as reads
 use Rattle.player.proofs.machine.finish.Lts as lts
-use Rattle.script.proofs.print.put_bad_line.Reads as put-bad-line-reads
-use Rattle.script.proofs.print.put_numbers_line.Reads as put-numbers-line-reads
-use Rattle.script.proofs.print.put_order_line.Reads as put-order-line-reads
+use Rattle.printing.proofs.put_bad_line.Reads as put-bad-line-reads
+use Rattle.printing.proofs.put_numbers_line.Reads as put-numbers-line-reads
+use Rattle.printing.proofs.put_order_line.Reads as put-order-line-reads
 use Rattle.tables.proofs.fill.least.Reads as least-reads
 
 -- src/machine.rt:134:9

@@ -7,7 +7,7 @@ use native.Mathlib.Omega.{arith}
 use borrow.Author.Needs.{needs}
 use lib.ListN.{length}
 use Rattle.mesh.specs.Tables.{tables}
-use Rattle.script.specs.Print.{lent, max-place}
+use Rattle.printing.specs.Print.{lent, max-place}
 use Rattle.player.specs.Machine.{spot, full, longest}
 use Rattle.player.proofs.SizeLaws.{byte-room}
 use Rattle.player.proofs.BytesLaws.{Taking, taking-none, taking-more, moved}

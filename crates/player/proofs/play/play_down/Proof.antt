@@ -9,7 +9,7 @@ use Rattle.player.proofs.play.play_down.Tie as tie
 use Rattle.player.proofs.play.play_down.Reads as reads
 use Rattle.player.proofs.play.play_down.Lts as lts
 use Rattle.links.proofs.link.link_down.Reads as link-down-reads
-use Rattle.script.proofs.print.put_link_line.Reads as put-link-line-reads
+use Rattle.printing.proofs.put_link_line.Reads as put-link-line-reads
 
 -- src/play.rt:48:9
 link-down-requires : tie.Need-link-down-requires

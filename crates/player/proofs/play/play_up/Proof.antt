@@ -9,7 +9,7 @@ use Rattle.player.proofs.play.play_up.Tie as tie
 use Rattle.player.proofs.play.play_up.Reads as reads
 use Rattle.player.proofs.play.play_up.Lts as lts
 use Rattle.links.proofs.link.link_up.Reads as link-up-reads
-use Rattle.script.proofs.print.put_link_line.Reads as put-link-line-reads
+use Rattle.printing.proofs.put_link_line.Reads as put-link-line-reads
 
 -- src/play.rt:30:9
 link-up-requires : tie.Need-link-up-requires

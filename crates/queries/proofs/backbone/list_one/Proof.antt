@@ -6,7 +6,7 @@ use Rattle.queries.proofs.backbone.list_one.Statement.{statement}
 use Rattle.queries.proofs.backbone.list_one.Tie as tie
 use Rattle.queries.proofs.backbone.list_one.Reads as reads
 use Rattle.queries.proofs.backbone.list_one.Lts as lts
-use Rattle.tables.proofs.rows.put_entry.Reads as put-entry-reads
+use Rattle.rows.proofs.put_entry.Reads as put-entry-reads
 
 -- src/backbone.rt:39:8
 shared-slice-read-if1 : tie.Need-shared-slice-read-if1

@@ -10,8 +10,8 @@ use Rattle.queries.proofs.cores.core.Tie as tie
 use Rattle.queries.proofs.cores.core.Reads as reads
 use Rattle.queries.proofs.cores.core.Lts as lts
 use Rattle.queries.proofs.cores.core_refusal.Reads as core-refusal-reads
-use Rattle.queries.proofs.flood.flood.Reads as flood-reads
-use Rattle.tables.proofs.rows.row_neighbours.Reads as row-neighbours-reads
+use Rattle.floods.proofs.flood.flood.Reads as flood-reads
+use Rattle.rows.proofs.row_neighbours.Reads as row-neighbours-reads
 
 -- src/cores.rt:33:9
 core-refusal-requires : tie.Need-core-refusal-requires

@@ -8,7 +8,7 @@ use Rattle.queries.proofs.radios.linked.Tie as tie
 use Rattle.queries.proofs.radios.linked.Reads as reads
 use Rattle.queries.proofs.radios.linked.Lts as lts
 use Rattle.queries.proofs.radios.pair_refusal.Reads as pair-refusal-reads
-use Rattle.tables.proofs.rows.is_marked.Reads as is-marked-reads
+use Rattle.rows.proofs.is_marked.Reads as is-marked-reads
 
 -- src/radios.rt:65:9
 pair-refusal-requires : tie.Need-pair-refusal-requires

@@ -8,7 +8,7 @@ use Rattle.queries.proofs.radios.neighbours.Tie as tie
 use Rattle.queries.proofs.radios.neighbours.Reads as reads
 use Rattle.queries.proofs.radios.neighbours.Lts as lts
 use Rattle.queries.proofs.radios.radio_refusal.Reads as radio-refusal-reads
-use Rattle.tables.proofs.rows.row_degree.Reads as row-degree-reads
+use Rattle.rows.proofs.row_degree.Reads as row-degree-reads
 
 -- src/radios.rt:54:9
 radio-refusal-requires : tie.Need-radio-refusal-requires

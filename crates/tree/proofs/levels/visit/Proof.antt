@@ -8,7 +8,7 @@ use Rattle.tree.proofs.levels.visit.Statement.{statement}
 use Rattle.tree.proofs.levels.visit.Tie as tie
 use Rattle.tree.proofs.levels.visit.Reads as reads
 use Rattle.tree.proofs.levels.visit.Lts as lts
-use Rattle.tables.proofs.rows.is_marked.Reads as is-marked-reads
+use Rattle.rows.proofs.is_marked.Reads as is-marked-reads
 use Rattle.tree.proofs.nodes.name_core.Reads as name-core-reads
 use Rattle.tree.proofs.nodes.put_node.Reads as put-node-reads
 

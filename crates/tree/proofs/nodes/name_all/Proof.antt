@@ -9,7 +9,7 @@ use Rattle.tree.proofs.nodes.name_all.Statement.{statement}
 use Rattle.tree.proofs.nodes.name_all.Tie as tie
 use Rattle.tree.proofs.nodes.name_all.Reads as reads
 use Rattle.tree.proofs.nodes.name_all.Lts as lts
-use Rattle.tables.proofs.rows.put_entry.Reads as put-entry-reads
+use Rattle.rows.proofs.put_entry.Reads as put-entry-reads
 
 abbrev Inv-loop : tie.InvT-loop
 Inv-loop list k x answer₀ i₀ answer i = Setting x (take k list) answer₀ i answer

@@ -5,7 +5,7 @@ use Rattle.tree.proofs.nodes.name_core.Statement.{statement}
 use Rattle.tree.proofs.nodes.name_core.Tie as tie
 use Rattle.tree.proofs.nodes.name_core.Reads as reads
 use Rattle.tree.proofs.nodes.name_core.Lts as lts
-use Rattle.queries.proofs.flood.flood.Reads as flood-reads
+use Rattle.floods.proofs.flood.flood.Reads as flood-reads
 use Rattle.tables.proofs.fill.least.Reads as least-reads
 use Rattle.tree.proofs.nodes.name_all.Reads as name-all-reads
 

@@ -1,5 +1,5 @@
 -- `asking::ask` is safe and ends: a walk of its MIR, by hand, since it lends a local list of structs. The first `room` places
--- are lent to `tree::lent::shell_tree` and come back, and the list is passed by value to `spread`. Nothing is said of what
+-- are lent to `node_list::lent::shell_tree` and come back, and the list is passed by value to `spread`. Nothing is said of what
 -- comes back.
 use mathlib.Core.Path.{_≡_, refl, sym, _∙_, subst}
 use mathlib.Core.List.{List, [], _∷_, _++_}
@@ -55,11 +55,11 @@ use Rattle.calls.specs.Answers.{Tree-contract}
 use Rattle.calls.specs.declared.Value.{Value}
 use Rattle.calls.proofs.Value as K
 use Rattle.calls.proofs.Value.Laws as K′
-use Rattle.tree.proofs.LocalArray.{Lies, arrTy, typed, made, lends, back, read, Others, apart, joined}
-use Rattle.tree.proofs.lent.shell_tree as callee
-use Rattle.tree.proofs.lent.shell_tree.Symbol as callee-def
-use Rattle.tree.proofs.lent.shell_tree.Symbol.{name as #tree·shell-tree}
-use Rattle.tree.proofs.lent.shell_tree.Met as callee-thm
+use Rattle.node_list.proofs.LocalArray.{Lies, arrTy, typed, made, lends, back, read, Others, apart, joined}
+use Rattle.node_list.proofs.lent.shell_tree as callee
+use Rattle.node_list.proofs.lent.shell_tree.Symbol as callee-def
+use Rattle.node_list.proofs.lent.shell_tree.Symbol.{name as #tree·shell-tree}
+use Rattle.node_list.proofs.lent.shell_tree.Met as callee-thm
 use Rattle.trees.proofs.asking.spread as spread
 use Rattle.trees.proofs.asking.spread.Symbol as spread-def
 use Rattle.trees.proofs.asking.spread.Symbol.{name as #trees·spread}
@@ -325,5 +325,5 @@ ask-spec 𝓤 H 𝓜 𝓖 𝓡 =
     entered 𝓤 H (tripleOf 𝓤 H (𝓖 .A) shell.signature (shell.spec 𝓤 H (𝓖 .A) (𝓜 .mem) (𝓡 .run)))
     (calls-of 𝓤 H 𝓜 𝓡 code.env .C) (calls-of 𝓤 H 𝓜 𝓡 code.env .Λ) #trees·ask code.function (code.unfolded 𝓤 H 𝓜 𝓡)
     (shell-meets 𝓤 H (𝓖 .A) (givenOf 𝓤 H 𝓜 𝓖) (𝓜 .mem) (𝓡 .run) (tablesOf 𝓤 H 𝓜 (calls-of 𝓤 H 𝓜 𝓡 code.env))
-    (cited 𝓤 H (Shell 𝓤 H (𝓖 .A) (𝓜 .mem) (𝓡 .run)) 𝓜 𝓡 code.env #tree·shell-tree callee-def.routine code.calls-tree·lent·shell-tree (callee-thm.met 𝓤 H 𝓜 𝓖 𝓡))
+    (cited 𝓤 H (Shell 𝓤 H (𝓖 .A) (𝓜 .mem) (𝓡 .run)) 𝓜 𝓡 code.env #tree·shell-tree callee-def.routine code.calls-node-list·lent·shell-tree (callee-thm.met 𝓤 H 𝓜 𝓖 𝓡))
     (cited 𝓤 H (Spread 𝓤 H (𝓖 .A) (𝓜 .mem) (𝓡 .run)) 𝓜 𝓡 code.env #trees·spread spread-def.routine code.calls-trees·asking·spread (spread-thm.met 𝓤 H 𝓜 𝓖 𝓡)))

@@ -7,7 +7,7 @@ use Rattle.trees.proofs.asking.spread.Statement.{statement}
 use Rattle.trees.proofs.asking.spread.Tie as tie
 use Rattle.trees.proofs.asking.spread.Reads as reads
 use Rattle.trees.proofs.asking.spread.Lts as lts
-use Rattle.tables.proofs.rows.put_entry.Reads as put-entry-reads
+use Rattle.rows.proofs.put_entry.Reads as put-entry-reads
 
 abbrev Inv-loop : tie.InvT-loop
 Inv-loop fields₀ nodes i₀ fields i = length fields ≡ length fields₀

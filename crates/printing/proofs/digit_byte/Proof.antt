@@ -1,0 +1,19 @@
+-- `printing::digit_byte` meets its contract by the definition.
+use mathlib.Core.Path.{refl}
+use Rattle.calls.specs.Replay.{digit-byte}
+use borrow.Author.Needs.{needs}
+use Rattle.printing.proofs.digit_byte.Statement.{statement}
+use Rattle.printing.proofs.digit_byte.Tie as tie
+
+cast-result : tie.Need-cast-result
+cast-result c = search needs
+
+add-result : tie.Need-add-result
+add-result c = search needs
+
+returns : tie.Need-returns
+unfolding digit-byte
+returns c = refl
+
+pub digit-byte-spec : {M : Type 1} → statement M
+digit-byte-spec = tie.close (tie.spec cast-result add-result returns)

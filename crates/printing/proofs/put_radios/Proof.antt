@@ -1,0 +1,70 @@
+-- `printing::put_radios` meets its contract: the fields of the first i radios are put. The measure is how many are left.
+use mathlib.Core.Path.{_∙_}
+use Prim.Native.Nat.{_-_}
+use native.Mathlib.Omega.{arith}
+use borrow.Author.Needs.{needs}
+use lib.ListN.{length}
+use Rattle.printing.specs.Print.{lent}
+use Rattle.printing.proofs.PrintLaws.{Fields, fields-none, fields-next, fields-last, length-putting}
+use Rattle.printing.proofs.put_radios.Statement.{statement}
+use Rattle.printing.proofs.put_radios.Tie as tie
+
+abbrev Inv-loop : tie.InvT-loop
+Inv-loop buffer₀ at radios place₀ i₀ buffer place i = Fields radios (lent buffer₀ at) (lent buffer place) i
+
+abbrev μ-loop : tie.MeasureT-loop
+μ-loop buffer₀ at radios place₀ i₀ buffer place i = length radios - i
+
+loop-holds : tie.Need-loop-holds Inv-loop μ-loop
+loop-holds c = fields-none (c .before .before .args .radios .now)
+
+mul-wide16 : tie.Need-mul-wide16 Inv-loop μ-loop
+mul-wide16 c = search needs
+
+shared-slice-read-wide16 : tie.Need-shared-slice-read-wide16 Inv-loop μ-loop
+shared-slice-read-wide16 c = omega arith
+
+wide16-requires : tie.Need-wide16-requires Inv-loop μ-loop
+wide16-requires c κs = tt
+
+put-field-requires : tie.Need-put-field-requires Inv-loop μ-loop
+put-field-requires c κs = tt
+
+add-i : tie.Need-add-i Inv-loop μ-loop
+add-i c = omega arith
+
+loop-less : tie.Need-loop-less Inv-loop μ-loop
+loop-less c = omega arith
+
+loop-again : tie.Need-loop-again Inv-loop μ-loop
+loop-again c =
+    let at-loop = c .before .before .before .before .before .before .before in
+    let entry = c .before .before .before .wide16 in
+    fields-next (entry .result) (omega arith) (entry .ensures) (at-loop .loop .inv) (c .before .before .put-field .ensures)
+
+put-byte-requires : tie.Need-put-byte-requires Inv-loop μ-loop
+put-byte-requires c κs = tt
+
+same-length : tie.Need-same-length Inv-loop μ-loop
+same-length c = c .before .before .put-byte .kept .0 ∙ length-putting (c .before .before .before .before .before .loop .inv .is)
+
+returns : tie.Need-returns Inv-loop μ-loop
+returns c = fields-last (omega arith) (c .before .before .before .before .before .loop .inv) (c .before .before .put-byte .ensures)
+
+pub put-radios-spec : {M : Type 1} → statement M
+put-radios-spec =
+    tie.close
+    (tie.spec
+    Inv-loop
+    μ-loop
+    loop-holds
+    mul-wide16
+    shared-slice-read-wide16
+    wide16-requires
+    put-field-requires
+    add-i
+    loop-less
+    loop-again
+    put-byte-requires
+    same-length
+    returns)

@@ -1,0 +1,63 @@
+-- `printing::put_text` meets its contract: the bytes that are left take the buffer where the whole text takes the lent one.
+-- The measure is how many are left.
+use Prim.Native.Nat.{_≤_, _+_, _-_}
+use native.Mathlib.Omega.{arith}
+use lib.ListN.{length, drop, drop-of-length-le}
+use Rattle.printing.specs.Print.{lent}
+use Rattle.printing.proofs.PrintLaws.{Putting, putting-none, putting-piece, putting-end, drop-byte, length-putting}
+use Rattle.printing.proofs.put_text.Statement.{statement}
+use Rattle.printing.proofs.put_text.Tie as tie
+
+abbrev Inv-loop : tie.InvT-loop
+Inv-loop buffer₀ at text place₀ i₀ buffer place i =
+    (i ≤ length text) × Putting (lent buffer₀ at) text (lent buffer place) (drop i text)
+
+abbrev μ-loop : tie.MeasureT-loop
+μ-loop buffer₀ at text place₀ i₀ buffer place i = length text - i
+
+loop-holds : tie.Need-loop-holds Inv-loop μ-loop
+loop-holds c = (omega arith, putting-none)
+
+shared-slice-read-put-byte : tie.Need-shared-slice-read-put-byte Inv-loop μ-loop
+shared-slice-read-put-byte c = omega arith
+
+put-byte-requires : tie.Need-put-byte-requires Inv-loop μ-loop
+put-byte-requires c κs = tt
+
+add-i : tie.Need-add-i Inv-loop μ-loop
+add-i c = omega arith
+
+loop-less : tie.Need-loop-less Inv-loop μ-loop
+loop-less c = omega arith
+
+loop-again : tie.Need-loop-again Inv-loop μ-loop
+loop-again c =
+    let at-loop = c .before .before .before .before .before .before in
+    let text = at-loop .before .before .before .args .text .now in
+    let i = at-loop .loop .i in
+    (omega arith, putting-piece (drop i text) (drop (i + 1) text) (drop-byte text i (omega arith)) (at-loop .loop .inv .1) (c .before .before .put-byte .ensures))
+
+same-length : tie.Need-same-length Inv-loop μ-loop
+same-length c = length-putting (c .before .loop .inv .1)
+
+returns : tie.Need-returns Inv-loop μ-loop
+returns c =
+    let at-loop = c .before in
+    let text = at-loop .before .before .before .args .text .now in
+    let done : length text ≤ at-loop .loop .i = omega arith in
+    putting-end (at-loop .loop .inv .1) (drop-of-length-le text done)
+
+pub put-text-spec : {M : Type 1} → statement M
+put-text-spec =
+    tie.close
+    (tie.spec
+    Inv-loop
+    μ-loop
+    loop-holds
+    shared-slice-read-put-byte
+    put-byte-requires
+    add-i
+    loop-less
+    loop-again
+    same-length
+    returns)

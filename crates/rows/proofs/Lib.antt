@@ -1,0 +1,11 @@
+-- Laws of rows, for their functions and callers.
+-- one bit by shift and mask
+pub mod MaskLaws
+-- words of eight bytes, and their set bits
+pub mod WordLaws
+-- a list written from the front: what is left gives what the whole gives
+pub mod Listing
+-- a row word by word
+pub mod RowWords
+-- the neighbours that a row marks, as a list: for callers
+pub mod RowListLaws

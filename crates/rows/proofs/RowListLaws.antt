@@ -1,0 +1,102 @@
+-- The neighbours that a row of the links table marks, as a list: laws for callers.
+-- In order: ascending entries, neighbours-of (order, repeats, membership, counts), the graph that the table marks, row-listed.
+use mathlib.Core.Path.{_≡_, sym, ap, _∙_}
+use mathlib.Core.Bool.{Bool, true, false, _&&_, cond}
+use mathlib.Core.List.{List, [], _∷_, _++_, append-nil}
+use Prim.Native.Nat.{ℕ, zero, suc, _+_, _*_, _-_, _≤_, _<_}
+use native.Mathlib.Omega.{arith}
+use lib.ListN.{length}
+use Rattle.mesh.specs.Limits.{max-radios, row-bytes}
+use Rattle.mesh.specs.Lists.{range, count, filter, member}
+use Rattle.mesh.specs.Graph.{linked}
+use Rattle.mesh.specs.Tables.{marked, graph-in}
+use Rattle.mesh.specs.Sound.{symmetric, irreflexive, within, row-degree}
+use Rattle.mesh.proofs.ListLaws.{In, Distinct, in-range, range-in, distinct-range, in-filter, member-filter, count-filter, length-filter, filter-none, filter-ext, filter-append, distinct-filter}
+use Rattle.mesh.proofs.RowLaws.{within-of}
+use Rattle.mesh.proofs.ReadBack.{linked-graph-in}
+use Rattle.rows.specs.Rows.{neighbours-of, row-listed}
+use Rattle.rows.proofs.Listing.{range-append}
+use Rattle.rows.proofs.RowWords.{row-listed-whole}
+
+-- ---- laws of lists: ascending entries
+
+-- each entry is below all later ones
+abbrev pub Ascending : List ℕ → Type 0
+Ascending [] = Unit {0}
+Ascending (x ∷ xs) = ((v : ℕ) → In v xs → x < v) × Ascending xs
+
+pub ascending-range : (i k : ℕ) → Ascending (range i k)
+unfolding range
+ascending-range i zero = tt
+ascending-range i (suc k) = (λ v m. omega (arith, range-in (suc i) k v m), ascending-range (suc i) k)
+
+pub ascending-filter : (f : ℕ → Bool) (xs : List ℕ) → Ascending xs → Ascending (filter f xs)
+unfolding filter
+ascending-filter f [] h = tt
+ascending-filter f (x ∷ xs) h = go (ascending-filter f xs (h .1)) (f x)
+  where
+    go : Ascending (filter f xs) → (t : Bool) → Ascending (cond t (x ∷ filter f xs) (filter f xs))
+    go rec true = (λ v m. h .0 v (in-filter f xs v m .0), rec)
+    go rec false = rec
+
+-- ---- neighbours-of
+
+pub ascending-neighbours-of : (ts : List ℕ) (a : ℕ) → Ascending (neighbours-of ts a)
+unfolding neighbours-of
+ascending-neighbours-of ts a = ascending-filter (λ b. marked ts a b) (range 0 max-radios) (ascending-range 0 max-radios)
+
+pub distinct-neighbours-of : (ts : List ℕ) (a : ℕ) → Distinct (neighbours-of ts a)
+unfolding neighbours-of
+distinct-neighbours-of ts a = distinct-filter (λ b. marked ts a b) (range 0 max-radios) (distinct-range 0 max-radios)
+
+-- an entry is a radio, and the row marks it
+pub in-neighbours-of : (ts : List ℕ) (a v : ℕ) → In v (neighbours-of ts a) → (v < max-radios) × (marked ts a v ≡ true)
+unfolding neighbours-of
+in-neighbours-of ts a v m =
+    let r = in-filter (λ b. marked ts a b) (range 0 max-radios) v m in (omega (arith, range-in 0 max-radios v (r .0)), r .1)
+
+pub member-neighbours-of : (ts : List ℕ) (a v : ℕ) → v < max-radios → member v (neighbours-of ts a) ≡ marked ts a v
+unfolding neighbours-of
+member-neighbours-of ts a v h =
+    member-filter (λ b. marked ts a b) (range 0 max-radios) v (in-range 0 max-radios v (omega arith) (omega arith))
+
+pub length-neighbours-of : (ts : List ℕ) (a : ℕ) → length (neighbours-of ts a) ≡ row-degree ts a
+unfolding neighbours-of row-degree
+length-neighbours-of ts a = length-filter (λ b. marked ts a b) (range 0 max-radios)
+
+pub count-neighbours-of : (f : ℕ → Bool) (ts : List ℕ) (a : ℕ)
+    → count f (neighbours-of ts a) ≡ count (λ b. marked ts a b && f b) (range 0 max-radios)
+unfolding neighbours-of
+count-neighbours-of f ts a = count-filter f (λ b. marked ts a b) (range 0 max-radios)
+
+-- ---- the graph that the table marks
+
+-- a row that marks as f tells below n, and nothing from n on
+pub neighbours-of-filter : (n : ℕ) (ts : List ℕ) (a : ℕ) (f : ℕ → Bool) → n ≤ max-radios → ((b : ℕ) → b < n → marked ts a b ≡ f b)
+    → ((b : ℕ) → n ≤ b → b < max-radios → marked ts a b ≡ false) → neighbours-of ts a ≡ filter f (range 0 n)
+unfolding neighbours-of
+neighbours-of-filter n ts a f big same none =
+    let row : ℕ → Bool = λ b. marked ts a b in
+    let parts : max-radios ≡ n + (max-radios - n) = omega arith in
+    let rest = range (0 + n) (max-radios - n) in
+    ap (λ (k : ℕ). filter row (range 0 k)) parts
+    ∙ ap (filter row) (range-append 0 n (max-radios - n))
+    ∙ filter-append row (range 0 n) rest
+    ∙ ap (λ (xs : List ℕ). filter row (range 0 n) ++ xs)
+    (filter-none row rest (λ b m. let r = range-in (0 + n) (max-radios - n) b m in none b (omega (arith, r .0)) (omega (arith, r .1))))
+    ∙ append-nil (filter row (range 0 n))
+    ∙ filter-ext row f (range 0 n) (λ b m. same b (omega (arith, range-in 0 n b m)))
+
+pub neighbours-of-linked : (n : ℕ) (ts : List ℕ) → n ≤ max-radios → symmetric n ts ≡ true → irreflexive n ts ≡ true → within n ts ≡ true
+    → (a : ℕ) → a < n → neighbours-of ts a ≡ filter (linked (graph-in n ts) a) (range 0 n)
+neighbours-of-linked n ts big s r w a la = neighbours-of-filter n ts a (linked (graph-in n ts) a) big
+    (λ b lb. sym (linked-graph-in n ts s r a b la lb)) (λ b nb lb. within-of n ts w a b la nb lb)
+
+-- ---- row-listed
+
+-- the rows of a table of n radios
+pub row-listed-radio : (n : ℕ) (ts : List ℕ) → length ts ≡ row-bytes * n → (a : ℕ) → a < n → row-listed ts a ≡ neighbours-of ts a
+row-listed-radio n ts e a h = row-listed-whole ts a (omega arith)
+
+pub length-row-listed-radio : (n : ℕ) (ts : List ℕ) → length ts ≡ row-bytes * n → (a : ℕ) → a < n → length (row-listed ts a) ≡ row-degree ts a
+length-row-listed-radio n ts e a h = ap length (row-listed-radio n ts e a h) ∙ length-neighbours-of ts a

@@ -1,0 +1,26 @@
+-- `rows::put_link` meets its contract: two calls of `put_bit`, with the ends exchanged.
+use mathlib.Core.Path.{ap, _∙_}
+use borrow.Author.Needs.{needs}
+use Rattle.mesh.specs.Tables.{put-bit, put-link}
+use Rattle.rows.proofs.put_link.Statement.{statement}
+use Rattle.rows.proofs.put_link.Tie as tie
+
+put-bit-requires : tie.Need-put-bit-requires
+put-bit-requires c κs = search needs
+
+put-bit-requires-2 : tie.Need-put-bit-requires-2
+put-bit-requires-2 c κs = search needs
+
+same-length : tie.Need-same-length
+same-length c = search needs
+
+returns : tie.Need-returns
+unfolding put-link
+returns c =
+    let second = c .before .before in
+    let first = second .before .before .before .before in
+    let call = first .before .before .before .args in
+    second .put-bit2 .ensures ∙ ap (put-bit (call .up) (call .b) (call .a)) (first .put-bit .ensures)
+
+pub put-link-spec : {M : Type 1} → statement M
+put-link-spec = tie.close (tie.spec put-bit-requires put-bit-requires-2 same-length returns)

@@ -1,0 +1,158 @@
+// Rows of the links table: one bit tested, set or cleared, a row's neighbours listed and counted, the lowest of them.
+// The bits of a row are walked here and nowhere else.
+ghost use mathlib.Core.Path.{_≡_};
+ghost use Prim.Native.Nat.{_≤_, _+_, min};
+ghost use lib.ListN.{length, take, set};
+ghost use lib.Seq.{sets};
+ghost use Rattle.mesh.specs.Limits.{max-radios};
+ghost use Rattle.mesh.specs.Lists.{head-or, overwrite};
+ghost use Rattle.mesh.specs.Tables.{marked, put-bit, put-link};
+ghost use Rattle.rows.specs.Rows.{row-listed, set-bits, word-at};
+
+// The bits of a word.
+const WORD_BITS: u32 = 64;
+
+// The words of a row.
+const ROW_WORDS: u32 = mesh::Site::RADIOS / WORD_BITS;
+
+// Whether bit b of row a is set; a bit past the table is not.
+pub fn is_marked(links: &[u8], a: u32, b: u32) -> bool
+    ensures { λ r. ⌜ r ≡ marked (now (links .entry)) a b ⌝ }
+{
+    let at = mesh::Site::ROW_BYTES * a as usize + (b / 8) as usize;
+    if at < links.len() {
+        links[at] >> (b % 8) & 1 == 1
+    } else {
+        false
+    }
+}
+
+// Sets or clears bit b of row a; past the table nothing changes.
+pub fn put_bit(links: &mut [u8], on: bool, a: u32, b: u32)
+    ensures { λ _. ⌜ now (links .exit) ≡ put-bit on a b (now (links .entry)) ⌝ }
+{
+    let at = mesh::Site::ROW_BYTES * a as usize + (b / 8) as usize;
+    if at < links.len() {
+        if on {
+            links[at] |= 1 << (b % 8);
+        } else {
+            links[at] &= !(1 << (b % 8));
+        }
+    }
+}
+
+// Sets or clears both bits of the link between a and b; past the table nothing changes.
+pub fn put_link(links: &mut [u8], up: bool, a: u32, b: u32)
+    ensures { λ _. ⌜ now (links .exit) ≡ put-link up a b (now (links .entry)) ⌝ }
+{
+    put_bit(links, up, a, b);
+    put_bit(links, up, b, a);
+}
+
+// Writes x at a place of the list; past the list nothing changes.
+pub fn put_entry(list: &mut [u16], at: usize, x: u16)
+    ensures { λ _. ⌜ now (list .exit) ≡ set (now (list .entry)) at x ⌝ }
+{
+    if at < list.len() {
+        list[at] = x;
+    }
+}
+
+// The eight bytes of the table from `at` on, as one word, lowest byte first.
+fn word_at(links: &[u8], at: usize) -> u64
+    requires { ⌜ at + 8 ≤ length (now links) ⌝ }
+    ensures { λ r. ⌜ r ≡ word-at 8 (now (links .entry)) at ⌝ }
+{
+    links[at] as u64
+        | (links[at + 1] as u64) << 8
+        | (links[at + 2] as u64) << 16
+        | (links[at + 3] as u64) << 24
+        | (links[at + 4] as u64) << 32
+        | (links[at + 5] as u64) << 40
+        | (links[at + 6] as u64) << 48
+        | (links[at + 7] as u64) << 56
+}
+
+// How many radios row a marks; of a row that is not whole in the table 0.
+pub fn row_degree(links: &[u8], a: u32) -> u32
+    ensures { λ r. ⌜ r ≡ length (row-listed (now (links .entry)) a) ⌝ }
+{
+    let start = mesh::Site::ROW_BYTES * a as usize;
+    if links.len() < start + mesh::Site::ROW_BYTES {
+        return 0;
+    }
+    let mut n: u32 = 0;
+    let mut k: u32 = 0;
+    while k < ROW_WORDS {
+        n += u64::count_ones(word_at(links, start + 8 * k as usize));
+        k += 1;
+    }
+    n
+}
+
+// Writes the places of the word's set bits, counted from `first`, into the list from place `count` on, until it is full, and
+// comes back with the count of entries so far. The loop is small, so that it is unrolled word by word.
+fn list_bits(word: u64, first: u32, list: &mut [u16], count: u32) -> u32
+    requires { ⌜ (count ≤ first) × (first + 64 ≤ max-radios) × (count ≤ length (now list)) ⌝ }
+    ensures counted { λ r. ⌜ r ≡ min (length (now (list .entry))) (count + length (set-bits 64 first word)) ⌝ }
+    ensures listed { λ _. ⌜ now (list .exit) ≡ sets (now (list .entry)) count (set-bits 64 first word) ⌝ }
+{
+    let mut rest = word;
+    let mut n = count;
+    while rest != 0 {
+        if list.len() <= n as usize {
+            return n;
+        }
+        list[n as usize] = (first + u64::trailing_zeros(rest)) as u16;
+        rest = rest & (rest - 1);
+        n += 1;
+    }
+    n
+}
+
+// Writes the radios that row a marks into the list, ascending, as many as fit, and comes back with the count of all of them;
+// later entries keep their content. Of a row that is not whole in the table nothing is written, and the count is 0.
+pub fn row_neighbours(links: &[u8], a: u32, list: &mut [u16]) -> u32
+    ensures counted { λ r. ⌜ r ≡ length (row-listed (now (links .entry)) a) ⌝ }
+    ensures listed { λ _. ⌜ now (list .exit) ≡ overwrite (take (length (now (list .entry))) (row-listed (now (links .entry)) a)) (now (list .entry)) ⌝ }
+{
+    let start = mesh::Site::ROW_BYTES * a as usize;
+    if links.len() < start + mesh::Site::ROW_BYTES {
+        return 0;
+    }
+    let mut n: u32 = 0;
+    let mut k: u32 = 0;
+    while k < ROW_WORDS {
+        n = list_bits(
+            word_at(links, start + 8 * k as usize),
+            WORD_BITS * k,
+            list,
+            n,
+        );
+        k += 1;
+    }
+    // a list that is full may hold less than all
+    if (n as usize) < list.len() {
+        return n;
+    }
+    row_degree(links, a)
+}
+
+// The lowest radio that row a marks; where it marks none, or is not whole in the table, the most radios that a site may have.
+pub fn first_marked(links: &[u8], a: u32) -> u32
+    ensures { λ r. ⌜ r ≡ head-or max-radios (row-listed (now (links .entry)) a) ⌝ }
+{
+    let start = mesh::Site::ROW_BYTES * a as usize;
+    if links.len() < start + mesh::Site::ROW_BYTES {
+        return mesh::Site::RADIOS;
+    }
+    let mut k: u32 = 0;
+    while k < mesh::Site::RADIOS / 64 {
+        let word = word_at(links, start + 8 * k as usize);
+        if word != 0 {
+            return 64 * k + u64::trailing_zeros(word);
+        }
+        k += 1;
+    }
+    mesh::Site::RADIOS
+}
