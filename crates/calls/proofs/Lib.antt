@@ -7,8 +7,10 @@ pub mod ContractLaws
 pub mod RecordLaws
 pub mod Outcomes
 pub mod LinkKept
+pub mod Holds
 pub mod Steps
 pub mod WholeList
+pub mod FormerDemand
 pub mod Cases
 pub mod Accepted
 -- decimal digits, for the script and the printer
