@@ -4,6 +4,7 @@ pub mod Questions
 pub mod Switches
 pub mod Writes
 pub mod Answers
+pub mod Outcomes
 pub mod Book
 pub mod Runs
 pub mod Demand

@@ -2,6 +2,7 @@
 --   Does c t hs v     the call c on the tables t leaves the tables v; hs are the answers to be compared
 --   Event, Run        the calls carried out, each on the tables that the one before it left
 --   givens, answers   what the book is given of a list, and the answers to be compared
+--   called            the calls of a list
 -- Definitions only.
 use mathlib.Core.Path.{_≡_}
 use mathlib.Core.Bool.{Bool}
@@ -63,6 +64,11 @@ pub data Run : Tables → List Event → Tables → Type 0 where
 unfoldable pub givens : List Event → List Given
 givens [] = []
 givens (event c t hs v ∷ es) = given c (lengths-of t) ∷ givens es
+
+-- the calls of a list
+unfoldable pub called : List Event → List Call
+called [] = []
+called (event c t hs v ∷ es) = c ∷ called es
 
 -- the answers to be compared of a list
 unfoldable pub answers : List Event → List Answer
