@@ -1,11 +1,14 @@
--- What calls promise, in the order in which a reader needs it. `Replay` is what the replay program prints; `Rows` and
+-- What calls promise, in the order in which a reader needs it. `FormerDemand` is a corollary's statement. `Replay` is what the replay program prints; `Rows` and
 -- `Cases` are the worked cases of document 01.
 pub mod Questions
+pub mod Switches
 pub mod Writes
 pub mod Answers
+pub mod Outcomes
 pub mod Book
 pub mod Runs
 pub mod Demand
+pub mod FormerDemand
 pub mod Replay
 pub mod Rows
 pub mod Cases
