@@ -13,6 +13,7 @@ pub mod LinkKept
 pub mod Holds
 pub mod Steps
 pub mod WholeList
+pub mod Exactly
 pub mod FormerDemand
 pub mod Cases
 pub mod Accepted

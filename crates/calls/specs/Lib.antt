@@ -5,6 +5,7 @@ pub mod Switches
 pub mod Writes
 pub mod Answers
 pub mod Outcomes
+pub mod Results
 pub mod Book
 pub mod Runs
 pub mod Demand
