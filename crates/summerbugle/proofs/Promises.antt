@@ -1,24 +1,21 @@
 -- The promises of the engine: one statement, `Promises`, and its proof, `promises`. Whoever reads the statement and the definitions
 -- that it cites (specs/ of mesh, calls, image and of this crate, and the table of calls in Calls.antt) need read no proof.
---   Calls-promised   property 1: each exported call meets its contract, whatever it is given: nothing is required
---   Calls-return     property 1 at the machine: from every memory that lends what the signature says, the call returns, and what it
---                    returns and leaves meets the contract
---   Refusals         property 1: a call whose number is not 0 has zeros beside it, and every lent table keeps its content
---   Outcomes         each contract has exactly one outcome for every input: the one worked out in calls/specs/Outcomes.antt
---   Tables-left      the calls that take links, numbers and order by shared reference leave them as they were
+--   Property-1       every public call returns for every input, checks its tables itself, and refuses by number
+--     Calls-promised   each call meets its contract: the whole triple, in which nothing is required
+--     Calls-return     at the machine: from every memory that lends what the signature says, the call returns, and what it returns
+--                      and leaves meets the contract
+--     Refusals         a call whose number is not 0 has zeros beside it, and every lent table keeps its content
+--     Outcomes         for every input a contract has exactly one outcome: the one worked out in calls/specs/Outcomes.antt
+--     Tables-left      what is lent by shared reference is left as it was
 --   Property-2       numbers are core numbers by the largest group and orders are k-orders; connected cores, backbone, shell tree and
 --                    images follow their definitions
 --   Property-3       demand 3, undivided, over the contracts that the exported calls meet
-use mathlib.Core.Path.{_≡_, refl, sym}
+use mathlib.Core.Path.{_≡_, refl}
 use mathlib.Core.Logic.{_↔_, _⊎_}
 use mathlib.Core.Bool.{Bool, true, false}
 use mathlib.Core.List.{List, [], _∷_, _++_}
 use Prim.Native.Nat.{ℕ, _<_}
 use lib.ListN.{length, take}
-use contract.Lifetimes.{Lfts}
-use denote.Triple.Entry.{Args, Res}
-use denote.Triple.End.{Outs}
-use ghost.Model as Closed
 use Rattle.mesh.specs.Lists.{member}
 use Rattle.mesh.specs.Graph.{Link, Graph, graph}
 use Rattle.mesh.specs.Cores.{Core, number}
@@ -44,7 +41,7 @@ use Rattle.calls.proofs.Accepted.{check-right, link-right, number-right, core-r
 use Rattle.calls.proofs.Total.{run-total}
 use Rattle.calls.proofs.WholeList.{demand-3}
 use Rattle.calls.proofs.Exactly.{exactly-changed}
-use Rattle.summerbugle.specs.Functions.{Function, Promised, Returns, Leaves-lent, number-0, number-1, number-2, tables-1, tables-2, tables-3, lent-4, lent-6}
+use Rattle.summerbugle.specs.Functions.{Promised, Returns, Gives, Leaves-lent, number-0, number-1, number-2, tables-1, tables-2, tables-3, lent-0, lent-4, lent-6}
 use Rattle.summerbugle.proofs.Calls.{sb-clear, sb-link-up, sb-link-down, sb-image-read, sb-check, sb-number, sb-neighbours, sb-linked, sb-first, sb-core, sb-backbone, sb-tree, sb-image-write, sb-image-block, reader-open, reader-step, reader-moved}
 use Rattle.summerbugle.proofs.Returns.{returns}
 use Rattle.image.proofs.blocks.open.Met as reader-open-proof
@@ -125,6 +122,9 @@ pub record Calls-return : Type 2 where
   pub tree : Returns sb-tree
   pub image-write : Returns sb-image-write
   pub image-block : Returns sb-image-block
+  pub reader-open : Returns reader-open
+  pub reader-step : Returns reader-step
+  pub reader-moved : Returns reader-moved
 
 pub calls-return : Calls-return
 calls-return = record {
@@ -142,6 +142,9 @@ calls-return = record {
   tree = returns sb-tree (calls-promised .tree);
   image-write = returns sb-image-write (calls-promised .image-write);
   image-block = returns sb-image-block (calls-promised .image-block);
+  reader-open = returns reader-open (calls-promised .reader-open);
+  reader-step = returns reader-step (calls-promised .reader-step);
+  reader-moved = returns reader-moved (calls-promised .reader-moved);
 }
 
 -- ---- property 1: what a refusal keeps, by the number that the host sees
@@ -240,6 +243,9 @@ pub record Tables-left : Type 0 where
   pub backbone : Leaves-lent sb-backbone (λ κs. tables-1) (λ κs. tables-1)
   pub tree : Leaves-lent sb-tree (λ κs. tables-1) (λ κs. tables-1)
   pub image-write : Leaves-lent sb-image-write (λ κs. tables-1) (λ κs. tables-1)
+  -- and images
+  pub image-read : Leaves-lent sb-image-read (λ κs. lent-4) (λ κs. lent-4)
+  pub image-block : Leaves-lent sb-image-block (λ κs. lent-0) (λ κs. lent-0)
 
 pub tables-left : Tables-left
 tables-left = record {
@@ -252,6 +258,8 @@ tables-left = record {
   backbone = λ κs a last. refl;
   tree = λ κs a last. refl;
   image-write = λ κs a last. refl;
+  image-read = λ κs a last. refl;
+  image-block = λ κs a last. refl;
 }
 
 -- ---- property 2
@@ -311,24 +319,16 @@ property-2 = record {
 
 -- ---- property 3
 
--- what an exported call says is a step of a run
+-- whatever meets the contract of one of the four calls that write links, numbers and order is a step of a run
 pub record Steps : Type 0 where
-  pub clear :
-      (κs : Lfts (sb-clear .signature .lifetimes)) (a : Args (sb-clear .signature) κs) (r : Res (sb-clear .signature) κs)
-      (e : Outs κs (sb-clear .signature .params) (sb-clear .kept)) → sb-clear .contract κs a r e →
-      Does (clearing (number-0 a)) (tables-1 a) (plain r ∷ []) (tables-1 e)
-  pub image-read :
-      (κs : Lfts (sb-image-read .signature .lifetimes)) (a : Args (sb-image-read .signature) κs) (r : Res (sb-image-read .signature) κs)
-      (e : Outs κs (sb-image-read .signature .params) (sb-image-read .kept)) → sb-image-read .contract κs a r e →
-      Does (reading (number-0 a) (lent-4 a)) (tables-1 a) (plain r ∷ []) (tables-1 e)
+  pub clear : Gives sb-clear (λ κs a r e. Does (clearing (number-0 a)) (tables-1 a) (plain r ∷ []) (tables-1 e))
+  pub image-read : Gives sb-image-read (λ κs a r e. Does (reading (number-0 a) (lent-4 a)) (tables-1 a) (plain r ∷ []) (tables-1 e))
   pub link-up :
-      (κs : Lfts (sb-link-up .signature .lifetimes)) (a : Args (sb-link-up .signature) κs) (r : Res (sb-link-up .signature) κs)
-      (e : Outs κs (sb-link-up .signature .params) (sb-link-up .kept)) → sb-link-up .contract κs a r e →
-      Does (linking true (number-0 a) (number-1 a) (number-2 a) (length (lent-6 a))) (tables-3 a) (answer-of r (lent-6 e) ∷ []) (tables-3 e)
+      Gives sb-link-up (λ κs a r e.
+      Does (linking true (number-0 a) (number-1 a) (number-2 a) (length (lent-6 a))) (tables-3 a) (answer-of r (lent-6 e) ∷ []) (tables-3 e))
   pub link-down :
-      (κs : Lfts (sb-link-down .signature .lifetimes)) (a : Args (sb-link-down .signature) κs) (r : Res (sb-link-down .signature) κs)
-      (e : Outs κs (sb-link-down .signature .params) (sb-link-down .kept)) → sb-link-down .contract κs a r e →
-      Does (linking false (number-0 a) (number-1 a) (number-2 a) (length (lent-6 a))) (tables-3 a) (answer-of r (lent-6 e) ∷ []) (tables-3 e)
+      Gives sb-link-down (λ κs a r e.
+      Does (linking false (number-0 a) (number-1 a) (number-2 a) (length (lent-6 a))) (tables-3 a) (answer-of r (lent-6 e) ∷ []) (tables-3 e))
 
 pub steps : Steps
 unfolding Does
@@ -359,22 +359,21 @@ property-3 = record { steps = steps; runs = run-total; demand = demand-3; exactl
 
 -- ---- all of them
 
-pub record Promises (M : Type 1) : Type 2 where
+pub record Property-1 (M : Type 1) : Type 2 where
   pub promised : Calls-promised M
   pub return : Calls-return
   pub refused : Refusals
   pub outcomes : Outcomes
   pub left : Tables-left
+
+pub record Promises (M : Type 1) : Type 2 where
+  pub first : Property-1 M
   pub second : Property-2
   pub third : Property-3
 
 pub promises : {M : Type 1} → Promises M
 promises = record {
-  promised = calls-promised;
-  return = calls-return;
-  refused = refusals;
-  outcomes = outcomes;
-  left = tables-left;
+  first = record { promised = calls-promised; return = calls-return; refused = refusals; outcomes = outcomes; left = tables-left };
   second = property-2;
   third = property-3;
 }

@@ -3,7 +3,8 @@
 --   Function          a function: its signature, its routine, and its contract on the values at entry, the result and the values at exit
 --   Promised f M      in every model of the machine the routine meets the triple that requires nothing and ensures the contract
 --   Returns f         from every memory that lends what the signature says, the routine returns, and the outcome meets the contract
---   Leaves-lent       tables lent by shared reference hold on return what they held on entry
+--   Gives f Q         whatever meets f's contract, Q holds of it
+--   Leaves-lent       what a parameter holds on return is what it held on entry
 -- A reference's value is where it points, its ghost name, and what it holds, which is `now`. Definitions only.
 use mathlib.Core.Path.{_≡_}
 use mathlib.Core.List.{List}
@@ -68,14 +69,16 @@ lent-6 a = lent-5 (a .1)
 
 -- ---- a function
 
--- `kept` tells which parameters' values at exit the contract speaks of
+-- a claim about the values at entry, the result and the values at exit; ks tells which parameters' values at exit it speaks of
+abbrev pub On-values : (S : Signature) → Kepts (S .params) → Type 1
+On-values S ks =
+    (κs : Lfts (S .lifetimes)) → (entry : Args S κs) → (result : Res S κs) → (exit : Outs κs (S .params) ks) → Type 0
+
 pub record Function : Type 2 where
   pub signature : Signature
   pub routine : Routine
   pub kept : Kepts (signature .params)
-  pub contract :
-      (κs : Lfts (signature .lifetimes)) → (entry : Args signature κs) → (result : Res signature κs) →
-      (exit : Outs κs (signature .params) kept) → Type 0
+  pub contract : On-values signature kept
 
 -- ---- in the logic
 
@@ -128,11 +131,18 @@ module _ (f : Function) where
   abbrev pub Returns : Type 2
   Returns = (x : Passed) (σ : Memory) (F : SProp Closed.𝓤) → Holds σ (sep Closed.𝓤 (Lent x) F) → ∥ Returned x σ F ∥₁
 
-  -- ---- tables lent by shared reference
+  -- ---- what follows from a contract, and from a signature
 
+  -- whatever meets the contract, Q holds of it
+  abbrev pub Gives : On-values (f .signature) (f .kept) → Type 0
+  Gives Q =
+      (κs : Lfts (f .signature .lifetimes)) (a : Args (f .signature) κs) (r : Res (f .signature) κs)
+      (e : Outs κs (f .signature .params) (f .kept)) → f .contract κs a r e → Q κs a r e
+
+  -- what is read of a parameter at entry and at exit is the same, whatever the last values of what was lent to be written
   abbrev pub Leaves-lent :
-      ((κs : Lfts (f .signature .lifetimes)) → Args (f .signature) κs → Tables) →
-      ((κs : Lfts (f .signature .lifetimes)) → Outs κs (f .signature .params) (f .kept) → Tables) → Type 0
+      {A : Type 0} → ((κs : Lfts (f .signature .lifetimes)) → Args (f .signature) κs → A) →
+      ((κs : Lfts (f .signature .lifetimes)) → Outs κs (f .signature .params) (f .kept) → A) → Type 0
   Leaves-lent before after =
       (κs : Lfts (f .signature .lifetimes)) (a : Args (f .signature) κs) (last : Fins κs (f .signature .params) (f .kept) a) →
       after κs (outs κs (f .signature .params) (f .kept) a last) ≡ before κs a
