@@ -4,7 +4,7 @@
 --   number-right         the number answered is the core number by the largest group
 --   core-right, backbone-right   the radios listed are exactly the connected core, the backbone
 --   tree-right-listed    the nodes are the shell tree, and each radio has its node's name
---   write-right          the bytes written are an image that a reader accepts
+--   write-right          the bytes written are the image of the tables, and of sound tables
 --   read-right           the tables of an accepted image are sound, and written again they give the same bytes
 --   read-what-was-written   sound tables, written and read, are the same tables
 --   read-eleven          11 is the answer to bytes that are the image of no sound tables, and to no others
@@ -20,7 +20,7 @@ use lib.ListN.{length, getD, take, drop, List·getD-append}
 use lib.Seq.{ext-getD}
 use borrow.Author.Tests.{ltb-true, ltb-false}
 use Rattle.mesh.specs.Limits.{max-radios, max-neighbours}
-use Rattle.mesh.specs.Lists.{range, overwrite}
+use Rattle.mesh.specs.Lists.{range, overwrite, Ascending}
 use Rattle.mesh.specs.Graph.{Graph, radios, relinked}
 use Rattle.mesh.specs.Cores.{Core, number, numbers}
 use Rattle.mesh.specs.Orders.{is-k-order}
@@ -47,11 +47,13 @@ use Rattle.mesh.proofs.ImageSites.{written-read}
 use Rattle.mesh.proofs.ImageTables.{valid-graph-in, is-image-sound, is-image-tables, tables-read-written}
 use Rattle.mesh.proofs.Valid.{Valid}
 use Rattle.calls.specs.Questions.{ask, By-number, lengths-of, size-good, site-lengths, image-length, lent-refusal, tables-refusal, link-refusal}
-use Rattle.calls.specs.Questions.{radio-refusal, core-refusal, backbone-refusal, tree-refusal, write-refusal, blocks-refusal, image-refusal, read-refusal, block-refusal}
+use Rattle.calls.specs.Questions.{radio-refusal, core-refusal, backbone-refusal, tree-refusal, write-refusal, blocks-refusal}
+use Rattle.calls.specs.Questions.{image-refusal, read-refusal, block-refusal}
 use Rattle.calls.specs.Writes.{Tables-refused, Link-accepted, Link-refused, Link-contract, Read-accepted, Read-contract}
 use Rattle.calls.specs.Answers.{Value-accepted, Value-refused, Check-contract, Number-contract, Listing-accepted, Listing-refused, Core-contract}
 use Rattle.calls.specs.Answers.{Backbone-contract, Write-contract, Tree-accepted, Tree-refused, Tree-contract, Block-none, Block-accepted, Block-contract}
-use Rattle.calls.specs.Results.{Numbers-right, Site-right, Link-right, Core-listed, Backbone-listed, Tree-listed, Read-right, Block-part, Block-end}
+use Rattle.calls.specs.Results.{Numbers-right, Site-right, Listed, Link-right, Core-listed, Backbone-listed, Tree-listed}
+use Rattle.calls.specs.Results.{Written-right, Read-right, Block-part, Block-end}
 use Rattle.calls.specs.declared.Reply.{Reply}
 use Rattle.calls.specs.declared.Value.{Value}
 use Rattle.calls.specs.declared.Block.{Block}
@@ -69,6 +71,17 @@ accepted R A B r says d z = go (by-cases R A B d)
     go (inl p) = p
     go (inr p) = absurd (p .0 (sym (says R (p .1)) ∙ z))
 
+-- ---- a list in front of a lent list
+
+front : (new old : List ℕ) (k : ℕ) (x : List ℕ) → k ≡ length new → x ≡ overwrite new old → take k x ≡ new
+front new old k x e f = ap₂ (λ (i : ℕ) (ys : List ℕ). take i ys) e f ∙ take-overwrite new old
+
+later : (new old : List ℕ) (k : ℕ) (x : List ℕ) → k ≡ length new → x ≡ overwrite new old → drop k x ≡ drop k old
+later new old k x e f = rw (e, f) (drop-overwrite new old)
+
+in-front : (new old : List ℕ) (k : ℕ) (x : List ℕ) → k ≡ length new → x ≡ overwrite new old → Ascending new → Listed k old x
+in-front new old k x e f a = record { ascending = rw (front new old k x e f) a; later-entries = later new old k x e f }
+
 -- ---- link calls
 
 numbers-right : (g : Graph) (t : Tables) → t .numbers ≡ numbers g → is-k-order g (t .order) ≡ true → Numbers-right g t
@@ -76,7 +89,7 @@ numbers-right g t e k = record { cores = λ x l. rw (e, getD-numbers g x l) (num
 
 -- the graph in the new links table is the graph with the link changed
 pub link-right : (up : Bool) (n a b : ℕ) (t : Tables) (w : List ℕ) (r : Reply) (v : Tables) (x : List ℕ) → Link-contract up n a b t w r v x
-    → r .number ≡ 0 → Link-right up n a b t v (take (r .count) x)
+    → r .number ≡ 0 → Link-right up n a b t v (r .count) w x
 unfolding Link-contract graph-in sound lengths-of
 link-right up n a b t w r v x d z =
     let g = graph-in n (t .links) in
@@ -86,12 +99,10 @@ link-right up n a b t w r v x d z =
     let valid = link-valid max-neighbours up a b g (t .order) (valid-graph-in max-neighbours n t (good .0 .lent .most) (good .0 .is-sound)) (good .1) in
     let after : graph-in n (v .links) ≡ relinked up a b g =
     ap (graph-in n) (c .1 .links) ∙ graph-in-put-link up n a b t (good .0 .lent .most) (good .0 .lent .lengths .links) (good .0 .is-sound) (good .1) in
-    let listed : take (r .count) x ≡ changed up a b g =
-    ap₂ (λ (i : ℕ) (ys : List ℕ). take i ys) (c .1 .count) (c .1 .answer) ∙ take-overwrite (changed up a b g) w in
     record {
       graph = after;
       right = rw after (numbers-right (relinked up a b g) v (c .1 .numbers) (ap (is-k-order (relinked up a b g)) (c .1 .order) ∙ valid .k-order));
-      ascending = rw listed (changed-ascending up a b g);
+      listed = in-front (changed up a b g) w (r .count) x (c .1 .count) (c .1 .answer) (changed-ascending up a b g);
     }
 
 -- ---- the soundness check, and a radio's number
@@ -131,12 +142,8 @@ number-right n v t r d z =
 
 -- ---- connected cores and the backbone
 
--- what is listed in front of a lent list
-front : (new old : List ℕ) (r : Value) (x : List ℕ) → Listing-accepted (length new) new old r x → take (r .value) x ≡ new
-front new old r x c = ap₂ (λ (i : ℕ) (ys : List ℕ). take i ys) (c .value) (c .lent) ∙ take-overwrite new old
-
 pub core-right : (n v k : ℕ) (t : Tables) (w : List ℕ) (r : Value) (x : List ℕ) → Core-contract n v k t w r x → r .number ≡ 0
-    → Core-listed (graph-in n (t .links)) v k (take (r .value) x)
+    → Core-listed (graph-in n (t .links)) v k (r .value) w x
 unfolding Core-contract graph-in
 core-right n v k t w r x d z =
     let g = graph-in n (t .links) in
@@ -144,17 +151,23 @@ core-right n v k t w r x d z =
     let c = accepted (core-refusal n v k (lengths-of t) (length w) (sound n t) g) (Listing-accepted (length new) new w r x)
     (λ q. Listing-refused q w r x) (r .number) (λ q e. e .number) d z in
     let good = core-zero n v k (lengths-of t) (length w) (sound n t) g (c .0) in
-    rw (front new w r x (c .1)) (record { exactly = core-of-iff g v k (good .1); ascending = core-ascending g v k (good .1) })
+    record {
+      exactly = rw (front new w (r .value) x (c .1 .value) (c .1 .lent)) (core-of-iff g v k (good .1));
+      listed = in-front new w (r .value) x (c .1 .value) (c .1 .lent) (core-ascending g v k (good .1));
+    }
 
 pub backbone-right : (n : ℕ) (t : Tables) (w : List ℕ) (r : Value) (x : List ℕ) → Backbone-contract n t w r x → r .number ≡ 0
-    → Backbone-listed (graph-in n (t .links)) (take (r .value) x)
+    → Backbone-listed (graph-in n (t .links)) (r .value) w x
 unfolding Backbone-contract
 backbone-right n t w r x d z =
     let g = graph-in n (t .links) in
     let new = backbone g in
     let c = accepted (backbone-refusal n (lengths-of t) (length w) (sound n t)) (Listing-accepted (length new) new w r x)
     (λ q. Listing-refused q w r x) (r .number) (λ q e. e .number) d z in
-    rw (front new w r x (c .1)) (record { exactly = backbone-iff g; ascending = backbone-ascending g })
+    record {
+      exactly = rw (front new w (r .value) x (c .1 .value) (c .1 .lent)) (backbone-iff g);
+      listed = in-front new w (r .value) x (c .1 .value) (c .1 .lent) (backbone-ascending g);
+    }
 
 -- ---- the shell tree
 
@@ -206,11 +219,13 @@ module _ (n : ℕ) (t : Tables) (w : List ℕ) (r : Value) (x : List ℕ) (d : W
   good : Site-good n (lengths-of t) true (sound n t)
   good = write-zero n (lengths-of t) (length w) (sound n t) g (given .0) .0
 
-  bytes-written : take (r .value) x ≡ written
+  -- the value is the image's length
+  size : r .value ≡ length written
   unfolding image-length
-  bytes-written =
-      ap₂ (λ (i : ℕ) (ys : List ℕ). take i ys) (given .1 .value ∙ sym (length-image-of g (t .order))) (given .1 .lent)
-      ∙ take-overwrite written w
+  size = given .1 .value ∙ sym (length-image-of g (t .order))
+
+  bytes-written : take (r .value) x ≡ written
+  bytes-written = front written w (r .value) x size (given .1 .lent)
 
   read-accepts : (u : Tables) → lengths-of u ≡ lengths-of t → read-refusal n (lengths-of u) (take (r .value) x) ≡ 0
   read-accepts u e =
@@ -218,8 +233,12 @@ module _ (n : ℕ) (t : Tables) (w : List ℕ) (r : Value) (x : List ℕ) (d : W
       (record { whole = whole-blocks-image-of g (t .order); checks = checks-good-image-of g (t .order) })
       (is-image-sound n t (good .lent .most) (good .is-sound)))
 
-  pub write-right : is-image n (take (r .value) x) ≡ true
-  write-right = rw bytes-written (is-image-sound n t (good .lent .most) (good .is-sound))
+  pub write-right : Written-right n t (r .value) w x
+  write-right = record {
+    image = bytes-written;
+    is-image = rw bytes-written (is-image-tables n written (good .lent .most) .0 (is-image-sound n t (good .lent .most) (good .is-sound)));
+    later-bytes = later written w (r .value) x size (given .1 .lent);
+  }
 
   -- tables of these lengths, as question 2 has them
   sized : Entries-below 256 (t .links) → Tables-of-size n t

@@ -2,9 +2,10 @@
 --   Numbers-right     numbers are core numbers of a graph by the largest group, and the order is a k-order of it
 --   Site-right        document 01: sound tables are exactly those with proper rows, core numbers and a k-order
 --   Link-right        after a link call: the graph in the new links table, and its numbers and order
+--   Listed            a list of radios in front of a lent list
 --   Core-listed, Backbone-listed   the radios listed
 --   Tree-listed       the nodes listed, and each radio's node name
---   Read-right        after reading an image
+--   Written-right, Read-right      after writing and reading an image
 --   Block-part, Block-end   what a step of the block reader gives
 -- Definitions only.
 use mathlib.Core.Path.{_≡_}
@@ -22,7 +23,7 @@ use Rattle.mesh.specs.Tables.{Tables, graph-in}
 use Rattle.mesh.specs.Sound.{rows-proper, number-in, sound}
 use Rattle.mesh.specs.Connected.{In-core, In-backbone}
 use Rattle.mesh.specs.Tree.{Is-tree, Node-name}
-use Rattle.mesh.specs.Image.{block-bytes, payload-bytes, payload-at, image-of, image-graph}
+use Rattle.mesh.specs.Image.{block-bytes, payload-bytes, payload-at, image-of, image-graph, Tables-image}
 use Rattle.mesh.specs.declared.Node.{Node}
 use Rattle.calls.specs.Answers.{Block-none}
 use Rattle.calls.specs.declared.Block.{Block}
@@ -37,21 +38,26 @@ pub record Site-right (n : ℕ) (t : Tables) : Type 0 where
   pub rows : rows-proper max-neighbours n (t .links) ≡ true
   pub right : Numbers-right (graph-in n (t .links)) t
 
--- t and v are the tables before and after the call; `listed` are the changed radios in front of the answer table
-pub record Link-right (up : Bool) (n a b : ℕ) (t v : Tables) (listed : List ℕ) : Type 0 where
+-- a list fills the first `count` entries of the lent list x, ascending; later entries keep the content of w, the list before the call
+pub record Listed (count : ℕ) (w x : List ℕ) : Type 0 where
+  pub ascending : Ascending (take count x)
+  pub later-entries : drop count x ≡ drop count w
+
+-- t and v are the tables before and after the call; the changed radios are listed
+pub record Link-right (up : Bool) (n a b : ℕ) (t v : Tables) (count : ℕ) (w x : List ℕ) : Type 0 where
   pub graph : graph-in n (v .links) ≡ relinked up a b (graph-in n (t .links))
   pub right : Numbers-right (graph-in n (v .links)) v
-  pub ascending : Ascending listed
+  pub listed : Listed count w x
 
 -- ---- connected cores, backbone, shell tree
 
-pub record Core-listed (g : Graph) (v k : ℕ) (listed : List ℕ) : Type 0 where
-  pub exactly : (x : ℕ) → (member x listed ≡ true) ↔ In-core g v k x
-  pub ascending : Ascending listed
+pub record Core-listed (g : Graph) (v k count : ℕ) (w x : List ℕ) : Type 0 where
+  pub exactly : (y : ℕ) → (member y (take count x) ≡ true) ↔ In-core g v k y
+  pub listed : Listed count w x
 
-pub record Backbone-listed (g : Graph) (listed : List ℕ) : Type 0 where
-  pub exactly : (x : ℕ) → (member x listed ≡ true) ↔ In-backbone g x
-  pub ascending : Ascending listed
+pub record Backbone-listed (g : Graph) (count : ℕ) (w x : List ℕ) : Type 0 where
+  pub exactly : (y : ℕ) → (member y (take count x) ≡ true) ↔ In-backbone g y
+  pub listed : Listed count w x
 
 -- m and w are the list of nodes and the answer table before the call, p and x the same after it
 pub record Tree-listed (g : Graph) (count : ℕ) (m p : List Node) (w x : List ℕ) : Type 0 where
@@ -63,6 +69,12 @@ pub record Tree-listed (g : Graph) (count : ℕ) (m p : List Node) (w x : List �
   pub later-entries : drop (g .n) x ≡ drop (g .n) w
 
 -- ---- images
+
+-- the first `size` bytes are the image of the tables, and of sound tables; later bytes keep their content
+pub record Written-right (n : ℕ) (t : Tables) (size : ℕ) (w x : List ℕ) : Type 0 where
+  pub image : take size x ≡ image-of (graph-in n (t .links)) (t .order)
+  pub is-image : Tables-image n (take size x)
+  pub later-bytes : drop size x ≡ drop size w
 
 pub record Read-right (n : ℕ) (image : List ℕ) (v : Tables) : Type 0 where
   pub is-sound : sound n v ≡ true

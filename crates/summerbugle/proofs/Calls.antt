@@ -4,7 +4,8 @@ use mathlib.Core.Path.{_≡_}
 use mathlib.Core.Bool.{true, false}
 use denote.Ref.{now}
 use Rattle.calls.specs.Writes.{Clear-contract, Link-contract, Read-contract}
-use Rattle.calls.specs.Answers.{Check-contract, Number-contract, Neighbours-contract, Linked-contract, First-contract, Core-contract, Backbone-contract, Tree-contract, Write-contract, Block-contract}
+use Rattle.calls.specs.Answers.{Check-contract, Number-contract, Neighbours-contract, Linked-contract, First-contract, Core-contract}
+use Rattle.calls.specs.Answers.{Backbone-contract, Tree-contract, Write-contract, Block-contract}
 use Rattle.image.specs.Reader.{Stepped, next-number}
 use Rattle.summerbugle.specs.Functions.{Function, number-0, number-1, number-2, tables-1, tables-2, tables-3, lent-0, lent-4, lent-5, lent-6}
 use Rattle.image.proofs.blocks.open as opening

@@ -20,29 +20,40 @@ use Rattle.mesh.specs.Lists.{member}
 use Rattle.mesh.specs.Graph.{Link, Graph, graph}
 use Rattle.mesh.specs.Cores.{Core, number}
 use Rattle.mesh.specs.Tables.{Tables, graph-in, Entries-below}
-use Rattle.mesh.specs.Image.{whole-blocks, checks-good, is-image, Tables-image}
+use Rattle.mesh.specs.Image.{whole-blocks, checks-good, Tables-image}
 use Rattle.mesh.specs.declared.Node.{Node}
-use Rattle.mesh.proofs.Peeling.{number-core, number-unique}
 use Rattle.calls.specs.Questions.{lengths-of, size-good, site-lengths}
 use Rattle.calls.specs.Writes.{Tables-refused, Clear-contract, Link-refused, Link-contract, Read-contract}
-use Rattle.calls.specs.Answers.{Value-refused, Check-contract, Number-contract, Neighbours-contract, Linked-contract, First-contract, Listing-refused, Core-contract, Backbone-contract, Write-contract, Tree-refused, Tree-contract, Block-none, Block-contract}
-use Rattle.calls.specs.Outcomes.{clear-outcome, read-outcome, link-outcome, check-outcome, number-outcome, neighbours-outcome, linked-outcome, first-outcome, core-outcome, backbone-outcome, tree-outcome, write-outcome, block-outcome}
-use Rattle.calls.specs.Results.{Site-right, Link-right, Core-listed, Backbone-listed, Tree-listed, Read-right, Block-part, Block-end}
-use Rattle.calls.specs.Book.{Call, clearing, reading, linking, other, Answer, plain, book-after}
+use Rattle.calls.specs.Answers.{Value-refused, Check-contract, Number-contract, Neighbours-contract, Linked-contract, First-contract, Listing-refused}
+use Rattle.calls.specs.Answers.{Core-contract, Backbone-contract, Write-contract, Tree-refused, Tree-contract, Block-none, Block-contract}
+use Rattle.calls.specs.Outcomes.{clear-outcome, read-outcome, link-outcome, check-outcome, number-outcome, neighbours-outcome, linked-outcome}
+use Rattle.calls.specs.Outcomes.{first-outcome, core-outcome, backbone-outcome, tree-outcome, write-outcome, block-outcome}
+use Rattle.calls.specs.Results.{Site-right, Link-right, Core-listed, Backbone-listed, Tree-listed, Written-right, Read-right, Block-part, Block-end}
+use Rattle.calls.specs.Book.{Call, clearing, reading, linking, Answer, plain, book-after}
 use Rattle.calls.specs.Runs.{answer-of, Does, Event, event, Run, givens, called}
 use Rattle.calls.specs.Demand.{Start, Demand-3}
 use Rattle.calls.specs.declared.Reply.{Reply}
 use Rattle.calls.specs.declared.Value.{Value}
 use Rattle.calls.specs.declared.Block.{Block}
-use Rattle.calls.proofs.Outcomes.{exactly, clear-decided, link-decided, read-decided, check-decided, number-decided, neighbours-decided, linked-decided, first-decided, core-decided, backbone-decided, tree-decided, write-decided, block-decided}
-use Rattle.calls.proofs.Outcomes.{clear-inhabited, link-inhabited, read-inhabited, check-inhabited, number-inhabited, neighbours-inhabited, linked-inhabited, first-inhabited, core-inhabited, backbone-inhabited, tree-inhabited, write-inhabited, block-inhabited}
-use Rattle.calls.proofs.Refusals.{clear-keeps, link-keeps, read-keeps, check-keeps, number-keeps, neighbours-keeps, linked-keeps, first-keeps, core-keeps, backbone-keeps, tree-keeps, write-keeps, block-keeps}
-use Rattle.calls.proofs.Accepted.{check-right, link-right, number-right, core-right, backbone-right, tree-right-listed, write-right, read-what-was-written, read-right, read-eleven, block-right}
+use Rattle.summerbugle.specs.Functions.{Promised, Returns, Gives, Leaves-lent, number-0, number-1, number-2, tables-1, tables-2, tables-3}
+use Rattle.summerbugle.specs.Functions.{lent-0, lent-4, lent-6}
+use Rattle.summerbugle.proofs.Calls.{sb-clear, sb-link-up, sb-link-down, sb-image-read, sb-check, sb-number, sb-neighbours, sb-linked}
+use Rattle.summerbugle.proofs.Calls.{sb-first, sb-core, sb-backbone, sb-tree, sb-image-write, sb-image-block, reader-open, reader-step}
+use Rattle.summerbugle.proofs.Calls.{reader-moved}
+-- for the proof
+use Rattle.mesh.proofs.Peeling.{number-core, number-unique}
+use Rattle.calls.proofs.Outcomes.{exactly, clear-decided, link-decided, read-decided, check-decided, number-decided, neighbours-decided}
+use Rattle.calls.proofs.Outcomes.{linked-decided, first-decided, core-decided, backbone-decided, tree-decided, write-decided, block-decided}
+use Rattle.calls.proofs.Outcomes.{clear-inhabited, link-inhabited, read-inhabited, check-inhabited, number-inhabited, neighbours-inhabited}
+use Rattle.calls.proofs.Outcomes.{linked-inhabited, first-inhabited, core-inhabited, backbone-inhabited, tree-inhabited, write-inhabited}
+use Rattle.calls.proofs.Outcomes.{block-inhabited}
+use Rattle.calls.proofs.Refusals.{clear-keeps, link-keeps, read-keeps, check-keeps, number-keeps, neighbours-keeps, linked-keeps, first-keeps}
+use Rattle.calls.proofs.Refusals.{core-keeps, backbone-keeps, tree-keeps, write-keeps, block-keeps}
+use Rattle.calls.proofs.Accepted.{check-right, link-right, number-right, core-right, backbone-right, tree-right-listed, write-right}
+use Rattle.calls.proofs.Accepted.{read-what-was-written, read-right, read-eleven, block-right}
 use Rattle.calls.proofs.Total.{run-total}
 use Rattle.calls.proofs.WholeList.{demand-3}
 use Rattle.calls.proofs.Exactly.{exactly-changed}
-use Rattle.summerbugle.specs.Functions.{Promised, Returns, Gives, Leaves-lent, number-0, number-1, number-2, tables-1, tables-2, tables-3, lent-0, lent-4, lent-6}
-use Rattle.summerbugle.proofs.Calls.{sb-clear, sb-link-up, sb-link-down, sb-image-read, sb-check, sb-number, sb-neighbours, sb-linked, sb-first, sb-core, sb-backbone, sb-tree, sb-image-write, sb-image-block, reader-open, reader-step, reader-moved}
 use Rattle.summerbugle.proofs.Returns.{returns}
 use Rattle.image.proofs.blocks.open.Met as reader-open-proof
 use Rattle.image.proofs.blocks.step.Met as reader-step-proof
@@ -62,7 +73,7 @@ use Rattle.summerbugle.proofs.sb_tree.Met as tree-proof
 use Rattle.summerbugle.proofs.sb_image_write.Met as image-write-proof
 use Rattle.summerbugle.proofs.sb_image_block.Met as image-block-proof
 
--- ---- property 1: each call meets its contract
+-- ---- each call meets its contract
 
 pub record Calls-promised (M : Type 1) : Type 2 where
   pub clear : Promised sb-clear M
@@ -84,28 +95,7 @@ pub record Calls-promised (M : Type 1) : Type 2 where
   pub reader-step : Promised reader-step M
   pub reader-moved : Promised reader-moved M
 
-pub calls-promised : {M : Type 1} → Calls-promised M
-calls-promised = record {
-  clear = clear-proof.met;
-  link-up = link-up-proof.met;
-  link-down = link-down-proof.met;
-  image-read = image-read-proof.met;
-  check = check-proof.met;
-  number = number-proof.met;
-  neighbours = neighbours-proof.met;
-  linked = linked-proof.met;
-  first = first-proof.met;
-  core = core-proof.met;
-  backbone = backbone-proof.met;
-  tree = tree-proof.met;
-  image-write = image-write-proof.met;
-  image-block = image-block-proof.met;
-  reader-open = reader-open-proof.met;
-  reader-step = reader-step-proof.met;
-  reader-moved = reader-moved-proof.met;
-}
-
--- ---- property 1 at the machine
+-- ---- each call returns, at the machine
 
 pub record Calls-return : Type 2 where
   pub clear : Returns sb-clear
@@ -126,28 +116,7 @@ pub record Calls-return : Type 2 where
   pub reader-step : Returns reader-step
   pub reader-moved : Returns reader-moved
 
-pub calls-return : Calls-return
-calls-return = record {
-  clear = returns sb-clear (calls-promised .clear);
-  link-up = returns sb-link-up (calls-promised .link-up);
-  link-down = returns sb-link-down (calls-promised .link-down);
-  image-read = returns sb-image-read (calls-promised .image-read);
-  check = returns sb-check (calls-promised .check);
-  number = returns sb-number (calls-promised .number);
-  neighbours = returns sb-neighbours (calls-promised .neighbours);
-  linked = returns sb-linked (calls-promised .linked);
-  first = returns sb-first (calls-promised .first);
-  core = returns sb-core (calls-promised .core);
-  backbone = returns sb-backbone (calls-promised .backbone);
-  tree = returns sb-tree (calls-promised .tree);
-  image-write = returns sb-image-write (calls-promised .image-write);
-  image-block = returns sb-image-block (calls-promised .image-block);
-  reader-open = returns reader-open (calls-promised .reader-open);
-  reader-step = returns reader-step (calls-promised .reader-step);
-  reader-moved = returns reader-moved (calls-promised .reader-moved);
-}
-
--- ---- property 1: what a refusal keeps, by the number that the host sees
+-- ---- what a refusal keeps, by the number that the host sees
 
 pub record Refusals : Type 0 where
   pub clear : (n : ℕ) (t : Tables) (r : ℕ) (v : Tables) → Clear-contract n t r v → (r ≡ 0 → ⊥) → Tables-refused r r t v
@@ -174,23 +143,6 @@ pub record Refusals : Type 0 where
       Listing-refused (r .number) w r x
   pub image-block : (bs : List ℕ) (i : ℕ) (r : Block) → Block-contract bs i r → (r .number ≡ 0 → ⊥) → Block-none (r .number) 0 i r
 
-pub refusals : Refusals
-refusals = record {
-  clear = clear-keeps;
-  link = link-keeps;
-  image-read = read-keeps;
-  check = check-keeps;
-  number = number-keeps;
-  neighbours = neighbours-keeps;
-  linked = linked-keeps;
-  first = first-keeps;
-  core = core-keeps;
-  backbone = backbone-keeps;
-  tree = tree-keeps;
-  image-write = write-keeps;
-  image-block = block-keeps;
-}
-
 -- ---- exactly one outcome for every input; o is the result with what is lent to be written, after the call
 
 pub record Outcomes : Type 0 where
@@ -212,24 +164,7 @@ pub record Outcomes : Type 0 where
   pub image-write : (n : ℕ) (t : Tables) (w : List ℕ) (o : Value × List ℕ) → Write-contract n t w (o .0) (o .1) ↔ (o ≡ write-outcome n t w)
   pub image-block : (bs : List ℕ) (i : ℕ) (o : Block) → Block-contract bs i o ↔ (o ≡ block-outcome bs i)
 
-pub outcomes : Outcomes
-outcomes = record {
-  clear = λ n t. exactly _ _ (clear-inhabited n t) (clear-decided n t);
-  link = λ up n a b t w. exactly _ _ (link-inhabited up n a b t w) (link-decided up n a b t w);
-  image-read = λ n bs t. exactly _ _ (read-inhabited n bs t) (read-decided n bs t);
-  check = λ n t. exactly _ _ (check-inhabited n t) (check-decided n t);
-  number = λ n v t. exactly _ _ (number-inhabited n v t) (number-decided n v t);
-  neighbours = λ n v t. exactly _ _ (neighbours-inhabited n v t) (neighbours-decided n v t);
-  linked = λ n a b t. exactly _ _ (linked-inhabited n a b t) (linked-decided n a b t);
-  first = λ n a b t. exactly _ _ (first-inhabited n a b t) (first-decided n a b t);
-  core = λ n v k t w. exactly _ _ (core-inhabited n v k t w) (core-decided n v k t w);
-  backbone = λ n t w. exactly _ _ (backbone-inhabited n t w) (backbone-decided n t w);
-  tree = λ n t m w. exactly _ _ (tree-inhabited n t m w) (tree-decided n t m w);
-  image-write = λ n t w. exactly _ _ (write-inhabited n t w) (write-decided n t w);
-  image-block = λ bs i. exactly _ _ (block-inhabited bs i) (block-decided bs i);
-}
-
--- ---- tables lent by shared reference
+-- ---- what is lent by shared reference
 -- A shared reference is seen at exit as it was passed (`ShrSlice` of the kit's logic/Denote/Slice.antt): while its lifetime lasts,
 -- nobody can write through it. So the equations hold by computation, from the signatures alone.
 
@@ -247,6 +182,167 @@ pub record Tables-left : Type 0 where
   pub image-read : Leaves-lent sb-image-read (λ κs. lent-4) (λ κs. lent-4)
   pub image-block : Leaves-lent sb-image-block (λ κs. lent-0) (λ κs. lent-0)
 
+-- ---- property 1
+
+pub record Property-1 (M : Type 1) : Type 2 where
+  pub promised : Calls-promised M
+  pub return : Calls-return
+  pub refused : Refusals
+  pub outcomes : Outcomes
+  pub left : Tables-left
+
+-- ---- property 2
+
+pub record Property-2 : Type 0 where
+  -- the number that definitions and contracts cite is the core number by the largest group
+  pub largest-group : (g : Graph) (v k : ℕ) → v < g .n → Core g v k ↔ (number g v ≡ k)
+  -- after a link came up or went down
+  pub link :
+      (up : Bool) (n a b : ℕ) (t : Tables) (w : List ℕ) (r : Reply) (v : Tables) (x : List ℕ) → Link-contract up n a b t w r v x →
+      r .number ≡ 0 → Link-right up n a b t v (r .count) w x
+  -- the check's value is 1 exactly for proper rows, core numbers and a k-order
+  pub check : (n : ℕ) (t : Tables) (r : Value) → Check-contract n t r → r .number ≡ 0 → (r .value ≡ 1) ↔ Site-right n t
+  pub number : (n v : ℕ) (t : Tables) (r : Value) → Number-contract n v t r → r .number ≡ 0 → Core (graph-in n (t .links)) v (r .value)
+  pub core :
+      (n v k : ℕ) (t : Tables) (w : List ℕ) (r : Value) (x : List ℕ) → Core-contract n v k t w r x → r .number ≡ 0 →
+      Core-listed (graph-in n (t .links)) v k (r .value) w x
+  pub backbone :
+      (n : ℕ) (t : Tables) (w : List ℕ) (r : Value) (x : List ℕ) → Backbone-contract n t w r x → r .number ≡ 0 →
+      Backbone-listed (graph-in n (t .links)) (r .value) w x
+  pub tree :
+      (n : ℕ) (t : Tables) (m : List Node) (w : List ℕ) (r : Value) (p : List Node) (x : List ℕ) → Tree-contract n t m w r p x →
+      r .number ≡ 0 → Tree-listed (graph-in n (t .links)) (r .value) m p w x
+  -- what is written is the image of sound tables, and reading it gives the same tables. That their links are bytes is all that is asked:
+  -- a table of 8-bit entries is, but a list of numbers that a contract speaks of need not be
+  pub image-written :
+      (n : ℕ) (t : Tables) (w : List ℕ) (r : Value) (x : List ℕ) → Write-contract n t w r x → r .number ≡ 0 →
+      Written-right n t (r .value) w x
+  pub image-read-back :
+      (n : ℕ) (t : Tables) (w : List ℕ) (r : Value) (x : List ℕ) → Write-contract n t w r x → r .number ≡ 0 → Entries-below 256 (t .links) →
+      (u : Tables) (q : ℕ) (v : Tables) → lengths-of u ≡ lengths-of t → Read-contract n (take (r .value) x) u q v → (q ≡ 0) × (v ≡ t)
+  -- the tables of an accepted image
+  pub image-read : (n : ℕ) (bs : List ℕ) (t : Tables) (r : ℕ) (v : Tables) → Read-contract n bs t r v → r ≡ 0 → Read-right n bs v
+  -- 1, 2, 9 and 10 answered yes: accepted is the image of some sound tables with this n, and refused by 11 the image of none
+  pub eleven :
+      (n : ℕ) (bs : List ℕ) (t : Tables) (r : ℕ) (v : Tables) → Read-contract n bs t r v → size-good n ≡ true →
+      site-lengths n (lengths-of t) ≡ true → whole-blocks bs ≡ true → checks-good bs ≡ true →
+      ((r ≡ 0) ↔ Tables-image n bs) × ((r ≡ 11) ↔ (Tables-image n bs → ⊥))
+  -- a step of the block reader gives those 504 bytes of the image, or the end
+  pub block : (bs : List ℕ) (i : ℕ) (r : Block) → Block-contract bs i r → r .number ≡ 0 → Block-part bs i r ⊎ Block-end bs i r
+
+-- ---- property 3
+
+-- whatever meets the contract of one of the four calls that write links, numbers and order is a step of a run
+pub record Steps : Type 0 where
+  pub clear : Gives sb-clear (λ κs a r e. Does (clearing (number-0 a)) (tables-1 a) (plain r ∷ []) (tables-1 e))
+  pub image-read : Gives sb-image-read (λ κs a r e. Does (reading (number-0 a) (lent-4 a)) (tables-1 a) (plain r ∷ []) (tables-1 e))
+  pub link-up :
+      Gives sb-link-up (λ κs a r e.
+      Does (linking true (number-0 a) (number-1 a) (number-2 a) (length (lent-6 a))) (tables-3 a) (answer-of r (lent-6 e) ∷ []) (tables-3 e))
+  pub link-down :
+      Gives sb-link-down (λ κs a r e.
+      Does (linking false (number-0 a) (number-1 a) (number-2 a) (length (lent-6 a))) (tables-3 a) (answer-of r (lent-6 e) ∷ []) (tables-3 e))
+
+pub record Property-3 : Type 0 where
+  -- what the four calls that write links, numbers and order say are steps of runs; the other calls leave these tables (`Tables-left`)
+  pub steps : Steps
+  -- every list of calls has a run, from any tables
+  pub runs : (cs : List Call) (t : Tables) → (es : List Event) × (v : Tables) × Run t es v × (called es ≡ cs)
+  -- and every run from a clearing or an image keeps what demand 3 says
+  pub demand : Demand-3
+  -- an accepted link call of a run lists exactly the radios whose core number by the largest group differs between the book's pairs
+  -- before and after
+  pub exactly :
+      (n : ℕ) (ps : List Link) (s t u : Tables) (es : List Event) (up : Bool) (m a b w : ℕ) (h : Answer) → Start n ps s → Run s es t →
+      Does (linking up m a b w) t (h ∷ []) u → h .number ≡ 0 → (x j k : ℕ) → x < n → Core (graph n (book-after (givens es) ps)) x j →
+      Core (graph n (book-after (givens (es ++ (event (linking up m a b w) t (h ∷ []) u ∷ []))) ps)) x k →
+      (member x (h .listed) ≡ true) ↔ (j ≡ k → ⊥)
+
+-- ---- all of them
+
+pub record Promises (M : Type 1) : Type 2 where
+  pub first : Property-1 M
+  pub second : Property-2
+  pub third : Property-3
+
+-- ---- the proof
+
+pub calls-promised : {M : Type 1} → Calls-promised M
+calls-promised = record {
+  clear = clear-proof.met;
+  link-up = link-up-proof.met;
+  link-down = link-down-proof.met;
+  image-read = image-read-proof.met;
+  check = check-proof.met;
+  number = number-proof.met;
+  neighbours = neighbours-proof.met;
+  linked = linked-proof.met;
+  first = first-proof.met;
+  core = core-proof.met;
+  backbone = backbone-proof.met;
+  tree = tree-proof.met;
+  image-write = image-write-proof.met;
+  image-block = image-block-proof.met;
+  reader-open = reader-open-proof.met;
+  reader-step = reader-step-proof.met;
+  reader-moved = reader-moved-proof.met;
+}
+
+pub calls-return : Calls-return
+calls-return = record {
+  clear = returns sb-clear (calls-promised .clear);
+  link-up = returns sb-link-up (calls-promised .link-up);
+  link-down = returns sb-link-down (calls-promised .link-down);
+  image-read = returns sb-image-read (calls-promised .image-read);
+  check = returns sb-check (calls-promised .check);
+  number = returns sb-number (calls-promised .number);
+  neighbours = returns sb-neighbours (calls-promised .neighbours);
+  linked = returns sb-linked (calls-promised .linked);
+  first = returns sb-first (calls-promised .first);
+  core = returns sb-core (calls-promised .core);
+  backbone = returns sb-backbone (calls-promised .backbone);
+  tree = returns sb-tree (calls-promised .tree);
+  image-write = returns sb-image-write (calls-promised .image-write);
+  image-block = returns sb-image-block (calls-promised .image-block);
+  reader-open = returns reader-open (calls-promised .reader-open);
+  reader-step = returns reader-step (calls-promised .reader-step);
+  reader-moved = returns reader-moved (calls-promised .reader-moved);
+}
+
+pub refusals : Refusals
+refusals = record {
+  clear = clear-keeps;
+  link = link-keeps;
+  image-read = read-keeps;
+  check = check-keeps;
+  number = number-keeps;
+  neighbours = neighbours-keeps;
+  linked = linked-keeps;
+  first = first-keeps;
+  core = core-keeps;
+  backbone = backbone-keeps;
+  tree = tree-keeps;
+  image-write = write-keeps;
+  image-block = block-keeps;
+}
+
+pub outcomes : Outcomes
+outcomes = record {
+  clear = λ n t. exactly _ _ (clear-inhabited n t) (clear-decided n t);
+  link = λ up n a b t w. exactly _ _ (link-inhabited up n a b t w) (link-decided up n a b t w);
+  image-read = λ n bs t. exactly _ _ (read-inhabited n bs t) (read-decided n bs t);
+  check = λ n t. exactly _ _ (check-inhabited n t) (check-decided n t);
+  number = λ n v t. exactly _ _ (number-inhabited n v t) (number-decided n v t);
+  neighbours = λ n v t. exactly _ _ (neighbours-inhabited n v t) (neighbours-decided n v t);
+  linked = λ n a b t. exactly _ _ (linked-inhabited n a b t) (linked-decided n a b t);
+  first = λ n a b t. exactly _ _ (first-inhabited n a b t) (first-decided n a b t);
+  core = λ n v k t w. exactly _ _ (core-inhabited n v k t w) (core-decided n v k t w);
+  backbone = λ n t w. exactly _ _ (backbone-inhabited n t w) (backbone-decided n t w);
+  tree = λ n t m w. exactly _ _ (tree-inhabited n t m w) (tree-decided n t m w);
+  image-write = λ n t w. exactly _ _ (write-inhabited n t w) (write-decided n t w);
+  image-block = λ bs i. exactly _ _ (block-inhabited bs i) (block-decided bs i);
+}
+
 pub tables-left : Tables-left
 tables-left = record {
   check = λ κs a last. refl;
@@ -261,45 +357,6 @@ tables-left = record {
   image-read = λ κs a last. refl;
   image-block = λ κs a last. refl;
 }
-
--- ---- property 2
-
-pub record Property-2 : Type 0 where
-  -- the number that definitions and contracts cite is the core number by the largest group
-  pub largest-group : (g : Graph) (v k : ℕ) → v < g .n → Core g v k ↔ (number g v ≡ k)
-  -- after a link came up or went down
-  pub link :
-      (up : Bool) (n a b : ℕ) (t : Tables) (w : List ℕ) (r : Reply) (v : Tables) (x : List ℕ) → Link-contract up n a b t w r v x →
-      r .number ≡ 0 → Link-right up n a b t v (take (r .count) x)
-  -- the check's value is 1 exactly for proper rows, core numbers and a k-order
-  pub check : (n : ℕ) (t : Tables) (r : Value) → Check-contract n t r → r .number ≡ 0 → (r .value ≡ 1) ↔ Site-right n t
-  pub number : (n v : ℕ) (t : Tables) (r : Value) → Number-contract n v t r → r .number ≡ 0 → Core (graph-in n (t .links)) v (r .value)
-  pub core :
-      (n v k : ℕ) (t : Tables) (w : List ℕ) (r : Value) (x : List ℕ) → Core-contract n v k t w r x → r .number ≡ 0 →
-      Core-listed (graph-in n (t .links)) v k (take (r .value) x)
-  pub backbone :
-      (n : ℕ) (t : Tables) (w : List ℕ) (r : Value) (x : List ℕ) → Backbone-contract n t w r x → r .number ≡ 0 →
-      Backbone-listed (graph-in n (t .links)) (take (r .value) x)
-  pub tree :
-      (n : ℕ) (t : Tables) (m : List Node) (w : List ℕ) (r : Value) (p : List Node) (x : List ℕ) → Tree-contract n t m w r p x →
-      r .number ≡ 0 → Tree-listed (graph-in n (t .links)) (r .value) m p w x
-  -- what is written is the image of sound tables, and reading it gives the same tables. That their links are bytes is all that is asked:
-  -- a table of 8-bit entries is, but a list of numbers that a contract speaks of need not be
-  pub image-written :
-      (n : ℕ) (t : Tables) (w : List ℕ) (r : Value) (x : List ℕ) → Write-contract n t w r x → r .number ≡ 0 →
-      is-image n (take (r .value) x) ≡ true
-  pub image-read-back :
-      (n : ℕ) (t : Tables) (w : List ℕ) (r : Value) (x : List ℕ) → Write-contract n t w r x → r .number ≡ 0 → Entries-below 256 (t .links) →
-      (u : Tables) (q : ℕ) (v : Tables) → lengths-of u ≡ lengths-of t → Read-contract n (take (r .value) x) u q v → (q ≡ 0) × (v ≡ t)
-  -- the tables of an accepted image
-  pub image-read : (n : ℕ) (bs : List ℕ) (t : Tables) (r : ℕ) (v : Tables) → Read-contract n bs t r v → r ≡ 0 → Read-right n bs v
-  -- 1, 2, 9 and 10 answered yes: accepted is the image of some sound tables with this n, and refused by 11 the image of none
-  pub eleven :
-      (n : ℕ) (bs : List ℕ) (t : Tables) (r : ℕ) (v : Tables) → Read-contract n bs t r v → size-good n ≡ true →
-      site-lengths n (lengths-of t) ≡ true → whole-blocks bs ≡ true → checks-good bs ≡ true →
-      ((r ≡ 0) ↔ Tables-image n bs) × ((r ≡ 11) ↔ (Tables-image n bs → ⊥))
-  -- a step of the block reader gives those 504 bytes of the image, or the end
-  pub block : (bs : List ℕ) (i : ℕ) (r : Block) → Block-contract bs i r → r .number ≡ 0 → Block-part bs i r ⊎ Block-end bs i r
 
 pub property-2 : Property-2
 property-2 = record {
@@ -317,19 +374,6 @@ property-2 = record {
   block = block-right;
 }
 
--- ---- property 3
-
--- whatever meets the contract of one of the four calls that write links, numbers and order is a step of a run
-pub record Steps : Type 0 where
-  pub clear : Gives sb-clear (λ κs a r e. Does (clearing (number-0 a)) (tables-1 a) (plain r ∷ []) (tables-1 e))
-  pub image-read : Gives sb-image-read (λ κs a r e. Does (reading (number-0 a) (lent-4 a)) (tables-1 a) (plain r ∷ []) (tables-1 e))
-  pub link-up :
-      Gives sb-link-up (λ κs a r e.
-      Does (linking true (number-0 a) (number-1 a) (number-2 a) (length (lent-6 a))) (tables-3 a) (answer-of r (lent-6 e) ∷ []) (tables-3 e))
-  pub link-down :
-      Gives sb-link-down (λ κs a r e.
-      Does (linking false (number-0 a) (number-1 a) (number-2 a) (length (lent-6 a))) (tables-3 a) (answer-of r (lent-6 e) ∷ []) (tables-3 e))
-
 pub steps : Steps
 unfolding Does
 steps = record {
@@ -339,37 +383,8 @@ steps = record {
   link-down = λ κs a r e c. record { lent = lent-6 a; long = refl; result = r; table = lent-6 e; contract = c; answer = refl };
 }
 
-pub record Property-3 : Type 0 where
-  -- what the four calls that write links, numbers and order say are steps of runs; the other calls leave these tables (`Tables-left`)
-  pub steps : Steps
-  -- every list of calls has a run, from any tables
-  pub runs : (cs : List Call) (t : Tables) → (es : List Event) × (v : Tables) × Run t es v × (called es ≡ cs)
-  -- and every run from a clearing or an image keeps what demand 3 says
-  pub demand : Demand-3
-  -- an accepted link call of a run lists exactly the radios whose core number by the largest group differs between the book's pairs
-  -- before and after
-  pub exactly :
-      (n : ℕ) (ps : List Link) (s t u : Tables) (es : List Event) (up : Bool) (m a b w : ℕ) (h : Answer) → Start n ps s → Run s es t →
-      Does (linking up m a b w) t (h ∷ []) u → h .number ≡ 0 → (x j k : ℕ) → x < n → Core (graph n (book-after (givens es) ps)) x j →
-      Core (graph n (book-after (givens (es ++ (event (linking up m a b w) t (h ∷ []) u ∷ []))) ps)) x k →
-      (member x (h .listed) ≡ true) ↔ (j ≡ k → ⊥)
-
 pub property-3 : Property-3
 property-3 = record { steps = steps; runs = run-total; demand = demand-3; exactly = exactly-changed }
-
--- ---- all of them
-
-pub record Property-1 (M : Type 1) : Type 2 where
-  pub promised : Calls-promised M
-  pub return : Calls-return
-  pub refused : Refusals
-  pub outcomes : Outcomes
-  pub left : Tables-left
-
-pub record Promises (M : Type 1) : Type 2 where
-  pub first : Property-1 M
-  pub second : Property-2
-  pub third : Property-3
 
 pub promises : {M : Type 1} → Promises M
 promises = record {
