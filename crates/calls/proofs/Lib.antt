@@ -14,6 +14,8 @@ pub mod Holds
 pub mod Steps
 pub mod WholeList
 pub mod FormerDemand
+pub mod ByPairs
+pub mod WorkedLaws
 pub mod Cases
 pub mod Accepted
 -- decimal digits, for the script and the printer

@@ -1,4 +1,4 @@
--- What calls promise, in the order in which a reader needs it. `FormerDemand` is a corollary's statement. `Replay` is what the replay program prints; `Rows` and
+-- What calls promise, in the order in which a reader needs it. `FormerDemand` is a corollary's statement. `Replay` is what the replay program prints; `Worked` and
 -- `Cases` are the worked cases of document 01.
 pub mod Questions
 pub mod Switches
@@ -10,5 +10,5 @@ pub mod Runs
 pub mod Demand
 pub mod FormerDemand
 pub mod Replay
-pub mod Rows
+pub mod Worked
 pub mod Cases
