@@ -1,126 +1,55 @@
--- Worked cases, computed: the outcomes read the links table bit by bit and put question 3 each time, so a row is played on the
--- book's pairs and the order instead, which comes to the same.
---   State, state-right   a row played on pairs and order
---   compute              what a proof of rows unfolds
---   Alike                what the link calls leave holds the pairs, the order and the answers of the state
---   by-state             a row that is right on pairs and order is right over the outcomes, whatever the lent tables held
-use mathlib.Core.Path.{_≡_, refl, ap, sym, subst, _∙_}
-use mathlib.Core.Bool.{Bool, true, false, _&&_, cond}
-use mathlib.Core.List.{List, [], _∷_, _++_, map, flatMap}
-use Prim.Native.Nat.{ℕ, zero, suc, _+_, _*_, _-_, _≤_}
+-- Worked cases played on pairs and order are the worked cases played over the outcomes.
+--   Alike         what link calls leave holds the pairs, the order and the answers of a state
+--   by-state      a row that is right on pairs and order is right over the outcomes, whatever the lent tables held
+-- In order: what is lent, what calls answer, the state, link calls, what is wanted, rows.
+use mathlib.Core.Path.{_≡_, refl, ap, sym, _∙_}
+use mathlib.Core.Bool.{Bool, true, false, _&&_}
+use mathlib.Core.List.{List, [], _∷_, _++_, flatMap}
+use Prim.Native.Nat.{ℕ, zero, suc, _+_, _*_, _≤_}
 use native.Mathlib.Omega.{arith}
-use lib.Dec.{ltb, eqb}
+use lib.Dec.{eqb}
 use lib.IntN.{pos}
-use lib.ListN.{length, drop, take, set, getD, length-map as length-mapped}
+use lib.ListN.{length, drop, take, length-map}
 use lib.Seq.{take-at}
 use borrow.Author.Tests.{eqb-true, eq-eqb}
 use Rattle.mesh.specs.Limits.{max-neighbours, row-bytes}
-use Rattle.mesh.specs.Lists.{range, count, filter, member, all, same, head-or, overwrite}
-use Rattle.mesh.specs.Graph.{Link, Graph, graph, radios, other-ends, linked, neighbours-among, degree, link, link-before, same-link, with-link, without-link, new-links, relinked, proper, ascending}
-use Rattle.mesh.specs.Cores.{survivors, peeled, cores-from, cores, depth, number, numbers}
-use Rattle.mesh.specs.Levels.{changed, step-of, lower-level, stretch-start, stretch-length, first-fitting, without, laid-out, stretch-up, stretch-down, new-stretch, with-stretch, new-order}
-use Rattle.mesh.specs.Orders.{each-once, rising, few-later}
-use Rattle.mesh.specs.Tables.{Tables, tables, digit, byte-at, marked, from-digits, row-of, links-table, graph-in, tables-of}
-use Rattle.mesh.specs.Sound.{symmetric, irreflexive, within, row-degree, few, rows-proper, enough, sound-within, sound}
-use Rattle.mesh.specs.Connected.{at-least, reached, core-of, greatest, backbone}
-use Rattle.mesh.specs.Tree.{root-name, node, root, shell, node-name, parent-name, nodes-at, tree, node-names}
-use Rattle.mesh.specs.Image.{block-bytes, word, long, weighted-sum, check-sum, block, blocks-for, order-blocks, block-count, link-bytes, order-payload, links-payload, block-at, image-of, word-at, entry-at, image-order, image-link, image-links, image-graph, whole-blocks, block-check, checks-good, is-image}
+use Rattle.mesh.specs.Lists.{range, same, overwrite}
+use Rattle.mesh.specs.Graph.{Graph, graph, radios}
+use Rattle.mesh.specs.Levels.{changed, step-of}
+use Rattle.mesh.specs.Tables.{Tables, graph-in, tables-of}
+use Rattle.mesh.specs.Connected.{core-of, backbone}
+use Rattle.mesh.specs.Tree.{node, node-name, tree, node-names}
+use Rattle.mesh.specs.Image.{long, image-of}
 use Rattle.mesh.specs.declared.Node.{Node}
 use Rattle.mesh.proofs.BoolLaws.{never, and-left, and-right, and-both}
-use Rattle.mesh.proofs.ListLaws.{length-range, same-refl, same-eq, take-overwrite}
+use Rattle.mesh.proofs.ListLaws.{length-range, same-refl, same-eq}
 use Rattle.mesh.proofs.ImageOf.{length-image-of}
-use Rattle.calls.specs.Questions.{ask, Lengths, lengths-of, size-good, site-lengths, is-radio, are-radios, ends-differ, can-switch, has-room, has-level, level-refusal, image-length, lent-refusal, tables-refusal, ends-refusal, blocks-refusal, image-refusal, read-refusal}
-use Rattle.calls.specs.Switches.{Switch, switch, switched}
-use Rattle.calls.specs.Outcomes.{by-number, reply, value, value-outcome, listing-outcome, clear-outcome, read-outcome, link-outcome, check-outcome, write-outcome, tree-outcome}
-use Rattle.calls.specs.Book.{Answer, plain, reported}
-use Rattle.calls.specs.Runs.{answer-of}
-use Rattle.calls.specs.Replay.{bytes-of, digit-byte, digits-in, decimal, step-text, further-fields, printed-line, link-line, numbers-line, order-line, closing-lines}
-use Rattle.calls.specs.Worked.{entries, lent-tables, lent-nodes, risen, fallen, unchanged, refused, Left, left, left-by, played, after, Want, last-answers, all-numbers, whole-order, shell-tree, connected-core, backbone-radios, image-checks, printed, soundness, image-reading}
-use Rattle.calls.specs.Worked.{same-step, same-answers, same-nodes, block-checks, put-in, answer-line, lines, is-value, is-listing, image-written, meets, meets-all, Row, right, Right, All-right}
+use Rattle.calls.specs.Questions.{lengths-of, size-good, level-refusal, image-length, tables-refusal, ends-refusal, read-refusal}
+use Rattle.calls.specs.Switches.{Switch, switched}
+use Rattle.calls.specs.Outcomes.{by-number, reply, value, listing-outcome, clear-outcome, read-outcome, write-outcome, tree-outcome}
+use Rattle.calls.specs.Worked.{entries, lent-tables, lent-nodes, Left, left, left-by, played, after, Want, last-answers, all-numbers}
+use Rattle.calls.specs.Worked.{whole-order, shell-tree, connected-core, backbone-radios, image-checks, printed, soundness}
+use Rattle.calls.specs.Worked.{image-reading, same-nodes, block-checks, is-value, is-listing, image-written, meets, meets-all}
+use Rattle.calls.specs.Worked.{Row, right, Right, All-right}
 use Rattle.calls.specs.declared.Reply.{Reply}
 use Rattle.calls.specs.declared.Value.{Value}
-use Rattle.calls.proofs.QuestionLaws.{Site-lengths, size-good-true}
+use Rattle.calls.proofs.QuestionLaws.{size-good-true}
 use Rattle.calls.proofs.ChainLaws.{lent-yes, ends-zero}
-use Rattle.calls.proofs.Holds.{Holds, clear-holds, unchanged-holds, read-back, switched-holds}
+use Rattle.calls.proofs.Holds.{Holds, clear-holds, read-back, switched-holds}
+use Rattle.calls.proofs.Steps.{answer-accepted, answer-refused}
 use Rattle.calls.proofs.ByPairs.{link-by-pairs, core-by-pairs, backbone-by-pairs, write-by-pairs, tree-by-pairs}
-
--- ---- a row on pairs and order
-
-pub record State : Type 0 where
-  pub pairs : List Link
-  pub order : List ℕ
-  pub answers : List Answer
-
-abbrev pub state : (pairs : List Link) → (order : List ℕ) → (answers : List Answer) → State
-state ps xs hs = record { pairs = ps; order = xs; answers = hs }
-
--- the state after a call with this number
-unfoldable pub carried-out : (number : ℕ) → (n : ℕ) → Switch → State → State
-carried-out zero n c q =
-    let g = graph n (q .pairs) in
-    state
-    (new-links (c .up) (c .a) (c .b) (q .pairs))
-    (new-order (c .up) (c .a) (c .b) g (q .order))
-    (q .answers ++ (reported (c .up) (changed (c .up) (c .a) (c .b) g) ∷ []))
-carried-out (suc x) n c q = state (q .pairs) (q .order) (q .answers ++ (plain (suc x) ∷ []))
-
-unfoldable pub state-played : (n : ℕ) → Switch → State → State
-state-played n c q =
-    carried-out (ends-refusal max-neighbours (c .up) n (c .a) (c .b) (graph n (q .pairs))) n c q
-
-unfoldable pub state-after : (n : ℕ) → List Switch → State → State
-state-after n [] q = q
-state-after n (c ∷ cs) q = state-after n cs (state-played n c q)
-
--- the lengths of the tables of n radios
-abbrev pub right-lengths : (n : ℕ) → Lengths
-right-lengths n = record { links = row-bytes * n; numbers = n; order = n }
-
-unfoldable pub state-meets : (n : ℕ) → State → Want → Bool
-state-meets n q (last-answers hs) = same-answers (drop (length (q .answers) - length hs) (q .answers)) hs
-state-meets n q (all-numbers ns) = same (numbers (graph n (q .pairs))) ns
-state-meets n q (whole-order xs) = same (q .order) xs
-state-meets n q (shell-tree ns vs) =
-    let g = graph n (q .pairs) in same-nodes (tree g) ns && same (node-names g) vs
-state-meets n q (connected-core v k r xs) =
-    let g = graph n (q .pairs) in
-    let R = level-refusal n v k g in eqb R r && same (by-number R (core-of g v k) (λ x. [])) xs
-state-meets n q (backbone-radios xs) = same (backbone (graph n (q .pairs))) xs
-state-meets n q (image-checks m cs) =
-    let g = graph n (q .pairs) in
-    eqb (image-length g) m && same (block-checks (length cs) (image-of g (q .order))) (flatMap long cs)
-state-meets n q (printed ls) = same (lines (q .answers) (numbers (graph n (q .pairs))) (q .order)) (flatMap bytes-of ls)
-state-meets n q (soundness ps ns xs b) =
-    is-value (check-outcome n (tables (put-in ps (links-table (graph n (q .pairs)))) ns xs)) 0 (cond b 1 0)
-state-meets n q (image-reading m k ps r) =
-    eqb (read-refusal m (right-lengths m) (take k (put-in ps (image-of (graph n (q .pairs)) (q .order))))) r
-
-unfoldable pub state-meets-all : (n : ℕ) → State → List Want → Bool
-state-meets-all n q [] = true
-state-meets-all n q (w ∷ ws) = state-meets n q w && state-meets-all n q ws
-
-unfoldable pub state-right : Row → Bool
-state-right r =
-    let q = state-after (r .n) (r .calls) (state [] (range 0 (r .n)) []) in size-good (r .n) && state-meets-all (r .n) q (r .wants)
-
-unfoldable pub all-state-right : List Row → Bool
-all-state-right [] = true
-all-state-right (r ∷ rs) = state-right r && all-state-right rs
-
--- everything that rows compute with
-unfoldable pub compute : Unit {0}
-unfolding range count filter member all same head-or radios other-ends linked neighbours-among degree link link-before same-link with-link without-link new-links relinked survivors peeled cores-from cores depth number numbers changed step-of lower-level stretch-start stretch-length first-fitting without laid-out stretch-up stretch-down new-stretch with-stretch new-order at-least reached core-of greatest backbone shell node-name parent-name nodes-at tree node-names word long weighted-sum check-sum block blocks-for order-blocks block-count link-bytes order-payload links-payload block-at image-of word-at entry-at image-order image-link image-links image-graph whole-blocks block-check checks-good is-image proper ascending each-once rising few-later digit byte-at marked from-digits row-of links-table tables-of symmetric irreflexive within row-degree few rows-proper enough sound-within sound ask is-radio are-radios ends-differ can-switch has-room has-level image-length ends-refusal image-refusal digit-byte digits-in decimal step-text further-fields printed-line link-line numbers-line order-line closing-lines risen fallen unchanged refused same-step same-answers same-nodes level-refusal block-checks put-in answer-line flatMap plain reported blocks-refusal is-value lines by-number value-outcome check-outcome tables-refusal lent-refusal size-good site-lengths lengths-of read-refusal carried-out state-played state-after state-meets state-meets-all state-right all-state-right
-compute = tt
+use Rattle.calls.proofs.WorkedState.{State, state, carried-out, state-played, state-after, right-lengths, state-meets}
+use Rattle.calls.proofs.WorkedState.{state-meets-all, state-right, all-state-right}
 
 -- ---- what is lent
 
 length-entries : (f : ℕ → ℕ) (k : ℕ) → length (entries f k) ≡ k
 unfolding entries
-length-entries f k = length-mapped (range 0 k) f ∙ length-range 0 k
+length-entries f k = length-map (range 0 k) f ∙ length-range 0 k
 
 length-lent-nodes : (f : ℕ → ℕ) (n : ℕ) → length (lent-nodes f n) ≡ n + 1
 unfolding lent-nodes
-length-lent-nodes f n = length-mapped (range 0 (n + 1)) (λ i. node (f i) (f i) (f i)) ∙ length-range 0 (n + 1)
+length-lent-nodes f n = length-map (range 0 (n + 1)) (λ i. node (f i) (f i) (f i)) ∙ length-range 0 (n + 1)
 
 lengths-lent : (f : ℕ → ℕ) (n : ℕ) → lengths-of (lent-tables f n) ≡ right-lengths n
 unfolding lengths-of lent-tables
@@ -167,7 +96,7 @@ unfolding is-listing listing-outcome by-number same
 listing-right zero r new old xs p =
     let e : _≡_ {A = ℕ} 0 r = eqb-true 0 r (and-left (eqb 0 r) (same new xs) p) in
     let d : new ≡ xs = same-eq new xs (and-right (eqb 0 r) (same new xs) p) in
-    rw (← e, ← d, is-value-refl 0 (length new), take-overwrite new old, same-refl new)
+    rw (← e, ← d, is-value-refl 0 (length new), take-front new old, same-refl new)
 listing-right (suc y) r new old xs p =
     let e : suc y ≡ r = eqb-true (suc y) r (and-left (eqb (suc y) r) (same [] xs) p) in
     let d : [] ≡ xs = same-eq [] xs (and-right (eqb (suc y) r) (same [] xs) p) in
@@ -220,15 +149,6 @@ module _ (f : ℕ → ℕ) (n : ℕ) (size : size-good n ≡ true) where
 
   -- ---- link calls
 
-  answer-reported :
-      (u : Bool) (cs w : List ℕ) → answer-of (reply 0 (step-of u cs) (length cs)) (overwrite cs w) ≡ reported u cs
-  unfolding answer-of reported
-  answer-reported u cs w = rw (take-overwrite cs w)
-
-  answer-plain : (x : ℕ) (w : List ℕ) → answer-of (reply x (pos 0) 0) w ≡ plain x
-  unfolding answer-of plain
-  answer-plain x w = refl
-
   module _ (c : Switch) (q : State) (s : Left) (k : Alike n q s) where
     abbrev g : Graph
     g = graph n (q .pairs)
@@ -246,12 +166,12 @@ module _ (f : ℕ → ℕ) (n : ℕ) (size : size-good n ≡ true) where
     alike-by zero e = record {
       holds = switched-holds n (q .pairs) (s .tables) (k .holds) c (ends-zero max-neighbours (c .up) (c .a) (c .b) g e);
       order = rw (read-back n (q .pairs) (s .tables) (k .holds), k .order);
-      answers = rw (k .answers, answer-reported (c .up) changes (entries f n));
+      answers = rw (k .answers, answer-accepted (c .up) _ changes (entries f n) _ refl refl refl refl);
     }
     alike-by (suc x) e = record {
       holds = k .holds;
       order = k .order;
-      answers = rw (k .answers, answer-plain (suc x) (entries f n));
+      answers = rw (k .answers, answer-refused _ (suc x) (entries f n) refl refl refl);
     }
 
     alike-played : Alike n (state-played n c q) (played f n c s)
@@ -284,7 +204,7 @@ module _ (f : ℕ → ℕ) (n : ℕ) (size : size-good n ≡ true) where
         let e = write-by-pairs n (q .pairs) (s .tables) (k .holds) least w l in (
           ap (λ (o : Value × List ℕ). o .0) e,
           ap (λ (o : Value × List ℕ). take (image-length site) (o .1)) e
-              ∙ rw (k .order, ← length-image-of site (q .order), take-overwrite (image-of site (q .order)) w),
+              ∙ rw (k .order, ← length-image-of site (q .order), take-front (image-of site (q .order)) w),
         )
 
     written : image-written f n (s .tables) ≡ image-of site (q .order)
@@ -304,8 +224,8 @@ module _ (f : ℕ → ℕ) (n : ℕ) (size : size-good n ≡ true) where
     names-taken : (w : List ℕ) → take n (overwrite (node-names site) w) ≡ node-names site
     unfolding node-names radios
     names-taken w =
-        let e : length (node-names site) ≡ n = length-mapped (range 0 n) (node-name site) ∙ length-range 0 n in
-        ap (λ (i : ℕ). take i (overwrite (node-names site) w)) (sym e) ∙ take-overwrite (node-names site) w
+        let e : length (node-names site) ≡ n = length-map (range 0 n) (node-name site) ∙ length-range 0 n in
+        ap (λ (i : ℕ). take i (overwrite (node-names site) w)) (sym e) ∙ take-front (node-names site) w
 
     tree-right :
         (ns : List Node) (vs : List ℕ) → same-nodes (tree site) ns ≡ true → same (node-names site) vs ≡ true →
