@@ -1,7 +1,7 @@
 -- Proofs about calls: `QuestionLaws`, `ChainLaws`, `ContractLaws` and `RecordLaws` for the crates whose functions meet the
 -- contracts, `Outcomes` that each contract has exactly one outcome, `Refusals` what a refusal keeps, `Total` that every
--- list of calls has a run, `Accepted` what a caller has after an accepted call (property 2), `Cases` that
--- the worked cases hold, the others for demand 3.
+-- list of calls has a run, `Accepted` what a caller has after an accepted call (property 2), `Cases` that the worked cases hold by
+-- `ByPairs`, `WorkedState` and `WorkedLaws`, the others for demand 3.
 pub mod QuestionLaws
 pub mod ChainLaws
 pub mod ContractLaws
@@ -15,6 +15,9 @@ pub mod Steps
 pub mod WholeList
 pub mod Exactly
 pub mod FormerDemand
+pub mod ByPairs
+pub mod WorkedState
+pub mod WorkedLaws
 pub mod Cases
 pub mod Accepted
 -- decimal digits, for the script and the printer

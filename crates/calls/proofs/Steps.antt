@@ -52,13 +52,13 @@ abbrev one : Answer → List Answer
 one h = h ∷ []
 
 -- what is compared of a link call
-answer-accepted :
+pub answer-accepted :
     (u : Bool) (r : Reply) (cs w x : List ℕ) → r .number ≡ 0 → r .step ≡ step-of u cs → r .count ≡ length cs → x ≡ overwrite cs w →
     answer-of r x ≡ reported u cs
 unfolding answer-of reported
 answer-accepted u r cs w x e f g h = rw (e, f, g, h, take-overwrite cs w)
 
-answer-refused : (r : Reply) (q : ℕ) (x : List ℕ) → r .number ≡ q → r .step ≡ pos 0 → r .count ≡ 0 → answer-of r x ≡ plain q
+pub answer-refused : (r : Reply) (q : ℕ) (x : List ℕ) → r .number ≡ q → r .step ≡ pos 0 → r .count ≡ 0 → answer-of r x ≡ plain q
 unfolding answer-of plain
 answer-refused r q x e f g = rw (e, f, g)
 
