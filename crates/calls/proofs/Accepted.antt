@@ -40,7 +40,7 @@ use Rattle.mesh.proofs.Sites.{image-valid}
 use Rattle.mesh.proofs.Reach.{core-of-iff}
 use Rattle.mesh.proofs.TreeUnique.{tree-iff, node-name-iff}
 use Rattle.mesh.proofs.ListedRadios.{changed-ascending, core-ascending, backbone-ascending, backbone-iff}
-use Rattle.mesh.proofs.LinkTables.{graph-in-put-link}
+use Rattle.mesh.proofs.LinkTables.{graph-in-put-link, rows-put-link}
 use Rattle.mesh.proofs.LinkLaws.{link-valid}
 use Rattle.mesh.proofs.ImageOf.{length-image-of, whole-blocks-image-of, checks-good-image-of}
 use Rattle.mesh.proofs.ImageSites.{written-read}
@@ -101,7 +101,10 @@ link-right up n a b t w r v x d z =
     ap (graph-in n) (c .1 .links) ∙ graph-in-put-link up n a b t (good .0 .lent .most) (good .0 .lent .lengths .links) (good .0 .is-sound) (good .1) in
     record {
       graph = after;
-      right = rw after (numbers-right (relinked up a b g) v (c .1 .numbers) (ap (is-k-order (relinked up a b g)) (c .1 .order) ∙ valid .k-order));
+      right = record {
+        rows = rw (c .1 .links) (rows-put-link up n a b t (good .0 .lent .most) (good .0 .lent .lengths .links) (good .0 .is-sound) (good .1));
+        right = rw after (numbers-right (relinked up a b g) v (c .1 .numbers) (ap (is-k-order (relinked up a b g)) (c .1 .order) ∙ valid .k-order));
+      };
       listed = in-front (changed up a b g) w (r .count) x (c .1 .count) (c .1 .answer) (changed-ascending up a b g);
     }
 

@@ -1,5 +1,6 @@
--- What calls promise, in the order in which a reader needs it. `Outcomes` are the outcomes worked out; `FormerDemand` is the
--- statement of a corollary; `Replay` is what the replay program prints; `Worked` and `Cases` are the worked cases of document 01.
+-- What calls promise, in the order in which a reader needs it. `Outcomes` are the outcomes worked out; `Results` is what a caller
+-- has after an accepted call (property 2); `FormerDemand` is the statement of a corollary; `Replay` is what the replay program prints;
+-- `Worked` and `Cases` are the worked cases of document 01.
 pub mod Questions
 pub mod Switches
 pub mod Writes

@@ -1,7 +1,7 @@
 -- What a caller has after an accepted call, in document 01's words: property 2. The proofs are in proofs/Accepted.antt.
 --   Numbers-right     numbers are core numbers of a graph by the largest group, and the order is a k-order of it
 --   Site-right        document 01: sound tables are exactly those with proper rows, core numbers and a k-order
---   Link-right        after a link call: the graph in the new links table, and its numbers and order
+--   Link-right        after a link call: the graph in the new links table, its rows, numbers and order
 --   Listed            a list of radios in front of a lent list
 --   Core-listed, Backbone-listed   the radios listed
 --   Tree-listed       the nodes listed, and each radio's node name
@@ -46,7 +46,7 @@ pub record Listed (count : ℕ) (w x : List ℕ) : Type 0 where
 -- t and v are the tables before and after the call; the changed radios are listed
 pub record Link-right (up : Bool) (n a b : ℕ) (t v : Tables) (count : ℕ) (w x : List ℕ) : Type 0 where
   pub graph : graph-in n (v .links) ≡ relinked up a b (graph-in n (t .links))
-  pub right : Numbers-right (graph-in n (v .links)) v
+  pub right : Site-right n v
   pub listed : Listed count w x
 
 -- ---- connected cores, backbone, shell tree
