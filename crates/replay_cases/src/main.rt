@@ -11,7 +11,7 @@ fn case(path: &[u8]) {
     }
     io::write_all(STDOUT_FILENO, path);
     io::write_all(STDOUT_FILENO, b"\n");
-    player::run(fd);
+    player::run(fd, usize::MAX);
     libc::close(fd);
 }
 
