@@ -21,7 +21,7 @@ use Rattle.printing.specs.Print.{Buffer, lent, put, Puts, max-place}
 use Rattle.printing.proofs.PrintLaws.{put-fits}
 use Rattle.player.specs.Lines.{Prints}
 use Rattle.player.specs.Machine.{Spot, spot, Takes, Takes-all, full, longest, line-room, closing, ending}
-use Rattle.player.specs.Reading.{chunk-room, most-reads, waiting, Writes, roomy, Ready, Site-sized, Takes-chunk, Went-on, Ended, Turned, Reads-all}
+use Rattle.player.specs.Reading.{chunk-room, most-reads, waiting, Writes, room-made, Ready, Site-sized, Takes-chunk, Went-on, Ended, Turned, Reads-all}
 use Rattle.player.specs.Whole.{lines-of, Lines-print}
 use Rattle.player.specs.declared.machine.Progress.{Progress}
 use Rattle.player.proofs.BytesLaws.{takes-more, takes-append}
@@ -58,25 +58,25 @@ writes-put out text after at next h m p =
     }
 
 -- a full buffer is written, and nothing waits then
-pub writes-room : (s : Progress) (out : List ℕ) → Writes (lent out (s .at)) [] (lent out (roomy s .at))
-unfolding roomy waiting
+pub writes-room : (s : Progress) (out : List ℕ) → Writes (lent out (s .at)) [] (lent out (room-made s .at))
+unfolding room-made waiting
 writes-room s out = go (ltb (s .at) full)
   where
     go : (t : Bool) → Writes (lent out (s .at)) [] (lent out (cond t (s .at) 0))
     go true = writes-none (lent out (s .at))
     go false = record { written = take (s .at) out; is = refl }
 
-pub roomy-not : (s : Progress) → s .at < full → s ≡ roomy s
-unfolding roomy
-roomy-not s h = rw (lt-ltb (s .at) full h)
+pub room-made-not : (s : Progress) → s .at < full → s ≡ room-made s
+unfolding room-made
+room-made-not s h = rw (lt-ltb (s .at) full h)
 
-pub roomy-full : (s : Progress) → full ≤ s .at → record { number = s .number; held = s .held; at = 0; live = s .live } ≡ roomy s
-unfolding roomy
-roomy-full s h = rw (le-ltb (s .at) full h)
+pub room-made-full : (s : Progress) → full ≤ s .at → record { number = s .number; held = s .held; at = 0; live = s .live } ≡ room-made s
+unfolding room-made
+room-made-full s h = rw (le-ltb (s .at) full h)
 
-pub roomy-at : (s : Progress) → roomy s .at < full
-unfolding roomy
-roomy-at s = go (bool-cases (ltb (s .at) full))
+pub room-made-at : (s : Progress) → room-made s .at < full
+unfolding room-made
+room-made-at s = go (bool-cases (ltb (s .at) full))
   where
     go : (ltb (s .at) full ≡ true) ⊎ (ltb (s .at) full ≡ false) → cond (ltb (s .at) full) (s .at) 0 < full
     go (inl e) = rw e (ltb-true (s .at) full e)
@@ -102,11 +102,11 @@ chunk-none m n chunk p s out h =
 
 -- one byte more: x is taken from the spot of s to the one of r, and room is made
 pub chunk-more : (m l n : ℕ) (chunk : List ℕ) (i x : ℕ) (p : Spot) (b : Buffer) (t v : Tables) (w y line kept : List ℕ) (s r d : Progress)
-    (out after : List ℕ) → i < length chunk → x ≡ getD chunk i 0 → l ≡ m → length after ≡ length out → d ≡ roomy r
+    (out after : List ℕ) → i < length chunk → x ≡ getD chunk i 0 → l ≡ m → length after ≡ length out → d ≡ room-made r
     → Chunk-to m n chunk i p b (spot t w line s) s out
     → Prints (λ text. Takes l n x (spot t w line s) text (spot v y kept r)) (lent out (s .at)) (lent after (r .at))
     → Chunk-to m n chunk (i + 1) p b (spot v y kept d) d after
-unfolding spot roomy
+unfolding spot room-made
 chunk-more m l n chunk i x p b t v w y line kept s r d out after h e room same made so byte =
     let taken : Takes m n (getD chunk i 0) (spot t w line s) (byte .text) (spot v y kept r) =
     subst (λ (k : ℕ). Takes m n k (spot t w line s) (byte .text) (spot v y kept r)) e
@@ -119,18 +119,18 @@ chunk-more m l n chunk i x p b t v w y line kept s r d out after h e room same m
     let takes : Takes-all m n (take (i + 1) chunk) p whole (spot v y kept r) =
     subst (λ (bs : List ℕ). Takes-all m n bs p whole (spot v y kept r)) (sym more)
     (takes-more m n (take i chunk) (getD chunk i 0) p (spot t w line s) (spot v y kept r) (so .taken .text) (byte .text) (so .taken .takes) taken) in
-    let writes : Writes b (whole ++ []) (lent after (roomy r .at)) =
-    writes-append b (lent after (r .at)) (lent after (roomy r .at)) whole []
+    let writes : Writes b (whole ++ []) (lent after (room-made r .at)) =
+    writes-append b (lent after (r .at)) (lent after (room-made r .at)) whole []
     (writes-append b (lent out (s .at)) (lent after (r .at)) (so .taken .text) (byte .text) (so .taken .writes) put) (writes-room r after) in
     let number = takes-number m n (getD chunk i 0) (spot t w line s) (byte .text) (spot v y kept r) taken in
-    let rest : Chunk-to m n chunk (i + 1) p b (spot v y kept (roomy r)) (roomy r) after =
+    let rest : Chunk-to m n chunk (i + 1) p b (spot v y kept (room-made r)) (room-made r) after =
     record {
       low = omega arith;
-      ready = record { at = roomy-at r; number = omega (arith, number, so .ready .number); room = omega (arith, so .ready .room) };
+      ready = record { at = room-made-at r; number = omega (arith, number, so .ready .number); room = omega (arith, so .ready .room) };
       taken = record {
         text = whole;
         takes = takes;
-        writes = subst (λ (u : List ℕ). Writes b u (lent after (roomy r .at))) (append-nil whole) writes;
+        writes = subst (λ (u : List ℕ). Writes b u (lent after (room-made r .at))) (append-nil whole) writes;
       };
     } in
     subst (λ (z : Progress). Chunk-to m n chunk (i + 1) p b (spot v y kept z) z after) (sym made) rest

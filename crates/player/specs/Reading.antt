@@ -3,7 +3,7 @@
 --   out-room                 the bytes of the printing buffer
 --   waiting b                what waits in the printing buffer
 --   Writes b text c          what waited in b and then the text: written, but for what waits in c
---   roomy s                  the progress after a full buffer was written
+--   room-made s              the progress after a full buffer was written
 --   Ready k s out            the run has room for k bytes more
 --   Site-sized               the closing lines have at most as many fields as a site radios
 --   Takes-chunk              a chunk takes the run from spot to spot, and its text is written or waits
@@ -49,8 +49,8 @@ pub record Writes (b : Buffer) (text : List ℕ) (c : Buffer) : Type 0 where
   pub is : waiting b ++ text ≡ written ++ waiting c
 
 -- a full buffer is written, and nothing waits then; all else is kept
-unfoldable pub roomy : Progress → Progress
-roomy s =
+unfoldable pub room-made : Progress → Progress
+room-made s =
     record { number = s .number; held = s .held; at = cond (ltb (s .at) full) (s .at) 0; live = s .live }
 
 -- ---- chunks

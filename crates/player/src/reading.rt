@@ -8,7 +8,7 @@ ghost use Rattle.io.specs.Counts.{Counts};
 ghost use Rattle.mesh.specs.Tables.{tables};
 ghost use Rattle.printing.specs.Print.{lent};
 ghost use Rattle.player.specs.Machine.{spot, line-room, full, closing};
-ghost use Rattle.player.specs.Reading.{chunk-room, out-room, Writes, roomy, Ready, Site-sized, Takes-chunk, Turned, Reads-all};
+ghost use Rattle.player.specs.Reading.{chunk-room, out-room, Writes, room-made, Ready, Site-sized, Takes-chunk, Turned, Reads-all};
 use super::machine;
 use super::machine::Progress;
 use libc::STDOUT_FILENO;
@@ -33,7 +33,7 @@ fn flush(out: &[u8], at: usize) {
 
 // Writes what waits, where the buffer is full.
 fn make_room(s: Progress, out: &[u8]) -> Progress
-    ensures { λ r. ⌜ r ≡ roomy s ⌝ }
+    ensures { λ r. ⌜ r ≡ room-made s ⌝ }
 {
     if s.at < machine::FULL {
         return s;
