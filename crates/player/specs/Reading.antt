@@ -1,0 +1,97 @@
+-- The bytes after the first line: read by chunks, taken, and written through the printing buffer.
+--   chunk-room, most-reads   the bytes that one read can bring, and the reads that a run has
+--   out-room                 the bytes of the printing buffer
+--   waiting b                what waits in the printing buffer
+--   Writes b text c          what waited in b and then the text: written, but for what waits in c
+--   room-made s              the progress after a full buffer was written
+--   Ready k s out            the run has room for k bytes more
+--   Site-sized               the closing lines have at most as many fields as a site radios
+--   Takes-chunk              a chunk takes the run from spot to spot, and its text is written or waits
+--   Went-on, Ended, Turned   one read: some bytes are taken, or the input has ended
+--   Reads-all                the reads together: the text of all bytes that they brought
+-- No contract can say what a read brings or a write takes: of both there are some bytes, `bytes` and `written` below.
+-- Definitions only.
+use mathlib.Core.Path.{_≡_}
+use mathlib.Core.Logic.{_⊎_}
+use mathlib.Core.Bool.{true, false, cond}
+use mathlib.Core.List.{List, _++_}
+use Prim.Native.Nat.{ℕ, _+_, _≤_, _<_}
+use lib.Dec.{ltb}
+use lib.ListN.{length, take}
+use Rattle.mesh.specs.Limits.{max-radios}
+use Rattle.mesh.specs.Tables.{Tables}
+use Rattle.printing.specs.Print.{Buffer, max-place}
+use Rattle.player.specs.Machine.{Spot, Takes-all, ending, full}
+use Rattle.player.specs.Whole.{lines-of, Lines-print}
+use Rattle.player.specs.declared.machine.Progress.{Progress}
+
+-- the bytes that one read can bring
+abbrev pub chunk-room : ℕ
+chunk-room = 4096
+
+-- the reads that a run has: 2^51, each of a byte at least, so that no input of fewer bytes is cut and no line's number passes 64 bits
+abbrev pub most-reads : ℕ
+most-reads = 2251799813685248
+
+-- ---- the printing buffer
+
+-- its bytes: what may wait before it is full, and either the longest line or the closing lines, fit
+abbrev pub out-room : ℕ
+out-room = 16384
+
+-- what waits in it
+unfoldable pub waiting : Buffer → List ℕ
+waiting b = take (b .at) (b .bytes)
+
+-- what waited in b and then the text: written, but for what waits in c
+pub record Writes (b : Buffer) (text : List ℕ) (c : Buffer) : Type 0 where
+  pub written : List ℕ
+  pub is : waiting b ++ text ≡ written ++ waiting c
+
+-- a full buffer is written, and nothing waits then; all else is kept
+unfoldable pub room-made : Progress → Progress
+room-made s =
+    record { number = s .number; held = s .held; at = cond (ltb (s .at) full) (s .at) 0; live = s .live }
+
+-- ---- chunks
+
+-- k bytes more can be taken: the printing buffer out has its room and is not full, and the line's number stays within 64 bits
+pub record Ready (k : ℕ) (s : Progress) (out : List ℕ) : Type 0 where
+  pub at : s .at < full
+  pub number : s .number + k ≤ max-place
+  pub room : length out ≡ out-room
+
+-- the tables that the closing lines print are those of a site
+pub record Site-sized (numbers order : List ℕ) : Type 0 where
+  pub numbers-few : length numbers ≤ max-radios
+  pub order-few : length order ≤ max-radios
+
+-- the bytes take the run from p to q, and their text is written or waits; a line has room for m bytes
+pub record Takes-chunk (m n : ℕ) (bytes : List ℕ) (p : Spot) (b : Buffer) (q : Spot) (c : Buffer) : Type 0 where
+  pub text : List ℕ
+  pub takes : Takes-all m n bytes p text q
+  pub writes : Writes b text c
+
+-- ---- reads
+
+-- a read brought some bytes
+pub record Went-on (m n : ℕ) (p : Spot) (b : Buffer) (q : Spot) (c : Buffer) : Type 0 where
+  pub bytes : List ℕ
+  pub some : 0 < length bytes
+  pub few : length bytes ≤ chunk-room
+  pub chunk : Takes-chunk m n bytes p b q c
+
+-- a read brought nothing: the closing lines, or `bad L`
+pub record Ended (p : Spot) (b : Buffer) (q : Spot) (c : Buffer) : Type 0 where
+  pub over : q .live ≡ false
+  pub writes : Writes b (ending p) c
+
+abbrev pub Turned : (m n : ℕ) → Spot → Buffer → Spot → Buffer → Type 0
+Turned m n p b q c = Went-on m n p b q c ⊎ Ended p b q c
+
+-- all reads from line 2 on, on a site of n radios with tables t and answer table w: the text of the bytes that they brought
+pub record Reads-all (n : ℕ) (t : Tables) (w : List ℕ) (b c : Buffer) : Type 0 where
+  pub bytes : List ℕ
+  pub text : List ℕ
+  pub prints : length bytes < most-reads → Lines-print n (lines-of bytes) 2 t w text
+  pub writes : Writes b text c
