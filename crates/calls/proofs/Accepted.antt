@@ -140,7 +140,8 @@ pub number-right : (n v : ℕ) (t : Tables) (r : Value) → Number-contract n v 
 unfolding Number-contract graph-in
 number-right n v t r d z =
     let g = graph-in n (t .links) in
-    let c = accepted (radio-refusal n v (lengths-of t) (sound n t)) (Value-accepted (number g v) r) (λ q. Value-refused q r) (r .number) (λ q e. e .number) d z in
+    let c = accepted (radio-refusal n v (lengths-of t) (sound n t)) (Value-accepted (number g v) r)
+    (λ q. Value-refused q r) (r .number) (λ q e. e .number) d z in
     rw (c .1 .value) (number-core g v (radio-zero n v (lengths-of t) (sound n t) (c .0) .1))
 
 -- ---- connected cores and the backbone

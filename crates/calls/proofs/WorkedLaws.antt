@@ -9,8 +9,7 @@ use Prim.Native.Nat.{ℕ, zero, suc, _+_, _*_, _≤_}
 use native.Mathlib.Omega.{arith}
 use lib.Dec.{eqb}
 use lib.IntN.{pos}
-use lib.ListN.{length, drop, take, length-map}
-use lib.Seq.{take-at}
+use lib.ListN.{length, take, length-map}
 use borrow.Author.Tests.{eqb-true, eq-eqb}
 use Rattle.mesh.specs.Limits.{max-neighbours, row-bytes}
 use Rattle.mesh.specs.Lists.{range, same, overwrite}
@@ -22,7 +21,7 @@ use Rattle.mesh.specs.Tree.{node, node-name, tree, node-names}
 use Rattle.mesh.specs.Image.{long, image-of}
 use Rattle.mesh.specs.declared.Node.{Node}
 use Rattle.mesh.proofs.BoolLaws.{never, and-left, and-right, and-both}
-use Rattle.mesh.proofs.ListLaws.{length-range, same-refl, same-eq}
+use Rattle.mesh.proofs.ListLaws.{length-range, same-refl, same-eq, take-overwrite}
 use Rattle.mesh.proofs.ImageOf.{length-image-of}
 use Rattle.calls.specs.Questions.{lengths-of, size-good, level-refusal, image-length, tables-refusal, ends-refusal, read-refusal}
 use Rattle.calls.specs.Switches.{Switch, switched}
@@ -80,10 +79,6 @@ unfolding same-nodes
 same-nodes-refl [] = refl
 same-nodes-refl (x ∷ xs) = rw (eq-eqb (x .name) (x .name) refl, eq-eqb (x .level) (x .level) refl, eq-eqb (x .parent) (x .parent) refl, same-nodes-refl xs)
 
-take-front : {A : Type 0} (new old : List A) → take (length new) (overwrite new old) ≡ new
-unfolding overwrite
-take-front new old = take-at new (drop (length new) old) (length new) refl
-
 is-value-refl : (q x : ℕ) → is-value (value q x) q x ≡ true
 unfolding is-value
 is-value-refl q x = rw (eq-eqb q q refl, eq-eqb x x refl)
@@ -96,7 +91,7 @@ unfolding is-listing listing-outcome by-number same
 listing-right zero r new old xs p =
     let e : _≡_ {A = ℕ} 0 r = eqb-true 0 r (and-left (eqb 0 r) (same new xs) p) in
     let d : new ≡ xs = same-eq new xs (and-right (eqb 0 r) (same new xs) p) in
-    rw (← e, ← d, is-value-refl 0 (length new), take-front new old, same-refl new)
+    rw (← e, ← d, is-value-refl 0 (length new), take-overwrite new old, same-refl new)
 listing-right (suc y) r new old xs p =
     let e : suc y ≡ r = eqb-true (suc y) r (and-left (eqb (suc y) r) (same [] xs) p) in
     let d : [] ≡ xs = same-eq [] xs (and-right (eqb (suc y) r) (same [] xs) p) in
@@ -204,7 +199,7 @@ module _ (f : ℕ → ℕ) (n : ℕ) (size : size-good n ≡ true) where
         let e = write-by-pairs n (q .pairs) (s .tables) (k .holds) least w l in (
           ap (λ (o : Value × List ℕ). o .0) e,
           ap (λ (o : Value × List ℕ). take (image-length site) (o .1)) e
-              ∙ rw (k .order, ← length-image-of site (q .order), take-front (image-of site (q .order)) w),
+              ∙ rw (k .order, ← length-image-of site (q .order), take-overwrite (image-of site (q .order)) w),
         )
 
     written : image-written f n (s .tables) ≡ image-of site (q .order)
@@ -225,7 +220,7 @@ module _ (f : ℕ → ℕ) (n : ℕ) (size : size-good n ≡ true) where
     unfolding node-names radios
     names-taken w =
         let e : length (node-names site) ≡ n = length-map (range 0 n) (node-name site) ∙ length-range 0 n in
-        ap (λ (i : ℕ). take i (overwrite (node-names site) w)) (sym e) ∙ take-front (node-names site) w
+        ap (λ (i : ℕ). take i (overwrite (node-names site) w)) (sym e) ∙ take-overwrite (node-names site) w
 
     tree-right :
         (ns : List Node) (vs : List ℕ) → same-nodes (tree site) ns ≡ true → same (node-names site) vs ≡ true →
@@ -237,7 +232,7 @@ module _ (f : ℕ → ℕ) (n : ℕ) (size : size-good n ≡ true) where
           e,
           ← same-nodes-eq (tree site) ns p,
           is-value-refl 0 (length (tree site)),
-          take-front (tree site) (lent-nodes f n),
+          take-overwrite (tree site) (lent-nodes f n),
           same-nodes-refl (tree site),
           names-taken (entries f n),
         ) r

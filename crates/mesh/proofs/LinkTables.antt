@@ -22,7 +22,8 @@ use Rattle.mesh.proofs.BoolLaws.{bool-cases, and-left, and-right}
 use Rattle.mesh.proofs.ListLaws.{count-ext, range-in}
 use Rattle.mesh.proofs.GraphLaws.{ends}
 use Rattle.mesh.proofs.TableLaws.{marked-put-link, marked-links-table}
-use Rattle.mesh.proofs.RowLaws.{symmetric-of, of-symmetric, irreflexive-of, of-irreflexive, within-of, of-within, few-of, of-few, linked-within, rows-proper-links-table}
+use Rattle.mesh.proofs.RowLaws.{symmetric-of, of-symmetric, irreflexive-of, of-irreflexive, within-of, of-within, few-of, of-few}
+use Rattle.mesh.proofs.RowLaws.{linked-within, rows-proper-links-table}
 use Rattle.mesh.proofs.AscendingLinks.{sorted-eq}
 use Rattle.mesh.proofs.Relinked.{linked-relinked}
 use Rattle.mesh.proofs.ReadBack.{Marks, in-graph-in, graph-in-in, sorted-graph-in, linked-graph-in, graph-in-links-table}

@@ -166,7 +166,8 @@ pub record Outcomes : Type 0 where
 
 -- ---- what is lent by shared reference
 -- A shared reference is seen at exit as it was passed (`ShrSlice` of the kit's logic/Denote/Slice.antt): while its lifetime lasts,
--- nobody can write through it. So the equations hold by computation, from the signatures alone.
+-- nobody can write through it. So the equations hold by computation, from the signatures alone. At the machine, a copy of the
+-- reference that the caller keeps is part of what else the memory holds, and that is there on return as it was (`left` of `Returned`).
 
 pub record Tables-left : Type 0 where
   pub check : Leaves-lent sb-check (λ κs. tables-1) (λ κs. tables-1)
@@ -244,7 +245,7 @@ pub record Steps : Type 0 where
       Does (linking false (number-0 a) (number-1 a) (number-2 a) (length (lent-6 a))) (tables-3 a) (answer-of r (lent-6 e) ∷ []) (tables-3 e))
 
 pub record Property-3 : Type 0 where
-  -- what the four calls that write links, numbers and order say are steps of runs; the other calls leave these tables (`Tables-left`)
+  -- the four calls that write links, numbers and order make steps of runs; the other calls leave these tables (`Tables-left`)
   pub steps : Steps
   -- every list of calls has a run, from any tables
   pub runs : (cs : List Call) (t : Tables) → (es : List Event) × (v : Tables) × Run t es v × (called es ≡ cs)

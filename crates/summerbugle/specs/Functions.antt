@@ -69,7 +69,8 @@ lent-6 a = lent-5 (a .1)
 
 -- ---- a function
 
--- a claim about the values at entry, the result and the values at exit; ks tells which parameters' values at exit it speaks of
+-- a claim about the values at entry, the result and the values at exit, whatever the lifetimes κs; ks tells of which lent parameters
+-- it reads the last values
 abbrev pub On-values : (S : Signature) → Kepts (S .params) → Type 1
 On-values S ks =
     (κs : Lfts (S .lifetimes)) → (entry : Args S κs) → (result : Res S κs) → (exit : Outs κs (S .params) ks) → Type 0
@@ -91,6 +92,7 @@ module _ (f : Function) where
     ensures = λ _ r. exits 𝓤 H A (f .signature) (f .kept) κs a (λ e. fact 𝓤 (f .contract κs a r e));
   }
 
+  -- M is what the resources of the logic are made of
   abbrev pub Promised : Type 1 → Type 2
   Promised M =
       (𝓤 : URA M) (H : Heap 𝓤) (𝓜 : Model 𝓤 H) (𝓖 : GhostRules 𝓤 H) (𝓡 : Running 𝓤 H 𝓜) →
@@ -98,6 +100,7 @@ module _ (f : Function) where
 
   -- ---- at the machine
 
+  -- lifetimes, arguments and their machine values
   abbrev pub Passed : Type 0
   Passed = Bound Closed.𝓤 Closed.H (ghost₀ .A) (f .signature)
 
@@ -117,6 +120,7 @@ module _ (f : Function) where
       sep Closed.𝓤 (sem Closed.𝓤 Closed.H (ghost₀ .A) (lastsOf (x .0) (f .signature .params) (f .kept) (x .3) ws))
       (sep Closed.𝓤 (Back Closed.𝓤 Closed.H (ghost₀ .A) (f .signature) x v r) F)
 
+  -- after so many steps the routine is done, with a machine value that stands for the result; `last` are the last values
   pub record Returned (x : Passed) (σ : Memory) (F : SProp Closed.𝓤) : Type 1 where
     pub steps : ℕ
     pub value : Val
