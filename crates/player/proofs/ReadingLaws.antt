@@ -20,7 +20,7 @@ use Rattle.mesh.proofs.ListLaws.{In}
 use Rattle.printing.specs.Print.{Buffer, lent, put, Puts, max-place}
 use Rattle.printing.proofs.PrintLaws.{put-fits}
 use Rattle.player.specs.Lines.{Prints}
-use Rattle.player.specs.Machine.{Spot, spot, Takes, Takes-all, full, longest, line-room, closing, ending}
+use Rattle.player.specs.Machine.{Spot, spot, Takes, Takes-all, full, line-room, closing, ending}
 use Rattle.player.specs.Reading.{chunk-room, most-reads, waiting, Writes, room-made, Ready, Site-sized, Takes-chunk, Ended, Takes-read, Reads-once, Reads-all}
 use Rattle.player.specs.Whole.{lines-of, Lines-print}
 use Rattle.player.specs.declared.machine.Progress.{Progress}

@@ -1,7 +1,6 @@
 -- Whole inputs print exactly what is said of them: M1's, computed from its bytes to its text.
 use mathlib.Core.Path.{_≡_, refl, subst, _∙_}
-use mathlib.Core.List.{List, flatMap}
-use Prim.Native.Nat.{ℕ}
+use mathlib.Core.List.{flatMap}
 use Rattle.mesh.specs.Lists.{overwrite}
 use Rattle.mesh.specs.Graph.{neighbours-in}
 use Rattle.mesh.specs.Tables.{put-digit, put-bit, put-link, row-links, graph-in}

@@ -4,7 +4,7 @@
 --   lines-text n ls k t w        the lines from number k on, with the closing lines or `bad L`
 --   run-text input               a whole run
 -- That it is what `Run-prints` says of the input, and all that it says, is proved in proofs/RunLaws.antt. Definitions only.
-use mathlib.Core.Bool.{Bool, true, false}
+use mathlib.Core.Bool.{true, false}
 use mathlib.Core.List.{List, [], _∷_, _++_}
 use Prim.Native.Nat.{ℕ, zero, suc, _+_}
 use lib.ListN.{take, replicate}
