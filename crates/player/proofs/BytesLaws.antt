@@ -3,7 +3,7 @@ use mathlib.Core.Path.{_≡_, refl, sym, ap, subst, _∙_}
 use mathlib.Core.Bool.{false}
 use mathlib.Core.List.{List, [], _∷_, _++_, append-assoc, append-nil}
 use Prim.Native.Nat.{ℕ}
-use Rattle.player.specs.Machine.{Spot, Ignored, Takes, In-turn, Takes-all}
+use Rattle.player.specs.Machine.{Spot, Ignored, Takes, Takes-all}
 use Rattle.player.proofs.MachineLaws.{takes-none}
 
 -- ---- one byte more

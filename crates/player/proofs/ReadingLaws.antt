@@ -6,7 +6,7 @@ use mathlib.Core.Path.{_≡_, refl, sym, ap, subst, _∙_}
 use mathlib.Core.Logic.{_⊎_, inl, inr}
 use mathlib.Core.Bool.{Bool, true, false, cond, true≢false}
 use mathlib.Core.List.{List, [], _∷_, _++_, append-assoc, append-nil}
-use Prim.Native.Nat.{ℕ, zero, suc, _+_, _-_, _*_, _≤_, _<_}
+use Prim.Native.Nat.{ℕ, suc, _+_, _-_, _*_, _≤_, _<_}
 use native.Mathlib.Omega.{arith}
 use native.Mathlib.Numerals.{add-one}
 use lib.Dec.{ltb}
@@ -20,8 +20,8 @@ use Rattle.mesh.proofs.ListLaws.{In}
 use Rattle.printing.specs.Print.{Buffer, lent, put, Puts, max-place}
 use Rattle.printing.proofs.PrintLaws.{put-fits}
 use Rattle.player.specs.Lines.{Prints}
-use Rattle.player.specs.Machine.{Spot, spot, Takes, Takes-all, full, longest, line-room, closing, ending}
-use Rattle.player.specs.Reading.{chunk-room, most-reads, waiting, Writes, room-made, Ready, Site-sized, Takes-chunk, Went-on, Ended, Turned, Reads-all}
+use Rattle.player.specs.Machine.{Spot, spot, Takes, Takes-all, full, line-room, closing, ending}
+use Rattle.player.specs.Reading.{chunk-room, most-reads, waiting, Writes, room-made, Ready, Site-sized, Takes-chunk, Ended, Takes-read, Reads-once, Reads-all}
 use Rattle.player.specs.Whole.{lines-of, Lines-print}
 use Rattle.player.specs.declared.machine.Progress.{Progress}
 use Rattle.player.proofs.BytesLaws.{takes-more, takes-append}
@@ -198,35 +198,46 @@ printed-over n bs t w text q l h =
     subst (λ (u : List ℕ). Lines-print n (lines-of bs) 2 t w u) (ap (λ (x : List ℕ). text ++ x) (ending-dead q l) ∙ append-nil text)
     (printed n bs t w text q h)
 
--- one read more: p and q are the spots of s and r
-pub read-more : (n l k : ℕ) (t : Tables) (w : List ℕ) (b : Buffer) (p q : Spot) (s r : Progress) (out after : List ℕ) → 0 < k → l ≡ line-room
-    → s .live ≡ true → q .live ≡ r .live → p .number ≡ s .number → q .number ≡ r .number → length after ≡ length out → (r .live ≡ true → r .at < full)
-    → Read-to n k t w b p s out → Turned l n p (lent out (s .at)) q (lent after (r .at)) → Read-to n (k - 1) t w b q r after
-read-more n l k t w b p q s r out after some room live same from to long at so (inl turn) =
-    let taken : Takes-all line-room n (turn .bytes) p (turn .chunk .text) q =
-    subst (λ (m : ℕ). Takes-all m n (turn .bytes) p (turn .chunk .text) q) room (turn .chunk .takes) in
-    let all = takes-append line-room n (so .bytes) (turn .bytes) (begin t w) p q (so .text) (turn .chunk .text) (so .takes live) taken in
-    let number = takes-all-number line-room n (turn .bytes) p (turn .chunk .text) q taken in
-    let ready = so .ready live in
-    record {
-      bytes = so .bytes ++ turn .bytes;
-      text = so .text ++ turn .chunk .text;
-      writes = writes-append b (lent out (s .at)) (lent after (r .at)) (so .text) (turn .chunk .text) (so .writes) (turn .chunk .writes);
-      takes = λ h. all;
-      many = λ h. omega (arith, so .many live, turn .some, length-append (so .bytes) (turn .bytes));
-      ready = λ h. record { at = at h; number = omega (arith, number, turn .few, ready .number); room = omega (arith, ready .room) };
-      over = λ h. printed-over n (so .bytes ++ turn .bytes) t w (so .text ++ turn .chunk .text) q (same ∙ h) all;
-    }
-read-more n l k t w b p q s r out after some room live same from to long at so (inr end) =
-    record {
-      bytes = so .bytes;
-      text = so .text ++ ending p;
-      writes = writes-append b (lent out (s .at)) (lent after (r .at)) (so .text) (ending p) (so .writes) (end .writes);
-      takes = λ h. absurd (true≢false (sym h ∙ sym same ∙ end .over));
-      many = λ h. absurd (true≢false (sym h ∙ sym same ∙ end .over));
-      ready = λ h. absurd (true≢false (sym h ∙ sym same ∙ end .over));
-      over = λ h. printed n (so .bytes) t w (so .text) p (so .takes live);
-    }
+-- one read more: p and q are the spots of s and r, and bs is what it brought
+module _ (n l k : ℕ) (t : Tables) (w : List ℕ) (b : Buffer) (p q : Spot) (s r : Progress) (out after : List ℕ) (some : 0 < k) (room : l ≡ line-room)
+    (live : s .live ≡ true) (same : q .live ≡ r .live) (from : p .number ≡ s .number) (to : q .number ≡ r .number)
+    (long : length after ≡ length out) (at : r .live ≡ true → r .at < full) (so : Read-to n k t w b p s out) where
+  read-some : (bs : List ℕ) → 0 < length bs → length bs ≤ chunk-room → Takes-chunk l n bs p (lent out (s .at)) q (lent after (r .at))
+      → Read-to n (k - 1) t w b q r after
+  read-some bs one few chunk =
+      let taken : Takes-all line-room n bs p (chunk .text) q = subst (λ (m : ℕ). Takes-all m n bs p (chunk .text) q) room (chunk .takes) in
+      let all = takes-append line-room n (so .bytes) bs (begin t w) p q (so .text) (chunk .text) (so .takes live) taken in
+      let number = takes-all-number line-room n bs p (chunk .text) q taken in
+      let ready = so .ready live in
+      record {
+        bytes = so .bytes ++ bs;
+        text = so .text ++ chunk .text;
+        writes = writes-append b (lent out (s .at)) (lent after (r .at)) (so .text) (chunk .text) (so .writes) (chunk .writes);
+        takes = λ h. all;
+        many = λ h. omega (arith, so .many live, length-append (so .bytes) bs);
+        ready = λ h. record { at = at h; number = omega (arith, number, ready .number); room = omega (arith, ready .room) };
+        over = λ h. printed-over n (so .bytes ++ bs) t w (so .text ++ chunk .text) q (same ∙ h) all;
+      }
+
+  read-over : Ended p (lent out (s .at)) q (lent after (r .at)) → Read-to n (k - 1) t w b q r after
+  read-over end =
+      record {
+        bytes = so .bytes;
+        text = so .text ++ ending p;
+        writes = writes-append b (lent out (s .at)) (lent after (r .at)) (so .text) (ending p) (so .writes) (end .writes);
+        takes = λ h. absurd (true≢false (sym h ∙ sym same ∙ end .over));
+        many = λ h. absurd (true≢false (sym h ∙ sym same ∙ end .over));
+        ready = λ h. absurd (true≢false (sym h ∙ sym same ∙ end .over));
+        over = λ h. printed n (so .bytes) t w (so .text) p (so .takes live);
+      }
+
+  read-by : (bs : List ℕ) → length bs ≤ chunk-room → Takes-read l n bs p (lent out (s .at)) q (lent after (r .at)) → Read-to n (k - 1) t w b q r after
+  unfolding Takes-read
+  read-by [] few end = read-over end
+  read-by (x ∷ xs) few chunk = read-some (x ∷ xs) (omega arith) few chunk
+
+  pub read-more : Reads-once l n p (lent out (s .at)) q (lent after (r .at)) → Read-to n (k - 1) t w b q r after
+  read-more read = read-by (read .bytes) (read .few) (read .taken)
 
 -- the run is over, or no read is left
 pub read-end : (n k : ℕ) (t : Tables) (w : List ℕ) (b : Buffer) (q : Spot) (s : Progress) (out : List ℕ) → (s .live ≡ true → k ≡ 0)
@@ -264,12 +275,18 @@ turn-ended t w line out after s r live over h =
       writes = subst (λ (u : List ℕ). Writes (lent out (s .at)) u (lent after (r .at))) (sym (ending-live (spot t w line s) live)) h;
     }
 
--- count bytes of the chunk are read
-pub turn-on : (m n : ℕ) (chunk : List ℕ) (count : ℕ) (p q : Spot) (b c : Buffer) → (count ≡ 0 → ⊥) → count ≡ length (take count chunk)
-    → count ≤ length chunk → length chunk ≡ chunk-room → Takes-chunk m n (take count chunk) p b q c → Went-on m n p b q c
-turn-on m n chunk count p q b c some e few room h =
-    record { bytes = take count chunk; some = positive count some e; few = omega arith; chunk = h }
-  where
-    positive : (k : ℕ) → (k ≡ 0 → ⊥) → k ≡ length (take count chunk) → 0 < length (take count chunk)
-    positive zero f d = absurd (f refl)
-    positive (suc k) f d = omega arith
+-- a chunk of no bytes is the end of the input
+pub read-nothing : (m n : ℕ) (bs : List ℕ) (p q : Spot) (b c : Buffer) → length bs ≡ 0 → Ended p b q c → Takes-read m n bs p b q c
+unfolding Takes-read
+read-nothing m n [] p q b c e h = h
+read-nothing m n (x ∷ xs) p q b c e h = absurd (omega arith)
+
+pub read-bytes : (m n : ℕ) (bs : List ℕ) (p q : Spot) (b c : Buffer) → (length bs ≡ 0 → ⊥) → Takes-chunk m n bs p b q c → Takes-read m n bs p b q c
+unfolding Takes-read
+read-bytes m n [] p q b c f h = absurd (f refl)
+read-bytes m n (x ∷ xs) p q b c f h = h
+
+-- count bytes of a chunk are read
+pub reads-once : (m n : ℕ) (chunk : List ℕ) (count : ℕ) (p q : Spot) (b c : Buffer) → count ≡ length (take count chunk) → count ≤ length chunk
+    → length chunk ≡ chunk-room → Takes-read m n (take count chunk) p b q c → Reads-once m n p b q c
+reads-once m n chunk count p q b c e few room h = record { bytes = take count chunk; few = omega arith; taken = h }

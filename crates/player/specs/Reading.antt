@@ -7,14 +7,14 @@
 --   Ready k s out            the run has room for k bytes more
 --   Site-sized               the closing lines have at most as many fields as a site radios
 --   Takes-chunk              a chunk takes the run from spot to spot, and its text is written or waits
---   Went-on, Ended, Turned   one read: some bytes are taken, or the input has ended
+--   Ended, Takes-read        what a read brought: nothing at the end of the input, else bytes that are taken
+--   Reads-once               one read
 --   Reads-all                the reads together: the text of all bytes that they brought
 -- No contract can say what a read brings or a write takes: of both there are some bytes, `bytes` and `written` below.
 -- Definitions only.
 use mathlib.Core.Path.{_≡_}
-use mathlib.Core.Logic.{_⊎_}
-use mathlib.Core.Bool.{true, false, cond}
-use mathlib.Core.List.{List, _++_}
+use mathlib.Core.Bool.{false, cond}
+use mathlib.Core.List.{List, [], _∷_, _++_}
 use Prim.Native.Nat.{ℕ, _+_, _≤_, _<_}
 use lib.Dec.{ltb}
 use lib.ListN.{length, take}
@@ -74,20 +74,21 @@ pub record Takes-chunk (m n : ℕ) (bytes : List ℕ) (p : Spot) (b : Buffer) (q
 
 -- ---- reads
 
--- a read brought some bytes
-pub record Went-on (m n : ℕ) (p : Spot) (b : Buffer) (q : Spot) (c : Buffer) : Type 0 where
-  pub bytes : List ℕ
-  pub some : 0 < length bytes
-  pub few : length bytes ≤ chunk-room
-  pub chunk : Takes-chunk m n bytes p b q c
-
--- a read brought nothing: the closing lines, or `bad L`
+-- the input has ended: the closing lines, or `bad L`
 pub record Ended (p : Spot) (b : Buffer) (q : Spot) (c : Buffer) : Type 0 where
   pub over : q .live ≡ false
   pub writes : Writes b (ending p) c
 
-abbrev pub Turned : (m n : ℕ) → Spot → Buffer → Spot → Buffer → Type 0
-Turned m n p b q c = Went-on m n p b q c ⊎ Ended p b q c
+-- what a read brought: at the end of the input nothing, and else bytes that are taken, however few
+unfoldable pub Takes-read : (m n : ℕ) → (bytes : List ℕ) → Spot → Buffer → Spot → Buffer → Type 0
+Takes-read m n [] p b q c = Ended p b q c
+Takes-read m n (x ∷ xs) p b q c = Takes-chunk m n (x ∷ xs) p b q c
+
+-- one read
+pub record Reads-once (m n : ℕ) (p : Spot) (b : Buffer) (q : Spot) (c : Buffer) : Type 0 where
+  pub bytes : List ℕ
+  pub few : length bytes ≤ chunk-room
+  pub taken : Takes-read m n bytes p b q c
 
 -- all reads from line 2 on, on a site of n radios with tables t and answer table w: the text of the bytes that they brought
 pub record Reads-all (n : ℕ) (t : Tables) (w : List ℕ) (b c : Buffer) : Type 0 where

@@ -1,11 +1,14 @@
 // The lines after the first, taken byte by byte from what was read: held to their line feeds, played, and printed into a buffer.
 // Nothing is read or written here.
+ghost use mathlib.Core.Path.{_≡_};
+ghost use mathlib.Core.Bool.{false};
 ghost use Prim.Native.Nat.{_<_};
 ghost use lib.ListN.{length, take};
 ghost use Rattle.mesh.specs.Tables.{tables};
 ghost use Rattle.printing.specs.Print.{lent, Puts, max-place};
 ghost use Rattle.player.specs.Lines.{Prints};
 ghost use Rattle.player.specs.Machine.{spot, Stop-put, Takes, closing};
+ghost use Rattle.player.specs.Reading.{Writes, Ready, Site-sized};
 use super::play;
 
 // How many bytes may wait in the printing buffer before it is written.
@@ -82,7 +85,7 @@ pub(crate) fn take_byte(
 }
 
 // The end of the input: the closing lines, or `bad L` where the last line has no line feed. The place after it.
-pub fn finish(s: Progress, line: &[u8], numbers: &[u8], order: &[u16], out: &mut [u8]) -> usize
+fn finish(s: Progress, line: &[u8], numbers: &[u8], order: &[u16], out: &mut [u8]) -> usize
     ensures { λ r. ⌜ Puts (lent (now (out .entry)) (s .at))
         (closing (take (s .held) (now (line .entry))) (now (numbers .entry)) (now (order .entry)) (s .number))
         (lent (now (out .exit)) r) ⌝ }
@@ -93,4 +96,28 @@ pub fn finish(s: Progress, line: &[u8], numbers: &[u8], order: &[u16], out: &mut
     }
     let place = printing::put_numbers_line(out, s.at, numbers);
     printing::put_order_line(out, place, order)
+}
+
+// The end of the input, and of the run.
+pub(crate) fn end(
+    s: Progress,
+    line: &[u8],
+    numbers: &[u8],
+    order: &[u16],
+    out: &mut [u8],
+) -> Progress
+    requires ready { ⌜ Ready 0 s (now out) ⌝ }
+    requires sized { ⌜ Site-sized (now numbers) (now order) ⌝ }
+    ensures over { λ r. ⌜ r .live ≡ false ⌝ }
+    ensures closed { λ r. ⌜ Writes (lent (now (out .entry)) (s .at))
+        (closing (take (s .held) (now (line .entry))) (now (numbers .entry)) (now (order .entry)) (s .number))
+        (lent (now (out .exit)) (r .at)) ⌝ }
+{
+    let at = finish(s, line, numbers, order, out);
+    Progress {
+        number: s.number,
+        held: 0,
+        at,
+        live: false,
+    }
 }

@@ -1,14 +1,14 @@
 // The lines after the first: read by chunks, taken, and written through a buffer. A contract that cites `Reading` says what is taken
 // from the bytes that a read brought, and what of it was handed to a write; that reads and writes hand them on is executed.
 ghost use mathlib.Core.Path.{_≡_};
-ghost use mathlib.Core.Bool.{true, false};
+ghost use mathlib.Core.Bool.{true};
 ghost use Prim.Native.Nat.{_<_};
-ghost use lib.ListN.{length, take};
+ghost use lib.ListN.{length};
 ghost use Rattle.io.specs.Counts.{Counts};
 ghost use Rattle.mesh.specs.Tables.{tables};
 ghost use Rattle.printing.specs.Print.{lent};
-ghost use Rattle.player.specs.Machine.{spot, line-room, full, closing};
-ghost use Rattle.player.specs.Reading.{chunk-room, out-room, Writes, room-made, Ready, Site-sized, Takes-chunk, Turned, Reads-all};
+ghost use Rattle.player.specs.Machine.{spot, line-room, full};
+ghost use Rattle.player.specs.Reading.{chunk-room, out-room, room-made, Ready, Site-sized, Takes-chunk, Takes-read, Reads-once, Reads-all};
 use super::machine;
 use super::machine::Progress;
 use libc::STDOUT_FILENO;
@@ -78,24 +78,6 @@ fn take_chunk(
     s
 }
 
-// The end of the input.
-fn end(s: Progress, line: &[u8], numbers: &[u8], order: &[u16], out: &mut [u8]) -> Progress
-    requires ready { ⌜ Ready 0 s (now out) ⌝ }
-    requires sized { ⌜ Site-sized (now numbers) (now order) ⌝ }
-    ensures over { λ r. ⌜ r .live ≡ false ⌝ }
-    ensures closed { λ r. ⌜ Writes (lent (now (out .entry)) (s .at))
-        (closing (take (s .held) (now (line .entry))) (now (numbers .entry)) (now (order .entry)) (s .number))
-        (lent (now (out .exit)) (r .at)) ⌝ }
-{
-    let at = machine::finish(s, line, numbers, order, out);
-    Progress {
-        number: s.number,
-        held: 0,
-        at,
-        live: false,
-    }
-}
-
 // One read, of at most `most` bytes, into the front of a chunk: how many bytes it brought, 0 at the end of the input.
 fn read_chunk(fd: i32, most: usize, chunk: &mut [u8]) -> usize
     ensures { λ r. ⌜ Counts r (now (chunk .exit)) ⌝ }
@@ -103,6 +85,34 @@ fn read_chunk(fd: i32, most: usize, chunk: &mut [u8]) -> usize
     let size = tables::fill::least(most, chunk.len());
     let got = libc::read(fd, &mut chunk[..size]);
     io::count(got, chunk)
+}
+
+// What a read brought: no byte at the end of the input.
+fn take_read(
+    s: Progress,
+    chunk: &[u8],
+    n: u32,
+    line: &mut [u8],
+    links: &mut [u8],
+    numbers: &mut [u8],
+    order: &mut [u16],
+    answer: &mut [u16],
+    out: &mut [u8],
+) -> Progress
+    requires live { ⌜ s .live ≡ true ⌝ }
+    requires ready { ⌜ Ready (length (now chunk)) s (now out) ⌝ }
+    requires sized { ⌜ Site-sized (now numbers) (now order) ⌝ }
+    ensures room { λ r. ⌜ (r .live ≡ true → r .at < full) ⌝ }
+    ensures taken { λ r. ⌜ Takes-read (length (now (line .entry))) n (now (chunk .entry))
+        (spot (tables (now (links .entry)) (now (numbers .entry)) (now (order .entry))) (now (answer .entry)) (now (line .entry)) s)
+        (lent (now (out .entry)) (s .at))
+        (spot (tables (now (links .exit)) (now (numbers .exit)) (now (order .exit))) (now (answer .exit)) (now (line .exit)) r)
+        (lent (now (out .exit)) (r .at)) ⌝ }
+{
+    if chunk.len() == 0 {
+        return machine::end(s, line, numbers, order, out);
+    }
+    take_chunk(s, chunk, n, line, links, numbers, order, answer, out)
 }
 
 // One read, and what it brings.
@@ -122,7 +132,7 @@ fn turn(
     requires ready { ⌜ Ready chunk-room s (now out) ⌝ }
     requires sized { ⌜ Site-sized (now numbers) (now order) ⌝ }
     ensures room { λ r. ⌜ (r .live ≡ true → r .at < full) ⌝ }
-    ensures turned { λ r. ⌜ Turned (length (now (line .entry))) n
+    ensures read { λ r. ⌜ Reads-once (length (now (line .entry))) n
         (spot (tables (now (links .entry)) (now (numbers .entry)) (now (order .entry))) (now (answer .entry)) (now (line .entry)) s)
         (lent (now (out .entry)) (s .at))
         (spot (tables (now (links .exit)) (now (numbers .exit)) (now (order .exit))) (now (answer .exit)) (now (line .exit)) r)
@@ -130,10 +140,7 @@ fn turn(
 {
     let mut chunk = io::buffer();
     let count = read_chunk(fd, most, &mut chunk);
-    if count == 0 {
-        return end(s, line, numbers, order, out);
-    }
-    take_chunk(
+    take_read(
         s,
         &chunk[..count],
         n,

@@ -1,6 +1,5 @@
 -- `reading::read_chunk` meets its contract: it reads into the chunk's front alone, and what it counts is there.
 use mathlib.Core.Path.{sym}
-use native.Mathlib.Omega.{arith}
 use lib.Seq.{length-take-le}
 use borrow.Author.Needs.{needs}
 use Rattle.player.proofs.reading.read_chunk.Statement.{statement}

@@ -1,10 +1,10 @@
--- `reading::end` meets its contract: the closing lines fit the printing buffer.
+-- `machine::end` meets its contract: the closing lines fit the printing buffer.
 use mathlib.Core.Path.{refl}
 use native.Mathlib.Omega.{arith}
 use borrow.Author.Needs.{needs}
 use Rattle.player.proofs.ReadingLaws.{closing-writes}
-use Rattle.player.proofs.reading.end.Statement.{statement}
-use Rattle.player.proofs.reading.end.Tie as tie
+use Rattle.player.proofs.machine.end.Statement.{statement}
+use Rattle.player.proofs.machine.end.Tie as tie
 
 returns : tie.Need-returns
 returns c =
