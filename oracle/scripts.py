@@ -128,7 +128,13 @@ SCRIPTS = {
     "above-127": START + b"up 1 \xb2\n",
     "zero-byte": START + b"up 1 2\x00\n",
     "byte-255": START + b"\xff\nup 1 2\n",
+    # M1 with another last call
+    "canary": script(4, ups([(0, 1), (1, 2), (0, 2), (0, 3)])),
 }
+
+# its last answer, its numbers and its order differ from M1's
+last_lines = [replay(SCRIPTS[name]).splitlines()[3:] for name in ("m1", "canary")]
+assert all(x != y for x, y in zip(*last_lines)) and [len(lines) for lines in last_lines] == [3, 3]
 
 FILES = {CRATE / "data" / name: text for name, text in SCRIPTS.items()}
 FILES[CRATE / "stdout"] = "".join(f"{name}\n{replay(text)}" for name, text in SCRIPTS.items()).encode()

@@ -1,5 +1,5 @@
-// The replay program on each script of data/, in turn: the script's name, then what is printed. Scripts and expected output are
-// made by oracle/scripts.py.
+// The replay program on each script of data/, in turn: the script's name, then what is printed. The last script is M1's with
+// another last call: each kind of printed line must differ from M1's. Scripts and expected output are made by oracle/scripts.py.
 use libc::STDOUT_FILENO;
 
 // Plays one script.
@@ -78,4 +78,5 @@ fn main() {
     sites();
     first_lines();
     later_lines();
+    case(b"canary");
 }
