@@ -153,8 +153,8 @@ def write_line(image, room):
     line("write", room, 0 if held else 9, len(written), digest(0, written), True)
 
 
-def blocks_line(image):
-    """A reader's steps, two more than there are blocks."""
+def blocks_lines(image):
+    """A reader's steps, two more than there are blocks; then those of the reader that holds the image."""
     number, count = block_refusal(image), len(image) // BLOCK
     at = given = ends = h = 0
     for _ in range(count + 2):
@@ -171,6 +171,12 @@ def blocks_line(image):
         given += len(part)
         h = digest(digest(h, said), part)
     line("blocks", at, number, given, ends, h)
+    h = 0
+    for at in range(count + 2):
+        status = number or (256 if at >= count else 0)
+        after = at if status else at + 1
+        h = digest(h, [0, status, after, after] + ([] if status else image[BLOCK * at + 4:BLOCK * at + 508]))
+    line("held", h)
 
 
 def site_lines(n, pairs, order):
@@ -185,7 +191,7 @@ def site_lines(n, pairs, order):
     for size in (n - 1, n + 1, 0, 513, n):
         read_line(size, lengths, image)
     line("again", 1)
-    blocks_line(image)
+    blocks_lines(image)
 
 
 # ---- the sites tried
@@ -261,11 +267,24 @@ def small_lines():
         (5, (320, 6, 5)), (5, (320, 5, 4)), (5, (320, 5, 6)),
     ]:
         read_line(n, lengths, good)
-    blocks_line(good)
-    blocks_line(good[:-1])
+    blocks_lines(good)
+    blocks_lines(good[:-1])
+    # three times unsound, a length wrong too, n wrong too: nothing is written, whatever the buffer
+    for number in (3, 3, 3, 2, 1):
+        for room in (3 * BLOCK, 0):
+            line("write", room, number, 0, 0, True)
+    bad = good[:600] + [77] + good[601:]
+    for image, n in ((bad, 0), (bad[:-1], 513)):
+        read_line(5, (320, 5, 5), image)
+        read_line(4, (256, 4, 4), image)
+        read_line(5, (319, 5, 5), image)
+        read_line(n, (319, 5, 5), image)
+        blocks_lines(image)
     for how in CHANGES:
         changes_line(how, False, 5, good)
         changes_line(how, True, 5, good)
+    # three tables exchanged, found twice each; images that differ; a refusal that changed a table
+    line("canaries", 2 * 3 + 1 + 1)
 
 
 def work_out():
