@@ -146,6 +146,26 @@ def read_line(n, lengths, image):
     line("read", n, *lengths, len(image), number, number != 0, tables_digest(0, tables))
 
 
+def refusal(n, links, numbers, order):
+    """Questions 1 to 3. Sound tables are those with proper rows, core numbers and a k-order."""
+    if not 1 <= n <= RADIOS:
+        return 1
+    if (len(links), len(numbers), len(order)) != (ROW * n, n, n):
+        return 2
+    pairs = [(a, b) for a in range(n) for b in range(a, 8 * ROW) if links[ROW * a + b // 8] >> b % 8 & 1]
+    if not is_site(n, pairs, order) or links != rows(n, pairs) or numbers != peeled(n, pairs):
+        return 3
+    return 0
+
+
+def refused_lines(n, links, numbers, order):
+    """Nothing is written, whatever the buffer."""
+    number = refusal(n, links, numbers, order)
+    assert number
+    for room in (3 * BLOCK, 0):
+        line("write", room, number, 0, 0, True)
+
+
 def write_line(image, room):
     """Bytes past the image, or all of them, are kept."""
     held = len(image) <= room
@@ -260,7 +280,8 @@ def changes_line(how, mended, n, good):
 
 
 def small_lines():
-    good = image_of(5, [(0, 1), (0, 2), (1, 2), (2, 3), (3, 4)], [4, 3, 2, 0, 1])
+    pairs, order = [(0, 1), (0, 2), (1, 2), (2, 3), (3, 4)], [4, 3, 2, 0, 1]
+    links, numbers, good = rows(5, pairs), peeled(5, pairs), image_of(5, pairs, order)
     for n, lengths in [
         (5, (320, 5, 5)), (4, (256, 4, 4)), (6, (384, 6, 6)),
         (5, (319, 5, 5)), (5, (321, 5, 5)), (5, (320, 4, 5)),
@@ -269,10 +290,12 @@ def small_lines():
         read_line(n, lengths, good)
     blocks_lines(good)
     blocks_lines(good[:-1])
-    # three times unsound, a length wrong too, n wrong too: nothing is written, whatever the buffer
-    for number in (3, 3, 3, 2, 1):
-        for room in (3 * BLOCK, 0):
-            line("write", room, number, 0, 0, True)
+    assert refusal(5, links, numbers, order) == 0
+    refused_lines(5, links, [2, 2, 2, 1, 2], order)
+    refused_lines(5, links, numbers, [4, 3, 2, 0, 0])
+    refused_lines(5, bytearray([1] * 320), numbers, order)
+    refused_lines(5, links, [2, 2, 2, 1], order)
+    refused_lines(0, links, [2, 2, 2, 1], order)
     bad = good[:600] + [77] + good[601:]
     for image, n in ((bad, 0), (bad[:-1], 513)):
         read_line(5, (320, 5, 5), image)
