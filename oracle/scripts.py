@@ -141,10 +141,16 @@ SCRIPTS = {
     "output-4096": script(4, pairs(400) + [("up", 9, 9)] * 124),
     "output-4097": script(4, pairs(401) + [("up", 9, 9)] * 122),
     "input-4096": script(4, pairs(512)),
+    # M1 with another last call
+    "canary": script(4, ups([(0, 1), (1, 2), (0, 2), (0, 3)])),
 }
 
 # played again with a read for each byte: more than 1,000 reads, each of less than the program has room for
 BY_BYTES = ["m1", "refusals", "clique-33", "radios-very-long", "unterminated", "very-long", "byte-255", "bad-late", "output-4096"]
+
+# its last answer, its numbers and its order differ from M1's
+last_lines = [replay(SCRIPTS[name]).splitlines()[3:] for name in ("m1", "canary")]
+assert all(x != y for x, y in zip(*last_lines)) and [len(lines) for lines in last_lines] == [3, 3]
 
 FILES = {CRATE / "data" / name: text for name, text in SCRIPTS.items()}
 PRINTED = {name: replay(text) for name, text in SCRIPTS.items()}

@@ -1,5 +1,5 @@
-// The replay program on each script of data/, in turn: the script's name, then what is printed. Scripts and expected output are
-// made by oracle/scripts.py.
+// The replay program on each script of data/, in turn: the script's name, then what is printed. The canary is M1's script with
+// another last call: each kind of printed line must differ from M1's. Scripts and expected output are made by oracle/scripts.py.
 use libc::STDOUT_FILENO;
 
 // Plays one script, of which a read asks for at most `most` bytes.
@@ -108,5 +108,6 @@ fn main() {
     first_lines();
     later_lines();
     long_runs();
+    case(b"canary");
     by_bytes();
 }

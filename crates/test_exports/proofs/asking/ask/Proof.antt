@@ -1,5 +1,5 @@
 -- `asking::ask` is safe and ends: a walk of its MIR, by hand, since it lends a local list of structs. The first `room` places
--- are lent to `node_list::lent::shell_tree` and come back, and the list is passed by value to `spread`. Nothing is said of what
+-- are lent to `summerbugle::sb_tree` and come back, and the list is passed by value to `spread`. Nothing is said of what
 -- comes back.
 use mathlib.Core.Path.{_≡_, refl, sym, _∙_, subst}
 use mathlib.Core.List.{List, [], _∷_, _++_}
@@ -56,18 +56,18 @@ use Rattle.calls.specs.declared.Value.{Value}
 use Rattle.calls.proofs.Value as K
 use Rattle.calls.proofs.Value.Laws as K′
 use Rattle.node_list.proofs.LocalArray.{Lies, arrTy, typed, made, lends, back, read, Others, apart, joined}
-use Rattle.node_list.proofs.lent.shell_tree as callee
-use Rattle.node_list.proofs.lent.shell_tree.Symbol as callee-def
-use Rattle.node_list.proofs.lent.shell_tree.Symbol.{name as #tree·shell-tree}
-use Rattle.node_list.proofs.lent.shell_tree.Met as callee-thm
-use Rattle.trees.proofs.asking.spread as spread
-use Rattle.trees.proofs.asking.spread.Symbol as spread-def
-use Rattle.trees.proofs.asking.spread.Symbol.{name as #trees·spread}
-use Rattle.trees.proofs.asking.spread.Met as spread-thm
-use Rattle.trees.proofs.asking.ask.Key.{name as #trees·ask}
-use Rattle.trees.proofs.asking.ask as shell
-use Rattle.trees.proofs.asking.ask.Statement as stated
-use Rattle.trees.proofs.asking.ask.Code as code
+use Rattle.summerbugle.proofs.sb_tree as callee
+use Rattle.summerbugle.proofs.sb_tree.Symbol as callee-def
+use Rattle.summerbugle.proofs.sb_tree.Symbol.{name as #sb-tree}
+use Rattle.summerbugle.proofs.sb_tree.Met as callee-thm
+use Rattle.test_exports.proofs.asking.spread as spread
+use Rattle.test_exports.proofs.asking.spread.Symbol as spread-def
+use Rattle.test_exports.proofs.asking.spread.Symbol.{name as #test-exports·spread}
+use Rattle.test_exports.proofs.asking.spread.Met as spread-thm
+use Rattle.test_exports.proofs.asking.ask.Key.{name as #test-exports·ask}
+use Rattle.test_exports.proofs.asking.ask as shell
+use Rattle.test_exports.proofs.asking.ask.Statement as stated
+use Rattle.test_exports.proofs.asking.ask.Code as code
 
 abbrev R : RattleType
 R = T-node.the-row
@@ -244,7 +244,7 @@ module _ {M : Type 1} (𝓤 : URA M) (H : Heap 𝓤) (A : Atoms 𝓤) (W : Given
       move ! (5 ∷ 0 ∷ []) $ fjoin ! $ move ! (4 ∷ 0 ∷ []) $ fjoin ! $ owned ! u32 (Is u32) (uint-makes 𝓤 H A W w32) n _ (refl, n-fits) $ fjoin ! $ move ! (0 ∷ 4 ∷ []) $ join ! $ nothing ! $
       move ! (4 ∷ 0 ∷ []) $ join ! $ move ! (3 ∷ 0 ∷ []) $ join ! $ move ! (2 ∷ 0 ∷ []) $ join ! $ join ! $ frame ! $ done !
 
-  module _ (𝓣 : Tables 𝓤 H) (known : Triple 𝓤 (𝓣 .C #tree·shell-tree) (Shell 𝓤 H A mem run)) (known-spread : Triple 𝓤 (𝓣 .C #trees·spread) (Spread 𝓤 H A mem run)) (room : Room u16 (length ts)) (room′ : Room u16 (length es)) where
+  module _ (𝓣 : Tables 𝓤 H) (known : Triple 𝓤 (𝓣 .C #sb-tree) (Shell 𝓤 H A mem run)) (known-spread : Triple 𝓤 (𝓣 .C #test-exports·spread) (Spread 𝓤 H A mem run)) (room : Room u16 (length ts)) (room′ : Room u16 (length es)) where
     walk : Is (ShrSlice (named 0) κ u8) s (m s ∷ []) → Is (ShrSlice (named 0) κ u8) t (m t ∷ []) → Is (ShrSlice (named 0) κ u16) u (m u ∷ [])
         → ent 𝓤 (onEntry 𝓤 H A shell.signature (κ, (κ′, (κ″, tt))) (q, (q′, (q″, tt))) arg vals) (WpFn 𝓤 H (𝓣 .C) (𝓣 .Λ) code.function (vint w32 n ∷ m s ∷ m t ∷ m u ∷ vint w64 k ∷ v ∷ v′ ∷ []) Post)
     walk is-s is-t is-u =
@@ -304,7 +304,7 @@ module _ {M : Type 1} (𝓤 : URA M) (H : Heap 𝓤) (A : Atoms 𝓤) (W : Given
         keep ! (4 ∷ 3 ∷ 0 ∷ 8 ∷ 7 ∷ 6 ∷ 5 ∷ 1 ∷ 2 ∷ []) $ by ! (exits r w (ws .1 .1 .1 .1 .1 .0) (ps .1 .0) len′ long)))))))))))))))))))))))))))))))))))
 
 module _ {M : Type 1} (𝓤 : URA M) (H : Heap 𝓤) (A : Atoms 𝓤) (W : Given 𝓤 H A) (mem : Memory → SProp 𝓤) (run : Routine → Fun 𝓤) where
-  shell-walks : (𝓣 : Tables 𝓤 H) → Triple 𝓤 (𝓣 .C #tree·shell-tree) (Shell 𝓤 H A mem run) → Triple 𝓤 (𝓣 .C #trees·spread) (Spread 𝓤 H A mem run) → Walks 𝓤 H A shell.ended stayed (WpFn 𝓤 H (𝓣 .C) (𝓣 .Λ) code.function) (shell.clauses 𝓤 H A mem run)
+  shell-walks : (𝓣 : Tables 𝓤 H) → Triple 𝓤 (𝓣 .C #sb-tree) (Shell 𝓤 H A mem run) → Triple 𝓤 (𝓣 .C #test-exports·spread) (Spread 𝓤 H A mem run) → Walks 𝓤 H A shell.ended stayed (WpFn 𝓤 H (𝓣 .C) (𝓣 .Λ) code.function) (shell.clauses 𝓤 H A mem run)
   shell-walks 𝓣 known known-spread = walked 𝓤 H A shell.ended stayed (shell.clauses 𝓤 H A mem run) (WpFn 𝓤 H (𝓣 .C) (𝓣 .Λ) code.function)
       (λ κs. (uint-vals w32, (slice-vals, (slice-vals, (slice-vals, (uint-vals w64, (slice-vals, (slice-vals, tt))))))))
       (λ κs. (uint-tells w32, (shr-slice-tells (named 0) (κs .0) u8, (shr-slice-tells (named 0) (κs .0) u8, (shr-slice-tells (named 0) (κs .0) u16, (uint-tells w64, (mut-slice-tells (named 1) (κs .1 .0) u16, (mut-slice-tells (named 2) (κs .1 .1 .0) u16, tt))))))))
@@ -313,7 +313,7 @@ module _ {M : Type 1} (𝓤 : URA M) (H : Heap 𝓤) (A : Atoms 𝓤) (W : Given
       (a .1 .1 .1 .1 .1 .0 .ptr .0) (a .1 .1 .1 .1 .1 .0 .ptr .1) (a .1 .1 .1 .1 .1 .0 .name) (a .1 .1 .1 .1 .1 .0 .now) (a .1 .1 .1 .1 .1 .1 .0 .ptr .0) (a .1 .1 .1 .1 .1 .1 .0 .ptr .1) (a .1 .1 .1 .1 .1 .1 .0 .name) (a .1 .1 .1 .1 .1 .1 .0 .now)
       𝓣 known known-spread (are .1 .1 .1 .1 .1 .0 .0 .1) (are .1 .1 .1 .1 .1 .1 .0 .0 .1) (are .1 .0) (are .1 .1 .0) (are .1 .1 .1 .0)))
 
-shell-meets : {M : Type 1} (𝓤 : URA M) (H : Heap 𝓤) (A : Atoms 𝓤) → Given 𝓤 H A → (mem : Memory → SProp 𝓤) (run : Routine → Fun 𝓤) (𝓣 : Tables 𝓤 H) → Triple 𝓤 (𝓣 .C #tree·shell-tree) (Shell 𝓤 H A mem run) → Triple 𝓤 (𝓣 .C #trees·spread) (Spread 𝓤 H A mem run)
+shell-meets : {M : Type 1} (𝓤 : URA M) (H : Heap 𝓤) (A : Atoms 𝓤) → Given 𝓤 H A → (mem : Memory → SProp 𝓤) (run : Routine → Fun 𝓤) (𝓣 : Tables 𝓤 H) → Triple 𝓤 (𝓣 .C #sb-tree) (Shell 𝓤 H A mem run) → Triple 𝓤 (𝓣 .C #test-exports·spread) (Spread 𝓤 H A mem run)
     → Meets 𝓤 H A shell.signature (WpFn 𝓤 H (𝓣 .C) (𝓣 .Λ) code.function) (shell.spec 𝓤 H A mem run)
 shell-meets 𝓤 H A W mem run 𝓣 known known-spread =
     walk-meets 𝓤 H A shell.ended stayed W (goes-none 𝓤 H A W 3 (λ _. u32) yes (λ κs x f. refl), (goes-none-slice 𝓤 H A W 3 (0 ∷ []) tt (plain (λ _. u8)) yes, (goes-none-slice 𝓤 H A W 3 (0 ∷ []) tt (plain (λ _. u8)) yes, (goes-none-slice 𝓤 H A W 3 (0 ∷ []) tt (plain (λ _. u16)) yes, (goes-none 𝓤 H A W 3 (λ _. usize) yes (λ κs x f. refl), (goes-gave-slice 𝓤 H A W 3 1 tt (plain (λ _. u16)), (goes-gave-slice 𝓤 H A W 3 2 tt (plain (λ _. u16)), tt)))))))
@@ -323,7 +323,7 @@ pub ask-spec : {M : Type 1} → stated.statement M
 unfolding code.routine tablesOf
 ask-spec 𝓤 H 𝓜 𝓖 𝓡 =
     entered 𝓤 H (tripleOf 𝓤 H (𝓖 .A) shell.signature (shell.spec 𝓤 H (𝓖 .A) (𝓜 .mem) (𝓡 .run)))
-    (calls-of 𝓤 H 𝓜 𝓡 code.env .C) (calls-of 𝓤 H 𝓜 𝓡 code.env .Λ) #trees·ask code.function (code.unfolded 𝓤 H 𝓜 𝓡)
+    (calls-of 𝓤 H 𝓜 𝓡 code.env .C) (calls-of 𝓤 H 𝓜 𝓡 code.env .Λ) #test-exports·ask code.function (code.unfolded 𝓤 H 𝓜 𝓡)
     (shell-meets 𝓤 H (𝓖 .A) (givenOf 𝓤 H 𝓜 𝓖) (𝓜 .mem) (𝓡 .run) (tablesOf 𝓤 H 𝓜 (calls-of 𝓤 H 𝓜 𝓡 code.env))
-    (cited 𝓤 H (Shell 𝓤 H (𝓖 .A) (𝓜 .mem) (𝓡 .run)) 𝓜 𝓡 code.env #tree·shell-tree callee-def.routine code.calls-node-list·lent·shell-tree (callee-thm.met 𝓤 H 𝓜 𝓖 𝓡))
-    (cited 𝓤 H (Spread 𝓤 H (𝓖 .A) (𝓜 .mem) (𝓡 .run)) 𝓜 𝓡 code.env #trees·spread spread-def.routine code.calls-trees·asking·spread (spread-thm.met 𝓤 H 𝓜 𝓖 𝓡)))
+    (cited 𝓤 H (Shell 𝓤 H (𝓖 .A) (𝓜 .mem) (𝓡 .run)) 𝓜 𝓡 code.env #sb-tree callee-def.routine code.calls-summerbugle·sb-tree (callee-thm.met 𝓤 H 𝓜 𝓖 𝓡))
+    (cited 𝓤 H (Spread 𝓤 H (𝓖 .A) (𝓜 .mem) (𝓡 .run)) 𝓜 𝓡 code.env #test-exports·spread spread-def.routine code.calls-test-exports·asking·spread (spread-thm.met 𝓤 H 𝓜 𝓖 𝓡)))

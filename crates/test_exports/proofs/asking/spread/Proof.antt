@@ -3,10 +3,10 @@ use mathlib.Core.Path.{_≡_, refl}
 use Prim.Native.Nat.{_-_}
 use lib.ListN.{length}
 use borrow.Author.Needs.{needs}
-use Rattle.trees.proofs.asking.spread.Statement.{statement}
-use Rattle.trees.proofs.asking.spread.Tie as tie
-use Rattle.trees.proofs.asking.spread.Reads as reads
-use Rattle.trees.proofs.asking.spread.Lts as lts
+use Rattle.test_exports.proofs.asking.spread.Statement.{statement}
+use Rattle.test_exports.proofs.asking.spread.Tie as tie
+use Rattle.test_exports.proofs.asking.spread.Reads as reads
+use Rattle.test_exports.proofs.asking.spread.Lts as lts
 use Rattle.rows.proofs.put_entry.Reads as put-entry-reads
 
 abbrev Inv-loop : tie.InvT-loop

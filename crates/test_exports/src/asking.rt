@@ -35,12 +35,12 @@ fn ask<'a, 't, 'f>(
     requires { ⌜ room ≤ 515 ⌝ }
 {
     let blank = Node {
-        name: crate::compare::KEPT,
-        level: crate::compare::KEPT,
-        parent: crate::compare::KEPT,
+        name: crate::host::KEPT,
+        level: crate::host::KEPT,
+        parent: crate::host::KEPT,
     };
     let mut nodes = [blank; PLACES];
-    let reply = node_list::lent::shell_tree(n, links, numbers, order, &mut nodes[..room], answer);
+    let reply = summerbugle::sb_tree(n, links, numbers, order, &mut nodes[..room], answer);
     spread(nodes, fields);
     reply
 }
