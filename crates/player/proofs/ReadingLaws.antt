@@ -6,23 +6,27 @@ use mathlib.Core.Path.{_≡_, refl, sym, ap, subst, _∙_}
 use mathlib.Core.Logic.{_⊎_, inl, inr}
 use mathlib.Core.Bool.{Bool, true, false, cond, true≢false}
 use mathlib.Core.List.{List, [], _∷_, _++_, append-assoc, append-nil}
-use Prim.Native.Nat.{ℕ, suc, _+_, _-_, _*_, _≤_, _<_}
+use Prim.Native.Nat.{ℕ, zero, suc, _+_, _-_, _*_, _≤_, _<_}
 use native.Mathlib.Omega.{arith}
 use native.Mathlib.Numerals.{add-one}
 use lib.Dec.{ltb}
-use lib.ListN.{length, take, drop, getD, length-append, length-take}
+use lib.ListN.{length, take, drop, getD, replicate, length-append, length-replicate}
 use lib.Seq.{take-suc, take-at, take-all, length-take-le}
 use borrow.Author.Tests.{ltb-true, lt-ltb, le-ltb}
 use Rattle.mesh.proofs.BoolLaws.{bool-cases}
-use Rattle.mesh.specs.Limits.{max-radios}
-use Rattle.mesh.specs.Tables.{Tables}
-use Rattle.mesh.proofs.ListLaws.{In}
+use Rattle.mesh.specs.Limits.{max-radios, row-bytes}
+use Rattle.mesh.specs.Tables.{Tables, tables}
+use Rattle.mesh.proofs.ListLaws.{In, length-range}
+use Rattle.calls.specs.Questions.{By-number, lengths-of, lent-refusal, tables-refusal}
+use Rattle.calls.specs.Writes.{Tables-refused, Clear-accepted, Clear-contract}
+use Rattle.calls.proofs.ChainLaws.{lent-yes}
+use Rattle.calls.proofs.RecordLaws.{tables-ext}
 use Rattle.printing.specs.Print.{Buffer, lent, put, Puts, max-place}
 use Rattle.printing.proofs.PrintLaws.{put-fits}
 use Rattle.player.specs.Lines.{Prints}
 use Rattle.player.specs.Machine.{Spot, spot, Takes, Takes-all, full, line-room, closing, ending}
-use Rattle.player.specs.Reading.{chunk-room, most-reads, waiting, Writes, room-made, Ready, Site-sized, Takes-chunk, Ended, Takes-read, Reads-once, Reads-all}
-use Rattle.player.specs.Whole.{lines-of, Lines-print}
+use Rattle.player.specs.Reading.{chunk-room, most-reads, waiting, Writes, room-made, Ready, Site-lent, Site-cleared, Site-sized, Takes-chunk, Ended, Takes-read, Reads-once, Reads-all}
+use Rattle.player.specs.Whole.{lines-of, Lines-print, cleared, Run-from}
 use Rattle.player.specs.declared.machine.Progress.{Progress}
 use Rattle.player.proofs.BytesLaws.{takes-more, takes-append}
 use Rattle.player.proofs.SizeLaws.{takes-length, takes-number, takes-all-number, closing-length}
@@ -239,15 +243,70 @@ module _ (n l k : ℕ) (t : Tables) (w : List ℕ) (b : Buffer) (p q : Spot) (s 
   pub read-more : Reads-once l n p (lent out (s .at)) q (lent after (r .at)) → Read-to n (k - 1) t w b q r after
   read-more read = read-by (read .bytes) (read .few) (read .taken)
 
+-- from a cleared site
+run-lines : (n : ℕ) (bs : List ℕ) (t : Tables) (w text : List ℕ) → Site-cleared n t w → Lines-print n (lines-of bs) 2 t w text → Run-from n bs text
+unfolding Run-from
+run-lines zero bs t w text site h = absurd (omega (arith, site .some))
+run-lines (suc n) bs t w text site h =
+    subst (λ (y : List ℕ). Lines-print (suc n) (lines-of bs) 2 (cleared (suc n)) y text) (site .answer-zero)
+    (subst (λ (v : Tables). Lines-print (suc n) (lines-of bs) 2 v w text) (site .is-cleared) h)
+
 -- the run is over, or no read is left
-pub read-end : (n k : ℕ) (t : Tables) (w : List ℕ) (b : Buffer) (q : Spot) (s : Progress) (out : List ℕ) → (s .live ≡ true → k ≡ 0)
-    → Read-to n k t w b q s out → Reads-all n t w b (lent out (s .at))
-read-end n k t w b q s out last so =
-    record { bytes = so .bytes; text = so .text; prints = λ h. go h (bool-cases (s .live)); writes = so .writes }
+pub read-end : (n k : ℕ) (t : Tables) (w : List ℕ) (b : Buffer) (q : Spot) (s : Progress) (out : List ℕ) → Site-cleared n t w
+    → (s .live ≡ true → k ≡ 0) → Read-to n k t w b q s out → Reads-all n b (lent out (s .at))
+read-end n k t w b q s out site last so =
+    record { bytes = so .bytes; text = so .text; prints = λ h. run-lines n (so .bytes) t w (so .text) site (go h (bool-cases (s .live))); writes = so .writes }
   where
     go : length (so .bytes) < most-reads → (s .live ≡ true) ⊎ (s .live ≡ false) → Lines-print n (lines-of (so .bytes)) 2 t w (so .text)
     go h (inl l) = absurd (omega (arith, so .many l, last l))
     go h (inr l) = so .over l
+
+-- ---- the site
+
+-- clearing tables that have their lengths
+pub site-cleared : (n r : ℕ) (t v : Tables) (w : List ℕ) → Site-lent n t w → Clear-contract n t r v → Site-cleared n v w
+unfolding Clear-contract tables-refusal lengths-of cleared By-number
+site-cleared n r t v w site h =
+    let yes : lent-refusal n (lengths-of t) true 0 ≡ 0 =
+    lent-yes n (lengths-of t) true 0 (record {
+      least = site .some;
+      most = site .few;
+      lengths = record { links = site .links-length; numbers = site .numbers-length; order = site .order-length };
+      further = refl;
+    }) in
+    let done : Clear-accepted n r v = subst (λ (x : ℕ). By-number x (Clear-accepted n r v) (λ q. Tables-refused q r t v)) yes h in
+    record {
+      some = site .some;
+      few = site .few;
+      is-cleared = tables-ext v (cleared n) (done .links) (done .numbers) (done .order);
+      answer-zero = site .answer-zero;
+    }
+
+-- a part of zeros
+take-zeros : (n m : ℕ) → n ≤ m → take {A = ℕ} n (replicate m 0) ≡ replicate n 0
+take-zeros zero m h = refl
+take-zeros (suc n) zero h = absurd (omega arith)
+take-zeros (suc n) (suc m) h = ap (λ (xs : List ℕ). 0 ∷ xs) (take-zeros n m (omega arith))
+
+-- parts of the largest tables
+pub site-lent : (n l m : ℕ) → 0 < n → n ≤ max-radios → row-bytes * n ≤ l → n ≤ m
+    → Site-lent n (tables (take (row-bytes * n) (replicate l 0)) (take n (replicate m 0)) (take n (replicate m 0))) (take n (replicate m 0))
+site-lent n l m some few bytes many =
+    record {
+      some = some;
+      few = few;
+      links-length = length-take-le (row-bytes * n) (replicate l 0) (omega (arith, length-replicate {A = ℕ} l 0));
+      numbers-length = length-take-le n (replicate m 0) (omega (arith, length-replicate {A = ℕ} m 0));
+      order-length = length-take-le n (replicate m 0) (omega (arith, length-replicate {A = ℕ} m 0));
+      answer-zero = take-zeros n m many;
+    }
+
+pub sized-cleared : (n : ℕ) (t : Tables) (w : List ℕ) → Site-cleared n t w → Site-sized (t .numbers) (t .order)
+unfolding cleared
+sized-cleared n t w site =
+    let numbers : length (t .numbers) ≡ n = ap (λ (v : Tables). length (v .numbers)) (site .is-cleared) ∙ length-replicate n 0 in
+    let order : length (t .order) ≡ n = ap (λ (v : Tables). length (v .order)) (site .is-cleared) ∙ length-range 0 n in
+    record { numbers-few = omega (arith, site .few); order-few = omega (arith, site .few) }
 
 -- ---- one read
 
@@ -258,9 +317,6 @@ ready-less l h = record { at = h .at; number = omega (arith, h .number); room = 
 -- a read is left
 pub ready-turn : (k : ℕ) (s : Progress) (out : List ℕ) → 0 < k → Ready (chunk-room * k) s out → Ready chunk-room s out
 ready-turn k s out l h = ready-less (omega arith) h
-
-pub sized-part : (n : ℕ) (ns xs : List ℕ) → n ≤ max-radios → Site-sized (take n ns) (take n xs)
-sized-part n ns xs h = record { numbers-few = omega (arith, length-take n ns); order-few = omega (arith, length-take n xs) }
 
 pub sized-as : {ns ms xs ys : List ℕ} → length ns ≡ length ms → length xs ≡ length ys → Site-sized ms ys → Site-sized ns xs
 sized-as e f h = record { numbers-few = omega (arith, h .numbers-few); order-few = omega (arith, h .order-few) }

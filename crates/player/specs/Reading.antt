@@ -5,6 +5,7 @@
 --   Writes b text c          what waited in b and then the text: written, but for what waits in c
 --   room-made s              the progress after a full buffer was written
 --   Ready k s out            the run has room for k bytes more
+--   Site-lent, Site-cleared  the tables before and after clearing
 --   Site-sized               the closing lines have at most as many fields as a site radios
 --   Takes-chunk              a chunk takes the run from spot to spot, and its text is written or waits
 --   Ended, Takes-read        what a read brought: nothing at the end of the input, else bytes that are taken
@@ -15,14 +16,14 @@
 use mathlib.Core.Path.{_≡_}
 use mathlib.Core.Bool.{false, cond}
 use mathlib.Core.List.{List, [], _∷_, _++_}
-use Prim.Native.Nat.{ℕ, _+_, _≤_, _<_}
+use Prim.Native.Nat.{ℕ, _+_, _*_, _≤_, _<_}
 use lib.Dec.{ltb}
-use lib.ListN.{length, take}
-use Rattle.mesh.specs.Limits.{max-radios}
+use lib.ListN.{length, take, replicate}
+use Rattle.mesh.specs.Limits.{max-radios, row-bytes}
 use Rattle.mesh.specs.Tables.{Tables}
 use Rattle.printing.specs.Print.{Buffer, max-place}
 use Rattle.player.specs.Machine.{Spot, Takes-all, ending, full}
-use Rattle.player.specs.Whole.{lines-of, Lines-print}
+use Rattle.player.specs.Whole.{cleared, Run-from}
 use Rattle.player.specs.declared.machine.Progress.{Progress}
 
 -- the bytes that one read can bring
@@ -61,6 +62,22 @@ pub record Ready (k : ℕ) (s : Progress) (out : List ℕ) : Type 0 where
   pub number : s .number + k ≤ max-place
   pub room : length out ≡ out-room
 
+-- tables t and answer table w lent for a site of n radios
+pub record Site-lent (n : ℕ) (t : Tables) (w : List ℕ) : Type 0 where
+  pub some : 0 < n
+  pub few : n ≤ max-radios
+  pub links-length : length (t .links) ≡ row-bytes * n
+  pub numbers-length : length (t .numbers) ≡ n
+  pub order-length : length (t .order) ≡ n
+  pub answer-zero : w ≡ replicate n 0
+
+-- the site is cleared
+pub record Site-cleared (n : ℕ) (t : Tables) (w : List ℕ) : Type 0 where
+  pub some : 0 < n
+  pub few : n ≤ max-radios
+  pub is-cleared : t ≡ cleared n
+  pub answer-zero : w ≡ replicate n 0
+
 -- the tables that the closing lines print are those of a site
 pub record Site-sized (numbers order : List ℕ) : Type 0 where
   pub numbers-few : length numbers ≤ max-radios
@@ -90,9 +107,9 @@ pub record Reads-once (m n : ℕ) (p : Spot) (b : Buffer) (q : Spot) (c : Buffer
   pub few : length bytes ≤ chunk-room
   pub taken : Takes-read m n bytes p b q c
 
--- all reads from line 2 on, on a site of n radios with tables t and answer table w: the text of the bytes that they brought
-pub record Reads-all (n : ℕ) (t : Tables) (w : List ℕ) (b c : Buffer) : Type 0 where
+-- all reads after a first line that names n radios: the text of the bytes that they brought
+pub record Reads-all (n : ℕ) (b c : Buffer) : Type 0 where
   pub bytes : List ℕ
   pub text : List ℕ
-  pub prints : length bytes < most-reads → Lines-print n (lines-of bytes) 2 t w text
+  pub prints : length bytes < most-reads → Run-from n bytes text
   pub writes : Writes b text c

@@ -1,8 +1,9 @@
 // The replay program as a library: reads a descriptor to its end, plays its lines on a site of its own, and prints what each
 // line says to standard output. A line of another form ends the run with `bad L`. No public function has a `requires`.
-ghost use Prim.Native.Nat.{_≤_};
+ghost use Prim.Native.Nat.{_≤_, _<_};
 ghost use Rattle.mesh.specs.Limits.{max-radios};
-ghost use Rattle.player.specs.Reading.{Site-sized};
+ghost use Rattle.mesh.specs.Tables.{tables};
+ghost use Rattle.player.specs.Reading.{Site-lent};
 
 mod first;
 mod machine;
@@ -24,7 +25,7 @@ fn play_site(
     order: &mut [u16],
     answer: &mut [u16],
 )
-    requires { ⌜ Site-sized (now numbers) (now order) ⌝ }
+    requires { ⌜ Site-lent n (tables (now links) (now numbers) (now order)) (now answer) ⌝ }
 {
     tables::clear::clear(n, links, numbers, order);
     reading::read_all(fd, most, n, links, numbers, order, answer);
@@ -32,7 +33,8 @@ fn play_site(
 
 // Plays the lines after the first on a site of n radios, whose tables are parts of the largest ones.
 fn run_site(fd: i32, most: usize, n: u32)
-    requires { ⌜ n ≤ max-radios ⌝ }
+    requires some { ⌜ 0 < n ⌝ }
+    requires few { ⌜ n ≤ max-radios ⌝ }
 {
     let many = n as usize;
     let bytes = Site::ROW_BYTES * many;

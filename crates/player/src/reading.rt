@@ -8,7 +8,7 @@ ghost use Rattle.io.specs.Counts.{Counts};
 ghost use Rattle.mesh.specs.Tables.{tables};
 ghost use Rattle.printing.specs.Print.{lent};
 ghost use Rattle.player.specs.Machine.{spot, line-room, full};
-ghost use Rattle.player.specs.Reading.{chunk-room, out-room, room-made, Ready, Site-sized, Takes-chunk, Takes-read, Reads-once, Reads-all};
+ghost use Rattle.player.specs.Reading.{chunk-room, out-room, room-made, Ready, Site-cleared, Site-sized, Takes-chunk, Takes-read, Reads-once, Reads-all};
 use super::machine;
 use super::machine::Progress;
 use libc::STDOUT_FILENO;
@@ -168,9 +168,8 @@ fn read_turns(
 ) -> usize
     requires line { ⌜ length (now line) ≡ line-room ⌝ }
     requires out { ⌜ length (now out) ≡ out-room ⌝ }
-    requires sized { ⌜ Site-sized (now numbers) (now order) ⌝ }
-    ensures { λ r. ⌜ Reads-all n (tables (now (links .entry)) (now (numbers .entry)) (now (order .entry))) (now (answer .entry))
-        (lent (now (out .entry)) 0) (lent (now (out .exit)) r) ⌝ }
+    requires start { ⌜ Site-cleared n (tables (now links) (now numbers) (now order)) (now answer) ⌝ }
+    ensures { λ r. ⌜ Reads-all n (lent (now (out .entry)) 0) (lent (now (out .exit)) r) ⌝ }
 {
     let mut s = Progress {
         number: 2,
@@ -199,7 +198,7 @@ pub(crate) fn read_all(
     order: &mut [u16],
     answer: &mut [u16],
 )
-    requires { ⌜ Site-sized (now numbers) (now order) ⌝ }
+    requires { ⌜ Site-cleared n (tables (now links) (now numbers) (now order)) (now answer) ⌝ }
 {
     let mut line = [0u8; LINE_BYTES];
     let mut out = [0u8; OUT_BYTES];

@@ -8,7 +8,7 @@ use lib.ListN.{length}
 use Rattle.mesh.specs.Tables.{tables}
 use Rattle.printing.specs.Print.{lent}
 use Rattle.player.specs.Machine.{spot}
-use Rattle.player.proofs.ReadingLaws.{Read-to, read-none, read-more, read-end, sized-as, ready-turn}
+use Rattle.player.proofs.ReadingLaws.{Read-to, read-none, read-more, read-end, sized-as, sized-cleared, ready-turn}
 use Rattle.player.proofs.reading.read_turns.Statement.{statement}
 use Rattle.player.proofs.reading.read_turns.Tie as tie
 
@@ -35,7 +35,7 @@ turn-requires c κs =
     let inv = at-loop .loop .inv in
     let start = at-loop .before .before .before .before .before .before .before in
     let live = not-false (at-loop .loop .s .live) (goes-on .if1 .left) in
-    (live, (ready-turn _ _ _ (goes-on .before .before .loop-test .taken) (inv .6 .ready live), sized-as (inv .2) (inv .3) (start .pre .1 .1)))
+    (live, (ready-turn _ _ _ (goes-on .before .before .loop-test .taken) (inv .6 .ready live), sized-as (inv .2) (inv .3) (sized-cleared _ _ _ (start .pre .1 .1))))
 
 loop-again : tie.Need-loop-again Inv-loop μ-loop
 unfolding spot
@@ -57,12 +57,15 @@ loop-again c =
     )
 
 returns : tie.Need-returns Inv-loop μ-loop
-returns c = read-end _ _ _ _ _ _ _ _ (λ l. omega (arith, c .loop-test .left)) (c .before .loop .inv .6)
+returns c =
+    let start = c .before .before .before .before .before .before .before .before in
+    read-end _ _ _ _ _ _ _ _ (start .pre .1 .1) (λ l. omega (arith, c .loop-test .left)) (c .before .loop .inv .6)
 
 returns-2 : tie.Need-returns-2 Inv-loop μ-loop
 returns-2 c =
     let at-loop = c .before .before .before in
-    read-end _ _ _ _ _ _ _ _ (λ l. absurd (true≢false (sym l ∙ not-true (at-loop .loop .s .live) (c .if1 .taken)))) (at-loop .loop .inv .6)
+    let start = at-loop .before .before .before .before .before .before .before in
+    read-end _ _ _ _ _ _ _ _ (start .pre .1 .1) (λ l. absurd (true≢false (sym l ∙ not-true (at-loop .loop .s .live) (c .if1 .taken)))) (at-loop .loop .inv .6)
 
 pub read-turns-spec : {M : Type 1} → statement M
 read-turns-spec =
