@@ -25,7 +25,8 @@ use Rattle.printing.specs.Print.{Buffer, lent, put, Puts, max-place}
 use Rattle.printing.proofs.PrintLaws.{put-fits}
 use Rattle.player.specs.Lines.{Prints}
 use Rattle.player.specs.Machine.{Spot, spot, Takes, Takes-all, full, line-room, closing, ending}
-use Rattle.player.specs.Reading.{chunk-room, most-reads, waiting, Writes, room-made, Ready, Site-lent, Site-cleared, Site-sized, Takes-chunk, Ended, Takes-read, Reads-once, Reads-all}
+use Rattle.player.specs.Reading.{chunk-room, most-reads, waiting, Writes, room-made, Ready, Site-lent, Site-cleared}
+use Rattle.player.specs.Reading.{Site-sized, Takes-chunk, Ended, Takes-read, Reads-once, Reads-all}
 use Rattle.player.specs.Whole.{lines-of, Lines-print, cleared, Run-from}
 use Rattle.player.specs.declared.machine.Progress.{Progress}
 use Rattle.player.proofs.BytesLaws.{takes-more, takes-append}
