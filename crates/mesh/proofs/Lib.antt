@@ -24,6 +24,7 @@ pub mod NodeSets
 pub mod ShellNames
 pub mod TreeLaws
 pub mod TreeUnique
+pub mod ListedRadios
 -- tables
 pub mod DigitLaws
 pub mod TableLaws
@@ -49,5 +50,6 @@ pub mod ImageTables
 pub mod ImageCanonical
 -- what an accepted link call keeps and changes
 pub mod LinkLaws
+pub mod LinkTables
 -- the limits of the code
 pub mod SiteLimits

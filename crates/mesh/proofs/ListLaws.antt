@@ -9,7 +9,7 @@ use native.Mathlib.Omega.{arith}
 use native.Mathlib.Nat.{eq-or-lt-of-le, le-antisymm, le-trans}
 use lib.Dec.{ltb, leb, eqb}
 use lib.ListN.{length, getD, take, drop}
-use lib.Seq.{take-at}
+use lib.Seq.{take-at, drop-at}
 use borrow.Author.Tests.{eqb-true, eqb-false, eq-eqb, ne-eqb}
 use Rattle.mesh.specs.Lists.{range, count, filter, member, all, same, overwrite}
 use Rattle.mesh.proofs.BoolLaws.{bool-cases, never, bit-le, bit-one, bit-true, bit-false, and-left, and-right, and-both}
@@ -425,6 +425,10 @@ getD-map-range f i (suc k) (suc v) h = getD-map-range f (suc i) k v (omega arith
 
 -- ---- overwrite
 
-pub take-overwrite : (new old : List ℕ) → take (length new) (overwrite new old) ≡ new
+pub take-overwrite : {A : Type 0} (new old : List A) → take (length new) (overwrite new old) ≡ new
 unfolding overwrite
 take-overwrite new old = take-at new (drop (length new) old) (length new) refl
+
+pub drop-overwrite : {A : Type 0} (new old : List A) → drop (length new) (overwrite new old) ≡ drop (length new) old
+unfolding overwrite
+drop-overwrite new old = drop-at new (drop (length new) old) (length new) refl

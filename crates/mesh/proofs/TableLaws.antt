@@ -14,7 +14,7 @@ use borrow.Author.Tests.{eqb-true, eqb-false, eq-eqb, ne-eqb}
 use Rattle.mesh.specs.Limits.{max-radios, row-bytes}
 use Rattle.mesh.specs.Lists.{range, member}
 use Rattle.mesh.specs.Graph.{Graph, graph, radios, other-ends, linked}
-use Rattle.mesh.specs.Tables.{digit, byte-at, marked, put-digit, put-bit, put-link, from-digits, row-of, links-table}
+use Rattle.mesh.specs.Tables.{digit, byte-at, marked, put-digit, put-bit, put-link, from-digits, row-of, links-table, Entries-below}
 use Rattle.mesh.proofs.BoolLaws.{bool-cases}
 use Rattle.mesh.proofs.ListLaws.{length-range, length-map, getD-map-range}
 use Rattle.mesh.proofs.GraphLaws.{ends}
@@ -46,7 +46,7 @@ module _ (f : ℕ → List ℕ) (size : ℕ) (sizes : (v : ℕ) → length (f v)
 
 -- every entry is below 256
 abbrev pub Bytes : List ℕ → Type 0
-Bytes ts = (i : ℕ) → i < length ts → getD ts i 0 < 256
+Bytes ts = Entries-below 256 ts
 
 pub bytes-replicate : (k : ℕ) → Bytes (replicate k 0)
 bytes-replicate k i h = rw (getD-replicate {A = ℕ} k i 0 0 (omega (arith, length-replicate {A = ℕ} k 0))) (omega arith)

@@ -7,10 +7,11 @@
 --   same xs ys      are the two lists equal
 --   head-or d xs    the first entry of xs, or d where there is none
 --   overwrite xs ys the list ys with xs in front: its later entries keep their content
+--   Ascending xs    each entry of xs is below the next
 -- Laws are in proofs/ListLaws.antt. Definitions only.
 use mathlib.Core.Bool.{Bool, true, false, _&&_, _||_, cond}
 use mathlib.Core.List.{List, [], _∷_, _++_}
-use Prim.Native.Nat.{ℕ, zero, suc, _+_}
+use Prim.Native.Nat.{ℕ, zero, suc, _+_, _<_}
 use lib.Dec.{eqb}
 use lib.ListN.{length, drop}
 
@@ -46,3 +47,8 @@ head-or d (x ∷ xs) = x
 
 unfoldable pub overwrite : {A : Type 0} → (new old : List A) → List A
 overwrite new old = new ++ drop (length new) old
+
+abbrev pub Ascending : List ℕ → Type 0
+Ascending [] = Unit {0}
+Ascending (x ∷ []) = Unit {0}
+Ascending (x ∷ y ∷ ys) = (x < y) × Ascending (y ∷ ys)

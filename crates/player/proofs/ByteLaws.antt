@@ -15,9 +15,9 @@ use Rattle.printing.specs.Print.{Buffer, lent, put, Puts}
 use Rattle.script.specs.declared.lines.Line.{Line}
 use Rattle.script.specs.declared.lines.Line.the-variants.{Radios, Up, Down, Bad}
 use Rattle.player.specs.Lines.{is-call, Passed-over, Played, Prints}
-use Rattle.player.specs.Machine.{Spot, spot, next-number, Stop-put, Stopped, Held-on, Line-taken, Line-ends, Takes}
+use Rattle.player.specs.Machine.{Spot, spot, Stop-put, Stopped, Held-on, Line-taken, Line-ends, Takes}
 use Rattle.player.specs.declared.machine.Progress.{Progress}
-use Rattle.player.proofs.MachineLaws.{takes-long, takes-held, takes-line}
+use Rattle.player.proofs.MachineLaws.{takes-long, takes-held, takes-line, takes-none}
 
 -- ---- the line's bytes
 
@@ -28,7 +28,18 @@ length-held line k h = length-take k line ∙ omega arith
 held-more : (line : List ℕ) (k b : ℕ) → k < length line → take (k + 1) (set line k b) ≡ take k line ++ (b ∷ [])
 held-more line k b h = ap (λ (j : ℕ). take j (set line k b)) (add-one k) ∙ take-suc-set line k b h
 
--- ---- the four ways
+-- ---- the five ways
+
+-- after the end of the run
+pub byte-over : (n b : ℕ) (s : Progress) (t : Tables) (w line : List ℕ) {out : List ℕ} → s .live ≡ false
+    → Prints (λ text. Takes (length line) n b (spot t w line s) text (spot t w line s)) (lent out (s .at)) (lent out (s .at))
+unfolding spot put
+byte-over n b s t w line l =
+    record {
+      text = [];
+      holds = takes-none (length line) n b (spot t w line s) [] (spot t w line s) l (record { says = refl; same = refl });
+      puts = record { is = refl };
+    }
 
 pub byte-long : (n b : ℕ) (s r : Progress) (t : Tables) (w line : List ℕ) {out after : List ℕ} → s .live ≡ true → length line ≤ s .held
     → Stop-put s out r after
@@ -76,7 +87,7 @@ whole-line line k b h f = held-more line k b h ∙ ap (λ (x : ℕ). take k line
 pub byte-call : (n b : ℕ) (s r : Progress) (t v : Tables) (w x line : List ℕ) {out after : List ℕ} → s .live ≡ true → s .held < length line
     → b ≡ line-feed → is-call (line-of (take (s .held + 1) (set line (s .held) b))) ≡ true
     → Prints (λ text. Played n (line-of (take (s .held + 1) (set line (s .held) b))) t w text v x) (lent out (s .at)) (lent after (r .at))
-    → r .number ≡ next-number (s .number) → r .held ≡ 0 → r .live ≡ true
+    → r .number ≡ s .number + 1 → r .held ≡ 0 → r .live ≡ true
     → Prints (λ text. Takes (length line) n b (spot t w line s) text (spot v x (set line (s .held) b) r)) (lent out (s .at)) (lent after (r .at))
 unfolding spot Line-ends
 byte-call n b s r t v w x line l h f call played number held live =

@@ -25,7 +25,10 @@ fn play_up(
     out: &mut [u8],
     at: usize,
 ) -> usize
-    ensures { λ r. ⌜ Prints (λ text. Called true n a b (tables (now (links .entry)) (now (numbers .entry)) (now (order .entry))) (now (answer .entry)) text (tables (now (links .exit)) (now (numbers .exit)) (now (order .exit))) (now (answer .exit))) (lent (now (out .entry)) at) (lent (now (out .exit)) r) ⌝ }
+    ensures { λ r. ⌜ Prints (λ text. Called true n a b
+        (tables (now (links .entry)) (now (numbers .entry)) (now (order .entry))) (now (answer .entry)) text
+        (tables (now (links .exit)) (now (numbers .exit)) (now (order .exit))) (now (answer .exit)))
+        (lent (now (out .entry)) at) (lent (now (out .exit)) r) ⌝ }
 {
     let reply = links::link::link_up(n, a, b, links, numbers, order, answer);
     printing::put_link_line(out, at, reply.number, reply.step, answer, reply.count)
@@ -43,7 +46,10 @@ fn play_down(
     out: &mut [u8],
     at: usize,
 ) -> usize
-    ensures { λ r. ⌜ Prints (λ text. Called false n a b (tables (now (links .entry)) (now (numbers .entry)) (now (order .entry))) (now (answer .entry)) text (tables (now (links .exit)) (now (numbers .exit)) (now (order .exit))) (now (answer .exit))) (lent (now (out .entry)) at) (lent (now (out .exit)) r) ⌝ }
+    ensures { λ r. ⌜ Prints (λ text. Called false n a b
+        (tables (now (links .entry)) (now (numbers .entry)) (now (order .entry))) (now (answer .entry)) text
+        (tables (now (links .exit)) (now (numbers .exit)) (now (order .exit))) (now (answer .exit)))
+        (lent (now (out .entry)) at) (lent (now (out .exit)) r) ⌝ }
 {
     let reply = links::link::link_down(n, a, b, links, numbers, order, answer);
     printing::put_link_line(out, at, reply.number, reply.step, answer, reply.count)
@@ -61,7 +67,10 @@ pub fn play_line(
     at: usize,
 ) -> Done
     ensures call { λ r. ⌜ r .ok ≡ is-call (line-of (now (line .entry))) ⌝ }
-    ensures played { λ r. ⌜ Prints (λ text. Played n (line-of (now (line .entry))) (tables (now (links .entry)) (now (numbers .entry)) (now (order .entry))) (now (answer .entry)) text (tables (now (links .exit)) (now (numbers .exit)) (now (order .exit))) (now (answer .exit))) (lent (now (out .entry)) at) (lent (now (out .exit)) (r .at)) ⌝ }
+    ensures played { λ r. ⌜ Prints (λ text. Played n (line-of (now (line .entry)))
+        (tables (now (links .entry)) (now (numbers .entry)) (now (order .entry))) (now (answer .entry)) text
+        (tables (now (links .exit)) (now (numbers .exit)) (now (order .exit))) (now (answer .exit)))
+        (lent (now (out .entry)) at) (lent (now (out .exit)) (r .at)) ⌝ }
 {
     match script::lines::parse(line) {
         Line::Up(a, b) => {

@@ -13,6 +13,7 @@ use Rattle.mesh.specs.Cores.{number}
 use Rattle.mesh.specs.Tables.{tables, graph-in}
 use Rattle.mesh.specs.Connected.{greatest}
 use Rattle.mesh.specs.Tree.{root-name, root, node-name, parent-name, node-names}
+use Rattle.mesh.proofs.ListedRadios.{getD-le-greatest, greatest-le}
 use Rattle.mesh.proofs.TreeLaws.{number-le-n}
 use Rattle.mesh.proofs.ShellNames.{node-name-parent}
 use Rattle.soundness.specs.Checks.{fits-sound}
@@ -23,19 +24,6 @@ use Rattle.tree.proofs.ShellCover.{present-start}
 use Rattle.tree.proofs.NodeLists.{map-range-same, set-overwrite, nodes-before-start, nodes-before-tree}
 use Rattle.tree.proofs.GrowLaws.{lists-same}
 use Rattle.tree.proofs.LevelLoop.{fits-sound-site, Same-lengths}
-
--- ---- the greatest entry
-
-getD-le-greatest : (ns : List ℕ) (v : ℕ) → v < length ns → getD ns v 0 ≤ greatest ns
-unfolding greatest
-getD-le-greatest [] v l = absurd (omega arith)
-getD-le-greatest (x ∷ xs) zero l = omega arith
-getD-le-greatest (x ∷ xs) (suc v) l = omega (arith, getD-le-greatest xs v (omega arith))
-
-greatest-le : (ns : List ℕ) (m : ℕ) → ((v : ℕ) → v < length ns → getD ns v 0 ≤ m) → greatest ns ≤ m
-unfolding greatest
-greatest-le [] m h = omega arith
-greatest-le (x ∷ xs) m h = omega (arith, h 0 (omega arith), greatest-le xs m (λ v l. h (suc v) (omega arith)))
 
 -- ---- the root
 

@@ -1,104 +1,56 @@
--- `reading::take_chunk` meets its contract: every table keeps its length and the buffer has room; each turn takes a byte at least.
-use mathlib.Core.Path.{_≡_}
-use Prim.Native.Nat.{_-_, _<_}
+-- `reading::take_chunk` meets its contract: the bytes passed so far are taken, and the measure is what is left of the chunk.
+use mathlib.Core.Path.{_≡_, refl}
+use Prim.Native.Nat.{_-_}
 use native.Mathlib.Omega.{arith}
 use borrow.Author.Needs.{needs}
-use borrow.Author.Tests.{not-false}
 use lib.ListN.{length}
-use Rattle.player.specs.Machine.{full}
+use Rattle.mesh.specs.Tables.{tables}
+use Rattle.printing.specs.Print.{lent}
+use Rattle.player.specs.Machine.{spot}
+use Rattle.player.proofs.ReadingLaws.{Chunk-to, chunk-none, chunk-more, chunk-end}
 use Rattle.player.proofs.reading.take_chunk.Statement.{statement}
 use Rattle.player.proofs.reading.take_chunk.Tie as tie
-use Rattle.player.proofs.reading.take_chunk.Reads as reads
-use Rattle.player.proofs.reading.take_chunk.Lts as lts
-use Rattle.player.proofs.reading.take_part.Reads as take-part-reads
 
 abbrev Inv-loop : tie.InvT-loop
-Inv-loop chunk n line₀ links₀ numbers₀ order₀ answer₀ out₀ s₀ next₀ line links numbers order answer out s next =
+Inv-loop chunk n line₀ links₀ numbers₀ order₀ answer₀ out₀ s₀ i₀ line links numbers order answer out s i =
     (length line ≡ length line₀) × (length links ≡ length links₀) × (length numbers ≡ length numbers₀) × (length order ≡ length order₀)
-    × (length answer ≡ length answer₀) × (length out ≡ length out₀) × (s .at < full)
+    × (length answer ≡ length answer₀) × (length out ≡ length out₀)
+    × Chunk-to (length line₀) n chunk i (spot (tables links₀ numbers₀ order₀) answer₀ line₀ s₀) (lent out₀ (s₀ .at))
+    (spot (tables links numbers order) answer line s) s out
 
 abbrev μ-loop : tie.MeasureT-loop
-μ-loop chunk n line₀ links₀ numbers₀ order₀ answer₀ out₀ s₀ next₀ line links numbers order answer out s next =
-    length chunk - next
+μ-loop chunk n line₀ links₀ numbers₀ order₀ answer₀ out₀ s₀ i₀ line links numbers order answer out s i =
+    length chunk - i
 
--- src/reading.rt:87:5
 loop-holds : tie.Need-loop-holds Inv-loop μ-loop
-loop-holds c = search needs
+loop-holds c =
+    let start = c .before .before .before .before .before .before .before in
+    (refl, refl, refl, refl, refl, refl, chunk-none _ _ _ _ _ _ (start .pre))
 
--- src/reading.rt:91:13
-take-part-requires : tie.Need-take-part-requires Inv-loop μ-loop
-take-part-requires c κs = search needs
+take-byte-requires : tie.Need-take-byte-requires Inv-loop μ-loop
+take-byte-requires c κs =
+    let at-loop = c .before .before .before .before .before .before .before .before in
+    omega (arith, at-loop .loop .inv .6 .ready .number)
 
--- src/reading.rt:87:5
-loop-less : tie.Need-loop-less Inv-loop μ-loop
-loop-less c =
-    let taken = c .before .before .before .before .before .before .before .before .before .before .before .before .before in
-    let goes-on = taken .before .before .before .before .before .before .before in
-    let at-loop = goes-on .before .before .before in
-    let live = not-false (at-loop .loop .s .live) (goes-on .if1 .left) in
-    omega (arith, taken .take-part .ensures .1 live (goes-on .before .before .loop-test .taken))
-
--- src/reading.rt:87:5
 loop-again : tie.Need-loop-again Inv-loop μ-loop
 loop-again c =
-    let taken = c .before .before .before .before .before .before .before .before .before .before .before .before .before in
-    (search needs, search needs, search needs, search needs, search needs, search needs, taken .take-part .ensures .0)
+    let taken = c .before .before .before .before .before .before .before .before .before .before .before .before .before .before in
+    let in-loop = taken .before .before .before .before .before .before .before .before in
+    let inv = in-loop .before .loop .inv in (
+      search needs,
+      search needs,
+      search needs,
+      search needs,
+      search needs,
+      search needs,
+      chunk-more _ _ _ _ _ _ _ _ _ _ _ _ _ _ _ _ _ _ _ (in-loop .loop-test .taken) refl (inv .0) (search needs) (c .make-room .ensures)
+          (inv .6) (taken .take-byte .ensures),
+    )
 
--- src/reading.rt:71:1
-same-length : tie.Need-same-length Inv-loop μ-loop
-same-length c = search needs
-
--- src/reading.rt:71:1
-same-length-2 : tie.Need-same-length-2 Inv-loop μ-loop
-same-length-2 c = search needs
-
--- src/reading.rt:71:1
-same-length-3 : tie.Need-same-length-3 Inv-loop μ-loop
-same-length-3 c = search needs
-
--- src/reading.rt:71:1
-same-length-4 : tie.Need-same-length-4 Inv-loop μ-loop
-same-length-4 c = search needs
-
--- src/reading.rt:71:1
-same-length-5 : tie.Need-same-length-5 Inv-loop μ-loop
-same-length-5 c = search needs
-
--- src/reading.rt:71:1
-same-length-6 : tie.Need-same-length-6 Inv-loop μ-loop
-same-length-6 c = search needs
-
--- src/reading.rt:71:1
 returns : tie.Need-returns Inv-loop μ-loop
-returns c = search needs
-
--- src/reading.rt:71:1
-same-length-7 : tie.Need-same-length-7 Inv-loop μ-loop
-same-length-7 c = search needs
-
--- src/reading.rt:71:1
-same-length-8 : tie.Need-same-length-8 Inv-loop μ-loop
-same-length-8 c = search needs
-
--- src/reading.rt:71:1
-same-length-9 : tie.Need-same-length-9 Inv-loop μ-loop
-same-length-9 c = search needs
-
--- src/reading.rt:71:1
-same-length-10 : tie.Need-same-length-10 Inv-loop μ-loop
-same-length-10 c = search needs
-
--- src/reading.rt:71:1
-same-length-11 : tie.Need-same-length-11 Inv-loop μ-loop
-same-length-11 c = search needs
-
--- src/reading.rt:71:1
-same-length-12 : tie.Need-same-length-12 Inv-loop μ-loop
-same-length-12 c = search needs
-
--- src/reading.rt:71:1
-returns-2 : tie.Need-returns-2 Inv-loop μ-loop
-returns-2 c = search needs
+returns c =
+    let inv = c .before .loop .inv in
+    (inv .6 .ready .at, chunk-end _ _ _ _ _ _ _ _ _ (c .loop-test .left) (inv .6))
 
 pub take-chunk-spec : {M : Type 1} → statement M
 take-chunk-spec =
@@ -107,20 +59,16 @@ take-chunk-spec =
     Inv-loop
     μ-loop
     loop-holds
-    take-part-requires
-    loop-less
+    (λ c. search needs)
+    (λ c. search needs)
+    take-byte-requires
+    (λ c κs. search needs)
+    (λ c. search needs)
     loop-again
-    same-length
-    same-length-2
-    same-length-3
-    same-length-4
-    same-length-5
-    same-length-6
-    returns
-    same-length-7
-    same-length-8
-    same-length-9
-    same-length-10
-    same-length-11
-    same-length-12
-    returns-2)
+    (λ c. search needs)
+    (λ c. search needs)
+    (λ c. search needs)
+    (λ c. search needs)
+    (λ c. search needs)
+    (λ c. search needs)
+    returns)
