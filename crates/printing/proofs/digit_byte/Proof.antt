@@ -5,15 +5,9 @@ use borrow.Author.Needs.{needs}
 use Rattle.printing.proofs.digit_byte.Statement.{statement}
 use Rattle.printing.proofs.digit_byte.Tie as tie
 
-cast-result : tie.Need-cast-result
-cast-result c = search needs
-
-add-result : tie.Need-add-result
-add-result c = search needs
-
 returns : tie.Need-returns
 unfolding digit-byte
 returns c = refl
 
 pub digit-byte-spec : {M : Type 1} → statement M
-digit-byte-spec = tie.close (tie.spec cast-result add-result returns)
+digit-byte-spec = tie.close (tie.spec (λ c. search needs) (λ c. search needs) returns)

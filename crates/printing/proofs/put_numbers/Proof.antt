@@ -17,20 +17,11 @@ abbrev μ-loop : tie.MeasureT-loop
 loop-holds : tie.Need-loop-holds Inv-loop μ-loop
 loop-holds c = fields-none (c .before .before .args .numbers .now)
 
-shared-slice-read-wide8 : tie.Need-shared-slice-read-wide8 Inv-loop μ-loop
-shared-slice-read-wide8 c = omega arith
-
 wide8-requires : tie.Need-wide8-requires Inv-loop μ-loop
 wide8-requires c κs = tt
 
 put-field-requires : tie.Need-put-field-requires Inv-loop μ-loop
 put-field-requires c κs = tt
-
-add-i : tie.Need-add-i Inv-loop μ-loop
-add-i c = omega arith
-
-loop-less : tie.Need-loop-less Inv-loop μ-loop
-loop-less c = omega arith
 
 loop-again : tie.Need-loop-again Inv-loop μ-loop
 loop-again c =
@@ -49,17 +40,6 @@ returns c = fields-last (omega arith) (c .before .before .before .before .before
 
 pub put-numbers-spec : {M : Type 1} → statement M
 put-numbers-spec =
-    tie.close
-    (tie.spec
-    Inv-loop
-    μ-loop
-    loop-holds
-    shared-slice-read-wide8
-    wide8-requires
-    put-field-requires
-    add-i
-    loop-less
-    loop-again
-    put-byte-requires
-    same-length
-    returns)
+    tie.close (
+    tie.spec Inv-loop μ-loop loop-holds (λ c. omega arith) wide8-requires put-field-requires (λ c. omega arith) (λ c. omega arith)
+    loop-again put-byte-requires same-length returns)

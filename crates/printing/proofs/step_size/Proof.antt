@@ -19,9 +19,7 @@ returns c = size-minus-is (c .before .args .step) (c .before .fits .step) (c .if
 cast-result-3 : tie.Need-cast-result-3
 cast-result-3 c = size-plus (c .before .args .step) (c .before .fits .step) (c .if1 .left)
 
-returns-2 : tie.Need-returns-2
-returns-2 c = search needs
-
 pub step-size-spec : {M : Type 1} → statement M
 step-size-spec =
-    tie.close (tie.spec cast-result sub-result cast-result-2 returns cast-result-3 returns-2)
+    tie.close (
+    tie.spec cast-result sub-result cast-result-2 returns cast-result-3 (λ c. search needs))

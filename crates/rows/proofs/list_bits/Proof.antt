@@ -39,15 +39,6 @@ cast-list c = omega (arith, trailing-le 64 (c .before .before .loop .rest))
 cast-list-2 : tie.Need-cast-list-2 Inv-loop μ-loop
 cast-list-2 c = omega (arith, length-set-bits-le 64 (c .before .before .before .args .first) (c .before .before .before .args .word))
 
-mul-list : tie.Need-mul-list Inv-loop μ-loop
-mul-list c = search needs
-
-slice-write-list : tie.Need-slice-write-list Inv-loop μ-loop
-slice-write-list c = search needs
-
-sub-rest : tie.Need-sub-rest Inv-loop μ-loop
-sub-rest c = search needs
-
 add-n : tie.Need-add-n Inv-loop μ-loop
 add-n c = omega (arith, length-set-bits-le 64 (c .before .before .before .args .first) (c .before .before .before .args .word))
 
@@ -65,22 +56,6 @@ returns-2 c = partial-end _ _ _ (ap (set-bits 64 (c .before .before .args .first
 
 pub list-bits-spec : {M : Type 1} → statement M
 list-bits-spec =
-    tie.close
-    (tie.spec
-    Inv-loop
-    μ-loop
-    loop-holds
-    cast-if1
-    same-length
-    returns
-    add-list
-    cast-list
-    cast-list-2
-    mul-list
-    slice-write-list
-    sub-rest
-    add-n
-    loop-less
-    loop-again
-    same-length-2
-    returns-2)
+    tie.close (
+    tie.spec Inv-loop μ-loop loop-holds cast-if1 same-length returns add-list cast-list cast-list-2 (λ c. search needs)
+    (λ c. search needs) (λ c. search needs) add-n loop-less loop-again same-length-2 returns-2)

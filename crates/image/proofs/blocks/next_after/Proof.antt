@@ -4,32 +4,18 @@ use Rattle.image.specs.Reader.{next-number}
 use borrow.Author.Needs.{needs}
 use Rattle.image.proofs.blocks.next_after.Statement.{statement}
 use Rattle.image.proofs.blocks.next_after.Tie as tie
-use Rattle.image.proofs.blocks.next_after.Reads as reads
-use Rattle.image.proofs.blocks.next_after.Lts as lts
-use Rattle.image.proofs.checks.refusal.Reads as refusal-reads
 
--- src/blocks.rt:58:8
-refusal-requires : tie.Need-refusal-requires
-refusal-requires c κs = search needs
-
--- src/blocks.rt:59:9
 returns : tie.Need-returns
 unfolding next-number
 returns c = rw (← c .before .refusal .ensures, ne-eqb _ 0 (c .if1 .taken))
 
--- src/blocks.rt:62:9
 returns-2 : tie.Need-returns-2
 unfolding next-number
 returns-2 c = rw (← c .before .before .refusal .ensures, eq-eqb _ 0 (c .before .if1 .left), le-ltb _ _ (c .if2 .taken))
 
--- src/blocks.rt:64:5
-add-result : tie.Need-add-result
-add-result c = search needs
-
--- src/blocks.rt:55:1
 returns-3 : tie.Need-returns-3
 unfolding next-number
 returns-3 c = rw (← c .before .before .refusal .ensures, eq-eqb _ 0 (c .before .if1 .left), lt-ltb _ _ (c .if2 .left))
 
 pub next-after-spec : {M : Type 1} → statement M
-next-after-spec = tie.close (tie.spec refusal-requires returns returns-2 add-result returns-3)
+next-after-spec = tie.close (tie.spec (λ c κs. search needs) returns returns-2 (λ c. search needs) returns-3)

@@ -4,28 +4,18 @@ use Rattle.image.specs.Reader.{status-said}
 use borrow.Author.Needs.{needs}
 use Rattle.image.proofs.blocks.status.Statement.{statement}
 use Rattle.image.proofs.blocks.status.Tie as tie
-use Rattle.image.proofs.blocks.status.Reads as reads
-use Rattle.image.proofs.blocks.status.Lts as lts
-use Rattle.image.proofs.checks.refusal.Reads as refusal-reads
 
--- src/blocks.rt:44:9
-refusal-requires : tie.Need-refusal-requires
-refusal-requires c κs = search needs
-
--- src/blocks.rt:46:9
 returns : tie.Need-returns
 unfolding status-said
 returns c = rw (← c .before .refusal .ensures, ne-eqb _ 0 (c .if1 .taken))
 
--- src/blocks.rt:49:9
 returns-2 : tie.Need-returns-2
 unfolding status-said
 returns-2 c = rw (← c .before .before .refusal .ensures, eq-eqb _ 0 (c .before .if1 .left), le-ltb _ _ (c .if2 .taken))
 
--- src/blocks.rt:41:1
 returns-3 : tie.Need-returns-3
 unfolding status-said
 returns-3 c = rw (← c .before .before .refusal .ensures, eq-eqb _ 0 (c .before .if1 .left), lt-ltb _ _ (c .if2 .left))
 
 pub status-spec : {M : Type 1} → statement M
-status-spec = tie.close (tie.spec refusal-requires returns returns-2 returns-3)
+status-spec = tie.close (tie.spec (λ c κs. search needs) returns returns-2 returns-3)

@@ -4,22 +4,14 @@ use Rattle.mesh.specs.Image.{blocks-for}
 use borrow.Author.Needs.{needs}
 use Rattle.image.proofs.form.link_blocks.Statement.{statement}
 use Rattle.image.proofs.form.link_blocks.Tie as tie
-use Rattle.image.proofs.form.link_blocks.Reads as reads
-use Rattle.image.proofs.form.link_blocks.Lts as lts
 
--- src/form.rt:82:9
 returns : tie.Need-returns
 unfolding blocks-for
 returns c = omega arith
 
--- src/form.rt:84:5
-add-result : tie.Need-add-result
-add-result c = search needs
-
--- src/form.rt:78:1
 returns-2 : tie.Need-returns-2
 unfolding blocks-for
 returns-2 c = omega arith
 
 pub link-blocks-spec : {M : Type 1} → statement M
-link-blocks-spec = tie.close (tie.spec returns add-result returns-2)
+link-blocks-spec = tie.close (tie.spec returns (λ c. search needs) returns-2)

@@ -6,22 +6,7 @@ use Rattle.image_reader.proofs.KOrderLaws.{placed-once, not-placed, k-o
 use borrow.Author.Needs.{needs}
 use Rattle.image_reader.proofs.numbers.is_k_order.Statement.{statement}
 use Rattle.image_reader.proofs.numbers.is_k_order.Tie as tie
-use Rattle.image_reader.proofs.numbers.is_k_order.Reads as reads
-use Rattle.image_reader.proofs.numbers.is_k_order.Lts as lts
-use Rattle.image_reader.proofs.numbers.each_at_most.Reads as each-at-most-reads
-use Rattle.image_reader.proofs.numbers.run_maxima.Reads as run-maxima-reads
-use Rattle.image_reader.proofs.pairs.tally.Reads as tally-reads
-use Rattle.soundness.proofs.places_of.Reads as places-of-reads
 
--- src/numbers.rt:81:9
-places-of-requires : tie.Need-places-of-requires
-places-of-requires c κs = search needs
-
--- src/numbers.rt:82:9
-same-length : tie.Need-same-length
-same-length c = search needs
-
--- src/numbers.rt:82:9
 returns : tie.Need-returns
 returns c =
     let placed = c .before .before .before in
@@ -29,11 +14,6 @@ returns c =
     not-placed _ _ (start .pre .0 .is-proper) (start .pre .1 .0) _ _ _ _ (start .pre .0 .most) (start .pre .1 .1) (start .pre .0 .ranked) (placed .places-of .ensures)
     (not-true (placed .places-of .result) (c .if1 .taken))
 
--- src/numbers.rt:84:5
-tally-requires : tie.Need-tally-requires
-tally-requires c κs = search needs
-
--- src/numbers.rt:85:5
 run-maxima-requires : tie.Need-run-maxima-requires
 run-maxima-requires c κs =
     let tallied = c .before .before .before .before in
@@ -49,23 +29,6 @@ run-maxima-requires c κs =
       omega (arith, placed .places-of .kept .1 .0),
     )
 
--- src/numbers.rt:86:5
-tally-requires-2 : tie.Need-tally-requires-2
-tally-requires-2 c κs = search needs
-
--- src/numbers.rt:87:5
-each-at-most-requires : tie.Need-each-at-most-requires
-each-at-most-requires c κs = search needs
-
--- src/numbers.rt:68:1
-same-length-2 : tie.Need-same-length-2
-same-length-2 c = search needs
-
--- src/numbers.rt:68:1
-same-length-3 : tie.Need-same-length-3
-same-length-3 c = search needs
-
--- src/numbers.rt:68:1
 returns-2 : tie.Need-returns-2
 returns-2 c =
     let tallied2 = c .before .before .before .before .before in
@@ -80,15 +43,6 @@ returns-2 c =
 
 pub is-k-order-spec : {M : Type 1} → statement M
 is-k-order-spec =
-    tie.close
-    (tie.spec
-    places-of-requires
-    same-length
-    returns
-    tally-requires
-    run-maxima-requires
-    tally-requires-2
-    each-at-most-requires
-    same-length-2
-    same-length-3
-    returns-2)
+    tie.close (
+    tie.spec (λ c κs. search needs) (λ c. search needs) returns (λ c κs. search needs) run-maxima-requires (λ c κs. search needs)
+    (λ c κs. search needs) (λ c. search needs) (λ c. search needs) returns-2)

@@ -7,9 +7,6 @@ use Rattle.image_reader.proofs.MaximaLaws.{Running, running-none, runni
 use borrow.Author.Needs.{needs}
 use Rattle.image_reader.proofs.numbers.run_maxima.Statement.{statement}
 use Rattle.image_reader.proofs.numbers.run_maxima.Tie as tie
-use Rattle.image_reader.proofs.numbers.run_maxima.Reads as reads
-use Rattle.image_reader.proofs.numbers.run_maxima.Lts as lts
-use Rattle.image_reader.proofs.numbers.larger.Reads as larger-reads
 
 abbrev Inv-loop : tie.InvT-loop
 Inv-loop order counts ranks₀ top₀ i₀ ranks top i = Running (λ (v : ℕ). getD counts v 0) order ranks₀ ranks top i
@@ -17,88 +14,44 @@ Inv-loop order counts ranks₀ top₀ i₀ ranks top i = Running (λ (v : ℕ). 
 abbrev μ-loop : tie.MeasureT-loop
 μ-loop order counts ranks₀ top₀ i₀ ranks top i = length order - i
 
--- src/numbers.rt:58:5
 loop-holds : tie.Need-loop-holds Inv-loop μ-loop
 loop-holds c = running-none _ _ _
 
--- src/numbers.rt:59:17
-mul-v : tie.Need-mul-v Inv-loop μ-loop
-mul-v c = search needs
-
--- src/numbers.rt:59:17
-shared-slice-read-v : tie.Need-shared-slice-read-v Inv-loop μ-loop
-shared-slice-read-v c = search needs
-
--- src/numbers.rt:59:17
 cast-v : tie.Need-cast-v Inv-loop μ-loop
 cast-v c = omega (arith, c .shared-slice-known3 .given (c .before .before .loop .i))
 
--- src/numbers.rt:60:27
 mul-larger : tie.Need-mul-larger Inv-loop μ-loop
 mul-larger c = omega (arith, c .shared-slice-known3 .given (c .before .before .loop .i))
 
--- src/numbers.rt:60:27
 shared-slice-read-larger : tie.Need-shared-slice-read-larger Inv-loop μ-loop
 shared-slice-read-larger c =
     let in-loop = c .before .before in
     let start = in-loop .before .before .before .before .before in
     entry-room (start .args .order .now) (start .pre .0) _ (in-loop .loop-test .taken) _ _ (start .pre .1) refl
 
--- src/numbers.rt:60:9
-larger-requires : tie.Need-larger-requires Inv-loop μ-loop
-larger-requires c κs = search needs
-
--- src/numbers.rt:61:9
 mul-ranks : tie.Need-mul-ranks Inv-loop μ-loop
 mul-ranks c = omega (arith, c .before .before .shared-slice-known3 .given (c .before .before .before .before .loop .i))
 
--- src/numbers.rt:61:9
 slice-write-ranks : tie.Need-slice-write-ranks Inv-loop μ-loop
 slice-write-ranks c =
     let in-loop = c .before .before .before in
     let start = in-loop .before .before .before .before .before in
     entry-room (start .args .order .now) (start .pre .0) _ (in-loop .loop-test .taken) _ _ (start .pre .2) (in-loop .before .loop .inv .long)
 
--- src/numbers.rt:62:9
-add-i : tie.Need-add-i Inv-loop μ-loop
-add-i c = search needs
-
--- src/numbers.rt:58:5
-loop-less : tie.Need-loop-less Inv-loop μ-loop
-loop-less c = search needs
-
--- src/numbers.rt:58:5
 loop-again : tie.Need-loop-again Inv-loop μ-loop
 loop-again c =
     let in-loop = c .before .before .before in
     let start = in-loop .before .before .before .before .before in
     running-turn (in-loop .before .loop .inv) (start .pre .0) (omega arith) (start .pre .2) _ (c .larger .ensures)
 
--- src/numbers.rt:52:1
 same-length : tie.Need-same-length Inv-loop μ-loop
 same-length c = c .before .loop .inv .long
 
--- src/numbers.rt:52:1
 returns : tie.Need-returns Inv-loop μ-loop
 returns c = running-end _ _ _ _ _ _ (c .before .loop .inv) (omega arith)
 
 pub run-maxima-spec : {M : Type 1} → statement M
 run-maxima-spec =
-    tie.close
-    (tie.spec
-    Inv-loop
-    μ-loop
-    loop-holds
-    mul-v
-    shared-slice-read-v
-    cast-v
-    mul-larger
-    shared-slice-read-larger
-    larger-requires
-    mul-ranks
-    slice-write-ranks
-    add-i
-    loop-less
-    loop-again
-    same-length
-    returns)
+    tie.close (
+    tie.spec Inv-loop μ-loop loop-holds (λ c. search needs) (λ c. search needs) cast-v mul-larger shared-slice-read-larger
+    (λ c κs. search needs) mul-ranks slice-write-ranks (λ c. search needs) (λ c. search needs) loop-again same-length returns)

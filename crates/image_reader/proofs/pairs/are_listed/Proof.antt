@@ -8,10 +8,6 @@ use Rattle.image_reader.proofs.PairLaws.{Listed, listed-none, listed-tu
 use borrow.Author.Needs.{needs}
 use Rattle.image_reader.proofs.pairs.are_listed.Statement.{statement}
 use Rattle.image_reader.proofs.pairs.are_listed.Tie as tie
-use Rattle.image_reader.proofs.pairs.are_listed.Reads as reads
-use Rattle.image_reader.proofs.pairs.are_listed.Lts as lts
-use Rattle.image_reader.proofs.pairs.is_before.Reads as is-before-reads
-use Rattle.image_reader.proofs.pairs.pair_at.Reads as pair-at-reads
 
 abbrev Inv-loop : tie.InvT-loop
 Inv-loop image n m low₀ high₀ j₀ low high j = Listed n m image low high j
@@ -19,71 +15,38 @@ Inv-loop image n m low₀ high₀ j₀ low high j = Listed n m image low high j
 abbrev μ-loop : tie.MeasureT-loop
 μ-loop image n m low₀ high₀ j₀ low high j = m - j
 
--- src/pairs.rt:51:5
 loop-holds : tie.Need-loop-holds Inv-loop μ-loop
 loop-holds c = listed-none _ _ _
 
--- src/pairs.rt:52:13
-pair-at-requires : tie.Need-pair-at-requires Inv-loop μ-loop
-pair-at-requires c κs = search needs
-
--- src/pairs.rt:56:13
 returns : tie.Need-returns Inv-loop μ-loop
 returns c =
     let read = c .before in
     let at-loop = read .before .before in
     sym (listed-not-lower _ _ _ _ _ _ (at-loop .loop .inv) (omega arith) _ _ (read .pair-at .ensures) (c .if1 .taken))
 
--- src/pairs.rt:59:13
 returns-2 : tie.Need-returns-2 Inv-loop μ-loop
 returns-2 c =
     let read = c .before .before in
     let at-loop = read .before .before in
     sym (listed-no-radio _ _ _ _ _ _ (at-loop .loop .inv) (omega arith) _ _ (read .pair-at .ensures) (c .before .if1 .left) (c .if2 .taken))
 
--- src/pairs.rt:61:13
-is-before-requires : tie.Need-is-before-requires Inv-loop μ-loop
-is-before-requires c κs = search needs
-
--- src/pairs.rt:62:13
 returns-3 : tie.Need-returns-3 Inv-loop μ-loop
 returns-3 c =
     let read = c .before .before .before .before in
     let at-loop = read .before .before in
     sym (listed-not-after _ _ _ _ _ _ (at-loop .loop .inv) (omega arith) _ _ (read .pair-at .ensures) (c .before .before .before .if1 .left) (c .before .before .if2 .left) (sym (c .before .is-before .ensures) ∙ not-true (c .before .is-before .result) (c .if3 .taken)))
 
--- src/pairs.rt:66:9
-add-j : tie.Need-add-j Inv-loop μ-loop
-add-j c = search needs
-
--- src/pairs.rt:51:5
-loop-less : tie.Need-loop-less Inv-loop μ-loop
-loop-less c = search needs
-
--- src/pairs.rt:51:5
 loop-again : tie.Need-loop-again Inv-loop μ-loop
 loop-again c =
     let read = c .before .before .before .before in
     let at-loop = read .before .before in
     listed-turn _ _ _ _ _ _ (at-loop .loop .inv) (omega arith) _ _ (read .pair-at .ensures) (c .before .before .before .if1 .left) (c .before .before .if2 .left) (sym (c .before .is-before .ensures) ∙ not-false (c .before .is-before .result) (c .if3 .left))
 
--- src/pairs.rt:44:1
 returns-4 : tie.Need-returns-4 Inv-loop μ-loop
 returns-4 c = sym (listed-end _ _ _ _ _ _ (c .before .loop .inv) (omega arith))
 
 pub are-listed-spec : {M : Type 1} → statement M
 are-listed-spec =
-    tie.close
-    (tie.spec
-    Inv-loop
-    μ-loop
-    loop-holds
-    pair-at-requires
-    returns
-    returns-2
-    is-before-requires
-    returns-3
-    add-j
-    loop-less
-    loop-again
-    returns-4)
+    tie.close (
+    tie.spec Inv-loop μ-loop loop-holds (λ c κs. search needs) returns returns-2 (λ c κs. search needs) returns-3
+    (λ c. search needs) (λ c. search needs) loop-again returns-4)

@@ -6,20 +6,15 @@ use Rattle.mesh.specs.Graph.{link-before}
 use borrow.Author.Needs.{needs}
 use Rattle.image_reader.proofs.pairs.is_before.Statement.{statement}
 use Rattle.image_reader.proofs.pairs.is_before.Tie as tie
-use Rattle.image_reader.proofs.pairs.is_before.Reads as reads
-use Rattle.image_reader.proofs.pairs.is_before.Lts as lts
 
--- src/pairs.rt:35:9
 returns : tie.Need-returns
 unfolding link-before
 returns c = rw (lt-ltb _ _ (c .if1 .taken))
 
--- src/pairs.rt:38:9
 returns-2 : tie.Need-returns-2
 unfolding link-before
 returns-2 c = rw (le-ltb _ _ (c .before .if1 .left), ne-eqb _ _ (c .if2 .taken))
 
--- src/pairs.rt:31:1
 returns-3 : tie.Need-returns-3
 unfolding link-before
 returns-3 c = rw (le-ltb _ _ (c .before .if1 .left), eq-eqb _ _ (c .if2 .left))

@@ -11,12 +11,6 @@ use Rattle.image_reader.specs.Pairs.{links-up-to}
 use Rattle.image_reader.proofs.TallyLaws.{Tallying, tallying-none, tallying-end, tallying-two, proper-pair, once-fits, one-fits}
 use Rattle.image_reader.proofs.pairs.tally.Statement.{statement}
 use Rattle.image_reader.proofs.pairs.tally.Tie as tie
-use Rattle.image_reader.proofs.pairs.tally.Reads as reads
-use Rattle.image_reader.proofs.pairs.tally.Lts as lts
-use Rattle.image_reader.proofs.pairs.bump.Reads as bump-reads
-use Rattle.image_reader.proofs.pairs.is_below.Reads as is-below-reads
-use Rattle.image_reader.proofs.pairs.pair_at.Reads as pair-at-reads
-use Rattle.tables.proofs.fill.fill16.Reads as fill16-reads
 
 abbrev Inv-loop : tie.InvT-loop
 Inv-loop image n m ranks slack counts₀ j₀ counts j = (j ≤ m) × (n ≤ length counts₀) × Tallying n ranks slack image counts₀ counts j
@@ -24,11 +18,6 @@ Inv-loop image n m ranks slack counts₀ j₀ counts j = (j ≤ m) × (n ≤ len
 abbrev μ-loop : tie.MeasureT-loop
 μ-loop image n m ranks slack counts₀ j₀ counts j = m - j
 
--- src/pairs.rt:103:5
-fill16-requires : tie.Need-fill16-requires Inv-loop μ-loop
-fill16-requires c κs = search needs
-
--- src/pairs.rt:105:5
 loop-holds : tie.Need-loop-holds Inv-loop μ-loop
 loop-holds c =
     let filled = c .before .before in
@@ -39,11 +28,6 @@ loop-holds c =
       tallying-none _ _ _ _ _ _ (omega (arith, start .pre .3)) (filled .fill16 .ensures ∙ ap (λ (k : ℕ). replicate {A = ℕ} k 0) (sym long)),
     )
 
--- src/pairs.rt:106:13
-pair-at-requires : tie.Need-pair-at-requires Inv-loop μ-loop
-pair-at-requires c κs = search needs
-
--- src/pairs.rt:109:25
 is-below-requires : tie.Need-is-below-requires Inv-loop μ-loop
 is-below-requires c κs =
     let read = c .before in
@@ -52,7 +36,6 @@ is-below-requires c κs =
     let good = proper-pair _ _ _ _ _ _ (start .pre .4) (read .before .loop-test .taken) (read .pair-at .ensures) in
     (omega (arith, start .pre .2), omega (arith, start .pre .2))
 
--- src/pairs.rt:109:9
 bump-requires : tie.Need-bump-requires Inv-loop μ-loop
 bump-requires c κs =
     let read = c .before .before in
@@ -63,7 +46,6 @@ bump-requires c κs =
       once-fits _ _ _ _ _ _ _ (at-loop .loop .inv .2) _ _ (read .pair-at .ensures) (good .0) (good .1) (at-loop .loop .inv .1) (omega arith),
     )
 
--- src/pairs.rt:110:25
 is-below-requires-2 : tie.Need-is-below-requires-2 Inv-loop μ-loop
 is-below-requires-2 c κs =
     let read = c .before .before .before .before .before .before in
@@ -72,7 +54,6 @@ is-below-requires-2 c κs =
     let good = proper-pair _ _ _ _ _ _ (start .pre .4) (read .before .loop-test .taken) (read .pair-at .ensures) in
     (omega (arith, start .pre .2), omega (arith, start .pre .2))
 
--- src/pairs.rt:110:9
 bump-requires-2 : tie.Need-bump-requires-2 Inv-loop μ-loop
 bump-requires-2 c κs =
     let once = c .before .before .before .before in
@@ -85,15 +66,6 @@ bump-requires-2 c κs =
           _ (c .is-below2 .result) _ (once .bump .last .0) (once .before .is-below .ensures) (c .is-below2 .ensures) (once .bump .ensures) (omega arith),
     )
 
--- src/pairs.rt:111:9
-add-j : tie.Need-add-j Inv-loop μ-loop
-add-j c = search needs
-
--- src/pairs.rt:105:5
-loop-less : tie.Need-loop-less Inv-loop μ-loop
-loop-less c = search needs
-
--- src/pairs.rt:105:5
 loop-again : tie.Need-loop-again Inv-loop μ-loop
 loop-again c =
     let twice = c .before .before in
@@ -109,29 +81,14 @@ loop-again c =
           _ (below2 .is-below2 .result) _ (twice .bump2 .last .0) (once .before .is-below .ensures) (below2 .is-below2 .ensures) (once .bump .ensures) (twice .bump2 .ensures),
     )
 
--- src/pairs.rt:99:1
 same-length : tie.Need-same-length Inv-loop μ-loop
 same-length c = c .before .loop .inv .2 .long ∙ c .before .before .before .before .fill16 .kept .0
 
--- src/pairs.rt:99:1
 returns : tie.Need-returns Inv-loop μ-loop
 returns c = tallying-end _ _ _ _ _ _ _ _ (c .before .loop .inv .2) (c .before .loop .inv .0) (omega arith)
 
 pub tally-spec : {M : Type 1} → statement M
 tally-spec =
-    tie.close
-    (tie.spec
-    Inv-loop
-    μ-loop
-    fill16-requires
-    loop-holds
-    pair-at-requires
-    is-below-requires
-    bump-requires
-    is-below-requires-2
-    bump-requires-2
-    add-j
-    loop-less
-    loop-again
-    same-length
-    returns)
+    tie.close (
+    tie.spec Inv-loop μ-loop (λ c κs. search needs) loop-holds (λ c κs. search needs) is-below-requires bump-requires
+    is-below-requires-2 bump-requires-2 (λ c. search needs) (λ c. search needs) loop-again same-length returns)

@@ -8,20 +8,7 @@ use Rattle.image_reader.proofs.SiteLaws.{not-formed, not-listed, not-fe
 use borrow.Author.Needs.{needs}
 use Rattle.image_reader.proofs.reader.is_site.Statement.{statement}
 use Rattle.image_reader.proofs.reader.is_site.Tie as tie
-use Rattle.image_reader.proofs.reader.is_site.Reads as reads
-use Rattle.image_reader.proofs.reader.is_site.Lts as lts
-use Rattle.image.proofs.form.is_formed.Reads as is-formed-reads
-use Rattle.image.proofs.form.word_at.Reads as word-at-reads
-use Rattle.image_reader.proofs.numbers.are_few.Reads as are-few-reads
-use Rattle.image_reader.proofs.numbers.is_k_order.Reads as is-k-order-reads
-use Rattle.image_reader.proofs.pairs.are_listed.Reads as are-listed-reads
-use Rattle.image_reader.proofs.pairs.read_order.Reads as read-order-reads
 
--- src/reader.rt:26:9
-is-formed-requires : tie.Need-is-formed-requires
-is-formed-requires c κs = search needs
-
--- src/reader.rt:27:9
 returns : tie.Need-returns
 returns c =
     let formed = c .before in
@@ -31,15 +18,6 @@ returns c =
     let bytes : Bytes (start .args .image .now) = λ j l. known .shared-slice-known .given j .fits in
     not-formed _ _ (room .most) bytes (room .checked) _ _ _ (formed .is-formed .ensures) (not-true (formed .is-formed .result) (c .if1 .taken))
 
--- src/reader.rt:29:9
-word-at-requires : tie.Need-word-at-requires
-word-at-requires c κs = search needs
-
--- src/reader.rt:30:9
-are-listed-requires : tie.Need-are-listed-requires
-are-listed-requires c κs = search needs
-
--- src/reader.rt:31:9
 returns-2 : tie.Need-returns-2
 returns-2 c =
     let listed = c .before in
@@ -52,7 +30,6 @@ returns-2 c =
     let counted = word .word-at .ensures .0 in
     not-listed _ _ (room .most) bytes (room .checked) _ counted _ _ _ (listed .are-listed .ensures) (not-true (listed .are-listed .result) (c .if2 .taken))
 
--- src/reader.rt:33:9
 are-few-requires : tie.Need-are-few-requires
 are-few-requires c κs =
     let else2 = c .before .before in
@@ -67,15 +44,6 @@ are-few-requires c κs =
     tally-room _ _ (room .most) bytes (room .checked) _ counted _ (listed .are-listed .ensures) (not-false (listed .are-listed .result) (else2 .if2 .left))
     _ _ (room .ranks-long) (room .counts-long) (word .word-at .ensures .1)
 
--- src/reader.rt:34:9
-same-length : tie.Need-same-length
-same-length c = search needs
-
--- src/reader.rt:34:9
-same-length-2 : tie.Need-same-length-2
-same-length-2 c = search needs
-
--- src/reader.rt:34:9
 returns-3 : tie.Need-returns-3
 returns-3 c =
     let few = c .before .before .before .before .before in
@@ -91,11 +59,6 @@ returns-3 c =
     not-few _ _ (room .most) bytes (room .checked) _ counted _ (listed .are-listed .ensures) (not-false (listed .are-listed .result) (else2 .if2 .left))
     _ _ _ (few .are-few .ensures) (not-true (few .are-few .result) (c .if3 .taken))
 
--- src/reader.rt:36:5
-read-order-requires : tie.Need-read-order-requires
-read-order-requires c κs = search needs
-
--- src/reader.rt:37:5
 is-k-order-requires : tie.Need-is-k-order-requires
 is-k-order-requires c κs =
     let read = c .before .before .before .before .before in
@@ -115,19 +78,6 @@ is-k-order-requires c κs =
       (is-ascending _ _ (room .most) bytes (room .checked) _ counted _ (listed .are-listed .ensures) good, read .read-order .kept .1 .0 ∙ room .listed-long),
     )
 
--- src/reader.rt:22:1
-same-length-3 : tie.Need-same-length-3
-same-length-3 c = search needs
-
--- src/reader.rt:22:1
-same-length-4 : tie.Need-same-length-4
-same-length-4 c = search needs
-
--- src/reader.rt:22:1
-same-length-5 : tie.Need-same-length-5
-same-length-5 c = search needs
-
--- src/reader.rt:22:1
 returns-4 : tie.Need-returns-4
 returns-4 c =
     let ordered = c .before .before .before .before in
@@ -150,20 +100,7 @@ returns-4 c =
 
 pub is-site-spec : {M : Type 1} → statement M
 is-site-spec =
-    tie.close
-    (tie.spec
-    is-formed-requires
-    returns
-    word-at-requires
-    are-listed-requires
-    returns-2
-    are-few-requires
-    same-length
-    same-length-2
-    returns-3
-    read-order-requires
-    is-k-order-requires
-    same-length-3
-    same-length-4
-    same-length-5
-    returns-4)
+    tie.close (
+    tie.spec (λ c κs. search needs) returns (λ c κs. search needs) (λ c κs. search needs) returns-2 are-few-requires
+    (λ c. search needs) (λ c. search needs) returns-3 (λ c κs. search needs) is-k-order-requires (λ c. search needs)
+    (λ c. search needs) (λ c. search needs) returns-4)

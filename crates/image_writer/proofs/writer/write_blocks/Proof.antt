@@ -15,9 +15,6 @@ use Rattle.image_writer.specs.Links.{marked-graph, Cursor-at}
 use Rattle.image_writer.proofs.BlockFilling.{Filling, filling-none, filling-turn, filling-end, cursor-first}
 use Rattle.image_writer.proofs.writer.write_blocks.Statement.{statement}
 use Rattle.image_writer.proofs.writer.write_blocks.Tie as tie
-use Rattle.image_writer.proofs.writer.write_blocks.Reads as reads
-use Rattle.image_writer.proofs.writer.write_blocks.Lts as lts
-use Rattle.image_writer.proofs.writer.fill_block.Reads as fill-block-reads
 
 abbrev Inv-loop : tie.InvT-loop
 Inv-loop blocks n count links order buffer₀ list₀ from₀ i₀ buffer list from i =
@@ -27,37 +24,29 @@ Inv-loop blocks n count links order buffer₀ list₀ from₀ i₀ buffer list f
 abbrev μ-loop : tie.MeasureT-loop
 μ-loop blocks n count links order buffer₀ list₀ from₀ i₀ buffer list from i = blocks - i
 
--- src/writer.rt:252:5
 loop-holds : tie.Need-loop-holds Inv-loop μ-loop
 loop-holds c =
     let start = c .before .before .before .before in
     (omega arith, start .pre .1 .room, cursor-first _ _, filling-none _ _)
 
--- src/writer.rt:253:34
 cast-at : tie.Need-cast-at Inv-loop μ-loop
 cast-at c = omega (arith, c .before .loop .inv .3 .long)
 
--- src/writer.rt:253:18
 mul-at : tie.Need-mul-at Inv-loop μ-loop
 mul-at c = omega (arith, c .before .loop .inv .3 .long)
 
--- src/writer.rt:254:19
 add-end : tie.Need-add-end Inv-loop μ-loop
 add-end c = omega (arith, c .before .loop .inv .3 .long)
 
--- src/writer.rt:256:13
 sub-fill-block : tie.Need-sub-fill-block Inv-loop μ-loop
 sub-fill-block c = omega (arith, c .before .loop .inv .3 .long)
 
--- src/writer.rt:256:13
 part-fill-block-start : tie.Need-part-fill-block-start Inv-loop μ-loop
 part-fill-block-start c = omega (arith, c .before .loop .inv .3 .long)
 
--- src/writer.rt:256:13
 part-fill-block-end : tie.Need-part-fill-block-end Inv-loop μ-loop
 part-fill-block-end c = omega (arith, c .before .loop .inv .3 .long)
 
--- src/writer.rt:255:9
 fill-block-requires : tie.Need-fill-block-requires Inv-loop μ-loop
 fill-block-requires c κs =
     let at-loop = c .before .before .before in
@@ -70,15 +59,6 @@ fill-block-requires c κs =
       at-loop .loop .inv .2,
     )
 
--- src/writer.rt:265:9
-add-i : tie.Need-add-i Inv-loop μ-loop
-add-i c = search needs
-
--- src/writer.rt:252:5
-loop-less : tie.Need-loop-less Inv-loop μ-loop
-loop-less c = search needs
-
--- src/writer.rt:252:5
 loop-again : tie.Need-loop-again Inv-loop μ-loop
 loop-again c =
     let filled = c .before .before .before .before in
@@ -93,35 +73,17 @@ loop-again c =
           (omega arith) (same-len-mid (512 * i) (512 * i + 512 - 512 * i) (at-loop .loop .buffer) (filled .fill-block .last .0) (filled .fill-block .kept .0)) (filled .fill-block .ensures .is),
     )
 
--- src/writer.rt:238:1
 same-length : tie.Need-same-length Inv-loop μ-loop
 same-length c = c .before .loop .inv .3 .long
 
--- src/writer.rt:238:1
 same-length-2 : tie.Need-same-length-2 Inv-loop μ-loop
 same-length-2 c = c .before .loop .inv .1 ∙ sym (c .before .before .before .before .before .before .pre .1 .room)
 
--- src/writer.rt:238:1
 returns : tie.Need-returns Inv-loop μ-loop
 returns c = filling-end _ _ _ _ _ (c .before .loop .inv .3) (omega arith)
 
 pub write-blocks-spec : {M : Type 1} → statement M
 write-blocks-spec =
-    tie.close
-    (tie.spec
-    Inv-loop
-    μ-loop
-    loop-holds
-    cast-at
-    mul-at
-    add-end
-    sub-fill-block
-    part-fill-block-start
-    part-fill-block-end
-    fill-block-requires
-    add-i
-    loop-less
-    loop-again
-    same-length
-    same-length-2
-    returns)
+    tie.close (
+    tie.spec Inv-loop μ-loop loop-holds cast-at mul-at add-end sub-fill-block part-fill-block-start part-fill-block-end
+    fill-block-requires (λ c. search needs) (λ c. search needs) loop-again same-length same-length-2 returns)

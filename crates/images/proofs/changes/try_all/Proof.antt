@@ -15,55 +15,13 @@ abbrev μ-loop : tie.MeasureT-loop
 μ-loop how mended n links₀ numbers₀ order₀ good image₀ t₀ at₀ links numbers order image t at =
     length good - at
 
-loop-holds : tie.Need-loop-holds Inv-loop μ-loop
-loop-holds c = search needs
-
-put-changed-requires : tie.Need-put-changed-requires Inv-loop μ-loop
-put-changed-requires c κs = search needs
-
-try-one-requires : tie.Need-try-one-requires Inv-loop μ-loop
-try-one-requires c κs = search needs
-
 add-at : tie.Need-add-at Inv-loop μ-loop
 add-at c =
     let in-loop = c .before .before .before .before .before .before .before .before .before .before .before .before .before .before .before in
     let start = in-loop .before .before .before .before .before .before .before in omega (arith, in-loop .loop-test .taken, start .good)
 
-loop-less : tie.Need-loop-less Inv-loop μ-loop
-loop-less c = search needs
-
-loop-again : tie.Need-loop-again Inv-loop μ-loop
-loop-again c = search needs
-
-same-length : tie.Need-same-length Inv-loop μ-loop
-same-length c = search needs
-
-same-length-2 : tie.Need-same-length-2 Inv-loop μ-loop
-same-length-2 c = search needs
-
-same-length-3 : tie.Need-same-length-3 Inv-loop μ-loop
-same-length-3 c = search needs
-
-same-length-4 : tie.Need-same-length-4 Inv-loop μ-loop
-same-length-4 c = search needs
-
-returns : tie.Need-returns Inv-loop μ-loop
-returns c = search needs
-
 pub try-all-spec : {M : Type 1} → statement M
 try-all-spec =
-    tie.close
-    (tie.spec
-    Inv-loop
-    μ-loop
-    loop-holds
-    put-changed-requires
-    try-one-requires
-    add-at
-    loop-less
-    loop-again
-    same-length
-    same-length-2
-    same-length-3
-    same-length-4
-    returns)
+    tie.close (
+    tie.spec Inv-loop μ-loop (λ c. search needs) (λ c κs. search needs) (λ c κs. search needs) add-at (λ c. search needs)
+    (λ c. search needs) (λ c. search needs) (λ c. search needs) (λ c. search needs) (λ c. search needs) (λ c. search needs))

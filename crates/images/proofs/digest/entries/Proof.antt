@@ -11,41 +11,8 @@ Inv-loop h s d₀ i₀ d i = Unit {0}
 abbrev μ-loop : tie.MeasureT-loop
 μ-loop h s d₀ i₀ d i = length s - i
 
-loop-holds : tie.Need-loop-holds Inv-loop μ-loop
-loop-holds c = search needs
-
-mul-mixed16 : tie.Need-mul-mixed16 Inv-loop μ-loop
-mul-mixed16 c = search needs
-
-shared-slice-read-mixed16 : tie.Need-shared-slice-read-mixed16 Inv-loop μ-loop
-shared-slice-read-mixed16 c = search needs
-
-mixed16-requires : tie.Need-mixed16-requires Inv-loop μ-loop
-mixed16-requires c κs = search needs
-
-add-i : tie.Need-add-i Inv-loop μ-loop
-add-i c = search needs
-
-loop-less : tie.Need-loop-less Inv-loop μ-loop
-loop-less c = search needs
-
-loop-again : tie.Need-loop-again Inv-loop μ-loop
-loop-again c = search needs
-
-returns : tie.Need-returns Inv-loop μ-loop
-returns c = search needs
-
 pub entries-spec : {M : Type 1} → statement M
 entries-spec =
-    tie.close
-    (tie.spec
-    Inv-loop
-    μ-loop
-    loop-holds
-    mul-mixed16
-    shared-slice-read-mixed16
-    mixed16-requires
-    add-i
-    loop-less
-    loop-again
-    returns)
+    tie.close (
+    tie.spec Inv-loop μ-loop (λ c. search needs) (λ c. search needs) (λ c. search needs) (λ c κs. search needs)
+    (λ c. search needs) (λ c. search needs) (λ c. search needs) (λ c. search needs))

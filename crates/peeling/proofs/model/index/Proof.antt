@@ -5,9 +5,6 @@ use lib.ListN.{length}
 use mathlib.Core.Path.{_≡_}
 use Rattle.peeling.proofs.model.index.Statement.{statement}
 use Rattle.peeling.proofs.model.index.Tie as tie
-use Rattle.peeling.proofs.model.index.Reads as reads
-use Rattle.peeling.proofs.model.index.Lts as lts
-use Rattle.peeling.proofs.model.put.Reads as put-reads
 
 abbrev Inv-loop : tie.InvT-loop
 Inv-loop model₀ n i₀ model i = length model ≡ length model₀
@@ -15,49 +12,8 @@ Inv-loop model₀ n i₀ model i = length model ≡ length model₀
 abbrev μ-loop : tie.MeasureT-loop
 μ-loop model₀ n i₀ model i = n - i
 
--- src/model.rt:91:5
-loop-holds : tie.Need-loop-holds Inv-loop μ-loop
-loop-holds c = search needs
-
--- src/model.rt:92:30
-cast-put : tie.Need-cast-put Inv-loop μ-loop
-cast-put c = search needs
-
--- src/model.rt:92:9
-put-requires : tie.Need-put-requires Inv-loop μ-loop
-put-requires c κs = search needs
-
--- src/model.rt:93:9
-add-i : tie.Need-add-i Inv-loop μ-loop
-add-i c = search needs
-
--- src/model.rt:91:5
-loop-less : tie.Need-loop-less Inv-loop μ-loop
-loop-less c = search needs
-
--- src/model.rt:91:5
-loop-again : tie.Need-loop-again Inv-loop μ-loop
-loop-again c = search needs
-
--- src/model.rt:89:1
-same-length : tie.Need-same-length Inv-loop μ-loop
-same-length c = search needs
-
--- src/model.rt:89:1
-returns : tie.Need-returns Inv-loop μ-loop
-returns c = search needs
-
 pub index-spec : {M : Type 1} → statement M
 index-spec =
-    tie.close
-    (tie.spec
-    Inv-loop
-    μ-loop
-    loop-holds
-    cast-put
-    put-requires
-    add-i
-    loop-less
-    loop-again
-    same-length
-    returns)
+    tie.close (
+    tie.spec Inv-loop μ-loop (λ c. search needs) (λ c. search needs) (λ c κs. search needs) (λ c. search needs)
+    (λ c. search needs) (λ c. search needs) (λ c. search needs) (λ c. search needs))

@@ -3,20 +3,12 @@ use Rattle.player.proofs.MachineLaws.{next-number-last, next-number-mor
 use borrow.Author.Needs.{needs}
 use Rattle.player.proofs.machine.next_number.Statement.{statement}
 use Rattle.player.proofs.machine.next_number.Tie as tie
-use Rattle.player.proofs.machine.next_number.Reads as reads
-use Rattle.player.proofs.machine.next_number.Lts as lts
 
--- src/machine.rt:44:9
 returns : tie.Need-returns
 returns c = next-number-last _ (c .if1 .taken)
 
--- src/machine.rt:46:5
-add-result : tie.Need-add-result
-add-result c = search needs
-
--- src/machine.rt:40:1
 returns-2 : tie.Need-returns-2
 returns-2 c = next-number-more _ (c .if1 .left)
 
 pub next-number-spec : {M : Type 1} → statement M
-next-number-spec = tie.close (tie.spec returns add-result returns-2)
+next-number-spec = tie.close (tie.spec returns (λ c. search needs) returns-2)

@@ -13,9 +13,6 @@ use Rattle.player.proofs.SizeLaws.{byte-room}
 use Rattle.player.proofs.BytesLaws.{Taking, taking-none, taking-more, moved}
 use Rattle.player.proofs.machine.take_bytes.Statement.{statement}
 use Rattle.player.proofs.machine.take_bytes.Tie as tie
-use Rattle.player.proofs.machine.take_bytes.Reads as reads
-use Rattle.player.proofs.machine.take_bytes.Lts as lts
-use Rattle.player.proofs.machine.take_byte.Reads as take-byte-reads
 
 abbrev Inv-loop : tie.InvT-loop
 Inv-loop chunk from n line₀ links₀ numbers₀ order₀ answer₀ out₀ s₀ i₀ line links numbers order answer out s i =
@@ -30,29 +27,14 @@ abbrev μ-loop : tie.MeasureT-loop
 μ-loop chunk from n line₀ links₀ numbers₀ order₀ answer₀ out₀ s₀ i₀ line links numbers order answer out s i =
     length chunk - i
 
--- src/machine.rt:113:5
 loop-holds : tie.Need-loop-holds Inv-loop μ-loop
 loop-holds c = (refl, refl, refl, refl, refl, refl, taking-none _ _ _ _ _ _, λ e. (refl, refl), λ k a. (k, omega arith))
 
--- src/machine.rt:120:20
-shared-slice-read-byte : tie.Need-shared-slice-read-byte Inv-loop μ-loop
-shared-slice-read-byte c = search needs
-
--- src/machine.rt:121:9
-add-i : tie.Need-add-i Inv-loop μ-loop
-add-i c = search needs
-
--- src/machine.rt:122:9
 take-byte-requires : tie.Need-take-byte-requires Inv-loop μ-loop
 take-byte-requires c κs =
     let live = c .before .before .before .before .before .before .before .before .before in
     not-false (live .before .before .before .loop .s .live) (live .if1 .left)
 
--- src/machine.rt:113:5
-loop-less : tie.Need-loop-less Inv-loop μ-loop
-loop-less c = search needs
-
--- src/machine.rt:113:5
 loop-again : tie.Need-loop-again Inv-loop μ-loop
 loop-again c =
     let taken = c .before .before .before .before .before .before .before .before .before .before .before .before in
@@ -70,92 +52,17 @@ loop-again c =
       λ k a. byte-room _ _ _ _ _ _ _ _ _ _ _ _ _ (inv .8 k a .0) (omega (arith, read .before .if2 .left)) (taken .take-byte .ensures),
     )
 
--- src/machine.rt:97:1
-same-length : tie.Need-same-length Inv-loop μ-loop
-same-length c = search needs
-
--- src/machine.rt:97:1
-same-length-2 : tie.Need-same-length-2 Inv-loop μ-loop
-same-length-2 c = search needs
-
--- src/machine.rt:97:1
-same-length-3 : tie.Need-same-length-3 Inv-loop μ-loop
-same-length-3 c = search needs
-
--- src/machine.rt:97:1
-same-length-4 : tie.Need-same-length-4 Inv-loop μ-loop
-same-length-4 c = search needs
-
--- src/machine.rt:97:1
-same-length-5 : tie.Need-same-length-5 Inv-loop μ-loop
-same-length-5 c = search needs
-
--- src/machine.rt:97:1
-same-length-6 : tie.Need-same-length-6 Inv-loop μ-loop
-same-length-6 c = search needs
-
--- src/machine.rt:97:1
 returns : tie.Need-returns Inv-loop μ-loop
 returns c =
     let inv = c .before .loop .inv in
     (inv .6 .is, ((λ k a. inv .8 k a .1), ((λ l a h. omega (arith, c .loop-test .left)), λ l h. c .loop-test .left)))
 
--- src/machine.rt:97:1
-same-length-7 : tie.Need-same-length-7 Inv-loop μ-loop
-same-length-7 c = search needs
-
--- src/machine.rt:97:1
-same-length-8 : tie.Need-same-length-8 Inv-loop μ-loop
-same-length-8 c = search needs
-
--- src/machine.rt:97:1
-same-length-9 : tie.Need-same-length-9 Inv-loop μ-loop
-same-length-9 c = search needs
-
--- src/machine.rt:97:1
-same-length-10 : tie.Need-same-length-10 Inv-loop μ-loop
-same-length-10 c = search needs
-
--- src/machine.rt:97:1
-same-length-11 : tie.Need-same-length-11 Inv-loop μ-loop
-same-length-11 c = search needs
-
--- src/machine.rt:97:1
-same-length-12 : tie.Need-same-length-12 Inv-loop μ-loop
-same-length-12 c = search needs
-
--- src/machine.rt:97:1
 returns-2 : tie.Need-returns-2 Inv-loop μ-loop
 returns-2 c =
     let inv = c .before .before .before .loop .inv in
     let dead = not-true (c .before .before .before .loop .s .live) (c .if1 .taken) in
     (inv .6 .is, ((λ k a. inv .8 k a .1), ((λ l a h. moved (inv .6 .low) (λ e. true≢false (sym l ∙ sym (inv .7 e .0) ∙ dead))), λ l h. absurd (true≢false (sym l ∙ dead)))))
 
--- src/machine.rt:97:1
-same-length-13 : tie.Need-same-length-13 Inv-loop μ-loop
-same-length-13 c = search needs
-
--- src/machine.rt:97:1
-same-length-14 : tie.Need-same-length-14 Inv-loop μ-loop
-same-length-14 c = search needs
-
--- src/machine.rt:97:1
-same-length-15 : tie.Need-same-length-15 Inv-loop μ-loop
-same-length-15 c = search needs
-
--- src/machine.rt:97:1
-same-length-16 : tie.Need-same-length-16 Inv-loop μ-loop
-same-length-16 c = search needs
-
--- src/machine.rt:97:1
-same-length-17 : tie.Need-same-length-17 Inv-loop μ-loop
-same-length-17 c = search needs
-
--- src/machine.rt:97:1
-same-length-18 : tie.Need-same-length-18 Inv-loop μ-loop
-same-length-18 c = search needs
-
--- src/machine.rt:97:1
 returns-3 : tie.Need-returns-3 Inv-loop μ-loop
 returns-3 c =
     let inv = c .before .before .before .before .before .loop .inv in
@@ -163,34 +70,9 @@ returns-3 c =
 
 pub take-bytes-spec : {M : Type 1} → statement M
 take-bytes-spec =
-    tie.close
-    (tie.spec
-    Inv-loop
-    μ-loop
-    loop-holds
-    shared-slice-read-byte
-    add-i
-    take-byte-requires
-    loop-less
-    loop-again
-    same-length
-    same-length-2
-    same-length-3
-    same-length-4
-    same-length-5
-    same-length-6
-    returns
-    same-length-7
-    same-length-8
-    same-length-9
-    same-length-10
-    same-length-11
-    same-length-12
-    returns-2
-    same-length-13
-    same-length-14
-    same-length-15
-    same-length-16
-    same-length-17
-    same-length-18
-    returns-3)
+    tie.close (
+    tie.spec Inv-loop μ-loop loop-holds (λ c. search needs) (λ c. search needs) take-byte-requires (λ c. search needs) loop-again
+    (λ c. search needs) (λ c. search needs) (λ c. search needs) (λ c. search needs) (λ c. search needs) (λ c. search needs)
+    returns (λ c. search needs) (λ c. search needs) (λ c. search needs) (λ c. search needs) (λ c. search needs)
+    (λ c. search needs) returns-2 (λ c. search needs) (λ c. search needs) (λ c. search needs) (λ c. search needs)
+    (λ c. search needs) (λ c. search needs) returns-3)

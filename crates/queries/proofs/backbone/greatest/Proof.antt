@@ -7,9 +7,6 @@ use borrow.Author.Needs.{needs}
 use Rattle.queries.proofs.LevelLaws.{Greatest-so-far, greatest-turn, greatest-end}
 use Rattle.queries.proofs.backbone.greatest.Statement.{statement}
 use Rattle.queries.proofs.backbone.greatest.Tie as tie
-use Rattle.queries.proofs.backbone.greatest.Reads as reads
-use Rattle.queries.proofs.backbone.greatest.Lts as lts
-use Rattle.queries.proofs.backbone.larger.Reads as larger-reads
 
 abbrev Inv-loop : tie.InvT-loop
 Inv-loop numbers top₀ v₀ top v = Greatest-so-far numbers top v
@@ -17,46 +14,16 @@ Inv-loop numbers top₀ v₀ top v = Greatest-so-far numbers top v
 abbrev μ-loop : tie.MeasureT-loop
 μ-loop numbers top₀ v₀ top v = length numbers - v
 
--- src/backbone.rt:26:5
-loop-holds : tie.Need-loop-holds Inv-loop μ-loop
-loop-holds c = omega arith
-
--- src/backbone.rt:27:27
-shared-slice-read-larger : tie.Need-shared-slice-read-larger Inv-loop μ-loop
-shared-slice-read-larger c = search needs
-
--- src/backbone.rt:27:9
-larger-requires : tie.Need-larger-requires Inv-loop μ-loop
-larger-requires c κs = search needs
-
--- src/backbone.rt:28:9
-add-v : tie.Need-add-v Inv-loop μ-loop
-add-v c = search needs
-
--- src/backbone.rt:26:5
-loop-less : tie.Need-loop-less Inv-loop μ-loop
-loop-less c = search needs
-
--- src/backbone.rt:26:5
 loop-again : tie.Need-loop-again Inv-loop μ-loop
 loop-again c =
     let at-loop = c .before .before .before in
     rw (c .larger .ensures) (greatest-turn (at-loop .before .before .args .numbers .now) (at-loop .loop .top) (at-loop .loop .v) (c .before .before .loop-test .taken) (at-loop .loop .inv))
 
--- src/backbone.rt:21:1
 returns : tie.Need-returns Inv-loop μ-loop
 returns c = greatest-end (c .before .before .before .args .numbers .now) (c .before .loop .top) (c .before .loop .v) (c .loop-test .left) (c .before .loop .inv)
 
 pub greatest-spec : {M : Type 1} → statement M
 greatest-spec =
-    tie.close
-    (tie.spec
-    Inv-loop
-    μ-loop
-    loop-holds
-    shared-slice-read-larger
-    larger-requires
-    add-v
-    loop-less
-    loop-again
-    returns)
+    tie.close (
+    tie.spec Inv-loop μ-loop (λ c. omega arith) (λ c. search needs) (λ c κs. search needs) (λ c. search needs) (λ c. search needs)
+    loop-again returns)

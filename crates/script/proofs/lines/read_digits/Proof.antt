@@ -8,10 +8,6 @@ use Rattle.script.specs.Lines.{digits-on, read-of}
 use Rattle.script.proofs.LineLaws.{read-of-none, digit-below, digit-above, digits-end, digits-other, digits-large, digits-step}
 use Rattle.script.proofs.lines.read_digits.Statement.{statement}
 use Rattle.script.proofs.lines.read_digits.Tie as tie
-use Rattle.script.proofs.lines.read_digits.Reads as reads
-use Rattle.script.proofs.lines.read_digits.Lts as lts
-use Rattle.script.proofs.lines.none.Reads as none-reads
-use Rattle.script.proofs.lines.wide.Reads as wide-reads
 
 abbrev Inv-loop : tie.InvT-loop
 Inv-loop s p v v₀ i₀ v' i = (i ≤ length s) × (v' ≤ 65535) × (digits-on v' (drop i s) ≡ digits-on v (drop p s))
@@ -21,9 +17,6 @@ abbrev μ-loop : tie.MeasureT-loop
 
 loop-holds : tie.Need-loop-holds Inv-loop μ-loop
 loop-holds c = (omega arith, omega arith, refl)
-
-shared-slice-read-wide : tie.Need-shared-slice-read-wide Inv-loop μ-loop
-shared-slice-read-wide c = omega arith
 
 wide-requires : tie.Need-wide-requires Inv-loop μ-loop
 wide-requires c κs = tt
@@ -44,12 +37,6 @@ returns-2 c =
     let byte = c .before .before .wide in
     sym (digits-other s (at-loop .loop .v) (at-loop .loop .i) (byte .result) (omega arith) (byte .ensures) (digit-above (byte .result) (omega arith))) ∙ at-loop .loop .inv .2
 
-mul-w : tie.Need-mul-w Inv-loop μ-loop
-mul-w c = omega arith
-
-add-w : tie.Need-add-w Inv-loop μ-loop
-add-w c = omega arith
-
 none-requires : tie.Need-none-requires Inv-loop μ-loop
 none-requires c κs = tt
 
@@ -60,12 +47,6 @@ returns-3 c =
     let byte = c .before .before .before .before .wide in
     read-of-none s (c .none .result) (c .none .ensures)
     ∙ sym (digits-large s (at-loop .loop .v) (at-loop .loop .i) (byte .result) (omega arith) (byte .ensures) (omega arith) (omega arith) (omega arith)) ∙ at-loop .loop .inv .2
-
-add-i : tie.Need-add-i Inv-loop μ-loop
-add-i c = omega arith
-
-loop-less : tie.Need-loop-less Inv-loop μ-loop
-loop-less c = omega arith
 
 loop-again : tie.Need-loop-again Inv-loop μ-loop
 loop-again c =
@@ -83,20 +64,6 @@ returns-4 c =
 
 pub read-digits-spec : {M : Type 1} → statement M
 read-digits-spec =
-    tie.close
-    (tie.spec
-    Inv-loop
-    μ-loop
-    loop-holds
-    shared-slice-read-wide
-    wide-requires
-    returns
-    returns-2
-    mul-w
-    add-w
-    none-requires
-    returns-3
-    add-i
-    loop-less
-    loop-again
-    returns-4)
+    tie.close (
+    tie.spec Inv-loop μ-loop loop-holds (λ c. omega arith) wide-requires returns returns-2 (λ c. omega arith) (λ c. omega arith)
+    none-requires returns-3 (λ c. omega arith) (λ c. omega arith) loop-again returns-4)

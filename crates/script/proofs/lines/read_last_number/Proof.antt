@@ -29,9 +29,6 @@ returns-2 c =
     read-of-none (call .s .now) (c .none2 .result) (c .none2 .ensures)
     ∙ sym (last-other (call .s .now) (call .p) (number .read-number .result) (number .read-number .ensures) (not-false _ (c .before .before .if1 .left)) (end-past (call .s .now) (number .read-number .result .next) (omega arith)))
 
-shared-slice-read-if3 : tie.Need-shared-slice-read-if3
-shared-slice-read-if3 c = omega arith
-
 none-requires-3 : tie.Need-none-requires-3
 none-requires-3 c κs = tt
 
@@ -41,9 +38,6 @@ returns-3 c =
     let call = number .before .before .args in
     read-of-none (call .s .now) (c .none3 .result) (c .none3 .ensures)
     ∙ sym (last-other (call .s .now) (call .p) (number .read-number .result) (number .read-number .ensures) (not-false _ (c .before .before .before .before .if1 .left)) (end-differ (call .s .now) (number .read-number .result .next) (omega arith) (c .before .if3 .taken)))
-
-sub-if4 : tie.Need-sub-if4
-sub-if4 c = omega arith
 
 none-requires-4 : tie.Need-none-requires-4
 none-requires-4 c κs = tt
@@ -63,17 +57,6 @@ returns-5 c =
 
 pub read-last-number-spec : {M : Type 1} → statement M
 read-last-number-spec =
-    tie.close
-    (tie.spec
-    read-number-requires
-    none-requires
-    returns
-    none-requires-2
-    returns-2
-    shared-slice-read-if3
-    none-requires-3
-    returns-3
-    sub-if4
-    none-requires-4
-    returns-4
-    returns-5)
+    tie.close (
+    tie.spec read-number-requires none-requires returns none-requires-2 returns-2 (λ c. omega arith) none-requires-3 returns-3
+    (λ c. omega arith) none-requires-4 returns-4 returns-5)

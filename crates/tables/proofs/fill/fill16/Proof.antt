@@ -18,18 +18,6 @@ abbrev μ-loop : tie.MeasureT-loop
 loop-holds : tie.Need-loop-holds Inv-loop μ-loop
 loop-holds c = writing-none 16 _ _
 
-mul-d : tie.Need-mul-d Inv-loop μ-loop
-mul-d c = search needs
-
-slice-write-d : tie.Need-slice-write-d Inv-loop μ-loop
-slice-write-d c = search needs
-
-add-i : tie.Need-add-i Inv-loop μ-loop
-add-i c = search needs
-
-loop-less : tie.Need-loop-less Inv-loop μ-loop
-loop-less c = search needs
-
 loop-again : tie.Need-loop-again Inv-loop μ-loop
 loop-again c =
     let s = c .before .before in
@@ -43,15 +31,6 @@ returns c = writing-constant 16 _ _ _ _ (c .before .loop .inv) (omega arith) (c 
 
 pub fill16-spec : {M : Type 1} → statement M
 fill16-spec =
-    tie.close
-    (tie.spec
-    Inv-loop
-    μ-loop
-    loop-holds
-    mul-d
-    slice-write-d
-    add-i
-    loop-less
-    loop-again
-    same-length
-    returns)
+    tie.close (
+    tie.spec Inv-loop μ-loop loop-holds (λ c. search needs) (λ c. search needs) (λ c. search needs) (λ c. search needs) loop-again
+    same-length returns)

@@ -11,17 +11,8 @@ use Rattle.tables.proofs.WidthLaws.{take-min}
 use Rattle.tables.proofs.fill.write_list.Statement.{statement}
 use Rattle.tables.proofs.fill.write_list.Tie as tie
 
-least-requires : tie.Need-least-requires
-least-requires c κs = search needs
-
 slice-aggregate-copy16 : tie.Need-slice-aggregate-copy16
 slice-aggregate-copy16 c = sym (length-take-le (c .before .before .least .result) _ (omega arith))
-
-copy16-requires : tie.Need-copy16-requires
-copy16-requires c κs = search needs
-
-same-length : tie.Need-same-length
-same-length c = search needs
 
 returns : tie.Need-returns
 returns c =
@@ -33,4 +24,4 @@ returns c =
     (ap (λ (n : ℕ). take n list) (c .before .before .before .before .before .least .ensures) ∙ take-min (s .k) list)
 
 pub write-list-spec : {M : Type 1} → statement M
-write-list-spec = tie.close (tie.spec least-requires slice-aggregate-copy16 copy16-requires same-length returns)
+write-list-spec = tie.close (tie.spec (λ c κs. search needs) slice-aggregate-copy16 (λ c κs. search needs) (λ c. search needs) returns)

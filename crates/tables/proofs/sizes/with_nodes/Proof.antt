@@ -7,19 +7,10 @@ use Rattle.calls.specs.Questions.{answer-length, nodes-length}
 use Rattle.tables.proofs.sizes.with_nodes.Statement.{statement}
 use Rattle.tables.proofs.sizes.with_nodes.Tie as tie
 
-cast-n : tie.Need-cast-n
-cast-n c = search needs
-
-lent-requires : tie.Need-lent-requires
-lent-requires c κs = search needs
-
 returns : tie.Need-returns
 unfolding answer-length nodes-length
 returns c =
     let s = c .before .before .before .args in rw (lt-leb (s .site .radios + 1) (s .nodes) (omega arith)) (c .lent .ensures)
-
-lent-requires-2 : tie.Need-lent-requires-2
-lent-requires-2 c κs = search needs
 
 returns-2 : tie.Need-returns-2
 unfolding answer-length nodes-length
@@ -27,4 +18,4 @@ returns-2 c =
     let s = c .before .before .before .args in rw (le-leb (s .site .radios + 1) (s .nodes) (omega arith)) (c .lent2 .ensures)
 
 pub with-nodes-spec : {M : Type 1} → statement M
-with-nodes-spec = tie.close (tie.spec cast-n lent-requires returns lent-requires-2 returns-2)
+with-nodes-spec = tie.close (tie.spec (λ c. search needs) (λ c κs. search needs) returns (λ c κs. search needs) returns-2)

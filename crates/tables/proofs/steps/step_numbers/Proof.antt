@@ -21,29 +21,11 @@ Inv-loop numbers₀ changed k step m i₀ numbers i = Stepping (take k changed) 
 abbrev μ-loop : tie.MeasureT-loop
 μ-loop numbers₀ changed k step m i₀ numbers i = m - i
 
-least-requires : tie.Need-least-requires Inv-loop μ-loop
-least-requires c κs = search needs
-
 loop-holds : tie.Need-loop-holds Inv-loop μ-loop
 loop-holds c = stepping-none _ _ _
 
-mul-step-at : tie.Need-mul-step-at Inv-loop μ-loop
-mul-step-at c = search needs
-
-shared-slice-read-step-at : tie.Need-shared-slice-read-step-at Inv-loop μ-loop
-shared-slice-read-step-at c = search needs
-
 cast-step-at : tie.Need-cast-step-at Inv-loop μ-loop
 cast-step-at c = omega (arith, c .shared-slice-known2 .given (c .before .before .before .loop .i))
-
-step-at-requires : tie.Need-step-at-requires Inv-loop μ-loop
-step-at-requires c κs = search needs
-
-add-i : tie.Need-add-i Inv-loop μ-loop
-add-i c = search needs
-
-loop-less : tie.Need-loop-less Inv-loop μ-loop
-loop-less c = search needs
 
 loop-again : tie.Need-loop-again Inv-loop μ-loop
 loop-again c =
@@ -66,18 +48,6 @@ returns c =
 
 pub step-numbers-spec : {M : Type 1} → statement M
 step-numbers-spec =
-    tie.close
-    (tie.spec
-    Inv-loop
-    μ-loop
-    least-requires
-    loop-holds
-    mul-step-at
-    shared-slice-read-step-at
-    cast-step-at
-    step-at-requires
-    add-i
-    loop-less
-    loop-again
-    same-length
-    returns)
+    tie.close (
+    tie.spec Inv-loop μ-loop (λ c κs. search needs) loop-holds (λ c. search needs) (λ c. search needs) cast-step-at
+    (λ c κs. search needs) (λ c. search needs) (λ c. search needs) loop-again same-length returns)

@@ -7,9 +7,6 @@ use borrow.Author.Needs.{needs}
 use Rattle.tree.proofs.NodeWrites.{Setting, setting-none, setting-turn, setting-end}
 use Rattle.tree.proofs.nodes.name_all.Statement.{statement}
 use Rattle.tree.proofs.nodes.name_all.Tie as tie
-use Rattle.tree.proofs.nodes.name_all.Reads as reads
-use Rattle.tree.proofs.nodes.name_all.Lts as lts
-use Rattle.rows.proofs.put_entry.Reads as put-entry-reads
 
 abbrev Inv-loop : tie.InvT-loop
 Inv-loop list k x answer₀ i₀ answer i = Setting x (take k list) answer₀ i answer
@@ -17,46 +14,21 @@ Inv-loop list k x answer₀ i₀ answer i = Setting x (take k list) answer₀ i 
 abbrev μ-loop : tie.MeasureT-loop
 μ-loop list k x answer₀ i₀ answer i = k - i
 
--- src/nodes.rt:33:5
 loop-holds : tie.Need-loop-holds Inv-loop μ-loop
 loop-holds c = setting-none _ _ _
 
--- src/nodes.rt:34:41
-mul-put-entry : tie.Need-mul-put-entry Inv-loop μ-loop
-mul-put-entry c = search needs
-
--- src/nodes.rt:34:41
-shared-slice-read-put-entry : tie.Need-shared-slice-read-put-entry Inv-loop μ-loop
-shared-slice-read-put-entry c = search needs
-
--- src/nodes.rt:34:41
 cast-put-entry : tie.Need-cast-put-entry Inv-loop μ-loop
 cast-put-entry c = omega (arith, c .shared-slice-known2 .given (c .before .before .before .loop .i))
 
--- src/nodes.rt:34:9
-put-entry-requires : tie.Need-put-entry-requires Inv-loop μ-loop
-put-entry-requires c κs = search needs
-
--- src/nodes.rt:35:9
-add-i : tie.Need-add-i Inv-loop μ-loop
-add-i c = search needs
-
--- src/nodes.rt:33:5
-loop-less : tie.Need-loop-less Inv-loop μ-loop
-loop-less c = search needs
-
--- src/nodes.rt:33:5
 loop-again : tie.Need-loop-again Inv-loop μ-loop
 loop-again c =
     let at-loop = c .before .before .before .before .before .before in
     let start = at-loop .before .before .before in
     setting-turn (start .args .x) (start .args .list .now) (start .args .k) (start .args .answer .now) (at-loop .loop .i) (at-loop .loop .answer) _ (start .pre) (c .before .before .before .before .before .loop-test .taken) (c .before .before .put-entry .ensures) (at-loop .loop .inv)
 
--- src/nodes.rt:28:1
 same-length : tie.Need-same-length Inv-loop μ-loop
 same-length c = c .before .loop .inv .long
 
--- src/nodes.rt:28:1
 returns : tie.Need-returns Inv-loop μ-loop
 returns c =
     let start = c .before .before .before .before in
@@ -64,17 +36,6 @@ returns c =
 
 pub name-all-spec : {M : Type 1} → statement M
 name-all-spec =
-    tie.close
-    (tie.spec
-    Inv-loop
-    μ-loop
-    loop-holds
-    mul-put-entry
-    shared-slice-read-put-entry
-    cast-put-entry
-    put-entry-requires
-    add-i
-    loop-less
-    loop-again
-    same-length
-    returns)
+    tie.close (
+    tie.spec Inv-loop μ-loop loop-holds (λ c. search needs) (λ c. search needs) cast-put-entry (λ c κs. search needs)
+    (λ c. search needs) (λ c. search needs) loop-again same-length returns)
