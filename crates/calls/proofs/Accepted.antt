@@ -6,19 +6,18 @@
 --   write-right          the bytes written are an image that a reader accepts
 --   read-right           the tables of an accepted image are sound, and written again they give the same bytes
 --   read-what-was-written   sound tables, written and read, are the same tables
-use mathlib.Core.Path.{_≡_, refl, sym, ap, ap₂, _∙_}
+use mathlib.Core.Path.{_≡_, sym, ap, ap₂, _∙_}
 use mathlib.Core.Logic.{_⊎_, inl, inr, _↔_}
-use mathlib.Core.Bool.{Bool, true, false}
+use mathlib.Core.Bool.{Bool, true}
 use mathlib.Core.List.{List}
-use Prim.Native.Nat.{ℕ, _*_, _≤_, _<_}
-use native.Mathlib.Omega.{arith}
+use Prim.Native.Nat.{ℕ, _<_}
 use lib.ListN.{length, take}
-use Rattle.mesh.specs.Limits.{max-radios, max-neighbours}
+use Rattle.mesh.specs.Limits.{max-neighbours}
 use Rattle.mesh.specs.Lists.{member, overwrite}
 use Rattle.mesh.specs.Graph.{Graph, relinked}
 use Rattle.mesh.specs.Cores.{Core, number, numbers}
 use Rattle.mesh.specs.Orders.{is-k-order}
-use Rattle.mesh.specs.Tables.{Tables, tables, graph-in, tables-of}
+use Rattle.mesh.specs.Tables.{Tables, graph-in, tables-of}
 use Rattle.mesh.specs.Sound.{sound, number-in}
 use Rattle.mesh.specs.Connected.{In-core, core-of}
 use Rattle.mesh.specs.Tree.{Is-tree, Node-name, tree, node-name, node-names}
@@ -36,13 +35,13 @@ use Rattle.mesh.proofs.ImageOf.{length-image-of, whole-blocks-image-of, checks-
 use Rattle.mesh.proofs.ImageSites.{written-read}
 use Rattle.mesh.proofs.ImageTables.{Tables-of-size, valid-graph-in, is-image-sound, tables-read-written}
 use Rattle.mesh.proofs.Valid.{Valid}
-use Rattle.calls.specs.Questions.{By-number, lengths-of, image-length, answer-length, link-refusal, core-refusal, tree-refusal, write-refusal, read-refusal}
+use Rattle.calls.specs.Questions.{By-number, lengths-of, image-length, link-refusal, core-refusal, tree-refusal, write-refusal, read-refusal}
 use Rattle.calls.specs.Writes.{Tables-refused, Link-accepted, Link-refused, Link-contract, Read-accepted, Read-contract}
 use Rattle.calls.specs.Answers.{Listing-accepted, Listing-refused, Core-contract, Write-contract, Tree-accepted, Tree-refused, Tree-contract}
 use Rattle.calls.specs.declared.Reply.{Reply}
 use Rattle.calls.specs.declared.Value.{Value}
 use Rattle.calls.proofs.ContractLaws.{by-cases, by-zero}
-use Rattle.calls.proofs.ChainLaws.{Lent-good, lent-zero, Site-good, link-zero, core-zero, write-zero, read-zero, read-yes}
+use Rattle.calls.proofs.ChainLaws.{Site-good, link-zero, core-zero, write-zero, read-zero, read-yes}
 use Rattle.calls.proofs.RecordLaws.{tables-ext}
 
 -- ---- the number 0 is no refusal

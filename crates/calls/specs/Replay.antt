@@ -10,7 +10,7 @@
 -- Definitions only.
 use mathlib.Core.List.{List, [], _∷_, _++_, map}
 use Prim.Native.Nat.{ℕ, zero, suc, _+_, _/_, _%_}
-use Prim.Native.Char.{Char, code}
+use Prim.Native.Char.{code}
 use Prim.Native.String.{String, [] as empty-text, _∷_ as text}
 use lib.IntN.{ℤ, pos, negsuc}
 

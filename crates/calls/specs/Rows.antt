@@ -9,12 +9,12 @@
 --   compute                what a proof of rows unfolds
 -- Definitions only.
 use mathlib.Core.Bool.{Bool, true, false, _&&_, Bool·beq}
-use mathlib.Core.List.{List, [], _∷_, _++_, map, flatMap}
+use mathlib.Core.List.{List, [], _∷_, _++_, flatMap}
 use Prim.Native.Nat.{ℕ, zero, suc, _-_}
 use Prim.Native.String.{String}
 use lib.Dec.{eqb}
 use lib.IntN.{ℤ, pos, negsuc}
-use lib.ListN.{length, drop, take, getD, set}
+use lib.ListN.{length, drop, take, set}
 use Rattle.mesh.specs.Limits.{max-neighbours}
 use Rattle.mesh.specs.Lists.{range, count, filter, member, all, same, head-or}
 use Rattle.mesh.specs.Graph.{Graph, graph, radios, other-ends, linked, neighbours-among, degree, link, link-before, same-link, with-link, without-link, new-links, relinked, proper, ascending}
@@ -24,7 +24,7 @@ use Rattle.mesh.specs.Orders.{each-once, rising, few-later}
 use Rattle.mesh.specs.Tables.{tables, digit, byte-at, marked, from-digits, row-of, links-table, tables-of}
 use Rattle.mesh.specs.Sound.{symmetric, irreflexive, within, row-degree, few, rows-proper, enough, sound-within, sound}
 use Rattle.mesh.specs.Connected.{at-least, reached, core-of, greatest, backbone}
-use Rattle.mesh.specs.Tree.{root-name, node, root, shell, node-name, parent-name, nodes-at, tree, node-names}
+use Rattle.mesh.specs.Tree.{shell, node-name, parent-name, nodes-at, tree, node-names}
 use Rattle.mesh.specs.Image.{block-bytes, word, long, weighted-sum, check-sum, block, blocks-for, order-blocks, block-count, link-bytes, order-payload, links-payload, block-at, image-of, word-at, entry-at, image-order, image-link, image-links, image-graph, whole-blocks, block-check, checks-good, is-image}
 use Rattle.mesh.specs.declared.Node.{Node}
 use Rattle.calls.specs.Questions.{ask, is-radio, are-radios, ends-differ, can-switch, has-room, has-level, level-refusal, image-length, ends-refusal, blocks-refusal, image-refusal}

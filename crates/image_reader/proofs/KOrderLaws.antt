@@ -2,7 +2,7 @@
 use mathlib.Core.Path.{_≡_, refl, sym, ap, _∙_}
 use mathlib.Core.Logic.{_↔_}
 use mathlib.Core.Bool.{Bool, true, false, _&&_}
-use mathlib.Core.List.{List, [], _∷_, map}
+use mathlib.Core.List.{List, map}
 use Prim.Native.Nat.{ℕ, suc, _+_, _≤_, _<_, min}
 use native.Mathlib.Omega.{arith}
 use native.Mathlib.Nat.{add-zero}
@@ -15,7 +15,7 @@ use Rattle.mesh.specs.Graph.{Link, Graph, graph, radios, other-ends, linked, ne
 use Rattle.mesh.specs.Cores.{number}
 use Rattle.mesh.specs.Orders.{each-once, rising, few-later, is-k-order, running-maxima}
 use Rattle.mesh.proofs.BoolLaws.{never, iff-eq}
-use Rattle.mesh.proofs.ListLaws.{In, in-member, count-ext, count-all, all-below, below-all, Each-once, once-below, once-length}
+use Rattle.mesh.proofs.ListLaws.{in-member, count-ext, count-all, all-below, below-all, Each-once, once-below, once-length}
 use Rattle.mesh.proofs.Sums.{count-cong}
 use Rattle.mesh.proofs.GraphLaws.{linked-self, linked-by-proper, proper-of, degree-in}
 use Rattle.mesh.proofs.OrderLaws.{each-once-of, Enough}

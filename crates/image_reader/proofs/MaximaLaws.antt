@@ -1,9 +1,9 @@
 -- Running maxima along an order: the loop that writes them, and that over the later-neighbour counts they are `running-maxima`.
 use mathlib.Core.Path.{_≡_, refl, sym, ap, ap₂, subst, _∙_}
-use mathlib.Core.Logic.{_⊎_, inl, inr}
+use mathlib.Core.Logic.{inl, inr}
 use mathlib.Core.Bool.{Bool, true}
 use mathlib.Core.List.{List, [], _∷_, _++_, map, append-assoc, append-nil}
-use Prim.Native.Nat.{ℕ, zero, suc, _+_, _≤_, _<_, max}
+use Prim.Native.Nat.{ℕ, suc, _+_, _≤_, _<_, max}
 use native.Mathlib.Omega.{arith}
 use native.Mathlib.Numerals.{add-one}
 use lib.ListN.{length, getD, take, drop, set, length-set, take-append-drop}
@@ -11,7 +11,7 @@ use lib.Seq.{take-suc, drop-cons, drop-length, getD-set-same, getD-set-other}
 use Rattle.mesh.specs.Lists.{count}
 use Rattle.mesh.specs.Graph.{neighbours-among}
 use Rattle.mesh.specs.Orders.{each-once, running-maxima}
-use Rattle.mesh.proofs.ListLaws.{In, Distinct, distinct-apart, once-distinct, once-below}
+use Rattle.mesh.proofs.ListLaws.{In, distinct-apart, once-distinct, once-below}
 use Rattle.mesh.proofs.OrderLaws.{each-once-of}
 use Rattle.soundness.proofs.CheckLaws.{getD-in}
 use Rattle.image_reader.specs.Reading.{tops}

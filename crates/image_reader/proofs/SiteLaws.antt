@@ -2,15 +2,15 @@
 use mathlib.Core.Path.{_≡_, refl, sym, ap, subst, _∙_}
 use mathlib.Core.Logic.{_⊎_, inl, inr}
 use mathlib.Core.Bool.{Bool, true, false, _&&_}
-use mathlib.Core.List.{List, map}
-use Prim.Native.Nat.{ℕ, _+_, _*_, _≤_, _<_}
+use mathlib.Core.List.{List}
+use Prim.Native.Nat.{ℕ, _≤_, _<_}
 use native.Mathlib.Omega.{arith}
 use lib.Dec.{leb}
 use lib.ListN.{length, getD, take}
 use lib.Seq.{ext-getD}
 use borrow.Author.Tests.{le-leb}
 use Rattle.mesh.specs.Limits.{max-radios, max-neighbours}
-use Rattle.mesh.specs.Lists.{range, overwrite}
+use Rattle.mesh.specs.Lists.{overwrite}
 use Rattle.mesh.specs.Graph.{Graph, graph, proper, ascending}
 use Rattle.mesh.specs.Cores.{number, numbers}
 use Rattle.mesh.specs.Orders.{is-k-order}
@@ -24,13 +24,12 @@ use Rattle.mesh.proofs.Sites.{image-valid}
 use Rattle.mesh.proofs.ImageTables.{number-most}
 use Rattle.mesh.proofs.ImageCanonical.{length-image-order}
 use Rattle.mesh.proofs.Valid.{Valid}
-use Rattle.calls.specs.Writes.{Read-accepted, Tables-refused}
 use Rattle.tables.specs.Widths.{values}
 use Rattle.tables.proofs.WidthLaws.{length-values, values-below, overwrite-all}
 use Rattle.image.specs.Form.{is-formed}
 use Rattle.image.proofs.FormLaws.{is-image-formed}
 use Rattle.image_reader.specs.Pairs.{links-up-to}
-use Rattle.image_reader.specs.Reading.{few-ends, Tally-room, Site-room, K-order-decided, Site-decided, Site-read}
+use Rattle.image_reader.specs.Reading.{few-ends, Tally-room, K-order-decided, Site-decided, Site-read}
 use Rattle.image_reader.proofs.KOrderLaws.{few-degrees}
 
 -- ---- question 11, part by part

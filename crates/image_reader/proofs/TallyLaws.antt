@@ -3,7 +3,7 @@ use mathlib.Core.Path.{_≡_, refl, sym, ap, ap₂, subst, _∙_}
 use mathlib.Core.Logic.{_⊎_, inl, inr}
 use mathlib.Core.Bool.{Bool, true, false, _&&_, cond}
 use mathlib.Core.List.{List, [], _∷_, _++_, map}
-use Prim.Native.Nat.{ℕ, zero, suc, _+_, _*_, _-_, _≤_, _<_}
+use Prim.Native.Nat.{ℕ, zero, suc, _+_, _-_, _≤_, _<_}
 use native.Mathlib.Omega.{arith}
 use native.Mathlib.Numerals.{add-one}
 use lib.Dec.{ltb, eqb}
@@ -14,8 +14,8 @@ use Rattle.mesh.specs.Lists.{range, count}
 use Rattle.mesh.specs.Graph.{Link, other-ends, proper}
 use Rattle.mesh.specs.Image.{image-link}
 use Rattle.mesh.proofs.AscendingLinks.{link-eq}
-use Rattle.mesh.proofs.BoolLaws.{bool-cases, bit-one, and-left, and-right}
-use Rattle.mesh.proofs.ListLaws.{count-append, count-le-length, length-range}
+use Rattle.mesh.proofs.BoolLaws.{bool-cases, and-left, and-right}
+use Rattle.mesh.proofs.ListLaws.{count-append, count-le-length}
 use Rattle.rows.proofs.Listing.{range-append}
 use Rattle.image_reader.specs.Pairs.{links-up-to, Pair-at, tallied, Tallied}
 

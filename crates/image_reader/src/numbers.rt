@@ -1,7 +1,7 @@
 // Whether an image's links and order make a site, and then the numbers: counted over the links in place, with a rank and a count
 // for each radio.
 ghost use mathlib.Core.Path.{_≡_};
-ghost use mathlib.Core.Bool.{true, _&&_};
+ghost use mathlib.Core.Bool.{true};
 ghost use mathlib.Core.List.{map};
 ghost use Prim.Native.Nat.{ℕ, _≤_, max};
 ghost use lib.Dec.{leb};

@@ -6,7 +6,7 @@ ghost use lib.Dec.{ltb};
 ghost use lib.ListN.{length, getD, set};
 ghost use Rattle.mesh.specs.Limits.{max-radios};
 ghost use Rattle.mesh.specs.Graph.{link-of, link-before, proper, ascending};
-ghost use Rattle.mesh.specs.Image.{image-link, image-order};
+ghost use Rattle.mesh.specs.Image.{image-order};
 ghost use Rattle.image_reader.specs.Pairs.{links-up-to, Pair-at, Tallied};
 use image::checks;
 use image::form;

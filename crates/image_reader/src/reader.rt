@@ -6,7 +6,6 @@ ghost use lib.ListN.{length, getD};
 ghost use Rattle.mesh.specs.Limits.{max-radios, row-bytes};
 ghost use Rattle.mesh.specs.Graph.{graph, proper};
 ghost use Rattle.mesh.specs.Tables.{tables, links-table};
-ghost use Rattle.mesh.specs.Image.{checks-good};
 ghost use Rattle.calls.specs.Writes.{Read-contract};
 ghost use Rattle.tables.specs.Widths.{values};
 ghost use Rattle.image_reader.specs.Pairs.{links-up-to};

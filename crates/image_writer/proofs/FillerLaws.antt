@@ -4,7 +4,7 @@ use mathlib.Core.Path.{_≡_, refl, sym, ap, ap₂, _∙_}
 use mathlib.Core.List.{List, [], _∷_, _++_, flatMap, append-assoc, append-nil}
 use Prim.Native.Nat.{ℕ, zero, suc, _+_, _*_, _-_, _/_, _%_, _≤_, _<_, min}
 use native.Mathlib.Omega.{arith}
-use native.Mathlib.Nat.{mul-suc, div-div-eq-div-mul}
+use native.Mathlib.Nat.{div-div-eq-div-mul}
 use native.Mathlib.Numerals.{add-one}
 use lib.ListN.{length, getD, take, drop, set, replicate, length-append, length-take, length-drop, replicate-append-replicate, drop-of-length-le}
 use lib.Seq.{sets, sets-eq, length-sets, take-suc, take-at, take-all, length-take-le, drop-drop, getD-take, getD-drop}

@@ -1,25 +1,20 @@
 -- Laws of the links from a row on: what is left to write, and the loops over rows.
 -- In order: the next row, links counted, links put into a block, all links of a sound site.
 use mathlib.Core.Path.{_≡_, refl, sym, ap, ap₂, _∙_}
-use mathlib.Core.Logic.{_⊎_, inl, inr}
-use mathlib.Core.Bool.{Bool, true, false}
-use mathlib.Core.List.{List, [], _∷_, _++_, map, flatMap}
+use mathlib.Core.List.{List, [], _∷_, _++_, flatMap}
 use Prim.Native.Nat.{ℕ, zero, suc, _+_, _*_, _-_, _≤_, _<_, min}
 use native.Mathlib.Omega.{arith}
-use native.Mathlib.Numerals.{add-one}
-use lib.ListN.{length, getD, take, drop, length-append, length-take, length-drop, drop-of-length-le}
-use lib.Seq.{sets, length-sets, drop-append-le, take-nil, drop-nil, drop-drop, drop-at, take-all, take-add, take-append-le, length-take-le}
-use Rattle.mesh.specs.Limits.{max-radios, max-neighbours}
-use Rattle.mesh.specs.Lists.{range, filter}
-use Rattle.mesh.specs.Graph.{Link, link-of, Graph}
-use Rattle.mesh.specs.Tables.{marked, row-links, graph-in}
+use lib.ListN.{length, take, drop, length-append, length-drop, drop-of-length-le}
+use lib.Seq.{sets, drop-append-le, take-nil, drop-nil, drop-drop, take-all, take-add, take-append-le, length-take-le}
+use Rattle.mesh.specs.Limits.{max-neighbours}
+use Rattle.mesh.specs.Lists.{range}
+use Rattle.mesh.specs.Graph.{Link, link-of}
 use Rattle.mesh.specs.Sound.{within}
-use Rattle.mesh.specs.Image.{block-bytes, block-links, link-bytes}
-use Rattle.mesh.proofs.ListLaws.{In, range-in, filter-append, filter-none}
+use Rattle.mesh.specs.Image.{block-links, link-bytes}
 use Rattle.mesh.proofs.Parts.{length-flatMap}
 use Rattle.mesh.proofs.ImageBlocks.{length-link-bytes}
-use Rattle.rows.proofs.Listing.{range-append, sets-append}
-use Rattle.image_writer.specs.Links.{uppers, links-to, upper-links, links-from, Rows-listed, Cursor-good, Row-put, Links-put, Span-of}
+use Rattle.rows.proofs.Listing.{sets-append}
+use Rattle.image_writer.specs.Links.{uppers, links-to, upper-links, links-from, Cursor-good, Row-put, Links-put, Span-of}
 use Rattle.image_writer.proofs.FillerLaws.{flatMap-append}
 use Rattle.image_writer.proofs.UpperLaws.{take-map, drop-map, length-links-to}
 

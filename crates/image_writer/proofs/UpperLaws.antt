@@ -1,26 +1,26 @@
 -- Laws of the neighbours above a radio, as the writer lists them.
 -- In order: laws of lists, a row's neighbours in two parts, the span of the upper ones, a row's links.
-use mathlib.Core.Path.{_≡_, refl, sym, ap, ap₂, subst, _∙_}
+use mathlib.Core.Path.{_≡_, refl, sym, ap, ap₂, _∙_}
 use mathlib.Core.Logic.{_⊎_, inl, inr}
-use mathlib.Core.Bool.{Bool, true, false}
-use mathlib.Core.List.{List, [], _∷_, _++_, map, flatMap, append-assoc}
-use Prim.Native.Nat.{ℕ, zero, suc, _+_, _*_, _-_, _≤_, _<_, min}
+use mathlib.Core.Bool.{true, false}
+use mathlib.Core.List.{List, [], _∷_, _++_, map, append-assoc}
+use Prim.Native.Nat.{ℕ, zero, suc, _+_, _*_, _-_, _≤_, _<_}
 use native.Mathlib.Omega.{arith}
 use native.Mathlib.Nat.{eq-or-lt-of-le}
 use lib.Dec.{ltb}
-use lib.ListN.{length, getD, take, drop, length-append, length-take, length-drop, List·getD-append}
-use lib.Seq.{take-at, drop-at, take-all, getD-append-add, drop-append-add, take-append-le, getD-take}
+use lib.ListN.{length, getD, take, drop, length-append, List·getD-append}
+use lib.Seq.{take-at, drop-at, take-all, getD-append-add}
 use borrow.Author.Tests.{ltb-true, ltb-false}
 use Rattle.mesh.specs.Limits.{max-radios, row-bytes}
 use Rattle.mesh.specs.Lists.{range, filter, overwrite}
-use Rattle.mesh.specs.Graph.{Link, link-of}
-use Rattle.mesh.specs.Tables.{marked, row-links, graph-in}
+use Rattle.mesh.specs.Graph.{link-of}
+use Rattle.mesh.specs.Tables.{marked}
 use Rattle.mesh.proofs.BoolLaws.{bool-cases}
-use Rattle.mesh.proofs.ListLaws.{In, in-filter, in-range, range-in, filter-append, filter-none}
+use Rattle.mesh.proofs.ListLaws.{In, in-filter, range-in, filter-append}
 use Rattle.rows.specs.Rows.{neighbours-of, row-listed}
 use Rattle.rows.proofs.Listing.{range-append}
 use Rattle.rows.proofs.RowWords.{row-listed-whole}
-use Rattle.image_writer.specs.Links.{uppers, links-to, upper-links, links-from, First-above, Span-of}
+use Rattle.image_writer.specs.Links.{uppers, links-to, First-above, Span-of}
 
 -- ---- laws of lists
 

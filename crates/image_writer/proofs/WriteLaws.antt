@@ -2,11 +2,11 @@
 -- In order: the links of a sound site, the number of questions 1 to 3, the three outcomes.
 use mathlib.Core.Path.{_≡_, refl, sym, ap, ap₂, _∙_}
 use mathlib.Core.Bool.{Bool, true, false, _&&_}
-use mathlib.Core.List.{List, [], _∷_, _++_, map, flatMap, append-nil}
+use mathlib.Core.List.{List, [], _++_, flatMap, append-nil}
 use Prim.Native.Nat.{ℕ, zero, suc, _+_, _*_, _-_, _≤_, _<_}
 use native.Mathlib.Omega.{arith}
 use lib.ListN.{length, drop}
-use borrow.Author.Tests.{lt-leb, le-leb}
+use borrow.Author.Tests.{lt-leb}
 use Rattle.mesh.specs.Limits.{max-radios, max-neighbours, row-bytes}
 use Rattle.mesh.specs.Lists.{range, filter, overwrite}
 use Rattle.mesh.specs.Graph.{Link, Graph, graph}
@@ -14,16 +14,14 @@ use Rattle.mesh.specs.Tables.{Tables, marked, row-links, graph-in}
 use Rattle.mesh.specs.Sound.{symmetric, irreflexive, within, few, rows-proper, sound}
 use Rattle.mesh.specs.Image.{block-bytes, block-count, block-at, image-of}
 use Rattle.mesh.proofs.BoolLaws.{and-left, and-right}
-use Rattle.mesh.proofs.ListLaws.{In, range-in, filter-append, filter-none}
+use Rattle.mesh.proofs.ListLaws.{range-in, filter-append, filter-none}
 use Rattle.mesh.proofs.RowLaws.{within-of, few-of}
 use Rattle.mesh.proofs.Soundness.{sound-certificate}
-use Rattle.mesh.proofs.Valid.{Valid}
 use Rattle.mesh.proofs.ImageOf.{length-image-of}
 use Rattle.mesh.proofs.ImageTables.{valid-graph-in}
 use Rattle.mesh.proofs.DegreeSum.{links-most}
 use Rattle.calls.specs.Questions.{ask, lengths-of, Lengths, size-good, site-lengths, lent-refusal, site-refusal, write-refusal, image-length, holds-image}
-use Rattle.calls.specs.Answers.{Write-contract, Listing-accepted, Listing-refused}
-use Rattle.calls.specs.declared.Value.{Value}
+use Rattle.calls.specs.Answers.{Write-contract, Listing-refused}
 use Rattle.calls.proofs.ContractLaws.{by-accepted, by-refused}
 use Rattle.calls.proofs.QuestionLaws.{ask-no}
 use Rattle.calls.proofs.ChainLaws.{Site-good, site-zero, site-yes, write-yes}

@@ -16,7 +16,7 @@ use Rattle.mesh.specs.Lists.{range, count, filter, member, overwrite}
 use Rattle.mesh.specs.Graph.{Graph, radios, linked, degree, neighbours-among, neighbours-in, relinked}
 use Rattle.mesh.specs.Cores.{Group, number, numbers}
 use Rattle.mesh.specs.Levels.{changed, step-of, with-stretch, new-order}
-use Rattle.mesh.specs.Tables.{Tables, tables, graph-in, put-link}
+use Rattle.mesh.specs.Tables.{Tables, graph-in, put-link}
 use Rattle.mesh.proofs.BoolLaws.{bool-cases, never, and-left}
 use Rattle.mesh.proofs.ListLaws.{In, in-member, member-in, not-member, range-in, count-mono, count-le-length, length-range, distinct-range, length-filter, filter-none, filter-ext, filter-append, member-filter, distinct-filter, Distinct, take-overwrite}
 use Rattle.mesh.proofs.Peeling.{number-core, length-numbers, getD-numbers}

@@ -6,14 +6,14 @@ use mathlib.Core.Bool.{Bool, true, false, cond}
 use mathlib.Core.List.{List, [], _∷_, _++_}
 use Prim.Native.Nat.{ℕ, zero, suc, _+_, _-_, _≤_, _<_}
 use native.Mathlib.Omega.{arith}
-use lib.ListN.{length, getD, take, drop}
+use lib.ListN.{length, getD}
 use Rattle.mesh.specs.Limits.{max-radios}
 use Rattle.mesh.specs.Lists.{filter, member, head-or}
 use Rattle.mesh.specs.Tables.{marked}
-use Rattle.mesh.proofs.BoolLaws.{bool-cases, never}
+use Rattle.mesh.proofs.BoolLaws.{bool-cases}
 use Rattle.mesh.proofs.ListLaws.{In, member-in, in-filter, Distinct}
 use Rattle.mesh.proofs.OrderLaws.{Rising}
-use Rattle.rows.specs.Rows.{neighbours-of, row-listed}
+use Rattle.rows.specs.Rows.{neighbours-of}
 use Rattle.rows.proofs.RowListLaws.{Ascending, ascending-neighbours-of, in-neighbours-of, member-neighbours-of}
 use Rattle.links.specs.Peels.{stretch, Level}
 use Rattle.links.proofs.StretchLoops.{length-stretch, getD-stretch}

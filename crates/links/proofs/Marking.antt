@@ -13,7 +13,7 @@ use borrow.Author.Tests.{eq-eqb}
 use Rattle.mesh.specs.Limits.{max-radios, row-bytes}
 use Rattle.mesh.specs.Lists.{range, member}
 use Rattle.mesh.specs.Tables.{marked, put-bit}
-use Rattle.mesh.proofs.ListLaws.{In, range-in, filter-ext}
+use Rattle.mesh.proofs.ListLaws.{range-in, filter-ext}
 use Rattle.mesh.proofs.TableLaws.{length-put-bit, marked-put-bit, marked-replicate, byte-at-less}
 use Rattle.rows.specs.Rows.{neighbours-of, row-listed}
 use Rattle.rows.proofs.RowWords.{row-listed-whole}

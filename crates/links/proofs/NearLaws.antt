@@ -1,18 +1,18 @@
 -- The neighbours of a radio after a link went up or down: by the row's own bits where the radio is no end of the link, else by
 -- a copy of the row with one bit put.
 use mathlib.Core.Path.{_≡_, refl, sym, ap, _∙_}
-use mathlib.Core.Bool.{Bool, true, false, _&&_, cond}
+use mathlib.Core.Bool.{Bool, _&&_, cond}
 use mathlib.Core.List.{List, [], _∷_, _++_, append-nil}
-use Prim.Native.Nat.{ℕ, zero, suc, _+_, _*_, _-_, _/_, _%_, _≤_, _<_}
+use Prim.Native.Nat.{ℕ, zero, suc, _+_, _*_, _-_, _/_, _≤_, _<_}
 use native.Mathlib.Omega.{arith}
 use lib.Dec.{eqb}
 use lib.ListN.{length, getD, take, drop, length-drop}
 use lib.Seq.{take-all, drop-nil, getD-take, getD-drop, length-take-le}
 use borrow.Author.Tests.{eq-eqb, ne-eqb}
 use Rattle.mesh.specs.Limits.{max-radios, row-bytes}
-use Rattle.mesh.specs.Lists.{range, filter, overwrite}
-use Rattle.mesh.specs.Tables.{digit, byte-at, marked, put-bit, put-link}
-use Rattle.mesh.proofs.ListLaws.{In, range-in, filter-ext, take-overwrite}
+use Rattle.mesh.specs.Lists.{range, overwrite}
+use Rattle.mesh.specs.Tables.{byte-at, marked, put-bit, put-link}
+use Rattle.mesh.proofs.ListLaws.{range-in, filter-ext, take-overwrite}
 use Rattle.mesh.proofs.TableLaws.{length-put-bit, marked-put-bit}
 use Rattle.rows.specs.Rows.{neighbours-of, row-listed}
 use Rattle.rows.proofs.RowWords.{row-listed-whole}

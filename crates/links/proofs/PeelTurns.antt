@@ -5,7 +5,7 @@ use mathlib.Core.Path.{_≡_, refl, sym, ap, _∙_}
 use mathlib.Core.Logic.{_⊎_, inl, inr}
 use mathlib.Core.Bool.{Bool, true, false, _&&_, _||_, cond, or-false}
 use mathlib.Core.List.{List, [], _∷_, _++_}
-use Prim.Native.Nat.{ℕ, zero, suc, _+_, _-_, _≤_, _<_}
+use Prim.Native.Nat.{ℕ, _+_, _-_, _≤_, _<_}
 use native.Mathlib.Omega.{arith}
 use lib.Dec.{ltb, leb, eqb}
 use lib.ListN.{length, getD, length-append}
@@ -13,11 +13,11 @@ use borrow.Author.Tests.{eqb-true, eqb-false, eq-eqb, ne-eqb, leb-true, leb-fals
 use Rattle.mesh.specs.Limits.{max-radios, row-bytes}
 use Rattle.mesh.specs.Lists.{count, filter, member, head-or}
 use Rattle.mesh.specs.Tables.{marked, put-bit}
-use Rattle.mesh.proofs.BoolLaws.{bool-cases, never, and-left, and-right, and-both, bit-one, bit-true, bit-false}
-use Rattle.mesh.proofs.ListLaws.{In, in-left, in-right, in-cases, in-drop, member-in, in-member, not-member, split-in, count-mid, count-pos, count-all, permutation-in, Distinct, distinct-mid, distinct-right, distinct-apart, permutation-distinct, filter-ext}
+use Rattle.mesh.proofs.BoolLaws.{bool-cases, never, and-left, and-right, bit-false}
+use Rattle.mesh.proofs.ListLaws.{In, in-left, in-right, in-cases, in-drop, member-in, in-member, not-member, split-in, count-mid, count-pos, count-all, permutation-in, Distinct, distinct-mid, distinct-right, permutation-distinct, filter-ext}
 use Rattle.mesh.proofs.TableLaws.{length-put-bit}
 use Rattle.mesh.proofs.OrderLaws.{Rising}
-use Rattle.mesh.proofs.Peel.{Takes, Peels, takes-more, takes-permutation, takes-now-in, takes-taken-in, takes-now-filter}
+use Rattle.mesh.proofs.Peel.{Peels, takes-more, takes-permutation, takes-now-in, takes-taken-in, takes-now-filter}
 use Rattle.rows.specs.Rows.{neighbours-of}
 use Rattle.rows.proofs.RowListLaws.{distinct-neighbours-of, in-neighbours-of, member-neighbours-of}
 use Rattle.links.specs.Turns.{released, places-released, Releasable}

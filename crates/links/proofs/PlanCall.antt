@@ -1,5 +1,5 @@
 -- The facts that a plan's code hands from call to call, as the code names its values.
-use mathlib.Core.Path.{_≡_, refl, sym, ap, _∙_}
+use mathlib.Core.Path.{_≡_, refl, ap, _∙_}
 use mathlib.Core.Logic.{_⊎_, inl, inr}
 use mathlib.Core.Bool.{Bool, true, false, not, _&&_, _||_}
 use mathlib.Core.List.{List}
@@ -10,7 +10,7 @@ use lib.ListN.{length, getD, replicate, length-replicate}
 use lib.Seq.{sets}
 use borrow.Author.Tests.{eqb-true, eq-eqb}
 use Rattle.mesh.specs.Limits.{max-radios, max-neighbours, row-bytes}
-use Rattle.mesh.specs.Lists.{range, count, filter}
+use Rattle.mesh.specs.Lists.{range, filter}
 use Rattle.mesh.specs.Graph.{Graph, radios, linked, neighbours-in}
 use Rattle.mesh.specs.Cores.{Group, number}
 use Rattle.mesh.specs.Tables.{tables, byte-at, graph-in}

@@ -2,7 +2,7 @@
 use mathlib.Core.Path.{_≡_, sym, ap, ap₂, subst, _∙_}
 use mathlib.Core.Logic.{_⊎_, inl, inr}
 use mathlib.Core.Bool.{Bool, true, false, cond}
-use mathlib.Core.List.{List, [], _∷_, _++_}
+use mathlib.Core.List.{List, _++_}
 use Prim.Native.Nat.{ℕ, _+_, _≤_, _<_}
 use native.Mathlib.Omega.{arith}
 use lib.Dec.{ltb}
@@ -20,7 +20,7 @@ use Rattle.mesh.proofs.LinkMoves.{bound}
 use Rattle.mesh.proofs.LinkCall as link-call
 use Rattle.mesh.proofs.Peel.{Peels, Peeling, takes-permutation, takes-taken-in, takes-now-in}
 use Rattle.links.specs.Plans.{Ready, Planned, changed-part}
-use Rattle.links.specs.Peels.{stretch, above, level-start, level-size, linked-after, Peel-done}
+use Rattle.links.specs.Peels.{stretch, above, level-start, level-size, Peel-done}
 use Rattle.links.proofs.StretchLoops.{length-stretch}
 use Rattle.links.proofs.LevelLaws.{getD-in}
 use Rattle.links.proofs.PlanLevel.{is-valid, start-is, size-is, stretch-is, above-is, stretch-fits, stretch-number}

@@ -4,18 +4,18 @@ use mathlib.Core.Path.{_≡_, refl, sym, ap, ap₂, _∙_}
 use mathlib.Core.Logic.{_⊎_, inl, inr}
 use mathlib.Core.Bool.{Bool, true, false, _&&_, cond}
 use mathlib.Core.List.{List, [], _∷_, _++_, map}
-use Prim.Native.Nat.{ℕ, zero, suc, _+_, _*_, _-_, _≤_, _<_, min}
+use Prim.Native.Nat.{ℕ, _+_, _-_, _≤_, _<_, min}
 use native.Mathlib.Omega.{arith}
-use lib.Dec.{ltb, leb, eqb}
-use lib.ListN.{length, getD, take, drop, length-append}
+use lib.Dec.{ltb, eqb}
+use lib.ListN.{length, getD, length-append}
 use borrow.Author.Tests.{ltb-true, ltb-false, eqb-true, eq-eqb}
-use Rattle.mesh.specs.Limits.{max-radios, max-neighbours, row-bytes}
-use Rattle.mesh.specs.Lists.{range, count, filter, member}
+use Rattle.mesh.specs.Limits.{max-radios, max-neighbours}
+use Rattle.mesh.specs.Lists.{count}
 use Rattle.mesh.specs.Graph.{Graph, radios, linked, neighbours-among, degree, relinked, proper}
 use Rattle.mesh.specs.Cores.{number, numbers}
 use Rattle.mesh.specs.Levels.{lower-level, stretch-start, stretch-length}
-use Rattle.mesh.specs.Tables.{Tables, tables, marked, put-link, graph-in}
-use Rattle.mesh.specs.Sound.{symmetric, irreflexive, within, few, rows-proper, row-degree, sound}
+use Rattle.mesh.specs.Tables.{tables, marked, put-link, graph-in}
+use Rattle.mesh.specs.Sound.{symmetric, irreflexive, within, few, rows-proper, sound}
 use Rattle.mesh.proofs.BoolLaws.{bool-cases, never, and-left, and-right}
 use Rattle.mesh.proofs.ListLaws.{In, in-filter, filter-in, Each-once, once-in, once-below}
 use Rattle.mesh.proofs.GraphLaws.{ends, ends-of, linked-self, linked-sym}
@@ -25,7 +25,7 @@ use Rattle.mesh.proofs.KOrders.{k-order-certificate}
 use Rattle.mesh.proofs.LevelCut.{lows, mids, highs, level-cut, stretch-start-is, stretch-length-is, take-level, drop-above}
 use Rattle.mesh.proofs.LinkCall.{relinked-proper}
 use Rattle.mesh.proofs.LinkLaws.{link-valid}
-use Rattle.mesh.proofs.Valid.{Valid, Allowed}
+use Rattle.mesh.proofs.Valid.{Valid}
 use Rattle.mesh.proofs.RowLaws.{within-of, few-of, linked-within, row-degree-count}
 use Rattle.mesh.proofs.TableLaws.{marked-put-link}
 use Rattle.mesh.proofs.Relinked.{linked-relinked}

@@ -4,29 +4,29 @@ use mathlib.Core.Path.{_≡_, refl, sym, ap, _∙_}
 use mathlib.Core.Logic.{_⊎_, inl, inr}
 use mathlib.Core.Bool.{Bool, true, false, not, _&&_, _||_, cond}
 use mathlib.Core.List.{List, [], _∷_, _++_}
-use Prim.Native.Nat.{ℕ, zero, suc, _+_, _*_, _-_, _≤_, _<_, min}
+use Prim.Native.Nat.{ℕ, _+_, _-_, _≤_, _<_, min}
 use native.Mathlib.Omega.{arith}
 use native.Mathlib.Nat.{le-antisymm}
 use lib.Dec.{ltb, leb, eqb}
-use lib.ListN.{length, getD, take, drop}
-use borrow.Author.Tests.{ltb-true, ltb-false, eqb-true, eqb-false, eq-eqb, le-leb, lt-leb}
+use lib.ListN.{length, getD}
+use borrow.Author.Tests.{ltb-true, eqb-true, eqb-false, le-leb, lt-leb}
 use Rattle.mesh.specs.Limits.{max-radios, max-neighbours, row-bytes}
-use Rattle.mesh.specs.Lists.{range, count, filter, member}
-use Rattle.mesh.specs.Graph.{Graph, radios, linked, degree, neighbours-in, relinked}
+use Rattle.mesh.specs.Lists.{range, count, member}
+use Rattle.mesh.specs.Graph.{Graph, radios, linked, neighbours-in, relinked}
 use Rattle.mesh.specs.Cores.{number}
 use Rattle.mesh.specs.Tables.{tables, marked, graph-in}
-use Rattle.mesh.proofs.BoolLaws.{bool-cases, never, and-left, and-right, and-both, bit-true, bit-false}
-use Rattle.mesh.proofs.ListLaws.{In, in-cases, member-in, in-member, split-in, count-append, count-mono, count-mid, count-pos, count-none, in-filter, in-range, range-in, Distinct, distinct-mid, distinct-right, once-in, once-distinct, permutation-distinct}
+use Rattle.mesh.proofs.BoolLaws.{bool-cases, and-left, and-both, bit-true, bit-false}
+use Rattle.mesh.proofs.ListLaws.{In, in-cases, member-in, in-member, split-in, count-append, count-mono, count-mid, count-pos, count-none, in-filter, in-range, range-in, Distinct, distinct-mid, distinct-right, once-in, once-distinct}
 use Rattle.mesh.proofs.GraphLaws.{ends, ends-of, of-ends, linked-sym, neighbours-in-list, neighbours-in-subset, degree-in}
 use Rattle.mesh.proofs.LevelCut.{lows, mids, highs, level-cut}
 use Rattle.mesh.proofs.Peel.{none}
 use Rattle.mesh.proofs.Relinked.{linked-relinked}
 use Rattle.links.specs.Plans.{Ready}
 use Rattle.links.specs.Turns.{end-counted, ends-counted, places-fitting, Begin-ready}
-use Rattle.links.specs.Peels.{stretch, above, level-start, level-size, linked-after, Turning, Peel-ready}
+use Rattle.links.specs.Peels.{stretch, level-start, level-size, linked-after, Turning, Peel-ready}
 use Rattle.links.proofs.TurnLoops.{length-end-counted, length-places-fitting}
 use Rattle.links.proofs.BeginLaws.{getD-end-other, getD-end-same, marked-fitting}
-use Rattle.links.proofs.LevelLaws.{Stands, stretch-stands}
+use Rattle.links.proofs.LevelLaws.{stretch-stands}
 use Rattle.links.proofs.PlanLevel.{a-below, b-below, is-valid, certified, is-once, number-is, stretch-is, above-is, stretch-fits, stretch-number, is-level, row-is, row-few}
 
 -- ---- laws of lists

@@ -1,15 +1,14 @@
 -- The loops over a level's stretch, as invariants over what is left of their lists.
 -- In order: numbers counted below a level and at it; the radios of the stretch that a test passes, listed.
-use mathlib.Core.Path.{_≡_, refl, sym, ap, _∙_}
+use mathlib.Core.Path.{_≡_, refl, ap, _∙_}
 use mathlib.Core.Bool.{Bool, true, false, cond}
-use mathlib.Core.List.{List, [], _∷_}
+use mathlib.Core.List.{List, _∷_}
 use Prim.Native.Nat.{ℕ, _+_, _-_, _^_, _≤_, _<_}
 use native.Mathlib.Omega.{arith}
 use native.Mathlib.Numerals.{add-one}
-use lib.Dec.{ltb, eqb}
 use mir.Syntax.{w64}
 use mir.Val.{boolByte, Fits}
-use lib.ListN.{length, getD, set, take, drop, length-drop, length-set}
+use lib.ListN.{length, getD, set, drop, length-drop, length-set}
 use lib.Seq.{sets, drop-cons, drop-length, getD-take, getD-drop, length-take-le}
 use Rattle.mesh.specs.Lists.{count, filter}
 use Rattle.mesh.proofs.BoolLaws.{bit-one}

@@ -1,9 +1,8 @@
 // The plan of a link call: the lower end's stretch laid out anew by one peel, up and down alike. Nothing of the tables is written.
 ghost use mathlib.Core.Path.{_≡_};
 ghost use mathlib.Core.Bool.{false};
-ghost use Prim.Native.Nat.{ℕ, _≤_, _<_, _+_, min};
-ghost use lib.Dec.{ltb};
-ghost use lib.ListN.{length, getD, take};
+ghost use Prim.Native.Nat.{_≤_, _<_, _+_, min};
+ghost use lib.ListN.{length, getD};
 ghost use Rattle.mesh.specs.Lists.{range};
 ghost use Rattle.mesh.specs.Tables.{tables, graph-in};
 ghost use Rattle.mesh.proofs.LinkMoves.{bound};

@@ -1,7 +1,7 @@
 -- Laws of tests: cases, && and ||, and a test as 0 or 1.
-use mathlib.Core.Path.{_≡_, refl, sym, _∙_}
+use mathlib.Core.Path.{_≡_, refl, sym}
 use mathlib.Core.Logic.{_⊎_, inl, inr}
-use mathlib.Core.Bool.{Bool, true, false, _&&_, _||_, not, cond, or-true, Bool·beq}
+use mathlib.Core.Bool.{Bool, true, false, _&&_, _||_, cond, or-true, Bool·beq}
 use Prim.Native.Nat.{ℕ, _≤_, _<_}
 use native.Mathlib.Omega.{arith}
 use lib.Dec.{ltb}

@@ -1,17 +1,17 @@
 -- The order is a certificate: numbers that meet the local conditions along an order are the core numbers.
 -- Why: the first member, in the order, of any group has all its group neighbours later, so the group's k is at most that
 -- member's number, which is at most any later member's; and the radios numbered k or more are a group.
-use mathlib.Core.Path.{_≡_, refl, sym, _∙_}
+use mathlib.Core.Path.{_≡_, refl}
 use mathlib.Core.Logic.{_⊎_, inl, inr}
 use mathlib.Core.Bool.{Bool, true, false, _&&_, and-false}
 use mathlib.Core.List.{List, [], _∷_}
-use Prim.Native.Nat.{ℕ, _+_, _≤_, _<_}
+use Prim.Native.Nat.{ℕ, _≤_, _<_}
 use native.Mathlib.Omega.{arith}
 use native.Mathlib.Nat.{le-antisymm, le-trans, le-refl, le-of-eq}
 use lib.Dec.{leb}
 use borrow.Author.Tests.{leb-true, le-leb}
 use Rattle.mesh.specs.Lists.{count}
-use Rattle.mesh.specs.Graph.{Graph, linked, neighbours-in}
+use Rattle.mesh.specs.Graph.{Graph, linked}
 use Rattle.mesh.specs.Cores.{Group, Core}
 use Rattle.mesh.proofs.BoolLaws.{bool-cases, never, bit-false, and-left}
 use Rattle.mesh.proofs.ListLaws.{In, count-mono, Each-once, once-in, once-below}

@@ -3,7 +3,7 @@
 -- Why: take the radios that one of them reaches over changed radios. With no end among them, they and the radios above the level
 -- would be a group of the larger number in the graph without the link already.
 use mathlib.Core.Path.{_≡_, refl, sym, ap, _∙_}
-use mathlib.Core.Logic.{_⊎_, inl, inr, _↔_}
+use mathlib.Core.Logic.{_⊎_, inl, inr}
 use mathlib.Core.Bool.{Bool, true, false, _||_}
 use mathlib.Core.List.{List, [], _∷_}
 use Prim.Native.Nat.{ℕ, suc, _≤_, _<_}
@@ -19,7 +19,7 @@ use Rattle.mesh.proofs.BoolLaws.{bool-cases, never, or-cases, or-left, 
 use Rattle.mesh.proofs.GraphLaws.{Ends, Adds, adds-cases, adds-has, linked-sym, neighbours-in-mono}
 use Rattle.mesh.proofs.Certificate.{core-enough}
 use Rattle.mesh.proofs.Peeling.{number-core}
-use Rattle.mesh.proofs.Reach.{reachable-below, reachable-passes, reachable-trans, reachable-sym, reached-iff}
+use Rattle.mesh.proofs.Reach.{reachable-passes, reachable-trans, reachable-sym, reached-iff}
 
 module _ {p q : Graph} {a b : ℕ} (apart : Adds p q a b) (a-radio : a < q .n) (b-radio : b < q .n) (j : ℕ) (changed : List ℕ)
     (below : (v : ℕ) → member v changed ≡ true → v < q .n)

@@ -2,15 +2,15 @@
 -- In order: what a list of links joins, a link put in or taken out, proper links, graphs one link apart, neighbours in a set.
 use mathlib.Core.Path.{_≡_, refl, sym, ap, _∙_}
 use mathlib.Core.Logic.{_⊎_, inl, inr}
-use mathlib.Core.Bool.{Bool, true, false, _&&_, _||_, not, cond, and-true, and-false, or-comm, or-true, or-false}
-use mathlib.Core.List.{List, [], _∷_, _++_}
-use Prim.Native.Nat.{ℕ, zero, suc, _+_, _≤_, _<_}
+use mathlib.Core.Bool.{Bool, true, false, _&&_, _||_, not, cond, and-true, and-false, or-comm, or-true}
+use mathlib.Core.List.{List, [], _∷_}
+use Prim.Native.Nat.{ℕ, _≤_, _<_}
 use native.Mathlib.Omega.{arith}
-use native.Mathlib.Nat.{le-antisymm, le-trans}
-use lib.Dec.{ltb, leb, eqb}
-use borrow.Author.Tests.{ltb-true, ltb-false, lt-ltb, eqb-true, eq-eqb, ne-eqb, not-false}
+use native.Mathlib.Nat.{le-antisymm}
+use lib.Dec.{ltb, eqb}
+use borrow.Author.Tests.{ltb-true, ltb-false, lt-ltb, eqb-true, eq-eqb}
 use Rattle.mesh.specs.Lists.{range, count, filter, member}
-use Rattle.mesh.specs.Graph.{Link, Graph, graph, radios, other-ends, linked, neighbours-in, degree, neighbours-among, link, link-before, same-link, with-link, without-link, new-links, relinked, proper}
+use Rattle.mesh.specs.Graph.{Link, Graph, radios, other-ends, linked, neighbours-in, degree, neighbours-among, link, link-before, same-link, with-link, without-link, new-links, relinked, proper}
 use Rattle.mesh.proofs.BoolLaws.{bool-cases, never, and-left, and-right, and-both, or-cases, or-left, or-right, iff-eq}
 use Rattle.mesh.proofs.ListLaws.{In, member-in, in-member, in-range, range-in, distinct-range, Distinct, count-mono, count-sub, count-both, count-filter, Each-once}
 use Rattle.mesh.proofs.Valid.{smaller, larger}

@@ -1,8 +1,8 @@
 -- A k-order is a certificate of the core numbers, and a certificate is a k-order.
-use mathlib.Core.Path.{_≡_, refl, sym, _∙_}
-use mathlib.Core.Bool.{Bool, true, false, _&&_}
+use mathlib.Core.Path.{_≡_, sym}
+use mathlib.Core.Bool.{true, false, _&&_}
 use mathlib.Core.List.{List}
-use Prim.Native.Nat.{ℕ, _≤_, _<_}
+use Prim.Native.Nat.{ℕ, _<_}
 use native.Mathlib.Nat.{le-of-eq}
 use Rattle.mesh.specs.Graph.{Graph, linked}
 use Rattle.mesh.specs.Cores.{number}

@@ -2,7 +2,6 @@
 -- one stretch, and `stretch-start` and `stretch-length` say where it stands.
 use mathlib.Core.Path.{_≡_, refl, sym, ap, _∙_}
 use mathlib.Core.Logic.{_⊎_, inl, inr}
-use mathlib.Core.Bool.{Bool, true, false}
 use mathlib.Core.List.{List, [], _∷_, _++_, append-assoc}
 use Prim.Native.Nat.{ℕ, _+_, _≤_, _<_}
 use native.Mathlib.Omega.{arith}
@@ -10,12 +9,12 @@ use lib.Dec.{ltb, eqb}
 use lib.ListN.{length, length-append, take, drop}
 use lib.Seq.{take-at, drop-at}
 use borrow.Author.Tests.{lt-ltb, le-ltb, eq-eqb, ne-eqb}
-use Rattle.mesh.specs.Lists.{count, filter}
+use Rattle.mesh.specs.Lists.{filter}
 use Rattle.mesh.specs.Graph.{Graph, radios}
 use Rattle.mesh.specs.Cores.{number}
 use Rattle.mesh.specs.Levels.{stretch-start, stretch-length}
 use Rattle.mesh.proofs.BoolLaws.{trichotomy}
-use Rattle.mesh.proofs.ListLaws.{In, Each-once, filter-none, length-filter}
+use Rattle.mesh.proofs.ListLaws.{Each-once, filter-none, length-filter}
 use Rattle.mesh.proofs.OrderLaws.{Rising}
 
 abbrev pub lows : (num : ℕ → ℕ) → (k : ℕ) → List ℕ → List ℕ

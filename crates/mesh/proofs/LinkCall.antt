@@ -3,13 +3,13 @@
 use mathlib.Core.Path.{_≡_, refl, sym, ap, subst, _∙_}
 use mathlib.Core.Logic.{_⊎_, inl, inr}
 use mathlib.Core.Bool.{Bool, true, false, _&&_, _||_, not, cond, Bool·not-not}
-use mathlib.Core.List.{List, [], _∷_, _++_, append-assoc}
-use Prim.Native.Nat.{ℕ, suc, _+_, _-_, _≤_, _<_, min}
+use mathlib.Core.List.{List, _++_, append-assoc}
+use Prim.Native.Nat.{ℕ, suc, _+_, _-_, _≤_, _<_}
 use native.Mathlib.Omega.{arith}
-use lib.Dec.{ltb, leb, eqb}
-use lib.ListN.{length, take, drop}
+use lib.Dec.{ltb, eqb}
+use lib.ListN.{length}
 use borrow.Author.Tests.{ltb-true, eqb-true, eqb-false, eq-eqb, ne-eqb, not-true, not-false}
-use Rattle.mesh.specs.Lists.{range, count, filter, member}
+use Rattle.mesh.specs.Lists.{range, filter, member}
 use Rattle.mesh.specs.Graph.{Graph, radios, linked, neighbours-in, relinked, proper, new-links}
 use Rattle.mesh.specs.Cores.{Group, number}
 use Rattle.mesh.specs.Orders.{is-k-order}
@@ -20,7 +20,7 @@ use Rattle.mesh.proofs.GraphLaws.{linked-sym, proper-of, of-proper, pro
 use Rattle.mesh.proofs.Certificate.{Certificate}
 use Rattle.mesh.proofs.Peeling.{number-core}
 use Rattle.mesh.proofs.KOrders.{k-order-certificate, certificate-number, certificate-k-order}
-use Rattle.mesh.proofs.Peel.{Takes, Peels, Peeling, peeling, takes-permutation, takes-now-filter, laid-out-is, length-taken}
+use Rattle.mesh.proofs.Peel.{Takes, Peeling, takes-permutation, takes-now-filter, laid-out-is, length-taken}
 use Rattle.mesh.proofs.PeelSound.{Moves, Peeled-level, new-list, new-number, new-stuck, new-taken, new-else, taken-level, stuck-level, apart, peel-certificate}
 use Rattle.mesh.proofs.LinkMoves.{bound, link-moves}
 use Rattle.mesh.proofs.LevelCut.{lows, mids, highs, level-cut, stretch-start-is, stretch-length-is, take-below, take-level, drop-above}

@@ -8,16 +8,16 @@
 --   link-table       two bits of the links table change
 use mathlib.Core.Path.{_≡_, refl, sym, ap, _∙_}
 use mathlib.Core.Logic.{_⊎_, inl, inr}
-use mathlib.Core.Bool.{Bool, true, false, not}
+use mathlib.Core.Bool.{Bool, true, false}
 use mathlib.Core.List.{List, _++_, append-assoc}
 use Prim.Native.Nat.{ℕ, suc, _+_, _≤_, _<_}
 use native.Mathlib.Omega.{arith}
 use native.Mathlib.Nat.{le-trans}
 use lib.Dec.{eqb}
-use lib.ListN.{length, length-append, take, drop}
+use lib.ListN.{length, take, drop}
 use borrow.Author.Tests.{eqb-true, eqb-false}
 use Rattle.mesh.specs.Limits.{max-radios}
-use Rattle.mesh.specs.Lists.{range, count, member}
+use Rattle.mesh.specs.Lists.{range, member}
 use Rattle.mesh.specs.Graph.{Graph, radios, linked, neighbours-among, degree, relinked}
 use Rattle.mesh.specs.Cores.{number}
 use Rattle.mesh.specs.Levels.{changed, lower-level, stretch-start, stretch-length, new-stretch, new-order}

@@ -7,10 +7,10 @@ use Prim.Native.Nat.{ℕ, suc, _+_, _-_, _≤_, _<_, min}
 use native.Mathlib.Omega.{arith}
 use native.Mathlib.Nat.{le-trans}
 use lib.Dec.{eqb}
-use borrow.Author.Tests.{eqb-true, eq-eqb, ne-eqb}
+use borrow.Author.Tests.{eq-eqb, ne-eqb}
 use Rattle.mesh.specs.Lists.{count}
 use Rattle.mesh.specs.Graph.{Graph, linked, relinked}
-use Rattle.mesh.proofs.BoolLaws.{never, iff-eq, bit-one}
+use Rattle.mesh.proofs.BoolLaws.{never, iff-eq}
 use Rattle.mesh.proofs.ListLaws.{Distinct, distinct-one, count-mono}
 use Rattle.mesh.proofs.Valid.{smaller, larger}
 use Rattle.mesh.proofs.GraphLaws.{Ends, Adds, adds-keeps, adds-cases}

@@ -1,19 +1,19 @@
 -- Laws of orders: the conditions of a k-order as types, with a bridge to each test, and how they pass along parts of a list.
-use mathlib.Core.Path.{_≡_, refl, sym, ap, _∙_}
+use mathlib.Core.Path.{_≡_, refl}
 use mathlib.Core.Logic.{_⊎_, inl, inr}
-use mathlib.Core.Bool.{Bool, true, false, _&&_, not, cond}
+use mathlib.Core.Bool.{Bool, true, not}
 use mathlib.Core.List.{List, [], _∷_, _++_}
-use Prim.Native.Nat.{ℕ, zero, suc, _+_, _≤_, _<_}
+use Prim.Native.Nat.{ℕ, _+_, _≤_, _<_}
 use native.Mathlib.Omega.{arith}
-use native.Mathlib.Nat.{le-trans, le-refl, le-of-eq}
+use native.Mathlib.Nat.{le-trans}
 use lib.Dec.{leb, eqb}
 use lib.ListN.{length}
 use borrow.Author.Tests.{leb-true, le-leb, eqb-true, eq-eqb}
 use Rattle.mesh.specs.Lists.{range, count, all}
-use Rattle.mesh.specs.Graph.{Graph, linked, neighbours-among, neighbours-in}
+use Rattle.mesh.specs.Graph.{Graph, neighbours-among, neighbours-in}
 use Rattle.mesh.specs.Orders.{each-once, rising, few-later}
 use Rattle.mesh.proofs.BoolLaws.{and-left, and-right, and-both}
-use Rattle.mesh.proofs.ListLaws.{In, in-left, in-cases, Distinct, distinct-range, distinct-one, count-append, count-mid, count-mono, count-not, count-some, count-pos, count-sub, in-range, range-in, length-range, Permutation, Each-once, once-in, once-distinct, once-length, all-below, below-all}
+use Rattle.mesh.proofs.ListLaws.{In, in-left, in-cases, Distinct, distinct-range, distinct-one, count-append, count-mid, count-mono, count-not, count-some, count-pos, count-sub, range-in, length-range, Permutation, Each-once, once-in, once-distinct, once-length, all-below, below-all}
 
 -- ---- each radio once
 

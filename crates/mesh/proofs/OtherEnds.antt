@@ -1,16 +1,16 @@
 -- The other ends of a radio's links are its neighbours, each once: so links can be counted as they are listed.
 --   distinct-other-ends   no neighbour comes twice
 --   ends-neighbours-in    the other ends that pass are the neighbours that pass
-use mathlib.Core.Path.{_≡_, refl, sym, ap, _∙_}
+use mathlib.Core.Path.{_≡_, ap, _∙_}
 use mathlib.Core.Logic.{_⊎_, inl, inr}
 use mathlib.Core.Bool.{Bool, true, false, _&&_, cond}
 use mathlib.Core.List.{List, [], _∷_}
-use Prim.Native.Nat.{ℕ, _<_}
+use Prim.Native.Nat.{ℕ}
 use native.Mathlib.Omega.{arith}
 use native.Mathlib.Nat.{le-antisymm}
 use lib.Dec.{eqb}
 use borrow.Author.Tests.{eqb-true}
-use Rattle.mesh.specs.Lists.{range, count, member}
+use Rattle.mesh.specs.Lists.{range, count}
 use Rattle.mesh.specs.Graph.{Link, Graph, radios, linked, neighbours-in, other-ends, proper, ascending}
 use Rattle.mesh.proofs.BoolLaws.{bool-cases, and-left, and-right, and-both}
 use Rattle.mesh.proofs.ListLaws.{In, member-in, in-member, Distinct, in-range, distinct-range, count-sub}

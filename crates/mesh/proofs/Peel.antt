@@ -5,18 +5,18 @@
 -- A loop grows `Takes` at its end (takes-more) and ends with `Peels`; document 01's rule is the same peel (laid-out-is).
 use mathlib.Core.Path.{_≡_, refl, sym, ap, _∙_}
 use mathlib.Core.Logic.{_⊎_, inl, inr}
-use mathlib.Core.Bool.{Bool, true, false, not, cond}
+use mathlib.Core.Bool.{Bool, true, false, not}
 use mathlib.Core.List.{List, [], _∷_, _++_, append-assoc}
 use Prim.Native.Nat.{ℕ, zero, suc, _+_, _≤_, _<_}
 use native.Mathlib.Omega.{arith}
-use lib.Dec.{leb, eqb}
+use lib.Dec.{leb}
 use lib.ListN.{length, length-append}
 use borrow.Author.Tests.{leb-true, leb-false, le-leb, lt-leb, eq-eqb, ne-eqb}
 use Rattle.mesh.specs.Lists.{count, filter, member}
 use Rattle.mesh.specs.Graph.{neighbours-among}
 use Rattle.mesh.specs.Levels.{first-fitting, without, laid-out}
 use Rattle.mesh.proofs.BoolLaws.{bool-cases, bit-false}
-use Rattle.mesh.proofs.ListLaws.{In, in-left, in-right, member-in, in-member, not-member, count-append, count-mid, count-not, count-all, Distinct, Permutation, permutation-in, distinct-mid, in-filter, filter-all, filter-append, filter-keep-mid, filter-drop-mid, length-filter, count-parts}
+use Rattle.mesh.proofs.ListLaws.{In, in-left, in-right, in-member, not-member, count-append, count-mid, count-not, count-all, Distinct, Permutation, permutation-in, distinct-mid, in-filter, filter-all, filter-append, filter-keep-mid, filter-drop-mid, length-filter, count-parts}
 use Rattle.mesh.proofs.OrderLaws.{Few-later, few-later-drop}
 
 module _ (f : ℕ → ℕ → Bool) (most : ℕ) (others : List ℕ) where

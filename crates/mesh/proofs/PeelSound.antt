@@ -3,7 +3,7 @@
 use mathlib.Core.Path.{_≡_, refl, sym, ap, _∙_}
 use mathlib.Core.Logic.{_⊎_, inl, inr}
 use mathlib.Core.Bool.{Bool, true, false, _&&_, cond}
-use mathlib.Core.List.{List, [], _∷_, _++_}
+use mathlib.Core.List.{List, _++_}
 use Prim.Native.Nat.{ℕ, suc, _+_, _≤_, _<_}
 use native.Mathlib.Omega.{arith}
 use native.Mathlib.Nat.{le-trans, le-of-eq}
@@ -16,7 +16,7 @@ use Rattle.mesh.proofs.ListLaws.{In, in-left, in-cases, member-in, in-m
 use Rattle.mesh.proofs.GraphLaws.{neighbours-in-list, neighbours-in-mono, neighbours-in-filter}
 use Rattle.mesh.proofs.OrderLaws.{Rising, rising-append, rising-left, rising-right, rising-level, rising-cong, Few-later, few-later-right, few-later-front, few-later-cong, Enough}
 use Rattle.mesh.proofs.Certificate.{Certificate}
-use Rattle.mesh.proofs.Peel.{Takes, Peels, takes-permutation, takes-now-in, takes-taken-in, takes-now-few, takes-taken-few}
+use Rattle.mesh.proofs.Peel.{Peels, takes-permutation, takes-now-in, takes-taken-in, takes-now-few, takes-taken-few}
 
 -- s before and t after a link call: nothing differs at radios below the level and between radios above it; a radio gains at
 -- most as many neighbours as the bound allows, and loses at most as many

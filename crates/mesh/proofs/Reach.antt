@@ -8,10 +8,9 @@ use Prim.Native.Nat.{ℕ, zero, suc, _+_, _≤_, _<_}
 use native.Mathlib.Omega.{arith}
 use lib.Dec.{ltb}
 use lib.ListN.{length}
-use borrow.Author.Tests.{ltb-true, lt-ltb, leb-true, le-leb, not-true}
+use borrow.Author.Tests.{ltb-true, lt-ltb, not-true}
 use Rattle.mesh.specs.Lists.{range, count, filter, member}
 use Rattle.mesh.specs.Graph.{Graph, radios, linked, neighbours-among}
-use Rattle.mesh.specs.Cores.{number}
 use Rattle.mesh.specs.Connected.{Reachable, here, onward, at-least, In-core, reached, core-of}
 use Rattle.mesh.proofs.BoolLaws.{bool-cases, never, and-left, and-right, and-both, or-cases, or-left, or-right, iff-eq}
 use Rattle.mesh.proofs.ListLaws.{In, Distinct, member-in, in-member, count-all, count-le-length, count-pos, count-some, count-sub, in-range, range-in, distinct-range, length-range, in-filter, filter-in, member-filter, length-filter, filter-none, filter-ext, distinct-filter}

@@ -1,20 +1,19 @@
 -- Valid sites to start from: a cleared one, and one read from an image.
-use mathlib.Core.Path.{_≡_, refl, sym, ap, _∙_}
+use mathlib.Core.Path.{_≡_, refl}
 use mathlib.Core.Logic.{inl, inr}
-use mathlib.Core.Bool.{Bool, true, false, _&&_}
+use mathlib.Core.Bool.{true, false, _&&_}
 use mathlib.Core.List.{List, [], _∷_, map}
-use Prim.Native.Nat.{ℕ, zero, suc, _≤_, _<_}
+use Prim.Native.Nat.{ℕ, zero, suc, _≤_}
 use native.Mathlib.Omega.{arith}
 use native.Mathlib.Nat.{le-of-eq}
 use lib.ListN.{replicate}
 use Rattle.mesh.specs.Limits.{max-radios, max-neighbours}
 use Rattle.mesh.specs.Lists.{range, count, member, same}
-use Rattle.mesh.specs.Graph.{Graph, graph, radios, other-ends, linked, neighbours-among, degree, proper, ascending}
+use Rattle.mesh.specs.Graph.{graph, radios, other-ends, linked, neighbours-among, degree, proper, ascending}
 use Rattle.mesh.specs.Cores.{number, numbers}
-use Rattle.mesh.specs.Orders.{is-k-order}
 use Rattle.mesh.specs.Tables.{tables-of}
-use Rattle.mesh.specs.Sound.{sound, sound-within}
-use Rattle.mesh.specs.Image.{image-graph, image-links, image-order, image-of, is-image}
+use Rattle.mesh.specs.Sound.{sound}
+use Rattle.mesh.specs.Image.{image-graph, image-order, image-of, is-image}
 use Rattle.mesh.proofs.BoolLaws.{and-left, and-right}
 use Rattle.mesh.proofs.ListLaws.{In, count-none, range-in}
 use Rattle.mesh.proofs.OrderLaws.{Rising, Few-later}

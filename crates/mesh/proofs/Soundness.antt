@@ -3,11 +3,11 @@
 --   valid-sound   the tables of a valid site are sound
 --   sound-valid   sound tables of proper ascending links are a valid site's
 -- Each takes the bound on a row's bits as a parameter.
-use mathlib.Core.Path.{_≡_, refl, sym, ap, subst, _∙_}
+use mathlib.Core.Path.{_≡_, refl, sym, ap, _∙_}
 use mathlib.Core.Logic.{_↔_}
 use mathlib.Core.Bool.{Bool, true, false, _&&_}
 use mathlib.Core.List.{List}
-use Prim.Native.Nat.{ℕ, _+_, _≤_, _<_}
+use Prim.Native.Nat.{ℕ, _≤_, _<_}
 use native.Mathlib.Omega.{arith}
 use native.Mathlib.Nat.{le-trans, le-of-eq}
 use lib.Dec.{leb}
@@ -16,15 +16,15 @@ use lib.Seq.{ext-getD}
 use borrow.Author.Tests.{leb-true, le-leb}
 use Rattle.mesh.specs.Limits.{max-radios}
 use Rattle.mesh.specs.Lists.{range, count}
-use Rattle.mesh.specs.Graph.{Graph, graph, radios, linked, neighbours-in, degree, proper, ascending}
+use Rattle.mesh.specs.Graph.{Graph, radios, linked, neighbours-in, proper, ascending}
 use Rattle.mesh.specs.Cores.{number, numbers}
 use Rattle.mesh.specs.Orders.{each-once, rising, few-later, is-k-order}
-use Rattle.mesh.specs.Tables.{Tables, tables, marked, links-table, graph-in, tables-of}
-use Rattle.mesh.specs.Sound.{symmetric, irreflexive, within, few, rows-proper, row-degree, enough, number-in, sound-within}
+use Rattle.mesh.specs.Tables.{Tables, marked, links-table, graph-in, tables-of}
+use Rattle.mesh.specs.Sound.{symmetric, irreflexive, within, few, rows-proper, enough, number-in, sound-within}
 use Rattle.mesh.proofs.BoolLaws.{and-left, and-right, and-both}
-use Rattle.mesh.proofs.ListLaws.{In, count-ext, Each-once, once-below, in-range, range-in, all-below, below-all}
+use Rattle.mesh.proofs.ListLaws.{In, count-ext, Each-once, once-below, range-in, all-below, below-all}
 use Rattle.mesh.proofs.GraphLaws.{linked-self, neighbours-in-subset}
-use Rattle.mesh.proofs.OrderLaws.{each-once-of, of-each-once, Rising, rising-of, of-rising, rising-cong, Few-later, few-later-of, of-few-later, few-later-cong, Enough}
+use Rattle.mesh.proofs.OrderLaws.{each-once-of, of-each-once, rising-of, of-rising, rising-cong, Few-later, few-later-of, of-few-later, few-later-cong, Enough}
 use Rattle.mesh.proofs.Certificate.{Certificate}
 use Rattle.mesh.proofs.Peeling.{length-numbers, getD-numbers}
 use Rattle.mesh.proofs.KOrders.{k-order-certificate, certificate-number, certificate-k-order}

@@ -3,7 +3,7 @@
 --   Allowed most up a b g  questions 4 to 7 of a link call got yes
 --   smaller, larger      of the graphs before and after a link call, the one without the link and the one with it
 use mathlib.Core.Path.{_≡_}
-use mathlib.Core.Bool.{Bool, true, false, not, cond}
+use mathlib.Core.Bool.{Bool, true, false, not}
 use mathlib.Core.List.{List}
 use Prim.Native.Nat.{ℕ, _≤_, _<_}
 use Rattle.mesh.specs.Graph.{Graph, linked, degree, relinked, proper, ascending}

@@ -6,7 +6,7 @@
 --   backbone g               document 01: the radios whose number is the greatest at the site; none if that is 0
 -- That rounds give what is reachable is `core-of-iff` in proofs/Reach.antt. Definitions only.
 use mathlib.Core.Path.{_≡_}
-use mathlib.Core.Bool.{Bool, true, false, _&&_, _||_}
+use mathlib.Core.Bool.{Bool, true, _&&_, _||_}
 use mathlib.Core.List.{List, [], _∷_}
 use Prim.Native.Nat.{ℕ, zero, suc, _<_, max}
 use lib.Dec.{ltb, leb, eqb}

@@ -10,7 +10,7 @@
 --   is-image n bs            question 11: the bytes are the image of sound tables with this n
 --   payload-at bs i          the payload of block i, as the block reader gives it
 -- Definitions only.
-use mathlib.Core.Bool.{Bool, true, false, _&&_, not, cond}
+use mathlib.Core.Bool.{Bool, _&&_, not, cond}
 use mathlib.Core.List.{List, [], _∷_, _++_, map, flatMap}
 use Prim.Native.Nat.{ℕ, zero, suc, _+_, _*_, _-_, _/_, _%_}
 use lib.Dec.{ltb, eqb}

@@ -9,9 +9,9 @@
 --   sound-within       all conditions, where `most` bounds the bits of a row
 --   sound n t          document 01: the tables t of n radios are sound
 -- The conditions on the order alone are `each-once`, `rising` and `few-later` of specs/Orders.antt. Definitions only.
-use mathlib.Core.Bool.{Bool, true, false, _&&_, not, Bool·beq}
+use mathlib.Core.Bool.{Bool, _&&_, not, Bool·beq}
 use mathlib.Core.List.{List}
-use Prim.Native.Nat.{ℕ, _*_, _-_}
+use Prim.Native.Nat.{ℕ, _-_}
 use lib.Dec.{leb}
 use lib.ListN.{getD}
 use Rattle.mesh.specs.Limits.{max-radios, max-neighbours}

@@ -7,8 +7,8 @@
 --   graph-in n ts      the graph that the links table ts marks, read back from the bits above the diagonal
 --   tables-of g xs     the tables of the graph g with the order xs
 -- Laws are in proofs/TableLaws.antt. Definitions only.
-use mathlib.Core.Bool.{Bool, true, false, cond}
-use mathlib.Core.List.{List, [], _∷_, map, flatMap}
+use mathlib.Core.Bool.{Bool, cond}
+use mathlib.Core.List.{List, map, flatMap}
 use Prim.Native.Nat.{ℕ, zero, suc, _+_, _*_, _-_, _/_, _%_, _^_}
 use lib.Dec.{eqb}
 use lib.ListN.{getD, set}

@@ -3,7 +3,7 @@
 use mathlib.Core.Path.{_≡_, refl, sym, ap, subst, _∙_}
 use mathlib.Core.Bool.{Bool, true, false, true≢false}
 use mathlib.Core.List.{List, [], _∷_, _++_}
-use Prim.Native.Nat.{ℕ, _+_, _≤_, _<_, min}
+use Prim.Native.Nat.{ℕ, _+_, _≤_, _<_}
 use native.Mathlib.Omega.{arith}
 use native.Mathlib.Numerals.{add-one}
 use lib.ListN.{length, take, set, length-take}
@@ -15,7 +15,7 @@ use Rattle.printing.specs.Print.{Buffer, lent, put, Puts}
 use Rattle.script.specs.declared.lines.Line.{Line}
 use Rattle.script.specs.declared.lines.Line.the-variants.{Radios, Up, Down, Bad}
 use Rattle.player.specs.Lines.{is-call, Passed-over, Played, Prints}
-use Rattle.player.specs.Machine.{Spot, spot, next-number, Stop-put, Stopped, Held-on, Line-taken, Line-ends, Takes}
+use Rattle.player.specs.Machine.{Spot, spot, next-number, Stop-put, Stopped, Line-taken, Line-ends, Takes}
 use Rattle.player.specs.declared.machine.Progress.{Progress}
 use Rattle.player.proofs.MachineLaws.{takes-long, takes-held, takes-line}
 

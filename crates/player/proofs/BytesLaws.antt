@@ -8,10 +8,10 @@ use native.Mathlib.Omega.{arith}
 use lib.ListN.{length, take, drop, getD, length-drop}
 use lib.Seq.{take-suc, getD-drop}
 use Rattle.mesh.proofs.BoolLaws.{trichotomy}
-use Rattle.printing.specs.Print.{Buffer, put, Puts}
+use Rattle.printing.specs.Print.{Buffer, put}
 use Rattle.printing.proofs.PrintLaws.{puts-append}
 use Rattle.player.specs.Lines.{Prints}
-use Rattle.player.specs.Machine.{Spot, Ignored, Takes, In-turn, Takes-all}
+use Rattle.player.specs.Machine.{Spot, Ignored, Takes, Takes-all}
 use Rattle.player.proofs.MachineLaws.{takes-none}
 
 -- ---- one byte more

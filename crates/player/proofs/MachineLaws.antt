@@ -1,5 +1,5 @@
 -- Laws of the machine that takes bytes: each thing that a byte can do, from what the code has tested; bytes in turn; the end.
-use mathlib.Core.Path.{_≡_, refl, sym, ap, _∙_}
+use mathlib.Core.Path.{_≡_, refl, _∙_}
 use mathlib.Core.Bool.{Bool, true, false}
 use mathlib.Core.List.{List, [], _∷_, _++_}
 use Prim.Native.Nat.{ℕ, zero, suc, _+_, _≤_, _<_, min}
@@ -12,7 +12,7 @@ use Rattle.script.specs.Lines.{line-of}
 use Rattle.printing.specs.Print.{Buffer, Puts}
 use Rattle.printing.proofs.PrintLaws.{puts-as, puts-append}
 use Rattle.player.specs.Lines.{is-call}
-use Rattle.player.specs.Machine.{Spot, next-number, Stopped, Held-on, Line-taken, Line-ends, Ignored, Step, Takes, Takes-all, closing}
+use Rattle.player.specs.Machine.{Spot, next-number, Stopped, Held-on, Line-ends, Ignored, Step, Takes, closing}
 
 -- ---- counting
 

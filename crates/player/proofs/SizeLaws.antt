@@ -3,34 +3,34 @@ use mathlib.Core.Path.{_≡_, refl, sym, ap, subst, _∙_}
 use mathlib.Core.Logic.{_⊎_, inl, inr}
 use mathlib.Core.Bool.{Bool, true, false, cond}
 use mathlib.Core.List.{List, [], _∷_, _++_, map}
-use Prim.Native.Nat.{ℕ, zero, suc, _+_, _*_, _^_, _≤_, _<_, min}
+use Prim.Native.Nat.{ℕ, zero, suc, _+_, _^_, _≤_, _<_, min}
 use native.Mathlib.Omega.{arith}
-use lib.IntN.{ℤ, pos, negsuc, natAbs}
+use lib.IntN.{ℤ, natAbs}
 use lib.Dec.{eqb}
 use lib.ListN.{length, take, drop, length-append}
 use borrow.Author.Tests.{eqb-false}
 use Rattle.mesh.proofs.BoolLaws.{bool-cases, trichotomy}
-use Rattle.mesh.specs.Limits.{max-radios, max-neighbours}
-use Rattle.mesh.specs.Lists.{range, filter, overwrite}
+use Rattle.mesh.specs.Limits.{max-radios}
+use Rattle.mesh.specs.Lists.{range, filter}
 use Rattle.mesh.specs.Graph.{Graph, radios}
 use Rattle.mesh.specs.Levels.{changed, step-of}
 use Rattle.mesh.specs.Sound.{sound}
 use Rattle.mesh.specs.Tables.{Tables, graph-in}
 use Rattle.mesh.proofs.ListLaws.{In, in-filter, length-filter, count-le-length, length-range, range-in, take-overwrite}
 use Rattle.calls.specs.Replay.{bytes-of, decimal, link-line, bad-line, printed-line, numbers-line, order-line, closing-lines}
-use Rattle.calls.specs.Questions.{ask, By-number, Lengths, lengths-of, answer-length, link-refusal, site-refusal, lent-refusal, ends-refusal}
+use Rattle.calls.specs.Questions.{ask, By-number, Lengths, lengths-of, link-refusal, site-refusal, lent-refusal, ends-refusal}
 use Rattle.calls.specs.Writes.{Link-accepted, Link-refused, Link-contract}
 use Rattle.calls.specs.declared.Reply.{Reply}
 use Rattle.calls.proofs.ChainLaws.{link-zero}
 use Rattle.script.specs.Lines.{line-of}
-use Rattle.printing.specs.Print.{Buffer, lent, put, Puts, max-place}
+use Rattle.printing.specs.Print.{Buffer, lent, max-place}
 use Rattle.script.specs.declared.lines.Line.{Line}
 use Rattle.script.specs.declared.lines.Line.the-variants.{Radios, Up, Down, Bad}
 use Rattle.printing.proofs.LengthLaws.{length-line-le, length-link-line-le}
 use Rattle.printing.proofs.PrintLaws.{at-put, puts-whole}
-use Rattle.player.specs.Lines.{is-call, Called, Passed-over, Played, Prints}
+use Rattle.player.specs.Lines.{Called, Played, Prints}
 use Rattle.player.specs.declared.machine.Progress.{Progress}
-use Rattle.player.specs.Machine.{Spot, spot, next-number, Stopped, Held-on, Line-taken, Line-ends, Ignored, Step, Takes, full, longest, closing-longest, closing}
+use Rattle.player.specs.Machine.{Spot, spot, next-number, Line-ends, Step, Takes, full, longest, closing-longest, closing}
 
 -- ---- the reply of a call
 

@@ -3,24 +3,22 @@
 --   run-prints     a whole run: what `Run-prints` says of the input
 --   run-bad        the run of an input whose first line names no site
 use mathlib.Core.Path.{_≡_, refl, sym, ap, subst, _∙_}
-use mathlib.Core.Logic.{_⊎_, inl, inr}
-use mathlib.Core.Bool.{Bool, true, false, cond, true≢false}
+use mathlib.Core.Bool.{Bool, true, false, cond}
 use mathlib.Core.List.{List, [], _∷_, _++_, append-assoc, append-nil}
 use Prim.Native.Nat.{ℕ, zero, suc, _+_, _≤_, _<_}
 use native.Mathlib.Omega.{arith}
 use lib.Dec.{leb, eqb}
 use lib.ListN.{length, length-append}
 use borrow.Author.Tests.{leb-true, eqb-true, eqb-false}
-use Rattle.mesh.proofs.BoolLaws.{bool-cases}
 use Rattle.mesh.specs.Tables.{Tables}
-use Rattle.calls.specs.Replay.{line-feed, bad-line, closing-lines}
+use Rattle.calls.specs.Replay.{line-feed, bad-line}
 use Rattle.script.specs.Lines.{line-of}
-use Rattle.player.specs.Lines.{is-call, Played}
+use Rattle.player.specs.Lines.{is-call}
 use Rattle.player.specs.Play.{radios-of}
-use Rattle.player.specs.Machine.{Spot, next-number, Stopped, Held-on, Line-taken, Line-ends, Ignored, Step, line-room, Takes, Takes-all, closing, ending}
+use Rattle.player.specs.Machine.{Spot, next-number, Stopped, Held-on, Line-ends, Ignored, Step, line-room, Takes, Takes-all, closing, ending}
 use Rattle.player.specs.Whole.{lines-of, front, rest, Line-then, Line-by, Lines-print, start, Run-from, Run-prints}
 use Rattle.player.proofs.MachineLaws.{step-as}
-use Rattle.player.proofs.SplitLaws.{No-feed, no-feed-more, lines-before, lines-last, First-line, first-line, lines-ended, unended-no-call, long-no-call}
+use Rattle.player.proofs.SplitLaws.{No-feed, no-feed-more, lines-before, lines-last, first-line, lines-ended, unended-no-call, long-no-call}
 
 -- ---- after the end of the run
 

@@ -5,7 +5,6 @@ ghost use mathlib.Core.Bool.{true};
 ghost use Prim.Native.Nat.{_≤_, _<_, _+_, _-_};
 ghost use lib.ListN.{length, take, drop};
 ghost use Rattle.mesh.specs.Tables.{tables};
-ghost use Rattle.calls.specs.Replay.{bad-line};
 ghost use Rattle.printing.specs.Print.{lent, Puts, max-place};
 ghost use Rattle.player.specs.Lines.{Prints};
 ghost use Rattle.player.specs.Machine.{spot, next-number, Stop-put, Takes, Takes-all, closing, full, longest};

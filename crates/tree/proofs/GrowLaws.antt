@@ -4,10 +4,9 @@ use mathlib.Core.Path.{_≡_, refl, sym, ap, ap₂, _∙_}
 use mathlib.Core.Logic.{_⊎_, inl, inr}
 use mathlib.Core.Bool.{Bool, true, false, _&&_, _||_, not, cond}
 use mathlib.Core.List.{List, [], _∷_, _++_, map, append-nil}
-use Prim.Native.Nat.{ℕ, zero, suc, _+_, _*_, _≤_, _<_}
+use Prim.Native.Nat.{ℕ, suc, _+_, _≤_, _<_}
 use native.Mathlib.Omega.{arith}
 use native.Mathlib.Nat.{zero-add}
-use native.Mathlib.Numerals.{add-one}
 use lib.Dec.{eqb}
 use lib.ListN.{length, getD, take, set, replicate, length-append, length-replicate}
 use lib.Seq.{getD-take}
@@ -15,13 +14,12 @@ use borrow.Author.Tests.{eqb-true, eq-eqb, not-true}
 use Rattle.mesh.specs.Limits.{max-radios, row-bytes}
 use Rattle.mesh.specs.Lists.{range, member, overwrite}
 use Rattle.mesh.specs.Graph.{Graph, radios}
-use Rattle.mesh.specs.Cores.{number}
 use Rattle.mesh.specs.Tables.{Tables, marked, graph-in}
 use Rattle.mesh.specs.Connected.{In-core, core-of}
 use Rattle.mesh.specs.Tree.{node, parent-name}
 use Rattle.mesh.specs.declared.Node.{Node}
-use Rattle.mesh.proofs.BoolLaws.{bool-cases, never, and-left, and-right, and-both, iff-eq}
-use Rattle.mesh.proofs.ListLaws.{In, in-member, take-overwrite, getD-map-range, length-map, length-range}
+use Rattle.mesh.proofs.BoolLaws.{bool-cases, and-left, and-right, iff-eq}
+use Rattle.mesh.proofs.ListLaws.{in-member, take-overwrite, getD-map-range, length-map, length-range}
 use Rattle.mesh.proofs.TableLaws.{marked-replicate, byte-at-less}
 use Rattle.mesh.proofs.Reach.{core-of-iff}
 use Rattle.mesh.proofs.CoreLevels.{in-core-below}
@@ -29,10 +27,10 @@ use Rattle.floods.specs.Floods.{Flood-done}
 use Rattle.floods.proofs.FloodSteps.{true-floodable}
 use Rattle.floods.proofs.FloodCore.{member-flood, marked-flood}
 use Rattle.floods.proofs.SoundSite.{Sound-site, number-entry}
-use Rattle.tree.specs.Trees.{Lists, lists, with-front, Room, entries-set, Core-named, takes-node, Node-taken, Nothing-taken, Visited}
+use Rattle.tree.specs.Trees.{Lists, lists, with-front, Room, entries-set, takes-node, Node-taken, Nothing-taken, Visited}
 use Rattle.tree.specs.Trees.{own, covered, present, nodes-before, Growing, Marks}
 use Rattle.tree.proofs.ShellCover.{own-lead, own-covered, not-covered-own, core-not-covered, covered-none, covered-next, present-next, present-own, present-start, present-end}
-use Rattle.tree.proofs.NodeLists.{map-append, length-map-any, map-range-same, set-overwrite, entries-set-map, node-of, nodes-before-next, nodes-before-end, length-nodes-before}
+use Rattle.tree.proofs.NodeLists.{map-append, length-map-any, map-range-same, set-overwrite, entries-set-map, nodes-before-next, nodes-before-end, length-nodes-before}
 
 -- ---- nodes and names in front
 

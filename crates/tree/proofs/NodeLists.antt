@@ -2,26 +2,25 @@
 -- In order: laws of lists; nodes from one radio and one level to the next; how many they are; one node more in front.
 use mathlib.Core.Path.{_≡_, refl, sym, ap, ap₂, _∙_}
 use mathlib.Core.Logic.{_⊎_, inl, inr}
-use mathlib.Core.Bool.{Bool, true, false, _&&_, _||_, not, cond}
+use mathlib.Core.Bool.{Bool, true, false, _&&_, _||_, cond}
 use mathlib.Core.List.{List, [], _∷_, _++_, map, flatMap, append-nil, append-assoc}
 use Prim.Native.Nat.{ℕ, zero, suc, _+_, _-_, _≤_, _<_}
 use native.Mathlib.Omega.{arith}
 use native.Mathlib.Nat.{zero-add}
 use native.Mathlib.Numerals.{add-one}
-use lib.Dec.{ltb, leb, eqb}
-use lib.ListN.{length, getD, drop, set, length-append, length-set}
+use lib.Dec.{leb, eqb}
+use lib.ListN.{length, getD, drop, set, length-append}
 use lib.Seq.{drop-cons, set-at, set-append-left}
-use borrow.Author.Tests.{ltb-true, lt-ltb, le-ltb, leb-true, le-leb, lt-leb, eqb-true, eqb-false, eq-eqb, ne-eqb}
+use borrow.Author.Tests.{leb-true, le-leb, lt-leb, eqb-true, eq-eqb, ne-eqb}
 use Rattle.mesh.specs.Lists.{range, count, filter, member, overwrite}
 use Rattle.mesh.specs.Graph.{Graph, radios}
 use Rattle.mesh.specs.Cores.{number}
 use Rattle.mesh.specs.Tree.{root, node, node-name, parent-name, nodes-at, tree}
 use Rattle.mesh.specs.declared.Node.{Node}
-use Rattle.mesh.proofs.BoolLaws.{bool-cases, never, bit-one, bit-le, bit-true, bit-false}
-use Rattle.mesh.proofs.ListLaws.{In, range-in, filter-append, filter-none, length-filter, count-append, count-le-length, count-mono, length-range, length-map}
-use Rattle.mesh.proofs.TreeLaws.{number-le-n}
+use Rattle.mesh.proofs.BoolLaws.{bool-cases, bit-one, bit-le}
+use Rattle.mesh.proofs.ListLaws.{In, range-in, filter-append, filter-none, length-filter, count-append, count-le-length, length-range, length-map}
 use Rattle.rows.proofs.Listing.{range-append}
-use Rattle.tree.specs.Trees.{Lists, lists, with-front, entries-set, own, nodes-within, nodes-before}
+use Rattle.tree.specs.Trees.{entries-set, own, nodes-within, nodes-before}
 
 -- ---- laws of lists
 

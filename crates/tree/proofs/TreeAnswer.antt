@@ -17,7 +17,7 @@ use Rattle.calls.proofs.ContractLaws.{by-accepted, by-refused}
 use Rattle.calls.proofs.ChainLaws.{Site-good, site-zero}
 use Rattle.calls.proofs.QuestionLaws.{true-size-good, true-site-lengths, nodes-length-true, answer-length-true}
 use Rattle.soundness.specs.Checks.{fits-sound}
-use Rattle.tree.specs.Trees.{Lists, lists, Room, Grown, Tables-accepted, Tables-refused, places, Tables-contract}
+use Rattle.tree.specs.Trees.{Lists, Room, Grown, Tables-accepted, Tables-refused, places, Tables-contract}
 
 -- ---- room
 

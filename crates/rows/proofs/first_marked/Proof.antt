@@ -1,13 +1,11 @@
 -- `rows::first_marked` meets its contract: no radio is marked before word k (`Searching`), and the lowest set bit of the first
 -- word that is not 0 is the row's. The measure is the words that are left.
-use mathlib.Core.Path.{_≡_, sym, ap, _∙_}
-use Prim.Native.Nat.{_+_, _*_, _-_, _≤_, _<_}
+use mathlib.Core.Path.{sym, ap, _∙_}
+use Prim.Native.Nat.{_-_}
 use native.Mathlib.Omega.{arith}
 use lib.Count.{trailing-le}
-use lib.ListN.{length}
 use borrow.Author.Needs.{needs}
 use Rattle.mesh.specs.Lists.{head-or}
-use Rattle.rows.specs.Rows.{neighbours-of}
 use Rattle.rows.proofs.RowWords.{Searching, searching-turn, searching-found, row-from-zero, row-from-end, row-listed-whole, row-listed-short}
 use Rattle.rows.proofs.first_marked.Statement.{statement}
 use Rattle.rows.proofs.first_marked.Tie as tie

@@ -1,5 +1,5 @@
 -- `blocks::block` meets its contract: a refusal, the end, or a block.
-use mathlib.Core.Path.{_≡_, refl, sym, _∙_}
+use mathlib.Core.Path.{refl, sym, _∙_}
 use borrow.Author.Tests.{lt-ltb, le-ltb}
 use Rattle.calls.specs.Answers.{Block-contract, Block-accepted, Block-none}
 use Rattle.calls.proofs.ContractLaws.{by-accepted, by-refused}

@@ -2,7 +2,6 @@
 -- what is left of the bytes.
 use Prim.Native.Nat.{_-_}
 use native.Mathlib.Omega.{arith}
-use lib.ListN.{length}
 use borrow.Author.Needs.{needs}
 use Rattle.image.proofs.CheckLaws.{Summing, summing-none, summing-turn, summing-end, product-fits, sum-fits}
 use Rattle.image.proofs.checks.check_sum.Statement.{statement}

@@ -1,5 +1,4 @@
 -- `checks::refusal` meets its contract: each test is a question of the chain, and its "no" the number.
-use mathlib.Core.Path.{_∙_, sym}
 use borrow.Author.Tests.{not-true, not-false, eq-eqb, ne-eqb}
 use Rattle.mesh.specs.Image.{whole-blocks}
 use Rattle.calls.specs.Questions.{ask, block-refusal, blocks-refusal}

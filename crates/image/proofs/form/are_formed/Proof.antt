@@ -1,5 +1,5 @@
 -- `form::are_formed` meets its contract: the blocks passed are formed, so what is left decides. The measure is the blocks left.
-use mathlib.Core.Path.{_≡_, sym, ap₂, _∙_}
+use mathlib.Core.Path.{sym, ap₂, _∙_}
 use mathlib.Core.Bool.{Bool}
 use Prim.Native.Nat.{ℕ, _-_}
 use native.Mathlib.Omega.{arith}

@@ -1,6 +1,5 @@
 -- `form::are_zeros` meets its contract: the bytes passed are zero, so what is left decides. The measure is the bytes left.
 use mathlib.Core.Path.{sym}
-use mathlib.Core.Bool.{Bool}
 use Prim.Native.Nat.{ℕ, _+_, _-_}
 use native.Mathlib.Omega.{arith}
 use lib.Dec.{eqb}

@@ -1,5 +1,4 @@
 -- `form::is_block` meets its contract: each test is a part of the definition.
-use mathlib.Core.Path.{_≡_, sym, _∙_}
 use borrow.Author.Tests.{eq-eqb, ne-eqb}
 use Rattle.image.specs.Form.{block-formed}
 use borrow.Author.Needs.{needs}

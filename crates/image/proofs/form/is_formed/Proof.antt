@@ -1,6 +1,4 @@
 -- `form::is_formed` meets its contract: each test is a part of the definition.
-use mathlib.Core.Path.{_≡_, refl, sym, ap, _∙_}
-use native.Mathlib.Omega.{arith}
 use borrow.Author.Tests.{eq-eqb, ne-eqb, lt-leb, le-leb}
 use Rattle.image.specs.Form.{is-formed}
 use borrow.Author.Needs.{needs}

@@ -1,5 +1,5 @@
 -- `form::plan_of` meets its contract: by the block's kind.
-use mathlib.Core.Path.{_≡_, sym, ap, _∙_}
+use mathlib.Core.Path.{ap, _∙_}
 use Prim.Native.Nat.{ℕ, _-_, _*_, min}
 use native.Mathlib.Omega.{arith}
 use Rattle.mesh.specs.Image.{block-links, order-blocks, block-count, blocks-for}

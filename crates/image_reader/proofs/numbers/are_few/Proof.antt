@@ -1,7 +1,7 @@
 -- `numbers::are_few` meets its contract: over equal ranks every link is counted.
-use mathlib.Core.Path.{_≡_, sym, ap, _∙_}
+use mathlib.Core.Path.{sym, ap, _∙_}
 use Prim.Native.Nat.{ℕ}
-use lib.ListN.{length, replicate}
+use lib.ListN.{replicate}
 use Rattle.mesh.specs.Limits.{max-neighbours}
 use Rattle.image_reader.proofs.KOrderLaws.{few-tallied}
 use borrow.Author.Needs.{needs}

@@ -1,5 +1,5 @@
 -- `numbers::is_k_order` meets its contract: each step hands its counts to the next; the mathematics is in `proofs.KOrderLaws`.
-use mathlib.Core.Path.{_≡_, sym, _∙_}
+use mathlib.Core.Path.{sym, _∙_}
 use native.Mathlib.Omega.{arith}
 use borrow.Author.Tests.{not-true, not-false}
 use Rattle.image_reader.proofs.KOrderLaws.{placed-once, not-placed, k-order-decided}

@@ -1,6 +1,6 @@
 -- `pairs::are_listed` meets its contract: the links passed are proper and ascend, so what is left decides. The measure is the
 -- links left.
-use mathlib.Core.Path.{_≡_, sym, _∙_}
+use mathlib.Core.Path.{sym, _∙_}
 use Prim.Native.Nat.{_-_}
 use native.Mathlib.Omega.{arith}
 use borrow.Author.Tests.{not-true, not-false}

@@ -1,9 +1,6 @@
 -- `pairs::is_before` meets its contract: by the lower radios, then by the higher ones.
-use mathlib.Core.Path.{_≡_}
-use native.Mathlib.Omega.{arith}
 use borrow.Author.Tests.{lt-ltb, le-ltb, eq-eqb, ne-eqb}
 use Rattle.mesh.specs.Graph.{link-before}
-use borrow.Author.Needs.{needs}
 use Rattle.image_reader.proofs.pairs.is_before.Statement.{statement}
 use Rattle.image_reader.proofs.pairs.is_before.Tie as tie
 

@@ -1,5 +1,5 @@
 -- `pairs::pair_at` meets its contract: the place is the definition's own.
-use mathlib.Core.Path.{_≡_, ap, _∙_}
+use mathlib.Core.Path.{ap, _∙_}
 use Prim.Native.Nat.{ℕ, _+_}
 use native.Mathlib.Omega.{arith}
 use Rattle.mesh.specs.Image.{block-links, word-at, image-link, entry-at, order-blocks, blocks-for}

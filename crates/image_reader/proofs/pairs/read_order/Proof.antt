@@ -1,5 +1,5 @@
 -- `pairs::read_order` meets its contract: 16-bit entries being written, each read from its place. The measure is the entries left.
-use mathlib.Core.Path.{_≡_, sym, ap, _∙_}
+use mathlib.Core.Path.{ap, _∙_}
 use Prim.Native.Nat.{ℕ, _-_, _%_}
 use native.Mathlib.Omega.{arith}
 use lib.ListN.{length}

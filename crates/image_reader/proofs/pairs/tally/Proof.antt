@@ -1,13 +1,9 @@
 -- `pairs::tally` meets its contract: the links passed are counted. The measure is the links left.
 use mathlib.Core.Path.{_≡_, sym, ap, _∙_}
-use mathlib.Core.Bool.{Bool}
-use mathlib.Core.List.{List}
-use Prim.Native.Nat.{ℕ, _+_, _-_, _≤_, _<_}
+use Prim.Native.Nat.{ℕ, _-_, _≤_}
 use native.Mathlib.Omega.{arith}
 use lib.ListN.{length, replicate}
 use borrow.Author.Needs.{needs}
-use Rattle.mesh.specs.Image.{image-link}
-use Rattle.image_reader.specs.Pairs.{links-up-to}
 use Rattle.image_reader.proofs.TallyLaws.{Tallying, tallying-none, tallying-end, tallying-two, proper-pair, once-fits, one-fits}
 use Rattle.image_reader.proofs.pairs.tally.Statement.{statement}
 use Rattle.image_reader.proofs.pairs.tally.Tie as tie

@@ -1,5 +1,5 @@
 -- `reader::is_site` meets its contract: the first part of question 11 that gets no refuses, and the last one decides.
-use mathlib.Core.Path.{_≡_, ap, _∙_}
+use mathlib.Core.Path.{ap, _∙_}
 use Prim.Native.Nat.{ℕ}
 use borrow.Author.Tests.{not-true, not-false}
 use Rattle.mesh.specs.Image.{image-order}

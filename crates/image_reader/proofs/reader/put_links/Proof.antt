@@ -1,6 +1,6 @@
 -- `reader::put_links` meets its contract: the links passed are marked. The measure is the links left.
-use mathlib.Core.Path.{_≡_, refl, sym, ap, _∙_}
-use Prim.Native.Nat.{ℕ, _-_, _≤_}
+use mathlib.Core.Path.{_≡_, refl, _∙_}
+use Prim.Native.Nat.{_-_, _≤_}
 use native.Mathlib.Omega.{arith}
 use lib.ListN.{length}
 use Rattle.image_reader.proofs.TableWritten.{Linking, linking-none, linking-turn, linking-end}

@@ -1,6 +1,6 @@
 -- `reader::put_numbers` meets its contract: 8-bit entries being written. The measure is the entries left.
-use mathlib.Core.Path.{_≡_, refl, sym, ap, _∙_}
-use Prim.Native.Nat.{ℕ, _-_, _%_}
+use mathlib.Core.Path.{refl}
+use Prim.Native.Nat.{ℕ, _-_}
 use native.Mathlib.Omega.{arith}
 use lib.ListN.{length, getD}
 use Rattle.tables.proofs.WidthLaws.{Writing, writing-none, writing-turn, writing-all}

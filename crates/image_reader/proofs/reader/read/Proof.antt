@@ -1,5 +1,5 @@
 -- `reader::read` meets its contract: the questions in turn, then the reading over scratch for each radio.
-use mathlib.Core.Path.{_≡_, sym}
+use mathlib.Core.Path.{sym}
 use lib.Seq.{length-take-le}
 use Rattle.mesh.specs.Tables.{tables}
 use Rattle.calls.specs.Questions.{lengths-of}

@@ -1,5 +1,4 @@
 -- `reader::read_site` meets its contract: nothing is written before question 11 got yes.
-use mathlib.Core.Path.{_≡_, _∙_}
 use borrow.Author.Tests.{not-true, not-false}
 use Rattle.image_reader.proofs.SiteLaws.{site-refused, site-accepted, site-proper}
 use borrow.Author.Needs.{needs}

@@ -1,5 +1,5 @@
 -- `writer::close_block` meets its contract: the check's two lower and two upper bytes.
-use mathlib.Core.Path.{_≡_, ap, _∙_}
+use mathlib.Core.Path.{ap, _∙_}
 use mathlib.Core.List.{List}
 use Prim.Native.Nat.{ℕ, _/_}
 use lib.Seq.{sets}

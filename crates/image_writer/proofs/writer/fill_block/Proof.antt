@@ -1,6 +1,5 @@
 -- `writer::fill_block` meets its contract: the block's kind goes by its number.
-use mathlib.Core.Path.{_≡_, sym, ap, _∙_}
-use Prim.Native.Nat.{_-_, _≤_, _<_}
+use Prim.Native.Nat.{_-_}
 use native.Mathlib.Omega.{arith}
 use Rattle.mesh.specs.Image.{order-blocks, blocks-for}
 use Rattle.image_writer.proofs.BlockFilling.{filled-counts, filled-order, filled-links}

@@ -1,5 +1,5 @@
 -- `writer::fill_counts` meets its contract: the payload of an opened block, which is then sealed.
-use mathlib.Core.Path.{_≡_, ap, _∙_}
+use mathlib.Core.Path.{ap, _∙_}
 use mathlib.Core.List.{List}
 use Prim.Native.Nat.{ℕ}
 use lib.Seq.{sets}

@@ -1,5 +1,5 @@
 -- `writer::fill_links` meets its contract: the payload of an opened block, which is then sealed.
-use mathlib.Core.Path.{_≡_, ap, _∙_}
+use mathlib.Core.Path.{ap, _∙_}
 use mathlib.Core.List.{List, flatMap}
 use Prim.Native.Nat.{ℕ}
 use lib.ListN.{take}

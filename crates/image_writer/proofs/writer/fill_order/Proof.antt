@@ -1,8 +1,7 @@
 -- `writer::fill_order` meets its contract: the payload of an opened block, which is then sealed.
-use mathlib.Core.Path.{_≡_, ap, _∙_}
+use mathlib.Core.Path.{ap, _∙_}
 use mathlib.Core.List.{List, flatMap}
 use Prim.Native.Nat.{ℕ}
-use native.Mathlib.Omega.{arith}
 use lib.Seq.{sets}
 use Rattle.mesh.specs.Image.{word}
 use Rattle.image_writer.specs.Filler.{sealed}

@@ -1,5 +1,5 @@
 -- `writer::open_block` meets its contract: zeros, then the kind and the index.
-use mathlib.Core.Path.{_≡_, ap, _∙_}
+use mathlib.Core.Path.{ap, _∙_}
 use Prim.Native.Nat.{ℕ}
 use lib.Seq.{length-sets}
 use Rattle.mesh.specs.Image.{word}

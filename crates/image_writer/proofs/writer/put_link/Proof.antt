@@ -1,5 +1,5 @@
 -- `writer::put_link` meets its contract: the lower radio's bytes, then the higher one's.
-use mathlib.Core.Path.{_≡_, ap, sym, _∙_}
+use mathlib.Core.Path.{ap, sym, _∙_}
 use mathlib.Core.List.{List}
 use Prim.Native.Nat.{ℕ, _+_}
 use lib.Seq.{sets}

@@ -1,7 +1,7 @@
 -- `writer::put_links` meets its contract: the links put and the links from the cursor on are all that were left (`Linking`). A row
 -- that has a link left filled the block. The measure is the rows left.
 use mathlib.Core.Path.{_≡_, _∙_}
-use Prim.Native.Nat.{_+_, _-_}
+use Prim.Native.Nat.{_-_}
 use native.Mathlib.Omega.{arith}
 use lib.ListN.{length}
 use borrow.Author.Needs.{needs}

@@ -1,8 +1,6 @@
 -- `writer::put_order` meets its contract: the entries so far stand in the payload. The measure is the entries left.
-use mathlib.Core.Path.{_≡_, ap, _∙_}
 use Prim.Native.Nat.{_+_, _-_}
 use native.Mathlib.Omega.{arith}
-use lib.ListN.{length}
 use Rattle.mesh.specs.Image.{word}
 use Rattle.mesh.proofs.WordLaws.{length-word}
 use Rattle.image_writer.proofs.FillerLaws.{Putting, putting-none, putting-turn, putting-end, order-part, length-order-part, getD-order-part}

@@ -1,9 +1,9 @@
 -- `writer::put_row` meets its contract: the links so far stand after the `count` links. The measure is the links left.
-use mathlib.Core.Path.{_≡_, refl, ap, sym, _∙_}
+use mathlib.Core.Path.{_≡_, ap, sym, _∙_}
 use mathlib.Core.List.{List, flatMap}
 use Prim.Native.Nat.{ℕ, _+_, _*_, _-_, _≤_}
 use native.Mathlib.Omega.{arith}
-use lib.ListN.{length, take}
+use lib.ListN.{take}
 use lib.Seq.{sets}
 use Rattle.mesh.specs.Graph.{Link, link-of}
 use Rattle.mesh.specs.Image.{link-bytes}

@@ -1,8 +1,7 @@
 -- `writer::write` meets its contract: a refusal touches nothing; accepted, the links are counted, and the blocks that hold them are
 -- filled in.
-use mathlib.Core.Path.{_≡_, refl, sym, ap, _∙_}
+use mathlib.Core.Path.{refl, sym, ap, _∙_}
 use native.Mathlib.Omega.{arith}
-use lib.ListN.{length}
 use Rattle.mesh.specs.Tables.{Tables, tables}
 use Rattle.mesh.specs.Image.{block-count, order-blocks, blocks-for}
 use Rattle.calls.specs.Questions.{lengths-of}

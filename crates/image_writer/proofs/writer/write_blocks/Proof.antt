@@ -1,7 +1,6 @@
 -- `writer::write_blocks` meets its contract: the blocks so far stand in front of the buffer, and the cursor stands before the next
 -- one. The measure is the blocks left.
-use mathlib.Core.Path.{_≡_, sym, ap, _∙_}
-use mathlib.Core.List.{_++_, flatMap}
+use mathlib.Core.Path.{_≡_, sym, _∙_}
 use Prim.Native.Nat.{_+_, _*_, _-_, _≤_}
 use native.Mathlib.Omega.{arith}
 use lib.ListN.{length, drop, length-drop}

@@ -1,5 +1,5 @@
 -- `changes::try_all` is safe and ends: the tables and the image keep their lengths, and the measure is what is left of the good image.
-use mathlib.Core.Path.{_≡_, refl}
+use mathlib.Core.Path.{_≡_}
 use lib.ListN.{length}
 use Prim.Native.Nat.{_-_}
 use native.Mathlib.Omega.{arith}

@@ -1,5 +1,5 @@
 -- `reading::try_cases` is safe and ends: the tables keep their lengths, and the measure is what is left of the cases.
-use mathlib.Core.Path.{_≡_, refl}
+use mathlib.Core.Path.{_≡_}
 use lib.ListN.{length}
 use Prim.Native.Nat.{_-_}
 use borrow.Author.Needs.{needs}

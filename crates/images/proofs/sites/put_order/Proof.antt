@@ -1,5 +1,5 @@
 -- `sites::put_order` is safe and ends: the order keeps its length, and the measure is what is left of it.
-use mathlib.Core.Path.{_≡_, refl}
+use mathlib.Core.Path.{_≡_}
 use lib.ListN.{length}
 use Prim.Native.Nat.{_-_}
 use borrow.Author.Needs.{needs}

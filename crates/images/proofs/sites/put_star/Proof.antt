@@ -1,5 +1,5 @@
 -- `sites::put_star` is safe and ends: the table keeps its length, and the measure is what is left of k.
-use mathlib.Core.Path.{_≡_, refl, ap, _∙_}
+use mathlib.Core.Path.{_≡_, ap, _∙_}
 use Rattle.mesh.proofs.TableLaws.{length-put-link}
 use lib.ListN.{length}
 use Prim.Native.Nat.{_-_}

@@ -1,5 +1,5 @@
 -- `apply::put_stretch` meets its contract: both parts of the stretch, one behind the other.
-use mathlib.Core.Path.{refl, sym, _∙_}
+use mathlib.Core.Path.{refl, sym}
 use native.Mathlib.Omega.{arith}
 use lib.Seq.{length-take-le}
 use Rattle.links.proofs.ChangeLaws.{paste-stretch}

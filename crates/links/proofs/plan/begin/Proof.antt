@@ -1,5 +1,4 @@
 -- `plan::begin` meets its contract: the ends differ, so what is counted for one leaves the other's counter.
-use native.Mathlib.Omega.{arith}
 use borrow.Author.Needs.{needs}
 use Rattle.links.proofs.BeginLaws.{begin-a, begin-b, begin-done, begin-places}
 use Rattle.links.proofs.plan.begin.Statement.{statement}

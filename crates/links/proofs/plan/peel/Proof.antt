@@ -1,8 +1,7 @@
 -- `plan::peel` meets its contract: the entries written so far are taken by the peel, counters and fitting places tell of what is
 -- left, and p is the lowest place that fits (`Peel-from`). The measure is the radios of the level that are not taken.
-use Prim.Native.Nat.{_+_, _-_, _≤_, _<_}
+use Prim.Native.Nat.{_-_}
 use native.Mathlib.Omega.{arith}
-use lib.ListN.{length}
 use borrow.Author.Needs.{needs}
 use Rattle.links.specs.Peels.{level-size}
 use Rattle.links.proofs.PeelLoop.{Peel-from, peel-none, peel-below, peel-room, peel-write, peel-near, peel-releasable, peel-turn, peel-end}

@@ -1,5 +1,4 @@
 -- `turn::count_end` meets its contract: each branch stores what `end-counted` names.
-use native.Mathlib.Omega.{arith}
 use borrow.Author.Needs.{needs}
 use borrow.Author.Tests.{eq-eqb, ne-eqb}
 use Rattle.links.specs.Turns.{end-counted}

@@ -1,5 +1,4 @@
 -- `turn::end_neighbours` meets its contract: a copy of the row with one bit put marks what the row with that bit put marks.
-use native.Mathlib.Omega.{arith}
 use borrow.Author.Needs.{needs}
 use Rattle.links.proofs.NearLaws.{lists-copy}
 use Rattle.links.proofs.turn.end_neighbours.Statement.{statement}

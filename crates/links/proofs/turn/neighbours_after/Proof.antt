@@ -1,5 +1,4 @@
 -- `turn::neighbours_after` meets its contract: the rows of both ends are read with one bit put, the other rows as they are.
-use native.Mathlib.Omega.{arith}
 use borrow.Author.Needs.{needs}
 use Rattle.links.proofs.NearLaws.{end-ready-a, end-ready-b, lists-a, lists-b, lists-other}
 use Rattle.links.proofs.turn.neighbours_after.Statement.{statement}

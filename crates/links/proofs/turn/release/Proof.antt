@@ -2,9 +2,9 @@
 -- is the radios that are left.
 use mathlib.Core.Path.{_≡_, sym}
 use mathlib.Core.Logic.{inl}
-use Prim.Native.Nat.{_+_, _-_}
+use Prim.Native.Nat.{_-_}
 use native.Mathlib.Omega.{arith}
-use lib.ListN.{length, take, getD}
+use lib.ListN.{take, getD}
 use lib.Seq.{length-take-le, getD-take}
 use borrow.Author.Needs.{needs}
 use Rattle.links.proofs.TurnLoops.{Releasing, releasing-none, releasing-next, releasing-turn, releasing-end}

@@ -1,5 +1,4 @@
 -- `turn::take_radio` meets its contract: the listed neighbours are the ones after the call, and they are released.
-use native.Mathlib.Omega.{arith}
 use lib.ListN.{length}
 use borrow.Author.Needs.{needs}
 use Rattle.links.proofs.NearLaws.{near-released, near-done}

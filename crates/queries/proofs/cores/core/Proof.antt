@@ -1,6 +1,5 @@
 -- `cores::core` meets its contract: the flood of a cleared set is the connected core, and its bits are listed ascending.
-use mathlib.Core.Path.{refl}
-use mathlib.Core.Path.{sym, _∙_}
+use mathlib.Core.Path.{refl, sym, _∙_}
 use native.Mathlib.Omega.{arith}
 use Rattle.mesh.specs.Tables.{tables}
 use Rattle.queries.proofs.CoreLaws.{core-refused, core-level, core-listed}

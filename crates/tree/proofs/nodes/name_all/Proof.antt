@@ -1,6 +1,6 @@
 -- `nodes::name_all` meets its contract: what is left of the list gives what all of it gives (`Setting`). The measure is what is
 -- left of the list.
-use Prim.Native.Nat.{ℕ, _-_}
+use Prim.Native.Nat.{_-_}
 use native.Mathlib.Omega.{arith}
 use lib.ListN.{take}
 use borrow.Author.Needs.{needs}
