@@ -13,7 +13,7 @@ use mathlib.Core.List.{List}
 use Prim.Native.Nat.{ℕ, _<_}
 use lib.ListN.{length, take}
 use Rattle.mesh.specs.Limits.{max-neighbours}
-use Rattle.mesh.specs.Lists.{member, overwrite}
+use Rattle.lists.specs.Lists.{member, overwrite}
 use Rattle.mesh.specs.Graph.{Graph, relinked}
 use Rattle.mesh.specs.Cores.{Core, number, numbers}
 use Rattle.mesh.specs.Orders.{is-k-order}
@@ -23,7 +23,7 @@ use Rattle.mesh.specs.Connected.{In-core, core-of}
 use Rattle.mesh.specs.Tree.{Is-tree, Node-name, tree, node-name, node-names}
 use Rattle.mesh.specs.Image.{image-of, image-graph, image-order, is-image}
 use Rattle.mesh.specs.declared.Node.{Node}
-use Rattle.mesh.proofs.ListLaws.{take-overwrite}
+use Rattle.lists.proofs.Overwrite.{take-overwrite}
 use Rattle.mesh.proofs.Peeling.{number-core, getD-numbers}
 use Rattle.mesh.proofs.Soundness.{valid-sound}
 use Rattle.mesh.proofs.Sites.{image-valid}

@@ -2,7 +2,7 @@
 use mathlib.Core.Path.{_≡_, refl}
 use mathlib.Core.Bool.{true}
 use mathlib.Core.List.{List, [], _∷_, _++_}
-use Rattle.mesh.proofs.BoolLaws.{and-left, and-right, and-both}
+use Rattle.lists.proofs.Tests.{and-left, and-right, and-both}
 use Rattle.calls.specs.Rows.{Row, right, all-right, compute}
 use Rattle.calls.specs.Cases.{triangle, two-triangles, two-triangles-tied, cases, m1, m2-before, m2, m3, m4, m5, m6, m7, m8, m9, m10}
 

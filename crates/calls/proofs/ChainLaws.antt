@@ -13,17 +13,15 @@ use Rattle.mesh.specs.Limits.{max-radios, max-neighbours}
 use Rattle.mesh.specs.Graph.{Graph}
 use Rattle.mesh.specs.Cores.{number}
 use Rattle.mesh.specs.Image.{whole-blocks, checks-good, is-image}
-use Rattle.mesh.proofs.BoolLaws.{and-left, and-right}
+use Rattle.lists.proofs.Tests.{and-left, and-right}
 use Rattle.mesh.proofs.Valid.{Allowed}
-use Rattle.calls.specs.Questions.{ask, Lengths, size-good, site-lengths, answer-length, are-radios, is-radio}
-use Rattle.calls.specs.Questions.{ends-differ, can-switch, has-room, has-level, image-length, holds-image}
-use Rattle.calls.specs.Questions.{lent-refusal, site-refusal, ends-refusal, link-refusal, radio-refusal, pair-refusal}
-use Rattle.calls.specs.Questions.{core-refusal, level-refusal, write-refusal, blocks-refusal, image-refusal, read-refusal}
-use Rattle.calls.proofs.QuestionLaws.{ask-yes, ask-zero, ask-later, size-good-true, true-size-good, Site-lengths}
-use Rattle.calls.proofs.QuestionLaws.{site-lengths-true, true-site-lengths, is-radio-true, true-is-radio}
-use Rattle.calls.proofs.QuestionLaws.{are-radios-true, true-are-radios, ends-differ-true, true-ends-differ}
-use Rattle.calls.proofs.QuestionLaws.{can-switch-true, true-can-switch, has-room-true, true-has-room}
-use Rattle.calls.proofs.QuestionLaws.{has-level-true, true-has-level, holds-image-true, true-holds-image}
+use Rattle.calls.specs.Questions.{ask, Lengths, size-good, site-lengths, answer-length, are-radios, is-radio, ends-differ, can-switch, has-room}
+use Rattle.calls.specs.Questions.{has-level, image-length, holds-image, lent-refusal, site-refusal, ends-refusal, link-refusal, radio-refusal}
+use Rattle.calls.specs.Questions.{pair-refusal, core-refusal, level-refusal, write-refusal, blocks-refusal, image-refusal, read-refusal}
+use Rattle.calls.proofs.QuestionLaws.{ask-yes, ask-zero, ask-later, size-good-true, true-size-good, Site-lengths, site-lengths-true, true-site-lengths}
+use Rattle.calls.proofs.QuestionLaws.{is-radio-true, true-is-radio, are-radios-true, true-are-radios, ends-differ-true, true-ends-differ}
+use Rattle.calls.proofs.QuestionLaws.{can-switch-true, true-can-switch, has-room-true, true-has-room, has-level-true, true-has-level, holds-image-true}
+use Rattle.calls.proofs.QuestionLaws.{true-holds-image}
 
 -- ---- 1 and 2
 

@@ -9,13 +9,13 @@ use lib.Dec.{ltb}
 use lib.ListN.{length, List·getD-eq-default}
 use borrow.Author.Tests.{ltb-true, ltb-false}
 use Rattle.mesh.specs.Limits.{max-radios, max-neighbours}
-use Rattle.mesh.specs.Lists.{member}
+use Rattle.lists.specs.Lists.{member}
 use Rattle.mesh.specs.Graph.{Graph, relinked}
 use Rattle.mesh.specs.Cores.{number, numbers}
 use Rattle.mesh.specs.Levels.{changed, lower-level, new-order}
 use Rattle.mesh.specs.Tables.{tables-of}
 use Rattle.mesh.specs.Sound.{number-in}
-use Rattle.mesh.proofs.BoolLaws.{bool-cases}
+use Rattle.lists.proofs.Tests.{bool-cases}
 use Rattle.mesh.proofs.Peeling.{length-numbers, getD-numbers}
 use Rattle.mesh.proofs.Valid.{Valid, Allowed, smaller, larger}
 use Rattle.mesh.proofs.LinkCall.{changed-below, unchanged-number}

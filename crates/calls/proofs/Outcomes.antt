@@ -14,9 +14,8 @@ use Rattle.mesh.specs.declared.Node.{Node}
 use Rattle.calls.specs.Questions.{By-number}
 use Rattle.calls.specs.Writes.{Tables-refused, Clear-accepted, Clear-contract, Link-accepted, Link-refused, Link-contract, Read-accepted, Read-contract}
 use Rattle.calls.specs.Answers.{Value-accepted, Value-refused, Value-by, Check-contract, Number-contract, Block-none, Block-accepted, Block-contract}
-use Rattle.calls.specs.Answers.{Neighbours-contract, Linked-contract, First-contract}
-use Rattle.calls.specs.Answers.{Listing-accepted, Listing-refused, Listing-by, Core-contract, Backbone-contract}
-use Rattle.calls.specs.Answers.{Write-contract, Tree-accepted, Tree-refused, Tree-contract}
+use Rattle.calls.specs.Answers.{Neighbours-contract, Linked-contract, First-contract, Listing-accepted, Listing-refused, Listing-by, Core-contract}
+use Rattle.calls.specs.Answers.{Backbone-contract, Write-contract, Tree-accepted, Tree-refused, Tree-contract}
 use Rattle.calls.specs.declared.Reply.{Reply}
 use Rattle.calls.specs.declared.Value.{Value}
 use Rattle.calls.proofs.RecordLaws.{tables-ext, reply-ext, value-ext, block-ext}

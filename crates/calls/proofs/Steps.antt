@@ -10,13 +10,13 @@ use native.Mathlib.Omega.{arith}
 use lib.ListN.{length}
 use lib.IntN.{pos}
 use Rattle.mesh.specs.Limits.{max-radios, max-neighbours}
-use Rattle.mesh.specs.Lists.{range, overwrite}
+use Rattle.lists.specs.Lists.{range, overwrite}
 use Rattle.mesh.specs.Graph.{Link, graph, relinked, new-links}
 use Rattle.mesh.specs.Levels.{changed, step-of, new-order}
 use Rattle.mesh.specs.Tables.{Tables, graph-in, tables-of}
 use Rattle.mesh.specs.Sound.{sound}
 use Rattle.mesh.specs.Image.{image-graph, image-links, image-order}
-use Rattle.mesh.proofs.ListLaws.{take-overwrite}
+use Rattle.lists.proofs.Overwrite.{take-overwrite}
 use Rattle.mesh.proofs.Peeling.{length-numbers}
 use Rattle.mesh.proofs.TableLaws.{links-table-cleared}
 use Rattle.mesh.proofs.ReadBack.{graph-in-links-table}

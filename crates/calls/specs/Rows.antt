@@ -16,20 +16,26 @@ use lib.Dec.{eqb}
 use lib.IntN.{ℤ, pos, negsuc}
 use lib.ListN.{length, drop, take, set}
 use Rattle.mesh.specs.Limits.{max-neighbours}
-use Rattle.mesh.specs.Lists.{range, count, filter, member, all, same, head-or}
-use Rattle.mesh.specs.Graph.{Graph, graph, radios, other-ends, linked, neighbours-among, degree, link, link-before, same-link, with-link, without-link, new-links, relinked, proper, ascending}
+use Rattle.lists.specs.Lists.{range, count, filter, member, all, same, head-or}
+use Rattle.mesh.specs.Graph.{Graph, graph, radios, other-ends, linked, neighbours-among, degree, link, link-before, same-link, with-link, without-link}
+use Rattle.mesh.specs.Graph.{new-links, relinked, proper, ascending}
 use Rattle.mesh.specs.Cores.{survivors, peeled, cores-from, cores, depth, number, numbers}
-use Rattle.mesh.specs.Levels.{changed, step-of, lower-level, stretch-start, stretch-length, first-fitting, without, laid-out, stretch-up, stretch-down, new-stretch, with-stretch, new-order}
+use Rattle.mesh.specs.Levels.{changed, step-of, lower-level, stretch-start, stretch-length, first-fitting, without, laid-out, stretch-up, stretch-down}
+use Rattle.mesh.specs.Levels.{new-stretch, with-stretch, new-order}
 use Rattle.mesh.specs.Orders.{each-once, rising, few-later}
 use Rattle.mesh.specs.Tables.{tables, digit, byte-at, marked, from-digits, row-of, links-table, tables-of}
 use Rattle.mesh.specs.Sound.{symmetric, irreflexive, within, row-degree, few, rows-proper, enough, sound-within, sound}
 use Rattle.mesh.specs.Connected.{at-least, reached, core-of, greatest, backbone}
 use Rattle.mesh.specs.Tree.{shell, node-name, parent-name, nodes-at, tree, node-names}
-use Rattle.mesh.specs.Image.{block-bytes, word, long, weighted-sum, check-sum, block, blocks-for, order-blocks, block-count, link-bytes, order-payload, links-payload, block-at, image-of, word-at, entry-at, image-order, image-link, image-links, image-graph, whole-blocks, block-check, checks-good, is-image}
+use Rattle.mesh.specs.Image.{block-bytes, word, long, weighted-sum, check-sum, block, blocks-for, order-blocks, block-count, link-bytes, order-payload}
+use Rattle.mesh.specs.Image.{links-payload, block-at, image-of, word-at, entry-at, image-order, image-link, image-links, image-graph, whole-blocks, block-check}
+use Rattle.mesh.specs.Image.{checks-good, is-image}
 use Rattle.mesh.specs.declared.Node.{Node}
-use Rattle.calls.specs.Questions.{ask, is-radio, are-radios, ends-differ, can-switch, has-room, has-level, level-refusal, image-length, ends-refusal, blocks-refusal, image-refusal}
+use Rattle.calls.specs.Questions.{ask, is-radio, are-radios, ends-differ, can-switch, has-room, has-level, level-refusal, image-length, ends-refusal}
+use Rattle.calls.specs.Questions.{blocks-refusal, image-refusal}
 use Rattle.calls.specs.Book.{Answer, plain, reported}
-use Rattle.calls.specs.Replay.{bytes-of, digit-byte, digits-in, decimal, step-text, further-fields, printed-line, link-line, numbers-line, order-line, closing-lines}
+use Rattle.calls.specs.Replay.{bytes-of, digit-byte, digits-in, decimal, step-text, further-fields, printed-line, link-line, numbers-line, order-line}
+use Rattle.calls.specs.Replay.{closing-lines}
 
 -- ---- link calls and what they leave
 

@@ -11,7 +11,7 @@ use Prim.Native.Nat.{ℕ, _*_}
 use lib.IntN.{pos}
 use lib.ListN.{length, replicate}
 use Rattle.mesh.specs.Limits.{row-bytes}
-use Rattle.mesh.specs.Lists.{range, overwrite}
+use Rattle.lists.specs.Lists.{range, overwrite}
 use Rattle.mesh.specs.Graph.{Graph, relinked}
 use Rattle.mesh.specs.Cores.{numbers}
 use Rattle.mesh.specs.Levels.{changed, step-of, new-order}

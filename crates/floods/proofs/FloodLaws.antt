@@ -12,15 +12,17 @@ use lib.ListN.{length, getD, take, set, length-append, length-set}
 use lib.Seq.{length-take-le, take-suc, take-append-le, take-suc-set, take-take, getD-take}
 use borrow.Author.Tests.{lt-ltb}
 use Rattle.mesh.specs.Limits.{max-radios, row-bytes}
-use Rattle.mesh.specs.Lists.{range, count, member}
+use Rattle.lists.specs.Lists.{range, count, member, In, Distinct}
 use Rattle.mesh.specs.Tables.{marked, put-bit}
-use Rattle.mesh.proofs.BoolLaws.{bool-cases, never, and-left, and-both}
-use Rattle.mesh.proofs.ListLaws.{In, Distinct, in-left, in-right, in-cases, member-in, in-member, in-range, length-range, distinct-one}
-use Rattle.mesh.proofs.Reach.{length-sub}
+use Rattle.lists.proofs.Tests.{bool-cases, never, and-left, and-both}
+use Rattle.lists.proofs.Member.{in-left, in-right, in-cases, member-in, in-member, in-getD}
+use Rattle.lists.proofs.Range.{in-range, length-range}
+use Rattle.lists.proofs.Distinct.{distinct-one, length-sub, distinct-end}
 use Rattle.mesh.proofs.TableLaws.{byte-at-less, length-put-bit, marked-put-bit}
 use Rattle.floods.proofs.FloodSteps.{Floodable, floodable-true}
-use Rattle.floods.specs.Floods.{ends-listed, takes-in, Spread, start, onward, Flood, flood-at, came-in, taken-one, taken-all, floodable, Flood-done, Flooded}
-use Rattle.floods.proofs.FloodRadios.{distinct-end, in-getD, bits-end, takes-in-radio, takes-in-other}
+use Rattle.floods.specs.Floods.{ends-listed, takes-in, Spread, start, onward, Flood, flood-at, came-in, taken-one, taken-all, floodable, Flood-done}
+use Rattle.floods.specs.Floods.{Flooded}
+use Rattle.floods.proofs.FloodRadios.{bits-end, takes-in-radio, takes-in-other}
 
 -- ---- the invariant
 

@@ -10,10 +10,10 @@ use lib.ListN.{length, getD, take, drop, set, drop-of-length-le, length-append, 
 use lib.Seq.{drop-cons, length-take-le, getD-take, take-at}
 use borrow.Author.Tests.{ltb-true, leb-true, eqb-true, lt-ltb, le-ltb, lt-leb, le-leb, eq-eqb, ne-eqb}
 use Rattle.mesh.specs.Limits.{max-radios, max-neighbours, row-bytes}
-use Rattle.mesh.specs.Lists.{overwrite}
+use Rattle.lists.specs.Lists.{overwrite}
 use Rattle.mesh.specs.Tables.{marked, put-bit}
 use Rattle.rows.specs.Rows.{row-listed}
-use Rattle.mesh.proofs.BoolLaws.{never, and-left, and-right}
+use Rattle.lists.proofs.Tests.{never, and-left, and-right}
 use Rattle.floods.specs.Floods.{ends-listed, takes-in, Flood, flood-at, taken-one, taken-all, floodable, Flooded}
 
 -- ---- one radio

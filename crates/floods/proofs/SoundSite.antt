@@ -11,7 +11,7 @@ use Rattle.mesh.specs.Graph.{linked, degree}
 use Rattle.mesh.specs.Cores.{number, numbers}
 use Rattle.mesh.specs.Tables.{Tables, marked, graph-in}
 use Rattle.mesh.specs.Sound.{symmetric, irreflexive, within, few, rows-proper, sound}
-use Rattle.mesh.proofs.BoolLaws.{and-left, and-right}
+use Rattle.lists.proofs.Tests.{and-left, and-right}
 use Rattle.mesh.proofs.RowLaws.{few-of}
 use Rattle.mesh.proofs.Peeling.{getD-numbers}
 use Rattle.mesh.proofs.ReadBack.{linked-graph-in, degree-graph-in}

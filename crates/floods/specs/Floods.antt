@@ -16,7 +16,7 @@ use Prim.Native.Nat.{ℕ, _+_, _≤_, _<_}
 use lib.Dec.{ltb, leb, eqb}
 use lib.ListN.{length, getD, take, set}
 use Rattle.mesh.specs.Limits.{max-radios, max-neighbours, row-bytes}
-use Rattle.mesh.specs.Lists.{count, member}
+use Rattle.lists.specs.Lists.{count, member}
 use Rattle.mesh.specs.Tables.{marked, put-bit}
 use Rattle.rows.specs.Rows.{row-listed}
 

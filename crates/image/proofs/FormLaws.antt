@@ -12,10 +12,11 @@ use lib.Dec.{ltb, eqb}
 use lib.ListN.{length, getD}
 use borrow.Author.Tests.{lt-ltb, le-ltb, eqb-true, eq-eqb}
 use Rattle.mesh.specs.Limits.{max-radios, max-neighbours}
-use Rattle.mesh.specs.Image.{block-bytes, payload-bytes, block-entries, block-links, word, word-at, order-blocks, block-count, order-payload, links-payload, image-order, image-links, image-graph, checks-good, is-image}
-use Rattle.mesh.proofs.BoolLaws.{and-left, and-right, and-both}
-use Rattle.mesh.proofs.ListLaws.{all-below, below-all}
-use Rattle.mesh.proofs.TableLaws.{Bytes}
+use Rattle.mesh.specs.Image.{block-bytes, payload-bytes, block-entries, block-links, word, word-at, order-blocks, block-count, order-payload, links-payload}
+use Rattle.mesh.specs.Image.{image-order, image-links, image-graph, checks-good, is-image}
+use Rattle.lists.proofs.Tests.{and-left, and-right, and-both}
+use Rattle.lists.proofs.All.{all-below, below-all}
+use Rattle.lists.specs.Lists.{Bytes}
 use Rattle.mesh.proofs.ImageBlocks.{length-order-payload, length-links-payload}
 use Rattle.mesh.proofs.ImageOf.{kind-at, content-at}
 use Rattle.mesh.proofs.ImageCanonical.{Canonical, length-image-links, length-image-order, is-image-canonical}

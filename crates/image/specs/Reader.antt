@@ -11,9 +11,9 @@ use mathlib.Core.Path.{_≡_}
 use mathlib.Core.Bool.{Bool, _&&_, cond}
 use mathlib.Core.List.{List, []}
 use Prim.Native.Nat.{ℕ, _+_, _*_, _/_}
+use denote.Ref.{RefT, now}
 use lib.Dec.{ltb, eqb}
 use lib.ListN.{length}
-use denote.Ref.{RefT, now}
 use Rattle.mesh.specs.Image.{block-bytes, payload-at}
 use Rattle.calls.specs.Questions.{block-refusal}
 use Rattle.image.specs.declared.blocks.BlockReader.{BlockReader}

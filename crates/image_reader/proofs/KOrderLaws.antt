@@ -10,33 +10,25 @@ use lib.Dec.{ltb, leb}
 use lib.ListN.{length, getD, drop, replicate, getD-replicate}
 use borrow.Author.Tests.{ltb-true, lt-ltb, leb-true, le-leb, lt-leb}
 use Rattle.mesh.specs.Limits.{max-radios, max-neighbours}
-use Rattle.mesh.specs.Lists.{range, count, all}
+use Rattle.lists.specs.Lists.{range, count, all, Each-once}
 use Rattle.mesh.specs.Graph.{Link, Graph, graph, radios, other-ends, linked, neighbours-in, degree, proper, ascending}
 use Rattle.mesh.specs.Cores.{number}
 use Rattle.mesh.specs.Orders.{each-once, rising, few-later, is-k-order, running-maxima}
-use Rattle.mesh.proofs.BoolLaws.{never, iff-eq}
-use Rattle.mesh.proofs.ListLaws.{in-member, count-ext, count-all, all-below, below-all, Each-once, once-below, once-length}
-use Rattle.mesh.proofs.Sums.{count-cong}
+use Rattle.lists.proofs.Tests.{never, iff-eq, ltb-next}
+use Rattle.lists.proofs.Member.{in-member, in-getD}
+use Rattle.lists.proofs.Count.{count-ext, count-all, count-cong}
+use Rattle.lists.proofs.All.{all-below, below-all, all-range-ext}
+use Rattle.lists.proofs.Range.{once-below, once-length}
 use Rattle.mesh.proofs.GraphLaws.{linked-self, linked-by-proper, proper-of, degree-in}
 use Rattle.mesh.proofs.OrderLaws.{each-once-of, Enough}
 use Rattle.mesh.proofs.OtherEnds.{ends-neighbours-in}
 use Rattle.mesh.proofs.RunningCertificate.{is-k-order-running, running-number}
 use Rattle.soundness.specs.Checks.{Placed, Places-found}
-use Rattle.soundness.proofs.CheckLaws.{getD-in, count-later}
+use Rattle.soundness.proofs.CheckLaws.{count-later}
 use Rattle.image.proofs.CheckLaws.{Testing, testing-turn, testing-stop}
 use Rattle.image_reader.specs.Pairs.{tallied, Tallied}
 use Rattle.image_reader.specs.Reading.{few-ends, tops, K-order-decided}
 use Rattle.image_reader.proofs.MaximaLaws.{tops-running}
-
--- ---- laws of tests
-
-all-same : (f h : ℕ → Bool) (n : ℕ) → ((v : ℕ) → v < n → f v ≡ h v) → all f (range 0 n) ≡ all h (range 0 n)
-all-same f h n e = iff-eq (all f (range 0 n)) (all h (range 0 n))
-    (λ a. below-all h n (λ v l. sym (e v l) ∙ all-below f n a v l)) (λ a. below-all f n (λ v l. e v l ∙ all-below h n a v l))
-
--- below the next number is not above the number
-ltb-next : (a b : ℕ) → ltb a (b + 1) ≡ leb a b
-ltb-next a b = iff-eq (ltb a (b + 1)) (leb a b) (λ e. le-leb a b (omega (arith, ltb-true a (b + 1) e))) (λ e. lt-ltb a (b + 1) (omega (arith, leb-true a b e)))
 
 -- ---- entries compared, one after the other
 
@@ -70,7 +62,7 @@ unfolding few-ends
 few-tallied n ls rs counts p lr lc e t =
     let rank : (v : ℕ) → v < n → getD rs v 0 ≡ max-neighbours =
     λ v l. ap (λ (xs : List ℕ). getD xs v 0) e ∙ getD-replicate (length rs) v max-neighbours 0 (omega arith) in
-    rw lc (all-same (at-most counts rs) (λ v. leb (length (other-ends v ls)) max-neighbours) n
+    rw lc (all-range-ext (at-most counts rs) (λ v. leb (length (other-ends v ls)) max-neighbours) n
     (λ v l. rw (t .at v l ∙ tallied-all n ls rs max-neighbours p rank v l, rank v l)))
 
 module _ (n : ℕ) (ls : List Link) (p : proper n ls ≡ true) (a : ascending ls ≡ true) where
@@ -122,7 +114,7 @@ module _ (n : ℕ) (ls : List Link) (p : proper n ls ≡ true) (a : ascending ls
     later-at ps counts placed t q l =
         let v : ℕ = getD xs q 0 in
         let here : getD ps v 0 ≡ q = placed .at q (omega (arith, once-length n xs once)) in
-        t .at v (once-below n xs once v (getD-in xs q l)) ∙ tallied-in ps 0 v
+        t .at v (once-below n xs once v (in-getD xs q l)) ∙ tallied-in ps 0 v
         ∙ count-cong (λ b. linked g v b && ltb (getD ps v 0) (getD ps b 0 + 0)) (λ b. linked g v b && leb (suc q) (getD ps b 0)) (range 0 n)
         (λ b. rw (here, add-zero (getD ps b 0)))
         ∙ sym (count-later n xs ps once placed (linked g v) (suc q))

@@ -8,14 +8,15 @@ use native.Mathlib.Omega.{arith}
 use native.Mathlib.Numerals.{add-one}
 use lib.ListN.{length, getD, take, drop, set, length-set, take-append-drop}
 use lib.Seq.{take-suc, drop-cons, drop-length, getD-set-same, getD-set-other}
-use Rattle.mesh.specs.Lists.{count}
+use Rattle.lists.specs.Lists.{count, In}
 use Rattle.mesh.specs.Graph.{neighbours-among}
 use Rattle.mesh.specs.Orders.{each-once, running-maxima}
-use Rattle.mesh.proofs.ListLaws.{In, distinct-apart, once-distinct, once-below}
+use Rattle.lists.proofs.Distinct.{distinct-apart}
+use Rattle.lists.proofs.Range.{once-distinct, once-below}
 use Rattle.mesh.proofs.OrderLaws.{each-once-of}
-use Rattle.soundness.proofs.CheckLaws.{getD-in}
+use Rattle.lists.proofs.Member.{in-getD}
 use Rattle.image_reader.specs.Reading.{tops}
-use Rattle.image_reader.proofs.TallyLaws.{map-append}
+use Rattle.lists.proofs.Map.{map-append, map-ext}
 
 -- ---- over the later-neighbour counts
 
@@ -39,13 +40,9 @@ pub record Running (c : ℕ → ℕ) (order start ranks : List ℕ) (top i : ℕ
 pub running-none : (c : ℕ → ℕ) (order start : List ℕ) → Running c order start start 0 0
 running-none c order start = record { low = omega arith; long = refl; is = refl }
 
-map-same : (f h : ℕ → ℕ) (xs : List ℕ) → ((x : ℕ) → In x xs → f x ≡ h x) → map f xs ≡ map h xs
-map-same f h [] e = refl
-map-same f h (x ∷ xs) e = ap₂ {C = List ℕ} (λ y ys. y ∷ ys) (e x (inl refl)) (map-same f h xs (λ y i. e y (inr i)))
-
 -- an entry of the order is a radio
 entry-below : (order : List ℕ) → each-once (length order) order ≡ true → (i : ℕ) → i < length order → getD order i 0 < length order
-entry-below order once i l = once-below (length order) order (each-once-of (length order) order once) (getD order i 0) (getD-in order i l)
+entry-below order once i l = once-below (length order) order (each-once-of (length order) order once) (getD order i 0) (in-getD order i l)
 
 -- so there is room for it in a table with an entry for each radio, also after writes
 pub entry-room : (order : List ℕ) → each-once (length order) order ≡ true → (i : ℕ) → i < length order → (k m : ℕ) → length order ≤ k → m ≡ k
@@ -70,7 +67,7 @@ module _ {c : ℕ → ℕ} {order start ranks : List ℕ} {top i : ℕ} (r : Run
       v (rw e at m) (rw (drop-cons order i 0 l) (inl refl))
 
   kept : map (λ w. getD after w 0) (take i order) ≡ map (λ w. getD ranks w 0) (take i order)
-  kept = map-same (λ w. getD after w 0) (λ w. getD ranks w 0) (take i order) (λ w m. getD-set-other ranks v w new 0 (apart w m))
+  kept = map-ext (λ w. getD after w 0) (λ w. getD ranks w 0) (take i order) (λ w m. getD-set-other ranks v w new 0 (apart w m))
 
   here : getD after v 0 ≡ new
   here = getD-set-same ranks v new 0 (omega (arith, r .long, entry-below order once i l))

@@ -7,10 +7,10 @@ use Prim.Native.Nat.{ℕ, suc, _+_, _-_, _≤_, _<_}
 use native.Mathlib.Omega.{arith}
 use lib.Dec.{ltb, eqb}
 use borrow.Author.Tests.{ltb-true, lt-ltb, le-ltb, eq-eqb}
-use Rattle.mesh.specs.Lists.{range}
+use Rattle.lists.specs.Lists.{range}
 use Rattle.mesh.specs.Graph.{Link, link-of, link-before, proper, ascending}
 use Rattle.mesh.specs.Image.{block-entries, word-at, entry-at, image-link, image-order}
-use Rattle.mesh.proofs.BoolLaws.{bool-cases, trichotomy}
+use Rattle.lists.proofs.Tests.{bool-cases, trichotomy}
 use Rattle.mesh.proofs.AscendingLinks.{link-eq}
 use Rattle.tables.specs.Widths.{values}
 use Rattle.tables.proofs.WidthLaws.{values-below}

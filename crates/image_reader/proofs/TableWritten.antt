@@ -6,13 +6,14 @@ use Prim.Native.Nat.{ℕ, _+_, _*_, _≤_, _<_}
 use native.Mathlib.Omega.{arith}
 use lib.ListN.{length, replicate}
 use Rattle.mesh.specs.Limits.{max-radios, row-bytes}
-use Rattle.mesh.specs.Lists.{range, member}
+use Rattle.lists.specs.Lists.{range, member}
 use Rattle.mesh.specs.Graph.{Link, link-of, graph, other-ends, linked, proper}
 use Rattle.mesh.specs.Tables.{put-link, links-table}
 use Rattle.mesh.specs.Image.{image-link}
 use Rattle.mesh.proofs.GraphLaws.{ends, joins, linked-by, linked-by-cons}
 use Rattle.mesh.proofs.AscendingLinks.{link-eq}
-use Rattle.mesh.proofs.TableLaws.{table-eq, length-put-link, bytes-put-link, marked-put-link, length-links-table, bytes-links-table, marked-links-table, links-table-cleared}
+use Rattle.mesh.proofs.TableLaws.{table-eq, length-put-link, bytes-put-link, marked-put-link, length-links-table, bytes-links-table, marked-links-table}
+use Rattle.mesh.proofs.TableLaws.{links-table-cleared}
 use Rattle.image_reader.specs.Pairs.{links-up-to, Pair-at}
 use Rattle.image_reader.proofs.TallyLaws.{links-one-more, proper-pair}
 

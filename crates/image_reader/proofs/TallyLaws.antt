@@ -10,20 +10,17 @@ use lib.Dec.{ltb, eqb}
 use lib.ListN.{length, getD, set, replicate, length-append, length-set, length-replicate, getD-replicate}
 use lib.Seq.{getD-set-same, getD-set-other}
 use borrow.Author.Tests.{ltb-true, eqb-true, eqb-false, eq-eqb, ne-eqb}
-use Rattle.mesh.specs.Lists.{range, count}
+use Rattle.lists.specs.Lists.{range, count}
 use Rattle.mesh.specs.Graph.{Link, other-ends, proper}
 use Rattle.mesh.specs.Image.{image-link}
 use Rattle.mesh.proofs.AscendingLinks.{link-eq}
-use Rattle.mesh.proofs.BoolLaws.{bool-cases, and-left, and-right}
-use Rattle.mesh.proofs.ListLaws.{count-append, count-le-length}
-use Rattle.rows.proofs.Listing.{range-append}
+use Rattle.lists.proofs.Tests.{bool-cases, and-left, and-right}
+use Rattle.lists.proofs.Count.{count-append, count-le-length}
+use Rattle.lists.proofs.Range.{range-append}
 use Rattle.image_reader.specs.Pairs.{links-up-to, Pair-at, tallied, Tallied}
+use Rattle.lists.proofs.Map.{map-append}
 
 -- ---- laws of lists
-
-pub map-append : {A B : Type 0} (f : A → B) (xs ys : List A) → map f (xs ++ ys) ≡ map f xs ++ map f ys
-map-append f [] ys = refl
-map-append {B = B} f (x ∷ xs) ys = ap {B = List B} (λ zs. f x ∷ zs) (map-append f xs ys)
 
 other-ends-append : (v : ℕ) (ls ms : List Link) → other-ends v (ls ++ ms) ≡ other-ends v ls ++ other-ends v ms
 unfolding other-ends

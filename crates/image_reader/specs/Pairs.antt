@@ -11,7 +11,7 @@ use mathlib.Core.List.{List, [], _∷_, map}
 use Prim.Native.Nat.{ℕ, _+_, _<_}
 use lib.ListN.{getD}
 use lib.Dec.{ltb}
-use Rattle.mesh.specs.Lists.{range, count}
+use Rattle.lists.specs.Lists.{range, count}
 use Rattle.mesh.specs.Graph.{Link, link-before, other-ends}
 use Rattle.mesh.specs.Image.{image-link}
 

@@ -14,7 +14,7 @@ use Prim.Native.Nat.{ℕ, _≤_, _<_, max}
 use lib.Dec.{leb}
 use lib.ListN.{length, getD}
 use Rattle.mesh.specs.Limits.{max-radios}
-use Rattle.mesh.specs.Lists.{range, all}
+use Rattle.lists.specs.Lists.{range, all}
 use Rattle.mesh.specs.Graph.{Link, Graph, other-ends, proper}
 use Rattle.mesh.specs.Cores.{number}
 use Rattle.mesh.specs.Orders.{is-k-order}

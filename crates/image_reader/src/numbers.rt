@@ -7,7 +7,7 @@ ghost use Prim.Native.Nat.{ℕ, _≤_, max};
 ghost use lib.Dec.{leb};
 ghost use lib.ListN.{length, getD};
 ghost use Rattle.mesh.specs.Limits.{max-neighbours};
-ghost use Rattle.mesh.specs.Lists.{range, all};
+ghost use Rattle.lists.specs.Lists.{range, all};
 ghost use Rattle.mesh.specs.Graph.{graph, ascending};
 ghost use Rattle.mesh.specs.Orders.{each-once};
 ghost use Rattle.image_reader.specs.Pairs.{links-up-to};

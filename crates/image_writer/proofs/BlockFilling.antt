@@ -10,15 +10,16 @@ use lib.ListN.{length, take, drop, length-take}
 use lib.Seq.{take-at, drop-at, drop-drop}
 use borrow.Author.Tests.{lt-ltb, le-ltb}
 use borrow.Rule.Slice.PartMut.{putMid}
-use Rattle.mesh.specs.Lists.{range}
+use Rattle.lists.specs.Lists.{range}
 use Rattle.mesh.specs.Graph.{Link}
-use Rattle.mesh.specs.Image.{block-bytes, payload-bytes, block-entries, block-links, word, link-bytes, block, order-blocks, order-payload, links-payload, block-at}
-use Rattle.mesh.proofs.Parts.{length-flatMap}
+use Rattle.mesh.specs.Image.{block-bytes, payload-bytes, block-entries, block-links, word, link-bytes, block, order-blocks, order-payload, links-payload}
+use Rattle.mesh.specs.Image.{block-at}
+use Rattle.lists.proofs.Parts.{length-flatMap}
 use Rattle.mesh.proofs.ImageBlocks.{length-link-bytes}
 use Rattle.mesh.proofs.TableLaws.{length-flatMap-range}
-use Rattle.rows.proofs.Listing.{range-append}
+use Rattle.lists.proofs.Range.{range-append}
 use Rattle.image_writer.specs.Links.{links-from, Links-filled, Cursor-at, Block-filled}
-use Rattle.image_writer.proofs.FillerLaws.{flatMap-append}
+use Rattle.lists.proofs.Map.{flatMap-append}
 
 -- a block's links fit its payload
 pub length-links-bytes : (ls : List Link) → length (flatMap link-bytes (take block-links ls)) ≤ payload-bytes

@@ -7,16 +7,16 @@ use native.Mathlib.Omega.{arith}
 use lib.ListN.{length, take, drop, length-append, length-drop, drop-of-length-le}
 use lib.Seq.{sets, drop-append-le, take-nil, drop-nil, drop-drop, take-all, take-add, take-append-le, length-take-le}
 use Rattle.mesh.specs.Limits.{max-neighbours}
-use Rattle.mesh.specs.Lists.{range}
+use Rattle.lists.specs.Lists.{range}
 use Rattle.mesh.specs.Graph.{Link, link-of}
 use Rattle.mesh.specs.Sound.{within}
 use Rattle.mesh.specs.Image.{block-links, link-bytes}
-use Rattle.mesh.proofs.Parts.{length-flatMap}
+use Rattle.lists.proofs.Parts.{length-flatMap}
 use Rattle.mesh.proofs.ImageBlocks.{length-link-bytes}
-use Rattle.rows.proofs.Listing.{sets-append}
+use Rattle.lists.proofs.Overwrite.{sets-append}
 use Rattle.image_writer.specs.Links.{uppers, links-to, upper-links, links-from, Cursor-good, Row-put, Links-put, Span-of}
-use Rattle.image_writer.proofs.FillerLaws.{flatMap-append}
-use Rattle.image_writer.proofs.UpperLaws.{take-map, drop-map, length-links-to}
+use Rattle.lists.proofs.Map.{flatMap-append, take-map, drop-map}
+use Rattle.image_writer.proofs.UpperLaws.{length-links-to}
 
 -- ---- the next row
 

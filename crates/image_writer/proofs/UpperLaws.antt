@@ -12,27 +12,18 @@ use lib.ListN.{length, getD, take, drop, length-append, List·getD-append}
 use lib.Seq.{take-at, drop-at, take-all, getD-append-add}
 use borrow.Author.Tests.{ltb-true, ltb-false}
 use Rattle.mesh.specs.Limits.{max-radios, row-bytes}
-use Rattle.mesh.specs.Lists.{range, filter, overwrite}
+use Rattle.lists.specs.Lists.{range, filter, overwrite, In}
 use Rattle.mesh.specs.Graph.{link-of}
 use Rattle.mesh.specs.Tables.{marked}
-use Rattle.mesh.proofs.BoolLaws.{bool-cases}
-use Rattle.mesh.proofs.ListLaws.{In, in-filter, range-in, filter-append}
+use Rattle.lists.proofs.Tests.{bool-cases}
+use Rattle.lists.proofs.Filter.{in-filter, filter-append}
+use Rattle.lists.proofs.Range.{range-in, range-append}
 use Rattle.rows.specs.Rows.{neighbours-of, row-listed}
-use Rattle.rows.proofs.Listing.{range-append}
 use Rattle.rows.proofs.RowWords.{row-listed-whole}
 use Rattle.image_writer.specs.Links.{uppers, links-to, First-above, Span-of}
+use Rattle.lists.proofs.Member.{in-getD}
 
 -- ---- laws of lists
-
-pub take-map : {A B : Type 0} (f : A → B) (k : ℕ) (xs : List A) → take k (map f xs) ≡ map f (take k xs)
-take-map f zero xs = refl
-take-map f (suc k) [] = refl
-take-map {B = B} f (suc k) (x ∷ xs) = ap {B = List B} (λ ys. f x ∷ ys) (take-map f k xs)
-
-pub drop-map : {A B : Type 0} (f : A → B) (k : ℕ) (xs : List A) → drop k (map f xs) ≡ map f (drop k xs)
-drop-map f zero xs = refl
-drop-map f (suc k) [] = refl
-drop-map f (suc k) (x ∷ xs) = drop-map f k xs
 
 pub length-links-to : (a : ℕ) (bs : List ℕ) → length (links-to a bs) ≡ length bs
 length-links-to a [] = refl
@@ -42,12 +33,6 @@ pub getD-links-to : (a : ℕ) (bs : List ℕ) (i : ℕ) → i < length bs → ge
 getD-links-to a [] i h = absurd (omega arith)
 getD-links-to a (b ∷ bs) zero h = refl
 getD-links-to a (b ∷ bs) (suc i) h = getD-links-to a bs i (omega arith)
-
--- an entry stands in its list
-pub in-getD : (xs : List ℕ) (i : ℕ) → i < length xs → In (getD xs i 0) xs
-in-getD [] i h = absurd (omega arith)
-in-getD (x ∷ xs) zero h = inl refl
-in-getD (x ∷ xs) (suc i) h = inr (in-getD xs i (omega arith))
 
 -- ---- a row's neighbours: up to a, and above it
 

@@ -8,13 +8,14 @@ use native.Mathlib.Omega.{arith}
 use lib.ListN.{length, drop}
 use borrow.Author.Tests.{lt-leb}
 use Rattle.mesh.specs.Limits.{max-radios, max-neighbours, row-bytes}
-use Rattle.mesh.specs.Lists.{range, filter, overwrite}
+use Rattle.lists.specs.Lists.{range, filter, overwrite}
 use Rattle.mesh.specs.Graph.{Link, Graph, graph}
 use Rattle.mesh.specs.Tables.{Tables, marked, row-links, graph-in}
 use Rattle.mesh.specs.Sound.{symmetric, irreflexive, within, few, rows-proper, sound}
 use Rattle.mesh.specs.Image.{block-bytes, block-count, block-at, image-of}
-use Rattle.mesh.proofs.BoolLaws.{and-left, and-right}
-use Rattle.mesh.proofs.ListLaws.{range-in, filter-append, filter-none}
+use Rattle.lists.proofs.Tests.{and-left, and-right}
+use Rattle.lists.proofs.Range.{range-in, range-append}
+use Rattle.lists.proofs.Filter.{filter-append, filter-none}
 use Rattle.mesh.proofs.RowLaws.{within-of, few-of}
 use Rattle.mesh.proofs.Soundness.{sound-certificate}
 use Rattle.mesh.proofs.ImageOf.{length-image-of}
@@ -25,7 +26,6 @@ use Rattle.calls.specs.Answers.{Write-contract, Listing-refused}
 use Rattle.calls.proofs.ContractLaws.{by-accepted, by-refused}
 use Rattle.calls.proofs.QuestionLaws.{ask-no}
 use Rattle.calls.proofs.ChainLaws.{Site-good, site-zero, site-yes, write-yes}
-use Rattle.rows.proofs.Listing.{range-append}
 use Rattle.rows.proofs.RowListLaws.{length-neighbours-of}
 use Rattle.image_writer.specs.Links.{uppers, links-to, upper-links, links-from, Rows-listed, marked-graph}
 

@@ -11,7 +11,7 @@ use Prim.Native.Nat.{ℕ, suc, _+_, _*_, _-_, _≤_, _<_, min}
 use lib.ListN.{length, getD, take, drop}
 use lib.Seq.{sets}
 use Rattle.mesh.specs.Limits.{max-radios, max-neighbours, row-bytes}
-use Rattle.mesh.specs.Lists.{range, filter}
+use Rattle.lists.specs.Lists.{range, filter}
 use Rattle.mesh.specs.Graph.{Link, link-of, Graph, graph}
 use Rattle.mesh.specs.Tables.{marked}
 use Rattle.mesh.specs.Image.{block-links, link-bytes, block, order-blocks, block-at}

@@ -5,7 +5,7 @@ ghost use Prim.Native.Nat.{_≤_, _<_, _+_, _*_, _-_};
 ghost use lib.ListN.{length, take, drop};
 ghost use lib.Seq.{sets};
 ghost use Rattle.mesh.specs.Limits.{max-radios, max-neighbours, row-bytes};
-ghost use Rattle.mesh.specs.Lists.{range};
+ghost use Rattle.lists.specs.Lists.{range};
 ghost use Rattle.mesh.specs.Graph.{link-of};
 ghost use Rattle.mesh.specs.Image.{block-bytes, block-entries, block-links, link-bytes, word, block, block-at};
 ghost use Rattle.rows.specs.Rows.{neighbours-of};

@@ -9,12 +9,13 @@ use native.Mathlib.Nat.{le-trans, le-of-eq}
 use lib.Dec.{leb}
 use lib.ListN.{length, getD}
 use Rattle.mesh.specs.Limits.{max-radios, max-neighbours}
-use Rattle.mesh.specs.Lists.{range}
+use Rattle.lists.specs.Lists.{range}
 use Rattle.mesh.specs.Graph.{Graph, radios, linked, neighbours-in}
 use Rattle.mesh.specs.Cores.{number, numbers}
 use Rattle.mesh.specs.Tables.{Tables, graph-in}
 use Rattle.mesh.specs.Sound.{number-in, rows-proper, sound}
-use Rattle.mesh.proofs.ListLaws.{range-in, length-filter, filter-ext}
+use Rattle.lists.proofs.Range.{range-in}
+use Rattle.lists.proofs.Filter.{length-filter, filter-ext}
 use Rattle.mesh.proofs.Peeling.{getD-numbers}
 use Rattle.mesh.proofs.RowLaws.{few-of}
 use Rattle.mesh.proofs.ReadBack.{proper-graph-in, ascending-graph-in, degree-graph-in}

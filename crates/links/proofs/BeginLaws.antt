@@ -10,10 +10,9 @@ use lib.ListN.{length, getD, set}
 use lib.Seq.{getD-set-same, getD-set-other}
 use borrow.Author.Tests.{eqb-true, eq-eqb}
 use Rattle.mesh.specs.Limits.{max-radios, row-bytes}
-use Rattle.mesh.specs.Lists.{member}
+use Rattle.lists.specs.Lists.{member, In}
 use Rattle.mesh.specs.Tables.{marked, put-bit}
-use Rattle.mesh.proofs.BoolLaws.{bool-cases}
-use Rattle.mesh.proofs.ListLaws.{In}
+use Rattle.lists.proofs.Tests.{bool-cases}
 use Rattle.mesh.proofs.TableLaws.{length-put-bit}
 use Rattle.mesh.proofs.LinkMoves.{bound}
 use Rattle.links.specs.Turns.{end-counted, ends-counted, places-fitting, Begin-ready}

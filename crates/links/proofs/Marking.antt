@@ -11,9 +11,10 @@ use lib.ListN.{length, getD, drop, replicate, length-replicate, drop-of-length-l
 use lib.Seq.{drop-cons}
 use borrow.Author.Tests.{eq-eqb}
 use Rattle.mesh.specs.Limits.{max-radios, row-bytes}
-use Rattle.mesh.specs.Lists.{range, member}
+use Rattle.lists.specs.Lists.{range, member}
 use Rattle.mesh.specs.Tables.{marked, put-bit}
-use Rattle.mesh.proofs.ListLaws.{range-in, filter-ext}
+use Rattle.lists.proofs.Range.{range-in}
+use Rattle.lists.proofs.Filter.{filter-ext}
 use Rattle.mesh.proofs.TableLaws.{length-put-bit, marked-put-bit, marked-replicate, byte-at-less}
 use Rattle.rows.specs.Rows.{neighbours-of, row-listed}
 use Rattle.rows.proofs.RowWords.{row-listed-whole}

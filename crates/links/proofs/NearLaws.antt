@@ -10,9 +10,11 @@ use lib.ListN.{length, getD, take, drop, length-drop}
 use lib.Seq.{take-all, drop-nil, getD-take, getD-drop, length-take-le}
 use borrow.Author.Tests.{eq-eqb, ne-eqb}
 use Rattle.mesh.specs.Limits.{max-radios, row-bytes}
-use Rattle.mesh.specs.Lists.{range, overwrite}
+use Rattle.lists.specs.Lists.{range, overwrite}
 use Rattle.mesh.specs.Tables.{byte-at, marked, put-bit, put-link}
-use Rattle.mesh.proofs.ListLaws.{range-in, filter-ext, take-overwrite}
+use Rattle.lists.proofs.Range.{range-in}
+use Rattle.lists.proofs.Filter.{filter-ext}
+use Rattle.lists.proofs.Overwrite.{take-overwrite, overwrite-all}
 use Rattle.mesh.proofs.TableLaws.{length-put-bit, marked-put-bit}
 use Rattle.rows.specs.Rows.{neighbours-of, row-listed}
 use Rattle.rows.proofs.RowWords.{row-listed-whole}
@@ -58,16 +60,6 @@ near-done ts v k near ns ps level most cs fs put cs1 fs1 h e f g = (
 )
 
 -- ---- a copied row
-
--- as many new entries as there are old ones
-overwrite-all : (new old : List ℕ) → length old ≤ length new → overwrite new old ≡ new
-unfolding overwrite
-overwrite-all new old h = ap (λ (z : List ℕ). new ++ z) (drop-past (length new) old h) ∙ append-nil new
-  where
-    drop-past : (k : ℕ) (xs : List ℕ) → length xs ≤ k → drop k xs ≡ []
-    drop-past k [] l = drop-nil k
-    drop-past zero (x ∷ xs) l = absurd (omega arith)
-    drop-past (suc k) (x ∷ xs) l = drop-past k xs (omega arith)
 
 module _ (u : Bool) (v w : ℕ) (ts row : List ℕ) (whole : row-bytes * v + row-bytes ≤ length ts) (small : w < max-radios)
     (long : length row ≡ row-bytes) (copied : (i : ℕ) → i < row-bytes → getD row i 0 ≡ getD ts (row-bytes * v + i) 0) where

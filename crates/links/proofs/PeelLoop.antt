@@ -8,7 +8,7 @@ use native.Mathlib.Numerals.{add-one}
 use lib.ListN.{length, getD, set, take, length-set}
 use lib.Seq.{length-take-le, take-suc-set}
 use Rattle.mesh.specs.Limits.{max-radios, row-bytes}
-use Rattle.mesh.specs.Lists.{head-or}
+use Rattle.lists.specs.Lists.{head-or}
 use Rattle.mesh.specs.Tables.{marked, put-bit, put-link}
 use Rattle.rows.specs.Rows.{neighbours-of, row-listed}
 use Rattle.rows.proofs.RowWords.{row-listed-whole}

@@ -11,12 +11,14 @@ use lib.Dec.{ltb, leb, eqb}
 use lib.ListN.{length, getD, length-append}
 use borrow.Author.Tests.{eqb-true, eqb-false, eq-eqb, ne-eqb, leb-true, leb-false, le-leb, lt-leb, lt-ltb, le-ltb}
 use Rattle.mesh.specs.Limits.{max-radios, row-bytes}
-use Rattle.mesh.specs.Lists.{count, filter, member, head-or}
+use Rattle.lists.specs.Lists.{count, filter, member, head-or, In, Distinct, Rising}
 use Rattle.mesh.specs.Tables.{marked, put-bit}
-use Rattle.mesh.proofs.BoolLaws.{bool-cases, never, and-left, and-right, bit-false}
-use Rattle.mesh.proofs.ListLaws.{In, in-left, in-right, in-cases, in-drop, member-in, in-member, not-member, split-in, count-mid, count-pos, count-all, permutation-in, Distinct, distinct-mid, distinct-right, permutation-distinct, filter-ext}
+use Rattle.lists.proofs.Tests.{bool-cases, never, and-left, and-right, bit-false}
+use Rattle.lists.proofs.Member.{in-left, in-right, in-cases, in-drop, member-in, in-member, not-member, split-in}
+use Rattle.lists.proofs.Count.{count-mid, count-pos, count-all}
+use Rattle.lists.proofs.Distinct.{permutation-in, distinct-mid, distinct-right, permutation-distinct}
+use Rattle.lists.proofs.Filter.{filter-ext}
 use Rattle.mesh.proofs.TableLaws.{length-put-bit}
-use Rattle.mesh.proofs.OrderLaws.{Rising}
 use Rattle.mesh.proofs.Peel.{Peels, takes-more, takes-permutation, takes-now-in, takes-taken-in, takes-now-filter}
 use Rattle.rows.specs.Rows.{neighbours-of}
 use Rattle.rows.proofs.RowListLaws.{distinct-neighbours-of, in-neighbours-of, member-neighbours-of}
@@ -25,7 +27,9 @@ use Rattle.links.specs.Peels.{stretch, above, Level, Turning}
 use Rattle.links.proofs.TurnLaws.{marked-put, getD-released, marked-released, marked-released-place}
 use Rattle.links.proofs.TurnLoops.{length-released, length-places-released}
 use Rattle.links.proofs.StretchLoops.{length-stretch}
-use Rattle.links.proofs.LevelLaws.{rising-filter, rising-before, first-marked-in, first-marked-least, place-level, level-stretch, Stands, stretch-stands, place-apart, place-small, rising-stretch, distinct-stretch}
+use Rattle.lists.proofs.Ascending.{rising-filter, rising-before}
+use Rattle.links.proofs.LevelLaws.{first-marked-in, first-marked-least, place-level, level-stretch, Stands, stretch-stands, place-apart, place-small}
+use Rattle.links.proofs.LevelLaws.{rising-stretch, distinct-stretch}
 
 module _ {f : ℕ → ℕ → Bool} {ns os ps : List ℕ} {k start size : ℕ} (lv : Level f ns os ps k start size) (m : ℕ) where
   abbrev level : List ℕ

@@ -10,12 +10,13 @@ use lib.ListN.{length, getD, replicate, length-replicate}
 use lib.Seq.{sets}
 use borrow.Author.Tests.{eqb-true, eq-eqb}
 use Rattle.mesh.specs.Limits.{max-radios, max-neighbours, row-bytes}
-use Rattle.mesh.specs.Lists.{range, filter}
+use Rattle.lists.specs.Lists.{range, filter}
 use Rattle.mesh.specs.Graph.{Graph, radios, linked, neighbours-in}
 use Rattle.mesh.specs.Cores.{Group, number}
 use Rattle.mesh.specs.Tables.{tables, byte-at, graph-in}
-use Rattle.mesh.proofs.BoolLaws.{and-both, or-cases, or-left, or-right}
-use Rattle.mesh.proofs.ListLaws.{count-pos, in-range}
+use Rattle.lists.proofs.Tests.{and-both, or-cases, or-left, or-right}
+use Rattle.lists.proofs.Count.{count-pos}
+use Rattle.lists.proofs.Range.{in-range}
 use Rattle.mesh.proofs.GraphLaws.{linked-sym}
 use Rattle.mesh.proofs.Peeling.{number-core}
 use Rattle.mesh.proofs.LinkMoves.{bound}

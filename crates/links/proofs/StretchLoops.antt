@@ -10,8 +10,8 @@ use mir.Syntax.{w64}
 use mir.Val.{boolByte, Fits}
 use lib.ListN.{length, getD, set, drop, length-drop, length-set}
 use lib.Seq.{sets, drop-cons, drop-length, getD-take, getD-drop, length-take-le}
-use Rattle.mesh.specs.Lists.{count, filter}
-use Rattle.mesh.proofs.BoolLaws.{bit-one}
+use Rattle.lists.specs.Lists.{count, filter}
+use Rattle.lists.proofs.Tests.{bit-one, byte-bit}
 use Rattle.links.specs.Peels.{stretch}
 
 -- ---- numbers counted
@@ -19,10 +19,6 @@ use Rattle.links.specs.Peels.{stretch}
 -- from place i on is left
 abbrev pub Counted-from : (f : ℕ → Bool) → (xs : List ℕ) → (n i : ℕ) → Type 0
 Counted-from f xs n i = (n ≤ i) × (n + count f (drop i xs) ≡ count f xs)
-
-byte-bit : (t : Bool) → boolByte t ≡ cond {A = ℕ} t 1 0
-byte-bit true = refl
-byte-bit false = refl
 
 -- the count stays below what a length can be
 pub counted-fits : (n i : ℕ) (t : Bool) → n ≤ i → i + 1 < 2 ^ 64 → Fits w64 (n + boolByte t)

@@ -11,10 +11,10 @@ use lib.ListN.{length, getD, set}
 use lib.Seq.{getD-set-same, getD-set-other}
 use borrow.Author.Tests.{eqb-true, eqb-false, eq-eqb, ne-eqb}
 use Rattle.mesh.specs.Limits.{max-radios, row-bytes}
-use Rattle.mesh.specs.Lists.{member}
+use Rattle.lists.specs.Lists.{member}
 use Rattle.mesh.specs.Tables.{byte-at, marked, put-bit}
-use Rattle.mesh.proofs.BoolLaws.{bool-cases, and-left}
-use Rattle.mesh.proofs.ListLaws.{not-member}
+use Rattle.lists.proofs.Tests.{bool-cases, and-left}
+use Rattle.lists.proofs.Member.{not-member}
 use Rattle.mesh.proofs.TableLaws.{marked-put-bit}
 use Rattle.links.specs.Turns.{counter-less, released, place-marked, places-released, Releasable}
 use Rattle.links.proofs.TurnLoops.{length-place-marked, releasable-tail}

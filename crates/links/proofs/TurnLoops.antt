@@ -11,9 +11,9 @@ use lib.Dec.{leb, eqb}
 use lib.ListN.{length, getD, set, drop, length-set}
 use lib.Seq.{drop-cons, getD-set-other, drop-length}
 use borrow.Author.Tests.{eq-eqb, ne-eqb}
-use Rattle.mesh.specs.Lists.{range}
+use Rattle.lists.specs.Lists.{range}
 use Rattle.mesh.specs.Tables.{put-bit}
-use Rattle.mesh.proofs.BoolLaws.{bool-cases}
+use Rattle.lists.proofs.Tests.{bool-cases}
 use Rattle.mesh.proofs.TableLaws.{length-put-bit}
 use Rattle.links.specs.Turns.{end-counted, counter-less, released, place-marked, places-released, places-fitting, Releasable}
 

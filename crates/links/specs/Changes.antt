@@ -11,7 +11,7 @@ use Prim.Native.Nat.{ℕ, zero, suc, _≤_}
 use lib.IntN.{ℤ, pos, negsuc}
 use lib.ListN.{length}
 use Rattle.mesh.specs.Limits.{max-radios, max-neighbours}
-use Rattle.mesh.specs.Lists.{range, filter, member}
+use Rattle.lists.specs.Lists.{range, filter, member}
 use Rattle.mesh.specs.Cores.{numbers}
 use Rattle.mesh.specs.Tables.{Tables, put-bit, graph-in}
 use Rattle.mesh.proofs.Valid.{Valid, Allowed}

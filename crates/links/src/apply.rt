@@ -4,7 +4,7 @@ ghost use Prim.Native.Nat.{_+_, _-_, _≤_};
 ghost use lib.ListN.{length, take};
 ghost use lib.Seq.{paste};
 ghost use Rattle.mesh.specs.Limits.{max-radios};
-ghost use Rattle.mesh.specs.Lists.{overwrite};
+ghost use Rattle.lists.specs.Lists.{overwrite};
 ghost use Rattle.mesh.specs.Tables.{tables, graph-in};
 ghost use Rattle.calls.specs.Writes.{Link-accepted};
 ghost use Rattle.links.specs.Plans.{changed-part, Planned};

@@ -3,7 +3,7 @@ ghost use mathlib.Core.Path.{_≡_};
 ghost use mathlib.Core.Bool.{false};
 ghost use Prim.Native.Nat.{_≤_, _<_, _+_, min};
 ghost use lib.ListN.{length, getD};
-ghost use Rattle.mesh.specs.Lists.{range};
+ghost use Rattle.lists.specs.Lists.{range};
 ghost use Rattle.mesh.specs.Tables.{tables, graph-in};
 ghost use Rattle.mesh.proofs.LinkMoves.{bound};
 ghost use Rattle.links.specs.Turns.{places-fitting, ends-counted, Begin-ready};

@@ -5,7 +5,7 @@ ghost use lib.Dec.{ltb};
 ghost use lib.ListN.{length, getD};
 ghost use lib.Seq.{sets};
 ghost use Rattle.mesh.specs.Limits.{max-radios};
-ghost use Rattle.mesh.specs.Lists.{filter};
+ghost use Rattle.lists.specs.Lists.{filter};
 ghost use Rattle.links.specs.Peels.{level-start, level-size, stretch};
 
 // Where a stretch starts, and how long it is.

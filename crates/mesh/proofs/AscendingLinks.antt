@@ -8,9 +8,9 @@ use Prim.Native.Nat.{ℕ, _<_}
 use native.Mathlib.Omega.{arith}
 use lib.Dec.{ltb, eqb}
 use borrow.Author.Tests.{ltb-true, lt-ltb, le-ltb, eqb-true, eq-eqb}
-use Rattle.mesh.specs.Lists.{member}
+use Rattle.lists.specs.Lists.{member}
 use Rattle.mesh.specs.Graph.{Link, other-ends, link, link-before, ascending}
-use Rattle.mesh.proofs.BoolLaws.{never, and-left, and-right, and-both, or-cases, or-left, or-right, trichotomy}
+use Rattle.lists.proofs.Tests.{never, and-left, and-right, and-both, or-cases, or-left, or-right, trichotomy}
 use Rattle.mesh.proofs.GraphLaws.{Ends, ends-of, of-ends, joins, joins-link, linked-by, linked-by-cons, Proper}
 
 -- ---- membership of links

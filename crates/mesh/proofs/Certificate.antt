@@ -10,13 +10,14 @@ use native.Mathlib.Omega.{arith}
 use native.Mathlib.Nat.{le-antisymm, le-trans, le-refl, le-of-eq}
 use lib.Dec.{leb}
 use borrow.Author.Tests.{leb-true, le-leb}
-use Rattle.mesh.specs.Lists.{count}
+use Rattle.lists.specs.Lists.{count, In, Each-once, Rising}
 use Rattle.mesh.specs.Graph.{Graph, linked}
 use Rattle.mesh.specs.Cores.{Group, Core}
-use Rattle.mesh.proofs.BoolLaws.{bool-cases, never, bit-false, and-left}
-use Rattle.mesh.proofs.ListLaws.{In, count-mono, Each-once, once-in, once-below}
+use Rattle.lists.proofs.Tests.{bool-cases, never, bit-false, and-left}
+use Rattle.lists.proofs.Count.{count-mono}
+use Rattle.lists.proofs.Range.{once-in, once-below}
 use Rattle.mesh.proofs.GraphLaws.{neighbours-in-list, neighbours-in-subset}
-use Rattle.mesh.proofs.OrderLaws.{Rising, Few-later, Enough}
+use Rattle.mesh.proofs.OrderLaws.{Few-later, Enough}
 
 -- the local conditions on numbers and order
 pub record Certificate (g : Graph) (num : ℕ → ℕ) (xs : List ℕ) : Type 0 where

@@ -11,11 +11,11 @@ use native.Mathlib.Omega.{arith}
 use native.Mathlib.Nat.{le-trans, le-of-eq}
 use lib.Dec.{leb}
 use borrow.Author.Tests.{leb-true, le-leb}
-use Rattle.mesh.specs.Lists.{member}
+use Rattle.lists.specs.Lists.{member}
 use Rattle.mesh.specs.Graph.{Graph, linked, neighbours-in}
 use Rattle.mesh.specs.Cores.{Group, number}
 use Rattle.mesh.specs.Connected.{Reachable, here, onward, reached}
-use Rattle.mesh.proofs.BoolLaws.{bool-cases, never, or-cases, or-left, or-right}
+use Rattle.lists.proofs.Tests.{bool-cases, never, or-cases, or-left, or-right}
 use Rattle.mesh.proofs.GraphLaws.{Ends, Adds, adds-cases, adds-has, linked-sym, neighbours-in-mono}
 use Rattle.mesh.proofs.Certificate.{core-enough}
 use Rattle.mesh.proofs.Peeling.{number-core}

@@ -4,12 +4,12 @@ use mathlib.Core.Bool.{true}
 use Prim.Native.Nat.{ℕ, _≤_, _<_}
 use native.Mathlib.Omega.{arith}
 use borrow.Author.Tests.{leb-true, le-leb}
-use Rattle.mesh.specs.Lists.{range, member}
+use Rattle.lists.specs.Lists.{range, member}
 use Rattle.mesh.specs.Graph.{Graph, radios}
 use Rattle.mesh.specs.Cores.{number}
 use Rattle.mesh.specs.Connected.{here, at-least, In-core, core-of}
-use Rattle.mesh.proofs.BoolLaws.{iff-eq}
-use Rattle.mesh.proofs.ListLaws.{filter-ext}
+use Rattle.lists.proofs.Tests.{iff-eq}
+use Rattle.lists.proofs.Filter.{filter-ext}
 use Rattle.mesh.proofs.Reach.{reachable-below, reachable-passes, reachable-trans, reachable-sym, reachable-mono, core-of-iff, core-of-ascending}
 
 module _ (g : Graph) where

@@ -13,18 +13,20 @@ use lib.Dec.{eqb}
 use lib.ListN.{length, length-map}
 use borrow.Author.Tests.{eqb-true, eqb-false, eq-eqb}
 use Rattle.mesh.specs.Limits.{max-radios, max-neighbours}
-use Rattle.mesh.specs.Lists.{range, count, filter, member}
+use Rattle.lists.specs.Lists.{range, count, filter, member, total}
 use Rattle.mesh.specs.Graph.{Link, Graph, radios, linked, neighbours-among, degree, other-ends, proper, ascending}
 use Rattle.mesh.specs.Tables.{marked, row-links, graph-in}
 use Rattle.mesh.specs.Sound.{symmetric, irreflexive, within, row-degree}
 use Rattle.mesh.specs.Image.{blocks-for, order-blocks, block-count}
-use Rattle.mesh.proofs.BoolLaws.{bool-cases, bit-true, bit-false, iff-eq}
-use Rattle.mesh.proofs.ListLaws.{range-in, length-range, count-none, length-filter}
+use Rattle.lists.proofs.Tests.{bool-cases, bit-true, bit-false, iff-eq}
+use Rattle.lists.proofs.Range.{range-in, length-range, count-range-one}
+use Rattle.lists.proofs.Count.{count-none, count-cong, count-or}
+use Rattle.lists.proofs.Filter.{length-filter}
 use Rattle.mesh.proofs.GraphLaws.{Ends, joins, ends-of, of-ends, linked-by, linked-by-cons, linked-by-sym, Proper, proper-of}
 use Rattle.mesh.proofs.AscendingLinks.{In-links, before-irreflexive, Sorted, sorted-of, link-less, linked-in}
 use Rattle.mesh.proofs.ReadBack.{proper-graph-in, ascending-graph-in, degree-graph-in}
 use Rattle.mesh.proofs.Valid.{Valid}
-use Rattle.mesh.proofs.Sums.{total, total-le, total-cong, total-none, length-flatMap-total, total-bits, count-cong, count-or, count-range-one}
+use Rattle.lists.proofs.Sums.{total-le, total-cong, total-none, length-flatMap-total, total-bits}
 
 -- ---- one link more
 

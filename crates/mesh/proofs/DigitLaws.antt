@@ -8,13 +8,9 @@ use native.Mathlib.Nat.{pow-succ', div-div-eq-div-mul, zero-div}
 use lib.Dec.{eqb, eqb·zero-suc, eqb·suc-zero, eqb·suc-suc}
 use borrow.Author.Tests.{eqb-true, eqb-false}
 use Rattle.mesh.specs.Tables.{digit, put-digit, from-digits}
-use Rattle.mesh.proofs.BoolLaws.{bool-cases, bit-one}
+use Rattle.lists.proofs.Tests.{bool-cases, bit-one, bit-digit}
 
 -- ---- digits of a number
-
-bit-digit : (t : Bool) → eqb (cond t 1 0) 1 ≡ t
-bit-digit true = refl
-bit-digit false = refl
 
 pub digit-zero : (x : ℕ) → digit x 0 ≡ eqb (x % 2) 1
 unfolding digit

@@ -7,22 +7,13 @@ use native.Mathlib.Omega.{arith}
 use lib.ListN.{length, getD, take, drop, replicate, length-append, length-take, length-drop, length-replicate, List·getD-append}
 use lib.Seq.{getD-append-add, getD-take, getD-drop, take-at, drop-at}
 use Rattle.mesh.specs.Graph.{Link}
-use Rattle.mesh.specs.Image.{block-bytes, payload-bytes, block-entries, block-links, word, long, check-sum, block, link-bytes, order-payload, links-payload}
-use Rattle.mesh.proofs.TableLaws.{Bytes, bytes-replicate}
-use Rattle.mesh.proofs.Parts.{length-flatMap, getD-flatMap, bytes-cons, bytes-append, bytes-flatMap}
+use Rattle.mesh.specs.Image.{block-bytes, payload-bytes, block-entries, block-links, word, long, check-sum, block, link-bytes, order-payload}
+use Rattle.mesh.specs.Image.{links-payload}
+use Rattle.lists.specs.Lists.{Bytes}
+use Rattle.lists.proofs.Parts.{bytes-replicate, length-flatMap, getD-flatMap, bytes-cons, bytes-append, bytes-flatMap, getD-append-zeros}
 use Rattle.mesh.proofs.WordLaws.{length-word, bytes-word, getD-word-zero, length-long, bytes-long}
 
 -- ---- a block
-
-getD-zeros : (k j : ℕ) → getD {A = ℕ} (replicate k 0) j 0 ≡ 0
-getD-zeros zero j = refl
-getD-zeros (suc k) zero = refl
-getD-zeros (suc k) (suc j) = getD-zeros k j
-
-pub getD-append-zeros : (xs : List ℕ) (k j : ℕ) → getD (xs ++ replicate k 0) j 0 ≡ getD xs j 0
-getD-append-zeros [] k j = getD-zeros k j
-getD-append-zeros (x ∷ xs) k zero = refl
-getD-append-zeros (x ∷ xs) k (suc j) = getD-append-zeros xs k j
 
 -- the payload, filled up with zeros
 abbrev pub filled : List ℕ → List ℕ

@@ -14,16 +14,22 @@ use lib.ListN.{length, getD, take, drop, length-map, take-append-drop, List·get
 use lib.Seq.{getD-take, length-take-le, ext-getD}
 use borrow.Author.Tests.{ltb-true, ltb-false}
 use Rattle.mesh.specs.Limits.{max-radios, max-neighbours}
-use Rattle.mesh.specs.Lists.{range}
+use Rattle.lists.specs.Lists.{range, Bytes}
 use Rattle.mesh.specs.Graph.{Graph}
-use Rattle.mesh.specs.Image.{block-bytes, payload-bytes, block-entries, block-links, word, long, check-sum, block, blocks-for, order-blocks, block-count, link-bytes, order-payload, links-payload, block-at, image-of, word-at, entry-at, image-order, image-link, image-links, image-graph, block-check, checks-good, is-image}
-use Rattle.mesh.proofs.BoolLaws.{bool-cases}
-use Rattle.mesh.proofs.ListLaws.{length-range, all-below, same-eq}
-use Rattle.mesh.proofs.TableLaws.{Bytes}
-use Rattle.mesh.proofs.Parts.{flatMap-take-drop, getD-map-range}
+use Rattle.mesh.specs.Image.{block-bytes, payload-bytes, block-entries, block-links, word, long, check-sum, block, blocks-for, order-blocks, block-count}
+use Rattle.mesh.specs.Image.{link-bytes, order-payload, links-payload, block-at, image-of, word-at, entry-at, image-order, image-link, image-links}
+use Rattle.mesh.specs.Image.{image-graph, block-check, checks-good, is-image}
+use Rattle.lists.proofs.Tests.{bool-cases}
+use Rattle.lists.proofs.Range.{length-range}
+use Rattle.lists.proofs.All.{all-below, same-eq}
+use Rattle.lists.proofs.Parts.{flatMap-take-drop, getD-append-zeros}
+use Rattle.lists.proofs.Map.{getD-map-range}
 use Rattle.mesh.proofs.WordLaws.{word-at-word, getD-word-word-at, word-at-less}
-use Rattle.mesh.proofs.ImageBlocks.{block-body, block-check-last, getD-append-zeros, length-block-body, getD-block-kind, getD-block-zero, getD-block-index, getD-block-index-high, no-link, length-order-payload, getD-order-payload, length-links-payload, getD-links-payload, getD-link-bytes-low, getD-link-bytes-high}
-use Rattle.mesh.proofs.ImageOf.{kind-at, content-at, block-at-parts, length-content-at, blocks, length-image-of, bytes-image-of, getD-image-of, getD-image-content, content-at-order, content-at-links, checks-good-image-of}
+use Rattle.mesh.proofs.ImageBlocks.{block-body, block-check-last, length-block-body, getD-block-kind, getD-block-zero, getD-block-index}
+use Rattle.mesh.proofs.ImageBlocks.{getD-block-index-high, no-link, length-order-payload, getD-order-payload, length-links-payload, getD-links-payload}
+use Rattle.mesh.proofs.ImageBlocks.{getD-link-bytes-low, getD-link-bytes-high}
+use Rattle.mesh.proofs.ImageOf.{kind-at, content-at, block-at-parts, length-content-at, blocks, length-image-of, bytes-image-of, getD-image-of}
+use Rattle.mesh.proofs.ImageOf.{getD-image-content, content-at-order, content-at-links, checks-good-image-of}
 use Rattle.mesh.proofs.ImageChecks.{part-at, length-part-at, getD-part-at}
 use Rattle.mesh.proofs.ImageRead.{word-at-radios}
 use Rattle.mesh.proofs.Sites.{image-valid}

@@ -10,13 +10,12 @@ use lib.Dec.{eqb}
 use lib.ListN.{length, getD, take, drop, length-take, length-drop}
 use lib.Seq.{getD-take, getD-drop, take-take, drop-drop, length-take-le, ext-getD}
 use borrow.Author.Tests.{eqb-true, eq-eqb}
-use Rattle.mesh.specs.Lists.{same}
+use Rattle.lists.specs.Lists.{same, Bytes}
 use Rattle.mesh.specs.Graph.{Graph}
 use Rattle.mesh.specs.Image.{block-bytes, payload-bytes, long, check-sum, image-of, block-check, payload-at}
-use Rattle.mesh.proofs.BoolLaws.{iff-eq}
-use Rattle.mesh.proofs.ListLaws.{same-refl, same-eq}
-use Rattle.mesh.proofs.TableLaws.{Bytes}
-use Rattle.mesh.proofs.Parts.{take-drop-take, getD-bytes, bytes-take, bytes-drop}
+use Rattle.lists.proofs.Tests.{iff-eq}
+use Rattle.lists.proofs.All.{same-refl, same-eq}
+use Rattle.lists.proofs.Parts.{take-drop-take, getD-bytes, bytes-take, bytes-drop}
 use Rattle.mesh.proofs.WordLaws.{long-of, long-of-long, long-long-of, check-sum-less}
 use Rattle.mesh.proofs.ImageBlocks.{filled, payload-block}
 use Rattle.mesh.proofs.ImageOf.{kind-at, content-at, block-at-parts, length-content-at, blocks, take-drop-image-of}

@@ -8,14 +8,17 @@ use native.Mathlib.Omega.{arith}
 use lib.Dec.{ltb}
 use lib.ListN.{length, getD, take, drop}
 use borrow.Author.Tests.{eq-eqb, ne-eqb, lt-ltb, le-ltb}
-use Rattle.mesh.specs.Lists.{range, same}
+use Rattle.lists.specs.Lists.{range, same, Bytes}
 use Rattle.mesh.specs.Graph.{Graph}
-use Rattle.mesh.specs.Image.{block-bytes, payload-bytes, word, long, check-sum, block, order-blocks, block-count, order-payload, links-payload, block-at, image-of, whole-blocks, block-check, checks-good}
-use Rattle.mesh.proofs.ListLaws.{length-range, below-all, same-refl}
-use Rattle.mesh.proofs.TableLaws.{Bytes, length-flatMap-range, getD-flatMap-range}
-use Rattle.mesh.proofs.Parts.{take-drop-flatMap, getD-range, bytes-append, bytes-flatMap}
+use Rattle.mesh.specs.Image.{block-bytes, payload-bytes, word, long, check-sum, block, order-blocks, block-count, order-payload, links-payload, block-at}
+use Rattle.mesh.specs.Image.{image-of, whole-blocks, block-check, checks-good}
+use Rattle.lists.proofs.Range.{length-range, getD-range}
+use Rattle.lists.proofs.All.{below-all, same-refl}
+use Rattle.mesh.proofs.TableLaws.{length-flatMap-range, getD-flatMap-range}
+use Rattle.lists.proofs.Parts.{take-drop-flatMap, bytes-append, bytes-flatMap}
 use Rattle.mesh.proofs.WordLaws.{bytes-word}
-use Rattle.mesh.proofs.ImageBlocks.{length-block, bytes-block, getD-block-payload, drop-block, length-order-payload, bytes-order-payload, length-links-payload, bytes-links-payload}
+use Rattle.mesh.proofs.ImageBlocks.{length-block, bytes-block, getD-block-payload, drop-block, length-order-payload, bytes-order-payload}
+use Rattle.mesh.proofs.ImageBlocks.{length-links-payload, bytes-links-payload}
 
 -- ---- kind and payload of block i
 

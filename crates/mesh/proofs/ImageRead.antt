@@ -6,12 +6,13 @@ use Prim.Native.Nat.{ℕ, zero, suc, _+_, _*_, _/_, _%_, _≤_, _<_}
 use native.Mathlib.Omega.{arith}
 use lib.ListN.{length, getD, List·getD-append}
 use lib.Seq.{getD-append-add}
-use Rattle.mesh.specs.Lists.{range}
+use Rattle.lists.specs.Lists.{range}
 use Rattle.mesh.specs.Graph.{Link, Graph, graph}
-use Rattle.mesh.specs.Image.{block-bytes, payload-bytes, block-entries, block-links, word, blocks-for, order-blocks, block-count, link-bytes, links-payload, image-of, word-at, entry-at, image-order, image-link, image-links, image-graph}
+use Rattle.mesh.specs.Image.{block-bytes, payload-bytes, block-entries, block-links, word, blocks-for, order-blocks, block-count, link-bytes}
+use Rattle.mesh.specs.Image.{links-payload, image-of, word-at, entry-at, image-order, image-link, image-links, image-graph}
 use Rattle.mesh.proofs.GraphLaws.{Proper}
 use Rattle.mesh.proofs.AscendingLinks.{link-eq}
-use Rattle.mesh.proofs.Parts.{map-range-getD}
+use Rattle.lists.proofs.Map.{map-range-of-getD}
 use Rattle.mesh.proofs.WordLaws.{length-word, word-at-word}
 use Rattle.mesh.proofs.ImageBlocks.{no-link, getD-link-bytes-low, getD-link-bytes-high, getD-order-payload, getD-links-payload}
 use Rattle.mesh.proofs.ImageOf.{content-at, blocks, getD-image-content, content-at-order, content-at-links}
@@ -63,7 +64,7 @@ module _ (g : Graph) (xs : List ℕ) where
   image-order-image-of len small =
       let read : ℕ → ℕ = λ j. word-at image (entry-at 1 block-entries 2 j) in
       ap (λ (k : ℕ). map read (range 0 k)) (sym len)
-      ∙ map-range-getD 0 read 0 xs (λ j l. ap read (omega arith) ∙ word-at-order j (omega arith) (small j l))
+      ∙ map-range-of-getD 0 read 0 xs (λ j l. ap read (omega arith) ∙ word-at-order j (omega arith) (small j l))
 
   -- ---- the links
 
@@ -106,6 +107,6 @@ module _ (g : Graph) (xs : List ℕ) where
   unfolding image-graph image-links
   image-graph-image-of small few p =
       ap (graph (g .n)) (ap (λ (k : ℕ). map (image-link (g .n) image) (range 0 k)) (word-at-links few)
-      ∙ map-range-getD no-link (image-link (g .n) image) 0 (g .links)
+      ∙ map-range-of-getD no-link (image-link (g .n) image) 0 (g .links)
       (λ j l. let r = getD-proper (g .n) (g .links) p j l in
       ap (image-link (g .n) image) (omega arith) ∙ image-link-image-of j l (omega (arith, r .0)) (omega (arith, r .1))))

@@ -11,18 +11,19 @@ use Prim.Native.Nat.{ℕ, _≤_, _<_}
 use native.Mathlib.Omega.{arith}
 use lib.ListN.{length, getD}
 use Rattle.mesh.specs.Limits.{max-radios, max-neighbours}
-use Rattle.mesh.specs.Lists.{same}
+use Rattle.lists.specs.Lists.{same, Each-once}
 use Rattle.mesh.specs.Graph.{Graph, proper, ascending}
 use Rattle.mesh.specs.Tables.{tables-of}
 use Rattle.mesh.specs.Sound.{sound}
 use Rattle.mesh.specs.Image.{image-of, word-at, image-order, image-graph, is-image}
-use Rattle.mesh.proofs.BoolLaws.{and-right, and-both}
-use Rattle.mesh.proofs.ListLaws.{Each-once, once-length, once-below, same-refl, same-eq}
+use Rattle.lists.proofs.Tests.{and-right, and-both}
+use Rattle.lists.proofs.Range.{once-length, once-below}
+use Rattle.lists.proofs.All.{same-refl, same-eq}
 use Rattle.mesh.proofs.GraphLaws.{proper-of}
 use Rattle.mesh.proofs.KOrders.{k-order-certificate}
 use Rattle.mesh.proofs.Soundness.{valid-sound}
 use Rattle.mesh.proofs.Sites.{image-valid}
-use Rattle.mesh.proofs.Parts.{in-getD}
+use Rattle.lists.proofs.Member.{in-getD}
 use Rattle.mesh.proofs.ImageRead.{word-at-radios, image-order-image-of, image-graph-image-of}
 use Rattle.mesh.proofs.DegreeSum.{links-most}
 use Rattle.mesh.proofs.Valid.{Valid}

@@ -18,11 +18,12 @@ use Rattle.mesh.specs.Cores.{number, numbers}
 use Rattle.mesh.specs.Tables.{Tables, tables, graph-in, tables-of}
 use Rattle.mesh.specs.Sound.{symmetric, irreflexive, within, few, rows-proper, number-in, sound-within, sound}
 use Rattle.mesh.specs.Image.{image-of, image-order, image-graph, is-image}
-use Rattle.mesh.proofs.BoolLaws.{and-left, and-right}
+use Rattle.lists.proofs.Tests.{and-left, and-right}
 use Rattle.mesh.proofs.GraphLaws.{linked-self, neighbours-in-subset, degree-in}
 use Rattle.mesh.proofs.KOrders.{k-order-certificate, certificate-k-order}
 use Rattle.mesh.proofs.Peeling.{length-numbers, getD-numbers}
-use Rattle.mesh.proofs.TableLaws.{Bytes, length-links-table, bytes-links-table}
+use Rattle.lists.specs.Lists.{Bytes}
+use Rattle.mesh.proofs.TableLaws.{length-links-table, bytes-links-table}
 use Rattle.mesh.proofs.RowLaws.{few-of}
 use Rattle.mesh.proofs.ReadBack.{proper-graph-in, ascending-graph-in, graph-in-links-table, links-table-graph-in, degree-graph-in}
 use Rattle.mesh.proofs.Soundness.{sound-certificate, sound-right, valid-sound}

@@ -7,9 +7,10 @@ use native.Mathlib.Nat.{le-of-eq}
 use Rattle.mesh.specs.Graph.{Graph, linked}
 use Rattle.mesh.specs.Cores.{number}
 use Rattle.mesh.specs.Orders.{each-once, rising, few-later, is-k-order}
-use Rattle.mesh.proofs.BoolLaws.{and-left, and-right, and-both}
-use Rattle.mesh.proofs.ListLaws.{once-below}
-use Rattle.mesh.proofs.OrderLaws.{each-once-of, of-each-once, rising-of, of-rising, rising-cong, few-later-of, of-few-later, few-later-cong}
+use Rattle.lists.proofs.Tests.{and-left, and-right, and-both}
+use Rattle.lists.proofs.Range.{once-below}
+use Rattle.mesh.proofs.OrderLaws.{each-once-of, of-each-once, rising-of, of-rising, few-later-of, of-few-later, few-later-cong}
+use Rattle.lists.proofs.Ascending.{rising-cong}
 use Rattle.mesh.proofs.Certificate.{Certificate, certificate-core, core-enough}
 use Rattle.mesh.proofs.Peeling.{number-core, number-unique}
 

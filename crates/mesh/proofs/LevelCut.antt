@@ -9,13 +9,12 @@ use lib.Dec.{ltb, eqb}
 use lib.ListN.{length, length-append, take, drop}
 use lib.Seq.{take-at, drop-at}
 use borrow.Author.Tests.{lt-ltb, le-ltb, eq-eqb, ne-eqb}
-use Rattle.mesh.specs.Lists.{filter}
+use Rattle.lists.specs.Lists.{filter, Each-once, Rising}
 use Rattle.mesh.specs.Graph.{Graph, radios}
 use Rattle.mesh.specs.Cores.{number}
 use Rattle.mesh.specs.Levels.{stretch-start, stretch-length}
-use Rattle.mesh.proofs.BoolLaws.{trichotomy}
-use Rattle.mesh.proofs.ListLaws.{Each-once, filter-none, length-filter}
-use Rattle.mesh.proofs.OrderLaws.{Rising}
+use Rattle.lists.proofs.Tests.{trichotomy}
+use Rattle.lists.proofs.Filter.{filter-none, length-filter}
 
 abbrev pub lows : (num : ℕ → ℕ) → (k : ℕ) → List ℕ → List ℕ
 lows num k xs = filter (λ v. ltb (num v) k) xs

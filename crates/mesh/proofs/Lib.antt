@@ -1,6 +1,4 @@
 -- The theory of the definitions, from the bottom up. Laws of a definition stand in the module that bears its subject's name.
-pub mod BoolLaws
-pub mod ListLaws
 pub mod Valid
 pub mod GraphLaws
 pub mod OrderLaws
@@ -33,11 +31,9 @@ pub mod Relinked
 pub mod ReadBack
 pub mod Soundness
 pub mod Sites
-pub mod Sums
 pub mod DegreeSum
 pub mod OtherEnds
 -- the site image
-pub mod Parts
 pub mod ImageLaws
 pub mod WordLaws
 pub mod ImageBlocks

@@ -9,19 +9,25 @@ use native.Mathlib.Omega.{arith}
 use lib.Dec.{ltb, eqb}
 use lib.ListN.{length}
 use borrow.Author.Tests.{ltb-true, eqb-true, eqb-false, eq-eqb, ne-eqb, not-true, not-false}
-use Rattle.mesh.specs.Lists.{range, filter, member}
+use Rattle.lists.specs.Lists.{range, filter, member, In, Distinct}
 use Rattle.mesh.specs.Graph.{Graph, radios, linked, neighbours-in, relinked, proper, new-links}
 use Rattle.mesh.specs.Cores.{Group, number}
 use Rattle.mesh.specs.Orders.{is-k-order}
-use Rattle.mesh.specs.Levels.{changed, lower-level, stretch-start, stretch-length, laid-out, stretch-up, stretch-down, new-stretch, with-stretch, new-order}
-use Rattle.mesh.proofs.BoolLaws.{bool-cases, never, and-both, or-cases, or-left, or-right}
-use Rattle.mesh.proofs.ListLaws.{In, in-cases, member-in, in-member, not-member, count-pos, Distinct, in-range, range-in, permutation-in, once-in, once-below, once-distinct, in-filter, filter-in, member-filter, filter-ext, distinct-filter}
+use Rattle.mesh.specs.Levels.{changed, lower-level, stretch-start, stretch-length, laid-out, stretch-up, stretch-down, new-stretch, with-stretch}
+use Rattle.mesh.specs.Levels.{new-order}
+use Rattle.lists.proofs.Tests.{bool-cases, never, and-both, or-cases, or-left, or-right}
+use Rattle.lists.proofs.Member.{in-cases, member-in, in-member, not-member}
+use Rattle.lists.proofs.Count.{count-pos}
+use Rattle.lists.proofs.Range.{in-range, range-in, once-in, once-below, once-distinct}
+use Rattle.lists.proofs.Distinct.{permutation-in}
+use Rattle.lists.proofs.Filter.{in-filter, filter-in, member-filter, filter-ext, distinct-filter}
 use Rattle.mesh.proofs.GraphLaws.{linked-sym, proper-of, of-proper, proper-new-links, linked-self, relinked-adds, Adds}
 use Rattle.mesh.proofs.Certificate.{Certificate}
 use Rattle.mesh.proofs.Peeling.{number-core}
 use Rattle.mesh.proofs.KOrders.{k-order-certificate, certificate-number, certificate-k-order}
 use Rattle.mesh.proofs.Peel.{Takes, Peeling, takes-permutation, takes-now-filter, laid-out-is, length-taken}
-use Rattle.mesh.proofs.PeelSound.{Moves, Peeled-level, new-list, new-number, new-stuck, new-taken, new-else, taken-level, stuck-level, apart, peel-certificate}
+use Rattle.mesh.proofs.PeelSound.{Moves, Peeled-level, new-list, new-number, new-stuck, new-taken, new-else, taken-level, stuck-level, apart}
+use Rattle.mesh.proofs.PeelSound.{peel-certificate}
 use Rattle.mesh.proofs.LinkMoves.{bound, link-moves}
 use Rattle.mesh.proofs.LevelCut.{lows, mids, highs, level-cut, stretch-start-is, stretch-length-is, take-below, take-level, drop-above}
 use Rattle.mesh.proofs.Valid.{Valid, Allowed, smaller, larger}

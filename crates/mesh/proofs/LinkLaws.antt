@@ -17,19 +17,21 @@ use lib.Dec.{eqb}
 use lib.ListN.{length, take, drop}
 use borrow.Author.Tests.{eqb-true, eqb-false}
 use Rattle.mesh.specs.Limits.{max-radios}
-use Rattle.mesh.specs.Lists.{range, member}
+use Rattle.lists.specs.Lists.{range, member}
 use Rattle.mesh.specs.Graph.{Graph, radios, linked, neighbours-among, degree, relinked}
 use Rattle.mesh.specs.Cores.{number}
 use Rattle.mesh.specs.Levels.{changed, lower-level, stretch-start, stretch-length, new-stretch, new-order}
 use Rattle.mesh.specs.Tables.{put-link, links-table}
 use Rattle.mesh.specs.Connected.{Reachable}
-use Rattle.mesh.proofs.BoolLaws.{bool-cases}
-use Rattle.mesh.proofs.ListLaws.{count-all, count-mono, distinct-range}
+use Rattle.lists.proofs.Tests.{bool-cases}
+use Rattle.lists.proofs.Count.{count-all, count-mono}
+use Rattle.lists.proofs.Range.{distinct-range}
 use Rattle.mesh.proofs.GraphLaws.{Ends, Adds, relinked-adds}
 use Rattle.mesh.proofs.Peel.{Peeling, peeling, takes-permutation}
 use Rattle.mesh.proofs.LinkMoves.{bound, adds-elsewhere, adds-least, adds-most}
 use Rattle.mesh.proofs.LevelCut.{lows, mids, highs, take-below, take-level, drop-above}
-use Rattle.mesh.proofs.LinkCall.{link-adds, cut, start-is, length-is, relinked-proper, changed-below, changed-level, changed-numbers, unchanged-numbers, new-stretch-is, new-order-is, new-order-k-order}
+use Rattle.mesh.proofs.LinkCall.{link-adds, cut, start-is, length-is, relinked-proper, changed-below, changed-level, changed-numbers, unchanged-numbers}
+use Rattle.mesh.proofs.LinkCall.{new-stretch-is, new-order-is, new-order-k-order}
 use Rattle.mesh.proofs.Connectedness.{changed-connected, changed-has-end}
 use Rattle.mesh.proofs.Relinked.{ascending-new-links, links-table-relinked}
 use Rattle.mesh.proofs.Valid.{Valid, Allowed, smaller, larger}

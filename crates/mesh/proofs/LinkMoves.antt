@@ -8,36 +8,14 @@ use native.Mathlib.Omega.{arith}
 use native.Mathlib.Nat.{le-trans}
 use lib.Dec.{eqb}
 use borrow.Author.Tests.{eq-eqb, ne-eqb}
-use Rattle.mesh.specs.Lists.{count}
+use Rattle.lists.specs.Lists.{count, Distinct}
 use Rattle.mesh.specs.Graph.{Graph, linked, relinked}
-use Rattle.mesh.proofs.BoolLaws.{never, iff-eq}
-use Rattle.mesh.proofs.ListLaws.{Distinct, distinct-one, count-mono}
+use Rattle.lists.proofs.Tests.{never, iff-eq}
+use Rattle.lists.proofs.Distinct.{distinct-one, count-one-more}
+use Rattle.lists.proofs.Count.{count-mono}
 use Rattle.mesh.proofs.Valid.{smaller, larger}
 use Rattle.mesh.proofs.GraphLaws.{Ends, Adds, adds-keeps, adds-cases}
 use Rattle.mesh.proofs.PeelSound.{Moves}
-
--- one more that passes
-count-one-more : (f g : ℕ → Bool) (o : ℕ) (zs : List ℕ) → ((w : ℕ) → f w ≡ true → (g w ≡ true) ⊎ (w ≡ o)) → Distinct zs → count f zs ≤ suc (count g zs)
-unfolding count
-count-one-more f g o zs h d = le-trans (split zs) (omega (arith, distinct-one o zs d))
-  where
-    bit : (x y z : Bool) → (x ≡ true → (y ≡ true) ⊎ (z ≡ true)) → cond {A = ℕ} x 1 0 ≤ cond y 1 0 + cond z 1 0
-    bit false y z k = omega arith
-    bit true true z k = omega arith
-    bit true false true k = omega arith
-    bit true false false k = go (k refl)
-      where
-        go : (false ≡ true) ⊎ (false ≡ true) → cond {A = ℕ} true 1 0 ≤ cond false 1 0 + cond false 1 0
-        go (inl e) = never false e refl
-        go (inr e) = never false e refl
-
-    test : (w : ℕ) → (g w ≡ true) ⊎ (w ≡ o) → (g w ≡ true) ⊎ (eqb w o ≡ true)
-    test w (inl e) = inl e
-    test w (inr e) = inr (eq-eqb w o e)
-
-    split : (ys : List ℕ) → count f ys ≤ count g ys + count (λ x. eqb x o) ys
-    split [] = omega arith
-    split (y ∷ ys) = omega (arith, bit (f y) (g y) (eqb y o) (λ e. test y (h y e)), split ys)
 
 module _ {p q : Graph} {a b : ℕ} (apart : Adds p q a b) where
   pub adds-elsewhere : (v w : ℕ) → (Ends a b v w → ⊥) → linked p v w ≡ linked q v w

@@ -10,13 +10,14 @@ use native.Mathlib.Omega.{arith}
 use native.Mathlib.Nat.{le-antisymm}
 use lib.Dec.{eqb}
 use borrow.Author.Tests.{eqb-true, eqb-false, eq-eqb}
-use Rattle.mesh.specs.Lists.{member}
+use Rattle.lists.specs.Lists.{member, In}
 use Rattle.mesh.specs.Graph.{Graph}
 use Rattle.mesh.specs.Cores.{number}
 use Rattle.mesh.specs.Connected.{In-core, core-of}
 use Rattle.mesh.specs.Tree.{Core-set, Node-set, Named, Contains, Parent, shell}
-use Rattle.mesh.proofs.BoolLaws.{bool-cases}
-use Rattle.mesh.proofs.ListLaws.{In, member-in, in-member, in-filter, filter-in}
+use Rattle.lists.proofs.Tests.{bool-cases}
+use Rattle.lists.proofs.Member.{member-in, in-member}
+use Rattle.lists.proofs.Filter.{in-filter, filter-in}
 use Rattle.mesh.proofs.Reach.{core-of-iff}
 use Rattle.mesh.proofs.CoreLevels.{in-core-here, in-core-below, in-core-level, in-core-sym, in-core-trans, in-core-mono, in-core-lower}
 

@@ -9,20 +9,17 @@ use native.Mathlib.Nat.{le-trans}
 use lib.Dec.{leb, eqb}
 use lib.ListN.{length}
 use borrow.Author.Tests.{leb-true, le-leb, eqb-true, eq-eqb}
-use Rattle.mesh.specs.Lists.{range, count, all}
+use Rattle.lists.specs.Lists.{range, count, all, In, Distinct, Permutation, Each-once, Rising}
 use Rattle.mesh.specs.Graph.{Graph, neighbours-among, neighbours-in}
 use Rattle.mesh.specs.Orders.{each-once, rising, few-later}
-use Rattle.mesh.proofs.BoolLaws.{and-left, and-right, and-both}
-use Rattle.mesh.proofs.ListLaws.{In, in-left, in-cases, Distinct, distinct-range, distinct-one, count-append, count-mid, count-mono, count-not, count-some, count-pos, count-sub, range-in, length-range, Permutation, Each-once, once-in, once-distinct, once-length, all-below, below-all}
+use Rattle.lists.proofs.Tests.{and-left, and-right, and-both}
+use Rattle.lists.proofs.Member.{in-left, in-cases}
+use Rattle.lists.proofs.Range.{distinct-range, range-in, length-range, once-in, once-distinct, once-length, once-from}
+use Rattle.lists.proofs.Distinct.{distinct-one, count-sub}
+use Rattle.lists.proofs.Count.{count-append, count-mid, count-mono, count-not, count-some, count-pos}
+use Rattle.lists.proofs.All.{all-below, below-all}
 
 -- ---- each radio once
-
--- as many entries as radios, and every radio among them
-once-from : (n : ℕ) (xs : List ℕ) → length xs ≡ n → ((v : ℕ) → v < n → In v xs) → Each-once n xs
-once-from n xs e h f =
-    let le : (g : ℕ → Bool) → count g (range 0 n) ≤ count g xs =
-    λ g. count-sub g g (range 0 n) xs (distinct-range 0 n) (λ v m p. (h v (omega (arith, range-in 0 n v m)), p)) in
-    omega (arith, le f, le (λ x. not (f x)), count-not f xs, count-not f (range 0 n), length-range 0 n)
 
 pub each-once-of : (n : ℕ) (xs : List ℕ) → each-once n xs ≡ true → Each-once n xs
 unfolding each-once
@@ -51,11 +48,6 @@ of-each-once n xs o =
 
 -- ---- rising
 
--- no later entry has a smaller number
-abbrev pub Rising : (num : ℕ → ℕ) → List ℕ → Type 0
-Rising num [] = Unit {0}
-Rising num (x ∷ xs) = ((w : ℕ) → In w xs → num x ≤ num w) × Rising num xs
-
 pub rising-of : (num : ℕ → ℕ) (xs : List ℕ) → rising num xs ≡ true → Rising num xs
 unfolding rising
 rising-of num [] h = tt
@@ -74,33 +66,6 @@ of-rising num [] r = refl
 of-rising num (x ∷ []) r = refl
 of-rising num (x ∷ y ∷ ys) r =
     and-both (leb (num x) (num y)) (rising num (y ∷ ys)) (le-leb (num x) (num y) (r .0 y (inl refl))) (of-rising num (y ∷ ys) (r .1))
-
-pub rising-append : (num : ℕ → ℕ) (xs ys : List ℕ) → Rising num xs → Rising num ys
-    → ((x y : ℕ) → In x xs → In y ys → num x ≤ num y) → Rising num (xs ++ ys)
-rising-append num [] ys a b h = b
-rising-append num (x ∷ xs) ys a b h =
-    (λ w m. go w (in-cases w xs ys m), rising-append num xs ys (a .1) b (λ x y m p. h x y (inr m) p))
-  where
-    go : (w : ℕ) → In w xs ⊎ In w ys → num x ≤ num w
-    go w (inl m) = a .0 w m
-    go w (inr m) = h x w (inl refl) m
-
-pub rising-left : (num : ℕ → ℕ) (xs ys : List ℕ) → Rising num (xs ++ ys) → Rising num xs
-rising-left num [] ys r = tt
-rising-left num (x ∷ xs) ys r = (λ w m. r .0 w (in-left w xs ys m), rising-left num xs ys (r .1))
-
-pub rising-right : (num : ℕ → ℕ) (xs ys : List ℕ) → Rising num (xs ++ ys) → Rising num ys
-rising-right num [] ys r = r
-rising-right num (x ∷ xs) ys r = rising-right num xs ys (r .1)
-
-pub rising-level : (num : ℕ → ℕ) (k : ℕ) (xs : List ℕ) → ((x : ℕ) → In x xs → num x ≡ k) → Rising num xs
-rising-level num k [] h = tt
-rising-level num k (x ∷ xs) h = (λ w m. omega (arith, h x (inl refl), h w (inr m)), rising-level num k xs (λ w m. h w (inr m)))
-
-pub rising-cong : (num new : ℕ → ℕ) (xs : List ℕ) → ((x : ℕ) → In x xs → num x ≡ new x) → Rising num xs → Rising new xs
-rising-cong num new [] h r = tt
-rising-cong num new (x ∷ xs) h r =
-    (λ w m. omega (arith, h x (inl refl), h w (inr m), r .0 w m), rising-cong num new xs (λ w m. h w (inr m)) (r .1))
 
 -- ---- few later neighbours
 

@@ -10,10 +10,12 @@ use native.Mathlib.Omega.{arith}
 use native.Mathlib.Nat.{le-antisymm}
 use lib.Dec.{eqb}
 use borrow.Author.Tests.{eqb-true}
-use Rattle.mesh.specs.Lists.{range, count}
+use Rattle.lists.specs.Lists.{range, count, In, Distinct}
 use Rattle.mesh.specs.Graph.{Link, Graph, radios, linked, neighbours-in, other-ends, proper, ascending}
-use Rattle.mesh.proofs.BoolLaws.{bool-cases, and-left, and-right, and-both}
-use Rattle.mesh.proofs.ListLaws.{In, member-in, in-member, Distinct, in-range, distinct-range, count-sub}
+use Rattle.lists.proofs.Tests.{bool-cases, and-left, and-right, and-both}
+use Rattle.lists.proofs.Member.{member-in, in-member}
+use Rattle.lists.proofs.Range.{in-range, distinct-range}
+use Rattle.lists.proofs.Distinct.{count-sub}
 use Rattle.mesh.proofs.GraphLaws.{linked-by, linked-by-sym, linked-by-proper, Proper, proper-of}
 use Rattle.mesh.proofs.AscendingLinks.{Sorted, sorted-of}
 use Rattle.mesh.proofs.DegreeSum.{fresh}

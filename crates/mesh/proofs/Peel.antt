@@ -12,11 +12,14 @@ use native.Mathlib.Omega.{arith}
 use lib.Dec.{leb}
 use lib.ListN.{length, length-append}
 use borrow.Author.Tests.{leb-true, leb-false, le-leb, lt-leb, eq-eqb, ne-eqb}
-use Rattle.mesh.specs.Lists.{count, filter, member}
+use Rattle.lists.specs.Lists.{count, filter, member, In, Distinct, Permutation}
 use Rattle.mesh.specs.Graph.{neighbours-among}
 use Rattle.mesh.specs.Levels.{first-fitting, without, laid-out}
-use Rattle.mesh.proofs.BoolLaws.{bool-cases, bit-false}
-use Rattle.mesh.proofs.ListLaws.{In, in-left, in-right, in-member, not-member, count-append, count-mid, count-not, count-all, Distinct, Permutation, permutation-in, distinct-mid, in-filter, filter-all, filter-append, filter-keep-mid, filter-drop-mid, length-filter, count-parts}
+use Rattle.lists.proofs.Tests.{bool-cases, bit-false}
+use Rattle.lists.proofs.Member.{in-left, in-right, in-member, not-member}
+use Rattle.lists.proofs.Count.{count-append, count-mid, count-not, count-all}
+use Rattle.lists.proofs.Distinct.{permutation-in, distinct-mid}
+use Rattle.lists.proofs.Filter.{in-filter, filter-all, filter-append, filter-keep-mid, filter-drop-mid, length-filter, count-parts}
 use Rattle.mesh.proofs.OrderLaws.{Few-later, few-later-drop}
 
 module _ (f : ℕ → ℕ → Bool) (most : ℕ) (others : List ℕ) where

@@ -9,12 +9,17 @@ use native.Mathlib.Omega.{arith}
 use native.Mathlib.Nat.{le-trans, le-of-eq}
 use lib.Dec.{leb}
 use borrow.Author.Tests.{leb-true, le-leb}
-use Rattle.mesh.specs.Lists.{range, count, filter, member}
+use Rattle.lists.specs.Lists.{range, count, filter, member, In, Distinct, Permutation, Each-once, Rising}
 use Rattle.mesh.specs.Graph.{Graph, radios, linked, neighbours-in}
-use Rattle.mesh.proofs.BoolLaws.{bool-cases, and-both}
-use Rattle.mesh.proofs.ListLaws.{In, in-left, in-cases, member-in, in-member, not-member, count-append, count-mono, Distinct, distinct-right, distinct-apart, distinct-range, distinct-filter, Permutation, Each-once, once-in, once-distinct}
+use Rattle.lists.proofs.Tests.{bool-cases, and-both}
+use Rattle.lists.proofs.Member.{in-left, in-cases, member-in, in-member, not-member}
+use Rattle.lists.proofs.Count.{count-append, count-mono}
+use Rattle.lists.proofs.Distinct.{distinct-right, distinct-apart}
+use Rattle.lists.proofs.Range.{distinct-range, once-in, once-distinct}
+use Rattle.lists.proofs.Filter.{distinct-filter}
 use Rattle.mesh.proofs.GraphLaws.{neighbours-in-list, neighbours-in-mono, neighbours-in-filter}
-use Rattle.mesh.proofs.OrderLaws.{Rising, rising-append, rising-left, rising-right, rising-level, rising-cong, Few-later, few-later-right, few-later-front, few-later-cong, Enough}
+use Rattle.lists.proofs.Ascending.{rising-append, rising-left, rising-right, rising-level, rising-cong}
+use Rattle.mesh.proofs.OrderLaws.{Few-later, few-later-right, few-later-front, few-later-cong, Enough}
 use Rattle.mesh.proofs.Certificate.{Certificate}
 use Rattle.mesh.proofs.Peel.{Peels, takes-permutation, takes-now-in, takes-taken-in, takes-now-few, takes-taken-few}
 

@@ -9,11 +9,15 @@ use native.Mathlib.Nat.{le-trans, le-refl, le-of-eq}
 use lib.Dec.{leb, eqb}
 use lib.ListN.{length, getD}
 use borrow.Author.Tests.{leb-true, leb-false, le-leb, eqb-true, eqb-false}
-use Rattle.mesh.specs.Lists.{range, count, member}
+use Rattle.lists.specs.Lists.{range, count, member, In, Distinct}
 use Rattle.mesh.specs.Graph.{Graph, radios, linked, neighbours-among, neighbours-in}
 use Rattle.mesh.specs.Cores.{Group, Core, survivors, peeled, cores-from, cores, depth, number, numbers}
-use Rattle.mesh.proofs.BoolLaws.{bool-cases, never, bit-true, bit-false}
-use Rattle.mesh.proofs.ListLaws.{In, member-in, in-member, not-member, count-le-length, Distinct, distinct-range, in-range, range-in, length-range, in-filter, filter-in, length-filter, distinct-filter, all-or-less, length-map, getD-map-range}
+use Rattle.lists.proofs.Tests.{bool-cases, never, bit-true, bit-false}
+use Rattle.lists.proofs.Member.{member-in, in-member, not-member}
+use Rattle.lists.proofs.Count.{count-le-length, all-or-less}
+use Rattle.lists.proofs.Range.{distinct-range, in-range, range-in, length-range}
+use Rattle.lists.proofs.Filter.{in-filter, filter-in, length-filter, distinct-filter}
+use Rattle.lists.proofs.Map.{length-map, getD-map-range}
 use Rattle.mesh.proofs.GraphLaws.{neighbours-in-subset, neighbours-in-members}
 use Rattle.mesh.proofs.Certificate.{core-unique}
 
@@ -194,4 +198,4 @@ length-numbers g = length-map (number g) (range 0 (g .n)) ∙ length-range 0 (g 
 
 pub getD-numbers : (g : Graph) (v : ℕ) → v < g .n → getD (numbers g) v 0 ≡ number g v
 unfolding numbers radios
-getD-numbers g v l = getD-map-range (number g) 0 (g .n) v l ∙ ap (number g) (omega arith)
+getD-numbers g v l = getD-map-range 0 (number g) 0 (g .n) v l ∙ ap (number g) (omega arith)

@@ -9,33 +9,17 @@ use native.Mathlib.Omega.{arith}
 use lib.Dec.{ltb}
 use lib.ListN.{length}
 use borrow.Author.Tests.{ltb-true, lt-ltb, not-true}
-use Rattle.mesh.specs.Lists.{range, count, filter, member}
+use Rattle.lists.specs.Lists.{range, count, filter, member, In, Distinct, Ascending-below}
 use Rattle.mesh.specs.Graph.{Graph, radios, linked, neighbours-among}
 use Rattle.mesh.specs.Connected.{Reachable, here, onward, at-least, In-core, reached, core-of}
-use Rattle.mesh.proofs.BoolLaws.{bool-cases, never, and-left, and-right, and-both, or-cases, or-left, or-right, iff-eq}
-use Rattle.mesh.proofs.ListLaws.{In, Distinct, member-in, in-member, count-all, count-le-length, count-pos, count-some, count-sub, in-range, range-in, distinct-range, length-range, in-filter, filter-in, member-filter, length-filter, filter-none, filter-ext, distinct-filter}
+use Rattle.lists.proofs.Tests.{bool-cases, never, and-left, and-right, and-both, or-cases, or-left, or-right, iff-eq}
+use Rattle.lists.proofs.Member.{member-in, in-member}
+use Rattle.lists.proofs.Count.{count-all, count-le-length, count-pos, count-some}
+use Rattle.lists.proofs.Distinct.{count-sub, length-sub}
+use Rattle.lists.proofs.Range.{in-range, range-in, distinct-range, length-range}
+use Rattle.lists.proofs.Filter.{in-filter, filter-in, member-filter, length-filter, filter-none, filter-ext, distinct-filter}
 use Rattle.mesh.proofs.GraphLaws.{linked-sym}
-
--- ---- laws of lists
-
--- the one entry that passes the test
-pub filter-one : (f : ℕ → Bool) (v : ℕ) (xs : List ℕ) → Distinct xs → In v xs → f v ≡ true → ((w : ℕ) → f w ≡ true → w ≡ v) → filter f xs ≡ v ∷ []
-unfolding filter
-filter-one f v (x ∷ xs) d (inl e) h u =
-    rw (e, h) (ap {B = List ℕ} (λ ys. v ∷ ys) (filter-none f xs (λ w m. other w m (bool-cases (f w)))))
-  where
-    other : (w : ℕ) → In w xs → (f w ≡ true) ⊎ (f w ≡ false) → f w ≡ false
-    other w m (inl p) = absurd (d .0 (rw (u w p ∙ sym e) at m))
-    other w m (inr p) = p
-filter-one f v (x ∷ xs) d (inr m) h u = go (filter-one f v xs (d .1) m h u) (bool-cases (f x))
-  where
-    go : filter f xs ≡ v ∷ [] → (f x ≡ true) ⊎ (f x ≡ false) → filter f (x ∷ xs) ≡ v ∷ []
-    go rec (inl p) = absurd (d .0 (rw (sym (u x p)) at m))
-    go rec (inr p) = rw p rec
-
--- a list without repeats whose entries all stand in another is no longer than that
-pub length-sub : (xs ys : List ℕ) → Distinct xs → ((w : ℕ) → In w xs → In w ys) → length xs ≤ length ys
-length-sub xs ys d h = omega (arith, count-all xs, count-all ys, count-sub (λ w. true) (λ w. true) xs ys d (λ w m p. (h w m, refl)))
+use Rattle.lists.proofs.Ascending.{ascending-below-filter, ascending-below-one, ascending-below-distinct, ascending-below-lt}
 
 -- ---- reachability
 
@@ -76,27 +60,6 @@ round g over xs = filter (near g over xs) (range 0 (g .n))
 abbrev Closed : Graph → (over : ℕ → Bool) → List ℕ → Type 0
 Closed g over xs = (w : ℕ) → w < g .n → near g over xs w ≡ true → In w xs
 
--- radios below n, each once, ascending
-abbrev pub Ascending-below : ℕ → List ℕ → Type 0
-Ascending-below n xs = xs ≡ filter (λ w. member w xs) (range 0 n)
-
-pub ascending-filter : (n : ℕ) (f : ℕ → Bool) → Ascending-below n (filter f (range 0 n))
-ascending-filter n f = filter-ext f (λ w. member w (filter f (range 0 n))) (range 0 n) (λ w m. sym (member-filter f (range 0 n) w m))
-
-pub ascending-one : (n v : ℕ) → v < n → Ascending-below n (v ∷ [])
-ascending-one n v l =
-    sym (filter-one (λ w. member w (v ∷ [])) v (range 0 n) (distinct-range 0 n) (in-range 0 n v (omega arith) (omega arith))
-    (in-member v (v ∷ []) (inl refl)) (λ w p. only w (member-in w (v ∷ []) p)))
-  where
-    only : (w : ℕ) → In w (v ∷ []) → w ≡ v
-    only w (inl e) = sym e
-
-pub ascending-distinct : (n : ℕ) (xs : List ℕ) → Ascending-below n xs → Distinct xs
-ascending-distinct n xs a = rw a (distinct-filter (λ w. member w xs) (range 0 n) (distinct-range 0 n))
-
-pub ascending-lt : (n : ℕ) (xs : List ℕ) → Ascending-below n xs → (w : ℕ) → In w xs → w < n
-ascending-lt n xs a w m = omega (arith, range-in 0 n w (in-filter (λ w. member w xs) (range 0 n) w (rw a at m) .0))
-
 module _ (g : Graph) (over : ℕ → Bool) where
   in-round : (xs : List ℕ) (w : ℕ) → w < g .n → near g over xs w ≡ true → In w (round g over xs)
   in-round xs w l p = filter-in (near g over xs) (range 0 (g .n)) w (in-range 0 (g .n) w (omega arith) (omega arith)) p
@@ -123,7 +86,7 @@ module _ (g : Graph) (over : ℕ → Bool) where
 
   round-keeps : (xs : List ℕ) → Ascending-below (g .n) xs → (w : ℕ) → In w xs → In w (round g over xs)
   round-keeps xs a w m =
-      in-round xs w (ascending-lt (g .n) xs a w m)
+      in-round xs w (ascending-below-lt (g .n) xs a w m)
       (or-left (member w xs) (over w && ltb 0 (neighbours-among (linked g) w xs)) (in-member w xs m))
 
   -- either nobody new is near, or a round takes somebody in
@@ -135,7 +98,7 @@ module _ (g : Graph) (over : ℕ → Bool) where
 
       bigger : (x : ℕ) → In x (range 0 (g .n)) → new x ≡ true → length xs < length (round g over xs)
       bigger x m p = length-sub (x ∷ xs) (round g over xs)
-          (λ i. never (member x xs) (in-member x xs i) (not-true (member x xs) (and-right (near g over xs x) (not (member x xs)) p)), ascending-distinct (g .n) xs a) sub
+          (λ i. never (member x xs) (in-member x xs i) (not-true (member x xs) (and-right (near g over xs x) (not (member x xs)) p)), ascending-below-distinct (g .n) xs a) sub
         where
           sub : (w : ℕ) → In w (x ∷ xs) → In w (round g over xs)
           sub w (inl q) = rw (← q) (filter-in (near g over xs) (range 0 (g .n)) x m (and-left (near g over xs x) (not (member x xs)) p))
@@ -176,7 +139,7 @@ module _ (g : Graph) (over : ℕ → Bool) where
         count-le-length (near g over xs) (range 0 (g .n)),
         length-range 0 (g .n),
       ))
-  reached-closed (suc r) xs a h = go (reached-closed r (round g over xs) (ascending-filter (g .n) (near g over xs))) (round-grows xs a)
+  reached-closed (suc r) xs a h = go (reached-closed r (round g over xs) (ascending-below-filter (g .n) (near g over xs))) (round-grows xs a)
     where
       go : (g .n ≤ r + length (round g over xs) → Closed g over (reached r g over (round g over xs)))
           → Closed g over xs ⊎ (length xs < length (round g over xs)) → Closed g over (reached r g over (round g over xs))
@@ -186,12 +149,12 @@ module _ (g : Graph) (over : ℕ → Bool) where
   reached-keeps : (r : ℕ) (xs : List ℕ) → Ascending-below (g .n) xs → (w : ℕ) → In w xs → In w (reached r g over xs)
   unfolding reached radios
   reached-keeps zero xs a w m = m
-  reached-keeps (suc r) xs a w m = reached-keeps r (round g over xs) (ascending-filter (g .n) (near g over xs)) w (round-keeps xs a w m)
+  reached-keeps (suc r) xs a w m = reached-keeps r (round g over xs) (ascending-below-filter (g .n) (near g over xs)) w (round-keeps xs a w m)
 
   pub ascending-reached : (r : ℕ) (xs : List ℕ) → Ascending-below (g .n) xs → Ascending-below (g .n) (reached r g over xs)
   unfolding reached radios
   ascending-reached zero xs a = a
-  ascending-reached (suc r) xs a = ascending-reached r (round g over xs) (ascending-filter (g .n) (near g over xs))
+  ascending-reached (suc r) xs a = ascending-reached r (round g over xs) (ascending-below-filter (g .n) (near g over xs))
 
   closed-reachable : (xs : List ℕ) → Closed g over xs → {v w : ℕ} → In v xs → Reachable g over v w → In w xs
   unfolding neighbours-among
@@ -203,7 +166,7 @@ module _ (g : Graph) (over : ℕ → Bool) where
   -- the rounds take in exactly the reachable radios
   pub reached-iff : (v : ℕ) → v < g .n → (w : ℕ) → (member w (reached (g .n) g over (v ∷ [])) ≡ true) ↔ Reachable g over v w
   reached-iff v l w =
-      let a = ascending-one (g .n) v l in
+      let a = ascending-below-one (g .n) v l in
       let end = reached (g .n) g over (v ∷ []) in (
         λ m. reached-reachable (g .n) v (v ∷ []) start w (member-in w end m),
         λ r. in-member w end (closed-reachable end (reached-closed (g .n) (v ∷ []) a (omega arith)) (reached-keeps (g .n) (v ∷ []) a v (inl refl)) r),
@@ -221,4 +184,4 @@ module _ (g : Graph) where
 
   pub core-of-ascending : (v k : ℕ) → v < g .n → core-of g v k ≡ filter (λ w. member w (core-of g v k)) (radios g)
   unfolding core-of radios
-  core-of-ascending v k l = ascending-reached g (at-least g k) (g .n) (v ∷ []) (ascending-one (g .n) v l)
+  core-of-ascending v k l = ascending-reached g (at-least g k) (g .n) (v ∷ []) (ascending-below-one (g .n) v l)

@@ -10,12 +10,14 @@ use native.Mathlib.Nat.{le-antisymm}
 use lib.Dec.{ltb, leb}
 use borrow.Author.Tests.{leb-true, le-leb, not-true, ltb-true, ltb-false}
 use Rattle.mesh.specs.Limits.{max-radios}
-use Rattle.mesh.specs.Lists.{range, count, all}
+use Rattle.lists.specs.Lists.{range, count, all, In}
 use Rattle.mesh.specs.Graph.{Graph, radios, linked, neighbours-among, degree, proper}
 use Rattle.mesh.specs.Tables.{marked, links-table}
 use Rattle.mesh.specs.Sound.{symmetric, irreflexive, within, row-degree, few, rows-proper}
-use Rattle.mesh.proofs.BoolLaws.{bool-cases, never, beq-eq, eq-beq}
-use Rattle.mesh.proofs.ListLaws.{In, in-range, range-in, all-in, in-all, all-below, below-all, distinct-range, count-sub}
+use Rattle.lists.proofs.Tests.{bool-cases, never, beq-eq, eq-beq}
+use Rattle.lists.proofs.Range.{in-range, range-in, distinct-range}
+use Rattle.lists.proofs.All.{all-in, in-all, all-below, below-all}
+use Rattle.lists.proofs.Distinct.{count-sub}
 use Rattle.mesh.proofs.GraphLaws.{linked-by-proper, linked-sym, linked-self, proper-of}
 use Rattle.mesh.proofs.TableLaws.{marked-links-table}
 

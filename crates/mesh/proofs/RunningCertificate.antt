@@ -11,27 +11,16 @@ use native.Mathlib.Nat.{le-trans, le-of-eq}
 use lib.Dec.{leb}
 use lib.ListN.{drop}
 use borrow.Author.Tests.{leb-true, le-leb}
-use Rattle.mesh.specs.Lists.{count, head-or}
+use Rattle.lists.specs.Lists.{count, head-or, In, Each-once, Rising}
 use Rattle.mesh.specs.Graph.{Graph, linked, neighbours-among}
 use Rattle.mesh.specs.Cores.{number}
 use Rattle.mesh.specs.Orders.{is-k-order, running-maxima}
-use Rattle.mesh.proofs.ListLaws.{In, Each-once, once-in}
+use Rattle.lists.proofs.Range.{once-in}
 use Rattle.mesh.proofs.GraphLaws.{neighbours-in-subset}
-use Rattle.mesh.proofs.OrderLaws.{Rising, Few-later, Enough}
+use Rattle.mesh.proofs.OrderLaws.{Few-later, Enough}
 use Rattle.mesh.proofs.KOrders.{k-order-certificate, certificate-k-order}
 use Rattle.mesh.proofs.RunningMaximum.{numbers-k-order}
-
-head-eq : (x y : ℕ) (xs ys : List ℕ) → x ∷ xs ≡ y ∷ ys → x ≡ y
-unfolding head-or
-head-eq x y xs ys e = ap (head-or 0) e
-
-tail-eq : (x y : ℕ) (xs ys : List ℕ) → x ∷ xs ≡ y ∷ ys → xs ≡ ys
-tail-eq x y xs ys e = ap (drop 1) e
-
--- numbers that agree along a list agree at each of its radios
-map-eq-in : (f h : ℕ → ℕ) (xs : List ℕ) → map f xs ≡ map h xs → (v : ℕ) → In v xs → f v ≡ h v
-map-eq-in f h (x ∷ xs) e v (inl q) = rw (← q) (head-eq (f x) (h x) (map f xs) (map h xs) e)
-map-eq-in f h (x ∷ xs) e v (inr m) = map-eq-in f h xs (tail-eq (f x) (h x) (map f xs) (map h xs) e) v m
+use Rattle.lists.proofs.Map.{head-eq, tail-eq, map-eq-in}
 
 -- ---- running maxima as numbers
 

@@ -9,13 +9,14 @@ use mathlib.Core.List.{List, [], _∷_, map}
 use Prim.Native.Nat.{ℕ, _≤_, _<_, max}
 use native.Mathlib.Omega.{arith}
 use native.Mathlib.Nat.{le-trans}
-use Rattle.mesh.specs.Lists.{range, count}
+use Rattle.lists.specs.Lists.{range, count, In, Each-once, Rising}
 use Rattle.mesh.specs.Graph.{Graph, radios, linked, neighbours-among, neighbours-in}
 use Rattle.mesh.specs.Cores.{Group, Core, number}
 use Rattle.mesh.specs.Orders.{is-k-order, running-maxima}
-use Rattle.mesh.proofs.BoolLaws.{never, and-left, and-right, trichotomy}
-use Rattle.mesh.proofs.ListLaws.{In, range-in, distinct-range, count-sub, Each-once, once-in, once-below}
-use Rattle.mesh.proofs.OrderLaws.{Rising, Few-later}
+use Rattle.lists.proofs.Tests.{never, and-left, and-right, trichotomy}
+use Rattle.lists.proofs.Range.{range-in, distinct-range, once-in, once-below}
+use Rattle.lists.proofs.Distinct.{count-sub}
+use Rattle.mesh.proofs.OrderLaws.{Few-later}
 use Rattle.mesh.proofs.Peeling.{number-core}
 use Rattle.mesh.proofs.KOrders.{k-order-certificate}
 

@@ -8,58 +8,31 @@ use Prim.Native.Nat.{ℕ, zero, suc, _≤_, _<_}
 use native.Mathlib.Omega.{arith}
 use lib.Dec.{eqb}
 use borrow.Author.Tests.{ne-eqb}
-use Rattle.mesh.specs.Lists.{range, filter, member, head-or}
+use Rattle.lists.specs.Lists.{range, filter, member, head-or, In, Ascending}
 use Rattle.mesh.specs.Graph.{Graph, radios}
 use Rattle.mesh.specs.Cores.{number}
 use Rattle.mesh.specs.Connected.{In-core, core-of}
 use Rattle.mesh.specs.Tree.{root-name, Core-set, Node-set, Named, Strictly-contains, Parent, Node-name, shell, node-name, parent-name}
-use Rattle.mesh.proofs.BoolLaws.{bool-cases, never, trichotomy}
-use Rattle.mesh.proofs.ListLaws.{In, range-in, in-filter}
+use Rattle.lists.proofs.Tests.{bool-cases, never, trichotomy}
+use Rattle.lists.proofs.Range.{range-in}
+use Rattle.lists.proofs.Filter.{in-filter}
 use Rattle.mesh.proofs.Reach.{core-of-iff, core-of-ascending}
 use Rattle.mesh.proofs.CoreLevels.{core-of-same, in-core-here, in-core-below, in-core-lower}
-use Rattle.mesh.proofs.NodeSets.{core-has, core-has-self, shell-in, in-shell, core-set-of, core-set-level, core-set-reaches, core-set-contains, node-set-of, node-set-shell}
+use Rattle.mesh.proofs.NodeSets.{core-has, core-has-self, shell-in, in-shell, core-set-of, core-set-level, core-set-reaches, core-set-contains}
+use Rattle.mesh.proofs.NodeSets.{node-set-of, node-set-shell}
+use Rattle.lists.proofs.Ascending.{ascending-range, ascending-filter, head-or-lowest}
+use Rattle.lists.proofs.Member.{head-or-in, head-or-any}
 
 -- ---- laws of lists: increasing, and the first entry
-
-abbrev pub Increasing : List ℕ → Type 0
-Increasing [] = Unit {0}
-Increasing (x ∷ xs) = ((w : ℕ) → In w xs → x < w) × Increasing xs
-
-pub increasing-range : (i k : ℕ) → Increasing (range i k)
-unfolding range
-increasing-range i zero = tt
-increasing-range i (suc k) = (λ w m. omega (arith, range-in (suc i) k w m), increasing-range (suc i) k)
-
-pub increasing-filter : (f : ℕ → Bool) (xs : List ℕ) → Increasing xs → Increasing (filter f xs)
-unfolding filter
-increasing-filter f [] a = tt
-increasing-filter f (x ∷ xs) a = go (increasing-filter f xs (a .1)) (f x)
-  where
-    go : Increasing (filter f xs) → (t : Bool) → Increasing (cond t (x ∷ filter f xs) (filter f xs))
-    go rec true = (λ w m. a .0 w (in-filter f xs w m .0), rec)
-    go rec false = rec
-
-pub head-or-in : (d v : ℕ) (xs : List ℕ) → In v xs → In (head-or d xs) xs
-unfolding head-or
-head-or-in d v (x ∷ xs) m = inl refl
-
-pub head-or-any : (c d v : ℕ) (xs : List ℕ) → In v xs → head-or c xs ≡ head-or d xs
-unfolding head-or
-head-or-any c d v (x ∷ xs) m = refl
-
-pub head-or-lowest : (d v : ℕ) (xs : List ℕ) → Increasing xs → In v xs → head-or d xs ≤ v
-unfolding head-or
-head-or-lowest d v (x ∷ xs) a (inl e) = omega arith
-head-or-lowest d v (x ∷ xs) a (inr m) = omega (arith, a .0 v m)
 
 module _ (g : Graph) where
   -- ---- the name of a shell
 
-  increasing-shell : (v k : ℕ) → v < g .n → Increasing (shell g v k)
+  increasing-shell : (v k : ℕ) → v < g .n → Ascending (shell g v k)
   unfolding shell radios
   increasing-shell v k l =
-      increasing-filter (λ x. eqb (number g x) k) (core-of g v k)
-      (rw (core-of-ascending g v k l) (increasing-filter (λ w. member w (core-of g v k)) (range 0 (g .n)) (increasing-range 0 (g .n))))
+      ascending-filter (λ x. eqb (number g x) k) (core-of g v k)
+      (rw (core-of-ascending g v k l) (ascending-filter (λ w. member w (core-of g v k)) (range 0 (g .n)) (ascending-range 0 (g .n))))
 
   -- the first of a shell that is not empty names the set
   pub shell-named : {k : ℕ} {s : ℕ → Bool} → Core-set g k s → (d v y : ℕ) → v < g .n → s v ≡ true → In y (shell g v k)

@@ -8,15 +8,16 @@ use native.Mathlib.Omega.{arith}
 use native.Mathlib.Nat.{le-of-eq}
 use lib.ListN.{replicate}
 use Rattle.mesh.specs.Limits.{max-radios, max-neighbours}
-use Rattle.mesh.specs.Lists.{range, count, member, same}
+use Rattle.lists.specs.Lists.{range, count, member, same, In, Rising}
 use Rattle.mesh.specs.Graph.{graph, radios, other-ends, linked, neighbours-among, degree, proper, ascending}
 use Rattle.mesh.specs.Cores.{number, numbers}
 use Rattle.mesh.specs.Tables.{tables-of}
 use Rattle.mesh.specs.Sound.{sound}
 use Rattle.mesh.specs.Image.{image-graph, image-order, image-of, is-image}
-use Rattle.mesh.proofs.BoolLaws.{and-left, and-right}
-use Rattle.mesh.proofs.ListLaws.{In, count-none, range-in}
-use Rattle.mesh.proofs.OrderLaws.{Rising, Few-later}
+use Rattle.lists.proofs.Tests.{and-left, and-right}
+use Rattle.lists.proofs.Count.{count-none}
+use Rattle.lists.proofs.Range.{range-in}
+use Rattle.mesh.proofs.OrderLaws.{Few-later}
 use Rattle.mesh.proofs.Certificate.{Certificate}
 use Rattle.mesh.proofs.KOrders.{certificate-number, certificate-k-order}
 use Rattle.mesh.proofs.Soundness.{sound-valid}

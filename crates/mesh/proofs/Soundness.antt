@@ -15,16 +15,19 @@ use lib.ListN.{length, getD}
 use lib.Seq.{ext-getD}
 use borrow.Author.Tests.{leb-true, le-leb}
 use Rattle.mesh.specs.Limits.{max-radios}
-use Rattle.mesh.specs.Lists.{range, count}
+use Rattle.lists.specs.Lists.{range, count, In, Each-once}
 use Rattle.mesh.specs.Graph.{Graph, radios, linked, neighbours-in, proper, ascending}
 use Rattle.mesh.specs.Cores.{number, numbers}
 use Rattle.mesh.specs.Orders.{each-once, rising, few-later, is-k-order}
 use Rattle.mesh.specs.Tables.{Tables, marked, links-table, graph-in, tables-of}
 use Rattle.mesh.specs.Sound.{symmetric, irreflexive, within, few, rows-proper, enough, number-in, sound-within}
-use Rattle.mesh.proofs.BoolLaws.{and-left, and-right, and-both}
-use Rattle.mesh.proofs.ListLaws.{In, count-ext, Each-once, once-below, range-in, all-below, below-all}
+use Rattle.lists.proofs.Tests.{and-left, and-right, and-both}
+use Rattle.lists.proofs.Count.{count-ext}
+use Rattle.lists.proofs.Range.{once-below, range-in}
+use Rattle.lists.proofs.All.{all-below, below-all}
 use Rattle.mesh.proofs.GraphLaws.{linked-self, neighbours-in-subset}
-use Rattle.mesh.proofs.OrderLaws.{each-once-of, of-each-once, rising-of, of-rising, rising-cong, Few-later, few-later-of, of-few-later, few-later-cong, Enough}
+use Rattle.mesh.proofs.OrderLaws.{each-once-of, of-each-once, rising-of, of-rising, Few-later, few-later-of, of-few-later, few-later-cong, Enough}
+use Rattle.lists.proofs.Ascending.{rising-cong}
 use Rattle.mesh.proofs.Certificate.{Certificate}
 use Rattle.mesh.proofs.Peeling.{length-numbers, getD-numbers}
 use Rattle.mesh.proofs.KOrders.{k-order-certificate, certificate-number, certificate-k-order}

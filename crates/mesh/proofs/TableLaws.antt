@@ -12,13 +12,15 @@ use lib.ListN.{length, getD, set, replicate, length-set, length-append, length-r
 use lib.Seq.{getD-append-add, getD-set-same, getD-set-other, ext-getD}
 use borrow.Author.Tests.{eqb-true, eqb-false, eq-eqb, ne-eqb}
 use Rattle.mesh.specs.Limits.{max-radios, row-bytes}
-use Rattle.mesh.specs.Lists.{range, member}
+use Rattle.lists.specs.Lists.{range, member, Bytes}
 use Rattle.mesh.specs.Graph.{Graph, graph, radios, other-ends, linked}
 use Rattle.mesh.specs.Tables.{digit, byte-at, marked, put-digit, put-bit, put-link, from-digits, row-of, links-table}
-use Rattle.mesh.proofs.BoolLaws.{bool-cases}
-use Rattle.mesh.proofs.ListLaws.{length-range, length-map, getD-map-range}
+use Rattle.lists.proofs.Tests.{bool-cases}
+use Rattle.lists.proofs.Range.{length-range}
+use Rattle.lists.proofs.Map.{length-map, getD-map-range}
 use Rattle.mesh.proofs.GraphLaws.{ends}
 use Rattle.mesh.proofs.DigitLaws.{from-digits-less, digit-from-digits, digit-nothing, digits-eq, digit-put-digit, put-digit-less}
+use Rattle.lists.proofs.Parts.{bytes-replicate}
 
 -- ---- laws of lists: parts of equal length, joined
 
@@ -41,15 +43,6 @@ module _ (f : ℕ → List ℕ) (size : ℕ) (sizes : (v : ℕ) → length (f v)
       ∙ getD-append-add (f i) (flatMap f (range (suc i) k)) (size * v + j) 0
       ∙ getD-flatMap-range (suc i) k v j (omega arith) l
       ∙ ap (λ (x : ℕ). getD (f x) j 0) (omega arith)
-
--- ---- bytes
-
--- every entry is below 256
-abbrev pub Bytes : List ℕ → Type 0
-Bytes ts = (i : ℕ) → i < length ts → getD ts i 0 < 256
-
-pub bytes-replicate : (k : ℕ) → Bytes (replicate k 0)
-bytes-replicate k i h = rw (getD-replicate {A = ℕ} k i 0 0 (omega (arith, length-replicate {A = ℕ} k 0))) (omega arith)
 
 -- ---- marks of a table
 
@@ -190,7 +183,7 @@ unfolding links-table radios row-of
 getD-links-table g a j h l =
     getD-flatMap-range (row-of g) row-bytes (length-row-of g) 0 (g .n) a j h l
     ∙ ap (λ (x : ℕ). getD (row-of g x) j 0) (omega arith)
-    ∙ getD-map-range (λ j. from-digits 8 (λ i. linked g a (8 * j + i))) 0 row-bytes j l
+    ∙ getD-map-range 0 (λ j. from-digits 8 (λ i. linked g a (8 * j + i))) 0 row-bytes j l
     ∙ ap (λ (x : ℕ). from-digits 8 (λ i. linked g a (8 * x + i))) (omega arith)
 
 pub bytes-links-table : (g : Graph) → Bytes (links-table g)

@@ -4,50 +4,25 @@
 use mathlib.Core.Path.{_≡_, refl, sym, ap, _∙_}
 use mathlib.Core.Logic.{_⊎_, inl, inr}
 use mathlib.Core.Bool.{Bool, _&&_}
-use mathlib.Core.List.{List, [], _∷_, _++_, map, flatMap, List·Memᴰ, List·Memᴰ·head, List·Memᴰ·tail, List·Memᴰ·cases-cons, List·Memᴰ·not-nil, List·Memᴰ·append-cases, Memᴰ·append-left, Memᴰ·append-right}
+use mathlib.Core.List.{List, [], _∷_, _++_, map, flatMap, List·Memᴰ, List·Memᴰ·head, List·Memᴰ·tail, List·Memᴰ·cases-cons, List·Memᴰ·not-nil}
+use mathlib.Core.List.{List·Memᴰ·append-cases, Memᴰ·append-left, Memᴰ·append-right}
 use Prim.Native.Nat.{ℕ, zero, suc, _≤_, _<_}
 use native.Mathlib.Omega.{arith}
 use lib.Dec.{eqb}
 use lib.ListN.{length}
 use borrow.Author.Tests.{eqb-true, eq-eqb}
-use Rattle.mesh.specs.Lists.{range, filter, member}
+use Rattle.lists.specs.Lists.{range, filter, member, In, Ascending}
 use Rattle.mesh.specs.Graph.{Graph, radios}
 use Rattle.mesh.specs.Cores.{number, cores, cores-from, depth, peeled}
 use Rattle.mesh.specs.declared.Node.{Node}
 use Rattle.mesh.specs.Tree.{node, Is-node, Node-before, Nodes-ascending, Is-tree, node-name, parent-name, nodes-at, tree}
-use Rattle.mesh.proofs.BoolLaws.{bit-one, and-left, and-right, and-both}
-use Rattle.mesh.proofs.ListLaws.{In, in-range, range-in, in-filter, filter-in}
+use Rattle.lists.proofs.Tests.{bit-one, and-left, and-right, and-both}
+use Rattle.lists.proofs.Range.{in-range, range-in}
+use Rattle.lists.proofs.Filter.{in-filter, filter-in}
 use Rattle.mesh.proofs.NodeSets.{core-has, core-has-self, node-set-of-radio, named-unique, parent-unique}
-use Rattle.mesh.proofs.ShellNames.{Increasing, increasing-range, increasing-filter, node-name-named, parent-name-right}
-
--- ---- laws of lists: entries of maps and of joined lists
-
-pub mem-map : {A : Type 0} (f : ℕ → A) (x : A) (xs : List ℕ) → List·Memᴰ x (map f xs) → (v : ℕ) × In v xs × (x ≡ f v)
-mem-map f x [] m = absurd (List·Memᴰ·not-nil m)
-mem-map f x (y ∷ ys) m = go (mem-map f x ys) (List·Memᴰ·cases-cons m)
-  where
-    go : (List·Memᴰ x (map f ys) → (v : ℕ) × In v ys × (x ≡ f v)) → (x ≡ f y) ⊎ List·Memᴰ x (map f ys) → (v : ℕ) × In v (y ∷ ys) × (x ≡ f v)
-    go rec (inl e) = (y, inl refl, e)
-    go rec (inr n) = let r = rec n in (r .0, inr (r .1), r .2)
-
-pub map-mem : {A : Type 0} (f : ℕ → A) (x : A) (v : ℕ) (xs : List ℕ) → In v xs → x ≡ f v → List·Memᴰ x (map f xs)
-map-mem f x v (y ∷ ys) (inl q) e = List·Memᴰ·head (e ∙ ap f (sym q))
-map-mem f x v (y ∷ ys) (inr m) e = List·Memᴰ·tail (map-mem f x v ys m e)
-
-pub mem-flatMap : {A : Type 0} (f : ℕ → List A) (x : A) (ks : List ℕ) → List·Memᴰ x (flatMap f ks) → (k : ℕ) × In k ks × List·Memᴰ x (f k)
-unfolding flatMap
-mem-flatMap f x [] m = absurd (List·Memᴰ·not-nil m)
-mem-flatMap f x (k ∷ ks) m = go (mem-flatMap f x ks) (List·Memᴰ·append-cases (f k) m)
-  where
-    go : (List·Memᴰ x (flatMap f ks) → (j : ℕ) × In j ks × List·Memᴰ x (f j)) → List·Memᴰ x (f k) ⊎ List·Memᴰ x (flatMap f ks)
-        → (j : ℕ) × In j (k ∷ ks) × List·Memᴰ x (f j)
-    go rec (inl n) = (k, inl refl, n)
-    go rec (inr n) = let r = rec n in (r .0, inr (r .1), r .2)
-
-pub flatMap-mem : {A : Type 0} (f : ℕ → List A) (x : A) (k : ℕ) (ks : List ℕ) → In k ks → List·Memᴰ x (f k) → List·Memᴰ x (flatMap f ks)
-unfolding flatMap
-flatMap-mem f x k (j ∷ js) (inl e) m = Memᴰ·append-left (flatMap f js) (rw (← e) at m)
-flatMap-mem f x k (j ∷ js) (inr i) m = Memᴰ·append-right (f j) (flatMap-mem f x k js i m)
+use Rattle.lists.proofs.Ascending.{ascending-range, ascending-filter}
+use Rattle.mesh.proofs.ShellNames.{node-name-named, parent-name-right}
+use Rattle.lists.proofs.Map.{mem-map, map-mem, mem-flatMap, flatMap-mem}
 
 -- ---- core numbers are at most n
 
@@ -76,7 +51,7 @@ nodes-ascending-append (x ∷ xs) ys a b h = (
     pick y (inl m) = a .0 y m
     pick y (inr m) = h x y (List·Memᴰ·head refl) m
 
-nodes-ascending-map : (k : ℕ) (p : ℕ → ℕ) (vs : List ℕ) → Increasing vs → Nodes-ascending (map (λ v. node v k (p v)) vs)
+nodes-ascending-map : (k : ℕ) (p : ℕ → ℕ) (vs : List ℕ) → Ascending vs → Nodes-ascending (map (λ v. node v k (p v)) vs)
 nodes-ascending-map k p [] a = tt
 nodes-ascending-map k p (v ∷ vs) a = (
   λ y m. let r = mem-map (λ w. node w k (p w)) y vs m in inr (rw (r .2) (refl, a .0 (r .0) (r .1))),
@@ -151,7 +126,7 @@ module _ (g : Graph) where
   nodes-ascending-at : (k : ℕ) → Nodes-ascending (nodes-at g k)
   unfolding nodes-at radios
   nodes-ascending-at k =
-      nodes-ascending-map k (λ v. parent-name g v k) (filter (own k) (range 0 (g .n))) (increasing-filter (own k) (range 0 (g .n)) (increasing-range 0 (g .n)))
+      nodes-ascending-map k (λ v. parent-name g v k) (filter (own k) (range 0 (g .n))) (ascending-filter (own k) (range 0 (g .n)) (ascending-range 0 (g .n)))
 
   nodes-ascending-from : (i m : ℕ) → Nodes-ascending (flatMap (nodes-at g) (range i m))
   unfolding flatMap range

@@ -7,8 +7,8 @@ use native.Mathlib.Nat.{mul-suc, mul-le-mul, div-div-eq-div-mul}
 use lib.ListN.{length, getD, take}
 use lib.Seq.{take-suc, length-take-le}
 use Rattle.mesh.specs.Image.{word, long, weighted-sum, check-sum, word-at}
-use Rattle.mesh.proofs.TableLaws.{Bytes}
-use Rattle.mesh.proofs.Parts.{getD-bytes, bytes-cons}
+use Rattle.lists.specs.Lists.{Bytes}
+use Rattle.lists.proofs.Parts.{getD-bytes, bytes-cons}
 use Rattle.mesh.proofs.ImageLaws.{check-sum-snoc}
 
 -- ---- word

@@ -10,7 +10,7 @@ use mathlib.Core.Bool.{Bool, true, _&&_, _||_}
 use mathlib.Core.List.{List, [], _∷_}
 use Prim.Native.Nat.{ℕ, zero, suc, _<_, max}
 use lib.Dec.{ltb, leb, eqb}
-use Rattle.mesh.specs.Lists.{filter, member}
+use Rattle.lists.specs.Lists.{filter, member}
 use Rattle.mesh.specs.Graph.{Graph, radios, linked, neighbours-among}
 use Rattle.mesh.specs.Cores.{number, numbers}
 

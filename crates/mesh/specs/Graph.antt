@@ -12,7 +12,7 @@ use mathlib.Core.Bool.{Bool, true, _&&_, _||_, cond}
 use mathlib.Core.List.{List, [], _∷_}
 use Prim.Native.Nat.{ℕ}
 use lib.Dec.{ltb, eqb}
-use Rattle.mesh.specs.Lists.{range, count, member}
+use Rattle.lists.specs.Lists.{range, count, member}
 
 pub record Link : Type 0 where
   pub low : ℕ

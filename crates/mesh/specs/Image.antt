@@ -15,7 +15,7 @@ use mathlib.Core.List.{List, [], _∷_, _++_, map, flatMap}
 use Prim.Native.Nat.{ℕ, zero, suc, _+_, _*_, _-_, _/_, _%_}
 use lib.Dec.{ltb, eqb}
 use lib.ListN.{length, getD, take, drop, replicate}
-use Rattle.mesh.specs.Lists.{range, all, same}
+use Rattle.lists.specs.Lists.{range, all, same}
 use Rattle.mesh.specs.Graph.{Link, Graph, graph, proper, ascending}
 use Rattle.mesh.specs.Tables.{tables-of}
 use Rattle.mesh.specs.Sound.{sound}

@@ -15,7 +15,7 @@ use Prim.Native.Nat.{ℕ, zero, suc, _+_, _-_, min}
 use lib.Dec.{ltb, leb, eqb}
 use lib.IntN.{ℤ, pos, negsuc}
 use lib.ListN.{length, take, drop}
-use Rattle.mesh.specs.Lists.{count, filter, member}
+use Rattle.lists.specs.Lists.{count, filter, member}
 use Rattle.mesh.specs.Graph.{Graph, radios, linked, neighbours-among, relinked}
 use Rattle.mesh.specs.Cores.{number}
 

@@ -1,6 +1,5 @@
 -- Document 01's definitions, one file a subject, in the order in which a reader needs them.
 pub mod Limits
-pub mod Lists
 pub mod Graph
 pub mod Cores
 pub mod Orders

@@ -13,7 +13,7 @@ use Prim.Native.Nat.{ℕ, zero, suc, _+_, _*_, _-_, _/_, _%_, _^_}
 use lib.Dec.{eqb}
 use lib.ListN.{getD, set}
 use Rattle.mesh.specs.Limits.{row-bytes}
-use Rattle.mesh.specs.Lists.{range, filter}
+use Rattle.lists.specs.Lists.{range, filter}
 use Rattle.mesh.specs.Graph.{Link, Graph, graph, radios, linked}
 use Rattle.mesh.specs.Cores.{numbers}
 

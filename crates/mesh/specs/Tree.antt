@@ -15,7 +15,7 @@ use mathlib.Core.Bool.{Bool, true, false, _&&_, cond}
 use mathlib.Core.List.{List, [], _∷_, map, flatMap, List·Memᴰ}
 use Prim.Native.Nat.{ℕ, zero, suc, _-_, _≤_, _<_}
 use lib.Dec.{eqb}
-use Rattle.mesh.specs.Lists.{range, filter, head-or}
+use Rattle.lists.specs.Lists.{range, filter, head-or}
 use Rattle.mesh.specs.Graph.{Graph, radios}
 use Rattle.mesh.specs.Cores.{number}
 use Rattle.mesh.specs.Connected.{In-core, core-of}

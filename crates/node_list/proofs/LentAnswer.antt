@@ -14,13 +14,13 @@ use lib.ListN.{length, getD, take, drop, replicate, length-replicate, List·getD
 use lib.Seq.{take-suc, take-length}
 use borrow.Author.Tests.{leb-true, leb-false, le-leb, lt-leb}
 use Rattle.mesh.specs.Limits.{max-radios}
-use Rattle.mesh.specs.Lists.{overwrite}
+use Rattle.lists.specs.Lists.{overwrite}
 use Rattle.mesh.specs.Graph.{Graph}
 use Rattle.mesh.specs.Tables.{Tables, graph-in}
 use Rattle.mesh.specs.Sound.{sound}
 use Rattle.mesh.specs.Tree.{node, tree}
 use Rattle.mesh.specs.declared.Node.{Node}
-use Rattle.mesh.proofs.BoolLaws.{bool-cases, and-left}
+use Rattle.lists.proofs.Tests.{bool-cases, and-left}
 use Rattle.mesh.proofs.TreeLaws.{number-le-n}
 use Rattle.calls.specs.Questions.{ask, Lengths, lengths-of, size-good, site-lengths, nodes-length, answer-length, lent-refusal, site-refusal, tree-refusal}
 use Rattle.calls.specs.Answers.{Tree-accepted, Tree-refused, Tree-contract}
@@ -30,7 +30,8 @@ use Rattle.calls.proofs.QuestionLaws.{ask-later, size-good-true, nodes-length-t
 use Rattle.calls.proofs.ChainLaws.{site-zero}
 use Rattle.node_list.specs.Lent.{nodes-in}
 use Rattle.tree.specs.Trees.{Lists, lists, with-front, places, Tables-accepted, Tables-refused, Tables-contract}
-use Rattle.tree.proofs.NodeLists.{length-map-any, nodes-before-tree, length-nodes-before}
+use Rattle.lists.proofs.Map.{length-map}
+use Rattle.tree.proofs.NodeLists.{nodes-before-tree, length-nodes-before}
 
 -- ---- nodes in front of three tables
 
@@ -40,7 +41,7 @@ nowhere = node 0 0 0
 getD-front-map : (f : Node → ℕ) (xs : List Node) (d : List ℕ) (i : ℕ) → f nowhere ≡ 0 → i < length xs → getD (overwrite (map f xs) d) i 0 ≡ f (getD xs i nowhere)
 unfolding overwrite
 getD-front-map f xs d i e l =
-    List·getD-append (map f xs) (drop (length (map f xs)) d) 0 i (omega (arith, length-map-any f xs))
+    List·getD-append (map f xs) (drop (length (map f xs)) d) 0 i (omega (arith, length-map f xs))
     ∙ ap (getD (map f xs) i) (sym e) ∙ List·getD-map f xs i nowhere
 
 node-same : (x : Node) {i j k : ℕ} → i ≡ x .name → j ≡ x .level → k ≡ x .parent → node i j k ≡ x

@@ -5,10 +5,10 @@ use Prim.Native.Nat.{ℕ, zero, suc, _+_, _≤_, _<_}
 use native.Mathlib.Omega.{arith}
 use native.Mathlib.Numerals.{add-one}
 use lib.ListN.{length, set, length-append, length-drop}
-use Rattle.mesh.specs.Lists.{overwrite}
+use Rattle.lists.specs.Lists.{overwrite}
 use Rattle.mesh.specs.declared.Node.{Node}
 use Rattle.node_list.specs.Lent.{node-in, nodes-in}
-use Rattle.tree.proofs.NodeLists.{set-overwrite}
+use Rattle.lists.proofs.Overwrite.{set-overwrite}
 
 module _ (a b c : List ℕ) where
   pub length-nodes-in : (k : ℕ) → length (nodes-in a b c k) ≡ k

@@ -2,7 +2,7 @@
 ghost use mathlib.Core.Path.{_≡_};
 ghost use Prim.Native.Nat.{_≤_, _<_};
 ghost use lib.ListN.{length};
-ghost use Rattle.mesh.specs.Lists.{overwrite};
+ghost use Rattle.lists.specs.Lists.{overwrite};
 ghost use Rattle.mesh.specs.Tables.{tables};
 ghost use Rattle.calls.specs.Answers.{Tree-contract};
 ghost use Rattle.node_list.specs.Lent.{node-in, nodes-in};

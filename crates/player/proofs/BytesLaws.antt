@@ -7,12 +7,13 @@ use Prim.Native.Nat.{ℕ, suc, _+_, _-_, _≤_, _<_}
 use native.Mathlib.Omega.{arith}
 use lib.ListN.{length, take, drop, getD, length-drop}
 use lib.Seq.{take-suc, getD-drop}
-use Rattle.mesh.proofs.BoolLaws.{trichotomy}
+use Rattle.lists.proofs.Tests.{trichotomy}
 use Rattle.printing.specs.Print.{Buffer, put}
 use Rattle.printing.proofs.PrintLaws.{puts-append}
 use Rattle.player.specs.Lines.{Prints}
 use Rattle.player.specs.Machine.{Spot, Ignored, Takes, Takes-all}
 use Rattle.player.proofs.MachineLaws.{takes-none}
+use Rattle.lists.proofs.Parts.{part-more}
 
 -- ---- one byte more
 
@@ -94,16 +95,6 @@ taking-none m n chunk from p b =
         puts = record { is = refl };
       };
     }
-
--- the part grows by the byte at i
-part-more : (chunk : List ℕ) (from i : ℕ) → from ≤ i → i < length chunk
-    → take (i + 1 - from) (drop from chunk) ≡ take (i - from) (drop from chunk) ++ (getD chunk i 0 ∷ [])
-part-more chunk from i l h =
-    let longer : i + 1 - from ≡ suc (i - from) = omega arith in
-    let place : from + (i - from) ≡ i = omega arith in
-    ap (λ (k : ℕ). take k (drop from chunk)) longer
-    ∙ take-suc (drop from chunk) (i - from) 0 (omega (arith, length-drop from chunk))
-    ∙ ap (λ (x : ℕ). take (i - from) (drop from chunk) ++ (x ∷ [])) (getD-drop from chunk (i - from) 0 ∙ ap (λ (k : ℕ). getD chunk k 0) place)
 
 pub taking-more : (m l n : ℕ) (chunk : List ℕ) (from i x : ℕ) (p q r : Spot) (b c d : Buffer) → i < length chunk → x ≡ getD chunk i 0
     → l ≡ m → Taking m n chunk from i p q b c → Prints (λ text. Takes l n x q text r) c d → Taking m n chunk from (i + 1) p r b d

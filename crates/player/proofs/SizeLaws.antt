@@ -9,14 +9,17 @@ use lib.IntN.{ℤ, natAbs}
 use lib.Dec.{eqb}
 use lib.ListN.{length, take, drop, length-append}
 use borrow.Author.Tests.{eqb-false}
-use Rattle.mesh.proofs.BoolLaws.{bool-cases, trichotomy}
+use Rattle.lists.proofs.Tests.{bool-cases, trichotomy}
 use Rattle.mesh.specs.Limits.{max-radios}
-use Rattle.mesh.specs.Lists.{range, filter}
+use Rattle.lists.specs.Lists.{range, filter, In}
 use Rattle.mesh.specs.Graph.{Graph, radios}
 use Rattle.mesh.specs.Levels.{changed, step-of}
 use Rattle.mesh.specs.Sound.{sound}
 use Rattle.mesh.specs.Tables.{Tables, graph-in}
-use Rattle.mesh.proofs.ListLaws.{In, in-filter, length-filter, count-le-length, length-range, range-in, take-overwrite}
+use Rattle.lists.proofs.Filter.{in-filter, length-filter, filter-le}
+use Rattle.lists.proofs.Count.{count-le-length}
+use Rattle.lists.proofs.Range.{length-range, range-in}
+use Rattle.lists.proofs.Overwrite.{take-overwrite}
 use Rattle.calls.specs.Replay.{bytes-of, decimal, link-line, bad-line, printed-line, numbers-line, order-line, closing-lines}
 use Rattle.calls.specs.Questions.{ask, By-number, Lengths, lengths-of, link-refusal, site-refusal, lent-refusal, ends-refusal}
 use Rattle.calls.specs.Writes.{Link-accepted, Link-refused, Link-contract}
@@ -54,9 +57,6 @@ step-small false (c ∷ cs) = omega arith
 changed-small : (up : Bool) (a b n : ℕ) (links : List ℕ) (v : ℕ) → In v (changed up a b (graph-in n links)) → v < n
 unfolding changed radios graph-in
 changed-small up a b n links v m = omega (arith, range-in 0 n v (in-filter _ (range 0 n) v m .0))
-
-filter-le : (f : ℕ → Bool) (xs : List ℕ) (k : ℕ) → length xs ≡ k → length (filter f xs) ≤ k
-filter-le f xs k e = omega (arith, length-filter f xs, count-le-length f xs)
 
 length-changed-le : (up : Bool) (a b n : ℕ) (links : List ℕ) → length (changed up a b (graph-in n links)) ≤ n
 unfolding changed radios graph-in

@@ -19,6 +19,7 @@ use Rattle.player.specs.Machine.{Spot, next-number, Stopped, Held-on, Li
 use Rattle.player.specs.Whole.{lines-of, front, rest, Line-then, Line-by, Lines-print, start, Run-from, Run-prints}
 use Rattle.player.proofs.MachineLaws.{step-as}
 use Rattle.player.proofs.SplitLaws.{No-feed, no-feed-more, lines-before, lines-last, first-line, lines-ended, unended-no-call, long-no-call}
+use Rattle.lists.proofs.Tests.{cond-false, cond-true}
 
 -- ---- after the end of the run
 
@@ -36,12 +37,6 @@ takes-dead m n (b ∷ bs) p q text l h =
     let none : Ignored p (h .first) (h .middle) = step-as n b p (h .first) (h .middle) (sym l) refl refl (h .takes) in
     let dead : h .middle .live ≡ false = ap (λ (s : Spot). s .live) (none .same) ∙ l in
     ignored-more p (h .middle) q (h .first) (h .more) text none (h .whole) (takes-dead m n bs (h .middle) q (h .more) dead (h .rest))
-
-cond-false : {A : Type 0} (c : Bool) (x y : A) → c ≡ false → cond c x y ≡ y
-cond-false c x y e = rw e
-
-cond-true : {A : Type 0} (c : Bool) (x y : A) → c ≡ true → cond c x y ≡ x
-cond-true c x y e = rw e
 
 ending-dead : (p : Spot) → p .live ≡ false → ending p ≡ []
 unfolding ending

@@ -6,7 +6,7 @@ use Prim.Native.Nat.{ℕ, zero, suc, _+_, _*_, _^_, _≤_, _<_}
 use native.Mathlib.Omega.{arith}
 use lib.IntN.{ℤ, pos, negsuc, natAbs}
 use lib.ListN.{length, length-append}
-use Rattle.mesh.proofs.ListLaws.{In}
+use Rattle.lists.specs.Lists.{In}
 use Rattle.calls.specs.Replay.{decimal, step-text, further-fields, printed-line, link-line}
 use Rattle.calls.proofs.DecimalLaws.{length-decimal-le}
 

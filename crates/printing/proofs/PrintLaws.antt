@@ -11,7 +11,7 @@ use lib.IntN.{ℤ}
 use lib.ListN.{length, take, drop, getD, set, length-set, take-append-drop, drop-of-length-le}
 use lib.Seq.{length-take-le, drop-cons, set-out, sets, sets-eq}
 use borrow.Author.Tests.{lt-ltb, le-ltb, ltb-true, ltb-false}
-use Rattle.mesh.proofs.BoolLaws.{bool-cases}
+use Rattle.lists.proofs.Tests.{bool-cases}
 use Rattle.calls.specs.Replay.{space, line-feed, digit-byte, decimal, step-text, further-fields, printed-line, link-line}
 use Rattle.calls.proofs.DecimalLaws.{decimal-digit, decimal-more}
 use Rattle.printing.specs.Print.{Buffer, lent, max-place, next-place, put, Puts}
@@ -78,10 +78,6 @@ putting-last p q = record { is = q .is ∙ p .is }
 pub putting-end : {b c : Buffer} {whole left : List ℕ} → Putting b whole c left → left ≡ [] → Puts b whole c
 unfolding put
 putting-end {b} {c} p e = record { is = ap (put c) (sym e) ∙ p .is }
-
--- the pieces of a text are its bytes
-pub drop-byte : (text : List ℕ) (i : ℕ) → i < length text → drop i text ≡ (getD text i 0 ∷ []) ++ drop (i + 1) text
-drop-byte text i h = rw (add-one i) (drop-cons text i 0 h)
 
 -- ---- fields of a line, at any width
 

@@ -10,17 +10,20 @@ use lib.ListN.{length, getD, drop, set, drop-of-length-le}
 use lib.Seq.{drop-cons, take-all}
 use borrow.Author.Tests.{leb-true, lt-ltb}
 use Rattle.mesh.specs.Limits.{max-radios}
-use Rattle.mesh.specs.Lists.{range, count, filter, overwrite}
+use Rattle.lists.specs.Lists.{range, count, filter, overwrite}
 use Rattle.mesh.specs.Graph.{Graph, radios}
 use Rattle.mesh.specs.Cores.{number, numbers}
 use Rattle.mesh.specs.Connected.{greatest, backbone}
 use Rattle.mesh.specs.Tables.{Tables, graph-in}
 use Rattle.mesh.specs.Sound.{sound}
-use Rattle.mesh.proofs.ListLaws.{range-in, length-range, length-filter, count-le-length, filter-ext, filter-none}
+use Rattle.lists.proofs.Range.{range-in, length-range}
+use Rattle.lists.proofs.Filter.{length-filter, filter-ext, filter-none}
+use Rattle.lists.proofs.Count.{count-le-length}
 use Rattle.calls.specs.Questions.{lengths-of, answer-length, site-refusal, backbone-refusal}
 use Rattle.calls.specs.Answers.{Backbone-contract}
 use Rattle.calls.proofs.ChainLaws.{site-zero}
-use Rattle.rows.proofs.Listing.{Listing, listing-none, listing-one, listing-end, sets-front}
+use Rattle.rows.proofs.Listing.{Listing, listing-none, listing-one, listing-end}
+use Rattle.lists.proofs.Overwrite.{sets-front}
 use Rattle.queries.specs.Levels.{level-radios, count-one, listed-one}
 use Rattle.floods.proofs.SoundSite.{Sound-site, number-entry}
 use Rattle.queries.proofs.RefusalLaws.{site-good-sound}

@@ -3,7 +3,7 @@ ghost use mathlib.Core.Path.{_≡_};
 ghost use Prim.Native.Nat.{_≤_, _<_, max};
 ghost use lib.ListN.{length};
 ghost use Rattle.mesh.specs.Limits.{max-radios};
-ghost use Rattle.mesh.specs.Lists.{overwrite};
+ghost use Rattle.lists.specs.Lists.{overwrite};
 ghost use Rattle.mesh.specs.Connected.{greatest};
 ghost use Rattle.mesh.specs.Tables.{tables};
 ghost use Rattle.calls.specs.Answers.{Backbone-contract};

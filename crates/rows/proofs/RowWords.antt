@@ -8,12 +8,14 @@ use lib.Seq.{sets}
 use lib.Count.{ones, trailingZeros}
 use borrow.Author.Tests.{le-leb, lt-leb}
 use Rattle.mesh.specs.Limits.{max-radios, row-bytes}
-use Rattle.mesh.specs.Lists.{range, filter, head-or, overwrite}
+use Rattle.lists.specs.Lists.{range, filter, head-or, overwrite}
 use Rattle.mesh.specs.Tables.{digit, byte-at, marked}
-use Rattle.mesh.proofs.ListLaws.{filter-append}
+use Rattle.lists.proofs.Filter.{filter-append}
 use Rattle.rows.specs.Rows.{neighbours-of, row-listed, set-bits, word-at}
 use Rattle.rows.proofs.WordLaws.{set-bits-filter, set-bits-nothing, set-bits-lowest, length-set-bits, length-set-bits-le, word-at-less, digit-word-at}
-use Rattle.rows.proofs.Listing.{range-append, sets-front, Partial-listing, partial-part, partial-end}
+use Rattle.lists.proofs.Range.{range-append}
+use Rattle.lists.proofs.Overwrite.{sets-front}
+use Rattle.rows.proofs.Listing.{Partial-listing, partial-part, partial-end}
 
 -- ---- row-listed: the whole row, or none of it
 

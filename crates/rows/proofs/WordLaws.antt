@@ -14,9 +14,9 @@ use lib.Pow.{pow-add, shl-exact, shr-shr, high}
 use lib.Bits.{bitAnd, bitOr, and-step, and-self, or-shifted-r, block-half, block-odd}
 use lib.Count.{ones, ones-step, trailingZeros}
 use borrow.Author.Tests.{ltb-true, ltb-false, eqb-true, eqb-false}
-use Rattle.mesh.specs.Lists.{range, filter}
+use Rattle.lists.specs.Lists.{range, filter}
 use Rattle.mesh.specs.Tables.{digit}
-use Rattle.mesh.proofs.BoolLaws.{bool-cases}
+use Rattle.lists.proofs.Tests.{bool-cases}
 use Rattle.mesh.proofs.DigitLaws.{digit-zero, digit-suc}
 use Rattle.rows.specs.Rows.{set-bits, word-at}
 

@@ -5,7 +5,7 @@ ghost use Prim.Native.Nat.{_≤_, _+_, min};
 ghost use lib.ListN.{length, take, set};
 ghost use lib.Seq.{sets};
 ghost use Rattle.mesh.specs.Limits.{max-radios};
-ghost use Rattle.mesh.specs.Lists.{head-or, overwrite};
+ghost use Rattle.lists.specs.Lists.{head-or, overwrite};
 ghost use Rattle.mesh.specs.Tables.{marked, put-bit, put-link};
 ghost use Rattle.rows.specs.Rows.{row-listed, set-bits, word-at};
 

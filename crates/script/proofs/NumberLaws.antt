@@ -7,23 +7,12 @@ use Prim.Native.Nat.{ℕ, zero, suc, _+_, _*_, _-_, _/_, _%_, _≤_, _<_}
 use native.Mathlib.Omega.{arith}
 use lib.Dec.{ltb, leb, eqb}
 use borrow.Author.Tests.{ltb-true, ltb-false, leb-true, eqb-true, eqb-false, le-leb, ne-eqb}
-use Rattle.mesh.proofs.BoolLaws.{bool-cases, and-left, and-right, and-both}
-use Rattle.mesh.proofs.ListLaws.{same-eq}
-use Rattle.mesh.specs.Lists.{all, same}
+use Rattle.lists.proofs.Tests.{bool-cases, and-left, and-right, and-both}
+use Rattle.lists.proofs.All.{same-eq, all-append}
+use Rattle.lists.specs.Lists.{all, same}
 use Rattle.calls.specs.Replay.{line-feed, digit-byte, decimal}
 use Rattle.script.specs.Lines.{max-value, Read, got, none, is-digit, digits-on, number-of, ended, last-number-of}
 use Rattle.calls.proofs.DecimalLaws.{decimal-digit, decimal-more, decimal-append}
-
--- ---- laws of lists
-
-pub all-append : (f : ℕ → Bool) (xs ys : List ℕ) → all f (xs ++ ys) ≡ (all f xs && all f ys)
-unfolding all
-all-append f [] ys = refl
-all-append f (x ∷ xs) ys = rw (all-append f xs ys) (go (f x) (all f xs) (all f ys))
-  where
-    go : (a b c : Bool) → (a && (b && c)) ≡ ((a && b) && c)
-    go true b c = refl
-    go false b c = refl
 
 -- ---- is-digit
 

@@ -8,11 +8,12 @@ use Prim.Native.Nat.{ℕ, _≤_}
 use lib.Dec.{eqb}
 use lib.ListN.{length, drop}
 use borrow.Author.Tests.{eqb-true}
-use Rattle.mesh.proofs.BoolLaws.{bool-cases, never, and-left, and-right}
+use Rattle.lists.proofs.Tests.{bool-cases, never, and-left, and-right}
 use Rattle.calls.specs.Replay.{bytes-of, space, line-feed, digit-byte, decimal, further-fields, printed-line}
 use Rattle.script.specs.declared.lines.Line.{Line}
 use Rattle.script.specs.declared.lines.Line.the-variants.{Radios, Up, Down, Bad}
-use Rattle.script.specs.Lines.{text-of, Values, max-value, Read, got, none, is-digit, number-of, last-number-of, starts, radios-line, link-with, link-after, link-of, line-of}
+use Rattle.script.specs.Lines.{text-of, Values, max-value, Read, got, none, is-digit, number-of, last-number-of, starts, radios-line, link-with}
+use Rattle.script.specs.Lines.{link-after, link-of, line-of}
 use Rattle.script.proofs.NumberLaws.{number-of-decimal, last-number-of-decimal, number-of-text, last-number-of-text}
 
 -- ---- a line's text is read back

@@ -15,7 +15,7 @@ use mathlib.Core.List.{List, [], _∷_}
 use Prim.Native.Nat.{ℕ, _+_, _*_, _-_, _≤_}
 use lib.Dec.{leb, eqb}
 use lib.ListN.{drop}
-use Rattle.mesh.specs.Lists.{same}
+use Rattle.lists.specs.Lists.{same}
 use Rattle.calls.specs.Replay.{bytes-of, space, line-feed, digit-byte, decimal, printed-line}
 use Rattle.script.specs.declared.lines.Line.{Line}
 use Rattle.script.specs.declared.lines.Line.the-variants.{Radios, Up, Down, Bad}

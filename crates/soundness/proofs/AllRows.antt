@@ -9,8 +9,8 @@ use native.Mathlib.Numerals.{add-one}
 use lib.ListN.{length, getD, set, length-set}
 use lib.Seq.{getD-set-same, getD-set-other}
 use Rattle.mesh.specs.Limits.{max-neighbours}
-use Rattle.mesh.specs.Lists.{range, all}
-use Rattle.mesh.proofs.BoolLaws.{never, trichotomy}
+use Rattle.lists.specs.Lists.{range, all}
+use Rattle.lists.proofs.Tests.{never, trichotomy}
 use Rattle.rows.specs.Rows.{neighbours-of}
 use Rattle.soundness.specs.Checks.{high-count, row-good, Row-checked, Rows-checked}
 

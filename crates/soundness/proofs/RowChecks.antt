@@ -13,31 +13,20 @@ use lib.ListN.{length, getD, take, drop}
 use lib.Seq.{drop-cons, drop-length, getD-take, take-all, length-take-le}
 use borrow.Author.Tests.{ltb-true, ltb-false, lt-ltb, le-leb, lt-leb, eq-eqb, ne-eqb}
 use Rattle.mesh.specs.Limits.{max-radios, max-neighbours, row-bytes}
-use Rattle.mesh.specs.Lists.{count, all, overwrite}
+use Rattle.lists.specs.Lists.{count, all, overwrite}
 use Rattle.mesh.specs.Tables.{marked}
 use Rattle.mesh.specs.Sound.{number-in}
-use Rattle.mesh.proofs.BoolLaws.{bool-cases, never, bit-one}
-use Rattle.mesh.proofs.ListLaws.{count-le-length, take-overwrite}
+use Rattle.lists.proofs.Tests.{bool-cases, never, bit-one, byte-bit}
+use Rattle.lists.proofs.Count.{count-le-length, count-drop}
+use Rattle.lists.proofs.Overwrite.{take-overwrite}
 use Rattle.rows.specs.Rows.{neighbours-of, row-listed}
 use Rattle.rows.proofs.MaskLaws.{marked-past}
 use Rattle.rows.proofs.RowListLaws.{row-listed-radio}
 use Rattle.soundness.specs.Checks.{later-count, high-count, ends-good, row-good, Ends-counted, Rows-room, Row-checked}
-
--- a test as a number
-pub byte-bit : (t : Bool) → boolByte t ≡ cond {A = ℕ} t 1 0
-byte-bit true = refl
-byte-bit false = refl
+use Rattle.lists.proofs.All.{all-drop}
 
 pub count-fits : (x : ℕ) (t : Bool) → x ≤ max-radios → Fits w32 (x + boolByte t)
 count-fits x t l = omega (arith, byte-bit t, bit-one t)
-
-count-drop : (f : ℕ → Bool) (xs : List ℕ) (i : ℕ) → i < length xs → count f (drop i xs) ≡ boolByte (f (getD xs i 0)) + count f (drop (suc i) xs)
-unfolding count
-count-drop f xs i l = rw (drop-cons xs i 0 l, byte-bit (f (getD xs i 0)))
-
-all-drop : (f : ℕ → Bool) (xs : List ℕ) (i : ℕ) → i < length xs → all f (drop i xs) ≡ (f (getD xs i 0) && all f (drop (suc i) xs))
-unfolding all
-all-drop f xs i l = rw (drop-cons xs i 0 l)
 
 -- ---- the ends of a row
 

@@ -19,7 +19,7 @@ use Prim.Native.Nat.{ℕ, _*_, _≤_, _<_, min}
 use lib.Dec.{ltb, leb, eqb}
 use lib.ListN.{length, getD}
 use Rattle.mesh.specs.Limits.{max-radios, max-neighbours, row-bytes}
-use Rattle.mesh.specs.Lists.{range, count, all}
+use Rattle.lists.specs.Lists.{range, count, all}
 use Rattle.mesh.specs.Orders.{each-once}
 use Rattle.mesh.specs.Tables.{Tables, marked}
 use Rattle.mesh.specs.Sound.{number-in, sound}

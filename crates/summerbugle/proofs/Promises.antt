@@ -12,7 +12,7 @@ use mathlib.Core.Bool.{Bool, true}
 use mathlib.Core.List.{List}
 use Prim.Native.Nat.{ℕ}
 use lib.ListN.{take}
-use Rattle.mesh.specs.Lists.{member}
+use Rattle.lists.specs.Lists.{member}
 use Rattle.mesh.specs.Graph.{relinked}
 use Rattle.mesh.specs.Tables.{Tables, graph-in}
 use Rattle.mesh.specs.Connected.{In-core}
@@ -21,12 +21,16 @@ use Rattle.mesh.specs.declared.Node.{Node}
 use Rattle.mesh.proofs.ImageTables.{Tables-of-size}
 use Rattle.calls.specs.Questions.{lengths-of}
 use Rattle.calls.specs.Writes.{Clear-contract, Link-contract, Read-contract}
-use Rattle.calls.specs.Answers.{Check-contract, Number-contract, Neighbours-contract, Linked-contract, First-contract, Core-contract, Backbone-contract, Tree-contract, Write-contract, Block-contract}
+use Rattle.calls.specs.Answers.{Check-contract, Number-contract, Neighbours-contract, Linked-contract, First-contract, Core-contract, Backbone-contract}
+use Rattle.calls.specs.Answers.{Tree-contract, Write-contract, Block-contract}
 use Rattle.calls.specs.declared.Reply.{Reply}
 use Rattle.calls.specs.declared.Value.{Value}
-use Rattle.calls.proofs.Outcomes.{Decides, clear-decided, link-decided, read-decided, check-decided, number-decided, neighbours-decided, linked-decided, first-decided, core-decided, backbone-decided, tree-decided, write-decided, block-decided}
-use Rattle.calls.proofs.Accepted.{Numbers-right, link-right, core-right, Tree-listed, tree-right-listed, write-right, Read-right, read-right, read-what-was-written}
-use Rattle.summerbugle.proofs.Ties.{check-met, number-met, neighbours-met, linked-met, first-met, core-met, backbone-met, tree-met, image-write-met, image-block-met}
+use Rattle.calls.proofs.Outcomes.{Decides, clear-decided, link-decided, read-decided, check-decided, number-decided, neighbours-decided, linked-decided}
+use Rattle.calls.proofs.Outcomes.{first-decided, core-decided, backbone-decided, tree-decided, write-decided, block-decided}
+use Rattle.calls.proofs.Accepted.{Numbers-right, link-right, core-right, Tree-listed, tree-right-listed, write-right, Read-right, read-right}
+use Rattle.calls.proofs.Accepted.{read-what-was-written}
+use Rattle.summerbugle.proofs.Ties.{check-met, number-met, neighbours-met, linked-met, first-met, core-met, backbone-met, tree-met, image-write-met}
+use Rattle.summerbugle.proofs.Ties.{image-block-met}
 use Rattle.summerbugle.proofs.WholeList.{clear-met, link-up-met, link-down-met, image-read-met, Whole-list, whole-list}
 use Rattle.summerbugle.proofs.sb_clear.Statement as clear-statement
 use Rattle.summerbugle.proofs.sb_link_up.Statement as link-up-statement

@@ -8,18 +8,20 @@ use Prim.Native.Nat.{ℕ, suc, _+_, _-_, _≤_, _<_, min}
 use native.Mathlib.Nat.{zero-add}
 use native.Mathlib.Omega.{arith}
 use native.Mathlib.Numerals.{add-one}
+use mir.Syntax.{w8, w16}
+use mir.Val.{Fits, SFits, toZ, ofZ}
+use mir.Facts.{toZ-ofZ, toZ-pos, sfits-widen}
 use lib.Dec.{T, ltb}
 use lib.IntN.{ℤ, pos, negsuc, _+ℤ_, natAbs}
 use lib.Signed.{ltZ, nonNeg}
 use lib.ListN.{length, getD, drop, length-set, drop-of-length-le}
 use lib.Seq.{drop-cons, getD-set-same, getD-set-other, ext-getD}
 use borrow.Author.Tests.{ltb-true, ltb-false}
-use mir.Syntax.{w8, w16}
-use mir.Val.{Fits, SFits, toZ, ofZ}
-use mir.Facts.{toZ-ofZ, toZ-pos, sfits-widen}
-use Rattle.mesh.specs.Lists.{range, member}
-use Rattle.mesh.proofs.BoolLaws.{bool-cases, never}
-use Rattle.mesh.proofs.ListLaws.{In, Distinct, member-in, in-member, length-map, length-range, getD-map-range}
+use Rattle.lists.specs.Lists.{range, member, In, Distinct}
+use Rattle.lists.proofs.Tests.{bool-cases, never}
+use Rattle.lists.proofs.Member.{member-in, in-member}
+use Rattle.lists.proofs.Map.{length-map, getD-map-range}
+use Rattle.lists.proofs.Range.{length-range}
 use Rattle.tables.specs.Steps.{stepped, step-at, all-stepped}
 
 -- ---- a sum held between 0 and 255
@@ -181,7 +183,7 @@ all-stepped-map vs z ns d =
     (e ∙ sym (length-map f (range 0 (length ns)) ∙ length-range 0 (length ns)))
     (λ u h.
     let l : u < length ns = omega arith in
-    getD-all-stepped u vs z ns d l ∙ ap f (sym (zero-add u)) ∙ sym (getD-map-range f 0 (length ns) u l))
+    getD-all-stepped u vs z ns d l ∙ ap f (sym (zero-add u)) ∙ sym (getD-map-range 0 f 0 (length ns) u l))
 
 -- ---- a list of radios being stepped: i so far
 

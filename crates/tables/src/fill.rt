@@ -3,7 +3,7 @@
 ghost use mathlib.Core.Path.{_≡_};
 ghost use Prim.Native.Nat.{ℕ, min};
 ghost use lib.ListN.{length, take, replicate};
-ghost use Rattle.mesh.specs.Lists.{same, overwrite};
+ghost use Rattle.lists.specs.Lists.{same, overwrite};
 ghost use Rattle.tables.specs.Widths.{values};
 
 // The smaller of two lengths.

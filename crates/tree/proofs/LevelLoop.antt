@@ -10,7 +10,7 @@ use lib.ListN.{length, replicate}
 use Rattle.mesh.specs.Limits.{max-radios, row-bytes}
 use Rattle.mesh.specs.Tables.{Tables, tables, graph-in}
 use Rattle.mesh.specs.Sound.{sound}
-use Rattle.mesh.proofs.BoolLaws.{bool-cases, and-left, and-right}
+use Rattle.lists.proofs.Tests.{bool-cases, and-left, and-right}
 use Rattle.calls.specs.Questions.{lengths-of, size-good, site-lengths}
 use Rattle.calls.proofs.QuestionLaws.{size-good-true, site-lengths-true}
 use Rattle.soundness.specs.Checks.{fits-sound}

@@ -6,9 +6,10 @@ use native.Mathlib.Omega.{arith}
 use native.Mathlib.Numerals.{add-one}
 use lib.ListN.{length, getD, take, drop, set, replicate, length-set, drop-of-length-le}
 use lib.Seq.{drop-cons, length-take-le, getD-take}
-use Rattle.mesh.specs.Lists.{overwrite}
+use Rattle.lists.specs.Lists.{overwrite}
 use Rattle.tables.specs.Widths.{written}
-use Rattle.tables.proofs.WidthLaws.{Writing, values-constant, take-min}
+use Rattle.tables.proofs.WidthLaws.{Writing, values-constant}
+use Rattle.lists.proofs.Parts.{take-min}
 use Rattle.floods.specs.Floods.{Flooded}
 use Rattle.tree.specs.Trees.{entries-set, Core-named}
 

@@ -6,7 +6,7 @@ use Prim.Native.Nat.{ℕ, _+_}
 use lib.ListN.{getD, set}
 use borrow.Author.Tests.{eq-eqb, ne-eqb}
 use Rattle.mesh.specs.Tables.{marked}
-use Rattle.mesh.proofs.BoolLaws.{never}
+use Rattle.lists.proofs.Tests.{never}
 use Rattle.tree.specs.Trees.{Lists, lists, Core-named, takes-node, Visited}
 
 module _ (ts ns : List ℕ) (k v : ℕ) (s q : List ℕ) (old : Lists) (c : ℕ) where

@@ -2,7 +2,7 @@
 ghost use mathlib.Core.Path.{_≡_};
 ghost use Prim.Native.Nat.{_≤_, min};
 ghost use lib.ListN.{length, take, set, replicate};
-ghost use Rattle.mesh.specs.Lists.{overwrite};
+ghost use Rattle.lists.specs.Lists.{overwrite};
 ghost use Rattle.tree.specs.Trees.{entries-set, Core-named};
 
 // Writes a node at a place of three tables; past a table nothing changes.

@@ -4,7 +4,8 @@ use mathlib.Core.Path.{_≡_, refl}
 use mathlib.Core.Bool.{true}
 use Rattle.calls.specs.Rows.{all-right, compute}
 use Rattle.calls.proofs.Cases.{all-right-append}
-use Rattle.vectors.specs.Histories.{refusals, cliques, joins, rises, falls, trees, printing, tables, images, random-small, random-middle, random-large, histories}
+use Rattle.vectors.specs.Histories.{refusals, cliques, joins, rises, falls, trees, printing, tables, images, random-small, random-middle, random-large}
+use Rattle.vectors.specs.Histories.{histories}
 
 refusals-right : all-right refusals ≡ true
 unfolding compute refusals

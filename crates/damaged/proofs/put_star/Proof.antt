@@ -1,9 +1,9 @@
 -- `put_star` is safe and ends: the table keeps its length, and the measure is what is left of k.
 use mathlib.Core.Path.{_≡_, refl, ap, _∙_}
-use lib.ListN.{length}
-use Rattle.mesh.proofs.TableLaws.{length-put-link}
 use Prim.Native.Nat.{_-_}
+use lib.ListN.{length}
 use borrow.Author.Needs.{needs}
+use Rattle.mesh.proofs.TableLaws.{length-put-link}
 use Rattle.damaged.proofs.put_star.Statement.{statement}
 use Rattle.damaged.proofs.put_star.Tie as tie
 

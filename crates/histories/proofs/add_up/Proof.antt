@@ -1,8 +1,8 @@
 -- `add_up` is safe and ends: every table keeps its length, and the measure is how many turns are left.
-use Prim.Native.Nat.{_-_}
-use borrow.Author.Needs.{needs}
-use lib.ListN.{length}
 use mathlib.Core.Path.{_≡_}
+use Prim.Native.Nat.{_-_}
+use lib.ListN.{length}
+use borrow.Author.Needs.{needs}
 use Rattle.histories.proofs.add_up.Statement.{statement}
 use Rattle.histories.proofs.add_up.Tie as tie
 

@@ -1,7 +1,7 @@
 -- `say` is safe and ends: the measure is how many turns are left.
 use Prim.Native.Nat.{_-_}
-use borrow.Author.Needs.{needs}
 use lib.ListN.{length}
+use borrow.Author.Needs.{needs}
 use Rattle.histories.proofs.say.Statement.{statement}
 use Rattle.histories.proofs.say.Tie as tie
 

@@ -1,7 +1,7 @@
 -- `printing::digit_byte` meets its contract by the definition.
 use mathlib.Core.Path.{refl}
-use Rattle.calls.specs.Replay.{digit-byte}
 use borrow.Author.Needs.{needs}
+use Rattle.calls.specs.Replay.{digit-byte}
 use Rattle.printing.proofs.digit_byte.Statement.{statement}
 use Rattle.printing.proofs.digit_byte.Tie as tie
 

@@ -1,6 +1,6 @@
 -- `printing::put_field` meets its contract: one text after another.
-use Rattle.printing.proofs.PrintLaws.{puts-append}
 use borrow.Author.Needs.{needs}
+use Rattle.printing.proofs.PrintLaws.{puts-append}
 use Rattle.printing.proofs.put_field.Statement.{statement}
 use Rattle.printing.proofs.put_field.Tie as tie
 

@@ -1,11 +1,11 @@
 -- `printing::put_link_line` meets its contract: one text after another.
 use mathlib.Core.Path.{refl, sym}
 use native.Mathlib.Omega.{arith}
+use mir.Facts.{toZ-ofZ}
 use lib.ListN.{take}
 use lib.Seq.{take-all, length-take-le}
-use mir.Facts.{toZ-ofZ}
-use Rattle.printing.proofs.PrintLaws.{puts-link-line}
 use borrow.Author.Needs.{needs}
+use Rattle.printing.proofs.PrintLaws.{puts-link-line}
 use Rattle.printing.proofs.put_link_line.Statement.{statement}
 use Rattle.printing.proofs.put_link_line.Tie as tie
 

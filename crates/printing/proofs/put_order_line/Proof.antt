@@ -1,7 +1,7 @@
 -- `printing::put_order_line` meets its contract: one text after another.
+use borrow.Author.Needs.{needs}
 use Rattle.calls.specs.Replay.{order-line, printed-line}
 use Rattle.printing.proofs.PrintLaws.{puts-append}
-use borrow.Author.Needs.{needs}
 use Rattle.printing.proofs.put_order_line.Statement.{statement}
 use Rattle.printing.proofs.put_order_line.Tie as tie
 

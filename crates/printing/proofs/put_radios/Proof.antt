@@ -2,8 +2,8 @@
 use mathlib.Core.Path.{_∙_}
 use Prim.Native.Nat.{_-_}
 use native.Mathlib.Omega.{arith}
-use borrow.Author.Needs.{needs}
 use lib.ListN.{length}
+use borrow.Author.Needs.{needs}
 use Rattle.printing.specs.Print.{lent}
 use Rattle.printing.proofs.PrintLaws.{Fields, fields-none, fields-next, fields-last, length-putting}
 use Rattle.printing.proofs.put_radios.Statement.{statement}

@@ -4,7 +4,8 @@ use Prim.Native.Nat.{_≤_, _+_, _-_}
 use native.Mathlib.Omega.{arith}
 use lib.ListN.{length, drop, drop-of-length-le}
 use Rattle.printing.specs.Print.{lent}
-use Rattle.printing.proofs.PrintLaws.{Putting, putting-none, putting-piece, putting-end, drop-byte, length-putting}
+use Rattle.printing.proofs.PrintLaws.{Putting, putting-none, putting-piece, putting-end, length-putting}
+use Rattle.lists.proofs.Parts.{drop-first}
 use Rattle.printing.proofs.put_text.Statement.{statement}
 use Rattle.printing.proofs.put_text.Tie as tie
 
@@ -26,7 +27,7 @@ loop-again c =
     let at-loop = c .before .before .before .before .before .before in
     let text = at-loop .before .before .before .args .text .now in
     let i = at-loop .loop .i in
-    (omega arith, putting-piece (drop i text) (drop (i + 1) text) (drop-byte text i (omega arith)) (at-loop .loop .inv .1) (c .before .before .put-byte .ensures))
+    (omega arith, putting-piece (drop i text) (drop (i + 1) text) (drop-first text i (omega arith)) (at-loop .loop .inv .1) (c .before .before .put-byte .ensures))
 
 same-length : tie.Need-same-length Inv-loop μ-loop
 same-length c = length-putting (c .before .loop .inv .1)

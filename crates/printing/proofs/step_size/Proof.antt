@@ -1,6 +1,6 @@
 -- `printing::step_size` meets its contract: in sixteen bits every step can be negated.
-use Rattle.printing.proofs.StepLaws.{wide-fits, minus-fits, size-minus, size-minus-is, size-plus}
 use borrow.Author.Needs.{needs}
+use Rattle.printing.proofs.StepLaws.{wide-fits, minus-fits, size-minus, size-minus-is, size-plus}
 use Rattle.printing.proofs.step_size.Statement.{statement}
 use Rattle.printing.proofs.step_size.Tie as tie
 

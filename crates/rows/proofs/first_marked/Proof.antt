@@ -5,7 +5,7 @@ use Prim.Native.Nat.{_-_}
 use native.Mathlib.Omega.{arith}
 use lib.Count.{trailing-le}
 use borrow.Author.Needs.{needs}
-use Rattle.mesh.specs.Lists.{head-or}
+use Rattle.lists.specs.Lists.{head-or}
 use Rattle.rows.proofs.RowWords.{Searching, searching-turn, searching-found, row-from-zero, row-from-end, row-listed-whole, row-listed-short}
 use Rattle.rows.proofs.first_marked.Statement.{statement}
 use Rattle.rows.proofs.first_marked.Tie as tie

@@ -5,7 +5,8 @@ use mathlib.Core.List.{[]}
 use Prim.Native.Nat.{_-_}
 use native.Mathlib.Omega.{arith}
 use borrow.Author.Needs.{needs}
-use Rattle.rows.proofs.Listing.{partial-none, sets-front}
+use Rattle.rows.proofs.Listing.{partial-none}
+use Rattle.lists.proofs.Overwrite.{sets-front}
 use Rattle.rows.proofs.RowWords.{Row-listing, row-listing-turn, row-listing-end, row-from-zero, row-listed-short}
 use Rattle.rows.proofs.row_neighbours.Statement.{statement}
 use Rattle.rows.proofs.row_neighbours.Tie as tie

@@ -1,6 +1,6 @@
 -- `rows::word_at` meets its contract: bytes shifted to places that do not overlap are joined.
-use native.Mathlib.Omega.{arith}
 use Prim.Native.Nat.{_+_}
+use native.Mathlib.Omega.{arith}
 use borrow.Author.Needs.{needs}
 use Rattle.rows.proofs.WordLaws.{word-at-joined}
 use Rattle.rows.proofs.word_at.Statement.{statement}

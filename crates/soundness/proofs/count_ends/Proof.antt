@@ -1,12 +1,12 @@
 -- `soundness::count_ends` meets its contract: what is left of the list and what is counted give what the whole list gives.
 -- The measure is what is left of the list.
+use mathlib.Core.Path.{sym, _∙_}
 use Prim.Native.Nat.{_-_}
 use native.Mathlib.Omega.{arith}
-use mathlib.Core.Path.{sym, _∙_}
-use borrow.Author.Needs.{needs}
-use borrow.Author.Tests.{not-true, not-false}
 use lib.Dec.{ltb, leb}
 use lib.ListN.{length, getD, take}
+use borrow.Author.Needs.{needs}
+use borrow.Author.Tests.{not-true, not-false}
 use Rattle.soundness.proofs.RowChecks.{Counting, counting-none, counting-self, counting-alone, counting-turn, counting-end, count-fits, marked-radio}
 use Rattle.soundness.proofs.count_ends.Statement.{statement}
 use Rattle.soundness.proofs.count_ends.Tie as tie

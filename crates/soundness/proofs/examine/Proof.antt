@@ -1,10 +1,10 @@
 -- `soundness::examine` meets its contract: with the order placed and its numbers rising, the rows decide (`sound-rows`).
 use native.Mathlib.Omega.{arith}
 use borrow.Author.Tests.{not-true, not-false}
+use borrow.Author.Needs.{needs}
 use Rattle.mesh.specs.Tables.{tables}
 use Rattle.calls.specs.Questions.{lengths-of}
 use Rattle.soundness.proofs.ExamineLaws.{examined-unfit, place-room, examined-unplaced, entries-below, examined-falls, rows-room, examined-rows}
-use borrow.Author.Needs.{needs}
 use Rattle.soundness.proofs.examine.Statement.{statement}
 use Rattle.soundness.proofs.examine.Tie as tie
 

@@ -1,8 +1,8 @@
 -- `soundness::is_sound` meets its contract: the two local tables have room for every site.
 use mathlib.Core.Path.{_∙_}
+use borrow.Author.Needs.{needs}
 use Rattle.mesh.specs.Tables.{tables}
 use Rattle.soundness.proofs.ExamineLaws.{examinable-room}
-use borrow.Author.Needs.{needs}
 use Rattle.soundness.proofs.is_sound.Statement.{statement}
 use Rattle.soundness.proofs.is_sound.Tie as tie
 

@@ -2,9 +2,10 @@
 -- place stood there before. The measure is what is left of the order.
 use Prim.Native.Nat.{_-_}
 use native.Mathlib.Omega.{arith}
-use borrow.Author.Needs.{needs}
 use lib.ListN.{length}
-use Rattle.soundness.proofs.CheckLoops.{Placing-so-far, placing-none, placing-high, placing-again, placing-room, placing-turn, placing-end, placing-not, placing-long}
+use borrow.Author.Needs.{needs}
+use Rattle.soundness.proofs.CheckLoops.{Placing-so-far, placing-none, placing-high, placing-again, placing-room, placing-turn, placing-end, placing-not}
+use Rattle.soundness.proofs.CheckLoops.{placing-long}
 use Rattle.soundness.proofs.place.Statement.{statement}
 use Rattle.soundness.proofs.place.Tie as tie
 

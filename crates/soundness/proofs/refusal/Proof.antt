@@ -1,10 +1,10 @@
 -- `soundness::refusal` meets its contract: the tests are the chain's questions, in its order.
 use mathlib.Core.Path.{sym, _∙_}
 use borrow.Author.Tests.{not-true, not-false}
+use borrow.Author.Needs.{needs}
 use Rattle.mesh.specs.Tables.{tables}
 use Rattle.calls.specs.Questions.{lengths-of, ask}
 use Rattle.soundness.proofs.ExamineLaws.{site-refused, site-lent, fits-sound-lent}
-use borrow.Author.Needs.{needs}
 use Rattle.soundness.proofs.refusal.Statement.{statement}
 use Rattle.soundness.proofs.refusal.Tie as tie
 

@@ -3,8 +3,8 @@
 use mathlib.Core.Path.{sym}
 use Prim.Native.Nat.{_-_}
 use native.Mathlib.Omega.{arith}
-use borrow.Author.Needs.{needs}
 use lib.ListN.{length}
+use borrow.Author.Needs.{needs}
 use Rattle.mesh.specs.Sound.{number-in}
 use Rattle.soundness.proofs.CheckLoops.{Rising-so-far, rising-none, rising-turn, rising-falls, rising-end}
 use Rattle.soundness.proofs.rises.Statement.{statement}

@@ -1,8 +1,8 @@
 -- `soundness::row_checked` meets its contract: what is listed are the row's neighbours, and each test is one condition of `row-good`.
 use native.Mathlib.Omega.{arith}
 use borrow.Author.Tests.{not-true, not-false}
-use Rattle.soundness.proofs.RowChecks.{row-many, row-ends-bad, row-later-bad, row-high-bad, row-right}
 use borrow.Author.Needs.{needs}
+use Rattle.soundness.proofs.RowChecks.{row-many, row-ends-bad, row-later-bad, row-high-bad, row-right}
 use Rattle.soundness.proofs.row_checked.Statement.{statement}
 use Rattle.soundness.proofs.row_checked.Tie as tie
 

@@ -1,6 +1,6 @@
 -- `pictures::say_image` is safe: each part lies within its table.
-use lib.Seq.{length-take-le}
 use mathlib.Core.Path.{sym}
+use lib.Seq.{length-take-le}
 use borrow.Author.Needs.{needs}
 use Rattle.cases.proofs.pictures.say_image.Statement.{statement}
 use Rattle.cases.proofs.pictures.say_image.Tie as tie

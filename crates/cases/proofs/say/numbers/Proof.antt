@@ -1,7 +1,7 @@
 -- `say::numbers` is safe and ends: the measure is how many turns are left.
 use Prim.Native.Nat.{_-_}
-use borrow.Author.Needs.{needs}
 use lib.ListN.{length}
+use borrow.Author.Needs.{needs}
 use Rattle.cases.proofs.say.numbers.Statement.{statement}
 use Rattle.cases.proofs.say.numbers.Tie as tie
 

@@ -1,7 +1,7 @@
 -- `say::radios` is safe and ends: the measure is how many turns are left.
 use Prim.Native.Nat.{_-_}
-use borrow.Author.Needs.{needs}
 use lib.ListN.{length}
+use borrow.Author.Needs.{needs}
 use Rattle.cases.proofs.say.radios.Statement.{statement}
 use Rattle.cases.proofs.say.radios.Tie as tie
 

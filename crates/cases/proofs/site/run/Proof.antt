@@ -1,6 +1,6 @@
 -- `site::run` is safe: each part lies within its table.
-use lib.Seq.{length-take-le}
 use mathlib.Core.Path.{sym}
+use lib.Seq.{length-take-le}
 use borrow.Author.Needs.{needs}
 use Rattle.cases.proofs.site.run.Statement.{statement}
 use Rattle.cases.proofs.site.run.Tie as tie

@@ -1,6 +1,6 @@
 -- `flood::is_floodable` meets its contract: the tests are the ones of `floodable`, in its order.
-use Rattle.floods.proofs.FloodSteps.{floodable-many, floodable-past, floodable-set, floodable-queue}
 use borrow.Author.Needs.{needs}
+use Rattle.floods.proofs.FloodSteps.{floodable-many, floodable-past, floodable-set, floodable-queue}
 use Rattle.floods.proofs.flood.is_floodable.Statement.{statement}
 use Rattle.floods.proofs.flood.is_floodable.Tie as tie
 

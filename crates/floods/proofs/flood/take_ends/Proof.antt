@@ -2,9 +2,9 @@
 use mathlib.Core.Path.{ap, _∙_}
 use mathlib.Core.List.{List}
 use Prim.Native.Nat.{ℕ}
+use borrow.Author.Needs.{needs}
 use Rattle.floods.specs.Floods.{flood-at, taken-all}
 use Rattle.floods.proofs.FloodSteps.{ends-listed-taken}
-use borrow.Author.Needs.{needs}
 use Rattle.floods.proofs.flood.take_ends.Statement.{statement}
 use Rattle.floods.proofs.flood.take_ends.Tie as tie
 

@@ -1,8 +1,8 @@
 -- `flood::take_one` meets its contract: each test that does not pass leaves the flood as it is, as in `taken-one`.
 use mathlib.Core.Path.{sym, _∙_}
+use borrow.Author.Needs.{needs}
 use Rattle.floods.specs.Floods.{flood-at}
 use Rattle.floods.proofs.FloodSteps.{taken-one-past, taken-one-low, taken-one-marked, taken-one-full, taken-one-in}
-use borrow.Author.Needs.{needs}
 use Rattle.floods.proofs.flood.take_one.Statement.{statement}
 use Rattle.floods.proofs.flood.take_one.Tie as tie
 

@@ -1,6 +1,6 @@
 -- `engine::clear` is safe: each part lies within its table.
-use lib.Seq.{length-take-le}
 use mathlib.Core.Path.{sym}
+use lib.Seq.{length-take-le}
 use borrow.Author.Needs.{needs}
 use Rattle.histories.proofs.engine.clear.Statement.{statement}
 use Rattle.histories.proofs.engine.clear.Tie as tie

@@ -1,6 +1,6 @@
 -- `engine::is_sound` is safe: each part lies within its table.
-use lib.Seq.{length-take-le}
 use mathlib.Core.Path.{sym}
+use lib.Seq.{length-take-le}
 use borrow.Author.Needs.{needs}
 use Rattle.histories.proofs.engine.is_sound.Statement.{statement}
 use Rattle.histories.proofs.engine.is_sound.Tie as tie

@@ -1,6 +1,6 @@
 -- `engine::link` is safe: each part lies within its table.
-use lib.Seq.{length-take-le}
 use mathlib.Core.Path.{sym}
+use lib.Seq.{length-take-le}
 use borrow.Author.Needs.{needs}
 use Rattle.histories.proofs.engine.link.Statement.{statement}
 use Rattle.histories.proofs.engine.link.Tie as tie

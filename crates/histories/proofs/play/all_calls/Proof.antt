@@ -1,8 +1,8 @@
 -- `play::all_calls` is safe and ends: every table keeps its length, and the measure is how many turns are left.
-use Prim.Native.Nat.{_-_}
-use borrow.Author.Needs.{needs}
-use lib.ListN.{length}
 use mathlib.Core.Path.{_≡_}
+use Prim.Native.Nat.{_-_}
+use lib.ListN.{length}
+use borrow.Author.Needs.{needs}
 use Rattle.histories.proofs.play.all_calls.Statement.{statement}
 use Rattle.histories.proofs.play.all_calls.Tie as tie
 

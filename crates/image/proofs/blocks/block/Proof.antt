@@ -1,9 +1,9 @@
 -- `blocks::block` meets its contract: a refusal, the end, or a block.
 use mathlib.Core.Path.{refl, sym, _∙_}
 use borrow.Author.Tests.{lt-ltb, le-ltb}
+use borrow.Author.Needs.{needs}
 use Rattle.calls.specs.Answers.{Block-contract, Block-accepted, Block-none}
 use Rattle.calls.proofs.ContractLaws.{by-accepted, by-refused}
-use borrow.Author.Needs.{needs}
 use Rattle.image.proofs.blocks.block.Statement.{statement}
 use Rattle.image.proofs.blocks.block.Tie as tie
 

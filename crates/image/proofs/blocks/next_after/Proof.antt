@@ -1,7 +1,7 @@
 -- `blocks::next_after` meets its contract: each return is a case of the definition.
 use borrow.Author.Tests.{eq-eqb, ne-eqb, lt-ltb, le-ltb}
-use Rattle.image.specs.Reader.{next-number}
 use borrow.Author.Needs.{needs}
+use Rattle.image.specs.Reader.{next-number}
 use Rattle.image.proofs.blocks.next_after.Statement.{statement}
 use Rattle.image.proofs.blocks.next_after.Tie as tie
 

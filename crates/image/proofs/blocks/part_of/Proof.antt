@@ -3,9 +3,9 @@ use mathlib.Core.Path.{_≡_, refl}
 use Prim.Native.Nat.{_+_, _*_, _-_}
 use native.Mathlib.Omega.{arith}
 use borrow.Author.Tests.{eq-eqb, ne-eqb, lt-ltb, le-ltb}
+use borrow.Author.Needs.{needs}
 use Rattle.mesh.specs.Image.{payload-at}
 use Rattle.image.specs.Reader.{part-given, part-start}
-use borrow.Author.Needs.{needs}
 use Rattle.image.proofs.blocks.part_of.Statement.{statement}
 use Rattle.image.proofs.blocks.part_of.Tie as tie
 

@@ -1,7 +1,7 @@
 -- `blocks::status` meets its contract: each return is a case of the definition.
 use borrow.Author.Tests.{eq-eqb, ne-eqb, lt-ltb, le-ltb}
-use Rattle.image.specs.Reader.{status-said}
 use borrow.Author.Needs.{needs}
+use Rattle.image.specs.Reader.{status-said}
 use Rattle.image.proofs.blocks.status.Statement.{statement}
 use Rattle.image.proofs.blocks.status.Tie as tie
 

@@ -3,8 +3,8 @@ use mathlib.Core.Path.{_≡_, sym, ap, _∙_}
 use Prim.Native.Nat.{_+_, _*_, _-_}
 use native.Mathlib.Omega.{arith}
 use lib.Dec.{eqb}
-use Rattle.image.proofs.CheckLaws.{block-check-is}
 use borrow.Author.Needs.{needs}
+use Rattle.image.proofs.CheckLaws.{block-check-is}
 use Rattle.image.proofs.checks.is_good.Statement.{statement}
 use Rattle.image.proofs.checks.is_good.Tie as tie
 

@@ -4,9 +4,9 @@ use mathlib.Core.Bool.{Bool}
 use Prim.Native.Nat.{ℕ, _-_}
 use native.Mathlib.Omega.{arith}
 use borrow.Author.Tests.{not-true, not-false}
+use borrow.Author.Needs.{needs}
 use Rattle.image.specs.Form.{block-formed, kind-of, used-of, blocks-formed}
 use Rattle.image.proofs.CheckLaws.{Testing, testing-none, testing-turn, testing-stop, testing-end}
-use borrow.Author.Needs.{needs}
 use Rattle.image.proofs.form.are_formed.Statement.{statement}
 use Rattle.image.proofs.form.are_formed.Tie as tie
 

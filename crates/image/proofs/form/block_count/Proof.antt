@@ -1,7 +1,7 @@
 -- `form::block_count` meets its contract: one block, the order's and the links'.
 use native.Mathlib.Omega.{arith}
-use Rattle.mesh.specs.Image.{order-blocks, block-count, blocks-for}
 use borrow.Author.Needs.{needs}
+use Rattle.mesh.specs.Image.{order-blocks, block-count, blocks-for}
 use Rattle.image.proofs.form.block_count.Statement.{statement}
 use Rattle.image.proofs.form.block_count.Tie as tie
 

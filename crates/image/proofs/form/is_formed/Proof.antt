@@ -1,7 +1,7 @@
 -- `form::is_formed` meets its contract: each test is a part of the definition.
 use borrow.Author.Tests.{eq-eqb, ne-eqb, lt-leb, le-leb}
-use Rattle.image.specs.Form.{is-formed}
 use borrow.Author.Needs.{needs}
+use Rattle.image.specs.Form.{is-formed}
 use Rattle.image.proofs.form.is_formed.Statement.{statement}
 use Rattle.image.proofs.form.is_formed.Tie as tie
 

@@ -1,7 +1,7 @@
 -- `form::link_blocks` meets its contract: rounded up.
 use native.Mathlib.Omega.{arith}
-use Rattle.mesh.specs.Image.{blocks-for}
 use borrow.Author.Needs.{needs}
+use Rattle.mesh.specs.Image.{blocks-for}
 use Rattle.image.proofs.form.link_blocks.Statement.{statement}
 use Rattle.image.proofs.form.link_blocks.Tie as tie
 

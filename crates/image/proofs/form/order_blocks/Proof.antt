@@ -1,7 +1,7 @@
 -- `form::order_blocks` meets its contract: rounded up.
 use native.Mathlib.Omega.{arith}
-use Rattle.mesh.specs.Image.{order-blocks, blocks-for}
 use borrow.Author.Needs.{needs}
+use Rattle.mesh.specs.Image.{order-blocks, blocks-for}
 use Rattle.image.proofs.form.order_blocks.Statement.{statement}
 use Rattle.image.proofs.form.order_blocks.Tie as tie
 

@@ -2,9 +2,9 @@
 use mathlib.Core.Path.{ap, _∙_}
 use Prim.Native.Nat.{ℕ, _-_, _*_, min}
 use native.Mathlib.Omega.{arith}
+use borrow.Author.Needs.{needs}
 use Rattle.mesh.specs.Image.{block-links, order-blocks, block-count, blocks-for}
 use Rattle.image.proofs.FormLaws.{plan-counts, plan-order, plan-links, links-most}
-use borrow.Author.Needs.{needs}
 use Rattle.image.proofs.form.plan_of.Statement.{statement}
 use Rattle.image.proofs.form.plan_of.Tie as tie
 

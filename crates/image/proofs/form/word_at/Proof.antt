@@ -1,9 +1,9 @@
 -- `form::word_at` meets its contract: two bytes, or none.
-use native.Mathlib.Omega.{arith}
 use Prim.Native.Nat.{_+_}
+use native.Mathlib.Omega.{arith}
 use lib.ListN.{List·getD-eq-default}
-use Rattle.mesh.specs.Image.{word-at}
 use borrow.Author.Needs.{needs}
+use Rattle.mesh.specs.Image.{word-at}
 use Rattle.image.proofs.form.word_at.Statement.{statement}
 use Rattle.image.proofs.form.word_at.Tie as tie
 

@@ -2,9 +2,9 @@
 use mathlib.Core.Path.{sym, ap, _∙_}
 use Prim.Native.Nat.{ℕ}
 use lib.ListN.{replicate}
+use borrow.Author.Needs.{needs}
 use Rattle.mesh.specs.Limits.{max-neighbours}
 use Rattle.image_reader.proofs.KOrderLaws.{few-tallied}
-use borrow.Author.Needs.{needs}
 use Rattle.image_reader.proofs.numbers.are_few.Statement.{statement}
 use Rattle.image_reader.proofs.numbers.are_few.Tie as tie
 

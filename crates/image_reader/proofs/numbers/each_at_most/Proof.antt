@@ -3,9 +3,9 @@ use mathlib.Core.Path.{sym}
 use Prim.Native.Nat.{_-_}
 use native.Mathlib.Omega.{arith}
 use lib.ListN.{length}
+use borrow.Author.Needs.{needs}
 use Rattle.image.proofs.CheckLaws.{Testing, testing-none, testing-end}
 use Rattle.image_reader.proofs.KOrderLaws.{at-most, at-most-turn, at-most-stop}
-use borrow.Author.Needs.{needs}
 use Rattle.image_reader.proofs.numbers.each_at_most.Statement.{statement}
 use Rattle.image_reader.proofs.numbers.each_at_most.Tie as tie
 

@@ -2,8 +2,8 @@
 use mathlib.Core.Path.{sym, _∙_}
 use native.Mathlib.Omega.{arith}
 use borrow.Author.Tests.{not-true, not-false}
-use Rattle.image_reader.proofs.KOrderLaws.{placed-once, not-placed, k-order-decided}
 use borrow.Author.Needs.{needs}
+use Rattle.image_reader.proofs.KOrderLaws.{placed-once, not-placed, k-order-decided}
 use Rattle.image_reader.proofs.numbers.is_k_order.Statement.{statement}
 use Rattle.image_reader.proofs.numbers.is_k_order.Tie as tie
 

@@ -3,8 +3,8 @@ use mathlib.Core.Path.{refl}
 use Prim.Native.Nat.{ℕ, _-_}
 use native.Mathlib.Omega.{arith}
 use lib.ListN.{length, getD}
-use Rattle.image_reader.proofs.MaximaLaws.{Running, running-none, running-turn, running-end, entry-room}
 use borrow.Author.Needs.{needs}
+use Rattle.image_reader.proofs.MaximaLaws.{Running, running-none, running-turn, running-end, entry-room}
 use Rattle.image_reader.proofs.numbers.run_maxima.Statement.{statement}
 use Rattle.image_reader.proofs.numbers.run_maxima.Tie as tie
 

@@ -4,8 +4,8 @@ use mathlib.Core.Path.{sym, _∙_}
 use Prim.Native.Nat.{_-_}
 use native.Mathlib.Omega.{arith}
 use borrow.Author.Tests.{not-true, not-false}
-use Rattle.image_reader.proofs.PairLaws.{Listed, listed-none, listed-turn, listed-not-lower, listed-no-radio, listed-not-after, listed-end}
 use borrow.Author.Needs.{needs}
+use Rattle.image_reader.proofs.PairLaws.{Listed, listed-none, listed-turn, listed-not-lower, listed-no-radio, listed-not-after, listed-end}
 use Rattle.image_reader.proofs.pairs.are_listed.Statement.{statement}
 use Rattle.image_reader.proofs.pairs.are_listed.Tie as tie
 

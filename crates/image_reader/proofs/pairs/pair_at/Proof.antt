@@ -2,8 +2,8 @@
 use mathlib.Core.Path.{ap, _∙_}
 use Prim.Native.Nat.{ℕ, _+_}
 use native.Mathlib.Omega.{arith}
-use Rattle.mesh.specs.Image.{block-links, word-at, image-link, entry-at, order-blocks, blocks-for}
 use borrow.Author.Needs.{needs}
+use Rattle.mesh.specs.Image.{block-links, word-at, image-link, entry-at, order-blocks, blocks-for}
 use Rattle.image_reader.proofs.pairs.pair_at.Statement.{statement}
 use Rattle.image_reader.proofs.pairs.pair_at.Tie as tie
 

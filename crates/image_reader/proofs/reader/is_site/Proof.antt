@@ -2,10 +2,10 @@
 use mathlib.Core.Path.{ap, _∙_}
 use Prim.Native.Nat.{ℕ}
 use borrow.Author.Tests.{not-true, not-false}
-use Rattle.mesh.specs.Image.{image-order}
-use Rattle.mesh.proofs.TableLaws.{Bytes}
-use Rattle.image_reader.proofs.SiteLaws.{not-formed, not-listed, not-few, is-ascending, tally-room, site-decided}
 use borrow.Author.Needs.{needs}
+use Rattle.mesh.specs.Image.{image-order}
+use Rattle.lists.specs.Lists.{Bytes}
+use Rattle.image_reader.proofs.SiteLaws.{not-formed, not-listed, not-few, is-ascending, tally-room, site-decided}
 use Rattle.image_reader.proofs.reader.is_site.Statement.{statement}
 use Rattle.image_reader.proofs.reader.is_site.Tie as tie
 

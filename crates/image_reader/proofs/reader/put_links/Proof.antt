@@ -3,8 +3,8 @@ use mathlib.Core.Path.{_≡_, refl, _∙_}
 use Prim.Native.Nat.{_-_, _≤_}
 use native.Mathlib.Omega.{arith}
 use lib.ListN.{length}
-use Rattle.image_reader.proofs.TableWritten.{Linking, linking-none, linking-turn, linking-end}
 use borrow.Author.Needs.{needs}
+use Rattle.image_reader.proofs.TableWritten.{Linking, linking-none, linking-turn, linking-end}
 use Rattle.image_reader.proofs.reader.put_links.Statement.{statement}
 use Rattle.image_reader.proofs.reader.put_links.Tie as tie
 

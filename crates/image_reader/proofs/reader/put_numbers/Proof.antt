@@ -3,8 +3,8 @@ use mathlib.Core.Path.{refl}
 use Prim.Native.Nat.{ℕ, _-_}
 use native.Mathlib.Omega.{arith}
 use lib.ListN.{length, getD}
-use Rattle.tables.proofs.WidthLaws.{Writing, writing-none, writing-turn, writing-all}
 use borrow.Author.Needs.{needs}
+use Rattle.tables.proofs.WidthLaws.{Writing, writing-none, writing-turn, writing-all}
 use Rattle.image_reader.proofs.reader.put_numbers.Statement.{statement}
 use Rattle.image_reader.proofs.reader.put_numbers.Tie as tie
 

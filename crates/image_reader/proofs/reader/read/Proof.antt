@@ -1,10 +1,10 @@
 -- `reader::read` meets its contract: the questions in turn, then the reading over scratch for each radio.
 use mathlib.Core.Path.{sym}
 use lib.Seq.{length-take-le}
+use borrow.Author.Needs.{needs}
 use Rattle.mesh.specs.Tables.{tables}
 use Rattle.calls.specs.Questions.{lengths-of}
 use Rattle.image_reader.proofs.ReadLaws.{read-not-lent, read-not-blocks, read-small, read-sized, read-room, read-asked}
-use borrow.Author.Needs.{needs}
 use Rattle.image_reader.proofs.reader.read.Statement.{statement}
 use Rattle.image_reader.proofs.reader.read.Tie as tie
 

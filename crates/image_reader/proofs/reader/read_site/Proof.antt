@@ -1,7 +1,7 @@
 -- `reader::read_site` meets its contract: nothing is written before question 11 got yes.
 use borrow.Author.Tests.{not-true, not-false}
-use Rattle.image_reader.proofs.SiteLaws.{site-refused, site-accepted, site-proper}
 use borrow.Author.Needs.{needs}
+use Rattle.image_reader.proofs.SiteLaws.{site-refused, site-accepted, site-proper}
 use Rattle.image_reader.proofs.reader.read_site.Statement.{statement}
 use Rattle.image_reader.proofs.reader.read_site.Tie as tie
 

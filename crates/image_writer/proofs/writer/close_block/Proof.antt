@@ -3,9 +3,9 @@ use mathlib.Core.Path.{ap, _∙_}
 use mathlib.Core.List.{List}
 use Prim.Native.Nat.{ℕ, _/_}
 use lib.Seq.{sets}
+use borrow.Author.Needs.{needs}
 use Rattle.mesh.specs.Image.{word}
 use Rattle.image_writer.proofs.FillerLaws.{sealed-sets}
-use borrow.Author.Needs.{needs}
 use Rattle.image_writer.proofs.writer.close_block.Statement.{statement}
 use Rattle.image_writer.proofs.writer.close_block.Tie as tie
 

@@ -1,9 +1,9 @@
 -- `writer::fill_block` meets its contract: the block's kind goes by its number.
 use Prim.Native.Nat.{_-_}
 use native.Mathlib.Omega.{arith}
+use borrow.Author.Needs.{needs}
 use Rattle.mesh.specs.Image.{order-blocks, blocks-for}
 use Rattle.image_writer.proofs.BlockFilling.{filled-counts, filled-order, filled-links}
-use borrow.Author.Needs.{needs}
 use Rattle.image_writer.proofs.writer.fill_block.Statement.{statement}
 use Rattle.image_writer.proofs.writer.fill_block.Tie as tie
 

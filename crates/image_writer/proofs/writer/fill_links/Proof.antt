@@ -4,12 +4,12 @@ use mathlib.Core.List.{List, flatMap}
 use Prim.Native.Nat.{ℕ}
 use lib.ListN.{take}
 use lib.Seq.{sets}
+use borrow.Author.Needs.{needs}
 use Rattle.mesh.specs.Image.{block-links, link-bytes}
 use Rattle.image_writer.specs.Filler.{sealed}
 use Rattle.image_writer.specs.Links.{links-from}
 use Rattle.image_writer.proofs.FillerLaws.{sealed-payload}
 use Rattle.image_writer.proofs.BlockFilling.{length-links-bytes}
-use borrow.Author.Needs.{needs}
 use Rattle.image_writer.proofs.writer.fill_links.Statement.{statement}
 use Rattle.image_writer.proofs.writer.fill_links.Tie as tie
 

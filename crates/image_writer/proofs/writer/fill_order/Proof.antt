@@ -3,10 +3,10 @@ use mathlib.Core.Path.{ap, _∙_}
 use mathlib.Core.List.{List, flatMap}
 use Prim.Native.Nat.{ℕ}
 use lib.Seq.{sets}
+use borrow.Author.Needs.{needs}
 use Rattle.mesh.specs.Image.{word}
 use Rattle.image_writer.specs.Filler.{sealed}
 use Rattle.image_writer.proofs.FillerLaws.{sealed-payload, order-part, length-order-bytes}
-use borrow.Author.Needs.{needs}
 use Rattle.image_writer.proofs.writer.fill_order.Statement.{statement}
 use Rattle.image_writer.proofs.writer.fill_order.Tie as tie
 

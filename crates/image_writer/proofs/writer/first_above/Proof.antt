@@ -1,8 +1,8 @@
 -- `writer::first_above` meets its contract: the entries passed are at most a. The measure is the places left.
 use Prim.Native.Nat.{_-_}
 use native.Mathlib.Omega.{arith}
-use Rattle.image_writer.proofs.UpperLaws.{Passing, passing-none, passing-turn}
 use borrow.Author.Needs.{needs}
+use Rattle.image_writer.proofs.UpperLaws.{Passing, passing-none, passing-turn}
 use Rattle.image_writer.proofs.writer.first_above.Statement.{statement}
 use Rattle.image_writer.proofs.writer.first_above.Tie as tie
 

@@ -1,7 +1,7 @@
 -- `writer::list_uppers` meets its contract: the first entry above a begins the upper part of the row's list.
 use native.Mathlib.Omega.{arith}
-use Rattle.image_writer.proofs.UpperLaws.{span-uppers, row-fits}
 use borrow.Author.Needs.{needs}
+use Rattle.image_writer.proofs.UpperLaws.{span-uppers, row-fits}
 use Rattle.image_writer.proofs.writer.list_uppers.Statement.{statement}
 use Rattle.image_writer.proofs.writer.list_uppers.Tie as tie
 

@@ -3,9 +3,9 @@ use mathlib.Core.Path.{ap, sym, _∙_}
 use mathlib.Core.List.{List}
 use Prim.Native.Nat.{ℕ, _+_}
 use lib.Seq.{sets}
-use Rattle.mesh.specs.Image.{word, link-bytes}
-use Rattle.rows.proofs.Listing.{sets-append}
 use borrow.Author.Needs.{needs}
+use Rattle.mesh.specs.Image.{word, link-bytes}
+use Rattle.lists.proofs.Overwrite.{sets-append}
 use Rattle.image_writer.proofs.writer.put_link.Statement.{statement}
 use Rattle.image_writer.proofs.writer.put_link.Tie as tie
 

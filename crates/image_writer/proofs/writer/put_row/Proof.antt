@@ -5,13 +5,14 @@ use Prim.Native.Nat.{ℕ, _+_, _*_, _-_, _≤_}
 use native.Mathlib.Omega.{arith}
 use lib.ListN.{take}
 use lib.Seq.{sets}
+use borrow.Author.Needs.{needs}
 use Rattle.mesh.specs.Graph.{Link, link-of}
 use Rattle.mesh.specs.Image.{link-bytes}
 use Rattle.mesh.proofs.ImageBlocks.{length-link-bytes}
 use Rattle.image_writer.specs.Links.{links-to}
 use Rattle.image_writer.proofs.FillerLaws.{Putting, putting-none, putting-turn}
-use Rattle.image_writer.proofs.UpperLaws.{take-map, length-links-to, getD-links-to}
-use borrow.Author.Needs.{needs}
+use Rattle.lists.proofs.Map.{take-map}
+use Rattle.image_writer.proofs.UpperLaws.{length-links-to, getD-links-to}
 use Rattle.image_writer.proofs.writer.put_row.Statement.{statement}
 use Rattle.image_writer.proofs.writer.put_row.Tie as tie
 

@@ -2,8 +2,8 @@
 use native.Mathlib.Omega.{arith}
 use native.Mathlib.Numerals.{add-one}
 use lib.ListN.{length-set}
-use Rattle.mesh.specs.Image.{word}
 use borrow.Author.Needs.{needs}
+use Rattle.mesh.specs.Image.{word}
 use Rattle.image_writer.proofs.writer.put_word.Statement.{statement}
 use Rattle.image_writer.proofs.writer.put_word.Tie as tie
 

@@ -2,11 +2,11 @@
 -- filled in.
 use mathlib.Core.Path.{refl, sym, ap, _∙_}
 use native.Mathlib.Omega.{arith}
+use borrow.Author.Needs.{needs}
 use Rattle.mesh.specs.Tables.{Tables, tables}
 use Rattle.mesh.specs.Image.{block-count, order-blocks, blocks-for}
 use Rattle.calls.specs.Questions.{lengths-of}
 use Rattle.image_writer.proofs.WriteLaws.{write-refused, write-small, write-order, write-rows, write-few, write-no-room, write-accepted}
-use borrow.Author.Needs.{needs}
 use Rattle.image_writer.proofs.writer.write.Statement.{statement}
 use Rattle.image_writer.proofs.writer.write.Tie as tie
 

@@ -1,8 +1,8 @@
 -- `changes::try_all` is safe and ends: the tables and the image keep their lengths, and the measure is what is left of the good image.
 use mathlib.Core.Path.{_≡_}
-use lib.ListN.{length}
 use Prim.Native.Nat.{_-_}
 use native.Mathlib.Omega.{arith}
+use lib.ListN.{length}
 use borrow.Author.Needs.{needs}
 use Rattle.images.proofs.changes.try_all.Statement.{statement}
 use Rattle.images.proofs.changes.try_all.Tie as tie

@@ -1,6 +1,6 @@
 -- `digest::bytes` is safe and ends: the measure is what is left of s.
-use lib.ListN.{length}
 use Prim.Native.Nat.{_-_}
+use lib.ListN.{length}
 use borrow.Author.Needs.{needs}
 use Rattle.images.proofs.digest.bytes.Statement.{statement}
 use Rattle.images.proofs.digest.bytes.Tie as tie

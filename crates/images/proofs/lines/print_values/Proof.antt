@@ -1,6 +1,6 @@
 -- `lines::print_values` is safe and ends: the measure is what is left of the values.
-use lib.ListN.{length}
 use Prim.Native.Nat.{_-_}
+use lib.ListN.{length}
 use borrow.Author.Needs.{needs}
 use Rattle.images.proofs.lines.print_values.Statement.{statement}
 use Rattle.images.proofs.lines.print_values.Tie as tie

@@ -1,6 +1,6 @@
 -- `pattern::is_kept` is safe and ends: the measure is what is left of s.
-use lib.ListN.{length}
 use Prim.Native.Nat.{_-_}
+use lib.ListN.{length}
 use borrow.Author.Needs.{needs}
 use Rattle.images.proofs.pattern.is_kept.Statement.{statement}
 use Rattle.images.proofs.pattern.is_kept.Tie as tie

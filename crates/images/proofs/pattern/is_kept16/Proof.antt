@@ -1,6 +1,6 @@
 -- `pattern::is_kept16` is safe and ends: the measure is what is left of s.
-use lib.ListN.{length}
 use Prim.Native.Nat.{_-_}
+use lib.ListN.{length}
 use borrow.Author.Needs.{needs}
 use Rattle.images.proofs.pattern.is_kept16.Statement.{statement}
 use Rattle.images.proofs.pattern.is_kept16.Tie as tie

@@ -1,7 +1,7 @@
 -- `reading::try_cases` is safe and ends: the tables keep their lengths, and the measure is what is left of the cases.
 use mathlib.Core.Path.{_≡_}
-use lib.ListN.{length}
 use Prim.Native.Nat.{_-_}
+use lib.ListN.{length}
 use borrow.Author.Needs.{needs}
 use Rattle.images.proofs.reading.try_cases.Statement.{statement}
 use Rattle.images.proofs.reading.try_cases.Tie as tie

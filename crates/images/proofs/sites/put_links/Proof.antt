@@ -1,9 +1,9 @@
 -- `sites::put_links` is safe and ends: the table keeps its length, and the measure is what is left of the count.
 use mathlib.Core.Path.{_≡_, ap, _∙_}
-use Rattle.mesh.proofs.TableLaws.{length-put-link}
-use lib.ListN.{length}
 use Prim.Native.Nat.{_-_}
+use lib.ListN.{length}
 use borrow.Author.Needs.{needs}
+use Rattle.mesh.proofs.TableLaws.{length-put-link}
 use Rattle.images.proofs.sites.put_links.Statement.{statement}
 use Rattle.images.proofs.sites.put_links.Tie as tie
 

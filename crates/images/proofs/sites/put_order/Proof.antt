@@ -1,7 +1,7 @@
 -- `sites::put_order` is safe and ends: the order keeps its length, and the measure is what is left of it.
 use mathlib.Core.Path.{_≡_}
-use lib.ListN.{length}
 use Prim.Native.Nat.{_-_}
+use lib.ListN.{length}
 use borrow.Author.Needs.{needs}
 use Rattle.images.proofs.sites.put_order.Statement.{statement}
 use Rattle.images.proofs.sites.put_order.Tie as tie

@@ -1,9 +1,9 @@
 -- `sites::put_star` is safe and ends: the table keeps its length, and the measure is what is left of k.
 use mathlib.Core.Path.{_≡_, ap, _∙_}
-use Rattle.mesh.proofs.TableLaws.{length-put-link}
-use lib.ListN.{length}
 use Prim.Native.Nat.{_-_}
+use lib.ListN.{length}
 use borrow.Author.Needs.{needs}
+use Rattle.mesh.proofs.TableLaws.{length-put-link}
 use Rattle.images.proofs.sites.put_star.Statement.{statement}
 use Rattle.images.proofs.sites.put_star.Tie as tie
 

@@ -1,10 +1,10 @@
 -- `apply::apply` meets its contract: each table is written by one call, and what these write is the accepted outcome.
 use mathlib.Core.Path.{refl}
 use lib.ListN.{length}
+use borrow.Author.Needs.{needs}
 use Rattle.mesh.specs.Tables.{tables}
 use Rattle.links.proofs.ChangeLaws.{counted-step-held}
 use Rattle.links.proofs.Applied.{radios-planned, stretch-fits, applied}
-use borrow.Author.Needs.{needs}
 use Rattle.links.proofs.apply.apply.Statement.{statement}
 use Rattle.links.proofs.apply.apply.Tie as tie
 

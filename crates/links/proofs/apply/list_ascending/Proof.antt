@@ -3,10 +3,10 @@ use mathlib.Core.Path.{refl, ap, _∙_}
 use mathlib.Core.List.{List}
 use Prim.Native.Nat.{ℕ}
 use lib.ListN.{length, take}
-use Rattle.mesh.specs.Lists.{overwrite}
+use borrow.Author.Needs.{needs}
+use Rattle.lists.specs.Lists.{overwrite}
 use Rattle.rows.specs.Rows.{row-listed}
 use Rattle.links.proofs.Marking.{row-listed-all-marked}
-use borrow.Author.Needs.{needs}
 use Rattle.links.proofs.apply.list_ascending.Statement.{statement}
 use Rattle.links.proofs.apply.list_ascending.Tie as tie
 

@@ -5,12 +5,12 @@ use Prim.Native.Nat.{ℕ}
 use native.Mathlib.Nat.{le-trans}
 use lib.ListN.{length, take}
 use lib.Seq.{length-take-le}
+use borrow.Author.Needs.{needs}
 use Rattle.mesh.specs.Limits.{max-radios}
-use Rattle.mesh.specs.Lists.{overwrite}
+use Rattle.lists.specs.Lists.{overwrite}
 use Rattle.soundness.specs.Checks.{Entries-below}
 use Rattle.links.specs.Changes.{in-order}
 use Rattle.links.proofs.ChangeLaws.{changed-part-up, changed-part-down}
-use borrow.Author.Needs.{needs}
 use Rattle.links.proofs.apply.list_changed.Statement.{statement}
 use Rattle.links.proofs.apply.list_changed.Tie as tie
 

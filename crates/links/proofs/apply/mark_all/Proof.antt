@@ -2,8 +2,8 @@
 -- The measure is what is left of the list.
 use Prim.Native.Nat.{_-_}
 use native.Mathlib.Omega.{arith}
-use borrow.Author.Needs.{needs}
 use lib.ListN.{length}
+use borrow.Author.Needs.{needs}
 use Rattle.links.proofs.Marking.{Marking, marking-none, marking-turn, marking-end}
 use Rattle.links.proofs.apply.mark_all.Statement.{statement}
 use Rattle.links.proofs.apply.mark_all.Tie as tie

@@ -2,8 +2,8 @@
 use mathlib.Core.Path.{refl, sym}
 use native.Mathlib.Omega.{arith}
 use lib.Seq.{length-take-le}
-use Rattle.links.proofs.ChangeLaws.{paste-stretch}
 use borrow.Author.Needs.{needs}
+use Rattle.links.proofs.ChangeLaws.{paste-stretch}
 use Rattle.links.proofs.apply.put_stretch.Statement.{statement}
 use Rattle.links.proofs.apply.put_stretch.Tie as tie
 

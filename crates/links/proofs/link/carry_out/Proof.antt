@@ -1,8 +1,8 @@
 -- `link::carry_out` meets its contract: a plan made of sound tables applies to them.
 use lib.ListN.{length}
+use borrow.Author.Needs.{needs}
 use Rattle.mesh.specs.Tables.{tables}
 use Rattle.links.proofs.Asking.{ready-applicable}
-use borrow.Author.Needs.{needs}
 use Rattle.links.proofs.link.carry_out.Statement.{statement}
 use Rattle.links.proofs.link.carry_out.Tie as tie
 

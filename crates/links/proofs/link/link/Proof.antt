@@ -1,8 +1,8 @@
 -- `link::link` meets its contract: a refusal touches nothing but scratch, and an accepted call is carried out.
 use mathlib.Core.Path.{refl}
+use borrow.Author.Needs.{needs}
 use Rattle.mesh.specs.Tables.{tables}
 use Rattle.links.proofs.CallLaws.{link-refused, link-ready, order-fits, answer-fits, link-accepted}
-use borrow.Author.Needs.{needs}
 use Rattle.links.proofs.link.link.Statement.{statement}
 use Rattle.links.proofs.link.link.Tie as tie
 

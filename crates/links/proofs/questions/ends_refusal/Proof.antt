@@ -3,11 +3,11 @@
 use mathlib.Core.Path.{sym, _∙_}
 use native.Mathlib.Omega.{arith}
 use borrow.Author.Tests.{not-true, not-false}
+use borrow.Author.Needs.{needs}
 use Rattle.mesh.specs.Limits.{max-neighbours}
 use Rattle.mesh.specs.Tables.{graph-in}
-use Rattle.links.proofs.EndsLaws.{linked-marked, degree-listed, ends-four-first, ends-four-second, ends-five, ends-six, ends-down}
-use Rattle.links.proofs.EndsLaws.{ends-seven-first, ends-seven-second, ends-up}
-use borrow.Author.Needs.{needs}
+use Rattle.links.proofs.EndsLaws.{linked-marked, degree-listed, ends-four-first, ends-four-second, ends-five, ends-six, ends-down, ends-seven-first}
+use Rattle.links.proofs.EndsLaws.{ends-seven-second, ends-up}
 use Rattle.links.proofs.questions.ends_refusal.Statement.{statement}
 use Rattle.links.proofs.questions.ends_refusal.Tie as tie
 

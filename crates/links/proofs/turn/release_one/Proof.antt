@@ -1,7 +1,7 @@
 -- `turn::release_one` meets its contract: each branch stores what `counter-less` and `place-marked` name.
+use mathlib.Core.Path.{_∙_}
 use native.Mathlib.Omega.{arith}
 use borrow.Author.Needs.{needs}
-use mathlib.Core.Path.{_∙_}
 use Rattle.links.proofs.TurnLoops.{release-fits, release-unfit, release-other}
 use Rattle.links.proofs.turn.release_one.Statement.{statement}
 use Rattle.links.proofs.turn.release_one.Tie as tie

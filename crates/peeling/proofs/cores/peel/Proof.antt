@@ -1,8 +1,8 @@
 -- `cores::peel` is safe and ends: every table keeps its length, and the measure is how many turns are left.
-use Prim.Native.Nat.{_-_}
-use borrow.Author.Needs.{needs}
-use lib.ListN.{length}
 use mathlib.Core.Path.{_≡_}
+use Prim.Native.Nat.{_-_}
+use lib.ListN.{length}
+use borrow.Author.Needs.{needs}
 use Rattle.peeling.proofs.cores.peel.Statement.{statement}
 use Rattle.peeling.proofs.cores.peel.Tie as tie
 

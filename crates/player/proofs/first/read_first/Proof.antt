@@ -2,8 +2,8 @@
 use mathlib.Core.Path.{sym}
 use native.Mathlib.Omega.{arith}
 use lib.Seq.{length-take-le}
-use Rattle.player.proofs.PlayLaws.{radios-of-le}
 use borrow.Author.Needs.{needs}
+use Rattle.player.proofs.PlayLaws.{radios-of-le}
 use Rattle.player.proofs.first.read_first.Statement.{statement}
 use Rattle.player.proofs.first.read_first.Tie as tie
 

@@ -1,7 +1,7 @@
 -- `machine::finish` meets its contract: bytes are held exactly where the smaller of their count and the line's room is not 0.
 use mathlib.Core.Path.{sym, _∙_}
-use Rattle.player.proofs.MachineLaws.{puts-open, puts-closing}
 use borrow.Author.Needs.{needs}
+use Rattle.player.proofs.MachineLaws.{puts-open, puts-closing}
 use Rattle.player.proofs.machine.finish.Statement.{statement}
 use Rattle.player.proofs.machine.finish.Tie as tie
 

@@ -1,6 +1,6 @@
 -- `machine::next_number` meets its contract: the two cases of counting.
-use Rattle.player.proofs.MachineLaws.{next-number-last, next-number-more}
 use borrow.Author.Needs.{needs}
+use Rattle.player.proofs.MachineLaws.{next-number-last, next-number-more}
 use Rattle.player.proofs.machine.next_number.Statement.{statement}
 use Rattle.player.proofs.machine.next_number.Tie as tie
 

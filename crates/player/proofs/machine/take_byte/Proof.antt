@@ -1,15 +1,15 @@
 -- `machine::take_byte` meets its contract: each way through it is one thing that the machine does with a byte.
 use mathlib.Core.Path.{refl, sym, _∙_}
-use native.Mathlib.Omega.{arith}
-use borrow.Author.Tests.{not-true, not-false}
-use lib.ListN.{length-set}
-use lib.Seq.{length-take-le}
 use mathlib.Core.Bool.{true}
 use Prim.Native.Nat.{_+_}
+use native.Mathlib.Omega.{arith}
+use lib.ListN.{length-set}
+use lib.Seq.{length-take-le}
+use borrow.Author.Tests.{not-true, not-false}
+use borrow.Author.Needs.{needs}
 use Rattle.mesh.specs.Tables.{tables}
 use Rattle.player.specs.declared.machine.Progress.{Progress}
 use Rattle.player.proofs.ByteLaws.{byte-long, byte-held, byte-call, byte-bad}
-use borrow.Author.Needs.{needs}
 use Rattle.player.proofs.machine.take_byte.Statement.{statement}
 use Rattle.player.proofs.machine.take_byte.Tie as tie
 

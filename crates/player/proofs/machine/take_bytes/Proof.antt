@@ -1,11 +1,11 @@
 -- `machine::take_bytes` meets its contract: the bytes passed so far are taken, and the measure is what is left of the chunk.
 use mathlib.Core.Path.{_≡_, refl, sym, _∙_}
 use mathlib.Core.Bool.{true≢false}
-use borrow.Author.Tests.{not-true, not-false}
 use Prim.Native.Nat.{_+_, _-_, _≤_, _<_}
 use native.Mathlib.Omega.{arith}
-use borrow.Author.Needs.{needs}
 use lib.ListN.{length}
+use borrow.Author.Tests.{not-true, not-false}
+use borrow.Author.Needs.{needs}
 use Rattle.mesh.specs.Tables.{tables}
 use Rattle.printing.specs.Print.{lent, max-place}
 use Rattle.player.specs.Machine.{spot, full, longest}

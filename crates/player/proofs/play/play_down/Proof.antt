@@ -1,9 +1,9 @@
 -- `play::play_down` meets its contract: the line put is the one of the reply that the call gave.
+use mathlib.Core.Bool.{false}
 use mir.Syntax.{w8}
 use mir.Facts.{toZ-ofZ}
-use mathlib.Core.Bool.{false}
-use Rattle.player.proofs.LineLaws.{called-prints}
 use borrow.Author.Needs.{needs}
+use Rattle.player.proofs.LineLaws.{called-prints}
 use Rattle.player.proofs.play.play_down.Statement.{statement}
 use Rattle.player.proofs.play.play_down.Tie as tie
 

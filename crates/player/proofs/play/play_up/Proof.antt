@@ -1,9 +1,9 @@
 -- `play::play_up` meets its contract: the line put is the one of the reply that the call gave.
+use mathlib.Core.Bool.{true}
 use mir.Syntax.{w8}
 use mir.Facts.{toZ-ofZ}
-use mathlib.Core.Bool.{true}
-use Rattle.player.proofs.LineLaws.{called-prints}
 use borrow.Author.Needs.{needs}
+use Rattle.player.proofs.LineLaws.{called-prints}
 use Rattle.player.proofs.play.play_up.Statement.{statement}
 use Rattle.player.proofs.play.play_up.Tie as tie
 

@@ -4,9 +4,9 @@ use mathlib.Core.Path.{_≡_, refl}
 use mathlib.Core.Bool.{true}
 use Prim.Native.Nat.{_<_}
 use native.Mathlib.Omega.{arith}
+use lib.ListN.{length}
 use borrow.Author.Needs.{needs}
 use borrow.Author.Tests.{not-false}
-use lib.ListN.{length}
 use Rattle.player.specs.Machine.{full}
 use Rattle.player.proofs.reading.read_turns.Statement.{statement}
 use Rattle.player.proofs.reading.read_turns.Tie as tie

@@ -2,9 +2,9 @@
 use mathlib.Core.Path.{_≡_}
 use Prim.Native.Nat.{_-_, _<_}
 use native.Mathlib.Omega.{arith}
+use lib.ListN.{length}
 use borrow.Author.Needs.{needs}
 use borrow.Author.Tests.{not-false}
-use lib.ListN.{length}
 use Rattle.player.specs.Machine.{full}
 use Rattle.player.proofs.reading.take_chunk.Statement.{statement}
 use Rattle.player.proofs.reading.take_chunk.Tie as tie

@@ -1,8 +1,8 @@
 -- `backbone::backbone` meets its contract: on sound tables the entries are the numbers, so the radios of the greatest entry are the
 -- backbone.
+use borrow.Author.Needs.{needs}
 use Rattle.mesh.specs.Tables.{tables}
 use Rattle.queries.proofs.LevelLaws.{backbone-refused, backbone-room, backbone-empty, backbone-listed}
-use borrow.Author.Needs.{needs}
 use Rattle.queries.proofs.backbone.backbone.Statement.{statement}
 use Rattle.queries.proofs.backbone.backbone.Tie as tie
 

@@ -1,7 +1,7 @@
 -- `backbone::list_one` meets its contract: the test is that of `count-one` and `listed-one`.
 use borrow.Author.Tests.{eq-eqb, ne-eqb}
-use Rattle.queries.specs.Levels.{count-one, listed-one}
 use borrow.Author.Needs.{needs}
+use Rattle.queries.specs.Levels.{count-one, listed-one}
 use Rattle.queries.proofs.backbone.list_one.Statement.{statement}
 use Rattle.queries.proofs.backbone.list_one.Tie as tie
 

@@ -1,9 +1,9 @@
 -- `cores::core` meets its contract: the flood of a cleared set is the connected core, and its bits are listed ascending.
 use mathlib.Core.Path.{refl, sym, _∙_}
 use native.Mathlib.Omega.{arith}
+use borrow.Author.Needs.{needs}
 use Rattle.mesh.specs.Tables.{tables}
 use Rattle.queries.proofs.CoreLaws.{core-refused, core-level, core-listed}
-use borrow.Author.Needs.{needs}
 use Rattle.queries.proofs.cores.core.Statement.{statement}
 use Rattle.queries.proofs.cores.core.Tie as tie
 

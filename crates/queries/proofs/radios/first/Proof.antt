@@ -1,8 +1,8 @@
 -- `radios::first` meets its contract: the order is walked.
 use mathlib.Core.Path.{sym, _∙_}
+use borrow.Author.Needs.{needs}
 use Rattle.mesh.specs.Tables.{tables}
 use Rattle.queries.proofs.AnswerLaws.{first-refused, first-answered}
-use borrow.Author.Needs.{needs}
 use Rattle.queries.proofs.radios.first.Statement.{statement}
 use Rattle.queries.proofs.radios.first.Tie as tie
 

@@ -1,8 +1,8 @@
 -- `radios::first_of_two` meets its contract: what is left of the list decides. The measure is what is left of it.
+use mathlib.Core.Path.{refl}
 use Prim.Native.Nat.{_-_}
 use native.Mathlib.Omega.{arith}
 use lib.ListN.{length}
-use mathlib.Core.Path.{refl}
 use borrow.Author.Needs.{needs}
 use Rattle.queries.proofs.AnswerLaws.{First-so-far, first-is-a, first-is-b, first-later, first-neither}
 use Rattle.queries.proofs.radios.first_of_two.Statement.{statement}

@@ -1,8 +1,8 @@
 -- `radios::linked` meets its contract: the bit says whether there is a link.
 use mathlib.Core.Path.{sym, _∙_}
+use borrow.Author.Needs.{needs}
 use Rattle.mesh.specs.Tables.{tables}
 use Rattle.queries.proofs.AnswerLaws.{linked-refused, linked-answered}
-use borrow.Author.Needs.{needs}
 use Rattle.queries.proofs.radios.linked.Statement.{statement}
 use Rattle.queries.proofs.radios.linked.Tie as tie
 

@@ -1,8 +1,8 @@
 -- `radios::neighbours` meets its contract: the bits of a row count the neighbours.
 use mathlib.Core.Path.{sym, _∙_}
+use borrow.Author.Needs.{needs}
 use Rattle.mesh.specs.Tables.{tables}
 use Rattle.queries.proofs.AnswerLaws.{neighbours-refused, neighbours-answered}
-use borrow.Author.Needs.{needs}
 use Rattle.queries.proofs.radios.neighbours.Statement.{statement}
 use Rattle.queries.proofs.radios.neighbours.Tie as tie
 

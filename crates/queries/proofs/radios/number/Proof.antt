@@ -1,9 +1,9 @@
 -- `radios::number` meets its contract: on sound tables the entry is the number.
 use mathlib.Core.Path.{sym, _∙_}
 use native.Mathlib.Omega.{arith}
+use borrow.Author.Needs.{needs}
 use Rattle.mesh.specs.Tables.{tables}
 use Rattle.queries.proofs.AnswerLaws.{number-refused, number-answered, radio-site, radio-below}
-use borrow.Author.Needs.{needs}
 use Rattle.queries.proofs.radios.number.Statement.{statement}
 use Rattle.queries.proofs.radios.number.Tie as tie
 

@@ -1,9 +1,9 @@
 -- `radios::radio_refusal` meets its contract: questions 1 to 3, and 4 after them.
+use borrow.Author.Needs.{needs}
 use Rattle.mesh.specs.Sound.{sound}
 use Rattle.mesh.specs.Tables.{tables}
 use Rattle.calls.specs.Questions.{lengths-of}
 use Rattle.queries.proofs.RefusalLaws.{radio-no, radio-four, radio-none}
-use borrow.Author.Needs.{needs}
 use Rattle.queries.proofs.radios.radio_refusal.Statement.{statement}
 use Rattle.queries.proofs.radios.radio_refusal.Tie as tie
 

@@ -1,10 +1,10 @@
 -- `fill::index16` meets its contract: 16-bit entries being written, each its own index. The measure is what is left of d.
+use mathlib.Core.Path.{refl}
 use Prim.Native.Nat.{ℕ, _-_}
 use native.Mathlib.Omega.{arith}
-use borrow.Author.Needs.{needs}
 use lib.ListN.{length}
+use borrow.Author.Needs.{needs}
 use Rattle.tables.proofs.WidthLaws.{Writing, writing-none, writing-turn, writing-all}
-use mathlib.Core.Path.{refl}
 use Rattle.tables.proofs.fill.index16.Statement.{statement}
 use Rattle.tables.proofs.fill.index16.Tie as tie
 

@@ -3,11 +3,11 @@ use mathlib.Core.Path.{sym, ap, _∙_}
 use mathlib.Core.List.{List}
 use Prim.Native.Nat.{ℕ}
 use native.Mathlib.Omega.{arith}
-use borrow.Author.Needs.{needs}
 use lib.ListN.{length, take}
 use lib.Seq.{length-take-le}
-use Rattle.mesh.specs.Lists.{overwrite}
-use Rattle.tables.proofs.WidthLaws.{take-min}
+use borrow.Author.Needs.{needs}
+use Rattle.lists.specs.Lists.{overwrite}
+use Rattle.lists.proofs.Parts.{take-min}
 use Rattle.tables.proofs.fill.write_list.Statement.{statement}
 use Rattle.tables.proofs.fill.write_list.Tie as tie
 

@@ -1,8 +1,8 @@
 -- `sizes::with_nodes` meets its contract: n + 1 places are more than n, so that no sum is made.
+use Prim.Native.Nat.{_+_}
 use native.Mathlib.Omega.{arith}
 use borrow.Author.Needs.{needs}
 use borrow.Author.Tests.{lt-leb, le-leb}
-use Prim.Native.Nat.{_+_}
 use Rattle.calls.specs.Questions.{answer-length, nodes-length}
 use Rattle.tables.proofs.sizes.with_nodes.Statement.{statement}
 use Rattle.tables.proofs.sizes.with_nodes.Tie as tie

@@ -3,13 +3,13 @@
 use mathlib.Core.Path.{sym, ap, _∙_}
 use Prim.Native.Nat.{_-_}
 use native.Mathlib.Omega.{arith}
-use borrow.Author.Needs.{needs}
-use lib.IntN.{ℤ}
-use lib.ListN.{getD, take, length-take}
-use lib.Seq.{getD-take}
 use mir.Syntax.{w8}
 use mir.Val.{toZ}
 use mir.Facts.{toZ-ofZ}
+use lib.IntN.{ℤ}
+use lib.ListN.{getD, take, length-take}
+use lib.Seq.{getD-take}
+use borrow.Author.Needs.{needs}
 use Rattle.tables.specs.Steps.{all-stepped}
 use Rattle.tables.proofs.StepLaws.{Stepping, stepping-none, stepping-turn, stepping-end}
 use Rattle.tables.proofs.steps.step_numbers.Statement.{statement}

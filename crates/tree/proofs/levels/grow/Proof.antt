@@ -1,8 +1,8 @@
 -- `levels::grow` meets its contract: before each level the lists are right if they were so with the root alone (`Treeing`). The
 -- measure is what is left of the levels.
+use mathlib.Core.Path.{_≡_, refl, sym, ap, _∙_}
 use Prim.Native.Nat.{_+_, _-_, _≤_, _<_}
 use native.Mathlib.Omega.{arith}
-use mathlib.Core.Path.{_≡_, refl, sym, ap, _∙_}
 use lib.ListN.{length, length-set}
 use borrow.Author.Needs.{needs}
 use Rattle.tree.specs.Trees.{lists}

@@ -1,9 +1,9 @@
 -- `levels::shell_tree` meets its contract: questions 1 to 3 give the number, and where it is 0 the tables are sound, so that the
 -- tree grows.
-use Rattle.tree.specs.Trees.{lists}
-use Rattle.tree.proofs.TreeAnswer.{places-least, tree-refused, tree-small, tree-answer, tree-accepted}
 use mathlib.Core.Path.{refl}
 use borrow.Author.Needs.{needs}
+use Rattle.tree.specs.Trees.{lists}
+use Rattle.tree.proofs.TreeAnswer.{places-least, tree-refused, tree-small, tree-answer, tree-accepted}
 use Rattle.tree.proofs.levels.shell_tree.Statement.{statement}
 use Rattle.tree.proofs.levels.shell_tree.Tie as tie
 

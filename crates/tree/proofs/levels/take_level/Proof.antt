@@ -1,8 +1,8 @@
 -- `levels::take_level` meets its contract: before each radio the set and the lists are right if they were so at the level's start
 -- (`Levelling`). The measure is what is left of the radios.
+use mathlib.Core.Path.{ap, _∙_}
 use Prim.Native.Nat.{ℕ, _-_}
 use native.Mathlib.Omega.{arith}
-use mathlib.Core.Path.{ap, _∙_}
 use lib.ListN.{length, length-replicate}
 use borrow.Author.Needs.{needs}
 use Rattle.tree.specs.Trees.{lists}

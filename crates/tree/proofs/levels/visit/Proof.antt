@@ -1,9 +1,9 @@
 -- `levels::visit` meets its contract: it tests what `takes-node` does, in its order.
 use mathlib.Core.Path.{sym, _∙_}
 use native.Mathlib.Omega.{arith}
+use borrow.Author.Needs.{needs}
 use Rattle.tree.specs.Trees.{lists}
 use Rattle.tree.proofs.VisitSteps.{visited-other, visited-marked, visited-node}
-use borrow.Author.Needs.{needs}
 use Rattle.tree.proofs.levels.visit.Statement.{statement}
 use Rattle.tree.proofs.levels.visit.Tie as tie
 

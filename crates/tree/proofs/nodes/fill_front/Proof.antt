@@ -1,8 +1,8 @@
 -- `nodes::fill_front` meets its contract: 16-bit entries being written, each the same value. The measure is what is left.
+use mathlib.Core.Path.{sym}
 use Prim.Native.Nat.{ℕ, _-_, _≤_}
 use native.Mathlib.Omega.{arith}
 use native.Mathlib.Nat.{mod-eq-of-lt}
-use mathlib.Core.Path.{sym}
 use borrow.Author.Needs.{needs}
 use Rattle.tables.proofs.WidthLaws.{Writing, writing-none, writing-turn}
 use Rattle.tree.proofs.NodeWrites.{filling-end}

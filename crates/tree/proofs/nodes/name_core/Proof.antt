@@ -1,6 +1,6 @@
 -- `nodes::name_core` meets its contract: what is named are the radios that came in, all of them.
-use Rattle.tree.proofs.NodeWrites.{core-named}
 use borrow.Author.Needs.{needs}
+use Rattle.tree.proofs.NodeWrites.{core-named}
 use Rattle.tree.proofs.nodes.name_core.Statement.{statement}
 use Rattle.tree.proofs.nodes.name_core.Tie as tie
 

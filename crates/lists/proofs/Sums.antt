@@ -1,24 +1,13 @@
--- Laws of lists: sums of a function over a list, and counts.
---   total f xs   the sum of f over xs
-use mathlib.Core.Path.{_≡_, refl, sym, ap, _∙_}
+-- Sums
+use mathlib.Core.Path.{refl, _≡_, ap}
 use mathlib.Core.Logic.{inl, inr}
-use mathlib.Core.Bool.{Bool, true, false, _||_, cond}
+use mathlib.Core.Bool.{Bool, cond}
 use mathlib.Core.List.{List, [], _∷_, flatMap}
-use Prim.Native.Nat.{ℕ, zero, suc, _+_, _*_, _≤_, _<_}
+use Prim.Native.Nat.{ℕ, _*_, _≤_, zero, suc, _+_}
 use native.Mathlib.Omega.{arith}
-use native.Mathlib.Nat.{mul-suc, le-antisymm}
-use lib.Dec.{eqb}
+use native.Mathlib.Nat.{mul-suc}
 use lib.ListN.{length, length-append}
-use borrow.Author.Tests.{eq-eqb}
-use Rattle.mesh.specs.Lists.{range, count}
-use Rattle.mesh.proofs.BoolLaws.{never}
-use Rattle.mesh.proofs.ListLaws.{In, in-range, distinct-range, distinct-one, count-mono, count-pos}
-
--- ---- sums
-
-abbrev pub total : (ℕ → ℕ) → List ℕ → ℕ
-total f [] = 0
-total f (x ∷ xs) = f x + total f xs
+use Rattle.lists.specs.Lists.{In, total, range, count}
 
 pub total-le : (f : ℕ → ℕ) (most : ℕ) (xs : List ℕ) → ((x : ℕ) → In x xs → f x ≤ most) → total f xs ≤ most * length xs
 total-le f most [] h = omega arith
@@ -49,26 +38,3 @@ pub total-bits : (f h : ℕ → ℕ) (p q : ℕ → Bool) (xs : List ℕ) → ((
 unfolding count
 total-bits f h p q [] k = refl
 total-bits f h p q (x ∷ xs) k = omega (arith, k x, total-bits f h p q xs k)
-
--- ---- counts
-
-pub count-cong : (f h : ℕ → Bool) (xs : List ℕ) → ((x : ℕ) → f x ≡ h x) → count f xs ≡ count h xs
-count-cong f h xs e = le-antisymm (count-mono f h xs (λ x m p. sym (e x) ∙ p)) (count-mono h f xs (λ x m p. e x ∙ p))
-
--- tests that never pass together
-pub count-or : (f h : ℕ → Bool) (xs : List ℕ) → ((x : ℕ) → f x ≡ true → h x ≡ false) → count (λ x. f x || h x) xs ≡ count f xs + count h xs
-unfolding count
-count-or f h [] e = refl
-count-or f h (x ∷ xs) e = omega (arith, count-or f h xs e, bits (f x) (h x) (e x))
-  where
-    bits : (s t : Bool) → (s ≡ true → t ≡ false) → cond (s || t) 1 0 ≡ cond {A = ℕ} s 1 0 + cond t 1 0
-    bits true true k = never true refl (k refl)
-    bits true false k = refl
-    bits false t k = omega arith
-
-pub count-range-one : (n v : ℕ) → v < n → count (λ x. eqb x v) (range 0 n) ≡ 1
-count-range-one n v h = omega (
-  arith,
-  distinct-one v (range 0 n) (distinct-range 0 n),
-  count-pos (λ x. eqb x v) v (range 0 n) (in-range 0 n v (omega arith) (omega arith)) (eq-eqb v v refl),
-)

@@ -1,21 +1,22 @@
--- Laws of lists: parts of equal length joined, lists of bytes, a list read entry by entry.
-use mathlib.Core.Path.{_≡_, refl, sym, ap, ap₂, _∙_}
+-- Parts
+use mathlib.Core.Path.{_≡_, sym, ap, _∙_, refl, ap₂}
 use mathlib.Core.Logic.{_⊎_, inl, inr}
 use mathlib.Core.Bool.{true, false}
-use mathlib.Core.List.{List, [], _∷_, _++_, map, flatMap}
-use Prim.Native.Nat.{ℕ, zero, suc, _+_, _*_, _≤_, _<_}
+use mathlib.Core.List.{List, [], _∷_, _++_, flatMap}
+use Prim.Native.Nat.{ℕ, zero, suc, _+_, _*_, _<_, _≤_, min, _-_}
 use native.Mathlib.Omega.{arith}
-use native.Mathlib.Nat.{mul-suc}
+use native.Mathlib.Nat.{mul-suc, zero-min, suc-min-suc, sub-zero, zero-sub, suc-sub-suc}
+use native.Mathlib.Numerals.{add-one}
+use lib.ListN.{replicate, length-replicate, getD-replicate, length, getD, take, drop, length-append, List·getD-append, length-drop, take-append-drop}
+use lib.ListN.{List·getD-eq-default, length-take}
+use lib.Seq.{getD-append-add, drop-append-add, take-at, drop-drop, take-take, getD-drop, take-nil, take-all, drop-cons, take-suc}
 use lib.Dec.{ltb}
-use lib.ListN.{length, getD, take, drop, length-append, length-drop, take-append-drop, List·getD-append, List·getD-eq-default}
-use lib.Seq.{getD-drop, take-take, drop-drop, getD-append-add, drop-append-add, take-at}
 use borrow.Author.Tests.{ltb-true, ltb-false}
-use Rattle.mesh.specs.Lists.{range}
-use Rattle.mesh.proofs.BoolLaws.{bool-cases}
-use Rattle.mesh.proofs.ListLaws.{In}
-use Rattle.mesh.proofs.TableLaws.{Bytes}
+use Rattle.lists.specs.Lists.{Bytes, range}
+use Rattle.lists.proofs.Tests.{bool-cases}
 
--- ---- parts of equal length, joined
+pub bytes-replicate : (k : ℕ) → Bytes (replicate k 0)
+bytes-replicate k i h = rw (getD-replicate {A = ℕ} k i 0 0 (omega (arith, length-replicate {A = ℕ} k 0))) (omega arith)
 
 module _ {A : Type 0} (f : A → List ℕ) (size : ℕ) (sizes : (x : A) → length (f x) ≡ size) where
   pub length-flatMap : (xs : List A) → length (flatMap f xs) ≡ size * length xs
@@ -69,36 +70,6 @@ take-drop-take (suc k) m zero xs h = absurd (omega arith)
 take-drop-take (suc k) m (suc s) [] h = refl
 take-drop-take (suc k) m (suc s) (x ∷ xs) h = take-drop-take k m s xs (omega arith)
 
--- ---- entry by entry
-
-pub getD-range : (i k v : ℕ) → v < k → getD (range i k) v 0 ≡ i + v
-unfolding range
-getD-range i zero v h = absurd (omega arith)
-getD-range i (suc k) zero h = omega arith
-getD-range i (suc k) (suc v) h = omega (arith, getD-range (suc i) k v (omega arith))
-
-pub getD-map-range : {A : Type 0} (d : A) (f : ℕ → A) (i k v : ℕ) → v < k → getD (map f (range i k)) v d ≡ f (i + v)
-unfolding range
-getD-map-range d f i zero v h = absurd (omega arith)
-getD-map-range d f i (suc k) zero h = ap f (omega arith)
-getD-map-range d f i (suc k) (suc v) h = getD-map-range d f (suc i) k v (omega arith) ∙ ap f (omega arith)
-
-pub in-getD : (xs : List ℕ) (j : ℕ) → j < length xs → In (getD xs j 0) xs
-in-getD [] j h = absurd (omega arith)
-in-getD (x ∷ xs) zero h = inl refl
-in-getD (x ∷ xs) (suc j) h = inr (in-getD xs j (omega arith))
-
--- what each entry is read as, mapped over the places, is the list
-pub map-range-getD : {A : Type 0} (d : A) (f : ℕ → A) (i : ℕ) (xs : List A) → ((j : ℕ) → j < length xs → f (i + j) ≡ getD xs j d)
-    → map f (range i (length xs)) ≡ xs
-unfolding range
-map-range-getD d f i [] h = refl
-map-range-getD {A} d f i (x ∷ xs) h =
-    ap₂ {C = List A} (λ y ys. y ∷ ys) (ap f (omega arith) ∙ h 0 (omega arith))
-    (map-range-getD d f (suc i) xs (λ j l. ap f (omega arith) ∙ h (suc j) (omega arith)))
-
--- ---- bytes
-
 -- a place past the end reads as zero
 pub getD-bytes : (bs : List ℕ) → Bytes bs → (i : ℕ) → getD bs i 0 < 256
 getD-bytes bs b i = go (bool-cases (ltb i (length bs)))
@@ -127,3 +98,47 @@ pub bytes-flatMap : {A : Type 0} (f : A → List ℕ) → ((x : A) → Bytes (f 
 unfolding flatMap
 bytes-flatMap f b [] = λ i l. absurd (omega arith)
 bytes-flatMap f b (x ∷ xs) = bytes-append (f x) (flatMap f xs) (b x) (bytes-flatMap f b xs)
+
+pub getD-zeros : (k j : ℕ) → getD {A = ℕ} (replicate k 0) j 0 ≡ 0
+getD-zeros zero j = refl
+getD-zeros (suc k) zero = refl
+getD-zeros (suc k) (suc j) = getD-zeros k j
+
+pub getD-append-zeros : (xs : List ℕ) (k j : ℕ) → getD (xs ++ replicate k 0) j 0 ≡ getD xs j 0
+getD-append-zeros [] k j = getD-zeros k j
+getD-append-zeros (x ∷ xs) k zero = refl
+getD-append-zeros (x ∷ xs) k (suc j) = getD-append-zeros xs k j
+
+pub take-min : (k : ℕ) (s : List ℕ) → take (min k (length s)) s ≡ take k s
+take-min zero s = ap (λ n. take n s) (zero-min (length s))
+take-min (suc k) [] = take-nil (min (suc k) 0)
+take-min (suc k) (x ∷ s) = ap (λ n. take n (x ∷ s)) (suc-min-suc k (length s)) ∙ ap {B = List ℕ} (λ t. x ∷ t) (take-min k s)
+
+-- what a caller knows of a list that fits, and of a table of the same length
+pub take-take-fits : (k m : ℕ) (s : List ℕ) → k ≤ m → take m (take k s) ≡ take k s
+take-take-fits k m s h = take-all m (take k s) (omega (arith, length-take k s))
+
+-- the pieces of a text are its bytes
+pub drop-first : (text : List ℕ) (i : ℕ) → i < length text → drop i text ≡ (getD text i 0 ∷ []) ++ drop (i + 1) text
+drop-first text i h = rw (add-one i) (drop-cons text i 0 h)
+
+pub drop-replicate : (j k : ℕ) (x : ℕ) → drop j (replicate k x) ≡ replicate (k - j) x
+drop-replicate zero k x = let e : k - 0 ≡ k = omega arith in rw e
+drop-replicate (suc j) zero x = let e : 0 - suc j ≡ 0 = omega arith in rw e
+drop-replicate (suc j) (suc k) x = let e : suc k - suc j ≡ k - j = omega arith in rw e (drop-replicate j k x)
+
+pub drop-take : (k m : ℕ) (xs : List ℕ) → drop k (take m xs) ≡ take (m - k) (drop k xs)
+drop-take zero m xs = ap (λ (i : ℕ). take i xs) (sym (sub-zero m))
+drop-take (suc k) zero xs = ap (λ (i : ℕ). take i (drop (suc k) xs)) (sym (zero-sub (suc k)))
+drop-take (suc k) (suc m) [] = sym (take-nil (suc m - suc k))
+drop-take (suc k) (suc m) (x ∷ xs) = drop-take k m xs ∙ ap (λ (i : ℕ). take i (drop k xs)) (sym (suc-sub-suc m k))
+
+-- the part grows by the byte at i
+pub part-more : (chunk : List ℕ) (from i : ℕ) → from ≤ i → i < length chunk
+    → take (i + 1 - from) (drop from chunk) ≡ take (i - from) (drop from chunk) ++ (getD chunk i 0 ∷ [])
+part-more chunk from i l h =
+    let longer : i + 1 - from ≡ suc (i - from) = omega arith in
+    let place : from + (i - from) ≡ i = omega arith in
+    ap (λ (k : ℕ). take k (drop from chunk)) longer
+    ∙ take-suc (drop from chunk) (i - from) 0 (omega (arith, length-drop from chunk))
+    ∙ ap (λ (x : ℕ). take (i - from) (drop from chunk) ++ (x ∷ [])) (getD-drop from chunk (i - from) 0 ∙ ap (λ (k : ℕ). getD chunk k 0) place)

@@ -1,11 +1,17 @@
--- Laws of tests: cases, && and ||, and a test as 0 or 1.
+-- Tests
 use mathlib.Core.Path.{_≡_, refl, sym}
 use mathlib.Core.Logic.{_⊎_, inl, inr}
-use mathlib.Core.Bool.{Bool, true, false, _&&_, _||_, cond, or-true, Bool·beq}
-use Prim.Native.Nat.{ℕ, _≤_, _<_}
+use mathlib.Core.Bool.{Bool, true, false, cond, _&&_, _||_, or-true, Bool·beq}
+use Prim.Native.Nat.{ℕ, _≤_, _<_, _+_}
 use native.Mathlib.Omega.{arith}
-use lib.Dec.{ltb}
-use borrow.Author.Tests.{ltb-true, ltb-false}
+use mir.Val.{boolByte}
+use lib.Dec.{ltb, eqb, leb}
+use borrow.Author.Tests.{ltb-true, ltb-false, lt-ltb, leb-true, le-leb}
+
+-- a test as a number
+pub byte-bit : (t : Bool) → boolByte t ≡ cond {A = ℕ} t 1 0
+byte-bit true = refl
+byte-bit false = refl
 
 -- a test's value, with the equation: what is matched in place of `with`
 pub bool-cases : (b : Bool) → (b ≡ true) ⊎ (b ≡ false)
@@ -77,3 +83,21 @@ trichotomy a b = go (bool-cases (ltb a b)) (bool-cases (ltb b a))
     go (inl e) q = inl (ltb-true a b e)
     go (inr e) (inl q) = inr (inr (ltb-true b a q))
     go (inr e) (inr q) = inr (inl (omega (arith, ltb-false a b e, ltb-false b a q)))
+
+pub bit-digit : (t : Bool) → eqb (cond t 1 0) 1 ≡ t
+bit-digit true = refl
+bit-digit false = refl
+
+pub swap-or : (x y z : Bool) → (x || (y || z)) ≡ (y || (x || z))
+swap-or true y z = sym (or-true y)
+swap-or false y z = refl
+
+-- below the next number is not above the number
+pub ltb-next : (a b : ℕ) → ltb a (b + 1) ≡ leb a b
+ltb-next a b = iff-eq (ltb a (b + 1)) (leb a b) (λ e. le-leb a b (omega (arith, ltb-true a (b + 1) e))) (λ e. lt-ltb a (b + 1) (omega (arith, leb-true a b e)))
+
+pub cond-false : {A : Type 0} (c : Bool) (x y : A) → c ≡ false → cond c x y ≡ y
+cond-false c x y e = rw e
+
+pub cond-true : {A : Type 0} (c : Bool) (x y : A) → c ≡ true → cond c x y ≡ x
+cond-true c x y e = rw e

@@ -1,0 +1,12 @@
+pub mod All
+pub mod Ascending
+pub mod Count
+pub mod Distinct
+pub mod Filter
+pub mod Map
+pub mod Member
+pub mod Overwrite
+pub mod Parts
+pub mod Range
+pub mod Sums
+pub mod Tests

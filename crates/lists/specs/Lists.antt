@@ -1,0 +1,77 @@
+-- Lists
+use mathlib.Core.Path.{_≡_}
+use mathlib.Core.Logic.{_⊎_}
+use mathlib.Core.Bool.{Bool, cond, false, _||_, true, _&&_}
+use mathlib.Core.List.{List, [], _∷_, _++_}
+use Prim.Native.Nat.{ℕ, zero, suc, _+_, _<_, _≤_}
+use lib.Dec.{eqb}
+use lib.ListN.{length, drop, getD}
+
+unfoldable pub range : (i k : ℕ) → List ℕ
+range i zero = []
+range i (suc k) = i ∷ range (suc i) k
+
+unfoldable pub count : (ℕ → Bool) → List ℕ → ℕ
+count f [] = 0
+count f (x ∷ xs) = cond (f x) 1 0 + count f xs
+
+unfoldable pub filter : (ℕ → Bool) → List ℕ → List ℕ
+filter f [] = []
+filter f (x ∷ xs) = let rest = filter f xs in cond (f x) (x ∷ rest) rest
+
+unfoldable pub member : ℕ → List ℕ → Bool
+member v [] = false
+member v (x ∷ xs) = eqb x v || member v xs
+
+unfoldable pub all : (ℕ → Bool) → List ℕ → Bool
+all f [] = true
+all f (x ∷ xs) = f x && all f xs
+
+unfoldable pub same : (xs ys : List ℕ) → Bool
+same [] [] = true
+same [] (y ∷ ys) = false
+same (x ∷ xs) [] = false
+same (x ∷ xs) (y ∷ ys) = eqb x y && same xs ys
+
+unfoldable pub head-or : (default : ℕ) → List ℕ → ℕ
+head-or d [] = d
+head-or d (x ∷ xs) = x
+
+unfoldable pub overwrite : {A : Type 0} → (new old : List A) → List A
+overwrite new old = new ++ drop (length new) old
+
+abbrev pub total : (ℕ → ℕ) → List ℕ → ℕ
+total f [] = 0
+total f (x ∷ xs) = f x + total f xs
+
+-- every entry is below 256
+abbrev pub Bytes : List ℕ → Type 0
+Bytes ts = (i : ℕ) → i < length ts → getD ts i 0 < 256
+
+abbrev pub In : ℕ → List ℕ → Type 0
+In v [] = ⊥
+In v (x ∷ xs) = (x ≡ v) ⊎ In v xs
+
+-- no later entry has a smaller number
+abbrev pub Rising : (num : ℕ → ℕ) → List ℕ → Type 0
+Rising num [] = Unit {0}
+Rising num (x ∷ xs) = ((w : ℕ) → In w xs → num x ≤ num w) × Rising num xs
+
+-- radios below n, each once, ascending
+abbrev pub Ascending-below : ℕ → List ℕ → Type 0
+Ascending-below n xs = xs ≡ filter (λ w. member w xs) (range 0 n)
+
+abbrev pub Distinct : List ℕ → Type 0
+Distinct [] = Unit {0}
+Distinct (x ∷ xs) = (In x xs → ⊥) × Distinct xs
+
+abbrev pub Permutation : List ℕ → List ℕ → Type 0
+Permutation xs ys = (f : ℕ → Bool) → count f xs ≡ count f ys
+
+abbrev pub Each-once : ℕ → List ℕ → Type 0
+Each-once n xs = Permutation xs (range 0 n)
+
+-- each entry is below all later ones
+abbrev pub Ascending : List ℕ → Type 0
+Ascending [] = Unit {0}
+Ascending (x ∷ xs) = ((v : ℕ) → In v xs → x < v) × Ascending xs
