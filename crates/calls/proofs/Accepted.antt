@@ -24,17 +24,17 @@ use Rattle.mesh.specs.Tree.{Is-tree, Node-name, tree, node-name, node-names}
 use Rattle.mesh.specs.Image.{image-of, image-graph, image-order, is-image}
 use Rattle.mesh.specs.declared.Node.{Node}
 use Rattle.lists.proofs.Overwrite.{take-overwrite}
-use Rattle.mesh.proofs.Peeling.{number-core, getD-numbers}
-use Rattle.mesh.proofs.Soundness.{valid-sound}
-use Rattle.mesh.proofs.Sites.{image-valid}
-use Rattle.mesh.proofs.Reach.{core-of-iff}
-use Rattle.mesh.proofs.ShellNames.{node-name-right}
-use Rattle.mesh.proofs.TreeLaws.{tree-right}
-use Rattle.mesh.proofs.LinkLaws.{link-valid}
-use Rattle.mesh.proofs.ImageOf.{length-image-of, whole-blocks-image-of, checks-good-image-of}
-use Rattle.mesh.proofs.ImageSites.{written-read}
-use Rattle.mesh.proofs.ImageTables.{Tables-of-size, valid-graph-in, is-image-sound, tables-read-written}
-use Rattle.mesh.proofs.Valid.{Valid}
+use Rattle.mesh.proofs.Cores.Peeling.{number-core, getD-numbers}
+use Rattle.mesh.proofs.Tables.Soundness.{valid-sound}
+use Rattle.mesh.proofs.Tables.Sites.{image-valid}
+use Rattle.mesh.proofs.Trees.Reach.{core-of-iff}
+use Rattle.mesh.proofs.Trees.ShellNames.{node-name-right}
+use Rattle.mesh.proofs.Trees.Laws.{tree-right}
+use Rattle.mesh.proofs.Links.Laws.{link-valid}
+use Rattle.mesh.proofs.Images.Of.{length-image-of, whole-blocks-image-of, checks-good-image-of}
+use Rattle.mesh.proofs.Images.Sites.{written-read}
+use Rattle.mesh.proofs.Images.Tables.{Tables-of-size, valid-graph-in, is-image-sound, tables-read-written}
+use Rattle.mesh.specs.Valid.{Valid}
 use Rattle.calls.specs.Questions.{By-number, lengths-of, image-length, link-refusal, core-refusal, tree-refusal, write-refusal, read-refusal}
 use Rattle.calls.specs.Writes.{Tables-refused, Link-accepted, Link-refused, Link-contract, Read-accepted, Read-contract}
 use Rattle.calls.specs.Answers.{Listing-accepted, Listing-refused, Core-contract, Write-contract, Tree-accepted, Tree-refused, Tree-contract}

@@ -14,7 +14,7 @@ use Rattle.mesh.specs.Graph.{Graph}
 use Rattle.mesh.specs.Cores.{number}
 use Rattle.mesh.specs.Image.{whole-blocks, checks-good, is-image}
 use Rattle.lists.proofs.Tests.{and-left, and-right}
-use Rattle.mesh.proofs.Valid.{Allowed}
+use Rattle.mesh.specs.Valid.{Allowed}
 use Rattle.calls.specs.Questions.{ask, Lengths, size-good, site-lengths, answer-length, are-radios, is-radio, ends-differ, can-switch, has-room}
 use Rattle.calls.specs.Questions.{has-level, image-length, holds-image, lent-refusal, site-refusal, ends-refusal, link-refusal, radio-refusal}
 use Rattle.calls.specs.Questions.{pair-refusal, core-refusal, level-refusal, write-refusal, blocks-refusal, image-refusal, read-refusal}

@@ -16,10 +16,10 @@ use Rattle.mesh.specs.Levels.{changed, lower-level, new-order}
 use Rattle.mesh.specs.Tables.{tables-of}
 use Rattle.mesh.specs.Sound.{number-in}
 use Rattle.lists.proofs.Tests.{bool-cases}
-use Rattle.mesh.proofs.Peeling.{length-numbers, getD-numbers}
-use Rattle.mesh.proofs.Valid.{Valid, Allowed, smaller, larger}
-use Rattle.mesh.proofs.LinkCall.{changed-below, unchanged-number}
-use Rattle.mesh.proofs.LinkLaws.{link-level, link-by-one, link-connected, link-has-end, link-below, link-above, link-stretch, link-table}
+use Rattle.mesh.proofs.Cores.Peeling.{length-numbers, getD-numbers}
+use Rattle.mesh.specs.Valid.{Valid, Allowed, smaller, larger}
+use Rattle.mesh.proofs.Links.Call.{changed-below, unchanged-number}
+use Rattle.mesh.proofs.Links.Laws.{link-level, link-by-one, link-connected, link-has-end, link-below, link-above, link-stretch, link-table}
 use Rattle.calls.specs.Book.{reported}
 use Rattle.calls.specs.Demand.{By-one, graph-with-link, Changed-end, Link-kept}
 

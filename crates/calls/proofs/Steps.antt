@@ -17,13 +17,13 @@ use Rattle.mesh.specs.Tables.{Tables, graph-in, tables-of}
 use Rattle.mesh.specs.Sound.{sound}
 use Rattle.mesh.specs.Image.{image-graph, image-links, image-order}
 use Rattle.lists.proofs.Overwrite.{take-overwrite}
-use Rattle.mesh.proofs.Peeling.{length-numbers}
-use Rattle.mesh.proofs.TableLaws.{links-table-cleared}
-use Rattle.mesh.proofs.ReadBack.{graph-in-links-table}
-use Rattle.mesh.proofs.Soundness.{valid-sound}
-use Rattle.mesh.proofs.Sites.{valid-cleared, numbers-cleared, image-valid}
-use Rattle.mesh.proofs.LinkLaws.{link-valid, link-table}
-use Rattle.mesh.proofs.Valid.{Valid, Allowed}
+use Rattle.mesh.proofs.Cores.Peeling.{length-numbers}
+use Rattle.mesh.proofs.Tables.Laws.{links-table-cleared}
+use Rattle.mesh.proofs.Tables.ReadBack.{graph-in-links-table}
+use Rattle.mesh.proofs.Tables.Soundness.{valid-sound}
+use Rattle.mesh.proofs.Tables.Sites.{valid-cleared, numbers-cleared, image-valid}
+use Rattle.mesh.proofs.Links.Laws.{link-valid, link-table}
+use Rattle.mesh.specs.Valid.{Valid, Allowed}
 use Rattle.calls.specs.Questions.{By-number, lengths-of, answer-length, site-refusal, tables-refusal, link-refusal, read-refusal}
 use Rattle.calls.specs.Writes.{Tables-refused, Clear-accepted, Clear-contract, Link-accepted, Link-refused, Link-contract, Read-accepted, Read-contract}
 use Rattle.calls.specs.Book.{Answer, plain, reported, book-number, accepted-answer, accepted-pairs, answer-by, pairs-by, book-answer, book-pairs}

@@ -14,7 +14,7 @@ use Rattle.calls.specs.Writes.{Tables-refused, Clear-accepted, Clear-con
 use Rattle.calls.specs.Book.{Answer, book-pairs, book-answers, book-after}
 use Rattle.calls.specs.Runs.{linking, given, Event, event, Run, ended, next, givens, answers}
 use Rattle.calls.specs.Demand.{Link-kept, Start, cleared, read, Demand-3}
-use Rattle.mesh.proofs.Peeling.{number-core, getD-numbers}
+use Rattle.mesh.proofs.Cores.Peeling.{number-core, getD-numbers}
 use Rattle.calls.proofs.Steps.{Holds, clear-holds, read-holds, Link-part, step, is-sound}
 
 -- each accepted link call of a list

@@ -18,7 +18,7 @@ use Rattle.mesh.specs.Tables.{Tables, marked, graph-in}
 use Rattle.mesh.specs.Connected.{Reachable, here, onward, at-least, In-core, core-of}
 use Rattle.lists.proofs.Tests.{and-left, and-right, iff-eq}
 use Rattle.lists.proofs.Member.{member-in}
-use Rattle.mesh.proofs.Reach.{reachable-below, core-of-iff}
+use Rattle.mesh.proofs.Trees.Reach.{reachable-below, core-of-iff}
 use Rattle.rows.proofs.RowListLaws.{in-neighbours-of, member-neighbours-of}
 use Rattle.floods.specs.Floods.{ends-listed, takes-in, Spread, Flood-done}
 use Rattle.floods.proofs.SoundSite.{Sound-site, linked-marked, number-entry, ends-listed-neighbours}

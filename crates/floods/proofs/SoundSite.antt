@@ -12,10 +12,10 @@ use Rattle.mesh.specs.Cores.{number, numbers}
 use Rattle.mesh.specs.Tables.{Tables, marked, graph-in}
 use Rattle.mesh.specs.Sound.{symmetric, irreflexive, within, few, rows-proper, sound}
 use Rattle.lists.proofs.Tests.{and-left, and-right}
-use Rattle.mesh.proofs.RowLaws.{few-of}
-use Rattle.mesh.proofs.Peeling.{getD-numbers}
-use Rattle.mesh.proofs.ReadBack.{linked-graph-in, degree-graph-in}
-use Rattle.mesh.proofs.Soundness.{Right, sound-right}
+use Rattle.mesh.proofs.Tables.Rows.{few-of}
+use Rattle.mesh.proofs.Cores.Peeling.{getD-numbers}
+use Rattle.mesh.proofs.Tables.ReadBack.{linked-graph-in, degree-graph-in}
+use Rattle.mesh.proofs.Tables.Soundness.{Right, sound-right}
 use Rattle.calls.specs.Questions.{lengths-of}
 use Rattle.calls.proofs.QuestionLaws.{Site-lengths}
 use Rattle.rows.specs.Rows.{neighbours-of, row-listed}

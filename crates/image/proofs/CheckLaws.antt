@@ -15,8 +15,8 @@ use Rattle.lists.specs.Lists.{range, all, same}
 use Rattle.mesh.specs.Image.{block-bytes, weighted-sum, check-sum, block-check, long}
 use Rattle.lists.proofs.Tests.{iff-eq}
 use Rattle.lists.proofs.All.{same-eq, same-refl}
-use Rattle.mesh.proofs.ImageLaws.{check-sum-snoc}
-use Rattle.mesh.proofs.WordLaws.{long-of-long}
+use Rattle.mesh.proofs.Images.Laws.{check-sum-snoc}
+use Rattle.mesh.proofs.Images.Words.{long-of-long}
 use Rattle.lists.proofs.Parts.{take-min}
 use Rattle.image.specs.Bytes.{long-at}
 

@@ -17,10 +17,10 @@ use Rattle.mesh.specs.Image.{image-order, image-links, image-graph, checks-good
 use Rattle.lists.proofs.Tests.{and-left, and-right, and-both}
 use Rattle.lists.proofs.All.{all-below, below-all}
 use Rattle.lists.specs.Lists.{Bytes}
-use Rattle.mesh.proofs.ImageBlocks.{length-order-payload, length-links-payload}
-use Rattle.mesh.proofs.ImageOf.{kind-at, content-at}
-use Rattle.mesh.proofs.ImageCanonical.{Canonical, length-image-links, length-image-order, is-image-canonical}
-use Rattle.mesh.proofs.Valid.{Valid}
+use Rattle.mesh.proofs.Images.Blocks.{length-order-payload, length-links-payload}
+use Rattle.mesh.proofs.Images.Of.{kind-at, content-at}
+use Rattle.mesh.proofs.Images.Canonical.{Canonical, length-image-links, length-image-order, is-image-canonical}
+use Rattle.mesh.specs.Valid.{Valid}
 use Rattle.image.specs.Form.{zeros, kind-of, used-of, block-formed, blocks-formed, is-formed}
 
 -- ---- the plan of a block, by its kind

@@ -20,9 +20,9 @@ use Rattle.lists.proofs.Count.{count-ext, count-all, count-cong}
 use Rattle.lists.proofs.All.{all-below, below-all, all-range-ext}
 use Rattle.lists.proofs.Range.{once-below, once-length}
 use Rattle.mesh.proofs.GraphLaws.{linked-self, linked-by-proper, proper-of, degree-in}
-use Rattle.mesh.proofs.OrderLaws.{each-once-of, Enough}
-use Rattle.mesh.proofs.OtherEnds.{ends-neighbours-in}
-use Rattle.mesh.proofs.RunningCertificate.{is-k-order-running, running-number}
+use Rattle.mesh.proofs.Cores.Orders.{each-once-of, Enough}
+use Rattle.mesh.proofs.Tables.OtherEnds.{ends-neighbours-in}
+use Rattle.mesh.proofs.Cores.RunningCertificate.{is-k-order-running, running-number}
 use Rattle.soundness.specs.Checks.{Placed, Places-found}
 use Rattle.soundness.proofs.CheckLaws.{count-later}
 use Rattle.image.proofs.CheckLaws.{Testing, testing-turn, testing-stop}

@@ -13,7 +13,7 @@ use Rattle.mesh.specs.Graph.{neighbours-among}
 use Rattle.mesh.specs.Orders.{each-once, running-maxima}
 use Rattle.lists.proofs.Distinct.{distinct-apart}
 use Rattle.lists.proofs.Range.{once-distinct, once-below}
-use Rattle.mesh.proofs.OrderLaws.{each-once-of}
+use Rattle.mesh.proofs.Cores.Orders.{each-once-of}
 use Rattle.lists.proofs.Member.{in-getD}
 use Rattle.image_reader.specs.Reading.{tops}
 use Rattle.lists.proofs.Map.{map-append, map-ext}

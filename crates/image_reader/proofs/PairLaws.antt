@@ -11,7 +11,7 @@ use Rattle.lists.specs.Lists.{range}
 use Rattle.mesh.specs.Graph.{Link, link-of, link-before, proper, ascending}
 use Rattle.mesh.specs.Image.{block-entries, word-at, entry-at, image-link, image-order}
 use Rattle.lists.proofs.Tests.{bool-cases, trichotomy}
-use Rattle.mesh.proofs.AscendingLinks.{link-eq}
+use Rattle.mesh.proofs.Tables.AscendingLinks.{link-eq}
 use Rattle.tables.specs.Widths.{values}
 use Rattle.tables.proofs.WidthLaws.{values-below}
 use Rattle.image_reader.specs.Pairs.{links-up-to, Pair-at, listed-from}

@@ -18,11 +18,11 @@ use Rattle.mesh.specs.Tables.{Tables, tables, links-table}
 use Rattle.mesh.specs.Image.{word-at, image-order, image-links, image-graph, checks-good, is-image}
 use Rattle.lists.proofs.Tests.{bool-cases, never, iff-eq, and-left, and-right, and-both}
 use Rattle.lists.proofs.Map.{getD-map-range}
-use Rattle.mesh.proofs.Peeling.{length-numbers, getD-numbers}
-use Rattle.mesh.proofs.Sites.{image-valid}
-use Rattle.mesh.proofs.ImageTables.{number-most}
-use Rattle.mesh.proofs.ImageCanonical.{length-image-order}
-use Rattle.mesh.proofs.Valid.{Valid}
+use Rattle.mesh.proofs.Cores.Peeling.{length-numbers, getD-numbers}
+use Rattle.mesh.proofs.Tables.Sites.{image-valid}
+use Rattle.mesh.proofs.Images.Tables.{number-most}
+use Rattle.mesh.proofs.Images.Canonical.{length-image-order}
+use Rattle.mesh.specs.Valid.{Valid}
 use Rattle.tables.specs.Widths.{values}
 use Rattle.tables.proofs.WidthLaws.{length-values, values-below}
 use Rattle.lists.proofs.Overwrite.{overwrite-take}

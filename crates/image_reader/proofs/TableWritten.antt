@@ -11,9 +11,9 @@ use Rattle.mesh.specs.Graph.{Link, link-of, graph, other-ends, linked, proper}
 use Rattle.mesh.specs.Tables.{put-link, links-table}
 use Rattle.mesh.specs.Image.{image-link}
 use Rattle.mesh.proofs.GraphLaws.{ends, joins, linked-by, linked-by-cons}
-use Rattle.mesh.proofs.AscendingLinks.{link-eq}
-use Rattle.mesh.proofs.TableLaws.{table-eq, length-put-link, bytes-put-link, marked-put-link, length-links-table, bytes-links-table, marked-links-table}
-use Rattle.mesh.proofs.TableLaws.{links-table-cleared}
+use Rattle.mesh.proofs.Tables.AscendingLinks.{link-eq}
+use Rattle.mesh.proofs.Tables.Laws.{table-eq, length-put-link, bytes-put-link, marked-put-link, length-links-table, bytes-links-table, marked-links-table}
+use Rattle.mesh.proofs.Tables.Laws.{links-table-cleared}
 use Rattle.image_reader.specs.Pairs.{links-up-to, Pair-at}
 use Rattle.image_reader.proofs.TallyLaws.{links-one-more, proper-pair}
 

@@ -13,7 +13,7 @@ use borrow.Author.Tests.{ltb-true, eqb-true, eqb-false, eq-eqb, ne-eqb}
 use Rattle.lists.specs.Lists.{range, count}
 use Rattle.mesh.specs.Graph.{Link, other-ends, proper}
 use Rattle.mesh.specs.Image.{image-link}
-use Rattle.mesh.proofs.AscendingLinks.{link-eq}
+use Rattle.mesh.proofs.Tables.AscendingLinks.{link-eq}
 use Rattle.lists.proofs.Tests.{bool-cases, and-left, and-right}
 use Rattle.lists.proofs.Count.{count-append, count-le-length}
 use Rattle.lists.proofs.Range.{range-append}

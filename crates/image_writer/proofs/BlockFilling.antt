@@ -15,8 +15,8 @@ use Rattle.mesh.specs.Graph.{Link}
 use Rattle.mesh.specs.Image.{block-bytes, payload-bytes, block-entries, block-links, word, link-bytes, block, order-blocks, order-payload, links-payload}
 use Rattle.mesh.specs.Image.{block-at}
 use Rattle.lists.proofs.Parts.{length-flatMap}
-use Rattle.mesh.proofs.ImageBlocks.{length-link-bytes}
-use Rattle.mesh.proofs.TableLaws.{length-flatMap-range}
+use Rattle.mesh.proofs.Images.Blocks.{length-link-bytes}
+use Rattle.mesh.proofs.Tables.Laws.{length-flatMap-range}
 use Rattle.lists.proofs.Range.{range-append}
 use Rattle.image_writer.specs.Links.{links-from, Links-filled, Cursor-at, Block-filled}
 use Rattle.lists.proofs.Map.{flatMap-append}

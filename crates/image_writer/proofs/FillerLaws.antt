@@ -9,9 +9,9 @@ use native.Mathlib.Numerals.{add-one}
 use lib.ListN.{length, getD, take, drop, set, replicate, length-append, length-take, length-drop, replicate-append-replicate, drop-of-length-le}
 use lib.Seq.{sets, sets-eq, length-sets, take-suc, take-at, take-all, length-take-le, drop-drop, getD-take, getD-drop}
 use Rattle.mesh.specs.Image.{block-bytes, payload-bytes, block-entries, word, long, check-sum, block}
-use Rattle.mesh.proofs.ImageBlocks.{block-body, block-check-last, length-block-body}
+use Rattle.mesh.proofs.Images.Blocks.{block-body, block-check-last, length-block-body}
 use Rattle.lists.proofs.Parts.{length-flatMap, drop-replicate}
-use Rattle.mesh.proofs.WordLaws.{length-word, length-long}
+use Rattle.mesh.proofs.Images.Words.{length-word, length-long}
 use Rattle.lists.proofs.Overwrite.{sets-append}
 use Rattle.image_writer.specs.Filler.{opened, sealed}
 use Rattle.lists.proofs.Map.{flatMap-append}

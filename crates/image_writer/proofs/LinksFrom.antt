@@ -12,7 +12,7 @@ use Rattle.mesh.specs.Graph.{Link, link-of}
 use Rattle.mesh.specs.Sound.{within}
 use Rattle.mesh.specs.Image.{block-links, link-bytes}
 use Rattle.lists.proofs.Parts.{length-flatMap}
-use Rattle.mesh.proofs.ImageBlocks.{length-link-bytes}
+use Rattle.mesh.proofs.Images.Blocks.{length-link-bytes}
 use Rattle.lists.proofs.Overwrite.{sets-append}
 use Rattle.image_writer.specs.Links.{uppers, links-to, upper-links, links-from, Cursor-good, Row-put, Links-put, Span-of}
 use Rattle.lists.proofs.Map.{flatMap-append, take-map, drop-map}

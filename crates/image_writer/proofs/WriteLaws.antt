@@ -16,11 +16,11 @@ use Rattle.mesh.specs.Image.{block-bytes, block-count, block-at, image-of}
 use Rattle.lists.proofs.Tests.{and-left, and-right}
 use Rattle.lists.proofs.Range.{range-in, range-append}
 use Rattle.lists.proofs.Filter.{filter-append, filter-none}
-use Rattle.mesh.proofs.RowLaws.{within-of, few-of}
-use Rattle.mesh.proofs.Soundness.{sound-certificate}
-use Rattle.mesh.proofs.ImageOf.{length-image-of}
-use Rattle.mesh.proofs.ImageTables.{valid-graph-in}
-use Rattle.mesh.proofs.DegreeSum.{links-most}
+use Rattle.mesh.proofs.Tables.Rows.{within-of, few-of}
+use Rattle.mesh.proofs.Tables.Soundness.{sound-certificate}
+use Rattle.mesh.proofs.Images.Of.{length-image-of}
+use Rattle.mesh.proofs.Images.Tables.{valid-graph-in}
+use Rattle.mesh.proofs.Tables.DegreeSum.{links-most}
 use Rattle.calls.specs.Questions.{ask, lengths-of, Lengths, size-good, site-lengths, lent-refusal, site-refusal, write-refusal, image-length, holds-image}
 use Rattle.calls.specs.Answers.{Write-contract, Listing-refused}
 use Rattle.calls.proofs.ContractLaws.{by-accepted, by-refused}

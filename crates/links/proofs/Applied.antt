@@ -3,7 +3,7 @@
 use mathlib.Core.Path.{_≡_, sym, ap, ap₂, _∙_}
 use mathlib.Core.Logic.{_⊎_, inl, inr}
 use mathlib.Core.Bool.{Bool, true, false, _&&_, not}
-use mathlib.Core.List.{List, [], _∷_, _++_, append-nil, append-assoc}
+use mathlib.Core.List.{List, [], _∷_, append-assoc}
 use Prim.Native.Nat.{ℕ, suc, _+_, _-_, _≤_, _<_}
 use native.Mathlib.Omega.{arith}
 use native.Mathlib.Nat.{le-trans}
@@ -19,15 +19,14 @@ use Rattle.mesh.specs.Levels.{changed, step-of, with-stretch, new-order}
 use Rattle.mesh.specs.Tables.{Tables, graph-in, put-link}
 use Rattle.lists.proofs.Tests.{bool-cases, never, and-left}
 use Rattle.lists.proofs.Member.{in-member, member-in, not-member, getD-of-in}
-use Rattle.lists.proofs.Range.{range-in, length-range, distinct-range, range-append}
+use Rattle.lists.proofs.Range.{range-in, length-range, distinct-range}
 use Rattle.lists.proofs.Count.{count-mono, count-le-length}
-use Rattle.lists.proofs.Filter.{length-filter, filter-none, filter-ext, filter-append, member-filter, distinct-filter, filter-range-within}
-use Rattle.lists.proofs.Filter.{filter-member-filter}
+use Rattle.lists.proofs.Filter.{length-filter, filter-ext, distinct-filter, filter-range-within, filter-member-filter}
 use Rattle.lists.proofs.Overwrite.{take-overwrite}
-use Rattle.mesh.proofs.Peeling.{number-core, length-numbers, getD-numbers}
-use Rattle.mesh.proofs.LinkCall.{unchanged-number}
-use Rattle.mesh.proofs.LinkLaws.{link-by-one, link-valid}
-use Rattle.mesh.proofs.Valid.{Valid, Allowed, smaller, larger}
+use Rattle.mesh.proofs.Cores.Peeling.{number-core, length-numbers, getD-numbers}
+use Rattle.mesh.proofs.Links.Call.{unchanged-number}
+use Rattle.mesh.proofs.Links.Laws.{link-by-one, link-valid}
+use Rattle.mesh.specs.Valid.{Valid, Allowed, smaller, larger}
 use Rattle.calls.specs.Writes.{Link-accepted}
 use Rattle.calls.specs.declared.Reply.{Reply}
 use Rattle.tables.specs.Steps.{stepped, all-stepped}

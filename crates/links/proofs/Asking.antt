@@ -16,10 +16,10 @@ use Rattle.mesh.specs.Tables.{Tables, graph-in}
 use Rattle.mesh.specs.Sound.{number-in, rows-proper, sound}
 use Rattle.lists.proofs.Range.{range-in}
 use Rattle.lists.proofs.Filter.{length-filter, filter-ext}
-use Rattle.mesh.proofs.Peeling.{getD-numbers}
-use Rattle.mesh.proofs.RowLaws.{few-of}
-use Rattle.mesh.proofs.ReadBack.{proper-graph-in, ascending-graph-in, degree-graph-in}
-use Rattle.mesh.proofs.Soundness.{Right, sound-right}
+use Rattle.mesh.proofs.Cores.Peeling.{getD-numbers}
+use Rattle.mesh.proofs.Tables.Rows.{few-of}
+use Rattle.mesh.proofs.Tables.ReadBack.{proper-graph-in, ascending-graph-in, degree-graph-in}
+use Rattle.mesh.proofs.Tables.Soundness.{Right, sound-right}
 use Rattle.calls.specs.Questions.{answer-length, lengths-of, lent-refusal, site-refusal, ends-refusal, link-refusal}
 use Rattle.calls.proofs.QuestionLaws.{ask-no, true-size-good, true-site-lengths, true-answer-length}
 use Rattle.calls.proofs.ChainLaws.{Lent-good, lent-zero, lent-yes, lent-later, site-yes, ends-zero}

@@ -13,8 +13,8 @@ use Rattle.mesh.specs.Limits.{max-radios, row-bytes}
 use Rattle.lists.specs.Lists.{member, In}
 use Rattle.mesh.specs.Tables.{marked, put-bit}
 use Rattle.lists.proofs.Tests.{bool-cases}
-use Rattle.mesh.proofs.TableLaws.{length-put-bit}
-use Rattle.mesh.proofs.LinkMoves.{bound}
+use Rattle.mesh.proofs.Tables.Laws.{length-put-bit}
+use Rattle.mesh.specs.Peel.{bound}
 use Rattle.links.specs.Turns.{end-counted, ends-counted, places-fitting, Begin-ready}
 use Rattle.links.proofs.TurnLoops.{length-end-counted}
 use Rattle.links.proofs.TurnLaws.{marked-put}

@@ -2,17 +2,16 @@
 -- In order: laws of lists, the radios of the stretch, places along what is left of it.
 use mathlib.Core.Path.{_≡_, refl, sym, ap, _∙_}
 use mathlib.Core.Logic.{_⊎_, inl, inr}
-use mathlib.Core.Bool.{Bool, true, false, cond}
-use mathlib.Core.List.{List, [], _∷_, _++_}
-use Prim.Native.Nat.{ℕ, zero, suc, _+_, _-_, _≤_, _<_}
+use mathlib.Core.Bool.{Bool, true, false}
+use mathlib.Core.List.{List, [], _∷_}
+use Prim.Native.Nat.{ℕ, suc, _+_, _-_, _≤_, _<_}
 use native.Mathlib.Omega.{arith}
 use lib.ListN.{length, getD}
 use Rattle.mesh.specs.Limits.{max-radios}
-use Rattle.lists.specs.Lists.{filter, member, head-or, In, Distinct, Rising, Ascending}
+use Rattle.lists.specs.Lists.{member, head-or, In, Distinct, Rising}
 use Rattle.mesh.specs.Tables.{marked}
 use Rattle.lists.proofs.Tests.{bool-cases}
 use Rattle.lists.proofs.Member.{member-in, in-getD, getD-of-in}
-use Rattle.lists.proofs.Filter.{in-filter}
 use Rattle.rows.specs.Rows.{neighbours-of}
 use Rattle.rows.proofs.RowListLaws.{ascending-neighbours-of, in-neighbours-of, member-neighbours-of}
 use Rattle.links.specs.Peels.{stretch, Level}

@@ -15,7 +15,7 @@ use Rattle.lists.specs.Lists.{range, member}
 use Rattle.mesh.specs.Tables.{marked, put-bit}
 use Rattle.lists.proofs.Range.{range-in}
 use Rattle.lists.proofs.Filter.{filter-ext}
-use Rattle.mesh.proofs.TableLaws.{length-put-bit, marked-put-bit, marked-replicate, byte-at-less}
+use Rattle.mesh.proofs.Tables.Laws.{length-put-bit, marked-put-bit, marked-replicate, byte-at-less}
 use Rattle.rows.specs.Rows.{neighbours-of, row-listed}
 use Rattle.rows.proofs.RowWords.{row-listed-whole}
 use Rattle.soundness.specs.Checks.{Entries-below}

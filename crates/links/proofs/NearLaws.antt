@@ -2,12 +2,12 @@
 -- a copy of the row with one bit put.
 use mathlib.Core.Path.{_≡_, refl, sym, ap, _∙_}
 use mathlib.Core.Bool.{Bool, _&&_, cond}
-use mathlib.Core.List.{List, [], _∷_, _++_, append-nil}
-use Prim.Native.Nat.{ℕ, zero, suc, _+_, _*_, _-_, _/_, _≤_, _<_}
+use mathlib.Core.List.{List}
+use Prim.Native.Nat.{ℕ, _+_, _*_, _-_, _/_, _≤_, _<_}
 use native.Mathlib.Omega.{arith}
 use lib.Dec.{eqb}
 use lib.ListN.{length, getD, take, drop, length-drop}
-use lib.Seq.{take-all, drop-nil, getD-take, getD-drop, length-take-le}
+use lib.Seq.{take-all, getD-take, getD-drop, length-take-le}
 use borrow.Author.Tests.{eq-eqb, ne-eqb}
 use Rattle.mesh.specs.Limits.{max-radios, row-bytes}
 use Rattle.lists.specs.Lists.{range, overwrite}
@@ -15,7 +15,7 @@ use Rattle.mesh.specs.Tables.{byte-at, marked, put-bit, put-link}
 use Rattle.lists.proofs.Range.{range-in}
 use Rattle.lists.proofs.Filter.{filter-ext}
 use Rattle.lists.proofs.Overwrite.{take-overwrite, overwrite-all}
-use Rattle.mesh.proofs.TableLaws.{length-put-bit, marked-put-bit}
+use Rattle.mesh.proofs.Tables.Laws.{length-put-bit, marked-put-bit}
 use Rattle.rows.specs.Rows.{neighbours-of, row-listed}
 use Rattle.rows.proofs.RowWords.{row-listed-whole}
 use Rattle.links.specs.Turns.{released, places-released, Releasable, Near-ready, Lists-neighbours}

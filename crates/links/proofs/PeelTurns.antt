@@ -18,8 +18,9 @@ use Rattle.lists.proofs.Member.{in-left, in-right, in-cases, in-drop, member-in
 use Rattle.lists.proofs.Count.{count-mid, count-pos, count-all}
 use Rattle.lists.proofs.Distinct.{permutation-in, distinct-mid, distinct-right, permutation-distinct}
 use Rattle.lists.proofs.Filter.{filter-ext}
-use Rattle.mesh.proofs.TableLaws.{length-put-bit}
-use Rattle.mesh.proofs.Peel.{Peels, takes-more, takes-permutation, takes-now-in, takes-taken-in, takes-now-filter}
+use Rattle.mesh.proofs.Tables.Laws.{length-put-bit}
+use Rattle.mesh.specs.Peel.{Peels}
+use Rattle.mesh.proofs.Links.Peel.{takes-more, takes-permutation, takes-now-in, takes-taken-in, takes-now-filter}
 use Rattle.rows.specs.Rows.{neighbours-of}
 use Rattle.rows.proofs.RowListLaws.{distinct-neighbours-of, in-neighbours-of, member-neighbours-of}
 use Rattle.links.specs.Turns.{released, places-released, Releasable}

@@ -18,9 +18,9 @@ use Rattle.lists.proofs.Tests.{and-both, or-cases, or-left, or-right}
 use Rattle.lists.proofs.Count.{count-pos}
 use Rattle.lists.proofs.Range.{in-range}
 use Rattle.mesh.proofs.GraphLaws.{linked-sym}
-use Rattle.mesh.proofs.Peeling.{number-core}
-use Rattle.mesh.proofs.LinkMoves.{bound}
-use Rattle.mesh.proofs.TableLaws.{marked-replicate}
+use Rattle.mesh.proofs.Cores.Peeling.{number-core}
+use Rattle.mesh.specs.Peel.{bound}
+use Rattle.mesh.proofs.Tables.Laws.{marked-replicate}
 use Rattle.links.specs.Plans.{Ready, Planned}
 use Rattle.links.specs.Turns.{ends-counted, places-fitting, Begin-ready}
 use Rattle.links.specs.Peels.{stretch, level-start, level-size, Peel-ready, Peel-done}

@@ -16,14 +16,14 @@ use Rattle.mesh.specs.Levels.{changed, lower-level, new-stretch}
 use Rattle.mesh.specs.Tables.{tables, graph-in}
 use Rattle.lists.proofs.Member.{in-cases, in-getD}
 use Rattle.lists.proofs.Count.{count-all}
-use Rattle.mesh.proofs.LevelCut.{mids, highs}
-use Rattle.mesh.proofs.LinkMoves.{bound}
-use Rattle.mesh.proofs.Peel.{Peels, Peeling, takes-permutation, takes-taken-in, takes-now-in}
+use Rattle.mesh.proofs.Links.LevelCut.{mids, highs}
+use Rattle.mesh.specs.Peel.{bound, Peels}
+use Rattle.mesh.proofs.Links.Peel.{Peeling, takes-permutation, takes-taken-in, takes-now-in}
 use Rattle.links.specs.Plans.{Ready, Planned, changed-part}
 use Rattle.links.specs.Peels.{stretch, above, level-start, level-size, Peel-done}
 use Rattle.links.proofs.StretchLoops.{length-stretch}
 use Rattle.links.proofs.PlanLevel.{is-valid, start-is, size-is, stretch-is, above-is, stretch-fits, stretch-number}
-use Rattle.mesh.proofs.LinkCall as link-call
+use Rattle.mesh.proofs.Links.Call as link-call
 
 module _ {u : Bool} {a b : ℕ} {ts ns os ps cs : List ℕ} (r : Ready u (length os) a b (tables ts ns os) ps cs) where
   abbrev n : ℕ

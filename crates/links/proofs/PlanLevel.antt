@@ -3,7 +3,7 @@
 use mathlib.Core.Path.{_≡_, refl, sym, ap, ap₂, _∙_}
 use mathlib.Core.Logic.{_⊎_, inl, inr}
 use mathlib.Core.Bool.{Bool, true, false, _&&_, cond}
-use mathlib.Core.List.{List, [], _∷_, _++_, map}
+use mathlib.Core.List.{List, _++_}
 use Prim.Native.Nat.{ℕ, _+_, _-_, _≤_, _<_, min}
 use native.Mathlib.Omega.{arith}
 use lib.Dec.{ltb, eqb}
@@ -20,18 +20,18 @@ use Rattle.lists.proofs.Tests.{bool-cases, never, and-left, and-right}
 use Rattle.lists.proofs.Filter.{in-filter, filter-in}
 use Rattle.lists.proofs.Range.{once-in, once-below}
 use Rattle.mesh.proofs.GraphLaws.{ends, ends-of, linked-self, linked-sym}
-use Rattle.mesh.proofs.Certificate.{Certificate}
-use Rattle.mesh.proofs.Peeling.{getD-numbers}
-use Rattle.mesh.proofs.KOrders.{k-order-certificate}
-use Rattle.mesh.proofs.LevelCut.{lows, mids, highs, level-cut, stretch-start-is, stretch-length-is, take-level, drop-above}
-use Rattle.mesh.proofs.LinkCall.{relinked-proper}
-use Rattle.mesh.proofs.LinkLaws.{link-valid}
-use Rattle.mesh.proofs.Valid.{Valid}
-use Rattle.mesh.proofs.RowLaws.{within-of, few-of, linked-within, row-degree-count}
-use Rattle.mesh.proofs.TableLaws.{marked-put-link}
-use Rattle.mesh.proofs.Relinked.{linked-relinked}
-use Rattle.mesh.proofs.ReadBack.{proper-graph-in, ascending-graph-in, linked-graph-in, degree-graph-in}
-use Rattle.mesh.proofs.Soundness.{Right, sound-right}
+use Rattle.mesh.proofs.Cores.Certificate.{Certificate}
+use Rattle.mesh.proofs.Cores.Peeling.{getD-numbers}
+use Rattle.mesh.proofs.Cores.KOrders.{k-order-certificate}
+use Rattle.mesh.proofs.Links.LevelCut.{lows, mids, highs, level-cut, stretch-start-is, stretch-length-is, take-level, drop-above}
+use Rattle.mesh.proofs.Links.Call.{relinked-proper}
+use Rattle.mesh.proofs.Links.Laws.{link-valid}
+use Rattle.mesh.specs.Valid.{Valid}
+use Rattle.mesh.proofs.Tables.Rows.{within-of, few-of, linked-within, row-degree-count}
+use Rattle.mesh.proofs.Tables.Laws.{marked-put-link}
+use Rattle.mesh.proofs.Tables.Relinked.{linked-relinked}
+use Rattle.mesh.proofs.Tables.ReadBack.{proper-graph-in, ascending-graph-in, linked-graph-in, degree-graph-in}
+use Rattle.mesh.proofs.Tables.Soundness.{Right, sound-right}
 use Rattle.rows.specs.Rows.{neighbours-of}
 use Rattle.rows.proofs.RowListLaws.{length-neighbours-of}
 use Rattle.links.specs.Plans.{Ready}

@@ -3,10 +3,9 @@
 use mathlib.Core.Path.{_≡_, refl, sym, ap, _∙_}
 use mathlib.Core.Logic.{_⊎_, inl, inr}
 use mathlib.Core.Bool.{Bool, true, false, not, _&&_, _||_, cond}
-use mathlib.Core.List.{List, [], _∷_, _++_}
+use mathlib.Core.List.{List, [], _++_}
 use Prim.Native.Nat.{ℕ, _+_, _-_, _≤_, _<_, min}
 use native.Mathlib.Omega.{arith}
-use native.Mathlib.Nat.{le-antisymm}
 use lib.Dec.{ltb, leb, eqb}
 use lib.ListN.{length, getD}
 use borrow.Author.Tests.{ltb-true, eqb-true, eqb-false, le-leb, lt-leb}
@@ -15,16 +14,16 @@ use Rattle.lists.specs.Lists.{range, count, member, In, Distinct}
 use Rattle.mesh.specs.Graph.{Graph, radios, linked, neighbours-in, relinked}
 use Rattle.mesh.specs.Cores.{number}
 use Rattle.mesh.specs.Tables.{tables, marked, graph-in}
-use Rattle.lists.proofs.Tests.{bool-cases, and-left, and-both, bit-true, bit-false}
-use Rattle.lists.proofs.Member.{in-cases, member-in, in-member, split-in}
-use Rattle.lists.proofs.Count.{count-append, count-mono, count-mid, count-pos, count-none, count-ext}
+use Rattle.lists.proofs.Tests.{bool-cases, and-left, and-both}
+use Rattle.lists.proofs.Member.{in-cases, member-in, in-member}
+use Rattle.lists.proofs.Count.{count-append, count-pos, count-none, count-ext}
 use Rattle.lists.proofs.Filter.{in-filter}
 use Rattle.lists.proofs.Range.{in-range, range-in, once-in, once-distinct}
-use Rattle.lists.proofs.Distinct.{distinct-mid, distinct-right, count-plus-one}
+use Rattle.lists.proofs.Distinct.{distinct-right, count-plus-one}
 use Rattle.mesh.proofs.GraphLaws.{ends, ends-of, of-ends, linked-sym, neighbours-in-list, neighbours-in-subset, degree-in}
-use Rattle.mesh.proofs.LevelCut.{lows, mids, highs, level-cut}
-use Rattle.mesh.proofs.Peel.{none}
-use Rattle.mesh.proofs.Relinked.{linked-relinked}
+use Rattle.mesh.proofs.Links.LevelCut.{lows, mids, highs, level-cut}
+use Rattle.mesh.specs.Peel.{none}
+use Rattle.mesh.proofs.Tables.Relinked.{linked-relinked}
 use Rattle.links.specs.Plans.{Ready}
 use Rattle.links.specs.Turns.{end-counted, ends-counted, places-fitting, Begin-ready}
 use Rattle.links.specs.Peels.{stretch, level-start, level-size, linked-after, Turning, Peel-ready}

@@ -1,7 +1,7 @@
 -- The loops over a level's stretch, as invariants over what is left of their lists.
 -- In order: numbers counted below a level and at it; the radios of the stretch that a test passes, listed.
 use mathlib.Core.Path.{_≡_, refl, ap, _∙_}
-use mathlib.Core.Bool.{Bool, true, false, cond}
+use mathlib.Core.Bool.{Bool, true, false}
 use mathlib.Core.List.{List, _∷_}
 use Prim.Native.Nat.{ℕ, _+_, _-_, _^_, _≤_, _<_}
 use native.Mathlib.Omega.{arith}

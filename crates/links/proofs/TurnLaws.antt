@@ -15,7 +15,7 @@ use Rattle.lists.specs.Lists.{member}
 use Rattle.mesh.specs.Tables.{byte-at, marked, put-bit}
 use Rattle.lists.proofs.Tests.{bool-cases, and-left}
 use Rattle.lists.proofs.Member.{not-member}
-use Rattle.mesh.proofs.TableLaws.{marked-put-bit}
+use Rattle.mesh.proofs.Tables.Laws.{marked-put-bit}
 use Rattle.links.specs.Turns.{counter-less, released, place-marked, places-released, Releasable}
 use Rattle.links.proofs.TurnLoops.{length-place-marked, releasable-tail}
 

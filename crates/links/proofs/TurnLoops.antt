@@ -14,7 +14,7 @@ use borrow.Author.Tests.{eq-eqb, ne-eqb}
 use Rattle.lists.specs.Lists.{range}
 use Rattle.mesh.specs.Tables.{put-bit}
 use Rattle.lists.proofs.Tests.{bool-cases}
-use Rattle.mesh.proofs.TableLaws.{length-put-bit}
+use Rattle.mesh.proofs.Tables.Laws.{length-put-bit}
 use Rattle.links.specs.Turns.{end-counted, counter-less, released, place-marked, places-released, places-fitting, Releasable}
 
 -- ---- lengths

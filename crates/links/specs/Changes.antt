@@ -14,7 +14,7 @@ use Rattle.mesh.specs.Limits.{max-radios, max-neighbours}
 use Rattle.lists.specs.Lists.{range, filter, member}
 use Rattle.mesh.specs.Cores.{numbers}
 use Rattle.mesh.specs.Tables.{Tables, put-bit, graph-in}
-use Rattle.mesh.proofs.Valid.{Valid, Allowed}
+use Rattle.mesh.specs.Valid.{Valid, Allowed}
 
 unfoldable pub all-marked : (radios : List ℕ) → (row : List ℕ) → List ℕ
 all-marked [] ts = ts

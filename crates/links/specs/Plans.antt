@@ -16,7 +16,7 @@ use Rattle.mesh.specs.Cores.{number}
 use Rattle.mesh.specs.Levels.{changed, lower-level, stretch-start, stretch-length, new-stretch}
 use Rattle.mesh.specs.Tables.{Tables, graph-in}
 use Rattle.mesh.specs.Sound.{sound}
-use Rattle.mesh.proofs.Valid.{Allowed}
+use Rattle.mesh.specs.Valid.{Allowed}
 
 unfoldable pub changed-part : (up : Bool) → (taken size : ℕ) → (stretch : List ℕ) → List ℕ
 changed-part up k m xs = cond up (drop k (take m xs)) (take k xs)

@@ -5,7 +5,7 @@ ghost use Prim.Native.Nat.{_≤_, _<_, _+_, min};
 ghost use lib.ListN.{length, getD};
 ghost use Rattle.lists.specs.Lists.{range};
 ghost use Rattle.mesh.specs.Tables.{tables, graph-in};
-ghost use Rattle.mesh.proofs.LinkMoves.{bound};
+ghost use Rattle.mesh.specs.Peel.{bound};
 ghost use Rattle.links.specs.Turns.{places-fitting, ends-counted, Begin-ready};
 ghost use Rattle.links.specs.Peels.{Peel-ready, Peel-done};
 ghost use Rattle.links.specs.Plans.{Ready, Planned};

@@ -18,7 +18,7 @@ use Rattle.lists.proofs.Range.{in-range, range-in, distinct-range}
 use Rattle.lists.proofs.Count.{count-mono, count-both}
 use Rattle.lists.proofs.Distinct.{count-sub}
 use Rattle.lists.proofs.Filter.{count-filter}
-use Rattle.mesh.proofs.Valid.{smaller, larger}
+use Rattle.mesh.specs.Valid.{smaller, larger}
 
 -- ---- what links join
 

@@ -4,6 +4,8 @@ pub mod Graph
 pub mod Cores
 pub mod Orders
 pub mod Levels
+pub mod Peel
+pub mod Valid
 pub mod Tables
 pub mod Sound
 pub mod Connected

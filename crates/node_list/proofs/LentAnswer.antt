@@ -21,7 +21,7 @@ use Rattle.mesh.specs.Sound.{sound}
 use Rattle.mesh.specs.Tree.{node, tree}
 use Rattle.mesh.specs.declared.Node.{Node}
 use Rattle.lists.proofs.Tests.{bool-cases, and-left}
-use Rattle.mesh.proofs.TreeLaws.{number-le-n}
+use Rattle.mesh.proofs.Trees.Laws.{number-le-n}
 use Rattle.calls.specs.Questions.{ask, Lengths, lengths-of, size-good, site-lengths, nodes-length, answer-length, lent-refusal, site-refusal, tree-refusal}
 use Rattle.calls.specs.Answers.{Tree-accepted, Tree-refused, Tree-contract}
 use Rattle.calls.specs.declared.Value.{Value}

@@ -16,9 +16,9 @@ use Rattle.lists.proofs.Member.{in-member, not-member}
 use Rattle.lists.proofs.Filter.{length-filter}
 use Rattle.lists.proofs.Count.{count-le-length}
 use Rattle.lists.proofs.Range.{length-range}
-use Rattle.mesh.proofs.Reach.{core-of-iff, core-of-ascending}
-use Rattle.mesh.proofs.CoreLevels.{in-core-below}
-use Rattle.mesh.proofs.TableLaws.{marked-replicate, byte-at-less}
+use Rattle.mesh.proofs.Trees.Reach.{core-of-iff, core-of-ascending}
+use Rattle.mesh.proofs.Trees.CoreLevels.{in-core-below}
+use Rattle.mesh.proofs.Tables.Laws.{marked-replicate, byte-at-less}
 use Rattle.calls.specs.Questions.{lengths-of, core-refusal}
 use Rattle.calls.specs.Answers.{Core-contract}
 use Rattle.calls.proofs.ChainLaws.{core-zero}

@@ -11,7 +11,7 @@ use lib.Bits.{bitAnd, bitOr, and-step, or-step, and-mask, or-zero-r}
 use lib.ListN.{length, getD, set, List·getD-eq-default}
 use lib.Seq.{set-out}
 use Rattle.mesh.specs.Tables.{digit, byte-at, marked, put-digit, put-bit}
-use Rattle.mesh.proofs.DigitLaws.{digit-nothing, put-digit-zero, put-digit-suc}
+use Rattle.mesh.proofs.Tables.Digits.{digit-nothing, put-digit-zero, put-digit-suc}
 
 -- ---- one digit put: `|` with its mask sets it, `&` with the mask's complement clears it
 

@@ -13,8 +13,8 @@ use Rattle.mesh.specs.Tables.{marked, graph-in}
 use Rattle.mesh.specs.Sound.{symmetric, irreflexive, within, row-degree}
 use Rattle.lists.proofs.Range.{in-range, range-in, distinct-range, range-append}
 use Rattle.lists.proofs.Filter.{in-filter, member-filter, count-filter, length-filter, filter-none, filter-ext, filter-append, distinct-filter}
-use Rattle.mesh.proofs.RowLaws.{within-of}
-use Rattle.mesh.proofs.ReadBack.{linked-graph-in}
+use Rattle.mesh.proofs.Tables.Rows.{within-of}
+use Rattle.mesh.proofs.Tables.ReadBack.{linked-graph-in}
 use Rattle.rows.specs.Rows.{neighbours-of, row-listed}
 use Rattle.rows.proofs.RowWords.{row-listed-whole}
 use Rattle.lists.proofs.Ascending.{ascending-range, ascending-filter}

@@ -17,7 +17,7 @@ use borrow.Author.Tests.{ltb-true, ltb-false, eqb-true, eqb-false}
 use Rattle.lists.specs.Lists.{range, filter}
 use Rattle.mesh.specs.Tables.{digit}
 use Rattle.lists.proofs.Tests.{bool-cases}
-use Rattle.mesh.proofs.DigitLaws.{digit-zero, digit-suc}
+use Rattle.mesh.proofs.Tables.Digits.{digit-zero, digit-suc}
 use Rattle.rows.specs.Rows.{set-bits, word-at}
 
 -- ---- set bits

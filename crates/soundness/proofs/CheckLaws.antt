@@ -21,8 +21,8 @@ use Rattle.lists.proofs.Filter.{filter-in}
 use Rattle.lists.proofs.Range.{in-range, range-in, once-in, once-below, once-length, range-append, count-below}
 use Rattle.lists.proofs.Count.{count-append, count-mono, count-none, count-ext}
 use Rattle.lists.proofs.All.{all-in, in-all, all-below, below-all}
-use Rattle.mesh.proofs.OrderLaws.{of-each-once, Few-later, few-later-of, of-few-later}
-use Rattle.mesh.proofs.RowLaws.{symmetric-of, of-symmetric, irreflexive-of, of-irreflexive, within-of, of-within, few-of, of-few}
+use Rattle.mesh.proofs.Cores.Orders.{of-each-once, Few-later, few-later-of, of-few-later}
+use Rattle.mesh.proofs.Tables.Rows.{symmetric-of, of-symmetric, irreflexive-of, of-irreflexive, within-of, of-within, few-of, of-few}
 use Rattle.rows.specs.Rows.{neighbours-of}
 use Rattle.rows.proofs.RowListLaws.{in-neighbours-of, length-neighbours-of, count-neighbours-of}
 use Rattle.soundness.specs.Checks.{Placed, later-count, high-count, ends-good, row-good}

@@ -16,7 +16,7 @@ use Rattle.mesh.specs.Orders.{each-once, rising}
 use Rattle.lists.proofs.Tests.{bool-cases, never, trichotomy}
 use Rattle.lists.specs.Lists.{Distinct, Each-once}
 use Rattle.lists.proofs.Range.{once-of, once-below, once-distinct}
-use Rattle.mesh.proofs.OrderLaws.{each-once-of, of-each-once}
+use Rattle.mesh.proofs.Cores.Orders.{each-once-of, of-each-once}
 use Rattle.soundness.specs.Checks.{Placing, Places-found, nowhere, rising-from}
 use Rattle.lists.proofs.Member.{in-getD, getD-of-in}
 use Rattle.lists.proofs.Distinct.{distinct-at, distinct-twice}

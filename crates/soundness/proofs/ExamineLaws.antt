@@ -15,7 +15,7 @@ use Rattle.mesh.specs.Tables.{Tables}
 use Rattle.mesh.specs.Sound.{rows-proper, number-in, sound, sound-within}
 use Rattle.lists.proofs.Tests.{bool-cases, never, and-left, and-right, byte-bit}
 use Rattle.lists.proofs.Range.{once-below}
-use Rattle.mesh.proofs.OrderLaws.{each-once-of}
+use Rattle.mesh.proofs.Cores.Orders.{each-once-of}
 use Rattle.calls.specs.Questions.{ask, Lengths, lengths-of, size-good, site-lengths, answer-length, lent-refusal, site-refusal, tables-refusal}
 use Rattle.calls.specs.Answers.{Check-contract, Value-accepted, Value-refused}
 use Rattle.calls.proofs.ContractLaws.{by-accepted, by-refused}

@@ -18,7 +18,7 @@ use Rattle.mesh.specs.Tables.{Tables, graph-in}
 use Rattle.mesh.specs.Connected.{In-core}
 use Rattle.mesh.specs.Image.{is-image}
 use Rattle.mesh.specs.declared.Node.{Node}
-use Rattle.mesh.proofs.ImageTables.{Tables-of-size}
+use Rattle.mesh.proofs.Images.Tables.{Tables-of-size}
 use Rattle.calls.specs.Questions.{lengths-of}
 use Rattle.calls.specs.Writes.{Clear-contract, Link-contract, Read-contract}
 use Rattle.calls.specs.Answers.{Check-contract, Number-contract, Neighbours-contract, Linked-contract, First-contract, Core-contract, Backbone-contract}

@@ -23,9 +23,9 @@ use Rattle.lists.proofs.Member.{in-member}
 use Rattle.lists.proofs.Overwrite.{take-overwrite, set-overwrite, getD-front}
 use Rattle.lists.proofs.Map.{getD-map-range, length-map, map-append, map-range-ext}
 use Rattle.lists.proofs.Range.{length-range}
-use Rattle.mesh.proofs.TableLaws.{marked-replicate, byte-at-less}
-use Rattle.mesh.proofs.Reach.{core-of-iff}
-use Rattle.mesh.proofs.CoreLevels.{in-core-below}
+use Rattle.mesh.proofs.Tables.Laws.{marked-replicate, byte-at-less}
+use Rattle.mesh.proofs.Trees.Reach.{core-of-iff}
+use Rattle.mesh.proofs.Trees.CoreLevels.{in-core-below}
 use Rattle.floods.specs.Floods.{Flood-done}
 use Rattle.floods.proofs.FloodSteps.{true-floodable}
 use Rattle.floods.proofs.FloodCore.{member-flood, marked-flood}

@@ -14,11 +14,11 @@ use Rattle.mesh.specs.Cores.{number}
 use Rattle.mesh.specs.Connected.{In-core, core-of}
 use Rattle.mesh.specs.Tree.{root-name, shell, node-name, parent-name}
 use Rattle.lists.proofs.Tests.{bool-cases, never, and-left, and-right, and-both, or-cases, or-left, or-right, iff-eq}
-use Rattle.mesh.proofs.Reach.{core-of-iff}
-use Rattle.mesh.proofs.CoreLevels.{in-core-here, in-core-below, in-core-level, in-core-sym, core-of-same}
-use Rattle.mesh.proofs.NodeSets.{core-has-self, shell-in, in-shell, core-set-of}
+use Rattle.mesh.proofs.Trees.Reach.{core-of-iff}
+use Rattle.mesh.proofs.Trees.CoreLevels.{in-core-here, in-core-below, in-core-level, in-core-sym, core-of-same}
+use Rattle.mesh.proofs.Trees.NodeSets.{core-has-self, shell-in, in-shell, core-set-of}
 use Rattle.lists.proofs.Member.{head-or-in, head-or-any}
-use Rattle.mesh.proofs.ShellNames.{shell-named}
+use Rattle.mesh.proofs.Trees.ShellNames.{shell-named}
 use Rattle.tree.specs.Trees.{own, covered, name-before, present}
 
 module _ (g : Graph) (k : ℕ) where

@@ -13,8 +13,8 @@ use Rattle.mesh.specs.Cores.{number}
 use Rattle.mesh.specs.Tables.{tables, graph-in}
 use Rattle.mesh.specs.Connected.{greatest}
 use Rattle.mesh.specs.Tree.{root-name, root, node-name, parent-name, node-names}
-use Rattle.mesh.proofs.TreeLaws.{number-le-n}
-use Rattle.mesh.proofs.ShellNames.{node-name-parent}
+use Rattle.mesh.proofs.Trees.Laws.{number-le-n}
+use Rattle.mesh.proofs.Trees.ShellNames.{node-name-parent}
 use Rattle.soundness.specs.Checks.{fits-sound}
 use Rattle.lists.proofs.Map.{map-range-constant, map-range-ext}
 use Rattle.floods.proofs.SoundSite.{number-entry}

@@ -3,7 +3,7 @@ use mathlib.Core.Path.{_≡_, refl, ap, _∙_}
 use Prim.Native.Nat.{_-_}
 use lib.ListN.{length}
 use borrow.Author.Needs.{needs}
-use Rattle.mesh.proofs.TableLaws.{length-put-link}
+use Rattle.mesh.proofs.Tables.Laws.{length-put-link}
 use Rattle.damaged.proofs.put_star.Statement.{statement}
 use Rattle.damaged.proofs.put_star.Tie as tie
 

@@ -9,7 +9,7 @@ use lib.ListN.{length, length-set}
 use borrow.Author.Needs.{needs}
 use borrow.Author.Tests.{not-true, not-false}
 use Rattle.floods.proofs.FloodSteps.{floodable-true, flooded-not}
-use Rattle.mesh.proofs.TableLaws.{length-put-bit}
+use Rattle.mesh.proofs.Tables.Laws.{length-put-bit}
 use Rattle.floods.specs.Floods.{flood-at}
 use Rattle.floods.proofs.FloodLaws.{Walking, walking-next, flood-starts, flood-ends}
 use Rattle.floods.proofs.flood.flood.Statement.{statement}

@@ -3,7 +3,7 @@ use Prim.Native.Nat.{_+_, _-_}
 use native.Mathlib.Omega.{arith}
 use borrow.Author.Needs.{needs}
 use Rattle.mesh.specs.Image.{word}
-use Rattle.mesh.proofs.WordLaws.{length-word}
+use Rattle.mesh.proofs.Images.Words.{length-word}
 use Rattle.image_writer.proofs.FillerLaws.{Putting, putting-none, putting-turn, putting-end, order-part, length-order-part, getD-order-part}
 use Rattle.image_writer.proofs.writer.put_order.Statement.{statement}
 use Rattle.image_writer.proofs.writer.put_order.Tie as tie

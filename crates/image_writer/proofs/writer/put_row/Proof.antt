@@ -8,7 +8,7 @@ use lib.Seq.{sets}
 use borrow.Author.Needs.{needs}
 use Rattle.mesh.specs.Graph.{Link, link-of}
 use Rattle.mesh.specs.Image.{link-bytes}
-use Rattle.mesh.proofs.ImageBlocks.{length-link-bytes}
+use Rattle.mesh.proofs.Images.Blocks.{length-link-bytes}
 use Rattle.image_writer.specs.Links.{links-to}
 use Rattle.image_writer.proofs.FillerLaws.{Putting, putting-none, putting-turn}
 use Rattle.lists.proofs.Map.{take-map}

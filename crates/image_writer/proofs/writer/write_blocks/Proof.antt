@@ -9,7 +9,7 @@ use borrow.Author.Needs.{needs}
 use borrow.Rule.Slice.PartMut.{same-len-mid}
 use Rattle.mesh.specs.Limits.{max-neighbours}
 use Rattle.mesh.specs.Image.{block-at}
-use Rattle.mesh.proofs.ImageOf.{length-block-at}
+use Rattle.mesh.proofs.Images.Of.{length-block-at}
 use Rattle.image_writer.specs.Links.{marked-graph, Cursor-at}
 use Rattle.image_writer.proofs.BlockFilling.{Filling, filling-none, filling-turn, filling-end, cursor-first}
 use Rattle.image_writer.proofs.writer.write_blocks.Statement.{statement}
