@@ -14,27 +14,6 @@ use Rattle.lists.specs.Lists.{count, filter}
 use Rattle.lists.proofs.Tests.{bit-one, byte-bit}
 use Rattle.links.specs.Peels.{stretch}
 
--- ---- numbers counted
-
--- from place i on is left
-abbrev pub Counted-from : (f : ℕ → Bool) → (xs : List ℕ) → (n i : ℕ) → Type 0
-Counted-from f xs n i = (n ≤ i) × (n + count f (drop i xs) ≡ count f xs)
-
--- the count stays below what a length can be
-pub counted-fits : (n i : ℕ) (t : Bool) → n ≤ i → i + 1 < 2 ^ 64 → Fits w64 (n + boolByte t)
-counted-fits n i t h l = record { fits = omega (arith, byte-bit t, bit-one t) }
-
-pub counted-turn : (f : ℕ → Bool) (xs : List ℕ) (n i : ℕ) → i < length xs → Counted-from f xs n i → Counted-from f xs (n + boolByte (f (getD xs i 0))) (i + 1)
-unfolding count
-counted-turn f xs n i l h = (
-  omega (arith, h .0, bit-one (f (getD xs i 0)), byte-bit (f (getD xs i 0))),
-  omega (arith, h .1, byte-bit (f (getD xs i 0)), ap (count f) (drop-cons xs i 0 l), ap (λ (k : ℕ). count f (drop k xs)) (add-one i)),
-)
-
-pub counted-end : (f : ℕ → Bool) (xs : List ℕ) (n i : ℕ) → i ≡ length xs → Counted-from f xs n i → n ≡ count f xs
-unfolding count
-counted-end f xs n i e h = omega (arith, h .1, ap (count f) (ap (λ (k : ℕ). drop k xs) e ∙ drop-length xs))
-
 -- ---- radios listed
 
 pub length-stretch : (os : List ℕ) (start size : ℕ) → start + size ≤ length os → length (stretch os start size) ≡ size

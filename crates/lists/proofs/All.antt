@@ -1,4 +1,4 @@
--- All
+-- Laws of `all` and `same`: tests of every entry, and equality of two lists.
 use mathlib.Core.Path.{_≡_, refl, ap₂, ap, sym, _∙_}
 use mathlib.Core.Logic.{inl, inr, _⊎_}
 use mathlib.Core.Bool.{Bool, _&&_, true, false}

@@ -1,4 +1,4 @@
--- Ascending
+-- Laws of lists in order: `Ascending` (each entry below the later ones), `Rising` (numbers never fall), `Ascending-below`.
 use mathlib.Core.Path.{refl, _≡_, sym, ap, _∙_}
 use mathlib.Core.Logic.{_⊎_, inl, inr}
 use mathlib.Core.Bool.{Bool, true, false, cond}

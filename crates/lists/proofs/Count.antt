@@ -1,4 +1,4 @@
--- Count
+-- Laws of `count`: parts, other tests, tests that pass nowhere or somewhere.
 use mathlib.Core.Path.{_≡_, sym, _∙_, refl, ap}
 use mathlib.Core.Logic.{inl, inr, _⊎_}
 use mathlib.Core.Bool.{Bool, true, false, _||_, cond, not, _&&_, and-comm}

@@ -1,4 +1,4 @@
--- Distinct
+-- Laws of lists without repeats, and of permutations.
 use mathlib.Core.Path.{sym, _≡_, ap, refl}
 use mathlib.Core.Logic.{_⊎_, inl, inr}
 use mathlib.Core.Bool.{Bool, true, false, cond}

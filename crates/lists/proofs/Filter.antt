@@ -1,4 +1,4 @@
--- Filter
+-- Laws of `filter`: membership, counts, parts, tests one after the other.
 use mathlib.Core.Path.{_≡_, sym, ap, _∙_, refl}
 use mathlib.Core.Logic.{_⊎_, inl, inr}
 use mathlib.Core.Bool.{Bool, true, false, cond, _&&_, not}

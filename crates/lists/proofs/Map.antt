@@ -1,4 +1,4 @@
--- Map
+-- Laws of `map` and `flatMap`, and of tables given by a rule: map f over a range.
 use mathlib.Core.Path.{_≡_, ap, _∙_, refl, ap₂, sym}
 use mathlib.Core.Logic.{_⊎_, inl, inr}
 use mathlib.Core.List.{map, List, [], _∷_, List·Memᴰ, List·Memᴰ·cases-cons, List·Memᴰ·not-nil, List·Memᴰ·head, List·Memᴰ·tail, flatMap, List·Memᴰ·append-cases}

@@ -1,4 +1,4 @@
--- Member
+-- Laws of membership, as a type (`In`) and as a test (`member`), and of the first entry.
 use mathlib.Core.Path.{_≡_, refl, ap}
 use mathlib.Core.Logic.{inl, inr, _⊎_}
 use mathlib.Core.Bool.{Bool, true, false, _||_, or-true}

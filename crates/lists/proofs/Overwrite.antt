@@ -1,4 +1,4 @@
--- Overwrite
+-- Laws of stores: entries in front (`overwrite`), one after the other (`sets`), inside a table given by a rule.
 use mathlib.Core.Path.{_≡_, refl, ap, _∙_, sym, ap₂}
 use mathlib.Core.Logic.{_⊎_, inl, inr}
 use mathlib.Core.Bool.{cond, true, false}

@@ -1,4 +1,4 @@
--- Parts
+-- Laws of parts: parts of equal length joined, a part of a part, lists of bytes, zeros.
 use mathlib.Core.Path.{_≡_, sym, ap, _∙_, refl, ap₂}
 use mathlib.Core.Logic.{_⊎_, inl, inr}
 use mathlib.Core.Bool.{true, false}

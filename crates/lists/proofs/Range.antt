@@ -1,4 +1,4 @@
--- Range
+-- Laws of `range`, and of lists that hold each number below n once.
 use mathlib.Core.Path.{_≡_, ap, _∙_, refl, sym}
 use mathlib.Core.Logic.{_⊎_, inl, inr}
 use mathlib.Core.Bool.{Bool, false, not, true}

@@ -1,4 +1,4 @@
--- Sums
+-- Laws of `total`: the sum of a function over a list.
 use mathlib.Core.Path.{refl, _≡_, ap}
 use mathlib.Core.Logic.{inl, inr}
 use mathlib.Core.Bool.{Bool, cond}

@@ -1,4 +1,4 @@
--- Tests
+-- Laws of tests: cases, && and ||, a test as 0 or 1, `cond`.
 use mathlib.Core.Path.{_≡_, refl, sym}
 use mathlib.Core.Logic.{_⊎_, inl, inr}
 use mathlib.Core.Bool.{Bool, true, false, cond, _&&_, _||_, or-true, Bool·beq}

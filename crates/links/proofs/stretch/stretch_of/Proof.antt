@@ -6,7 +6,7 @@ use native.Mathlib.Omega.{arith}
 use lib.Dec.{ltb, eqb}
 use lib.ListN.{length, getD}
 use borrow.Author.Needs.{needs}
-use Rattle.links.proofs.StretchLoops.{Counted-from, counted-fits, counted-turn, counted-end}
+use Rattle.lists.proofs.Loops.{Counted-from, counted-fits, counted-turn, counted-end}
 use Rattle.links.proofs.stretch.stretch_of.Statement.{statement}
 use Rattle.links.proofs.stretch.stretch_of.Tie as tie
 
