@@ -25,7 +25,11 @@ fn larger(a: u16, b: u16) -> u16
 // Whether no entry of `lows` is above the one of `highs` at its place.
 fn each_at_most(lows: &[u16], highs: &[u16]) -> bool
     requires { ⌜ length (now lows) ≤ length (now highs) ⌝ }
-    ensures { λ r. ⌜ r ≡ all (λ (v : ℕ). leb (getD (now (lows .entry)) v 0) (getD (now (highs .entry)) v 0)) (range 0 (length (now (lows .entry)))) ⌝ }
+    ensures { λ r. ⌜
+        r
+        ≡ all (λ (v : ℕ). leb (getD (now (lows .entry)) v 0) (getD (now (highs .entry)) v 0))
+        (range 0 (length (now (lows .entry))))
+        ⌝ }
 {
     let mut v: usize = 0;
     while v < lows.len() {
@@ -50,8 +54,14 @@ pub(crate) fn are_few(image: &[u8], n: u32, m: u32, ranks: &mut [u16], counts: &
 
 // Gives each radio of the order the greatest count up to it.
 fn run_maxima(order: &[u16], counts: &[u16], ranks: &mut [u16])
-    requires { ⌜ (each-once (length (now order)) (now order) ≡ true) × (length (now order) ≤ length (now counts)) × (length (now order) ≤ length (now ranks)) ⌝ }
-    ensures { λ _. ⌜ map (λ (v : ℕ). getD (now (ranks .exit)) v 0) (now (order .entry)) ≡ tops (λ (v : ℕ). getD (now (counts .entry)) v 0) 0 (now (order .entry)) ⌝ }
+    requires { ⌜
+        (each-once (length (now order)) (now order) ≡ true) × (length (now order) ≤ length (now counts)) ×
+        (length (now order) ≤ length (now ranks))
+        ⌝ }
+    ensures { λ _. ⌜
+        map (λ (v : ℕ). getD (now (ranks .exit)) v 0) (now (order .entry))
+        ≡ tops (λ (v : ℕ). getD (now (counts .entry)) v 0) 0 (now (order .entry))
+        ⌝ }
 {
     let mut top: u16 = 0;
     let mut i: usize = 0;
@@ -76,7 +86,9 @@ pub(crate) fn is_k_order(
     requires room { ⌜ Tally-room n m (now image) (length (now ranks)) (length (now counts)) ⌝ }
     requires ascends { ⌜ ascending (links-up-to n (now image) m) ≡ true ⌝ }
     requires long { ⌜ length (now order) ≡ n ⌝ }
-    ensures { λ r. ⌜ K-order-decided (graph n (links-up-to n (now (image .entry)) m)) (now (order .entry)) (now (ranks .exit)) r ⌝ }
+    ensures { λ r. ⌜
+        K-order-decided (graph n (links-up-to n (now (image .entry)) m)) (now (order .entry)) (now (ranks .exit)) r
+        ⌝ }
 {
     if !soundness::places_of(order, ranks) {
         return false;

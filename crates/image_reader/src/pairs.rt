@@ -98,7 +98,10 @@ fn bump(counts: &mut [u16], v: u32, on: bool)
 // For each radio v below n, counts[v] is the number of its links among the first m whose other end w has a rank of which, with
 // the slack added, that of v is below. Later entries are zero.
 pub(crate) fn tally(image: &[u8], n: u32, m: u32, ranks: &[u16], slack: u16, counts: &mut [u16])
-    requires { ⌜ (n ≤ max-radios) × (m < 65536) × (n ≤ length (now ranks)) × (n ≤ length (now counts)) × (proper n (links-up-to n (now image) m) ≡ true) ⌝ }
+    requires { ⌜
+        (n ≤ max-radios) × (m < 65536) × (n ≤ length (now ranks)) × (n ≤ length (now counts)) ×
+        (proper n (links-up-to n (now image) m) ≡ true)
+        ⌝ }
     ensures { λ _. ⌜ Tallied n (now (ranks .entry)) slack (links-up-to n (now (image .entry)) m) (now (counts .exit)) ⌝ }
 {
     tables::fill::fill16(counts, 0);

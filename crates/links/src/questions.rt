@@ -4,7 +4,7 @@ ghost use mathlib.Core.Bool.{true};
 ghost use Prim.Native.Nat.{_*_, _≤_};
 ghost use lib.ListN.{length};
 ghost use Rattle.mesh.specs.Limits.{max-radios, max-neighbours, row-bytes};
-ghost use Rattle.mesh.specs.Tables.{tables, graph-in};
+ghost use Rattle.mesh.specs.Tables.{graph-in, lent};
 ghost use Rattle.mesh.specs.Sound.{rows-proper};
 ghost use Rattle.calls.specs.Questions.{ends-refusal};
 ghost use Rattle.links.specs.Asked.{Asked};
@@ -55,7 +55,10 @@ pub(crate) fn refusal(
     highs: &mut [u8],
 ) -> u32
     requires { ⌜ (max-radios ≤ length (now places)) × (max-radios ≤ length (now highs)) ⌝ }
-    ensures { λ r. ⌜ Asked up n a b (tables (now (links .entry)) (now (numbers .entry)) (now (order .entry))) answer (now (places .exit)) (now (highs .exit)) r ⌝ }
+    ensures { λ r. ⌜
+        Asked up n a b (lent (links .entry) (numbers .entry) (order .entry)) answer (now (places .exit)) (now (highs .exit))
+        r
+        ⌝ }
 {
     let number = sizes::with_answer(
         Site { radios: n },

@@ -3,7 +3,7 @@ ghost use mathlib.Core.Path.{_≡_};
 ghost use Prim.Native.Nat.{_≤_, _<_};
 ghost use lib.ListN.{length};
 ghost use Rattle.lists.specs.Lists.{overwrite};
-ghost use Rattle.mesh.specs.Tables.{tables};
+ghost use Rattle.mesh.specs.Tables.{lent};
 ghost use Rattle.calls.specs.Answers.{Tree-contract};
 ghost use Rattle.node_list.specs.Lent.{node-in, nodes-in};
 use calls::Value;
@@ -33,8 +33,14 @@ fn fill<'s, 'a>(
     parents: &'a [u16],
     count: usize,
 )
-    requires { ⌜ (count ≤ length (now nodes)) × (count ≤ length (now names)) × (count ≤ length (now levels)) × (count ≤ length (now parents)) ⌝ }
-    ensures { λ _. ⌜ now (nodes .exit) ≡ overwrite (nodes-in (now (names .entry)) (now (levels .entry)) (now (parents .entry)) count) (now (nodes .entry)) ⌝ }
+    requires { ⌜
+        (count ≤ length (now nodes)) × (count ≤ length (now names)) × (count ≤ length (now levels)) ×
+        (count ≤ length (now parents))
+        ⌝ }
+    ensures { λ _. ⌜
+        now (nodes .exit)
+        ≡ overwrite (nodes-in (now (names .entry)) (now (levels .entry)) (now (parents .entry)) count) (now (nodes .entry))
+        ⌝ }
 {
     let mut i = 0;
     while i < count {
@@ -54,7 +60,10 @@ pub fn shell_tree<'a, 's, 't>(
     nodes: &'s mut [Node],
     answer: &'t mut [u16],
 ) -> Value
-    ensures { λ r. ⌜ Tree-contract n (tables (now (links .entry)) (now (numbers .entry)) (now (order .entry))) (now (nodes .entry)) (now (answer .entry)) r (now (nodes .exit)) (now (answer .exit)) ⌝ }
+    ensures { λ r. ⌜
+        Tree-contract n (lent (links .entry) (numbers .entry) (order .entry)) (now (nodes .entry)) (now (answer .entry)) r
+        (now (nodes .exit)) (now (answer .exit))
+        ⌝ }
 {
     let mut names = [0u16; PLACES];
     let mut levels = [0u16; PLACES];

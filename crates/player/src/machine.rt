@@ -4,7 +4,7 @@ ghost use mathlib.Core.Path.{_≡_};
 ghost use mathlib.Core.Bool.{true};
 ghost use Prim.Native.Nat.{_≤_, _<_, _+_, _-_};
 ghost use lib.ListN.{length, take, drop};
-ghost use Rattle.mesh.specs.Tables.{tables};
+ghost use Rattle.mesh.specs.Tables.{lent};
 ghost use Rattle.printing.specs.Print.{lent, Puts, max-place};
 ghost use Rattle.player.specs.Lines.{Prints};
 ghost use Rattle.player.specs.Machine.{spot, next-number, Stop-put, Takes, Takes-all, closing, full, longest};
@@ -58,7 +58,12 @@ fn take_byte(
     out: &mut [u8],
 ) -> Progress
     requires { ⌜ s .live ≡ true ⌝ }
-    ensures { λ r. ⌜ Prints (λ text. Takes (length (now (line .entry))) n byte (spot (tables (now (links .entry)) (now (numbers .entry)) (now (order .entry))) (now (answer .entry)) (now (line .entry)) s) text (spot (tables (now (links .exit)) (now (numbers .exit)) (now (order .exit))) (now (answer .exit)) (now (line .exit)) r)) (lent (now (out .entry)) (s .at)) (lent (now (out .exit)) (r .at)) ⌝ }
+    ensures { λ r. ⌜
+        Prints (λ text. Takes (length (now (line .entry))) n byte
+        (spot (lent (links .entry) (numbers .entry) (order .entry)) (now (answer .entry)) (now (line .entry)) s) text
+        (spot (lent (links .exit) (numbers .exit) (order .exit)) (now (answer .exit)) (now (line .exit)) r)) (lent
+        (now (out .entry)) (s .at)) (lent (now (out .exit)) (r .at))
+        ⌝ }
 {
     let held = s.held;
     if line.len() <= held {
@@ -105,7 +110,12 @@ pub fn take_bytes(
     answer: &mut [u16],
     out: &mut [u8],
 ) -> Taken
-    ensures taken { λ r. ⌜ Prints (λ text. Takes-all (length (now (line .entry))) n (take (r .next - from) (drop from (now (chunk .entry)))) (spot (tables (now (links .entry)) (now (numbers .entry)) (now (order .entry))) (now (answer .entry)) (now (line .entry)) s) text (spot (tables (now (links .exit)) (now (numbers .exit)) (now (order .exit))) (now (answer .exit)) (now (line .exit)) (r .progress))) (lent (now (out .entry)) (s .at)) (lent (now (out .exit)) (r .progress .at)) ⌝ }
+    ensures taken { λ r. ⌜
+        Prints (λ text. Takes-all (length (now (line .entry))) n (take (r .next - from) (drop from (now (chunk .entry))))
+        (spot (lent (links .entry) (numbers .entry) (order .entry)) (now (answer .entry)) (now (line .entry)) s) text
+        (spot (lent (links .exit) (numbers .exit) (order .exit)) (now (answer .exit)) (now (line .exit)) (r .progress)))
+        (lent (now (out .entry)) (s .at)) (lent (now (out .exit)) (r .progress .at))
+        ⌝ }
     ensures room { λ r. ⌜ (s .number ≤ max-place → s .at < full → r .progress .at < full + longest) ⌝ }
     ensures moves { λ r. ⌜ (s .live ≡ true → s .at < full → from < length (now (chunk .entry)) → from < r .next) ⌝ }
     ensures whole { λ r. ⌜ (r .progress .live ≡ true → r .progress .at < full → length (now (chunk .entry)) ≤ r .next) ⌝ }
@@ -131,7 +141,11 @@ pub fn take_bytes(
 
 // The end of the input: the closing lines, or `bad L` where the last line has no line feed. The place after it.
 pub fn finish(s: Progress, line: &[u8], numbers: &[u8], order: &[u16], out: &mut [u8]) -> usize
-    ensures { λ r. ⌜ Puts (lent (now (out .entry)) (s .at)) (closing (take (s .held) (now (line .entry))) (now (numbers .entry)) (now (order .entry)) (s .number)) (lent (now (out .exit)) r) ⌝ }
+    ensures { λ r. ⌜
+        Puts (lent (now (out .entry)) (s .at))
+        (closing (take (s .held) (now (line .entry))) (now (numbers .entry)) (now (order .entry)) (s .number))
+        (lent (now (out .exit)) r)
+        ⌝ }
 {
     let held = tables::fill::least(s.held, line.len());
     if held != 0 {

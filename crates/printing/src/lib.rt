@@ -105,7 +105,10 @@ fn wide16(x: u16) -> u64
 
 // Puts the rest of a line: a further field for each number, and the line feed.
 fn put_numbers(buffer: &mut [u8], at: usize, numbers: &[u8]) -> usize
-    ensures { λ r. ⌜ Puts (lent (now (buffer .entry)) at) (further-fields (map decimal (now (numbers .entry)))) (lent (now (buffer .exit)) r) ⌝ }
+    ensures { λ r. ⌜
+        Puts (lent (now (buffer .entry)) at) (further-fields (map decimal (now (numbers .entry))))
+        (lent (now (buffer .exit)) r)
+        ⌝ }
 {
     let mut place = at;
     let mut i = 0;
@@ -118,7 +121,10 @@ fn put_numbers(buffer: &mut [u8], at: usize, numbers: &[u8]) -> usize
 
 // The same for radios.
 fn put_radios(buffer: &mut [u8], at: usize, radios: &[u16]) -> usize
-    ensures { λ r. ⌜ Puts (lent (now (buffer .entry)) at) (further-fields (map decimal (now (radios .entry)))) (lent (now (buffer .exit)) r) ⌝ }
+    ensures { λ r. ⌜
+        Puts (lent (now (buffer .entry)) at) (further-fields (map decimal (now (radios .entry))))
+        (lent (now (buffer .exit)) r)
+        ⌝ }
 {
     let mut place = at;
     let mut i = 0;
@@ -138,7 +144,10 @@ pub fn put_link_line(
     changed: &[u16],
     count: u32,
 ) -> usize
-    ensures { λ r. ⌜ Puts (lent (now (buffer .entry)) at) (link-line number step (take count (now (changed .entry)))) (lent (now (buffer .exit)) r) ⌝ }
+    ensures { λ r. ⌜
+        Puts (lent (now (buffer .entry)) at) (link-line number step (take count (now (changed .entry))))
+        (lent (now (buffer .exit)) r)
+        ⌝ }
 {
     let after_number = put_decimal(buffer, at, number as u64);
     let after_space = put_byte(buffer, after_number, b' ');

@@ -5,7 +5,7 @@ ghost use lib.ListN.{length};
 ghost use Rattle.mesh.specs.Limits.{max-radios};
 ghost use Rattle.lists.specs.Lists.{overwrite};
 ghost use Rattle.mesh.specs.Connected.{greatest};
-ghost use Rattle.mesh.specs.Tables.{tables};
+ghost use Rattle.mesh.specs.Tables.{lent};
 ghost use Rattle.calls.specs.Answers.{Backbone-contract};
 ghost use Rattle.queries.specs.Levels.{level-radios, listed-one, count-one};
 use calls::Value;
@@ -67,7 +67,10 @@ pub fn backbone<'a>(
     order: &'a [u16],
     answer: &mut [u16],
 ) -> Value
-    ensures { λ r. ⌜ Backbone-contract n (tables (now (links .entry)) (now (numbers .entry)) (now (order .entry))) (now (answer .entry)) r (now (answer .exit)) ⌝ }
+    ensures { λ r. ⌜
+        Backbone-contract n (lent (links .entry) (numbers .entry) (order .entry)) (now (answer .entry)) r
+        (now (answer .exit))
+        ⌝ }
 {
     let refusal = soundness::refusal(n, links, numbers, order, n as usize <= answer.len());
     if refusal != 0 {

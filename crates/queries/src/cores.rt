@@ -1,6 +1,6 @@
 // The connected core of a radio at a level: the radios that links lead to over radios with that number or more.
 ghost use mathlib.Core.Path.{_≡_};
-ghost use Rattle.mesh.specs.Tables.{tables, graph-in};
+ghost use Rattle.mesh.specs.Tables.{graph-in, lent};
 ghost use Rattle.mesh.specs.Sound.{sound};
 ghost use Rattle.calls.specs.Questions.{lengths-of, core-refusal};
 ghost use Rattle.calls.specs.Answers.{Core-contract};
@@ -17,7 +17,11 @@ fn core_refusal<'a>(
     order: &'a [u16],
     answer: usize,
 ) -> u32
-    ensures { λ r. ⌜ r ≡ core-refusal n v k (lengths-of (tables (now (links .entry)) (now (numbers .entry)) (now (order .entry)))) answer (sound n (tables (now (links .entry)) (now (numbers .entry)) (now (order .entry)))) (graph-in n (now (links .entry))) ⌝ }
+    ensures { λ r. ⌜
+        r
+        ≡ core-refusal n v k (lengths-of (lent (links .entry) (numbers .entry) (order .entry))) answer
+        (sound n (lent (links .entry) (numbers .entry) (order .entry))) (graph-in n (now (links .entry)))
+        ⌝ }
 {
     let number = soundness::refusal(n, links, numbers, order, n as usize <= answer);
     if number != 0 {
@@ -44,7 +48,10 @@ pub fn core<'a>(
     order: &'a [u16],
     answer: &mut [u16],
 ) -> Value
-    ensures { λ r. ⌜ Core-contract n v k (tables (now (links .entry)) (now (numbers .entry)) (now (order .entry))) (now (answer .entry)) r (now (answer .exit)) ⌝ }
+    ensures { λ r. ⌜
+        Core-contract n v k (lent (links .entry) (numbers .entry) (order .entry)) (now (answer .entry)) r
+        (now (answer .exit))
+        ⌝ }
 {
     let refusal = core_refusal(n, v, k, links, numbers, order, answer.len());
     if refusal != 0 {

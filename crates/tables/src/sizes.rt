@@ -70,7 +70,11 @@ pub fn with_nodes(
     nodes: usize,
     answer: usize,
 ) -> u32
-    ensures { λ r. ⌜ r ≡ lent-refusal (site .radios) (lengths links numbers order) (nodes-length (site .radios) nodes && answer-length (site .radios) answer) 0 ⌝ }
+    ensures { λ r. ⌜
+        r
+        ≡ lent-refusal (site .radios) (lengths links numbers order)
+        (nodes-length (site .radios) nodes && answer-length (site .radios) answer) 0
+        ⌝ }
 {
     let n = site.radios as usize;
     if nodes <= n {
