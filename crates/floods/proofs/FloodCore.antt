@@ -21,7 +21,8 @@ use Rattle.lists.proofs.Member.{member-in}
 use Rattle.mesh.proofs.Trees.Reach.{reachable-below, core-of-iff}
 use Rattle.rows.proofs.RowListLaws.{in-neighbours-of, member-neighbours-of}
 use Rattle.floods.specs.Floods.{ends-listed, takes-in, Spread, Flood-done}
-use Rattle.floods.proofs.SoundSite.{Sound-site, linked-marked, number-entry, ends-listed-neighbours}
+use Rattle.soundness.proofs.SoundSite.{Sound-site, linked-marked, number-entry}
+use Rattle.floods.proofs.EndsListed.{ends-listed-neighbours}
 
 module _ (n : ℕ) (t : Tables) (s : Sound-site n t) (k v : ℕ) (old : List ℕ) where
   abbrev g : Graph

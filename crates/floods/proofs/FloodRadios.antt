@@ -1,17 +1,15 @@
 -- What the flood's invariant rests on: laws of lists, and the test of radios that come in.
-use mathlib.Core.Path.{_≡_, refl, sym}
-use mathlib.Core.Logic.{_⊎_, inl, inr}
+use mathlib.Core.Path.{_≡_, refl}
 use mathlib.Core.Bool.{Bool, true, false, _&&_, _||_, not, cond}
 use mathlib.Core.List.{List, [], _∷_, _++_}
-use Prim.Native.Nat.{ℕ, zero, suc, _<_}
-use native.Mathlib.Omega.{arith}
+use Prim.Native.Nat.{ℕ, _<_}
 use lib.Dec.{ltb, leb, eqb}
 use lib.ListN.{length, getD}
 use borrow.Author.Tests.{ltb-true, not-true}
-use Rattle.lists.specs.Lists.{member, In, Distinct}
+use Rattle.lists.specs.Lists.{member}
 use Rattle.mesh.specs.Tables.{marked}
 use Rattle.lists.proofs.Tests.{never, and-left, and-right}
-use Rattle.lists.proofs.Member.{in-cases, member-append}
+use Rattle.lists.proofs.Member.{member-append}
 use Rattle.floods.specs.Floods.{takes-in}
 
 -- ---- laws of lists

@@ -13,5 +13,3 @@ pub mod TableWritten
 pub mod SiteLaws
 -- the reader's outcomes
 pub mod ReadLaws
--- the contract of reading is the named predicate
-pub mod Ties

@@ -7,5 +7,3 @@ pub mod LinksFrom
 pub mod BlockFilling
 -- the writer's outcomes
 pub mod WriteLaws
--- the contract of writing is the named predicate
-pub mod Ties

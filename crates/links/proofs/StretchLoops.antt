@@ -3,15 +3,12 @@
 use mathlib.Core.Path.{_≡_, refl, ap, _∙_}
 use mathlib.Core.Bool.{Bool, true, false}
 use mathlib.Core.List.{List, _∷_}
-use Prim.Native.Nat.{ℕ, _+_, _-_, _^_, _≤_, _<_}
+use Prim.Native.Nat.{ℕ, _+_, _-_, _≤_, _<_}
 use native.Mathlib.Omega.{arith}
 use native.Mathlib.Numerals.{add-one}
-use mir.Syntax.{w64}
-use mir.Val.{boolByte, Fits}
 use lib.ListN.{length, getD, set, drop, length-drop, length-set}
 use lib.Seq.{sets, drop-cons, drop-length, getD-take, getD-drop, length-take-le}
-use Rattle.lists.specs.Lists.{count, filter}
-use Rattle.lists.proofs.Tests.{bit-one, byte-bit}
+use Rattle.lists.specs.Lists.{filter}
 use Rattle.links.specs.Peels.{stretch}
 
 -- ---- radios listed

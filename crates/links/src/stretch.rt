@@ -55,7 +55,7 @@ pub(crate) fn list_stuck(
     while i < size {
         let v = order[start + i];
         if most < counters[v as usize] {
-            rows::put_entry(list, at, v);
+            tables::fill::put16(list, at, v);
             at += 1;
         }
         i += 1;

@@ -10,9 +10,9 @@
 use mathlib.Core.Bool.{Bool, cond}
 use mathlib.Core.List.{List, map, flatMap}
 use Prim.Native.Nat.{ℕ, zero, suc, _+_, _*_, _-_, _/_, _%_, _^_}
+use denote.Ref.{RefT, now}
 use lib.Dec.{eqb}
 use lib.ListN.{getD, set}
-use denote.Ref.{RefT, now}
 use Rattle.mesh.specs.Limits.{row-bytes}
 use Rattle.lists.specs.Lists.{range, filter}
 use Rattle.mesh.specs.Graph.{Link, Graph, graph, radios, linked}

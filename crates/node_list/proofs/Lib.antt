@@ -3,5 +3,3 @@ pub mod LentLaws
 pub mod LentAnswer
 -- a local array in a proof by hand
 pub mod LocalArray
--- the contract of the public call is the named one, and nothing is required
-pub mod TreeTie

@@ -11,13 +11,12 @@ use lib.ListN.{length, take, drop, length-append}
 use borrow.Author.Tests.{eqb-false}
 use Rattle.lists.proofs.Tests.{bool-cases, trichotomy}
 use Rattle.mesh.specs.Limits.{max-radios}
-use Rattle.lists.specs.Lists.{range, filter, In}
+use Rattle.lists.specs.Lists.{range, In}
 use Rattle.mesh.specs.Graph.{Graph, radios}
 use Rattle.mesh.specs.Levels.{changed, step-of}
 use Rattle.mesh.specs.Sound.{sound}
 use Rattle.mesh.specs.Tables.{Tables, graph-in}
-use Rattle.lists.proofs.Filter.{in-filter, length-filter, filter-le}
-use Rattle.lists.proofs.Count.{count-le-length}
+use Rattle.lists.proofs.Filter.{in-filter, filter-le}
 use Rattle.lists.proofs.Range.{length-range, range-in}
 use Rattle.lists.proofs.Overwrite.{take-overwrite}
 use Rattle.calls.specs.Replay.{bytes-of, decimal, link-line, bad-line, printed-line, numbers-line, order-line, closing-lines}

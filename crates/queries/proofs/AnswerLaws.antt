@@ -20,7 +20,7 @@ use Rattle.calls.proofs.ChainLaws.{radio-zero, pair-zero}
 use Rattle.calls.proofs.ContractLaws.{by-accepted, by-refused}
 use Rattle.rows.specs.Rows.{row-listed}
 use Rattle.lists.proofs.Tests.{byte-bit}
-use Rattle.floods.proofs.SoundSite.{Sound-site, linked-marked, number-entry, degree-listed}
+use Rattle.soundness.proofs.SoundSite.{Sound-site, linked-marked, number-entry, degree-listed}
 use Rattle.queries.proofs.RefusalLaws.{site-good-sound}
 
 -- ---- any value

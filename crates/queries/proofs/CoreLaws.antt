@@ -27,7 +27,7 @@ use Rattle.rows.specs.Rows.{row-listed}
 use Rattle.rows.proofs.RowListLaws.{neighbours-of-filter}
 use Rattle.rows.proofs.RowWords.{row-listed-whole}
 use Rattle.floods.specs.Floods.{Flood-done, Flooded}
-use Rattle.floods.proofs.SoundSite.{Sound-site, number-entry}
+use Rattle.soundness.proofs.SoundSite.{Sound-site, number-entry}
 use Rattle.floods.proofs.FloodSteps.{true-floodable}
 use Rattle.floods.proofs.FloodCore.{marked-flood}
 use Rattle.queries.proofs.RefusalLaws.{site-good-sound}

@@ -14,7 +14,7 @@ use Rattle.calls.specs.Questions.{ask, Lengths, lengths-of, size-good, site-len
 use Rattle.calls.specs.Questions.{radio-refusal, pair-refusal, core-refusal, level-refusal}
 use Rattle.calls.proofs.QuestionLaws.{ask-yes, ask-no, true-is-radio}
 use Rattle.calls.proofs.ChainLaws.{Site-good, site-zero, site-yes, radio-zero, radio-yes, pair-yes, core-yes}
-use Rattle.floods.proofs.SoundSite.{Sound-site, sound-site, number-entry}
+use Rattle.soundness.proofs.SoundSite.{Sound-site, sound-site, number-entry}
 
 -- ---- 1 to 3, and later questions
 

@@ -2,20 +2,14 @@
 -- In order: laws of ranges and stores, a loop that counts what has no place, a loop that stops when the list is full, the set bits of
 -- a word.
 use mathlib.Core.Path.{_≡_, refl, sym, ap, _∙_}
-use mathlib.Core.Logic.{_⊎_, inl, inr}
-use mathlib.Core.Bool.{true, false}
 use mathlib.Core.List.{List, [], _∷_, _++_}
-use Prim.Native.Nat.{ℕ, zero, suc, _+_, _-_, _^_, _≤_, _<_, min}
+use Prim.Native.Nat.{ℕ, _+_, _-_, _^_, _≤_, _<_, min}
 use native.Mathlib.Omega.{arith}
 use native.Mathlib.Numerals.{add-one}
 use lib.Bits.{bitAnd, and-le-l}
 use lib.Count.{trailingZeros}
-use lib.ListN.{length, take, set, length-set, length-append}
-use lib.Dec.{ltb}
-use lib.Seq.{sets, length-sets, set-out}
-use borrow.Author.Tests.{ltb-true, ltb-false}
-use Rattle.lists.specs.Lists.{range, overwrite}
-use Rattle.lists.proofs.Tests.{bool-cases}
+use lib.ListN.{length, set, length-set, length-append}
+use lib.Seq.{sets, length-sets}
 use Rattle.rows.specs.Rows.{set-bits}
 use Rattle.rows.proofs.WordLaws.{set-bits-lowest}
 use Rattle.lists.proofs.Overwrite.{sets-append, sets-full, sets-min}

@@ -2,7 +2,7 @@
 // The bits of a row are walked here and nowhere else.
 ghost use mathlib.Core.Path.{_≡_};
 ghost use Prim.Native.Nat.{_≤_, _+_, min};
-ghost use lib.ListN.{length, take, set};
+ghost use lib.ListN.{length, take};
 ghost use lib.Seq.{sets};
 ghost use Rattle.mesh.specs.Limits.{max-radios};
 ghost use Rattle.lists.specs.Lists.{head-or, overwrite};
@@ -47,15 +47,6 @@ pub fn put_link(links: &mut [u8], up: bool, a: u32, b: u32)
 {
     put_bit(links, up, a, b);
     put_bit(links, up, b, a);
-}
-
-// Writes x at a place of the list; past the list nothing changes.
-pub fn put_entry(list: &mut [u16], at: usize, x: u16)
-    ensures { λ _. ⌜ now (list .exit) ≡ set (now (list .entry)) at x ⌝ }
-{
-    if at < list.len() {
-        list[at] = x;
-    }
 }
 
 // The eight bytes of the table from `at` on, as one word, lowest byte first.

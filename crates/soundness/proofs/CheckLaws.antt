@@ -6,7 +6,7 @@ use mathlib.Core.Bool.{Bool, true, false, _&&_, not, and-false, and-true}
 use mathlib.Core.List.{List, [], _∷_}
 use Prim.Native.Nat.{ℕ, zero, suc, _+_, _-_, _≤_, _<_}
 use native.Mathlib.Omega.{arith}
-use native.Mathlib.Nat.{le-trans, le-of-eq, le-antisymm}
+use native.Mathlib.Nat.{le-trans, le-of-eq}
 use lib.Dec.{ltb, leb, eqb}
 use lib.ListN.{length, getD, take, drop, take-append-drop, length-take, length-drop}
 use lib.Seq.{getD-take, getD-drop}
@@ -18,8 +18,8 @@ use Rattle.mesh.specs.Tables.{Tables, marked}
 use Rattle.mesh.specs.Sound.{symmetric, irreflexive, within, few, rows-proper, row-degree, enough, number-in, sound-within}
 use Rattle.lists.proofs.Tests.{bool-cases, never, and-left, and-right, and-both, iff-eq}
 use Rattle.lists.proofs.Filter.{filter-in}
-use Rattle.lists.proofs.Range.{in-range, range-in, once-in, once-below, once-length, range-append, count-below}
-use Rattle.lists.proofs.Count.{count-append, count-mono, count-none, count-ext}
+use Rattle.lists.proofs.Range.{in-range, once-in, once-below, once-length, count-below}
+use Rattle.lists.proofs.Count.{count-append, count-none, count-ext}
 use Rattle.lists.proofs.All.{all-in, in-all, all-below, below-all}
 use Rattle.mesh.proofs.Cores.Orders.{of-each-once, Few-later, few-later-of, of-few-later}
 use Rattle.mesh.proofs.Tables.Rows.{symmetric-of, of-symmetric, irreflexive-of, of-irreflexive, within-of, of-within, few-of, of-few}

@@ -4,7 +4,7 @@ use mathlib.Core.Path.{_≡_, refl, sym, ap, _∙_}
 use mathlib.Core.Logic.{_⊎_, inl, inr}
 use mathlib.Core.Bool.{Bool, true, false, _&&_}
 use mathlib.Core.List.{List, [], _∷_}
-use Prim.Native.Nat.{ℕ, zero, suc, _+_, _≤_, _<_, min}
+use Prim.Native.Nat.{ℕ, suc, _+_, _≤_, _<_, min}
 use native.Mathlib.Omega.{arith}
 use native.Mathlib.Numerals.{add-one}
 use lib.Dec.{leb, eqb}
@@ -14,7 +14,7 @@ use borrow.Author.Tests.{le-leb, lt-leb, eqb-true, eqb-false}
 use Rattle.mesh.specs.Limits.{max-radios}
 use Rattle.mesh.specs.Orders.{each-once, rising}
 use Rattle.lists.proofs.Tests.{bool-cases, never, trichotomy}
-use Rattle.lists.specs.Lists.{Distinct, Each-once}
+use Rattle.lists.specs.Lists.{Each-once}
 use Rattle.lists.proofs.Range.{once-of, once-below, once-distinct}
 use Rattle.mesh.proofs.Cores.Orders.{each-once-of, of-each-once}
 use Rattle.soundness.specs.Checks.{Placing, Places-found, nowhere, rising-from}

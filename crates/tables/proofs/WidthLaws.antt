@@ -2,23 +2,20 @@
 -- each function cites them with its own, 8 or 16.
 -- In order: laws of lists; values; a table being written, and what it holds at the end; a table being copied; tables compared.
 use mathlib.Core.Path.{_≡_, refl, sym, ap, ap₂, _∙_}
-use mathlib.Core.Logic.{_⊎_, inl, inr}
 use mathlib.Core.Bool.{true, false, _&&_}
-use mathlib.Core.List.{List, [], _∷_, _++_, map, append-nil}
-use Prim.Native.Nat.{ℕ, zero, suc, _+_, _%_, _^_, _≤_, _<_, min}
-use native.Mathlib.Nat.{mod-eq-of-lt, zero-add, zero-min, suc-min-suc}
+use mathlib.Core.List.{List, _++_, map, append-nil}
+use Prim.Native.Nat.{ℕ, suc, _+_, _%_, _^_, _≤_, _<_, min}
+use native.Mathlib.Nat.{mod-eq-of-lt, zero-add}
 use native.Mathlib.Numerals.{add-one}
 use native.Mathlib.Omega.{arith}
 use lib.Dec.{eqb}
-use lib.ListN.{length, getD, set, take, drop, replicate, length-set, length-take, drop-of-length-le}
-use lib.Seq.{drop-cons, take-all, take-nil}
+use lib.ListN.{length, getD, set, take, drop, replicate, length-set, drop-of-length-le}
+use lib.Seq.{drop-cons}
 use borrow.Author.Tests.{eq-eqb, ne-eqb}
 use borrow.Author.Count.{below-more}
 use Rattle.lists.specs.Lists.{range, same, overwrite}
-use Rattle.lists.proofs.Tests.{bool-cases}
 use Rattle.lists.proofs.Range.{length-range}
 use Rattle.lists.proofs.Map.{map-range-ext, length-map, map-range-getD, map-range-constant, map-range-id}
-use Rattle.lists.proofs.All.{same-eq}
 use Rattle.tables.specs.Widths.{Below, values, written}
 use Rattle.lists.proofs.Overwrite.{set-map-range-end}
 use Rattle.lists.proofs.Parts.{take-min}

@@ -6,10 +6,8 @@ use mathlib.Core.Bool.{Bool, true, false, _&&_, _||_, not, cond}
 use mathlib.Core.List.{List, [], _∷_, _++_, map, append-nil}
 use Prim.Native.Nat.{ℕ, suc, _+_, _≤_, _<_}
 use native.Mathlib.Omega.{arith}
-use native.Mathlib.Nat.{zero-add}
 use lib.Dec.{eqb}
 use lib.ListN.{length, getD, take, set, replicate, length-append, length-replicate}
-use lib.Seq.{getD-take}
 use borrow.Author.Tests.{eqb-true, eq-eqb, not-true}
 use Rattle.mesh.specs.Limits.{max-radios, row-bytes}
 use Rattle.lists.specs.Lists.{range, member, overwrite}
@@ -20,16 +18,15 @@ use Rattle.mesh.specs.Tree.{node, parent-name}
 use Rattle.mesh.specs.declared.Node.{Node}
 use Rattle.lists.proofs.Tests.{bool-cases, and-left, and-right, iff-eq}
 use Rattle.lists.proofs.Member.{in-member}
-use Rattle.lists.proofs.Overwrite.{take-overwrite, set-overwrite, getD-front}
-use Rattle.lists.proofs.Map.{getD-map-range, length-map, map-append, map-range-ext}
-use Rattle.lists.proofs.Range.{length-range}
+use Rattle.lists.proofs.Overwrite.{set-overwrite, getD-front}
+use Rattle.lists.proofs.Map.{length-map, map-append, map-range-ext}
 use Rattle.mesh.proofs.Tables.Laws.{marked-replicate, byte-at-less}
 use Rattle.mesh.proofs.Trees.Reach.{core-of-iff}
 use Rattle.mesh.proofs.Trees.CoreLevels.{in-core-below}
 use Rattle.floods.specs.Floods.{Flood-done}
 use Rattle.floods.proofs.FloodSteps.{true-floodable}
 use Rattle.floods.proofs.FloodCore.{member-flood, marked-flood}
-use Rattle.floods.proofs.SoundSite.{Sound-site, number-entry}
+use Rattle.soundness.proofs.SoundSite.{Sound-site, number-entry}
 use Rattle.tree.specs.Trees.{Lists, lists, with-front, Room, entries-set, takes-node, Node-taken, Nothing-taken, Visited, own, covered, present}
 use Rattle.tree.specs.Trees.{nodes-before, Growing, Marks}
 use Rattle.tree.proofs.ShellCover.{own-lead, own-covered, not-covered-own, core-not-covered, covered-none, covered-next, present-next, present-own}

@@ -14,7 +14,7 @@ use Rattle.lists.proofs.Tests.{bool-cases, and-left, and-right}
 use Rattle.calls.specs.Questions.{lengths-of, size-good, site-lengths}
 use Rattle.calls.proofs.QuestionLaws.{size-good-true, site-lengths-true}
 use Rattle.soundness.specs.Checks.{fits-sound}
-use Rattle.floods.proofs.SoundSite.{Sound-site, sound-site}
+use Rattle.soundness.proofs.SoundSite.{Sound-site, sound-site}
 use Rattle.tree.specs.Trees.{Lists, Room, takes-node, Visited, Growing, Marks, Levelled}
 use Rattle.tree.proofs.GrowLaws.{visited-next, marks-start, growing-end}
 

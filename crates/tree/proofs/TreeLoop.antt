@@ -17,7 +17,7 @@ use Rattle.mesh.proofs.Trees.Laws.{number-le-n}
 use Rattle.mesh.proofs.Trees.ShellNames.{node-name-parent}
 use Rattle.soundness.specs.Checks.{fits-sound}
 use Rattle.lists.proofs.Map.{map-range-constant, map-range-ext}
-use Rattle.floods.proofs.SoundSite.{number-entry}
+use Rattle.soundness.proofs.SoundSite.{number-entry}
 use Rattle.tree.specs.Trees.{Lists, with-front, Room, name-before, present, Growing, Levelled, Tree-written, Grown}
 use Rattle.tree.proofs.ShellCover.{present-start}
 use Rattle.lists.proofs.Overwrite.{set-overwrite}

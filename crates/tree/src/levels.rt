@@ -123,7 +123,7 @@ fn grow<'a>(
     let mut queue = [0u16; Site::RADIOS as usize];
     crate::nodes::fill_front(answer, numbers.len(), ROOT);
     crate::nodes::put_node(names, levels, parents, 0, ROOT, 0, ROOT);
-    let top = queries::backbone::greatest(numbers) as u32;
+    let top = tables::numbers::greatest(numbers) as u32;
     let mut count: u32 = 1;
     let mut k: u32 = 1;
     while k <= top {

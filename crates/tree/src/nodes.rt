@@ -19,9 +19,9 @@ pub fn put_node(
     ensures levelled { λ _. ⌜ now (levels .exit) ≡ set (now (levels .entry)) at level ⌝ }
     ensures parented { λ _. ⌜ now (parents .exit) ≡ set (now (parents .entry)) at parent ⌝ }
 {
-    rows::put_entry(names, at, name);
-    rows::put_entry(levels, at, level);
-    rows::put_entry(parents, at, parent);
+    tables::fill::put16(names, at, name);
+    tables::fill::put16(levels, at, level);
+    tables::fill::put16(parents, at, parent);
 }
 
 // Writes x at each place of the answer table that the first k entries of the list name; past the table nothing changes.
@@ -31,7 +31,7 @@ fn name_all(list: &[u16], k: usize, x: u16, answer: &mut [u16])
 {
     let mut i: usize = 0;
     while i < k {
-        rows::put_entry(answer, list[i] as usize, x);
+        tables::fill::put16(answer, list[i] as usize, x);
         i += 1;
     }
 }

@@ -11,7 +11,7 @@ returns c = (rw (ne-eqb _ _ (c .if1 .taken)), rw (ne-eqb _ _ (c .if1 .taken)))
 
 returns-2 : tie.Need-returns-2
 unfolding count-one listed-one
-returns-2 c = (rw (eq-eqb _ _ (c .before .before .before .before .if1 .left)), rw (eq-eqb _ _ (c .before .before .before .before .if1 .left)) (c .before .before .put-entry .ensures))
+returns-2 c = (rw (eq-eqb _ _ (c .before .before .before .before .if1 .left)), rw (eq-eqb _ _ (c .before .before .before .before .if1 .left)) (c .before .before .put16 .ensures))
 
 pub list-one-spec : {M : Type 1} → statement M
 list-one-spec =

@@ -17,14 +17,14 @@ abbrev μ-loop : tie.MeasureT-loop
 loop-holds : tie.Need-loop-holds Inv-loop μ-loop
 loop-holds c = setting-none _ _ _
 
-cast-put-entry : tie.Need-cast-put-entry Inv-loop μ-loop
-cast-put-entry c = omega (arith, c .shared-slice-known2 .given (c .before .before .before .loop .i))
+cast-put16 : tie.Need-cast-put16 Inv-loop μ-loop
+cast-put16 c = omega (arith, c .shared-slice-known2 .given (c .before .before .before .loop .i))
 
 loop-again : tie.Need-loop-again Inv-loop μ-loop
 loop-again c =
     let at-loop = c .before .before .before .before .before .before in
     let start = at-loop .before .before .before in
-    setting-turn (start .args .x) (start .args .list .now) (start .args .k) (start .args .answer .now) (at-loop .loop .i) (at-loop .loop .answer) _ (start .pre) (c .before .before .before .before .before .loop-test .taken) (c .before .before .put-entry .ensures) (at-loop .loop .inv)
+    setting-turn (start .args .x) (start .args .list .now) (start .args .k) (start .args .answer .now) (at-loop .loop .i) (at-loop .loop .answer) _ (start .pre) (c .before .before .before .before .before .loop-test .taken) (c .before .before .put16 .ensures) (at-loop .loop .inv)
 
 same-length : tie.Need-same-length Inv-loop μ-loop
 same-length c = c .before .loop .inv .long
@@ -37,5 +37,5 @@ returns c =
 pub name-all-spec : {M : Type 1} → statement M
 name-all-spec =
     tie.close (
-    tie.spec Inv-loop μ-loop loop-holds (λ c. search needs) (λ c. search needs) cast-put-entry (λ c κs. search needs)
+    tie.spec Inv-loop μ-loop loop-holds (λ c. search needs) (λ c. search needs) cast-put16 (λ c κs. search needs)
     (λ c. search needs) (λ c. search needs) loop-again same-length returns)

@@ -4,15 +4,13 @@ use mathlib.Core.Bool.{Bool, true, _&&_}
 use mathlib.Core.List.{List}
 use Prim.Native.Nat.{ℕ, _*_, _≤_, _<_}
 use native.Mathlib.Omega.{arith}
-use lib.ListN.{length, getD, take}
-use lib.Seq.{take-all}
+use lib.ListN.{length, getD}
 use Rattle.mesh.specs.Limits.{max-radios, max-neighbours, row-bytes}
 use Rattle.mesh.specs.Graph.{linked, degree}
 use Rattle.mesh.specs.Cores.{number, numbers}
 use Rattle.mesh.specs.Tables.{Tables, marked, graph-in}
 use Rattle.mesh.specs.Sound.{symmetric, irreflexive, within, few, rows-proper, sound}
 use Rattle.lists.proofs.Tests.{and-left, and-right}
-use Rattle.mesh.proofs.Tables.Rows.{few-of}
 use Rattle.mesh.proofs.Cores.Peeling.{getD-numbers}
 use Rattle.mesh.proofs.Tables.ReadBack.{linked-graph-in, degree-graph-in}
 use Rattle.mesh.proofs.Tables.Soundness.{Right, sound-right}
@@ -21,7 +19,6 @@ use Rattle.calls.proofs.QuestionLaws.{Site-lengths}
 use Rattle.rows.specs.Rows.{neighbours-of, row-listed}
 use Rattle.rows.proofs.RowListLaws.{length-neighbours-of}
 use Rattle.rows.proofs.RowWords.{row-listed-whole}
-use Rattle.floods.specs.Floods.{ends-listed}
 
 pub record Sound-site (n : ℕ) (t : Tables) : Type 0 where
   pub small : n ≤ max-radios
@@ -70,13 +67,3 @@ module _ (n : ℕ) (t : Tables) (s : Sound-site n t) where
   degree-listed a l =
       ap length (row-listed-neighbours a l) ∙ length-neighbours-of (t .links) a
       ∙ sym (degree-graph-in n (t .links) (s .small) (s .symmetric) (s .irreflexive) (s .within) a l)
-
-  pub ends-listed-neighbours : (a : ℕ) → a < n → ends-listed (t .links) a ≡ neighbours-of (t .links) a
-  unfolding ends-listed
-  ends-listed-neighbours a l =
-      ap (take max-neighbours) (row-listed-neighbours a l)
-      ∙ take-all max-neighbours (neighbours-of (t .links) a) (omega (
-        arith,
-        length-neighbours-of (t .links) a,
-        few-of max-neighbours n (t .links) (s .few) a l,
-      ))

@@ -1,12 +1,12 @@
--- `backbone::greatest` meets its contract: the greatest so far and what is left of the table give the greatest. The measure is
+-- `numbers::greatest` meets its contract: the greatest so far and what is left of the table give the greatest. The measure is
 -- what is left of the table.
 use Prim.Native.Nat.{_-_}
 use native.Mathlib.Omega.{arith}
 use lib.ListN.{length}
 use borrow.Author.Needs.{needs}
-use Rattle.queries.proofs.LevelLaws.{Greatest-so-far, greatest-turn, greatest-end}
-use Rattle.queries.proofs.backbone.greatest.Statement.{statement}
-use Rattle.queries.proofs.backbone.greatest.Tie as tie
+use Rattle.tables.proofs.NumberLaws.{Greatest-so-far, greatest-turn, greatest-end}
+use Rattle.tables.proofs.numbers.greatest.Statement.{statement}
+use Rattle.tables.proofs.numbers.greatest.Tie as tie
 
 abbrev Inv-loop : tie.InvT-loop
 Inv-loop numbers top₀ v₀ top v = Greatest-so-far numbers top v
