@@ -5,6 +5,7 @@ ghost use lib.ListN.{length, take};
 ghost use Rattle.mesh.specs.Image.{block-bytes, check-sum, block-check, checks-good};
 ghost use Rattle.calls.specs.Questions.{block-refusal};
 ghost use Rattle.image.specs.Bytes.{long-at};
+use calls::Refusal;
 
 // The bytes of a block, and its bytes before the check.
 pub const BLOCK: usize = 512;
@@ -75,13 +76,13 @@ pub fn refusal(image: &[u8]) -> u32
 {
     let length = image.len();
     if length == 0 {
-        return 9;
+        return Refusal::IMAGE_SIZE;
     }
     if length % BLOCK != 0 {
-        return 9;
+        return Refusal::IMAGE_SIZE;
     }
     if !all_good(image) {
-        return 10;
+        return Refusal::IMAGE_CHECK;
     }
     0
 }

@@ -12,6 +12,7 @@ ghost use Rattle.image_reader.specs.Pairs.{links-up-to};
 ghost use Rattle.image_reader.specs.Reading.{Site-room, Site-decided, Site-read};
 use super::numbers;
 use super::pairs;
+use calls::Refusal;
 use image::checks;
 use image::form;
 use mesh::Site;
@@ -84,7 +85,7 @@ fn read_site(
         ⌝ }
 {
     if !is_site(image, n, listed, ranks, counts) {
-        return 11;
+        return Refusal::IMAGE;
     }
     put_links(image, n, form::word_at(image, 6), links);
     put_numbers(ranks, numbers);

@@ -14,6 +14,7 @@ ghost use Rattle.calls.specs.Answers.{Write-contract};
 ghost use Rattle.image_writer.specs.Filler.{opened, sealed};
 ghost use Rattle.image_writer.specs.Links.{links-from, Rows-listed, Cursor-good, First-above, Span-of, Row-put, Links-put, Links-filled};
 ghost use Rattle.image_writer.specs.Links.{Writable, Cursor-at, Block-filled, marked-graph};
+use calls::Refusal;
 use calls::Value;
 use image::checks;
 use image::form;
@@ -301,7 +302,7 @@ pub fn write(n: u32, links: &[u8], numbers: &[u8], order: &[u16], buffer: &mut [
     let blocks = form::block_count(n, count);
     if buffer.len() < checks::BLOCK * blocks as usize {
         return Value {
-            number: 9,
+            number: Refusal::IMAGE_SIZE,
             value: 0,
         };
     }

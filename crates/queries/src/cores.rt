@@ -4,6 +4,7 @@ ghost use Rattle.mesh.specs.Tables.{graph-in, lent};
 ghost use Rattle.mesh.specs.Sound.{sound};
 ghost use Rattle.calls.specs.Questions.{lengths-of, core-refusal};
 ghost use Rattle.calls.specs.Answers.{Core-contract};
+use calls::Refusal;
 use calls::Value;
 use mesh::Site;
 
@@ -28,10 +29,10 @@ fn core_refusal<'a>(
         return number;
     }
     if n <= v {
-        return 4;
+        return Refusal::RADIO;
     }
     if (numbers[v as usize] as u32) < k {
-        return 8;
+        return Refusal::LEVEL;
     }
     0
 }

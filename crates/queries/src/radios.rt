@@ -5,6 +5,7 @@ ghost use Rattle.mesh.specs.Tables.{lent};
 ghost use Rattle.mesh.specs.Sound.{sound};
 ghost use Rattle.calls.specs.Questions.{lengths-of, radio-refusal, pair-refusal};
 ghost use Rattle.calls.specs.Answers.{first-of-two, Number-contract, Neighbours-contract, Linked-contract, First-contract};
+use calls::Refusal;
 use calls::Value;
 
 // Questions 1 to 4 of one radio.
@@ -20,7 +21,7 @@ fn radio_refusal<'a>(n: u32, v: u32, links: &'a [u8], numbers: &'a [u8], order: 
         return number;
     }
     if n <= v {
-        return 4;
+        return Refusal::RADIO;
     }
     0
 }
@@ -45,7 +46,7 @@ fn pair_refusal<'a>(
         return number;
     }
     if n <= b {
-        return 4;
+        return Refusal::RADIO;
     }
     0
 }

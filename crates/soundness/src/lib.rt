@@ -12,6 +12,7 @@ ghost use Rattle.calls.specs.Answers.{Check-contract};
 ghost use Rattle.tables.specs.Sizes.{lengths};
 ghost use Rattle.soundness.specs.Checks.{Entries-below, Placing, Places-found, Ends-room, Ends-counted, Rows-room, Row-checked, Rows-checked};
 ghost use Rattle.soundness.specs.Checks.{examinable, Examined, fits-sound};
+use calls::Refusal;
 use calls::Value;
 use mesh::Site;
 
@@ -283,10 +284,10 @@ pub fn refusal(n: u32, links: &[u8], numbers: &[u8], order: &[u16], others: bool
         return number;
     }
     if !others {
-        return 2;
+        return Refusal::LENGTH;
     }
     if !is_sound(n, links, numbers, order) {
-        return 3;
+        return Refusal::UNSOUND;
     }
     0
 }

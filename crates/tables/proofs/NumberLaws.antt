@@ -6,7 +6,6 @@ use native.Mathlib.Omega.{arith}
 use native.Mathlib.Numerals.{add-one}
 use lib.ListN.{drop, length, getD, drop-of-length-le}
 use lib.Seq.{drop-cons}
-use Rattle.mesh.specs.Cores.{numbers}
 use Rattle.mesh.specs.Connected.{greatest}
 
 abbrev pub Greatest-so-far : (numbers : List ℕ) → (top v : ℕ) → Type 0

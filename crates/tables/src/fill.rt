@@ -2,7 +2,7 @@
 // Nothing is refused: of what does not fit, as much is written as fits.
 ghost use mathlib.Core.Path.{_≡_};
 ghost use Prim.Native.Nat.{ℕ, min};
-ghost use lib.ListN.{length, take, replicate};
+ghost use lib.ListN.{length, take, replicate, set};
 ghost use Rattle.lists.specs.Lists.{same, overwrite};
 ghost use Rattle.tables.specs.Widths.{values};
 

@@ -3,6 +3,7 @@
 ghost use mathlib.Core.Path.{_≡_};
 ghost use Rattle.calls.specs.Questions.{size-good, site-lengths, answer-length, tables-refusal, lent-refusal};
 ghost use Rattle.tables.specs.Sizes.{lengths};
+use calls::Refusal;
 use mesh::Site;
 
 // Question 1: has the site 1 to 512 radios?
@@ -35,13 +36,13 @@ fn lent(site: Site, links: usize, numbers: usize, order: usize, others: bool) ->
     ensures { λ r. ⌜ r ≡ lent-refusal (site .radios) (lengths links numbers order) others 0 ⌝ }
 {
     if !is_size(site) {
-        return 1;
+        return Refusal::SIZE;
     }
     if !are_lengths(site, links, numbers, order) {
-        return 2;
+        return Refusal::LENGTH;
     }
     if !others {
-        return 2;
+        return Refusal::LENGTH;
     }
     0
 }
