@@ -12,7 +12,7 @@ use lib.ListN.{length, getD, take, set, length-append, length-set}
 use lib.Seq.{length-take-le, take-suc, take-append-le, take-suc-set, take-take, getD-take}
 use borrow.Author.Tests.{lt-ltb}
 use Rattle.mesh.specs.Limits.{max-radios, row-bytes}
-use Rattle.lists.specs.Lists.{range, count, member, In, Distinct}
+use Rattle.lists.specs.Lists.{folded, range, count, member, In, Distinct}
 use Rattle.mesh.specs.Tables.{marked, put-bit}
 use Rattle.lists.proofs.Tests.{bool-cases, never, and-left, and-both}
 use Rattle.lists.proofs.Member.{in-left, in-right, in-cases, member-in, in-member, in-getD}
@@ -172,7 +172,7 @@ module _ (ts ns : List ℕ) (k v : ℕ) (old : List ℕ) where
 
     took-all : (done bs : List ℕ) (a : ℕ) (f : Flood) → Flooding done f → In a (came-in f) → ((b : ℕ) → In b bs → In b (ends-listed ts a))
         → Took done bs f (taken-all ns k bs f)
-    unfolding taken-all
+    unfolding taken-all folded
     took-all done [] a f h ma mb = record { flooding = h; all = λ x m t. absurd m; more = []; behind = sym (append-nil (came-in f)) }
     took-all done (b ∷ bs) a f h ma mb =
         go (took-one done a b f h ma (mb b (inl refl))) (λ e q m. took-all done bs a e q m (λ x y. mb x (inr y)))

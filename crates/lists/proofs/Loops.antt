@@ -9,8 +9,8 @@ use native.Mathlib.Omega.{arith}
 use native.Mathlib.Numerals.{add-one}
 use mir.Syntax.{w64}
 use mir.Val.{boolByte, Fits}
-use lib.ListN.{length, getD, drop, drop-of-length-le}
-use lib.Seq.{drop-cons, drop-length}
+use lib.ListN.{length, getD, take, drop, drop-of-length-le}
+use lib.Seq.{length-take-le, getD-take, drop-cons, drop-length}
 use Rattle.lists.specs.Lists.{folded, count}
 use Rattle.lists.proofs.Tests.{bit-one, byte-bit}
 
@@ -37,6 +37,22 @@ pub length-folded : (f : ℕ → List ℕ → List ℕ) → ((x : ℕ) (s : List
 unfolding folded
 length-folded f h [] s = refl
 length-folded f h (x ∷ xs) s = length-folded f h xs (f x s) ∙ h x s
+
+-- a table keeps its length
+pub folding-long : (f : ℕ → List ℕ → List ℕ) → ((x : ℕ) (s : List ℕ) → length (f x s) ≡ length s) → (xs start now : List ℕ) (i : ℕ)
+    → Folding f xs start now i → length now ≡ length start
+folding-long f h xs start now i b = sym (length-folded f h (drop i xs) now) ∙ ap length (b .is) ∙ length-folded f h xs start
+
+-- the list is the front of a longer one
+pub folding-front : {S : Type 0} (f : ℕ → S → S) (list : List ℕ) (k : ℕ) (start now next : S) (i : ℕ) → k ≤ length list → i < k
+    → next ≡ f (getD list i 0) now → Folding f (take k list) start now i → Folding f (take k list) start next (i + 1)
+folding-front f list k start now next i room l e h =
+    folding-turn f (take k list) start now next i h (omega (arith, length-take-le k list room)) (e ∙ ap (λ (x : ℕ). f x now) (sym (getD-take k list i 0 l)))
+
+pub folding-front-end : {S : Type 0} (f : ℕ → S → S) (list : List ℕ) (k : ℕ) (start now : S) (i : ℕ) → k ≤ length list → k ≤ i
+    → Folding f (take k list) start now i → now ≡ folded f (take k list) start
+folding-front-end f list k start now i room l h =
+    folding-end f (take k list) start now i h (omega (arith, length-take-le k list room))
 
 -- from place i on is left
 abbrev pub Counted-from : (f : ℕ → Bool) → (xs : List ℕ) → (n i : ℕ) → Type 0

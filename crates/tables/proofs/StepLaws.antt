@@ -7,17 +7,17 @@ use mathlib.Core.List.{List, [], _∷_, map}
 use Prim.Native.Nat.{ℕ, suc, _+_, _-_, _≤_, _<_, min}
 use native.Mathlib.Nat.{zero-add}
 use native.Mathlib.Omega.{arith}
-use native.Mathlib.Numerals.{add-one}
 use mir.Syntax.{w8, w16}
 use mir.Val.{Fits, SFits, toZ, ofZ}
 use mir.Facts.{toZ-ofZ, toZ-pos, sfits-widen}
 use lib.Dec.{T, ltb}
 use lib.IntN.{ℤ, pos, negsuc, _+ℤ_, natAbs}
 use lib.Signed.{ltZ, nonNeg}
-use lib.ListN.{length, getD, drop, length-set, drop-of-length-le}
-use lib.Seq.{drop-cons, getD-set-same, getD-set-other, ext-getD}
+use lib.ListN.{length, getD, length-set}
+use lib.Seq.{getD-set-same, getD-set-other, ext-getD}
 use borrow.Author.Tests.{ltb-true, ltb-false}
-use Rattle.lists.specs.Lists.{range, member, In, Distinct}
+use Rattle.lists.proofs.Loops.{length-folded}
+use Rattle.lists.specs.Lists.{folded, range, member, In, Distinct}
 use Rattle.lists.proofs.Tests.{bool-cases, never}
 use Rattle.lists.proofs.Member.{member-in, in-member}
 use Rattle.lists.proofs.Map.{length-map, getD-map-range}
@@ -140,12 +140,11 @@ getD-step-at-other u v z ns h = getD-set-other ns v u (stepped (getD ns v 0) z) 
 
 pub length-all-stepped : (vs : List ℕ) (z : ℤ) (ns : List ℕ) → length (all-stepped vs z ns) ≡ length ns
 unfolding all-stepped
-length-all-stepped [] z ns = refl
-length-all-stepped (v ∷ vs) z ns = length-all-stepped vs z (step-at v z ns) ∙ length-step-at v z ns
+length-all-stepped vs z ns = length-folded (λ v now. step-at v z now) (λ v now. length-step-at v z now) vs ns
 
 -- a radio that is not listed keeps its number
 pub getD-all-stepped-other : (u : ℕ) (vs : List ℕ) (z : ℤ) (ns : List ℕ) → (In u vs → ⊥) → getD (all-stepped vs z ns) u 0 ≡ getD ns u 0
-unfolding all-stepped
+unfolding all-stepped folded
 getD-all-stepped-other u [] z ns h = refl
 getD-all-stepped-other u (v ∷ vs) z ns h =
     getD-all-stepped-other u vs z (step-at v z ns) (λ m. h (inr m)) ∙ getD-step-at-other u v z ns (λ e. h (inl e))
@@ -154,7 +153,7 @@ getD-all-stepped-other u (v ∷ vs) z ns h =
 pub getD-all-stepped-listed :
     (u : ℕ) (vs : List ℕ) (z : ℤ) (ns : List ℕ) → Distinct vs → In u vs → u < length ns →
     getD (all-stepped vs z ns) u 0 ≡ stepped (getD ns u 0) z
-unfolding all-stepped
+unfolding all-stepped folded
 getD-all-stepped-listed u (v ∷ vs) z ns d (inl e) h =
     rw (← e) (getD-all-stepped-other v vs z (step-at v z ns) (d .0) ∙ getD-step-at-same v z ns (omega arith))
 getD-all-stepped-listed u (v ∷ vs) z ns d (inr m) h =
@@ -184,28 +183,3 @@ all-stepped-map vs z ns d =
     (λ u h.
     let l : u < length ns = omega arith in
     getD-all-stepped u vs z ns d l ∙ ap f (sym (zero-add u)) ∙ sym (getD-map-range 0 f 0 (length ns) u l))
-
--- ---- a list of radios being stepped: i so far
-
-pub record Stepping (vs : List ℕ) (z : ℤ) (start numbers : List ℕ) (i : ℕ) : Type 0 where
-  pub low : i ≤ length vs
-  pub long : length numbers ≡ length start
-  pub is : all-stepped (drop i vs) z numbers ≡ all-stepped vs z start
-
-pub stepping-none : (vs : List ℕ) (z : ℤ) (ns : List ℕ) → Stepping vs z ns ns 0
-stepping-none vs z ns = record { low = omega arith; long = refl; is = refl }
-
-pub stepping-turn :
-    (vs : List ℕ) (z : ℤ) (start ns : List ℕ) (i v : ℕ) → Stepping vs z start ns i → i < length vs → v ≡ getD vs i 0 →
-    Stepping vs z start (step-at v z ns) (i + 1)
-unfolding all-stepped
-stepping-turn vs z start ns i v b h e =
-    record {
-      low = omega arith;
-      long = length-step-at v z ns ∙ b .long;
-      is = rw (add-one, e) (ap (λ l. all-stepped l z ns) (sym (drop-cons vs i 0 h)) ∙ b .is);
-    }
-
-pub stepping-end : (vs : List ℕ) (z : ℤ) (start ns : List ℕ) (i : ℕ) → Stepping vs z start ns i → length vs ≤ i → ns ≡ all-stepped vs z start
-unfolding all-stepped
-stepping-end vs z start ns i b h = ap (λ l. all-stepped l z ns) (sym (drop-of-length-le vs h)) ∙ b .is

@@ -10,7 +10,7 @@ use native.Mathlib.Nat.{zero-add}
 use lib.Dec.{leb, eqb}
 use lib.ListN.{length, length-append}
 use borrow.Author.Tests.{leb-true, le-leb, lt-leb, eqb-true, ne-eqb}
-use Rattle.lists.specs.Lists.{range, count, filter, member, overwrite, In}
+use Rattle.lists.specs.Lists.{folded, range, count, filter, member, overwrite, In}
 use Rattle.mesh.specs.Graph.{Graph, radios}
 use Rattle.mesh.specs.Cores.{number}
 use Rattle.mesh.specs.Tree.{root, node, node-name, parent-name, nodes-at, tree}
@@ -28,7 +28,7 @@ use Rattle.lists.proofs.Overwrite.{set-front}
 -- x at each listed place
 pub entries-set-map : (f : ℕ → ℕ) (k x : ℕ) (ws : List ℕ) (d : List ℕ) → ((w : ℕ) → In w ws → w < k)
     → entries-set x ws (overwrite (map f (range 0 k)) d) ≡ overwrite (map (λ u. cond (member u ws) x (f u)) (range 0 k)) d
-unfolding entries-set member
+unfolding entries-set folded member
 entries-set-map f k x [] d h = refl
 entries-set-map f k x (w ∷ ws) d h =
     ap (entries-set x ws) (set-front f k w x d (h w (inl refl)))

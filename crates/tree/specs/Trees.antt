@@ -20,7 +20,7 @@ use Prim.Native.Nat.{ℕ, zero, suc, _+_, _≤_, _<_, min}
 use lib.Dec.{ltb, leb, eqb}
 use lib.ListN.{length, getD, take, set}
 use Rattle.mesh.specs.Limits.{row-bytes}
-use Rattle.lists.specs.Lists.{range, filter, head-or, overwrite}
+use Rattle.lists.specs.Lists.{folded, range, filter, head-or, overwrite}
 use Rattle.mesh.specs.Graph.{Graph, radios}
 use Rattle.mesh.specs.Cores.{number}
 use Rattle.mesh.specs.Tables.{Tables, tables, marked, graph-in}
@@ -60,8 +60,7 @@ pub record Room (n : ℕ) (s : Lists) : Type 0 where
 -- ---- one radio
 
 unfoldable pub entries-set : (x : ℕ) → (places table : List ℕ) → List ℕ
-entries-set x [] t = t
-entries-set x (w ∷ ws) t = entries-set x ws (set t w x)
+entries-set x ws t = folded (λ w now. set now w x) ws t
 
 -- s, q and a are the set, the queue and the answer table before, t and b the set and the answer table after
 pub record Core-named (ts ns : List ℕ) (k v : ℕ) (s q a t b : List ℕ) : Type 0 where

@@ -4,7 +4,9 @@ use Prim.Native.Nat.{_-_}
 use lib.ListN.{take}
 use borrow.Author.Needs.{needs}
 use Rattle.floods.specs.Floods.{flood-at}
-use Rattle.floods.proofs.FloodSteps.{Taking, taking-none, taking-turn, taking-end}
+use Rattle.floods.proofs.FloodSteps.{Taking, taking-none, taking-turn}
+use Rattle.lists.proofs.Loops.{folding-front-end}
+use Rattle.floods.specs.Floods.{taken-all}
 use Rattle.floods.proofs.flood.take_all.Statement.{statement}
 use Rattle.floods.proofs.flood.take_all.Tie as tie
 
@@ -33,9 +35,10 @@ same-length-2 : tie.Need-same-length-2 Inv-loop μ-loop
 same-length-2 c = c .before .loop .inv .queue-long
 
 returns : tie.Need-returns Inv-loop μ-loop
+unfolding taken-all
 returns c =
     let start = c .before .before .before .before .before .before in
-    taking-end (start .args .numbers .now) (start .args .level) (start .args .list .now) (start .args .k) _ (c .before .loop .i) _ (c .loop-test .left) (start .pre) (c .before .loop .inv)
+    folding-front-end _ (start .args .list .now) (start .args .k) _ _ (c .before .loop .i) (start .pre) (c .loop-test .left) (c .before .loop .inv .folding)
 
 pub take-all-spec : {M : Type 1} → statement M
 take-all-spec =
