@@ -35,7 +35,7 @@ use Rattle.mesh.specs.Valid.{Valid, Allowed, smaller, larger}
 
 -- ---- both ends of a link have a number above 0
 
-linked-positive : (g : Graph) (a b : ℕ) → a < g .n → b < g .n → linked g a b ≡ true → 1 ≤ number g a
+pub linked-positive : (g : Graph) (a b : ℕ) → a < g .n → b < g .n → linked g a b ≡ true → 1 ≤ number g a
 unfolding Group neighbours-in radios
 linked-positive g a b la lb h = number-core g a la .largest 1 pair (λ v l q. one v (or-cases (eqb v a) (eqb v b) q)) (or-left (eqb a a) (eqb a b) (eq-eqb a a refl))
   where

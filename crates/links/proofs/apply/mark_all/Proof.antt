@@ -1,5 +1,6 @@
 -- `apply::mark_all` meets its contract: what is left of the list marks the row to what the whole list marks it to.
 -- The measure is what is left of the list.
+use mathlib.Core.Bool.{true}
 use Prim.Native.Nat.{_-_}
 use native.Mathlib.Omega.{arith}
 use lib.ListN.{length}
