@@ -18,7 +18,7 @@ use Rattle.mesh.specs.Sound.{within, few}
 use Rattle.lists.proofs.Range.{range-in, range-append}
 use Rattle.lists.proofs.Filter.{in-filter, filter-append, filter-none, filter-all}
 use Rattle.mesh.proofs.Tables.Rows.{within-of, few-of}
-use Rattle.rows.specs.Rows.{neighbours-of, row-listed}
+use Rattle.rows.specs.Rows.{row-listed}
 use Rattle.rows.proofs.RowListLaws.{neighbours-of-filter, row-listed-radio, length-row-listed-radio}
 use Rattle.link_list.specs.Links.{neighbours-above, links-to, links-above, links-from, Rows-listed}
 

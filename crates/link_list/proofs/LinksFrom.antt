@@ -1,15 +1,23 @@
--- Laws of the links from a row on: what is left, and links counted.
+-- Laws of the links from a row on.
+-- In order: links of one radio, what is left, links counted.
 use mathlib.Core.Path.{_≡_, refl, sym, ap, _∙_}
-use mathlib.Core.List.{List, [], _++_, flatMap}
-use Prim.Native.Nat.{ℕ, suc, _+_, _*_, _-_, _≤_, _<_}
+use mathlib.Core.List.{List, [], _∷_, _++_, flatMap}
+use Prim.Native.Nat.{ℕ, zero, suc, _+_, _*_, _-_, _≤_, _<_}
 use native.Mathlib.Omega.{arith}
-use lib.ListN.{length, drop, length-append, drop-of-length-le}
+use lib.ListN.{length, getD, drop, length-append, drop-of-length-le}
 use lib.Seq.{drop-append-le, drop-nil, drop-drop}
 use Rattle.mesh.specs.Limits.{max-radios}
 use Rattle.lists.specs.Lists.{range}
 use Rattle.mesh.specs.Graph.{Link, link-of}
 use Rattle.lists.proofs.Map.{length-map, drop-map}
 use Rattle.link_list.specs.Links.{neighbours-above, links-to, links-above, links-from, Rows-listed}
+
+-- ---- links of one radio
+
+pub getD-links-to : (a : ℕ) (bs : List ℕ) (i : ℕ) → getD (links-to a bs) i (link-of a 0) ≡ link-of a (getD bs i 0)
+getD-links-to a [] i = refl
+getD-links-to a (b ∷ bs) zero = refl
+getD-links-to a (b ∷ bs) (suc i) = getD-links-to a bs i
 
 -- ---- what is left
 

@@ -38,5 +38,5 @@ returns-2 c = λ rows. counting-end _ _ _ _ _ (c .before .loop .inv .1) (omega a
 pub count-links-spec : {M : Type 1} → statement M
 count-links-spec =
     tie.close (
-    tie.spec Inv-loop μ-loop returns loop-holds (λ c κs. search needs) (λ c. omega arith) (λ c. omega arith) (λ c. omega arith) (λ c. search needs)
-    (λ c. search needs) loop-again (λ c. search needs) returns-2)
+    tie.spec Inv-loop μ-loop returns loop-holds (λ c κs. search needs) (λ c. omega arith) (λ c. omega arith) (λ c. omega arith)
+    (λ c. search needs) (λ c. search needs) loop-again (λ c. search needs) returns-2)

@@ -21,5 +21,5 @@ returns c =
 pub list-above-spec : {M : Type 1} → statement M
 list-above-spec =
     tie.close (
-    tie.spec (λ c κs. search needs) (λ c. search needs) (λ c κs. search needs) (λ c. search needs) slice-aggregate-first-above (λ c κs. search needs)
-    (λ c. search needs) returns)
+    tie.spec (λ c κs. search needs) (λ c. search needs) (λ c κs. search needs) (λ c. search needs) slice-aggregate-first-above
+    (λ c κs. search needs) (λ c. search needs) returns)
