@@ -112,23 +112,27 @@ module _ (n : ℕ) (ts : List ℕ) (a p : ℕ) (start : List ℕ) (row place cou
 
 -- ---- the radios of a row's span from the cursor on
 
-module _ (n : ℕ) (ts : List ℕ) (room : ℕ) (rows : Rows-listed n ts room) (row place : ℕ) (good : Cursor-good n ts row place) (h : row < n)
-    (list : List ℕ) (kept : length list ≡ room) (s e : ℕ) (g : Span-of ts row list s e) where
-  fits : length (row-listed ts row) ≤ length list
-  fits = omega (arith, rows .few row h)
+pub record Row-left (ts : List ℕ) (row place : ℕ) (list : List ℕ) (s e : ℕ) : Type 0 where
+  pub within : s + place ≤ e
+  pub end : e ≤ length list
+  pub count : e - s ≡ length (neighbours-above ts row)
+  pub is : take (e - (s + place)) (drop (s + place) list) ≡ drop place (neighbours-above ts row)
 
-  pub cursor-count : e - s ≡ length (neighbours-above ts row)
-  cursor-count = span-count ts row list s e g fits
+pub row-left : (n : ℕ) (ts : List ℕ) (room row place : ℕ) (list : List ℕ) (s e : ℕ) → Rows-listed n ts room → Cursor-good n ts row place → row < n
+    → length list ≡ room → Span-of ts row list s e → Row-left ts row place list s e
+row-left n ts room row place list s e rows good h kept g =
+    let fits : length (row-listed ts row) ≤ length list = omega (arith, rows .few row h) in
+    let count : e - s ≡ length (neighbours-above ts row) = span-count ts row list s e g fits in
+    record {
+      within = omega (arith, good .place h, g .start);
+      end = g .end;
+      count = count;
+      is = span-rest ts row list s e g fits place;
+    }
 
-  pub cursor-within : s + place ≤ e
-  cursor-within = omega (arith, cursor-count, good .place h, g .start)
-
-  pub cursor-rest : take (e - (s + place)) (drop (s + place) list) ≡ drop place (neighbours-above ts row)
-  cursor-rest = span-rest ts row list s e g fits place
-
-  -- how many of them are put
-  pub cursor-put : (count : ℕ) (part new : List ℕ) (r : ℕ) → Row-put count row (take (e - (s + place)) (drop (s + place) list)) part new r
-      → r ≡ min (block-links - count) (e - (s + place))
-  cursor-put count part new r put =
-      put .written
-      ∙ ap (min (block-links - count)) (length-take-le (e - (s + place)) (drop (s + place) list) (omega (arith, g .end, length-drop (s + place) list)))
+-- how many of them are put
+pub row-left-put : (ts : List ℕ) (row place : ℕ) (list : List ℕ) (s e count : ℕ) (part new : List ℕ) (r : ℕ) → Row-left ts row place list s e
+    → Row-put count row (take (e - (s + place)) (drop (s + place) list)) part new r → r ≡ min (block-links - count) (e - (s + place))
+row-left-put ts row place list s e count part new r l put =
+    put .written
+    ∙ ap (min (block-links - count)) (length-take-le (e - (s + place)) (drop (s + place) list) (omega (arith, l .end, length-drop (s + place) list)))

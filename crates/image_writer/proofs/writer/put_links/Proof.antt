@@ -5,10 +5,13 @@ use Prim.Native.Nat.{_-_}
 use native.Mathlib.Omega.{arith}
 use lib.ListN.{length}
 use borrow.Author.Needs.{needs}
-use Rattle.image_writer.proofs.LinksPut.{Linking, linking-none, linking-row, linking-next, linking-full, linking-end}
-use Rattle.image_writer.proofs.LinksPut.{cursor-count, cursor-within, cursor-rest, cursor-put}
+use Rattle.image_writer.proofs.LinksPut.{Linking, linking-none, linking-row, linking-next, linking-full, linking-end, Row-left, row-left, row-left-put}
 use Rattle.image_writer.proofs.writer.put_links.Statement.{statement}
 use Rattle.image_writer.proofs.writer.put_links.Tie as tie
+use Rattle.image_writer.proofs.writer.put_links.Reads as reads
+use Rattle.image_writer.proofs.writer.put_links.Lts as lts
+use Rattle.image_writer.proofs.writer.put_row.Reads as put-row-reads
+use Rattle.link_list.proofs.list_above.Reads as list-above-reads
 
 abbrev Inv-loop : tie.InvT-loop
 Inv-loop part₀ n links list₀ row₀ place₀ count₀ part list row place count = (length list ≡ length list₀) × Linking n links row₀ place₀ part₀ row place count part
@@ -16,108 +19,68 @@ Inv-loop part₀ n links list₀ row₀ place₀ count₀ part list row place co
 abbrev μ-loop : tie.MeasureT-loop
 μ-loop part₀ n links list₀ row₀ place₀ count₀ part list row place count = n - row
 
+-- where a row is listed
+abbrev Listed : Type 0
+Listed = lts.After-list-above (list-above-reads.Asked, list-above-reads.Learnt, put-row-reads.Asked, put-row-reads.Learnt) reads.Pre reads.Post Inv-loop μ-loop
+
+here : (c : Listed) →
+    Row-left (c .before .before .before .before .before .before .before .args .links .now) (c .before .before .before .loop .row)
+    (c .before .before .before .loop .place) (c .list-above .last .1 .1 .0) (c .list-above .result .start) (c .list-above .result .end)
+here c =
+    let at-loop = c .before .before .before in
+    row-left _ _ _ _ _ _ _ _ (at-loop .before .before .before .before .pre .1) (at-loop .loop .inv .1 .good) (c .before .before .loop-test .taken)
+    (c .list-above .kept .1 .1 .0 ∙ at-loop .loop .inv .0) (c .list-above .ensures)
+
 loop-holds : tie.Need-loop-holds Inv-loop μ-loop
 loop-holds c = (refl, linking-none _ _ _ _ _ (c .before .before .before .pre .2))
 
 add-start : tie.Need-add-start Inv-loop μ-loop
-add-start c =
-    let listed = c .before .before .before in
-    let at-loop = listed .before .before .before in
-    let rows = at-loop .before .before .before .before .pre .1 in
-    let good = at-loop .loop .inv .1 .good in
-    let more = listed .before .before .loop-test .taken in
-    let kept = listed .list-above .kept .1 .1 .0 ∙ at-loop .loop .inv .0 in
-    let span = listed .list-above .ensures in
-    omega (arith, cursor-within _ _ _ rows _ _ good more _ kept _ _ span)
+add-start c = omega (arith, here (c .before .before .before) .within)
 
 mul-put-row : tie.Need-mul-put-row Inv-loop μ-loop
-mul-put-row c =
-    let listed = c .before .before .before .before in
-    let at-loop = listed .before .before .before in
-    let rows = at-loop .before .before .before .before .pre .1 in
-    let good = at-loop .loop .inv .1 .good in
-    let more = listed .before .before .loop-test .taken in
-    let kept = listed .list-above .kept .1 .1 .0 ∙ at-loop .loop .inv .0 in
-    let span = listed .list-above .ensures in
-    omega (arith, cursor-within _ _ _ rows _ _ good more _ kept _ _ span)
+mul-put-row c = omega (arith, here (c .before .before .before .before) .within)
 
 sub-put-row : tie.Need-sub-put-row Inv-loop μ-loop
-sub-put-row c =
-    let listed = c .before .before .before .before in
-    let at-loop = listed .before .before .before in
-    let rows = at-loop .before .before .before .before .pre .1 in
-    let good = at-loop .loop .inv .1 .good in
-    let more = listed .before .before .loop-test .taken in
-    let kept = listed .list-above .kept .1 .1 .0 ∙ at-loop .loop .inv .0 in
-    let span = listed .list-above .ensures in
-    omega (arith, cursor-within _ _ _ rows _ _ good more _ kept _ _ span)
+sub-put-row c = omega (arith, here (c .before .before .before .before) .within)
 
 part-put-row-start : tie.Need-part-put-row-start Inv-loop μ-loop
-part-put-row-start c =
-    let listed = c .before .before .before .before .before in
-    let at-loop = listed .before .before .before in
-    let rows = at-loop .before .before .before .before .pre .1 in
-    let good = at-loop .loop .inv .1 .good in
-    let more = listed .before .before .loop-test .taken in
-    let kept = listed .list-above .kept .1 .1 .0 ∙ at-loop .loop .inv .0 in
-    let span = listed .list-above .ensures in
-    omega (arith, cursor-within _ _ _ rows _ _ good more _ kept _ _ span)
+part-put-row-start c = omega (arith, here (c .before .before .before .before .before) .within)
 
 add-place : tie.Need-add-place Inv-loop μ-loop
 add-place c =
     let put = c .before .before in
     let listed = put .before .before .before .before .before .before .before in
-    let at-loop = listed .before .before .before in
-    let rows = at-loop .before .before .before .before .pre .1 in
-    let good = at-loop .loop .inv .1 .good in
-    let more = listed .before .before .loop-test .taken in
-    let kept = listed .list-above .kept .1 .1 .0 ∙ at-loop .loop .inv .0 in
-    let span = listed .list-above .ensures in
-    omega (arith, cursor-put _ _ _ rows _ _ good more _ kept _ _ span _ _ _ _ (put .put-row .ensures), cursor-within _ _ _ rows _ _ good more _ kept _ _ span, span .end)
+    omega (arith, row-left-put _ _ _ _ _ _ _ _ _ _ (here listed) (put .put-row .ensures), here listed .within, here listed .end)
 
 add-if1 : tie.Need-add-if1 Inv-loop μ-loop
 add-if1 c =
     let put = c .before .before in
     let listed = put .before .before .before .before .before .before .before in
-    let at-loop = listed .before .before .before in
-    let rows = at-loop .before .before .before .before .pre .1 in
-    let good = at-loop .loop .inv .1 .good in
-    let more = listed .before .before .loop-test .taken in
-    let kept = listed .list-above .kept .1 .1 .0 ∙ at-loop .loop .inv .0 in
-    let span = listed .list-above .ensures in
-    omega (arith, cursor-put _ _ _ rows _ _ good more _ kept _ _ span _ _ _ _ (put .put-row .ensures), cursor-within _ _ _ rows _ _ good more _ kept _ _ span, span .end)
+    omega (arith, row-left-put _ _ _ _ _ _ _ _ _ _ (here listed) (put .put-row .ensures), here listed .within, here listed .end)
 
 returns : tie.Need-returns Inv-loop μ-loop
 returns c =
     let put = c .before .before .before in
     let listed = put .before .before .before .before .before .before .before in
     let at-loop = listed .before .before .before in
-    let rows = at-loop .before .before .before .before .pre .1 in
-    let good = at-loop .loop .inv .1 .good in
     let more = listed .before .before .loop-test .taken in
-    let kept = listed .list-above .kept .1 .1 .0 ∙ at-loop .loop .inv .0 in
-    let span = listed .list-above .ensures in
     let turned =
-    linking-row _ _ _ _ _ _ _ _ _ (at-loop .loop .inv .1) (put .put-row .result) _ (put .put-row .last .0) more
-    (cursor-rest _ _ _ rows _ _ good more _ kept _ _ span) (put .put-row .kept .0) (put .put-row .ensures) in
-    linking-full _ _ _ _ _ _ _ _ _ turned (omega (arith, cursor-put _ _ _ rows _ _ good more _ kept _ _ span _ _ _ _ (put .put-row .ensures)))
+    linking-row _ _ _ _ _ _ _ _ _ (at-loop .loop .inv .1) (put .put-row .result) _ (put .put-row .last .0) more (here listed .is)
+    (put .put-row .kept .0) (put .put-row .ensures) in
+    linking-full _ _ _ _ _ _ _ _ _ turned (omega (arith, row-left-put _ _ _ _ _ _ _ _ _ _ (here listed) (put .put-row .ensures)))
 
 loop-again : tie.Need-loop-again Inv-loop μ-loop
 loop-again c =
     let put = c .before .before .before in
     let listed = put .before .before .before .before .before .before .before in
     let at-loop = listed .before .before .before in
-    let rows = at-loop .before .before .before .before .pre .1 in
-    let good = at-loop .loop .inv .1 .good in
     let more = listed .before .before .loop-test .taken in
-    let kept = listed .list-above .kept .1 .1 .0 ∙ at-loop .loop .inv .0 in
-    let span = listed .list-above .ensures in
     let turned =
-    linking-row _ _ _ _ _ _ _ _ _ (at-loop .loop .inv .1) (put .put-row .result) _ (put .put-row .last .0) more
-    (cursor-rest _ _ _ rows _ _ good more _ kept _ _ span) (put .put-row .kept .0) (put .put-row .ensures) in
-    let many = cursor-put _ _ _ rows _ _ good more _ kept _ _ span _ _ _ _ (put .put-row .ensures) in
-    let all-listed = cursor-count _ _ _ rows _ _ good more _ kept _ _ span in
-    (kept, linking-next _ _ _ _ _ _ _ _ _ turned more (omega (arith, good .place more)))
+    linking-row _ _ _ _ _ _ _ _ _ (at-loop .loop .inv .1) (put .put-row .result) _ (put .put-row .last .0) more (here listed .is)
+    (put .put-row .kept .0) (put .put-row .ensures) in (
+      listed .list-above .kept .1 .1 .0 ∙ at-loop .loop .inv .0,
+      linking-next _ _ _ _ _ _ _ _ _ turned more (omega (arith, row-left-put _ _ _ _ _ _ _ _ _ _ (here listed) (put .put-row .ensures), here listed .within, here listed .count)),
+    )
 
 returns-2 : tie.Need-returns-2 Inv-loop μ-loop
 returns-2 c = linking-end _ _ _ _ _ _ _ _ _ (c .before .loop .inv .1) (omega arith)
