@@ -18,7 +18,8 @@ use Rattle.lists.proofs.Parts.{length-flatMap}
 use Rattle.mesh.proofs.Images.Blocks.{length-link-bytes}
 use Rattle.mesh.proofs.Tables.Laws.{length-flatMap-range}
 use Rattle.lists.proofs.Range.{range-append}
-use Rattle.image_writer.specs.Links.{links-from, Links-filled, Cursor-at, Block-filled}
+use Rattle.link_list.specs.Links.{links-from}
+use Rattle.image_writer.specs.Blocks.{Links-filled, Cursor-at, Block-filled}
 use Rattle.lists.proofs.Map.{flatMap-append}
 
 -- a block's links fit its payload
@@ -72,7 +73,7 @@ module _ (n : ℕ) (ts order : List ℕ) (a p : ℕ) (after : List ℕ) where
 pub cursor-first : (n : ℕ) (ts : List ℕ) → Cursor-at n ts 0 0 0
 cursor-first n ts =
     let z : 0 - 1 - order-blocks n ≡ 0 = omega arith in
-    record { good = record { row = omega arith; place = λ _. omega arith }; rest = rw z }
+    record { good = record { place = λ _. omega arith }; rest = rw z }
 
 -- ---- all blocks: i of them so far, each in its own part of the buffer
 

@@ -1,23 +1,18 @@
 -- The writer meets its contract, on plain values.
--- In order: the links of a sound site, the number of questions 1 to 3, the three outcomes.
+-- In order: the number of questions 1 to 3, the links of a sound site, the three outcomes.
 use mathlib.Core.Path.{_≡_, refl, sym, ap, ap₂, _∙_}
 use mathlib.Core.Bool.{Bool, true, false, _&&_}
-use mathlib.Core.List.{List, [], _++_, flatMap, append-nil}
-use Prim.Native.Nat.{ℕ, zero, suc, _+_, _*_, _-_, _≤_, _<_}
+use mathlib.Core.List.{List, _++_, flatMap}
+use Prim.Native.Nat.{ℕ, _+_, _*_, _-_, _≤_, _<_}
 use native.Mathlib.Omega.{arith}
 use lib.ListN.{length, drop}
 use borrow.Author.Tests.{lt-leb}
 use Rattle.mesh.specs.Limits.{max-radios, max-neighbours, row-bytes}
-use Rattle.lists.specs.Lists.{range, filter, overwrite}
-use Rattle.mesh.specs.Graph.{Link, Graph, graph}
-use Rattle.mesh.specs.Tables.{Tables, marked, row-links, graph-in}
-use Rattle.mesh.specs.Sound.{symmetric, irreflexive, within, few, rows-proper, sound}
+use Rattle.lists.specs.Lists.{range, overwrite}
+use Rattle.mesh.specs.Graph.{Graph, graph}
+use Rattle.mesh.specs.Tables.{Tables, graph-in}
+use Rattle.mesh.specs.Sound.{within, few, sound}
 use Rattle.mesh.specs.Image.{block-bytes, block-count, block-at, image-of}
-use Rattle.lists.proofs.Tests.{and-left, and-right}
-use Rattle.lists.proofs.Range.{range-in, range-append}
-use Rattle.lists.proofs.Filter.{filter-append, filter-none}
-use Rattle.mesh.proofs.Tables.Rows.{within-of, few-of}
-use Rattle.mesh.proofs.Tables.Soundness.{sound-certificate}
 use Rattle.mesh.proofs.Images.Of.{length-image-of}
 use Rattle.mesh.proofs.Images.Tables.{valid-graph-in}
 use Rattle.mesh.proofs.Tables.DegreeSum.{links-most}
@@ -26,49 +21,10 @@ use Rattle.calls.specs.Answers.{Write-contract, Listing-refused}
 use Rattle.calls.proofs.ContractLaws.{by-accepted, by-refused}
 use Rattle.calls.proofs.QuestionLaws.{ask-no}
 use Rattle.calls.proofs.ChainLaws.{Site-good, site-zero, site-yes, write-yes}
-use Rattle.rows.proofs.RowListLaws.{length-neighbours-of}
-use Rattle.image_writer.specs.Links.{uppers, links-to, upper-links, links-from, Rows-listed, marked-graph}
-
--- ---- the links of a sound site
-
-sound-within-row : (n : ℕ) (t : Tables) → sound n t ≡ true → (within n (t .links) ≡ true) × (few max-neighbours n (t .links) ≡ true)
-unfolding sound rows-proper
-sound-within-row n t h =
-    let rows = sound-certificate max-neighbours n t h .0 in
-    let w = within n (t .links) in
-    let f = few max-neighbours n (t .links) in
-    let second = and-right (symmetric n (t .links) && irreflexive n (t .links)) (w && f) rows in (and-left w f second, and-right w f second)
-
-module _ (n : ℕ) (ts : List ℕ) (small : n ≤ max-radios) (w : within n ts ≡ true) where
-  row-links-upper : (a : ℕ) → a < n → upper-links ts a ≡ row-links n ts a
-  unfolding upper-links uppers row-links
-  row-links-upper a h =
-      let f : ℕ → Bool = λ b. marked ts a b in
-      let e : max-radios - suc a ≡ (n - suc a) + (max-radios - n) = omega arith in
-      let k : suc a + (n - suc a) ≡ n = omega arith in
-      let none : filter f (range n (max-radios - n)) ≡ [] =
-      filter-none f (range n (max-radios - n)) (λ b m. within-of n ts w a b h (range-in n (max-radios - n) b m .0) (omega (arith, range-in n (max-radios - n) b m .1))) in
-      let split : filter f (range (suc a) (max-radios - suc a)) ≡ filter f (range (suc a) (n - suc a)) =
-      ap (λ (m : ℕ). filter f (range (suc a) m)) e ∙ ap (filter f) (range-append (suc a) (n - suc a) (max-radios - n))
-      ∙ filter-append f (range (suc a) (n - suc a)) (range (suc a + (n - suc a)) (max-radios - n)) ∙ rw (k, none, append-nil) in
-      ap (links-to a) split
-
-  rows-upper : (i k : ℕ) → i + k ≤ n → flatMap (upper-links ts) (range i k) ≡ flatMap (row-links n ts) (range i k)
-  unfolding flatMap range
-  rows-upper i zero h = refl
-  rows-upper i (suc k) h = ap₂ {C = List Link} (λ xs ys. xs ++ ys) (row-links-upper i (omega arith)) (rows-upper (suc i) k (omega arith))
-
-  pub marked-graph-in : marked-graph n ts ≡ graph-in n ts
-  unfolding links-from graph-in
-  marked-graph-in = let z : n - 0 ≡ n = omega arith in ap (graph n) (rw z (rows-upper 0 n (omega arith)))
-
-pub rows-listed-sound : (n : ℕ) (t : Tables) → n ≤ max-radios → length (t .links) ≡ row-bytes * n → sound n t ≡ true → Rows-listed n (t .links)
-rows-listed-sound n t small long h =
-    record {
-      most = small;
-      long = long;
-      few = λ a l. omega (arith, length-neighbours-of (t .links) a, few-of max-neighbours n (t .links) (sound-within-row n t h .1) a l);
-    }
+use Rattle.soundness.proofs.SoundSite.{Sound-site, sound-site}
+use Rattle.link_list.specs.Links.{links-from, Rows-listed}
+use Rattle.link_list.proofs.GraphLinks.{rows-listed-few, links-graph-in}
+use Rattle.image_writer.specs.Blocks.{marked-graph}
 
 -- ---- questions 1 to 3
 
@@ -121,11 +77,15 @@ module _ (n : ℕ) (t : Tables) (w : List ℕ) where
     pub write-sound : sound n t ≡ true
     write-sound = passed .is-sound
 
-    pub write-rows : Rows-listed n (t .links)
-    write-rows = rows-listed-sound n t write-small write-links write-sound
+    site : Sound-site n t
+    site = sound-site n t write-small (passed .lent .lengths) write-sound
+
+    pub write-rows : Rows-listed n (t .links) max-neighbours
+    write-rows = rows-listed-few n (t .links) write-small write-links max-neighbours (site .few)
 
     whole : marked-graph n (t .links) ≡ g
-    whole = marked-graph-in n (t .links) write-small (sound-within-row n t write-sound .0)
+    unfolding graph-in
+    whole = ap (graph n) (links-graph-in n (t .links) write-small write-links (site .within))
 
     pub write-few : length (links-from n (t .links) 0 0) ≤ 8192
     unfolding sound graph-in

@@ -1,19 +1,17 @@
 // The image writer. Each block is filled in through its own part of the buffer.
 ghost use mathlib.Core.Path.{_≡_};
 ghost use mathlib.Core.List.{_++_, flatMap};
-ghost use Prim.Native.Nat.{_≤_, _<_, _+_, _*_, _-_};
+ghost use Prim.Native.Nat.{_≤_, _+_, _*_};
 ghost use lib.ListN.{length, take, drop};
 ghost use lib.Seq.{sets};
-ghost use Rattle.mesh.specs.Limits.{max-radios, max-neighbours, row-bytes};
 ghost use Rattle.lists.specs.Lists.{range};
 ghost use Rattle.mesh.specs.Graph.{link-of};
 ghost use Rattle.mesh.specs.Image.{block-bytes, block-entries, block-links, link-bytes, word, block, block-at};
-ghost use Rattle.rows.specs.Rows.{neighbours-of};
 ghost use Rattle.mesh.specs.Tables.{lent};
 ghost use Rattle.calls.specs.Answers.{Write-contract};
 ghost use Rattle.image_writer.specs.Filler.{opened, sealed};
-ghost use Rattle.image_writer.specs.Links.{links-from, Rows-listed, Cursor-good, First-above, Span-of, Row-put, Links-put, Links-filled};
-ghost use Rattle.image_writer.specs.Links.{Writable, Cursor-at, Block-filled, marked-graph};
+ghost use Rattle.link_list.specs.Links.{Rows-listed, Cursor-good};
+ghost use Rattle.image_writer.specs.Blocks.{Row-put, Links-put, Links-filled, Writable, Cursor-at, Block-filled, marked-graph};
 use calls::Refusal;
 use calls::Value;
 use image::checks;
@@ -95,56 +93,6 @@ fn fill_order(part: &mut [u8], index: u32, order: &[u16], from: usize)
     close_block(part);
 }
 
-// The first place below k whose entry is above a, or k.
-fn first_above(list: &[u16], k: usize, a: u32) -> usize
-    requires { ⌜ k ≤ length (now list) ⌝ }
-    ensures { λ r. ⌜ First-above (now (list .entry)) k a r ⌝ }
-{
-    let mut i: usize = 0;
-    while i < k {
-        let b = list[i];
-        if a < b as u32 {
-            return i;
-        }
-        i += 1;
-    }
-    k
-}
-
-// Part of a list: from place `start` to before place `end`.
-struct Span {
-    start: usize,
-    end: usize,
-}
-
-// Lists row a. The span is the neighbours above a, the higher ends of the links of which a is the lower.
-fn list_uppers(links: &[u8], a: u32, list: &mut [u16]) -> Span
-    requires { ⌜
-        (a < max-radios) × (row-bytes * a + row-bytes ≤ length (now links)) ×
-        (length (neighbours-of (now links) a) ≤ length (now list))
-        ⌝ }
-    ensures { λ r. ⌜ Span-of (now (links .entry)) a (now (list .entry)) (now (list .exit)) (r .start) (r .end) ⌝ }
-{
-    let end = rows::row_neighbours(links, a, list) as usize;
-    let start = first_above(list, end, a);
-    Span { start, end }
-}
-
-// How many links the rows below n mark.
-fn count_links(n: u32, links: &[u8], list: &mut [u16]) -> u32
-    requires { ⌜ Rows-listed n (now links) × (length (now list) ≡ max-neighbours) ⌝ }
-    ensures { λ r. ⌜ r ≡ length (links-from n (now (links .entry)) 0 0) ⌝ }
-{
-    let mut count: u32 = 0;
-    let mut a: u32 = 0;
-    while a < n {
-        let span = list_uppers(links, a, list);
-        count += (span.end - span.start) as u32;
-        a += 1;
-    }
-    count
-}
-
 // Writes the link of a and b, of which a is the lower, as four bytes from `at` on.
 fn put_link(part: &mut [u8], at: usize, a: u32, b: u32)
     requires { ⌜ at + 4 ≤ length (now part) ⌝ }
@@ -180,7 +128,7 @@ struct Cursor {
 // holds anything after.
 fn put_links(part: &mut [u8], n: u32, links: &[u8], from: Cursor, list: &mut [u16]) -> Cursor
     requires { ⌜
-        (length (now part) ≡ block-bytes) × Rows-listed n (now links) × (length (now list) ≡ max-neighbours) ×
+        (length (now part) ≡ block-bytes) × Rows-listed n (now links) (length (now list)) ×
         Cursor-good n (now links) (from .row) (from .place)
         ⌝ }
     ensures { λ r. ⌜
@@ -192,7 +140,7 @@ fn put_links(part: &mut [u8], n: u32, links: &[u8], from: Cursor, list: &mut [u1
     let mut place = from.place;
     let mut count: usize = 0;
     while row < n {
-        let span = list_uppers(links, row, list);
+        let span = link_list::list_above(links, row, list);
         let start = span.start + place;
         let end = span.end;
         let put = put_row(part, count, row, &list[start..end]);
@@ -217,7 +165,7 @@ fn fill_links(
     list: &mut [u16],
 ) -> Cursor
     requires { ⌜
-        (length (now part) ≡ block-bytes) × Rows-listed n (now links) × (length (now list) ≡ max-neighbours) ×
+        (length (now part) ≡ block-bytes) × Rows-listed n (now links) (length (now list)) ×
         Cursor-good n (now links) (from .row) (from .place)
         ⌝ }
     ensures { λ r. ⌜
@@ -298,7 +246,7 @@ pub fn write(n: u32, links: &[u8], numbers: &[u8], order: &[u16], buffer: &mut [
         return Value { number, value: 0 };
     }
     let mut list = [0u16; Site::NEIGHBOURS as usize];
-    let count = count_links(n, links, &mut list);
+    let count = link_list::count_links(n, links, &mut list);
     let blocks = form::block_count(n, count);
     if buffer.len() < checks::BLOCK * blocks as usize {
         return Value {

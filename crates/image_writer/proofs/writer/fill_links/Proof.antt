@@ -7,7 +7,7 @@ use lib.Seq.{sets}
 use borrow.Author.Needs.{needs}
 use Rattle.mesh.specs.Image.{block-links, link-bytes}
 use Rattle.image_writer.specs.Filler.{sealed}
-use Rattle.image_writer.specs.Links.{links-from}
+use Rattle.link_list.specs.Links.{links-from}
 use Rattle.image_writer.proofs.FillerLaws.{sealed-payload}
 use Rattle.image_writer.proofs.BlockFilling.{length-links-bytes}
 use Rattle.image_writer.proofs.writer.fill_links.Statement.{statement}

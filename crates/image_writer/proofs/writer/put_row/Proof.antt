@@ -9,10 +9,10 @@ use borrow.Author.Needs.{needs}
 use Rattle.mesh.specs.Graph.{Link, link-of}
 use Rattle.mesh.specs.Image.{link-bytes}
 use Rattle.mesh.proofs.Images.Blocks.{length-link-bytes}
-use Rattle.image_writer.specs.Links.{links-to}
+use Rattle.link_list.specs.Links.{links-to}
 use Rattle.image_writer.proofs.FillerLaws.{Putting, putting-none, putting-turn}
-use Rattle.lists.proofs.Map.{take-map}
-use Rattle.image_writer.proofs.UpperLaws.{length-links-to, getD-links-to}
+use Rattle.lists.proofs.Map.{length-map, take-map}
+use Rattle.link_list.proofs.LinksFrom.{getD-links-to}
 use Rattle.image_writer.proofs.writer.put_row.Statement.{statement}
 use Rattle.image_writer.proofs.writer.put_row.Tie as tie
 
@@ -38,8 +38,8 @@ loop-again c =
     let bs = call .list .now in
     let e : 4 + 4 * (call .count + i) ≡ 4 + 4 * call .count + 4 * i = omega arith in (
       omega arith,
-      putting-turn link-bytes 4 length-link-bytes (call .part .now) (4 + 4 * call .count) (links-to (call .a) bs) i (at-loop .loop .part) _ (link-of 0 0) _ (at-loop .loop .inv .1)
-          (omega (arith, length-links-to (call .a) bs)) (sym (getD-links-to (call .a) bs i (omega arith))) (rw e at (put .put-link .ensures)),
+      putting-turn link-bytes 4 length-link-bytes (call .part .now) (4 + 4 * call .count) (links-to (call .a) bs) i (at-loop .loop .part) _ (link-of (call .a) 0) _ (at-loop .loop .inv .1)
+          (omega (arith, length-map (link-of (call .a)) bs)) (sym (getD-links-to (call .a) bs i)) (rw e at (put .put-link .ensures)),
     )
 
 same-length : tie.Need-same-length Inv-loop μ-loop

@@ -1,23 +1,22 @@
 -- `writer::write_blocks` meets its contract: the blocks so far stand in front of the buffer, and the cursor stands before the next
 -- one. The measure is the blocks left.
-use mathlib.Core.Path.{_≡_, sym, _∙_}
+use mathlib.Core.Path.{_≡_, refl, _∙_}
 use Prim.Native.Nat.{_+_, _*_, _-_, _≤_}
 use native.Mathlib.Omega.{arith}
 use lib.ListN.{length, drop, length-drop}
 use lib.Seq.{length-take-le}
 use borrow.Author.Needs.{needs}
 use borrow.Rule.Slice.PartMut.{same-len-mid}
-use Rattle.mesh.specs.Limits.{max-neighbours}
 use Rattle.mesh.specs.Image.{block-at}
 use Rattle.mesh.proofs.Images.Of.{length-block-at}
-use Rattle.image_writer.specs.Links.{marked-graph, Cursor-at}
+use Rattle.image_writer.specs.Blocks.{marked-graph, Cursor-at}
 use Rattle.image_writer.proofs.BlockFilling.{Filling, filling-none, filling-turn, filling-end, cursor-first}
 use Rattle.image_writer.proofs.writer.write_blocks.Statement.{statement}
 use Rattle.image_writer.proofs.writer.write_blocks.Tie as tie
 
 abbrev Inv-loop : tie.InvT-loop
 Inv-loop blocks n count links order buffer₀ list₀ from₀ i₀ buffer list from i =
-    (i ≤ blocks) × (length list ≡ max-neighbours) × Cursor-at n links i (from .row) (from .place)
+    (i ≤ blocks) × (length list ≡ length list₀) × Cursor-at n links i (from .row) (from .place)
     × Filling (block-at (marked-graph n links) order) buffer₀ i buffer
 
 abbrev μ-loop : tie.MeasureT-loop
@@ -26,7 +25,7 @@ abbrev μ-loop : tie.MeasureT-loop
 loop-holds : tie.Need-loop-holds Inv-loop μ-loop
 loop-holds c =
     let start = c .before .before .before .before in
-    (omega arith, start .pre .1 .room, cursor-first _ _, filling-none _ _)
+    (omega arith, refl, cursor-first _ _, filling-none _ _)
 
 cast-at : tie.Need-cast-at Inv-loop μ-loop
 cast-at c = omega (arith, c .before .loop .inv .3 .long)
@@ -54,7 +53,11 @@ fill-block-requires c κs =
     let e : 512 * i + 512 - 512 * i ≡ 512 = omega arith in
     let w = start .pre .1 in (
       rw e (length-take-le 512 (drop (512 * i) (at-loop .loop .buffer)) (simp length-drop (omega (arith, at-loop .loop .inv .3 .long)))),
-      record { rows = w .rows; entries = w .entries; counted = w .counted; room = at-loop .loop .inv .1 },
+      record {
+        rows = record { most = w .rows .most; few = λ a l. omega (arith, w .rows .few a l, at-loop .loop .inv .1) };
+        entries = w .entries;
+        counted = w .counted;
+      },
       at-loop .loop .inv .2,
     )
 
@@ -76,7 +79,7 @@ same-length : tie.Need-same-length Inv-loop μ-loop
 same-length c = c .before .loop .inv .3 .long
 
 same-length-2 : tie.Need-same-length-2 Inv-loop μ-loop
-same-length-2 c = c .before .loop .inv .1 ∙ sym (c .before .before .before .before .before .before .pre .1 .room)
+same-length-2 c = c .before .loop .inv .1
 
 returns : tie.Need-returns Inv-loop μ-loop
 returns c = filling-end _ _ _ _ _ (c .before .loop .inv .3) (omega arith)

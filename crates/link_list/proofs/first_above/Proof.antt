@@ -1,19 +1,20 @@
--- `writer::first_above` meets its contract: the entries passed are at most a. The measure is the places left.
+-- `first_above` meets its contract: the entries passed are at most a. The measure is the places left.
 use Prim.Native.Nat.{_-_}
 use native.Mathlib.Omega.{arith}
+use lib.ListN.{length}
 use borrow.Author.Needs.{needs}
-use Rattle.image_writer.proofs.UpperLaws.{Passing, passing-none, passing-turn}
-use Rattle.image_writer.proofs.writer.first_above.Statement.{statement}
-use Rattle.image_writer.proofs.writer.first_above.Tie as tie
+use Rattle.link_list.proofs.AboveLaws.{Passing, passing-none, passing-turn}
+use Rattle.link_list.proofs.first_above.Statement.{statement}
+use Rattle.link_list.proofs.first_above.Tie as tie
 
 abbrev Inv-loop : tie.InvT-loop
-Inv-loop list k a i₀ i = Passing list k a i
+Inv-loop list a i₀ i = Passing list a i
 
 abbrev μ-loop : tie.MeasureT-loop
-μ-loop list k a i₀ i = k - i
+μ-loop list a i₀ i = length list - i
 
 loop-holds : tie.Need-loop-holds Inv-loop μ-loop
-loop-holds c = passing-none _ _ _
+loop-holds c = passing-none _ _
 
 cast-if1 : tie.Need-cast-if1 Inv-loop μ-loop
 cast-if1 c = omega (arith, c .shared-slice-known .given (c .before .before .loop .i))
@@ -22,7 +23,7 @@ returns : tie.Need-returns Inv-loop μ-loop
 returns c = let p = c .before .before .before .loop .inv in record { low = p .low; below = p .below; above = λ h. c .if1 .taken }
 
 loop-again : tie.Need-loop-again Inv-loop μ-loop
-loop-again c = passing-turn _ _ _ _ (c .before .before .before .loop .inv) (omega arith) (c .if1 .left)
+loop-again c = passing-turn _ _ _ (c .before .before .before .loop .inv) (omega arith) (c .if1 .left)
 
 returns-2 : tie.Need-returns-2 Inv-loop μ-loop
 returns-2 c =
