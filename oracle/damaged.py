@@ -76,6 +76,9 @@ CASES = [
     ("n-4", site(n=4)),
     ("short-numbers", site(numbers=NUMBERS[:4])),
     ("short-order", site(order=ORDER[:4])),
+    ("one-sided-mended", site()),
+    ("bit-at-511-mended", site()),
+    ("other-order", site(order=[4, 3, 0, 1, 2])),
 ]
 
 text = "".join(f"{name} {number} {value}\n" for name, (number, value) in CASES)

@@ -57,6 +57,7 @@ text = ""
 for name, n in CASES:
     for line in [(name, n)] + lines(name, n):
         text += (line if isinstance(line, str) else " ".join(str(x) for x in line)) + "\n"
+text += "canary 1\n"  # a byte written where none may be
 if "--check" in sys.argv:
     same = OUT.read_text() == text
     print("crates/cases/stdout:", "as written by this program" if same else "DIFFERENT")

@@ -146,6 +146,26 @@ def read_line(n, lengths, image):
     line("read", n, *lengths, len(image), number, number != 0, tables_digest(0, tables))
 
 
+def refusal(n, links, numbers, order):
+    """Questions 1 to 3. Sound tables are those with proper rows, core numbers and a k-order."""
+    if not 1 <= n <= RADIOS:
+        return 1
+    if (len(links), len(numbers), len(order)) != (ROW * n, n, n):
+        return 2
+    pairs = [(a, b) for a in range(n) for b in range(a, 8 * ROW) if links[ROW * a + b // 8] >> b % 8 & 1]
+    if not is_site(n, pairs, order) or links != rows(n, pairs) or numbers != peeled(n, pairs):
+        return 3
+    return 0
+
+
+def refused_lines(n, links, numbers, order):
+    """Nothing is written, whatever the buffer."""
+    number = refusal(n, links, numbers, order)
+    assert number
+    for room in (3 * BLOCK, 0):
+        line("write", room, number, 0, 0, True)
+
+
 def write_line(image, room):
     """Bytes past the image, or all of them, are kept."""
     held = len(image) <= room
@@ -153,8 +173,8 @@ def write_line(image, room):
     line("write", room, 0 if held else 9, len(written), digest(0, written), True)
 
 
-def blocks_line(image):
-    """A reader's steps, two more than there are blocks."""
+def blocks_lines(image):
+    """A reader's steps, two more than there are blocks; then those of the reader that holds the image."""
     number, count = block_refusal(image), len(image) // BLOCK
     at = given = ends = h = 0
     for _ in range(count + 2):
@@ -171,6 +191,12 @@ def blocks_line(image):
         given += len(part)
         h = digest(digest(h, said), part)
     line("blocks", at, number, given, ends, h)
+    h = 0
+    for at in range(count + 2):
+        status = number or (256 if at >= count else 0)
+        after = at if status else at + 1
+        h = digest(h, [0, status, after, after] + ([] if status else image[BLOCK * at + 4:BLOCK * at + 508]))
+    line("held", h)
 
 
 def site_lines(n, pairs, order):
@@ -185,7 +211,7 @@ def site_lines(n, pairs, order):
     for size in (n - 1, n + 1, 0, 513, n):
         read_line(size, lengths, image)
     line("again", 1)
-    blocks_line(image)
+    blocks_lines(image)
 
 
 # ---- the sites tried
@@ -254,18 +280,34 @@ def changes_line(how, mended, n, good):
 
 
 def small_lines():
-    good = image_of(5, [(0, 1), (0, 2), (1, 2), (2, 3), (3, 4)], [4, 3, 2, 0, 1])
+    pairs, order = [(0, 1), (0, 2), (1, 2), (2, 3), (3, 4)], [4, 3, 2, 0, 1]
+    links, numbers, good = rows(5, pairs), peeled(5, pairs), image_of(5, pairs, order)
     for n, lengths in [
         (5, (320, 5, 5)), (4, (256, 4, 4)), (6, (384, 6, 6)),
         (5, (319, 5, 5)), (5, (321, 5, 5)), (5, (320, 4, 5)),
         (5, (320, 6, 5)), (5, (320, 5, 4)), (5, (320, 5, 6)),
     ]:
         read_line(n, lengths, good)
-    blocks_line(good)
-    blocks_line(good[:-1])
+    blocks_lines(good)
+    blocks_lines(good[:-1])
+    assert refusal(5, links, numbers, order) == 0
+    refused_lines(5, links, [2, 2, 2, 1, 2], order)
+    refused_lines(5, links, numbers, [4, 3, 2, 0, 0])
+    refused_lines(5, bytearray([1] * 320), numbers, order)
+    refused_lines(5, links, [2, 2, 2, 1], order)
+    refused_lines(0, links, [2, 2, 2, 1], order)
+    bad = good[:600] + [77] + good[601:]
+    for image, n in ((bad, 0), (bad[:-1], 513)):
+        read_line(5, (320, 5, 5), image)
+        read_line(4, (256, 4, 4), image)
+        read_line(5, (319, 5, 5), image)
+        read_line(n, (319, 5, 5), image)
+        blocks_lines(image)
     for how in CHANGES:
         changes_line(how, False, 5, good)
         changes_line(how, True, 5, good)
+    # three tables exchanged, found twice each; images that differ; a refusal that changed a table
+    line("canaries", 2 * 3 + 1 + 1)
 
 
 def work_out():

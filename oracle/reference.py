@@ -103,27 +103,38 @@ def check_bytes(block):
     return [check >> 8 * i & 255 for i in range(4)]
 
 
-def reading(n, image):
-    """The refusal number of reading an image for n radios: questions 9 to 11."""
+def block_refusal(image):
+    """Questions 9 and 10: the number of the first no, 0 for none."""
     if not image or len(image) % 512:
         return 9
     blocks = [image[at:at + 512] for at in range(0, len(image), 512)]
-    if any(check_bytes(block) != block[508:] for block in blocks):
-        return 10
+    return 10 if any(check_bytes(block) != block[508:] for block in blocks) else 0
+
+
+def read(n, image):
+    """Refusal number of reading an image for n radios, questions 9 to 11, and the site of an accepted one."""
+    if block_refusal(image):
+        return block_refusal(image), None
+    blocks = [image[at:at + 512] for at in range(0, len(image), 512)]
     # the only site whose image it can be is the one that its entries tell
     two = lambda block, at: block[4 + at] + 256 * block[5 + at]
     orders, pairs = -(-n // 252), two(blocks[0], 2)
     if len(blocks) != 1 + orders + -(-pairs // 126):
-        return 11
+        return 11, None
     site = Site(n)
     site.order = [two(blocks[1 + j // 252], 2 * (j % 252)) for j in range(n)]
     for j in range(pairs):
         block, at = blocks[1 + orders + j // 126], 4 * (j % 126)
         site.links.add((two(block, at), two(block, at + 2)))
     if not all(a < b < n for a, b in site.links):
-        return 11
+        return 11, None
     site.numbers = core_numbers(n, site.links)
-    return 0 if site.sound() and site.image() == image else 11
+    return (0, site) if site.sound() and site.image() == image else (11, None)
+
+
+def reading(n, image):
+    """The refusal number alone."""
+    return read(n, image)[0]
 
 
 class Site:

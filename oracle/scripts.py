@@ -72,6 +72,11 @@ def circulant(n, reach):
     return [(v, (v + d) % n) for d in range(1, reach + 1) for v in range(n)]
 
 
+def pairs(many):
+    """A link up and down in turn: lines of 7 and 9 bytes, which print 9 each."""
+    return [("down" if i % 2 else "up", 0, 1) for i in range(many)]
+
+
 TRIANGLES = clique(3) + [(a + 3, b + 3) for a, b in clique(3)]
 START = b"radios 4\nup 0 1\n"
 
@@ -108,6 +113,8 @@ SCRIPTS = {
     "radios-space-at-the-front": b" radios 4\nup 0 1\n",
     "radios-carriage-return": b"radios 4\r\nup 0 1\n",
     "radios-byte-255": b"radios 4\xff\nup 0 1\n",
+    "radios-255-in-front": b"\xffradios 4\nup 0 1\n",
+    "radios-255-for-line-feed": b"radios 4\xffup 0 1\n",
     "second-radios": START + b"radios 4\nup 1 2\n",
     "leading-zero": START + b"up 00 1\n",
     "value-65535": START + b"up 65535 65535\ndown 65535 65535\nup 1 2\n",
@@ -128,10 +135,26 @@ SCRIPTS = {
     "above-127": START + b"up 1 \xb2\n",
     "zero-byte": START + b"up 1 2\x00\n",
     "byte-255": START + b"\xff\nup 1 2\n",
+    # more than one read and one write: a bad line late; 4,095 to 4,097 bytes printed, then the closing lines; 4,096 bytes after line 1
+    "bad-late": script(4, pairs(800)) + b"up 1  2\nup 1 2\n",
+    "output-4095": script(4, pairs(455)),
+    "output-4096": script(4, pairs(400) + [("up", 9, 9)] * 124),
+    "output-4097": script(4, pairs(401) + [("up", 9, 9)] * 122),
+    "input-4096": script(4, pairs(512)),
+    # M1 with another last call
+    "canary": script(4, ups([(0, 1), (1, 2), (0, 2), (0, 3)])),
 }
 
+# played again with a read for each byte: more than 1,000 reads, each of less than the program has room for
+BY_BYTES = ["m1", "refusals", "clique-33", "radios-very-long", "unterminated", "very-long", "byte-255", "bad-late", "output-4096"]
+
+# its last answer, its numbers and its order differ from M1's
+last_lines = [replay(SCRIPTS[name]).splitlines()[3:] for name in ("m1", "canary")]
+assert all(x != y for x, y in zip(*last_lines)) and [len(lines) for lines in last_lines] == [3, 3]
+
 FILES = {CRATE / "data" / name: text for name, text in SCRIPTS.items()}
-FILES[CRATE / "stdout"] = "".join(f"{name}\n{replay(text)}" for name, text in SCRIPTS.items()).encode()
+PRINTED = {name: replay(text) for name, text in SCRIPTS.items()}
+FILES[CRATE / "stdout"] = "".join(f"{name}\n{PRINTED[name]}" for name in [*SCRIPTS, *BY_BYTES]).encode()
 
 if "--check" in sys.argv:
     stored = {path for path in (CRATE / "data").iterdir()} | {CRATE / "stdout"}

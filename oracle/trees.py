@@ -10,8 +10,9 @@ sets: one node for each different connected core, at the largest k. Small sites 
 A file is words of 16 bits, lower byte first: n; the count of links and the links; the count of
 calls and the calls on the site; the same for calls after all numbers are set to 255. A call is
 its kind (1 tree, 2 backbone, 3 core), n, the length of the answer table, for a tree the places for
-nodes, for a core the radio and the level; then what is owed: refusal number, value, for a tree the count of the nodes' words and
-the words; the count of entries written and the entries.
+nodes, for a core the radio and the level; then what is owed: refusal number, value, for a tree the
+lists of names, levels and parents, and the list in the answer table; a list is its count and its
+entries. In the last file, `canary`, each call owes one wrong value.
 """
 
 import random
@@ -99,11 +100,13 @@ class File:
         self.made += 1
         self.compared += compared
 
-    def tree(self, n, w, sound=True, room=PLACES):
+    def tree(self, n, w, sound=True, room=PLACES, owed=lambda outcome: outcome):
+        """What is owed are lists: number and value, names, levels, parents, answer; `owed` may change them."""
         number = self.refused(n, w if room > n else -1, sound)
         nodes, names = ([], []) if number else self.site.tree()
-        flat = [x for node in nodes for x in node]
-        self.note(sound, [1, n, w, room, number, len(nodes), len(flat)] + flat + [len(names)] + names, 2 + 3 * PLACES + w)
+        columns = [[node[i] for node in nodes] for i in range(3)]
+        head, *lists = owed([[number, len(nodes)]] + columns + [names])
+        self.note(sound, [1, n, w, room] + head + [x for y in lists for x in [len(y)] + y], 2 + 3 * PLACES + w)
 
     def listing(self, head, number, radios, w, sound):
         self.note(sound, head + [number, len(radios), len(radios)] + radios, 2 + w)
@@ -139,6 +142,15 @@ class File:
         for call in (self.tree, self.backbone):
             call(n, PLACES, sound=False)
         self.core(n, PLACES, 0, 0, sound=False)
+        return self
+
+    def canary(self):
+        """Each part of a tree's outcome owed wrongly once, each list also with an entry too few and one too many."""
+        wrong = [lambda xs, i=i: xs[:i] + [xs[i] ^ 1] + xs[i + 1:] for i in (0, 1)]
+        others = [wrong[1], lambda xs: xs[:-1], lambda xs: xs + [0]]
+        for part, change in [(0, wrong[0]), (0, wrong[1])] + [(i, change) for i in range(1, 5) for change in others]:
+            self.tree(self.site.n, PLACES, owed=lambda outcome: [
+                change(xs) if i == part else xs for i, xs in enumerate(outcome)])
         return self
 
     def bytes(self):
@@ -263,6 +275,9 @@ def files():
         file = File(site).all_calls(sorted({0, n - 1, tops[n // 3], tops[n // 2], tops[-1]}))
         written[name] = file.bytes()
         lines.append(f"{name} calls {file.made} compared {file.compared} wrong 0\n")
+    file = File(Site(*SITES["m5"])).canary()
+    written["canary"] = file.bytes()
+    lines.append(f"canary calls {file.made} compared {file.compared} wrong {file.made}\n")
     for name, levels in (("nested-12-moved", 12), ("chain-6", 6), ("chain-28-moved", 28)):
         nodes = Site(*SITES[name]).tree()[0]
         assert [level for _, level, _ in nodes] == list(range(levels + 1))

@@ -15,7 +15,8 @@ from questions import RADIOS
 
 OUT = Path(__file__).resolve().parent.parent / "crates/histories/stdout"
 WORD = 2 ** 64
-HEAD = "history radios: accepted, refused by 1 to 7, changed radios, calls, differences\n"
+HEAD = "history radios: accepted, refused by 1 to 7, changed radios, calls, differences, canaries\n"
+CANARIES = 11  # wrong expectations that the program puts to its own comparisons after each history
 
 
 class Draws:
@@ -70,7 +71,7 @@ def troubled(n, draws):
 
 def history(n, m, most, ups, calls, seed, clique):
     """The counts of a history's answers."""
-    site, draws, counts = Site(n), Draws(seed), [0] * 11
+    site, draws, counts = Site(n), Draws(seed), [0] * 11 + [CANARIES]
     for i in range(calls):
         up, a, b = pick_in_clique(m, i) if clique else pick(site, m, most, ups, draws)
         number, changed = troubled(n, draws), []

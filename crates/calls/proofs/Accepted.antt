@@ -1,47 +1,67 @@
--- Property 2 in terms of the contracts: what a caller has after an accepted call.
---   Numbers-right        numbers are core numbers of a graph by the largest group, and the order is a k-order of it
---   link-right           so they are after an accepted link call, for the graph with the link changed
---   core-right           the radios listed are exactly the connected core
+-- Property 2 in terms of the contracts: what a caller has after an accepted call. The definitions are in specs/Results.antt.
+--   check-right          the check answers 1 exactly for proper rows, core numbers and a k-order
+--   link-right           numbers and order are right after a link call, for the graph in the new links table
+--   number-right         the number answered is the core number by the largest group
+--   core-right, backbone-right   the radios listed are exactly the connected core, the backbone
 --   tree-right-listed    the nodes are the shell tree, and each radio has its node's name
---   write-right          the bytes written are an image that a reader accepts
+--   write-right          the bytes written are the image of the tables, and of sound tables
 --   read-right           the tables of an accepted image are sound, and written again they give the same bytes
 --   read-what-was-written   sound tables, written and read, are the same tables
-use mathlib.Core.Path.{_≡_, sym, ap, ap₂, _∙_}
+--   read-eleven          11 is the answer to bytes that are the image of no sound tables, and to no others
+--   block-right          what a step of the block reader gives
+use mathlib.Core.Path.{_≡_, refl, sym, ap, ap₂, subst, _∙_}
 use mathlib.Core.Logic.{_⊎_, inl, inr, _↔_}
-use mathlib.Core.Bool.{Bool, true}
+use mathlib.Core.Bool.{Bool, true, false, cond}
 use mathlib.Core.List.{List}
-use Prim.Native.Nat.{ℕ, _<_}
-use lib.ListN.{length, take}
+use Prim.Native.Nat.{ℕ, _/_, _<_}
+use native.Mathlib.Omega.{arith}
+use lib.Dec.{ltb}
+use lib.ListN.{length, getD, take, drop, List·getD-append}
+use lib.Seq.{ext-getD}
+use borrow.Author.Tests.{ltb-true, ltb-false}
 use Rattle.mesh.specs.Limits.{max-neighbours}
-use Rattle.lists.specs.Lists.{member, overwrite}
-use Rattle.mesh.specs.Graph.{Graph, relinked}
+use Rattle.lists.specs.Lists.{range, overwrite, Ascending, Entries-below}
+use Rattle.mesh.specs.Graph.{Graph, radios, relinked}
 use Rattle.mesh.specs.Cores.{Core, number, numbers}
 use Rattle.mesh.specs.Orders.{is-k-order}
-use Rattle.mesh.specs.Tables.{Tables, graph-in, tables-of}
-use Rattle.mesh.specs.Sound.{sound, number-in}
-use Rattle.mesh.specs.Connected.{In-core, core-of}
-use Rattle.mesh.specs.Tree.{Is-tree, Node-name, tree, node-name, node-names}
-use Rattle.mesh.specs.Image.{image-of, image-graph, image-order, is-image}
+use Rattle.mesh.specs.Levels.{changed}
+use Rattle.mesh.specs.Tables.{Tables, graph-in, tables-of, Tables-of-size}
+use Rattle.mesh.specs.Sound.{sound}
+use Rattle.mesh.specs.Connected.{core-of, backbone}
+use Rattle.mesh.specs.Tree.{tree, node-name, node-names}
+use Rattle.mesh.specs.Image.{block-bytes, image-of, image-graph, image-order, whole-blocks, checks-good, is-image, Tables-image, payload-at}
 use Rattle.mesh.specs.declared.Node.{Node}
-use Rattle.lists.proofs.Overwrite.{take-overwrite}
-use Rattle.mesh.proofs.Cores.Peeling.{number-core, getD-numbers}
-use Rattle.mesh.proofs.Tables.Soundness.{valid-sound}
+use Rattle.lists.proofs.Tests.{never}
+use Rattle.lists.proofs.Map.{length-map, getD-map-range}
+use Rattle.lists.proofs.Range.{length-range}
+use Rattle.lists.proofs.Overwrite.{take-overwrite, drop-overwrite}
+use Rattle.mesh.proofs.Cores.Peeling.{number-core, number-unique, length-numbers, getD-numbers}
+use Rattle.mesh.proofs.Tables.ReadBack.{graph-in-links-table}
+use Rattle.mesh.proofs.Tables.Soundness.{sound-iff, valid-sound}
 use Rattle.mesh.proofs.Tables.Sites.{image-valid}
 use Rattle.mesh.proofs.Trees.Reach.{core-of-iff}
-use Rattle.mesh.proofs.Trees.ShellNames.{node-name-right}
-use Rattle.mesh.proofs.Trees.Laws.{tree-right}
+use Rattle.mesh.proofs.Trees.Unique.{tree-iff, node-name-iff}
+use Rattle.mesh.proofs.Trees.Listed.{changed-ascending, core-ascending, backbone-ascending, backbone-iff}
+use Rattle.mesh.proofs.Links.Tables.{graph-in-put-link, rows-put-link}
 use Rattle.mesh.proofs.Links.Laws.{link-valid}
 use Rattle.mesh.proofs.Images.Of.{length-image-of, whole-blocks-image-of, checks-good-image-of}
 use Rattle.mesh.proofs.Images.Sites.{written-read}
-use Rattle.mesh.proofs.Images.Tables.{Tables-of-size, valid-graph-in, is-image-sound, tables-read-written}
+use Rattle.mesh.proofs.Images.Tables.{valid-graph-in, is-image-sound, is-image-tables, tables-read-written}
 use Rattle.mesh.specs.Valid.{Valid}
-use Rattle.calls.specs.Questions.{By-number, lengths-of, image-length, link-refusal, core-refusal, tree-refusal, write-refusal, read-refusal}
+use Rattle.calls.specs.Questions.{ask, By-number, lengths-of, size-good, site-lengths, image-length, lent-refusal, tables-refusal, link-refusal}
+use Rattle.calls.specs.Questions.{radio-refusal, core-refusal, backbone-refusal, tree-refusal, write-refusal, blocks-refusal, image-refusal, read-refusal}
+use Rattle.calls.specs.Questions.{block-refusal}
 use Rattle.calls.specs.Writes.{Tables-refused, Link-accepted, Link-refused, Link-contract, Read-accepted, Read-contract}
-use Rattle.calls.specs.Answers.{Listing-accepted, Listing-refused, Core-contract, Write-contract, Tree-accepted, Tree-refused, Tree-contract}
+use Rattle.calls.specs.Answers.{Value-accepted, Value-refused, Check-contract, Number-contract, Listing-accepted, Listing-refused, Core-contract}
+use Rattle.calls.specs.Answers.{Backbone-contract, Write-contract, Tree-accepted, Tree-refused, Tree-contract, Block-none, Block-accepted, Block-contract}
+use Rattle.calls.specs.Results.{Numbers-right, Site-right, Listed, Link-right, Core-listed, Backbone-listed, Tree-listed, Written-right, Read-right}
+use Rattle.calls.specs.Results.{Block-part, Block-end}
 use Rattle.calls.specs.declared.Reply.{Reply}
 use Rattle.calls.specs.declared.Value.{Value}
+use Rattle.calls.specs.declared.Block.{Block}
 use Rattle.calls.proofs.ContractLaws.{by-cases, by-zero}
-use Rattle.calls.proofs.ChainLaws.{Site-good, link-zero, core-zero, write-zero, read-zero, read-yes}
+use Rattle.calls.proofs.QuestionLaws.{size-good-true}
+use Rattle.calls.proofs.ChainLaws.{lent-zero, Site-good, link-zero, radio-zero, core-zero, write-zero, read-zero, read-yes}
 use Rattle.calls.proofs.RecordLaws.{tables-ext}
 
 -- ---- the number 0 is no refusal
@@ -53,57 +73,139 @@ accepted R A B r says d z = go (by-cases R A B d)
     go (inl p) = p
     go (inr p) = absurd (p .0 (sym (says R (p .1)) ∙ z))
 
--- ---- link calls
+-- ---- a list in front of a lent list
 
-pub record Numbers-right (g : Graph) (t : Tables) : Type 0 where
-  pub cores : (x : ℕ) → x < g .n → Core g x (number-in (t .numbers) x)
-  pub k-order : is-k-order g (t .order) ≡ true
+front : (new old : List ℕ) (k : ℕ) (x : List ℕ) → k ≡ length new → x ≡ overwrite new old → take k x ≡ new
+front new old k x e f = ap₂ (λ (i : ℕ) (ys : List ℕ). take i ys) e f ∙ take-overwrite new old
+
+later : (new old : List ℕ) (k : ℕ) (x : List ℕ) → k ≡ length new → x ≡ overwrite new old → drop k x ≡ drop k old
+later new old k x e f = rw (e, f) (drop-overwrite new old)
+
+in-front : (new old : List ℕ) (k : ℕ) (x : List ℕ) → k ≡ length new → x ≡ overwrite new old → Ascending new → Listed k old x
+in-front new old k x e f a = record { ascending = rw (front new old k x e f) a; later-entries = later new old k x e f }
+
+-- ---- link calls
 
 numbers-right : (g : Graph) (t : Tables) → t .numbers ≡ numbers g → is-k-order g (t .order) ≡ true → Numbers-right g t
 numbers-right g t e k = record { cores = λ x l. rw (e, getD-numbers g x l) (number-core g x l); k-order = k }
 
+-- the graph in the new links table is the graph with the link changed
 pub link-right : (up : Bool) (n a b : ℕ) (t : Tables) (w : List ℕ) (r : Reply) (v : Tables) (x : List ℕ) → Link-contract up n a b t w r v x
-    → r .number ≡ 0 → Numbers-right (relinked up a b (graph-in n (t .links))) v
-unfolding Link-contract graph-in sound
+    → r .number ≡ 0 → Link-right up n a b t v (r .count) w x
+unfolding Link-contract graph-in sound lengths-of
 link-right up n a b t w r v x d z =
     let g = graph-in n (t .links) in
     let c = accepted (link-refusal up n a b (lengths-of t) (length w) (sound n t) g) (Link-accepted up a b g t w r v x)
     (λ q. Link-refused q t w r v x) (r .number) (λ q e. e .number) d z in
     let good = link-zero up a b (lengths-of t) (length w) (sound n t) g (c .0) in
     let valid = link-valid max-neighbours up a b g (t .order) (valid-graph-in max-neighbours n t (good .0 .lent .most) (good .0 .is-sound)) (good .1) in
-    numbers-right (relinked up a b g) v (c .1 .numbers) (ap (is-k-order (relinked up a b g)) (c .1 .order) ∙ valid .k-order)
+    let after : graph-in n (v .links) ≡ relinked up a b g =
+    ap (graph-in n) (c .1 .links) ∙ graph-in-put-link up n a b t (good .0 .lent .most) (good .0 .lent .lengths .links) (good .0 .is-sound) (good .1) in
+    record {
+      graph = after;
+      right = record {
+        rows = rw (c .1 .links) (rows-put-link up n a b t (good .0 .lent .most) (good .0 .lent .lengths .links) (good .0 .is-sound) (good .1));
+        right = rw after (numbers-right (relinked up a b g) v (c .1 .numbers) (ap (is-k-order (relinked up a b g)) (c .1 .order) ∙ valid .k-order));
+      };
+      listed = in-front (changed up a b g) w (r .count) x (c .1 .count) (c .1 .answer) (changed-ascending up a b g);
+    }
 
--- ---- connected cores
+-- ---- the soundness check, and a radio's number
+
+site-right : (n : ℕ) (t : Tables) → length (t .numbers) ≡ n → (sound n t ≡ true) ↔ Site-right n t
+unfolding sound graph-in
+site-right n t long =
+    let g = graph-in n (t .links) in
+    let iff = sound-iff max-neighbours n t long in (
+      λ h. let s = iff .0 h in record { rows = s .rows; right = numbers-right g t (s .core-numbers) (s .k-order) },
+      λ s. iff .1 (record {
+        rows = s .rows;
+        core-numbers = ext-getD 0 (t .numbers) (numbers g) (long ∙ sym (length-numbers g))
+            (λ x l. let k : x < n = omega arith in sym (number-unique g x _ k (s .right .cores x k)) ∙ sym (getD-numbers g x k));
+        k-order = s .right .k-order;
+      }),
+    )
+
+pub check-right : (n : ℕ) (t : Tables) (r : Value) → Check-contract n t r → r .number ≡ 0 → (r .value ≡ 1) ↔ Site-right n t
+unfolding Check-contract tables-refusal lengths-of
+check-right n t r d z =
+    let c = accepted (tables-refusal n (lengths-of t)) (Value-accepted (cond (sound n t) 1 0) r) (λ q. Value-refused q r) (r .number) (λ q e. e .number) d z in
+    let good = lent-zero n (lengths-of t) true 0 (c .0) .0 in
+    let iff = site-right n t (good .lengths .numbers) in
+    (λ e. iff .0 (yes (sound n t) (sym (c .1 .value) ∙ e)), λ s. c .1 .value ∙ rw (iff .1 s))
+  where
+    yes : (b : Bool) → cond {A = ℕ} b 1 0 ≡ 1 → b ≡ true
+    yes true e = refl
+    yes false e = absurd (omega arith)
+
+pub number-right : (n v : ℕ) (t : Tables) (r : Value) → Number-contract n v t r → r .number ≡ 0 → Core (graph-in n (t .links)) v (r .value)
+unfolding Number-contract graph-in
+number-right n v t r d z =
+    let g = graph-in n (t .links) in
+    let c = accepted (radio-refusal n v (lengths-of t) (sound n t)) (Value-accepted (number g v) r)
+    (λ q. Value-refused q r) (r .number) (λ q e. e .number) d z in
+    rw (c .1 .value) (number-core g v (radio-zero n v (lengths-of t) (sound n t) (c .0) .1))
+
+-- ---- connected cores and the backbone
 
 pub core-right : (n v k : ℕ) (t : Tables) (w : List ℕ) (r : Value) (x : List ℕ) → Core-contract n v k t w r x → r .number ≡ 0
-    → (y : ℕ) → (member y (take (r .value) x) ≡ true) ↔ In-core (graph-in n (t .links)) v k y
+    → Core-listed (graph-in n (t .links)) v k (r .value) w x
 unfolding Core-contract graph-in
-core-right n v k t w r x d z y =
+core-right n v k t w r x d z =
     let g = graph-in n (t .links) in
     let new = core-of g v k in
     let c = accepted (core-refusal n v k (lengths-of t) (length w) (sound n t) g) (Listing-accepted (length new) new w r x)
     (λ q. Listing-refused q w r x) (r .number) (λ q e. e .number) d z in
     let good = core-zero n v k (lengths-of t) (length w) (sound n t) g (c .0) in
-    let listed : take (r .value) x ≡ new = ap₂ (λ (i : ℕ) (ys : List ℕ). take i ys) (c .1 .value) (c .1 .lent) ∙ take-overwrite new w in
-    let same : member y (take (r .value) x) ≡ member y new = ap (member y) listed in
-    let iff = core-of-iff g v k (good .1) y in (λ h. iff .0 (sym same ∙ h), λ h. same ∙ iff .1 h)
+    record {
+      exactly = rw (front new w (r .value) x (c .1 .value) (c .1 .lent)) (core-of-iff g v k (good .1));
+      listed = in-front new w (r .value) x (c .1 .value) (c .1 .lent) (core-ascending g v k (good .1));
+    }
+
+pub backbone-right : (n : ℕ) (t : Tables) (w : List ℕ) (r : Value) (x : List ℕ) → Backbone-contract n t w r x → r .number ≡ 0
+    → Backbone-listed (graph-in n (t .links)) (r .value) w x
+unfolding Backbone-contract
+backbone-right n t w r x d z =
+    let g = graph-in n (t .links) in
+    let new = backbone g in
+    let c = accepted (backbone-refusal n (lengths-of t) (length w) (sound n t)) (Listing-accepted (length new) new w r x)
+    (λ q. Listing-refused q w r x) (r .number) (λ q e. e .number) d z in
+    record {
+      exactly = rw (front new w (r .value) x (c .1 .value) (c .1 .lent)) (backbone-iff g);
+      listed = in-front new w (r .value) x (c .1 .value) (c .1 .lent) (backbone-ascending g);
+    }
 
 -- ---- the shell tree
 
-pub record Tree-listed (g : Graph) (m p : List Node) (w x : List ℕ) : Type 0 where
-  pub nodes : p ≡ overwrite (tree g) m
-  pub is-tree : Is-tree g (tree g)
-  pub names : x ≡ overwrite (node-names g) w
-  pub are-names : (v : ℕ) → v < g .n → Node-name g v (node-name g v)
+length-node-names : (g : Graph) → length (node-names g) ≡ g .n
+unfolding node-names radios
+length-node-names g = length-map (node-name g) (range 0 (g .n)) ∙ length-range 0 (g .n)
+
+getD-node-names : (g : Graph) (w : List ℕ) (v : ℕ) → v < g .n → getD (overwrite (node-names g) w) v 0 ≡ node-name g v
+unfolding overwrite node-names radios
+getD-node-names g w v l =
+    List·getD-append (node-names g) (drop (length (node-names g)) w) 0 v (omega (arith, length-node-names g))
+    ∙ getD-map-range 0 (node-name g) 0 (g .n) v l ∙ ap (node-name g) (omega arith)
+
+listed-tree : (g : Graph) (count : ℕ) (m p : List Node) (w x : List ℕ) → count ≡ length (tree g) → p ≡ overwrite (tree g) m
+    → x ≡ overwrite (node-names g) w → Tree-listed g count m p w x
+listed-tree g count m p w x e f h = record {
+  nodes = λ xs. rw (e, f, take-overwrite (tree g) m) (tree-iff g xs);
+  later-nodes = rw (e, f) (drop-overwrite (tree g) m);
+  names = λ v l y. rw (h, getD-node-names g w v l) (node-name-iff g v l y);
+  later-entries =
+      let e : length (node-names g) ≡ g .n = length-node-names g in
+      subst (λ (k : ℕ). drop k x ≡ drop k w) e (rw h (drop-overwrite (node-names g) w));
+}
 
 pub tree-right-listed : (n : ℕ) (t : Tables) (m : List Node) (w : List ℕ) (r : Value) (p : List Node) (x : List ℕ) → Tree-contract n t m w r p x
-    → r .number ≡ 0 → Tree-listed (graph-in n (t .links)) m p w x
+    → r .number ≡ 0 → Tree-listed (graph-in n (t .links)) (r .value) m p w x
 unfolding Tree-contract
 tree-right-listed n t m w r p x d z =
     let g = graph-in n (t .links) in
     let c = accepted (tree-refusal n (lengths-of t) (length m) (length w) (sound n t)) (Tree-accepted g m w r p x)
     (λ q. Tree-refused q m w r p x) (r .number) (λ q e. e .number) d z in
-    record { nodes = c .1 .nodes; is-tree = tree-right g; names = c .1 .answer; are-names = node-name-right g }
+    listed-tree g (r .value) m p w x (c .1 .value) (c .1 .nodes) (c .1 .answer)
 
 -- ---- images
 
@@ -123,11 +225,13 @@ module _ (n : ℕ) (t : Tables) (w : List ℕ) (r : Value) (x : List ℕ) (d : W
   good : Site-good n (lengths-of t) true (sound n t)
   good = write-zero n (lengths-of t) (length w) (sound n t) g (given .0) .0
 
-  bytes-written : take (r .value) x ≡ written
+  -- the value is the image's length
+  size : r .value ≡ length written
   unfolding image-length
-  bytes-written =
-      ap₂ (λ (i : ℕ) (ys : List ℕ). take i ys) (given .1 .value ∙ sym (length-image-of g (t .order))) (given .1 .lent)
-      ∙ take-overwrite written w
+  size = given .1 .value ∙ sym (length-image-of g (t .order))
+
+  bytes-written : take (r .value) x ≡ written
+  bytes-written = front written w (r .value) x size (given .1 .lent)
 
   read-accepts : (u : Tables) → lengths-of u ≡ lengths-of t → read-refusal n (lengths-of u) (take (r .value) x) ≡ 0
   read-accepts u e =
@@ -135,26 +239,35 @@ module _ (n : ℕ) (t : Tables) (w : List ℕ) (r : Value) (x : List ℕ) (d : W
       (record { whole = whole-blocks-image-of g (t .order); checks = checks-good-image-of g (t .order) })
       (is-image-sound n t (good .lent .most) (good .is-sound)))
 
-  pub write-right : is-image n (take (r .value) x) ≡ true
-  write-right = rw bytes-written (is-image-sound n t (good .lent .most) (good .is-sound))
+  pub write-right : Written-right n t (r .value) w x
+  write-right = record {
+    image = bytes-written;
+    is-image = rw bytes-written (is-image-tables n written (good .lent .most) .0 (is-image-sound n t (good .lent .most) (good .is-sound)));
+    later-bytes = later written w (r .value) x size (given .1 .lent);
+  }
+
+  -- tables of these lengths, as question 2 has them
+  sized : Entries-below 256 (t .links) → Tables-of-size n t
+  unfolding lengths-of
+  sized bytes = record {
+    links-length = good .lent .lengths .links;
+    numbers-length = good .lent .lengths .numbers;
+    order-length = good .lent .lengths .order;
+    links-bytes = bytes;
+  }
 
   -- the same tables come back
-  pub read-what-was-written : Tables-of-size n t → (u : Tables) (q : ℕ) (v : Tables) → lengths-of u ≡ lengths-of t
+  pub read-what-was-written : Entries-below 256 (t .links) → (u : Tables) (q : ℕ) (v : Tables) → lengths-of u ≡ lengths-of t
       → Read-contract n (take (r .value) x) u q v → (q ≡ 0) × (v ≡ t)
   unfolding Read-contract tables-of
-  read-what-was-written size u q v e f =
+  read-what-was-written bytes u q v e f =
       let bs = take (r .value) x in
       let c = by-zero (read-refusal n (lengths-of u) bs) (Read-accepted n bs q v) (λ k. Tables-refused k q u v) (read-accepts u e) f in (
         c .number,
         tables-ext v (tables-of (image-graph n bs) (image-order n bs)) (c .links) (c .numbers) (c .order)
             ∙ ap (λ (ys : List ℕ). tables-of (image-graph n ys) (image-order n ys)) bytes-written
-            ∙ tables-read-written n t (good .lent .most) size (good .is-sound),
+            ∙ tables-read-written n t (good .lent .most) (sized bytes) (good .is-sound),
       )
-
-pub record Read-right (n : ℕ) (image : List ℕ) (v : Tables) : Type 0 where
-  pub is-sound : sound n v ≡ true
-  pub right : Numbers-right (image-graph n image) v
-  pub same-bytes : image-of (image-graph n image) (v .order) ≡ image
 
 pub read-right : (n : ℕ) (bs : List ℕ) (t : Tables) (r : ℕ) (v : Tables) → Read-contract n bs t r v → r ≡ 0 → Read-right n bs v
 unfolding Read-contract image-graph tables-of sound
@@ -167,6 +280,56 @@ read-right n bs t r v d z =
     let is : v ≡ tables-of g xs = tables-ext v (tables-of g xs) (c .1 .links) (c .1 .numbers) (c .1 .order) in
     record {
       is-sound = ap (sound n) is ∙ valid-sound max-neighbours g xs (a .0 .most) valid;
+      graph = ap (graph-in n) (c .1 .links) ∙ graph-in-links-table g (a .0 .most) (valid .links-proper) (valid .links-ascending);
       right = numbers-right g v (c .1 .numbers) (ap (is-k-order g) (c .1 .order) ∙ valid .k-order);
       same-bytes = ap (image-of g) (c .1 .order) ∙ written-read n bs (a .2);
     }
+
+-- the number that reading answers
+read-number : (n : ℕ) (bs : List ℕ) (t : Tables) (r : ℕ) (v : Tables) → Read-contract n bs t r v → r ≡ read-refusal n (lengths-of t) bs
+unfolding Read-contract
+read-number n bs t r v d = go (by-cases R (Read-accepted n bs r v) (λ q. Tables-refused q r t v) d)
+  where
+    R : ℕ
+    R = read-refusal n (lengths-of t) bs
+
+    go : ((R ≡ 0) × Read-accepted n bs r v) ⊎ ((R ≡ 0 → ⊥) × Tables-refused R r t v) → r ≡ R
+    go (inl p) = p .1 .number ∙ sym (p .0)
+    go (inr p) = p .1 .number
+
+-- where 1, 2, 9 and 10 get yes
+pub read-eleven : (n : ℕ) (bs : List ℕ) (t : Tables) (r : ℕ) (v : Tables) → Read-contract n bs t r v → size-good n ≡ true
+    → site-lengths n (lengths-of t) ≡ true → whole-blocks bs ≡ true → checks-good bs ≡ true
+    → ((r ≡ 0) ↔ Tables-image n bs) × ((r ≡ 11) ↔ (Tables-image n bs → ⊥))
+unfolding read-refusal lent-refusal image-refusal blocks-refusal ask
+read-eleven n bs t r v d one two nine ten = go (is-image n bs) refl (read-number n bs t r v d ∙ rw (one, two, nine, ten))
+  where
+    iff : (is-image n bs ≡ true) ↔ Tables-image n bs
+    iff = is-image-tables n bs (size-good-true n one .1)
+
+    go : (b : Bool) → is-image n bs ≡ b → r ≡ ask 11 b 0 → ((r ≡ 0) ↔ Tables-image n bs) × ((r ≡ 11) ↔ (Tables-image n bs → ⊥))
+    go true e f = ((λ z. iff .0 e, λ i. f), (λ z. absurd (omega arith), λ i. absurd (i (iff .0 e))))
+    go false e f = ((λ z. absurd (omega arith), λ i. never (is-image n bs) (iff .1 i) e), (λ z i. never (is-image n bs) (iff .1 i) e, λ i. f))
+
+-- ---- the block reader
+
+pub block-right : (bs : List ℕ) (i : ℕ) (r : Block) → Block-contract bs i r → r .number ≡ 0 → Block-part bs i r ⊎ Block-end bs i r
+unfolding Block-contract Block-accepted payload-at
+block-right bs i r d z =
+    let there = ltb i (length bs / block-bytes) in
+    let c = accepted (block-refusal bs) (Block-accepted there i r) (λ q. Block-none q 0 i r) (r .number) (λ q e. e .number) d z in
+    go there refl (c .1)
+  where
+    go : (b : Bool) → ltb i (length bs / block-bytes) ≡ b → Block-accepted b i r → Block-part bs i r ⊎ Block-end bs i r
+    go true e c =
+        let l : i < length bs / block-bytes = ltb-true i (length bs / block-bytes) e in
+        inl (record {
+          is-block = l;
+          not-end = c .end;
+          starts = c .offset;
+          long = c .length;
+          inside = omega (arith, c .offset, c .length);
+          payload = rw (c .offset, c .length);
+          moves = c .next;
+        })
+    go false e c = inr (record { past = ltb-false i (length bs / block-bytes) e; none = c })

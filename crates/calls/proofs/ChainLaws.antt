@@ -84,7 +84,7 @@ unfolding ends-refusal
 ends-zero most up a b g p =
     let q = ask-zero 3 (are-radios (g .n) a b) _ p in
     let r = ask-zero 4 (ends-differ a b) _ (q .1) in
-    let s = ask-zero 5 (can-switch up g a b) _ (r .1) in
+    let s = ask-zero _ (can-switch up g a b) _ (r .1) in
     let t = ask-zero 6 (has-room most up g a b) 0 (s .1) in
     record {
       a-radio = are-radios-true (g .n) a b (q .0) .0;

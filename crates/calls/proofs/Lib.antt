@@ -1,14 +1,24 @@
 -- Proofs about calls: `QuestionLaws`, `ChainLaws`, `ContractLaws` and `RecordLaws` for the crates whose functions meet the
--- contracts, `Outcomes` that each contract decides its call, `Accepted` what a caller has after an accepted call (property 2), `Cases` that
--- the worked cases hold, the others for demand 3.
+-- contracts, `Outcomes` that each contract has exactly one outcome, `Refusals` what a refusal keeps, `Total` that every
+-- list of calls has a run, `Accepted` what a caller has after an accepted call (property 2), `Exactly` which radios a
+-- link call lists, `Cases` that the worked cases hold by
+-- `ByPairs`, `WorkedState` and `WorkedLaws`, the others for demand 3.
 pub mod QuestionLaws
 pub mod ChainLaws
 pub mod ContractLaws
 pub mod RecordLaws
 pub mod Outcomes
+pub mod Refusals
+pub mod Total
 pub mod LinkKept
+pub mod Holds
 pub mod Steps
 pub mod WholeList
+pub mod Exactly
+pub mod FormerDemand
+pub mod ByPairs
+pub mod WorkedState
+pub mod WorkedLaws
 pub mod Cases
 pub mod Accepted
 -- decimal digits, for the script and the printer

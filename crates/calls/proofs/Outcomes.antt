@@ -1,27 +1,37 @@
--- Every contract decides its call: on every path, outcomes that meet it are equal. An outcome is the result with the lent
--- tables after the call.
---   Decides P     outcomes that P holds of are equal
+-- Every contract has exactly one outcome: on every path outcomes that meet it are equal, and the one that specs/Outcomes.antt
+-- works out meets it. An outcome is the result with the lent tables after the call.
+--   Decides P                     outcomes that P holds of are equal
+--   ..-decided, ..-inhabited      so it is of each contract, and the outcome worked out meets it
+--   exactly                       so an outcome meets it exactly if it is the one worked out
 -- In order: pairs and triples, contracts by the refusal number, then the contract of each call.
-use mathlib.Core.Path.{_≡_, ap₂}
+use mathlib.Core.Path.{_≡_, refl, ap₂}
+use mathlib.Core.Logic.{_↔_}
 use mathlib.Core.Bool.{Bool, true, false}
 use mathlib.Core.List.{List}
 use Prim.Native.Nat.{ℕ, zero, suc, _/_}
 use lib.Dec.{ltb}
 use lib.ListN.{length}
-use Rattle.mesh.specs.Tables.{Tables, graph-in}
+use Rattle.mesh.specs.Tables.{Tables, graph-in, tables-of}
 use Rattle.mesh.specs.Image.{block-bytes}
 use Rattle.mesh.specs.declared.Node.{Node}
 use Rattle.calls.specs.Questions.{By-number}
 use Rattle.calls.specs.Writes.{Tables-refused, Clear-accepted, Clear-contract, Link-accepted, Link-refused, Link-contract, Read-accepted, Read-contract}
-use Rattle.calls.specs.Answers.{Value-accepted, Value-refused, Value-by, Check-contract, Number-contract, Block-none, Block-accepted, Block-contract}
-use Rattle.calls.specs.Answers.{Neighbours-contract, Linked-contract, First-contract, Listing-accepted, Listing-refused, Listing-by, Core-contract}
-use Rattle.calls.specs.Answers.{Backbone-contract, Write-contract, Tree-accepted, Tree-refused, Tree-contract}
+use Rattle.calls.specs.Answers.{Value-accepted, Value-refused, Value-by, Check-contract, Number-contract, Neighbours-contract, Linked-contract}
+use Rattle.calls.specs.Answers.{First-contract, Listing-accepted, Listing-refused, Listing-by, Core-contract, Backbone-contract, Write-contract}
+use Rattle.calls.specs.Answers.{Tree-accepted, Tree-refused, Tree-contract, Block-none, Block-accepted, Block-contract}
+use Rattle.calls.specs.Switches.{switched}
+use Rattle.calls.specs.Outcomes.{by-number, clear-outcome, read-outcome, link-outcome, value-outcome, check-outcome, number-outcome, neighbours-outcome}
+use Rattle.calls.specs.Outcomes.{linked-outcome, first-outcome, listing-outcome, core-outcome, backbone-outcome, write-outcome, tree-outcome, no-block}
+use Rattle.calls.specs.Outcomes.{block-or-end, block-outcome}
 use Rattle.calls.specs.declared.Reply.{Reply}
 use Rattle.calls.specs.declared.Value.{Value}
 use Rattle.calls.proofs.RecordLaws.{tables-ext, reply-ext, value-ext, block-ext}
 
 abbrev pub Decides : {A : Type 0} → (A → Type 0) → Type 0
 Decides {A} P = (o s : A) → P o → P s → o ≡ s
+
+pub exactly : {A : Type 0} (P : A → Type 0) (o : A) → P o → Decides P → (s : A) → P s ↔ (s ≡ o)
+exactly P o met decided s = (λ p. decided s o p met, λ e. rw e met)
 
 -- ---- pairs and triples
 
@@ -41,9 +51,22 @@ unfolding By-number
 by-decides zero P Q f g o s p q = f o s p q
 by-decides (suc x) P Q f g o s p q = g (suc x) o s p q
 
+-- the outcomes worked out meet them: so does the one by the number
+by-meets :
+    {A : Type 0} (R : ℕ) (P : A → Type 0) (Q : ℕ → A → Type 0) (a : A) (r : ℕ → A) → P a → ((q : ℕ) → Q q (r q)) →
+    By-number R (P (by-number R a r)) (λ q. Q q (by-number R a r))
+unfolding By-number by-number
+by-meets zero P Q a r p q = p
+by-meets (suc x) P Q a r p q = q (suc x)
+
 value-by : (R x : ℕ) → Decides (Value-by R x)
 value-by R x =
     by-decides R (Value-accepted x) Value-refused (λ o s p q. value-ext o s (cc) (cc)) (λ y o s p q. value-ext o s (cc) (cc))
+
+value-met : (R x : ℕ) → Value-by R x (value-outcome R x)
+unfolding value-outcome
+value-met R x =
+    by-meets R (Value-accepted x) Value-refused _ _ (record { number = refl; value = refl }) (λ q. record { number = refl; value = refl })
 
 listing-by : (R x : ℕ) (new old : List ℕ) → Decides {A = Value × List ℕ} (λ o. Listing-by R x new old (o .0) (o .1))
 listing-by R x new old =
@@ -53,6 +76,18 @@ listing-by R x new old =
     (λ y o. Listing-refused y old (o .0) (o .1))
     (λ o s p q. pair-ext o s (value-ext (o .0) (s .0) (cc) (cc)) (cc))
     (λ y o s p q. pair-ext o s (value-ext (o .0) (s .0) (cc) (cc)) (cc))
+
+listing-met : (R x : ℕ) (new old : List ℕ) → let o = listing-outcome R x new old in Listing-by R x new old (o .0) (o .1)
+unfolding listing-outcome
+listing-met R x new old =
+    by-meets
+    R
+    (λ (o : Value × List ℕ). Listing-accepted x new old (o .0) (o .1))
+    (λ q o. Listing-refused q old (o .0) (o .1))
+    _
+    _
+    (record { number = refl; value = refl; lent = refl })
+    (λ q. record { number = refl; value = refl; lent = refl })
 
 -- a number and the three tables
 tables-refused : (q : ℕ) (t : Tables) → Decides {A = ℕ × Tables} (λ o. Tables-refused q (o .0) t (o .1))
@@ -66,6 +101,11 @@ unfolding Block-accepted
 block-accepted true i o s p q = block-ext o s (cc) (cc) (cc) (cc) (cc)
 block-accepted false i o s p q = block-none 0 1 i o s p q
 
+block-met : (there : Bool) (i : ℕ) → Block-accepted there i (block-or-end there i)
+unfolding Block-accepted block-or-end no-block
+block-met true i = record { number = refl; end = refl; offset = refl; length = refl; next = refl }
+block-met false i = record { number = refl; end = refl; offset = refl; length = refl; next = refl }
+
 -- ---- each call
 
 pub clear-decided : (n : ℕ) (t : Tables) → Decides {A = ℕ × Tables} (λ o. Clear-contract n t (o .0) (o .1))
@@ -78,9 +118,25 @@ clear-decided n t =
     (λ o s p q. pair-ext o s (cc) (tables-ext (o .1) (s .1) (cc) (cc) (cc)))
     (λ x. tables-refused x t)
 
+pub clear-inhabited : (n : ℕ) (t : Tables) → let o = clear-outcome n t in Clear-contract n t (o .0) (o .1)
+unfolding Clear-contract clear-outcome
+clear-inhabited n t =
+    by-meets
+    _
+    (λ (o : ℕ × Tables). Clear-accepted n (o .0) (o .1))
+    (λ q o. Tables-refused q (o .0) t (o .1))
+    _
+    _
+    (record { number = refl; links = refl; numbers = refl; order = refl })
+    (λ q. record { number = refl; links = refl; numbers = refl; order = refl })
+
 pub check-decided : (n : ℕ) (t : Tables) → Decides (Check-contract n t)
 unfolding Check-contract
 check-decided n t = value-by _ _
+
+pub check-inhabited : (n : ℕ) (t : Tables) → Check-contract n t (check-outcome n t)
+unfolding Check-contract check-outcome
+check-inhabited n t = value-met _ _
 
 pub link-decided :
     (up : Bool) (n a b : ℕ) (t : Tables) (w : List ℕ) →
@@ -94,31 +150,69 @@ link-decided up n a b t w =
     (λ o s p q. triple-ext o s (reply-ext (o .0) (s .0) (cc) (cc) (cc)) (tables-ext (o .1) (s .1) (cc) (cc) (cc)) (cc))
     (λ x o s p q. triple-ext o s (reply-ext (o .0) (s .0) (cc) (cc) (cc)) (tables-ext (o .1) (s .1) (cc) (cc) (cc)) (cc))
 
+pub link-inhabited :
+    (up : Bool) (n a b : ℕ) (t : Tables) (w : List ℕ) →
+    let o = link-outcome up n a b t w in Link-contract up n a b t w (o .0) (o .1) (o .2)
+unfolding Link-contract link-outcome switched
+link-inhabited up n a b t w =
+    by-meets
+    _
+    (λ (o : Reply × Tables × List ℕ). Link-accepted up a b (graph-in n (t .links)) t w (o .0) (o .1) (o .2))
+    (λ q o. Link-refused q t w (o .0) (o .1) (o .2))
+    _
+    _
+    (record { number = refl; step = refl; count = refl; links = refl; numbers = refl; order = refl; answer = refl })
+    (λ q. record { number = refl; step = refl; count = refl; links = refl; numbers = refl; order = refl; answer = refl })
+
 pub number-decided : (n v : ℕ) (t : Tables) → Decides (Number-contract n v t)
 unfolding Number-contract
 number-decided n v t = value-by _ _
+
+pub number-inhabited : (n v : ℕ) (t : Tables) → Number-contract n v t (number-outcome n v t)
+unfolding Number-contract number-outcome
+number-inhabited n v t = value-met _ _
 
 pub neighbours-decided : (n v : ℕ) (t : Tables) → Decides (Neighbours-contract n v t)
 unfolding Neighbours-contract
 neighbours-decided n v t = value-by _ _
 
+pub neighbours-inhabited : (n v : ℕ) (t : Tables) → Neighbours-contract n v t (neighbours-outcome n v t)
+unfolding Neighbours-contract neighbours-outcome
+neighbours-inhabited n v t = value-met _ _
+
 pub linked-decided : (n a b : ℕ) (t : Tables) → Decides (Linked-contract n a b t)
 unfolding Linked-contract
 linked-decided n a b t = value-by _ _
 
+pub linked-inhabited : (n a b : ℕ) (t : Tables) → Linked-contract n a b t (linked-outcome n a b t)
+unfolding Linked-contract linked-outcome
+linked-inhabited n a b t = value-met _ _
+
 pub first-decided : (n a b : ℕ) (t : Tables) → Decides (First-contract n a b t)
 unfolding First-contract
 first-decided n a b t = value-by _ _
+
+pub first-inhabited : (n a b : ℕ) (t : Tables) → First-contract n a b t (first-outcome n a b t)
+unfolding First-contract first-outcome
+first-inhabited n a b t = value-met _ _
 
 pub core-decided :
     (n v k : ℕ) (t : Tables) (w : List ℕ) → Decides {A = Value × List ℕ} (λ o. Core-contract n v k t w (o .0) (o .1))
 unfolding Core-contract
 core-decided n v k t w = listing-by _ _ _ w
 
+pub core-inhabited : (n v k : ℕ) (t : Tables) (w : List ℕ) → let o = core-outcome n v k t w in Core-contract n v k t w (o .0) (o .1)
+unfolding Core-contract core-outcome
+core-inhabited n v k t w = listing-met _ _ _ w
+
 pub backbone-decided :
     (n : ℕ) (t : Tables) (w : List ℕ) → Decides {A = Value × List ℕ} (λ o. Backbone-contract n t w (o .0) (o .1))
 unfolding Backbone-contract
 backbone-decided n t w = listing-by _ _ _ w
+
+pub backbone-inhabited : (n : ℕ) (t : Tables) (w : List ℕ) → let o = backbone-outcome n t w in Backbone-contract n t w (o .0) (o .1)
+unfolding Backbone-contract backbone-outcome
+backbone-inhabited n t w = listing-met _ _ _ w
 
 pub tree-decided :
     (n : ℕ) (t : Tables) (m : List Node) (w : List ℕ) →
@@ -132,10 +226,27 @@ tree-decided n t m w =
     (λ o s p q. triple-ext o s (value-ext (o .0) (s .0) (cc) (cc)) (cc) (cc))
     (λ x o s p q. triple-ext o s (value-ext (o .0) (s .0) (cc) (cc)) (cc) (cc))
 
+pub tree-inhabited :
+    (n : ℕ) (t : Tables) (m : List Node) (w : List ℕ) → let o = tree-outcome n t m w in Tree-contract n t m w (o .0) (o .1) (o .2)
+unfolding Tree-contract tree-outcome
+tree-inhabited n t m w =
+    by-meets
+    _
+    (λ (o : Value × List Node × List ℕ). Tree-accepted (graph-in n (t .links)) m w (o .0) (o .1) (o .2))
+    (λ q o. Tree-refused q m w (o .0) (o .1) (o .2))
+    _
+    _
+    (record { number = refl; value = refl; nodes = refl; answer = refl })
+    (λ q. record { number = refl; value = refl; nodes = refl; answer = refl })
+
 pub write-decided :
     (n : ℕ) (t : Tables) (w : List ℕ) → Decides {A = Value × List ℕ} (λ o. Write-contract n t w (o .0) (o .1))
 unfolding Write-contract
 write-decided n t w = listing-by _ _ _ w
+
+pub write-inhabited : (n : ℕ) (t : Tables) (w : List ℕ) → let o = write-outcome n t w in Write-contract n t w (o .0) (o .1)
+unfolding Write-contract write-outcome
+write-inhabited n t w = listing-met _ _ _ w
 
 pub read-decided : (n : ℕ) (bs : List ℕ) (t : Tables) → Decides {A = ℕ × Tables} (λ o. Read-contract n bs t (o .0) (o .1))
 unfolding Read-contract
@@ -147,7 +258,31 @@ read-decided n bs t =
     (λ o s p q. pair-ext o s (cc) (tables-ext (o .1) (s .1) (cc) (cc) (cc)))
     (λ x. tables-refused x t)
 
+pub read-inhabited : (n : ℕ) (bs : List ℕ) (t : Tables) → let o = read-outcome n bs t in Read-contract n bs t (o .0) (o .1)
+unfolding Read-contract read-outcome tables-of
+read-inhabited n bs t =
+    by-meets
+    _
+    (λ (o : ℕ × Tables). Read-accepted n bs (o .0) (o .1))
+    (λ q o. Tables-refused q (o .0) t (o .1))
+    _
+    _
+    (record { number = refl; links = refl; numbers = refl; order = refl })
+    (λ q. record { number = refl; links = refl; numbers = refl; order = refl })
+
 pub block-decided : (bs : List ℕ) (i : ℕ) → Decides (Block-contract bs i)
 unfolding Block-contract
 block-decided bs i =
     by-decides _ (Block-accepted (ltb i (length bs / block-bytes)) i) (λ x. Block-none x 0 i) (block-accepted _ i) (λ x. block-none x 0 i)
+
+pub block-inhabited : (bs : List ℕ) (i : ℕ) → Block-contract bs i (block-outcome bs i)
+unfolding Block-contract block-outcome no-block
+block-inhabited bs i =
+    by-meets
+    _
+    (Block-accepted (ltb i (length bs / block-bytes)) i)
+    (λ q. Block-none q 0 i)
+    _
+    _
+    (block-met _ i)
+    (λ q. record { number = refl; end = refl; offset = refl; length = refl; next = refl })

@@ -9,8 +9,8 @@ use Rattle.mesh.specs.Limits.{max-radios, row-bytes}
 use Rattle.mesh.specs.Graph.{Graph, linked, degree}
 use Rattle.mesh.specs.Cores.{number}
 use Rattle.lists.proofs.Tests.{never, and-left, and-right, and-both}
-use Rattle.calls.specs.Questions.{ask, Lengths, size-good, site-lengths, answer-length, nodes-length, image-length, holds-image, is-radio, are-radios}
-use Rattle.calls.specs.Questions.{ends-differ, can-switch, has-room, has-level}
+use Rattle.calls.specs.Questions.{ask, Lengths, size-good, site-lengths, answer-length, nodes-length, is-radio, are-radios, ends-differ, can-switch}
+use Rattle.calls.specs.Questions.{has-room, has-level, image-length, holds-image}
 
 -- ---- one question
 

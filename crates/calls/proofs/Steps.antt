@@ -1,214 +1,172 @@
--- One call of a list: it answers as the book does, and the tables go on holding the book's pairs.
---   Holds n ps t      the tables t hold n radios, the pairs ps and some k-order of them
---   clear-holds, read-holds   so they do after an accepted clearing or reading
---   Stepped, step     what one call keeps
+-- One call of a list: it answers as the book does, the tables go on holding the book's pairs, and each link that it takes up or
+-- down keeps what a link call keeps.
+--   Stepped o      what one call keeps, where o is the book's outcome of it
+--   step           every call keeps it
+-- A further call takes a lemma and a clause of `step` here: that its links are allowed in turn, and what it answers.
 use mathlib.Core.Path.{_≡_, refl, ap, sym, subst, _∙_}
 use mathlib.Core.Bool.{Bool, true}
 use mathlib.Core.List.{List, [], _∷_}
-use Prim.Native.Nat.{ℕ, zero, suc, _≤_}
-use native.Mathlib.Omega.{arith}
+use mathlib.Core.Option.{Option, none, some}
+use Prim.Native.Nat.{ℕ, zero, suc}
 use lib.ListN.{length}
 use lib.IntN.{pos}
-use Rattle.mesh.specs.Limits.{max-radios, max-neighbours}
-use Rattle.lists.specs.Lists.{range, overwrite}
-use Rattle.mesh.specs.Graph.{Link, graph, relinked, new-links}
-use Rattle.mesh.specs.Levels.{changed, step-of, new-order}
-use Rattle.mesh.specs.Tables.{Tables, graph-in, tables-of}
-use Rattle.mesh.specs.Sound.{sound}
-use Rattle.mesh.specs.Image.{image-graph, image-links, image-order}
+use Rattle.mesh.specs.Limits.{max-neighbours}
+use Rattle.lists.specs.Lists.{overwrite}
+use Rattle.mesh.specs.Graph.{Link, Graph, graph}
+use Rattle.mesh.specs.Levels.{changed, step-of}
+use Rattle.mesh.specs.Tables.{Tables, graph-in}
+use Rattle.mesh.specs.Image.{image-links}
 use Rattle.lists.proofs.Overwrite.{take-overwrite}
-use Rattle.mesh.proofs.Cores.Peeling.{length-numbers}
-use Rattle.mesh.proofs.Tables.Laws.{links-table-cleared}
-use Rattle.mesh.proofs.Tables.ReadBack.{graph-in-links-table}
-use Rattle.mesh.proofs.Tables.Soundness.{valid-sound}
-use Rattle.mesh.proofs.Tables.Sites.{valid-cleared, numbers-cleared, image-valid}
-use Rattle.mesh.proofs.Links.Laws.{link-valid, link-table}
-use Rattle.mesh.specs.Valid.{Valid, Allowed}
-use Rattle.calls.specs.Questions.{By-number, lengths-of, answer-length, site-refusal, tables-refusal, link-refusal, read-refusal}
+use Rattle.calls.specs.Questions.{By-number, lengths-of, answer-length, ends-refusal, tables-refusal, link-refusal, read-refusal}
+use Rattle.calls.specs.Switches.{Switch, switch, pairs-after, switched, tables-after}
 use Rattle.calls.specs.Writes.{Tables-refused, Clear-accepted, Clear-contract, Link-accepted, Link-refused, Link-contract, Read-accepted, Read-contract}
-use Rattle.calls.specs.Book.{Answer, plain, reported, book-number, accepted-answer, accepted-pairs, answer-by, pairs-by, book-answer, book-pairs}
-use Rattle.calls.specs.Runs.{Call, clearing, reading, linking, other, given, answer-of, Does, compared}
-use Rattle.calls.specs.Demand.{Link-kept}
+use Rattle.calls.specs.Book.{Call, clearing, reading, linking, other, Answer, plain, reported, Outcome, outcome-of, unless-refused, outcome, first-pairs}
+use Rattle.calls.specs.Book.{pairs-of}
+use Rattle.calls.specs.Runs.{answer-of, Does}
+use Rattle.calls.specs.Demand.{ended, Call-kept, Start, cleared, read}
 use Rattle.calls.specs.declared.Reply.{Reply}
-use Rattle.calls.proofs.ChainLaws.{Lent-good, lent-zero, lent-later, link-zero, read-zero}
+use Rattle.calls.proofs.ChainLaws.{lent-zero, link-zero, read-zero}
+use Rattle.calls.proofs.ContractLaws.{by-accepted}
 use Rattle.calls.proofs.RecordLaws.{tables-ext, refused-same}
-use Rattle.calls.proofs.LinkKept.{link-kept}
+use Rattle.calls.proofs.Holds.{Holds, clear-holds, read-holds, unchanged-holds, same-n, read-back, site-asked, with-n, All-allowed, all-holds}
+use Rattle.calls.proofs.Holds.{all-switching}
 
-pub record Holds (n : ℕ) (ps : List Link) (t : Tables) : Type 0 where
-  pub most : n ≤ max-radios
-  pub xs : List ℕ
-  pub valid : Valid max-neighbours (graph n ps) xs
-  pub is : t ≡ tables-of (graph n ps) xs
+pub record Stepped (n : ℕ) (ps : List Link) (o : Outcome) (t : Tables) (hs : List Answer) (v : Tables) : Type 0 where
+  pub kept : Call-kept n ps o t hs v
+  pub holds : Holds n (pairs-of o ps) v
 
--- ---- after an accepted clearing or reading
+is-none : Option (List Link) → Type 0
+is-none none = Unit {0}
+is-none (some x) = ⊥
 
-pub clear-holds : (m r : ℕ) (t v : Tables) → tables-refusal m (lengths-of t) ≡ 0 → Clear-accepted m r v → Holds m [] v
-unfolding tables-refusal tables-of
-clear-holds m r t v p d = record {
-  most = lent-zero m (lengths-of t) true 0 p .0 .most;
-  xs = range 0 m;
-  valid = valid-cleared m max-neighbours;
-  is = tables-ext v _ (d .links ∙ sym (links-table-cleared m)) (d .numbers ∙ sym (numbers-cleared m)) (d .order);
-}
+some-none : {qs : List Link} → some qs ≡ none → ⊥
+unfolding is-none
+some-none j = subst is-none (sym j) tt
 
-pub read-holds :
-    (m : ℕ) (bs : List ℕ) (r : ℕ) (t v : Tables) → read-refusal m (lengths-of t) bs ≡ 0 → Read-accepted m bs r v →
-    Holds m (image-links m bs) v
-unfolding read-refusal tables-of image-graph
-read-holds m bs r t v p d =
-    let q = read-zero m (lengths-of t) bs p in
-    record {
-      most = q .0 .most;
-      xs = image-order m bs;
-      valid = image-valid m bs (q .0 .most) (q .2);
-      is = tables-ext v _ (d .links) (d .numbers) (d .order);
-    }
+none-some : {qs : List Link} → none ≡ some qs → ⊥
+none-some j = some-none (sym j)
 
--- ---- what one call keeps
-
-unfoldable pub Link-part : (n : ℕ) → (ps : List Link) → Call → (t : Tables) → Answer → (v : Tables) → Type 0
-Link-part n ps (clearing m) t h v = Unit {0}
-Link-part n ps (reading m bs) t h v = Unit {0}
-Link-part n ps (linking u m a b w) t h v = h .number ≡ 0 → Link-kept u a b (graph n ps) t h v
-Link-part n ps other t h v = Unit {0}
-
-pub record Stepped (n : ℕ) (ps : List Link) (c : Call) (t : Tables) (h : Answer) (v : Tables) : Type 0 where
-  pub answered : compared c h ≡ book-answer (given c t) ps
-  pub holds : Holds n (book-pairs (given c t) ps) v
-  pub link-call : Link-part n ps c t h v
-
-one-answer : {h k : Answer} → h ≡ k → _≡_ {A = List Answer} (h ∷ []) (k ∷ [])
-one-answer e = rw e
+abbrev one : Answer → List Answer
+one h = h ∷ []
 
 -- what is compared of a link call
-answer-accepted :
+pub answer-accepted :
     (u : Bool) (r : Reply) (cs w x : List ℕ) → r .number ≡ 0 → r .step ≡ step-of u cs → r .count ≡ length cs → x ≡ overwrite cs w →
     answer-of r x ≡ reported u cs
 unfolding answer-of reported
 answer-accepted u r cs w x e f g h = rw (e, f, g, h, take-overwrite cs w)
 
-answer-refused : (r : Reply) (q : ℕ) (x : List ℕ) → r .number ≡ q → r .step ≡ pos 0 → r .count ≡ 0 → answer-of r x ≡ plain q
+pub answer-refused : (r : Reply) (q : ℕ) (x : List ℕ) → r .number ≡ q → r .step ≡ pos 0 → r .count ≡ 0 → answer-of r x ≡ plain q
 unfolding answer-of plain
 answer-refused r q x e f g = rw (e, f, g)
 
 module _ (n : ℕ) (ps : List Link) (t : Tables) (k : Holds n ps t) where
-  kept : {v : Tables} → v ≡ t → Holds n ps v
-  kept e = record { most = k .most; xs = k .xs; valid = k .valid; is = e ∙ k .is }
+  -- ---- what calls have in common
 
-  -- a call that got yes to question 2 was given this n
-  same-n : (m : ℕ) (others : Bool) → Lent-good m (lengths-of t) others → m ≡ n
-  unfolding lengths-of tables-of
-  same-n m others g =
-      sym (g .lengths .numbers) ∙ ap (λ (o : Tables). length (o .numbers)) (k .is) ∙ length-numbers (graph n ps)
+  -- a refused call
+  refused :
+      (q : ℕ) (o : Outcome) (hs : List Answer) (v : Tables) → hs ≡ one (plain (suc q)) → v ≡ t → Stepped n ps (unless-refused (suc q) o) t hs v
+  unfolding unless-refused pairs-of first-pairs pairs-after tables-after
+  refused q o hs v e f = record { kept = record { answered = e; tables = λ j. f; switching = λ j. rw f ended; started = λ qs j. absurd (none-some j) }; holds = unchanged-holds n ps t k f }
 
-  read-back : graph-in n (t .links) ≡ graph n ps
-  unfolding tables-of
-  read-back =
-      ap (λ (o : Tables). graph-in n (o .links)) (k .is)
-      ∙ graph-in-links-table (graph n ps) (k .most) (k .valid .links-proper) (k .valid .links-ascending)
+  -- a clearing or a reading
+  restarted :
+      (hs rs : List Answer) (qs : List Link) (v : Tables) → hs ≡ rs → Start n qs v → Holds n qs v →
+      Stepped n ps (unless-refused 0 (outcome-of rs (some qs) [])) t hs v
+  unfolding unless-refused pairs-of first-pairs pairs-after tables-after
+  restarted hs rs qs v e s k′ = record {
+    kept = record {
+      answered = e;
+      tables = λ j. absurd (some-none j);
+      switching = λ j. absurd (some-none j);
+      started = λ os j.
+          record { first = v; start = subst (λ (zs : List Link). Start n zs v) (ap (λ (b : Option (List Link)). first-pairs b []) j) s; tables = refl };
+    };
+    holds = k′;
+  }
 
-  pub is-sound : sound n t ≡ true
-  unfolding sound
-  is-sound = ap (sound n) (k .is) ∙ valid-sound max-neighbours (graph n ps) (k .xs) (k .most) (k .valid)
+  -- links taken up or down one after the other
+  carried :
+      (hs rs : List Answer) (ss : List Switch) (v : Tables) → hs ≡ rs → All-allowed n ps ss → v ≡ tables-after n ss t →
+      Stepped n ps (unless-refused 0 (outcome-of rs none ss)) t hs v
+  unfolding unless-refused pairs-of first-pairs
+  carried hs rs ss v e ok f = record {
+    kept = record { answered = e; tables = λ j. f; switching = λ j. rw f (all-switching n ps ss t k ok); started = λ qs j. absurd (none-some j) };
+    holds = rw f (all-holds n ps ss t k ok);
+  }
 
-  -- question 3 gets yes, and the links are the book's
-  link-asked :
-      (u : Bool) (m a b w : ℕ) →
-      link-refusal u m a b (lengths-of t) w (sound m t) (graph-in m (t .links)) ≡ link-refusal u m a b (lengths-of t) w true (graph m ps)
-  unfolding link-refusal site-refusal
-  link-asked u m a b w =
-      lent-later m (lengths-of t) (answer-length m w) _ _ (λ g. let e = same-n m (answer-length m w) g in rw (e, is-sound, read-back))
-
-  -- the tables that another accepted call left hold n radios too
-  with-n : (m : ℕ) (qs : List Link) (v : Tables) (others : Bool) → Lent-good m (lengths-of t) others → Holds m qs v → Holds n qs v
-  with-n m qs v others g o = subst (λ (j : ℕ). Holds j qs v) (same-n m others g) o
+  -- the contract goes by the number that the book's questions give
+  asked : (A : Type 0) (B : ℕ → Type 0) {R S : ℕ} → R ≡ S → By-number R A B → By-number S A B
+  asked A B e d = subst (λ (x : ℕ). By-number x A B) e d
 
   -- ---- clearing and reading
 
+  clear-start : (m r : ℕ) (v : Tables) → tables-refusal m (lengths-of t) ≡ 0 → Clear-accepted m r v → Start n [] v
+  unfolding Clear-contract tables-refusal
+  clear-start m r v p d =
+      subst (λ (j : ℕ). Start j [] v) (same-n n ps t k m true (lent-zero m (lengths-of t) true 0 p .0))
+      (cleared m t v (by-accepted _ (λ q. Tables-refused q 0 t v) p (rw (d .number) at d)))
+
+  read-start : (m r : ℕ) (bs : List ℕ) (v : Tables) → read-refusal m (lengths-of t) bs ≡ 0 → Read-accepted m bs r v → Start n (image-links m bs) v
+  unfolding Read-contract
+  read-start m r bs v p d =
+      subst (λ (j : ℕ). Start j (image-links m bs) v) (same-n n ps t k m true (read-zero m (lengths-of t) bs p .0))
+      (read m bs t v (by-accepted _ (λ q. Tables-refused q 0 t v) p (rw (d .number) at d)))
+
   clear-step :
-      (R m r : ℕ) (v : Tables) (h : Answer) → tables-refusal m (lengths-of t) ≡ R → By-number R (Clear-accepted m r v) (λ q. Tables-refused q r t v) → h ≡ plain r →
-      (h ∷ [] ≡ answer-by R (given (clearing m) t) ps) × Holds n (pairs-by R (given (clearing m) t) ps) v
-  unfolding By-number answer-by pairs-by given accepted-answer accepted-pairs tables-refusal
-  clear-step zero m r v h p d q = (
-    one-answer (q ∙ ap plain (d .number)),
-    with-n m [] v true (lent-zero m (lengths-of t) true 0 p .0) (clear-holds m r t v p d),
-  )
-  clear-step (suc x) m r v h p d q = (one-answer (q ∙ ap plain (d .number)), kept (refused-same (suc x) r t v d))
+      (R m r : ℕ) (v : Tables) (hs : List Answer) → tables-refusal m (lengths-of t) ≡ R →
+      By-number R (Clear-accepted m r v) (λ q. Tables-refused q r t v) → hs ≡ one (plain r) →
+      Stepped n ps (unless-refused R (outcome-of (one (plain 0)) (some []) [])) t hs v
+  unfolding By-number tables-refusal
+  clear-step zero m r v hs p d q =
+      restarted hs _ [] v (q ∙ ap (λ (x : ℕ). one (plain x)) (d .number))
+      (clear-start m r v p d) (with-n n ps t k m [] v true (lent-zero m (lengths-of t) true 0 p .0) (clear-holds m r t v p d))
+  clear-step (suc x) m r v hs p d q = refused x _ hs v (q ∙ ap (λ (x : ℕ). one (plain x)) (d .number)) (refused-same (suc x) r t v d)
 
   read-step :
-      (R m r : ℕ) (bs : List ℕ) (v : Tables) (h : Answer) → read-refusal m (lengths-of t) bs ≡ R → By-number R (Read-accepted m bs r v) (λ q. Tables-refused q r t v) → h ≡ plain r →
-      (h ∷ [] ≡ answer-by R (given (reading m bs) t) ps) × Holds n (pairs-by R (given (reading m bs) t) ps) v
-  unfolding By-number answer-by pairs-by given accepted-answer accepted-pairs read-refusal
-  read-step zero m r bs v h p d q = (
-    one-answer (q ∙ ap plain (d .number)),
-    with-n m (image-links m bs) v true (read-zero m (lengths-of t) bs p .0) (read-holds m bs r t v p d),
-  )
-  read-step (suc x) m r bs v h p d q = (one-answer (q ∙ ap plain (d .number)), kept (refused-same (suc x) r t v d))
+      (R m r : ℕ) (bs : List ℕ) (v : Tables) (hs : List Answer) → read-refusal m (lengths-of t) bs ≡ R →
+      By-number R (Read-accepted m bs r v) (λ q. Tables-refused q r t v) → hs ≡ one (plain r) →
+      Stepped n ps (unless-refused R (outcome-of (one (plain 0)) (some (image-links m bs)) [])) t hs v
+  unfolding By-number read-refusal
+  read-step zero m r bs v hs p d q =
+      restarted hs _ (image-links m bs) v (q ∙ ap (λ (x : ℕ). one (plain x)) (d .number))
+      (read-start m r bs v p d)
+      (with-n n ps t k m (image-links m bs) v true (read-zero m (lengths-of t) bs p .0) (read-holds m bs r t v p d))
+  read-step (suc x) m r bs v hs p d q = refused x _ hs v (q ∙ ap (λ (x : ℕ). one (plain x)) (d .number)) (refused-same (suc x) r t v d)
 
   -- ---- a link call
 
-  record Link-done (R : ℕ) (u : Bool) (m a b : ℕ) (w : List ℕ) (h : Answer) (v : Tables) : Type 0 where
-    answered : h ∷ [] ≡ answer-by R (given (linking u m a b w) t) ps
-    holds : Holds n (pairs-by R (given (linking u m a b w) t) ps) v
-    link-call : h .number ≡ 0 → Link-kept u a b (graph n ps) t h v
-
-  holds-after :
-      (u : Bool) (a b : ℕ) (v : Tables) → Allowed max-neighbours u a b (graph n ps) →
-      v ≡ tables-of (relinked u a b (graph n ps)) (new-order u a b (graph n ps) (k .xs)) → Holds n (new-links u a b ps) v
-  unfolding relinked
-  holds-after u a b v p e = record {
-    most = k .most;
-    xs = new-order u a b (graph n ps) (k .xs);
-    valid = link-valid max-neighbours u a b (graph n ps) (k .xs) (k .valid) p;
-    is = e;
-  }
-
-  tables-after :
-      (u : Bool) (a b : ℕ) (r : Reply) (w x : List ℕ) (v : Tables) → Allowed max-neighbours u a b (graph n ps) →
-      Link-accepted u a b (graph n ps) t w r v x →
-      v ≡ tables-of (relinked u a b (graph n ps)) (new-order u a b (graph n ps) (k .xs))
-  unfolding tables-of
-  tables-after u a b r w x v p d =
-      tables-ext v _ (d .links ∙ rw (k .is) (sym (link-table max-neighbours u a b (graph n ps) (k .xs) (k .valid) p (k .most)))) (d .numbers) (d .order ∙ rw (k .is))
-
-  accepted :
-      (u : Bool) (a b : ℕ) (r : Reply) (w x : List ℕ) (v : Tables) (h : Answer) → Allowed max-neighbours u a b (graph n ps) →
-      Link-accepted u a b (graph n ps) t w r v x → h ≡ answer-of r x →
-      (h ≡ reported u (changed u a b (graph n ps))) × Holds n (new-links u a b ps) v × Link-kept u a b (graph n ps) t h v
-  accepted u a b r w x v h p d q =
-      let e = q ∙ answer-accepted u r (changed u a b (graph n ps)) w x (d .number) (d .step) (d .count) (d .answer) in
-      let f = tables-after u a b r w x v p d in
-      (e, holds-after u a b v p f, rw (e, k .is, f) (link-kept u a b (graph n ps) (k .xs) (k .most) (k .valid) p))
-
   link-step :
-      (R : ℕ) (u : Bool) (m a b : ℕ) (r : Reply) (w x : List ℕ) (v : Tables) (h : Answer) →
+      (R : ℕ) (u : Bool) (m a b : ℕ) (r : Reply) (w x : List ℕ) (v : Tables) (hs : List Answer) →
       link-refusal u m a b (lengths-of t) (length w) true (graph m ps) ≡ R →
-      By-number R (Link-accepted u a b (graph-in m (t .links)) t w r v x) (λ q. Link-refused q t w r v x) → h ≡ answer-of r x → Link-done R u m a b w h v
-  unfolding By-number answer-by pairs-by given accepted-answer accepted-pairs link-refusal answer-of
-  link-step zero u m a b r w x v h p d q =
+      By-number R (Link-accepted u a b (graph-in m (t .links)) t w r v x) (λ q. Link-refused q t w r v x) → hs ≡ one (answer-of r x) →
+      Stepped n ps (unless-refused R (outcome-of (one (reported u (changed u a b (graph m ps)))) none (switch u a b ∷ []))) t hs v
+  unfolding By-number All-allowed tables-after switched
+  link-step zero u m a b r w x v hs p d q =
       let z = link-zero u a b (lengths-of t) (length w) true (graph m ps) p in
-      let e = same-n m (answer-length m (length w)) (z .0 .lent) in
-      let f : graph-in m (t .links) ≡ graph n ps = rw e read-back in
-      let g = accepted u a b r w x v h (rw e at (z .1)) (rw f at d) q in
-      record { answered = one-answer (rw e (g .0)); holds = g .1; link-call = λ j. g .2 }
-  link-step (suc y) u m a b r w x v h p d q = record {
-    answered = one-answer (q ∙ answer-refused r (suc y) x (d .number) (d .step) (d .count));
-    holds = kept (tables-ext v t (d .links) (d .numbers) (d .order));
-    link-call = λ j. absurd (omega (arith, ap (λ (o : Answer). o .number) q, d .number, j));
-  }
+      let e = same-n n ps t k m (answer-length m (length w)) (z .0 .lent) in
+      let f : graph-in m (t .links) ≡ graph m ps = rw e (read-back n ps t k) in
+      let i = answer-accepted u r (changed u a b (graph-in m (t .links))) w x (d .number) (d .step) (d .count) (d .answer) in
+      carried hs _ (switch u a b ∷ []) v (q ∙ ap one i ∙ ap (λ (g : Graph). one (reported u (changed u a b g))) f) (rw e at (z .1), tt)
+      (tables-ext v _ (d .links) (d .numbers ∙ rw e refl) (d .order ∙ rw e refl))
+  link-step (suc y) u m a b r w x v hs p d q =
+      refused y _ hs v (q ∙ ap one (answer-refused r (suc y) x (d .number) (d .step) (d .count))) (tables-ext v t (d .links) (d .numbers) (d .order))
 
   -- ---- any call
 
-  pub step : (c : Call) (h : Answer) (v : Tables) → Does c t h v → Stepped n ps c t h v
-  unfolding Does compared Clear-contract Read-contract Link-contract book-answer book-pairs book-number answer-by accepted-answer pairs-by accepted-pairs given Link-part
-  step (clearing m) h v d =
-      let g = clear-step _ m (d .result) v h refl (d .contract) (d .answer) in
-      record { answered = g .0; holds = g .1; link-call = tt }
-  step (reading m bs) h v d =
-      let g = read-step _ m (d .result) bs v h refl (d .contract) (d .answer) in
-      record { answered = g .0; holds = g .1; link-call = tt }
-  step (linking u m a b w) h v d =
-      let f = subst (λ (R : ℕ). By-number R (Link-accepted u a b (graph-in m (t .links)) t w (d .result) v (d .table)) (λ q. Link-refused q t w (d .result) v (d .table))) (link-asked u m a b (length w)) (d .contract) in
-      let g = link-step _ u m a b (d .result) w (d .table) v h refl f (d .answer) in
-      record { answered = g .answered; holds = g .holds; link-call = g .link-call }
-  step other h v d = record { answered = refl; holds = kept d; link-call = tt }
+  other-step : (hs : List Answer) (v : Tables) → v ≡ t → hs ≡ [] → Stepped n ps (outcome-of [] none []) t hs v
+  unfolding pairs-of first-pairs pairs-after tables-after
+  other-step hs v e f = record {
+    kept = record { answered = f; tables = λ j. e; switching = λ j. rw e ended; started = λ qs j. absurd (none-some j) };
+    holds = unchanged-holds n ps t k e;
+  }
+
+  pub step : (c : Call) (hs : List Answer) (v : Tables) → Does c t hs v → Stepped n ps (outcome c (lengths-of t) ps) t hs v
+  unfolding Does Clear-contract Read-contract Link-contract outcome link-refusal
+  step (clearing m) hs v d = clear-step _ m (d .result) v hs refl (d .contract) (d .answer)
+  step (reading m bs) hs v d = read-step _ m (d .result) bs v hs refl (d .contract) (d .answer)
+  step (linking u m a b w) hs v d =
+      let f = asked (Link-accepted u a b (graph-in m (t .links)) t (d .lent) (d .result) v (d .table)) (λ q. Link-refused q t (d .lent) (d .result) v (d .table))
+      (site-asked n ps t k m (answer-length m (length (d .lent))) (λ g. ends-refusal max-neighbours u m a b g)) (d .contract) in
+      rw (d .long) (link-step _ u m a b (d .result) (d .lent) (d .table) v hs refl f (d .answer))
+  step other hs v d = other-step hs v (d .0) (d .1)

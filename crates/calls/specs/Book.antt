@@ -1,29 +1,32 @@
 -- Document 01's link book: what it is given of each call, the pairs that it keeps, and what it answers.
---   Given             what the book is given of a call: n, radios, image bytes, lengths of tables; never what links, numbers and order hold
---   Answer            what is compared of a call: its number and, for a link call, step, count and listed radios
---   book-number       the call's questions: 3 gets yes, 6 and 7 are asked of the pairs
---   book-answer       the answers to be compared: one, or none where the book passes a call over
---   book-pairs        the pairs after the call
---   book-answers, book-after   the same of a list of calls
+--   Call, Given       what the book is given of a call: n, radios, image bytes, lengths of tables; never what links, numbers and order hold
+--   Answer            what is compared of a call
+--   outcome           what the book makes of a call: answers, where it begins anew, and the links that it takes up or down
+--   pairs-of          the pairs after an outcome
+--   book-answers, book-after   answers and pairs of a list of calls
+--   History, history  the pairs that the last accepted clearing or reading left, and the accepted link calls since
+-- A further call is a constructor of `Call` and a clause of `outcome` here, and a clause of `Does` in specs/Runs.antt.
 -- Definitions only.
 use mathlib.Core.Bool.{Bool, true}
 use mathlib.Core.List.{List, [], _∷_, _++_}
+use mathlib.Core.Option.{Option, none, some}
 use Prim.Native.Nat.{ℕ, zero, suc}
 use lib.IntN.{ℤ, pos}
 use lib.ListN.{length}
-use Rattle.mesh.specs.Graph.{Link, graph, new-links}
+use Rattle.mesh.specs.Graph.{Link, graph}
 use Rattle.mesh.specs.Levels.{changed, step-of}
 use Rattle.mesh.specs.Image.{image-links}
 use Rattle.calls.specs.Questions.{Lengths, tables-refusal, link-refusal, read-refusal}
+use Rattle.calls.specs.Switches.{Switch, switch, pairs-after}
 
--- `answer` is the length of the answer table; any other call leaves links, numbers and order as they were
-pub data Given : Type 0 where
-  clearing : (n : ℕ) → Lengths → Given
-  reading : (n : ℕ) → (image : List ℕ) → Lengths → Given
-  linking : (up : Bool) → (n a b : ℕ) → Lengths → (answer : ℕ) → Given
-  other : Given
+-- what the book is given of a call, beside the lengths of links, numbers and order: `answer` is the answer table's length
+pub data Call : Type 0 where
+  clearing : (n : ℕ) → Call
+  reading : (n : ℕ) → (image : List ℕ) → Call
+  linking : (up : Bool) → (n a b : ℕ) → (answer : ℕ) → Call
+  other : Call
 
--- what is compared of a call
+-- what is compared of a call: its number and, for a link call, step, count and listed radios
 pub record Answer : Type 0 where
   pub number : ℕ
   pub step : ℤ
@@ -40,53 +43,84 @@ reported up cs = record { number = 0; step = step-of up cs; count = length cs; l
 
 -- ---- one call
 
--- the first "no", or 0
-unfoldable pub book-number : Given → (pairs : List Link) → ℕ
-book-number (clearing n l) ps = tables-refusal n l
-book-number (reading n bs l) ps = read-refusal n l bs
-book-number (linking up n a b l w) ps = link-refusal up n a b l w true (graph n ps)
-book-number other ps = 0
+-- the answers to be compared, the pairs that the call begins from where it begins anew, and the links that it takes up or down in turn
+pub record Outcome : Type 0 where
+  pub answers : List Answer
+  pub begins : Option (List Link)
+  pub switches : List Switch
 
--- what an accepted call answers
-unfoldable pub accepted-answer : Given → (pairs : List Link) → List Answer
-accepted-answer (clearing n l) ps = plain 0 ∷ []
-accepted-answer (reading n bs l) ps = plain 0 ∷ []
-accepted-answer (linking up n a b l w) ps = reported up (changed up a b (graph n ps)) ∷ []
-accepted-answer other ps = []
-
--- no pairs after a clearing, the pairs that the image lists after a reading; an up adds its pair, a down strikes it
-unfoldable pub accepted-pairs : Given → (pairs : List Link) → List Link
-accepted-pairs (clearing n l) ps = []
-accepted-pairs (reading n bs l) ps = image-links n bs
-accepted-pairs (linking up n a b l w) ps = new-links up a b ps
-accepted-pairs other ps = ps
+abbrev pub outcome-of : List Answer → Option (List Link) → List Switch → Outcome
+outcome-of hs b ss = record { answers = hs; begins = b; switches = ss }
 
 -- a "no" gives its number and zeros, and the pairs stay
-unfoldable pub answer-by : (refusal : ℕ) → Given → (pairs : List Link) → List Answer
-answer-by zero c ps = accepted-answer c ps
-answer-by (suc q) c ps = plain (suc q) ∷ []
+unfoldable pub unless-refused : (refusal : ℕ) → Outcome → Outcome
+unless-refused zero o = o
+unless-refused (suc q) o = outcome-of (plain (suc q) ∷ []) none []
 
--- the pairs after a call with this number
-unfoldable pub pairs-by : (refusal : ℕ) → Given → (pairs : List Link) → List Link
-pairs-by zero c ps = accepted-pairs c ps
-pairs-by (suc q) c ps = ps
+-- each call is put its questions: 3 gets yes, 6 and 7 are asked of the pairs; any other call is passed over
+unfoldable pub outcome : Call → Lengths → (pairs : List Link) → Outcome
+outcome (clearing n) l ps = unless-refused (tables-refusal n l) (outcome-of (plain 0 ∷ []) (some []) [])
+outcome (reading n bs) l ps = unless-refused (read-refusal n l bs) (outcome-of (plain 0 ∷ []) (some (image-links n bs)) [])
+outcome (linking up n a b w) l ps =
+    unless-refused
+    (link-refusal up n a b l w true (graph n ps))
+    (outcome-of (reported up (changed up a b (graph n ps)) ∷ []) none (switch up a b ∷ []))
+outcome other l ps = outcome-of [] none []
 
--- the book's answer to a call
-unfoldable pub book-answer : Given → (pairs : List Link) → List Answer
-book-answer c ps = answer-by (book-number c ps) c ps
+-- the pairs that an outcome begins from, where ps are those before it
+unfoldable pub first-pairs : Option (List Link) → (pairs : List Link) → List Link
+first-pairs none ps = ps
+first-pairs (some qs) ps = qs
 
--- the book's pairs after a call
-unfoldable pub book-pairs : Given → (pairs : List Link) → List Link
-book-pairs c ps = pairs-by (book-number c ps) c ps
+-- the pairs after it: an up adds its pair, a down strikes it
+unfoldable pub pairs-of : Outcome → (pairs : List Link) → List Link
+pairs-of o ps = pairs-after (o .switches) (first-pairs (o .begins) ps)
 
 -- ---- a list of calls
+
+-- a call with the lengths of the tables that it was given
+pub record Given : Type 0 where
+  pub call : Call
+  pub lengths : Lengths
+
+abbrev pub given : Call → Lengths → Given
+given c l = record { call = c; lengths = l }
+
+-- the book's outcome of a call
+unfoldable pub booked : Given → (pairs : List Link) → Outcome
+booked c ps = outcome (c .call) (c .lengths) ps
 
 -- the book's answers to a list
 unfoldable pub book-answers : List Given → (pairs : List Link) → List Answer
 book-answers [] ps = []
-book-answers (c ∷ cs) ps = book-answer c ps ++ book-answers cs (book-pairs c ps)
+book-answers (c ∷ cs) ps = booked c ps .answers ++ book-answers cs (pairs-of (booked c ps) ps)
 
 -- the book's pairs after a list
 unfoldable pub book-after : List Given → (pairs : List Link) → List Link
 book-after [] ps = ps
-book-after (c ∷ cs) ps = book-after cs (book-pairs c ps)
+book-after (c ∷ cs) ps = book-after cs (pairs-of (booked c ps) ps)
+
+-- ---- the link history
+
+-- the pairs that the last accepted clearing or reading left, and the accepted link calls since
+pub record History : Type 0 where
+  pub began : List Link
+  pub calls : List Switch
+
+-- at the start of a list: nothing since the clearing or reading that left the pairs
+unfoldable pub fresh : (pairs : List Link) → History
+fresh ps = record { began = ps; calls = [] }
+
+-- after an outcome: anew where it begins anew; the links that it takes up or down are further calls
+unfoldable pub history-by : Option (List Link) → List Switch → History → History
+history-by none ss h = record { began = h .began; calls = h .calls ++ ss }
+history-by (some qs) ss h = record { began = qs; calls = ss }
+
+unfoldable pub history-after : List Given → (pairs : List Link) → History → History
+history-after [] ps h = h
+history-after (c ∷ cs) ps h =
+    let o = booked c ps in history-after cs (pairs-of o ps) (history-by (o .begins) (o .switches) h)
+
+-- of a list from its start
+unfoldable pub history : List Given → (pairs : List Link) → History
+history cs ps = history-after cs ps (fresh ps)

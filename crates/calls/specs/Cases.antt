@@ -3,17 +3,18 @@ use mathlib.Core.List.{List, [], _∷_, _++_, map}
 use Prim.Native.Nat.{ℕ}
 use Rattle.lists.specs.Lists.{range}
 use Rattle.mesh.specs.Tree.{root-name, node, root}
-use Rattle.calls.specs.Rows.{Link-call, up, down, risen, fallen, unchanged, refused, last-answers, all-numbers, whole-order, shell-tree, connected-core}
-use Rattle.calls.specs.Rows.{backbone-radios, image-checks, printed, Row, row}
+use Rattle.calls.specs.Switches.{Switch}
+use Rattle.calls.specs.Worked.{up, down, risen, fallen, unchanged, refused, last-answers, all-numbers, whole-order, shell-tree, connected-core}
+use Rattle.calls.specs.Worked.{backbone-radios, image-checks, printed, Row, row}
 
-unfoldable pub triangle : (a b c : ℕ) → List Link-call
+unfoldable pub triangle : (a b c : ℕ) → List Switch
 triangle a b c = up a b ∷ up b c ∷ up a c ∷ []
 
-unfoldable pub two-triangles : List Link-call
+unfoldable pub two-triangles : List Switch
 two-triangles = triangle 0 1 2 ++ triangle 3 4 5
 
 -- the links of M5 and M6
-unfoldable pub two-triangles-tied : List Link-call
+unfoldable pub two-triangles-tied : List Switch
 two-triangles-tied = two-triangles ++ (up 2 3 ∷ up 0 6 ∷ [])
 
 -- M1, its answers and what it prints, whole
@@ -90,13 +91,15 @@ m9 = row 3 (up 3 3 ∷ down 3 3 ∷ []) (
     ∷ whole-order (0 ∷ 1 ∷ 2 ∷ [])
     ∷ [])
 
--- M10: a 32nd neighbour is taken; a 33rd gets 7, from either end; after one link goes down it is taken
+-- M10: a 32nd neighbour is taken; a 33rd gets 7, from either end; a link that is up already gets 6 there, not 7; after one link goes
+-- down the 33rd is taken
 unfoldable pub m10 : Row
-m10 = row 34 (map (up 0) (range 1 32) ++ (up 0 33 ∷ up 33 0 ∷ down 0 1 ∷ up 0 33 ∷ [])) (
+m10 = row 34 (map (up 0) (range 1 32) ++ (up 0 33 ∷ up 33 0 ∷ up 0 1 ∷ down 0 1 ∷ up 0 33 ∷ [])) (
     last-answers (
     risen (32 ∷ [])
     ∷ refused 7
     ∷ refused 7
+    ∷ refused 6
     ∷ fallen (1 ∷ [])
     ∷ risen (33 ∷ [])
     ∷ [])

@@ -1,27 +1,32 @@
 -- Demand 3: one claim about a whole list of calls.
 --   Start n ps t      the tables t were left by an accepted clearing or reading of n radios; ps are the pairs that the book then keeps
 --   Link-kept         what an accepted link call of the list keeps, by the book's pairs before it
---   Kept              what the list keeps: tables, answers, each accepted link call
+--   Switching         links taken up or down one after the other, each keeping that
+--   Call-kept         what a call of the list keeps, by the book's outcome of it
+--   Kept              what the list keeps: tables, answers, each call, each accepted link call
 --   Demand-3          every run from such a start keeps it
 -- The proof is `demand-3` in proofs/WholeList.antt. Definitions only.
 use mathlib.Core.Path.{_≡_}
 use mathlib.Core.Logic.{_⊎_}
 use mathlib.Core.Bool.{Bool, true, false}
 use mathlib.Core.List.{List, [], _∷_, _++_}
+use mathlib.Core.Option.{none, some}
 use Prim.Native.Nat.{ℕ, suc, _+_, _<_}
 use lib.ListN.{length, take, drop}
 use Rattle.lists.specs.Lists.{member}
-use Rattle.mesh.specs.Graph.{Link, Graph, graph, relinked}
+use Rattle.mesh.specs.Graph.{Link, Graph, graph, relinked, new-links}
 use Rattle.mesh.specs.Cores.{Core, number, numbers}
 use Rattle.mesh.specs.Orders.{is-k-order}
 use Rattle.mesh.specs.Levels.{changed, lower-level, stretch-start, stretch-length, new-stretch}
-use Rattle.mesh.specs.Tables.{Tables, put-link, links-table}
+use Rattle.mesh.specs.Tables.{Tables, put-link, links-table, graph-in}
 use Rattle.mesh.specs.Sound.{sound, number-in}
 use Rattle.mesh.specs.Connected.{Reachable}
 use Rattle.mesh.specs.Image.{image-links}
 use Rattle.calls.specs.Writes.{Clear-contract, Read-contract}
-use Rattle.calls.specs.Book.{Answer, book-answers, book-after}
-use Rattle.calls.specs.Runs.{linking, Event, event, Run, givens, answers}
+use Rattle.calls.specs.Switches.{Switch, pairs-after, tables-after}
+use Rattle.calls.specs.Book.{Call, linking, Answer, reported, Outcome, given, booked, book-answers, book-after, History, history}
+use Rattle.calls.specs.Questions.{lengths-of}
+use Rattle.calls.specs.Runs.{Event, event, Run, givens, answers}
 
 -- ---- an accepted link call
 
@@ -66,12 +71,41 @@ unfoldable pub Link-kept : (up : Bool) → (a b : ℕ) → (g : Graph) → (t : 
 Link-kept up a b g t h v =
     let k = lower-level g a b in Link-kept-at up a b g k (stretch-start g k) (stretch-length g k) (h .listed) t v
 
--- ---- a list of calls
+-- ---- the links that a call takes up or down
+
+-- from the pairs ps and the tables t to the tables v, one link after the other: each keeps what a link call keeps
+pub data Switching (n : ℕ) : List Link → List Switch → Tables → Tables → Type 0 where
+  ended : {ps : List Link} {t : Tables} → Switching n ps [] t t
+  next :
+      {ps : List Link} {s : Switch} {ss : List Switch} {t u v : Tables} →
+      Link-kept (s .up) (s .a) (s .b) (graph n ps) t (reported (s .up) (changed (s .up) (s .a) (s .b) (graph n ps))) u →
+      Switching n (new-links (s .up) (s .a) (s .b) ps) ss u v → Switching n ps (s ∷ ss) t v
+
+-- ---- where a list starts, and its history
 
 -- left by an accepted clearing: no pairs; left by an accepted reading: the pairs that the image lists
 pub data Start : (n : ℕ) → (pairs : List Link) → Tables → Type 0 where
   cleared : (n : ℕ) (t v : Tables) → Clear-contract n t 0 v → Start n [] v
   read : (n : ℕ) (image : List ℕ) (t v : Tables) → Read-contract n image t 0 v → Start n (image-links n image) v
+
+-- links, numbers and order are what the link history makes of the tables that the last clearing or reading left
+pub record By-history (n : ℕ) (h : History) (v : Tables) : Type 0 where
+  pub first : Tables
+  pub start : Start n (h .began) first
+  pub tables : v ≡ tables-after n (h .calls) first
+
+-- ---- one call
+
+-- o is the book's outcome of it by the pairs ps before it
+pub record Call-kept (n : ℕ) (ps : List Link) (o : Outcome) (t : Tables) (hs : List Answer) (v : Tables) : Type 0 where
+  pub answered : hs ≡ o .answers
+  -- it leaves what single link calls leave, one after the other, and each link keeps what a link call keeps
+  pub tables : o .begins ≡ none → v ≡ tables-after n (o .switches) t
+  pub switching : o .begins ≡ none → Switching n ps (o .switches) t v
+  -- where it begins anew, it is an accepted clearing or reading
+  pub started : (qs : List Link) → o .begins ≡ some qs → By-history n (record { began = qs; calls = o .switches }) v
+
+-- ---- a list of calls
 
 -- g is the graph of the book's pairs after the list, v are the tables that the list leaves
 pub record Kept (n : ℕ) (ps : List Link) (es : List Event) (g : Graph) (v : Tables) : Type 0 where
@@ -81,12 +115,21 @@ pub record Kept (n : ℕ) (ps : List Link) (es : List Event) (g : Graph) (v : Ta
   pub cores : (x : ℕ) → x < n → Core g x (number-in (v .numbers) x)
   pub k-order : is-k-order g (v .order) ≡ true
   pub sound : sound n v ≡ true
+  -- read back, the links table gives the book's pairs
+  pub read-back : graph-in n (v .links) ≡ g
+  -- and these are what the link history makes of the pairs that it began from
+  pub pairs-by-history : g ≡ graph n (pairs-after (history (givens es) ps .calls) (history (givens es) ps .began))
+  pub by-history : By-history n (history (givens es) ps) v
   -- every call answered as the book does
   pub answered : answers es ≡ book-answers (givens es) ps
-  -- every accepted link call, wherever it stands in the list
+  -- each call, wherever it stands in the list
+  pub calls :
+      (before after : List Event) (c : Call) (t u : Tables) (hs : List Answer) → es ≡ before ++ (event c t hs u ∷ after) →
+      let qs = book-after (givens before) ps in Call-kept n qs (booked (given c (lengths-of t)) qs) t hs u
+  -- each accepted single link call
   pub link-calls :
-      (before after : List Event) (up : Bool) (m a b : ℕ) (w : List ℕ) (t u : Tables) (h : Answer) →
-      es ≡ before ++ (event (linking up m a b w) t h u ∷ after) → h .number ≡ 0 →
+      (before after : List Event) (up : Bool) (m a b w : ℕ) (t u : Tables) (h : Answer) →
+      es ≡ before ++ (event (linking up m a b w) t (h ∷ []) u ∷ after) → h .number ≡ 0 →
       Link-kept up a b (graph n (book-after (givens before) ps)) t h u
 
 -- every run from a start keeps it

@@ -1,11 +1,16 @@
--- What calls promise, in the order in which a reader needs it. `Replay` is what the replay program prints; `Rows` and
--- `Cases` are the worked cases of document 01.
+-- What calls promise, in the order in which a reader needs it. `Outcomes` are the outcomes worked out; `Results` is what a caller
+-- has after an accepted call (property 2); `FormerDemand` is the statement of a corollary; `Replay` is what the replay program prints;
+-- `Worked` and `Cases` are the worked cases of document 01.
 pub mod Questions
+pub mod Switches
 pub mod Writes
 pub mod Answers
+pub mod Outcomes
+pub mod Results
 pub mod Book
 pub mod Runs
 pub mod Demand
+pub mod FormerDemand
 pub mod Replay
-pub mod Rows
+pub mod Worked
 pub mod Cases

@@ -61,3 +61,11 @@ pub fn write_all(n: u32, links: &[u8], numbers: &[u8], order: &[u16]) {
     write(n, links, numbers, order, &mut exact, len);
     say_image(&exact, len);
 }
+
+// A written byte is counted: of two, one from the third place on.
+pub fn canary() {
+    let mut buffer = [BYTE; 8];
+    buffer[1] = 0;
+    buffer[7] = 0;
+    say::one(b"canary", touched(&buffer, 2));
+}

@@ -1,5 +1,6 @@
 // The soundness check on damaged tables: each condition of document 01 broken alone, and then lengths and sizes. Prints a line
-// for each: its name, the refusal number and the value (1 sound, 0 not). The expected lines are worked out by oracle/damaged.py.
+// for each: its name, the refusal number and the value (1 sound, 0 not). Changes that do no damage come last: their verdict must
+// differ from those above, which so turn on the damage alone. The expected lines are worked out by oracle/damaged.py.
 use libc::STDOUT_FILENO;
 
 // A triangle 0 1 2, radio 3 linked to 2, radio 4 alone.
@@ -33,6 +34,15 @@ fn say_bit(name: &[u8], on: bool, a: u32, b: u32) {
     let mut links = [0u8; 320];
     put_site(&mut links);
     rows::put_bit(&mut links, on, a, b);
+    say(name, 5, &links, &[2, 2, 2, 1, 0], &[4, 3, 2, 0, 1]);
+}
+
+// The site with one bit set and cleared again.
+fn say_mended(name: &[u8], a: u32, b: u32) {
+    let mut links = [0u8; 320];
+    put_site(&mut links);
+    rows::put_bit(&mut links, true, a, b);
+    rows::put_bit(&mut links, false, a, b);
     say(name, 5, &links, &[2, 2, 2, 1, 0], &[4, 3, 2, 0, 1]);
 }
 
@@ -93,4 +103,8 @@ fn main() {
     say_tables(b"n-4", 4, &numbers, &order);
     say_tables(b"short-numbers", 5, &numbers[..4], &order);
     say_tables(b"short-order", 5, &numbers, &order[..4]);
+    // no damage
+    say_mended(b"one-sided-mended", 0, 3);
+    say_mended(b"bit-at-511-mended", 4, 511);
+    say_tables(b"other-order", 5, &numbers, &[4, 3, 0, 1, 2]);
 }

@@ -1,7 +1,8 @@
 // Pseudo-random link histories, played on the engine and on the separate peeling of crate `peeling`: after every call the refusal
 // number, the step, the count, every entry of the lent tables and the verdict on soundness are compared. Some calls are refused on
-// purpose, some are put to spoiled tables. Prints for each history how many calls got which answer, and how many differ. What is
-// printed is worked out by oracle/walks.py.
+// purpose, some are put to spoiled tables. Prints for each history how many calls got which answer, how many differ, and how many
+// of 11 expectations that are wrong on purpose are found. What is printed is worked out by oracle/walks.py.
+mod canaries;
 mod engine;
 mod picking;
 mod play;
@@ -112,7 +113,7 @@ fn main() {
     let mut sums = [0u64; play::KINDS];
     io::write_all(
         STDOUT_FILENO,
-        b"history radios: accepted, refused by 1 to 7, changed radios, calls, differences\n",
+        b"history radios: accepted, refused by 1 to 7, changed radios, calls, differences, canaries\n",
     );
     site(1, 500, 1, 1, &mut sums);
     site(2, 1000, 2, 4, &mut sums);

@@ -1,4 +1,5 @@
 // A history, played on the engine and on the expected tables beside it, compared after every call.
+use super::canaries;
 use super::engine;
 use super::picking;
 use super::picking::Plan;
@@ -12,14 +13,17 @@ use peeling::model;
 use peeling::own_check;
 use peeling::same;
 
-// What is counted: calls by refusal number (0 to 7), then the changed radios, the calls, and the calls that differ.
-pub const KINDS: usize = 11;
+// What is counted: calls by refusal number (0 to 7), then the changed radios, the calls, the calls that differ, and the wrong
+// expectations that are found.
+pub const KINDS: usize = 12;
 
 const CHANGED: usize = 8;
 
 const CALLS: usize = 9;
 
 const DIFFERENT: usize = 10;
+
+pub const CANARIES: usize = 11;
 
 // The longest links table that a call is lent. Entries of the other tables past the site's hold these values.
 const LINKS: usize = 64 * model::ENTRIES;
@@ -29,7 +33,7 @@ const NUMBER: u8 = 77;
 const RADIO: u16 = 7777;
 
 // Whether the engine's check and the test by hand both say what is expected of the site's tables.
-fn verdicts_agree(n: u32, sound: bool, links: &[u8], numbers: &[u8], order: &[u16]) -> bool {
+pub fn verdicts_agree(n: u32, sound: bool, links: &[u8], numbers: &[u8], order: &[u16]) -> bool {
     if engine::is_sound(n, links, numbers, order) != sound {
         return false;
     }
@@ -68,7 +72,7 @@ fn answer_of(
 }
 
 // Whether the reply is what is owed.
-fn is_owed(reply: Reply, owed: Owed) -> bool {
+pub fn is_owed(reply: Reply, owed: Owed) -> bool {
     if reply.number != owed.number {
         return false;
     }
@@ -79,7 +83,7 @@ fn is_owed(reply: Reply, owed: Owed) -> bool {
 }
 
 // Whether every entry of the tables is what is expected, and they are sound.
-fn is_expected(
+pub fn is_expected(
     n: u32,
     links: &[u8],
     numbers: &[u8],
@@ -177,7 +181,21 @@ fn all_calls(
     }
 }
 
-// Plays the history from a cleared site and counts its calls.
+// All calls, and after them the wrong expectations.
+fn all_put(
+    plan: Plan,
+    links: &mut [u8],
+    numbers: &mut [u8],
+    order: &mut [u16],
+    answer: &mut [u16],
+    model: &mut [u16],
+    counts: &mut [u64],
+) {
+    all_calls(plan, links, numbers, order, answer, model, counts);
+    canaries::put(plan.n, links, numbers, order, answer, model, counts);
+}
+
+// Plays the history from a cleared site, counts its calls, and puts the wrong expectations.
 pub fn play(plan: Plan, counts: &mut [u64]) {
     let mut links = [0u8; LINKS];
     let mut numbers = [NUMBER; model::ENTRIES];
@@ -186,7 +204,7 @@ pub fn play(plan: Plan, counts: &mut [u64]) {
     let mut model = [0u16; model::LEN];
     engine::clear(plan.n, &mut links, &mut numbers, &mut order);
     model::clear(&mut model, plan.n as usize, NUMBER as u16, RADIO);
-    all_calls(
+    all_put(
         plan,
         &mut links,
         &mut numbers,

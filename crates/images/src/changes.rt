@@ -73,7 +73,7 @@ fn put_changed(image: &mut [u8], good: &[u8], at: usize, how: u32, mended: bool)
 }
 
 // One more where `on`.
-fn more(count: u32, on: bool) -> u32 {
+pub(crate) fn more(count: u32, on: bool) -> u32 {
     if on {
         return std::num::wrapping_add_u32(count, 1);
     }
@@ -91,9 +91,14 @@ fn is_other(number: u32) -> bool {
     number != 11
 }
 
+// Whether a refusal changed a table.
+pub(crate) fn is_broken(number: u32, kept: bool) -> bool {
+    if number == 0 { false } else { !kept }
+}
+
 // The tally with one more reading.
 fn counted(t: Tally, number: u32, kept: bool, digest: u64) -> Tally {
-    let broken = if number == 0 { false } else { !kept };
+    let broken = is_broken(number, kept);
     Tally {
         accepted: more(t.accepted, number == 0),
         tenth: more(t.tenth, number == 10),

@@ -1,11 +1,14 @@
-// Images written, read and walked at the sizes where their form changes, and every byte of a small image changed in turn. The
-// expected lines are worked out by oracle/images.py.
+// Images written, read and walked at the sizes where their form changes; refusals, also where several questions get "no"; and every
+// byte of a small image changed in turn. At the end stands how many comparisons differed that must. The expected lines are worked
+// out by oracle/images.py.
 ghost use Prim.Native.Nat.{_≤_};
 ghost use Rattle.mesh.specs.Limits.{max-radios};
 
+mod canaries;
 mod changes;
 mod digest;
 mod full;
+mod held;
 mod lines;
 mod parts;
 mod pattern;
@@ -132,6 +135,36 @@ fn try_small_reads(image: &[u8]) {
     reading::try_blocks(parts::front(image, 1535));
 }
 
+// Writes tables of the small site that are refused: unsound ones by 3, before 9 is asked; 2 before 3, and 1 before 2.
+fn try_small_writes(links: &[u8]) {
+    let numbers: [u8; 5] = [2, 2, 2, 1, 1];
+    let order: [u16; 5] = [4, 3, 2, 0, 1];
+    let mut buffer = [0u8; 1536];
+    writing::try_refused(5, links, &[2, 2, 2, 1, 2], &order, &mut buffer);
+    writing::try_refused(5, links, &numbers, &[4, 3, 2, 0, 0], &mut buffer);
+    writing::try_refused(5, &[1u8; 320], &numbers, &order, &mut buffer);
+    writing::try_refused(5, links, &[2, 2, 2, 1], &order, &mut buffer);
+    writing::try_refused(0, links, &[2, 2, 2, 1], &order, &mut buffer);
+}
+
+// Reads and walks the small image with a block that fails its check: 1, 2 and 9 are asked before 10, and 10 before 11.
+fn try_small_refusals(good: &[u8]) {
+    let mut image = [0u8; 1536];
+    tables::fill::copy8(&mut image, good);
+    parts::put_byte(&mut image, 600, 77);
+    read_small(5, 320, 5, 5, &image);
+    read_small(4, 256, 4, 4, &image);
+    read_small(5, 319, 5, 5, &image);
+    read_small(0, 319, 5, 5, &image);
+    reading::try_blocks(&image);
+    let cut = parts::front(&image, 1535);
+    read_small(5, 320, 5, 5, cut);
+    read_small(4, 256, 4, 4, cut);
+    read_small(5, 319, 5, 5, cut);
+    read_small(513, 319, 5, 5, cut);
+    reading::try_blocks(cut);
+}
+
 // Changes every byte of the small image in each way.
 fn try_small_changes(good: &[u8]) {
     changes::try_change(1, good);
@@ -149,5 +182,8 @@ fn main() {
     let mut good = [0u8; 1536];
     put_small(&mut links, &mut good);
     try_small_reads(&good);
+    try_small_writes(&links);
+    try_small_refusals(&good);
     try_small_changes(&good);
+    lines::print(b"canaries", &[canaries::count() as u64]);
 }

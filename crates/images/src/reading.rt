@@ -1,5 +1,6 @@
 // Reading an image, with a line for each case, and walking its blocks.
 use super::digest;
+use super::held;
 use super::lines;
 use super::parts;
 use super::pattern;
@@ -164,9 +165,10 @@ fn steps(image: &[u8], count: usize) -> Walk {
 }
 
 // Walks the image, two steps past its last block, and prints where the reader stands, its last number, the payload bytes
-// given, how often it said the end, and the digest.
+// given, how often it said the end, and the digest; then the digest of the same steps by the reader that holds the image.
 pub(crate) fn try_blocks(image: &[u8]) {
-    let walk = steps(image, image.len() / 512 + 2);
+    let count = image.len() / 512 + 2;
+    let walk = steps(image, count);
     lines::print(
         b"blocks",
         &[
@@ -177,4 +179,5 @@ pub(crate) fn try_blocks(image: &[u8]) {
             walk.digest,
         ],
     );
+    lines::print(b"held", &[held::steps(image, count)]);
 }

@@ -12,7 +12,7 @@ use lib.IntN.{ℤ}
 use lib.ListN.{length, getD, take, drop, length-drop}
 use lib.Seq.{length-take-le, take-all, ext-getD, paste, getD-take, getD-drop}
 use Rattle.mesh.specs.Limits.{max-radios, max-neighbours}
-use Rattle.lists.specs.Lists.{range, count, filter, member, overwrite, In, Distinct}
+use Rattle.lists.specs.Lists.{range, count, filter, member, overwrite, In, Distinct, Entries-below}
 use Rattle.mesh.specs.Graph.{Graph, radios, linked, degree, neighbours-among, neighbours-in, relinked}
 use Rattle.mesh.specs.Cores.{Group, number, numbers}
 use Rattle.mesh.specs.Levels.{changed, step-of, with-stretch, new-order}
@@ -32,7 +32,6 @@ use Rattle.calls.specs.declared.Reply.{Reply}
 use Rattle.tables.specs.Steps.{stepped, all-stepped}
 use Rattle.tables.proofs.StepLaws.{length-all-stepped, getD-all-stepped-other, getD-all-stepped-listed}
 use Rattle.links.specs.Plans.{Planned, changed-part}
-use Rattle.soundness.specs.Checks.{Entries-below}
 use Rattle.links.specs.Changes.{in-order, counted-step, Applicable}
 use Rattle.links.proofs.ChangeLaws.{counted-step-length}
 

@@ -10,14 +10,13 @@ use lib.ListN.{length, replicate, length-replicate}
 use borrow.Author.Tests.{eq-eqb}
 use Rattle.mesh.specs.Limits.{max-radios, row-bytes}
 use Rattle.lists.proofs.Loops.{length-folded}
-use Rattle.lists.specs.Lists.{folded, range, member}
+use Rattle.lists.specs.Lists.{folded, range, member, Entries-below}
 use Rattle.mesh.specs.Tables.{marked, put-bit}
 use Rattle.lists.proofs.Range.{range-in}
 use Rattle.lists.proofs.Filter.{filter-ext}
 use Rattle.mesh.proofs.Tables.Laws.{length-put-bit, marked-put-bit, marked-replicate, byte-at-less}
 use Rattle.rows.specs.Rows.{neighbours-of, row-listed}
 use Rattle.rows.proofs.RowWords.{row-listed-whole}
-use Rattle.soundness.specs.Checks.{Entries-below}
 use Rattle.links.specs.Changes.{all-marked, in-order}
 
 -- ---- all-marked

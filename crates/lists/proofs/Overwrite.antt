@@ -7,7 +7,7 @@ use Prim.Native.Nat.{ℕ, zero, suc, _+_, _<_, _≤_, min}
 use native.Mathlib.Omega.{arith}
 use native.Mathlib.Nat.{zero-add}
 use lib.ListN.{length, take, drop, set, drop-of-length-le, getD, length-append}
-use lib.Seq.{take-at, take-all, drop-cons, set-at, set-append-left, getD-take, sets, set-out, drop-nil}
+use lib.Seq.{take-at, take-all, drop-cons, set-at, set-append-left, getD-take, sets, set-out, drop-nil, drop-at}
 use lib.Dec.{eqb, ltb}
 use borrow.Author.Tests.{eq-eqb, ne-eqb, ltb-true, ltb-false}
 use Rattle.lists.specs.Lists.{overwrite, range}
@@ -15,9 +15,13 @@ use Rattle.lists.proofs.Map.{map-range-ext, length-map, getD-map-range}
 use Rattle.lists.proofs.Range.{length-range}
 use Rattle.lists.proofs.Tests.{bool-cases}
 
-pub take-overwrite : (new old : List ℕ) → take (length new) (overwrite new old) ≡ new
+pub take-overwrite : {A : Type 0} (new old : List A) → take (length new) (overwrite new old) ≡ new
 unfolding overwrite
 take-overwrite new old = take-at new (drop (length new) old) (length new) refl
+
+pub drop-overwrite : {A : Type 0} (new old : List A) → drop (length new) (overwrite new old) ≡ drop (length new) old
+unfolding overwrite
+drop-overwrite new old = drop-at new (drop (length new) old) (length new) refl
 
 pub set-map-range-end : (f : ℕ → ℕ) (i k : ℕ) (d : List ℕ) → k < length d
     → set (map f (range i k) ++ drop k d) k (f (i + k)) ≡ map f (range i (suc k)) ++ drop (suc k) d

@@ -16,6 +16,7 @@
 --   Ascending xs        each entry is below all later ones
 --   Ascending-below n xs   numbers below n, each at most once, ascending
 --   Rising num xs       no later entry has a smaller number
+--   Entries-below k xs  every entry is below k: 256 for a table of bytes, 65,536 for one of 16-bit entries
 --   Bytes xs            every entry is below 256
 -- Laws are in proofs/. Definitions only.
 use mathlib.Core.Path.{_≡_}
@@ -96,5 +97,8 @@ abbrev pub Rising : (num : ℕ → ℕ) → List ℕ → Type 0
 Rising num [] = Unit {0}
 Rising num (x ∷ xs) = ((w : ℕ) → In w xs → num x ≤ num w) × Rising num xs
 
+abbrev pub Entries-below : (bound : ℕ) → List ℕ → Type 0
+Entries-below k xs = (i : ℕ) → i < length xs → getD xs i 0 < k
+
 abbrev pub Bytes : List ℕ → Type 0
-Bytes ts = (i : ℕ) → i < length ts → getD ts i 0 < 256
+Bytes xs = Entries-below 256 xs

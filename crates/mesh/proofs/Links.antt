@@ -7,3 +7,4 @@ pub mod LevelCut
 pub mod Call
 pub mod Laws
 pub mod Connectedness
+pub mod Tables

@@ -6,3 +6,4 @@ pub mod NodeSets
 pub mod ShellNames
 pub mod Laws
 pub mod Unique
+pub mod Listed

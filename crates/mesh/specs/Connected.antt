@@ -3,12 +3,14 @@
 --   at-least g k             the test: radios with number k or more
 --   In-core g v k w          document 01: w is in the connected core of v at level k
 --   reached, core-of         the same, worked out by rounds, as an ascending list
---   backbone g               document 01: the radios whose number is the greatest at the site; none if that is 0
--- That rounds give what is reachable is `core-of-iff` in proofs/Reach.antt. Definitions only.
+--   In-backbone g v          document 01: v's number is the greatest at the site, and not 0
+--   backbone g               the same, worked out, as an ascending list
+-- That rounds give what is reachable is `core-of-iff` in proofs/Reach.antt; of the backbone it is `backbone-iff` in
+-- proofs/ListedRadios.antt. Definitions only.
 use mathlib.Core.Path.{_≡_}
 use mathlib.Core.Bool.{Bool, true, _&&_, _||_}
 use mathlib.Core.List.{List, [], _∷_}
-use Prim.Native.Nat.{ℕ, zero, suc, _<_, max}
+use Prim.Native.Nat.{ℕ, zero, suc, _≤_, _<_, max}
 use lib.Dec.{ltb, leb, eqb}
 use Rattle.lists.specs.Lists.{filter, member}
 use Rattle.mesh.specs.Graph.{Graph, radios, linked, neighbours-among}
@@ -36,6 +38,11 @@ unfoldable pub core-of : Graph → (v k : ℕ) → List ℕ
 core-of g v k = reached (g .n) g (at-least g k) (v ∷ [])
 
 -- ---- backbone
+
+pub record In-backbone (g : Graph) (v : ℕ) : Type 0 where
+  pub is-radio : v < g .n
+  pub positive : 1 ≤ number g v
+  pub no-greater : (w : ℕ) → w < g .n → number g w ≤ number g v
 
 unfoldable pub greatest : List ℕ → ℕ
 greatest [] = 0

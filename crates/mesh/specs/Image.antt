@@ -7,17 +7,19 @@
 --   word-at, image-order, image-links, image-graph   read back
 --   whole-blocks             question 9, reading: a multiple of 512 bytes, not 0
 --   checks-good              question 10: every block passes its check
---   is-image n bs            question 11: the bytes are the image of sound tables with this n
+--   is-image n bs            question 11, worked out
+--   Tables-image n bs        question 11: the bytes are the image of some sound tables with this n
 --   payload-at bs i          the payload of block i, as the block reader gives it
--- Definitions only.
-use mathlib.Core.Bool.{Bool, _&&_, not, cond}
+-- That `is-image` is `Tables-image` is `is-image-tables` in proofs/Images/Tables.antt. Definitions only.
+use mathlib.Core.Path.{_≡_}
+use mathlib.Core.Bool.{Bool, _&&_, not, cond, true}
 use mathlib.Core.List.{List, [], _∷_, _++_, map, flatMap}
 use Prim.Native.Nat.{ℕ, zero, suc, _+_, _*_, _-_, _/_, _%_}
 use lib.Dec.{ltb, eqb}
 use lib.ListN.{length, getD, take, drop, replicate}
-use Rattle.lists.specs.Lists.{range, all, same}
+use Rattle.lists.specs.Lists.{range, all, same, Entries-below}
 use Rattle.mesh.specs.Graph.{Link, Graph, graph, proper, ascending}
-use Rattle.mesh.specs.Tables.{tables-of}
+use Rattle.mesh.specs.Tables.{Tables, graph-in, tables-of, Tables-of-size}
 use Rattle.mesh.specs.Sound.{sound}
 
 abbrev pub block-bytes : ℕ
@@ -123,6 +125,15 @@ is-image n bs =
     let g = image-graph n bs in
     let xs = image-order n bs in
     (proper n (g .links) && ascending (g .links)) && (sound n (tables-of g xs) && same (image-of g xs) bs)
+
+-- document 01: the image of some sound tables with this n; each entry fits its width
+pub record Tables-image (n : ℕ) (image : List ℕ) : Type 0 where
+  pub lent : Tables
+  pub size : Tables-of-size n lent
+  pub numbers-bytes : Entries-below 256 (lent .numbers)
+  pub order-words : Entries-below 65536 (lent .order)
+  pub is-sound : sound n lent ≡ true
+  pub written : image-of (graph-in n (lent .links)) (lent .order) ≡ image
 
 -- ---- the block reader
 

@@ -6,15 +6,17 @@
 --   links-table g      the links table that marks exactly the links of g, each in both rows
 --   graph-in n ts      the graph that the links table ts marks, read back from the bits above the diagonal
 --   tables-of g xs     the tables of the graph g with the order xs
--- Laws are in proofs/TableLaws.antt. Definitions only.
+--   Tables-of-size     tables of n radios as they are lent: lengths, and rows of bytes
+-- Laws are in proofs/Tables/. Definitions only.
+use mathlib.Core.Path.{_≡_}
 use mathlib.Core.Bool.{Bool, cond}
 use mathlib.Core.List.{List, map, flatMap}
 use Prim.Native.Nat.{ℕ, zero, suc, _+_, _*_, _-_, _/_, _%_, _^_}
 use denote.Ref.{RefT, now}
 use lib.Dec.{eqb}
-use lib.ListN.{getD, set}
+use lib.ListN.{length, getD, set}
 use Rattle.mesh.specs.Limits.{row-bytes}
-use Rattle.lists.specs.Lists.{range, filter}
+use Rattle.lists.specs.Lists.{Entries-below, range, filter}
 use Rattle.mesh.specs.Graph.{Link, Graph, graph, radios, linked}
 use Rattle.mesh.specs.Cores.{numbers}
 
@@ -77,3 +79,12 @@ row-links n ts a = map (λ b. record { low = a; high = b }) (filter (λ b. marke
 
 unfoldable pub graph-in : (n : ℕ) → (links : List ℕ) → Graph
 graph-in n ts = graph n (flatMap (row-links n ts) (range 0 n))
+
+-- ---- tables as they are lent
+
+-- tables of n radios: lengths, and rows of bytes
+pub record Tables-of-size (n : ℕ) (t : Tables) : Type 0 where
+  pub links-length : length (t .links) ≡ row-bytes * n
+  pub numbers-length : length (t .numbers) ≡ n
+  pub order-length : length (t .order) ≡ n
+  pub links-bytes : Entries-below 256 (t .links)

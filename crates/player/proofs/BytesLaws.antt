@@ -1,18 +1,10 @@
--- Bytes taken in turn: one more at the end, and the loop of `machine::take_bytes`.
+-- Bytes taken in turn: one more at the end, chunk after chunk, and after the end of the run.
 use mathlib.Core.Path.{_≡_, refl, sym, ap, subst, _∙_}
-use mathlib.Core.Logic.{_⊎_, inl, inr}
 use mathlib.Core.Bool.{false}
 use mathlib.Core.List.{List, [], _∷_, _++_, append-assoc, append-nil}
-use Prim.Native.Nat.{ℕ, _+_, _-_, _≤_, _<_}
-use native.Mathlib.Omega.{arith}
-use lib.ListN.{length, take, drop, getD}
-use Rattle.lists.proofs.Tests.{trichotomy}
-use Rattle.printing.specs.Print.{Buffer, put}
-use Rattle.printing.proofs.PrintLaws.{puts-append}
-use Rattle.player.specs.Lines.{Prints}
+use Prim.Native.Nat.{ℕ}
 use Rattle.player.specs.Machine.{Spot, Ignored, Takes, Takes-all}
 use Rattle.player.proofs.MachineLaws.{takes-none}
-use Rattle.lists.proofs.Parts.{part-more}
 
 -- ---- one byte more
 
@@ -74,47 +66,3 @@ takes-over m n (b ∷ bs) p l =
       rest = takes-over m n bs p l;
       whole = refl;
     }
-
--- ---- the loop
-
--- the bytes from place `from` on to before place i of the chunk are taken
-pub record Taking (m n : ℕ) (chunk : List ℕ) (from i : ℕ) (p q : Spot) (b c : Buffer) : Type 0 where
-  pub low : from ≤ i
-  pub is : Prints (λ text. Takes-all m n (take (i - from) (drop from chunk)) p text q) b c
-
-pub taking-none : (m n : ℕ) (chunk : List ℕ) (from : ℕ) (p : Spot) (b : Buffer) → Taking m n chunk from from p p b b
-unfolding Takes-all put
-taking-none m n chunk from p b =
-    let none : from - from ≡ 0 = omega arith in
-    record {
-      low = omega arith;
-      is = record {
-        text = [];
-        holds = subst (λ (k : ℕ). Takes-all m n (take k (drop from chunk)) p [] p) (sym none) (record { says = refl; same = refl });
-        puts = record { is = refl };
-      };
-    }
-
-pub taking-more : (m l n : ℕ) (chunk : List ℕ) (from i x : ℕ) (p q r : Spot) (b c d : Buffer) → i < length chunk → x ≡ getD chunk i 0
-    → l ≡ m → Taking m n chunk from i p q b c → Prints (λ text. Takes l n x q text r) c d → Taking m n chunk from (i + 1) p r b d
-taking-more m l n chunk from i x p q r b c d h e room so byte =
-    let taken : Takes m n (getD chunk i 0) q (byte .text) r =
-    subst (λ (k : ℕ). Takes m n k q (byte .text) r) e (subst (λ (k : ℕ). Takes k n x q (byte .text) r) room (byte .holds)) in
-    record {
-      low = omega (arith, so .low);
-      is = record {
-        text = so .is .text ++ byte .text;
-        holds = subst (λ (bs : List ℕ). Takes-all m n bs p (so .is .text ++ byte .text) r) (sym (part-more chunk from i (so .low) h))
-            (takes-more m n (take (i - from) (drop from chunk)) (getD chunk i 0) p q r (so .is .text) (byte .text) (so .is .holds) taken);
-        puts = puts-append (so .is .puts) (byte .puts);
-      };
-    }
-
--- a place that is not below another and not the same is above it
-pub moved : {from i : ℕ} → from ≤ i → (i ≡ from → ⊥) → from < i
-moved {from} {i} l h = go (trichotomy from i)
-  where
-    go : (from < i) ⊎ ((from ≡ i) ⊎ (i < from)) → from < i
-    go (inl k) = k
-    go (inr (inl e)) = absurd (h (sym e))
-    go (inr (inr k)) = absurd (omega arith)

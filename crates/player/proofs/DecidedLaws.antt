@@ -2,7 +2,7 @@
 use mathlib.Core.Path.{_≡_, sym, ap, subst, _∙_}
 use mathlib.Core.Bool.{Bool, true, false}
 use mathlib.Core.List.{List, [], _∷_, _++_}
-use Prim.Native.Nat.{ℕ, zero, suc}
+use Prim.Native.Nat.{ℕ, zero, suc, _+_}
 use lib.ListN.{take}
 use Rattle.mesh.specs.Tables.{Tables}
 use Rattle.calls.specs.Replay.{link-line}
@@ -13,7 +13,6 @@ use Rattle.script.specs.declared.lines.Line.{Line}
 use Rattle.script.specs.declared.lines.Line.the-variants.{Radios, Up, Down, Bad}
 use Rattle.player.specs.Lines.{is-call, Called, Played}
 use Rattle.player.specs.Play.{radios-of}
-use Rattle.player.specs.Machine.{next-number}
 use Rattle.player.specs.Whole.{lines-of, front, rest, Line-by, Lines-print, Run-from, Run-prints}
 
 -- two outcomes of a line are the same
@@ -63,8 +62,8 @@ lines-decided : (n : ℕ) (ls : List (List ℕ)) (k : ℕ) (t : Tables) (w text 
 unfolding Lines-print
 lines-decided n [] k t w text said g h = g ∙ sym h
 lines-decided n (l ∷ ls) k t w text said g h =
-    line-decided (is-call (line-of l)) n l k t w text said (λ v x m. Lines-print n ls (next-number k) v x m)
-    (λ v x m o p q. lines-decided n ls (next-number k) v x m o p q) g h
+    line-decided (is-call (line-of l)) n l k t w text said (λ v x m. Lines-print n ls (k + 1) v x m)
+    (λ v x m o p q. lines-decided n ls (k + 1) v x m o p q) g h
 
 run-from-decided : (n : ℕ) (bs text said : List ℕ) → Run-from n bs text → Run-from n bs said → text ≡ said
 unfolding Run-from

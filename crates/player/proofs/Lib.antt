@@ -1,5 +1,6 @@
 -- Laws of the definitions in specs/. For readers: `WholeLaws`, that bytes taken one by one print what the input's lines say;
--- `DecidedLaws`, that this is one text; `SizeLaws`, that the printing buffer has room. For callers: `BytesLaws`, chunk after chunk.
+-- `DecidedLaws`, that this is one text; `RunLaws`, that it is the executable one; `Texts`, whole inputs with what they print;
+-- `SizeLaws`, how long texts are; `ReadingLaws`, that all of what the reads brought is printed, and is written or waits.
 pub mod PlayLaws
 pub mod LineLaws
 pub mod MachineLaws
@@ -8,4 +9,7 @@ pub mod BytesLaws
 pub mod SplitLaws
 pub mod WholeLaws
 pub mod SizeLaws
+pub mod ReadingLaws
+pub mod RunLaws
+pub mod Texts
 pub mod DecidedLaws

@@ -12,17 +12,7 @@ use Rattle.script.specs.Lines.{line-of}
 use Rattle.printing.specs.Print.{Buffer, Puts}
 use Rattle.printing.proofs.PrintLaws.{puts-as, puts-append}
 use Rattle.player.specs.Lines.{is-call}
-use Rattle.player.specs.Machine.{Spot, next-number, Stopped, Held-on, Line-ends, Ignored, Step, Takes, closing}
-
--- ---- counting
-
-pub next-number-last : (k : ℕ) → k ≡ 18446744073709551615 → k ≡ next-number k
-unfolding next-number
-next-number-last k e = rw (eq-eqb k 18446744073709551615 e)
-
-pub next-number-more : (k : ℕ) → (k ≡ 18446744073709551615 → ⊥) → k + 1 ≡ next-number k
-unfolding next-number
-next-number-more k h = rw (ne-eqb k 18446744073709551615 h)
+use Rattle.player.specs.Machine.{Spot, Stopped, Held-on, Line-ends, Ignored, Step, Takes, closing}
 
 -- ---- one byte
 

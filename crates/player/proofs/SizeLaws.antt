@@ -1,15 +1,12 @@
--- How much a byte of the input prints at most, and that the printing buffer has room for it: nothing is lost.
+-- How much a byte of the input and its end print at most, and how far the line's number goes.
 use mathlib.Core.Path.{_≡_, refl, sym, ap, subst, _∙_}
-use mathlib.Core.Logic.{_⊎_, inl, inr}
-use mathlib.Core.Bool.{Bool, true, false, cond}
-use mathlib.Core.List.{List, [], _∷_, _++_, map}
-use Prim.Native.Nat.{ℕ, zero, suc, _+_, _^_, _≤_, _<_, min}
+use mathlib.Core.Logic.{inl, inr}
+use mathlib.Core.Bool.{Bool, true, false}
+use mathlib.Core.List.{List, [], _∷_, map}
+use Prim.Native.Nat.{ℕ, zero, suc, _+_, _^_, _≤_, _<_}
 use native.Mathlib.Omega.{arith}
 use lib.IntN.{ℤ, natAbs}
-use lib.Dec.{eqb}
-use lib.ListN.{length, take, drop, length-append}
-use borrow.Author.Tests.{eqb-false}
-use Rattle.lists.proofs.Tests.{bool-cases, trichotomy}
+use lib.ListN.{length, take, length-append}
 use Rattle.mesh.specs.Limits.{max-radios}
 use Rattle.lists.specs.Lists.{range, In}
 use Rattle.mesh.specs.Graph.{Graph, radios}
@@ -25,14 +22,12 @@ use Rattle.calls.specs.Writes.{Link-accepted, Link-refused, Link-contract}
 use Rattle.calls.specs.declared.Reply.{Reply}
 use Rattle.calls.proofs.ChainLaws.{link-zero}
 use Rattle.script.specs.Lines.{line-of}
-use Rattle.printing.specs.Print.{Buffer, lent, max-place}
+use Rattle.printing.specs.Print.{max-place}
 use Rattle.script.specs.declared.lines.Line.{Line}
 use Rattle.script.specs.declared.lines.Line.the-variants.{Radios, Up, Down, Bad}
 use Rattle.printing.proofs.LengthLaws.{length-line-le, length-link-line-le}
-use Rattle.printing.proofs.PrintLaws.{at-put, puts-whole}
-use Rattle.player.specs.Lines.{Called, Played, Prints}
-use Rattle.player.specs.declared.machine.Progress.{Progress}
-use Rattle.player.specs.Machine.{Spot, spot, next-number, Line-ends, Step, Takes, full, longest, closing-longest, closing}
+use Rattle.player.specs.Lines.{Called, Played}
+use Rattle.player.specs.Machine.{Spot, Line-ends, Step, Takes, Takes-all, longest, closing-longest, closing}
 
 -- ---- the reply of a call
 
@@ -139,55 +134,34 @@ pub takes-length : (m n b : ℕ) (p : Spot) (text : List ℕ) (q : Spot) → p .
 unfolding Takes
 takes-length m n b p text q k h = step-length _ _ _ n b p text q k h
 
--- ---- the printing buffer
+-- ---- the line's number
 
--- a byte taken while the buffer is not full: its whole text stands after what waits there, in any buffer of this many bytes
-pub byte-fits : (m n b : ℕ) (p q : Spot) (out after : List ℕ) (at next : ℕ) → p .number ≤ max-place → at < full
-    → full + longest ≤ length out → length out < max-place → (w : Prints (λ text. Takes m n b p text q) (lent out at) (lent after next))
-    → (next ≡ at + length (w .text)) × (after ≡ take at out ++ w .text ++ drop (at + length (w .text)) out)
-byte-fits m n b p q out after at next k h room most w =
-    let long = takes-length m n b p (w .text) q k (w .holds) in
-    let place : next ≡ min (at + length (w .text)) max-place = ap (λ (c : Buffer). c .at) (w .puts .is) ∙ at-put (lent out at) (w .text) (omega arith) in
-    puts-whole (w .puts) (omega arith) most (omega (arith, long, place))
-
--- ---- the loop of `machine::take_bytes`
-
-next-number-le : (k : ℕ) → k ≤ max-place → next-number k ≤ max-place
-unfolding next-number
-next-number-le k h = go (bool-cases (eqb k 18446744073709551615))
-  where
-    go : (eqb k 18446744073709551615 ≡ true) ⊎ (eqb k 18446744073709551615 ≡ false) → cond (eqb k 18446744073709551615) k (k + 1) ≤ max-place
-    go (inl e) = rw e h
-    go (inr e) = rw e (below (trichotomy k 18446744073709551615) (eqb-false k 18446744073709551615 e))
-      where
-        below : (k < 18446744073709551615) ⊎ ((k ≡ 18446744073709551615) ⊎ (18446744073709551615 < k)) → (k ≡ 18446744073709551615 → ⊥) → k + 1 ≤ max-place
-        below (inl l) f = omega arith
-        below (inr (inl d)) f = absurd (f d)
-        below (inr (inr l)) f = absurd (omega arith)
-
-ends-number : (c : Bool) (n : ℕ) (line : List ℕ) (p : Spot) (text : List ℕ) (q : Spot) → p .number ≤ max-place → Line-ends c n line p text q
-    → q .number ≤ max-place
+ends-number : (c : Bool) (n : ℕ) (line : List ℕ) (p : Spot) (text : List ℕ) (q : Spot) → Line-ends c n line p text q
+    → q .number ≤ p .number + 1
 unfolding Line-ends
-ends-number true n line p text q k h = omega (arith, h .number, next-number-le (p .number) k)
-ends-number false n line p text q k h = omega (arith, h .number)
+ends-number true n line p text q h = omega (arith, h .number)
+ends-number false n line p text q h = omega (arith, h .number)
 
-step-number : (live full feed : Bool) (n b : ℕ) (p : Spot) (text : List ℕ) (q : Spot) → p .number ≤ max-place → Step live full feed n b p text q
-    → q .number ≤ max-place
+step-number : (live full feed : Bool) (n b : ℕ) (p : Spot) (text : List ℕ) (q : Spot) → Step live full feed n b p text q
+    → q .number ≤ p .number + 1
 unfolding Step
-step-number false full feed n b p text q k h = omega (arith, ap (λ (s : Spot). s .number) (h .same))
-step-number true true feed n b p text q k h = omega (arith, h .number)
-step-number true false false n b p text q k h = omega (arith, h .number)
-step-number true false true n b p text q k h = ends-number _ n _ p text q k h
+step-number false full feed n b p text q h = omega (arith, ap (λ (s : Spot). s .number) (h .same))
+step-number true true feed n b p text q h = omega (arith, h .number)
+step-number true false false n b p text q h = omega (arith, h .number)
+step-number true false true n b p text q h = ends-number _ n _ p text q h
 
--- a byte taken while the buffer is not full leaves at most this many waiting
-pub byte-room : (m n b : ℕ) (s r : Progress) (t v : Tables) (w x line rest out after : List ℕ) → s .number ≤ max-place → s .at < full
-    → Prints (λ text. Takes m n b (spot t w line s) text (spot v x rest r)) (lent out (s .at)) (lent after (r .at))
-    → (r .number ≤ max-place) × (r .at < full + longest)
-unfolding spot Takes
-byte-room m n b s r t v w x line rest out after k h p =
-    let long = takes-length m n b (spot t w line s) (p .text) (spot v x rest r) k (p .holds) in
-    let place : r .at ≡ min (s .at + length (p .text)) max-place = ap (λ (c : Buffer). c .at) (p .puts .is) ∙ at-put (lent out (s .at)) (p .text) (omega arith) in
-    (step-number _ _ _ n b (spot t w line s) (p .text) (spot v x rest r) k (p .holds), omega (arith, long, place))
+-- a byte ends one line at most
+pub takes-number : (m n b : ℕ) (p : Spot) (text : List ℕ) (q : Spot) → Takes m n b p text q → q .number ≤ p .number + 1
+unfolding Takes
+takes-number m n b p text q h = step-number _ _ _ n b p text q h
+
+-- bytes end as many lines at most as they are
+pub takes-all-number : (m n : ℕ) (bs : List ℕ) (p : Spot) (text : List ℕ) (q : Spot) → Takes-all m n bs p text q
+    → q .number ≤ p .number + length bs
+unfolding Takes-all
+takes-all-number m n [] p text q h = omega (arith, ap (λ (s : Spot). s .number) (h .same))
+takes-all-number m n (b ∷ bs) p text q h =
+    omega (arith, takes-number m n b p (h .first) (h .middle) (h .takes), takes-all-number m n bs (h .middle) (h .more) q (h .rest))
 
 -- ---- the closing lines
 

@@ -15,7 +15,7 @@ use Rattle.calls.specs.Replay.{line-feed, bad-line}
 use Rattle.script.specs.Lines.{line-of}
 use Rattle.player.specs.Lines.{is-call}
 use Rattle.player.specs.Play.{radios-of}
-use Rattle.player.specs.Machine.{Spot, next-number, Stopped, Held-on, Line-ends, Ignored, Step, line-room, Takes, Takes-all, closing, ending}
+use Rattle.player.specs.Machine.{Spot, Stopped, Held-on, Line-ends, Ignored, Step, line-room, Takes, Takes-all, closing, ending}
 use Rattle.player.specs.Whole.{lines-of, front, rest, Line-then, Line-by, Lines-print, start, Run-from, Run-prints}
 use Rattle.player.proofs.MachineLaws.{step-as}
 use Rattle.player.proofs.SplitLaws.{No-feed, no-feed-more, lines-before, lines-last, first-line, lines-ended, unended-no-call, long-no-call}
@@ -38,11 +38,11 @@ takes-dead m n (b ∷ bs) p q text l h =
     let dead : h .middle .live ≡ false = ap (λ (s : Spot). s .live) (none .same) ∙ l in
     ignored-more p (h .middle) q (h .first) (h .more) text none (h .whole) (takes-dead m n bs (h .middle) q (h .more) dead (h .rest))
 
-ending-dead : (p : Spot) → p .live ≡ false → ending p ≡ []
+pub ending-dead : (p : Spot) → p .live ≡ false → ending p ≡ []
 unfolding ending
 ending-dead p l = cond-false (p .live) (closing (p .held) (p .tables .numbers) (p .tables .order) (p .number)) [] l
 
-ending-live : (p : Spot) → p .live ≡ true → ending p ≡ closing (p .held) (p .tables .numbers) (p .tables .order) (p .number)
+pub ending-live : (p : Spot) → p .live ≡ true → ending p ≡ closing (p .held) (p .tables .numbers) (p .tables .order) (p .number)
 unfolding ending
 ending-live p l = cond-true (p .live) (closing (p .held) (p .tables .numbers) (p .tables .order) (p .number)) [] l
 
@@ -77,7 +77,7 @@ first-bad : (n : ℕ) (input l : List ℕ) (ls : List (List ℕ)) (k : ℕ) (t :
 unfolding Lines-print
 first-bad n input l ls k t w text e c h =
     subst (λ (x : List (List ℕ)). Lines-print n x k t w text) (sym e)
-    (line-bad n l k t w text (λ v x more. Lines-print n ls (next-number k) v x more) c h)
+    (line-bad n l k t w text (λ v x more. Lines-print n ls (k + 1) v x more) c h)
 
 -- ---- the end of the input
 
@@ -128,12 +128,12 @@ print-line n b bs p s q first more text false f e c stop after whole later =
     (lines-ended (p .held) b bs f e) c (stopped-whole n bs p s q first more text stop after whole)
 print-line n b bs p s q first more text true f e c taken after whole later =
     let empty : No-feed (s .held) = subst No-feed (sym (taken .held)) tt in
-    let others : Lines-print n (lines-of bs) (next-number (p .number)) (s .tables) (s .answer) (more ++ ending q)
+    let others : Lines-print n (lines-of bs) (p .number + 1) (s .tables) (s .answer) (more ++ ending q)
     = subst (λ (x : ℕ). Lines-print n (lines-of bs) x (s .tables) (s .answer) (more ++ ending q)) (taken .number)
     (subst (λ (x : List ℕ). Lines-print n (lines-of (x ++ bs)) (s .number) (s .tables) (s .answer) (more ++ ending q)) (taken .held) (later (taken .live) empty)) in
     subst (λ (x : List (List ℕ)). Lines-print n x (p .number) (p .tables) (p .answer) (text ++ ending q)) (sym (lines-ended (p .held) b bs f e))
     (line-good n (p .held ++ (line-feed ∷ [])) (p .number) (p .tables) (p .answer) (text ++ ending q)
-    (λ v x m. Lines-print n (lines-of bs) (next-number (p .number)) v x m) c
+    (λ v x m. Lines-print n (lines-of bs) (p .number + 1) v x m) c
     (record {
       after = s .tables;
       answer = s .answer;

@@ -1,6 +1,10 @@
 -- What the contracts of this crate cite: `Play` for the first line, `Lines` for what a line does, `Machine` for the bytes after
--- the first line. `Whole` for readers: what a whole run prints, line by line.
+-- the first line, `Reading` for reads and the printing buffer. For readers: `Whole`, what a whole run prints, line by line; `RunText`,
+-- the same, executable; `Texts`, whole inputs with what they print.
 pub mod Lines
 pub mod Machine
 pub mod Play
 pub mod Whole
+pub mod Reading
+pub mod RunText
+pub mod Texts

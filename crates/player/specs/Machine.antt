@@ -1,7 +1,6 @@
 -- The lines after the first, taken byte by byte.
 --   Spot               where a run stands: tables, answer table, the line's number, its bytes so far, whether the run goes on
 --   spot t w line s    the spot of the code's tables, line buffer and progress
---   next-number k      the number of the line after k
 --   Stop-put           `bad L` is put, as the code does it
 --   Stopped, Held-on, Line-taken, Ignored   the four things that a byte can do
 --   Takes m n byte p text q      a byte takes the spot p to q and prints the text; a line has room for m bytes
@@ -20,7 +19,7 @@ use lib.ListN.{length, take}
 use Rattle.mesh.specs.Tables.{Tables}
 use Rattle.calls.specs.Replay.{line-feed, bad-line, closing-lines}
 use Rattle.script.specs.Lines.{line-of}
-use Rattle.printing.specs.Print.{lent, Puts}
+use Rattle.printing.specs.Print.{buffer, Puts}
 use Rattle.player.specs.Lines.{is-call, Played}
 use Rattle.player.specs.declared.machine.Progress.{Progress}
 
@@ -37,13 +36,9 @@ unfoldable pub spot : Tables → (answer line : List ℕ) → Progress → Spot
 spot t w line s =
     record { tables = t; answer = w; number = s .number; held = take (s .held) line; live = s .live }
 
--- lines are counted from 1; counting stops at the largest 64-bit number
-unfoldable pub next-number : ℕ → ℕ
-next-number k = cond (eqb k 18446744073709551615) k (k + 1)
-
 -- the code's progress s with the printing buffer b becomes r with c: `bad L` is put, and the run is over
 pub record Stop-put (s : Progress) (b : List ℕ) (r : Progress) (c : List ℕ) : Type 0 where
-  pub puts : Puts (lent b (s .at)) (bad-line (s .number)) (lent c (r .at))
+  pub puts : Puts (buffer b (s .at)) (bad-line (s .number)) (buffer c (r .at))
   pub number : r .number ≡ s .number
   pub held : r .held ≡ 0
   pub live : r .live ≡ false
@@ -71,7 +66,7 @@ pub record Held-on (byte : ℕ) (p : Spot) (text : List ℕ) (q : Spot) : Type 0
 -- a link call is played, and the next line starts
 pub record Line-taken (n : ℕ) (line : List ℕ) (p : Spot) (text : List ℕ) (q : Spot) : Type 0 where
   pub played : Played n (line-of line) (p .tables) (p .answer) text (q .tables) (q .answer)
-  pub number : q .number ≡ next-number (p .number)
+  pub number : q .number ≡ p .number + 1
   pub held : q .held ≡ []
   pub live : q .live ≡ true
 

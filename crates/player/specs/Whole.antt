@@ -8,7 +8,7 @@
 use mathlib.Core.Path.{_≡_}
 use mathlib.Core.Bool.{Bool, true, false, cond}
 use mathlib.Core.List.{List, [], _∷_, _++_}
-use Prim.Native.Nat.{ℕ, zero, suc, _*_}
+use Prim.Native.Nat.{ℕ, zero, suc, _+_, _*_}
 use lib.Dec.{eqb}
 use lib.ListN.{replicate}
 use Rattle.mesh.specs.Limits.{row-bytes}
@@ -17,7 +17,7 @@ use Rattle.mesh.specs.Tables.{Tables, tables}
 use Rattle.calls.specs.Replay.{line-feed, bad-line, closing-lines}
 use Rattle.script.specs.Lines.{line-of}
 use Rattle.player.specs.Lines.{is-call, Played}
-use Rattle.player.specs.Machine.{Spot, next-number}
+use Rattle.player.specs.Machine.{Spot}
 use Rattle.player.specs.Play.{radios-of}
 
 -- ---- lines
@@ -63,11 +63,11 @@ unfoldable pub Line-by : (call : Bool) → (n : ℕ) → (line : List ℕ) → (
 Line-by true n l k t w text R = Line-then n l t w text R
 Line-by false n l k t w text R = text ≡ bad-line k
 
--- the lines from number k on, on a site of n radios with tables t and answer table w
+-- the lines from number k on, counted without end, on a site of n radios with tables t and answer table w
 unfoldable pub Lines-print : (n : ℕ) → List (List ℕ) → (k : ℕ) → Tables → (w text : List ℕ) → Type 0
 Lines-print n [] k t w text = text ≡ closing-lines (t .numbers) (t .order)
 Lines-print n (l ∷ ls) k t w text =
-    Line-by (is-call (line-of l)) n l k t w text (λ v x more. Lines-print n ls (next-number k) v x more)
+    Line-by (is-call (line-of l)) n l k t w text (λ v x more. Lines-print n ls (k + 1) v x more)
 
 -- a cleared site
 unfoldable pub cleared : (n : ℕ) → Tables

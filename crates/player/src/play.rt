@@ -1,9 +1,8 @@
 // One line after the first, played on the site's tables.
 ghost use mathlib.Core.Path.{_≡_};
 ghost use mathlib.Core.Bool.{true, false};
-ghost use Rattle.mesh.specs.Tables.{lent};
 ghost use Rattle.script.specs.Lines.{line-of};
-ghost use Rattle.printing.specs.Print.{lent};
+ghost use Rattle.printing.specs.Print.{buffer};
 ghost use Rattle.player.specs.Lines.{is-call, Called, Played, Prints};
 use script::lines::Line;
 
@@ -25,11 +24,10 @@ fn play_up(
     out: &mut [u8],
     at: usize,
 ) -> usize
-    ensures { λ r. ⌜
-        Prints (λ text. Called true n a b (lent (links .entry) (numbers .entry) (order .entry)) (now (answer .entry)) text
-        (lent (links .exit) (numbers .exit) (order .exit)) (now (answer .exit))) (lent (now (out .entry)) at) (lent
-        (now (out .exit)) r)
-        ⌝ }
+    ensures { λ r. ⌜ Prints (λ text. Called true n a b
+        (buffer (links .entry) (numbers .entry) (order .entry)) (now (answer .entry)) text
+        (buffer (links .exit) (numbers .exit) (order .exit)) (now (answer .exit)))
+        (buffer (now (out .entry)) at) (buffer (now (out .exit)) r) ⌝ }
 {
     let reply = links::link::link_up(n, a, b, links, numbers, order, answer);
     printing::put_link_line(out, at, reply.number, reply.step, answer, reply.count)
@@ -47,11 +45,10 @@ fn play_down(
     out: &mut [u8],
     at: usize,
 ) -> usize
-    ensures { λ r. ⌜
-        Prints (λ text. Called false n a b (lent (links .entry) (numbers .entry) (order .entry)) (now (answer .entry)) text
-        (lent (links .exit) (numbers .exit) (order .exit)) (now (answer .exit))) (lent (now (out .entry)) at) (lent
-        (now (out .exit)) r)
-        ⌝ }
+    ensures { λ r. ⌜ Prints (λ text. Called false n a b
+        (buffer (links .entry) (numbers .entry) (order .entry)) (now (answer .entry)) text
+        (buffer (links .exit) (numbers .exit) (order .exit)) (now (answer .exit)))
+        (buffer (now (out .entry)) at) (buffer (now (out .exit)) r) ⌝ }
 {
     let reply = links::link::link_down(n, a, b, links, numbers, order, answer);
     printing::put_link_line(out, at, reply.number, reply.step, answer, reply.count)
@@ -69,11 +66,10 @@ pub fn play_line(
     at: usize,
 ) -> Done
     ensures call { λ r. ⌜ r .ok ≡ is-call (line-of (now (line .entry))) ⌝ }
-    ensures played { λ r. ⌜
-        Prints (λ text. Played n (line-of (now (line .entry))) (lent (links .entry) (numbers .entry) (order .entry))
-        (now (answer .entry)) text (lent (links .exit) (numbers .exit) (order .exit)) (now (answer .exit))) (lent
-        (now (out .entry)) at) (lent (now (out .exit)) (r .at))
-        ⌝ }
+    ensures played { λ r. ⌜ Prints (λ text. Played n (line-of (now (line .entry)))
+        (buffer (links .entry) (numbers .entry) (order .entry)) (now (answer .entry)) text
+        (buffer (links .exit) (numbers .exit) (order .exit)) (now (answer .exit)))
+        (buffer (now (out .entry)) at) (buffer (now (out .exit)) (r .at)) ⌝ }
 {
     match script::lines::parse(line) {
         Line::Up(a, b) => {

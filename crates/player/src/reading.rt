@@ -1,12 +1,16 @@
-// The lines after the first: read by chunks, taken, and written through a buffer.
+// The lines after the first: read by chunks, taken, and written through a buffer. A contract that cites `Reading` says what is taken
+// from the bytes that a read brought, and what of it was handed to a write; that reads and writes hand them on is executed.
 ghost use mathlib.Core.Path.{_≡_};
-ghost use mathlib.Core.Bool.{true, false};
-ghost use Prim.Native.Nat.{_+_, _<_, _≤_};
+ghost use mathlib.Core.Bool.{true};
+ghost use Prim.Native.Nat.{_<_};
 ghost use lib.ListN.{length};
-ghost use Rattle.player.specs.Machine.{line-room, full, closing-longest};
+ghost use Rattle.io.specs.Counts.{Counts};
+ghost use Rattle.mesh.specs.Tables.{tables};
+ghost use Rattle.printing.specs.Print.{buffer};
+ghost use Rattle.player.specs.Machine.{spot, line-room, full};
+ghost use Rattle.player.specs.Reading.{chunk-room, out-room, room-made, Ready, Site-cleared, Site-sized, Takes-chunk, Takes-read, Reads-once, Reads-all};
 use super::machine;
 use super::machine::Progress;
-use super::machine::Taken;
 use libc::STDOUT_FILENO;
 
 // The longest line of the language: `down 65535 65535` and its line feed.
@@ -14,6 +18,9 @@ const LINE_BYTES: usize = 17;
 
 // The printing buffer: once it is full, a line more or the closing lines still fit.
 const OUT_BYTES: usize = 16384;
+
+// The reads that a run has: more than any input uses up, and few enough that no line's number passes 64 bits.
+const READS: u64 = 1 << 51;
 
 // Writes what waits in the printing buffer.
 fn flush(out: &[u8], at: usize) {
@@ -26,7 +33,7 @@ fn flush(out: &[u8], at: usize) {
 
 // Writes what waits, where the buffer is full.
 fn make_room(s: Progress, out: &[u8]) -> Progress
-    ensures { λ r. ⌜ (r .at < full) × (r .live ≡ s .live) ⌝ }
+    ensures { λ r. ⌜ r ≡ room-made s ⌝ }
 {
     if s.at < machine::FULL {
         return s;
@@ -40,34 +47,7 @@ fn make_room(s: Progress, out: &[u8]) -> Progress
     }
 }
 
-// Bytes of a chunk from place `from` on, as many as fit the printing buffer, which has room again after.
-fn take_part(
-    s: Progress,
-    chunk: &[u8],
-    from: usize,
-    n: u32,
-    line: &mut [u8],
-    links: &mut [u8],
-    numbers: &mut [u8],
-    order: &mut [u16],
-    answer: &mut [u16],
-    out: &mut [u8],
-) -> Taken
-    requires { ⌜ s .at < full ⌝ }
-    ensures { λ r. ⌜ r .progress .at < full ⌝ }
-    ensures { λ r. ⌜ (s .live ≡ true → from < length (now (chunk .entry)) → from < r .next) ⌝ }
-{
-    let taken = machine::take_bytes(s, chunk, from, n, line, links, numbers, order, answer, out);
-    let next = taken.next;
-    let progress = taken.progress;
-    let roomy = make_room(progress, out);
-    Taken {
-        progress: roomy,
-        next,
-    }
-}
-
-// All bytes of a chunk, until the run ends.
+// All bytes of a chunk.
 fn take_chunk(
     s: Progress,
     chunk: &[u8],
@@ -79,39 +59,66 @@ fn take_chunk(
     answer: &mut [u16],
     out: &mut [u8],
 ) -> Progress
-    requires { ⌜ s .at < full ⌝ }
-    ensures { λ r. ⌜ r .at < full ⌝ }
+    requires { ⌜ Ready (length (now chunk)) s (now out) ⌝ }
+    ensures room { λ r. ⌜ r .at < full ⌝ }
+    ensures taken { λ r. ⌜ Takes-chunk (length (now (line .entry))) n (now (chunk .entry))
+        (spot (buffer (links .entry) (numbers .entry) (order .entry)) (now (answer .entry)) (now (line .entry)) s)
+        (buffer (now (out .entry)) (s .at))
+        (spot (buffer (links .exit) (numbers .exit) (order .exit)) (now (answer .exit)) (now (line .exit)) r)
+        (buffer (now (out .exit)) (r .at)) ⌝ }
 {
     let mut s = s;
-    let mut next: usize = 0;
-    while next < chunk.len() {
-        if !s.live {
-            break;
-        }
-        let taken = take_part(s, chunk, next, n, line, links, numbers, order, answer, out);
-        next = taken.next;
-        let progress = taken.progress;
-        s = progress;
+    let mut i = 0;
+    while i < chunk.len() {
+        let byte = chunk[i];
+        i += 1;
+        let taken = machine::take_byte(s, byte, n, line, links, numbers, order, answer, out);
+        s = make_room(taken, out);
     }
     s
 }
 
-// The end of the input.
-fn end(s: Progress, line: &[u8], numbers: &[u8], order: &[u16], out: &mut [u8]) -> Progress
-    ensures { λ r. ⌜ r .live ≡ false ⌝ }
+// One read, of at most `most` bytes, into the front of a chunk: how many bytes it brought, 0 at the end of the input.
+fn read_chunk(fd: i32, most: usize, chunk: &mut [u8]) -> usize
+    ensures { λ r. ⌜ Counts r (now (chunk .exit)) ⌝ }
 {
-    let at = machine::finish(s, line, numbers, order, out);
-    Progress {
-        number: s.number,
-        held: 0,
-        at,
-        live: false,
+    let size = tables::fill::least(most, chunk.len());
+    let got = libc::read(fd, &mut chunk[..size]);
+    io::count(got, chunk)
+}
+
+// What a read brought: no byte at the end of the input.
+fn take_read(
+    s: Progress,
+    chunk: &[u8],
+    n: u32,
+    line: &mut [u8],
+    links: &mut [u8],
+    numbers: &mut [u8],
+    order: &mut [u16],
+    answer: &mut [u16],
+    out: &mut [u8],
+) -> Progress
+    requires live { ⌜ s .live ≡ true ⌝ }
+    requires ready { ⌜ Ready (length (now chunk)) s (now out) ⌝ }
+    requires sized { ⌜ Site-sized (now numbers) (now order) ⌝ }
+    ensures room { λ r. ⌜ (r .live ≡ true → r .at < full) ⌝ }
+    ensures taken { λ r. ⌜ Takes-read (length (now (line .entry))) n (now (chunk .entry))
+        (spot (buffer (links .entry) (numbers .entry) (order .entry)) (now (answer .entry)) (now (line .entry)) s)
+        (buffer (now (out .entry)) (s .at))
+        (spot (buffer (links .exit) (numbers .exit) (order .exit)) (now (answer .exit)) (now (line .exit)) r)
+        (buffer (now (out .exit)) (r .at)) ⌝ }
+{
+    if chunk.len() == 0 {
+        return machine::end(s, line, numbers, order, out);
     }
+    take_chunk(s, chunk, n, line, links, numbers, order, answer, out)
 }
 
 // One read, and what it brings.
 fn turn(
     fd: i32,
+    most: usize,
     s: Progress,
     n: u32,
     line: &mut [u8],
@@ -121,16 +128,19 @@ fn turn(
     answer: &mut [u16],
     out: &mut [u8],
 ) -> Progress
-    requires { ⌜ s .at < full ⌝ }
-    ensures { λ r. ⌜ (r .live ≡ true → r .at < full) ⌝ }
+    requires live { ⌜ s .live ≡ true ⌝ }
+    requires ready { ⌜ Ready chunk-room s (now out) ⌝ }
+    requires sized { ⌜ Site-sized (now numbers) (now order) ⌝ }
+    ensures room { λ r. ⌜ (r .live ≡ true → r .at < full) ⌝ }
+    ensures read { λ r. ⌜ Reads-once (length (now (line .entry))) n
+        (spot (buffer (links .entry) (numbers .entry) (order .entry)) (now (answer .entry)) (now (line .entry)) s)
+        (buffer (now (out .entry)) (s .at))
+        (spot (buffer (links .exit) (numbers .exit) (order .exit)) (now (answer .exit)) (now (line .exit)) r)
+        (buffer (now (out .exit)) (r .at)) ⌝ }
 {
     let mut chunk = io::buffer();
-    let got = libc::read(fd, &mut chunk);
-    if got <= 0 {
-        return end(s, line, numbers, order, out);
-    }
-    let count = io::count(got, &chunk);
-    take_chunk(
+    let count = read_chunk(fd, most, &mut chunk);
+    take_read(
         s,
         &chunk[..count],
         n,
@@ -143,10 +153,11 @@ fn turn(
     )
 }
 
-// Reads to the end of the input. A line has its room, and a full printing buffer has room for the longest text. The loop counts
-// its turns down, from a number that no run uses up.
+// Reads to the end of the input. A line has its room, and a full printing buffer has room for the longest text. The loop counts its
+// reads down, from a number that no run uses up.
 fn read_turns(
     fd: i32,
+    most: usize,
     n: u32,
     line: &mut [u8],
     links: &mut [u8],
@@ -156,7 +167,9 @@ fn read_turns(
     out: &mut [u8],
 ) -> usize
     requires line { ⌜ length (now line) ≡ line-room ⌝ }
-    requires out { ⌜ full + closing-longest ≤ length (now out) ⌝ }
+    requires out { ⌜ length (now out) ≡ out-room ⌝ }
+    requires start { ⌜ Site-cleared n (tables (now links) (now numbers) (now order)) (now answer) ⌝ }
+    ensures { λ r. ⌜ Reads-all n (buffer (now (out .entry)) 0) (buffer (now (out .exit)) r) ⌝ }
 {
     let mut s = Progress {
         number: 2,
@@ -164,29 +177,42 @@ fn read_turns(
         at: 0,
         live: true,
     };
-    let mut turns = u64::MAX;
-    while turns > 0 {
+    let mut reads = READS;
+    while reads > 0 {
         if !s.live {
             break;
         }
-        turns -= 1;
-        s = turn(fd, s, n, line, links, numbers, order, answer, out);
+        reads -= 1;
+        s = turn(fd, most, s, n, line, links, numbers, order, answer, out);
     }
     s.at
 }
 
 // Plays all lines from the second on, and prints.
-pub fn read_all(
+pub(crate) fn read_all(
     fd: i32,
+    most: usize,
     n: u32,
     links: &mut [u8],
     numbers: &mut [u8],
     order: &mut [u16],
     answer: &mut [u16],
-) {
+)
+    requires { ⌜ Site-cleared n (tables (now links) (now numbers) (now order)) (now answer) ⌝ }
+{
     let mut line = [0u8; LINE_BYTES];
     let mut out = [0u8; OUT_BYTES];
-    let at = read_turns(fd, n, &mut line, links, numbers, order, answer, &mut out);
+    let at = read_turns(
+        fd,
+        most,
+        n,
+        &mut line,
+        links,
+        numbers,
+        order,
+        answer,
+        &mut out,
+    );
     flush(&out, at);
 }
 

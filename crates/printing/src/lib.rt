@@ -7,11 +7,11 @@ ghost use lib.IntN.{natAbs};
 ghost use lib.ListN.{take};
 ghost use Prim.Native.Nat.{_<_};
 ghost use Rattle.calls.specs.Replay.{space, digit-byte, decimal, step-text, further-fields, link-line, numbers-line, order-line, bad-line};
-ghost use Rattle.printing.specs.Print.{lent, Puts};
+ghost use Rattle.printing.specs.Print.{buffer, Puts};
 
 // Puts one byte.
 pub fn put_byte(buffer: &mut [u8], at: usize, byte: u8) -> usize
-    ensures { λ r. ⌜ Puts (lent (now (buffer .entry)) at) (byte ∷ []) (lent (now (buffer .exit)) r) ⌝ }
+    ensures { λ r. ⌜ Puts (buffer (now (buffer .entry)) at) (byte ∷ []) (buffer (now (buffer .exit)) r) ⌝ }
 {
     if at < buffer.len() {
         buffer[at] = byte;
@@ -25,7 +25,7 @@ pub fn put_byte(buffer: &mut [u8], at: usize, byte: u8) -> usize
 
 // Puts the bytes of a text.
 pub fn put_text(buffer: &mut [u8], at: usize, text: &[u8]) -> usize
-    ensures { λ r. ⌜ Puts (lent (now (buffer .entry)) at) (now (text .entry)) (lent (now (buffer .exit)) r) ⌝ }
+    ensures { λ r. ⌜ Puts (buffer (now (buffer .entry)) at) (now (text .entry)) (buffer (now (buffer .exit)) r) ⌝ }
 {
     let mut place = at;
     let mut i = 0;
@@ -46,7 +46,7 @@ fn digit_byte(digit: u64) -> u8
 
 // Puts x in decimal: the digits before the last, then the last.
 pub fn put_decimal(buffer: &mut [u8], at: usize, x: u64) -> usize
-    ensures { λ r. ⌜ Puts (lent (now (buffer .entry)) at) (decimal x) (lent (now (buffer .exit)) r) ⌝ }
+    ensures { λ r. ⌜ Puts (buffer (now (buffer .entry)) at) (decimal x) (buffer (now (buffer .exit)) r) ⌝ }
 {
     if x < 10 {
         return put_byte(buffer, at, digit_byte(x));
@@ -67,7 +67,7 @@ fn step_size(step: i8) -> u64
 
 // Puts a step: its sign and its size, or 0.
 pub fn put_step(buffer: &mut [u8], at: usize, step: i8) -> usize
-    ensures { λ r. ⌜ Puts (lent (now (buffer .entry)) at) (step-text step) (lent (now (buffer .exit)) r) ⌝ }
+    ensures { λ r. ⌜ Puts (buffer (now (buffer .entry)) at) (step-text step) (buffer (now (buffer .exit)) r) ⌝ }
 {
     let size = step_size(step);
     if step < 0 {
@@ -83,7 +83,7 @@ pub fn put_step(buffer: &mut [u8], at: usize, step: i8) -> usize
 
 // Puts a further field of a line: a space and a number.
 fn put_field(buffer: &mut [u8], at: usize, x: u64) -> usize
-    ensures { λ r. ⌜ Puts (lent (now (buffer .entry)) at) (space ∷ decimal x) (lent (now (buffer .exit)) r) ⌝ }
+    ensures { λ r. ⌜ Puts (buffer (now (buffer .entry)) at) (space ∷ decimal x) (buffer (now (buffer .exit)) r) ⌝ }
 {
     let place = put_byte(buffer, at, b' ');
     put_decimal(buffer, place, x)
@@ -106,8 +106,8 @@ fn wide16(x: u16) -> u64
 // Puts the rest of a line: a further field for each number, and the line feed.
 fn put_numbers(buffer: &mut [u8], at: usize, numbers: &[u8]) -> usize
     ensures { λ r. ⌜
-        Puts (lent (now (buffer .entry)) at) (further-fields (map decimal (now (numbers .entry))))
-        (lent (now (buffer .exit)) r)
+        Puts (buffer (now (buffer .entry)) at) (further-fields (map decimal (now (numbers .entry))))
+        (buffer (now (buffer .exit)) r)
         ⌝ }
 {
     let mut place = at;
@@ -122,8 +122,8 @@ fn put_numbers(buffer: &mut [u8], at: usize, numbers: &[u8]) -> usize
 // The same for radios.
 fn put_radios(buffer: &mut [u8], at: usize, radios: &[u16]) -> usize
     ensures { λ r. ⌜
-        Puts (lent (now (buffer .entry)) at) (further-fields (map decimal (now (radios .entry))))
-        (lent (now (buffer .exit)) r)
+        Puts (buffer (now (buffer .entry)) at) (further-fields (map decimal (now (radios .entry))))
+        (buffer (now (buffer .exit)) r)
         ⌝ }
 {
     let mut place = at;
@@ -145,8 +145,8 @@ pub fn put_link_line(
     count: u32,
 ) -> usize
     ensures { λ r. ⌜
-        Puts (lent (now (buffer .entry)) at) (link-line number step (take count (now (changed .entry))))
-        (lent (now (buffer .exit)) r)
+        Puts (buffer (now (buffer .entry)) at) (link-line number step (take count (now (changed .entry))))
+        (buffer (now (buffer .exit)) r)
         ⌝ }
 {
     let after_number = put_decimal(buffer, at, number as u64);
@@ -161,7 +161,7 @@ pub fn put_link_line(
 
 // Puts the closing line of the numbers, by radio.
 pub fn put_numbers_line(buffer: &mut [u8], at: usize, numbers: &[u8]) -> usize
-    ensures { λ r. ⌜ Puts (lent (now (buffer .entry)) at) (numbers-line (now (numbers .entry))) (lent (now (buffer .exit)) r) ⌝ }
+    ensures { λ r. ⌜ Puts (buffer (now (buffer .entry)) at) (numbers-line (now (numbers .entry))) (buffer (now (buffer .exit)) r) ⌝ }
 {
     let place = put_text(buffer, at, b"numbers");
     put_numbers(buffer, place, numbers)
@@ -169,7 +169,7 @@ pub fn put_numbers_line(buffer: &mut [u8], at: usize, numbers: &[u8]) -> usize
 
 // Puts the closing line of the order.
 pub fn put_order_line(buffer: &mut [u8], at: usize, order: &[u16]) -> usize
-    ensures { λ r. ⌜ Puts (lent (now (buffer .entry)) at) (order-line (now (order .entry))) (lent (now (buffer .exit)) r) ⌝ }
+    ensures { λ r. ⌜ Puts (buffer (now (buffer .entry)) at) (order-line (now (order .entry))) (buffer (now (buffer .exit)) r) ⌝ }
 {
     let place = put_text(buffer, at, b"order");
     put_radios(buffer, place, order)
@@ -177,7 +177,7 @@ pub fn put_order_line(buffer: &mut [u8], at: usize, order: &[u16]) -> usize
 
 // Puts what ends the run at a line of another form: lines are counted from 1.
 pub fn put_bad_line(buffer: &mut [u8], at: usize, line: u64) -> usize
-    ensures { λ r. ⌜ Puts (lent (now (buffer .entry)) at) (bad-line line) (lent (now (buffer .exit)) r) ⌝ }
+    ensures { λ r. ⌜ Puts (buffer (now (buffer .entry)) at) (bad-line line) (buffer (now (buffer .exit)) r) ⌝ }
 {
     let after_word = put_text(buffer, at, b"bad");
     let after_line = put_field(buffer, after_word, line);

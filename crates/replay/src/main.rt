@@ -1,4 +1,4 @@
 // The replay program: plays standard input.
 fn main() {
-    player::run(0);
+    player::run(0, usize::MAX);
 }

@@ -1,9 +1,9 @@
-// The replay program on each script of data/, in turn: the script's name, then what is printed. Scripts and expected output are
-// made by oracle/scripts.py.
+// The replay program on each script of data/, in turn: the script's name, then what is printed. The canary is M1's script with
+// another last call: each kind of printed line must differ from M1's. Scripts and expected output are made by oracle/scripts.py.
 use libc::STDOUT_FILENO;
 
-// Plays one script.
-fn case(path: &[u8]) {
+// Plays one script, of which a read asks for at most `most` bytes.
+fn play(path: &[u8], most: usize) {
     let fd = os::open_read(path);
     if fd < 0 {
         os::fail(path);
@@ -11,8 +11,13 @@ fn case(path: &[u8]) {
     }
     io::write_all(STDOUT_FILENO, path);
     io::write_all(STDOUT_FILENO, b"\n");
-    player::run(fd);
+    player::run(fd, most);
     libc::close(fd);
+}
+
+// Plays one script by reads of all that the player has room for.
+fn case(path: &[u8]) {
+    play(path, usize::MAX);
 }
 
 // Document 01's cases, refusals, and sites of all sizes.
@@ -48,6 +53,8 @@ fn first_lines() {
     case(b"radios-space-at-the-front");
     case(b"radios-carriage-return");
     case(b"radios-byte-255");
+    case(b"radios-255-in-front");
+    case(b"radios-255-for-line-feed");
 }
 
 // Later lines of another form.
@@ -74,8 +81,33 @@ fn later_lines() {
     case(b"byte-255");
 }
 
+// More than one read and one write.
+fn long_runs() {
+    case(b"bad-late");
+    case(b"output-4095");
+    case(b"output-4096");
+    case(b"output-4097");
+    case(b"input-4096");
+}
+
+// Each read brings one byte of the 4,096 that it has room for.
+fn by_bytes() {
+    play(b"m1", 1);
+    play(b"refusals", 1);
+    play(b"clique-33", 1);
+    play(b"radios-very-long", 1);
+    play(b"unterminated", 1);
+    play(b"very-long", 1);
+    play(b"byte-255", 1);
+    play(b"bad-late", 1);
+    play(b"output-4096", 1);
+}
+
 fn main() {
     sites();
     first_lines();
     later_lines();
+    long_runs();
+    case(b"canary");
+    by_bytes();
 }

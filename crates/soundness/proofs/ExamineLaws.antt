@@ -9,7 +9,7 @@ use mir.Val.{boolByte}
 use lib.Dec.{eqb}
 use lib.ListN.{length, getD}
 use Rattle.mesh.specs.Limits.{max-radios, max-neighbours}
-use Rattle.lists.specs.Lists.{range, all, Each-once}
+use Rattle.lists.specs.Lists.{range, all, Each-once, Entries-below}
 use Rattle.mesh.specs.Orders.{each-once, rising}
 use Rattle.mesh.specs.Tables.{Tables}
 use Rattle.mesh.specs.Sound.{rows-proper, number-in, sound, sound-within}
@@ -22,7 +22,7 @@ use Rattle.calls.proofs.ContractLaws.{by-accepted, by-refused}
 use Rattle.calls.proofs.ChainLaws.{lent-zero}
 use Rattle.calls.proofs.QuestionLaws.{true-size-good, true-site-lengths, true-answer-length, size-good-true, Site-lengths, site-lengths-true}
 use Rattle.calls.proofs.QuestionLaws.{answer-length-true}
-use Rattle.soundness.specs.Checks.{Entries-below, Placed, Placing, row-good, Rows-room, Rows-checked, examinable, Examined, fits-sound}
+use Rattle.soundness.specs.Checks.{Placed, Placing, row-good, Rows-room, Rows-checked, examinable, Examined, fits-sound}
 use Rattle.lists.proofs.Member.{in-getD}
 use Rattle.soundness.proofs.CheckLaws.{sound-rows}
 

@@ -1,6 +1,7 @@
 -- The promises about the exported calls.
-pub mod Ties
--- demand 3, undivided
-pub mod WholeList
+-- the calls, each with its contract
+pub mod Calls
+-- a call that meets its triple returns at the machine
+pub mod Returns
 -- all promises
 pub mod Promises

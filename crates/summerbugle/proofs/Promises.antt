@@ -1,161 +1,393 @@
--- The promises of the engine, as theorems about the exported calls. `promises` is all of them.
--- That each exported call's real contract IS the predicate named here, and that it requires nothing, are the `..-says` and `..-asks`
--- of `WholeList` (clearing, link up, link down, image reading) and `Ties` (the others).
---   Property-1   every exported call meets its contract for every input: it returns, and refuses by number; a contract decides the
---                result and every lent byte (`..-decided`), a refusal's zeros and kept tables among them
---   Property-2   numbers are core numbers and orders are k-orders after link calls; connected cores, shell tree and images follow
---                their definitions
---   Whole-list   property 3: demand 3, undivided
-use mathlib.Core.Path.{_≡_}
-use mathlib.Core.Logic.{_↔_}
-use mathlib.Core.Bool.{Bool, true}
-use mathlib.Core.List.{List}
-use Prim.Native.Nat.{ℕ}
-use lib.ListN.{take}
-use Rattle.lists.specs.Lists.{member}
-use Rattle.mesh.specs.Graph.{relinked}
+-- The promises of the engine: one statement, `Promises`, and its proof, `promises`. Whoever reads the statement and the definitions
+-- that it cites (specs/ of mesh, calls, image and of this crate, and the table of calls in Calls.antt) need read no proof.
+--   Property-1       every public call returns for every input, checks its tables itself, and refuses by number
+--     Calls-promised   each call meets its contract: the whole triple, in which nothing is required
+--     Calls-return     at the machine: from every memory that lends what the signature says, the call returns, and what it returns
+--                      and leaves meets the contract
+--     Refusals         a call whose number is not 0 has zeros beside it, and every lent table keeps its content
+--     Outcomes         for every input a contract has exactly one outcome: the one worked out in calls/specs/Outcomes.antt
+--     Tables-left      what is lent by shared reference is left as it was
+--   Property-2       numbers are core numbers by the largest group and orders are k-orders; connected cores, backbone, shell tree and
+--                    images follow their definitions
+--   Property-3       demand 3, undivided, over the contracts that the exported calls meet
+use mathlib.Core.Path.{_≡_, refl}
+use mathlib.Core.Logic.{_↔_, _⊎_}
+use mathlib.Core.Bool.{Bool, true, false}
+use mathlib.Core.List.{List, [], _∷_, _++_}
+use Prim.Native.Nat.{ℕ, _<_}
+use lib.ListN.{length, take}
+use Rattle.lists.specs.Lists.{member, Entries-below}
+use Rattle.mesh.specs.Graph.{Link, Graph, graph}
+use Rattle.mesh.specs.Cores.{Core, number}
 use Rattle.mesh.specs.Tables.{Tables, graph-in}
-use Rattle.mesh.specs.Connected.{In-core}
-use Rattle.mesh.specs.Image.{is-image}
+use Rattle.mesh.specs.Image.{whole-blocks, checks-good, Tables-image}
 use Rattle.mesh.specs.declared.Node.{Node}
-use Rattle.mesh.proofs.Images.Tables.{Tables-of-size}
-use Rattle.calls.specs.Questions.{lengths-of}
-use Rattle.calls.specs.Writes.{Clear-contract, Link-contract, Read-contract}
-use Rattle.calls.specs.Answers.{Check-contract, Number-contract, Neighbours-contract, Linked-contract, First-contract, Core-contract, Backbone-contract}
-use Rattle.calls.specs.Answers.{Tree-contract, Write-contract, Block-contract}
+use Rattle.calls.specs.Questions.{lengths-of, size-good, site-lengths}
+use Rattle.calls.specs.Writes.{Tables-refused, Clear-contract, Link-refused, Link-contract, Read-contract}
+use Rattle.calls.specs.Answers.{Value-refused, Check-contract, Number-contract, Neighbours-contract, Linked-contract, First-contract, Listing-refused}
+use Rattle.calls.specs.Answers.{Core-contract, Backbone-contract, Write-contract, Tree-refused, Tree-contract, Block-none, Block-contract}
+use Rattle.calls.specs.Outcomes.{clear-outcome, read-outcome, link-outcome, check-outcome, number-outcome, neighbours-outcome, linked-outcome, first-outcome}
+use Rattle.calls.specs.Outcomes.{core-outcome, backbone-outcome, tree-outcome, write-outcome, block-outcome}
+use Rattle.calls.specs.Results.{Site-right, Link-right, Core-listed, Backbone-listed, Tree-listed, Written-right, Read-right, Block-part, Block-end}
+use Rattle.calls.specs.Book.{Call, clearing, reading, linking, Answer, plain, book-after}
+use Rattle.calls.specs.Runs.{answer-of, Does, Event, event, Run, givens, called}
+use Rattle.calls.specs.Demand.{Start, Demand-3}
 use Rattle.calls.specs.declared.Reply.{Reply}
 use Rattle.calls.specs.declared.Value.{Value}
-use Rattle.calls.proofs.Outcomes.{Decides, clear-decided, link-decided, read-decided, check-decided, number-decided, neighbours-decided, linked-decided}
-use Rattle.calls.proofs.Outcomes.{first-decided, core-decided, backbone-decided, tree-decided, write-decided, block-decided}
-use Rattle.calls.proofs.Accepted.{Numbers-right, link-right, core-right, Tree-listed, tree-right-listed, write-right, Read-right, read-right}
-use Rattle.calls.proofs.Accepted.{read-what-was-written}
-use Rattle.summerbugle.proofs.Ties.{check-met, number-met, neighbours-met, linked-met, first-met, core-met, backbone-met, tree-met, image-write-met}
-use Rattle.summerbugle.proofs.Ties.{image-block-met}
-use Rattle.summerbugle.proofs.WholeList.{clear-met, link-up-met, link-down-met, image-read-met, Whole-list, whole-list}
-use Rattle.summerbugle.proofs.sb_clear.Statement as clear-statement
-use Rattle.summerbugle.proofs.sb_link_up.Statement as link-up-statement
-use Rattle.summerbugle.proofs.sb_link_down.Statement as link-down-statement
-use Rattle.summerbugle.proofs.sb_image_read.Statement as image-read-statement
-use Rattle.summerbugle.proofs.sb_check.Statement as check-statement
-use Rattle.summerbugle.proofs.sb_number.Statement as number-statement
-use Rattle.summerbugle.proofs.sb_neighbours.Statement as neighbours-statement
-use Rattle.summerbugle.proofs.sb_linked.Statement as linked-statement
-use Rattle.summerbugle.proofs.sb_first.Statement as first-statement
-use Rattle.summerbugle.proofs.sb_core.Statement as core-statement
-use Rattle.summerbugle.proofs.sb_backbone.Statement as backbone-statement
-use Rattle.summerbugle.proofs.sb_tree.Statement as tree-statement
-use Rattle.summerbugle.proofs.sb_image_write.Statement as image-write-statement
-use Rattle.summerbugle.proofs.sb_image_block.Statement as image-block-statement
+use Rattle.calls.specs.declared.Block.{Block}
+use Rattle.summerbugle.specs.Functions.{Promised, Returns, Gives, Leaves-lent, number-0, number-1, number-2, tables-1, tables-2, tables-3, lent-0, lent-4}
+use Rattle.summerbugle.specs.Functions.{lent-6}
+use Rattle.summerbugle.proofs.Calls.{sb-clear, sb-link-up, sb-link-down, sb-image-read, sb-check, sb-number, sb-neighbours, sb-linked, sb-first, sb-core}
+use Rattle.summerbugle.proofs.Calls.{sb-backbone, sb-tree, sb-image-write, sb-image-block, reader-open, reader-step, reader-moved}
+-- for the proof
+use Rattle.mesh.proofs.Peeling.{number-core, number-unique}
+use Rattle.calls.proofs.Outcomes.{exactly, clear-decided, link-decided, read-decided, check-decided, number-decided, neighbours-decided, block-inhabited}
+use Rattle.calls.proofs.Outcomes.{linked-decided, first-decided, core-decided, backbone-decided, tree-decided, write-decided, block-decided}
+use Rattle.calls.proofs.Outcomes.{clear-inhabited, link-inhabited, read-inhabited, check-inhabited, number-inhabited, neighbours-inhabited}
+use Rattle.calls.proofs.Outcomes.{linked-inhabited, first-inhabited, core-inhabited, backbone-inhabited, tree-inhabited, write-inhabited}
+use Rattle.calls.proofs.Refusals.{clear-keeps, link-keeps, read-keeps, check-keeps, number-keeps, neighbours-keeps, linked-keeps, first-keeps}
+use Rattle.calls.proofs.Refusals.{core-keeps, backbone-keeps, tree-keeps, write-keeps, block-keeps}
+use Rattle.calls.proofs.Accepted.{check-right, link-right, number-right, core-right, backbone-right, tree-right-listed, write-right}
+use Rattle.calls.proofs.Accepted.{read-what-was-written, read-right, read-eleven, block-right}
+use Rattle.calls.proofs.Total.{run-total}
+use Rattle.calls.proofs.WholeList.{demand-3}
+use Rattle.calls.proofs.Exactly.{exactly-changed}
+use Rattle.summerbugle.proofs.Returns.{returns}
+use Rattle.image.proofs.blocks.open.Met as reader-open-proof
+use Rattle.image.proofs.blocks.step.Met as reader-step-proof
+use Rattle.image.proofs.blocks.moved.Met as reader-moved-proof
+use Rattle.summerbugle.proofs.sb_clear.Met as clear-proof
+use Rattle.summerbugle.proofs.sb_link_up.Met as link-up-proof
+use Rattle.summerbugle.proofs.sb_link_down.Met as link-down-proof
+use Rattle.summerbugle.proofs.sb_image_read.Met as image-read-proof
+use Rattle.summerbugle.proofs.sb_check.Met as check-proof
+use Rattle.summerbugle.proofs.sb_number.Met as number-proof
+use Rattle.summerbugle.proofs.sb_neighbours.Met as neighbours-proof
+use Rattle.summerbugle.proofs.sb_linked.Met as linked-proof
+use Rattle.summerbugle.proofs.sb_first.Met as first-proof
+use Rattle.summerbugle.proofs.sb_core.Met as core-proof
+use Rattle.summerbugle.proofs.sb_backbone.Met as backbone-proof
+use Rattle.summerbugle.proofs.sb_tree.Met as tree-proof
+use Rattle.summerbugle.proofs.sb_image_write.Met as image-write-proof
+use Rattle.summerbugle.proofs.sb_image_block.Met as image-block-proof
+
+-- ---- each call meets its contract
+
+pub record Calls-promised (M : Type 1) : Type 2 where
+  pub clear : Promised sb-clear M
+  pub link-up : Promised sb-link-up M
+  pub link-down : Promised sb-link-down M
+  pub image-read : Promised sb-image-read M
+  pub check : Promised sb-check M
+  pub number : Promised sb-number M
+  pub neighbours : Promised sb-neighbours M
+  pub linked : Promised sb-linked M
+  pub first : Promised sb-first M
+  pub core : Promised sb-core M
+  pub backbone : Promised sb-backbone M
+  pub tree : Promised sb-tree M
+  pub image-write : Promised sb-image-write M
+  pub image-block : Promised sb-image-block M
+  -- the block reader in document 01's own form: the part given back lies in the image, and is those 504 bytes of it
+  pub reader-open : Promised reader-open M
+  pub reader-step : Promised reader-step M
+  pub reader-moved : Promised reader-moved M
+
+-- ---- each call returns, at the machine
+
+pub record Calls-return : Type 2 where
+  pub clear : Returns sb-clear
+  pub link-up : Returns sb-link-up
+  pub link-down : Returns sb-link-down
+  pub image-read : Returns sb-image-read
+  pub check : Returns sb-check
+  pub number : Returns sb-number
+  pub neighbours : Returns sb-neighbours
+  pub linked : Returns sb-linked
+  pub first : Returns sb-first
+  pub core : Returns sb-core
+  pub backbone : Returns sb-backbone
+  pub tree : Returns sb-tree
+  pub image-write : Returns sb-image-write
+  pub image-block : Returns sb-image-block
+  pub reader-open : Returns reader-open
+  pub reader-step : Returns reader-step
+  pub reader-moved : Returns reader-moved
+
+-- ---- what a refusal keeps, by the number that the host sees
+
+pub record Refusals : Type 0 where
+  pub clear : (n : ℕ) (t : Tables) (r : ℕ) (v : Tables) → Clear-contract n t r v → (r ≡ 0 → ⊥) → Tables-refused r r t v
+  pub link :
+      (up : Bool) (n a b : ℕ) (t : Tables) (w : List ℕ) (r : Reply) (v : Tables) (x : List ℕ) → Link-contract up n a b t w r v x →
+      (r .number ≡ 0 → ⊥) → Link-refused (r .number) t w r v x
+  pub image-read : (n : ℕ) (bs : List ℕ) (t : Tables) (r : ℕ) (v : Tables) → Read-contract n bs t r v → (r ≡ 0 → ⊥) → Tables-refused r r t v
+  pub check : (n : ℕ) (t : Tables) (r : Value) → Check-contract n t r → (r .number ≡ 0 → ⊥) → Value-refused (r .number) r
+  pub number : (n v : ℕ) (t : Tables) (r : Value) → Number-contract n v t r → (r .number ≡ 0 → ⊥) → Value-refused (r .number) r
+  pub neighbours : (n v : ℕ) (t : Tables) (r : Value) → Neighbours-contract n v t r → (r .number ≡ 0 → ⊥) → Value-refused (r .number) r
+  pub linked : (n a b : ℕ) (t : Tables) (r : Value) → Linked-contract n a b t r → (r .number ≡ 0 → ⊥) → Value-refused (r .number) r
+  pub first : (n a b : ℕ) (t : Tables) (r : Value) → First-contract n a b t r → (r .number ≡ 0 → ⊥) → Value-refused (r .number) r
+  pub core :
+      (n v k : ℕ) (t : Tables) (w : List ℕ) (r : Value) (x : List ℕ) → Core-contract n v k t w r x → (r .number ≡ 0 → ⊥) →
+      Listing-refused (r .number) w r x
+  pub backbone :
+      (n : ℕ) (t : Tables) (w : List ℕ) (r : Value) (x : List ℕ) → Backbone-contract n t w r x → (r .number ≡ 0 → ⊥) →
+      Listing-refused (r .number) w r x
+  pub tree :
+      (n : ℕ) (t : Tables) (m : List Node) (w : List ℕ) (r : Value) (p : List Node) (x : List ℕ) → Tree-contract n t m w r p x →
+      (r .number ≡ 0 → ⊥) → Tree-refused (r .number) m w r p x
+  pub image-write :
+      (n : ℕ) (t : Tables) (w : List ℕ) (r : Value) (x : List ℕ) → Write-contract n t w r x → (r .number ≡ 0 → ⊥) →
+      Listing-refused (r .number) w r x
+  pub image-block : (bs : List ℕ) (i : ℕ) (r : Block) → Block-contract bs i r → (r .number ≡ 0 → ⊥) → Block-none (r .number) 0 i r
+
+-- ---- exactly one outcome for every input; o is the result with what is lent to be written, after the call
+
+pub record Outcomes : Type 0 where
+  pub clear : (n : ℕ) (t : Tables) (o : ℕ × Tables) → Clear-contract n t (o .0) (o .1) ↔ (o ≡ clear-outcome n t)
+  pub link :
+      (up : Bool) (n a b : ℕ) (t : Tables) (w : List ℕ) (o : Reply × Tables × List ℕ) →
+      Link-contract up n a b t w (o .0) (o .1) (o .2) ↔ (o ≡ link-outcome up n a b t w)
+  pub image-read : (n : ℕ) (bs : List ℕ) (t : Tables) (o : ℕ × Tables) → Read-contract n bs t (o .0) (o .1) ↔ (o ≡ read-outcome n bs t)
+  pub check : (n : ℕ) (t : Tables) (o : Value) → Check-contract n t o ↔ (o ≡ check-outcome n t)
+  pub number : (n v : ℕ) (t : Tables) (o : Value) → Number-contract n v t o ↔ (o ≡ number-outcome n v t)
+  pub neighbours : (n v : ℕ) (t : Tables) (o : Value) → Neighbours-contract n v t o ↔ (o ≡ neighbours-outcome n v t)
+  pub linked : (n a b : ℕ) (t : Tables) (o : Value) → Linked-contract n a b t o ↔ (o ≡ linked-outcome n a b t)
+  pub first : (n a b : ℕ) (t : Tables) (o : Value) → First-contract n a b t o ↔ (o ≡ first-outcome n a b t)
+  pub core : (n v k : ℕ) (t : Tables) (w : List ℕ) (o : Value × List ℕ) → Core-contract n v k t w (o .0) (o .1) ↔ (o ≡ core-outcome n v k t w)
+  pub backbone : (n : ℕ) (t : Tables) (w : List ℕ) (o : Value × List ℕ) → Backbone-contract n t w (o .0) (o .1) ↔ (o ≡ backbone-outcome n t w)
+  pub tree :
+      (n : ℕ) (t : Tables) (m : List Node) (w : List ℕ) (o : Value × List Node × List ℕ) →
+      Tree-contract n t m w (o .0) (o .1) (o .2) ↔ (o ≡ tree-outcome n t m w)
+  pub image-write : (n : ℕ) (t : Tables) (w : List ℕ) (o : Value × List ℕ) → Write-contract n t w (o .0) (o .1) ↔ (o ≡ write-outcome n t w)
+  pub image-block : (bs : List ℕ) (i : ℕ) (o : Block) → Block-contract bs i o ↔ (o ≡ block-outcome bs i)
+
+-- ---- what is lent by shared reference
+-- A shared reference is seen at exit as it was passed (`ShrSlice` of the kit's logic/Denote/Slice.antt): while its lifetime lasts,
+-- nobody can write through it. So the equations hold by computation, from the signatures alone. At the machine, a copy of the
+-- reference that the caller keeps is part of what else the memory holds, and that is there on return as it was (`left` of `Returned`).
+
+pub record Tables-left : Type 0 where
+  pub check : Leaves-lent sb-check (λ κs. tables-1) (λ κs. tables-1)
+  pub number : Leaves-lent sb-number (λ κs. tables-2) (λ κs. tables-2)
+  pub neighbours : Leaves-lent sb-neighbours (λ κs. tables-2) (λ κs. tables-2)
+  pub linked : Leaves-lent sb-linked (λ κs. tables-3) (λ κs. tables-3)
+  pub first : Leaves-lent sb-first (λ κs. tables-3) (λ κs. tables-3)
+  pub core : Leaves-lent sb-core (λ κs. tables-3) (λ κs. tables-3)
+  pub backbone : Leaves-lent sb-backbone (λ κs. tables-1) (λ κs. tables-1)
+  pub tree : Leaves-lent sb-tree (λ κs. tables-1) (λ κs. tables-1)
+  pub image-write : Leaves-lent sb-image-write (λ κs. tables-1) (λ κs. tables-1)
+  -- and images
+  pub image-read : Leaves-lent sb-image-read (λ κs. lent-4) (λ κs. lent-4)
+  pub image-block : Leaves-lent sb-image-block (λ κs. lent-0) (λ κs. lent-0)
 
 -- ---- property 1
 
 pub record Property-1 (M : Type 1) : Type 2 where
-  pub clear : clear-statement.statement M
-  pub link-up : link-up-statement.statement M
-  pub link-down : link-down-statement.statement M
-  pub image-read : image-read-statement.statement M
-  pub check : check-statement.statement M
-  pub number : number-statement.statement M
-  pub neighbours : neighbours-statement.statement M
-  pub linked : linked-statement.statement M
-  pub first : first-statement.statement M
-  pub core : core-statement.statement M
-  pub backbone : backbone-statement.statement M
-  pub tree : tree-statement.statement M
-  pub image-write : image-write-statement.statement M
-  pub image-block : image-block-statement.statement M
-
-pub property-1 : {M : Type 1} → Property-1 M
-property-1 = record {
-  clear = clear-met;
-  link-up = link-up-met;
-  link-down = link-down-met;
-  image-read = image-read-met;
-  check = check-met;
-  number = number-met;
-  neighbours = neighbours-met;
-  linked = linked-met;
-  first = first-met;
-  core = core-met;
-  backbone = backbone-met;
-  tree = tree-met;
-  image-write = image-write-met;
-  image-block = image-block-met;
-}
-
--- on every path, two outcomes that meet a contract are equal
-pub record Decided : Type 0 where
-  pub clear : (n : ℕ) (t : Tables) → Decides {A = ℕ × Tables} (λ o. Clear-contract n t (o .0) (o .1))
-  pub check : (n : ℕ) (t : Tables) → Decides (Check-contract n t)
-  pub number : (n v : ℕ) (t : Tables) → Decides (Number-contract n v t)
-  pub neighbours : (n v : ℕ) (t : Tables) → Decides (Neighbours-contract n v t)
-  pub linked : (n a b : ℕ) (t : Tables) → Decides (Linked-contract n a b t)
-  pub first : (n a b : ℕ) (t : Tables) → Decides (First-contract n a b t)
-  pub image-read : (n : ℕ) (bs : List ℕ) (t : Tables) → Decides {A = ℕ × Tables} (λ o. Read-contract n bs t (o .0) (o .1))
-  pub image-block : (bs : List ℕ) (i : ℕ) → Decides (Block-contract bs i)
-  pub link : (up : Bool) (n a b : ℕ) (t : Tables) (w : List ℕ)
-      → Decides {A = Reply × Tables × List ℕ} (λ o. Link-contract up n a b t w (o .0) (o .1) (o .2))
-  pub core : (n v k : ℕ) (t : Tables) (w : List ℕ) → Decides {A = Value × List ℕ} (λ o. Core-contract n v k t w (o .0) (o .1))
-  pub backbone : (n : ℕ) (t : Tables) (w : List ℕ) → Decides {A = Value × List ℕ} (λ o. Backbone-contract n t w (o .0) (o .1))
-  pub tree : (n : ℕ) (t : Tables) (m : List Node) (w : List ℕ)
-      → Decides {A = Value × List Node × List ℕ} (λ o. Tree-contract n t m w (o .0) (o .1) (o .2))
-  pub image-write : (n : ℕ) (t : Tables) (w : List ℕ) → Decides {A = Value × List ℕ} (λ o. Write-contract n t w (o .0) (o .1))
-
-pub decided : Decided
-decided = record {
-  clear = clear-decided;
-  check = check-decided;
-  number = number-decided;
-  neighbours = neighbours-decided;
-  linked = linked-decided;
-  first = first-decided;
-  image-read = read-decided;
-  image-block = block-decided;
-  link = link-decided;
-  core = core-decided;
-  backbone = backbone-decided;
-  tree = tree-decided;
-  image-write = write-decided;
-}
+  pub promised : Calls-promised M
+  pub return : Calls-return
+  pub refused : Refusals
+  pub outcomes : Outcomes
+  pub left : Tables-left
 
 -- ---- property 2
 
 pub record Property-2 : Type 0 where
+  -- the number that definitions and contracts cite is the core number by the largest group
+  pub largest-group : (g : Graph) (v k : ℕ) → v < g .n → Core g v k ↔ (number g v ≡ k)
   -- after a link came up or went down
-  pub numbers : (up : Bool) (n a b : ℕ) (t : Tables) (w : List ℕ) (r : Reply) (v : Tables) (x : List ℕ) → Link-contract up n a b t w r v x
-      → r .number ≡ 0 → Numbers-right (relinked up a b (graph-in n (t .links))) v
-  -- the radios listed are the ones that links lead to over radios with the level or more
-  pub core : (n v k : ℕ) (t : Tables) (w : List ℕ) (r : Value) (x : List ℕ) → Core-contract n v k t w r x → r .number ≡ 0
-      → (y : ℕ) → (member y (take (r .value) x) ≡ true) ↔ In-core (graph-in n (t .links)) v k y
-  -- the nodes are document 01's set definition
-  pub tree : (n : ℕ) (t : Tables) (m : List Node) (w : List ℕ) (r : Value) (p : List Node) (x : List ℕ) → Tree-contract n t m w r p x
-      → r .number ≡ 0 → Tree-listed (graph-in n (t .links)) m p w x
-  -- what is written is the image of sound tables, and reading it gives the same tables
-  pub image-written : (n : ℕ) (t : Tables) (w : List ℕ) (r : Value) (x : List ℕ) → Write-contract n t w r x → r .number ≡ 0
-      → is-image n (take (r .value) x) ≡ true
-  pub image-read-back : (n : ℕ) (t : Tables) (w : List ℕ) (r : Value) (x : List ℕ) → Write-contract n t w r x → r .number ≡ 0
-      → Tables-of-size n t → (u : Tables) (q : ℕ) (v : Tables) → lengths-of u ≡ lengths-of t → Read-contract n (take (r .value) x) u q v
-      → (q ≡ 0) × (v ≡ t)
+  pub link :
+      (up : Bool) (n a b : ℕ) (t : Tables) (w : List ℕ) (r : Reply) (v : Tables) (x : List ℕ) → Link-contract up n a b t w r v x →
+      r .number ≡ 0 → Link-right up n a b t v (r .count) w x
+  -- the check's value is 1 exactly for proper rows, core numbers and a k-order
+  pub check : (n : ℕ) (t : Tables) (r : Value) → Check-contract n t r → r .number ≡ 0 → (r .value ≡ 1) ↔ Site-right n t
+  pub number : (n v : ℕ) (t : Tables) (r : Value) → Number-contract n v t r → r .number ≡ 0 → Core (graph-in n (t .links)) v (r .value)
+  pub core :
+      (n v k : ℕ) (t : Tables) (w : List ℕ) (r : Value) (x : List ℕ) → Core-contract n v k t w r x → r .number ≡ 0 →
+      Core-listed (graph-in n (t .links)) v k (r .value) w x
+  pub backbone :
+      (n : ℕ) (t : Tables) (w : List ℕ) (r : Value) (x : List ℕ) → Backbone-contract n t w r x → r .number ≡ 0 →
+      Backbone-listed (graph-in n (t .links)) (r .value) w x
+  pub tree :
+      (n : ℕ) (t : Tables) (m : List Node) (w : List ℕ) (r : Value) (p : List Node) (x : List ℕ) → Tree-contract n t m w r p x →
+      r .number ≡ 0 → Tree-listed (graph-in n (t .links)) (r .value) m p w x
+  -- what is written is the image of sound tables, and reading it gives the same tables. That their links are bytes is all that is asked:
+  -- a table of 8-bit entries is, but a list of numbers that a contract speaks of need not be
+  pub image-written :
+      (n : ℕ) (t : Tables) (w : List ℕ) (r : Value) (x : List ℕ) → Write-contract n t w r x → r .number ≡ 0 →
+      Written-right n t (r .value) w x
+  pub image-read-back :
+      (n : ℕ) (t : Tables) (w : List ℕ) (r : Value) (x : List ℕ) → Write-contract n t w r x → r .number ≡ 0 → Entries-below 256 (t .links) →
+      (u : Tables) (q : ℕ) (v : Tables) → lengths-of u ≡ lengths-of t → Read-contract n (take (r .value) x) u q v → (q ≡ 0) × (v ≡ t)
   -- the tables of an accepted image
   pub image-read : (n : ℕ) (bs : List ℕ) (t : Tables) (r : ℕ) (v : Tables) → Read-contract n bs t r v → r ≡ 0 → Read-right n bs v
+  -- 1, 2, 9 and 10 answered yes: accepted is the image of some sound tables with this n, and refused by 11 the image of none
+  pub eleven :
+      (n : ℕ) (bs : List ℕ) (t : Tables) (r : ℕ) (v : Tables) → Read-contract n bs t r v → size-good n ≡ true →
+      site-lengths n (lengths-of t) ≡ true → whole-blocks bs ≡ true → checks-good bs ≡ true →
+      ((r ≡ 0) ↔ Tables-image n bs) × ((r ≡ 11) ↔ (Tables-image n bs → ⊥))
+  -- a step of the block reader gives those 504 bytes of the image, or the end
+  pub block : (bs : List ℕ) (i : ℕ) (r : Block) → Block-contract bs i r → r .number ≡ 0 → Block-part bs i r ⊎ Block-end bs i r
+
+-- ---- property 3
+
+-- whatever meets the contract of one of the four calls that write links, numbers and order is a step of a run
+pub record Steps : Type 0 where
+  pub clear : Gives sb-clear (λ κs a r e. Does (clearing (number-0 a)) (tables-1 a) (plain r ∷ []) (tables-1 e))
+  pub image-read : Gives sb-image-read (λ κs a r e. Does (reading (number-0 a) (lent-4 a)) (tables-1 a) (plain r ∷ []) (tables-1 e))
+  pub link-up :
+      Gives sb-link-up (λ κs a r e.
+      Does (linking true (number-0 a) (number-1 a) (number-2 a) (length (lent-6 a))) (tables-3 a) (answer-of r (lent-6 e) ∷ []) (tables-3 e))
+  pub link-down :
+      Gives sb-link-down (λ κs a r e.
+      Does (linking false (number-0 a) (number-1 a) (number-2 a) (length (lent-6 a))) (tables-3 a) (answer-of r (lent-6 e) ∷ []) (tables-3 e))
+
+pub record Property-3 : Type 0 where
+  -- the four calls that write links, numbers and order make steps of runs; the other calls leave these tables (`Tables-left`)
+  pub steps : Steps
+  -- every list of calls has a run, from any tables
+  pub runs : (cs : List Call) (t : Tables) → (es : List Event) × (v : Tables) × Run t es v × (called es ≡ cs)
+  -- and every run from a clearing or an image keeps what demand 3 says
+  pub demand : Demand-3
+  -- an accepted link call of a run lists exactly the radios whose core number by the largest group differs between the book's pairs
+  -- before and after
+  pub exactly :
+      (n : ℕ) (ps : List Link) (s t u : Tables) (es : List Event) (up : Bool) (m a b w : ℕ) (h : Answer) → Start n ps s → Run s es t →
+      Does (linking up m a b w) t (h ∷ []) u → h .number ≡ 0 → (x j k : ℕ) → x < n → Core (graph n (book-after (givens es) ps)) x j →
+      Core (graph n (book-after (givens (es ++ (event (linking up m a b w) t (h ∷ []) u ∷ []))) ps)) x k →
+      (member x (h .listed) ≡ true) ↔ (j ≡ k → ⊥)
+
+-- ---- all of them
+
+pub record Promises (M : Type 1) : Type 2 where
+  pub first : Property-1 M
+  pub second : Property-2
+  pub third : Property-3
+
+-- ---- the proof
+
+pub calls-promised : {M : Type 1} → Calls-promised M
+calls-promised = record {
+  clear = clear-proof.met;
+  link-up = link-up-proof.met;
+  link-down = link-down-proof.met;
+  image-read = image-read-proof.met;
+  check = check-proof.met;
+  number = number-proof.met;
+  neighbours = neighbours-proof.met;
+  linked = linked-proof.met;
+  first = first-proof.met;
+  core = core-proof.met;
+  backbone = backbone-proof.met;
+  tree = tree-proof.met;
+  image-write = image-write-proof.met;
+  image-block = image-block-proof.met;
+  reader-open = reader-open-proof.met;
+  reader-step = reader-step-proof.met;
+  reader-moved = reader-moved-proof.met;
+}
+
+pub calls-return : Calls-return
+calls-return = record {
+  clear = returns sb-clear (calls-promised .clear);
+  link-up = returns sb-link-up (calls-promised .link-up);
+  link-down = returns sb-link-down (calls-promised .link-down);
+  image-read = returns sb-image-read (calls-promised .image-read);
+  check = returns sb-check (calls-promised .check);
+  number = returns sb-number (calls-promised .number);
+  neighbours = returns sb-neighbours (calls-promised .neighbours);
+  linked = returns sb-linked (calls-promised .linked);
+  first = returns sb-first (calls-promised .first);
+  core = returns sb-core (calls-promised .core);
+  backbone = returns sb-backbone (calls-promised .backbone);
+  tree = returns sb-tree (calls-promised .tree);
+  image-write = returns sb-image-write (calls-promised .image-write);
+  image-block = returns sb-image-block (calls-promised .image-block);
+  reader-open = returns reader-open (calls-promised .reader-open);
+  reader-step = returns reader-step (calls-promised .reader-step);
+  reader-moved = returns reader-moved (calls-promised .reader-moved);
+}
+
+pub refusals : Refusals
+refusals = record {
+  clear = clear-keeps;
+  link = link-keeps;
+  image-read = read-keeps;
+  check = check-keeps;
+  number = number-keeps;
+  neighbours = neighbours-keeps;
+  linked = linked-keeps;
+  first = first-keeps;
+  core = core-keeps;
+  backbone = backbone-keeps;
+  tree = tree-keeps;
+  image-write = write-keeps;
+  image-block = block-keeps;
+}
+
+pub outcomes : Outcomes
+outcomes = record {
+  clear = λ n t. exactly _ _ (clear-inhabited n t) (clear-decided n t);
+  link = λ up n a b t w. exactly _ _ (link-inhabited up n a b t w) (link-decided up n a b t w);
+  image-read = λ n bs t. exactly _ _ (read-inhabited n bs t) (read-decided n bs t);
+  check = λ n t. exactly _ _ (check-inhabited n t) (check-decided n t);
+  number = λ n v t. exactly _ _ (number-inhabited n v t) (number-decided n v t);
+  neighbours = λ n v t. exactly _ _ (neighbours-inhabited n v t) (neighbours-decided n v t);
+  linked = λ n a b t. exactly _ _ (linked-inhabited n a b t) (linked-decided n a b t);
+  first = λ n a b t. exactly _ _ (first-inhabited n a b t) (first-decided n a b t);
+  core = λ n v k t w. exactly _ _ (core-inhabited n v k t w) (core-decided n v k t w);
+  backbone = λ n t w. exactly _ _ (backbone-inhabited n t w) (backbone-decided n t w);
+  tree = λ n t m w. exactly _ _ (tree-inhabited n t m w) (tree-decided n t m w);
+  image-write = λ n t w. exactly _ _ (write-inhabited n t w) (write-decided n t w);
+  image-block = λ bs i. exactly _ _ (block-inhabited bs i) (block-decided bs i);
+}
+
+pub tables-left : Tables-left
+tables-left = record {
+  check = λ κs a last. refl;
+  number = λ κs a last. refl;
+  neighbours = λ κs a last. refl;
+  linked = λ κs a last. refl;
+  first = λ κs a last. refl;
+  core = λ κs a last. refl;
+  backbone = λ κs a last. refl;
+  tree = λ κs a last. refl;
+  image-write = λ κs a last. refl;
+  image-read = λ κs a last. refl;
+  image-block = λ κs a last. refl;
+}
 
 pub property-2 : Property-2
 property-2 = record {
-  numbers = link-right;
+  largest-group = λ g v k l. (λ c. number-unique g v k l c, λ e. rw (← e) (number-core g v l));
+  link = link-right;
+  check = check-right;
+  number = number-right;
   core = core-right;
+  backbone = backbone-right;
   tree = tree-right-listed;
   image-written = write-right;
   image-read-back = read-what-was-written;
   image-read = read-right;
+  eleven = read-eleven;
+  block = block-right;
 }
 
--- ---- all of them; property 3 is `Whole-list`
+pub steps : Steps
+unfolding Does
+steps = record {
+  clear = λ κs a r e c. record { result = r; contract = c; answer = refl };
+  image-read = λ κs a r e c. record { result = r; contract = c; answer = refl };
+  link-up = λ κs a r e c. record { lent = lent-6 a; long = refl; result = r; table = lent-6 e; contract = c; answer = refl };
+  link-down = λ κs a r e c. record { lent = lent-6 a; long = refl; result = r; table = lent-6 e; contract = c; answer = refl };
+}
 
-pub record Promises (M : Type 1) : Type 2 where
-  pub first : Property-1 M
-  pub outcomes : Decided
-  pub second : Property-2
-  pub third : Whole-list M
+pub property-3 : Property-3
+property-3 = record { steps = steps; runs = run-total; demand = demand-3; exactly = exactly-changed }
 
 pub promises : {M : Type 1} → Promises M
-promises = record { first = property-1; outcomes = decided; second = property-2; third = whole-list }
+promises = record {
+  first = record { promised = calls-promised; return = calls-return; refused = refusals; outcomes = outcomes; left = tables-left };
+  second = property-2;
+  third = property-3;
+}

@@ -2,10 +2,10 @@
 use mathlib.Core.Path.{_≡_, refl, sym, ap, ap₂, _∙_}
 use mathlib.Core.Bool.{true}
 use mathlib.Core.List.{List, [], _∷_, map}
-use Prim.Native.Nat.{ℕ, zero, suc, _+_, _*_, _≤_, _<_, min}
+use Prim.Native.Nat.{ℕ, suc, _+_, _*_, _≤_, _<_, min}
 use native.Mathlib.Omega.{arith}
 use native.Mathlib.Numerals.{add-one}
-use lib.ListN.{length, getD, set, replicate}
+use lib.ListN.{length, set, replicate}
 use Rattle.mesh.specs.Limits.{max-radios}
 use Rattle.lists.specs.Lists.{overwrite}
 use Rattle.mesh.specs.Graph.{Graph, radios}
@@ -24,19 +24,6 @@ use Rattle.lists.proofs.Overwrite.{set-overwrite}
 use Rattle.tree.proofs.NodeLists.{nodes-before-start, nodes-before-tree}
 use Rattle.tree.proofs.GrowLaws.{lists-same}
 use Rattle.tree.proofs.LevelLoop.{fits-sound-site, Same-lengths}
-
--- ---- the greatest entry
-
-getD-le-greatest : (ns : List ℕ) (v : ℕ) → v < length ns → getD ns v 0 ≤ greatest ns
-unfolding greatest
-getD-le-greatest [] v l = absurd (omega arith)
-getD-le-greatest (x ∷ xs) zero l = omega arith
-getD-le-greatest (x ∷ xs) (suc v) l = omega (arith, getD-le-greatest xs v (omega arith))
-
-greatest-le : (ns : List ℕ) (m : ℕ) → ((v : ℕ) → v < length ns → getD ns v 0 ≤ m) → greatest ns ≤ m
-unfolding greatest
-greatest-le [] m h = omega arith
-greatest-le (x ∷ xs) m h = omega (arith, h 0 (omega arith), greatest-le xs m (λ v l. h (suc v) (omega arith)))
 
 -- ---- the root
 

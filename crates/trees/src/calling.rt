@@ -1,15 +1,17 @@
 // The calls that a file lists, on a site that its links make.
 ghost use Prim.Native.Nat.{_≤_};
 ghost use Rattle.mesh.specs.Limits.{max-radios};
-use crate::asking::FIELDS;
-use crate::asking::PLACES;
+use crate::compare::KEPT;
 use crate::compare::Tally;
 use mesh::Site;
+
+// Two places more than the largest tree needs.
+const PLACES: usize = 515;
 
 // The bytes of a site's largest links table.
 const LINKS_BYTES: usize = Site::ROW_BYTES * Site::RADIOS as usize;
 
-// A shell tree, with as many places for nodes as the file says.
+// A shell tree, with as many places for nodes as the file says beside those of the three tables.
 fn tree<'a>(
     fd: i32,
     n: u32,
@@ -19,11 +21,25 @@ fn tree<'a>(
     answer: &mut [u16],
     t: Tally,
 ) -> Tally {
-    let mut fields = [0u16; FIELDS];
+    let mut names = [KEPT; PLACES];
+    let mut levels = [KEPT; PLACES];
+    let mut parents = [KEPT; PLACES];
     let room = crate::reading::word(fd) as usize;
-    let r = crate::asking::ask_within(n, links, numbers, order, room, answer, &mut fields);
+    let r = tree::levels::shell_tree(
+        n,
+        links,
+        numbers,
+        order,
+        room,
+        &mut names,
+        &mut levels,
+        &mut parents,
+        answer,
+    );
     let after = crate::compare::reply(fd, r, t);
-    let nodes = crate::compare::entries(fd, &fields, after);
+    let named = crate::compare::entries(fd, &names, after);
+    let levelled = crate::compare::entries(fd, &levels, named);
+    let nodes = crate::compare::entries(fd, &parents, levelled);
     crate::compare::entries(fd, answer, nodes)
 }
 

@@ -7,17 +7,16 @@ use mathlib.Core.Path.{_≡_, refl, sym, ap, ap₂, _∙_}
 use mathlib.Core.Logic.{_↔_}
 use mathlib.Core.Bool.{true, _&&_}
 use mathlib.Core.List.{List}
-use Prim.Native.Nat.{ℕ, _*_, _≤_, _<_}
+use Prim.Native.Nat.{ℕ, _≤_, _<_}
 use native.Mathlib.Omega.{arith}
 use native.Mathlib.Nat.{le-trans, le-of-eq}
 use lib.Dec.{leb}
-use lib.ListN.{length, getD}
-use Rattle.mesh.specs.Limits.{max-radios, max-neighbours, row-bytes}
+use Rattle.mesh.specs.Limits.{max-radios, max-neighbours}
 use Rattle.mesh.specs.Graph.{Graph}
 use Rattle.mesh.specs.Cores.{number, numbers}
-use Rattle.mesh.specs.Tables.{Tables, tables, graph-in, tables-of}
+use Rattle.mesh.specs.Tables.{Tables, tables, graph-in, tables-of, Tables-of-size}
 use Rattle.mesh.specs.Sound.{symmetric, irreflexive, within, few, rows-proper, number-in, sound-within, sound}
-use Rattle.mesh.specs.Image.{image-of, image-order, image-graph, is-image}
+use Rattle.mesh.specs.Image.{image-of, image-order, image-graph, is-image, Tables-image}
 use Rattle.lists.proofs.Tests.{and-left, and-right}
 use Rattle.mesh.proofs.GraphLaws.{linked-self, neighbours-in-subset, degree-in}
 use Rattle.mesh.proofs.Cores.KOrders.{k-order-certificate, certificate-k-order}
@@ -53,13 +52,6 @@ valid-graph-in most n t small h =
       k-order = certificate-k-order marks (number-in (t .numbers)) (t .order) (linked-self marks (proper-graph-in n (t .links))) (r .1);
     }
 
--- tables of n radios: lengths, and rows of bytes
-pub record Tables-of-size (n : ℕ) (t : Tables) : Type 0 where
-  pub links-length : length (t .links) ≡ row-bytes * n
-  pub numbers-length : length (t .numbers) ≡ n
-  pub order-length : length (t .order) ≡ n
-  pub links-bytes : Bytes (t .links)
-
 -- sound tables are the tables of the site that they mark
 pub tables-of-graph-in : (n : ℕ) (t : Tables) → n ≤ max-radios → Tables-of-size n t → sound n t ≡ true → tables-of (graph-in n (t .links)) (t .order) ≡ t
 unfolding sound tables-of rows-proper
@@ -88,15 +80,6 @@ bytes-numbers g xs k v l =
     omega (arith, getD-numbers g v h, number-most max-neighbours g xs k v h)
 
 -- ---- question 11 over tables
-
--- document 01: the bytes are the image of some sound tables with this n; each entry fits its width
-pub record Tables-image (n : ℕ) (bs : List ℕ) : Type 0 where
-  pub lent : Tables
-  pub size : Tables-of-size n lent
-  pub numbers-bytes : Bytes (lent .numbers)
-  pub order-words : (j : ℕ) → j < length (lent .order) → getD (lent .order) j 0 < 65536
-  pub is-sound : sound n lent ≡ true
-  pub written : image-of (graph-in n (lent .links)) (lent .order) ≡ bs
 
 -- an image written from sound tables is accepted, whatever else the tables hold
 pub is-image-sound : (n : ℕ) (t : Tables) → n ≤ max-radios → sound n t ≡ true → is-image n (image-of (graph-in n (t .links)) (t .order)) ≡ true

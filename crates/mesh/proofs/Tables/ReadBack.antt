@@ -117,7 +117,7 @@ sorted-rows f s low i (suc k) = sorted-append (f i) (flatMap f (range (suc i) k)
     later : (l m : Link) → In-links l (f i) → (a : ℕ) × In a (range (suc i) k) × In-links m (f a) → Before l m
     later l m p r = inl (omega (arith, low i l p, low (r .0) m (r .2), range-in (suc i) k (r .0) (r .1)))
 
-sorted-graph-in : (n : ℕ) (ts : List ℕ) → Sorted (graph-in n ts .links)
+pub sorted-graph-in : (n : ℕ) (ts : List ℕ) → Sorted (graph-in n ts .links)
 unfolding graph-in row-links
 sorted-graph-in n ts = sorted-rows (row-links n ts)
     (λ a. sorted-links-to a (λ b. marked ts a b) (suc a) (n - suc a))

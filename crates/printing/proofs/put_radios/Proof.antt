@@ -4,13 +4,13 @@ use Prim.Native.Nat.{_-_}
 use native.Mathlib.Omega.{arith}
 use lib.ListN.{length}
 use borrow.Author.Needs.{needs}
-use Rattle.printing.specs.Print.{lent}
+use Rattle.printing.specs.Print.{buffer}
 use Rattle.printing.proofs.PrintLaws.{Fields, fields-none, fields-next, fields-last, length-putting}
 use Rattle.printing.proofs.put_radios.Statement.{statement}
 use Rattle.printing.proofs.put_radios.Tie as tie
 
 abbrev Inv-loop : tie.InvT-loop
-Inv-loop buffer₀ at radios place₀ i₀ buffer place i = Fields radios (lent buffer₀ at) (lent buffer place) i
+Inv-loop buffer₀ at radios place₀ i₀ buffer place i = Fields radios (buffer buffer₀ at) (buffer buffer place) i
 
 abbrev μ-loop : tie.MeasureT-loop
 μ-loop buffer₀ at radios place₀ i₀ buffer place i = length radios - i

@@ -3,7 +3,7 @@
 use Prim.Native.Nat.{_≤_, _+_, _-_}
 use native.Mathlib.Omega.{arith}
 use lib.ListN.{length, drop, drop-of-length-le}
-use Rattle.printing.specs.Print.{lent}
+use Rattle.printing.specs.Print.{buffer}
 use Rattle.printing.proofs.PrintLaws.{Putting, putting-none, putting-piece, putting-end, length-putting}
 use Rattle.lists.proofs.Parts.{drop-first}
 use Rattle.printing.proofs.put_text.Statement.{statement}
@@ -11,7 +11,7 @@ use Rattle.printing.proofs.put_text.Tie as tie
 
 abbrev Inv-loop : tie.InvT-loop
 Inv-loop buffer₀ at text place₀ i₀ buffer place i =
-    (i ≤ length text) × Putting (lent buffer₀ at) text (lent buffer place) (drop i text)
+    (i ≤ length text) × Putting (buffer buffer₀ at) text (buffer buffer place) (drop i text)
 
 abbrev μ-loop : tie.MeasureT-loop
 μ-loop buffer₀ at text place₀ i₀ buffer place i = length text - i

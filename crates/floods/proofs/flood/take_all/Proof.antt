@@ -3,10 +3,9 @@
 use Prim.Native.Nat.{_-_}
 use lib.ListN.{take}
 use borrow.Author.Needs.{needs}
-use Rattle.floods.specs.Floods.{flood-at}
+use Rattle.floods.specs.Floods.{flood-at, taken-all}
 use Rattle.floods.proofs.FloodSteps.{Taking, taking-none, taking-turn}
 use Rattle.lists.proofs.Loops.{folding-front-end}
-use Rattle.floods.specs.Floods.{taken-all}
 use Rattle.floods.proofs.flood.take_all.Statement.{statement}
 use Rattle.floods.proofs.flood.take_all.Tie as tie
 

@@ -7,8 +7,7 @@ use lib.ListN.{length, take}
 use lib.Seq.{length-take-le}
 use borrow.Author.Needs.{needs}
 use Rattle.mesh.specs.Limits.{max-radios}
-use Rattle.lists.specs.Lists.{overwrite}
-use Rattle.soundness.specs.Checks.{Entries-below}
+use Rattle.lists.specs.Lists.{overwrite, Entries-below}
 use Rattle.links.specs.Changes.{in-order}
 use Rattle.links.proofs.ChangeLaws.{changed-part-up, changed-part-down}
 use Rattle.links.proofs.apply.list_changed.Statement.{statement}

@@ -1,40 +1,60 @@
--- `reading::take_chunk` meets its contract: every table keeps its length and the buffer has room; each turn takes a byte at least.
-use mathlib.Core.Path.{_≡_}
-use Prim.Native.Nat.{_-_, _<_}
+-- `reading::take_chunk` meets its contract: the bytes passed so far are taken, and the measure is what is left of the chunk.
+use mathlib.Core.Path.{_≡_, refl}
+use Prim.Native.Nat.{_-_}
 use native.Mathlib.Omega.{arith}
 use lib.ListN.{length}
 use borrow.Author.Needs.{needs}
-use borrow.Author.Tests.{not-false}
-use Rattle.player.specs.Machine.{full}
+use Rattle.mesh.specs.Tables.{tables}
+use Rattle.printing.specs.Print.{buffer}
+use Rattle.player.specs.Machine.{spot}
+use Rattle.player.proofs.ReadingLaws.{Chunk-to, chunk-none, chunk-more, chunk-end}
 use Rattle.player.proofs.reading.take_chunk.Statement.{statement}
 use Rattle.player.proofs.reading.take_chunk.Tie as tie
 
 abbrev Inv-loop : tie.InvT-loop
-Inv-loop chunk n line₀ links₀ numbers₀ order₀ answer₀ out₀ s₀ next₀ line links numbers order answer out s next =
+Inv-loop chunk n line₀ links₀ numbers₀ order₀ answer₀ out₀ s₀ i₀ line links numbers order answer out s i =
     (length line ≡ length line₀) × (length links ≡ length links₀) × (length numbers ≡ length numbers₀) × (length order ≡ length order₀)
-    × (length answer ≡ length answer₀) × (length out ≡ length out₀) × (s .at < full)
+    × (length answer ≡ length answer₀) × (length out ≡ length out₀)
+    × Chunk-to (length line₀) n chunk i (spot (tables links₀ numbers₀ order₀) answer₀ line₀ s₀) (buffer out₀ (s₀ .at))
+    (spot (tables links numbers order) answer line s) s out
 
 abbrev μ-loop : tie.MeasureT-loop
-μ-loop chunk n line₀ links₀ numbers₀ order₀ answer₀ out₀ s₀ next₀ line links numbers order answer out s next =
-    length chunk - next
+μ-loop chunk n line₀ links₀ numbers₀ order₀ answer₀ out₀ s₀ i₀ line links numbers order answer out s i =
+    length chunk - i
 
-loop-less : tie.Need-loop-less Inv-loop μ-loop
-loop-less c =
-    let taken = c .before .before .before .before .before .before .before .before .before .before .before .before .before in
-    let goes-on = taken .before .before .before .before .before .before .before in
-    let at-loop = goes-on .before .before .before in
-    let live = not-false (at-loop .loop .s .live) (goes-on .if1 .left) in
-    omega (arith, taken .take-part .ensures .1 live (goes-on .before .before .loop-test .taken))
+loop-holds : tie.Need-loop-holds Inv-loop μ-loop
+loop-holds c =
+    let start = c .before .before .before .before .before .before .before in
+    (refl, refl, refl, refl, refl, refl, chunk-none _ _ _ _ _ _ (start .pre))
+
+take-byte-requires : tie.Need-take-byte-requires Inv-loop μ-loop
+take-byte-requires c κs =
+    let at-loop = c .before .before .before .before .before .before .before .before in
+    omega (arith, at-loop .loop .inv .6 .ready .number)
 
 loop-again : tie.Need-loop-again Inv-loop μ-loop
 loop-again c =
-    let taken = c .before .before .before .before .before .before .before .before .before .before .before .before .before in
-    (search needs, search needs, search needs, search needs, search needs, search needs, taken .take-part .ensures .0)
+    let taken = c .before .before .before .before .before .before .before .before .before .before .before .before .before .before in
+    let in-loop = taken .before .before .before .before .before .before .before .before in
+    let inv = in-loop .before .loop .inv in (
+      search needs,
+      search needs,
+      search needs,
+      search needs,
+      search needs,
+      search needs,
+      chunk-more _ _ _ _ _ _ _ _ _ _ _ _ _ _ _ _ _ _ _ (in-loop .loop-test .taken) refl (inv .0) (search needs) (c .make-room .ensures)
+          (inv .6) (taken .take-byte .ensures),
+    )
+
+returns : tie.Need-returns Inv-loop μ-loop
+returns c =
+    let inv = c .before .loop .inv in
+    (inv .6 .ready .at, chunk-end _ _ _ _ _ _ _ _ _ (c .loop-test .left) (inv .6))
 
 pub take-chunk-spec : {M : Type 1} → statement M
 take-chunk-spec =
     tie.close (
-    tie.spec Inv-loop μ-loop (λ c. search needs) (λ c κs. search needs) loop-less loop-again (λ c. search needs)
-    (λ c. search needs) (λ c. search needs) (λ c. search needs) (λ c. search needs) (λ c. search needs) (λ c. search needs)
-    (λ c. search needs) (λ c. search needs) (λ c. search needs) (λ c. search needs) (λ c. search needs) (λ c. search needs)
-    (λ c. search needs))
+    tie.spec Inv-loop μ-loop loop-holds (λ c. search needs) (λ c. search needs) take-byte-requires (λ c κs. search needs)
+    (λ c. search needs) loop-again (λ c. search needs) (λ c. search needs) (λ c. search needs) (λ c. search needs)
+    (λ c. search needs) (λ c. search needs) returns)

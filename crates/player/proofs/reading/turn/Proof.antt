@@ -1,17 +1,27 @@
--- `reading::turn` meets its contract: at the end of the input the run is over, and a chunk leaves room in the buffer.
-use mathlib.Core.Path.{sym, _∙_}
-use mathlib.Core.Bool.{true≢false}
+-- `reading::turn` meets its contract: what the read brought is handed on, and is at most what a read can bring.
+use native.Mathlib.Omega.{arith}
 use borrow.Author.Needs.{needs}
+use Rattle.player.proofs.ReadingLaws.{ready-less, reads-once}
 use Rattle.player.proofs.reading.turn.Statement.{statement}
 use Rattle.player.proofs.reading.turn.Tie as tie
 
+take-read-requires : tie.Need-take-read-requires
+take-read-requires c κs =
+    let read = c .before .before .before .before .before .before .before .before in
+    let start = read .before .before .before .before .before .before .before .before .before in
+    (start .pre .0, (ready-less (omega (arith, read .read-chunk .ensures .0, read .read-chunk .ensures .1)) (start .pre .1 .0), start .pre .1 .1))
+
 returns : tie.Need-returns
-returns c = λ l. absurd (true≢false (sym l ∙ c .before .before .end .ensures))
+returns c =
+    let taken = c .before .before .before .before .before .before .before .before .before .before .before .before in
+    let read = taken .before .before .before .before .before .before .before .before .before in (
+      taken .take-read .ensures .0,
+      reads-once _ _ _ _ _ _ _ _ (read .read-chunk .ensures .1) (read .read-chunk .ensures .0) (search needs) (taken .take-read .ensures .1),
+    )
 
 pub turn-spec : {M : Type 1} → statement M
 turn-spec =
     tie.close (
-    tie.spec (λ c κs. search needs) (λ c. search needs) (λ c κs. search needs) (λ c κs. search needs) (λ c. search needs)
-    (λ c. search needs) (λ c. search needs) (λ c. search needs) returns (λ c. search needs) (λ c κs. search needs)
-    (λ c. search needs) (λ c. search needs) (λ c κs. search needs) (λ c. search needs) (λ c. search needs) (λ c. search needs)
-    (λ c. search needs) (λ c. search needs) (λ c. search needs) (λ c. search needs))
+    tie.spec (λ c κs. search needs) (λ c. search needs) (λ c κs. search needs) (λ c. search needs) (λ c. search needs)
+    take-read-requires (λ c. search needs) (λ c. search needs) (λ c. search needs) (λ c. search needs) (λ c. search needs)
+    (λ c. search needs) returns)

@@ -1,0 +1,96 @@
+-- Outcomes on tables that hold the book's pairs: questions 1 to 3 get yes, and the rest is what the graph of the pairs gives.
+--   link-by-pairs .. tree-by-pairs   the outcome of each call that a worked case makes
+use mathlib.Core.Path.{_≡_, refl, ap, _∙_}
+use mathlib.Core.Bool.{Bool, true, _&&_}
+use mathlib.Core.List.{List}
+use Prim.Native.Nat.{ℕ, _+_, _≤_}
+use lib.IntN.{pos}
+use lib.ListN.{length}
+use Rattle.mesh.specs.Limits.{max-neighbours}
+use Rattle.lists.specs.Lists.{overwrite}
+use Rattle.mesh.specs.Graph.{Link, Graph, graph}
+use Rattle.mesh.specs.Levels.{changed, step-of}
+use Rattle.mesh.specs.Tables.{Tables, graph-in, tables-of}
+use Rattle.mesh.specs.Sound.{sound}
+use Rattle.mesh.specs.Connected.{core-of, backbone}
+use Rattle.mesh.specs.Tree.{tree, node-names}
+use Rattle.mesh.specs.Image.{image-of}
+use Rattle.mesh.specs.declared.Node.{Node}
+use Rattle.mesh.proofs.Cores.Peeling.{length-numbers}
+use Rattle.mesh.proofs.Tables.Laws.{length-links-table}
+use Rattle.mesh.proofs.Images.Sites.{length-order}
+use Rattle.calls.specs.Questions.{lengths-of, answer-length, nodes-length, image-length, holds-image, ask, ends-refusal, level-refusal, site-refusal}
+use Rattle.calls.specs.Questions.{link-refusal, core-refusal, backbone-refusal, tree-refusal, write-refusal}
+use Rattle.calls.specs.Switches.{switch, switched}
+use Rattle.calls.specs.Outcomes.{by-number, reply, value, link-outcome, listing-outcome, core-outcome, backbone-outcome, write-outcome, tree-outcome}
+use Rattle.calls.proofs.QuestionLaws.{Site-lengths, ask-yes, true-answer-length, true-nodes-length, true-holds-image}
+use Rattle.calls.proofs.ChainLaws.{site-yes}
+use Rattle.calls.proofs.Holds.{Holds, read-back, is-sound}
+
+module _ (n : ℕ) (ps : List Link) (t : Tables) (k : Holds n ps t) (least : 1 ≤ n) where
+  abbrev g : Graph
+  g = graph n ps
+
+  lengths : Site-lengths n (lengths-of t)
+  unfolding lengths-of tables-of
+  lengths = record {
+    links = ap (λ (o : Tables). length (o .links)) (k .is) ∙ length-links-table g;
+    numbers = ap (λ (o : Tables). length (o .numbers)) (k .is) ∙ length-numbers g;
+    order = ap (λ (o : Tables). length (o .order)) (k .is) ∙ length-order g (k .xs) (k .most) (k .valid);
+  }
+
+  -- what is left of a chain when 1 to 3 get yes
+  later-asked :
+      (others : Bool) (later : Graph → ℕ) → others ≡ true →
+      site-refusal n (lengths-of t) others (sound n t) (later (graph-in n (t .links))) ≡ later g
+  later-asked others later e =
+      site-yes n (lengths-of t) others (sound n t) (later (graph-in n (t .links)))
+      (record { lent = record { least = least; most = k .most; lengths = lengths; further = e }; is-sound = is-sound n ps t k })
+      ∙ ap later (read-back n ps t k)
+
+  pub link-by-pairs :
+      (up : Bool) (a b : ℕ) (w : List ℕ) → n ≤ length w → let cs = changed up a b g in
+      link-outcome up n a b t w
+      ≡ by-number
+      (ends-refusal max-neighbours up n a b g)
+      (reply 0 (step-of up cs) (length cs), switched n (switch up a b) t, overwrite cs w)
+      (λ q. (reply q (pos 0) 0, t, w))
+  unfolding link-outcome link-refusal
+  link-by-pairs up a b w l =
+      rw (
+        later-asked (answer-length n (length w)) (λ h. ends-refusal max-neighbours up n a b h) (true-answer-length n (length w) l),
+        read-back n ps t k,
+      )
+
+  pub core-by-pairs :
+      (v i : ℕ) (w : List ℕ) → n ≤ length w → let radios = core-of g v i in
+      core-outcome n v i t w ≡ listing-outcome (level-refusal n v i g) (length radios) radios w
+  unfolding core-outcome core-refusal
+  core-by-pairs v i w l =
+      rw (later-asked (answer-length n (length w)) (λ h. level-refusal n v i h) (true-answer-length n (length w) l), read-back n ps t k)
+
+  pub backbone-by-pairs :
+      (w : List ℕ) → n ≤ length w → backbone-outcome n t w ≡ listing-outcome 0 (length (backbone g)) (backbone g) w
+  unfolding backbone-outcome backbone-refusal
+  backbone-by-pairs w l =
+      rw (later-asked (answer-length n (length w)) (λ h. 0) (true-answer-length n (length w) l), read-back n ps t k)
+
+  pub write-by-pairs :
+      (w : List ℕ) → image-length g ≤ length w →
+      write-outcome n t w ≡ (value 0 (image-length g), overwrite (image-of g (t .order)) w)
+  unfolding write-outcome write-refusal listing-outcome by-number
+  write-by-pairs w l =
+      rw (
+        later-asked true (λ h. ask 9 (holds-image h (length w)) 0) refl,
+        read-back n ps t k,
+        ask-yes 9 (holds-image g (length w)) 0 (true-holds-image g (length w) l),
+      )
+
+  pub tree-by-pairs :
+      (m : List Node) (w : List ℕ) → n + 1 ≤ length m → n ≤ length w →
+      tree-outcome n t m w ≡ (value 0 (length (tree g)), overwrite (tree g) m, overwrite (node-names g) w)
+  unfolding tree-outcome tree-refusal by-number
+  tree-by-pairs m w p q =
+      let e : (nodes-length n (length m) && answer-length n (length w)) ≡ true =
+      rw (true-nodes-length n (length m) p, true-answer-length n (length w) q) in
+      rw (later-asked (nodes-length n (length m) && answer-length n (length w)) (λ h. 0) e, read-back n ps t k)

@@ -1,0 +1,54 @@
+-- In any run, an accepted link call lists exactly the radios whose core number by the largest group differs between the book's pairs
+-- before and after. From `demand-3`; the number by peeling is not in the statement.
+use mathlib.Core.Path.{_≡_, refl, sym, _∙_}
+use mathlib.Core.Logic.{_↔_, _⊎_, inl, inr}
+use mathlib.Core.Bool.{Bool, true, false}
+use mathlib.Core.List.{List, [], _∷_, _++_}
+use Prim.Native.Nat.{ℕ, _<_}
+use native.Mathlib.Omega.{arith}
+use Rattle.lists.specs.Lists.{member}
+use Rattle.mesh.specs.Graph.{Link, graph}
+use Rattle.mesh.specs.Cores.{Core}
+use Rattle.mesh.specs.Tables.{Tables}
+use Rattle.mesh.specs.Sound.{number-in}
+use Rattle.lists.proofs.Tests.{bool-cases}
+use Rattle.mesh.proofs.Cores.Certificate.{core-unique}
+use Rattle.calls.specs.Book.{Call, linking, Answer, book-after}
+use Rattle.calls.specs.Runs.{Does, Event, event, Run, ended, next, givens}
+use Rattle.calls.specs.Demand.{By-one, Link-kept, Start, Kept, Demand-3}
+use Rattle.calls.proofs.WholeList.{demand-3}
+
+-- a run with one call more
+run-further :
+    (c : Call) (v : Tables) (hs : List Answer) {t u : Tables} {es : List Event} → Run t es u → Does c u hs v → Run t (es ++ (event c u hs v ∷ [])) v
+run-further c v hs ended d = next d ended
+run-further c v hs (next e r) d = next e (run-further c v hs r d)
+
+differ : (up : Bool) (j k : ℕ) → By-one up j k → j ≡ k → ⊥
+unfolding By-one
+differ true j k e p = omega arith
+differ false j k e p = omega arith
+
+kept : (n : ℕ) (ps : List Link) (t v : Tables) (es : List Event) → Start n ps t → Run t es v → Kept n ps es (graph n (book-after (givens es) ps)) v
+unfolding Demand-3
+kept = demand-3
+
+pub exactly-changed :
+    (n : ℕ) (ps : List Link) (s t u : Tables) (es : List Event) (up : Bool) (m a b w : ℕ) (h : Answer) → Start n ps s → Run s es t →
+    Does (linking up m a b w) t (h ∷ []) u → h .number ≡ 0 → (x j k : ℕ) → x < n → Core (graph n (book-after (givens es) ps)) x j →
+    Core (graph n (book-after (givens (es ++ (event (linking up m a b w) t (h ∷ []) u ∷ []))) ps)) x k →
+    (member x (h .listed) ≡ true) ↔ (j ≡ k → ⊥)
+unfolding Link-kept
+exactly-changed n ps s t u es up m a b w h start run d z x j k l p q =
+    let before = kept n ps s t es start run in
+    let after = kept n ps s u _ start (run-further (linking up m a b w) u (h ∷ []) run d) in
+    let link = after .link-calls es [] up m a b w t u h refl z in
+    let was : j ≡ number-in (t .numbers) x = core-unique _ x j _ p (before .cores x l) in
+    let is : k ≡ number-in (u .numbers) x = core-unique _ x k _ q (after .cores x l) in (
+      λ e f. differ up _ _ (link .by-one x e) (sym was ∙ f ∙ is),
+      λ f. go (bool-cases (member x (h .listed))) (λ o. f (was ∙ sym (link .numbers x o) ∙ sym is)),
+    )
+  where
+    go : (member x (h .listed) ≡ true) ⊎ (member x (h .listed) ≡ false) → (member x (h .listed) ≡ false → ⊥) → member x (h .listed) ≡ true
+    go (inl y) f = y
+    go (inr y) f = absurd (f y)

@@ -1,0 +1,47 @@
+-- Every list of calls has a run, from any tables.
+--   link-done    a link call is done, whatever the answer table holds
+--   call-total   every call is done
+--   run-total    so is every list of calls
+use mathlib.Core.Path.{_≡_, refl, ap}
+use mathlib.Core.Bool.{Bool}
+use mathlib.Core.List.{List, [], _∷_}
+use Prim.Native.Nat.{ℕ}
+use lib.ListN.{length, replicate, length-replicate}
+use Rattle.mesh.specs.Tables.{Tables}
+use Rattle.calls.specs.Book.{Call, clearing, reading, linking, other, Answer, plain}
+use Rattle.calls.specs.Outcomes.{clear-outcome, read-outcome, link-outcome}
+use Rattle.calls.specs.Runs.{answer-of, Linking-done, Does, Event, event, Run, ended, next, called}
+use Rattle.calls.proofs.Outcomes.{clear-inhabited, read-inhabited, link-inhabited}
+
+pub link-done :
+    (up : Bool) (n a b : ℕ) (t : Tables) (w : List ℕ) → let o = link-outcome up n a b t w in
+    Linking-done up n a b (length w) t (answer-of (o .0) (o .2) ∷ []) (o .1)
+link-done up n a b t w = record {
+  lent = w;
+  long = refl;
+  result = link-outcome up n a b t w .0;
+  table = link-outcome up n a b t w .2;
+  contract = link-inhabited up n a b t w;
+  answer = refl;
+}
+
+pub call-total : (c : Call) (t : Tables) → (o : List Answer × Tables) × Does c t (o .0) (o .1)
+unfolding Does
+call-total (clearing n) t =
+    let o = clear-outcome n t in
+    ((plain (o .0) ∷ [], o .1), record { result = o .0; contract = clear-inhabited n t; answer = refl })
+call-total (reading n bs) t =
+    let o = read-outcome n bs t in
+    ((plain (o .0) ∷ [], o .1), record { result = o .0; contract = read-inhabited n bs t; answer = refl })
+call-total (linking up n a b w) t =
+    let o = link-outcome up n a b t (replicate w 0) in
+    ((answer-of (o .0) (o .2) ∷ [], o .1), rw length-replicate at (link-done up n a b t (replicate w 0)))
+call-total other t = (([], t), (refl, refl))
+
+pub run-total : (cs : List Call) (t : Tables) → (es : List Event) × (v : Tables) × Run t es v × (called es ≡ cs)
+unfolding called
+run-total [] t = ([], t, ended, refl)
+run-total (c ∷ cs) t =
+    let o = call-total c t in
+    let r = run-total cs (o .0 .1) in
+    (event c t (o .0 .0) (o .0 .1) ∷ r .0, r .1, next (o .1) (r .2), ap {B = List Call} (λ ds. c ∷ ds) (r .3))

@@ -1,0 +1,292 @@
+-- Worked cases played on pairs and order are the worked cases played over the outcomes.
+--   Alike         what link calls leave holds the pairs, the order and the answers of a state
+--   by-state      a row that is right on pairs and order is right over the outcomes, whatever the lent tables held
+-- In order: what is lent, what calls answer, the state, link calls, what is wanted, rows.
+use mathlib.Core.Path.{_≡_, refl, ap, sym, _∙_}
+use mathlib.Core.Bool.{true, false, _&&_}
+use mathlib.Core.List.{List, [], _∷_, _++_, flatMap}
+use Prim.Native.Nat.{ℕ, zero, suc, _+_, _*_, _≤_}
+use native.Mathlib.Omega.{arith}
+use lib.Dec.{eqb}
+use lib.IntN.{pos}
+use lib.ListN.{length, take, length-map}
+use borrow.Author.Tests.{eqb-true, eq-eqb}
+use Rattle.mesh.specs.Limits.{max-neighbours, row-bytes}
+use Rattle.lists.specs.Lists.{range, same, overwrite}
+use Rattle.mesh.specs.Graph.{Graph, graph, radios}
+use Rattle.mesh.specs.Levels.{changed, step-of}
+use Rattle.mesh.specs.Tables.{Tables, graph-in, tables-of}
+use Rattle.mesh.specs.Connected.{core-of, backbone}
+use Rattle.mesh.specs.Tree.{node, node-name, tree, node-names}
+use Rattle.mesh.specs.Image.{long, image-of}
+use Rattle.mesh.specs.declared.Node.{Node}
+use Rattle.lists.proofs.Tests.{never, and-left, and-right, and-both}
+use Rattle.lists.proofs.Range.{length-range}
+use Rattle.lists.proofs.All.{same-refl, same-eq}
+use Rattle.lists.proofs.Overwrite.{take-overwrite}
+use Rattle.mesh.proofs.Images.Of.{length-image-of}
+use Rattle.calls.specs.Questions.{lengths-of, size-good, level-refusal, image-length, tables-refusal, ends-refusal, read-refusal}
+use Rattle.calls.specs.Switches.{Switch, switched}
+use Rattle.calls.specs.Outcomes.{by-number, reply, value, listing-outcome, clear-outcome, read-outcome, write-outcome, tree-outcome}
+use Rattle.calls.specs.Worked.{entries, lent-tables, lent-nodes, Left, left, left-by, played, after, Want, last-answers, all-numbers, whole-order}
+use Rattle.calls.specs.Worked.{shell-tree, connected-core, backbone-radios, image-checks, printed, soundness, image-reading, same-nodes, block-checks}
+use Rattle.calls.specs.Worked.{is-value, is-listing, image-written, meets, meets-all, Row, right, Right, All-right}
+use Rattle.calls.specs.declared.Reply.{Reply}
+use Rattle.calls.specs.declared.Value.{Value}
+use Rattle.calls.proofs.QuestionLaws.{size-good-true}
+use Rattle.calls.proofs.ChainLaws.{lent-yes, ends-zero}
+use Rattle.calls.proofs.Holds.{Holds, clear-holds, read-back, switched-holds}
+use Rattle.calls.proofs.Steps.{answer-accepted, answer-refused}
+use Rattle.calls.proofs.ByPairs.{link-by-pairs, core-by-pairs, backbone-by-pairs, write-by-pairs, tree-by-pairs}
+use Rattle.calls.proofs.WorkedState.{State, state, carried-out, state-played, state-after, right-lengths, state-meets, state-meets-all, state-right}
+use Rattle.calls.proofs.WorkedState.{all-state-right}
+
+-- ---- what is lent
+
+length-entries : (f : ℕ → ℕ) (k : ℕ) → length (entries f k) ≡ k
+unfolding entries
+length-entries f k = length-map (range 0 k) f ∙ length-range 0 k
+
+length-lent-nodes : (f : ℕ → ℕ) (n : ℕ) → length (lent-nodes f n) ≡ n + 1
+unfolding lent-nodes
+length-lent-nodes f n = length-map (range 0 (n + 1)) (λ i. node (f i) (f i) (f i)) ∙ length-range 0 (n + 1)
+
+lengths-lent : (f : ℕ → ℕ) (n : ℕ) → lengths-of (lent-tables f n) ≡ right-lengths n
+unfolding lengths-of lent-tables
+lengths-lent f n = rw (length-entries f (row-bytes * n), length-entries f n)
+
+-- ---- what calls answer
+
+node-ext : (x y : Node) → x .name ≡ y .name → x .level ≡ y .level → x .parent ≡ y .parent → x ≡ y
+node-ext x y p q r = rw (← p, ← q, ← r)
+
+same-nodes-eq : (xs ys : List Node) → same-nodes xs ys ≡ true → xs ≡ ys
+unfolding same-nodes
+same-nodes-eq [] [] p = refl
+same-nodes-eq [] (y ∷ ys) p = never false p refl
+same-nodes-eq (x ∷ xs) [] p = never false p refl
+same-nodes-eq (x ∷ xs) (y ∷ ys) p =
+    let a = and-left (eqb (x .name) (y .name) && eqb (x .level) (y .level)) (eqb (x .parent) (y .parent) && same-nodes xs ys) p in
+    let b = and-right (eqb (x .name) (y .name) && eqb (x .level) (y .level)) (eqb (x .parent) (y .parent) && same-nodes xs ys) p in
+    let e : x ≡ y =
+    node-ext x y
+    (eqb-true (x .name) (y .name) (and-left (eqb (x .name) (y .name)) (eqb (x .level) (y .level)) a))
+    (eqb-true (x .level) (y .level) (and-right (eqb (x .name) (y .name)) (eqb (x .level) (y .level)) a))
+    (eqb-true (x .parent) (y .parent) (and-left (eqb (x .parent) (y .parent)) (same-nodes xs ys) b)) in
+    let d = same-nodes-eq xs ys (and-right (eqb (x .parent) (y .parent)) (same-nodes xs ys) b) in rw (e, d)
+
+same-nodes-refl : (xs : List Node) → same-nodes xs xs ≡ true
+unfolding same-nodes
+same-nodes-refl [] = refl
+same-nodes-refl (x ∷ xs) = rw (eq-eqb (x .name) (x .name) refl, eq-eqb (x .level) (x .level) refl, eq-eqb (x .parent) (x .parent) refl, same-nodes-refl xs)
+
+is-value-refl : (q x : ℕ) → is-value (value q x) q x ≡ true
+unfolding is-value
+is-value-refl q x = rw (eq-eqb q q refl, eq-eqb x x refl)
+
+-- a number and a list
+listing-right :
+    (R r : ℕ) (new old xs : List ℕ) → (eqb R r && same (by-number R new (λ x. [])) xs) ≡ true →
+    is-listing (listing-outcome R (length new) new old) r xs ≡ true
+unfolding is-listing listing-outcome by-number same
+listing-right zero r new old xs p =
+    let e : _≡_ {A = ℕ} 0 r = eqb-true 0 r (and-left (eqb 0 r) (same new xs) p) in
+    let d : new ≡ xs = same-eq new xs (and-right (eqb 0 r) (same new xs) p) in
+    rw (← e, ← d, is-value-refl 0 (length new), take-overwrite new old, same-refl new)
+listing-right (suc y) r new old xs p =
+    let e : suc y ≡ r = eqb-true (suc y) r (and-left (eqb (suc y) r) (same [] xs) p) in
+    let d : [] ≡ xs = same-eq [] xs (and-right (eqb (suc y) r) (same [] xs) p) in
+    rw (← e, ← d, is-value-refl (suc y) 0)
+
+number-by : (R : ℕ) (u v : Tables) → by-number {A = ℕ × Tables} R (0, u) (λ q. (q, v)) .0 ≡ R
+unfolding by-number
+number-by zero u v = refl
+number-by (suc q) u v = refl
+
+number-read : (n : ℕ) (bs : List ℕ) (t : Tables) → read-outcome n bs t .0 ≡ read-refusal n (lengths-of t) bs
+unfolding read-outcome
+number-read n bs t = number-by (read-refusal n (lengths-of t) bs) _ t
+
+-- ---- a state
+
+pub record Alike (n : ℕ) (q : State) (s : Left) : Type 0 where
+  pub holds : Holds n (q .pairs) (s .tables)
+  pub order : s .tables .order ≡ q .order
+  pub answers : s .answers ≡ q .answers
+
+module _ (f : ℕ → ℕ) (n : ℕ) (size : size-good n ≡ true) where
+  abbrev least : 1 ≤ n
+  least = size-good-true n size .0
+
+  abbrev enough-entries : n ≤ length (entries f n)
+  enough-entries = omega (arith, length-entries f n)
+
+  cleared : tables-refusal n (lengths-of (lent-tables f n)) ≡ 0
+  unfolding tables-refusal
+  cleared =
+      rw (lengths-lent f n) (lent-yes n (right-lengths n) true 0 (record {
+        least = least;
+        most = size-good-true n size .1;
+        lengths = record { links = refl; numbers = refl; order = refl };
+        further = refl;
+      }))
+
+  alike-cleared : (eqb (clear-outcome n (lent-tables f n) .0) 0 ≡ true) × Alike n (state [] (range 0 n) []) (left (clear-outcome n (lent-tables f n) .1) [])
+  unfolding clear-outcome by-number
+  alike-cleared =
+      rw cleared (
+        refl,
+        record {
+          holds = clear-holds n 0 (lent-tables f n) _ cleared (record { number = refl; links = refl; numbers = refl; order = refl });
+          order = refl;
+          answers = refl;
+        },
+      )
+
+  -- ---- link calls
+
+  module _ (c : Switch) (q : State) (s : Left) (k : Alike n q s) where
+    abbrev g : Graph
+    g = graph n (q .pairs)
+
+    abbrev changes : List ℕ
+    changes = changed (c .up) (c .a) (c .b) g
+
+    abbrev outcome-by : ℕ → Reply × Tables × List ℕ
+    outcome-by R =
+        by-number R (reply 0 (step-of (c .up) changes) (length changes), switched n c (s .tables), overwrite changes (entries f n)) (
+        λ x. (reply x (pos 0) 0, s .tables, entries f n))
+
+    alike-by : (R : ℕ) → ends-refusal max-neighbours (c .up) n (c .a) (c .b) g ≡ R → Alike n (carried-out R n c q) (left-by s (outcome-by R))
+    unfolding carried-out left-by by-number switched
+    alike-by zero e = record {
+      holds = switched-holds n (q .pairs) (s .tables) (k .holds) c (ends-zero max-neighbours (c .up) (c .a) (c .b) g e);
+      order = rw (read-back n (q .pairs) (s .tables) (k .holds), k .order);
+      answers = rw (k .answers, answer-accepted (c .up) _ changes (entries f n) _ refl refl refl refl);
+    }
+    alike-by (suc x) e = record {
+      holds = k .holds;
+      order = k .order;
+      answers = rw (k .answers, answer-refused _ (suc x) (entries f n) refl refl refl);
+    }
+
+    alike-played : Alike n (state-played n c q) (played f n c s)
+    unfolding played state-played
+    alike-played =
+        rw (link-by-pairs n (q .pairs) (s .tables) (k .holds) least (c .up) (c .a) (c .b) (entries f n) enough-entries) (alike-by _ refl)
+
+  alike-after : (cs : List Switch) (q : State) (s : Left) → Alike n q s → Alike n (state-after n cs q) (after f n cs s)
+  unfolding after state-after
+  alike-after [] q s k = k
+  alike-after (c ∷ cs) q s k = alike-after cs (state-played n c q) (played f n c s) (alike-played c q s k)
+
+  -- ---- what is wanted
+
+  module _ (q : State) (s : Left) (k : Alike n q s) where
+    abbrev site : Graph
+    site = graph n (q .pairs)
+
+    tables-are : s .tables ≡ tables-of site (q .order)
+    unfolding tables-of
+    tables-are =
+        k .holds .is ∙ ap (tables-of site) (sym (ap (λ (o : Tables). o .order) (k .holds .is)) ∙ k .order)
+
+    -- the image is written whole into a buffer that holds it
+    image-taken :
+        (w : List ℕ) → image-length site ≤ length w → let o = write-outcome n (s .tables) w in
+        (o .0 ≡ value 0 (image-length site)) × (take (image-length site) (o .1) ≡ image-of site (q .order))
+    unfolding image-length
+    image-taken w l =
+        let e = write-by-pairs n (q .pairs) (s .tables) (k .holds) least w l in (
+          ap (λ (o : Value × List ℕ). o .0) e,
+          ap (λ (o : Value × List ℕ). take (image-length site) (o .1)) e
+              ∙ rw (k .order, ← length-image-of site (q .order), take-overwrite (image-of site (q .order)) w),
+        )
+
+    written : image-written f n (s .tables) ≡ image-of site (q .order)
+    unfolding image-written
+    written =
+        let e : graph-in n (s .tables .links) ≡ site = read-back n (q .pairs) (s .tables) (k .holds) in
+        let o = image-taken (entries f (image-length site)) (omega (arith, length-entries f (image-length site))) in
+        rw (e, o .0) (o .1)
+
+    checks-right :
+        (cs w : List ℕ) → image-length site ≤ length w →
+        same (block-checks (length cs) (image-of site (q .order))) (flatMap long cs) ≡ true → let o = write-outcome n (s .tables) w in
+        (is-value (o .0) 0 (image-length site) && same (block-checks (length cs) (take (image-length site) (o .1))) (flatMap long cs)) ≡ true
+    checks-right cs w l p =
+        let o = image-taken w l in rw (o .0, o .1, is-value-refl 0 (image-length site)) p
+
+    names-taken : (w : List ℕ) → take n (overwrite (node-names site) w) ≡ node-names site
+    unfolding node-names radios
+    names-taken w =
+        let e : length (node-names site) ≡ n = length-map (range 0 n) (node-name site) ∙ length-range 0 n in
+        ap (λ (i : ℕ). take i (overwrite (node-names site) w)) (sym e) ∙ take-overwrite (node-names site) w
+
+    tree-right :
+        (ns : List Node) (vs : List ℕ) → same-nodes (tree site) ns ≡ true → same (node-names site) vs ≡ true →
+        let o = tree-outcome n (s .tables) (lent-nodes f n) (entries f n) in
+        (is-value (o .0) 0 (length ns) && (same-nodes (take (length ns) (o .1)) ns && same (take n (o .2)) vs)) ≡ true
+    tree-right ns vs p r =
+        let e = tree-by-pairs n (q .pairs) (s .tables) (k .holds) least (lent-nodes f n) (entries f n) (omega (arith, length-lent-nodes f n)) enough-entries in
+        rw (
+          e,
+          ← same-nodes-eq (tree site) ns p,
+          is-value-refl 0 (length (tree site)),
+          take-overwrite (tree site) (lent-nodes f n),
+          same-nodes-refl (tree site),
+          names-taken (entries f n),
+        ) r
+
+    meets-by : (w : Want) → state-meets n q w ≡ true → meets f n s w ≡ true
+    unfolding state-meets meets tables-of by-number
+    meets-by (last-answers hs) p = rw (k .answers) p
+    meets-by (all-numbers ns) p = rw tables-are p
+    meets-by (whole-order xs) p = rw (k .order) p
+    meets-by (shell-tree ns vs) p =
+        tree-right ns vs (and-left (same-nodes (tree site) ns) (same (node-names site) vs) p) (and-right (same-nodes (tree site) ns) (same (node-names site) vs) p)
+    meets-by (connected-core v i r xs) p =
+        rw (core-by-pairs n (q .pairs) (s .tables) (k .holds) least v i (entries f n) enough-entries) (
+        listing-right (level-refusal n v i site) r (core-of site v i) (entries f n) xs p)
+    meets-by (backbone-radios xs) p =
+        rw (backbone-by-pairs n (q .pairs) (s .tables) (k .holds) least (entries f n) enough-entries) (
+        listing-right 0 0 (backbone site) (entries f n) xs p)
+    meets-by (image-checks m cs) p =
+        let checks = same (block-checks (length cs) (image-of site (q .order))) (flatMap long cs) in
+        let e : image-length site ≡ m = eqb-true (image-length site) m (and-left (eqb (image-length site) m) checks p) in
+        rw (← e) (checks-right cs (entries f (image-length site)) (omega (arith, length-entries f (image-length site))) (
+        and-right (eqb (image-length site) m) checks p))
+    meets-by (printed ls) p = rw (k .answers, tables-are) p
+    meets-by (soundness ps ns xs b) p = rw tables-are p
+    meets-by (image-reading m i ps r) p = rw (number-read m _ (lent-tables f m), lengths-lent f m, written) p
+
+    meets-all-by : (ws : List Want) → state-meets-all n q ws ≡ true → meets-all f n s ws ≡ true
+    unfolding state-meets-all meets-all
+    meets-all-by [] p = refl
+    meets-all-by (w ∷ ws) p =
+        and-both (meets f n s w) (meets-all f n s ws) (meets-by w (and-left (state-meets n q w) (state-meets-all n q ws) p)) (
+        meets-all-by ws (and-right (state-meets n q w) (state-meets-all n q ws) p))
+
+-- ---- rows
+
+pub by-state : (r : Row) → state-right r ≡ true → Right r
+unfolding state-right right
+by-state r p f =
+    let n = r .n in
+    let q = state-after n (r .calls) (state [] (range 0 n) []) in
+    let size = and-left (size-good n) (state-meets-all n q (r .wants)) p in
+    let start = alike-cleared f n size in
+    let k = alike-after f n size (r .calls) (state [] (range 0 n) []) _ (start .1) in
+    and-both _ _ (start .0) (meets-all-by f n size q _ k (r .wants) (and-right (size-good n) (state-meets-all n q (r .wants)) p))
+
+pub all-by-state : (rs : List Row) → all-state-right rs ≡ true → All-right rs
+unfolding all-state-right All-right
+all-by-state [] p = tt
+all-by-state (r ∷ rs) p =
+    (by-state r (and-left (state-right r) (all-state-right rs) p), all-by-state rs (and-right (state-right r) (all-state-right rs) p))
+
+-- rows may be proved right in groups
+pub all-right-append : (xs ys : List Row) → All-right xs → All-right ys → All-right (xs ++ ys)
+unfolding All-right
+all-right-append [] ys p q = q
+all-right-append (x ∷ xs) ys p q = (p .0, all-right-append xs ys (p .1) q)

@@ -1,0 +1,102 @@
+-- Worked cases played on the book's pairs and the order, for computing: the outcomes read the links table bit by bit and put question 3
+-- at each call, which takes too long. That both come to the same is `by-state` in WorkedLaws.antt.
+--   State            the book's pairs, the order, and the answers so far
+--   state-after      link calls made one after the other
+--   state-right      is a row right on pairs and order
+--   compute          what a proof of rows unfolds
+use mathlib.Core.Bool.{Bool, true, _&&_, cond}
+use mathlib.Core.List.{List, [], _∷_, _++_, flatMap}
+use Prim.Native.Nat.{ℕ, zero, suc, _*_, _-_}
+use lib.Dec.{eqb}
+use lib.ListN.{length, drop, take}
+use Rattle.mesh.specs.Limits.{max-neighbours, row-bytes}
+use Rattle.lists.specs.Lists.{range, count, filter, member, all, same, head-or}
+use Rattle.mesh.specs.Graph.{Link, graph, radios, other-ends, linked, neighbours-among, degree, link, link-before, same-link, with-link, without-link}
+use Rattle.mesh.specs.Graph.{new-links, relinked, proper, ascending}
+use Rattle.mesh.specs.Cores.{survivors, peeled, cores-from, cores, depth, number, numbers}
+use Rattle.mesh.specs.Levels.{changed, step-of, lower-level, stretch-start, stretch-length, first-fitting, without, laid-out, stretch-up, stretch-down}
+use Rattle.mesh.specs.Levels.{new-stretch, with-stretch, new-order}
+use Rattle.mesh.specs.Orders.{each-once, rising, few-later}
+use Rattle.mesh.specs.Tables.{tables, digit, byte-at, marked, from-digits, row-of, links-table, tables-of}
+use Rattle.mesh.specs.Sound.{symmetric, irreflexive, within, row-degree, few, rows-proper, enough, sound-within, sound}
+use Rattle.mesh.specs.Connected.{at-least, reached, core-of, greatest, backbone}
+use Rattle.mesh.specs.Tree.{shell, node-name, parent-name, nodes-at, tree, node-names}
+use Rattle.mesh.specs.Image.{word, long, weighted-sum, check-sum, block, blocks-for, order-blocks, block-count, link-bytes, order-payload, links-payload}
+use Rattle.mesh.specs.Image.{block-at, image-of, word-at, entry-at, image-order, image-link, image-links, image-graph, whole-blocks, block-check, checks-good}
+use Rattle.mesh.specs.Image.{is-image}
+use Rattle.calls.specs.Questions.{ask, Lengths, lengths-of, size-good, site-lengths, is-radio, are-radios, ends-differ, can-switch, has-room, has-level}
+use Rattle.calls.specs.Questions.{level-refusal, image-length, lent-refusal, tables-refusal, ends-refusal, blocks-refusal, image-refusal, read-refusal}
+use Rattle.calls.specs.Switches.{Switch}
+use Rattle.calls.specs.Outcomes.{by-number, value-outcome, check-outcome}
+use Rattle.calls.specs.Book.{Answer, plain, reported}
+use Rattle.calls.specs.Replay.{bytes-of, digit-byte, digits-in, decimal, step-text, further-fields, printed-line, link-line, numbers-line, order-line}
+use Rattle.calls.specs.Replay.{closing-lines}
+use Rattle.calls.specs.Worked.{risen, fallen, unchanged, refused, Want, last-answers, all-numbers, whole-order, shell-tree, connected-core}
+use Rattle.calls.specs.Worked.{backbone-radios, image-checks, printed, soundness, image-reading, same-step, same-answers, same-nodes, block-checks}
+use Rattle.calls.specs.Worked.{put-in, answer-line, lines, is-value, Row}
+
+pub record State : Type 0 where
+  pub pairs : List Link
+  pub order : List ℕ
+  pub answers : List Answer
+
+abbrev pub state : (pairs : List Link) → (order : List ℕ) → (answers : List Answer) → State
+state ps xs hs = record { pairs = ps; order = xs; answers = hs }
+
+-- the state after a call with this number
+unfoldable pub carried-out : (number : ℕ) → (n : ℕ) → Switch → State → State
+carried-out zero n c q =
+    let g = graph n (q .pairs) in
+    state
+    (new-links (c .up) (c .a) (c .b) (q .pairs))
+    (new-order (c .up) (c .a) (c .b) g (q .order))
+    (q .answers ++ (reported (c .up) (changed (c .up) (c .a) (c .b) g) ∷ []))
+carried-out (suc x) n c q = state (q .pairs) (q .order) (q .answers ++ (plain (suc x) ∷ []))
+
+unfoldable pub state-played : (n : ℕ) → Switch → State → State
+state-played n c q =
+    carried-out (ends-refusal max-neighbours (c .up) n (c .a) (c .b) (graph n (q .pairs))) n c q
+
+unfoldable pub state-after : (n : ℕ) → List Switch → State → State
+state-after n [] q = q
+state-after n (c ∷ cs) q = state-after n cs (state-played n c q)
+
+-- the lengths of the tables of n radios
+abbrev pub right-lengths : (n : ℕ) → Lengths
+right-lengths n = record { links = row-bytes * n; numbers = n; order = n }
+
+unfoldable pub state-meets : (n : ℕ) → State → Want → Bool
+state-meets n q (last-answers hs) = same-answers (drop (length (q .answers) - length hs) (q .answers)) hs
+state-meets n q (all-numbers ns) = same (numbers (graph n (q .pairs))) ns
+state-meets n q (whole-order xs) = same (q .order) xs
+state-meets n q (shell-tree ns vs) =
+    let g = graph n (q .pairs) in same-nodes (tree g) ns && same (node-names g) vs
+state-meets n q (connected-core v k r xs) =
+    let g = graph n (q .pairs) in
+    let R = level-refusal n v k g in eqb R r && same (by-number R (core-of g v k) (λ x. [])) xs
+state-meets n q (backbone-radios xs) = same (backbone (graph n (q .pairs))) xs
+state-meets n q (image-checks m cs) =
+    let g = graph n (q .pairs) in
+    eqb (image-length g) m && same (block-checks (length cs) (image-of g (q .order))) (flatMap long cs)
+state-meets n q (printed ls) = same (lines (q .answers) (numbers (graph n (q .pairs))) (q .order)) (flatMap bytes-of ls)
+state-meets n q (soundness ps ns xs b) =
+    is-value (check-outcome n (tables (put-in ps (links-table (graph n (q .pairs)))) ns xs)) 0 (cond b 1 0)
+state-meets n q (image-reading m k ps r) =
+    eqb (read-refusal m (right-lengths m) (take k (put-in ps (image-of (graph n (q .pairs)) (q .order))))) r
+
+unfoldable pub state-meets-all : (n : ℕ) → State → List Want → Bool
+state-meets-all n q [] = true
+state-meets-all n q (w ∷ ws) = state-meets n q w && state-meets-all n q ws
+
+unfoldable pub state-right : Row → Bool
+state-right r =
+    let q = state-after (r .n) (r .calls) (state [] (range 0 (r .n)) []) in size-good (r .n) && state-meets-all (r .n) q (r .wants)
+
+unfoldable pub all-state-right : List Row → Bool
+all-state-right [] = true
+all-state-right (r ∷ rs) = state-right r && all-state-right rs
+
+-- everything that rows compute with
+unfoldable pub compute : Unit {0}
+unfolding range count filter member all same head-or radios other-ends linked neighbours-among degree link link-before same-link with-link without-link new-links relinked survivors peeled cores-from cores depth number numbers changed step-of lower-level stretch-start stretch-length first-fitting without laid-out stretch-up stretch-down new-stretch with-stretch new-order at-least reached core-of greatest backbone shell node-name parent-name nodes-at tree node-names word long weighted-sum check-sum block blocks-for order-blocks block-count link-bytes order-payload links-payload block-at image-of word-at entry-at image-order image-link image-links image-graph whole-blocks block-check checks-good is-image proper ascending each-once rising few-later digit byte-at marked from-digits row-of links-table tables-of symmetric irreflexive within row-degree few rows-proper enough sound-within sound ask is-radio are-radios ends-differ can-switch has-room has-level image-length ends-refusal image-refusal digit-byte digits-in decimal step-text further-fields printed-line link-line numbers-line order-line closing-lines risen fallen unchanged refused same-step same-answers same-nodes level-refusal block-checks put-in answer-line flatMap plain reported blocks-refusal is-value lines by-number value-outcome check-outcome tables-refusal lent-refusal size-good site-lengths lengths-of read-refusal carried-out state-played state-after state-meets state-meets-all state-right all-state-right
+compute = tt

@@ -1,0 +1,135 @@
+-- The outcome of each call as an executable definition: its result with the lent tables after it.
+--   by-number refusal accepted refused   the outcome by the number that the call's questions give
+--   clear-outcome .. block-outcome       the outcome of each contract, from what the call is given
+-- That each meets its contract, and no other outcome does, is `..-inhabited` and `..-decided` in proofs/Outcomes.antt.
+-- Definitions only.
+use mathlib.Core.Bool.{Bool, true, false, cond}
+use mathlib.Core.List.{List}
+use Prim.Native.Nat.{ℕ, zero, suc, _+_, _*_, _/_}
+use lib.Dec.{ltb}
+use lib.IntN.{ℤ, pos}
+use lib.ListN.{length, replicate}
+use Rattle.mesh.specs.Limits.{row-bytes}
+use Rattle.lists.specs.Lists.{range, overwrite}
+use Rattle.mesh.specs.Graph.{linked, degree}
+use Rattle.mesh.specs.Cores.{number}
+use Rattle.mesh.specs.Levels.{changed, step-of}
+use Rattle.mesh.specs.Tables.{Tables, tables, graph-in, tables-of}
+use Rattle.mesh.specs.Sound.{sound}
+use Rattle.mesh.specs.Connected.{core-of, backbone}
+use Rattle.mesh.specs.Tree.{tree, node-names}
+use Rattle.mesh.specs.Image.{block-bytes, payload-bytes, image-of, image-graph, image-order}
+use Rattle.mesh.specs.declared.Node.{Node}
+use Rattle.calls.specs.Questions.{lengths-of, image-length, tables-refusal, link-refusal, read-refusal, radio-refusal, pair-refusal, core-refusal}
+use Rattle.calls.specs.Questions.{backbone-refusal, tree-refusal, write-refusal, block-refusal}
+use Rattle.calls.specs.Switches.{switch, switched}
+use Rattle.calls.specs.Answers.{first-of-two}
+use Rattle.calls.specs.declared.Reply.{Reply}
+use Rattle.calls.specs.declared.Value.{Value}
+use Rattle.calls.specs.declared.Block.{Block}
+
+-- no "no": the accepted outcome; else that of the refusal
+unfoldable pub by-number : {A : Type 0} → (refusal : ℕ) → (accepted : A) → (refused : ℕ → A) → A
+by-number zero accepted refused = accepted
+by-number (suc q) accepted refused = refused (suc q)
+
+abbrev pub reply : (number : ℕ) → (step : ℤ) → (count : ℕ) → Reply
+reply r s c = record { number = r; step = s; count = c }
+
+abbrev pub value : (number value : ℕ) → Value
+value r x = record { number = r; value = x }
+
+-- ---- calls that write links, numbers and order
+
+-- zero links, zero numbers and the order 0 to n - 1
+unfoldable pub clear-outcome : (n : ℕ) → Tables → ℕ × Tables
+clear-outcome n t =
+    by-number
+    (tables-refusal n (lengths-of t))
+    (0, tables (replicate (row-bytes * n) 0) (replicate n 0) (range 0 n))
+    (λ q. (q, t))
+
+-- the tables of the image
+unfoldable pub read-outcome : (n : ℕ) → (image : List ℕ) → Tables → ℕ × Tables
+read-outcome n bs t =
+    by-number (read-refusal n (lengths-of t) bs) (0, tables-of (image-graph n bs) (image-order n bs)) (λ q. (q, t))
+
+-- the reply, the tables with the link switched, and the changed radios in front of the answer table
+unfoldable pub link-outcome : (up : Bool) → (n a b : ℕ) → Tables → (answer : List ℕ) → Reply × Tables × List ℕ
+link-outcome up n a b t w =
+    let g = graph-in n (t .links) in
+    let cs = changed up a b g in
+    by-number
+    (link-refusal up n a b (lengths-of t) (length w) (sound n t) g)
+    (reply 0 (step-of up cs) (length cs), switched n (switch up a b) t, overwrite cs w)
+    (λ q. (reply q (pos 0) 0, t, w))
+
+-- ---- a value
+
+-- the value x, or the refusal
+unfoldable pub value-outcome : (refusal x : ℕ) → Value
+value-outcome R x = by-number R (value 0 x) (λ q. value q 0)
+
+unfoldable pub check-outcome : (n : ℕ) → Tables → Value
+check-outcome n t = value-outcome (tables-refusal n (lengths-of t)) (cond (sound n t) 1 0)
+
+unfoldable pub number-outcome : (n v : ℕ) → Tables → Value
+number-outcome n v t = value-outcome (radio-refusal n v (lengths-of t) (sound n t)) (number (graph-in n (t .links)) v)
+
+unfoldable pub neighbours-outcome : (n v : ℕ) → Tables → Value
+neighbours-outcome n v t = value-outcome (radio-refusal n v (lengths-of t) (sound n t)) (degree (graph-in n (t .links)) v)
+
+unfoldable pub linked-outcome : (n a b : ℕ) → Tables → Value
+linked-outcome n a b t =
+    value-outcome (pair-refusal n a b (lengths-of t) (sound n t)) (cond (linked (graph-in n (t .links)) a b) 1 0)
+
+unfoldable pub first-outcome : (n a b : ℕ) → Tables → Value
+first-outcome n a b t = value-outcome (pair-refusal n a b (lengths-of t) (sound n t)) (first-of-two a b (t .order))
+
+-- ---- a value, and entries in front of a lent list
+
+-- the value x and the list `new`, or the refusal
+unfoldable pub listing-outcome : (refusal x : ℕ) → (new old : List ℕ) → Value × List ℕ
+listing-outcome R x new old = by-number R (value 0 x, overwrite new old) (λ q. (value q 0, old))
+
+unfoldable pub core-outcome : (n v k : ℕ) → Tables → (answer : List ℕ) → Value × List ℕ
+core-outcome n v k t w =
+    let g = graph-in n (t .links) in
+    let radios = core-of g v k in
+    listing-outcome (core-refusal n v k (lengths-of t) (length w) (sound n t) g) (length radios) radios w
+
+unfoldable pub backbone-outcome : (n : ℕ) → Tables → (answer : List ℕ) → Value × List ℕ
+backbone-outcome n t w =
+    let radios = backbone (graph-in n (t .links)) in
+    listing-outcome (backbone-refusal n (lengths-of t) (length w) (sound n t)) (length radios) radios w
+
+unfoldable pub write-outcome : (n : ℕ) → Tables → (buffer : List ℕ) → Value × List ℕ
+write-outcome n t w =
+    let g = graph-in n (t .links) in
+    listing-outcome (write-refusal n (lengths-of t) (length w) (sound n t) g) (image-length g) (image-of g (t .order)) w
+
+-- ---- the shell tree
+
+-- the count with the root, the nodes in front of their list, each radio's node name in front of the answer table
+unfoldable pub tree-outcome : (n : ℕ) → Tables → (nodes : List Node) → (answer : List ℕ) → Value × List Node × List ℕ
+tree-outcome n t m w =
+    let g = graph-in n (t .links) in
+    by-number
+    (tree-refusal n (lengths-of t) (length m) (length w) (sound n t))
+    (value 0 (length (tree g)), overwrite (tree g) m, overwrite (node-names g) w)
+    (λ q. (value q 0, m, w))
+
+-- ---- a step of the block reader
+
+-- no block: an empty part, and the reader keeps its number
+unfoldable pub no-block : (number end i : ℕ) → Block
+no-block q e i = record { number = q; end = e; offset = 0; length = 0; next = i }
+
+-- block i where there is one, the end where there is none
+unfoldable pub block-or-end : (there : Bool) → (i : ℕ) → Block
+block-or-end true i = record { number = 0; end = 0; offset = block-bytes * i + 4; length = payload-bytes; next = i + 1 }
+block-or-end false i = no-block 0 1 i
+
+unfoldable pub block-outcome : (image : List ℕ) → (i : ℕ) → Block
+block-outcome bs i =
+    by-number (block-refusal bs) (block-or-end (ltb i (length bs / block-bytes)) i) (λ q. no-block q 0 i)

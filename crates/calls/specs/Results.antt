@@ -1,0 +1,99 @@
+-- What a caller has after an accepted call, in document 01's words: property 2. The proofs are in proofs/Accepted.antt.
+--   Numbers-right     numbers are core numbers of a graph by the largest group, and the order is a k-order of it
+--   Site-right        document 01: sound tables are exactly those with proper rows, core numbers and a k-order
+--   Link-right        after a link call: the graph in the new links table, its rows, numbers and order
+--   Listed            a list of radios in front of a lent list
+--   Core-listed, Backbone-listed   the radios listed
+--   Tree-listed       the nodes listed, and each radio's node name
+--   Written-right, Read-right      after writing and reading an image
+--   Block-part, Block-end   what a step of the block reader gives
+-- Definitions only.
+use mathlib.Core.Path.{_≡_}
+use mathlib.Core.Logic.{_↔_}
+use mathlib.Core.Bool.{Bool, true}
+use mathlib.Core.List.{List}
+use Prim.Native.Nat.{ℕ, _+_, _*_, _/_, _≤_, _<_}
+use lib.ListN.{length, getD, take, drop}
+use Rattle.mesh.specs.Limits.{max-neighbours}
+use Rattle.lists.specs.Lists.{member, Ascending}
+use Rattle.mesh.specs.Graph.{Graph, relinked}
+use Rattle.mesh.specs.Cores.{Core}
+use Rattle.mesh.specs.Orders.{is-k-order}
+use Rattle.mesh.specs.Tables.{Tables, graph-in}
+use Rattle.mesh.specs.Sound.{rows-proper, number-in, sound}
+use Rattle.mesh.specs.Connected.{In-core, In-backbone}
+use Rattle.mesh.specs.Tree.{Is-tree, Node-name}
+use Rattle.mesh.specs.Image.{block-bytes, payload-bytes, payload-at, image-of, image-graph, Tables-image}
+use Rattle.mesh.specs.declared.Node.{Node}
+use Rattle.calls.specs.Answers.{Block-none}
+use Rattle.calls.specs.declared.Block.{Block}
+
+-- ---- numbers and order
+
+pub record Numbers-right (g : Graph) (t : Tables) : Type 0 where
+  pub cores : (x : ℕ) → x < g .n → Core g x (number-in (t .numbers) x)
+  pub k-order : is-k-order g (t .order) ≡ true
+
+pub record Site-right (n : ℕ) (t : Tables) : Type 0 where
+  pub rows : rows-proper max-neighbours n (t .links) ≡ true
+  pub right : Numbers-right (graph-in n (t .links)) t
+
+-- a list fills the first `count` entries of the lent list x, ascending; later entries keep the content of w, the list before the call
+pub record Listed (count : ℕ) (w x : List ℕ) : Type 0 where
+  pub ascending : Ascending (take count x)
+  pub later-entries : drop count x ≡ drop count w
+
+-- t and v are the tables before and after the call; the changed radios are listed
+pub record Link-right (up : Bool) (n a b : ℕ) (t v : Tables) (count : ℕ) (w x : List ℕ) : Type 0 where
+  pub graph : graph-in n (v .links) ≡ relinked up a b (graph-in n (t .links))
+  pub right : Site-right n v
+  pub listed : Listed count w x
+
+-- ---- connected cores, backbone, shell tree
+
+pub record Core-listed (g : Graph) (v k count : ℕ) (w x : List ℕ) : Type 0 where
+  pub exactly : (y : ℕ) → (member y (take count x) ≡ true) ↔ In-core g v k y
+  pub listed : Listed count w x
+
+pub record Backbone-listed (g : Graph) (count : ℕ) (w x : List ℕ) : Type 0 where
+  pub exactly : (y : ℕ) → (member y (take count x) ≡ true) ↔ In-backbone g y
+  pub listed : Listed count w x
+
+-- m and w are the list of nodes and the answer table before the call, p and x the same after it
+pub record Tree-listed (g : Graph) (count : ℕ) (m p : List Node) (w x : List ℕ) : Type 0 where
+  -- the nodes in front are the shell tree, and no other list is; later places keep their content
+  pub nodes : (xs : List Node) → Is-tree g xs ↔ (xs ≡ take count p)
+  pub later-nodes : drop count p ≡ drop count m
+  -- each radio's entry is its node's name, and nothing else is; later entries keep their content
+  pub names : (v : ℕ) → v < g .n → (y : ℕ) → Node-name g v y ↔ (y ≡ getD x v 0)
+  pub later-entries : drop (g .n) x ≡ drop (g .n) w
+
+-- ---- images
+
+-- the first `size` bytes are the image of the tables, and of sound tables; later bytes keep their content
+pub record Written-right (n : ℕ) (t : Tables) (size : ℕ) (w x : List ℕ) : Type 0 where
+  pub image : take size x ≡ image-of (graph-in n (t .links)) (t .order)
+  pub is-image : Tables-image n (take size x)
+  pub later-bytes : drop size x ≡ drop size w
+
+pub record Read-right (n : ℕ) (image : List ℕ) (v : Tables) : Type 0 where
+  pub is-sound : sound n v ≡ true
+  -- the links are those that the image lists, numbers and order are right for them, and written again they give the same bytes
+  pub graph : graph-in n (v .links) ≡ image-graph n image
+  pub right : Numbers-right (image-graph n image) v
+  pub same-bytes : image-of (image-graph n image) (v .order) ≡ image
+
+-- block i is given: its payload is those 504 bytes of the image, which lie in it, and the reader moves to the next block
+pub record Block-part (image : List ℕ) (i : ℕ) (r : Block) : Type 0 where
+  pub is-block : i < length image / block-bytes
+  pub not-end : r .end ≡ 0
+  pub starts : r .offset ≡ block-bytes * i + 4
+  pub long : r .length ≡ payload-bytes
+  pub inside : r .offset + r .length ≤ length image
+  pub payload : take (r .length) (drop (r .offset) image) ≡ payload-at image i
+  pub moves : r .next ≡ i + 1
+
+-- after the last block: the end, with an empty part, and the reader keeps its number
+pub record Block-end (image : List ℕ) (i : ℕ) (r : Block) : Type 0 where
+  pub past : length image / block-bytes ≤ i
+  pub none : Block-none 0 1 i r

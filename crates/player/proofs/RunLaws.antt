@@ -1,0 +1,67 @@
+-- The executable text is the one that `Run-prints` says.
+--   run-met      `run-text` meets `Run-prints`
+--   run-only     and no other text does
+use mathlib.Core.Path.{_≡_, refl, sym, subst}
+use mathlib.Core.Bool.{Bool, true, false}
+use mathlib.Core.List.{List, [], _∷_}
+use Prim.Native.Nat.{ℕ, zero, suc, _+_}
+use lib.ListN.{replicate}
+use Rattle.mesh.specs.Tables.{Tables}
+use Rattle.calls.specs.Outcomes.{link-outcome}
+use Rattle.calls.proofs.Outcomes.{link-inhabited}
+use Rattle.script.specs.Lines.{line-of}
+use Rattle.script.specs.declared.lines.Line.{Line}
+use Rattle.script.specs.declared.lines.Line.the-variants.{Radios, Up, Down, Bad}
+use Rattle.player.specs.Lines.{is-call, Called, Played}
+use Rattle.player.specs.Play.{radios-of}
+use Rattle.player.specs.Whole.{lines-of, front, rest, cleared, Line-then, Line-by, Lines-print, Run-from, Run-prints}
+use Rattle.player.proofs.DecidedLaws.{run-decided}
+use Rattle.player.specs.RunText.{call-line, call-text, line-text, lines-text, text-from, run-text}
+
+-- what follows a line: R of each text that `later` gives
+module _ (R : Tables → List ℕ → List ℕ → Type 0) (later : Tables → List ℕ → List ℕ)
+    (follows : (v : Tables) (y : List ℕ) → R v y (later v y)) where
+  -- x is the call that the line l says
+  called : (up : Bool) (x : Line) (n a b : ℕ) (l : List ℕ) (t : Tables) (w : List ℕ) → line-of l ≡ x
+      → ((text : List ℕ) (v : Tables) (y : List ℕ) → Called up n a b t w text v y → Played n x t w text v y)
+      → Line-then n l t w (call-text (link-outcome up n a b t w) later) R
+  unfolding call-text call-line
+  called up x n a b l t w e plays =
+      let o = link-outcome up n a b t w in
+      record {
+        after = o .1;
+        answer = o .2;
+        first = call-line o;
+        more = later (o .1) (o .2);
+        played = subst (λ (z : Line). Played n z t w (call-line o) (o .1) (o .2)) (sym e)
+            (plays (call-line o) (o .1) (o .2) (record { reply = o .0; does = link-inhabited up n a b t w; says = refl }));
+        later = follows (o .1) (o .2);
+        whole = refl;
+      }
+
+  line-met : (x : Line) (n : ℕ) (l : List ℕ) (k : ℕ) (t : Tables) (w : List ℕ) → line-of l ≡ x
+      → Line-by (is-call x) n l k t w (line-text x n k t w later) R
+  unfolding Line-by is-call line-text Played
+  line-met (Radios m) n l k t w e = refl
+  line-met (Up a b) n l k t w e = called true (Up a b) n a b l t w e (λ text v y h. h)
+  line-met (Down a b) n l k t w e = called false (Down a b) n a b l t w e (λ text v y h. h)
+  line-met Bad n l k t w e = refl
+
+lines-met : (n : ℕ) (ls : List (List ℕ)) (k : ℕ) (t : Tables) (w : List ℕ) → Lines-print n ls k t w (lines-text n ls k t w)
+unfolding Lines-print lines-text
+lines-met n [] k t w = refl
+lines-met n (l ∷ ls) k t w =
+    line-met (λ v x more. Lines-print n ls (k + 1) v x more) (λ v x. lines-text n ls (k + 1) v x) (λ v y. lines-met n ls (k + 1) v y)
+    (line-of l) n l k t w refl
+
+from-met : (n : ℕ) (bs : List ℕ) → Run-from n bs (text-from n bs)
+unfolding Run-from text-from
+from-met zero bs = refl
+from-met (suc n) bs = lines-met (suc n) (lines-of bs) 2 (cleared (suc n)) (replicate (suc n) 0)
+
+pub run-met : (input : List ℕ) → Run-prints input (run-text input)
+unfolding Run-prints run-text
+run-met input = from-met (radios-of (front input)) (rest input)
+
+pub run-only : (input text : List ℕ) → Run-prints input text → text ≡ run-text input
+run-only input text h = run-decided input text (run-text input) h (run-met input)

@@ -1,0 +1,46 @@
+-- Whole inputs print exactly what is said of them: M1's, computed from its bytes to its text.
+use mathlib.Core.Path.{_≡_, refl, subst, _∙_}
+use mathlib.Core.List.{flatMap}
+use Rattle.lists.specs.Lists.{overwrite}
+use Rattle.mesh.specs.Graph.{neighbours-in}
+use Rattle.mesh.specs.Tables.{put-digit, put-bit, put-link, row-links, graph-in}
+use Rattle.calls.specs.Questions.{lengths-of, answer-length, site-refusal, link-refusal}
+use Rattle.calls.specs.Switches.{switched}
+use Rattle.calls.specs.Outcomes.{link-outcome}
+use Rattle.calls.specs.Replay.{bytes-of, bad-line}
+use Rattle.calls.proofs.WorkedState.{compute}
+use Rattle.script.specs.Lines.{is-digit, digits-on, number-of, ended, last-number-of, starts, radios-line, link-with, link-after, link-of, line-of}
+use Rattle.player.specs.Play.{site-of, radios-of}
+use Rattle.player.specs.Whole.{glue, lines-of, front, rest, cleared, Run-prints}
+use Rattle.player.specs.RunText.{call-line, call-text, line-text, lines-text, text-from, run-text}
+use Rattle.player.specs.Texts.{Text, Text-right, m1, bad-third, no-first, texts, All-right}
+use Rattle.player.proofs.RunLaws.{run-met, run-only}
+
+-- everything that a text computes with
+unfoldable compute-text : Unit {0}
+unfolding compute overwrite neighbours-in put-digit put-bit put-link row-links graph-in lengths-of answer-length site-refusal link-refusal switched link-outcome bad-line is-digit digits-on number-of ended last-number-of starts radios-line link-with link-after link-of line-of site-of radios-of glue lines-of front rest cleared call-line call-text line-text lines-text text-from run-text m1 bad-third no-first
+compute-text = tt
+
+-- the text that a run computes
+computed : (x : Text) → run-text (flatMap bytes-of (x .input)) ≡ flatMap bytes-of (x .printed) → Text-right x
+computed x e =
+    record {
+      prints = subst (Run-prints (flatMap bytes-of (x .input))) e (run-met (flatMap bytes-of (x .input)));
+      only = λ text h. run-only (flatMap bytes-of (x .input)) text h ∙ e;
+    }
+
+m1-right : Text-right m1
+unfolding compute-text
+m1-right = computed m1 refl
+
+bad-third-right : Text-right bad-third
+unfolding compute-text
+bad-third-right = computed bad-third refl
+
+no-first-right : Text-right no-first
+unfolding compute-text
+no-first-right = computed no-first refl
+
+pub texts-right : All-right texts
+unfolding texts All-right
+texts-right = (m1-right, (bad-third-right, (no-first-right, tt)))

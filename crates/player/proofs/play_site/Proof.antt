@@ -1,0 +1,17 @@
+-- `play_site` meets its contract: what clearing leaves is a cleared site.
+use borrow.Author.Needs.{needs}
+use Rattle.player.proofs.ReadingLaws.{site-cleared}
+use Rattle.player.proofs.play_site.Statement.{statement}
+use Rattle.player.proofs.play_site.Tie as tie
+
+read-all-requires : tie.Need-read-all-requires
+read-all-requires c κs =
+    let done = c .before .before .before .before .before .before .before .before .before .before in
+    let start = done .before .before .before .before .before .before .before .before in
+    site-cleared _ _ _ _ _ (start .pre) (done .clear .ensures)
+
+pub play-site-spec : {M : Type 1} → statement M
+play-site-spec =
+    tie.close (
+    tie.spec (λ c κs. search needs) read-all-requires (λ c. search needs) (λ c. search needs) (λ c. search needs)
+    (λ c. search needs) (λ c. search needs))

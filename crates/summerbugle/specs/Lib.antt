@@ -1,0 +1,2 @@
+-- How the statements about the exported calls are put.
+pub mod Functions

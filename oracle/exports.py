@@ -1,0 +1,354 @@
+"""The calls that the program `test_exports` makes as a host, and the lines that it owes, worked out from document 01 alone.
+
+  python3 oracle/exports.py           write crates/test_exports/data and crates/test_exports/stdout
+  python3 oracle/exports.py --check   say whether the stored files are what would be written
+
+The file has words of 32 bits, lowest byte first: the count of calls, and nine words a call. Tables stand in lists as long as the
+program's; a call is answered from their lent parts and nothing else. Link calls are those of oracle/peeled.py, the rest is
+oracle/reference.py's.
+"""
+
+import sys
+from pathlib import Path
+
+import peeled
+import reference
+from questions import RADIOS
+
+ENTRIES, PLACES, BUFFER = 514, 515, 4096  # the program's tables: radios, nodes, bytes for an image
+BYTE, KEPT = 165, 600  # what they hold before they are written
+MODULUS, BASE = 4294967291, 65599  # of the digest that the program prints
+KINDS = ["clear", "check", "link-up", "link-down", "number", "neighbours", "linked", "first", "core", "backbone", "tree",
+         "image-write", "image-read", "image-block", "spoil-links", "spoil-numbers", "spoil-order", "spoil-buffer"]
+CRATE = Path(__file__).resolve().parent.parent / "crates/test_exports"
+
+
+def digest(h, values):
+    for x in values:
+        h = (h * BASE + x + 1) % MODULUS
+    return h
+
+
+class Host:
+    def __init__(self):
+        self.links, self.numbers, self.order = [BYTE] * (64 * ENTRIES), [BYTE] * ENTRIES, [KEPT] * ENTRIES
+        self.answer, self.fields, self.buffer = [KEPT] * PLACES, [KEPT] * (3 * PLACES), [BYTE] * BUFFER
+        self.words, self.lines, self.known = [], [], {}
+
+    # ---- a call: its words, what it does, its line
+
+    def call(self, kind, n, a=0, b=0, links=None, numbers=None, order=None, answer=None, room=None):
+        """Lengths that are not given are the right ones; all of the buffer is lent, and room for n + 1 nodes."""
+        many = min(n, ENTRIES)
+        right = 64 * many, many, many, many, many + 1 if kind == "tree" else BUFFER
+        lengths = [y if x is None else x for x, y in zip((links, numbers, order, answer, room), right)]
+        self.words.append([KINDS.index(kind), n, a, b] + lengths)
+        self.answer, self.fields = [KEPT] * PLACES, [KEPT] * (3 * PLACES)
+        if kind == "image-write":
+            self.buffer = [BYTE] * BUFFER
+        said = getattr(self, kind.replace("-", "_"))(n, a, b, lengths)
+        h = 0
+        for table in (self.links, self.numbers, self.order, self.answer, self.fields, self.buffer):
+            h = digest(h, table)
+        name = kind if not kind.startswith("spoil") else "spoil"
+        self.lines.append(" ".join(str(x) for x in (name, *said, h)) + "\n")
+
+    def lent(self, lengths):
+        return [table[:length] for table, length in zip((self.links, self.numbers, self.order), lengths)]
+
+    def put(self, tables):
+        """Tables of an accepted call, which have the right lengths."""
+        links, numbers, order = tables
+        self.links[:len(links)], self.numbers[:len(numbers)], self.order[:len(order)] = links, numbers, order
+
+    # ---- questions 1 to 4
+
+    def sized(self, n, lengths, room=True):
+        """Questions 1 and 2; `room` says whether answer table and nodes are long enough."""
+        if not 1 <= n <= RADIOS:
+            return 1
+        return 0 if [len(table) for table in self.lent(lengths)] == [64 * n, n, n] and room else 2
+
+    def is_sound(self, n, lengths):
+        tables = self.lent(lengths)
+        key = n, *(tuple(table) for table in tables)
+        if key not in self.known:
+            self.known[key] = reference.sound(n, *tables)
+        return self.known[key]
+
+    def refused(self, n, lengths, *radios, room=True):
+        number = self.sized(n, lengths, room)
+        if number:
+            return number
+        if not self.is_sound(n, lengths):
+            return 3
+        return 0 if all(v < n for v in radios) else 4
+
+    def site(self, n):
+        """The site that the tables hold."""
+        site = reference.Site(n)
+        site.links = {(a, b) for a in range(n) for b in range(a, n) if reference.marked(self.links, a, b)}
+        site.numbers, site.order = self.numbers[:n], self.order[:n]
+        return site
+
+    # ---- the calls
+
+    def clear(self, n, a, b, lengths):
+        number = self.sized(n, lengths)
+        if not number:
+            self.put(([0] * (64 * n), [0] * n, list(range(n))))
+        return [number]
+
+    def check(self, n, a, b, lengths):
+        number = self.sized(n, lengths)
+        return [number, 0 if number else int(self.is_sound(n, lengths))]
+
+    def link(self, up, n, a, b, lengths):
+        number = self.refused(n, lengths, room=lengths[3] >= n)
+        if number:
+            return [number, 0, 0]
+        site, old = peeled.Site(n), self.site(n)
+        site.numbers, site.order = old.numbers, old.order
+        for v, u in old.links:
+            site.near[v].add(u)
+            site.near[u].add(v)
+        number, step, changed = site.call(up, a, b)
+        old.links = {(v, u) for v in range(n) for u in site.near[v] if v < u}
+        self.put((old.rows(), site.numbers, site.order))
+        self.answer[:len(changed)] = changed
+        return [number, {1: "+1", -1: "-1", 0: "0"}[step], len(changed)]
+
+    def link_up(self, *call):
+        return self.link(True, *call)
+
+    def link_down(self, *call):
+        return self.link(False, *call)
+
+    def asked(self, number, value):
+        return [number, 0 if number else value()]
+
+    def number(self, n, v, b, lengths):
+        return self.asked(self.refused(n, lengths, v), lambda: self.numbers[v])
+
+    def neighbours(self, n, v, b, lengths):
+        return self.asked(self.refused(n, lengths, v), lambda: self.site(n).degree(v))
+
+    def linked(self, n, a, b, lengths):
+        return self.asked(self.refused(n, lengths, a, b), lambda: int(reference.linked(self.site(n).links, a, b)))
+
+    def first(self, n, a, b, lengths):
+        return self.asked(self.refused(n, lengths, a, b), lambda: min(a, b, key=self.order.index))
+
+    def listed(self, number, radios):
+        self.answer[:len(radios)] = radios
+        return [number, len(radios)]
+
+    def core(self, n, v, k, lengths):
+        number = self.refused(n, lengths, v, room=lengths[3] >= n)
+        return self.listed(number, []) if number else self.listed(*self.site(n).core(v, k))
+
+    def backbone(self, n, a, b, lengths):
+        number = self.refused(n, lengths, room=lengths[3] >= n)
+        return self.listed(number, [] if number else self.site(n).backbone())
+
+    def tree(self, n, a, b, lengths):
+        number = self.refused(n, lengths, room=lengths[3] >= n and lengths[4] >= n + 1)
+        nodes, names = ([], []) if number else self.site(n).tree()
+        self.fields[:3 * len(nodes)] = [x for node in nodes for x in node]
+        self.answer[:len(names)] = names
+        return [number, len(nodes)]
+
+    def image_write(self, n, a, b, lengths):
+        number = self.refused(n, lengths)
+        image = [] if number else self.site(n).image()
+        if len(image) > lengths[4]:
+            number, image = 9, []
+        self.buffer[:len(image)] = image
+        return [number, len(image)]
+
+    def image_read(self, n, a, b, lengths):
+        number = self.sized(n, lengths)
+        if not number:
+            number, site = reference.read(n, self.buffer[:lengths[4]])
+        if not number:
+            self.put((site.rows(), site.numbers, site.order))
+        return [number]
+
+    def image_block(self, n, a, b, lengths):
+        image, at = self.buffer[:lengths[4]], 2 ** 32 * a + b
+        number = reference.block_refusal(image)
+        if number:
+            return [number, 0, 0, 0, at]
+        return [0, 0, 512 * at + 4, 504, at + 1] if at < len(image) // 512 else [0, 1, 0, 0, at]
+
+    # ---- what the host does to its own tables
+
+    def spoil(self, table, at, bits, kind):
+        table[at] ^= bits
+        return [KINDS.index(kind)]
+
+    def spoil_links(self, n, at, bits, lengths):
+        return self.spoil(self.links, at, bits, "spoil-links")
+
+    def spoil_numbers(self, n, at, bits, lengths):
+        return self.spoil(self.numbers, at, bits, "spoil-numbers")
+
+    def spoil_order(self, n, at, bits, lengths):
+        return self.spoil(self.order, at, bits, "spoil-order")
+
+    def spoil_buffer(self, n, at, bits, lengths):
+        return self.spoil(self.buffer, at, bits, "spoil-buffer")
+
+
+# ---- what a host tries
+
+LARGEST = 2 ** 32 - 1
+SITE = ["check", "link-up", "link-down", "number", "neighbours", "linked", "first", "core", "backbone", "tree", "image-write"]
+ANSWER = ["link-up", "link-down", "core", "backbone", "tree"]
+RADIO = ["link-up", "link-down", "number", "neighbours", "linked", "first", "core"]
+
+
+def sizes_and_lengths(host, n):
+    """Questions 1 and 2 put to every call, and 1 before 2."""
+    for kind in ["clear", "image-read"] + SITE:
+        for other in (0, 513, LARGEST):
+            host.call(kind, other, 0, 1)
+        host.call(kind, 0, 0, 1, links=63)
+        for lengths in ({"links": 64 * n - 1}, {"links": 64 * n + 1}, {"numbers": n - 1}, {"numbers": n + 1},
+                        {"order": n - 1}, {"order": n + 1}, {"links": 0, "numbers": 0, "order": 0}):
+            host.call(kind, n, 0, 1, **lengths)
+    for kind in ANSWER:
+        host.call(kind, n, 0, 1, answer=n - 1)
+    host.call("tree", n, room=n)
+
+
+def unsound(host, n):
+    """Question 3 put to every call: 2 before 3, and 3 before all others. The tables are mended again."""
+    for table, at, bits in (("links", 1, 1), ("links", 64, 1), ("numbers", 0, 1), ("order", n - 1, 1)):
+        host.call(f"spoil-{table}", n, at, bits)
+        for kind in SITE:
+            host.call(kind, n, 0, 1)
+        host.call(f"spoil-{table}", n, at, bits)
+    host.call("spoil-numbers", n, 0, 255)
+    for kind in SITE[1:]:
+        host.call(kind, n, n, n, order=n - 1)
+        host.call(kind, n, n, n, room=0 if kind == "image-write" else None)
+    host.call("spoil-numbers", n, 0, 255)
+    host.call("check", n)
+
+
+def radios(host, n):
+    """Questions 4 to 6: a radio that is not there, 4 before 5, 5 before 6."""
+    for kind in RADIO:
+        for v in (n, LARGEST):
+            host.call(kind, n, v, 0)
+            host.call(kind, n, 0, v)
+            host.call(kind, n, v, v)
+    for kind in ("link-up", "link-down", "linked", "first"):
+        host.call(kind, n, 2, 2)
+
+
+def questions(host, n):
+    """Every question about every radio."""
+    for v in range(n):
+        for kind in ("number", "neighbours"):
+            host.call(kind, n, v)
+        for k in range(4):
+            host.call("core", n, v, k)
+        for u in (0, v, n - 1):
+            host.call("linked", n, v, u)
+            host.call("first", n, v, u)
+
+
+def lists(host, n):
+    """Backbone and tree, with tables that just do and longer ones."""
+    for answer, room in ((n, n + 1), (n + 1, n + 2), (PLACES, PLACES)):
+        host.call("backbone", n, answer=answer)
+        host.call("tree", n, answer=answer, room=room)
+
+
+def images(host, n):
+    """An image written, walked, damaged and read back: 9 before 10, 10 before 11, 2 before 9."""
+    size = len(host.site(n).image())
+    host.call("image-write", n, room=size - 1)
+    host.call("image-write", n, room=0)
+    host.call("image-write", n, room=size)
+    for at in [(0, i) for i in range(size // 512 + 2)] + [(1, 0), (LARGEST, LARGEST)]:
+        host.call("image-block", n, *at, room=size)
+    for room in (0, 511, size - 1, size + 1):
+        host.call("image-block", n, 0, 1, room=room)
+        host.call("image-read", n, room=room)
+        host.call("image-read", n, room=room, numbers=n + 1)
+    host.call("spoil-buffer", n, 4, 1)
+    for room in (size, size - 512, size - 1):
+        host.call("image-block", n, 0, 0, room=room)
+        host.call("image-read", n, room=room)
+    host.call("spoil-buffer", n, 4, 1)
+    host.call("image-read", n, room=size - 512)
+    host.call("image-read", n + 1, room=size)
+    host.call("clear", n)
+    host.call("image-read", n, room=size)
+    host.call("check", n)
+
+
+def play(host):
+    # document 01's M5 by way of M3 and M4, each number asked for
+    sizes_and_lengths(host, 7)
+    host.call("check", 7)
+    host.call("clear", 7)
+    lists(host, 7)
+    images(host, 7)
+    for a, b in [(0, 1), (1, 2), (2, 0), (3, 4), (4, 5), (3, 5), (2, 3), (0, 6)]:
+        host.call("link-up", 7, a, b, answer=7 + a)
+    for kind in ("link-up", "link-down"):
+        host.call(kind, 7, 6, 0)
+        host.call(kind, 7, 0, 6)
+        host.call(kind, 7, 1, 6)
+    host.call("link-up", 7, 6, 0)
+    sizes_and_lengths(host, 7)
+    unsound(host, 7)
+    radios(host, 7)
+    questions(host, 7)
+    lists(host, 7)
+    images(host, 7)
+    for a, b in [(2, 3), (5, 4), (0, 1)]:
+        host.call("link-down", 7, a, b)
+        host.call("tree", 7)
+    # M10: a 32nd neighbour is taken, a 33rd gets 7, 6 before 7; after one link goes down it is taken
+    host.call("clear", 34)
+    for v in range(1, 34):
+        host.call("link-up", 34, 0, v)
+    host.call("link-up", 34, 33, 0)
+    host.call("link-up", 34, 1, 0)
+    host.call("link-down", 34, 0, 1)
+    host.call("link-up", 34, 33, 0)
+    lists(host, 34)
+    # one radio, and as many as a site may have
+    host.call("clear", 1)
+    lists(host, 1)
+    images(host, 1)
+    host.call("clear", 512)
+    for a, b in [(0, 511), (511, 256), (256, 0)]:
+        host.call("link-up", 512, a, b)
+    lists(host, 512)
+    host.call("core", 512, 511, 2)
+    images(host, 512)
+
+
+def main():
+    host = Host()
+    play(host)
+    words = [len(host.words)] + [x for call in host.words for x in call]
+    files = {CRATE / "data/calls": b"".join(x.to_bytes(4, "little") for x in words),
+             CRATE / "stdout": ("".join(host.lines) + "canaries 6\n").encode()}
+    if "--check" in sys.argv:
+        same = all(path.read_bytes() == content for path, content in files.items())
+        print("crates/test_exports:", "as written by this program" if same else "DIFFERENT")
+        sys.exit(not same)
+    for path, content in files.items():
+        path.parent.mkdir(exist_ok=True)
+        path.write_bytes(content)
+
+
+if __name__ == "__main__":
+    main()
