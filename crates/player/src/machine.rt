@@ -4,6 +4,7 @@ ghost use mathlib.Core.Path.{_≡_};
 ghost use mathlib.Core.Bool.{false};
 ghost use Prim.Native.Nat.{_<_};
 ghost use lib.ListN.{length, take};
+ghost use Rattle.mesh.specs.Tables.{lent};
 ghost use Rattle.printing.specs.Print.{buffer, Puts, max-place};
 ghost use Rattle.player.specs.Lines.{Prints};
 ghost use Rattle.player.specs.Machine.{spot, Stop-put, Takes, closing};
@@ -50,8 +51,8 @@ pub(crate) fn take_byte(
 ) -> Progress
     requires { ⌜ s .number < max-place ⌝ }
     ensures { λ r. ⌜ Prints (λ text. Takes (length (now (line .entry))) n byte
-        (spot (buffer (links .entry) (numbers .entry) (order .entry)) (now (answer .entry)) (now (line .entry)) s) text
-        (spot (buffer (links .exit) (numbers .exit) (order .exit)) (now (answer .exit)) (now (line .exit)) r))
+        (spot (lent (links .entry) (numbers .entry) (order .entry)) (now (answer .entry)) (now (line .entry)) s) text
+        (spot (lent (links .exit) (numbers .exit) (order .exit)) (now (answer .exit)) (now (line .exit)) r))
         (buffer (now (out .entry)) (s .at)) (buffer (now (out .exit)) (r .at)) ⌝ }
 {
     if !s.live {

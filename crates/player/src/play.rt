@@ -2,6 +2,7 @@
 ghost use mathlib.Core.Path.{_≡_};
 ghost use mathlib.Core.Bool.{true, false};
 ghost use Rattle.script.specs.Lines.{line-of};
+ghost use Rattle.mesh.specs.Tables.{lent};
 ghost use Rattle.printing.specs.Print.{buffer};
 ghost use Rattle.player.specs.Lines.{is-call, Called, Played, Prints};
 use script::lines::Line;
@@ -25,8 +26,8 @@ fn play_up(
     at: usize,
 ) -> usize
     ensures { λ r. ⌜ Prints (λ text. Called true n a b
-        (buffer (links .entry) (numbers .entry) (order .entry)) (now (answer .entry)) text
-        (buffer (links .exit) (numbers .exit) (order .exit)) (now (answer .exit)))
+        (lent (links .entry) (numbers .entry) (order .entry)) (now (answer .entry)) text
+        (lent (links .exit) (numbers .exit) (order .exit)) (now (answer .exit)))
         (buffer (now (out .entry)) at) (buffer (now (out .exit)) r) ⌝ }
 {
     let reply = links::link::link_up(n, a, b, links, numbers, order, answer);
@@ -46,8 +47,8 @@ fn play_down(
     at: usize,
 ) -> usize
     ensures { λ r. ⌜ Prints (λ text. Called false n a b
-        (buffer (links .entry) (numbers .entry) (order .entry)) (now (answer .entry)) text
-        (buffer (links .exit) (numbers .exit) (order .exit)) (now (answer .exit)))
+        (lent (links .entry) (numbers .entry) (order .entry)) (now (answer .entry)) text
+        (lent (links .exit) (numbers .exit) (order .exit)) (now (answer .exit)))
         (buffer (now (out .entry)) at) (buffer (now (out .exit)) r) ⌝ }
 {
     let reply = links::link::link_down(n, a, b, links, numbers, order, answer);
@@ -67,8 +68,8 @@ pub fn play_line(
 ) -> Done
     ensures call { λ r. ⌜ r .ok ≡ is-call (line-of (now (line .entry))) ⌝ }
     ensures played { λ r. ⌜ Prints (λ text. Played n (line-of (now (line .entry)))
-        (buffer (links .entry) (numbers .entry) (order .entry)) (now (answer .entry)) text
-        (buffer (links .exit) (numbers .exit) (order .exit)) (now (answer .exit)))
+        (lent (links .entry) (numbers .entry) (order .entry)) (now (answer .entry)) text
+        (lent (links .exit) (numbers .exit) (order .exit)) (now (answer .exit)))
         (buffer (now (out .entry)) at) (buffer (now (out .exit)) (r .at)) ⌝ }
 {
     match script::lines::parse(line) {

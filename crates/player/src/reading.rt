@@ -5,7 +5,7 @@ ghost use mathlib.Core.Bool.{true};
 ghost use Prim.Native.Nat.{_<_};
 ghost use lib.ListN.{length};
 ghost use Rattle.io.specs.Counts.{Counts};
-ghost use Rattle.mesh.specs.Tables.{tables};
+ghost use Rattle.mesh.specs.Tables.{tables, lent};
 ghost use Rattle.printing.specs.Print.{buffer};
 ghost use Rattle.player.specs.Machine.{spot, line-room, full};
 ghost use Rattle.player.specs.Reading.{chunk-room, out-room, room-made, Ready, Site-cleared, Site-sized, Takes-chunk, Takes-read, Reads-once, Reads-all};
@@ -62,9 +62,9 @@ fn take_chunk(
     requires { ⌜ Ready (length (now chunk)) s (now out) ⌝ }
     ensures room { λ r. ⌜ r .at < full ⌝ }
     ensures taken { λ r. ⌜ Takes-chunk (length (now (line .entry))) n (now (chunk .entry))
-        (spot (buffer (links .entry) (numbers .entry) (order .entry)) (now (answer .entry)) (now (line .entry)) s)
+        (spot (lent (links .entry) (numbers .entry) (order .entry)) (now (answer .entry)) (now (line .entry)) s)
         (buffer (now (out .entry)) (s .at))
-        (spot (buffer (links .exit) (numbers .exit) (order .exit)) (now (answer .exit)) (now (line .exit)) r)
+        (spot (lent (links .exit) (numbers .exit) (order .exit)) (now (answer .exit)) (now (line .exit)) r)
         (buffer (now (out .exit)) (r .at)) ⌝ }
 {
     let mut s = s;
@@ -104,9 +104,9 @@ fn take_read(
     requires sized { ⌜ Site-sized (now numbers) (now order) ⌝ }
     ensures room { λ r. ⌜ (r .live ≡ true → r .at < full) ⌝ }
     ensures taken { λ r. ⌜ Takes-read (length (now (line .entry))) n (now (chunk .entry))
-        (spot (buffer (links .entry) (numbers .entry) (order .entry)) (now (answer .entry)) (now (line .entry)) s)
+        (spot (lent (links .entry) (numbers .entry) (order .entry)) (now (answer .entry)) (now (line .entry)) s)
         (buffer (now (out .entry)) (s .at))
-        (spot (buffer (links .exit) (numbers .exit) (order .exit)) (now (answer .exit)) (now (line .exit)) r)
+        (spot (lent (links .exit) (numbers .exit) (order .exit)) (now (answer .exit)) (now (line .exit)) r)
         (buffer (now (out .exit)) (r .at)) ⌝ }
 {
     if chunk.len() == 0 {
@@ -133,9 +133,9 @@ fn turn(
     requires sized { ⌜ Site-sized (now numbers) (now order) ⌝ }
     ensures room { λ r. ⌜ (r .live ≡ true → r .at < full) ⌝ }
     ensures read { λ r. ⌜ Reads-once (length (now (line .entry))) n
-        (spot (buffer (links .entry) (numbers .entry) (order .entry)) (now (answer .entry)) (now (line .entry)) s)
+        (spot (lent (links .entry) (numbers .entry) (order .entry)) (now (answer .entry)) (now (line .entry)) s)
         (buffer (now (out .entry)) (s .at))
-        (spot (buffer (links .exit) (numbers .exit) (order .exit)) (now (answer .exit)) (now (line .exit)) r)
+        (spot (lent (links .exit) (numbers .exit) (order .exit)) (now (answer .exit)) (now (line .exit)) r)
         (buffer (now (out .exit)) (r .at)) ⌝ }
 {
     let mut chunk = io::buffer();

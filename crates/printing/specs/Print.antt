@@ -1,6 +1,6 @@
--- Text put into a buffer buffer, byte after byte from a place on. The texts themselves are calls' `Replay`.
---   Buffer          the buffer bytes, with the place of the next byte
---   buffer bytes at   a buffer from its parts
+-- Text put into a lent buffer, byte after byte from a place on. The texts themselves are calls' `Replay`.
+--   Buffer          the lent bytes, with the place of the next byte
+--   buffer bytes at a buffer from its parts
 --   max-place       the largest place, at which counting stops
 --   next-place at   the place after one byte
 --   put b text      the buffer after the text is put: a byte past the end is left out, and counted
@@ -14,7 +14,7 @@ use Prim.Native.Nat.{ℕ, _+_}
 use lib.Dec.{ltb}
 use lib.ListN.{set}
 
--- buffer bytes, with the place of the next byte
+-- lent bytes, with the place of the next byte
 pub record Buffer : Type 0 where
   pub bytes : List ℕ
   pub at : ℕ
