@@ -29,8 +29,8 @@ use Rattle.calls.specs.Questions.{level-refusal, image-length, lent-refu
 use Rattle.calls.specs.Switches.{Switch}
 use Rattle.calls.specs.Outcomes.{by-number, value-outcome, check-outcome}
 use Rattle.calls.specs.Book.{Answer, plain, reported}
-use Rattle.calls.specs.Replay.{bytes-of, digit-byte, digits-in, decimal, step-text, further-fields, printed-line, link-line, numbers-line, order-line}
-use Rattle.calls.specs.Replay.{closing-lines}
+use Rattle.text.specs.Text.{bytes-of, digit-byte, digits-in, decimal, further-fields, printed-line}
+use Rattle.calls.specs.Replay.{step-text, link-line, numbers-line, order-line, closing-lines}
 use Rattle.calls.specs.Worked.{risen, fallen, unchanged, refused, Want, last-answers, all-numbers, whole-order, shell-tree, connected-core}
 use Rattle.calls.specs.Worked.{backbone-radios, image-checks, printed, soundness, image-reading, same-step, same-answers, same-nodes, block-checks}
 use Rattle.calls.specs.Worked.{put-in, answer-line, lines, is-value, Row}

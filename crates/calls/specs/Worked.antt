@@ -26,7 +26,8 @@ use Rattle.calls.specs.Switches.{Switch, switch}
 use Rattle.calls.specs.Outcomes.{clear-outcome, read-outcome, link-outcome, check-outcome, core-outcome, backbone-outcome, write-outcome, tree-outcome}
 use Rattle.calls.specs.Book.{Answer, plain, reported}
 use Rattle.calls.specs.Runs.{answer-of}
-use Rattle.calls.specs.Replay.{bytes-of, link-line, closing-lines}
+use Rattle.text.specs.Text.{bytes-of}
+use Rattle.calls.specs.Replay.{link-line, closing-lines}
 use Rattle.calls.specs.declared.Reply.{Reply}
 use Rattle.calls.specs.declared.Value.{Value}
 

@@ -10,7 +10,7 @@ use Rattle.calls.specs.Replay.{link-line}
 use Rattle.calls.specs.Writes.{Link-contract}
 use Rattle.calls.specs.declared.Reply.{Reply}
 use Rattle.script.specs.Lines.{line-of}
-use Rattle.printing.specs.Print.{Buffer, Puts, put}
+use Rattle.text.specs.Print.{Buffer, Puts, put}
 use Rattle.script.specs.declared.lines.Line.{Line}
 use Rattle.script.specs.declared.lines.Line.the-variants.{Radios, Up, Down, Bad}
 use Rattle.player.specs.Lines.{is-call, Called, Played, Prints}

@@ -16,13 +16,14 @@ use Rattle.mesh.specs.Tables.{Tables, graph-in}
 use Rattle.lists.proofs.Filter.{in-filter, filter-le}
 use Rattle.lists.proofs.Range.{length-range, range-in}
 use Rattle.lists.proofs.Overwrite.{take-overwrite}
-use Rattle.calls.specs.Replay.{bytes-of, decimal, link-line, bad-line, printed-line, numbers-line, order-line, closing-lines}
+use Rattle.text.specs.Text.{bytes-of, decimal, printed-line}
+use Rattle.calls.specs.Replay.{link-line, bad-line, numbers-line, order-line, closing-lines}
 use Rattle.calls.specs.Questions.{ask, By-number, Lengths, lengths-of, link-refusal, site-refusal, lent-refusal, ends-refusal}
 use Rattle.calls.specs.Writes.{Link-accepted, Link-refused, Link-contract}
 use Rattle.calls.specs.declared.Reply.{Reply}
 use Rattle.calls.proofs.ChainLaws.{link-zero}
 use Rattle.script.specs.Lines.{line-of}
-use Rattle.printing.specs.Print.{max-place}
+use Rattle.text.specs.Print.{max-place}
 use Rattle.script.specs.declared.lines.Line.{Line}
 use Rattle.script.specs.declared.lines.Line.the-variants.{Radios, Up, Down, Bad}
 use Rattle.printing.proofs.LengthLaws.{length-line-le, length-link-line-le}

@@ -10,7 +10,7 @@ use lib.ListN.{length}
 use borrow.Author.Tests.{eq-eqb, ne-eqb, eqb-true, eqb-false}
 use Rattle.lists.proofs.Tests.{bool-cases}
 use Rattle.lists.specs.Lists.{In}
-use Rattle.calls.specs.Replay.{bytes-of, line-feed, decimal, further-fields, printed-line}
+use Rattle.text.specs.Text.{bytes-of, line-feed, decimal, further-fields, printed-line}
 use Rattle.script.specs.Lines.{line-of, text-of, Values, max-value}
 use Rattle.script.specs.declared.lines.Line.{Line}
 use Rattle.script.specs.declared.lines.Line.the-variants.{Radios, Up, Down, Bad}

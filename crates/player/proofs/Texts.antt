@@ -7,7 +7,8 @@ use Rattle.mesh.specs.Tables.{put-digit, put-bit, put-link, row-links, graph-in
 use Rattle.calls.specs.Questions.{lengths-of, answer-length, site-refusal, link-refusal}
 use Rattle.calls.specs.Switches.{switched}
 use Rattle.calls.specs.Outcomes.{link-outcome}
-use Rattle.calls.specs.Replay.{bytes-of, bad-line}
+use Rattle.text.specs.Text.{bytes-of}
+use Rattle.calls.specs.Replay.{bad-line}
 use Rattle.calls.proofs.WorkedState.{compute}
 use Rattle.script.specs.Lines.{is-digit, digits-on, number-of, ended, last-number-of, starts, radios-line, link-with, link-after, link-of, line-of}
 use Rattle.player.specs.Play.{site-of, radios-of}

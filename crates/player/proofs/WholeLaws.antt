@@ -11,7 +11,8 @@ use lib.Dec.{leb, eqb}
 use lib.ListN.{length, length-append}
 use borrow.Author.Tests.{leb-true, eqb-true, eqb-false}
 use Rattle.mesh.specs.Tables.{Tables}
-use Rattle.calls.specs.Replay.{line-feed, bad-line}
+use Rattle.text.specs.Text.{line-feed}
+use Rattle.calls.specs.Replay.{bad-line}
 use Rattle.script.specs.Lines.{line-of}
 use Rattle.player.specs.Lines.{is-call}
 use Rattle.player.specs.Play.{radios-of}

@@ -21,7 +21,7 @@ use lib.Dec.{ltb}
 use lib.ListN.{length, take, replicate}
 use Rattle.mesh.specs.Limits.{max-radios, row-bytes}
 use Rattle.mesh.specs.Tables.{Tables}
-use Rattle.printing.specs.Print.{Buffer, max-place}
+use Rattle.text.specs.Print.{Buffer, max-place}
 use Rattle.player.specs.Machine.{Spot, Takes-all, ending, full}
 use Rattle.player.specs.Whole.{cleared, Run-from}
 use Rattle.player.specs.declared.machine.Progress.{Progress}

@@ -4,7 +4,7 @@ use mathlib.Core.Path.{_≡_}
 use mathlib.Core.List.{List, [], _∷_, flatMap}
 use Prim.Native.Nat.{ℕ}
 use Prim.Native.String.{String}
-use Rattle.calls.specs.Replay.{bytes-of}
+use Rattle.text.specs.Text.{bytes-of}
 use Rattle.player.specs.Whole.{Run-prints}
 
 -- an input and what it prints, line by line

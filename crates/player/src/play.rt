@@ -3,7 +3,7 @@ ghost use mathlib.Core.Path.{_≡_};
 ghost use mathlib.Core.Bool.{true, false};
 ghost use Rattle.script.specs.Lines.{line-of};
 ghost use Rattle.mesh.specs.Tables.{lent};
-ghost use Rattle.printing.specs.Print.{buffer};
+ghost use Rattle.text.specs.Print.{buffer-at};
 ghost use Rattle.player.specs.Lines.{is-call, Called, Played, Prints};
 use script::lines::Line;
 
@@ -28,7 +28,7 @@ fn play_up(
     ensures { λ r. ⌜ Prints (λ text. Called true n a b
         (lent (links .entry) (numbers .entry) (order .entry)) (now (answer .entry)) text
         (lent (links .exit) (numbers .exit) (order .exit)) (now (answer .exit)))
-        (buffer (now (out .entry)) at) (buffer (now (out .exit)) r) ⌝ }
+        (buffer-at (now (out .entry)) at) (buffer-at (now (out .exit)) r) ⌝ }
 {
     let reply = links::link::link_up(n, a, b, links, numbers, order, answer);
     printing::put_link_line(out, at, reply.number, reply.step, answer, reply.count)
@@ -49,7 +49,7 @@ fn play_down(
     ensures { λ r. ⌜ Prints (λ text. Called false n a b
         (lent (links .entry) (numbers .entry) (order .entry)) (now (answer .entry)) text
         (lent (links .exit) (numbers .exit) (order .exit)) (now (answer .exit)))
-        (buffer (now (out .entry)) at) (buffer (now (out .exit)) r) ⌝ }
+        (buffer-at (now (out .entry)) at) (buffer-at (now (out .exit)) r) ⌝ }
 {
     let reply = links::link::link_down(n, a, b, links, numbers, order, answer);
     printing::put_link_line(out, at, reply.number, reply.step, answer, reply.count)
@@ -70,7 +70,7 @@ pub fn play_line(
     ensures played { λ r. ⌜ Prints (λ text. Played n (line-of (now (line .entry)))
         (lent (links .entry) (numbers .entry) (order .entry)) (now (answer .entry)) text
         (lent (links .exit) (numbers .exit) (order .exit)) (now (answer .exit)))
-        (buffer (now (out .entry)) at) (buffer (now (out .exit)) (r .at)) ⌝ }
+        (buffer-at (now (out .entry)) at) (buffer-at (now (out .exit)) (r .at)) ⌝ }
 {
     match script::lines::parse(line) {
         Line::Up(a, b) => {

@@ -6,7 +6,7 @@ ghost use Prim.Native.Nat.{_<_};
 ghost use lib.ListN.{length};
 ghost use Rattle.io.specs.Counts.{Counts};
 ghost use Rattle.mesh.specs.Tables.{tables, lent};
-ghost use Rattle.printing.specs.Print.{buffer};
+ghost use Rattle.text.specs.Print.{buffer-at};
 ghost use Rattle.player.specs.Machine.{spot, line-room, full};
 ghost use Rattle.player.specs.Reading.{chunk-room, out-room, room-made, Ready, Site-cleared, Site-sized, Takes-chunk, Takes-read, Reads-once, Reads-all};
 use super::machine;
@@ -63,9 +63,9 @@ fn take_chunk(
     ensures room { λ r. ⌜ r .at < full ⌝ }
     ensures taken { λ r. ⌜ Takes-chunk (length (now (line .entry))) n (now (chunk .entry))
         (spot (lent (links .entry) (numbers .entry) (order .entry)) (now (answer .entry)) (now (line .entry)) s)
-        (buffer (now (out .entry)) (s .at))
+        (buffer-at (now (out .entry)) (s .at))
         (spot (lent (links .exit) (numbers .exit) (order .exit)) (now (answer .exit)) (now (line .exit)) r)
-        (buffer (now (out .exit)) (r .at)) ⌝ }
+        (buffer-at (now (out .exit)) (r .at)) ⌝ }
 {
     let mut s = s;
     let mut i = 0;
@@ -105,9 +105,9 @@ fn take_read(
     ensures room { λ r. ⌜ (r .live ≡ true → r .at < full) ⌝ }
     ensures taken { λ r. ⌜ Takes-read (length (now (line .entry))) n (now (chunk .entry))
         (spot (lent (links .entry) (numbers .entry) (order .entry)) (now (answer .entry)) (now (line .entry)) s)
-        (buffer (now (out .entry)) (s .at))
+        (buffer-at (now (out .entry)) (s .at))
         (spot (lent (links .exit) (numbers .exit) (order .exit)) (now (answer .exit)) (now (line .exit)) r)
-        (buffer (now (out .exit)) (r .at)) ⌝ }
+        (buffer-at (now (out .exit)) (r .at)) ⌝ }
 {
     if chunk.len() == 0 {
         return machine::end(s, line, numbers, order, out);
@@ -134,9 +134,9 @@ fn turn(
     ensures room { λ r. ⌜ (r .live ≡ true → r .at < full) ⌝ }
     ensures read { λ r. ⌜ Reads-once (length (now (line .entry))) n
         (spot (lent (links .entry) (numbers .entry) (order .entry)) (now (answer .entry)) (now (line .entry)) s)
-        (buffer (now (out .entry)) (s .at))
+        (buffer-at (now (out .entry)) (s .at))
         (spot (lent (links .exit) (numbers .exit) (order .exit)) (now (answer .exit)) (now (line .exit)) r)
-        (buffer (now (out .exit)) (r .at)) ⌝ }
+        (buffer-at (now (out .exit)) (r .at)) ⌝ }
 {
     let mut chunk = io::buffer();
     let count = read_chunk(fd, most, &mut chunk);
@@ -169,7 +169,7 @@ fn read_turns(
     requires line { ⌜ length (now line) ≡ line-room ⌝ }
     requires out { ⌜ length (now out) ≡ out-room ⌝ }
     requires start { ⌜ Site-cleared n (tables (now links) (now numbers) (now order)) (now answer) ⌝ }
-    ensures { λ r. ⌜ Reads-all n (buffer (now (out .entry)) 0) (buffer (now (out .exit)) r) ⌝ }
+    ensures { λ r. ⌜ Reads-all n (buffer-at (now (out .entry)) 0) (buffer-at (now (out .exit)) r) ⌝ }
 {
     let mut s = Progress {
         number: 2,

@@ -12,7 +12,8 @@ use lib.IntN.{ℤ, pos, negsuc, _-ℤ_, natAbs}
 use lib.Signed.{ltZ, nonNeg}
 use borrow.Author.Tests.{ltb-true}
 use Rattle.lists.proofs.Tests.{never}
-use Rattle.calls.specs.Replay.{decimal, step-text}
+use Rattle.text.specs.Text.{decimal}
+use Rattle.calls.specs.Replay.{step-text}
 
 -- ---- size
 

@@ -2,7 +2,7 @@
 use mathlib.Core.Path.{_≡_, refl}
 use mathlib.Core.List.{map}
 use Rattle.lists.specs.Lists.{same}
-use Rattle.calls.specs.Replay.{digit-byte}
+use Rattle.text.specs.Text.{digit-byte}
 use Rattle.script.specs.Cases.{Case, cases}
 use Rattle.script.specs.Lines.{is-digit, digits-on, number-of, ended, last-number-of, starts, radios-line, link-with, link-after, link-of, line-of}
 

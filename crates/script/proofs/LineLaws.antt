@@ -9,7 +9,7 @@ use lib.ListN.{length, drop, getD, drop-of-length-le}
 use lib.Seq.{drop-cons, drop-drop}
 use borrow.Author.Tests.{le-leb, lt-leb, eq-eqb, ne-eqb}
 use Rattle.lists.specs.Lists.{same}
-use Rattle.calls.specs.Replay.{bytes-of, space, line-feed, digit-byte}
+use Rattle.text.specs.Text.{bytes-of, space, line-feed, digit-byte}
 use Rattle.script.specs.declared.lines.Line.the-variants.{Up, Down, Bad}
 use Rattle.script.specs.declared.lines.Number.{Number}
 use Rattle.script.specs.Lines.{is-digit, Read, got, none, digits-on, number-of, ended, last-number-of, starts, radios-line, link-with, link-after}

@@ -10,9 +10,9 @@ use borrow.Author.Tests.{ltb-true, ltb-false, leb-true, eqb-true, eqb-false, le-
 use Rattle.lists.proofs.Tests.{bool-cases, and-left, and-right, and-both}
 use Rattle.lists.proofs.All.{same-eq, all-append}
 use Rattle.lists.specs.Lists.{all, same}
-use Rattle.calls.specs.Replay.{line-feed, digit-byte, decimal}
+use Rattle.text.specs.Text.{line-feed, digit-byte, decimal}
 use Rattle.script.specs.Lines.{max-value, Read, got, none, is-digit, digits-on, number-of, ended, last-number-of}
-use Rattle.calls.proofs.DecimalLaws.{decimal-digit, decimal-more, decimal-append}
+use Rattle.text.proofs.DecimalLaws.{decimal-digit, decimal-more, decimal-append}
 
 -- ---- is-digit
 

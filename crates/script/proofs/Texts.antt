@@ -9,7 +9,7 @@ use lib.Dec.{eqb}
 use lib.ListN.{length, drop}
 use borrow.Author.Tests.{eqb-true}
 use Rattle.lists.proofs.Tests.{bool-cases, never, and-left, and-right}
-use Rattle.calls.specs.Replay.{bytes-of, space, line-feed, digit-byte, decimal, further-fields, printed-line}
+use Rattle.text.specs.Text.{bytes-of, space, line-feed, digit-byte, decimal, further-fields, printed-line}
 use Rattle.script.specs.declared.lines.Line.{Line}
 use Rattle.script.specs.declared.lines.Line.the-variants.{Radios, Up, Down, Bad}
 use Rattle.script.specs.Lines.{text-of, Values, max-value, Read, got, none, is-digit, number-of, last-number-of, starts, radios-line, link-with}

@@ -16,7 +16,7 @@ use Prim.Native.Nat.{ℕ, _+_, _*_, _-_, _≤_}
 use lib.Dec.{leb, eqb}
 use lib.ListN.{drop}
 use Rattle.lists.specs.Lists.{same}
-use Rattle.calls.specs.Replay.{bytes-of, space, line-feed, digit-byte, decimal, printed-line}
+use Rattle.text.specs.Text.{bytes-of, space, line-feed, digit-byte, decimal, printed-line}
 use Rattle.script.specs.declared.lines.Line.{Line}
 use Rattle.script.specs.declared.lines.Line.the-variants.{Radios, Up, Down, Bad}
 use Rattle.script.specs.declared.lines.Number.{Number}

@@ -1,7 +1,8 @@
 -- `printing::put_bad_line` meets its contract: one text after another.
 use borrow.Author.Needs.{needs}
-use Rattle.calls.specs.Replay.{bad-line, printed-line, further-fields}
-use Rattle.printing.proofs.PrintLaws.{puts-append}
+use Rattle.calls.specs.Replay.{bad-line}
+use Rattle.text.specs.Text.{printed-line, further-fields}
+use Rattle.text.proofs.PrintLaws.{puts-append}
 use Rattle.printing.proofs.put_bad_line.Statement.{statement}
 use Rattle.printing.proofs.put_bad_line.Tie as tie
 

@@ -5,7 +5,7 @@ use mir.Facts.{toZ-ofZ}
 use lib.ListN.{take}
 use lib.Seq.{take-all, length-take-le}
 use borrow.Author.Needs.{needs}
-use Rattle.printing.proofs.PrintLaws.{puts-link-line}
+use Rattle.printing.proofs.LineLaws.{puts-link-line}
 use Rattle.printing.proofs.put_link_line.Statement.{statement}
 use Rattle.printing.proofs.put_link_line.Tie as tie
 

@@ -1,7 +1,8 @@
 -- `printing::put_numbers_line` meets its contract: one text after another.
 use borrow.Author.Needs.{needs}
-use Rattle.calls.specs.Replay.{numbers-line, printed-line}
-use Rattle.printing.proofs.PrintLaws.{puts-append}
+use Rattle.calls.specs.Replay.{numbers-line}
+use Rattle.text.specs.Text.{printed-line}
+use Rattle.text.proofs.PrintLaws.{puts-append}
 use Rattle.printing.proofs.put_numbers_line.Statement.{statement}
 use Rattle.printing.proofs.put_numbers_line.Tie as tie
 

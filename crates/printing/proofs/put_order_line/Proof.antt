@@ -1,7 +1,8 @@
 -- `printing::put_order_line` meets its contract: one text after another.
 use borrow.Author.Needs.{needs}
-use Rattle.calls.specs.Replay.{order-line, printed-line}
-use Rattle.printing.proofs.PrintLaws.{puts-append}
+use Rattle.calls.specs.Replay.{order-line}
+use Rattle.text.specs.Text.{printed-line}
+use Rattle.text.proofs.PrintLaws.{puts-append}
 use Rattle.printing.proofs.put_order_line.Statement.{statement}
 use Rattle.printing.proofs.put_order_line.Tie as tie
 

@@ -1,6 +1,6 @@
 -- `printing::put_step` meets its contract: each branch is a case of `step-text`.
 use borrow.Author.Needs.{needs}
-use Rattle.printing.proofs.PrintLaws.{puts-append, puts-as}
+use Rattle.text.proofs.PrintLaws.{puts-append, puts-as}
 use Rattle.printing.proofs.StepLaws.{step-text-minus, step-text-zero, step-text-plus}
 use Rattle.printing.proofs.put_step.Statement.{statement}
 use Rattle.printing.proofs.put_step.Tie as tie

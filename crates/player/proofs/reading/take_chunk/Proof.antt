@@ -5,7 +5,7 @@ use native.Mathlib.Omega.{arith}
 use lib.ListN.{length}
 use borrow.Author.Needs.{needs}
 use Rattle.mesh.specs.Tables.{tables}
-use Rattle.printing.specs.Print.{buffer}
+use Rattle.text.specs.Print.{buffer-at}
 use Rattle.player.specs.Machine.{spot}
 use Rattle.player.proofs.ReadingLaws.{Chunk-to, chunk-none, chunk-more, chunk-end}
 use Rattle.player.proofs.reading.take_chunk.Statement.{statement}
@@ -15,7 +15,7 @@ abbrev Inv-loop : tie.InvT-loop
 Inv-loop chunk n line₀ links₀ numbers₀ order₀ answer₀ out₀ s₀ i₀ line links numbers order answer out s i =
     (length line ≡ length line₀) × (length links ≡ length links₀) × (length numbers ≡ length numbers₀) × (length order ≡ length order₀)
     × (length answer ≡ length answer₀) × (length out ≡ length out₀)
-    × Chunk-to (length line₀) n chunk i (spot (tables links₀ numbers₀ order₀) answer₀ line₀ s₀) (buffer out₀ (s₀ .at))
+    × Chunk-to (length line₀) n chunk i (spot (tables links₀ numbers₀ order₀) answer₀ line₀ s₀) (buffer-at out₀ (s₀ .at))
     (spot (tables links numbers order) answer line s) s out
 
 abbrev μ-loop : tie.MeasureT-loop

@@ -1,6 +1,6 @@
 -- Text put into a lent buffer, byte after byte from a place on. The texts themselves are calls' `Replay`.
 --   Buffer          the lent bytes, with the place of the next byte
---   buffer bytes at a buffer from its parts
+--   buffer-at bytes at   a buffer from its parts
 --   max-place       the largest place, at which counting stops
 --   next-place at   the place after one byte
 --   put b text      the buffer after the text is put: a byte past the end is left out, and counted
@@ -20,8 +20,8 @@ pub record Buffer : Type 0 where
   pub at : ℕ
 
 -- a buffer from its parts
-abbrev pub buffer : (bytes : List ℕ) → (at : ℕ) → Buffer
-buffer bytes at = record { bytes = bytes; at = at }
+abbrev pub buffer-at : (bytes : List ℕ) → (at : ℕ) → Buffer
+buffer-at bytes at = record { bytes = bytes; at = at }
 
 -- the largest usize: counting stops there
 abbrev pub max-place : ℕ
@@ -34,7 +34,7 @@ next-place at = cond (ltb at max-place) (at + 1) at
 -- the text's bytes one after another; one past the end changes nothing but the place
 unfoldable pub put : Buffer → (text : List ℕ) → Buffer
 put b [] = b
-put b (x ∷ xs) = put (buffer (set (b .bytes) (b .at) x) (next-place (b .at))) xs
+put b (x ∷ xs) = put (buffer-at (set (b .bytes) (b .at) x) (next-place (b .at))) xs
 
 -- putting the text takes the buffer b to c
 pub record Puts (b : Buffer) (text : List ℕ) (c : Buffer) : Type 0 where

@@ -7,27 +7,26 @@ use Prim.Native.Nat.{ℕ, suc, _+_, _-_, _/_, _%_, _≤_, _<_, min}
 use native.Mathlib.Omega.{arith}
 use native.Mathlib.Numerals.{add-one}
 use lib.Dec.{ltb}
-use lib.IntN.{ℤ}
 use lib.ListN.{length, take, drop, getD, set, length-set, take-append-drop, drop-of-length-le}
 use lib.Seq.{length-take-le, drop-cons, set-out, sets, sets-eq}
 use borrow.Author.Tests.{lt-ltb, le-ltb, ltb-true, ltb-false}
 use Rattle.lists.proofs.Tests.{bool-cases}
-use Rattle.calls.specs.Replay.{space, line-feed, digit-byte, decimal, step-text, further-fields, printed-line, link-line}
-use Rattle.calls.proofs.DecimalLaws.{decimal-digit, decimal-more}
-use Rattle.printing.specs.Print.{Buffer, buffer, max-place, next-place, put, Puts}
+use Rattle.text.specs.Text.{space, line-feed, digit-byte, decimal, further-fields}
+use Rattle.text.proofs.DecimalLaws.{decimal-digit, decimal-more}
+use Rattle.text.specs.Print.{Buffer, buffer-at, max-place, next-place, put, Puts}
 
 -- ---- one byte
 
 module _ (bytes : List ℕ) (at x : ℕ) where
-  pub puts-byte-in : at < max-place → Puts (buffer bytes at) (x ∷ []) (buffer (set bytes at x) (at + 1))
+  pub puts-byte-in : at < max-place → Puts (buffer-at bytes at) (x ∷ []) (buffer-at (set bytes at x) (at + 1))
   unfolding put next-place
   puts-byte-in h = record { is = rw (lt-ltb at max-place h) }
 
-  pub puts-byte-past : length bytes ≤ at → at < max-place → Puts (buffer bytes at) (x ∷ []) (buffer bytes (at + 1))
+  pub puts-byte-past : length bytes ≤ at → at < max-place → Puts (buffer-at bytes at) (x ∷ []) (buffer-at bytes (at + 1))
   unfolding put next-place
   puts-byte-past l h = record { is = rw (lt-ltb at max-place h, set-out bytes at x l) }
 
-  pub puts-byte-last : length bytes ≤ at → max-place ≤ at → Puts (buffer bytes at) (x ∷ []) (buffer bytes at)
+  pub puts-byte-last : length bytes ≤ at → max-place ≤ at → Puts (buffer-at bytes at) (x ∷ []) (buffer-at bytes at)
   unfolding put next-place
   puts-byte-last l h = record { is = rw (le-ltb at max-place h, set-out bytes at x l) }
 
@@ -36,7 +35,7 @@ module _ (bytes : List ℕ) (at x : ℕ) where
 pub put-append : (b : Buffer) (xs ys : List ℕ) → put b (xs ++ ys) ≡ put (put b xs) ys
 unfolding put
 put-append b [] ys = refl
-put-append b (x ∷ xs) ys = put-append (buffer (set (b .bytes) (b .at) x) (next-place (b .at))) xs ys
+put-append b (x ∷ xs) ys = put-append (buffer-at (set (b .bytes) (b .at) x) (next-place (b .at))) xs ys
 
 pub puts-append : {b c d : Buffer} {xs ys : List ℕ} → Puts b xs c → Puts c ys d → Puts b (xs ++ ys) d
 puts-append {b} {c} {d} {xs} {ys} p q =
@@ -104,22 +103,12 @@ fields-last {xs} {b} {c} {d} {i} h f p =
     let none-left : line-feed ∷ [] ≡ further-fields (map decimal (drop i xs)) = rw (drop-of-length-le xs h) in
     putting-last (f .is) (puts-as none-left p)
 
--- ---- the line of a link call
-
--- y is the step as the code keeps it, and xs the radios that it lists
-pub puts-link-line : {b c d e f : Buffer} (number : ℕ) {y : ℤ} (z : ℤ) {xs : List ℕ} (cs : List ℕ) → y ≡ z → xs ≡ cs
-    → Puts b (decimal number) c → Puts c (space ∷ []) d → Puts d (step-text y) e → Puts e (further-fields (map decimal xs)) f
-    → Puts b (link-line number z cs) f
-unfolding link-line printed-line further-fields
-puts-link-line number z cs same-step same-radios p q r s =
-    puts-append p (puts-append q (puts-append (puts-as (ap step-text same-step) r) (puts-as (ap (λ (l : List ℕ). further-fields (map decimal l)) same-radios) s)))
-
 -- ---- length
 
 pub length-put : (b : Buffer) (xs : List ℕ) → length (put b xs .bytes) ≡ length (b .bytes)
 unfolding put
 length-put b [] = refl
-length-put b (x ∷ xs) = length-put (buffer (set (b .bytes) (b .at) x) (next-place (b .at))) xs ∙ length-set (b .bytes) (b .at) x
+length-put b (x ∷ xs) = length-put (buffer-at (set (b .bytes) (b .at) x) (next-place (b .at))) xs ∙ length-set (b .bytes) (b .at) x
 
 pub length-puts : {b c : Buffer} {xs : List ℕ} → Puts b xs c → length (c .bytes) ≡ length (b .bytes)
 length-puts {b} {c} {xs} p = ap (λ (a : Buffer). length (a .bytes)) (p .is) ∙ length-put b xs
@@ -155,65 +144,65 @@ pub at-put : (b : Buffer) (xs : List ℕ) → b .at ≤ max-place → put b xs .
 unfolding put
 at-put b [] h = omega arith
 at-put b (x ∷ xs) h =
-    omega (arith, next-place-min (b .at) h, at-put (buffer (set (b .bytes) (b .at) x) (next-place (b .at))) xs (omega (arith, next-place-min (b .at) h)))
+    omega (arith, next-place-min (b .at) h, at-put (buffer-at (set (b .bytes) (b .at) x) (next-place (b .at))) xs (omega (arith, next-place-min (b .at) h)))
 
 -- ---- what stands in the buffer
 
-bytes-put : (bytes : List ℕ) (at : ℕ) (xs : List ℕ) → at + length xs ≤ max-place → put (buffer bytes at) xs ≡ buffer (sets bytes at xs) (at + length xs)
+bytes-put : (bytes : List ℕ) (at : ℕ) (xs : List ℕ) → at + length xs ≤ max-place → put (buffer-at bytes at) xs ≡ buffer-at (sets bytes at xs) (at + length xs)
 unfolding put
-bytes-put bytes at [] h = let e : at ≡ at + 0 = omega arith in ap (λ (p : ℕ). buffer bytes p) e
+bytes-put bytes at [] h = let e : at ≡ at + 0 = omega arith in ap (λ (p : ℕ). buffer-at bytes p) e
 bytes-put bytes at (x ∷ xs) h =
     let e : at + 1 + length xs ≡ at + suc (length xs) = omega arith in
     rw (next-place-below at (omega arith))
     (bytes-put (set bytes at x) (at + 1) xs (omega arith)
-    ∙ ap (λ (p : ℕ). buffer (sets (set bytes at x) p xs) (at + 1 + length xs)) (add-one at)
-    ∙ ap (λ (p : ℕ). buffer (sets (set bytes at x) (suc at) xs) p) e)
+    ∙ ap (λ (p : ℕ). buffer-at (sets (set bytes at x) p xs) (at + 1 + length xs)) (add-one at)
+    ∙ ap (λ (p : ℕ). buffer-at (sets (set bytes at x) (suc at) xs) p) e)
 
 -- a text that fits stands from the place on, and the place after it is answered; the bytes before and after are kept
 pub put-fits : (bytes : List ℕ) (at : ℕ) (xs : List ℕ) → at + length xs ≤ length bytes → length bytes ≤ max-place
-    → put (buffer bytes at) xs ≡ buffer (take at bytes ++ xs ++ drop (at + length xs) bytes) (at + length xs)
+    → put (buffer-at bytes at) xs ≡ buffer-at (take at bytes ++ xs ++ drop (at + length xs) bytes) (at + length xs)
 put-fits bytes at xs h m =
-    bytes-put bytes at xs (omega arith) ∙ ap (λ (l : List ℕ). buffer l (at + length xs)) (sets-eq xs bytes at h)
+    bytes-put bytes at xs (omega arith) ∙ ap (λ (l : List ℕ). buffer-at l (at + length xs)) (sets-eq xs bytes at h)
 
 -- a text that starts at the end or past it changes no byte
 pub put-past : (b : Buffer) (xs : List ℕ) → length (b .bytes) ≤ b .at → put b xs .bytes ≡ b .bytes
 unfolding put
 put-past b [] h = refl
 put-past b (x ∷ xs) h =
-    put-past (buffer (set (b .bytes) (b .at) x) (next-place (b .at))) xs (omega (arith, length-set (b .bytes) (b .at) x, next-place-le (b .at)))
+    put-past (buffer-at (set (b .bytes) (b .at) x) (next-place (b .at))) xs (omega (arith, length-set (b .bytes) (b .at) x, next-place-le (b .at)))
     ∙ set-out (b .bytes) (b .at) x h
 
 -- a text that does not fit stands as far as the buffer goes; the bytes before it are kept
 pub put-cut : (bytes : List ℕ) (at : ℕ) (xs : List ℕ) → at ≤ length bytes → length bytes ≤ at + length xs → length bytes ≤ max-place
-    → put (buffer bytes at) xs .bytes ≡ take at bytes ++ take (length bytes - at) xs
+    → put (buffer-at bytes at) xs .bytes ≡ take at bytes ++ take (length bytes - at) xs
 put-cut bytes at xs h l m = go (take (length bytes - at) xs) (drop (length bytes - at) xs) (take-append-drop (length bytes - at) xs) (length-take-le (length bytes - at) xs (omega arith))
   where
-    go : (front back : List ℕ) → front ++ back ≡ xs → length front ≡ length bytes - at → put (buffer bytes at) xs .bytes ≡ take at bytes ++ front
+    go : (front back : List ℕ) → front ++ back ≡ xs → length front ≡ length bytes - at → put (buffer-at bytes at) xs .bytes ≡ take at bytes ++ front
     go front back e k =
         let whole = take at bytes ++ front ++ drop (at + length front) bytes in
         let fits = put-fits bytes at front (omega arith) m in
-        let long : length whole ≤ at + length front = omega (arith, ap (λ (b : Buffer). length (b .bytes)) fits, length-put (buffer bytes at) front) in
+        let long : length whole ≤ at + length front = omega (arith, ap (λ (b : Buffer). length (b .bytes)) fits, length-put (buffer-at bytes at) front) in
         let none-after : length bytes ≤ at + length front = omega arith in
-        ap (λ (t : List ℕ). put (buffer bytes at) t .bytes) (sym e)
-        ∙ ap (λ (b : Buffer). b .bytes) (put-append (buffer bytes at) front back ∙ ap (λ (b : Buffer). put b back) fits)
-        ∙ put-past (buffer whole (at + length front)) back long
+        ap (λ (t : List ℕ). put (buffer-at bytes at) t .bytes) (sym e)
+        ∙ ap (λ (b : Buffer). b .bytes) (put-append (buffer-at bytes at) front back ∙ ap (λ (b : Buffer). put b back) fits)
+        ∙ put-past (buffer-at whole (at + length front)) back long
         ∙ ap (λ (t : List ℕ). take at bytes ++ front ++ t) (drop-of-length-le bytes none-after)
         ∙ append-nil (take at bytes ++ front)
 
 -- ---- what a caller learns from the answered place
 
 -- an answer at most the length: the whole text stands from the place on, and the bytes before and after it are kept
-pub puts-whole : {bytes text after : List ℕ} {at next : ℕ} → Puts (buffer bytes at) text (buffer after next)
+pub puts-whole : {bytes text after : List ℕ} {at next : ℕ} → Puts (buffer-at bytes at) text (buffer-at after next)
     → at ≤ max-place → length bytes < max-place → next ≤ length bytes
     → (next ≡ at + length text) × (after ≡ take at bytes ++ text ++ drop (at + length text) bytes)
 puts-whole {bytes} {text} {after} {at} {next} p h m l =
-    let place : next ≡ min (at + length text) max-place = ap (λ (b : Buffer). b .at) (p .is) ∙ at-put (buffer bytes at) text h in
-    let e : buffer after next ≡ buffer (take at bytes ++ text ++ drop (at + length text) bytes) (at + length text)
+    let place : next ≡ min (at + length text) max-place = ap (λ (b : Buffer). b .at) (p .is) ∙ at-put (buffer-at bytes at) text h in
+    let e : buffer-at after next ≡ buffer-at (take at bytes ++ text ++ drop (at + length text) bytes) (at + length text)
     = p .is ∙ put-fits bytes at text (omega arith) (omega arith) in
     (ap (λ (b : Buffer). b .at) e, ap (λ (b : Buffer). b .bytes) e)
 
 -- an answer above the length: the text does not fit
-pub puts-cut : {bytes text after : List ℕ} {at next : ℕ} → Puts (buffer bytes at) text (buffer after next)
+pub puts-cut : {bytes text after : List ℕ} {at next : ℕ} → Puts (buffer-at bytes at) text (buffer-at after next)
     → at ≤ max-place → length bytes < next → length bytes < at + length text
 puts-cut {bytes} {text} {after} {at} {next} p h l =
-    omega (arith, ap (λ (b : Buffer). b .at) (p .is) ∙ at-put (buffer bytes at) text h)
+    omega (arith, ap (λ (b : Buffer). b .at) (p .is) ∙ at-put (buffer-at bytes at) text h)

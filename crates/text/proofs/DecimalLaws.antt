@@ -10,7 +10,7 @@ use lib.Dec.{ltb}
 use lib.ListN.{length, length-append}
 use borrow.Author.Tests.{ltb-true, ltb-false}
 use Rattle.lists.proofs.Tests.{bool-cases}
-use Rattle.calls.specs.Replay.{digit-byte, digits-in, decimal}
+use Rattle.text.specs.Text.{digit-byte, digits-in, decimal}
 
 -- ---- digits-in
 

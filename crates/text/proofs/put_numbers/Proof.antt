@@ -1,15 +1,15 @@
--- `printing::put_numbers` meets its contract: the fields of the first i numbers are put. The measure is how many are left.
+-- `text::put_numbers` meets its contract: the fields of the first i numbers are put. The measure is how many are left.
 use mathlib.Core.Path.{_∙_}
 use Prim.Native.Nat.{_-_}
 use native.Mathlib.Omega.{arith}
 use lib.ListN.{length}
-use Rattle.printing.specs.Print.{buffer}
-use Rattle.printing.proofs.PrintLaws.{Fields, fields-none, fields-next, fields-last, length-putting}
-use Rattle.printing.proofs.put_numbers.Statement.{statement}
-use Rattle.printing.proofs.put_numbers.Tie as tie
+use Rattle.text.specs.Print.{buffer-at}
+use Rattle.text.proofs.PrintLaws.{Fields, fields-none, fields-next, fields-last, length-putting}
+use Rattle.text.proofs.put_numbers.Statement.{statement}
+use Rattle.text.proofs.put_numbers.Tie as tie
 
 abbrev Inv-loop : tie.InvT-loop
-Inv-loop buffer₀ at numbers place₀ i₀ buffer place i = Fields numbers (buffer buffer₀ at) (buffer buffer place) i
+Inv-loop buffer₀ at numbers place₀ i₀ buffer place i = Fields numbers (buffer-at buffer₀ at) (buffer-at buffer place) i
 
 abbrev μ-loop : tie.MeasureT-loop
 μ-loop buffer₀ at numbers place₀ i₀ buffer place i = length numbers - i

@@ -1,16 +1,16 @@
--- `printing::put_radios` meets its contract: the fields of the first i radios are put. The measure is how many are left.
+-- `text::put_radios` meets its contract: the fields of the first i radios are put. The measure is how many are left.
 use mathlib.Core.Path.{_∙_}
 use Prim.Native.Nat.{_-_}
 use native.Mathlib.Omega.{arith}
 use lib.ListN.{length}
 use borrow.Author.Needs.{needs}
-use Rattle.printing.specs.Print.{buffer}
-use Rattle.printing.proofs.PrintLaws.{Fields, fields-none, fields-next, fields-last, length-putting}
-use Rattle.printing.proofs.put_radios.Statement.{statement}
-use Rattle.printing.proofs.put_radios.Tie as tie
+use Rattle.text.specs.Print.{buffer-at}
+use Rattle.text.proofs.PrintLaws.{Fields, fields-none, fields-next, fields-last, length-putting}
+use Rattle.text.proofs.put_radios.Statement.{statement}
+use Rattle.text.proofs.put_radios.Tie as tie
 
 abbrev Inv-loop : tie.InvT-loop
-Inv-loop buffer₀ at radios place₀ i₀ buffer place i = Fields radios (buffer buffer₀ at) (buffer buffer place) i
+Inv-loop buffer₀ at radios place₀ i₀ buffer place i = Fields radios (buffer-at buffer₀ at) (buffer-at buffer place) i
 
 abbrev μ-loop : tie.MeasureT-loop
 μ-loop buffer₀ at radios place₀ i₀ buffer place i = length radios - i

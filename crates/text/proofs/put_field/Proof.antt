@@ -1,8 +1,8 @@
--- `printing::put_field` meets its contract: one text after another.
+-- `text::put_field` meets its contract: one text after another.
 use borrow.Author.Needs.{needs}
-use Rattle.printing.proofs.PrintLaws.{puts-append}
-use Rattle.printing.proofs.put_field.Statement.{statement}
-use Rattle.printing.proofs.put_field.Tie as tie
+use Rattle.text.proofs.PrintLaws.{puts-append}
+use Rattle.text.proofs.put_field.Statement.{statement}
+use Rattle.text.proofs.put_field.Tie as tie
 
 returns : tie.Need-returns
 returns c = puts-append (c .before .before .before .before .before .before .put-byte .ensures) (c .before .before .put-decimal .ensures)

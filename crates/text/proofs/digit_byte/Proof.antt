@@ -1,9 +1,9 @@
--- `printing::digit_byte` meets its contract by the definition.
+-- `text::digit_byte` meets its contract by the definition.
 use mathlib.Core.Path.{refl}
 use borrow.Author.Needs.{needs}
-use Rattle.calls.specs.Replay.{digit-byte}
-use Rattle.printing.proofs.digit_byte.Statement.{statement}
-use Rattle.printing.proofs.digit_byte.Tie as tie
+use Rattle.text.specs.Text.{digit-byte}
+use Rattle.text.proofs.digit_byte.Statement.{statement}
+use Rattle.text.proofs.digit_byte.Tie as tie
 
 returns : tie.Need-returns
 unfolding digit-byte

@@ -1,18 +1,18 @@
--- `printing::put_decimal` meets its contract: it calls itself on all digits but the last, as `decimal-more` takes them off.
+-- `text::put_decimal` meets its contract: it calls itself on all digits but the last, as `decimal-more` takes them off.
 -- The measure is x.
 use mathlib.Core.Path.{_∙_}
 use Prim.Native.Nat.{ℕ, _<_}
 use native.Mathlib.Omega.{arith}
 use borrow.Fn.Kinds.{In}
 use borrow.Fn.PlainCycle.{Measures, is, falls, and}
-use Rattle.printing.proofs.PrintLaws.{puts-decimal-digit, puts-decimal-more}
-use Rattle.printing.proofs.+put_decimal.{statement}
-use Rattle.printing.proofs.+put_decimal.Tie.{close}
-use Rattle.printing.proofs.put_decimal.Reads as put-decimal
-use Rattle.printing.proofs.put_decimal.Kinds as put-decimal-kinds
-use Rattle.printing.proofs.+put_decimal.Lts-put_decimal as put-decimal-lts
-use Rattle.printing.proofs.digit_byte.Reads as digit-byte-reads
-use Rattle.printing.proofs.put_byte.Reads as put-byte-reads
+use Rattle.text.proofs.PrintLaws.{puts-decimal-digit, puts-decimal-more}
+use Rattle.text.proofs.+put_decimal.{statement}
+use Rattle.text.proofs.+put_decimal.Tie.{close}
+use Rattle.text.proofs.put_decimal.Reads as put-decimal
+use Rattle.text.proofs.put_decimal.Kinds as put-decimal-kinds
+use Rattle.text.proofs.+put_decimal.Lts-put_decimal as put-decimal-lts
+use Rattle.text.proofs.digit_byte.Reads as digit-byte-reads
+use Rattle.text.proofs.put_byte.Reads as put-byte-reads
 
 abbrev μ-put-decimal : Measures 1 put-decimal-kinds.ps ℕ
 μ-put-decimal κs a = a .1 .1 .0

@@ -1,17 +1,17 @@
--- `printing::put_text` meets its contract: the bytes that are left take the buffer where the whole text takes the lent one.
+-- `text::put_text` meets its contract: the bytes that are left take the buffer where the whole text takes the lent one.
 -- The measure is how many are left.
 use Prim.Native.Nat.{_≤_, _+_, _-_}
 use native.Mathlib.Omega.{arith}
 use lib.ListN.{length, drop, drop-of-length-le}
-use Rattle.printing.specs.Print.{buffer}
-use Rattle.printing.proofs.PrintLaws.{Putting, putting-none, putting-piece, putting-end, length-putting}
+use Rattle.text.specs.Print.{buffer-at}
+use Rattle.text.proofs.PrintLaws.{Putting, putting-none, putting-piece, putting-end, length-putting}
 use Rattle.lists.proofs.Parts.{drop-first}
-use Rattle.printing.proofs.put_text.Statement.{statement}
-use Rattle.printing.proofs.put_text.Tie as tie
+use Rattle.text.proofs.put_text.Statement.{statement}
+use Rattle.text.proofs.put_text.Tie as tie
 
 abbrev Inv-loop : tie.InvT-loop
 Inv-loop buffer₀ at text place₀ i₀ buffer place i =
-    (i ≤ length text) × Putting (buffer buffer₀ at) text (buffer buffer place) (drop i text)
+    (i ≤ length text) × Putting (buffer-at buffer₀ at) text (buffer-at buffer place) (drop i text)
 
 abbrev μ-loop : tie.MeasureT-loop
 μ-loop buffer₀ at text place₀ i₀ buffer place i = length text - i

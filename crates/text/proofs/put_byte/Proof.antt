@@ -1,9 +1,9 @@
--- `printing::put_byte` meets its contract: each branch is a case of one step of `put`.
+-- `text::put_byte` meets its contract: each branch is a case of one step of `put`.
 use native.Mathlib.Omega.{arith}
 use borrow.Author.Needs.{needs}
-use Rattle.printing.proofs.PrintLaws.{puts-byte-in, puts-byte-past, puts-byte-last}
-use Rattle.printing.proofs.put_byte.Statement.{statement}
-use Rattle.printing.proofs.put_byte.Tie as tie
+use Rattle.text.proofs.PrintLaws.{puts-byte-in, puts-byte-past, puts-byte-last}
+use Rattle.text.proofs.put_byte.Statement.{statement}
+use Rattle.text.proofs.put_byte.Tie as tie
 
 returns : tie.Need-returns
 returns c =
