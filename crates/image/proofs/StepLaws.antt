@@ -17,7 +17,7 @@ use Rattle.calls.specs.Questions.{By-number, block-refusal}
 use Rattle.calls.specs.Answers.{Block-contract, Block-accepted, Block-given, Block-none}
 use Rattle.calls.specs.declared.Block.{Block}
 use Rattle.calls.proofs.ContractLaws.{by-zero, by-cases}
-use Rattle.image.specs.Reader.{Part-of, Stepped}
+use Rattle.image.specs.Reader.{Stepped}
 use Rattle.image.specs.declared.blocks.BlockReader.{BlockReader}
 use Rattle.image.specs.declared.blocks.BlockStep.{BlockStep}
 
