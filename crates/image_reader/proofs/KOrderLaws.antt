@@ -26,13 +26,12 @@ use Rattle.mesh.proofs.Cores.RunningCertificate.{is-k-order-running, running-nu
 use Rattle.soundness.specs.Checks.{Placed, Places-found}
 use Rattle.soundness.proofs.CheckLaws.{count-later}
 use Rattle.image.proofs.CheckLaws.{Testing, testing-turn, testing-stop}
-use Rattle.image_reader.specs.Pairs.{tallied, Tallied}
-use Rattle.image_reader.specs.Reading.{few-ends, tops, K-order-decided}
-use Rattle.image_reader.proofs.MaximaLaws.{tops-running}
+use Rattle.image_reader.specs.Site.{tallied, Tallied, few-ends, running-maxima-of, K-order-decided}
+use Rattle.image_reader.proofs.MaximaLaws.{running-maxima-of-counts}
 
 -- ---- entries compared, one after the other
 
-abbrev pub at-most : (lows highs : List ℕ) → (v : ℕ) → Bool
+abbrev pub at-most : (entries most : List ℕ) → (v : ℕ) → Bool
 at-most xs ys v = leb (getD xs v 0) (getD ys v 0)
 
 pub at-most-turn : (xs ys : List ℕ) (v : ℕ) → Testing (at-most xs ys) (length xs) v → v < length xs → getD xs v 0 ≤ getD ys v 0
@@ -119,15 +118,15 @@ module _ (n : ℕ) (ls : List Link) (p : proper n ls ≡ true) (a : ascending ls
         (λ b. rw (here, add-zero (getD ps b 0)))
         ∙ sym (count-later n xs ps once placed (linked g v) (suc q))
 
-    module _ (ps counts ranks highs : List ℕ) (placed : Placed n xs ps) (later : Tallied n ps 0 ls counts)
-        (maxima : map (λ v. getD ranks v 0) xs ≡ tops (λ v. getD counts v 0) 0 xs) (high : Tallied n ranks 1 ls highs) where
+    module _ (ps counts ranks not-lower : List ℕ) (placed : Placed n xs ps) (later : Tallied n ps 0 ls counts)
+        (maxima : map (λ v. getD ranks v 0) xs ≡ running-maxima-of (λ v. getD counts v 0) 0 xs) (high : Tallied n ranks 1 ls not-lower) where
       abbrev num : ℕ → ℕ
       num v = getD ranks v 0
 
       runs : map num xs ≡ running-maxima (linked g) 0 xs
-      runs = maxima ∙ tops-running (linked g) (λ v. getD counts v 0) 0 xs (later-at ps counts placed later)
+      runs = maxima ∙ running-maxima-of-counts (linked g) (λ v. getD counts v 0) 0 xs (later-at ps counts placed later)
 
-      high-at : (v : ℕ) → v < n → getD highs v 0 ≡ neighbours-in g v (λ w. leb (num v) (num w))
+      high-at : (v : ℕ) → v < n → getD not-lower v 0 ≡ neighbours-in g v (λ w. leb (num v) (num w))
       unfolding neighbours-in radios
       high-at v l =
           high .at v l ∙ tallied-in ranks 1 v
@@ -135,15 +134,15 @@ module _ (n : ℕ) (ls : List Link) (p : proper n ls ≡ true) (a : ascending ls
           (λ b. ap (λ (t : Bool). linked g v b && t) (ltb-next (num v) (num b)))
 
       abbrev enough : Bool
-      enough = all (at-most ranks highs) (range 0 n)
+      enough = all (at-most ranks not-lower) (range 0 n)
 
       enough-of : enough ≡ true → Enough g num
-      enough-of h v l = omega (arith, leb-true (num v) (getD highs v 0) (all-below (at-most ranks highs) n h v l), high-at v l)
+      enough-of h v l = omega (arith, leb-true (num v) (getD not-lower v 0) (all-below (at-most ranks not-lower) n h v l), high-at v l)
 
       of-enough : Enough g num → enough ≡ true
-      of-enough h = below-all (at-most ranks highs) n (λ v l. le-leb (num v) (getD highs v 0) (omega (arith, h v l, high-at v l)))
+      of-enough h = below-all (at-most ranks not-lower) n (λ v l. le-leb (num v) (getD not-lower v 0) (omega (arith, h v l, high-at v l)))
 
-      by-counts : (r : Bool) → length ranks ≡ n → r ≡ all (at-most ranks highs) (range 0 (length ranks)) → K-order-decided g xs ranks r
+      by-counts : (r : Bool) → length ranks ≡ n → r ≡ all (at-most ranks not-lower) (range 0 (length ranks)) → K-order-decided g xs ranks r
       by-counts r long e =
           let apart = linked-self g p in
           let d = is-k-order-running g apart num xs once runs in
@@ -152,9 +151,9 @@ module _ (n : ℕ) (ls : List Link) (p : proper n ls ≡ true) (a : ascending ls
           record { answer = is; numbers = λ f v l. running-number g apart num xs once runs (sym is ∙ f) v l }
 
   -- the parts of the test together
-  pub k-order-decided : (xs before ps counts ranks highs : List ℕ) (u r : Bool) → n ≤ max-radios → length xs ≡ n → length before ≡ n
-      → Places-found xs before ps u → u ≡ true → Tallied n ps 0 ls counts → map (λ v. getD ranks v 0) xs ≡ tops (λ v. getD counts v 0) 0 xs
-      → Tallied n ranks 1 ls highs → length ranks ≡ n → r ≡ all (at-most ranks highs) (range 0 (length ranks)) → K-order-decided g xs ranks r
-  k-order-decided xs before ps counts ranks highs u r small lx lb d there later maxima high lr e =
-      by-counts xs (ap (λ (k : ℕ). each-once k xs) (sym lx) ∙ sym (placed-once xs before ps u small lx lb d) ∙ there) ps counts ranks highs
+  pub k-order-decided : (xs before ps counts ranks not-lower : List ℕ) (u r : Bool) → n ≤ max-radios → length xs ≡ n → length before ≡ n
+      → Places-found xs before ps u → u ≡ true → Tallied n ps 0 ls counts → map (λ v. getD ranks v 0) xs ≡ running-maxima-of (λ v. getD counts v 0) 0 xs
+      → Tallied n ranks 1 ls not-lower → length ranks ≡ n → r ≡ all (at-most ranks not-lower) (range 0 (length ranks)) → K-order-decided g xs ranks r
+  k-order-decided xs before ps counts ranks not-lower u r small lx lb d there later maxima high lr e =
+      by-counts xs (ap (λ (k : ℕ). each-once k xs) (sym lx) ∙ sym (placed-once xs before ps u small lx lb d) ∙ there) ps counts ranks not-lower
       (record { at = λ i l. d .placed there .at i (omega arith) }) later maxima high r lr e

@@ -1,6 +1,6 @@
 -- Laws of the reader.
 -- the links of an image
-pub mod PairLaws
+pub mod ListedLaws
 -- counts over the links of an image
 pub mod TallyLaws
 -- running maxima along an order

@@ -15,7 +15,8 @@ use Rattle.calls.specs.Questions.{block-refusal}
 use Rattle.calls.specs.Writes.{Read-contract, Read-accepted, Tables-refused}
 use Rattle.calls.proofs.ContractLaws.{by-accepted, by-refused}
 use Rattle.calls.proofs.ChainLaws.{Lent-good, lent-zero, lent-yes, Blocks-good, blocks-zero, blocks-yes}
-use Rattle.image_reader.specs.Reading.{Site-room, Site-read}
+use Rattle.image_reader.specs.Site.{Site-room}
+use Rattle.image_reader.specs.Reading.{Site-read}
 
 module _ (n : ℕ) (bs : List ℕ) (t : Tables) where
   abbrev l : Lengths

@@ -28,8 +28,8 @@ use Rattle.tables.proofs.WidthLaws.{length-values, values-below}
 use Rattle.lists.proofs.Overwrite.{overwrite-take}
 use Rattle.image.specs.Form.{is-formed}
 use Rattle.image.proofs.FormLaws.{is-image-formed}
-use Rattle.image_reader.specs.Pairs.{links-up-to}
-use Rattle.image_reader.specs.Reading.{few-ends, Tally-room, K-order-decided, Site-decided, Site-read}
+use Rattle.image_reader.specs.Site.{links-up-to, few-ends, Tally-room, K-order-decided, Site-decided}
+use Rattle.image_reader.specs.Reading.{Site-read}
 use Rattle.image_reader.proofs.KOrderLaws.{few-degrees}
 
 -- ---- question 11, part by part

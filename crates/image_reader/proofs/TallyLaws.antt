@@ -17,7 +17,8 @@ use Rattle.mesh.proofs.Tables.AscendingLinks.{link-eq}
 use Rattle.lists.proofs.Tests.{bool-cases, and-left, and-right}
 use Rattle.lists.proofs.Count.{count-append, count-le-length}
 use Rattle.lists.proofs.Range.{range-append}
-use Rattle.image_reader.specs.Pairs.{links-up-to, Pair-at, tallied, Tallied}
+use Rattle.image.specs.Bytes.{Link-at}
+use Rattle.image_reader.specs.Site.{links-up-to, tallied, Tallied}
 use Rattle.lists.proofs.Map.{map-append}
 
 -- ---- laws of lists
@@ -131,7 +132,7 @@ tallying-none n rs s bs start counts h e =
     }
 
 module _ (n : ℕ) (rs : List ℕ) (s : ℕ) (bs start counts : List ℕ) (j : ℕ) (t : Tallying n rs s bs start counts j) (a b : ℕ)
-    (pair : Pair-at n bs j a b) (lower : a < b) (radio : b < n) (fits : n ≤ length start) where
+    (pair : Link-at n bs j a b) (lower : a < b) (radio : b < n) (fits : n ≤ length start) where
   abbrev once : List ℕ
   once = set counts a (getD counts a 0 + cond (below rs s a b) 1 0)
 
@@ -225,6 +226,6 @@ tallying-end n rs s bs start counts j m t h k =
     let e : j ≡ m = omega arith in record { at = λ v l. t .at v l ∙ ap (λ (i : ℕ). tallied rs s (links-up-to n bs i) v) e }
 
 -- the pair that is read
-pub proper-pair : (n : ℕ) (bs : List ℕ) (m j a b : ℕ) → proper n (links-up-to n bs m) ≡ true → j < m → Pair-at n bs j a b → (a < b) × (b < n)
+pub proper-pair : (n : ℕ) (bs : List ℕ) (m j a b : ℕ) → proper n (links-up-to n bs m) ≡ true → j < m → Link-at n bs j a b → (a < b) × (b < n)
 unfolding links-up-to
 proper-pair n bs m j a b h l pair = omega (arith, proper-at n (image-link n bs) 0 m j h (omega arith) (omega arith), pair .low, pair .high)

@@ -8,34 +8,14 @@ ghost use Rattle.mesh.specs.Graph.{graph, proper};
 ghost use Rattle.mesh.specs.Tables.{links-table, lent};
 ghost use Rattle.calls.specs.Writes.{Read-contract};
 ghost use Rattle.tables.specs.Widths.{values};
-ghost use Rattle.image_reader.specs.Pairs.{links-up-to};
-ghost use Rattle.image_reader.specs.Reading.{Site-room, Site-decided, Site-read};
-use super::numbers;
-use super::pairs;
+ghost use Rattle.image_reader.specs.Site.{links-up-to, Site-room};
+ghost use Rattle.image_reader.specs.Reading.{Site-read};
+use super::site;
 use calls::Refusal;
+use image::bytes;
 use image::checks;
-use image::form;
+use image::layout;
 use mesh::Site;
-
-// Question 11, where 10 got yes: whether the bytes are the image of some sound tables with n radios. Then `listed` holds its
-// order and `ranks` its numbers; else they, and the counts in any case, hold anything.
-fn is_site(image: &[u8], n: u32, listed: &mut [u16], ranks: &mut [u16], counts: &mut [u16]) -> bool
-    requires { ⌜ Site-room n (now image) (length (now listed)) (length (now ranks)) (length (now counts)) ⌝ }
-    ensures { λ r. ⌜ Site-decided n (now (image .entry)) (now (listed .exit)) (now (ranks .exit)) r ⌝ }
-{
-    if !form::is_formed(image, n) {
-        return false;
-    }
-    let m = form::word_at(image, 6);
-    if !pairs::are_listed(image, n, m) {
-        return false;
-    }
-    if !numbers::are_few(image, n, m, ranks, counts) {
-        return false;
-    }
-    pairs::read_order(image, listed);
-    numbers::is_k_order(image, n, m, listed, ranks, counts)
-}
 
 // The links table of the first m links of the image.
 fn put_links(image: &[u8], n: u32, m: u32, links: &mut [u8])
@@ -48,7 +28,7 @@ fn put_links(image: &[u8], n: u32, m: u32, links: &mut [u8])
     tables::fill::fill8(links, 0);
     let mut j: u32 = 0;
     while j < m {
-        let pair = pairs::pair_at(image, n, j);
+        let pair = bytes::link_at(image, n, j);
         rows::put_link(links, true, pair.low, pair.high);
         j += 1;
     }
@@ -84,10 +64,10 @@ fn read_site(
         (lent (links .exit) (numbers .exit) (order .exit))
         ⌝ }
 {
-    if !is_site(image, n, listed, ranks, counts) {
+    if !site::is_site(image, n, listed, ranks, counts) {
         return Refusal::IMAGE;
     }
-    put_links(image, n, form::word_at(image, 6), links);
+    put_links(image, n, bytes::word_at(image, layout::LINKS_AT), links);
     put_numbers(ranks, numbers);
     tables::fill::copy16(order, listed);
     0

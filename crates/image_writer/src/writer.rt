@@ -15,17 +15,13 @@ ghost use Rattle.image_writer.specs.Blocks.{Row-put, Links-put, Links-fi
 use calls::Refusal;
 use calls::Value;
 use image::checks;
-use image::form;
+use image::layout;
 use mesh::Site;
 
-// Entries of the order in a block of kind 1.
-const ENTRIES: usize = 252;
+// The figures that count places.
+const ENTRIES: usize = layout::ENTRIES as usize;
 
-// Links in a block of kind 2.
-const LINKS: usize = 126;
-
-// Where a block's payload starts.
-const HEAD: usize = 4;
+const LINKS: usize = layout::LINKS as usize;
 
 // Writes x as two bytes from `at` on, lowest first.
 fn put_word(part: &mut [u8], at: usize, x: u32)
@@ -52,8 +48,8 @@ fn close_block(part: &mut [u8])
     ensures { λ _. ⌜ now (part .exit) ≡ sealed (now (part .entry)) ⌝ }
 {
     let sum = checks::check_sum(part);
-    put_word(part, checks::BODY, sum);
-    put_word(part, checks::BODY + 2, sum / 65536);
+    put_word(part, layout::BODY, sum);
+    put_word(part, layout::BODY + 2, sum / 65536);
 }
 
 // The block of kind 0: n and the count of links.
@@ -62,8 +58,8 @@ fn fill_counts(part: &mut [u8], n: u32, count: u32)
     ensures { λ _. ⌜ now (part .exit) ≡ block 0 0 (word n ++ word count) ⌝ }
 {
     open_block(part, 0, 0);
-    put_word(part, HEAD, n);
-    put_word(part, HEAD + 2, count);
+    put_word(part, layout::HEAD, n);
+    put_word(part, layout::HEAD + 2, count);
     close_block(part);
 }
 
@@ -78,7 +74,7 @@ fn put_order(part: &mut [u8], order: &[u16], from: usize)
     let mut v: usize = 0;
     while v < count {
         let x = order[from + v];
-        put_word(part, HEAD + 2 * v, x as u32);
+        put_word(part, layout::HEAD + 2 * v, x as u32);
         v += 1;
     }
 }
@@ -112,7 +108,7 @@ fn put_row(part: &mut [u8], count: usize, a: u32, list: &[u16]) -> usize
     let mut i: usize = 0;
     while i < room {
         let b = list[i];
-        put_link(part, HEAD + 4 * (count + i), a, b as u32);
+        put_link(part, layout::HEAD + 4 * (count + i), a, b as u32);
         i += 1;
     }
     room
@@ -199,7 +195,7 @@ fn fill_block(
         fill_counts(part, n, count);
         return from;
     }
-    if i <= form::order_blocks(n) {
+    if i <= layout::blocks_for(n, layout::ENTRIES) {
         fill_order(part, i, order, ENTRIES * (i as usize - 1));
         return from;
     }
@@ -227,8 +223,8 @@ fn write_blocks(
     let mut from = Cursor { row: 0, place: 0 };
     let mut i: u32 = 0;
     while i < blocks {
-        let at = checks::BLOCK * i as usize;
-        let end = at + checks::BLOCK;
+        let at = layout::BLOCK * i as usize;
+        let end = at + layout::BLOCK;
         from = fill_block(&mut buffer[at..end], i, n, count, links, order, from, list);
         i += 1;
     }
@@ -247,8 +243,8 @@ pub fn write(n: u32, links: &[u8], numbers: &[u8], order: &[u16], buffer: &mut [
     }
     let mut list = [0u16; Site::NEIGHBOURS as usize];
     let count = link_list::count_links(n, links, &mut list);
-    let blocks = form::block_count(n, count);
-    if buffer.len() < checks::BLOCK * blocks as usize {
+    let blocks = layout::block_count(n, count);
+    if buffer.len() < layout::BLOCK * blocks as usize {
         return Value {
             number: Refusal::IMAGE_SIZE,
             value: 0,
@@ -257,6 +253,6 @@ pub fn write(n: u32, links: &[u8], numbers: &[u8], order: &[u16], buffer: &mut [
     write_blocks(blocks, n, count, links, order, buffer, &mut list);
     Value {
         number: 0,
-        value: checks::BLOCK as u32 * blocks,
+        value: layout::BLOCK as u32 * blocks,
     }
 }

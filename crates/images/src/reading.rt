@@ -137,7 +137,9 @@ fn said(h: u64, number: u32, end: u32, offset: usize, length: usize, next: usize
 fn step(image: &[u8], walk: Walk) -> Walk {
     let b = blocks::block(image, walk.next);
     let h = said(walk.digest, b.number, b.end, b.offset, b.length, b.next);
-    let part = blocks::payload(image, walk.next);
+    let start = b.offset;
+    let end = start + b.length;
+    let part = &image[start..end];
     Walk {
         next: b.next,
         number: b.number,

@@ -27,7 +27,7 @@ loop-again c =
     let start = at-loop .before .before .before .before .before .before .before in (
       omega arith,
       put .put-link .kept .0 ∙ at-loop .loop .inv .1,
-      linking-turn _ _ _ _ _ _ _ _ (start .pre .0) (start .pre .3) (omega arith) (put .before .before .pair-at .ensures) (at-loop .loop .inv .2) (put .put-link .ensures),
+      linking-turn _ _ _ _ _ _ _ _ (start .pre .0) (start .pre .3) (omega arith) (put .before .before .link-at .ensures) (at-loop .loop .inv .2) (put .put-link .ensures),
     )
 
 same-length : tie.Need-same-length Inv-loop μ-loop

@@ -16,24 +16,26 @@ returns c =
 fill-order-requires : tie.Need-fill-order-requires
 unfolding order-blocks blocks-for
 fill-order-requires c κs =
-    let blocks = c .before .before .order-blocks .ensures in
+    let blocks = c .before .before .blocks-for .ensures in
     let start = c .before .before .before .before .before .before .before .before in
     (start .pre .0, omega (arith, start .pre .1 .entries, blocks, c .before .if2 .taken))
 
 returns-2 : tie.Need-returns-2
+unfolding order-blocks
 returns-2 c =
     let filled = c .before .before in
     let test = filled .before .before in
     let start = test .before .before .before .before .before .before .before in
-    let few = rw (test .before .order-blocks .ensures) at (test .if2 .taken) in
+    let few = rw (test .before .blocks-for .ensures) at (test .if2 .taken) in
     filled-order _ _ _ _ _ _ _ (omega arith) few (filled .fill-order .ensures) (start .pre .2)
 
 returns-3 : tie.Need-returns-3
+unfolding order-blocks
 returns-3 c =
     let filled = c .before .before .before .before in
     let test = filled .before .before .before in
     let start = test .before .before .before .before .before .before .before in
-    let many = rw (test .before .order-blocks .ensures) at (test .if2 .left) in
+    let many = rw (test .before .blocks-for .ensures) at (test .if2 .left) in
     filled-links _ _ _ _ _ _ _ _ _ many (filled .fill-links .ensures) (start .pre .2)
 
 pub fill-block-spec : {M : Type 1} → statement M
