@@ -3,7 +3,7 @@
   python3 oracle/exports.py           write crates/test_exports/data and crates/test_exports/stdout
   python3 oracle/exports.py --check   say whether the stored files are what would be written
 
-The file has words of 32 bits, lowest byte first: the count of calls, and nine words a call. Tables stand in lists as long as the
+The program counts how many of the tables that it spoils its digest shows; all must be. The file has words of 32 bits, lowest byte first: the count of calls, and nine words a call. Tables stand in lists as long as the
 program's; a call is answered from their lent parts and nothing else. Link calls are those of oracle/peeled.py, the rest is
 oracle/reference.py's.
 """
@@ -19,7 +19,8 @@ ENTRIES, PLACES, BUFFER = 514, 515, 4096  # the program's tables: radios, nodes,
 BYTE, KEPT = 165, 600  # what they hold before they are written
 MODULUS, BASE = 4294967291, 65599  # of the digest that the program prints
 KINDS = ["clear", "check", "link-up", "link-down", "number", "neighbours", "linked", "first", "core", "backbone", "tree",
-         "image-write", "image-read", "image-block", "spoil-links", "spoil-numbers", "spoil-order", "spoil-buffer"]
+         "image-write", "image-read", "image-block", "spoil-links", "spoil-numbers", "spoil-order",
+         "spoil-answer", "spoil-fields", "spoil-buffer"]
 CRATE = Path(__file__).resolve().parent.parent / "crates/test_exports"
 
 
@@ -196,6 +197,12 @@ class Host:
     def spoil_order(self, n, at, bits, lengths):
         return self.spoil(self.order, at, bits, "spoil-order")
 
+    def spoil_answer(self, n, at, bits, lengths):
+        return self.spoil(self.answer, at, bits, "spoil-answer")
+
+    def spoil_fields(self, n, at, bits, lengths):
+        return self.spoil(self.fields, at, bits, "spoil-fields")
+
     def spoil_buffer(self, n, at, bits, lengths):
         return self.spoil(self.buffer, at, bits, "spoil-buffer")
 
@@ -333,14 +340,18 @@ def play(host):
     lists(host, 512)
     host.call("core", 512, 511, 2)
     images(host, 512)
+    # the last entry of each table spoiled: the digest must show it
+    for table in ("links", "numbers", "order", "answer", "fields", "buffer"):
+        host.call(f"spoil-{table}", 512, len(getattr(host, table)) - 1, 1)
 
 
 def main():
     host = Host()
     play(host)
     words = [len(host.words)] + [x for call in host.words for x in call]
+    spoiled = sum(line.startswith("spoil ") for line in host.lines)
     files = {CRATE / "data/calls": b"".join(x.to_bytes(4, "little") for x in words),
-             CRATE / "stdout": ("".join(host.lines) + "canaries 6\n").encode()}
+             CRATE / "stdout": ("".join(host.lines) + f"canaries {spoiled}\n").encode()}
     if "--check" in sys.argv:
         same = all(path.read_bytes() == content for path, content in files.items())
         print("crates/test_exports:", "as written by this program" if same else "DIFFERENT")

@@ -1,5 +1,13 @@
 -- Reachable radios, connected cores, the shell tree.
 
+
+
+
+
+
+
+
+
 pub mod Reach
 pub mod CoreLevels
 pub mod NodeSets

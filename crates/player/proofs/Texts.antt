@@ -17,9 +17,17 @@ use Rattle.player.specs.RunText.{call-line, call-text, line-text, lines-
 use Rattle.player.specs.Texts.{Text, Text-right, m1, bad-third, no-first, texts, All-right}
 use Rattle.player.proofs.RunLaws.{run-met, run-only}
 
--- everything that a text computes with
+-- everything that link calls, lines and texts compute with
+unfoldable compute-calls : Unit {0}
+unfolding compute overwrite neighbours-in put-digit put-bit put-link row-links graph-in lengths-of answer-length site-refusal link-refusal switched link-outcome
+compute-calls = tt
+
+unfoldable compute-lines : Unit {0}
+unfolding bad-line is-digit digits-on number-of ended last-number-of starts radios-line link-with link-after link-of line-of site-of radios-of
+compute-lines = tt
+
 unfoldable compute-text : Unit {0}
-unfolding compute overwrite neighbours-in put-digit put-bit put-link row-links graph-in lengths-of answer-length site-refusal link-refusal switched link-outcome bad-line is-digit digits-on number-of ended last-number-of starts radios-line link-with link-after link-of line-of site-of radios-of glue lines-of front rest cleared call-line call-text line-text lines-text text-from run-text m1 bad-third no-first
+unfolding compute-calls compute-lines glue lines-of front rest cleared call-line call-text line-text lines-text text-from run-text m1 bad-third no-first
 compute-text = tt
 
 -- the text that a run computes

@@ -47,29 +47,3 @@ pub fn all(
     let site = entries(bytes(bytes(0, links), numbers), order);
     bytes(entries(entries(site, answer), fields), buffer)
 }
-
-// One more where the two differ.
-fn counted(count: u32, x: u64, y: u64) -> u32 {
-    if x == y {
-        return count;
-    }
-    std::num::wrapping_add_u32(count, 1)
-}
-
-// How often the digest differs where one of the six tables is exchanged for another.
-pub fn canaries<'a>(
-    links: &'a [u8],
-    numbers: &'a [u8],
-    order: &'a [u16],
-    answer: &'a [u16],
-    fields: &'a [u16],
-    buffer: &'a [u8],
-) -> u32 {
-    let h = all(links, numbers, order, answer, fields, buffer);
-    let a = counted(0, h, all(&[0], numbers, order, answer, fields, buffer));
-    let b = counted(a, h, all(links, &[0], order, answer, fields, buffer));
-    let c = counted(b, h, all(links, numbers, &[0], answer, fields, buffer));
-    let d = counted(c, h, all(links, numbers, order, &[0], fields, buffer));
-    let e = counted(d, h, all(links, numbers, order, answer, &[0], buffer));
-    counted(e, h, all(links, numbers, order, answer, fields, &[0]))
-}

@@ -55,7 +55,11 @@ const SPOIL_NUMBERS: u32 = 15;
 
 const SPOIL_ORDER: u32 = 16;
 
-const SPOIL_BUFFER: u32 = 17;
+const SPOIL_ANSWER: u32 = 17;
+
+const SPOIL_FIELDS: u32 = 18;
+
+const SPOIL_BUFFER: u32 = 19;
 
 // A question about a site, which writes no table.
 fn ask<'a>(call: Call, links: &'a [u8], numbers: &'a [u8], order: &'a [u16]) {
@@ -65,7 +69,8 @@ fn ask<'a>(call: Call, links: &'a [u8], numbers: &'a [u8], order: &'a [u16]) {
         NUMBER => calling::number(call, links, numbers, order),
         NEIGHBOURS => calling::neighbours(call, links, numbers, order),
         LINKED => calling::linked(call, links, numbers, order),
-        _ => calling::first(call, links, numbers, order),
+        FIRST => calling::first(call, links, numbers, order),
+        _ => {}
     }
 }
 
@@ -86,53 +91,73 @@ fn list<'a>(
         calling::backbone(call, links, numbers, order, answer);
         return;
     }
-    calling::tree(call, links, numbers, order, answer, fields);
+    if call.kind == TREE {
+        calling::tree(call, links, numbers, order, answer, fields);
+    }
 }
 
-// A call that writes the site's tables.
-fn write(
-    call: Call,
-    links: &mut [u8],
-    numbers: &mut [u8],
-    order: &mut [u16],
-    answer: &mut [u16],
-    buffer: &[u8],
-) {
-    if call.kind == CLEAR {
-        calling::clear(call, links, numbers, order);
-        return;
-    }
+// A call that takes a link up or down.
+fn link(call: Call, links: &mut [u8], numbers: &mut [u8], order: &mut [u16], answer: &mut [u16]) {
     if call.kind == LINK_UP {
         calling::link_up(call, links, numbers, order, answer);
         return;
     }
     if call.kind == LINK_DOWN {
         calling::link_down(call, links, numbers, order, answer);
+    }
+}
+
+// A call that sets the site's tables.
+fn set(call: Call, links: &mut [u8], numbers: &mut [u8], order: &mut [u16], image: &[u8]) {
+    if call.kind == CLEAR {
+        calling::clear(call, links, numbers, order);
         return;
     }
-    calling::image_read(call, links, numbers, order, buffer);
+    if call.kind == IMAGE_READ {
+        calling::image_read(call, links, numbers, order, image);
+    }
+}
+
+// A call on an image that leaves the site's tables.
+fn store(call: Call, links: &[u8], numbers: &[u8], order: &[u16], buffer: &mut [u8]) {
+    if call.kind == IMAGE_WRITE {
+        calling::image_write(call, links, numbers, order, buffer);
+        return;
+    }
+    if call.kind == IMAGE_BLOCK {
+        calling::image_block(call, buffer);
+    }
+}
+
+// The bits to flip in a table: none where another one is spoiled.
+fn bits(call: Call, kind: u32) -> u32 {
+    if call.kind == kind {
+        say::number(b"spoil", kind);
+        return call.b;
+    }
+    0
 }
 
 // One entry of a table spoiled: place a, bits b.
-fn spoil(call: Call, links: &mut [u8], numbers: &mut [u8], order: &mut [u16], buffer: &mut [u8]) {
-    say::number(b"spoil", call.kind);
+fn spoil(
+    call: Call,
+    links: &mut [u8],
+    numbers: &mut [u8],
+    order: &mut [u16],
+    answer: &mut [u16],
+    fields: &mut [u16],
+    buffer: &mut [u8],
+) {
     let at = call.a as usize;
-    if call.kind == SPOIL_LINKS {
-        changing::flip8(links, at, call.b);
-        return;
-    }
-    if call.kind == SPOIL_NUMBERS {
-        changing::flip8(numbers, at, call.b);
-        return;
-    }
-    if call.kind == SPOIL_ORDER {
-        changing::flip16(order, at, call.b);
-        return;
-    }
-    changing::flip8(buffer, at, call.b);
+    changing::flip8(links, at, bits(call, SPOIL_LINKS));
+    changing::flip8(numbers, at, bits(call, SPOIL_NUMBERS));
+    changing::flip16(order, at, bits(call, SPOIL_ORDER));
+    changing::flip16(answer, at, bits(call, SPOIL_ANSWER));
+    changing::flip16(fields, at, bits(call, SPOIL_FIELDS));
+    changing::flip8(buffer, at, bits(call, SPOIL_BUFFER));
 }
 
-// Makes the call on the lent parts.
+// Makes the call on the lent parts: of these functions one has its kind.
 fn put(
     call: Call,
     links: &mut [u8],
@@ -142,17 +167,11 @@ fn put(
     fields: &mut [u16],
     buffer: &mut [u8],
 ) {
-    let kind = call.kind;
-    match kind {
-        CHECK | NUMBER | NEIGHBOURS | LINKED | FIRST => ask(call, links, numbers, order),
-        CORE | BACKBONE | TREE => list(call, links, numbers, order, answer, fields),
-        CLEAR | LINK_UP | LINK_DOWN | IMAGE_READ => {
-            write(call, links, numbers, order, answer, buffer)
-        }
-        IMAGE_WRITE => calling::image_write(call, links, numbers, order, buffer),
-        IMAGE_BLOCK => calling::image_block(call, buffer),
-        _ => spoil(call, links, numbers, order, buffer),
-    }
+    ask(call, links, numbers, order);
+    list(call, links, numbers, order, answer, fields);
+    link(call, links, numbers, order, answer);
+    set(call, links, numbers, order, buffer);
+    store(call, links, numbers, order, buffer);
 }
 
 // Lends the front of each table.
@@ -181,6 +200,26 @@ fn lend(
     );
 }
 
+// Makes the call, or spoils a table.
+fn change(
+    call: Call,
+    links: &mut [u8],
+    numbers: &mut [u8],
+    order: &mut [u16],
+    answer: &mut [u16],
+    fields: &mut [u16],
+    buffer: &mut [u8],
+) {
+    lend(call, links, numbers, order, answer, fields, buffer);
+    spoil(call, links, numbers, order, answer, fields, buffer);
+}
+
+// The digest after the call ends its line.
+fn end_line(h: u64) {
+    say::field(h);
+    say::word(b"\n");
+}
+
 // Fills what a call is to write.
 fn refill(call: Call, answer: &mut [u16], fields: &mut [u16], buffer: &mut [u8]) {
     tables::fill::fill16(answer, KEPT);
@@ -190,7 +229,39 @@ fn refill(call: Call, answer: &mut [u16], fields: &mut [u16], buffer: &mut [u8])
     }
 }
 
-// The next call of the file, and its line.
+// Whether the host spoils a table.
+fn is_spoil(call: Call) -> bool {
+    SPOIL_LINKS <= call.kind
+}
+
+// 1 for a spoiled table that the digest shows: it was h, and is not.
+fn canary(call: Call, h: u64, after: u64) -> u32 {
+    if is_spoil(call) {
+        if h != after {
+            return 1;
+        }
+    }
+    0
+}
+
+// Makes the call and prints its line. Comes back with 1 for a canary.
+fn line(
+    call: Call,
+    links: &mut [u8],
+    numbers: &mut [u8],
+    order: &mut [u16],
+    answer: &mut [u16],
+    fields: &mut [u16],
+    buffer: &mut [u8],
+) -> u32 {
+    let h = digest::all(links, numbers, order, answer, fields, buffer);
+    change(call, links, numbers, order, answer, fields, buffer);
+    let after = digest::all(links, numbers, order, answer, fields, buffer);
+    end_line(after);
+    canary(call, h, after)
+}
+
+// The next call of the file.
 fn one(
     fd: i32,
     links: &mut [u8],
@@ -199,16 +270,13 @@ fn one(
     answer: &mut [u16],
     fields: &mut [u16],
     buffer: &mut [u8],
-) {
+) -> u32 {
     let call = reading::next_call(fd);
     refill(call, answer, fields, buffer);
-    lend(call, links, numbers, order, answer, fields, buffer);
-    let h = digest::all(links, numbers, order, answer, fields, buffer);
-    say::field(h);
-    say::word(b"\n");
+    line(call, links, numbers, order, answer, fields, buffer)
 }
 
-// All calls of the file, after their count.
+// All calls of the file, after their count. Comes back with the count of canaries.
 fn all(
     fd: i32,
     links: &mut [u8],
@@ -217,14 +285,17 @@ fn all(
     answer: &mut [u16],
     fields: &mut [u16],
     buffer: &mut [u8],
-) {
+) -> u32 {
     let count = reading::word(fd);
+    let mut seen: u32 = 0;
     for i in 0..count {
-        one(fd, links, numbers, order, answer, fields, buffer);
+        let more = one(fd, links, numbers, order, answer, fields, buffer);
+        seen = std::num::wrapping_add_u32(seen, more);
     }
+    seen
 }
 
-// Plays the file.
+// Plays the file, and prints how many spoiled tables the digest showed.
 pub fn play(fd: i32) {
     let mut links = [BYTE; LINKS];
     let mut numbers = [BYTE; ENTRIES];
@@ -232,7 +303,7 @@ pub fn play(fd: i32) {
     let mut answer = [KEPT; asking::PLACES];
     let mut fields = [KEPT; asking::FIELDS];
     let mut buffer = [BYTE; BUFFER];
-    all(
+    let seen = all(
         fd,
         &mut links,
         &mut numbers,
@@ -241,7 +312,6 @@ pub fn play(fd: i32) {
         &mut fields,
         &mut buffer,
     );
-    let seen = digest::canaries(&links, &numbers, &order, &answer, &fields, &buffer);
     say::number(b"canaries", seen);
     say::word(b"\n");
 }

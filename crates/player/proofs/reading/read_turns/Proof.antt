@@ -35,7 +35,8 @@ turn-requires c κs =
     let inv = at-loop .loop .inv in
     let start = at-loop .before .before .before .before .before .before .before in
     let live = not-false (at-loop .loop .s .live) (goes-on .if1 .left) in
-    (live, (ready-turn _ _ _ (goes-on .before .before .loop-test .taken) (inv .6 .ready live), sized-as (inv .2) (inv .3) (sized-cleared _ _ _ (start .pre .1 .1))))
+    let sized = sized-as (inv .2) (inv .3) (sized-cleared _ _ _ (start .pre .1 .1)) in
+    (live, (ready-turn _ _ _ (goes-on .before .before .loop-test .taken) (inv .6 .ready live), sized))
 
 loop-again : tie.Need-loop-again Inv-loop μ-loop
 unfolding spot
@@ -52,8 +53,8 @@ loop-again c =
       omega (arith, turned .turn .kept, inv .3),
       omega (arith, turned .turn .kept, inv .4),
       omega (arith, turned .turn .kept, inv .5),
-      read-more _ _ _ _ _ _ _ _ _ _ _ _ (goes-on .before .before .loop-test .taken) (inv .0 ∙ start .pre .0) live refl refl refl (omega (arith, turned .turn .kept))
-          (turned .turn .ensures .0) (inv .6) (turned .turn .ensures .1),
+      read-more _ _ _ _ _ _ _ _ _ _ _ _ (goes-on .before .before .loop-test .taken) (inv .0 ∙ start .pre .0) live refl refl refl
+          (omega (arith, turned .turn .kept)) (turned .turn .ensures .0) (inv .6) (turned .turn .ensures .1),
     )
 
 returns : tie.Need-returns Inv-loop μ-loop
