@@ -1,13 +1,5 @@
 -- Core numbers and k-orders: the order is a certificate, peeling works the numbers out, running maxima along a k-order.
 
-
-
-
-
-
-
-
-
 pub mod Orders
 pub mod Certificate
 pub mod Peeling

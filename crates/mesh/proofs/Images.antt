@@ -1,13 +1,5 @@
 -- The site image: its blocks, its checks, what is written and what is read.
 
-
-
-
-
-
-
-
-
 pub mod Laws
 pub mod Words
 pub mod Blocks

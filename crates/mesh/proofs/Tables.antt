@@ -1,13 +1,5 @@
 -- Links tables: digits and rows, what they read back as, soundness, a site's tables.
 
-
-
-
-
-
-
-
-
 pub mod Digits
 pub mod Laws
 pub mod Rows

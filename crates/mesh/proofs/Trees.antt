@@ -1,13 +1,5 @@
 -- Reachable radios, connected cores, the shell tree.
 
-
-
-
-
-
-
-
-
 pub mod Reach
 pub mod CoreLevels
 pub mod NodeSets

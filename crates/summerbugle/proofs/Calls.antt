@@ -2,11 +2,10 @@
 -- values at exit. That each meets its contract is in `Promises`.
 use mathlib.Core.Path.{_≡_}
 use mathlib.Core.Bool.{true, false}
-use denote.Ref.{now}
 use Rattle.calls.specs.Writes.{Clear-contract, Link-contract, Read-contract}
 use Rattle.calls.specs.Answers.{Check-contract, Number-contract, Neighbours-contract, Linked-contract, First-contract, Core-contract, Backbone-contract}
 use Rattle.calls.specs.Answers.{Tree-contract, Write-contract, Block-contract}
-use Rattle.image.specs.Reader.{Stepped, next-number}
+use Rattle.image.specs.Reader.{Stepped, Moved}
 use Rattle.summerbugle.specs.Functions.{Function, number-0, number-1, number-2, tables-1, tables-2, tables-3, lent-0, lent-4, lent-5, lent-6}
 use Rattle.image.proofs.blocks.open as opening
 use Rattle.image.proofs.blocks.open.Symbol as opening-symbol
@@ -196,5 +195,5 @@ reader-moved = record {
   signature = moving.signature;
   routine = moving-symbol.routine;
   kept = moving.ended .kept;
-  contract = λ κs a r e. (r .image ≡ a .0 .image) × (r .next ≡ next-number (now (a .0 .image)) (a .0 .next));
+  contract = λ κs a r e. Moved (a .0) r;
 }

@@ -39,7 +39,6 @@ use Rattle.summerbugle.specs.Functions.{Promised, Returns, Gives, Leaves
 use Rattle.summerbugle.specs.Functions.{lent-6}
 use Rattle.summerbugle.proofs.Calls.{sb-clear, sb-link-up, sb-link-down, sb-image-read, sb-check, sb-number, sb-neighbours, sb-linked, sb-first, sb-core}
 use Rattle.summerbugle.proofs.Calls.{sb-backbone, sb-tree, sb-image-write, sb-image-block, reader-open, reader-step, reader-moved}
-
 -- for the proof
 use Rattle.mesh.proofs.Peeling.{number-core, number-unique}
 use Rattle.calls.proofs.Outcomes.{exactly, clear-decided, link-decided, read-decided, check-decided, number-decided, neighbours-decided, block-inhabited}
