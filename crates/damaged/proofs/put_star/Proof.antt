@@ -13,18 +13,12 @@ Inv-loop links₀ k v₀ links v = length links ≡ length links₀
 abbrev μ-loop : tie.MeasureT-loop
 μ-loop links₀ k v₀ links v = k - v
 
-loop-holds : tie.Need-loop-holds Inv-loop μ-loop
-loop-holds c = refl
-
 loop-again : tie.Need-loop-again Inv-loop μ-loop
 loop-again c =
     ap length (c .before .before .put-link .ensures) ∙ simp length-put-link (c .before .before .before .before .before .loop .inv)
 
-same-length : tie.Need-same-length Inv-loop μ-loop
-same-length c = c .before .loop .inv
-
 pub put-star-spec : {M : Type 1} → statement M
 put-star-spec =
     tie.close (
-    tie.spec Inv-loop μ-loop loop-holds (λ c κs. search needs) (λ c. search needs) (λ c. search needs) loop-again same-length
-    (λ c. search needs))
+    tie.spec Inv-loop μ-loop (λ c. refl) (λ c κs. search needs) (λ c. search needs) (λ c. search needs) loop-again
+    (λ c. c .before .loop .inv) (λ c. search needs))

@@ -16,12 +16,6 @@ Inv-loop n links list₀ count₀ a₀ list count a = (length list ≡ length li
 abbrev μ-loop : tie.MeasureT-loop
 μ-loop n links list₀ count₀ a₀ list count a = n - a
 
-returns : tie.Need-returns Inv-loop μ-loop
-returns c = λ rows. absurd (omega (arith, rows .most))
-
-loop-holds : tie.Need-loop-holds Inv-loop μ-loop
-loop-holds c = (omega arith, counting-none _ _ _)
-
 loop-again : tie.Need-loop-again Inv-loop μ-loop
 loop-again c =
     let listed = c .before .before .before in
@@ -38,5 +32,6 @@ returns-2 c = λ rows. counting-end _ _ _ _ _ (c .before .loop .inv .1) (omega a
 pub count-links-spec : {M : Type 1} → statement M
 count-links-spec =
     tie.close (
-    tie.spec Inv-loop μ-loop returns loop-holds (λ c κs. search needs) (λ c. omega arith) (λ c. omega arith) (λ c. omega arith)
-    (λ c. search needs) (λ c. search needs) loop-again (λ c. search needs) returns-2)
+    tie.spec Inv-loop μ-loop (λ c. λ rows. absurd (omega (arith, rows .most))) (λ c. (omega arith, counting-none _ _ _))
+    (λ c κs. search needs) (λ c. omega arith) (λ c. omega arith) (λ c. omega arith) (λ c. search needs) (λ c. search needs)
+    loop-again (λ c. search needs) returns-2)

@@ -13,12 +13,6 @@ Inv-loop list a i₀ i = Passing list a i
 abbrev μ-loop : tie.MeasureT-loop
 μ-loop list a i₀ i = length list - i
 
-loop-holds : tie.Need-loop-holds Inv-loop μ-loop
-loop-holds c = passing-none _ _
-
-cast-if1 : tie.Need-cast-if1 Inv-loop μ-loop
-cast-if1 c = omega (arith, c .shared-slice-known .given (c .before .before .loop .i))
-
 returns : tie.Need-returns Inv-loop μ-loop
 returns c = let p = c .before .before .before .loop .inv in record { low = p .low; below = p .below; above = λ h. c .if1 .taken }
 
@@ -33,5 +27,6 @@ returns-2 c =
 pub first-above-spec : {M : Type 1} → statement M
 first-above-spec =
     tie.close (
-    tie.spec Inv-loop μ-loop loop-holds (λ c. search needs) (λ c. search needs) cast-if1 returns (λ c. search needs)
+    tie.spec Inv-loop μ-loop (λ c. passing-none _ _) (λ c. search needs) (λ c. search needs)
+    (λ c. omega (arith, c .shared-slice-known .given (c .before .before .loop .i))) returns (λ c. search needs)
     (λ c. search needs) loop-again returns-2)

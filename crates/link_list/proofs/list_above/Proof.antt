@@ -7,9 +7,6 @@ use Rattle.link_list.proofs.AboveLaws.{span-listed}
 use Rattle.link_list.proofs.list_above.Statement.{statement}
 use Rattle.link_list.proofs.list_above.Tie as tie
 
-slice-aggregate-first-above : tie.Need-slice-aggregate-first-above
-slice-aggregate-first-above c = sym (length-take-le _ _ (omega (arith, c .before .least .ensures)))
-
 returns : tie.Need-returns
 returns c =
     let cut = c .before .before in
@@ -21,5 +18,5 @@ returns c =
 pub list-above-spec : {M : Type 1} → statement M
 list-above-spec =
     tie.close (
-    tie.spec (λ c κs. search needs) (λ c. search needs) (λ c κs. search needs) (λ c. search needs) slice-aggregate-first-above
-    (λ c κs. search needs) (λ c. search needs) returns)
+    tie.spec (λ c κs. search needs) (λ c. search needs) (λ c κs. search needs) (λ c. search needs)
+    (λ c. sym (length-take-le _ _ (omega (arith, c .before .least .ensures)))) (λ c κs. search needs) (λ c. search needs) returns)

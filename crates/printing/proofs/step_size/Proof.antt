@@ -4,9 +4,6 @@ use Rattle.printing.proofs.StepLaws.{wide-fits, minus-fits, size-minus,
 use Rattle.printing.proofs.step_size.Statement.{statement}
 use Rattle.printing.proofs.step_size.Tie as tie
 
-cast-result : tie.Need-cast-result
-cast-result c = wide-fits (c .before .args .step) (c .before .fits .step)
-
 sub-result : tie.Need-sub-result
 sub-result c = minus-fits (c .before .args .step) (c .before .fits .step) (c .if1 .taken)
 
@@ -16,10 +13,8 @@ cast-result-2 c = size-minus (c .before .args .step) (c .before .fits .step) (c 
 returns : tie.Need-returns
 returns c = size-minus-is (c .before .args .step) (c .before .fits .step) (c .if1 .taken)
 
-cast-result-3 : tie.Need-cast-result-3
-cast-result-3 c = size-plus (c .before .args .step) (c .before .fits .step) (c .if1 .left)
-
 pub step-size-spec : {M : Type 1} → statement M
 step-size-spec =
     tie.close (
-    tie.spec cast-result sub-result cast-result-2 returns cast-result-3 (λ c. search needs))
+    tie.spec (λ c. wide-fits (c .before .args .step) (c .before .fits .step)) sub-result cast-result-2 returns
+    (λ c. size-plus (c .before .args .step) (c .before .fits .step) (c .if1 .left)) (λ c. search needs))

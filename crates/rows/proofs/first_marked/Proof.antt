@@ -23,9 +23,6 @@ returns c = sym (ap (head-or 512) (row-listed-short _ _ (c .if1 .taken)))
 loop-holds : tie.Need-loop-holds Inv-loop μ-loop
 loop-holds c = (omega arith, sym (row-from-zero (c .before .before .args .links .now) (c .before .before .args .a)))
 
-add-result : tie.Need-add-result Inv-loop μ-loop
-add-result c = omega (arith, trailing-le 64 (c .before .word-at .result))
-
 returns-2 : tie.Need-returns-2 Inv-loop μ-loop
 returns-2 c =
     let read = c .before in
@@ -58,5 +55,6 @@ pub first-marked-spec : {M : Type 1} → statement M
 first-marked-spec =
     tie.close (
     tie.spec Inv-loop μ-loop (λ c. search needs) (λ c. search needs) returns loop-holds (λ c. search needs) (λ c. search needs)
-    (λ c. search needs) (λ c κs. search needs) (λ c. search needs) add-result returns-2 (λ c. search needs) (λ c. search needs)
-    loop-again returns-3)
+    (λ c. search needs) (λ c κs. search needs) (λ c. search needs)
+    (λ c. omega (arith, trailing-le 64 (c .before .word-at .result))) returns-2 (λ c. search needs) (λ c. search needs) loop-again
+    returns-3)

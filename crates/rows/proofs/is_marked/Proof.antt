@@ -5,14 +5,8 @@ use Rattle.rows.proofs.MaskLaws.{marked-shift, marked-past}
 use Rattle.rows.proofs.is_marked.Statement.{statement}
 use Rattle.rows.proofs.is_marked.Tie as tie
 
-returns : tie.Need-returns
-returns c = marked-shift _ _ _
-
-returns-2 : tie.Need-returns-2
-returns-2 c = sym (marked-past _ _ _ (c .if1 .left))
-
 pub is-marked-spec : {M : Type 1} → statement M
 is-marked-spec =
     tie.close (
     tie.spec (λ c. search needs) (λ c. search needs) (λ c. search needs) (λ c. search needs) (λ c. search needs)
-    (λ c. search needs) returns returns-2)
+    (λ c. search needs) (λ c. marked-shift _ _ _) (λ c. sym (marked-past _ _ _ (c .if1 .left))))

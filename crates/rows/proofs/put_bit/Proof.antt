@@ -6,20 +6,15 @@ use Rattle.rows.proofs.MaskLaws.{put-bit-true, put-bit-false, put-bit-p
 use Rattle.rows.proofs.put_bit.Statement.{statement}
 use Rattle.rows.proofs.put_bit.Tie as tie
 
-returns : tie.Need-returns
-returns c = rw (c .before .if2 .taken) (put-bit-true _ _ _)
-
 returns-2 : tie.Need-returns-2
 returns-2 c =
     let call = c .before .before .before .args in
     rw (c .before .if2 .left) (put-bit-false _ (call .a) (call .b) (c .slice-known2 .given (64 * call .a + call .b / 8) .fits))
-
-returns-3 : tie.Need-returns-3
-returns-3 c = sym (put-bit-past _ _ _ _ (c .if1 .left))
 
 pub put-bit-spec : {M : Type 1} → statement M
 put-bit-spec =
     tie.close (
     tie.spec (λ c. search needs) (λ c. search needs) (λ c. search needs) (λ c. search needs) (λ c. search needs)
     (λ c. search needs) (λ c. search needs) (λ c. search needs) (λ c. search needs) (λ c. search needs) (λ c. search needs)
-    (λ c. search needs) returns (λ c. search needs) returns-2 returns-3)
+    (λ c. search needs) (λ c. rw (c .before .if2 .taken) (put-bit-true _ _ _)) (λ c. search needs) returns-2
+    (λ c. sym (put-bit-past _ _ _ _ (c .if1 .left))))

@@ -15,9 +15,6 @@ Inv-loop links a start n₀ k₀ n k = Row-counting links a n k
 abbrev μ-loop : tie.MeasureT-loop
 μ-loop links a start n₀ k₀ n k = 8 - k
 
-returns : tie.Need-returns Inv-loop μ-loop
-returns c = sym (ap length (row-listed-short _ _ (c .if1 .taken)))
-
 loop-holds : tie.Need-loop-holds Inv-loop μ-loop
 loop-holds c = (omega arith, omega arith, omega (arith, ap length (row-from-zero (c .before .before .args .links .now) (c .before .before .args .a))))
 
@@ -25,9 +22,6 @@ loop-again : tie.Need-loop-again Inv-loop μ-loop
 loop-again c =
     let at-loop = c .before .before in
     row-counting-turn _ (λ j. at-loop .before .before .shared-slice-known .given j .fits) _ (at-loop .loop .n) (at-loop .loop .k) _ (omega arith) (c .word-at .ensures) (at-loop .loop .inv)
-
-add-n : tie.Need-add-n Inv-loop μ-loop
-add-n c = omega (arith, loop-again c .1)
 
 returns-2 : tie.Need-returns-2 Inv-loop μ-loop
 returns-2 c =
@@ -42,5 +36,6 @@ returns-2 c =
 pub row-degree-spec : {M : Type 1} → statement M
 row-degree-spec =
     tie.close (
-    tie.spec Inv-loop μ-loop (λ c. search needs) (λ c. search needs) returns loop-holds (λ c. search needs) (λ c. search needs)
-    (λ c. search needs) (λ c κs. search needs) add-n (λ c. search needs) (λ c. search needs) loop-again returns-2)
+    tie.spec Inv-loop μ-loop (λ c. search needs) (λ c. search needs) (λ c. sym (ap length (row-listed-short _ _ (c .if1 .taken))))
+    loop-holds (λ c. search needs) (λ c. search needs) (λ c. search needs) (λ c κs. search needs)
+    (λ c. omega (arith, loop-again c .1)) (λ c. search needs) (λ c. search needs) loop-again returns-2)

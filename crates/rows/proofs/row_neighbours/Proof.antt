@@ -37,9 +37,6 @@ loop-again c =
     (at-loop .loop .n) (at-loop .loop .k) (read .word-at .result) _ (at-loop .loop .list) _
     (omega arith) (read .word-at .ensures) (listed .list-bits .ensures .0) (listed .list-bits .ensures .1) (at-loop .loop .inv)
 
-same-length : tie.Need-same-length Inv-loop μ-loop
-same-length c = c .before .before .loop .inv .2 .long
-
 returns-2 : tie.Need-returns-2 Inv-loop μ-loop
 returns-2 c =
     let at-loop = c .before .before in
@@ -47,9 +44,6 @@ returns-2 c =
     let at-end = row-listing-end (call .links .now) (call .a) (call .list .now) (at-loop .loop .n) (at-loop .loop .k) (at-loop .loop .list)
     (omega arith) (at-loop .before .if1 .left) (at-loop .loop .inv) in
     (omega (arith, at-end .0, at-loop .loop .inv .2 .long, c .if2 .taken), at-end .1)
-
-same-length-2 : tie.Need-same-length-2 Inv-loop μ-loop
-same-length-2 c = c .before .before .before .loop .inv .2 .long
 
 returns-3 : tie.Need-returns-3 Inv-loop μ-loop
 returns-3 c =
@@ -64,4 +58,5 @@ row-neighbours-spec =
     tie.close (
     tie.spec Inv-loop μ-loop (λ c. search needs) (λ c. search needs) returns loop-holds (λ c. search needs) (λ c. search needs)
     (λ c. search needs) (λ c κs. search needs) (λ c. search needs) (λ c κs. search needs) (λ c. search needs) (λ c. search needs)
-    loop-again (λ c. search needs) same-length returns-2 (λ c κs. search needs) same-length-2 returns-3)
+    loop-again (λ c. search needs) (λ c. c .before .before .loop .inv .2 .long) returns-2 (λ c κs. search needs)
+    (λ c. c .before .before .before .loop .inv .2 .long) returns-3)

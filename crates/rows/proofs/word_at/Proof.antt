@@ -6,9 +6,6 @@ use Rattle.rows.proofs.WordLaws.{word-at-joined}
 use Rattle.rows.proofs.word_at.Statement.{statement}
 use Rattle.rows.proofs.word_at.Tie as tie
 
-cast-result : tie.Need-cast-result
-cast-result c = omega (arith, c .shared-slice-known .given (c .before .args .at))
-
 cast-result-2 : tie.Need-cast-result-2
 cast-result-2 c = omega (arith, c .shared-slice-known2 .given (c .before .before .args .at + 1))
 
@@ -30,13 +27,11 @@ cast-result-7 c = omega (arith, c .shared-slice-known7 .given (c .before .before
 cast-result-8 : tie.Need-cast-result-8
 cast-result-8 c = omega (arith, c .shared-slice-known8 .given (c .before .before .before .before .before .before .before .before .args .at + 7))
 
-returns : tie.Need-returns
-returns c = word-at-joined _ (λ j. c .shared-slice-known8 .given j .fits) _
-
 pub word-at-spec : {M : Type 1} → statement M
 word-at-spec =
     tie.close (
-    tie.spec (λ c. search needs) cast-result (λ c. search needs) (λ c. search needs) cast-result-2 (λ c. search needs)
-    (λ c. search needs) cast-result-3 (λ c. search needs) (λ c. search needs) cast-result-4 (λ c. search needs)
-    (λ c. search needs) cast-result-5 (λ c. search needs) (λ c. search needs) cast-result-6 (λ c. search needs)
-    (λ c. search needs) cast-result-7 (λ c. search needs) (λ c. search needs) cast-result-8 returns)
+    tie.spec (λ c. search needs) (λ c. omega (arith, c .shared-slice-known .given (c .before .args .at))) (λ c. search needs)
+    (λ c. search needs) cast-result-2 (λ c. search needs) (λ c. search needs) cast-result-3 (λ c. search needs)
+    (λ c. search needs) cast-result-4 (λ c. search needs) (λ c. search needs) cast-result-5 (λ c. search needs)
+    (λ c. search needs) cast-result-6 (λ c. search needs) (λ c. search needs) cast-result-7 (λ c. search needs)
+    (λ c. search needs) cast-result-8 (λ c. word-at-joined _ (λ j. c .shared-slice-known8 .given j .fits) _))

@@ -16,12 +16,6 @@ Inv-loop numbers order last₀ i₀ last i = Rising-so-far (number-in numbers) o
 abbrev μ-loop : tie.MeasureT-loop
 μ-loop numbers order last₀ i₀ last i = length order - i
 
-loop-holds : tie.Need-loop-holds Inv-loop μ-loop
-loop-holds c = rising-none
-
-cast-v : tie.Need-cast-v Inv-loop μ-loop
-cast-v c = omega (arith, c .shared-slice-known .given (c .before .before .loop .i))
-
 shared-slice-read-x : tie.Need-shared-slice-read-x Inv-loop μ-loop
 shared-slice-read-x c =
     let at-loop = c .before .before .before in at-loop .before .pre (at-loop .loop .i) (omega arith)
@@ -42,5 +36,6 @@ returns-2 c = sym (rising-end (c .before .loop .last) (c .before .loop .i) (omeg
 pub rises-spec : {M : Type 1} → statement M
 rises-spec =
     tie.close (
-    tie.spec Inv-loop μ-loop loop-holds (λ c. search needs) (λ c. search needs) cast-v shared-slice-read-x returns
+    tie.spec Inv-loop μ-loop (λ c. rising-none) (λ c. search needs) (λ c. search needs)
+    (λ c. omega (arith, c .shared-slice-known .given (c .before .before .loop .i))) shared-slice-read-x returns
     (λ c. search needs) (λ c. search needs) loop-again returns-2)

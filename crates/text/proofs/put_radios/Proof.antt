@@ -15,23 +15,11 @@ Inv-loop buffer₀ at radios place₀ i₀ buffer place i = Fields radios (buffe
 abbrev μ-loop : tie.MeasureT-loop
 μ-loop buffer₀ at radios place₀ i₀ buffer place i = length radios - i
 
-loop-holds : tie.Need-loop-holds Inv-loop μ-loop
-loop-holds c = fields-none (c .before .before .args .radios .now)
-
-wide16-requires : tie.Need-wide16-requires Inv-loop μ-loop
-wide16-requires c κs = tt
-
-put-field-requires : tie.Need-put-field-requires Inv-loop μ-loop
-put-field-requires c κs = tt
-
 loop-again : tie.Need-loop-again Inv-loop μ-loop
 loop-again c =
     let at-loop = c .before .before .before .before .before .before .before in
     let entry = c .before .before .before .wide16 in
     fields-next (entry .result) (omega arith) (entry .ensures) (at-loop .loop .inv) (c .before .before .put-field .ensures)
-
-put-byte-requires : tie.Need-put-byte-requires Inv-loop μ-loop
-put-byte-requires c κs = tt
 
 same-length : tie.Need-same-length Inv-loop μ-loop
 same-length c = c .before .before .put-byte .kept .0 ∙ length-putting (c .before .before .before .before .before .loop .inv .is)
@@ -42,5 +30,5 @@ returns c = fields-last (omega arith) (c .before .before .before .before .before
 pub put-radios-spec : {M : Type 1} → statement M
 put-radios-spec =
     tie.close (
-    tie.spec Inv-loop μ-loop loop-holds (λ c. search needs) (λ c. omega arith) wide16-requires put-field-requires
-    (λ c. omega arith) (λ c. omega arith) loop-again put-byte-requires same-length returns)
+    tie.spec Inv-loop μ-loop (λ c. fields-none (c .before .before .args .radios .now)) (λ c. search needs) (λ c. omega arith)
+    (λ c κs. tt) (λ c κs. tt) (λ c. omega arith) (λ c. omega arith) loop-again (λ c κs. tt) same-length returns)

@@ -16,21 +16,12 @@ Inv-loop buffer₀ at text place₀ i₀ buffer place i =
 abbrev μ-loop : tie.MeasureT-loop
 μ-loop buffer₀ at text place₀ i₀ buffer place i = length text - i
 
-loop-holds : tie.Need-loop-holds Inv-loop μ-loop
-loop-holds c = (omega arith, putting-none)
-
-put-byte-requires : tie.Need-put-byte-requires Inv-loop μ-loop
-put-byte-requires c κs = tt
-
 loop-again : tie.Need-loop-again Inv-loop μ-loop
 loop-again c =
     let at-loop = c .before .before .before .before .before .before in
     let text = at-loop .before .before .before .args .text .now in
     let i = at-loop .loop .i in
     (omega arith, putting-piece (drop i text) (drop (i + 1) text) (drop-first text i (omega arith)) (at-loop .loop .inv .1) (c .before .before .put-byte .ensures))
-
-same-length : tie.Need-same-length Inv-loop μ-loop
-same-length c = length-putting (c .before .loop .inv .1)
 
 returns : tie.Need-returns Inv-loop μ-loop
 returns c =
@@ -42,5 +33,5 @@ returns c =
 pub put-text-spec : {M : Type 1} → statement M
 put-text-spec =
     tie.close (
-    tie.spec Inv-loop μ-loop loop-holds (λ c. omega arith) put-byte-requires (λ c. omega arith) (λ c. omega arith) loop-again
-    same-length returns)
+    tie.spec Inv-loop μ-loop (λ c. (omega arith, putting-none)) (λ c. omega arith) (λ c κs. tt) (λ c. omega arith)
+    (λ c. omega arith) loop-again (λ c. length-putting (c .before .loop .inv .1)) returns)

@@ -5,10 +5,8 @@ use borrow.Author.Needs.{needs}
 use Rattle.cases.proofs.pictures.say_image.Statement.{statement}
 use Rattle.cases.proofs.pictures.say_image.Tie as tie
 
-slice-aggregate-numbers-2 : tie.Need-slice-aggregate-numbers-2
-slice-aggregate-numbers-2 c = sym (length-take-le _ _ (search needs))
-
 pub say-image-spec : {M : Type 1} → statement M
 say-image-spec =
     tie.close (
-    tie.spec (λ c κs. search needs) (λ c. search needs) slice-aggregate-numbers-2 (λ c κs. search needs) (λ c. search needs))
+    tie.spec (λ c κs. search needs) (λ c. search needs) (λ c. sym (length-take-le _ _ (search needs))) (λ c κs. search needs)
+    (λ c. search needs))

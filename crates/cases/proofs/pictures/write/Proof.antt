@@ -5,12 +5,9 @@ use borrow.Author.Needs.{needs}
 use Rattle.cases.proofs.pictures.write.Statement.{statement}
 use Rattle.cases.proofs.pictures.write.Tie as tie
 
-slice-aggregate-write : tie.Need-slice-aggregate-write
-slice-aggregate-write c = sym (length-take-le _ _ (search needs))
-
 pub write-spec : {M : Type 1} → statement M
 write-spec =
     tie.close (
-    tie.spec (λ c κs. search needs) (λ c. search needs) slice-aggregate-write (λ c κs. search needs) (λ c. search needs)
-    (λ c. search needs) (λ c κs. search needs) (λ c κs. search needs) (λ c κs. search needs) (λ c κs. search needs)
-    (λ c κs. search needs) (λ c κs. search needs) (λ c. search needs) (λ c. search needs))
+    tie.spec (λ c κs. search needs) (λ c. search needs) (λ c. sym (length-take-le _ _ (search needs))) (λ c κs. search needs)
+    (λ c. search needs) (λ c. search needs) (λ c κs. search needs) (λ c κs. search needs) (λ c κs. search needs)
+    (λ c κs. search needs) (λ c κs. search needs) (λ c κs. search needs) (λ c. search needs) (λ c. search needs))

@@ -37,9 +37,6 @@ slice-write-queue : tie.Need-slice-write-queue Inv-loop μ-loop
 slice-write-queue c =
     let sizes = floodable-true _ _ _ _ (sym (c .before .before .before .before .before .is-floodable .ensures) ∙ not-false _ (c .before .before .before .before .if1 .left)) in omega (arith, sizes .radio, sizes .room)
 
-loop-holds : tie.Need-loop-holds Inv-loop μ-loop
-loop-holds c = (refl, refl, refl, λ old h. h)
-
 mul-a : tie.Need-mul-a Inv-loop μ-loop
 mul-a c =
     let at-loop = c .before in
@@ -58,15 +55,6 @@ slice-read-a c =
     let starts = flood-starts (call .links .now) (call .numbers .now) (call .level) (call .v) (call .set .now) (call .queue .now) _ can (at-loop .before .before .before .put-bit .ensures) in
     let walked = at-loop .loop .inv .3 (call .set .now) starts in
     omega (arith, walked .flooding .few, walked .flooding .room, c .before .loop-test .taken)
-
-cast-a : tie.Need-cast-a Inv-loop μ-loop
-cast-a c = omega (arith, c .slice-known4 .given (c .before .before .loop .i))
-
-slice-aggregate-take-ends : tie.Need-slice-aggregate-take-ends Inv-loop μ-loop
-slice-aggregate-take-ends c = sym (c .before .before .before .loop .inv .0)
-
-take-ends-requires : tie.Need-take-ends-requires Inv-loop μ-loop
-take-ends-requires c κs = c .before .before .before .before .before .loop .inv .0
 
 add-i : tie.Need-add-i Inv-loop μ-loop
 add-i c =
@@ -117,6 +105,8 @@ returns-2 c =
 pub flood-spec : {M : Type 1} → statement M
 flood-spec =
     tie.close (
-    tie.spec Inv-loop μ-loop (λ c κs. search needs) returns (λ c κs. search needs) cast-queue slice-write-queue loop-holds mul-a
-    slice-read-a cast-a slice-aggregate-take-ends take-ends-requires add-i loop-less loop-again same-length same-length-2
+    tie.spec Inv-loop μ-loop (λ c κs. search needs) returns (λ c κs. search needs) cast-queue slice-write-queue
+    (λ c. (refl, refl, refl, λ old h. h)) mul-a slice-read-a
+    (λ c. omega (arith, c .slice-known4 .given (c .before .before .loop .i))) (λ c. sym (c .before .before .before .loop .inv .0))
+    (λ c κs. c .before .before .before .before .before .loop .inv .0) add-i loop-less loop-again same-length same-length-2
     returns-2)

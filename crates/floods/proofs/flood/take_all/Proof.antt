@@ -16,9 +16,6 @@ Inv-loop numbers level list k set₀ queue₀ count c₀ i₀ set queue c i =
 abbrev μ-loop : tie.MeasureT-loop
 μ-loop numbers level list k set₀ queue₀ count c₀ i₀ set queue c i = k - i
 
-loop-holds : tie.Need-loop-holds Inv-loop μ-loop
-loop-holds c = taking-none _ _ _ _
-
 loop-again : tie.Need-loop-again Inv-loop μ-loop
 loop-again c =
     let at-loop = c .before .before .before .before .before .before .before .before .before in
@@ -26,12 +23,6 @@ loop-again c =
     let call = start .args in
     taking-turn (call .numbers .now) (call .level) (call .list .now) (call .k) _ (at-loop .loop .i) (flood-at (at-loop .loop .set) (at-loop .loop .queue) (at-loop .loop .c)) _
     (start .pre) (c .before .before .before .before .before .before .before .before .loop-test .taken) (search needs) (search needs) (c .before .before .before .before .take-one .ensures) (at-loop .loop .inv)
-
-same-length : tie.Need-same-length Inv-loop μ-loop
-same-length c = c .before .loop .inv .set-long
-
-same-length-2 : tie.Need-same-length-2 Inv-loop μ-loop
-same-length-2 c = c .before .loop .inv .queue-long
 
 returns : tie.Need-returns Inv-loop μ-loop
 unfolding taken-all
@@ -42,5 +33,6 @@ returns c =
 pub take-all-spec : {M : Type 1} → statement M
 take-all-spec =
     tie.close (
-    tie.spec Inv-loop μ-loop loop-holds (λ c. search needs) (λ c. search needs) (λ c κs. search needs) (λ c. search needs)
-    (λ c. search needs) loop-again same-length same-length-2 returns)
+    tie.spec Inv-loop μ-loop (λ c. taking-none _ _ _ _) (λ c. search needs) (λ c. search needs) (λ c κs. search needs)
+    (λ c. search needs) (λ c. search needs) loop-again (λ c. c .before .loop .inv .set-long)
+    (λ c. c .before .loop .inv .queue-long) returns)

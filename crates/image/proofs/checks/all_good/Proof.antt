@@ -15,9 +15,6 @@ Inv-loop image count i₀ i = Testing (block-check image) count i
 abbrev μ-loop : tie.MeasureT-loop
 μ-loop image count i₀ i = count - i
 
-loop-holds : tie.Need-loop-holds Inv-loop μ-loop
-loop-holds c = testing-none _ _
-
 returns : tie.Need-returns Inv-loop μ-loop
 unfolding checks-good
 returns c =
@@ -36,5 +33,5 @@ returns-2 c = sym (testing-end _ _ _ (c .before .loop .inv) (omega arith))
 pub all-good-spec : {M : Type 1} → statement M
 all-good-spec =
     tie.close (
-    tie.spec Inv-loop μ-loop loop-holds (λ c κs. search needs) returns (λ c. search needs) (λ c. search needs) loop-again
-    returns-2)
+    tie.spec Inv-loop μ-loop (λ c. testing-none _ _) (λ c κs. search needs) returns (λ c. search needs) (λ c. search needs)
+    loop-again returns-2)

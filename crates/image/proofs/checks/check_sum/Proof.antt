@@ -13,9 +13,6 @@ Inv-loop bytes count sum₀ i₀ sum i = Summing bytes sum i
 abbrev μ-loop : tie.MeasureT-loop
 μ-loop bytes count sum₀ i₀ sum i = count - i
 
-loop-holds : tie.Need-loop-holds Inv-loop μ-loop
-loop-holds c = summing-none _
-
 mul-sum : tie.Need-mul-sum Inv-loop μ-loop
 mul-sum c = record { fits = product-fits _ _ _ _ (c .before .before .before .loop .inv) (omega arith) (c .wide .ensures .1) }
 
@@ -25,11 +22,9 @@ add-sum-2 c = record { fits = sum-fits _ _ _ _ (c .before .before .before .loop 
 loop-again : tie.Need-loop-again Inv-loop μ-loop
 loop-again c = summing-turn _ _ _ _ (c .before .before .before .loop .inv) (omega arith) (c .wide .ensures .1) (c .wide .ensures .0)
 
-returns : tie.Need-returns Inv-loop μ-loop
-returns c = summing-end _ _ _ (c .before .loop .inv) (omega arith)
-
 pub check-sum-spec : {M : Type 1} → statement M
 check-sum-spec =
     tie.close (
-    tie.spec Inv-loop μ-loop (λ c κs. search needs) loop-holds (λ c. search needs) (λ c κs. search needs) (λ c. search needs)
-    (λ c. search needs) mul-sum add-sum-2 (λ c. search needs) (λ c. search needs) loop-again returns)
+    tie.spec Inv-loop μ-loop (λ c κs. search needs) (λ c. summing-none _) (λ c. search needs) (λ c κs. search needs)
+    (λ c. search needs) (λ c. search needs) mul-sum add-sum-2 (λ c. search needs) (λ c. search needs) loop-again
+    (λ c. summing-end _ _ _ (c .before .loop .inv) (omega arith)))

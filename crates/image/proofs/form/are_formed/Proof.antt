@@ -16,12 +16,6 @@ Inv-loop image n m blocks i₀ i = Testing (λ (l : ℕ). block-formed image l (
 abbrev μ-loop : tie.MeasureT-loop
 μ-loop image n m blocks i₀ i = blocks - i
 
-loop-holds : tie.Need-loop-holds Inv-loop μ-loop
-loop-holds c = testing-none _ _
-
-is-block-requires : tie.Need-is-block-requires Inv-loop μ-loop
-is-block-requires c κs = (omega arith, c .plan-of .ensures .2)
-
 returns : tie.Need-returns Inv-loop μ-loop
 unfolding blocks-formed
 returns c =
@@ -50,5 +44,5 @@ returns-2 c = sym (testing-end _ _ _ (c .before .loop .inv) (omega arith))
 pub are-formed-spec : {M : Type 1} → statement M
 are-formed-spec =
     tie.close (
-    tie.spec Inv-loop μ-loop loop-holds (λ c κs. search needs) is-block-requires returns (λ c. search needs) (λ c. search needs)
-    loop-again returns-2)
+    tie.spec Inv-loop μ-loop (λ c. testing-none _ _) (λ c κs. search needs) (λ c κs. (omega arith, c .plan-of .ensures .2))
+    returns (λ c. search needs) (λ c. search needs) loop-again returns-2)

@@ -17,9 +17,6 @@ Inv-loop image at k j₀ j = Testing (λ (l : ℕ). eqb (getD image (at + l) 0) 
 abbrev μ-loop : tie.MeasureT-loop
 μ-loop image at k j₀ j = k - j
 
-loop-holds : tie.Need-loop-holds Inv-loop μ-loop
-loop-holds c = testing-none _ _
-
 returns : tie.Need-returns Inv-loop μ-loop
 unfolding zeros
 returns c =
@@ -38,5 +35,5 @@ returns-2 c = sym (testing-end _ _ _ (c .before .loop .inv) (omega arith))
 pub are-zeros-spec : {M : Type 1} → statement M
 are-zeros-spec =
     tie.close (
-    tie.spec Inv-loop μ-loop loop-holds (λ c. search needs) (λ c. search needs) returns (λ c. search needs) (λ c. search needs)
-    loop-again returns-2)
+    tie.spec Inv-loop μ-loop (λ c. testing-none _ _) (λ c. search needs) (λ c. search needs) returns (λ c. search needs)
+    (λ c. search needs) loop-again returns-2)

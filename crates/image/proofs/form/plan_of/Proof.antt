@@ -8,9 +8,6 @@ use Rattle.image.proofs.FormLaws.{plan-counts, plan-order, plan-links, 
 use Rattle.image.proofs.form.plan_of.Statement.{statement}
 use Rattle.image.proofs.form.plan_of.Tie as tie
 
-returns : tie.Need-returns
-returns c = let p = plan-counts _ _ _ (c .if1 .taken) in (p .0, p .1, omega arith)
-
 mul-least : tie.Need-mul-least
 unfolding order-blocks block-count blocks-for
 mul-least c = omega (arith, c .before .blocks-for .ensures)
@@ -47,5 +44,6 @@ returns-3 c =
 pub plan-of-spec : {M : Type 1} → statement M
 plan-of-spec =
     tie.close (
-    tie.spec returns (λ c. search needs) (λ c κs. search needs) mul-least sub-least (λ c κs. search needs) (λ c. search needs)
-    returns-2 mul-least-2 sub-least-2 (λ c κs. search needs) (λ c. search needs) returns-3)
+    tie.spec (λ c. let p = plan-counts _ _ _ (c .if1 .taken) in (p .0, p .1, omega arith)) (λ c. search needs)
+    (λ c κs. search needs) mul-least sub-least (λ c κs. search needs) (λ c. search needs) returns-2 mul-least-2 sub-least-2
+    (λ c κs. search needs) (λ c. search needs) returns-3)

@@ -14,20 +14,12 @@ Inv-loop ranks numbers₀ v₀ numbers v = Writing 8 (λ (i : ℕ). getD ranks i
 abbrev μ-loop : tie.MeasureT-loop
 μ-loop ranks numbers₀ v₀ numbers v = length numbers₀ - v
 
-loop-holds : tie.Need-loop-holds Inv-loop μ-loop
-loop-holds c = writing-none 8 _ _
-
 loop-again : tie.Need-loop-again Inv-loop μ-loop
 loop-again c = writing-turn 8 _ _ _ _ _ (c .before .before .loop .inv) (omega arith) refl
-
-same-length : tie.Need-same-length Inv-loop μ-loop
-same-length c = c .before .loop .inv .long
-
-returns : tie.Need-returns Inv-loop μ-loop
-returns c = writing-all 8 _ _ _ _ (c .before .loop .inv) (omega arith)
 
 pub put-numbers-spec : {M : Type 1} → statement M
 put-numbers-spec =
     tie.close (
-    tie.spec Inv-loop μ-loop loop-holds (λ c. search needs) (λ c. search needs) (λ c. search needs) (λ c. search needs)
-    (λ c. search needs) (λ c. search needs) loop-again same-length returns)
+    tie.spec Inv-loop μ-loop (λ c. writing-none 8 _ _) (λ c. search needs) (λ c. search needs) (λ c. search needs)
+    (λ c. search needs) (λ c. search needs) (λ c. search needs) loop-again (λ c. c .before .loop .inv .long)
+    (λ c. writing-all 8 _ _ _ _ (c .before .loop .inv) (omega arith)))

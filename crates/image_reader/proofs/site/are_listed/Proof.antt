@@ -15,9 +15,6 @@ Inv-loop image n m low₀ high₀ j₀ low high j = Listed n m image low high j
 abbrev μ-loop : tie.MeasureT-loop
 μ-loop image n m low₀ high₀ j₀ low high j = m - j
 
-loop-holds : tie.Need-loop-holds Inv-loop μ-loop
-loop-holds c = listed-none _ _ _
-
 returns : tie.Need-returns Inv-loop μ-loop
 returns c =
     let read = c .before in
@@ -42,11 +39,8 @@ loop-again c =
     let at-loop = read .before .before in
     listed-turn _ _ _ _ _ _ (at-loop .loop .inv) (omega arith) _ _ (read .link-at .ensures) (c .before .before .before .if1 .left) (c .before .before .if2 .left) (sym (c .before .is-before .ensures) ∙ not-false (c .before .is-before .result) (c .if3 .left))
 
-returns-4 : tie.Need-returns-4 Inv-loop μ-loop
-returns-4 c = sym (listed-end _ _ _ _ _ _ (c .before .loop .inv) (omega arith))
-
 pub are-listed-spec : {M : Type 1} → statement M
 are-listed-spec =
     tie.close (
-    tie.spec Inv-loop μ-loop loop-holds (λ c κs. search needs) returns returns-2 (λ c κs. search needs) returns-3
-    (λ c. search needs) (λ c. search needs) loop-again returns-4)
+    tie.spec Inv-loop μ-loop (λ c. listed-none _ _ _) (λ c κs. search needs) returns returns-2 (λ c κs. search needs) returns-3
+    (λ c. search needs) (λ c. search needs) loop-again (λ c. sym (listed-end _ _ _ _ _ _ (c .before .loop .inv) (omega arith))))

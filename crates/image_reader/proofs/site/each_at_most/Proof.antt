@@ -15,9 +15,6 @@ Inv-loop entries most v₀ v = Testing (at-most entries most) (length entries) v
 abbrev μ-loop : tie.MeasureT-loop
 μ-loop entries most v₀ v = length entries - v
 
-loop-holds : tie.Need-loop-holds Inv-loop μ-loop
-loop-holds c = testing-none _ _
-
 returns : tie.Need-returns Inv-loop μ-loop
 returns c =
     let in-loop = c .before .before .before in
@@ -30,11 +27,9 @@ loop-again c =
     let start = in-loop .before .before in
     at-most-turn (start .args .entries .now) (start .args .most .now) _ (in-loop .before .loop .inv) (in-loop .loop-test .taken) (c .if1 .left)
 
-returns-2 : tie.Need-returns-2 Inv-loop μ-loop
-returns-2 c = sym (testing-end _ _ _ (c .before .loop .inv) (omega arith))
-
 pub each-at-most-spec : {M : Type 1} → statement M
 each-at-most-spec =
     tie.close (
-    tie.spec Inv-loop μ-loop loop-holds (λ c. search needs) (λ c. search needs) (λ c. search needs) (λ c. search needs) returns
-    (λ c. search needs) (λ c. search needs) loop-again returns-2)
+    tie.spec Inv-loop μ-loop (λ c. testing-none _ _) (λ c. search needs) (λ c. search needs) (λ c. search needs)
+    (λ c. search needs) returns (λ c. search needs) (λ c. search needs) loop-again
+    (λ c. sym (testing-end _ _ _ (c .before .loop .inv) (omega arith))))

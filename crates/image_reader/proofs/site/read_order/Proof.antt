@@ -16,14 +16,8 @@ Inv-loop image order₀ j₀ order j = Writing 16 (order-entry image) order₀ o
 abbrev μ-loop : tie.MeasureT-loop
 μ-loop image order₀ j₀ order j = length order₀ - j
 
-loop-holds : tie.Need-loop-holds Inv-loop μ-loop
-loop-holds c = writing-none 16 _ _
-
 loop-again : tie.Need-loop-again Inv-loop μ-loop
 loop-again c = writing-turn 16 _ _ _ _ _ (c .before .before .loop .inv) (omega arith) (ap (λ (x : ℕ). x % 65536) (c .order-at .ensures .0))
-
-same-length : tie.Need-same-length Inv-loop μ-loop
-same-length c = c .before .loop .inv .long
 
 returns : tie.Need-returns Inv-loop μ-loop
 returns c = writing-all 16 _ _ _ _ (c .before .loop .inv) (omega arith) ∙ values-order _ (λ j. c .before .before .before .shared-slice-known .given j .fits) _
@@ -31,5 +25,6 @@ returns c = writing-all 16 _ _ _ _ (c .before .loop .inv) (omega arith) ∙ valu
 pub read-order-spec : {M : Type 1} → statement M
 read-order-spec =
     tie.close (
-    tie.spec Inv-loop μ-loop loop-holds (λ c. search needs) (λ c κs. search needs) (λ c. search needs) (λ c. search needs)
-    (λ c. search needs) (λ c. search needs) (λ c. search needs) loop-again same-length returns)
+    tie.spec Inv-loop μ-loop (λ c. writing-none 16 _ _) (λ c. search needs) (λ c κs. search needs) (λ c. search needs)
+    (λ c. search needs) (λ c. search needs) (λ c. search needs) (λ c. search needs) loop-again (λ c. c .before .loop .inv .long)
+    returns)

@@ -14,9 +14,6 @@ Inv-loop order counts ranks₀ top₀ i₀ ranks top i = Running (λ (v : ℕ). 
 abbrev μ-loop : tie.MeasureT-loop
 μ-loop order counts ranks₀ top₀ i₀ ranks top i = length order - i
 
-loop-holds : tie.Need-loop-holds Inv-loop μ-loop
-loop-holds c = running-none _ _ _
-
 cast-v : tie.Need-cast-v Inv-loop μ-loop
 cast-v c = omega (arith, c .shared-slice-known3 .given (c .before .before .loop .i))
 
@@ -44,14 +41,9 @@ loop-again c =
     let start = in-loop .before .before .before .before .before in
     running-turn (in-loop .before .loop .inv) (start .pre .0) (omega arith) (start .pre .2) _ (c .larger .ensures)
 
-same-length : tie.Need-same-length Inv-loop μ-loop
-same-length c = c .before .loop .inv .long
-
-returns : tie.Need-returns Inv-loop μ-loop
-returns c = running-end _ _ _ _ _ _ (c .before .loop .inv) (omega arith)
-
 pub run-maxima-spec : {M : Type 1} → statement M
 run-maxima-spec =
     tie.close (
-    tie.spec Inv-loop μ-loop loop-holds (λ c. search needs) (λ c. search needs) cast-v mul-larger shared-slice-read-larger
-    (λ c κs. search needs) mul-ranks slice-write-ranks (λ c. search needs) (λ c. search needs) loop-again same-length returns)
+    tie.spec Inv-loop μ-loop (λ c. running-none _ _ _) (λ c. search needs) (λ c. search needs) cast-v mul-larger
+    shared-slice-read-larger (λ c κs. search needs) mul-ranks slice-write-ranks (λ c. search needs) (λ c. search needs) loop-again
+    (λ c. c .before .loop .inv .long) (λ c. running-end _ _ _ _ _ _ (c .before .loop .inv) (omega arith)))

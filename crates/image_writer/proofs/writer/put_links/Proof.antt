@@ -31,21 +31,6 @@ here c =
     row-left _ _ _ _ _ _ _ _ (at-loop .before .before .before .before .pre .1) (at-loop .loop .inv .1 .good) (c .before .before .loop-test .taken)
     (c .list-above .kept .1 .1 .0 ∙ at-loop .loop .inv .0) (c .list-above .ensures)
 
-loop-holds : tie.Need-loop-holds Inv-loop μ-loop
-loop-holds c = (refl, linking-none _ _ _ _ _ (c .before .before .before .pre .2))
-
-add-start : tie.Need-add-start Inv-loop μ-loop
-add-start c = omega (arith, here (c .before .before .before) .within)
-
-mul-put-row : tie.Need-mul-put-row Inv-loop μ-loop
-mul-put-row c = omega (arith, here (c .before .before .before .before) .within)
-
-sub-put-row : tie.Need-sub-put-row Inv-loop μ-loop
-sub-put-row c = omega (arith, here (c .before .before .before .before) .within)
-
-part-put-row-start : tie.Need-part-put-row-start Inv-loop μ-loop
-part-put-row-start c = omega (arith, here (c .before .before .before .before .before) .within)
-
 add-place : tie.Need-add-place Inv-loop μ-loop
 add-place c =
     let put = c .before .before in
@@ -82,12 +67,14 @@ loop-again c =
       linking-next _ _ _ _ _ _ _ _ _ turned more (omega (arith, row-left-put _ _ _ _ _ _ _ _ _ _ (here listed) (put .put-row .ensures), here listed .within, here listed .count)),
     )
 
-returns-2 : tie.Need-returns-2 Inv-loop μ-loop
-returns-2 c = linking-end _ _ _ _ _ _ _ _ _ (c .before .loop .inv .1) (omega arith)
-
 pub put-links-spec : {M : Type 1} → statement M
 put-links-spec =
     tie.close (
-    tie.spec Inv-loop μ-loop loop-holds (λ c κs. search needs) add-start mul-put-row sub-put-row part-put-row-start
-    (λ c. search needs) (λ c κs. search needs) (λ c. search needs) add-place add-if1 (λ c. search needs) (λ c. search needs)
-    returns (λ c. search needs) (λ c. search needs) loop-again (λ c. search needs) (λ c. search needs) returns-2)
+    tie.spec Inv-loop μ-loop (λ c. (refl, linking-none _ _ _ _ _ (c .before .before .before .pre .2))) (λ c κs. search needs)
+    (λ c. omega (arith, here (c .before .before .before) .within))
+    (λ c. omega (arith, here (c .before .before .before .before) .within))
+    (λ c. omega (arith, here (c .before .before .before .before) .within))
+    (λ c. omega (arith, here (c .before .before .before .before .before) .within)) (λ c. search needs) (λ c κs. search needs)
+    (λ c. search needs) add-place add-if1 (λ c. search needs) (λ c. search needs) returns (λ c. search needs) (λ c. search needs)
+    loop-again (λ c. search needs) (λ c. search needs)
+    (λ c. linking-end _ _ _ _ _ _ _ _ _ (c .before .loop .inv .1) (omega arith)))

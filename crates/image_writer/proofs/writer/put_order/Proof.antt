@@ -14,9 +14,6 @@ Inv-loop part₀ order from count v₀ part v = Putting word 2 length-word part�
 abbrev μ-loop : tie.MeasureT-loop
 μ-loop part₀ order from count v₀ part v = count - v
 
-loop-holds : tie.Need-loop-holds Inv-loop μ-loop
-loop-holds c = putting-none word 2 length-word _ 4 _
-
 cast-put-word : tie.Need-cast-put-word Inv-loop μ-loop
 cast-put-word c = omega (arith, c .before .shared-slice-known2 .given (c .before .before .before .before .before .before .before .args .from + c .before .before .before .loop .v))
 
@@ -29,9 +26,6 @@ loop-again c =
     putting-turn word 2 length-word (call .part .now) 4 (order-part (call .order .now) (call .from)) (at-loop .loop .v) (at-loop .loop .part) _ 0 _ (at-loop .loop .inv)
     (omega (arith, length-order-part (call .order .now) (call .from))) (getD-order-part (call .order .now) (call .from) (at-loop .loop .v) (omega arith)) (put .put-word .ensures)
 
-same-length : tie.Need-same-length Inv-loop μ-loop
-same-length c = c .before .loop .inv .long
-
 returns : tie.Need-returns Inv-loop μ-loop
 returns c =
     let call = c .before .before .before .before .before .args in
@@ -40,6 +34,6 @@ returns c =
 pub put-order-spec : {M : Type 1} → statement M
 put-order-spec =
     tie.close (
-    tie.spec Inv-loop μ-loop (λ c. search needs) (λ c κs. search needs) loop-holds (λ c. search needs) (λ c. search needs)
-    (λ c. search needs) (λ c. search needs) (λ c. search needs) cast-put-word (λ c κs. search needs) (λ c. search needs)
-    (λ c. search needs) loop-again same-length returns)
+    tie.spec Inv-loop μ-loop (λ c. search needs) (λ c κs. search needs) (λ c. putting-none word 2 length-word _ 4 _)
+    (λ c. search needs) (λ c. search needs) (λ c. search needs) (λ c. search needs) (λ c. search needs) cast-put-word
+    (λ c κs. search needs) (λ c. search needs) (λ c. search needs) loop-again (λ c. c .before .loop .inv .long) returns)

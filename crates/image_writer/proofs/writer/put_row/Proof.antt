@@ -22,9 +22,6 @@ Inv-loop part₀ count a list room i₀ part i = (i ≤ room) × Putting link-by
 abbrev μ-loop : tie.MeasureT-loop
 μ-loop part₀ count a list room i₀ part i = room - i
 
-loop-holds : tie.Need-loop-holds Inv-loop μ-loop
-loop-holds c = (omega arith, putting-none link-bytes 4 length-link-bytes _ _ _)
-
 cast-put-link : tie.Need-cast-put-link Inv-loop μ-loop
 cast-put-link c = omega (arith, c .before .shared-slice-known2 .given (c .before .before .before .loop .i))
 
@@ -41,9 +38,6 @@ loop-again c =
       putting-turn link-bytes 4 length-link-bytes (call .part .now) (4 + 4 * call .count) (links-to (call .a) bs) i (at-loop .loop .part) _ (link-of (call .a) 0) _ (at-loop .loop .inv .1)
           (omega (arith, length-map (link-of (call .a)) bs)) (sym (getD-links-to (call .a) bs i)) (rw e at (put .put-link .ensures)),
     )
-
-same-length : tie.Need-same-length Inv-loop μ-loop
-same-length c = c .before .loop .inv .1 .long
 
 returns : tie.Need-returns Inv-loop μ-loop
 returns c =
@@ -62,6 +56,7 @@ returns c =
 pub put-row-spec : {M : Type 1} → statement M
 put-row-spec =
     tie.close (
-    tie.spec Inv-loop μ-loop (λ c. search needs) (λ c κs. search needs) loop-holds (λ c. search needs) (λ c. search needs)
+    tie.spec Inv-loop μ-loop (λ c. search needs) (λ c κs. search needs)
+    (λ c. (omega arith, putting-none link-bytes 4 length-link-bytes _ _ _)) (λ c. search needs) (λ c. search needs)
     (λ c. search needs) (λ c. search needs) (λ c. search needs) cast-put-link (λ c κs. search needs) (λ c. search needs)
-    (λ c. search needs) loop-again same-length returns)
+    (λ c. search needs) loop-again (λ c. c .before .loop .inv .1 .long) returns)

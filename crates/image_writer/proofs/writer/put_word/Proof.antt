@@ -7,9 +7,6 @@ use Rattle.mesh.specs.Image.{word}
 use Rattle.image_writer.proofs.writer.put_word.Statement.{statement}
 use Rattle.image_writer.proofs.writer.put_word.Tie as tie
 
-slice-write-part-2 : tie.Need-slice-write-part-2
-slice-write-part-2 c = simp length-set (omega arith)
-
 returns : tie.Need-returns
 unfolding word
 returns c = rw add-one
@@ -17,5 +14,5 @@ returns c = rw add-one
 pub put-word-spec : {M : Type 1} → statement M
 put-word-spec =
     tie.close (
-    tie.spec (λ c. search needs) (λ c. search needs) (λ c. search needs) (λ c. search needs) slice-write-part-2
+    tie.spec (λ c. search needs) (λ c. search needs) (λ c. search needs) (λ c. search needs) (λ c. simp length-set (omega arith))
     (λ c. search needs) returns)

@@ -27,24 +27,6 @@ loop-holds c =
     let start = c .before .before .before .before in
     (omega arith, refl, cursor-first _ _, filling-none _ _)
 
-cast-at : tie.Need-cast-at Inv-loop μ-loop
-cast-at c = omega (arith, c .before .loop .inv .3 .long)
-
-mul-at : tie.Need-mul-at Inv-loop μ-loop
-mul-at c = omega (arith, c .before .loop .inv .3 .long)
-
-add-end : tie.Need-add-end Inv-loop μ-loop
-add-end c = omega (arith, c .before .loop .inv .3 .long)
-
-sub-fill-block : tie.Need-sub-fill-block Inv-loop μ-loop
-sub-fill-block c = omega (arith, c .before .loop .inv .3 .long)
-
-part-fill-block-start : tie.Need-part-fill-block-start Inv-loop μ-loop
-part-fill-block-start c = omega (arith, c .before .loop .inv .3 .long)
-
-part-fill-block-end : tie.Need-part-fill-block-end Inv-loop μ-loop
-part-fill-block-end c = omega (arith, c .before .loop .inv .3 .long)
-
 fill-block-requires : tie.Need-fill-block-requires Inv-loop μ-loop
 fill-block-requires c κs =
     let at-loop = c .before .before .before in
@@ -75,17 +57,12 @@ loop-again c =
           (omega arith) (same-len-mid (512 * i) (512 * i + 512 - 512 * i) (at-loop .loop .buffer) (filled .fill-block .last .0) (filled .fill-block .kept .0)) (filled .fill-block .ensures .is),
     )
 
-same-length : tie.Need-same-length Inv-loop μ-loop
-same-length c = c .before .loop .inv .3 .long
-
-same-length-2 : tie.Need-same-length-2 Inv-loop μ-loop
-same-length-2 c = c .before .loop .inv .1
-
-returns : tie.Need-returns Inv-loop μ-loop
-returns c = filling-end _ _ _ _ _ (c .before .loop .inv .3) (omega arith)
-
 pub write-blocks-spec : {M : Type 1} → statement M
 write-blocks-spec =
     tie.close (
-    tie.spec Inv-loop μ-loop loop-holds cast-at mul-at add-end sub-fill-block part-fill-block-start part-fill-block-end
-    fill-block-requires (λ c. search needs) (λ c. search needs) loop-again same-length same-length-2 returns)
+    tie.spec Inv-loop μ-loop loop-holds (λ c. omega (arith, c .before .loop .inv .3 .long))
+    (λ c. omega (arith, c .before .loop .inv .3 .long)) (λ c. omega (arith, c .before .loop .inv .3 .long))
+    (λ c. omega (arith, c .before .loop .inv .3 .long)) (λ c. omega (arith, c .before .loop .inv .3 .long))
+    (λ c. omega (arith, c .before .loop .inv .3 .long)) fill-block-requires (λ c. search needs) (λ c. search needs) loop-again
+    (λ c. c .before .loop .inv .3 .long) (λ c. c .before .loop .inv .1)
+    (λ c. filling-end _ _ _ _ _ (c .before .loop .inv .3) (omega arith)))

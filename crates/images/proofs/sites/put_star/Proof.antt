@@ -16,11 +16,8 @@ abbrev μ-loop : tie.MeasureT-loop
 loop-again : tie.Need-loop-again Inv-loop μ-loop
 loop-again c = ap length (c .before .before .put-link .ensures) ∙ simp length-put-link (c .before .before .before .before .before .loop .inv)
 
-same-length : tie.Need-same-length Inv-loop μ-loop
-same-length c = c .before .loop .inv
-
 pub put-star-spec : {M : Type 1} → statement M
 put-star-spec =
     tie.close (
     tie.spec Inv-loop μ-loop (λ c. search needs) (λ c κs. search needs) (λ c. search needs) (λ c. search needs) loop-again
-    same-length (λ c. search needs))
+    (λ c. c .before .loop .inv) (λ c. search needs))

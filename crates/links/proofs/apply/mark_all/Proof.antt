@@ -18,9 +18,6 @@ Inv-loop set₀ list i₀ set i = Folding (λ v now. put-bit true 0 v now) list 
 abbrev μ-loop : tie.MeasureT-loop
 μ-loop set₀ list i₀ set i = length list - i
 
-loop-holds : tie.Need-loop-holds Inv-loop μ-loop
-loop-holds c = folding-none _ _ _
-
 cast-put-bit : tie.Need-cast-put-bit Inv-loop μ-loop
 cast-put-bit c = omega (arith, c .shared-slice-known2 .given (c .before .before .before .loop .i))
 
@@ -40,5 +37,5 @@ returns c = folding-end _ _ _ _ _ (c .before .loop .inv) (c .loop-test .left)
 pub mark-all-spec : {M : Type 1} → statement M
 mark-all-spec =
     tie.close (
-    tie.spec Inv-loop μ-loop loop-holds (λ c. search needs) (λ c. search needs) cast-put-bit (λ c κs. search needs)
+    tie.spec Inv-loop μ-loop (λ c. folding-none _ _ _) (λ c. search needs) (λ c. search needs) cast-put-bit (λ c κs. search needs)
     (λ c. search needs) (λ c. search needs) loop-again same-length returns)

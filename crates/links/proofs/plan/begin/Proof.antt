@@ -4,9 +4,6 @@ use Rattle.links.proofs.BeginLaws.{begin-a, begin-b, begin-done, begin-
 use Rattle.links.proofs.plan.begin.Statement.{statement}
 use Rattle.links.proofs.plan.begin.Tie as tie
 
-count-end-requires : tie.Need-count-end-requires
-count-end-requires c κs = begin-a (c .before .before .before .before .before .before .pre)
-
 count-end-requires-2 : tie.Need-count-end-requires-2
 count-end-requires-2 c κs =
     let first = c .before .before .before .before in begin-b (first .before .before .before .before .before .before .before .pre) _ (first .count-end .ensures)
@@ -26,5 +23,5 @@ returns c =
 pub begin-spec : {M : Type 1} → statement M
 begin-spec =
     tie.close (
-    tie.spec (λ c. search needs) count-end-requires (λ c. search needs) count-end-requires-2 mark-fitting-requires
-    (λ c. search needs) (λ c. search needs) returns)
+    tie.spec (λ c. search needs) (λ c κs. begin-a (c .before .before .before .before .before .before .pre)) (λ c. search needs)
+    count-end-requires-2 mark-fitting-requires (λ c. search needs) (λ c. search needs) returns)

@@ -47,21 +47,6 @@ loop-again c =
     peel-turn (at-loop .before .before .before .before .before .before .before .before .before .before .before .before .pre) (at-loop .loop .inv) (made .before .before .before .before .before .before .loop-test .taken) _ _ _ _ _ (search needs) (search needs)
     (made .take-radio .ensures .0) (made .take-radio .ensures .1) (c .first-marked2 .ensures)
 
-same-length : tie.Need-same-length Inv-loop μ-loop
-same-length c = c .before .loop .inv .long-counters
-
-same-length-2 : tie.Need-same-length-2 Inv-loop μ-loop
-same-length-2 c = c .before .loop .inv .long-fits
-
-same-length-3 : tie.Need-same-length-3 Inv-loop μ-loop
-same-length-3 c = c .before .loop .inv .long-row
-
-same-length-4 : tie.Need-same-length-4 Inv-loop μ-loop
-same-length-4 c = c .before .loop .inv .long-near
-
-same-length-5 : tie.Need-same-length-5 Inv-loop μ-loop
-same-length-5 c = c .before .loop .inv .long-list
-
 returns : tie.Need-returns Inv-loop μ-loop
 returns c = peel-end (c .before .before .before .before .before .before .before .before .before .before .before .before .before .pre) (c .before .loop .inv) (c .loop-test .left)
 
@@ -70,4 +55,5 @@ peel-spec =
     tie.close (
     tie.spec Inv-loop μ-loop (λ c κs. search needs) loop-holds (λ c. search needs) (λ c. search needs) shared-slice-read-v
     (λ c. search needs) slice-write-list add-taken cast-take-radio take-radio-requires (λ c κs. search needs) loop-less loop-again
-    same-length same-length-2 same-length-3 same-length-4 same-length-5 returns)
+    (λ c. c .before .loop .inv .long-counters) (λ c. c .before .loop .inv .long-fits) (λ c. c .before .loop .inv .long-row)
+    (λ c. c .before .loop .inv .long-near) (λ c. c .before .loop .inv .long-list) returns)

@@ -6,9 +6,6 @@ use Rattle.links.proofs.PlanCall.{plan-level, plan-begin, plan-peel, pl
 use Rattle.links.proofs.plan.plan_link.Statement.{statement}
 use Rattle.links.proofs.plan.plan_link.Tie as tie
 
-call-at-requires : tie.Need-call-at-requires
-call-at-requires c κs = plan-level (c .before .before .before .before .before .before .pre .0)
-
 begin-requires : tie.Need-begin-requires
 begin-requires c κs =
     let at = c .before .before in
@@ -45,5 +42,6 @@ returns c =
 pub plan-link-spec : {M : Type 1} → statement M
 plan-link-spec =
     tie.close (
-    tie.spec call-at-requires (λ c κs. search needs) (λ c. search needs) begin-requires (λ c. search needs) (λ c. search needs)
-    (λ c. search needs) peel-requires list-stuck-requires (λ c. search needs) (λ c. search needs) returns)
+    tie.spec (λ c κs. plan-level (c .before .before .before .before .before .before .pre .0)) (λ c κs. search needs)
+    (λ c. search needs) begin-requires (λ c. search needs) (λ c. search needs) (λ c. search needs) peel-requires
+    list-stuck-requires (λ c. search needs) (λ c. search needs) returns)

@@ -18,9 +18,6 @@ Inv-loop start size most taken order counters list₀ at₀ i₀ list at i = Str
 abbrev μ-loop : tie.MeasureT-loop
 μ-loop start size most taken order counters list₀ at₀ i₀ list at i = size - i
 
-loop-holds : tie.Need-loop-holds Inv-loop μ-loop
-loop-holds c = stretch-none _ _ _ _ _ _
-
 cast-if1 : tie.Need-cast-if1 Inv-loop μ-loop
 cast-if1 c = omega (arith, c .shared-slice-known3 .given (c .before .before .before .before .before .before .args .start + c .before .before .loop .i))
 
@@ -39,14 +36,12 @@ loop-again c =
     (λ w. stretch-passed _ _ _ _ _ _ (start .pre .0) _ _ i l (at-loop .loop .inv) _ _ (lt-ltb _ _ (w .0 .taken)) (w .5 ∙ w .2 .ensures) (w .6))
     (λ w. stretch-failed _ _ _ _ _ _ (start .pre .0) _ _ i l (at-loop .loop .inv) _ _ (le-ltb _ _ (w .0 .left)) (w .1) (w .2)) (c .if1 .came)
 
-same-length : tie.Need-same-length Inv-loop μ-loop
-same-length c = c .before .loop .inv .long
-
 returns : tie.Need-returns Inv-loop μ-loop
 returns c = stretch-end _ _ _ _ _ _ (c .before .before .before .before .before .pre .0) _ _ (c .before .loop .i) (c .loop-test .left) (c .before .loop .inv)
 
 pub list-stuck-spec : {M : Type 1} → statement M
 list-stuck-spec =
     tie.close (
-    tie.spec Inv-loop μ-loop loop-holds (λ c. search needs) (λ c. search needs) (λ c. search needs) cast-if1 shared-slice-read-if1
-    (λ c κs. search needs) (λ c. search needs) (λ c. search needs) (λ c. search needs) loop-again same-length returns)
+    tie.spec Inv-loop μ-loop (λ c. stretch-none _ _ _ _ _ _) (λ c. search needs) (λ c. search needs) (λ c. search needs) cast-if1
+    shared-slice-read-if1 (λ c κs. search needs) (λ c. search needs) (λ c. search needs) (λ c. search needs) loop-again
+    (λ c. c .before .loop .inv .long) returns)

@@ -17,9 +17,6 @@ Inv-loop numbers level start₀ size₀ i₀ start size i =
 abbrev μ-loop : tie.MeasureT-loop
 μ-loop numbers level start₀ size₀ i₀ start size i = length numbers - i
 
-loop-holds : tie.Need-loop-holds Inv-loop μ-loop
-loop-holds c = (omega arith, (omega arith, omega arith), (omega arith, omega arith))
-
 add-start : tie.Need-add-start Inv-loop μ-loop
 add-start c =
     let at-loop = c .before .before in
@@ -48,5 +45,6 @@ returns c =
 pub stretch-of-spec : {M : Type 1} → statement M
 stretch-of-spec =
     tie.close (
-    tie.spec Inv-loop μ-loop loop-holds (λ c. search needs) (λ c. search needs) add-start (λ c. search needs) (λ c. search needs)
-    add-size (λ c. search needs) (λ c. search needs) loop-again returns)
+    tie.spec Inv-loop μ-loop (λ c. (omega arith, (omega arith, omega arith), (omega arith, omega arith))) (λ c. search needs)
+    (λ c. search needs) add-start (λ c. search needs) (λ c. search needs) add-size (λ c. search needs) (λ c. search needs)
+    loop-again returns)

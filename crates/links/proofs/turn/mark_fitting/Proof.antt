@@ -20,9 +20,6 @@ Inv-loop start size most order counters fits₀ p₀ fits p = Fitting-from order
 abbrev μ-loop : tie.MeasureT-loop
 μ-loop start size most order counters fits₀ p₀ fits p = start + size - p
 
-loop-holds : tie.Need-loop-holds Inv-loop μ-loop
-loop-holds c = fitting-none _ _ _ _ _ _
-
 cast-v : tie.Need-cast-v Inv-loop μ-loop
 cast-v c = omega (arith, c .shared-slice-known3 .given (c .before .before .loop .p))
 
@@ -40,14 +37,12 @@ loop-again c =
     (λ w. w .1 ∙ cond-failed _ _ _ (lt-leb counter (call .most) (w .0 .left))) (c .if1 .came) in
     fitting-turn _ _ _ _ _ _ p _ _ (c .before .before .before .loop-test .taken) new (at-loop .loop .inv)
 
-same-length : tie.Need-same-length Inv-loop μ-loop
-same-length c = c .before .loop .inv .long
-
 returns : tie.Need-returns Inv-loop μ-loop
 returns c = fitting-end _ _ _ _ _ _ (c .before .loop .p) _ (omega arith) (c .before .loop .inv)
 
 pub mark-fitting-spec : {M : Type 1} → statement M
 mark-fitting-spec =
     tie.close (
-    tie.spec Inv-loop μ-loop loop-holds (λ c. search needs) (λ c. search needs) (λ c. search needs) cast-v shared-slice-read-if1
-    (λ c. search needs) (λ c κs. search needs) (λ c. search needs) (λ c. search needs) loop-again same-length returns)
+    tie.spec Inv-loop μ-loop (λ c. fitting-none _ _ _ _ _ _) (λ c. search needs) (λ c. search needs) (λ c. search needs) cast-v
+    shared-slice-read-if1 (λ c. search needs) (λ c κs. search needs) (λ c. search needs) (λ c. search needs) loop-again
+    (λ c. c .before .loop .inv .long) returns)

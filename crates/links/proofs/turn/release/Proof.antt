@@ -42,12 +42,6 @@ loop-again c =
     releasing-turn _ _ _ _ _ _ _ i (getD (call .near .now) i 0) _ _ _ _ (omega (arith, length-take-le (call .k) (call .near .now) (omega arith)))
     (sym (getD-take (call .k) (call .near .now) i 0 (omega arith))) (made .release-one .ensures .0) (made .release-one .ensures .1) (at-loop .loop .inv)
 
-same-length : tie.Need-same-length Inv-loop μ-loop
-same-length c = c .before .loop .inv .long
-
-same-length-2 : tie.Need-same-length-2 Inv-loop μ-loop
-same-length-2 c = c .before .loop .inv .long-fits
-
 returns : tie.Need-returns Inv-loop μ-loop
 returns c =
     let call = c .before .before .before .before .before .before .before .args in
@@ -57,4 +51,5 @@ pub release-spec : {M : Type 1} → statement M
 release-spec =
     tie.close (
     tie.spec Inv-loop μ-loop loop-holds (λ c. search needs) (λ c. search needs) cast-release-one release-one-requires
-    (λ c. search needs) (λ c. search needs) loop-again same-length same-length-2 returns)
+    (λ c. search needs) (λ c. search needs) loop-again (λ c. c .before .loop .inv .long) (λ c. c .before .loop .inv .long-fits)
+    returns)

@@ -4,8 +4,5 @@ use borrow.Author.Needs.{needs}
 use Rattle.node_list.proofs.lent.node_at.Statement.{statement}
 use Rattle.node_list.proofs.lent.node_at.Tie as tie
 
-returns : tie.Need-returns
-returns c = refl
-
 pub node-at-spec : {M : Type 1} → statement M
-node-at-spec = tie.close (tie.spec (λ c. search needs) (λ c. search needs) (λ c. search needs) (λ c. search needs) (λ c. search needs) (λ c. search needs) returns)
+node-at-spec = tie.close (tie.spec (λ c. search needs) (λ c. search needs) (λ c. search needs) (λ c. search needs) (λ c. search needs) (λ c. search needs) (λ c. refl))

@@ -7,14 +7,8 @@ use Rattle.player.proofs.PlayLaws.{radios-of-le}
 use Rattle.player.proofs.first.read_first.Statement.{statement}
 use Rattle.player.proofs.first.read_first.Tie as tie
 
-slice-aggregate-radios-of : tie.Need-slice-aggregate-radios-of
-slice-aggregate-radios-of c = sym (length-take-le _ _ (omega arith))
-
-returns : tie.Need-returns
-returns c = rw (c .radios-of .ensures) (radios-of-le _)
-
 pub read-first-spec : {M : Type 1} → statement M
 read-first-spec =
     tie.close (
-    tie.spec (λ c. search needs) (λ c κs. search needs) (λ c. search needs) slice-aggregate-radios-of (λ c κs. search needs)
-    returns)
+    tie.spec (λ c. search needs) (λ c κs. search needs) (λ c. search needs) (λ c. sym (length-take-le _ _ (omega arith)))
+    (λ c κs. search needs) (λ c. rw (c .radios-of .ensures) (radios-of-le _)))

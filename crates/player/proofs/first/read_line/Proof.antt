@@ -13,18 +13,10 @@ Inv-loop fd line₀ len₀ line len = (len ≤ length line) × (length line ≡ 
 abbrev μ-loop : tie.MeasureT-loop
 μ-loop fd line₀ len₀ line len = length line - len
 
-returns-2 : tie.Need-returns-2 Inv-loop μ-loop
-returns-2 c = simp length-set (omega arith)
-
-loop-less : tie.Need-loop-less Inv-loop μ-loop
-loop-less c = simp length-set (omega arith)
-
-loop-again : tie.Need-loop-again Inv-loop μ-loop
-loop-again c = (simp length-set (omega arith), simp length-set (omega arith))
-
 pub read-line-spec : {M : Type 1} → statement M
 read-line-spec =
     tie.close (
     tie.spec Inv-loop μ-loop (λ c. search needs) (λ c κs. search needs) (λ c. search needs) (λ c. search needs)
-    (λ c. search needs) (λ c. search needs) (λ c. search needs) (λ c. search needs) returns-2 loop-less loop-again
-    (λ c. search needs) (λ c. search needs))
+    (λ c. search needs) (λ c. search needs) (λ c. search needs) (λ c. search needs) (λ c. simp length-set (omega arith))
+    (λ c. simp length-set (omega arith)) (λ c. (simp length-set (omega arith), simp length-set (omega arith))) (λ c. search needs)
+    (λ c. search needs))

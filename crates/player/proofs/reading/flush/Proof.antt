@@ -6,10 +6,8 @@ use borrow.Author.Needs.{needs}
 use Rattle.player.proofs.reading.flush.Statement.{statement}
 use Rattle.player.proofs.reading.flush.Tie as tie
 
-slice-aggregate-write-all : tie.Need-slice-aggregate-write-all
-slice-aggregate-write-all c = sym (length-take-le _ _ (omega arith))
-
 pub flush-spec : {M : Type 1} → statement M
 flush-spec =
     tie.close (
-    tie.spec slice-aggregate-write-all (λ c κs. search needs) (λ c. search needs) (λ c κs. search needs) (λ c. search needs))
+    tie.spec (λ c. sym (length-take-le _ _ (omega arith))) (λ c κs. search needs) (λ c. search needs) (λ c κs. search needs)
+    (λ c. search needs))

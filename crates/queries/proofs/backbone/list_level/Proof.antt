@@ -14,9 +14,6 @@ Inv-loop numbers level list₀ count₀ v₀ list count v = Levelling numbers le
 abbrev μ-loop : tie.MeasureT-loop
 μ-loop numbers level list₀ count₀ v₀ list count v = length numbers - v
 
-loop-holds : tie.Need-loop-holds Inv-loop μ-loop
-loop-holds c = levelling-none _ _ _
-
 list-one-requires : tie.Need-list-one-requires Inv-loop μ-loop
 list-one-requires c κs =
     let at-loop = c .before .before in
@@ -28,9 +25,6 @@ loop-again c =
     let at-loop = c .before .before .before .before .before in
     levelling-turn _ _ _ (at-loop .loop .v) (at-loop .loop .count) (at-loop .loop .list) _ _ (c .before .before .before .before .loop-test .taken) (c .before .before .list-one .ensures .0) (c .before .before .list-one .ensures .1) (at-loop .loop .inv)
 
-same-length : tie.Need-same-length Inv-loop μ-loop
-same-length c = c .before .loop .inv .listing .long
-
 returns : tie.Need-returns Inv-loop μ-loop
 returns c =
     let start = c .before .before .before .before in
@@ -39,4 +33,5 @@ returns c =
 pub list-level-spec : {M : Type 1} → statement M
 list-level-spec =
     tie.close (
-    tie.spec Inv-loop μ-loop loop-holds list-one-requires (λ c. search needs) (λ c. search needs) loop-again same-length returns)
+    tie.spec Inv-loop μ-loop (λ c. levelling-none _ _ _) list-one-requires (λ c. search needs) (λ c. search needs) loop-again
+    (λ c. c .before .loop .inv .listing .long) returns)

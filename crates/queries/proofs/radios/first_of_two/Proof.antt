@@ -14,12 +14,6 @@ Inv-loop order a b i₀ i = First-so-far a b order i
 abbrev μ-loop : tie.MeasureT-loop
 μ-loop order a b i₀ i = length order - i
 
-loop-holds : tie.Need-loop-holds Inv-loop μ-loop
-loop-holds c = refl
-
-cast-x : tie.Need-cast-x Inv-loop μ-loop
-cast-x c = omega (arith, c .shared-slice-known .given (c .before .before .loop .i))
-
 returns : tie.Need-returns Inv-loop μ-loop
 returns c =
     let at-loop = c .before .before .before in
@@ -47,5 +41,6 @@ returns-3 c =
 pub first-of-two-spec : {M : Type 1} → statement M
 first-of-two-spec =
     tie.close (
-    tie.spec Inv-loop μ-loop loop-holds (λ c. search needs) (λ c. search needs) cast-x returns returns-2 (λ c. search needs)
+    tie.spec Inv-loop μ-loop (λ c. refl) (λ c. search needs) (λ c. search needs)
+    (λ c. omega (arith, c .shared-slice-known .given (c .before .before .loop .i))) returns returns-2 (λ c. search needs)
     (λ c. search needs) loop-again returns-3)

@@ -15,12 +15,6 @@ Inv-loop s p v v₀ i₀ v' i = (i ≤ length s) × (v' ≤ 65535) × (digits-on
 abbrev μ-loop : tie.MeasureT-loop
 μ-loop s p v v₀ i₀ v' i = length s - i
 
-loop-holds : tie.Need-loop-holds Inv-loop μ-loop
-loop-holds c = (omega arith, omega arith, refl)
-
-wide-requires : tie.Need-wide-requires Inv-loop μ-loop
-wide-requires c κs = tt
-
 returns : tie.Need-returns Inv-loop μ-loop
 unfolding read-of
 returns c =
@@ -36,9 +30,6 @@ returns-2 c =
     let s = at-loop .before .before .args .s .now in
     let byte = c .before .before .wide in
     sym (digits-other s (at-loop .loop .v) (at-loop .loop .i) (byte .result) (omega arith) (byte .ensures) (digit-above (byte .result) (omega arith))) ∙ at-loop .loop .inv .2
-
-none-requires : tie.Need-none-requires Inv-loop μ-loop
-none-requires c κs = tt
 
 returns-3 : tie.Need-returns-3 Inv-loop μ-loop
 returns-3 c =
@@ -65,5 +56,5 @@ returns-4 c =
 pub read-digits-spec : {M : Type 1} → statement M
 read-digits-spec =
     tie.close (
-    tie.spec Inv-loop μ-loop loop-holds (λ c. omega arith) wide-requires returns returns-2 (λ c. omega arith) (λ c. omega arith)
-    none-requires returns-3 (λ c. omega arith) (λ c. omega arith) loop-again returns-4)
+    tie.spec Inv-loop μ-loop (λ c. (omega arith, omega arith, refl)) (λ c. omega arith) (λ c κs. tt) returns returns-2
+    (λ c. omega arith) (λ c. omega arith) (λ c κs. tt) returns-3 (λ c. omega arith) (λ c. omega arith) loop-again returns-4)

@@ -15,9 +15,6 @@ Inv-loop s word i₀ i = (i ≤ length word) × (starts (drop i word) (drop i s)
 abbrev μ-loop : tie.MeasureT-loop
 μ-loop s word i₀ i = length word - i
 
-loop-holds : tie.Need-loop-holds Inv-loop μ-loop
-loop-holds c = (omega arith, refl)
-
 returns : tie.Need-returns Inv-loop μ-loop
 returns c =
     let at-loop = c .before .before in
@@ -45,5 +42,5 @@ returns-3 c =
 pub starts-with-spec : {M : Type 1} → statement M
 starts-with-spec =
     tie.close (
-    tie.spec Inv-loop μ-loop loop-holds returns (λ c. omega arith) (λ c. omega arith) returns-2 (λ c. omega arith)
+    tie.spec Inv-loop μ-loop (λ c. (omega arith, refl)) returns (λ c. omega arith) (λ c. omega arith) returns-2 (λ c. omega arith)
     (λ c. omega arith) loop-again returns-3)

@@ -15,16 +15,10 @@ Inv-loop d₀ x i₀ d i = Writing 16 (λ (j : ℕ). x) d₀ d i
 abbrev μ-loop : tie.MeasureT-loop
 μ-loop d₀ x i₀ d i = length d₀ - i
 
-loop-holds : tie.Need-loop-holds Inv-loop μ-loop
-loop-holds c = writing-none 16 _ _
-
 loop-again : tie.Need-loop-again Inv-loop μ-loop
 loop-again c =
     let s = c .before .before in
     writing-turn 16 _ _ _ _ _ (c .before .loop .inv) (omega arith) (sym (mod-eq-of-lt (s .fits .x .fits)))
-
-same-length : tie.Need-same-length Inv-loop μ-loop
-same-length c = c .before .loop .inv .long
 
 returns : tie.Need-returns Inv-loop μ-loop
 returns c = writing-constant 16 _ _ _ _ (c .before .loop .inv) (omega arith) (c .before .before .fits .x .fits)
@@ -32,5 +26,5 @@ returns c = writing-constant 16 _ _ _ _ (c .before .loop .inv) (omega arith) (c 
 pub fill16-spec : {M : Type 1} → statement M
 fill16-spec =
     tie.close (
-    tie.spec Inv-loop μ-loop loop-holds (λ c. search needs) (λ c. search needs) (λ c. search needs) (λ c. search needs) loop-again
-    same-length returns)
+    tie.spec Inv-loop μ-loop (λ c. writing-none 16 _ _) (λ c. search needs) (λ c. search needs) (λ c. search needs)
+    (λ c. search needs) loop-again (λ c. c .before .loop .inv .long) returns)

@@ -14,20 +14,9 @@ Inv-loop d₀ v₀ d v = Writing 16 (λ (j : ℕ). j) d₀ d v
 abbrev μ-loop : tie.MeasureT-loop
 μ-loop d₀ v₀ d v = length d₀ - v
 
-loop-holds : tie.Need-loop-holds Inv-loop μ-loop
-loop-holds c = writing-none 16 _ _
-
-loop-again : tie.Need-loop-again Inv-loop μ-loop
-loop-again c = writing-turn 16 _ _ _ _ _ (c .before .loop .inv) (omega arith) refl
-
-same-length : tie.Need-same-length Inv-loop μ-loop
-same-length c = c .before .loop .inv .long
-
-returns : tie.Need-returns Inv-loop μ-loop
-returns c = writing-all 16 _ _ _ _ (c .before .loop .inv) (omega arith)
-
 pub index16-spec : {M : Type 1} → statement M
 index16-spec =
     tie.close (
-    tie.spec Inv-loop μ-loop loop-holds (λ c. search needs) (λ c. search needs) (λ c. search needs) (λ c. search needs)
-    (λ c. search needs) loop-again same-length returns)
+    tie.spec Inv-loop μ-loop (λ c. writing-none 16 _ _) (λ c. search needs) (λ c. search needs) (λ c. search needs)
+    (λ c. search needs) (λ c. search needs) (λ c. writing-turn 16 _ _ _ _ _ (c .before .loop .inv) (omega arith) refl)
+    (λ c. c .before .loop .inv .long) (λ c. writing-all 16 _ _ _ _ (c .before .loop .inv) (omega arith)))

@@ -15,12 +15,6 @@ Inv-loop a b i₀ i = Comparing a b i
 abbrev μ-loop : tie.MeasureT-loop
 μ-loop a b i₀ i = length a - i
 
-returns : tie.Need-returns Inv-loop μ-loop
-returns c = sym (same-lengths _ _ (c .if1 .taken))
-
-loop-holds : tie.Need-loop-holds Inv-loop μ-loop
-loop-holds c = comparing-none _ _ (c .if1 .left)
-
 returns-2 : tie.Need-returns-2 Inv-loop μ-loop
 returns-2 c =
     let at-loop = c .before .before .before .before in
@@ -31,11 +25,9 @@ loop-again c =
     let at-loop = c .before .before .before .before in
     comparing-turn _ _ (at-loop .loop .i) (at-loop .loop .inv) (omega arith) (c .if2 .left)
 
-returns-3 : tie.Need-returns-3 Inv-loop μ-loop
-returns-3 c = sym (comparing-end _ _ _ (c .before .loop .inv) (omega arith))
-
 pub same8-spec : {M : Type 1} → statement M
 same8-spec =
     tie.close (
-    tie.spec Inv-loop μ-loop returns loop-holds (λ c. search needs) (λ c. search needs) returns-2 (λ c. search needs)
-    (λ c. search needs) loop-again returns-3)
+    tie.spec Inv-loop μ-loop (λ c. sym (same-lengths _ _ (c .if1 .taken))) (λ c. comparing-none _ _ (c .if1 .left))
+    (λ c. search needs) (λ c. search needs) returns-2 (λ c. search needs) (λ c. search needs) loop-again
+    (λ c. sym (comparing-end _ _ _ (c .before .loop .inv) (omega arith))))

@@ -22,9 +22,6 @@ Inv-loop numbers₀ changed k step m i₀ numbers i = Folding (λ v now. step-at
 abbrev μ-loop : tie.MeasureT-loop
 μ-loop numbers₀ changed k step m i₀ numbers i = m - i
 
-loop-holds : tie.Need-loop-holds Inv-loop μ-loop
-loop-holds c = folding-none _ _ _
-
 cast-step-at : tie.Need-cast-step-at Inv-loop μ-loop
 cast-step-at c = omega (arith, c .shared-slice-known2 .given (c .before .before .before .loop .i))
 
@@ -51,5 +48,5 @@ returns c =
 pub step-numbers-spec : {M : Type 1} → statement M
 step-numbers-spec =
     tie.close (
-    tie.spec Inv-loop μ-loop (λ c κs. search needs) loop-holds (λ c. search needs) (λ c. search needs) cast-step-at
+    tie.spec Inv-loop μ-loop (λ c κs. search needs) (λ c. folding-none _ _ _) (λ c. search needs) (λ c. search needs) cast-step-at
     (λ c κs. search needs) (λ c. search needs) (λ c. search needs) loop-again same-length returns)

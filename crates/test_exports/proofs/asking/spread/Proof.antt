@@ -12,12 +12,9 @@ Inv-loop fields₀ nodes i₀ fields i = length fields ≡ length fields₀
 abbrev μ-loop : tie.MeasureT-loop
 μ-loop fields₀ nodes i₀ fields i = 515 - i
 
-loop-holds : tie.Need-loop-holds Inv-loop μ-loop
-loop-holds c = refl
-
 pub spread-spec : {M : Type 1} → statement M
 spread-spec =
     tie.close (
-    tie.spec Inv-loop μ-loop loop-holds (λ c. search needs) (λ c. search needs) (λ c. search needs) (λ c κs. search needs)
+    tie.spec Inv-loop μ-loop (λ c. refl) (λ c. search needs) (λ c. search needs) (λ c. search needs) (λ c κs. search needs)
     (λ c. search needs) (λ c. search needs) (λ c κs. search needs) (λ c. search needs) (λ c. search needs) (λ c κs. search needs)
     (λ c. search needs) (λ c. search needs) (λ c. search needs) (λ c. search needs) (λ c. search needs))

@@ -19,18 +19,6 @@ abbrev μ-loop : tie.MeasureT-loop
 μ-loop links numbers names₀ levels₀ parents₀ answer₀ set₀ queue₀ top count₀ k₀ names levels parents answer set queue count k =
     (top + 1) - k
 
-loop-holds : tie.Need-loop-holds Inv-loop μ-loop
-loop-holds c = (refl, refl, search needs, search needs, treeing-none _ _ _)
-
-cast-take-level : tie.Need-cast-take-level Inv-loop μ-loop
-cast-take-level c = omega (arith, c .loop-test .taken, c .before .loop .inv .2)
-
-slice-aggregate-take-level : tie.Need-slice-aggregate-take-level Inv-loop μ-loop
-slice-aggregate-take-level c = sym (c .before .before .loop .inv .0)
-
-slice-aggregate-take-level-2 : tie.Need-slice-aggregate-take-level-2 Inv-loop μ-loop
-slice-aggregate-take-level-2 c = sym (c .before .before .before .loop .inv .1)
-
 take-level-requires : tie.Need-take-level-requires Inv-loop μ-loop
 take-level-requires c κs =
     let at-loop = c .before .before .before .before .before .before .before in
@@ -79,6 +67,8 @@ returns c =
 pub grow-spec : {M : Type 1} → statement M
 grow-spec =
     tie.close (
-    tie.spec Inv-loop μ-loop (λ c κs. search needs) (λ c κs. search needs) (λ c κs. search needs) (λ c. search needs) loop-holds
-    cast-take-level slice-aggregate-take-level slice-aggregate-take-level-2 take-level-requires (λ c. search needs)
-    (λ c. search needs) loop-again same-length same-length-2 same-length-3 same-length-4 returns)
+    tie.spec Inv-loop μ-loop (λ c κs. search needs) (λ c κs. search needs) (λ c κs. search needs) (λ c. search needs)
+    (λ c. (refl, refl, search needs, search needs, treeing-none _ _ _))
+    (λ c. omega (arith, c .loop-test .taken, c .before .loop .inv .2)) (λ c. sym (c .before .before .loop .inv .0))
+    (λ c. sym (c .before .before .before .loop .inv .1)) take-level-requires (λ c. search needs) (λ c. search needs) loop-again
+    same-length same-length-2 same-length-3 same-length-4 returns)

@@ -3,11 +3,5 @@ use Rattle.tree.proofs.TreeAnswer.{room-short, room-long}
 use Rattle.tree.proofs.levels.has_room.Statement.{statement}
 use Rattle.tree.proofs.levels.has_room.Tie as tie
 
-returns : tie.Need-returns
-returns c = room-short _ _ _ (c .if1 .taken)
-
-returns-2 : tie.Need-returns-2
-returns-2 c = room-long _ _ _ (c .if1 .left)
-
 pub has-room-spec : {M : Type 1} → statement M
-has-room-spec = tie.close (tie.spec returns returns-2)
+has-room-spec = tie.close (tie.spec (λ c. room-short _ _ _ (c .if1 .taken)) (λ c. room-long _ _ _ (c .if1 .left)))

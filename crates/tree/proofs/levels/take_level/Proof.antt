@@ -18,9 +18,6 @@ abbrev μ-loop : tie.MeasureT-loop
 μ-loop links numbers level set₀ queue₀ names₀ levels₀ parents₀ answer₀ count c₀ v₀ set queue names levels parents answer c v =
     length numbers - v
 
-loop-holds : tie.Need-loop-holds Inv-loop μ-loop
-loop-holds c = levelling-none _ _ _ _ _ _ _
-
 cast-visit : tie.Need-cast-visit Inv-loop μ-loop
 cast-visit c = omega (arith, c .loop-test .taken, c .before .before .before .before .before .before .before .before .before .before .before .before .before .before .pre .0)
 
@@ -42,21 +39,6 @@ loop-again c =
 same-length : tie.Need-same-length Inv-loop μ-loop
 same-length c = c .before .loop .inv .set-long ∙ ap length (c .before .before .before .before .fill8 .ensures) ∙ length-replicate {A = ℕ} (length (c .before .before .before .before .before .before .before .before .before .before .before .before .before .before .args .set .now)) 0
 
-same-length-2 : tie.Need-same-length-2 Inv-loop μ-loop
-same-length-2 c = c .before .loop .inv .queue-long
-
-same-length-3 : tie.Need-same-length-3 Inv-loop μ-loop
-same-length-3 c = c .before .loop .inv .lengths .names
-
-same-length-4 : tie.Need-same-length-4 Inv-loop μ-loop
-same-length-4 c = c .before .loop .inv .lengths .levels
-
-same-length-5 : tie.Need-same-length-5 Inv-loop μ-loop
-same-length-5 c = c .before .loop .inv .lengths .parents
-
-same-length-6 : tie.Need-same-length-6 Inv-loop μ-loop
-same-length-6 c = c .before .loop .inv .lengths .answer
-
 returns : tie.Need-returns Inv-loop μ-loop
 returns c =
     let at-loop = c .before in
@@ -68,5 +50,7 @@ returns c =
 pub take-level-spec : {M : Type 1} → statement M
 take-level-spec =
     tie.close (
-    tie.spec Inv-loop μ-loop (λ c κs. search needs) loop-holds cast-visit visit-requires (λ c. search needs) (λ c. search needs)
-    loop-again same-length same-length-2 same-length-3 same-length-4 same-length-5 same-length-6 returns)
+    tie.spec Inv-loop μ-loop (λ c κs. search needs) (λ c. levelling-none _ _ _ _ _ _ _) cast-visit visit-requires
+    (λ c. search needs) (λ c. search needs) loop-again same-length (λ c. c .before .loop .inv .queue-long)
+    (λ c. c .before .loop .inv .lengths .names) (λ c. c .before .loop .inv .lengths .levels)
+    (λ c. c .before .loop .inv .lengths .parents) (λ c. c .before .loop .inv .lengths .answer) returns)

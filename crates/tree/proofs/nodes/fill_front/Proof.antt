@@ -15,14 +15,8 @@ Inv-loop table₀ k x m i₀ table i = Writing 16 (λ (j : ℕ). x) table₀ tab
 abbrev μ-loop : tie.MeasureT-loop
 μ-loop table₀ k x m i₀ table i = m - i
 
-loop-holds : tie.Need-loop-holds Inv-loop μ-loop
-loop-holds c = (writing-none 16 _ _, omega arith)
-
 loop-again : tie.Need-loop-again Inv-loop μ-loop
 loop-again c = (writing-turn 16 _ _ _ _ _ (c .before .loop .inv .0) (omega (arith, c .before .before .least .ensures)) (sym (mod-eq-of-lt (c .before .before .before .before .fits .x .fits))), search needs)
-
-same-length : tie.Need-same-length Inv-loop μ-loop
-same-length c = c .before .loop .inv .0 .long
 
 returns : tie.Need-returns Inv-loop μ-loop
 returns c =
@@ -32,5 +26,5 @@ returns c =
 pub fill-front-spec : {M : Type 1} → statement M
 fill-front-spec =
     tie.close (
-    tie.spec Inv-loop μ-loop (λ c κs. search needs) loop-holds (λ c. search needs) (λ c. search needs) (λ c. search needs)
-    (λ c. search needs) loop-again same-length returns)
+    tie.spec Inv-loop μ-loop (λ c κs. search needs) (λ c. (writing-none 16 _ _, omega arith)) (λ c. search needs)
+    (λ c. search needs) (λ c. search needs) (λ c. search needs) loop-again (λ c. c .before .loop .inv .0 .long) returns)

@@ -15,9 +15,6 @@ Inv-loop list k x answer₀ i₀ answer i = Folding (λ w now. set now w x) (tak
 abbrev μ-loop : tie.MeasureT-loop
 μ-loop list k x answer₀ i₀ answer i = k - i
 
-loop-holds : tie.Need-loop-holds Inv-loop μ-loop
-loop-holds c = folding-none _ _ _
-
 cast-put16 : tie.Need-cast-put16 Inv-loop μ-loop
 cast-put16 c = omega (arith, c .shared-slice-known2 .given (c .before .before .before .loop .i))
 
@@ -41,5 +38,5 @@ returns c =
 pub name-all-spec : {M : Type 1} → statement M
 name-all-spec =
     tie.close (
-    tie.spec Inv-loop μ-loop loop-holds (λ c. search needs) (λ c. search needs) cast-put16 (λ c κs. search needs)
+    tie.spec Inv-loop μ-loop (λ c. folding-none _ _ _) (λ c. search needs) (λ c. search needs) cast-put16 (λ c κs. search needs)
     (λ c. search needs) (λ c. search needs) loop-again same-length returns)

@@ -12,11 +12,8 @@ Inv-loop fd links numbers order answer₀ count u₀ i₀ answer u i = length an
 abbrev μ-loop : tie.MeasureT-loop
 μ-loop fd links numbers order answer₀ count u₀ i₀ answer u i = count - i
 
-loop-holds : tie.Need-loop-holds Inv-loop μ-loop
-loop-holds c = refl
-
 pub calls-spec : {M : Type 1} → statement M
 calls-spec =
     tie.close (
-    tie.spec Inv-loop μ-loop (λ c κs. search needs) loop-holds (λ c κs. search needs) (λ c. search needs) (λ c. search needs)
+    tie.spec Inv-loop μ-loop (λ c κs. search needs) (λ c. refl) (λ c κs. search needs) (λ c. search needs) (λ c. search needs)
     (λ c. search needs) (λ c. search needs) (λ c. search needs))

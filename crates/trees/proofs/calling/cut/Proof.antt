@@ -5,17 +5,9 @@ use borrow.Author.Needs.{needs}
 use Rattle.trees.proofs.calling.cut.Statement.{statement}
 use Rattle.trees.proofs.calling.cut.Tie as tie
 
-slice-aggregate-play : tie.Need-slice-aggregate-play
-slice-aggregate-play c = sym (length-take-le _ _ (search needs))
-
-slice-aggregate-play-2 : tie.Need-slice-aggregate-play-2
-slice-aggregate-play-2 c = sym (length-take-le _ _ (search needs))
-
-slice-aggregate-play-3 : tie.Need-slice-aggregate-play-3
-slice-aggregate-play-3 c = sym (length-take-le _ _ (search needs))
-
 pub cut-spec : {M : Type 1} → statement M
 cut-spec =
     tie.close (
-    tie.spec (λ c. search needs) (λ c. search needs) slice-aggregate-play (λ c. search needs) slice-aggregate-play-2
-    (λ c. search needs) slice-aggregate-play-3 (λ c. search needs) (λ c κs. search needs) (λ c. search needs))
+    tie.spec (λ c. search needs) (λ c. search needs) (λ c. sym (length-take-le _ _ (search needs))) (λ c. search needs)
+    (λ c. sym (length-take-le _ _ (search needs))) (λ c. search needs) (λ c. sym (length-take-le _ _ (search needs)))
+    (λ c. search needs) (λ c κs. search needs) (λ c. search needs))

@@ -11,14 +11,8 @@ Inv-loop fd list count u₀ i₀ u i = Unit {0}
 abbrev μ-loop : tie.MeasureT-loop
 μ-loop fd list count u₀ i₀ u i = length list - i
 
-loop-holds : tie.Need-loop-holds Inv-loop μ-loop
-loop-holds c = tt
-
-loop-again : tie.Need-loop-again Inv-loop μ-loop
-loop-again c = tt
-
 pub entries-spec : {M : Type 1} → statement M
 entries-spec =
     tie.close (
-    tie.spec Inv-loop μ-loop (λ c κs. search needs) loop-holds (λ c. search needs) (λ c. search needs) (λ c κs. search needs)
-    (λ c κs. search needs) (λ c. search needs) (λ c. search needs) loop-again (λ c. search needs))
+    tie.spec Inv-loop μ-loop (λ c κs. search needs) (λ c. tt) (λ c. search needs) (λ c. search needs) (λ c κs. search needs)
+    (λ c κs. search needs) (λ c. search needs) (λ c. search needs) (λ c. tt) (λ c. search needs))

@@ -12,15 +12,10 @@ Inv-loop fd n links₀ numbers₀ order₀ answer₀ count i₀ links numbers or
 abbrev μ-loop : tie.MeasureT-loop
 μ-loop fd n links₀ numbers₀ order₀ answer₀ count i₀ links numbers order answer i = count - i
 
-loop-holds : tie.Need-loop-holds Inv-loop μ-loop
-loop-holds c = (refl, refl, refl, refl)
-
-loop-again : tie.Need-loop-again Inv-loop μ-loop
-loop-again c = (search needs, search needs, search needs, search needs)
-
 pub link-all-spec : {M : Type 1} → statement M
 link-all-spec =
     tie.close (
-    tie.spec Inv-loop μ-loop (λ c κs. search needs) loop-holds (λ c κs. search needs) (λ c. search needs) (λ c κs. search needs)
-    (λ c. search needs) (λ c κs. search needs) (λ c. search needs) (λ c. search needs) loop-again (λ c. search needs)
-    (λ c. search needs) (λ c. search needs) (λ c. search needs) (λ c. search needs))
+    tie.spec Inv-loop μ-loop (λ c κs. search needs) (λ c. (refl, refl, refl, refl)) (λ c κs. search needs) (λ c. search needs)
+    (λ c κs. search needs) (λ c. search needs) (λ c κs. search needs) (λ c. search needs) (λ c. search needs)
+    (λ c. (search needs, search needs, search needs, search needs)) (λ c. search needs) (λ c. search needs) (λ c. search needs)
+    (λ c. search needs) (λ c. search needs))
