@@ -9,6 +9,12 @@ use calls::Block;
 use calls::Reply;
 use calls::Value;
 use mesh::Node;
+use mesh::Site;
+
+mod nodes;
+
+// The most nodes that a tree may have: one for each radio, and the root.
+const PLACES: usize = Site::RADIOS as usize + 1;
 
 // Clears a site: zero links, zero numbers, the order 0 to n - 1. Refused by 1 and 2: then every table keeps its content.
 #[no_mangle]
@@ -186,7 +192,23 @@ pub extern "C" fn sb_tree<'a, 's, 't>(
         (now (nodes .exit)) (now (answer .exit))
         ⌝ }
 {
-    node_list::lent::shell_tree(n, links, numbers, order, nodes, answer)
+    let mut names = [0u16; PLACES];
+    let mut levels = [0u16; PLACES];
+    let mut parents = [0u16; PLACES];
+    let reply = tree::levels::shell_tree(
+        n,
+        links,
+        numbers,
+        order,
+        nodes.len(),
+        &mut names,
+        &mut levels,
+        &mut parents,
+        answer,
+    );
+    let count = reply.value as usize;
+    nodes::fill(nodes, &names, &levels, &parents, count);
+    reply
 }
 
 // Writes the site's image in front of the buffer: the value is its length in bytes, and bytes past it keep their content. Refused

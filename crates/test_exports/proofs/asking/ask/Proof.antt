@@ -53,7 +53,7 @@ use Rattle.mesh.specs.Tree.{node}
 use Rattle.mesh.specs.declared.Node.{Node}
 use Rattle.calls.specs.Answers.{Tree-contract}
 use Rattle.calls.specs.declared.Value.{Value}
-use Rattle.node_list.proofs.LocalArray.{Lies, arrTy, typed, made, lends, back, read, Others, apart, joined}
+use Rattle.summerbugle.proofs.LocalArray.{Lies, arrTy, typed, made, lends, back, read, Others, apart, joined}
 use Rattle.summerbugle.proofs.sb_tree.Symbol.{name as #sb-tree}
 use Rattle.test_exports.proofs.asking.spread.Symbol.{name as #test-exports·spread}
 use Rattle.test_exports.proofs.asking.ask.Key.{name as #test-exports·ask}

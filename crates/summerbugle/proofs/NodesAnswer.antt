@@ -28,7 +28,7 @@ use Rattle.calls.specs.declared.Value.{Value}
 use Rattle.calls.proofs.ContractLaws.{by-accepted, by-refused, by-cases}
 use Rattle.calls.proofs.QuestionLaws.{ask-later, size-good-true, nodes-length-true}
 use Rattle.calls.proofs.ChainLaws.{site-zero}
-use Rattle.node_list.specs.Lent.{nodes-in}
+use Rattle.summerbugle.specs.Nodes.{nodes-in}
 use Rattle.tree.specs.Trees.{Lists, lists, with-front, places, Tables-accepted, Tables-refused, Tables-contract}
 use Rattle.lists.proofs.Map.{length-map}
 use Rattle.tree.proofs.NodeLists.{nodes-before-tree, length-nodes-before}

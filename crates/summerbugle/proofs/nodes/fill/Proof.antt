@@ -1,4 +1,4 @@
--- `lent::fill` meets its contract: a walk of its MIR, by hand, with a loop. The borrow of the list is opened once, before the
+-- `nodes::fill` meets its contract: a walk of its MIR, by hand, with a loop. The borrow of the list is opened once, before the
 -- loop, and closed once, after it. A turn calls `node_at`, of which the proof knows only its contract, and stores the record.
 --     At i            the loop's invariant where i nodes are written
 --     Upto, Nearer    its variant: i with i ≤ n, ordered by what is left
@@ -56,20 +56,20 @@ use ghost.Atoms.{Atoms, sem}
 use sound.WpLaws.{fmOf, WpFn-mono}
 use Rattle.lists.specs.Lists.{overwrite}
 use Rattle.mesh.specs.declared.Node.{Node}
-use Rattle.node_list.specs.Lent.{node-in, nodes-in}
-use Rattle.node_list.proofs.LentLaws.{front-none, length-front, set-front}
-use Rattle.node_list.proofs.lent.node_at.Symbol.{name as #tree·node-at}
-use Rattle.node_list.proofs.lent.fill.Key.{name as #tree·fill}
+use Rattle.summerbugle.specs.Nodes.{node-in, nodes-in}
+use Rattle.summerbugle.proofs.NodesLaws.{front-none, length-front, set-front}
+use Rattle.summerbugle.proofs.nodes.node_at.Symbol.{name as #tree·node-at}
+use Rattle.summerbugle.proofs.nodes.fill.Key.{name as #tree·fill}
 use denote.Struct.Laws as LL
 use Rattle.mesh.proofs.Node as T
 use Rattle.mesh.proofs.Node.Laws as T′
-use Rattle.node_list.proofs.lent.node_at as node-at
-use Rattle.node_list.proofs.lent.node_at.Symbol as node-at-def
-use Rattle.node_list.proofs.lent.node_at.Met as node-at-thm
-use Rattle.node_list.proofs.lent.fill as fill
-use Rattle.node_list.proofs.lent.fill.Statement as stated
-use Rattle.node_list.proofs.lent.fill.Code as code
-use Rattle.node_list.proofs.lent.fill.Code.Mir as code-mir
+use Rattle.summerbugle.proofs.nodes.node_at as node-at
+use Rattle.summerbugle.proofs.nodes.node_at.Symbol as node-at-def
+use Rattle.summerbugle.proofs.nodes.node_at.Met as node-at-thm
+use Rattle.summerbugle.proofs.nodes.fill as fill
+use Rattle.summerbugle.proofs.nodes.fill.Statement as stated
+use Rattle.summerbugle.proofs.nodes.fill.Code as code
+use Rattle.summerbugle.proofs.nodes.fill.Code.Mir as code-mir
 
 abbrev R : RattleType
 R = T.the-row
@@ -308,4 +308,4 @@ fill-spec 𝓤 H 𝓜 𝓖 𝓡 =
     entered 𝓤 H (tripleOf 𝓤 H (𝓖 .A) fill.signature (fill.spec 𝓤 H (𝓖 .A) (𝓜 .mem) (𝓡 .run)))
     (tables 𝓤 H 𝓜 𝓡 code.env .C) (tables 𝓤 H 𝓜 𝓡 code.env .Λ) #tree·fill code.function (code.unfolded 𝓤 H 𝓜 𝓡)
     (fill-meets 𝓤 H (𝓖 .A) (givenOf 𝓤 H 𝓜 𝓖) (𝓜 .mem) (𝓡 .run) (tablesOf 𝓤 H 𝓜 (tables 𝓤 H 𝓜 𝓡 code.env))
-    (cited 𝓤 H (NodeAt 𝓤 H (𝓖 .A) (𝓜 .mem) (𝓡 .run)) 𝓜 𝓡 code.env #tree·node-at node-at-def.routine code.calls-node-list·lent·node-at (node-at-thm.met 𝓤 H 𝓜 𝓖 𝓡)))
+    (cited 𝓤 H (NodeAt 𝓤 H (𝓖 .A) (𝓜 .mem) (𝓡 .run)) 𝓜 𝓡 code.env #tree·node-at node-at-def.routine code.calls-summerbugle·nodes·node-at (node-at-thm.met 𝓤 H 𝓜 𝓖 𝓡)))

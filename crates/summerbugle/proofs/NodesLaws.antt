@@ -7,7 +7,7 @@ use native.Mathlib.Numerals.{add-one}
 use lib.ListN.{length, set, length-append, length-drop}
 use Rattle.lists.specs.Lists.{overwrite}
 use Rattle.mesh.specs.declared.Node.{Node}
-use Rattle.node_list.specs.Lent.{node-in, nodes-in}
+use Rattle.summerbugle.specs.Nodes.{node-in, nodes-in}
 use Rattle.lists.proofs.Overwrite.{set-overwrite}
 
 module _ (a b c : List ℕ) where
