@@ -1,6 +1,6 @@
 """Scripts for the replay program, with what it owes on each, worked out from document 01 alone.
 
-  python3 oracle/scripts.py           write crates/replay_cases/data and crates/replay_cases/stdout
+  python3 oracle/scripts.py           write crates/test_scripts/data and crates/test_scripts/stdout
   python3 oracle/scripts.py --check   say whether the stored files are what would be written
 
 Lines are read by a pattern; a site is the one of oracle/peeled.py.

@@ -8,7 +8,7 @@
 --   stretch-up            document 01: how a link going up lays the stretch out anew
 --   stretch-down          document 01: how a link going down lays the stretch out anew
 --   new-order up a b g xs the order after the call: xs with the stretch of level K laid out anew
--- Laws are in proofs/Stretch.antt. Definitions only.
+-- Laws are in proofs/Links/Call.antt. Definitions only.
 use mathlib.Core.Bool.{Bool, true, false, not, cond}
 use mathlib.Core.List.{List, [], _∷_, _++_}
 use Prim.Native.Nat.{ℕ, zero, suc, _+_, _-_, min}

@@ -4,7 +4,7 @@
 --   few-later f num xs   no radio of xs has more later neighbours than its number, where f tells neighbours
 --   is-k-order g xs      document 01: core numbers never fall along it, and no radio has more later neighbours than its core number
 --   running-maxima f m xs  for each radio of xs, the greatest count of later neighbours up to it, and at least m
--- Laws are in proofs/OrderLaws.antt. Definitions only.
+-- Laws are in proofs/Cores/Orders.antt. Definitions only.
 use mathlib.Core.Bool.{Bool, true, _&&_}
 use mathlib.Core.List.{List, [], _∷_}
 use Prim.Native.Nat.{ℕ, max}

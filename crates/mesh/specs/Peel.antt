@@ -3,7 +3,7 @@
 --   Takes f most others left taken now   radios taken so far, one by one, and what is left now
 --   Peels f most others left taken stuck the same, until none fits
 --   bound up K                           the most neighbours at level K: K going up, K - 1 going down
--- Laws are in proofs/Peel.antt. Definitions only.
+-- Laws are in proofs/Links/Peel.antt. Definitions only.
 use mathlib.Core.Path.{_≡_}
 use mathlib.Core.Bool.{Bool, true, false}
 use mathlib.Core.List.{List, [], _∷_, _++_}

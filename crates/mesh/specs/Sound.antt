@@ -1,5 +1,5 @@
 -- Soundness by document 01's local conditions, clause by clause. That sound tables are exactly the ones with proper rows, core
--- numbers and a k-order is `sound-iff` in proofs/Soundness.antt.
+-- numbers and a k-order is `sound-iff` in proofs/Tables/Soundness.antt.
 --   symmetric          rows are symmetric
 --   irreflexive        no radio is its own neighbour
 --   within             no bit at n or above

@@ -7,7 +7,7 @@
 --   Is-tree g xs         xs is the answer: the root, then the nodes, by level and then name ascending
 --   Node-name g v x      x is the name of the node whose shell has v
 --   tree g, node-name    the same, worked out
--- That the tree worked out is the one defined by sets, and the only one, is `tree-iff` in proofs/TreeUnique.antt; of names it
+-- That the tree worked out is the one defined by sets, and the only one, is `tree-iff` in proofs/Trees/Unique.antt; of names it
 -- is `node-name-iff` there. Definitions only.
 use mathlib.Core.Path.{_≡_}
 use mathlib.Core.Logic.{_⊎_, _↔_}

@@ -1,4 +1,4 @@
--- Link histories from cleared sites, with every answer and what they leave. Written by `python3 oracle/histories.py`,
+-- Link histories from cleared sites, with every answer and what they leave. Written by `python3 oracle/vectors.py`,
 -- whose expected values come from document 01 alone, by all sets of radios; not to be changed by hand.
 --   refusals        calls that are refused
 --   cliques         cliques built and torn down
