@@ -41,7 +41,7 @@ fn carry_out(
 // Takes the link between a and b up or down. Accepted, the reply has number 0, the step and the count of changed radios; the
 // answer table has these ascending in front, and its later entries keep their content. Refused, the reply has the number and
 // zeros, and every table keeps its content.
-fn link(
+pub fn link(
     up: bool,
     n: u32,
     a: u32,

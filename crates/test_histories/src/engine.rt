@@ -20,10 +20,16 @@ fn link_cut(
     order: &mut [u16],
     answer: &mut [u16],
 ) -> Reply {
-    if call.up {
-        return links::link::link_up(call.n, call.a, call.b, links, numbers, order, answer);
-    }
-    links::link::link_down(call.n, call.a, call.b, links, numbers, order, answer)
+    links::link::link(
+        call.up,
+        call.n,
+        call.a,
+        call.b,
+        links,
+        numbers,
+        order,
+        answer,
+    )
 }
 
 // The link call.

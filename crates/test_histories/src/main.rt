@@ -10,8 +10,8 @@ mod random;
 mod trouble;
 
 use libc::STDOUT_FILENO;
-use test_model::cells;
 use picking::Plan;
+use test_model::cells;
 
 // Prints a space and a number.
 fn say_field(x: u64) {

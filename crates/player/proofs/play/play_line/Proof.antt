@@ -12,7 +12,7 @@ returns c =
     let called = c .before .before .before .before .before .before .before .before .before .before in
     let found = called .before .before .before .before .before .before .before in
     let parsed = found .before .before .parse .ensures in
-    (line-calls _ parsed (found .a .given .1), up-played _ _ parsed (found .a .given .1) (called .play-up .ensures))
+    (line-calls _ parsed (found .a .given .1), up-played _ _ parsed (found .a .given .1) (called .play-call .ensures))
 
 returns-2 : tie.Need-returns-2
 unfolding is-call
@@ -20,7 +20,7 @@ returns-2 c =
     let called = c .before .before .before .before .before .before .before .before .before .before in
     let found = called .before .before .before .before .before .before .before in
     let parsed = found .before .before .parse .ensures in
-    (line-calls _ parsed (found .a2 .given .1), down-played _ _ parsed (found .a2 .given .1) (called .play-down .ensures))
+    (line-calls _ parsed (found .a2 .given .1), down-played _ _ parsed (found .a2 .given .1) (called .play-call2 .ensures))
 
 returns-3 : tie.Need-returns-3
 unfolding is-call
