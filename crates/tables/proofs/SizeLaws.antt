@@ -1,4 +1,4 @@
--- Laws of the number of questions 1 and 2, for callers that go on to later questions.
+-- Questions 1 and 2 of an empty description.
 use mathlib.Core.Path.{_≡_}
 use mathlib.Core.Bool.{Bool}
 use Prim.Native.Nat.{ℕ}

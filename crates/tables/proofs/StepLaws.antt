@@ -101,10 +101,6 @@ pub stepped-up : (x : ℕ) → x < 255 → stepped x (pos 1) ≡ x + 1
 unfolding stepped
 stepped-up x h = omega arith
 
-pub stepped-none : (x : ℕ) → x < 256 → stepped x (pos 0) ≡ x
-unfolding stepped
-stepped-none x h = omega arith
-
 pub stepped-down : (x : ℕ) → stepped x (negsuc 0) ≡ x - 1
 unfolding stepped
 stepped-down x = refl
