@@ -23,7 +23,7 @@ use Rattle.mesh.specs.declared.Node.{Node}
 use Rattle.lists.proofs.Tests.{bool-cases, and-left}
 use Rattle.mesh.proofs.Trees.Laws.{number-le-n}
 use Rattle.calls.specs.Questions.{ask, Lengths, lengths-of, size-good, site-lengths, nodes-length, answer-length, lent-refusal, site-refusal, tree-refusal}
-use Rattle.calls.specs.Answers.{Tree-accepted, Tree-refused, Tree-contract}
+use Rattle.calls.specs.Contracts.Trees.{Tree-accepted, Tree-refused, Tree-contract}
 use Rattle.calls.specs.declared.Value.{Value}
 use Rattle.calls.proofs.ContractLaws.{by-accepted, by-refused, by-cases}
 use Rattle.calls.proofs.QuestionLaws.{ask-later, size-good-true, nodes-length-true}
