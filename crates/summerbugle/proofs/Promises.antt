@@ -44,7 +44,7 @@ use Rattle.summerbugle.specs.Functions.{lent-6}
 use Rattle.summerbugle.proofs.Calls.{sb-clear, sb-link-up, sb-link-down, sb-image-read, sb-check, sb-number, sb-neighbours, sb-linked, sb-first, sb-core}
 use Rattle.summerbugle.proofs.Calls.{sb-backbone, sb-tree, sb-image-write, sb-image-block, reader-open, reader-step, reader-moved}
 -- for the proof
-use Rattle.mesh.proofs.Peeling.{number-core, number-unique}
+use Rattle.mesh.proofs.Cores.Peeling.{number-core, number-unique}
 use Rattle.calls.proofs.Outcomes.{exactly, clear-decided, link-decided, read-decided, check-decided, number-decided, neighbours-decided, block-inhabited}
 use Rattle.calls.proofs.Outcomes.{linked-decided, first-decided, core-decided, backbone-decided, tree-decided, write-decided, block-decided}
 use Rattle.calls.proofs.Outcomes.{clear-inhabited, link-inhabited, read-inhabited, check-inhabited, number-inhabited, neighbours-inhabited}
@@ -92,7 +92,7 @@ pub record Calls-promised (M : Type 1) : Type 2 where
   pub tree : Promised sb-tree M
   pub image-write : Promised sb-image-write M
   pub image-block : Promised sb-image-block M
-  -- the block reader in document 01's own form: the part given back lies in the image, and is those 504 bytes of it
+  -- the block reader in document 01's own form: the part given back lies in the image, and is its 504 bytes of payload
   pub reader-open : Promised reader-open M
   pub reader-step : Promised reader-step M
   pub reader-moved : Promised reader-moved M
@@ -230,7 +230,7 @@ pub record Property-2 : Type 0 where
       (n : ℕ) (bs : List ℕ) (t : Tables) (r : ℕ) (v : Tables) → Read-contract n bs t r v → size-good n ≡ true →
       site-lengths n (lengths-of t) ≡ true → whole-blocks bs ≡ true → checks-good bs ≡ true →
       ((r ≡ 0) ↔ Tables-image n bs) × ((r ≡ 11) ↔ (Tables-image n bs → ⊥))
-  -- a step of the block reader gives those 504 bytes of the image, or the end
+  -- a step of the block reader gives the 504 bytes of payload, or the end
   pub block : (bs : List ℕ) (i : ℕ) (r : Block) → Block-contract bs i r → r .number ≡ 0 → Block-part bs i r ⊎ Block-end bs i r
 
 -- ---- property 3
