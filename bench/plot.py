@@ -5,6 +5,8 @@ import math
 WIDTH, HEIGHT = 960, 760
 LEFT, RIGHT = 60, 940
 COLOURS = ["#0072b2", "#d55e00", "#009e73", "#aa4499"]
+# one for each line of the lower panel, apart from the sites'
+LINES = ["#1b1b1b", "#8c510a", "#01665e", "#762a83", "#b2182b", "#4d9221", "#2166ac", "#c51b7d", "#737373", "#e08214"]
 GROWING = ["clear", "check", "down+up", "core", "tree", "image_write", "image_read", "image_block"]
 
 
@@ -81,7 +83,7 @@ def growth_panel(run, sizes):
     ordered = sorted(calls, key=lambda call: down(times[call][-1]))
     labels = spread([down(times[call][-1]) for call in ordered], 14)
     for i, (call, label) in enumerate(zip(ordered, labels)):
-        colour = COLOURS[i % len(COLOURS)]
+        colour = LINES[i % len(LINES)]
         points = " ".join(f"{across(n):.1f},{down(t):.1f}" for n, t in zip(sizes, times[call]))
         parts += [f'<polyline points="{points}" fill="none" stroke="{colour}" stroke-width="1.5"/>']
         parts += [dot(across(n), down(t), colour, 2.5) for n, t in zip(sizes, times[call])]

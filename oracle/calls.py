@@ -3,7 +3,7 @@
 import random
 from itertools import combinations
 
-from cases import down, triangle, up
+from worked import down, triangle, up
 from reference import play
 
 

@@ -1,6 +1,6 @@
 """The verdicts that the soundness check owes on damaged tables, worked out from document 01 alone.
 
-`python3 oracle/damaged.py` writes crates/damaged/stdout; with --check it says
+`python3 oracle/damaged.py` writes crates/test_damaged/stdout; with --check it says
 whether the stored file is what it would write.
 """
 
@@ -8,7 +8,7 @@ import sys
 from pathlib import Path
 
 RADIOS, NEIGHBOURS, ROW = 512, 32, 64
-OUT = Path(__file__).parent.parent / "crates/damaged/stdout"
+OUT = Path(__file__).parent.parent / "crates/test_damaged/stdout"
 
 
 def table(n, bits):
@@ -84,6 +84,6 @@ CASES = [
 text = "".join(f"{name} {number} {value}\n" for name, (number, value) in CASES)
 if "--check" in sys.argv:
     same = OUT.read_text() == text
-    print("crates/damaged/stdout:", "as written by this program" if same else "DIFFERENT")
+    print("crates/test_damaged/stdout:", "as written by this program" if same else "DIFFERENT")
     sys.exit(not same)
 OUT.write_text(text)

@@ -1,6 +1,6 @@
-"""What crates/cases prints: document 01's cases that are not marked, worked out from it alone.
+"""What crates/test_edges prints: document 01's cases that are not marked, worked out from it alone.
 
-  python3 oracle/edges.py           write crates/cases/stdout
+  python3 oracle/edges.py           write crates/test_edges/stdout
   python3 oracle/edges.py --check   say whether the stored file is what would be written
 """
 
@@ -11,7 +11,7 @@ import reference
 from peeled import Site
 from questions import RADIOS
 
-OUT = Path(__file__).resolve().parent.parent / "crates/cases/stdout"
+OUT = Path(__file__).resolve().parent.parent / "crates/test_edges/stdout"
 UNWRITTEN = 7777
 
 SHAPES = {
@@ -60,6 +60,6 @@ for name, n in CASES:
 text += "canary 1\n"  # a byte written where none may be
 if "--check" in sys.argv:
     same = OUT.read_text() == text
-    print("crates/cases/stdout:", "as written by this program" if same else "DIFFERENT")
+    print("crates/test_edges/stdout:", "as written by this program" if same else "DIFFERENT")
     sys.exit(not same)
 OUT.write_text(text)

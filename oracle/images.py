@@ -1,6 +1,6 @@
 """The lines that the program `images` owes, worked out from document 01 alone.
 
-`python3 oracle/images.py` writes crates/images/stdout; with --check it says
+`python3 oracle/images.py` writes crates/test_images/stdout; with --check it says
 whether the stored file is what it would write. Writer, reader and numbers are
 this file's own: an image is accepted when it is, byte for byte, the image
 written of the site that its entries tell, and that site is sound by numbers
@@ -14,7 +14,7 @@ RADIOS, NEIGHBOURS, ROW, BLOCK = 512, 32, 64, 512
 MODULUS, BASE = 4294967291, 65599  # of the digest that the program prints
 BYTE, ENTRY = 165, 42405  # the pattern that tables and buffers hold before a call
 BUFFER = 36864  # the bytes of the program's buffer
-OUT = Path(__file__).parent.parent / "crates/images/stdout"
+OUT = Path(__file__).parent.parent / "crates/test_images/stdout"
 
 
 def digest(h, values):
@@ -193,9 +193,10 @@ def blocks_lines(image):
     line("blocks", at, number, given, ends, h)
     h = 0
     for at in range(count + 2):
-        status = number or (256 if at >= count else 0)
-        after = at if status else at + 1
-        h = digest(h, [0, status, after, after] + ([] if status else image[BLOCK * at + 4:BLOCK * at + 508]))
+        end = int(not number and at >= count)
+        kept = number or end
+        after = at if kept else at + 1
+        h = digest(h, [0, number, end, after, after] + ([] if kept else image[BLOCK * at + 4:BLOCK * at + 508]))
     line("held", h)
 
 
@@ -328,6 +329,6 @@ def work_out():
 text = work_out()
 if "--check" in sys.argv:
     same = OUT.read_text() == text
-    print("crates/images/stdout:", "as written by this program" if same else "DIFFERENT")
+    print("crates/test_images/stdout:", "as written by this program" if same else "DIFFERENT")
     sys.exit(not same)
 OUT.write_text(text)

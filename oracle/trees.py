@@ -1,6 +1,6 @@
 """Shell trees, connected cores and backbones of sites, worked out from document 01 alone.
 
-  python3 oracle/trees.py           write crates/trees/data and crates/trees/stdout
+  python3 oracle/trees.py           write crates/test_trees/data and crates/test_trees/stdout
   python3 oracle/trees.py --check   say whether the stored files are what would be written
 
 A connected core is a part of the radios with number k or more. The tree is made by comparing

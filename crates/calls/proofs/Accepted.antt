@@ -13,53 +13,59 @@ use mathlib.Core.Path.{_≡_, refl, sym, ap, ap₂, subst, _∙_}
 use mathlib.Core.Logic.{_⊎_, inl, inr, _↔_}
 use mathlib.Core.Bool.{Bool, true, false, cond}
 use mathlib.Core.List.{List}
-use Prim.Native.Nat.{ℕ, _*_, _/_, _≤_, _<_}
+use Prim.Native.Nat.{ℕ, _/_, _<_}
 use native.Mathlib.Omega.{arith}
 use lib.Dec.{ltb}
 use lib.ListN.{length, getD, take, drop, List·getD-append}
 use lib.Seq.{ext-getD}
 use borrow.Author.Tests.{ltb-true, ltb-false}
-use Rattle.mesh.specs.Limits.{max-radios, max-neighbours}
-use Rattle.mesh.specs.Lists.{range, overwrite, Ascending}
+use Rattle.mesh.specs.Limits.{max-neighbours}
+use Rattle.lists.specs.Lists.{range, overwrite, Ascending, Entries-below}
 use Rattle.mesh.specs.Graph.{Graph, radios, relinked}
 use Rattle.mesh.specs.Cores.{Core, number, numbers}
 use Rattle.mesh.specs.Orders.{is-k-order}
 use Rattle.mesh.specs.Levels.{changed}
-use Rattle.mesh.specs.Tables.{Tables, tables, graph-in, tables-of, Entries-below, Tables-of-size}
+use Rattle.mesh.specs.Tables.{Tables, graph-in, tables-of, Tables-of-size}
 use Rattle.mesh.specs.Sound.{sound}
 use Rattle.mesh.specs.Connected.{core-of, backbone}
 use Rattle.mesh.specs.Tree.{tree, node-name, node-names}
 use Rattle.mesh.specs.Image.{block-bytes, image-of, image-graph, image-order, whole-blocks, checks-good, is-image, Tables-image, payload-at}
 use Rattle.mesh.specs.declared.Node.{Node}
-use Rattle.mesh.proofs.BoolLaws.{never}
-use Rattle.mesh.proofs.ListLaws.{length-map, length-range, getD-map-range, take-overwrite, drop-overwrite}
-use Rattle.mesh.proofs.Peeling.{number-core, number-unique, length-numbers, getD-numbers}
-use Rattle.mesh.proofs.ReadBack.{graph-in-links-table}
-use Rattle.mesh.proofs.Soundness.{sound-iff, valid-sound}
-use Rattle.mesh.proofs.Sites.{image-valid}
-use Rattle.mesh.proofs.Reach.{core-of-iff}
-use Rattle.mesh.proofs.TreeUnique.{tree-iff, node-name-iff}
-use Rattle.mesh.proofs.ListedRadios.{changed-ascending, core-ascending, backbone-ascending, backbone-iff}
-use Rattle.mesh.proofs.LinkTables.{graph-in-put-link, rows-put-link}
-use Rattle.mesh.proofs.LinkLaws.{link-valid}
-use Rattle.mesh.proofs.ImageOf.{length-image-of, whole-blocks-image-of, checks-good-image-of}
-use Rattle.mesh.proofs.ImageSites.{written-read}
-use Rattle.mesh.proofs.ImageTables.{valid-graph-in, is-image-sound, is-image-tables, tables-read-written}
-use Rattle.mesh.proofs.Valid.{Valid}
+use Rattle.lists.proofs.Tests.{never}
+use Rattle.lists.proofs.Map.{length-map, getD-map-range}
+use Rattle.lists.proofs.Range.{length-range}
+use Rattle.lists.proofs.Overwrite.{take-overwrite, drop-overwrite}
+use Rattle.mesh.proofs.Cores.Peeling.{number-core, number-unique, length-numbers, getD-numbers}
+use Rattle.mesh.proofs.Tables.ReadBack.{graph-in-links-table}
+use Rattle.mesh.proofs.Tables.Soundness.{sound-iff, valid-sound}
+use Rattle.mesh.proofs.Tables.Sites.{image-valid}
+use Rattle.mesh.proofs.Trees.Reach.{core-of-iff}
+use Rattle.mesh.proofs.Trees.Unique.{tree-iff, node-name-iff}
+use Rattle.mesh.proofs.Trees.Listed.{changed-ascending, core-ascending, backbone-ascending, backbone-iff}
+use Rattle.mesh.proofs.Links.Tables.{graph-in-put-link, rows-put-link}
+use Rattle.mesh.proofs.Links.Laws.{link-valid}
+use Rattle.mesh.proofs.Images.Of.{length-image-of, whole-blocks-image-of, checks-good-image-of}
+use Rattle.mesh.proofs.Images.Sites.{written-read}
+use Rattle.mesh.proofs.Images.Tables.{valid-graph-in, is-image-sound, is-image-tables, tables-read-written}
+use Rattle.mesh.specs.Valid.{Valid}
 use Rattle.calls.specs.Questions.{ask, By-number, lengths-of, size-good, site-lengths, image-length, lent-refusal, tables-refusal, link-refusal}
-use Rattle.calls.specs.Questions.{radio-refusal, core-refusal, backbone-refusal, tree-refusal, write-refusal, blocks-refusal}
-use Rattle.calls.specs.Questions.{image-refusal, read-refusal, block-refusal}
-use Rattle.calls.specs.Writes.{Tables-refused, Link-accepted, Link-refused, Link-contract, Read-accepted, Read-contract}
-use Rattle.calls.specs.Answers.{Value-accepted, Value-refused, Check-contract, Number-contract, Listing-accepted, Listing-refused, Core-contract}
-use Rattle.calls.specs.Answers.{Backbone-contract, Write-contract, Tree-accepted, Tree-refused, Tree-contract, Block-none, Block-accepted, Block-contract}
-use Rattle.calls.specs.Results.{Numbers-right, Site-right, Listed, Link-right, Core-listed, Backbone-listed, Tree-listed}
-use Rattle.calls.specs.Results.{Written-right, Read-right, Block-part, Block-end}
+use Rattle.calls.specs.Questions.{radio-refusal, core-refusal, backbone-refusal, tree-refusal, write-refusal, blocks-refusal, image-refusal, read-refusal}
+use Rattle.calls.specs.Questions.{block-refusal}
+use Rattle.calls.specs.Contracts.Forms.{Tables-refused, Value-accepted, Value-refused, Listing-accepted, Listing-refused}
+use Rattle.calls.specs.Contracts.Links.{Link-accepted, Link-refused, Link-contract}
+use Rattle.calls.specs.Contracts.Images.{Read-accepted, Read-contract, Write-contract, Block-none, Block-accepted, Block-contract}
+use Rattle.calls.specs.Contracts.Sites.{Check-contract}
+use Rattle.calls.specs.Contracts.Radios.{Number-contract}
+use Rattle.calls.specs.Contracts.Cores.{Core-contract, Backbone-contract}
+use Rattle.calls.specs.Contracts.Trees.{Tree-accepted, Tree-refused, Tree-contract}
+use Rattle.calls.specs.Results.{Numbers-right, Site-right, Listed, Link-right, Core-listed, Backbone-listed, Tree-listed, Written-right, Read-right}
+use Rattle.calls.specs.Results.{Block-part, Block-end}
 use Rattle.calls.specs.declared.Reply.{Reply}
 use Rattle.calls.specs.declared.Value.{Value}
 use Rattle.calls.specs.declared.Block.{Block}
 use Rattle.calls.proofs.ContractLaws.{by-cases, by-zero}
 use Rattle.calls.proofs.QuestionLaws.{size-good-true}
-use Rattle.calls.proofs.ChainLaws.{Lent-good, lent-zero, Site-good, link-zero, radio-zero, core-zero, write-zero, read-zero, read-yes}
+use Rattle.calls.proofs.ChainLaws.{lent-zero, Site-good, link-zero, radio-zero, core-zero, write-zero, read-zero, read-yes}
 use Rattle.calls.proofs.RecordLaws.{tables-ext}
 
 -- ---- the number 0 is no refusal
@@ -79,8 +85,8 @@ front new old k x e f = ap₂ (λ (i : ℕ) (ys : List ℕ). take i ys) e f ∙ 
 later : (new old : List ℕ) (k : ℕ) (x : List ℕ) → k ≡ length new → x ≡ overwrite new old → drop k x ≡ drop k old
 later new old k x e f = rw (e, f) (drop-overwrite new old)
 
-in-front : (new old : List ℕ) (k : ℕ) (x : List ℕ) → k ≡ length new → x ≡ overwrite new old → Ascending new → Listed k old x
-in-front new old k x e f a = record { ascending = rw (front new old k x e f) a; later-entries = later new old k x e f }
+listed-front : (new old : List ℕ) (k : ℕ) (x : List ℕ) → k ≡ length new → x ≡ overwrite new old → Ascending new → Listed k old x
+listed-front new old k x e f a = record { ascending = rw (front new old k x e f) a; later-entries = later new old k x e f }
 
 -- ---- link calls
 
@@ -105,7 +111,7 @@ link-right up n a b t w r v x d z =
         rows = rw (c .1 .links) (rows-put-link up n a b t (good .0 .lent .most) (good .0 .lent .lengths .links) (good .0 .is-sound) (good .1));
         right = rw after (numbers-right (relinked up a b g) v (c .1 .numbers) (ap (is-k-order (relinked up a b g)) (c .1 .order) ∙ valid .k-order));
       };
-      listed = in-front (changed up a b g) w (r .count) x (c .1 .count) (c .1 .answer) (changed-ascending up a b g);
+      listed = listed-front (changed up a b g) w (r .count) x (c .1 .count) (c .1 .answer) (changed-ascending up a b g);
     }
 
 -- ---- the soundness check, and a radio's number
@@ -157,7 +163,7 @@ core-right n v k t w r x d z =
     let good = core-zero n v k (lengths-of t) (length w) (sound n t) g (c .0) in
     record {
       exactly = rw (front new w (r .value) x (c .1 .value) (c .1 .lent)) (core-of-iff g v k (good .1));
-      listed = in-front new w (r .value) x (c .1 .value) (c .1 .lent) (core-ascending g v k (good .1));
+      listed = listed-front new w (r .value) x (c .1 .value) (c .1 .lent) (core-ascending g v k (good .1));
     }
 
 pub backbone-right : (n : ℕ) (t : Tables) (w : List ℕ) (r : Value) (x : List ℕ) → Backbone-contract n t w r x → r .number ≡ 0
@@ -170,7 +176,7 @@ backbone-right n t w r x d z =
     (λ q. Listing-refused q w r x) (r .number) (λ q e. e .number) d z in
     record {
       exactly = rw (front new w (r .value) x (c .1 .value) (c .1 .lent)) (backbone-iff g);
-      listed = in-front new w (r .value) x (c .1 .value) (c .1 .lent) (backbone-ascending g);
+      listed = listed-front new w (r .value) x (c .1 .value) (c .1 .lent) (backbone-ascending g);
     }
 
 -- ---- the shell tree
@@ -183,7 +189,7 @@ getD-node-names : (g : Graph) (w : List ℕ) (v : ℕ) → v < g .n → getD (ov
 unfolding overwrite node-names radios
 getD-node-names g w v l =
     List·getD-append (node-names g) (drop (length (node-names g)) w) 0 v (omega (arith, length-node-names g))
-    ∙ getD-map-range (node-name g) 0 (g .n) v l ∙ ap (node-name g) (omega arith)
+    ∙ getD-map-range 0 (node-name g) 0 (g .n) v l ∙ ap (node-name g) (omega arith)
 
 listed-tree : (g : Graph) (count : ℕ) (m p : List Node) (w x : List ℕ) → count ≡ length (tree g) → p ≡ overwrite (tree g) m
     → x ≡ overwrite (node-names g) w → Tree-listed g count m p w x

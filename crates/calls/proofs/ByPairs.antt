@@ -1,13 +1,13 @@
 -- Outcomes on tables that hold the book's pairs: questions 1 to 3 get yes, and the rest is what the graph of the pairs gives.
 --   link-by-pairs .. tree-by-pairs   the outcome of each call that a worked case makes
-use mathlib.Core.Path.{_≡_, refl, ap, sym, _∙_}
+use mathlib.Core.Path.{_≡_, refl, ap, _∙_}
 use mathlib.Core.Bool.{Bool, true, _&&_}
 use mathlib.Core.List.{List}
 use Prim.Native.Nat.{ℕ, _+_, _≤_}
 use lib.IntN.{pos}
 use lib.ListN.{length}
 use Rattle.mesh.specs.Limits.{max-neighbours}
-use Rattle.mesh.specs.Lists.{overwrite}
+use Rattle.lists.specs.Lists.{overwrite}
 use Rattle.mesh.specs.Graph.{Link, Graph, graph}
 use Rattle.mesh.specs.Levels.{changed, step-of}
 use Rattle.mesh.specs.Tables.{Tables, graph-in, tables-of}
@@ -16,16 +16,15 @@ use Rattle.mesh.specs.Connected.{core-of, backbone}
 use Rattle.mesh.specs.Tree.{tree, node-names}
 use Rattle.mesh.specs.Image.{image-of}
 use Rattle.mesh.specs.declared.Node.{Node}
-use Rattle.mesh.proofs.Peeling.{length-numbers}
-use Rattle.mesh.proofs.TableLaws.{length-links-table}
-use Rattle.mesh.proofs.ImageSites.{length-order}
-use Rattle.calls.specs.Questions.{lengths-of, answer-length, nodes-length, image-length, holds-image, ask, ends-refusal, level-refusal}
-use Rattle.calls.specs.Questions.{site-refusal, link-refusal, core-refusal, backbone-refusal, tree-refusal, write-refusal}
+use Rattle.mesh.proofs.Cores.Peeling.{length-numbers}
+use Rattle.mesh.proofs.Tables.Laws.{length-links-table}
+use Rattle.mesh.proofs.Images.Sites.{length-order}
+use Rattle.calls.specs.Questions.{lengths-of, answer-length, nodes-length, image-length, holds-image, ask, ends-refusal, level-refusal, site-refusal}
+use Rattle.calls.specs.Questions.{link-refusal, core-refusal, backbone-refusal, tree-refusal, write-refusal}
 use Rattle.calls.specs.Switches.{switch, switched}
-use Rattle.calls.specs.Outcomes.{by-number, reply, value, link-outcome, listing-outcome, core-outcome, backbone-outcome}
-use Rattle.calls.specs.Outcomes.{write-outcome, tree-outcome}
+use Rattle.calls.specs.Outcomes.{by-number, reply, value, link-outcome, listing-outcome, core-outcome, backbone-outcome, write-outcome, tree-outcome}
 use Rattle.calls.proofs.QuestionLaws.{Site-lengths, ask-yes, true-answer-length, true-nodes-length, true-holds-image}
-use Rattle.calls.proofs.ChainLaws.{Site-good, site-yes}
+use Rattle.calls.proofs.ChainLaws.{site-yes}
 use Rattle.calls.proofs.Holds.{Holds, read-back, is-sound}
 
 module _ (n : ℕ) (ps : List Link) (t : Tables) (k : Holds n ps t) (least : 1 ≤ n) where
@@ -58,10 +57,7 @@ module _ (n : ℕ) (ps : List Link) (t : Tables) (k : Holds n ps t) (least : 1 �
       (λ q. (reply q (pos 0) 0, t, w))
   unfolding link-outcome link-refusal
   link-by-pairs up a b w l =
-      rw (
-        later-asked (answer-length n (length w)) (λ h. ends-refusal max-neighbours up n a b h) (true-answer-length n (length w) l),
-        read-back n ps t k,
-      )
+      rw (later-asked (answer-length n (length w)) (λ h. ends-refusal max-neighbours up n a b h) (true-answer-length n (length w) l), read-back n ps t k)
 
   pub core-by-pairs :
       (v i : ℕ) (w : List ℕ) → n ≤ length w → let radios = core-of g v i in

@@ -6,13 +6,13 @@ use mathlib.Core.Bool.{Bool, true, false}
 use mathlib.Core.List.{List, [], _∷_, _++_}
 use Prim.Native.Nat.{ℕ, _<_}
 use native.Mathlib.Omega.{arith}
-use Rattle.mesh.specs.Lists.{member}
+use Rattle.lists.specs.Lists.{member}
 use Rattle.mesh.specs.Graph.{Link, graph}
 use Rattle.mesh.specs.Cores.{Core}
 use Rattle.mesh.specs.Tables.{Tables}
 use Rattle.mesh.specs.Sound.{number-in}
-use Rattle.mesh.proofs.BoolLaws.{bool-cases}
-use Rattle.mesh.proofs.Certificate.{core-unique}
+use Rattle.lists.proofs.Tests.{bool-cases}
+use Rattle.mesh.proofs.Cores.Certificate.{core-unique}
 use Rattle.calls.specs.Book.{Call, linking, Answer, book-after}
 use Rattle.calls.specs.Runs.{Does, Event, event, Run, ended, next, givens}
 use Rattle.calls.specs.Demand.{By-one, Link-kept, Start, Kept, Demand-3}

@@ -10,22 +10,23 @@ use mathlib.Core.List.{List, [], _∷_, _++_}
 use Prim.Native.Nat.{ℕ, _≤_}
 use lib.ListN.{length}
 use Rattle.mesh.specs.Limits.{max-radios, max-neighbours}
-use Rattle.mesh.specs.Lists.{range}
+use Rattle.lists.specs.Lists.{range}
 use Rattle.mesh.specs.Graph.{Link, Graph, graph, relinked, new-links}
 use Rattle.mesh.specs.Levels.{changed, new-order}
 use Rattle.mesh.specs.Tables.{Tables, graph-in, tables-of}
 use Rattle.mesh.specs.Sound.{sound}
 use Rattle.mesh.specs.Image.{image-graph, image-links, image-order}
-use Rattle.mesh.proofs.Peeling.{length-numbers}
-use Rattle.mesh.proofs.TableLaws.{links-table-cleared}
-use Rattle.mesh.proofs.ReadBack.{graph-in-links-table}
-use Rattle.mesh.proofs.Soundness.{valid-sound}
-use Rattle.mesh.proofs.Sites.{valid-cleared, numbers-cleared, image-valid}
-use Rattle.mesh.proofs.LinkLaws.{link-valid, link-table}
-use Rattle.mesh.proofs.Valid.{Valid, Allowed}
+use Rattle.mesh.proofs.Cores.Peeling.{length-numbers}
+use Rattle.mesh.proofs.Tables.Laws.{links-table-cleared}
+use Rattle.mesh.proofs.Tables.ReadBack.{graph-in-links-table}
+use Rattle.mesh.proofs.Tables.Soundness.{valid-sound}
+use Rattle.mesh.proofs.Tables.Sites.{valid-cleared, numbers-cleared, image-valid}
+use Rattle.mesh.proofs.Links.Laws.{link-valid, link-table}
+use Rattle.mesh.specs.Valid.{Valid, Allowed}
 use Rattle.calls.specs.Questions.{lengths-of, site-refusal, tables-refusal, read-refusal}
 use Rattle.calls.specs.Switches.{Switch, pairs-after, switched, tables-after}
-use Rattle.calls.specs.Writes.{Clear-accepted, Read-accepted}
+use Rattle.calls.specs.Contracts.Sites.{Clear-accepted}
+use Rattle.calls.specs.Contracts.Images.{Read-accepted}
 use Rattle.calls.specs.Book.{reported}
 use Rattle.calls.specs.Demand.{Link-kept, Switching, ended, next}
 use Rattle.calls.proofs.ChainLaws.{Lent-good, lent-zero, lent-later, read-zero}
@@ -55,12 +56,7 @@ pub read-holds :
 unfolding read-refusal tables-of image-graph
 read-holds m bs r t v p d =
     let q = read-zero m (lengths-of t) bs p in
-    record {
-      most = q .0 .most;
-      xs = image-order m bs;
-      valid = image-valid m bs (q .0 .most) (q .2);
-      is = tables-ext v _ (d .links) (d .numbers) (d .order);
-    }
+    record { most = q .0 .most; xs = image-order m bs; valid = image-valid m bs (q .0 .most) (q .2); is = tables-ext v _ (d .links) (d .numbers) (d .order) }
 
 -- ---- tables that hold the pairs
 

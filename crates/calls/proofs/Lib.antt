@@ -21,5 +21,3 @@ pub mod WorkedState
 pub mod WorkedLaws
 pub mod Cases
 pub mod Accepted
--- decimal digits, for the script and the printer
-pub mod DecimalLaws

@@ -1,5 +1,5 @@
 -- What an accepted link call on a valid site keeps, as demand 3 states it: the theory of mesh, said of tables.
-use mathlib.Core.Path.{_≡_, refl, ap, sym, _∙_}
+use mathlib.Core.Path.{_≡_, refl, sym, _∙_}
 use mathlib.Core.Logic.{_⊎_, inl, inr}
 use mathlib.Core.Bool.{Bool, true, false}
 use mathlib.Core.List.{List}
@@ -9,17 +9,17 @@ use lib.Dec.{ltb}
 use lib.ListN.{length, List·getD-eq-default}
 use borrow.Author.Tests.{ltb-true, ltb-false}
 use Rattle.mesh.specs.Limits.{max-radios, max-neighbours}
-use Rattle.mesh.specs.Lists.{member}
+use Rattle.lists.specs.Lists.{member}
 use Rattle.mesh.specs.Graph.{Graph, relinked}
 use Rattle.mesh.specs.Cores.{number, numbers}
 use Rattle.mesh.specs.Levels.{changed, lower-level, new-order}
 use Rattle.mesh.specs.Tables.{tables-of}
 use Rattle.mesh.specs.Sound.{number-in}
-use Rattle.mesh.proofs.BoolLaws.{bool-cases}
-use Rattle.mesh.proofs.Peeling.{length-numbers, getD-numbers}
-use Rattle.mesh.proofs.Valid.{Valid, Allowed, smaller, larger}
-use Rattle.mesh.proofs.LinkCall.{changed-below, unchanged-number}
-use Rattle.mesh.proofs.LinkLaws.{link-level, link-by-one, link-connected, link-has-end, link-below, link-above, link-stretch, link-table}
+use Rattle.lists.proofs.Tests.{bool-cases}
+use Rattle.mesh.proofs.Cores.Peeling.{length-numbers, getD-numbers}
+use Rattle.mesh.specs.Valid.{Valid, Allowed, smaller, larger}
+use Rattle.mesh.proofs.Links.Call.{changed-below, unchanged-number}
+use Rattle.mesh.proofs.Links.Laws.{link-level, link-by-one, link-connected, link-has-end, link-below, link-above, link-stretch, link-table}
 use Rattle.calls.specs.Book.{reported}
 use Rattle.calls.specs.Demand.{By-one, graph-with-link, Changed-end, Link-kept}
 

@@ -8,10 +8,9 @@ use borrow.Author.Tests.{ltb-true, leb-true, eqb-true, eqb-false, lt-ltb, le-leb
 use Rattle.mesh.specs.Limits.{max-radios, row-bytes}
 use Rattle.mesh.specs.Graph.{Graph, linked, degree}
 use Rattle.mesh.specs.Cores.{number}
-use Rattle.mesh.proofs.BoolLaws.{never, and-left, and-right, and-both}
-use Rattle.calls.specs.Questions.{ask, Lengths, size-good, site-lengths, answer-length, nodes-length}
-use Rattle.calls.specs.Questions.{is-radio, are-radios, ends-differ, can-switch, has-room, has-level}
-use Rattle.calls.specs.Questions.{image-length, holds-image}
+use Rattle.lists.proofs.Tests.{never, and-left, and-right, and-both}
+use Rattle.calls.specs.Questions.{ask, Lengths, size-good, site-lengths, answer-length, nodes-length, is-radio, are-radios, ends-differ, can-switch}
+use Rattle.calls.specs.Questions.{has-room, has-level, image-length, holds-image}
 
 -- ---- one question
 
@@ -39,10 +38,7 @@ ask-later r false x y e = refl
 
 pub size-good-true : (n : ℕ) → size-good n ≡ true → (1 ≤ n) × (n ≤ max-radios)
 unfolding size-good
-size-good-true n p = (
-  leb-true 1 n (and-left (leb 1 n) (leb n max-radios) p),
-  leb-true n max-radios (and-right (leb 1 n) (leb n max-radios) p),
-)
+size-good-true n p = (leb-true 1 n (and-left (leb 1 n) (leb n max-radios) p), leb-true n max-radios (and-right (leb 1 n) (leb n max-radios) p))
 
 pub true-size-good : (n : ℕ) → 1 ≤ n → n ≤ max-radios → size-good n ≡ true
 unfolding size-good

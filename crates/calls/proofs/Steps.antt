@@ -8,23 +8,23 @@ use mathlib.Core.Bool.{Bool, true}
 use mathlib.Core.List.{List, [], _∷_}
 use mathlib.Core.Option.{Option, none, some}
 use Prim.Native.Nat.{ℕ, zero, suc}
-use native.Mathlib.Omega.{arith}
 use lib.ListN.{length}
 use lib.IntN.{pos}
 use Rattle.mesh.specs.Limits.{max-neighbours}
-use Rattle.mesh.specs.Lists.{overwrite}
+use Rattle.lists.specs.Lists.{overwrite}
 use Rattle.mesh.specs.Graph.{Link, Graph, graph}
 use Rattle.mesh.specs.Levels.{changed, step-of}
 use Rattle.mesh.specs.Tables.{Tables, graph-in}
-use Rattle.mesh.specs.Sound.{sound}
 use Rattle.mesh.specs.Image.{image-links}
-use Rattle.mesh.proofs.ListLaws.{take-overwrite}
-use Rattle.mesh.proofs.Valid.{Allowed}
+use Rattle.lists.proofs.Overwrite.{take-overwrite}
 use Rattle.calls.specs.Questions.{By-number, lengths-of, answer-length, ends-refusal, tables-refusal, link-refusal, read-refusal}
 use Rattle.calls.specs.Switches.{Switch, switch, pairs-after, switched, tables-after}
-use Rattle.calls.specs.Writes.{Tables-refused, Clear-accepted, Clear-contract, Link-accepted, Link-refused, Link-contract, Read-accepted, Read-contract}
-use Rattle.calls.specs.Book.{Call, clearing, reading, linking, other, Answer, plain, reported}
-use Rattle.calls.specs.Book.{Outcome, outcome-of, unless-refused, outcome, first-pairs, pairs-of}
+use Rattle.calls.specs.Contracts.Forms.{Tables-refused}
+use Rattle.calls.specs.Contracts.Sites.{Clear-accepted, Clear-contract}
+use Rattle.calls.specs.Contracts.Links.{Link-accepted, Link-refused, Link-contract}
+use Rattle.calls.specs.Contracts.Images.{Read-accepted, Read-contract}
+use Rattle.calls.specs.Book.{Call, clearing, reading, linking, other, Answer, plain, reported, Outcome, outcome-of, unless-refused, outcome, first-pairs}
+use Rattle.calls.specs.Book.{pairs-of}
 use Rattle.calls.specs.Runs.{answer-of, Does}
 use Rattle.calls.specs.Demand.{ended, Call-kept, Start, cleared, read}
 use Rattle.calls.specs.declared.Reply.{Reply}

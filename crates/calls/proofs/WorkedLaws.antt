@@ -3,7 +3,7 @@
 --   by-state      a row that is right on pairs and order is right over the outcomes, whatever the lent tables held
 -- In order: what is lent, what calls answer, the state, link calls, what is wanted, rows.
 use mathlib.Core.Path.{_≡_, refl, ap, sym, _∙_}
-use mathlib.Core.Bool.{Bool, true, false, _&&_}
+use mathlib.Core.Bool.{true, false, _&&_}
 use mathlib.Core.List.{List, [], _∷_, _++_, flatMap}
 use Prim.Native.Nat.{ℕ, zero, suc, _+_, _*_, _≤_}
 use native.Mathlib.Omega.{arith}
@@ -12,7 +12,7 @@ use lib.IntN.{pos}
 use lib.ListN.{length, take, length-map}
 use borrow.Author.Tests.{eqb-true, eq-eqb}
 use Rattle.mesh.specs.Limits.{max-neighbours, row-bytes}
-use Rattle.mesh.specs.Lists.{range, same, overwrite}
+use Rattle.lists.specs.Lists.{range, same, overwrite}
 use Rattle.mesh.specs.Graph.{Graph, graph, radios}
 use Rattle.mesh.specs.Levels.{changed, step-of}
 use Rattle.mesh.specs.Tables.{Tables, graph-in, tables-of}
@@ -20,16 +20,17 @@ use Rattle.mesh.specs.Connected.{core-of, backbone}
 use Rattle.mesh.specs.Tree.{node, node-name, tree, node-names}
 use Rattle.mesh.specs.Image.{long, image-of}
 use Rattle.mesh.specs.declared.Node.{Node}
-use Rattle.mesh.proofs.BoolLaws.{never, and-left, and-right, and-both}
-use Rattle.mesh.proofs.ListLaws.{length-range, same-refl, same-eq, take-overwrite}
-use Rattle.mesh.proofs.ImageOf.{length-image-of}
+use Rattle.lists.proofs.Tests.{never, and-left, and-right, and-both}
+use Rattle.lists.proofs.Range.{length-range}
+use Rattle.lists.proofs.All.{same-refl, same-eq}
+use Rattle.lists.proofs.Overwrite.{take-overwrite}
+use Rattle.mesh.proofs.Images.Of.{length-image-of}
 use Rattle.calls.specs.Questions.{lengths-of, size-good, level-refusal, image-length, tables-refusal, ends-refusal, read-refusal}
 use Rattle.calls.specs.Switches.{Switch, switched}
 use Rattle.calls.specs.Outcomes.{by-number, reply, value, listing-outcome, clear-outcome, read-outcome, write-outcome, tree-outcome}
-use Rattle.calls.specs.Worked.{entries, lent-tables, lent-nodes, Left, left, left-by, played, after, Want, last-answers, all-numbers}
-use Rattle.calls.specs.Worked.{whole-order, shell-tree, connected-core, backbone-radios, image-checks, printed, soundness}
-use Rattle.calls.specs.Worked.{image-reading, same-nodes, block-checks, is-value, is-listing, image-written, meets, meets-all}
-use Rattle.calls.specs.Worked.{Row, right, Right, All-right}
+use Rattle.calls.specs.Worked.{entries, lent-tables, lent-nodes, Left, left, left-by, played, after, Want, last-answers, all-numbers, whole-order}
+use Rattle.calls.specs.Worked.{shell-tree, connected-core, backbone-radios, image-checks, printed, soundness, image-reading, same-nodes, block-checks}
+use Rattle.calls.specs.Worked.{is-value, is-listing, image-written, meets, meets-all, Row, right, Right, All-right}
 use Rattle.calls.specs.declared.Reply.{Reply}
 use Rattle.calls.specs.declared.Value.{Value}
 use Rattle.calls.proofs.QuestionLaws.{size-good-true}
@@ -37,8 +38,8 @@ use Rattle.calls.proofs.ChainLaws.{lent-yes, ends-zero}
 use Rattle.calls.proofs.Holds.{Holds, clear-holds, read-back, switched-holds}
 use Rattle.calls.proofs.Steps.{answer-accepted, answer-refused}
 use Rattle.calls.proofs.ByPairs.{link-by-pairs, core-by-pairs, backbone-by-pairs, write-by-pairs, tree-by-pairs}
-use Rattle.calls.proofs.WorkedState.{State, state, carried-out, state-played, state-after, right-lengths, state-meets}
-use Rattle.calls.proofs.WorkedState.{state-meets-all, state-right, all-state-right}
+use Rattle.calls.proofs.WorkedState.{State, state, carried-out, state-played, state-after, right-lengths, state-meets, state-meets-all, state-right}
+use Rattle.calls.proofs.WorkedState.{all-state-right}
 
 -- ---- what is lent
 
@@ -163,11 +164,7 @@ module _ (f : ℕ → ℕ) (n : ℕ) (size : size-good n ≡ true) where
       order = rw (read-back n (q .pairs) (s .tables) (k .holds), k .order);
       answers = rw (k .answers, answer-accepted (c .up) _ changes (entries f n) _ refl refl refl refl);
     }
-    alike-by (suc x) e = record {
-      holds = k .holds;
-      order = k .order;
-      answers = rw (k .answers, answer-refused _ (suc x) (entries f n) refl refl refl);
-    }
+    alike-by (suc x) e = record { holds = k .holds; order = k .order; answers = rw (k .answers, answer-refused _ (suc x) (entries f n) refl refl refl) }
 
     alike-played : Alike n (state-played n c q) (played f n c s)
     unfolding played state-played

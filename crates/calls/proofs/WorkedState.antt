@@ -10,31 +10,29 @@ use Prim.Native.Nat.{ℕ, zero, suc, _*_, _-_}
 use lib.Dec.{eqb}
 use lib.ListN.{length, drop, take}
 use Rattle.mesh.specs.Limits.{max-neighbours, row-bytes}
-use Rattle.mesh.specs.Lists.{range, count, filter, member, all, same, head-or}
-use Rattle.mesh.specs.Graph.{Link, graph, radios, other-ends, linked, neighbours-among, degree, link, link-before, same-link, with-link}
-use Rattle.mesh.specs.Graph.{without-link, new-links, relinked, proper, ascending}
+use Rattle.lists.specs.Lists.{range, count, filter, member, all, same, head-or}
+use Rattle.mesh.specs.Graph.{Link, graph, radios, other-ends, linked, neighbours-among, degree, link, link-before, same-link, with-link, without-link}
+use Rattle.mesh.specs.Graph.{new-links, relinked, proper, ascending}
 use Rattle.mesh.specs.Cores.{survivors, peeled, cores-from, cores, depth, number, numbers}
-use Rattle.mesh.specs.Levels.{changed, step-of, lower-level, stretch-start, stretch-length, first-fitting, without, laid-out, stretch-up}
-use Rattle.mesh.specs.Levels.{stretch-down, new-stretch, with-stretch, new-order}
+use Rattle.mesh.specs.Levels.{changed, step-of, lower-level, stretch-start, stretch-length, first-fitting, without, laid-out, stretch-up, stretch-down}
+use Rattle.mesh.specs.Levels.{new-stretch, with-stretch, new-order}
 use Rattle.mesh.specs.Orders.{each-once, rising, few-later}
 use Rattle.mesh.specs.Tables.{tables, digit, byte-at, marked, from-digits, row-of, links-table, tables-of}
 use Rattle.mesh.specs.Sound.{symmetric, irreflexive, within, row-degree, few, rows-proper, enough, sound-within, sound}
 use Rattle.mesh.specs.Connected.{at-least, reached, core-of, greatest, backbone}
 use Rattle.mesh.specs.Tree.{shell, node-name, parent-name, nodes-at, tree, node-names}
-use Rattle.mesh.specs.Image.{word, long, weighted-sum, check-sum, block, blocks-for, order-blocks, block-count, link-bytes, order-payload}
-use Rattle.mesh.specs.Image.{links-payload, block-at, image-of, word-at, entry-at, image-order, image-link, image-links, image-graph}
-use Rattle.mesh.specs.Image.{whole-blocks, block-check, checks-good, is-image}
-use Rattle.calls.specs.Questions.{ask, Lengths, lengths-of, size-good, site-lengths, is-radio, are-radios, ends-differ, can-switch}
-use Rattle.calls.specs.Questions.{has-room, has-level, level-refusal, image-length, lent-refusal, tables-refusal, ends-refusal}
-use Rattle.calls.specs.Questions.{blocks-refusal, image-refusal, read-refusal}
+use Rattle.mesh.specs.Image.{word, long, weighted-sum, check-sum, block, blocks-for, order-blocks, block-count, link-bytes, order-payload, links-payload}
+use Rattle.mesh.specs.Image.{block-at, image-of, word-at, entry-at, image-order, image-link, image-links, image-graph, whole-blocks, block-check, checks-good, is-image}
+use Rattle.calls.specs.Questions.{ask, Lengths, lengths-of, size-good, site-lengths, is-radio, are-radios, ends-differ, can-switch, has-room, has-level}
+use Rattle.calls.specs.Questions.{level-refusal, image-length, lent-refusal, tables-refusal, ends-refusal, blocks-refusal, image-refusal, read-refusal}
 use Rattle.calls.specs.Switches.{Switch}
 use Rattle.calls.specs.Outcomes.{by-number, value-outcome, check-outcome}
 use Rattle.calls.specs.Book.{Answer, plain, reported}
-use Rattle.calls.specs.Replay.{bytes-of, digit-byte, digits-in, decimal, step-text, further-fields, printed-line, link-line}
-use Rattle.calls.specs.Replay.{numbers-line, order-line, closing-lines}
-use Rattle.calls.specs.Worked.{risen, fallen, unchanged, refused, Want, last-answers, all-numbers, whole-order, shell-tree}
-use Rattle.calls.specs.Worked.{connected-core, backbone-radios, image-checks, printed, soundness, image-reading, same-step}
-use Rattle.calls.specs.Worked.{same-answers, same-nodes, block-checks, put-in, answer-line, lines, is-value, Row}
+use Rattle.text.specs.Text.{bytes-of, digit-byte, digits-in, decimal, further-fields, printed-line}
+use Rattle.calls.specs.Replay.{step-text, link-line, numbers-line, order-line, closing-lines}
+use Rattle.calls.specs.Worked.{risen, fallen, unchanged, refused, Want, last-answers, all-numbers, whole-order, shell-tree, connected-core}
+use Rattle.calls.specs.Worked.{backbone-radios, image-checks, printed, soundness, image-reading, same-step, same-answers, same-nodes, block-checks}
+use Rattle.calls.specs.Worked.{put-in, answer-line, lines, is-value, Row}
 
 pub record State : Type 0 where
   pub pairs : List Link

@@ -10,7 +10,7 @@ use lib.Dec.{ltb}
 use lib.IntN.{ℤ, pos}
 use lib.ListN.{length, replicate}
 use Rattle.mesh.specs.Limits.{row-bytes}
-use Rattle.mesh.specs.Lists.{range, overwrite}
+use Rattle.lists.specs.Lists.{range, overwrite}
 use Rattle.mesh.specs.Graph.{linked, degree}
 use Rattle.mesh.specs.Cores.{number}
 use Rattle.mesh.specs.Levels.{changed, step-of}
@@ -20,10 +20,10 @@ use Rattle.mesh.specs.Connected.{core-of, backbone}
 use Rattle.mesh.specs.Tree.{tree, node-names}
 use Rattle.mesh.specs.Image.{block-bytes, payload-bytes, image-of, image-graph, image-order}
 use Rattle.mesh.specs.declared.Node.{Node}
-use Rattle.calls.specs.Questions.{lengths-of, image-length, tables-refusal, link-refusal, read-refusal, radio-refusal}
-use Rattle.calls.specs.Questions.{pair-refusal, core-refusal, backbone-refusal, tree-refusal, write-refusal, block-refusal}
+use Rattle.calls.specs.Questions.{lengths-of, image-length, tables-refusal, link-refusal, read-refusal, radio-refusal, pair-refusal, core-refusal}
+use Rattle.calls.specs.Questions.{backbone-refusal, tree-refusal, write-refusal, block-refusal}
 use Rattle.calls.specs.Switches.{switch, switched}
-use Rattle.calls.specs.Answers.{first-of-two}
+use Rattle.calls.specs.Contracts.Radios.{first-of-two}
 use Rattle.calls.specs.declared.Reply.{Reply}
 use Rattle.calls.specs.declared.Value.{Value}
 use Rattle.calls.specs.declared.Block.{Block}

@@ -16,18 +16,18 @@ use lib.Dec.{eqb}
 use lib.IntN.{ℤ, pos, negsuc}
 use lib.ListN.{length, drop, take, set}
 use Rattle.mesh.specs.Limits.{row-bytes}
-use Rattle.mesh.specs.Lists.{range, same}
+use Rattle.lists.specs.Lists.{range, same}
 use Rattle.mesh.specs.Tables.{Tables, tables, graph-in}
 use Rattle.mesh.specs.Tree.{node}
 use Rattle.mesh.specs.Image.{block-bytes, long}
 use Rattle.mesh.specs.declared.Node.{Node}
 use Rattle.calls.specs.Questions.{image-length}
 use Rattle.calls.specs.Switches.{Switch, switch}
-use Rattle.calls.specs.Outcomes.{clear-outcome, read-outcome, link-outcome, check-outcome, core-outcome, backbone-outcome}
-use Rattle.calls.specs.Outcomes.{write-outcome, tree-outcome}
+use Rattle.calls.specs.Outcomes.{clear-outcome, read-outcome, link-outcome, check-outcome, core-outcome, backbone-outcome, write-outcome, tree-outcome}
 use Rattle.calls.specs.Book.{Answer, plain, reported}
 use Rattle.calls.specs.Runs.{answer-of}
-use Rattle.calls.specs.Replay.{bytes-of, link-line, closing-lines}
+use Rattle.text.specs.Text.{bytes-of}
+use Rattle.calls.specs.Replay.{link-line, closing-lines}
 use Rattle.calls.specs.declared.Reply.{Reply}
 use Rattle.calls.specs.declared.Value.{Value}
 

@@ -1,6 +1,33 @@
 // What each public call promises: the answers' structs, and in specs/ the questions, the named predicate of every call,
 // the link book and demand 3. proofs/ has demand 3, closed. There is no call here: the crates above meet the predicates.
 
+// The numbers of document 01's questions: the first that gets "no" is the call's refusal. A call that is carried out answers 0.
+pub struct Refusal {}
+
+impl Refusal {
+    pub const SIZE: u32 = 1;
+
+    pub const LENGTH: u32 = 2;
+
+    pub const UNSOUND: u32 = 3;
+
+    pub const RADIO: u32 = 4;
+
+    pub const SAME_ENDS: u32 = 5;
+
+    pub const LINK_STATE: u32 = 6;
+
+    pub const NO_ROOM: u32 = 7;
+
+    pub const LEVEL: u32 = 8;
+
+    pub const IMAGE_SIZE: u32 = 9;
+
+    pub const IMAGE_CHECK: u32 = 10;
+
+    pub const IMAGE: u32 = 11;
+}
+
 // The answer of a link call: refusal number, step (+1, -1, or 0 when nothing changed), count of changed radios.
 #[repr(C)]
 pub struct Reply {

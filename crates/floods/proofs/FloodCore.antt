@@ -11,17 +11,18 @@ use lib.Dec.{ltb, leb}
 use lib.ListN.{length, getD, take}
 use borrow.Author.Tests.{ltb-true, leb-true, le-leb, lt-ltb}
 use Rattle.mesh.specs.Limits.{max-radios}
-use Rattle.mesh.specs.Lists.{member}
+use Rattle.lists.specs.Lists.{member}
 use Rattle.mesh.specs.Graph.{Graph}
 use Rattle.mesh.specs.Cores.{number}
 use Rattle.mesh.specs.Tables.{Tables, marked, graph-in}
 use Rattle.mesh.specs.Connected.{Reachable, here, onward, at-least, In-core, core-of}
-use Rattle.mesh.proofs.BoolLaws.{and-left, and-right, iff-eq}
-use Rattle.mesh.proofs.ListLaws.{member-in}
-use Rattle.mesh.proofs.Reach.{reachable-below, core-of-iff}
+use Rattle.lists.proofs.Tests.{and-left, and-right, iff-eq}
+use Rattle.lists.proofs.Member.{member-in}
+use Rattle.mesh.proofs.Trees.Reach.{reachable-below, core-of-iff}
 use Rattle.rows.proofs.RowListLaws.{in-neighbours-of, member-neighbours-of}
 use Rattle.floods.specs.Floods.{ends-listed, takes-in, Spread, Flood-done}
-use Rattle.floods.proofs.SoundSite.{Sound-site, linked-marked, number-entry, ends-listed-neighbours}
+use Rattle.soundness.proofs.SoundSite.{Sound-site, linked-marked, number-entry}
+use Rattle.floods.proofs.EndsListed.{ends-listed-neighbours}
 
 module _ (n : ℕ) (t : Tables) (s : Sound-site n t) (k v : ℕ) (old : List ℕ) where
   abbrev g : Graph

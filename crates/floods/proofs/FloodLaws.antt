@@ -12,15 +12,16 @@ use lib.ListN.{length, getD, take, set, length-append, length-set}
 use lib.Seq.{length-take-le, take-suc, take-append-le, take-suc-set, take-take, getD-take}
 use borrow.Author.Tests.{lt-ltb}
 use Rattle.mesh.specs.Limits.{max-radios, row-bytes}
-use Rattle.mesh.specs.Lists.{range, count, member}
+use Rattle.lists.specs.Lists.{folded, range, count, member, In, Distinct}
 use Rattle.mesh.specs.Tables.{marked, put-bit}
-use Rattle.mesh.proofs.BoolLaws.{bool-cases, never, and-left, and-both}
-use Rattle.mesh.proofs.ListLaws.{In, Distinct, in-left, in-right, in-cases, member-in, in-member, in-range, length-range, distinct-one}
-use Rattle.mesh.proofs.Reach.{length-sub}
-use Rattle.mesh.proofs.TableLaws.{byte-at-less, length-put-bit, marked-put-bit}
+use Rattle.lists.proofs.Tests.{bool-cases, never, and-left, and-both}
+use Rattle.lists.proofs.Member.{in-left, in-right, in-cases, member-in, in-member, in-getD}
+use Rattle.lists.proofs.Range.{in-range, length-range}
+use Rattle.lists.proofs.Distinct.{distinct-one, length-sub, distinct-end}
+use Rattle.mesh.proofs.Tables.Laws.{byte-at-less, length-put-bit, marked-put-bit}
 use Rattle.floods.proofs.FloodSteps.{Floodable, floodable-true}
 use Rattle.floods.specs.Floods.{ends-listed, takes-in, Spread, start, onward, Flood, flood-at, came-in, taken-one, taken-all, floodable, Flood-done, Flooded}
-use Rattle.floods.proofs.FloodRadios.{distinct-end, in-getD, bits-end, takes-in-radio, takes-in-other}
+use Rattle.floods.proofs.FloodRadios.{bits-end, takes-in-radio, takes-in-other}
 
 -- ---- the invariant
 
@@ -170,7 +171,7 @@ module _ (ts ns : List ℕ) (k v : ℕ) (old : List ℕ) where
 
     took-all : (done bs : List ℕ) (a : ℕ) (f : Flood) → Flooding done f → In a (came-in f) → ((b : ℕ) → In b bs → In b (ends-listed ts a))
         → Took done bs f (taken-all ns k bs f)
-    unfolding taken-all
+    unfolding taken-all folded
     took-all done [] a f h ma mb = record { flooding = h; all = λ x m t. absurd m; more = []; behind = sym (append-nil (came-in f)) }
     took-all done (b ∷ bs) a f h ma mb =
         go (took-one done a b f h ma (mb b (inl refl))) (λ e q m. took-all done bs a e q m (λ x y. mb x (inr y)))
@@ -290,7 +291,4 @@ module _ (ts ns : List ℕ) (k v : ℕ) (old queue new : List ℕ) (can : flooda
   flood-starts = rw first (walking-start ts ns k v old (sizes .small) queue (sizes .radio) (sizes .one-row) (sizes .room))
 
   pub flood-ends : (i : ℕ) (f : Flood) → f .count ≤ i → Walking ts ns k v old i f → Flooded ts ns k v old queue (f .count) (f .set) (f .queue)
-  flood-ends i f l h = record {
-    done = λ e. walking-end ts ns k v old (sizes .small) i f l h;
-    refused = λ e. never _ can e;
-  }
+  flood-ends i f l h = record { done = λ e. walking-end ts ns k v old (sizes .small) i f l h; refused = λ e. never _ can e }

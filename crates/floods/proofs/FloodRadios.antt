@@ -1,43 +1,18 @@
 -- What the flood's invariant rests on: laws of lists, and the test of radios that come in.
-use mathlib.Core.Path.{_≡_, refl, sym}
-use mathlib.Core.Logic.{_⊎_, inl, inr}
+use mathlib.Core.Path.{_≡_, refl}
 use mathlib.Core.Bool.{Bool, true, false, _&&_, _||_, not, cond}
 use mathlib.Core.List.{List, [], _∷_, _++_}
-use Prim.Native.Nat.{ℕ, zero, suc, _<_}
-use native.Mathlib.Omega.{arith}
+use Prim.Native.Nat.{ℕ, _<_}
 use lib.Dec.{ltb, leb, eqb}
 use lib.ListN.{length, getD}
 use borrow.Author.Tests.{ltb-true, not-true}
-use Rattle.mesh.specs.Lists.{member}
+use Rattle.lists.specs.Lists.{member}
 use Rattle.mesh.specs.Tables.{marked}
-use Rattle.mesh.proofs.BoolLaws.{never, and-left, and-right}
-use Rattle.mesh.proofs.ListLaws.{In, Distinct, in-cases}
+use Rattle.lists.proofs.Tests.{never, and-left, and-right}
+use Rattle.lists.proofs.Member.{member-append}
 use Rattle.floods.specs.Floods.{takes-in}
 
 -- ---- laws of lists
-
-pub member-append : (w : ℕ) (xs ys : List ℕ) → member w (xs ++ ys) ≡ (member w xs || member w ys)
-unfolding member
-member-append w [] ys = refl
-member-append w (x ∷ xs) ys = go (eqb x w) (member-append w xs ys)
-  where
-    go : (b : Bool) → member w (xs ++ ys) ≡ (member w xs || member w ys)
-        → (b || member w (xs ++ ys)) ≡ ((b || member w xs) || member w ys)
-    go true e = refl
-    go false e = e
-
-pub distinct-end : (xs : List ℕ) (b : ℕ) → Distinct xs → (In b xs → ⊥) → Distinct (xs ++ b ∷ [])
-distinct-end [] b d h = (λ m. m, tt)
-distinct-end (x ∷ xs) b d h = (λ m. other (in-cases x xs (b ∷ []) m), distinct-end xs b (d .1) (λ m. h (inr m)))
-  where
-    other : In x xs ⊎ In x (b ∷ []) → ⊥
-    other (inl m) = d .0 m
-    other (inr (inl e)) = h (inl (sym e))
-
-pub in-getD : (xs : List ℕ) (i : ℕ) → i < length xs → In (getD xs i 0) xs
-in-getD [] i l = absurd (omega arith)
-in-getD (x ∷ xs) zero l = inl refl
-in-getD (x ∷ xs) (suc i) l = inr (in-getD xs i (omega arith))
 
 -- a bit more in the set, an entry more in the list
 pub bits-end : (now before : Bool) (b w : ℕ) (xs : List ℕ) → now ≡ (before || member w xs)

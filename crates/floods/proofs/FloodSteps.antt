@@ -1,20 +1,20 @@
 -- One radio of a flood, and some in turn, as the code has them: tests that do not pass leave the flood as it is.
-use mathlib.Core.Path.{_≡_, refl, sym, ap, _∙_}
+use mathlib.Core.Path.{_≡_, refl, ap, _∙_}
 use mathlib.Core.Bool.{true, false, _&&_}
-use mathlib.Core.List.{List, _∷_}
+use mathlib.Core.List.{List}
 use Prim.Native.Nat.{ℕ, _+_, _≤_, _<_, min}
 use native.Mathlib.Omega.{arith}
-use native.Mathlib.Numerals.{add-one}
 use lib.Dec.{ltb, leb, eqb}
-use lib.ListN.{length, getD, take, drop, set, drop-of-length-le, length-append, length-take, length-drop}
-use lib.Seq.{drop-cons, length-take-le, getD-take, take-at}
+use lib.ListN.{length, getD, take, drop, set, length-append, length-take, length-drop}
+use lib.Seq.{take-at}
 use borrow.Author.Tests.{ltb-true, leb-true, eqb-true, lt-ltb, le-ltb, lt-leb, le-leb, eq-eqb, ne-eqb}
 use Rattle.mesh.specs.Limits.{max-radios, max-neighbours, row-bytes}
-use Rattle.mesh.specs.Lists.{overwrite}
+use Rattle.lists.specs.Lists.{overwrite}
 use Rattle.mesh.specs.Tables.{marked, put-bit}
 use Rattle.rows.specs.Rows.{row-listed}
-use Rattle.mesh.proofs.BoolLaws.{never, and-left, and-right}
-use Rattle.floods.specs.Floods.{ends-listed, takes-in, Flood, flood-at, taken-one, taken-all, floodable, Flooded}
+use Rattle.lists.proofs.Loops.{Folding, folding-none, folding-front}
+use Rattle.lists.proofs.Tests.{never, and-left, and-right}
+use Rattle.floods.specs.Floods.{ends-listed, takes-in, Flood, flood-at, taken-one, floodable, Flooded}
 
 -- ---- one radio
 
@@ -45,35 +45,20 @@ module _ (ns : List ℕ) (k x : ℕ) (f : Flood) (radio : x < length ns) (level 
 
 -- ---- some radios in turn: what is left of them gives what all of them give
 
+-- tables keep their lengths on the way
 pub record Taking (ns : List ℕ) (k : ℕ) (xs : List ℕ) (before : Flood) (i : ℕ) (f : Flood) : Type 0 where
   pub set-long : length (f .set) ≡ length (before .set)
   pub queue-long : length (f .queue) ≡ length (before .queue)
-  pub rest : taken-all ns k (drop i xs) f ≡ taken-all ns k xs before
+  pub folding : Folding (λ x now. taken-one ns k x now) xs before f i
 
 pub taking-none : (ns : List ℕ) (k : ℕ) (xs : List ℕ) (f : Flood) → Taking ns k xs f 0 f
-taking-none ns k xs f = record { set-long = refl; queue-long = refl; rest = refl }
+taking-none ns k xs f = record { set-long = refl; queue-long = refl; folding = folding-none _ xs f }
 
 pub taking-turn : (ns : List ℕ) (k : ℕ) (list : List ℕ) (m : ℕ) (before : Flood) (i : ℕ) (f e : Flood) → m ≤ length list → i < m
     → length (e .set) ≡ length (f .set) → length (e .queue) ≡ length (f .queue) → e ≡ taken-one ns k (getD list i 0) f
     → Taking ns k (take m list) before i f → Taking ns k (take m list) before (i + 1) e
-unfolding taken-all
 taking-turn ns k list m before i f e room l s q one h =
-    let long = length-take-le m list room in
-    let first : drop i (take m list) ≡ getD list i 0 ∷ drop (i + 1) (take m list) =
-    drop-cons (take m list) i 0 (omega (arith, long))
-    ∙ rw (getD-take m list i 0 l, add-one i) in
-    record {
-      set-long = s ∙ h .set-long;
-      queue-long = q ∙ h .queue-long;
-      rest = ap (taken-all ns k (drop (i + 1) (take m list))) one
-          ∙ ap (λ (xs : List ℕ). taken-all ns k xs f) (sym first) ∙ h .rest;
-    }
-
-pub taking-end : (ns : List ℕ) (k : ℕ) (list : List ℕ) (m : ℕ) (before : Flood) (i : ℕ) (f : Flood) → m ≤ i → m ≤ length list
-    → Taking ns k (take m list) before i f → f ≡ taken-all ns k (take m list) before
-unfolding taken-all
-taking-end ns k list m before i f l room h =
-    sym (ap (λ (xs : List ℕ). taken-all ns k xs f) (drop-of-length-le (take m list) {i = i} (omega (arith, length-take-le m list room)))) ∙ h .rest
+    record { set-long = s ∙ h .set-long; queue-long = q ∙ h .queue-long; folding = folding-front _ list m before f e i room l one (h .folding) }
 
 -- ---- the neighbours of a radio, as listed
 

@@ -11,12 +11,12 @@
 use mathlib.Core.Path.{_≡_}
 use mathlib.Core.Logic.{_↔_}
 use mathlib.Core.Bool.{Bool, true, false, _&&_, _||_, not, cond}
-use mathlib.Core.List.{List, [], _∷_}
+use mathlib.Core.List.{List}
 use Prim.Native.Nat.{ℕ, _+_, _≤_, _<_}
 use lib.Dec.{ltb, leb, eqb}
 use lib.ListN.{length, getD, take, set}
 use Rattle.mesh.specs.Limits.{max-radios, max-neighbours, row-bytes}
-use Rattle.mesh.specs.Lists.{count, member}
+use Rattle.lists.specs.Lists.{folded, count, member}
 use Rattle.mesh.specs.Tables.{marked, put-bit}
 use Rattle.rows.specs.Rows.{row-listed}
 
@@ -52,8 +52,7 @@ taken-one ns k x f =
     f
 
 unfoldable pub taken-all : (numbers : List ℕ) → (level : ℕ) → (radios : List ℕ) → Flood → Flood
-taken-all ns k [] f = f
-taken-all ns k (x ∷ xs) f = taken-all ns k xs (taken-one ns k x f)
+taken-all ns k xs f = folded (λ x now. taken-one ns k x now) xs f
 
 -- ---- the whole flood
 

@@ -2,7 +2,7 @@
 -- In order: the sum byte by byte, four bytes as one number, a block tested, blocks tested one after the other.
 use mathlib.Core.Path.{_≡_, refl, sym, ap, ap₂, _∙_}
 use mathlib.Core.Bool.{Bool, true, false, _&&_}
-use mathlib.Core.List.{List, [], _∷_, _++_}
+use mathlib.Core.List.{List, [], _∷_}
 use Prim.Native.Nat.{ℕ, suc, _+_, _*_, _-_, _/_, _%_, _≤_, _<_, min}
 use native.Mathlib.Omega.{arith}
 use native.Mathlib.Nat.{mul-le-mul}
@@ -11,13 +11,13 @@ use lib.Dec.{eqb}
 use lib.ListN.{length, getD, take, drop, length-drop}
 use lib.Seq.{take-suc, length-take-le, getD-drop, getD-take}
 use borrow.Author.Tests.{eqb-true, eq-eqb}
-use Rattle.mesh.specs.Lists.{range, all, same}
-use Rattle.mesh.specs.Image.{block-bytes, weighted-sum, check-sum, block-check, checks-good, long}
-use Rattle.mesh.proofs.BoolLaws.{iff-eq}
-use Rattle.mesh.proofs.ListLaws.{same-eq, same-refl}
-use Rattle.mesh.proofs.ImageLaws.{check-sum-snoc}
-use Rattle.mesh.proofs.WordLaws.{long-of-long}
-use Rattle.tables.proofs.WidthLaws.{take-min}
+use Rattle.lists.specs.Lists.{range, all, same}
+use Rattle.mesh.specs.Image.{block-bytes, weighted-sum, check-sum, block-check, long}
+use Rattle.lists.proofs.Tests.{iff-eq}
+use Rattle.lists.proofs.All.{same-eq, same-refl}
+use Rattle.mesh.proofs.Images.Laws.{check-sum-snoc}
+use Rattle.mesh.proofs.Images.Words.{long-of-long}
+use Rattle.lists.proofs.Parts.{take-min}
 use Rattle.image.specs.Bytes.{long-at}
 
 -- ---- the sum byte by byte: i bytes so far

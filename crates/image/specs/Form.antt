@@ -11,7 +11,7 @@ use mathlib.Core.List.{List}
 use Prim.Native.Nat.{ℕ, zero, suc, _+_, _*_, _-_, min}
 use lib.Dec.{ltb, eqb}
 use lib.ListN.{length, getD}
-use Rattle.mesh.specs.Lists.{range, all}
+use Rattle.lists.specs.Lists.{range, all}
 use Rattle.mesh.specs.Image.{block-bytes, payload-bytes, block-entries, block-links, word-at, order-blocks, block-count}
 
 unfoldable pub zeros : (image : List ℕ) → (at k : ℕ) → Bool

@@ -4,32 +4,13 @@ ghost use mathlib.Core.Path.{_≡_};
 ghost use Prim.Native.Nat.{_≤_, _<_, _+_, _*_, min};
 ghost use mathlib.Core.Bool.{_&&_};
 ghost use lib.Dec.{leb};
-ghost use lib.ListN.{length, getD};
+ghost use lib.ListN.{length};
 ghost use Rattle.mesh.specs.Limits.{max-radios};
-ghost use Rattle.mesh.specs.Image.{block-bytes, block-links, word-at, blocks-for, order-blocks, block-count};
+ghost use Rattle.mesh.specs.Image.{block-bytes, payload-bytes, block-count};
 ghost use Rattle.image.specs.Form.{zeros, block-formed, kind-of, used-of, blocks-formed, is-formed};
-use super::checks;
+use super::bytes;
+use super::layout;
 use mesh::Site;
-
-// Byte `at` of the image; 0 past its end.
-fn byte_at(image: &[u8], at: usize) -> u32
-    ensures { λ r. ⌜ (r ≡ getD (now (image .entry)) at 0) × (r < 256) ⌝ }
-{
-    if image.len() <= at {
-        return 0;
-    }
-    checks::wide(image[at])
-}
-
-// The two bytes from `at` on as one number, lowest byte first; bytes past the end count as 0.
-pub fn word_at(image: &[u8], at: usize) -> u32
-    ensures { λ r. ⌜ (r ≡ word-at (now (image .entry)) at) × (r < 65536) ⌝ }
-{
-    if image.len() <= at {
-        return 0;
-    }
-    byte_at(image, at) + 256 * byte_at(image, at + 1)
-}
 
 // Whether the k bytes from `at` on are zero.
 fn are_zeros(image: &[u8], at: usize, k: usize) -> bool
@@ -48,47 +29,24 @@ fn are_zeros(image: &[u8], at: usize, k: usize) -> bool
 
 // Whether block i has this kind, a zero byte, its index, and zeros past the used bytes of its payload.
 fn is_block(image: &[u8], i: u32, kind: u8, used: u32) -> bool
-    requires { ⌜ (block-bytes * i + block-bytes ≤ length (now image)) × (used ≤ 504) ⌝ }
+    requires { ⌜ (block-bytes * i + block-bytes ≤ length (now image)) × (used ≤ payload-bytes) ⌝ }
     ensures { λ r. ⌜ r ≡ block-formed (now (image .entry)) i kind used ⌝ }
 {
-    let at = checks::BLOCK * i as usize;
+    let at = layout::BLOCK * i as usize;
     if image[at] != kind {
         return false;
     }
     if image[at + 1] != 0 {
         return false;
     }
-    if word_at(image, at + 2) != i {
+    if bytes::word_at(image, at + 2) != i {
         return false;
     }
-    are_zeros(image, at + 4 + used as usize, 504 - used as usize)
-}
-
-// How many blocks of kind 1 the order of n radios has.
-pub fn order_blocks(n: u32) -> u32
-    ensures { λ r. ⌜ r ≡ order-blocks n ⌝ }
-{
-    if n % 252 == 0 {
-        return n / 252;
-    }
-    n / 252 + 1
-}
-
-// How many blocks of kind 2 hold m links.
-fn link_blocks(m: u32) -> u32
-    ensures { λ r. ⌜ r ≡ blocks-for m block-links ⌝ }
-{
-    if m % 126 == 0 {
-        return m / 126;
-    }
-    m / 126 + 1
-}
-
-// How many blocks an image of n radios and m links has.
-pub fn block_count(n: u32, m: u32) -> u32
-    ensures { λ r. ⌜ r ≡ block-count n m ⌝ }
-{
-    1 + order_blocks(n) + link_blocks(m)
+    are_zeros(
+        image,
+        at + layout::HEAD + used as usize,
+        layout::PAYLOAD - used as usize,
+    )
 }
 
 // The kind of a block, and how many bytes of its payload are used.
@@ -100,22 +58,22 @@ struct Plan {
 // The plan of block i of an image of n radios and m links.
 fn plan_of(n: u32, m: u32, i: u32) -> Plan
     requires { ⌜ (n ≤ max-radios) × (m < 65536) × (i < block-count n m) ⌝ }
-    ensures { λ r. ⌜ (r .kind ≡ kind-of n i) × (r .used ≡ used-of n m i) × (r .used ≤ 504) ⌝ }
+    ensures { λ r. ⌜ (r .kind ≡ kind-of n i) × (r .used ≡ used-of n m i) × (r .used ≤ payload-bytes) ⌝ }
 {
     if i == 0 {
         return Plan { kind: 0, used: 4 };
     }
     let j = i - 1;
-    let orders = order_blocks(n);
+    let orders = layout::blocks_for(n, layout::ENTRIES);
     if j < orders {
         return Plan {
             kind: 1,
-            used: 2 * least(252, n - 252 * j),
+            used: 2 * least(layout::ENTRIES, n - layout::ENTRIES * j),
         };
     }
     Plan {
         kind: 2,
-        used: 4 * least(126, m - 126 * (j - orders)),
+        used: 4 * least(layout::LINKS, m - layout::LINKS * (j - orders)),
     }
 }
 
@@ -149,12 +107,12 @@ pub fn is_formed(image: &[u8], n: u32) -> bool
     if Site::RADIOS < n {
         return false;
     }
-    if word_at(image, 4) != n {
+    if bytes::word_at(image, layout::RADIOS_AT) != n {
         return false;
     }
-    let m = word_at(image, 6);
-    let blocks = block_count(n, m);
-    if image.len() != checks::BLOCK * blocks as usize {
+    let m = bytes::word_at(image, layout::LINKS_AT);
+    let blocks = layout::block_count(n, m);
+    if image.len() != layout::BLOCK * blocks as usize {
         return false;
     }
     are_formed(image, n, m, blocks)

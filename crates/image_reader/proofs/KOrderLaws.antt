@@ -2,45 +2,36 @@
 use mathlib.Core.Path.{_≡_, refl, sym, ap, _∙_}
 use mathlib.Core.Logic.{_↔_}
 use mathlib.Core.Bool.{Bool, true, false, _&&_}
-use mathlib.Core.List.{List, [], _∷_, map}
+use mathlib.Core.List.{List, map}
 use Prim.Native.Nat.{ℕ, suc, _+_, _≤_, _<_, min}
 use native.Mathlib.Omega.{arith}
 use native.Mathlib.Nat.{add-zero}
 use lib.Dec.{ltb, leb}
 use lib.ListN.{length, getD, drop, replicate, getD-replicate}
-use borrow.Author.Tests.{ltb-true, lt-ltb, leb-true, le-leb, lt-leb}
+use borrow.Author.Tests.{lt-ltb, leb-true, le-leb, lt-leb}
 use Rattle.mesh.specs.Limits.{max-radios, max-neighbours}
-use Rattle.mesh.specs.Lists.{range, count, all}
+use Rattle.lists.specs.Lists.{range, count, all, Each-once}
 use Rattle.mesh.specs.Graph.{Link, Graph, graph, radios, other-ends, linked, neighbours-in, degree, proper, ascending}
 use Rattle.mesh.specs.Cores.{number}
 use Rattle.mesh.specs.Orders.{each-once, rising, few-later, is-k-order, running-maxima}
-use Rattle.mesh.proofs.BoolLaws.{never, iff-eq}
-use Rattle.mesh.proofs.ListLaws.{In, in-member, count-ext, count-all, all-below, below-all, Each-once, once-below, once-length}
-use Rattle.mesh.proofs.Sums.{count-cong}
+use Rattle.lists.proofs.Tests.{never, iff-eq, ltb-next}
+use Rattle.lists.proofs.Member.{in-member, in-getD}
+use Rattle.lists.proofs.Count.{count-ext, count-all, count-cong}
+use Rattle.lists.proofs.All.{all-below, below-all, all-range-ext}
+use Rattle.lists.proofs.Range.{once-below, once-length}
 use Rattle.mesh.proofs.GraphLaws.{linked-self, linked-by-proper, proper-of, degree-in}
-use Rattle.mesh.proofs.OrderLaws.{each-once-of, Enough}
-use Rattle.mesh.proofs.OtherEnds.{ends-neighbours-in}
-use Rattle.mesh.proofs.RunningCertificate.{is-k-order-running, running-number}
+use Rattle.mesh.proofs.Cores.Orders.{each-once-of, Enough}
+use Rattle.mesh.proofs.Tables.OtherEnds.{ends-neighbours-in}
+use Rattle.mesh.proofs.Cores.RunningCertificate.{is-k-order-running, running-number}
 use Rattle.soundness.specs.Checks.{Placed, Places-found}
-use Rattle.soundness.proofs.CheckLaws.{getD-in, count-later}
+use Rattle.soundness.proofs.CheckLaws.{count-later}
 use Rattle.image.proofs.CheckLaws.{Testing, testing-turn, testing-stop}
-use Rattle.image_reader.specs.Pairs.{tallied, Tallied}
-use Rattle.image_reader.specs.Reading.{few-ends, tops, K-order-decided}
-use Rattle.image_reader.proofs.MaximaLaws.{tops-running}
-
--- ---- laws of tests
-
-all-same : (f h : ℕ → Bool) (n : ℕ) → ((v : ℕ) → v < n → f v ≡ h v) → all f (range 0 n) ≡ all h (range 0 n)
-all-same f h n e = iff-eq (all f (range 0 n)) (all h (range 0 n))
-    (λ a. below-all h n (λ v l. sym (e v l) ∙ all-below f n a v l)) (λ a. below-all f n (λ v l. e v l ∙ all-below h n a v l))
-
--- below the next number is not above the number
-ltb-next : (a b : ℕ) → ltb a (b + 1) ≡ leb a b
-ltb-next a b = iff-eq (ltb a (b + 1)) (leb a b) (λ e. le-leb a b (omega (arith, ltb-true a (b + 1) e))) (λ e. lt-ltb a (b + 1) (omega (arith, leb-true a b e)))
+use Rattle.image_reader.specs.Site.{tallied, Tallied, few-ends, running-maxima-of, K-order-decided}
+use Rattle.image_reader.proofs.MaximaLaws.{running-maxima-of-counts}
 
 -- ---- entries compared, one after the other
 
-abbrev pub at-most : (lows highs : List ℕ) → (v : ℕ) → Bool
+abbrev pub at-most : (entries most : List ℕ) → (v : ℕ) → Bool
 at-most xs ys v = leb (getD xs v 0) (getD ys v 0)
 
 pub at-most-turn : (xs ys : List ℕ) (v : ℕ) → Testing (at-most xs ys) (length xs) v → v < length xs → getD xs v 0 ≤ getD ys v 0
@@ -70,7 +61,7 @@ unfolding few-ends
 few-tallied n ls rs counts p lr lc e t =
     let rank : (v : ℕ) → v < n → getD rs v 0 ≡ max-neighbours =
     λ v l. ap (λ (xs : List ℕ). getD xs v 0) e ∙ getD-replicate (length rs) v max-neighbours 0 (omega arith) in
-    rw lc (all-same (at-most counts rs) (λ v. leb (length (other-ends v ls)) max-neighbours) n
+    rw lc (all-range-ext (at-most counts rs) (λ v. leb (length (other-ends v ls)) max-neighbours) n
     (λ v l. rw (t .at v l ∙ tallied-all n ls rs max-neighbours p rank v l, rank v l)))
 
 module _ (n : ℕ) (ls : List Link) (p : proper n ls ≡ true) (a : ascending ls ≡ true) where
@@ -122,20 +113,20 @@ module _ (n : ℕ) (ls : List Link) (p : proper n ls ≡ true) (a : ascending ls
     later-at ps counts placed t q l =
         let v : ℕ = getD xs q 0 in
         let here : getD ps v 0 ≡ q = placed .at q (omega (arith, once-length n xs once)) in
-        t .at v (once-below n xs once v (getD-in xs q l)) ∙ tallied-in ps 0 v
+        t .at v (once-below n xs once v (in-getD xs q l)) ∙ tallied-in ps 0 v
         ∙ count-cong (λ b. linked g v b && ltb (getD ps v 0) (getD ps b 0 + 0)) (λ b. linked g v b && leb (suc q) (getD ps b 0)) (range 0 n)
         (λ b. rw (here, add-zero (getD ps b 0)))
         ∙ sym (count-later n xs ps once placed (linked g v) (suc q))
 
-    module _ (ps counts ranks highs : List ℕ) (placed : Placed n xs ps) (later : Tallied n ps 0 ls counts)
-        (maxima : map (λ v. getD ranks v 0) xs ≡ tops (λ v. getD counts v 0) 0 xs) (high : Tallied n ranks 1 ls highs) where
+    module _ (ps counts ranks not-lower : List ℕ) (placed : Placed n xs ps) (later : Tallied n ps 0 ls counts)
+        (maxima : map (λ v. getD ranks v 0) xs ≡ running-maxima-of (λ v. getD counts v 0) 0 xs) (high : Tallied n ranks 1 ls not-lower) where
       abbrev num : ℕ → ℕ
       num v = getD ranks v 0
 
       runs : map num xs ≡ running-maxima (linked g) 0 xs
-      runs = maxima ∙ tops-running (linked g) (λ v. getD counts v 0) 0 xs (later-at ps counts placed later)
+      runs = maxima ∙ running-maxima-of-counts (linked g) (λ v. getD counts v 0) 0 xs (later-at ps counts placed later)
 
-      high-at : (v : ℕ) → v < n → getD highs v 0 ≡ neighbours-in g v (λ w. leb (num v) (num w))
+      high-at : (v : ℕ) → v < n → getD not-lower v 0 ≡ neighbours-in g v (λ w. leb (num v) (num w))
       unfolding neighbours-in radios
       high-at v l =
           high .at v l ∙ tallied-in ranks 1 v
@@ -143,15 +134,15 @@ module _ (n : ℕ) (ls : List Link) (p : proper n ls ≡ true) (a : ascending ls
           (λ b. ap (λ (t : Bool). linked g v b && t) (ltb-next (num v) (num b)))
 
       abbrev enough : Bool
-      enough = all (at-most ranks highs) (range 0 n)
+      enough = all (at-most ranks not-lower) (range 0 n)
 
       enough-of : enough ≡ true → Enough g num
-      enough-of h v l = omega (arith, leb-true (num v) (getD highs v 0) (all-below (at-most ranks highs) n h v l), high-at v l)
+      enough-of h v l = omega (arith, leb-true (num v) (getD not-lower v 0) (all-below (at-most ranks not-lower) n h v l), high-at v l)
 
       of-enough : Enough g num → enough ≡ true
-      of-enough h = below-all (at-most ranks highs) n (λ v l. le-leb (num v) (getD highs v 0) (omega (arith, h v l, high-at v l)))
+      of-enough h = below-all (at-most ranks not-lower) n (λ v l. le-leb (num v) (getD not-lower v 0) (omega (arith, h v l, high-at v l)))
 
-      by-counts : (r : Bool) → length ranks ≡ n → r ≡ all (at-most ranks highs) (range 0 (length ranks)) → K-order-decided g xs ranks r
+      by-counts : (r : Bool) → length ranks ≡ n → r ≡ all (at-most ranks not-lower) (range 0 (length ranks)) → K-order-decided g xs ranks r
       by-counts r long e =
           let apart = linked-self g p in
           let d = is-k-order-running g apart num xs once runs in
@@ -160,9 +151,9 @@ module _ (n : ℕ) (ls : List Link) (p : proper n ls ≡ true) (a : ascending ls
           record { answer = is; numbers = λ f v l. running-number g apart num xs once runs (sym is ∙ f) v l }
 
   -- the parts of the test together
-  pub k-order-decided : (xs before ps counts ranks highs : List ℕ) (u r : Bool) → n ≤ max-radios → length xs ≡ n → length before ≡ n
-      → Places-found xs before ps u → u ≡ true → Tallied n ps 0 ls counts → map (λ v. getD ranks v 0) xs ≡ tops (λ v. getD counts v 0) 0 xs
-      → Tallied n ranks 1 ls highs → length ranks ≡ n → r ≡ all (at-most ranks highs) (range 0 (length ranks)) → K-order-decided g xs ranks r
-  k-order-decided xs before ps counts ranks highs u r small lx lb d there later maxima high lr e =
-      by-counts xs (ap (λ (k : ℕ). each-once k xs) (sym lx) ∙ sym (placed-once xs before ps u small lx lb d) ∙ there) ps counts ranks highs
+  pub k-order-decided : (xs before ps counts ranks not-lower : List ℕ) (u r : Bool) → n ≤ max-radios → length xs ≡ n → length before ≡ n
+      → Places-found xs before ps u → u ≡ true → Tallied n ps 0 ls counts → map (λ v. getD ranks v 0) xs ≡ running-maxima-of (λ v. getD counts v 0) 0 xs
+      → Tallied n ranks 1 ls not-lower → length ranks ≡ n → r ≡ all (at-most ranks not-lower) (range 0 (length ranks)) → K-order-decided g xs ranks r
+  k-order-decided xs before ps counts ranks not-lower u r small lx lb d there later maxima high lr e =
+      by-counts xs (ap (λ (k : ℕ). each-once k xs) (sym lx) ∙ sym (placed-once xs before ps u small lx lb d) ∙ there) ps counts ranks not-lower
       (record { at = λ i l. d .placed there .at i (omega arith) }) later maxima high r lr e

@@ -1,6 +1,6 @@
 -- Laws of the reader.
 -- the links of an image
-pub mod PairLaws
+pub mod ListedLaws
 -- counts over the links of an image
 pub mod TallyLaws
 -- running maxima along an order
@@ -13,5 +13,3 @@ pub mod TableWritten
 pub mod SiteLaws
 -- the reader's outcomes
 pub mod ReadLaws
--- the contract of reading is the named predicate
-pub mod Ties

@@ -9,12 +9,15 @@ use lib.ListN.{length}
 use Rattle.mesh.specs.Limits.{max-radios, row-bytes}
 use Rattle.mesh.specs.Tables.{Tables}
 use Rattle.mesh.specs.Image.{whole-blocks, checks-good, is-image}
-use Rattle.mesh.proofs.BoolLaws.{bool-cases}
-use Rattle.calls.specs.Questions.{ask, Lengths, lengths-of, size-good, site-lengths, lent-refusal, tables-refusal, blocks-refusal, image-refusal, read-refusal, block-refusal}
-use Rattle.calls.specs.Writes.{Read-contract, Read-accepted, Tables-refused}
+use Rattle.lists.proofs.Tests.{bool-cases}
+use Rattle.calls.specs.Questions.{ask, Lengths, lengths-of, size-good, site-lengths, lent-refusal, tables-refusal, blocks-refusal, image-refusal, read-refusal}
+use Rattle.calls.specs.Questions.{block-refusal}
+use Rattle.calls.specs.Contracts.Images.{Read-contract, Read-accepted}
+use Rattle.calls.specs.Contracts.Forms.{Tables-refused}
 use Rattle.calls.proofs.ContractLaws.{by-accepted, by-refused}
 use Rattle.calls.proofs.ChainLaws.{Lent-good, lent-zero, lent-yes, Blocks-good, blocks-zero, blocks-yes}
-use Rattle.image_reader.specs.Reading.{Site-room, Site-read}
+use Rattle.image_reader.specs.Site.{Site-room}
+use Rattle.image_reader.specs.Reading.{Site-read}
 
 module _ (n : ℕ) (bs : List ℕ) (t : Tables) where
   abbrev l : Lengths

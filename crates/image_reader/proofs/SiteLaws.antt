@@ -2,35 +2,34 @@
 use mathlib.Core.Path.{_≡_, refl, sym, ap, subst, _∙_}
 use mathlib.Core.Logic.{_⊎_, inl, inr}
 use mathlib.Core.Bool.{Bool, true, false, _&&_}
-use mathlib.Core.List.{List, map}
-use Prim.Native.Nat.{ℕ, _+_, _*_, _≤_, _<_}
+use mathlib.Core.List.{List}
+use Prim.Native.Nat.{ℕ, _≤_, _<_}
 use native.Mathlib.Omega.{arith}
 use lib.Dec.{leb}
 use lib.ListN.{length, getD, take}
 use lib.Seq.{ext-getD}
 use borrow.Author.Tests.{le-leb}
 use Rattle.mesh.specs.Limits.{max-radios, max-neighbours}
-use Rattle.mesh.specs.Lists.{range, overwrite}
+use Rattle.lists.specs.Lists.{overwrite, Bytes}
 use Rattle.mesh.specs.Graph.{Graph, graph, proper, ascending}
 use Rattle.mesh.specs.Cores.{number, numbers}
 use Rattle.mesh.specs.Orders.{is-k-order}
 use Rattle.mesh.specs.Tables.{Tables, tables, links-table}
 use Rattle.mesh.specs.Image.{word-at, image-order, image-links, image-graph, checks-good, is-image}
-use Rattle.mesh.proofs.BoolLaws.{bool-cases, never, iff-eq, and-left, and-right, and-both}
-use Rattle.mesh.proofs.ListLaws.{getD-map-range}
-use Rattle.mesh.proofs.TableLaws.{Bytes}
-use Rattle.mesh.proofs.Peeling.{length-numbers, getD-numbers}
-use Rattle.mesh.proofs.Sites.{image-valid}
-use Rattle.mesh.proofs.ImageTables.{number-most}
-use Rattle.mesh.proofs.ImageCanonical.{length-image-order}
-use Rattle.mesh.proofs.Valid.{Valid}
-use Rattle.calls.specs.Writes.{Read-accepted, Tables-refused}
+use Rattle.lists.proofs.Tests.{bool-cases, never, iff-eq, and-left, and-right, and-both}
+use Rattle.lists.proofs.Map.{getD-map-range}
+use Rattle.mesh.proofs.Cores.Peeling.{length-numbers, getD-numbers}
+use Rattle.mesh.proofs.Tables.Sites.{image-valid}
+use Rattle.mesh.proofs.Images.Tables.{number-most}
+use Rattle.mesh.proofs.Images.Canonical.{length-image-order}
+use Rattle.mesh.specs.Valid.{Valid}
 use Rattle.tables.specs.Widths.{values}
-use Rattle.tables.proofs.WidthLaws.{length-values, values-below, overwrite-all}
+use Rattle.tables.proofs.WidthLaws.{length-values, values-below}
+use Rattle.lists.proofs.Overwrite.{overwrite-take}
 use Rattle.image.specs.Form.{is-formed}
 use Rattle.image.proofs.FormLaws.{is-image-formed}
-use Rattle.image_reader.specs.Pairs.{links-up-to}
-use Rattle.image_reader.specs.Reading.{few-ends, Tally-room, Site-room, K-order-decided, Site-decided, Site-read}
+use Rattle.image_reader.specs.Site.{links-up-to, few-ends, Tally-room, K-order-decided, Site-decided}
+use Rattle.image_reader.specs.Reading.{Site-read}
 use Rattle.image_reader.proofs.KOrderLaws.{few-degrees}
 
 -- ---- question 11, part by part
@@ -40,11 +39,7 @@ module _ (n : ℕ) (bs : List ℕ) (small : n ≤ max-radios) (b : Bytes bs) (ch
   site = image-graph n bs
 
   refused : (xs ns : List ℕ) → (is-image n bs ≡ true → ⊥) → Site-decided n bs xs ns false
-  refused xs ns h = record {
-    answer = sym (pick (bool-cases (is-image n bs)));
-    order-is = λ f. never false f refl;
-    numbers-are = λ f. never false f refl;
-  }
+  refused xs ns h = record { answer = sym (pick (bool-cases (is-image n bs))); order-is = λ f. never false f refl; numbers-are = λ f. never false f refl }
     where
       pick : (is-image n bs ≡ true) ⊎ (is-image n bs ≡ false) → is-image n bs ≡ false
       pick (inl e) = absurd (h e)
@@ -135,7 +130,7 @@ module _ (n : ℕ) (bs : List ℕ) (small : n ≤ max-radios) (xs ns : List ℕ)
       ext-getD 0 (values 8 (λ v. getD ns v 0) n) (numbers g) (length-values 8 (λ v. getD ns v 0) n ∙ sym (length-numbers g))
       (λ v l. let h : v < n = omega (arith, length-values 8 (λ v. getD ns v 0) n) in
       ap (λ (zs : List ℕ). getD zs v 0) (values-below 8 (λ v. getD ns v 0) n numbers-bytes)
-      ∙ getD-map-range (λ v. getD ns v 0) 0 n v h ∙ ap (λ (w : ℕ). getD ns w 0) (omega arith) ∙ d .numbers-are yes v h ∙ sym (getD-numbers g v h))
+      ∙ getD-map-range 0 (λ v. getD ns v 0) 0 n v h ∙ ap (λ (w : ℕ). getD ns w 0) (omega arith) ∙ d .numbers-are yes v h ∙ sym (getD-numbers g v h))
 
   pub site-proper : (m : ℕ) → m ≡ word-at bs 6 → proper n (links-up-to n bs m) ≡ true
   unfolding image-graph image-links links-up-to
@@ -152,7 +147,7 @@ module _ (n : ℕ) (bs : List ℕ) (small : n ≤ max-radios) (xs ns : List ℕ)
       number = refl;
       links = le ∙ ap (λ (k : ℕ). links-table (graph n (links-up-to n bs k))) counted;
       numbers = ke ∙ ap (values 8 (λ v. getD ns v 0)) kn ∙ numbers-written;
-      order = oe ∙ overwrite-all xs (t .order) (ap length (d .order-is yes) ∙ length-image-order n bs ∙ sym on) ∙ d .order-is yes;
+      order = oe ∙ overwrite-take xs (t .order) (ap length (d .order-is yes) ∙ length-image-order n bs ∙ sym on) ∙ d .order-is yes;
     };
     refused = λ h. never (is-image n bs) is-site h;
   }

@@ -6,14 +6,16 @@ use Prim.Native.Nat.{ℕ, _+_, _*_, _≤_, _<_}
 use native.Mathlib.Omega.{arith}
 use lib.ListN.{length, replicate}
 use Rattle.mesh.specs.Limits.{max-radios, row-bytes}
-use Rattle.mesh.specs.Lists.{range, member}
+use Rattle.lists.specs.Lists.{range, member}
 use Rattle.mesh.specs.Graph.{Link, link-of, graph, other-ends, linked, proper}
 use Rattle.mesh.specs.Tables.{put-link, links-table}
 use Rattle.mesh.specs.Image.{image-link}
 use Rattle.mesh.proofs.GraphLaws.{ends, joins, linked-by, linked-by-cons}
-use Rattle.mesh.proofs.AscendingLinks.{link-eq}
-use Rattle.mesh.proofs.TableLaws.{table-eq, length-put-link, bytes-put-link, marked-put-link, length-links-table, bytes-links-table, marked-links-table, links-table-cleared}
-use Rattle.image_reader.specs.Pairs.{links-up-to, Pair-at}
+use Rattle.mesh.proofs.Tables.AscendingLinks.{link-eq}
+use Rattle.mesh.proofs.Tables.Laws.{table-eq, length-put-link, bytes-put-link, marked-put-link, length-links-table, bytes-links-table, marked-links-table}
+use Rattle.mesh.proofs.Tables.Laws.{links-table-cleared}
+use Rattle.image.specs.Bytes.{Link-at}
+use Rattle.image_reader.specs.Site.{links-up-to}
 use Rattle.image_reader.proofs.TallyLaws.{links-one-more, proper-pair}
 
 -- ---- one link more, at the end of the list
@@ -58,7 +60,7 @@ unfolding links-up-to range
 linking-none n bs start ts e h = h ∙ ap (λ (k : ℕ). replicate {A = ℕ} k 0) e ∙ sym (links-table-cleared n)
 
 pub linking-turn : (n m : ℕ) (bs ts after : List ℕ) (j a b : ℕ) → n ≤ max-radios → proper n (links-up-to n bs m) ≡ true → j < m
-    → Pair-at n bs j a b → Linking n bs ts j → after ≡ put-link true a b ts → Linking n bs after (j + 1)
+    → Link-at n bs j a b → Linking n bs ts j → after ≡ put-link true a b ts → Linking n bs after (j + 1)
 linking-turn n m bs ts after j a b small p l pair s e =
     let r = proper-pair n bs m j a b p l pair in
     e ∙ ap (put-link true a b) s ∙ put-link-append n a b (links-up-to n bs j) small (omega (arith, r .0, r .1)) (omega (arith, r .1))

@@ -3,27 +3,25 @@ use mathlib.Core.Path.{_≡_, refl, sym, ap, ap₂, subst, _∙_}
 use mathlib.Core.Logic.{_⊎_, inl, inr}
 use mathlib.Core.Bool.{Bool, true, false, _&&_, cond}
 use mathlib.Core.List.{List, [], _∷_, _++_, map}
-use Prim.Native.Nat.{ℕ, zero, suc, _+_, _*_, _-_, _≤_, _<_}
+use Prim.Native.Nat.{ℕ, zero, suc, _+_, _-_, _≤_, _<_}
 use native.Mathlib.Omega.{arith}
 use native.Mathlib.Numerals.{add-one}
 use lib.Dec.{ltb, eqb}
 use lib.ListN.{length, getD, set, replicate, length-append, length-set, length-replicate, getD-replicate}
 use lib.Seq.{getD-set-same, getD-set-other}
 use borrow.Author.Tests.{ltb-true, eqb-true, eqb-false, eq-eqb, ne-eqb}
-use Rattle.mesh.specs.Lists.{range, count}
+use Rattle.lists.specs.Lists.{range, count}
 use Rattle.mesh.specs.Graph.{Link, other-ends, proper}
 use Rattle.mesh.specs.Image.{image-link}
-use Rattle.mesh.proofs.AscendingLinks.{link-eq}
-use Rattle.mesh.proofs.BoolLaws.{bool-cases, bit-one, and-left, and-right}
-use Rattle.mesh.proofs.ListLaws.{count-append, count-le-length, length-range}
-use Rattle.rows.proofs.Listing.{range-append}
-use Rattle.image_reader.specs.Pairs.{links-up-to, Pair-at, tallied, Tallied}
+use Rattle.mesh.proofs.Tables.AscendingLinks.{link-eq}
+use Rattle.lists.proofs.Tests.{bool-cases, and-left, and-right}
+use Rattle.lists.proofs.Count.{count-append, count-le-length}
+use Rattle.lists.proofs.Range.{range-append}
+use Rattle.image.specs.Bytes.{Link-at}
+use Rattle.image_reader.specs.Site.{links-up-to, tallied, Tallied}
+use Rattle.lists.proofs.Map.{map-append}
 
 -- ---- laws of lists
-
-pub map-append : {A B : Type 0} (f : A → B) (xs ys : List A) → map f (xs ++ ys) ≡ map f xs ++ map f ys
-map-append f [] ys = refl
-map-append {B = B} f (x ∷ xs) ys = ap {B = List B} (λ zs. f x ∷ zs) (map-append f xs ys)
 
 other-ends-append : (v : ℕ) (ls ms : List Link) → other-ends v (ls ++ ms) ≡ other-ends v ls ++ other-ends v ms
 unfolding other-ends
@@ -90,12 +88,7 @@ module _ (rs : List ℕ) (s : ℕ) where
   pub tallied-le : (n : ℕ) (bs : List ℕ) (j v : ℕ) → tallied rs s (links-up-to n bs j) v ≤ j
   unfolding tallied
   tallied-le n bs j v =
-      omega (
-        arith,
-        count-le-length (below v) (other-ends v (links-up-to n bs j)),
-        length-other-ends v (links-up-to n bs j),
-        length-links n bs j,
-      )
+      omega (arith, count-le-length (below v) (other-ends v (links-up-to n bs j)), length-other-ends v (links-up-to n bs j), length-links n bs j)
 
   tallied-more : (n : ℕ) (bs : List ℕ) (j v : ℕ)
       → tallied rs s (links-up-to n bs (j + 1)) v ≡ tallied rs s (links-up-to n bs j) v + count (below v) (other-ends v (image-link n bs j ∷ []))
@@ -134,7 +127,7 @@ tallying-none n rs s bs start counts h e =
     }
 
 module _ (n : ℕ) (rs : List ℕ) (s : ℕ) (bs start counts : List ℕ) (j : ℕ) (t : Tallying n rs s bs start counts j) (a b : ℕ)
-    (pair : Pair-at n bs j a b) (lower : a < b) (radio : b < n) (fits : n ≤ length start) where
+    (pair : Link-at n bs j a b) (lower : a < b) (radio : b < n) (fits : n ≤ length start) where
   abbrev once : List ℕ
   once = set counts a (getD counts a 0 + cond (below rs s a b) 1 0)
 
@@ -228,6 +221,6 @@ tallying-end n rs s bs start counts j m t h k =
     let e : j ≡ m = omega arith in record { at = λ v l. t .at v l ∙ ap (λ (i : ℕ). tallied rs s (links-up-to n bs i) v) e }
 
 -- the pair that is read
-pub proper-pair : (n : ℕ) (bs : List ℕ) (m j a b : ℕ) → proper n (links-up-to n bs m) ≡ true → j < m → Pair-at n bs j a b → (a < b) × (b < n)
+pub proper-pair : (n : ℕ) (bs : List ℕ) (m j a b : ℕ) → proper n (links-up-to n bs m) ≡ true → j < m → Link-at n bs j a b → (a < b) × (b < n)
 unfolding links-up-to
 proper-pair n bs m j a b h l pair = omega (arith, proper-at n (image-link n bs) 0 m j h (omega arith) (omega arith), pair .low, pair .high)

@@ -1,3 +1,3 @@
 -- What the contracts of the reader cite beside the definitions of mesh and calls.
-pub mod Pairs
+pub mod Site
 pub mod Reading

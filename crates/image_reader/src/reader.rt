@@ -5,37 +5,17 @@ ghost use Prim.Native.Nat.{ℕ, _≤_, _<_, _*_};
 ghost use lib.ListN.{length, getD};
 ghost use Rattle.mesh.specs.Limits.{max-radios, row-bytes};
 ghost use Rattle.mesh.specs.Graph.{graph, proper};
-ghost use Rattle.mesh.specs.Tables.{tables, links-table};
-ghost use Rattle.mesh.specs.Image.{checks-good};
-ghost use Rattle.calls.specs.Writes.{Read-contract};
+ghost use Rattle.mesh.specs.Tables.{links-table, lent};
+ghost use Rattle.calls.specs.Contracts.Images.{Read-contract};
 ghost use Rattle.tables.specs.Widths.{values};
-ghost use Rattle.image_reader.specs.Pairs.{links-up-to};
-ghost use Rattle.image_reader.specs.Reading.{Site-room, Site-decided, Site-read};
-use super::numbers;
-use super::pairs;
+ghost use Rattle.image_reader.specs.Site.{links-up-to, Site-room};
+ghost use Rattle.image_reader.specs.Reading.{Site-read};
+use super::site;
+use calls::Refusal;
+use image::bytes;
 use image::checks;
-use image::form;
+use image::layout;
 use mesh::Site;
-
-// Question 11, where 10 got yes: whether the bytes are the image of some sound tables with n radios. Then `listed` holds its
-// order and `ranks` its numbers; else they, and the counts in any case, hold anything.
-fn is_site(image: &[u8], n: u32, listed: &mut [u16], ranks: &mut [u16], counts: &mut [u16]) -> bool
-    requires { ⌜ Site-room n (now image) (length (now listed)) (length (now ranks)) (length (now counts)) ⌝ }
-    ensures { λ r. ⌜ Site-decided n (now (image .entry)) (now (listed .exit)) (now (ranks .exit)) r ⌝ }
-{
-    if !form::is_formed(image, n) {
-        return false;
-    }
-    let m = form::word_at(image, 6);
-    if !pairs::are_listed(image, n, m) {
-        return false;
-    }
-    if !numbers::are_few(image, n, m, ranks, counts) {
-        return false;
-    }
-    pairs::read_order(image, listed);
-    numbers::is_k_order(image, n, m, listed, ranks, counts)
-}
 
 // The links table of the first m links of the image.
 fn put_links(image: &[u8], n: u32, m: u32, links: &mut [u8])
@@ -45,7 +25,7 @@ fn put_links(image: &[u8], n: u32, m: u32, links: &mut [u8])
     tables::fill::fill8(links, 0);
     let mut j: u32 = 0;
     while j < m {
-        let pair = pairs::pair_at(image, n, j);
+        let pair = bytes::link_at(image, n, j);
         rows::put_link(links, true, pair.low, pair.high);
         j += 1;
     }
@@ -76,12 +56,13 @@ fn read_site(
 ) -> u32
     requires room { ⌜ Site-room n (now image) (length (now listed)) (length (now ranks)) (length (now counts)) ⌝ }
     requires sized { ⌜ (length (now links) ≡ row-bytes * n) × (length (now numbers) ≡ n) × (length (now order) ≡ n) ⌝ }
-    ensures { λ r. ⌜ Site-read n (now (image .entry)) (tables (now (links .entry)) (now (numbers .entry)) (now (order .entry))) r (tables (now (links .exit)) (now (numbers .exit)) (now (order .exit))) ⌝ }
+    ensures { λ r. ⌜ Site-read n (now (image .entry)) (lent (links .entry) (numbers .entry) (order .entry)) r
+        (lent (links .exit) (numbers .exit) (order .exit)) ⌝ }
 {
-    if !is_site(image, n, listed, ranks, counts) {
-        return 11;
+    if !site::is_site(image, n, listed, ranks, counts) {
+        return Refusal::IMAGE;
     }
-    put_links(image, n, form::word_at(image, 6), links);
+    put_links(image, n, bytes::word_at(image, layout::LINKS_AT), links);
     put_numbers(ranks, numbers);
     tables::fill::copy16(order, listed);
     0
@@ -90,7 +71,8 @@ fn read_site(
 // Reads an image of n radios into the tables: links and order as the image lists them, the numbers worked out. Refused by 1, 2
 // and 9 to 11: then every table keeps its content.
 pub fn read(n: u32, links: &mut [u8], numbers: &mut [u8], order: &mut [u16], image: &[u8]) -> u32
-    ensures { λ r. ⌜ Read-contract n (now (image .entry)) (tables (now (links .entry)) (now (numbers .entry)) (now (order .entry))) r (tables (now (links .exit)) (now (numbers .exit)) (now (order .exit))) ⌝ }
+    ensures { λ r. ⌜ Read-contract n (now (image .entry)) (lent (links .entry) (numbers .entry) (order .entry)) r
+        (lent (links .exit) (numbers .exit) (order .exit)) ⌝ }
 {
     let lengths = tables::sizes::of_tables(
         Site { radios: n },

@@ -1,27 +1,25 @@
 -- Laws of the writer's blocks: each kind of block is the image's block, and the cursor stands before the next.
 -- In order: blocks of kind 0, 1 and 2, all blocks one after the other, the image of a sound site.
 use mathlib.Core.Path.{_≡_, refl, sym, ap, ap₂, _∙_}
-use mathlib.Core.Bool.{true, false, cond}
-use mathlib.Core.List.{List, [], _∷_, _++_, flatMap, append-assoc, append-nil}
-use Prim.Native.Nat.{ℕ, zero, suc, _+_, _*_, _-_, _≤_, _<_, min}
+use mathlib.Core.Bool.{true, false}
+use mathlib.Core.List.{List, _++_, flatMap, append-assoc, append-nil}
+use Prim.Native.Nat.{ℕ, zero, suc, _+_, _*_, _-_, _≤_, _<_}
 use native.Mathlib.Omega.{arith}
-use native.Mathlib.Numerals.{add-one}
 use lib.Dec.{ltb}
-use lib.ListN.{length, take, drop, length-take, length-append}
+use lib.ListN.{length, take, drop, length-take}
 use lib.Seq.{take-at, drop-at, drop-drop}
 use borrow.Author.Tests.{lt-ltb, le-ltb}
 use borrow.Rule.Slice.PartMut.{putMid}
-use Rattle.mesh.specs.Limits.{max-radios, max-neighbours, row-bytes}
-use Rattle.mesh.specs.Lists.{range, filter}
-use Rattle.mesh.specs.Graph.{Link, Graph, graph}
+use Rattle.lists.specs.Lists.{range}
+use Rattle.mesh.specs.Graph.{Link}
 use Rattle.mesh.specs.Image.{block-bytes, payload-bytes, block-entries, block-links, word, link-bytes, block, order-blocks, order-payload, links-payload, block-at}
-use Rattle.mesh.proofs.Parts.{length-flatMap}
-use Rattle.mesh.proofs.ImageBlocks.{length-link-bytes}
-use Rattle.mesh.proofs.ImageOf.{length-block-at}
-use Rattle.mesh.proofs.TableLaws.{length-flatMap-range}
-use Rattle.rows.proofs.Listing.{range-append}
-use Rattle.image_writer.specs.Links.{links-from, Cursor-good, Links-filled, marked-graph, Cursor-at, Block-filled}
-use Rattle.image_writer.proofs.FillerLaws.{flatMap-append}
+use Rattle.lists.proofs.Parts.{length-flatMap}
+use Rattle.mesh.proofs.Images.Blocks.{length-link-bytes}
+use Rattle.mesh.proofs.Tables.Laws.{length-flatMap-range}
+use Rattle.lists.proofs.Range.{range-append}
+use Rattle.link_list.specs.Links.{links-from}
+use Rattle.image_writer.specs.Blocks.{Links-filled, Cursor-at, Block-filled}
+use Rattle.lists.proofs.Map.{flatMap-append}
 
 -- a block's links fit its payload
 pub length-links-bytes : (ls : List Link) → length (flatMap link-bytes (take block-links ls)) ≤ payload-bytes
@@ -74,7 +72,7 @@ module _ (n : ℕ) (ts order : List ℕ) (a p : ℕ) (after : List ℕ) where
 pub cursor-first : (n : ℕ) (ts : List ℕ) → Cursor-at n ts 0 0 0
 cursor-first n ts =
     let z : 0 - 1 - order-blocks n ≡ 0 = omega arith in
-    record { good = record { row = omega arith; place = λ _. omega arith }; rest = rw z }
+    record { good = record { place = λ _. omega arith }; rest = rw z }
 
 -- ---- all blocks: i of them so far, each in its own part of the buffer
 

@@ -2,30 +2,19 @@
 -- In order: laws of lists, a block opened, a block sealed, an opened block with its payload sealed, entries put one after the other.
 use mathlib.Core.Path.{_≡_, refl, sym, ap, ap₂, _∙_}
 use mathlib.Core.List.{List, [], _∷_, _++_, flatMap, append-assoc, append-nil}
-use Prim.Native.Nat.{ℕ, zero, suc, _+_, _*_, _-_, _/_, _%_, _≤_, _<_, min}
+use Prim.Native.Nat.{ℕ, _+_, _*_, _-_, _/_, _%_, _≤_, _<_, min}
 use native.Mathlib.Omega.{arith}
-use native.Mathlib.Nat.{mul-suc, div-div-eq-div-mul}
+use native.Mathlib.Nat.{div-div-eq-div-mul}
 use native.Mathlib.Numerals.{add-one}
 use lib.ListN.{length, getD, take, drop, set, replicate, length-append, length-take, length-drop, replicate-append-replicate, drop-of-length-le}
 use lib.Seq.{sets, sets-eq, length-sets, take-suc, take-at, take-all, length-take-le, drop-drop, getD-take, getD-drop}
 use Rattle.mesh.specs.Image.{block-bytes, payload-bytes, block-entries, word, long, check-sum, block}
-use Rattle.mesh.proofs.ImageBlocks.{block-body, block-check-last, length-block-body}
-use Rattle.mesh.proofs.Parts.{length-flatMap}
-use Rattle.mesh.proofs.WordLaws.{length-word, length-long}
-use Rattle.rows.proofs.Listing.{sets-append}
+use Rattle.mesh.proofs.Images.Blocks.{block-body, block-check-last, length-block-body}
+use Rattle.lists.proofs.Parts.{length-flatMap, drop-replicate}
+use Rattle.mesh.proofs.Images.Words.{length-word, length-long}
+use Rattle.lists.proofs.Overwrite.{sets-append}
 use Rattle.image_writer.specs.Filler.{opened, sealed}
-
--- ---- laws of lists
-
-drop-replicate : (j k : ℕ) (x : ℕ) → drop j (replicate k x) ≡ replicate (k - j) x
-drop-replicate zero k x = let e : k - 0 ≡ k = omega arith in rw e
-drop-replicate (suc j) zero x = let e : 0 - suc j ≡ 0 = omega arith in rw e
-drop-replicate (suc j) (suc k) x = let e : suc k - suc j ≡ k - j = omega arith in rw e (drop-replicate j k x)
-
-pub flatMap-append : {A : Type 0} (f : A → List ℕ) (xs ys : List A) → flatMap f (xs ++ ys) ≡ flatMap f xs ++ flatMap f ys
-unfolding flatMap
-flatMap-append f [] ys = refl
-flatMap-append f (x ∷ xs) ys = ap (λ (zs : List ℕ). f x ++ zs) (flatMap-append f xs ys) ∙ sym (append-assoc (f x) (flatMap f xs) (flatMap f ys))
+use Rattle.lists.proofs.Map.{flatMap-append}
 
 -- ---- a block opened
 

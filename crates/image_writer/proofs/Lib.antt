@@ -1,11 +1,9 @@
 -- Laws of the writer.
 -- a block filled in
 pub mod FillerLaws
--- the links of a row
-pub mod UpperLaws
-pub mod LinksFrom
+-- the links of a block
+pub mod LinksPut
+-- the blocks
 pub mod BlockFilling
 -- the writer's outcomes
 pub mod WriteLaws
--- the contract of writing is the named predicate
-pub mod Ties

@@ -1,90 +1,31 @@
 -- The writer meets its contract, on plain values.
--- In order: the links of a sound site, the number of questions 1 to 3, the three outcomes.
+-- In order: the number of questions 1 to 3, the links of a sound site, the three outcomes.
 use mathlib.Core.Path.{_≡_, refl, sym, ap, ap₂, _∙_}
-use mathlib.Core.Bool.{Bool, true, false, _&&_}
-use mathlib.Core.List.{List, [], _∷_, _++_, map, flatMap, append-nil}
-use Prim.Native.Nat.{ℕ, zero, suc, _+_, _*_, _-_, _≤_, _<_}
+use mathlib.Core.Bool.{true}
+use mathlib.Core.List.{List, _++_, flatMap}
+use Prim.Native.Nat.{ℕ, _+_, _*_, _-_, _≤_, _<_}
 use native.Mathlib.Omega.{arith}
 use lib.ListN.{length, drop}
-use borrow.Author.Tests.{lt-leb, le-leb}
+use borrow.Author.Tests.{lt-leb}
 use Rattle.mesh.specs.Limits.{max-radios, max-neighbours, row-bytes}
-use Rattle.mesh.specs.Lists.{range, filter, overwrite}
-use Rattle.mesh.specs.Graph.{Link, Graph, graph}
-use Rattle.mesh.specs.Tables.{Tables, marked, row-links, graph-in}
-use Rattle.mesh.specs.Sound.{symmetric, irreflexive, within, few, rows-proper, sound}
+use Rattle.lists.specs.Lists.{range, overwrite}
+use Rattle.mesh.specs.Graph.{Graph, graph}
+use Rattle.mesh.specs.Tables.{Tables, graph-in}
+use Rattle.mesh.specs.Sound.{within, few, sound}
 use Rattle.mesh.specs.Image.{block-bytes, block-count, block-at, image-of}
-use Rattle.mesh.proofs.BoolLaws.{and-left, and-right}
-use Rattle.mesh.proofs.ListLaws.{In, range-in, filter-append, filter-none}
-use Rattle.mesh.proofs.RowLaws.{within-of, few-of}
-use Rattle.mesh.proofs.Soundness.{sound-certificate}
-use Rattle.mesh.proofs.Valid.{Valid}
-use Rattle.mesh.proofs.ImageOf.{length-image-of}
-use Rattle.mesh.proofs.ImageTables.{valid-graph-in}
-use Rattle.mesh.proofs.DegreeSum.{links-most}
-use Rattle.calls.specs.Questions.{ask, lengths-of, Lengths, size-good, site-lengths, lent-refusal, site-refusal, write-refusal, image-length, holds-image}
-use Rattle.calls.specs.Answers.{Write-contract, Listing-accepted, Listing-refused}
-use Rattle.calls.specs.declared.Value.{Value}
+use Rattle.mesh.proofs.Images.Of.{length-image-of}
+use Rattle.mesh.proofs.Images.Tables.{valid-graph-in}
+use Rattle.mesh.proofs.Tables.DegreeSum.{links-most}
+use Rattle.calls.specs.Questions.{ask, lengths-of, site-refusal, write-refusal, image-length, holds-image}
+use Rattle.calls.specs.Contracts.Images.{Write-contract}
+use Rattle.calls.specs.Contracts.Forms.{Listing-refused}
 use Rattle.calls.proofs.ContractLaws.{by-accepted, by-refused}
 use Rattle.calls.proofs.QuestionLaws.{ask-no}
-use Rattle.calls.proofs.ChainLaws.{Site-good, site-zero, site-yes, write-yes}
-use Rattle.rows.proofs.Listing.{range-append}
-use Rattle.rows.proofs.RowListLaws.{length-neighbours-of}
-use Rattle.image_writer.specs.Links.{uppers, links-to, upper-links, links-from, Rows-listed, marked-graph}
-
--- ---- the links of a sound site
-
-sound-within-row : (n : ℕ) (t : Tables) → sound n t ≡ true → (within n (t .links) ≡ true) × (few max-neighbours n (t .links) ≡ true)
-unfolding sound rows-proper
-sound-within-row n t h =
-    let rows = sound-certificate max-neighbours n t h .0 in
-    let w = within n (t .links) in
-    let f = few max-neighbours n (t .links) in
-    let second = and-right (symmetric n (t .links) && irreflexive n (t .links)) (w && f) rows in (and-left w f second, and-right w f second)
-
-module _ (n : ℕ) (ts : List ℕ) (small : n ≤ max-radios) (w : within n ts ≡ true) where
-  row-links-upper : (a : ℕ) → a < n → upper-links ts a ≡ row-links n ts a
-  unfolding upper-links uppers row-links
-  row-links-upper a h =
-      let f : ℕ → Bool = λ b. marked ts a b in
-      let e : max-radios - suc a ≡ (n - suc a) + (max-radios - n) = omega arith in
-      let k : suc a + (n - suc a) ≡ n = omega arith in
-      let none : filter f (range n (max-radios - n)) ≡ [] =
-      filter-none f (range n (max-radios - n)) (λ b m. within-of n ts w a b h (range-in n (max-radios - n) b m .0) (omega (arith, range-in n (max-radios - n) b m .1))) in
-      let split : filter f (range (suc a) (max-radios - suc a)) ≡ filter f (range (suc a) (n - suc a)) =
-      ap (λ (m : ℕ). filter f (range (suc a) m)) e ∙ ap (filter f) (range-append (suc a) (n - suc a) (max-radios - n))
-      ∙ filter-append f (range (suc a) (n - suc a)) (range (suc a + (n - suc a)) (max-radios - n)) ∙ rw (k, none, append-nil) in
-      ap (links-to a) split
-
-  rows-upper : (i k : ℕ) → i + k ≤ n → flatMap (upper-links ts) (range i k) ≡ flatMap (row-links n ts) (range i k)
-  unfolding flatMap range
-  rows-upper i zero h = refl
-  rows-upper i (suc k) h = ap₂ {C = List Link} (λ xs ys. xs ++ ys) (row-links-upper i (omega arith)) (rows-upper (suc i) k (omega arith))
-
-  pub marked-graph-in : marked-graph n ts ≡ graph-in n ts
-  unfolding links-from graph-in
-  marked-graph-in = let z : n - 0 ≡ n = omega arith in ap (graph n) (rw z (rows-upper 0 n (omega arith)))
-
-pub rows-listed-sound : (n : ℕ) (t : Tables) → n ≤ max-radios → length (t .links) ≡ row-bytes * n → sound n t ≡ true → Rows-listed n (t .links)
-rows-listed-sound n t small long h =
-    record {
-      most = small;
-      long = long;
-      few = λ a l. omega (arith, length-neighbours-of (t .links) a, few-of max-neighbours n (t .links) (sound-within-row n t h .1) a l);
-    }
-
--- ---- questions 1 to 3
-
--- a chain that stops at 1 to 3 does not ask further
-pub site-stops : (n : ℕ) (l : Lengths) (others sound : Bool) (later : ℕ) → (site-refusal n l others sound 0 ≡ 0 → ⊥)
-    → site-refusal n l others sound later ≡ site-refusal n l others sound 0
-unfolding site-refusal lent-refusal ask
-site-stops n l others sound later h = go (size-good n) (site-lengths n l && others) sound h
-  where
-    go : (a b c : Bool) → (ask 1 a (ask 2 b (ask 3 c 0)) ≡ 0 → ⊥) → ask 1 a (ask 2 b (ask 3 c later)) ≡ ask 1 a (ask 2 b (ask 3 c 0))
-    go true true true k = absurd (k refl)
-    go true true false k = refl
-    go true false c k = refl
-    go false b c k = refl
+use Rattle.calls.proofs.ChainLaws.{Site-good, site-zero, site-yes, write-yes, site-stops}
+use Rattle.soundness.proofs.SoundSite.{Sound-site, sound-site}
+use Rattle.link_list.specs.Links.{links-from, Rows-listed}
+use Rattle.link_list.proofs.GraphLinks.{rows-listed-few, links-graph-in}
+use Rattle.image_writer.specs.Blocks.{marked-graph}
 
 -- ---- the outcomes
 
@@ -123,11 +64,15 @@ module _ (n : ℕ) (t : Tables) (w : List ℕ) where
     pub write-sound : sound n t ≡ true
     write-sound = passed .is-sound
 
-    pub write-rows : Rows-listed n (t .links)
-    write-rows = rows-listed-sound n t write-small write-links write-sound
+    site : Sound-site n t
+    site = sound-site n t write-small (passed .lent .lengths) write-sound
+
+    pub write-rows : Rows-listed n (t .links) max-neighbours
+    write-rows = rows-listed-few n (t .links) write-small write-links max-neighbours (site .few)
 
     whole : marked-graph n (t .links) ≡ g
-    whole = marked-graph-in n (t .links) write-small (sound-within-row n t write-sound .0)
+    unfolding graph-in
+    whole = ap (graph n) (links-graph-in n (t .links) write-small write-links (site .within))
 
     pub write-few : length (links-from n (t .links) 0 0) ≤ 8192
     unfolding sound graph-in
@@ -161,8 +106,4 @@ module _ (n : ℕ) (t : Tables) (w : List ℕ) where
           ap₂ {C = List ℕ} (λ (m : Graph) (k : ℕ). flatMap (block-at m (t .order)) (range 0 k)) whole (counted ∙ blocks-are) in
           let long : length (image-of g (t .order)) ≡ block-bytes * blocks = length-image-of g (t .order) ∙ ap (λ (k : ℕ). block-bytes * k) (sym (counted ∙ blocks-are)) in
           by-accepted refusal (λ q. Listing-refused q w (record { number = 0; value = block-bytes * blocks }) x) zero-is
-          (record {
-            number = refl;
-            value = sym length-is;
-            lent = e ∙ ap₂ {C = List ℕ} (λ (xs : List ℕ) (k : ℕ). xs ++ drop k w) front (sym long);
-          })
+          (record { number = refl; value = sym length-is; lent = e ∙ ap₂ {C = List ℕ} (λ (xs : List ℕ) (k : ℕ). xs ++ drop k w) front (sym long) })

@@ -1,3 +1,3 @@
 -- What the contracts of the writer cite beside the definitions of mesh and calls.
 pub mod Filler
-pub mod Links
+pub mod Blocks

@@ -1,32 +1,27 @@
 // The image writer. Each block is filled in through its own part of the buffer.
 ghost use mathlib.Core.Path.{_≡_};
 ghost use mathlib.Core.List.{_++_, flatMap};
-ghost use Prim.Native.Nat.{_≤_, _<_, _+_, _*_, _-_};
+ghost use Prim.Native.Nat.{_≤_, _+_, _*_};
 ghost use lib.ListN.{length, take, drop};
 ghost use lib.Seq.{sets};
-ghost use Rattle.mesh.specs.Limits.{max-radios, max-neighbours, row-bytes};
-ghost use Rattle.mesh.specs.Lists.{range};
+ghost use Rattle.lists.specs.Lists.{range};
 ghost use Rattle.mesh.specs.Graph.{link-of};
-ghost use Rattle.mesh.specs.Image.{block-bytes, block-entries, block-links, link-bytes, word, block, block-at, order-blocks, block-count};
-ghost use Rattle.rows.specs.Rows.{neighbours-of};
-ghost use Rattle.mesh.specs.Tables.{tables};
-ghost use Rattle.calls.specs.Answers.{Write-contract};
+ghost use Rattle.mesh.specs.Image.{block-bytes, block-entries, block-links, link-bytes, word, block, block-at};
+ghost use Rattle.mesh.specs.Tables.{lent};
+ghost use Rattle.calls.specs.Contracts.Images.{Write-contract};
 ghost use Rattle.image_writer.specs.Filler.{opened, sealed};
-ghost use Rattle.image_writer.specs.Links.{links-from, Rows-listed, Cursor-good, First-above, Span-of, Row-put, Links-put, Links-filled};
-ghost use Rattle.image_writer.specs.Links.{Writable, Cursor-at, Block-filled, marked-graph};
+ghost use Rattle.link_list.specs.Links.{Rows-listed, Cursor-good};
+ghost use Rattle.image_writer.specs.Blocks.{Row-put, Links-put, Links-filled, Writable, Cursor-at, Block-filled, marked-graph};
+use calls::Refusal;
 use calls::Value;
 use image::checks;
-use image::form;
+use image::layout;
 use mesh::Site;
 
-// Entries of the order in a block of kind 1.
-const ENTRIES: usize = 252;
+// The figures that count places.
+const ENTRIES: usize = layout::ENTRIES as usize;
 
-// Links in a block of kind 2.
-const LINKS: usize = 126;
-
-// Where a block's payload starts.
-const HEAD: usize = 4;
+const LINKS: usize = layout::LINKS as usize;
 
 // Writes x as two bytes from `at` on, lowest first.
 fn put_word(part: &mut [u8], at: usize, x: u32)
@@ -53,8 +48,8 @@ fn close_block(part: &mut [u8])
     ensures { λ _. ⌜ now (part .exit) ≡ sealed (now (part .entry)) ⌝ }
 {
     let sum = checks::check_sum(part);
-    put_word(part, checks::BODY, sum);
-    put_word(part, checks::BODY + 2, sum / 65536);
+    put_word(part, layout::BODY, sum);
+    put_word(part, layout::BODY + 2, sum / 65536);
 }
 
 // The block of kind 0: n and the count of links.
@@ -63,8 +58,8 @@ fn fill_counts(part: &mut [u8], n: u32, count: u32)
     ensures { λ _. ⌜ now (part .exit) ≡ block 0 0 (word n ++ word count) ⌝ }
 {
     open_block(part, 0, 0);
-    put_word(part, HEAD, n);
-    put_word(part, HEAD + 2, count);
+    put_word(part, layout::HEAD, n);
+    put_word(part, layout::HEAD + 2, count);
     close_block(part);
 }
 
@@ -77,7 +72,7 @@ fn put_order(part: &mut [u8], order: &[u16], from: usize)
     let mut v: usize = 0;
     while v < count {
         let x = order[from + v];
-        put_word(part, HEAD + 2 * v, x as u32);
+        put_word(part, layout::HEAD + 2 * v, x as u32);
         v += 1;
     }
 }
@@ -90,53 +85,6 @@ fn fill_order(part: &mut [u8], index: u32, order: &[u16], from: usize)
     open_block(part, 1, index);
     put_order(part, order, from);
     close_block(part);
-}
-
-// The first place below k whose entry is above a, or k.
-fn first_above(list: &[u16], k: usize, a: u32) -> usize
-    requires { ⌜ k ≤ length (now list) ⌝ }
-    ensures { λ r. ⌜ First-above (now (list .entry)) k a r ⌝ }
-{
-    let mut i: usize = 0;
-    while i < k {
-        let b = list[i];
-        if a < b as u32 {
-            return i;
-        }
-        i += 1;
-    }
-    k
-}
-
-// Part of a list: from place `start` to before place `end`.
-struct Span {
-    start: usize,
-    end: usize,
-}
-
-// Lists row a. The span is the neighbours above a, the higher ends of the links of which a is the lower.
-fn list_uppers(links: &[u8], a: u32, list: &mut [u16]) -> Span
-    requires { ⌜ (a < max-radios) × (row-bytes * a + row-bytes ≤ length (now links)) × (length (neighbours-of (now links) a) ≤ length (now list)) ⌝ }
-    ensures { λ r. ⌜ Span-of (now (links .entry)) a (now (list .entry)) (now (list .exit)) (r .start) (r .end) ⌝ }
-{
-    let end = rows::row_neighbours(links, a, list) as usize;
-    let start = first_above(list, end, a);
-    Span { start, end }
-}
-
-// How many links the rows below n mark.
-fn count_links(n: u32, links: &[u8], list: &mut [u16]) -> u32
-    requires { ⌜ Rows-listed n (now links) × (length (now list) ≡ max-neighbours) ⌝ }
-    ensures { λ r. ⌜ r ≡ length (links-from n (now (links .entry)) 0 0) ⌝ }
-{
-    let mut count: u32 = 0;
-    let mut a: u32 = 0;
-    while a < n {
-        let span = list_uppers(links, a, list);
-        count += (span.end - span.start) as u32;
-        a += 1;
-    }
-    count
 }
 
 // Writes the link of a and b, of which a is the lower, as four bytes from `at` on.
@@ -158,7 +106,7 @@ fn put_row(part: &mut [u8], count: usize, a: u32, list: &[u16]) -> usize
     let mut i: usize = 0;
     while i < room {
         let b = list[i];
-        put_link(part, HEAD + 4 * (count + i), a, b as u32);
+        put_link(part, layout::HEAD + 4 * (count + i), a, b as u32);
         i += 1;
     }
     room
@@ -173,14 +121,15 @@ struct Cursor {
 // Writes the links from `from` on into the payload, as many as a block has, and comes back with where the next one is. `list`
 // holds anything after.
 fn put_links(part: &mut [u8], n: u32, links: &[u8], from: Cursor, list: &mut [u16]) -> Cursor
-    requires { ⌜ (length (now part) ≡ block-bytes) × Rows-listed n (now links) × (length (now list) ≡ max-neighbours) × Cursor-good n (now links) (from .row) (from .place) ⌝ }
+    requires { ⌜ (length (now part) ≡ block-bytes) × Rows-listed n (now links) (length (now list)) ×
+        Cursor-good n (now links) (from .row) (from .place) ⌝ }
     ensures { λ r. ⌜ Links-put n (now (links .entry)) (from .row) (from .place) (now (part .entry)) (now (part .exit)) (r .row) (r .place) ⌝ }
 {
     let mut row = from.row;
     let mut place = from.place;
     let mut count: usize = 0;
     while row < n {
-        let span = list_uppers(links, row, list);
+        let span = link_list::list_above(links, row, list);
         let start = span.start + place;
         let end = span.end;
         let put = put_row(part, count, row, &list[start..end]);
@@ -204,7 +153,8 @@ fn fill_links(
     from: Cursor,
     list: &mut [u16],
 ) -> Cursor
-    requires { ⌜ (length (now part) ≡ block-bytes) × Rows-listed n (now links) × (length (now list) ≡ max-neighbours) × Cursor-good n (now links) (from .row) (from .place) ⌝ }
+    requires { ⌜ (length (now part) ≡ block-bytes) × Rows-listed n (now links) (length (now list)) ×
+        Cursor-good n (now links) (from .row) (from .place) ⌝ }
     ensures { λ r. ⌜ Links-filled n index (now (links .entry)) (from .row) (from .place) (now (part .exit)) (r .row) (r .place) ⌝ }
 {
     open_block(part, 2, index);
@@ -224,14 +174,15 @@ fn fill_block(
     from: Cursor,
     list: &mut [u16],
 ) -> Cursor
-    requires { ⌜ (length (now part) ≡ block-bytes) × Writable n count (now links) (now order) (now list) × Cursor-at n (now links) i (from .row) (from .place) ⌝ }
+    requires { ⌜ (length (now part) ≡ block-bytes) × Writable n count (now links) (now order) (now list) ×
+        Cursor-at n (now links) i (from .row) (from .place) ⌝ }
     ensures { λ r. ⌜ Block-filled n i (now (links .entry)) (now (order .entry)) (now (part .exit)) (r .row) (r .place) ⌝ }
 {
     if i == 0 {
         fill_counts(part, n, count);
         return from;
     }
-    if i <= form::order_blocks(n) {
+    if i <= layout::blocks_for(n, layout::ENTRIES) {
         fill_order(part, i, order, ENTRIES * (i as usize - 1));
         return from;
     }
@@ -250,13 +201,15 @@ fn write_blocks(
     list: &mut [u16],
 )
     requires { ⌜ (block-bytes * blocks ≤ length (now buffer)) × Writable n count (now links) (now order) (now list) ⌝ }
-    ensures { λ _. ⌜ now (buffer .exit) ≡ flatMap (block-at (marked-graph n (now (links .entry))) (now (order .entry))) (range 0 blocks) ++ drop (block-bytes * blocks) (now (buffer .entry)) ⌝ }
+    ensures { λ _. ⌜ now (buffer .exit)
+        ≡ flatMap (block-at (marked-graph n (now (links .entry))) (now (order .entry))) (range 0 blocks) ++ drop
+        (block-bytes * blocks) (now (buffer .entry)) ⌝ }
 {
     let mut from = Cursor { row: 0, place: 0 };
     let mut i: u32 = 0;
     while i < blocks {
-        let at = checks::BLOCK * i as usize;
-        let end = at + checks::BLOCK;
+        let at = layout::BLOCK * i as usize;
+        let end = at + layout::BLOCK;
         from = fill_block(&mut buffer[at..end], i, n, count, links, order, from, list);
         i += 1;
     }
@@ -265,24 +218,24 @@ fn write_blocks(
 // Writes the image of sound tables in front of the buffer; the value is its length in bytes, and bytes past it keep their
 // content. Refused by 1 to 3 and 9: then the value is 0 and the buffer keeps its content.
 pub fn write(n: u32, links: &[u8], numbers: &[u8], order: &[u16], buffer: &mut [u8]) -> Value
-    ensures { λ r. ⌜ Write-contract n (tables (now (links .entry)) (now (numbers .entry)) (now (order .entry))) (now (buffer .entry)) r (now (buffer .exit)) ⌝ }
+    ensures { λ r. ⌜ Write-contract n (lent (links .entry) (numbers .entry) (order .entry)) (now (buffer .entry)) r (now (buffer .exit)) ⌝ }
 {
     let number = soundness::refusal(n, links, numbers, order, true);
     if number != 0 {
         return Value { number, value: 0 };
     }
     let mut list = [0u16; Site::NEIGHBOURS as usize];
-    let count = count_links(n, links, &mut list);
-    let blocks = form::block_count(n, count);
-    if buffer.len() < checks::BLOCK * blocks as usize {
+    let count = link_list::count_links(n, links, &mut list);
+    let blocks = layout::block_count(n, count);
+    if buffer.len() < layout::BLOCK * blocks as usize {
         return Value {
-            number: 9,
+            number: Refusal::IMAGE_SIZE,
             value: 0,
         };
     }
     write_blocks(blocks, n, count, links, order, buffer, &mut list);
     Value {
         number: 0,
-        value: checks::BLOCK as u32 * blocks,
+        value: layout::BLOCK as u32 * blocks,
     }
 }

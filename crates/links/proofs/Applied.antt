@@ -3,7 +3,7 @@
 use mathlib.Core.Path.{_≡_, sym, ap, ap₂, _∙_}
 use mathlib.Core.Logic.{_⊎_, inl, inr}
 use mathlib.Core.Bool.{Bool, true, false, _&&_, not}
-use mathlib.Core.List.{List, [], _∷_, _++_, append-nil, append-assoc}
+use mathlib.Core.List.{List, [], _∷_, append-assoc}
 use Prim.Native.Nat.{ℕ, suc, _+_, _-_, _≤_, _<_}
 use native.Mathlib.Omega.{arith}
 use native.Mathlib.Nat.{le-trans}
@@ -12,43 +12,28 @@ use lib.IntN.{ℤ}
 use lib.ListN.{length, getD, take, drop, length-drop}
 use lib.Seq.{length-take-le, take-all, ext-getD, paste, getD-take, getD-drop}
 use Rattle.mesh.specs.Limits.{max-radios, max-neighbours}
-use Rattle.mesh.specs.Lists.{range, count, filter, member, overwrite}
+use Rattle.lists.specs.Lists.{range, count, filter, member, overwrite, In, Distinct, Entries-below}
 use Rattle.mesh.specs.Graph.{Graph, radios, linked, degree, neighbours-among, neighbours-in, relinked}
 use Rattle.mesh.specs.Cores.{Group, number, numbers}
 use Rattle.mesh.specs.Levels.{changed, step-of, with-stretch, new-order}
-use Rattle.mesh.specs.Tables.{Tables, tables, graph-in, put-link}
-use Rattle.mesh.proofs.BoolLaws.{bool-cases, never, and-left}
-use Rattle.mesh.proofs.ListLaws.{In, in-member, member-in, not-member, range-in, count-mono, count-le-length, length-range, distinct-range, length-filter, filter-none, filter-ext, filter-append, member-filter, distinct-filter, Distinct, take-overwrite}
-use Rattle.mesh.proofs.Peeling.{number-core, length-numbers, getD-numbers}
-use Rattle.mesh.proofs.LinkCall.{unchanged-number}
-use Rattle.mesh.proofs.LinkLaws.{link-by-one, link-valid}
-use Rattle.mesh.proofs.Valid.{Valid, Allowed, smaller, larger}
-use Rattle.calls.specs.Writes.{Link-accepted}
+use Rattle.mesh.specs.Tables.{Tables, graph-in, put-link}
+use Rattle.lists.proofs.Tests.{bool-cases, never, and-left}
+use Rattle.lists.proofs.Member.{in-member, member-in, not-member, getD-of-in}
+use Rattle.lists.proofs.Range.{range-in, length-range, distinct-range}
+use Rattle.lists.proofs.Count.{count-mono, count-le-length}
+use Rattle.lists.proofs.Filter.{length-filter, filter-ext, distinct-filter, filter-range-within, filter-member-filter}
+use Rattle.lists.proofs.Overwrite.{take-overwrite}
+use Rattle.mesh.proofs.Cores.Peeling.{number-core, length-numbers, getD-numbers}
+use Rattle.mesh.proofs.Links.Call.{unchanged-number}
+use Rattle.mesh.proofs.Links.Laws.{link-by-one, link-valid}
+use Rattle.mesh.specs.Valid.{Valid, Allowed, smaller, larger}
+use Rattle.calls.specs.Contracts.Links.{Link-accepted}
 use Rattle.calls.specs.declared.Reply.{Reply}
 use Rattle.tables.specs.Steps.{stepped, all-stepped}
-use Rattle.soundness.proofs.CheckLaws.{in-getD}
-use Rattle.rows.proofs.Listing.{range-append}
 use Rattle.tables.proofs.StepLaws.{length-all-stepped, getD-all-stepped-other, getD-all-stepped-listed}
 use Rattle.links.specs.Plans.{Planned, changed-part}
-use Rattle.soundness.specs.Checks.{Entries-below}
 use Rattle.links.specs.Changes.{in-order, counted-step, Applicable}
 use Rattle.links.proofs.ChangeLaws.{counted-step-length}
-
--- ---- laws of lists
-
--- a test that nothing passes from n on
-pub filter-range-within : (f : ℕ → Bool) (n m : ℕ) → n ≤ m → ((v : ℕ) → n ≤ v → f v ≡ false) → filter f (range 0 m) ≡ filter f (range 0 n)
-filter-range-within f n m h none =
-    let parts : m ≡ n + (m - n) = omega arith in
-    let rest = range (0 + n) (m - n) in
-    ap (λ (k : ℕ). filter f (range 0 k)) parts
-    ∙ ap (filter f) (range-append 0 n (m - n))
-    ∙ filter-append f (range 0 n) rest
-    ∙ ap (λ (xs : List ℕ). filter f (range 0 n) ++ xs) (filter-none f rest (λ v i. none v (omega (arith, range-in (0 + n) (m - n) v i .0))))
-    ∙ append-nil (filter f (range 0 n))
-
-pub filter-member-filter : (f : ℕ → Bool) (xs : List ℕ) → filter (λ v. member v (filter f xs)) xs ≡ filter f xs
-filter-member-filter f xs = filter-ext (λ v. member v (filter f xs)) f xs (λ v m. member-filter f xs v m)
 
 -- ---- a bound on numbers
 
@@ -87,7 +72,7 @@ unfolding in-order changed radios
 in-order-changed up a b g cs small below same =
     let f : ℕ → Bool = λ v. not (eqb (number g v) (number (relinked up a b g) v)) in
     filter-range-within (λ v. member v cs) (g .n) max-radios small
-    (λ v h. not-member v cs (λ m. let r = in-getD v cs m in omega (arith, below (r .0) (r .1), r .2)))
+    (λ v h. not-member v cs (λ m. let r = getD-of-in v cs m in omega (arith, below (r .0) (r .1), r .2)))
     ∙ filter-ext (λ v. member v cs) (λ v. member v (filter f (range 0 (g .n)))) (range 0 (g .n))
     (λ v m. sym (same v (omega (arith, range-in 0 (g .n) v m))))
     ∙ filter-member-filter f (range 0 (g .n))

@@ -9,16 +9,17 @@ use native.Mathlib.Nat.{le-trans, le-of-eq}
 use lib.Dec.{leb}
 use lib.ListN.{length, getD}
 use Rattle.mesh.specs.Limits.{max-radios, max-neighbours}
-use Rattle.mesh.specs.Lists.{range}
+use Rattle.lists.specs.Lists.{range}
 use Rattle.mesh.specs.Graph.{Graph, radios, linked, neighbours-in}
 use Rattle.mesh.specs.Cores.{number, numbers}
 use Rattle.mesh.specs.Tables.{Tables, graph-in}
 use Rattle.mesh.specs.Sound.{number-in, rows-proper, sound}
-use Rattle.mesh.proofs.ListLaws.{range-in, length-filter, filter-ext}
-use Rattle.mesh.proofs.Peeling.{getD-numbers}
-use Rattle.mesh.proofs.RowLaws.{few-of}
-use Rattle.mesh.proofs.ReadBack.{proper-graph-in, ascending-graph-in, degree-graph-in}
-use Rattle.mesh.proofs.Soundness.{Right, sound-right}
+use Rattle.lists.proofs.Range.{range-in}
+use Rattle.lists.proofs.Filter.{length-filter, filter-ext}
+use Rattle.mesh.proofs.Cores.Peeling.{getD-numbers}
+use Rattle.mesh.proofs.Tables.Rows.{few-of}
+use Rattle.mesh.proofs.Tables.ReadBack.{proper-graph-in, ascending-graph-in, degree-graph-in}
+use Rattle.mesh.proofs.Tables.Soundness.{Right, sound-right}
 use Rattle.calls.specs.Questions.{answer-length, lengths-of, lent-refusal, site-refusal, ends-refusal, link-refusal}
 use Rattle.calls.proofs.QuestionLaws.{ask-no, true-size-good, true-site-lengths, true-answer-length}
 use Rattle.calls.proofs.ChainLaws.{Lent-good, lent-zero, lent-yes, lent-later, site-yes, ends-zero}

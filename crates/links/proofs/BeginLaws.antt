@@ -8,14 +8,13 @@ use native.Mathlib.Omega.{arith}
 use lib.Dec.{leb, eqb}
 use lib.ListN.{length, getD, set}
 use lib.Seq.{getD-set-same, getD-set-other}
-use borrow.Author.Tests.{eqb-true, eqb-false, eq-eqb, ne-eqb}
+use borrow.Author.Tests.{eqb-true, eq-eqb}
 use Rattle.mesh.specs.Limits.{max-radios, row-bytes}
-use Rattle.mesh.specs.Lists.{member}
+use Rattle.lists.specs.Lists.{member, In}
 use Rattle.mesh.specs.Tables.{marked, put-bit}
-use Rattle.mesh.proofs.BoolLaws.{bool-cases}
-use Rattle.mesh.proofs.ListLaws.{In}
-use Rattle.mesh.proofs.TableLaws.{length-put-bit}
-use Rattle.mesh.proofs.LinkMoves.{bound}
+use Rattle.lists.proofs.Tests.{bool-cases}
+use Rattle.mesh.proofs.Tables.Laws.{length-put-bit}
+use Rattle.mesh.specs.Peel.{bound}
 use Rattle.links.specs.Turns.{end-counted, ends-counted, places-fitting, Begin-ready}
 use Rattle.links.proofs.TurnLoops.{length-end-counted}
 use Rattle.links.proofs.TurnLaws.{marked-put}

@@ -4,27 +4,19 @@ use mathlib.Core.Bool.{Bool, true, false}
 use mathlib.Core.List.{List, [], _∷_, _++_, append-assoc}
 use Prim.Native.Nat.{ℕ, zero, suc, _+_, _-_, _≤_}
 use native.Mathlib.Omega.{arith}
-use native.Mathlib.Nat.{sub-zero, zero-sub, suc-sub-suc}
-use lib.IntN.{ℤ, pos, negsuc}
-use lib.ListN.{length, take, drop, length-drop}
-use lib.Seq.{length-take-le, take-nil, take-all, take-take, take-add, drop-drop, paste, take-paste, drop-paste}
 use mir.Syntax.{w8}
 use mir.Val.{SFits, toZ, ofZ}
 use mir.Facts.{toZ-ofZ}
+use lib.IntN.{ℤ, pos, negsuc}
+use lib.ListN.{length, take, drop, length-drop}
+use lib.Seq.{length-take-le, take-all, take-take, take-add, drop-drop, paste, take-paste, drop-paste}
 use borrow.Rule.Slice.PartMut.{midOf, putMid, mid-len, post-is}
-use Rattle.mesh.specs.Lists.{overwrite}
+use Rattle.lists.specs.Lists.{overwrite}
 use Rattle.mesh.specs.Levels.{step-of}
-use Rattle.tables.proofs.WidthLaws.{overwrite-all}
+use Rattle.lists.proofs.Overwrite.{overwrite-take}
 use Rattle.links.specs.Plans.{changed-part}
 use Rattle.links.specs.Changes.{counted-step}
-
--- ---- laws of lists
-
-pub drop-take : (k m : ℕ) (xs : List ℕ) → drop k (take m xs) ≡ take (m - k) (drop k xs)
-drop-take zero m xs = ap (λ (i : ℕ). take i xs) (sym (sub-zero m))
-drop-take (suc k) zero xs = ap (λ (i : ℕ). take i (drop (suc k) xs)) (sym (zero-sub (suc k)))
-drop-take (suc k) (suc m) [] = sym (take-nil (suc m - suc k))
-drop-take (suc k) (suc m) (x ∷ xs) = drop-take k m xs ∙ ap (λ (i : ℕ). take i (drop k xs)) (sym (suc-sub-suc m k))
+use Rattle.lists.proofs.Parts.{drop-take}
 
 -- ---- the changed radios of a plan
 
@@ -45,7 +37,7 @@ pub put-part : (xs ys new : List ℕ) (i e : ℕ) → i + length ys ≡ e → e 
 put-part xs ys new i e h l q =
     let part = midOf i (e - i) xs in
     let is : new ≡ take (length ys) ys =
-    q ∙ overwrite-all ys part (omega (arith, mid-len i e xs l)) ∙ sym (take-all (length ys) ys (omega arith)) in
+    q ∙ overwrite-take ys part (omega (arith, mid-len i e xs l)) ∙ sym (take-all (length ys) ys (omega arith)) in
     ap (λ (z : List ℕ). take i xs ++ z) (ap₂ (λ (y z : List ℕ). y ++ z) is (post-is i e xs (omega arith) ∙ ap (λ (k : ℕ). drop k xs) (sym h)))
     ∙ sym (append-assoc (take i xs) (take (length ys) ys) (drop (i + length ys) xs))
 

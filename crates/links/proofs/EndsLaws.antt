@@ -11,8 +11,8 @@ use Rattle.mesh.specs.Limits.{max-radios, row-bytes}
 use Rattle.mesh.specs.Graph.{Graph, linked, degree}
 use Rattle.mesh.specs.Tables.{marked, graph-in}
 use Rattle.mesh.specs.Sound.{symmetric, irreflexive, within, few, rows-proper}
-use Rattle.mesh.proofs.BoolLaws.{and-left, and-right}
-use Rattle.mesh.proofs.ReadBack.{linked-graph-in, degree-graph-in}
+use Rattle.lists.proofs.Tests.{and-left, and-right}
+use Rattle.mesh.proofs.Tables.ReadBack.{linked-graph-in, degree-graph-in}
 use Rattle.calls.specs.Questions.{ask, is-radio, are-radios, ends-differ, can-switch, has-room, ends-refusal}
 use Rattle.rows.specs.Rows.{row-listed}
 use Rattle.rows.proofs.RowListLaws.{length-neighbours-of}

@@ -27,5 +27,3 @@ pub mod ChangeLaws
 pub mod Applied
 -- a call refused and accepted
 pub mod CallLaws
--- the contracts of the public calls are the named predicates
-pub mod Ties

@@ -1,35 +1,33 @@
 -- A set of radios kept as one row: a list of radios marked in it, one after the other, and the set listed ascending.
--- In order: all-marked, a list being marked, in-order.
-use mathlib.Core.Path.{_≡_, refl, sym, ap, _∙_}
+-- In order: all-marked, in-order.
+use mathlib.Core.Path.{_≡_, refl, ap, _∙_}
 use mathlib.Core.Bool.{Bool, true, false, _||_, cond}
 use mathlib.Core.List.{List, [], _∷_}
-use Prim.Native.Nat.{ℕ, suc, _+_, _≤_, _<_}
+use Prim.Native.Nat.{ℕ, suc, _<_}
 use native.Mathlib.Omega.{arith}
-use native.Mathlib.Numerals.{add-one}
 use lib.Dec.{eqb}
-use lib.ListN.{length, getD, drop, replicate, length-replicate, drop-of-length-le}
-use lib.Seq.{drop-cons}
+use lib.ListN.{length, replicate, length-replicate}
 use borrow.Author.Tests.{eq-eqb}
 use Rattle.mesh.specs.Limits.{max-radios, row-bytes}
-use Rattle.mesh.specs.Lists.{range, member}
+use Rattle.lists.proofs.Loops.{length-folded}
+use Rattle.lists.specs.Lists.{folded, range, member, Entries-below}
 use Rattle.mesh.specs.Tables.{marked, put-bit}
-use Rattle.mesh.proofs.ListLaws.{In, range-in, filter-ext}
-use Rattle.mesh.proofs.TableLaws.{length-put-bit, marked-put-bit, marked-replicate, byte-at-less}
+use Rattle.lists.proofs.Range.{range-in}
+use Rattle.lists.proofs.Filter.{filter-ext}
+use Rattle.mesh.proofs.Tables.Laws.{length-put-bit, marked-put-bit, marked-replicate, byte-at-less}
 use Rattle.rows.specs.Rows.{neighbours-of, row-listed}
 use Rattle.rows.proofs.RowWords.{row-listed-whole}
-use Rattle.soundness.specs.Checks.{Entries-below}
 use Rattle.links.specs.Changes.{all-marked, in-order}
 
 -- ---- all-marked
 
 pub length-all-marked : (vs ts : List ℕ) → length (all-marked vs ts) ≡ length ts
 unfolding all-marked
-length-all-marked [] ts = refl
-length-all-marked (v ∷ vs) ts = length-all-marked vs (put-bit true 0 v ts) ∙ length-put-bit true 0 v ts
+length-all-marked vs ts = length-folded (λ v now. put-bit true 0 v now) (λ v now. length-put-bit true 0 v now) vs ts
 
 pub marked-all-marked : (vs ts : List ℕ) (w : ℕ) → length ts ≡ row-bytes → Entries-below max-radios vs → w < max-radios
     → marked (all-marked vs ts) 0 w ≡ (member w vs || marked ts 0 w)
-unfolding all-marked member
+unfolding all-marked folded member
 marked-all-marked [] ts w len small l = refl
 marked-all-marked (v ∷ vs) ts w len small l =
     let b : v < max-radios = small 0 (omega arith) in
@@ -43,30 +41,6 @@ marked-all-marked (v ∷ vs) ts w len small l =
     either true false z = refl
     either false true z = refl
     either false false z = refl
-
--- ---- a list being marked: i radios so far
-
-pub record Marking (vs start row : List ℕ) (i : ℕ) : Type 0 where
-  pub low : i ≤ length vs
-  pub long : length row ≡ length start
-  pub is : all-marked (drop i vs) row ≡ all-marked vs start
-
-pub marking-none : (vs ts : List ℕ) → Marking vs ts ts 0
-marking-none vs ts = record { low = omega arith; long = refl; is = refl }
-
-pub marking-turn : (vs start row new : List ℕ) (i : ℕ) → Marking vs start row i → i < length vs → new ≡ put-bit true 0 (getD vs i 0) row
-    → Marking vs start new (i + 1)
-unfolding all-marked
-marking-turn vs start row new i m h e =
-    record {
-      low = omega arith;
-      long = ap length e ∙ length-put-bit true 0 (getD vs i 0) row ∙ m .long;
-      is = rw (add-one, e) (ap (λ (l : List ℕ). all-marked l row) (sym (drop-cons vs i 0 h)) ∙ m .is);
-    }
-
-pub marking-end : (vs start row : List ℕ) (i : ℕ) → Marking vs start row i → length vs ≤ i → row ≡ all-marked vs start
-unfolding all-marked
-marking-end vs start row i m h = ap (λ (l : List ℕ). all-marked l row) (sym (drop-of-length-le vs h)) ∙ m .is
 
 -- ---- in-order
 

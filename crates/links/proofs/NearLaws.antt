@@ -1,19 +1,21 @@
 -- The neighbours of a radio after a link went up or down: by the row's own bits where the radio is no end of the link, else by
 -- a copy of the row with one bit put.
 use mathlib.Core.Path.{_≡_, refl, sym, ap, _∙_}
-use mathlib.Core.Bool.{Bool, true, false, _&&_, cond}
-use mathlib.Core.List.{List, [], _∷_, _++_, append-nil}
-use Prim.Native.Nat.{ℕ, zero, suc, _+_, _*_, _-_, _/_, _%_, _≤_, _<_}
+use mathlib.Core.Bool.{Bool, _&&_, cond}
+use mathlib.Core.List.{List}
+use Prim.Native.Nat.{ℕ, _+_, _*_, _-_, _/_, _≤_, _<_}
 use native.Mathlib.Omega.{arith}
 use lib.Dec.{eqb}
 use lib.ListN.{length, getD, take, drop, length-drop}
-use lib.Seq.{take-all, drop-nil, getD-take, getD-drop, length-take-le}
+use lib.Seq.{take-all, getD-take, getD-drop, length-take-le}
 use borrow.Author.Tests.{eq-eqb, ne-eqb}
 use Rattle.mesh.specs.Limits.{max-radios, row-bytes}
-use Rattle.mesh.specs.Lists.{range, filter, overwrite}
-use Rattle.mesh.specs.Tables.{digit, byte-at, marked, put-bit, put-link}
-use Rattle.mesh.proofs.ListLaws.{In, range-in, filter-ext, take-overwrite}
-use Rattle.mesh.proofs.TableLaws.{length-put-bit, marked-put-bit}
+use Rattle.lists.specs.Lists.{range, overwrite}
+use Rattle.mesh.specs.Tables.{byte-at, marked, put-bit, put-link}
+use Rattle.lists.proofs.Range.{range-in}
+use Rattle.lists.proofs.Filter.{filter-ext}
+use Rattle.lists.proofs.Overwrite.{take-overwrite, overwrite-all}
+use Rattle.mesh.proofs.Tables.Laws.{length-put-bit, marked-put-bit}
 use Rattle.rows.specs.Rows.{neighbours-of, row-listed}
 use Rattle.rows.proofs.RowWords.{row-listed-whole}
 use Rattle.links.specs.Turns.{released, places-released, Releasable, Near-ready, Lists-neighbours}
@@ -58,16 +60,6 @@ near-done ts v k near ns ps level most cs fs put cs1 fs1 h e f g = (
 )
 
 -- ---- a copied row
-
--- as many new entries as there are old ones
-overwrite-all : (new old : List ℕ) → length old ≤ length new → overwrite new old ≡ new
-unfolding overwrite
-overwrite-all new old h = ap (λ (z : List ℕ). new ++ z) (drop-past (length new) old h) ∙ append-nil new
-  where
-    drop-past : (k : ℕ) (xs : List ℕ) → length xs ≤ k → drop k xs ≡ []
-    drop-past k [] l = drop-nil k
-    drop-past zero (x ∷ xs) l = absurd (omega arith)
-    drop-past (suc k) (x ∷ xs) l = drop-past k xs (omega arith)
 
 module _ (u : Bool) (v w : ℕ) (ts row : List ℕ) (whole : row-bytes * v + row-bytes ≤ length ts) (small : w < max-radios)
     (long : length row ≡ row-bytes) (copied : (i : ℕ) → i < row-bytes → getD row i 0 ≡ getD ts (row-bytes * v + i) 0) where

@@ -1,22 +1,22 @@
 -- The loop of the peel, as its invariant: the entries written so far are taken, and p is the lowest place that fits.
-use mathlib.Core.Path.{_≡_, refl, sym, ap, subst, _∙_}
-use mathlib.Core.Bool.{Bool, true, false}
+use mathlib.Core.Path.{_≡_, refl, sym, ap, _∙_}
+use mathlib.Core.Bool.{Bool, false}
 use mathlib.Core.List.{List, [], _∷_, _++_}
-use Prim.Native.Nat.{ℕ, suc, _+_, _*_, _-_, _≤_, _<_}
+use Prim.Native.Nat.{ℕ, _+_, _-_, _≤_, _<_}
 use native.Mathlib.Omega.{arith}
 use native.Mathlib.Numerals.{add-one}
-use lib.ListN.{length, getD, set, take, drop, length-set}
+use lib.ListN.{length, getD, set, take, length-set}
 use lib.Seq.{length-take-le, take-suc-set}
 use Rattle.mesh.specs.Limits.{max-radios, row-bytes}
-use Rattle.mesh.specs.Lists.{head-or}
+use Rattle.lists.specs.Lists.{head-or}
 use Rattle.mesh.specs.Tables.{marked, put-bit, put-link}
 use Rattle.rows.specs.Rows.{neighbours-of, row-listed}
 use Rattle.rows.proofs.RowWords.{row-listed-whole}
 use Rattle.links.specs.Turns.{released, places-released, Releasable, Near-ready}
-use Rattle.links.specs.Peels.{level-start, level-size, linked-after, Level, Turning, Peel-ready, Peel-done}
-use Rattle.links.proofs.TurnLoops.{length-released, length-places-released}
+use Rattle.links.specs.Peels.{level-start, level-size, linked-after, Turning, Peel-ready, Peel-done}
+use Rattle.links.proofs.TurnLoops.{length-released}
 use Rattle.links.proofs.LevelLaws.{first-marked-least}
-use Rattle.links.proofs.PeelTurns.{length-left, turns-end, taken-below, taken-room, taken-releasable, turns-more}
+use Rattle.links.proofs.PeelTurns.{turns-end, taken-below, taken-room, taken-releasable, turns-more}
 
 pub record Peel-from (up : Bool) (a b k m : ℕ) (links numbers order places cs0 fs0 row0 near0 list0 cs fs row near list : List ℕ) (taken p : ℕ) : Type 0 where
   pub long-counters : length cs ≡ length cs0
@@ -104,7 +104,4 @@ module _ {up : Bool} {a b k m : ℕ} {links ns os ps cs0 fs0 row0 near0 list0 : 
           }
 
     pub peel-end : max-radios ≤ p → Peel-done up a b k m links ns os taken cs list
-    peel-end l = record {
-      fits = h .room;
-      peels = turns-end (ready .level) m (h .turning) (λ q lq. first-marked-least fs p (h .next) q (omega arith) lq);
-    }
+    peel-end l = record { fits = h .room; peels = turns-end (ready .level) m (h .turning) (λ q lq. first-marked-least fs p (h .next) q (omega arith) lq) }

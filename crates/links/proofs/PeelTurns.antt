@@ -5,19 +5,22 @@ use mathlib.Core.Path.{_≡_, refl, sym, ap, _∙_}
 use mathlib.Core.Logic.{_⊎_, inl, inr}
 use mathlib.Core.Bool.{Bool, true, false, _&&_, _||_, cond, or-false}
 use mathlib.Core.List.{List, [], _∷_, _++_}
-use Prim.Native.Nat.{ℕ, zero, suc, _+_, _-_, _≤_, _<_}
+use Prim.Native.Nat.{ℕ, _+_, _-_, _≤_, _<_}
 use native.Mathlib.Omega.{arith}
 use lib.Dec.{ltb, leb, eqb}
 use lib.ListN.{length, getD, length-append}
 use borrow.Author.Tests.{eqb-true, eqb-false, eq-eqb, ne-eqb, leb-true, leb-false, le-leb, lt-leb, lt-ltb, le-ltb}
 use Rattle.mesh.specs.Limits.{max-radios, row-bytes}
-use Rattle.mesh.specs.Lists.{count, filter, member, head-or}
+use Rattle.lists.specs.Lists.{count, filter, member, head-or, In, Distinct, Rising}
 use Rattle.mesh.specs.Tables.{marked, put-bit}
-use Rattle.mesh.proofs.BoolLaws.{bool-cases, never, and-left, and-right, and-both, bit-one, bit-true, bit-false}
-use Rattle.mesh.proofs.ListLaws.{In, in-left, in-right, in-cases, in-drop, member-in, in-member, not-member, split-in, count-mid, count-pos, count-all, permutation-in, Distinct, distinct-mid, distinct-right, distinct-apart, permutation-distinct, filter-ext}
-use Rattle.mesh.proofs.TableLaws.{length-put-bit}
-use Rattle.mesh.proofs.OrderLaws.{Rising}
-use Rattle.mesh.proofs.Peel.{Takes, Peels, takes-more, takes-permutation, takes-now-in, takes-taken-in, takes-now-filter}
+use Rattle.lists.proofs.Tests.{bool-cases, never, and-left, and-right, bit-false}
+use Rattle.lists.proofs.Member.{in-left, in-right, in-cases, in-drop, member-in, in-member, not-member, split-in}
+use Rattle.lists.proofs.Count.{count-mid, count-pos, count-all}
+use Rattle.lists.proofs.Distinct.{permutation-in, distinct-mid, distinct-right, permutation-distinct}
+use Rattle.lists.proofs.Filter.{filter-ext}
+use Rattle.mesh.proofs.Tables.Laws.{length-put-bit}
+use Rattle.mesh.specs.Peel.{Peels}
+use Rattle.mesh.proofs.Links.Peel.{takes-more, takes-permutation, takes-now-in, takes-taken-in, takes-now-filter}
 use Rattle.rows.specs.Rows.{neighbours-of}
 use Rattle.rows.proofs.RowListLaws.{distinct-neighbours-of, in-neighbours-of, member-neighbours-of}
 use Rattle.links.specs.Turns.{released, places-released, Releasable}
@@ -25,7 +28,9 @@ use Rattle.links.specs.Peels.{stretch, above, Level, Turning}
 use Rattle.links.proofs.TurnLaws.{marked-put, getD-released, marked-released, marked-released-place}
 use Rattle.links.proofs.TurnLoops.{length-released, length-places-released}
 use Rattle.links.proofs.StretchLoops.{length-stretch}
-use Rattle.links.proofs.LevelLaws.{rising-filter, rising-before, first-marked-in, first-marked-least, place-level, level-stretch, Stands, stretch-stands, place-apart, place-small, rising-stretch, distinct-stretch}
+use Rattle.lists.proofs.Ascending.{rising-filter, rising-before}
+use Rattle.links.proofs.LevelLaws.{first-marked-in, first-marked-least, place-level, level-stretch, Stands, stretch-stands, place-apart, place-small}
+use Rattle.links.proofs.LevelLaws.{rising-stretch, distinct-stretch}
 
 module _ {f : ℕ → ℕ → Bool} {ns os ps : List ℕ} {k start size : ℕ} (lv : Level f ns os ps k start size) (m : ℕ) where
   abbrev level : List ℕ
@@ -87,10 +92,7 @@ module _ {f : ℕ → ℕ → Bool} {ns os ps : List ℕ} {k start size : ℕ} (
           go v (inr i) (inr e) = never (member v left) (in-member v left i) e
 
       pub turns-end : Peels f m high level taken (filter (λ v. ltb m (getD cs v 0)) level)
-      turns-end = rw (← left-is) (record {
-        takes = h .takes;
-        full = λ v i. omega (arith, left-full v i, h .counted v (left-in v i));
-      })
+      turns-end = rw (← left-is) (record { takes = h .takes; full = λ v i. omega (arith, left-full v i, h .counted v (left-in v i)) })
 
     -- ---- a turn: the place p is the lowest that fits
 
@@ -172,10 +174,7 @@ module _ {f : ℕ → ℕ → Bool} {ns os ps : List ℕ} {k start size : ℕ} (
         place-marked-after w i =
             let s = stretch-stands lv w i in
             marked-released-place ns ps k m (place-small lv) (place-apart lv) near cs fs0 long-fs0 taken-releasable w (omega (arith, s .below, lv .numbers-length)) (s .level)
-            ∙ rw (
-              marked-put false p (place w) fs (h .fits-long) some (omega (arith, s .high, lv .fits, lv .small)),
-              member-near w (s .below),
-            )
+            ∙ rw (marked-put false p (place w) fs (h .fits-long) some (omega (arith, s .high, lv .fits, lv .small)), member-near w (s .below))
 
         -- what is left, cut at v
         module _ (xs ys : List ℕ) (cut : left ≡ xs ++ v ∷ ys) where

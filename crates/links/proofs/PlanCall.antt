@@ -1,48 +1,26 @@
 -- The facts that a plan's code hands from call to call, as the code names its values.
-use mathlib.Core.Path.{_≡_, refl, sym, ap, _∙_}
-use mathlib.Core.Logic.{_⊎_, inl, inr}
-use mathlib.Core.Bool.{Bool, true, false, not, _&&_, _||_}
+use mathlib.Core.Path.{_≡_, refl, ap, _∙_}
+use mathlib.Core.Bool.{Bool, true, false, not}
 use mathlib.Core.List.{List}
 use Prim.Native.Nat.{ℕ, _+_, _≤_, _<_, min}
 use native.Mathlib.Omega.{arith}
-use lib.Dec.{eqb, ltb}
+use lib.Dec.{ltb}
 use lib.ListN.{length, getD, replicate, length-replicate}
 use lib.Seq.{sets}
-use borrow.Author.Tests.{eqb-true, eq-eqb}
 use Rattle.mesh.specs.Limits.{max-radios, max-neighbours, row-bytes}
-use Rattle.mesh.specs.Lists.{range, count, filter}
-use Rattle.mesh.specs.Graph.{Graph, radios, linked, neighbours-in}
-use Rattle.mesh.specs.Cores.{Group, number}
+use Rattle.lists.specs.Lists.{range, filter}
+use Rattle.mesh.specs.Graph.{radios, linked}
 use Rattle.mesh.specs.Tables.{tables, byte-at, graph-in}
-use Rattle.mesh.proofs.BoolLaws.{and-both, or-cases, or-left, or-right}
-use Rattle.mesh.proofs.ListLaws.{count-pos, in-range}
 use Rattle.mesh.proofs.GraphLaws.{linked-sym}
-use Rattle.mesh.proofs.Peeling.{number-core}
-use Rattle.mesh.proofs.LinkMoves.{bound}
-use Rattle.mesh.proofs.TableLaws.{marked-replicate}
+use Rattle.mesh.proofs.Links.Call.{linked-positive}
+use Rattle.mesh.specs.Peel.{bound}
+use Rattle.mesh.proofs.Tables.Laws.{marked-replicate}
 use Rattle.links.specs.Plans.{Ready, Planned}
 use Rattle.links.specs.Turns.{ends-counted, places-fitting, Begin-ready}
 use Rattle.links.specs.Peels.{stretch, level-start, level-size, Peel-ready, Peel-done}
 use Rattle.links.proofs.PlanLevel.{a-below, b-below, number-is, level-is, is-level, stretch-fits}
 use Rattle.links.proofs.PlanStart.{begin-ready, peel-ready}
 use Rattle.links.proofs.PlanEnd.{plan-end}
-
--- both ends of a link have a number above 0
-linked-positive : (g : Graph) (a b : ℕ) → a < g .n → b < g .n → linked g a b ≡ true → 1 ≤ number g a
-unfolding Group neighbours-in radios
-linked-positive g a b la lb h =
-    number-core g a la .largest 1 pair (λ v l q. one v (or-cases (eqb v a) (eqb v b) q)) (or-left (eqb a a) (eqb a b) (eq-eqb a a refl))
-  where
-    pair : ℕ → Bool
-    pair v = eqb v a || eqb v b
-
-    has : (v w : ℕ) → w < g .n → linked g v w ≡ true → pair w ≡ true → 1 ≤ neighbours-in g v pair
-    has v w l k q =
-        count-pos (λ x. linked g v x && pair x) w (range 0 (g .n)) (in-range 0 (g .n) w (omega arith) (omega arith)) (and-both (linked g v w) (pair w) k q)
-
-    one : (v : ℕ) → (eqb v a ≡ true) ⊎ (eqb v b ≡ true) → 1 ≤ neighbours-in g v pair
-    one v (inl e) = has v b lb (rw (eqb-true v a e) h) (or-right (eqb b a) (eqb b b) (eq-eqb b b refl))
-    one v (inr e) = has v a la (rw (eqb-true v b e) (linked-sym g b a ∙ h)) (or-left (eqb a a) (eqb a b) (eq-eqb a a refl))
 
 module _ {u : Bool} {a b : ℕ} {ts ns os ps cs : List ℕ} (r : Ready u (length os) a b (tables ts ns os) ps cs) where
   abbrev lower : ℕ

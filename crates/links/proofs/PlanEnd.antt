@@ -2,28 +2,28 @@
 use mathlib.Core.Path.{_≡_, sym, ap, ap₂, subst, _∙_}
 use mathlib.Core.Logic.{_⊎_, inl, inr}
 use mathlib.Core.Bool.{Bool, true, false, cond}
-use mathlib.Core.List.{List, [], _∷_, _++_}
+use mathlib.Core.List.{List, _++_}
 use Prim.Native.Nat.{ℕ, _+_, _≤_, _<_}
 use native.Mathlib.Omega.{arith}
 use lib.Dec.{ltb}
 use lib.ListN.{length, getD, take, drop, length-append}
 use lib.Seq.{sets, sets-eq, length-sets, take-at, drop-at, take-take, getD-take, length-take-le}
 use Rattle.mesh.specs.Limits.{max-neighbours}
-use Rattle.mesh.specs.Lists.{filter, member}
+use Rattle.lists.specs.Lists.{filter, member, In}
 use Rattle.mesh.specs.Graph.{Graph, linked, relinked}
 use Rattle.mesh.specs.Cores.{number}
 use Rattle.mesh.specs.Levels.{changed, lower-level, new-stretch}
 use Rattle.mesh.specs.Tables.{tables, graph-in}
-use Rattle.mesh.proofs.ListLaws.{In, in-cases, count-all}
-use Rattle.mesh.proofs.LevelCut.{mids, highs}
-use Rattle.mesh.proofs.LinkMoves.{bound}
-use Rattle.mesh.proofs.LinkCall as link-call
-use Rattle.mesh.proofs.Peel.{Peels, Peeling, takes-permutation, takes-taken-in, takes-now-in}
+use Rattle.lists.proofs.Member.{in-cases, in-getD}
+use Rattle.lists.proofs.Count.{count-all}
+use Rattle.mesh.proofs.Links.LevelCut.{mids, highs}
+use Rattle.mesh.specs.Peel.{bound, Peels}
+use Rattle.mesh.proofs.Links.Peel.{Peeling, takes-permutation, takes-taken-in, takes-now-in}
 use Rattle.links.specs.Plans.{Ready, Planned, changed-part}
-use Rattle.links.specs.Peels.{stretch, above, level-start, level-size, linked-after, Peel-done}
+use Rattle.links.specs.Peels.{stretch, above, level-start, level-size, Peel-done}
 use Rattle.links.proofs.StretchLoops.{length-stretch}
-use Rattle.links.proofs.LevelLaws.{getD-in}
 use Rattle.links.proofs.PlanLevel.{is-valid, start-is, size-is, stretch-is, above-is, stretch-fits, stretch-number}
+use Rattle.mesh.proofs.Links.Call as link-call
 
 module _ {u : Bool} {a b : ℕ} {ts ns os ps cs : List ℕ} (r : Ready u (length os) a b (tables ts ns os) ps cs) where
   abbrev n : ℕ
@@ -113,7 +113,7 @@ module _ {u : Bool} {a b : ℕ} {ts ns os ps cs : List ℕ} (r : Ready u (length
           ∙ sym (link-call.new-stretch-is max-neighbours u a b g os (is-valid r) (r .allowed) peel)
           ∙ sym (ap₂ (λ (xs ys : List ℕ). new-stretch u after K (changed u a b g) xs ys) (stretch-is r K) (above-is r K));
       changed-is = λ v l. link-call.changed-part max-neighbours u a b g os (is-valid r) (r .allowed) peel v l ∙ ap (member v) (part-is u);
-      radios = λ i l. rw (sym (getD-take size list2 i 0 l) ∙ ap (λ (xs : List ℕ). getD xs i 0) front) (front-in (getD (first ++ stuck) i 0) (getD-in (first ++ stuck) i (omega (arith, both-length))));
+      radios = λ i l. rw (sym (getD-take size list2 i 0 l) ∙ ap (λ (xs : List ℕ). getD xs i 0) front) (front-in (getD (first ++ stuck) i 0) (in-getD (first ++ stuck) i (omega (arith, both-length))));
     }
 
   -- as the code names its values

@@ -3,47 +3,44 @@
 use mathlib.Core.Path.{_≡_, refl, sym, ap, ap₂, _∙_}
 use mathlib.Core.Logic.{_⊎_, inl, inr}
 use mathlib.Core.Bool.{Bool, true, false, _&&_, cond}
-use mathlib.Core.List.{List, [], _∷_, _++_, map}
-use Prim.Native.Nat.{ℕ, zero, suc, _+_, _*_, _-_, _≤_, _<_, min}
+use mathlib.Core.List.{List, _++_}
+use Prim.Native.Nat.{ℕ, _+_, _-_, _≤_, _<_, min}
 use native.Mathlib.Omega.{arith}
-use lib.Dec.{ltb, leb, eqb}
-use lib.ListN.{length, getD, take, drop, length-append}
+use lib.Dec.{ltb, eqb}
+use lib.ListN.{length, getD, length-append}
 use borrow.Author.Tests.{ltb-true, ltb-false, eqb-true, eq-eqb}
-use Rattle.mesh.specs.Limits.{max-radios, max-neighbours, row-bytes}
-use Rattle.mesh.specs.Lists.{range, count, filter, member}
+use Rattle.mesh.specs.Limits.{max-radios, max-neighbours}
+use Rattle.lists.specs.Lists.{count, In, Each-once}
 use Rattle.mesh.specs.Graph.{Graph, radios, linked, neighbours-among, degree, relinked, proper}
 use Rattle.mesh.specs.Cores.{number, numbers}
 use Rattle.mesh.specs.Levels.{lower-level, stretch-start, stretch-length}
-use Rattle.mesh.specs.Tables.{Tables, tables, marked, put-link, graph-in}
-use Rattle.mesh.specs.Sound.{symmetric, irreflexive, within, few, rows-proper, row-degree, sound}
-use Rattle.mesh.proofs.BoolLaws.{bool-cases, never, and-left, and-right}
-use Rattle.mesh.proofs.ListLaws.{In, in-filter, filter-in, Each-once, once-in, once-below}
+use Rattle.mesh.specs.Tables.{tables, marked, put-link, graph-in}
+use Rattle.mesh.specs.Sound.{symmetric, irreflexive, within, few, rows-proper, sound}
+use Rattle.lists.proofs.Tests.{bool-cases, never, and-left, and-right}
+use Rattle.lists.proofs.Filter.{in-filter, filter-in}
+use Rattle.lists.proofs.Range.{once-in, once-below}
 use Rattle.mesh.proofs.GraphLaws.{ends, ends-of, linked-self, linked-sym}
-use Rattle.mesh.proofs.Certificate.{Certificate}
-use Rattle.mesh.proofs.Peeling.{getD-numbers}
-use Rattle.mesh.proofs.KOrders.{k-order-certificate}
-use Rattle.mesh.proofs.LevelCut.{lows, mids, highs, level-cut, stretch-start-is, stretch-length-is, take-level, drop-above}
-use Rattle.mesh.proofs.LinkCall.{relinked-proper}
-use Rattle.mesh.proofs.LinkLaws.{link-valid}
-use Rattle.mesh.proofs.Valid.{Valid, Allowed}
-use Rattle.mesh.proofs.RowLaws.{within-of, few-of, linked-within, row-degree-count}
-use Rattle.mesh.proofs.TableLaws.{marked-put-link}
-use Rattle.mesh.proofs.Relinked.{linked-relinked}
-use Rattle.mesh.proofs.ReadBack.{proper-graph-in, ascending-graph-in, linked-graph-in, degree-graph-in}
-use Rattle.mesh.proofs.Soundness.{Right, sound-right}
+use Rattle.mesh.proofs.Cores.Certificate.{Certificate}
+use Rattle.mesh.proofs.Cores.Peeling.{getD-numbers}
+use Rattle.mesh.proofs.Cores.KOrders.{k-order-certificate}
+use Rattle.mesh.proofs.Links.LevelCut.{lows, mids, highs, level-cut, stretch-start-is, stretch-length-is, take-level, drop-above}
+use Rattle.mesh.proofs.Links.Call.{relinked-proper}
+use Rattle.mesh.proofs.Links.Laws.{link-valid}
+use Rattle.mesh.specs.Valid.{Valid}
+use Rattle.mesh.proofs.Tables.Rows.{within-of, few-of, linked-within, row-degree-count}
+use Rattle.mesh.proofs.Tables.Laws.{marked-put-link}
+use Rattle.mesh.proofs.Tables.Relinked.{linked-relinked}
+use Rattle.mesh.proofs.Tables.ReadBack.{proper-graph-in, ascending-graph-in, linked-graph-in, degree-graph-in}
+use Rattle.mesh.proofs.Tables.Soundness.{Right, sound-right}
 use Rattle.rows.specs.Rows.{neighbours-of}
 use Rattle.rows.proofs.RowListLaws.{length-neighbours-of}
 use Rattle.links.specs.Plans.{Ready}
 use Rattle.links.specs.Peels.{stretch, above, level-start, level-size, linked-after, Level}
 use Rattle.links.proofs.StretchLoops.{length-stretch, getD-stretch}
-use Rattle.links.proofs.LevelLaws.{getD-in, in-getD}
+use Rattle.lists.proofs.Member.{in-getD, getD-of-in}
+use Rattle.lists.proofs.Count.{count-map}
 
 -- ---- laws of lists
-
-count-map : (f : ℕ → Bool) (h : ℕ → ℕ) (xs : List ℕ) → count f (map h xs) ≡ count (λ x. f (h x)) xs
-unfolding count
-count-map f h [] = refl
-count-map f h (x ∷ xs) = ap (λ (y : ℕ). cond (f (h x)) 1 0 + y) (count-map f h xs)
 
 module _ {u : Bool} {a b : ℕ} {ts ns os ps cs : List ℕ} (r : Ready u (length os) a b (tables ts ns os) ps cs) where
   abbrev n : ℕ
@@ -181,11 +178,11 @@ module _ {u : Bool} {a b : ℕ} {ts ns os ps cs : List ℕ} (r : Ready u (length
       numbers-length = r .numbers-length;
       places-length = r .places-length;
       fits = stretch-fits;
-      radios = λ p l. once-below n os is-once (getD os p 0) (getD-in os p l);
+      radios = λ p l. once-below n os is-once (getD os p 0) (in-getD os p l);
       placed = r .placed;
       numbered = numbered-at;
       stands = λ v l e. (
-          let m = in-getD v (stretch os start size) (rw stretch-is (filter-in (λ v. eqb (num v) k) os v (once-in n os is-once v l) (eq-eqb (num v) k (sym (number-is v l) ∙ e)))) in
+          let m = getD-of-in v (stretch os start size) (rw stretch-is (filter-in (λ v. eqb (num v) k) os v (once-in n os is-once v l) (eq-eqb (num v) k (sym (number-is v l) ∙ e)))) in
           stands-at v (m .0) (omega (arith, m .1, length-stretch os start size stretch-fits)) (m .2));
       within = λ v w h. past v w h (bool-cases (ltb w n));
       irreflexive = linked-self after after-proper;
@@ -197,7 +194,7 @@ module _ {u : Bool} {a b : ℕ} {ts ns os ps cs : List ℕ} (r : Ready u (length
             let i : start + (p - start) ≡ p = omega arith in
             let at : getD (stretch os start size) (p - start) 0 ≡ getD os p 0 =
             getD-stretch os start size (p - start) (omega arith) ∙ ap (λ (x : ℕ). getD os x 0) i in
-            let m = stretch-number (getD os p 0) (rw at at (getD-in (stretch os start size) (p - start) (omega (arith, length-stretch os start size stretch-fits)))) in
+            let m = stretch-number (getD os p 0) (rw at at (in-getD (stretch os start size) (p - start) (omega (arith, length-stretch os start size stretch-fits)))) in
             number-is (getD os p 0) (m .0) ∙ m .1
 
         past : (v w : ℕ) → linked after v w ≡ true → (ltb w n ≡ true) ⊎ (ltb w n ≡ false) → w < n

@@ -3,54 +3,37 @@
 use mathlib.Core.Path.{_≡_, refl, sym, ap, _∙_}
 use mathlib.Core.Logic.{_⊎_, inl, inr}
 use mathlib.Core.Bool.{Bool, true, false, not, _&&_, _||_, cond}
-use mathlib.Core.List.{List, [], _∷_, _++_}
-use Prim.Native.Nat.{ℕ, zero, suc, _+_, _*_, _-_, _≤_, _<_, min}
+use mathlib.Core.List.{List, [], _++_}
+use Prim.Native.Nat.{ℕ, _+_, _-_, _≤_, _<_, min}
 use native.Mathlib.Omega.{arith}
-use native.Mathlib.Nat.{le-antisymm}
 use lib.Dec.{ltb, leb, eqb}
-use lib.ListN.{length, getD, take, drop}
-use borrow.Author.Tests.{ltb-true, ltb-false, eqb-true, eqb-false, eq-eqb, le-leb, lt-leb}
+use lib.ListN.{length, getD}
+use borrow.Author.Tests.{ltb-true, eqb-true, eqb-false, le-leb, lt-leb}
 use Rattle.mesh.specs.Limits.{max-radios, max-neighbours, row-bytes}
-use Rattle.mesh.specs.Lists.{range, count, filter, member}
-use Rattle.mesh.specs.Graph.{Graph, radios, linked, degree, neighbours-in, relinked}
+use Rattle.lists.specs.Lists.{range, count, member, In, Distinct}
+use Rattle.mesh.specs.Graph.{Graph, radios, linked, neighbours-in, relinked}
 use Rattle.mesh.specs.Cores.{number}
 use Rattle.mesh.specs.Tables.{tables, marked, graph-in}
-use Rattle.mesh.proofs.BoolLaws.{bool-cases, never, and-left, and-right, and-both, bit-true, bit-false}
-use Rattle.mesh.proofs.ListLaws.{In, in-cases, member-in, in-member, split-in, count-append, count-mono, count-mid, count-pos, count-none, in-filter, in-range, range-in, Distinct, distinct-mid, distinct-right, once-in, once-distinct, permutation-distinct}
+use Rattle.lists.proofs.Tests.{bool-cases, and-left, and-both}
+use Rattle.lists.proofs.Member.{in-cases, member-in, in-member}
+use Rattle.lists.proofs.Count.{count-append, count-pos, count-none, count-ext}
+use Rattle.lists.proofs.Filter.{in-filter}
+use Rattle.lists.proofs.Range.{in-range, range-in, once-in, once-distinct}
+use Rattle.lists.proofs.Distinct.{distinct-right, count-plus-one}
 use Rattle.mesh.proofs.GraphLaws.{ends, ends-of, of-ends, linked-sym, neighbours-in-list, neighbours-in-subset, degree-in}
-use Rattle.mesh.proofs.LevelCut.{lows, mids, highs, level-cut}
-use Rattle.mesh.proofs.Peel.{none}
-use Rattle.mesh.proofs.Relinked.{linked-relinked}
+use Rattle.mesh.proofs.Links.LevelCut.{lows, mids, highs, level-cut}
+use Rattle.mesh.specs.Peel.{none}
+use Rattle.mesh.proofs.Tables.Relinked.{linked-relinked}
 use Rattle.links.specs.Plans.{Ready}
 use Rattle.links.specs.Turns.{end-counted, ends-counted, places-fitting, Begin-ready}
-use Rattle.links.specs.Peels.{stretch, above, level-start, level-size, linked-after, Turning, Peel-ready}
+use Rattle.links.specs.Peels.{stretch, level-start, level-size, linked-after, Turning, Peel-ready}
 use Rattle.links.proofs.TurnLoops.{length-end-counted, length-places-fitting}
 use Rattle.links.proofs.BeginLaws.{getD-end-other, getD-end-same, marked-fitting}
-use Rattle.links.proofs.LevelLaws.{Stands, stretch-stands}
-use Rattle.links.proofs.PlanLevel.{a-below, b-below, is-valid, certified, is-once, number-is, stretch-is, above-is, stretch-fits, stretch-number, is-level, row-is, row-few}
+use Rattle.links.proofs.LevelLaws.{stretch-stands}
+use Rattle.links.proofs.PlanLevel.{a-below, b-below, is-valid, certified, is-once, number-is, stretch-is, above-is, stretch-fits, stretch-number}
+use Rattle.links.proofs.PlanLevel.{is-level, row-is, row-few}
 
 -- ---- laws of lists
-
-count-ext : (f g : ℕ → Bool) (xs : List ℕ) → ((x : ℕ) → In x xs → f x ≡ g x) → count f xs ≡ count g xs
-count-ext f g xs h = le-antisymm (count-mono f g xs (λ x m e. sym (h x m) ∙ e)) (count-mono g f xs (λ x m e. h x m ∙ e))
-
--- one more that passes
-count-one : (f g : ℕ → Bool) (o : ℕ) (zs : List ℕ) → Distinct zs → In o zs → f o ≡ false → g o ≡ true → ((x : ℕ) → (x ≡ o → ⊥) → g x ≡ f x)
-    → count g zs ≡ count f zs + 1
-count-one f g o zs d i fo go same = cut (split-in o zs i)
-  where
-    cut : (ps : List ℕ) × (qs : List ℕ) × (zs ≡ ps ++ o ∷ qs) → count g zs ≡ count f zs + 1
-    cut (ps, qs, e) =
-        omega (
-          arith,
-          ap (count g) e,
-          ap (count f) e,
-          count-mid g o ps qs,
-          count-mid f o ps qs,
-          bit-true (g o) go,
-          bit-false (f o) fo,
-          count-ext g f (ps ++ qs) (λ x m. same x (λ q. distinct-mid o ps qs (rw e at d) .0 (rw q at m))),
-        )
 
 module _ {u : Bool} {a b : ℕ} {ts ns os ps cs : List ℕ} (r : Ready u (length os) a b (tables ts ns os) ps cs) (k : ℕ) (ek : k ≡ min (getD ns a 0) (getD ns b 0)) where
   abbrev n : ℕ
@@ -147,9 +130,9 @@ module _ {u : Bool} {a b : ℕ} {ts ns os ps cs : List ℕ} (r : Ready u (length
         at = linked-is v o ∙ ap (λ (t : Bool). cond t u (linked g v o)) there
 
         go : (w : Bool) → u ≡ w → count (linked after v) zs ≡ cond w (count (linked g v) zs + 1) (count (linked g v) zs - 1)
-        go true e = count-one (linked g v) (linked after v) o zs zs-distinct (zs-in o lo ko) (state ∙ ap not e) (at ∙ e) elsewhere
+        go true e = count-plus-one (linked g v) (linked after v) o zs zs-distinct (zs-in o lo ko) (state ∙ ap not e) (at ∙ e) elsewhere
         go false e =
-            omega (arith, count-one (linked after v) (linked g v) o zs zs-distinct (zs-in o lo ko) (at ∙ e) (state ∙ ap not e) (λ x ne. sym (elsewhere x ne)))
+            omega (arith, count-plus-one (linked after v) (linked g v) o zs zs-distinct (zs-in o lo ko) (at ∙ e) (state ∙ ap not e) (λ x ne. sym (elsewhere x ne)))
 
   abbrev cs1 : List ℕ
   cs1 = ends-counted u a b k ns cs
@@ -229,13 +212,7 @@ module _ {u : Bool} {a b : ℕ} {ts ns os ps cs : List ℕ} (r : Ready u (length
   few-high : (v : ℕ) → v < n → getD cs v 0 ≤ max-neighbours
   unfolding graph-in
   few-high v l =
-      omega (
-        arith,
-        r .counted v l,
-        neighbours-in-subset g v (λ w. leb (num v) (num w)) (λ w. true) (λ w lw q. refl),
-        degree-in g v,
-        is-valid r .degrees v l,
-      )
+      omega (arith, r .counted v l, neighbours-in-subset g v (λ w. leb (num v) (num w)) (λ w. true) (λ w lw q. refl), degree-in g v, is-valid r .degrees v l)
 
   linked-high : (v o : ℕ) → v < n → o < n → linked g v o ≡ true → num v ≤ num o → 1 ≤ getD cs v 0
   unfolding graph-in neighbours-in radios

@@ -1,44 +1,15 @@
 -- The loops over a level's stretch, as invariants over what is left of their lists.
 -- In order: numbers counted below a level and at it; the radios of the stretch that a test passes, listed.
-use mathlib.Core.Path.{_≡_, refl, sym, ap, _∙_}
-use mathlib.Core.Bool.{Bool, true, false, cond}
-use mathlib.Core.List.{List, [], _∷_}
-use Prim.Native.Nat.{ℕ, _+_, _-_, _^_, _≤_, _<_}
+use mathlib.Core.Path.{_≡_, refl, ap, _∙_}
+use mathlib.Core.Bool.{Bool, true, false}
+use mathlib.Core.List.{List, _∷_}
+use Prim.Native.Nat.{ℕ, _+_, _-_, _≤_, _<_}
 use native.Mathlib.Omega.{arith}
 use native.Mathlib.Numerals.{add-one}
-use lib.Dec.{ltb, eqb}
-use mir.Syntax.{w64}
-use mir.Val.{boolByte, Fits}
-use lib.ListN.{length, getD, set, take, drop, length-drop, length-set}
+use lib.ListN.{length, getD, set, drop, length-drop, length-set}
 use lib.Seq.{sets, drop-cons, drop-length, getD-take, getD-drop, length-take-le}
-use Rattle.mesh.specs.Lists.{count, filter}
-use Rattle.mesh.proofs.BoolLaws.{bit-one}
+use Rattle.lists.specs.Lists.{filter}
 use Rattle.links.specs.Peels.{stretch}
-
--- ---- numbers counted
-
--- from place i on is left
-abbrev pub Counted-from : (f : ℕ → Bool) → (xs : List ℕ) → (n i : ℕ) → Type 0
-Counted-from f xs n i = (n ≤ i) × (n + count f (drop i xs) ≡ count f xs)
-
-byte-bit : (t : Bool) → boolByte t ≡ cond {A = ℕ} t 1 0
-byte-bit true = refl
-byte-bit false = refl
-
--- the count stays below what a length can be
-pub counted-fits : (n i : ℕ) (t : Bool) → n ≤ i → i + 1 < 2 ^ 64 → Fits w64 (n + boolByte t)
-counted-fits n i t h l = record { fits = omega (arith, byte-bit t, bit-one t) }
-
-pub counted-turn : (f : ℕ → Bool) (xs : List ℕ) (n i : ℕ) → i < length xs → Counted-from f xs n i → Counted-from f xs (n + boolByte (f (getD xs i 0))) (i + 1)
-unfolding count
-counted-turn f xs n i l h = (
-  omega (arith, h .0, bit-one (f (getD xs i 0)), byte-bit (f (getD xs i 0))),
-  omega (arith, h .1, byte-bit (f (getD xs i 0)), ap (count f) (drop-cons xs i 0 l), ap (λ (k : ℕ). count f (drop k xs)) (add-one i)),
-)
-
-pub counted-end : (f : ℕ → Bool) (xs : List ℕ) (n i : ℕ) → i ≡ length xs → Counted-from f xs n i → n ≡ count f xs
-unfolding count
-counted-end f xs n i e h = omega (arith, h .1, ap (count f) (ap (λ (k : ℕ). drop k xs) e ∙ drop-length xs))
 
 -- ---- radios listed
 

@@ -4,20 +4,20 @@ use mathlib.Core.Path.{_≡_, refl, sym, ap, _∙_}
 use mathlib.Core.Logic.{_⊎_, inl, inr}
 use mathlib.Core.Bool.{Bool, true, false, _&&_, _||_, cond, or-true, or-false, and-false}
 use mathlib.Core.List.{List, [], _∷_}
-use Prim.Native.Nat.{ℕ, _+_, _-_, _≤_, _<_}
+use Prim.Native.Nat.{ℕ, _+_, _-_, _<_}
 use native.Mathlib.Omega.{arith}
-use lib.Dec.{leb, eqb}
+use lib.Dec.{eqb}
 use lib.ListN.{length, getD, set}
 use lib.Seq.{getD-set-same, getD-set-other}
 use borrow.Author.Tests.{eqb-true, eqb-false, eq-eqb, ne-eqb}
 use Rattle.mesh.specs.Limits.{max-radios, row-bytes}
-use Rattle.mesh.specs.Lists.{member}
+use Rattle.lists.specs.Lists.{member}
 use Rattle.mesh.specs.Tables.{byte-at, marked, put-bit}
-use Rattle.mesh.proofs.BoolLaws.{bool-cases, never, and-left, and-right}
-use Rattle.mesh.proofs.ListLaws.{In, not-member}
-use Rattle.mesh.proofs.TableLaws.{marked-put-bit}
+use Rattle.lists.proofs.Tests.{bool-cases, and-left}
+use Rattle.lists.proofs.Member.{not-member}
+use Rattle.mesh.proofs.Tables.Laws.{marked-put-bit}
 use Rattle.links.specs.Turns.{counter-less, released, place-marked, places-released, Releasable}
-use Rattle.links.proofs.TurnLoops.{length-counter-less, length-place-marked, releasable-tail}
+use Rattle.links.proofs.TurnLoops.{length-place-marked, releasable-tail}
 
 -- ---- laws of one row: bit p of a row of its own
 

@@ -4,18 +4,17 @@ use mathlib.Core.Path.{_≡_, refl, sym, ap, _∙_}
 use mathlib.Core.Logic.{_⊎_, inl, inr}
 use mathlib.Core.Bool.{Bool, true, false, _&&_, cond}
 use mathlib.Core.List.{List, [], _∷_}
-use Prim.Native.Nat.{ℕ, zero, suc, _+_, _-_, _≤_, _<_}
+use Prim.Native.Nat.{ℕ, suc, _+_, _-_, _≤_, _<_}
 use native.Mathlib.Omega.{arith}
 use native.Mathlib.Numerals.{add-one}
 use lib.Dec.{leb, eqb}
-use lib.ListN.{length, getD, set, take, drop, length-set}
-use lib.Seq.{drop-cons, getD-take, getD-set-same, getD-set-other, drop-length}
-use borrow.Author.Tests.{eqb-true, eqb-false, eq-eqb, ne-eqb}
-use Rattle.mesh.specs.Lists.{range}
+use lib.ListN.{length, getD, set, drop, length-set}
+use lib.Seq.{drop-cons, getD-set-other, drop-length}
+use borrow.Author.Tests.{eq-eqb, ne-eqb}
+use Rattle.lists.specs.Lists.{range}
 use Rattle.mesh.specs.Tables.{put-bit}
-use Rattle.mesh.proofs.BoolLaws.{bool-cases}
-use Rattle.mesh.proofs.ListLaws.{In}
-use Rattle.mesh.proofs.TableLaws.{length-put-bit}
+use Rattle.lists.proofs.Tests.{bool-cases}
+use Rattle.mesh.proofs.Tables.Laws.{length-put-bit}
 use Rattle.links.specs.Turns.{end-counted, counter-less, released, place-marked, places-released, places-fitting, Releasable}
 
 -- ---- lengths

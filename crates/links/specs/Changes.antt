@@ -6,19 +6,18 @@
 -- Laws are in proofs/ChangeLaws.antt. Definitions only.
 use mathlib.Core.Path.{_≡_}
 use mathlib.Core.Bool.{Bool, true, cond}
-use mathlib.Core.List.{List, [], _∷_}
+use mathlib.Core.List.{List}
 use Prim.Native.Nat.{ℕ, zero, suc, _≤_}
 use lib.IntN.{ℤ, pos, negsuc}
 use lib.ListN.{length}
 use Rattle.mesh.specs.Limits.{max-radios, max-neighbours}
-use Rattle.mesh.specs.Lists.{range, filter, member}
+use Rattle.lists.specs.Lists.{folded, range, filter, member}
 use Rattle.mesh.specs.Cores.{numbers}
 use Rattle.mesh.specs.Tables.{Tables, put-bit, graph-in}
-use Rattle.mesh.proofs.Valid.{Valid, Allowed}
+use Rattle.mesh.specs.Valid.{Valid, Allowed}
 
 unfoldable pub all-marked : (radios : List ℕ) → (row : List ℕ) → List ℕ
-all-marked [] ts = ts
-all-marked (v ∷ vs) ts = all-marked vs (put-bit true 0 v ts)
+all-marked vs ts = folded (λ v now. put-bit true 0 v now) vs ts
 
 unfoldable pub in-order : (radios : List ℕ) → List ℕ
 in-order xs = filter (λ v. member v xs) (range 0 max-radios)

@@ -16,11 +16,10 @@ use Prim.Native.Nat.{ℕ, _+_, _*_, _≤_, _<_}
 use lib.Dec.{ltb, leb, eqb}
 use lib.ListN.{length, getD, take, drop}
 use Rattle.mesh.specs.Limits.{max-radios, row-bytes}
-use Rattle.mesh.specs.Lists.{count, filter, member}
+use Rattle.lists.specs.Lists.{count, filter, member, In}
 use Rattle.mesh.specs.Graph.{linked, relinked}
 use Rattle.mesh.specs.Tables.{marked, put-link, graph-in}
-use Rattle.mesh.proofs.ListLaws.{In}
-use Rattle.mesh.proofs.Peel.{Takes, Peels}
+use Rattle.mesh.specs.Peel.{Takes, Peels}
 use Rattle.rows.specs.Rows.{neighbours-of}
 
 abbrev pub stretch : (order : List ℕ) → (start size : ℕ) → List ℕ

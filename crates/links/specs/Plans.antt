@@ -10,13 +10,13 @@ use Prim.Native.Nat.{ℕ, _+_, _*_, _≤_, _<_}
 use lib.Dec.{leb}
 use lib.ListN.{length, getD, take, drop}
 use Rattle.mesh.specs.Limits.{max-radios, max-neighbours, row-bytes}
-use Rattle.mesh.specs.Lists.{member}
+use Rattle.lists.specs.Lists.{member}
 use Rattle.mesh.specs.Graph.{Graph, neighbours-in, relinked}
 use Rattle.mesh.specs.Cores.{number}
 use Rattle.mesh.specs.Levels.{changed, lower-level, stretch-start, stretch-length, new-stretch}
 use Rattle.mesh.specs.Tables.{Tables, graph-in}
 use Rattle.mesh.specs.Sound.{sound}
-use Rattle.mesh.proofs.Valid.{Allowed}
+use Rattle.mesh.specs.Valid.{Allowed}
 
 unfoldable pub changed-part : (up : Bool) → (taken size : ℕ) → (stretch : List ℕ) → List ℕ
 changed-part up k m xs = cond up (drop k (take m xs)) (take k xs)

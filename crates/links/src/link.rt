@@ -2,8 +2,8 @@
 ghost use mathlib.Core.Bool.{true, false};
 ghost use Prim.Native.Nat.{_≤_};
 ghost use lib.ListN.{length};
-ghost use Rattle.mesh.specs.Tables.{tables, graph-in};
-ghost use Rattle.calls.specs.Writes.{Link-accepted, Link-contract};
+ghost use Rattle.mesh.specs.Tables.{tables, graph-in, lent};
+ghost use Rattle.calls.specs.Contracts.Links.{Link-accepted, Link-contract};
 ghost use Rattle.links.specs.Plans.{Ready};
 use super::apply;
 use super::plan;
@@ -26,7 +26,9 @@ fn carry_out(
 ) -> Reply
     requires ready { ⌜ Ready up (length (now order)) a b (tables (now links) (now numbers) (now order)) (now places) (now highs) ⌝ }
     requires room { ⌜ (length (now order) ≤ length (now answer)) × (length (now order) ≤ length (now stretch)) ⌝ }
-    ensures { λ r. ⌜ Link-accepted up a b (graph-in (length (now (order .entry))) (now (links .entry))) (tables (now (links .entry)) (now (numbers .entry)) (now (order .entry))) (now (answer .entry)) r (tables (now (links .exit)) (now (numbers .exit)) (now (order .exit))) (now (answer .exit)) ⌝ }
+    ensures { λ r. ⌜ Link-accepted up a b (graph-in (length (now (order .entry))) (now (links .entry)))
+        (lent (links .entry) (numbers .entry) (order .entry)) (now (answer .entry)) r
+        (lent (links .exit) (numbers .exit) (order .exit)) (now (answer .exit)) ⌝ }
 {
     let planned = plan::plan_link(up, a, b, links, numbers, order, places, highs, stretch);
     apply::apply(up, a, b, planned, stretch, links, numbers, order, answer)
@@ -35,7 +37,7 @@ fn carry_out(
 // Takes the link between a and b up or down. Accepted, the reply has number 0, the step and the count of changed radios; the
 // answer table has these ascending in front, and its later entries keep their content. Refused, the reply has the number and
 // zeros, and every table keeps its content.
-fn link(
+pub fn link(
     up: bool,
     n: u32,
     a: u32,
@@ -45,7 +47,8 @@ fn link(
     order: &mut [u16],
     answer: &mut [u16],
 ) -> Reply
-    ensures { λ r. ⌜ Link-contract up n a b (tables (now (links .entry)) (now (numbers .entry)) (now (order .entry))) (now (answer .entry)) r (tables (now (links .exit)) (now (numbers .exit)) (now (order .exit))) (now (answer .exit)) ⌝ }
+    ensures { λ r. ⌜ Link-contract up n a b (lent (links .entry) (numbers .entry) (order .entry)) (now (answer .entry)) r
+        (lent (links .exit) (numbers .exit) (order .exit)) (now (answer .exit)) ⌝ }
 {
     let mut places = [0u16; Site::RADIOS as usize];
     let mut highs = [0u8; Site::RADIOS as usize];
@@ -93,7 +96,8 @@ pub fn link_up(
     order: &mut [u16],
     answer: &mut [u16],
 ) -> Reply
-    ensures { λ r. ⌜ Link-contract true n a b (tables (now (links .entry)) (now (numbers .entry)) (now (order .entry))) (now (answer .entry)) r (tables (now (links .exit)) (now (numbers .exit)) (now (order .exit))) (now (answer .exit)) ⌝ }
+    ensures { λ r. ⌜ Link-contract true n a b (lent (links .entry) (numbers .entry) (order .entry)) (now (answer .entry)) r
+        (lent (links .exit) (numbers .exit) (order .exit)) (now (answer .exit)) ⌝ }
 {
     link(true, n, a, b, links, numbers, order, answer)
 }
@@ -108,7 +112,8 @@ pub fn link_down(
     order: &mut [u16],
     answer: &mut [u16],
 ) -> Reply
-    ensures { λ r. ⌜ Link-contract false n a b (tables (now (links .entry)) (now (numbers .entry)) (now (order .entry))) (now (answer .entry)) r (tables (now (links .exit)) (now (numbers .exit)) (now (order .exit))) (now (answer .exit)) ⌝ }
+    ensures { λ r. ⌜ Link-contract false n a b (lent (links .entry) (numbers .entry) (order .entry)) (now (answer .entry)) r
+        (lent (links .exit) (numbers .exit) (order .exit)) (now (answer .exit)) ⌝ }
 {
     link(false, n, a, b, links, numbers, order, answer)
 }

@@ -4,10 +4,11 @@ ghost use mathlib.Core.Bool.{true};
 ghost use Prim.Native.Nat.{_*_, _≤_};
 ghost use lib.ListN.{length};
 ghost use Rattle.mesh.specs.Limits.{max-radios, max-neighbours, row-bytes};
-ghost use Rattle.mesh.specs.Tables.{tables, graph-in};
+ghost use Rattle.mesh.specs.Tables.{graph-in, lent};
 ghost use Rattle.mesh.specs.Sound.{rows-proper};
 ghost use Rattle.calls.specs.Questions.{ends-refusal};
 ghost use Rattle.links.specs.Asked.{Asked};
+use calls::Refusal;
 use mesh::Site;
 use tables::sizes;
 
@@ -17,25 +18,25 @@ fn ends_refusal(up: bool, n: u32, a: u32, b: u32, links: &[u8]) -> u32
     ensures { λ r. ⌜ r ≡ ends-refusal max-neighbours up n a b (graph-in n (now (links .entry))) ⌝ }
 {
     if n <= a {
-        return 4;
+        return Refusal::RADIO;
     }
     if n <= b {
-        return 4;
+        return Refusal::RADIO;
     }
     if a == b {
-        return 5;
+        return Refusal::SAME_ENDS;
     }
     if rows::is_marked(links, a, b) == up {
-        return 6;
+        return Refusal::LINK_STATE;
     }
     if !up {
         return 0;
     }
     if Site::NEIGHBOURS <= rows::row_degree(links, a) {
-        return 7;
+        return Refusal::NO_ROOM;
     }
     if Site::NEIGHBOURS <= rows::row_degree(links, b) {
-        return 7;
+        return Refusal::NO_ROOM;
     }
     0
 }
@@ -55,7 +56,7 @@ pub(crate) fn refusal(
     highs: &mut [u8],
 ) -> u32
     requires { ⌜ (max-radios ≤ length (now places)) × (max-radios ≤ length (now highs)) ⌝ }
-    ensures { λ r. ⌜ Asked up n a b (tables (now (links .entry)) (now (numbers .entry)) (now (order .entry))) answer (now (places .exit)) (now (highs .exit)) r ⌝ }
+    ensures { λ r. ⌜ Asked up n a b (lent (links .entry) (numbers .entry) (order .entry)) answer (now (places .exit)) (now (highs .exit)) r ⌝ }
 {
     let number = sizes::with_answer(
         Site { radios: n },
@@ -68,7 +69,7 @@ pub(crate) fn refusal(
         return number;
     }
     if !soundness::examine(n, links, numbers, order, places, highs) {
-        return 3;
+        return Refusal::UNSOUND;
     }
     ends_refusal(up, n, a, b, links)
 }

@@ -5,7 +5,7 @@ ghost use lib.Dec.{ltb};
 ghost use lib.ListN.{length, getD};
 ghost use lib.Seq.{sets};
 ghost use Rattle.mesh.specs.Limits.{max-radios};
-ghost use Rattle.mesh.specs.Lists.{filter};
+ghost use Rattle.lists.specs.Lists.{filter};
 ghost use Rattle.links.specs.Peels.{level-start, level-size, stretch};
 
 // Where a stretch starts, and how long it is.
@@ -40,15 +40,17 @@ pub(crate) fn list_stuck(
     counters: &[u8],
     list: &mut [u16],
 )
-    requires { ⌜ (start + size ≤ length (now order)) × (start + size ≤ max-radios) × (taken ≤ max-radios) × ((p : ℕ) → p < length (now order) → getD (now order) p 0 < length (now counters)) ⌝ }
-    ensures { λ _. ⌜ now (list .exit) ≡ sets (now (list .entry)) taken (filter (λ (v : ℕ). ltb most (getD (now (counters .entry)) v 0)) (stretch (now (order .entry)) start size)) ⌝ }
+    requires { ⌜ (start + size ≤ length (now order)) × (start + size ≤ max-radios) × (taken ≤ max-radios) ×
+        ((p : ℕ) → p < length (now order) → getD (now order) p 0 < length (now counters)) ⌝ }
+    ensures { λ _. ⌜ now (list .exit) ≡ sets (now (list .entry)) taken
+        (filter (λ (v : ℕ). ltb most (getD (now (counters .entry)) v 0)) (stretch (now (order .entry)) start size)) ⌝ }
 {
     let mut at = taken;
     let mut i: usize = 0;
     while i < size {
         let v = order[start + i];
         if most < counters[v as usize] {
-            rows::put_entry(list, at, v);
+            tables::fill::put16(list, at, v);
             at += 1;
         }
         i += 1;

@@ -2,18 +2,23 @@
 -- In order: what a list of links joins, a link put in or taken out, proper links, graphs one link apart, neighbours in a set.
 use mathlib.Core.Path.{_≡_, refl, sym, ap, _∙_}
 use mathlib.Core.Logic.{_⊎_, inl, inr}
-use mathlib.Core.Bool.{Bool, true, false, _&&_, _||_, not, cond, and-true, and-false, or-comm, or-true, or-false}
-use mathlib.Core.List.{List, [], _∷_, _++_}
-use Prim.Native.Nat.{ℕ, zero, suc, _+_, _≤_, _<_}
+use mathlib.Core.Bool.{Bool, true, false, _&&_, _||_, not, cond, and-true, and-false, or-comm, or-true}
+use mathlib.Core.List.{List, [], _∷_}
+use Prim.Native.Nat.{ℕ, _≤_, _<_}
 use native.Mathlib.Omega.{arith}
-use native.Mathlib.Nat.{le-antisymm, le-trans}
-use lib.Dec.{ltb, leb, eqb}
-use borrow.Author.Tests.{ltb-true, ltb-false, lt-ltb, eqb-true, eq-eqb, ne-eqb, not-false}
-use Rattle.mesh.specs.Lists.{range, count, filter, member}
-use Rattle.mesh.specs.Graph.{Link, Graph, graph, radios, other-ends, linked, neighbours-in, degree, neighbours-among, link, link-before, same-link, with-link, without-link, new-links, relinked, proper}
-use Rattle.mesh.proofs.BoolLaws.{bool-cases, never, and-left, and-right, and-both, or-cases, or-left, or-right, iff-eq}
-use Rattle.mesh.proofs.ListLaws.{In, member-in, in-member, in-range, range-in, distinct-range, Distinct, count-mono, count-sub, count-both, count-filter, Each-once}
-use Rattle.mesh.proofs.Valid.{smaller, larger}
+use native.Mathlib.Nat.{le-antisymm}
+use lib.Dec.{ltb, eqb}
+use borrow.Author.Tests.{ltb-true, ltb-false, lt-ltb, eqb-true, eq-eqb}
+use Rattle.lists.specs.Lists.{range, count, filter, member, In, Distinct, Each-once}
+use Rattle.mesh.specs.Graph.{Link, Graph, radios, other-ends, linked, neighbours-in, degree, neighbours-among, link, link-before, same-link, with-link}
+use Rattle.mesh.specs.Graph.{without-link, new-links, relinked, proper}
+use Rattle.lists.proofs.Tests.{bool-cases, never, and-left, and-right, and-both, or-cases, or-left, or-right, iff-eq, swap-or}
+use Rattle.lists.proofs.Member.{member-in, in-member}
+use Rattle.lists.proofs.Range.{in-range, range-in, distinct-range}
+use Rattle.lists.proofs.Count.{count-mono, count-both}
+use Rattle.lists.proofs.Distinct.{count-sub}
+use Rattle.lists.proofs.Filter.{count-filter}
+use Rattle.mesh.specs.Valid.{smaller, larger}
 
 -- ---- what links join
 
@@ -83,10 +88,6 @@ unfolding linked
 linked-sym g v w = linked-by-sym (g .links) v w
 
 -- ---- a link put in or taken out
-
-swap-or : (x y z : Bool) → (x || (y || z)) ≡ (y || (x || z))
-swap-or true y z = sym (or-true y)
-swap-or false y z = refl
 
 pub linked-by-with : (l : Link) (ls : List Link) (v w : ℕ) → linked-by (with-link l ls) v w ≡ (joins l v w || linked-by ls v w)
 unfolding with-link

@@ -5,14 +5,14 @@
 --   reached, core-of         the same, worked out by rounds, as an ascending list
 --   In-backbone g v          document 01: v's number is the greatest at the site, and not 0
 --   backbone g               the same, worked out, as an ascending list
--- That rounds give what is reachable is `core-of-iff` in proofs/Reach.antt; of the backbone it is `backbone-iff` in
--- proofs/ListedRadios.antt. Definitions only.
+-- That rounds give what is reachable is `core-of-iff` in proofs/Trees/Reach.antt; of the backbone it is `backbone-iff` in
+-- proofs/Trees/Listed.antt. Definitions only.
 use mathlib.Core.Path.{_≡_}
-use mathlib.Core.Bool.{Bool, true, false, _&&_, _||_}
+use mathlib.Core.Bool.{Bool, true, _&&_, _||_}
 use mathlib.Core.List.{List, [], _∷_}
 use Prim.Native.Nat.{ℕ, zero, suc, _≤_, _<_, max}
 use lib.Dec.{ltb, leb, eqb}
-use Rattle.mesh.specs.Lists.{filter, member}
+use Rattle.lists.specs.Lists.{filter, member}
 use Rattle.mesh.specs.Graph.{Graph, radios, linked, neighbours-among}
 use Rattle.mesh.specs.Cores.{number, numbers}
 

@@ -5,14 +5,14 @@
 --   cores g           what peeling leaves for k = 1, 2, .., until nothing is left
 --   number g v        the core number of v: how many of these have v
 --   numbers g         the core numbers by radio
--- That `number` is the core number is `number-core` in proofs/Peeling.antt. Definitions only.
+-- That `number` is the core number is `number-core` in proofs/Cores/Peeling.antt. Definitions only.
 use mathlib.Core.Path.{_≡_}
-use mathlib.Core.Bool.{Bool, true, false, _&&_, cond}
+use mathlib.Core.Bool.{Bool, true, cond}
 use mathlib.Core.List.{List, [], _∷_, map}
 use Prim.Native.Nat.{ℕ, zero, suc, _+_, _≤_, _<_}
 use lib.Dec.{leb, eqb}
 use lib.ListN.{length}
-use Rattle.mesh.specs.Lists.{filter, member}
+use Rattle.lists.specs.Lists.{filter, member}
 use Rattle.mesh.specs.Graph.{Graph, radios, linked, neighbours-among, neighbours-in}
 
 -- ---- the largest group

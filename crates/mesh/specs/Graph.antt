@@ -8,11 +8,11 @@
 --   relinked up a b g        the graph with the link between a and b taken up or down
 --   proper, ascending        links as an image lists them: lower radio first, radios below n, by lower and then higher
 -- Laws are in proofs/GraphLaws.antt. Definitions only.
-use mathlib.Core.Bool.{Bool, true, false, _&&_, _||_, cond}
+use mathlib.Core.Bool.{Bool, true, _&&_, _||_, cond}
 use mathlib.Core.List.{List, [], _∷_}
-use Prim.Native.Nat.{ℕ, zero, suc, _+_}
+use Prim.Native.Nat.{ℕ}
 use lib.Dec.{ltb, eqb}
-use Rattle.mesh.specs.Lists.{range, count, member}
+use Rattle.lists.specs.Lists.{range, count, member}
 
 pub record Link : Type 0 where
   pub low : ℕ

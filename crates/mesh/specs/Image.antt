@@ -10,16 +10,16 @@
 --   is-image n bs            question 11, worked out
 --   Tables-image n bs        question 11: the bytes are the image of some sound tables with this n
 --   payload-at bs i          the payload of block i, as the block reader gives it
--- That `is-image` is `Tables-image` is `is-image-tables` in proofs/ImageTables.antt. Definitions only.
+-- That `is-image` is `Tables-image` is `is-image-tables` in proofs/Images/Tables.antt. Definitions only.
 use mathlib.Core.Path.{_≡_}
-use mathlib.Core.Bool.{Bool, true, false, _&&_, not, cond}
+use mathlib.Core.Bool.{Bool, _&&_, not, cond, true}
 use mathlib.Core.List.{List, [], _∷_, _++_, map, flatMap}
 use Prim.Native.Nat.{ℕ, zero, suc, _+_, _*_, _-_, _/_, _%_}
 use lib.Dec.{ltb, eqb}
 use lib.ListN.{length, getD, take, drop, replicate}
-use Rattle.mesh.specs.Lists.{range, all, same}
+use Rattle.lists.specs.Lists.{range, all, same, Entries-below}
 use Rattle.mesh.specs.Graph.{Link, Graph, graph, proper, ascending}
-use Rattle.mesh.specs.Tables.{Tables, graph-in, tables-of, Entries-below, Tables-of-size}
+use Rattle.mesh.specs.Tables.{Tables, graph-in, tables-of, Tables-of-size}
 use Rattle.mesh.specs.Sound.{sound}
 
 abbrev pub block-bytes : ℕ

@@ -8,14 +8,14 @@
 --   stretch-up            document 01: how a link going up lays the stretch out anew
 --   stretch-down          document 01: how a link going down lays the stretch out anew
 --   new-order up a b g xs the order after the call: xs with the stretch of level K laid out anew
--- Laws are in proofs/Stretch.antt. Definitions only.
+-- Laws are in proofs/Links/Call.antt. Definitions only.
 use mathlib.Core.Bool.{Bool, true, false, not, cond}
 use mathlib.Core.List.{List, [], _∷_, _++_}
 use Prim.Native.Nat.{ℕ, zero, suc, _+_, _-_, min}
 use lib.Dec.{ltb, leb, eqb}
 use lib.IntN.{ℤ, pos, negsuc}
 use lib.ListN.{length, take, drop}
-use Rattle.mesh.specs.Lists.{count, filter, member}
+use Rattle.lists.specs.Lists.{count, filter, member}
 use Rattle.mesh.specs.Graph.{Graph, radios, linked, neighbours-among, relinked}
 use Rattle.mesh.specs.Cores.{number}
 

@@ -1,10 +1,11 @@
 -- Document 01's definitions, one file a subject, in the order in which a reader needs them.
 pub mod Limits
-pub mod Lists
 pub mod Graph
 pub mod Cores
 pub mod Orders
 pub mod Levels
+pub mod Peel
+pub mod Valid
 pub mod Tables
 pub mod Sound
 pub mod Connected

@@ -4,13 +4,13 @@
 --   few-later f num xs   no radio of xs has more later neighbours than its number, where f tells neighbours
 --   is-k-order g xs      document 01: core numbers never fall along it, and no radio has more later neighbours than its core number
 --   running-maxima f m xs  for each radio of xs, the greatest count of later neighbours up to it, and at least m
--- Laws are in proofs/OrderLaws.antt. Definitions only.
-use mathlib.Core.Bool.{Bool, true, false, _&&_}
+-- Laws are in proofs/Cores/Orders.antt. Definitions only.
+use mathlib.Core.Bool.{Bool, true, _&&_}
 use mathlib.Core.List.{List, [], _∷_}
 use Prim.Native.Nat.{ℕ, max}
 use lib.Dec.{leb, eqb}
 use lib.ListN.{length}
-use Rattle.mesh.specs.Lists.{range, count, all}
+use Rattle.lists.specs.Lists.{range, count, all}
 use Rattle.mesh.specs.Graph.{Graph, linked, neighbours-among}
 use Rattle.mesh.specs.Cores.{number}
 

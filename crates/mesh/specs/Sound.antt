@@ -1,5 +1,5 @@
 -- Soundness by document 01's local conditions, clause by clause. That sound tables are exactly the ones with proper rows, core
--- numbers and a k-order is `sound-iff` in proofs/Soundness.antt.
+-- numbers and a k-order is `sound-iff` in proofs/Tables/Soundness.antt.
 --   symmetric          rows are symmetric
 --   irreflexive        no radio is its own neighbour
 --   within             no bit at n or above
@@ -9,13 +9,13 @@
 --   sound-within       all conditions, where `most` bounds the bits of a row
 --   sound n t          document 01: the tables t of n radios are sound
 -- The conditions on the order alone are `each-once`, `rising` and `few-later` of specs/Orders.antt. Definitions only.
-use mathlib.Core.Bool.{Bool, true, false, _&&_, not, Bool·beq}
+use mathlib.Core.Bool.{Bool, _&&_, not, Bool·beq}
 use mathlib.Core.List.{List}
-use Prim.Native.Nat.{ℕ, _*_, _-_}
+use Prim.Native.Nat.{ℕ, _-_}
 use lib.Dec.{leb}
 use lib.ListN.{getD}
 use Rattle.mesh.specs.Limits.{max-radios, max-neighbours}
-use Rattle.mesh.specs.Lists.{range, count, all}
+use Rattle.lists.specs.Lists.{range, count, all}
 use Rattle.mesh.specs.Orders.{each-once, rising, few-later}
 use Rattle.mesh.specs.Tables.{Tables, marked}
 

@@ -6,17 +6,17 @@
 --   links-table g      the links table that marks exactly the links of g, each in both rows
 --   graph-in n ts      the graph that the links table ts marks, read back from the bits above the diagonal
 --   tables-of g xs     the tables of the graph g with the order xs
---   Entries-below      every entry of a table is below a bound
 --   Tables-of-size     tables of n radios as they are lent: lengths, and rows of bytes
--- Laws are in proofs/TableLaws.antt. Definitions only.
+-- Laws are in proofs/Tables/. Definitions only.
 use mathlib.Core.Path.{_≡_}
-use mathlib.Core.Bool.{Bool, true, false, cond}
-use mathlib.Core.List.{List, [], _∷_, map, flatMap}
-use Prim.Native.Nat.{ℕ, zero, suc, _+_, _*_, _-_, _/_, _%_, _^_, _<_}
+use mathlib.Core.Bool.{Bool, cond}
+use mathlib.Core.List.{List, map, flatMap}
+use Prim.Native.Nat.{ℕ, zero, suc, _+_, _*_, _-_, _/_, _%_, _^_}
+use denote.Ref.{RefT, now}
 use lib.Dec.{eqb}
 use lib.ListN.{length, getD, set}
 use Rattle.mesh.specs.Limits.{row-bytes}
-use Rattle.mesh.specs.Lists.{range, filter}
+use Rattle.lists.specs.Lists.{Entries-below, range, filter}
 use Rattle.mesh.specs.Graph.{Link, Graph, graph, radios, linked}
 use Rattle.mesh.specs.Cores.{numbers}
 
@@ -27,6 +27,10 @@ pub record Tables : Type 0 where
 
 abbrev pub tables : (links numbers order : List ℕ) → Tables
 tables l k o = record { links = l; numbers = k; order = o }
+
+-- links, numbers and order as a call is lent them
+abbrev pub lent : (links numbers order : RefT (List ℕ)) → Tables
+lent l k o = tables (now l) (now k) (now o)
 
 -- ---- bits of a row: value 2^(b mod 8) in byte b div 8
 
@@ -78,10 +82,7 @@ graph-in n ts = graph n (flatMap (row-links n ts) (range 0 n))
 
 -- ---- tables as they are lent
 
--- 256 for a table of bytes, 65,536 for one of 16-bit entries
-abbrev pub Entries-below : (bound : ℕ) → List ℕ → Type 0
-Entries-below m ts = (i : ℕ) → i < length ts → getD ts i 0 < m
-
+-- tables of n radios: lengths, and rows of bytes
 pub record Tables-of-size (n : ℕ) (t : Tables) : Type 0 where
   pub links-length : length (t .links) ≡ row-bytes * n
   pub numbers-length : length (t .numbers) ≡ n

@@ -7,15 +7,15 @@
 --   Is-tree g xs         xs is the answer: the root, then the nodes, by level and then name ascending
 --   Node-name g v x      x is the name of the node whose shell has v
 --   tree g, node-name    the same, worked out
--- That the tree worked out is the one defined by sets, and the only one, is `tree-iff` in proofs/TreeUnique.antt; of names it
+-- That the tree worked out is the one defined by sets, and the only one, is `tree-iff` in proofs/Trees/Unique.antt; of names it
 -- is `node-name-iff` there. Definitions only.
 use mathlib.Core.Path.{_≡_}
 use mathlib.Core.Logic.{_⊎_, _↔_}
 use mathlib.Core.Bool.{Bool, true, false, _&&_, cond}
-use mathlib.Core.List.{List, [], _∷_, _++_, map, flatMap, List·Memᴰ}
-use Prim.Native.Nat.{ℕ, zero, suc, _+_, _-_, _≤_, _<_}
+use mathlib.Core.List.{List, [], _∷_, map, flatMap, List·Memᴰ}
+use Prim.Native.Nat.{ℕ, zero, suc, _-_, _≤_, _<_}
 use lib.Dec.{eqb}
-use Rattle.mesh.specs.Lists.{range, filter, head-or}
+use Rattle.lists.specs.Lists.{range, filter, head-or}
 use Rattle.mesh.specs.Graph.{Graph, radios}
 use Rattle.mesh.specs.Cores.{number}
 use Rattle.mesh.specs.Connected.{In-core, core-of}

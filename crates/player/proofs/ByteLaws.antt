@@ -3,19 +3,20 @@
 use mathlib.Core.Path.{_≡_, refl, sym, ap, subst, _∙_}
 use mathlib.Core.Bool.{Bool, true, false, true≢false}
 use mathlib.Core.List.{List, [], _∷_, _++_}
-use Prim.Native.Nat.{ℕ, _+_, _≤_, _<_, min}
+use Prim.Native.Nat.{ℕ, _+_, _≤_, _<_}
 use native.Mathlib.Omega.{arith}
 use native.Mathlib.Numerals.{add-one}
 use lib.ListN.{length, take, set, length-take}
 use lib.Seq.{take-suc-set}
 use Rattle.mesh.specs.Tables.{Tables}
-use Rattle.calls.specs.Replay.{line-feed, bad-line}
+use Rattle.text.specs.Text.{line-feed}
+use Rattle.calls.specs.Replay.{bad-line}
 use Rattle.script.specs.Lines.{line-of}
-use Rattle.printing.specs.Print.{Buffer, lent, put, Puts}
+use Rattle.text.specs.Print.{Buffer, buffer-at, put, Puts}
 use Rattle.script.specs.declared.lines.Line.{Line}
 use Rattle.script.specs.declared.lines.Line.the-variants.{Radios, Up, Down, Bad}
 use Rattle.player.specs.Lines.{is-call, Passed-over, Played, Prints}
-use Rattle.player.specs.Machine.{Spot, spot, Stop-put, Stopped, Held-on, Line-taken, Line-ends, Takes}
+use Rattle.player.specs.Machine.{Spot, spot, Stop-put, Stopped, Line-taken, Line-ends, Takes}
 use Rattle.player.specs.declared.machine.Progress.{Progress}
 use Rattle.player.proofs.MachineLaws.{takes-long, takes-held, takes-line, takes-none}
 
@@ -32,7 +33,7 @@ held-more line k b h = ap (λ (j : ℕ). take j (set line k b)) (add-one k) ∙ 
 
 -- after the end of the run
 pub byte-over : (n b : ℕ) (s : Progress) (t : Tables) (w line : List ℕ) {out : List ℕ} → s .live ≡ false
-    → Prints (λ text. Takes (length line) n b (spot t w line s) text (spot t w line s)) (lent out (s .at)) (lent out (s .at))
+    → Prints (λ text. Takes (length line) n b (spot t w line s) text (spot t w line s)) (buffer-at out (s .at)) (buffer-at out (s .at))
 unfolding spot put
 byte-over n b s t w line l =
     record {
@@ -43,26 +44,19 @@ byte-over n b s t w line l =
 
 pub byte-long : (n b : ℕ) (s r : Progress) (t : Tables) (w line : List ℕ) {out after : List ℕ} → s .live ≡ true → length line ≤ s .held
     → Stop-put s out r after
-    → Prints (λ text. Takes (length line) n b (spot t w line s) text (spot t w line r)) (lent out (s .at)) (lent after (r .at))
+    → Prints (λ text. Takes (length line) n b (spot t w line s) text (spot t w line r)) (buffer-at out (s .at)) (buffer-at after (r .at))
 unfolding spot
 byte-long n b s r t w line l h stop =
     record {
       text = bad-line (s .number);
       holds = takes-long (length line) n b (spot t w line s) (bad-line (s .number)) (spot t w line r) l (omega (arith, length-take (s .held) line))
-          (record {
-            says = refl;
-            tables = refl;
-            answer = refl;
-            number = stop .number;
-            held = ap (λ (k : ℕ). take k line) (stop .held);
-            live = stop .live;
-          });
+          (record { says = refl; tables = refl; answer = refl; number = stop .number; held = ap (λ (k : ℕ). take k line) (stop .held); live = stop .live });
       puts = stop .puts;
     }
 
 pub byte-held : (n b : ℕ) (s r : Progress) (t : Tables) (w line : List ℕ) {out : List ℕ} → s .live ≡ true → s .held < length line
     → (b ≡ line-feed → ⊥) → r .number ≡ s .number → r .held ≡ s .held + 1 → r .at ≡ s .at → r .live ≡ true
-    → Prints (λ text. Takes (length line) n b (spot t w line s) text (spot t w (set line (s .held) b) r)) (lent out (s .at)) (lent out (r .at))
+    → Prints (λ text. Takes (length line) n b (spot t w line s) text (spot t w (set line (s .held) b) r)) (buffer-at out (s .at)) (buffer-at out (r .at))
 unfolding spot put
 byte-held n b s r t w line {out} l h f number held at live =
     record {
@@ -77,7 +71,7 @@ byte-held n b s r t w line {out} l h f number held at live =
             held = ap (λ (k : ℕ). take k (set line (s .held) b)) held ∙ held-more line (s .held) b h;
             live = live;
           });
-      puts = record { is = ap (λ (k : ℕ). lent out k) at };
+      puts = record { is = ap (λ (k : ℕ). buffer-at out k) at };
     }
 
 -- the line that the code plays
@@ -86,9 +80,9 @@ whole-line line k b h f = held-more line k b h ∙ ap (λ (x : ℕ). take k line
 
 pub byte-call : (n b : ℕ) (s r : Progress) (t v : Tables) (w x line : List ℕ) {out after : List ℕ} → s .live ≡ true → s .held < length line
     → b ≡ line-feed → is-call (line-of (take (s .held + 1) (set line (s .held) b))) ≡ true
-    → Prints (λ text. Played n (line-of (take (s .held + 1) (set line (s .held) b))) t w text v x) (lent out (s .at)) (lent after (r .at))
+    → Prints (λ text. Played n (line-of (take (s .held + 1) (set line (s .held) b))) t w text v x) (buffer-at out (s .at)) (buffer-at after (r .at))
     → r .number ≡ s .number + 1 → r .held ≡ 0 → r .live ≡ true
-    → Prints (λ text. Takes (length line) n b (spot t w line s) text (spot v x (set line (s .held) b) r)) (lent out (s .at)) (lent after (r .at))
+    → Prints (λ text. Takes (length line) n b (spot t w line s) text (spot v x (set line (s .held) b) r)) (buffer-at out (s .at)) (buffer-at after (r .at))
 unfolding spot Line-ends
 byte-call n b s r t v w x line l h f call played number held live =
     let same = whole-line line (s .held) b h f in
@@ -119,16 +113,16 @@ none-passed n (Down a b) h p = absurd (true≢false h)
 none-passed n Bad h p = p
 
 -- nothing is put: the buffer is the same
-same-bytes : {out mid : List ℕ} {k at : ℕ} (text : List ℕ) → text ≡ [] → Puts (lent out k) text (lent mid at) → out ≡ mid
+same-bytes : {out mid : List ℕ} {k at : ℕ} (text : List ℕ) → text ≡ [] → Puts (buffer-at out k) text (buffer-at mid at) → out ≡ mid
 unfolding put
 same-bytes {out} {mid} {k} {at} text e p =
-    sym (ap (λ (b : Buffer). b .bytes) (p .is ∙ ap (put (lent out k)) e))
+    sym (ap (λ (b : Buffer). b .bytes) (p .is ∙ ap (put (buffer-at out k)) e))
 
 pub byte-bad : (n b : ℕ) (s r : Progress) (t v : Tables) (w x line : List ℕ) {out mid after : List ℕ} {at : ℕ} → s .live ≡ true
     → s .held < length line → b ≡ line-feed → is-call (line-of (take (s .held + 1) (set line (s .held) b))) ≡ false
-    → Prints (λ text. Played n (line-of (take (s .held + 1) (set line (s .held) b))) t w text v x) (lent out (s .at)) (lent mid at)
+    → Prints (λ text. Played n (line-of (take (s .held + 1) (set line (s .held) b))) t w text v x) (buffer-at out (s .at)) (buffer-at mid at)
     → Stop-put s mid r after
-    → Prints (λ text. Takes (length line) n b (spot t w line s) text (spot v x (set line (s .held) b) r)) (lent out (s .at)) (lent after (r .at))
+    → Prints (λ text. Takes (length line) n b (spot t w line s) text (spot v x (set line (s .held) b) r)) (buffer-at out (s .at)) (buffer-at after (r .at))
 unfolding spot Line-ends
 byte-bad n b s r t v w x line {out} {mid} {after} l h f call played stop =
     let same = whole-line line (s .held) b h f in
@@ -147,7 +141,7 @@ byte-bad n b s r t v w x line {out} {mid} {after} l h f call played stop =
       text = bad-line (s .number);
       holds = takes-line (length line) n b (spot t w line s) (bad-line (s .number)) (spot v x (set line (s .held) b) r) l
           (omega (arith, length-held line (s .held) (omega arith))) f (by-none _ is-none stops);
-      puts = subst (λ (k : List ℕ). Puts (lent k (s .at)) (bad-line (s .number)) (lent after (r .at))) (sym (same-bytes (played .text) (passed .says) (played .puts))) (stop .puts);
+      puts = subst (λ (k : List ℕ). Puts (buffer-at k (s .at)) (bad-line (s .number)) (buffer-at after (r .at))) (sym (same-bytes (played .text) (passed .says) (played .puts))) (stop .puts);
     }
   where
     by-none : {c : Bool} (k : List ℕ) {p q : Spot} {text : List ℕ} → c ≡ false → Stopped p text q → Line-ends c n k p text q

@@ -1,5 +1,5 @@
 -- What a run prints is decided by its input: two texts that meet `Run-prints` are equal.
-use mathlib.Core.Path.{_≡_, refl, sym, ap, subst, _∙_}
+use mathlib.Core.Path.{_≡_, sym, ap, subst, _∙_}
 use mathlib.Core.Bool.{Bool, true, false}
 use mathlib.Core.List.{List, [], _∷_, _++_}
 use Prim.Native.Nat.{ℕ, zero, suc, _+_}
@@ -13,7 +13,7 @@ use Rattle.script.specs.declared.lines.Line.{Line}
 use Rattle.script.specs.declared.lines.Line.the-variants.{Radios, Up, Down, Bad}
 use Rattle.player.specs.Lines.{is-call, Called, Played}
 use Rattle.player.specs.Play.{radios-of}
-use Rattle.player.specs.Whole.{lines-of, front, rest, Line-then, Line-by, Lines-print, Run-from, Run-prints}
+use Rattle.player.specs.Whole.{lines-of, front, rest, Line-by, Lines-print, Run-from, Run-prints}
 
 -- two outcomes of a line are the same
 pub record Same-line (text said : List ℕ) (v u : Tables) (x y : List ℕ) : Type 0 where

@@ -7,13 +7,13 @@ use lib.IntN.{ℤ}
 use lib.ListN.{take}
 use Rattle.mesh.specs.Tables.{Tables}
 use Rattle.calls.specs.Replay.{link-line}
-use Rattle.calls.specs.Writes.{Link-contract}
+use Rattle.calls.specs.Contracts.Links.{Link-contract}
 use Rattle.calls.specs.declared.Reply.{Reply}
 use Rattle.script.specs.Lines.{line-of}
-use Rattle.printing.specs.Print.{Buffer, Puts, put}
+use Rattle.text.specs.Print.{Buffer, Puts, put}
 use Rattle.script.specs.declared.lines.Line.{Line}
 use Rattle.script.specs.declared.lines.Line.the-variants.{Radios, Up, Down, Bad}
-use Rattle.player.specs.Lines.{is-call, Called, Passed-over, Played, Prints}
+use Rattle.player.specs.Lines.{is-call, Called, Played, Prints}
 
 -- a call's reply is what its line says; y is the step as the code hands it on
 pub called-prints : (up : Bool) (n a b : ℕ) (reply : Reply) {y : ℤ} {t v : Tables} {w x : List ℕ} {d e : Buffer}

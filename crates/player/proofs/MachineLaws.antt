@@ -7,12 +7,13 @@ use native.Mathlib.Omega.{arith}
 use lib.Dec.{leb, eqb}
 use lib.ListN.{length, take, length-take}
 use borrow.Author.Tests.{le-leb, lt-leb, eq-eqb, ne-eqb}
-use Rattle.calls.specs.Replay.{line-feed, bad-line, numbers-line, order-line, closing-lines}
+use Rattle.text.specs.Text.{line-feed}
+use Rattle.calls.specs.Replay.{bad-line, numbers-line, order-line, closing-lines}
 use Rattle.script.specs.Lines.{line-of}
-use Rattle.printing.specs.Print.{Buffer, Puts}
-use Rattle.printing.proofs.PrintLaws.{puts-as, puts-append}
+use Rattle.text.specs.Print.{Buffer, Puts}
+use Rattle.text.proofs.PrintLaws.{puts-as, puts-append}
 use Rattle.player.specs.Lines.{is-call}
-use Rattle.player.specs.Machine.{Spot, Stopped, Held-on, Line-taken, Line-ends, Ignored, Step, Takes, closing}
+use Rattle.player.specs.Machine.{Spot, Stopped, Held-on, Line-ends, Ignored, Step, Takes, closing}
 
 -- ---- one byte
 

@@ -13,20 +13,22 @@ use lib.Dec.{ltb}
 use lib.ListN.{length, take, drop, getD, replicate, length-append, length-replicate}
 use lib.Seq.{take-suc, take-at, take-all, length-take-le}
 use borrow.Author.Tests.{ltb-true, lt-ltb, le-ltb}
-use Rattle.mesh.proofs.BoolLaws.{bool-cases}
+use Rattle.lists.proofs.Tests.{bool-cases}
 use Rattle.mesh.specs.Limits.{max-radios, row-bytes}
 use Rattle.mesh.specs.Tables.{Tables, tables}
-use Rattle.mesh.proofs.ListLaws.{In, length-range}
+use Rattle.lists.specs.Lists.{In}
+use Rattle.lists.proofs.Range.{length-range}
 use Rattle.calls.specs.Questions.{By-number, lengths-of, lent-refusal, tables-refusal}
-use Rattle.calls.specs.Writes.{Tables-refused, Clear-accepted, Clear-contract}
+use Rattle.calls.specs.Contracts.Forms.{Tables-refused}
+use Rattle.calls.specs.Contracts.Sites.{Clear-accepted, Clear-contract}
 use Rattle.calls.proofs.ChainLaws.{lent-yes}
 use Rattle.calls.proofs.RecordLaws.{tables-ext}
-use Rattle.printing.specs.Print.{Buffer, lent, put, Puts, max-place}
-use Rattle.printing.proofs.PrintLaws.{put-fits}
+use Rattle.text.specs.Print.{Buffer, buffer-at, put, Puts, max-place}
+use Rattle.text.proofs.PrintLaws.{put-fits}
 use Rattle.player.specs.Lines.{Prints}
 use Rattle.player.specs.Machine.{Spot, spot, Takes, Takes-all, full, line-room, closing, ending}
-use Rattle.player.specs.Reading.{chunk-room, most-reads, waiting, Writes, room-made, Ready, Site-lent, Site-cleared}
-use Rattle.player.specs.Reading.{Site-sized, Takes-chunk, Ended, Takes-read, Reads-once, Reads-all}
+use Rattle.player.specs.Reading.{chunk-room, most-reads, waiting, Writes, room-made, Ready, Site-lent, Site-cleared, Site-sized, Takes-chunk, Ended}
+use Rattle.player.specs.Reading.{Takes-read, Reads-once, Reads-all}
 use Rattle.player.specs.Whole.{lines-of, Lines-print, cleared, Run-from}
 use Rattle.player.specs.declared.machine.Progress.{Progress}
 use Rattle.player.proofs.BytesLaws.{takes-more, takes-append}
@@ -51,24 +53,21 @@ writes-append b c d t u h k =
 
 -- a text that fits waits as a whole
 pub writes-put : (out text after : List ℕ) (at next : ℕ) → at + length text ≤ length out → length out ≤ max-place
-    → Puts (lent out at) text (lent after next) → Writes (lent out at) text (lent after next)
+    → Puts (buffer-at out at) text (buffer-at after next) → Writes (buffer-at out at) text (buffer-at after next)
 unfolding waiting
 writes-put out text after at next h m p =
-    let e : lent after next ≡ lent (take at out ++ text ++ drop (at + length text) out) (at + length text) = p .is ∙ put-fits out at text h m in
+    let e : buffer-at after next ≡ buffer-at (take at out ++ text ++ drop (at + length text) out) (at + length text) = p .is ∙ put-fits out at text h m in
     let front : length (take at out ++ text) ≡ at + length text
     = omega (arith, length-append (take at out) text, length-take-le at out (omega arith)) in
-    record {
-      written = [];
-      is = sym (ap waiting e ∙ take-at (take at out ++ text) (drop (at + length text) out) (at + length text) front);
-    }
+    record { written = []; is = sym (ap waiting e ∙ take-at (take at out ++ text) (drop (at + length text) out) (at + length text) front) }
 
 -- a full buffer is written, and nothing waits then
-pub writes-room : (s : Progress) (out : List ℕ) → Writes (lent out (s .at)) [] (lent out (room-made s .at))
+pub writes-room : (s : Progress) (out : List ℕ) → Writes (buffer-at out (s .at)) [] (buffer-at out (room-made s .at))
 unfolding room-made waiting
 writes-room s out = go (ltb (s .at) full)
   where
-    go : (t : Bool) → Writes (lent out (s .at)) [] (lent out (cond t (s .at) 0))
-    go true = writes-none (lent out (s .at))
+    go : (t : Bool) → Writes (buffer-at out (s .at)) [] (buffer-at out (cond t (s .at) 0))
+    go true = writes-none (buffer-at out (s .at))
     go false = record { written = take (s .at) out; is = refl }
 
 pub room-made-not : (s : Progress) → s .at < full → s ≡ room-made s
@@ -93,23 +92,23 @@ room-made-at s = go (bool-cases (ltb (s .at) full))
 pub record Chunk-to (m n : ℕ) (chunk : List ℕ) (i : ℕ) (p : Spot) (b : Buffer) (q : Spot) (s : Progress) (out : List ℕ) : Type 0 where
   pub low : i ≤ length chunk
   pub ready : Ready (length chunk - i) s out
-  pub taken : Takes-chunk m n (take i chunk) p b q (lent out (s .at))
+  pub taken : Takes-chunk m n (take i chunk) p b q (buffer-at out (s .at))
 
 pub chunk-none : (m n : ℕ) (chunk : List ℕ) (p : Spot) (s : Progress) (out : List ℕ) → Ready (length chunk) s out
-    → Chunk-to m n chunk 0 p (lent out (s .at)) p s out
+    → Chunk-to m n chunk 0 p (buffer-at out (s .at)) p s out
 unfolding Takes-all
 chunk-none m n chunk p s out h =
     record {
       low = omega arith;
       ready = record { at = h .at; number = omega (arith, h .number); room = h .room };
-      taken = record { text = []; takes = record { says = refl; same = refl }; writes = writes-none (lent out (s .at)) };
+      taken = record { text = []; takes = record { says = refl; same = refl }; writes = writes-none (buffer-at out (s .at)) };
     }
 
 -- one byte more: x is taken from the spot of s to the one of r, and room is made
 pub chunk-more : (m l n : ℕ) (chunk : List ℕ) (i x : ℕ) (p : Spot) (b : Buffer) (t v : Tables) (w y line kept : List ℕ) (s r d : Progress)
     (out after : List ℕ) → i < length chunk → x ≡ getD chunk i 0 → l ≡ m → length after ≡ length out → d ≡ room-made r
     → Chunk-to m n chunk i p b (spot t w line s) s out
-    → Prints (λ text. Takes l n x (spot t w line s) text (spot v y kept r)) (lent out (s .at)) (lent after (r .at))
+    → Prints (λ text. Takes l n x (spot t w line s) text (spot v y kept r)) (buffer-at out (s .at)) (buffer-at after (r .at))
     → Chunk-to m n chunk (i + 1) p b (spot v y kept d) d after
 unfolding spot room-made
 chunk-more m l n chunk i x p b t v w y line kept s r d out after h e room same made so byte =
@@ -124,9 +123,9 @@ chunk-more m l n chunk i x p b t v w y line kept s r d out after h e room same m
     let takes : Takes-all m n (take (i + 1) chunk) p whole (spot v y kept r) =
     subst (λ (bs : List ℕ). Takes-all m n bs p whole (spot v y kept r)) (sym more)
     (takes-more m n (take i chunk) (getD chunk i 0) p (spot t w line s) (spot v y kept r) (so .taken .text) (byte .text) (so .taken .takes) taken) in
-    let writes : Writes b (whole ++ []) (lent after (room-made r .at)) =
-    writes-append b (lent after (r .at)) (lent after (room-made r .at)) whole []
-    (writes-append b (lent out (s .at)) (lent after (r .at)) (so .taken .text) (byte .text) (so .taken .writes) put) (writes-room r after) in
+    let writes : Writes b (whole ++ []) (buffer-at after (room-made r .at)) =
+    writes-append b (buffer-at after (r .at)) (buffer-at after (room-made r .at)) whole []
+    (writes-append b (buffer-at out (s .at)) (buffer-at after (r .at)) (so .taken .text) (byte .text) (so .taken .writes) put) (writes-room r after) in
     let number = takes-number m n (getD chunk i 0) (spot t w line s) (byte .text) (spot v y kept r) taken in
     let rest : Chunk-to m n chunk (i + 1) p b (spot v y kept (room-made r)) (room-made r) after =
     record {
@@ -135,15 +134,15 @@ chunk-more m l n chunk i x p b t v w y line kept s r d out after h e room same m
       taken = record {
         text = whole;
         takes = takes;
-        writes = subst (λ (u : List ℕ). Writes b u (lent after (room-made r .at))) (append-nil whole) writes;
+        writes = subst (λ (u : List ℕ). Writes b u (buffer-at after (room-made r .at))) (append-nil whole) writes;
       };
     } in
     subst (λ (z : Progress). Chunk-to m n chunk (i + 1) p b (spot v y kept z) z after) (sym made) rest
 
 pub chunk-end : (m n : ℕ) (chunk : List ℕ) (i : ℕ) (p : Spot) (b : Buffer) (q : Spot) (s : Progress) (out : List ℕ) → length chunk ≤ i
-    → Chunk-to m n chunk i p b q s out → Takes-chunk m n chunk p b q (lent out (s .at))
+    → Chunk-to m n chunk i p b q s out → Takes-chunk m n chunk p b q (buffer-at out (s .at))
 chunk-end m n chunk i p b q s out h so =
-    subst (λ (bs : List ℕ). Takes-chunk m n bs p b q (lent out (s .at))) (take-all i chunk h) (so .taken)
+    subst (λ (bs : List ℕ). Takes-chunk m n bs p b q (buffer-at out (s .at))) (take-all i chunk h) (so .taken)
 
 -- ---- the end of the input
 
@@ -155,8 +154,8 @@ in-below k (y ∷ xs) h x (inr m) = in-below k xs (λ i. h (suc i)) x m
 
 -- numbers of eight bits and radios of sixteen: the closing lines fit, and wait
 pub closing-writes : (held ns xs out after : List ℕ) (s : Progress) (next : ℕ) → Ready 0 s out → Site-sized ns xs
-    → ((i : ℕ) → getD ns i 0 < 256) → ((i : ℕ) → getD xs i 0 < 65536) → Puts (lent out (s .at)) (closing held ns xs (s .number)) (lent after next)
-    → Writes (lent out (s .at)) (closing held ns xs (s .number)) (lent after next)
+    → ((i : ℕ) → getD ns i 0 < 256) → ((i : ℕ) → getD xs i 0 < 65536) → Puts (buffer-at out (s .at)) (closing held ns xs (s .number)) (buffer-at after next)
+    → Writes (buffer-at out (s .at)) (closing held ns xs (s .number)) (buffer-at after next)
 closing-writes held ns xs out after s next h sized f g p =
     let long = closing-length held ns xs (s .number) (omega (arith, h .number)) (sized .numbers-few) (sized .order-few)
     (λ x m. omega (arith, in-below 256 ns f x m)) (λ x m. omega (arith, in-below 65536 xs g x m)) in
@@ -172,20 +171,20 @@ begin t w = record { tables = t; answer = w; number = 2; held = []; live = true 
 pub record Read-to (n k : ℕ) (t : Tables) (w : List ℕ) (b : Buffer) (q : Spot) (s : Progress) (out : List ℕ) : Type 0 where
   pub bytes : List ℕ
   pub text : List ℕ
-  pub writes : Writes b text (lent out (s .at))
+  pub writes : Writes b text (buffer-at out (s .at))
   pub takes : s .live ≡ true → Takes-all line-room n bytes (begin t w) text q
   pub many : s .live ≡ true → most-reads ≤ length bytes + k
   pub ready : s .live ≡ true → Ready (chunk-room * k) s out
   pub over : s .live ≡ false → Lines-print n (lines-of bytes) 2 t w text
 
 pub read-none : (n : ℕ) (t : Tables) (w out : List ℕ) (s : Progress) → s .live ≡ true → Ready (chunk-room * most-reads) s out
-    → Read-to n most-reads t w (lent out (s .at)) (begin t w) s out
+    → Read-to n most-reads t w (buffer-at out (s .at)) (begin t w) s out
 unfolding Takes-all
 read-none n t w out s live h =
     record {
       bytes = [];
       text = [];
-      writes = writes-none (lent out (s .at));
+      writes = writes-none (buffer-at out (s .at));
       takes = λ l. record { says = refl; same = refl };
       many = λ l. omega arith;
       ready = λ l. h;
@@ -207,7 +206,7 @@ printed-over n bs t w text q l h =
 module _ (n l k : ℕ) (t : Tables) (w : List ℕ) (b : Buffer) (p q : Spot) (s r : Progress) (out after : List ℕ) (some : 0 < k) (room : l ≡ line-room)
     (live : s .live ≡ true) (same : q .live ≡ r .live) (from : p .number ≡ s .number) (to : q .number ≡ r .number)
     (long : length after ≡ length out) (at : r .live ≡ true → r .at < full) (so : Read-to n k t w b p s out) where
-  read-some : (bs : List ℕ) → 0 < length bs → length bs ≤ chunk-room → Takes-chunk l n bs p (lent out (s .at)) q (lent after (r .at))
+  read-some : (bs : List ℕ) → 0 < length bs → length bs ≤ chunk-room → Takes-chunk l n bs p (buffer-at out (s .at)) q (buffer-at after (r .at))
       → Read-to n (k - 1) t w b q r after
   read-some bs one few chunk =
       let taken : Takes-all line-room n bs p (chunk .text) q = subst (λ (m : ℕ). Takes-all m n bs p (chunk .text) q) room (chunk .takes) in
@@ -217,31 +216,31 @@ module _ (n l k : ℕ) (t : Tables) (w : List ℕ) (b : Buffer) (p q : Spot) (s 
       record {
         bytes = so .bytes ++ bs;
         text = so .text ++ chunk .text;
-        writes = writes-append b (lent out (s .at)) (lent after (r .at)) (so .text) (chunk .text) (so .writes) (chunk .writes);
+        writes = writes-append b (buffer-at out (s .at)) (buffer-at after (r .at)) (so .text) (chunk .text) (so .writes) (chunk .writes);
         takes = λ h. all;
         many = λ h. omega (arith, so .many live, length-append (so .bytes) bs);
         ready = λ h. record { at = at h; number = omega (arith, number, ready .number); room = omega (arith, ready .room) };
         over = λ h. printed-over n (so .bytes ++ bs) t w (so .text ++ chunk .text) q (same ∙ h) all;
       }
 
-  read-over : Ended p (lent out (s .at)) q (lent after (r .at)) → Read-to n (k - 1) t w b q r after
+  read-over : Ended p (buffer-at out (s .at)) q (buffer-at after (r .at)) → Read-to n (k - 1) t w b q r after
   read-over end =
       record {
         bytes = so .bytes;
         text = so .text ++ ending p;
-        writes = writes-append b (lent out (s .at)) (lent after (r .at)) (so .text) (ending p) (so .writes) (end .writes);
+        writes = writes-append b (buffer-at out (s .at)) (buffer-at after (r .at)) (so .text) (ending p) (so .writes) (end .writes);
         takes = λ h. absurd (true≢false (sym h ∙ sym same ∙ end .over));
         many = λ h. absurd (true≢false (sym h ∙ sym same ∙ end .over));
         ready = λ h. absurd (true≢false (sym h ∙ sym same ∙ end .over));
         over = λ h. printed n (so .bytes) t w (so .text) p (so .takes live);
       }
 
-  read-by : (bs : List ℕ) → length bs ≤ chunk-room → Takes-read l n bs p (lent out (s .at)) q (lent after (r .at)) → Read-to n (k - 1) t w b q r after
+  read-by : (bs : List ℕ) → length bs ≤ chunk-room → Takes-read l n bs p (buffer-at out (s .at)) q (buffer-at after (r .at)) → Read-to n (k - 1) t w b q r after
   unfolding Takes-read
   read-by [] few end = read-over end
   read-by (x ∷ xs) few chunk = read-some (x ∷ xs) (omega arith) few chunk
 
-  pub read-more : Reads-once l n p (lent out (s .at)) q (lent after (r .at)) → Read-to n (k - 1) t w b q r after
+  pub read-more : Reads-once l n p (buffer-at out (s .at)) q (buffer-at after (r .at)) → Read-to n (k - 1) t w b q r after
   read-more read = read-by (read .bytes) (read .few) (read .taken)
 
 -- from a cleared site
@@ -254,7 +253,7 @@ run-lines (suc n) bs t w text site h =
 
 -- the run is over, or no read is left
 pub read-end : (n k : ℕ) (t : Tables) (w : List ℕ) (b : Buffer) (q : Spot) (s : Progress) (out : List ℕ) → Site-cleared n t w
-    → (s .live ≡ true → k ≡ 0) → Read-to n k t w b q s out → Reads-all n b (lent out (s .at))
+    → (s .live ≡ true → k ≡ 0) → Read-to n k t w b q s out → Reads-all n b (buffer-at out (s .at))
 read-end n k t w b q s out site last so =
     record { bytes = so .bytes; text = so .text; prints = λ h. run-lines n (so .bytes) t w (so .text) site (go h (bool-cases (s .live))); writes = so .writes }
   where
@@ -323,13 +322,13 @@ pub sized-as : {ns ms xs ys : List ℕ} → length ns ≡ length ms → length x
 sized-as e f h = record { numbers-few = omega (arith, h .numbers-few); order-few = omega (arith, h .order-few) }
 
 pub turn-ended : (t : Tables) (w line out after : List ℕ) (s r : Progress) → s .live ≡ true → r .live ≡ false
-    → Writes (lent out (s .at)) (closing (take (s .held) line) (t .numbers) (t .order) (s .number)) (lent after (r .at))
-    → Ended (spot t w line s) (lent out (s .at)) (spot t w line r) (lent after (r .at))
+    → Writes (buffer-at out (s .at)) (closing (take (s .held) line) (t .numbers) (t .order) (s .number)) (buffer-at after (r .at))
+    → Ended (spot t w line s) (buffer-at out (s .at)) (spot t w line r) (buffer-at after (r .at))
 unfolding spot
 turn-ended t w line out after s r live over h =
     record {
       over = over;
-      writes = subst (λ (u : List ℕ). Writes (lent out (s .at)) u (lent after (r .at))) (sym (ending-live (spot t w line s) live)) h;
+      writes = subst (λ (u : List ℕ). Writes (buffer-at out (s .at)) u (buffer-at after (r .at))) (sym (ending-live (spot t w line s) live)) h;
     }
 
 -- a chunk of no bytes is the end of the input

@@ -8,24 +8,27 @@ use native.Mathlib.Omega.{arith}
 use lib.IntN.{ℤ, natAbs}
 use lib.ListN.{length, take, length-append}
 use Rattle.mesh.specs.Limits.{max-radios}
-use Rattle.mesh.specs.Lists.{range, filter}
+use Rattle.lists.specs.Lists.{range, In}
 use Rattle.mesh.specs.Graph.{Graph, radios}
 use Rattle.mesh.specs.Levels.{changed, step-of}
 use Rattle.mesh.specs.Sound.{sound}
 use Rattle.mesh.specs.Tables.{Tables, graph-in}
-use Rattle.mesh.proofs.ListLaws.{In, in-filter, length-filter, count-le-length, length-range, range-in, take-overwrite}
-use Rattle.calls.specs.Replay.{bytes-of, decimal, link-line, bad-line, printed-line, numbers-line, order-line, closing-lines}
+use Rattle.lists.proofs.Filter.{in-filter, filter-le}
+use Rattle.lists.proofs.Range.{length-range, range-in}
+use Rattle.lists.proofs.Overwrite.{take-overwrite}
+use Rattle.text.specs.Text.{bytes-of, decimal, printed-line}
+use Rattle.calls.specs.Replay.{link-line, bad-line, numbers-line, order-line, closing-lines}
 use Rattle.calls.specs.Questions.{ask, By-number, Lengths, lengths-of, link-refusal, site-refusal, lent-refusal, ends-refusal}
-use Rattle.calls.specs.Writes.{Link-accepted, Link-refused, Link-contract}
+use Rattle.calls.specs.Contracts.Links.{Link-accepted, Link-refused, Link-contract}
 use Rattle.calls.specs.declared.Reply.{Reply}
 use Rattle.calls.proofs.ChainLaws.{link-zero}
 use Rattle.script.specs.Lines.{line-of}
-use Rattle.printing.specs.Print.{max-place}
+use Rattle.text.specs.Print.{max-place}
 use Rattle.script.specs.declared.lines.Line.{Line}
 use Rattle.script.specs.declared.lines.Line.the-variants.{Radios, Up, Down, Bad}
 use Rattle.printing.proofs.LengthLaws.{length-line-le, length-link-line-le}
 use Rattle.player.specs.Lines.{Called, Played}
-use Rattle.player.specs.Machine.{Spot, Stopped, Held-on, Line-taken, Line-ends, Ignored, Step, Takes, Takes-all, longest, closing-longest, closing}
+use Rattle.player.specs.Machine.{Spot, Line-ends, Step, Takes, Takes-all, longest, closing-longest, closing}
 
 -- ---- the reply of a call
 
@@ -49,9 +52,6 @@ step-small false (c ∷ cs) = omega arith
 changed-small : (up : Bool) (a b n : ℕ) (links : List ℕ) (v : ℕ) → In v (changed up a b (graph-in n links)) → v < n
 unfolding changed radios graph-in
 changed-small up a b n links v m = omega (arith, range-in 0 n v (in-filter _ (range 0 n) v m .0))
-
-filter-le : (f : ℕ → Bool) (xs : List ℕ) (k : ℕ) → length xs ≡ k → length (filter f xs) ≤ k
-filter-le f xs k e = omega (arith, length-filter f xs, count-le-length f xs)
 
 length-changed-le : (up : Bool) (a b n : ℕ) (links : List ℕ) → length (changed up a b (graph-in n links)) ≤ n
 unfolding changed radios graph-in

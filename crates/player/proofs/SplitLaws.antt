@@ -1,16 +1,16 @@
 -- Lines of the input, and which of them can be link calls.
 use mathlib.Core.Path.{_≡_, refl, sym, ap, subst, _∙_}
 use mathlib.Core.Logic.{_⊎_, inl, inr}
-use mathlib.Core.Bool.{Bool, true, false, cond, true≢false}
-use mathlib.Core.List.{List, [], _∷_, _++_, map}
-use Prim.Native.Nat.{ℕ, suc, _+_, _*_, _^_, _≤_, _<_}
+use mathlib.Core.Bool.{true, false, true≢false}
+use mathlib.Core.List.{List, [], _∷_, _++_}
+use Prim.Native.Nat.{ℕ, _+_, _^_, _≤_, _<_}
 use native.Mathlib.Omega.{arith}
 use lib.Dec.{eqb}
-use lib.ListN.{length, length-append}
+use lib.ListN.{length}
 use borrow.Author.Tests.{eq-eqb, ne-eqb, eqb-true, eqb-false}
-use Rattle.mesh.proofs.BoolLaws.{bool-cases}
-use Rattle.mesh.proofs.ListLaws.{In}
-use Rattle.calls.specs.Replay.{bytes-of, line-feed, decimal, further-fields, printed-line}
+use Rattle.lists.proofs.Tests.{bool-cases}
+use Rattle.lists.specs.Lists.{In}
+use Rattle.text.specs.Text.{bytes-of, line-feed, decimal, further-fields, printed-line}
 use Rattle.script.specs.Lines.{line-of, text-of, Values, max-value}
 use Rattle.script.specs.declared.lines.Line.{Line}
 use Rattle.script.specs.declared.lines.Line.the-variants.{Radios, Up, Down, Bad}
@@ -19,6 +19,7 @@ use Rattle.script.proofs.Texts.{text-parse}
 use Rattle.player.specs.Lines.{is-call}
 use Rattle.player.specs.Machine.{line-room}
 use Rattle.player.specs.Whole.{glue, lines-of}
+use Rattle.lists.proofs.Member.{in-right}
 
 -- ---- splitting
 
@@ -76,21 +77,17 @@ lines-ended h b bs f e =
 
 -- ---- which lines are calls
 
-in-append-right : (x : ℕ) (xs ys : List ℕ) → In x ys → In x (xs ++ ys)
-in-append-right x [] ys h = h
-in-append-right x (y ∷ xs) ys h = inr (in-append-right x xs ys h)
-
 -- every printed line has a line feed
 feed-in-fields : (fs : List (List ℕ)) → In line-feed (further-fields fs)
 unfolding further-fields
 feed-in-fields [] = inl refl
-feed-in-fields (f ∷ fs) = inr (in-append-right line-feed f (further-fields fs) (feed-in-fields fs))
+feed-in-fields (f ∷ fs) = inr (in-right line-feed f (further-fields fs) (feed-in-fields fs))
 
 feed-in-text : (l : Line) → Values l → In line-feed (text-of l)
 unfolding text-of printed-line Values
-feed-in-text (Radios n) v = in-append-right line-feed (bytes-of "radios") (further-fields (decimal n ∷ [])) (feed-in-fields (decimal n ∷ []))
-feed-in-text (Up a b) v = in-append-right line-feed (bytes-of "up") (further-fields (decimal a ∷ decimal b ∷ [])) (feed-in-fields (decimal a ∷ decimal b ∷ []))
-feed-in-text (Down a b) v = in-append-right line-feed (bytes-of "down") (further-fields (decimal a ∷ decimal b ∷ [])) (feed-in-fields (decimal a ∷ decimal b ∷ []))
+feed-in-text (Radios n) v = in-right line-feed (bytes-of "radios") (further-fields (decimal n ∷ [])) (feed-in-fields (decimal n ∷ []))
+feed-in-text (Up a b) v = in-right line-feed (bytes-of "up") (further-fields (decimal a ∷ decimal b ∷ [])) (feed-in-fields (decimal a ∷ decimal b ∷ []))
+feed-in-text (Down a b) v = in-right line-feed (bytes-of "down") (further-fields (decimal a ∷ decimal b ∷ [])) (feed-in-fields (decimal a ∷ decimal b ∷ []))
 feed-in-text Bad v = absurd v
 
 no-feed-in : (xs : List ℕ) → No-feed xs → In line-feed xs → ⊥

@@ -1,15 +1,16 @@
 -- Whole inputs print exactly what is said of them: M1's, computed from its bytes to its text.
 use mathlib.Core.Path.{_≡_, refl, subst, _∙_}
 use mathlib.Core.List.{flatMap}
-use Rattle.mesh.specs.Lists.{overwrite}
+use Rattle.lists.specs.Lists.{overwrite}
 use Rattle.mesh.specs.Graph.{neighbours-in}
 use Rattle.mesh.specs.Tables.{put-digit, put-bit, put-link, row-links, graph-in}
 use Rattle.calls.specs.Questions.{lengths-of, answer-length, site-refusal, link-refusal}
 use Rattle.calls.specs.Switches.{switched}
 use Rattle.calls.specs.Outcomes.{link-outcome}
-use Rattle.calls.specs.Replay.{bytes-of, bad-line}
+use Rattle.text.specs.Text.{bytes-of}
+use Rattle.calls.specs.Replay.{bad-line}
 use Rattle.calls.proofs.WorkedState.{compute}
-use Rattle.script.specs.Lines.{is-digit, digits-on, number-of, ended, last-number-of, starts, radios-line, link-with, link-after, link-of, line-of}
+use Rattle.script.specs.Lines.{is-digit, digits-on, number-of, ended, last-number-of, starts, radios-line, link-with, link-after, link-from, line-of}
 use Rattle.player.specs.Play.{site-of, radios-of}
 use Rattle.player.specs.Whole.{glue, lines-of, front, rest, cleared, Run-prints}
 use Rattle.player.specs.RunText.{call-line, call-text, line-text, lines-text, text-from, run-text}
@@ -22,7 +23,7 @@ unfolding compute overwrite neighbours-in put-digit put-bit put-link row-links g
 compute-calls = tt
 
 unfoldable compute-lines : Unit {0}
-unfolding bad-line is-digit digits-on number-of ended last-number-of starts radios-line link-with link-after link-of line-of site-of radios-of
+unfolding bad-line is-digit digits-on number-of ended last-number-of starts radios-line link-with link-after link-from line-of site-of radios-of
 compute-lines = tt
 
 unfoldable compute-text : Unit {0}

@@ -3,33 +3,30 @@
 --   run-prints     a whole run: what `Run-prints` says of the input
 --   run-bad        the run of an input whose first line names no site
 use mathlib.Core.Path.{_≡_, refl, sym, ap, subst, _∙_}
-use mathlib.Core.Logic.{_⊎_, inl, inr}
-use mathlib.Core.Bool.{Bool, true, false, cond, true≢false}
+use mathlib.Core.Bool.{Bool, true, false}
 use mathlib.Core.List.{List, [], _∷_, _++_, append-assoc, append-nil}
 use Prim.Native.Nat.{ℕ, zero, suc, _+_, _≤_, _<_}
 use native.Mathlib.Omega.{arith}
 use lib.Dec.{leb, eqb}
 use lib.ListN.{length, length-append}
 use borrow.Author.Tests.{leb-true, eqb-true, eqb-false}
-use Rattle.mesh.proofs.BoolLaws.{bool-cases}
 use Rattle.mesh.specs.Tables.{Tables}
-use Rattle.calls.specs.Replay.{line-feed, bad-line, closing-lines}
+use Rattle.text.specs.Text.{line-feed}
+use Rattle.calls.specs.Replay.{bad-line}
 use Rattle.script.specs.Lines.{line-of}
-use Rattle.player.specs.Lines.{is-call, Played}
+use Rattle.player.specs.Lines.{is-call}
 use Rattle.player.specs.Play.{radios-of}
-use Rattle.player.specs.Machine.{Spot, Stopped, Held-on, Line-taken, Line-ends, Ignored, Step, line-room, Takes, Takes-all, closing, ending}
+use Rattle.player.specs.Machine.{Spot, Stopped, Held-on, Line-ends, Ignored, Step, line-room, Takes, Takes-all, closing, ending}
 use Rattle.player.specs.Whole.{lines-of, front, rest, Line-then, Line-by, Lines-print, start, Run-from, Run-prints}
 use Rattle.player.proofs.MachineLaws.{step-as}
-use Rattle.player.proofs.SplitLaws.{No-feed, no-feed-more, lines-before, lines-last, First-line, first-line, lines-ended, unended-no-call, long-no-call}
+use Rattle.player.proofs.SplitLaws.{No-feed, no-feed-more, lines-before, lines-last, first-line, lines-ended, unended-no-call, long-no-call}
+use Rattle.lists.proofs.Tests.{cond-false, cond-true}
 
 -- ---- after the end of the run
 
 ignored-more : (p s q : Spot) (first more text : List ℕ) → Ignored p first s → text ≡ first ++ more → Ignored s more q → Ignored p text q
 ignored-more p s q first more text none whole later =
-    record {
-      says = whole ∙ ap (λ (x : List ℕ). x ++ more) (none .says) ∙ later .says;
-      same = later .same ∙ none .same;
-    }
+    record { says = whole ∙ ap (λ (x : List ℕ). x ++ more) (none .says) ∙ later .says; same = later .same ∙ none .same }
 
 takes-dead : (m n : ℕ) (bs : List ℕ) (p q : Spot) (text : List ℕ) → p .live ≡ false → Takes-all m n bs p text q → Ignored p text q
 unfolding Takes-all Takes Step
@@ -38,12 +35,6 @@ takes-dead m n (b ∷ bs) p q text l h =
     let none : Ignored p (h .first) (h .middle) = step-as n b p (h .first) (h .middle) (sym l) refl refl (h .takes) in
     let dead : h .middle .live ≡ false = ap (λ (s : Spot). s .live) (none .same) ∙ l in
     ignored-more p (h .middle) q (h .first) (h .more) text none (h .whole) (takes-dead m n bs (h .middle) q (h .more) dead (h .rest))
-
-cond-false : {A : Type 0} (c : Bool) (x y : A) → c ≡ false → cond c x y ≡ y
-cond-false c x y e = rw e
-
-cond-true : {A : Type 0} (c : Bool) (x y : A) → c ≡ true → cond c x y ≡ x
-cond-true c x y e = rw e
 
 pub ending-dead : (p : Spot) → p .live ≡ false → ending p ≡ []
 unfolding ending

@@ -12,9 +12,9 @@ use Prim.Native.Nat.{ℕ}
 use lib.ListN.{take}
 use Rattle.mesh.specs.Tables.{Tables}
 use Rattle.calls.specs.Replay.{link-line}
-use Rattle.calls.specs.Writes.{Link-contract}
+use Rattle.calls.specs.Contracts.Links.{Link-contract}
 use Rattle.calls.specs.declared.Reply.{Reply}
-use Rattle.printing.specs.Print.{Buffer, Puts}
+use Rattle.text.specs.Print.{Buffer, Puts}
 use Rattle.script.specs.declared.lines.Line.{Line}
 use Rattle.script.specs.declared.lines.Line.the-variants.{Radios, Up, Down, Bad}
 

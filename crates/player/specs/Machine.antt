@@ -17,9 +17,10 @@ use Prim.Native.Nat.{ℕ, _+_}
 use lib.Dec.{leb, eqb}
 use lib.ListN.{length, take}
 use Rattle.mesh.specs.Tables.{Tables}
-use Rattle.calls.specs.Replay.{line-feed, bad-line, closing-lines}
+use Rattle.text.specs.Text.{line-feed}
+use Rattle.calls.specs.Replay.{bad-line, closing-lines}
 use Rattle.script.specs.Lines.{line-of}
-use Rattle.printing.specs.Print.{lent, Puts}
+use Rattle.text.specs.Print.{buffer-at, Puts}
 use Rattle.player.specs.Lines.{is-call, Played}
 use Rattle.player.specs.declared.machine.Progress.{Progress}
 
@@ -38,7 +39,7 @@ spot t w line s =
 
 -- the code's progress s with the printing buffer b becomes r with c: `bad L` is put, and the run is over
 pub record Stop-put (s : Progress) (b : List ℕ) (r : Progress) (c : List ℕ) : Type 0 where
-  pub puts : Puts (lent b (s .at)) (bad-line (s .number)) (lent c (r .at))
+  pub puts : Puts (buffer-at b (s .at)) (bad-line (s .number)) (buffer-at c (r .at))
   pub number : r .number ≡ s .number
   pub held : r .held ≡ 0
   pub live : r .live ≡ false

@@ -21,7 +21,7 @@ use lib.Dec.{ltb}
 use lib.ListN.{length, take, replicate}
 use Rattle.mesh.specs.Limits.{max-radios, row-bytes}
 use Rattle.mesh.specs.Tables.{Tables}
-use Rattle.printing.specs.Print.{Buffer, max-place}
+use Rattle.text.specs.Print.{Buffer, max-place}
 use Rattle.player.specs.Machine.{Spot, Takes-all, ending, full}
 use Rattle.player.specs.Whole.{cleared, Run-from}
 use Rattle.player.specs.declared.machine.Progress.{Progress}
@@ -78,7 +78,7 @@ pub record Site-cleared (n : ℕ) (t : Tables) (w : List ℕ) : Type 0 where
   pub is-cleared : t ≡ cleared n
   pub answer-zero : w ≡ replicate n 0
 
--- the tables that the closing lines print are those of a site
+-- the tables that the closing lines print are as long as a site
 pub record Site-sized (numbers order : List ℕ) : Type 0 where
   pub numbers-few : length numbers ≤ max-radios
   pub order-few : length order ≤ max-radios

@@ -4,7 +4,7 @@ use mathlib.Core.Path.{_≡_}
 use mathlib.Core.List.{List, [], _∷_, flatMap}
 use Prim.Native.Nat.{ℕ}
 use Prim.Native.String.{String}
-use Rattle.calls.specs.Replay.{bytes-of}
+use Rattle.text.specs.Text.{bytes-of}
 use Rattle.player.specs.Whole.{Run-prints}
 
 -- an input and what it prints, line by line
@@ -27,10 +27,7 @@ m1 = record {
 
 -- a refused call prints its number; a line of another form ends the run, and nothing after it is played
 unfoldable pub bad-third : Text
-bad-third = record {
-  input = "radios 4\n" ∷ "up 3 4\n" ∷ "up 0  1\n" ∷ "up 0 1\n" ∷ [];
-  printed = "4 0\n" ∷ "bad 3\n" ∷ [];
-}
+bad-third = record { input = "radios 4\n" ∷ "up 3 4\n" ∷ "up 0  1\n" ∷ "up 0 1\n" ∷ []; printed = "4 0\n" ∷ "bad 3\n" ∷ [] }
 
 -- line 1 is missing
 unfoldable pub no-first : Text

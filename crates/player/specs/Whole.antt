@@ -12,9 +12,10 @@ use Prim.Native.Nat.{ℕ, zero, suc, _+_, _*_}
 use lib.Dec.{eqb}
 use lib.ListN.{replicate}
 use Rattle.mesh.specs.Limits.{row-bytes}
-use Rattle.mesh.specs.Lists.{range}
+use Rattle.lists.specs.Lists.{range}
 use Rattle.mesh.specs.Tables.{Tables, tables}
-use Rattle.calls.specs.Replay.{line-feed, bad-line, closing-lines}
+use Rattle.text.specs.Text.{line-feed}
+use Rattle.calls.specs.Replay.{bad-line, closing-lines}
 use Rattle.script.specs.Lines.{line-of}
 use Rattle.player.specs.Lines.{is-call, Played}
 use Rattle.player.specs.Machine.{Spot}

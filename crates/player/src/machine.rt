@@ -4,8 +4,8 @@ ghost use mathlib.Core.Path.{_≡_};
 ghost use mathlib.Core.Bool.{false};
 ghost use Prim.Native.Nat.{_<_};
 ghost use lib.ListN.{length, take};
-ghost use Rattle.mesh.specs.Tables.{tables};
-ghost use Rattle.printing.specs.Print.{lent, Puts, max-place};
+ghost use Rattle.mesh.specs.Tables.{lent};
+ghost use Rattle.text.specs.Print.{buffer-at, Puts, max-place};
 ghost use Rattle.player.specs.Lines.{Prints};
 ghost use Rattle.player.specs.Machine.{spot, Stop-put, Takes, closing};
 ghost use Rattle.player.specs.Reading.{Writes, Ready, Site-sized};
@@ -51,9 +51,9 @@ pub(crate) fn take_byte(
 ) -> Progress
     requires { ⌜ s .number < max-place ⌝ }
     ensures { λ r. ⌜ Prints (λ text. Takes (length (now (line .entry))) n byte
-        (spot (tables (now (links .entry)) (now (numbers .entry)) (now (order .entry))) (now (answer .entry)) (now (line .entry)) s) text
-        (spot (tables (now (links .exit)) (now (numbers .exit)) (now (order .exit))) (now (answer .exit)) (now (line .exit)) r))
-        (lent (now (out .entry)) (s .at)) (lent (now (out .exit)) (r .at)) ⌝ }
+        (spot (lent (links .entry) (numbers .entry) (order .entry)) (now (answer .entry)) (now (line .entry)) s) text
+        (spot (lent (links .exit) (numbers .exit) (order .exit)) (now (answer .exit)) (now (line .exit)) r))
+        (buffer-at (now (out .entry)) (s .at)) (buffer-at (now (out .exit)) (r .at)) ⌝ }
 {
     if !s.live {
         return s;
@@ -86,9 +86,9 @@ pub(crate) fn take_byte(
 
 // The end of the input: the closing lines, or `bad L` where the last line has no line feed. The place after it.
 fn finish(s: Progress, line: &[u8], numbers: &[u8], order: &[u16], out: &mut [u8]) -> usize
-    ensures { λ r. ⌜ Puts (lent (now (out .entry)) (s .at))
+    ensures { λ r. ⌜ Puts (buffer-at (now (out .entry)) (s .at))
         (closing (take (s .held) (now (line .entry))) (now (numbers .entry)) (now (order .entry)) (s .number))
-        (lent (now (out .exit)) r) ⌝ }
+        (buffer-at (now (out .exit)) r) ⌝ }
 {
     let held = tables::fill::least(s.held, line.len());
     if held != 0 {
@@ -109,9 +109,9 @@ pub(crate) fn end(
     requires ready { ⌜ Ready 0 s (now out) ⌝ }
     requires sized { ⌜ Site-sized (now numbers) (now order) ⌝ }
     ensures over { λ r. ⌜ r .live ≡ false ⌝ }
-    ensures closed { λ r. ⌜ Writes (lent (now (out .entry)) (s .at))
+    ensures closed { λ r. ⌜ Writes (buffer-at (now (out .entry)) (s .at))
         (closing (take (s .held) (now (line .entry))) (now (numbers .entry)) (now (order .entry)) (s .number))
-        (lent (now (out .exit)) (r .at)) ⌝ }
+        (buffer-at (now (out .exit)) (r .at)) ⌝ }
 {
     let at = finish(s, line, numbers, order, out);
     Progress {

@@ -1,9 +1,8 @@
 // One line after the first, played on the site's tables.
 ghost use mathlib.Core.Path.{_≡_};
-ghost use mathlib.Core.Bool.{true, false};
-ghost use Rattle.mesh.specs.Tables.{tables};
 ghost use Rattle.script.specs.Lines.{line-of};
-ghost use Rattle.printing.specs.Print.{lent};
+ghost use Rattle.mesh.specs.Tables.{lent};
+ghost use Rattle.text.specs.Print.{buffer-at};
 ghost use Rattle.player.specs.Lines.{is-call, Called, Played, Prints};
 use script::lines::Line;
 
@@ -13,8 +12,9 @@ pub struct Done {
     pub at: usize,
 }
 
-// Takes a link up and puts the call's line.
-fn play_up(
+// Takes a link up or down and puts the call's line.
+fn play_call(
+    up: bool,
     n: u32,
     a: u32,
     b: u32,
@@ -25,33 +25,12 @@ fn play_up(
     out: &mut [u8],
     at: usize,
 ) -> usize
-    ensures { λ r. ⌜ Prints (λ text. Called true n a b
-        (tables (now (links .entry)) (now (numbers .entry)) (now (order .entry))) (now (answer .entry)) text
-        (tables (now (links .exit)) (now (numbers .exit)) (now (order .exit))) (now (answer .exit)))
-        (lent (now (out .entry)) at) (lent (now (out .exit)) r) ⌝ }
+    ensures { λ r. ⌜ Prints (λ text. Called up n a b
+        (lent (links .entry) (numbers .entry) (order .entry)) (now (answer .entry)) text
+        (lent (links .exit) (numbers .exit) (order .exit)) (now (answer .exit)))
+        (buffer-at (now (out .entry)) at) (buffer-at (now (out .exit)) r) ⌝ }
 {
-    let reply = links::link::link_up(n, a, b, links, numbers, order, answer);
-    printing::put_link_line(out, at, reply.number, reply.step, answer, reply.count)
-}
-
-// Takes a link down and puts the call's line.
-fn play_down(
-    n: u32,
-    a: u32,
-    b: u32,
-    links: &mut [u8],
-    numbers: &mut [u8],
-    order: &mut [u16],
-    answer: &mut [u16],
-    out: &mut [u8],
-    at: usize,
-) -> usize
-    ensures { λ r. ⌜ Prints (λ text. Called false n a b
-        (tables (now (links .entry)) (now (numbers .entry)) (now (order .entry))) (now (answer .entry)) text
-        (tables (now (links .exit)) (now (numbers .exit)) (now (order .exit))) (now (answer .exit)))
-        (lent (now (out .entry)) at) (lent (now (out .exit)) r) ⌝ }
-{
-    let reply = links::link::link_down(n, a, b, links, numbers, order, answer);
+    let reply = links::link::link(up, n, a, b, links, numbers, order, answer);
     printing::put_link_line(out, at, reply.number, reply.step, answer, reply.count)
 }
 
@@ -68,17 +47,17 @@ pub fn play_line(
 ) -> Done
     ensures call { λ r. ⌜ r .ok ≡ is-call (line-of (now (line .entry))) ⌝ }
     ensures played { λ r. ⌜ Prints (λ text. Played n (line-of (now (line .entry)))
-        (tables (now (links .entry)) (now (numbers .entry)) (now (order .entry))) (now (answer .entry)) text
-        (tables (now (links .exit)) (now (numbers .exit)) (now (order .exit))) (now (answer .exit)))
-        (lent (now (out .entry)) at) (lent (now (out .exit)) (r .at)) ⌝ }
+        (lent (links .entry) (numbers .entry) (order .entry)) (now (answer .entry)) text
+        (lent (links .exit) (numbers .exit) (order .exit)) (now (answer .exit)))
+        (buffer-at (now (out .entry)) at) (buffer-at (now (out .exit)) (r .at)) ⌝ }
 {
     match script::lines::parse(line) {
         Line::Up(a, b) => {
-            let next = play_up(n, a, b, links, numbers, order, answer, out, at);
+            let next = play_call(true, n, a, b, links, numbers, order, answer, out, at);
             Done { ok: true, at: next }
         }
         Line::Down(a, b) => {
-            let next = play_down(n, a, b, links, numbers, order, answer, out, at);
+            let next = play_call(false, n, a, b, links, numbers, order, answer, out, at);
             Done { ok: true, at: next }
         }
         Line::Radios(_) => Done { ok: false, at },

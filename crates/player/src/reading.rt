@@ -5,8 +5,8 @@ ghost use mathlib.Core.Bool.{true};
 ghost use Prim.Native.Nat.{_<_};
 ghost use lib.ListN.{length};
 ghost use Rattle.io.specs.Counts.{Counts};
-ghost use Rattle.mesh.specs.Tables.{tables};
-ghost use Rattle.printing.specs.Print.{lent};
+ghost use Rattle.mesh.specs.Tables.{tables, lent};
+ghost use Rattle.text.specs.Print.{buffer-at};
 ghost use Rattle.player.specs.Machine.{spot, line-room, full};
 ghost use Rattle.player.specs.Reading.{chunk-room, out-room, room-made, Ready, Site-cleared, Site-sized, Takes-chunk, Takes-read, Reads-once, Reads-all};
 use super::machine;
@@ -62,10 +62,10 @@ fn take_chunk(
     requires { ⌜ Ready (length (now chunk)) s (now out) ⌝ }
     ensures room { λ r. ⌜ r .at < full ⌝ }
     ensures taken { λ r. ⌜ Takes-chunk (length (now (line .entry))) n (now (chunk .entry))
-        (spot (tables (now (links .entry)) (now (numbers .entry)) (now (order .entry))) (now (answer .entry)) (now (line .entry)) s)
-        (lent (now (out .entry)) (s .at))
-        (spot (tables (now (links .exit)) (now (numbers .exit)) (now (order .exit))) (now (answer .exit)) (now (line .exit)) r)
-        (lent (now (out .exit)) (r .at)) ⌝ }
+        (spot (lent (links .entry) (numbers .entry) (order .entry)) (now (answer .entry)) (now (line .entry)) s)
+        (buffer-at (now (out .entry)) (s .at))
+        (spot (lent (links .exit) (numbers .exit) (order .exit)) (now (answer .exit)) (now (line .exit)) r)
+        (buffer-at (now (out .exit)) (r .at)) ⌝ }
 {
     let mut s = s;
     let mut i = 0;
@@ -104,10 +104,10 @@ fn take_read(
     requires sized { ⌜ Site-sized (now numbers) (now order) ⌝ }
     ensures room { λ r. ⌜ (r .live ≡ true → r .at < full) ⌝ }
     ensures taken { λ r. ⌜ Takes-read (length (now (line .entry))) n (now (chunk .entry))
-        (spot (tables (now (links .entry)) (now (numbers .entry)) (now (order .entry))) (now (answer .entry)) (now (line .entry)) s)
-        (lent (now (out .entry)) (s .at))
-        (spot (tables (now (links .exit)) (now (numbers .exit)) (now (order .exit))) (now (answer .exit)) (now (line .exit)) r)
-        (lent (now (out .exit)) (r .at)) ⌝ }
+        (spot (lent (links .entry) (numbers .entry) (order .entry)) (now (answer .entry)) (now (line .entry)) s)
+        (buffer-at (now (out .entry)) (s .at))
+        (spot (lent (links .exit) (numbers .exit) (order .exit)) (now (answer .exit)) (now (line .exit)) r)
+        (buffer-at (now (out .exit)) (r .at)) ⌝ }
 {
     if chunk.len() == 0 {
         return machine::end(s, line, numbers, order, out);
@@ -133,10 +133,10 @@ fn turn(
     requires sized { ⌜ Site-sized (now numbers) (now order) ⌝ }
     ensures room { λ r. ⌜ (r .live ≡ true → r .at < full) ⌝ }
     ensures read { λ r. ⌜ Reads-once (length (now (line .entry))) n
-        (spot (tables (now (links .entry)) (now (numbers .entry)) (now (order .entry))) (now (answer .entry)) (now (line .entry)) s)
-        (lent (now (out .entry)) (s .at))
-        (spot (tables (now (links .exit)) (now (numbers .exit)) (now (order .exit))) (now (answer .exit)) (now (line .exit)) r)
-        (lent (now (out .exit)) (r .at)) ⌝ }
+        (spot (lent (links .entry) (numbers .entry) (order .entry)) (now (answer .entry)) (now (line .entry)) s)
+        (buffer-at (now (out .entry)) (s .at))
+        (spot (lent (links .exit) (numbers .exit) (order .exit)) (now (answer .exit)) (now (line .exit)) r)
+        (buffer-at (now (out .exit)) (r .at)) ⌝ }
 {
     let mut chunk = io::buffer();
     let count = read_chunk(fd, most, &mut chunk);
@@ -169,7 +169,7 @@ fn read_turns(
     requires line { ⌜ length (now line) ≡ line-room ⌝ }
     requires out { ⌜ length (now out) ≡ out-room ⌝ }
     requires start { ⌜ Site-cleared n (tables (now links) (now numbers) (now order)) (now answer) ⌝ }
-    ensures { λ r. ⌜ Reads-all n (lent (now (out .entry)) 0) (lent (now (out .exit)) r) ⌝ }
+    ensures { λ r. ⌜ Reads-all n (buffer-at (now (out .entry)) 0) (buffer-at (now (out .exit)) r) ⌝ }
 {
     let mut s = Progress {
         number: 2,

@@ -6,9 +6,10 @@ use Prim.Native.Nat.{ℕ, zero, suc, _+_, _*_, _^_, _≤_, _<_}
 use native.Mathlib.Omega.{arith}
 use lib.IntN.{ℤ, pos, negsuc, natAbs}
 use lib.ListN.{length, length-append}
-use Rattle.mesh.proofs.ListLaws.{In}
-use Rattle.calls.specs.Replay.{decimal, step-text, further-fields, printed-line, link-line}
-use Rattle.calls.proofs.DecimalLaws.{length-decimal-le}
+use Rattle.lists.specs.Lists.{In}
+use Rattle.text.specs.Text.{decimal, further-fields, printed-line}
+use Rattle.calls.specs.Replay.{step-text, link-line}
+use Rattle.text.proofs.DecimalLaws.{length-decimal-le}
 
 -- fields of numbers below 10 ^ k, with their spaces and the line feed
 pub length-fields-le : (k : ℕ) (xs : List ℕ) → ((x : ℕ) → In x xs → x < 10 ^ suc k) → length (further-fields (map decimal xs)) ≤ (k + 2) * length xs + 1

@@ -1,5 +1,4 @@
--- For callers of the printer: `PrintLaws`, what stands in the buffer after it, and `LengthLaws`, how long the lines are.
--- For its functions alone: `StepLaws`.
+-- How long the lines are, for callers; `StepLaws` for its functions alone.
 pub mod LengthLaws
-pub mod PrintLaws
 mod StepLaws
+pub mod LineLaws

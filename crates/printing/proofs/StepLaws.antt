@@ -4,15 +4,16 @@ use mathlib.Core.Bool.{true, false}
 use mathlib.Core.List.{_∷_}
 use Prim.Native.Nat.{ℕ, zero, suc, _+_}
 use native.Mathlib.Omega.{arith}
-use lib.Dec.{T}
-use lib.IntN.{ℤ, pos, negsuc, _-ℤ_, natAbs}
-use lib.Signed.{ltZ, nonNeg}
 use mir.Syntax.{w8, w16, w64}
 use mir.Val.{Fits, SFits, toZ, ofZ}
 use mir.Facts.{toZ-ofZ, fits-natAbs}
+use lib.Dec.{T}
+use lib.IntN.{ℤ, pos, negsuc, _-ℤ_, natAbs}
+use lib.Signed.{ltZ, nonNeg}
 use borrow.Author.Tests.{ltb-true}
-use Rattle.mesh.proofs.BoolLaws.{never}
-use Rattle.calls.specs.Replay.{decimal, step-text}
+use Rattle.lists.proofs.Tests.{never}
+use Rattle.text.specs.Text.{decimal}
+use Rattle.calls.specs.Replay.{step-text}
 
 -- ---- size
 

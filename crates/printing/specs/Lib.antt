@@ -1,2 +1,1 @@
 -- What the contracts of the printer cite, for its callers too.
-pub mod Print

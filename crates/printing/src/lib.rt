@@ -1,59 +1,10 @@
-// Texts printed into a lent buffer. Each function puts its text from the place `at` on and answers the place after it. A byte
-// past the buffer's end is left out and still counted, so an answer above the length tells that the text did not fit, and how
-// long the buffer must be. All other bytes keep their content.
+// The replay program's lines, printed into a lent buffer by crate text: the step, a link call's line, the closing lines, `bad L`.
 ghost use mathlib.Core.Path.{_≡_};
-ghost use mathlib.Core.List.{[], _∷_, map};
 ghost use lib.IntN.{natAbs};
 ghost use lib.ListN.{take};
 ghost use Prim.Native.Nat.{_<_};
-ghost use Rattle.calls.specs.Replay.{space, digit-byte, decimal, step-text, further-fields, link-line, numbers-line, order-line, bad-line};
-ghost use Rattle.printing.specs.Print.{lent, Puts};
-
-// Puts one byte.
-pub fn put_byte(buffer: &mut [u8], at: usize, byte: u8) -> usize
-    ensures { λ r. ⌜ Puts (lent (now (buffer .entry)) at) (byte ∷ []) (lent (now (buffer .exit)) r) ⌝ }
-{
-    if at < buffer.len() {
-        buffer[at] = byte;
-        return at + 1;
-    }
-    if at < usize::MAX {
-        return at + 1;
-    }
-    at
-}
-
-// Puts the bytes of a text.
-pub fn put_text(buffer: &mut [u8], at: usize, text: &[u8]) -> usize
-    ensures { λ r. ⌜ Puts (lent (now (buffer .entry)) at) (now (text .entry)) (lent (now (buffer .exit)) r) ⌝ }
-{
-    let mut place = at;
-    let mut i = 0;
-    while i < text.len() {
-        place = put_byte(buffer, place, text[i]);
-        i += 1;
-    }
-    place
-}
-
-// The byte of a digit.
-fn digit_byte(digit: u64) -> u8
-    requires { ⌜ digit < 10 ⌝ }
-    ensures { λ r. ⌜ r ≡ digit-byte digit ⌝ }
-{
-    b'0' + digit as u8
-}
-
-// Puts x in decimal: the digits before the last, then the last.
-pub fn put_decimal(buffer: &mut [u8], at: usize, x: u64) -> usize
-    ensures { λ r. ⌜ Puts (lent (now (buffer .entry)) at) (decimal x) (lent (now (buffer .exit)) r) ⌝ }
-{
-    if x < 10 {
-        return put_byte(buffer, at, digit_byte(x));
-    }
-    let place = put_decimal(buffer, at, x / 10);
-    put_byte(buffer, place, digit_byte(x % 10))
-}
+ghost use Rattle.calls.specs.Replay.{step-text, link-line, numbers-line, order-line, bad-line};
+ghost use Rattle.text.specs.Print.{buffer-at, Puts};
 
 // How far a step goes, either way.
 fn step_size(step: i8) -> u64
@@ -67,66 +18,18 @@ fn step_size(step: i8) -> u64
 
 // Puts a step: its sign and its size, or 0.
 pub fn put_step(buffer: &mut [u8], at: usize, step: i8) -> usize
-    ensures { λ r. ⌜ Puts (lent (now (buffer .entry)) at) (step-text step) (lent (now (buffer .exit)) r) ⌝ }
+    ensures { λ r. ⌜ Puts (buffer-at (now (buffer .entry)) at) (step-text step) (buffer-at (now (buffer .exit)) r) ⌝ }
 {
     let size = step_size(step);
     if step < 0 {
-        let place = put_byte(buffer, at, b'-');
-        return put_decimal(buffer, place, size);
+        let place = text::put_byte(buffer, at, b'-');
+        return text::put_decimal(buffer, place, size);
     }
     if size == 0 {
-        return put_decimal(buffer, at, size);
+        return text::put_decimal(buffer, at, size);
     }
-    let place = put_byte(buffer, at, b'+');
-    put_decimal(buffer, place, size)
-}
-
-// Puts a further field of a line: a space and a number.
-fn put_field(buffer: &mut [u8], at: usize, x: u64) -> usize
-    ensures { λ r. ⌜ Puts (lent (now (buffer .entry)) at) (space ∷ decimal x) (lent (now (buffer .exit)) r) ⌝ }
-{
-    let place = put_byte(buffer, at, b' ');
-    put_decimal(buffer, place, x)
-}
-
-// A number as it is printed.
-fn wide8(x: u8) -> u64
-    ensures { λ r. ⌜ r ≡ x ⌝ }
-{
-    x as u64
-}
-
-// A radio as it is printed.
-fn wide16(x: u16) -> u64
-    ensures { λ r. ⌜ r ≡ x ⌝ }
-{
-    x as u64
-}
-
-// Puts the rest of a line: a further field for each number, and the line feed.
-fn put_numbers(buffer: &mut [u8], at: usize, numbers: &[u8]) -> usize
-    ensures { λ r. ⌜ Puts (lent (now (buffer .entry)) at) (further-fields (map decimal (now (numbers .entry)))) (lent (now (buffer .exit)) r) ⌝ }
-{
-    let mut place = at;
-    let mut i = 0;
-    while i < numbers.len() {
-        place = put_field(buffer, place, wide8(numbers[i]));
-        i += 1;
-    }
-    put_byte(buffer, place, b'\n')
-}
-
-// The same for radios.
-fn put_radios(buffer: &mut [u8], at: usize, radios: &[u16]) -> usize
-    ensures { λ r. ⌜ Puts (lent (now (buffer .entry)) at) (further-fields (map decimal (now (radios .entry)))) (lent (now (buffer .exit)) r) ⌝ }
-{
-    let mut place = at;
-    let mut i = 0;
-    while i < radios.len() {
-        place = put_field(buffer, place, wide16(radios[i]));
-        i += 1;
-    }
-    put_byte(buffer, place, b'\n')
+    let place = text::put_byte(buffer, at, b'+');
+    text::put_decimal(buffer, place, size)
 }
 
 // Puts the line of a link call: refusal number, step, and the first count radios of changed (all of them, where it has fewer).
@@ -138,39 +41,40 @@ pub fn put_link_line(
     changed: &[u16],
     count: u32,
 ) -> usize
-    ensures { λ r. ⌜ Puts (lent (now (buffer .entry)) at) (link-line number step (take count (now (changed .entry)))) (lent (now (buffer .exit)) r) ⌝ }
+    ensures { λ r. ⌜ Puts (buffer-at (now (buffer .entry)) at) (link-line number step (take count (now (changed .entry))))
+        (buffer-at (now (buffer .exit)) r) ⌝ }
 {
-    let after_number = put_decimal(buffer, at, number as u64);
-    let after_space = put_byte(buffer, after_number, b' ');
+    let after_number = text::put_decimal(buffer, at, number as u64);
+    let after_space = text::put_byte(buffer, after_number, b' ');
     let after_step = put_step(buffer, after_space, step);
     let n = count as usize;
     if changed.len() <= n {
-        return put_radios(buffer, after_step, changed);
+        return text::put_radios(buffer, after_step, changed);
     }
-    put_radios(buffer, after_step, &changed[..n])
+    text::put_radios(buffer, after_step, &changed[..n])
 }
 
 // Puts the closing line of the numbers, by radio.
 pub fn put_numbers_line(buffer: &mut [u8], at: usize, numbers: &[u8]) -> usize
-    ensures { λ r. ⌜ Puts (lent (now (buffer .entry)) at) (numbers-line (now (numbers .entry))) (lent (now (buffer .exit)) r) ⌝ }
+    ensures { λ r. ⌜ Puts (buffer-at (now (buffer .entry)) at) (numbers-line (now (numbers .entry))) (buffer-at (now (buffer .exit)) r) ⌝ }
 {
-    let place = put_text(buffer, at, b"numbers");
-    put_numbers(buffer, place, numbers)
+    let place = text::put_text(buffer, at, b"numbers");
+    text::put_numbers(buffer, place, numbers)
 }
 
 // Puts the closing line of the order.
 pub fn put_order_line(buffer: &mut [u8], at: usize, order: &[u16]) -> usize
-    ensures { λ r. ⌜ Puts (lent (now (buffer .entry)) at) (order-line (now (order .entry))) (lent (now (buffer .exit)) r) ⌝ }
+    ensures { λ r. ⌜ Puts (buffer-at (now (buffer .entry)) at) (order-line (now (order .entry))) (buffer-at (now (buffer .exit)) r) ⌝ }
 {
-    let place = put_text(buffer, at, b"order");
-    put_radios(buffer, place, order)
+    let place = text::put_text(buffer, at, b"order");
+    text::put_radios(buffer, place, order)
 }
 
 // Puts what ends the run at a line of another form: lines are counted from 1.
 pub fn put_bad_line(buffer: &mut [u8], at: usize, line: u64) -> usize
-    ensures { λ r. ⌜ Puts (lent (now (buffer .entry)) at) (bad-line line) (lent (now (buffer .exit)) r) ⌝ }
+    ensures { λ r. ⌜ Puts (buffer-at (now (buffer .entry)) at) (bad-line line) (buffer-at (now (buffer .exit)) r) ⌝ }
 {
-    let after_word = put_text(buffer, at, b"bad");
-    let after_line = put_field(buffer, after_word, line);
-    put_byte(buffer, after_line, b'\n')
+    let after_word = text::put_text(buffer, at, b"bad");
+    let after_line = text::put_field(buffer, after_word, line);
+    text::put_byte(buffer, after_line, b'\n')
 }

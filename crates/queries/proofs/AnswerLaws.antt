@@ -4,23 +4,23 @@ use mathlib.Core.Bool.{Bool, true, cond}
 use mathlib.Core.List.{List}
 use Prim.Native.Nat.{ℕ, _+_, _≤_, _<_}
 use native.Mathlib.Numerals.{add-one}
+use mir.Val.{boolByte}
 use lib.ListN.{length, getD, drop, drop-of-length-le}
 use lib.Seq.{drop-cons}
 use borrow.Author.Tests.{eq-eqb, ne-eqb}
-use mir.Val.{boolByte}
-use Rattle.mesh.specs.Lists.{overwrite}
+use Rattle.lists.specs.Lists.{overwrite}
 use Rattle.mesh.specs.Cores.{number}
 use Rattle.mesh.specs.Tables.{Tables, marked}
 use Rattle.mesh.specs.Sound.{sound}
 use Rattle.calls.specs.Questions.{lengths-of, radio-refusal, pair-refusal}
-use Rattle.calls.specs.Answers.{Value-accepted, Value-refused, Value-by, Listing-accepted, Listing-refused, Listing-by}
-use Rattle.calls.specs.Answers.{first-of-two, Number-contract, Neighbours-contract, Linked-contract, First-contract}
+use Rattle.calls.specs.Contracts.Forms.{Value-accepted, Value-refused, Value-by, Listing-accepted, Listing-refused, Listing-by}
+use Rattle.calls.specs.Contracts.Radios.{first-of-two, Number-contract, Neighbours-contract, Linked-contract, First-contract}
 use Rattle.calls.specs.declared.Value.{Value}
 use Rattle.calls.proofs.ChainLaws.{radio-zero, pair-zero}
 use Rattle.calls.proofs.ContractLaws.{by-accepted, by-refused}
 use Rattle.rows.specs.Rows.{row-listed}
-use Rattle.soundness.proofs.RowChecks.{byte-bit}
-use Rattle.floods.proofs.SoundSite.{Sound-site, linked-marked, number-entry, degree-listed}
+use Rattle.lists.proofs.Tests.{byte-bit}
+use Rattle.soundness.proofs.SoundSite.{Sound-site, linked-marked, number-entry, degree-listed}
 use Rattle.queries.proofs.RefusalLaws.{site-good-sound}
 
 -- ---- any value

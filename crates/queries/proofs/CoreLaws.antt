@@ -7,24 +7,27 @@ use native.Mathlib.Omega.{arith}
 use lib.ListN.{length, getD, take, replicate, length-replicate}
 use lib.Seq.{take-all}
 use Rattle.mesh.specs.Limits.{max-radios, row-bytes}
-use Rattle.mesh.specs.Lists.{range, member, overwrite}
+use Rattle.lists.specs.Lists.{range, member, overwrite}
 use Rattle.mesh.specs.Graph.{Graph, radios}
 use Rattle.mesh.specs.Tables.{Tables, marked, graph-in}
 use Rattle.mesh.specs.Sound.{sound}
 use Rattle.mesh.specs.Connected.{In-core, core-of}
-use Rattle.mesh.proofs.ListLaws.{in-member, not-member, length-filter, count-le-length, length-range}
-use Rattle.mesh.proofs.Reach.{core-of-iff, core-of-ascending}
-use Rattle.mesh.proofs.CoreLevels.{in-core-below}
-use Rattle.mesh.proofs.TableLaws.{marked-replicate, byte-at-less}
+use Rattle.lists.proofs.Member.{in-member, not-member}
+use Rattle.lists.proofs.Filter.{length-filter}
+use Rattle.lists.proofs.Count.{count-le-length}
+use Rattle.lists.proofs.Range.{length-range}
+use Rattle.mesh.proofs.Trees.Reach.{core-of-iff, core-of-ascending}
+use Rattle.mesh.proofs.Trees.CoreLevels.{in-core-below}
+use Rattle.mesh.proofs.Tables.Laws.{marked-replicate, byte-at-less}
 use Rattle.calls.specs.Questions.{lengths-of, core-refusal}
-use Rattle.calls.specs.Answers.{Core-contract}
+use Rattle.calls.specs.Contracts.Cores.{Core-contract}
 use Rattle.calls.proofs.ChainLaws.{core-zero}
 use Rattle.calls.proofs.QuestionLaws.{answer-length-true}
 use Rattle.rows.specs.Rows.{row-listed}
 use Rattle.rows.proofs.RowListLaws.{neighbours-of-filter}
 use Rattle.rows.proofs.RowWords.{row-listed-whole}
 use Rattle.floods.specs.Floods.{Flood-done, Flooded}
-use Rattle.floods.proofs.SoundSite.{Sound-site, number-entry}
+use Rattle.soundness.proofs.SoundSite.{Sound-site, number-entry}
 use Rattle.floods.proofs.FloodSteps.{true-floodable}
 use Rattle.floods.proofs.FloodCore.{marked-flood}
 use Rattle.queries.proofs.RefusalLaws.{site-good-sound}

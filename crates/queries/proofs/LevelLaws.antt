@@ -2,44 +2,32 @@
 use mathlib.Core.Path.{_≡_, refl, sym, ap, _∙_}
 use mathlib.Core.Bool.{Bool, true, false, _&&_, cond}
 use mathlib.Core.List.{List, [], _∷_}
-use Prim.Native.Nat.{ℕ, suc, _+_, _-_, _≤_, _<_, max}
+use Prim.Native.Nat.{ℕ, suc, _+_, _-_, _≤_, _<_}
 use native.Mathlib.Omega.{arith}
 use native.Mathlib.Numerals.{add-one}
 use lib.Dec.{ltb, leb, eqb}
-use lib.ListN.{length, getD, drop, set, drop-of-length-le}
-use lib.Seq.{drop-cons, take-all}
+use lib.ListN.{length, getD, set}
+use lib.Seq.{take-all}
 use borrow.Author.Tests.{leb-true, lt-ltb}
 use Rattle.mesh.specs.Limits.{max-radios}
-use Rattle.mesh.specs.Lists.{range, count, filter, overwrite}
+use Rattle.lists.specs.Lists.{range, count, filter, overwrite}
 use Rattle.mesh.specs.Graph.{Graph, radios}
 use Rattle.mesh.specs.Cores.{number, numbers}
 use Rattle.mesh.specs.Connected.{greatest, backbone}
 use Rattle.mesh.specs.Tables.{Tables, graph-in}
 use Rattle.mesh.specs.Sound.{sound}
-use Rattle.mesh.proofs.ListLaws.{range-in, length-range, length-filter, count-le-length, filter-ext, filter-none}
+use Rattle.lists.proofs.Range.{range-in, length-range}
+use Rattle.lists.proofs.Filter.{length-filter, filter-ext, filter-none}
+use Rattle.lists.proofs.Count.{count-le-length}
 use Rattle.calls.specs.Questions.{lengths-of, answer-length, site-refusal, backbone-refusal}
-use Rattle.calls.specs.Answers.{Backbone-contract}
+use Rattle.calls.specs.Contracts.Cores.{Backbone-contract}
 use Rattle.calls.proofs.ChainLaws.{site-zero}
-use Rattle.rows.proofs.Listing.{Listing, listing-none, listing-one, listing-end, sets-front}
+use Rattle.rows.proofs.Listing.{Listing, listing-none, listing-one, listing-end}
+use Rattle.lists.proofs.Overwrite.{sets-front}
 use Rattle.queries.specs.Levels.{level-radios, count-one, listed-one}
-use Rattle.floods.proofs.SoundSite.{Sound-site, number-entry}
+use Rattle.soundness.proofs.SoundSite.{Sound-site, number-entry}
 use Rattle.queries.proofs.RefusalLaws.{site-good-sound}
 use Rattle.queries.proofs.AnswerLaws.{answer, listing-refused, listing-answered}
-
--- ---- the greatest: what is left of the table, and the greatest so far, give the greatest
-
-abbrev pub Greatest-so-far : (numbers : List ℕ) → (top v : ℕ) → Type 0
-Greatest-so-far ns top v = max top (greatest (drop v ns)) ≡ greatest ns
-
-pub greatest-turn : (ns : List ℕ) (top v : ℕ) → v < length ns → Greatest-so-far ns top v → Greatest-so-far ns (max top (getD ns v 0)) (v + 1)
-unfolding greatest
-greatest-turn ns top v l h =
-    let e : drop v ns ≡ getD ns v 0 ∷ drop (v + 1) ns = drop-cons ns v 0 l ∙ rw (add-one v) in
-    let f : greatest (drop v ns) ≡ max (getD ns v 0) (greatest (drop (v + 1) ns)) = ap greatest e in omega (arith, f, h)
-
-pub greatest-end : (ns : List ℕ) (top v : ℕ) → length ns ≤ v → Greatest-so-far ns top v → top ≡ greatest ns
-unfolding greatest
-greatest-end ns top v l h = omega (arith, ap greatest (drop-of-length-le ns {i = v} l), h)
 
 -- ---- the radios of a level, one by one
 

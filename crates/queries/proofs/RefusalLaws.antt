@@ -10,11 +10,11 @@ use Rattle.mesh.specs.Graph.{Graph}
 use Rattle.mesh.specs.Cores.{number}
 use Rattle.mesh.specs.Tables.{Tables, graph-in}
 use Rattle.mesh.specs.Sound.{sound}
-use Rattle.calls.specs.Questions.{ask, Lengths, lengths-of, size-good, site-lengths, answer-length, is-radio, are-radios, has-level}
-use Rattle.calls.specs.Questions.{lent-refusal, site-refusal, radio-refusal, pair-refusal, core-refusal, level-refusal}
+use Rattle.calls.specs.Questions.{ask, Lengths, lengths-of, size-good, site-lengths, answer-length, is-radio, are-radios, has-level, lent-refusal, site-refusal}
+use Rattle.calls.specs.Questions.{radio-refusal, pair-refusal, core-refusal, level-refusal}
 use Rattle.calls.proofs.QuestionLaws.{ask-yes, ask-no, true-is-radio}
 use Rattle.calls.proofs.ChainLaws.{Site-good, site-zero, site-yes, radio-zero, radio-yes, pair-yes, core-yes}
-use Rattle.floods.proofs.SoundSite.{Sound-site, sound-site, number-entry}
+use Rattle.soundness.proofs.SoundSite.{Sound-site, sound-site, number-entry}
 
 -- ---- 1 to 3, and later questions
 

@@ -7,7 +7,7 @@ use mathlib.Core.List.{List}
 use Prim.Native.Nat.{ℕ, _+_}
 use lib.Dec.{eqb}
 use lib.ListN.{length, getD, set}
-use Rattle.mesh.specs.Lists.{range, filter}
+use Rattle.lists.specs.Lists.{range, filter}
 
 unfoldable pub level-radios : (numbers : List ℕ) → (level : ℕ) → List ℕ
 level-radios ns k = filter (λ v. eqb (getD ns v 0) k) (range 0 (length ns))

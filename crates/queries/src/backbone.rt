@@ -1,34 +1,13 @@
 // The backbone: the radios whose number is the greatest at the site; none if that is 0.
 ghost use mathlib.Core.Path.{_≡_};
-ghost use Prim.Native.Nat.{_≤_, _<_, max};
+ghost use Prim.Native.Nat.{_≤_, _<_};
 ghost use lib.ListN.{length};
 ghost use Rattle.mesh.specs.Limits.{max-radios};
-ghost use Rattle.mesh.specs.Lists.{overwrite};
-ghost use Rattle.mesh.specs.Connected.{greatest};
-ghost use Rattle.mesh.specs.Tables.{tables};
-ghost use Rattle.calls.specs.Answers.{Backbone-contract};
+ghost use Rattle.lists.specs.Lists.{overwrite};
+ghost use Rattle.mesh.specs.Tables.{lent};
+ghost use Rattle.calls.specs.Contracts.Cores.{Backbone-contract};
 ghost use Rattle.queries.specs.Levels.{level-radios, listed-one, count-one};
 use calls::Value;
-
-// The larger of two numbers.
-fn larger(a: u8, b: u8) -> u8
-    ensures { λ r. ⌜ r ≡ max a b ⌝ }
-{
-    if a < b { b } else { a }
-}
-
-// The greatest number of the table; 0 where it is empty.
-pub fn greatest(numbers: &[u8]) -> u8
-    ensures { λ r. ⌜ r ≡ greatest (now (numbers .entry)) ⌝ }
-{
-    let mut top: u8 = 0;
-    let mut v: usize = 0;
-    while v < numbers.len() {
-        top = larger(top, numbers[v]);
-        v += 1;
-    }
-    top
-}
 
 // Writes v at place `count` of the list where its number is the level. Comes back with the count after.
 fn list_one(numbers: &[u8], level: u8, v: usize, list: &mut [u16], count: u32) -> u32
@@ -39,7 +18,7 @@ fn list_one(numbers: &[u8], level: u8, v: usize, list: &mut [u16], count: u32) -
     if numbers[v] != level {
         return count;
     }
-    rows::put_entry(list, count as usize, v as u16);
+    tables::fill::put16(list, count as usize, v as u16);
     count + 1
 }
 
@@ -67,7 +46,7 @@ pub fn backbone<'a>(
     order: &'a [u16],
     answer: &mut [u16],
 ) -> Value
-    ensures { λ r. ⌜ Backbone-contract n (tables (now (links .entry)) (now (numbers .entry)) (now (order .entry))) (now (answer .entry)) r (now (answer .exit)) ⌝ }
+    ensures { λ r. ⌜ Backbone-contract n (lent (links .entry) (numbers .entry) (order .entry)) (now (answer .entry)) r (now (answer .exit)) ⌝ }
 {
     let refusal = soundness::refusal(n, links, numbers, order, n as usize <= answer.len());
     if refusal != 0 {
@@ -76,7 +55,7 @@ pub fn backbone<'a>(
             value: 0,
         };
     }
-    let top = greatest(numbers);
+    let top = tables::numbers::greatest(numbers);
     if top == 0 {
         return Value {
             number: 0,

@@ -1,9 +1,10 @@
 // The connected core of a radio at a level: the radios that links lead to over radios with that number or more.
 ghost use mathlib.Core.Path.{_≡_};
-ghost use Rattle.mesh.specs.Tables.{tables, graph-in};
+ghost use Rattle.mesh.specs.Tables.{graph-in, lent};
 ghost use Rattle.mesh.specs.Sound.{sound};
 ghost use Rattle.calls.specs.Questions.{lengths-of, core-refusal};
-ghost use Rattle.calls.specs.Answers.{Core-contract};
+ghost use Rattle.calls.specs.Contracts.Cores.{Core-contract};
+use calls::Refusal;
 use calls::Value;
 use mesh::Site;
 
@@ -17,17 +18,18 @@ fn core_refusal<'a>(
     order: &'a [u16],
     answer: usize,
 ) -> u32
-    ensures { λ r. ⌜ r ≡ core-refusal n v k (lengths-of (tables (now (links .entry)) (now (numbers .entry)) (now (order .entry)))) answer (sound n (tables (now (links .entry)) (now (numbers .entry)) (now (order .entry)))) (graph-in n (now (links .entry))) ⌝ }
+    ensures { λ r. ⌜ r ≡ core-refusal n v k (lengths-of (lent (links .entry) (numbers .entry) (order .entry))) answer
+        (sound n (lent (links .entry) (numbers .entry) (order .entry))) (graph-in n (now (links .entry))) ⌝ }
 {
     let number = soundness::refusal(n, links, numbers, order, n as usize <= answer);
     if number != 0 {
         return number;
     }
     if n <= v {
-        return 4;
+        return Refusal::RADIO;
     }
     if (numbers[v as usize] as u32) < k {
-        return 8;
+        return Refusal::LEVEL;
     }
     0
 }
@@ -44,7 +46,7 @@ pub fn core<'a>(
     order: &'a [u16],
     answer: &mut [u16],
 ) -> Value
-    ensures { λ r. ⌜ Core-contract n v k (tables (now (links .entry)) (now (numbers .entry)) (now (order .entry))) (now (answer .entry)) r (now (answer .exit)) ⌝ }
+    ensures { λ r. ⌜ Core-contract n v k (lent (links .entry) (numbers .entry) (order .entry)) (now (answer .entry)) r (now (answer .exit)) ⌝ }
 {
     let refusal = core_refusal(n, v, k, links, numbers, order, answer.len());
     if refusal != 0 {

@@ -1,22 +1,24 @@
 // A radio's number, its neighbour count, whether two radios are linked, which of two stands first in the order.
 // Each answers with the refusal number of questions 1 to 4 and the value 0, or with number 0 and the value.
 ghost use mathlib.Core.Path.{_≡_};
-ghost use Rattle.mesh.specs.Tables.{tables};
+ghost use Rattle.mesh.specs.Tables.{lent};
 ghost use Rattle.mesh.specs.Sound.{sound};
 ghost use Rattle.calls.specs.Questions.{lengths-of, radio-refusal, pair-refusal};
-ghost use Rattle.calls.specs.Answers.{first-of-two, Number-contract, Neighbours-contract, Linked-contract, First-contract};
+ghost use Rattle.calls.specs.Contracts.Radios.{first-of-two, Number-contract, Neighbours-contract, Linked-contract, First-contract};
+use calls::Refusal;
 use calls::Value;
 
 // Questions 1 to 4 of one radio.
 fn radio_refusal<'a>(n: u32, v: u32, links: &'a [u8], numbers: &'a [u8], order: &'a [u16]) -> u32
-    ensures { λ r. ⌜ r ≡ radio-refusal n v (lengths-of (tables (now (links .entry)) (now (numbers .entry)) (now (order .entry)))) (sound n (tables (now (links .entry)) (now (numbers .entry)) (now (order .entry)))) ⌝ }
+    ensures { λ r. ⌜ r ≡ radio-refusal n v (lengths-of (lent (links .entry) (numbers .entry) (order .entry)))
+        (sound n (lent (links .entry) (numbers .entry) (order .entry))) ⌝ }
 {
     let number = soundness::refusal(n, links, numbers, order, true);
     if number != 0 {
         return number;
     }
     if n <= v {
-        return 4;
+        return Refusal::RADIO;
     }
     0
 }
@@ -30,21 +32,22 @@ fn pair_refusal<'a>(
     numbers: &'a [u8],
     order: &'a [u16],
 ) -> u32
-    ensures { λ r. ⌜ r ≡ pair-refusal n a b (lengths-of (tables (now (links .entry)) (now (numbers .entry)) (now (order .entry)))) (sound n (tables (now (links .entry)) (now (numbers .entry)) (now (order .entry)))) ⌝ }
+    ensures { λ r. ⌜ r ≡ pair-refusal n a b (lengths-of (lent (links .entry) (numbers .entry) (order .entry)))
+        (sound n (lent (links .entry) (numbers .entry) (order .entry))) ⌝ }
 {
     let number = radio_refusal(n, a, links, numbers, order);
     if number != 0 {
         return number;
     }
     if n <= b {
-        return 4;
+        return Refusal::RADIO;
     }
     0
 }
 
 // The number of v.
 pub fn number<'a>(n: u32, v: u32, links: &'a [u8], numbers: &'a [u8], order: &'a [u16]) -> Value
-    ensures { λ r. ⌜ Number-contract n v (tables (now (links .entry)) (now (numbers .entry)) (now (order .entry))) r ⌝ }
+    ensures { λ r. ⌜ Number-contract n v (lent (links .entry) (numbers .entry) (order .entry)) r ⌝ }
 {
     let refusal = radio_refusal(n, v, links, numbers, order);
     if refusal != 0 {
@@ -62,7 +65,7 @@ pub fn number<'a>(n: u32, v: u32, links: &'a [u8], numbers: &'a [u8], order: &'a
 
 // How many neighbours v has.
 pub fn neighbours<'a>(n: u32, v: u32, links: &'a [u8], numbers: &'a [u8], order: &'a [u16]) -> Value
-    ensures { λ r. ⌜ Neighbours-contract n v (tables (now (links .entry)) (now (numbers .entry)) (now (order .entry))) r ⌝ }
+    ensures { λ r. ⌜ Neighbours-contract n v (lent (links .entry) (numbers .entry) (order .entry)) r ⌝ }
 {
     let refusal = radio_refusal(n, v, links, numbers, order);
     if refusal != 0 {
@@ -86,7 +89,7 @@ pub fn linked<'a>(
     numbers: &'a [u8],
     order: &'a [u16],
 ) -> Value
-    ensures { λ r. ⌜ Linked-contract n a b (tables (now (links .entry)) (now (numbers .entry)) (now (order .entry))) r ⌝ }
+    ensures { λ r. ⌜ Linked-contract n a b (lent (links .entry) (numbers .entry) (order .entry)) r ⌝ }
 {
     let refusal = pair_refusal(n, a, b, links, numbers, order);
     if refusal != 0 {
@@ -128,7 +131,7 @@ pub fn first<'a>(
     numbers: &'a [u8],
     order: &'a [u16],
 ) -> Value
-    ensures { λ r. ⌜ First-contract n a b (tables (now (links .entry)) (now (numbers .entry)) (now (order .entry))) r ⌝ }
+    ensures { λ r. ⌜ First-contract n a b (lent (links .entry) (numbers .entry) (order .entry)) r ⌝ }
 {
     let refusal = pair_refusal(n, a, b, links, numbers, order);
     if refusal != 0 {

@@ -2,69 +2,17 @@
 -- In order: laws of ranges and stores, a loop that counts what has no place, a loop that stops when the list is full, the set bits of
 -- a word.
 use mathlib.Core.Path.{_≡_, refl, sym, ap, _∙_}
-use mathlib.Core.Logic.{_⊎_, inl, inr}
-use mathlib.Core.Bool.{true, false}
 use mathlib.Core.List.{List, [], _∷_, _++_}
-use Prim.Native.Nat.{ℕ, zero, suc, _+_, _-_, _^_, _≤_, _<_, min}
+use Prim.Native.Nat.{ℕ, _+_, _-_, _^_, _≤_, _<_, min}
 use native.Mathlib.Omega.{arith}
 use native.Mathlib.Numerals.{add-one}
 use lib.Bits.{bitAnd, and-le-l}
 use lib.Count.{trailingZeros}
-use lib.ListN.{length, take, set, length-set, length-append}
-use lib.Dec.{ltb}
-use lib.Seq.{sets, length-sets, set-out}
-use borrow.Author.Tests.{ltb-true, ltb-false}
-use Rattle.mesh.specs.Lists.{range, overwrite}
-use Rattle.mesh.proofs.BoolLaws.{bool-cases}
+use lib.ListN.{length, set, length-set, length-append}
+use lib.Seq.{sets, length-sets}
 use Rattle.rows.specs.Rows.{set-bits}
 use Rattle.rows.proofs.WordLaws.{set-bits-lowest}
-
--- ---- laws of lists
-
-pub range-append : (i j k : ℕ) → range i (j + k) ≡ range i j ++ range (i + j) k
-unfolding range
-range-append i zero k =
-    let e : 0 + k ≡ k = omega arith in
-    let f : i + 0 ≡ i = omega arith in rw (e, f)
-range-append i (suc j) k =
-    let e : suc j + k ≡ suc (j + k) = omega arith in
-    let f : suc i + j ≡ i + suc j = omega arith in
-    ap (range i) e ∙ ap {B = List ℕ} (λ xs. i ∷ xs) (range-append (suc i) j k ∙ ap (λ (m : ℕ). range (suc i) j ++ range m k) f)
-
-pub sets-append : (old : List ℕ) (i : ℕ) (xs ys : List ℕ) → sets old i (xs ++ ys) ≡ sets (sets old i xs) (i + length xs) ys
-sets-append old i [] ys = ap (λ (k : ℕ). sets old k ys) (omega arith)
-sets-append old i (x ∷ xs) ys =
-    sets-append (set old i x) (suc i) xs ys ∙ ap (λ (k : ℕ). sets (sets (set old i x) (suc i) xs) k ys) (omega arith)
-
-sets-nil : (i : ℕ) (xs : List ℕ) → sets [] i xs ≡ []
-sets-nil i [] = refl
-sets-nil i (x ∷ xs) = sets-nil (suc i) xs
-
-sets-cons : (y : ℕ) (old : List ℕ) (i : ℕ) (xs : List ℕ) → sets (y ∷ old) (suc i) xs ≡ y ∷ sets old i xs
-sets-cons y old i [] = refl
-sets-cons y old i (x ∷ xs) = sets-cons y (set old i x) (suc i) xs
-
--- stores from the front, as many as fit
-pub sets-front : (old xs : List ℕ) → sets old 0 xs ≡ overwrite (take (length old) xs) old
-unfolding overwrite
-sets-front [] xs = sets-nil 0 xs
-sets-front (y ∷ old) [] = refl
-sets-front (y ∷ old) (x ∷ xs) = sets-cons x old 0 xs ∙ ap {B = List ℕ} (λ zs. x ∷ zs) (sets-front old xs)
-
--- a store past the end changes nothing, so a place past the end is as good as the end
-pub sets-full : (old : List ℕ) (i : ℕ) (xs : List ℕ) → length old ≤ i → sets old i xs ≡ old
-sets-full old i [] h = refl
-sets-full old i (x ∷ xs) h =
-    let same = set-out old i x h in rw same (sets-full old (suc i) xs (omega arith))
-
-pub sets-min : (old : List ℕ) (i : ℕ) (xs : List ℕ) → sets old (min (length old) i) xs ≡ sets old i xs
-sets-min old i xs = go (bool-cases (ltb i (length old)))
-  where
-    go : (ltb i (length old) ≡ true) ⊎ (ltb i (length old) ≡ false) → sets old (min (length old) i) xs ≡ sets old i xs
-    go (inl e) = let p : min (length old) i ≡ i = omega (arith, ltb-true i (length old) e) in ap (λ (k : ℕ). sets old k xs) p
-    go (inr e) =
-        let l = ltb-false i (length old) e in
-        sets-full old (min (length old) i) xs (omega arith) ∙ sym (sets-full old i xs l)
+use Rattle.lists.proofs.Overwrite.{sets-append, sets-full, sets-min}
 
 -- ---- a loop that counts every entry, also one that has no place in the list
 

@@ -1,43 +1,23 @@
 -- The neighbours that a row of the links table marks, as a list: laws for callers.
 -- In order: ascending entries, neighbours-of (order, repeats, membership, counts), the graph that the table marks, row-listed.
 use mathlib.Core.Path.{_≡_, sym, ap, _∙_}
-use mathlib.Core.Bool.{Bool, true, false, _&&_, cond}
-use mathlib.Core.List.{List, [], _∷_, _++_, append-nil}
-use Prim.Native.Nat.{ℕ, zero, suc, _+_, _*_, _-_, _≤_, _<_}
+use mathlib.Core.Bool.{Bool, true, false, _&&_}
+use mathlib.Core.List.{List, _++_, append-nil}
+use Prim.Native.Nat.{ℕ, _+_, _*_, _-_, _≤_, _<_}
 use native.Mathlib.Omega.{arith}
 use lib.ListN.{length}
 use Rattle.mesh.specs.Limits.{max-radios, row-bytes}
-use Rattle.mesh.specs.Lists.{range, count, filter, member}
+use Rattle.lists.specs.Lists.{range, count, filter, member, In, Distinct, Ascending}
 use Rattle.mesh.specs.Graph.{linked}
 use Rattle.mesh.specs.Tables.{marked, graph-in}
 use Rattle.mesh.specs.Sound.{symmetric, irreflexive, within, row-degree}
-use Rattle.mesh.proofs.ListLaws.{In, Distinct, in-range, range-in, distinct-range, in-filter, member-filter, count-filter, length-filter, filter-none, filter-ext, filter-append, distinct-filter}
-use Rattle.mesh.proofs.RowLaws.{within-of}
-use Rattle.mesh.proofs.ReadBack.{linked-graph-in}
+use Rattle.lists.proofs.Range.{in-range, range-in, distinct-range, range-append}
+use Rattle.lists.proofs.Filter.{in-filter, member-filter, count-filter, length-filter, filter-none, filter-ext, filter-append, distinct-filter}
+use Rattle.mesh.proofs.Tables.Rows.{within-of}
+use Rattle.mesh.proofs.Tables.ReadBack.{linked-graph-in}
 use Rattle.rows.specs.Rows.{neighbours-of, row-listed}
-use Rattle.rows.proofs.Listing.{range-append}
 use Rattle.rows.proofs.RowWords.{row-listed-whole}
-
--- ---- laws of lists: ascending entries
-
--- each entry is below all later ones
-abbrev pub Ascending : List ℕ → Type 0
-Ascending [] = Unit {0}
-Ascending (x ∷ xs) = ((v : ℕ) → In v xs → x < v) × Ascending xs
-
-pub ascending-range : (i k : ℕ) → Ascending (range i k)
-unfolding range
-ascending-range i zero = tt
-ascending-range i (suc k) = (λ v m. omega (arith, range-in (suc i) k v m), ascending-range (suc i) k)
-
-pub ascending-filter : (f : ℕ → Bool) (xs : List ℕ) → Ascending xs → Ascending (filter f xs)
-unfolding filter
-ascending-filter f [] h = tt
-ascending-filter f (x ∷ xs) h = go (ascending-filter f xs (h .1)) (f x)
-  where
-    go : Ascending (filter f xs) → (t : Bool) → Ascending (cond t (x ∷ filter f xs) (filter f xs))
-    go rec true = (λ v m. h .0 v (in-filter f xs v m .0), rec)
-    go rec false = rec
+use Rattle.lists.proofs.Ascending.{ascending-range, ascending-filter}
 
 -- ---- neighbours-of
 

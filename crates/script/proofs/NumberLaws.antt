@@ -1,29 +1,18 @@
 -- A number read from its decimal digits is that number, and what is read as a number is its decimal digits.
 use mathlib.Core.Path.{_≡_, refl, sym, ap, _∙_}
 use mathlib.Core.Logic.{_⊎_, inl, inr}
-use mathlib.Core.Bool.{Bool, true, false, _&&_}
+use mathlib.Core.Bool.{true, false}
 use mathlib.Core.List.{List, [], _∷_, _++_, append-assoc}
 use Prim.Native.Nat.{ℕ, zero, suc, _+_, _*_, _-_, _/_, _%_, _≤_, _<_}
 use native.Mathlib.Omega.{arith}
 use lib.Dec.{ltb, leb, eqb}
 use borrow.Author.Tests.{ltb-true, ltb-false, leb-true, eqb-true, eqb-false, le-leb, ne-eqb}
-use Rattle.mesh.proofs.BoolLaws.{bool-cases, and-left, and-right, and-both}
-use Rattle.mesh.proofs.ListLaws.{same-eq}
-use Rattle.mesh.specs.Lists.{all, same}
-use Rattle.calls.specs.Replay.{line-feed, digit-byte, decimal}
+use Rattle.lists.proofs.Tests.{bool-cases, and-left, and-right, and-both}
+use Rattle.lists.proofs.All.{same-eq}
+use Rattle.lists.specs.Lists.{same}
+use Rattle.text.specs.Text.{line-feed, digit-byte, decimal}
 use Rattle.script.specs.Lines.{max-value, Read, got, none, is-digit, digits-on, number-of, ended, last-number-of}
-use Rattle.calls.proofs.DecimalLaws.{decimal-digit, decimal-more, decimal-append}
-
--- ---- laws of lists
-
-pub all-append : (f : ℕ → Bool) (xs ys : List ℕ) → all f (xs ++ ys) ≡ (all f xs && all f ys)
-unfolding all
-all-append f [] ys = refl
-all-append f (x ∷ xs) ys = rw (all-append f xs ys) (go (f x) (all f xs) (all f ys))
-  where
-    go : (a b c : Bool) → (a && (b && c)) ≡ ((a && b) && c)
-    go true b c = refl
-    go false b c = refl
+use Rattle.text.proofs.DecimalLaws.{decimal-digit, decimal-more, decimal-append}
 
 -- ---- is-digit
 
@@ -40,22 +29,6 @@ digit-bound b h = omega (arith, leb-true b 57 (and-right (leb 48 b) (leb b 57) h
 pub digit-byte-of : (b : ℕ) → is-digit b ≡ true → digit-byte (b - digit-byte 0) ≡ b
 unfolding is-digit digit-byte
 digit-byte-of b h = omega (arith, leb-true 48 b (and-left (leb 48 b) (leb b 57) h))
-
--- every byte of a number is a digit; as many turns as x are enough
-all-digits-in : (t x : ℕ) → x ≤ t → all is-digit (decimal x) ≡ true
-unfolding all
-all-digits-in zero x h = let k : x < 10 = omega arith in rw (decimal-digit x k, is-digit-byte x k)
-all-digits-in (suc t) x h = go (all-digits-in t (x / 10)) (bool-cases (ltb x 10))
-  where
-    go : (x / 10 ≤ t → all is-digit (decimal (x / 10)) ≡ true) → (ltb x 10 ≡ true) ⊎ (ltb x 10 ≡ false) → all is-digit (decimal x) ≡ true
-    go rec (inl e) = let k = ltb-true x 10 e in rw (decimal-digit x k, is-digit-byte x k)
-    go rec (inr e) =
-        let k = ltb-false x 10 e in
-        let d : x % 10 < 10 = omega arith in
-        rw (decimal-more x k, all-append is-digit (decimal (x / 10)) (digit-byte (x % 10) ∷ []), rec (omega arith), is-digit-byte (x % 10) d)
-
-pub all-digits : (x : ℕ) → all is-digit (decimal x) ≡ true
-all-digits x = all-digits-in x x (omega arith)
 
 -- ---- digits read from decimal
 

@@ -9,8 +9,8 @@ use native.Mathlib.Numerals.{add-one}
 use lib.ListN.{length, getD, set, length-set}
 use lib.Seq.{getD-set-same, getD-set-other}
 use Rattle.mesh.specs.Limits.{max-neighbours}
-use Rattle.mesh.specs.Lists.{range, all}
-use Rattle.mesh.proofs.BoolLaws.{never, trichotomy}
+use Rattle.lists.specs.Lists.{range, all}
+use Rattle.lists.proofs.Tests.{never, trichotomy}
 use Rattle.rows.specs.Rows.{neighbours-of}
 use Rattle.soundness.specs.Checks.{high-count, row-good, Row-checked, Rows-checked}
 
@@ -61,8 +61,4 @@ module _ (n : ℕ) (links numbers places before : List ℕ) where
   unfolding all range
   rows-end highs a l s =
       let e : n - a ≡ 0 = omega (arith, s .low) in
-      record {
-        answer = rw e at (s .left);
-        highs = λ _. record { at = λ v k. s .at v (omega arith) };
-        long = s .long;
-      }
+      record { answer = rw e at (s .left); highs = λ _. record { at = λ v k. s .at v (omega arith) }; long = s .long }

@@ -6,46 +6,27 @@ use mathlib.Core.Bool.{Bool, true, false, _&&_, not, and-false, and-true}
 use mathlib.Core.List.{List, [], _∷_}
 use Prim.Native.Nat.{ℕ, zero, suc, _+_, _-_, _≤_, _<_}
 use native.Mathlib.Omega.{arith}
-use native.Mathlib.Nat.{le-trans, le-of-eq, le-antisymm}
+use native.Mathlib.Nat.{le-trans, le-of-eq}
 use lib.Dec.{ltb, leb, eqb}
 use lib.ListN.{length, getD, take, drop, take-append-drop, length-take, length-drop}
 use lib.Seq.{getD-take, getD-drop}
 use borrow.Author.Tests.{ltb-true, ltb-false, lt-ltb, leb-true, le-leb, lt-leb, eq-eqb, ne-eqb, not-true}
 use Rattle.mesh.specs.Limits.{max-radios}
-use Rattle.mesh.specs.Lists.{range, count, all}
+use Rattle.lists.specs.Lists.{range, count, all, In, Each-once}
 use Rattle.mesh.specs.Orders.{each-once, rising, few-later}
 use Rattle.mesh.specs.Tables.{Tables, marked}
 use Rattle.mesh.specs.Sound.{symmetric, irreflexive, within, few, rows-proper, row-degree, enough, number-in, sound-within}
-use Rattle.mesh.proofs.BoolLaws.{bool-cases, never, and-left, and-right, and-both, iff-eq}
-use Rattle.mesh.proofs.ListLaws.{In, filter-in, in-range, range-in, count-append, count-mono, count-none, all-in, in-all, all-below, below-all, Each-once, once-in, once-below, once-length}
-use Rattle.mesh.proofs.OrderLaws.{of-each-once, Few-later, few-later-of, of-few-later}
-use Rattle.mesh.proofs.RowLaws.{symmetric-of, of-symmetric, irreflexive-of, of-irreflexive, within-of, of-within, few-of, of-few}
+use Rattle.lists.proofs.Tests.{bool-cases, never, and-left, and-right, and-both, iff-eq}
+use Rattle.lists.proofs.Filter.{filter-in}
+use Rattle.lists.proofs.Range.{in-range, once-in, once-below, once-length, count-below}
+use Rattle.lists.proofs.Count.{count-append, count-none, count-ext}
+use Rattle.lists.proofs.All.{all-in, in-all, all-below, below-all}
+use Rattle.mesh.proofs.Cores.Orders.{of-each-once, Few-later, few-later-of, of-few-later}
+use Rattle.mesh.proofs.Tables.Rows.{symmetric-of, of-symmetric, irreflexive-of, of-irreflexive, within-of, of-within, few-of, of-few}
 use Rattle.rows.specs.Rows.{neighbours-of}
-use Rattle.rows.proofs.Listing.{range-append}
 use Rattle.rows.proofs.RowListLaws.{in-neighbours-of, length-neighbours-of, count-neighbours-of}
 use Rattle.soundness.specs.Checks.{Placed, later-count, high-count, ends-good, row-good}
-
--- ---- laws of lists
-
-count-ext : (f g : ℕ → Bool) (xs : List ℕ) → ((x : ℕ) → In x xs → f x ≡ g x) → count f xs ≡ count g xs
-count-ext f g xs h = le-antisymm (count-mono f g xs (λ x m e. sym (h x m) ∙ e)) (count-mono g f xs (λ x m e. h x m ∙ e))
-
-pub getD-in : (xs : List ℕ) (i : ℕ) → i < length xs → In (getD xs i 0) xs
-getD-in [] i h = absurd (omega arith)
-getD-in (x ∷ xs) zero h = inl refl
-getD-in (x ∷ xs) (suc i) h = inr (getD-in xs i (omega arith))
-
-pub in-getD : (v : ℕ) (xs : List ℕ) → In v xs → (i : ℕ) × (i < length xs) × (getD xs i 0 ≡ v)
-in-getD v (x ∷ xs) (inl e) = (0, omega arith, e)
-in-getD v (x ∷ xs) (inr m) = let r = in-getD v xs m in (suc (r .0), omega (arith, r .1), r .2)
-
--- what passes is below n
-count-below : (f : ℕ → Bool) (n m : ℕ) → n ≤ m → ((b : ℕ) → n ≤ b → b < m → f b ≡ false) → count f (range 0 m) ≡ count f (range 0 n)
-count-below f n m h out =
-    let e : m ≡ n + (m - n) = omega arith in
-    let z = count-none f (range (0 + n) (m - n)) (λ b i. let r = range-in (0 + n) (m - n) b i in out b (omega (arith, r .0)) (omega (arith, r .1))) in
-    ap (λ (k : ℕ). count f (range 0 k)) e ∙ ap (count f) (range-append 0 n (m - n))
-    ∙ omega (arith, z, count-append f (range 0 n) (range (0 + n) (m - n)))
+use Rattle.lists.proofs.Member.{in-getD, getD-of-in}
 
 -- ---- later neighbours, entry by entry
 
@@ -68,8 +49,8 @@ module _ (n : ℕ) (xs places : List ℕ) (once : Each-once n xs) (placed : Plac
   pub count-later : (f : ℕ → Bool) (p : ℕ) → count f (drop p xs) ≡ count (λ b. f b && leb p (getD places b 0)) (range 0 n)
   count-later f p =
       let g : ℕ → Bool = λ b. f b && leb p (getD places b 0) in
-      let back : count g (drop p xs) ≡ count f (drop p xs) = count-ext g f (drop p xs) (λ b m. late b (in-getD b (drop p xs) m)) in
-      let front : count g (take p xs) ≡ 0 = count-none g (take p xs) (λ b m. early b (in-getD b (take p xs) m)) in
+      let back : count g (drop p xs) ≡ count f (drop p xs) = count-ext g f (drop p xs) (λ b m. late b (getD-of-in b (drop p xs) m)) in
+      let front : count g (take p xs) ≡ 0 = count-none g (take p xs) (λ b m. early b (getD-of-in b (take p xs) m)) in
       omega (arith, sym (once g), ap (count g) (take-append-drop p xs), count-append g (take p xs) (drop p xs), back, front)
     where
       late : (b : ℕ) → (i : ℕ) × (i < length (drop p xs)) × (getD (drop p xs) i 0 ≡ b) → (f b && leb p (getD places b 0)) ≡ f b
@@ -88,13 +69,13 @@ module _ (n : ℕ) (xs places : List ℕ) (once : Each-once n xs) (placed : Plac
           rw (lt-leb p (getD places b 0) (omega arith)) (and-false (f b))
 
   place-below : (a : ℕ) → a < n → getD places a 0 < n
-  place-below a l = let r = in-getD a xs (once-in n xs once a l) in
+  place-below a l = let r = getD-of-in a xs (once-in n xs once a l) in
       let q : getD places a 0 ≡ r .0 = ap (λ (v : ℕ). getD places v 0) (sym (r .2)) ∙ placed .at (r .0) (omega (arith, r .1, long)) in
       omega (arith, r .1, long)
 
   -- a radio's place holds it
   pub place-of : (a : ℕ) → a < n → getD xs (getD places a 0) 0 ≡ a
-  place-of a l = let r = in-getD a xs (once-in n xs once a l) in
+  place-of a l = let r = getD-of-in a xs (once-in n xs once a l) in
       let q : getD places a 0 ≡ r .0 = ap (λ (v : ℕ). getD places v 0) (sym (r .2)) ∙ placed .at (r .0) (omega (arith, r .1, long)) in
       ap (λ (i : ℕ). getD xs i 0) q ∙ r .2
 
@@ -214,7 +195,7 @@ module _ (most n : ℕ) (t : Tables) (places : List ℕ) (small : n ≤ max-radi
   few-good g =
       of-few-later (marked ts) num (t .order) (at-few-later (marked ts) num (t .order) (λ p l.
       let a = getD (t .order) p 0 in
-      let la = once-below n (t .order) once a (getD-in (t .order) p l) in
+      let la = once-below n (t .order) once a (in-getD (t .order) p l) in
       let e : getD places a 0 ≡ p = placed .at p (omega (arith, once-length n (t .order) once)) in
       let c = later-count-is a la (below-of a (g a la)) in
       le-trans (le-of-eq (ap (λ (i : ℕ). count (marked ts a) (drop (suc i) (t .order))) (sym e) ∙ sym c)) (g a la .later)))

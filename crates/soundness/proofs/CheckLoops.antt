@@ -4,7 +4,7 @@ use mathlib.Core.Path.{_≡_, refl, sym, ap, _∙_}
 use mathlib.Core.Logic.{_⊎_, inl, inr}
 use mathlib.Core.Bool.{Bool, true, false, _&&_}
 use mathlib.Core.List.{List, [], _∷_}
-use Prim.Native.Nat.{ℕ, zero, suc, _+_, _≤_, _<_, min}
+use Prim.Native.Nat.{ℕ, suc, _+_, _≤_, _<_, min}
 use native.Mathlib.Omega.{arith}
 use native.Mathlib.Numerals.{add-one}
 use lib.Dec.{leb, eqb}
@@ -13,11 +13,13 @@ use lib.Seq.{drop-cons, drop-length, getD-set-same, getD-set-other}
 use borrow.Author.Tests.{le-leb, lt-leb, eqb-true, eqb-false}
 use Rattle.mesh.specs.Limits.{max-radios}
 use Rattle.mesh.specs.Orders.{each-once, rising}
-use Rattle.mesh.proofs.BoolLaws.{bool-cases, never, trichotomy}
-use Rattle.mesh.proofs.ListLaws.{Distinct, Each-once, once-of, once-below, once-distinct}
-use Rattle.mesh.proofs.OrderLaws.{each-once-of, of-each-once}
+use Rattle.lists.proofs.Tests.{bool-cases, never, trichotomy}
+use Rattle.lists.specs.Lists.{Each-once}
+use Rattle.lists.proofs.Range.{once-of, once-below, once-distinct}
+use Rattle.mesh.proofs.Cores.Orders.{each-once-of, of-each-once}
 use Rattle.soundness.specs.Checks.{Placing, Places-found, nowhere, rising-from}
-use Rattle.soundness.proofs.CheckLaws.{getD-in, in-getD}
+use Rattle.lists.proofs.Member.{in-getD, getD-of-in}
+use Rattle.lists.proofs.Distinct.{distinct-at, distinct-twice}
 
 -- ---- numbers along the order
 
@@ -62,22 +64,6 @@ module _ {num : ℕ → ℕ} {xs : List ℕ} where
 
 -- ---- places of the order
 
--- a list whose entries tell their own places has no repeats
-distinct-at : (place : ℕ → ℕ) (k : ℕ) (xs : List ℕ) → ((j : ℕ) → j < length xs → place (getD xs j 0) ≡ k + j) → Distinct xs
-distinct-at place k [] h = tt
-distinct-at place k (x ∷ xs) h = (
-  λ m. let r = in-getD x xs m in
-      omega (arith, h 0 (omega arith), h (suc (r .0)) (omega (arith, r .1)), ap place (r .2)),
-  distinct-at place (suc k) xs (λ j l. omega (arith, h (suc j) (omega arith))),
-)
-
--- two places of one radio
-twice : (xs : List ℕ) (i j : ℕ) → i < j → j < length xs → getD xs i 0 ≡ getD xs j 0 → Distinct xs → ⊥
-twice [] i j h l e d = omega arith
-twice (x ∷ xs) i zero h l e d = omega arith
-twice (x ∷ xs) zero (suc j) h l e d = d .0 (rw (← e) at (getD-in xs j (omega arith)))
-twice (x ∷ xs) (suc i) (suc j) h l e d = twice xs i j (omega arith) (omega arith) e (d .1)
-
 not-once : (n : ℕ) (xs : List ℕ) → (Each-once n xs → ⊥) → each-once n xs ≡ false
 not-once n xs h = pick (bool-cases (each-once n xs))
   where
@@ -107,7 +93,7 @@ module _ (order before filled : List ℕ) (pre : (length order ≤ length before
   module _ (places : List ℕ) (i : ℕ) (l : i < length order) (s : Placing-so-far order (length filled) places i) where
     -- an entry that is no radio
     pub placing-high : length order ≤ getD order i 0 → each-once (length order) order ≡ false
-    placing-high h = not-once (length order) order (λ o. omega (arith, once-below (length order) order o (getD order i 0) (getD-in order i l)))
+    placing-high h = not-once (length order) order (λ o. omega (arith, once-below (length order) order o (getD order i 0) (in-getD order i l)))
 
     -- an entry that stood there before
     pub placing-again : getD order i 0 < length order → (getD places (getD order i 0) 0 ≡ nowhere → ⊥) → each-once (length order) order ≡ false
@@ -116,7 +102,7 @@ module _ (order before filled : List ℕ) (pre : (length order ≤ length before
         pick : (getD places (getD order i 0) 0 ≡ nowhere) ⊎ ((getD places (getD order i 0) 0 < i) × (getD order (getD places (getD order i 0) 0) 0 ≡ getD order i 0))
             → each-once (length order) order ≡ false
         pick (inl e) = absurd (some e)
-        pick (inr r) = not-once (length order) order (λ o. twice order (getD places (getD order i 0) 0) i (r .0) l (r .1) (once-distinct (length order) order o))
+        pick (inr r) = not-once (length order) order (λ o. distinct-twice order (getD places (getD order i 0) 0) i (r .0) l (r .1) (once-distinct (length order) order o))
 
     pub placing-room : getD order i 0 < length order → getD order i 0 < length places
     placing-room h = omega (arith, s .long, size)
@@ -164,17 +150,13 @@ module _ (order before filled : List ℕ) (pre : (length order ≤ length before
   placing-end places i l s = record {
     answer = sym (of-each-once (length order) order (once-of (length order) order
         (distinct-at (λ v. getD places v 0) 0 order (λ j k. omega (arith, s .at j (omega arith) .1)))
-        (λ v m. let r = in-getD v order m in omega (arith, ap (λ (w : ℕ). w) (r .2), s .at (r .0) (omega (arith, r .1)) .0)) refl));
+        (λ v m. let r = getD-of-in v order m in omega (arith, ap (λ (w : ℕ). w) (r .2), s .at (r .0) (omega (arith, r .1)) .0)) refl));
     placed = λ _. record { at = λ j k. s .at j (omega arith) .1 };
     long = s .long ∙ size;
   }
 
   pub placing-not : (places : List ℕ) (i : ℕ) → Placing-so-far order (length filled) places i → each-once (length order) order ≡ false → Placing order before places false
-  placing-not places i s h = record {
-    answer = sym h;
-    placed = λ f. never false f refl;
-    long = s .long ∙ size;
-  }
+  placing-not places i s h = record { answer = sym h; placed = λ f. never false f refl; long = s .long ∙ size }
 
   pub placing-long : (places : List ℕ) (i : ℕ) → Placing-so-far order (length filled) places i → length places ≡ length before
   placing-long places i s = s .long ∙ size
@@ -183,14 +165,8 @@ module _ (order before filled : List ℕ) (pre : (length order ≤ length before
 
 -- without room for it
 pub places-none : (order before : List ℕ) → min max-radios (length before) < length order → Places-found order before before false
-places-none order before h = record {
-  answer = rw (lt-leb (length order) (min max-radios (length before)) h);
-  placed = λ f. never false f refl;
-}
+places-none order before h = record { answer = rw (lt-leb (length order) (min max-radios (length before)) h); placed = λ f. never false f refl }
 
 pub places-some : (order before after : List ℕ) (r : Bool) → length order ≤ min max-radios (length before) → Placing order before after r
     → Places-found order before after r
-places-some order before after r h p = record {
-  answer = rw (le-leb (length order) (min max-radios (length before)) h) (p .answer);
-  placed = p .placed;
-}
+places-some order before after r h p = record { answer = rw (le-leb (length order) (min max-radios (length before)) h) (p .answer); placed = p .placed }

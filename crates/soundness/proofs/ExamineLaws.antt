@@ -9,21 +9,22 @@ use mir.Val.{boolByte}
 use lib.Dec.{eqb}
 use lib.ListN.{length, getD}
 use Rattle.mesh.specs.Limits.{max-radios, max-neighbours}
-use Rattle.mesh.specs.Lists.{range, all}
+use Rattle.lists.specs.Lists.{range, all, Each-once, Entries-below}
 use Rattle.mesh.specs.Orders.{each-once, rising}
 use Rattle.mesh.specs.Tables.{Tables}
 use Rattle.mesh.specs.Sound.{rows-proper, number-in, sound, sound-within}
-use Rattle.mesh.proofs.BoolLaws.{bool-cases, never, and-left, and-right}
-use Rattle.mesh.proofs.ListLaws.{Each-once, once-below}
-use Rattle.mesh.proofs.OrderLaws.{each-once-of}
+use Rattle.lists.proofs.Tests.{bool-cases, never, and-left, and-right, byte-bit}
+use Rattle.lists.proofs.Range.{once-below}
+use Rattle.mesh.proofs.Cores.Orders.{each-once-of}
 use Rattle.calls.specs.Questions.{ask, Lengths, lengths-of, size-good, site-lengths, answer-length, lent-refusal, site-refusal, tables-refusal}
-use Rattle.calls.specs.Answers.{Check-contract, Value-accepted, Value-refused}
+use Rattle.calls.specs.Contracts.Sites.{Check-contract}
+use Rattle.calls.specs.Contracts.Forms.{Value-accepted, Value-refused}
 use Rattle.calls.proofs.ContractLaws.{by-accepted, by-refused}
 use Rattle.calls.proofs.ChainLaws.{lent-zero}
 use Rattle.calls.proofs.QuestionLaws.{true-size-good, true-site-lengths, true-answer-length, size-good-true, Site-lengths, site-lengths-true, answer-length-true}
-use Rattle.soundness.specs.Checks.{Entries-below, Placed, Placing, row-good, Rows-room, Rows-checked, examinable, Examined, fits-sound}
-use Rattle.soundness.proofs.CheckLaws.{getD-in, sound-rows}
-use Rattle.soundness.proofs.RowChecks.{byte-bit}
+use Rattle.soundness.specs.Checks.{Placed, Placing, row-good, Rows-room, Rows-checked, examinable, Examined, fits-sound}
+use Rattle.lists.proofs.Member.{in-getD}
+use Rattle.soundness.proofs.CheckLaws.{sound-rows}
 
 -- ---- what can be examined
 
@@ -63,13 +64,7 @@ module _ (n : ℕ) (t : Tables) (ps hs : List ℕ) where
   fitting = examinable n (lengths-of t) (length ps) (length hs)
 
   examined-no : (qs is : List ℕ) → length qs ≡ length ps → length is ≡ length hs → (fitting && sound n t) ≡ false → Examined n t ps qs hs is false
-  examined-no qs is p q e = record {
-    answer = sym e;
-    placed = λ f. never false f refl;
-    highs = λ f. never false f refl;
-    places-long = p;
-    highs-long = q;
-  }
+  examined-no qs is p q e = record { answer = sym e; placed = λ f. never false f refl; highs = λ f. never false f refl; places-long = p; highs-long = q }
 
   pub examined-unfit : (u : Bool) → u ≡ fitting → u ≡ false → Examined n t ps ps hs hs false
   examined-unfit u e f = examined-no ps hs refl refl (rw (sym e ∙ f))
@@ -106,7 +101,7 @@ module _ (n : ℕ) (t : Tables) (ps hs : List ℕ) where
 
       pub entries-below : Entries-below (length (t .numbers)) (t .order)
       unfolding lengths-of
-      entries-below i l = omega (arith, once-below n (t .order) once (getD (t .order) i 0) (getD-in (t .order) i l), sizes .lengths .numbers)
+      entries-below i l = omega (arith, once-below n (t .order) once (getD (t .order) i 0) (in-getD (t .order) i l), sizes .lengths .numbers)
 
       abbrev rows : Bool
       rows = all (row-good max-neighbours n (t .links) (t .numbers) qs) (range 0 n)

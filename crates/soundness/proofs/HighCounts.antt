@@ -9,13 +9,13 @@ use Prim.Native.Nat.{ℕ, _≤_, _<_}
 use lib.Dec.{leb}
 use lib.ListN.{length, getD}
 use Rattle.mesh.specs.Limits.{max-radios, max-neighbours}
-use Rattle.mesh.specs.Lists.{range, count}
+use Rattle.lists.specs.Lists.{range, count}
 use Rattle.mesh.specs.Graph.{linked, radios, neighbours-in}
 use Rattle.mesh.specs.Orders.{each-once, rising, few-later}
 use Rattle.mesh.specs.Tables.{Tables, marked, graph-in}
 use Rattle.mesh.specs.Sound.{symmetric, irreflexive, within, few, rows-proper, enough, number-in, sound, sound-within}
-use Rattle.mesh.proofs.BoolLaws.{and-left, and-right}
-use Rattle.mesh.proofs.ListLaws.{count-filter}
+use Rattle.lists.proofs.Tests.{and-left, and-right}
+use Rattle.lists.proofs.Filter.{count-filter}
 use Rattle.calls.specs.Questions.{lengths-of}
 use Rattle.rows.specs.Rows.{neighbours-of}
 use Rattle.soundness.specs.Checks.{high-count, examinable, Examined}

@@ -7,7 +7,7 @@ pub mod RowChecks
 pub mod AllRows
 -- the whole check, and its callers
 pub mod ExamineLaws
+-- what sound tables say
+pub mod SoundSite
 -- the high counts, over the graph that the table marks
 pub mod HighCounts
--- the check's contract is the named one, and nothing is required
-pub mod CheckTie

@@ -1,7 +1,7 @@
 -- One row of the check on plain values: the ends of a row counted, a row good or not.
 use mathlib.Core.Path.{_≡_, refl, sym, ap, _∙_}
 use mathlib.Core.Logic.{_⊎_, inl, inr}
-use mathlib.Core.Bool.{Bool, true, false, _&&_, not, cond, and-false}
+use mathlib.Core.Bool.{Bool, true, false, _&&_, not, and-false}
 use mathlib.Core.List.{List, []}
 use Prim.Native.Nat.{ℕ, suc, _+_, _*_, _≤_, _<_}
 use native.Mathlib.Omega.{arith}
@@ -10,34 +10,23 @@ use mir.Syntax.{w32}
 use mir.Val.{boolByte, Fits}
 use lib.Dec.{ltb, leb, eqb}
 use lib.ListN.{length, getD, take, drop}
-use lib.Seq.{drop-cons, drop-length, getD-take, take-all, length-take-le}
+use lib.Seq.{drop-length, getD-take, take-all, length-take-le}
 use borrow.Author.Tests.{ltb-true, ltb-false, lt-ltb, le-leb, lt-leb, eq-eqb, ne-eqb}
 use Rattle.mesh.specs.Limits.{max-radios, max-neighbours, row-bytes}
-use Rattle.mesh.specs.Lists.{count, all, overwrite}
+use Rattle.lists.specs.Lists.{count, all, overwrite}
 use Rattle.mesh.specs.Tables.{marked}
 use Rattle.mesh.specs.Sound.{number-in}
-use Rattle.mesh.proofs.BoolLaws.{bool-cases, never, bit-one}
-use Rattle.mesh.proofs.ListLaws.{count-le-length, take-overwrite}
+use Rattle.lists.proofs.Tests.{bool-cases, never, bit-one, byte-bit}
+use Rattle.lists.proofs.Count.{count-le-length, count-drop}
+use Rattle.lists.proofs.Overwrite.{take-overwrite}
 use Rattle.rows.specs.Rows.{neighbours-of, row-listed}
 use Rattle.rows.proofs.MaskLaws.{marked-past}
 use Rattle.rows.proofs.RowListLaws.{row-listed-radio}
 use Rattle.soundness.specs.Checks.{later-count, high-count, ends-good, row-good, Ends-counted, Rows-room, Row-checked}
-
--- a test as a number
-pub byte-bit : (t : Bool) → boolByte t ≡ cond {A = ℕ} t 1 0
-byte-bit true = refl
-byte-bit false = refl
+use Rattle.lists.proofs.All.{all-drop}
 
 pub count-fits : (x : ℕ) (t : Bool) → x ≤ max-radios → Fits w32 (x + boolByte t)
 count-fits x t l = omega (arith, byte-bit t, bit-one t)
-
-count-drop : (f : ℕ → Bool) (xs : List ℕ) (i : ℕ) → i < length xs → count f (drop i xs) ≡ boolByte (f (getD xs i 0)) + count f (drop (suc i) xs)
-unfolding count
-count-drop f xs i l = rw (drop-cons xs i 0 l, byte-bit (f (getD xs i 0)))
-
-all-drop : (f : ℕ → Bool) (xs : List ℕ) (i : ℕ) → i < length xs → all f (drop i xs) ≡ (f (getD xs i 0) && all f (drop (suc i) xs))
-unfolding all
-all-drop f xs i l = rw (drop-cons xs i 0 l)
 
 -- ---- the ends of a row
 
@@ -66,14 +55,7 @@ module _ (n : ℕ) (links numbers places : List ℕ) (a : ℕ) (list : List ℕ)
   long = length-take-le k list fits
 
   pub counting-none : Counting n links numbers places a xs 0 0 0
-  counting-none = record {
-    low = omega arith;
-    good = refl;
-    later-is = omega arith;
-    high-is = omega arith;
-    few-later = omega arith;
-    few-high = omega arith;
-  }
+  counting-none = record { low = omega arith; good = refl; later-is = omega arith; high-is = omega arith; few-later = omega arith; few-high = omega arith }
 
   abbrev end-good : ℕ → Bool
   end-good b = ltb b n && (not (eqb b a) && marked links b a)

@@ -5,7 +5,7 @@
 --   ends-good                each of some radios is below n, is not a, and marks a too
 --   rising-from              numbers never fall along a list, and do not begin below the given one
 --   row-good                 the conditions of document 01 on radio a: its row, its later neighbours, its neighbours that are not below it
---   Entries-below, Ends-room, Rows-room   what private functions of src/lib.rt want of the tables that they read
+--   Ends-room, Rows-room   what private functions of src/lib.rt want of the tables that they read
 --   Placing, Places-found, Ends-counted, Row-checked, Highs, Rows-checked, Examined   what the functions of src/lib.rt come back with
 --   nowhere                  a place that no entry of an order has
 --   examinable               questions 1 and 2 get yes, and the lent tables of places and high counts are long enough
@@ -19,7 +19,7 @@ use Prim.Native.Nat.{ℕ, _*_, _≤_, _<_, min}
 use lib.Dec.{ltb, leb, eqb}
 use lib.ListN.{length, getD}
 use Rattle.mesh.specs.Limits.{max-radios, max-neighbours, row-bytes}
-use Rattle.mesh.specs.Lists.{range, count, all}
+use Rattle.lists.specs.Lists.{range, count, all}
 use Rattle.mesh.specs.Orders.{each-once}
 use Rattle.mesh.specs.Tables.{Tables, marked}
 use Rattle.mesh.specs.Sound.{number-in, sound}
@@ -51,10 +51,6 @@ rising-from num m [] = true
 rising-from num m (x ∷ xs) = leb m (num x) && rising-from num (num x) xs
 
 -- ---- what the functions of the check come back with
-
--- every entry is below k
-abbrev pub Entries-below : (k : ℕ) → List ℕ → Type 0
-Entries-below k xs = (i : ℕ) → i < length xs → getD xs i 0 < k
 
 -- a place that no entry of an order has
 abbrev pub nowhere : ℕ

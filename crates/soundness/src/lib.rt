@@ -6,11 +6,14 @@ ghost use lib.ListN.{length, take};
 ghost use Rattle.mesh.specs.Limits.{max-radios};
 ghost use Rattle.mesh.specs.Orders.{rising};
 ghost use Rattle.mesh.specs.Sound.{number-in, sound};
-ghost use Rattle.mesh.specs.Tables.{tables};
+ghost use Rattle.mesh.specs.Tables.{lent};
 ghost use Rattle.calls.specs.Questions.{lengths-of, site-refusal};
-ghost use Rattle.calls.specs.Answers.{Check-contract};
+ghost use Rattle.calls.specs.Contracts.Sites.{Check-contract};
 ghost use Rattle.tables.specs.Sizes.{lengths};
-ghost use Rattle.soundness.specs.Checks.{Entries-below, Placing, Places-found, Ends-room, Ends-counted, Rows-room, Row-checked, Rows-checked, examinable, Examined, fits-sound};
+ghost use Rattle.lists.specs.Lists.{Entries-below};
+ghost use Rattle.soundness.specs.Checks.{Placing, Places-found, Ends-room, Ends-counted, Rows-room, Row-checked, Rows-checked};
+ghost use Rattle.soundness.specs.Checks.{examinable, Examined, fits-sound};
+use calls::Refusal;
 use calls::Value;
 use mesh::Site;
 
@@ -89,7 +92,8 @@ fn count_ends(
     a: usize,
 ) -> Ends
     requires { ⌜ Ends-room a k (length (now links)) (length (now numbers)) (length (now places)) (length (now list)) ⌝ }
-    ensures { λ r. ⌜ Ends-counted (length (now (numbers .entry))) (now (links .entry)) (now (numbers .entry)) (now (places .entry)) a (take k (now (list .entry))) (r .good) (r .later) (r .high) ⌝ }
+    ensures { λ r. ⌜ Ends-counted (length (now (numbers .entry))) (now (links .entry)) (now (numbers .entry)) (now (places .entry)) a
+        (take k (now (list .entry))) (r .good) (r .later) (r .high) ⌝ }
 {
     let bad = Ends {
         good: false,
@@ -174,8 +178,10 @@ fn rows_checked(
     list: &mut [u16],
     highs: &mut [u8],
 ) -> bool
-    requires { ⌜ Rows-room n (length (now links)) (length (now numbers)) (length (now places)) (length (now list)) × (n ≤ length (now highs)) ⌝ }
-    ensures { λ r. ⌜ Rows-checked n (now (links .entry)) (now (numbers .entry)) (now (places .entry)) (now (highs .entry)) (now (highs .exit)) r ⌝ }
+    requires { ⌜ Rows-room n (length (now links)) (length (now numbers)) (length (now places)) (length (now list)) ×
+        (n ≤ length (now highs)) ⌝ }
+    ensures { λ r. ⌜ Rows-checked n (now (links .entry)) (now (numbers .entry)) (now (places .entry)) (now (highs .entry))
+        (now (highs .exit)) r ⌝ }
 {
     let mut a: u32 = 0;
     while a < n {
@@ -221,7 +227,8 @@ pub fn examine(
     places: &mut [u16],
     highs: &mut [u8],
 ) -> bool
-    ensures { λ r. ⌜ Examined n (tables (now (links .entry)) (now (numbers .entry)) (now (order .entry))) (now (places .entry)) (now (places .exit)) (now (highs .entry)) (now (highs .exit)) r ⌝ }
+    ensures { λ r. ⌜ Examined n (lent (links .entry) (numbers .entry) (order .entry)) (now (places .entry)) (now (places .exit))
+        (now (highs .entry)) (now (highs .exit)) r ⌝ }
 {
     if !is_examinable(
         n,
@@ -245,7 +252,7 @@ pub fn examine(
 
 // Whether n is from 1 to 512, the tables have their lengths, and they are sound.
 pub fn is_sound(n: u32, links: &[u8], numbers: &[u8], order: &[u16]) -> bool
-    ensures { λ r. ⌜ r ≡ fits-sound n (tables (now (links .entry)) (now (numbers .entry)) (now (order .entry))) ⌝ }
+    ensures { λ r. ⌜ r ≡ fits-sound n (lent (links .entry) (numbers .entry) (order .entry)) ⌝ }
 {
     let mut places = [0u16; Site::RADIOS as usize];
     let mut highs = [0u8; Site::RADIOS as usize];
@@ -254,7 +261,8 @@ pub fn is_sound(n: u32, links: &[u8], numbers: &[u8], order: &[u16]) -> bool
 
 // Questions 1 to 3, where `others` is the answer that 2 gets for further tables: the refusal number so far, 0 when none got no.
 pub fn refusal(n: u32, links: &[u8], numbers: &[u8], order: &[u16], others: bool) -> u32
-    ensures { λ r. ⌜ r ≡ site-refusal n (lengths-of (tables (now (links .entry)) (now (numbers .entry)) (now (order .entry)))) others (sound n (tables (now (links .entry)) (now (numbers .entry)) (now (order .entry)))) 0 ⌝ }
+    ensures { λ r. ⌜ r ≡ site-refusal n (lengths-of (lent (links .entry) (numbers .entry) (order .entry))) others
+        (sound n (lent (links .entry) (numbers .entry) (order .entry))) 0 ⌝ }
 {
     let number = tables::sizes::of_tables(
         Site { radios: n },
@@ -266,17 +274,17 @@ pub fn refusal(n: u32, links: &[u8], numbers: &[u8], order: &[u16], others: bool
         return number;
     }
     if !others {
-        return 2;
+        return Refusal::LENGTH;
     }
     if !is_sound(n, links, numbers, order) {
-        return 3;
+        return Refusal::UNSOUND;
     }
     0
 }
 
 // The soundness check: refusal number 1 or 2 and the value 0, or number 0 and the value 1 when the tables are sound, 0 when not.
 pub fn check(n: u32, links: &[u8], numbers: &[u8], order: &[u16]) -> Value
-    ensures { λ r. ⌜ Check-contract n (tables (now (links .entry)) (now (numbers .entry)) (now (order .entry))) r ⌝ }
+    ensures { λ r. ⌜ Check-contract n (lent (links .entry) (numbers .entry) (order .entry)) r ⌝ }
 {
     let number = tables::sizes::of_tables(
         Site { radios: n },

@@ -5,3 +5,7 @@ pub mod Calls
 pub mod Returns
 -- all promises
 pub mod Promises
+-- the lent list of nodes: filled place by place, from three tables to the list; a local array in a proof by hand
+mod NodesLaws
+mod NodesAnswer
+pub mod LocalArray

@@ -16,18 +16,22 @@ use mathlib.Core.Bool.{Bool, true, false}
 use mathlib.Core.List.{List, [], _∷_, _++_}
 use Prim.Native.Nat.{ℕ, _<_}
 use lib.ListN.{length, take}
-use Rattle.mesh.specs.Lists.{member}
+use Rattle.lists.specs.Lists.{member, Entries-below}
 use Rattle.mesh.specs.Graph.{Link, Graph, graph}
 use Rattle.mesh.specs.Cores.{Core, number}
-use Rattle.mesh.specs.Tables.{Tables, graph-in, Entries-below}
+use Rattle.mesh.specs.Tables.{Tables, graph-in}
 use Rattle.mesh.specs.Image.{whole-blocks, checks-good, Tables-image}
 use Rattle.mesh.specs.declared.Node.{Node}
 use Rattle.calls.specs.Questions.{lengths-of, size-good, site-lengths}
-use Rattle.calls.specs.Writes.{Tables-refused, Clear-contract, Link-refused, Link-contract, Read-contract}
-use Rattle.calls.specs.Answers.{Value-refused, Check-contract, Number-contract, Neighbours-contract, Linked-contract, First-contract, Listing-refused}
-use Rattle.calls.specs.Answers.{Core-contract, Backbone-contract, Write-contract, Tree-refused, Tree-contract, Block-none, Block-contract}
-use Rattle.calls.specs.Outcomes.{clear-outcome, read-outcome, link-outcome, check-outcome, number-outcome, neighbours-outcome, linked-outcome}
-use Rattle.calls.specs.Outcomes.{first-outcome, core-outcome, backbone-outcome, tree-outcome, write-outcome, block-outcome}
+use Rattle.calls.specs.Contracts.Forms.{Tables-refused, Value-refused, Listing-refused}
+use Rattle.calls.specs.Contracts.Sites.{Clear-contract, Check-contract}
+use Rattle.calls.specs.Contracts.Links.{Link-refused, Link-contract}
+use Rattle.calls.specs.Contracts.Images.{Read-contract, Write-contract, Block-none, Block-contract}
+use Rattle.calls.specs.Contracts.Radios.{Number-contract, Neighbours-contract, Linked-contract, First-contract}
+use Rattle.calls.specs.Contracts.Cores.{Core-contract, Backbone-contract}
+use Rattle.calls.specs.Contracts.Trees.{Tree-refused, Tree-contract}
+use Rattle.calls.specs.Outcomes.{clear-outcome, read-outcome, link-outcome, check-outcome, number-outcome, neighbours-outcome, linked-outcome, first-outcome}
+use Rattle.calls.specs.Outcomes.{core-outcome, backbone-outcome, tree-outcome, write-outcome, block-outcome}
 use Rattle.calls.specs.Results.{Site-right, Link-right, Core-listed, Backbone-listed, Tree-listed, Written-right, Read-right, Block-part, Block-end}
 use Rattle.calls.specs.Book.{Call, clearing, reading, linking, Answer, plain, book-after}
 use Rattle.calls.specs.Runs.{answer-of, Does, Event, event, Run, givens, called}
@@ -35,18 +39,15 @@ use Rattle.calls.specs.Demand.{Start, Demand-3}
 use Rattle.calls.specs.declared.Reply.{Reply}
 use Rattle.calls.specs.declared.Value.{Value}
 use Rattle.calls.specs.declared.Block.{Block}
-use Rattle.summerbugle.specs.Functions.{Promised, Returns, Gives, Leaves-lent, number-0, number-1, number-2, tables-1, tables-2, tables-3}
-use Rattle.summerbugle.specs.Functions.{lent-0, lent-4, lent-6}
-use Rattle.summerbugle.proofs.Calls.{sb-clear, sb-link-up, sb-link-down, sb-image-read, sb-check, sb-number, sb-neighbours, sb-linked}
-use Rattle.summerbugle.proofs.Calls.{sb-first, sb-core, sb-backbone, sb-tree, sb-image-write, sb-image-block, reader-open, reader-step}
-use Rattle.summerbugle.proofs.Calls.{reader-moved}
+use Rattle.summerbugle.specs.Functions.{Promised, Returns, Gives, Leaves-lent, number-0, number-1, number-2, tables-1, tables-2, tables-3, lent-0, lent-4, lent-6}
+use Rattle.summerbugle.proofs.Calls.{sb-clear, sb-link-up, sb-link-down, sb-image-read, sb-check, sb-number, sb-neighbours, sb-linked, sb-first, sb-core}
+use Rattle.summerbugle.proofs.Calls.{sb-backbone, sb-tree, sb-image-write, sb-image-block, reader-open, reader-step, reader-moved}
 -- for the proof
-use Rattle.mesh.proofs.Peeling.{number-core, number-unique}
-use Rattle.calls.proofs.Outcomes.{exactly, clear-decided, link-decided, read-decided, check-decided, number-decided, neighbours-decided}
+use Rattle.mesh.proofs.Cores.Peeling.{number-core, number-unique}
+use Rattle.calls.proofs.Outcomes.{exactly, clear-decided, link-decided, read-decided, check-decided, number-decided, neighbours-decided, block-inhabited}
 use Rattle.calls.proofs.Outcomes.{linked-decided, first-decided, core-decided, backbone-decided, tree-decided, write-decided, block-decided}
 use Rattle.calls.proofs.Outcomes.{clear-inhabited, link-inhabited, read-inhabited, check-inhabited, number-inhabited, neighbours-inhabited}
 use Rattle.calls.proofs.Outcomes.{linked-inhabited, first-inhabited, core-inhabited, backbone-inhabited, tree-inhabited, write-inhabited}
-use Rattle.calls.proofs.Outcomes.{block-inhabited}
 use Rattle.calls.proofs.Refusals.{clear-keeps, link-keeps, read-keeps, check-keeps, number-keeps, neighbours-keeps, linked-keeps, first-keeps}
 use Rattle.calls.proofs.Refusals.{core-keeps, backbone-keeps, tree-keeps, write-keeps, block-keeps}
 use Rattle.calls.proofs.Accepted.{check-right, link-right, number-right, core-right, backbone-right, tree-right-listed, write-right}
@@ -90,7 +91,7 @@ pub record Calls-promised (M : Type 1) : Type 2 where
   pub tree : Promised sb-tree M
   pub image-write : Promised sb-image-write M
   pub image-block : Promised sb-image-block M
-  -- the block reader in document 01's own form: the part given back lies in the image, and is those 504 bytes of it
+  -- the block reader in document 01's own form: the part given back lies in the image, and is its 504 bytes of payload
   pub reader-open : Promised reader-open M
   pub reader-step : Promised reader-step M
   pub reader-moved : Promised reader-moved M
@@ -228,7 +229,7 @@ pub record Property-2 : Type 0 where
       (n : ℕ) (bs : List ℕ) (t : Tables) (r : ℕ) (v : Tables) → Read-contract n bs t r v → size-good n ≡ true →
       site-lengths n (lengths-of t) ≡ true → whole-blocks bs ≡ true → checks-good bs ≡ true →
       ((r ≡ 0) ↔ Tables-image n bs) × ((r ≡ 11) ↔ (Tables-image n bs → ⊥))
-  -- a step of the block reader gives those 504 bytes of the image, or the end
+  -- a step of the block reader gives the 504 bytes of payload, or the end
   pub block : (bs : List ℕ) (i : ℕ) (r : Block) → Block-contract bs i r → r .number ≡ 0 → Block-part bs i r ⊎ Block-end bs i r
 
 -- ---- property 3

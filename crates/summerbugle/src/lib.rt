@@ -1,18 +1,29 @@
 // The public interface: the calls of the link engine, exported to C, and nothing else. Each is the call of the crate that has
 // it, under the same contract. No call has a `requires`.
 ghost use mathlib.Core.Bool.{true, false};
-ghost use Rattle.mesh.specs.Tables.{tables};
-ghost use Rattle.calls.specs.Writes.{Clear-contract, Link-contract, Read-contract};
-ghost use Rattle.calls.specs.Answers.{Check-contract, Number-contract, Neighbours-contract, Linked-contract, First-contract, Core-contract, Backbone-contract, Tree-contract, Write-contract, Block-contract};
+ghost use Rattle.mesh.specs.Tables.{lent};
+ghost use Rattle.calls.specs.Contracts.Sites.{Clear-contract, Check-contract};
+ghost use Rattle.calls.specs.Contracts.Links.{Link-contract};
+ghost use Rattle.calls.specs.Contracts.Images.{Read-contract, Write-contract, Block-contract};
+ghost use Rattle.calls.specs.Contracts.Radios.{Number-contract, Neighbours-contract, Linked-contract, First-contract};
+ghost use Rattle.calls.specs.Contracts.Cores.{Core-contract, Backbone-contract};
+ghost use Rattle.calls.specs.Contracts.Trees.{Tree-contract};
 use calls::Block;
 use calls::Reply;
 use calls::Value;
 use mesh::Node;
+use mesh::Site;
+
+mod nodes;
+
+// The most nodes that a tree may have: one for each radio, and the root.
+const PLACES: usize = Site::RADIOS as usize + 1;
 
 // Clears a site: zero links, zero numbers, the order 0 to n - 1. Refused by 1 and 2: then every table keeps its content.
 #[no_mangle]
 pub extern "C" fn sb_clear(n: u32, links: &mut [u8], numbers: &mut [u8], order: &mut [u16]) -> u32
-    ensures { λ r. ⌜ Clear-contract n (tables (now (links .entry)) (now (numbers .entry)) (now (order .entry))) r (tables (now (links .exit)) (now (numbers .exit)) (now (order .exit))) ⌝ }
+    ensures { λ r. ⌜ Clear-contract n (lent (links .entry) (numbers .entry) (order .entry)) r
+        (lent (links .exit) (numbers .exit) (order .exit)) ⌝ }
 {
     tables::clear::clear(n, links, numbers, order)
 }
@@ -25,7 +36,7 @@ pub extern "C" fn sb_check<'a>(
     numbers: &'a [u8],
     order: &'a [u16],
 ) -> Value
-    ensures { λ r. ⌜ Check-contract n (tables (now (links .entry)) (now (numbers .entry)) (now (order .entry))) r ⌝ }
+    ensures { λ r. ⌜ Check-contract n (lent (links .entry) (numbers .entry) (order .entry)) r ⌝ }
 {
     soundness::check(n, links, numbers, order)
 }
@@ -42,7 +53,8 @@ pub extern "C" fn sb_link_up(
     order: &mut [u16],
     answer: &mut [u16],
 ) -> Reply
-    ensures { λ r. ⌜ Link-contract true n a b (tables (now (links .entry)) (now (numbers .entry)) (now (order .entry))) (now (answer .entry)) r (tables (now (links .exit)) (now (numbers .exit)) (now (order .exit))) (now (answer .exit)) ⌝ }
+    ensures { λ r. ⌜ Link-contract true n a b (lent (links .entry) (numbers .entry) (order .entry)) (now (answer .entry)) r
+        (lent (links .exit) (numbers .exit) (order .exit)) (now (answer .exit)) ⌝ }
 {
     links::link::link_up(n, a, b, links, numbers, order, answer)
 }
@@ -58,7 +70,8 @@ pub extern "C" fn sb_link_down(
     order: &mut [u16],
     answer: &mut [u16],
 ) -> Reply
-    ensures { λ r. ⌜ Link-contract false n a b (tables (now (links .entry)) (now (numbers .entry)) (now (order .entry))) (now (answer .entry)) r (tables (now (links .exit)) (now (numbers .exit)) (now (order .exit))) (now (answer .exit)) ⌝ }
+    ensures { λ r. ⌜ Link-contract false n a b (lent (links .entry) (numbers .entry) (order .entry)) (now (answer .entry)) r
+        (lent (links .exit) (numbers .exit) (order .exit)) (now (answer .exit)) ⌝ }
 {
     links::link::link_down(n, a, b, links, numbers, order, answer)
 }
@@ -72,7 +85,7 @@ pub extern "C" fn sb_number<'a>(
     numbers: &'a [u8],
     order: &'a [u16],
 ) -> Value
-    ensures { λ r. ⌜ Number-contract n v (tables (now (links .entry)) (now (numbers .entry)) (now (order .entry))) r ⌝ }
+    ensures { λ r. ⌜ Number-contract n v (lent (links .entry) (numbers .entry) (order .entry)) r ⌝ }
 {
     queries::radios::number(n, v, links, numbers, order)
 }
@@ -86,7 +99,7 @@ pub extern "C" fn sb_neighbours<'a>(
     numbers: &'a [u8],
     order: &'a [u16],
 ) -> Value
-    ensures { λ r. ⌜ Neighbours-contract n v (tables (now (links .entry)) (now (numbers .entry)) (now (order .entry))) r ⌝ }
+    ensures { λ r. ⌜ Neighbours-contract n v (lent (links .entry) (numbers .entry) (order .entry)) r ⌝ }
 {
     queries::radios::neighbours(n, v, links, numbers, order)
 }
@@ -101,7 +114,7 @@ pub extern "C" fn sb_linked<'a>(
     numbers: &'a [u8],
     order: &'a [u16],
 ) -> Value
-    ensures { λ r. ⌜ Linked-contract n a b (tables (now (links .entry)) (now (numbers .entry)) (now (order .entry))) r ⌝ }
+    ensures { λ r. ⌜ Linked-contract n a b (lent (links .entry) (numbers .entry) (order .entry)) r ⌝ }
 {
     queries::radios::linked(n, a, b, links, numbers, order)
 }
@@ -116,7 +129,7 @@ pub extern "C" fn sb_first<'a>(
     numbers: &'a [u8],
     order: &'a [u16],
 ) -> Value
-    ensures { λ r. ⌜ First-contract n a b (tables (now (links .entry)) (now (numbers .entry)) (now (order .entry))) r ⌝ }
+    ensures { λ r. ⌜ First-contract n a b (lent (links .entry) (numbers .entry) (order .entry)) r ⌝ }
 {
     queries::radios::first(n, a, b, links, numbers, order)
 }
@@ -133,7 +146,7 @@ pub extern "C" fn sb_core<'a>(
     order: &'a [u16],
     answer: &mut [u16],
 ) -> Value
-    ensures { λ r. ⌜ Core-contract n v k (tables (now (links .entry)) (now (numbers .entry)) (now (order .entry))) (now (answer .entry)) r (now (answer .exit)) ⌝ }
+    ensures { λ r. ⌜ Core-contract n v k (lent (links .entry) (numbers .entry) (order .entry)) (now (answer .entry)) r (now (answer .exit)) ⌝ }
 {
     queries::cores::core(n, v, k, links, numbers, order, answer)
 }
@@ -148,7 +161,7 @@ pub extern "C" fn sb_backbone<'a>(
     order: &'a [u16],
     answer: &mut [u16],
 ) -> Value
-    ensures { λ r. ⌜ Backbone-contract n (tables (now (links .entry)) (now (numbers .entry)) (now (order .entry))) (now (answer .entry)) r (now (answer .exit)) ⌝ }
+    ensures { λ r. ⌜ Backbone-contract n (lent (links .entry) (numbers .entry) (order .entry)) (now (answer .entry)) r (now (answer .exit)) ⌝ }
 {
     queries::backbone::backbone(n, links, numbers, order, answer)
 }
@@ -165,9 +178,26 @@ pub extern "C" fn sb_tree<'a, 's, 't>(
     nodes: &'s mut [Node],
     answer: &'t mut [u16],
 ) -> Value
-    ensures { λ r. ⌜ Tree-contract n (tables (now (links .entry)) (now (numbers .entry)) (now (order .entry))) (now (nodes .entry)) (now (answer .entry)) r (now (nodes .exit)) (now (answer .exit)) ⌝ }
+    ensures { λ r. ⌜ Tree-contract n (lent (links .entry) (numbers .entry) (order .entry)) (now (nodes .entry)) (now (answer .entry)) r
+        (now (nodes .exit)) (now (answer .exit)) ⌝ }
 {
-    node_list::lent::shell_tree(n, links, numbers, order, nodes, answer)
+    let mut names = [0u16; PLACES];
+    let mut levels = [0u16; PLACES];
+    let mut parents = [0u16; PLACES];
+    let reply = tree::levels::shell_tree(
+        n,
+        links,
+        numbers,
+        order,
+        nodes.len(),
+        &mut names,
+        &mut levels,
+        &mut parents,
+        answer,
+    );
+    let count = reply.value as usize;
+    nodes::fill(nodes, &names, &levels, &parents, count);
+    reply
 }
 
 // Writes the site's image in front of the buffer: the value is its length in bytes, and bytes past it keep their content. Refused
@@ -180,7 +210,7 @@ pub extern "C" fn sb_image_write(
     order: &[u16],
     buffer: &mut [u8],
 ) -> Value
-    ensures { λ r. ⌜ Write-contract n (tables (now (links .entry)) (now (numbers .entry)) (now (order .entry))) (now (buffer .entry)) r (now (buffer .exit)) ⌝ }
+    ensures { λ r. ⌜ Write-contract n (lent (links .entry) (numbers .entry) (order .entry)) (now (buffer .entry)) r (now (buffer .exit)) ⌝ }
 {
     image_writer::writer::write(n, links, numbers, order, buffer)
 }
@@ -195,7 +225,8 @@ pub extern "C" fn sb_image_read(
     order: &mut [u16],
     image: &[u8],
 ) -> u32
-    ensures { λ r. ⌜ Read-contract n (now (image .entry)) (tables (now (links .entry)) (now (numbers .entry)) (now (order .entry))) r (tables (now (links .exit)) (now (numbers .exit)) (now (order .exit))) ⌝ }
+    ensures { λ r. ⌜ Read-contract n (now (image .entry)) (lent (links .entry) (numbers .entry) (order .entry)) r
+        (lent (links .exit) (numbers .exit) (order .exit)) ⌝ }
 {
     image_reader::reader::read(n, links, numbers, order, image)
 }

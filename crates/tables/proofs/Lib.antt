@@ -5,7 +5,7 @@ pub mod WidthLaws
 pub mod SizeLaws
 -- the signed step
 pub mod StepLaws
+-- the greatest number
+pub mod NumberLaws
 -- clearing
 pub mod ClearLaws
--- the contract of clearing is the named one, and nothing is required
-pub mod Ties

@@ -1,25 +1,23 @@
 -- Laws of the signed step. The sum is made in 16 bits, where it is exact; what the code hands out is the sum held between
 -- 0 and 255. Then laws of numbers stepped one after the other.
 use mathlib.Core.Path.{_≡_, refl, sym, ap, ap₂, _∙_, subst}
-use mathlib.Core.Logic.{_⊎_, inl, inr}
+use mathlib.Core.Logic.{inl, inr}
 use mathlib.Core.Bool.{Bool, true, false, cond}
-use mathlib.Core.List.{List, [], _∷_, map}
+use mathlib.Core.List.{List, [], _∷_}
 use Prim.Native.Nat.{ℕ, suc, _+_, _-_, _≤_, _<_, min}
-use native.Mathlib.Nat.{zero-add}
 use native.Mathlib.Omega.{arith}
-use native.Mathlib.Numerals.{add-one}
-use lib.Dec.{T, ltb}
-use lib.IntN.{ℤ, pos, negsuc, _+ℤ_, natAbs}
-use lib.Signed.{ltZ, nonNeg}
-use lib.ListN.{length, getD, drop, length-set, drop-of-length-le}
-use lib.Seq.{drop-cons, getD-set-same, getD-set-other, ext-getD}
-use borrow.Author.Tests.{ltb-true, ltb-false}
 use mir.Syntax.{w8, w16}
 use mir.Val.{Fits, SFits, toZ, ofZ}
 use mir.Facts.{toZ-ofZ, toZ-pos, sfits-widen}
-use Rattle.mesh.specs.Lists.{range, member}
-use Rattle.mesh.proofs.BoolLaws.{bool-cases, never}
-use Rattle.mesh.proofs.ListLaws.{In, Distinct, member-in, in-member, length-map, length-range, getD-map-range}
+use lib.Dec.{T, ltb}
+use lib.IntN.{ℤ, pos, negsuc, _+ℤ_, natAbs}
+use lib.Signed.{ltZ, nonNeg}
+use lib.ListN.{length, getD, length-set}
+use lib.Seq.{getD-set-same, getD-set-other}
+use borrow.Author.Tests.{ltb-true, ltb-false}
+use Rattle.lists.proofs.Loops.{length-folded}
+use Rattle.lists.specs.Lists.{folded, In, Distinct}
+use Rattle.lists.proofs.Tests.{never}
 use Rattle.tables.specs.Steps.{stepped, step-at, all-stepped}
 
 -- ---- a sum held between 0 and 255
@@ -97,19 +95,7 @@ module _ (x : ℕ) (z : ℤ) (small : x < 256) (fits : SFits w8 z) where
   pub sum-within : ltZ (sum-of x z) (pos 0) ≡ false → ltZ (pos 255) (sum-of x z) ≡ false → natAbs (sum-of x z) ≡ stepped x z
   sum-within h l = held-within (sum-of x z) h l .is ∙ held-exact
 
--- ---- stepped: the three steps of a link call, what is below 0, and the exact sum
-
-pub stepped-up : (x : ℕ) → x < 255 → stepped x (pos 1) ≡ x + 1
-unfolding stepped
-stepped-up x h = omega arith
-
-pub stepped-none : (x : ℕ) → x < 256 → stepped x (pos 0) ≡ x
-unfolding stepped
-stepped-none x h = omega arith
-
-pub stepped-down : (x : ℕ) → stepped x (negsuc 0) ≡ x - 1
-unfolding stepped
-stepped-down x = refl
+-- ---- stepped: what is below 0, and the exact sum
 
 pub stepped-zero : (k : ℕ) → stepped 0 (negsuc k) ≡ 0
 unfolding stepped
@@ -138,12 +124,11 @@ getD-step-at-other u v z ns h = getD-set-other ns v u (stepped (getD ns v 0) z) 
 
 pub length-all-stepped : (vs : List ℕ) (z : ℤ) (ns : List ℕ) → length (all-stepped vs z ns) ≡ length ns
 unfolding all-stepped
-length-all-stepped [] z ns = refl
-length-all-stepped (v ∷ vs) z ns = length-all-stepped vs z (step-at v z ns) ∙ length-step-at v z ns
+length-all-stepped vs z ns = length-folded (λ v now. step-at v z now) (λ v now. length-step-at v z now) vs ns
 
 -- a radio that is not listed keeps its number
 pub getD-all-stepped-other : (u : ℕ) (vs : List ℕ) (z : ℤ) (ns : List ℕ) → (In u vs → ⊥) → getD (all-stepped vs z ns) u 0 ≡ getD ns u 0
-unfolding all-stepped
+unfolding all-stepped folded
 getD-all-stepped-other u [] z ns h = refl
 getD-all-stepped-other u (v ∷ vs) z ns h =
     getD-all-stepped-other u vs z (step-at v z ns) (λ m. h (inr m)) ∙ getD-step-at-other u v z ns (λ e. h (inl e))
@@ -152,58 +137,9 @@ getD-all-stepped-other u (v ∷ vs) z ns h =
 pub getD-all-stepped-listed :
     (u : ℕ) (vs : List ℕ) (z : ℤ) (ns : List ℕ) → Distinct vs → In u vs → u < length ns →
     getD (all-stepped vs z ns) u 0 ≡ stepped (getD ns u 0) z
-unfolding all-stepped
+unfolding all-stepped folded
 getD-all-stepped-listed u (v ∷ vs) z ns d (inl e) h =
     rw (← e) (getD-all-stepped-other v vs z (step-at v z ns) (d .0) ∙ getD-step-at-same v z ns (omega arith))
 getD-all-stepped-listed u (v ∷ vs) z ns d (inr m) h =
     getD-all-stepped-listed u vs z (step-at v z ns) (d .1) m (omega (arith, length-step-at v z ns))
     ∙ ap (λ x. stepped x z) (getD-step-at-other u v z ns (λ e. d .0 (rw (← e) at m)))
-
--- the numbers after, radio by radio
-pub getD-all-stepped :
-    (u : ℕ) (vs : List ℕ) (z : ℤ) (ns : List ℕ) → Distinct vs → u < length ns →
-    getD (all-stepped vs z ns) u 0 ≡ cond (member u vs) (stepped (getD ns u 0) z) (getD ns u 0)
-getD-all-stepped u vs z ns d h = go (bool-cases (member u vs))
-  where
-    go :
-        (member u vs ≡ true) ⊎ (member u vs ≡ false) →
-        getD (all-stepped vs z ns) u 0 ≡ cond (member u vs) (stepped (getD ns u 0) z) (getD ns u 0)
-    go (inl e) = rw e (getD-all-stepped-listed u vs z ns d (member-in u vs e) h)
-    go (inr e) = rw e (getD-all-stepped-other u vs z ns (λ m. never (member u vs) (in-member u vs m) e))
-
-pub all-stepped-map :
-    (vs : List ℕ) (z : ℤ) (ns : List ℕ) → Distinct vs →
-    all-stepped vs z ns ≡ map (λ v. cond (member v vs) (stepped (getD ns v 0) z) (getD ns v 0)) (range 0 (length ns))
-all-stepped-map vs z ns d =
-    let e = length-all-stepped vs z ns in
-    let f : ℕ → ℕ = λ v. cond (member v vs) (stepped (getD ns v 0) z) (getD ns v 0) in
-    ext-getD 0 (all-stepped vs z ns) (map f (range 0 (length ns)))
-    (e ∙ sym (length-map f (range 0 (length ns)) ∙ length-range 0 (length ns)))
-    (λ u h.
-    let l : u < length ns = omega arith in
-    getD-all-stepped u vs z ns d l ∙ ap f (sym (zero-add u)) ∙ sym (getD-map-range f 0 (length ns) u l))
-
--- ---- a list of radios being stepped: i so far
-
-pub record Stepping (vs : List ℕ) (z : ℤ) (start numbers : List ℕ) (i : ℕ) : Type 0 where
-  pub low : i ≤ length vs
-  pub long : length numbers ≡ length start
-  pub is : all-stepped (drop i vs) z numbers ≡ all-stepped vs z start
-
-pub stepping-none : (vs : List ℕ) (z : ℤ) (ns : List ℕ) → Stepping vs z ns ns 0
-stepping-none vs z ns = record { low = omega arith; long = refl; is = refl }
-
-pub stepping-turn :
-    (vs : List ℕ) (z : ℤ) (start ns : List ℕ) (i v : ℕ) → Stepping vs z start ns i → i < length vs → v ≡ getD vs i 0 →
-    Stepping vs z start (step-at v z ns) (i + 1)
-unfolding all-stepped
-stepping-turn vs z start ns i v b h e =
-    record {
-      low = omega arith;
-      long = length-step-at v z ns ∙ b .long;
-      is = rw (add-one, e) (ap (λ l. all-stepped l z ns) (sym (drop-cons vs i 0 h)) ∙ b .is);
-    }
-
-pub stepping-end : (vs : List ℕ) (z : ℤ) (start ns : List ℕ) (i : ℕ) → Stepping vs z start ns i → length vs ≤ i → ns ≡ all-stepped vs z start
-unfolding all-stepped
-stepping-end vs z start ns i b h = ap (λ l. all-stepped l z ns) (sym (drop-of-length-le vs h)) ∙ b .is

@@ -2,73 +2,25 @@
 -- each function cites them with its own, 8 or 16.
 -- In order: laws of lists; values; a table being written, and what it holds at the end; a table being copied; tables compared.
 use mathlib.Core.Path.{_≡_, refl, sym, ap, ap₂, _∙_}
-use mathlib.Core.Logic.{_⊎_, inl, inr}
 use mathlib.Core.Bool.{true, false, _&&_}
-use mathlib.Core.List.{List, [], _∷_, _++_, map, append-nil}
-use Prim.Native.Nat.{ℕ, zero, suc, _+_, _%_, _^_, _≤_, _<_, min}
-use native.Mathlib.Nat.{mod-eq-of-lt, zero-add, zero-min, suc-min-suc}
+use mathlib.Core.List.{List, _++_, map, append-nil}
+use Prim.Native.Nat.{ℕ, suc, _+_, _%_, _^_, _≤_, _<_, min}
+use native.Mathlib.Nat.{mod-eq-of-lt, zero-add}
 use native.Mathlib.Numerals.{add-one}
 use native.Mathlib.Omega.{arith}
 use lib.Dec.{eqb}
-use lib.ListN.{length, getD, set, take, drop, replicate, length-set, length-take, drop-of-length-le}
-use lib.Seq.{drop-cons, take-all, take-nil}
+use lib.ListN.{length, getD, set, take, drop, replicate, length-set, drop-of-length-le}
+use lib.Seq.{drop-cons}
 use borrow.Author.Tests.{eq-eqb, ne-eqb}
 use borrow.Author.Count.{below-more}
-use Rattle.mesh.specs.Lists.{range, same, overwrite}
-use Rattle.mesh.proofs.BoolLaws.{bool-cases}
-use Rattle.mesh.proofs.ListLaws.{length-range, length-map, same-eq}
+use Rattle.lists.specs.Lists.{range, same, overwrite}
+use Rattle.lists.proofs.Range.{length-range}
+use Rattle.lists.proofs.Map.{map-range-ext, length-map, map-range-getD, map-range-constant, map-range-id}
 use Rattle.tables.specs.Widths.{Below, values, written}
+use Rattle.lists.proofs.Overwrite.{set-map-range-end}
+use Rattle.lists.proofs.Parts.{take-min}
 
 -- ---- laws of lists
-
-set-map-range : (f : ℕ → ℕ) (i k : ℕ) (d : List ℕ) → k < length d
-    → set (map f (range i k) ++ drop k d) k (f (i + k)) ≡ map f (range i (suc k)) ++ drop (suc k) d
-unfolding range
-set-map-range f i k [] h = absurd (omega arith)
-set-map-range f i zero (x ∷ d) h = ap {B = List ℕ} (λ n. f n ∷ d) (omega arith)
-set-map-range f i (suc k) (x ∷ d) h =
-    let e : i + suc k ≡ suc i + k = omega arith in
-    ap {B = List ℕ} (λ t. f i ∷ t)
-    (ap (λ n. set (map f (range (suc i) k) ++ drop k d) k (f n)) e ∙ set-map-range f (suc i) k d (omega arith))
-
-pub map-range-getD : (s : List ℕ) (i k : ℕ) → i + k ≤ length s → map (λ j. getD s j 0) (range i k) ≡ take k (drop i s)
-unfolding range
-map-range-getD s i zero h = refl
-map-range-getD s i (suc k) h =
-    ap {B = List ℕ} (λ t. getD s i 0 ∷ t) (map-range-getD s (suc i) k (omega arith)) ∙ ap (take (suc k)) (sym (drop-cons s i 0 (omega arith)))
-
-pub map-range-constant : (x i k : ℕ) → map (λ j. x) (range i k) ≡ replicate k x
-unfolding range
-map-range-constant x i zero = refl
-map-range-constant x i (suc k) = ap {B = List ℕ} (λ t. x ∷ t) (map-range-constant x (suc i) k)
-
-pub map-range-id : (i k : ℕ) → map (λ j. j) (range i k) ≡ range i k
-unfolding range
-map-range-id i zero = refl
-map-range-id i (suc k) = ap {B = List ℕ} (λ t. i ∷ t) (map-range-id (suc i) k)
-
-pub take-min : (k : ℕ) (s : List ℕ) → take (min k (length s)) s ≡ take k s
-take-min zero s = ap (λ n. take n s) (zero-min (length s))
-take-min (suc k) [] = take-nil (min (suc k) 0)
-take-min (suc k) (x ∷ s) = ap (λ n. take n (x ∷ s)) (suc-min-suc k (length s)) ∙ ap {B = List ℕ} (λ t. x ∷ t) (take-min k s)
-
--- what a caller knows of a list that fits, and of a table of the same length
-pub take-take-fits : (k m : ℕ) (s : List ℕ) → k ≤ m → take m (take k s) ≡ take k s
-take-take-fits k m s h = take-all m (take k s) (omega (arith, length-take k s))
-
-pub overwrite-all : (s d : List ℕ) → length s ≡ length d → overwrite (take (length d) s) d ≡ s
-unfolding overwrite
-overwrite-all s d e =
-    let t : take (length d) s ≡ s = take-all (length d) s (omega arith) in
-    let g : length d ≤ length s = omega arith in
-    rw t (ap (λ r. s ++ r) (drop-of-length-le d g) ∙ append-nil s)
-
--- the rule agrees with another where it is asked
-map-range-ext : (f g : ℕ → ℕ) (i k : ℕ) → ((j : ℕ) → j < i + k → f j ≡ g j) → map f (range i k) ≡ map g (range i k)
-unfolding range
-map-range-ext f g i zero h = refl
-map-range-ext f g i (suc k) h =
-    ap₂ {C = List ℕ} (λ x t. x ∷ t) (h i (omega arith)) (map-range-ext f g (suc i) k (λ j l. h j (omega arith)))
 
 -- ---- values
 
@@ -79,7 +31,7 @@ length-values w f k = length-map (λ i. f i % 2 ^ w) (range 0 k) ∙ length-rang
 -- values below 2 ^ w are held as they are
 pub values-below : (w : ℕ) (f : ℕ → ℕ) (k : ℕ) → Below w f k → values w f k ≡ map f (range 0 k)
 unfolding values
-values-below w f k b = map-range-ext (λ i. f i % 2 ^ w) f 0 k (λ j l. mod-eq-of-lt (b j (omega arith)))
+values-below w f k b = map-range-ext (λ i. f i % 2 ^ w) f 0 k (λ j m l. mod-eq-of-lt (b j (omega arith)))
 
 pub values-constant : (w x k : ℕ) → x < 2 ^ w → values w (λ j. x) k ≡ replicate k x
 values-constant w x k h = values-below w (λ j. x) k (λ j l. h) ∙ map-range-constant x 0 k
@@ -117,7 +69,7 @@ writing-turn w f start table i x b h e =
       is =
           ap (λ t. set t i x) (b .is ∙ written-front w f i start)
           ∙ ap (λ y. set (values w f i ++ drop i start) i y) (e ∙ ap (λ n. f n % 2 ^ w) (sym (zero-add i)))
-          ∙ set-map-range (λ j. f j % 2 ^ w) 0 i start h ∙ sym (written-front w f (suc i) start) ∙ ap (λ n. written w f n start) (sym (add-one i));
+          ∙ set-map-range-end (λ j. f j % 2 ^ w) 0 i start h ∙ sym (written-front w f (suc i) start) ∙ ap (λ n. written w f n start) (sym (add-one i));
     }
 
 -- all entries written
@@ -195,10 +147,3 @@ pub comparing-end : (xs ys : List ℕ) (i : ℕ) → Comparing xs ys i → lengt
 unfolding same
 comparing-end xs ys i b h =
     let g : length ys ≤ i = omega (arith, b .long) in b .is ∙ ap₂ same (drop-of-length-le xs h) (drop-of-length-le ys g)
-
-pub same-lengths : (xs ys : List ℕ) → (length xs ≡ length ys → ⊥) → same xs ys ≡ false
-same-lengths xs ys h = go (bool-cases (same xs ys))
-  where
-    go : (same xs ys ≡ true) ⊎ (same xs ys ≡ false) → same xs ys ≡ false
-    go (inl e) = absurd (h (ap length (same-eq xs ys e)))
-    go (inr e) = e

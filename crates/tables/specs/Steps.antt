@@ -3,10 +3,11 @@
 --   step-at v z ns         the numbers ns with that of radio v stepped; as they are where there is no radio v
 --   all-stepped vs z ns    the same for each radio of the list vs, one after the other
 -- Laws are in proofs/StepLaws.antt. Definitions only.
-use mathlib.Core.List.{List, [], _∷_}
+use mathlib.Core.List.{List}
 use Prim.Native.Nat.{ℕ, suc, _+_, _-_, min}
 use lib.IntN.{ℤ, pos, negsuc}
 use lib.ListN.{getD, set}
+use Rattle.lists.specs.Lists.{folded}
 
 unfoldable pub stepped : (x : ℕ) → (step : ℤ) → ℕ
 stepped x (pos k) = min 255 (x + k)
@@ -16,5 +17,4 @@ unfoldable pub step-at : (v : ℕ) → (step : ℤ) → (numbers : List ℕ) →
 step-at v z ns = set ns v (stepped (getD ns v 0) z)
 
 unfoldable pub all-stepped : (radios : List ℕ) → (step : ℤ) → (numbers : List ℕ) → List ℕ
-all-stepped [] z ns = ns
-all-stepped (v ∷ vs) z ns = all-stepped vs z (step-at v z ns)
+all-stepped vs z ns = folded (λ v now. step-at v z now) vs ns

@@ -5,7 +5,7 @@
 -- Laws are in proofs/WidthLaws.antt. Definitions only.
 use mathlib.Core.List.{List, map}
 use Prim.Native.Nat.{ℕ, _<_, _%_, _^_}
-use Rattle.mesh.specs.Lists.{range, overwrite}
+use Rattle.lists.specs.Lists.{range, overwrite}
 
 abbrev pub Below : (w : ℕ) → (rule : ℕ → ℕ) → (k : ℕ) → Type 0
 Below w f k = (i : ℕ) → i < k → f i < 2 ^ w

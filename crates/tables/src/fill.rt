@@ -2,8 +2,8 @@
 // Nothing is refused: of what does not fit, as much is written as fits.
 ghost use mathlib.Core.Path.{_≡_};
 ghost use Prim.Native.Nat.{ℕ, min};
-ghost use lib.ListN.{length, take, replicate};
-ghost use Rattle.mesh.specs.Lists.{same, overwrite};
+ghost use lib.ListN.{length, take, replicate, set};
+ghost use Rattle.lists.specs.Lists.{same, overwrite};
 ghost use Rattle.tables.specs.Widths.{values};
 
 // The smaller of two lengths.
@@ -87,27 +87,11 @@ pub fn same8(a: &[u8], b: &[u8]) -> bool
     true
 }
 
-// Whether both tables have the same 16-bit entries, and as many. It stops at the first difference.
-pub fn same16(a: &[u16], b: &[u16]) -> bool
-    ensures { λ r. ⌜ r ≡ same (now (a .entry)) (now (b .entry)) ⌝ }
+// Writes x at a place of the list; past the list nothing changes.
+pub fn put16(list: &mut [u16], at: usize, x: u16)
+    ensures { λ _. ⌜ now (list .exit) ≡ set (now (list .entry)) at x ⌝ }
 {
-    if a.len() != b.len() {
-        return false;
+    if at < list.len() {
+        list[at] = x;
     }
-    let mut i: usize = 0;
-    while i < a.len() {
-        if a[i] != b[i] {
-            return false;
-        }
-        i += 1;
-    }
-    true
-}
-
-// The first k entries of s stand in front of d after, as many as there are and fit; later entries of d keep their content.
-pub fn write_list(d: &mut [u16], s: &[u16], k: u32)
-    ensures { λ _. ⌜ now (d .exit) ≡ overwrite (take (length (now (d .entry))) (take k (now (s .entry)))) (now (d .entry)) ⌝ }
-{
-    let m = least(k as usize, s.len());
-    copy16(d, &s[..m]);
 }

@@ -1,9 +1,9 @@
 // Questions 1 and 2 for every combination of tables that a public call takes. Tables come as their lengths, which may be any;
 // what comes back is the refusal number so far: 1, 2, or 0 when both questions got yes.
 ghost use mathlib.Core.Path.{_≡_};
-ghost use mathlib.Core.Bool.{_&&_};
-ghost use Rattle.calls.specs.Questions.{size-good, site-lengths, answer-length, nodes-length, tables-refusal, lent-refusal};
+ghost use Rattle.calls.specs.Questions.{size-good, site-lengths, answer-length, tables-refusal, lent-refusal};
 ghost use Rattle.tables.specs.Sizes.{lengths};
+use calls::Refusal;
 use mesh::Site;
 
 // Question 1: has the site 1 to 512 radios?
@@ -36,13 +36,13 @@ fn lent(site: Site, links: usize, numbers: usize, order: usize, others: bool) ->
     ensures { λ r. ⌜ r ≡ lent-refusal (site .radios) (lengths links numbers order) others 0 ⌝ }
 {
     if !is_size(site) {
-        return 1;
+        return Refusal::SIZE;
     }
     if !are_lengths(site, links, numbers, order) {
-        return 2;
+        return Refusal::LENGTH;
     }
     if !others {
-        return 2;
+        return Refusal::LENGTH;
     }
     0
 }
@@ -59,22 +59,4 @@ pub fn with_answer(site: Site, links: usize, numbers: usize, order: usize, answe
     ensures { λ r. ⌜ r ≡ lent-refusal (site .radios) (lengths links numbers order) (answer-length (site .radios) answer) 0 ⌝ }
 {
     lent(site, links, numbers, order, site.radios as usize <= answer)
-}
-
-// Links, numbers, order, the list of nodes and the answer table.
-pub fn with_nodes(
-    site: Site,
-    links: usize,
-    numbers: usize,
-    order: usize,
-    nodes: usize,
-    answer: usize,
-) -> u32
-    ensures { λ r. ⌜ r ≡ lent-refusal (site .radios) (lengths links numbers order) (nodes-length (site .radios) nodes && answer-length (site .radios) answer) 0 ⌝ }
-{
-    let n = site.radios as usize;
-    if nodes <= n {
-        return lent(site, links, numbers, order, false);
-    }
-    lent(site, links, numbers, order, n <= answer)
 }

@@ -15,9 +15,9 @@ fn spread(nodes: [Node; PLACES], fields: &mut [u16]) {
     let mut i: usize = 0;
     while i < PLACES {
         let node = nodes[i];
-        rows::put_entry(fields, 3 * i, node.name);
-        rows::put_entry(fields, 3 * i + 1, node.level);
-        rows::put_entry(fields, 3 * i + 2, node.parent);
+        tables::fill::put16(fields, 3 * i, node.name);
+        tables::fill::put16(fields, 3 * i + 1, node.level);
+        tables::fill::put16(fields, 3 * i + 2, node.parent);
         i += 1;
     }
 }

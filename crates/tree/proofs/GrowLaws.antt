@@ -4,35 +4,34 @@ use mathlib.Core.Path.{_≡_, refl, sym, ap, ap₂, _∙_}
 use mathlib.Core.Logic.{_⊎_, inl, inr}
 use mathlib.Core.Bool.{Bool, true, false, _&&_, _||_, not, cond}
 use mathlib.Core.List.{List, [], _∷_, _++_, map, append-nil}
-use Prim.Native.Nat.{ℕ, zero, suc, _+_, _*_, _≤_, _<_}
+use Prim.Native.Nat.{ℕ, suc, _+_, _≤_, _<_}
 use native.Mathlib.Omega.{arith}
-use native.Mathlib.Nat.{zero-add}
-use native.Mathlib.Numerals.{add-one}
 use lib.Dec.{eqb}
 use lib.ListN.{length, getD, take, set, replicate, length-append, length-replicate}
-use lib.Seq.{getD-take}
 use borrow.Author.Tests.{eqb-true, eq-eqb, not-true}
 use Rattle.mesh.specs.Limits.{max-radios, row-bytes}
-use Rattle.mesh.specs.Lists.{range, member, overwrite}
+use Rattle.lists.specs.Lists.{range, member, overwrite}
 use Rattle.mesh.specs.Graph.{Graph, radios}
-use Rattle.mesh.specs.Cores.{number}
 use Rattle.mesh.specs.Tables.{Tables, marked, graph-in}
 use Rattle.mesh.specs.Connected.{In-core, core-of}
 use Rattle.mesh.specs.Tree.{node, parent-name}
 use Rattle.mesh.specs.declared.Node.{Node}
-use Rattle.mesh.proofs.BoolLaws.{bool-cases, never, and-left, and-right, and-both, iff-eq}
-use Rattle.mesh.proofs.ListLaws.{In, in-member, take-overwrite, getD-map-range, length-map, length-range}
-use Rattle.mesh.proofs.TableLaws.{marked-replicate, byte-at-less}
-use Rattle.mesh.proofs.Reach.{core-of-iff}
-use Rattle.mesh.proofs.CoreLevels.{in-core-below}
+use Rattle.lists.proofs.Tests.{bool-cases, and-left, and-right, iff-eq}
+use Rattle.lists.proofs.Member.{in-member}
+use Rattle.lists.proofs.Overwrite.{set-overwrite, getD-front}
+use Rattle.lists.proofs.Map.{length-map, map-append, map-range-ext}
+use Rattle.mesh.proofs.Tables.Laws.{marked-replicate, byte-at-less}
+use Rattle.mesh.proofs.Trees.Reach.{core-of-iff}
+use Rattle.mesh.proofs.Trees.CoreLevels.{in-core-below}
 use Rattle.floods.specs.Floods.{Flood-done}
 use Rattle.floods.proofs.FloodSteps.{true-floodable}
 use Rattle.floods.proofs.FloodCore.{member-flood, marked-flood}
-use Rattle.floods.proofs.SoundSite.{Sound-site, number-entry}
-use Rattle.tree.specs.Trees.{Lists, lists, with-front, Room, entries-set, Core-named, takes-node, Node-taken, Nothing-taken, Visited}
-use Rattle.tree.specs.Trees.{own, covered, present, nodes-before, Growing, Marks}
-use Rattle.tree.proofs.ShellCover.{own-lead, own-covered, not-covered-own, core-not-covered, covered-none, covered-next, present-next, present-own, present-start, present-end}
-use Rattle.tree.proofs.NodeLists.{map-append, length-map-any, map-range-same, set-overwrite, entries-set-map, node-of, nodes-before-next, nodes-before-end, length-nodes-before}
+use Rattle.soundness.proofs.SoundSite.{Sound-site, number-entry}
+use Rattle.tree.specs.Trees.{Lists, lists, with-front, Room, entries-set, takes-node, Node-taken, Nothing-taken, Visited, own, covered, present}
+use Rattle.tree.specs.Trees.{nodes-before, Growing, Marks}
+use Rattle.tree.proofs.ShellCover.{own-lead, own-covered, not-covered-own, core-not-covered, covered-none, covered-next, present-next, present-own}
+use Rattle.tree.proofs.ShellCover.{present-start, present-end}
+use Rattle.tree.proofs.NodeLists.{entries-set-map, nodes-before-next, nodes-before-end, length-nodes-before}
 
 -- ---- nodes and names in front
 
@@ -47,14 +46,8 @@ lists-same s t a b c d =
 set-node : (f : Node → ℕ) (xs : List Node) (x : Node) (d : List ℕ) (c y : ℕ) → c ≡ length xs → c < length d → y ≡ f x
     → set (overwrite (map f xs) d) c y ≡ overwrite (map f (xs ++ x ∷ [])) d
 set-node f xs x d c y e l q =
-    set-overwrite (map f xs) d c y (e ∙ sym (length-map-any f xs)) l
+    set-overwrite (map f xs) d c y (e ∙ sym (length-map f xs)) l
     ∙ ap (λ (ys : List ℕ). overwrite ys d) (ap {B = List ℕ} (λ z. map f xs ++ z ∷ []) q ∙ sym (map-append f xs (x ∷ [])))
-
-getD-front : (f : ℕ → ℕ) (k v : ℕ) (d : List ℕ) → v < k → getD (overwrite (map f (range 0 k)) d) v 0 ≡ f v
-getD-front f k v d l =
-    let new = map f (range 0 k) in
-    sym (getD-take (length new) (overwrite new d) v 0 (omega (arith, length-map f (range 0 k), length-range 0 k)))
-    ∙ ap (λ (ys : List ℕ). getD ys v 0) (take-overwrite new d) ∙ getD-map-range f 0 k v l ∙ ap f (zero-add v)
 
 -- ---- one radio
 
@@ -96,7 +89,7 @@ module _ (n : ℕ) (t : Tables) (site : Sound-site n t) (k v : ℕ) (radio : v <
       record {
         counted = h .counted ∙ grown .counted ∙ ap length (sym nodes);
         front = h .lists ∙ grown .front ∙ ap₂ (λ xs ys. with-front xs ys old) (sym nodes)
-            (map-range-same (present g k v) (present g k (suc v)) 0 n (λ w a l. sym (present-next g k v radio positive w (omega arith) ∙ rw o)));
+            (map-range-ext (present g k v) (present g k (suc v)) 0 n (λ w a l. sym (present-next g k v radio positive w (omega arith) ∙ rw o)));
       },
     )
       where
@@ -143,7 +136,7 @@ module _ (n : ℕ) (t : Tables) (site : Sound-site n t) (k v : ℕ) (radio : v <
           h .core .named ∙ ap (entries-set v (take (h .core .came) (h .core .queue))) answer-before
           ∙ entries-set-map (present g k v) n v (take (h .core .came) (h .core .queue)) (old .answer)
           (λ w m. in-core-below g v k w radio (core-of-iff g v k radio w .0 (sym (came-in w) ∙ in-member w (take (h .core .came) (h .core .queue)) m)))
-          ∙ ap (λ (ys : List ℕ). overwrite ys (old .answer)) (map-range-same (λ w. cond (member w (take (h .core .came) (h .core .queue))) v (present g k v w)) (present g k (suc v)) 0 n
+          ∙ ap (λ (ys : List ℕ). overwrite ys (old .answer)) (map-range-ext (λ w. cond (member w (take (h .core .came) (h .core .queue))) v (present g k v w)) (present g k (suc v)) 0 n
           (λ w a l. ap (λ (b : Bool). cond b v (present g k v w)) (came-in w) ∙ sym (present-next g k v radio positive w (omega arith) ∙ rw o)))
 
       marks-taken : Marks g k (suc v) u
@@ -189,5 +182,5 @@ unfolding radios
 growing-end g k c old s h a = record {
   counted = a .counted ∙ ap length (nodes-before-end g k h);
   front = a .front ∙ ap₂ (λ xs ys. with-front xs ys old) (nodes-before-end g k h)
-      (map-range-same (present g k (g .n)) (present g (suc k) 0) 0 (g .n) (λ w m l. present-end g k w h (omega arith) ∙ sym (present-start g (suc k) w)));
+      (map-range-ext (present g k (g .n)) (present g (suc k) 0) 0 (g .n) (λ w m l. present-end g k w h (omega arith) ∙ sym (present-start g (suc k) w)));
 }

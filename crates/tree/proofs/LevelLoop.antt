@@ -1,20 +1,20 @@
 -- One level as a loop over the radios: what its invariant says, and what it says at the end.
-use mathlib.Core.Path.{_≡_, refl, sym, ap, _∙_}
+use mathlib.Core.Path.{_≡_, refl, ap, _∙_}
 use mathlib.Core.Logic.{_⊎_, inl, inr}
-use mathlib.Core.Bool.{Bool, true, false, _&&_}
+use mathlib.Core.Bool.{true, false, _&&_}
 use mathlib.Core.List.{List}
-use Prim.Native.Nat.{ℕ, suc, _+_, _*_, _≤_, _<_}
+use Prim.Native.Nat.{ℕ, _+_, _≤_, _<_}
 use native.Mathlib.Omega.{arith}
 use native.Mathlib.Numerals.{add-one}
 use lib.ListN.{length, replicate}
 use Rattle.mesh.specs.Limits.{max-radios, row-bytes}
 use Rattle.mesh.specs.Tables.{Tables, tables, graph-in}
 use Rattle.mesh.specs.Sound.{sound}
-use Rattle.mesh.proofs.BoolLaws.{bool-cases, and-left, and-right}
+use Rattle.lists.proofs.Tests.{bool-cases, and-left, and-right}
 use Rattle.calls.specs.Questions.{lengths-of, size-good, site-lengths}
 use Rattle.calls.proofs.QuestionLaws.{size-good-true, site-lengths-true}
 use Rattle.soundness.specs.Checks.{fits-sound}
-use Rattle.floods.proofs.SoundSite.{Sound-site, sound-site}
+use Rattle.soundness.proofs.SoundSite.{Sound-site, sound-site}
 use Rattle.tree.specs.Trees.{Lists, Room, takes-node, Visited, Growing, Marks, Levelled}
 use Rattle.tree.proofs.GrowLaws.{visited-next, marks-start, growing-end}
 

@@ -1,113 +1,45 @@
 -- The nodes that come before a radio at a level, and the lists with nodes and names in front.
 -- In order: laws of lists; nodes from one radio and one level to the next; how many they are; one node more in front.
-use mathlib.Core.Path.{_≡_, refl, sym, ap, ap₂, _∙_}
+use mathlib.Core.Path.{_≡_, refl, sym, ap, _∙_}
 use mathlib.Core.Logic.{_⊎_, inl, inr}
-use mathlib.Core.Bool.{Bool, true, false, _&&_, _||_, not, cond}
+use mathlib.Core.Bool.{Bool, true, false, _&&_, _||_, cond}
 use mathlib.Core.List.{List, [], _∷_, _++_, map, flatMap, append-nil, append-assoc}
 use Prim.Native.Nat.{ℕ, zero, suc, _+_, _-_, _≤_, _<_}
 use native.Mathlib.Omega.{arith}
 use native.Mathlib.Nat.{zero-add}
-use native.Mathlib.Numerals.{add-one}
-use lib.Dec.{ltb, leb, eqb}
-use lib.ListN.{length, getD, drop, set, length-append, length-set}
-use lib.Seq.{drop-cons, set-at, set-append-left}
-use borrow.Author.Tests.{ltb-true, lt-ltb, le-ltb, leb-true, le-leb, lt-leb, eqb-true, eqb-false, eq-eqb, ne-eqb}
-use Rattle.mesh.specs.Lists.{range, count, filter, member, overwrite}
+use lib.Dec.{leb, eqb}
+use lib.ListN.{length, length-append}
+use borrow.Author.Tests.{leb-true, le-leb, lt-leb, eqb-true, ne-eqb}
+use Rattle.lists.specs.Lists.{folded, range, count, filter, member, overwrite, In}
 use Rattle.mesh.specs.Graph.{Graph, radios}
 use Rattle.mesh.specs.Cores.{number}
 use Rattle.mesh.specs.Tree.{root, node, node-name, parent-name, nodes-at, tree}
 use Rattle.mesh.specs.declared.Node.{Node}
-use Rattle.mesh.proofs.BoolLaws.{bool-cases, never, bit-one, bit-le, bit-true, bit-false}
-use Rattle.mesh.proofs.ListLaws.{In, range-in, filter-append, filter-none, length-filter, count-append, count-le-length, count-mono, length-range, length-map}
-use Rattle.mesh.proofs.TreeLaws.{number-le-n}
-use Rattle.rows.proofs.Listing.{range-append}
-use Rattle.tree.specs.Trees.{Lists, lists, with-front, entries-set, own, nodes-within, nodes-before}
+use Rattle.lists.proofs.Tests.{bool-cases, bit-one, bit-le}
+use Rattle.lists.proofs.Range.{range-in, length-range, range-append, range-suc, count-front}
+use Rattle.lists.proofs.Filter.{filter-append, filter-none, length-filter}
+use Rattle.lists.proofs.Count.{count-le-length, count-add}
+use Rattle.lists.proofs.Map.{length-map, map-append, flatMap-append, flatMap-none, map-range-ext}
+use Rattle.tree.specs.Trees.{entries-set, own, nodes-within, nodes-before}
+use Rattle.lists.proofs.Overwrite.{set-front}
 
 -- ---- laws of lists
-
-range-suc : (i k : ℕ) → range i (suc k) ≡ range i k ++ (i + k) ∷ []
-unfolding range
-range-suc i k = ap (range i) (sym (add-one k)) ∙ range-append i k 1
-
-pub map-append : {A B : Type 0} (f : A → B) (xs ys : List A) → map f (xs ++ ys) ≡ map f xs ++ map f ys
-map-append f [] ys = refl
-map-append {A} {B} f (x ∷ xs) ys = ap {B = List B} (λ zs. f x ∷ zs) (map-append f xs ys)
-
-pub length-map-any : {A B : Type 0} (f : A → B) (xs : List A) → length (map f xs) ≡ length xs
-length-map-any f [] = refl
-length-map-any f (x ∷ xs) = ap suc (length-map-any f xs)
-
-flatMap-append : {A : Type 0} (f : ℕ → List A) (xs ys : List ℕ) → flatMap f (xs ++ ys) ≡ flatMap f xs ++ flatMap f ys
-unfolding flatMap
-flatMap-append f [] ys = refl
-flatMap-append f (x ∷ xs) ys = ap (λ zs. f x ++ zs) (flatMap-append f xs ys) ∙ sym (append-assoc (f x) (flatMap f xs) (flatMap f ys))
-
-flatMap-none : {A : Type 0} (f : ℕ → List A) (xs : List ℕ) → ((x : ℕ) → In x xs → f x ≡ []) → flatMap f xs ≡ []
-unfolding flatMap
-flatMap-none f [] h = refl
-flatMap-none f (x ∷ xs) h = rw (h x (inl refl), flatMap-none f xs (λ y m. h y (inr m)))
-
-pub map-range-same : (f h : ℕ → ℕ) (i k : ℕ) → ((w : ℕ) → i ≤ w → w < i + k → f w ≡ h w) → map f (range i k) ≡ map h (range i k)
-unfolding range
-map-range-same f h i zero e = refl
-map-range-same f h i (suc k) e =
-    ap₂ {C = List ℕ} (λ x xs. x ∷ xs) (e i (omega arith) (omega arith)) (map-range-same f h (suc i) k (λ w m l. e w (omega arith) (omega arith)))
-
--- one entry more in front
-pub set-overwrite : {A : Type 0} (xs d : List A) (c : ℕ) (x : A) → c ≡ length xs → c < length d → set (overwrite xs d) c x ≡ overwrite (xs ++ x ∷ []) d
-unfolding overwrite
-set-overwrite {A = A} xs d c x e l =
-    let long : length (xs ++ x ∷ []) ≡ suc c = length-append xs (x ∷ []) ∙ omega arith in
-    ap (λ (ys : List A). set (xs ++ ys) c x) (ap (λ (j : ℕ). drop j d) (sym e) ∙ drop-cons d c x l)
-    ∙ set-at xs (getD d c x) (drop (suc c) d) x c (sym e)
-    ∙ sym (append-assoc xs (x ∷ []) (drop (suc c) d)) ∙ ap (λ (j : ℕ). (xs ++ x ∷ []) ++ drop j d) (sym long)
-
-set-map-range : (f : ℕ → ℕ) (i k w x : ℕ) → w < k → set (map f (range i k)) w x ≡ map (λ u. cond (eqb (i + w) u) x (f u)) (range i k)
-unfolding range
-set-map-range f i zero w x l = absurd (omega arith)
-set-map-range f i (suc k) zero x l =
-    ap₂ {C = List ℕ} (λ y ys. y ∷ ys) (sym (rw (eq-eqb (i + 0) i (omega arith))))
-    (map-range-same f (λ u. cond (eqb (i + 0) u) x (f u)) (suc i) k (λ u m q. sym (rw (ne-eqb (i + 0) u (λ e. omega arith)))))
-set-map-range f i (suc k) (suc w) x l =
-    let e : suc i + w ≡ i + suc w = omega arith in
-    ap₂ {C = List ℕ} (λ y ys. y ∷ ys) (sym (rw (ne-eqb (i + suc w) i (λ q. omega arith)))) (set-map-range f (suc i) k w x (omega arith) ∙ rw e)
-
-set-front : (f : ℕ → ℕ) (k w x : ℕ) (d : List ℕ) → w < k
-    → set (overwrite (map f (range 0 k)) d) w x ≡ overwrite (map (λ u. cond (eqb w u) x (f u)) (range 0 k)) d
-unfolding overwrite
-set-front f k w x d l =
-    let long : (h : ℕ → ℕ) → length (map h (range 0 k)) ≡ k = λ h. length-map h (range 0 k) ∙ length-range 0 k in
-    let new : ℕ → ℕ = λ u. cond (eqb w u) x (f u) in
-    set-append-left (map f (range 0 k)) (drop (length (map f (range 0 k))) d) w x (omega (arith, long f))
-    ∙ ap₂ {C = List ℕ} (λ ys j. ys ++ drop j d)
-    (set-map-range f 0 k w x l ∙ map-range-same (λ u. cond (eqb (0 + w) u) x (f u)) new 0 k (λ u a b. ap (λ (i : ℕ). cond {A = ℕ} (eqb i u) x (f u)) (zero-add w)))
-    (long f ∙ sym (long new))
 
 -- x at each listed place
 pub entries-set-map : (f : ℕ → ℕ) (k x : ℕ) (ws : List ℕ) (d : List ℕ) → ((w : ℕ) → In w ws → w < k)
     → entries-set x ws (overwrite (map f (range 0 k)) d) ≡ overwrite (map (λ u. cond (member u ws) x (f u)) (range 0 k)) d
-unfolding entries-set member
+unfolding entries-set folded member
 entries-set-map f k x [] d h = refl
 entries-set-map f k x (w ∷ ws) d h =
     ap (entries-set x ws) (set-front f k w x d (h w (inl refl)))
     ∙ entries-set-map (λ u. cond (eqb w u) x (f u)) k x ws d (λ u m. h u (inr m))
-    ∙ ap (λ (ys : List ℕ). overwrite ys d) (map-range-same (λ u. cond (member u ws) x (cond (eqb w u) x (f u))) (λ u. cond (eqb w u || member u ws) x (f u)) 0 k
+    ∙ ap (λ (ys : List ℕ). overwrite ys d) (map-range-ext (λ u. cond (member u ws) x (cond (eqb w u) x (f u))) (λ u. cond (eqb w u || member u ws) x (f u)) 0 k
     (λ u a b. either (eqb w u) (member u ws) (f u)))
   where
     either : (a b : Bool) (y : ℕ) → cond b x (cond a x y) ≡ cond (a || b) x y
     either true true y = refl
     either true false y = refl
     either false b y = refl
-
-count-add : (f h m : ℕ → Bool) (xs : List ℕ) → ((x : ℕ) → cond {A = ℕ} (f x) 1 0 + cond (h x) 1 0 ≤ cond (m x) 1 0) → count f xs + count h xs ≤ count m xs
-unfolding count
-count-add f h m [] e = omega arith
-count-add f h m (x ∷ xs) e = omega (arith, e x, count-add f h m xs e)
-
-count-front : (f : ℕ → Bool) (v n : ℕ) → v ≤ n → count f (range 0 v) ≤ count f (range 0 n)
-count-front f v n l =
-    let e : n ≡ v + (n - v) = omega arith in
-    omega (arith, ap (λ (j : ℕ). count f (range 0 j)) e, ap (count f) (range-append 0 v (n - v)), count-append f (range 0 v) (range (0 + v) (n - v)))
 
 -- ---- nodes from one radio, and one level, to the next
 
@@ -207,7 +139,7 @@ module _ (g : Graph) where
   length-nodes-within : (k v : ℕ) → length (nodes-within g (suc k) v) ≡ count (own g (suc k)) (range 0 v)
   unfolding nodes-within
   length-nodes-within k v =
-      length-map-any (λ w. node w (suc k) (parent-name g w (suc k))) (filter (own g (suc k)) (range 0 v)) ∙ length-filter (own g (suc k)) (range 0 v)
+      length-map (λ w. node w (suc k) (parent-name g w (suc k))) (filter (own g (suc k)) (range 0 v)) ∙ length-filter (own g (suc k)) (range 0 v)
 
   length-levels : (k : ℕ) → length (flatMap (nodes-at g) (range 1 k)) ≤ count (low k) (range 0 (g .n))
   unfolding range flatMap

@@ -7,18 +7,18 @@ use mathlib.Core.List.{List, [], _∷_}
 use Prim.Native.Nat.{ℕ, zero, suc, _≤_, _<_, min}
 use native.Mathlib.Omega.{arith}
 use lib.Dec.{ltb, leb, eqb}
-use borrow.Author.Tests.{ltb-true, ltb-false, lt-ltb, le-ltb, leb-true, leb-false, le-leb, lt-leb, eqb-true, eq-eqb, ne-eqb}
-use Rattle.mesh.specs.Lists.{filter, member, head-or}
+use borrow.Author.Tests.{ltb-true, ltb-false, lt-ltb, le-ltb, leb-true, leb-false, le-leb, eqb-true, eq-eqb, ne-eqb}
+use Rattle.lists.specs.Lists.{member, head-or}
 use Rattle.mesh.specs.Graph.{Graph}
 use Rattle.mesh.specs.Cores.{number}
 use Rattle.mesh.specs.Connected.{In-core, core-of}
 use Rattle.mesh.specs.Tree.{root-name, shell, node-name, parent-name}
-use Rattle.mesh.proofs.BoolLaws.{bool-cases, never, and-left, and-right, and-both, or-cases, or-left, or-right, iff-eq}
-use Rattle.mesh.proofs.ListLaws.{In}
-use Rattle.mesh.proofs.Reach.{core-of-iff}
-use Rattle.mesh.proofs.CoreLevels.{in-core-here, in-core-below, in-core-level, in-core-sym, core-of-same}
-use Rattle.mesh.proofs.NodeSets.{core-has-self, shell-in, in-shell, core-set-of}
-use Rattle.mesh.proofs.ShellNames.{head-or-in, head-or-any, shell-named, node-name-parent}
+use Rattle.lists.proofs.Tests.{bool-cases, never, and-left, and-right, and-both, or-cases, or-left, or-right, iff-eq}
+use Rattle.mesh.proofs.Trees.Reach.{core-of-iff}
+use Rattle.mesh.proofs.Trees.CoreLevels.{in-core-here, in-core-below, in-core-level, in-core-sym, core-of-same}
+use Rattle.mesh.proofs.Trees.NodeSets.{core-has-self, shell-in, in-shell, core-set-of}
+use Rattle.lists.proofs.Member.{head-or-in, head-or-any}
+use Rattle.mesh.proofs.Trees.ShellNames.{shell-named}
 use Rattle.tree.specs.Trees.{own, covered, name-before, present}
 
 module _ (g : Graph) (k : ℕ) where

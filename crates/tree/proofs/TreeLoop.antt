@@ -2,26 +2,27 @@
 use mathlib.Core.Path.{_≡_, refl, sym, ap, ap₂, _∙_}
 use mathlib.Core.Bool.{true}
 use mathlib.Core.List.{List, [], _∷_, map}
-use Prim.Native.Nat.{ℕ, zero, suc, _+_, _*_, _≤_, _<_, min}
+use Prim.Native.Nat.{ℕ, suc, _+_, _*_, _≤_, _<_, min}
 use native.Mathlib.Omega.{arith}
 use native.Mathlib.Numerals.{add-one}
-use lib.ListN.{length, getD, set, replicate}
+use lib.ListN.{length, set, replicate}
 use Rattle.mesh.specs.Limits.{max-radios}
-use Rattle.mesh.specs.Lists.{overwrite}
+use Rattle.lists.specs.Lists.{overwrite}
 use Rattle.mesh.specs.Graph.{Graph, radios}
 use Rattle.mesh.specs.Cores.{number}
 use Rattle.mesh.specs.Tables.{tables, graph-in}
 use Rattle.mesh.specs.Connected.{greatest}
 use Rattle.mesh.specs.Tree.{root-name, root, node-name, parent-name, node-names}
-use Rattle.mesh.proofs.ListedRadios.{getD-le-greatest, greatest-le}
-use Rattle.mesh.proofs.TreeLaws.{number-le-n}
-use Rattle.mesh.proofs.ShellNames.{node-name-parent}
+use Rattle.mesh.proofs.Trees.Laws.{number-le-n}
+use Rattle.mesh.proofs.Trees.ShellNames.{node-name-parent}
+use Rattle.mesh.proofs.Trees.Listed.{getD-le-greatest, greatest-le}
 use Rattle.soundness.specs.Checks.{fits-sound}
-use Rattle.tables.proofs.WidthLaws.{map-range-constant}
-use Rattle.floods.proofs.SoundSite.{number-entry}
+use Rattle.lists.proofs.Map.{map-range-constant, map-range-ext}
+use Rattle.soundness.proofs.SoundSite.{number-entry}
 use Rattle.tree.specs.Trees.{Lists, with-front, Room, name-before, present, Growing, Levelled, Tree-written, Grown}
 use Rattle.tree.proofs.ShellCover.{present-start}
-use Rattle.tree.proofs.NodeLists.{map-range-same, set-overwrite, nodes-before-start, nodes-before-tree}
+use Rattle.lists.proofs.Overwrite.{set-overwrite}
+use Rattle.tree.proofs.NodeLists.{nodes-before-start, nodes-before-tree}
 use Rattle.tree.proofs.GrowLaws.{lists-same}
 use Rattle.tree.proofs.LevelLoop.{fits-sound-site, Same-lengths}
 
@@ -30,7 +31,7 @@ use Rattle.tree.proofs.LevelLoop.{fits-sound-site, Same-lengths}
 present-first : (g : Graph) → map (present g 1 0) (radios g) ≡ replicate (g .n) root-name
 unfolding radios name-before parent-name
 present-first g =
-    map-range-same (present g 1 0) (λ w. root-name) 0 (g .n)
+    map-range-ext (present g 1 0) (λ w. root-name) 0 (g .n)
     (λ w a l. let e : min 1 (suc (number g w)) ≡ 1 = omega arith in present-start g 1 w ∙ ap (parent-name g w) e)
     ∙ map-range-constant root-name 0 (g .n)
 
@@ -70,7 +71,7 @@ unfolding node-names radios
 growing-last g top c old new l h a = record {
   count = a .counted ∙ ap length (nodes-before-tree g top l h);
   front = a .front ∙ ap₂ (λ xs ys. with-front xs ys old) (nodes-before-tree g top l h)
-      (map-range-same (present g (suc top) 0) (node-name g) 0 (g .n) (λ w m q. present-last g top w (omega arith) (h w (omega arith))));
+      (map-range-ext (present g (suc top) 0) (node-name g) 0 (g .n) (λ w m q. present-last g top w (omega arith) (h w (omega arith))));
 }
 
 -- ---- the loop: before level k the lists are right if they were so at the start

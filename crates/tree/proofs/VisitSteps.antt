@@ -1,12 +1,12 @@
 -- One radio of a level, as the code has it: it tests what `takes-node` does.
-use mathlib.Core.Path.{_≡_, refl, sym, _∙_}
+use mathlib.Core.Path.{_≡_, refl}
 use mathlib.Core.Bool.{true, false}
 use mathlib.Core.List.{List}
 use Prim.Native.Nat.{ℕ, _+_}
 use lib.ListN.{getD, set}
 use borrow.Author.Tests.{eq-eqb, ne-eqb}
 use Rattle.mesh.specs.Tables.{marked}
-use Rattle.mesh.proofs.BoolLaws.{never}
+use Rattle.lists.proofs.Tests.{never}
 use Rattle.tree.specs.Trees.{Lists, lists, Core-named, takes-node, Visited}
 
 module _ (ts ns : List ℕ) (k v : ℕ) (s q : List ℕ) (old : Lists) (c : ℕ) where
@@ -31,7 +31,4 @@ module _ (ts ns : List ℕ) (k v : ℕ) (s q : List ℕ) (old : Lists) (c : ℕ)
     unfolding takes-node
     visited-node t new h names levels parents core =
         let yes : takes-node ns k s v ≡ true = rw (eq-eqb (getD ns v 0) k number, h) in
-        record {
-          taken = λ e. record { names = names; levels = levels; parents = parents; core = core; counted = refl };
-          passed = λ e. never _ yes e;
-        }
+        record { taken = λ e. record { names = names; levels = levels; parents = parents; core = core; counted = refl }; passed = λ e. never _ yes e }

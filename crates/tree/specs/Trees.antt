@@ -16,11 +16,11 @@
 use mathlib.Core.Path.{_≡_}
 use mathlib.Core.Bool.{Bool, true, false, _&&_, not, cond}
 use mathlib.Core.List.{List, [], _∷_, _++_, map, flatMap}
-use Prim.Native.Nat.{ℕ, zero, suc, _+_, _*_, _≤_, _<_, min}
+use Prim.Native.Nat.{ℕ, zero, suc, _+_, _≤_, _<_, min}
 use lib.Dec.{ltb, leb, eqb}
 use lib.ListN.{length, getD, take, set}
-use Rattle.mesh.specs.Limits.{max-radios, row-bytes}
-use Rattle.mesh.specs.Lists.{range, filter, head-or, overwrite}
+use Rattle.mesh.specs.Limits.{row-bytes}
+use Rattle.lists.specs.Lists.{folded, range, filter, head-or, overwrite}
 use Rattle.mesh.specs.Graph.{Graph, radios}
 use Rattle.mesh.specs.Cores.{number}
 use Rattle.mesh.specs.Tables.{Tables, tables, marked, graph-in}
@@ -60,8 +60,7 @@ pub record Room (n : ℕ) (s : Lists) : Type 0 where
 -- ---- one radio
 
 unfoldable pub entries-set : (x : ℕ) → (places table : List ℕ) → List ℕ
-entries-set x [] t = t
-entries-set x (w ∷ ws) t = entries-set x ws (set t w x)
+entries-set x ws t = folded (λ w now. set now w x) ws t
 
 -- s, q and a are the set, the queue and the answer table before, t and b the set and the answer table after
 pub record Core-named (ts ns : List ℕ) (k v : ℕ) (s q a t b : List ℕ) : Type 0 where
@@ -147,7 +146,7 @@ pub record Tables-accepted (g : Graph) (before : Lists) (r : Value) (after : Lis
   pub front : after ≡ with-front (tree g) (node-names g) before
 
 -- refused by q: all four keep their content
-pub record Tables-refused (q : ℕ) (before : Lists) (r : Value) (after : Lists) : Type 0 where
+pub record Lists-refused (q : ℕ) (before : Lists) (r : Value) (after : Lists) : Type 0 where
   pub number : r .number ≡ q
   pub value : r .value ≡ 0
   pub kept : after ≡ before
@@ -162,4 +161,4 @@ Tables-contract n room t s r u =
     By-number
     (tree-refusal n (lengths-of t) (min room (places s)) (length (s .answer)) (sound n t))
     (Tables-accepted (graph-in n (t .links)) s r u)
-    (λ q. Tables-refused q s r u)
+    (λ q. Lists-refused q s r u)

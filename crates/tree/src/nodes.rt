@@ -2,7 +2,7 @@
 ghost use mathlib.Core.Path.{_≡_};
 ghost use Prim.Native.Nat.{_≤_, min};
 ghost use lib.ListN.{length, take, set, replicate};
-ghost use Rattle.mesh.specs.Lists.{overwrite};
+ghost use Rattle.lists.specs.Lists.{overwrite};
 ghost use Rattle.tree.specs.Trees.{entries-set, Core-named};
 
 // Writes a node at a place of three tables; past a table nothing changes.
@@ -19,9 +19,9 @@ pub fn put_node(
     ensures levelled { λ _. ⌜ now (levels .exit) ≡ set (now (levels .entry)) at level ⌝ }
     ensures parented { λ _. ⌜ now (parents .exit) ≡ set (now (parents .entry)) at parent ⌝ }
 {
-    rows::put_entry(names, at, name);
-    rows::put_entry(levels, at, level);
-    rows::put_entry(parents, at, parent);
+    tables::fill::put16(names, at, name);
+    tables::fill::put16(levels, at, level);
+    tables::fill::put16(parents, at, parent);
 }
 
 // Writes x at each place of the answer table that the first k entries of the list name; past the table nothing changes.
@@ -31,7 +31,7 @@ fn name_all(list: &[u16], k: usize, x: u16, answer: &mut [u16])
 {
     let mut i: usize = 0;
     while i < k {
-        rows::put_entry(answer, list[i] as usize, x);
+        tables::fill::put16(answer, list[i] as usize, x);
         i += 1;
     }
 }
@@ -47,7 +47,8 @@ pub fn name_core<'a>(
     queue: &mut [u16],
     answer: &mut [u16],
 )
-    ensures { λ _. ⌜ Core-named (now (links .entry)) (now (numbers .entry)) level v (now (set .entry)) (now (queue .entry)) (now (answer .entry)) (now (set .exit)) (now (answer .exit)) ⌝ }
+    ensures { λ _. ⌜ Core-named (now (links .entry)) (now (numbers .entry)) level v (now (set .entry)) (now (queue .entry))
+        (now (answer .entry)) (now (set .exit)) (now (answer .exit)) ⌝ }
 {
     let k = floods::flood::flood(links, numbers, level, v as u32, set, queue);
     let m = tables::fill::least(k, queue.len());

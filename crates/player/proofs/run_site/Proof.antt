@@ -16,16 +16,7 @@ play-site-requires c κs =
 
 pub run-site-spec : {M : Type 1} → statement M
 run-site-spec =
-    tie.close
-    (tie.spec
-    (λ c. search needs)
-    (λ c. search needs)
-    (λ c. sym (length-take-le _ _ (search needs)))
-    (λ c. search needs)
-    (λ c. sym (length-take-le _ _ (search needs)))
-    (λ c. search needs)
-    (λ c. sym (length-take-le _ _ (search needs)))
-    (λ c. search needs)
-    (λ c. sym (length-take-le _ _ (search needs)))
-    play-site-requires
-    (λ c. search needs))
+    tie.close (
+    tie.spec (λ c. search needs) (λ c. search needs) (λ c. sym (length-take-le _ _ (search needs))) (λ c. search needs)
+    (λ c. sym (length-take-le _ _ (search needs))) (λ c. search needs) (λ c. sym (length-take-le _ _ (search needs))) (λ c. search needs)
+    (λ c. sym (length-take-le _ _ (search needs))) play-site-requires (λ c. search needs))

@@ -1,24 +1,10 @@
 -- `printing::put_bad_line` meets its contract: one text after another.
-use Rattle.calls.specs.Replay.{bad-line, printed-line, further-fields}
-use Rattle.printing.proofs.PrintLaws.{puts-append}
 use borrow.Author.Needs.{needs}
+use Rattle.calls.specs.Replay.{bad-line}
+use Rattle.text.specs.Text.{printed-line, further-fields}
+use Rattle.text.proofs.PrintLaws.{puts-append}
 use Rattle.printing.proofs.put_bad_line.Statement.{statement}
 use Rattle.printing.proofs.put_bad_line.Tie as tie
-
-slice-aggregate-put-text : tie.Need-slice-aggregate-put-text
-slice-aggregate-put-text c = search needs
-
-put-text-requires : tie.Need-put-text-requires
-put-text-requires c κs = search needs
-
-put-field-requires : tie.Need-put-field-requires
-put-field-requires c κs = search needs
-
-put-byte-requires : tie.Need-put-byte-requires
-put-byte-requires c κs = search needs
-
-same-length : tie.Need-same-length
-same-length c = search needs
 
 returns : tie.Need-returns
 unfolding bad-line printed-line further-fields
@@ -26,11 +12,5 @@ returns c = puts-append (c .before .before .before .before .before .before .befo
 
 pub put-bad-line-spec : {M : Type 1} → statement M
 put-bad-line-spec =
-    tie.close
-    (tie.spec
-    slice-aggregate-put-text
-    put-text-requires
-    put-field-requires
-    put-byte-requires
-    same-length
-    returns)
+    tie.close (
+    tie.spec (λ c. search needs) (λ c κs. search needs) (λ c κs. search needs) (λ c κs. search needs) (λ c. search needs) returns)

@@ -1,28 +1,13 @@
 -- `printing::put_link_line` meets its contract: one text after another.
 use mathlib.Core.Path.{refl, sym}
 use native.Mathlib.Omega.{arith}
+use mir.Facts.{toZ-ofZ}
 use lib.ListN.{take}
 use lib.Seq.{take-all, length-take-le}
-use mir.Facts.{toZ-ofZ}
-use Rattle.printing.proofs.PrintLaws.{puts-link-line}
 use borrow.Author.Needs.{needs}
+use Rattle.printing.proofs.LineLaws.{puts-link-line}
 use Rattle.printing.proofs.put_link_line.Statement.{statement}
 use Rattle.printing.proofs.put_link_line.Tie as tie
-
-put-decimal-requires : tie.Need-put-decimal-requires
-put-decimal-requires c κs = search needs
-
-put-byte-requires : tie.Need-put-byte-requires
-put-byte-requires c κs = search needs
-
-put-step-requires : tie.Need-put-step-requires
-put-step-requires c κs = search needs
-
-put-radios-requires : tie.Need-put-radios-requires
-put-radios-requires c κs = search needs
-
-same-length : tie.Need-same-length
-same-length c = search needs
 
 returns : tie.Need-returns
 returns c =
@@ -36,12 +21,6 @@ slice-aggregate-put-radios c =
     let call = c .before .before .before .before .before .before .before .before .before .before .before .before .before .before .before .before .before .args in
     sym (length-take-le (call .count) (call .changed .now) (omega arith))
 
-put-radios-requires-2 : tie.Need-put-radios-requires-2
-put-radios-requires-2 c κs = search needs
-
-same-length-2 : tie.Need-same-length-2
-same-length-2 c = search needs
-
 returns-2 : tie.Need-returns-2
 returns-2 c =
     let start = c .before .before .before .before .before .before .before .before .before .before .before .before .before .before .before .before .before .before .before .before in
@@ -51,15 +30,6 @@ returns-2 c =
 
 pub put-link-line-spec : {M : Type 1} → statement M
 put-link-line-spec =
-    tie.close
-    (tie.spec
-    put-decimal-requires
-    put-byte-requires
-    put-step-requires
-    put-radios-requires
-    same-length
-    returns
-    slice-aggregate-put-radios
-    put-radios-requires-2
-    same-length-2
-    returns-2)
+    tie.close (
+    tie.spec (λ c κs. search needs) (λ c κs. search needs) (λ c κs. search needs) (λ c κs. search needs) (λ c. search needs) returns
+    slice-aggregate-put-radios (λ c κs. search needs) (λ c. search needs) returns-2)

@@ -1,21 +1,10 @@
 -- `printing::put_order_line` meets its contract: one text after another.
-use Rattle.calls.specs.Replay.{order-line, printed-line}
-use Rattle.printing.proofs.PrintLaws.{puts-append}
 use borrow.Author.Needs.{needs}
+use Rattle.calls.specs.Replay.{order-line}
+use Rattle.text.specs.Text.{printed-line}
+use Rattle.text.proofs.PrintLaws.{puts-append}
 use Rattle.printing.proofs.put_order_line.Statement.{statement}
 use Rattle.printing.proofs.put_order_line.Tie as tie
-
-slice-aggregate-put-text : tie.Need-slice-aggregate-put-text
-slice-aggregate-put-text c = search needs
-
-put-text-requires : tie.Need-put-text-requires
-put-text-requires c κs = search needs
-
-put-radios-requires : tie.Need-put-radios-requires
-put-radios-requires c κs = search needs
-
-same-length : tie.Need-same-length
-same-length c = search needs
 
 returns : tie.Need-returns
 unfolding order-line printed-line
@@ -23,5 +12,5 @@ returns c = puts-append (c .before .before .before .before .before .before .put-
 
 pub put-order-line-spec : {M : Type 1} → statement M
 put-order-line-spec =
-    tie.close
-    (tie.spec slice-aggregate-put-text put-text-requires put-radios-requires same-length returns)
+    tie.close (
+    tie.spec (λ c. search needs) (λ c κs. search needs) (λ c κs. search needs) (λ c. search needs) returns)

@@ -1,21 +1,9 @@
 -- `printing::put_step` meets its contract: each branch is a case of `step-text`.
-use Rattle.printing.proofs.PrintLaws.{puts-append, puts-as}
-use Rattle.printing.proofs.StepLaws.{step-text-minus, step-text-zero, step-text-plus}
 use borrow.Author.Needs.{needs}
+use Rattle.text.proofs.PrintLaws.{puts-append, puts-as}
+use Rattle.printing.proofs.StepLaws.{step-text-minus, step-text-zero, step-text-plus}
 use Rattle.printing.proofs.put_step.Statement.{statement}
 use Rattle.printing.proofs.put_step.Tie as tie
-
-step-size-requires : tie.Need-step-size-requires
-step-size-requires c κs = search needs
-
-put-byte-requires : tie.Need-put-byte-requires
-put-byte-requires c κs = search needs
-
-put-decimal-requires : tie.Need-put-decimal-requires
-put-decimal-requires c κs = search needs
-
-same-length : tie.Need-same-length
-same-length c = search needs
 
 returns : tie.Need-returns
 returns c =
@@ -23,26 +11,11 @@ returns c =
     let start = size .before .before in
     puts-as (step-text-minus (start .args .step) (start .fits .step) (size .step-size .result) (size .step-size .ensures) (c .before .before .before .before .before .before .before .before .if1 .taken)) (puts-append (c .before .before .before .before .before .before .put-byte .ensures) (c .before .before .put-decimal .ensures))
 
-put-decimal-requires-2 : tie.Need-put-decimal-requires-2
-put-decimal-requires-2 c κs = search needs
-
-same-length-2 : tie.Need-same-length-2
-same-length-2 c = search needs
-
 returns-2 : tie.Need-returns-2
 returns-2 c =
     let size = c .before .before .before .before .before .before in
     let start = size .before .before in
     puts-as (step-text-zero (start .args .step) (start .fits .step) (size .step-size .result) (size .step-size .ensures) (c .before .before .before .before .if2 .taken)) (c .before .before .put-decimal2 .ensures)
-
-put-byte-requires-2 : tie.Need-put-byte-requires-2
-put-byte-requires-2 c κs = search needs
-
-put-decimal-requires-3 : tie.Need-put-decimal-requires-3
-put-decimal-requires-3 c κs = search needs
-
-same-length-3 : tie.Need-same-length-3
-same-length-3 c = search needs
 
 returns-3 : tie.Need-returns-3
 returns-3 c =
@@ -52,17 +25,6 @@ returns-3 c =
 
 pub put-step-spec : {M : Type 1} → statement M
 put-step-spec =
-    tie.close
-    (tie.spec
-    step-size-requires
-    put-byte-requires
-    put-decimal-requires
-    same-length
-    returns
-    put-decimal-requires-2
-    same-length-2
-    returns-2
-    put-byte-requires-2
-    put-decimal-requires-3
-    same-length-3
-    returns-3)
+    tie.close (
+    tie.spec (λ c κs. search needs) (λ c κs. search needs) (λ c κs. search needs) (λ c. search needs) returns (λ c κs. search needs) (λ c. search needs)
+    returns-2 (λ c κs. search needs) (λ c κs. search needs) (λ c. search needs) returns-3)

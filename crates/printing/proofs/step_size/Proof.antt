@@ -1,11 +1,8 @@
 -- `printing::step_size` meets its contract: in sixteen bits every step can be negated.
-use Rattle.printing.proofs.StepLaws.{wide-fits, minus-fits, size-minus, size-minus-is, size-plus}
 use borrow.Author.Needs.{needs}
+use Rattle.printing.proofs.StepLaws.{wide-fits, minus-fits, size-minus, size-minus-is, size-plus}
 use Rattle.printing.proofs.step_size.Statement.{statement}
 use Rattle.printing.proofs.step_size.Tie as tie
-
-cast-result : tie.Need-cast-result
-cast-result c = wide-fits (c .before .args .step) (c .before .fits .step)
 
 sub-result : tie.Need-sub-result
 sub-result c = minus-fits (c .before .args .step) (c .before .fits .step) (c .if1 .taken)
@@ -16,12 +13,8 @@ cast-result-2 c = size-minus (c .before .args .step) (c .before .fits .step) (c 
 returns : tie.Need-returns
 returns c = size-minus-is (c .before .args .step) (c .before .fits .step) (c .if1 .taken)
 
-cast-result-3 : tie.Need-cast-result-3
-cast-result-3 c = size-plus (c .before .args .step) (c .before .fits .step) (c .if1 .left)
-
-returns-2 : tie.Need-returns-2
-returns-2 c = search needs
-
 pub step-size-spec : {M : Type 1} → statement M
 step-size-spec =
-    tie.close (tie.spec cast-result sub-result cast-result-2 returns cast-result-3 returns-2)
+    tie.close (
+    tie.spec (λ c. wide-fits (c .before .args .step) (c .before .fits .step)) sub-result cast-result-2 returns
+    (λ c. size-plus (c .before .args .step) (c .before .fits .step) (c .if1 .left)) (λ c. search needs))

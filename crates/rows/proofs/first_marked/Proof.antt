@@ -1,19 +1,14 @@
 -- `rows::first_marked` meets its contract: no radio is marked before word k (`Searching`), and the lowest set bit of the first
 -- word that is not 0 is the row's. The measure is the words that are left.
-use mathlib.Core.Path.{_≡_, sym, ap, _∙_}
-use Prim.Native.Nat.{_+_, _*_, _-_, _≤_, _<_}
+use mathlib.Core.Path.{sym, ap, _∙_}
+use Prim.Native.Nat.{_-_}
 use native.Mathlib.Omega.{arith}
 use lib.Count.{trailing-le}
-use lib.ListN.{length}
 use borrow.Author.Needs.{needs}
-use Rattle.mesh.specs.Lists.{head-or}
-use Rattle.rows.specs.Rows.{neighbours-of}
+use Rattle.lists.specs.Lists.{head-or}
 use Rattle.rows.proofs.RowWords.{Searching, searching-turn, searching-found, row-from-zero, row-from-end, row-listed-whole, row-listed-short}
 use Rattle.rows.proofs.first_marked.Statement.{statement}
 use Rattle.rows.proofs.first_marked.Tie as tie
-use Rattle.rows.proofs.first_marked.Reads as reads
-use Rattle.rows.proofs.first_marked.Lts as lts
-use Rattle.rows.proofs.word_at.Reads as word-at-reads
 
 abbrev Inv-loop : tie.InvT-loop
 Inv-loop links a start k₀ k = Searching links a k
@@ -21,48 +16,13 @@ Inv-loop links a start k₀ k = Searching links a k
 abbrev μ-loop : tie.MeasureT-loop
 μ-loop links a start k₀ k = 8 - k
 
--- src/rows.rt:127:17
-mul-start : tie.Need-mul-start Inv-loop μ-loop
-mul-start c = search needs
-
--- src/rows.rt:128:22
-add-if1 : tie.Need-add-if1 Inv-loop μ-loop
-add-if1 c = search needs
-
--- src/rows.rt:129:9
 returns : tie.Need-returns Inv-loop μ-loop
 unfolding head-or
 returns c = sym (ap (head-or 512) (row-listed-short _ _ (c .if1 .taken)))
 
--- src/rows.rt:132:5
 loop-holds : tie.Need-loop-holds Inv-loop μ-loop
 loop-holds c = (omega arith, sym (row-from-zero (c .before .before .args .links .now) (c .before .before .args .a)))
 
--- src/rows.rt:133:47
-cast-word-at : tie.Need-cast-word-at Inv-loop μ-loop
-cast-word-at c = search needs
-
--- src/rows.rt:133:43
-mul-word-at : tie.Need-mul-word-at Inv-loop μ-loop
-mul-word-at c = search needs
-
--- src/rows.rt:133:35
-add-word-at : tie.Need-add-word-at Inv-loop μ-loop
-add-word-at c = search needs
-
--- src/rows.rt:133:13
-word-at-requires : tie.Need-word-at-requires Inv-loop μ-loop
-word-at-requires c κs = search needs
-
--- src/rows.rt:135:20
-mul-result : tie.Need-mul-result Inv-loop μ-loop
-mul-result c = search needs
-
--- src/rows.rt:135:20
-add-result : tie.Need-add-result Inv-loop μ-loop
-add-result c = omega (arith, trailing-le 64 (c .before .word-at .result))
-
--- src/rows.rt:135:13
 returns-2 : tie.Need-returns-2 Inv-loop μ-loop
 returns-2 c =
     let read = c .before in
@@ -73,15 +33,6 @@ returns-2 c =
     ∙ searching-found _ (λ j. given .shared-slice-known .given j .fits) _ (at-loop .loop .k) (read .word-at .result) (read .before .loop-test .taken)
     (read .word-at .ensures) (c .if2 .taken) (at-loop .loop .inv))
 
--- src/rows.rt:137:9
-add-k : tie.Need-add-k Inv-loop μ-loop
-add-k c = search needs
-
--- src/rows.rt:132:5
-loop-less : tie.Need-loop-less Inv-loop μ-loop
-loop-less c = search needs
-
--- src/rows.rt:132:5
 loop-again : tie.Need-loop-again Inv-loop μ-loop
 loop-again c =
     let read = c .before in
@@ -90,7 +41,6 @@ loop-again c =
     searching-turn _ (λ j. given .shared-slice-known .given j .fits) _ (at-loop .loop .k) (read .word-at .result) (read .before .loop-test .taken)
     (read .word-at .ensures) (c .if2 .left) (at-loop .loop .inv)
 
--- src/rows.rt:124:1
 returns-3 : tie.Need-returns-3 Inv-loop μ-loop
 unfolding head-or
 returns-3 c =
@@ -103,22 +53,7 @@ returns-3 c =
 
 pub first-marked-spec : {M : Type 1} → statement M
 first-marked-spec =
-    tie.close
-    (tie.spec
-    Inv-loop
-    μ-loop
-    mul-start
-    add-if1
-    returns
-    loop-holds
-    cast-word-at
-    mul-word-at
-    add-word-at
-    word-at-requires
-    mul-result
-    add-result
-    returns-2
-    add-k
-    loop-less
-    loop-again
-    returns-3)
+    tie.close (
+    tie.spec Inv-loop μ-loop (λ c. search needs) (λ c. search needs) returns loop-holds (λ c. search needs) (λ c. search needs) (λ c. search needs)
+    (λ c κs. search needs) (λ c. search needs) (λ c. omega (arith, trailing-le 64 (c .before .word-at .result))) returns-2 (λ c. search needs)
+    (λ c. search needs) loop-again returns-3)

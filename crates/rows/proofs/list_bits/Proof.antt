@@ -18,35 +18,11 @@ Inv-loop word first list₀ count rest₀ n₀ list rest n = Word-listing first 
 abbrev μ-loop : tie.MeasureT-loop
 μ-loop word first list₀ count rest₀ n₀ list rest n = rest
 
-loop-holds : tie.Need-loop-holds Inv-loop μ-loop
-loop-holds c = (search needs, partial-none _ _ _ (c .pre .2))
-
 cast-if1 : tie.Need-cast-if1 Inv-loop μ-loop
 cast-if1 c = omega (arith, length-set-bits-le 64 (c .before .before .args .first) (c .before .before .args .word))
 
-same-length : tie.Need-same-length Inv-loop μ-loop
-same-length c = c .before .before .loop .inv .1 .long
-
-returns : tie.Need-returns Inv-loop μ-loop
-returns c = partial-full _ _ _ (omega arith) (c .before .before .loop .inv .1)
-
-add-list : tie.Need-add-list Inv-loop μ-loop
-add-list c = omega (arith, trailing-le 64 (c .before .before .loop .rest))
-
-cast-list : tie.Need-cast-list Inv-loop μ-loop
-cast-list c = omega (arith, trailing-le 64 (c .before .before .loop .rest))
-
 cast-list-2 : tie.Need-cast-list-2 Inv-loop μ-loop
 cast-list-2 c = omega (arith, length-set-bits-le 64 (c .before .before .before .args .first) (c .before .before .before .args .word))
-
-mul-list : tie.Need-mul-list Inv-loop μ-loop
-mul-list c = search needs
-
-slice-write-list : tie.Need-slice-write-list Inv-loop μ-loop
-slice-write-list c = search needs
-
-sub-rest : tie.Need-sub-rest Inv-loop μ-loop
-sub-rest c = search needs
 
 add-n : tie.Need-add-n Inv-loop μ-loop
 add-n c = omega (arith, length-set-bits-le 64 (c .before .before .before .args .first) (c .before .before .before .args .word))
@@ -57,30 +33,13 @@ loop-less c = omega (arith, and-le-r (c .before .before .loop .rest) (c .before 
 loop-again : tie.Need-loop-again Inv-loop μ-loop
 loop-again c = word-listing-turn _ _ _ _ (c .before .before .loop .rest) (c .before .before .loop .n) _ (c .before .loop-test .taken) (omega arith) (c .before .before .loop .inv)
 
-same-length-2 : tie.Need-same-length-2 Inv-loop μ-loop
-same-length-2 c = c .before .loop .inv .1 .long
-
 returns-2 : tie.Need-returns-2 Inv-loop μ-loop
 returns-2 c = partial-end _ _ _ (ap (set-bits 64 (c .before .before .args .first)) (c .loop-test .left) ∙ set-bits-nothing 64 _) (c .before .loop .inv .1)
 
 pub list-bits-spec : {M : Type 1} → statement M
 list-bits-spec =
-    tie.close
-    (tie.spec
-    Inv-loop
-    μ-loop
-    loop-holds
-    cast-if1
-    same-length
-    returns
-    add-list
-    cast-list
-    cast-list-2
-    mul-list
-    slice-write-list
-    sub-rest
-    add-n
-    loop-less
-    loop-again
-    same-length-2
-    returns-2)
+    tie.close (
+    tie.spec Inv-loop μ-loop (λ c. (search needs, partial-none _ _ _ (c .pre .2))) cast-if1 (λ c. c .before .before .loop .inv .1 .long)
+    (λ c. partial-full _ _ _ (omega arith) (c .before .before .loop .inv .1)) (λ c. omega (arith, trailing-le 64 (c .before .before .loop .rest)))
+    (λ c. omega (arith, trailing-le 64 (c .before .before .loop .rest))) cast-list-2 (λ c. search needs) (λ c. search needs) (λ c. search needs) add-n
+    loop-less loop-again (λ c. c .before .loop .inv .1 .long) returns-2)

@@ -5,15 +5,6 @@ use Rattle.mesh.specs.Tables.{put-bit, put-link}
 use Rattle.rows.proofs.put_link.Statement.{statement}
 use Rattle.rows.proofs.put_link.Tie as tie
 
-put-bit-requires : tie.Need-put-bit-requires
-put-bit-requires c κs = search needs
-
-put-bit-requires-2 : tie.Need-put-bit-requires-2
-put-bit-requires-2 c κs = search needs
-
-same-length : tie.Need-same-length
-same-length c = search needs
-
 returns : tie.Need-returns
 unfolding put-link
 returns c =
@@ -23,4 +14,4 @@ returns c =
     second .put-bit2 .ensures ∙ ap (put-bit (call .up) (call .b) (call .a)) (first .put-bit .ensures)
 
 pub put-link-spec : {M : Type 1} → statement M
-put-link-spec = tie.close (tie.spec put-bit-requires put-bit-requires-2 same-length returns)
+put-link-spec = tie.close (tie.spec (λ c κs. search needs) (λ c κs. search needs) (λ c. search needs) returns)

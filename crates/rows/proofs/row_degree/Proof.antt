@@ -15,43 +15,13 @@ Inv-loop links a start n₀ k₀ n k = Row-counting links a n k
 abbrev μ-loop : tie.MeasureT-loop
 μ-loop links a start n₀ k₀ n k = 8 - k
 
-mul-start : tie.Need-mul-start Inv-loop μ-loop
-mul-start c = search needs
-
-add-if1 : tie.Need-add-if1 Inv-loop μ-loop
-add-if1 c = search needs
-
-returns : tie.Need-returns Inv-loop μ-loop
-returns c = sym (ap length (row-listed-short _ _ (c .if1 .taken)))
-
 loop-holds : tie.Need-loop-holds Inv-loop μ-loop
 loop-holds c = (omega arith, omega arith, omega (arith, ap length (row-from-zero (c .before .before .args .links .now) (c .before .before .args .a))))
-
-cast-word-at : tie.Need-cast-word-at Inv-loop μ-loop
-cast-word-at c = search needs
-
-mul-word-at : tie.Need-mul-word-at Inv-loop μ-loop
-mul-word-at c = search needs
-
-add-word-at : tie.Need-add-word-at Inv-loop μ-loop
-add-word-at c = search needs
-
-word-at-requires : tie.Need-word-at-requires Inv-loop μ-loop
-word-at-requires c κs = search needs
 
 loop-again : tie.Need-loop-again Inv-loop μ-loop
 loop-again c =
     let at-loop = c .before .before in
     row-counting-turn _ (λ j. at-loop .before .before .shared-slice-known .given j .fits) _ (at-loop .loop .n) (at-loop .loop .k) _ (omega arith) (c .word-at .ensures) (at-loop .loop .inv)
-
-add-n : tie.Need-add-n Inv-loop μ-loop
-add-n c = omega (arith, loop-again c .1)
-
-add-k : tie.Need-add-k Inv-loop μ-loop
-add-k c = search needs
-
-loop-less : tie.Need-loop-less Inv-loop μ-loop
-loop-less c = search needs
 
 returns-2 : tie.Need-returns-2 Inv-loop μ-loop
 returns-2 c =
@@ -65,20 +35,7 @@ returns-2 c =
 
 pub row-degree-spec : {M : Type 1} → statement M
 row-degree-spec =
-    tie.close
-    (tie.spec
-    Inv-loop
-    μ-loop
-    mul-start
-    add-if1
-    returns
-    loop-holds
-    cast-word-at
-    mul-word-at
-    add-word-at
-    word-at-requires
-    add-n
-    add-k
-    loop-less
-    loop-again
-    returns-2)
+    tie.close (
+    tie.spec Inv-loop μ-loop (λ c. search needs) (λ c. search needs) (λ c. sym (ap length (row-listed-short _ _ (c .if1 .taken)))) loop-holds
+    (λ c. search needs) (λ c. search needs) (λ c. search needs) (λ c κs. search needs) (λ c. omega (arith, loop-again c .1)) (λ c. search needs)
+    (λ c. search needs) loop-again returns-2)

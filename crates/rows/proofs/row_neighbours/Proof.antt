@@ -5,7 +5,8 @@ use mathlib.Core.List.{[]}
 use Prim.Native.Nat.{_-_}
 use native.Mathlib.Omega.{arith}
 use borrow.Author.Needs.{needs}
-use Rattle.rows.proofs.Listing.{partial-none, sets-front}
+use Rattle.rows.proofs.Listing.{partial-none}
+use Rattle.lists.proofs.Overwrite.{sets-front}
 use Rattle.rows.proofs.RowWords.{Row-listing, row-listing-turn, row-listing-end, row-from-zero, row-listed-short}
 use Rattle.rows.proofs.row_neighbours.Statement.{statement}
 use Rattle.rows.proofs.row_neighbours.Tie as tie
@@ -15,12 +16,6 @@ Inv-loop links a list₀ start n₀ k₀ list n k = Row-listing links a list₀ 
 
 abbrev μ-loop : tie.MeasureT-loop
 μ-loop links a list₀ start n₀ k₀ list n k = 8 - k
-
-mul-start : tie.Need-mul-start Inv-loop μ-loop
-mul-start c = search needs
-
-add-if1 : tie.Need-add-if1 Inv-loop μ-loop
-add-if1 c = search needs
 
 returns : tie.Need-returns Inv-loop μ-loop
 returns c =
@@ -32,30 +27,6 @@ loop-holds c =
     let call = c .before .before .before .args in
     (omega arith, omega arith, rw (row-from-zero (call .links .now) (call .a)) (partial-none _ 0 _ (omega arith)))
 
-cast-word-at : tie.Need-cast-word-at Inv-loop μ-loop
-cast-word-at c = search needs
-
-mul-word-at : tie.Need-mul-word-at Inv-loop μ-loop
-mul-word-at c = search needs
-
-add-word-at : tie.Need-add-word-at Inv-loop μ-loop
-add-word-at c = search needs
-
-word-at-requires : tie.Need-word-at-requires Inv-loop μ-loop
-word-at-requires c κs = search needs
-
-mul-list-bits : tie.Need-mul-list-bits Inv-loop μ-loop
-mul-list-bits c = search needs
-
-list-bits-requires : tie.Need-list-bits-requires Inv-loop μ-loop
-list-bits-requires c κs = search needs
-
-add-k : tie.Need-add-k Inv-loop μ-loop
-add-k c = search needs
-
-loop-less : tie.Need-loop-less Inv-loop μ-loop
-loop-less c = search needs
-
 loop-again : tie.Need-loop-again Inv-loop μ-loop
 loop-again c =
     let listed = c .before .before in
@@ -66,12 +37,6 @@ loop-again c =
     (at-loop .loop .n) (at-loop .loop .k) (read .word-at .result) _ (at-loop .loop .list) _
     (omega arith) (read .word-at .ensures) (listed .list-bits .ensures .0) (listed .list-bits .ensures .1) (at-loop .loop .inv)
 
-cast-if2 : tie.Need-cast-if2 Inv-loop μ-loop
-cast-if2 c = search needs
-
-same-length : tie.Need-same-length Inv-loop μ-loop
-same-length c = c .before .before .loop .inv .2 .long
-
 returns-2 : tie.Need-returns-2 Inv-loop μ-loop
 returns-2 c =
     let at-loop = c .before .before in
@@ -79,12 +44,6 @@ returns-2 c =
     let at-end = row-listing-end (call .links .now) (call .a) (call .list .now) (at-loop .loop .n) (at-loop .loop .k) (at-loop .loop .list)
     (omega arith) (at-loop .before .if1 .left) (at-loop .loop .inv) in
     (omega (arith, at-end .0, at-loop .loop .inv .2 .long, c .if2 .taken), at-end .1)
-
-row-degree-requires : tie.Need-row-degree-requires Inv-loop μ-loop
-row-degree-requires c κs = search needs
-
-same-length-2 : tie.Need-same-length-2 Inv-loop μ-loop
-same-length-2 c = c .before .before .before .loop .inv .2 .long
 
 returns-3 : tie.Need-returns-3 Inv-loop μ-loop
 returns-3 c =
@@ -96,26 +55,7 @@ returns-3 c =
 
 pub row-neighbours-spec : {M : Type 1} → statement M
 row-neighbours-spec =
-    tie.close
-    (tie.spec
-    Inv-loop
-    μ-loop
-    mul-start
-    add-if1
-    returns
-    loop-holds
-    cast-word-at
-    mul-word-at
-    add-word-at
-    word-at-requires
-    mul-list-bits
-    list-bits-requires
-    add-k
-    loop-less
-    loop-again
-    cast-if2
-    same-length
-    returns-2
-    row-degree-requires
-    same-length-2
-    returns-3)
+    tie.close (
+    tie.spec Inv-loop μ-loop (λ c. search needs) (λ c. search needs) returns loop-holds (λ c. search needs) (λ c. search needs) (λ c. search needs)
+    (λ c κs. search needs) (λ c. search needs) (λ c κs. search needs) (λ c. search needs) (λ c. search needs) loop-again (λ c. search needs)
+    (λ c. c .before .before .loop .inv .2 .long) returns-2 (λ c κs. search needs) (λ c. c .before .before .before .loop .inv .2 .long) returns-3)

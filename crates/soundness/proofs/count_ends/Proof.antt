@@ -1,12 +1,12 @@
 -- `soundness::count_ends` meets its contract: what is left of the list and what is counted give what the whole list gives.
 -- The measure is what is left of the list.
+use mathlib.Core.Path.{sym, _∙_}
 use Prim.Native.Nat.{_-_}
 use native.Mathlib.Omega.{arith}
-use mathlib.Core.Path.{sym, _∙_}
-use borrow.Author.Needs.{needs}
-use borrow.Author.Tests.{not-true, not-false}
 use lib.Dec.{ltb, leb}
 use lib.ListN.{length, getD, take}
+use borrow.Author.Needs.{needs}
+use borrow.Author.Tests.{not-true, not-false}
 use Rattle.soundness.proofs.RowChecks.{Counting, counting-none, counting-self, counting-alone, counting-turn, counting-end, count-fits, marked-radio}
 use Rattle.soundness.proofs.count_ends.Statement.{statement}
 use Rattle.soundness.proofs.count_ends.Tie as tie
@@ -17,37 +17,14 @@ Inv-loop links numbers places list k a bad place number later₀ high₀ i₀ la
 abbrev μ-loop : tie.MeasureT-loop
 μ-loop links numbers places list k a bad place number later₀ high₀ i₀ later high i = k - i
 
--- src/lib.rt:67:17
-mul-place : tie.Need-mul-place Inv-loop μ-loop
-mul-place c = search needs
-
--- src/lib.rt:67:17
-shared-slice-read-place : tie.Need-shared-slice-read-place Inv-loop μ-loop
-shared-slice-read-place c = search needs
-
--- src/lib.rt:68:18
-shared-slice-read-number : tie.Need-shared-slice-read-number Inv-loop μ-loop
-shared-slice-read-number c = search needs
-
--- src/lib.rt:72:5
 loop-holds : tie.Need-loop-holds Inv-loop μ-loop
 loop-holds c =
     let start = c .before .before .before .before .before .before in
     counting-none _ _ _ _ _ _ _ (start .pre .listed)
 
--- src/lib.rt:73:17
-mul-b : tie.Need-mul-b Inv-loop μ-loop
-mul-b c = search needs
-
--- src/lib.rt:73:17
-shared-slice-read-b : tie.Need-shared-slice-read-b Inv-loop μ-loop
-shared-slice-read-b c = search needs
-
--- src/lib.rt:73:17
 cast-b : tie.Need-cast-b Inv-loop μ-loop
 cast-b c = omega (arith, c .shared-slice-known7 .given (c .before .before .loop .i))
 
--- src/lib.rt:75:13
 returns : tie.Need-returns Inv-loop μ-loop
 returns c =
     let at-loop = c .before .before .before in
@@ -55,19 +32,12 @@ returns c =
     let call = start .args in
     counting-self _ _ _ _ _ _ _ (start .pre .listed) _ _ _ (c .before .before .loop-test .taken) (at-loop .loop .inv) (c .if1 .taken)
 
--- src/lib.rt:80:43
 cast-is-marked : tie.Need-cast-is-marked Inv-loop μ-loop
 cast-is-marked c = omega (arith, c .before .shared-slice-known7 .given (c .before .before .before .loop .i))
 
--- src/lib.rt:80:53
 cast-is-marked-2 : tie.Need-cast-is-marked-2 Inv-loop μ-loop
 cast-is-marked-2 c = omega (arith, c .before .shared-slice-known7 .given (c .before .before .before .loop .i))
 
--- src/lib.rt:80:13
-is-marked-requires : tie.Need-is-marked-requires Inv-loop μ-loop
-is-marked-requires c κs = search needs
-
--- src/lib.rt:81:13
 returns-2 : tie.Need-returns-2 Inv-loop μ-loop
 returns-2 c =
     let at-loop = c .before .before .before .before .before in
@@ -75,7 +45,6 @@ returns-2 c =
     let call = start .args in
     counting-alone _ _ _ _ _ _ _ (start .pre .listed) _ _ _ (c .before .before .before .before .loop-test .taken) (at-loop .loop .inv) (sym (c .before .is-marked .ensures) ∙ not-true _ (c .if2 .taken))
 
--- src/lib.rt:83:27
 mul-later : tie.Need-mul-later Inv-loop μ-loop
 mul-later c =
     let at-loop = c .before .before .before .before .before in
@@ -84,7 +53,6 @@ mul-later c =
     let radio = marked-radio _ (call .links .now) (start .pre .linked) _ _ (sym (c .before .is-marked .ensures) ∙ not-false _ (c .if2 .left)) in
     omega (arith, start .pre .small)
 
--- src/lib.rt:83:27
 shared-slice-read-later : tie.Need-shared-slice-read-later Inv-loop μ-loop
 shared-slice-read-later c =
     let at-loop = c .before .before .before .before .before .before in
@@ -93,11 +61,6 @@ shared-slice-read-later c =
     let radio = marked-radio _ (call .links .now) (start .pre .linked) _ _ (sym (c .before .before .is-marked .ensures) ∙ not-false _ (c .before .if2 .left)) in
     omega (arith, start .pre .placed)
 
--- src/lib.rt:83:18
-cast-later : tie.Need-cast-later Inv-loop μ-loop
-cast-later c = search needs
-
--- src/lib.rt:83:9
 add-later : tie.Need-add-later Inv-loop μ-loop
 add-later c =
     let at-loop = c .before .before .before .before .before .before in
@@ -107,7 +70,6 @@ add-later c =
     let few = start .pre .few in
     count-fits _ (ltb (getD (call .places .now) (call .a) 0) (getD (call .places .now) b 0)) (omega arith)
 
--- src/lib.rt:84:28
 shared-slice-read-high : tie.Need-shared-slice-read-high Inv-loop μ-loop
 shared-slice-read-high c =
     let at-loop = c .before .before .before .before .before .before .before in
@@ -116,11 +78,6 @@ shared-slice-read-high c =
     let radio = marked-radio _ (call .links .now) (start .pre .linked) _ _ (sym (c .before .before .before .is-marked .ensures) ∙ not-false _ (c .before .before .if2 .left)) in
     omega arith
 
--- src/lib.rt:84:17
-cast-high : tie.Need-cast-high Inv-loop μ-loop
-cast-high c = search needs
-
--- src/lib.rt:84:9
 add-high : tie.Need-add-high Inv-loop μ-loop
 add-high c =
     let at-loop = c .before .before .before .before .before .before .before in
@@ -130,15 +87,6 @@ add-high c =
     let few = start .pre .few in
     count-fits _ (leb (getD (call .numbers .now) (call .a) 0) (getD (call .numbers .now) b 0)) (omega arith)
 
--- src/lib.rt:85:9
-add-i : tie.Need-add-i Inv-loop μ-loop
-add-i c = search needs
-
--- src/lib.rt:72:5
-loop-less : tie.Need-loop-less Inv-loop μ-loop
-loop-less c = search needs
-
--- src/lib.rt:72:5
 loop-again : tie.Need-loop-again Inv-loop μ-loop
 loop-again c =
     let at-loop = c .before .before .before .before .before .before .before in
@@ -147,7 +95,6 @@ loop-again c =
     let m = (sym (c .before .before .before .is-marked .ensures) ∙ not-false _ (c .before .before .if2 .left)) in
     counting-turn _ _ _ _ _ _ _ (start .pre .listed) _ _ _ (c .before .before .before .before .before .before .loop-test .taken) (at-loop .loop .inv) (marked-radio _ (call .links .now) (start .pre .linked) _ _ m) (c .before .before .before .before .if1 .left) m
 
--- src/lib.rt:63:1
 returns-3 : tie.Need-returns-3 Inv-loop μ-loop
 returns-3 c =
     let at-loop = c .before in
@@ -157,30 +104,7 @@ returns-3 c =
 
 pub count-ends-spec : {M : Type 1} → statement M
 count-ends-spec =
-    tie.close
-    (tie.spec
-    Inv-loop
-    μ-loop
-    mul-place
-    shared-slice-read-place
-    shared-slice-read-number
-    loop-holds
-    mul-b
-    shared-slice-read-b
-    cast-b
-    returns
-    cast-is-marked
-    cast-is-marked-2
-    is-marked-requires
-    returns-2
-    mul-later
-    shared-slice-read-later
-    cast-later
-    add-later
-    shared-slice-read-high
-    cast-high
-    add-high
-    add-i
-    loop-less
-    loop-again
-    returns-3)
+    tie.close (
+    tie.spec Inv-loop μ-loop (λ c. search needs) (λ c. search needs) (λ c. search needs) loop-holds (λ c. search needs) (λ c. search needs) cast-b returns
+    cast-is-marked cast-is-marked-2 (λ c κs. search needs) returns-2 mul-later shared-slice-read-later (λ c. search needs) add-later shared-slice-read-high
+    (λ c. search needs) add-high (λ c. search needs) (λ c. search needs) loop-again returns-3)

@@ -1,15 +1,12 @@
 -- `soundness::examine` meets its contract: with the order placed and its numbers rising, the rows decide (`sound-rows`).
 use native.Mathlib.Omega.{arith}
 use borrow.Author.Tests.{not-true, not-false}
+use borrow.Author.Needs.{needs}
 use Rattle.mesh.specs.Tables.{tables}
 use Rattle.calls.specs.Questions.{lengths-of}
 use Rattle.soundness.proofs.ExamineLaws.{examined-unfit, place-room, examined-unplaced, entries-below, examined-falls, rows-room, examined-rows}
-use borrow.Author.Needs.{needs}
 use Rattle.soundness.proofs.examine.Statement.{statement}
 use Rattle.soundness.proofs.examine.Tie as tie
-
-is-examinable-requires : tie.Need-is-examinable-requires
-is-examinable-requires c κs = search needs
 
 returns : tie.Need-returns
 unfolding lengths-of
@@ -27,9 +24,6 @@ place-requires c κs =
     let t = tables (call .links .now) (call .numbers .now) (call .order .now) in
     place-room _ t (call .places .now) (call .highs .now) _ (asked .is-examinable .ensures) (not-false _ (c .before .if1 .left))
 
-same-length : tie.Need-same-length
-same-length c = search needs
-
 returns-2 : tie.Need-returns-2
 unfolding lengths-of
 returns-2 c =
@@ -46,9 +40,6 @@ rises-requires c κs =
     let t = tables (call .links .now) (call .numbers .now) (call .order .now) in
     entries-below _ t (call .places .now) (call .highs .now) _ (asked .is-examinable .ensures) (not-false _ (c .before .before .before .before .before .if1 .left)) _ _ (c .before .before .before .place .ensures) (not-false _ (c .if2 .left))
 
-same-length-2 : tie.Need-same-length-2
-same-length-2 c = search needs
-
 returns-3 : tie.Need-returns-3
 unfolding lengths-of
 returns-3 c =
@@ -58,9 +49,6 @@ returns-3 c =
     examined-falls _ t (call .places .now) (call .highs .now) _ (asked .is-examinable .ensures) (not-false _ (c .before .before .before .before .before .before .before .if1 .left))
     _ _ (c .before .before .before .before .before .place .ensures) (not-false _ (c .before .before .if2 .left)) _ (c .before .rises .ensures) (not-true _ (c .if3 .taken))
 
-slice-aggregate-rows-checked : tie.Need-slice-aggregate-rows-checked
-slice-aggregate-rows-checked c = search needs
-
 rows-checked-requires : tie.Need-rows-checked-requires
 unfolding lengths-of
 rows-checked-requires c κs =
@@ -69,12 +57,6 @@ rows-checked-requires c κs =
     let t = tables (call .links .now) (call .numbers .now) (call .order .now) in
     rows-room _ t (call .places .now) (call .highs .now) _ (asked .is-examinable .ensures) (not-false _ (c .before .before .before .before .before .before .before .before .before .before .if1 .left))
     _ _ (c .before .before .before .before .before .before .before .before .place .ensures) (not-false _ (c .before .before .before .before .before .if2 .left)) _ (omega arith)
-
-same-length-3 : tie.Need-same-length-3
-same-length-3 c = search needs
-
-same-length-4 : tie.Need-same-length-4
-same-length-4 c = search needs
 
 returns-4 : tie.Need-returns-4
 unfolding lengths-of
@@ -88,18 +70,6 @@ returns-4 c =
 
 pub examine-spec : {M : Type 1} → statement M
 examine-spec =
-    tie.close
-    (tie.spec
-    is-examinable-requires
-    returns
-    place-requires
-    same-length
-    returns-2
-    rises-requires
-    same-length-2
-    returns-3
-    slice-aggregate-rows-checked
-    rows-checked-requires
-    same-length-3
-    same-length-4
-    returns-4)
+    tie.close (
+    tie.spec (λ c κs. search needs) returns place-requires (λ c. search needs) returns-2 rises-requires (λ c. search needs) returns-3 (λ c. search needs)
+    rows-checked-requires (λ c. search needs) (λ c. search needs) returns-4)

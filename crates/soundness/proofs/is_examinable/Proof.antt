@@ -9,12 +9,6 @@ use Rattle.soundness.proofs.ExamineLaws.{examinable-refusal}
 use Rattle.soundness.proofs.is_examinable.Statement.{statement}
 use Rattle.soundness.proofs.is_examinable.Tie as tie
 
-least-requires : tie.Need-least-requires
-least-requires c κs = search needs
-
-with-answer-requires : tie.Need-with-answer-requires
-with-answer-requires c κs = search needs
-
 returns : tie.Need-returns
 returns c =
     let call = c .before .before .args in
@@ -24,4 +18,4 @@ returns c =
     ∙ examinable-refusal (call .n) l (call .places) (call .highs)
 
 pub is-examinable-spec : {M : Type 1} → statement M
-is-examinable-spec = tie.close (tie.spec least-requires with-answer-requires returns)
+is-examinable-spec = tie.close (tie.spec (λ c κs. search needs) (λ c κs. search needs) returns)

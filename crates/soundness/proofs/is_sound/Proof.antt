@@ -1,19 +1,10 @@
 -- `soundness::is_sound` meets its contract: the two local tables have room for every site.
 use mathlib.Core.Path.{_∙_}
+use borrow.Author.Needs.{needs}
 use Rattle.mesh.specs.Tables.{tables}
 use Rattle.soundness.proofs.ExamineLaws.{examinable-room}
-use borrow.Author.Needs.{needs}
 use Rattle.soundness.proofs.is_sound.Statement.{statement}
 use Rattle.soundness.proofs.is_sound.Tie as tie
-
-slice-aggregate-examine : tie.Need-slice-aggregate-examine
-slice-aggregate-examine c = search needs
-
-slice-aggregate-examine-2 : tie.Need-slice-aggregate-examine-2
-slice-aggregate-examine-2 c = search needs
-
-examine-requires : tie.Need-examine-requires
-examine-requires c κs = search needs
 
 returns : tie.Need-returns
 returns c =
@@ -22,4 +13,5 @@ returns c =
 
 pub is-sound-spec : {M : Type 1} → statement M
 is-sound-spec =
-    tie.close (tie.spec slice-aggregate-examine slice-aggregate-examine-2 examine-requires returns)
+    tie.close (
+    tie.spec (λ c. search needs) (λ c. search needs) (λ c κs. search needs) returns)

@@ -2,9 +2,10 @@
 -- place stood there before. The measure is what is left of the order.
 use Prim.Native.Nat.{_-_}
 use native.Mathlib.Omega.{arith}
-use borrow.Author.Needs.{needs}
 use lib.ListN.{length}
-use Rattle.soundness.proofs.CheckLoops.{Placing-so-far, placing-none, placing-high, placing-again, placing-room, placing-turn, placing-end, placing-not, placing-long}
+use borrow.Author.Needs.{needs}
+use Rattle.soundness.proofs.CheckLoops.{Placing-so-far, placing-none, placing-high, placing-again, placing-room, placing-turn, placing-end, placing-not}
+use Rattle.soundness.proofs.CheckLoops.{placing-long}
 use Rattle.soundness.proofs.place.Statement.{statement}
 use Rattle.soundness.proofs.place.Tie as tie
 
@@ -14,19 +15,10 @@ Inv-loop order places₀ i₀ places i = Placing-so-far order (length places₀)
 abbrev μ-loop : tie.MeasureT-loop
 μ-loop order places₀ i₀ places i = length order - i
 
-fill16-requires : tie.Need-fill16-requires Inv-loop μ-loop
-fill16-requires c κs = search needs
-
 loop-holds : tie.Need-loop-holds Inv-loop μ-loop
 loop-holds c =
     let start = c .before .before .before .before .before .before in
     placing-none (start .args .order .now) (start .args .places .now) _ (start .pre) (c .before .before .fill16 .ensures)
-
-mul-v : tie.Need-mul-v Inv-loop μ-loop
-mul-v c = search needs
-
-shared-slice-read-v : tie.Need-shared-slice-read-v Inv-loop μ-loop
-shared-slice-read-v c = search needs
 
 cast-v : tie.Need-cast-v Inv-loop μ-loop
 cast-v c = omega (arith, c .shared-slice-known2 .given (c .before .before .loop .i))
@@ -45,9 +37,6 @@ returns c =
     let filled = at-loop .before .before .before .fill16 .ensures in
     placing-not (start .args .order .now) (start .args .places .now) _ (start .pre) filled _ _ (at-loop .loop .inv)
     (placing-high (start .args .order .now) (start .args .places .now) _ (start .pre) filled _ _ (c .before .before .loop-test .taken) (at-loop .loop .inv) (c .if1 .taken))
-
-mul-if2 : tie.Need-mul-if2 Inv-loop μ-loop
-mul-if2 c = search needs
 
 slice-read-if2 : tie.Need-slice-read-if2 Inv-loop μ-loop
 slice-read-if2 c =
@@ -78,21 +67,12 @@ cast-places c =
     let low = c .before .before .before .before .loop-test .taken in
     omega arith
 
-mul-places : tie.Need-mul-places Inv-loop μ-loop
-mul-places c = search needs
-
 slice-write-places : tie.Need-slice-write-places Inv-loop μ-loop
 slice-write-places c =
     let at-loop = c .before .before .before .before .before in
     let start = at-loop .before .before .before .before .before .before .before in
     let filled = at-loop .before .before .before .fill16 .ensures in
     placing-room (start .args .order .now) (start .args .places .now) _ (start .pre) filled _ _ (c .before .before .before .before .loop-test .taken) (at-loop .loop .inv) (c .before .before .if1 .left)
-
-add-i : tie.Need-add-i Inv-loop μ-loop
-add-i c = search needs
-
-loop-less : tie.Need-loop-less Inv-loop μ-loop
-loop-less c = search needs
 
 loop-again : tie.Need-loop-again Inv-loop μ-loop
 loop-again c =
@@ -117,26 +97,7 @@ returns-3 c =
 
 pub place-spec : {M : Type 1} → statement M
 place-spec =
-    tie.close
-    (tie.spec
-    Inv-loop
-    μ-loop
-    fill16-requires
-    loop-holds
-    mul-v
-    shared-slice-read-v
-    cast-v
-    same-length
-    returns
-    mul-if2
-    slice-read-if2
-    same-length-2
-    returns-2
-    cast-places
-    mul-places
-    slice-write-places
-    add-i
-    loop-less
-    loop-again
-    same-length-3
+    tie.close (
+    tie.spec Inv-loop μ-loop (λ c κs. search needs) loop-holds (λ c. search needs) (λ c. search needs) cast-v same-length returns (λ c. search needs)
+    slice-read-if2 same-length-2 returns-2 cast-places (λ c. search needs) slice-write-places (λ c. search needs) (λ c. search needs) loop-again same-length-3
     returns-3)

@@ -1,15 +1,12 @@
 -- `soundness::refusal` meets its contract: the tests are the chain's questions, in its order.
 use mathlib.Core.Path.{sym, _∙_}
 use borrow.Author.Tests.{not-true, not-false}
+use borrow.Author.Needs.{needs}
 use Rattle.mesh.specs.Tables.{tables}
 use Rattle.calls.specs.Questions.{lengths-of, ask}
 use Rattle.soundness.proofs.ExamineLaws.{site-refused, site-lent, fits-sound-lent}
-use borrow.Author.Needs.{needs}
 use Rattle.soundness.proofs.refusal.Statement.{statement}
 use Rattle.soundness.proofs.refusal.Tie as tie
-
-of-tables-requires : tie.Need-of-tables-requires
-of-tables-requires c κs = search needs
 
 returns : tie.Need-returns
 unfolding lengths-of
@@ -28,9 +25,6 @@ returns-2 c =
     let t = tables (call .links .now) (call .numbers .now) (call .order .now) in
     let e = sym (asked .of-tables .ensures) ∙ c .before .if1 .left in
     sym (site-lent _ (lengths-of t) _ _ 0 e ∙ rw (not-true (call .others) (c .if2 .taken)))
-
-is-sound-requires : tie.Need-is-sound-requires
-is-sound-requires c κs = search needs
 
 returns-3 : tie.Need-returns-3
 unfolding lengths-of ask
@@ -54,4 +48,5 @@ returns-4 c =
 
 pub refusal-spec : {M : Type 1} → statement M
 refusal-spec =
-    tie.close (tie.spec of-tables-requires returns returns-2 is-sound-requires returns-3 returns-4)
+    tie.close (
+    tie.spec (λ c κs. search needs) returns returns-2 (λ c κs. search needs) returns-3 returns-4)

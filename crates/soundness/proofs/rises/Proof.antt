@@ -3,8 +3,8 @@
 use mathlib.Core.Path.{sym}
 use Prim.Native.Nat.{_-_}
 use native.Mathlib.Omega.{arith}
-use borrow.Author.Needs.{needs}
 use lib.ListN.{length}
+use borrow.Author.Needs.{needs}
 use Rattle.mesh.specs.Sound.{number-in}
 use Rattle.soundness.proofs.CheckLoops.{Rising-so-far, rising-none, rising-turn, rising-falls, rising-end}
 use Rattle.soundness.proofs.rises.Statement.{statement}
@@ -16,18 +16,6 @@ Inv-loop numbers order last₀ i₀ last i = Rising-so-far (number-in numbers) o
 abbrev μ-loop : tie.MeasureT-loop
 μ-loop numbers order last₀ i₀ last i = length order - i
 
-loop-holds : tie.Need-loop-holds Inv-loop μ-loop
-loop-holds c = rising-none
-
-mul-v : tie.Need-mul-v Inv-loop μ-loop
-mul-v c = search needs
-
-shared-slice-read-v : tie.Need-shared-slice-read-v Inv-loop μ-loop
-shared-slice-read-v c = search needs
-
-cast-v : tie.Need-cast-v Inv-loop μ-loop
-cast-v c = omega (arith, c .shared-slice-known .given (c .before .before .loop .i))
-
 shared-slice-read-x : tie.Need-shared-slice-read-x Inv-loop μ-loop
 shared-slice-read-x c =
     let at-loop = c .before .before .before in at-loop .before .pre (at-loop .loop .i) (omega arith)
@@ -36,12 +24,6 @@ returns : tie.Need-returns Inv-loop μ-loop
 returns c =
     let at-loop = c .before .before .before .before in
     sym (rising-falls (at-loop .loop .last) (at-loop .loop .i) (omega arith) (omega arith) (at-loop .loop .inv))
-
-add-i : tie.Need-add-i Inv-loop μ-loop
-add-i c = search needs
-
-loop-less : tie.Need-loop-less Inv-loop μ-loop
-loop-less c = search needs
 
 loop-again : tie.Need-loop-again Inv-loop μ-loop
 loop-again c =
@@ -53,17 +35,7 @@ returns-2 c = sym (rising-end (c .before .loop .last) (c .before .loop .i) (omeg
 
 pub rises-spec : {M : Type 1} → statement M
 rises-spec =
-    tie.close
-    (tie.spec
-    Inv-loop
-    μ-loop
-    loop-holds
-    mul-v
-    shared-slice-read-v
-    cast-v
-    shared-slice-read-x
-    returns
-    add-i
-    loop-less
-    loop-again
-    returns-2)
+    tie.close (
+    tie.spec Inv-loop μ-loop (λ c. rising-none) (λ c. search needs) (λ c. search needs)
+    (λ c. omega (arith, c .shared-slice-known .given (c .before .before .loop .i))) shared-slice-read-x returns (λ c. search needs) (λ c. search needs)
+    loop-again returns-2)

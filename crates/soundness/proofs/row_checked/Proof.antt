@@ -1,16 +1,10 @@
 -- `soundness::row_checked` meets its contract: what is listed are the row's neighbours, and each test is one condition of `row-good`.
 use native.Mathlib.Omega.{arith}
 use borrow.Author.Tests.{not-true, not-false}
-use Rattle.soundness.proofs.RowChecks.{row-many, row-ends-bad, row-later-bad, row-high-bad, row-right}
 use borrow.Author.Needs.{needs}
+use Rattle.soundness.proofs.RowChecks.{row-many, row-ends-bad, row-later-bad, row-high-bad, row-right}
 use Rattle.soundness.proofs.row_checked.Statement.{statement}
 use Rattle.soundness.proofs.row_checked.Tie as tie
-
-row-neighbours-requires : tie.Need-row-neighbours-requires
-row-neighbours-requires c κs = search needs
-
-same-length : tie.Need-same-length
-same-length c = search needs
 
 returns : tie.Need-returns
 returns c =
@@ -18,15 +12,6 @@ returns c =
     let start = listed .before .before .before .before .before .before in
     let call = start .args in
     row-many (call .n) (call .links .now) (call .numbers .now) (call .places .now) (call .a) (call .list .now) _ _ (start .pre .0) (start .pre .1) (listed .row-neighbours .ensures .0) (listed .row-neighbours .ensures .1) (c .if1 .taken)
-
-cast-count-ends : tie.Need-cast-count-ends
-cast-count-ends c = search needs
-
-count-ends-requires : tie.Need-count-ends-requires
-count-ends-requires c κs = search needs
-
-same-length-2 : tie.Need-same-length-2
-same-length-2 c = search needs
 
 returns-2 : tie.Need-returns-2
 returns-2 c =
@@ -36,14 +21,8 @@ returns-2 c =
     row-ends-bad (call .n) (call .links .now) (call .numbers .now) (call .places .now) (call .a) (call .list .now) _ _ (start .pre .0) (start .pre .1) (listed .row-neighbours .ensures .0) (listed .row-neighbours .ensures .1)
     (c .before .before .before .before .if1 .left) _ _ _ (c .before .before .count-ends .ensures) (not-true _ (c .if2 .taken))
 
-shared-slice-read-number : tie.Need-shared-slice-read-number
-shared-slice-read-number c = search needs
-
 cast-number : tie.Need-cast-number
 cast-number c = omega (arith, c .shared-slice-known4 .given (c .before .before .before .before .before .before .before .before .before .before .before .before .before .before .args .a))
-
-same-length-3 : tie.Need-same-length-3
-same-length-3 c = search needs
 
 returns-3 : tie.Need-returns-3
 returns-3 c =
@@ -53,9 +32,6 @@ returns-3 c =
     row-later-bad (call .n) (call .links .now) (call .numbers .now) (call .places .now) (call .a) (call .list .now) _ _ (start .pre .0) (start .pre .1) (listed .row-neighbours .ensures .0) (listed .row-neighbours .ensures .1)
     (c .before .before .before .before .before .before .before .if1 .left) _ _ _ (c .before .before .before .before .before .count-ends .ensures) (not-false _ (c .before .before .before .if2 .left)) (c .if3 .taken)
 
-same-length-4 : tie.Need-same-length-4
-same-length-4 c = search needs
-
 returns-4 : tie.Need-returns-4
 returns-4 c =
     let listed = c .before .before .before .before .before .before .before .before .before .before .before .before in
@@ -63,9 +39,6 @@ returns-4 c =
     let call = start .args in
     row-high-bad (call .n) (call .links .now) (call .numbers .now) (call .places .now) (call .a) (call .list .now) _ _ (start .pre .0) (start .pre .1) (listed .row-neighbours .ensures .0) (listed .row-neighbours .ensures .1)
     (c .before .before .before .before .before .before .before .before .before .if1 .left) _ _ _ (c .before .before .before .before .before .before .before .count-ends .ensures) (not-false _ (c .before .before .before .before .before .if2 .left)) (c .before .before .if3 .left) (c .if4 .taken)
-
-same-length-5 : tie.Need-same-length-5
-same-length-5 c = search needs
 
 returns-5 : tie.Need-returns-5
 returns-5 c =
@@ -77,20 +50,6 @@ returns-5 c =
 
 pub row-checked-spec : {M : Type 1} → statement M
 row-checked-spec =
-    tie.close
-    (tie.spec
-    row-neighbours-requires
-    same-length
-    returns
-    cast-count-ends
-    count-ends-requires
-    same-length-2
-    returns-2
-    shared-slice-read-number
-    cast-number
-    same-length-3
-    returns-3
-    same-length-4
-    returns-4
-    same-length-5
-    returns-5)
+    tie.close (
+    tie.spec (λ c κs. search needs) (λ c. search needs) returns (λ c. search needs) (λ c κs. search needs) (λ c. search needs) returns-2 (λ c. search needs)
+    cast-number (λ c. search needs) returns-3 (λ c. search needs) returns-4 (λ c. search needs) returns-5)

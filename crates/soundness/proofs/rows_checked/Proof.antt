@@ -1,10 +1,10 @@
 -- `soundness::rows_checked` meets its contract: the rows passed are good, so what is left decides, and their high counts are written.
 -- The measure is what is left of the radios.
-use Prim.Native.Nat.{_-_}
 use mathlib.Core.Path.{_≡_, refl}
+use Prim.Native.Nat.{_-_}
+use lib.ListN.{length}
 use borrow.Author.Needs.{needs}
 use borrow.Author.Tests.{not-true, not-false}
-use lib.ListN.{length}
 use Rattle.soundness.proofs.AllRows.{Rows-so-far, rows-none, rows-bad, rows-turn, rows-end}
 use Rattle.soundness.proofs.rows_checked.Statement.{statement}
 use Rattle.soundness.proofs.rows_checked.Tie as tie
@@ -20,15 +20,6 @@ loop-holds c =
     let call = c .before .before .before .before .before .args in
     (refl, rows-none (call .n) (call .links .now) (call .numbers .now) (call .places .now) (call .highs .now))
 
-row-checked-requires : tie.Need-row-checked-requires Inv-loop μ-loop
-row-checked-requires c κs = search needs
-
-same-length : tie.Need-same-length Inv-loop μ-loop
-same-length c = search needs
-
-same-length-2 : tie.Need-same-length-2 Inv-loop μ-loop
-same-length-2 c = search needs
-
 returns : tie.Need-returns Inv-loop μ-loop
 returns c =
     let at-loop = c .before .before .before .before .before .before .before in
@@ -36,33 +27,12 @@ returns c =
     let call = start .args in
     rows-bad (call .n) (call .links .now) (call .numbers .now) (call .places .now) (call .highs .now) _ _ (c .before .before .before .before .before .before .loop-test .taken) (at-loop .loop .inv .1) _ _ (c .before .before .before .before .row-checked .ensures) (not-true _ (c .if1 .taken))
 
-cast-highs : tie.Need-cast-highs Inv-loop μ-loop
-cast-highs c = search needs
-
-cast-highs-2 : tie.Need-cast-highs-2 Inv-loop μ-loop
-cast-highs-2 c = search needs
-
-slice-write-highs : tie.Need-slice-write-highs Inv-loop μ-loop
-slice-write-highs c = search needs
-
-add-a : tie.Need-add-a Inv-loop μ-loop
-add-a c = search needs
-
-loop-less : tie.Need-loop-less Inv-loop μ-loop
-loop-less c = search needs
-
 loop-again : tie.Need-loop-again Inv-loop μ-loop
 loop-again c =
     let at-loop = c .before .before .before .before .before .before .before .before in
     let start = at-loop .before .before .before .before .before .before in
     let call = start .args in
     (search needs, rows-turn (call .n) (call .links .now) (call .numbers .now) (call .places .now) (call .highs .now) _ _ (c .before .before .before .before .before .before .before .loop-test .taken) (at-loop .loop .inv .1) _ _ (start .pre .1) (c .before .before .before .before .before .row-checked .ensures) (not-false _ (c .before .if1 .left)))
-
-same-length-3 : tie.Need-same-length-3 Inv-loop μ-loop
-same-length-3 c = search needs
-
-same-length-4 : tie.Need-same-length-4 Inv-loop μ-loop
-same-length-4 c = search needs
 
 returns-2 : tie.Need-returns-2 Inv-loop μ-loop
 returns-2 c =
@@ -73,21 +43,6 @@ returns-2 c =
 
 pub rows-checked-spec : {M : Type 1} → statement M
 rows-checked-spec =
-    tie.close
-    (tie.spec
-    Inv-loop
-    μ-loop
-    loop-holds
-    row-checked-requires
-    same-length
-    same-length-2
-    returns
-    cast-highs
-    cast-highs-2
-    slice-write-highs
-    add-a
-    loop-less
-    loop-again
-    same-length-3
-    same-length-4
-    returns-2)
+    tie.close (
+    tie.spec Inv-loop μ-loop loop-holds (λ c κs. search needs) (λ c. search needs) (λ c. search needs) returns (λ c. search needs) (λ c. search needs)
+    (λ c. search needs) (λ c. search needs) (λ c. search needs) loop-again (λ c. search needs) (λ c. search needs) returns-2)

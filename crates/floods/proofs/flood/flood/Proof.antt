@@ -1,24 +1,19 @@
 -- `flood::flood` meets its contract: whom the radios walked so far lead to has come in (`Walking`). The measure is what is left
 -- of the radios.
-use Prim.Native.Nat.{ℕ, _-_}
-use native.Mathlib.Omega.{arith}
 use mathlib.Core.Path.{_≡_, refl, sym, ap, _∙_}
 use mathlib.Core.Bool.{true}
 use mathlib.Core.List.{List}
+use Prim.Native.Nat.{ℕ, _-_}
+use native.Mathlib.Omega.{arith}
 use lib.ListN.{length, length-set}
 use borrow.Author.Needs.{needs}
 use borrow.Author.Tests.{not-true, not-false}
 use Rattle.floods.proofs.FloodSteps.{floodable-true, flooded-not}
-use Rattle.mesh.proofs.TableLaws.{length-put-bit}
+use Rattle.mesh.proofs.Tables.Laws.{length-put-bit}
 use Rattle.floods.specs.Floods.{flood-at}
 use Rattle.floods.proofs.FloodLaws.{Walking, walking-next, flood-starts, flood-ends}
 use Rattle.floods.proofs.flood.flood.Statement.{statement}
 use Rattle.floods.proofs.flood.flood.Tie as tie
-use Rattle.floods.proofs.flood.flood.Reads as reads
-use Rattle.floods.proofs.flood.flood.Lts as lts
-use Rattle.floods.proofs.flood.is_floodable.Reads as is-floodable-reads
-use Rattle.floods.proofs.flood.take_ends.Reads as take-ends-reads
-use Rattle.rows.proofs.put_bit.Reads as put-bit-reads
 
 -- whatever the set was before: started right, the flood goes on right
 abbrev Inv-loop : tie.InvT-loop
@@ -29,35 +24,19 @@ Inv-loop links numbers level v set₀ queue₀ list₀ count₀ i₀ set queue l
 abbrev μ-loop : tie.MeasureT-loop
 μ-loop links numbers level v set₀ queue₀ list₀ count₀ i₀ set queue list count i = length numbers - i
 
--- src/flood.rt:80:9
-is-floodable-requires : tie.Need-is-floodable-requires Inv-loop μ-loop
-is-floodable-requires c κs = search needs
-
--- src/flood.rt:81:9
 returns : tie.Need-returns Inv-loop μ-loop
 returns c =
     let call = c .before .before .before .before .before .before .args in
     flooded-not (call .links .now) (call .numbers .now) (call .level) (call .v) (call .set .now) (call .queue .now) (sym (c .before .is-floodable .ensures) ∙ not-true _ (c .if1 .taken))
 
--- src/flood.rt:84:5
-put-bit-requires : tie.Need-put-bit-requires Inv-loop μ-loop
-put-bit-requires c κs = search needs
-
--- src/flood.rt:85:16
 cast-queue : tie.Need-cast-queue Inv-loop μ-loop
 cast-queue c =
     let sizes = floodable-true _ _ _ _ (sym (c .before .before .before .before .before .is-floodable .ensures) ∙ not-false _ (c .before .before .before .before .if1 .left)) in omega (arith, sizes .radio, sizes .small)
 
--- src/flood.rt:85:5
 slice-write-queue : tie.Need-slice-write-queue Inv-loop μ-loop
 slice-write-queue c =
     let sizes = floodable-true _ _ _ _ (sym (c .before .before .before .before .before .is-floodable .ensures) ∙ not-false _ (c .before .before .before .before .if1 .left)) in omega (arith, sizes .radio, sizes .room)
 
--- src/flood.rt:88:5
-loop-holds : tie.Need-loop-holds Inv-loop μ-loop
-loop-holds c = (refl, refl, refl, λ old h. h)
-
--- src/flood.rt:89:17
 mul-a : tie.Need-mul-a Inv-loop μ-loop
 mul-a c =
     let at-loop = c .before in
@@ -68,7 +47,6 @@ mul-a c =
     let sizes = floodable-true _ _ _ _ can in
     omega (arith, walked .flooding .few, sizes .small, c .loop-test .taken)
 
--- src/flood.rt:89:17
 slice-read-a : tie.Need-slice-read-a Inv-loop μ-loop
 slice-read-a c =
     let at-loop = c .before .before in
@@ -78,19 +56,6 @@ slice-read-a c =
     let walked = at-loop .loop .inv .3 (call .set .now) starts in
     omega (arith, walked .flooding .few, walked .flooding .room, c .before .loop-test .taken)
 
--- src/flood.rt:89:17
-cast-a : tie.Need-cast-a Inv-loop μ-loop
-cast-a c = omega (arith, c .slice-known4 .given (c .before .before .loop .i))
-
--- src/flood.rt:90:53
-slice-aggregate-take-ends : tie.Need-slice-aggregate-take-ends Inv-loop μ-loop
-slice-aggregate-take-ends c = sym (c .before .before .before .loop .inv .0)
-
--- src/flood.rt:90:9
-take-ends-requires : tie.Need-take-ends-requires Inv-loop μ-loop
-take-ends-requires c κs = c .before .before .before .before .before .loop .inv .0
-
--- src/flood.rt:91:9
 add-i : tie.Need-add-i Inv-loop μ-loop
 add-i c =
     let at-loop = c .before .before .before .before .before .before .before .before .before .before .before in
@@ -101,7 +66,6 @@ add-i c =
     let sizes = floodable-true _ _ _ _ can in
     omega (arith, walked .flooding .few, sizes .small, c .before .before .before .before .before .before .before .before .before .before .loop-test .taken)
 
--- src/flood.rt:88:5
 loop-less : tie.Need-loop-less Inv-loop μ-loop
 loop-less c =
     let at-loop = c .before .before .before .before .before .before .before .before .before .before .before in
@@ -111,7 +75,6 @@ loop-less c =
     let walked = at-loop .loop .inv .3 (call .set .now) starts in
     omega (arith, walked .flooding .few, c .before .before .before .before .before .before .before .before .before .before .loop-test .taken)
 
--- src/flood.rt:88:5
 loop-again : tie.Need-loop-again Inv-loop μ-loop
 loop-again c =
     let at-loop = c .before .before .before .before .before .before .before .before .before .before .before in
@@ -124,15 +87,12 @@ loop-again c =
       λ old h. walking-next (call .links .now) (call .numbers .now) (call .level) (call .v) old (sizes .small) (at-loop .loop .i) _ _ (c .before .before .before .before .before .before .before .before .before .before .loop-test .taken) (at-loop .loop .inv .3 old h) (c .before .before .before .before .before .take-ends .ensures),
     )
 
--- src/flood.rt:77:1
 same-length : tie.Need-same-length Inv-loop μ-loop
 same-length c = c .before .loop .inv .1 ∙ ap length (c .before .before .before .before .put-bit .ensures) ∙ length-put-bit true 0 (c .before .before .before .before .before .before .before .before .before .before .before .before .args .v) (c .before .before .before .before .before .before .before .before .before .before .before .before .args .set .now)
 
--- src/flood.rt:77:1
 same-length-2 : tie.Need-same-length-2 Inv-loop μ-loop
 same-length-2 c = c .before .loop .inv .2 ∙ length-set (c .before .before .before .before .before .before .before .before .before .before .before .before .args .queue .now) 0 (c .before .before .before .before .before .before .before .before .before .before .before .before .args .v)
 
--- src/flood.rt:77:1
 returns-2 : tie.Need-returns-2 Inv-loop μ-loop
 returns-2 c =
     let at-loop = c .before in
@@ -144,24 +104,7 @@ returns-2 c =
 
 pub flood-spec : {M : Type 1} → statement M
 flood-spec =
-    tie.close
-    (tie.spec
-    Inv-loop
-    μ-loop
-    is-floodable-requires
-    returns
-    put-bit-requires
-    cast-queue
-    slice-write-queue
-    loop-holds
-    mul-a
-    slice-read-a
-    cast-a
-    slice-aggregate-take-ends
-    take-ends-requires
-    add-i
-    loop-less
-    loop-again
-    same-length
-    same-length-2
-    returns-2)
+    tie.close (
+    tie.spec Inv-loop μ-loop (λ c κs. search needs) returns (λ c κs. search needs) cast-queue slice-write-queue (λ c. (refl, refl, refl, λ old h. h)) mul-a
+    slice-read-a (λ c. omega (arith, c .slice-known4 .given (c .before .before .loop .i))) (λ c. sym (c .before .before .before .loop .inv .0))
+    (λ c κs. c .before .before .before .before .before .loop .inv .0) add-i loop-less loop-again same-length same-length-2 returns-2)

@@ -1,38 +1,28 @@
 -- `flood::is_floodable` meets its contract: the tests are the ones of `floodable`, in its order.
-use Rattle.floods.proofs.FloodSteps.{floodable-many, floodable-past, floodable-set, floodable-queue}
 use borrow.Author.Needs.{needs}
+use Rattle.floods.proofs.FloodSteps.{floodable-many, floodable-past, floodable-set, floodable-queue}
 use Rattle.floods.proofs.flood.is_floodable.Statement.{statement}
 use Rattle.floods.proofs.flood.is_floodable.Tie as tie
-use Rattle.floods.proofs.flood.is_floodable.Reads as reads
-use Rattle.floods.proofs.flood.is_floodable.Lts as lts
 
--- src/flood.rt:61:9
-cast-if1 : tie.Need-cast-if1
-cast-if1 c = search needs
-
--- src/flood.rt:62:9
 returns : tie.Need-returns
 returns c =
     let call = c .before .args in
     floodable-many (call .radios) (call .v) (call .set) (call .queue) (c .if1 .taken)
 
--- src/flood.rt:65:9
 returns-2 : tie.Need-returns-2
 returns-2 c =
     let call = c .before .before .args in
     floodable-past (call .radios) (call .v) (call .set) (call .queue) (c .before .if1 .left) (c .if2 .taken)
 
--- src/flood.rt:68:9
 returns-3 : tie.Need-returns-3
 returns-3 c =
     let call = c .before .before .before .args in
     floodable-set (call .radios) (call .v) (call .set) (call .queue) (c .before .before .if1 .left) (c .before .if2 .left) (c .if3 .taken)
 
--- src/flood.rt:58:1
 returns-4 : tie.Need-returns-4
 returns-4 c =
     let call = c .before .before .before .args in
     floodable-queue (call .radios) (call .v) (call .set) (call .queue) (c .before .before .if1 .left) (c .before .if2 .left) (c .if3 .left)
 
 pub is-floodable-spec : {M : Type 1} → statement M
-is-floodable-spec = tie.close (tie.spec cast-if1 returns returns-2 returns-3 returns-4)
+is-floodable-spec = tie.close (tie.spec (λ c. search needs) returns returns-2 returns-3 returns-4)

@@ -3,13 +3,11 @@
 use Prim.Native.Nat.{_-_}
 use lib.ListN.{take}
 use borrow.Author.Needs.{needs}
-use Rattle.floods.specs.Floods.{flood-at}
-use Rattle.floods.proofs.FloodSteps.{Taking, taking-none, taking-turn, taking-end}
+use Rattle.floods.specs.Floods.{flood-at, taken-all}
+use Rattle.floods.proofs.FloodSteps.{Taking, taking-none, taking-turn}
+use Rattle.lists.proofs.Loops.{folding-front-end}
 use Rattle.floods.proofs.flood.take_all.Statement.{statement}
 use Rattle.floods.proofs.flood.take_all.Tie as tie
-use Rattle.floods.proofs.flood.take_all.Reads as reads
-use Rattle.floods.proofs.flood.take_all.Lts as lts
-use Rattle.floods.proofs.flood.take_one.Reads as take-one-reads
 
 abbrev Inv-loop : tie.InvT-loop
 Inv-loop numbers level list k set₀ queue₀ count c₀ i₀ set queue c i =
@@ -18,31 +16,6 @@ Inv-loop numbers level list k set₀ queue₀ count c₀ i₀ set queue c i =
 abbrev μ-loop : tie.MeasureT-loop
 μ-loop numbers level list k set₀ queue₀ count c₀ i₀ set queue c i = k - i
 
--- src/flood.rt:40:5
-loop-holds : tie.Need-loop-holds Inv-loop μ-loop
-loop-holds c = taking-none _ _ _ _
-
--- src/flood.rt:41:38
-mul-take-one : tie.Need-mul-take-one Inv-loop μ-loop
-mul-take-one c = search needs
-
--- src/flood.rt:41:38
-shared-slice-read-take-one : tie.Need-shared-slice-read-take-one Inv-loop μ-loop
-shared-slice-read-take-one c = search needs
-
--- src/flood.rt:41:9
-take-one-requires : tie.Need-take-one-requires Inv-loop μ-loop
-take-one-requires c κs = search needs
-
--- src/flood.rt:42:9
-add-i : tie.Need-add-i Inv-loop μ-loop
-add-i c = search needs
-
--- src/flood.rt:40:5
-loop-less : tie.Need-loop-less Inv-loop μ-loop
-loop-less c = search needs
-
--- src/flood.rt:40:5
 loop-again : tie.Need-loop-again Inv-loop μ-loop
 loop-again c =
     let at-loop = c .before .before .before .before .before .before .before .before .before in
@@ -51,33 +24,14 @@ loop-again c =
     taking-turn (call .numbers .now) (call .level) (call .list .now) (call .k) _ (at-loop .loop .i) (flood-at (at-loop .loop .set) (at-loop .loop .queue) (at-loop .loop .c)) _
     (start .pre) (c .before .before .before .before .before .before .before .before .loop-test .taken) (search needs) (search needs) (c .before .before .before .before .take-one .ensures) (at-loop .loop .inv)
 
--- src/flood.rt:34:1
-same-length : tie.Need-same-length Inv-loop μ-loop
-same-length c = c .before .loop .inv .set-long
-
--- src/flood.rt:34:1
-same-length-2 : tie.Need-same-length-2 Inv-loop μ-loop
-same-length-2 c = c .before .loop .inv .queue-long
-
--- src/flood.rt:34:1
 returns : tie.Need-returns Inv-loop μ-loop
+unfolding taken-all
 returns c =
     let start = c .before .before .before .before .before .before in
-    taking-end (start .args .numbers .now) (start .args .level) (start .args .list .now) (start .args .k) _ (c .before .loop .i) _ (c .loop-test .left) (start .pre) (c .before .loop .inv)
+    folding-front-end _ (start .args .list .now) (start .args .k) _ _ (c .before .loop .i) (start .pre) (c .loop-test .left) (c .before .loop .inv .folding)
 
 pub take-all-spec : {M : Type 1} → statement M
 take-all-spec =
-    tie.close
-    (tie.spec
-    Inv-loop
-    μ-loop
-    loop-holds
-    mul-take-one
-    shared-slice-read-take-one
-    take-one-requires
-    add-i
-    loop-less
-    loop-again
-    same-length
-    same-length-2
-    returns)
+    tie.close (
+    tie.spec Inv-loop μ-loop (λ c. taking-none _ _ _ _) (λ c. search needs) (λ c. search needs) (λ c κs. search needs) (λ c. search needs) (λ c. search needs)
+    loop-again (λ c. c .before .loop .inv .set-long) (λ c. c .before .loop .inv .queue-long) returns)

@@ -1,37 +1,25 @@
 -- `checks::refusal` meets its contract: each test is a question of the chain, and its "no" the number.
-use mathlib.Core.Path.{_∙_, sym}
 use borrow.Author.Tests.{not-true, not-false, eq-eqb, ne-eqb}
+use borrow.Author.Needs.{needs}
 use Rattle.mesh.specs.Image.{whole-blocks}
 use Rattle.calls.specs.Questions.{ask, block-refusal, blocks-refusal}
-use borrow.Author.Needs.{needs}
 use Rattle.image.proofs.checks.refusal.Statement.{statement}
 use Rattle.image.proofs.checks.refusal.Tie as tie
-use Rattle.image.proofs.checks.refusal.Reads as reads
-use Rattle.image.proofs.checks.refusal.Lts as lts
-use Rattle.image.proofs.checks.all_good.Reads as all-good-reads
 
--- src/checks.rt:73:9
 returns : tie.Need-returns
 unfolding block-refusal blocks-refusal ask whole-blocks
 returns c = rw (eq-eqb _ 0 (c .if1 .taken))
 
--- src/checks.rt:76:9
 returns-2 : tie.Need-returns-2
 unfolding block-refusal blocks-refusal ask whole-blocks
 returns-2 c = rw (ne-eqb _ 0 (c .before .if1 .left), ne-eqb _ 0 (c .if2 .taken))
 
--- src/checks.rt:78:9
-all-good-requires : tie.Need-all-good-requires
-all-good-requires c κs = search needs
-
--- src/checks.rt:79:9
 returns-3 : tie.Need-returns-3
 unfolding block-refusal blocks-refusal ask whole-blocks
 returns-3 c =
     let tested = c .before .before in
     rw (ne-eqb _ 0 (tested .before .if1 .left), eq-eqb _ 0 (tested .if2 .left), ← c .before .all-good .ensures, not-true (c .before .all-good .result) (c .if3 .taken))
 
--- src/checks.rt:68:1
 returns-4 : tie.Need-returns-4
 unfolding block-refusal blocks-refusal ask whole-blocks
 returns-4 c =
@@ -39,4 +27,4 @@ returns-4 c =
     rw (ne-eqb _ 0 (tested .before .if1 .left), eq-eqb _ 0 (tested .if2 .left), ← c .before .all-good .ensures, not-false (c .before .all-good .result) (c .if3 .left))
 
 pub refusal-spec : {M : Type 1} → statement M
-refusal-spec = tie.close (tie.spec returns returns-2 all-good-requires returns-3 returns-4)
+refusal-spec = tie.close (tie.spec returns returns-2 (λ c κs. search needs) returns-3 returns-4)

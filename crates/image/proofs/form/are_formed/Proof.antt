@@ -1,18 +1,14 @@
 -- `form::are_formed` meets its contract: the blocks passed are formed, so what is left decides. The measure is the blocks left.
-use mathlib.Core.Path.{_≡_, sym, ap₂, _∙_}
+use mathlib.Core.Path.{sym, ap₂, _∙_}
 use mathlib.Core.Bool.{Bool}
 use Prim.Native.Nat.{ℕ, _-_}
 use native.Mathlib.Omega.{arith}
 use borrow.Author.Tests.{not-true, not-false}
+use borrow.Author.Needs.{needs}
 use Rattle.image.specs.Form.{block-formed, kind-of, used-of, blocks-formed}
 use Rattle.image.proofs.CheckLaws.{Testing, testing-none, testing-turn, testing-stop, testing-end}
-use borrow.Author.Needs.{needs}
 use Rattle.image.proofs.form.are_formed.Statement.{statement}
 use Rattle.image.proofs.form.are_formed.Tie as tie
-use Rattle.image.proofs.form.are_formed.Reads as reads
-use Rattle.image.proofs.form.are_formed.Lts as lts
-use Rattle.image.proofs.form.is_block.Reads as is-block-reads
-use Rattle.image.proofs.form.plan_of.Reads as plan-of-reads
 
 abbrev Inv-loop : tie.InvT-loop
 Inv-loop image n m blocks i₀ i = Testing (λ (l : ℕ). block-formed image l (kind-of n l) (used-of n m l)) blocks i
@@ -20,19 +16,6 @@ Inv-loop image n m blocks i₀ i = Testing (λ (l : ℕ). block-formed image l (
 abbrev μ-loop : tie.MeasureT-loop
 μ-loop image n m blocks i₀ i = blocks - i
 
--- src/form.rt:102:5
-loop-holds : tie.Need-loop-holds Inv-loop μ-loop
-loop-holds c = testing-none _ _
-
--- src/form.rt:103:13
-plan-of-requires : tie.Need-plan-of-requires Inv-loop μ-loop
-plan-of-requires c κs = search needs
-
--- src/form.rt:104:13
-is-block-requires : tie.Need-is-block-requires Inv-loop μ-loop
-is-block-requires c κs = (omega arith, c .plan-of .ensures .2)
-
--- src/form.rt:105:13
 returns : tie.Need-returns Inv-loop μ-loop
 unfolding blocks-formed
 returns c =
@@ -44,15 +27,6 @@ returns c =
     let formed = tested .is-block .ensures ∙ ap₂ {C = Bool} (λ k u. block-formed image i k u) (plan .0) (plan .1) in
     sym (testing-stop _ _ _ (at-loop .loop .inv) (omega arith) (sym formed ∙ not-true (tested .is-block .result) (c .if1 .taken)))
 
--- src/form.rt:107:9
-add-i : tie.Need-add-i Inv-loop μ-loop
-add-i c = search needs
-
--- src/form.rt:102:5
-loop-less : tie.Need-loop-less Inv-loop μ-loop
-loop-less c = search needs
-
--- src/form.rt:102:5
 loop-again : tie.Need-loop-again Inv-loop μ-loop
 loop-again c =
     let tested = c .before in
@@ -63,22 +37,12 @@ loop-again c =
     let formed = tested .is-block .ensures ∙ ap₂ {C = Bool} (λ k u. block-formed image i k u) (plan .0) (plan .1) in
     testing-turn _ _ _ (at-loop .loop .inv) (omega arith) (sym formed ∙ not-false (tested .is-block .result) (c .if1 .left))
 
--- src/form.rt:97:1
 returns-2 : tie.Need-returns-2 Inv-loop μ-loop
 unfolding blocks-formed
 returns-2 c = sym (testing-end _ _ _ (c .before .loop .inv) (omega arith))
 
 pub are-formed-spec : {M : Type 1} → statement M
 are-formed-spec =
-    tie.close
-    (tie.spec
-    Inv-loop
-    μ-loop
-    loop-holds
-    plan-of-requires
-    is-block-requires
-    returns
-    add-i
-    loop-less
-    loop-again
-    returns-2)
+    tie.close (
+    tie.spec Inv-loop μ-loop (λ c. testing-none _ _) (λ c κs. search needs) (λ c κs. (omega arith, c .plan-of .ensures .2)) returns (λ c. search needs)
+    (λ c. search needs) loop-again returns-2)

@@ -1,17 +1,12 @@
 -- `reader::put_links` meets its contract: the links passed are marked. The measure is the links left.
-use mathlib.Core.Path.{_≡_, refl, sym, ap, _∙_}
-use Prim.Native.Nat.{ℕ, _-_, _≤_}
+use mathlib.Core.Path.{_≡_, refl, _∙_}
+use Prim.Native.Nat.{_-_, _≤_}
 use native.Mathlib.Omega.{arith}
 use lib.ListN.{length}
-use Rattle.image_reader.proofs.TableWritten.{Linking, linking-none, linking-turn, linking-end}
 use borrow.Author.Needs.{needs}
+use Rattle.image_reader.proofs.TableWritten.{Linking, linking-none, linking-turn, linking-end}
 use Rattle.image_reader.proofs.reader.put_links.Statement.{statement}
 use Rattle.image_reader.proofs.reader.put_links.Tie as tie
-use Rattle.image_reader.proofs.reader.put_links.Reads as reads
-use Rattle.image_reader.proofs.reader.put_links.Lts as lts
-use Rattle.image_reader.proofs.pairs.pair_at.Reads as pair-at-reads
-use Rattle.tables.proofs.fill.fill8.Reads as fill8-reads
-use Rattle.rows.proofs.put_link.Reads as put-link-reads
 
 abbrev Inv-loop : tie.InvT-loop
 Inv-loop image n m links₀ j₀ links j = (j ≤ m) × (length links ≡ length links₀) × Linking n image links j
@@ -19,34 +14,12 @@ Inv-loop image n m links₀ j₀ links j = (j ≤ m) × (length links ≡ length
 abbrev μ-loop : tie.MeasureT-loop
 μ-loop image n m links₀ j₀ links j = m - j
 
--- src/reader.rt:46:5
-fill8-requires : tie.Need-fill8-requires Inv-loop μ-loop
-fill8-requires c κs = search needs
-
--- src/reader.rt:48:5
 loop-holds : tie.Need-loop-holds Inv-loop μ-loop
 loop-holds c =
     let filled = c .before .before in
     let start = filled .before .before .before .before in
     (omega arith, refl, linking-none _ _ (start .args .links .now) _ (start .pre .2) (filled .fill8 .ensures))
 
--- src/reader.rt:49:13
-pair-at-requires : tie.Need-pair-at-requires Inv-loop μ-loop
-pair-at-requires c κs = search needs
-
--- src/reader.rt:50:9
-put-link-requires : tie.Need-put-link-requires Inv-loop μ-loop
-put-link-requires c κs = search needs
-
--- src/reader.rt:51:9
-add-j : tie.Need-add-j Inv-loop μ-loop
-add-j c = search needs
-
--- src/reader.rt:48:5
-loop-less : tie.Need-loop-less Inv-loop μ-loop
-loop-less c = search needs
-
--- src/reader.rt:48:5
 loop-again : tie.Need-loop-again Inv-loop μ-loop
 loop-again c =
     let put = c .before .before in
@@ -54,29 +27,17 @@ loop-again c =
     let start = at-loop .before .before .before .before .before .before .before in (
       omega arith,
       put .put-link .kept .0 ∙ at-loop .loop .inv .1,
-      linking-turn _ _ _ _ _ _ _ _ (start .pre .0) (start .pre .3) (omega arith) (put .before .before .pair-at .ensures) (at-loop .loop .inv .2) (put .put-link .ensures),
+      linking-turn _ _ _ _ _ _ _ _ (start .pre .0) (start .pre .3) (omega arith) (put .before .before .link-at .ensures) (at-loop .loop .inv .2) (put .put-link .ensures),
     )
 
--- src/reader.rt:42:1
 same-length : tie.Need-same-length Inv-loop μ-loop
 same-length c = c .before .loop .inv .1 ∙ c .before .before .before .before .fill8 .kept .0
 
--- src/reader.rt:42:1
 returns : tie.Need-returns Inv-loop μ-loop
 returns c = linking-end _ _ _ _ _ (c .before .loop .inv .2) (c .before .loop .inv .0) (omega arith)
 
 pub put-links-spec : {M : Type 1} → statement M
 put-links-spec =
-    tie.close
-    (tie.spec
-    Inv-loop
-    μ-loop
-    fill8-requires
-    loop-holds
-    pair-at-requires
-    put-link-requires
-    add-j
-    loop-less
-    loop-again
-    same-length
-    returns)
+    tie.close (
+    tie.spec Inv-loop μ-loop (λ c κs. search needs) loop-holds (λ c κs. search needs) (λ c κs. search needs) (λ c. search needs) (λ c. search needs)
+    loop-again same-length returns)

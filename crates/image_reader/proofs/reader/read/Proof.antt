@@ -1,23 +1,13 @@
 -- `reader::read` meets its contract: the questions in turn, then the reading over scratch for each radio.
-use mathlib.Core.Path.{_≡_, sym}
+use mathlib.Core.Path.{sym}
 use lib.Seq.{length-take-le}
+use borrow.Author.Needs.{needs}
 use Rattle.mesh.specs.Tables.{tables}
 use Rattle.calls.specs.Questions.{lengths-of}
 use Rattle.image_reader.proofs.ReadLaws.{read-not-lent, read-not-blocks, read-small, read-sized, read-room, read-asked}
-use borrow.Author.Needs.{needs}
 use Rattle.image_reader.proofs.reader.read.Statement.{statement}
 use Rattle.image_reader.proofs.reader.read.Tie as tie
-use Rattle.image_reader.proofs.reader.read.Reads as reads
-use Rattle.image_reader.proofs.reader.read.Lts as lts
-use Rattle.image.proofs.checks.refusal.Reads as refusal-reads
-use Rattle.image_reader.proofs.reader.read_site.Reads as read-site-reads
-use Rattle.tables.proofs.sizes.of_tables.Reads as of-tables-reads
 
--- src/reader.rt:95:9
-of-tables-requires : tie.Need-of-tables-requires
-of-tables-requires c κs = search needs
-
--- src/reader.rt:102:9
 returns : tie.Need-returns
 unfolding lengths-of
 returns c =
@@ -27,11 +17,6 @@ returns c =
     let bs = call .image .now in
     read-not-lent _ bs t _ (c .before .of-tables .ensures) (c .if1 .taken)
 
--- src/reader.rt:104:9
-refusal-requires : tie.Need-refusal-requires
-refusal-requires c κs = search needs
-
--- src/reader.rt:106:9
 returns-2 : tie.Need-returns-2
 unfolding lengths-of
 returns-2 c =
@@ -42,7 +27,6 @@ returns-2 c =
     let bs = call .image .now in
     read-not-blocks _ bs t _ (else1 .before .of-tables .ensures) (else1 .if1 .left) _ (c .before .refusal .ensures) (c .if2 .taken)
 
--- src/reader.rt:118:9
 array-borrow-prefix-listed : tie.Need-array-borrow-prefix-listed
 unfolding lengths-of
 array-borrow-prefix-listed c =
@@ -54,7 +38,6 @@ array-borrow-prefix-listed c =
     let t = tables (call .links .now) (call .numbers .now) (call .order .now) in
     let bs = call .image .now in read-small _ bs t _ (lent .of-tables .ensures) (else1 .if1 .left) _ (asked .refusal .ensures) (else2 .if2 .left)
 
--- src/reader.rt:118:9
 slice-aggregate-read-site : tie.Need-slice-aggregate-read-site
 unfolding lengths-of
 slice-aggregate-read-site c =
@@ -66,7 +49,6 @@ slice-aggregate-read-site c =
     let t = tables (call .links .now) (call .numbers .now) (call .order .now) in
     let bs = call .image .now in sym (length-take-le _ _ (read-small _ bs t _ (lent .of-tables .ensures) (else1 .if1 .left) _ (asked .refusal .ensures) (else2 .if2 .left)))
 
--- src/reader.rt:119:9
 array-borrow-prefix-ranks : tie.Need-array-borrow-prefix-ranks
 unfolding lengths-of
 array-borrow-prefix-ranks c =
@@ -78,7 +60,6 @@ array-borrow-prefix-ranks c =
     let t = tables (call .links .now) (call .numbers .now) (call .order .now) in
     let bs = call .image .now in read-small _ bs t _ (lent .of-tables .ensures) (else1 .if1 .left) _ (asked .refusal .ensures) (else2 .if2 .left)
 
--- src/reader.rt:119:9
 slice-aggregate-read-site-2 : tie.Need-slice-aggregate-read-site-2
 unfolding lengths-of
 slice-aggregate-read-site-2 c =
@@ -90,7 +71,6 @@ slice-aggregate-read-site-2 c =
     let t = tables (call .links .now) (call .numbers .now) (call .order .now) in
     let bs = call .image .now in sym (length-take-le _ _ (read-small _ bs t _ (lent .of-tables .ensures) (else1 .if1 .left) _ (asked .refusal .ensures) (else2 .if2 .left)))
 
--- src/reader.rt:120:9
 array-borrow-prefix-counts : tie.Need-array-borrow-prefix-counts
 unfolding lengths-of
 array-borrow-prefix-counts c =
@@ -102,7 +82,6 @@ array-borrow-prefix-counts c =
     let t = tables (call .links .now) (call .numbers .now) (call .order .now) in
     let bs = call .image .now in read-small _ bs t _ (lent .of-tables .ensures) (else1 .if1 .left) _ (asked .refusal .ensures) (else2 .if2 .left)
 
--- src/reader.rt:120:9
 slice-aggregate-read-site-3 : tie.Need-slice-aggregate-read-site-3
 unfolding lengths-of
 slice-aggregate-read-site-3 c =
@@ -114,7 +93,6 @@ slice-aggregate-read-site-3 c =
     let t = tables (call .links .now) (call .numbers .now) (call .order .now) in
     let bs = call .image .now in sym (length-take-le _ _ (read-small _ bs t _ (lent .of-tables .ensures) (else1 .if1 .left) _ (asked .refusal .ensures) (else2 .if2 .left)))
 
--- src/reader.rt:112:5
 read-site-requires : tie.Need-read-site-requires
 unfolding lengths-of
 read-site-requires c κs =
@@ -131,19 +109,6 @@ read-site-requires c κs =
       read-sized _ bs t _ (lent .of-tables .ensures) (else1 .if1 .left) _ (asked .refusal .ensures) (else2 .if2 .left),
     )
 
--- src/reader.rt:92:1
-same-length : tie.Need-same-length
-same-length c = search needs
-
--- src/reader.rt:92:1
-same-length-2 : tie.Need-same-length-2
-same-length-2 c = search needs
-
--- src/reader.rt:92:1
-same-length-3 : tie.Need-same-length-3
-same-length-3 c = search needs
-
--- src/reader.rt:92:1
 returns-3 : tie.Need-returns-3
 unfolding lengths-of
 returns-3 c =
@@ -159,20 +124,7 @@ returns-3 c =
 
 pub read-spec : {M : Type 1} → statement M
 read-spec =
-    tie.close
-    (tie.spec
-    of-tables-requires
-    returns
-    refusal-requires
-    returns-2
-    array-borrow-prefix-listed
-    slice-aggregate-read-site
-    array-borrow-prefix-ranks
-    slice-aggregate-read-site-2
-    array-borrow-prefix-counts
-    slice-aggregate-read-site-3
-    read-site-requires
-    same-length
-    same-length-2
-    same-length-3
-    returns-3)
+    tie.close (
+    tie.spec (λ c κs. search needs) returns (λ c κs. search needs) returns-2 array-borrow-prefix-listed slice-aggregate-read-site array-borrow-prefix-ranks
+    slice-aggregate-read-site-2 array-borrow-prefix-counts slice-aggregate-read-site-3 read-site-requires (λ c. search needs) (λ c. search needs)
+    (λ c. search needs) returns-3)

@@ -1,44 +1,18 @@
 -- `writer::fill_links` meets its contract: the payload of an opened block, which is then sealed.
-use mathlib.Core.Path.{_≡_, ap, _∙_}
+use mathlib.Core.Path.{ap, _∙_}
 use mathlib.Core.List.{List, flatMap}
 use Prim.Native.Nat.{ℕ}
 use lib.ListN.{take}
 use lib.Seq.{sets}
+use borrow.Author.Needs.{needs}
 use Rattle.mesh.specs.Image.{block-links, link-bytes}
 use Rattle.image_writer.specs.Filler.{sealed}
-use Rattle.image_writer.specs.Links.{links-from}
+use Rattle.link_list.specs.Links.{links-from}
 use Rattle.image_writer.proofs.FillerLaws.{sealed-payload}
 use Rattle.image_writer.proofs.BlockFilling.{length-links-bytes}
-use borrow.Author.Needs.{needs}
 use Rattle.image_writer.proofs.writer.fill_links.Statement.{statement}
 use Rattle.image_writer.proofs.writer.fill_links.Tie as tie
-use Rattle.image_writer.proofs.writer.fill_links.Reads as reads
-use Rattle.image_writer.proofs.writer.fill_links.Lts as lts
-use Rattle.image_writer.proofs.writer.close_block.Reads as close-block-reads
-use Rattle.image_writer.proofs.writer.open_block.Reads as open-block-reads
-use Rattle.image_writer.proofs.writer.put_links.Reads as put-links-reads
 
--- src/writer.rt:196:5
-open-block-requires : tie.Need-open-block-requires
-open-block-requires c κs = search needs
-
--- src/writer.rt:197:9
-put-links-requires : tie.Need-put-links-requires
-put-links-requires c κs = search needs
-
--- src/writer.rt:198:5
-close-block-requires : tie.Need-close-block-requires
-close-block-requires c κs = search needs
-
--- src/writer.rt:192:1
-same-length : tie.Need-same-length
-same-length c = search needs
-
--- src/writer.rt:192:1
-same-length-2 : tie.Need-same-length-2
-same-length-2 c = search needs
-
--- src/writer.rt:192:1
 returns : tie.Need-returns
 returns c =
     let closed = c .before .before in
@@ -57,11 +31,5 @@ returns c =
 
 pub fill-links-spec : {M : Type 1} → statement M
 fill-links-spec =
-    tie.close
-    (tie.spec
-    open-block-requires
-    put-links-requires
-    close-block-requires
-    same-length
-    same-length-2
-    returns)
+    tie.close (
+    tie.spec (λ c κs. search needs) (λ c κs. search needs) (λ c κs. search needs) (λ c. search needs) (λ c. search needs) returns)

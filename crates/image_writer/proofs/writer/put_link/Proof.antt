@@ -1,34 +1,14 @@
 -- `writer::put_link` meets its contract: the lower radio's bytes, then the higher one's.
-use mathlib.Core.Path.{_≡_, ap, sym, _∙_}
+use mathlib.Core.Path.{ap, sym, _∙_}
 use mathlib.Core.List.{List}
 use Prim.Native.Nat.{ℕ, _+_}
 use lib.Seq.{sets}
-use Rattle.mesh.specs.Image.{word, link-bytes}
-use Rattle.rows.proofs.Listing.{sets-append}
 use borrow.Author.Needs.{needs}
+use Rattle.mesh.specs.Image.{word, link-bytes}
+use Rattle.lists.proofs.Overwrite.{sets-append}
 use Rattle.image_writer.proofs.writer.put_link.Statement.{statement}
 use Rattle.image_writer.proofs.writer.put_link.Tie as tie
-use Rattle.image_writer.proofs.writer.put_link.Reads as reads
-use Rattle.image_writer.proofs.writer.put_link.Lts as lts
-use Rattle.image_writer.proofs.writer.put_word.Reads as put-word-reads
 
--- src/writer.rt:139:5
-put-word-requires : tie.Need-put-word-requires
-put-word-requires c κs = search needs
-
--- src/writer.rt:140:20
-add-put-word : tie.Need-add-put-word
-add-put-word c = search needs
-
--- src/writer.rt:140:5
-put-word-requires-2 : tie.Need-put-word-requires-2
-put-word-requires-2 c κs = search needs
-
--- src/writer.rt:135:1
-same-length : tie.Need-same-length
-same-length c = search needs
-
--- src/writer.rt:135:1
 returns : tie.Need-returns
 unfolding link-bytes word
 returns c =
@@ -40,4 +20,5 @@ returns c =
 
 pub put-link-spec : {M : Type 1} → statement M
 put-link-spec =
-    tie.close (tie.spec put-word-requires add-put-word put-word-requires-2 same-length returns)
+    tie.close (
+    tie.spec (λ c κs. search needs) (λ c. search needs) (λ c κs. search needs) (λ c. search needs) returns)

@@ -1,63 +1,32 @@
 -- `writer::write_blocks` meets its contract: the blocks so far stand in front of the buffer, and the cursor stands before the next
 -- one. The measure is the blocks left.
-use mathlib.Core.Path.{_≡_, sym, ap, _∙_}
-use mathlib.Core.List.{_++_, flatMap}
+use mathlib.Core.Path.{_≡_, refl, _∙_}
 use Prim.Native.Nat.{_+_, _*_, _-_, _≤_}
 use native.Mathlib.Omega.{arith}
 use lib.ListN.{length, drop, length-drop}
 use lib.Seq.{length-take-le}
 use borrow.Author.Needs.{needs}
 use borrow.Rule.Slice.PartMut.{same-len-mid}
-use Rattle.mesh.specs.Limits.{max-neighbours}
 use Rattle.mesh.specs.Image.{block-at}
-use Rattle.mesh.proofs.ImageOf.{length-block-at}
-use Rattle.image_writer.specs.Links.{marked-graph, Cursor-at}
+use Rattle.mesh.proofs.Images.Of.{length-block-at}
+use Rattle.image_writer.specs.Blocks.{marked-graph, Cursor-at}
 use Rattle.image_writer.proofs.BlockFilling.{Filling, filling-none, filling-turn, filling-end, cursor-first}
 use Rattle.image_writer.proofs.writer.write_blocks.Statement.{statement}
 use Rattle.image_writer.proofs.writer.write_blocks.Tie as tie
-use Rattle.image_writer.proofs.writer.write_blocks.Reads as reads
-use Rattle.image_writer.proofs.writer.write_blocks.Lts as lts
-use Rattle.image_writer.proofs.writer.fill_block.Reads as fill-block-reads
 
 abbrev Inv-loop : tie.InvT-loop
 Inv-loop blocks n count links order buffer₀ list₀ from₀ i₀ buffer list from i =
-    (i ≤ blocks) × (length list ≡ max-neighbours) × Cursor-at n links i (from .row) (from .place)
+    (i ≤ blocks) × (length list ≡ length list₀) × Cursor-at n links i (from .row) (from .place)
     × Filling (block-at (marked-graph n links) order) buffer₀ i buffer
 
 abbrev μ-loop : tie.MeasureT-loop
 μ-loop blocks n count links order buffer₀ list₀ from₀ i₀ buffer list from i = blocks - i
 
--- src/writer.rt:252:5
 loop-holds : tie.Need-loop-holds Inv-loop μ-loop
 loop-holds c =
     let start = c .before .before .before .before in
-    (omega arith, start .pre .1 .room, cursor-first _ _, filling-none _ _)
+    (omega arith, refl, cursor-first _ _, filling-none _ _)
 
--- src/writer.rt:253:34
-cast-at : tie.Need-cast-at Inv-loop μ-loop
-cast-at c = omega (arith, c .before .loop .inv .3 .long)
-
--- src/writer.rt:253:18
-mul-at : tie.Need-mul-at Inv-loop μ-loop
-mul-at c = omega (arith, c .before .loop .inv .3 .long)
-
--- src/writer.rt:254:19
-add-end : tie.Need-add-end Inv-loop μ-loop
-add-end c = omega (arith, c .before .loop .inv .3 .long)
-
--- src/writer.rt:256:13
-sub-fill-block : tie.Need-sub-fill-block Inv-loop μ-loop
-sub-fill-block c = omega (arith, c .before .loop .inv .3 .long)
-
--- src/writer.rt:256:13
-part-fill-block-start : tie.Need-part-fill-block-start Inv-loop μ-loop
-part-fill-block-start c = omega (arith, c .before .loop .inv .3 .long)
-
--- src/writer.rt:256:13
-part-fill-block-end : tie.Need-part-fill-block-end Inv-loop μ-loop
-part-fill-block-end c = omega (arith, c .before .loop .inv .3 .long)
-
--- src/writer.rt:255:9
 fill-block-requires : tie.Need-fill-block-requires Inv-loop μ-loop
 fill-block-requires c κs =
     let at-loop = c .before .before .before in
@@ -66,19 +35,14 @@ fill-block-requires c κs =
     let e : 512 * i + 512 - 512 * i ≡ 512 = omega arith in
     let w = start .pre .1 in (
       rw e (length-take-le 512 (drop (512 * i) (at-loop .loop .buffer)) (simp length-drop (omega (arith, at-loop .loop .inv .3 .long)))),
-      record { rows = w .rows; entries = w .entries; counted = w .counted; room = at-loop .loop .inv .1 },
+      record {
+        rows = record { most = w .rows .most; few = λ a l. omega (arith, w .rows .few a l, at-loop .loop .inv .1) };
+        entries = w .entries;
+        counted = w .counted;
+      },
       at-loop .loop .inv .2,
     )
 
--- src/writer.rt:265:9
-add-i : tie.Need-add-i Inv-loop μ-loop
-add-i c = search needs
-
--- src/writer.rt:252:5
-loop-less : tie.Need-loop-less Inv-loop μ-loop
-loop-less c = search needs
-
--- src/writer.rt:252:5
 loop-again : tie.Need-loop-again Inv-loop μ-loop
 loop-again c =
     let filled = c .before .before .before .before in
@@ -93,35 +57,11 @@ loop-again c =
           (omega arith) (same-len-mid (512 * i) (512 * i + 512 - 512 * i) (at-loop .loop .buffer) (filled .fill-block .last .0) (filled .fill-block .kept .0)) (filled .fill-block .ensures .is),
     )
 
--- src/writer.rt:238:1
-same-length : tie.Need-same-length Inv-loop μ-loop
-same-length c = c .before .loop .inv .3 .long
-
--- src/writer.rt:238:1
-same-length-2 : tie.Need-same-length-2 Inv-loop μ-loop
-same-length-2 c = c .before .loop .inv .1 ∙ sym (c .before .before .before .before .before .before .pre .1 .room)
-
--- src/writer.rt:238:1
-returns : tie.Need-returns Inv-loop μ-loop
-returns c = filling-end _ _ _ _ _ (c .before .loop .inv .3) (omega arith)
-
 pub write-blocks-spec : {M : Type 1} → statement M
 write-blocks-spec =
-    tie.close
-    (tie.spec
-    Inv-loop
-    μ-loop
-    loop-holds
-    cast-at
-    mul-at
-    add-end
-    sub-fill-block
-    part-fill-block-start
-    part-fill-block-end
-    fill-block-requires
-    add-i
-    loop-less
-    loop-again
-    same-length
-    same-length-2
-    returns)
+    tie.close (
+    tie.spec Inv-loop μ-loop loop-holds (λ c. omega (arith, c .before .loop .inv .3 .long)) (λ c. omega (arith, c .before .loop .inv .3 .long))
+    (λ c. omega (arith, c .before .loop .inv .3 .long)) (λ c. omega (arith, c .before .loop .inv .3 .long))
+    (λ c. omega (arith, c .before .loop .inv .3 .long)) (λ c. omega (arith, c .before .loop .inv .3 .long)) fill-block-requires (λ c. search needs)
+    (λ c. search needs) loop-again (λ c. c .before .loop .inv .3 .long) (λ c. c .before .loop .inv .1)
+    (λ c. filling-end _ _ _ _ _ (c .before .loop .inv .3) (omega arith)))

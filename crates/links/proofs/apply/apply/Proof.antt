@@ -1,15 +1,12 @@
 -- `apply::apply` meets its contract: each table is written by one call, and what these write is the accepted outcome.
 use mathlib.Core.Path.{refl}
 use lib.ListN.{length}
+use borrow.Author.Needs.{needs}
 use Rattle.mesh.specs.Tables.{tables}
 use Rattle.links.proofs.ChangeLaws.{counted-step-held}
 use Rattle.links.proofs.Applied.{radios-planned, stretch-fits, applied}
-use borrow.Author.Needs.{needs}
 use Rattle.links.proofs.apply.apply.Statement.{statement}
 use Rattle.links.proofs.apply.apply.Tie as tie
-
-put-link-requires : tie.Need-put-link-requires
-put-link-requires c κs = search needs
 
 list-changed-requires : tie.Need-list-changed-requires
 list-changed-requires c κs =
@@ -18,30 +15,12 @@ list-changed-requires c κs =
     let t = tables (x .links .now) (x .numbers .now) (x .order .now) in
     (s .pre .1 .taken-fits, s .pre .1 .long, radios-planned (x .up) (length (x .order .now)) (x .a) (x .b) t (x .answer .now) (s .pre .0) (x .plan .start) (x .plan .size) (x .plan .taken) (x .stretch .now) (s .pre .1))
 
-step-of-requires : tie.Need-step-of-requires
-step-of-requires c κs = search needs
-
-step-numbers-requires : tie.Need-step-numbers-requires
-step-numbers-requires c κs = search needs
-
 put-stretch-requires : tie.Need-put-stretch-requires
 put-stretch-requires c κs =
     let s = c .before .before .before .before .before .before .before .before .before .before .before .before .before .before .before .before .before .before .before .before in
     let x = s .args in
     let t = tables (x .links .now) (x .numbers .now) (x .order .now) in
     (stretch-fits (x .up) (length (x .order .now)) (x .a) (x .b) t (x .answer .now) (s .pre .0) (x .plan .start) (x .plan .size) (x .plan .taken) (x .stretch .now) (s .pre .1), s .pre .1 .long, s .pre .1 .taken-fits)
-
-same-length : tie.Need-same-length
-same-length c = search needs
-
-same-length-2 : tie.Need-same-length-2
-same-length-2 c = search needs
-
-same-length-3 : tie.Need-same-length-3
-same-length-3 c = search needs
-
-same-length-4 : tie.Need-same-length-4
-same-length-4 c = search needs
 
 returns : tie.Need-returns
 returns c =
@@ -57,15 +36,6 @@ returns c =
 
 pub apply-spec : {M : Type 1} → statement M
 apply-spec =
-    tie.close
-    (tie.spec
-    put-link-requires
-    list-changed-requires
-    step-of-requires
-    step-numbers-requires
-    put-stretch-requires
-    same-length
-    same-length-2
-    same-length-3
-    same-length-4
-    returns)
+    tie.close (
+    tie.spec (λ c κs. search needs) list-changed-requires (λ c κs. search needs) (λ c κs. search needs) put-stretch-requires (λ c. search needs)
+    (λ c. search needs) (λ c. search needs) (λ c. search needs) returns)

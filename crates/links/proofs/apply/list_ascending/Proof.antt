@@ -3,27 +3,12 @@ use mathlib.Core.Path.{refl, ap, _∙_}
 use mathlib.Core.List.{List}
 use Prim.Native.Nat.{ℕ}
 use lib.ListN.{length, take}
-use Rattle.mesh.specs.Lists.{overwrite}
+use borrow.Author.Needs.{needs}
+use Rattle.lists.specs.Lists.{overwrite}
 use Rattle.rows.specs.Rows.{row-listed}
 use Rattle.links.proofs.Marking.{row-listed-all-marked}
-use borrow.Author.Needs.{needs}
 use Rattle.links.proofs.apply.list_ascending.Statement.{statement}
 use Rattle.links.proofs.apply.list_ascending.Tie as tie
-
-slice-aggregate-mark-all : tie.Need-slice-aggregate-mark-all
-slice-aggregate-mark-all c = search needs
-
-mark-all-requires : tie.Need-mark-all-requires
-mark-all-requires c κs = search needs
-
-slice-aggregate-row-neighbours : tie.Need-slice-aggregate-row-neighbours
-slice-aggregate-row-neighbours c = search needs
-
-row-neighbours-requires : tie.Need-row-neighbours-requires
-row-neighbours-requires c κs = search needs
-
-same-length : tie.Need-same-length
-same-length c = search needs
 
 returns : tie.Need-returns
 returns c =
@@ -38,11 +23,5 @@ returns c =
 
 pub list-ascending-spec : {M : Type 1} → statement M
 list-ascending-spec =
-    tie.close
-    (tie.spec
-    slice-aggregate-mark-all
-    mark-all-requires
-    slice-aggregate-row-neighbours
-    row-neighbours-requires
-    same-length
-    returns)
+    tie.close (
+    tie.spec (λ c. search needs) (λ c κs. search needs) (λ c. search needs) (λ c κs. search needs) (λ c. search needs) returns)

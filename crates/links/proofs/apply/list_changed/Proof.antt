@@ -5,35 +5,19 @@ use Prim.Native.Nat.{ℕ}
 use native.Mathlib.Nat.{le-trans}
 use lib.ListN.{length, take}
 use lib.Seq.{length-take-le}
+use borrow.Author.Needs.{needs}
 use Rattle.mesh.specs.Limits.{max-radios}
-use Rattle.mesh.specs.Lists.{overwrite}
-use Rattle.soundness.specs.Checks.{Entries-below}
+use Rattle.lists.specs.Lists.{overwrite, Entries-below}
 use Rattle.links.specs.Changes.{in-order}
 use Rattle.links.proofs.ChangeLaws.{changed-part-up, changed-part-down}
-use borrow.Author.Needs.{needs}
 use Rattle.links.proofs.apply.list_changed.Statement.{statement}
 use Rattle.links.proofs.apply.list_changed.Tie as tie
-
-mul-list-ascending : tie.Need-mul-list-ascending
-mul-list-ascending c = search needs
-
-sub-list-ascending : tie.Need-sub-list-ascending
-sub-list-ascending c = search needs
-
-part-list-ascending-start : tie.Need-part-list-ascending-start
-part-list-ascending-start c = search needs
-
-part-list-ascending-end : tie.Need-part-list-ascending-end
-part-list-ascending-end c = search needs
 
 list-ascending-requires : tie.Need-list-ascending-requires
 list-ascending-requires c κs =
     let s = c .before .before .before .before .before in
     let is = changed-part-up (s .args .up) (s .args .taken) (s .args .size) (s .args .stretch .now) (c .before .before .if1 .taken) in
     subst (Entries-below max-radios) is (s .pre .2)
-
-same-length : tie.Need-same-length
-same-length c = search needs
 
 returns : tie.Need-returns
 returns c =
@@ -55,9 +39,6 @@ list-ascending-requires-2 c κs =
     let is = changed-part-down (s .args .up) (s .args .taken) (s .args .size) (s .args .stretch .now) (c .before .before .if1 .left) in
     subst (Entries-below max-radios) is (s .pre .2)
 
-same-length-2 : tie.Need-same-length-2
-same-length-2 c = search needs
-
 returns-2 : tie.Need-returns-2
 returns-2 c =
     let s = c .before .before .before .before .before .before .before .before in
@@ -70,16 +51,6 @@ returns-2 c =
 
 pub list-changed-spec : {M : Type 1} → statement M
 list-changed-spec =
-    tie.close
-    (tie.spec
-    mul-list-ascending
-    sub-list-ascending
-    part-list-ascending-start
-    part-list-ascending-end
-    list-ascending-requires
-    same-length
-    returns
-    slice-aggregate-list-ascending
-    list-ascending-requires-2
-    same-length-2
-    returns-2)
+    tie.close (
+    tie.spec (λ c. search needs) (λ c. search needs) (λ c. search needs) (λ c. search needs) list-ascending-requires (λ c. search needs) returns
+    slice-aggregate-list-ascending list-ascending-requires-2 (λ c. search needs) returns-2)

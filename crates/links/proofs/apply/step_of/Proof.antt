@@ -3,14 +3,5 @@ use Rattle.links.proofs.ChangeLaws.{counted-step-none, counted-step-up,
 use Rattle.links.proofs.apply.step_of.Statement.{statement}
 use Rattle.links.proofs.apply.step_of.Tie as tie
 
-returns : tie.Need-returns
-returns c = counted-step-none _ _ (c .if1 .taken)
-
-returns-2 : tie.Need-returns-2
-returns-2 c = counted-step-up _ _ (c .before .if1 .left) (c .if2 .taken)
-
-returns-3 : tie.Need-returns-3
-returns-3 c = counted-step-down _ _ (c .before .if1 .left) (c .if2 .left)
-
 pub step-of-spec : {M : Type 1} → statement M
-step-of-spec = tie.close (tie.spec returns returns-2 returns-3)
+step-of-spec = tie.close (tie.spec (λ c. counted-step-none _ _ (c .if1 .taken)) (λ c. counted-step-up _ _ (c .before .if1 .left) (c .if2 .taken)) (λ c. counted-step-down _ _ (c .before .if1 .left) (c .if2 .left)))

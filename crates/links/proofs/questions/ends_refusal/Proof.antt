@@ -3,11 +3,11 @@
 use mathlib.Core.Path.{sym, _∙_}
 use native.Mathlib.Omega.{arith}
 use borrow.Author.Tests.{not-true, not-false}
+use borrow.Author.Needs.{needs}
 use Rattle.mesh.specs.Limits.{max-neighbours}
 use Rattle.mesh.specs.Tables.{graph-in}
-use Rattle.links.proofs.EndsLaws.{linked-marked, degree-listed, ends-four-first, ends-four-second, ends-five, ends-six, ends-down}
-use Rattle.links.proofs.EndsLaws.{ends-seven-first, ends-seven-second, ends-up}
-use borrow.Author.Needs.{needs}
+use Rattle.links.proofs.EndsLaws.{linked-marked, degree-listed, ends-four-first, ends-four-second, ends-five, ends-six, ends-down, ends-seven-first}
+use Rattle.links.proofs.EndsLaws.{ends-seven-second, ends-up}
 use Rattle.links.proofs.questions.ends_refusal.Statement.{statement}
 use Rattle.links.proofs.questions.ends_refusal.Tie as tie
 
@@ -32,9 +32,6 @@ returns-3 c =
     let g = graph-in (x .n) (x .links .now) in
     ends-five max-neighbours (x .up) (x .n) (x .a) (x .b) g (c .before .before .if1 .left) (c .before .if2 .left) (c .if3 .taken)
 
-is-marked-requires : tie.Need-is-marked-requires
-is-marked-requires c κs = search needs
-
 returns-4 : tie.Need-returns-4
 returns-4 c =
     let s = c .before .before .before .before .before .before in
@@ -55,9 +52,6 @@ returns-5 c =
     let says = linked-marked max-neighbours (x .n) (x .links .now) (s .pre .0) (s .pre .1) (s .pre .2) (x .a) (x .b) la lb ∙ sym (c .before .before .is-marked .ensures) in
     ends-down max-neighbours (x .up) (x .n) (x .a) (x .b) g la lb (c .before .before .before .if3 .left) (c .before .before .is-marked .result) says (c .before .if4 .left) (not-true (x .up) (c .if5 .taken))
 
-row-degree-requires : tie.Need-row-degree-requires
-row-degree-requires c κs = search needs
-
 returns-6 : tie.Need-returns-6
 returns-6 c =
     let s = c .before .before .before .before .before .before .before .before .before in
@@ -68,9 +62,6 @@ returns-6 c =
     let says = linked-marked max-neighbours (x .n) (x .links .now) (s .pre .0) (s .pre .1) (s .pre .2) (x .a) (x .b) la lb ∙ sym (c .before .before .before .before .is-marked .ensures) in
     let near = degree-listed max-neighbours (x .n) (x .links .now) (s .pre .0) (s .pre .1) (s .pre .2) in
     ends-seven-first max-neighbours (x .up) (x .n) (x .a) (x .b) g la lb (c .before .before .before .before .before .if3 .left) (c .before .before .before .before .is-marked .result) says (c .before .before .before .if4 .left) (not-false (x .up) (c .before .before .if5 .left)) (omega (arith, near (x .a) la, c .before .row-degree .ensures))
-
-row-degree-requires-2 : tie.Need-row-degree-requires-2
-row-degree-requires-2 c κs = search needs
 
 returns-7 : tie.Need-returns-7
 returns-7 c =
@@ -96,16 +87,6 @@ returns-8 c =
 
 pub ends-refusal-spec : {M : Type 1} → statement M
 ends-refusal-spec =
-    tie.close
-    (tie.spec
-    returns
-    returns-2
-    returns-3
-    is-marked-requires
-    returns-4
-    returns-5
-    row-degree-requires
-    returns-6
-    row-degree-requires-2
-    returns-7
+    tie.close (
+    tie.spec returns returns-2 returns-3 (λ c κs. search needs) returns-4 returns-5 (λ c κs. search needs) returns-6 (λ c κs. search needs) returns-7
     returns-8)

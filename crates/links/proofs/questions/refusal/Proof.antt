@@ -1,15 +1,12 @@
 -- `questions::refusal` meets its contract: the first two questions are put to the lengths, the third by the check, whose
 -- scratch is long enough, and the others to rows that are then proper.
 use borrow.Author.Tests.{not-true, not-false}
+use borrow.Author.Needs.{needs}
 use Rattle.mesh.specs.Tables.{tables}
 use Rattle.calls.specs.Questions.{lengths-of}
 use Rattle.links.proofs.Asking.{rows-asked, lent-asked, refused-lengths, sound-asked, refused-unsound, asked-all}
-use borrow.Author.Needs.{needs}
 use Rattle.links.proofs.questions.refusal.Statement.{statement}
 use Rattle.links.proofs.questions.refusal.Tie as tie
-
-with-answer-requires : tie.Need-with-answer-requires
-with-answer-requires c κs = search needs
 
 returns : tie.Need-returns
 unfolding lengths-of
@@ -18,15 +15,6 @@ returns c =
     let x = s .args in
     let t = tables (x .links .now) (x .numbers .now) (x .order .now) in
     refused-lengths (x .up) (x .n) (x .a) (x .b) t (x .answer) (c .before .with-answer .result) (x .places .now) (x .highs .now) (c .before .with-answer .ensures) (c .if1 .taken)
-
-examine-requires : tie.Need-examine-requires
-examine-requires c κs = search needs
-
-same-length : tie.Need-same-length
-same-length c = search needs
-
-same-length-2 : tie.Need-same-length-2
-same-length-2 c = search needs
 
 returns-2 : tie.Need-returns-2
 unfolding lengths-of
@@ -52,12 +40,6 @@ ends-refusal-requires c κs =
     let found = checked .examine in
     (good .most, good .lengths .links, rows-asked (x .up) (x .n) (x .a) (x .b) t (x .answer) good (sound-asked (x .up) (x .n) (x .a) (x .b) t (x .answer) good (x .places .now) _ (x .highs .now) _ (s .pre .0) (s .pre .1) (found .result) (found .ensures) (not-false (found .result) (c .if2 .left))))
 
-same-length-3 : tie.Need-same-length-3
-same-length-3 c = search needs
-
-same-length-4 : tie.Need-same-length-4
-same-length-4 c = search needs
-
 returns-3 : tie.Need-returns-3
 unfolding lengths-of
 returns-3 c =
@@ -72,15 +54,6 @@ returns-3 c =
 
 pub refusal-spec : {M : Type 1} → statement M
 refusal-spec =
-    tie.close
-    (tie.spec
-    with-answer-requires
-    returns
-    examine-requires
-    same-length
-    same-length-2
-    returns-2
-    ends-refusal-requires
-    same-length-3
-    same-length-4
-    returns-3)
+    tie.close (
+    tie.spec (λ c κs. search needs) returns (λ c κs. search needs) (λ c. search needs) (λ c. search needs) returns-2 ends-refusal-requires (λ c. search needs)
+    (λ c. search needs) returns-3)

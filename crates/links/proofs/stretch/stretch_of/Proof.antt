@@ -6,11 +6,9 @@ use native.Mathlib.Omega.{arith}
 use lib.Dec.{ltb, eqb}
 use lib.ListN.{length, getD}
 use borrow.Author.Needs.{needs}
-use Rattle.links.proofs.StretchLoops.{Counted-from, counted-fits, counted-turn, counted-end}
+use Rattle.lists.proofs.Loops.{Counted-from, counted-fits, counted-turn, counted-end}
 use Rattle.links.proofs.stretch.stretch_of.Statement.{statement}
 use Rattle.links.proofs.stretch.stretch_of.Tie as tie
-use Rattle.links.proofs.stretch.stretch_of.Reads as reads
-use Rattle.links.proofs.stretch.stretch_of.Lts as lts
 
 abbrev Inv-loop : tie.InvT-loop
 Inv-loop numbers level start₀ size₀ i₀ start size i =
@@ -19,49 +17,18 @@ Inv-loop numbers level start₀ size₀ i₀ start size i =
 abbrev μ-loop : tie.MeasureT-loop
 μ-loop numbers level start₀ size₀ i₀ start size i = length numbers - i
 
--- src/stretch.rt:24:5
-loop-holds : tie.Need-loop-holds Inv-loop μ-loop
-loop-holds c = (omega arith, (omega arith, omega arith), (omega arith, omega arith))
-
--- src/stretch.rt:25:19
-shared-slice-read-start : tie.Need-shared-slice-read-start Inv-loop μ-loop
-shared-slice-read-start c = search needs
-
--- src/stretch.rt:25:18
-cast-start : tie.Need-cast-start Inv-loop μ-loop
-cast-start c = search needs
-
--- src/stretch.rt:25:9
 add-start : tie.Need-add-start Inv-loop μ-loop
 add-start c =
     let at-loop = c .before .before in
     let call = at-loop .before .args in
     counted-fits (at-loop .loop .start) (at-loop .loop .i) (ltb (getD (call .numbers .now) (at-loop .loop .i) 0) (call .level)) (c .before .before .loop .inv .1 .0) (search needs)
 
--- src/stretch.rt:26:18
-shared-slice-read-size : tie.Need-shared-slice-read-size Inv-loop μ-loop
-shared-slice-read-size c = search needs
-
--- src/stretch.rt:26:17
-cast-size : tie.Need-cast-size Inv-loop μ-loop
-cast-size c = search needs
-
--- src/stretch.rt:26:9
 add-size : tie.Need-add-size Inv-loop μ-loop
 add-size c =
     let at-loop = c .before .before .before in
     let call = at-loop .before .args in
     counted-fits (at-loop .loop .size) (at-loop .loop .i) (eqb (getD (call .numbers .now) (at-loop .loop .i) 0) (call .level)) (c .before .before .before .loop .inv .2 .0) (search needs)
 
--- src/stretch.rt:27:9
-add-i : tie.Need-add-i Inv-loop μ-loop
-add-i c = search needs
-
--- src/stretch.rt:24:5
-loop-less : tie.Need-loop-less Inv-loop μ-loop
-loop-less c = search needs
-
--- src/stretch.rt:24:5
 loop-again : tie.Need-loop-again Inv-loop μ-loop
 loop-again c =
     let at-loop = c .before .before .before in
@@ -69,7 +36,6 @@ loop-again c =
     let l : i < length (at-loop .before .args .numbers .now) = c .before .before .loop-test .taken in
     (omega arith, counted-turn _ _ (at-loop .loop .start) i l (at-loop .loop .inv .1), counted-turn _ _ (at-loop .loop .size) i l (at-loop .loop .inv .2))
 
--- src/stretch.rt:17:1
 returns : tie.Need-returns Inv-loop μ-loop
 returns c =
     let at-loop = c .before in
@@ -78,18 +44,6 @@ returns c =
 
 pub stretch-of-spec : {M : Type 1} → statement M
 stretch-of-spec =
-    tie.close
-    (tie.spec
-    Inv-loop
-    μ-loop
-    loop-holds
-    shared-slice-read-start
-    cast-start
-    add-start
-    shared-slice-read-size
-    cast-size
-    add-size
-    add-i
-    loop-less
-    loop-again
-    returns)
+    tie.close (
+    tie.spec Inv-loop μ-loop (λ c. (omega arith, (omega arith, omega arith), (omega arith, omega arith))) (λ c. search needs) (λ c. search needs) add-start
+    (λ c. search needs) (λ c. search needs) add-size (λ c. search needs) (λ c. search needs) loop-again returns)

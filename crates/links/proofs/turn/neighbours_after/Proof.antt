@@ -1,63 +1,29 @@
 -- `turn::neighbours_after` meets its contract: the rows of both ends are read with one bit put, the other rows as they are.
-use native.Mathlib.Omega.{arith}
 use borrow.Author.Needs.{needs}
 use Rattle.links.proofs.NearLaws.{end-ready-a, end-ready-b, lists-a, lists-b, lists-other}
 use Rattle.links.proofs.turn.neighbours_after.Statement.{statement}
 use Rattle.links.proofs.turn.neighbours_after.Tie as tie
-use Rattle.links.proofs.turn.neighbours_after.Reads as reads
-use Rattle.links.proofs.turn.neighbours_after.Lts as lts
-use Rattle.links.proofs.turn.end_neighbours.Reads as end-neighbours-reads
-use Rattle.rows.proofs.row_neighbours.Reads as row-neighbours-reads
 
--- src/turn.rt:88:9
 end-neighbours-requires : tie.Need-end-neighbours-requires
 end-neighbours-requires c κs =
     let call = c .before .before .before .before .before .before in
     end-ready-a _ _ _ _ _ _ _ (c .before .before .if1 .taken) (call .pre)
 
--- src/turn.rt:88:9
-same-length : tie.Need-same-length
-same-length c = search needs
-
--- src/turn.rt:88:9
-same-length-2 : tie.Need-same-length-2
-same-length-2 c = search needs
-
--- src/turn.rt:88:9
 returns : tie.Need-returns
 returns c =
     let made = c .before .before .before .before in
     lists-a _ _ _ _ _ _ _ _ (made .before .before .before .if1 .taken) (made .before .before .before .before .before .before .before .pre) (made .end-neighbours .ensures)
 
--- src/turn.rt:91:9
 end-neighbours-requires-2 : tie.Need-end-neighbours-requires-2
 end-neighbours-requires-2 c κs =
     let call = c .before .before .before .before .before .before .before in
     end-ready-b _ _ _ _ _ _ _ (c .before .before .if2 .taken) (call .pre)
 
--- src/turn.rt:91:9
-same-length-3 : tie.Need-same-length-3
-same-length-3 c = search needs
-
--- src/turn.rt:91:9
-same-length-4 : tie.Need-same-length-4
-same-length-4 c = search needs
-
--- src/turn.rt:91:9
 returns-2 : tie.Need-returns-2
 returns-2 c =
     let made = c .before .before .before .before in
     lists-b _ _ _ _ _ _ _ _ (made .before .before .before .if2 .taken) (made .before .before .before .before .before .before .before .before .pre) (made .end-neighbours2 .ensures)
 
--- src/turn.rt:93:5
-row-neighbours-requires : tie.Need-row-neighbours-requires
-row-neighbours-requires c κs = search needs
-
--- src/turn.rt:83:1
-same-length-5 : tie.Need-same-length-5
-same-length-5 c = search needs
-
--- src/turn.rt:83:1
 returns-3 : tie.Need-returns-3
 returns-3 c =
     let made = c .before .before in
@@ -67,16 +33,6 @@ returns-3 c =
 
 pub neighbours-after-spec : {M : Type 1} → statement M
 neighbours-after-spec =
-    tie.close
-    (tie.spec
-    end-neighbours-requires
-    same-length
-    same-length-2
-    returns
-    end-neighbours-requires-2
-    same-length-3
-    same-length-4
-    returns-2
-    row-neighbours-requires
-    same-length-5
-    returns-3)
+    tie.close (
+    tie.spec end-neighbours-requires (λ c. search needs) (λ c. search needs) returns end-neighbours-requires-2 (λ c. search needs) (λ c. search needs)
+    returns-2 (λ c κs. search needs) (λ c. search needs) returns-3)

@@ -2,17 +2,14 @@
 -- is the radios that are left.
 use mathlib.Core.Path.{_≡_, sym}
 use mathlib.Core.Logic.{inl}
-use Prim.Native.Nat.{_+_, _-_}
+use Prim.Native.Nat.{_-_}
 use native.Mathlib.Omega.{arith}
-use lib.ListN.{length, take, getD}
+use lib.ListN.{take, getD}
 use lib.Seq.{length-take-le, getD-take}
 use borrow.Author.Needs.{needs}
 use Rattle.links.proofs.TurnLoops.{Releasing, releasing-none, releasing-next, releasing-turn, releasing-end}
 use Rattle.links.proofs.turn.release.Statement.{statement}
 use Rattle.links.proofs.turn.release.Tie as tie
-use Rattle.links.proofs.turn.release.Reads as reads
-use Rattle.links.proofs.turn.release.Lts as lts
-use Rattle.links.proofs.turn.release_one.Reads as release-one-reads
 
 abbrev Inv-loop : tie.InvT-loop
 Inv-loop near k level most numbers places counters₀ fits₀ i₀ counters fits i = Releasing numbers places level most (take k near) counters₀ fits₀ i counters fits
@@ -20,23 +17,12 @@ Inv-loop near k level most numbers places counters₀ fits₀ i₀ counters fits
 abbrev μ-loop : tie.MeasureT-loop
 μ-loop near k level most numbers places counters₀ fits₀ i₀ counters fits i = k - i
 
--- src/turn.rt:62:5
 loop-holds : tie.Need-loop-holds Inv-loop μ-loop
 loop-holds c = releasing-none _ _ _ _ _ _ _ (c .before .before .before .before .before .pre .1)
 
--- src/turn.rt:63:21
-mul-release-one : tie.Need-mul-release-one Inv-loop μ-loop
-mul-release-one c = search needs
-
--- src/turn.rt:63:21
-shared-slice-read-release-one : tie.Need-shared-slice-read-release-one Inv-loop μ-loop
-shared-slice-read-release-one c = search needs
-
--- src/turn.rt:63:21
 cast-release-one : tie.Need-cast-release-one Inv-loop μ-loop
 cast-release-one c = omega (arith, c .shared-slice-known4 .given (c .before .before .loop .i))
 
--- src/turn.rt:63:9
 release-one-requires : tie.Need-release-one-requires Inv-loop μ-loop
 release-one-requires c κs =
     let at-loop = c .before .before .before .before in
@@ -47,15 +33,6 @@ release-one-requires c κs =
     let known = next .known (getD (call .near .now) i 0) (inl at) in
     (known .0, known .1, known .2, next .above-zero (getD (call .near .now) i 0) (inl at))
 
--- src/turn.rt:64:9
-add-i : tie.Need-add-i Inv-loop μ-loop
-add-i c = search needs
-
--- src/turn.rt:62:5
-loop-less : tie.Need-loop-less Inv-loop μ-loop
-loop-less c = search needs
-
--- src/turn.rt:62:5
 loop-again : tie.Need-loop-again Inv-loop μ-loop
 loop-again c =
     let made = c .before .before .before .before in
@@ -65,15 +42,6 @@ loop-again c =
     releasing-turn _ _ _ _ _ _ _ i (getD (call .near .now) i 0) _ _ _ _ (omega (arith, length-take-le (call .k) (call .near .now) (omega arith)))
     (sym (getD-take (call .k) (call .near .now) i 0 (omega arith))) (made .release-one .ensures .0) (made .release-one .ensures .1) (at-loop .loop .inv)
 
--- src/turn.rt:56:1
-same-length : tie.Need-same-length Inv-loop μ-loop
-same-length c = c .before .loop .inv .long
-
--- src/turn.rt:56:1
-same-length-2 : tie.Need-same-length-2 Inv-loop μ-loop
-same-length-2 c = c .before .loop .inv .long-fits
-
--- src/turn.rt:56:1
 returns : tie.Need-returns Inv-loop μ-loop
 returns c =
     let call = c .before .before .before .before .before .before .before .args in
@@ -81,18 +49,6 @@ returns c =
 
 pub release-spec : {M : Type 1} → statement M
 release-spec =
-    tie.close
-    (tie.spec
-    Inv-loop
-    μ-loop
-    loop-holds
-    mul-release-one
-    shared-slice-read-release-one
-    cast-release-one
-    release-one-requires
-    add-i
-    loop-less
-    loop-again
-    same-length
-    same-length-2
-    returns)
+    tie.close (
+    tie.spec Inv-loop μ-loop loop-holds (λ c. search needs) (λ c. search needs) cast-release-one release-one-requires (λ c. search needs) (λ c. search needs)
+    loop-again (λ c. c .before .loop .inv .long) (λ c. c .before .loop .inv .long-fits) returns)

@@ -1,74 +1,37 @@
 -- `first::radios_of` meets its contract: the cases of the parser are the cases of `site-of`.
 use mathlib.Core.Path.{sym, _∙_}
 use native.Mathlib.Omega.{arith}
+use borrow.Author.Needs.{needs}
 use Rattle.player.specs.Play.{site-of}
 use Rattle.player.proofs.PlayLaws.{radios-of-line, site-of-radios, site-of-over}
-use borrow.Author.Needs.{needs}
 use Rattle.player.proofs.first.radios_of.Statement.{statement}
 use Rattle.player.proofs.first.radios_of.Tie as tie
-use Rattle.player.proofs.first.radios_of.Reads as reads
-use Rattle.player.proofs.first.radios_of.Lts as lts
-use Rattle.script.proofs.lines.parse.Reads as parse-reads
 
--- src/first.rt:19:11
-parse-requires : tie.Need-parse-requires
-parse-requires c κs = search needs
-
--- src/first.rt:20:22
-enum-known-n : tie.Need-enum-known-n
-enum-known-n c = search needs
-
--- src/first.rt:22:17
 returns : tie.Need-returns
 unfolding site-of
 returns c =
     let n = c .before .before .n .given in
     sym (site-of-over (n .0 .0) (omega arith)) ∙ radios-of-line _ (c .before .before .before .before .parse .ensures) (n .1)
 
--- src/first.rt:26:27
-enum-told : tie.Need-enum-told
-enum-told c = search needs
-
--- src/first.rt:27:29
-enum-told-2 : tie.Need-enum-told-2
-enum-told-2 c = search needs
-
--- src/first.rt:28:22
-enum-told-3 : tie.Need-enum-told-3
-enum-told-3 c = search needs
-
--- src/first.rt:16:1
 returns-2 : tie.Need-returns-2
 returns-2 c =
     let n = c .before .before .n .given in
     sym (site-of-radios (n .0 .0) (omega arith)) ∙ radios-of-line _ (c .before .before .before .before .parse .ensures) (n .1)
 
--- src/first.rt:16:1
 returns-3 : tie.Need-returns-3
 unfolding site-of
 returns-3 c = radios-of-line _ (c .before .before .parse .ensures) (c .enum-told .given .1)
 
--- src/first.rt:16:1
 returns-4 : tie.Need-returns-4
 unfolding site-of
 returns-4 c = radios-of-line _ (c .before .before .parse .ensures) (c .enum-told2 .given .1)
 
--- src/first.rt:16:1
 returns-5 : tie.Need-returns-5
 unfolding site-of
 returns-5 c = radios-of-line _ (c .before .before .parse .ensures) (c .enum-told3 .given .1)
 
 pub radios-of-spec : {M : Type 1} → statement M
 radios-of-spec =
-    tie.close
-    (tie.spec
-    parse-requires
-    enum-known-n
-    returns
-    enum-told
-    enum-told-2
-    enum-told-3
-    returns-2
-    returns-3
-    returns-4
+    tie.close (
+    tie.spec (λ c κs. search needs) (λ c. search needs) returns (λ c. search needs) (λ c. search needs) (λ c. search needs) returns-2 returns-3 returns-4
     returns-5)

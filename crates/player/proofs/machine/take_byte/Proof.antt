@@ -1,15 +1,15 @@
 -- `machine::take_byte` meets its contract: each way through it is one thing that the machine does with a byte.
 use mathlib.Core.Path.{refl, sym, _∙_}
-use native.Mathlib.Omega.{arith}
-use borrow.Author.Tests.{not-true, not-false}
-use lib.ListN.{length-set}
-use lib.Seq.{length-take-le}
 use mathlib.Core.Bool.{true}
 use Prim.Native.Nat.{_+_}
+use native.Mathlib.Omega.{arith}
+use lib.ListN.{length-set}
+use lib.Seq.{length-take-le}
+use borrow.Author.Tests.{not-true, not-false}
+use borrow.Author.Needs.{needs}
 use Rattle.mesh.specs.Tables.{tables}
 use Rattle.player.specs.declared.machine.Progress.{Progress}
 use Rattle.player.proofs.ByteLaws.{byte-over, byte-long, byte-held, byte-call, byte-bad}
-use borrow.Author.Needs.{needs}
 use Rattle.player.proofs.machine.take_byte.Statement.{statement}
 use Rattle.player.proofs.machine.take_byte.Tie as tie
 
@@ -66,32 +66,8 @@ returns-5 c =
 
 pub take-byte-spec : {M : Type 1} → statement M
 take-byte-spec =
-    tie.close
-    (tie.spec
-    returns
-    (λ c κs. search needs)
-    (λ c. search needs)
-    returns-2
-    (λ c. search needs)
-    (λ c. search needs)
-    (λ c. search needs)
-    returns-3
-    (λ c. simp length-set (omega arith))
-    (λ c. sym (length-take-le _ _ (simp length-set (omega arith))))
-    (λ c κs. search needs)
-    (λ c κs. search needs)
-    (λ c. search needs)
-    (λ c. search needs)
-    (λ c. search needs)
-    (λ c. search needs)
-    (λ c. search needs)
-    (λ c. search needs)
-    returns-4
-    (λ c. search needs)
-    (λ c. search needs)
-    (λ c. search needs)
-    (λ c. search needs)
-    (λ c. search needs)
-    (λ c. search needs)
-    (λ c. search needs)
-    returns-5)
+    tie.close (
+    tie.spec returns (λ c κs. search needs) (λ c. search needs) returns-2 (λ c. search needs) (λ c. search needs) (λ c. search needs) returns-3
+    (λ c. simp length-set (omega arith)) (λ c. sym (length-take-le _ _ (simp length-set (omega arith)))) (λ c κs. search needs) (λ c κs. search needs)
+    (λ c. search needs) (λ c. search needs) (λ c. search needs) (λ c. search needs) (λ c. search needs) (λ c. search needs) returns-4 (λ c. search needs)
+    (λ c. search needs) (λ c. search needs) (λ c. search needs) (λ c. search needs) (λ c. search needs) (λ c. search needs) returns-5)

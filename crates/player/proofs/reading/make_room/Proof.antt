@@ -6,8 +6,5 @@ use Rattle.player.proofs.reading.make_room.Tie as tie
 
 pub make-room-spec : {M : Type 1} → statement M
 make-room-spec =
-    tie.close
-    (tie.spec
-    (λ c. room-made-not _ (c .if1 .taken))
-    (λ c κs. search needs)
-    (λ c. room-made-full _ (search needs)))
+    tie.close (
+    tie.spec (λ c. room-made-not _ (c .if1 .taken)) (λ c κs. search needs) (λ c. room-made-full _ (search needs)))

@@ -2,11 +2,11 @@
 use mathlib.Core.Path.{_≡_, refl, sym, _∙_}
 use mathlib.Core.Bool.{true≢false}
 use native.Mathlib.Omega.{arith}
+use lib.ListN.{length}
 use borrow.Author.Needs.{needs}
 use borrow.Author.Tests.{not-true, not-false}
-use lib.ListN.{length}
 use Rattle.mesh.specs.Tables.{tables}
-use Rattle.printing.specs.Print.{lent}
+use Rattle.text.specs.Print.{buffer-at}
 use Rattle.player.specs.Machine.{spot}
 use Rattle.player.proofs.ReadingLaws.{Read-to, read-none, read-more, read-end, sized-as, sized-cleared, ready-turn}
 use Rattle.player.proofs.reading.read_turns.Statement.{statement}
@@ -16,7 +16,7 @@ abbrev Inv-loop : tie.InvT-loop
 Inv-loop fd most n line₀ links₀ numbers₀ order₀ answer₀ out₀ s₀ reads₀ line links numbers order answer out s reads =
     (length line ≡ length line₀) × (length links ≡ length links₀) × (length numbers ≡ length numbers₀) × (length order ≡ length order₀)
     × (length answer ≡ length answer₀) × (length out ≡ length out₀)
-    × Read-to n reads (tables links₀ numbers₀ order₀) answer₀ (lent out₀ 0) (spot (tables links numbers order) answer line s) s out
+    × Read-to n reads (tables links₀ numbers₀ order₀) answer₀ (buffer-at out₀ 0) (spot (tables links numbers order) answer line s) s out
 
 abbrev μ-loop : tie.MeasureT-loop
 μ-loop fd most n line₀ links₀ numbers₀ order₀ answer₀ out₀ s₀ reads₀ line links numbers order answer out s reads =
@@ -70,26 +70,7 @@ returns-2 c =
 
 pub read-turns-spec : {M : Type 1} → statement M
 read-turns-spec =
-    tie.close
-    (tie.spec
-    Inv-loop
-    μ-loop
-    loop-holds
-    (λ c. search needs)
-    turn-requires
-    (λ c. search needs)
-    loop-again
-    (λ c. search needs)
-    (λ c. search needs)
-    (λ c. search needs)
-    (λ c. search needs)
-    (λ c. search needs)
-    (λ c. search needs)
-    returns
-    (λ c. search needs)
-    (λ c. search needs)
-    (λ c. search needs)
-    (λ c. search needs)
-    (λ c. search needs)
-    (λ c. search needs)
-    returns-2)
+    tie.close (
+    tie.spec Inv-loop μ-loop loop-holds (λ c. search needs) turn-requires (λ c. search needs) loop-again (λ c. search needs) (λ c. search needs)
+    (λ c. search needs) (λ c. search needs) (λ c. search needs) (λ c. search needs) returns (λ c. search needs) (λ c. search needs) (λ c. search needs)
+    (λ c. search needs) (λ c. search needs) (λ c. search needs) returns-2)

@@ -2,10 +2,10 @@
 use mathlib.Core.Path.{_≡_, refl}
 use Prim.Native.Nat.{_-_}
 use native.Mathlib.Omega.{arith}
-use borrow.Author.Needs.{needs}
 use lib.ListN.{length}
+use borrow.Author.Needs.{needs}
 use Rattle.mesh.specs.Tables.{tables}
-use Rattle.printing.specs.Print.{lent}
+use Rattle.text.specs.Print.{buffer-at}
 use Rattle.player.specs.Machine.{spot}
 use Rattle.player.proofs.ReadingLaws.{Chunk-to, chunk-none, chunk-more, chunk-end}
 use Rattle.player.proofs.reading.take_chunk.Statement.{statement}
@@ -15,7 +15,7 @@ abbrev Inv-loop : tie.InvT-loop
 Inv-loop chunk n line₀ links₀ numbers₀ order₀ answer₀ out₀ s₀ i₀ line links numbers order answer out s i =
     (length line ≡ length line₀) × (length links ≡ length links₀) × (length numbers ≡ length numbers₀) × (length order ≡ length order₀)
     × (length answer ≡ length answer₀) × (length out ≡ length out₀)
-    × Chunk-to (length line₀) n chunk i (spot (tables links₀ numbers₀ order₀) answer₀ line₀ s₀) (lent out₀ (s₀ .at))
+    × Chunk-to (length line₀) n chunk i (spot (tables links₀ numbers₀ order₀) answer₀ line₀ s₀) (buffer-at out₀ (s₀ .at))
     (spot (tables links numbers order) answer line s) s out
 
 abbrev μ-loop : tie.MeasureT-loop
@@ -54,21 +54,6 @@ returns c =
 
 pub take-chunk-spec : {M : Type 1} → statement M
 take-chunk-spec =
-    tie.close
-    (tie.spec
-    Inv-loop
-    μ-loop
-    loop-holds
-    (λ c. search needs)
-    (λ c. search needs)
-    take-byte-requires
-    (λ c κs. search needs)
-    (λ c. search needs)
-    loop-again
-    (λ c. search needs)
-    (λ c. search needs)
-    (λ c. search needs)
-    (λ c. search needs)
-    (λ c. search needs)
-    (λ c. search needs)
-    returns)
+    tie.close (
+    tie.spec Inv-loop μ-loop loop-holds (λ c. search needs) (λ c. search needs) take-byte-requires (λ c κs. search needs) (λ c. search needs) loop-again
+    (λ c. search needs) (λ c. search needs) (λ c. search needs) (λ c. search needs) (λ c. search needs) (λ c. search needs) returns)

@@ -1,50 +1,29 @@
 -- `backbone::backbone` meets its contract: on sound tables the entries are the numbers, so the radios of the greatest entry are the
 -- backbone.
+use borrow.Author.Needs.{needs}
 use Rattle.mesh.specs.Tables.{tables}
 use Rattle.queries.proofs.LevelLaws.{backbone-refused, backbone-room, backbone-empty, backbone-listed}
-use borrow.Author.Needs.{needs}
 use Rattle.queries.proofs.backbone.backbone.Statement.{statement}
 use Rattle.queries.proofs.backbone.backbone.Tie as tie
-use Rattle.queries.proofs.backbone.backbone.Reads as reads
-use Rattle.queries.proofs.backbone.backbone.Lts as lts
-use Rattle.queries.proofs.backbone.greatest.Reads as greatest-reads
-use Rattle.queries.proofs.backbone.list_level.Reads as list-level-reads
-use Rattle.soundness.proofs.refusal.Reads as refusal-reads
 
--- src/backbone.rt:66:9
-refusal-requires : tie.Need-refusal-requires
-refusal-requires c κs = search needs
-
--- src/backbone.rt:68:9
 returns : tie.Need-returns
 returns c =
     let call = c .before .before .before .before .before .before .args in
     let t = tables (call .links .now) (call .numbers .now) (call .order .now) in
     backbone-refused (call .n) t (call .answer .now) _ (c .before .refusal .ensures) (c .if1 .taken)
 
--- src/backbone.rt:70:9
-greatest-requires : tie.Need-greatest-requires
-greatest-requires c κs = search needs
-
--- src/backbone.rt:72:9
 returns-2 : tie.Need-returns-2
 returns-2 c =
     let call = c .before .before .before .before .before .before .before .before .args in
     let t = tables (call .links .now) (call .numbers .now) (call .order .now) in
     backbone-empty (call .n) t (call .answer .now) _ (c .before .before .before .refusal .ensures) (c .before .before .if1 .left) _ (c .before .greatest .ensures) (c .if2 .taken)
 
--- src/backbone.rt:74:31
 list-level-requires : tie.Need-list-level-requires
 list-level-requires c κs =
     let call = c .before .before .before .before .before .before .before .before .before .args in
     let t = tables (call .links .now) (call .numbers .now) (call .order .now) in
     backbone-room (call .n) t (call .answer .now) _ (c .before .before .before .before .refusal .ensures) (c .before .before .before .if1 .left) _ (c .before .before .greatest .ensures)
 
--- src/backbone.rt:63:1
-same-length : tie.Need-same-length
-same-length c = search needs
-
--- src/backbone.rt:63:1
 returns-3 : tie.Need-returns-3
 returns-3 c =
     let call = c .before .before .before .before .before .before .before .before .before .before .before .before .args in
@@ -53,12 +32,5 @@ returns-3 c =
 
 pub backbone-spec : {M : Type 1} → statement M
 backbone-spec =
-    tie.close
-    (tie.spec
-    refusal-requires
-    returns
-    greatest-requires
-    returns-2
-    list-level-requires
-    same-length
-    returns-3)
+    tie.close (
+    tie.spec (λ c κs. search needs) returns (λ c κs. search needs) returns-2 list-level-requires (λ c. search needs) returns-3)

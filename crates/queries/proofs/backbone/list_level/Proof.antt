@@ -7,9 +7,6 @@ use borrow.Author.Needs.{needs}
 use Rattle.queries.proofs.LevelLaws.{Levelling, levelling-none, levelling-turn, levelling-end}
 use Rattle.queries.proofs.backbone.list_level.Statement.{statement}
 use Rattle.queries.proofs.backbone.list_level.Tie as tie
-use Rattle.queries.proofs.backbone.list_level.Reads as reads
-use Rattle.queries.proofs.backbone.list_level.Lts as lts
-use Rattle.queries.proofs.backbone.list_one.Reads as list-one-reads
 
 abbrev Inv-loop : tie.InvT-loop
 Inv-loop numbers level list₀ count₀ v₀ list count v = Levelling numbers level list₀ v count list
@@ -17,36 +14,17 @@ Inv-loop numbers level list₀ count₀ v₀ list count v = Levelling numbers le
 abbrev μ-loop : tie.MeasureT-loop
 μ-loop numbers level list₀ count₀ v₀ list count v = length numbers - v
 
--- src/backbone.rt:54:5
-loop-holds : tie.Need-loop-holds Inv-loop μ-loop
-loop-holds c = levelling-none _ _ _
-
--- src/backbone.rt:55:9
 list-one-requires : tie.Need-list-one-requires Inv-loop μ-loop
 list-one-requires c κs =
     let at-loop = c .before .before in
     let start = at-loop .before .before .before in
     (c .before .loop-test .taken, start .pre .1, omega (arith, at-loop .loop .inv .most, c .before .loop-test .taken, start .pre .1))
 
--- src/backbone.rt:56:9
-add-v : tie.Need-add-v Inv-loop μ-loop
-add-v c = search needs
-
--- src/backbone.rt:54:5
-loop-less : tie.Need-loop-less Inv-loop μ-loop
-loop-less c = search needs
-
--- src/backbone.rt:54:5
 loop-again : tie.Need-loop-again Inv-loop μ-loop
 loop-again c =
     let at-loop = c .before .before .before .before .before in
     levelling-turn _ _ _ (at-loop .loop .v) (at-loop .loop .count) (at-loop .loop .list) _ _ (c .before .before .before .before .loop-test .taken) (c .before .before .list-one .ensures .0) (c .before .before .list-one .ensures .1) (at-loop .loop .inv)
 
--- src/backbone.rt:47:1
-same-length : tie.Need-same-length Inv-loop μ-loop
-same-length c = c .before .loop .inv .listing .long
-
--- src/backbone.rt:47:1
 returns : tie.Need-returns Inv-loop μ-loop
 returns c =
     let start = c .before .before .before .before in
@@ -54,14 +32,6 @@ returns c =
 
 pub list-level-spec : {M : Type 1} → statement M
 list-level-spec =
-    tie.close
-    (tie.spec
-    Inv-loop
-    μ-loop
-    loop-holds
-    list-one-requires
-    add-v
-    loop-less
-    loop-again
-    same-length
-    returns)
+    tie.close (
+    tie.spec Inv-loop μ-loop (λ c. levelling-none _ _ _) list-one-requires (λ c. search needs) (λ c. search needs) loop-again
+    (λ c. c .before .loop .inv .listing .long) returns)

@@ -1,33 +1,23 @@
 -- `cores::core_refusal` meets its contract: questions 1 to 3, then 4, then 8 by the entry of the numbers table.
 use native.Mathlib.Omega.{arith}
+use borrow.Author.Needs.{needs}
 use Rattle.mesh.specs.Tables.{tables}
 use Rattle.queries.proofs.RefusalLaws.{core-no, core-four, core-eight, core-none, core-site}
-use borrow.Author.Needs.{needs}
 use Rattle.queries.proofs.cores.core_refusal.Statement.{statement}
 use Rattle.queries.proofs.cores.core_refusal.Tie as tie
-use Rattle.queries.proofs.cores.core_refusal.Reads as reads
-use Rattle.queries.proofs.cores.core_refusal.Lts as lts
-use Rattle.soundness.proofs.refusal.Reads as refusal-reads
 
--- src/cores.rt:14:9
-refusal-requires : tie.Need-refusal-requires
-refusal-requires c κs = search needs
-
--- src/cores.rt:16:9
 returns : tie.Need-returns
 returns c =
     let call = c .before .before .before .before .before .args in
     let t = tables (call .links .now) (call .numbers .now) (call .order .now) in
     core-no (call .n) (call .v) (call .k) (call .answer) t _ (c .before .refusal .ensures) (c .if1 .taken)
 
--- src/cores.rt:19:9
 returns-2 : tie.Need-returns-2
 returns-2 c =
     let call = c .before .before .before .before .before .before .args in
     let t = tables (call .links .now) (call .numbers .now) (call .order .now) in
     core-four (call .n) (call .v) (call .k) (call .answer) t _ (c .before .before .refusal .ensures) (c .before .if1 .left) (c .if2 .taken)
 
--- src/cores.rt:21:9
 shared-slice-read-if3 : tie.Need-shared-slice-read-if3
 shared-slice-read-if3 c =
     let call = c .before .before .before .before .before .before .before .args in
@@ -35,18 +25,15 @@ shared-slice-read-if3 c =
     let site = core-site (call .n) (call .v) (call .k) (call .answer) t _ (c .before .before .before .refusal .ensures) (c .before .before .if1 .left) in
     omega (arith, site .numbers-long, c .before .if2 .left)
 
--- src/cores.rt:21:9
 cast-if3 : tie.Need-cast-if3
 cast-if3 c = omega (arith, c .shared-slice-known4 .given (c .before .before .before .before .before .before .before .args .v))
 
--- src/cores.rt:22:9
 returns-3 : tie.Need-returns-3
 returns-3 c =
     let call = c .before .before .before .before .before .before .before .before .args in
     let t = tables (call .links .now) (call .numbers .now) (call .order .now) in
     core-eight (call .n) (call .v) (call .k) (call .answer) t _ (c .before .before .before .before .refusal .ensures) (c .before .before .before .if1 .left) (c .before .before .if2 .left) (c .if3 .taken)
 
--- src/cores.rt:11:1
 returns-4 : tie.Need-returns-4
 returns-4 c =
     let call = c .before .before .before .before .before .before .before .before .args in
@@ -55,12 +42,5 @@ returns-4 c =
 
 pub core-refusal-spec : {M : Type 1} → statement M
 core-refusal-spec =
-    tie.close
-    (tie.spec
-    refusal-requires
-    returns
-    returns-2
-    shared-slice-read-if3
-    cast-if3
-    returns-3
-    returns-4)
+    tie.close (
+    tie.spec (λ c κs. search needs) returns returns-2 shared-slice-read-if3 cast-if3 returns-3 returns-4)

@@ -1,14 +1,12 @@
 -- `radios::first_of_two` meets its contract: what is left of the list decides. The measure is what is left of it.
+use mathlib.Core.Path.{refl}
 use Prim.Native.Nat.{_-_}
 use native.Mathlib.Omega.{arith}
 use lib.ListN.{length}
-use mathlib.Core.Path.{refl}
 use borrow.Author.Needs.{needs}
 use Rattle.queries.proofs.AnswerLaws.{First-so-far, first-is-a, first-is-b, first-later, first-neither}
 use Rattle.queries.proofs.radios.first_of_two.Statement.{statement}
 use Rattle.queries.proofs.radios.first_of_two.Tie as tie
-use Rattle.queries.proofs.radios.first_of_two.Reads as reads
-use Rattle.queries.proofs.radios.first_of_two.Lts as lts
 
 abbrev Inv-loop : tie.InvT-loop
 Inv-loop order a b i₀ i = First-so-far a b order i
@@ -16,52 +14,24 @@ Inv-loop order a b i₀ i = First-so-far a b order i
 abbrev μ-loop : tie.MeasureT-loop
 μ-loop order a b i₀ i = length order - i
 
--- src/radios.rt:80:5
-loop-holds : tie.Need-loop-holds Inv-loop μ-loop
-loop-holds c = refl
-
--- src/radios.rt:81:17
-mul-x : tie.Need-mul-x Inv-loop μ-loop
-mul-x c = search needs
-
--- src/radios.rt:81:17
-shared-slice-read-x : tie.Need-shared-slice-read-x Inv-loop μ-loop
-shared-slice-read-x c = search needs
-
--- src/radios.rt:81:17
-cast-x : tie.Need-cast-x Inv-loop μ-loop
-cast-x c = omega (arith, c .shared-slice-known .given (c .before .before .loop .i))
-
--- src/radios.rt:83:13
 returns : tie.Need-returns Inv-loop μ-loop
 returns c =
     let at-loop = c .before .before .before in
     let call = at-loop .before .args in
     first-is-a (call .a) (call .b) (call .order .now) (at-loop .loop .i) (c .before .before .loop-test .taken) (at-loop .loop .inv) (c .if1 .taken)
 
--- src/radios.rt:86:13
 returns-2 : tie.Need-returns-2 Inv-loop μ-loop
 returns-2 c =
     let at-loop = c .before .before .before .before in
     let call = at-loop .before .args in
     first-is-b (call .a) (call .b) (call .order .now) (at-loop .loop .i) (c .before .before .before .loop-test .taken) (at-loop .loop .inv) (c .before .if1 .left) (c .if2 .taken)
 
--- src/radios.rt:88:9
-add-i : tie.Need-add-i Inv-loop μ-loop
-add-i c = search needs
-
--- src/radios.rt:80:5
-loop-less : tie.Need-loop-less Inv-loop μ-loop
-loop-less c = search needs
-
--- src/radios.rt:80:5
 loop-again : tie.Need-loop-again Inv-loop μ-loop
 loop-again c =
     let at-loop = c .before .before .before .before in
     let call = at-loop .before .args in
     first-later (call .a) (call .b) (call .order .now) (at-loop .loop .i) (c .before .before .before .loop-test .taken) (at-loop .loop .inv) (c .before .if1 .left) (c .if2 .left)
 
--- src/radios.rt:76:1
 returns-3 : tie.Need-returns-3 Inv-loop μ-loop
 returns-3 c =
     let at-loop = c .before in
@@ -70,17 +40,7 @@ returns-3 c =
 
 pub first-of-two-spec : {M : Type 1} → statement M
 first-of-two-spec =
-    tie.close
-    (tie.spec
-    Inv-loop
-    μ-loop
-    loop-holds
-    mul-x
-    shared-slice-read-x
-    cast-x
-    returns
-    returns-2
-    add-i
-    loop-less
-    loop-again
+    tie.close (
+    tie.spec Inv-loop μ-loop (λ c. refl) (λ c. search needs) (λ c. search needs)
+    (λ c. omega (arith, c .shared-slice-known .given (c .before .before .loop .i))) returns returns-2 (λ c. search needs) (λ c. search needs) loop-again
     returns-3)

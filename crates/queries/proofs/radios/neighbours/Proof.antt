@@ -1,31 +1,17 @@
 -- `radios::neighbours` meets its contract: the bits of a row count the neighbours.
 use mathlib.Core.Path.{sym, _∙_}
+use borrow.Author.Needs.{needs}
 use Rattle.mesh.specs.Tables.{tables}
 use Rattle.queries.proofs.AnswerLaws.{neighbours-refused, neighbours-answered}
-use borrow.Author.Needs.{needs}
 use Rattle.queries.proofs.radios.neighbours.Statement.{statement}
 use Rattle.queries.proofs.radios.neighbours.Tie as tie
-use Rattle.queries.proofs.radios.neighbours.Reads as reads
-use Rattle.queries.proofs.radios.neighbours.Lts as lts
-use Rattle.queries.proofs.radios.radio_refusal.Reads as radio-refusal-reads
-use Rattle.rows.proofs.row_degree.Reads as row-degree-reads
 
--- src/radios.rt:54:9
-radio-refusal-requires : tie.Need-radio-refusal-requires
-radio-refusal-requires c κs = search needs
-
--- src/radios.rt:56:9
 returns : tie.Need-returns
 returns c =
     let call = c .before .before .before .before .before .args in
     let t = tables (call .links .now) (call .numbers .now) (call .order .now) in
     neighbours-refused (call .n) (call .v) t _ (c .before .radio-refusal .ensures) (c .if1 .taken)
 
--- src/radios.rt:58:31
-row-degree-requires : tie.Need-row-degree-requires
-row-degree-requires c κs = search needs
-
--- src/radios.rt:51:1
 returns-2 : tie.Need-returns-2
 returns-2 c =
     let call = c .before .before .before .before .before .before .args in
@@ -33,4 +19,4 @@ returns-2 c =
     neighbours-answered (call .n) (call .v) t (sym (c .before .before .radio-refusal .ensures) ∙ c .before .if1 .left) _ (c .row-degree .ensures)
 
 pub neighbours-spec : {M : Type 1} → statement M
-neighbours-spec = tie.close (tie.spec radio-refusal-requires returns row-degree-requires returns-2)
+neighbours-spec = tie.close (tie.spec (λ c κs. search needs) returns (λ c κs. search needs) returns-2)

@@ -1,27 +1,18 @@
 -- `radios::number` meets its contract: on sound tables the entry is the number.
 use mathlib.Core.Path.{sym, _∙_}
 use native.Mathlib.Omega.{arith}
+use borrow.Author.Needs.{needs}
 use Rattle.mesh.specs.Tables.{tables}
 use Rattle.queries.proofs.AnswerLaws.{number-refused, number-answered, radio-site, radio-below}
-use borrow.Author.Needs.{needs}
 use Rattle.queries.proofs.radios.number.Statement.{statement}
 use Rattle.queries.proofs.radios.number.Tie as tie
-use Rattle.queries.proofs.radios.number.Reads as reads
-use Rattle.queries.proofs.radios.number.Lts as lts
-use Rattle.queries.proofs.radios.radio_refusal.Reads as radio-refusal-reads
 
--- src/radios.rt:42:9
-radio-refusal-requires : tie.Need-radio-refusal-requires
-radio-refusal-requires c κs = search needs
-
--- src/radios.rt:44:9
 returns : tie.Need-returns
 returns c =
     let call = c .before .before .before .before .before .args in
     let t = tables (call .links .now) (call .numbers .now) (call .order .now) in
     number-refused (call .n) (call .v) t _ (c .before .radio-refusal .ensures) (c .if1 .taken)
 
--- src/radios.rt:46:13
 shared-slice-read-x : tie.Need-shared-slice-read-x
 shared-slice-read-x c =
     let call = c .before .before .before .before .before .before .args in
@@ -29,11 +20,9 @@ shared-slice-read-x c =
     let e = sym (c .before .before .radio-refusal .ensures) ∙ c .before .if1 .left in
     omega (arith, radio-site (call .n) (call .v) t e .numbers-long, radio-below (call .n) (call .v) t e)
 
--- src/radios.rt:47:31
 cast-t12 : tie.Need-cast-t12
 cast-t12 c = omega (arith, c .shared-slice-known4 .given (c .before .before .before .before .before .before .args .v))
 
--- src/radios.rt:39:1
 returns-2 : tie.Need-returns-2
 returns-2 c =
     let call = c .before .before .before .before .before .before .args in
@@ -42,4 +31,5 @@ returns-2 c =
 
 pub number-spec : {M : Type 1} → statement M
 number-spec =
-    tie.close (tie.spec radio-refusal-requires returns shared-slice-read-x cast-t12 returns-2)
+    tie.close (
+    tie.spec (λ c κs. search needs) returns shared-slice-read-x cast-t12 returns-2)

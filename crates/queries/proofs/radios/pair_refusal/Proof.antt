@@ -1,34 +1,24 @@
 -- `radios::pair_refusal` meets its contract: the questions of the first radio, and then 4 of the second.
+use borrow.Author.Needs.{needs}
 use Rattle.mesh.specs.Sound.{sound}
 use Rattle.mesh.specs.Tables.{tables}
 use Rattle.calls.specs.Questions.{lengths-of}
 use Rattle.queries.proofs.RefusalLaws.{pair-no, pair-four, pair-none}
-use borrow.Author.Needs.{needs}
 use Rattle.queries.proofs.radios.pair_refusal.Statement.{statement}
 use Rattle.queries.proofs.radios.pair_refusal.Tie as tie
-use Rattle.queries.proofs.radios.pair_refusal.Reads as reads
-use Rattle.queries.proofs.radios.pair_refusal.Lts as lts
-use Rattle.queries.proofs.radios.radio_refusal.Reads as radio-refusal-reads
 
--- src/radios.rt:28:9
-radio-refusal-requires : tie.Need-radio-refusal-requires
-radio-refusal-requires c κs = search needs
-
--- src/radios.rt:30:9
 returns : tie.Need-returns
 returns c =
     let call = c .before .before .before .before .before .args in
     let t = tables (call .links .now) (call .numbers .now) (call .order .now) in
     pair-no (call .n) (call .a) (call .b) (lengths-of t) (sound (call .n) t) _ (c .before .radio-refusal .ensures) (c .if1 .taken)
 
--- src/radios.rt:33:9
 returns-2 : tie.Need-returns-2
 returns-2 c =
     let call = c .before .before .before .before .before .before .args in
     let t = tables (call .links .now) (call .numbers .now) (call .order .now) in
     pair-four (call .n) (call .a) (call .b) (lengths-of t) (sound (call .n) t) _ (c .before .before .radio-refusal .ensures) (c .before .if1 .left) (c .if2 .taken)
 
--- src/radios.rt:25:1
 returns-3 : tie.Need-returns-3
 returns-3 c =
     let call = c .before .before .before .before .before .before .args in
@@ -36,4 +26,4 @@ returns-3 c =
     pair-none (call .n) (call .a) (call .b) (lengths-of t) (sound (call .n) t) _ (c .before .before .radio-refusal .ensures) (c .before .if1 .left) (c .if2 .left)
 
 pub pair-refusal-spec : {M : Type 1} → statement M
-pair-refusal-spec = tie.close (tie.spec radio-refusal-requires returns returns-2 returns-3)
+pair-refusal-spec = tie.close (tie.spec (λ c κs. search needs) returns returns-2 returns-3)

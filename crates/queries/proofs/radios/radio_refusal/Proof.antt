@@ -1,34 +1,24 @@
 -- `radios::radio_refusal` meets its contract: questions 1 to 3, and 4 after them.
+use borrow.Author.Needs.{needs}
 use Rattle.mesh.specs.Sound.{sound}
 use Rattle.mesh.specs.Tables.{tables}
 use Rattle.calls.specs.Questions.{lengths-of}
 use Rattle.queries.proofs.RefusalLaws.{radio-no, radio-four, radio-none}
-use borrow.Author.Needs.{needs}
 use Rattle.queries.proofs.radios.radio_refusal.Statement.{statement}
 use Rattle.queries.proofs.radios.radio_refusal.Tie as tie
-use Rattle.queries.proofs.radios.radio_refusal.Reads as reads
-use Rattle.queries.proofs.radios.radio_refusal.Lts as lts
-use Rattle.soundness.proofs.refusal.Reads as refusal-reads
 
--- src/radios.rt:14:9
-refusal-requires : tie.Need-refusal-requires
-refusal-requires c κs = search needs
-
--- src/radios.rt:16:9
 returns : tie.Need-returns
 returns c =
     let call = c .before .before .before .before .before .args in
     let t = tables (call .links .now) (call .numbers .now) (call .order .now) in
     radio-no (call .n) (call .v) (lengths-of t) (sound (call .n) t) _ (c .before .refusal .ensures) (c .if1 .taken)
 
--- src/radios.rt:19:9
 returns-2 : tie.Need-returns-2
 returns-2 c =
     let call = c .before .before .before .before .before .before .args in
     let t = tables (call .links .now) (call .numbers .now) (call .order .now) in
     radio-four (call .n) (call .v) (lengths-of t) (sound (call .n) t) _ (c .before .before .refusal .ensures) (c .before .if1 .left) (c .if2 .taken)
 
--- src/radios.rt:11:1
 returns-3 : tie.Need-returns-3
 returns-3 c =
     let call = c .before .before .before .before .before .before .args in
@@ -36,4 +26,4 @@ returns-3 c =
     radio-none (call .n) (call .v) (lengths-of t) (sound (call .n) t) _ (c .before .before .refusal .ensures) (c .before .if1 .left) (c .if2 .left)
 
 pub radio-refusal-spec : {M : Type 1} → statement M
-radio-refusal-spec = tie.close (tie.spec refusal-requires returns returns-2 returns-3)
+radio-refusal-spec = tie.close (tie.spec (λ c κs. search needs) returns returns-2 returns-3)

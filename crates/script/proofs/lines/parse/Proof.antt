@@ -1,47 +1,20 @@
 -- `lines::parse` meets its contract: the three words are tried in the order of `line-of`.
 use mathlib.Core.Path.{sym, ap, _∙_}
+use borrow.Author.Needs.{needs}
 use Rattle.script.specs.Lines.{radios-line}
 use Rattle.script.proofs.LineLaws.{read-of-none, read-of-got, line-up, line-down, line-other, line-radios}
-use borrow.Author.Needs.{needs}
 use Rattle.script.proofs.lines.parse.Statement.{statement}
 use Rattle.script.proofs.lines.parse.Tie as tie
-
-slice-aggregate-starts-with : tie.Need-slice-aggregate-starts-with
-slice-aggregate-starts-with c = search needs
-
-starts-with-requires : tie.Need-starts-with-requires
-starts-with-requires c κs = search needs
-
-read-link-requires : tie.Need-read-link-requires
-read-link-requires c κs = search needs
 
 returns : tie.Need-returns
 returns c =
     let text = c .before .before .before .before .before .args .s .now in
     c .read-link .ensures ∙ line-up text (sym (c .before .before .starts-with .ensures) ∙ c .before .if1 .taken)
 
-slice-aggregate-starts-with-2 : tie.Need-slice-aggregate-starts-with-2
-slice-aggregate-starts-with-2 c = search needs
-
-starts-with-requires-2 : tie.Need-starts-with-requires-2
-starts-with-requires-2 c κs = search needs
-
-read-link-requires-2 : tie.Need-read-link-requires-2
-read-link-requires-2 c κs = search needs
-
 returns-2 : tie.Need-returns-2
 returns-2 c =
     let text = c .before .before .before .before .before .before .before .before .args .s .now in
     c .read-link2 .ensures ∙ line-down text (sym (c .before .before .before .before .before .starts-with .ensures) ∙ c .before .before .before .before .if1 .left) (sym (c .before .before .starts-with2 .ensures) ∙ c .before .if2 .taken)
-
-slice-aggregate-starts-with-3 : tie.Need-slice-aggregate-starts-with-3
-slice-aggregate-starts-with-3 c = search needs
-
-starts-with-requires-3 : tie.Need-starts-with-requires-3
-starts-with-requires-3 c κs = search needs
-
-read-last-number-requires : tie.Need-read-last-number-requires
-read-last-number-requires c κs = search needs
 
 returns-3 : tie.Need-returns-3
 unfolding radios-line
@@ -66,19 +39,6 @@ returns-5 c =
 
 pub parse-spec : {M : Type 1} → statement M
 parse-spec =
-    tie.close
-    (tie.spec
-    slice-aggregate-starts-with
-    starts-with-requires
-    read-link-requires
-    returns
-    slice-aggregate-starts-with-2
-    starts-with-requires-2
-    read-link-requires-2
-    returns-2
-    slice-aggregate-starts-with-3
-    starts-with-requires-3
-    read-last-number-requires
-    returns-3
-    returns-4
-    returns-5)
+    tie.close (
+    tie.spec (λ c. search needs) (λ c κs. search needs) (λ c κs. search needs) returns (λ c. search needs) (λ c κs. search needs) (λ c κs. search needs)
+    returns-2 (λ c. search needs) (λ c κs. search needs) (λ c κs. search needs) returns-3 returns-4 returns-5)

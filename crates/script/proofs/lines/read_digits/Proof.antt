@@ -8,25 +8,12 @@ use Rattle.script.specs.Lines.{digits-on, read-of}
 use Rattle.script.proofs.LineLaws.{read-of-none, digit-below, digit-above, digits-end, digits-other, digits-large, digits-step}
 use Rattle.script.proofs.lines.read_digits.Statement.{statement}
 use Rattle.script.proofs.lines.read_digits.Tie as tie
-use Rattle.script.proofs.lines.read_digits.Reads as reads
-use Rattle.script.proofs.lines.read_digits.Lts as lts
-use Rattle.script.proofs.lines.none.Reads as none-reads
-use Rattle.script.proofs.lines.wide.Reads as wide-reads
 
 abbrev Inv-loop : tie.InvT-loop
 Inv-loop s p v v₀ i₀ v' i = (i ≤ length s) × (v' ≤ 65535) × (digits-on v' (drop i s) ≡ digits-on v (drop p s))
 
 abbrev μ-loop : tie.MeasureT-loop
 μ-loop s p v v₀ i₀ v' i = length s - i
-
-loop-holds : tie.Need-loop-holds Inv-loop μ-loop
-loop-holds c = (omega arith, omega arith, refl)
-
-shared-slice-read-wide : tie.Need-shared-slice-read-wide Inv-loop μ-loop
-shared-slice-read-wide c = omega arith
-
-wide-requires : tie.Need-wide-requires Inv-loop μ-loop
-wide-requires c κs = tt
 
 returns : tie.Need-returns Inv-loop μ-loop
 unfolding read-of
@@ -44,15 +31,6 @@ returns-2 c =
     let byte = c .before .before .wide in
     sym (digits-other s (at-loop .loop .v) (at-loop .loop .i) (byte .result) (omega arith) (byte .ensures) (digit-above (byte .result) (omega arith))) ∙ at-loop .loop .inv .2
 
-mul-w : tie.Need-mul-w Inv-loop μ-loop
-mul-w c = omega arith
-
-add-w : tie.Need-add-w Inv-loop μ-loop
-add-w c = omega arith
-
-none-requires : tie.Need-none-requires Inv-loop μ-loop
-none-requires c κs = tt
-
 returns-3 : tie.Need-returns-3 Inv-loop μ-loop
 returns-3 c =
     let at-loop = c .before .before .before .before .before .before .before in
@@ -60,12 +38,6 @@ returns-3 c =
     let byte = c .before .before .before .before .wide in
     read-of-none s (c .none .result) (c .none .ensures)
     ∙ sym (digits-large s (at-loop .loop .v) (at-loop .loop .i) (byte .result) (omega arith) (byte .ensures) (omega arith) (omega arith) (omega arith)) ∙ at-loop .loop .inv .2
-
-add-i : tie.Need-add-i Inv-loop μ-loop
-add-i c = omega arith
-
-loop-less : tie.Need-loop-less Inv-loop μ-loop
-loop-less c = omega arith
 
 loop-again : tie.Need-loop-again Inv-loop μ-loop
 loop-again c =
@@ -83,20 +55,6 @@ returns-4 c =
 
 pub read-digits-spec : {M : Type 1} → statement M
 read-digits-spec =
-    tie.close
-    (tie.spec
-    Inv-loop
-    μ-loop
-    loop-holds
-    shared-slice-read-wide
-    wide-requires
-    returns
-    returns-2
-    mul-w
-    add-w
-    none-requires
-    returns-3
-    add-i
-    loop-less
-    loop-again
-    returns-4)
+    tie.close (
+    tie.spec Inv-loop μ-loop (λ c. (omega arith, omega arith, refl)) (λ c. omega arith) (λ c κs. tt) returns returns-2 (λ c. omega arith) (λ c. omega arith)
+    (λ c κs. tt) returns-3 (λ c. omega arith) (λ c. omega arith) loop-again returns-4)

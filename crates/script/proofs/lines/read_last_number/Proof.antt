@@ -6,21 +6,12 @@ use Rattle.script.proofs.LineLaws.{read-of-none, end-past, end-differ, 
 use Rattle.script.proofs.lines.read_last_number.Statement.{statement}
 use Rattle.script.proofs.lines.read_last_number.Tie as tie
 
-read-number-requires : tie.Need-read-number-requires
-read-number-requires c κs = tt
-
-none-requires : tie.Need-none-requires
-none-requires c κs = tt
-
 returns : tie.Need-returns
 returns c =
     let number = c .before .before .before in
     let call = number .before .before .args in
     read-of-none (call .s .now) (c .none .result) (c .none .ensures)
     ∙ sym (last-none (call .s .now) (call .p) (number .read-number .result) (number .read-number .ensures) (not-true _ (c .before .if1 .taken)))
-
-none-requires-2 : tie.Need-none-requires-2
-none-requires-2 c κs = tt
 
 returns-2 : tie.Need-returns-2
 returns-2 c =
@@ -29,24 +20,12 @@ returns-2 c =
     read-of-none (call .s .now) (c .none2 .result) (c .none2 .ensures)
     ∙ sym (last-other (call .s .now) (call .p) (number .read-number .result) (number .read-number .ensures) (not-false _ (c .before .before .if1 .left)) (end-past (call .s .now) (number .read-number .result .next) (omega arith)))
 
-shared-slice-read-if3 : tie.Need-shared-slice-read-if3
-shared-slice-read-if3 c = omega arith
-
-none-requires-3 : tie.Need-none-requires-3
-none-requires-3 c κs = tt
-
 returns-3 : tie.Need-returns-3
 returns-3 c =
     let number = c .before .before .before .before .before .before in
     let call = number .before .before .args in
     read-of-none (call .s .now) (c .none3 .result) (c .none3 .ensures)
     ∙ sym (last-other (call .s .now) (call .p) (number .read-number .result) (number .read-number .ensures) (not-false _ (c .before .before .before .before .if1 .left)) (end-differ (call .s .now) (number .read-number .result .next) (omega arith) (c .before .if3 .taken)))
-
-sub-if4 : tie.Need-sub-if4
-sub-if4 c = omega arith
-
-none-requires-4 : tie.Need-none-requires-4
-none-requires-4 c κs = tt
 
 returns-4 : tie.Need-returns-4
 returns-4 c =
@@ -63,17 +42,6 @@ returns-5 c =
 
 pub read-last-number-spec : {M : Type 1} → statement M
 read-last-number-spec =
-    tie.close
-    (tie.spec
-    read-number-requires
-    none-requires
-    returns
-    none-requires-2
-    returns-2
-    shared-slice-read-if3
-    none-requires-3
-    returns-3
-    sub-if4
-    none-requires-4
-    returns-4
+    tie.close (
+    tie.spec (λ c κs. tt) (λ c κs. tt) returns (λ c κs. tt) returns-2 (λ c. omega arith) (λ c κs. tt) returns-3 (λ c. omega arith) (λ c κs. tt) returns-4
     returns-5)

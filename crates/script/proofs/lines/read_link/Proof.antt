@@ -1,13 +1,10 @@
 -- `lines::read_link` meets its contract: each test decides one step of `link-of`.
 use native.Mathlib.Omega.{arith}
 use borrow.Author.Tests.{not-true, not-false}
-use Rattle.script.proofs.LineLaws.{space-past, space-differ, space-is, link-none, link-gap, link-one, link-both}
 use borrow.Author.Needs.{needs}
+use Rattle.script.proofs.LineLaws.{space-past, space-differ, space-is, link-none, link-gap, link-one, link-both}
 use Rattle.script.proofs.lines.read_link.Statement.{statement}
 use Rattle.script.proofs.lines.read_link.Tie as tie
-
-read-number-requires : tie.Need-read-number-requires
-read-number-requires c κs = search needs
 
 returns : tie.Need-returns
 returns c =
@@ -21,20 +18,11 @@ returns-2 c =
     let call = number .before .before .args in
     link-gap (call .up) (call .s .now) (call .p) (number .read-number .result) (number .read-number .ensures) (not-false _ (c .before .if1 .left)) (space-past (call .s .now) (number .read-number .result .next) (omega arith))
 
-shared-slice-read-if3 : tie.Need-shared-slice-read-if3
-shared-slice-read-if3 c = search needs
-
 returns-3 : tie.Need-returns-3
 returns-3 c =
     let number = c .before .before .before .before .before in
     let call = number .before .before .args in
     link-gap (call .up) (call .s .now) (call .p) (number .read-number .result) (number .read-number .ensures) (not-false _ (c .before .before .before .if1 .left)) (space-differ (call .s .now) (number .read-number .result .next) (omega arith) (c .if3 .taken))
-
-add-read-last-number : tie.Need-add-read-last-number
-add-read-last-number c = search needs
-
-read-last-number-requires : tie.Need-read-last-number-requires
-read-last-number-requires c κs = search needs
 
 returns-4 : tie.Need-returns-4
 returns-4 c =
@@ -56,15 +44,5 @@ returns-6 c =
 
 pub read-link-spec : {M : Type 1} → statement M
 read-link-spec =
-    tie.close
-    (tie.spec
-    read-number-requires
-    returns
-    returns-2
-    shared-slice-read-if3
-    returns-3
-    add-read-last-number
-    read-last-number-requires
-    returns-4
-    returns-5
-    returns-6)
+    tie.close (
+    tie.spec (λ c κs. search needs) returns returns-2 (λ c. search needs) returns-3 (λ c. search needs) (λ c κs. search needs) returns-4 returns-5 returns-6)

@@ -1,28 +1,16 @@
 -- `lines::read_number` meets its contract: each branch is a case of `number-of` at the byte that stands at p.
 use mathlib.Core.Path.{sym, _∙_}
 use native.Mathlib.Omega.{arith}
+use borrow.Author.Needs.{needs}
 use Rattle.script.specs.Lines.{read-of}
 use Rattle.script.proofs.LineLaws.{read-of-none, digit-below, digit-above, number-end, number-zero, number-other, number-digit}
-use borrow.Author.Needs.{needs}
 use Rattle.script.proofs.lines.read_number.Statement.{statement}
 use Rattle.script.proofs.lines.read_number.Tie as tie
-
-none-requires : tie.Need-none-requires
-none-requires c κs = search needs
 
 returns : tie.Need-returns
 returns c =
     let call = c .before .before .before .args in
     read-of-none (call .s .now) (c .none .result) (c .none .ensures) ∙ sym (number-end (call .s .now) (call .p) (omega arith))
-
-shared-slice-read-wide : tie.Need-shared-slice-read-wide
-shared-slice-read-wide c = search needs
-
-wide-requires : tie.Need-wide-requires
-wide-requires c κs = search needs
-
-add-t8 : tie.Need-add-t8
-add-t8 c = search needs
 
 returns-2 : tie.Need-returns-2
 unfolding read-of
@@ -31,9 +19,6 @@ returns-2 c =
     let byte = c .before .wide in
     sym (number-zero (call .s .now) (call .p) (byte .result) (omega arith) (byte .ensures) (omega arith))
 
-none-requires-2 : tie.Need-none-requires-2
-none-requires-2 c κs = search needs
-
 returns-3 : tie.Need-returns-3
 returns-3 c =
     let call = c .before .before .before .before .before .before .before .args in
@@ -41,21 +26,12 @@ returns-3 c =
     read-of-none (call .s .now) (c .none2 .result) (c .none2 .ensures)
     ∙ sym (number-other (call .s .now) (call .p) (byte .result) (omega arith) (byte .ensures) (c .before .before .if2 .left) (digit-below (byte .result) (omega arith)))
 
-none-requires-3 : tie.Need-none-requires-3
-none-requires-3 c κs = search needs
-
 returns-4 : tie.Need-returns-4
 returns-4 c =
     let call = c .before .before .before .before .before .before .before .before .args in
     let byte = c .before .before .before .before .wide in
     read-of-none (call .s .now) (c .none3 .result) (c .none3 .ensures)
     ∙ sym (number-other (call .s .now) (call .p) (byte .result) (omega arith) (byte .ensures) (c .before .before .before .if2 .left) (digit-above (byte .result) (omega arith)))
-
-add-read-digits : tie.Need-add-read-digits
-add-read-digits c = search needs
-
-read-digits-requires : tie.Need-read-digits-requires
-read-digits-requires c κs = search needs
 
 returns-5 : tie.Need-returns-5
 returns-5 c =
@@ -66,18 +42,6 @@ returns-5 c =
 
 pub read-number-spec : {M : Type 1} → statement M
 read-number-spec =
-    tie.close
-    (tie.spec
-    none-requires
-    returns
-    shared-slice-read-wide
-    wide-requires
-    add-t8
-    returns-2
-    none-requires-2
-    returns-3
-    none-requires-3
-    returns-4
-    add-read-digits
-    read-digits-requires
-    returns-5)
+    tie.close (
+    tie.spec (λ c κs. search needs) returns (λ c. search needs) (λ c κs. search needs) (λ c. search needs) returns-2 (λ c κs. search needs) returns-3
+    (λ c κs. search needs) returns-4 (λ c. search needs) (λ c κs. search needs) returns-5)

@@ -8,33 +8,12 @@ use Rattle.tables.proofs.ClearLaws.{clear-refused, clear-accepted}
 use Rattle.tables.proofs.clear.clear.Statement.{statement}
 use Rattle.tables.proofs.clear.clear.Tie as tie
 
-of-tables-requires : tie.Need-of-tables-requires
-of-tables-requires c κs = search needs
-
 returns : tie.Need-returns
 unfolding lengths-of
 returns c =
     let s = c .before .before .before .before .before .args in
     clear-refused (s .n) (c .before .of-tables .result) (tables (s .links .now) (s .numbers .now) (s .order .now))
     (c .before .of-tables .ensures) (c .if1 .taken)
-
-fill8-requires : tie.Need-fill8-requires
-fill8-requires c κs = search needs
-
-fill8-requires-2 : tie.Need-fill8-requires-2
-fill8-requires-2 c κs = search needs
-
-index16-requires : tie.Need-index16-requires
-index16-requires c κs = search needs
-
-same-length : tie.Need-same-length
-same-length c = search needs
-
-same-length-2 : tie.Need-same-length-2
-same-length-2 c = search needs
-
-same-length-3 : tie.Need-same-length-3
-same-length-3 c = search needs
 
 returns-2 : tie.Need-returns-2
 unfolding lengths-of
@@ -51,14 +30,6 @@ returns-2 c =
 
 pub clear-spec : {M : Type 1} → statement M
 clear-spec =
-    tie.close
-    (tie.spec
-    of-tables-requires
-    returns
-    fill8-requires
-    fill8-requires-2
-    index16-requires
-    same-length
-    same-length-2
-    same-length-3
-    returns-2)
+    tie.close (
+    tie.spec (λ c κs. search needs) returns (λ c κs. search needs) (λ c κs. search needs) (λ c κs. search needs) (λ c. search needs) (λ c. search needs)
+    (λ c. search needs) returns-2)

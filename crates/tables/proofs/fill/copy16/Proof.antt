@@ -12,54 +12,13 @@ Inv-loop d₀ s k i₀ d i = Copying 16 s d₀ d i
 abbrev μ-loop : tie.MeasureT-loop
 μ-loop d₀ s k i₀ d i = k - i
 
-least-requires : tie.Need-least-requires Inv-loop μ-loop
-least-requires c κs = search needs
-
-loop-holds : tie.Need-loop-holds Inv-loop μ-loop
-loop-holds c = copying-none 16 _ _
-
-mul-d : tie.Need-mul-d Inv-loop μ-loop
-mul-d c = search needs
-
-shared-slice-read-d : tie.Need-shared-slice-read-d Inv-loop μ-loop
-shared-slice-read-d c = search needs
-
-mul-d-2 : tie.Need-mul-d-2 Inv-loop μ-loop
-mul-d-2 c = search needs
-
-slice-write-d : tie.Need-slice-write-d Inv-loop μ-loop
-slice-write-d c = search needs
-
-add-i : tie.Need-add-i Inv-loop μ-loop
-add-i c = search needs
-
-loop-less : tie.Need-loop-less Inv-loop μ-loop
-loop-less c = search needs
-
 loop-again : tie.Need-loop-again Inv-loop μ-loop
 loop-again c =
     copying-turn 16 _ _ _ (c .before .before .loop .i) (c .before .before .loop .inv) (omega arith) (c .shared-slice-known2 .given _ .fits)
 
-same-length : tie.Need-same-length Inv-loop μ-loop
-same-length c = c .before .loop .inv .writing .long
-
-returns : tie.Need-returns Inv-loop μ-loop
-returns c = copying-end 16 _ _ _ _ (c .before .loop .inv) (omega arith)
-
 pub copy16-spec : {M : Type 1} → statement M
 copy16-spec =
-    tie.close
-    (tie.spec
-    Inv-loop
-    μ-loop
-    least-requires
-    loop-holds
-    mul-d
-    shared-slice-read-d
-    mul-d-2
-    slice-write-d
-    add-i
-    loop-less
-    loop-again
-    same-length
-    returns)
+    tie.close (
+    tie.spec Inv-loop μ-loop (λ c κs. search needs) (λ c. copying-none 16 _ _) (λ c. search needs) (λ c. search needs) (λ c. search needs) (λ c. search needs)
+    (λ c. search needs) (λ c. search needs) loop-again (λ c. c .before .loop .inv .writing .long)
+    (λ c. copying-end 16 _ _ _ _ (c .before .loop .inv) (omega arith)))

@@ -1,11 +1,11 @@
 -- `fill::fill8` meets its contract: 8-bit entries being written, each the same value. The measure is what is left of d.
+use mathlib.Core.Path.{sym}
 use Prim.Native.Nat.{ℕ, _-_}
 use native.Mathlib.Omega.{arith}
-use borrow.Author.Needs.{needs}
-use lib.ListN.{length}
-use Rattle.tables.proofs.WidthLaws.{Writing, writing-none, writing-turn, writing-constant}
 use native.Mathlib.Nat.{mod-eq-of-lt}
-use mathlib.Core.Path.{sym}
+use lib.ListN.{length}
+use borrow.Author.Needs.{needs}
+use Rattle.tables.proofs.WidthLaws.{Writing, writing-none, writing-turn, writing-constant}
 use Rattle.tables.proofs.fill.fill8.Statement.{statement}
 use Rattle.tables.proofs.fill.fill8.Tie as tie
 
@@ -15,39 +15,16 @@ Inv-loop d₀ x i₀ d i = Writing 8 (λ (j : ℕ). x) d₀ d i
 abbrev μ-loop : tie.MeasureT-loop
 μ-loop d₀ x i₀ d i = length d₀ - i
 
-loop-holds : tie.Need-loop-holds Inv-loop μ-loop
-loop-holds c = writing-none 8 _ _
-
-slice-write-d : tie.Need-slice-write-d Inv-loop μ-loop
-slice-write-d c = search needs
-
-add-i : tie.Need-add-i Inv-loop μ-loop
-add-i c = search needs
-
-loop-less : tie.Need-loop-less Inv-loop μ-loop
-loop-less c = search needs
-
 loop-again : tie.Need-loop-again Inv-loop μ-loop
 loop-again c =
     let s = c .before .before in
     writing-turn 8 _ _ _ _ _ (c .before .loop .inv) (omega arith) (sym (mod-eq-of-lt (s .fits .x .fits)))
-
-same-length : tie.Need-same-length Inv-loop μ-loop
-same-length c = c .before .loop .inv .long
 
 returns : tie.Need-returns Inv-loop μ-loop
 returns c = writing-constant 8 _ _ _ _ (c .before .loop .inv) (omega arith) (c .before .before .fits .x .fits)
 
 pub fill8-spec : {M : Type 1} → statement M
 fill8-spec =
-    tie.close
-    (tie.spec
-    Inv-loop
-    μ-loop
-    loop-holds
-    slice-write-d
-    add-i
-    loop-less
-    loop-again
-    same-length
-    returns)
+    tie.close (
+    tie.spec Inv-loop μ-loop (λ c. writing-none 8 _ _) (λ c. search needs) (λ c. search needs) (λ c. search needs) loop-again
+    (λ c. c .before .loop .inv .long) returns)

@@ -1,10 +1,10 @@
 -- `fill::index16` meets its contract: 16-bit entries being written, each its own index. The measure is what is left of d.
+use mathlib.Core.Path.{refl}
 use Prim.Native.Nat.{ℕ, _-_}
 use native.Mathlib.Omega.{arith}
-use borrow.Author.Needs.{needs}
 use lib.ListN.{length}
+use borrow.Author.Needs.{needs}
 use Rattle.tables.proofs.WidthLaws.{Writing, writing-none, writing-turn, writing-all}
-use mathlib.Core.Path.{refl}
 use Rattle.tables.proofs.fill.index16.Statement.{statement}
 use Rattle.tables.proofs.fill.index16.Tie as tie
 
@@ -14,45 +14,9 @@ Inv-loop d₀ v₀ d v = Writing 16 (λ (j : ℕ). j) d₀ d v
 abbrev μ-loop : tie.MeasureT-loop
 μ-loop d₀ v₀ d v = length d₀ - v
 
-loop-holds : tie.Need-loop-holds Inv-loop μ-loop
-loop-holds c = writing-none 16 _ _
-
-cast-d : tie.Need-cast-d Inv-loop μ-loop
-cast-d c = search needs
-
-mul-d : tie.Need-mul-d Inv-loop μ-loop
-mul-d c = search needs
-
-slice-write-d : tie.Need-slice-write-d Inv-loop μ-loop
-slice-write-d c = search needs
-
-add-v : tie.Need-add-v Inv-loop μ-loop
-add-v c = search needs
-
-loop-less : tie.Need-loop-less Inv-loop μ-loop
-loop-less c = search needs
-
-loop-again : tie.Need-loop-again Inv-loop μ-loop
-loop-again c = writing-turn 16 _ _ _ _ _ (c .before .loop .inv) (omega arith) refl
-
-same-length : tie.Need-same-length Inv-loop μ-loop
-same-length c = c .before .loop .inv .long
-
-returns : tie.Need-returns Inv-loop μ-loop
-returns c = writing-all 16 _ _ _ _ (c .before .loop .inv) (omega arith)
-
 pub index16-spec : {M : Type 1} → statement M
 index16-spec =
-    tie.close
-    (tie.spec
-    Inv-loop
-    μ-loop
-    loop-holds
-    cast-d
-    mul-d
-    slice-write-d
-    add-v
-    loop-less
-    loop-again
-    same-length
-    returns)
+    tie.close (
+    tie.spec Inv-loop μ-loop (λ c. writing-none 16 _ _) (λ c. search needs) (λ c. search needs) (λ c. search needs) (λ c. search needs) (λ c. search needs)
+    (λ c. writing-turn 16 _ _ _ _ _ (c .before .loop .inv) (omega arith) refl) (λ c. c .before .loop .inv .long)
+    (λ c. writing-all 16 _ _ _ _ (c .before .loop .inv) (omega arith)))

@@ -1,10 +1,11 @@
 -- `fill::same8` meets its contract: the entries passed are equal, so what is left decides. The measure is what is left of a.
+use mathlib.Core.Path.{sym}
 use Prim.Native.Nat.{_-_}
 use native.Mathlib.Omega.{arith}
-use borrow.Author.Needs.{needs}
 use lib.ListN.{length}
-use Rattle.tables.proofs.WidthLaws.{Comparing, comparing-none, comparing-turn, comparing-differ, comparing-end, same-lengths}
-use mathlib.Core.Path.{sym}
+use borrow.Author.Needs.{needs}
+use Rattle.tables.proofs.WidthLaws.{Comparing, comparing-none, comparing-turn, comparing-differ, comparing-end}
+use Rattle.lists.proofs.All.{same-lengths}
 use Rattle.tables.proofs.fill.same8.Statement.{statement}
 use Rattle.tables.proofs.fill.same8.Tie as tie
 
@@ -14,49 +15,18 @@ Inv-loop a b i₀ i = Comparing a b i
 abbrev μ-loop : tie.MeasureT-loop
 μ-loop a b i₀ i = length a - i
 
-returns : tie.Need-returns Inv-loop μ-loop
-returns c = sym (same-lengths _ _ (c .if1 .taken))
-
-loop-holds : tie.Need-loop-holds Inv-loop μ-loop
-loop-holds c = comparing-none _ _ (c .if1 .left)
-
-shared-slice-read-if2 : tie.Need-shared-slice-read-if2 Inv-loop μ-loop
-shared-slice-read-if2 c = search needs
-
-shared-slice-read-if2-2 : tie.Need-shared-slice-read-if2-2 Inv-loop μ-loop
-shared-slice-read-if2-2 c = search needs
-
 returns-2 : tie.Need-returns-2 Inv-loop μ-loop
 returns-2 c =
     let at-loop = c .before .before .before .before in
     sym (comparing-differ _ _ (at-loop .loop .i) (at-loop .loop .inv) (omega arith) (c .if2 .taken))
-
-add-i : tie.Need-add-i Inv-loop μ-loop
-add-i c = search needs
-
-loop-less : tie.Need-loop-less Inv-loop μ-loop
-loop-less c = search needs
 
 loop-again : tie.Need-loop-again Inv-loop μ-loop
 loop-again c =
     let at-loop = c .before .before .before .before in
     comparing-turn _ _ (at-loop .loop .i) (at-loop .loop .inv) (omega arith) (c .if2 .left)
 
-returns-3 : tie.Need-returns-3 Inv-loop μ-loop
-returns-3 c = sym (comparing-end _ _ _ (c .before .loop .inv) (omega arith))
-
 pub same8-spec : {M : Type 1} → statement M
 same8-spec =
-    tie.close
-    (tie.spec
-    Inv-loop
-    μ-loop
-    returns
-    loop-holds
-    shared-slice-read-if2
-    shared-slice-read-if2-2
-    returns-2
-    add-i
-    loop-less
-    loop-again
-    returns-3)
+    tie.close (
+    tie.spec Inv-loop μ-loop (λ c. sym (same-lengths _ _ (c .if1 .taken))) (λ c. comparing-none _ _ (c .if1 .left)) (λ c. search needs) (λ c. search needs)
+    returns-2 (λ c. search needs) (λ c. search needs) loop-again (λ c. sym (comparing-end _ _ _ (c .before .loop .inv) (omega arith))))

@@ -5,12 +5,6 @@ use Rattle.calls.specs.Questions.{site-lengths}
 use Rattle.tables.proofs.sizes.are_lengths.Statement.{statement}
 use Rattle.tables.proofs.sizes.are_lengths.Tie as tie
 
-cast-n : tie.Need-cast-n
-cast-n c = search needs
-
-mul-if1 : tie.Need-mul-if1
-mul-if1 c = search needs
-
 returns : tie.Need-returns
 unfolding site-lengths
 returns c = simp (ne-eqb _ _ (c .if1 .taken))
@@ -24,4 +18,4 @@ unfolding site-lengths
 returns-3 c = simp (eq-eqb _ _ (c .before .if1 .left), eq-eqb _ _ (c .if2 .left))
 
 pub are-lengths-spec : {M : Type 1} → statement M
-are-lengths-spec = tie.close (tie.spec cast-n mul-if1 returns returns-2 returns-3)
+are-lengths-spec = tie.close (tie.spec (λ c. search needs) (λ c. search needs) returns returns-2 returns-3)

@@ -5,15 +5,9 @@ use Rattle.calls.specs.Questions.{ask, lent-refusal}
 use Rattle.tables.proofs.sizes.lent.Statement.{statement}
 use Rattle.tables.proofs.sizes.lent.Tie as tie
 
-is-size-requires : tie.Need-is-size-requires
-is-size-requires c κs = search needs
-
 returns : tie.Need-returns
 unfolding lent-refusal ask
 returns c = let size = c .before .is-size in rw (← size .ensures, not-true (size .result) (c .if1 .taken))
-
-are-lengths-requires : tie.Need-are-lengths-requires
-are-lengths-requires c κs = search needs
 
 returns-2 : tie.Need-returns-2
 unfolding lent-refusal ask
@@ -44,5 +38,5 @@ returns-4 c =
 
 pub lent-spec : {M : Type 1} → statement M
 lent-spec =
-    tie.close
-    (tie.spec is-size-requires returns are-lengths-requires returns-2 returns-3 returns-4)
+    tie.close (
+    tie.spec (λ c κs. search needs) returns (λ c κs. search needs) returns-2 returns-3 returns-4)

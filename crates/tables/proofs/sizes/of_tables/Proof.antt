@@ -4,12 +4,9 @@ use Rattle.calls.specs.Questions.{tables-refusal}
 use Rattle.tables.proofs.sizes.of_tables.Statement.{statement}
 use Rattle.tables.proofs.sizes.of_tables.Tie as tie
 
-lent-requires : tie.Need-lent-requires
-lent-requires c κs = search needs
-
 returns : tie.Need-returns
 unfolding tables-refusal
 returns c = c .lent .ensures
 
 pub of-tables-spec : {M : Type 1} → statement M
-of-tables-spec = tie.close (tie.spec lent-requires returns)
+of-tables-spec = tie.close (tie.spec (λ c κs. search needs) returns)

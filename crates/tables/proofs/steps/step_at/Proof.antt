@@ -1,33 +1,13 @@
 -- `steps::step_at` meets its contract: it writes the stepped number, or there is no entry to write.
 use mathlib.Core.Path.{sym, ap, _∙_}
-use borrow.Author.Needs.{needs}
+use mir.Facts.{toZ-ofZ}
 use lib.ListN.{getD, set}
 use lib.Seq.{set-out}
-use mir.Facts.{toZ-ofZ}
+use borrow.Author.Needs.{needs}
 use Rattle.tables.specs.Steps.{stepped, step-at}
 use Rattle.tables.proofs.steps.step_at.Statement.{statement}
 use Rattle.tables.proofs.steps.step_at.Tie as tie
-use Rattle.tables.proofs.steps.step_at.Reads as reads
-use Rattle.tables.proofs.steps.step_at.Lts as lts
-use Rattle.tables.proofs.steps.stepped.Reads as stepped-reads
 
--- src/steps.rt:26:30
-slice-read-stepped : tie.Need-slice-read-stepped
-slice-read-stepped c = search needs
-
--- src/steps.rt:26:22
-stepped-requires : tie.Need-stepped-requires
-stepped-requires c κs = search needs
-
--- src/steps.rt:26:9
-slice-write-numbers : tie.Need-slice-write-numbers
-slice-write-numbers c = search needs
-
--- src/steps.rt:22:1
-same-length : tie.Need-same-length
-same-length c = search needs
-
--- src/steps.rt:22:1
 returns : tie.Need-returns
 unfolding step-at
 returns c =
@@ -35,18 +15,11 @@ returns c =
     ap (set (s .args .numbers .now) (s .args .v))
     (c .stepped .ensures ∙ ap (stepped (getD (s .args .numbers .now) (s .args .v) 0)) (toZ-ofZ (s .fits .step)))
 
--- src/steps.rt:22:1
 returns-2 : tie.Need-returns-2
 unfolding step-at
 returns-2 c = sym (set-out _ _ _ (c .if1 .left))
 
 pub step-at-spec : {M : Type 1} → statement M
 step-at-spec =
-    tie.close
-    (tie.spec
-    slice-read-stepped
-    stepped-requires
-    slice-write-numbers
-    same-length
-    returns
-    returns-2)
+    tie.close (
+    tie.spec (λ c. search needs) (λ c κs. search needs) (λ c. search needs) (λ c. search needs) returns returns-2)

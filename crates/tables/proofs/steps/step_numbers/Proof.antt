@@ -1,49 +1,29 @@
 -- `steps::step_numbers` meets its contract: what is left of the list steps the numbers to what the whole list steps them to.
 -- The measure is what is left of the list. A signed local is its bits, so that the invariant reads the step by `toZ`.
-use mathlib.Core.Path.{sym, ap, _∙_}
+use mathlib.Core.Path.{ap, _∙_}
 use Prim.Native.Nat.{_-_}
 use native.Mathlib.Omega.{arith}
-use borrow.Author.Needs.{needs}
-use lib.IntN.{ℤ}
-use lib.ListN.{getD, take, length-take}
-use lib.Seq.{getD-take}
 use mir.Syntax.{w8}
 use mir.Val.{toZ}
 use mir.Facts.{toZ-ofZ}
-use Rattle.tables.specs.Steps.{all-stepped}
-use Rattle.tables.proofs.StepLaws.{Stepping, stepping-none, stepping-turn, stepping-end}
+use lib.IntN.{ℤ}
+use lib.ListN.{take, length-take}
+use lib.Seq.{getD-take}
+use borrow.Author.Needs.{needs}
+use Rattle.tables.specs.Steps.{step-at, all-stepped}
+use Rattle.lists.proofs.Loops.{Folding, folding-none, folding-turn, folding-end, folding-long}
+use Rattle.tables.proofs.StepLaws.{length-step-at}
 use Rattle.tables.proofs.steps.step_numbers.Statement.{statement}
 use Rattle.tables.proofs.steps.step_numbers.Tie as tie
 
 abbrev Inv-loop : tie.InvT-loop
-Inv-loop numbers₀ changed k step m i₀ numbers i = Stepping (take k changed) (toZ w8 step) numbers₀ numbers i
+Inv-loop numbers₀ changed k step m i₀ numbers i = Folding (λ v now. step-at v (toZ w8 step) now) (take k changed) numbers₀ numbers i
 
 abbrev μ-loop : tie.MeasureT-loop
 μ-loop numbers₀ changed k step m i₀ numbers i = m - i
 
-least-requires : tie.Need-least-requires Inv-loop μ-loop
-least-requires c κs = search needs
-
-loop-holds : tie.Need-loop-holds Inv-loop μ-loop
-loop-holds c = stepping-none _ _ _
-
-mul-step-at : tie.Need-mul-step-at Inv-loop μ-loop
-mul-step-at c = search needs
-
-shared-slice-read-step-at : tie.Need-shared-slice-read-step-at Inv-loop μ-loop
-shared-slice-read-step-at c = search needs
-
 cast-step-at : tie.Need-cast-step-at Inv-loop μ-loop
 cast-step-at c = omega (arith, c .shared-slice-known2 .given (c .before .before .before .loop .i))
-
-step-at-requires : tie.Need-step-at-requires Inv-loop μ-loop
-step-at-requires c κs = search needs
-
-add-i : tie.Need-add-i Inv-loop μ-loop
-add-i c = search needs
-
-loop-less : tie.Need-loop-less Inv-loop μ-loop
-loop-less c = search needs
 
 loop-again : tie.Need-loop-again Inv-loop μ-loop
 loop-again c =
@@ -51,33 +31,22 @@ loop-again c =
     let s = at-loop .before .before .before .before .args in
     let i = at-loop .loop .i in
     rw (c .before .before .step-at .ensures)
-    (stepping-turn (take (s .k) (s .changed .now)) _ _ _ i (getD (s .changed .now) i 0) (at-loop .loop .inv)
-    (omega (arith, length-take (s .k) (s .changed .now))) (sym (getD-take (s .k) (s .changed .now) i 0 (omega arith))))
+    (folding-turn _ (take (s .k) (s .changed .now)) _ _ _ i (at-loop .loop .inv) (omega (arith, length-take (s .k) (s .changed .now)))
+    (rw (getD-take (s .k) (s .changed .now) i 0 (omega arith))))
 
 same-length : tie.Need-same-length Inv-loop μ-loop
-same-length c = c .before .loop .inv .long
+same-length c = folding-long _ (λ v now. length-step-at v _ now) _ _ _ _ (c .before .loop .inv)
 
 returns : tie.Need-returns Inv-loop μ-loop
+unfolding all-stepped
 returns c =
     let s = c .before .before .before .before .before in
     let list = take (s .args .k) (s .args .changed .now) in
-    stepping-end list _ _ _ _ (c .before .loop .inv) (omega (arith, length-take (s .args .k) (s .args .changed .now)))
+    folding-end _ list _ _ _ (c .before .loop .inv) (omega (arith, length-take (s .args .k) (s .args .changed .now)))
     ∙ ap (λ (z : ℤ). all-stepped list z (s .args .numbers .now)) (toZ-ofZ (s .fits .step))
 
 pub step-numbers-spec : {M : Type 1} → statement M
 step-numbers-spec =
-    tie.close
-    (tie.spec
-    Inv-loop
-    μ-loop
-    least-requires
-    loop-holds
-    mul-step-at
-    shared-slice-read-step-at
-    cast-step-at
-    step-at-requires
-    add-i
-    loop-less
-    loop-again
-    same-length
-    returns)
+    tie.close (
+    tie.spec Inv-loop μ-loop (λ c κs. search needs) (λ c. folding-none _ _ _) (λ c. search needs) (λ c. search needs) cast-step-at (λ c κs. search needs)
+    (λ c. search needs) (λ c. search needs) loop-again same-length returns)

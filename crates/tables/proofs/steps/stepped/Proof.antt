@@ -4,14 +4,8 @@ use Rattle.tables.proofs.StepLaws.{sum-of, step-wide, sum-fits, held-wi
 use Rattle.tables.proofs.steps.stepped.Statement.{statement}
 use Rattle.tables.proofs.steps.stepped.Tie as tie
 
-cast-sum : tie.Need-cast-sum
-cast-sum c = search needs
-
 cast-sum-2 : tie.Need-cast-sum-2
 cast-sum-2 c = step-wide (c .args .x) (c .args .step) (c .fits .x .fits) (c .fits .step)
-
-add-sum : tie.Need-add-sum
-add-sum c = sum-fits (c .args .x) (c .args .step) (c .fits .x .fits) (c .fits .step)
 
 returns : tie.Need-returns
 returns c = let s = c .before in sum-below (s .args .x) (s .args .step) (s .fits .x .fits) (s .fits .step) (c .if1 .taken)
@@ -29,4 +23,4 @@ returns-3 c =
     sum-within (s .args .x) (s .args .step) (s .fits .x .fits) (s .fits .step) (c .before .if1 .left) (c .if2 .left)
 
 pub stepped-spec : {M : Type 1} → statement M
-stepped-spec = tie.close (tie.spec cast-sum cast-sum-2 add-sum returns returns-2 cast-result returns-3)
+stepped-spec = tie.close (tie.spec (λ c. search needs) cast-sum-2 (λ c. sum-fits (c .args .x) (c .args .step) (c .fits .x .fits) (c .fits .step)) returns returns-2 cast-result returns-3)

@@ -1,20 +1,14 @@
 -- `levels::grow` meets its contract: before each level the lists are right if they were so with the root alone (`Treeing`). The
 -- measure is what is left of the levels.
-use Prim.Native.Nat.{ℕ, _+_, _-_, _≤_, _<_}
-use native.Mathlib.Omega.{arith}
 use mathlib.Core.Path.{_≡_, refl, sym, ap, _∙_}
+use Prim.Native.Nat.{_+_, _-_, _≤_, _<_}
+use native.Mathlib.Omega.{arith}
 use lib.ListN.{length, length-set}
 use borrow.Author.Needs.{needs}
 use Rattle.tree.specs.Trees.{lists}
 use Rattle.tree.proofs.TreeLoop.{Treeing, treeing-none, treeing-turn, treeing-end}
 use Rattle.tree.proofs.levels.grow.Statement.{statement}
 use Rattle.tree.proofs.levels.grow.Tie as tie
-use Rattle.tree.proofs.levels.grow.Reads as reads
-use Rattle.tree.proofs.levels.grow.Lts as lts
-use Rattle.tree.proofs.levels.take_level.Reads as take-level-reads
-use Rattle.tree.proofs.nodes.fill_front.Reads as fill-front-reads
-use Rattle.queries.proofs.backbone.greatest.Reads as greatest-reads
-use Rattle.tree.proofs.nodes.put_node.Reads as put-node-reads
 
 abbrev Inv-loop : tie.InvT-loop
 Inv-loop links numbers names₀ levels₀ parents₀ answer₀ set₀ queue₀ top count₀ k₀ names levels parents answer set queue count k =
@@ -25,39 +19,6 @@ abbrev μ-loop : tie.MeasureT-loop
 μ-loop links numbers names₀ levels₀ parents₀ answer₀ set₀ queue₀ top count₀ k₀ names levels parents answer set queue count k =
     (top + 1) - k
 
--- src/levels.rt:87:5
-fill-front-requires : tie.Need-fill-front-requires Inv-loop μ-loop
-fill-front-requires c κs = search needs
-
--- src/levels.rt:88:5
-put-node-requires : tie.Need-put-node-requires Inv-loop μ-loop
-put-node-requires c κs = search needs
-
--- src/levels.rt:89:15
-greatest-requires : tie.Need-greatest-requires Inv-loop μ-loop
-greatest-requires c κs = search needs
-
--- src/levels.rt:89:15
-cast-top : tie.Need-cast-top Inv-loop μ-loop
-cast-top c = search needs
-
--- src/levels.rt:92:5
-loop-holds : tie.Need-loop-holds Inv-loop μ-loop
-loop-holds c = (refl, refl, search needs, search needs, treeing-none _ _ _)
-
--- src/levels.rt:93:44
-cast-take-level : tie.Need-cast-take-level Inv-loop μ-loop
-cast-take-level c = omega (arith, c .loop-test .taken, c .before .loop .inv .2)
-
--- src/levels.rt:93:53
-slice-aggregate-take-level : tie.Need-slice-aggregate-take-level Inv-loop μ-loop
-slice-aggregate-take-level c = sym (c .before .before .loop .inv .0)
-
--- src/levels.rt:93:63
-slice-aggregate-take-level-2 : tie.Need-slice-aggregate-take-level-2 Inv-loop μ-loop
-slice-aggregate-take-level-2 c = sym (c .before .before .before .loop .inv .1)
-
--- src/levels.rt:93:9
 take-level-requires : tie.Need-take-level-requires Inv-loop μ-loop
 take-level-requires c κs =
     let at-loop = c .before .before .before .before .before .before .before in
@@ -71,15 +32,6 @@ take-level-requires c κs =
       at-loop .loop .inv .4 .few,
     )
 
--- src/levels.rt:94:9
-add-k : tie.Need-add-k Inv-loop μ-loop
-add-k c = search needs
-
--- src/levels.rt:92:5
-loop-less : tie.Need-loop-less Inv-loop μ-loop
-loop-less c = search needs
-
--- src/levels.rt:92:5
 loop-again : tie.Need-loop-again Inv-loop μ-loop
 loop-again c =
     let at-loop = c .before .before .before .before .before .before .before .before .before .before .before .before .before .before .before .before .before .before in
@@ -92,23 +44,18 @@ loop-again c =
           (c .before .before .before .before .before .before .before .before .before .before .take-level .ensures .0) (c .before .before .before .before .before .before .before .before .before .before .take-level .ensures .1) (at-loop .loop .inv .4),
     )
 
--- src/levels.rt:74:1
 same-length : tie.Need-same-length Inv-loop μ-loop
 same-length c = c .before .loop .inv .4 .lengths .names ∙ ap length (c .before .before .before .before .before .before .before .before .before .put-node .ensures .0) ∙ length-set (c .before .before .before .before .before .before .before .before .before .before .before .before .before .before .before .before .before .before .before .before .before .before .before .args .names .now) 0 65535
 
--- src/levels.rt:74:1
 same-length-2 : tie.Need-same-length-2 Inv-loop μ-loop
 same-length-2 c = c .before .loop .inv .4 .lengths .levels ∙ ap length (c .before .before .before .before .before .before .before .before .before .put-node .ensures .1 .0) ∙ length-set (c .before .before .before .before .before .before .before .before .before .before .before .before .before .before .before .before .before .before .before .before .before .before .before .args .levels .now) 0 0
 
--- src/levels.rt:74:1
 same-length-3 : tie.Need-same-length-3 Inv-loop μ-loop
 same-length-3 c = c .before .loop .inv .4 .lengths .parents ∙ ap length (c .before .before .before .before .before .before .before .before .before .put-node .ensures .1 .1) ∙ length-set (c .before .before .before .before .before .before .before .before .before .before .before .before .before .before .before .before .before .before .before .before .before .before .before .args .parents .now) 0 65535
 
--- src/levels.rt:74:1
 same-length-4 : tie.Need-same-length-4 Inv-loop μ-loop
 same-length-4 c = c .before .loop .inv .4 .lengths .answer ∙ c .before .before .before .before .before .before .before .before .before .before .before .before .before .before .answer .given
 
--- src/levels.rt:74:1
 returns : tie.Need-returns Inv-loop μ-loop
 returns c =
     let at-loop = c .before in
@@ -119,24 +66,8 @@ returns c =
 
 pub grow-spec : {M : Type 1} → statement M
 grow-spec =
-    tie.close
-    (tie.spec
-    Inv-loop
-    μ-loop
-    fill-front-requires
-    put-node-requires
-    greatest-requires
-    cast-top
-    loop-holds
-    cast-take-level
-    slice-aggregate-take-level
-    slice-aggregate-take-level-2
-    take-level-requires
-    add-k
-    loop-less
-    loop-again
-    same-length
-    same-length-2
-    same-length-3
-    same-length-4
-    returns)
+    tie.close (
+    tie.spec Inv-loop μ-loop (λ c κs. search needs) (λ c κs. search needs) (λ c κs. search needs) (λ c. search needs)
+    (λ c. (refl, refl, search needs, search needs, treeing-none _ _ _)) (λ c. omega (arith, c .loop-test .taken, c .before .loop .inv .2))
+    (λ c. sym (c .before .before .loop .inv .0)) (λ c. sym (c .before .before .before .loop .inv .1)) take-level-requires (λ c. search needs)
+    (λ c. search needs) loop-again same-length same-length-2 same-length-3 same-length-4 returns)

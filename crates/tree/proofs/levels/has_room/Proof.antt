@@ -2,16 +2,6 @@
 use Rattle.tree.proofs.TreeAnswer.{room-short, room-long}
 use Rattle.tree.proofs.levels.has_room.Statement.{statement}
 use Rattle.tree.proofs.levels.has_room.Tie as tie
-use Rattle.tree.proofs.levels.has_room.Reads as reads
-use Rattle.tree.proofs.levels.has_room.Lts as lts
-
--- src/levels.rt:106:9
-returns : tie.Need-returns
-returns c = room-short _ _ _ (c .if1 .taken)
-
--- src/levels.rt:102:1
-returns-2 : tie.Need-returns-2
-returns-2 c = room-long _ _ _ (c .if1 .left)
 
 pub has-room-spec : {M : Type 1} → statement M
-has-room-spec = tie.close (tie.spec returns returns-2)
+has-room-spec = tie.close (tie.spec (λ c. room-short _ _ _ (c .if1 .taken)) (λ c. room-long _ _ _ (c .if1 .left)))

@@ -1,18 +1,14 @@
 -- `levels::take_level` meets its contract: before each radio the set and the lists are right if they were so at the level's start
 -- (`Levelling`). The measure is what is left of the radios.
+use mathlib.Core.Path.{ap, _∙_}
 use Prim.Native.Nat.{ℕ, _-_}
 use native.Mathlib.Omega.{arith}
-use mathlib.Core.Path.{ap, _∙_}
 use lib.ListN.{length, length-replicate}
 use borrow.Author.Needs.{needs}
 use Rattle.tree.specs.Trees.{lists}
 use Rattle.tree.proofs.LevelLoop.{Levelling, levelling-none, levelling-turn, levelling-end}
 use Rattle.tree.proofs.levels.take_level.Statement.{statement}
 use Rattle.tree.proofs.levels.take_level.Tie as tie
-use Rattle.tree.proofs.levels.take_level.Reads as reads
-use Rattle.tree.proofs.levels.take_level.Lts as lts
-use Rattle.tables.proofs.fill.fill8.Reads as fill8-reads
-use Rattle.tree.proofs.levels.visit.Reads as visit-reads
 
 abbrev Inv-loop : tie.InvT-loop
 Inv-loop links numbers level set₀ queue₀ names₀ levels₀ parents₀ answer₀ count c₀ v₀ set queue names levels parents answer c v =
@@ -22,19 +18,9 @@ abbrev μ-loop : tie.MeasureT-loop
 μ-loop links numbers level set₀ queue₀ names₀ levels₀ parents₀ answer₀ count c₀ v₀ set queue names levels parents answer c v =
     length numbers - v
 
--- src/levels.rt:62:5
-fill8-requires : tie.Need-fill8-requires Inv-loop μ-loop
-fill8-requires c κs = search needs
-
--- src/levels.rt:65:5
-loop-holds : tie.Need-loop-holds Inv-loop μ-loop
-loop-holds c = levelling-none _ _ _ _ _ _ _
-
--- src/levels.rt:66:42
 cast-visit : tie.Need-cast-visit Inv-loop μ-loop
 cast-visit c = omega (arith, c .loop-test .taken, c .before .before .before .before .before .before .before .before .before .before .before .before .before .before .pre .0)
 
--- src/levels.rt:66:9
 visit-requires : tie.Need-visit-requires Inv-loop μ-loop
 visit-requires c κs =
     let at-loop = c .before .before .before .before .before .before .before in
@@ -44,46 +30,15 @@ visit-requires c κs =
       omega (arith, c .before .before .before .before .before .before .loop-test .taken, start .pre .0, start .pre .5, at-loop .loop .inv .few),
     )
 
--- src/levels.rt:67:9
-add-v : tie.Need-add-v Inv-loop μ-loop
-add-v c = search needs
-
--- src/levels.rt:65:5
-loop-less : tie.Need-loop-less Inv-loop μ-loop
-loop-less c = search needs
-
--- src/levels.rt:65:5
 loop-again : tie.Need-loop-again Inv-loop μ-loop
 loop-again c =
     let at-loop = c .before .before .before .before .before .before .before .before .before .before .before .before .before .before .before .before .before .before .before .before in
     let start = c .before .before .before .before .before .before .before .before .before .before .before .before .before .before .before .before .before .before .before .before .before .before .before .before .before .before .before .before .before .before .before .before .before in
     levelling-turn (start .args .links .now) (start .args .numbers .now) (start .args .level) _ _ _ _ (at-loop .loop .v) _ _ _ _ _ _ _ _ (start .pre .2) (omega (arith, start .pre .0, start .pre .4)) (c .before .before .before .before .before .before .before .before .before .before .before .before .before .before .before .before .before .before .before .loop-test .taken) (search needs) (search needs) (record { names = search needs; levels = search needs; parents = search needs; answer = search needs }) (c .before .before .before .before .before .before .before .before .before .before .before .before .visit .ensures) (at-loop .loop .inv)
 
--- src/levels.rt:46:1
 same-length : tie.Need-same-length Inv-loop μ-loop
 same-length c = c .before .loop .inv .set-long ∙ ap length (c .before .before .before .before .fill8 .ensures) ∙ length-replicate {A = ℕ} (length (c .before .before .before .before .before .before .before .before .before .before .before .before .before .before .args .set .now)) 0
 
--- src/levels.rt:46:1
-same-length-2 : tie.Need-same-length-2 Inv-loop μ-loop
-same-length-2 c = c .before .loop .inv .queue-long
-
--- src/levels.rt:46:1
-same-length-3 : tie.Need-same-length-3 Inv-loop μ-loop
-same-length-3 c = c .before .loop .inv .lengths .names
-
--- src/levels.rt:46:1
-same-length-4 : tie.Need-same-length-4 Inv-loop μ-loop
-same-length-4 c = c .before .loop .inv .lengths .levels
-
--- src/levels.rt:46:1
-same-length-5 : tie.Need-same-length-5 Inv-loop μ-loop
-same-length-5 c = c .before .loop .inv .lengths .parents
-
--- src/levels.rt:46:1
-same-length-6 : tie.Need-same-length-6 Inv-loop μ-loop
-same-length-6 c = c .before .loop .inv .lengths .answer
-
--- src/levels.rt:46:1
 returns : tie.Need-returns Inv-loop μ-loop
 returns c =
     let at-loop = c .before in
@@ -94,21 +49,7 @@ returns c =
 
 pub take-level-spec : {M : Type 1} → statement M
 take-level-spec =
-    tie.close
-    (tie.spec
-    Inv-loop
-    μ-loop
-    fill8-requires
-    loop-holds
-    cast-visit
-    visit-requires
-    add-v
-    loop-less
-    loop-again
-    same-length
-    same-length-2
-    same-length-3
-    same-length-4
-    same-length-5
-    same-length-6
-    returns)
+    tie.close (
+    tie.spec Inv-loop μ-loop (λ c κs. search needs) (λ c. levelling-none _ _ _ _ _ _ _) cast-visit visit-requires (λ c. search needs) (λ c. search needs)
+    loop-again same-length (λ c. c .before .loop .inv .queue-long) (λ c. c .before .loop .inv .lengths .names) (λ c. c .before .loop .inv .lengths .levels)
+    (λ c. c .before .loop .inv .lengths .parents) (λ c. c .before .loop .inv .lengths .answer) returns)

@@ -1,80 +1,42 @@
--- `nodes::name_all` meets its contract: what is left of the list gives what all of it gives (`Setting`). The measure is what is
+-- `nodes::name_all` meets its contract: what is left of the list gives what all of it gives (`Folding`). The measure is what is
 -- left of the list.
-use Prim.Native.Nat.{ℕ, _-_}
+use Prim.Native.Nat.{_-_}
 use native.Mathlib.Omega.{arith}
-use lib.ListN.{take}
+use lib.ListN.{take, set, length-set}
 use borrow.Author.Needs.{needs}
-use Rattle.tree.proofs.NodeWrites.{Setting, setting-none, setting-turn, setting-end}
+use Rattle.lists.proofs.Loops.{Folding, folding-none, folding-front, folding-front-end, folding-long}
+use Rattle.tree.specs.Trees.{entries-set}
 use Rattle.tree.proofs.nodes.name_all.Statement.{statement}
 use Rattle.tree.proofs.nodes.name_all.Tie as tie
-use Rattle.tree.proofs.nodes.name_all.Reads as reads
-use Rattle.tree.proofs.nodes.name_all.Lts as lts
-use Rattle.rows.proofs.put_entry.Reads as put-entry-reads
 
 abbrev Inv-loop : tie.InvT-loop
-Inv-loop list k x answer₀ i₀ answer i = Setting x (take k list) answer₀ i answer
+Inv-loop list k x answer₀ i₀ answer i = Folding (λ w now. set now w x) (take k list) answer₀ answer i
 
 abbrev μ-loop : tie.MeasureT-loop
 μ-loop list k x answer₀ i₀ answer i = k - i
 
--- src/nodes.rt:33:5
-loop-holds : tie.Need-loop-holds Inv-loop μ-loop
-loop-holds c = setting-none _ _ _
+cast-put16 : tie.Need-cast-put16 Inv-loop μ-loop
+cast-put16 c = omega (arith, c .shared-slice-known2 .given (c .before .before .before .loop .i))
 
--- src/nodes.rt:34:41
-mul-put-entry : tie.Need-mul-put-entry Inv-loop μ-loop
-mul-put-entry c = search needs
-
--- src/nodes.rt:34:41
-shared-slice-read-put-entry : tie.Need-shared-slice-read-put-entry Inv-loop μ-loop
-shared-slice-read-put-entry c = search needs
-
--- src/nodes.rt:34:41
-cast-put-entry : tie.Need-cast-put-entry Inv-loop μ-loop
-cast-put-entry c = omega (arith, c .shared-slice-known2 .given (c .before .before .before .loop .i))
-
--- src/nodes.rt:34:9
-put-entry-requires : tie.Need-put-entry-requires Inv-loop μ-loop
-put-entry-requires c κs = search needs
-
--- src/nodes.rt:35:9
-add-i : tie.Need-add-i Inv-loop μ-loop
-add-i c = search needs
-
--- src/nodes.rt:33:5
-loop-less : tie.Need-loop-less Inv-loop μ-loop
-loop-less c = search needs
-
--- src/nodes.rt:33:5
 loop-again : tie.Need-loop-again Inv-loop μ-loop
 loop-again c =
     let at-loop = c .before .before .before .before .before .before in
     let start = at-loop .before .before .before in
-    setting-turn (start .args .x) (start .args .list .now) (start .args .k) (start .args .answer .now) (at-loop .loop .i) (at-loop .loop .answer) _ (start .pre) (c .before .before .before .before .before .loop-test .taken) (c .before .before .put-entry .ensures) (at-loop .loop .inv)
+    folding-front _ (start .args .list .now) (start .args .k) (start .args .answer .now) (at-loop .loop .answer) _ (at-loop .loop .i) (start .pre)
+    (c .before .before .before .before .before .loop-test .taken) (c .before .before .put16 .ensures) (at-loop .loop .inv)
 
--- src/nodes.rt:28:1
 same-length : tie.Need-same-length Inv-loop μ-loop
-same-length c = c .before .loop .inv .long
+same-length c = folding-long _ (λ w now. length-set now w _) _ _ _ _ (c .before .loop .inv)
 
--- src/nodes.rt:28:1
 returns : tie.Need-returns Inv-loop μ-loop
+unfolding entries-set
 returns c =
     let start = c .before .before .before .before in
-    setting-end (start .args .x) (start .args .list .now) (start .args .k) (start .args .answer .now) (c .before .loop .i) _ (start .pre) (c .loop-test .left) (c .before .loop .inv)
+    folding-front-end _ (start .args .list .now) (start .args .k) (start .args .answer .now) _ (c .before .loop .i) (start .pre) (c .loop-test .left)
+    (c .before .loop .inv)
 
 pub name-all-spec : {M : Type 1} → statement M
 name-all-spec =
-    tie.close
-    (tie.spec
-    Inv-loop
-    μ-loop
-    loop-holds
-    mul-put-entry
-    shared-slice-read-put-entry
-    cast-put-entry
-    put-entry-requires
-    add-i
-    loop-less
-    loop-again
-    same-length
-    returns)
+    tie.close (
+    tie.spec Inv-loop μ-loop (λ c. folding-none _ _ _) (λ c. search needs) (λ c. search needs) cast-put16 (λ c κs. search needs) (λ c. search needs)
+    (λ c. search needs) loop-again same-length returns)

@@ -1,0 +1,67 @@
+-- Question 11 as it is put to an image in place: bs is the image.
+--   links-up-to n bs m           the first m links of the image bs of n radios
+--   tallied rs s ls v            how many links of v in ls have another end w with the rank of v below that of w and the slack s
+--   Tallied                      these counts for each radio below n
+--   few-ends most n ls           no radio below n has more than `most` links in ls
+--   running-maxima-of value m xs the running maxima of the values along xs, and at least m
+--   Tally-room                   what counting over the first m links wants
+--   K-order-decided              whether an order is a k-order, and then the numbers
+--   Site-room                    what deciding question 11 wants
+--   Site-decided                 whether the bytes are an image of n radios, and then its order and its numbers
+-- Definitions only.
+use mathlib.Core.Path.{_≡_}
+use mathlib.Core.Bool.{Bool, true}
+use mathlib.Core.List.{List, [], _∷_, map}
+use Prim.Native.Nat.{ℕ, _+_, _≤_, _<_, max}
+use lib.Dec.{ltb, leb}
+use lib.ListN.{length, getD}
+use Rattle.lists.specs.Lists.{range, all, count}
+use Rattle.mesh.specs.Limits.{max-radios}
+use Rattle.mesh.specs.Graph.{Link, Graph, other-ends, proper}
+use Rattle.mesh.specs.Cores.{number}
+use Rattle.mesh.specs.Orders.{is-k-order}
+use Rattle.mesh.specs.Image.{image-link, image-order, image-graph, checks-good, is-image}
+
+-- `image-links` of mesh is this with the image's own count
+unfoldable pub links-up-to : (n : ℕ) → (image : List ℕ) → (m : ℕ) → List Link
+links-up-to n bs m = map (image-link n bs) (range 0 m)
+
+unfoldable pub tallied : (ranks : List ℕ) → (slack : ℕ) → List Link → (v : ℕ) → ℕ
+tallied rs s ls v = count (λ w. ltb (getD rs v 0) (getD rs w 0 + s)) (other-ends v ls)
+
+pub record Tallied (n : ℕ) (ranks : List ℕ) (slack : ℕ) (links : List Link) (counts : List ℕ) : Type 0 where
+  pub at : (v : ℕ) → v < n → getD counts v 0 ≡ tallied ranks slack links v
+
+unfoldable pub few-ends : (most n : ℕ) → List Link → Bool
+few-ends most n ls = all (λ v. leb (length (other-ends v ls)) most) (range 0 n)
+
+-- `running-maxima` of mesh is this with the later-neighbour counts
+unfoldable pub running-maxima-of : (value : ℕ → ℕ) → (top : ℕ) → List ℕ → List ℕ
+running-maxima-of c m [] = []
+running-maxima-of c m (x ∷ xs) = let top = max m (c x) in top ∷ running-maxima-of c top xs
+
+-- a rank and a count for each radio, and links that are proper
+pub record Tally-room (n m : ℕ) (image : List ℕ) (ranks counts : ℕ) : Type 0 where
+  pub most : n ≤ max-radios
+  pub few : m < 65536
+  pub ranked : ranks ≡ n
+  pub counted : counts ≡ n
+  pub is-proper : proper n (links-up-to n image m) ≡ true
+
+-- xs is the order, and `after` holds a number for each radio
+pub record K-order-decided (g : Graph) (xs after : List ℕ) (r : Bool) : Type 0 where
+  pub answer : r ≡ is-k-order g xs
+  pub numbers : r ≡ true → (v : ℕ) → v < g .n → getD after v 0 ≡ number g v
+
+-- n radios, an image whose blocks pass their checks, and scratch with an entry for each radio
+pub record Site-room (n : ℕ) (image : List ℕ) (listed ranks counts : ℕ) : Type 0 where
+  pub most : n ≤ max-radios
+  pub checked : checks-good image ≡ true
+  pub listed-long : listed ≡ n
+  pub ranks-long : ranks ≡ n
+  pub counts-long : counts ≡ n
+
+pub record Site-decided (n : ℕ) (image order numbers : List ℕ) (r : Bool) : Type 0 where
+  pub answer : r ≡ is-image n image
+  pub order-is : r ≡ true → order ≡ image-order n image
+  pub numbers-are : r ≡ true → (v : ℕ) → v < n → getD numbers v 0 ≡ number (image-graph n image) v

@@ -1,0 +1,2 @@
+-- Words for lists that the definitions and contracts use.
+pub mod Lists

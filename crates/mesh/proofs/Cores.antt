@@ -1,0 +1,8 @@
+-- Core numbers and k-orders: the order is a certificate, peeling works the numbers out, running maxima along a k-order.
+
+pub mod Orders
+pub mod Certificate
+pub mod Peeling
+pub mod KOrders
+pub mod RunningMaximum
+pub mod RunningCertificate

@@ -1,0 +1,69 @@
+-- What sound tables say of the graph that they mark: links by bits, numbers by entries, a row's neighbours.
+use mathlib.Core.Path.{_≡_, sym, ap, _∙_}
+use mathlib.Core.Bool.{Bool, true, _&&_}
+use mathlib.Core.List.{List}
+use Prim.Native.Nat.{ℕ, _*_, _≤_, _<_}
+use native.Mathlib.Omega.{arith}
+use lib.ListN.{length, getD}
+use Rattle.mesh.specs.Limits.{max-radios, max-neighbours, row-bytes}
+use Rattle.mesh.specs.Graph.{linked, degree}
+use Rattle.mesh.specs.Cores.{number, numbers}
+use Rattle.mesh.specs.Tables.{Tables, marked, graph-in}
+use Rattle.mesh.specs.Sound.{symmetric, irreflexive, within, few, rows-proper, sound}
+use Rattle.lists.proofs.Tests.{and-left, and-right}
+use Rattle.mesh.proofs.Cores.Peeling.{getD-numbers}
+use Rattle.mesh.proofs.Tables.ReadBack.{linked-graph-in, degree-graph-in}
+use Rattle.mesh.proofs.Tables.Soundness.{Right, sound-right}
+use Rattle.calls.specs.Questions.{lengths-of}
+use Rattle.calls.proofs.QuestionLaws.{Site-lengths}
+use Rattle.rows.specs.Rows.{neighbours-of, row-listed}
+use Rattle.rows.proofs.RowListLaws.{length-neighbours-of}
+use Rattle.rows.proofs.RowWords.{row-listed-whole}
+
+pub record Sound-site (n : ℕ) (t : Tables) : Type 0 where
+  pub small : n ≤ max-radios
+  pub links-long : length (t .links) ≡ row-bytes * n
+  pub numbers-long : length (t .numbers) ≡ n
+  pub symmetric : symmetric n (t .links) ≡ true
+  pub irreflexive : irreflexive n (t .links) ≡ true
+  pub within : within n (t .links) ≡ true
+  pub few : few max-neighbours n (t .links) ≡ true
+  pub numbers : t .numbers ≡ numbers (graph-in n (t .links))
+
+pub sound-site : (n : ℕ) (t : Tables) → n ≤ max-radios → Site-lengths n (lengths-of t) → sound n t ≡ true → Sound-site n t
+unfolding sound rows-proper lengths-of
+sound-site n t small l h = go (sound-right max-neighbours n t (l .numbers) h)
+  where
+    first : Bool
+    first = symmetric n (t .links) && irreflexive n (t .links)
+
+    second : Bool
+    second = within n (t .links) && few max-neighbours n (t .links)
+
+    go : Right max-neighbours n t → Sound-site n t
+    go r = record {
+      small = small;
+      links-long = l .links;
+      numbers-long = l .numbers;
+      symmetric = and-left (symmetric n (t .links)) (irreflexive n (t .links)) (and-left first second (r .rows));
+      irreflexive = and-right (symmetric n (t .links)) (irreflexive n (t .links)) (and-left first second (r .rows));
+      within = and-left (within n (t .links)) (few max-neighbours n (t .links)) (and-right first second (r .rows));
+      few = and-right (within n (t .links)) (few max-neighbours n (t .links)) (and-right first second (r .rows));
+      numbers = r .core-numbers;
+    }
+
+module _ (n : ℕ) (t : Tables) (s : Sound-site n t) where
+  pub linked-marked : (a b : ℕ) → a < n → b < n → linked (graph-in n (t .links)) a b ≡ marked (t .links) a b
+  linked-marked a b la lb = linked-graph-in n (t .links) (s .symmetric) (s .irreflexive) a b la lb
+
+  pub number-entry : (v : ℕ) → v < n → getD (t .numbers) v 0 ≡ number (graph-in n (t .links)) v
+  unfolding graph-in
+  number-entry v l = ap (λ (ns : List ℕ). getD ns v 0) (s .numbers) ∙ getD-numbers (graph-in n (t .links)) v l
+
+  pub row-listed-neighbours : (a : ℕ) → a < n → row-listed (t .links) a ≡ neighbours-of (t .links) a
+  row-listed-neighbours a l = row-listed-whole (t .links) a (omega (arith, s .links-long))
+
+  pub degree-listed : (a : ℕ) → a < n → length (row-listed (t .links) a) ≡ degree (graph-in n (t .links)) a
+  degree-listed a l =
+      ap length (row-listed-neighbours a l) ∙ length-neighbours-of (t .links) a
+      ∙ sym (degree-graph-in n (t .links) (s .small) (s .symmetric) (s .irreflexive) (s .within) a l)

@@ -1,0 +1,13 @@
+-- `engine::is_sound` is safe: each part lies within its table.
+use mathlib.Core.Path.{sym}
+use lib.Seq.{length-take-le}
+use borrow.Author.Needs.{needs}
+use Rattle.test_histories.proofs.engine.is_sound.Statement.{statement}
+use Rattle.test_histories.proofs.engine.is_sound.Tie as tie
+
+pub is-sound-spec : {M : Type 1} → statement M
+is-sound-spec =
+    tie.close (
+    tie.spec (λ c. search needs) (λ c κs. search needs) (λ c κs. search needs) (λ c κs. search needs) (λ c. sym (length-take-le _ _ (search needs)))
+    (λ c. sym (length-take-le _ _ (search needs))) (λ c. sym (length-take-le _ _ (search needs))) (λ c κs. search needs) (λ c. search needs)
+    (λ c. search needs))

@@ -1,0 +1,126 @@
+// Pseudo-random link histories, played on the engine and on the separate peeling of crate `peeling`: after every call the refusal
+// number, the step, the count, every entry of the lent tables and the verdict on soundness are compared. Some calls are refused on
+// purpose, some are put to spoiled tables. Prints for each history how many calls got which answer, how many differ, and how many
+// of 11 expectations that are wrong on purpose are found. What is printed is worked out by oracle/histories.py.
+mod canaries;
+mod engine;
+mod picking;
+mod play;
+mod random;
+mod trouble;
+
+use libc::STDOUT_FILENO;
+use picking::Plan;
+use test_model::cells;
+
+// Prints a space and a number.
+fn say_field(x: u64) {
+    io::write_all(STDOUT_FILENO, b" ");
+    io::print_decimal(STDOUT_FILENO, x);
+}
+
+fn end_line() {
+    io::write_all(STDOUT_FILENO, b"\n");
+}
+
+// Prints a line: a name, a number, then the counts.
+fn say(name: &[u8], n: u32, counts: &[u64]) {
+    io::write_all(STDOUT_FILENO, name);
+    say_field(n as u64);
+    let mut i: usize = 0;
+    while i < counts.len() {
+        say_field(counts[i]);
+        i += 1;
+    }
+    end_line();
+}
+
+// Adds a history's counts to the sums of all.
+fn add_up(counts: &[u64], sums: &mut [u64]) {
+    let mut i: usize = 0;
+    while i < counts.len() {
+        let more = counts[i] % 4294967296;
+        cells::count(sums, i, more as u32);
+        i += 1;
+    }
+}
+
+// Plays a history and prints its counts.
+fn history(name: &[u8], plan: Plan, sums: &mut [u64]) {
+    let mut counts = [0u64; play::KINDS];
+    play::play(plan, &mut counts);
+    say(name, plan.n, &counts);
+    add_up(&counts, sums);
+}
+
+fn least(x: u32, y: u32) -> u32 {
+    if x < y {
+        return x;
+    }
+    y
+}
+
+// Few links: about as many go down as up, and four neighbours are enough.
+fn sparse(n: u32, calls: u32, sums: &mut [u64]) {
+    let plan = Plan {
+        pairs: 0,
+        n,
+        m: n,
+        most: 4,
+        ups: 10,
+        calls,
+        seed: 88172645463325252,
+    };
+    history(b"sparse", plan, sums);
+}
+
+// Many links among at most 40 radios, up to the 32 neighbours that a radio may have, and beyond.
+fn dense(n: u32, calls: u32, sums: &mut [u64]) {
+    let plan = Plan {
+        pairs: 0,
+        n,
+        m: least(n, 40),
+        most: 40,
+        ups: 14,
+        calls,
+        seed: 362436069521288629,
+    };
+    history(b"dense", plan, sums);
+}
+
+// A clique of m radios, so far as 32 neighbours allow, built and torn down: m times m pairs are asked for, twice.
+fn clique(n: u32, m: u32, pairs: u32, sums: &mut [u64]) {
+    let plan = Plan {
+        pairs,
+        n,
+        m,
+        most: 0,
+        ups: 0,
+        calls: std::num::wrapping_add_u32(pairs, pairs),
+        seed: 123456789123456789,
+    };
+    history(b"clique", plan, sums);
+}
+
+// The three histories of n radios.
+fn site(n: u32, calls: u32, m: u32, pairs: u32, sums: &mut [u64]) {
+    sparse(n, calls, sums);
+    dense(n, calls, sums);
+    clique(n, m, pairs, sums);
+}
+
+fn main() {
+    let mut sums = [0u64; play::KINDS];
+    io::write_all(
+        STDOUT_FILENO,
+        b"history radios: accepted, refused by 1 to 7, changed radios, calls, differences, canaries\n",
+    );
+    site(1, 500, 1, 1, &mut sums);
+    site(2, 1000, 2, 4, &mut sums);
+    site(33, 1800, 33, 1089, &mut sums);
+    site(34, 1800, 34, 1156, &mut sums);
+    site(64, 1800, 34, 1156, &mut sums);
+    site(253, 800, 16, 256, &mut sums);
+    site(512, 800, 16, 256, &mut sums);
+    say(b"all", 0, &sums);
+}

@@ -1,0 +1,216 @@
+// A history, played on the engine and on the expected tables beside it, compared after every call.
+use super::canaries;
+use super::engine;
+use super::picking;
+use super::picking::Plan;
+use super::trouble;
+use calls::Reply;
+use test_model::cells;
+use test_model::expected;
+use test_model::expected::Call;
+use test_model::expected::Owed;
+use test_model::model;
+use test_model::own_check;
+use test_model::same;
+
+// What is counted: calls by refusal number (0 to 7), then the changed radios, the calls, the calls that differ, and the wrong
+// expectations that are found.
+pub const KINDS: usize = 12;
+
+const CHANGED: usize = 8;
+
+const CALLS: usize = 9;
+
+const DIFFERENT: usize = 10;
+
+pub const CANARIES: usize = 11;
+
+// The longest links table that a call is lent. Entries of the other tables past the site's hold these values.
+const LINKS: usize = 64 * model::ENTRIES;
+
+const NUMBER: u8 = 77;
+
+const RADIO: u16 = 7777;
+
+// Whether the engine's check and the test by hand both say what is expected of the site's tables.
+pub fn verdicts_agree(n: u32, sound: bool, links: &[u8], numbers: &[u8], order: &[u16]) -> bool {
+    if engine::is_sound(n, links, numbers, order) != sound {
+        return false;
+    }
+    own_check::is_sound(n as usize, links, numbers, order) == sound
+}
+
+// Whether the verdicts on tables that are spoiled for the call agree.
+fn is_found(call: Call, n: u32, links: &[u8], numbers: &[u8], order: &[u16]) -> bool {
+    if !call.spoiled {
+        return true;
+    }
+    verdicts_agree(n, false, links, numbers, order)
+}
+
+// The engine's reply, and whether spoiled tables were found out.
+struct Answer {
+    reply: Reply,
+    fine: bool,
+}
+
+// Carries the call out on the engine's tables, spoiled for it where that is its trouble.
+fn answer_of(
+    call: Call,
+    n: u32,
+    wrong: trouble::Trouble,
+    links: &mut [u8],
+    numbers: &mut [u8],
+    order: &mut [u16],
+    answer: &mut [u16],
+) -> Answer {
+    trouble::spoil(wrong, links, numbers, order);
+    let fine = is_found(call, n, links, numbers, order);
+    let reply = engine::link(call, links, numbers, order, answer);
+    trouble::spoil(wrong, links, numbers, order);
+    Answer { reply, fine }
+}
+
+// Whether the reply is what is owed.
+pub fn is_owed(reply: Reply, owed: Owed) -> bool {
+    if reply.number != owed.number {
+        return false;
+    }
+    if reply.step != owed.step {
+        return false;
+    }
+    reply.count == owed.count
+}
+
+// Whether every entry of the tables is what is expected, and they are sound.
+pub fn is_expected(
+    n: u32,
+    links: &[u8],
+    numbers: &[u8],
+    order: &[u16],
+    answer: &[u16],
+    model: &[u16],
+) -> bool {
+    if !same::numbers(numbers, model) {
+        return false;
+    }
+    if !same::radios(order, model, model::ORDER) {
+        return false;
+    }
+    if !same::radios(answer, model, model::ANSWER) {
+        return false;
+    }
+    if !same::links(links, model, n as usize) {
+        return false;
+    }
+    verdicts_agree(n, true, links, numbers, order)
+}
+
+// Counts a call.
+fn tally(counts: &mut [u64], reply: Reply, fine: bool) {
+    cells::count(counts, reply.number as usize % CHANGED, 1);
+    cells::count(counts, CHANGED, reply.count);
+    cells::count(counts, CALLS, 1);
+    cells::count(counts, DIFFERENT, !fine as u32);
+}
+
+// Puts the call to the engine and to the expected site, compares and counts.
+fn put_call(
+    call: Call,
+    n: u32,
+    wrong: trouble::Trouble,
+    links: &mut [u8],
+    numbers: &mut [u8],
+    order: &mut [u16],
+    answer: &mut [u16],
+    model: &mut [u16],
+    counts: &mut [u64],
+) {
+    let given = answer_of(call, n, wrong, links, numbers, order, answer);
+    let owed = expected::expect(call, model);
+    let reply = given.reply;
+    let fine = is_expected(n, links, numbers, order, answer, model);
+    tally(counts, reply, fine && given.fine && is_owed(reply, owed));
+}
+
+// Call i of the history. The random number to go on from.
+fn one_call(
+    plan: Plan,
+    i: u32,
+    x: u64,
+    links: &mut [u8],
+    numbers: &mut [u8],
+    order: &mut [u16],
+    answer: &mut [u16],
+    model: &mut [u16],
+    counts: &mut [u64],
+) -> u64 {
+    let picked = picking::pick(plan, i, x, model);
+    let wrong = trouble::draw(plan.n, picked.x);
+    let plain = expected::plain(plan.n, picked.up, picked.a, picked.b);
+    let call = trouble::troubled(plain, wrong.kind);
+    put_call(
+        call,
+        plan.n,
+        wrong,
+        links,
+        numbers,
+        order,
+        answer,
+        model,
+        counts,
+    );
+    wrong.x
+}
+
+// All calls of the history.
+fn all_calls(
+    plan: Plan,
+    links: &mut [u8],
+    numbers: &mut [u8],
+    order: &mut [u16],
+    answer: &mut [u16],
+    model: &mut [u16],
+    counts: &mut [u64],
+) {
+    let mut x = plan.seed;
+    let mut i: u32 = 0;
+    while i < plan.calls {
+        x = one_call(plan, i, x, links, numbers, order, answer, model, counts);
+        i += 1;
+    }
+}
+
+// All calls, and after them the wrong expectations.
+fn all_put(
+    plan: Plan,
+    links: &mut [u8],
+    numbers: &mut [u8],
+    order: &mut [u16],
+    answer: &mut [u16],
+    model: &mut [u16],
+    counts: &mut [u64],
+) {
+    all_calls(plan, links, numbers, order, answer, model, counts);
+    canaries::put(plan.n, links, numbers, order, answer, model, counts);
+}
+
+// Plays the history from a cleared site, counts its calls, and puts the wrong expectations.
+pub fn play(plan: Plan, counts: &mut [u64]) {
+    let mut links = [0u8; LINKS];
+    let mut numbers = [NUMBER; model::ENTRIES];
+    let mut order = [RADIO; model::ENTRIES];
+    let mut answer = [RADIO; model::ENTRIES];
+    let mut model = [0u16; model::LEN];
+    engine::clear(plan.n, &mut links, &mut numbers, &mut order);
+    model::clear(&mut model, plan.n as usize, NUMBER as u16, RADIO);
+    all_put(
+        plan,
+        &mut links,
+        &mut numbers,
+        &mut order,
+        &mut answer,
+        &mut model,
+        counts,
+    );
+}

@@ -1,0 +1,18 @@
+-- `pattern::is_kept16` is safe and ends: the measure is what is left of s.
+use Prim.Native.Nat.{_-_}
+use lib.ListN.{length}
+use borrow.Author.Needs.{needs}
+use Rattle.test_images.proofs.pattern.is_kept16.Statement.{statement}
+use Rattle.test_images.proofs.pattern.is_kept16.Tie as tie
+
+abbrev Inv-loop : tie.InvT-loop
+Inv-loop s i₀ i = Unit {0}
+
+abbrev μ-loop : tie.MeasureT-loop
+μ-loop s i₀ i = length s - i
+
+pub is-kept16-spec : {M : Type 1} → statement M
+is-kept16-spec =
+    tie.close (
+    tie.spec Inv-loop μ-loop (λ c. search needs) (λ c. search needs) (λ c. search needs) (λ c. search needs) (λ c. search needs) (λ c. search needs)
+    (λ c. search needs) (λ c. search needs))

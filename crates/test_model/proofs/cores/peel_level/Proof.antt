@@ -1,0 +1,19 @@
+-- `cores::peel_level` is safe and ends: every table keeps its length, and the measure is how many turns are left.
+use mathlib.Core.Path.{_≡_}
+use Prim.Native.Nat.{_-_}
+use lib.ListN.{length}
+use borrow.Author.Needs.{needs}
+use Rattle.test_model.proofs.cores.peel_level.Statement.{statement}
+use Rattle.test_model.proofs.cores.peel_level.Tie as tie
+
+abbrev Inv-loop : tie.InvT-loop
+Inv-loop model₀ n k turn₀ model turn = length model ≡ length model₀
+
+abbrev μ-loop : tie.MeasureT-loop
+μ-loop model₀ n k turn₀ model turn = n - turn
+
+pub peel-level-spec : {M : Type 1} → statement M
+peel-level-spec =
+    tie.close (
+    tie.spec Inv-loop μ-loop (λ c. search needs) (λ c κs. search needs) (λ c. search needs) (λ c. search needs) (λ c. search needs) (λ c. search needs)
+    (λ c. search needs) (λ c. search needs) (λ c. search needs))

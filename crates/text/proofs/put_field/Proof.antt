@@ -1,0 +1,11 @@
+-- `text::put_field` meets its contract: one text after another.
+use borrow.Author.Needs.{needs}
+use Rattle.text.proofs.PrintLaws.{puts-append}
+use Rattle.text.proofs.put_field.Statement.{statement}
+use Rattle.text.proofs.put_field.Tie as tie
+
+returns : tie.Need-returns
+returns c = puts-append (c .before .before .before .before .before .before .put-byte .ensures) (c .before .before .put-decimal .ensures)
+
+pub put-field-spec : {M : Type 1} → statement M
+put-field-spec = tie.close (tie.spec (λ c κs. search needs) (λ c κs. search needs) (λ c. search needs) returns)
