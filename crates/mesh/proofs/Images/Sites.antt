@@ -71,7 +71,7 @@ image-injective g h xs ys small-g small-h v w e =
 -- ---- read and written
 
 pub written-read : (n : ℕ) (bs : List ℕ) → is-image n bs ≡ true → image-of (image-graph n bs) (image-order n bs) ≡ bs
-unfolding is-image
+unfolding is-image sound
 written-read n bs h =
     let g = image-graph n bs in
     let xs = image-order n bs in
