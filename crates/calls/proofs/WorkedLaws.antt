@@ -104,7 +104,7 @@ number-by zero u v = refl
 number-by (suc q) u v = refl
 
 number-read : (n : ℕ) (bs : List ℕ) (t : Tables) → read-outcome n bs t .0 ≡ read-refusal n (lengths-of t) bs
-unfolding read-outcome
+unfolding read-outcome read-refusal
 number-read n bs t = number-by (read-refusal n (lengths-of t) bs) _ t
 
 -- ---- a state

@@ -122,7 +122,7 @@ block-check bs i =
 unfoldable pub checks-good : (image : List ℕ) → Bool
 checks-good bs = all (block-check bs) (range 0 (length bs / block-bytes))
 
-abbrev pub is-image-within : (most n : ℕ) → (image : List ℕ) → Bool
+unfoldable pub is-image-within : (most n : ℕ) → (image : List ℕ) → Bool
 is-image-within most n bs =
     let g = image-graph n bs in
     let xs = image-order n bs in

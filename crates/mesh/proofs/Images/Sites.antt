@@ -15,7 +15,7 @@ use Rattle.lists.specs.Lists.{same, Each-once}
 use Rattle.mesh.specs.Graph.{Graph, proper, ascending}
 use Rattle.mesh.specs.Tables.{tables-of}
 use Rattle.mesh.specs.Sound.{sound}
-use Rattle.mesh.specs.Image.{image-of, word-at, image-order, image-graph, is-image}
+use Rattle.mesh.specs.Image.{image-of, word-at, image-order, image-graph, is-image-within, is-image}
 use Rattle.lists.proofs.Tests.{and-right, and-both}
 use Rattle.lists.proofs.Range.{once-length, once-below}
 use Rattle.lists.proofs.All.{same-refl, same-eq}
@@ -48,7 +48,7 @@ module _ (g : Graph) (xs : List ℕ) (small : g .n ≤ max-radios) (v : Valid ma
 
   -- question 11 gets yes
   pub is-image-image-of : is-image (g .n) (image-of g xs) ≡ true
-  unfolding is-image sound
+  unfolding is-image is-image-within sound
   is-image-image-of =
       let test : Graph → List ℕ → Bool = λ h ys. (proper (g .n) (h .links) && ascending (h .links)) && (sound (g .n) (tables-of h ys) && same (image-of h ys) (image-of g xs)) in
       ap₂ test read-written-graph read-written-order
@@ -71,7 +71,7 @@ image-injective g h xs ys small-g small-h v w e =
 -- ---- read and written
 
 pub written-read : (n : ℕ) (bs : List ℕ) → is-image n bs ≡ true → image-of (image-graph n bs) (image-order n bs) ≡ bs
-unfolding is-image sound
+unfolding is-image is-image-within sound
 written-read n bs h =
     let g = image-graph n bs in
     let xs = image-order n bs in

@@ -45,6 +45,7 @@ sound-within-more a b n t l h =
 -- ---- images
 
 pub is-image-within-more : (a b n : ℕ) (bs : List ℕ) → a ≤ b → is-image-within a n bs ≡ true → is-image-within b n bs ≡ true
+unfolding is-image-within
 is-image-within-more a b n bs l h =
     let g = image-graph n bs in
     let t = tables-of g (image-order n bs) in
