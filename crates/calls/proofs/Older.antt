@@ -3,27 +3,26 @@
 --   older-read     an image that was read is read as it was
 --   older          all calls
 -- In order: a chain whose last question gets another answer, link calls, images, calls that only read.
-use mathlib.Core.Path.{_≡_, refl, sym, ap, _∙_}
-use mathlib.Core.Bool.{Bool, true, false, _&&_}
+use mathlib.Core.Path.{_≡_, refl, sym, _∙_}
+use mathlib.Core.Bool.{Bool, true, false}
 use mathlib.Core.List.{List}
-use Prim.Native.Nat.{ℕ, zero, suc, _≤_}
+use Prim.Native.Nat.{ℕ, zero, suc}
 use native.Mathlib.Omega.{arith}
+use lib.IntN.{ℤ, pos}
 use lib.ListN.{length}
-use Rattle.mesh.specs.Limits.{max-radios, max-neighbours, former-neighbours}
-use Rattle.mesh.specs.Graph.{Graph, degree}
+use Rattle.mesh.specs.Limits.{max-neighbours, former-neighbours}
+use Rattle.mesh.specs.Graph.{Graph}
 use Rattle.mesh.specs.Tables.{Tables, graph-in}
 use Rattle.mesh.specs.Sound.{sound-within}
-use Rattle.mesh.specs.Valid.{Valid}
-use Rattle.mesh.specs.Image.{whole-blocks, checks-good, is-image-within}
 use Rattle.mesh.proofs.Tables.Older.{sound-within-more, is-image-within-more, older-image}
 use Rattle.mesh.proofs.Images.Tables.{valid-graph-in}
-use Rattle.calls.specs.Questions.{ask, lengths-of, size-good, site-lengths, answer-length, are-radios, ends-differ, can-switch, has-room, lent-refusal}
+use Rattle.calls.specs.Questions.{ask, Lengths, lengths-of, size-good, are-radios, has-room, lent-refusal}
 use Rattle.calls.specs.Questions.{site-refusal, ends-refusal, link-refusal-within, blocks-refusal, read-refusal-within}
-use Rattle.calls.specs.Outcomes.{by-number, read-outcome-within, read-outcome, link-outcome-within, link-outcome, check-outcome, number-outcome}
+use Rattle.calls.specs.Outcomes.{by-number, reply, read-outcome-within, read-outcome, link-outcome-within, link-outcome, check-outcome, number-outcome}
 use Rattle.calls.specs.Outcomes.{neighbours-outcome, linked-outcome, first-outcome, core-outcome, backbone-outcome, write-outcome, tree-outcome}
 use Rattle.calls.specs.Older.{was-sound, Older}
 use Rattle.calls.specs.declared.Reply.{Reply}
-use Rattle.calls.proofs.QuestionLaws.{ask-yes, size-good-true, are-radios-true, has-room-true, true-has-room}
+use Rattle.calls.proofs.QuestionLaws.{size-good-true, are-radios-true, has-room-true, true-has-room}
 
 -- ---- a chain whose last question gets another answer
 
@@ -44,20 +43,115 @@ unfolding ask
 ask-passed q true z x f e = (refl, e)
 ask-passed q false z x f e = absurd (f e)
 
+-- the number of an outcome by the number
+number-reply :
+    (R : ℕ) (step : ℤ) (count : ℕ) (t u : Tables) (w x : List ℕ) →
+    by-number {A = Reply × Tables × List ℕ} R (reply 0 step count, u, x) (λ q. (reply q (pos 0) 0, t, w)) .0 .number ≡ R
+unfolding by-number
+number-reply zero step count t u w x = refl
+number-reply (suc q) step count t u w x = refl
+
+number-bare : (R : ℕ) (u t : Tables) → by-number {A = ℕ × Tables} R (0, u) (λ q. (q, t)) .0 ≡ R
+unfolding by-number
+number-bare zero u t = refl
+number-bare (suc q) u t = refl
+
+now-sound : (n : ℕ) (t : Tables) → was-sound n t → sound-within max-neighbours n t ≡ true
+now-sound n t h = sound-within-more former-neighbours max-neighbours n t (omega arith) h
+
 -- ---- link calls
 
--- 1 to 6 get the same answers within both bounds
-module _ (up : Bool) (n a b : ℕ) (t : Tables) (w : ℕ) (were : was-sound n t) where
+all-yes : ask 1 true (ask 2 true (ask 3 true (ask 4 true (ask 5 true (ask 6 true (ask 7 true 0)))))) ≡ 0
+unfolding ask
+all-yes = refl
+
+module _ (up : Bool) (n a b : ℕ) (t : Tables) (w : List ℕ) (were : was-sound n t) where
   abbrev g : Graph
   g = graph-in n (t .links)
 
-  asked-within : (most : ℕ) → ℕ
-  asked-within most = link-refusal-within most up n a b (lengths-of t) w true g
+  -- the chain, where 3 gets yes
+  abbrev asked : (most : ℕ) → ℕ
+  asked most = link-refusal-within most up n a b (lengths-of t) (length w) true g
 
-  pub are : sound-within max-neighbours n t ≡ true
-  are = sound-within-more former-neighbours max-neighbours n t (omega arith) were
-
-  pub room-more : has-room former-neighbours up g a b ≡ true → has-room max-neighbours up g a b ≡ true
+  room-more : has-room former-neighbours up g a b ≡ true → has-room max-neighbours up g a b ≡ true
   room-more h =
       true-has-room max-neighbours up g a b
       (λ e. let r = has-room-true former-neighbours up g a b h e in (omega (arith, r .0), omega (arith, r .1)))
+
+  same-unless-seven : (asked former-neighbours ≡ 7 → ⊥) → asked max-neighbours ≡ asked former-neighbours
+  unfolding site-refusal lent-refusal ends-refusal
+  same-unless-seven =
+      ask-unless 1 _ 7 _ _
+      (ask-unless 2 _ 7 _ _
+      (ask-unless 3 _ 7 _ _ (ask-unless 4 _ 7 _ _ (ask-unless 5 _ 7 _ _ (ask-unless 6 _ 7 _ _ (ask-last 7 _ _ room-more))))))
+
+  -- formerly sound tables have fewer neighbours than the limit is now
+  seven-taken : asked former-neighbours ≡ 7 → asked max-neighbours ≡ 0
+  unfolding site-refusal lent-refusal ends-refusal graph-in
+  seven-taken e =
+      let one = ask-passed 1 (size-good n) 7 _ (λ z. omega arith) e in
+      let two = ask-passed 2 _ 7 _ (λ z. omega arith) (one .1) in
+      let three = ask-passed 3 _ 7 _ (λ z. omega arith) (two .1) in
+      let four = ask-passed 4 (are-radios n a b) 7 _ (λ z. omega arith) (three .1) in
+      let five = ask-passed 5 _ 7 _ (λ z. omega arith) (four .1) in
+      let six = ask-passed 6 _ 7 _ (λ z. omega arith) (five .1) in
+      let v = valid-graph-in former-neighbours n t (size-good-true n (one .0) .1) were in
+      let ends = are-radios-true n a b (four .0) in
+      let room : has-room max-neighbours up g a b ≡ true =
+      true-has-room max-neighbours up g a b (λ z. (omega (arith, v .degrees a (ends .0)), omega (arith, v .degrees b (ends .1)))) in
+      rw (one .0, two .0, four .0, five .0, six .0, room) all-yes
+
+  number-then : link-outcome-within former-neighbours up n a b t w .0 .number ≡ asked former-neighbours
+  number-then = rw were (number-reply (asked former-neighbours) _ _ t _ w _)
+
+  number-now : link-outcome up n a b t w .0 .number ≡ asked max-neighbours
+  unfolding link-outcome
+  number-now = rw (now-sound n t were) (number-reply (asked max-neighbours) _ _ t _ w _)
+
+  pub older-call :
+      ((link-outcome-within former-neighbours up n a b t w .0 .number ≡ 7 → ⊥) →
+      link-outcome up n a b t w ≡ link-outcome-within former-neighbours up n a b t w)
+      × (link-outcome-within former-neighbours up n a b t w .0 .number ≡ 7 → link-outcome up n a b t w .0 .number ≡ 0)
+  unfolding link-outcome
+  older-call = (
+    λ h. rw (were, now-sound n t were, same-unless-seven (λ e. h (number-then ∙ e))),
+    λ e. number-now ∙ seven-taken (sym number-then ∙ e),
+  )
+
+-- ---- images
+
+same-unless-eleven :
+    (n : ℕ) (bs : List ℕ) (l : Lengths) → (read-refusal-within former-neighbours n l bs ≡ 11 → ⊥) →
+    read-refusal-within max-neighbours n l bs ≡ read-refusal-within former-neighbours n l bs
+unfolding lent-refusal blocks-refusal
+same-unless-eleven n bs l =
+    ask-unless 1 _ 11 _ _ (ask-unless 2 _ 11 _ _ (ask-unless 9 _ 11 _ _ (ask-unless 10 _ 11 _ _ (ask-last 11 _ _
+    (is-image-within-more former-neighbours max-neighbours n bs (omega arith))))))
+
+pub older-read :
+    (n : ℕ) (bs : List ℕ) (t : Tables) → (read-outcome-within former-neighbours n bs t .0 ≡ 11 → ⊥) →
+    read-outcome n bs t ≡ read-outcome-within former-neighbours n bs t
+unfolding read-outcome
+older-read n bs t h =
+    let then = read-refusal-within former-neighbours n (lengths-of t) bs in
+    rw (same-unless-eleven n bs (lengths-of t) (λ e. h (number-bare then _ t ∙ e)))
+
+-- ---- all calls
+
+pub older : Older
+unfolding check-outcome number-outcome neighbours-outcome linked-outcome first-outcome core-outcome backbone-outcome write-outcome tree-outcome
+older = record {
+  link = λ up n a b t w s. older-call up n a b t w s .0;
+  seven = λ up n a b t w s. older-call up n a b t w s .1;
+  check = λ n t s. rw (s, now-sound n t s);
+  number = λ n v t s. rw (s, now-sound n t s);
+  neighbours = λ n v t s. rw (s, now-sound n t s);
+  linked = λ n a b t s. rw (s, now-sound n t s);
+  first = λ n a b t s. rw (s, now-sound n t s);
+  core = λ n v k t w s. rw (s, now-sound n t s);
+  backbone = λ n t w s. rw (s, now-sound n t s);
+  tree = λ n t m w s. rw (s, now-sound n t s);
+  image-write = λ n t w s. rw (s, now-sound n t s);
+  image = older-image;
+  image-read = older-read;
+}
