@@ -141,13 +141,6 @@ link-zero up a b l w sound g p =
     let q = site-zero (g .n) l (answer-length (g .n) w) sound (ends-refusal max-neighbours up (g .n) a b g) p in
     (q .0, ends-zero max-neighbours up a b g (q .1))
 
-pub link-yes :
-    (up : Bool) (a b : ℕ) (l : Lengths) (w : ℕ) (sound : Bool) (g : Graph) → Site-good (g .n) l (answer-length (g .n) w) sound →
-    Allowed max-neighbours up a b g → link-refusal up (g .n) a b l w sound g ≡ 0
-unfolding link-refusal
-link-yes up a b l w sound g s h =
-    site-yes (g .n) l (answer-length (g .n) w) sound _ s ∙ ends-yes max-neighbours up a b g h
-
 pub radio-zero :
     (n v : ℕ) (l : Lengths) (sound : Bool) → radio-refusal n v l sound ≡ 0 → Site-good n l true sound × (v < n)
 unfolding radio-refusal

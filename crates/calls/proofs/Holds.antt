@@ -55,12 +55,7 @@ pub read-holds :
 unfolding read-refusal tables-of image-graph
 read-holds m bs r t v p d =
     let q = read-zero m (lengths-of t) bs p in
-    record {
-      most = q .0 .most;
-      xs = image-order m bs;
-      valid = image-valid m bs (q .0 .most) (q .2);
-      is = tables-ext v _ (d .links) (d .numbers) (d .order);
-    }
+    record { most = q .0 .most; xs = image-order m bs; valid = image-valid m bs (q .0 .most) (q .2); is = tables-ext v _ (d .links) (d .numbers) (d .order) }
 
 -- ---- tables that hold the pairs
 

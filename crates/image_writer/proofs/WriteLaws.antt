@@ -105,8 +105,4 @@ module _ (n : ℕ) (t : Tables) (w : List ℕ) where
           ap₂ {C = List ℕ} (λ (m : Graph) (k : ℕ). flatMap (block-at m (t .order)) (range 0 k)) whole (counted ∙ blocks-are) in
           let long : length (image-of g (t .order)) ≡ block-bytes * blocks = length-image-of g (t .order) ∙ ap (λ (k : ℕ). block-bytes * k) (sym (counted ∙ blocks-are)) in
           by-accepted refusal (λ q. Listing-refused q w (record { number = 0; value = block-bytes * blocks }) x) zero-is
-          (record {
-            number = refl;
-            value = sym length-is;
-            lent = e ∙ ap₂ {C = List ℕ} (λ (xs : List ℕ) (k : ℕ). xs ++ drop k w) front (sym long);
-          })
+          (record { number = refl; value = sym length-is; lent = e ∙ ap₂ {C = List ℕ} (λ (xs : List ℕ) (k : ℕ). xs ++ drop k w) front (sym long) })

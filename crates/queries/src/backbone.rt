@@ -46,10 +46,7 @@ pub fn backbone<'a>(
     order: &'a [u16],
     answer: &mut [u16],
 ) -> Value
-    ensures { λ r. ⌜
-        Backbone-contract n (lent (links .entry) (numbers .entry) (order .entry)) (now (answer .entry)) r
-        (now (answer .exit))
-        ⌝ }
+    ensures { λ r. ⌜ Backbone-contract n (lent (links .entry) (numbers .entry) (order .entry)) (now (answer .entry)) r (now (answer .exit)) ⌝ }
 {
     let refusal = soundness::refusal(n, links, numbers, order, n as usize <= answer.len());
     if refusal != 0 {

@@ -10,11 +10,8 @@ use calls::Value;
 
 // Questions 1 to 4 of one radio.
 fn radio_refusal<'a>(n: u32, v: u32, links: &'a [u8], numbers: &'a [u8], order: &'a [u16]) -> u32
-    ensures { λ r. ⌜
-        r
-        ≡ radio-refusal n v (lengths-of (lent (links .entry) (numbers .entry) (order .entry)))
-        (sound n (lent (links .entry) (numbers .entry) (order .entry)))
-        ⌝ }
+    ensures { λ r. ⌜ r ≡ radio-refusal n v (lengths-of (lent (links .entry) (numbers .entry) (order .entry)))
+        (sound n (lent (links .entry) (numbers .entry) (order .entry))) ⌝ }
 {
     let number = soundness::refusal(n, links, numbers, order, true);
     if number != 0 {
@@ -35,11 +32,8 @@ fn pair_refusal<'a>(
     numbers: &'a [u8],
     order: &'a [u16],
 ) -> u32
-    ensures { λ r. ⌜
-        r
-        ≡ pair-refusal n a b (lengths-of (lent (links .entry) (numbers .entry) (order .entry)))
-        (sound n (lent (links .entry) (numbers .entry) (order .entry)))
-        ⌝ }
+    ensures { λ r. ⌜ r ≡ pair-refusal n a b (lengths-of (lent (links .entry) (numbers .entry) (order .entry)))
+        (sound n (lent (links .entry) (numbers .entry) (order .entry))) ⌝ }
 {
     let number = radio_refusal(n, a, links, numbers, order);
     if number != 0 {

@@ -28,10 +28,7 @@ unfolding set-bits filter range
 set-bits-filter zero i w f h = refl
 set-bits-filter (suc d) i w f h =
     let lowest : eqb (w % 2) 1 ≡ f i = sym (ap f (omega arith) ∙ h 0 (omega arith) ∙ digit-zero w) in
-    rw (
-      lowest,
-      set-bits-filter d (suc i) (w / 2) f (λ k l. ap f (omega arith) ∙ h (suc k) (omega arith) ∙ digit-suc w k),
-    )
+    rw (lowest, set-bits-filter d (suc i) (w / 2) f (λ k l. ap f (omega arith) ∙ h (suc k) (omega arith) ∙ digit-suc w k))
 
 ones-zero : ones 0 ≡ 0
 unfolding ones
@@ -98,14 +95,7 @@ set-bits-lowest (suc d) i w p h = go (λ q. set-bits-lowest d (suc i) (w / 2) q 
     go rec (inr e) =
         let even : w % 2 ≡ 0 = omega (arith, eqb-false (w % 2) 1 e) in
         let next : suc i + trailingZeros d (w / 2) ≡ i + suc (trailingZeros d (w / 2)) = omega arith in
-        rw (
-          clear-lowest-even w p even,
-          double-half (bitAnd (w / 2) (w / 2 - 1)),
-          double-even (bitAnd (w / 2) (w / 2 - 1)),
-          even,
-          rec (omega arith),
-          next,
-        )
+        rw (clear-lowest-even w p even, double-half (bitAnd (w / 2) (w / 2 - 1)), double-even (bitAnd (w / 2) (w / 2 - 1)), even, rec (omega arith), next)
 
 -- ---- digits of a number in two parts
 
@@ -125,12 +115,7 @@ digit-high n b lo d h =
 byte-above : (k b lo : ℕ) → b < 256 → lo < 2 ^ (8 * k) → b * 2 ^ (8 * k) + lo < 2 ^ (8 * suc k)
 byte-above k b lo h g =
     let place : 8 * suc k ≡ 8 + 8 * k = omega arith in
-    omega (
-      arith,
-      ap (λ (x : ℕ). 2 ^ x) place ∙ pow-add 2 8 (8 * k),
-      suc-mul b (2 ^ (8 * k)),
-      mul-le-mul-right (2 ^ (8 * k)) h,
-    )
+    omega (arith, ap (λ (x : ℕ). 2 ^ x) place ∙ pow-add 2 8 (8 * k), suc-mul b (2 ^ (8 * k)), mul-le-mul-right (2 ^ (8 * k)) h)
 
 module _ (ts : List ℕ) (bytes : (j : ℕ) → getD ts j 0 < 256) (i : ℕ) where
   pub word-at-less : (k : ℕ) → word-at k ts i < 2 ^ (8 * k)

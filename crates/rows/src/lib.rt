@@ -105,10 +105,8 @@ fn list_bits(word: u64, first: u32, list: &mut [u16], count: u32) -> u32
 // later entries keep their content. Of a row that is not whole in the table nothing is written, and the count is 0.
 pub fn row_neighbours(links: &[u8], a: u32, list: &mut [u16]) -> u32
     ensures counted { λ r. ⌜ r ≡ length (row-listed (now (links .entry)) a) ⌝ }
-    ensures listed { λ _. ⌜
-        now (list .exit)
-        ≡ overwrite (take (length (now (list .entry))) (row-listed (now (links .entry)) a)) (now (list .entry))
-        ⌝ }
+    ensures listed { λ _. ⌜ now (list .exit)
+        ≡ overwrite (take (length (now (list .entry))) (row-listed (now (links .entry)) a)) (now (list .entry)) ⌝ }
 {
     let start = mesh::Site::ROW_BYTES * a as usize;
     if links.len() < start + mesh::Site::ROW_BYTES {

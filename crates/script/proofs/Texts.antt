@@ -102,9 +102,3 @@ text-parse s l e n = go (said-line s)
     go : Said s (line-of s) → Values l × (s ≡ text-of l)
     go (inl b) = absurd (n (sym e ∙ b))
     go (inr p) = rw e at p
-
--- a text that is read as Bad is the text of no line
-pub bad-no-text : (s : List ℕ) (l : Line) → line-of s ≡ Bad → Values l → s ≡ text-of l → ⊥
-unfolding Values
-bad-no-text s l e v t =
-    let is-bad : l ≡ Bad = sym (parse-text l v) ∙ ap line-of (sym t) ∙ e in subst Values is-bad v

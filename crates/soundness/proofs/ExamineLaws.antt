@@ -64,13 +64,7 @@ module _ (n : ℕ) (t : Tables) (ps hs : List ℕ) where
   fitting = examinable n (lengths-of t) (length ps) (length hs)
 
   examined-no : (qs is : List ℕ) → length qs ≡ length ps → length is ≡ length hs → (fitting && sound n t) ≡ false → Examined n t ps qs hs is false
-  examined-no qs is p q e = record {
-    answer = sym e;
-    placed = λ f. never false f refl;
-    highs = λ f. never false f refl;
-    places-long = p;
-    highs-long = q;
-  }
+  examined-no qs is p q e = record { answer = sym e; placed = λ f. never false f refl; highs = λ f. never false f refl; places-long = p; highs-long = q }
 
   pub examined-unfit : (u : Bool) → u ≡ fitting → u ≡ false → Examined n t ps ps hs hs false
   examined-unfit u e f = examined-no ps hs refl refl (rw (sym e ∙ f))

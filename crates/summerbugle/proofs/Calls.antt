@@ -191,9 +191,4 @@ reader-step = record {
 
 -- moved(reader)
 abbrev pub reader-moved : Function
-reader-moved = record {
-  signature = moving.signature;
-  routine = moving-symbol.routine;
-  kept = moving.ended .kept;
-  contract = λ κs a r e. Moved (a .0) r;
-}
+reader-moved = record { signature = moving.signature; routine = moving-symbol.routine; kept = moving.ended .kept; contract = λ κs a r e. Moved (a .0) r }

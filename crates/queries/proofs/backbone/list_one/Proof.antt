@@ -16,5 +16,4 @@ returns-2 c = (rw (eq-eqb _ _ (c .before .before .before .before .if1 .left)), r
 pub list-one-spec : {M : Type 1} → statement M
 list-one-spec =
     tie.close (
-    tie.spec (λ c. search needs) returns (λ c. search needs) (λ c κs. search needs) (λ c. search needs) (λ c. search needs)
-    returns-2)
+    tie.spec (λ c. search needs) returns (λ c. search needs) (λ c κs. search needs) (λ c. search needs) (λ c. search needs) returns-2)

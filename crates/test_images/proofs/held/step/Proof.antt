@@ -205,13 +205,7 @@ module _ {M : Type 1} (𝓤 : URA M) (H : Heap 𝓤) (A : Atoms 𝓤) (W : Given
       vint w64 h ∷ [],
       (
         vint w64 (r .next) ∷ [],
-        (
-          vint w32 (t .number) ∷ [],
-          (
-            vint w32 (t .end) ∷ [],
-            (m (t .part) ∷ [], (vint w64 (t .next) ∷ [], (vint w64 (e .next) ∷ [], tt))),
-          ),
-        ),
+        (vint w32 (t .number) ∷ [], (vint w32 (t .end) ∷ [], (m (t .part) ∷ [], (vint w64 (t .next) ∷ [], (vint w64 (e .next) ∷ [], tt))))),
       ),
     )
 
