@@ -6,9 +6,8 @@
 use mathlib.Core.Path.{_≡_, refl, sym, _∙_}
 use mathlib.Core.Bool.{Bool, true, false}
 use mathlib.Core.List.{List}
-use Prim.Native.Nat.{ℕ, zero, suc}
+use Prim.Native.Nat.{ℕ}
 use native.Mathlib.Omega.{arith}
-use lib.IntN.{ℤ, pos}
 use lib.ListN.{length}
 use Rattle.mesh.specs.Limits.{max-neighbours, former-neighbours}
 use Rattle.mesh.specs.Graph.{Graph}
@@ -18,10 +17,11 @@ use Rattle.mesh.proofs.Tables.Older.{sound-within-more, is-image-within-more, o
 use Rattle.mesh.proofs.Images.Tables.{valid-graph-in}
 use Rattle.calls.specs.Questions.{ask, Lengths, lengths-of, size-good, are-radios, has-room, lent-refusal}
 use Rattle.calls.specs.Questions.{site-refusal, ends-refusal, link-refusal-within, blocks-refusal, read-refusal-within}
-use Rattle.calls.specs.Outcomes.{by-number, reply, read-outcome-within, read-outcome, link-outcome-within, link-outcome, check-outcome, number-outcome}
+use Rattle.calls.specs.Outcomes.{read-outcome-within, read-outcome, link-outcome-within, link-outcome, check-outcome, number-outcome}
 use Rattle.calls.specs.Outcomes.{neighbours-outcome, linked-outcome, first-outcome, core-outcome, backbone-outcome, write-outcome, tree-outcome}
-use Rattle.calls.specs.Older.{was-sound, Older}
+use Rattle.calls.specs.Older.{Was-sound, Older}
 use Rattle.calls.specs.declared.Reply.{Reply}
+use Rattle.calls.proofs.Outcomes.{number-by}
 use Rattle.calls.proofs.QuestionLaws.{size-good-true, are-radios-true, has-room-true, true-has-room}
 
 -- ---- a chain whose last question gets another answer
@@ -43,20 +43,7 @@ unfolding ask
 ask-passed q true z x f e = (refl, e)
 ask-passed q false z x f e = absurd (f e)
 
--- the number of an outcome by the number
-number-reply :
-    (R : ℕ) (step : ℤ) (count : ℕ) (t u : Tables) (w x : List ℕ) →
-    by-number {A = Reply × Tables × List ℕ} R (reply 0 step count, u, x) (λ q. (reply q (pos 0) 0, t, w)) .0 .number ≡ R
-unfolding by-number
-number-reply zero step count t u w x = refl
-number-reply (suc q) step count t u w x = refl
-
-number-bare : (R : ℕ) (u t : Tables) → by-number {A = ℕ × Tables} R (0, u) (λ q. (q, t)) .0 ≡ R
-unfolding by-number
-number-bare zero u t = refl
-number-bare (suc q) u t = refl
-
-now-sound : (n : ℕ) (t : Tables) → was-sound n t → sound-within max-neighbours n t ≡ true
+now-sound : (n : ℕ) (t : Tables) → Was-sound n t → sound-within max-neighbours n t ≡ true
 now-sound n t h = sound-within-more former-neighbours max-neighbours n t (omega arith) h
 
 -- ---- link calls
@@ -65,7 +52,7 @@ all-yes : ask 1 true (ask 2 true (ask 3 true (ask 4 true (ask 5 true (ask 6 true
 unfolding ask
 all-yes = refl
 
-module _ (up : Bool) (n a b : ℕ) (t : Tables) (w : List ℕ) (were : was-sound n t) where
+module _ (up : Bool) (n a b : ℕ) (t : Tables) (w : List ℕ) (were : Was-sound n t) where
   abbrev g : Graph
   g = graph-in n (t .links)
 
@@ -102,11 +89,11 @@ module _ (up : Bool) (n a b : ℕ) (t : Tables) (w : List ℕ) (were : was-sound
       rw (one .0, two .0, four .0, five .0, six .0, room) all-yes
 
   number-then : link-outcome-within former-neighbours up n a b t w .0 .number ≡ asked former-neighbours
-  number-then = rw were (number-reply (asked former-neighbours) _ _ t _ w _)
+  number-then = rw were (number-by (λ (o : Reply × Tables × List ℕ). o .0 .number) (asked former-neighbours) _ _ refl (λ q. refl))
 
   number-now : link-outcome up n a b t w .0 .number ≡ asked max-neighbours
   unfolding link-outcome
-  number-now = rw (now-sound n t were) (number-reply (asked max-neighbours) _ _ t _ w _)
+  number-now = rw (now-sound n t were) (number-by (λ (o : Reply × Tables × List ℕ). o .0 .number) (asked max-neighbours) _ _ refl (λ q. refl))
 
   pub older-call :
       ((link-outcome-within former-neighbours up n a b t w .0 .number ≡ 7 → ⊥) →
@@ -134,7 +121,7 @@ pub older-read :
 unfolding read-outcome
 older-read n bs t h =
     let then = read-refusal-within former-neighbours n (lengths-of t) bs in
-    rw (same-unless-eleven n bs (lengths-of t) (λ e. h (number-bare then _ t ∙ e)))
+    rw (same-unless-eleven n bs (lengths-of t) (λ e. h (number-by (λ (o : ℕ × Tables). o .0) then _ _ refl (λ q. refl) ∙ e)))
 
 -- ---- all calls
 

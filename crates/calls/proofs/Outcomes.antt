@@ -60,6 +60,13 @@ unfolding By-number by-number
 by-meets zero P Q a r p q = p
 by-meets (suc x) P Q a r p q = q (suc x)
 
+-- the number of the outcome worked out is the one that the questions give
+pub number-by :
+    {A : Type 0} (number : A → ℕ) (R : ℕ) (a : A) (r : ℕ → A) → number a ≡ 0 → ((q : ℕ) → number (r q) ≡ q) → number (by-number R a r) ≡ R
+unfolding by-number
+number-by number zero a r e f = e
+number-by number (suc q) a r e f = f (suc q)
+
 value-by : (R x : ℕ) → Decides (Value-by R x)
 value-by R x =
     by-decides R (Value-accepted x) Value-refused (λ o s p q. value-ext o s (cc) (cc)) (λ y o s p q. value-ext o s (cc) (cc))

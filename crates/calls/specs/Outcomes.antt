@@ -21,8 +21,8 @@ use Rattle.mesh.specs.Connected.{core-of, backbone}
 use Rattle.mesh.specs.Tree.{tree, node-names}
 use Rattle.mesh.specs.Image.{block-bytes, payload-bytes, image-of, image-graph, image-order}
 use Rattle.mesh.specs.declared.Node.{Node}
-use Rattle.calls.specs.Questions.{lengths-of, image-length, tables-refusal, link-refusal-within, read-refusal-within, radio-refusal, pair-refusal, core-refusal}
-use Rattle.calls.specs.Questions.{backbone-refusal, tree-refusal, write-refusal, block-refusal}
+use Rattle.calls.specs.Questions.{lengths-of, image-length, tables-refusal, link-refusal-within, read-refusal-within, radio-refusal, pair-refusal}
+use Rattle.calls.specs.Questions.{core-refusal, backbone-refusal, tree-refusal, write-refusal, block-refusal}
 use Rattle.calls.specs.Switches.{switch, switched}
 use Rattle.calls.specs.Answers.{first-of-two}
 use Rattle.calls.specs.declared.Reply.{Reply}
@@ -84,13 +84,15 @@ unfoldable pub check-outcome : (n : ℕ) → Tables → Value
 check-outcome n t = check-outcome-within max-neighbours n t
 
 abbrev pub number-outcome-within : (most n v : ℕ) → Tables → Value
-number-outcome-within most n v t = value-outcome (radio-refusal n v (lengths-of t) (sound-within most n t)) (number (graph-in n (t .links)) v)
+number-outcome-within most n v t =
+    value-outcome (radio-refusal n v (lengths-of t) (sound-within most n t)) (number (graph-in n (t .links)) v)
 
 unfoldable pub number-outcome : (n v : ℕ) → Tables → Value
 number-outcome n v t = number-outcome-within max-neighbours n v t
 
 abbrev pub neighbours-outcome-within : (most n v : ℕ) → Tables → Value
-neighbours-outcome-within most n v t = value-outcome (radio-refusal n v (lengths-of t) (sound-within most n t)) (degree (graph-in n (t .links)) v)
+neighbours-outcome-within most n v t =
+    value-outcome (radio-refusal n v (lengths-of t) (sound-within most n t)) (degree (graph-in n (t .links)) v)
 
 unfoldable pub neighbours-outcome : (n v : ℕ) → Tables → Value
 neighbours-outcome n v t = neighbours-outcome-within max-neighbours n v t
@@ -103,7 +105,8 @@ unfoldable pub linked-outcome : (n a b : ℕ) → Tables → Value
 linked-outcome n a b t = linked-outcome-within max-neighbours n a b t
 
 abbrev pub first-outcome-within : (most n a b : ℕ) → Tables → Value
-first-outcome-within most n a b t = value-outcome (pair-refusal n a b (lengths-of t) (sound-within most n t)) (first-of-two a b (t .order))
+first-outcome-within most n a b t =
+    value-outcome (pair-refusal n a b (lengths-of t) (sound-within most n t)) (first-of-two a b (t .order))
 
 unfoldable pub first-outcome : (n a b : ℕ) → Tables → Value
 first-outcome n a b t = first-outcome-within max-neighbours n a b t
