@@ -1,7 +1,7 @@
--- The limits of a site, each number once. `Site` in src/lib.rt has the same three; proofs/SiteLimits.antt ties them.
+-- The limits of a site, each number once. `Site` in src/lib.rt has the three that hold; proofs/SiteLimits.antt ties them.
 --   max-radios        how many radios a site may have
 --   max-neighbours    how many neighbours a radio may have
---   former-neighbours the same before: tables and images of that time are older ones
+--   former-neighbours how many it might have before: tables and images of that time are older ones
 --   row-bytes         how many bytes a row of the links table has
 -- Definitions only.
 use Prim.Native.Nat.{ℕ}
