@@ -14,7 +14,7 @@ use Rattle.mesh.specs.Graph.{Graph}
 use Rattle.mesh.specs.Tables.{Tables, graph-in}
 use Rattle.mesh.specs.Sound.{sound-within}
 use Rattle.mesh.proofs.Tables.Older.{sound-within-more, is-image-within-more, older-image}
-use Rattle.mesh.proofs.Images.Tables.{valid-graph-in}
+use Rattle.mesh.proofs.Images.Tables.{valid-graph-in, is-image-within-sound}
 use Rattle.calls.specs.Questions.{ask, Lengths, lengths-of, size-good, are-radios, has-room, lent-refusal}
 use Rattle.calls.specs.Questions.{site-refusal, ends-refusal, link-refusal-within, blocks-refusal, read-refusal-within}
 use Rattle.calls.specs.Outcomes.{read-outcome-within, read-outcome, link-outcome-within, link-outcome, check-outcome, number-outcome}
@@ -139,6 +139,7 @@ older = record {
   backbone = λ n t w s. rw (s, now-sound n t s);
   tree = λ n t m w s. rw (s, now-sound n t s);
   image-write = λ n t w s. rw (s, now-sound n t s);
+  image-written = λ n t l s. is-image-within-sound former-neighbours n t l (omega arith) s;
   image = older-image;
   image-read = older-read;
 }

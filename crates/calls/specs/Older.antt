@@ -5,11 +5,11 @@
 use mathlib.Core.Path.{_≡_}
 use mathlib.Core.Bool.{Bool, true}
 use mathlib.Core.List.{List}
-use Prim.Native.Nat.{ℕ}
-use Rattle.mesh.specs.Limits.{former-neighbours}
-use Rattle.mesh.specs.Tables.{Tables}
+use Prim.Native.Nat.{ℕ, _≤_}
+use Rattle.mesh.specs.Limits.{max-radios, former-neighbours}
+use Rattle.mesh.specs.Tables.{Tables, graph-in}
 use Rattle.mesh.specs.Sound.{sound-within}
-use Rattle.mesh.specs.Image.{is-image-within, is-image}
+use Rattle.mesh.specs.Image.{image-of, is-image-within, is-image}
 use Rattle.mesh.specs.declared.Node.{Node}
 use Rattle.calls.specs.Outcomes.{read-outcome-within, read-outcome, link-outcome-within, link-outcome, check-outcome-within, check-outcome}
 use Rattle.calls.specs.Outcomes.{number-outcome-within, number-outcome, neighbours-outcome-within, neighbours-outcome, linked-outcome-within}
@@ -47,7 +47,11 @@ pub record Older : Type 0 where
       tree-outcome n t m w ≡ tree-outcome-within former-neighbours n t m w
   pub image-write :
       (n : ℕ) (t : Tables) (w : List ℕ) → Was-sound n t → write-outcome n t w ≡ write-outcome-within former-neighbours n t w
-  -- an older image is an image
+  -- an older image: what was written of formerly sound tables
+  pub image-written :
+      (n : ℕ) (t : Tables) → n ≤ max-radios → Was-sound n t →
+      is-image-within former-neighbours n (image-of (graph-in n (t .links)) (t .order)) ≡ true
+  -- it is an image
   pub image : (n : ℕ) (bs : List ℕ) → is-image-within former-neighbours n bs ≡ true → is-image n bs ≡ true
   -- and reads as it did: accepted then, or refused by another question than 11
   pub image-read :
