@@ -93,7 +93,7 @@ Slice = RefT (List ℕ)
 
 module _ {M : Type 1} (𝓤 : URA M) (H : Heap 𝓤) (A : Atoms 𝓤) (W : Given 𝓤 H A) (mem : Memory → SProp 𝓤) (run : Routine → Fun 𝓤) (κ : Lft) (q : Share)
     (s : Slice) (i : ℕ) (i-fits : i < 2 ^ 64) (h : ℕ) (h-fits : h < 2 ^ 64) where
-  -- the structs' types, and those of locals
+  -- the types of the structs and of locals
   abbrev α : NamedLft
   α = namedLft 1 0 tt (κ, tt)
 
