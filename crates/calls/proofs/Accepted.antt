@@ -51,9 +51,13 @@ use Rattle.mesh.specs.Valid.{Valid}
 use Rattle.calls.specs.Questions.{ask, By-number, lengths-of, size-good, site-lengths, image-length, lent-refusal, tables-refusal, link-refusal}
 use Rattle.calls.specs.Questions.{radio-refusal, core-refusal, backbone-refusal, tree-refusal, write-refusal, blocks-refusal, image-refusal, read-refusal}
 use Rattle.calls.specs.Questions.{block-refusal}
-use Rattle.calls.specs.Writes.{Tables-refused, Link-accepted, Link-refused, Link-contract, Read-accepted, Read-contract}
-use Rattle.calls.specs.Answers.{Value-accepted, Value-refused, Check-contract, Number-contract, Listing-accepted, Listing-refused, Core-contract}
-use Rattle.calls.specs.Answers.{Backbone-contract, Write-contract, Tree-accepted, Tree-refused, Tree-contract, Block-none, Block-accepted, Block-contract}
+use Rattle.calls.specs.Contracts.Forms.{Tables-refused, Value-accepted, Value-refused, Listing-accepted, Listing-refused}
+use Rattle.calls.specs.Contracts.Links.{Link-accepted, Link-refused, Link-contract}
+use Rattle.calls.specs.Contracts.Images.{Read-accepted, Read-contract, Write-contract, Block-none, Block-accepted, Block-contract}
+use Rattle.calls.specs.Contracts.Sites.{Check-contract}
+use Rattle.calls.specs.Contracts.Radios.{Number-contract}
+use Rattle.calls.specs.Contracts.Cores.{Core-contract, Backbone-contract}
+use Rattle.calls.specs.Contracts.Trees.{Tree-accepted, Tree-refused, Tree-contract}
 use Rattle.calls.specs.Results.{Numbers-right, Site-right, Listed, Link-right, Core-listed, Backbone-listed, Tree-listed, Written-right, Read-right}
 use Rattle.calls.specs.Results.{Block-part, Block-end}
 use Rattle.calls.specs.declared.Reply.{Reply}

@@ -15,10 +15,10 @@ use Rattle.mesh.specs.Tables.{Tables, graph-in}
 use Rattle.mesh.specs.Sound.{sound-within}
 use Rattle.mesh.proofs.Tables.Older.{sound-within-more, is-image-within-more, older-image}
 use Rattle.mesh.proofs.Images.Tables.{valid-graph-in, is-image-within-sound}
-use Rattle.calls.specs.Questions.{ask, Lengths, lengths-of, size-good, are-radios, has-room, lent-refusal}
-use Rattle.calls.specs.Questions.{site-refusal, ends-refusal, link-refusal-within, blocks-refusal, read-refusal-within}
-use Rattle.calls.specs.Outcomes.{read-outcome-within, read-outcome, link-outcome-within, link-outcome, check-outcome, number-outcome}
-use Rattle.calls.specs.Outcomes.{neighbours-outcome, linked-outcome, first-outcome, core-outcome, backbone-outcome, write-outcome, tree-outcome}
+use Rattle.calls.specs.Questions.{ask, Lengths, lengths-of, size-good, are-radios, has-room, lent-refusal, site-refusal, ends-refusal}
+use Rattle.calls.specs.Questions.{link-refusal-within, blocks-refusal, read-refusal-within}
+use Rattle.calls.specs.Outcomes.{read-outcome-within, read-outcome, link-outcome-within, link-outcome, check-outcome, number-outcome, neighbours-outcome}
+use Rattle.calls.specs.Outcomes.{linked-outcome, first-outcome, core-outcome, backbone-outcome, write-outcome, tree-outcome}
 use Rattle.calls.specs.Older.{Was-sound, Older}
 use Rattle.calls.specs.declared.Reply.{Reply}
 use Rattle.calls.proofs.Outcomes.{number-by}

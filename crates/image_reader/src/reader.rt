@@ -6,7 +6,7 @@ ghost use lib.ListN.{length, getD};
 ghost use Rattle.mesh.specs.Limits.{max-radios, row-bytes};
 ghost use Rattle.mesh.specs.Graph.{graph, proper};
 ghost use Rattle.mesh.specs.Tables.{links-table, lent};
-ghost use Rattle.calls.specs.Writes.{Read-contract};
+ghost use Rattle.calls.specs.Contracts.Images.{Read-contract};
 ghost use Rattle.tables.specs.Widths.{values};
 ghost use Rattle.image_reader.specs.Site.{links-up-to, Site-room};
 ghost use Rattle.image_reader.specs.Reading.{Site-read};

@@ -17,7 +17,8 @@ use Rattle.mesh.proofs.Images.Of.{length-image-of}
 use Rattle.mesh.proofs.Images.Tables.{valid-graph-in}
 use Rattle.mesh.proofs.Tables.DegreeSum.{links-most}
 use Rattle.calls.specs.Questions.{ask, lengths-of, site-refusal, write-refusal, image-length, holds-image}
-use Rattle.calls.specs.Answers.{Write-contract, Listing-refused}
+use Rattle.calls.specs.Contracts.Images.{Write-contract}
+use Rattle.calls.specs.Contracts.Forms.{Listing-refused}
 use Rattle.calls.proofs.ContractLaws.{by-accepted, by-refused}
 use Rattle.calls.proofs.QuestionLaws.{ask-no}
 use Rattle.calls.proofs.ChainLaws.{Site-good, site-zero, site-yes, write-yes, site-stops}

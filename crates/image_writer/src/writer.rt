@@ -8,7 +8,7 @@ ghost use Rattle.lists.specs.Lists.{range};
 ghost use Rattle.mesh.specs.Graph.{link-of};
 ghost use Rattle.mesh.specs.Image.{block-bytes, block-entries, block-links, link-bytes, word, block, block-at};
 ghost use Rattle.mesh.specs.Tables.{lent};
-ghost use Rattle.calls.specs.Answers.{Write-contract};
+ghost use Rattle.calls.specs.Contracts.Images.{Write-contract};
 ghost use Rattle.image_writer.specs.Filler.{opened, sealed};
 ghost use Rattle.link_list.specs.Links.{Rows-listed, Cursor-good};
 ghost use Rattle.image_writer.specs.Blocks.{Row-put, Links-put, Links-filled, Writable, Cursor-at, Block-filled, marked-graph};

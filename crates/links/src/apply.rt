@@ -6,7 +6,7 @@ ghost use lib.Seq.{paste};
 ghost use Rattle.mesh.specs.Limits.{max-radios};
 ghost use Rattle.lists.specs.Lists.{overwrite, Entries-below};
 ghost use Rattle.mesh.specs.Tables.{tables, graph-in, lent};
-ghost use Rattle.calls.specs.Writes.{Link-accepted};
+ghost use Rattle.calls.specs.Contracts.Links.{Link-accepted};
 ghost use Rattle.links.specs.Plans.{changed-part, Planned};
 ghost use Rattle.links.specs.Changes.{all-marked, in-order, counted-step, Applicable};
 use super::plan::Plan;

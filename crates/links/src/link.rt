@@ -3,7 +3,7 @@ ghost use mathlib.Core.Bool.{true, false};
 ghost use Prim.Native.Nat.{_≤_};
 ghost use lib.ListN.{length};
 ghost use Rattle.mesh.specs.Tables.{tables, graph-in, lent};
-ghost use Rattle.calls.specs.Writes.{Link-accepted, Link-contract};
+ghost use Rattle.calls.specs.Contracts.Links.{Link-accepted, Link-contract};
 ghost use Rattle.links.specs.Plans.{Ready};
 use super::apply;
 use super::plan;

@@ -19,7 +19,8 @@ use Rattle.mesh.specs.Tables.{Tables, tables}
 use Rattle.lists.specs.Lists.{In}
 use Rattle.lists.proofs.Range.{length-range}
 use Rattle.calls.specs.Questions.{By-number, lengths-of, lent-refusal, tables-refusal}
-use Rattle.calls.specs.Writes.{Tables-refused, Clear-accepted, Clear-contract}
+use Rattle.calls.specs.Contracts.Forms.{Tables-refused}
+use Rattle.calls.specs.Contracts.Sites.{Clear-accepted, Clear-contract}
 use Rattle.calls.proofs.ChainLaws.{lent-yes}
 use Rattle.calls.proofs.RecordLaws.{tables-ext}
 use Rattle.text.specs.Print.{Buffer, buffer-at, put, Puts, max-place}

@@ -20,7 +20,7 @@ use Rattle.lists.proofs.Range.{range-in, length-range}
 use Rattle.lists.proofs.Filter.{length-filter, filter-ext, filter-none}
 use Rattle.lists.proofs.Count.{count-le-length}
 use Rattle.calls.specs.Questions.{lengths-of, answer-length, site-refusal, backbone-refusal}
-use Rattle.calls.specs.Answers.{Backbone-contract}
+use Rattle.calls.specs.Contracts.Cores.{Backbone-contract}
 use Rattle.calls.proofs.ChainLaws.{site-zero}
 use Rattle.rows.proofs.Listing.{Listing, listing-none, listing-one, listing-end}
 use Rattle.lists.proofs.Overwrite.{sets-front}

@@ -5,7 +5,7 @@ ghost use lib.ListN.{length};
 ghost use Rattle.mesh.specs.Limits.{max-radios};
 ghost use Rattle.lists.specs.Lists.{overwrite};
 ghost use Rattle.mesh.specs.Tables.{lent};
-ghost use Rattle.calls.specs.Answers.{Backbone-contract};
+ghost use Rattle.calls.specs.Contracts.Cores.{Backbone-contract};
 ghost use Rattle.queries.specs.Levels.{level-radios, listed-one, count-one};
 use calls::Value;
 

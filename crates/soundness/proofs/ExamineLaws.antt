@@ -17,7 +17,8 @@ use Rattle.lists.proofs.Tests.{bool-cases, never, and-left, and-right, byte-bit
 use Rattle.lists.proofs.Range.{once-below}
 use Rattle.mesh.proofs.Cores.Orders.{each-once-of}
 use Rattle.calls.specs.Questions.{ask, Lengths, lengths-of, size-good, site-lengths, answer-length, lent-refusal, site-refusal, tables-refusal}
-use Rattle.calls.specs.Answers.{Check-contract, Value-accepted, Value-refused}
+use Rattle.calls.specs.Contracts.Sites.{Check-contract}
+use Rattle.calls.specs.Contracts.Forms.{Value-accepted, Value-refused}
 use Rattle.calls.proofs.ContractLaws.{by-accepted, by-refused}
 use Rattle.calls.proofs.ChainLaws.{lent-zero}
 use Rattle.calls.proofs.QuestionLaws.{true-size-good, true-site-lengths, true-answer-length, size-good-true, Site-lengths, site-lengths-true}

@@ -8,7 +8,7 @@ ghost use Rattle.mesh.specs.Orders.{rising};
 ghost use Rattle.mesh.specs.Sound.{number-in, sound};
 ghost use Rattle.mesh.specs.Tables.{lent};
 ghost use Rattle.calls.specs.Questions.{lengths-of, site-refusal};
-ghost use Rattle.calls.specs.Answers.{Check-contract};
+ghost use Rattle.calls.specs.Contracts.Sites.{Check-contract};
 ghost use Rattle.tables.specs.Sizes.{lengths};
 ghost use Rattle.lists.specs.Lists.{Entries-below};
 ghost use Rattle.soundness.specs.Checks.{Placing, Places-found, Ends-room, Ends-counted, Rows-room, Row-checked, Rows-checked};

@@ -23,9 +23,13 @@ use Rattle.mesh.specs.Tables.{Tables, graph-in}
 use Rattle.mesh.specs.Image.{whole-blocks, checks-good, Tables-image}
 use Rattle.mesh.specs.declared.Node.{Node}
 use Rattle.calls.specs.Questions.{lengths-of, size-good, site-lengths}
-use Rattle.calls.specs.Writes.{Tables-refused, Clear-contract, Link-refused, Link-contract, Read-contract}
-use Rattle.calls.specs.Answers.{Value-refused, Check-contract, Number-contract, Neighbours-contract, Linked-contract, First-contract, Listing-refused}
-use Rattle.calls.specs.Answers.{Core-contract, Backbone-contract, Write-contract, Tree-refused, Tree-contract, Block-none, Block-contract}
+use Rattle.calls.specs.Contracts.Forms.{Tables-refused, Value-refused, Listing-refused}
+use Rattle.calls.specs.Contracts.Sites.{Clear-contract, Check-contract}
+use Rattle.calls.specs.Contracts.Links.{Link-refused, Link-contract}
+use Rattle.calls.specs.Contracts.Images.{Read-contract, Write-contract, Block-none, Block-contract}
+use Rattle.calls.specs.Contracts.Radios.{Number-contract, Neighbours-contract, Linked-contract, First-contract}
+use Rattle.calls.specs.Contracts.Cores.{Core-contract, Backbone-contract}
+use Rattle.calls.specs.Contracts.Trees.{Tree-refused, Tree-contract}
 use Rattle.calls.specs.Outcomes.{clear-outcome, read-outcome, link-outcome, check-outcome, number-outcome, neighbours-outcome, linked-outcome, first-outcome}
 use Rattle.calls.specs.Outcomes.{core-outcome, backbone-outcome, tree-outcome, write-outcome, block-outcome}
 use Rattle.calls.specs.Results.{Site-right, Link-right, Core-listed, Backbone-listed, Tree-listed, Written-right, Read-right, Block-part, Block-end}
@@ -90,7 +94,7 @@ pub record Calls-promised (M : Type 1) : Type 2 where
   pub tree : Promised sb-tree M
   pub image-write : Promised sb-image-write M
   pub image-block : Promised sb-image-block M
-  -- the block reader in document 01's own form: the part given back lies in the image, and is those 504 bytes of it
+  -- the block reader in document 01's own form: the part given back lies in the image, and is its 504 bytes of payload
   pub reader-open : Promised reader-open M
   pub reader-step : Promised reader-step M
   pub reader-moved : Promised reader-moved M
@@ -228,7 +232,7 @@ pub record Property-2 : Type 0 where
       (n : ℕ) (bs : List ℕ) (t : Tables) (r : ℕ) (v : Tables) → Read-contract n bs t r v → size-good n ≡ true →
       site-lengths n (lengths-of t) ≡ true → whole-blocks bs ≡ true → checks-good bs ≡ true →
       ((r ≡ 0) ↔ Tables-image n bs) × ((r ≡ 11) ↔ (Tables-image n bs → ⊥))
-  -- a step of the block reader gives those 504 bytes of the image, or the end
+  -- a step of the block reader gives the 504 bytes of payload, or the end
   pub block : (bs : List ℕ) (i : ℕ) (r : Block) → Block-contract bs i r → r .number ≡ 0 → Block-part bs i r ⊎ Block-end bs i r
   -- tables and images from before the limit on neighbours was raised: calls give what they gave, and a link-up call refused by 7 is taken
   pub older : Older

@@ -2,9 +2,12 @@
 // it, under the same contract. No call has a `requires`.
 ghost use mathlib.Core.Bool.{true, false};
 ghost use Rattle.mesh.specs.Tables.{lent};
-ghost use Rattle.calls.specs.Writes.{Clear-contract, Link-contract, Read-contract};
-ghost use Rattle.calls.specs.Answers.{Check-contract, Number-contract, Neighbours-contract, Linked-contract, First-contract, Core-contract};
-ghost use Rattle.calls.specs.Answers.{Backbone-contract, Tree-contract, Write-contract, Block-contract};
+ghost use Rattle.calls.specs.Contracts.Sites.{Clear-contract, Check-contract};
+ghost use Rattle.calls.specs.Contracts.Links.{Link-contract};
+ghost use Rattle.calls.specs.Contracts.Images.{Read-contract, Write-contract, Block-contract};
+ghost use Rattle.calls.specs.Contracts.Radios.{Number-contract, Neighbours-contract, Linked-contract, First-contract};
+ghost use Rattle.calls.specs.Contracts.Cores.{Core-contract, Backbone-contract};
+ghost use Rattle.calls.specs.Contracts.Trees.{Tree-contract};
 use calls::Block;
 use calls::Reply;
 use calls::Value;

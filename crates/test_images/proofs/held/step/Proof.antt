@@ -306,4 +306,4 @@ step-spec 𝓤 H 𝓜 𝓖 𝓡 =
     (cited 𝓤 H (Opens 𝓤 H (𝓖 .A) (𝓜 .mem) (𝓡 .run)) 𝓜 𝓡 code.env #image·blocks·open opening-def.routine code.calls-image·blocks·open (opening-thm.met 𝓤 H 𝓜 𝓖 𝓡))
     (cited 𝓤 H (Gives 𝓤 H (𝓖 .A) (𝓜 .mem) (𝓡 .run)) 𝓜 𝓡 code.env #image·blocks·step giving-def.routine code.calls-image·blocks·step (giving-thm.met 𝓤 H 𝓜 𝓖 𝓡))
     (cited 𝓤 H (Moves 𝓤 H (𝓖 .A) (𝓜 .mem) (𝓡 .run)) 𝓜 𝓡 code.env #image·blocks·moved moving-def.routine code.calls-image·blocks·moved (moving-thm.met 𝓤 H 𝓜 𝓖 𝓡))
-    (cited 𝓤 H (Notes 𝓤 H (𝓖 .A) (𝓜 .mem) (𝓡 .run)) 𝓜 𝓡 code.env #images·held·noted noting-def.routine code.calls-images·held·noted (noting-thm.met 𝓤 H 𝓜 𝓖 𝓡)))
+    (cited 𝓤 H (Notes 𝓤 H (𝓖 .A) (𝓜 .mem) (𝓡 .run)) 𝓜 𝓡 code.env #images·held·noted noting-def.routine code.calls-test-images·held·noted (noting-thm.met 𝓤 H 𝓜 𝓖 𝓡)))
