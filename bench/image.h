@@ -8,7 +8,7 @@
 #define HEAD 4
 #define ENTRIES 252
 #define LINKS 126
-#define MOST_BLOCKS 70
+#define MOST_BLOCKS 86
 
 static void put_word(uint8_t *p, unsigned x) { p[0] = x, p[1] = x >> 8; }
 

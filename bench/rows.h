@@ -6,7 +6,7 @@
 #include <string.h>
 
 #define RADIOS 512
-#define NEIGHBOURS 32
+#define NEIGHBOURS 40
 #define ROW 64
 
 static inline int marked(const uint8_t *links, unsigned a, unsigned b) { return links[ROW * a + b / 8] >> b % 8 & 1; }

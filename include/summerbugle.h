@@ -27,11 +27,11 @@ extern "C" {
 
 /* The limits of a site. */
 #define SB_RADIOS 512u
-#define SB_NEIGHBOURS 32u
+#define SB_NEIGHBOURS 40u
 #define SB_ROW_BYTES 64u
 /* The name and the parent of the shell tree's root. */
 #define SB_ROOT 65535u
-/* The bytes of a block of an image, and of its payload. The longest image has 70 blocks. */
+/* The bytes of a block of an image, and of its payload. The longest image has 86 blocks. */
 #define SB_BLOCK_BYTES 512u
 #define SB_PAYLOAD_BYTES 504u
 
@@ -44,7 +44,7 @@ enum sb_refusal {
     SB_RADIO = 4,       /* a radio named is not below n */
     SB_SAME_ENDS = 5,   /* the ends of the link are the same radio */
     SB_LINK_STATE = 6,  /* going up: the link is up already; going down: it is down */
-    SB_NO_ROOM = 7,     /* going up: an end has 32 neighbours */
+    SB_NO_ROOM = 7,     /* going up: an end has 40 neighbours */
     SB_LEVEL = 8,       /* the level is above the radio's number */
     SB_IMAGE_SIZE = 9,  /* the buffer does not hold the image; or the length is 0 or no multiple of 512 */
     SB_IMAGE_CHECK = 10, /* a block does not pass its check */
@@ -134,7 +134,7 @@ sb_value sb_number(uint32_t n, uint32_t v, const uint8_t *links, size_t links_le
 /**
  * How many neighbours radio v has.
  *
- * \return number 0 and the count, 0 to 32; or a number from SB_SIZE to SB_RADIO and value 0.
+ * \return number 0 and the count, 0 to 40; or a number from SB_SIZE to SB_RADIO and value 0.
  */
 sb_value sb_neighbours(uint32_t n, uint32_t v, const uint8_t *links, size_t links_len,
                        const uint8_t *numbers, size_t numbers_len, const uint16_t *order, size_t order_len);

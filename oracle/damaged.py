@@ -7,7 +7,7 @@ whether the stored file is what it would write.
 import sys
 from pathlib import Path
 
-RADIOS, NEIGHBOURS, ROW = 512, 32, 64
+RADIOS, NEIGHBOURS, ROW = 512, 40, 64
 OUT = Path(__file__).parent.parent / "crates/test_damaged/stdout"
 
 
@@ -62,8 +62,8 @@ CASES = [
     ("bit-at-n", site(bits=LINKS | {(0, 5)})),
     ("bit-at-511", site(bits=LINKS | {(4, 511)})),
     ("bit-lost", site(bits=LINKS - {(3, 2)})),
-    ("neighbours-32", star(32)),
-    ("neighbours-33", star(33)),
+    ("neighbours-40", star(40)),
+    ("neighbours-41", star(41)),
     ("entry-twice", site(order=[4, 3, 2, 0, 0])),
     ("entry-n", site(order=[4, 3, 2, 0, 5])),
     ("entry-65535", site(order=[65535, 3, 2, 0, 1])),

@@ -321,15 +321,15 @@ def play(host):
     for a, b in [(2, 3), (5, 4), (0, 1)]:
         host.call("link-down", 7, a, b)
         host.call("tree", 7)
-    # M10: a 32nd neighbour is taken, a 33rd gets 7, 6 before 7; after one link goes down it is taken
-    host.call("clear", 34)
-    for v in range(1, 34):
-        host.call("link-up", 34, 0, v)
-    host.call("link-up", 34, 33, 0)
-    host.call("link-up", 34, 1, 0)
-    host.call("link-down", 34, 0, 1)
-    host.call("link-up", 34, 33, 0)
-    lists(host, 34)
+    # M10: a 40th neighbour is taken, a 41st gets 7, 6 before 7; after one link goes down it is taken
+    host.call("clear", 42)
+    for v in range(1, 42):
+        host.call("link-up", 42, 0, v)
+    host.call("link-up", 42, 41, 0)
+    host.call("link-up", 42, 1, 0)
+    host.call("link-down", 42, 0, 1)
+    host.call("link-up", 42, 41, 0)
+    lists(host, 42)
     # one radio, and as many as a site may have
     host.call("clear", 1)
     lists(host, 1)

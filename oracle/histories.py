@@ -85,11 +85,11 @@ def history(n, m, most, ups, calls, seed, clique):
 
 def site_lines(n, calls, m):
     return [("sparse", n, history(n, n, 4, 10, calls, 88172645463325252, False)),
-            ("dense", n, history(n, min(n, 40), 40, 14, calls, 362436069521288629, False)),
+            ("dense", n, history(n, min(n, 48), 48, 14, calls, 362436069521288629, False)),
             ("clique", n, history(n, m, 0, 0, 2 * m * m, 123456789123456789, True))]
 
 
-SITES = [(1, 500, 1), (2, 1000, 2), (33, 1800, 33), (34, 1800, 34), (64, 1800, 34), (253, 800, 16), (512, 800, 16)]
+SITES = [(1, 500, 1), (2, 1000, 2), (41, 1800, 41), (42, 1800, 42), (64, 1800, 42), (253, 800, 16), (512, 800, 16)]
 
 lines = [line for n, calls, m in SITES for line in site_lines(n, calls, m)]
 lines.append(("all", 0, [sum(column) for column in zip(*(counts for _, _, counts in lines))]))

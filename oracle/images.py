@@ -10,10 +10,10 @@ that are found by peeling.
 import sys
 from pathlib import Path
 
-RADIOS, NEIGHBOURS, ROW, BLOCK = 512, 32, 64, 512
+RADIOS, NEIGHBOURS, ROW, BLOCK = 512, 40, 64, 512
 MODULUS, BASE = 4294967291, 65599  # of the digest that the program prints
 BYTE, ENTRY = 165, 42405  # the pattern that tables and buffers hold before a call
-BUFFER = 36864  # the bytes of the program's buffer
+BUFFER = 45056  # the bytes of the program's buffer
 OUT = Path(__file__).parent.parent / "crates/test_images/stdout"
 
 
@@ -319,9 +319,9 @@ def work_out():
     path(253, 127)
     ring(253, 253)
     alone(512)
-    ring(512, 8192)
-    full(31)
-    full(32)
+    ring(512, 10240)
+    full(39)
+    full(40)
     small_lines()
     return "".join(LINES)
 

@@ -1,6 +1,6 @@
 """Document 01's questions of a link call, in turn."""
 
-RADIOS, NEIGHBOURS = 512, 32
+RADIOS, NEIGHBOURS = 512, 40
 
 
 def link_refusal(n, up, a, b, linked, degree):

@@ -14,7 +14,7 @@ from peeled import Site
 from questions import RADIOS
 
 LARGEST = 65535
-CRATE = Path(__file__).resolve().parent.parent / "crates/replay_cases"
+CRATE = Path(__file__).resolve().parent.parent / "crates/test_scripts"
 NUMBER = rb"(0|[1-9][0-9]{0,4})"
 LINE = re.compile(rb"(?:radios " + NUMBER + rb"|(up|down) " + NUMBER + rb" " + NUMBER + rb")\n")
 
@@ -87,16 +87,16 @@ SCRIPTS = {
     "m4": script(6, ups(TRIANGLES + [(2, 3)])),
     "m5": script(7, ups(TRIANGLES + [(2, 3), (0, 6)])),
     "m9": script(3, ups([(3, 3)])),
-    "m10": script(34, ups([(0, v) for v in range(1, 34)] + [(33, 0)]) + downs([(0, 1)]) + ups([(0, 33)])),
+    "m10": script(42, ups([(0, v) for v in range(1, 42)] + [(41, 0)]) + downs([(0, 1)]) + ups([(0, 41)])),
     # refusals of each kind
     "refusals": script(3, ups([(0, 1), (0, 1), (1, 0), (1, 1), (0, 3), (3, 0), (0, 65535)])
                        + downs([(0, 2), (2, 2), (3, 3), (1, 0), (0, 1)])),
     # sizes
     "one-radio": script(1, ups([(0, 0), (0, 1)])),
     "no-calls-512": script(512, []),
-    "clique-33": script(33, ups(clique(33)) + downs(clique(33))),
+    "clique-41": script(41, ups(clique(41)) + downs(clique(41))),
     "ring-512": script(512, ups(circulant(512, 1)) + downs([(0, 1), (511, 0)])),
-    "circulant-512": script(512, ups(circulant(512, 16)) + downs([(0, 1), (0, 16)])),
+    "circulant-512": script(512, ups(circulant(512, 20)) + downs([(0, 1), (0, 20)])),
     # edges of the language
     "empty": b"",
     "empty-line": b"\n",
@@ -146,7 +146,7 @@ SCRIPTS = {
 }
 
 # played again with a read for each byte: more than 1,000 reads, each of less than the program has room for
-BY_BYTES = ["m1", "refusals", "clique-33", "radios-very-long", "unterminated", "very-long", "byte-255", "bad-late", "output-4096"]
+BY_BYTES = ["m1", "refusals", "clique-41", "radios-very-long", "unterminated", "very-long", "byte-255", "bad-late", "output-4096"]
 
 # its last answer, its numbers and its order differ from M1's
 last_lines = [replay(SCRIPTS[name]).splitlines()[3:] for name in ("m1", "canary")]
@@ -159,7 +159,7 @@ FILES[CRATE / "stdout"] = "".join(f"{name}\n{PRINTED[name]}" for name in [*SCRIP
 if "--check" in sys.argv:
     stored = {path for path in (CRATE / "data").iterdir()} | {CRATE / "stdout"}
     same = stored == set(FILES) and all(path.read_bytes() == text for path, text in FILES.items())
-    print("crates/replay_cases:", "as written by this program" if same else "DIFFERENT")
+    print("crates/test_scripts:", "as written by this program" if same else "DIFFERENT")
     sys.exit(not same)
 (CRATE / "data").mkdir(parents=True, exist_ok=True)
 for path, text in FILES.items():

@@ -20,9 +20,10 @@ import sys
 from pathlib import Path
 
 import reference
+from questions import NEIGHBOURS
 
 ROOT, PLACES = 65535, 515
-CRATE = Path(__file__).resolve().parent.parent / "crates/trees"
+CRATE = Path(__file__).resolve().parent.parent / "crates/test_trees"
 
 
 # ---- a site
@@ -35,7 +36,7 @@ class Site:
             assert a != b
             self.near[a].add(b)
             self.near[b].add(a)
-        assert all(len(near) <= 32 for near in self.near)
+        assert all(len(near) <= NEIGHBOURS for near in self.near)
         self.numbers = self.core_numbers()
 
     def core_numbers(self):
@@ -226,7 +227,7 @@ def random_links(n, count, seed):
     degree = [0] * n
     while len(links) < count:
         a, b = sorted(draw.sample(range(n), 2))
-        if (a, b) not in links and max(degree[a], degree[b]) < 32:
+        if (a, b) not in links and max(degree[a], degree[b]) < NEIGHBOURS:
             links.add((a, b))
             degree[a] += 1
             degree[b] += 1
@@ -241,7 +242,7 @@ SITES = {
     "m7": (5, clique([0, 1, 2]) + [(3, 4)]),
     "one-radio": (1, []),
     "cleared-512": (512, []),
-    "clique-33": (33, clique(list(range(33)))),
+    "clique-41": (41, clique(list(range(41)))),
     "pairs-512": (512, [(v, 511 - v) for v in range(256)]),
     "nested-12": nested(12),
     "nested-12-moved": (30, moved(30, nested(12)[1], 12)),
@@ -291,7 +292,7 @@ def main():
     if "--check" in sys.argv:
         stored = {path.name: path.read_bytes() for path in data.iterdir()}
         same = stored == written and out.read_text() == text
-        print("crates/trees:", "as written by this program" if same else "DIFFERENT")
+        print("crates/test_trees:", "as written by this program" if same else "DIFFERENT")
         sys.exit(not same)
     data.mkdir(exist_ok=True)
     for name, content in written.items():

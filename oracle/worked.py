@@ -56,9 +56,9 @@ def compared():
     yield "M8, checks", Site(1).checks(), [5, 4]
     yield "M9", Site(3).call(True, 3, 3), (4, 0, [])
 
-    site, _ = play(34, [up(0, b) for b in range(1, 32)])
-    yield "M10, the 32nd", site.call(True, 0, 32)[0], 0
-    yield "M10, the 33rd", site.call(True, 0, 33)[0], 7
-    yield "M10, the 33rd, ends exchanged", site.call(True, 33, 0)[0], 7
+    site, _ = play(42, [up(0, b) for b in range(1, 40)])
+    yield "M10, the 40th", site.call(True, 0, 40)[0], 0
+    yield "M10, the 41st", site.call(True, 0, 41)[0], 7
+    yield "M10, the 41st, ends exchanged", site.call(True, 41, 0)[0], 7
     yield "M10, one down", site.call(False, 0, 1)[0], 0
-    yield "M10, the 33rd again", site.call(True, 0, 33)[0], 0
+    yield "M10, the 41st again", site.call(True, 0, 41)[0], 0

@@ -305,7 +305,7 @@ read-number n bs t r v d = go (by-cases R (Read-accepted n bs r v) (λ q. Tables
 pub read-eleven : (n : ℕ) (bs : List ℕ) (t : Tables) (r : ℕ) (v : Tables) → Read-contract n bs t r v → size-good n ≡ true
     → site-lengths n (lengths-of t) ≡ true → whole-blocks bs ≡ true → checks-good bs ≡ true
     → ((r ≡ 0) ↔ Tables-image n bs) × ((r ≡ 11) ↔ (Tables-image n bs → ⊥))
-unfolding read-refusal lent-refusal image-refusal blocks-refusal ask
+unfolding read-refusal lent-refusal image-refusal blocks-refusal is-image ask
 read-eleven n bs t r v d one two nine ten = go (is-image n bs) refl (read-number n bs t r v d ∙ rw (one, two, nine, ten))
   where
     iff : (is-image n bs ≡ true) ↔ Tables-image n bs

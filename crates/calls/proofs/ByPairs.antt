@@ -55,27 +55,27 @@ module _ (n : ℕ) (ps : List Link) (t : Tables) (k : Holds n ps t) (least : 1 �
       (ends-refusal max-neighbours up n a b g)
       (reply 0 (step-of up cs) (length cs), switched n (switch up a b) t, overwrite cs w)
       (λ q. (reply q (pos 0) 0, t, w))
-  unfolding link-outcome link-refusal
+  unfolding sound link-outcome link-refusal
   link-by-pairs up a b w l =
       rw (later-asked (answer-length n (length w)) (λ h. ends-refusal max-neighbours up n a b h) (true-answer-length n (length w) l), read-back n ps t k)
 
   pub core-by-pairs :
       (v i : ℕ) (w : List ℕ) → n ≤ length w → let radios = core-of g v i in
       core-outcome n v i t w ≡ listing-outcome (level-refusal n v i g) (length radios) radios w
-  unfolding core-outcome core-refusal
+  unfolding sound core-outcome core-refusal
   core-by-pairs v i w l =
       rw (later-asked (answer-length n (length w)) (λ h. level-refusal n v i h) (true-answer-length n (length w) l), read-back n ps t k)
 
   pub backbone-by-pairs :
       (w : List ℕ) → n ≤ length w → backbone-outcome n t w ≡ listing-outcome 0 (length (backbone g)) (backbone g) w
-  unfolding backbone-outcome backbone-refusal
+  unfolding sound backbone-outcome backbone-refusal
   backbone-by-pairs w l =
       rw (later-asked (answer-length n (length w)) (λ h. 0) (true-answer-length n (length w) l), read-back n ps t k)
 
   pub write-by-pairs :
       (w : List ℕ) → image-length g ≤ length w →
       write-outcome n t w ≡ (value 0 (image-length g), overwrite (image-of g (t .order)) w)
-  unfolding write-outcome write-refusal listing-outcome by-number
+  unfolding sound write-outcome write-refusal listing-outcome by-number
   write-by-pairs w l =
       rw (
         later-asked true (λ h. ask 9 (holds-image h (length w)) 0) refl,
@@ -86,7 +86,7 @@ module _ (n : ℕ) (ps : List Link) (t : Tables) (k : Holds n ps t) (least : 1 �
   pub tree-by-pairs :
       (m : List Node) (w : List ℕ) → n + 1 ≤ length m → n ≤ length w →
       tree-outcome n t m w ≡ (value 0 (length (tree g)), overwrite (tree g) m, overwrite (node-names g) w)
-  unfolding tree-outcome tree-refusal by-number
+  unfolding sound tree-outcome tree-refusal by-number
   tree-by-pairs m w p q =
       let e : (nodes-length n (length m) && answer-length n (length w)) ≡ true =
       rw (true-nodes-length n (length m) p, true-answer-length n (length w) q) in

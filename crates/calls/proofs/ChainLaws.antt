@@ -123,12 +123,12 @@ blocks-yes bs later g =
     ask-yes 9 (whole-blocks bs) (ask 10 (checks-good bs) later) (g .whole) ∙ ask-yes 10 (checks-good bs) later (g .checks)
 
 pub image-zero : (n : ℕ) (bs : List ℕ) → image-refusal n bs ≡ 0 → Blocks-good bs × (is-image n bs ≡ true)
-unfolding image-refusal
+unfolding image-refusal is-image
 image-zero n bs p =
     let q = blocks-zero bs (ask 11 (is-image n bs) 0) p in (q .0, ask-zero 10 (is-image n bs) 0 (q .1) .0)
 
 pub image-yes : (n : ℕ) (bs : List ℕ) → Blocks-good bs → is-image n bs ≡ true → image-refusal n bs ≡ 0
-unfolding image-refusal
+unfolding image-refusal is-image
 image-yes n bs g p = blocks-yes bs (ask 11 (is-image n bs) 0) g ∙ ask-yes 11 (is-image n bs) 0 p
 
 -- ---- the chain of each call; clearing, checking, backbone, shell tree and block reader have the parts above
@@ -203,7 +203,7 @@ write-yes n l room sound g s h =
 pub read-zero :
     (n : ℕ) (l : Lengths) (bs : List ℕ) → read-refusal n l bs ≡ 0 →
     Lent-good n l true × Blocks-good bs × (is-image n bs ≡ true)
-unfolding read-refusal
+unfolding read-refusal image-refusal
 read-zero n l bs p =
     let q = lent-zero n l true (image-refusal n bs) p in
     let r = image-zero n bs (q .1) in (q .0, r .0, r .1)
@@ -211,7 +211,7 @@ read-zero n l bs p =
 pub read-yes :
     (n : ℕ) (l : Lengths) (bs : List ℕ) → Lent-good n l true → Blocks-good bs → is-image n bs ≡ true →
     read-refusal n l bs ≡ 0
-unfolding read-refusal
+unfolding read-refusal image-refusal
 read-yes n l bs g s p = lent-yes n l true (image-refusal n bs) g ∙ image-yes n bs s p
 
 -- a chain that stops at 1 to 3 does not ask further

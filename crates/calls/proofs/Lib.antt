@@ -1,7 +1,7 @@
 -- Proofs about calls: `QuestionLaws`, `ChainLaws`, `ContractLaws` and `RecordLaws` for the crates whose functions meet the
 -- contracts, `Outcomes` that each contract has exactly one outcome, `Refusals` what a refusal keeps, `Total` that every
--- list of calls has a run, `Accepted` what a caller has after an accepted call (property 2), `Exactly` which radios a
--- link call lists, `Cases` that the worked cases hold by
+-- list of calls has a run, `Accepted` what a caller has after an accepted call (property 2), `Older` what calls give of older
+-- tables and images, `Exactly` which radios a link call lists, `Cases` that the worked cases hold by
 -- `ByPairs`, `WorkedState` and `WorkedLaws`, the others for demand 3.
 pub mod QuestionLaws
 pub mod ChainLaws
@@ -21,3 +21,4 @@ pub mod WorkedState
 pub mod WorkedLaws
 pub mod Cases
 pub mod Accepted
+pub mod Older

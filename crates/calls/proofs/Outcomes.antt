@@ -12,9 +12,10 @@ use Prim.Native.Nat.{ℕ, zero, suc, _/_}
 use lib.Dec.{ltb}
 use lib.ListN.{length}
 use Rattle.mesh.specs.Tables.{Tables, graph-in, tables-of}
+use Rattle.mesh.specs.Sound.{sound}
 use Rattle.mesh.specs.Image.{block-bytes}
 use Rattle.mesh.specs.declared.Node.{Node}
-use Rattle.calls.specs.Questions.{By-number}
+use Rattle.calls.specs.Questions.{By-number, link-refusal, read-refusal}
 use Rattle.calls.specs.Contracts.Forms.{Tables-refused, Value-accepted, Value-refused, Value-by, Listing-accepted, Listing-refused, Listing-by}
 use Rattle.calls.specs.Contracts.Sites.{Clear-accepted, Clear-contract, Check-contract}
 use Rattle.calls.specs.Contracts.Links.{Link-accepted, Link-refused, Link-contract}
@@ -61,6 +62,13 @@ by-meets :
 unfolding By-number by-number
 by-meets zero P Q a r p q = p
 by-meets (suc x) P Q a r p q = q (suc x)
+
+-- the number of the outcome worked out is the one that the questions give
+pub number-by :
+    {A : Type 0} (number : A → ℕ) (R : ℕ) (a : A) (r : ℕ → A) → number a ≡ 0 → ((q : ℕ) → number (r q) ≡ q) → number (by-number R a r) ≡ R
+unfolding by-number
+number-by number zero a r e f = e
+number-by number (suc q) a r e f = f (suc q)
 
 value-by : (R x : ℕ) → Decides (Value-by R x)
 value-by R x =
@@ -138,7 +146,7 @@ unfolding Check-contract
 check-decided n t = value-by _ _
 
 pub check-inhabited : (n : ℕ) (t : Tables) → Check-contract n t (check-outcome n t)
-unfolding Check-contract check-outcome
+unfolding Check-contract check-outcome sound
 check-inhabited n t = value-met _ _
 
 pub link-decided :
@@ -156,7 +164,7 @@ link-decided up n a b t w =
 pub link-inhabited :
     (up : Bool) (n a b : ℕ) (t : Tables) (w : List ℕ) →
     let o = link-outcome up n a b t w in Link-contract up n a b t w (o .0) (o .1) (o .2)
-unfolding Link-contract link-outcome switched
+unfolding Link-contract link-outcome link-refusal sound switched
 link-inhabited up n a b t w =
     by-meets
     _
@@ -172,7 +180,7 @@ unfolding Number-contract
 number-decided n v t = value-by _ _
 
 pub number-inhabited : (n v : ℕ) (t : Tables) → Number-contract n v t (number-outcome n v t)
-unfolding Number-contract number-outcome
+unfolding Number-contract number-outcome sound
 number-inhabited n v t = value-met _ _
 
 pub neighbours-decided : (n v : ℕ) (t : Tables) → Decides (Neighbours-contract n v t)
@@ -180,7 +188,7 @@ unfolding Neighbours-contract
 neighbours-decided n v t = value-by _ _
 
 pub neighbours-inhabited : (n v : ℕ) (t : Tables) → Neighbours-contract n v t (neighbours-outcome n v t)
-unfolding Neighbours-contract neighbours-outcome
+unfolding Neighbours-contract neighbours-outcome sound
 neighbours-inhabited n v t = value-met _ _
 
 pub linked-decided : (n a b : ℕ) (t : Tables) → Decides (Linked-contract n a b t)
@@ -188,7 +196,7 @@ unfolding Linked-contract
 linked-decided n a b t = value-by _ _
 
 pub linked-inhabited : (n a b : ℕ) (t : Tables) → Linked-contract n a b t (linked-outcome n a b t)
-unfolding Linked-contract linked-outcome
+unfolding Linked-contract linked-outcome sound
 linked-inhabited n a b t = value-met _ _
 
 pub first-decided : (n a b : ℕ) (t : Tables) → Decides (First-contract n a b t)
@@ -196,7 +204,7 @@ unfolding First-contract
 first-decided n a b t = value-by _ _
 
 pub first-inhabited : (n a b : ℕ) (t : Tables) → First-contract n a b t (first-outcome n a b t)
-unfolding First-contract first-outcome
+unfolding First-contract first-outcome sound
 first-inhabited n a b t = value-met _ _
 
 pub core-decided :
@@ -205,7 +213,7 @@ unfolding Core-contract
 core-decided n v k t w = listing-by _ _ _ w
 
 pub core-inhabited : (n v k : ℕ) (t : Tables) (w : List ℕ) → let o = core-outcome n v k t w in Core-contract n v k t w (o .0) (o .1)
-unfolding Core-contract core-outcome
+unfolding Core-contract core-outcome sound
 core-inhabited n v k t w = listing-met _ _ _ w
 
 pub backbone-decided :
@@ -214,7 +222,7 @@ unfolding Backbone-contract
 backbone-decided n t w = listing-by _ _ _ w
 
 pub backbone-inhabited : (n : ℕ) (t : Tables) (w : List ℕ) → let o = backbone-outcome n t w in Backbone-contract n t w (o .0) (o .1)
-unfolding Backbone-contract backbone-outcome
+unfolding Backbone-contract backbone-outcome sound
 backbone-inhabited n t w = listing-met _ _ _ w
 
 pub tree-decided :
@@ -231,7 +239,7 @@ tree-decided n t m w =
 
 pub tree-inhabited :
     (n : ℕ) (t : Tables) (m : List Node) (w : List ℕ) → let o = tree-outcome n t m w in Tree-contract n t m w (o .0) (o .1) (o .2)
-unfolding Tree-contract tree-outcome
+unfolding Tree-contract tree-outcome sound
 tree-inhabited n t m w =
     by-meets
     _
@@ -248,7 +256,7 @@ unfolding Write-contract
 write-decided n t w = listing-by _ _ _ w
 
 pub write-inhabited : (n : ℕ) (t : Tables) (w : List ℕ) → let o = write-outcome n t w in Write-contract n t w (o .0) (o .1)
-unfolding Write-contract write-outcome
+unfolding Write-contract write-outcome sound
 write-inhabited n t w = listing-met _ _ _ w
 
 pub read-decided : (n : ℕ) (bs : List ℕ) (t : Tables) → Decides {A = ℕ × Tables} (λ o. Read-contract n bs t (o .0) (o .1))
@@ -262,7 +270,7 @@ read-decided n bs t =
     (λ x. tables-refused x t)
 
 pub read-inhabited : (n : ℕ) (bs : List ℕ) (t : Tables) → let o = read-outcome n bs t in Read-contract n bs t (o .0) (o .1)
-unfolding Read-contract read-outcome tables-of
+unfolding Read-contract read-outcome read-refusal tables-of
 read-inhabited n bs t =
     by-meets
     _

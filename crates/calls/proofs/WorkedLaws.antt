@@ -33,6 +33,7 @@ use Rattle.calls.specs.Worked.{shell-tree, connected-core, backbone-radi
 use Rattle.calls.specs.Worked.{is-value, is-listing, image-written, meets, meets-all, Row, right, Right, All-right}
 use Rattle.calls.specs.declared.Reply.{Reply}
 use Rattle.calls.specs.declared.Value.{Value}
+use Rattle.calls.proofs.Outcomes.{number-by}
 use Rattle.calls.proofs.QuestionLaws.{size-good-true}
 use Rattle.calls.proofs.ChainLaws.{lent-yes, ends-zero}
 use Rattle.calls.proofs.Holds.{Holds, clear-holds, read-back, switched-holds}
@@ -98,14 +99,9 @@ listing-right (suc y) r new old xs p =
     let d : [] ≡ xs = same-eq [] xs (and-right (eqb (suc y) r) (same [] xs) p) in
     rw (← e, ← d, is-value-refl (suc y) 0)
 
-number-by : (R : ℕ) (u v : Tables) → by-number {A = ℕ × Tables} R (0, u) (λ q. (q, v)) .0 ≡ R
-unfolding by-number
-number-by zero u v = refl
-number-by (suc q) u v = refl
-
 number-read : (n : ℕ) (bs : List ℕ) (t : Tables) → read-outcome n bs t .0 ≡ read-refusal n (lengths-of t) bs
-unfolding read-outcome
-number-read n bs t = number-by (read-refusal n (lengths-of t) bs) _ t
+unfolding read-outcome read-refusal
+number-read n bs t = number-by (λ (o : ℕ × Tables). o .0) (read-refusal n (lengths-of t) bs) _ _ refl (λ q. refl)
 
 -- ---- a state
 

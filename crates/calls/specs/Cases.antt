@@ -91,19 +91,19 @@ m9 = row 3 (up 3 3 ∷ down 3 3 ∷ []) (
     ∷ whole-order (0 ∷ 1 ∷ 2 ∷ [])
     ∷ [])
 
--- M10: a 32nd neighbour is taken; a 33rd gets 7, from either end; a link that is up already gets 6 there, not 7; after one link goes
--- down the 33rd is taken
+-- M10: a 40th neighbour is taken; a 41st gets 7, from either end; a link that is up already gets 6 there, not 7; after one link goes
+-- down the 41st is taken
 unfoldable pub m10 : Row
-m10 = row 34 (map (up 0) (range 1 32) ++ (up 0 33 ∷ up 33 0 ∷ up 0 1 ∷ down 0 1 ∷ up 0 33 ∷ [])) (
+m10 = row 42 (map (up 0) (range 1 40) ++ (up 0 41 ∷ up 41 0 ∷ up 0 1 ∷ down 0 1 ∷ up 0 41 ∷ [])) (
     last-answers (
-    risen (32 ∷ [])
+    risen (40 ∷ [])
     ∷ refused 7
     ∷ refused 7
     ∷ refused 6
     ∷ fallen (1 ∷ [])
-    ∷ risen (33 ∷ [])
+    ∷ risen (41 ∷ [])
     ∷ [])
-    ∷ all-numbers (1 ∷ 0 ∷ map (λ v. 1) (range 2 32))
+    ∷ all-numbers (1 ∷ 0 ∷ map (λ v. 1) (range 2 40))
     ∷ [])
 
 unfoldable pub cases : List Row

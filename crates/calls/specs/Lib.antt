@@ -1,11 +1,13 @@
 -- What calls promise, in the order in which a reader needs it. `Outcomes` are the outcomes worked out; `Results` is what a caller
--- has after an accepted call (property 2); `FormerDemand` is the statement of a corollary; `Replay` is what the replay program prints;
+-- has after an accepted call (property 2); `Older` is what calls give of older tables and images; `FormerDemand` is the statement of a
+-- corollary; `Replay` is what the replay program prints;
 -- `Worked` and `Cases` are the worked cases of document 01.
 pub mod Questions
 pub mod Switches
 pub mod Contracts
 pub mod Outcomes
 pub mod Results
+pub mod Older
 pub mod Book
 pub mod Runs
 pub mod Demand

@@ -1,6 +1,7 @@
 -- The outcome of each call as an executable definition: its result with the lent tables after it.
 --   by-number refusal accepted refused   the outcome by the number that the call's questions give
 --   clear-outcome .. block-outcome       the outcome of each contract, from what the call is given
+--   ..-outcome-within most               the same with that bound on neighbours in questions 3, 7 and 11
 -- That each meets its contract, and no other outcome does, is `..-inhabited` and `..-decided` in proofs/Outcomes.antt.
 -- Definitions only.
 use mathlib.Core.Bool.{Bool, true, false, cond}
@@ -9,19 +10,19 @@ use Prim.Native.Nat.{ℕ, zero, suc, _+_, _*_, _/_}
 use lib.Dec.{ltb}
 use lib.IntN.{ℤ, pos}
 use lib.ListN.{length, replicate}
-use Rattle.mesh.specs.Limits.{row-bytes}
+use Rattle.mesh.specs.Limits.{max-neighbours, row-bytes}
 use Rattle.lists.specs.Lists.{range, overwrite}
 use Rattle.mesh.specs.Graph.{linked, degree}
 use Rattle.mesh.specs.Cores.{number}
 use Rattle.mesh.specs.Levels.{changed, step-of}
 use Rattle.mesh.specs.Tables.{Tables, tables, graph-in, tables-of}
-use Rattle.mesh.specs.Sound.{sound}
+use Rattle.mesh.specs.Sound.{sound-within}
 use Rattle.mesh.specs.Connected.{core-of, backbone}
 use Rattle.mesh.specs.Tree.{tree, node-names}
 use Rattle.mesh.specs.Image.{block-bytes, payload-bytes, image-of, image-graph, image-order}
 use Rattle.mesh.specs.declared.Node.{Node}
-use Rattle.calls.specs.Questions.{lengths-of, image-length, tables-refusal, link-refusal, read-refusal, radio-refusal, pair-refusal, core-refusal}
-use Rattle.calls.specs.Questions.{backbone-refusal, tree-refusal, write-refusal, block-refusal}
+use Rattle.calls.specs.Questions.{lengths-of, image-length, tables-refusal, link-refusal-within, read-refusal-within, radio-refusal, pair-refusal}
+use Rattle.calls.specs.Questions.{core-refusal, backbone-refusal, tree-refusal, write-refusal, block-refusal}
 use Rattle.calls.specs.Switches.{switch, switched}
 use Rattle.calls.specs.Contracts.Radios.{first-of-two}
 use Rattle.calls.specs.declared.Reply.{Reply}
@@ -50,19 +51,25 @@ clear-outcome n t =
     (λ q. (q, t))
 
 -- the tables of the image
+abbrev pub read-outcome-within : (most n : ℕ) → (image : List ℕ) → Tables → ℕ × Tables
+read-outcome-within most n bs t =
+    by-number (read-refusal-within most n (lengths-of t) bs) (0, tables-of (image-graph n bs) (image-order n bs)) (λ q. (q, t))
+
 unfoldable pub read-outcome : (n : ℕ) → (image : List ℕ) → Tables → ℕ × Tables
-read-outcome n bs t =
-    by-number (read-refusal n (lengths-of t) bs) (0, tables-of (image-graph n bs) (image-order n bs)) (λ q. (q, t))
+read-outcome n bs t = read-outcome-within max-neighbours n bs t
 
 -- the reply, the tables with the link switched, and the changed radios in front of the answer table
-unfoldable pub link-outcome : (up : Bool) → (n a b : ℕ) → Tables → (answer : List ℕ) → Reply × Tables × List ℕ
-link-outcome up n a b t w =
+abbrev pub link-outcome-within : (most : ℕ) → (up : Bool) → (n a b : ℕ) → Tables → (answer : List ℕ) → Reply × Tables × List ℕ
+link-outcome-within most up n a b t w =
     let g = graph-in n (t .links) in
     let cs = changed up a b g in
     by-number
-    (link-refusal up n a b (lengths-of t) (length w) (sound n t) g)
+    (link-refusal-within most up n a b (lengths-of t) (length w) (sound-within most n t) g)
     (reply 0 (step-of up cs) (length cs), switched n (switch up a b) t, overwrite cs w)
     (λ q. (reply q (pos 0) 0, t, w))
+
+unfoldable pub link-outcome : (up : Bool) → (n a b : ℕ) → Tables → (answer : List ℕ) → Reply × Tables × List ℕ
+link-outcome up n a b t w = link-outcome-within max-neighbours up n a b t w
 
 -- ---- a value
 
@@ -70,21 +77,39 @@ link-outcome up n a b t w =
 unfoldable pub value-outcome : (refusal x : ℕ) → Value
 value-outcome R x = by-number R (value 0 x) (λ q. value q 0)
 
+abbrev pub check-outcome-within : (most n : ℕ) → Tables → Value
+check-outcome-within most n t = value-outcome (tables-refusal n (lengths-of t)) (cond (sound-within most n t) 1 0)
+
 unfoldable pub check-outcome : (n : ℕ) → Tables → Value
-check-outcome n t = value-outcome (tables-refusal n (lengths-of t)) (cond (sound n t) 1 0)
+check-outcome n t = check-outcome-within max-neighbours n t
+
+abbrev pub number-outcome-within : (most n v : ℕ) → Tables → Value
+number-outcome-within most n v t =
+    value-outcome (radio-refusal n v (lengths-of t) (sound-within most n t)) (number (graph-in n (t .links)) v)
 
 unfoldable pub number-outcome : (n v : ℕ) → Tables → Value
-number-outcome n v t = value-outcome (radio-refusal n v (lengths-of t) (sound n t)) (number (graph-in n (t .links)) v)
+number-outcome n v t = number-outcome-within max-neighbours n v t
+
+abbrev pub neighbours-outcome-within : (most n v : ℕ) → Tables → Value
+neighbours-outcome-within most n v t =
+    value-outcome (radio-refusal n v (lengths-of t) (sound-within most n t)) (degree (graph-in n (t .links)) v)
 
 unfoldable pub neighbours-outcome : (n v : ℕ) → Tables → Value
-neighbours-outcome n v t = value-outcome (radio-refusal n v (lengths-of t) (sound n t)) (degree (graph-in n (t .links)) v)
+neighbours-outcome n v t = neighbours-outcome-within max-neighbours n v t
+
+abbrev pub linked-outcome-within : (most n a b : ℕ) → Tables → Value
+linked-outcome-within most n a b t =
+    value-outcome (pair-refusal n a b (lengths-of t) (sound-within most n t)) (cond (linked (graph-in n (t .links)) a b) 1 0)
 
 unfoldable pub linked-outcome : (n a b : ℕ) → Tables → Value
-linked-outcome n a b t =
-    value-outcome (pair-refusal n a b (lengths-of t) (sound n t)) (cond (linked (graph-in n (t .links)) a b) 1 0)
+linked-outcome n a b t = linked-outcome-within max-neighbours n a b t
+
+abbrev pub first-outcome-within : (most n a b : ℕ) → Tables → Value
+first-outcome-within most n a b t =
+    value-outcome (pair-refusal n a b (lengths-of t) (sound-within most n t)) (first-of-two a b (t .order))
 
 unfoldable pub first-outcome : (n a b : ℕ) → Tables → Value
-first-outcome n a b t = value-outcome (pair-refusal n a b (lengths-of t) (sound n t)) (first-of-two a b (t .order))
+first-outcome n a b t = first-outcome-within max-neighbours n a b t
 
 -- ---- a value, and entries in front of a lent list
 
@@ -92,32 +117,44 @@ first-outcome n a b t = value-outcome (pair-refusal n a b (lengths-of t) (sound 
 unfoldable pub listing-outcome : (refusal x : ℕ) → (new old : List ℕ) → Value × List ℕ
 listing-outcome R x new old = by-number R (value 0 x, overwrite new old) (λ q. (value q 0, old))
 
-unfoldable pub core-outcome : (n v k : ℕ) → Tables → (answer : List ℕ) → Value × List ℕ
-core-outcome n v k t w =
+abbrev pub core-outcome-within : (most n v k : ℕ) → Tables → (answer : List ℕ) → Value × List ℕ
+core-outcome-within most n v k t w =
     let g = graph-in n (t .links) in
     let radios = core-of g v k in
-    listing-outcome (core-refusal n v k (lengths-of t) (length w) (sound n t) g) (length radios) radios w
+    listing-outcome (core-refusal n v k (lengths-of t) (length w) (sound-within most n t) g) (length radios) radios w
+
+unfoldable pub core-outcome : (n v k : ℕ) → Tables → (answer : List ℕ) → Value × List ℕ
+core-outcome n v k t w = core-outcome-within max-neighbours n v k t w
+
+abbrev pub backbone-outcome-within : (most n : ℕ) → Tables → (answer : List ℕ) → Value × List ℕ
+backbone-outcome-within most n t w =
+    let radios = backbone (graph-in n (t .links)) in
+    listing-outcome (backbone-refusal n (lengths-of t) (length w) (sound-within most n t)) (length radios) radios w
 
 unfoldable pub backbone-outcome : (n : ℕ) → Tables → (answer : List ℕ) → Value × List ℕ
-backbone-outcome n t w =
-    let radios = backbone (graph-in n (t .links)) in
-    listing-outcome (backbone-refusal n (lengths-of t) (length w) (sound n t)) (length radios) radios w
+backbone-outcome n t w = backbone-outcome-within max-neighbours n t w
+
+abbrev pub write-outcome-within : (most n : ℕ) → Tables → (buffer : List ℕ) → Value × List ℕ
+write-outcome-within most n t w =
+    let g = graph-in n (t .links) in
+    listing-outcome (write-refusal n (lengths-of t) (length w) (sound-within most n t) g) (image-length g) (image-of g (t .order)) w
 
 unfoldable pub write-outcome : (n : ℕ) → Tables → (buffer : List ℕ) → Value × List ℕ
-write-outcome n t w =
-    let g = graph-in n (t .links) in
-    listing-outcome (write-refusal n (lengths-of t) (length w) (sound n t) g) (image-length g) (image-of g (t .order)) w
+write-outcome n t w = write-outcome-within max-neighbours n t w
 
 -- ---- the shell tree
 
 -- the count with the root, the nodes in front of their list, each radio's node name in front of the answer table
-unfoldable pub tree-outcome : (n : ℕ) → Tables → (nodes : List Node) → (answer : List ℕ) → Value × List Node × List ℕ
-tree-outcome n t m w =
+abbrev pub tree-outcome-within : (most n : ℕ) → Tables → (nodes : List Node) → (answer : List ℕ) → Value × List Node × List ℕ
+tree-outcome-within most n t m w =
     let g = graph-in n (t .links) in
     by-number
-    (tree-refusal n (lengths-of t) (length m) (length w) (sound n t))
+    (tree-refusal n (lengths-of t) (length m) (length w) (sound-within most n t))
     (value 0 (length (tree g)), overwrite (tree g) m, overwrite (node-names g) w)
     (λ q. (value q 0, m, w))
+
+unfoldable pub tree-outcome : (n : ℕ) → Tables → (nodes : List Node) → (answer : List ℕ) → Value × List Node × List ℕ
+tree-outcome n t m w = tree-outcome-within max-neighbours n t m w
 
 -- ---- a step of the block reader
 

@@ -5,7 +5,8 @@
 --   size-good .. is-image  questions 1 to 11 (3 is `sound`, 10 `checks-good`, 11 `is-image` of mesh)
 --   tables-refusal .. block-refusal   the first "no" of a call's questions, or 0
 -- A chain takes the answer to question 3 and the graph that 6 to 8 are put to, since the link book answers these from its
--- pairs and gives 3 a yes. Definitions only.
+-- pairs and gives 3 a yes. A chain `..-within most` asks with that bound on neighbours; without it, with a site's own.
+-- Definitions only.
 use mathlib.Core.Bool.{Bool, true, false, _&&_, not}
 use mathlib.Core.List.{List}
 use Prim.Native.Nat.{ℕ, zero, suc, _+_, _*_}
@@ -15,7 +16,7 @@ use Rattle.mesh.specs.Limits.{max-radios, max-neighbours, row-bytes}
 use Rattle.mesh.specs.Graph.{Graph, linked, degree}
 use Rattle.mesh.specs.Cores.{number}
 use Rattle.mesh.specs.Tables.{Tables}
-use Rattle.mesh.specs.Image.{block-bytes, block-count, whole-blocks, checks-good, is-image}
+use Rattle.mesh.specs.Image.{block-bytes, block-count, whole-blocks, checks-good, is-image-within}
 
 unfoldable pub ask : (number : ℕ) → (yes : Bool) → (later : ℕ) → ℕ
 ask r true later = later
@@ -106,9 +107,13 @@ ends-refusal most up n a b g =
     ask 4 (are-radios n a b) (ask 5 (ends-differ a b) (ask 6 (can-switch up g a b) (ask 7 (has-room most up g a b) 0)))
 
 -- a link call: 1 to 7
+abbrev pub link-refusal-within :
+    (most : ℕ) → (up : Bool) → (n a b : ℕ) → Lengths → (answer : ℕ) → (sound : Bool) → Graph → ℕ
+link-refusal-within most up n a b l w sound g =
+    site-refusal n l (answer-length n w) sound (ends-refusal most up n a b g)
+
 unfoldable pub link-refusal : (up : Bool) → (n a b : ℕ) → Lengths → (answer : ℕ) → (sound : Bool) → Graph → ℕ
-link-refusal up n a b l w sound g =
-    site-refusal n l (answer-length n w) sound (ends-refusal max-neighbours up n a b g)
+link-refusal up n a b l w sound g = link-refusal-within max-neighbours up n a b l w sound g
 
 -- a radio's number, its neighbour count: 1 to 4
 unfoldable pub radio-refusal : (n v : ℕ) → Lengths → (sound : Bool) → ℕ
@@ -144,12 +149,18 @@ unfoldable pub blocks-refusal : (image : List ℕ) → (later : ℕ) → ℕ
 blocks-refusal bs later = ask 9 (whole-blocks bs) (ask 10 (checks-good bs) later)
 
 -- 9 to 11
+abbrev pub image-refusal-within : (most n : ℕ) → (image : List ℕ) → ℕ
+image-refusal-within most n bs = blocks-refusal bs (ask 11 (is-image-within most n bs) 0)
+
 unfoldable pub image-refusal : (n : ℕ) → (image : List ℕ) → ℕ
-image-refusal n bs = blocks-refusal bs (ask 11 (is-image n bs) 0)
+image-refusal n bs = image-refusal-within max-neighbours n bs
 
 -- reading an image: 1, 2, 9, 10, 11
+abbrev pub read-refusal-within : (most n : ℕ) → Lengths → (image : List ℕ) → ℕ
+read-refusal-within most n l bs = lent-refusal n l true (image-refusal-within most n bs)
+
 unfoldable pub read-refusal : (n : ℕ) → Lengths → (image : List ℕ) → ℕ
-read-refusal n l bs = lent-refusal n l true (image-refusal n bs)
+read-refusal n l bs = read-refusal-within max-neighbours n l bs
 
 -- a step of the block reader: 9 and 10
 unfoldable pub block-refusal : (image : List ℕ) → ℕ

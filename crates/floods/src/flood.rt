@@ -100,7 +100,7 @@ fn is_floodable(radios: usize, v: usize, set: usize, queue: usize) -> bool
 
 // Adds to the set v and the radios that links lead to from v over radios whose number is at least the level and that were not in
 // the set. Comes back with how many came in; they stand in front of the queue, each once, and the rest of it holds anything.
-// Of a row, no more than 32 neighbours are followed. Where there are more than 512 radios, v is none of them, the set is not 64
+// Of a row, no more than 40 neighbours are followed. Where there are more than 512 radios, v is none of them, the set is not 64
 // bytes or the queue has no entry for each radio, the answer is 0 and nothing changes.
 pub fn flood<'a>(
     links: &'a [u8],

@@ -33,7 +33,7 @@ module _ (n : ℕ) (bs : List ℕ) (t : Tables) where
 
   -- question 1 or 2 got no
   lent-no : (tables-refusal n l ≡ 0 → ⊥) → read-refusal n l bs ≡ tables-refusal n l
-  unfolding read-refusal tables-refusal lent-refusal ask
+  unfolding read-refusal image-refusal tables-refusal lent-refusal ask
   lent-no = go (size-good n) (site-lengths n l) (image-refusal n bs)
     where
       go : (a b : Bool) (x : ℕ) → (ask 1 a (ask 2 (b && true) 0) ≡ 0 → ⊥) → ask 1 a (ask 2 (b && true) x) ≡ ask 1 a (ask 2 (b && true) 0)
@@ -50,12 +50,12 @@ module _ (n : ℕ) (bs : List ℕ) (t : Tables) where
     lent = lent-zero n l true 0 (sym q-is ∙ q-zero) .0
 
     asked : read-refusal n l bs ≡ image-refusal n bs
-    unfolding read-refusal
+    unfolding read-refusal image-refusal
     asked = lent-yes n l true (image-refusal n bs) lent
 
     -- question 9 or 10 got no
     blocks-no : (block-refusal bs ≡ 0 → ⊥) → image-refusal n bs ≡ block-refusal bs
-    unfolding image-refusal block-refusal blocks-refusal ask
+    unfolding image-refusal block-refusal blocks-refusal is-image ask
     blocks-no = go (whole-blocks bs) (checks-good bs) (ask 11 (is-image n bs) 0)
       where
         go : (a b : Bool) (x : ℕ) → (ask 9 a (ask 10 b 0) ≡ 0 → ⊥) → ask 9 a (ask 10 b x) ≡ ask 9 a (ask 10 b 0)
@@ -74,7 +74,7 @@ module _ (n : ℕ) (bs : List ℕ) (t : Tables) where
       -- ---- question 11 decides
 
       asked-last : read-refusal n l bs ≡ ask 11 (is-image n bs) 0
-      unfolding image-refusal
+      unfolding image-refusal is-image
       asked-last = asked ∙ blocks-yes bs (ask 11 (is-image n bs) 0) blocks
 
       pub read-small : n ≤ max-radios

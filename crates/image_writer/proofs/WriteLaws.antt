@@ -74,7 +74,7 @@ module _ (n : ℕ) (t : Tables) (w : List ℕ) where
     unfolding graph-in
     whole = ap (graph n) (links-graph-in n (t .links) write-small write-links (site .within))
 
-    pub write-few : length (links-from n (t .links) 0 0) ≤ 8192
+    pub write-few : length (links-from n (t .links) 0 0) ≤ 10240
     unfolding sound graph-in
     write-few = omega (arith, links-most g (t .order) write-small (valid-graph-in max-neighbours n t write-small write-sound), ap (λ (h : Graph). length (h .links)) whole)
 

@@ -10,3 +10,4 @@ pub mod Soundness
 pub mod Sites
 pub mod DegreeSum
 pub mod OtherEnds
+pub mod Older

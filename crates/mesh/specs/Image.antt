@@ -7,7 +7,8 @@
 --   word-at, image-order, image-links, image-graph   read back
 --   whole-blocks             question 9, reading: a multiple of 512 bytes, not 0
 --   checks-good              question 10: every block passes its check
---   is-image n bs            question 11, worked out
+--   is-image-within          question 11, worked out, where `most` bounds the bits of a row
+--   is-image n bs            the same with a site's own bound
 --   Tables-image n bs        question 11: the bytes are the image of some sound tables with this n
 --   payload-at bs i          the payload of block i, as the block reader gives it
 -- That `is-image` is `Tables-image` is `is-image-tables` in proofs/Images/Tables.antt. Definitions only.
@@ -20,7 +21,8 @@ use lib.ListN.{length, getD, take, drop, replicate}
 use Rattle.lists.specs.Lists.{range, all, same, Entries-below}
 use Rattle.mesh.specs.Graph.{Link, Graph, graph, proper, ascending}
 use Rattle.mesh.specs.Tables.{Tables, graph-in, tables-of, Tables-of-size}
-use Rattle.mesh.specs.Sound.{sound}
+use Rattle.mesh.specs.Limits.{max-neighbours}
+use Rattle.mesh.specs.Sound.{sound, sound-within}
 
 abbrev pub block-bytes : ℕ
 block-bytes = 512
@@ -120,11 +122,14 @@ block-check bs i =
 unfoldable pub checks-good : (image : List ℕ) → Bool
 checks-good bs = all (block-check bs) (range 0 (length bs / block-bytes))
 
-unfoldable pub is-image : (n : ℕ) → (image : List ℕ) → Bool
-is-image n bs =
+unfoldable pub is-image-within : (most n : ℕ) → (image : List ℕ) → Bool
+is-image-within most n bs =
     let g = image-graph n bs in
     let xs = image-order n bs in
-    (proper n (g .links) && ascending (g .links)) && (sound n (tables-of g xs) && same (image-of g xs) bs)
+    (proper n (g .links) && ascending (g .links)) && (sound-within most n (tables-of g xs) && same (image-of g xs) bs)
+
+unfoldable pub is-image : (n : ℕ) → (image : List ℕ) → Bool
+is-image n bs = is-image-within max-neighbours n bs
 
 -- document 01: the image of some sound tables with this n; each entry fits its width
 pub record Tables-image (n : ℕ) (image : List ℕ) : Type 0 where

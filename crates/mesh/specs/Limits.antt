@@ -1,6 +1,7 @@
--- The limits of a site, each number once. `Site` in src/lib.rt has the same three; proofs/SiteLimits.antt ties them.
+-- The limits of a site, each number once. `Site` in src/lib.rt has the three that hold; proofs/SiteLimits.antt ties them.
 --   max-radios        how many radios a site may have
 --   max-neighbours    how many neighbours a radio may have
+--   former-neighbours how many it might have before: tables and images of that time are older ones
 --   row-bytes         how many bytes a row of the links table has
 -- Definitions only.
 use Prim.Native.Nat.{ℕ}
@@ -9,7 +10,11 @@ abbrev pub max-radios : ℕ
 max-radios = 512
 
 abbrev pub max-neighbours : ℕ
-max-neighbours = 32
+max-neighbours = 40
+
+-- document 02, W-208: the limit that stood here before
+abbrev pub former-neighbours : ℕ
+former-neighbours = 32
 
 abbrev pub row-bytes : ℕ
 row-bytes = 64

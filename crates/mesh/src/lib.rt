@@ -11,7 +11,7 @@ pub struct Site {
 impl Site {
     pub const RADIOS: u32 = 512;
 
-    pub const NEIGHBOURS: u32 = 32;
+    pub const NEIGHBOURS: u32 = 40;
 
     pub const ROW_BYTES: usize = 64;
 

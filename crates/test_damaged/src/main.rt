@@ -73,20 +73,20 @@ fn main() {
     say_bit(b"bit-at-511", true, 4, 511);
     say_bit(b"bit-lost", false, 3, 2);
     say_star(
-        b"neighbours-32",
-        33,
-        32,
-        &mut [0u8; 2112],
-        &[1u8; 33],
-        &mut [0u16; 33],
+        b"neighbours-40",
+        41,
+        40,
+        &mut [0u8; 2624],
+        &[1u8; 41],
+        &mut [0u16; 41],
     );
     say_star(
-        b"neighbours-33",
-        34,
-        33,
-        &mut [0u8; 2176],
-        &[1u8; 34],
-        &mut [0u16; 34],
+        b"neighbours-41",
+        42,
+        41,
+        &mut [0u8; 2688],
+        &[1u8; 42],
+        &mut [0u16; 42],
     );
     // order
     say_tables(b"entry-twice", 5, &numbers, &[4, 3, 2, 0, 0]);

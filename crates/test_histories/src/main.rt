@@ -74,13 +74,13 @@ fn sparse(n: u32, calls: u32, sums: &mut [u64]) {
     history(b"sparse", plan, sums);
 }
 
-// Many links among at most 40 radios, up to the 32 neighbours that a radio may have, and beyond.
+// Many links among at most 48 radios, up to the 40 neighbours that a radio may have, and beyond.
 fn dense(n: u32, calls: u32, sums: &mut [u64]) {
     let plan = Plan {
         pairs: 0,
         n,
-        m: least(n, 40),
-        most: 40,
+        m: least(n, 48),
+        most: 48,
         ups: 14,
         calls,
         seed: 362436069521288629,
@@ -88,7 +88,7 @@ fn dense(n: u32, calls: u32, sums: &mut [u64]) {
     history(b"dense", plan, sums);
 }
 
-// A clique of m radios, so far as 32 neighbours allow, built and torn down: m times m pairs are asked for, twice.
+// A clique of m radios, so far as 40 neighbours allow, built and torn down: m times m pairs are asked for, twice.
 fn clique(n: u32, m: u32, pairs: u32, sums: &mut [u64]) {
     let plan = Plan {
         pairs,
@@ -117,9 +117,9 @@ fn main() {
     );
     site(1, 500, 1, 1, &mut sums);
     site(2, 1000, 2, 4, &mut sums);
-    site(33, 1800, 33, 1089, &mut sums);
-    site(34, 1800, 34, 1156, &mut sums);
-    site(64, 1800, 34, 1156, &mut sums);
+    site(41, 1800, 41, 1681, &mut sums);
+    site(42, 1800, 42, 1764, &mut sums);
+    site(64, 1800, 42, 1764, &mut sums);
     site(253, 800, 16, 256, &mut sums);
     site(512, 800, 16, 256, &mut sums);
     say(b"all", 0, &sums);

@@ -22,8 +22,8 @@ use sites::Shape;
 // The bytes of a site's largest links table.
 const LINKS_BYTES: usize = Site::ROW_BYTES * Site::RADIOS as usize;
 
-// The bytes of the largest image, of 70 blocks, and two blocks more.
-const BUFFER: usize = 36864;
+// The bytes of the largest image, of 86 blocks, and two blocks more.
+const BUFFER: usize = 45056;
 
 // Prints whether the tables give what the buffer holds, an image and zeros after it, byte for byte.
 fn try_again(n: u32, links: &[u8], numbers: &[u8], order: &[u16], buffer: &[u8]) {
@@ -85,13 +85,13 @@ fn try_sites() {
     site(sites::path(253, 127));
     site(sites::ring(253, 253, 2));
     site(sites::alone(512));
-    site(sites::ring(512, 8192, 32));
+    site(sites::ring(512, 10240, 40));
 }
 
-// A radio with 32 neighbours is taken, one with 33 is not.
+// A radio with 40 neighbours is taken, one with 41 is not.
 fn try_full() {
-    full::try_neighbours(31, &mut [0u8; 2176], &mut [1u8; 34], &mut [0u16; 34]);
-    full::try_neighbours(32, &mut [0u8; 2240], &mut [1u8; 35], &mut [0u16; 35]);
+    full::try_neighbours(39, &mut [0u8; 2688], &mut [1u8; 42], &mut [0u16; 42]);
+    full::try_neighbours(40, &mut [0u8; 2752], &mut [1u8; 43], &mut [0u16; 43]);
 }
 
 // Writes the image of a small site: a triangle 0 1 2, and 2 linked to 3, 3 to 4. The links table holds zeros before.

@@ -5,7 +5,7 @@ use super::model;
 const STILL_IN: u16 = 255;
 
 // One more than the most neighbours: at this level every radio is thrown out.
-const LAST_LEVEL: u16 = 33;
+const LAST_LEVEL: u16 = 41;
 
 // How many neighbours v has among n radios.
 pub fn degree(model: &[u16], n: usize, v: usize) -> u16 {

@@ -8,7 +8,7 @@ const RADIOS: u32 = 512;
 
 const ROW_BYTES: usize = 64;
 
-const NEIGHBOURS: u16 = 32;
+const NEIGHBOURS: u16 = 40;
 
 // A link call, with the lengths of the four tables that it is lent, and whether one of them is spoiled.
 pub struct Call {

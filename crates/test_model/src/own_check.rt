@@ -7,7 +7,7 @@ const BITS: usize = 512;
 // More rows than any lent table has.
 const ROWS: usize = 1024;
 
-const NEIGHBOURS: u16 = 32;
+const NEIGHBOURS: u16 = 40;
 
 // Stands for a radio that has no place.
 const NOWHERE: u16 = 65535;

@@ -31,7 +31,7 @@ fn sites() {
     case(b"refusals");
     case(b"one-radio");
     case(b"no-calls-512");
-    case(b"clique-33");
+    case(b"clique-41");
     case(b"ring-512");
     case(b"circulant-512");
 }
@@ -94,7 +94,7 @@ fn long_runs() {
 fn by_bytes() {
     play(b"m1", 1);
     play(b"refusals", 1);
-    play(b"clique-33", 1);
+    play(b"clique-41", 1);
     play(b"radios-very-long", 1);
     play(b"unterminated", 1);
     play(b"very-long", 1);

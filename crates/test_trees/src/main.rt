@@ -40,7 +40,7 @@ fn main() {
     // sizes
     case(b"one-radio");
     case(b"cleared-512");
-    case(b"clique-33");
+    case(b"clique-41");
     case(b"pairs-512");
     // nested cores and several parts
     case(b"nested-12");

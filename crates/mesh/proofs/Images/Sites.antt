@@ -14,8 +14,8 @@ use Rattle.mesh.specs.Limits.{max-radios, max-neighbours}
 use Rattle.lists.specs.Lists.{same, Each-once}
 use Rattle.mesh.specs.Graph.{Graph, proper, ascending}
 use Rattle.mesh.specs.Tables.{tables-of}
-use Rattle.mesh.specs.Sound.{sound}
-use Rattle.mesh.specs.Image.{image-of, word-at, image-order, image-graph, is-image}
+use Rattle.mesh.specs.Sound.{sound, sound-within}
+use Rattle.mesh.specs.Image.{image-of, word-at, image-order, image-graph, is-image-within, is-image}
 use Rattle.lists.proofs.Tests.{and-right, and-both}
 use Rattle.lists.proofs.Range.{once-length, once-below}
 use Rattle.lists.proofs.All.{same-refl, same-eq}
@@ -46,15 +46,20 @@ module _ (g : Graph) (xs : List ℕ) (small : g .n ≤ max-radios) (v : Valid ma
   pub read-written-order : image-order (g .n) (image-of g xs) ≡ xs
   read-written-order = image-order-image-of g xs length-order (λ j l. omega (arith, getD-order-less j l))
 
-  -- question 11 gets yes
-  pub is-image-image-of : is-image (g .n) (image-of g xs) ≡ true
-  unfolding is-image sound
-  is-image-image-of =
-      let test : Graph → List ℕ → Bool = λ h ys. (proper (g .n) (h .links) && ascending (h .links)) && (sound (g .n) (tables-of h ys) && same (image-of h ys) (image-of g xs)) in
-      ap₂ test read-written-graph read-written-order
-      ∙ and-both (proper (g .n) (g .links) && ascending (g .links)) (sound (g .n) (tables-of g xs) && same (image-of g xs) (image-of g xs))
+  -- question 11 gets yes, with any bound on neighbours that the site keeps
+  pub is-image-within-image-of : (most : ℕ) → Valid most g xs → is-image-within most (g .n) (image-of g xs) ≡ true
+  unfolding is-image-within
+  is-image-within-image-of most k =
+      let links : Graph → Bool = λ h. proper (g .n) (h .links) && ascending (h .links) in
+      let rest : Graph → List ℕ → Bool = λ h ys. sound-within most (g .n) (tables-of h ys) && same (image-of h ys) (image-of g xs) in
+      ap₂ (λ (h : Graph) (ys : List ℕ). links h && rest h ys) read-written-graph read-written-order
+      ∙ and-both (links g) (rest g xs)
       (and-both (proper (g .n) (g .links)) (ascending (g .links)) (v .links-proper) (v .links-ascending))
-      (and-both (sound (g .n) (tables-of g xs)) (same (image-of g xs) (image-of g xs)) (valid-sound max-neighbours g xs small v) (same-refl (image-of g xs)))
+      (and-both (sound-within most (g .n) (tables-of g xs)) (same (image-of g xs) (image-of g xs)) (valid-sound most g xs small k) (same-refl (image-of g xs)))
+
+  pub is-image-image-of : is-image (g .n) (image-of g xs) ≡ true
+  unfolding is-image
+  is-image-image-of = is-image-within-image-of max-neighbours v
 
 pub read-written : (g : Graph) (xs : List ℕ) → g .n ≤ max-radios → Valid max-neighbours g xs
     → (image-graph (g .n) (image-of g xs) ≡ g) × (image-order (g .n) (image-of g xs) ≡ xs)
@@ -71,7 +76,7 @@ image-injective g h xs ys small-g small-h v w e =
 -- ---- read and written
 
 pub written-read : (n : ℕ) (bs : List ℕ) → is-image n bs ≡ true → image-of (image-graph n bs) (image-order n bs) ≡ bs
-unfolding is-image
+unfolding is-image is-image-within sound
 written-read n bs h =
     let g = image-graph n bs in
     let xs = image-order n bs in

@@ -16,7 +16,7 @@ use Rattle.mesh.specs.Graph.{Graph}
 use Rattle.mesh.specs.Cores.{number, numbers}
 use Rattle.mesh.specs.Tables.{Tables, tables, graph-in, tables-of, Tables-of-size}
 use Rattle.mesh.specs.Sound.{symmetric, irreflexive, within, few, rows-proper, number-in, sound-within, sound}
-use Rattle.mesh.specs.Image.{image-of, image-order, image-graph, is-image, Tables-image}
+use Rattle.mesh.specs.Image.{image-of, image-order, image-graph, is-image-within, is-image, Tables-image}
 use Rattle.lists.proofs.Tests.{and-left, and-right}
 use Rattle.mesh.proofs.GraphLaws.{linked-self, neighbours-in-subset, degree-in}
 use Rattle.mesh.proofs.Cores.KOrders.{k-order-certificate, certificate-k-order}
@@ -27,8 +27,9 @@ use Rattle.mesh.proofs.Tables.Rows.{few-of}
 use Rattle.mesh.proofs.Tables.ReadBack.{proper-graph-in, ascending-graph-in, graph-in-links-table, links-table-graph-in, degree-graph-in}
 use Rattle.mesh.proofs.Tables.Soundness.{sound-certificate, sound-right, valid-sound}
 use Rattle.mesh.proofs.Tables.Sites.{image-valid}
+use Rattle.mesh.proofs.Tables.Older.{sound-within-more}
 use Rattle.mesh.specs.Valid.{Valid}
-use Rattle.mesh.proofs.Images.Sites.{length-order, getD-order-less, read-written-graph, read-written-order, is-image-image-of, written-read}
+use Rattle.mesh.proofs.Images.Sites.{length-order, getD-order-less, read-written-graph, read-written-order, is-image-within-image-of, written-read}
 
 -- ---- sites and tables
 
@@ -81,10 +82,17 @@ bytes-numbers g xs k v l =
 
 -- ---- question 11 over tables
 
--- an image written from sound tables is accepted, whatever else the tables hold
+-- an image written from sound tables is accepted, whatever else the tables hold; within a smaller bound, so it was
+pub is-image-within-sound : (most n : ℕ) (t : Tables) → n ≤ max-radios → most ≤ max-neighbours → sound-within most n t ≡ true
+    → is-image-within most n (image-of (graph-in n (t .links)) (t .order)) ≡ true
+unfolding graph-in
+is-image-within-sound most n t small l h =
+    is-image-within-image-of (graph-in n (t .links)) (t .order) small
+    (valid-graph-in max-neighbours n t small (sound-within-more most max-neighbours n t l h)) most (valid-graph-in most n t small h)
+
 pub is-image-sound : (n : ℕ) (t : Tables) → n ≤ max-radios → sound n t ≡ true → is-image n (image-of (graph-in n (t .links)) (t .order)) ≡ true
-unfolding sound graph-in
-is-image-sound n t small h = is-image-image-of (graph-in n (t .links)) (t .order) small (valid-graph-in max-neighbours n t small h)
+unfolding sound is-image
+is-image-sound n t small h = is-image-within-sound max-neighbours n t small (omega arith) h
 
 pub is-image-tables : (n : ℕ) (bs : List ℕ) → n ≤ max-radios → (is-image n bs ≡ true) ↔ Tables-image n bs
 unfolding sound graph-in tables-of image-graph

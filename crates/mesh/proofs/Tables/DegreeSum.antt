@@ -124,11 +124,11 @@ links-few most g xs v = omega (
   ap (λ (k : ℕ). most * k) (length-range 0 (g .n)),
 )
 
--- so their count fits two bytes, and an image has at most 70 blocks
-pub links-most : (g : Graph) (xs : List ℕ) → g .n ≤ max-radios → Valid max-neighbours g xs → length (g .links) ≤ 8192
+-- so their count fits two bytes, and an image has at most 86 blocks
+pub links-most : (g : Graph) (xs : List ℕ) → g .n ≤ max-radios → Valid max-neighbours g xs → length (g .links) ≤ 10240
 links-most g xs small v = omega (arith, links-few max-neighbours g xs v)
 
-pub block-count-most : (g : Graph) (xs : List ℕ) → g .n ≤ max-radios → Valid max-neighbours g xs → block-count (g .n) (length (g .links)) ≤ 70
+pub block-count-most : (g : Graph) (xs : List ℕ) → g .n ≤ max-radios → Valid max-neighbours g xs → block-count (g .n) (length (g .links)) ≤ 86
 unfolding block-count order-blocks blocks-for
 block-count-most g xs small v = omega (arith, links-most g xs small v)
 

@@ -13,7 +13,7 @@ use Rattle.mesh.specs.Graph.{graph, radios, other-ends, linked, neighbou
 use Rattle.mesh.specs.Cores.{number, numbers}
 use Rattle.mesh.specs.Tables.{tables-of}
 use Rattle.mesh.specs.Sound.{sound}
-use Rattle.mesh.specs.Image.{image-graph, image-order, image-of, is-image}
+use Rattle.mesh.specs.Image.{image-graph, image-order, image-of, is-image-within, is-image}
 use Rattle.lists.proofs.Tests.{and-left, and-right}
 use Rattle.lists.proofs.Count.{count-none}
 use Rattle.lists.proofs.Range.{range-in}
@@ -68,7 +68,7 @@ module _ (n : ℕ) where
 
 -- question 11 got yes: what the image lists is a valid site
 pub image-valid : (n : ℕ) (bs : List ℕ) → n ≤ max-radios → is-image n bs ≡ true → Valid max-neighbours (image-graph n bs) (image-order n bs)
-unfolding is-image image-graph sound
+unfolding is-image is-image-within image-graph sound
 image-valid n bs small h =
     let g = image-graph n bs in
     let xs = image-order n bs in

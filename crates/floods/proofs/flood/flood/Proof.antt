@@ -9,6 +9,7 @@ use lib.ListN.{length, length-set}
 use borrow.Author.Needs.{needs}
 use borrow.Author.Tests.{not-true, not-false}
 use Rattle.floods.proofs.FloodSteps.{floodable-true, flooded-not}
+use Rattle.mesh.specs.Limits.{max-neighbours}
 use Rattle.mesh.proofs.Tables.Laws.{length-put-bit}
 use Rattle.floods.specs.Floods.{flood-at}
 use Rattle.floods.proofs.FloodLaws.{Walking, walking-next, flood-starts, flood-ends}
@@ -18,7 +19,7 @@ use Rattle.floods.proofs.flood.flood.Tie as tie
 -- whatever the set was before: started right, the flood goes on right
 abbrev Inv-loop : tie.InvT-loop
 Inv-loop links numbers level v set₀ queue₀ list₀ count₀ i₀ set queue list count i =
-    (length list ≡ 32) × (length set ≡ length set₀) × (length queue ≡ length queue₀)
+    (length list ≡ max-neighbours) × (length set ≡ length set₀) × (length queue ≡ length queue₀)
     × ((old : List ℕ) → Walking links numbers level v old 0 (flood-at set₀ queue₀ count₀) → Walking links numbers level v old i (flood-at set queue count))
 
 abbrev μ-loop : tie.MeasureT-loop

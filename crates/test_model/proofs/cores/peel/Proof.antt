@@ -10,7 +10,7 @@ abbrev Inv-loop : tie.InvT-loop
 Inv-loop model₀ n k₀ model k = length model ≡ length model₀
 
 abbrev μ-loop : tie.MeasureT-loop
-μ-loop model₀ n k₀ model k = 34 - k
+μ-loop model₀ n k₀ model k = 42 - k
 
 pub peel-spec : {M : Type 1} → statement M
 peel-spec =

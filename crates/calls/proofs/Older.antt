@@ -1,0 +1,145 @@
+-- Calls on tables and images from before the limit on neighbours was raised.
+--   older-call     a link call on formerly sound tables: accepted then, the same now; refused by 7 then, taken now
+--   older-read     an image that was read is read as it was
+--   older          all calls
+-- In order: a chain whose last question gets another answer, link calls, images, calls that only read.
+use mathlib.Core.Path.{_≡_, refl, sym, _∙_}
+use mathlib.Core.Bool.{Bool, true, false}
+use mathlib.Core.List.{List}
+use Prim.Native.Nat.{ℕ}
+use native.Mathlib.Omega.{arith}
+use lib.ListN.{length}
+use Rattle.mesh.specs.Limits.{max-neighbours, former-neighbours}
+use Rattle.mesh.specs.Graph.{Graph}
+use Rattle.mesh.specs.Tables.{Tables, graph-in}
+use Rattle.mesh.specs.Sound.{sound-within}
+use Rattle.mesh.proofs.Tables.Older.{sound-within-more, is-image-within-more, older-image}
+use Rattle.mesh.proofs.Images.Tables.{valid-graph-in, is-image-within-sound}
+use Rattle.calls.specs.Questions.{ask, Lengths, lengths-of, size-good, are-radios, has-room, lent-refusal, site-refusal, ends-refusal}
+use Rattle.calls.specs.Questions.{link-refusal-within, blocks-refusal, read-refusal-within}
+use Rattle.calls.specs.Outcomes.{read-outcome-within, read-outcome, link-outcome-within, link-outcome, check-outcome, number-outcome, neighbours-outcome}
+use Rattle.calls.specs.Outcomes.{linked-outcome, first-outcome, core-outcome, backbone-outcome, write-outcome, tree-outcome}
+use Rattle.calls.specs.Older.{Was-sound, Older}
+use Rattle.calls.specs.declared.Reply.{Reply}
+use Rattle.calls.proofs.Outcomes.{number-by}
+use Rattle.calls.proofs.QuestionLaws.{size-good-true, are-radios-true, has-room-true, true-has-room}
+
+-- ---- a chain whose last question gets another answer
+
+-- chains x and y agree unless x gives z: so they do after a question more
+ask-unless : (q : ℕ) (answer : Bool) (z x y : ℕ) → ((x ≡ z → ⊥) → y ≡ x) → (ask q answer x ≡ z → ⊥) → ask q answer y ≡ ask q answer x
+unfolding ask
+ask-unless q true z x y f h = f h
+ask-unless q false z x y f h = refl
+
+ask-last : (z : ℕ) (then now : Bool) → (then ≡ true → now ≡ true) → (ask z then 0 ≡ z → ⊥) → ask z now 0 ≡ ask z then 0
+unfolding ask
+ask-last z true now f h = rw (f refl)
+ask-last z false now f h = absurd (h refl)
+
+-- a chain that gives another number than q got yes from question q
+ask-passed : (q : ℕ) (answer : Bool) (z x : ℕ) → (q ≡ z → ⊥) → ask q answer x ≡ z → (answer ≡ true) × (x ≡ z)
+unfolding ask
+ask-passed q true z x f e = (refl, e)
+ask-passed q false z x f e = absurd (f e)
+
+now-sound : (n : ℕ) (t : Tables) → Was-sound n t → sound-within max-neighbours n t ≡ true
+now-sound n t h = sound-within-more former-neighbours max-neighbours n t (omega arith) h
+
+-- ---- link calls
+
+all-yes : ask 1 true (ask 2 true (ask 3 true (ask 4 true (ask 5 true (ask 6 true (ask 7 true 0)))))) ≡ 0
+unfolding ask
+all-yes = refl
+
+module _ (up : Bool) (n a b : ℕ) (t : Tables) (w : List ℕ) (were : Was-sound n t) where
+  abbrev g : Graph
+  g = graph-in n (t .links)
+
+  -- the chain, where 3 gets yes
+  abbrev asked : (most : ℕ) → ℕ
+  asked most = link-refusal-within most up n a b (lengths-of t) (length w) true g
+
+  room-more : has-room former-neighbours up g a b ≡ true → has-room max-neighbours up g a b ≡ true
+  room-more h =
+      true-has-room max-neighbours up g a b
+      (λ e. let r = has-room-true former-neighbours up g a b h e in (omega (arith, r .0), omega (arith, r .1)))
+
+  same-unless-seven : (asked former-neighbours ≡ 7 → ⊥) → asked max-neighbours ≡ asked former-neighbours
+  unfolding site-refusal lent-refusal ends-refusal
+  same-unless-seven =
+      ask-unless 1 _ 7 _ _
+      (ask-unless 2 _ 7 _ _
+      (ask-unless 3 _ 7 _ _ (ask-unless 4 _ 7 _ _ (ask-unless 5 _ 7 _ _ (ask-unless 6 _ 7 _ _ (ask-last 7 _ _ room-more))))))
+
+  -- formerly sound tables have fewer neighbours than the limit is now
+  seven-taken : asked former-neighbours ≡ 7 → asked max-neighbours ≡ 0
+  unfolding site-refusal lent-refusal ends-refusal graph-in
+  seven-taken e =
+      let one = ask-passed 1 (size-good n) 7 _ (λ z. omega arith) e in
+      let two = ask-passed 2 _ 7 _ (λ z. omega arith) (one .1) in
+      let three = ask-passed 3 _ 7 _ (λ z. omega arith) (two .1) in
+      let four = ask-passed 4 (are-radios n a b) 7 _ (λ z. omega arith) (three .1) in
+      let five = ask-passed 5 _ 7 _ (λ z. omega arith) (four .1) in
+      let six = ask-passed 6 _ 7 _ (λ z. omega arith) (five .1) in
+      let v = valid-graph-in former-neighbours n t (size-good-true n (one .0) .1) were in
+      let ends = are-radios-true n a b (four .0) in
+      let room : has-room max-neighbours up g a b ≡ true =
+      true-has-room max-neighbours up g a b (λ z. (omega (arith, v .degrees a (ends .0)), omega (arith, v .degrees b (ends .1)))) in
+      rw (one .0, two .0, four .0, five .0, six .0, room) all-yes
+
+  number-then : link-outcome-within former-neighbours up n a b t w .0 .number ≡ asked former-neighbours
+  number-then = rw were (number-by (λ (o : Reply × Tables × List ℕ). o .0 .number) (asked former-neighbours) _ _ refl (λ q. refl))
+
+  number-now : link-outcome up n a b t w .0 .number ≡ asked max-neighbours
+  unfolding link-outcome
+  number-now = rw (now-sound n t were) (number-by (λ (o : Reply × Tables × List ℕ). o .0 .number) (asked max-neighbours) _ _ refl (λ q. refl))
+
+  pub older-call :
+      ((link-outcome-within former-neighbours up n a b t w .0 .number ≡ 7 → ⊥) →
+      link-outcome up n a b t w ≡ link-outcome-within former-neighbours up n a b t w)
+      × (link-outcome-within former-neighbours up n a b t w .0 .number ≡ 7 → link-outcome up n a b t w .0 .number ≡ 0)
+  unfolding link-outcome
+  older-call = (
+    λ h. rw (were, now-sound n t were, same-unless-seven (λ e. h (number-then ∙ e))),
+    λ e. number-now ∙ seven-taken (sym number-then ∙ e),
+  )
+
+-- ---- images
+
+same-unless-eleven :
+    (n : ℕ) (bs : List ℕ) (l : Lengths) → (read-refusal-within former-neighbours n l bs ≡ 11 → ⊥) →
+    read-refusal-within max-neighbours n l bs ≡ read-refusal-within former-neighbours n l bs
+unfolding lent-refusal blocks-refusal
+same-unless-eleven n bs l =
+    ask-unless 1 _ 11 _ _ (ask-unless 2 _ 11 _ _ (ask-unless 9 _ 11 _ _ (ask-unless 10 _ 11 _ _ (ask-last 11 _ _
+    (is-image-within-more former-neighbours max-neighbours n bs (omega arith))))))
+
+pub older-read :
+    (n : ℕ) (bs : List ℕ) (t : Tables) → (read-outcome-within former-neighbours n bs t .0 ≡ 11 → ⊥) →
+    read-outcome n bs t ≡ read-outcome-within former-neighbours n bs t
+unfolding read-outcome
+older-read n bs t h =
+    let then = read-refusal-within former-neighbours n (lengths-of t) bs in
+    rw (same-unless-eleven n bs (lengths-of t) (λ e. h (number-by (λ (o : ℕ × Tables). o .0) then _ _ refl (λ q. refl) ∙ e)))
+
+-- ---- all calls
+
+pub older : Older
+unfolding check-outcome number-outcome neighbours-outcome linked-outcome first-outcome core-outcome backbone-outcome write-outcome tree-outcome
+older = record {
+  link = λ up n a b t w s. older-call up n a b t w s .0;
+  seven = λ up n a b t w s. older-call up n a b t w s .1;
+  check = λ n t s. rw (s, now-sound n t s);
+  number = λ n v t s. rw (s, now-sound n t s);
+  neighbours = λ n v t s. rw (s, now-sound n t s);
+  linked = λ n a b t s. rw (s, now-sound n t s);
+  first = λ n a b t s. rw (s, now-sound n t s);
+  core = λ n v k t w s. rw (s, now-sound n t s);
+  backbone = λ n t w s. rw (s, now-sound n t s);
+  tree = λ n t m w s. rw (s, now-sound n t s);
+  image-write = λ n t w s. rw (s, now-sound n t s);
+  image-written = λ n t l s. is-image-within-sound former-neighbours n t l (omega arith) s;
+  image = older-image;
+  image-read = older-read;
+}
