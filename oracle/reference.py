@@ -221,8 +221,9 @@ class Site:
         return found
 
     def backbone(self):
-        top = max(self.numbers)
-        return [v for v in range(self.n) if self.numbers[v] == top] if top else []
+        """The radios whose number is the greatest in their own connected part, and not 0 (document 02, W-202)."""
+        return [v for v in range(self.n)
+                if self.numbers[v] > 0 and self.numbers[v] == max(self.numbers[w] for w in self.reach(v, 0))]
 
     def tree(self):
         """Node records (name, level, parent), and each radio's node name."""

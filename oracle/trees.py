@@ -60,8 +60,14 @@ class Site:
         return frozenset(found)
 
     def backbone(self):
-        top = max(self.numbers)
-        return [v for v in range(self.n) if self.numbers[v] == top and top > 0]
+        """Part by part: the radios with the part's greatest number, where that is not 0 (document 02, W-202)."""
+        listed, rest = [], set(range(self.n))
+        while rest:
+            part = self.core(min(rest), 0)
+            top = max(self.numbers[v] for v in part)
+            listed += [v for v in part if self.numbers[v] == top and top > 0]
+            rest -= part
+        return sorted(listed)
 
     def tree(self):
         """Node records (name, level, parent), the root first, and each radio's node name."""
