@@ -22,7 +22,7 @@ from pathlib import Path
 import reference
 
 ROOT, PLACES = 65535, 515
-CRATE = Path(__file__).resolve().parent.parent / "crates/trees"
+CRATE = Path(__file__).resolve().parent.parent / "crates/test_trees"
 
 
 # ---- a site
@@ -297,7 +297,7 @@ def main():
     if "--check" in sys.argv:
         stored = {path.name: path.read_bytes() for path in data.iterdir()}
         same = stored == written and out.read_text() == text
-        print("crates/trees:", "as written by this program" if same else "DIFFERENT")
+        print("crates/test_trees:", "as written by this program" if same else "DIFFERENT")
         sys.exit(not same)
     data.mkdir(exist_ok=True)
     for name, content in written.items():
