@@ -193,9 +193,10 @@ def blocks_lines(image):
     line("blocks", at, number, given, ends, h)
     h = 0
     for at in range(count + 2):
-        status = number or (256 if at >= count else 0)
-        after = at if status else at + 1
-        h = digest(h, [0, status, after, after] + ([] if status else image[BLOCK * at + 4:BLOCK * at + 508]))
+        end = int(not number and at >= count)
+        kept = number or end
+        after = at if kept else at + 1
+        h = digest(h, [0, number, end, after, after] + ([] if kept else image[BLOCK * at + 4:BLOCK * at + 508]))
     line("held", h)
 
 

@@ -51,9 +51,13 @@ use Rattle.mesh.specs.Valid.{Valid}
 use Rattle.calls.specs.Questions.{ask, By-number, lengths-of, size-good, site-lengths, image-length, lent-refusal, tables-refusal, link-refusal}
 use Rattle.calls.specs.Questions.{radio-refusal, core-refusal, backbone-refusal, tree-refusal, write-refusal, blocks-refusal, image-refusal, read-refusal}
 use Rattle.calls.specs.Questions.{block-refusal}
-use Rattle.calls.specs.Writes.{Tables-refused, Link-accepted, Link-refused, Link-contract, Read-accepted, Read-contract}
-use Rattle.calls.specs.Answers.{Value-accepted, Value-refused, Check-contract, Number-contract, Listing-accepted, Listing-refused, Core-contract}
-use Rattle.calls.specs.Answers.{Backbone-contract, Write-contract, Tree-accepted, Tree-refused, Tree-contract, Block-none, Block-accepted, Block-contract}
+use Rattle.calls.specs.Contracts.Forms.{Tables-refused, Value-accepted, Value-refused, Listing-accepted, Listing-refused}
+use Rattle.calls.specs.Contracts.Links.{Link-accepted, Link-refused, Link-contract}
+use Rattle.calls.specs.Contracts.Images.{Read-accepted, Read-contract, Write-contract, Block-none, Block-accepted, Block-contract}
+use Rattle.calls.specs.Contracts.Sites.{Check-contract}
+use Rattle.calls.specs.Contracts.Radios.{Number-contract}
+use Rattle.calls.specs.Contracts.Cores.{Core-contract, Backbone-contract}
+use Rattle.calls.specs.Contracts.Trees.{Tree-accepted, Tree-refused, Tree-contract}
 use Rattle.calls.specs.Results.{Numbers-right, Site-right, Listed, Link-right, Core-listed, Backbone-listed, Tree-listed, Written-right, Read-right}
 use Rattle.calls.specs.Results.{Block-part, Block-end}
 use Rattle.calls.specs.declared.Reply.{Reply}
@@ -81,8 +85,8 @@ front new old k x e f = ap₂ (λ (i : ℕ) (ys : List ℕ). take i ys) e f ∙ 
 later : (new old : List ℕ) (k : ℕ) (x : List ℕ) → k ≡ length new → x ≡ overwrite new old → drop k x ≡ drop k old
 later new old k x e f = rw (e, f) (drop-overwrite new old)
 
-in-front : (new old : List ℕ) (k : ℕ) (x : List ℕ) → k ≡ length new → x ≡ overwrite new old → Ascending new → Listed k old x
-in-front new old k x e f a = record { ascending = rw (front new old k x e f) a; later-entries = later new old k x e f }
+listed-front : (new old : List ℕ) (k : ℕ) (x : List ℕ) → k ≡ length new → x ≡ overwrite new old → Ascending new → Listed k old x
+listed-front new old k x e f a = record { ascending = rw (front new old k x e f) a; later-entries = later new old k x e f }
 
 -- ---- link calls
 
@@ -107,7 +111,7 @@ link-right up n a b t w r v x d z =
         rows = rw (c .1 .links) (rows-put-link up n a b t (good .0 .lent .most) (good .0 .lent .lengths .links) (good .0 .is-sound) (good .1));
         right = rw after (numbers-right (relinked up a b g) v (c .1 .numbers) (ap (is-k-order (relinked up a b g)) (c .1 .order) ∙ valid .k-order));
       };
-      listed = in-front (changed up a b g) w (r .count) x (c .1 .count) (c .1 .answer) (changed-ascending up a b g);
+      listed = listed-front (changed up a b g) w (r .count) x (c .1 .count) (c .1 .answer) (changed-ascending up a b g);
     }
 
 -- ---- the soundness check, and a radio's number
@@ -159,7 +163,7 @@ core-right n v k t w r x d z =
     let good = core-zero n v k (lengths-of t) (length w) (sound n t) g (c .0) in
     record {
       exactly = rw (front new w (r .value) x (c .1 .value) (c .1 .lent)) (core-of-iff g v k (good .1));
-      listed = in-front new w (r .value) x (c .1 .value) (c .1 .lent) (core-ascending g v k (good .1));
+      listed = listed-front new w (r .value) x (c .1 .value) (c .1 .lent) (core-ascending g v k (good .1));
     }
 
 pub backbone-right : (n : ℕ) (t : Tables) (w : List ℕ) (r : Value) (x : List ℕ) → Backbone-contract n t w r x → r .number ≡ 0
@@ -172,7 +176,7 @@ backbone-right n t w r x d z =
     (λ q. Listing-refused q w r x) (r .number) (λ q e. e .number) d z in
     record {
       exactly = rw (front new w (r .value) x (c .1 .value) (c .1 .lent)) (backbone-iff g);
-      listed = in-front new w (r .value) x (c .1 .value) (c .1 .lent) (backbone-ascending g);
+      listed = listed-front new w (r .value) x (c .1 .value) (c .1 .lent) (backbone-ascending g);
     }
 
 -- ---- the shell tree

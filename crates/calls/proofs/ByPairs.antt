@@ -57,10 +57,7 @@ module _ (n : ℕ) (ps : List Link) (t : Tables) (k : Holds n ps t) (least : 1 �
       (λ q. (reply q (pos 0) 0, t, w))
   unfolding link-outcome link-refusal
   link-by-pairs up a b w l =
-      rw (
-        later-asked (answer-length n (length w)) (λ h. ends-refusal max-neighbours up n a b h) (true-answer-length n (length w) l),
-        read-back n ps t k,
-      )
+      rw (later-asked (answer-length n (length w)) (λ h. ends-refusal max-neighbours up n a b h) (true-answer-length n (length w) l), read-back n ps t k)
 
   pub core-by-pairs :
       (v i : ℕ) (w : List ℕ) → n ≤ length w → let radios = core-of g v i in

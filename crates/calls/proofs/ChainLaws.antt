@@ -5,8 +5,8 @@
 --   ..-zero       a chain that is 0: what was asked holds
 --   ..-yes        the way back
 -- Questions 4 to 7 are `Allowed` of mesh. In order: parts of chains, then the chain of each call.
-use mathlib.Core.Path.{_≡_, _∙_}
-use mathlib.Core.Bool.{Bool, true, _&&_}
+use mathlib.Core.Path.{_≡_, _∙_, refl}
+use mathlib.Core.Bool.{Bool, true, _&&_, false}
 use mathlib.Core.List.{List}
 use Prim.Native.Nat.{ℕ, _≤_, _<_}
 use Rattle.mesh.specs.Limits.{max-radios, max-neighbours}
@@ -22,6 +22,7 @@ use Rattle.calls.proofs.QuestionLaws.{ask-yes, ask-zero, ask-later, siz
 use Rattle.calls.proofs.QuestionLaws.{is-radio-true, true-is-radio, are-radios-true, true-are-radios, ends-differ-true, true-ends-differ}
 use Rattle.calls.proofs.QuestionLaws.{can-switch-true, true-can-switch, has-room-true, true-has-room, has-level-true, true-has-level, holds-image-true}
 use Rattle.calls.proofs.QuestionLaws.{true-holds-image}
+use Rattle.mesh.specs.Sound.{sound}
 
 -- ---- 1 and 2
 
@@ -140,13 +141,6 @@ link-zero up a b l w sound g p =
     let q = site-zero (g .n) l (answer-length (g .n) w) sound (ends-refusal max-neighbours up (g .n) a b g) p in
     (q .0, ends-zero max-neighbours up a b g (q .1))
 
-pub link-yes :
-    (up : Bool) (a b : ℕ) (l : Lengths) (w : ℕ) (sound : Bool) (g : Graph) → Site-good (g .n) l (answer-length (g .n) w) sound →
-    Allowed max-neighbours up a b g → link-refusal up (g .n) a b l w sound g ≡ 0
-unfolding link-refusal
-link-yes up a b l w sound g s h =
-    site-yes (g .n) l (answer-length (g .n) w) sound _ s ∙ ends-yes max-neighbours up a b g h
-
 pub radio-zero :
     (n v : ℕ) (l : Lengths) (sound : Bool) → radio-refusal n v l sound ≡ 0 → Site-good n l true sound × (v < n)
 unfolding radio-refusal
@@ -219,3 +213,15 @@ pub read-yes :
     read-refusal n l bs ≡ 0
 unfolding read-refusal
 read-yes n l bs g s p = lent-yes n l true (image-refusal n bs) g ∙ image-yes n bs s p
+
+-- a chain that stops at 1 to 3 does not ask further
+pub site-stops : (n : ℕ) (l : Lengths) (others sound : Bool) (later : ℕ) → (site-refusal n l others sound 0 ≡ 0 → ⊥)
+    → site-refusal n l others sound later ≡ site-refusal n l others sound 0
+unfolding site-refusal lent-refusal ask
+site-stops n l others sound later h = go (size-good n) (site-lengths n l && others) sound h
+  where
+    go : (a b c : Bool) → (ask 1 a (ask 2 b (ask 3 c 0)) ≡ 0 → ⊥) → ask 1 a (ask 2 b (ask 3 c later)) ≡ ask 1 a (ask 2 b (ask 3 c 0))
+    go true true true k = absurd (k refl)
+    go true true false k = refl
+    go true false c k = refl
+    go false b c k = refl

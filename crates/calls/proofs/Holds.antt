@@ -25,7 +25,8 @@ use Rattle.mesh.proofs.Links.Laws.{link-valid, link-table}
 use Rattle.mesh.specs.Valid.{Valid, Allowed}
 use Rattle.calls.specs.Questions.{lengths-of, site-refusal, tables-refusal, read-refusal}
 use Rattle.calls.specs.Switches.{Switch, pairs-after, switched, tables-after}
-use Rattle.calls.specs.Writes.{Clear-accepted, Read-accepted}
+use Rattle.calls.specs.Contracts.Sites.{Clear-accepted}
+use Rattle.calls.specs.Contracts.Images.{Read-accepted}
 use Rattle.calls.specs.Book.{reported}
 use Rattle.calls.specs.Demand.{Link-kept, Switching, ended, next}
 use Rattle.calls.proofs.ChainLaws.{Lent-good, lent-zero, lent-later, read-zero}
@@ -55,12 +56,7 @@ pub read-holds :
 unfolding read-refusal tables-of image-graph
 read-holds m bs r t v p d =
     let q = read-zero m (lengths-of t) bs p in
-    record {
-      most = q .0 .most;
-      xs = image-order m bs;
-      valid = image-valid m bs (q .0 .most) (q .2);
-      is = tables-ext v _ (d .links) (d .numbers) (d .order);
-    }
+    record { most = q .0 .most; xs = image-order m bs; valid = image-valid m bs (q .0 .most) (q .2); is = tables-ext v _ (d .links) (d .numbers) (d .order) }
 
 -- ---- tables that hold the pairs
 

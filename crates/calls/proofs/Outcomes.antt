@@ -15,10 +15,13 @@ use Rattle.mesh.specs.Tables.{Tables, graph-in, tables-of}
 use Rattle.mesh.specs.Image.{block-bytes}
 use Rattle.mesh.specs.declared.Node.{Node}
 use Rattle.calls.specs.Questions.{By-number}
-use Rattle.calls.specs.Writes.{Tables-refused, Clear-accepted, Clear-contract, Link-accepted, Link-refused, Link-contract, Read-accepted, Read-contract}
-use Rattle.calls.specs.Answers.{Value-accepted, Value-refused, Value-by, Check-contract, Number-contract, Neighbours-contract, Linked-contract}
-use Rattle.calls.specs.Answers.{First-contract, Listing-accepted, Listing-refused, Listing-by, Core-contract, Backbone-contract, Write-contract}
-use Rattle.calls.specs.Answers.{Tree-accepted, Tree-refused, Tree-contract, Block-none, Block-accepted, Block-contract}
+use Rattle.calls.specs.Contracts.Forms.{Tables-refused, Value-accepted, Value-refused, Value-by, Listing-accepted, Listing-refused, Listing-by}
+use Rattle.calls.specs.Contracts.Sites.{Clear-accepted, Clear-contract, Check-contract}
+use Rattle.calls.specs.Contracts.Links.{Link-accepted, Link-refused, Link-contract}
+use Rattle.calls.specs.Contracts.Images.{Read-accepted, Read-contract, Write-contract, Block-none, Block-accepted, Block-contract}
+use Rattle.calls.specs.Contracts.Radios.{Number-contract, Neighbours-contract, Linked-contract, First-contract}
+use Rattle.calls.specs.Contracts.Cores.{Core-contract, Backbone-contract}
+use Rattle.calls.specs.Contracts.Trees.{Tree-accepted, Tree-refused, Tree-contract}
 use Rattle.calls.specs.Switches.{switched}
 use Rattle.calls.specs.Outcomes.{by-number, clear-outcome, read-outcome, link-outcome, value-outcome, check-outcome, number-outcome, neighbours-outcome}
 use Rattle.calls.specs.Outcomes.{linked-outcome, first-outcome, listing-outcome, core-outcome, backbone-outcome, write-outcome, tree-outcome, no-block}

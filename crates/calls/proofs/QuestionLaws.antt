@@ -38,10 +38,7 @@ ask-later r false x y e = refl
 
 pub size-good-true : (n : ℕ) → size-good n ≡ true → (1 ≤ n) × (n ≤ max-radios)
 unfolding size-good
-size-good-true n p = (
-  leb-true 1 n (and-left (leb 1 n) (leb n max-radios) p),
-  leb-true n max-radios (and-right (leb 1 n) (leb n max-radios) p),
-)
+size-good-true n p = (leb-true 1 n (and-left (leb 1 n) (leb n max-radios) p), leb-true n max-radios (and-right (leb 1 n) (leb n max-radios) p))
 
 pub true-size-good : (n : ℕ) → 1 ≤ n → n ≤ max-radios → size-good n ≡ true
 unfolding size-good

@@ -1,5 +1,5 @@
 -- Property 1 by the number that the host sees: a call whose number is not 0 has zeros beside it, and every lent table keeps its content.
--- `..-refused` of specs/Writes.antt and specs/Answers.antt say that of each call, here for the number in its own result.
+-- `..-refused` of specs/Contracts/ say that of each call, here for the number in its own result.
 --   by-refusal        a contract by its number, and a number that is not 0: it was refused by that number
 --   ..-keeps          so it is of each call
 use mathlib.Core.Path.{_≡_, sym, subst}
@@ -12,10 +12,13 @@ use Rattle.mesh.specs.Tables.{Tables, graph-in}
 use Rattle.mesh.specs.Image.{block-bytes}
 use Rattle.mesh.specs.declared.Node.{Node}
 use Rattle.calls.specs.Questions.{By-number}
-use Rattle.calls.specs.Writes.{Tables-refused, Clear-accepted, Clear-contract, Link-accepted, Link-refused, Link-contract, Read-accepted, Read-contract}
-use Rattle.calls.specs.Answers.{Value-accepted, Value-refused, Value-by, Check-contract, Number-contract, Neighbours-contract, Linked-contract}
-use Rattle.calls.specs.Answers.{First-contract, Listing-accepted, Listing-refused, Listing-by, Core-contract, Backbone-contract, Write-contract}
-use Rattle.calls.specs.Answers.{Tree-accepted, Tree-refused, Tree-contract, Block-none, Block-accepted, Block-contract}
+use Rattle.calls.specs.Contracts.Forms.{Tables-refused, Value-accepted, Value-refused, Value-by, Listing-accepted, Listing-refused, Listing-by}
+use Rattle.calls.specs.Contracts.Sites.{Clear-accepted, Clear-contract, Check-contract}
+use Rattle.calls.specs.Contracts.Links.{Link-accepted, Link-refused, Link-contract}
+use Rattle.calls.specs.Contracts.Images.{Read-accepted, Read-contract, Write-contract, Block-none, Block-accepted, Block-contract}
+use Rattle.calls.specs.Contracts.Radios.{Number-contract, Neighbours-contract, Linked-contract, First-contract}
+use Rattle.calls.specs.Contracts.Cores.{Core-contract, Backbone-contract}
+use Rattle.calls.specs.Contracts.Trees.{Tree-accepted, Tree-refused, Tree-contract}
 use Rattle.calls.specs.declared.Reply.{Reply}
 use Rattle.calls.specs.declared.Value.{Value}
 use Rattle.calls.specs.declared.Block.{Block}

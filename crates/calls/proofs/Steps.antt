@@ -19,7 +19,10 @@ use Rattle.mesh.specs.Image.{image-links}
 use Rattle.lists.proofs.Overwrite.{take-overwrite}
 use Rattle.calls.specs.Questions.{By-number, lengths-of, answer-length, ends-refusal, tables-refusal, link-refusal, read-refusal}
 use Rattle.calls.specs.Switches.{Switch, switch, pairs-after, switched, tables-after}
-use Rattle.calls.specs.Writes.{Tables-refused, Clear-accepted, Clear-contract, Link-accepted, Link-refused, Link-contract, Read-accepted, Read-contract}
+use Rattle.calls.specs.Contracts.Forms.{Tables-refused}
+use Rattle.calls.specs.Contracts.Sites.{Clear-accepted, Clear-contract}
+use Rattle.calls.specs.Contracts.Links.{Link-accepted, Link-refused, Link-contract}
+use Rattle.calls.specs.Contracts.Images.{Read-accepted, Read-contract}
 use Rattle.calls.specs.Book.{Call, clearing, reading, linking, other, Answer, plain, reported, Outcome, outcome-of, unless-refused, outcome, first-pairs}
 use Rattle.calls.specs.Book.{pairs-of}
 use Rattle.calls.specs.Runs.{answer-of, Does}

@@ -14,7 +14,9 @@ use Rattle.mesh.specs.Levels.{changed}
 use Rattle.mesh.proofs.Cores.Peeling.{number-core, getD-numbers}
 use Rattle.calls.specs.Questions.{By-number, lengths-of, answer-length, tables-refusal, read-refusal, link-refusal}
 use Rattle.calls.specs.Switches.{Switch, switch, pairs-after, tables-after}
-use Rattle.calls.specs.Writes.{Tables-refused, Clear-accepted, Clear-contract, Read-accepted, Read-contract}
+use Rattle.calls.specs.Contracts.Forms.{Tables-refused}
+use Rattle.calls.specs.Contracts.Sites.{Clear-accepted, Clear-contract}
+use Rattle.calls.specs.Contracts.Images.{Read-accepted, Read-contract}
 use Rattle.calls.specs.Book.{Call, linking, Given, given, Answer, plain, reported, Outcome, outcome-of, unless-refused, outcome, first-pairs, pairs-of}
 use Rattle.calls.specs.Book.{booked, book-answers, book-after, History, fresh, history-by, history-after, history}
 use Rattle.calls.specs.Runs.{Event, event, Run, ended, next, givens, answers}

@@ -164,11 +164,7 @@ module _ (f : ℕ → ℕ) (n : ℕ) (size : size-good n ≡ true) where
       order = rw (read-back n (q .pairs) (s .tables) (k .holds), k .order);
       answers = rw (k .answers, answer-accepted (c .up) _ changes (entries f n) _ refl refl refl refl);
     }
-    alike-by (suc x) e = record {
-      holds = k .holds;
-      order = k .order;
-      answers = rw (k .answers, answer-refused _ (suc x) (entries f n) refl refl refl);
-    }
+    alike-by (suc x) e = record { holds = k .holds; order = k .order; answers = rw (k .answers, answer-refused _ (suc x) (entries f n) refl refl refl) }
 
     alike-played : Alike n (state-played n c q) (played f n c s)
     unfolding played state-played

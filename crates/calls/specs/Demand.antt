@@ -22,7 +22,8 @@ use Rattle.mesh.specs.Tables.{Tables, put-link, links-table, graph-in}
 use Rattle.mesh.specs.Sound.{sound, number-in}
 use Rattle.mesh.specs.Connected.{Reachable}
 use Rattle.mesh.specs.Image.{image-links}
-use Rattle.calls.specs.Writes.{Clear-contract, Read-contract}
+use Rattle.calls.specs.Contracts.Sites.{Clear-contract}
+use Rattle.calls.specs.Contracts.Images.{Read-contract}
 use Rattle.calls.specs.Switches.{Switch, pairs-after, tables-after}
 use Rattle.calls.specs.Book.{Call, linking, Answer, reported, Outcome, given, booked, book-answers, book-after, History, history}
 use Rattle.calls.specs.Questions.{lengths-of}

@@ -3,8 +3,7 @@
 -- `Worked` and `Cases` are the worked cases of document 01.
 pub mod Questions
 pub mod Switches
-pub mod Writes
-pub mod Answers
+pub mod Contracts
 pub mod Outcomes
 pub mod Results
 pub mod Book

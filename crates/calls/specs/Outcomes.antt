@@ -23,7 +23,7 @@ use Rattle.mesh.specs.declared.Node.{Node}
 use Rattle.calls.specs.Questions.{lengths-of, image-length, tables-refusal, link-refusal, read-refusal, radio-refusal, pair-refusal, core-refusal}
 use Rattle.calls.specs.Questions.{backbone-refusal, tree-refusal, write-refusal, block-refusal}
 use Rattle.calls.specs.Switches.{switch, switched}
-use Rattle.calls.specs.Answers.{first-of-two}
+use Rattle.calls.specs.Contracts.Radios.{first-of-two}
 use Rattle.calls.specs.declared.Reply.{Reply}
 use Rattle.calls.specs.declared.Value.{Value}
 use Rattle.calls.specs.declared.Block.{Block}

@@ -25,7 +25,7 @@ use Rattle.mesh.specs.Connected.{In-core, In-backbone}
 use Rattle.mesh.specs.Tree.{Is-tree, Node-name}
 use Rattle.mesh.specs.Image.{block-bytes, payload-bytes, payload-at, image-of, image-graph, Tables-image}
 use Rattle.mesh.specs.declared.Node.{Node}
-use Rattle.calls.specs.Answers.{Block-none}
+use Rattle.calls.specs.Contracts.Images.{Block-none}
 use Rattle.calls.specs.declared.Block.{Block}
 
 -- ---- numbers and order

@@ -11,7 +11,9 @@ use Prim.Native.Nat.{ℕ}
 use lib.ListN.{length, take}
 use Rattle.mesh.specs.Tables.{Tables}
 use Rattle.calls.specs.Questions.{lengths-of}
-use Rattle.calls.specs.Writes.{Clear-contract, Link-contract, Read-contract}
+use Rattle.calls.specs.Contracts.Sites.{Clear-contract}
+use Rattle.calls.specs.Contracts.Links.{Link-contract}
+use Rattle.calls.specs.Contracts.Images.{Read-contract}
 use Rattle.calls.specs.Book.{Call, clearing, reading, linking, other, Given, given, Answer, plain}
 use Rattle.calls.specs.declared.Reply.{Reply}
 

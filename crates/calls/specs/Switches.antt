@@ -26,7 +26,7 @@ unfoldable pub pairs-after : List Switch → List Link → List Link
 pairs-after [] ps = ps
 pairs-after (s ∷ ss) ps = pairs-after ss (new-links (s .up) (s .a) (s .b) ps)
 
--- as `Link-accepted` of specs/Writes.antt says it
+-- as `Link-accepted` of specs/Contracts/Links.antt says it
 unfoldable pub switched : (n : ℕ) → Switch → Tables → Tables
 switched n s t =
     let g = graph-in n (t .links) in

@@ -16,8 +16,4 @@ pub ends-listed-neighbours : (n : ℕ) (t : Tables) → Sound-site n t → (a : 
 unfolding ends-listed
 ends-listed-neighbours n t s a l =
     ap (take max-neighbours) (row-listed-neighbours n t s a l)
-    ∙ take-all max-neighbours (neighbours-of (t .links) a) (omega (
-      arith,
-      length-neighbours-of (t .links) a,
-      few-of max-neighbours n (t .links) (s .few) a l,
-    ))
+    ∙ take-all max-neighbours (neighbours-of (t .links) a) (omega (arith, length-neighbours-of (t .links) a, few-of max-neighbours n (t .links) (s .few) a l))

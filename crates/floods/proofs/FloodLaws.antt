@@ -292,7 +292,4 @@ module _ (ts ns : List ℕ) (k v : ℕ) (old queue new : List ℕ) (can : flooda
   flood-starts = rw first (walking-start ts ns k v old (sizes .small) queue (sizes .radio) (sizes .one-row) (sizes .room))
 
   pub flood-ends : (i : ℕ) (f : Flood) → f .count ≤ i → Walking ts ns k v old i f → Flooded ts ns k v old queue (f .count) (f .set) (f .queue)
-  flood-ends i f l h = record {
-    done = λ e. walking-end ts ns k v old (sizes .small) i f l h;
-    refused = λ e. never _ can e;
-  }
+  flood-ends i f l h = record { done = λ e. walking-end ts ns k v old (sizes .small) i f l h; refused = λ e. never _ can e }

@@ -17,10 +17,8 @@ fn take_one(
     queue: &mut [u16],
     count: usize,
 ) -> usize
-    ensures { λ r. ⌜
-        flood-at (now (set .exit)) (now (queue .exit)) r
-        ≡ taken-one (now (numbers .entry)) level x (flood-at (now (set .entry)) (now (queue .entry)) count)
-        ⌝ }
+    ensures { λ r. ⌜ flood-at (now (set .exit)) (now (queue .exit)) r
+        ≡ taken-one (now (numbers .entry)) level x (flood-at (now (set .entry)) (now (queue .entry)) count) ⌝ }
 {
     let v = x as usize;
     if numbers.len() <= v {
@@ -51,11 +49,8 @@ fn take_all<'a>(
     count: usize,
 ) -> usize
     requires { ⌜ k ≤ length (now list) ⌝ }
-    ensures { λ r. ⌜
-        flood-at (now (set .exit)) (now (queue .exit)) r
-        ≡ taken-all (now (numbers .entry)) level (take k (now (list .entry)))
-        (flood-at (now (set .entry)) (now (queue .entry)) count)
-        ⌝ }
+    ensures { λ r. ⌜ flood-at (now (set .exit)) (now (queue .exit)) r ≡ taken-all (now (numbers .entry)) level (take k (now (list .entry)))
+        (flood-at (now (set .entry)) (now (queue .entry)) count) ⌝ }
 {
     let mut c = count;
     let mut i: usize = 0;
@@ -78,11 +73,9 @@ fn take_ends<'a>(
     count: usize,
 ) -> usize
     requires { ⌜ length (now list) ≡ max-neighbours ⌝ }
-    ensures { λ r. ⌜
-        flood-at (now (set .exit)) (now (queue .exit)) r
+    ensures { λ r. ⌜ flood-at (now (set .exit)) (now (queue .exit)) r
         ≡ taken-all (now (numbers .entry)) level (ends-listed (now (links .entry)) a)
-        (flood-at (now (set .entry)) (now (queue .entry)) count)
-        ⌝ }
+        (flood-at (now (set .entry)) (now (queue .entry)) count) ⌝ }
 {
     let k = rows::row_neighbours(links, a, list);
     let m = tables::fill::least(k as usize, list.len());
@@ -117,10 +110,8 @@ pub fn flood<'a>(
     set: &mut [u8],
     queue: &mut [u16],
 ) -> usize
-    ensures { λ r. ⌜
-        Flooded (now (links .entry)) (now (numbers .entry)) level v (now (set .entry)) (now (queue .entry)) r
-        (now (set .exit)) (now (queue .exit))
-        ⌝ }
+    ensures { λ r. ⌜ Flooded (now (links .entry)) (now (numbers .entry)) level v (now (set .entry)) (now (queue .entry)) r
+        (now (set .exit)) (now (queue .exit)) ⌝ }
 {
     if !is_floodable(numbers.len(), v as usize, set.len(), queue.len()) {
         return 0;

@@ -14,7 +14,7 @@ use lib.ListN.{length, take, drop}
 use borrow.Author.Tests.{ltb-true, lt-ltb, le-ltb}
 use Rattle.mesh.specs.Image.{block-bytes, payload-at}
 use Rattle.calls.specs.Questions.{By-number, block-refusal}
-use Rattle.calls.specs.Answers.{Block-contract, Block-accepted, Block-given, Block-none}
+use Rattle.calls.specs.Contracts.Images.{Block-contract, Block-accepted, Block-given, Block-none}
 use Rattle.calls.specs.declared.Block.{Block}
 use Rattle.calls.proofs.ContractLaws.{by-zero, by-cases}
 use Rattle.image.specs.Reader.{Stepped}

@@ -12,7 +12,8 @@ use Rattle.mesh.specs.Image.{whole-blocks, checks-good, is-image}
 use Rattle.lists.proofs.Tests.{bool-cases}
 use Rattle.calls.specs.Questions.{ask, Lengths, lengths-of, size-good, site-lengths, lent-refusal, tables-refusal, blocks-refusal, image-refusal, read-refusal}
 use Rattle.calls.specs.Questions.{block-refusal}
-use Rattle.calls.specs.Writes.{Read-contract, Read-accepted, Tables-refused}
+use Rattle.calls.specs.Contracts.Images.{Read-contract, Read-accepted}
+use Rattle.calls.specs.Contracts.Forms.{Tables-refused}
 use Rattle.calls.proofs.ContractLaws.{by-accepted, by-refused}
 use Rattle.calls.proofs.ChainLaws.{Lent-good, lent-zero, lent-yes, Blocks-good, blocks-zero, blocks-yes}
 use Rattle.image_reader.specs.Site.{Site-room}

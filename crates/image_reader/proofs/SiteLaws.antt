@@ -39,11 +39,7 @@ module _ (n : ℕ) (bs : List ℕ) (small : n ≤ max-radios) (b : Bytes bs) (ch
   site = image-graph n bs
 
   refused : (xs ns : List ℕ) → (is-image n bs ≡ true → ⊥) → Site-decided n bs xs ns false
-  refused xs ns h = record {
-    answer = sym (pick (bool-cases (is-image n bs)));
-    order-is = λ f. never false f refl;
-    numbers-are = λ f. never false f refl;
-  }
+  refused xs ns h = record { answer = sym (pick (bool-cases (is-image n bs))); order-is = λ f. never false f refl; numbers-are = λ f. never false f refl }
     where
       pick : (is-image n bs ≡ true) ⊎ (is-image n bs ≡ false) → is-image n bs ≡ false
       pick (inl e) = absurd (h e)

@@ -88,12 +88,7 @@ module _ (rs : List ℕ) (s : ℕ) where
   pub tallied-le : (n : ℕ) (bs : List ℕ) (j v : ℕ) → tallied rs s (links-up-to n bs j) v ≤ j
   unfolding tallied
   tallied-le n bs j v =
-      omega (
-        arith,
-        count-le-length (below v) (other-ends v (links-up-to n bs j)),
-        length-other-ends v (links-up-to n bs j),
-        length-links n bs j,
-      )
+      omega (arith, count-le-length (below v) (other-ends v (links-up-to n bs j)), length-other-ends v (links-up-to n bs j), length-links n bs j)
 
   tallied-more : (n : ℕ) (bs : List ℕ) (j v : ℕ)
       → tallied rs s (links-up-to n bs (j + 1)) v ≡ tallied rs s (links-up-to n bs j) v + count (below v) (other-ends v (image-link n bs j ∷ []))

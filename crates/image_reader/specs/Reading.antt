@@ -6,7 +6,8 @@ use mathlib.Core.List.{List}
 use Prim.Native.Nat.{ℕ}
 use Rattle.mesh.specs.Tables.{Tables}
 use Rattle.mesh.specs.Image.{is-image}
-use Rattle.calls.specs.Writes.{Read-accepted, Tables-refused}
+use Rattle.calls.specs.Contracts.Images.{Read-accepted}
+use Rattle.calls.specs.Contracts.Forms.{Tables-refused}
 
 -- t and v are the tables before and after: the image's own, or refused by 11
 pub record Site-read (n : ℕ) (image : List ℕ) (t : Tables) (r : ℕ) (v : Tables) : Type 0 where

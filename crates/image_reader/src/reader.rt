@@ -6,7 +6,7 @@ ghost use lib.ListN.{length, getD};
 ghost use Rattle.mesh.specs.Limits.{max-radios, row-bytes};
 ghost use Rattle.mesh.specs.Graph.{graph, proper};
 ghost use Rattle.mesh.specs.Tables.{links-table, lent};
-ghost use Rattle.calls.specs.Writes.{Read-contract};
+ghost use Rattle.calls.specs.Contracts.Images.{Read-contract};
 ghost use Rattle.tables.specs.Widths.{values};
 ghost use Rattle.image_reader.specs.Site.{links-up-to, Site-room};
 ghost use Rattle.image_reader.specs.Reading.{Site-read};
@@ -19,10 +19,7 @@ use mesh::Site;
 
 // The links table of the first m links of the image.
 fn put_links(image: &[u8], n: u32, m: u32, links: &mut [u8])
-    requires { ⌜
-        (n ≤ max-radios) × (m < 65536) × (length (now links) ≡ row-bytes * n) ×
-        (proper n (links-up-to n (now image) m) ≡ true)
-        ⌝ }
+    requires { ⌜ (n ≤ max-radios) × (m < 65536) × (length (now links) ≡ row-bytes * n) × (proper n (links-up-to n (now image) m) ≡ true) ⌝ }
     ensures { λ _. ⌜ now (links .exit) ≡ links-table (graph n (links-up-to n (now (image .entry)) m)) ⌝ }
 {
     tables::fill::fill8(links, 0);
@@ -59,10 +56,8 @@ fn read_site(
 ) -> u32
     requires room { ⌜ Site-room n (now image) (length (now listed)) (length (now ranks)) (length (now counts)) ⌝ }
     requires sized { ⌜ (length (now links) ≡ row-bytes * n) × (length (now numbers) ≡ n) × (length (now order) ≡ n) ⌝ }
-    ensures { λ r. ⌜
-        Site-read n (now (image .entry)) (lent (links .entry) (numbers .entry) (order .entry)) r
-        (lent (links .exit) (numbers .exit) (order .exit))
-        ⌝ }
+    ensures { λ r. ⌜ Site-read n (now (image .entry)) (lent (links .entry) (numbers .entry) (order .entry)) r
+        (lent (links .exit) (numbers .exit) (order .exit)) ⌝ }
 {
     if !site::is_site(image, n, listed, ranks, counts) {
         return Refusal::IMAGE;
@@ -76,10 +71,8 @@ fn read_site(
 // Reads an image of n radios into the tables: links and order as the image lists them, the numbers worked out. Refused by 1, 2
 // and 9 to 11: then every table keeps its content.
 pub fn read(n: u32, links: &mut [u8], numbers: &mut [u8], order: &mut [u16], image: &[u8]) -> u32
-    ensures { λ r. ⌜
-        Read-contract n (now (image .entry)) (lent (links .entry) (numbers .entry) (order .entry)) r
-        (lent (links .exit) (numbers .exit) (order .exit))
-        ⌝ }
+    ensures { λ r. ⌜ Read-contract n (now (image .entry)) (lent (links .entry) (numbers .entry) (order .entry)) r
+        (lent (links .exit) (numbers .exit) (order .exit)) ⌝ }
 {
     let lengths = tables::sizes::of_tables(
         Site { radios: n },

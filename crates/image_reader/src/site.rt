@@ -85,10 +85,8 @@ fn bump(counts: &mut [u16], v: u32, on: bool)
 // For each radio v below n, counts[v] is the number of its links among the first m whose other end w has a rank of which, with
 // the slack added, that of v is below. Later entries are zero.
 fn tally(image: &[u8], n: u32, m: u32, ranks: &[u16], slack: u16, counts: &mut [u16])
-    requires { ⌜
-        (n ≤ max-radios) × (m < 65536) × (n ≤ length (now ranks)) × (n ≤ length (now counts)) ×
-        (proper n (links-up-to n (now image) m) ≡ true)
-        ⌝ }
+    requires { ⌜ (n ≤ max-radios) × (m < 65536) × (n ≤ length (now ranks)) × (n ≤ length (now counts)) ×
+        (proper n (links-up-to n (now image) m) ≡ true) ⌝ }
     ensures { λ _. ⌜ Tallied n (now (ranks .entry)) slack (links-up-to n (now (image .entry)) m) (now (counts .exit)) ⌝ }
 {
     tables::fill::fill16(counts, 0);
@@ -119,11 +117,8 @@ fn read_order(image: &[u8], order: &mut [u16])
 // Whether no entry is above the one of `most` at its place.
 fn each_at_most(entries: &[u16], most: &[u16]) -> bool
     requires { ⌜ length (now entries) ≤ length (now most) ⌝ }
-    ensures { λ r. ⌜
-        r
-        ≡ all (λ (v : ℕ). leb (getD (now (entries .entry)) v 0) (getD (now (most .entry)) v 0))
-        (range 0 (length (now (entries .entry))))
-        ⌝ }
+    ensures { λ r. ⌜ r ≡ all (λ (v : ℕ). leb (getD (now (entries .entry)) v 0) (getD (now (most .entry)) v 0))
+        (range 0 (length (now (entries .entry)))) ⌝ }
 {
     let mut v: usize = 0;
     while v < entries.len() {
@@ -155,14 +150,10 @@ fn larger(a: u16, b: u16) -> u16
 
 // Gives each radio of the order the greatest count up to it.
 fn run_maxima(order: &[u16], counts: &[u16], ranks: &mut [u16])
-    requires { ⌜
-        (each-once (length (now order)) (now order) ≡ true) × (length (now order) ≤ length (now counts)) ×
-        (length (now order) ≤ length (now ranks))
-        ⌝ }
-    ensures { λ _. ⌜
-        map (λ (v : ℕ). getD (now (ranks .exit)) v 0) (now (order .entry))
-        ≡ running-maxima-of (λ (v : ℕ). getD (now (counts .entry)) v 0) 0 (now (order .entry))
-        ⌝ }
+    requires { ⌜ (each-once (length (now order)) (now order) ≡ true) × (length (now order) ≤ length (now counts)) ×
+        (length (now order) ≤ length (now ranks)) ⌝ }
+    ensures { λ _. ⌜ map (λ (v : ℕ). getD (now (ranks .exit)) v 0) (now (order .entry))
+        ≡ running-maxima-of (λ (v : ℕ). getD (now (counts .entry)) v 0) 0 (now (order .entry)) ⌝ }
 {
     let mut top: u16 = 0;
     let mut i: usize = 0;
@@ -187,9 +178,7 @@ fn is_k_order(
     requires room { ⌜ Tally-room n m (now image) (length (now ranks)) (length (now counts)) ⌝ }
     requires ascends { ⌜ ascending (links-up-to n (now image) m) ≡ true ⌝ }
     requires long { ⌜ length (now order) ≡ n ⌝ }
-    ensures { λ r. ⌜
-        K-order-decided (graph n (links-up-to n (now (image .entry)) m)) (now (order .entry)) (now (ranks .exit)) r
-        ⌝ }
+    ensures { λ r. ⌜ K-order-decided (graph n (links-up-to n (now (image .entry)) m)) (now (order .entry)) (now (ranks .exit)) r ⌝ }
 {
     if !soundness::places_of(order, ranks) {
         return false;

@@ -56,14 +56,7 @@ module _ (n : ℕ) (ts : List ℕ) (a p : ℕ) (start : List ℕ) (row place cou
         good = record { place = λ _. omega (arith, put .written, l .good .place h) };
         room = omega (arith, put .written, l .room);
         within =
-            omega (
-              arith,
-              ap length (l .rest),
-              ap length here,
-              length-append ls (links-from n ts (row + 1) 0),
-              length-drop count all-links,
-              l .within,
-            );
+            omega (arith, ap length (l .rest), ap length here, length-append ls (links-from n ts (row + 1) 0), length-drop count all-links, l .within);
         long = same-long ∙ l .long;
         is =
             put .is ∙ ap₂ {C = List ℕ} (λ b cs. sets b (4 + 4 * count) (flatMap link-bytes cs)) (l .is) (sym (take-map (link-of row) r bs))
@@ -123,12 +116,7 @@ pub row-left : (n : ℕ) (ts : List ℕ) (room row place : ℕ) (list : List ℕ
 row-left n ts room row place list s e rows good h kept g =
     let fits : length (row-listed ts row) ≤ length list = omega (arith, rows .few row h) in
     let count : e - s ≡ length (neighbours-above ts row) = span-count ts row list s e g fits in
-    record {
-      within = omega (arith, good .place h, g .start);
-      end = g .end;
-      count = count;
-      is = span-rest ts row list s e g fits place;
-    }
+    record { within = omega (arith, good .place h, g .start); end = g .end; count = count; is = span-rest ts row list s e g fits place }
 
 -- how many of them are put
 pub row-left-put : (ts : List ℕ) (row place : ℕ) (list : List ℕ) (s e count : ℕ) (part new : List ℕ) (r : ℕ) → Row-left ts row place list s e

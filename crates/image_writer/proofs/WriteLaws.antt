@@ -1,7 +1,7 @@
 -- The writer meets its contract, on plain values.
 -- In order: the number of questions 1 to 3, the links of a sound site, the three outcomes.
 use mathlib.Core.Path.{_≡_, refl, sym, ap, ap₂, _∙_}
-use mathlib.Core.Bool.{Bool, true, false, _&&_}
+use mathlib.Core.Bool.{true}
 use mathlib.Core.List.{List, _++_, flatMap}
 use Prim.Native.Nat.{ℕ, _+_, _*_, _-_, _≤_, _<_}
 use native.Mathlib.Omega.{arith}
@@ -16,29 +16,16 @@ use Rattle.mesh.specs.Image.{block-bytes, block-count, block-at, image-of}
 use Rattle.mesh.proofs.Images.Of.{length-image-of}
 use Rattle.mesh.proofs.Images.Tables.{valid-graph-in}
 use Rattle.mesh.proofs.Tables.DegreeSum.{links-most}
-use Rattle.calls.specs.Questions.{ask, lengths-of, Lengths, size-good, site-lengths, lent-refusal, site-refusal, write-refusal, image-length, holds-image}
-use Rattle.calls.specs.Answers.{Write-contract, Listing-refused}
+use Rattle.calls.specs.Questions.{ask, lengths-of, site-refusal, write-refusal, image-length, holds-image}
+use Rattle.calls.specs.Contracts.Images.{Write-contract}
+use Rattle.calls.specs.Contracts.Forms.{Listing-refused}
 use Rattle.calls.proofs.ContractLaws.{by-accepted, by-refused}
 use Rattle.calls.proofs.QuestionLaws.{ask-no}
-use Rattle.calls.proofs.ChainLaws.{Site-good, site-zero, site-yes, write-yes}
+use Rattle.calls.proofs.ChainLaws.{Site-good, site-zero, site-yes, write-yes, site-stops}
 use Rattle.soundness.proofs.SoundSite.{Sound-site, sound-site}
 use Rattle.link_list.specs.Links.{links-from, Rows-listed}
 use Rattle.link_list.proofs.GraphLinks.{rows-listed-few, links-graph-in}
 use Rattle.image_writer.specs.Blocks.{marked-graph}
-
--- ---- questions 1 to 3
-
--- a chain that stops at 1 to 3 does not ask further
-pub site-stops : (n : ℕ) (l : Lengths) (others sound : Bool) (later : ℕ) → (site-refusal n l others sound 0 ≡ 0 → ⊥)
-    → site-refusal n l others sound later ≡ site-refusal n l others sound 0
-unfolding site-refusal lent-refusal ask
-site-stops n l others sound later h = go (size-good n) (site-lengths n l && others) sound h
-  where
-    go : (a b c : Bool) → (ask 1 a (ask 2 b (ask 3 c 0)) ≡ 0 → ⊥) → ask 1 a (ask 2 b (ask 3 c later)) ≡ ask 1 a (ask 2 b (ask 3 c 0))
-    go true true true k = absurd (k refl)
-    go true true false k = refl
-    go true false c k = refl
-    go false b c k = refl
 
 -- ---- the outcomes
 
@@ -119,8 +106,4 @@ module _ (n : ℕ) (t : Tables) (w : List ℕ) where
           ap₂ {C = List ℕ} (λ (m : Graph) (k : ℕ). flatMap (block-at m (t .order)) (range 0 k)) whole (counted ∙ blocks-are) in
           let long : length (image-of g (t .order)) ≡ block-bytes * blocks = length-image-of g (t .order) ∙ ap (λ (k : ℕ). block-bytes * k) (sym (counted ∙ blocks-are)) in
           by-accepted refusal (λ q. Listing-refused q w (record { number = 0; value = block-bytes * blocks }) x) zero-is
-          (record {
-            number = refl;
-            value = sym length-is;
-            lent = e ∙ ap₂ {C = List ℕ} (λ (xs : List ℕ) (k : ℕ). xs ++ drop k w) front (sym long);
-          })
+          (record { number = refl; value = sym length-is; lent = e ∙ ap₂ {C = List ℕ} (λ (xs : List ℕ) (k : ℕ). xs ++ drop k w) front (sym long) })

@@ -8,7 +8,7 @@ ghost use Rattle.lists.specs.Lists.{range};
 ghost use Rattle.mesh.specs.Graph.{link-of};
 ghost use Rattle.mesh.specs.Image.{block-bytes, block-entries, block-links, link-bytes, word, block, block-at};
 ghost use Rattle.mesh.specs.Tables.{lent};
-ghost use Rattle.calls.specs.Answers.{Write-contract};
+ghost use Rattle.calls.specs.Contracts.Images.{Write-contract};
 ghost use Rattle.image_writer.specs.Filler.{opened, sealed};
 ghost use Rattle.link_list.specs.Links.{Rows-listed, Cursor-good};
 ghost use Rattle.image_writer.specs.Blocks.{Row-put, Links-put, Links-filled, Writable, Cursor-at, Block-filled, marked-graph};
@@ -66,9 +66,7 @@ fn fill_counts(part: &mut [u8], n: u32, count: u32)
 // Writes the entries of the order from `from` on into the payload, as many as a block has.
 fn put_order(part: &mut [u8], order: &[u16], from: usize)
     requires { ⌜ (length (now part) ≡ block-bytes) × (from ≤ length (now order)) ⌝ }
-    ensures { λ _. ⌜
-        now (part .exit) ≡ sets (now (part .entry)) 4 (flatMap word (take block-entries (drop from (now (order .entry)))))
-        ⌝ }
+    ensures { λ _. ⌜ now (part .exit) ≡ sets (now (part .entry)) 4 (flatMap word (take block-entries (drop from (now (order .entry))))) ⌝ }
 {
     let count = tables::fill::least(ENTRIES, order.len() - from);
     let mut v: usize = 0;
@@ -123,14 +121,9 @@ struct Cursor {
 // Writes the links from `from` on into the payload, as many as a block has, and comes back with where the next one is. `list`
 // holds anything after.
 fn put_links(part: &mut [u8], n: u32, links: &[u8], from: Cursor, list: &mut [u16]) -> Cursor
-    requires { ⌜
-        (length (now part) ≡ block-bytes) × Rows-listed n (now links) (length (now list)) ×
-        Cursor-good n (now links) (from .row) (from .place)
-        ⌝ }
-    ensures { λ r. ⌜
-        Links-put n (now (links .entry)) (from .row) (from .place) (now (part .entry)) (now (part .exit)) (r .row)
-        (r .place)
-        ⌝ }
+    requires { ⌜ (length (now part) ≡ block-bytes) × Rows-listed n (now links) (length (now list)) ×
+        Cursor-good n (now links) (from .row) (from .place) ⌝ }
+    ensures { λ r. ⌜ Links-put n (now (links .entry)) (from .row) (from .place) (now (part .entry)) (now (part .exit)) (r .row) (r .place) ⌝ }
 {
     let mut row = from.row;
     let mut place = from.place;
@@ -160,13 +153,9 @@ fn fill_links(
     from: Cursor,
     list: &mut [u16],
 ) -> Cursor
-    requires { ⌜
-        (length (now part) ≡ block-bytes) × Rows-listed n (now links) (length (now list)) ×
-        Cursor-good n (now links) (from .row) (from .place)
-        ⌝ }
-    ensures { λ r. ⌜
-        Links-filled n index (now (links .entry)) (from .row) (from .place) (now (part .exit)) (r .row) (r .place)
-        ⌝ }
+    requires { ⌜ (length (now part) ≡ block-bytes) × Rows-listed n (now links) (length (now list)) ×
+        Cursor-good n (now links) (from .row) (from .place) ⌝ }
+    ensures { λ r. ⌜ Links-filled n index (now (links .entry)) (from .row) (from .place) (now (part .exit)) (r .row) (r .place) ⌝ }
 {
     open_block(part, 2, index);
     let next = put_links(part, n, links, from, list);
@@ -185,10 +174,8 @@ fn fill_block(
     from: Cursor,
     list: &mut [u16],
 ) -> Cursor
-    requires { ⌜
-        (length (now part) ≡ block-bytes) × Writable n count (now links) (now order) (now list) ×
-        Cursor-at n (now links) i (from .row) (from .place)
-        ⌝ }
+    requires { ⌜ (length (now part) ≡ block-bytes) × Writable n count (now links) (now order) (now list) ×
+        Cursor-at n (now links) i (from .row) (from .place) ⌝ }
     ensures { λ r. ⌜ Block-filled n i (now (links .entry)) (now (order .entry)) (now (part .exit)) (r .row) (r .place) ⌝ }
 {
     if i == 0 {
@@ -214,11 +201,9 @@ fn write_blocks(
     list: &mut [u16],
 )
     requires { ⌜ (block-bytes * blocks ≤ length (now buffer)) × Writable n count (now links) (now order) (now list) ⌝ }
-    ensures { λ _. ⌜
-        now (buffer .exit)
+    ensures { λ _. ⌜ now (buffer .exit)
         ≡ flatMap (block-at (marked-graph n (now (links .entry))) (now (order .entry))) (range 0 blocks) ++ drop
-        (block-bytes * blocks) (now (buffer .entry))
-        ⌝ }
+        (block-bytes * blocks) (now (buffer .entry)) ⌝ }
 {
     let mut from = Cursor { row: 0, place: 0 };
     let mut i: u32 = 0;
@@ -233,9 +218,7 @@ fn write_blocks(
 // Writes the image of sound tables in front of the buffer; the value is its length in bytes, and bytes past it keep their
 // content. Refused by 1 to 3 and 9: then the value is 0 and the buffer keeps its content.
 pub fn write(n: u32, links: &[u8], numbers: &[u8], order: &[u16], buffer: &mut [u8]) -> Value
-    ensures { λ r. ⌜
-        Write-contract n (lent (links .entry) (numbers .entry) (order .entry)) (now (buffer .entry)) r (now (buffer .exit))
-        ⌝ }
+    ensures { λ r. ⌜ Write-contract n (lent (links .entry) (numbers .entry) (order .entry)) (now (buffer .entry)) r (now (buffer .exit)) ⌝ }
 {
     let number = soundness::refusal(n, links, numbers, order, true);
     if number != 0 {

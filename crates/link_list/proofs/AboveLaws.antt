@@ -35,10 +35,7 @@ passing-none list a = record { low = omega arith; below = λ j h. absurd (omega 
 
 pub passing-turn : (list : List ℕ) (a i : ℕ) → Passing list a i → i < length list → getD list i 0 ≤ a → Passing list a (i + 1)
 passing-turn list a i p h b =
-    record {
-      low = omega arith;
-      below = λ j l. go j (eq-or-lt-of-le (let q : j ≤ i = omega arith in q));
-    }
+    record { low = omega arith; below = λ j l. go j (eq-or-lt-of-le (let q : j ≤ i = omega arith in q)) }
   where
     go : (j : ℕ) → (j ≡ i) ⊎ (j < i) → getD list j 0 ≤ a
     go j (inl e) = rw e b

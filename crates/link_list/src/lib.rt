@@ -39,10 +39,7 @@ pub fn list_above(links: &[u8], a: u32, list: &mut [u16]) -> Span
 // How many links the first n rows mark, where each of them fits the list; of more rows than a site may have 0. `list` holds
 // anything after.
 pub fn count_links(n: u32, links: &[u8], list: &mut [u16]) -> u32
-    ensures { λ r. ⌜
-        (Rows-listed n (now (links .entry)) (length (now (list .entry)))
-        → r ≡ length (links-from n (now (links .entry)) 0 0))
-        ⌝ }
+    ensures { λ r. ⌜ (Rows-listed n (now (links .entry)) (length (now (list .entry))) → r ≡ length (links-from n (now (links .entry)) 0 0)) ⌝ }
 {
     if Site::RADIOS < n {
         return 0;

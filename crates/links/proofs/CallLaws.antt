@@ -10,7 +10,7 @@ use Rattle.mesh.specs.Limits.{max-radios, max-neighbours}
 use Rattle.mesh.specs.Tables.{Tables, graph-in}
 use Rattle.mesh.specs.Sound.{sound}
 use Rattle.calls.specs.Questions.{answer-length, lengths-of, ends-refusal, link-refusal}
-use Rattle.calls.specs.Writes.{Link-accepted, Link-refused, Link-contract}
+use Rattle.calls.specs.Contracts.Links.{Link-accepted, Link-refused, Link-contract}
 use Rattle.calls.specs.declared.Reply.{Reply}
 use Rattle.calls.proofs.QuestionLaws.{answer-length-true}
 use Rattle.calls.proofs.ContractLaws.{by-accepted, by-refused}

@@ -104,7 +104,4 @@ module _ {up : Bool} {a b k m : ℕ} {links ns os ps cs0 fs0 row0 near0 list0 : 
           }
 
     pub peel-end : max-radios ≤ p → Peel-done up a b k m links ns os taken cs list
-    peel-end l = record {
-      fits = h .room;
-      peels = turns-end (ready .level) m (h .turning) (λ q lq. first-marked-least fs p (h .next) q (omega arith) lq);
-    }
+    peel-end l = record { fits = h .room; peels = turns-end (ready .level) m (h .turning) (λ q lq. first-marked-least fs p (h .next) q (omega arith) lq) }

@@ -92,10 +92,7 @@ module _ {f : ℕ → ℕ → Bool} {ns os ps : List ℕ} {k start size : ℕ} (
           go v (inr i) (inr e) = never (member v left) (in-member v left i) e
 
       pub turns-end : Peels f m high level taken (filter (λ v. ltb m (getD cs v 0)) level)
-      turns-end = rw (← left-is) (record {
-        takes = h .takes;
-        full = λ v i. omega (arith, left-full v i, h .counted v (left-in v i));
-      })
+      turns-end = rw (← left-is) (record { takes = h .takes; full = λ v i. omega (arith, left-full v i, h .counted v (left-in v i)) })
 
     -- ---- a turn: the place p is the lowest that fits
 
@@ -177,10 +174,7 @@ module _ {f : ℕ → ℕ → Bool} {ns os ps : List ℕ} {k start size : ℕ} (
         place-marked-after w i =
             let s = stretch-stands lv w i in
             marked-released-place ns ps k m (place-small lv) (place-apart lv) near cs fs0 long-fs0 taken-releasable w (omega (arith, s .below, lv .numbers-length)) (s .level)
-            ∙ rw (
-              marked-put false p (place w) fs (h .fits-long) some (omega (arith, s .high, lv .fits, lv .small)),
-              member-near w (s .below),
-            )
+            ∙ rw (marked-put false p (place w) fs (h .fits-long) some (omega (arith, s .high, lv .fits, lv .small)), member-near w (s .below))
 
         -- what is left, cut at v
         module _ (xs ys : List ℕ) (cut : left ≡ xs ++ v ∷ ys) where

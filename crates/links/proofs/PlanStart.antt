@@ -212,13 +212,7 @@ module _ {u : Bool} {a b : ℕ} {ts ns os ps cs : List ℕ} (r : Ready u (length
   few-high : (v : ℕ) → v < n → getD cs v 0 ≤ max-neighbours
   unfolding graph-in
   few-high v l =
-      omega (
-        arith,
-        r .counted v l,
-        neighbours-in-subset g v (λ w. leb (num v) (num w)) (λ w. true) (λ w lw q. refl),
-        degree-in g v,
-        is-valid r .degrees v l,
-      )
+      omega (arith, r .counted v l, neighbours-in-subset g v (λ w. leb (num v) (num w)) (λ w. true) (λ w lw q. refl), degree-in g v, is-valid r .degrees v l)
 
   linked-high : (v o : ℕ) → v < n → o < n → linked g v o ≡ true → num v ≤ num o → 1 ≤ getD cs v 0
   unfolding graph-in neighbours-in radios

@@ -6,7 +6,7 @@ ghost use lib.Seq.{paste};
 ghost use Rattle.mesh.specs.Limits.{max-radios};
 ghost use Rattle.lists.specs.Lists.{overwrite, Entries-below};
 ghost use Rattle.mesh.specs.Tables.{tables, graph-in, lent};
-ghost use Rattle.calls.specs.Writes.{Link-accepted};
+ghost use Rattle.calls.specs.Contracts.Links.{Link-accepted};
 ghost use Rattle.links.specs.Plans.{changed-part, Planned};
 ghost use Rattle.links.specs.Changes.{all-marked, in-order, counted-step, Applicable};
 use super::plan::Plan;
@@ -30,10 +30,8 @@ fn mark_all(set: &mut [u8], list: &[u16])
 fn list_ascending(list: &[u16], answer: &mut [u16]) -> u32
     requires { ⌜ Entries-below max-radios (now list) ⌝ }
     ensures counted { λ r. ⌜ r ≡ length (in-order (now (list .entry))) ⌝ }
-    ensures listed { λ _. ⌜
-        now (answer .exit)
-        ≡ overwrite (take (length (now (answer .entry))) (in-order (now (list .entry)))) (now (answer .entry))
-        ⌝ }
+    ensures listed { λ _. ⌜ now (answer .exit)
+        ≡ overwrite (take (length (now (answer .entry))) (in-order (now (list .entry)))) (now (answer .entry)) ⌝ }
 {
     let mut set = [0u8; Site::ROW_BYTES];
     mark_all(&mut set, list);
@@ -56,10 +54,8 @@ fn step_of(up: bool, count: u32) -> i8
 // The part stands in the order before place `end` after; the others keep their places.
 fn put_before(order: &mut [u16], end: usize, part: &[u16])
     requires { ⌜ (length (now part) ≤ end) × (end ≤ length (now order)) ⌝ }
-    ensures { λ _. ⌜
-        now (order .exit)
-        ≡ paste (now (order .entry)) (end - length (now (part .entry))) (now (part .entry)) (length (now (part .entry)))
-        ⌝ }
+    ensures { λ _. ⌜ now (order .exit)
+        ≡ paste (now (order .entry)) (end - length (now (part .entry))) (now (part .entry)) (length (now (part .entry))) ⌝ }
 {
     let start = end - part.len();
     fill::copy16(&mut order[start..end], part);
@@ -79,15 +75,11 @@ fn put_stretch(order: &mut [u16], start: usize, size: usize, taken: usize, stret
 // Writes the changed radios of a plan into the answer table, ascending, and comes back with their count; later entries keep
 // their content.
 fn list_changed(up: bool, taken: usize, size: usize, stretch: &[u16], answer: &mut [u16]) -> u32
-    requires { ⌜
-        (taken ≤ size) × (size ≤ length (now stretch)) × Entries-below max-radios (changed-part up taken size (now stretch))
-        ⌝ }
+    requires { ⌜ (taken ≤ size) × (size ≤ length (now stretch)) × Entries-below max-radios (changed-part up taken size (now stretch)) ⌝ }
     ensures counted { λ r. ⌜ r ≡ length (in-order (changed-part up taken size (now (stretch .entry)))) ⌝ }
-    ensures listed { λ _. ⌜
-        now (answer .exit)
+    ensures listed { λ _. ⌜ now (answer .exit)
         ≡ overwrite (take (length (now (answer .entry))) (in-order (changed-part up taken size (now (stretch .entry)))))
-        (now (answer .entry))
-        ⌝ }
+        (now (answer .entry)) ⌝ }
 {
     if up {
         return list_ascending(&stretch[taken..size], answer);
@@ -109,15 +101,11 @@ pub(crate) fn apply(
     answer: &mut [u16],
 ) -> Reply
     requires call { ⌜ Applicable up (length (now order)) a b (tables (now links) (now numbers) (now order)) (now answer) ⌝ }
-    requires planned { ⌜
-        Planned up a b (graph-in (length (now order)) (now links)) (now order) (plan .start) (plan .size) (plan .taken)
-        (now stretch)
-        ⌝ }
-    ensures { λ r. ⌜
-        Link-accepted up a b (graph-in (length (now (order .entry))) (now (links .entry)))
+    requires planned { ⌜ Planned up a b (graph-in (length (now order)) (now links)) (now order) (plan .start) (plan .size) (plan .taken)
+        (now stretch) ⌝ }
+    ensures { λ r. ⌜ Link-accepted up a b (graph-in (length (now (order .entry))) (now (links .entry)))
         (lent (links .entry) (numbers .entry) (order .entry)) (now (answer .entry)) r
-        (lent (links .exit) (numbers .exit) (order .exit)) (now (answer .exit))
-        ⌝ }
+        (lent (links .exit) (numbers .exit) (order .exit)) (now (answer .exit)) ⌝ }
 {
     rows::put_link(links, up, a, b);
     let count = list_changed(up, plan.taken, plan.size, stretch, answer);

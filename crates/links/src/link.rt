@@ -3,7 +3,7 @@ ghost use mathlib.Core.Bool.{true, false};
 ghost use Prim.Native.Nat.{_≤_};
 ghost use lib.ListN.{length};
 ghost use Rattle.mesh.specs.Tables.{tables, graph-in, lent};
-ghost use Rattle.calls.specs.Writes.{Link-accepted, Link-contract};
+ghost use Rattle.calls.specs.Contracts.Links.{Link-accepted, Link-contract};
 ghost use Rattle.links.specs.Plans.{Ready};
 use super::apply;
 use super::plan;
@@ -24,15 +24,11 @@ fn carry_out(
     highs: &mut [u8],
     stretch: &mut [u16],
 ) -> Reply
-    requires ready { ⌜
-        Ready up (length (now order)) a b (tables (now links) (now numbers) (now order)) (now places) (now highs)
-        ⌝ }
+    requires ready { ⌜ Ready up (length (now order)) a b (tables (now links) (now numbers) (now order)) (now places) (now highs) ⌝ }
     requires room { ⌜ (length (now order) ≤ length (now answer)) × (length (now order) ≤ length (now stretch)) ⌝ }
-    ensures { λ r. ⌜
-        Link-accepted up a b (graph-in (length (now (order .entry))) (now (links .entry)))
+    ensures { λ r. ⌜ Link-accepted up a b (graph-in (length (now (order .entry))) (now (links .entry)))
         (lent (links .entry) (numbers .entry) (order .entry)) (now (answer .entry)) r
-        (lent (links .exit) (numbers .exit) (order .exit)) (now (answer .exit))
-        ⌝ }
+        (lent (links .exit) (numbers .exit) (order .exit)) (now (answer .exit)) ⌝ }
 {
     let planned = plan::plan_link(up, a, b, links, numbers, order, places, highs, stretch);
     apply::apply(up, a, b, planned, stretch, links, numbers, order, answer)
@@ -51,10 +47,8 @@ pub fn link(
     order: &mut [u16],
     answer: &mut [u16],
 ) -> Reply
-    ensures { λ r. ⌜
-        Link-contract up n a b (lent (links .entry) (numbers .entry) (order .entry)) (now (answer .entry)) r
-        (lent (links .exit) (numbers .exit) (order .exit)) (now (answer .exit))
-        ⌝ }
+    ensures { λ r. ⌜ Link-contract up n a b (lent (links .entry) (numbers .entry) (order .entry)) (now (answer .entry)) r
+        (lent (links .exit) (numbers .exit) (order .exit)) (now (answer .exit)) ⌝ }
 {
     let mut places = [0u16; Site::RADIOS as usize];
     let mut highs = [0u8; Site::RADIOS as usize];
@@ -102,10 +96,8 @@ pub fn link_up(
     order: &mut [u16],
     answer: &mut [u16],
 ) -> Reply
-    ensures { λ r. ⌜
-        Link-contract true n a b (lent (links .entry) (numbers .entry) (order .entry)) (now (answer .entry)) r
-        (lent (links .exit) (numbers .exit) (order .exit)) (now (answer .exit))
-        ⌝ }
+    ensures { λ r. ⌜ Link-contract true n a b (lent (links .entry) (numbers .entry) (order .entry)) (now (answer .entry)) r
+        (lent (links .exit) (numbers .exit) (order .exit)) (now (answer .exit)) ⌝ }
 {
     link(true, n, a, b, links, numbers, order, answer)
 }
@@ -120,10 +112,8 @@ pub fn link_down(
     order: &mut [u16],
     answer: &mut [u16],
 ) -> Reply
-    ensures { λ r. ⌜
-        Link-contract false n a b (lent (links .entry) (numbers .entry) (order .entry)) (now (answer .entry)) r
-        (lent (links .exit) (numbers .exit) (order .exit)) (now (answer .exit))
-        ⌝ }
+    ensures { λ r. ⌜ Link-contract false n a b (lent (links .entry) (numbers .entry) (order .entry)) (now (answer .entry)) r
+        (lent (links .exit) (numbers .exit) (order .exit)) (now (answer .exit)) ⌝ }
 {
     link(false, n, a, b, links, numbers, order, answer)
 }

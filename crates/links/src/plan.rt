@@ -13,15 +13,11 @@ use super::turn::Call;
 
 // The call at the lower end's level K: the peel takes radios with at most K neighbours going up, K - 1 going down.
 fn call_at(up: bool, a: u32, b: u32, numbers: &[u8]) -> Call
-    requires { ⌜
-        (a < length (now numbers)) × (b < length (now numbers)) ×
-        (up ≡ false → 1 ≤ min (getD (now numbers) a 0) (getD (now numbers) b 0))
-        ⌝ }
-    ensures { λ r. ⌜
-        (r .up ≡ up) × (r .a ≡ a) × (r .b ≡ b) ×
+    requires { ⌜ (a < length (now numbers)) × (b < length (now numbers)) ×
+        (up ≡ false → 1 ≤ min (getD (now numbers) a 0) (getD (now numbers) b 0)) ⌝ }
+    ensures { λ r. ⌜ (r .up ≡ up) × (r .a ≡ a) × (r .b ≡ b) ×
         (r .level ≡ min (getD (now (numbers .entry)) a 0) (getD (now (numbers .entry)) b 0)) ×
-        (r .most ≡ bound up (min (getD (now (numbers .entry)) a 0) (getD (now (numbers .entry)) b 0)))
-        ⌝ }
+        (r .most ≡ bound up (min (getD (now (numbers .entry)) a 0) (getD (now (numbers .entry)) b 0))) ⌝ }
 {
     let level = lower(numbers[a as usize], numbers[b as usize]);
     if up {
@@ -60,16 +56,11 @@ fn begin(
     fits: &mut [u8],
 )
     requires { ⌜ Begin-ready (call .up) (call .a) (call .b) (call .level) start size (now numbers) (now order) (now counters) ⌝ }
-    ensures counted { λ _. ⌜
-        now (counters .exit)
-        ≡ ends-counted (call .up) (call .a) (call .b) (call .level) (now (numbers .entry)) (now (counters .entry))
-        ⌝ }
-    ensures marked { λ _. ⌜
-        now (fits .exit)
-        ≡ places-fitting (now (order .entry))
+    ensures counted { λ _. ⌜ now (counters .exit)
+        ≡ ends-counted (call .up) (call .a) (call .b) (call .level) (now (numbers .entry)) (now (counters .entry)) ⌝ }
+    ensures marked { λ _. ⌜ now (fits .exit) ≡ places-fitting (now (order .entry))
         (ends-counted (call .up) (call .a) (call .b) (call .level) (now (numbers .entry)) (now (counters .entry)))
-        (call .most) (range start size) (now (fits .entry))
-        ⌝ }
+        (call .most) (range start size) (now (fits .entry)) ⌝ }
 {
     super::turn::count_end(call.up, call.level, call.a as usize, numbers, counters);
     super::turn::count_end(call.up, call.level, call.b as usize, numbers, counters);
@@ -91,14 +82,10 @@ fn peel(
     near: &mut [u16],
     list: &mut [u16],
 ) -> usize
-    requires { ⌜
-        Peel-ready (call .up) (call .a) (call .b) (call .level) (call .most) (now links) (now numbers) (now order)
-        (now places) (now counters) (now fits) (length (now row)) (length (now near)) (length (now list))
-        ⌝ }
-    ensures { λ r. ⌜
-        Peel-done (call .up) (call .a) (call .b) (call .level) (call .most) (now (links .entry)) (now (numbers .entry))
-        (now (order .entry)) r (now (counters .exit)) (now (list .exit))
-        ⌝ }
+    requires { ⌜ Peel-ready (call .up) (call .a) (call .b) (call .level) (call .most) (now links) (now numbers) (now order)
+        (now places) (now counters) (now fits) (length (now row)) (length (now near)) (length (now list)) ⌝ }
+    ensures { λ r. ⌜ Peel-done (call .up) (call .a) (call .b) (call .level) (call .most) (now (links .entry)) (now (numbers .entry))
+        (now (order .entry)) r (now (counters .exit)) (now (list .exit)) ⌝ }
 {
     let mut taken: usize = 0;
     let mut p = rows::first_marked(fits, 0);
@@ -143,14 +130,10 @@ pub(crate) fn plan_link(
     highs: &mut [u8],
     stretch: &mut [u16],
 ) -> Plan
-    requires ready { ⌜
-        Ready up (length (now order)) a b (tables (now links) (now numbers) (now order)) (now places) (now highs)
-        ⌝ }
+    requires ready { ⌜ Ready up (length (now order)) a b (tables (now links) (now numbers) (now order)) (now places) (now highs) ⌝ }
     requires room { ⌜ length (now order) ≤ length (now stretch) ⌝ }
-    ensures { λ r. ⌜
-        Planned up a b (graph-in (length (now (order .entry))) (now (links .entry))) (now (order .entry)) (r .start)
-        (r .size) (r .taken) (now (stretch .exit))
-        ⌝ }
+    ensures { λ r. ⌜ Planned up a b (graph-in (length (now (order .entry))) (now (links .entry))) (now (order .entry)) (r .start)
+        (r .size) (r .taken) (now (stretch .exit)) ⌝ }
 {
     let call = call_at(up, a, b, numbers);
     let at = super::stretch::stretch_of(numbers, call.level);

@@ -56,10 +56,7 @@ pub(crate) fn refusal(
     highs: &mut [u8],
 ) -> u32
     requires { ⌜ (max-radios ≤ length (now places)) × (max-radios ≤ length (now highs)) ⌝ }
-    ensures { λ r. ⌜
-        Asked up n a b (lent (links .entry) (numbers .entry) (order .entry)) answer (now (places .exit)) (now (highs .exit))
-        r
-        ⌝ }
+    ensures { λ r. ⌜ Asked up n a b (lent (links .entry) (numbers .entry) (order .entry)) answer (now (places .exit)) (now (highs .exit)) r ⌝ }
 {
     let number = sizes::with_answer(
         Site { radios: n },

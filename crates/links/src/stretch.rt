@@ -40,15 +40,10 @@ pub(crate) fn list_stuck(
     counters: &[u8],
     list: &mut [u16],
 )
-    requires { ⌜
-        (start + size ≤ length (now order)) × (start + size ≤ max-radios) × (taken ≤ max-radios) ×
-        ((p : ℕ) → p < length (now order) → getD (now order) p 0 < length (now counters))
-        ⌝ }
-    ensures { λ _. ⌜
-        now (list .exit)
-        ≡ sets (now (list .entry)) taken
-        (filter (λ (v : ℕ). ltb most (getD (now (counters .entry)) v 0)) (stretch (now (order .entry)) start size))
-        ⌝ }
+    requires { ⌜ (start + size ≤ length (now order)) × (start + size ≤ max-radios) × (taken ≤ max-radios) ×
+        ((p : ℕ) → p < length (now order) → getD (now order) p 0 < length (now counters)) ⌝ }
+    ensures { λ _. ⌜ now (list .exit) ≡ sets (now (list .entry)) taken
+        (filter (λ (v : ℕ). ltb most (getD (now (counters .entry)) v 0)) (stretch (now (order .entry)) start size)) ⌝ }
 {
     let mut at = taken;
     let mut i: usize = 0;

@@ -12,10 +12,8 @@ ghost use Rattle.links.specs.Turns.{Lists-neighbours};
 
 // The counter of v is one more going up and one less going down after, where v is of the level; the others keep theirs.
 pub(crate) fn count_end(up: bool, level: u8, v: usize, numbers: &[u8], counters: &mut [u8])
-    requires { ⌜
-        (v < length (now numbers)) × (v < length (now counters)) ×
-        (up ≡ false → getD (now numbers) v 0 ≡ level → 1 ≤ getD (now counters) v 0) × (getD (now counters) v 0 < 255)
-        ⌝ }
+    requires { ⌜ (v < length (now numbers)) × (v < length (now counters)) ×
+        (up ≡ false → getD (now numbers) v 0 ≡ level → 1 ≤ getD (now counters) v 0) × (getD (now counters) v 0 < 255) ⌝ }
     ensures { λ _. ⌜ now (counters .exit) ≡ end-counted up level (now (numbers .entry)) v (now (counters .entry)) ⌝ }
 {
     if numbers[v] == level {
@@ -36,14 +34,10 @@ pub(crate) fn mark_fitting(
     counters: &[u8],
     fits: &mut [u8],
 )
-    requires { ⌜
-        (start + size ≤ length (now order)) × (start + size ≤ max-radios) ×
-        ((p : ℕ) → p < length (now order) → getD (now order) p 0 < length (now counters))
-        ⌝ }
-    ensures { λ _. ⌜
-        now (fits .exit)
-        ≡ places-fitting (now (order .entry)) (now (counters .entry)) most (range start size) (now (fits .entry))
-        ⌝ }
+    requires { ⌜ (start + size ≤ length (now order)) × (start + size ≤ max-radios) ×
+        ((p : ℕ) → p < length (now order) → getD (now order) p 0 < length (now counters)) ⌝ }
+    ensures { λ _. ⌜ now (fits .exit)
+        ≡ places-fitting (now (order .entry)) (now (counters .entry)) most (range start size) (now (fits .entry)) ⌝ }
 {
     let mut p = start;
     while p < start + size {
@@ -65,16 +59,11 @@ fn release_one(
     counters: &mut [u8],
     fits: &mut [u8],
 )
-    requires { ⌜
-        (v < length (now numbers)) × (v < length (now places)) × (v < length (now counters)) ×
-        (getD (now numbers) v 0 ≡ level → 1 ≤ getD (now counters) v 0)
-        ⌝ }
+    requires { ⌜ (v < length (now numbers)) × (v < length (now places)) × (v < length (now counters)) ×
+        (getD (now numbers) v 0 ≡ level → 1 ≤ getD (now counters) v 0) ⌝ }
     ensures counted { λ _. ⌜ now (counters .exit) ≡ counter-less (now (numbers .entry)) level v (now (counters .entry)) ⌝ }
-    ensures marked { λ _. ⌜
-        now (fits .exit)
-        ≡ place-marked (now (numbers .entry)) (now (places .entry)) level most v
-        (counter-less (now (numbers .entry)) level v (now (counters .entry))) (now (fits .entry))
-        ⌝ }
+    ensures marked { λ _. ⌜ now (fits .exit) ≡ place-marked (now (numbers .entry)) (now (places .entry)) level most v
+        (counter-less (now (numbers .entry)) level v (now (counters .entry))) (now (fits .entry)) ⌝ }
 {
     if numbers[v] == level {
         counters[v] -= 1;
@@ -96,14 +85,10 @@ fn release(
     fits: &mut [u8],
 )
     requires { ⌜ (k ≤ length (now near)) × Releasable (now numbers) (now places) level (take k (now near)) (now counters) ⌝ }
-    ensures counted { λ _. ⌜
-        now (counters .exit) ≡ released (now (numbers .entry)) level (take k (now (near .entry))) (now (counters .entry))
-        ⌝ }
-    ensures marked { λ _. ⌜
-        now (fits .exit)
+    ensures counted { λ _. ⌜ now (counters .exit) ≡ released (now (numbers .entry)) level (take k (now (near .entry))) (now (counters .entry)) ⌝ }
+    ensures marked { λ _. ⌜ now (fits .exit)
         ≡ places-released (now (numbers .entry)) (now (places .entry)) level most (take k (now (near .entry)))
-        (now (counters .entry)) (now (fits .entry))
-        ⌝ }
+        (now (counters .entry)) (now (fits .entry)) ⌝ }
 {
     let mut i: usize = 0;
     while i < k {
@@ -123,10 +108,8 @@ fn release(
 // Writes the radios that row v marks, once its bit w is set or cleared, into the list, ascending, and comes back with their count.
 // The row is scratch.
 fn end_neighbours(up: bool, v: u32, w: u32, links: &[u8], row: &mut [u8], near: &mut [u16]) -> u32
-    requires { ⌜
-        (row-bytes * v + row-bytes ≤ length (now links)) × (length (now row) ≡ row-bytes) × (w < max-radios) ×
-        (length (neighbours-of (put-bit up v w (now links)) v) ≤ length (now near))
-        ⌝ }
+    requires { ⌜ (row-bytes * v + row-bytes ≤ length (now links)) × (length (now row) ≡ row-bytes) × (w < max-radios) ×
+        (length (neighbours-of (put-bit up v w (now links)) v) ≤ length (now near)) ⌝ }
     ensures { λ r. ⌜ Lists-neighbours (put-bit up v w (now (links .entry))) v r (now (near .exit)) ⌝ }
 {
     let start = mesh::Site::ROW_BYTES * v as usize;
@@ -182,22 +165,14 @@ pub(crate) fn take_radio(
     row: &mut [u8],
     near: &mut [u16],
 )
-    requires { ⌜
-        Near-ready (call .up) (call .a) (call .b) v (now links) (length (now row)) (length (now near)) ×
+    requires { ⌜ Near-ready (call .up) (call .a) (call .b) v (now links) (length (now row)) (length (now near)) ×
         Releasable (now numbers) (now places) (call .level)
-        (neighbours-of (put-link (call .up) (call .a) (call .b) (now links)) v) (now counters)
-        ⌝ }
-    ensures counted { λ _. ⌜
-        now (counters .exit)
-        ≡ released (now (numbers .entry)) (call .level)
+        (neighbours-of (put-link (call .up) (call .a) (call .b) (now links)) v) (now counters) ⌝ }
+    ensures counted { λ _. ⌜ now (counters .exit) ≡ released (now (numbers .entry)) (call .level)
+        (neighbours-of (put-link (call .up) (call .a) (call .b) (now (links .entry))) v) (now (counters .entry)) ⌝ }
+    ensures marked { λ _. ⌜ now (fits .exit) ≡ places-released (now (numbers .entry)) (now (places .entry)) (call .level) (call .most)
         (neighbours-of (put-link (call .up) (call .a) (call .b) (now (links .entry))) v) (now (counters .entry))
-        ⌝ }
-    ensures marked { λ _. ⌜
-        now (fits .exit)
-        ≡ places-released (now (numbers .entry)) (now (places .entry)) (call .level) (call .most)
-        (neighbours-of (put-link (call .up) (call .a) (call .b) (now (links .entry))) v) (now (counters .entry))
-        (put-bit false 0 p (now (fits .entry)))
-        ⌝ }
+        (put-bit false 0 p (now (fits .entry))) ⌝ }
 {
     rows::put_bit(fits, false, 0, p);
     let k = neighbours_after(call.up, call.a, call.b, v, links, row, near) as usize;

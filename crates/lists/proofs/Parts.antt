@@ -8,8 +8,8 @@ use native.Mathlib.Omega.{arith}
 use native.Mathlib.Nat.{mul-suc, zero-min, suc-min-suc, sub-zero, zero-sub, suc-sub-suc}
 use native.Mathlib.Numerals.{add-one}
 use lib.ListN.{replicate, length-replicate, getD-replicate, length, getD, take, drop, length-append, List·getD-append, length-drop, take-append-drop}
-use lib.ListN.{List·getD-eq-default, length-take}
-use lib.Seq.{getD-append-add, drop-append-add, take-at, drop-drop, take-take, getD-drop, take-nil, take-all, drop-cons, take-suc}
+use lib.ListN.{List·getD-eq-default}
+use lib.Seq.{getD-append-add, drop-append-add, take-at, drop-drop, take-take, getD-drop, take-nil, drop-cons}
 use lib.Dec.{ltb}
 use borrow.Author.Tests.{ltb-true, ltb-false}
 use Rattle.lists.specs.Lists.{Bytes, range}
@@ -114,10 +114,6 @@ take-min zero s = ap (λ n. take n s) (zero-min (length s))
 take-min (suc k) [] = take-nil (min (suc k) 0)
 take-min (suc k) (x ∷ s) = ap (λ n. take n (x ∷ s)) (suc-min-suc k (length s)) ∙ ap {B = List ℕ} (λ t. x ∷ t) (take-min k s)
 
--- what a caller knows of a list that fits, and of a table of the same length
-pub take-take-fits : (k m : ℕ) (s : List ℕ) → k ≤ m → take m (take k s) ≡ take k s
-take-take-fits k m s h = take-all m (take k s) (omega (arith, length-take k s))
-
 -- the pieces of a text are its bytes
 pub drop-first : (text : List ℕ) (i : ℕ) → i < length text → drop i text ≡ (getD text i 0 ∷ []) ++ drop (i + 1) text
 drop-first text i h = rw (add-one i) (drop-cons text i 0 h)
@@ -132,13 +128,3 @@ drop-take zero m xs = ap (λ (i : ℕ). take i xs) (sym (sub-zero m))
 drop-take (suc k) zero xs = ap (λ (i : ℕ). take i (drop (suc k) xs)) (sym (zero-sub (suc k)))
 drop-take (suc k) (suc m) [] = sym (take-nil (suc m - suc k))
 drop-take (suc k) (suc m) (x ∷ xs) = drop-take k m xs ∙ ap (λ (i : ℕ). take i (drop k xs)) (sym (suc-sub-suc m k))
-
--- the part grows by the byte at i
-pub part-more : (chunk : List ℕ) (from i : ℕ) → from ≤ i → i < length chunk
-    → take (i + 1 - from) (drop from chunk) ≡ take (i - from) (drop from chunk) ++ (getD chunk i 0 ∷ [])
-part-more chunk from i l h =
-    let longer : i + 1 - from ≡ suc (i - from) = omega arith in
-    let place : from + (i - from) ≡ i = omega arith in
-    ap (λ (k : ℕ). take k (drop from chunk)) longer
-    ∙ take-suc (drop from chunk) (i - from) 0 (omega (arith, length-drop from chunk))
-    ∙ ap (λ (x : ℕ). take (i - from) (drop from chunk) ++ (x ∷ [])) (getD-drop from chunk (i - from) 0 ∙ ap (λ (k : ℕ). getD chunk k 0) place)

@@ -1,13 +1,13 @@
 -- Laws of `total`: the sum of a function over a list.
-use mathlib.Core.Path.{refl, _≡_, ap}
+use mathlib.Core.Path.{refl, _≡_}
 use mathlib.Core.Logic.{inl, inr}
 use mathlib.Core.Bool.{Bool, cond}
 use mathlib.Core.List.{List, [], _∷_, flatMap}
-use Prim.Native.Nat.{ℕ, _*_, _≤_, zero, suc, _+_}
+use Prim.Native.Nat.{ℕ, _*_, _≤_, _+_}
 use native.Mathlib.Omega.{arith}
 use native.Mathlib.Nat.{mul-suc}
 use lib.ListN.{length, length-append}
-use Rattle.lists.specs.Lists.{In, total, range, count}
+use Rattle.lists.specs.Lists.{In, total, count}
 
 pub total-le : (f : ℕ → ℕ) (most : ℕ) (xs : List ℕ) → ((x : ℕ) → In x xs → f x ≤ most) → total f xs ≤ most * length xs
 total-le f most [] h = omega arith
@@ -16,12 +16,6 @@ total-le f most (x ∷ xs) h = omega (arith, h x (inl refl), total-le f most xs 
 pub total-cong : (f h : ℕ → ℕ) (xs : List ℕ) → ((x : ℕ) → In x xs → f x ≡ h x) → total f xs ≡ total h xs
 total-cong f h [] e = refl
 total-cong f h (x ∷ xs) e = omega (arith, e x (inl refl), total-cong f h xs (λ y m. e y (inr m)))
-
--- a loop over the radios adds the next one
-pub total-range-suc : (f : ℕ → ℕ) (i k : ℕ) → total f (range i (suc k)) ≡ total f (range i k) + f (i + k)
-unfolding range
-total-range-suc f i zero = let e : i + 0 ≡ i = omega arith in rw e (omega arith)
-total-range-suc f i (suc k) = let e : suc i + k ≡ i + suc k = omega arith in omega (arith, total-range-suc f (suc i) k, ap f e)
 
 pub length-flatMap-total : {A : Type 0} (f : ℕ → List A) (xs : List ℕ) → length (flatMap f xs) ≡ total (λ x. length (f x)) xs
 unfolding flatMap

@@ -1,2 +1,1 @@
-// Words for lists of numbers, their laws, and invariants of loops over them. There is no function: everything stands in specs/
-// and proofs/, and uses the kit alone.
+// Words for lists, their laws, and invariants of loops: specs/ and proofs/ alone, over the kit.

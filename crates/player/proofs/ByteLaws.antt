@@ -50,14 +50,7 @@ byte-long n b s r t w line l h stop =
     record {
       text = bad-line (s .number);
       holds = takes-long (length line) n b (spot t w line s) (bad-line (s .number)) (spot t w line r) l (omega (arith, length-take (s .held) line))
-          (record {
-            says = refl;
-            tables = refl;
-            answer = refl;
-            number = stop .number;
-            held = ap (λ (k : ℕ). take k line) (stop .held);
-            live = stop .live;
-          });
+          (record { says = refl; tables = refl; answer = refl; number = stop .number; held = ap (λ (k : ℕ). take k line) (stop .held); live = stop .live });
       puts = stop .puts;
     }
 

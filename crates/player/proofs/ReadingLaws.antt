@@ -19,7 +19,8 @@ use Rattle.mesh.specs.Tables.{Tables, tables}
 use Rattle.lists.specs.Lists.{In}
 use Rattle.lists.proofs.Range.{length-range}
 use Rattle.calls.specs.Questions.{By-number, lengths-of, lent-refusal, tables-refusal}
-use Rattle.calls.specs.Writes.{Tables-refused, Clear-accepted, Clear-contract}
+use Rattle.calls.specs.Contracts.Forms.{Tables-refused}
+use Rattle.calls.specs.Contracts.Sites.{Clear-accepted, Clear-contract}
 use Rattle.calls.proofs.ChainLaws.{lent-yes}
 use Rattle.calls.proofs.RecordLaws.{tables-ext}
 use Rattle.text.specs.Print.{Buffer, buffer-at, put, Puts, max-place}
@@ -58,10 +59,7 @@ writes-put out text after at next h m p =
     let e : buffer-at after next ≡ buffer-at (take at out ++ text ++ drop (at + length text) out) (at + length text) = p .is ∙ put-fits out at text h m in
     let front : length (take at out ++ text) ≡ at + length text
     = omega (arith, length-append (take at out) text, length-take-le at out (omega arith)) in
-    record {
-      written = [];
-      is = sym (ap waiting e ∙ take-at (take at out ++ text) (drop (at + length text) out) (at + length text) front);
-    }
+    record { written = []; is = sym (ap waiting e ∙ take-at (take at out ++ text) (drop (at + length text) out) (at + length text) front) }
 
 -- a full buffer is written, and nothing waits then
 pub writes-room : (s : Progress) (out : List ℕ) → Writes (buffer-at out (s .at)) [] (buffer-at out (room-made s .at))

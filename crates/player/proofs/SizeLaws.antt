@@ -19,7 +19,7 @@ use Rattle.lists.proofs.Overwrite.{take-overwrite}
 use Rattle.text.specs.Text.{bytes-of, decimal, printed-line}
 use Rattle.calls.specs.Replay.{link-line, bad-line, numbers-line, order-line, closing-lines}
 use Rattle.calls.specs.Questions.{ask, By-number, Lengths, lengths-of, link-refusal, site-refusal, lent-refusal, ends-refusal}
-use Rattle.calls.specs.Writes.{Link-accepted, Link-refused, Link-contract}
+use Rattle.calls.specs.Contracts.Links.{Link-accepted, Link-refused, Link-contract}
 use Rattle.calls.specs.declared.Reply.{Reply}
 use Rattle.calls.proofs.ChainLaws.{link-zero}
 use Rattle.script.specs.Lines.{line-of}

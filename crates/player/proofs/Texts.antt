@@ -10,7 +10,7 @@ use Rattle.calls.specs.Outcomes.{link-outcome}
 use Rattle.text.specs.Text.{bytes-of}
 use Rattle.calls.specs.Replay.{bad-line}
 use Rattle.calls.proofs.WorkedState.{compute}
-use Rattle.script.specs.Lines.{is-digit, digits-on, number-of, ended, last-number-of, starts, radios-line, link-with, link-after, link-of, line-of}
+use Rattle.script.specs.Lines.{is-digit, digits-on, number-of, ended, last-number-of, starts, radios-line, link-with, link-after, link-from, line-of}
 use Rattle.player.specs.Play.{site-of, radios-of}
 use Rattle.player.specs.Whole.{glue, lines-of, front, rest, cleared, Run-prints}
 use Rattle.player.specs.RunText.{call-line, call-text, line-text, lines-text, text-from, run-text}
@@ -23,7 +23,7 @@ unfolding compute overwrite neighbours-in put-digit put-bit put-link row-links g
 compute-calls = tt
 
 unfoldable compute-lines : Unit {0}
-unfolding bad-line is-digit digits-on number-of ended last-number-of starts radios-line link-with link-after link-of line-of site-of radios-of
+unfolding bad-line is-digit digits-on number-of ended last-number-of starts radios-line link-with link-after link-from line-of site-of radios-of
 compute-lines = tt
 
 unfoldable compute-text : Unit {0}

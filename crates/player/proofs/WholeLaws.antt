@@ -26,10 +26,7 @@ use Rattle.lists.proofs.Tests.{cond-false, cond-true}
 
 ignored-more : (p s q : Spot) (first more text : List ℕ) → Ignored p first s → text ≡ first ++ more → Ignored s more q → Ignored p text q
 ignored-more p s q first more text none whole later =
-    record {
-      says = whole ∙ ap (λ (x : List ℕ). x ++ more) (none .says) ∙ later .says;
-      same = later .same ∙ none .same;
-    }
+    record { says = whole ∙ ap (λ (x : List ℕ). x ++ more) (none .says) ∙ later .says; same = later .same ∙ none .same }
 
 takes-dead : (m n : ℕ) (bs : List ℕ) (p q : Spot) (text : List ℕ) → p .live ≡ false → Takes-all m n bs p text q → Ignored p text q
 unfolding Takes-all Takes Step

@@ -27,10 +27,7 @@ m1 = record {
 
 -- a refused call prints its number; a line of another form ends the run, and nothing after it is played
 unfoldable pub bad-third : Text
-bad-third = record {
-  input = "radios 4\n" ∷ "up 3 4\n" ∷ "up 0  1\n" ∷ "up 0 1\n" ∷ [];
-  printed = "4 0\n" ∷ "bad 3\n" ∷ [];
-}
+bad-third = record { input = "radios 4\n" ∷ "up 3 4\n" ∷ "up 0  1\n" ∷ "up 0 1\n" ∷ []; printed = "4 0\n" ∷ "bad 3\n" ∷ [] }
 
 -- line 1 is missing
 unfoldable pub no-first : Text

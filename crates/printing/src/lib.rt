@@ -41,10 +41,8 @@ pub fn put_link_line(
     changed: &[u16],
     count: u32,
 ) -> usize
-    ensures { λ r. ⌜
-        Puts (buffer-at (now (buffer .entry)) at) (link-line number step (take count (now (changed .entry))))
-        (buffer-at (now (buffer .exit)) r)
-        ⌝ }
+    ensures { λ r. ⌜ Puts (buffer-at (now (buffer .entry)) at) (link-line number step (take count (now (changed .entry))))
+        (buffer-at (now (buffer .exit)) r) ⌝ }
 {
     let after_number = text::put_decimal(buffer, at, number as u64);
     let after_space = text::put_byte(buffer, after_number, b' ');

@@ -13,8 +13,8 @@ use Rattle.mesh.specs.Cores.{number}
 use Rattle.mesh.specs.Tables.{Tables, marked}
 use Rattle.mesh.specs.Sound.{sound}
 use Rattle.calls.specs.Questions.{lengths-of, radio-refusal, pair-refusal}
-use Rattle.calls.specs.Answers.{Value-accepted, Value-refused, Value-by, Listing-accepted, Listing-refused, Listing-by, first-of-two, Number-contract}
-use Rattle.calls.specs.Answers.{Neighbours-contract, Linked-contract, First-contract}
+use Rattle.calls.specs.Contracts.Forms.{Value-accepted, Value-refused, Value-by, Listing-accepted, Listing-refused, Listing-by}
+use Rattle.calls.specs.Contracts.Radios.{first-of-two, Number-contract, Neighbours-contract, Linked-contract, First-contract}
 use Rattle.calls.specs.declared.Value.{Value}
 use Rattle.calls.proofs.ChainLaws.{radio-zero, pair-zero}
 use Rattle.calls.proofs.ContractLaws.{by-accepted, by-refused}

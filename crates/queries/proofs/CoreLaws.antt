@@ -20,7 +20,7 @@ use Rattle.mesh.proofs.Trees.Reach.{core-of-iff, core-of-ascending}
 use Rattle.mesh.proofs.Trees.CoreLevels.{in-core-below}
 use Rattle.mesh.proofs.Tables.Laws.{marked-replicate, byte-at-less}
 use Rattle.calls.specs.Questions.{lengths-of, core-refusal}
-use Rattle.calls.specs.Answers.{Core-contract}
+use Rattle.calls.specs.Contracts.Cores.{Core-contract}
 use Rattle.calls.proofs.ChainLaws.{core-zero}
 use Rattle.calls.proofs.QuestionLaws.{answer-length-true}
 use Rattle.rows.specs.Rows.{row-listed}

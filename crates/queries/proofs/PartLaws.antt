@@ -29,7 +29,7 @@ use Rattle.mesh.proofs.Trees.Reach.{core-of-iff}
 use Rattle.mesh.proofs.Trees.CoreLevels.{in-core-here, in-core-below, in-core-sym, in-core-trans, core-of-same}
 use Rattle.mesh.proofs.Trees.Listed.{number-le-greatest, greatest-map-le, part-top, tops-part, number-le-part-top, part-top-le}
 use Rattle.calls.specs.Questions.{lengths-of, answer-length, site-refusal, backbone-refusal}
-use Rattle.calls.specs.Answers.{Backbone-contract}
+use Rattle.calls.specs.Contracts.Cores.{Backbone-contract}
 use Rattle.calls.proofs.ChainLaws.{Site-good, site-zero}
 use Rattle.rows.specs.Rows.{row-listed}
 use Rattle.rows.proofs.RowListLaws.{neighbours-of-filter}

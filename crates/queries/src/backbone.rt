@@ -5,7 +5,7 @@ ghost use Prim.Native.Nat.{_≤_};
 ghost use lib.ListN.{length, getD, take, replicate};
 ghost use Rattle.mesh.specs.Limits.{max-radios, row-bytes};
 ghost use Rattle.mesh.specs.Tables.{lent};
-ghost use Rattle.calls.specs.Answers.{Backbone-contract};
+ghost use Rattle.calls.specs.Contracts.Cores.{Backbone-contract};
 ghost use Rattle.queries.specs.Parts.{part-greatest, top-put, tops-put, Part-visited, Backbone-put};
 use calls::Value;
 use mesh::Site;
@@ -104,10 +104,7 @@ pub fn backbone<'a>(
     order: &'a [u16],
     answer: &mut [u16],
 ) -> Value
-    ensures { λ r. ⌜
-        Backbone-contract n (lent (links .entry) (numbers .entry) (order .entry)) (now (answer .entry)) r
-        (now (answer .exit))
-        ⌝ }
+    ensures { λ r. ⌜ Backbone-contract n (lent (links .entry) (numbers .entry) (order .entry)) (now (answer .entry)) r (now (answer .exit)) ⌝ }
 {
     let refusal = soundness::refusal(n, links, numbers, order, n as usize <= answer.len());
     if refusal != 0 {

@@ -3,7 +3,7 @@ ghost use mathlib.Core.Path.{_≡_};
 ghost use Rattle.mesh.specs.Tables.{graph-in, lent};
 ghost use Rattle.mesh.specs.Sound.{sound};
 ghost use Rattle.calls.specs.Questions.{lengths-of, core-refusal};
-ghost use Rattle.calls.specs.Answers.{Core-contract};
+ghost use Rattle.calls.specs.Contracts.Cores.{Core-contract};
 use calls::Refusal;
 use calls::Value;
 use mesh::Site;
@@ -18,11 +18,8 @@ fn core_refusal<'a>(
     order: &'a [u16],
     answer: usize,
 ) -> u32
-    ensures { λ r. ⌜
-        r
-        ≡ core-refusal n v k (lengths-of (lent (links .entry) (numbers .entry) (order .entry))) answer
-        (sound n (lent (links .entry) (numbers .entry) (order .entry))) (graph-in n (now (links .entry)))
-        ⌝ }
+    ensures { λ r. ⌜ r ≡ core-refusal n v k (lengths-of (lent (links .entry) (numbers .entry) (order .entry))) answer
+        (sound n (lent (links .entry) (numbers .entry) (order .entry))) (graph-in n (now (links .entry))) ⌝ }
 {
     let number = soundness::refusal(n, links, numbers, order, n as usize <= answer);
     if number != 0 {
@@ -49,10 +46,7 @@ pub fn core<'a>(
     order: &'a [u16],
     answer: &mut [u16],
 ) -> Value
-    ensures { λ r. ⌜
-        Core-contract n v k (lent (links .entry) (numbers .entry) (order .entry)) (now (answer .entry)) r
-        (now (answer .exit))
-        ⌝ }
+    ensures { λ r. ⌜ Core-contract n v k (lent (links .entry) (numbers .entry) (order .entry)) (now (answer .entry)) r (now (answer .exit)) ⌝ }
 {
     let refusal = core_refusal(n, v, k, links, numbers, order, answer.len());
     if refusal != 0 {

@@ -4,17 +4,14 @@ ghost use mathlib.Core.Path.{_≡_};
 ghost use Rattle.mesh.specs.Tables.{lent};
 ghost use Rattle.mesh.specs.Sound.{sound};
 ghost use Rattle.calls.specs.Questions.{lengths-of, radio-refusal, pair-refusal};
-ghost use Rattle.calls.specs.Answers.{first-of-two, Number-contract, Neighbours-contract, Linked-contract, First-contract};
+ghost use Rattle.calls.specs.Contracts.Radios.{first-of-two, Number-contract, Neighbours-contract, Linked-contract, First-contract};
 use calls::Refusal;
 use calls::Value;
 
 // Questions 1 to 4 of one radio.
 fn radio_refusal<'a>(n: u32, v: u32, links: &'a [u8], numbers: &'a [u8], order: &'a [u16]) -> u32
-    ensures { λ r. ⌜
-        r
-        ≡ radio-refusal n v (lengths-of (lent (links .entry) (numbers .entry) (order .entry)))
-        (sound n (lent (links .entry) (numbers .entry) (order .entry)))
-        ⌝ }
+    ensures { λ r. ⌜ r ≡ radio-refusal n v (lengths-of (lent (links .entry) (numbers .entry) (order .entry)))
+        (sound n (lent (links .entry) (numbers .entry) (order .entry))) ⌝ }
 {
     let number = soundness::refusal(n, links, numbers, order, true);
     if number != 0 {
@@ -35,11 +32,8 @@ fn pair_refusal<'a>(
     numbers: &'a [u8],
     order: &'a [u16],
 ) -> u32
-    ensures { λ r. ⌜
-        r
-        ≡ pair-refusal n a b (lengths-of (lent (links .entry) (numbers .entry) (order .entry)))
-        (sound n (lent (links .entry) (numbers .entry) (order .entry)))
-        ⌝ }
+    ensures { λ r. ⌜ r ≡ pair-refusal n a b (lengths-of (lent (links .entry) (numbers .entry) (order .entry)))
+        (sound n (lent (links .entry) (numbers .entry) (order .entry))) ⌝ }
 {
     let number = radio_refusal(n, a, links, numbers, order);
     if number != 0 {

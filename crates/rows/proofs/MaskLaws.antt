@@ -20,13 +20,7 @@ put-digit-true x zero = omega (arith, or-step x 1, or-zero-r (x / 2), put-digit-
 put-digit-true x (suc i) =
     let half : 2 ^ suc i / 2 ≡ 2 ^ i = omega (arith, pow-succ' 2 i) in
     let even : 2 ^ suc i % 2 ≡ 0 = omega (arith, pow-succ' 2 i) in
-    omega (
-      arith,
-      or-step x (2 ^ suc i),
-      ap (bitOr (x / 2)) half,
-      put-digit-true (x / 2) i,
-      put-digit-suc true x i,
-    )
+    omega (arith, or-step x (2 ^ suc i), ap (bitOr (x / 2)) half, put-digit-true (x / 2) i, put-digit-suc true x i)
 
 pub put-digit-false : (k x i : ℕ) → i < k → x < 2 ^ k → bitAnd x (2 ^ k - 1 - 2 ^ i) ≡ put-digit false x i
 put-digit-false zero x i l h = absurd (omega arith)
@@ -35,14 +29,7 @@ put-digit-false (suc k) x zero l h =
     let half : (2 ^ suc k - 1 - 2 ^ 0) / 2 ≡ 2 ^ k - 1 = omega (arith, pow-pos k) in
     let even : (2 ^ suc k - 1 - 2 ^ 0) % 2 ≡ 0 = omega (arith, pow-pos k) in
     let small : x / 2 < 2 ^ k = omega arith in
-    omega (
-      arith,
-      and-step x (2 ^ suc k - 1 - 2 ^ 0),
-      ap (bitAnd (x / 2)) half,
-      and-mask (x / 2) k,
-      mod-eq-of-lt small,
-      put-digit-zero false x,
-    )
+    omega (arith, and-step x (2 ^ suc k - 1 - 2 ^ 0), ap (bitAnd (x / 2)) half, and-mask (x / 2) k, mod-eq-of-lt small, put-digit-zero false x)
 put-digit-false (suc k) x (suc i) l h =
     let p = pow-succ' 2 k in
     let q = pow-succ' 2 i in
@@ -50,13 +37,7 @@ put-digit-false (suc k) x (suc i) l h =
     let less : 2 ^ i < 2 ^ k = pow-lt low in
     let half : (2 ^ suc k - 1 - 2 ^ suc i) / 2 ≡ 2 ^ k - 1 - 2 ^ i = omega arith in
     let odd : (2 ^ suc k - 1 - 2 ^ suc i) % 2 ≡ 1 = omega arith in
-    omega (
-      arith,
-      and-step x (2 ^ suc k - 1 - 2 ^ suc i),
-      ap (bitAnd (x / 2)) half,
-      put-digit-false k (x / 2) i low (omega arith),
-      put-digit-suc false x i,
-    )
+    omega (arith, and-step x (2 ^ suc k - 1 - 2 ^ suc i), ap (bitAnd (x / 2)) half, put-digit-false k (x / 2) i low (omega arith), put-digit-suc false x i)
 
 -- ---- a bit of the table as the code reads and writes it
 

@@ -18,7 +18,7 @@ use Rattle.lists.specs.Lists.{range, filter}
 use Rattle.mesh.specs.Tables.{digit}
 use Rattle.lists.proofs.Tests.{bool-cases}
 use Rattle.mesh.proofs.Tables.Digits.{digit-zero, digit-suc}
-use Rattle.rows.specs.Rows.{set-bits, word-at}
+use Rattle.rows.specs.Rows.{set-bits, row-word}
 
 -- ---- set bits
 
@@ -28,10 +28,7 @@ unfolding set-bits filter range
 set-bits-filter zero i w f h = refl
 set-bits-filter (suc d) i w f h =
     let lowest : eqb (w % 2) 1 ≡ f i = sym (ap f (omega arith) ∙ h 0 (omega arith) ∙ digit-zero w) in
-    rw (
-      lowest,
-      set-bits-filter d (suc i) (w / 2) f (λ k l. ap f (omega arith) ∙ h (suc k) (omega arith) ∙ digit-suc w k),
-    )
+    rw (lowest, set-bits-filter d (suc i) (w / 2) f (λ k l. ap f (omega arith) ∙ h (suc k) (omega arith) ∙ digit-suc w k))
 
 ones-zero : ones 0 ≡ 0
 unfolding ones
@@ -98,14 +95,7 @@ set-bits-lowest (suc d) i w p h = go (λ q. set-bits-lowest d (suc i) (w / 2) q 
     go rec (inr e) =
         let even : w % 2 ≡ 0 = omega (arith, eqb-false (w % 2) 1 e) in
         let next : suc i + trailingZeros d (w / 2) ≡ i + suc (trailingZeros d (w / 2)) = omega arith in
-        rw (
-          clear-lowest-even w p even,
-          double-half (bitAnd (w / 2) (w / 2 - 1)),
-          double-even (bitAnd (w / 2) (w / 2 - 1)),
-          even,
-          rec (omega arith),
-          next,
-        )
+        rw (clear-lowest-even w p even, double-half (bitAnd (w / 2) (w / 2 - 1)), double-even (bitAnd (w / 2) (w / 2 - 1)), even, rec (omega arith), next)
 
 -- ---- digits of a number in two parts
 
@@ -125,27 +115,22 @@ digit-high n b lo d h =
 byte-above : (k b lo : ℕ) → b < 256 → lo < 2 ^ (8 * k) → b * 2 ^ (8 * k) + lo < 2 ^ (8 * suc k)
 byte-above k b lo h g =
     let place : 8 * suc k ≡ 8 + 8 * k = omega arith in
-    omega (
-      arith,
-      ap (λ (x : ℕ). 2 ^ x) place ∙ pow-add 2 8 (8 * k),
-      suc-mul b (2 ^ (8 * k)),
-      mul-le-mul-right (2 ^ (8 * k)) h,
-    )
+    omega (arith, ap (λ (x : ℕ). 2 ^ x) place ∙ pow-add 2 8 (8 * k), suc-mul b (2 ^ (8 * k)), mul-le-mul-right (2 ^ (8 * k)) h)
 
 module _ (ts : List ℕ) (bytes : (j : ℕ) → getD ts j 0 < 256) (i : ℕ) where
-  pub word-at-less : (k : ℕ) → word-at k ts i < 2 ^ (8 * k)
-  unfolding word-at
+  pub word-at-less : (k : ℕ) → row-word k ts i < 2 ^ (8 * k)
+  unfolding row-word
   word-at-less zero = omega arith
-  word-at-less (suc k) = byte-above k (getD ts (i + k) 0) (word-at k ts i) (bytes (i + k)) (word-at-less k)
+  word-at-less (suc k) = byte-above k (getD ts (i + k) 0) (row-word k ts i) (bytes (i + k)) (word-at-less k)
 
-  word-at-or : (k : ℕ) → k < 8 → bitOr (word-at k ts i) (getD ts (i + k) 0 * 2 ^ (8 * k) % 2 ^ 64) ≡ word-at (suc k) ts i
-  unfolding word-at
+  word-at-or : (k : ℕ) → k < 8 → bitOr (row-word k ts i) (getD ts (i + k) 0 * 2 ^ (8 * k) % 2 ^ 64) ≡ row-word (suc k) ts i
+  unfolding row-word
   word-at-or k h =
-      ap (bitOr (word-at k ts i)) (shl-exact 8 (8 * k) 64 (bytes (i + k)) (omega arith))
-      ∙ or-shifted-r (getD ts (i + k) 0) (8 * k) (word-at k ts i) (word-at-less k)
+      ap (bitOr (row-word k ts i)) (shl-exact 8 (8 * k) 64 (bytes (i + k)) (omega arith))
+      ∙ or-shifted-r (getD ts (i + k) 0) (8 * k) (row-word k ts i) (word-at-less k)
 
-  word-at-one : getD ts i 0 ≡ word-at 1 ts i
-  unfolding word-at
+  word-at-one : getD ts i 0 ≡ row-word 1 ts i
+  unfolding row-word
   word-at-one = let here : i + 0 ≡ i = omega arith in rw here (omega arith)
 
   -- as the code joins them
@@ -162,7 +147,7 @@ module _ (ts : List ℕ) (bytes : (j : ℕ) → getD ts j 0 < 256) (i : ℕ) whe
       (getD ts (i + 4) 0 * 2 ^ 32 % 2 ^ 64))
       (getD ts (i + 5) 0 * 2 ^ 40 % 2 ^ 64))
       (getD ts (i + 6) 0 * 2 ^ 48 % 2 ^ 64))
-      (getD ts (i + 7) 0 * 2 ^ 56 % 2 ^ 64) ≡ word-at 8 ts i
+      (getD ts (i + 7) 0 * 2 ^ 56 % 2 ^ 64) ≡ row-word 8 ts i
   word-at-joined = rw (
     word-at-one,
     word-at-or 1 (omega arith),
@@ -174,19 +159,19 @@ module _ (ts : List ℕ) (bytes : (j : ℕ) → getD ts j 0 < 256) (i : ℕ) whe
     word-at-or 7 (omega arith),
   )
 
-  pub digit-word-at : (k m : ℕ) → m < 8 * k → digit (word-at k ts i) m ≡ digit (getD ts (i + m / 8) 0) (m % 8)
-  unfolding word-at
+  pub digit-word-at : (k m : ℕ) → m < 8 * k → digit (row-word k ts i) m ≡ digit (getD ts (i + m / 8) 0) (m % 8)
+  unfolding row-word
   digit-word-at zero m h = absurd (omega arith)
   digit-word-at (suc k) m h = go (digit-word-at k m) (bool-cases (ltb m (8 * k)))
     where
-      go : (m < 8 * k → digit (word-at k ts i) m ≡ digit (getD ts (i + m / 8) 0) (m % 8)) → (ltb m (8 * k) ≡ true) ⊎ (ltb m (8 * k) ≡ false)
-          → digit (getD ts (i + k) 0 * 2 ^ (8 * k) + word-at k ts i) m ≡ digit (getD ts (i + m / 8) 0) (m % 8)
+      go : (m < 8 * k → digit (row-word k ts i) m ≡ digit (getD ts (i + m / 8) 0) (m % 8)) → (ltb m (8 * k) ≡ true) ⊎ (ltb m (8 * k) ≡ false)
+          → digit (getD ts (i + k) 0 * 2 ^ (8 * k) + row-word k ts i) m ≡ digit (getD ts (i + m / 8) 0) (m % 8)
       go rec (inl e) =
-          let l = ltb-true m (8 * k) e in digit-low (8 * k) (getD ts (i + k) 0) (word-at k ts i) m l ∙ rec l
+          let l = ltb-true m (8 * k) e in digit-low (8 * k) (getD ts (i + k) 0) (row-word k ts i) m l ∙ rec l
       go rec (inr e) =
           let l = ltb-false m (8 * k) e in
           let byte : m / 8 ≡ k = omega arith in
           let place : m ≡ 8 * k + m % 8 = omega arith in
-          ap (digit (getD ts (i + k) 0 * 2 ^ (8 * k) + word-at k ts i)) place
-          ∙ digit-high (8 * k) (getD ts (i + k) 0) (word-at k ts i) (m % 8) (word-at-less k)
+          ap (digit (getD ts (i + k) 0 * 2 ^ (8 * k) + row-word k ts i)) place
+          ∙ digit-high (8 * k) (getD ts (i + k) 0) (row-word k ts i) (m % 8) (word-at-less k)
           ∙ ap (λ (x : ℕ). digit (getD ts (i + x) 0) (m % 8)) (sym byte)

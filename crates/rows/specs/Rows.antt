@@ -2,7 +2,7 @@
 --   neighbours-of ts a    the radios that row a of the links table ts marks, ascending
 --   row-listed ts a       the same where row a lies whole in the table, else none
 --   set-bits d i w        the places of the set bits among the d lowest of w, ascending, counted from i
---   word-at k ts i        the k bytes of ts from place i on, as one number, lowest byte first
+--   row-word k ts i        the k bytes of ts from place i on, as one number, lowest byte first
 -- Laws are in proofs/RowListLaws.antt and proofs/WordLaws.antt. Definitions only.
 use mathlib.Core.Bool.{cond}
 use mathlib.Core.List.{List, [], _∷_}
@@ -23,6 +23,6 @@ unfoldable pub set-bits : (d i w : ℕ) → List ℕ
 set-bits zero i w = []
 set-bits (suc d) i w = let rest = set-bits d (suc i) (w / 2) in cond (eqb (w % 2) 1) (i ∷ rest) rest
 
-unfoldable pub word-at : (k : ℕ) → (bytes : List ℕ) → (i : ℕ) → ℕ
-word-at zero ts i = 0
-word-at (suc k) ts i = getD ts (i + k) 0 * 2 ^ (8 * k) + word-at k ts i
+unfoldable pub row-word : (k : ℕ) → (bytes : List ℕ) → (i : ℕ) → ℕ
+row-word zero ts i = 0
+row-word (suc k) ts i = getD ts (i + k) 0 * 2 ^ (8 * k) + row-word k ts i

@@ -7,7 +7,7 @@ ghost use lib.Seq.{sets};
 ghost use Rattle.mesh.specs.Limits.{max-radios};
 ghost use Rattle.lists.specs.Lists.{head-or, overwrite};
 ghost use Rattle.mesh.specs.Tables.{marked, put-bit, put-link};
-ghost use Rattle.rows.specs.Rows.{row-listed, set-bits, word-at};
+ghost use Rattle.rows.specs.Rows.{row-listed, set-bits, row-word};
 
 // The bits of a word.
 const WORD_BITS: u32 = 64;
@@ -52,7 +52,7 @@ pub fn put_link(links: &mut [u8], up: bool, a: u32, b: u32)
 // The eight bytes of the table from `at` on, as one word, lowest byte first.
 fn word_at(links: &[u8], at: usize) -> u64
     requires { ⌜ at + 8 ≤ length (now links) ⌝ }
-    ensures { λ r. ⌜ r ≡ word-at 8 (now (links .entry)) at ⌝ }
+    ensures { λ r. ⌜ r ≡ row-word 8 (now (links .entry)) at ⌝ }
 {
     links[at] as u64
         | (links[at + 1] as u64) << 8
@@ -105,10 +105,8 @@ fn list_bits(word: u64, first: u32, list: &mut [u16], count: u32) -> u32
 // later entries keep their content. Of a row that is not whole in the table nothing is written, and the count is 0.
 pub fn row_neighbours(links: &[u8], a: u32, list: &mut [u16]) -> u32
     ensures counted { λ r. ⌜ r ≡ length (row-listed (now (links .entry)) a) ⌝ }
-    ensures listed { λ _. ⌜
-        now (list .exit)
-        ≡ overwrite (take (length (now (list .entry))) (row-listed (now (links .entry)) a)) (now (list .entry))
-        ⌝ }
+    ensures listed { λ _. ⌜ now (list .exit)
+        ≡ overwrite (take (length (now (list .entry))) (row-listed (now (links .entry)) a)) (now (list .entry)) ⌝ }
 {
     let start = mesh::Site::ROW_BYTES * a as usize;
     if links.len() < start + mesh::Site::ROW_BYTES {

@@ -4,8 +4,8 @@ use mathlib.Core.List.{map}
 use Rattle.lists.specs.Lists.{same}
 use Rattle.text.specs.Text.{digit-byte}
 use Rattle.script.specs.Cases.{Case, cases}
-use Rattle.script.specs.Lines.{is-digit, digits-on, number-of, ended, last-number-of, starts, radios-line, link-with, link-after, link-of, line-of}
+use Rattle.script.specs.Lines.{is-digit, digits-on, number-of, ended, last-number-of, starts, radios-line, link-with, link-after, link-from, line-of}
 
 pub cases-right : map (λ (c : Case). line-of (c .text)) cases ≡ map (λ (c : Case). c .line) cases
-unfolding cases same digit-byte is-digit digits-on number-of ended last-number-of starts radios-line link-with link-after link-of line-of
+unfolding cases same digit-byte is-digit digits-on number-of ended last-number-of starts radios-line link-with link-after link-from line-of
 cases-right = refl

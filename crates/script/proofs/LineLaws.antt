@@ -13,7 +13,7 @@ use Rattle.text.specs.Text.{bytes-of, space, line-feed, digit-byte}
 use Rattle.script.specs.declared.lines.Line.the-variants.{Up, Down, Bad}
 use Rattle.script.specs.declared.lines.Number.{Number}
 use Rattle.script.specs.Lines.{is-digit, Read, got, none, digits-on, number-of, ended, last-number-of, starts, radios-line, link-with, link-after}
-use Rattle.script.specs.Lines.{link-of, line-of, read-of}
+use Rattle.script.specs.Lines.{link-from, line-of, read-of}
 
 -- ---- read-of
 
@@ -154,26 +154,26 @@ module _ (s : List ℕ) (q : ℕ) where
 
 -- a is the first number
 module _ (up : Bool) (s : List ℕ) (p : ℕ) (a : Number) (e : read-of s a ≡ number-of (drop p s)) where
-  pub link-none : a .ok ≡ false → Bad ≡ link-of up (drop p s)
-  unfolding link-of link-after
+  pub link-none : a .ok ≡ false → Bad ≡ link-from up (drop p s)
+  unfolding link-from link-after
   link-none h = rw (← e, read-of-none s a h)
 
-  pub link-gap : a .ok ≡ true → starts (space ∷ []) (drop (a .next) s) ≡ false → Bad ≡ link-of up (drop p s)
-  unfolding link-of link-after
+  pub link-gap : a .ok ≡ true → starts (space ∷ []) (drop (a .next) s) ≡ false → Bad ≡ link-from up (drop p s)
+  unfolding link-from link-after
   link-gap h k = rw (← e, read-of-got s a h, k)
 
   -- b is the second
   module _ (h : a .ok ≡ true) (k : starts (space ∷ []) (drop (a .next) s) ≡ true) (b : Number) (f : read-of s b ≡ last-number-of (drop (a .next + 1) s)) where
-    pub link-second : link-with up (a .value) (read-of s b) ≡ link-of up (drop p s)
-    unfolding link-of link-after
+    pub link-second : link-with up (a .value) (read-of s b) ≡ link-from up (drop p s)
+    unfolding link-from link-after
     link-second = rw (← e, read-of-got s a h, k, drop-drop 1 (a .next) s, f)
 
-    pub link-one : b .ok ≡ false → Bad ≡ link-of up (drop p s)
+    pub link-one : b .ok ≡ false → Bad ≡ link-from up (drop p s)
     unfolding link-with
     link-one m = sym (ap (link-with up (a .value)) (read-of-none s b m)) ∙ link-second
 
     -- t is the value of up
-    pub link-both : b .ok ≡ true → (t : Bool) → up ≡ t → cond t (Up (a .value) (b .value)) (Down (a .value) (b .value)) ≡ link-of up (drop p s)
+    pub link-both : b .ok ≡ true → (t : Bool) → up ≡ t → cond t (Up (a .value) (b .value)) (Down (a .value) (b .value)) ≡ link-from up (drop p s)
     unfolding link-with
     link-both m t u =
         ap (λ (w : Bool). cond w (Up (a .value) (b .value)) (Down (a .value) (b .value))) (sym u)
@@ -183,12 +183,12 @@ module _ (up : Bool) (s : List ℕ) (p : ℕ) (a : Number) (e : read-of s a ≡ 
 -- ---- line-of
 
 module _ (s : List ℕ) where
-  pub line-up : starts (bytes-of "up ") s ≡ true → link-of true (drop 3 s) ≡ line-of s
+  pub line-up : starts (bytes-of "up ") s ≡ true → link-from true (drop 3 s) ≡ line-of s
   unfolding line-of
   line-up h = rw h
 
   module _ (h : starts (bytes-of "up ") s ≡ false) where
-    pub line-down : starts (bytes-of "down ") s ≡ true → link-of false (drop 5 s) ≡ line-of s
+    pub line-down : starts (bytes-of "down ") s ≡ true → link-from false (drop 5 s) ≡ line-of s
     unfolding line-of
     line-down k = rw (h, k)
 

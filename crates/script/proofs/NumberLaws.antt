@@ -43,9 +43,6 @@ all-digits-in (suc t) x h = go (all-digits-in t (x / 10)) (bool-cases (ltb x 10)
         let d : x % 10 < 10 = omega arith in
         rw (decimal-more x k, all-append is-digit (decimal (x / 10)) (digit-byte (x % 10) ∷ []), rec (omega arith), is-digit-byte (x % 10) d)
 
-pub all-digits : (x : ℕ) → all is-digit (decimal x) ≡ true
-all-digits x = all-digits-in x x (omega arith)
-
 -- ---- digits read from decimal
 
 pub digits-on-digit : (v d : ℕ) (ys : List ℕ) → d < 10 → 10 * v + d ≤ max-value

@@ -13,14 +13,14 @@ use Rattle.text.specs.Text.{bytes-of, space, line-feed, digit-byte, decimal, fu
 use Rattle.script.specs.declared.lines.Line.{Line}
 use Rattle.script.specs.declared.lines.Line.the-variants.{Radios, Up, Down, Bad}
 use Rattle.script.specs.Lines.{text-of, Values, max-value, Read, got, none, is-digit, number-of, last-number-of, starts, radios-line, link-with}
-use Rattle.script.specs.Lines.{link-after, link-of, line-of}
+use Rattle.script.specs.Lines.{link-after, link-from, line-of}
 use Rattle.script.proofs.NumberLaws.{number-of-decimal, last-number-of-decimal, number-of-text, last-number-of-text}
 
 -- ---- a line's text is read back
 
 pub link-of-text : (up : Bool) (a b : ℕ) → a ≤ max-value → b ≤ max-value
-    → link-of up (decimal a ++ (space ∷ (decimal b ++ (line-feed ∷ [])))) ≡ cond up (Up a b) (Down a b)
-unfolding link-of link-after link-with starts is-digit digit-byte
+    → link-from up (decimal a ++ (space ∷ (decimal b ++ (line-feed ∷ [])))) ≡ cond up (Up a b) (Down a b)
+unfolding link-from link-after link-with starts is-digit digit-byte
 link-of-text up a b h k =
     rw (number-of-decimal a space (decimal b ++ (line-feed ∷ [])) h refl, last-number-of-decimal b k)
 
@@ -89,7 +89,7 @@ said-word w s l other p q = go (bool-cases (starts w s))
     go (inr h) = rw h q
 
 said-line : (s : List ℕ) → Said s (line-of s)
-unfolding line-of link-of
+unfolding line-of link-from
 said-line s =
     said-word (bytes-of "up ") s _ _ (said-first true (drop 3 s) (number-of (drop 3 s)) refl)
     (said-word (bytes-of "down ") s _ _ (said-first false (drop 5 s) (number-of (drop 5 s)) refl)
@@ -102,9 +102,3 @@ text-parse s l e n = go (said-line s)
     go : Said s (line-of s) → Values l × (s ≡ text-of l)
     go (inl b) = absurd (n (sym e ∙ b))
     go (inr p) = rw e at p
-
--- a text that is read as Bad is the text of no line
-pub bad-no-text : (s : List ℕ) (l : Line) → line-of s ≡ Bad → Values l → s ≡ text-of l → ⊥
-unfolding Values
-bad-no-text s l e v t =
-    let is-bad : l ≡ Bad = sym (parse-text l v) ∙ ap line-of (sym t) ∙ e in subst Values is-bad v

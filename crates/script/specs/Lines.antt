@@ -5,7 +5,7 @@
 --   digits-on v s     the digits at the front of s, read onto v
 --   number-of s       the number at the front of s
 --   last-number-of s  the number at the front of s, with nothing but the line feed after it
---   link-of up s      what follows `up ` or `down `, read
+--   link-from up s      what follows `up ` or `down `, read
 --   line-of s         what a text says: `Bad` for every text of another form
 --   read-of s r       what the parser's record r says about the text s
 -- That line-of takes exactly the texts of the language, and each back to its line, is proved in proofs/Texts.antt.
@@ -99,14 +99,14 @@ link-after up (got a rest) =
     cond (starts (space ∷ []) rest) (link-with up a (last-number-of (drop 1 rest))) Bad
 
 -- what follows `up ` or `down `
-unfoldable pub link-of : (up : Bool) → List ℕ → Line
-link-of up s = link-after up (number-of s)
+unfoldable pub link-from : (up : Bool) → List ℕ → Line
+link-from up s = link-after up (number-of s)
 
 -- what a text says; Bad where it is of another form
 unfoldable pub line-of : List ℕ → Line
 line-of s =
-    cond (starts (bytes-of "up ") s) (link-of true (drop 3 s))
-    (cond (starts (bytes-of "down ") s) (link-of false (drop 5 s))
+    cond (starts (bytes-of "up ") s) (link-from true (drop 3 s))
+    (cond (starts (bytes-of "down ") s) (link-from false (drop 5 s))
     (cond (starts (bytes-of "radios ") s) (radios-line (last-number-of (drop 7 s))) Bad))
 
 -- ---- what the parser keeps

@@ -3,7 +3,7 @@ ghost use mathlib.Core.Path.{_≡_};
 ghost use mathlib.Core.Bool.{false};
 ghost use Prim.Native.Nat.{_≤_, _<_};
 ghost use lib.ListN.{length, drop};
-ghost use Rattle.script.specs.Lines.{read-of, digits-on, number-of, last-number-of, link-of, starts, line-of};
+ghost use Rattle.script.specs.Lines.{read-of, digits-on, number-of, last-number-of, link-from, starts, line-of};
 
 // The bytes of the digits 0 and 9.
 const ZERO: u32 = 48;
@@ -147,7 +147,7 @@ fn read_last_number(s: &[u8], p: usize) -> Number
 
 // What the two numbers from p on say, to the end of the line.
 fn read_link(s: &[u8], p: usize, up: bool) -> Line
-    ensures { λ r. ⌜ r ≡ link-of up (drop p (now (s .entry))) ⌝ }
+    ensures { λ r. ⌜ r ≡ link-from up (drop p (now (s .entry))) ⌝ }
 {
     let a = read_number(s, p);
     if !a.ok {

@@ -61,8 +61,4 @@ module _ (n : ℕ) (links numbers places before : List ℕ) where
   unfolding all range
   rows-end highs a l s =
       let e : n - a ≡ 0 = omega (arith, s .low) in
-      record {
-        answer = rw e at (s .left);
-        highs = λ _. record { at = λ v k. s .at v (omega arith) };
-        long = s .long;
-      }
+      record { answer = rw e at (s .left); highs = λ _. record { at = λ v k. s .at v (omega arith) }; long = s .long }

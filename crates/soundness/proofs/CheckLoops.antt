@@ -156,11 +156,7 @@ module _ (order before filled : List ℕ) (pre : (length order ≤ length before
   }
 
   pub placing-not : (places : List ℕ) (i : ℕ) → Placing-so-far order (length filled) places i → each-once (length order) order ≡ false → Placing order before places false
-  placing-not places i s h = record {
-    answer = sym h;
-    placed = λ f. never false f refl;
-    long = s .long ∙ size;
-  }
+  placing-not places i s h = record { answer = sym h; placed = λ f. never false f refl; long = s .long ∙ size }
 
   pub placing-long : (places : List ℕ) (i : ℕ) → Placing-so-far order (length filled) places i → length places ≡ length before
   placing-long places i s = s .long ∙ size
@@ -169,14 +165,8 @@ module _ (order before filled : List ℕ) (pre : (length order ≤ length before
 
 -- without room for it
 pub places-none : (order before : List ℕ) → min max-radios (length before) < length order → Places-found order before before false
-places-none order before h = record {
-  answer = rw (lt-leb (length order) (min max-radios (length before)) h);
-  placed = λ f. never false f refl;
-}
+places-none order before h = record { answer = rw (lt-leb (length order) (min max-radios (length before)) h); placed = λ f. never false f refl }
 
 pub places-some : (order before after : List ℕ) (r : Bool) → length order ≤ min max-radios (length before) → Placing order before after r
     → Places-found order before after r
-places-some order before after r h p = record {
-  answer = rw (le-leb (length order) (min max-radios (length before)) h) (p .answer);
-  placed = p .placed;
-}
+places-some order before after r h p = record { answer = rw (le-leb (length order) (min max-radios (length before)) h) (p .answer); placed = p .placed }

@@ -17,7 +17,8 @@ use Rattle.lists.proofs.Tests.{bool-cases, never, and-left, and-right, byte-bit
 use Rattle.lists.proofs.Range.{once-below}
 use Rattle.mesh.proofs.Cores.Orders.{each-once-of}
 use Rattle.calls.specs.Questions.{ask, Lengths, lengths-of, size-good, site-lengths, answer-length, lent-refusal, site-refusal, tables-refusal}
-use Rattle.calls.specs.Answers.{Check-contract, Value-accepted, Value-refused}
+use Rattle.calls.specs.Contracts.Sites.{Check-contract}
+use Rattle.calls.specs.Contracts.Forms.{Value-accepted, Value-refused}
 use Rattle.calls.proofs.ContractLaws.{by-accepted, by-refused}
 use Rattle.calls.proofs.ChainLaws.{lent-zero}
 use Rattle.calls.proofs.QuestionLaws.{true-size-good, true-site-lengths, true-answer-length, size-good-true, Site-lengths, site-lengths-true}
@@ -64,13 +65,7 @@ module _ (n : ℕ) (t : Tables) (ps hs : List ℕ) where
   fitting = examinable n (lengths-of t) (length ps) (length hs)
 
   examined-no : (qs is : List ℕ) → length qs ≡ length ps → length is ≡ length hs → (fitting && sound n t) ≡ false → Examined n t ps qs hs is false
-  examined-no qs is p q e = record {
-    answer = sym e;
-    placed = λ f. never false f refl;
-    highs = λ f. never false f refl;
-    places-long = p;
-    highs-long = q;
-  }
+  examined-no qs is p q e = record { answer = sym e; placed = λ f. never false f refl; highs = λ f. never false f refl; places-long = p; highs-long = q }
 
   pub examined-unfit : (u : Bool) → u ≡ fitting → u ≡ false → Examined n t ps ps hs hs false
   examined-unfit u e f = examined-no ps hs refl refl (rw (sym e ∙ f))

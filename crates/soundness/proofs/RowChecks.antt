@@ -55,14 +55,7 @@ module _ (n : ℕ) (links numbers places : List ℕ) (a : ℕ) (list : List ℕ)
   long = length-take-le k list fits
 
   pub counting-none : Counting n links numbers places a xs 0 0 0
-  counting-none = record {
-    low = omega arith;
-    good = refl;
-    later-is = omega arith;
-    high-is = omega arith;
-    few-later = omega arith;
-    few-high = omega arith;
-  }
+  counting-none = record { low = omega arith; good = refl; later-is = omega arith; high-is = omega arith; few-later = omega arith; few-high = omega arith }
 
   abbrev end-good : ℕ → Bool
   end-good b = ltb b n && (not (eqb b a) && marked links b a)

@@ -8,7 +8,7 @@ ghost use Rattle.mesh.specs.Orders.{rising};
 ghost use Rattle.mesh.specs.Sound.{number-in, sound};
 ghost use Rattle.mesh.specs.Tables.{lent};
 ghost use Rattle.calls.specs.Questions.{lengths-of, site-refusal};
-ghost use Rattle.calls.specs.Answers.{Check-contract};
+ghost use Rattle.calls.specs.Contracts.Sites.{Check-contract};
 ghost use Rattle.tables.specs.Sizes.{lengths};
 ghost use Rattle.lists.specs.Lists.{Entries-below};
 ghost use Rattle.soundness.specs.Checks.{Placing, Places-found, Ends-room, Ends-counted, Rows-room, Row-checked, Rows-checked};
@@ -92,10 +92,8 @@ fn count_ends(
     a: usize,
 ) -> Ends
     requires { ⌜ Ends-room a k (length (now links)) (length (now numbers)) (length (now places)) (length (now list)) ⌝ }
-    ensures { λ r. ⌜
-        Ends-counted (length (now (numbers .entry))) (now (links .entry)) (now (numbers .entry)) (now (places .entry)) a
-        (take k (now (list .entry))) (r .good) (r .later) (r .high)
-        ⌝ }
+    ensures { λ r. ⌜ Ends-counted (length (now (numbers .entry))) (now (links .entry)) (now (numbers .entry)) (now (places .entry)) a
+        (take k (now (list .entry))) (r .good) (r .later) (r .high) ⌝ }
 {
     let bad = Ends {
         good: false,
@@ -180,14 +178,10 @@ fn rows_checked(
     list: &mut [u16],
     highs: &mut [u8],
 ) -> bool
-    requires { ⌜
-        Rows-room n (length (now links)) (length (now numbers)) (length (now places)) (length (now list)) ×
-        (n ≤ length (now highs))
-        ⌝ }
-    ensures { λ r. ⌜
-        Rows-checked n (now (links .entry)) (now (numbers .entry)) (now (places .entry)) (now (highs .entry))
-        (now (highs .exit)) r
-        ⌝ }
+    requires { ⌜ Rows-room n (length (now links)) (length (now numbers)) (length (now places)) (length (now list)) ×
+        (n ≤ length (now highs)) ⌝ }
+    ensures { λ r. ⌜ Rows-checked n (now (links .entry)) (now (numbers .entry)) (now (places .entry)) (now (highs .entry))
+        (now (highs .exit)) r ⌝ }
 {
     let mut a: u32 = 0;
     while a < n {
@@ -233,10 +227,8 @@ pub fn examine(
     places: &mut [u16],
     highs: &mut [u8],
 ) -> bool
-    ensures { λ r. ⌜
-        Examined n (lent (links .entry) (numbers .entry) (order .entry)) (now (places .entry)) (now (places .exit))
-        (now (highs .entry)) (now (highs .exit)) r
-        ⌝ }
+    ensures { λ r. ⌜ Examined n (lent (links .entry) (numbers .entry) (order .entry)) (now (places .entry)) (now (places .exit))
+        (now (highs .entry)) (now (highs .exit)) r ⌝ }
 {
     if !is_examinable(
         n,
@@ -269,11 +261,8 @@ pub fn is_sound(n: u32, links: &[u8], numbers: &[u8], order: &[u16]) -> bool
 
 // Questions 1 to 3, where `others` is the answer that 2 gets for further tables: the refusal number so far, 0 when none got no.
 pub fn refusal(n: u32, links: &[u8], numbers: &[u8], order: &[u16], others: bool) -> u32
-    ensures { λ r. ⌜
-        r
-        ≡ site-refusal n (lengths-of (lent (links .entry) (numbers .entry) (order .entry))) others
-        (sound n (lent (links .entry) (numbers .entry) (order .entry))) 0
-        ⌝ }
+    ensures { λ r. ⌜ r ≡ site-refusal n (lengths-of (lent (links .entry) (numbers .entry) (order .entry))) others
+        (sound n (lent (links .entry) (numbers .entry) (order .entry))) 0 ⌝ }
 {
     let number = tables::sizes::of_tables(
         Site { radios: n },

@@ -2,9 +2,12 @@
 -- values at exit. That each meets its contract is in `Promises`.
 use mathlib.Core.Path.{_≡_}
 use mathlib.Core.Bool.{true, false}
-use Rattle.calls.specs.Writes.{Clear-contract, Link-contract, Read-contract}
-use Rattle.calls.specs.Answers.{Check-contract, Number-contract, Neighbours-contract, Linked-contract, First-contract, Core-contract, Backbone-contract}
-use Rattle.calls.specs.Answers.{Tree-contract, Write-contract, Block-contract}
+use Rattle.calls.specs.Contracts.Sites.{Clear-contract, Check-contract}
+use Rattle.calls.specs.Contracts.Links.{Link-contract}
+use Rattle.calls.specs.Contracts.Images.{Read-contract, Write-contract, Block-contract}
+use Rattle.calls.specs.Contracts.Radios.{Number-contract, Neighbours-contract, Linked-contract, First-contract}
+use Rattle.calls.specs.Contracts.Cores.{Core-contract, Backbone-contract}
+use Rattle.calls.specs.Contracts.Trees.{Tree-contract}
 use Rattle.image.specs.Reader.{Stepped, Moved}
 use Rattle.summerbugle.specs.Functions.{Function, number-0, number-1, number-2, tables-1, tables-2, tables-3, lent-0, lent-4, lent-5, lent-6}
 use Rattle.image.proofs.blocks.open as opening
@@ -191,9 +194,4 @@ reader-step = record {
 
 -- moved(reader)
 abbrev pub reader-moved : Function
-reader-moved = record {
-  signature = moving.signature;
-  routine = moving-symbol.routine;
-  kept = moving.ended .kept;
-  contract = λ κs a r e. Moved (a .0) r;
-}
+reader-moved = record { signature = moving.signature; routine = moving-symbol.routine; kept = moving.ended .kept; contract = λ κs a r e. Moved (a .0) r }

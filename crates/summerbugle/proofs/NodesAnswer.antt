@@ -23,13 +23,13 @@ use Rattle.mesh.specs.declared.Node.{Node}
 use Rattle.lists.proofs.Tests.{bool-cases, and-left}
 use Rattle.mesh.proofs.Trees.Laws.{number-le-n}
 use Rattle.calls.specs.Questions.{ask, Lengths, lengths-of, size-good, site-lengths, nodes-length, answer-length, lent-refusal, site-refusal, tree-refusal}
-use Rattle.calls.specs.Answers.{Tree-accepted, Tree-refused, Tree-contract}
+use Rattle.calls.specs.Contracts.Trees.{Tree-accepted, Tree-refused, Tree-contract}
 use Rattle.calls.specs.declared.Value.{Value}
 use Rattle.calls.proofs.ContractLaws.{by-accepted, by-refused, by-cases}
 use Rattle.calls.proofs.QuestionLaws.{ask-later, size-good-true, nodes-length-true}
 use Rattle.calls.proofs.ChainLaws.{site-zero}
 use Rattle.summerbugle.specs.Nodes.{nodes-in}
-use Rattle.tree.specs.Trees.{Lists, lists, with-front, places, Tables-accepted, Tables-refused, Tables-contract}
+use Rattle.tree.specs.Trees.{Lists, lists, with-front, places, Tables-accepted, Lists-refused, Tables-contract}
 use Rattle.lists.proofs.Map.{length-map}
 use Rattle.tree.proofs.NodeLists.{nodes-before-tree, length-nodes-before}
 
@@ -105,11 +105,11 @@ module _ (n k : ℕ) (enough : max-radios + 1 ≤ k) (t : Tables) (ys : List Nod
       ∙ tree-refusal-min n (length ys) (length w) k (lengths-of t) (sound n t) enough
 
   abbrev Outcome : Type 0
-  Outcome = ((refusal ≡ 0) × Tables-accepted g blank r u) ⊎ ((refusal ≡ 0 → ⊥) × Tables-refused refusal blank r u)
+  Outcome = ((refusal ≡ 0) × Tables-accepted g blank r u) ⊎ ((refusal ≡ 0 → ⊥) × Lists-refused refusal blank r u)
 
   outcome : Tables-contract n (length ys) t blank r u → Outcome
   unfolding Tables-contract
-  outcome h = by-cases refusal (Tables-accepted g blank r u) (λ q. Tables-refused q blank r u) (rw refusal-same at h)
+  outcome h = by-cases refusal (Tables-accepted g blank r u) (λ q. Lists-refused q blank r u) (rw refusal-same at h)
 
   -- the nodes fit where the call is accepted
   tree-fits : refusal ≡ 0 → (length (tree g) ≤ length ys) × (length (tree g) ≤ k)
@@ -133,7 +133,7 @@ module _ (n k : ℕ) (enough : max-radios + 1 ≤ k) (t : Tables) (ys : List Nod
   unfolding with-front
   filled-tree a = rw (a .front, a .value) (ap (λ (xs : List Node). overwrite xs ys) (nodes-overwritten (tree g) (replicate k 0) (replicate k 0) (replicate k 0)))
 
-  filled-none : Tables-refused refusal blank r u → filled ≡ ys
+  filled-none : Lists-refused refusal blank r u → filled ≡ ys
   unfolding nodes-in overwrite
   filled-none a = rw (a .value)
 

@@ -23,9 +23,13 @@ use Rattle.mesh.specs.Tables.{Tables, graph-in}
 use Rattle.mesh.specs.Image.{whole-blocks, checks-good, Tables-image}
 use Rattle.mesh.specs.declared.Node.{Node}
 use Rattle.calls.specs.Questions.{lengths-of, size-good, site-lengths}
-use Rattle.calls.specs.Writes.{Tables-refused, Clear-contract, Link-refused, Link-contract, Read-contract}
-use Rattle.calls.specs.Answers.{Value-refused, Check-contract, Number-contract, Neighbours-contract, Linked-contract, First-contract, Listing-refused}
-use Rattle.calls.specs.Answers.{Core-contract, Backbone-contract, Write-contract, Tree-refused, Tree-contract, Block-none, Block-contract}
+use Rattle.calls.specs.Contracts.Forms.{Tables-refused, Value-refused, Listing-refused}
+use Rattle.calls.specs.Contracts.Sites.{Clear-contract, Check-contract}
+use Rattle.calls.specs.Contracts.Links.{Link-refused, Link-contract}
+use Rattle.calls.specs.Contracts.Images.{Read-contract, Write-contract, Block-none, Block-contract}
+use Rattle.calls.specs.Contracts.Radios.{Number-contract, Neighbours-contract, Linked-contract, First-contract}
+use Rattle.calls.specs.Contracts.Cores.{Core-contract, Backbone-contract}
+use Rattle.calls.specs.Contracts.Trees.{Tree-refused, Tree-contract}
 use Rattle.calls.specs.Outcomes.{clear-outcome, read-outcome, link-outcome, check-outcome, number-outcome, neighbours-outcome, linked-outcome, first-outcome}
 use Rattle.calls.specs.Outcomes.{core-outcome, backbone-outcome, tree-outcome, write-outcome, block-outcome}
 use Rattle.calls.specs.Results.{Site-right, Link-right, Core-listed, Backbone-listed, Tree-listed, Written-right, Read-right, Block-part, Block-end}

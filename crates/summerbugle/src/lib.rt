@@ -2,9 +2,12 @@
 // it, under the same contract. No call has a `requires`.
 ghost use mathlib.Core.Bool.{true, false};
 ghost use Rattle.mesh.specs.Tables.{lent};
-ghost use Rattle.calls.specs.Writes.{Clear-contract, Link-contract, Read-contract};
-ghost use Rattle.calls.specs.Answers.{Check-contract, Number-contract, Neighbours-contract, Linked-contract, First-contract, Core-contract};
-ghost use Rattle.calls.specs.Answers.{Backbone-contract, Tree-contract, Write-contract, Block-contract};
+ghost use Rattle.calls.specs.Contracts.Sites.{Clear-contract, Check-contract};
+ghost use Rattle.calls.specs.Contracts.Links.{Link-contract};
+ghost use Rattle.calls.specs.Contracts.Images.{Read-contract, Write-contract, Block-contract};
+ghost use Rattle.calls.specs.Contracts.Radios.{Number-contract, Neighbours-contract, Linked-contract, First-contract};
+ghost use Rattle.calls.specs.Contracts.Cores.{Core-contract, Backbone-contract};
+ghost use Rattle.calls.specs.Contracts.Trees.{Tree-contract};
 use calls::Block;
 use calls::Reply;
 use calls::Value;
@@ -19,10 +22,8 @@ const PLACES: usize = Site::RADIOS as usize + 1;
 // Clears a site: zero links, zero numbers, the order 0 to n - 1. Refused by 1 and 2: then every table keeps its content.
 #[no_mangle]
 pub extern "C" fn sb_clear(n: u32, links: &mut [u8], numbers: &mut [u8], order: &mut [u16]) -> u32
-    ensures { λ r. ⌜
-        Clear-contract n (lent (links .entry) (numbers .entry) (order .entry)) r
-        (lent (links .exit) (numbers .exit) (order .exit))
-        ⌝ }
+    ensures { λ r. ⌜ Clear-contract n (lent (links .entry) (numbers .entry) (order .entry)) r
+        (lent (links .exit) (numbers .exit) (order .exit)) ⌝ }
 {
     tables::clear::clear(n, links, numbers, order)
 }
@@ -52,10 +53,8 @@ pub extern "C" fn sb_link_up(
     order: &mut [u16],
     answer: &mut [u16],
 ) -> Reply
-    ensures { λ r. ⌜
-        Link-contract true n a b (lent (links .entry) (numbers .entry) (order .entry)) (now (answer .entry)) r
-        (lent (links .exit) (numbers .exit) (order .exit)) (now (answer .exit))
-        ⌝ }
+    ensures { λ r. ⌜ Link-contract true n a b (lent (links .entry) (numbers .entry) (order .entry)) (now (answer .entry)) r
+        (lent (links .exit) (numbers .exit) (order .exit)) (now (answer .exit)) ⌝ }
 {
     links::link::link_up(n, a, b, links, numbers, order, answer)
 }
@@ -71,10 +70,8 @@ pub extern "C" fn sb_link_down(
     order: &mut [u16],
     answer: &mut [u16],
 ) -> Reply
-    ensures { λ r. ⌜
-        Link-contract false n a b (lent (links .entry) (numbers .entry) (order .entry)) (now (answer .entry)) r
-        (lent (links .exit) (numbers .exit) (order .exit)) (now (answer .exit))
-        ⌝ }
+    ensures { λ r. ⌜ Link-contract false n a b (lent (links .entry) (numbers .entry) (order .entry)) (now (answer .entry)) r
+        (lent (links .exit) (numbers .exit) (order .exit)) (now (answer .exit)) ⌝ }
 {
     links::link::link_down(n, a, b, links, numbers, order, answer)
 }
@@ -149,10 +146,7 @@ pub extern "C" fn sb_core<'a>(
     order: &'a [u16],
     answer: &mut [u16],
 ) -> Value
-    ensures { λ r. ⌜
-        Core-contract n v k (lent (links .entry) (numbers .entry) (order .entry)) (now (answer .entry)) r
-        (now (answer .exit))
-        ⌝ }
+    ensures { λ r. ⌜ Core-contract n v k (lent (links .entry) (numbers .entry) (order .entry)) (now (answer .entry)) r (now (answer .exit)) ⌝ }
 {
     queries::cores::core(n, v, k, links, numbers, order, answer)
 }
@@ -167,10 +161,7 @@ pub extern "C" fn sb_backbone<'a>(
     order: &'a [u16],
     answer: &mut [u16],
 ) -> Value
-    ensures { λ r. ⌜
-        Backbone-contract n (lent (links .entry) (numbers .entry) (order .entry)) (now (answer .entry)) r
-        (now (answer .exit))
-        ⌝ }
+    ensures { λ r. ⌜ Backbone-contract n (lent (links .entry) (numbers .entry) (order .entry)) (now (answer .entry)) r (now (answer .exit)) ⌝ }
 {
     queries::backbone::backbone(n, links, numbers, order, answer)
 }
@@ -187,10 +178,8 @@ pub extern "C" fn sb_tree<'a, 's, 't>(
     nodes: &'s mut [Node],
     answer: &'t mut [u16],
 ) -> Value
-    ensures { λ r. ⌜
-        Tree-contract n (lent (links .entry) (numbers .entry) (order .entry)) (now (nodes .entry)) (now (answer .entry)) r
-        (now (nodes .exit)) (now (answer .exit))
-        ⌝ }
+    ensures { λ r. ⌜ Tree-contract n (lent (links .entry) (numbers .entry) (order .entry)) (now (nodes .entry)) (now (answer .entry)) r
+        (now (nodes .exit)) (now (answer .exit)) ⌝ }
 {
     let mut names = [0u16; PLACES];
     let mut levels = [0u16; PLACES];
@@ -221,9 +210,7 @@ pub extern "C" fn sb_image_write(
     order: &[u16],
     buffer: &mut [u8],
 ) -> Value
-    ensures { λ r. ⌜
-        Write-contract n (lent (links .entry) (numbers .entry) (order .entry)) (now (buffer .entry)) r (now (buffer .exit))
-        ⌝ }
+    ensures { λ r. ⌜ Write-contract n (lent (links .entry) (numbers .entry) (order .entry)) (now (buffer .entry)) r (now (buffer .exit)) ⌝ }
 {
     image_writer::writer::write(n, links, numbers, order, buffer)
 }
@@ -238,10 +225,8 @@ pub extern "C" fn sb_image_read(
     order: &mut [u16],
     image: &[u8],
 ) -> u32
-    ensures { λ r. ⌜
-        Read-contract n (now (image .entry)) (lent (links .entry) (numbers .entry) (order .entry)) r
-        (lent (links .exit) (numbers .exit) (order .exit))
-        ⌝ }
+    ensures { λ r. ⌜ Read-contract n (now (image .entry)) (lent (links .entry) (numbers .entry) (order .entry)) r
+        (lent (links .exit) (numbers .exit) (order .exit)) ⌝ }
 {
     image_reader::reader::read(n, links, numbers, order, image)
 }

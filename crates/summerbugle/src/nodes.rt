@@ -26,14 +26,10 @@ pub(crate) fn fill<'s, 'a>(
     parents: &'a [u16],
     count: usize,
 )
-    requires { ⌜
-        (count ≤ length (now nodes)) × (count ≤ length (now names)) × (count ≤ length (now levels)) ×
-        (count ≤ length (now parents))
-        ⌝ }
-    ensures { λ _. ⌜
-        now (nodes .exit)
-        ≡ overwrite (nodes-in (now (names .entry)) (now (levels .entry)) (now (parents .entry)) count) (now (nodes .entry))
-        ⌝ }
+    requires { ⌜ (count ≤ length (now nodes)) × (count ≤ length (now names)) × (count ≤ length (now levels)) ×
+        (count ≤ length (now parents)) ⌝ }
+    ensures { λ _. ⌜ now (nodes .exit)
+        ≡ overwrite (nodes-in (now (names .entry)) (now (levels .entry)) (now (parents .entry)) count) (now (nodes .entry)) ⌝ }
 {
     let mut i = 0;
     while i < count {

@@ -6,7 +6,8 @@ use native.Mathlib.Omega.{arith}
 use lib.ListN.{length, replicate}
 use Rattle.mesh.specs.Tables.{Tables}
 use Rattle.calls.specs.Questions.{lengths-of, tables-refusal}
-use Rattle.calls.specs.Writes.{Clear-contract, Clear-accepted, Tables-refused}
+use Rattle.calls.specs.Contracts.Sites.{Clear-contract, Clear-accepted}
+use Rattle.calls.specs.Contracts.Forms.{Tables-refused}
 use Rattle.calls.proofs.ContractLaws.{by-accepted, by-refused}
 use Rattle.calls.proofs.ChainLaws.{Lent-good, lent-zero}
 use Rattle.tables.specs.Widths.{values}

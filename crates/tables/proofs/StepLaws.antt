@@ -1,11 +1,10 @@
 -- Laws of the signed step. The sum is made in 16 bits, where it is exact; what the code hands out is the sum held between
 -- 0 and 255. Then laws of numbers stepped one after the other.
 use mathlib.Core.Path.{_≡_, refl, sym, ap, ap₂, _∙_, subst}
-use mathlib.Core.Logic.{_⊎_, inl, inr}
+use mathlib.Core.Logic.{inl, inr}
 use mathlib.Core.Bool.{Bool, true, false, cond}
-use mathlib.Core.List.{List, [], _∷_, map}
+use mathlib.Core.List.{List, [], _∷_}
 use Prim.Native.Nat.{ℕ, suc, _+_, _-_, _≤_, _<_, min}
-use native.Mathlib.Nat.{zero-add}
 use native.Mathlib.Omega.{arith}
 use mir.Syntax.{w8, w16}
 use mir.Val.{Fits, SFits, toZ, ofZ}
@@ -14,14 +13,11 @@ use lib.Dec.{T, ltb}
 use lib.IntN.{ℤ, pos, negsuc, _+ℤ_, natAbs}
 use lib.Signed.{ltZ, nonNeg}
 use lib.ListN.{length, getD, length-set}
-use lib.Seq.{getD-set-same, getD-set-other, ext-getD}
+use lib.Seq.{getD-set-same, getD-set-other}
 use borrow.Author.Tests.{ltb-true, ltb-false}
 use Rattle.lists.proofs.Loops.{length-folded}
-use Rattle.lists.specs.Lists.{folded, range, member, In, Distinct}
-use Rattle.lists.proofs.Tests.{bool-cases, never}
-use Rattle.lists.proofs.Member.{member-in, in-member}
-use Rattle.lists.proofs.Map.{length-map, getD-map-range}
-use Rattle.lists.proofs.Range.{length-range}
+use Rattle.lists.specs.Lists.{folded, In, Distinct}
+use Rattle.lists.proofs.Tests.{never}
 use Rattle.tables.specs.Steps.{stepped, step-at, all-stepped}
 
 -- ---- a sum held between 0 and 255
@@ -105,10 +101,6 @@ pub stepped-up : (x : ℕ) → x < 255 → stepped x (pos 1) ≡ x + 1
 unfolding stepped
 stepped-up x h = omega arith
 
-pub stepped-none : (x : ℕ) → x < 256 → stepped x (pos 0) ≡ x
-unfolding stepped
-stepped-none x h = omega arith
-
 pub stepped-down : (x : ℕ) → stepped x (negsuc 0) ≡ x - 1
 unfolding stepped
 stepped-down x = refl
@@ -159,27 +151,3 @@ getD-all-stepped-listed u (v ∷ vs) z ns d (inl e) h =
 getD-all-stepped-listed u (v ∷ vs) z ns d (inr m) h =
     getD-all-stepped-listed u vs z (step-at v z ns) (d .1) m (omega (arith, length-step-at v z ns))
     ∙ ap (λ x. stepped x z) (getD-step-at-other u v z ns (λ e. d .0 (rw (← e) at m)))
-
--- the numbers after, radio by radio
-pub getD-all-stepped :
-    (u : ℕ) (vs : List ℕ) (z : ℤ) (ns : List ℕ) → Distinct vs → u < length ns →
-    getD (all-stepped vs z ns) u 0 ≡ cond (member u vs) (stepped (getD ns u 0) z) (getD ns u 0)
-getD-all-stepped u vs z ns d h = go (bool-cases (member u vs))
-  where
-    go :
-        (member u vs ≡ true) ⊎ (member u vs ≡ false) →
-        getD (all-stepped vs z ns) u 0 ≡ cond (member u vs) (stepped (getD ns u 0) z) (getD ns u 0)
-    go (inl e) = rw e (getD-all-stepped-listed u vs z ns d (member-in u vs e) h)
-    go (inr e) = rw e (getD-all-stepped-other u vs z ns (λ m. never (member u vs) (in-member u vs m) e))
-
-pub all-stepped-map :
-    (vs : List ℕ) (z : ℤ) (ns : List ℕ) → Distinct vs →
-    all-stepped vs z ns ≡ map (λ v. cond (member v vs) (stepped (getD ns v 0) z) (getD ns v 0)) (range 0 (length ns))
-all-stepped-map vs z ns d =
-    let e = length-all-stepped vs z ns in
-    let f : ℕ → ℕ = λ v. cond (member v vs) (stepped (getD ns v 0) z) (getD ns v 0) in
-    ext-getD 0 (all-stepped vs z ns) (map f (range 0 (length ns)))
-    (e ∙ sym (length-map f (range 0 (length ns)) ∙ length-range 0 (length ns)))
-    (λ u h.
-    let l : u < length ns = omega arith in
-    getD-all-stepped u vs z ns d l ∙ ap f (sym (zero-add u)) ∙ sym (getD-map-range 0 f 0 (length ns) u l))

@@ -1,16 +1,6 @@
 // The engine's calls, on the front of tables that are as long as any call is lent.
-ghost use Prim.Native.Nat.{_≤_};
 use calls::Reply;
 use test_model::expected::Call;
-
-fn least(x: usize, y: usize) -> usize
-    ensures { λ r. ⌜ (r ≤ x) × (r ≤ y) ⌝ }
-{
-    if x < y {
-        return x;
-    }
-    y
-}
 
 // The link call, on tables that are cut already.
 fn link_cut(
@@ -40,10 +30,10 @@ pub fn link(
     order: &mut [u16],
     answer: &mut [u16],
 ) -> Reply {
-    let i = least(call.links, links.len());
-    let j = least(call.numbers, numbers.len());
-    let k = least(call.order, order.len());
-    let l = least(call.answer, answer.len());
+    let i = tables::fill::least(call.links, links.len());
+    let j = tables::fill::least(call.numbers, numbers.len());
+    let k = tables::fill::least(call.order, order.len());
+    let l = tables::fill::least(call.answer, answer.len());
     link_cut(
         call,
         &mut links[..i],
@@ -56,9 +46,9 @@ pub fn link(
 // Whether the check takes the site's tables and calls them sound.
 pub fn is_sound(n: u32, links: &[u8], numbers: &[u8], order: &[u16]) -> bool {
     let many = n as usize;
-    let i = least((many % 1024) * 64, links.len());
-    let j = least(many, numbers.len());
-    let k = least(many, order.len());
+    let i = tables::fill::least((many % 1024) * 64, links.len());
+    let j = tables::fill::least(many, numbers.len());
+    let k = tables::fill::least(many, order.len());
     let verdict = soundness::check(n, &links[..i], &numbers[..j], &order[..k]);
     verdict.number == 0 && verdict.value == 1
 }
@@ -66,8 +56,8 @@ pub fn is_sound(n: u32, links: &[u8], numbers: &[u8], order: &[u16]) -> bool {
 // Clears the site's tables: the refusal number.
 pub fn clear(n: u32, links: &mut [u8], numbers: &mut [u8], order: &mut [u16]) -> u32 {
     let many = n as usize;
-    let i = least((many % 1024) * 64, links.len());
-    let j = least(many, numbers.len());
-    let k = least(many, order.len());
+    let i = tables::fill::least((many % 1024) * 64, links.len());
+    let j = tables::fill::least(many, numbers.len());
+    let k = tables::fill::least(many, order.len());
     tables::clear::clear(n, &mut links[..i], &mut numbers[..j], &mut order[..k])
 }

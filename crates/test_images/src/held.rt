@@ -4,11 +4,20 @@ use super::digest;
 use image::blocks;
 use image::blocks::BlockReader;
 
-// The digest with what a reader gave: the number that it was opened with, the step's status, part and next number, and the
-// number of the reader that moved on.
-fn noted(h: u64, opened: usize, status: u32, part: &[u8], next: usize, moved: usize) -> u64 {
-    let first = digest::mixed(digest::mixed(h, opened as u64), status as u64);
-    let numbers = digest::mixed(digest::mixed(first, next as u64), moved as u64);
+// The digest with what a reader gave: the number that it was opened with, the step's refusal number, end, part and next number,
+// and the number of the reader that moved on.
+fn noted(
+    h: u64,
+    opened: usize,
+    number: u32,
+    end: u32,
+    part: &[u8],
+    next: usize,
+    moved: usize,
+) -> u64 {
+    let first = digest::mixed(digest::mixed(h, opened as u64), number as u64);
+    let ended = digest::mixed(first, end as u64);
+    let numbers = digest::mixed(digest::mixed(ended, next as u64), moved as u64);
     digest::bytes(numbers, part)
 }
 
@@ -21,7 +30,8 @@ fn step<'a>(image: &'a [u8], i: usize, h: u64) -> u64 {
     noted(
         h,
         first.next,
-        given.status,
+        given.number,
+        given.end,
         given.part,
         given.next,
         after.next,

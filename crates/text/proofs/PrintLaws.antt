@@ -110,9 +110,6 @@ unfolding put
 length-put b [] = refl
 length-put b (x ∷ xs) = length-put (buffer-at (set (b .bytes) (b .at) x) (next-place (b .at))) xs ∙ length-set (b .bytes) (b .at) x
 
-pub length-puts : {b c : Buffer} {xs : List ℕ} → Puts b xs c → length (c .bytes) ≡ length (b .bytes)
-length-puts {b} {c} {xs} p = ap (λ (a : Buffer). length (a .bytes)) (p .is) ∙ length-put b xs
-
 pub length-putting : {b c : Buffer} {xs ys : List ℕ} → Putting b xs c ys → length (c .bytes) ≡ length (b .bytes)
 length-putting {b} {c} {xs} {ys} p =
     sym (length-put c ys) ∙ ap (λ (a : Buffer). length (a .bytes)) (p .is) ∙ length-put b xs

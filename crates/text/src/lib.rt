@@ -77,10 +77,8 @@ fn wide16(x: u16) -> u64
 
 // Puts the rest of a line: a further field for each number, and the line feed.
 pub fn put_numbers(buffer: &mut [u8], at: usize, numbers: &[u8]) -> usize
-    ensures { λ r. ⌜
-        Puts (buffer-at (now (buffer .entry)) at) (further-fields (map decimal (now (numbers .entry))))
-        (buffer-at (now (buffer .exit)) r)
-        ⌝ }
+    ensures { λ r. ⌜ Puts (buffer-at (now (buffer .entry)) at) (further-fields (map decimal (now (numbers .entry))))
+        (buffer-at (now (buffer .exit)) r) ⌝ }
 {
     let mut place = at;
     let mut i = 0;
@@ -93,10 +91,8 @@ pub fn put_numbers(buffer: &mut [u8], at: usize, numbers: &[u8]) -> usize
 
 // The same for radios.
 pub fn put_radios(buffer: &mut [u8], at: usize, radios: &[u16]) -> usize
-    ensures { λ r. ⌜
-        Puts (buffer-at (now (buffer .entry)) at) (further-fields (map decimal (now (radios .entry))))
-        (buffer-at (now (buffer .exit)) r)
-        ⌝ }
+    ensures { λ r. ⌜ Puts (buffer-at (now (buffer .entry)) at) (further-fields (map decimal (now (radios .entry))))
+        (buffer-at (now (buffer .exit)) r) ⌝ }
 {
     let mut place = at;
     let mut i = 0;

@@ -17,7 +17,7 @@ use Rattle.calls.proofs.ContractLaws.{by-accepted, by-refused}
 use Rattle.calls.proofs.ChainLaws.{Site-good, site-zero}
 use Rattle.calls.proofs.QuestionLaws.{nodes-length-true, answer-length-true}
 use Rattle.soundness.proofs.SoundSite.{site-good-fits}
-use Rattle.tree.specs.Trees.{Lists, Room, Grown, Tables-accepted, Tables-refused, places, Tables-contract}
+use Rattle.tree.specs.Trees.{Lists, Room, Grown, Tables-accepted, Lists-refused, places, Tables-contract}
 
 -- ---- room
 
@@ -48,7 +48,7 @@ module _ (n room : ℕ) (ts ns xs : List ℕ) (s : Lists) (m q : ℕ) (others : 
   pub tree-refused : (r : Value) → (q ≡ 0 → ⊥) → r .number ≡ q → r .value ≡ 0 → Tables-contract n room (tables ts ns xs) s r s
   unfolding Tables-contract
   tree-refused r h e z =
-      by-refused _ (Tables-accepted (graph-in n ts) s r s) (λ p. Tables-refused p s r s) (λ p. h (number-is ∙ p))
+      by-refused _ (Tables-accepted (graph-in n ts) s r s) (λ p. Lists-refused p s r s) (λ p. h (number-is ∙ p))
       (record { number = e ∙ number-is; value = z; kept = refl })
 
   module _ (zero : q ≡ 0) where
@@ -84,4 +84,4 @@ module _ (n room : ℕ) (ts ns xs : List ℕ) (s : Lists) (m q : ℕ) (others : 
     unfolding Tables-contract Grown
     tree-accepted r u e h =
         let w = rw tree-numbers at (h xs (rw tree-numbers (site-good-fits n (tables ts ns xs) others good)) (rw tree-numbers tree-room)) in
-        by-accepted _ (λ p. Tables-refused p s r u) (sym number-is ∙ zero) (record { number = e; value = w .count; front = w .front })
+        by-accepted _ (λ p. Lists-refused p s r u) (sym number-is ∙ zero) (record { number = e; value = w .count; front = w .front })

@@ -15,6 +15,7 @@ use Rattle.mesh.specs.Connected.{greatest}
 use Rattle.mesh.specs.Tree.{root-name, root, node-name, parent-name, node-names}
 use Rattle.mesh.proofs.Trees.Laws.{number-le-n}
 use Rattle.mesh.proofs.Trees.ShellNames.{node-name-parent}
+use Rattle.mesh.proofs.Trees.Listed.{getD-le-greatest, greatest-le}
 use Rattle.soundness.specs.Checks.{fits-sound}
 use Rattle.lists.proofs.Map.{map-range-constant, map-range-ext}
 use Rattle.soundness.proofs.SoundSite.{fits-sound-site, number-entry}

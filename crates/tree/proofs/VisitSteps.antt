@@ -31,7 +31,4 @@ module _ (ts ns : List ℕ) (k v : ℕ) (s q : List ℕ) (old : Lists) (c : ℕ)
     unfolding takes-node
     visited-node t new h names levels parents core =
         let yes : takes-node ns k s v ≡ true = rw (eq-eqb (getD ns v 0) k number, h) in
-        record {
-          taken = λ e. record { names = names; levels = levels; parents = parents; core = core; counted = refl };
-          passed = λ e. never _ yes e;
-        }
+        record { taken = λ e. record { names = names; levels = levels; parents = parents; core = core; counted = refl }; passed = λ e. never _ yes e }

@@ -146,7 +146,7 @@ pub record Tables-accepted (g : Graph) (before : Lists) (r : Value) (after : Lis
   pub front : after ≡ with-front (tree g) (node-names g) before
 
 -- refused by q: all four keep their content
-pub record Tables-refused (q : ℕ) (before : Lists) (r : Value) (after : Lists) : Type 0 where
+pub record Lists-refused (q : ℕ) (before : Lists) (r : Value) (after : Lists) : Type 0 where
   pub number : r .number ≡ q
   pub value : r .value ≡ 0
   pub kept : after ≡ before
@@ -161,4 +161,4 @@ Tables-contract n room t s r u =
     By-number
     (tree-refusal n (lengths-of t) (min room (places s)) (length (s .answer)) (sound n t))
     (Tables-accepted (graph-in n (t .links)) s r u)
-    (λ q. Tables-refused q s r u)
+    (λ q. Lists-refused q s r u)

@@ -30,11 +30,9 @@ fn visit<'a>(
     count: u32,
 ) -> u32
     requires { ⌜ (v < length (now numbers)) × (v < length (now answer)) × (count ≤ max-radios * (level + 1)) ⌝ }
-    ensures { λ r. ⌜
-        Visited (now (links .entry)) (now (numbers .entry)) level v (now (set .entry)) (now (queue .entry))
+    ensures { λ r. ⌜ Visited (now (links .entry)) (now (numbers .entry)) level v (now (set .entry)) (now (queue .entry))
         (lists (now (names .entry)) (now (levels .entry)) (now (parents .entry)) (now (answer .entry))) count
-        (now (set .exit)) (lists (now (names .exit)) (now (levels .exit)) (now (parents .exit)) (now (answer .exit))) r
-        ⌝ }
+        (now (set .exit)) (lists (now (names .exit)) (now (levels .exit)) (now (parents .exit)) (now (answer .exit))) r ⌝ }
 {
     if numbers[v as usize] != level {
         return count;
@@ -69,16 +67,12 @@ fn take_level<'a>(
     answer: &mut [u16],
     count: u32,
 ) -> u32
-    requires { ⌜
-        (length (now numbers) ≤ max-radios) × (length (now numbers) ≤ length (now answer)) × (1 ≤ level) ×
-        (length (now set) ≡ row-bytes) × (max-radios ≤ length (now queue)) × (count ≤ max-radios * level)
-        ⌝ }
+    requires { ⌜ (length (now numbers) ≤ max-radios) × (length (now numbers) ≤ length (now answer)) × (1 ≤ level) ×
+        (length (now set) ≡ row-bytes) × (max-radios ≤ length (now queue)) × (count ≤ max-radios * level) ⌝ }
     ensures few { λ r. ⌜ r ≤ max-radios * (level + 1) ⌝ }
-    ensures levelled { λ r. ⌜
-        Levelled (now (links .entry)) (now (numbers .entry)) level
+    ensures levelled { λ r. ⌜ Levelled (now (links .entry)) (now (numbers .entry)) level
         (lists (now (names .entry)) (now (levels .entry)) (now (parents .entry)) (now (answer .entry))) count
-        (lists (now (names .exit)) (now (levels .exit)) (now (parents .exit)) (now (answer .exit))) r
-        ⌝ }
+        (lists (now (names .exit)) (now (levels .exit)) (now (parents .exit)) (now (answer .exit))) r ⌝ }
 {
     tables::fill::fill8(set, 0);
     let mut c = count;
@@ -113,11 +107,9 @@ fn grow<'a>(
     answer: &mut [u16],
 ) -> u32
     requires { ⌜ (length (now numbers) ≤ max-radios) × (length (now numbers) ≤ length (now answer)) ⌝ }
-    ensures { λ r. ⌜
-        Grown (now (links .entry)) (now (numbers .entry))
+    ensures { λ r. ⌜ Grown (now (links .entry)) (now (numbers .entry))
         (lists (now (names .entry)) (now (levels .entry)) (now (parents .entry)) (now (answer .entry))) r
-        (lists (now (names .exit)) (now (levels .exit)) (now (parents .exit)) (now (answer .exit)))
-        ⌝ }
+        (lists (now (names .exit)) (now (levels .exit)) (now (parents .exit)) (now (answer .exit))) ⌝ }
 {
     let mut set = [0u8; Site::ROW_BYTES];
     let mut queue = [0u16; Site::RADIOS as usize];
@@ -168,11 +160,9 @@ pub fn shell_tree<'a>(
     parents: &mut [u16],
     answer: &mut [u16],
 ) -> Value
-    ensures { λ r. ⌜
-        Tables-contract n room (lent (links .entry) (numbers .entry) (order .entry))
+    ensures { λ r. ⌜ Tables-contract n room (lent (links .entry) (numbers .entry) (order .entry))
         (lists (now (names .entry)) (now (levels .entry)) (now (parents .entry)) (now (answer .entry))) r
-        (lists (now (names .exit)) (now (levels .exit)) (now (parents .exit)) (now (answer .exit)))
-        ⌝ }
+        (lists (now (names .exit)) (now (levels .exit)) (now (parents .exit)) (now (answer .exit))) ⌝ }
 {
     let nodes = tables::fill::least(
         room,

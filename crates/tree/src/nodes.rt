@@ -47,10 +47,8 @@ pub fn name_core<'a>(
     queue: &mut [u16],
     answer: &mut [u16],
 )
-    ensures { λ _. ⌜
-        Core-named (now (links .entry)) (now (numbers .entry)) level v (now (set .entry)) (now (queue .entry))
-        (now (answer .entry)) (now (set .exit)) (now (answer .exit))
-        ⌝ }
+    ensures { λ _. ⌜ Core-named (now (links .entry)) (now (numbers .entry)) level v (now (set .entry)) (now (queue .entry))
+        (now (answer .entry)) (now (set .exit)) (now (answer .exit)) ⌝ }
 {
     let k = floods::flood::flood(links, numbers, level, v as u32, set, queue);
     let m = tables::fill::least(k, queue.len());

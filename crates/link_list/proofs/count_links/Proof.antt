@@ -32,6 +32,5 @@ returns-2 c = λ rows. counting-end _ _ _ _ _ (c .before .loop .inv .1) (omega a
 pub count-links-spec : {M : Type 1} → statement M
 count-links-spec =
     tie.close (
-    tie.spec Inv-loop μ-loop (λ c. λ rows. absurd (omega (arith, rows .most))) (λ c. (omega arith, counting-none _ _ _))
-    (λ c κs. search needs) (λ c. omega arith) (λ c. omega arith) (λ c. omega arith) (λ c. search needs) (λ c. search needs)
-    loop-again (λ c. search needs) returns-2)
+    tie.spec Inv-loop μ-loop (λ c. λ rows. absurd (omega (arith, rows .most))) (λ c. (omega arith, counting-none _ _ _)) (λ c κs. search needs)
+    (λ c. omega arith) (λ c. omega arith) (λ c. omega arith) (λ c. search needs) (λ c. search needs) loop-again (λ c. search needs) returns-2)

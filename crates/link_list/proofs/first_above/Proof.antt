@@ -28,5 +28,4 @@ pub first-above-spec : {M : Type 1} → statement M
 first-above-spec =
     tie.close (
     tie.spec Inv-loop μ-loop (λ c. passing-none _ _) (λ c. search needs) (λ c. search needs)
-    (λ c. omega (arith, c .shared-slice-known .given (c .before .before .loop .i))) returns (λ c. search needs)
-    (λ c. search needs) loop-again returns-2)
+    (λ c. omega (arith, c .shared-slice-known .given (c .before .before .loop .i))) returns (λ c. search needs) (λ c. search needs) loop-again returns-2)

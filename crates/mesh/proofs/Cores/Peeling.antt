@@ -109,11 +109,7 @@ record Is-core (g : Graph) (k : ℕ) (xs : List ℕ) : Type 0 where
 next-core : (g : Graph) (k : ℕ) (xs : List ℕ) → Is-core g k xs → Is-core g (suc k) (peeled (length xs) g (suc k) xs)
 next-core g k xs c =
     let r = peeled-is g (suc k) (length xs) xs (c .part) (le-refl (length xs)) in
-    record {
-      part = r .part;
-      stable = r .stable;
-      groups = r .groups (λ s gr. c .groups s (group-less g (suc k) k s (omega arith) gr));
-    }
+    record { part = r .part; stable = r .stable; groups = r .groups (λ s gr. c .groups s (group-less g (suc k) k s (omega arith) gr)) }
 
 -- a radio that is not in a list is in nothing peeled from it
 depth-none : (f k : ℕ) (g : Graph) (xs : List ℕ) → Part g xs → (v : ℕ) → (In v xs → ⊥) → depth (cores-from f k g xs) v ≡ 0

@@ -8,17 +8,14 @@ use Prim.Native.Nat.{ℕ, zero, suc, _+_, _*_, _≤_, _<_}
 use native.Mathlib.Omega.{arith}
 use lib.Dec.{eqb}
 use lib.ListN.{length, getD, take, drop, length-take, length-drop}
-use lib.Seq.{getD-take, getD-drop, take-take, drop-drop, length-take-le, ext-getD}
+use lib.Seq.{getD-take, getD-drop, take-take, length-take-le, ext-getD}
 use borrow.Author.Tests.{eqb-true, eq-eqb}
 use Rattle.lists.specs.Lists.{same, Bytes}
-use Rattle.mesh.specs.Graph.{Graph}
-use Rattle.mesh.specs.Image.{block-bytes, payload-bytes, long, check-sum, image-of, block-check, payload-at}
+use Rattle.mesh.specs.Image.{block-bytes, long, check-sum, block-check}
 use Rattle.lists.proofs.Tests.{iff-eq}
 use Rattle.lists.proofs.All.{same-refl, same-eq}
-use Rattle.lists.proofs.Parts.{take-drop-take, getD-bytes, bytes-take, bytes-drop}
+use Rattle.lists.proofs.Parts.{getD-bytes, bytes-take, bytes-drop}
 use Rattle.mesh.proofs.Images.Words.{long-of, long-of-long, long-long-of, check-sum-less}
-use Rattle.mesh.proofs.Images.Blocks.{filled, payload-block}
-use Rattle.mesh.proofs.Images.Of.{kind-at, content-at, block-at-parts, length-content-at, blocks, take-drop-image-of}
 
 -- ---- four bytes at a place
 
@@ -78,11 +75,3 @@ module _ (bs : List ℕ) (i : ℕ) (fits : block-bytes * i + block-bytes ≤ len
       ap₂ same (ap (λ (x : List ℕ). long (check-sum x)) same-front) check-bytes ∙ same-long bs (block-bytes * i + 508) (check-sum front) b small
 
 -- ---- the block reader
-
-pub payload-at-image-of : (g : Graph) (xs : List ℕ) (i : ℕ) → i < blocks g xs → payload-at (image-of g xs) i ≡ filled (content-at g xs i)
-unfolding payload-at
-payload-at-image-of g xs i h =
-    ap (take payload-bytes) (sym (drop-drop 4 (block-bytes * i) (image-of g xs)))
-    ∙ sym (take-drop-take 4 payload-bytes block-bytes (drop (block-bytes * i) (image-of g xs)) (omega arith))
-    ∙ ap (λ (b : List ℕ). take payload-bytes (drop 4 b)) (take-drop-image-of g xs i h ∙ block-at-parts g xs i)
-    ∙ payload-block (kind-at g i) i (content-at g xs i) (length-content-at g xs i)

@@ -94,13 +94,7 @@ unfolding image-graph
 is-image-iff n bs small = (there, back)
   where
     there : is-image n bs ≡ true → Site-image n bs
-    there h = record {
-      site = image-graph n bs;
-      order = image-order n bs;
-      radios = refl;
-      valid = image-valid n bs small h;
-      written = written-read n bs h;
-    }
+    there h = record { site = image-graph n bs; order = image-order n bs; radios = refl; valid = image-valid n bs small h; written = written-read n bs h }
 
     back : Site-image n bs → is-image n bs ≡ true
     back s = sym (ap₂ is-image (s .radios) (s .written)) ∙ is-image-image-of (s .site) (s .order) (omega (arith, s .radios)) (s .valid)

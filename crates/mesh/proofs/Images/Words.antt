@@ -4,12 +4,10 @@ use mathlib.Core.List.{List, [], _∷_}
 use Prim.Native.Nat.{ℕ, zero, suc, _+_, _*_, _/_, _%_, _≤_, _<_}
 use native.Mathlib.Omega.{arith}
 use native.Mathlib.Nat.{mul-suc, mul-le-mul, div-div-eq-div-mul}
-use lib.ListN.{length, getD, take}
-use lib.Seq.{take-suc, length-take-le}
+use lib.ListN.{length, getD}
 use Rattle.mesh.specs.Image.{word, long, weighted-sum, check-sum, word-at}
 use Rattle.lists.specs.Lists.{Bytes}
 use Rattle.lists.proofs.Parts.{getD-bytes, bytes-cons}
-use Rattle.mesh.proofs.Images.Laws.{check-sum-snoc}
 
 -- ---- word
 
@@ -95,11 +93,6 @@ long-long-of a b c d ha hb hc hd =
 
 -- ---- the check grows byte by byte
 
-pub check-sum-take : (bs : List ℕ) (j : ℕ) → j < length bs → check-sum (take (suc j) bs) ≡ check-sum (take j bs) + getD bs j 0 * (j + 1)
-check-sum-take bs j h =
-    ap check-sum (take-suc bs j 0 h) ∙ check-sum-snoc (take j bs) (getD bs j 0)
-    ∙ ap (λ (k : ℕ). check-sum (take j bs) + getD bs j 0 * (k + 1)) (length-take-le j bs (omega arith))
-
 -- ---- the check fits
 
 -- `top` bounds the weights
@@ -109,12 +102,7 @@ weighted-sum-le top i [] b h = omega arith
 weighted-sum-le top i (x ∷ bs) b h =
     let here : x ≤ 255 = omega (arith, b 0 (omega arith)) in
     let low : i ≤ top = omega arith in
-    omega (
-      arith,
-      mul-le-mul here low,
-      mul-suc (255 * top) (length bs),
-      weighted-sum-le top (suc i) bs (λ j l. b (suc j) (omega arith)) (omega arith),
-    )
+    omega (arith, mul-le-mul here low, mul-suc (255 * top) (length bs), weighted-sum-le top (suc i) bs (λ j l. b (suc j) (omega arith)) (omega arith))
 
 -- the check of a block's 508 bytes has four bytes
 pub check-sum-less : (bs : List ℕ) → Bytes bs → length bs ≤ 508 → check-sum bs < 4294967296

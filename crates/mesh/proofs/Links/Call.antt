@@ -112,11 +112,7 @@ module _ (most : ℕ) (u : Bool) (a b : ℕ) (g : Graph) (xs : List ℕ) (valid 
   unfolding lower-level
   positive e =
       let h : linked g a b ≡ true = rw e at (ok .state) in
-      omega (
-        arith,
-        linked-positive g a b (ok .a-radio) (ok .b-radio) h,
-        linked-positive g b a (ok .b-radio) (ok .a-radio) (linked-sym g b a ∙ h),
-      )
+      omega (arith, linked-positive g a b (ok .a-radio) (ok .b-radio) h, linked-positive g b a (ok .b-radio) (ok .a-radio) (linked-sym g b a ∙ h))
 
   pub relinked-proper : proper (after .n) (after .links) ≡ true
   unfolding relinked

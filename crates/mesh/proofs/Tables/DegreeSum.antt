@@ -3,30 +3,26 @@
 --   row-degrees-total    the bits of the rows add up to twice the links that they mark
 --   length-graph-in      the links that rows mark, row by row
 --   links-few            so a limit on neighbours limits the links; `links-most`, `block-count-most` with document 01's limits
-use mathlib.Core.Path.{_≡_, refl, sym, ap, subst, _∙_}
+use mathlib.Core.Path.{_≡_, refl, ap, subst, _∙_}
 use mathlib.Core.Logic.{_⊎_, inl, inr}
 use mathlib.Core.Bool.{true, false, _||_, cond}
 use mathlib.Core.List.{List, [], _∷_}
-use Prim.Native.Nat.{ℕ, suc, _+_, _*_, _-_, _≤_, _<_}
+use Prim.Native.Nat.{ℕ, _+_, _*_, _-_, _≤_, _<_}
 use native.Mathlib.Omega.{arith}
 use lib.Dec.{eqb}
-use lib.ListN.{length, length-map}
+use lib.ListN.{length}
 use borrow.Author.Tests.{eqb-true, eqb-false, eq-eqb}
 use Rattle.mesh.specs.Limits.{max-radios, max-neighbours}
-use Rattle.lists.specs.Lists.{range, count, filter, member, total}
+use Rattle.lists.specs.Lists.{range, count, member, total}
 use Rattle.mesh.specs.Graph.{Link, Graph, radios, linked, neighbours-among, degree, other-ends, proper, ascending}
-use Rattle.mesh.specs.Tables.{marked, row-links, graph-in}
-use Rattle.mesh.specs.Sound.{symmetric, irreflexive, within, row-degree}
 use Rattle.mesh.specs.Image.{blocks-for, order-blocks, block-count}
 use Rattle.lists.proofs.Tests.{bool-cases, bit-true, bit-false, iff-eq}
 use Rattle.lists.proofs.Range.{range-in, length-range, count-range-one}
 use Rattle.lists.proofs.Count.{count-none, count-cong, count-or}
-use Rattle.lists.proofs.Filter.{length-filter}
 use Rattle.mesh.proofs.GraphLaws.{Ends, joins, ends-of, of-ends, linked-by, linked-by-cons, linked-by-sym, Proper, proper-of}
 use Rattle.mesh.proofs.Tables.AscendingLinks.{In-links, before-irreflexive, Sorted, sorted-of, link-less, linked-in}
-use Rattle.mesh.proofs.Tables.ReadBack.{proper-graph-in, ascending-graph-in, degree-graph-in}
 use Rattle.mesh.specs.Valid.{Valid}
-use Rattle.lists.proofs.Sums.{total-le, total-cong, total-none, length-flatMap-total, total-bits}
+use Rattle.lists.proofs.Sums.{total-le, total-cong, total-none, total-bits}
 
 -- ---- one link more
 
@@ -137,20 +133,3 @@ unfolding block-count order-blocks blocks-for
 block-count-most g xs small v = omega (arith, links-most g xs small v)
 
 -- ---- the links that a table marks, counted by its rows
-
--- by the bits above the diagonal
-pub length-graph-in : (n : ℕ) (ts : List ℕ) → length (graph-in n ts .links) ≡ total (λ a. count (λ b. marked ts a b) (range (suc a) (n - suc a))) (range 0 n)
-unfolding graph-in row-links
-length-graph-in n ts =
-    length-flatMap-total (row-links n ts) (range 0 n)
-    ∙ total-cong (λ a. length (row-links n ts a)) (λ a. count (λ b. marked ts a b) (range (suc a) (n - suc a))) (range 0 n)
-    (λ a m. length-map (filter (λ b. marked ts a b) (range (suc a) (n - suc a))) (λ b. record { low = a; high = b })
-    ∙ length-filter (λ b. marked ts a b) (range (suc a) (n - suc a)))
-
--- by all bits: each link is marked twice
-pub row-degrees-total : (n : ℕ) (ts : List ℕ) → n ≤ max-radios → symmetric n ts ≡ true → irreflexive n ts ≡ true → within n ts ≡ true
-    → total (row-degree ts) (range 0 n) ≡ 2 * length (graph-in n ts .links)
-unfolding radios graph-in
-row-degrees-total n ts small s i w =
-    total-cong (row-degree ts) (degree (graph-in n ts)) (range 0 n) (λ a m. sym (degree-graph-in n ts small s i w a (omega (arith, range-in 0 n a m))))
-    ∙ degrees-total (graph-in n ts) (proper-graph-in n ts) (ascending-graph-in n ts)

@@ -135,14 +135,6 @@ marked-put-bit on a b ts v w lb lw h = go (bool-cases (eqb (byte-at v w) (byte-a
         let ne = eqb-false (byte-at v w) (byte-at a b) q in
         rw (getD-set-other ts (byte-at a b) (byte-at v w) new 0 ne, elsewhere ne)
 
--- at the place itself, and at any other
-pub marked-put-bit-same : (on : Bool) (a b : ℕ) (ts : List ℕ) → b < max-radios → byte-at a b < length ts → marked (put-bit on a b ts) a b ≡ on
-marked-put-bit-same on a b ts lb h = marked-put-bit on a b ts a b lb lb h ∙ rw (eq-eqb a a refl, eq-eqb b b refl)
-
-pub marked-put-bit-other : (on : Bool) (a b : ℕ) (ts : List ℕ) (v w : ℕ) → b < max-radios → w < max-radios → byte-at a b < length ts
-    → (eqb a v && eqb b w) ≡ false → marked (put-bit on a b ts) v w ≡ marked ts v w
-marked-put-bit-other on a b ts v w lb lw h e = marked-put-bit on a b ts v w lb lw h ∙ rw e
-
 -- ---- one link put
 
 pub length-put-link : (u : Bool) (a b : ℕ) (ts : List ℕ) → length (put-link u a b ts) ≡ length ts

@@ -72,11 +72,7 @@ in-graph-in n ts m i = row (in-flatMap (row-links n ts) (range 0 n) m i)
         bit a p =
             let q = in-filter (λ b. marked ts a b) (range (suc a) (n - suc a)) (m .high) (p .1) in
             let k = range-in (suc a) (n - suc a) (m .high) (q .0) in
-            record {
-              lower-first = omega (arith, p .0, k .0);
-              is-radio = omega (arith, k .0, k .1);
-              is-marked = rw (p .0) (q .1);
-            }
+            record { lower-first = omega (arith, p .0, k .0); is-radio = omega (arith, k .0, k .1); is-marked = rw (p .0) (q .1) }
 
 pub graph-in-in : (n : ℕ) (ts : List ℕ) (m : Link) → Marks n ts m → In-links m (graph-in n ts .links)
 unfolding graph-in row-links

@@ -13,5 +13,4 @@ read-all-requires c κs =
 pub play-site-spec : {M : Type 1} → statement M
 play-site-spec =
     tie.close (
-    tie.spec (λ c κs. search needs) read-all-requires (λ c. search needs) (λ c. search needs) (λ c. search needs)
-    (λ c. search needs) (λ c. search needs))
+    tie.spec (λ c κs. search needs) read-all-requires (λ c. search needs) (λ c. search needs) (λ c. search needs) (λ c. search needs) (λ c. search needs))

@@ -31,5 +31,5 @@ returns-2 c =
 pub put-link-line-spec : {M : Type 1} → statement M
 put-link-line-spec =
     tie.close (
-    tie.spec (λ c κs. search needs) (λ c κs. search needs) (λ c κs. search needs) (λ c κs. search needs) (λ c. search needs)
-    returns slice-aggregate-put-radios (λ c κs. search needs) (λ c. search needs) returns-2)
+    tie.spec (λ c κs. search needs) (λ c κs. search needs) (λ c κs. search needs) (λ c κs. search needs) (λ c. search needs) returns
+    slice-aggregate-put-radios (λ c κs. search needs) (λ c. search needs) returns-2)

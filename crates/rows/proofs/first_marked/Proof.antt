@@ -54,7 +54,6 @@ returns-3 c =
 pub first-marked-spec : {M : Type 1} → statement M
 first-marked-spec =
     tie.close (
-    tie.spec Inv-loop μ-loop (λ c. search needs) (λ c. search needs) returns loop-holds (λ c. search needs) (λ c. search needs)
-    (λ c. search needs) (λ c κs. search needs) (λ c. search needs)
-    (λ c. omega (arith, trailing-le 64 (c .before .word-at .result))) returns-2 (λ c. search needs) (λ c. search needs) loop-again
-    returns-3)
+    tie.spec Inv-loop μ-loop (λ c. search needs) (λ c. search needs) returns loop-holds (λ c. search needs) (λ c. search needs) (λ c. search needs)
+    (λ c κs. search needs) (λ c. search needs) (λ c. omega (arith, trailing-le 64 (c .before .word-at .result))) returns-2 (λ c. search needs)
+    (λ c. search needs) loop-again returns-3)

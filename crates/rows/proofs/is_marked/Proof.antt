@@ -8,5 +8,5 @@ use Rattle.rows.proofs.is_marked.Tie as tie
 pub is-marked-spec : {M : Type 1} → statement M
 is-marked-spec =
     tie.close (
-    tie.spec (λ c. search needs) (λ c. search needs) (λ c. search needs) (λ c. search needs) (λ c. search needs)
-    (λ c. search needs) (λ c. marked-shift _ _ _) (λ c. sym (marked-past _ _ _ (c .if1 .left))))
+    tie.spec (λ c. search needs) (λ c. search needs) (λ c. search needs) (λ c. search needs) (λ c. search needs) (λ c. search needs) (λ c. marked-shift _ _ _)
+    (λ c. sym (marked-past _ _ _ (c .if1 .left))))

@@ -39,8 +39,7 @@ returns-2 c = partial-end _ _ _ (ap (set-bits 64 (c .before .before .args .first
 pub list-bits-spec : {M : Type 1} → statement M
 list-bits-spec =
     tie.close (
-    tie.spec Inv-loop μ-loop (λ c. (search needs, partial-none _ _ _ (c .pre .2))) cast-if1
-    (λ c. c .before .before .loop .inv .1 .long) (λ c. partial-full _ _ _ (omega arith) (c .before .before .loop .inv .1))
-    (λ c. omega (arith, trailing-le 64 (c .before .before .loop .rest)))
-    (λ c. omega (arith, trailing-le 64 (c .before .before .loop .rest))) cast-list-2 (λ c. search needs) (λ c. search needs)
-    (λ c. search needs) add-n loop-less loop-again (λ c. c .before .loop .inv .1 .long) returns-2)
+    tie.spec Inv-loop μ-loop (λ c. (search needs, partial-none _ _ _ (c .pre .2))) cast-if1 (λ c. c .before .before .loop .inv .1 .long)
+    (λ c. partial-full _ _ _ (omega arith) (c .before .before .loop .inv .1)) (λ c. omega (arith, trailing-le 64 (c .before .before .loop .rest)))
+    (λ c. omega (arith, trailing-le 64 (c .before .before .loop .rest))) cast-list-2 (λ c. search needs) (λ c. search needs) (λ c. search needs) add-n
+    loop-less loop-again (λ c. c .before .loop .inv .1 .long) returns-2)

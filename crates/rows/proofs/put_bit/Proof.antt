@@ -14,7 +14,6 @@ returns-2 c =
 pub put-bit-spec : {M : Type 1} → statement M
 put-bit-spec =
     tie.close (
-    tie.spec (λ c. search needs) (λ c. search needs) (λ c. search needs) (λ c. search needs) (λ c. search needs)
-    (λ c. search needs) (λ c. search needs) (λ c. search needs) (λ c. search needs) (λ c. search needs) (λ c. search needs)
-    (λ c. search needs) (λ c. rw (c .before .if2 .taken) (put-bit-true _ _ _)) (λ c. search needs) returns-2
-    (λ c. sym (put-bit-past _ _ _ _ (c .if1 .left))))
+    tie.spec (λ c. search needs) (λ c. search needs) (λ c. search needs) (λ c. search needs) (λ c. search needs) (λ c. search needs) (λ c. search needs)
+    (λ c. search needs) (λ c. search needs) (λ c. search needs) (λ c. search needs) (λ c. search needs) (λ c. rw (c .before .if2 .taken) (put-bit-true _ _ _))
+    (λ c. search needs) returns-2 (λ c. sym (put-bit-past _ _ _ _ (c .if1 .left))))

@@ -36,6 +36,6 @@ returns-2 c =
 pub row-degree-spec : {M : Type 1} → statement M
 row-degree-spec =
     tie.close (
-    tie.spec Inv-loop μ-loop (λ c. search needs) (λ c. search needs) (λ c. sym (ap length (row-listed-short _ _ (c .if1 .taken))))
-    loop-holds (λ c. search needs) (λ c. search needs) (λ c. search needs) (λ c κs. search needs)
-    (λ c. omega (arith, loop-again c .1)) (λ c. search needs) (λ c. search needs) loop-again returns-2)
+    tie.spec Inv-loop μ-loop (λ c. search needs) (λ c. search needs) (λ c. sym (ap length (row-listed-short _ _ (c .if1 .taken)))) loop-holds
+    (λ c. search needs) (λ c. search needs) (λ c. search needs) (λ c κs. search needs) (λ c. omega (arith, loop-again c .1)) (λ c. search needs)
+    (λ c. search needs) loop-again returns-2)

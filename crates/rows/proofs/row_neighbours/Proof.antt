@@ -56,7 +56,6 @@ returns-3 c =
 pub row-neighbours-spec : {M : Type 1} → statement M
 row-neighbours-spec =
     tie.close (
-    tie.spec Inv-loop μ-loop (λ c. search needs) (λ c. search needs) returns loop-holds (λ c. search needs) (λ c. search needs)
-    (λ c. search needs) (λ c κs. search needs) (λ c. search needs) (λ c κs. search needs) (λ c. search needs) (λ c. search needs)
-    loop-again (λ c. search needs) (λ c. c .before .before .loop .inv .2 .long) returns-2 (λ c κs. search needs)
-    (λ c. c .before .before .before .loop .inv .2 .long) returns-3)
+    tie.spec Inv-loop μ-loop (λ c. search needs) (λ c. search needs) returns loop-holds (λ c. search needs) (λ c. search needs) (λ c. search needs)
+    (λ c κs. search needs) (λ c. search needs) (λ c κs. search needs) (λ c. search needs) (λ c. search needs) loop-again (λ c. search needs)
+    (λ c. c .before .before .loop .inv .2 .long) returns-2 (λ c κs. search needs) (λ c. c .before .before .before .loop .inv .2 .long) returns-3)

@@ -30,8 +30,7 @@ cast-result-8 c = omega (arith, c .shared-slice-known8 .given (c .before .before
 pub word-at-spec : {M : Type 1} → statement M
 word-at-spec =
     tie.close (
-    tie.spec (λ c. search needs) (λ c. omega (arith, c .shared-slice-known .given (c .before .args .at))) (λ c. search needs)
-    (λ c. search needs) cast-result-2 (λ c. search needs) (λ c. search needs) cast-result-3 (λ c. search needs)
-    (λ c. search needs) cast-result-4 (λ c. search needs) (λ c. search needs) cast-result-5 (λ c. search needs)
-    (λ c. search needs) cast-result-6 (λ c. search needs) (λ c. search needs) cast-result-7 (λ c. search needs)
-    (λ c. search needs) cast-result-8 (λ c. word-at-joined _ (λ j. c .shared-slice-known8 .given j .fits) _))
+    tie.spec (λ c. search needs) (λ c. omega (arith, c .shared-slice-known .given (c .before .args .at))) (λ c. search needs) (λ c. search needs)
+    cast-result-2 (λ c. search needs) (λ c. search needs) cast-result-3 (λ c. search needs) (λ c. search needs) cast-result-4 (λ c. search needs)
+    (λ c. search needs) cast-result-5 (λ c. search needs) (λ c. search needs) cast-result-6 (λ c. search needs) (λ c. search needs) cast-result-7
+    (λ c. search needs) (λ c. search needs) cast-result-8 (λ c. word-at-joined _ (λ j. c .shared-slice-known8 .given j .fits) _))

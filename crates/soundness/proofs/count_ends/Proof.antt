@@ -105,7 +105,6 @@ returns-3 c =
 pub count-ends-spec : {M : Type 1} → statement M
 count-ends-spec =
     tie.close (
-    tie.spec Inv-loop μ-loop (λ c. search needs) (λ c. search needs) (λ c. search needs) loop-holds (λ c. search needs)
-    (λ c. search needs) cast-b returns cast-is-marked cast-is-marked-2 (λ c κs. search needs) returns-2 mul-later
-    shared-slice-read-later (λ c. search needs) add-later shared-slice-read-high (λ c. search needs) add-high (λ c. search needs)
-    (λ c. search needs) loop-again returns-3)
+    tie.spec Inv-loop μ-loop (λ c. search needs) (λ c. search needs) (λ c. search needs) loop-holds (λ c. search needs) (λ c. search needs) cast-b returns
+    cast-is-marked cast-is-marked-2 (λ c κs. search needs) returns-2 mul-later shared-slice-read-later (λ c. search needs) add-later shared-slice-read-high
+    (λ c. search needs) add-high (λ c. search needs) (λ c. search needs) loop-again returns-3)

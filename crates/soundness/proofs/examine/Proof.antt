@@ -71,5 +71,5 @@ returns-4 c =
 pub examine-spec : {M : Type 1} → statement M
 examine-spec =
     tie.close (
-    tie.spec (λ c κs. search needs) returns place-requires (λ c. search needs) returns-2 rises-requires (λ c. search needs)
-    returns-3 (λ c. search needs) rows-checked-requires (λ c. search needs) (λ c. search needs) returns-4)
+    tie.spec (λ c κs. search needs) returns place-requires (λ c. search needs) returns-2 rises-requires (λ c. search needs) returns-3 (λ c. search needs)
+    rows-checked-requires (λ c. search needs) (λ c. search needs) returns-4)

@@ -98,6 +98,6 @@ returns-3 c =
 pub place-spec : {M : Type 1} → statement M
 place-spec =
     tie.close (
-    tie.spec Inv-loop μ-loop (λ c κs. search needs) loop-holds (λ c. search needs) (λ c. search needs) cast-v same-length returns
-    (λ c. search needs) slice-read-if2 same-length-2 returns-2 cast-places (λ c. search needs) slice-write-places
-    (λ c. search needs) (λ c. search needs) loop-again same-length-3 returns-3)
+    tie.spec Inv-loop μ-loop (λ c κs. search needs) loop-holds (λ c. search needs) (λ c. search needs) cast-v same-length returns (λ c. search needs)
+    slice-read-if2 same-length-2 returns-2 cast-places (λ c. search needs) slice-write-places (λ c. search needs) (λ c. search needs) loop-again same-length-3
+    returns-3)

@@ -8,5 +8,5 @@ use Rattle.soundness.proofs.places_of.Tie as tie
 pub places-of-spec : {M : Type 1} → statement M
 places-of-spec =
     tie.close (
-    tie.spec (λ c. search needs) (λ c. places-none _ _ (omega arith)) (λ c. places-none _ _ (omega arith)) (λ c κs. search needs)
-    (λ c. search needs) (λ c. places-some _ _ _ _ (omega arith) (c .before .before .place .ensures)))
+    tie.spec (λ c. search needs) (λ c. places-none _ _ (omega arith)) (λ c. places-none _ _ (omega arith)) (λ c κs. search needs) (λ c. search needs)
+    (λ c. places-some _ _ _ _ (omega arith) (c .before .before .place .ensures)))

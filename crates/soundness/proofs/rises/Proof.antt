@@ -37,5 +37,5 @@ pub rises-spec : {M : Type 1} → statement M
 rises-spec =
     tie.close (
     tie.spec Inv-loop μ-loop (λ c. rising-none) (λ c. search needs) (λ c. search needs)
-    (λ c. omega (arith, c .shared-slice-known .given (c .before .before .loop .i))) shared-slice-read-x returns
-    (λ c. search needs) (λ c. search needs) loop-again returns-2)
+    (λ c. omega (arith, c .shared-slice-known .given (c .before .before .loop .i))) shared-slice-read-x returns (λ c. search needs) (λ c. search needs)
+    loop-again returns-2)

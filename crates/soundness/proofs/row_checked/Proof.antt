@@ -51,6 +51,5 @@ returns-5 c =
 pub row-checked-spec : {M : Type 1} → statement M
 row-checked-spec =
     tie.close (
-    tie.spec (λ c κs. search needs) (λ c. search needs) returns (λ c. search needs) (λ c κs. search needs) (λ c. search needs)
-    returns-2 (λ c. search needs) cast-number (λ c. search needs) returns-3 (λ c. search needs) returns-4 (λ c. search needs)
-    returns-5)
+    tie.spec (λ c κs. search needs) (λ c. search needs) returns (λ c. search needs) (λ c κs. search needs) (λ c. search needs) returns-2 (λ c. search needs)
+    cast-number (λ c. search needs) returns-3 (λ c. search needs) returns-4 (λ c. search needs) returns-5)

@@ -29,5 +29,5 @@ returns c = fields-last (omega arith) (c .before .before .before .before .before
 pub put-numbers-spec : {M : Type 1} → statement M
 put-numbers-spec =
     tie.close (
-    tie.spec Inv-loop μ-loop (λ c. fields-none (c .before .before .args .numbers .now)) (λ c. omega arith) (λ c κs. tt)
-    (λ c κs. tt) (λ c. omega arith) (λ c. omega arith) loop-again (λ c κs. tt) same-length returns)
+    tie.spec Inv-loop μ-loop (λ c. fields-none (c .before .before .args .numbers .now)) (λ c. omega arith) (λ c κs. tt) (λ c κs. tt) (λ c. omega arith)
+    (λ c. omega arith) loop-again (λ c κs. tt) same-length returns)

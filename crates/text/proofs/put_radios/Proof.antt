@@ -30,5 +30,5 @@ returns c = fields-last (omega arith) (c .before .before .before .before .before
 pub put-radios-spec : {M : Type 1} → statement M
 put-radios-spec =
     tie.close (
-    tie.spec Inv-loop μ-loop (λ c. fields-none (c .before .before .args .radios .now)) (λ c. search needs) (λ c. omega arith)
-    (λ c κs. tt) (λ c κs. tt) (λ c. omega arith) (λ c. omega arith) loop-again (λ c κs. tt) same-length returns)
+    tie.spec Inv-loop μ-loop (λ c. fields-none (c .before .before .args .radios .now)) (λ c. search needs) (λ c. omega arith) (λ c κs. tt) (λ c κs. tt)
+    (λ c. omega arith) (λ c. omega arith) loop-again (λ c κs. tt) same-length returns)

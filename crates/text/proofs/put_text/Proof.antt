@@ -33,5 +33,5 @@ returns c =
 pub put-text-spec : {M : Type 1} → statement M
 put-text-spec =
     tie.close (
-    tie.spec Inv-loop μ-loop (λ c. (omega arith, putting-none)) (λ c. omega arith) (λ c κs. tt) (λ c. omega arith)
-    (λ c. omega arith) loop-again (λ c. length-putting (c .before .loop .inv .1)) returns)
+    tie.spec Inv-loop μ-loop (λ c. (omega arith, putting-none)) (λ c. omega arith) (λ c κs. tt) (λ c. omega arith) (λ c. omega arith) loop-again
+    (λ c. length-putting (c .before .loop .inv .1)) returns)

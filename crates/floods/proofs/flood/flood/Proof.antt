@@ -105,8 +105,6 @@ returns-2 c =
 pub flood-spec : {M : Type 1} → statement M
 flood-spec =
     tie.close (
-    tie.spec Inv-loop μ-loop (λ c κs. search needs) returns (λ c κs. search needs) cast-queue slice-write-queue
-    (λ c. (refl, refl, refl, λ old h. h)) mul-a slice-read-a
-    (λ c. omega (arith, c .slice-known4 .given (c .before .before .loop .i))) (λ c. sym (c .before .before .before .loop .inv .0))
-    (λ c κs. c .before .before .before .before .before .loop .inv .0) add-i loop-less loop-again same-length same-length-2
-    returns-2)
+    tie.spec Inv-loop μ-loop (λ c κs. search needs) returns (λ c κs. search needs) cast-queue slice-write-queue (λ c. (refl, refl, refl, λ old h. h)) mul-a
+    slice-read-a (λ c. omega (arith, c .slice-known4 .given (c .before .before .loop .i))) (λ c. sym (c .before .before .before .loop .inv .0))
+    (λ c κs. c .before .before .before .before .before .loop .inv .0) add-i loop-less loop-again same-length same-length-2 returns-2)

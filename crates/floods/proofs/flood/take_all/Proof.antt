@@ -33,6 +33,5 @@ returns c =
 pub take-all-spec : {M : Type 1} → statement M
 take-all-spec =
     tie.close (
-    tie.spec Inv-loop μ-loop (λ c. taking-none _ _ _ _) (λ c. search needs) (λ c. search needs) (λ c κs. search needs)
-    (λ c. search needs) (λ c. search needs) loop-again (λ c. c .before .loop .inv .set-long)
-    (λ c. c .before .loop .inv .queue-long) returns)
+    tie.spec Inv-loop μ-loop (λ c. taking-none _ _ _ _) (λ c. search needs) (λ c. search needs) (λ c κs. search needs) (λ c. search needs) (λ c. search needs)
+    loop-again (λ c. c .before .loop .inv .set-long) (λ c. c .before .loop .inv .queue-long) returns)

@@ -2,7 +2,7 @@
 use mathlib.Core.Path.{refl, sym, _∙_}
 use borrow.Author.Tests.{lt-ltb, le-ltb}
 use borrow.Author.Needs.{needs}
-use Rattle.calls.specs.Answers.{Block-contract, Block-accepted, Block-none}
+use Rattle.calls.specs.Contracts.Images.{Block-contract, Block-accepted, Block-none}
 use Rattle.calls.proofs.ContractLaws.{by-accepted, by-refused}
 use Rattle.image.proofs.blocks.block.Statement.{statement}
 use Rattle.image.proofs.blocks.block.Tie as tie

@@ -29,6 +29,5 @@ returns c =
 pub link-at-spec : {M : Type 1} → statement M
 link-at-spec =
     tie.close (
-    tie.spec (λ c κs. search needs) add-first add-at (λ c. search needs) (λ c. search needs) (λ c. search needs)
-    (λ c. search needs) (λ c. search needs) (λ c. search needs) (λ c κs. search needs) (λ c. search needs) (λ c κs. search needs)
-    returns)
+    tie.spec (λ c κs. search needs) add-first add-at (λ c. search needs) (λ c. search needs) (λ c. search needs) (λ c. search needs) (λ c. search needs)
+    (λ c. search needs) (λ c κs. search needs) (λ c. search needs) (λ c κs. search needs) returns)

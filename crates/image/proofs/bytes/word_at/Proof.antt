@@ -20,5 +20,4 @@ returns-2 c = (omega arith, omega arith)
 pub word-at-spec : {M : Type 1} → statement M
 word-at-spec =
     tie.close (
-    tie.spec returns (λ c κs. search needs) (λ c. search needs) (λ c κs. search needs) (λ c. search needs) (λ c. search needs)
-    returns-2)
+    tie.spec returns (λ c κs. search needs) (λ c. search needs) (λ c κs. search needs) (λ c. search needs) (λ c. search needs) returns-2)

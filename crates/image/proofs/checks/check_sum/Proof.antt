@@ -25,6 +25,5 @@ loop-again c = summing-turn _ _ _ _ (c .before .before .before .loop .inv) (omeg
 pub check-sum-spec : {M : Type 1} → statement M
 check-sum-spec =
     tie.close (
-    tie.spec Inv-loop μ-loop (λ c κs. search needs) (λ c. summing-none _) (λ c. search needs) (λ c κs. search needs)
-    (λ c. search needs) (λ c. search needs) mul-sum add-sum-2 (λ c. search needs) (λ c. search needs) loop-again
-    (λ c. summing-end _ _ _ (c .before .loop .inv) (omega arith)))
+    tie.spec Inv-loop μ-loop (λ c κs. search needs) (λ c. summing-none _) (λ c. search needs) (λ c κs. search needs) (λ c. search needs) (λ c. search needs)
+    mul-sum add-sum-2 (λ c. search needs) (λ c. search needs) loop-again (λ c. summing-end _ _ _ (c .before .loop .inv) (omega arith)))

@@ -44,5 +44,5 @@ returns-2 c = sym (testing-end _ _ _ (c .before .loop .inv) (omega arith))
 pub are-formed-spec : {M : Type 1} → statement M
 are-formed-spec =
     tie.close (
-    tie.spec Inv-loop μ-loop (λ c. testing-none _ _) (λ c κs. search needs) (λ c κs. (omega arith, c .plan-of .ensures .2))
-    returns (λ c. search needs) (λ c. search needs) loop-again returns-2)
+    tie.spec Inv-loop μ-loop (λ c. testing-none _ _) (λ c κs. search needs) (λ c κs. (omega arith, c .plan-of .ensures .2)) returns (λ c. search needs)
+    (λ c. search needs) loop-again returns-2)

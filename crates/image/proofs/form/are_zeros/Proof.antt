@@ -35,5 +35,5 @@ returns-2 c = sym (testing-end _ _ _ (c .before .loop .inv) (omega arith))
 pub are-zeros-spec : {M : Type 1} → statement M
 are-zeros-spec =
     tie.close (
-    tie.spec Inv-loop μ-loop (λ c. testing-none _ _) (λ c. search needs) (λ c. search needs) returns (λ c. search needs)
-    (λ c. search needs) loop-again returns-2)
+    tie.spec Inv-loop μ-loop (λ c. testing-none _ _) (λ c. search needs) (λ c. search needs) returns (λ c. search needs) (λ c. search needs) loop-again
+    returns-2)

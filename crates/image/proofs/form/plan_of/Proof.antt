@@ -44,6 +44,5 @@ returns-3 c =
 pub plan-of-spec : {M : Type 1} → statement M
 plan-of-spec =
     tie.close (
-    tie.spec (λ c. let p = plan-counts _ _ _ (c .if1 .taken) in (p .0, p .1, omega arith)) (λ c. search needs)
-    (λ c κs. search needs) mul-least sub-least (λ c κs. search needs) (λ c. search needs) returns-2 mul-least-2 sub-least-2
-    (λ c κs. search needs) (λ c. search needs) returns-3)
+    tie.spec (λ c. let p = plan-counts _ _ _ (c .if1 .taken) in (p .0, p .1, omega arith)) (λ c. search needs) (λ c κs. search needs) mul-least sub-least
+    (λ c κs. search needs) (λ c. search needs) returns-2 mul-least-2 sub-least-2 (λ c κs. search needs) (λ c. search needs) returns-3)

@@ -39,5 +39,5 @@ returns c = linking-end _ _ _ _ _ (c .before .loop .inv .2) (c .before .loop .in
 pub put-links-spec : {M : Type 1} → statement M
 put-links-spec =
     tie.close (
-    tie.spec Inv-loop μ-loop (λ c κs. search needs) loop-holds (λ c κs. search needs) (λ c κs. search needs) (λ c. search needs)
-    (λ c. search needs) loop-again same-length returns)
+    tie.spec Inv-loop μ-loop (λ c κs. search needs) loop-holds (λ c κs. search needs) (λ c κs. search needs) (λ c. search needs) (λ c. search needs)
+    loop-again same-length returns)

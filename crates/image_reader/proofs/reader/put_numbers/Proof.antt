@@ -20,6 +20,5 @@ loop-again c = writing-turn 8 _ _ _ _ _ (c .before .before .loop .inv) (omega ar
 pub put-numbers-spec : {M : Type 1} → statement M
 put-numbers-spec =
     tie.close (
-    tie.spec Inv-loop μ-loop (λ c. writing-none 8 _ _) (λ c. search needs) (λ c. search needs) (λ c. search needs)
-    (λ c. search needs) (λ c. search needs) (λ c. search needs) loop-again (λ c. c .before .loop .inv .long)
-    (λ c. writing-all 8 _ _ _ _ (c .before .loop .inv) (omega arith)))
+    tie.spec Inv-loop μ-loop (λ c. writing-none 8 _ _) (λ c. search needs) (λ c. search needs) (λ c. search needs) (λ c. search needs) (λ c. search needs)
+    (λ c. search needs) loop-again (λ c. c .before .loop .inv .long) (λ c. writing-all 8 _ _ _ _ (c .before .loop .inv) (omega arith)))

@@ -125,6 +125,6 @@ returns-3 c =
 pub read-spec : {M : Type 1} → statement M
 read-spec =
     tie.close (
-    tie.spec (λ c κs. search needs) returns (λ c κs. search needs) returns-2 array-borrow-prefix-listed slice-aggregate-read-site
-    array-borrow-prefix-ranks slice-aggregate-read-site-2 array-borrow-prefix-counts slice-aggregate-read-site-3
-    read-site-requires (λ c. search needs) (λ c. search needs) (λ c. search needs) returns-3)
+    tie.spec (λ c κs. search needs) returns (λ c κs. search needs) returns-2 array-borrow-prefix-listed slice-aggregate-read-site array-borrow-prefix-ranks
+    slice-aggregate-read-site-2 array-borrow-prefix-counts slice-aggregate-read-site-3 read-site-requires (λ c. search needs) (λ c. search needs)
+    (λ c. search needs) returns-3)

@@ -42,5 +42,5 @@ loop-again c =
 pub are-listed-spec : {M : Type 1} → statement M
 are-listed-spec =
     tie.close (
-    tie.spec Inv-loop μ-loop (λ c. listed-none _ _ _) (λ c κs. search needs) returns returns-2 (λ c κs. search needs) returns-3
-    (λ c. search needs) (λ c. search needs) loop-again (λ c. sym (listed-end _ _ _ _ _ _ (c .before .loop .inv) (omega arith))))
+    tie.spec Inv-loop μ-loop (λ c. listed-none _ _ _) (λ c κs. search needs) returns returns-2 (λ c κs. search needs) returns-3 (λ c. search needs)
+    (λ c. search needs) loop-again (λ c. sym (listed-end _ _ _ _ _ _ (c .before .loop .inv) (omega arith))))

@@ -7,6 +7,5 @@ use Rattle.image_reader.proofs.site.bump.Tie as tie
 pub bump-spec : {M : Type 1} → statement M
 bump-spec =
     tie.close (
-    tie.spec (λ c. search needs) (λ c. search needs) (λ c. search needs) (λ c. search needs) (λ c. search needs)
-    (λ c. search needs) (λ c. search needs) (λ c. search needs) (λ c. rw (c .if1 .taken)) (λ c. search needs)
-    (λ c. rw (c .if1 .left, add-zero)))
+    tie.spec (λ c. search needs) (λ c. search needs) (λ c. search needs) (λ c. search needs) (λ c. search needs) (λ c. search needs) (λ c. search needs)
+    (λ c. search needs) (λ c. rw (c .if1 .taken)) (λ c. search needs) (λ c. rw (c .if1 .left, add-zero)))

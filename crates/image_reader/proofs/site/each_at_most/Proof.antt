@@ -30,6 +30,5 @@ loop-again c =
 pub each-at-most-spec : {M : Type 1} → statement M
 each-at-most-spec =
     tie.close (
-    tie.spec Inv-loop μ-loop (λ c. testing-none _ _) (λ c. search needs) (λ c. search needs) (λ c. search needs)
-    (λ c. search needs) returns (λ c. search needs) (λ c. search needs) loop-again
-    (λ c. sym (testing-end _ _ _ (c .before .loop .inv) (omega arith))))
+    tie.spec Inv-loop μ-loop (λ c. testing-none _ _) (λ c. search needs) (λ c. search needs) (λ c. search needs) (λ c. search needs) returns
+    (λ c. search needs) (λ c. search needs) loop-again (λ c. sym (testing-end _ _ _ (c .before .loop .inv) (omega arith))))

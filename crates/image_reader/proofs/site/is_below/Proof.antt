@@ -16,5 +16,4 @@ add-result c = omega (arith, c .shared-slice-known2 .given (c .before .before .a
 pub is-below-spec : {M : Type 1} → statement M
 is-below-spec =
     tie.close (
-    tie.spec (λ c. search needs) (λ c. search needs) (λ c. search needs) (λ c. search needs) cast-result cast-result-2 add-result
-    (λ c. search needs))
+    tie.spec (λ c. search needs) (λ c. search needs) (λ c. search needs) (λ c. search needs) cast-result cast-result-2 add-result (λ c. search needs))

@@ -44,5 +44,5 @@ returns-2 c =
 pub is-k-order-spec : {M : Type 1} → statement M
 is-k-order-spec =
     tie.close (
-    tie.spec (λ c κs. search needs) (λ c. search needs) returns (λ c κs. search needs) run-maxima-requires (λ c κs. search needs)
-    (λ c κs. search needs) (λ c. search needs) (λ c. search needs) returns-2)
+    tie.spec (λ c κs. search needs) (λ c. search needs) returns (λ c κs. search needs) run-maxima-requires (λ c κs. search needs) (λ c κs. search needs)
+    (λ c. search needs) (λ c. search needs) returns-2)

@@ -101,6 +101,5 @@ returns-4 c =
 pub is-site-spec : {M : Type 1} → statement M
 is-site-spec =
     tie.close (
-    tie.spec (λ c κs. search needs) returns (λ c κs. search needs) (λ c κs. search needs) returns-2 are-few-requires
-    (λ c. search needs) (λ c. search needs) returns-3 (λ c κs. search needs) is-k-order-requires (λ c. search needs)
-    (λ c. search needs) (λ c. search needs) returns-4)
+    tie.spec (λ c κs. search needs) returns (λ c κs. search needs) (λ c κs. search needs) returns-2 are-few-requires (λ c. search needs) (λ c. search needs)
+    returns-3 (λ c κs. search needs) is-k-order-requires (λ c. search needs) (λ c. search needs) (λ c. search needs) returns-4)

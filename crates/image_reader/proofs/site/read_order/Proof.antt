@@ -25,6 +25,5 @@ returns c = writing-all 16 _ _ _ _ (c .before .loop .inv) (omega arith) ∙ valu
 pub read-order-spec : {M : Type 1} → statement M
 read-order-spec =
     tie.close (
-    tie.spec Inv-loop μ-loop (λ c. writing-none 16 _ _) (λ c. search needs) (λ c κs. search needs) (λ c. search needs)
-    (λ c. search needs) (λ c. search needs) (λ c. search needs) (λ c. search needs) loop-again (λ c. c .before .loop .inv .long)
-    returns)
+    tie.spec Inv-loop μ-loop (λ c. writing-none 16 _ _) (λ c. search needs) (λ c κs. search needs) (λ c. search needs) (λ c. search needs) (λ c. search needs)
+    (λ c. search needs) (λ c. search needs) loop-again (λ c. c .before .loop .inv .long) returns)

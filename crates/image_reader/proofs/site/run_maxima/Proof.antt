@@ -44,6 +44,6 @@ loop-again c =
 pub run-maxima-spec : {M : Type 1} → statement M
 run-maxima-spec =
     tie.close (
-    tie.spec Inv-loop μ-loop (λ c. running-none _ _ _) (λ c. search needs) (λ c. search needs) cast-v mul-larger
-    shared-slice-read-larger (λ c κs. search needs) mul-ranks slice-write-ranks (λ c. search needs) (λ c. search needs) loop-again
-    (λ c. c .before .loop .inv .long) (λ c. running-end _ _ _ _ _ _ (c .before .loop .inv) (omega arith)))
+    tie.spec Inv-loop μ-loop (λ c. running-none _ _ _) (λ c. search needs) (λ c. search needs) cast-v mul-larger shared-slice-read-larger
+    (λ c κs. search needs) mul-ranks slice-write-ranks (λ c. search needs) (λ c. search needs) loop-again (λ c. c .before .loop .inv .long)
+    (λ c. running-end _ _ _ _ _ _ (c .before .loop .inv) (omega arith)))

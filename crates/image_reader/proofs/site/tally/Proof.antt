@@ -86,5 +86,5 @@ returns c = tallying-end _ _ _ _ _ _ _ _ (c .before .loop .inv .2) (c .before .l
 pub tally-spec : {M : Type 1} → statement M
 tally-spec =
     tie.close (
-    tie.spec Inv-loop μ-loop (λ c κs. search needs) loop-holds (λ c κs. search needs) is-below-requires bump-requires
-    is-below-requires-2 bump-requires-2 (λ c. search needs) (λ c. search needs) loop-again same-length returns)
+    tie.spec Inv-loop μ-loop (λ c κs. search needs) loop-holds (λ c κs. search needs) is-below-requires bump-requires is-below-requires-2 bump-requires-2
+    (λ c. search needs) (λ c. search needs) loop-again same-length returns)

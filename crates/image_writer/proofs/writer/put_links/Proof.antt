@@ -71,10 +71,7 @@ pub put-links-spec : {M : Type 1} → statement M
 put-links-spec =
     tie.close (
     tie.spec Inv-loop μ-loop (λ c. (refl, linking-none _ _ _ _ _ (c .before .before .before .pre .2))) (λ c κs. search needs)
-    (λ c. omega (arith, here (c .before .before .before) .within))
-    (λ c. omega (arith, here (c .before .before .before .before) .within))
-    (λ c. omega (arith, here (c .before .before .before .before) .within))
-    (λ c. omega (arith, here (c .before .before .before .before .before) .within)) (λ c. search needs) (λ c κs. search needs)
-    (λ c. search needs) add-place add-if1 (λ c. search needs) (λ c. search needs) returns (λ c. search needs) (λ c. search needs)
-    loop-again (λ c. search needs) (λ c. search needs)
-    (λ c. linking-end _ _ _ _ _ _ _ _ _ (c .before .loop .inv .1) (omega arith)))
+    (λ c. omega (arith, here (c .before .before .before) .within)) (λ c. omega (arith, here (c .before .before .before .before) .within))
+    (λ c. omega (arith, here (c .before .before .before .before) .within)) (λ c. omega (arith, here (c .before .before .before .before .before) .within))
+    (λ c. search needs) (λ c κs. search needs) (λ c. search needs) add-place add-if1 (λ c. search needs) (λ c. search needs) returns (λ c. search needs)
+    (λ c. search needs) loop-again (λ c. search needs) (λ c. search needs) (λ c. linking-end _ _ _ _ _ _ _ _ _ (c .before .loop .inv .1) (omega arith)))

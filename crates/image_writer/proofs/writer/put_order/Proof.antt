@@ -34,6 +34,6 @@ returns c =
 pub put-order-spec : {M : Type 1} → statement M
 put-order-spec =
     tie.close (
-    tie.spec Inv-loop μ-loop (λ c. search needs) (λ c κs. search needs) (λ c. putting-none word 2 length-word _ 4 _)
-    (λ c. search needs) (λ c. search needs) (λ c. search needs) (λ c. search needs) (λ c. search needs) cast-put-word
-    (λ c κs. search needs) (λ c. search needs) (λ c. search needs) loop-again (λ c. c .before .loop .inv .long) returns)
+    tie.spec Inv-loop μ-loop (λ c. search needs) (λ c κs. search needs) (λ c. putting-none word 2 length-word _ 4 _) (λ c. search needs) (λ c. search needs)
+    (λ c. search needs) (λ c. search needs) (λ c. search needs) cast-put-word (λ c κs. search needs) (λ c. search needs) (λ c. search needs) loop-again
+    (λ c. c .before .loop .inv .long) returns)

@@ -60,9 +60,8 @@ loop-again c =
 pub write-blocks-spec : {M : Type 1} → statement M
 write-blocks-spec =
     tie.close (
-    tie.spec Inv-loop μ-loop loop-holds (λ c. omega (arith, c .before .loop .inv .3 .long))
+    tie.spec Inv-loop μ-loop loop-holds (λ c. omega (arith, c .before .loop .inv .3 .long)) (λ c. omega (arith, c .before .loop .inv .3 .long))
     (λ c. omega (arith, c .before .loop .inv .3 .long)) (λ c. omega (arith, c .before .loop .inv .3 .long))
-    (λ c. omega (arith, c .before .loop .inv .3 .long)) (λ c. omega (arith, c .before .loop .inv .3 .long))
-    (λ c. omega (arith, c .before .loop .inv .3 .long)) fill-block-requires (λ c. search needs) (λ c. search needs) loop-again
-    (λ c. c .before .loop .inv .3 .long) (λ c. c .before .loop .inv .1)
+    (λ c. omega (arith, c .before .loop .inv .3 .long)) (λ c. omega (arith, c .before .loop .inv .3 .long)) fill-block-requires (λ c. search needs)
+    (λ c. search needs) loop-again (λ c. c .before .loop .inv .3 .long) (λ c. c .before .loop .inv .1)
     (λ c. filling-end _ _ _ _ _ (c .before .loop .inv .3) (omega arith)))

@@ -37,5 +37,5 @@ returns c =
 pub apply-spec : {M : Type 1} → statement M
 apply-spec =
     tie.close (
-    tie.spec (λ c κs. search needs) list-changed-requires (λ c κs. search needs) (λ c κs. search needs) put-stretch-requires
-    (λ c. search needs) (λ c. search needs) (λ c. search needs) (λ c. search needs) returns)
+    tie.spec (λ c κs. search needs) list-changed-requires (λ c κs. search needs) (λ c κs. search needs) put-stretch-requires (λ c. search needs)
+    (λ c. search needs) (λ c. search needs) (λ c. search needs) returns)

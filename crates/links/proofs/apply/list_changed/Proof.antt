@@ -52,5 +52,5 @@ returns-2 c =
 pub list-changed-spec : {M : Type 1} → statement M
 list-changed-spec =
     tie.close (
-    tie.spec (λ c. search needs) (λ c. search needs) (λ c. search needs) (λ c. search needs) list-ascending-requires
-    (λ c. search needs) returns slice-aggregate-list-ascending list-ascending-requires-2 (λ c. search needs) returns-2)
+    tie.spec (λ c. search needs) (λ c. search needs) (λ c. search needs) (λ c. search needs) list-ascending-requires (λ c. search needs) returns
+    slice-aggregate-list-ascending list-ascending-requires-2 (λ c. search needs) returns-2)

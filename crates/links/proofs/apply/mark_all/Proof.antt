@@ -37,5 +37,5 @@ returns c = folding-end _ _ _ _ _ (c .before .loop .inv) (c .loop-test .left)
 pub mark-all-spec : {M : Type 1} → statement M
 mark-all-spec =
     tie.close (
-    tie.spec Inv-loop μ-loop (λ c. folding-none _ _ _) (λ c. search needs) (λ c. search needs) cast-put-bit (λ c κs. search needs)
-    (λ c. search needs) (λ c. search needs) loop-again same-length returns)
+    tie.spec Inv-loop μ-loop (λ c. folding-none _ _ _) (λ c. search needs) (λ c. search needs) cast-put-bit (λ c κs. search needs) (λ c. search needs)
+    (λ c. search needs) loop-again same-length returns)

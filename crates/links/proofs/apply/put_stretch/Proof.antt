@@ -28,5 +28,5 @@ returns c =
 pub put-stretch-spec : {M : Type 1} → statement M
 put-stretch-spec =
     tie.close (
-    tie.spec (λ c. search needs) (λ c. search needs) slice-aggregate-put-before put-before-requires (λ c. search needs)
-    (λ c. search needs) (λ c. search needs) (λ c. search needs) (λ c κs. search needs) (λ c. search needs) returns)
+    tie.spec (λ c. search needs) (λ c. search needs) slice-aggregate-put-before put-before-requires (λ c. search needs) (λ c. search needs)
+    (λ c. search needs) (λ c. search needs) (λ c κs. search needs) (λ c. search needs) returns)

@@ -19,5 +19,5 @@ apply-requires c κs =
 pub carry-out-spec : {M : Type 1} → statement M
 carry-out-spec =
     tie.close (
-    tie.spec (λ c κs. search needs) apply-requires (λ c. search needs) (λ c. search needs) (λ c. search needs) (λ c. search needs)
-    (λ c. search needs) (λ c. search needs) (λ c. search needs))
+    tie.spec (λ c κs. search needs) apply-requires (λ c. search needs) (λ c. search needs) (λ c. search needs) (λ c. search needs) (λ c. search needs)
+    (λ c. search needs) (λ c. search needs))

@@ -23,5 +23,5 @@ returns c =
 pub begin-spec : {M : Type 1} → statement M
 begin-spec =
     tie.close (
-    tie.spec (λ c. search needs) (λ c κs. begin-a (c .before .before .before .before .before .before .pre)) (λ c. search needs)
-    count-end-requires-2 mark-fitting-requires (λ c. search needs) (λ c. search needs) returns)
+    tie.spec (λ c. search needs) (λ c κs. begin-a (c .before .before .before .before .before .before .pre)) (λ c. search needs) count-end-requires-2
+    mark-fitting-requires (λ c. search needs) (λ c. search needs) returns)

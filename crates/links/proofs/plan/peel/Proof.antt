@@ -53,7 +53,7 @@ returns c = peel-end (c .before .before .before .before .before .before .before 
 pub peel-spec : {M : Type 1} → statement M
 peel-spec =
     tie.close (
-    tie.spec Inv-loop μ-loop (λ c κs. search needs) loop-holds (λ c. search needs) (λ c. search needs) shared-slice-read-v
-    (λ c. search needs) slice-write-list add-taken cast-take-radio take-radio-requires (λ c κs. search needs) loop-less loop-again
-    (λ c. c .before .loop .inv .long-counters) (λ c. c .before .loop .inv .long-fits) (λ c. c .before .loop .inv .long-row)
-    (λ c. c .before .loop .inv .long-near) (λ c. c .before .loop .inv .long-list) returns)
+    tie.spec Inv-loop μ-loop (λ c κs. search needs) loop-holds (λ c. search needs) (λ c. search needs) shared-slice-read-v (λ c. search needs)
+    slice-write-list add-taken cast-take-radio take-radio-requires (λ c κs. search needs) loop-less loop-again (λ c. c .before .loop .inv .long-counters)
+    (λ c. c .before .loop .inv .long-fits) (λ c. c .before .loop .inv .long-row) (λ c. c .before .loop .inv .long-near) (λ c. c .before .loop .inv .long-list)
+    returns)

@@ -42,6 +42,5 @@ returns c =
 pub plan-link-spec : {M : Type 1} → statement M
 plan-link-spec =
     tie.close (
-    tie.spec (λ c κs. plan-level (c .before .before .before .before .before .before .pre .0)) (λ c κs. search needs)
-    (λ c. search needs) begin-requires (λ c. search needs) (λ c. search needs) (λ c. search needs) peel-requires
-    list-stuck-requires (λ c. search needs) (λ c. search needs) returns)
+    tie.spec (λ c κs. plan-level (c .before .before .before .before .before .before .pre .0)) (λ c κs. search needs) (λ c. search needs) begin-requires
+    (λ c. search needs) (λ c. search needs) (λ c. search needs) peel-requires list-stuck-requires (λ c. search needs) (λ c. search needs) returns)

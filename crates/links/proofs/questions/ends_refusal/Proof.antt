@@ -88,5 +88,5 @@ returns-8 c =
 pub ends-refusal-spec : {M : Type 1} → statement M
 ends-refusal-spec =
     tie.close (
-    tie.spec returns returns-2 returns-3 (λ c κs. search needs) returns-4 returns-5 (λ c κs. search needs) returns-6
-    (λ c κs. search needs) returns-7 returns-8)
+    tie.spec returns returns-2 returns-3 (λ c κs. search needs) returns-4 returns-5 (λ c κs. search needs) returns-6 (λ c κs. search needs) returns-7
+    returns-8)

@@ -55,5 +55,5 @@ returns-3 c =
 pub refusal-spec : {M : Type 1} → statement M
 refusal-spec =
     tie.close (
-    tie.spec (λ c κs. search needs) returns (λ c κs. search needs) (λ c. search needs) (λ c. search needs) returns-2
-    ends-refusal-requires (λ c. search needs) (λ c. search needs) returns-3)
+    tie.spec (λ c κs. search needs) returns (λ c κs. search needs) (λ c. search needs) (λ c. search needs) returns-2 ends-refusal-requires (λ c. search needs)
+    (λ c. search needs) returns-3)

@@ -42,6 +42,5 @@ returns c = stretch-end _ _ _ _ _ _ (c .before .before .before .before .before .
 pub list-stuck-spec : {M : Type 1} → statement M
 list-stuck-spec =
     tie.close (
-    tie.spec Inv-loop μ-loop (λ c. stretch-none _ _ _ _ _ _) (λ c. search needs) (λ c. search needs) (λ c. search needs) cast-if1
-    shared-slice-read-if1 (λ c κs. search needs) (λ c. search needs) (λ c. search needs) (λ c. search needs) loop-again
-    (λ c. c .before .loop .inv .long) returns)
+    tie.spec Inv-loop μ-loop (λ c. stretch-none _ _ _ _ _ _) (λ c. search needs) (λ c. search needs) (λ c. search needs) cast-if1 shared-slice-read-if1
+    (λ c κs. search needs) (λ c. search needs) (λ c. search needs) (λ c. search needs) loop-again (λ c. c .before .loop .inv .long) returns)

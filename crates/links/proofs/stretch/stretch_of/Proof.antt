@@ -45,6 +45,5 @@ returns c =
 pub stretch-of-spec : {M : Type 1} → statement M
 stretch-of-spec =
     tie.close (
-    tie.spec Inv-loop μ-loop (λ c. (omega arith, (omega arith, omega arith), (omega arith, omega arith))) (λ c. search needs)
-    (λ c. search needs) add-start (λ c. search needs) (λ c. search needs) add-size (λ c. search needs) (λ c. search needs)
-    loop-again returns)
+    tie.spec Inv-loop μ-loop (λ c. (omega arith, (omega arith, omega arith), (omega arith, omega arith))) (λ c. search needs) (λ c. search needs) add-start
+    (λ c. search needs) (λ c. search needs) add-size (λ c. search needs) (λ c. search needs) loop-again returns)

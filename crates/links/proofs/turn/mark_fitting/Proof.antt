@@ -43,6 +43,5 @@ returns c = fitting-end _ _ _ _ _ _ (c .before .loop .p) _ (omega arith) (c .bef
 pub mark-fitting-spec : {M : Type 1} → statement M
 mark-fitting-spec =
     tie.close (
-    tie.spec Inv-loop μ-loop (λ c. fitting-none _ _ _ _ _ _) (λ c. search needs) (λ c. search needs) (λ c. search needs) cast-v
-    shared-slice-read-if1 (λ c. search needs) (λ c κs. search needs) (λ c. search needs) (λ c. search needs) loop-again
-    (λ c. c .before .loop .inv .long) returns)
+    tie.spec Inv-loop μ-loop (λ c. fitting-none _ _ _ _ _ _) (λ c. search needs) (λ c. search needs) (λ c. search needs) cast-v shared-slice-read-if1
+    (λ c. search needs) (λ c κs. search needs) (λ c. search needs) (λ c. search needs) loop-again (λ c. c .before .loop .inv .long) returns)

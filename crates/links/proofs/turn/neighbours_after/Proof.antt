@@ -34,5 +34,5 @@ returns-3 c =
 pub neighbours-after-spec : {M : Type 1} → statement M
 neighbours-after-spec =
     tie.close (
-    tie.spec end-neighbours-requires (λ c. search needs) (λ c. search needs) returns end-neighbours-requires-2 (λ c. search needs)
-    (λ c. search needs) returns-2 (λ c κs. search needs) (λ c. search needs) returns-3)
+    tie.spec end-neighbours-requires (λ c. search needs) (λ c. search needs) returns end-neighbours-requires-2 (λ c. search needs) (λ c. search needs)
+    returns-2 (λ c κs. search needs) (λ c. search needs) returns-3)

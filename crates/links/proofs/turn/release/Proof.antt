@@ -50,6 +50,5 @@ returns c =
 pub release-spec : {M : Type 1} → statement M
 release-spec =
     tie.close (
-    tie.spec Inv-loop μ-loop loop-holds (λ c. search needs) (λ c. search needs) cast-release-one release-one-requires
-    (λ c. search needs) (λ c. search needs) loop-again (λ c. c .before .loop .inv .long) (λ c. c .before .loop .inv .long-fits)
-    returns)
+    tie.spec Inv-loop μ-loop loop-holds (λ c. search needs) (λ c. search needs) cast-release-one release-one-requires (λ c. search needs) (λ c. search needs)
+    loop-again (λ c. c .before .loop .inv .long) (λ c. c .before .loop .inv .long-fits) returns)

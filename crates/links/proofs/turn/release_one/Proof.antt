@@ -24,6 +24,5 @@ returns-2 c = release-unfit _ _ _ _ _ _ _ (c .before .before .before .if1 .taken
 pub release-one-spec : {M : Type 1} → statement M
 release-one-spec =
     tie.close (
-    tie.spec (λ c. search needs) (λ c. search needs) sub-counters (λ c. search needs) (λ c. search needs) (λ c. search needs)
-    (λ c. search needs) cast-put-bit (λ c κs. search needs) (λ c. search needs) (λ c. search needs) returns (λ c. search needs)
-    returns-2 (λ c. release-other _ _ _ _ _ _ _ (c .if1 .left)))
+    tie.spec (λ c. search needs) (λ c. search needs) sub-counters (λ c. search needs) (λ c. search needs) (λ c. search needs) (λ c. search needs) cast-put-bit
+    (λ c κs. search needs) (λ c. search needs) (λ c. search needs) returns (λ c. search needs) returns-2 (λ c. release-other _ _ _ _ _ _ _ (c .if1 .left)))

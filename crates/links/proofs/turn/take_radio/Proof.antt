@@ -21,5 +21,5 @@ returns c =
 pub take-radio-spec : {M : Type 1} → statement M
 take-radio-spec =
     tie.close (
-    tie.spec (λ c κs. search needs) (λ c κs. search needs) (λ c. search needs) release-requires (λ c. search needs)
-    (λ c. search needs) (λ c. search needs) (λ c. search needs) returns)
+    tie.spec (λ c κs. search needs) (λ c κs. search needs) (λ c. search needs) release-requires (λ c. search needs) (λ c. search needs) (λ c. search needs)
+    (λ c. search needs) returns)

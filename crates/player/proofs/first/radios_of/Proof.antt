@@ -33,5 +33,5 @@ returns-5 c = radios-of-line _ (c .before .before .parse .ensures) (c .enum-told
 pub radios-of-spec : {M : Type 1} → statement M
 radios-of-spec =
     tie.close (
-    tie.spec (λ c κs. search needs) (λ c. search needs) returns (λ c. search needs) (λ c. search needs) (λ c. search needs)
-    returns-2 returns-3 returns-4 returns-5)
+    tie.spec (λ c κs. search needs) (λ c. search needs) returns (λ c. search needs) (λ c. search needs) (λ c. search needs) returns-2 returns-3 returns-4
+    returns-5)

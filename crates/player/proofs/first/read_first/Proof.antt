@@ -10,5 +10,5 @@ use Rattle.player.proofs.first.read_first.Tie as tie
 pub read-first-spec : {M : Type 1} → statement M
 read-first-spec =
     tie.close (
-    tie.spec (λ c. search needs) (λ c κs. search needs) (λ c. search needs) (λ c. sym (length-take-le _ _ (omega arith)))
-    (λ c κs. search needs) (λ c. rw (c .radios-of .ensures) (radios-of-le _)))
+    tie.spec (λ c. search needs) (λ c κs. search needs) (λ c. search needs) (λ c. sym (length-take-le _ _ (omega arith))) (λ c κs. search needs)
+    (λ c. rw (c .radios-of .ensures) (radios-of-le _)))

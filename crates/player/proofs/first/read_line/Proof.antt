@@ -16,7 +16,6 @@ abbrev μ-loop : tie.MeasureT-loop
 pub read-line-spec : {M : Type 1} → statement M
 read-line-spec =
     tie.close (
-    tie.spec Inv-loop μ-loop (λ c. search needs) (λ c κs. search needs) (λ c. search needs) (λ c. search needs)
-    (λ c. search needs) (λ c. search needs) (λ c. search needs) (λ c. search needs) (λ c. simp length-set (omega arith))
-    (λ c. simp length-set (omega arith)) (λ c. (simp length-set (omega arith), simp length-set (omega arith))) (λ c. search needs)
-    (λ c. search needs))
+    tie.spec Inv-loop μ-loop (λ c. search needs) (λ c κs. search needs) (λ c. search needs) (λ c. search needs) (λ c. search needs) (λ c. search needs)
+    (λ c. search needs) (λ c. search needs) (λ c. simp length-set (omega arith)) (λ c. simp length-set (omega arith))
+    (λ c. (simp length-set (omega arith), simp length-set (omega arith))) (λ c. search needs) (λ c. search needs))

@@ -67,9 +67,7 @@ returns-5 c =
 pub take-byte-spec : {M : Type 1} → statement M
 take-byte-spec =
     tie.close (
-    tie.spec returns (λ c κs. search needs) (λ c. search needs) returns-2 (λ c. search needs) (λ c. search needs)
-    (λ c. search needs) returns-3 (λ c. simp length-set (omega arith))
-    (λ c. sym (length-take-le _ _ (simp length-set (omega arith)))) (λ c κs. search needs) (λ c κs. search needs)
-    (λ c. search needs) (λ c. search needs) (λ c. search needs) (λ c. search needs) (λ c. search needs) (λ c. search needs)
-    returns-4 (λ c. search needs) (λ c. search needs) (λ c. search needs) (λ c. search needs) (λ c. search needs)
-    (λ c. search needs) (λ c. search needs) returns-5)
+    tie.spec returns (λ c κs. search needs) (λ c. search needs) returns-2 (λ c. search needs) (λ c. search needs) (λ c. search needs) returns-3
+    (λ c. simp length-set (omega arith)) (λ c. sym (length-take-le _ _ (simp length-set (omega arith)))) (λ c κs. search needs) (λ c κs. search needs)
+    (λ c. search needs) (λ c. search needs) (λ c. search needs) (λ c. search needs) (λ c. search needs) (λ c. search needs) returns-4 (λ c. search needs)
+    (λ c. search needs) (λ c. search needs) (λ c. search needs) (λ c. search needs) (λ c. search needs) (λ c. search needs) returns-5)

@@ -9,5 +9,4 @@ use Rattle.player.proofs.reading.flush.Tie as tie
 pub flush-spec : {M : Type 1} → statement M
 flush-spec =
     tie.close (
-    tie.spec (λ c. sym (length-take-le _ _ (omega arith))) (λ c κs. search needs) (λ c. search needs) (λ c κs. search needs)
-    (λ c. search needs))
+    tie.spec (λ c. sym (length-take-le _ _ (omega arith))) (λ c κs. search needs) (λ c. search needs) (λ c κs. search needs) (λ c. search needs))

@@ -7,6 +7,5 @@ pub read-all-spec : {M : Type 1} → statement M
 read-all-spec =
     tie.close (
     tie.spec (λ c. search needs) (λ c. search needs)
-    (λ c κs. (search needs, (search needs, c .before .before .before .before .before .before .before .before .before .before .pre)))
-    (λ c. search needs) (λ c κs. search needs) (λ c. search needs) (λ c. search needs) (λ c. search needs) (λ c. search needs)
-    (λ c. search needs))
+    (λ c κs. (search needs, (search needs, c .before .before .before .before .before .before .before .before .before .before .pre))) (λ c. search needs)
+    (λ c κs. search needs) (λ c. search needs) (λ c. search needs) (λ c. search needs) (λ c. search needs) (λ c. search needs))

@@ -8,5 +8,5 @@ use Rattle.player.proofs.reading.read_chunk.Tie as tie
 pub read-chunk-spec : {M : Type 1} → statement M
 read-chunk-spec =
     tie.close (
-    tie.spec (λ c κs. search needs) (λ c. search needs) (λ c. sym (length-take-le _ _ (search needs))) (λ c κs. search needs)
-    (λ c κs. search needs) (λ c. search needs) (λ c. search needs))
+    tie.spec (λ c κs. search needs) (λ c. search needs) (λ c. sym (length-take-le _ _ (search needs))) (λ c κs. search needs) (λ c κs. search needs)
+    (λ c. search needs) (λ c. search needs))

@@ -71,7 +71,6 @@ returns-2 c =
 pub read-turns-spec : {M : Type 1} → statement M
 read-turns-spec =
     tie.close (
-    tie.spec Inv-loop μ-loop loop-holds (λ c. search needs) turn-requires (λ c. search needs) loop-again (λ c. search needs)
-    (λ c. search needs) (λ c. search needs) (λ c. search needs) (λ c. search needs) (λ c. search needs) returns
-    (λ c. search needs) (λ c. search needs) (λ c. search needs) (λ c. search needs) (λ c. search needs) (λ c. search needs)
-    returns-2)
+    tie.spec Inv-loop μ-loop loop-holds (λ c. search needs) turn-requires (λ c. search needs) loop-again (λ c. search needs) (λ c. search needs)
+    (λ c. search needs) (λ c. search needs) (λ c. search needs) (λ c. search needs) returns (λ c. search needs) (λ c. search needs) (λ c. search needs)
+    (λ c. search needs) (λ c. search needs) (λ c. search needs) returns-2)

@@ -55,6 +55,5 @@ returns c =
 pub take-chunk-spec : {M : Type 1} → statement M
 take-chunk-spec =
     tie.close (
-    tie.spec Inv-loop μ-loop loop-holds (λ c. search needs) (λ c. search needs) take-byte-requires (λ c κs. search needs)
-    (λ c. search needs) loop-again (λ c. search needs) (λ c. search needs) (λ c. search needs) (λ c. search needs)
-    (λ c. search needs) (λ c. search needs) returns)
+    tie.spec Inv-loop μ-loop loop-holds (λ c. search needs) (λ c. search needs) take-byte-requires (λ c κs. search needs) (λ c. search needs) loop-again
+    (λ c. search needs) (λ c. search needs) (λ c. search needs) (λ c. search needs) (λ c. search needs) (λ c. search needs) returns)

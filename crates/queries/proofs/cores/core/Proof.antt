@@ -29,5 +29,5 @@ returns-2 c =
 pub core-spec : {M : Type 1} → statement M
 core-spec =
     tie.close (
-    tie.spec (λ c κs. search needs) returns cast-flood (λ c. search needs) (λ c. search needs) (λ c κs. search needs)
-    (λ c. search needs) (λ c κs. search needs) (λ c. search needs) returns-2)
+    tie.spec (λ c κs. search needs) returns cast-flood (λ c. search needs) (λ c. search needs) (λ c κs. search needs) (λ c. search needs)
+    (λ c κs. search needs) (λ c. search needs) returns-2)

@@ -42,5 +42,5 @@ pub first-of-two-spec : {M : Type 1} → statement M
 first-of-two-spec =
     tie.close (
     tie.spec Inv-loop μ-loop (λ c. refl) (λ c. search needs) (λ c. search needs)
-    (λ c. omega (arith, c .shared-slice-known .given (c .before .before .loop .i))) returns returns-2 (λ c. search needs)
-    (λ c. search needs) loop-again returns-3)
+    (λ c. omega (arith, c .shared-slice-known .given (c .before .before .loop .i))) returns returns-2 (λ c. search needs) (λ c. search needs) loop-again
+    returns-3)

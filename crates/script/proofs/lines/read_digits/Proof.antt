@@ -56,5 +56,5 @@ returns-4 c =
 pub read-digits-spec : {M : Type 1} → statement M
 read-digits-spec =
     tie.close (
-    tie.spec Inv-loop μ-loop (λ c. (omega arith, omega arith, refl)) (λ c. omega arith) (λ c κs. tt) returns returns-2
-    (λ c. omega arith) (λ c. omega arith) (λ c κs. tt) returns-3 (λ c. omega arith) (λ c. omega arith) loop-again returns-4)
+    tie.spec Inv-loop μ-loop (λ c. (omega arith, omega arith, refl)) (λ c. omega arith) (λ c κs. tt) returns returns-2 (λ c. omega arith) (λ c. omega arith)
+    (λ c κs. tt) returns-3 (λ c. omega arith) (λ c. omega arith) loop-again returns-4)

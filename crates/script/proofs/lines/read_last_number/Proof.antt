@@ -43,5 +43,5 @@ returns-5 c =
 pub read-last-number-spec : {M : Type 1} → statement M
 read-last-number-spec =
     tie.close (
-    tie.spec (λ c κs. tt) (λ c κs. tt) returns (λ c κs. tt) returns-2 (λ c. omega arith) (λ c κs. tt) returns-3 (λ c. omega arith)
-    (λ c κs. tt) returns-4 returns-5)
+    tie.spec (λ c κs. tt) (λ c κs. tt) returns (λ c κs. tt) returns-2 (λ c. omega arith) (λ c κs. tt) returns-3 (λ c. omega arith) (λ c κs. tt) returns-4
+    returns-5)

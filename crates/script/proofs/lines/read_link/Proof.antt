@@ -45,5 +45,4 @@ returns-6 c =
 pub read-link-spec : {M : Type 1} → statement M
 read-link-spec =
     tie.close (
-    tie.spec (λ c κs. search needs) returns returns-2 (λ c. search needs) returns-3 (λ c. search needs) (λ c κs. search needs)
-    returns-4 returns-5 returns-6)
+    tie.spec (λ c κs. search needs) returns returns-2 (λ c. search needs) returns-3 (λ c. search needs) (λ c κs. search needs) returns-4 returns-5 returns-6)

@@ -42,5 +42,5 @@ returns-3 c =
 pub starts-with-spec : {M : Type 1} → statement M
 starts-with-spec =
     tie.close (
-    tie.spec Inv-loop μ-loop (λ c. (omega arith, refl)) returns (λ c. omega arith) (λ c. omega arith) returns-2 (λ c. omega arith)
-    (λ c. omega arith) loop-again returns-3)
+    tie.spec Inv-loop μ-loop (λ c. (omega arith, refl)) returns (λ c. omega arith) (λ c. omega arith) returns-2 (λ c. omega arith) (λ c. omega arith)
+    loop-again returns-3)

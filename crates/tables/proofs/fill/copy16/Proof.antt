@@ -19,6 +19,6 @@ loop-again c =
 pub copy16-spec : {M : Type 1} → statement M
 copy16-spec =
     tie.close (
-    tie.spec Inv-loop μ-loop (λ c κs. search needs) (λ c. copying-none 16 _ _) (λ c. search needs) (λ c. search needs)
-    (λ c. search needs) (λ c. search needs) (λ c. search needs) (λ c. search needs) loop-again
-    (λ c. c .before .loop .inv .writing .long) (λ c. copying-end 16 _ _ _ _ (c .before .loop .inv) (omega arith)))
+    tie.spec Inv-loop μ-loop (λ c κs. search needs) (λ c. copying-none 16 _ _) (λ c. search needs) (λ c. search needs) (λ c. search needs) (λ c. search needs)
+    (λ c. search needs) (λ c. search needs) loop-again (λ c. c .before .loop .inv .writing .long)
+    (λ c. copying-end 16 _ _ _ _ (c .before .loop .inv) (omega arith)))

@@ -19,6 +19,5 @@ loop-again c =
 pub copy8-spec : {M : Type 1} → statement M
 copy8-spec =
     tie.close (
-    tie.spec Inv-loop μ-loop (λ c κs. search needs) (λ c. copying-none 8 _ _) (λ c. search needs) (λ c. search needs)
-    (λ c. search needs) (λ c. search needs) loop-again (λ c. c .before .loop .inv .writing .long)
-    (λ c. copying-end 8 _ _ _ _ (c .before .loop .inv) (omega arith)))
+    tie.spec Inv-loop μ-loop (λ c κs. search needs) (λ c. copying-none 8 _ _) (λ c. search needs) (λ c. search needs) (λ c. search needs) (λ c. search needs)
+    loop-again (λ c. c .before .loop .inv .writing .long) (λ c. copying-end 8 _ _ _ _ (c .before .loop .inv) (omega arith)))

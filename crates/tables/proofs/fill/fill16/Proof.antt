@@ -26,5 +26,5 @@ returns c = writing-constant 16 _ _ _ _ (c .before .loop .inv) (omega arith) (c 
 pub fill16-spec : {M : Type 1} → statement M
 fill16-spec =
     tie.close (
-    tie.spec Inv-loop μ-loop (λ c. writing-none 16 _ _) (λ c. search needs) (λ c. search needs) (λ c. search needs)
-    (λ c. search needs) loop-again (λ c. c .before .loop .inv .long) returns)
+    tie.spec Inv-loop μ-loop (λ c. writing-none 16 _ _) (λ c. search needs) (λ c. search needs) (λ c. search needs) (λ c. search needs) loop-again
+    (λ c. c .before .loop .inv .long) returns)

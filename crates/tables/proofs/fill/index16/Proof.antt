@@ -17,6 +17,6 @@ abbrev μ-loop : tie.MeasureT-loop
 pub index16-spec : {M : Type 1} → statement M
 index16-spec =
     tie.close (
-    tie.spec Inv-loop μ-loop (λ c. writing-none 16 _ _) (λ c. search needs) (λ c. search needs) (λ c. search needs)
-    (λ c. search needs) (λ c. search needs) (λ c. writing-turn 16 _ _ _ _ _ (c .before .loop .inv) (omega arith) refl)
-    (λ c. c .before .loop .inv .long) (λ c. writing-all 16 _ _ _ _ (c .before .loop .inv) (omega arith)))
+    tie.spec Inv-loop μ-loop (λ c. writing-none 16 _ _) (λ c. search needs) (λ c. search needs) (λ c. search needs) (λ c. search needs) (λ c. search needs)
+    (λ c. writing-turn 16 _ _ _ _ _ (c .before .loop .inv) (omega arith) refl) (λ c. c .before .loop .inv .long)
+    (λ c. writing-all 16 _ _ _ _ (c .before .loop .inv) (omega arith)))

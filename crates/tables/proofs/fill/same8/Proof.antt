@@ -28,6 +28,5 @@ loop-again c =
 pub same8-spec : {M : Type 1} → statement M
 same8-spec =
     tie.close (
-    tie.spec Inv-loop μ-loop (λ c. sym (same-lengths _ _ (c .if1 .taken))) (λ c. comparing-none _ _ (c .if1 .left))
-    (λ c. search needs) (λ c. search needs) returns-2 (λ c. search needs) (λ c. search needs) loop-again
-    (λ c. sym (comparing-end _ _ _ (c .before .loop .inv) (omega arith))))
+    tie.spec Inv-loop μ-loop (λ c. sym (same-lengths _ _ (c .if1 .taken))) (λ c. comparing-none _ _ (c .if1 .left)) (λ c. search needs) (λ c. search needs)
+    returns-2 (λ c. search needs) (λ c. search needs) loop-again (λ c. sym (comparing-end _ _ _ (c .before .loop .inv) (omega arith))))

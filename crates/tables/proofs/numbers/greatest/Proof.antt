@@ -25,5 +25,4 @@ returns c = greatest-end (c .before .before .before .args .numbers .now) (c .bef
 pub greatest-spec : {M : Type 1} → statement M
 greatest-spec =
     tie.close (
-    tie.spec Inv-loop μ-loop (λ c. omega arith) (λ c. search needs) (λ c κs. search needs) (λ c. search needs) (λ c. search needs)
-    loop-again returns)
+    tie.spec Inv-loop μ-loop (λ c. omega arith) (λ c. search needs) (λ c κs. search needs) (λ c. search needs) (λ c. search needs) loop-again returns)

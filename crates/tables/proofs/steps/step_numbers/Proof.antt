@@ -48,5 +48,5 @@ returns c =
 pub step-numbers-spec : {M : Type 1} → statement M
 step-numbers-spec =
     tie.close (
-    tie.spec Inv-loop μ-loop (λ c κs. search needs) (λ c. folding-none _ _ _) (λ c. search needs) (λ c. search needs) cast-step-at
-    (λ c κs. search needs) (λ c. search needs) (λ c. search needs) loop-again same-length returns)
+    tie.spec Inv-loop μ-loop (λ c κs. search needs) (λ c. folding-none _ _ _) (λ c. search needs) (λ c. search needs) cast-step-at (λ c κs. search needs)
+    (λ c. search needs) (λ c. search needs) loop-again same-length returns)

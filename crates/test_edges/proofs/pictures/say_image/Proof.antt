@@ -8,5 +8,4 @@ use Rattle.test_edges.proofs.pictures.say_image.Tie as tie
 pub say-image-spec : {M : Type 1} → statement M
 say-image-spec =
     tie.close (
-    tie.spec (λ c κs. search needs) (λ c. search needs) (λ c. sym (length-take-le _ _ (search needs))) (λ c κs. search needs)
-    (λ c. search needs))
+    tie.spec (λ c κs. search needs) (λ c. search needs) (λ c. sym (length-take-le _ _ (search needs))) (λ c κs. search needs) (λ c. search needs))

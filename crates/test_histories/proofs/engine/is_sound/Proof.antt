@@ -8,6 +8,6 @@ use Rattle.test_histories.proofs.engine.is_sound.Tie as tie
 pub is-sound-spec : {M : Type 1} → statement M
 is-sound-spec =
     tie.close (
-    tie.spec (λ c. search needs) (λ c κs. search needs) (λ c κs. search needs) (λ c κs. search needs)
-    (λ c. sym (length-take-le _ _ (search needs))) (λ c. sym (length-take-le _ _ (search needs)))
-    (λ c. sym (length-take-le _ _ (search needs))) (λ c κs. search needs) (λ c. search needs) (λ c. search needs))
+    tie.spec (λ c. search needs) (λ c κs. search needs) (λ c κs. search needs) (λ c κs. search needs) (λ c. sym (length-take-le _ _ (search needs)))
+    (λ c. sym (length-take-le _ _ (search needs))) (λ c. sym (length-take-le _ _ (search needs))) (λ c κs. search needs) (λ c. search needs)
+    (λ c. search needs))

@@ -93,7 +93,7 @@ Slice = RefT (List ℕ)
 
 module _ {M : Type 1} (𝓤 : URA M) (H : Heap 𝓤) (A : Atoms 𝓤) (W : Given 𝓤 H A) (mem : Memory → SProp 𝓤) (run : Routine → Fun 𝓤) (κ : Lft) (q : Share)
     (s : Slice) (i : ℕ) (i-fits : i < 2 ^ 64) (h : ℕ) (h-fits : h < 2 ^ 64) where
-  -- the structs' types, and those of locals
+  -- the types of the structs and of locals
   abbrev α : NamedLft
   α = namedLft 1 0 tt (κ, tt)
 
@@ -189,7 +189,7 @@ module _ {M : Type 1} (𝓤 : URA M) (H : Heap 𝓤) (A : Atoms 𝓤) (W : Given
   -- of what a step owns, what its part owns
   part : (t : BlockStep) → ent 𝓤 (sem 𝓤 H A (G .own t (S′.lowered t ∷ []))) (sem 𝓤 H A (Sl .own (t .part) (m (t .part) ∷ [])))
   part t =
-      let D : Declared = S.the-type α in let L : LL.Laws D = S′.the-laws α in let vt : Values (D .parts) = (t .part, (t .status, (t .next, tt))) in
+      let D : Declared = S.the-type α in let L : LL.Laws D = S′.the-laws α in let vt : Values (D .parts) = (t .part, (t .number, (t .end, (t .next, tt)))) in
       qed W (‵ (G .own t (S′.lowered t ∷ [])) ∷ []) ∵
       use1 W (given (S′.lowered t ∷ [] ≡ S′.lowered t ∷ []) (‵ (all-own (D .parts) L vt))) (own-open 𝓤 H A W D L vt (S′.lowered t)) $
       learn ! (λ _. use1 W (‵ (ownAt (D .parts) L 0 (t .part)) ⊛ ‵ (rest (D .parts) L 0 vt)) (own-out 𝓤 H A W (D .parts) L 0 vt) $ split ! $ move ! (1 ∷ []) $ drop ! $ by ! (id⊢ 𝓤 _))
@@ -197,20 +197,27 @@ module _ {M : Type 1} (𝓤 : URA M) (H : Heap 𝓤) (A : Atoms 𝓤) (W : Given
   -- ---- `noted` is passed the parts of a reader r, a step t and a reader e
 
   module _ (r : BlockReader) (t : BlockStep) (e : BlockReader) where
-    abbrev args : ℕ × (ℕ × (ℕ × (Slice × (ℕ × (ℕ × Unit {0})))))
-    args = (h, (r .next, (t .status, (t .part, (t .next, (e .next, tt))))))
+    abbrev args : ℕ × (ℕ × (ℕ × (ℕ × (Slice × (ℕ × (ℕ × Unit {0}))))))
+    args = (h, (r .next, (t .number, (t .end, (t .part, (t .next, (e .next, tt)))))))
 
     abbrev values : Vals noting.signature (κ, tt)
-    values = (vint w64 h ∷ [], (vint w64 (r .next) ∷ [], (vint w32 (t .status) ∷ [], (m (t .part) ∷ [], (vint w64 (t .next) ∷ [], (vint w64 (e .next) ∷ [], tt))))))
+    values = (
+      vint w64 h ∷ [],
+      (
+        vint w64 (r .next) ∷ [],
+        (vint w32 (t .number) ∷ [], (vint w32 (t .end) ∷ [], (m (t .part) ∷ [], (vint w64 (t .next) ∷ [], (vint w64 (e .next) ∷ [], tt))))),
+      ),
+    )
 
     abbrev to-note : Notes 𝓤 H A mem run .Ghost
     to-note = (((κ, tt), (q, tt), tt, args, values), tt)
 
-    notes : r .next < 2 ^ 64 → t .status < 2 ^ 32 → t .next < 2 ^ 64 → e .next < 2 ^ 64
+    notes : r .next < 2 ^ 64 → t .number < 2 ^ 32 → t .end < 2 ^ 32 → t .next < 2 ^ 64 → e .next < 2 ^ 64
         → ent 𝓤 (⋆ 𝓤 H A (Token ∷ ‵ (Sl .own (t .part) (m (t .part) ∷ [])) ∷ [])) (Notes 𝓤 H A mem run .pre to-note)
-    notes r-fits x-fits t-fits e-fits =
+    notes r-fits number-fits end-fits t-fits e-fits =
         qed W (Token ∷ ‵ (Sl .own (t .part) (m (t .part) ∷ [])) ∷ []) ∵ nothing ! $ owned ! usize (Is usize) (uint-makes 𝓤 H A W w64) (e .next) _ (refl, e-fits) $ fjoin ! $
-        owned ! usize (Is usize) (uint-makes 𝓤 H A W w64) (t .next) _ (refl, t-fits) $ fjoin ! $ move ! (2 ∷ 0 ∷ []) $ fjoin ! $ owned ! u32 (Is u32) (uint-makes 𝓤 H A W w32) (t .status) _ (refl, x-fits) $ fjoin ! $
+        owned ! usize (Is usize) (uint-makes 𝓤 H A W w64) (t .next) _ (refl, t-fits) $ fjoin ! $ move ! (2 ∷ 0 ∷ []) $ fjoin ! $
+        owned ! u32 (Is u32) (uint-makes 𝓤 H A W w32) (t .end) _ (refl, end-fits) $ fjoin ! $ owned ! u32 (Is u32) (uint-makes 𝓤 H A W w32) (t .number) _ (refl, number-fits) $ fjoin ! $
         owned ! usize (Is usize) (uint-makes 𝓤 H A W w64) (r .next) _ (refl, r-fits) $ fjoin ! $ owned ! u64 (Is u64) (uint-makes 𝓤 H A W w64) h _ (refl, h-fits) $ fjoin ! $
         move ! (1 ∷ 0 ∷ []) $ join ! $ frame ! $ done !
 
@@ -226,52 +233,55 @@ module _ {M : Type 1} (𝓤 : URA M) (H : Heap 𝓤) (A : Atoms 𝓤) (W : Given
     walk : Is Sl s (m s ∷ []) → ent 𝓤 (onEntry 𝓤 H A stepping.signature (κ, tt) (q, tt) arg vals) (WpFn 𝓤 H C Λ code.function (m s ∷ vint w64 i ∷ vint w64 h ∷ []) Post)
     walk p =
         qed W (Token ∷ ‵ (owns (Sl ∷ usize ∷ u64 ∷ []) arg vals) ∷ []) ∵ enter ! C Λ code.function (m s ∷ vint w64 i ∷ vint w64 h ∷ []) _ $
-        alloc1 ! (λ l₀. alloc1 ! (λ l₁. alloc1 ! (λ l₂. alloc1 ! (λ l₃. alloc1 ! (λ l₄. alloc1 ! (λ l₅. alloc1 ! (λ l₆. alloc1 ! (λ l₇. alloc1 ! (λ l₈. alloc1 ! (λ l₉. alloc1 ! (λ l₁₀. alloc1 ! (λ l₁₁. alloc1 ! (λ l₁₂. alloc1 ! (λ l₁₃. alloc1 ! (λ l₁₄. alloc0 ! $ params1 ! $
-        pass1 ! (init ! 26 refl (shr-slice-lawful 𝓤 H A W (named 0) κ u8 .typed s (m s ∷ []) p .0)) $ pass1 ! (init ! 24 refl (tt, record { fits = i-fits })) $ pass1 ! (init ! 22 refl (tt, record { fits = h-fits })) $ pass0 ! $
-        move ! (31 ∷ []) $ fsplit ! $ move ! (1 ∷ []) $ drop ! $ move ! (31 ∷ 0 ∷ []) $
-        -- [the token; what the image owns; _14; …; _0; …]
+        alloc1 ! (λ l₀. alloc1 ! (λ l₁. alloc1 ! (λ l₂. alloc1 ! (λ l₃. alloc1 ! (λ l₄. alloc1 ! (λ l₅. alloc1 ! (λ l₆. alloc1 ! (λ l₇. alloc1 ! (λ l₈. alloc1 ! (λ l₉. alloc1 ! (λ l₁₀. alloc1 ! (λ l₁₁. alloc1 ! (λ l₁₂. alloc1 ! (λ l₁₃. alloc1 ! (λ l₁₄. alloc1 ! (λ l₁₅. alloc0 ! $ params1 ! $
+        pass1 ! (init ! 28 refl (shr-slice-lawful 𝓤 H A W (named 0) κ u8 .typed s (m s ∷ []) p .0)) $ pass1 ! (init ! 26 refl (tt, record { fits = i-fits })) $ pass1 ! (init ! 24 refl (tt, record { fits = h-fits })) $ pass0 ! $
+        move ! (33 ∷ []) $ fsplit ! $ move ! (1 ∷ []) $ drop ! $ move ! (33 ∷ 0 ∷ []) $
+        -- [the token; what the image owns; _15; …; _0; …]
         use2 W (raw (Opens 𝓤 H A mem run .pre to-open) ⊛ ‵ Own) opens $ split ! $
-        calls-at ! fm (Opens 𝓤 H A mem run) known-open to-open (and-then ! (load ! (from ! (stop !)) (look ! 28 refl)) (no-more !)) (λ u.
+        calls-at ! fm (Opens 𝓤 H A mem run) known-open to-open (and-then ! (load ! (from ! (stop !)) (look ! 30 refl)) (no-more !)) (λ u.
         use1 W (later (some (λ (r : BlockReader). (Token ⊛ ‵ (B .own r (u ∷ []))) ⊛ raw (ensured 𝓤 H A opening.ended (opening.clauses 𝓤 H A mem run) (κ, tt) (s, tt) tt r)))) (id⊢ 𝓤 _) $ await ! tt $ pick ! (λ r.
         split ! $ move ! (1 ∷ []) $ drop ! $ split ! $ move ! (1 ∷ []) $ peeks ! B (Is B) (shows 𝓤 H A B) r (u ∷ []) (λ is.
-        land ! (from ! (stop !)) (init ! 23 refl (LL.lawful (T.the-type αᵉ) (T′.the-laws αᵉ) 𝓤 H A W .typed r _ is .0)) $
-        rewrite ! 23 (λ (z : Val). ‵ (fat fullShare (T′.mir erased) l₄ 0 z)) (ap only (told r u is)) refl $ drop ! $
+        land ! (from ! (stop !)) (init ! 25 refl (LL.lawful (T.the-type αᵉ) (T′.the-laws αᵉ) 𝓤 H A W .typed r _ is .0)) $
+        rewrite ! 25 (λ (z : Val). ‵ (fat fullShare (T′.mir erased) l₄ 0 z)) (ap only (told r u is)) refl $ drop ! $
         -- the reader of block i, and a copy for each call
-        assigns ! (agg ! (and-then ! (load ! (from ! (stop !)) (look ! 28 refl)) (and-then ! (load ! (from ! (stop !)) (look ! 26 refl)) (no-more !)))) (from ! (stop !)) (init ! 20 refl (tt, (shr-slice-lawful 𝓤 H A W (named 0) κ u8 .typed s (m s ∷ []) p .0 .1, (record { fits = i-fits }, tt)))) $
-        assigns ! (of-opd ! (load ! (from ! (stop !)) (look ! 20 refl))) (from ! (stop !)) (init ! 14 refl (tt, (shr-slice-lawful 𝓤 H A W (named 0) κ u8 .typed s (m s ∷ []) p .0 .1, (record { fits = i-fits }, tt)))) $
+        assigns ! (agg ! (and-then ! (load ! (from ! (stop !)) (look ! 30 refl)) (and-then ! (load ! (from ! (stop !)) (look ! 28 refl)) (no-more !)))) (from ! (stop !)) (init ! 22 refl (tt, (shr-slice-lawful 𝓤 H A W (named 0) κ u8 .typed s (m s ∷ []) p .0 .1, (record { fits = i-fits }, tt)))) $
+        assigns ! (of-opd ! (load ! (from ! (stop !)) (look ! 22 refl))) (from ! (stop !)) (init ! 16 refl (tt, (shr-slice-lawful 𝓤 H A W (named 0) κ u8 .typed s (m s ∷ []) p .0 .1, (record { fits = i-fits }, tt)))) $
         use2 W (raw (Gives 𝓤 H A mem run .pre to-give) ⊛ ‵ Own) (hands _ gives) $ split ! $
-        calls-at ! fm (Gives 𝓤 H A mem run) known-give to-give (and-then ! (load ! (from ! (stop !)) (look ! 14 refl)) (no-more !)) (λ u₂.
+        calls-at ! fm (Gives 𝓤 H A mem run) known-give to-give (and-then ! (load ! (from ! (stop !)) (look ! 16 refl)) (no-more !)) (λ u₂.
         use1 W (later (some (λ (t : BlockStep). (Token ⊛ ‵ (G .own t (u₂ ∷ []))) ⊛ raw (ensured 𝓤 H A giving.ended (giving.clauses 𝓤 H A mem run) (κ, tt) (d, tt) tt t)))) (id⊢ 𝓤 _) $ await ! tt $ pick ! (λ t.
         split ! $ move ! (1 ∷ []) $ drop ! $ split ! $ move ! (1 ∷ []) $ peeks ! G (Is G) (shows 𝓤 H A G) t (u₂ ∷ []) (λ is₂.
-        land ! (from ! (stop !)) (init ! 19 refl (LL.lawful (S.the-type αᵉ) (S′.the-laws αᵉ) 𝓤 H A W .typed t _ is₂ .0)) $
-        rewrite ! 19 (λ (z : Val). ‵ (fat fullShare (S′.mir erased) l₆ 0 z)) (ap only (told-step t u₂ is₂)) refl $
+        land ! (from ! (stop !)) (init ! 21 refl (LL.lawful (S.the-type αᵉ) (S′.the-laws αᵉ) 𝓤 H A W .typed t _ is₂ .0)) $
+        rewrite ! 21 (λ (z : Val). ‵ (fat fullShare (S′.mir erased) l₆ 0 z)) (ap only (told-step t u₂ is₂)) refl $
         rewrite ! 0 (λ (z : List Val). ‵ (G .own t z)) (told-step t u₂ is₂) refl $ use1 W (‵ (Sl .own (t .part) (m (t .part) ∷ []))) (part t) $ move ! (1 ∷ 2 ∷ []) $
-        -- [the token; what the image owns; what the part owns; _14; …; _0; …]
-        assigns ! (of-opd ! (load ! (from ! (stop !)) (look ! 21 refl))) (from ! (stop !)) (init ! 13 refl (tt, (shr-slice-lawful 𝓤 H A W (named 0) κ u8 .typed s (m s ∷ []) p .0 .1, (record { fits = i-fits }, tt)))) $
+        -- [the token; what the image owns; what the part owns; _15; …; _0; …]
+        assigns ! (of-opd ! (load ! (from ! (stop !)) (look ! 23 refl))) (from ! (stop !)) (init ! 15 refl (tt, (shr-slice-lawful 𝓤 H A W (named 0) κ u8 .typed s (m s ∷ []) p .0 .1, (record { fits = i-fits }, tt)))) $
         use2 W (raw (Moves 𝓤 H A mem run .pre to-give) ⊛ ‵ Own) (hands _ moves) $ split ! $
-        calls-at ! fm (Moves 𝓤 H A mem run) known-move to-give (and-then ! (load ! (from ! (stop !)) (look ! 13 refl)) (no-more !)) (λ u₃.
+        calls-at ! fm (Moves 𝓤 H A mem run) known-move to-give (and-then ! (load ! (from ! (stop !)) (look ! 15 refl)) (no-more !)) (λ u₃.
         use1 W (later (some (λ (e : BlockReader). (Token ⊛ ‵ (B .own e (u₃ ∷ []))) ⊛ raw (ensured 𝓤 H A moving.ended (moving.clauses 𝓤 H A mem run) (κ, tt) (d, tt) tt e)))) (id⊢ 𝓤 _) $ await ! tt $ pick ! (λ e.
         split ! $ move ! (1 ∷ []) $ drop ! $ split ! $ move ! (1 ∷ []) $ peeks ! B (Is B) (shows 𝓤 H A B) e (u₃ ∷ []) (λ is₃.
-        land ! (from ! (stop !)) (init ! 18 refl (LL.lawful (T.the-type αᵉ) (T′.the-laws αᵉ) 𝓤 H A W .typed e _ is₃ .0)) $
-        rewrite ! 18 (λ (z : Val). ‵ (fat fullShare (T′.mir erased) l₇ 0 z)) (ap only (told e u₃ is₃)) refl $ drop ! $
+        land ! (from ! (stop !)) (init ! 20 refl (LL.lawful (T.the-type αᵉ) (T′.the-laws αᵉ) 𝓤 H A W .typed e _ is₃ .0)) $
+        rewrite ! 20 (λ (z : Val). ‵ (fat fullShare (T′.mir erased) l₇ 0 z)) (ap only (told e u₃ is₃)) refl $ drop ! $
         -- taken apart
-        assigns ! (of-opd ! (load ! (from ! (fld ! refl (stop !))) (look-in ! 23 (sub ! 1 refl (whole !))))) (from ! (stop !)) (init ! 11 refl (tt, reader-wt r u is .1 .1 .0)) $
-        assigns ! (of-opd ! (load ! (from ! (fld ! refl (stop !))) (look-in ! 19 (sub ! 1 refl (whole !))))) (from ! (stop !)) (init ! 9 refl (tt, step-wt t u₂ is₂ .1 .1 .0)) $
-        assigns ! (of-opd ! (load ! (from ! (fld ! refl (stop !))) (look-in ! 19 (sub ! 0 refl (whole !))))) (from ! (stop !)) (init ! 7 refl (tt, step-wt t u₂ is₂ .1 .0)) $
-        assigns ! (of-opd ! (load ! (from ! (fld ! refl (stop !))) (look-in ! 19 (sub ! 2 refl (whole !))))) (from ! (stop !)) (init ! 5 refl (tt, step-wt t u₂ is₂ .1 .1 .1 .0)) $
-        assigns ! (of-opd ! (load ! (from ! (fld ! refl (stop !))) (look-in ! 17 (sub ! 1 refl (whole !))))) (from ! (stop !)) (init ! 3 refl (tt, reader-wt e u₃ is₃ .1 .1 .0)) $
+        assigns ! (of-opd ! (load ! (from ! (fld ! refl (stop !))) (look-in ! 25 (sub ! 1 refl (whole !))))) (from ! (stop !)) (init ! 13 refl (tt, reader-wt r u is .1 .1 .0)) $
+        assigns ! (of-opd ! (load ! (from ! (fld ! refl (stop !))) (look-in ! 21 (sub ! 1 refl (whole !))))) (from ! (stop !)) (init ! 11 refl (tt, step-wt t u₂ is₂ .1 .1 .0)) $
+        assigns ! (of-opd ! (load ! (from ! (fld ! refl (stop !))) (look-in ! 21 (sub ! 2 refl (whole !))))) (from ! (stop !)) (init ! 9 refl (tt, step-wt t u₂ is₂ .1 .1 .1 .0)) $
+        assigns ! (of-opd ! (load ! (from ! (fld ! refl (stop !))) (look-in ! 21 (sub ! 0 refl (whole !))))) (from ! (stop !)) (init ! 7 refl (tt, step-wt t u₂ is₂ .1 .0)) $
+        assigns ! (of-opd ! (load ! (from ! (fld ! refl (stop !))) (look-in ! 21 (sub ! 3 refl (whole !))))) (from ! (stop !)) (init ! 5 refl (tt, step-wt t u₂ is₂ .1 .1 .1 .1 .0)) $
+        assigns ! (of-opd ! (load ! (from ! (fld ! refl (stop !))) (look-in ! 19 (sub ! 1 refl (whole !))))) (from ! (stop !)) (init ! 3 refl (tt, reader-wt e u₃ is₃ .1 .1 .0)) $
         move ! (0 ∷ 2 ∷ []) $
-        use2 W (raw (Notes 𝓤 H A mem run .pre (to-note r t e))) (notes r t e (reader-wt r u is .1 .1 .0 .fits) (step-wt t u₂ is₂ .1 .1 .0 .fits) (step-wt t u₂ is₂ .1 .1 .1 .0 .fits) (reader-wt e u₃ is₃ .1 .1 .0 .fits)) $
-        -- [what `noted` asks; what the image owns; _14; …; _0; …]
-        calls-at ! fm (Notes 𝓤 H A mem run) known-note (to-note r t e) (and-then ! (load ! (from ! (stop !)) (look ! 24 refl)) (and-then ! (load ! (from ! (stop !)) (look ! 10 refl)) (and-then ! (load ! (from ! (stop !)) (look ! 8 refl)) (and-then ! (load ! (from ! (stop !)) (look ! 6 refl)) (and-then ! (load ! (from ! (stop !)) (look ! 4 refl)) (and-then ! (load ! (from ! (stop !)) (look ! 2 refl)) (no-more !))))))) (λ u₄.
+        use2 W (raw (Notes 𝓤 H A mem run .pre (to-note r t e))) (notes r t e (reader-wt r u is .1 .1 .0 .fits) (step-wt t u₂ is₂ .1 .1 .0 .fits) (step-wt t u₂ is₂ .1 .1 .1 .0 .fits)
+        (step-wt t u₂ is₂ .1 .1 .1 .1 .0 .fits) (reader-wt e u₃ is₃ .1 .1 .0 .fits)) $
+        -- [what `noted` asks; what the image owns; _15; …; _0; …]
+        calls-at ! fm (Notes 𝓤 H A mem run) known-note (to-note r t e) (and-then ! (load ! (from ! (stop !)) (look ! 26 refl)) (and-then ! (load ! (from ! (stop !)) (look ! 12 refl)) (and-then ! (load ! (from ! (stop !)) (look ! 10 refl)) (and-then ! (load ! (from ! (stop !)) (look ! 8 refl)) (and-then ! (load ! (from ! (stop !)) (look ! 6 refl)) (and-then ! (load ! (from ! (stop !)) (look ! 4 refl)) (and-then ! (load ! (from ! (stop !)) (look ! 2 refl)) (no-more !)))))))) (λ u₄.
         use1 W (later (some (λ (x : ℕ). (Token ⊛ ‵ (u64 .own x (u₄ ∷ []))) ⊛ raw (ensured 𝓤 H A noting.ended (noting.clauses 𝓤 H A mem run) (κ, tt) (args r t e) tt x)))) (id⊢ 𝓤 _) $ await ! tt $ pick ! (λ x.
         split ! $ move ! (1 ∷ []) $ drop ! $ split ! $ move ! (1 ∷ []) $ peeks ! u64 (Is u64) (shows 𝓤 H A u64) x (u₄ ∷ []) (λ is₄.
-        land ! (from ! (stop !)) (init ! 31 refl (uint-lawful 𝓤 H A W w64 .typed x _ is₄ .0)) $ returns ! (look ! 31 refl) $
-        forget ! 31 refl $ forget ! 29 refl $ forget ! 27 refl $ forget ! 25 refl $ forget ! 23 refl $ forget ! 21 refl $ forget ! 19 refl $ forget ! 17 refl $ forget ! 15 refl $ forget ! 13 refl $
-        forget ! 11 refl $ forget ! 9 refl $ forget ! 7 refl $ forget ! 5 refl $ forget ! 3 refl $ move ! (31 ∷ 32 ∷ []) $ free1 ! $ move ! (29 ∷ 30 ∷ []) $ free1 ! $ move ! (27 ∷ 28 ∷ []) $ free1 ! $
-        move ! (25 ∷ 26 ∷ []) $ free1 ! $ move ! (23 ∷ 24 ∷ []) $ free1 ! $ move ! (21 ∷ 22 ∷ []) $ free1 ! $ move ! (19 ∷ 20 ∷ []) $ free1 ! $ move ! (17 ∷ 18 ∷ []) $ free1 ! $
-        move ! (15 ∷ 16 ∷ []) $ free1 ! $ move ! (13 ∷ 14 ∷ []) $ free1 ! $ move ! (11 ∷ 12 ∷ []) $ free1 ! $ move ! (9 ∷ 10 ∷ []) $ free1 ! $ move ! (7 ∷ 8 ∷ []) $ free1 ! $
-        move ! (5 ∷ 6 ∷ []) $ free1 ! $ move ! (3 ∷ 4 ∷ []) $ free1 ! $ free0 ! $ by ! (exits x u₄))))))))))))))))))))))))))))
+        land ! (from ! (stop !)) (init ! 33 refl (uint-lawful 𝓤 H A W w64 .typed x _ is₄ .0)) $ returns ! (look ! 33 refl) $
+        forget ! 33 refl $ forget ! 31 refl $ forget ! 29 refl $ forget ! 27 refl $ forget ! 25 refl $ forget ! 23 refl $ forget ! 21 refl $ forget ! 19 refl $
+        forget ! 17 refl $ forget ! 15 refl $ forget ! 13 refl $ forget ! 11 refl $ forget ! 9 refl $ forget ! 7 refl $ forget ! 5 refl $ forget ! 3 refl $
+        move ! (33 ∷ 34 ∷ []) $ free1 ! $ move ! (31 ∷ 32 ∷ []) $ free1 ! $ move ! (29 ∷ 30 ∷ []) $ free1 ! $ move ! (27 ∷ 28 ∷ []) $ free1 ! $
+        move ! (25 ∷ 26 ∷ []) $ free1 ! $ move ! (23 ∷ 24 ∷ []) $ free1 ! $ move ! (21 ∷ 22 ∷ []) $ free1 ! $ move ! (19 ∷ 20 ∷ []) $ free1 ! $
+        move ! (17 ∷ 18 ∷ []) $ free1 ! $ move ! (15 ∷ 16 ∷ []) $ free1 ! $ move ! (13 ∷ 14 ∷ []) $ free1 ! $ move ! (11 ∷ 12 ∷ []) $ free1 ! $
+        move ! (9 ∷ 10 ∷ []) $ free1 ! $ move ! (7 ∷ 8 ∷ []) $ free1 ! $ move ! (5 ∷ 6 ∷ []) $ free1 ! $ move ! (3 ∷ 4 ∷ []) $ free1 ! $ free0 ! $ by ! (exits x u₄)))))))))))))))))))))))))))))
 
 module _ {M : Type 1} (𝓤 : URA M) (H : Heap 𝓤) (A : Atoms 𝓤) (W : Given 𝓤 H A) (mem : Memory → SProp 𝓤) (run : Routine → Fun 𝓤) where
   step-walks : (C : Calls 𝓤 H) (Λ : Loops 𝓤 H) → FmC 𝓤 H (W .laws) C → Triple 𝓤 (C #image·blocks·open) (Opens 𝓤 H A mem run) → Triple 𝓤 (C #image·blocks·step) (Gives 𝓤 H A mem run)
@@ -296,4 +306,4 @@ step-spec 𝓤 H 𝓜 𝓖 𝓡 =
     (cited 𝓤 H (Opens 𝓤 H (𝓖 .A) (𝓜 .mem) (𝓡 .run)) 𝓜 𝓡 code.env #image·blocks·open opening-def.routine code.calls-image·blocks·open (opening-thm.met 𝓤 H 𝓜 𝓖 𝓡))
     (cited 𝓤 H (Gives 𝓤 H (𝓖 .A) (𝓜 .mem) (𝓡 .run)) 𝓜 𝓡 code.env #image·blocks·step giving-def.routine code.calls-image·blocks·step (giving-thm.met 𝓤 H 𝓜 𝓖 𝓡))
     (cited 𝓤 H (Moves 𝓤 H (𝓖 .A) (𝓜 .mem) (𝓡 .run)) 𝓜 𝓡 code.env #image·blocks·moved moving-def.routine code.calls-image·blocks·moved (moving-thm.met 𝓤 H 𝓜 𝓖 𝓡))
-    (cited 𝓤 H (Notes 𝓤 H (𝓖 .A) (𝓜 .mem) (𝓡 .run)) 𝓜 𝓡 code.env #images·held·noted noting-def.routine code.calls-images·held·noted (noting-thm.met 𝓤 H 𝓜 𝓖 𝓡)))
+    (cited 𝓤 H (Notes 𝓤 H (𝓖 .A) (𝓜 .mem) (𝓡 .run)) 𝓜 𝓡 code.env #images·held·noted noting-def.routine code.calls-test-images·held·noted (noting-thm.met 𝓤 H 𝓜 𝓖 𝓡)))

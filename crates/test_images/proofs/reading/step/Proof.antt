@@ -20,5 +20,5 @@ part-part-end c =
 pub step-spec : {M : Type 1} → statement M
 step-spec =
     tie.close (
-    tie.spec (λ c κs. search needs) (λ c κs. search needs) add-end (λ c. search needs) (λ c. search needs) part-part-end
-    (λ c κs. search needs) (λ c κs. search needs) (λ c κs. search needs) (λ c. search needs))
+    tie.spec (λ c κs. search needs) (λ c κs. search needs) add-end (λ c. search needs) (λ c. search needs) part-part-end (λ c κs. search needs)
+    (λ c κs. search needs) (λ c κs. search needs) (λ c. search needs))

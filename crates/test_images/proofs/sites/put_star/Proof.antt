@@ -19,5 +19,5 @@ loop-again c = ap length (c .before .before .put-link .ensures) ∙ simp length-
 pub put-star-spec : {M : Type 1} → statement M
 put-star-spec =
     tie.close (
-    tie.spec Inv-loop μ-loop (λ c. search needs) (λ c κs. search needs) (λ c. search needs) (λ c. search needs) loop-again
-    (λ c. c .before .loop .inv) (λ c. search needs))
+    tie.spec Inv-loop μ-loop (λ c. search needs) (λ c κs. search needs) (λ c. search needs) (λ c. search needs) loop-again (λ c. c .before .loop .inv)
+    (λ c. search needs))

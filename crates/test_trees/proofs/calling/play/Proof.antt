@@ -16,5 +16,5 @@ same-length-3 c = (c .before .before .before .before .before .before .before .be
 pub play-spec : {M : Type 1} → statement M
 play-spec =
     tie.close (
-    tie.spec (λ c κs. search needs) (λ c κs. search needs) (λ c κs. search needs) (λ c κs. search needs) (λ c κs. search needs)
-    same-length same-length-2 same-length-3 (λ c. search needs) (λ c. search needs))
+    tie.spec (λ c κs. search needs) (λ c κs. search needs) (λ c κs. search needs) (λ c κs. search needs) (λ c κs. search needs) same-length same-length-2
+    same-length-3 (λ c. search needs) (λ c. search needs))

@@ -68,7 +68,6 @@ pub grow-spec : {M : Type 1} → statement M
 grow-spec =
     tie.close (
     tie.spec Inv-loop μ-loop (λ c κs. search needs) (λ c κs. search needs) (λ c κs. search needs) (λ c. search needs)
-    (λ c. (refl, refl, search needs, search needs, treeing-none _ _ _))
-    (λ c. omega (arith, c .loop-test .taken, c .before .loop .inv .2)) (λ c. sym (c .before .before .loop .inv .0))
-    (λ c. sym (c .before .before .before .loop .inv .1)) take-level-requires (λ c. search needs) (λ c. search needs) loop-again
-    same-length same-length-2 same-length-3 same-length-4 returns)
+    (λ c. (refl, refl, search needs, search needs, treeing-none _ _ _)) (λ c. omega (arith, c .loop-test .taken, c .before .loop .inv .2))
+    (λ c. sym (c .before .before .loop .inv .0)) (λ c. sym (c .before .before .before .loop .inv .1)) take-level-requires (λ c. search needs)
+    (λ c. search needs) loop-again same-length same-length-2 same-length-3 same-length-4 returns)

@@ -50,7 +50,6 @@ returns c =
 pub take-level-spec : {M : Type 1} → statement M
 take-level-spec =
     tie.close (
-    tie.spec Inv-loop μ-loop (λ c κs. search needs) (λ c. levelling-none _ _ _ _ _ _ _) cast-visit visit-requires
-    (λ c. search needs) (λ c. search needs) loop-again same-length (λ c. c .before .loop .inv .queue-long)
-    (λ c. c .before .loop .inv .lengths .names) (λ c. c .before .loop .inv .lengths .levels)
+    tie.spec Inv-loop μ-loop (λ c κs. search needs) (λ c. levelling-none _ _ _ _ _ _ _) cast-visit visit-requires (λ c. search needs) (λ c. search needs)
+    loop-again same-length (λ c. c .before .loop .inv .queue-long) (λ c. c .before .loop .inv .lengths .names) (λ c. c .before .loop .inv .lengths .levels)
     (λ c. c .before .loop .inv .lengths .parents) (λ c. c .before .loop .inv .lengths .answer) returns)

@@ -26,5 +26,5 @@ returns c =
 pub fill-front-spec : {M : Type 1} → statement M
 fill-front-spec =
     tie.close (
-    tie.spec Inv-loop μ-loop (λ c κs. search needs) (λ c. (writing-none 16 _ _, omega arith)) (λ c. search needs)
-    (λ c. search needs) (λ c. search needs) (λ c. search needs) loop-again (λ c. c .before .loop .inv .0 .long) returns)
+    tie.spec Inv-loop μ-loop (λ c κs. search needs) (λ c. (writing-none 16 _ _, omega arith)) (λ c. search needs) (λ c. search needs) (λ c. search needs)
+    (λ c. search needs) loop-again (λ c. c .before .loop .inv .0 .long) returns)

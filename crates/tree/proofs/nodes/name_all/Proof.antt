@@ -38,5 +38,5 @@ returns c =
 pub name-all-spec : {M : Type 1} → statement M
 name-all-spec =
     tie.close (
-    tie.spec Inv-loop μ-loop (λ c. folding-none _ _ _) (λ c. search needs) (λ c. search needs) cast-put16 (λ c κs. search needs)
-    (λ c. search needs) (λ c. search needs) loop-again same-length returns)
+    tie.spec Inv-loop μ-loop (λ c. folding-none _ _ _) (λ c. search needs) (λ c. search needs) cast-put16 (λ c κs. search needs) (λ c. search needs)
+    (λ c. search needs) loop-again same-length returns)

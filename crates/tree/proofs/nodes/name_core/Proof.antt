@@ -12,5 +12,4 @@ returns c =
 pub name-core-spec : {M : Type 1} → statement M
 name-core-spec =
     tie.close (
-    tie.spec (λ c κs. search needs) (λ c κs. search needs) (λ c κs. search needs) (λ c. search needs) (λ c. search needs)
-    (λ c. search needs) returns)
+    tie.spec (λ c κs. search needs) (λ c κs. search needs) (λ c κs. search needs) (λ c. search needs) (λ c. search needs) (λ c. search needs) returns)

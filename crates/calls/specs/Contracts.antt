@@ -1,0 +1,9 @@
+-- The contract of each public call, by subject.
+
+pub mod Forms
+pub mod Sites
+pub mod Links
+pub mod Radios
+pub mod Cores
+pub mod Trees
+pub mod Images
