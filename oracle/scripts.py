@@ -113,7 +113,7 @@ SCRIPTS = {
     "radios-space-at-the-front": b" radios 4\nup 0 1\n",
     "radios-carriage-return": b"radios 4\r\nup 0 1\n",
     "radios-byte-255": b"radios 4\xff\nup 0 1\n",
-    "radios-255-in-front": b"\xffradios 4\nup 0 1\n",
+    "radios-255-first": b"\xffradios 4\nup 0 1\n",
     "radios-255-for-line-feed": b"radios 4\xffup 0 1\n",
     "second-radios": START + b"radios 4\nup 1 2\n",
     "leading-zero": START + b"up 00 1\n",

@@ -67,7 +67,7 @@ outcome (linking up n a b w) l ps =
     (outcome-of (reported up (changed up a b (graph n ps)) ∷ []) none (switch up a b ∷ []))
 outcome other l ps = outcome-of [] none []
 
--- the pairs that an outcome begins from, where ps are those before it
+-- the pairs that an outcome begins from, where ps are the pairs before it
 unfoldable pub first-pairs : Option (List Link) → (pairs : List Link) → List Link
 first-pairs none ps = ps
 first-pairs (some qs) ps = qs

@@ -1,6 +1,6 @@
 -- What a caller has after an accepted call, in document 01's words: property 2. The proofs are in proofs/Accepted.antt.
 --   Numbers-right     numbers are core numbers of a graph by the largest group, and the order is a k-order of it
---   Site-right        document 01: sound tables are exactly those with proper rows, core numbers and a k-order
+--   Site-right        document 01: sound tables are exactly the ones with proper rows, core numbers and a k-order
 --   Link-right        after a link call: the graph in the new links table, its rows, numbers and order
 --   Listed            a list of radios in front of a lent list
 --   Core-listed, Backbone-listed   the radios listed
@@ -78,12 +78,12 @@ pub record Written-right (n : ℕ) (t : Tables) (size : ℕ) (w x : List ℕ) : 
 
 pub record Read-right (n : ℕ) (image : List ℕ) (v : Tables) : Type 0 where
   pub is-sound : sound n v ≡ true
-  -- the links are those that the image lists, numbers and order are right for them, and written again they give the same bytes
+  -- the links are the ones that the image lists, numbers and order are right for them, and written again they give the same bytes
   pub graph : graph-in n (v .links) ≡ image-graph n image
   pub right : Numbers-right (image-graph n image) v
   pub same-bytes : image-of (image-graph n image) (v .order) ≡ image
 
--- block i is given: its payload is those 504 bytes of the image, which lie in it, and the reader moves to the next block
+-- block i is given: its payload is 504 bytes of the image, which lie in it, and the reader moves to the next block
 pub record Block-part (image : List ℕ) (i : ℕ) (r : Block) : Type 0 where
   pub is-block : i < length image / block-bytes
   pub not-end : r .end ≡ 0

@@ -41,7 +41,7 @@ passing-turn list a i p h b =
     go j (inl e) = rw e b
     go j (inr q) = p .below j q
 
--- of a list that rises, the entries above a are those from the first on
+-- of a list that rises, the entries above a are the ones from the first on
 pub above-first : (xs : List ℕ) (a r : ℕ) → Rising (λ v. v) xs → First-above xs a r → filter (ltb a) xs ≡ drop r xs
 unfolding filter
 above-first [] a zero h f = refl

@@ -48,7 +48,7 @@ pub record First-above (list : List ℕ) (a r : ℕ) : Type 0 where
   pub below : (j : ℕ) → j < r → getD list j 0 ≤ a
   pub above : r < length list → a < getD list r 0
 
--- the entries of the list from place s to before place e are those above a of the neighbours that fit it
+-- the entries of the list from place s to before place e are the ones above a of the neighbours that fit it
 pub record Span-of (links : List ℕ) (a : ℕ) (list : List ℕ) (s e : ℕ) : Type 0 where
   pub start : s ≤ e
   pub end : e ≤ length list

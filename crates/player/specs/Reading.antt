@@ -78,7 +78,7 @@ pub record Site-cleared (n : ℕ) (t : Tables) (w : List ℕ) : Type 0 where
   pub is-cleared : t ≡ cleared n
   pub answer-zero : w ≡ replicate n 0
 
--- the tables that the closing lines print are those of a site
+-- the tables that the closing lines print are as long as a site
 pub record Site-sized (numbers order : List ℕ) : Type 0 where
   pub numbers-few : length numbers ≤ max-radios
   pub order-few : length order ≤ max-radios

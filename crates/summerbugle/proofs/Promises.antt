@@ -95,7 +95,7 @@ pub record Calls-promised (M : Type 1) : Type 2 where
   pub tree : Promised sb-tree M
   pub image-write : Promised sb-image-write M
   pub image-block : Promised sb-image-block M
-  -- the block reader in document 01's own form: the part given back lies in the image, and is those 504 bytes of it
+  -- the block reader in document 01's own form: the part given back lies in the image, and is its 504 bytes of payload
   pub reader-open : Promised reader-open M
   pub reader-step : Promised reader-step M
   pub reader-moved : Promised reader-moved M
@@ -236,7 +236,7 @@ pub record Property-2 : Type 0 where
       (n : ℕ) (bs : List ℕ) (t : Tables) (r : ℕ) (v : Tables) → Read-contract n bs t r v → size-good n ≡ true →
       site-lengths n (lengths-of t) ≡ true → whole-blocks bs ≡ true → checks-good bs ≡ true →
       ((r ≡ 0) ↔ Tables-image n bs) × ((r ≡ 11) ↔ (Tables-image n bs → ⊥))
-  -- a step of the block reader gives those 504 bytes of the image, or the end
+  -- a step of the block reader gives the 504 bytes of payload, or the end
   pub block : (bs : List ℕ) (i : ℕ) (r : Block) → Block-contract bs i r → r .number ≡ 0 → Block-part bs i r ⊎ Block-end bs i r
 
 -- ---- property 3

@@ -1,6 +1,6 @@
 // The soundness check on damaged tables: each condition of document 01 broken alone, and then lengths and sizes. Prints a line
 // for each: its name, the refusal number and the value (1 sound, 0 not). Changes that do no damage come last: their verdict must
-// differ from those above, which so turn on the damage alone. The expected lines are worked out by oracle/damaged.py.
+// differ from the ones above, which so turn on the damage alone. The expected lines are worked out by oracle/damaged.py.
 use libc::STDOUT_FILENO;
 
 // A triangle 0 1 2, radio 3 linked to 2, radio 4 alone.

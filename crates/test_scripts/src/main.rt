@@ -53,7 +53,7 @@ fn first_lines() {
     case(b"radios-space-at-the-front");
     case(b"radios-carriage-return");
     case(b"radios-byte-255");
-    case(b"radios-255-in-front");
+    case(b"radios-255-first");
     case(b"radios-255-for-line-feed");
 }
 

@@ -11,7 +11,7 @@ const PLACES: usize = 515;
 // The bytes of a site's largest links table.
 const LINKS_BYTES: usize = Site::ROW_BYTES * Site::RADIOS as usize;
 
-// A shell tree, with as many places for nodes as the file says beside those of the three tables.
+// A shell tree, with as many places for nodes as the file says beside the places of the three tables.
 fn tree<'a>(
     fd: i32,
     n: u32,
