@@ -1,8 +1,9 @@
 """A site as document 01 describes it, worked out in the plainest way.
 
-Written from document 01 alone, to be compared with the definitions and the
-engine; it shares nothing with them. Nothing here is fast: a core number is
-looked for among all sets of radios, a tree is made by comparing sets.
+Written from document 01 alone, and W-202 of document 02 for the backbone, to
+be compared with the definitions and the engine; it shares nothing with them.
+Nothing here is fast: a core number is looked for among all sets of radios, a
+tree is made by comparing sets.
 """
 
 from itertools import combinations

@@ -1,4 +1,4 @@
-"""Shell trees, connected cores and backbones of sites, worked out from document 01 alone.
+"""Shell trees, connected cores and backbones of sites, worked out from document 01 and W-202 of document 02 alone.
 
   python3 oracle/trees.py           write crates/test_trees/data and crates/test_trees/stdout
   python3 oracle/trees.py --check   say whether the stored files are what would be written

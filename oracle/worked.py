@@ -1,5 +1,5 @@
 """Document 01's cases M1 to M10, worked out by `reference` and held to the
-document's own words."""
+document's own words; M7 to document 02's (W-202)."""
 
 from reference import ROOT, Site, line_of, play
 

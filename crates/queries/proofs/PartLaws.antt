@@ -69,7 +69,7 @@ length-top-put ns k w s = go (eqb (getD ns w 0) k)
     go true = length-put-bit true 0 w s
     go false = refl
 
-pub length-part-put : (ns xs s : List ℕ) → length (part-put ns xs s) ≡ length s
+length-part-put : (ns xs s : List ℕ) → length (part-put ns xs s) ≡ length s
 unfolding part-put tops-put
 length-part-put ns xs s = go (eqb (part-greatest ns xs) 0)
   where
@@ -90,16 +90,12 @@ module _ (ns : List ℕ) (k w : ℕ) (l : w < max-radios) where
       bit : marked (put-bit true 0 x s) 0 w ≡ cond (eqb x w) true (marked s 0 w)
       bit = marked-put-bit true 0 x s 0 w lx l (omega (arith, byte-at-less 1 0 x (omega arith) lx))
 
-      or-one : (b : Bool) → true ≡ (b || true)
-      or-one true = refl
-      or-one false = refl
-
       other : (c : Bool) → eqb x w ≡ false → marked (cond c (put-bit true 0 x s) s) 0 w ≡ marked s 0 w
       other true e = bit ∙ rw e
       other false e = refl
 
       same : (c : Bool) → eqb x w ≡ true → marked (cond c (put-bit true 0 x s) s) 0 w ≡ (marked s 0 w || c)
-      same true e = bit ∙ rw e (or-one (marked s 0 w))
+      same true e = bit ∙ rw e (sym (or-right (marked s 0 w) true refl))
       same false e = or-none (marked s 0 w)
 
       go : (eqb x w ≡ true) ⊎ (eqb x w ≡ false)
