@@ -21,7 +21,7 @@ FILE = Path(__file__).resolve().parent.parent / "crates/vectors/specs/Histories.
 
 # ---- as definitions
 
-def filled(words, width=157):
+def filled(words, width=160):
     """Words of a list, filled into lines in the layout of `rt fmt`."""
     lines, line = [], "    " + words[0]
     for word in words[1:] + ["[]"]:

@@ -31,8 +31,7 @@ use Rattle.calls.specs.declared.Reply.{Reply}
 use Rattle.calls.proofs.ChainLaws.{lent-zero, link-zero, read-zero}
 use Rattle.calls.proofs.ContractLaws.{by-accepted}
 use Rattle.calls.proofs.RecordLaws.{tables-ext, refused-same}
-use Rattle.calls.proofs.Holds.{Holds, clear-holds, read-holds, unchanged-holds, same-n, read-back, site-asked, with-n, All-allowed, all-holds}
-use Rattle.calls.proofs.Holds.{all-switching}
+use Rattle.calls.proofs.Holds.{Holds, clear-holds, read-holds, unchanged-holds, same-n, read-back, site-asked, with-n, All-allowed, all-holds, all-switching}
 
 pub record Stepped (n : ℕ) (ps : List Link) (o : Outcome) (t : Tables) (hs : List Answer) (v : Tables) : Type 0 where
   pub kept : Call-kept n ps o t hs v

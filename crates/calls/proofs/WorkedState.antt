@@ -22,8 +22,7 @@ use Rattle.mesh.specs.Sound.{symmetric, irreflexive, within, row-degree, few, r
 use Rattle.mesh.specs.Connected.{at-least, reached, core-of, greatest, backbone}
 use Rattle.mesh.specs.Tree.{shell, node-name, parent-name, nodes-at, tree, node-names}
 use Rattle.mesh.specs.Image.{word, long, weighted-sum, check-sum, block, blocks-for, order-blocks, block-count, link-bytes, order-payload, links-payload}
-use Rattle.mesh.specs.Image.{block-at, image-of, word-at, entry-at, image-order, image-link, image-links, image-graph, whole-blocks, block-check, checks-good}
-use Rattle.mesh.specs.Image.{is-image}
+use Rattle.mesh.specs.Image.{block-at, image-of, word-at, entry-at, image-order, image-link, image-links, image-graph, whole-blocks, block-check, checks-good, is-image}
 use Rattle.calls.specs.Questions.{ask, Lengths, lengths-of, size-good, site-lengths, is-radio, are-radios, ends-differ, can-switch, has-room, has-level}
 use Rattle.calls.specs.Questions.{level-refusal, image-length, lent-refusal, tables-refusal, ends-refusal, blocks-refusal, image-refusal, read-refusal}
 use Rattle.calls.specs.Switches.{Switch}

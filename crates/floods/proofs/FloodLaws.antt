@@ -20,8 +20,7 @@ use Rattle.lists.proofs.Range.{in-range, length-range}
 use Rattle.lists.proofs.Distinct.{distinct-one, length-sub, distinct-end}
 use Rattle.mesh.proofs.Tables.Laws.{byte-at-less, length-put-bit, marked-put-bit}
 use Rattle.floods.proofs.FloodSteps.{Floodable, floodable-true}
-use Rattle.floods.specs.Floods.{ends-listed, takes-in, Spread, start, onward, Flood, flood-at, came-in, taken-one, taken-all, floodable, Flood-done}
-use Rattle.floods.specs.Floods.{Flooded}
+use Rattle.floods.specs.Floods.{ends-listed, takes-in, Spread, start, onward, Flood, flood-at, came-in, taken-one, taken-all, floodable, Flood-done, Flooded}
 use Rattle.floods.proofs.FloodRadios.{bits-end, takes-in-radio, takes-in-other}
 
 -- ---- the invariant

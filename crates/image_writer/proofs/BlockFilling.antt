@@ -12,8 +12,7 @@ use borrow.Author.Tests.{lt-ltb, le-ltb}
 use borrow.Rule.Slice.PartMut.{putMid}
 use Rattle.lists.specs.Lists.{range}
 use Rattle.mesh.specs.Graph.{Link}
-use Rattle.mesh.specs.Image.{block-bytes, payload-bytes, block-entries, block-links, word, link-bytes, block, order-blocks, order-payload, links-payload}
-use Rattle.mesh.specs.Image.{block-at}
+use Rattle.mesh.specs.Image.{block-bytes, payload-bytes, block-entries, block-links, word, link-bytes, block, order-blocks, order-payload, links-payload, block-at}
 use Rattle.lists.proofs.Parts.{length-flatMap}
 use Rattle.mesh.proofs.Images.Blocks.{length-link-bytes}
 use Rattle.mesh.proofs.Tables.Laws.{length-flatMap-range}

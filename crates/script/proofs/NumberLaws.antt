@@ -8,8 +8,8 @@ use native.Mathlib.Omega.{arith}
 use lib.Dec.{ltb, leb, eqb}
 use borrow.Author.Tests.{ltb-true, ltb-false, leb-true, eqb-true, eqb-false, le-leb, ne-eqb}
 use Rattle.lists.proofs.Tests.{bool-cases, and-left, and-right, and-both}
-use Rattle.lists.proofs.All.{same-eq, all-append}
-use Rattle.lists.specs.Lists.{all, same}
+use Rattle.lists.proofs.All.{same-eq}
+use Rattle.lists.specs.Lists.{same}
 use Rattle.text.specs.Text.{line-feed, digit-byte, decimal}
 use Rattle.script.specs.Lines.{max-value, Read, got, none, is-digit, digits-on, number-of, ended, last-number-of}
 use Rattle.text.proofs.DecimalLaws.{decimal-digit, decimal-more, decimal-append}
@@ -29,19 +29,6 @@ digit-bound b h = omega (arith, leb-true b 57 (and-right (leb 48 b) (leb b 57) h
 pub digit-byte-of : (b : ℕ) → is-digit b ≡ true → digit-byte (b - digit-byte 0) ≡ b
 unfolding is-digit digit-byte
 digit-byte-of b h = omega (arith, leb-true 48 b (and-left (leb 48 b) (leb b 57) h))
-
--- every byte of a number is a digit; as many turns as x are enough
-all-digits-in : (t x : ℕ) → x ≤ t → all is-digit (decimal x) ≡ true
-unfolding all
-all-digits-in zero x h = let k : x < 10 = omega arith in rw (decimal-digit x k, is-digit-byte x k)
-all-digits-in (suc t) x h = go (all-digits-in t (x / 10)) (bool-cases (ltb x 10))
-  where
-    go : (x / 10 ≤ t → all is-digit (decimal (x / 10)) ≡ true) → (ltb x 10 ≡ true) ⊎ (ltb x 10 ≡ false) → all is-digit (decimal x) ≡ true
-    go rec (inl e) = let k = ltb-true x 10 e in rw (decimal-digit x k, is-digit-byte x k)
-    go rec (inr e) =
-        let k = ltb-false x 10 e in
-        let d : x % 10 < 10 = omega arith in
-        rw (decimal-more x k, all-append is-digit (decimal (x / 10)) (digit-byte (x % 10) ∷ []), rec (omega arith), is-digit-byte (x % 10) d)
 
 -- ---- digits read from decimal
 

@@ -21,8 +21,7 @@ use Rattle.calls.specs.Contracts.Sites.{Check-contract}
 use Rattle.calls.specs.Contracts.Forms.{Value-accepted, Value-refused}
 use Rattle.calls.proofs.ContractLaws.{by-accepted, by-refused}
 use Rattle.calls.proofs.ChainLaws.{lent-zero}
-use Rattle.calls.proofs.QuestionLaws.{true-size-good, true-site-lengths, true-answer-length, size-good-true, Site-lengths, site-lengths-true}
-use Rattle.calls.proofs.QuestionLaws.{answer-length-true}
+use Rattle.calls.proofs.QuestionLaws.{true-size-good, true-site-lengths, true-answer-length, size-good-true, Site-lengths, site-lengths-true, answer-length-true}
 use Rattle.soundness.specs.Checks.{Placed, Placing, row-good, Rows-room, Rows-checked, examinable, Examined, fits-sound}
 use Rattle.lists.proofs.Member.{in-getD}
 use Rattle.soundness.proofs.CheckLaws.{sound-rows}

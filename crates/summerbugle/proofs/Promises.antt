@@ -41,8 +41,7 @@ use Rattle.calls.specs.Demand.{Start, Demand-3}
 use Rattle.calls.specs.declared.Reply.{Reply}
 use Rattle.calls.specs.declared.Value.{Value}
 use Rattle.calls.specs.declared.Block.{Block}
-use Rattle.summerbugle.specs.Functions.{Promised, Returns, Gives, Leaves-lent, number-0, number-1, number-2, tables-1, tables-2, tables-3, lent-0, lent-4}
-use Rattle.summerbugle.specs.Functions.{lent-6}
+use Rattle.summerbugle.specs.Functions.{Promised, Returns, Gives, Leaves-lent, number-0, number-1, number-2, tables-1, tables-2, tables-3, lent-0, lent-4, lent-6}
 use Rattle.summerbugle.proofs.Calls.{sb-clear, sb-link-up, sb-link-down, sb-image-read, sb-check, sb-number, sb-neighbours, sb-linked, sb-first, sb-core}
 use Rattle.summerbugle.proofs.Calls.{sb-backbone, sb-tree, sb-image-write, sb-image-block, reader-open, reader-step, reader-moved}
 -- for the proof

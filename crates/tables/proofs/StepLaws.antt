@@ -95,15 +95,7 @@ module _ (x : ℕ) (z : ℤ) (small : x < 256) (fits : SFits w8 z) where
   pub sum-within : ltZ (sum-of x z) (pos 0) ≡ false → ltZ (pos 255) (sum-of x z) ≡ false → natAbs (sum-of x z) ≡ stepped x z
   sum-within h l = held-within (sum-of x z) h l .is ∙ held-exact
 
--- ---- stepped: the three steps of a link call, what is below 0, and the exact sum
-
-pub stepped-up : (x : ℕ) → x < 255 → stepped x (pos 1) ≡ x + 1
-unfolding stepped
-stepped-up x h = omega arith
-
-pub stepped-down : (x : ℕ) → stepped x (negsuc 0) ≡ x - 1
-unfolding stepped
-stepped-down x = refl
+-- ---- stepped: what is below 0, and the exact sum
 
 pub stepped-zero : (k : ℕ) → stepped 0 (negsuc k) ≡ 0
 unfolding stepped

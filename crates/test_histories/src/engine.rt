@@ -2,26 +2,6 @@
 use calls::Reply;
 use test_model::expected::Call;
 
-// The link call, on tables that are cut already.
-fn link_cut(
-    call: Call,
-    links: &mut [u8],
-    numbers: &mut [u8],
-    order: &mut [u16],
-    answer: &mut [u16],
-) -> Reply {
-    links::link::link(
-        call.up,
-        call.n,
-        call.a,
-        call.b,
-        links,
-        numbers,
-        order,
-        answer,
-    )
-}
-
 // The link call.
 pub fn link(
     call: Call,
@@ -34,8 +14,11 @@ pub fn link(
     let j = tables::fill::least(call.numbers, numbers.len());
     let k = tables::fill::least(call.order, order.len());
     let l = tables::fill::least(call.answer, answer.len());
-    link_cut(
-        call,
+    links::link::link(
+        call.up,
+        call.n,
+        call.a,
+        call.b,
         &mut links[..i],
         &mut numbers[..j],
         &mut order[..k],

@@ -2,13 +2,13 @@
 use mathlib.Core.Path.{_≡_, refl, sym, ap, _∙_}
 use mathlib.Core.Logic.{_⊎_, inl, inr}
 use mathlib.Core.Bool.{Bool, true, false, cond}
-use mathlib.Core.List.{List, [], _∷_, _++_, map, append-nil}
+use mathlib.Core.List.{List, [], _∷_, _++_, map}
 use Prim.Native.Nat.{ℕ, suc, _+_, _-_, _/_, _%_, _≤_, _<_, min}
 use native.Mathlib.Omega.{arith}
 use native.Mathlib.Numerals.{add-one}
 use lib.Dec.{ltb}
-use lib.ListN.{length, take, drop, getD, set, length-set, take-append-drop, drop-of-length-le}
-use lib.Seq.{length-take-le, drop-cons, set-out, sets, sets-eq}
+use lib.ListN.{length, take, drop, getD, set, length-set, drop-of-length-le}
+use lib.Seq.{drop-cons, set-out, sets, sets-eq}
 use borrow.Author.Tests.{lt-ltb, le-ltb, ltb-true, ltb-false}
 use Rattle.lists.proofs.Tests.{bool-cases}
 use Rattle.text.specs.Text.{space, line-feed, digit-byte, decimal, further-fields}
@@ -169,23 +169,6 @@ put-past b (x ∷ xs) h =
     put-past (buffer-at (set (b .bytes) (b .at) x) (next-place (b .at))) xs (omega (arith, length-set (b .bytes) (b .at) x, next-place-le (b .at)))
     ∙ set-out (b .bytes) (b .at) x h
 
--- a text that does not fit stands as far as the buffer goes; the bytes before it are kept
-pub put-cut : (bytes : List ℕ) (at : ℕ) (xs : List ℕ) → at ≤ length bytes → length bytes ≤ at + length xs → length bytes ≤ max-place
-    → put (buffer-at bytes at) xs .bytes ≡ take at bytes ++ take (length bytes - at) xs
-put-cut bytes at xs h l m = go (take (length bytes - at) xs) (drop (length bytes - at) xs) (take-append-drop (length bytes - at) xs) (length-take-le (length bytes - at) xs (omega arith))
-  where
-    go : (front back : List ℕ) → front ++ back ≡ xs → length front ≡ length bytes - at → put (buffer-at bytes at) xs .bytes ≡ take at bytes ++ front
-    go front back e k =
-        let whole = take at bytes ++ front ++ drop (at + length front) bytes in
-        let fits = put-fits bytes at front (omega arith) m in
-        let long : length whole ≤ at + length front = omega (arith, ap (λ (b : Buffer). length (b .bytes)) fits, length-put (buffer-at bytes at) front) in
-        let none-after : length bytes ≤ at + length front = omega arith in
-        ap (λ (t : List ℕ). put (buffer-at bytes at) t .bytes) (sym e)
-        ∙ ap (λ (b : Buffer). b .bytes) (put-append (buffer-at bytes at) front back ∙ ap (λ (b : Buffer). put b back) fits)
-        ∙ put-past (buffer-at whole (at + length front)) back long
-        ∙ ap (λ (t : List ℕ). take at bytes ++ front ++ t) (drop-of-length-le bytes none-after)
-        ∙ append-nil (take at bytes ++ front)
-
 -- ---- what a caller learns from the answered place
 
 -- an answer at most the length: the whole text stands from the place on, and the bytes before and after it are kept
@@ -197,9 +180,3 @@ puts-whole {bytes} {text} {after} {at} {next} p h m l =
     let e : buffer-at after next ≡ buffer-at (take at bytes ++ text ++ drop (at + length text) bytes) (at + length text)
     = p .is ∙ put-fits bytes at text (omega arith) (omega arith) in
     (ap (λ (b : Buffer). b .at) e, ap (λ (b : Buffer). b .bytes) e)
-
--- an answer above the length: the text does not fit
-pub puts-cut : {bytes text after : List ℕ} {at next : ℕ} → Puts (buffer-at bytes at) text (buffer-at after next)
-    → at ≤ max-place → length bytes < next → length bytes < at + length text
-puts-cut {bytes} {text} {after} {at} {next} p h l =
-    omega (arith, ap (λ (b : Buffer). b .at) (p .is) ∙ at-put (buffer-at bytes at) text h)

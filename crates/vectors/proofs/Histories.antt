@@ -5,8 +5,7 @@ use mathlib.Core.Bool.{true}
 use Rattle.calls.specs.Worked.{All-right}
 use Rattle.calls.proofs.WorkedState.{all-state-right, compute}
 use Rattle.calls.proofs.WorkedLaws.{all-by-state, all-right-append}
-use Rattle.vectors.specs.Histories.{refusals, cliques, joins, rises, falls, trees, printing, tables, images, random-small, random-middle, random-large}
-use Rattle.vectors.specs.Histories.{histories}
+use Rattle.vectors.specs.Histories.{refusals, cliques, joins, rises, falls, trees, printing, tables, images, random-small, random-middle, random-large, histories}
 
 refusals-right : all-state-right refusals ≡ true
 unfolding compute refusals

@@ -25,8 +25,8 @@ refusals =
     row 1 [] (
     last-answers []
     ∷ printed (
-    "numbers 0\n" ∷ "order 0\n" ∷ []) ∷ all-numbers (0 ∷ []) ∷ whole-order (0 ∷ []) ∷ shell-tree (root ∷ []) (root-name ∷ [])
-    ∷ backbone-radios [] ∷ connected-core 0 0 0 (0 ∷ []) ∷ connected-core 0 1 8 [] ∷ connected-core 1 0 4 [] ∷ image-checks 1024 (5 ∷ 4 ∷ []) ∷ [])
+    "numbers 0\n" ∷ "order 0\n" ∷ []) ∷ all-numbers (0 ∷ []) ∷ whole-order (0 ∷ []) ∷ shell-tree (root ∷ []) (root-name ∷ []) ∷ backbone-radios []
+    ∷ connected-core 0 0 0 (0 ∷ []) ∷ connected-core 0 1 8 [] ∷ connected-core 1 0 4 [] ∷ image-checks 1024 (5 ∷ 4 ∷ []) ∷ [])
     -- one radio: every call is refused
     ∷ row 1 (
     up 0 0 ∷ up 0 1 ∷ up 1 0 ∷ up 1 1 ∷ down 0 0 ∷ down 0 1 ∷ []) (
@@ -63,8 +63,8 @@ refusals =
     last-answers (
     refused 4 ∷ refused 6 ∷ refused 5 ∷ [])
     ∷ printed (
-    "4 0\n" ∷ "6 0\n" ∷ "5 0\n" ∷ "numbers 0 0 0 0 0 0 0 0\n" ∷ "order 0 1 2 3 4 5 6 7\n" ∷ [])
-    ∷ all-numbers (0 ∷ 0 ∷ 0 ∷ 0 ∷ 0 ∷ 0 ∷ 0 ∷ 0 ∷ []) ∷ whole-order (0 ∷ 1 ∷ 2 ∷ 3 ∷ 4 ∷ 5 ∷ 6 ∷ 7 ∷ [])
+    "4 0\n" ∷ "6 0\n" ∷ "5 0\n" ∷ "numbers 0 0 0 0 0 0 0 0\n" ∷ "order 0 1 2 3 4 5 6 7\n" ∷ []) ∷ all-numbers (0 ∷ 0 ∷ 0 ∷ 0 ∷ 0 ∷ 0 ∷ 0 ∷ 0 ∷ [])
+    ∷ whole-order (0 ∷ 1 ∷ 2 ∷ 3 ∷ 4 ∷ 5 ∷ 6 ∷ 7 ∷ [])
     ∷ shell-tree (root ∷ []) (root-name ∷ root-name ∷ root-name ∷ root-name ∷ root-name ∷ root-name ∷ root-name ∷ root-name ∷ []) ∷ backbone-radios []
     ∷ connected-core 7 0 0 (7 ∷ []) ∷ connected-core 0 0 0 (0 ∷ []) ∷ connected-core 4 1 8 [] ∷ connected-core 0 1 8 [] ∷ connected-core 8 0 4 []
     ∷ image-checks 1024 (40 ∷ 424 ∷ []) ∷ [])
@@ -94,10 +94,9 @@ cliques =
     ∷ printed (
     "0 +1 0 1\n" ∷ "0 +1 2\n" ∷ "0 +1 3\n" ∷ "0 +1 4\n" ∷ "0 +1 0 1 2\n" ∷ "0 +1 3\n" ∷ "0 +1 4\n" ∷ "0 +1 0 1 2 3\n" ∷ "0 +1 4\n" ∷ "0 +1 0 1 2 3 4\n"
     ∷ "0 -1 0 1 2 3 4\n" ∷ "0 -1 4\n" ∷ "0 -1 4\n" ∷ "0 -1 4\n" ∷ "numbers 3 3 3 3 0\n" ∷ "order 4 3 2 0 1\n" ∷ [])
-    ∷ all-numbers (3 ∷ 3 ∷ 3 ∷ 3 ∷ 0 ∷ []) ∷ whole-order (4 ∷ 3 ∷ 2 ∷ 0 ∷ 1 ∷ [])
-    ∷ shell-tree (root ∷ node 0 3 root-name ∷ []) (0 ∷ 0 ∷ 0 ∷ 0 ∷ root-name ∷ []) ∷ backbone-radios (0 ∷ 1 ∷ 2 ∷ 3 ∷ []) ∷ connected-core 4 0 0 (4 ∷ [])
-    ∷ connected-core 0 3 0 (0 ∷ 1 ∷ 2 ∷ 3 ∷ []) ∷ connected-core 2 1 0 (0 ∷ 1 ∷ 2 ∷ 3 ∷ []) ∷ connected-core 0 4 8 [] ∷ connected-core 5 0 4 []
-    ∷ image-checks 1536 (67 ∷ 76 ∷ 358 ∷ []) ∷ [])
+    ∷ all-numbers (3 ∷ 3 ∷ 3 ∷ 3 ∷ 0 ∷ []) ∷ whole-order (4 ∷ 3 ∷ 2 ∷ 0 ∷ 1 ∷ []) ∷ shell-tree (root ∷ node 0 3 root-name ∷ []) (0 ∷ 0 ∷ 0 ∷ 0 ∷ root-name ∷ [])
+    ∷ backbone-radios (0 ∷ 1 ∷ 2 ∷ 3 ∷ []) ∷ connected-core 4 0 0 (4 ∷ []) ∷ connected-core 0 3 0 (0 ∷ 1 ∷ 2 ∷ 3 ∷ [])
+    ∷ connected-core 2 1 0 (0 ∷ 1 ∷ 2 ∷ 3 ∷ []) ∷ connected-core 0 4 8 [] ∷ connected-core 5 0 4 [] ∷ image-checks 1536 (67 ∷ 76 ∷ 358 ∷ []) ∷ [])
     -- a clique of 6, one link down
     ∷ row 6 (
     up 0 1 ∷ up 0 2 ∷ up 0 3 ∷ up 0 4 ∷ up 0 5 ∷ up 1 2 ∷ up 1 3 ∷ up 1 4 ∷ up 1 5 ∷ up 2 3 ∷ up 2 4 ∷ up 2 5 ∷ up 3 4 ∷ up 3 5 ∷ up 4 5 ∷ down 2 4 ∷ []) (
@@ -110,8 +109,8 @@ cliques =
     ∷ "0 +1 5\n" ∷ "0 +1 0 1 2 3 4\n" ∷ "0 +1 5\n" ∷ "0 +1 0 1 2 3 4 5\n" ∷ "0 -1 0 1 2 3 4 5\n" ∷ "numbers 4 4 4 4 4 4\n" ∷ "order 4 5 3 2 0 1\n" ∷ [])
     ∷ all-numbers (4 ∷ 4 ∷ 4 ∷ 4 ∷ 4 ∷ 4 ∷ []) ∷ whole-order (4 ∷ 5 ∷ 3 ∷ 2 ∷ 0 ∷ 1 ∷ [])
     ∷ shell-tree (root ∷ node 0 4 root-name ∷ []) (0 ∷ 0 ∷ 0 ∷ 0 ∷ 0 ∷ 0 ∷ []) ∷ backbone-radios (0 ∷ 1 ∷ 2 ∷ 3 ∷ 4 ∷ 5 ∷ [])
-    ∷ connected-core 5 0 0 (0 ∷ 1 ∷ 2 ∷ 3 ∷ 4 ∷ 5 ∷ []) ∷ connected-core 0 4 0 (0 ∷ 1 ∷ 2 ∷ 3 ∷ 4 ∷ 5 ∷ [])
-    ∷ connected-core 3 1 0 (0 ∷ 1 ∷ 2 ∷ 3 ∷ 4 ∷ 5 ∷ []) ∷ connected-core 0 5 8 [] ∷ connected-core 6 0 4 [] ∷ image-checks 1536 (128 ∷ 123 ∷ 2723 ∷ []) ∷ [])
+    ∷ connected-core 5 0 0 (0 ∷ 1 ∷ 2 ∷ 3 ∷ 4 ∷ 5 ∷ []) ∷ connected-core 0 4 0 (0 ∷ 1 ∷ 2 ∷ 3 ∷ 4 ∷ 5 ∷ []) ∷ connected-core 3 1 0 (0 ∷ 1 ∷ 2 ∷ 3 ∷ 4 ∷ 5 ∷ [])
+    ∷ connected-core 0 5 8 [] ∷ connected-core 6 0 4 [] ∷ image-checks 1536 (128 ∷ 123 ∷ 2723 ∷ []) ∷ [])
     -- a clique of 8
     ∷ row 8 (
     up 0 1 ∷ up 0 2 ∷ up 0 3 ∷ up 0 4 ∷ up 0 5 ∷ up 0 6 ∷ up 0 7 ∷ up 1 2 ∷ up 1 3 ∷ up 1 4 ∷ up 1 5 ∷ up 1 6 ∷ up 1 7 ∷ up 2 3 ∷ up 2 4 ∷ up 2 5 ∷ up 2 6
@@ -119,19 +118,18 @@ cliques =
     last-answers (
     risen (0 ∷ 1 ∷ []) ∷ risen (2 ∷ []) ∷ risen (3 ∷ []) ∷ risen (4 ∷ []) ∷ risen (5 ∷ []) ∷ risen (6 ∷ []) ∷ risen (7 ∷ []) ∷ risen (0 ∷ 1 ∷ 2 ∷ [])
     ∷ risen (3 ∷ []) ∷ risen (4 ∷ []) ∷ risen (5 ∷ []) ∷ risen (6 ∷ []) ∷ risen (7 ∷ []) ∷ risen (0 ∷ 1 ∷ 2 ∷ 3 ∷ []) ∷ risen (4 ∷ []) ∷ risen (5 ∷ [])
-    ∷ risen (6 ∷ []) ∷ risen (7 ∷ []) ∷ risen (0 ∷ 1 ∷ 2 ∷ 3 ∷ 4 ∷ []) ∷ risen (5 ∷ []) ∷ risen (6 ∷ []) ∷ risen (7 ∷ [])
-    ∷ risen (0 ∷ 1 ∷ 2 ∷ 3 ∷ 4 ∷ 5 ∷ []) ∷ risen (6 ∷ []) ∷ risen (7 ∷ []) ∷ risen (0 ∷ 1 ∷ 2 ∷ 3 ∷ 4 ∷ 5 ∷ 6 ∷ []) ∷ risen (7 ∷ [])
-    ∷ risen (0 ∷ 1 ∷ 2 ∷ 3 ∷ 4 ∷ 5 ∷ 6 ∷ 7 ∷ []) ∷ [])
+    ∷ risen (6 ∷ []) ∷ risen (7 ∷ []) ∷ risen (0 ∷ 1 ∷ 2 ∷ 3 ∷ 4 ∷ []) ∷ risen (5 ∷ []) ∷ risen (6 ∷ []) ∷ risen (7 ∷ []) ∷ risen (0 ∷ 1 ∷ 2 ∷ 3 ∷ 4 ∷ 5 ∷ [])
+    ∷ risen (6 ∷ []) ∷ risen (7 ∷ []) ∷ risen (0 ∷ 1 ∷ 2 ∷ 3 ∷ 4 ∷ 5 ∷ 6 ∷ []) ∷ risen (7 ∷ []) ∷ risen (0 ∷ 1 ∷ 2 ∷ 3 ∷ 4 ∷ 5 ∷ 6 ∷ 7 ∷ []) ∷ [])
     ∷ printed (
     "0 +1 0 1\n" ∷ "0 +1 2\n" ∷ "0 +1 3\n" ∷ "0 +1 4\n" ∷ "0 +1 5\n" ∷ "0 +1 6\n" ∷ "0 +1 7\n" ∷ "0 +1 0 1 2\n" ∷ "0 +1 3\n" ∷ "0 +1 4\n" ∷ "0 +1 5\n"
-    ∷ "0 +1 6\n" ∷ "0 +1 7\n" ∷ "0 +1 0 1 2 3\n" ∷ "0 +1 4\n" ∷ "0 +1 5\n" ∷ "0 +1 6\n" ∷ "0 +1 7\n" ∷ "0 +1 0 1 2 3 4\n" ∷ "0 +1 5\n" ∷ "0 +1 6\n"
-    ∷ "0 +1 7\n" ∷ "0 +1 0 1 2 3 4 5\n" ∷ "0 +1 6\n" ∷ "0 +1 7\n" ∷ "0 +1 0 1 2 3 4 5 6\n" ∷ "0 +1 7\n" ∷ "0 +1 0 1 2 3 4 5 6 7\n"
-    ∷ "numbers 7 7 7 7 7 7 7 7\n" ∷ "order 7 6 5 4 3 2 0 1\n" ∷ [])
+    ∷ "0 +1 6\n" ∷ "0 +1 7\n" ∷ "0 +1 0 1 2 3\n" ∷ "0 +1 4\n" ∷ "0 +1 5\n" ∷ "0 +1 6\n" ∷ "0 +1 7\n" ∷ "0 +1 0 1 2 3 4\n" ∷ "0 +1 5\n" ∷ "0 +1 6\n" ∷ "0 +1 7\n"
+    ∷ "0 +1 0 1 2 3 4 5\n" ∷ "0 +1 6\n" ∷ "0 +1 7\n" ∷ "0 +1 0 1 2 3 4 5 6\n" ∷ "0 +1 7\n" ∷ "0 +1 0 1 2 3 4 5 6 7\n" ∷ "numbers 7 7 7 7 7 7 7 7\n"
+    ∷ "order 7 6 5 4 3 2 0 1\n" ∷ [])
     ∷ all-numbers (7 ∷ 7 ∷ 7 ∷ 7 ∷ 7 ∷ 7 ∷ 7 ∷ 7 ∷ []) ∷ whole-order (7 ∷ 6 ∷ 5 ∷ 4 ∷ 3 ∷ 2 ∷ 0 ∷ 1 ∷ [])
     ∷ shell-tree (root ∷ node 0 7 root-name ∷ []) (0 ∷ 0 ∷ 0 ∷ 0 ∷ 0 ∷ 0 ∷ 0 ∷ 0 ∷ []) ∷ backbone-radios (0 ∷ 1 ∷ 2 ∷ 3 ∷ 4 ∷ 5 ∷ 6 ∷ 7 ∷ [])
     ∷ connected-core 7 0 0 (0 ∷ 1 ∷ 2 ∷ 3 ∷ 4 ∷ 5 ∷ 6 ∷ 7 ∷ []) ∷ connected-core 0 7 0 (0 ∷ 1 ∷ 2 ∷ 3 ∷ 4 ∷ 5 ∷ 6 ∷ 7 ∷ [])
-    ∷ connected-core 4 1 0 (0 ∷ 1 ∷ 2 ∷ 3 ∷ 4 ∷ 5 ∷ 6 ∷ 7 ∷ []) ∷ connected-core 0 8 8 [] ∷ connected-core 8 0 4 []
-    ∷ image-checks 1536 (236 ∷ 258 ∷ 14372 ∷ []) ∷ [])
+    ∷ connected-core 4 1 0 (0 ∷ 1 ∷ 2 ∷ 3 ∷ 4 ∷ 5 ∷ 6 ∷ 7 ∷ []) ∷ connected-core 0 8 8 [] ∷ connected-core 8 0 4 [] ∷ image-checks 1536 (236 ∷ 258 ∷ 14372 ∷ [])
+    ∷ [])
     -- two cliques of 4 torn down in turn
     ∷ row 8 (
     up 0 2 ∷ up 0 4 ∷ up 0 6 ∷ up 2 4 ∷ up 2 6 ∷ up 4 6 ∷ up 1 3 ∷ up 1 5 ∷ up 1 7 ∷ up 3 5 ∷ up 3 7 ∷ up 5 7 ∷ down 0 2 ∷ down 1 3 ∷ down 4 6 ∷ down 5 7
@@ -155,13 +153,12 @@ cliques =
     risen (0 ∷ 1 ∷ []) ∷ risen (2 ∷ []) ∷ risen (3 ∷ []) ∷ risen (0 ∷ 1 ∷ 2 ∷ []) ∷ risen (3 ∷ []) ∷ risen (0 ∷ 1 ∷ 2 ∷ 3 ∷ []) ∷ risen (4 ∷ [])
     ∷ risen (5 ∷ []) ∷ risen (6 ∷ []) ∷ risen (4 ∷ 5 ∷ []) ∷ risen (6 ∷ []) ∷ risen (4 ∷ 5 ∷ 6 ∷ []) ∷ [])
     ∷ printed (
-    "0 +1 0 1\n" ∷ "0 +1 2\n" ∷ "0 +1 3\n" ∷ "0 +1 0 1 2\n" ∷ "0 +1 3\n" ∷ "0 +1 0 1 2 3\n" ∷ "0 +1 4\n" ∷ "0 +1 5\n" ∷ "0 +1 6\n" ∷ "0 +1 4 5\n"
-    ∷ "0 +1 6\n" ∷ "0 +1 4 5 6\n" ∷ "numbers 3 3 3 3 3 3 3\n" ∷ "order 6 5 4 3 2 0 1\n" ∷ [])
+    "0 +1 0 1\n" ∷ "0 +1 2\n" ∷ "0 +1 3\n" ∷ "0 +1 0 1 2\n" ∷ "0 +1 3\n" ∷ "0 +1 0 1 2 3\n" ∷ "0 +1 4\n" ∷ "0 +1 5\n" ∷ "0 +1 6\n" ∷ "0 +1 4 5\n" ∷ "0 +1 6\n"
+    ∷ "0 +1 4 5 6\n" ∷ "numbers 3 3 3 3 3 3 3\n" ∷ "order 6 5 4 3 2 0 1\n" ∷ [])
     ∷ all-numbers (3 ∷ 3 ∷ 3 ∷ 3 ∷ 3 ∷ 3 ∷ 3 ∷ []) ∷ whole-order (6 ∷ 5 ∷ 4 ∷ 3 ∷ 2 ∷ 0 ∷ 1 ∷ [])
     ∷ shell-tree (root ∷ node 0 3 root-name ∷ []) (0 ∷ 0 ∷ 0 ∷ 0 ∷ 0 ∷ 0 ∷ 0 ∷ []) ∷ backbone-radios (0 ∷ 1 ∷ 2 ∷ 3 ∷ 4 ∷ 5 ∷ 6 ∷ [])
     ∷ connected-core 6 0 0 (0 ∷ 1 ∷ 2 ∷ 3 ∷ 4 ∷ 5 ∷ 6 ∷ []) ∷ connected-core 0 3 0 (0 ∷ 1 ∷ 2 ∷ 3 ∷ 4 ∷ 5 ∷ 6 ∷ [])
-    ∷ connected-core 3 1 0 (0 ∷ 1 ∷ 2 ∷ 3 ∷ 4 ∷ 5 ∷ 6 ∷ []) ∷ connected-core 0 4 8 [] ∷ connected-core 7 0 4 [] ∷ image-checks 1536 (119 ∷ 181 ∷ 2580 ∷ [])
-    ∷ [])
+    ∷ connected-core 3 1 0 (0 ∷ 1 ∷ 2 ∷ 3 ∷ 4 ∷ 5 ∷ 6 ∷ []) ∷ connected-core 0 4 8 [] ∷ connected-core 7 0 4 [] ∷ image-checks 1536 (119 ∷ 181 ∷ 2580 ∷ []) ∷ [])
     -- three against three, then a link inside a side
     ∷ row 6 (
     up 0 3 ∷ up 0 4 ∷ up 0 5 ∷ up 1 3 ∷ up 1 4 ∷ up 1 5 ∷ up 2 3 ∷ up 2 4 ∷ up 2 5 ∷ up 0 1 ∷ down 0 3 ∷ []) (
@@ -173,8 +170,8 @@ cliques =
     ∷ "0 -1 0 1 2 3 4 5\n" ∷ "numbers 2 2 2 2 2 2\n" ∷ "order 3 2 5 1 4 0\n" ∷ [])
     ∷ all-numbers (2 ∷ 2 ∷ 2 ∷ 2 ∷ 2 ∷ 2 ∷ []) ∷ whole-order (3 ∷ 2 ∷ 5 ∷ 1 ∷ 4 ∷ 0 ∷ [])
     ∷ shell-tree (root ∷ node 0 2 root-name ∷ []) (0 ∷ 0 ∷ 0 ∷ 0 ∷ 0 ∷ 0 ∷ []) ∷ backbone-radios (0 ∷ 1 ∷ 2 ∷ 3 ∷ 4 ∷ 5 ∷ [])
-    ∷ connected-core 5 0 0 (0 ∷ 1 ∷ 2 ∷ 3 ∷ 4 ∷ 5 ∷ []) ∷ connected-core 0 2 0 (0 ∷ 1 ∷ 2 ∷ 3 ∷ 4 ∷ 5 ∷ [])
-    ∷ connected-core 3 1 0 (0 ∷ 1 ∷ 2 ∷ 3 ∷ 4 ∷ 5 ∷ []) ∷ connected-core 0 3 8 [] ∷ connected-core 6 0 4 [] ∷ image-checks 1536 (93 ∷ 141 ∷ 1107 ∷ []) ∷ [])
+    ∷ connected-core 5 0 0 (0 ∷ 1 ∷ 2 ∷ 3 ∷ 4 ∷ 5 ∷ []) ∷ connected-core 0 2 0 (0 ∷ 1 ∷ 2 ∷ 3 ∷ 4 ∷ 5 ∷ []) ∷ connected-core 3 1 0 (0 ∷ 1 ∷ 2 ∷ 3 ∷ 4 ∷ 5 ∷ [])
+    ∷ connected-core 0 3 8 [] ∷ connected-core 6 0 4 [] ∷ image-checks 1536 (93 ∷ 141 ∷ 1107 ∷ []) ∷ [])
     ∷ []
 
 unfoldable pub joins : List Row
@@ -196,12 +193,12 @@ joins =
     risen (0 ∷ 1 ∷ []) ∷ risen (2 ∷ []) ∷ risen (0 ∷ 1 ∷ 2 ∷ []) ∷ risen (3 ∷ 4 ∷ []) ∷ risen (5 ∷ []) ∷ risen (3 ∷ 4 ∷ 5 ∷ []) ∷ unchanged ∷ unchanged
     ∷ risen (0 ∷ 1 ∷ 2 ∷ 3 ∷ 4 ∷ 5 ∷ []) ∷ [])
     ∷ printed (
-    "0 +1 0 1\n" ∷ "0 +1 2\n" ∷ "0 +1 0 1 2\n" ∷ "0 +1 3 4\n" ∷ "0 +1 5\n" ∷ "0 +1 3 4 5\n" ∷ "0 0\n" ∷ "0 0\n" ∷ "0 +1 0 1 2 3 4 5\n"
-    ∷ "numbers 3 3 3 3 3 3\n" ∷ "order 5 3 4 2 0 1\n" ∷ [])
+    "0 +1 0 1\n" ∷ "0 +1 2\n" ∷ "0 +1 0 1 2\n" ∷ "0 +1 3 4\n" ∷ "0 +1 5\n" ∷ "0 +1 3 4 5\n" ∷ "0 0\n" ∷ "0 0\n" ∷ "0 +1 0 1 2 3 4 5\n" ∷ "numbers 3 3 3 3 3 3\n"
+    ∷ "order 5 3 4 2 0 1\n" ∷ [])
     ∷ all-numbers (3 ∷ 3 ∷ 3 ∷ 3 ∷ 3 ∷ 3 ∷ []) ∷ whole-order (5 ∷ 3 ∷ 4 ∷ 2 ∷ 0 ∷ 1 ∷ [])
     ∷ shell-tree (root ∷ node 0 3 root-name ∷ []) (0 ∷ 0 ∷ 0 ∷ 0 ∷ 0 ∷ 0 ∷ []) ∷ backbone-radios (0 ∷ 1 ∷ 2 ∷ 3 ∷ 4 ∷ 5 ∷ [])
-    ∷ connected-core 5 0 0 (0 ∷ 1 ∷ 2 ∷ 3 ∷ 4 ∷ 5 ∷ []) ∷ connected-core 0 3 0 (0 ∷ 1 ∷ 2 ∷ 3 ∷ 4 ∷ 5 ∷ [])
-    ∷ connected-core 3 1 0 (0 ∷ 1 ∷ 2 ∷ 3 ∷ 4 ∷ 5 ∷ []) ∷ connected-core 0 4 8 [] ∷ connected-core 6 0 4 [] ∷ image-checks 1536 (93 ∷ 123 ∷ 1263 ∷ []) ∷ [])
+    ∷ connected-core 5 0 0 (0 ∷ 1 ∷ 2 ∷ 3 ∷ 4 ∷ 5 ∷ []) ∷ connected-core 0 3 0 (0 ∷ 1 ∷ 2 ∷ 3 ∷ 4 ∷ 5 ∷ []) ∷ connected-core 3 1 0 (0 ∷ 1 ∷ 2 ∷ 3 ∷ 4 ∷ 5 ∷ [])
+    ∷ connected-core 0 4 8 [] ∷ connected-core 6 0 4 [] ∷ image-checks 1536 (93 ∷ 123 ∷ 1263 ∷ []) ∷ [])
     -- two triangles joined, the joint goes down
     ∷ row 7 (
     up 0 1 ∷ up 1 2 ∷ up 0 2 ∷ up 4 5 ∷ up 5 6 ∷ up 4 6 ∷ up 2 3 ∷ up 3 4 ∷ down 2 3 ∷ down 3 4 ∷ []) (
@@ -212,9 +209,9 @@ joins =
     "0 +1 0 1\n" ∷ "0 +1 2\n" ∷ "0 +1 0 1 2\n" ∷ "0 +1 4 5\n" ∷ "0 +1 6\n" ∷ "0 +1 4 5 6\n" ∷ "0 +1 3\n" ∷ "0 +1 3\n" ∷ "0 -1 3\n" ∷ "0 -1 3\n"
     ∷ "numbers 2 2 2 0 2 2 2\n" ∷ "order 3 6 4 5 2 0 1\n" ∷ [])
     ∷ all-numbers (2 ∷ 2 ∷ 2 ∷ 0 ∷ 2 ∷ 2 ∷ 2 ∷ []) ∷ whole-order (3 ∷ 6 ∷ 4 ∷ 5 ∷ 2 ∷ 0 ∷ 1 ∷ [])
-    ∷ shell-tree (root ∷ node 0 2 root-name ∷ node 4 2 root-name ∷ []) (0 ∷ 0 ∷ 0 ∷ root-name ∷ 4 ∷ 4 ∷ 4 ∷ [])
-    ∷ backbone-radios (0 ∷ 1 ∷ 2 ∷ 4 ∷ 5 ∷ 6 ∷ []) ∷ connected-core 6 0 0 (4 ∷ 5 ∷ 6 ∷ []) ∷ connected-core 0 2 0 (0 ∷ 1 ∷ 2 ∷ []) ∷ connected-core 3 1 8 []
-    ∷ connected-core 0 3 8 [] ∷ connected-core 7 0 4 [] ∷ image-checks 1536 (77 ∷ 195 ∷ 752 ∷ []) ∷ [])
+    ∷ shell-tree (root ∷ node 0 2 root-name ∷ node 4 2 root-name ∷ []) (0 ∷ 0 ∷ 0 ∷ root-name ∷ 4 ∷ 4 ∷ 4 ∷ []) ∷ backbone-radios (0 ∷ 1 ∷ 2 ∷ 4 ∷ 5 ∷ 6 ∷ [])
+    ∷ connected-core 6 0 0 (4 ∷ 5 ∷ 6 ∷ []) ∷ connected-core 0 2 0 (0 ∷ 1 ∷ 2 ∷ []) ∷ connected-core 3 1 8 [] ∷ connected-core 0 3 8 []
+    ∷ connected-core 7 0 4 [] ∷ image-checks 1536 (77 ∷ 195 ∷ 752 ∷ []) ∷ [])
     -- a triangle and a clique of 4 join
     ∷ row 8 (
     up 5 6 ∷ up 6 7 ∷ up 5 7 ∷ up 0 1 ∷ up 0 2 ∷ up 0 3 ∷ up 1 2 ∷ up 1 3 ∷ up 2 3 ∷ up 3 5 ∷ up 2 4 ∷ up 4 7 ∷ []) (
@@ -222,13 +219,13 @@ joins =
     risen (5 ∷ 6 ∷ []) ∷ risen (7 ∷ []) ∷ risen (5 ∷ 6 ∷ 7 ∷ []) ∷ risen (0 ∷ 1 ∷ []) ∷ risen (2 ∷ []) ∷ risen (3 ∷ []) ∷ risen (0 ∷ 1 ∷ 2 ∷ [])
     ∷ risen (3 ∷ []) ∷ risen (0 ∷ 1 ∷ 2 ∷ 3 ∷ []) ∷ unchanged ∷ risen (4 ∷ []) ∷ risen (4 ∷ []) ∷ [])
     ∷ printed (
-    "0 +1 5 6\n" ∷ "0 +1 7\n" ∷ "0 +1 5 6 7\n" ∷ "0 +1 0 1\n" ∷ "0 +1 2\n" ∷ "0 +1 3\n" ∷ "0 +1 0 1 2\n" ∷ "0 +1 3\n" ∷ "0 +1 0 1 2 3\n" ∷ "0 0\n"
-    ∷ "0 +1 4\n" ∷ "0 +1 4\n" ∷ "numbers 3 3 3 3 2 2 2 2\n" ∷ "order 4 7 5 6 3 2 0 1\n" ∷ [])
+    "0 +1 5 6\n" ∷ "0 +1 7\n" ∷ "0 +1 5 6 7\n" ∷ "0 +1 0 1\n" ∷ "0 +1 2\n" ∷ "0 +1 3\n" ∷ "0 +1 0 1 2\n" ∷ "0 +1 3\n" ∷ "0 +1 0 1 2 3\n" ∷ "0 0\n" ∷ "0 +1 4\n"
+    ∷ "0 +1 4\n" ∷ "numbers 3 3 3 3 2 2 2 2\n" ∷ "order 4 7 5 6 3 2 0 1\n" ∷ [])
     ∷ all-numbers (3 ∷ 3 ∷ 3 ∷ 3 ∷ 2 ∷ 2 ∷ 2 ∷ 2 ∷ []) ∷ whole-order (4 ∷ 7 ∷ 5 ∷ 6 ∷ 3 ∷ 2 ∷ 0 ∷ 1 ∷ [])
     ∷ shell-tree (root ∷ node 4 2 root-name ∷ node 0 3 4 ∷ []) (0 ∷ 0 ∷ 0 ∷ 0 ∷ 4 ∷ 4 ∷ 4 ∷ 4 ∷ []) ∷ backbone-radios (0 ∷ 1 ∷ 2 ∷ 3 ∷ [])
     ∷ connected-core 7 0 0 (0 ∷ 1 ∷ 2 ∷ 3 ∷ 4 ∷ 5 ∷ 6 ∷ 7 ∷ []) ∷ connected-core 0 3 0 (0 ∷ 1 ∷ 2 ∷ 3 ∷ [])
-    ∷ connected-core 4 1 0 (0 ∷ 1 ∷ 2 ∷ 3 ∷ 4 ∷ 5 ∷ 6 ∷ 7 ∷ []) ∷ connected-core 0 4 8 [] ∷ connected-core 8 0 4 []
-    ∷ image-checks 1536 (124 ∷ 272 ∷ 2903 ∷ []) ∷ [])
+    ∷ connected-core 4 1 0 (0 ∷ 1 ∷ 2 ∷ 3 ∷ 4 ∷ 5 ∷ 6 ∷ 7 ∷ []) ∷ connected-core 0 4 8 [] ∷ connected-core 8 0 4 [] ∷ image-checks 1536 (124 ∷ 272 ∷ 2903 ∷ [])
+    ∷ [])
     -- three pairs join to a ring
     ∷ row 6 (
     up 0 1 ∷ up 2 3 ∷ up 4 5 ∷ up 1 2 ∷ up 3 4 ∷ up 5 0 ∷ []) (
@@ -238,8 +235,8 @@ joins =
     "0 +1 0 1\n" ∷ "0 +1 2 3\n" ∷ "0 +1 4 5\n" ∷ "0 0\n" ∷ "0 0\n" ∷ "0 +1 0 1 2 3 4 5\n" ∷ "numbers 2 2 2 2 2 2\n" ∷ "order 5 4 3 2 0 1\n" ∷ [])
     ∷ all-numbers (2 ∷ 2 ∷ 2 ∷ 2 ∷ 2 ∷ 2 ∷ []) ∷ whole-order (5 ∷ 4 ∷ 3 ∷ 2 ∷ 0 ∷ 1 ∷ [])
     ∷ shell-tree (root ∷ node 0 2 root-name ∷ []) (0 ∷ 0 ∷ 0 ∷ 0 ∷ 0 ∷ 0 ∷ []) ∷ backbone-radios (0 ∷ 1 ∷ 2 ∷ 3 ∷ 4 ∷ 5 ∷ [])
-    ∷ connected-core 5 0 0 (0 ∷ 1 ∷ 2 ∷ 3 ∷ 4 ∷ 5 ∷ []) ∷ connected-core 0 2 0 (0 ∷ 1 ∷ 2 ∷ 3 ∷ 4 ∷ 5 ∷ [])
-    ∷ connected-core 3 1 0 (0 ∷ 1 ∷ 2 ∷ 3 ∷ 4 ∷ 5 ∷ []) ∷ connected-core 0 3 8 [] ∷ connected-core 6 0 4 [] ∷ image-checks 1536 (72 ∷ 121 ∷ 594 ∷ []) ∷ [])
+    ∷ connected-core 5 0 0 (0 ∷ 1 ∷ 2 ∷ 3 ∷ 4 ∷ 5 ∷ []) ∷ connected-core 0 2 0 (0 ∷ 1 ∷ 2 ∷ 3 ∷ 4 ∷ 5 ∷ []) ∷ connected-core 3 1 0 (0 ∷ 1 ∷ 2 ∷ 3 ∷ 4 ∷ 5 ∷ [])
+    ∷ connected-core 0 3 8 [] ∷ connected-core 6 0 4 [] ∷ image-checks 1536 (72 ∷ 121 ∷ 594 ∷ []) ∷ [])
     ∷ []
 
 unfoldable pub rises : List Row
@@ -266,8 +263,7 @@ rises =
     ∷ all-numbers (2 ∷ 2 ∷ 2 ∷ 2 ∷ 2 ∷ 2 ∷ 2 ∷ []) ∷ whole-order (6 ∷ 5 ∷ 4 ∷ 3 ∷ 2 ∷ 0 ∷ 1 ∷ [])
     ∷ shell-tree (root ∷ node 0 2 root-name ∷ []) (0 ∷ 0 ∷ 0 ∷ 0 ∷ 0 ∷ 0 ∷ 0 ∷ []) ∷ backbone-radios (0 ∷ 1 ∷ 2 ∷ 3 ∷ 4 ∷ 5 ∷ 6 ∷ [])
     ∷ connected-core 6 0 0 (0 ∷ 1 ∷ 2 ∷ 3 ∷ 4 ∷ 5 ∷ 6 ∷ []) ∷ connected-core 0 2 0 (0 ∷ 1 ∷ 2 ∷ 3 ∷ 4 ∷ 5 ∷ 6 ∷ [])
-    ∷ connected-core 3 1 0 (0 ∷ 1 ∷ 2 ∷ 3 ∷ 4 ∷ 5 ∷ 6 ∷ []) ∷ connected-core 0 3 8 [] ∷ connected-core 7 0 4 [] ∷ image-checks 1536 (91 ∷ 181 ∷ 1133 ∷ [])
-    ∷ [])
+    ∷ connected-core 3 1 0 (0 ∷ 1 ∷ 2 ∷ 3 ∷ 4 ∷ 5 ∷ 6 ∷ []) ∷ connected-core 0 3 8 [] ∷ connected-core 7 0 4 [] ∷ image-checks 1536 (91 ∷ 181 ∷ 1133 ∷ []) ∷ [])
     -- equal ends in two subcores, level 2, both rise
     ∷ row 6 (
     up 0 1 ∷ up 0 2 ∷ up 0 3 ∷ up 1 2 ∷ up 1 3 ∷ up 2 3 ∷ up 0 4 ∷ up 1 4 ∷ up 2 5 ∷ up 3 5 ∷ up 4 5 ∷ []) (
@@ -275,12 +271,12 @@ rises =
     risen (0 ∷ 1 ∷ []) ∷ risen (2 ∷ []) ∷ risen (3 ∷ []) ∷ risen (0 ∷ 1 ∷ 2 ∷ []) ∷ risen (3 ∷ []) ∷ risen (0 ∷ 1 ∷ 2 ∷ 3 ∷ []) ∷ risen (4 ∷ [])
     ∷ risen (4 ∷ []) ∷ risen (5 ∷ []) ∷ risen (5 ∷ []) ∷ risen (4 ∷ 5 ∷ []) ∷ [])
     ∷ printed (
-    "0 +1 0 1\n" ∷ "0 +1 2\n" ∷ "0 +1 3\n" ∷ "0 +1 0 1 2\n" ∷ "0 +1 3\n" ∷ "0 +1 0 1 2 3\n" ∷ "0 +1 4\n" ∷ "0 +1 4\n" ∷ "0 +1 5\n" ∷ "0 +1 5\n"
-    ∷ "0 +1 4 5\n" ∷ "numbers 3 3 3 3 3 3\n" ∷ "order 5 4 3 2 0 1\n" ∷ [])
+    "0 +1 0 1\n" ∷ "0 +1 2\n" ∷ "0 +1 3\n" ∷ "0 +1 0 1 2\n" ∷ "0 +1 3\n" ∷ "0 +1 0 1 2 3\n" ∷ "0 +1 4\n" ∷ "0 +1 4\n" ∷ "0 +1 5\n" ∷ "0 +1 5\n" ∷ "0 +1 4 5\n"
+    ∷ "numbers 3 3 3 3 3 3\n" ∷ "order 5 4 3 2 0 1\n" ∷ [])
     ∷ all-numbers (3 ∷ 3 ∷ 3 ∷ 3 ∷ 3 ∷ 3 ∷ []) ∷ whole-order (5 ∷ 4 ∷ 3 ∷ 2 ∷ 0 ∷ 1 ∷ [])
     ∷ shell-tree (root ∷ node 0 3 root-name ∷ []) (0 ∷ 0 ∷ 0 ∷ 0 ∷ 0 ∷ 0 ∷ []) ∷ backbone-radios (0 ∷ 1 ∷ 2 ∷ 3 ∷ 4 ∷ 5 ∷ [])
-    ∷ connected-core 5 0 0 (0 ∷ 1 ∷ 2 ∷ 3 ∷ 4 ∷ 5 ∷ []) ∷ connected-core 0 3 0 (0 ∷ 1 ∷ 2 ∷ 3 ∷ 4 ∷ 5 ∷ [])
-    ∷ connected-core 3 1 0 (0 ∷ 1 ∷ 2 ∷ 3 ∷ 4 ∷ 5 ∷ []) ∷ connected-core 0 4 8 [] ∷ connected-core 6 0 4 [] ∷ image-checks 1536 (107 ∷ 121 ∷ 1677 ∷ []) ∷ [])
+    ∷ connected-core 5 0 0 (0 ∷ 1 ∷ 2 ∷ 3 ∷ 4 ∷ 5 ∷ []) ∷ connected-core 0 3 0 (0 ∷ 1 ∷ 2 ∷ 3 ∷ 4 ∷ 5 ∷ []) ∷ connected-core 3 1 0 (0 ∷ 1 ∷ 2 ∷ 3 ∷ 4 ∷ 5 ∷ [])
+    ∷ connected-core 0 4 8 [] ∷ connected-core 6 0 4 [] ∷ image-checks 1536 (107 ∷ 121 ∷ 1677 ∷ []) ∷ [])
     -- a long path is looked at, three radios rise
     ∷ row 8 (
     up 0 1 ∷ up 1 2 ∷ up 2 3 ∷ up 3 4 ∷ up 4 5 ∷ up 5 6 ∷ up 6 7 ∷ up 5 7 ∷ []) (
@@ -292,8 +288,8 @@ rises =
     ∷ all-numbers (1 ∷ 1 ∷ 1 ∷ 1 ∷ 1 ∷ 2 ∷ 2 ∷ 2 ∷ []) ∷ whole-order (0 ∷ 1 ∷ 2 ∷ 3 ∷ 4 ∷ 7 ∷ 6 ∷ 5 ∷ [])
     ∷ shell-tree (root ∷ node 0 1 root-name ∷ node 5 2 0 ∷ []) (0 ∷ 0 ∷ 0 ∷ 0 ∷ 0 ∷ 5 ∷ 5 ∷ 5 ∷ []) ∷ backbone-radios (5 ∷ 6 ∷ 7 ∷ [])
     ∷ connected-core 7 0 0 (0 ∷ 1 ∷ 2 ∷ 3 ∷ 4 ∷ 5 ∷ 6 ∷ 7 ∷ []) ∷ connected-core 5 2 0 (5 ∷ 6 ∷ 7 ∷ [])
-    ∷ connected-core 4 1 0 (0 ∷ 1 ∷ 2 ∷ 3 ∷ 4 ∷ 5 ∷ 6 ∷ 7 ∷ []) ∷ connected-core 0 2 8 [] ∷ connected-core 8 0 4 []
-    ∷ image-checks 1536 (96 ∷ 416 ∷ 1535 ∷ []) ∷ [])
+    ∷ connected-core 4 1 0 (0 ∷ 1 ∷ 2 ∷ 3 ∷ 4 ∷ 5 ∷ 6 ∷ 7 ∷ []) ∷ connected-core 0 2 8 [] ∷ connected-core 8 0 4 [] ∷ image-checks 1536 (96 ∷ 416 ∷ 1535 ∷ [])
+    ∷ [])
     -- a ring closes, all rise
     ∷ row 8 (
     up 3 1 ∷ up 1 4 ∷ up 4 0 ∷ up 0 5 ∷ up 5 2 ∷ up 2 6 ∷ up 6 7 ∷ up 7 3 ∷ []) (
@@ -306,14 +302,14 @@ rises =
     ∷ all-numbers (2 ∷ 2 ∷ 2 ∷ 2 ∷ 2 ∷ 2 ∷ 2 ∷ 2 ∷ []) ∷ whole-order (7 ∷ 6 ∷ 2 ∷ 5 ∷ 0 ∷ 4 ∷ 1 ∷ 3 ∷ [])
     ∷ shell-tree (root ∷ node 0 2 root-name ∷ []) (0 ∷ 0 ∷ 0 ∷ 0 ∷ 0 ∷ 0 ∷ 0 ∷ 0 ∷ []) ∷ backbone-radios (0 ∷ 1 ∷ 2 ∷ 3 ∷ 4 ∷ 5 ∷ 6 ∷ 7 ∷ [])
     ∷ connected-core 7 0 0 (0 ∷ 1 ∷ 2 ∷ 3 ∷ 4 ∷ 5 ∷ 6 ∷ 7 ∷ []) ∷ connected-core 0 2 0 (0 ∷ 1 ∷ 2 ∷ 3 ∷ 4 ∷ 5 ∷ 6 ∷ 7 ∷ [])
-    ∷ connected-core 4 1 0 (0 ∷ 1 ∷ 2 ∷ 3 ∷ 4 ∷ 5 ∷ 6 ∷ 7 ∷ []) ∷ connected-core 0 3 8 [] ∷ connected-core 8 0 4 []
-    ∷ image-checks 1536 (96 ∷ 288 ∷ 1358 ∷ []) ∷ [])
+    ∷ connected-core 4 1 0 (0 ∷ 1 ∷ 2 ∷ 3 ∷ 4 ∷ 5 ∷ 6 ∷ 7 ∷ []) ∷ connected-core 0 3 8 [] ∷ connected-core 8 0 4 [] ∷ image-checks 1536 (96 ∷ 288 ∷ 1358 ∷ [])
+    ∷ [])
     -- ends of different numbers, the lower level alone changes
     ∷ row 6 (
     up 0 1 ∷ up 0 2 ∷ up 0 3 ∷ up 1 2 ∷ up 1 3 ∷ up 2 3 ∷ up 4 5 ∷ up 4 0 ∷ up 5 1 ∷ []) (
     last-answers (
-    risen (0 ∷ 1 ∷ []) ∷ risen (2 ∷ []) ∷ risen (3 ∷ []) ∷ risen (0 ∷ 1 ∷ 2 ∷ []) ∷ risen (3 ∷ []) ∷ risen (0 ∷ 1 ∷ 2 ∷ 3 ∷ []) ∷ risen (4 ∷ 5 ∷ [])
-    ∷ unchanged ∷ risen (4 ∷ 5 ∷ []) ∷ [])
+    risen (0 ∷ 1 ∷ []) ∷ risen (2 ∷ []) ∷ risen (3 ∷ []) ∷ risen (0 ∷ 1 ∷ 2 ∷ []) ∷ risen (3 ∷ []) ∷ risen (0 ∷ 1 ∷ 2 ∷ 3 ∷ []) ∷ risen (4 ∷ 5 ∷ []) ∷ unchanged
+    ∷ risen (4 ∷ 5 ∷ []) ∷ [])
     ∷ printed (
     "0 +1 0 1\n" ∷ "0 +1 2\n" ∷ "0 +1 3\n" ∷ "0 +1 0 1 2\n" ∷ "0 +1 3\n" ∷ "0 +1 0 1 2 3\n" ∷ "0 +1 4 5\n" ∷ "0 0\n" ∷ "0 +1 4 5\n" ∷ "numbers 3 3 3 3 2 2\n"
     ∷ "order 5 4 3 2 0 1\n" ∷ [])
@@ -330,8 +326,8 @@ rises =
     "0 +1 0 1\n" ∷ "0 +1 2 3\n" ∷ "0 +1 4 5\n" ∷ "0 0\n" ∷ "0 0\n" ∷ "numbers 1 1 1 1 1 1\n" ∷ "order 5 4 2 3 0 1\n" ∷ [])
     ∷ all-numbers (1 ∷ 1 ∷ 1 ∷ 1 ∷ 1 ∷ 1 ∷ []) ∷ whole-order (5 ∷ 4 ∷ 2 ∷ 3 ∷ 0 ∷ 1 ∷ [])
     ∷ shell-tree (root ∷ node 0 1 root-name ∷ []) (0 ∷ 0 ∷ 0 ∷ 0 ∷ 0 ∷ 0 ∷ []) ∷ backbone-radios (0 ∷ 1 ∷ 2 ∷ 3 ∷ 4 ∷ 5 ∷ [])
-    ∷ connected-core 5 0 0 (0 ∷ 1 ∷ 2 ∷ 3 ∷ 4 ∷ 5 ∷ []) ∷ connected-core 0 1 0 (0 ∷ 1 ∷ 2 ∷ 3 ∷ 4 ∷ 5 ∷ [])
-    ∷ connected-core 3 1 0 (0 ∷ 1 ∷ 2 ∷ 3 ∷ 4 ∷ 5 ∷ []) ∷ connected-core 0 2 8 [] ∷ connected-core 6 0 4 [] ∷ image-checks 1536 (65 ∷ 123 ∷ 411 ∷ []) ∷ [])
+    ∷ connected-core 5 0 0 (0 ∷ 1 ∷ 2 ∷ 3 ∷ 4 ∷ 5 ∷ []) ∷ connected-core 0 1 0 (0 ∷ 1 ∷ 2 ∷ 3 ∷ 4 ∷ 5 ∷ []) ∷ connected-core 3 1 0 (0 ∷ 1 ∷ 2 ∷ 3 ∷ 4 ∷ 5 ∷ [])
+    ∷ connected-core 0 2 8 [] ∷ connected-core 6 0 4 [] ∷ image-checks 1536 (65 ∷ 123 ∷ 411 ∷ []) ∷ [])
     ∷ []
 
 unfoldable pub falls : List Row
@@ -348,16 +344,15 @@ falls =
     ∷ all-numbers (1 ∷ 1 ∷ 1 ∷ 1 ∷ 1 ∷ 1 ∷ 1 ∷ 1 ∷ []) ∷ whole-order (4 ∷ 5 ∷ 6 ∷ 7 ∷ 3 ∷ 2 ∷ 0 ∷ 1 ∷ [])
     ∷ shell-tree (root ∷ node 0 1 root-name ∷ []) (0 ∷ 0 ∷ 0 ∷ 0 ∷ 0 ∷ 0 ∷ 0 ∷ 0 ∷ []) ∷ backbone-radios (0 ∷ 1 ∷ 2 ∷ 3 ∷ 4 ∷ 5 ∷ 6 ∷ 7 ∷ [])
     ∷ connected-core 7 0 0 (0 ∷ 1 ∷ 2 ∷ 3 ∷ 4 ∷ 5 ∷ 6 ∷ 7 ∷ []) ∷ connected-core 0 1 0 (0 ∷ 1 ∷ 2 ∷ 3 ∷ 4 ∷ 5 ∷ 6 ∷ 7 ∷ [])
-    ∷ connected-core 4 1 0 (0 ∷ 1 ∷ 2 ∷ 3 ∷ 4 ∷ 5 ∷ 6 ∷ 7 ∷ []) ∷ connected-core 0 2 8 [] ∷ connected-core 8 0 4 []
-    ∷ image-checks 1536 (89 ∷ 278 ∷ 1103 ∷ []) ∷ [])
+    ∷ connected-core 4 1 0 (0 ∷ 1 ∷ 2 ∷ 3 ∷ 4 ∷ 5 ∷ 6 ∷ 7 ∷ []) ∷ connected-core 0 2 8 [] ∷ connected-core 8 0 4 [] ∷ image-checks 1536 (89 ∷ 278 ∷ 1103 ∷ [])
+    ∷ [])
     -- links up, then down to nothing, in the same order
     ∷ row 5 (
     up 0 1 ∷ up 1 2 ∷ up 2 3 ∷ up 3 4 ∷ down 0 1 ∷ down 1 2 ∷ down 2 3 ∷ down 3 4 ∷ []) (
     last-answers (
     risen (0 ∷ 1 ∷ []) ∷ risen (2 ∷ []) ∷ risen (3 ∷ []) ∷ risen (4 ∷ []) ∷ fallen (0 ∷ []) ∷ fallen (1 ∷ []) ∷ fallen (2 ∷ []) ∷ fallen (3 ∷ 4 ∷ []) ∷ [])
     ∷ printed (
-    "0 +1 0 1\n" ∷ "0 +1 2\n" ∷ "0 +1 3\n" ∷ "0 +1 4\n" ∷ "0 -1 0\n" ∷ "0 -1 1\n" ∷ "0 -1 2\n" ∷ "0 -1 3 4\n" ∷ "numbers 0 0 0 0 0\n" ∷ "order 0 1 2 4 3\n"
-    ∷ [])
+    "0 +1 0 1\n" ∷ "0 +1 2\n" ∷ "0 +1 3\n" ∷ "0 +1 4\n" ∷ "0 -1 0\n" ∷ "0 -1 1\n" ∷ "0 -1 2\n" ∷ "0 -1 3 4\n" ∷ "numbers 0 0 0 0 0\n" ∷ "order 0 1 2 4 3\n" ∷ [])
     ∷ all-numbers (0 ∷ 0 ∷ 0 ∷ 0 ∷ 0 ∷ []) ∷ whole-order (0 ∷ 1 ∷ 2 ∷ 4 ∷ 3 ∷ [])
     ∷ shell-tree (root ∷ []) (root-name ∷ root-name ∷ root-name ∷ root-name ∷ root-name ∷ []) ∷ backbone-radios [] ∷ connected-core 4 0 0 (4 ∷ [])
     ∷ connected-core 0 0 0 (0 ∷ []) ∷ connected-core 2 1 8 [] ∷ connected-core 0 1 8 [] ∷ connected-core 5 0 4 [] ∷ image-checks 1024 (25 ∷ 112 ∷ []) ∷ [])
@@ -367,8 +362,7 @@ falls =
     last-answers (
     risen (2 ∷ 4 ∷ []) ∷ risen (0 ∷ []) ∷ risen (1 ∷ []) ∷ risen (3 ∷ []) ∷ fallen (3 ∷ []) ∷ fallen (1 ∷ []) ∷ fallen (0 ∷ []) ∷ fallen (2 ∷ 4 ∷ []) ∷ [])
     ∷ printed (
-    "0 +1 2 4\n" ∷ "0 +1 0\n" ∷ "0 +1 1\n" ∷ "0 +1 3\n" ∷ "0 -1 3\n" ∷ "0 -1 1\n" ∷ "0 -1 0\n" ∷ "0 -1 2 4\n" ∷ "numbers 0 0 0 0 0\n" ∷ "order 3 1 0 2 4\n"
-    ∷ [])
+    "0 +1 2 4\n" ∷ "0 +1 0\n" ∷ "0 +1 1\n" ∷ "0 +1 3\n" ∷ "0 -1 3\n" ∷ "0 -1 1\n" ∷ "0 -1 0\n" ∷ "0 -1 2 4\n" ∷ "numbers 0 0 0 0 0\n" ∷ "order 3 1 0 2 4\n" ∷ [])
     ∷ all-numbers (0 ∷ 0 ∷ 0 ∷ 0 ∷ 0 ∷ []) ∷ whole-order (3 ∷ 1 ∷ 0 ∷ 2 ∷ 4 ∷ [])
     ∷ shell-tree (root ∷ []) (root-name ∷ root-name ∷ root-name ∷ root-name ∷ root-name ∷ []) ∷ backbone-radios [] ∷ connected-core 4 0 0 (4 ∷ [])
     ∷ connected-core 0 0 0 (0 ∷ []) ∷ connected-core 2 1 8 [] ∷ connected-core 0 1 8 [] ∷ connected-core 5 0 4 [] ∷ image-checks 1024 (25 ∷ 100 ∷ []) ∷ [])
@@ -384,8 +378,7 @@ falls =
     ∷ all-numbers (2 ∷ 2 ∷ 2 ∷ 2 ∷ 2 ∷ 2 ∷ 2 ∷ []) ∷ whole-order (3 ∷ 4 ∷ 5 ∷ 6 ∷ 0 ∷ 1 ∷ 2 ∷ [])
     ∷ shell-tree (root ∷ node 0 2 root-name ∷ []) (0 ∷ 0 ∷ 0 ∷ 0 ∷ 0 ∷ 0 ∷ 0 ∷ []) ∷ backbone-radios (0 ∷ 1 ∷ 2 ∷ 3 ∷ 4 ∷ 5 ∷ 6 ∷ [])
     ∷ connected-core 6 0 0 (0 ∷ 1 ∷ 2 ∷ 3 ∷ 4 ∷ 5 ∷ 6 ∷ []) ∷ connected-core 0 2 0 (0 ∷ 1 ∷ 2 ∷ 3 ∷ 4 ∷ 5 ∷ 6 ∷ [])
-    ∷ connected-core 3 1 0 (0 ∷ 1 ∷ 2 ∷ 3 ∷ 4 ∷ 5 ∷ 6 ∷ []) ∷ connected-core 0 3 8 [] ∷ connected-core 7 0 4 [] ∷ image-checks 1536 (105 ∷ 207 ∷ 1441 ∷ [])
-    ∷ [])
+    ∷ connected-core 3 1 0 (0 ∷ 1 ∷ 2 ∷ 3 ∷ 4 ∷ 5 ∷ 6 ∷ []) ∷ connected-core 0 3 8 [] ∷ connected-core 7 0 4 [] ∷ image-checks 1536 (105 ∷ 207 ∷ 1441 ∷ []) ∷ [])
     -- a star loses its links one by one
     ∷ row 6 (
     up 5 0 ∷ up 5 1 ∷ up 5 2 ∷ up 5 3 ∷ up 5 4 ∷ down 5 0 ∷ down 5 1 ∷ down 5 2 ∷ down 5 3 ∷ down 5 4 ∷ []) (
@@ -396,9 +389,8 @@ falls =
     "0 +1 0 5\n" ∷ "0 +1 1\n" ∷ "0 +1 2\n" ∷ "0 +1 3\n" ∷ "0 +1 4\n" ∷ "0 -1 0\n" ∷ "0 -1 1\n" ∷ "0 -1 2\n" ∷ "0 -1 3\n" ∷ "0 -1 4 5\n"
     ∷ "numbers 0 0 0 0 0 0\n" ∷ "order 0 1 2 3 4 5\n" ∷ [])
     ∷ all-numbers (0 ∷ 0 ∷ 0 ∷ 0 ∷ 0 ∷ 0 ∷ []) ∷ whole-order (0 ∷ 1 ∷ 2 ∷ 3 ∷ 4 ∷ 5 ∷ [])
-    ∷ shell-tree (root ∷ []) (root-name ∷ root-name ∷ root-name ∷ root-name ∷ root-name ∷ root-name ∷ []) ∷ backbone-radios []
-    ∷ connected-core 5 0 0 (5 ∷ []) ∷ connected-core 0 0 0 (0 ∷ []) ∷ connected-core 3 1 8 [] ∷ connected-core 0 1 8 [] ∷ connected-core 6 0 4 []
-    ∷ image-checks 1024 (30 ∷ 189 ∷ []) ∷ [])
+    ∷ shell-tree (root ∷ []) (root-name ∷ root-name ∷ root-name ∷ root-name ∷ root-name ∷ root-name ∷ []) ∷ backbone-radios [] ∷ connected-core 5 0 0 (5 ∷ [])
+    ∷ connected-core 0 0 0 (0 ∷ []) ∷ connected-core 3 1 8 [] ∷ connected-core 0 1 8 [] ∷ connected-core 6 0 4 [] ∷ image-checks 1024 (30 ∷ 189 ∷ []) ∷ [])
     -- a triangle opens at the end of a tail
     ∷ row 6 (
     up 3 4 ∷ up 4 5 ∷ up 3 5 ∷ up 0 1 ∷ up 1 2 ∷ up 2 3 ∷ down 4 5 ∷ []) (
@@ -408,17 +400,16 @@ falls =
     "0 +1 3 4\n" ∷ "0 +1 5\n" ∷ "0 +1 3 4 5\n" ∷ "0 +1 0 1\n" ∷ "0 +1 2\n" ∷ "0 0\n" ∷ "0 -1 3 4 5\n" ∷ "numbers 1 1 1 1 1 1\n" ∷ "order 0 1 2 5 3 4\n" ∷ [])
     ∷ all-numbers (1 ∷ 1 ∷ 1 ∷ 1 ∷ 1 ∷ 1 ∷ []) ∷ whole-order (0 ∷ 1 ∷ 2 ∷ 5 ∷ 3 ∷ 4 ∷ [])
     ∷ shell-tree (root ∷ node 0 1 root-name ∷ []) (0 ∷ 0 ∷ 0 ∷ 0 ∷ 0 ∷ 0 ∷ []) ∷ backbone-radios (0 ∷ 1 ∷ 2 ∷ 3 ∷ 4 ∷ 5 ∷ [])
-    ∷ connected-core 5 0 0 (0 ∷ 1 ∷ 2 ∷ 3 ∷ 4 ∷ 5 ∷ []) ∷ connected-core 0 1 0 (0 ∷ 1 ∷ 2 ∷ 3 ∷ 4 ∷ 5 ∷ [])
-    ∷ connected-core 3 1 0 (0 ∷ 1 ∷ 2 ∷ 3 ∷ 4 ∷ 5 ∷ []) ∷ connected-core 0 2 8 [] ∷ connected-core 6 0 4 [] ∷ image-checks 1536 (65 ∷ 183 ∷ 422 ∷ []) ∷ [])
+    ∷ connected-core 5 0 0 (0 ∷ 1 ∷ 2 ∷ 3 ∷ 4 ∷ 5 ∷ []) ∷ connected-core 0 1 0 (0 ∷ 1 ∷ 2 ∷ 3 ∷ 4 ∷ 5 ∷ []) ∷ connected-core 3 1 0 (0 ∷ 1 ∷ 2 ∷ 3 ∷ 4 ∷ 5 ∷ [])
+    ∷ connected-core 0 2 8 [] ∷ connected-core 6 0 4 [] ∷ image-checks 1536 (65 ∷ 183 ∷ 422 ∷ []) ∷ [])
     -- one part of a level falls, the other stays
     ∷ row 6 (
     up 0 1 ∷ up 1 2 ∷ up 0 2 ∷ up 3 4 ∷ up 4 5 ∷ up 3 5 ∷ down 4 5 ∷ []) (
     last-answers (
-    risen (0 ∷ 1 ∷ []) ∷ risen (2 ∷ []) ∷ risen (0 ∷ 1 ∷ 2 ∷ []) ∷ risen (3 ∷ 4 ∷ []) ∷ risen (5 ∷ []) ∷ risen (3 ∷ 4 ∷ 5 ∷ []) ∷ fallen (3 ∷ 4 ∷ 5 ∷ [])
-    ∷ [])
+    risen (0 ∷ 1 ∷ []) ∷ risen (2 ∷ []) ∷ risen (0 ∷ 1 ∷ 2 ∷ []) ∷ risen (3 ∷ 4 ∷ []) ∷ risen (5 ∷ []) ∷ risen (3 ∷ 4 ∷ 5 ∷ []) ∷ fallen (3 ∷ 4 ∷ 5 ∷ []) ∷ [])
     ∷ printed (
-    "0 +1 0 1\n" ∷ "0 +1 2\n" ∷ "0 +1 0 1 2\n" ∷ "0 +1 3 4\n" ∷ "0 +1 5\n" ∷ "0 +1 3 4 5\n" ∷ "0 -1 3 4 5\n" ∷ "numbers 2 2 2 1 1 1\n"
-    ∷ "order 5 3 4 2 0 1\n" ∷ [])
+    "0 +1 0 1\n" ∷ "0 +1 2\n" ∷ "0 +1 0 1 2\n" ∷ "0 +1 3 4\n" ∷ "0 +1 5\n" ∷ "0 +1 3 4 5\n" ∷ "0 -1 3 4 5\n" ∷ "numbers 2 2 2 1 1 1\n" ∷ "order 5 3 4 2 0 1\n"
+    ∷ [])
     ∷ all-numbers (2 ∷ 2 ∷ 2 ∷ 1 ∷ 1 ∷ 1 ∷ []) ∷ whole-order (5 ∷ 3 ∷ 4 ∷ 2 ∷ 0 ∷ 1 ∷ [])
     ∷ shell-tree (root ∷ node 3 1 root-name ∷ node 0 2 root-name ∷ []) (0 ∷ 0 ∷ 0 ∷ 3 ∷ 3 ∷ 3 ∷ []) ∷ backbone-radios (0 ∷ 1 ∷ 2 ∷ 3 ∷ 4 ∷ 5 ∷ [])
     ∷ connected-core 5 0 0 (3 ∷ 4 ∷ 5 ∷ []) ∷ connected-core 0 2 0 (0 ∷ 1 ∷ 2 ∷ []) ∷ connected-core 3 1 0 (3 ∷ 4 ∷ 5 ∷ []) ∷ connected-core 0 3 8 []
@@ -463,8 +454,7 @@ trees =
     ∷ all-numbers (4 ∷ 4 ∷ 4 ∷ 4 ∷ 4 ∷ 1 ∷ 1 ∷ []) ∷ whole-order (6 ∷ 5 ∷ 4 ∷ 3 ∷ 2 ∷ 0 ∷ 1 ∷ [])
     ∷ shell-tree (root ∷ node 5 1 root-name ∷ node 0 4 5 ∷ []) (0 ∷ 0 ∷ 0 ∷ 0 ∷ 0 ∷ 5 ∷ 5 ∷ []) ∷ backbone-radios (0 ∷ 1 ∷ 2 ∷ 3 ∷ 4 ∷ [])
     ∷ connected-core 6 0 0 (0 ∷ 1 ∷ 2 ∷ 3 ∷ 4 ∷ 5 ∷ 6 ∷ []) ∷ connected-core 0 4 0 (0 ∷ 1 ∷ 2 ∷ 3 ∷ 4 ∷ [])
-    ∷ connected-core 3 1 0 (0 ∷ 1 ∷ 2 ∷ 3 ∷ 4 ∷ 5 ∷ 6 ∷ []) ∷ connected-core 0 5 8 [] ∷ connected-core 7 0 4 [] ∷ image-checks 1536 (119 ∷ 181 ∷ 2146 ∷ [])
-    ∷ [])
+    ∷ connected-core 3 1 0 (0 ∷ 1 ∷ 2 ∷ 3 ∷ 4 ∷ 5 ∷ 6 ∷ []) ∷ connected-core 0 5 8 [] ∷ connected-core 7 0 4 [] ∷ image-checks 1536 (119 ∷ 181 ∷ 2146 ∷ []) ∷ [])
     -- levels 3 and 2 under one node of level 1
     ∷ row 8 (
     up 0 1 ∷ up 0 2 ∷ up 0 3 ∷ up 1 2 ∷ up 1 3 ∷ up 2 3 ∷ up 3 7 ∷ up 7 4 ∷ up 4 5 ∷ up 5 6 ∷ up 4 6 ∷ down 4 7 ∷ up 7 6 ∷ []) (
@@ -477,8 +467,8 @@ trees =
     ∷ all-numbers (3 ∷ 3 ∷ 3 ∷ 3 ∷ 2 ∷ 2 ∷ 2 ∷ 2 ∷ []) ∷ whole-order (7 ∷ 6 ∷ 5 ∷ 4 ∷ 3 ∷ 2 ∷ 0 ∷ 1 ∷ [])
     ∷ shell-tree (root ∷ node 4 2 root-name ∷ node 0 3 4 ∷ []) (0 ∷ 0 ∷ 0 ∷ 0 ∷ 4 ∷ 4 ∷ 4 ∷ 4 ∷ []) ∷ backbone-radios (0 ∷ 1 ∷ 2 ∷ 3 ∷ [])
     ∷ connected-core 7 0 0 (0 ∷ 1 ∷ 2 ∷ 3 ∷ 4 ∷ 5 ∷ 6 ∷ 7 ∷ []) ∷ connected-core 0 3 0 (0 ∷ 1 ∷ 2 ∷ 3 ∷ [])
-    ∷ connected-core 4 1 0 (0 ∷ 1 ∷ 2 ∷ 3 ∷ 4 ∷ 5 ∷ 6 ∷ 7 ∷ []) ∷ connected-core 0 4 8 [] ∷ connected-core 8 0 4 []
-    ∷ image-checks 1536 (117 ∷ 258 ∷ 2413 ∷ []) ∷ [])
+    ∷ connected-core 4 1 0 (0 ∷ 1 ∷ 2 ∷ 3 ∷ 4 ∷ 5 ∷ 6 ∷ 7 ∷ []) ∷ connected-core 0 4 8 [] ∷ connected-core 8 0 4 [] ∷ image-checks 1536 (117 ∷ 258 ∷ 2413 ∷ [])
+    ∷ [])
     -- level 3 under level 2, and a part of level 1 beside it
     ∷ row 8 (
     up 2 3 ∷ up 2 4 ∷ up 2 5 ∷ up 3 4 ∷ up 3 5 ∷ up 4 5 ∷ up 2 1 ∷ up 3 1 ∷ up 0 6 ∷ []) (
@@ -503,9 +493,8 @@ trees =
     ∷ "numbers 1 2 2 3 3 3 3\n" ∷ "order 0 2 1 6 5 3 4\n" ∷ [])
     ∷ all-numbers (1 ∷ 2 ∷ 2 ∷ 3 ∷ 3 ∷ 3 ∷ 3 ∷ []) ∷ whole-order (0 ∷ 2 ∷ 1 ∷ 6 ∷ 5 ∷ 3 ∷ 4 ∷ [])
     ∷ shell-tree (root ∷ node 0 1 root-name ∷ node 1 2 0 ∷ node 3 3 1 ∷ []) (0 ∷ 1 ∷ 1 ∷ 3 ∷ 3 ∷ 3 ∷ 3 ∷ []) ∷ backbone-radios (3 ∷ 4 ∷ 5 ∷ 6 ∷ [])
-    ∷ connected-core 6 0 0 (0 ∷ 1 ∷ 2 ∷ 3 ∷ 4 ∷ 5 ∷ 6 ∷ []) ∷ connected-core 3 3 0 (3 ∷ 4 ∷ 5 ∷ 6 ∷ [])
-    ∷ connected-core 3 1 0 (0 ∷ 1 ∷ 2 ∷ 3 ∷ 4 ∷ 5 ∷ 6 ∷ []) ∷ connected-core 0 2 8 [] ∷ connected-core 7 0 4 [] ∷ image-checks 1536 (112 ∷ 271 ∷ 2421 ∷ [])
-    ∷ [])
+    ∷ connected-core 6 0 0 (0 ∷ 1 ∷ 2 ∷ 3 ∷ 4 ∷ 5 ∷ 6 ∷ []) ∷ connected-core 3 3 0 (3 ∷ 4 ∷ 5 ∷ 6 ∷ []) ∷ connected-core 3 1 0 (0 ∷ 1 ∷ 2 ∷ 3 ∷ 4 ∷ 5 ∷ 6 ∷ [])
+    ∷ connected-core 0 2 8 [] ∷ connected-core 7 0 4 [] ∷ image-checks 1536 (112 ∷ 271 ∷ 2421 ∷ []) ∷ [])
     -- two nodes of level 2 under one of level 1, tied by a path
     ∷ row 8 (
     up 0 1 ∷ up 1 2 ∷ up 0 2 ∷ up 5 6 ∷ up 6 7 ∷ up 5 7 ∷ up 2 3 ∷ up 3 4 ∷ up 4 5 ∷ down 3 4 ∷ up 4 3 ∷ []) (
@@ -518,8 +507,8 @@ trees =
     ∷ all-numbers (2 ∷ 2 ∷ 2 ∷ 2 ∷ 2 ∷ 2 ∷ 2 ∷ 2 ∷ []) ∷ whole-order (4 ∷ 3 ∷ 7 ∷ 5 ∷ 6 ∷ 2 ∷ 0 ∷ 1 ∷ [])
     ∷ shell-tree (root ∷ node 0 2 root-name ∷ []) (0 ∷ 0 ∷ 0 ∷ 0 ∷ 0 ∷ 0 ∷ 0 ∷ 0 ∷ []) ∷ backbone-radios (0 ∷ 1 ∷ 2 ∷ 3 ∷ 4 ∷ 5 ∷ 6 ∷ 7 ∷ [])
     ∷ connected-core 7 0 0 (0 ∷ 1 ∷ 2 ∷ 3 ∷ 4 ∷ 5 ∷ 6 ∷ 7 ∷ []) ∷ connected-core 0 2 0 (0 ∷ 1 ∷ 2 ∷ 3 ∷ 4 ∷ 5 ∷ 6 ∷ 7 ∷ [])
-    ∷ connected-core 4 1 0 (0 ∷ 1 ∷ 2 ∷ 3 ∷ 4 ∷ 5 ∷ 6 ∷ 7 ∷ []) ∷ connected-core 0 3 8 [] ∷ connected-core 8 0 4 []
-    ∷ image-checks 1536 (103 ∷ 290 ∷ 1797 ∷ []) ∷ [])
+    ∷ connected-core 4 1 0 (0 ∷ 1 ∷ 2 ∷ 3 ∷ 4 ∷ 5 ∷ 6 ∷ 7 ∷ []) ∷ connected-core 0 3 8 [] ∷ connected-core 8 0 4 [] ∷ image-checks 1536 (103 ∷ 290 ∷ 1797 ∷ [])
+    ∷ [])
     -- a node falls apart when its tie goes down
     ∷ row 7 (
     up 0 1 ∷ up 1 2 ∷ up 0 2 ∷ up 4 5 ∷ up 5 6 ∷ up 4 6 ∷ up 2 3 ∷ up 3 4 ∷ up 0 4 ∷ down 0 4 ∷ down 3 4 ∷ []) (
@@ -578,11 +567,11 @@ tables =
     last-answers (
     risen (0 ∷ 1 ∷ []) ∷ risen (2 ∷ []) ∷ risen (0 ∷ 1 ∷ 2 ∷ []) ∷ [])
     ∷ printed (
-    "0 +1 0 1\n" ∷ "0 +1 2\n" ∷ "0 +1 0 1 2\n" ∷ "numbers 2 2 2\n" ∷ "order 2 0 1\n" ∷ [])
-    ∷ soundness [] (2 ∷ 2 ∷ 2 ∷ []) (2 ∷ 0 ∷ 1 ∷ []) true ∷ soundness [] (3 ∷ 2 ∷ 2 ∷ []) (2 ∷ 0 ∷ 1 ∷ []) false
-    ∷ soundness [] (2 ∷ 2 ∷ 1 ∷ []) (2 ∷ 0 ∷ 1 ∷ []) false ∷ soundness [] (2 ∷ 2 ∷ 2 ∷ []) (1 ∷ 0 ∷ 2 ∷ []) true
-    ∷ soundness [] (2 ∷ 2 ∷ 2 ∷ []) (2 ∷ 0 ∷ 2 ∷ []) false ∷ soundness (put 0 2 ∷ []) (2 ∷ 2 ∷ 2 ∷ []) (2 ∷ 0 ∷ 1 ∷ []) false
-    ∷ soundness (put 0 7 ∷ []) (2 ∷ 2 ∷ 2 ∷ []) (2 ∷ 0 ∷ 1 ∷ []) false ∷ soundness (put 128 11 ∷ []) (2 ∷ 2 ∷ 2 ∷ []) (2 ∷ 0 ∷ 1 ∷ []) false ∷ [])
+    "0 +1 0 1\n" ∷ "0 +1 2\n" ∷ "0 +1 0 1 2\n" ∷ "numbers 2 2 2\n" ∷ "order 2 0 1\n" ∷ []) ∷ soundness [] (2 ∷ 2 ∷ 2 ∷ []) (2 ∷ 0 ∷ 1 ∷ []) true
+    ∷ soundness [] (3 ∷ 2 ∷ 2 ∷ []) (2 ∷ 0 ∷ 1 ∷ []) false ∷ soundness [] (2 ∷ 2 ∷ 1 ∷ []) (2 ∷ 0 ∷ 1 ∷ []) false
+    ∷ soundness [] (2 ∷ 2 ∷ 2 ∷ []) (1 ∷ 0 ∷ 2 ∷ []) true ∷ soundness [] (2 ∷ 2 ∷ 2 ∷ []) (2 ∷ 0 ∷ 2 ∷ []) false
+    ∷ soundness (put 0 2 ∷ []) (2 ∷ 2 ∷ 2 ∷ []) (2 ∷ 0 ∷ 1 ∷ []) false ∷ soundness (put 0 7 ∷ []) (2 ∷ 2 ∷ 2 ∷ []) (2 ∷ 0 ∷ 1 ∷ []) false
+    ∷ soundness (put 128 11 ∷ []) (2 ∷ 2 ∷ 2 ∷ []) (2 ∷ 0 ∷ 1 ∷ []) false ∷ [])
     ∷ []
 
 unfoldable pub images : List Row
@@ -626,11 +615,11 @@ random-small =
     risen (0 ∷ 2 ∷ []) ∷ refused 6 ∷ fallen (0 ∷ 2 ∷ []) ∷ risen (0 ∷ 2 ∷ []) ∷ fallen (0 ∷ 2 ∷ []) ∷ risen (0 ∷ 1 ∷ []) ∷ refused 4 ∷ fallen (0 ∷ 1 ∷ [])
     ∷ risen (0 ∷ 1 ∷ []) ∷ risen (2 ∷ []) ∷ [])
     ∷ printed (
-    "0 +1 0 2\n" ∷ "6 0\n" ∷ "0 -1 0 2\n" ∷ "0 +1 0 2\n" ∷ "0 -1 0 2\n" ∷ "0 +1 0 1\n" ∷ "4 0\n" ∷ "0 -1 0 1\n" ∷ "0 +1 0 1\n" ∷ "0 +1 2\n"
-    ∷ "numbers 1 1 1\n" ∷ "order 2 1 0\n" ∷ [])
+    "0 +1 0 2\n" ∷ "6 0\n" ∷ "0 -1 0 2\n" ∷ "0 +1 0 2\n" ∷ "0 -1 0 2\n" ∷ "0 +1 0 1\n" ∷ "4 0\n" ∷ "0 -1 0 1\n" ∷ "0 +1 0 1\n" ∷ "0 +1 2\n" ∷ "numbers 1 1 1\n"
+    ∷ "order 2 1 0\n" ∷ [])
     ∷ all-numbers (1 ∷ 1 ∷ 1 ∷ []) ∷ whole-order (2 ∷ 1 ∷ 0 ∷ []) ∷ shell-tree (root ∷ node 0 1 root-name ∷ []) (0 ∷ 0 ∷ 0 ∷ [])
-    ∷ backbone-radios (0 ∷ 1 ∷ 2 ∷ []) ∷ connected-core 2 0 0 (0 ∷ 1 ∷ 2 ∷ []) ∷ connected-core 0 1 0 (0 ∷ 1 ∷ 2 ∷ [])
-    ∷ connected-core 1 1 0 (0 ∷ 1 ∷ 2 ∷ []) ∷ connected-core 0 2 8 [] ∷ connected-core 3 0 4 [] ∷ image-checks 1536 (29 ∷ 21 ∷ 46 ∷ []) ∷ [])
+    ∷ backbone-radios (0 ∷ 1 ∷ 2 ∷ []) ∷ connected-core 2 0 0 (0 ∷ 1 ∷ 2 ∷ []) ∷ connected-core 0 1 0 (0 ∷ 1 ∷ 2 ∷ []) ∷ connected-core 1 1 0 (0 ∷ 1 ∷ 2 ∷ [])
+    ∷ connected-core 0 2 8 [] ∷ connected-core 3 0 4 [] ∷ image-checks 1536 (29 ∷ 21 ∷ 46 ∷ []) ∷ [])
     -- random, seed 103
     ∷ row 3 (
     down 2 0 ∷ down 2 0 ∷ down 1 0 ∷ up 2 0 ∷ up 2 0 ∷ down 0 2 ∷ up 2 0 ∷ up 0 1 ∷ down 0 1 ∷ down 0 2 ∷ up 0 1 ∷ down 0 2 ∷ []) (
@@ -661,14 +650,14 @@ random-small =
     down 0 3 ∷ up 2 1 ∷ up 1 0 ∷ down 1 2 ∷ down 0 1 ∷ down 2 0 ∷ down 0 1 ∷ down 1 2 ∷ down 3 2 ∷ up 0 2 ∷ up 2 3 ∷ up 3 1 ∷ down 0 2 ∷ up 1 3 ∷ down 1 3
     ∷ up 2 3 ∷ []) (
     last-answers (
-    refused 6 ∷ risen (1 ∷ 2 ∷ []) ∷ risen (0 ∷ []) ∷ fallen (2 ∷ []) ∷ fallen (0 ∷ 1 ∷ []) ∷ refused 6 ∷ refused 6 ∷ refused 6 ∷ refused 6
-    ∷ risen (0 ∷ 2 ∷ []) ∷ risen (3 ∷ []) ∷ risen (1 ∷ []) ∷ fallen (0 ∷ []) ∷ refused 6 ∷ fallen (1 ∷ []) ∷ refused 6 ∷ [])
+    refused 6 ∷ risen (1 ∷ 2 ∷ []) ∷ risen (0 ∷ []) ∷ fallen (2 ∷ []) ∷ fallen (0 ∷ 1 ∷ []) ∷ refused 6 ∷ refused 6 ∷ refused 6 ∷ refused 6 ∷ risen (0 ∷ 2 ∷ [])
+    ∷ risen (3 ∷ []) ∷ risen (1 ∷ []) ∷ fallen (0 ∷ []) ∷ refused 6 ∷ fallen (1 ∷ []) ∷ refused 6 ∷ [])
     ∷ printed (
     "6 0\n" ∷ "0 +1 1 2\n" ∷ "0 +1 0\n" ∷ "0 -1 2\n" ∷ "0 -1 0 1\n" ∷ "6 0\n" ∷ "6 0\n" ∷ "6 0\n" ∷ "6 0\n" ∷ "0 +1 0 2\n" ∷ "0 +1 3\n" ∷ "0 +1 1\n"
     ∷ "0 -1 0\n" ∷ "6 0\n" ∷ "0 -1 1\n" ∷ "6 0\n" ∷ "numbers 0 0 1 1\n" ∷ "order 0 1 3 2\n" ∷ [])
     ∷ all-numbers (0 ∷ 0 ∷ 1 ∷ 1 ∷ []) ∷ whole-order (0 ∷ 1 ∷ 3 ∷ 2 ∷ []) ∷ shell-tree (root ∷ node 2 1 root-name ∷ []) (root-name ∷ root-name ∷ 2 ∷ 2 ∷ [])
-    ∷ backbone-radios (2 ∷ 3 ∷ []) ∷ connected-core 3 0 0 (2 ∷ 3 ∷ []) ∷ connected-core 2 1 0 (2 ∷ 3 ∷ []) ∷ connected-core 0 1 8 []
-    ∷ connected-core 4 0 4 [] ∷ image-checks 1536 (27 ∷ 60 ∷ 39 ∷ []) ∷ [])
+    ∷ backbone-radios (2 ∷ 3 ∷ []) ∷ connected-core 3 0 0 (2 ∷ 3 ∷ []) ∷ connected-core 2 1 0 (2 ∷ 3 ∷ []) ∷ connected-core 0 1 8 [] ∷ connected-core 4 0 4 []
+    ∷ image-checks 1536 (27 ∷ 60 ∷ 39 ∷ []) ∷ [])
     -- random, seed 106
     ∷ row 5 (
     down 0 3 ∷ up 0 1 ∷ down 0 1 ∷ up 2 3 ∷ up 2 3 ∷ up 2 1 ∷ up 0 5 ∷ up 2 3 ∷ up 2 3 ∷ up 1 3 ∷ up 2 1 ∷ down 2 3 ∷ down 1 2 ∷ up 3 1 ∷ []) (
@@ -690,8 +679,8 @@ random-small =
     ∷ risen (0 ∷ 1 ∷ 2 ∷ 3 ∷ 4 ∷ []) ∷ refused 6 ∷ refused 4 ∷ fallen (0 ∷ 1 ∷ 2 ∷ 3 ∷ 4 ∷ []) ∷ refused 6 ∷ risen (0 ∷ 1 ∷ 2 ∷ 3 ∷ 4 ∷ []) ∷ refused 6
     ∷ unchanged ∷ refused 6 ∷ [])
     ∷ printed (
-    "0 +1 3 4\n" ∷ "0 +1 0\n" ∷ "0 +1 2\n" ∷ "0 +1 1\n" ∷ "0 +1 0 2 3 4\n" ∷ "0 +1 1\n" ∷ "0 0\n" ∷ "0 +1 0 1 2 3 4\n" ∷ "6 0\n" ∷ "4 0\n"
-    ∷ "0 -1 0 1 2 3 4\n" ∷ "6 0\n" ∷ "0 +1 0 1 2 3 4\n" ∷ "6 0\n" ∷ "0 0\n" ∷ "6 0\n" ∷ "numbers 3 3 3 3 3\n" ∷ "order 2 0 1 3 4\n" ∷ [])
+    "0 +1 3 4\n" ∷ "0 +1 0\n" ∷ "0 +1 2\n" ∷ "0 +1 1\n" ∷ "0 +1 0 2 3 4\n" ∷ "0 +1 1\n" ∷ "0 0\n" ∷ "0 +1 0 1 2 3 4\n" ∷ "6 0\n" ∷ "4 0\n" ∷ "0 -1 0 1 2 3 4\n"
+    ∷ "6 0\n" ∷ "0 +1 0 1 2 3 4\n" ∷ "6 0\n" ∷ "0 0\n" ∷ "6 0\n" ∷ "numbers 3 3 3 3 3\n" ∷ "order 2 0 1 3 4\n" ∷ [])
     ∷ all-numbers (3 ∷ 3 ∷ 3 ∷ 3 ∷ 3 ∷ []) ∷ whole-order (2 ∷ 0 ∷ 1 ∷ 3 ∷ 4 ∷ []) ∷ shell-tree (root ∷ node 0 3 root-name ∷ []) (0 ∷ 0 ∷ 0 ∷ 0 ∷ 0 ∷ [])
     ∷ backbone-radios (0 ∷ 1 ∷ 2 ∷ 3 ∷ 4 ∷ []) ∷ connected-core 4 0 0 (0 ∷ 1 ∷ 2 ∷ 3 ∷ 4 ∷ []) ∷ connected-core 0 3 0 (0 ∷ 1 ∷ 2 ∷ 3 ∷ 4 ∷ [])
     ∷ connected-core 2 1 0 (0 ∷ 1 ∷ 2 ∷ 3 ∷ 4 ∷ []) ∷ connected-core 0 4 8 [] ∷ connected-core 5 0 4 [] ∷ image-checks 1536 (88 ∷ 108 ∷ 957 ∷ []) ∷ [])
@@ -716,13 +705,12 @@ random-small =
     up 4 0 ∷ up 2 0 ∷ down 0 2 ∷ down 0 4 ∷ up 0 2 ∷ up 1 3 ∷ down 1 3 ∷ up 0 3 ∷ down 0 2 ∷ down 0 3 ∷ up 3 0 ∷ down 0 3 ∷ up 4 2 ∷ up 4 3 ∷ up 4 0 ∷ up 1 0
     ∷ up 4 1 ∷ down 1 4 ∷ down 3 4 ∷ up 2 3 ∷ down 0 0 ∷ up 3 0 ∷ up 0 3 ∷ up 1 0 ∷ []) (
     last-answers (
-    risen (0 ∷ 4 ∷ []) ∷ risen (2 ∷ []) ∷ fallen (2 ∷ []) ∷ fallen (0 ∷ 4 ∷ []) ∷ risen (0 ∷ 2 ∷ []) ∷ risen (1 ∷ 3 ∷ []) ∷ fallen (1 ∷ 3 ∷ [])
-    ∷ risen (3 ∷ []) ∷ fallen (2 ∷ []) ∷ fallen (0 ∷ 3 ∷ []) ∷ risen (0 ∷ 3 ∷ []) ∷ fallen (0 ∷ 3 ∷ []) ∷ risen (2 ∷ 4 ∷ []) ∷ risen (3 ∷ [])
-    ∷ risen (0 ∷ []) ∷ risen (1 ∷ []) ∷ risen (0 ∷ 1 ∷ 4 ∷ []) ∷ fallen (0 ∷ 1 ∷ 4 ∷ []) ∷ fallen (3 ∷ []) ∷ risen (3 ∷ []) ∷ refused 5
-    ∷ risen (0 ∷ 2 ∷ 3 ∷ 4 ∷ []) ∷ refused 6 ∷ refused 6 ∷ [])
+    risen (0 ∷ 4 ∷ []) ∷ risen (2 ∷ []) ∷ fallen (2 ∷ []) ∷ fallen (0 ∷ 4 ∷ []) ∷ risen (0 ∷ 2 ∷ []) ∷ risen (1 ∷ 3 ∷ []) ∷ fallen (1 ∷ 3 ∷ []) ∷ risen (3 ∷ [])
+    ∷ fallen (2 ∷ []) ∷ fallen (0 ∷ 3 ∷ []) ∷ risen (0 ∷ 3 ∷ []) ∷ fallen (0 ∷ 3 ∷ []) ∷ risen (2 ∷ 4 ∷ []) ∷ risen (3 ∷ []) ∷ risen (0 ∷ []) ∷ risen (1 ∷ [])
+    ∷ risen (0 ∷ 1 ∷ 4 ∷ []) ∷ fallen (0 ∷ 1 ∷ 4 ∷ []) ∷ fallen (3 ∷ []) ∷ risen (3 ∷ []) ∷ refused 5 ∷ risen (0 ∷ 2 ∷ 3 ∷ 4 ∷ []) ∷ refused 6 ∷ refused 6 ∷ [])
     ∷ printed (
-    "0 +1 0 4\n" ∷ "0 +1 2\n" ∷ "0 -1 2\n" ∷ "0 -1 0 4\n" ∷ "0 +1 0 2\n" ∷ "0 +1 1 3\n" ∷ "0 -1 1 3\n" ∷ "0 +1 3\n" ∷ "0 -1 2\n" ∷ "0 -1 0 3\n"
-    ∷ "0 +1 0 3\n" ∷ "0 -1 0 3\n" ∷ "0 +1 2 4\n" ∷ "0 +1 3\n" ∷ "0 +1 0\n" ∷ "0 +1 1\n" ∷ "0 +1 0 1 4\n" ∷ "0 -1 0 1 4\n" ∷ "0 -1 3\n" ∷ "0 +1 3\n" ∷ "5 0\n"
+    "0 +1 0 4\n" ∷ "0 +1 2\n" ∷ "0 -1 2\n" ∷ "0 -1 0 4\n" ∷ "0 +1 0 2\n" ∷ "0 +1 1 3\n" ∷ "0 -1 1 3\n" ∷ "0 +1 3\n" ∷ "0 -1 2\n" ∷ "0 -1 0 3\n" ∷ "0 +1 0 3\n"
+    ∷ "0 -1 0 3\n" ∷ "0 +1 2 4\n" ∷ "0 +1 3\n" ∷ "0 +1 0\n" ∷ "0 +1 1\n" ∷ "0 +1 0 1 4\n" ∷ "0 -1 0 1 4\n" ∷ "0 -1 3\n" ∷ "0 +1 3\n" ∷ "5 0\n"
     ∷ "0 +1 0 2 3 4\n" ∷ "6 0\n" ∷ "6 0\n" ∷ "numbers 2 1 2 2 2\n" ∷ "order 1 3 2 0 4\n" ∷ [])
     ∷ all-numbers (2 ∷ 1 ∷ 2 ∷ 2 ∷ 2 ∷ []) ∷ whole-order (1 ∷ 3 ∷ 2 ∷ 0 ∷ 4 ∷ [])
     ∷ shell-tree (root ∷ node 1 1 root-name ∷ node 0 2 1 ∷ []) (0 ∷ 1 ∷ 0 ∷ 0 ∷ 0 ∷ []) ∷ backbone-radios (0 ∷ 2 ∷ 3 ∷ 4 ∷ [])
@@ -734,8 +722,7 @@ unfoldable pub random-middle : List Row
 random-middle =
     -- random, seed 201
     row 6 (
-    up 0 2 ∷ up 5 3 ∷ up 3 4 ∷ up 4 3 ∷ up 5 1 ∷ up 4 2 ∷ down 3 5 ∷ down 2 4 ∷ up 2 4 ∷ up 3 1 ∷ up 0 3 ∷ down 0 3 ∷ down 1 5 ∷ up 0 2 ∷ up 4 0 ∷ up 4 2
-    ∷ []) (
+    up 0 2 ∷ up 5 3 ∷ up 3 4 ∷ up 4 3 ∷ up 5 1 ∷ up 4 2 ∷ down 3 5 ∷ down 2 4 ∷ up 2 4 ∷ up 3 1 ∷ up 0 3 ∷ down 0 3 ∷ down 1 5 ∷ up 0 2 ∷ up 4 0 ∷ up 4 2 ∷ []) (
     last-answers (
     risen (0 ∷ 2 ∷ []) ∷ risen (3 ∷ 5 ∷ []) ∷ risen (4 ∷ []) ∷ refused 6 ∷ risen (1 ∷ []) ∷ unchanged ∷ unchanged ∷ unchanged ∷ unchanged ∷ unchanged
     ∷ risen (0 ∷ 2 ∷ 3 ∷ 4 ∷ []) ∷ fallen (0 ∷ 2 ∷ 3 ∷ 4 ∷ []) ∷ fallen (5 ∷ []) ∷ refused 6 ∷ risen (0 ∷ 2 ∷ 4 ∷ []) ∷ refused 6 ∷ [])
@@ -755,9 +742,8 @@ random-middle =
     ∷ unchanged ∷ risen (1 ∷ []) ∷ risen (2 ∷ []) ∷ refused 6 ∷ fallen (2 ∷ []) ∷ risen (2 ∷ []) ∷ refused 6 ∷ refused 6 ∷ risen (4 ∷ [])
     ∷ risen (0 ∷ 1 ∷ 2 ∷ 3 ∷ 5 ∷ []) ∷ unchanged ∷ [])
     ∷ printed (
-    "6 0\n" ∷ "0 +1 0 3\n" ∷ "0 +1 2 4\n" ∷ "0 +1 5\n" ∷ "0 +1 1\n" ∷ "0 0\n" ∷ "0 +1 0 3 5\n" ∷ "0 0\n" ∷ "6 0\n" ∷ "0 0\n" ∷ "0 +1 1\n" ∷ "0 +1 2\n"
-    ∷ "6 0\n" ∷ "0 -1 2\n" ∷ "0 +1 2\n" ∷ "6 0\n" ∷ "6 0\n" ∷ "0 +1 4\n" ∷ "0 +1 0 1 2 3 5\n" ∷ "0 0\n" ∷ "numbers 3 3 3 3 2 3\n" ∷ "order 4 1 2 5 0 3\n"
-    ∷ [])
+    "6 0\n" ∷ "0 +1 0 3\n" ∷ "0 +1 2 4\n" ∷ "0 +1 5\n" ∷ "0 +1 1\n" ∷ "0 0\n" ∷ "0 +1 0 3 5\n" ∷ "0 0\n" ∷ "6 0\n" ∷ "0 0\n" ∷ "0 +1 1\n" ∷ "0 +1 2\n" ∷ "6 0\n"
+    ∷ "0 -1 2\n" ∷ "0 +1 2\n" ∷ "6 0\n" ∷ "6 0\n" ∷ "0 +1 4\n" ∷ "0 +1 0 1 2 3 5\n" ∷ "0 0\n" ∷ "numbers 3 3 3 3 2 3\n" ∷ "order 4 1 2 5 0 3\n" ∷ [])
     ∷ all-numbers (3 ∷ 3 ∷ 3 ∷ 3 ∷ 2 ∷ 3 ∷ []) ∷ whole-order (4 ∷ 1 ∷ 2 ∷ 5 ∷ 0 ∷ 3 ∷ [])
     ∷ shell-tree (root ∷ node 4 2 root-name ∷ node 0 3 4 ∷ []) (0 ∷ 0 ∷ 0 ∷ 0 ∷ 4 ∷ 0 ∷ []) ∷ backbone-radios (0 ∷ 1 ∷ 2 ∷ 3 ∷ 5 ∷ [])
     ∷ connected-core 5 0 0 (0 ∷ 1 ∷ 2 ∷ 3 ∷ 4 ∷ 5 ∷ []) ∷ connected-core 0 3 0 (0 ∷ 1 ∷ 2 ∷ 3 ∷ 5 ∷ []) ∷ connected-core 3 1 0 (0 ∷ 1 ∷ 2 ∷ 3 ∷ 4 ∷ 5 ∷ [])
@@ -768,8 +754,8 @@ random-middle =
     ∷ up 0 2 ∷ down 0 5 ∷ up 3 2 ∷ down 2 4 ∷ up 1 3 ∷ up 1 4 ∷ up 6 1 ∷ []) (
     last-answers (
     risen (1 ∷ 4 ∷ []) ∷ risen (2 ∷ []) ∷ risen (1 ∷ 2 ∷ 4 ∷ []) ∷ risen (0 ∷ []) ∷ refused 6 ∷ risen (3 ∷ []) ∷ risen (0 ∷ 3 ∷ []) ∷ refused 6 ∷ unchanged
-    ∷ risen (0 ∷ 1 ∷ 2 ∷ 3 ∷ 4 ∷ []) ∷ unchanged ∷ risen (5 ∷ []) ∷ refused 6 ∷ risen (5 ∷ []) ∷ refused 6 ∷ refused 6 ∷ unchanged ∷ refused 6
-    ∷ fallen (5 ∷ []) ∷ unchanged ∷ fallen (4 ∷ []) ∷ refused 6 ∷ refused 6 ∷ refused 4 ∷ [])
+    ∷ risen (0 ∷ 1 ∷ 2 ∷ 3 ∷ 4 ∷ []) ∷ unchanged ∷ risen (5 ∷ []) ∷ refused 6 ∷ risen (5 ∷ []) ∷ refused 6 ∷ refused 6 ∷ unchanged ∷ refused 6 ∷ fallen (5 ∷ [])
+    ∷ unchanged ∷ fallen (4 ∷ []) ∷ refused 6 ∷ refused 6 ∷ refused 4 ∷ [])
     ∷ printed (
     "0 +1 1 4\n" ∷ "0 +1 2\n" ∷ "0 +1 1 2 4\n" ∷ "0 +1 0\n" ∷ "6 0\n" ∷ "0 +1 3\n" ∷ "0 +1 0 3\n" ∷ "6 0\n" ∷ "0 0\n" ∷ "0 +1 0 1 2 3 4\n" ∷ "0 0\n"
     ∷ "0 +1 5\n" ∷ "6 0\n" ∷ "0 +1 5\n" ∷ "6 0\n" ∷ "6 0\n" ∷ "0 0\n" ∷ "6 0\n" ∷ "0 -1 5\n" ∷ "0 0\n" ∷ "0 -1 4\n" ∷ "6 0\n" ∷ "6 0\n" ∷ "4 0\n"
@@ -784,42 +770,39 @@ random-middle =
     ∷ up 3 4 ∷ up 4 6 ∷ []) (
     last-answers (
     risen (2 ∷ 3 ∷ []) ∷ risen (0 ∷ 5 ∷ []) ∷ unchanged ∷ risen (4 ∷ []) ∷ unchanged ∷ fallen (5 ∷ []) ∷ risen (5 ∷ []) ∷ risen (2 ∷ 4 ∷ 5 ∷ [])
-    ∷ risen (6 ∷ []) ∷ unchanged ∷ risen (1 ∷ []) ∷ refused 4 ∷ fallen (2 ∷ 4 ∷ 5 ∷ []) ∷ risen (0 ∷ 3 ∷ 4 ∷ 5 ∷ []) ∷ unchanged ∷ fallen (6 ∷ [])
-    ∷ refused 6 ∷ risen (6 ∷ []) ∷ [])
+    ∷ risen (6 ∷ []) ∷ unchanged ∷ risen (1 ∷ []) ∷ refused 4 ∷ fallen (2 ∷ 4 ∷ 5 ∷ []) ∷ risen (0 ∷ 3 ∷ 4 ∷ 5 ∷ []) ∷ unchanged ∷ fallen (6 ∷ []) ∷ refused 6
+    ∷ risen (6 ∷ []) ∷ [])
     ∷ printed (
     "0 +1 2 3\n" ∷ "0 +1 0 5\n" ∷ "0 0\n" ∷ "0 +1 4\n" ∷ "0 0\n" ∷ "0 -1 5\n" ∷ "0 +1 5\n" ∷ "0 +1 2 4 5\n" ∷ "0 +1 6\n" ∷ "0 0\n" ∷ "0 +1 1\n" ∷ "4 0\n"
     ∷ "0 -1 2 4 5\n" ∷ "0 +1 0 3 4 5\n" ∷ "0 0\n" ∷ "0 -1 6\n" ∷ "6 0\n" ∷ "0 +1 6\n" ∷ "numbers 2 1 1 2 2 2 1\n" ∷ "order 6 1 2 0 3 4 5\n" ∷ [])
     ∷ all-numbers (2 ∷ 1 ∷ 1 ∷ 2 ∷ 2 ∷ 2 ∷ 1 ∷ []) ∷ whole-order (6 ∷ 1 ∷ 2 ∷ 0 ∷ 3 ∷ 4 ∷ 5 ∷ [])
     ∷ shell-tree (root ∷ node 1 1 root-name ∷ node 0 2 1 ∷ []) (0 ∷ 1 ∷ 1 ∷ 0 ∷ 0 ∷ 0 ∷ 1 ∷ []) ∷ backbone-radios (0 ∷ 3 ∷ 4 ∷ 5 ∷ [])
-    ∷ connected-core 6 0 0 (0 ∷ 1 ∷ 2 ∷ 3 ∷ 4 ∷ 5 ∷ 6 ∷ []) ∷ connected-core 0 2 0 (0 ∷ 3 ∷ 4 ∷ 5 ∷ [])
-    ∷ connected-core 3 1 0 (0 ∷ 1 ∷ 2 ∷ 3 ∷ 4 ∷ 5 ∷ 6 ∷ []) ∷ connected-core 0 3 8 [] ∷ connected-core 7 0 4 [] ∷ image-checks 1536 (91 ∷ 243 ∷ 1238 ∷ [])
-    ∷ [])
+    ∷ connected-core 6 0 0 (0 ∷ 1 ∷ 2 ∷ 3 ∷ 4 ∷ 5 ∷ 6 ∷ []) ∷ connected-core 0 2 0 (0 ∷ 3 ∷ 4 ∷ 5 ∷ []) ∷ connected-core 3 1 0 (0 ∷ 1 ∷ 2 ∷ 3 ∷ 4 ∷ 5 ∷ 6 ∷ [])
+    ∷ connected-core 0 3 8 [] ∷ connected-core 7 0 4 [] ∷ image-checks 1536 (91 ∷ 243 ∷ 1238 ∷ []) ∷ [])
     -- random, seed 205
     ∷ row 7 (
-    up 4 3 ∷ up 6 4 ∷ up 6 1 ∷ up 1 4 ∷ down 3 4 ∷ up 6 2 ∷ up 4 3 ∷ up 4 5 ∷ up 4 2 ∷ up 2 5 ∷ up 1 3 ∷ up 6 4 ∷ up 3 2 ∷ up 1 5 ∷ down 2 3 ∷ up 6 2
-    ∷ up 4 1 ∷ up 3 0 ∷ up 2 3 ∷ up 2 4 ∷ []) (
+    up 4 3 ∷ up 6 4 ∷ up 6 1 ∷ up 1 4 ∷ down 3 4 ∷ up 6 2 ∷ up 4 3 ∷ up 4 5 ∷ up 4 2 ∷ up 2 5 ∷ up 1 3 ∷ up 6 4 ∷ up 3 2 ∷ up 1 5 ∷ down 2 3 ∷ up 6 2 ∷ up 4 1
+    ∷ up 3 0 ∷ up 2 3 ∷ up 2 4 ∷ []) (
     last-answers (
     risen (3 ∷ 4 ∷ []) ∷ risen (6 ∷ []) ∷ risen (1 ∷ []) ∷ risen (1 ∷ 4 ∷ 6 ∷ []) ∷ fallen (3 ∷ []) ∷ risen (2 ∷ []) ∷ risen (3 ∷ []) ∷ risen (5 ∷ [])
-    ∷ risen (2 ∷ []) ∷ risen (5 ∷ []) ∷ risen (3 ∷ []) ∷ refused 6 ∷ risen (1 ∷ 2 ∷ 3 ∷ 4 ∷ 6 ∷ []) ∷ risen (5 ∷ []) ∷ fallen (3 ∷ []) ∷ refused 6
-    ∷ refused 6 ∷ risen (0 ∷ []) ∷ risen (3 ∷ []) ∷ refused 6 ∷ [])
+    ∷ risen (2 ∷ []) ∷ risen (5 ∷ []) ∷ risen (3 ∷ []) ∷ refused 6 ∷ risen (1 ∷ 2 ∷ 3 ∷ 4 ∷ 6 ∷ []) ∷ risen (5 ∷ []) ∷ fallen (3 ∷ []) ∷ refused 6 ∷ refused 6
+    ∷ risen (0 ∷ []) ∷ risen (3 ∷ []) ∷ refused 6 ∷ [])
     ∷ printed (
-    "0 +1 3 4\n" ∷ "0 +1 6\n" ∷ "0 +1 1\n" ∷ "0 +1 1 4 6\n" ∷ "0 -1 3\n" ∷ "0 +1 2\n" ∷ "0 +1 3\n" ∷ "0 +1 5\n" ∷ "0 +1 2\n" ∷ "0 +1 5\n" ∷ "0 +1 3\n"
-    ∷ "6 0\n" ∷ "0 +1 1 2 3 4 6\n" ∷ "0 +1 5\n" ∷ "0 -1 3\n" ∷ "6 0\n" ∷ "6 0\n" ∷ "0 +1 0\n" ∷ "0 +1 3\n" ∷ "6 0\n" ∷ "numbers 1 3 3 3 3 3 3\n"
-    ∷ "order 0 3 5 2 1 6 4\n" ∷ [])
+    "0 +1 3 4\n" ∷ "0 +1 6\n" ∷ "0 +1 1\n" ∷ "0 +1 1 4 6\n" ∷ "0 -1 3\n" ∷ "0 +1 2\n" ∷ "0 +1 3\n" ∷ "0 +1 5\n" ∷ "0 +1 2\n" ∷ "0 +1 5\n" ∷ "0 +1 3\n" ∷ "6 0\n"
+    ∷ "0 +1 1 2 3 4 6\n" ∷ "0 +1 5\n" ∷ "0 -1 3\n" ∷ "6 0\n" ∷ "6 0\n" ∷ "0 +1 0\n" ∷ "0 +1 3\n" ∷ "6 0\n" ∷ "numbers 1 3 3 3 3 3 3\n" ∷ "order 0 3 5 2 1 6 4\n"
+    ∷ [])
     ∷ all-numbers (1 ∷ 3 ∷ 3 ∷ 3 ∷ 3 ∷ 3 ∷ 3 ∷ []) ∷ whole-order (0 ∷ 3 ∷ 5 ∷ 2 ∷ 1 ∷ 6 ∷ 4 ∷ [])
     ∷ shell-tree (root ∷ node 0 1 root-name ∷ node 1 3 0 ∷ []) (0 ∷ 1 ∷ 1 ∷ 1 ∷ 1 ∷ 1 ∷ 1 ∷ []) ∷ backbone-radios (1 ∷ 2 ∷ 3 ∷ 4 ∷ 5 ∷ 6 ∷ [])
     ∷ connected-core 6 0 0 (0 ∷ 1 ∷ 2 ∷ 3 ∷ 4 ∷ 5 ∷ 6 ∷ []) ∷ connected-core 1 3 0 (1 ∷ 2 ∷ 3 ∷ 4 ∷ 5 ∷ 6 ∷ [])
-    ∷ connected-core 3 1 0 (0 ∷ 1 ∷ 2 ∷ 3 ∷ 4 ∷ 5 ∷ 6 ∷ []) ∷ connected-core 0 2 8 [] ∷ connected-core 7 0 4 [] ∷ image-checks 1536 (119 ∷ 263 ∷ 2489 ∷ [])
-    ∷ [])
+    ∷ connected-core 3 1 0 (0 ∷ 1 ∷ 2 ∷ 3 ∷ 4 ∷ 5 ∷ 6 ∷ []) ∷ connected-core 0 2 8 [] ∷ connected-core 7 0 4 [] ∷ image-checks 1536 (119 ∷ 263 ∷ 2489 ∷ []) ∷ [])
     -- random, seed 206
     ∷ row 7 (
     up 5 1 ∷ down 1 5 ∷ up 5 4 ∷ up 2 5 ∷ up 3 6 ∷ up 2 0 ∷ down 0 2 ∷ down 2 5 ∷ up 0 3 ∷ up 6 0 ∷ up 0 1 ∷ up 5 6 ∷ up 6 1 ∷ down 0 1 ∷ down 3 6 ∷ up 4 6
     ∷ down 0 3 ∷ up 7 7 ∷ down 5 6 ∷ up 4 1 ∷ up 5 6 ∷ down 5 6 ∷ up 6 4 ∷ up 5 0 ∷ []) (
     last-answers (
     risen (1 ∷ 5 ∷ []) ∷ fallen (1 ∷ 5 ∷ []) ∷ risen (4 ∷ 5 ∷ []) ∷ risen (2 ∷ []) ∷ risen (3 ∷ 6 ∷ []) ∷ risen (0 ∷ []) ∷ fallen (0 ∷ []) ∷ fallen (2 ∷ [])
-    ∷ risen (0 ∷ []) ∷ risen (0 ∷ 3 ∷ 6 ∷ []) ∷ risen (1 ∷ []) ∷ unchanged ∷ risen (1 ∷ []) ∷ fallen (1 ∷ []) ∷ fallen (0 ∷ 3 ∷ 6 ∷ [])
-    ∷ risen (4 ∷ 5 ∷ 6 ∷ []) ∷ fallen (3 ∷ []) ∷ refused 4 ∷ fallen (4 ∷ 5 ∷ 6 ∷ []) ∷ risen (1 ∷ 4 ∷ 6 ∷ []) ∷ risen (5 ∷ []) ∷ fallen (5 ∷ []) ∷ refused 6
-    ∷ risen (0 ∷ 5 ∷ []) ∷ [])
+    ∷ risen (0 ∷ []) ∷ risen (0 ∷ 3 ∷ 6 ∷ []) ∷ risen (1 ∷ []) ∷ unchanged ∷ risen (1 ∷ []) ∷ fallen (1 ∷ []) ∷ fallen (0 ∷ 3 ∷ 6 ∷ []) ∷ risen (4 ∷ 5 ∷ 6 ∷ [])
+    ∷ fallen (3 ∷ []) ∷ refused 4 ∷ fallen (4 ∷ 5 ∷ 6 ∷ []) ∷ risen (1 ∷ 4 ∷ 6 ∷ []) ∷ risen (5 ∷ []) ∷ fallen (5 ∷ []) ∷ refused 6 ∷ risen (0 ∷ 5 ∷ []) ∷ [])
     ∷ printed (
     "0 +1 1 5\n" ∷ "0 -1 1 5\n" ∷ "0 +1 4 5\n" ∷ "0 +1 2\n" ∷ "0 +1 3 6\n" ∷ "0 +1 0\n" ∷ "0 -1 0\n" ∷ "0 -1 2\n" ∷ "0 +1 0\n" ∷ "0 +1 0 3 6\n" ∷ "0 +1 1\n"
     ∷ "0 0\n" ∷ "0 +1 1\n" ∷ "0 -1 1\n" ∷ "0 -1 0 3 6\n" ∷ "0 +1 4 5 6\n" ∷ "0 -1 3\n" ∷ "4 0\n" ∷ "0 -1 4 5 6\n" ∷ "0 +1 1 4 6\n" ∷ "0 +1 5\n" ∷ "0 -1 5\n"
@@ -837,35 +820,34 @@ random-large =
     up 7 4 ∷ up 4 0 ∷ down 4 7 ∷ down 0 4 ∷ up 5 3 ∷ up 7 0 ∷ up 1 7 ∷ up 2 6 ∷ down 2 6 ∷ up 6 0 ∷ up 6 7 ∷ up 1 4 ∷ down 0 7 ∷ up 4 5 ∷ up 6 7 ∷ up 7 6
     ∷ up 3 0 ∷ up 4 0 ∷ down 0 6 ∷ up 5 1 ∷ []) (
     last-answers (
-    risen (4 ∷ 7 ∷ []) ∷ risen (0 ∷ []) ∷ fallen (7 ∷ []) ∷ fallen (0 ∷ 4 ∷ []) ∷ risen (3 ∷ 5 ∷ []) ∷ risen (0 ∷ 7 ∷ []) ∷ risen (1 ∷ [])
-    ∷ risen (2 ∷ 6 ∷ []) ∷ fallen (2 ∷ 6 ∷ []) ∷ risen (6 ∷ []) ∷ risen (0 ∷ 6 ∷ 7 ∷ []) ∷ risen (4 ∷ []) ∷ fallen (0 ∷ 6 ∷ 7 ∷ []) ∷ unchanged ∷ refused 6
-    ∷ refused 6 ∷ risen (0 ∷ 1 ∷ 3 ∷ 4 ∷ 5 ∷ 6 ∷ 7 ∷ []) ∷ unchanged ∷ fallen (1 ∷ 6 ∷ 7 ∷ []) ∷ risen (1 ∷ []) ∷ [])
+    risen (4 ∷ 7 ∷ []) ∷ risen (0 ∷ []) ∷ fallen (7 ∷ []) ∷ fallen (0 ∷ 4 ∷ []) ∷ risen (3 ∷ 5 ∷ []) ∷ risen (0 ∷ 7 ∷ []) ∷ risen (1 ∷ []) ∷ risen (2 ∷ 6 ∷ [])
+    ∷ fallen (2 ∷ 6 ∷ []) ∷ risen (6 ∷ []) ∷ risen (0 ∷ 6 ∷ 7 ∷ []) ∷ risen (4 ∷ []) ∷ fallen (0 ∷ 6 ∷ 7 ∷ []) ∷ unchanged ∷ refused 6 ∷ refused 6
+    ∷ risen (0 ∷ 1 ∷ 3 ∷ 4 ∷ 5 ∷ 6 ∷ 7 ∷ []) ∷ unchanged ∷ fallen (1 ∷ 6 ∷ 7 ∷ []) ∷ risen (1 ∷ []) ∷ [])
     ∷ printed (
-    "0 +1 4 7\n" ∷ "0 +1 0\n" ∷ "0 -1 7\n" ∷ "0 -1 0 4\n" ∷ "0 +1 3 5\n" ∷ "0 +1 0 7\n" ∷ "0 +1 1\n" ∷ "0 +1 2 6\n" ∷ "0 -1 2 6\n" ∷ "0 +1 6\n"
-    ∷ "0 +1 0 6 7\n" ∷ "0 +1 4\n" ∷ "0 -1 0 6 7\n" ∷ "0 0\n" ∷ "6 0\n" ∷ "6 0\n" ∷ "0 +1 0 1 3 4 5 6 7\n" ∷ "0 0\n" ∷ "0 -1 1 6 7\n" ∷ "0 +1 1\n"
-    ∷ "numbers 2 2 0 2 2 2 1 1\n" ∷ "order 2 6 7 1 3 5 4 0\n" ∷ [])
+    "0 +1 4 7\n" ∷ "0 +1 0\n" ∷ "0 -1 7\n" ∷ "0 -1 0 4\n" ∷ "0 +1 3 5\n" ∷ "0 +1 0 7\n" ∷ "0 +1 1\n" ∷ "0 +1 2 6\n" ∷ "0 -1 2 6\n" ∷ "0 +1 6\n" ∷ "0 +1 0 6 7\n"
+    ∷ "0 +1 4\n" ∷ "0 -1 0 6 7\n" ∷ "0 0\n" ∷ "6 0\n" ∷ "6 0\n" ∷ "0 +1 0 1 3 4 5 6 7\n" ∷ "0 0\n" ∷ "0 -1 1 6 7\n" ∷ "0 +1 1\n" ∷ "numbers 2 2 0 2 2 2 1 1\n"
+    ∷ "order 2 6 7 1 3 5 4 0\n" ∷ [])
     ∷ all-numbers (2 ∷ 2 ∷ 0 ∷ 2 ∷ 2 ∷ 2 ∷ 1 ∷ 1 ∷ []) ∷ whole-order (2 ∷ 6 ∷ 7 ∷ 1 ∷ 3 ∷ 5 ∷ 4 ∷ 0 ∷ [])
     ∷ shell-tree (root ∷ node 6 1 root-name ∷ node 0 2 6 ∷ []) (0 ∷ 0 ∷ root-name ∷ 0 ∷ 0 ∷ 0 ∷ 6 ∷ 6 ∷ []) ∷ backbone-radios (0 ∷ 1 ∷ 3 ∷ 4 ∷ 5 ∷ [])
     ∷ connected-core 7 0 0 (0 ∷ 1 ∷ 3 ∷ 4 ∷ 5 ∷ 6 ∷ 7 ∷ []) ∷ connected-core 0 2 0 (0 ∷ 1 ∷ 3 ∷ 4 ∷ 5 ∷ [])
-    ∷ connected-core 4 1 0 (0 ∷ 1 ∷ 3 ∷ 4 ∷ 5 ∷ 6 ∷ 7 ∷ []) ∷ connected-core 0 3 8 [] ∷ connected-core 8 0 4 [] ∷ image-checks 1536 (96 ∷ 312 ∷ 1364 ∷ [])
-    ∷ [])
+    ∷ connected-core 4 1 0 (0 ∷ 1 ∷ 3 ∷ 4 ∷ 5 ∷ 6 ∷ 7 ∷ []) ∷ connected-core 0 3 8 [] ∷ connected-core 8 0 4 [] ∷ image-checks 1536 (96 ∷ 312 ∷ 1364 ∷ []) ∷ [])
     -- random, seed 302
     ∷ row 8 (
-    down 6 3 ∷ down 6 3 ∷ up 6 2 ∷ up 0 5 ∷ up 0 5 ∷ down 5 6 ∷ up 7 3 ∷ up 2 0 ∷ up 6 2 ∷ up 6 5 ∷ up 3 0 ∷ up 1 4 ∷ up 4 0 ∷ up 2 6 ∷ up 2 3 ∷ up 0 6
-    ∷ up 0 2 ∷ down 5 6 ∷ up 7 0 ∷ up 4 3 ∷ up 3 7 ∷ up 3 6 ∷ up 7 5 ∷ up 6 1 ∷ []) (
+    down 6 3 ∷ down 6 3 ∷ up 6 2 ∷ up 0 5 ∷ up 0 5 ∷ down 5 6 ∷ up 7 3 ∷ up 2 0 ∷ up 6 2 ∷ up 6 5 ∷ up 3 0 ∷ up 1 4 ∷ up 4 0 ∷ up 2 6 ∷ up 2 3 ∷ up 0 6 ∷ up 0 2
+    ∷ down 5 6 ∷ up 7 0 ∷ up 4 3 ∷ up 3 7 ∷ up 3 6 ∷ up 7 5 ∷ up 6 1 ∷ []) (
     last-answers (
     refused 6 ∷ refused 6 ∷ risen (2 ∷ 6 ∷ []) ∷ risen (0 ∷ 5 ∷ []) ∷ refused 6 ∷ refused 6 ∷ risen (3 ∷ 7 ∷ []) ∷ unchanged ∷ refused 6
     ∷ risen (0 ∷ 2 ∷ 5 ∷ 6 ∷ []) ∷ unchanged ∷ risen (1 ∷ 4 ∷ []) ∷ unchanged ∷ refused 6 ∷ risen (3 ∷ []) ∷ unchanged ∷ refused 6 ∷ fallen (5 ∷ [])
     ∷ risen (7 ∷ []) ∷ risen (4 ∷ []) ∷ refused 6 ∷ risen (0 ∷ 2 ∷ 3 ∷ 6 ∷ []) ∷ risen (5 ∷ []) ∷ risen (1 ∷ []) ∷ [])
     ∷ printed (
-    "6 0\n" ∷ "6 0\n" ∷ "0 +1 2 6\n" ∷ "0 +1 0 5\n" ∷ "6 0\n" ∷ "6 0\n" ∷ "0 +1 3 7\n" ∷ "0 0\n" ∷ "6 0\n" ∷ "0 +1 0 2 5 6\n" ∷ "0 0\n" ∷ "0 +1 1 4\n"
-    ∷ "0 0\n" ∷ "6 0\n" ∷ "0 +1 3\n" ∷ "0 0\n" ∷ "6 0\n" ∷ "0 -1 5\n" ∷ "0 +1 7\n" ∷ "0 +1 4\n" ∷ "6 0\n" ∷ "0 +1 0 2 3 6\n" ∷ "0 +1 5\n" ∷ "0 +1 1\n"
+    "6 0\n" ∷ "6 0\n" ∷ "0 +1 2 6\n" ∷ "0 +1 0 5\n" ∷ "6 0\n" ∷ "6 0\n" ∷ "0 +1 3 7\n" ∷ "0 0\n" ∷ "6 0\n" ∷ "0 +1 0 2 5 6\n" ∷ "0 0\n" ∷ "0 +1 1 4\n" ∷ "0 0\n"
+    ∷ "6 0\n" ∷ "0 +1 3\n" ∷ "0 0\n" ∷ "6 0\n" ∷ "0 -1 5\n" ∷ "0 +1 7\n" ∷ "0 +1 4\n" ∷ "6 0\n" ∷ "0 +1 0 2 3 6\n" ∷ "0 +1 5\n" ∷ "0 +1 1\n"
     ∷ "numbers 3 2 3 3 2 2 3 2\n" ∷ "order 1 5 4 7 3 0 2 6\n" ∷ [])
     ∷ all-numbers (3 ∷ 2 ∷ 3 ∷ 3 ∷ 2 ∷ 2 ∷ 3 ∷ 2 ∷ []) ∷ whole-order (1 ∷ 5 ∷ 4 ∷ 7 ∷ 3 ∷ 0 ∷ 2 ∷ 6 ∷ [])
     ∷ shell-tree (root ∷ node 1 2 root-name ∷ node 0 3 1 ∷ []) (0 ∷ 1 ∷ 0 ∷ 0 ∷ 1 ∷ 1 ∷ 0 ∷ 1 ∷ []) ∷ backbone-radios (0 ∷ 2 ∷ 3 ∷ 6 ∷ [])
     ∷ connected-core 7 0 0 (0 ∷ 1 ∷ 2 ∷ 3 ∷ 4 ∷ 5 ∷ 6 ∷ 7 ∷ []) ∷ connected-core 0 3 0 (0 ∷ 2 ∷ 3 ∷ 6 ∷ [])
-    ∷ connected-core 4 1 0 (0 ∷ 1 ∷ 2 ∷ 3 ∷ 4 ∷ 5 ∷ 6 ∷ 7 ∷ []) ∷ connected-core 0 4 8 [] ∷ connected-core 8 0 4 []
-    ∷ image-checks 1536 (138 ∷ 344 ∷ 3482 ∷ []) ∷ [])
+    ∷ connected-core 4 1 0 (0 ∷ 1 ∷ 2 ∷ 3 ∷ 4 ∷ 5 ∷ 6 ∷ 7 ∷ []) ∷ connected-core 0 4 8 [] ∷ connected-core 8 0 4 [] ∷ image-checks 1536 (138 ∷ 344 ∷ 3482 ∷ [])
+    ∷ [])
     -- random, seed 303
     ∷ row 8 (
     up 3 0 ∷ down 0 3 ∷ up 1 2 ∷ up 0 4 ∷ down 1 2 ∷ down 0 4 ∷ up 2 1 ∷ up 3 6 ∷ up 4 7 ∷ down 3 6 ∷ down 4 7 ∷ up 7 1 ∷ up 1 6 ∷ up 2 3 ∷ up 6 0 ∷ up 3 1
@@ -882,12 +864,12 @@ random-large =
     ∷ all-numbers (2 ∷ 2 ∷ 2 ∷ 2 ∷ 2 ∷ 2 ∷ 2 ∷ 1 ∷ []) ∷ whole-order (7 ∷ 4 ∷ 5 ∷ 0 ∷ 6 ∷ 3 ∷ 1 ∷ 2 ∷ [])
     ∷ shell-tree (root ∷ node 7 1 root-name ∷ node 0 2 7 ∷ []) (0 ∷ 0 ∷ 0 ∷ 0 ∷ 0 ∷ 0 ∷ 0 ∷ 7 ∷ []) ∷ backbone-radios (0 ∷ 1 ∷ 2 ∷ 3 ∷ 4 ∷ 5 ∷ 6 ∷ [])
     ∷ connected-core 7 0 0 (0 ∷ 1 ∷ 2 ∷ 3 ∷ 4 ∷ 5 ∷ 6 ∷ 7 ∷ []) ∷ connected-core 0 2 0 (0 ∷ 1 ∷ 2 ∷ 3 ∷ 4 ∷ 5 ∷ 6 ∷ [])
-    ∷ connected-core 4 1 0 (0 ∷ 1 ∷ 2 ∷ 3 ∷ 4 ∷ 5 ∷ 6 ∷ 7 ∷ []) ∷ connected-core 0 3 8 [] ∷ connected-core 8 0 4 []
-    ∷ image-checks 1536 (124 ∷ 290 ∷ 2394 ∷ []) ∷ [])
+    ∷ connected-core 4 1 0 (0 ∷ 1 ∷ 2 ∷ 3 ∷ 4 ∷ 5 ∷ 6 ∷ 7 ∷ []) ∷ connected-core 0 3 8 [] ∷ connected-core 8 0 4 [] ∷ image-checks 1536 (124 ∷ 290 ∷ 2394 ∷ [])
+    ∷ [])
     -- random, seed 304
     ∷ row 8 (
-    up 7 0 ∷ up 4 1 ∷ up 0 7 ∷ up 1 2 ∷ up 6 3 ∷ up 3 2 ∷ up 5 0 ∷ up 6 5 ∷ down 2 3 ∷ up 6 0 ∷ up 1 0 ∷ up 0 3 ∷ up 2 6 ∷ up 7 0 ∷ down 3 0 ∷ up 7 4
-    ∷ up 7 6 ∷ up 7 4 ∷ up 0 3 ∷ up 6 3 ∷ up 0 1 ∷ up 4 2 ∷ up 1 6 ∷ up 0 6 ∷ up 4 7 ∷ down 0 7 ∷ down 2 6 ∷ up 4 1 ∷ []) (
+    up 7 0 ∷ up 4 1 ∷ up 0 7 ∷ up 1 2 ∷ up 6 3 ∷ up 3 2 ∷ up 5 0 ∷ up 6 5 ∷ down 2 3 ∷ up 6 0 ∷ up 1 0 ∷ up 0 3 ∷ up 2 6 ∷ up 7 0 ∷ down 3 0 ∷ up 7 4 ∷ up 7 6
+    ∷ up 7 4 ∷ up 0 3 ∷ up 6 3 ∷ up 0 1 ∷ up 4 2 ∷ up 1 6 ∷ up 0 6 ∷ up 4 7 ∷ down 0 7 ∷ down 2 6 ∷ up 4 1 ∷ []) (
     last-answers (
     risen (0 ∷ 7 ∷ []) ∷ risen (1 ∷ 4 ∷ []) ∷ refused 6 ∷ risen (2 ∷ []) ∷ risen (3 ∷ 6 ∷ []) ∷ unchanged ∷ risen (5 ∷ []) ∷ unchanged ∷ unchanged
     ∷ risen (0 ∷ 5 ∷ 6 ∷ []) ∷ unchanged ∷ risen (3 ∷ []) ∷ risen (1 ∷ 2 ∷ []) ∷ refused 6 ∷ fallen (3 ∷ []) ∷ risen (4 ∷ 7 ∷ []) ∷ unchanged ∷ refused 6
@@ -900,8 +882,8 @@ random-large =
     ∷ all-numbers (2 ∷ 2 ∷ 2 ∷ 2 ∷ 2 ∷ 2 ∷ 2 ∷ 2 ∷ []) ∷ whole-order (3 ∷ 5 ∷ 7 ∷ 4 ∷ 2 ∷ 1 ∷ 6 ∷ 0 ∷ [])
     ∷ shell-tree (root ∷ node 0 2 root-name ∷ []) (0 ∷ 0 ∷ 0 ∷ 0 ∷ 0 ∷ 0 ∷ 0 ∷ 0 ∷ []) ∷ backbone-radios (0 ∷ 1 ∷ 2 ∷ 3 ∷ 4 ∷ 5 ∷ 6 ∷ 7 ∷ [])
     ∷ connected-core 7 0 0 (0 ∷ 1 ∷ 2 ∷ 3 ∷ 4 ∷ 5 ∷ 6 ∷ 7 ∷ []) ∷ connected-core 0 2 0 (0 ∷ 1 ∷ 2 ∷ 3 ∷ 4 ∷ 5 ∷ 6 ∷ 7 ∷ [])
-    ∷ connected-core 4 1 0 (0 ∷ 1 ∷ 2 ∷ 3 ∷ 4 ∷ 5 ∷ 6 ∷ 7 ∷ []) ∷ connected-core 0 3 8 [] ∷ connected-core 8 0 4 []
-    ∷ image-checks 1536 (124 ∷ 304 ∷ 2826 ∷ []) ∷ [])
+    ∷ connected-core 4 1 0 (0 ∷ 1 ∷ 2 ∷ 3 ∷ 4 ∷ 5 ∷ 6 ∷ 7 ∷ []) ∷ connected-core 0 3 8 [] ∷ connected-core 8 0 4 [] ∷ image-checks 1536 (124 ∷ 304 ∷ 2826 ∷ [])
+    ∷ [])
     ∷ []
 
 unfoldable pub histories : List Row

@@ -13,8 +13,7 @@ use Rattle.lists.specs.Lists.{range, filter, member, In, Distinct}
 use Rattle.mesh.specs.Graph.{Graph, radios, linked, neighbours-in, relinked, proper, new-links}
 use Rattle.mesh.specs.Cores.{Group, number}
 use Rattle.mesh.specs.Orders.{is-k-order}
-use Rattle.mesh.specs.Levels.{changed, lower-level, stretch-start, stretch-length, laid-out, stretch-up, stretch-down, new-stretch, with-stretch}
-use Rattle.mesh.specs.Levels.{new-order}
+use Rattle.mesh.specs.Levels.{changed, lower-level, stretch-start, stretch-length, laid-out, stretch-up, stretch-down, new-stretch, with-stretch, new-order}
 use Rattle.lists.proofs.Tests.{bool-cases, never, and-both, or-cases, or-left, or-right}
 use Rattle.lists.proofs.Member.{in-cases, member-in, in-member, not-member}
 use Rattle.lists.proofs.Count.{count-pos}

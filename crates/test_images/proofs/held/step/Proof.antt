@@ -14,8 +14,7 @@ use prog.Wp.{Heap, Calls, Loops, WpFn, Tables}
 use types.Kit.{Given, Item, ‵, raw, _⊛_, given, ⋆, some, later, _$_, _∵_, !, qed, by, move, drop, use1, use2, split, join, learn, pick, fsplit, fjoin, suffices}
 use types.Kit.{frame, await, rewrite, done}
 use types.Part.{whole, sub, look-in, agg}
-use types.Run.{look, init, forget, stop, fld, from, load, of-opd, and-then, no-more, assigns, land, returns, enter, alloc1, alloc0, params1, pass1, pass0}
-use types.Run.{free1, free0}
+use types.Run.{look, init, forget, stop, fld, from, load, of-opd, and-then, no-more, assigns, land, returns, enter, alloc1, alloc0, params1, pass1, pass0, free1, free0}
 use contract.Monad.{Fun}
 use contract.Running.{givenOf, tables, tablesOf}
 use denote.RattleType.{RattleType, owns}
