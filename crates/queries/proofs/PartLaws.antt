@@ -304,7 +304,7 @@ module _ (n : ℕ) (t : Tables) (s : Sound-site n t) (v : ℕ) (radio : v < n) w
           both true false false = refl
           both false b c = refl
 
-    pub parted-next : Part-visited (t .links) (t .numbers) v seen queue set u p → Parted g (suc v) u p
+    parted-next : Part-visited (t .links) (t .numbers) v seen queue set u p → Parted g (suc v) u p
     parted-next h = go (bool-cases (marked seen 0 v))
       where
         go : (marked seen 0 v ≡ true) ⊎ (marked seen 0 v ≡ false) → Parted (graph-in n (t .links)) (suc v) u p
