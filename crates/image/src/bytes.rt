@@ -23,6 +23,14 @@ pub fn byte_at(image: &[u8], at: usize) -> u32
     wide(image[at])
 }
 
+// The two bytes from `at` on as one number, lowest byte first.
+fn pair_at(bytes: &[u8], at: usize) -> u32
+    requires { ⌜ at + 2 ≤ length (now bytes) ⌝ }
+    ensures { λ r. ⌜ (r ≡ word-at (now (bytes .entry)) at) × (r < 65536) ⌝ }
+{
+    wide(bytes[at]) + 256 * wide(bytes[at + 1])
+}
+
 // The two bytes from `at` on as one number, lowest byte first; bytes past the end count as 0.
 pub fn word_at(image: &[u8], at: usize) -> u32
     ensures { λ r. ⌜ (r ≡ word-at (now (image .entry)) at) × (r < 65536) ⌝ }
@@ -68,7 +76,15 @@ pub fn link_at(image: &[u8], n: u32, j: u32) -> Pair
     let at = layout::BLOCK * (first + j / layout::LINKS) as usize
         + layout::HEAD
         + 4 * (j % layout::LINKS) as usize;
-    let low = word_at(image, at);
-    let high = word_at(image, at + 2);
-    Pair { low, high }
+    if image.len() < at + 4 {
+        return Pair {
+            low: word_at(image, at),
+            high: word_at(image, at + 2),
+        };
+    }
+    // one test for four bytes
+    Pair {
+        low: pair_at(image, at),
+        high: pair_at(image, at + 2),
+    }
 }

@@ -130,7 +130,7 @@ fn each_at_most(entries: &[u16], most: &[u16]) -> bool
     true
 }
 
-// Whether no radio has more than 32 of the first m links. Ranks and counts hold anything after.
+// Whether no radio has more of the first m links than a radio may have neighbours. Ranks and counts hold anything after.
 fn are_few(image: &[u8], n: u32, m: u32, ranks: &mut [u16], counts: &mut [u16]) -> bool
     requires { ⌜ Tally-room n m (now image) (length (now ranks)) (length (now counts)) ⌝ }
     ensures { λ r. ⌜ r ≡ few-ends max-neighbours n (links-up-to n (now (image .entry)) m) ⌝ }

@@ -1,4 +1,4 @@
-// Pseudo-random link histories, played on the engine and on the separate peeling of crate `peeling`: after every call the refusal
+// Pseudo-random link histories, played on the engine and on the separate peeling of crate `test_model`: after every call the refusal
 // number, the step, the count, every entry of the lent tables and the verdict on soundness are compared. Some calls are refused on
 // purpose, some are put to spoiled tables. Prints for each history how many calls got which answer, how many differ, and how many
 // of 11 expectations that are wrong on purpose are found. What is printed is worked out by oracle/histories.py.
