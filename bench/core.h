@@ -1,4 +1,4 @@
-/* The connected core and the backbone in C: a flood over a queue, a scan. */
+/* The connected core and the backbone in C: a flood over a queue; part by part, the radios with the greatest number. */
 #ifndef CORE_H
 #define CORE_H
 #include "check.h"
@@ -31,20 +31,26 @@ static struct c_value c_core(const struct lent *t, uint32_t v, uint32_t k, uint1
     return (struct c_value){0, row_list(set, 0, answer, room)};
 }
 
-static unsigned c_greatest(const struct lent *t) {
-    unsigned top = 0;
-    for (unsigned v = 0; v < t->n; v++)
-        if (t->numbers[v] > top) top = t->numbers[v];
-    return top;
+/* Each part is flooded once; its radios with the greatest number come into the set, unless that is 0. */
+static void c_put_backbone(const struct lent *t, uint8_t *set) {
+    uint8_t seen[ROW] = {0};
+    uint16_t queue[RADIOS];
+    for (unsigned v = 0; v < t->n; v++) {
+        if (marked(seen, 0, v)) continue;
+        unsigned count = c_flood(t->links, t->numbers, 0, v, seen, queue), top = 0;
+        for (unsigned i = 0; i < count; i++)
+            if (t->numbers[queue[i]] > top) top = t->numbers[queue[i]];
+        if (!top) continue;
+        for (unsigned i = 0; i < count; i++)
+            if (t->numbers[queue[i]] == top) put_bit(set, 1, 0, queue[i]);
+    }
 }
 
 static struct c_value c_backbone(const struct lent *t, uint16_t *answer, size_t room) {
-    unsigned number = c_refusal(t, room >= t->n), count = 0;
+    uint8_t set[ROW] = {0};
+    unsigned number = c_refusal(t, room >= t->n);
     if (number) return (struct c_value){number, 0};
-    unsigned top = c_greatest(t);
-    if (top)
-        for (unsigned v = 0; v < t->n; v++)
-            if (t->numbers[v] == top) answer[count++] = v;
-    return (struct c_value){0, count};
+    c_put_backbone(t, set);
+    return (struct c_value){0, row_list(set, 0, answer, room)};
 }
 #endif

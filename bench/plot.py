@@ -4,7 +4,7 @@ import math
 
 WIDTH, HEIGHT = 960, 760
 LEFT, RIGHT = 60, 940
-COLOURS = ["#0072b2", "#d55e00", "#009e73", "#aa4499"]
+COLOURS = ["#0072b2", "#d55e00", "#009e73", "#aa4499", "#999933"]
 # one for each line of the lower panel, apart from the sites'
 LINES = ["#1b1b1b", "#8c510a", "#01665e", "#762a83", "#b2182b", "#4d9221", "#2166ac", "#c51b7d", "#737373", "#e08214"]
 GROWING = ["clear", "check", "down+up", "core", "tree", "image_write", "image_read", "image_block"]

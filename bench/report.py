@@ -14,7 +14,7 @@ from plot import plot
 
 TOP = Path(__file__).resolve().parent.parent
 START, END = "<!-- measured: bench/run --write -->\n", "<!-- end -->\n"
-SITES = ["sparse", "dense", "ring", "circulant"]
+SITES = ["sparse", "dense", "ring", "circulant", "parts"]
 SIZES = [16, 64, 256, 512]
 NEAR = ["clear", "check", "number", "neighbours", "linked", "first", "down+up"]
 MOST_GROWTH, MOST_STACK, LEAST_IGRAPH, LEAST_NETWORKX = 40, 8192, 2, 20

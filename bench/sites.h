@@ -38,14 +38,15 @@ static void random_links(struct site *s, unsigned links, unsigned most) {
     }
 }
 
-static void circulant(struct site *s, unsigned reach) {
-    for (unsigned a = 0; a < s->n; a++)
+/* Of `size` radios from `first` on, each is linked to the next `reach`, round about. */
+static void circulant(struct site *s, unsigned first, unsigned size, unsigned reach) {
+    for (unsigned a = 0; a < size; a++)
         for (unsigned d = 1; d <= reach; d++)
-            if (a != (a + d) % s->n) mark(s, a, (a + d) % s->n);
+            if (a != (a + d) % size) mark(s, first + a, first + (a + d) % size);
 }
 
-enum kind { SPARSE, DENSE, RING, CIRCULANT, KINDS };
-static const char *const kinds[KINDS] = {"sparse", "dense", "ring", "circulant"};
+enum kind { SPARSE, DENSE, RING, CIRCULANT, PARTS, KINDS };
+static const char *const kinds[KINDS] = {"sparse", "dense", "ring", "circulant", "parts"};
 
 /* Random sites of the same size and kind differ by their index. */
 static void make_site(struct site *s, uint32_t n, enum kind kind, unsigned index) {
@@ -55,8 +56,10 @@ static void make_site(struct site *s, uint32_t n, enum kind kind, unsigned index
     unsigned reach = n > 2 * (NEIGHBOURS / 2) ? NEIGHBOURS / 2 : (n - 1) / 2;
     if (kind == SPARSE) random_links(s, 2 * n, NEIGHBOURS);
     if (kind == DENSE) random_links(s, n * reach, NEIGHBOURS);
-    if (kind == RING) circulant(s, 1);
-    if (kind == CIRCULANT) circulant(s, reach);
+    if (kind == RING) circulant(s, 0, n, 1);
+    if (kind == CIRCULANT) circulant(s, 0, n, reach);
+    if (kind == PARTS)
+        for (unsigned first = 0; first < n; first += 8) circulant(s, first, 8, 1 + first / 8 % 3);
     peel(s);
 }
 

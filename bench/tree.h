@@ -9,6 +9,13 @@ struct c_node {
     uint16_t name, level, parent;
 };
 
+static unsigned c_greatest(const struct lent *t) {
+    unsigned top = 0;
+    for (unsigned v = 0; v < t->n; v++)
+        if (t->numbers[v] > top) top = t->numbers[v];
+    return top;
+}
+
 static struct c_value c_tree(const struct lent *t, struct c_node *nodes, size_t places, uint16_t *answer, size_t room) {
     uint8_t set[ROW];
     uint16_t queue[RADIOS];

@@ -167,7 +167,8 @@ sb_value sb_core(uint32_t n, uint32_t v, uint32_t k, const uint8_t *links, size_
                  uint16_t *answer, size_t answer_len);
 
 /**
- * The backbone: the radios whose number is the greatest at the site; none if that is 0. Links, numbers and order are only read.
+ * The backbone: the radios whose number is the greatest in their own connected part and is not 0. Each part has its own; a radio
+ * without links is in none. Links, numbers and order are only read.
  *
  * \return number 0 and the count: answer[0] to answer[value - 1] are the radios, ascending; later entries keep theirs. Or number
  *         SB_SIZE, SB_LENGTH, SB_UNSOUND and value 0, and then the answer table keeps its content.

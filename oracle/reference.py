@@ -1,8 +1,9 @@
 """A site as document 01 describes it, worked out in the plainest way.
 
-Written from document 01 alone, to be compared with the definitions and the
-engine; it shares nothing with them. Nothing here is fast: a core number is
-looked for among all sets of radios, a tree is made by comparing sets.
+Written from document 01 alone, and W-202 of document 02 for the backbone, to
+be compared with the definitions and the engine; it shares nothing with them.
+Nothing here is fast: a core number is looked for among all sets of radios, a
+tree is made by comparing sets.
 """
 
 from itertools import combinations
@@ -221,8 +222,9 @@ class Site:
         return found
 
     def backbone(self):
-        top = max(self.numbers)
-        return [v for v in range(self.n) if self.numbers[v] == top] if top else []
+        """The radios whose number is the greatest in their own connected part, and not 0 (document 02, W-202)."""
+        return [v for v in range(self.n)
+                if self.numbers[v] > 0 and self.numbers[v] == max(self.numbers[w] for w in self.reach(v, 0))]
 
     def tree(self):
         """Node records (name, level, parent), and each radio's node name."""

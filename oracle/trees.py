@@ -1,4 +1,4 @@
-"""Shell trees, connected cores and backbones of sites, worked out from document 01 alone.
+"""Shell trees, connected cores and backbones of sites, worked out from document 01 and W-202 of document 02 alone.
 
   python3 oracle/trees.py           write crates/test_trees/data and crates/test_trees/stdout
   python3 oracle/trees.py --check   say whether the stored files are what would be written
@@ -61,8 +61,14 @@ class Site:
         return frozenset(found)
 
     def backbone(self):
-        top = max(self.numbers)
-        return [v for v in range(self.n) if self.numbers[v] == top and top > 0]
+        """Part by part: the radios with the part's greatest number, where that is not 0 (document 02, W-202)."""
+        listed, rest = [], set(range(self.n))
+        while rest:
+            part = self.core(min(rest), 0)
+            top = max(self.numbers[v] for v in part)
+            listed += [v for v in part if self.numbers[v] == top and top > 0]
+            rest -= part
+        return sorted(listed)
 
     def tree(self):
         """Node records (name, level, parent), the root first, and each radio's node name."""
@@ -222,6 +228,12 @@ def parts():
     return 210, moved(210, links, 6)
 
 
+def towers():
+    """Radio v is of tower v mod 3: two towers, the first with more links than the second, and radios without links."""
+    strong, weak = random_links(171, 1200, 21), random_links(171, 200, 22)
+    return 512, [(3 * a, 3 * b) for a, b in strong] + [(3 * a + 1, 3 * b + 1) for a, b in weak]
+
+
 def random_links(n, count, seed):
     draw, links = random.Random(seed), set()
     degree = [0] * n
@@ -240,6 +252,7 @@ SITES = {
     "m4": (6, triangles + [(2, 3)]),
     "m5": (7, triangles + [(2, 3), (0, 6)]),
     "m7": (5, clique([0, 1, 2]) + [(3, 4)]),
+    "halls": (7, clique([0, 1, 2]) + [(2, 3), (4, 5)]),
     "one-radio": (1, []),
     "cleared-512": (512, []),
     "clique-41": (41, clique(list(range(41)))),
@@ -251,6 +264,7 @@ SITES = {
     "chain-28-moved": (512, moved(512, chain(28)[1], 28)),
     "branches": branches(),
     "parts": parts(),
+    "towers-512": towers(),
     "sparse-512": (512, random_links(512, 700, 512)),
 }
 
@@ -279,6 +293,8 @@ def files():
     file = File(Site(*SITES["m5"])).canary()
     written["canary"] = file.bytes()
     lines.append(f"canary calls {file.made} compared {file.compared} wrong {file.made}\n")
+    for name, radios in (("m7", [0, 1, 2, 3, 4]), ("halls", [0, 1, 2, 4, 5]), ("m3", list(range(6))), ("cleared-512", [])):
+        assert Site(*SITES[name]).backbone() == radios
     for name, levels in (("nested-12-moved", 12), ("chain-6", 6), ("chain-28-moved", 28)):
         nodes = Site(*SITES[name]).tree()[0]
         assert [level for _, level, _ in nodes] == list(range(levels + 1))

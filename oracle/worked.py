@@ -1,5 +1,5 @@
 """Document 01's cases M1 to M10, worked out by `reference` and held to the
-document's own words."""
+document's own words; M7 to document 02's (W-202)."""
 
 from reference import ROOT, Site, line_of, play
 
@@ -51,7 +51,7 @@ def compared():
     yield "M6, level 1", site.core(6, 1), (0, list(range(7)))
     yield "M6, level 2", site.core(6, 2), (8, [])
     site, _ = play(5, triangle(0, 1, 2) + [up(3, 4)])
-    yield "M7", site.backbone(), [0, 1, 2]
+    yield "M7", site.backbone(), [0, 1, 2, 3, 4]
     yield "M8, bytes", len(Site(1).image()), 1024
     yield "M8, checks", Site(1).checks(), [5, 4]
     yield "M9", Site(3).call(True, 3, 3), (4, 0, [])

@@ -75,9 +75,9 @@ unfoldable pub m6 : Row
 m6 = row 7 two-triangles-tied (
     connected-core 6 1 0 (0 ∷ 1 ∷ 2 ∷ 3 ∷ 4 ∷ 5 ∷ 6 ∷ []) ∷ connected-core 6 2 8 [] ∷ [])
 
--- M7: triangle 0 1 2, pair 3 4: backbone 0 1 2
+-- M7: triangle 0 1 2, pair 3 4: backbone 0 1 2 3 4, since each part has its own (document 02, W-202)
 unfoldable pub m7 : Row
-m7 = row 5 (triangle 0 1 2 ++ (up 3 4 ∷ [])) (backbone-radios (0 ∷ 1 ∷ 2 ∷ []) ∷ [])
+m7 = row 5 (triangle 0 1 2 ++ (up 3 4 ∷ [])) (backbone-radios (0 ∷ 1 ∷ 2 ∷ 3 ∷ 4 ∷ []) ∷ [])
 
 -- M8: an image of 1,024 bytes, checks 5 and 4
 unfoldable pub m8 : Row

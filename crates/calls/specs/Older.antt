@@ -30,7 +30,7 @@ pub record Older : Type 0 where
   pub seven :
       (up : Bool) (n a b : ℕ) (t : Tables) (w : List ℕ) → Was-sound n t →
       link-outcome-within former-neighbours up n a b t w .0 .number ≡ 7 → link-outcome up n a b t w .0 .number ≡ 0
-  -- calls that only read: as it was
+  -- calls that only read: as it was (the backbone is W-202's on both sides)
   pub check : (n : ℕ) (t : Tables) → Was-sound n t → check-outcome n t ≡ check-outcome-within former-neighbours n t
   pub number : (n v : ℕ) (t : Tables) → Was-sound n t → number-outcome n v t ≡ number-outcome-within former-neighbours n v t
   pub neighbours :

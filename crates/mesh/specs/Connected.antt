@@ -3,13 +3,15 @@
 --   at-least g k             the test: radios with number k or more
 --   In-core g v k w          document 01: w is in the connected core of v at level k
 --   reached, core-of         the same, worked out by rounds, as an ascending list
---   In-backbone g v          document 01: v's number is the greatest at the site, and not 0
+--   In-backbone g v          v's number is the greatest in its own connected part, and not 0 (document 02, W-202)
 --   backbone g               the same, worked out, as an ascending list
--- That rounds give what is reachable is `core-of-iff` in proofs/Trees/Reach.antt; of the backbone it is `backbone-iff` in
--- proofs/Trees/Listed.antt. Definitions only.
+--   site-backbone g          document 01's backbone, by the greatest number of the site; it serves `backbone-one-part` alone
+-- The connected part of v is its connected core at level 0. That rounds give what is reachable is `core-of-iff` in
+-- proofs/Trees/Reach.antt; of the backbone it is `backbone-iff` in proofs/Trees/Listed.antt, and there `backbone-one-part` says that
+-- a site in one part has document 01's backbone. Definitions only.
 use mathlib.Core.Path.{_≡_}
 use mathlib.Core.Bool.{Bool, true, _&&_, _||_}
-use mathlib.Core.List.{List, [], _∷_}
+use mathlib.Core.List.{List, [], _∷_, map}
 use Prim.Native.Nat.{ℕ, zero, suc, _≤_, _<_, max}
 use lib.Dec.{ltb, leb, eqb}
 use Rattle.lists.specs.Lists.{filter, member}
@@ -42,7 +44,7 @@ core-of g v k = reached (g .n) g (at-least g k) (v ∷ [])
 pub record In-backbone (g : Graph) (v : ℕ) : Type 0 where
   pub is-radio : v < g .n
   pub positive : 1 ≤ number g v
-  pub no-greater : (w : ℕ) → w < g .n → number g w ≤ number g v
+  pub no-greater : (w : ℕ) → In-core g v 0 w → number g w ≤ number g v
 
 unfoldable pub greatest : List ℕ → ℕ
 greatest [] = 0
@@ -50,5 +52,10 @@ greatest (x ∷ xs) = max x (greatest xs)
 
 unfoldable pub backbone : Graph → List ℕ
 backbone g =
+    let num = number g in
+    filter (λ v. ltb 0 (num v) && eqb (num v) (greatest (map num (core-of g v 0)))) (radios g)
+
+unfoldable pub site-backbone : Graph → List ℕ
+site-backbone g =
     let num = number g in
     let top = greatest (numbers g) in filter (λ v. ltb 0 top && eqb (num v) top) (radios g)

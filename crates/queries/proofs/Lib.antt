@@ -2,5 +2,5 @@
 -- chains of questions, and the contracts that go by them
 pub mod RefusalLaws
 pub mod AnswerLaws
-pub mod LevelLaws
 pub mod CoreLaws
+pub mod PartLaws

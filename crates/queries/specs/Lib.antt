@@ -1,2 +1,2 @@
--- What the contracts of the questions' leaf code cite beside the definitions of mesh, calls and tables.
-pub mod Levels
+-- What the contracts of the questions' code cite beside the definitions of mesh, calls and tables.
+pub mod Parts

@@ -1,6 +1,5 @@
 -- A list of radios written entry by entry into a lent list, as a loop's invariant: what is left gives what the whole gives.
--- In order: laws of ranges and stores, a loop that counts what has no place, a loop that stops when the list is full, the set bits of
--- a word.
+-- In order: a loop that stops when the list is full, the set bits of a word.
 use mathlib.Core.Path.{_≡_, refl, sym, ap, _∙_}
 use mathlib.Core.List.{List, [], _∷_, _++_}
 use Prim.Native.Nat.{ℕ, _+_, _-_, _^_, _≤_, _<_, min}
@@ -13,38 +12,6 @@ use lib.Seq.{sets, length-sets}
 use Rattle.rows.specs.Rows.{set-bits}
 use Rattle.rows.proofs.WordLaws.{set-bits-lowest}
 use Rattle.lists.proofs.Overwrite.{sets-append, sets-full, sets-min}
-
--- ---- a loop that counts every entry, also one that has no place in the list
-
--- n entries counted so far and `rest` left come to `whole` after `count`; list holds what fits of them
-pub record Listing (whole : List ℕ) (count : ℕ) (old rest : List ℕ) (n : ℕ) (list : List ℕ) : Type 0 where
-  pub long : length list ≡ length old
-  pub counted : n + length rest ≡ count + length whole
-  pub listed : sets list n rest ≡ sets old count whole
-
-pub listing-none : (whole : List ℕ) (count : ℕ) (old : List ℕ) → Listing whole count old whole count old
-listing-none whole count old = record { long = refl; counted = refl; listed = refl }
-
-module _ {whole : List ℕ} {count : ℕ} {old : List ℕ} where
-  pub listing-one : (x : ℕ) (rest : List ℕ) (n : ℕ) (list : List ℕ) → Listing whole count old (x ∷ rest) n list
-      → Listing whole count old rest (n + 1) (set list n x)
-  listing-one x rest n list h = record {
-    long = length-set list n x ∙ h .long;
-    counted = omega arith;
-    listed = ap (λ (k : ℕ). sets (set list n x) k rest) (add-one n) ∙ h .listed;
-  }
-
-  pub listing-part : (xs rest : List ℕ) (n : ℕ) (list : List ℕ) → Listing whole count old (xs ++ rest) n list
-      → Listing whole count old rest (n + length xs) (sets list n xs)
-  listing-part xs rest n list h = record {
-    long = length-sets list n xs ∙ h .long;
-    counted = omega (arith, length-append xs rest);
-    listed = sym (sets-append list n xs rest) ∙ h .listed;
-  }
-
-pub listing-end : {whole : List ℕ} {count : ℕ} {old : List ℕ} (rest : List ℕ) (n : ℕ) (list : List ℕ) → rest ≡ []
-    → Listing whole count old rest n list → (n ≡ count + length whole) × (list ≡ sets old count whole)
-listing-end rest n list e h = (omega (arith, h .counted, ap length e), ap (sets list n) (sym e) ∙ h .listed)
 
 -- ---- a loop that stops when the list is full
 

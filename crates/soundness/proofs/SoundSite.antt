@@ -10,15 +10,17 @@ use Rattle.mesh.specs.Graph.{linked, degree}
 use Rattle.mesh.specs.Cores.{number, numbers}
 use Rattle.mesh.specs.Tables.{Tables, marked, graph-in}
 use Rattle.mesh.specs.Sound.{symmetric, irreflexive, within, few, rows-proper, sound}
-use Rattle.lists.proofs.Tests.{and-left, and-right}
+use Rattle.lists.proofs.Tests.{and-left, and-right, and-both}
 use Rattle.mesh.proofs.Cores.Peeling.{getD-numbers}
 use Rattle.mesh.proofs.Tables.ReadBack.{linked-graph-in, degree-graph-in}
 use Rattle.mesh.proofs.Tables.Soundness.{Right, sound-right}
-use Rattle.calls.specs.Questions.{lengths-of}
-use Rattle.calls.proofs.QuestionLaws.{Site-lengths}
+use Rattle.calls.specs.Questions.{lengths-of, size-good, site-lengths}
+use Rattle.calls.proofs.QuestionLaws.{Site-lengths, size-good-true, true-size-good, site-lengths-true, true-site-lengths}
+use Rattle.calls.proofs.ChainLaws.{Site-good}
 use Rattle.rows.specs.Rows.{neighbours-of, row-listed}
 use Rattle.rows.proofs.RowListLaws.{length-neighbours-of}
 use Rattle.rows.proofs.RowWords.{row-listed-whole}
+use Rattle.soundness.specs.Checks.{fits-sound}
 
 pub record Sound-site (n : ℕ) (t : Tables) : Type 0 where
   pub small : n ≤ max-radios
@@ -51,6 +53,21 @@ sound-site n t small l h = go (sound-right max-neighbours n t (l .numbers) h)
       few = and-right (within n (t .links)) (few max-neighbours n (t .links)) (and-right first second (r .rows));
       numbers = r .core-numbers;
     }
+
+-- questions 1 to 3 in one test, and by their chain
+pub fits-sound-site : (n : ℕ) (t : Tables) → fits-sound n t ≡ true → Sound-site n t
+unfolding fits-sound
+fits-sound-site n t h =
+    let rest = and-right (size-good n) (site-lengths n (lengths-of t) && sound n t) h in
+    sound-site n t (size-good-true n (and-left (size-good n) (site-lengths n (lengths-of t) && sound n t) h) .1)
+    (site-lengths-true n (lengths-of t) (and-left (site-lengths n (lengths-of t)) (sound n t) rest))
+    (and-right (site-lengths n (lengths-of t)) (sound n t) rest)
+
+pub site-good-fits : (n : ℕ) (t : Tables) (others : Bool) → Site-good n (lengths-of t) others (sound n t) → fits-sound n t ≡ true
+unfolding fits-sound
+site-good-fits n t others good =
+    and-both (size-good n) (site-lengths n (lengths-of t) && sound n t) (true-size-good n (good .lent .least) (good .lent .most))
+    (and-both (site-lengths n (lengths-of t)) (sound n t) (true-site-lengths n (lengths-of t) (good .lent .lengths)) (good .is-sound))
 
 module _ (n : ℕ) (t : Tables) (s : Sound-site n t) where
   pub linked-marked : (a b : ℕ) → a < n → b < n → linked (graph-in n (t .links)) a b ≡ marked (t .links) a b

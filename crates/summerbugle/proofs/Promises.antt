@@ -20,6 +20,8 @@ use Rattle.lists.specs.Lists.{member, Entries-below}
 use Rattle.mesh.specs.Graph.{Link, Graph, graph}
 use Rattle.mesh.specs.Cores.{Core, number}
 use Rattle.mesh.specs.Tables.{Tables, graph-in}
+use Rattle.mesh.specs.Connected.{In-core}
+use Rattle.mesh.specs.Connected as connected
 use Rattle.mesh.specs.Image.{whole-blocks, checks-good, Tables-image}
 use Rattle.mesh.specs.declared.Node.{Node}
 use Rattle.calls.specs.Questions.{lengths-of, size-good, site-lengths}
@@ -46,6 +48,7 @@ use Rattle.summerbugle.proofs.Calls.{sb-clear, sb-link-up, sb-link-down
 use Rattle.summerbugle.proofs.Calls.{sb-backbone, sb-tree, sb-image-write, sb-image-block, reader-open, reader-step, reader-moved}
 -- for the proof
 use Rattle.mesh.proofs.Cores.Peeling.{number-core, number-unique}
+use Rattle.mesh.proofs.Trees.Listed.{backbone-one-part}
 use Rattle.calls.proofs.Outcomes.{exactly, clear-decided, link-decided, read-decided, check-decided, number-decided, neighbours-decided, block-inhabited}
 use Rattle.calls.proofs.Outcomes.{linked-decided, first-decided, core-decided, backbone-decided, tree-decided, write-decided, block-decided}
 use Rattle.calls.proofs.Outcomes.{clear-inhabited, link-inhabited, read-inhabited, check-inhabited, number-inhabited, neighbours-inhabited}
@@ -214,6 +217,9 @@ pub record Property-2 : Type 0 where
   pub backbone :
       (n : ℕ) (t : Tables) (w : List ℕ) (r : Value) (x : List ℕ) → Backbone-contract n t w r x → r .number ≡ 0 →
       Backbone-listed (graph-in n (t .links)) (r .value) w x
+  -- in a site of one connected part it is document 01's, by the greatest number of the site
+  pub backbone-one-part :
+      (g : Graph) → ((v w : ℕ) → v < g .n → w < g .n → In-core g v 0 w) → connected.backbone g ≡ connected.site-backbone g
   pub tree :
       (n : ℕ) (t : Tables) (m : List Node) (w : List ℕ) (r : Value) (p : List Node) (x : List ℕ) → Tree-contract n t m w r p x →
       r .number ≡ 0 → Tree-listed (graph-in n (t .links)) (r .value) m p w x
@@ -373,6 +379,7 @@ property-2 = record {
   number = number-right;
   core = core-right;
   backbone = backbone-right;
+  backbone-one-part = backbone-one-part;
   tree = tree-right-listed;
   image-written = write-right;
   image-read-back = read-what-was-written;

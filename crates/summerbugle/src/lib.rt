@@ -151,8 +151,8 @@ pub extern "C" fn sb_core<'a>(
     queries::cores::core(n, v, k, links, numbers, order, answer)
 }
 
-// The backbone: the count, and the radios ascending in front of the answer table. Refused by 1 to 3: then the answer table
-// keeps its content.
+// The backbone, part by part: the count, and the radios ascending in front of the answer table. Refused by 1 to 3: then the
+// answer table keeps its content.
 #[no_mangle]
 pub extern "C" fn sb_backbone<'a>(
     n: u32,

@@ -37,6 +37,8 @@ fn main() {
     case(b"m4");
     case(b"m5");
     case(b"m7");
+    // document 02's
+    case(b"halls");
     // sizes
     case(b"one-radio");
     case(b"cleared-512");
@@ -50,6 +52,7 @@ fn main() {
     case(b"chain-28-moved");
     case(b"branches");
     case(b"parts");
+    case(b"towers-512");
     case(b"sparse-512");
     // each part of an outcome owed wrongly once
     case(b"canary");

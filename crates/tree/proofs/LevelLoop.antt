@@ -1,30 +1,19 @@
 -- One level as a loop over the radios: what its invariant says, and what it says at the end.
 use mathlib.Core.Path.{_≡_, refl, ap, _∙_}
 use mathlib.Core.Logic.{_⊎_, inl, inr}
-use mathlib.Core.Bool.{true, false, _&&_}
+use mathlib.Core.Bool.{true, false}
 use mathlib.Core.List.{List}
 use Prim.Native.Nat.{ℕ, _+_, _≤_, _<_}
 use native.Mathlib.Omega.{arith}
 use native.Mathlib.Numerals.{add-one}
 use lib.ListN.{length, replicate}
 use Rattle.mesh.specs.Limits.{max-radios, row-bytes}
-use Rattle.mesh.specs.Tables.{Tables, tables, graph-in}
-use Rattle.mesh.specs.Sound.{sound}
-use Rattle.lists.proofs.Tests.{bool-cases, and-left, and-right}
-use Rattle.calls.specs.Questions.{lengths-of, size-good, site-lengths}
-use Rattle.calls.proofs.QuestionLaws.{size-good-true, site-lengths-true}
+use Rattle.mesh.specs.Tables.{tables, graph-in}
+use Rattle.lists.proofs.Tests.{bool-cases}
 use Rattle.soundness.specs.Checks.{fits-sound}
-use Rattle.soundness.proofs.SoundSite.{Sound-site, sound-site}
+use Rattle.soundness.proofs.SoundSite.{fits-sound-site}
 use Rattle.tree.specs.Trees.{Lists, Room, takes-node, Visited, Growing, Marks, Levelled}
 use Rattle.tree.proofs.GrowLaws.{visited-next, marks-start, growing-end}
-
--- what sound tables of the right lengths are
-pub fits-sound-site : (n : ℕ) (t : Tables) → fits-sound n t ≡ true → Sound-site n t
-unfolding fits-sound
-fits-sound-site n t h =
-    let rest = and-right (size-good n) (site-lengths n (lengths-of t) && sound n t) h in
-    sound-site n t (size-good-true n (and-left (size-good n) (site-lengths n (lengths-of t) && sound n t) h) .1)
-    (site-lengths-true n (lengths-of t) (and-left (site-lengths n (lengths-of t)) (sound n t) rest)) (and-right (site-lengths n (lengths-of t)) (sound n t) rest)
 
 -- the count grows by one at most
 pub visited-count : (ts ns : List ℕ) (k v : ℕ) (s q : List ℕ) (before : Lists) (c : ℕ) (t : List ℕ) (after : Lists) (r : ℕ)

@@ -10,13 +10,13 @@ use borrow.Author.Tests.{lt-leb, le-leb}
 use Rattle.mesh.specs.Limits.{max-radios}
 use Rattle.mesh.specs.Tables.{tables, graph-in}
 use Rattle.mesh.specs.Sound.{sound}
-use Rattle.lists.proofs.Tests.{and-left, and-right, and-both}
-use Rattle.calls.specs.Questions.{lengths-of, size-good, site-lengths, site-refusal, tree-refusal, nodes-length, answer-length}
+use Rattle.lists.proofs.Tests.{and-left, and-right}
+use Rattle.calls.specs.Questions.{lengths-of, site-refusal, tree-refusal, nodes-length, answer-length}
 use Rattle.calls.specs.declared.Value.{Value}
 use Rattle.calls.proofs.ContractLaws.{by-accepted, by-refused}
 use Rattle.calls.proofs.ChainLaws.{Site-good, site-zero}
-use Rattle.calls.proofs.QuestionLaws.{true-size-good, true-site-lengths, nodes-length-true, answer-length-true}
-use Rattle.soundness.specs.Checks.{fits-sound}
+use Rattle.calls.proofs.QuestionLaws.{nodes-length-true, answer-length-true}
+use Rattle.soundness.proofs.SoundSite.{site-good-fits}
 use Rattle.tree.specs.Trees.{Lists, Room, Grown, Tables-accepted, Lists-refused, places, Tables-contract}
 
 -- ---- room
@@ -80,13 +80,8 @@ module _ (n room : ℕ) (ts ns xs : List ℕ) (s : Lists) (m q : ℕ) (others : 
     pub tree-answer : length ns ≤ length (s .answer)
     tree-answer = omega (arith, tree-numbers, tree-room .answer)
 
-    fits : fits-sound n (tables ts ns xs) ≡ true
-    unfolding fits-sound
-    fits = and-both (size-good n) (site-lengths n (lengths-of (tables ts ns xs)) && sound n (tables ts ns xs)) (true-size-good n (good .lent .least) (good .lent .most))
-        (and-both (site-lengths n (lengths-of (tables ts ns xs))) (sound n (tables ts ns xs)) (true-site-lengths n (lengths-of (tables ts ns xs)) (good .lent .lengths)) (good .is-sound))
-
     pub tree-accepted : (r : Value) (u : Lists) → r .number ≡ 0 → Grown ts ns s (r .value) u → Tables-contract n room (tables ts ns xs) s r u
     unfolding Tables-contract Grown
     tree-accepted r u e h =
-        let w = rw tree-numbers at (h xs (rw tree-numbers fits) (rw tree-numbers tree-room)) in
+        let w = rw tree-numbers at (h xs (rw tree-numbers (site-good-fits n (tables ts ns xs) others good)) (rw tree-numbers tree-room)) in
         by-accepted _ (λ p. Lists-refused p s r u) (sym number-is ∙ zero) (record { number = e; value = w .count; front = w .front })

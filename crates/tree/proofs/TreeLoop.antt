@@ -18,13 +18,13 @@ use Rattle.mesh.proofs.Trees.ShellNames.{node-name-parent}
 use Rattle.mesh.proofs.Trees.Listed.{getD-le-greatest, greatest-le}
 use Rattle.soundness.specs.Checks.{fits-sound}
 use Rattle.lists.proofs.Map.{map-range-constant, map-range-ext}
-use Rattle.soundness.proofs.SoundSite.{number-entry}
+use Rattle.soundness.proofs.SoundSite.{fits-sound-site, number-entry}
 use Rattle.tree.specs.Trees.{Lists, with-front, Room, name-before, present, Growing, Levelled, Tree-written, Grown}
 use Rattle.tree.proofs.ShellCover.{present-start}
 use Rattle.lists.proofs.Overwrite.{set-overwrite}
 use Rattle.tree.proofs.NodeLists.{nodes-before-start, nodes-before-tree}
 use Rattle.tree.proofs.GrowLaws.{lists-same}
-use Rattle.tree.proofs.LevelLoop.{fits-sound-site, Same-lengths}
+use Rattle.tree.proofs.LevelLoop.{Same-lengths}
 
 -- ---- the root
 

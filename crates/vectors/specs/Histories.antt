@@ -143,9 +143,9 @@ cliques =
     ∷ "0 +1 7\n" ∷ "0 +1 1 3 5 7\n" ∷ "0 -1 0 2 4 6\n" ∷ "0 -1 1 3 5 7\n" ∷ "0 0\n" ∷ "0 0\n" ∷ "0 -1 0 2 4 6\n" ∷ "numbers 1 2 1 2 1 2 1 2\n"
     ∷ "order 0 6 4 2 1 7 5 3\n" ∷ [])
     ∷ all-numbers (1 ∷ 2 ∷ 1 ∷ 2 ∷ 1 ∷ 2 ∷ 1 ∷ 2 ∷ []) ∷ whole-order (0 ∷ 6 ∷ 4 ∷ 2 ∷ 1 ∷ 7 ∷ 5 ∷ 3 ∷ [])
-    ∷ shell-tree (root ∷ node 0 1 root-name ∷ node 1 2 root-name ∷ []) (0 ∷ 1 ∷ 0 ∷ 1 ∷ 0 ∷ 1 ∷ 0 ∷ 1 ∷ []) ∷ backbone-radios (1 ∷ 3 ∷ 5 ∷ 7 ∷ [])
-    ∷ connected-core 7 0 0 (1 ∷ 3 ∷ 5 ∷ 7 ∷ []) ∷ connected-core 1 2 0 (1 ∷ 3 ∷ 5 ∷ 7 ∷ []) ∷ connected-core 4 1 0 (0 ∷ 2 ∷ 4 ∷ 6 ∷ [])
-    ∷ connected-core 0 2 8 [] ∷ connected-core 8 0 4 [] ∷ image-checks 1536 (89 ∷ 364 ∷ 1022 ∷ []) ∷ [])
+    ∷ shell-tree (root ∷ node 0 1 root-name ∷ node 1 2 root-name ∷ []) (0 ∷ 1 ∷ 0 ∷ 1 ∷ 0 ∷ 1 ∷ 0 ∷ 1 ∷ [])
+    ∷ backbone-radios (0 ∷ 1 ∷ 2 ∷ 3 ∷ 4 ∷ 5 ∷ 6 ∷ 7 ∷ []) ∷ connected-core 7 0 0 (1 ∷ 3 ∷ 5 ∷ 7 ∷ []) ∷ connected-core 1 2 0 (1 ∷ 3 ∷ 5 ∷ 7 ∷ [])
+    ∷ connected-core 4 1 0 (0 ∷ 2 ∷ 4 ∷ 6 ∷ []) ∷ connected-core 0 2 8 [] ∷ connected-core 8 0 4 [] ∷ image-checks 1536 (89 ∷ 364 ∷ 1022 ∷ []) ∷ [])
     -- two cliques of 4 with one radio in both
     ∷ row 7 (
     up 0 1 ∷ up 0 2 ∷ up 0 3 ∷ up 1 2 ∷ up 1 3 ∷ up 2 3 ∷ up 3 4 ∷ up 3 5 ∷ up 3 6 ∷ up 4 5 ∷ up 4 6 ∷ up 5 6 ∷ []) (
@@ -411,7 +411,7 @@ falls =
     "0 +1 0 1\n" ∷ "0 +1 2\n" ∷ "0 +1 0 1 2\n" ∷ "0 +1 3 4\n" ∷ "0 +1 5\n" ∷ "0 +1 3 4 5\n" ∷ "0 -1 3 4 5\n" ∷ "numbers 2 2 2 1 1 1\n" ∷ "order 5 3 4 2 0 1\n"
     ∷ [])
     ∷ all-numbers (2 ∷ 2 ∷ 2 ∷ 1 ∷ 1 ∷ 1 ∷ []) ∷ whole-order (5 ∷ 3 ∷ 4 ∷ 2 ∷ 0 ∷ 1 ∷ [])
-    ∷ shell-tree (root ∷ node 3 1 root-name ∷ node 0 2 root-name ∷ []) (0 ∷ 0 ∷ 0 ∷ 3 ∷ 3 ∷ 3 ∷ []) ∷ backbone-radios (0 ∷ 1 ∷ 2 ∷ [])
+    ∷ shell-tree (root ∷ node 3 1 root-name ∷ node 0 2 root-name ∷ []) (0 ∷ 0 ∷ 0 ∷ 3 ∷ 3 ∷ 3 ∷ []) ∷ backbone-radios (0 ∷ 1 ∷ 2 ∷ 3 ∷ 4 ∷ 5 ∷ [])
     ∷ connected-core 5 0 0 (3 ∷ 4 ∷ 5 ∷ []) ∷ connected-core 0 2 0 (0 ∷ 1 ∷ 2 ∷ []) ∷ connected-core 3 1 0 (3 ∷ 4 ∷ 5 ∷ []) ∷ connected-core 0 3 8 []
     ∷ connected-core 6 0 4 [] ∷ image-checks 1536 (65 ∷ 123 ∷ 385 ∷ []) ∷ [])
     -- a link goes down and nothing falls
@@ -480,7 +480,7 @@ trees =
     ∷ "numbers 1 2 3 3 3 3 1 0\n" ∷ "order 7 0 6 1 5 4 2 3\n" ∷ [])
     ∷ all-numbers (1 ∷ 2 ∷ 3 ∷ 3 ∷ 3 ∷ 3 ∷ 1 ∷ 0 ∷ []) ∷ whole-order (7 ∷ 0 ∷ 6 ∷ 1 ∷ 5 ∷ 4 ∷ 2 ∷ 3 ∷ [])
     ∷ shell-tree (root ∷ node 0 1 root-name ∷ node 1 2 root-name ∷ node 2 3 1 ∷ []) (0 ∷ 1 ∷ 2 ∷ 2 ∷ 2 ∷ 2 ∷ 0 ∷ root-name ∷ [])
-    ∷ backbone-radios (2 ∷ 3 ∷ 4 ∷ 5 ∷ []) ∷ connected-core 7 0 0 (7 ∷ []) ∷ connected-core 2 3 0 (2 ∷ 3 ∷ 4 ∷ 5 ∷ [])
+    ∷ backbone-radios (0 ∷ 2 ∷ 3 ∷ 4 ∷ 5 ∷ 6 ∷ []) ∷ connected-core 7 0 0 (7 ∷ []) ∷ connected-core 2 3 0 (2 ∷ 3 ∷ 4 ∷ 5 ∷ [])
     ∷ connected-core 4 1 0 (1 ∷ 2 ∷ 3 ∷ 4 ∷ 5 ∷ []) ∷ connected-core 0 2 8 [] ∷ connected-core 8 0 4 [] ∷ image-checks 1536 (103 ∷ 320 ∷ 1377 ∷ []) ∷ [])
     -- levels 1, 2 and 3, one inside the other, names not in order
     ∷ row 7 (

@@ -1,24 +1,26 @@
--- The lists of radios that calls answer: they are ascending, and which radios the backbone has.
-use mathlib.Core.Path.{_≡_}
-use mathlib.Core.Logic.{_↔_}
+-- The lists of radios that calls answer: they are ascending, and which radios the backbone has; of a site in one part it is
+-- document 01's.
+use mathlib.Core.Path.{_≡_, refl, ap}
+use mathlib.Core.Logic.{_↔_, inl, inr}
 use mathlib.Core.Bool.{Bool, true, _&&_}
-use mathlib.Core.List.{List, [], _∷_}
+use mathlib.Core.List.{List, [], _∷_, map}
 use Prim.Native.Nat.{ℕ, zero, suc, _≤_, _<_}
 use native.Mathlib.Omega.{arith}
 use lib.Dec.{ltb, eqb}
 use lib.ListN.{length, getD}
 use borrow.Author.Tests.{ltb-true, eqb-true, lt-ltb, eq-eqb}
-use Rattle.lists.specs.Lists.{range, filter, member, Ascending}
+use Rattle.lists.specs.Lists.{range, filter, member, In, Ascending}
 use Rattle.mesh.specs.Graph.{Graph, radios}
 use Rattle.mesh.specs.Cores.{number, numbers}
 use Rattle.mesh.specs.Levels.{changed}
-use Rattle.mesh.specs.Connected.{core-of, greatest, In-backbone, backbone}
-use Rattle.lists.proofs.Tests.{and-left, and-right, and-both}
+use Rattle.mesh.specs.Connected.{In-core, core-of, greatest, In-backbone, backbone, site-backbone}
+use Rattle.lists.proofs.Tests.{and-left, and-right, and-both, iff-eq}
 use Rattle.lists.proofs.Member.{member-in, in-member}
 use Rattle.lists.proofs.Range.{in-range, range-in}
-use Rattle.lists.proofs.Filter.{in-filter, filter-in}
+use Rattle.lists.proofs.Filter.{in-filter, filter-in, filter-ext}
 use Rattle.mesh.proofs.Cores.Peeling.{length-numbers, getD-numbers}
-use Rattle.mesh.proofs.Trees.Reach.{core-of-ascending}
+use Rattle.mesh.proofs.Trees.Reach.{core-of-iff, core-of-ascending}
+use Rattle.mesh.proofs.Trees.CoreLevels.{in-core-here, in-core-below}
 use Rattle.lists.proofs.Ascending.{ascending-range, ascending-filter}
 
 -- ---- ascending
@@ -52,16 +54,33 @@ unfolding greatest
 greatest-le [] m h = omega arith
 greatest-le (x ∷ xs) m h = omega (arith, h 0 (omega arith), greatest-le xs m (λ v l. h (suc v) (omega arith)))
 
+-- the same of numbers by radio
+pub number-le-greatest : (f : ℕ → ℕ) (xs : List ℕ) (w : ℕ) → In w xs → f w ≤ greatest (map f xs)
+unfolding greatest
+number-le-greatest f (x ∷ xs) w (inl e) = omega (arith, ap f e)
+number-le-greatest f (x ∷ xs) w (inr m) = omega (arith, number-le-greatest f xs w m)
+
+pub greatest-map-le : (f : ℕ → ℕ) (xs : List ℕ) (m : ℕ) → ((w : ℕ) → In w xs → f w ≤ m) → greatest (map f xs) ≤ m
+unfolding greatest
+greatest-map-le f [] m h = omega arith
+greatest-map-le f (x ∷ xs) m h = omega (arith, h x (inl refl), greatest-map-le f xs m (λ w k. h w (inr k)))
+
 module _ (g : Graph) where
-  abbrev top : ℕ
-  top = greatest (numbers g)
+  -- the greatest number of v's connected part
+  abbrev pub part-top : ℕ → ℕ
+  part-top v = greatest (map (number g) (core-of g v 0))
 
-  number-le-top : (w : ℕ) → w < g .n → number g w ≤ top
-  number-le-top w l = omega (arith, getD-numbers g w l, getD-le-greatest (numbers g) w (omega (arith, length-numbers g)))
+  abbrev pub tops-part : ℕ → Bool
+  tops-part v = ltb 0 (number g v) && eqb (number g v) (part-top v)
 
-  top-le : (m : ℕ) → ((w : ℕ) → w < g .n → number g w ≤ m) → top ≤ m
-  top-le m h = greatest-le (numbers g) m (λ w l.
-      let k : w < g .n = omega (arith, length-numbers g) in omega (arith, getD-numbers g w k, h w k))
+  module _ (v : ℕ) (radio : v < g .n) where
+    pub number-le-part-top : (w : ℕ) → In-core g v 0 w → number g w ≤ part-top v
+    number-le-part-top w r =
+        number-le-greatest (number g) (core-of g v 0) w (member-in w (core-of g v 0) (core-of-iff g v 0 radio w .1 r))
+
+    pub part-top-le : (m : ℕ) → ((w : ℕ) → In-core g v 0 w → number g w ≤ m) → part-top v ≤ m
+    part-top-le m h =
+        greatest-map-le (number g) (core-of g v 0) m (λ w k. h w (core-of-iff g v 0 radio w .0 (in-member w (core-of g v 0) k)))
 
   pub backbone-iff : (v : ℕ) → (member v (backbone g) ≡ true) ↔ In-backbone g v
   unfolding backbone radios
@@ -69,15 +88,50 @@ module _ (g : Graph) where
     where
       there : member v (backbone g) ≡ true → In-backbone g v
       there m =
-          let q = in-filter (λ w. ltb 0 top && eqb (number g w) top) (range 0 (g .n)) v (member-in v (backbone g) m) in
+          let q = in-filter tops-part (range 0 (g .n)) v (member-in v (backbone g) m) in
           let l : v < g .n = omega (arith, range-in 0 (g .n) v (q .0)) in
-          let some : 0 < top = ltb-true 0 top (and-left (ltb 0 top) (eqb (number g v) top) (q .1)) in
-          let same : number g v ≡ top = eqb-true (number g v) top (and-right (ltb 0 top) (eqb (number g v) top) (q .1)) in
-          record { is-radio = l; positive = omega arith; no-greater = λ w k. omega (arith, number-le-top w k) }
+          let some = ltb-true 0 (number g v) (and-left (ltb 0 (number g v)) (eqb (number g v) (part-top v)) (q .1)) in
+          let same = eqb-true (number g v) (part-top v) (and-right (ltb 0 (number g v)) (eqb (number g v) (part-top v)) (q .1)) in
+          record { is-radio = l; positive = omega arith; no-greater = λ w r. omega (arith, number-le-part-top v l w r) }
 
       back : In-backbone g v → member v (backbone g) ≡ true
       back h =
-          let same : number g v ≡ top = omega (arith, number-le-top v (h .is-radio), top-le (number g v) (h .no-greater)) in
-          in-member v (backbone g) (filter-in (λ w. ltb 0 top && eqb (number g w) top) (range 0 (g .n)) v
-          (in-range 0 (g .n) v (omega arith) (omega (arith, h .is-radio)))
-          (and-both (ltb 0 top) (eqb (number g v) top) (lt-ltb 0 top (omega (arith, h .positive))) (eq-eqb (number g v) top same)))
+          let same : number g v ≡ part-top v =
+          omega (arith, number-le-part-top v (h .is-radio) v (in-core-here g v 0), part-top-le v (h .is-radio) (number g v) (h .no-greater)) in
+          in-member v (backbone g) (filter-in tops-part (range 0 (g .n)) v (in-range 0 (g .n) v (omega arith) (omega (arith, h .is-radio)))
+          (and-both (ltb 0 (number g v)) (eqb (number g v) (part-top v)) (lt-ltb 0 (number g v) (h .positive)) (eq-eqb (number g v) (part-top v) same)))
+
+  -- ---- a site in one connected part
+
+  abbrev site-top : ℕ
+  site-top = greatest (numbers g)
+
+  number-le-site-top : (w : ℕ) → w < g .n → number g w ≤ site-top
+  number-le-site-top w l = omega (arith, getD-numbers g w l, getD-le-greatest (numbers g) w (omega (arith, length-numbers g)))
+
+  site-top-le : (m : ℕ) → ((w : ℕ) → w < g .n → number g w ≤ m) → site-top ≤ m
+  site-top-le m h = greatest-le (numbers g) m (λ w l.
+      let k : w < g .n = omega (arith, length-numbers g) in omega (arith, getD-numbers g w k, h w k))
+
+  -- it sees no difference: its backbone is document 01's
+  pub backbone-one-part : ((v w : ℕ) → v < g .n → w < g .n → In-core g v 0 w) → backbone g ≡ site-backbone g
+  unfolding backbone site-backbone radios
+  backbone-one-part one =
+      filter-ext tops-part (λ v. ltb 0 site-top && eqb (number g v) site-top) (range 0 (g .n))
+      (λ v m. rw (same-top v (omega (arith, range-in 0 (g .n) v m))) (not-zero (number g v) site-top))
+    where
+      same-top : (v : ℕ) → v < g .n → part-top v ≡ site-top
+      same-top v l = omega (
+        arith,
+        part-top-le v l site-top (λ w r. number-le-site-top w (in-core-below g v 0 w l r)),
+        site-top-le (part-top v) (λ w k. number-le-part-top v l w (one v w l k)),
+      )
+
+      -- of equal numbers neither is 0 or both are
+      not-zero : (x y : ℕ) → (ltb 0 x && eqb x y) ≡ (ltb 0 y && eqb x y)
+      not-zero x y =
+          iff-eq (ltb 0 x && eqb x y) (ltb 0 y && eqb x y)
+          (λ h. let q = and-right (ltb 0 x) (eqb x y) h in
+          and-both (ltb 0 y) (eqb x y) (lt-ltb 0 y (omega (arith, ltb-true 0 x (and-left (ltb 0 x) (eqb x y) h), eqb-true x y q))) q)
+          (λ h. let q = and-right (ltb 0 y) (eqb x y) h in
+          and-both (ltb 0 x) (eqb x y) (lt-ltb 0 x (omega (arith, ltb-true 0 y (and-left (ltb 0 y) (eqb x y) h), eqb-true x y q))) q)

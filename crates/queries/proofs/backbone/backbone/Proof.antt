@@ -1,8 +1,9 @@
--- `backbone::backbone` meets its contract: on sound tables the entries are the numbers, so the radios of the greatest entry are the
--- backbone.
+-- `backbone::backbone` meets its contract: on sound tables the set that the parts leave is the backbone, and its bits are listed
+-- ascending.
+use mathlib.Core.Path.{refl}
 use borrow.Author.Needs.{needs}
 use Rattle.mesh.specs.Tables.{tables}
-use Rattle.queries.proofs.LevelLaws.{backbone-refused, backbone-room, backbone-empty, backbone-listed}
+use Rattle.queries.proofs.PartLaws.{backbone-refused, backbone-small, backbone-listed}
 use Rattle.queries.proofs.backbone.backbone.Statement.{statement}
 use Rattle.queries.proofs.backbone.backbone.Tie as tie
 
@@ -12,25 +13,24 @@ returns c =
     let t = tables (call .links .now) (call .numbers .now) (call .order .now) in
     backbone-refused (call .n) t (call .answer .now) _ (c .before .refusal .ensures) (c .if1 .taken)
 
+put-backbone-requires : tie.Need-put-backbone-requires
+put-backbone-requires c κs =
+    let call = c .before .before .before .before .before .before .before .args in
+    let t = tables (call .links .now) (call .numbers .now) (call .order .now) in
+    (backbone-small (call .n) t (call .answer .now) _ (c .before .before .refusal .ensures) (c .before .if1 .left), refl)
+
 returns-2 : tie.Need-returns-2
 returns-2 c =
-    let call = c .before .before .before .before .before .before .before .before .args in
+    let listed = c .before .before in
+    let put = listed .before .before .before .before in
+    let asked = put .before .before .before in
+    let call = asked .before .before .before .before .before .args in
     let t = tables (call .links .now) (call .numbers .now) (call .order .now) in
-    backbone-empty (call .n) t (call .answer .now) _ (c .before .before .before .refusal .ensures) (c .before .before .if1 .left) _ (c .before .greatest .ensures) (c .if2 .taken)
-
-list-level-requires : tie.Need-list-level-requires
-list-level-requires c κs =
-    let call = c .before .before .before .before .before .before .before .before .before .args in
-    let t = tables (call .links .now) (call .numbers .now) (call .order .now) in
-    backbone-room (call .n) t (call .answer .now) _ (c .before .before .before .before .refusal .ensures) (c .before .before .before .if1 .left) _ (c .before .before .greatest .ensures)
-
-returns-3 : tie.Need-returns-3
-returns-3 c =
-    let call = c .before .before .before .before .before .before .before .before .before .before .before .before .args in
-    let t = tables (call .links .now) (call .numbers .now) (call .order .now) in
-    backbone-listed (call .n) t (call .answer .now) _ (c .before .before .before .before .before .before .before .refusal .ensures) (c .before .before .before .before .before .before .if1 .left) _ (c .before .before .before .before .before .greatest .ensures) (c .before .before .before .before .if2 .left) _ _ (c .before .before .list-level .ensures .0) (c .before .before .list-level .ensures .1)
+    backbone-listed (call .n) t (call .answer .now) _ (asked .refusal .ensures) (put .before .before .if1 .left) _ _ _
+    (put .put-backbone .ensures) (listed .row-neighbours .ensures .0) (listed .row-neighbours .ensures .1)
 
 pub backbone-spec : {M : Type 1} → statement M
 backbone-spec =
     tie.close (
-    tie.spec (λ c κs. search needs) returns (λ c κs. search needs) returns-2 list-level-requires (λ c. search needs) returns-3)
+    tie.spec (λ c κs. search needs) returns (λ c. search needs) put-backbone-requires (λ c. search needs) (λ c κs. search needs)
+    (λ c. search needs) returns-2)
