@@ -56,7 +56,7 @@ pub extern "C" fn sb_link_up(
     ensures { λ r. ⌜ Link-contract true n a b (lent (links .entry) (numbers .entry) (order .entry)) (now (answer .entry)) r
         (lent (links .exit) (numbers .exit) (order .exit)) (now (answer .exit)) ⌝ }
 {
-    links::link::link_up(n, a, b, links, numbers, order, answer)
+    links::link::link(true, n, a, b, links, numbers, order, answer)
 }
 
 // Takes the link between a and b down: as `sb_link_up`, with the step -1, or 0 when no number changed. Refused by 1 to 6.
@@ -73,7 +73,7 @@ pub extern "C" fn sb_link_down(
     ensures { λ r. ⌜ Link-contract false n a b (lent (links .entry) (numbers .entry) (order .entry)) (now (answer .entry)) r
         (lent (links .exit) (numbers .exit) (order .exit)) (now (answer .exit)) ⌝ }
 {
-    links::link::link_down(n, a, b, links, numbers, order, answer)
+    links::link::link(false, n, a, b, links, numbers, order, answer)
 }
 
 // The number of radio v. Refused by 1 to 4: then the value is 0.

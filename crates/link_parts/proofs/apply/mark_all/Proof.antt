@@ -8,9 +8,9 @@ use borrow.Author.Needs.{needs}
 use Rattle.lists.proofs.Loops.{Folding, folding-none, folding-turn, folding-end, folding-long}
 use Rattle.mesh.specs.Tables.{put-bit}
 use Rattle.mesh.proofs.Tables.Laws.{length-put-bit}
-use Rattle.links.specs.Changes.{all-marked}
-use Rattle.links.proofs.apply.mark_all.Statement.{statement}
-use Rattle.links.proofs.apply.mark_all.Tie as tie
+use Rattle.link_parts.specs.Changes.{all-marked}
+use Rattle.link_parts.proofs.apply.mark_all.Statement.{statement}
+use Rattle.link_parts.proofs.apply.mark_all.Tie as tie
 
 abbrev Inv-loop : tie.InvT-loop
 Inv-loop set₀ list i₀ set i = Folding (λ v now. put-bit true 0 v now) list set₀ set i

@@ -3,9 +3,9 @@ use mathlib.Core.Path.{refl, sym}
 use native.Mathlib.Omega.{arith}
 use lib.Seq.{length-take-le}
 use borrow.Author.Needs.{needs}
-use Rattle.links.proofs.ChangeLaws.{paste-stretch}
-use Rattle.links.proofs.apply.put_stretch.Statement.{statement}
-use Rattle.links.proofs.apply.put_stretch.Tie as tie
+use Rattle.link_parts.proofs.ChangeLaws.{paste-stretch}
+use Rattle.link_parts.proofs.apply.put_stretch.Statement.{statement}
+use Rattle.link_parts.proofs.apply.put_stretch.Tie as tie
 
 slice-aggregate-put-before : tie.Need-slice-aggregate-put-before
 slice-aggregate-put-before c =

@@ -6,9 +6,9 @@ use lib.ListN.{length, take}
 use borrow.Author.Needs.{needs}
 use Rattle.lists.specs.Lists.{overwrite}
 use Rattle.rows.specs.Rows.{row-listed}
-use Rattle.links.proofs.Marking.{row-listed-all-marked}
-use Rattle.links.proofs.apply.list_ascending.Statement.{statement}
-use Rattle.links.proofs.apply.list_ascending.Tie as tie
+use Rattle.link_parts.proofs.Marking.{row-listed-all-marked}
+use Rattle.link_parts.proofs.apply.list_ascending.Statement.{statement}
+use Rattle.link_parts.proofs.apply.list_ascending.Tie as tie
 
 returns : tie.Need-returns
 returns c =
@@ -16,7 +16,7 @@ returns c =
     let marking = c .before .before .before .before .before .before in
     let s = marking .before .before .before .before in
     let answer = s .args .answer .now in
-    let is = ap (λ (row : List ℕ). row-listed row 0) (marking .mark-all .ensures) ∙ row-listed-all-marked (s .args .list .now) _ refl (s .pre) in (
+    let is = ap (λ (row : List ℕ). row-listed row 0) (marking .mark-all .ensures) ∙ row-listed-all-marked (s .args .list .now) _ refl in (
       listed .row-neighbours .ensures .0 ∙ ap length is,
       listed .row-neighbours .ensures .1 ∙ ap (λ (xs : List ℕ). overwrite (take (length answer) xs) answer) is,
     )

@@ -1,23 +1,16 @@
 -- `apply::list_changed` meets its contract: the part of the stretch that it lists is the plan's, going up and going down.
-use mathlib.Core.Path.{sym, ap, subst, _∙_}
+use mathlib.Core.Path.{sym, ap, _∙_}
 use mathlib.Core.List.{List}
 use Prim.Native.Nat.{ℕ}
 use native.Mathlib.Nat.{le-trans}
 use lib.ListN.{length, take}
 use lib.Seq.{length-take-le}
 use borrow.Author.Needs.{needs}
-use Rattle.mesh.specs.Limits.{max-radios}
-use Rattle.lists.specs.Lists.{overwrite, Entries-below}
-use Rattle.links.specs.Changes.{in-order}
-use Rattle.links.proofs.ChangeLaws.{changed-part-up, changed-part-down}
-use Rattle.links.proofs.apply.list_changed.Statement.{statement}
-use Rattle.links.proofs.apply.list_changed.Tie as tie
-
-list-ascending-requires : tie.Need-list-ascending-requires
-list-ascending-requires c κs =
-    let s = c .before .before .before .before .before in
-    let is = changed-part-up (s .args .up) (s .args .taken) (s .args .size) (s .args .stretch .now) (c .before .before .if1 .taken) in
-    subst (Entries-below max-radios) is (s .pre .2)
+use Rattle.lists.specs.Lists.{overwrite}
+use Rattle.link_parts.specs.Changes.{in-order}
+use Rattle.link_parts.proofs.ChangeLaws.{changed-part-up, changed-part-down}
+use Rattle.link_parts.proofs.apply.list_changed.Statement.{statement}
+use Rattle.link_parts.proofs.apply.list_changed.Tie as tie
 
 returns : tie.Need-returns
 returns c =
@@ -33,12 +26,6 @@ slice-aggregate-list-ascending : tie.Need-slice-aggregate-list-ascending
 slice-aggregate-list-ascending c =
     let s = c .before .before .before .before in sym (length-take-le (s .args .taken) (s .args .stretch .now) (le-trans (s .pre .0) (s .pre .1)))
 
-list-ascending-requires-2 : tie.Need-list-ascending-requires-2
-list-ascending-requires-2 c κs =
-    let s = c .before .before .before .before .before in
-    let is = changed-part-down (s .args .up) (s .args .taken) (s .args .size) (s .args .stretch .now) (c .before .before .if1 .left) in
-    subst (Entries-below max-radios) is (s .pre .2)
-
 returns-2 : tie.Need-returns-2
 returns-2 c =
     let s = c .before .before .before .before .before .before .before .before in
@@ -52,5 +39,5 @@ returns-2 c =
 pub list-changed-spec : {M : Type 1} → statement M
 list-changed-spec =
     tie.close (
-    tie.spec (λ c. search needs) (λ c. search needs) (λ c. search needs) (λ c. search needs) list-ascending-requires (λ c. search needs) returns
-    slice-aggregate-list-ascending list-ascending-requires-2 (λ c. search needs) returns-2)
+    tie.spec (λ c. search needs) (λ c. search needs) (λ c. search needs) (λ c. search needs) (λ c κs. search needs) (λ c. search needs) returns
+    slice-aggregate-list-ascending (λ c κs. search needs) (λ c. search needs) returns-2)

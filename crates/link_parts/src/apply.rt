@@ -1,19 +1,38 @@
-// A planned link call, written into the tables. Nothing is refused here: what a plan says fits.
+// A planned link call, written into the tables. A plan that the tables are too short for is not applied at all.
 ghost use mathlib.Core.Path.{_≡_};
 ghost use Prim.Native.Nat.{_+_, _-_, _≤_};
 ghost use lib.ListN.{length, take};
 ghost use lib.Seq.{paste};
-ghost use Rattle.mesh.specs.Limits.{max-radios};
-ghost use Rattle.lists.specs.Lists.{overwrite, Entries-below};
-ghost use Rattle.mesh.specs.Tables.{tables, graph-in, lent};
-ghost use Rattle.calls.specs.Contracts.Links.{Link-accepted};
-ghost use Rattle.links.specs.Plans.{changed-part, Planned};
-ghost use Rattle.links.specs.Changes.{all-marked, in-order, counted-step, Applicable};
-use super::plan::Plan;
+ghost use Rattle.lists.specs.Lists.{overwrite};
+ghost use Rattle.mesh.specs.Tables.{lent};
+ghost use Rattle.link_parts.specs.Changes.{changed-part, all-marked, in-order, counted-step, plan-fits, Apply-contract};
 use calls::Reply;
 use mesh::Site;
 use tables::fill;
 use tables::steps;
+
+// What a plan comes back with: where the stretch stands, how long it is, and how many of its radios the peel took.
+pub struct Plan {
+    pub start: usize,
+    pub size: usize,
+    pub taken: usize,
+}
+
+// Whether the taken are no more than the stretch has, and the lent stretch and the order, of these lengths, have room for it.
+fn fits(plan: Plan, stretch: usize, order: usize) -> bool
+    ensures { λ r. ⌜ r ≡ plan-fits (plan .start) (plan .size) (plan .taken) stretch order ⌝ }
+{
+    if plan.size < plan.taken {
+        return false;
+    }
+    if stretch < plan.size {
+        return false;
+    }
+    if order < plan.size {
+        return false;
+    }
+    plan.start <= order - plan.size
+}
 
 // Sets the bit of each listed radio in the set, which is one row.
 fn mark_all(set: &mut [u8], list: &[u16])
@@ -28,7 +47,6 @@ fn mark_all(set: &mut [u8], list: &[u16])
 
 // Writes the listed radios into the answer table, ascending, and comes back with their count; later entries keep their content.
 fn list_ascending(list: &[u16], answer: &mut [u16]) -> u32
-    requires { ⌜ Entries-below max-radios (now list) ⌝ }
     ensures counted { λ r. ⌜ r ≡ length (in-order (now (list .entry))) ⌝ }
     ensures listed { λ _. ⌜ now (answer .exit)
         ≡ overwrite (take (length (now (answer .entry))) (in-order (now (list .entry)))) (now (answer .entry)) ⌝ }
@@ -75,7 +93,7 @@ fn put_stretch(order: &mut [u16], start: usize, size: usize, taken: usize, stret
 // Writes the changed radios of a plan into the answer table, ascending, and comes back with their count; later entries keep
 // their content.
 fn list_changed(up: bool, taken: usize, size: usize, stretch: &[u16], answer: &mut [u16]) -> u32
-    requires { ⌜ (taken ≤ size) × (size ≤ length (now stretch)) × Entries-below max-radios (changed-part up taken size (now stretch)) ⌝ }
+    requires { ⌜ (taken ≤ size) × (size ≤ length (now stretch)) ⌝ }
     ensures counted { λ r. ⌜ r ≡ length (in-order (changed-part up taken size (now (stretch .entry)))) ⌝ }
     ensures listed { λ _. ⌜ now (answer .exit)
         ≡ overwrite (take (length (now (answer .entry))) (in-order (changed-part up taken size (now (stretch .entry)))))
@@ -88,8 +106,9 @@ fn list_changed(up: bool, taken: usize, size: usize, stretch: &[u16], answer: &m
 }
 
 // Writes a plan into the tables: the link, the changed numbers, the stretch. The answer table gets the changed radios,
-// ascending, and the reply tells their count and step.
-pub(crate) fn apply(
+// ascending, and the reply tells their count and step. Where the plan does not fit, the reply has zeros and every table keeps its
+// content.
+pub fn apply(
     up: bool,
     a: u32,
     b: u32,
@@ -100,13 +119,17 @@ pub(crate) fn apply(
     order: &mut [u16],
     answer: &mut [u16],
 ) -> Reply
-    requires call { ⌜ Applicable up (length (now order)) a b (tables (now links) (now numbers) (now order)) (now answer) ⌝ }
-    requires planned { ⌜ Planned up a b (graph-in (length (now order)) (now links)) (now order) (plan .start) (plan .size) (plan .taken)
-        (now stretch) ⌝ }
-    ensures { λ r. ⌜ Link-accepted up a b (graph-in (length (now (order .entry))) (now (links .entry)))
+    ensures { λ r. ⌜ Apply-contract up a b (plan .start) (plan .size) (plan .taken) (now (stretch .entry))
         (lent (links .entry) (numbers .entry) (order .entry)) (now (answer .entry)) r
         (lent (links .exit) (numbers .exit) (order .exit)) (now (answer .exit)) ⌝ }
 {
+    if !fits(plan, stretch.len(), order.len()) {
+        return Reply {
+            number: 0,
+            step: 0,
+            count: 0,
+        };
+    }
     rows::put_link(links, up, a, b);
     let count = list_changed(up, plan.taken, plan.size, stretch, answer);
     let step = step_of(up, count);

@@ -1,21 +1,26 @@
--- Laws of what applying a plan writes. In order: laws of lists, the changed radios, the stretch in the order, the step.
+-- Laws of what applying a plan writes. In order: the changed radios, a plan that fits, the stretch in the order, the step, the call.
 use mathlib.Core.Path.{_≡_, refl, sym, ap, ap₂, _∙_}
-use mathlib.Core.Bool.{Bool, true, false}
+use mathlib.Core.Logic.{_⊎_, inl, inr}
+use mathlib.Core.Bool.{Bool, true, false, _&&_}
 use mathlib.Core.List.{List, [], _∷_, _++_, append-assoc}
-use Prim.Native.Nat.{ℕ, zero, suc, _+_, _-_, _≤_}
+use Prim.Native.Nat.{ℕ, zero, suc, _+_, _-_, _≤_, _<_}
 use native.Mathlib.Omega.{arith}
 use mir.Syntax.{w8}
 use mir.Val.{SFits, toZ, ofZ}
 use mir.Facts.{toZ-ofZ}
+use lib.Dec.{leb}
 use lib.IntN.{ℤ, pos, negsuc}
 use lib.ListN.{length, take, drop, length-drop}
 use lib.Seq.{length-take-le, take-all, take-take, take-add, drop-drop, paste, take-paste, drop-paste}
+use borrow.Author.Tests.{leb-true, leb-false, le-leb, lt-leb}
 use borrow.Rule.Slice.PartMut.{midOf, putMid, mid-len, post-is}
 use Rattle.lists.specs.Lists.{overwrite}
 use Rattle.mesh.specs.Levels.{step-of}
+use Rattle.mesh.specs.Tables.{Tables}
+use Rattle.calls.specs.declared.Reply.{Reply}
+use Rattle.lists.proofs.Tests.{bool-cases, never, and-left, and-right}
 use Rattle.lists.proofs.Overwrite.{overwrite-take}
-use Rattle.links.specs.Plans.{changed-part}
-use Rattle.links.specs.Changes.{counted-step}
+use Rattle.link_parts.specs.Changes.{changed-part, counted-step, plan-fits, Applied, Apply-contract}
 use Rattle.lists.proofs.Parts.{drop-take}
 
 -- ---- the changed radios of a plan
@@ -28,6 +33,40 @@ changed-part-up up k m xs e = rw e (drop-take k m xs)
 pub changed-part-down : (up : Bool) (k m : ℕ) (xs : List ℕ) → up ≡ false → changed-part up k m xs ≡ take k xs
 unfolding changed-part
 changed-part-down up k m xs e = rw e
+
+-- ---- a plan that fits
+
+-- each test of the code
+module _ (start size taken stretch order : ℕ) where
+  pub fits-taken : size < taken → false ≡ plan-fits start size taken stretch order
+  unfolding plan-fits
+  fits-taken h = rw (lt-leb taken size h)
+
+  pub fits-stretch : taken ≤ size → stretch < size → false ≡ plan-fits start size taken stretch order
+  unfolding plan-fits
+  fits-stretch k h = rw (le-leb taken size k, lt-leb size stretch h)
+
+  module _ (k : taken ≤ size) (m : size ≤ stretch) where
+    pub fits-none : order < size → false ≡ plan-fits start size taken stretch order
+    unfolding plan-fits
+    fits-none h = rw (le-leb taken size k, le-leb size stretch m, lt-leb (start + size) order (omega arith))
+
+    pub fits-order : size ≤ order → leb start (order - size) ≡ plan-fits start size taken stretch order
+    unfolding plan-fits
+    fits-order h = rw (le-leb taken size k, le-leb size stretch m) (either (bool-cases (leb start (order - size))))
+      where
+        either : (leb start (order - size) ≡ true) ⊎ (leb start (order - size) ≡ false) → leb start (order - size) ≡ leb (start + size) order
+        either (inl e) = e ∙ sym (le-leb (start + size) order (omega (arith, leb-true start (order - size) e)))
+        either (inr e) = e ∙ sym (lt-leb (start + size) order (omega (arith, leb-false start (order - size) e)))
+
+  pub fits-true : plan-fits start size taken stretch order ≡ true → (taken ≤ size) × (size ≤ stretch) × (start + size ≤ order)
+  unfolding plan-fits
+  fits-true e =
+      let rest = and-right (leb taken size) (leb size stretch && leb (start + size) order) e in (
+        leb-true taken size (and-left (leb taken size) (leb size stretch && leb (start + size) order) e),
+        leb-true size stretch (and-left (leb size stretch) (leb (start + size) order) rest),
+        leb-true (start + size) order (and-right (leb size stretch) (leb (start + size) order) rest),
+      )
 
 -- ---- the stretch
 
@@ -106,3 +145,19 @@ fits-counted-step false (suc k) = record { sfits = omega arith }
 -- a step held in eight bits is the step
 pub counted-step-held : (up : Bool) (k : ℕ) (z : ℤ) → z ≡ counted-step up k → toZ w8 (ofZ w8 z) ≡ counted-step up k
 counted-step-held up k z e = ap (λ (y : ℤ). toZ w8 (ofZ w8 y)) e ∙ toZ-ofZ (fits-counted-step up k)
+
+-- ---- the call, on plain values
+
+module _ (up : Bool) (a b start size taken : ℕ) (stretch : List ℕ) (t : Tables) (answer : List ℕ) where
+  abbrev fit : Bool
+  fit = plan-fits start size taken (length stretch) (length (t .order))
+
+  pub unapplied : fit ≡ false → Apply-contract up a b start size taken stretch t answer (record { number = 0; step = pos 0; count = 0 }) t answer
+  unapplied e = record {
+    fitting = λ yes. absurd (never fit yes e);
+    unfit = λ no. record { number = refl; count = refl; step = refl; links = refl; numbers = refl; order = refl; answer-is = refl };
+  }
+
+  pub applied : fit ≡ true → (r : Reply) (v : Tables) (x : List ℕ) → Applied up a b start size taken stretch t answer r v x
+      → Apply-contract up a b start size taken stretch t answer r v x
+  applied e r v x done = record { fitting = λ yes. done; unfit = λ no. absurd (never fit e no) }
