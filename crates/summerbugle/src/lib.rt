@@ -163,7 +163,7 @@ pub extern "C" fn sb_backbone<'a>(
 ) -> Value
     ensures { λ r. ⌜ Backbone-contract n (lent (links .entry) (numbers .entry) (order .entry)) (now (answer .entry)) r (now (answer .exit)) ⌝ }
 {
-    queries::backbone::backbone(n, links, numbers, order, answer)
+    backbone::backbone(n, links, numbers, order, answer)
 }
 
 // The shell tree: the count of nodes, the root with them. The nodes stand by level and then name in front of the list of nodes,
@@ -237,5 +237,5 @@ pub extern "C" fn sb_image_read(
 pub extern "C" fn sb_image_block(image: &[u8], next: usize) -> Block
     ensures { λ r. ⌜ Block-contract (now (image .entry)) next r ⌝ }
 {
-    image::blocks::block(image, next)
+    block_reader::blocks::block(image, next)
 }
