@@ -1,7 +1,7 @@
 -- Connected parts, taken in turn. A set is one row of bits.
 --   part-greatest ns xs   the greatest number of the radios xs
---   top-put, tops-put     the set with a radio that has number k, or with those of some radios that have it
---   part-put ns xs s      the set with those of xs that have their greatest number, where that is not 0
+--   top-put, tops-put     the set with a radio, or with each of some radios, that has number k
+--   part-put ns xs s      the set with the radios of xs that have their greatest number, where that is not 0
 --   Part-taken            the part of a radio: flooded, and its radios with the greatest number put into the set
 --   Part-visited          a radio: its part is taken where it was not seen before, and else nothing changes
 --   Backbone-put          a set that is the backbone, for sound tables

@@ -21,7 +21,6 @@ use Rattle.rows.specs.Rows.{row-listed}
 use Rattle.lists.proofs.Tests.{byte-bit}
 use Rattle.soundness.proofs.SoundSite.{Sound-site, site-good-sound, linked-marked, number-entry, degree-listed}
 
-
 -- ---- one radio
 
 module _ (n v : ℕ) (t : Tables) where
