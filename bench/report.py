@@ -147,7 +147,7 @@ def summary(run):
     if run.igraph:
         words.append(f"A change took {span((row[2] / row[0] for row in run.igraph.values()), '.1f')} times as long with igraph's C library.")
     if run.networkx:
-        words.append(f"With networkx it took {span((run.networkx[site] / run.change[site] for site in run.networkx), '.0f')} times as long.")
+        words.append(f"With networkx a change took {span((run.networkx[site] / run.change[site] for site in run.networkx), '.0f')} times as long.")
     return textwrap.fill(" ".join(words), 132) + "\n"
 
 

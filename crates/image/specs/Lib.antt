@@ -1,4 +1,2 @@
 -- What the contracts of the blocks' code cite beside the definitions of mesh and calls.
 pub mod Bytes
-pub mod Reader
-pub mod Form

@@ -26,8 +26,8 @@ use Rattle.mesh.specs.Valid.{Valid}
 use Rattle.tables.specs.Widths.{values}
 use Rattle.tables.proofs.WidthLaws.{length-values, values-below}
 use Rattle.lists.proofs.Overwrite.{overwrite-take}
-use Rattle.image.specs.Form.{is-formed}
-use Rattle.image.proofs.FormLaws.{is-image-formed}
+use Rattle.image_form.specs.Form.{is-formed}
+use Rattle.image_form.proofs.FormLaws.{is-image-formed}
 use Rattle.image_reader.specs.Site.{links-up-to, few-ends, Tally-room, K-order-decided, Site-decided}
 use Rattle.image_reader.specs.Reading.{Site-read}
 use Rattle.image_reader.proofs.KOrderLaws.{few-degrees}

@@ -13,8 +13,8 @@ ghost use Rattle.mesh.specs.Orders.{each-once};
 ghost use Rattle.mesh.specs.Image.{image-order};
 ghost use Rattle.image_reader.specs.Site.{links-up-to, Tallied, few-ends, running-maxima-of, Tally-room, K-order-decided, Site-room, Site-decided};
 use image::bytes;
-use image::form;
 use image::layout;
+use image_form::form;
 use mesh::Site;
 
 // Whether the link a-b stands before the link c-d: by the lower radio, then by the higher.

@@ -8,6 +8,7 @@ use Prim.Native.Nat.{ℕ, suc, _+_, _-_, _≤_, _<_}
 use native.Mathlib.Omega.{arith}
 use native.Mathlib.Nat.{le-trans}
 use lib.Dec.{eqb}
+use borrow.Author.Tests.{le-leb}
 use lib.IntN.{ℤ}
 use lib.ListN.{length, getD, take, drop, length-drop}
 use lib.Seq.{length-take-le, take-all, ext-getD, paste, getD-take, getD-drop}
@@ -31,9 +32,9 @@ use Rattle.calls.specs.Contracts.Links.{Link-accepted}
 use Rattle.calls.specs.declared.Reply.{Reply}
 use Rattle.tables.specs.Steps.{stepped, all-stepped}
 use Rattle.tables.proofs.StepLaws.{length-all-stepped, getD-all-stepped-other, getD-all-stepped-listed}
-use Rattle.links.specs.Plans.{Planned, changed-part}
-use Rattle.links.specs.Changes.{in-order, counted-step, Applicable}
-use Rattle.links.proofs.ChangeLaws.{counted-step-length}
+use Rattle.links.specs.Plans.{Planned, Applicable}
+use Rattle.link_parts.specs.Changes.{changed-part, in-order, counted-step, plan-fits, Apply-contract}
+use Rattle.link_parts.proofs.ChangeLaws.{counted-step-length}
 
 -- ---- a bound on numbers
 
@@ -130,12 +131,11 @@ module _ (up : Bool) (n a b : ℕ) (t : Tables) (answer : List ℕ) (ok : Applic
   unfolding graph-in
   entries-planned = entries-changed-part up taken size stretch n (plan .taken-fits) (plan .long) (plan .radios)
 
-  pub radios-planned : Entries-below max-radios (changed-part up taken size stretch)
-  radios-planned i l = omega (arith, entries-planned i l, ok .small)
-
-  pub stretch-fits : start + size ≤ n
-  unfolding graph-in
-  stretch-fits = plan .fits
+  planned-fits : n ≤ length (t .order) → plan-fits start size taken (length stretch) (length (t .order)) ≡ true
+  unfolding plan-fits graph-in
+  planned-fits long =
+      let fits : start + size ≤ length (t .order) = omega (arith, plan .fits) in
+      rw (le-leb taken size (plan .taken-fits), le-leb size (length stretch) (plan .long), le-leb (start + size) (length (t .order)) fits)
 
   in-order-planned : in-order (changed-part up taken size stretch) ≡ cs
   unfolding graph-in
@@ -149,23 +149,22 @@ module _ (up : Bool) (n a b : ℕ) (t : Tables) (answer : List ℕ) (ok : Applic
   unfolding graph-in
   fits-answer = take-all (length answer) cs (omega (arith, ok .room, length-changed up a b g))
 
-  -- what the code writes: r the reply's fields, v the tables after, x the answer table after
-  pub applied : (r : Reply) (v : Tables) (x : List ℕ) → r .number ≡ 0 → r .count ≡ length (in-order (changed-part up taken size stretch))
-      → r .step ≡ counted-step up (r .count) → v .links ≡ put-link up a b (t .links)
-      → x ≡ overwrite (take (length answer) (in-order (changed-part up taken size stretch))) answer
-      → v .numbers ≡ all-stepped (take (r .count) x) (r .step) (t .numbers) → v .order ≡ paste (t .order) start stretch size
-      → Link-accepted up a b g t answer r v x
-  applied r v x e c s l w k o =
-      let many : r .count ≡ length cs = c ∙ ap length in-order-planned in
-      let way : r .step ≡ step-of up cs = s ∙ ap (counted-step up) many ∙ counted-step-length up cs in
-      let listed : x ≡ overwrite cs answer = w ∙ ap (λ (ys : List ℕ). overwrite ys answer) (ap (take (length answer)) in-order-planned ∙ fits-answer) in
+  -- what is applied of the plan, r the reply, v the tables after, x the answer table after
+  pub applied-accepted : n ≤ length (t .order) → (r : Reply) (v : Tables) (x : List ℕ)
+      → Apply-contract up a b start size taken stretch t answer r v x → Link-accepted up a b g t answer r v x
+  applied-accepted long r v x applied =
+      let d = applied .fitting (planned-fits long) in
+      let many : r .count ≡ length cs = d .count ∙ ap length in-order-planned in
+      let way : r .step ≡ step-of up cs = d .step ∙ ap (counted-step up) many ∙ counted-step-length up cs in
+      let listed : x ≡ overwrite cs answer =
+      d .answer-is ∙ ap (λ (ys : List ℕ). overwrite ys answer) (ap (take (length answer)) in-order-planned ∙ fits-answer) in
       let front : take (r .count) x ≡ cs = ap₂ take many listed ∙ take-overwrite cs answer in
       record {
-        number = e;
+        number = d .number;
         step = way;
         count = many;
-        links = l;
-        numbers = k ∙ rw (front, way, ok .numbered) (numbers-stepped up a b g (t .order) (ok .valid) (ok .allowed));
-        order = o ∙ order-planned;
+        links = d .links;
+        numbers = d .numbers ∙ rw (front, way, ok .numbered) (numbers-stepped up a b g (t .order) (ok .valid) (ok .allowed));
+        order = d .order ∙ order-planned;
         answer = listed;
       }

@@ -27,8 +27,8 @@ use Rattle.soundness.specs.Checks.{examinable, Examined}
 use Rattle.soundness.proofs.HighCounts.{examined-high}
 use Rattle.links.specs.Plans.{Ready}
 use Rattle.links.specs.Asked.{Asked}
-use Rattle.links.specs.Changes.{Applicable}
-use Rattle.links.proofs.EndsLaws.{proper-rows}
+use Rattle.links.specs.Plans.{Applicable}
+use Rattle.link_parts.proofs.EndsLaws.{proper-rows}
 
 -- ---- sound tables
 

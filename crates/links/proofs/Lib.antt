@@ -1,6 +1,5 @@
 -- Laws of link calls.
--- questions 4 to 7; all questions, what a plan is made from and what it is applied to
-pub mod EndsLaws
+-- all questions, what a plan is made from and what it is applied to
 pub mod Asking
 -- the turns of the peel: the loops over counters and fitting places, and what they come to
 pub mod TurnLoops
@@ -21,9 +20,7 @@ pub mod PlanLevel
 pub mod PlanStart
 pub mod PlanEnd
 pub mod PlanCall
--- a set of radios kept as one row; the stretch and the step; a plan applied
-pub mod Marking
-pub mod ChangeLaws
+-- a plan applied
 pub mod Applied
 -- a call refused and accepted
 pub mod CallLaws

@@ -6,5 +6,3 @@ pub mod Asked
 pub mod Turns
 -- the peel of a level
 pub mod Peels
--- a plan applied
-pub mod Changes

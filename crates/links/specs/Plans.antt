@@ -1,10 +1,10 @@
 -- A planned link call: what the lower end's stretch of the order becomes, and which radios change. Nothing is written yet.
---   changed-part   the changed radios of a planned stretch: going up the ones after the taken, going down the taken
 --   Ready          what a plan is made from: sound tables, a call that is allowed, the places and the not-lower counts
 --   Planned        what a plan says
+--   Applicable     what a plan is applied to: a valid site with its core numbers, a call that is allowed, room for the answer
 -- Definitions only.
 use mathlib.Core.Path.{_≡_}
-use mathlib.Core.Bool.{Bool, true, cond}
+use mathlib.Core.Bool.{Bool, true}
 use mathlib.Core.List.{List}
 use Prim.Native.Nat.{ℕ, _+_, _*_, _≤_, _<_}
 use lib.Dec.{leb}
@@ -12,14 +12,12 @@ use lib.ListN.{length, getD, take, drop}
 use Rattle.mesh.specs.Limits.{max-radios, max-neighbours, row-bytes}
 use Rattle.lists.specs.Lists.{member}
 use Rattle.mesh.specs.Graph.{Graph, neighbours-in, relinked}
-use Rattle.mesh.specs.Cores.{number}
+use Rattle.mesh.specs.Cores.{number, numbers}
 use Rattle.mesh.specs.Levels.{changed, lower-level, stretch-start, stretch-length, new-stretch}
 use Rattle.mesh.specs.Tables.{Tables, graph-in}
 use Rattle.mesh.specs.Sound.{sound}
-use Rattle.mesh.specs.Valid.{Allowed}
-
-unfoldable pub changed-part : (up : Bool) → (taken size : ℕ) → (stretch : List ℕ) → List ℕ
-changed-part up k m xs = cond up (drop k (take m xs)) (take k xs)
+use Rattle.mesh.specs.Valid.{Valid, Allowed}
+use Rattle.link_parts.specs.Changes.{changed-part}
 
 -- places and highs are what the soundness check found: where each radio stands, and how many neighbours it has that are not below it
 pub record Ready (up : Bool) (n a b : ℕ) (t : Tables) (places highs : List ℕ) : Type 0 where
@@ -49,3 +47,10 @@ pub record Planned (up : Bool) (a b : ℕ) (g : Graph) (order : List ℕ) (start
       ≡ new-stretch up (relinked up a b g) (lower-level g a b) (changed up a b g) (take size (drop start order)) (drop (start + size) order)
   pub changed-is : (v : ℕ) → v < g .n → member v (changed up a b g) ≡ member v (changed-part up taken size stretch)
   pub radios : (i : ℕ) → i < size → getD stretch i 0 < g .n
+
+pub record Applicable (up : Bool) (n a b : ℕ) (t : Tables) (answer : List ℕ) : Type 0 where
+  pub small : n ≤ max-radios
+  pub valid : Valid max-neighbours (graph-in n (t .links)) (t .order)
+  pub numbered : t .numbers ≡ numbers (graph-in n (t .links))
+  pub allowed : Allowed max-neighbours up a b (graph-in n (t .links))
+  pub room : n ≤ length answer

@@ -1,6 +1,5 @@
 // Link up and link down. A call asks its questions, plans what becomes of the lower end's stretch of the order, and applies the
 // plan: nothing is written before the plan is whole. Refusals leave every table as it was.
-mod apply;
 pub mod link;
 mod plan;
 mod questions;

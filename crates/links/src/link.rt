@@ -1,14 +1,13 @@
 // Link up and link down: asked, planned, applied.
-ghost use mathlib.Core.Bool.{true, false};
 ghost use Prim.Native.Nat.{_≤_};
 ghost use lib.ListN.{length};
 ghost use Rattle.mesh.specs.Tables.{tables, graph-in, lent};
 ghost use Rattle.calls.specs.Contracts.Links.{Link-accepted, Link-contract};
 ghost use Rattle.links.specs.Plans.{Ready};
-use super::apply;
 use super::plan;
 use super::questions;
 use calls::Reply;
+use link_parts::apply;
 use mesh::Site;
 
 // Carries out a call whose questions all got yes: plans it, then writes the plan. `highs` and `stretch` hold anything after.
@@ -34,7 +33,7 @@ fn carry_out(
     apply::apply(up, a, b, planned, stretch, links, numbers, order, answer)
 }
 
-// Takes the link between a and b up or down. Accepted, the reply has number 0, the step and the count of changed radios; the
+// Takes the link between a and b up, by questions 1 to 7, or down, by 1 to 6. Accepted, the reply has number 0, the step and the count of changed radios; the
 // answer table has these ascending in front, and its later entries keep their content. Refused, the reply has the number and
 // zeros, and every table keeps its content.
 pub fn link(
@@ -84,36 +83,4 @@ pub fn link(
         &mut highs,
         &mut stretch,
     )
-}
-
-// Takes the link between a and b up: questions 1 to 7, then as `link` says.
-pub fn link_up(
-    n: u32,
-    a: u32,
-    b: u32,
-    links: &mut [u8],
-    numbers: &mut [u8],
-    order: &mut [u16],
-    answer: &mut [u16],
-) -> Reply
-    ensures { λ r. ⌜ Link-contract true n a b (lent (links .entry) (numbers .entry) (order .entry)) (now (answer .entry)) r
-        (lent (links .exit) (numbers .exit) (order .exit)) (now (answer .exit)) ⌝ }
-{
-    link(true, n, a, b, links, numbers, order, answer)
-}
-
-// Takes the link between a and b down: questions 1 to 6, then as `link` says.
-pub fn link_down(
-    n: u32,
-    a: u32,
-    b: u32,
-    links: &mut [u8],
-    numbers: &mut [u8],
-    order: &mut [u16],
-    answer: &mut [u16],
-) -> Reply
-    ensures { λ r. ⌜ Link-contract false n a b (lent (links .entry) (numbers .entry) (order .entry)) (now (answer .entry)) r
-        (lent (links .exit) (numbers .exit) (order .exit)) (now (answer .exit)) ⌝ }
-{
-    link(false, n, a, b, links, numbers, order, answer)
 }

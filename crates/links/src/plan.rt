@@ -10,6 +10,7 @@ ghost use Rattle.links.specs.Turns.{places-fitting, ends-counted, Begin-
 ghost use Rattle.links.specs.Peels.{Peel-ready, Peel-done};
 ghost use Rattle.links.specs.Plans.{Ready, Planned};
 use super::turn::Call;
+use link_parts::apply::Plan;
 
 // The call at the lower end's level K: the peel takes radios with at most K neighbours going up, K - 1 going down.
 fn call_at(up: bool, a: u32, b: u32, numbers: &[u8]) -> Call
@@ -108,13 +109,6 @@ fn peel(
         p = rows::first_marked(fits, 0);
     }
     taken
-}
-
-// What a plan comes back with: where the stretch stands, how long it is, and how many of its radios the peel took.
-pub(crate) struct Plan {
-    pub(crate) start: usize,
-    pub(crate) size: usize,
-    pub(crate) taken: usize,
 }
 
 // Plans the link a-b going up or down: writes the lower end's stretch, laid out anew, in front of `stretch`; later entries and the

@@ -1,45 +1,13 @@
 // The questions of a link call, in turn. Nothing is written but the scratch that a plan is made from.
-ghost use mathlib.Core.Path.{_≡_};
-ghost use mathlib.Core.Bool.{true};
-ghost use Prim.Native.Nat.{_*_, _≤_};
+ghost use Prim.Native.Nat.{_≤_};
 ghost use lib.ListN.{length};
-ghost use Rattle.mesh.specs.Limits.{max-radios, max-neighbours, row-bytes};
-ghost use Rattle.mesh.specs.Tables.{graph-in, lent};
-ghost use Rattle.mesh.specs.Sound.{rows-proper};
-ghost use Rattle.calls.specs.Questions.{ends-refusal};
+ghost use Rattle.mesh.specs.Limits.{max-radios};
+ghost use Rattle.mesh.specs.Tables.{lent};
 ghost use Rattle.links.specs.Asked.{Asked};
 use calls::Refusal;
+use link_parts::ends;
 use mesh::Site;
 use tables::sizes;
-
-// The refusal number of questions 4 to 7, put in turn to proper rows: 4, 5, 6, 7, or 0 when none got "no".
-fn ends_refusal(up: bool, n: u32, a: u32, b: u32, links: &[u8]) -> u32
-    requires { ⌜ (n ≤ max-radios) × (length (now links) ≡ row-bytes * n) × (rows-proper max-neighbours n (now links) ≡ true) ⌝ }
-    ensures { λ r. ⌜ r ≡ ends-refusal max-neighbours up n a b (graph-in n (now (links .entry))) ⌝ }
-{
-    if n <= a {
-        return Refusal::RADIO;
-    }
-    if n <= b {
-        return Refusal::RADIO;
-    }
-    if a == b {
-        return Refusal::SAME_ENDS;
-    }
-    if rows::is_marked(links, a, b) == up {
-        return Refusal::LINK_STATE;
-    }
-    if !up {
-        return 0;
-    }
-    if Site::NEIGHBOURS <= rows::row_degree(links, a) {
-        return Refusal::NO_ROOM;
-    }
-    if Site::NEIGHBOURS <= rows::row_degree(links, b) {
-        return Refusal::NO_ROOM;
-    }
-    0
-}
 
 // The refusal number of a link call: the first "no" of questions 1 to 7, or 0. At 0, `places` holds where each radio stands in
 // the order and `highs` how many of its neighbours have a number that is not below its own; else both hold anything.
@@ -71,5 +39,5 @@ pub(crate) fn refusal(
     if !soundness::examine(n, links, numbers, order, places, highs) {
         return Refusal::UNSOUND;
     }
-    ends_refusal(up, n, a, b, links)
+    ends::ends_refusal(up, n, a, b, links)
 }

@@ -1,4 +1,4 @@
--- Contracts of the questions, met: refused and answered. In order: any value, any listing, number, neighbours, linked, first.
+-- Contracts of the questions, met: refused and answered. In order: number, neighbours, linked, first.
 use mathlib.Core.Path.{_≡_, refl, sym, ap, _∙_}
 use mathlib.Core.Bool.{Bool, true, cond}
 use mathlib.Core.List.{List}
@@ -13,38 +13,13 @@ use Rattle.mesh.specs.Cores.{number}
 use Rattle.mesh.specs.Tables.{Tables, marked}
 use Rattle.mesh.specs.Sound.{sound}
 use Rattle.calls.specs.Questions.{lengths-of, radio-refusal, pair-refusal}
-use Rattle.calls.specs.Contracts.Forms.{Value-accepted, Value-refused, Value-by, Listing-accepted, Listing-refused, Listing-by}
 use Rattle.calls.specs.Contracts.Radios.{first-of-two, Number-contract, Neighbours-contract, Linked-contract, First-contract}
 use Rattle.calls.specs.declared.Value.{Value}
 use Rattle.calls.proofs.ChainLaws.{radio-zero, pair-zero}
-use Rattle.calls.proofs.ContractLaws.{by-accepted, by-refused}
+use Rattle.calls.proofs.ContractLaws.{answer, value-refused, value-answered}
 use Rattle.rows.specs.Rows.{row-listed}
 use Rattle.lists.proofs.Tests.{byte-bit}
-use Rattle.soundness.proofs.SoundSite.{Sound-site, linked-marked, number-entry, degree-listed}
-use Rattle.queries.proofs.RefusalLaws.{site-good-sound}
-
--- ---- any value
-
-abbrev pub answer : (number value : ℕ) → Value
-answer q x = record { number = q; value = x }
-
-pub value-refused : (R x q : ℕ) → q ≡ R → (q ≡ 0 → ⊥) → Value-by R x (answer q 0)
-value-refused R x q e h =
-    by-refused R (Value-accepted x (answer q 0)) (λ p. Value-refused p (answer q 0)) (λ z. h (e ∙ z)) (record { number = e; value = refl })
-
-pub value-answered : (R x y : ℕ) → R ≡ 0 → y ≡ x → Value-by R x (answer 0 y)
-value-answered R x y e h = by-accepted R (λ p. Value-refused p (answer 0 y)) e (record { number = refl; value = h })
-
--- ---- any listing
-
-pub listing-refused : (R x : ℕ) (new old : List ℕ) (q : ℕ) → q ≡ R → (q ≡ 0 → ⊥) → Listing-by R x new old (answer q 0) old
-listing-refused R x new old q e h =
-    by-refused R (Listing-accepted x new old (answer q 0) old) (λ p. Listing-refused p old (answer q 0) old) (λ z. h (e ∙ z))
-    (record { number = e; value = refl; lent = refl })
-
-pub listing-answered : (R x : ℕ) (new old : List ℕ) (y : ℕ) (now : List ℕ) → R ≡ 0 → y ≡ x → now ≡ overwrite new old → Listing-by R x new old (answer 0 y) now
-listing-answered R x new old y now e h l =
-    by-accepted R (λ p. Listing-refused p old (answer 0 y) now) e (record { number = refl; value = h; lent = l })
+use Rattle.soundness.proofs.SoundSite.{Sound-site, site-good-sound, linked-marked, number-entry, degree-listed}
 
 -- ---- one radio
 

@@ -30,8 +30,8 @@ use Rattle.floods.specs.Floods.{Flood-done, Flooded}
 use Rattle.soundness.proofs.SoundSite.{Sound-site, number-entry}
 use Rattle.floods.proofs.FloodSteps.{true-floodable}
 use Rattle.floods.proofs.FloodCore.{marked-flood}
-use Rattle.queries.proofs.RefusalLaws.{site-good-sound}
-use Rattle.queries.proofs.AnswerLaws.{answer, listing-refused, listing-answered}
+use Rattle.soundness.proofs.SoundSite.{site-good-sound}
+use Rattle.calls.proofs.ContractLaws.{answer, listing-refused, listing-answered}
 
 -- a cleared set
 abbrev pub cleared : List ℕ

@@ -3,4 +3,3 @@
 pub mod RefusalLaws
 pub mod AnswerLaws
 pub mod CoreLaws
-pub mod PartLaws

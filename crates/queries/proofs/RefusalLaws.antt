@@ -13,8 +13,8 @@ use Rattle.mesh.specs.Sound.{sound}
 use Rattle.calls.specs.Questions.{ask, Lengths, lengths-of, size-good, site-lengths, answer-length, is-radio, are-radios, has-level, lent-refusal, site-refusal}
 use Rattle.calls.specs.Questions.{radio-refusal, pair-refusal, core-refusal, level-refusal}
 use Rattle.calls.proofs.QuestionLaws.{ask-yes, ask-no, true-is-radio}
-use Rattle.calls.proofs.ChainLaws.{Site-good, site-zero, site-yes, radio-zero, radio-yes, pair-yes, core-yes}
-use Rattle.soundness.proofs.SoundSite.{Sound-site, sound-site, number-entry}
+use Rattle.calls.proofs.ChainLaws.{site-zero, site-yes, radio-zero, radio-yes, pair-yes, core-yes}
+use Rattle.soundness.proofs.SoundSite.{Sound-site, site-good-sound, number-entry}
 
 -- ---- 1 to 3, and later questions
 
@@ -75,9 +75,6 @@ module _ (n a b : ℕ) (l : Lengths) (sound : Bool) (q : ℕ) (asked : q ≡ rad
       let r = radio-zero n a l sound (sym asked ∙ e) in sym (pair-yes n a b l sound (r .0) (r .1) h)
 
 -- ---- 4 and 8
-
-pub site-good-sound : (n : ℕ) (t : Tables) (others : Bool) → Site-good n (lengths-of t) others (sound n t) → Sound-site n t
-site-good-sound n t others g = sound-site n t (g .lent .most) (g .lent .lengths) (g .is-sound)
 
 module _ (n v k w : ℕ) (t : Tables) (q : ℕ) (asked : q ≡ site-refusal n (lengths-of t) (leb n w) (sound n t) 0) where
   abbrev g : Graph

@@ -84,3 +84,7 @@ module _ (n : ℕ) (t : Tables) (s : Sound-site n t) where
   degree-listed a l =
       ap length (row-listed-neighbours a l) ∙ length-neighbours-of (t .links) a
       ∙ sym (degree-graph-in n (t .links) (s .small) (s .symmetric) (s .irreflexive) (s .within) a l)
+
+-- once questions 1 to 3 got yes
+pub site-good-sound : (n : ℕ) (t : Tables) (others : Bool) → Site-good n (lengths-of t) others (sound n t) → Sound-site n t
+site-good-sound n t others g = sound-site n t (g .lent .most) (g .lent .lengths) (g .is-sound)

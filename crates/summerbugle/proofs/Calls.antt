@@ -8,14 +8,14 @@ use Rattle.calls.specs.Contracts.Images.{Read-contract, Write-contract, Block-c
 use Rattle.calls.specs.Contracts.Radios.{Number-contract, Neighbours-contract, Linked-contract, First-contract}
 use Rattle.calls.specs.Contracts.Cores.{Core-contract, Backbone-contract}
 use Rattle.calls.specs.Contracts.Trees.{Tree-contract}
-use Rattle.image.specs.Reader.{Stepped, Moved}
+use Rattle.block_reader.specs.Reader.{Stepped, Moved}
 use Rattle.summerbugle.specs.Functions.{Function, number-0, number-1, number-2, tables-1, tables-2, tables-3, lent-0, lent-4, lent-5, lent-6}
-use Rattle.image.proofs.blocks.open as opening
-use Rattle.image.proofs.blocks.open.Symbol as opening-symbol
-use Rattle.image.proofs.blocks.step as stepping
-use Rattle.image.proofs.blocks.step.Symbol as stepping-symbol
-use Rattle.image.proofs.blocks.moved as moving
-use Rattle.image.proofs.blocks.moved.Symbol as moving-symbol
+use Rattle.block_reader.proofs.blocks.open as opening
+use Rattle.block_reader.proofs.blocks.open.Symbol as opening-symbol
+use Rattle.block_reader.proofs.blocks.step as stepping
+use Rattle.block_reader.proofs.blocks.step.Symbol as stepping-symbol
+use Rattle.block_reader.proofs.blocks.moved as moving
+use Rattle.block_reader.proofs.blocks.moved.Symbol as moving-symbol
 use Rattle.summerbugle.proofs.sb_clear as clear
 use Rattle.summerbugle.proofs.sb_clear.Symbol as clear-symbol
 use Rattle.summerbugle.proofs.sb_link_up as link-up

@@ -62,9 +62,9 @@ use Rattle.calls.proofs.Total.{run-total}
 use Rattle.calls.proofs.WholeList.{demand-3}
 use Rattle.calls.proofs.Exactly.{exactly-changed}
 use Rattle.summerbugle.proofs.Returns.{returns}
-use Rattle.image.proofs.blocks.open.Met as reader-open-proof
-use Rattle.image.proofs.blocks.step.Met as reader-step-proof
-use Rattle.image.proofs.blocks.moved.Met as reader-moved-proof
+use Rattle.block_reader.proofs.blocks.open.Met as reader-open-proof
+use Rattle.block_reader.proofs.blocks.step.Met as reader-step-proof
+use Rattle.block_reader.proofs.blocks.moved.Met as reader-moved-proof
 use Rattle.summerbugle.proofs.sb_clear.Met as clear-proof
 use Rattle.summerbugle.proofs.sb_link_up.Met as link-up-proof
 use Rattle.summerbugle.proofs.sb_link_down.Met as link-down-proof

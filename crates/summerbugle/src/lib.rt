@@ -56,7 +56,7 @@ pub extern "C" fn sb_link_up(
     ensures { λ r. ⌜ Link-contract true n a b (lent (links .entry) (numbers .entry) (order .entry)) (now (answer .entry)) r
         (lent (links .exit) (numbers .exit) (order .exit)) (now (answer .exit)) ⌝ }
 {
-    links::link::link_up(n, a, b, links, numbers, order, answer)
+    links::link::link(true, n, a, b, links, numbers, order, answer)
 }
 
 // Takes the link between a and b down: as `sb_link_up`, with the step -1, or 0 when no number changed. Refused by 1 to 6.
@@ -73,7 +73,7 @@ pub extern "C" fn sb_link_down(
     ensures { λ r. ⌜ Link-contract false n a b (lent (links .entry) (numbers .entry) (order .entry)) (now (answer .entry)) r
         (lent (links .exit) (numbers .exit) (order .exit)) (now (answer .exit)) ⌝ }
 {
-    links::link::link_down(n, a, b, links, numbers, order, answer)
+    links::link::link(false, n, a, b, links, numbers, order, answer)
 }
 
 // The number of radio v. Refused by 1 to 4: then the value is 0.
@@ -163,7 +163,7 @@ pub extern "C" fn sb_backbone<'a>(
 ) -> Value
     ensures { λ r. ⌜ Backbone-contract n (lent (links .entry) (numbers .entry) (order .entry)) (now (answer .entry)) r (now (answer .exit)) ⌝ }
 {
-    queries::backbone::backbone(n, links, numbers, order, answer)
+    backbone::backbone(n, links, numbers, order, answer)
 }
 
 // The shell tree: the count of nodes, the root with them. The nodes stand by level and then name in front of the list of nodes,
@@ -237,5 +237,5 @@ pub extern "C" fn sb_image_read(
 pub extern "C" fn sb_image_block(image: &[u8], next: usize) -> Block
     ensures { λ r. ⌜ Block-contract (now (image .entry)) next r ⌝ }
 {
-    image::blocks::block(image, next)
+    block_reader::blocks::block(image, next)
 }

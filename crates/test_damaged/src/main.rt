@@ -3,6 +3,11 @@
 // differ from the ones above, which so turn on the damage alone. The expected lines are worked out by oracle/damaged.py.
 use libc::STDOUT_FILENO;
 
+// The sound tables of the site.
+const NUMBERS: [u8; 5] = [2, 2, 2, 1, 0];
+
+const ORDER: [u16; 5] = [4, 3, 2, 0, 1];
+
 // A triangle 0 1 2, radio 3 linked to 2, radio 4 alone.
 fn put_site(links: &mut [u8]) {
     rows::put_link(links, true, 0, 1);
@@ -22,28 +27,35 @@ fn say(name: &[u8], n: u32, links: &[u8], numbers: &[u8], order: &[u16]) {
     io::write_all(STDOUT_FILENO, b"\n");
 }
 
-// The site with other numbers and another order.
+// The site of n radios with these numbers and this order.
 fn say_tables(name: &[u8], n: u32, numbers: &[u8], order: &[u16]) {
     let mut links = [0u8; 320];
     put_site(&mut links);
     say(name, n, &links, numbers, order);
 }
 
-// The site with one bit set or cleared.
-fn say_bit(name: &[u8], on: bool, a: u32, b: u32) {
-    let mut links = [0u8; 320];
-    put_site(&mut links);
-    rows::put_bit(&mut links, on, a, b);
-    say(name, 5, &links, &[2, 2, 2, 1, 0], &[4, 3, 2, 0, 1]);
+// The site with its own tables, called n radios.
+fn say_size(name: &[u8], n: u32) {
+    say_tables(name, n, &NUMBERS, &ORDER);
 }
 
-// The site with one bit set and cleared again.
-fn say_mended(name: &[u8], a: u32, b: u32) {
+// The site with another order.
+fn say_order(name: &[u8], order: [u16; 5]) {
+    say_tables(name, 5, &NUMBERS, &order);
+}
+
+// The site with other numbers.
+fn say_numbers(name: &[u8], numbers: [u8; 5]) {
+    say_tables(name, 5, &numbers, &ORDER);
+}
+
+// The site with one bit put twice, each time set or cleared.
+fn say_bit(name: &[u8], first: bool, last: bool, a: u32, b: u32) {
     let mut links = [0u8; 320];
     put_site(&mut links);
-    rows::put_bit(&mut links, true, a, b);
-    rows::put_bit(&mut links, false, a, b);
-    say(name, 5, &links, &[2, 2, 2, 1, 0], &[4, 3, 2, 0, 1]);
+    rows::put_bit(&mut links, first, a, b);
+    rows::put_bit(&mut links, last, a, b);
+    say(name, 5, &links, &NUMBERS, &ORDER);
 }
 
 // Links radio k to each of the radios below it.
@@ -55,56 +67,70 @@ fn put_star(links: &mut [u8], k: u32) {
     }
 }
 
-// The last of n radios linked to all others, which stand before it in the order.
-fn say_star(name: &[u8], n: u32, k: u32, links: &mut [u8], numbers: &[u8], order: &mut [u16]) {
-    put_star(links, k);
-    tables::fill::index16(order);
-    say(name, n, links, numbers, order);
+// The last of 41 radios linked to all others, which stand before it in the order.
+fn say_40() {
+    let mut links = [0u8; 2624];
+    let mut order = [0u16; 41];
+    put_star(&mut links, 40);
+    tables::fill::index16(&mut order);
+    say(b"neighbours-40", 41, &links, &[1u8; 41], &order);
+}
+
+// The last of 42 radios likewise.
+fn say_41() {
+    let mut links = [0u8; 2688];
+    let mut order = [0u16; 42];
+    put_star(&mut links, 41);
+    tables::fill::index16(&mut order);
+    say(b"neighbours-41", 42, &links, &[1u8; 42], &order);
+}
+
+fn rows() {
+    say_bit(b"one-sided", true, true, 0, 3);
+    say_bit(b"own-bit", true, true, 0, 0);
+    say_bit(b"bit-at-n", true, true, 0, 5);
+    say_bit(b"bit-at-511", true, true, 4, 511);
+    say_bit(b"bit-lost", false, false, 3, 2);
+}
+
+fn orders() {
+    say_order(b"entry-twice", [4, 3, 2, 0, 0]);
+    say_order(b"entry-n", [4, 3, 2, 0, 5]);
+    say_order(b"entry-65535", [65535, 3, 2, 0, 1]);
+    say_order(b"numbers-fall", [3, 4, 2, 0, 1]);
+}
+
+fn numbers() {
+    say_numbers(b"later-too-many", [1, 1, 1, 1, 0]);
+    say_numbers(b"not-enough", [2, 2, 2, 1, 1]);
+    say_numbers(b"number-255", [2, 255, 2, 1, 0]);
+}
+
+fn sizes() {
+    say_size(b"n-0", 0);
+    say_size(b"n-513", 513);
+    say_size(b"n-4", 4);
+}
+
+fn lengths() {
+    say_tables(b"short-numbers", 5, &[2, 2, 2, 1], &ORDER);
+    say_tables(b"short-order", 5, &NUMBERS, &[4, 3, 2, 0]);
+}
+
+fn no_damage() {
+    say_bit(b"one-sided-mended", true, false, 0, 3);
+    say_bit(b"bit-at-511-mended", true, false, 4, 511);
+    say_order(b"other-order", [4, 3, 0, 1, 2]);
 }
 
 fn main() {
-    let numbers: [u8; 5] = [2, 2, 2, 1, 0];
-    let order: [u16; 5] = [4, 3, 2, 0, 1];
-    say_tables(b"sound", 5, &numbers, &order);
-    // rows
-    say_bit(b"one-sided", true, 0, 3);
-    say_bit(b"own-bit", true, 0, 0);
-    say_bit(b"bit-at-n", true, 0, 5);
-    say_bit(b"bit-at-511", true, 4, 511);
-    say_bit(b"bit-lost", false, 3, 2);
-    say_star(
-        b"neighbours-40",
-        41,
-        40,
-        &mut [0u8; 2624],
-        &[1u8; 41],
-        &mut [0u16; 41],
-    );
-    say_star(
-        b"neighbours-41",
-        42,
-        41,
-        &mut [0u8; 2688],
-        &[1u8; 42],
-        &mut [0u16; 42],
-    );
-    // order
-    say_tables(b"entry-twice", 5, &numbers, &[4, 3, 2, 0, 0]);
-    say_tables(b"entry-n", 5, &numbers, &[4, 3, 2, 0, 5]);
-    say_tables(b"entry-65535", 5, &numbers, &[65535, 3, 2, 0, 1]);
-    say_tables(b"numbers-fall", 5, &numbers, &[3, 4, 2, 0, 1]);
-    // numbers
-    say_tables(b"later-too-many", 5, &[1, 1, 1, 1, 0], &order);
-    say_tables(b"not-enough", 5, &[2, 2, 2, 1, 1], &order);
-    say_tables(b"number-255", 5, &[2, 255, 2, 1, 0], &order);
-    // sizes and lengths
-    say_tables(b"n-0", 0, &numbers, &order);
-    say_tables(b"n-513", 513, &numbers, &order);
-    say_tables(b"n-4", 4, &numbers, &order);
-    say_tables(b"short-numbers", 5, &numbers[..4], &order);
-    say_tables(b"short-order", 5, &numbers, &order[..4]);
-    // no damage
-    say_mended(b"one-sided-mended", 0, 3);
-    say_mended(b"bit-at-511-mended", 4, 511);
-    say_tables(b"other-order", 5, &numbers, &[4, 3, 0, 1, 2]);
+    say_size(b"sound", 5);
+    rows();
+    say_40();
+    say_41();
+    orders();
+    numbers();
+    sizes();
+    lengths();
+    no_damage();
 }

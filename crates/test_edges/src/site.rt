@@ -58,7 +58,7 @@ fn link_row(
 ) {
     let mut v = b;
     while v < end {
-        links::link::link_up(n, a, v, links, numbers, order, answer);
+        links::link::link(true, n, a, v, links, numbers, order, answer);
         v += 1;
     }
 }
@@ -104,7 +104,7 @@ fn link_up_all(
 ) {
     say::one(b"clear", tables::clear::clear(n, links, numbers, order));
     link_all(shape, n, links, numbers, order, answer);
-    let reply = links::link::link_up(n, 0, before(n), links, numbers, order, answer);
+    let reply = links::link::link(true, n, 0, before(n), links, numbers, order, answer);
     say_reply(reply);
 }
 

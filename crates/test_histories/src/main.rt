@@ -11,7 +11,6 @@ mod trouble;
 
 use libc::STDOUT_FILENO;
 use picking::Plan;
-use test_model::cells;
 
 // Prints a space and a number.
 fn say_field(x: u64) {
@@ -24,11 +23,11 @@ fn end_line() {
 }
 
 // Prints a line: a name, a number, then the counts.
-fn say(name: &[u8], n: u32, counts: &[u64]) {
+fn say(name: &[u8], n: u32, counts: &play::Counts) {
     io::write_all(STDOUT_FILENO, name);
     say_field(n as u64);
     let mut i: usize = 0;
-    while i < counts.len() {
+    while i < play::KINDS {
         say_field(counts[i]);
         i += 1;
     }
@@ -36,17 +35,17 @@ fn say(name: &[u8], n: u32, counts: &[u64]) {
 }
 
 // Adds a history's counts to the sums of all.
-fn add_up(counts: &[u64], sums: &mut [u64]) {
+fn add_up(counts: &play::Counts, sums: &mut play::Counts) {
     let mut i: usize = 0;
-    while i < counts.len() {
+    while i < play::KINDS {
         let more = counts[i] % 4294967296;
-        cells::count(sums, i, more as u32);
+        play::count(sums, i, more as u32);
         i += 1;
     }
 }
 
 // Plays a history and prints its counts.
-fn history(name: &[u8], plan: Plan, sums: &mut [u64]) {
+fn history(name: &[u8], plan: Plan, sums: &mut play::Counts) {
     let mut counts = [0u64; play::KINDS];
     play::play(plan, &mut counts);
     say(name, plan.n, &counts);
@@ -60,9 +59,11 @@ fn least(x: u32, y: u32) -> u32 {
     y
 }
 
-// Few links: about as many go down as up, and four neighbours are enough.
-fn sparse(n: u32, calls: u32, sums: &mut [u64]) {
-    let plan = Plan {
+// The three histories of n radios. Sparse: about as many links go down as up, and four neighbours are enough. Dense: many links among
+// at most 48 radios, up to the 40 neighbours that a radio may have, and beyond. Clique: of m radios, so far as 40 neighbours allow,
+// built and torn down: m times m pairs are asked for, twice.
+fn site(n: u32, calls: u32, m: u32, pairs: u32, sums: &mut play::Counts) {
+    let sparse = Plan {
         pairs: 0,
         n,
         m: n,
@@ -71,12 +72,8 @@ fn sparse(n: u32, calls: u32, sums: &mut [u64]) {
         calls,
         seed: 88172645463325252,
     };
-    history(b"sparse", plan, sums);
-}
-
-// Many links among at most 48 radios, up to the 40 neighbours that a radio may have, and beyond.
-fn dense(n: u32, calls: u32, sums: &mut [u64]) {
-    let plan = Plan {
+    history(b"sparse", sparse, sums);
+    let dense = Plan {
         pairs: 0,
         n,
         m: least(n, 48),
@@ -85,12 +82,8 @@ fn dense(n: u32, calls: u32, sums: &mut [u64]) {
         calls,
         seed: 362436069521288629,
     };
-    history(b"dense", plan, sums);
-}
-
-// A clique of m radios, so far as 40 neighbours allow, built and torn down: m times m pairs are asked for, twice.
-fn clique(n: u32, m: u32, pairs: u32, sums: &mut [u64]) {
-    let plan = Plan {
+    history(b"dense", dense, sums);
+    let clique = Plan {
         pairs,
         n,
         m,
@@ -99,28 +92,21 @@ fn clique(n: u32, m: u32, pairs: u32, sums: &mut [u64]) {
         calls: std::num::wrapping_add_u32(pairs, pairs),
         seed: 123456789123456789,
     };
-    history(b"clique", plan, sums);
-}
-
-// The three histories of n radios.
-fn site(n: u32, calls: u32, m: u32, pairs: u32, sums: &mut [u64]) {
-    sparse(n, calls, sums);
-    dense(n, calls, sums);
-    clique(n, m, pairs, sums);
+    history(b"clique", clique, sums);
 }
 
 fn main() {
+    let sizes: [u32; 7] = [1, 2, 41, 42, 64, 253, 512];
+    let calls: [u32; 7] = [500, 1000, 1800, 1800, 1800, 800, 800];
+    let cliques: [u32; 7] = [1, 2, 41, 42, 42, 16, 16];
+    let pairs: [u32; 7] = [1, 4, 1681, 1764, 1764, 256, 256];
     let mut sums = [0u64; play::KINDS];
     io::write_all(
         STDOUT_FILENO,
         b"history radios: accepted, refused by 1 to 7, changed radios, calls, differences, canaries\n",
     );
-    site(1, 500, 1, 1, &mut sums);
-    site(2, 1000, 2, 4, &mut sums);
-    site(41, 1800, 41, 1681, &mut sums);
-    site(42, 1800, 42, 1764, &mut sums);
-    site(64, 1800, 42, 1764, &mut sums);
-    site(253, 800, 16, 256, &mut sums);
-    site(512, 800, 16, 256, &mut sums);
+    for i in 0..7 {
+        site(sizes[i], calls[i], cliques[i], pairs[i], &mut sums);
+    }
     say(b"all", 0, &sums);
 }

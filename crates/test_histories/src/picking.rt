@@ -1,6 +1,7 @@
 // The next call of a history: which link, which way, and now and then a call that is to be refused.
 use super::random;
 use test_model::model;
+use test_model::model::Model;
 
 // A history on n radios: the first m of them are used; a radio with `most` neighbours gets none more, on purpose; `ups` of 16
 // calls go up. Where `pairs` is not 0 but m times m, all links between the m radios go up, each asked both ways, and then down.
@@ -23,7 +24,7 @@ pub struct Picked {
 }
 
 // Whether a and u are two radios that are linked, or are not.
-fn is_sought(model: &[u16], a: u32, u: u32, linked: bool) -> bool {
+fn is_sought(model: &Model, a: u32, u: u32, linked: bool) -> bool {
     if u == a {
         return false;
     }
@@ -31,7 +32,7 @@ fn is_sought(model: &[u16], a: u32, u: u32, linked: bool) -> bool {
 }
 
 // The first radio from b on, round the m radios used, that is linked with a, or is not; b where there is none.
-fn seek(model: &[u16], m: u32, a: u32, b: u32, linked: bool) -> u32 {
+fn seek(model: &Model, m: u32, a: u32, b: u32, linked: bool) -> u32 {
     let mut u = b;
     let mut turn: u32 = 0;
     while turn < m {
@@ -64,7 +65,7 @@ fn pick_in_clique(plan: Plan, i: u32, x: u64) -> Picked {
 }
 
 // A pseudo-random pair that fits the way it goes, where there is one.
-fn pick_pair(plan: Plan, x: u64, model: &[u16]) -> Picked {
+fn pick_pair(plan: Plan, x: u64, model: &Model) -> Picked {
     let x1 = random::next(x);
     let x2 = random::next(x1);
     let x3 = random::next(x2);
@@ -100,7 +101,7 @@ fn disturbed(plan: Plan, picked: Picked) -> Picked {
 }
 
 // Call i of the history.
-pub fn pick(plan: Plan, i: u32, x: u64, model: &[u16]) -> Picked {
+pub fn pick(plan: Plan, i: u32, x: u64, model: &Model) -> Picked {
     if plan.pairs != 0 {
         return pick_in_clique(plan, i, x);
     }

@@ -5,11 +5,14 @@ use super::picking;
 use super::picking::Plan;
 use super::trouble;
 use calls::Reply;
-use test_model::cells;
 use test_model::expected;
 use test_model::expected::Call;
 use test_model::expected::Owed;
 use test_model::model;
+use test_model::model::Links;
+use test_model::model::Model;
+use test_model::model::Numbers;
+use test_model::model::Radios;
 use test_model::own_check;
 use test_model::same;
 
@@ -25,23 +28,45 @@ const DIFFERENT: usize = 10;
 
 pub const CANARIES: usize = 11;
 
-// The longest links table that a call is lent. Entries of the other tables past the site's hold these values.
-const LINKS: usize = 64 * model::ENTRIES;
+pub type Counts = [u64; KINDS];
 
+// Entries of numbers, order and answer past the site's hold these values.
 const NUMBER: u8 = 77;
 
 const RADIO: u16 = 7777;
 
+// Adds `more` to the count of kind i.
+pub fn count(counts: &mut Counts, i: usize, more: u32) {
+    if i < KINDS {
+        let sum = std::num::wrapping_add_u64(counts[i], more as u64);
+        counts[i] = sum;
+    }
+}
+
 // Whether the engine's check and the test by hand both say what is expected of the site's tables.
-pub fn verdicts_agree(n: u32, sound: bool, links: &[u8], numbers: &[u8], order: &[u16]) -> bool {
+pub fn verdicts_agree(
+    n: u32,
+    sound: bool,
+    links: &Links,
+    numbers: &Numbers,
+    order: &Radios,
+) -> bool {
     if engine::is_sound(n, links, numbers, order) != sound {
         return false;
     }
     own_check::is_sound(n as usize, links, numbers, order) == sound
 }
 
-// Whether the verdicts on tables that are spoiled for the call agree.
-fn is_found(call: Call, n: u32, links: &[u8], numbers: &[u8], order: &[u16]) -> bool {
+// Spoils the tables where that is the call's trouble; whether the verdicts on them agree then.
+fn spoil(
+    call: Call,
+    n: u32,
+    wrong: trouble::Trouble,
+    links: &mut Links,
+    numbers: &mut Numbers,
+    order: &mut Radios,
+) -> bool {
+    trouble::spoil(wrong, links, numbers, order);
     if !call.spoiled {
         return true;
     }
@@ -59,13 +84,12 @@ fn answer_of(
     call: Call,
     n: u32,
     wrong: trouble::Trouble,
-    links: &mut [u8],
-    numbers: &mut [u8],
-    order: &mut [u16],
-    answer: &mut [u16],
+    links: &mut Links,
+    numbers: &mut Numbers,
+    order: &mut Radios,
+    answer: &mut Radios,
 ) -> Answer {
-    trouble::spoil(wrong, links, numbers, order);
-    let fine = is_found(call, n, links, numbers, order);
+    let fine = spoil(call, n, wrong, links, numbers, order);
     let reply = engine::link(call, links, numbers, order, answer);
     trouble::spoil(wrong, links, numbers, order);
     Answer { reply, fine }
@@ -85,11 +109,11 @@ pub fn is_owed(reply: Reply, owed: Owed) -> bool {
 // Whether every entry of the tables is what is expected, and they are sound.
 pub fn is_expected(
     n: u32,
-    links: &[u8],
-    numbers: &[u8],
-    order: &[u16],
-    answer: &[u16],
-    model: &[u16],
+    links: &Links,
+    numbers: &Numbers,
+    order: &Radios,
+    answer: &Radios,
+    model: &Model,
 ) -> bool {
     if !same::numbers(numbers, model) {
         return false;
@@ -107,11 +131,11 @@ pub fn is_expected(
 }
 
 // Counts a call.
-fn tally(counts: &mut [u64], reply: Reply, fine: bool) {
-    cells::count(counts, reply.number as usize % CHANGED, 1);
-    cells::count(counts, CHANGED, reply.count);
-    cells::count(counts, CALLS, 1);
-    cells::count(counts, DIFFERENT, !fine as u32);
+fn tally(counts: &mut Counts, reply: Reply, fine: bool) {
+    count(counts, reply.number as usize % CHANGED, 1);
+    count(counts, CHANGED, reply.count);
+    count(counts, CALLS, 1);
+    count(counts, DIFFERENT, !fine as u32);
 }
 
 // Puts the call to the engine and to the expected site, compares and counts.
@@ -119,12 +143,12 @@ fn put_call(
     call: Call,
     n: u32,
     wrong: trouble::Trouble,
-    links: &mut [u8],
-    numbers: &mut [u8],
-    order: &mut [u16],
-    answer: &mut [u16],
-    model: &mut [u16],
-    counts: &mut [u64],
+    links: &mut Links,
+    numbers: &mut Numbers,
+    order: &mut Radios,
+    answer: &mut Radios,
+    model: &mut Model,
+    counts: &mut Counts,
 ) {
     let given = answer_of(call, n, wrong, links, numbers, order, answer);
     let owed = expected::expect(call, model);
@@ -138,12 +162,12 @@ fn one_call(
     plan: Plan,
     i: u32,
     x: u64,
-    links: &mut [u8],
-    numbers: &mut [u8],
-    order: &mut [u16],
-    answer: &mut [u16],
-    model: &mut [u16],
-    counts: &mut [u64],
+    links: &mut Links,
+    numbers: &mut Numbers,
+    order: &mut Radios,
+    answer: &mut Radios,
+    model: &mut Model,
+    counts: &mut Counts,
 ) -> u64 {
     let picked = picking::pick(plan, i, x, model);
     let wrong = trouble::draw(plan.n, picked.x);
@@ -166,12 +190,12 @@ fn one_call(
 // All calls of the history.
 fn all_calls(
     plan: Plan,
-    links: &mut [u8],
-    numbers: &mut [u8],
-    order: &mut [u16],
-    answer: &mut [u16],
-    model: &mut [u16],
-    counts: &mut [u64],
+    links: &mut Links,
+    numbers: &mut Numbers,
+    order: &mut Radios,
+    answer: &mut Radios,
+    model: &mut Model,
+    counts: &mut Counts,
 ) {
     let mut x = plan.seed;
     let mut i: u32 = 0;
@@ -181,35 +205,35 @@ fn all_calls(
     }
 }
 
-// All calls, and after them the wrong expectations.
-fn all_put(
-    plan: Plan,
-    links: &mut [u8],
-    numbers: &mut [u8],
-    order: &mut [u16],
-    answer: &mut [u16],
-    model: &mut [u16],
-    counts: &mut [u64],
-) {
-    all_calls(plan, links, numbers, order, answer, model, counts);
-    canaries::put(plan.n, links, numbers, order, answer, model, counts);
+// A cleared site, and the expected one.
+fn clear(n: u32, links: &mut Links, numbers: &mut Numbers, order: &mut Radios, model: &mut Model) {
+    engine::clear(n, links, numbers, order);
+    model::clear(model, n as usize, NUMBER as u16, RADIO);
 }
 
 // Plays the history from a cleared site, counts its calls, and puts the wrong expectations.
-pub fn play(plan: Plan, counts: &mut [u64]) {
-    let mut links = [0u8; LINKS];
+pub fn play(plan: Plan, counts: &mut Counts) {
+    let mut links = [0u8; 64 * model::ENTRIES];
     let mut numbers = [NUMBER; model::ENTRIES];
     let mut order = [RADIO; model::ENTRIES];
     let mut answer = [RADIO; model::ENTRIES];
     let mut model = [0u16; model::LEN];
-    engine::clear(plan.n, &mut links, &mut numbers, &mut order);
-    model::clear(&mut model, plan.n as usize, NUMBER as u16, RADIO);
-    all_put(
+    clear(plan.n, &mut links, &mut numbers, &mut order, &mut model);
+    all_calls(
         plan,
         &mut links,
         &mut numbers,
         &mut order,
         &mut answer,
+        &mut model,
+        counts,
+    );
+    canaries::put(
+        plan.n,
+        &links,
+        &numbers,
+        &order,
+        &answer,
         &mut model,
         counts,
     );

@@ -1,7 +1,9 @@
 // Calls with another n or other lengths, and tables with one byte spoiled.
 use super::random;
-use test_model::cells;
 use test_model::expected::Call;
+use test_model::model::Links;
+use test_model::model::Numbers;
+use test_model::model::Radios;
 
 // What is wrong with a call, where the kind is from 1 to 14: one entry of links, numbers or order is spoiled (1 to 3), n is 0, 513
 // or one more (4 to 6), a table is one entry short (7 to 10) or long (11 to 14). One place more in the answer table is no trouble.
@@ -85,20 +87,22 @@ fn flip8(asked: bool, s: &mut [u8], place: usize, flip: u8) {
     if !asked {
         return;
     }
-    let x = cells::get8(s, place);
-    cells::put8(s, place, x ^ flip);
+    if place < s.len() {
+        s[place] = s[place] ^ flip;
+    }
 }
 
 fn flip16(asked: bool, s: &mut [u16], place: usize, flip: u8) {
     if !asked {
         return;
     }
-    let x = cells::get16(s, place);
-    cells::put16(s, place, x ^ flip as u16);
+    if place < s.len() {
+        s[place] = s[place] ^ flip as u16;
+    }
 }
 
 // Spoils the entry, or mends it again.
-pub fn spoil(trouble: Trouble, links: &mut [u8], numbers: &mut [u8], order: &mut [u16]) {
+pub fn spoil(trouble: Trouble, links: &mut Links, numbers: &mut Numbers, order: &mut Radios) {
     flip8(trouble.kind == LINKS, links, trouble.place, trouble.flip);
     flip8(
         trouble.kind == NUMBERS,

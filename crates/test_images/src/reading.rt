@@ -4,7 +4,7 @@ use super::held;
 use super::lines;
 use super::parts;
 use super::pattern;
-use image::blocks;
+use block_reader::blocks;
 use image_reader::reader;
 
 // Reads into tables that hold the pattern.

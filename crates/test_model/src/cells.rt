@@ -1,35 +1,24 @@
-// Entries of lent tables, read and written whatever the lengths are: past the end 0 is read, and nothing is written.
+// Entries of lent tables, read and written whatever the index is: past the end 0 is read, and nothing is written.
+use super::model;
+use super::model::Numbers;
+use super::model::Radios;
 
-pub fn get8(s: &[u8], i: usize) -> u8 {
-    if i < s.len() {
+pub fn number(s: &Numbers, i: usize) -> u8 {
+    if i < model::ENTRIES {
         return s[i];
     }
     0
 }
 
-pub fn put8(s: &mut [u8], i: usize, x: u8) {
-    if i < s.len() {
-        s[i] = x;
-    }
-}
-
-pub fn get16(s: &[u16], i: usize) -> u16 {
-    if i < s.len() {
+pub fn radio(s: &Radios, i: usize) -> u16 {
+    if i < model::ENTRIES {
         return s[i];
     }
     0
 }
 
-pub fn put16(s: &mut [u16], i: usize, x: u16) {
-    if i < s.len() {
+pub fn put_radio(s: &mut Radios, i: usize, x: u16) {
+    if i < model::ENTRIES {
         s[i] = x;
-    }
-}
-
-// Adds `more` to the count of kind i.
-pub fn count(counts: &mut [u64], i: usize, more: u32) {
-    if i < counts.len() {
-        let sum = std::num::wrapping_add_u64(counts[i], more as u64);
-        counts[i] = sum;
     }
 }

@@ -1,5 +1,6 @@
 // Core numbers by peeling, on the expected site. Nothing of the engine is used.
 use super::model;
+use super::model::Model;
 
 // Stands for a radio that no level has thrown out yet.
 const STILL_IN: u16 = 255;
@@ -8,7 +9,7 @@ const STILL_IN: u16 = 255;
 const LAST_LEVEL: u16 = 41;
 
 // How many neighbours v has among n radios.
-pub fn degree(model: &[u16], n: usize, v: usize) -> u16 {
+pub fn degree(model: &Model, n: usize, v: usize) -> u16 {
     let mut sum: u16 = 0;
     let mut u: usize = 0;
     while u < n {
@@ -19,7 +20,7 @@ pub fn degree(model: &[u16], n: usize, v: usize) -> u16 {
 }
 
 // Writes how many neighbours each radio has.
-fn put_degrees(model: &mut [u16], n: usize) {
+fn put_degrees(model: &mut Model, n: usize) {
     let mut v: usize = 0;
     while v < n {
         let sum = degree(model, n, v);
@@ -29,7 +30,7 @@ fn put_degrees(model: &mut [u16], n: usize) {
 }
 
 // Takes v out of the count of u, if they are linked.
-fn leave_one(model: &mut [u16], v: usize, u: usize) {
+fn leave_one(model: &mut Model, v: usize, u: usize) {
     if !model::near(model, v, u) {
         return;
     }
@@ -38,7 +39,7 @@ fn leave_one(model: &mut [u16], v: usize, u: usize) {
 }
 
 // Takes v out of its neighbours' counts.
-pub fn leave(model: &mut [u16], n: usize, v: usize) {
+pub fn leave(model: &mut Model, n: usize, v: usize) {
     let mut u: usize = 0;
     while u < n {
         leave_one(model, v, u);
@@ -47,7 +48,7 @@ pub fn leave(model: &mut [u16], n: usize, v: usize) {
 }
 
 // Throws v out if it has fewer than k neighbours left: its number is one less than k. Whether it went.
-fn throw_one(model: &mut [u16], n: usize, k: u16, v: usize) -> bool {
+fn throw_one(model: &mut Model, n: usize, k: u16, v: usize) -> bool {
     if model::get(model, model::NUMBERS, v) != STILL_IN {
         return false;
     }
@@ -60,7 +61,7 @@ fn throw_one(model: &mut [u16], n: usize, k: u16, v: usize) -> bool {
 }
 
 // Throws radios out at level k, once through: how many.
-fn throw_out(model: &mut [u16], n: usize, k: u16) -> u16 {
+fn throw_out(model: &mut Model, n: usize, k: u16) -> u16 {
     let mut gone: u16 = 0;
     let mut v: usize = 0;
     while v < n {
@@ -72,7 +73,7 @@ fn throw_out(model: &mut [u16], n: usize, k: u16) -> u16 {
 }
 
 // Throws radios out at level k until each one left has k neighbours left. Each time through one goes, so n times are enough.
-fn peel_level(model: &mut [u16], n: usize, k: u16) {
+fn peel_level(model: &mut Model, n: usize, k: u16) {
     let mut turn: usize = 0;
     while turn < n {
         if throw_out(model, n, k) == 0 {
@@ -83,7 +84,7 @@ fn peel_level(model: &mut [u16], n: usize, k: u16) {
 }
 
 // Writes the core number of each of n radios.
-pub fn peel(model: &mut [u16], n: usize) {
+pub fn peel(model: &mut Model, n: usize) {
     put_degrees(model, n);
     model::fill(model, n, model::NUMBERS, STILL_IN);
     let mut k: u16 = 1;

@@ -2,6 +2,7 @@
 use super::cores;
 use super::layout;
 use super::model;
+use super::model::Model;
 
 // The limits, as document 01 has them.
 const RADIOS: u32 = 512;
@@ -74,12 +75,12 @@ fn tables_refusal(call: Call) -> u32 {
 }
 
 // Question 7: whether v has room for a neighbour more.
-fn has_room(model: &[u16], n: u32, v: u32) -> bool {
+fn has_room(model: &Model, n: u32, v: u32) -> bool {
     cores::degree(model, n as usize, v as usize) < NEIGHBOURS
 }
 
 // Questions 4 to 7.
-fn ends_refusal(call: Call, model: &[u16]) -> u32 {
+fn ends_refusal(call: Call, model: &Model) -> u32 {
     if call.n <= call.a {
         return 4;
     }
@@ -105,7 +106,7 @@ fn ends_refusal(call: Call, model: &[u16]) -> u32 {
 }
 
 // Lists v after the radios found, if its numbers differ; how many are found then.
-fn list_one(model: &mut [u16], v: usize, found: u32) -> u32 {
+fn list_one(model: &mut Model, v: usize, found: u32) -> u32 {
     if model::get(model, model::BEFORE, v) == model::get(model, model::NUMBERS, v) {
         return found;
     }
@@ -114,7 +115,7 @@ fn list_one(model: &mut [u16], v: usize, found: u32) -> u32 {
 }
 
 // Lists the radios whose numbers differ, ascending, in front of the answer table; how many there are.
-fn list_changed(model: &mut [u16], n: usize) -> u32 {
+fn list_changed(model: &mut Model, n: usize) -> u32 {
     let mut found: u32 = 0;
     let mut v: usize = 0;
     while v < n {
@@ -135,7 +136,7 @@ fn step_of(up: bool, count: u32) -> i8 {
 }
 
 // The smaller number of the two ends.
-fn level_of(model: &[u16], a: u32, b: u32) -> u16 {
+fn level_of(model: &Model, a: u32, b: u32) -> u16 {
     let x = model::get(model, model::NUMBERS, a as usize);
     let y = model::get(model, model::NUMBERS, b as usize);
     if x < y {
@@ -145,7 +146,7 @@ fn level_of(model: &[u16], a: u32, b: u32) -> u16 {
 }
 
 // Carries an accepted call out on the expected site.
-fn carry_out(call: Call, model: &mut [u16]) -> Owed {
+fn carry_out(call: Call, model: &mut Model) -> Owed {
     let n = call.n as usize;
     let k = level_of(model, call.a, call.b);
     let t = std::num::wrapping_sub_u16(k, !call.up as u16);
@@ -170,7 +171,7 @@ fn refused(number: u32) -> Owed {
 }
 
 // What the call owes; the expected site is as after it.
-pub fn expect(call: Call, model: &mut [u16]) -> Owed {
+pub fn expect(call: Call, model: &mut Model) -> Owed {
     let tables = tables_refusal(call);
     if tables != 0 {
         return refused(tables);

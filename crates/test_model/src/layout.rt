@@ -3,6 +3,7 @@
 // radios are laid out before the rest. Either way the radios laid out are the ones of level K whose number is T afterwards.
 use super::cores;
 use super::model;
+use super::model::Model;
 
 // Where a radio of the former order goes: it keeps its place in front, is laid out, follows what is laid out, or comes after.
 const FRONT: u16 = 0;
@@ -29,7 +30,7 @@ fn part_of(before: u16, after: u16, k: u16, t: u16) -> u16 {
 }
 
 // Writes each radio's part.
-fn put_parts(model: &mut [u16], n: usize, k: u16, t: u16) {
+fn put_parts(model: &mut Model, n: usize, k: u16, t: u16) {
     let mut v: usize = 0;
     while v < n {
         let before = model::get(model, model::BEFORE, v);
@@ -40,7 +41,7 @@ fn put_parts(model: &mut [u16], n: usize, k: u16, t: u16) {
 }
 
 // Whether u is a neighbour of v that waits or has a number above t.
-fn is_counted(model: &[u16], v: usize, u: usize, t: u16) -> bool {
+fn is_counted(model: &Model, v: usize, u: usize, t: u16) -> bool {
     if !model::near(model, v, u) {
         return false;
     }
@@ -51,7 +52,7 @@ fn is_counted(model: &[u16], v: usize, u: usize, t: u16) -> bool {
 }
 
 // How many such neighbours v has.
-fn count_row(model: &[u16], n: usize, v: usize, t: u16) -> u16 {
+fn count_row(model: &Model, n: usize, v: usize, t: u16) -> u16 {
     let mut sum: u16 = 0;
     let mut u: usize = 0;
     while u < n {
@@ -62,7 +63,7 @@ fn count_row(model: &[u16], n: usize, v: usize, t: u16) -> u16 {
 }
 
 // Writes that count for v, if it waits.
-fn put_count(model: &mut [u16], n: usize, v: usize, t: u16) {
+fn put_count(model: &mut Model, n: usize, v: usize, t: u16) {
     if model::get(model, model::PARTS, v) != WAITING {
         return;
     }
@@ -71,7 +72,7 @@ fn put_count(model: &mut [u16], n: usize, v: usize, t: u16) {
 }
 
 // Writes that count for each radio that waits.
-fn put_counts(model: &mut [u16], n: usize, t: u16) {
+fn put_counts(model: &mut Model, n: usize, t: u16) {
     let mut v: usize = 0;
     while v < n {
         put_count(model, n, v, t);
@@ -80,7 +81,7 @@ fn put_counts(model: &mut [u16], n: usize, t: u16) {
 }
 
 // Whether the radio at place i of the former order waits and has at most t neighbours counted.
-fn fits(model: &[u16], i: usize, t: u16) -> bool {
+fn fits(model: &Model, i: usize, t: u16) -> bool {
     let v = model::get(model, model::ORDER, i) as usize;
     if model::get(model, model::PARTS, v) != WAITING {
         return false;
@@ -89,7 +90,7 @@ fn fits(model: &[u16], i: usize, t: u16) -> bool {
 }
 
 // The first place of the former order whose radio fits; n where there is none.
-fn first_fit(model: &[u16], n: usize, t: u16) -> usize {
+fn first_fit(model: &Model, n: usize, t: u16) -> usize {
     let mut i: usize = 0;
     while i < n {
         if fits(model, i, t) {
@@ -101,7 +102,7 @@ fn first_fit(model: &[u16], n: usize, t: u16) -> usize {
 }
 
 // Lays out the waiting radios from the place `at` on; the place after them.
-fn lay_out(model: &mut [u16], n: usize, t: u16, at: usize) -> usize {
+fn lay_out(model: &mut Model, n: usize, t: u16, at: usize) -> usize {
     let mut place = at;
     let mut turn: usize = 0;
     while turn < n {
@@ -120,7 +121,7 @@ fn lay_out(model: &mut [u16], n: usize, t: u16, at: usize) -> usize {
 }
 
 // Copies the radio at place i of the former order to the place `at`, if it is of the part; the place after it.
-fn append_one(model: &mut [u16], i: usize, part: u16, at: usize) -> usize {
+fn append_one(model: &mut Model, i: usize, part: u16, at: usize) -> usize {
     let v = model::get(model, model::ORDER, i);
     if model::get(model, model::PARTS, v as usize) != part {
         return at;
@@ -130,7 +131,7 @@ fn append_one(model: &mut [u16], i: usize, part: u16, at: usize) -> usize {
 }
 
 // Copies the radios of one part, in their former order, from the place `at` on; the place after them.
-fn append(model: &mut [u16], n: usize, part: u16, at: usize) -> usize {
+fn append(model: &mut Model, n: usize, part: u16, at: usize) -> usize {
     let mut place = at;
     let mut i: usize = 0;
     while i < n {
@@ -141,7 +142,7 @@ fn append(model: &mut [u16], n: usize, part: u16, at: usize) -> usize {
 }
 
 // Makes the former order the new one. The links and numbers are the ones after the call.
-pub fn relay(model: &mut [u16], n: usize, k: u16, t: u16) {
+pub fn relay(model: &mut Model, n: usize, k: u16, t: u16) {
     put_parts(model, n, k, t);
     put_counts(model, n, t);
     let front = append(model, n, FRONT, 0);

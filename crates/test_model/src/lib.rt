@@ -10,6 +10,6 @@ pub mod own_check;
 pub mod same;
 
 // How many neighbours v has among n radios of the expected site.
-pub fn degree(model: &[u16], n: usize, v: usize) -> u16 {
+pub fn degree(model: &model::Model, n: usize, v: usize) -> u16 {
     cores::degree(model, n, v)
 }

@@ -26,24 +26,34 @@ pub const FRESH: usize = PARTS + ENTRIES;
 
 pub const LEN: usize = FRESH + ENTRIES;
 
+// The longest tables that a call is lent, and what is expected of them. They are arrays, as a reference to one has its length in its
+// type: that is cheaper to prove of than a slice.
+pub type Links = [u8; 64 * ENTRIES];
+
+pub type Numbers = [u8; ENTRIES];
+
+pub type Radios = [u16; ENTRIES];
+
+pub type Model = [u16; LEN];
+
 // Entry i of the section.
-pub fn get(model: &[u16], section: usize, i: usize) -> u16 {
+pub fn get(model: &Model, section: usize, i: usize) -> u16 {
     if ENTRIES <= i {
         return 0;
     }
     let at = std::num::wrapping_add_usize(section, i);
-    if at < model.len() {
+    if at < LEN {
         return model[at];
     }
     0
 }
 
-pub fn put(model: &mut [u16], section: usize, i: usize, x: u16) {
+pub fn put(model: &mut Model, section: usize, i: usize, x: u16) {
     if ENTRIES <= i {
         return;
     }
     let at = std::num::wrapping_add_usize(section, i);
-    if at < model.len() {
+    if at < LEN {
         model[at] = x;
     }
 }
@@ -57,18 +67,18 @@ fn row_of(a: usize) -> usize {
 }
 
 // Whether a and b are linked.
-pub fn near(model: &[u16], a: usize, b: usize) -> bool {
+pub fn near(model: &Model, a: usize, b: usize) -> bool {
     b < SIDE && get(model, row_of(a), b) == 1
 }
 
 // Writes a link, up or down.
-pub fn put_link(model: &mut [u16], a: usize, b: usize, up: bool) {
+pub fn put_link(model: &mut Model, a: usize, b: usize, up: bool) {
     put(model, row_of(a), b, up as u16);
     put(model, row_of(b), a, up as u16);
 }
 
 // Copies the first n entries of a section to another.
-pub fn copy(model: &mut [u16], n: usize, from: usize, to: usize) {
+pub fn copy(model: &mut Model, n: usize, from: usize, to: usize) {
     let mut i: usize = 0;
     while i < n {
         put(model, to, i, get(model, from, i));
@@ -77,7 +87,7 @@ pub fn copy(model: &mut [u16], n: usize, from: usize, to: usize) {
 }
 
 // Writes x to the first n entries of a section.
-pub fn fill(model: &mut [u16], n: usize, section: usize, x: u16) {
+pub fn fill(model: &mut Model, n: usize, section: usize, x: u16) {
     let mut i: usize = 0;
     while i < n {
         put(model, section, i, x);
@@ -86,7 +96,7 @@ pub fn fill(model: &mut [u16], n: usize, section: usize, x: u16) {
 }
 
 // Writes 0 to n - 1 to the first entries of the order.
-fn index(model: &mut [u16], n: usize) {
+fn index(model: &mut Model, n: usize) {
     let mut i: usize = 0;
     while i < n {
         put(model, ORDER, i, (i % 65536) as u16);
@@ -95,7 +105,7 @@ fn index(model: &mut [u16], n: usize) {
 }
 
 // A cleared site of n radios. Numbers, order and answer hold `number` and `radio` past the site's entries.
-pub fn clear(model: &mut [u16], n: usize, number: u16, radio: u16) {
+pub fn clear(model: &mut Model, n: usize, number: u16, radio: u16) {
     fill(model, ENTRIES, NUMBERS, number);
     fill(model, ENTRIES, ORDER, radio);
     fill(model, ENTRIES, ANSWER, radio);

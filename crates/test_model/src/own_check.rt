@@ -1,11 +1,12 @@
 // Document 01's soundness, tested bit by bit on lent tables of n radios. Nothing of the engine is used.
 use super::cells;
+use super::model;
+use super::model::Links;
+use super::model::Numbers;
+use super::model::Radios;
 
 // The bits of a row, and the most that may be set.
 const BITS: usize = 512;
-
-// More rows than any lent table has.
-const ROWS: usize = 1024;
 
 const NEIGHBOURS: u16 = 40;
 
@@ -13,47 +14,47 @@ const NEIGHBOURS: u16 = 40;
 const NOWHERE: u16 = 65535;
 
 // Bit b of row a.
-pub fn bit(links: &[u8], a: usize, b: usize) -> bool {
-    if ROWS <= a {
+pub fn bit(links: &Links, a: usize, b: usize) -> bool {
+    if model::ENTRIES <= a {
         return false;
     }
-    let byte = cells::get8(links, 64 * a + b % BITS / 8);
+    let byte = links[64 * a + b % BITS / 8];
     (byte >> (b % 8) as u32) & 1 == 1
 }
 
 // No radio has a place.
-fn put_nowhere(n: usize, places: &mut [u16]) {
+fn put_nowhere(n: usize, places: &mut Radios) {
     let mut v: usize = 0;
     while v < n {
-        cells::put16(places, v, NOWHERE);
+        cells::put_radio(places, v, NOWHERE);
         v += 1;
     }
 }
 
 // Writes each radio's place in the order; whether the order holds each once.
-fn put_places(n: usize, order: &[u16], places: &mut [u16]) -> bool {
+fn put_places(n: usize, order: &Radios, places: &mut Radios) -> bool {
     put_nowhere(n, places);
     let mut i: usize = 0;
     while i < n {
-        let v = cells::get16(order, i) as usize;
+        let v = cells::radio(order, i) as usize;
         if n <= v {
             return false;
         }
-        if cells::get16(places, v) != NOWHERE {
+        if cells::radio(places, v) != NOWHERE {
             return false;
         }
-        cells::put16(places, v, (i % 65536) as u16);
+        cells::put_radio(places, v, (i % 65536) as u16);
         i += 1;
     }
     true
 }
 
 // Whether numbers never fall along the order.
-fn rises(n: usize, numbers: &[u8], order: &[u16]) -> bool {
+fn rises(n: usize, numbers: &Numbers, order: &Radios) -> bool {
     let mut last: u8 = 0;
     let mut i: usize = 0;
     while i < n {
-        let x = cells::get8(numbers, cells::get16(order, i) as usize);
+        let x = cells::number(numbers, cells::radio(order, i) as usize);
         if x < last {
             return false;
         }
@@ -73,7 +74,7 @@ struct Row {
 }
 
 // Whether b, which row a marks, is below n, not a itself, and marks a too.
-fn is_proper(n: usize, links: &[u8], a: usize, b: usize) -> bool {
+fn is_proper(n: usize, links: &Links, a: usize, b: usize) -> bool {
     if n <= b {
         return false;
     }
@@ -87,15 +88,15 @@ fn is_proper(n: usize, links: &[u8], a: usize, b: usize) -> bool {
 fn with_bit(
     row: Row,
     n: usize,
-    links: &[u8],
-    numbers: &[u8],
-    places: &[u16],
+    links: &Links,
+    numbers: &Numbers,
+    places: &Radios,
     a: usize,
     b: usize,
 ) -> Row {
     let proper = row.proper && is_proper(n, links, a, b);
-    let later = cells::get16(places, a) < cells::get16(places, b);
-    let high = cells::get8(numbers, a) <= cells::get8(numbers, b);
+    let later = cells::radio(places, a) < cells::radio(places, b);
+    let high = cells::number(numbers, a) <= cells::number(numbers, b);
     Row {
         proper,
         bits: std::num::wrapping_add_u16(row.bits, 1),
@@ -105,7 +106,7 @@ fn with_bit(
 }
 
 // What row a has.
-fn row_of(n: usize, links: &[u8], numbers: &[u8], places: &[u16], a: usize) -> Row {
+fn row_of(n: usize, links: &Links, numbers: &Numbers, places: &Radios, a: usize) -> Row {
     let mut row = Row {
         proper: true,
         bits: 0,
@@ -137,11 +138,11 @@ fn holds(row: Row, number: u16) -> bool {
 }
 
 // Whether the conditions on each radio hold.
-fn rows_hold(n: usize, links: &[u8], numbers: &[u8], places: &[u16]) -> bool {
+fn rows_hold(n: usize, links: &Links, numbers: &Numbers, places: &Radios) -> bool {
     let mut a: usize = 0;
     while a < n {
         let row = row_of(n, links, numbers, places, a);
-        if !holds(row, cells::get8(numbers, a) as u16) {
+        if !holds(row, cells::number(numbers, a) as u16) {
             return false;
         }
         a += 1;
@@ -150,8 +151,8 @@ fn rows_hold(n: usize, links: &[u8], numbers: &[u8], places: &[u16]) -> bool {
 }
 
 // Whether the tables are sound.
-pub fn is_sound(n: usize, links: &[u8], numbers: &[u8], order: &[u16]) -> bool {
-    let mut places = [0u16; BITS];
+pub fn is_sound(n: usize, links: &Links, numbers: &Numbers, order: &Radios) -> bool {
+    let mut places = [0u16; model::ENTRIES];
     if !put_places(n, order, &mut places) {
         return false;
     }

@@ -1,13 +1,17 @@
 // Lent tables compared with the expected ones, every entry.
 use super::cells;
 use super::model;
+use super::model::Links;
+use super::model::Model;
+use super::model::Numbers;
+use super::model::Radios;
 use super::own_check;
 
 // Whether the numbers are the expected ones, and the entries past them too.
-pub fn numbers(s: &[u8], model: &[u16]) -> bool {
+pub fn numbers(s: &Numbers, model: &Model) -> bool {
     let mut i: usize = 0;
     while i < model::ENTRIES {
-        if cells::get8(s, i) as u16 != model::get(model, model::NUMBERS, i) {
+        if cells::number(s, i) as u16 != model::get(model, model::NUMBERS, i) {
             return false;
         }
         i += 1;
@@ -16,10 +20,10 @@ pub fn numbers(s: &[u8], model: &[u16]) -> bool {
 }
 
 // Whether the radios are the ones of the section, and the entries past them too.
-pub fn radios(s: &[u16], model: &[u16], section: usize) -> bool {
+pub fn radios(s: &Radios, model: &Model, section: usize) -> bool {
     let mut i: usize = 0;
     while i < model::ENTRIES {
-        if cells::get16(s, i) != model::get(model, section, i) {
+        if cells::radio(s, i) != model::get(model, section, i) {
             return false;
         }
         i += 1;
@@ -28,7 +32,7 @@ pub fn radios(s: &[u16], model: &[u16], section: usize) -> bool {
 }
 
 // Whether row a of the links table has the expected bits, and no other.
-fn row(links: &[u8], model: &[u16], a: usize) -> bool {
+fn row(links: &Links, model: &Model, a: usize) -> bool {
     let mut b: usize = 0;
     while b < model::SIDE {
         if own_check::bit(links, a, b) != model::near(model, a, b) {
@@ -40,7 +44,7 @@ fn row(links: &[u8], model: &[u16], a: usize) -> bool {
 }
 
 // Whether the first n rows of the links table have the expected bits, and the row past them none.
-pub fn links(s: &[u8], model: &[u16], n: usize) -> bool {
+pub fn links(s: &Links, model: &Model, n: usize) -> bool {
     let mut a: usize = 0;
     while a < n {
         if !row(s, model, a) {

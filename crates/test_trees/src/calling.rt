@@ -53,7 +53,7 @@ fn backbone<'a>(
     answer: &mut [u16],
     t: Tally,
 ) -> Tally {
-    let r = queries::backbone::backbone(n, links, numbers, order, answer);
+    let r = backbone::backbone(n, links, numbers, order, answer);
     let after = crate::compare::reply(fd, r, t);
     crate::compare::entries(fd, answer, after)
 }

@@ -26,7 +26,7 @@ pub fn link_all(
     while i < count {
         let a = word(fd) as u32;
         let b = word(fd) as u32;
-        links::link::link_up(n, a, b, links, numbers, order, answer);
+        links::link::link(true, n, a, b, links, numbers, order, answer);
         i += 1;
     }
 }

@@ -1,13 +1,11 @@
--- `play::all_calls` is safe and ends: every table keeps its length, and the measure is how many turns are left.
-use mathlib.Core.Path.{_≡_}
+-- `play::all_calls` is safe and ends: the measure is how many turns are left.
 use Prim.Native.Nat.{_-_}
-use lib.ListN.{length}
 use borrow.Author.Needs.{needs}
 use Rattle.test_histories.proofs.play.all_calls.Statement.{statement}
 use Rattle.test_histories.proofs.play.all_calls.Tie as tie
 
 abbrev Inv-loop : tie.InvT-loop
-Inv-loop plan links₀ numbers₀ order₀ answer₀ model₀ counts₀ x₀ i₀ links numbers order answer model counts x i = (length links ≡ length links₀) × (length numbers ≡ length numbers₀) × (length order ≡ length order₀) × (length answer ≡ length answer₀) × (length model ≡ length model₀) × (length counts ≡ length counts₀)
+Inv-loop plan links₀ numbers₀ order₀ answer₀ model₀ counts₀ x₀ i₀ links numbers order answer model counts x i = Unit
 
 abbrev μ-loop : tie.MeasureT-loop
 μ-loop plan links₀ numbers₀ order₀ answer₀ model₀ counts₀ x₀ i₀ links numbers order answer model counts x i = (plan .calls) - i
@@ -15,5 +13,5 @@ abbrev μ-loop : tie.MeasureT-loop
 pub all-calls-spec : {M : Type 1} → statement M
 all-calls-spec =
     tie.close (
-    tie.spec Inv-loop μ-loop (λ c. search needs) (λ c κs. search needs) (λ c. search needs) (λ c. search needs) (λ c. search needs) (λ c. search needs)
-    (λ c. search needs) (λ c. search needs) (λ c. search needs) (λ c. search needs) (λ c. search needs) (λ c. search needs))
+    tie.spec Inv-loop μ-loop (λ c. search needs) (λ c κs. search needs) (λ c. search needs) (λ c. search needs) (λ c. search needs)
+    (λ c. search needs))

@@ -43,27 +43,27 @@ use base.Logic.{SProp, ent, sep, emp, via, fst∗, id⊢}
 use base.Fml.{Lft, Share, Fml, ftrue, flft, fat}
 use ghost.Atoms.{Atoms, sem}
 use sound.WpLaws.{FmC, fmOf, WpFn-mono}
-use Rattle.image.specs.declared.blocks.BlockReader.{BlockReader}
-use Rattle.image.specs.declared.blocks.BlockStep.{BlockStep}
-use Rattle.image.proofs.blocks.open.Symbol.{name as #image·blocks·open}
-use Rattle.image.proofs.blocks.step.Symbol.{name as #image·blocks·step}
-use Rattle.image.proofs.blocks.moved.Symbol.{name as #image·blocks·moved}
+use Rattle.block_reader.specs.declared.blocks.BlockReader.{BlockReader}
+use Rattle.block_reader.specs.declared.blocks.BlockStep.{BlockStep}
+use Rattle.block_reader.proofs.blocks.open.Symbol.{name as #block_reader·blocks·open}
+use Rattle.block_reader.proofs.blocks.step.Symbol.{name as #block_reader·blocks·step}
+use Rattle.block_reader.proofs.blocks.moved.Symbol.{name as #block_reader·blocks·moved}
 use Rattle.test_images.proofs.held.noted.Symbol.{name as #images·held·noted}
 use Rattle.test_images.proofs.held.step.Key.{name as #images·held·step}
 use denote.Struct.Laws as LL
-use Rattle.image.proofs.blocks.BlockReader as T
-use Rattle.image.proofs.blocks.BlockReader.Laws as T′
-use Rattle.image.proofs.blocks.BlockStep as S
-use Rattle.image.proofs.blocks.BlockStep.Laws as S′
-use Rattle.image.proofs.blocks.open as opening
-use Rattle.image.proofs.blocks.open.Symbol as opening-def
-use Rattle.image.proofs.blocks.open.Met as opening-thm
-use Rattle.image.proofs.blocks.step as giving
-use Rattle.image.proofs.blocks.step.Symbol as giving-def
-use Rattle.image.proofs.blocks.step.Met as giving-thm
-use Rattle.image.proofs.blocks.moved as moving
-use Rattle.image.proofs.blocks.moved.Symbol as moving-def
-use Rattle.image.proofs.blocks.moved.Met as moving-thm
+use Rattle.block_reader.proofs.blocks.BlockReader as T
+use Rattle.block_reader.proofs.blocks.BlockReader.Laws as T′
+use Rattle.block_reader.proofs.blocks.BlockStep as S
+use Rattle.block_reader.proofs.blocks.BlockStep.Laws as S′
+use Rattle.block_reader.proofs.blocks.open as opening
+use Rattle.block_reader.proofs.blocks.open.Symbol as opening-def
+use Rattle.block_reader.proofs.blocks.open.Met as opening-thm
+use Rattle.block_reader.proofs.blocks.step as giving
+use Rattle.block_reader.proofs.blocks.step.Symbol as giving-def
+use Rattle.block_reader.proofs.blocks.step.Met as giving-thm
+use Rattle.block_reader.proofs.blocks.moved as moving
+use Rattle.block_reader.proofs.blocks.moved.Symbol as moving-def
+use Rattle.block_reader.proofs.blocks.moved.Met as moving-thm
 use Rattle.test_images.proofs.held.noted as noting
 use Rattle.test_images.proofs.held.noted.Symbol as noting-def
 use Rattle.test_images.proofs.held.noted.Met as noting-thm
@@ -228,8 +228,8 @@ module _ {M : Type 1} (𝓤 : URA M) (H : Heap 𝓤) (A : Atoms 𝓤) (W : Given
       nothing ! $ owned ! u64 (Is u64) (uint-makes 𝓤 H A W w64) h _ (refl, h-fits) $ fjoin ! $ owned ! usize (Is usize) (uint-makes 𝓤 H A W w64) i _ (refl, i-fits) $ fjoin ! $
       move ! (3 ∷ 0 ∷ []) $ fjoin ! $ join ! $ move ! (1 ∷ 0 ∷ []) $ join ! $ frame ! $ done !
 
-  module _ (C : Calls 𝓤 H) (Λ : Loops 𝓤 H) (fm : FmC 𝓤 H (W .laws) C) (known-open : Triple 𝓤 (C #image·blocks·open) (Opens 𝓤 H A mem run)) (known-give : Triple 𝓤 (C #image·blocks·step) (Gives 𝓤 H A mem run))
-      (known-move : Triple 𝓤 (C #image·blocks·moved) (Moves 𝓤 H A mem run)) (known-note : Triple 𝓤 (C #images·held·noted) (Notes 𝓤 H A mem run)) where
+  module _ (C : Calls 𝓤 H) (Λ : Loops 𝓤 H) (fm : FmC 𝓤 H (W .laws) C) (known-open : Triple 𝓤 (C #block_reader·blocks·open) (Opens 𝓤 H A mem run)) (known-give : Triple 𝓤 (C #block_reader·blocks·step) (Gives 𝓤 H A mem run))
+      (known-move : Triple 𝓤 (C #block_reader·blocks·moved) (Moves 𝓤 H A mem run)) (known-note : Triple 𝓤 (C #images·held·noted) (Notes 𝓤 H A mem run)) where
     walk : Is Sl s (m s ∷ []) → ent 𝓤 (onEntry 𝓤 H A stepping.signature (κ, tt) (q, tt) arg vals) (WpFn 𝓤 H C Λ code.function (m s ∷ vint w64 i ∷ vint w64 h ∷ []) Post)
     walk p =
         qed W (Token ∷ ‵ (owns (Sl ∷ usize ∷ u64 ∷ []) arg vals) ∷ []) ∵ enter ! C Λ code.function (m s ∷ vint w64 i ∷ vint w64 h ∷ []) _ $
@@ -284,14 +284,14 @@ module _ {M : Type 1} (𝓤 : URA M) (H : Heap 𝓤) (A : Atoms 𝓤) (W : Given
         move ! (9 ∷ 10 ∷ []) $ free1 ! $ move ! (7 ∷ 8 ∷ []) $ free1 ! $ move ! (5 ∷ 6 ∷ []) $ free1 ! $ move ! (3 ∷ 4 ∷ []) $ free1 ! $ free0 ! $ by ! (exits x u₄)))))))))))))))))))))))))))))
 
 module _ {M : Type 1} (𝓤 : URA M) (H : Heap 𝓤) (A : Atoms 𝓤) (W : Given 𝓤 H A) (mem : Memory → SProp 𝓤) (run : Routine → Fun 𝓤) where
-  step-walks : (C : Calls 𝓤 H) (Λ : Loops 𝓤 H) → FmC 𝓤 H (W .laws) C → Triple 𝓤 (C #image·blocks·open) (Opens 𝓤 H A mem run) → Triple 𝓤 (C #image·blocks·step) (Gives 𝓤 H A mem run)
-      → Triple 𝓤 (C #image·blocks·moved) (Moves 𝓤 H A mem run) → Triple 𝓤 (C #images·held·noted) (Notes 𝓤 H A mem run) → Walks 𝓤 H A stepping.ended stayed (WpFn 𝓤 H C Λ code.function) (stepping.clauses 𝓤 H A mem run)
+  step-walks : (C : Calls 𝓤 H) (Λ : Loops 𝓤 H) → FmC 𝓤 H (W .laws) C → Triple 𝓤 (C #block_reader·blocks·open) (Opens 𝓤 H A mem run) → Triple 𝓤 (C #block_reader·blocks·step) (Gives 𝓤 H A mem run)
+      → Triple 𝓤 (C #block_reader·blocks·moved) (Moves 𝓤 H A mem run) → Triple 𝓤 (C #images·held·noted) (Notes 𝓤 H A mem run) → Walks 𝓤 H A stepping.ended stayed (WpFn 𝓤 H C Λ code.function) (stepping.clauses 𝓤 H A mem run)
   step-walks C Λ fm ko kg km kn = walked 𝓤 H A stepping.ended stayed (stepping.clauses 𝓤 H A mem run) (WpFn 𝓤 H C Λ code.function)
       (λ κs. (slice-vals, (uint-vals w64, (uint-vals w64, tt)))) (λ κs. (shr-slice-tells (named 0) (κs .0) u8, (uint-tells w64, (uint-tells w64, tt))))
       (λ κs qs bounds a g are. via 𝓤 _ (fst∗ 𝓤 _ (emp 𝓤)) (walk 𝓤 H A W mem run (κs .0) (qs .0) (a .0) (a .1 .0) (are .1 .0 .1) (a .1 .1 .0) (are .1 .1 .0 .1) C Λ fm ko kg km kn (are .0)))
 
 step-meets : {M : Type 1} (𝓤 : URA M) (H : Heap 𝓤) (A : Atoms 𝓤) (W : Given 𝓤 H A) (mem : Memory → SProp 𝓤) (run : Routine → Fun 𝓤) (𝓣 : Tables 𝓤 H)
-    → Triple 𝓤 (𝓣 .C #image·blocks·open) (Opens 𝓤 H A mem run) → Triple 𝓤 (𝓣 .C #image·blocks·step) (Gives 𝓤 H A mem run) → Triple 𝓤 (𝓣 .C #image·blocks·moved) (Moves 𝓤 H A mem run)
+    → Triple 𝓤 (𝓣 .C #block_reader·blocks·open) (Opens 𝓤 H A mem run) → Triple 𝓤 (𝓣 .C #block_reader·blocks·step) (Gives 𝓤 H A mem run) → Triple 𝓤 (𝓣 .C #block_reader·blocks·moved) (Moves 𝓤 H A mem run)
     → Triple 𝓤 (𝓣 .C #images·held·noted) (Notes 𝓤 H A mem run) → Meets 𝓤 H A stepping.signature (WpFn 𝓤 H (𝓣 .C) (𝓣 .Λ) code.function) (stepping.spec 𝓤 H A mem run)
 step-meets 𝓤 H A W mem run 𝓣 ko kg km kn =
     walk-meets 𝓤 H A stepping.ended stayed W (goes-none-slice 𝓤 H A W 1 (0 ∷ []) tt (plain (λ _. u8)) yes, (goes-none 𝓤 H A W 1 (λ _. usize) yes (λ κs x f. refl), (goes-none 𝓤 H A W 1 (λ _. u64) yes (λ κs x f. refl), tt)))
@@ -303,7 +303,7 @@ step-spec 𝓤 H 𝓜 𝓖 𝓡 =
     entered 𝓤 H (tripleOf 𝓤 H (𝓖 .A) stepping.signature (stepping.spec 𝓤 H (𝓖 .A) (𝓜 .mem) (𝓡 .run)))
     (tables 𝓤 H 𝓜 𝓡 code.env .C) (tables 𝓤 H 𝓜 𝓡 code.env .Λ) #images·held·step code.function (code.unfolded 𝓤 H 𝓜 𝓡)
     (step-meets 𝓤 H (𝓖 .A) (givenOf 𝓤 H 𝓜 𝓖) (𝓜 .mem) (𝓡 .run) (tablesOf 𝓤 H 𝓜 (tables 𝓤 H 𝓜 𝓡 code.env))
-    (cited 𝓤 H (Opens 𝓤 H (𝓖 .A) (𝓜 .mem) (𝓡 .run)) 𝓜 𝓡 code.env #image·blocks·open opening-def.routine code.calls-image·blocks·open (opening-thm.met 𝓤 H 𝓜 𝓖 𝓡))
-    (cited 𝓤 H (Gives 𝓤 H (𝓖 .A) (𝓜 .mem) (𝓡 .run)) 𝓜 𝓡 code.env #image·blocks·step giving-def.routine code.calls-image·blocks·step (giving-thm.met 𝓤 H 𝓜 𝓖 𝓡))
-    (cited 𝓤 H (Moves 𝓤 H (𝓖 .A) (𝓜 .mem) (𝓡 .run)) 𝓜 𝓡 code.env #image·blocks·moved moving-def.routine code.calls-image·blocks·moved (moving-thm.met 𝓤 H 𝓜 𝓖 𝓡))
+    (cited 𝓤 H (Opens 𝓤 H (𝓖 .A) (𝓜 .mem) (𝓡 .run)) 𝓜 𝓡 code.env #block_reader·blocks·open opening-def.routine code.calls-block-reader·blocks·open (opening-thm.met 𝓤 H 𝓜 𝓖 𝓡))
+    (cited 𝓤 H (Gives 𝓤 H (𝓖 .A) (𝓜 .mem) (𝓡 .run)) 𝓜 𝓡 code.env #block_reader·blocks·step giving-def.routine code.calls-block-reader·blocks·step (giving-thm.met 𝓤 H 𝓜 𝓖 𝓡))
+    (cited 𝓤 H (Moves 𝓤 H (𝓖 .A) (𝓜 .mem) (𝓡 .run)) 𝓜 𝓡 code.env #block_reader·blocks·moved moving-def.routine code.calls-block-reader·blocks·moved (moving-thm.met 𝓤 H 𝓜 𝓖 𝓡))
     (cited 𝓤 H (Notes 𝓤 H (𝓖 .A) (𝓜 .mem) (𝓡 .run)) 𝓜 𝓡 code.env #images·held·noted noting-def.routine code.calls-test-images·held·noted (noting-thm.met 𝓤 H 𝓜 𝓖 𝓡)))

@@ -1,7 +1,7 @@
 -- `reading::step` meets its contract: the payload that the answer names lies in the image.
 use native.Mathlib.Omega.{arith}
 use borrow.Author.Needs.{needs}
-use Rattle.image.proofs.StepLaws.{block-inside}
+use Rattle.block_reader.proofs.StepLaws.{block-inside}
 use Rattle.test_images.proofs.reading.step.Statement.{statement}
 use Rattle.test_images.proofs.reading.step.Tie as tie
 

@@ -1,13 +1,11 @@
--- `cores::peel_level` is safe and ends: every table keeps its length, and the measure is how many turns are left.
-use mathlib.Core.Path.{_≡_}
+-- `cores::peel_level` is safe and ends: the measure is how many turns are left.
 use Prim.Native.Nat.{_-_}
-use lib.ListN.{length}
 use borrow.Author.Needs.{needs}
 use Rattle.test_model.proofs.cores.peel_level.Statement.{statement}
 use Rattle.test_model.proofs.cores.peel_level.Tie as tie
 
 abbrev Inv-loop : tie.InvT-loop
-Inv-loop model₀ n k turn₀ model turn = length model ≡ length model₀
+Inv-loop model₀ n k turn₀ model turn = Unit
 
 abbrev μ-loop : tie.MeasureT-loop
 μ-loop model₀ n k turn₀ model turn = n - turn
@@ -15,5 +13,5 @@ abbrev μ-loop : tie.MeasureT-loop
 pub peel-level-spec : {M : Type 1} → statement M
 peel-level-spec =
     tie.close (
-    tie.spec Inv-loop μ-loop (λ c. search needs) (λ c κs. search needs) (λ c. search needs) (λ c. search needs) (λ c. search needs) (λ c. search needs)
-    (λ c. search needs) (λ c. search needs) (λ c. search needs))
+    tie.spec Inv-loop μ-loop (λ c. search needs) (λ c κs. search needs) (λ c. search needs) (λ c. search needs) (λ c. search needs)
+    (λ c. search needs) (λ c. search needs))

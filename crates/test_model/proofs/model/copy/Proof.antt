@@ -1,13 +1,11 @@
--- `model::copy` is safe and ends: every table keeps its length, and the measure is how many turns are left.
-use mathlib.Core.Path.{_≡_}
+-- `model::copy` is safe and ends: the measure is how many turns are left.
 use Prim.Native.Nat.{_-_}
-use lib.ListN.{length}
 use borrow.Author.Needs.{needs}
 use Rattle.test_model.proofs.model.copy.Statement.{statement}
 use Rattle.test_model.proofs.model.copy.Tie as tie
 
 abbrev Inv-loop : tie.InvT-loop
-Inv-loop model₀ n from to i₀ model i = length model ≡ length model₀
+Inv-loop model₀ n from to i₀ model i = Unit
 
 abbrev μ-loop : tie.MeasureT-loop
 μ-loop model₀ n from to i₀ model i = n - i
@@ -15,5 +13,5 @@ abbrev μ-loop : tie.MeasureT-loop
 pub copy-spec : {M : Type 1} → statement M
 copy-spec =
     tie.close (
-    tie.spec Inv-loop μ-loop (λ c. search needs) (λ c κs. search needs) (λ c κs. search needs) (λ c. search needs) (λ c. search needs) (λ c. search needs)
+    tie.spec Inv-loop μ-loop (λ c. search needs) (λ c κs. search needs) (λ c κs. search needs) (λ c. search needs) (λ c. search needs)
     (λ c. search needs) (λ c. search needs))

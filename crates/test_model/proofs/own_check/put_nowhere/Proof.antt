@@ -1,13 +1,11 @@
--- `own_check::put_nowhere` is safe and ends: every table keeps its length, and the measure is how many turns are left.
-use mathlib.Core.Path.{_≡_}
+-- `own_check::put_nowhere` is safe and ends: the measure is how many turns are left.
 use Prim.Native.Nat.{_-_}
-use lib.ListN.{length}
 use borrow.Author.Needs.{needs}
 use Rattle.test_model.proofs.own_check.put_nowhere.Statement.{statement}
 use Rattle.test_model.proofs.own_check.put_nowhere.Tie as tie
 
 abbrev Inv-loop : tie.InvT-loop
-Inv-loop n places₀ v₀ places v = length places ≡ length places₀
+Inv-loop n places₀ v₀ places v = Unit
 
 abbrev μ-loop : tie.MeasureT-loop
 μ-loop n places₀ v₀ places v = n - v
@@ -15,5 +13,5 @@ abbrev μ-loop : tie.MeasureT-loop
 pub put-nowhere-spec : {M : Type 1} → statement M
 put-nowhere-spec =
     tie.close (
-    tie.spec Inv-loop μ-loop (λ c. search needs) (λ c κs. search needs) (λ c. search needs) (λ c. search needs) (λ c. search needs) (λ c. search needs)
+    tie.spec Inv-loop μ-loop (λ c. search needs) (λ c κs. search needs) (λ c. search needs) (λ c. search needs) (λ c. search needs)
     (λ c. search needs))

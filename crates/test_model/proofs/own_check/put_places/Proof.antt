@@ -1,13 +1,11 @@
--- `own_check::put_places` is safe and ends: every table keeps its length, and the measure is how many turns are left.
-use mathlib.Core.Path.{_≡_}
+-- `own_check::put_places` is safe and ends: the measure is how many turns are left.
 use Prim.Native.Nat.{_-_}
-use lib.ListN.{length}
 use borrow.Author.Needs.{needs}
 use Rattle.test_model.proofs.own_check.put_places.Statement.{statement}
 use Rattle.test_model.proofs.own_check.put_places.Tie as tie
 
 abbrev Inv-loop : tie.InvT-loop
-Inv-loop n order places₀ i₀ places i = length places ≡ length places₀
+Inv-loop n order places₀ i₀ places i = Unit
 
 abbrev μ-loop : tie.MeasureT-loop
 μ-loop n order places₀ i₀ places i = n - i
@@ -15,6 +13,6 @@ abbrev μ-loop : tie.MeasureT-loop
 pub put-places-spec : {M : Type 1} → statement M
 put-places-spec =
     tie.close (
-    tie.spec Inv-loop μ-loop (λ c κs. search needs) (λ c. search needs) (λ c κs. search needs) (λ c. search needs) (λ c. search needs) (λ c. search needs)
-    (λ c κs. search needs) (λ c. search needs) (λ c. search needs) (λ c. search needs) (λ c κs. search needs) (λ c. search needs) (λ c. search needs)
-    (λ c. search needs) (λ c. search needs) (λ c. search needs))
+    tie.spec Inv-loop μ-loop (λ c κs. search needs) (λ c. search needs) (λ c κs. search needs) (λ c. search needs) (λ c. search needs)
+    (λ c κs. search needs) (λ c. search needs) (λ c. search needs) (λ c κs. search needs) (λ c. search needs) (λ c. search needs) (λ c. search needs)
+    (λ c. search needs))

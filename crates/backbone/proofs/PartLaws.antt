@@ -1,0 +1,435 @@
+-- Parts taken in turn: the set so far has the backbone of the parts seen.
+-- In order: the greatest number of listed radios; their bits; one part; the radios as a loop; the backbone's contract, met.
+use mathlib.Core.Path.{_≡_, refl, sym, ap, _∙_}
+use mathlib.Core.Logic.{_⊎_, inl, inr}
+use mathlib.Core.Bool.{Bool, true, false, _&&_, _||_, cond}
+use mathlib.Core.List.{List, [], _∷_, map}
+use Prim.Native.Nat.{ℕ, suc, max, min, _+_, _≤_, _<_}
+use native.Mathlib.Omega.{arith}
+use native.Mathlib.Numerals.{add-one}
+use lib.Dec.{ltb, leb, eqb}
+use lib.ListN.{length, getD, take, replicate, length-replicate}
+use lib.Seq.{take-all}
+use borrow.Author.Tests.{leb-true, eqb-true, eqb-false, lt-ltb, le-ltb, eq-eqb, ne-eqb}
+use Rattle.mesh.specs.Limits.{max-radios, row-bytes}
+use Rattle.lists.specs.Lists.{folded, range, member, In, overwrite}
+use Rattle.mesh.specs.Graph.{Graph, radios}
+use Rattle.mesh.specs.Cores.{number}
+use Rattle.mesh.specs.Connected.{In-core, core-of, greatest, backbone}
+use Rattle.mesh.specs.Tables.{Tables, tables, marked, put-bit, graph-in}
+use Rattle.mesh.specs.Sound.{sound}
+use Rattle.lists.proofs.Tests.{bool-cases, never, or-cases, or-left, or-right}
+use Rattle.lists.proofs.Member.{member-in, in-member}
+use Rattle.lists.proofs.Filter.{filter-le}
+use Rattle.lists.proofs.Range.{length-range}
+use Rattle.lists.proofs.Loops.{Folding, folding-front-end, length-folded}
+use Rattle.lists.proofs.Parts.{take-min}
+use Rattle.mesh.proofs.Tables.Laws.{byte-at-less, length-put-bit, marked-put-bit, marked-replicate}
+use Rattle.mesh.proofs.Trees.Reach.{core-of-iff}
+use Rattle.mesh.proofs.Trees.CoreLevels.{in-core-here, in-core-below, in-core-sym, in-core-trans, core-of-same}
+use Rattle.mesh.proofs.Trees.Listed.{number-le-greatest, greatest-map-le, part-top, tops-part, number-le-part-top, part-top-le}
+use Rattle.calls.specs.Questions.{lengths-of, answer-length, site-refusal, backbone-refusal}
+use Rattle.calls.specs.Contracts.Cores.{Backbone-contract}
+use Rattle.calls.proofs.ChainLaws.{Site-good, site-zero}
+use Rattle.rows.specs.Rows.{row-listed}
+use Rattle.rows.proofs.RowListLaws.{neighbours-of-filter}
+use Rattle.rows.proofs.RowWords.{row-listed-whole}
+use Rattle.soundness.specs.Checks.{fits-sound}
+use Rattle.soundness.proofs.SoundSite.{Sound-site, fits-sound-site, site-good-fits, number-entry}
+use Rattle.floods.specs.Floods.{Flood-done, Flooded}
+use Rattle.floods.proofs.FloodSteps.{true-floodable}
+use Rattle.floods.proofs.FloodCore.{member-flood}
+use Rattle.backbone.specs.Parts.{part-greatest, top-put, tops-put, part-put, Part-taken, Part-visited, Backbone-put}
+use Rattle.soundness.proofs.SoundSite.{site-good-sound}
+use Rattle.calls.proofs.ContractLaws.{answer, listing-refused, listing-answered}
+
+-- ---- the greatest number of listed radios, as a loop
+
+-- the greatest so far, after radio w
+abbrev pub greatest-with : (numbers : List ℕ) → (w top : ℕ) → ℕ
+greatest-with ns w top = max top (getD ns w 0)
+
+folded-greatest : (ns xs : List ℕ) (top : ℕ) → folded (greatest-with ns) xs top ≡ max top (part-greatest ns xs)
+unfolding folded part-greatest greatest
+folded-greatest ns [] top = omega arith
+folded-greatest ns (x ∷ xs) top = omega (arith, folded-greatest ns xs (max top (getD ns x 0)))
+
+pub part-greatest-end : (ns list : List ℕ) (k top i : ℕ) → k ≤ length list → k ≤ i → Folding (greatest-with ns) (take k list) 0 top i
+    → top ≡ part-greatest ns (take k list)
+part-greatest-end ns list k top i room l h =
+    omega (arith, folding-front-end (greatest-with ns) list k 0 top i room l h, folded-greatest ns (take k list) 0)
+
+-- ---- bits of listed radios
+
+pub length-top-put : (ns : List ℕ) (k w : ℕ) (s : List ℕ) → length (top-put ns k w s) ≡ length s
+unfolding top-put
+length-top-put ns k w s = go (eqb (getD ns w 0) k)
+  where
+    go : (t : Bool) → length (cond t (put-bit true 0 w s) s) ≡ length s
+    go true = length-put-bit true 0 w s
+    go false = refl
+
+length-part-put : (ns xs s : List ℕ) → length (part-put ns xs s) ≡ length s
+unfolding part-put tops-put
+length-part-put ns xs s = go (eqb (part-greatest ns xs) 0)
+  where
+    go : (t : Bool) → length (cond t s (folded (top-put ns (part-greatest ns xs)) xs s)) ≡ length s
+    go true = refl
+    go false = length-folded (top-put ns (part-greatest ns xs)) (length-top-put ns (part-greatest ns xs)) xs s
+
+or-none : (b : Bool) → b ≡ (b || false)
+or-none true = refl
+or-none false = refl
+
+module _ (ns : List ℕ) (k w : ℕ) (l : w < max-radios) where
+  marked-top-put : (x : ℕ) (s : List ℕ) → x < max-radios → length s ≡ row-bytes
+      → marked (top-put ns k x s) 0 w ≡ (marked s 0 w || (eqb x w && eqb (getD ns w 0) k))
+  unfolding top-put
+  marked-top-put x s lx long = go (bool-cases (eqb x w))
+    where
+      bit : marked (put-bit true 0 x s) 0 w ≡ cond (eqb x w) true (marked s 0 w)
+      bit = marked-put-bit true 0 x s 0 w lx l (omega (arith, byte-at-less 1 0 x (omega arith) lx))
+
+      other : (c : Bool) → eqb x w ≡ false → marked (cond c (put-bit true 0 x s) s) 0 w ≡ marked s 0 w
+      other true e = bit ∙ rw e
+      other false e = refl
+
+      same : (c : Bool) → eqb x w ≡ true → marked (cond c (put-bit true 0 x s) s) 0 w ≡ (marked s 0 w || c)
+      same true e = bit ∙ rw e (sym (or-right (marked s 0 w) true refl))
+      same false e = or-none (marked s 0 w)
+
+      go : (eqb x w ≡ true) ⊎ (eqb x w ≡ false)
+          → marked (cond (eqb (getD ns x 0) k) (put-bit true 0 x s) s) 0 w ≡ (marked s 0 w || (eqb x w && eqb (getD ns w 0) k))
+      go (inl e) = same (eqb (getD ns x 0) k) e ∙ rw (e, eqb-true x w e)
+      go (inr e) = other (eqb (getD ns x 0) k) e ∙ rw e (or-none (marked s 0 w))
+
+  marked-tops-put : (xs s : List ℕ) → ((x : ℕ) → In x xs → x < max-radios) → length s ≡ row-bytes
+      → marked (tops-put ns k xs s) 0 w ≡ (marked s 0 w || (member w xs && eqb (getD ns w 0) k))
+  unfolding tops-put folded member
+  marked-tops-put [] s h long = or-none (marked s 0 w)
+  marked-tops-put (x ∷ xs) s h long =
+      marked-tops-put xs (top-put ns k x s) (λ y m. h y (inr m)) (length-top-put ns k x s ∙ long)
+      ∙ ap (λ (b : Bool). b || (member w xs && eqb (getD ns w 0) k)) (marked-top-put x s (h x (inl refl)) long)
+      ∙ either (marked s 0 w) (eqb x w) (member w xs) (eqb (getD ns w 0) k)
+    where
+      either : (a b c d : Bool) → ((a || (b && d)) || (c && d)) ≡ (a || ((b || c) && d))
+      either true b c d = refl
+      either false true c true = refl
+      either false true true false = refl
+      either false true false false = refl
+      either false false c d = refl
+
+-- ---- one part
+
+-- the radios below v are seen, and with a radio its part; the set has the backbone of the parts seen
+pub record Parted (g : Graph) (v : ℕ) (seen set : List ℕ) : Type 0 where
+  pub seen-long : length seen ≡ row-bytes
+  pub set-long : length set ≡ row-bytes
+  pub below : (w : ℕ) → w < v → marked seen 0 w ≡ true
+  pub radios : (w : ℕ) → w < max-radios → marked seen 0 w ≡ true → w < g .n
+  pub whole : (w x : ℕ) → w < g .n → marked seen 0 w ≡ true → In-core g w 0 x → marked seen 0 x ≡ true
+  pub tops : (w : ℕ) → w < max-radios → marked set 0 w ≡ (marked seen 0 w && tops-part g w)
+
+module _ (n : ℕ) (t : Tables) (s : Sound-site n t) (v : ℕ) (radio : v < n) where
+  abbrev g : Graph
+  g = graph-in n (t .links)
+
+  in-part-below : (w : ℕ) → In-core g v 0 w → w < n
+  unfolding graph-in
+  in-part-below w r = in-core-below g v 0 w radio r
+
+  module _ (xs : List ℕ) (is-part : (w : ℕ) → member w xs ≡ member w (core-of g v 0)) where
+    part-in : (w : ℕ) → In w xs → In-core g v 0 w
+    unfolding graph-in
+    part-in w m = core-of-iff g v 0 radio w .0 (sym (is-part w) ∙ in-member w xs m)
+
+    in-part : (w : ℕ) → In-core g v 0 w → In w xs
+    unfolding graph-in
+    in-part w r = member-in w xs (is-part w ∙ core-of-iff g v 0 radio w .1 r)
+
+    -- the entries give the part's greatest number
+    part-greatest-top : part-greatest (t .numbers) xs ≡ part-top g v
+    unfolding part-greatest graph-in
+    part-greatest-top =
+        let entry : ℕ → ℕ = λ w. getD (t .numbers) w 0 in
+        omega (
+          arith,
+          greatest-map-le entry xs (part-top g v) (λ w m.
+              let r = part-in w m in omega (arith, number-entry n t s w (in-part-below w r), number-le-part-top g v radio w r)),
+          part-top-le g v radio (greatest (map entry xs)) (λ w r.
+              omega (arith, number-entry n t s w (in-part-below w r), number-le-greatest entry xs w (in-part w r))),
+        )
+
+    -- radios of one part have the same greatest number
+    part-top-same : (w : ℕ) → In-core g v 0 w → part-top g w ≡ part-top g v
+    unfolding graph-in
+    part-top-same w r = ap (λ (ys : List ℕ). greatest (map (number g) ys)) (core-of-same g v 0 w radio (omega arith) r)
+
+    marked-part-put : (set : List ℕ) → length set ≡ row-bytes → (w : ℕ) → w < max-radios
+        → marked (part-put (t .numbers) xs set) 0 w ≡ (marked set 0 w || (member w xs && tops-part g w))
+    unfolding part-put graph-in
+    marked-part-put set long w l = go (bool-cases (eqb top 0))
+      where
+        top : ℕ
+        top = part-greatest (t .numbers) xs
+
+        -- what two tests say of the part's radios alike
+        of-part : (a b : Bool) → (In-core g v 0 w → a ≡ b) → (marked set 0 w || (member w xs && a)) ≡ (marked set 0 w || (member w xs && b))
+        of-part a b h = by-member (bool-cases (member w xs))
+          where
+            by-member : (member w xs ≡ true) ⊎ (member w xs ≡ false)
+                → (marked set 0 w || (member w xs && a)) ≡ (marked set 0 w || (member w xs && b))
+            by-member (inl e) = rw (e, h (part-in w (member-in w xs e)))
+            by-member (inr e) = rw e
+
+        nothing : (a b : Bool) → a ≡ (a || (b && false))
+        nothing a true = or-none a
+        nothing a false = or-none a
+
+        -- no radio of the part has a number but 0
+        none : top ≡ 0 → In-core g v 0 w → false ≡ tops-part g w
+        none e r = rw (le-ltb 0 (number g w) (omega (arith, part-greatest-top, number-le-part-top g v radio w r)))
+
+        same : (top ≡ 0 → ⊥) → In-core g v 0 w → eqb (getD (t .numbers) w 0) top ≡ tops-part g w
+        same h r =
+            rw (number-entry n t s w (in-part-below w r), part-top-same w r, ← part-greatest-top) (not-zero (number g w) top h)
+          where
+            not-zero : (x y : ℕ) → (y ≡ 0 → ⊥) → eqb x y ≡ (ltb 0 x && eqb x y)
+            not-zero x y z = by-eqb (bool-cases (eqb x y))
+              where
+                and-none : (b : Bool) → false ≡ (b && false)
+                and-none true = refl
+                and-none false = refl
+
+                by-eqb : (eqb x y ≡ true) ⊎ (eqb x y ≡ false) → eqb x y ≡ (ltb 0 x && eqb x y)
+                by-eqb (inl e) = rw (lt-ltb 0 x (omega (arith, eqb-true x y e)))
+                by-eqb (inr e) = rw e (and-none (ltb 0 x))
+
+        go : (eqb top 0 ≡ true) ⊎ (eqb top 0 ≡ false)
+            → marked (cond (eqb top 0) set (tops-put (t .numbers) top xs set)) 0 w ≡ (marked set 0 w || (member w xs && tops-part g w))
+        go (inl e) = rw e (nothing (marked set 0 w) (member w xs) ∙ of-part false (tops-part g w) (none (eqb-true top 0 e)))
+        go (inr e) =
+            rw e (marked-tops-put (t .numbers) top w l xs set (λ x m. omega (arith, in-part-below x (part-in x m), s .small)) long
+            ∙ of-part (eqb (getD (t .numbers) w 0) top) (tops-part g w) (same (λ z. never (eqb top 0) (eq-eqb top 0 z) e)))
+
+  module _ (seen queue set u p : List ℕ) (parted : Parted g v seen set) (same : length u ≡ length seen) (space : n ≤ length queue) where
+    -- a radio that was seen
+    parted-passed : marked seen 0 v ≡ true → (u ≡ seen) × (p ≡ set) → Parted g (suc v) u p
+    parted-passed e h = rw (h .0, h .1) (record {
+      seen-long = parted .seen-long;
+      set-long = parted .set-long;
+      below = λ w l. below w (bool-cases (eqb w v)) l;
+      radios = parted .radios;
+      whole = parted .whole;
+      tops = parted .tops;
+    })
+      where
+        below : (w : ℕ) → (eqb w v ≡ true) ⊎ (eqb w v ≡ false) → w < suc v → marked seen 0 w ≡ true
+        below w (inl q) l = rw (eqb-true w v q) e
+        below w (inr q) l = parted .below w (omega (arith, eqb-false w v q))
+
+    module _ (fresh : marked seen 0 v ≡ false) (h : Part-taken (t .links) (t .numbers) v seen queue set u p) where
+      -- none of its part was seen
+      apart : (w : ℕ) → In-core g v 0 w → marked seen 0 w ≡ false
+      unfolding graph-in
+      apart w r = go (bool-cases (marked seen 0 w))
+        where
+          go : (marked seen 0 w ≡ true) ⊎ (marked seen 0 w ≡ false) → marked seen 0 w ≡ false
+          go (inl e) = never (marked seen 0 v) (parted .whole w v (in-part-below w r) e (in-core-sym g v 0 w radio (omega arith) r)) fresh
+          go (inr e) = e
+
+      done : Flood-done (t .links) (t .numbers) 0 v seen (h .came) u (h .queue-after)
+      done = h .flooded .done (true-floodable (length (t .numbers)) v (length seen) (length queue) (record {
+        small = omega (arith, s .small, s .numbers-long);
+        radio = omega (arith, s .numbers-long);
+        one-row = parted .seen-long;
+        room = omega (arith, s .numbers-long);
+      }))
+
+      abbrev part : List ℕ
+      part = take (h .came) (h .queue-after)
+
+      is-part : (w : ℕ) → member w part ≡ member w (core-of g v 0)
+      is-part w = member-flood n t s 0 v seen radio apart (h .came) u (h .queue-after) done w
+
+      seen-after : (w : ℕ) → w < max-radios → marked u 0 w ≡ (marked seen 0 w || member w part)
+      seen-after w l = done .bits w l
+
+      -- a radio that is seen after was seen before, or is of the part
+      seen-cases : (w : ℕ) → w < max-radios → marked u 0 w ≡ true → (marked seen 0 w ≡ true) ⊎ In-core g v 0 w
+      seen-cases w l e = go (or-cases (marked seen 0 w) (member w part) (sym (seen-after w l) ∙ e))
+        where
+          go : (marked seen 0 w ≡ true) ⊎ (member w part ≡ true) → (marked seen 0 w ≡ true) ⊎ In-core g v 0 w
+          go (inl q) = inl q
+          go (inr q) = inr (part-in part is-part w (member-in w part q))
+
+      still-seen : (w : ℕ) → w < max-radios → marked seen 0 w ≡ true → marked u 0 w ≡ true
+      still-seen w l e = seen-after w l ∙ or-left (marked seen 0 w) (member w part) e
+
+      part-seen : (w : ℕ) → In-core g v 0 w → marked u 0 w ≡ true
+      part-seen w r =
+          seen-after w (omega (arith, in-part-below w r, s .small))
+          ∙ or-right (marked seen 0 w) (member w part) (in-member w part (in-part part is-part w r))
+
+      parted-taken : Parted g (suc v) u p
+      unfolding graph-in
+      parted-taken = record {
+        seen-long = same ∙ parted .seen-long;
+        set-long = ap length (h .put) ∙ length-part-put (t .numbers) part set ∙ parted .set-long;
+        below = λ w l. below w (bool-cases (eqb w v)) l;
+        radios = λ w l e. radios w (seen-cases w l e) l;
+        whole = λ w x l e r. whole w x l (seen-cases w (omega (arith, s .small)) e) r;
+        tops = λ w l. ap (λ (z : List ℕ). marked z 0 w) (h .put) ∙ marked-part-put part is-part set (parted .set-long) w l
+            ∙ ap (λ (b : Bool). b || (member w part && tops-part g w)) (parted .tops w l)
+            ∙ both (marked seen 0 w) (member w part) (tops-part g w) ∙ ap (λ (b : Bool). b && tops-part g w) (sym (seen-after w l));
+      }
+        where
+          below : (w : ℕ) → (eqb w v ≡ true) ⊎ (eqb w v ≡ false) → w < suc v → marked u 0 w ≡ true
+          below w (inl q) l = rw (eqb-true w v q) (part-seen v (in-core-here (graph-in n (t .links)) v 0))
+          below w (inr q) l = still-seen w (omega (arith, s .small)) (parted .below w (omega (arith, eqb-false w v q)))
+
+          radios : (w : ℕ) → (marked seen 0 w ≡ true) ⊎ In-core (graph-in n (t .links)) v 0 w → w < max-radios → w < n
+          radios w (inl e) l = parted .radios w l e
+          radios w (inr r) l = in-part-below w r
+
+          whole : (w x : ℕ) → w < n → (marked seen 0 w ≡ true) ⊎ In-core (graph-in n (t .links)) v 0 w → In-core (graph-in n (t .links)) w 0 x
+              → marked u 0 x ≡ true
+          whole w x l (inl e) r =
+              still-seen x (omega (arith, in-core-below (graph-in n (t .links)) w 0 x l r, s .small)) (parted .whole w x l e r)
+          whole w x l (inr q) r = part-seen x (in-core-trans (graph-in n (t .links)) v 0 w x q r)
+
+          both : (a b c : Bool) → ((a && c) || (b && c)) ≡ ((a || b) && c)
+          both true b true = refl
+          both true true false = refl
+          both true false false = refl
+          both false b c = refl
+
+    parted-next : Part-visited (t .links) (t .numbers) v seen queue set u p → Parted g (suc v) u p
+    parted-next h = go (bool-cases (marked seen 0 v))
+      where
+        go : (marked seen 0 v ≡ true) ⊎ (marked seen 0 v ≡ false) → Parted (graph-in n (t .links)) (suc v) u p
+        go (inl e) = parted-passed e (h .passed e)
+        go (inr e) = parted-taken e (h .taken e)
+
+-- ---- the radios as a loop
+
+parted-none : (g : Graph) (seen set : List ℕ) → g .n ≤ max-radios → seen ≡ replicate row-bytes 0 → set ≡ replicate row-bytes 0
+    → Parted g 0 seen set
+parted-none g seen set small e f = rw (e, f) (record {
+  seen-long = length-replicate {A = ℕ} row-bytes 0;
+  set-long = length-replicate {A = ℕ} row-bytes 0;
+  below = λ w l. absurd (omega arith);
+  radios = λ w l m. never (marked (replicate row-bytes 0) 0 w) m (none w l);
+  whole = λ w x l m r. never (marked (replicate row-bytes 0) 0 w) m (none w (omega arith));
+  tops = λ w l. none w l ∙ sym (ap (λ (b : Bool). b && tops-part g w) (none w l));
+})
+  where
+    none : (w : ℕ) → w < max-radios → marked (replicate row-bytes 0) 0 w ≡ false
+    none w l = marked-replicate row-bytes 0 w (omega (arith, byte-at-less 1 0 w (omega arith) l))
+
+-- all radios are seen: the set is the backbone
+parted-all : (g : Graph) (seen set : List ℕ) → g .n ≤ max-radios → Parted g (g .n) seen set → row-listed set 0 ≡ backbone g
+unfolding backbone radios
+parted-all g seen set small h =
+    row-listed-whole set 0 (omega (arith, h .set-long))
+    ∙ neighbours-of-filter (g .n) set 0 (tops-part g) small
+    (λ w l. h .tops w (omega arith) ∙ ap (λ (b : Bool). b && tops-part g w) (h .below w l))
+    (λ w nw l. h .tops w l ∙ ap (λ (b : Bool). b && tops-part g w) (outside w nw l (bool-cases (marked seen 0 w))))
+  where
+    outside : (w : ℕ) → g .n ≤ w → w < max-radios → (marked seen 0 w ≡ true) ⊎ (marked seen 0 w ≡ false) → marked seen 0 w ≡ false
+    outside w nw l (inl e) = absurd (omega (arith, h .radios w l e))
+    outside w nw l (inr e) = e
+
+-- before radio v: for sound tables the parts are right if they were so at the start
+pub record Parting (ts ns seen₀ queue₀ set₀ : List ℕ) (v : ℕ) (seen queue set : List ℕ) : Type 0 where
+  pub within : v ≤ length ns
+  pub seen-long : length seen ≡ length seen₀
+  pub queue-long : length queue ≡ length queue₀
+  pub set-long : length set ≡ length set₀
+  pub right : (order : List ℕ) → fits-sound (length ns) (tables ts ns order) ≡ true → Parted (graph-in (length ns) ts) 0 seen₀ set₀
+      → Parted (graph-in (length ns) ts) v seen set
+
+pub parting-none : (ts ns seen queue set : List ℕ) → Parting ts ns seen queue set 0 seen queue set
+parting-none ts ns seen queue set =
+    record { within = omega arith; seen-long = refl; queue-long = refl; set-long = refl; right = λ order e h. h }
+
+pub parting-turn : (ts ns seen₀ queue₀ set₀ : List ℕ) (v : ℕ) (seen queue set u q p : List ℕ) → length ns ≤ length queue₀ → v < length ns
+    → length u ≡ length seen → length q ≡ length queue → length p ≡ length set → Part-visited ts ns v seen queue set u p
+    → Parting ts ns seen₀ queue₀ set₀ v seen queue set → Parting ts ns seen₀ queue₀ set₀ (v + 1) u q p
+parting-turn ts ns seen₀ queue₀ set₀ v seen queue set u q p space l su qq sp h a = record {
+  within = omega arith;
+  seen-long = su ∙ a .seen-long;
+  queue-long = qq ∙ a .queue-long;
+  set-long = sp ∙ a .set-long;
+  right = λ order e start. rw (add-one v) (
+      parted-next (length ns) (tables ts ns order) (fits-sound-site (length ns) (tables ts ns order) e) v l seen queue set u p
+      (a .right order e start) su (omega (arith, a .queue-long)) h);
+}
+
+pub parting-end : (ts ns seen₀ queue₀ set₀ : List ℕ) (v : ℕ) (seen queue set : List ℕ) → length ns ≤ max-radios → seen₀ ≡ replicate row-bytes 0
+    → set₀ ≡ replicate row-bytes 0 → length ns ≤ v → Parting ts ns seen₀ queue₀ set₀ v seen queue set → Backbone-put ts ns set
+unfolding Backbone-put graph-in
+parting-end ts ns seen₀ queue₀ set₀ v seen queue set small e f l a order h =
+    let g = graph-in (length ns) ts in
+    let all : v ≡ length ns = omega (arith, a .within) in
+    let last : Parted g (length ns) seen set = rw all at (a .right order h (parted-none g seen₀ set₀ small e f)) in
+    parted-all g seen set small last
+
+-- ---- one radio, as the code has it
+
+module _ (ts ns : List ℕ) (v : ℕ) (seen queue set : List ℕ) where
+  pub visited-seen : marked seen 0 v ≡ true → Part-visited ts ns v seen queue set seen set
+  visited-seen e = record { taken = λ q. never _ e q; passed = λ q. (refl, refl) }
+
+  module _ (fresh : marked seen 0 v ≡ false) (r k : ℕ) (u p : List ℕ) (flooded : Flooded ts ns 0 v seen queue r u p)
+      (front : k ≡ min r (length p)) where
+    front-part : take k p ≡ take r p
+    front-part = ap (λ (j : ℕ). take j p) front ∙ take-min r p
+
+    visited-part : (set-after : List ℕ) → set-after ≡ part-put ns (take k p) set → Part-visited ts ns v seen queue set u set-after
+    visited-part z h = record {
+      taken = λ q. record { came = r; queue-after = p; flooded = flooded; put = h ∙ ap (λ (xs : List ℕ). part-put ns xs set) front-part };
+      passed = λ q. never _ q fresh;
+    }
+
+    module _ (top : ℕ) (is-top : top ≡ part-greatest ns (take k p)) where
+      pub visited-none : top ≡ 0 → Part-visited ts ns v seen queue set u set
+      unfolding part-put
+      visited-none e = visited-part set (rw (← is-top, e))
+
+      pub visited-tops : (top ≡ 0 → ⊥) → (z : List ℕ) → z ≡ tops-put ns top (take k p) set → Part-visited ts ns v seen queue set u z
+      unfolding part-put
+      visited-tops h z e = visited-part z (e ∙ rw (← is-top, ne-eqb top 0 h))
+
+-- ---- the backbone's contract, met
+
+module _ (n : ℕ) (t : Tables) (old : List ℕ) (q : ℕ) (asked : q ≡ site-refusal n (lengths-of t) (leb n (length old)) (sound n t) 0) where
+  pub backbone-refused : (q ≡ 0 → ⊥) → Backbone-contract n t old (answer q 0) old
+  unfolding Backbone-contract backbone-refusal answer-length
+  backbone-refused h = listing-refused _ _ _ old q asked h
+
+  module _ (e : q ≡ 0) where
+    good : Site-good n (lengths-of t) (leb n (length old)) (sound n t)
+    good = site-zero n (lengths-of t) (leb n (length old)) (sound n t) 0 (sym asked ∙ e) .0
+
+    site : Sound-site n t
+    site = site-good-sound n t (leb n (length old)) good
+
+    pub backbone-small : length (t .numbers) ≤ max-radios
+    backbone-small = omega (arith, site .small, site .numbers-long)
+
+    length-backbone : length (backbone (graph-in n (t .links))) ≤ n
+    unfolding backbone radios graph-in
+    length-backbone = filter-le _ (range 0 n) n (length-range 0 n)
+
+    pub backbone-listed : (set : List ℕ) (c : ℕ) (now : List ℕ) → Backbone-put (t .links) (t .numbers) set → c ≡ length (row-listed set 0)
+        → now ≡ overwrite (take (length old) (row-listed set 0)) old → Backbone-contract n t old (answer 0 c) now
+    unfolding Backbone-contract backbone-refusal answer-length Backbone-put
+    backbone-listed set c now h counted listed =
+        let long = site .numbers-long in
+        let is : row-listed set 0 ≡ backbone (graph-in n (t .links)) =
+        rw long at (h (t .order) (rw long (site-good-fits n t (leb n (length old)) good))) in
+        let room = leb-true n (length old) (good .lent .further) in
+        listing-answered _ _ _ old c now (sym asked ∙ e) (counted ∙ ap length is)
+        (listed ∙ ap (λ (xs : List ℕ). overwrite (take (length old) xs) old) is
+        ∙ ap (λ (xs : List ℕ). overwrite xs old) (take-all (length old) (backbone (graph-in n (t .links))) (omega (arith, length-backbone))))

@@ -1,0 +1,51 @@
+-- Connected parts, taken in turn. A set is one row of bits.
+--   part-greatest ns xs   the greatest number of the radios xs
+--   top-put, tops-put     the set with a radio, or with each of some radios, that has number k
+--   part-put ns xs s      the set with the radios of xs that have their greatest number, where that is not 0
+--   Part-taken            the part of a radio: flooded, and its radios with the greatest number put into the set
+--   Part-visited          a radio: its part is taken where it was not seen before, and else nothing changes
+--   Backbone-put          a set that is the backbone, for sound tables
+-- Definitions only.
+use mathlib.Core.Path.{_≡_}
+use mathlib.Core.Bool.{true, false, cond}
+use mathlib.Core.List.{List, map}
+use Prim.Native.Nat.{ℕ}
+use lib.Dec.{eqb}
+use lib.ListN.{length, getD, take}
+use Rattle.lists.specs.Lists.{folded}
+use Rattle.mesh.specs.Tables.{marked, put-bit, tables, graph-in}
+use Rattle.mesh.specs.Connected.{greatest, backbone}
+use Rattle.rows.specs.Rows.{row-listed}
+use Rattle.soundness.specs.Checks.{fits-sound}
+use Rattle.floods.specs.Floods.{Flooded}
+
+-- ---- the radios of a part
+
+unfoldable pub part-greatest : (numbers radios : List ℕ) → ℕ
+part-greatest ns xs = greatest (map (λ w. getD ns w 0) xs)
+
+unfoldable pub top-put : (numbers : List ℕ) → (k w : ℕ) → (set : List ℕ) → List ℕ
+top-put ns k w s = cond (eqb (getD ns w 0) k) (put-bit true 0 w s) s
+
+unfoldable pub tops-put : (numbers : List ℕ) → (k : ℕ) → (radios set : List ℕ) → List ℕ
+tops-put ns k xs s = folded (top-put ns k) xs s
+
+unfoldable pub part-put : (numbers radios set : List ℕ) → List ℕ
+part-put ns xs s = let top = part-greatest ns xs in cond (eqb top 0) s (tops-put ns top xs s)
+
+-- ---- parts in turn
+
+-- `seen` has the radios of the parts taken so far, t and u are it and the set after
+pub record Part-taken (ts ns : List ℕ) (v : ℕ) (seen queue set t u : List ℕ) : Type 0 where
+  pub came : ℕ
+  pub queue-after : List ℕ
+  pub flooded : Flooded ts ns 0 v seen queue came t queue-after
+  pub put : u ≡ part-put ns (take came queue-after) set
+
+pub record Part-visited (ts ns : List ℕ) (v : ℕ) (seen queue set t u : List ℕ) : Type 0 where
+  pub taken : marked seen 0 v ≡ false → Part-taken ts ns v seen queue set t u
+  pub passed : marked seen 0 v ≡ true → (t ≡ seen) × (u ≡ set)
+
+unfoldable pub Backbone-put : (links numbers set : List ℕ) → Type 0
+Backbone-put ts ns s =
+    (order : List ℕ) → fits-sound (length ns) (tables ts ns order) ≡ true → row-listed s 0 ≡ backbone (graph-in (length ns) ts)

@@ -1,0 +1,2 @@
+-- Laws of the form of an image.
+pub mod FormLaws

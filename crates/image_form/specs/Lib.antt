@@ -1,0 +1,2 @@
+-- What the contracts of the form's code cite beside the definitions of mesh and calls.
+pub mod Form
