@@ -1,6 +1,7 @@
 // The soundness check on damaged tables: each condition of document 01 broken alone, and then lengths and sizes. Prints a line
 // for each: its name, the refusal number and the value (1 sound, 0 not). Changes that do no damage come last: their verdict must
 // differ from the ones above, which so turn on the damage alone. The expected lines are worked out by oracle/damaged.py.
+ghost use Prim.Native.Nat.{_<_};
 use libc::STDOUT_FILENO;
 
 // A triangle 0 1 2, radio 3 linked to 2, radio 4 alone.
@@ -62,6 +63,25 @@ fn say_star(name: &[u8], n: u32, k: u32, links: &mut [u8], numbers: &[u8], order
     say(name, n, links, numbers, order);
 }
 
+// The last of k + 1 radios linked to all others, and to itself where `own` is set: its row has k or k + 1 bits.
+fn say_bits(name: &[u8], k: usize, own: bool)
+    requires { ⌜ k < 512 ⌝ }
+{
+    let mut links = [0u8; 32768];
+    let mut order = [0u16; 512];
+    let numbers = [1u8; 512];
+    let n = k + 1;
+    rows::put_bit(&mut links, own, k as u32, k as u32);
+    say_star(
+        name,
+        n as u32,
+        k as u32,
+        &mut links[..64 * n],
+        &numbers[..n],
+        &mut order[..n],
+    );
+}
+
 fn main() {
     let numbers: [u8; 5] = [2, 2, 2, 1, 0];
     let order: [u16; 5] = [4, 3, 2, 0, 1];
@@ -88,6 +108,15 @@ fn main() {
         &[1u8; 42],
         &mut [0u16; 42],
     );
+    // 256 + 32 and 256 + 40 bits are what a byte that wraps takes for few
+    say_bits(b"bits-40", 40, false);
+    say_bits(b"bits-41", 41, false);
+    say_bits(b"bits-255", 255, false);
+    say_bits(b"bits-256", 256, false);
+    say_bits(b"bits-257", 257, false);
+    say_bits(b"bits-288", 288, false);
+    say_bits(b"bits-296", 296, false);
+    say_bits(b"bits-512", 511, true);
     // order
     say_tables(b"entry-twice", 5, &numbers, &[4, 3, 2, 0, 0]);
     say_tables(b"entry-n", 5, &numbers, &[4, 3, 2, 0, 5]);
