@@ -51,8 +51,10 @@ def site(n=5, bits=LINKS, numbers=NUMBERS, order=ORDER):
     return verdict(n, table(5, bits), numbers, order)
 
 
-def star(k):
-    return verdict(k + 1, table(k + 1, both((v, k) for v in range(k))), [1] * (k + 1), list(range(k + 1)))
+def star(k, own=False):
+    """Radio k linked to all radios below it, and to itself where `own` is set."""
+    bits = both((v, k) for v in range(k)) | ({(k, k)} if own else set())
+    return verdict(k + 1, table(k + 1, bits), [1] * (k + 1), list(range(k + 1)))
 
 
 CASES = [
@@ -64,6 +66,8 @@ CASES = [
     ("bit-lost", site(bits=LINKS - {(3, 2)})),
     ("neighbours-40", star(40)),
     ("neighbours-41", star(41)),
+    *[(f"bits-{k}", star(k)) for k in (40, 41, 255, 256, 257, 288, 296)],
+    ("bits-512", star(511, own=True)),
     ("entry-twice", site(order=[4, 3, 2, 0, 0])),
     ("entry-n", site(order=[4, 3, 2, 0, 5])),
     ("entry-65535", site(order=[65535, 3, 2, 0, 1])),

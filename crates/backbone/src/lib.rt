@@ -117,6 +117,6 @@ pub fn backbone<'a>(
     put_backbone(links, numbers, &mut set);
     Value {
         number: 0,
-        value: rows::row_neighbours(&set, 0, answer),
+        value: rows::list_set(&set, answer),
     }
 }

@@ -2,16 +2,16 @@
 use mathlib.Core.Path.{_≡_, refl, ap, _∙_}
 use mathlib.Core.Bool.{true, false, _&&_}
 use mathlib.Core.List.{List}
-use Prim.Native.Nat.{ℕ, _+_, _≤_, _<_, min}
+use Prim.Native.Nat.{ℕ, suc, _+_, _≤_, _<_, min}
 use native.Mathlib.Omega.{arith}
 use lib.Dec.{ltb, leb, eqb}
-use lib.ListN.{length, getD, take, drop, set, length-append, length-take, length-drop}
-use lib.Seq.{take-at}
+use lib.ListN.{length, getD, take, set}
 use borrow.Author.Tests.{ltb-true, leb-true, eqb-true, lt-ltb, le-ltb, lt-leb, le-leb, eq-eqb, ne-eqb}
 use Rattle.mesh.specs.Limits.{max-radios, max-neighbours, row-bytes}
 use Rattle.lists.specs.Lists.{overwrite}
 use Rattle.mesh.specs.Tables.{marked, put-bit}
-use Rattle.rows.specs.Rows.{row-listed}
+use Rattle.rows.specs.Rows.{row-listed, row-count}
+use Rattle.rows.proofs.RowListLaws.{row-listed-taken}
 use Rattle.lists.proofs.Loops.{Folding, folding-none, folding-front}
 use Rattle.lists.proofs.Tests.{never, and-left, and-right}
 use Rattle.floods.specs.Floods.{ends-listed, takes-in, Flood, flood-at, taken-one, floodable, Flooded}
@@ -62,15 +62,13 @@ taking-turn ns k list m before i f e room l s q one h =
 
 -- ---- the neighbours of a radio, as listed
 
-pub ends-listed-taken : (ts : List ℕ) (a : ℕ) (list after : List ℕ) (k m : ℕ) → length list ≡ max-neighbours → k ≡ length (row-listed ts a)
-    → after ≡ overwrite (take (length list) (row-listed ts a)) list → m ≡ min k (length after) → take m after ≡ ends-listed ts a
-unfolding ends-listed overwrite
-ends-listed-taken ts a list after k m long counted listed e =
-    let xs = take (length list) (row-listed ts a) in
-    let size : length xs ≡ min (length list) (length (row-listed ts a)) = length-take (length list) (row-listed ts a) in
-    let same : length after ≡ length list = ap length listed ∙ length-append xs (drop (length xs) list) ∙ omega (arith, size, length-drop (length xs) list) in
-    let all : length xs ≡ m = omega (arith, size, same, e, counted) in
-    ap (take m) listed ∙ take-at xs (drop (length xs) list) m all ∙ ap (λ (j : ℕ). take j (row-listed ts a)) long
+pub ends-listed-taken : (ts : List ℕ) (a : ℕ) (list after : List ℕ) (k : ℕ) → length list ≡ max-neighbours
+    → k ≡ min (length list) (row-count max-neighbours ts a)
+    → after ≡ overwrite (take (min (length list) (suc max-neighbours)) (row-listed ts a)) list → take k after ≡ ends-listed ts a
+unfolding ends-listed
+ends-listed-taken ts a list after k long counted listed =
+    let room : min (length list) (suc max-neighbours) ≡ max-neighbours = omega arith in
+    row-listed-taken max-neighbours ts a list after k counted listed ∙ ap (λ (j : ℕ). take j (row-listed ts a)) room
 
 -- ---- whether the flood can be carried out
 

@@ -78,8 +78,7 @@ fn take_ends<'a>(
         (flood-at (now (set .entry)) (now (queue .entry)) count) ⌝ }
 {
     let k = rows::row_neighbours(links, a, list);
-    let m = tables::fill::least(k as usize, list.len());
-    take_all(numbers, level, list, m, set, queue, count)
+    take_all(numbers, level, list, k as usize, set, queue, count)
 }
 
 // Whether there are at most 512 radios, v is one of them, the set is one row, and the queue has an entry for each radio.

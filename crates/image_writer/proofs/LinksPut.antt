@@ -1,7 +1,7 @@
 -- Laws of links put into a block, row by row from a cursor on.
 use mathlib.Core.Path.{_≡_, refl, sym, ap, ap₂, _∙_}
 use mathlib.Core.List.{List, [], _++_, flatMap}
-use Prim.Native.Nat.{ℕ, _+_, _*_, _-_, _≤_, _<_, min}
+use Prim.Native.Nat.{ℕ, suc, _+_, _*_, _-_, _≤_, _<_, min}
 use native.Mathlib.Omega.{arith}
 use lib.ListN.{length, take, drop, length-append, length-drop, drop-of-length-le}
 use lib.Seq.{sets, drop-drop, take-all, take-add, take-append-le, length-take-le}
@@ -11,6 +11,7 @@ use Rattle.lists.proofs.Parts.{length-flatMap}
 use Rattle.mesh.proofs.Images.Blocks.{length-link-bytes}
 use Rattle.lists.proofs.Overwrite.{sets-append}
 use Rattle.lists.proofs.Map.{length-map, flatMap-append, take-map}
+use Rattle.mesh.specs.Limits.{max-neighbours}
 use Rattle.rows.specs.Rows.{row-listed}
 use Rattle.link_list.specs.Links.{neighbours-above, links-to, links-from, Rows-listed, Cursor-good, Span-of}
 use Rattle.link_list.proofs.AboveLaws.{span-count, span-rest}
@@ -114,7 +115,7 @@ pub record Row-left (ts : List ℕ) (row place : ℕ) (list : List ℕ) (s e : �
 pub row-left : (n : ℕ) (ts : List ℕ) (room row place : ℕ) (list : List ℕ) (s e : ℕ) → Rows-listed n ts room → Cursor-good n ts row place → row < n
     → length list ≡ room → Span-of ts row list s e → Row-left ts row place list s e
 row-left n ts room row place list s e rows good h kept g =
-    let fits : length (row-listed ts row) ≤ length list = omega (arith, rows .few row h) in
+    let fits : length (row-listed ts row) ≤ min (length list) (suc max-neighbours) = omega (arith, rows .few row h) in
     let count : e - s ≡ length (neighbours-above ts row) = span-count ts row list s e g fits in
     record { within = omega (arith, good .place h, g .start); end = g .end; count = count; is = span-rest ts row list s e g fits place }
 

@@ -11,16 +11,16 @@ use lib.Dec.{ltb, leb}
 use lib.ListN.{length, getD, take, drop, length-take, length-drop, take-append-drop}
 use lib.Seq.{take-all, drop-drop}
 use borrow.Author.Tests.{lt-ltb, le-ltb, leb-true, leb-false}
-use Rattle.mesh.specs.Limits.{max-radios, row-bytes}
+use Rattle.mesh.specs.Limits.{max-radios, max-neighbours, row-bytes}
 use Rattle.lists.specs.Lists.{range, filter, overwrite, In, Rising}
 use Rattle.mesh.specs.Tables.{marked}
 use Rattle.lists.proofs.Tests.{bool-cases}
 use Rattle.lists.proofs.Filter.{filter-all, filter-le}
 use Rattle.lists.proofs.Range.{length-range, getD-range}
 use Rattle.lists.proofs.Ascending.{rising-filter, rising-index, rising-left}
-use Rattle.lists.proofs.Overwrite.{take-overwrite}
 use Rattle.lists.proofs.Parts.{drop-take}
-use Rattle.rows.specs.Rows.{neighbours-of, row-listed}
+use Rattle.rows.specs.Rows.{neighbours-of, row-listed, row-count}
+use Rattle.rows.proofs.RowListLaws.{row-listed-taken}
 use Rattle.rows.proofs.RowWords.{row-listed-whole, row-listed-short}
 use Rattle.link_list.specs.Links.{neighbours-above, First-above, Span-of}
 
@@ -97,27 +97,27 @@ module _ (ts : List ℕ) (a : ℕ) where
 
   -- ---- the span of the neighbours above
 
-  pub span-listed : (before list : List ℕ) (s e : ℕ) → e ≡ min (length (row-listed ts a)) (length list)
-      → list ≡ overwrite (take (length before) (row-listed ts a)) before → length list ≡ length before → First-above (take e list) a s
-      → Span-of ts a list s e
+  pub span-listed : (before list : List ℕ) (s e : ℕ) → e ≡ min (length before) (row-count max-neighbours ts a)
+      → list ≡ overwrite (take (min (length before) (suc max-neighbours)) (row-listed ts a)) before → length list ≡ length before
+      → First-above (take e list) a s → Span-of ts a list s e
+  unfolding row-count
   span-listed before list s e count is long first =
-      let fitting : List ℕ = take (length list) (row-listed ts a) in
-      let k : e ≡ length fitting = omega (arith, length-take (length list) (row-listed ts a)) in
-      let front : take e list ≡ fitting =
-      rw k (ap (take (length fitting)) (is ∙ rw (← long)) ∙ take-overwrite fitting before) in
+      let room : ℕ = min (length list) (suc max-neighbours) in
+      let fitting : List ℕ = take room (row-listed ts a) in
+      let front : take e list ≡ fitting = rw (← long) at (row-listed-taken max-neighbours ts a before list e count is) in
       record {
         start = omega (arith, first .low, length-take e list);
         end = omega arith;
         most = omega (arith, row-listed-most);
-        is = sym (drop-take s e list) ∙ ap (drop s) front ∙ sym (above-first fitting a s (rising-fitting (length list)) (rw front at first));
+        is = sym (drop-take s e list) ∙ ap (drop s) front ∙ sym (above-first fitting a s (rising-fitting room) (rw front at first));
       }
 
   -- ---- what a span holds, of a row that fits its list
 
-  module _ (list : List ℕ) (s e : ℕ) (g : Span-of ts a list s e) (fits : length (row-listed ts a) ≤ length list) where
+  module _ (list : List ℕ) (s e : ℕ) (g : Span-of ts a list s e) (fits : length (row-listed ts a) ≤ min (length list) (suc max-neighbours)) where
     pub span-is : take (e - s) (drop s list) ≡ neighbours-above ts a
     unfolding neighbours-above
-    span-is = g .is ∙ ap (filter (ltb a)) (take-all (length list) (row-listed ts a) fits)
+    span-is = g .is ∙ ap (filter (ltb a)) (take-all (min (length list) (suc max-neighbours)) (row-listed ts a) fits)
 
     pub span-count : e - s ≡ length (neighbours-above ts a)
     span-count = omega (arith, ap length span-is, length-take (e - s) (drop s list), length-drop s list, g .start, g .end)

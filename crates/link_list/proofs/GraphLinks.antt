@@ -5,12 +5,12 @@
 use mathlib.Core.Path.{_≡_, refl, ap, ap₂, _∙_}
 use mathlib.Core.Bool.{Bool, true}
 use mathlib.Core.List.{List, [], _++_, flatMap}
-use Prim.Native.Nat.{ℕ, zero, suc, _+_, _*_, _-_, _≤_, _<_}
+use Prim.Native.Nat.{ℕ, zero, suc, _+_, _*_, _-_, _≤_, _<_, min}
 use native.Mathlib.Omega.{arith}
 use lib.Dec.{ltb}
 use lib.ListN.{length}
 use borrow.Author.Tests.{lt-ltb, le-ltb}
-use Rattle.mesh.specs.Limits.{max-radios, row-bytes}
+use Rattle.mesh.specs.Limits.{max-radios, max-neighbours, row-bytes}
 use Rattle.lists.specs.Lists.{range, filter}
 use Rattle.mesh.specs.Graph.{Link}
 use Rattle.mesh.specs.Tables.{marked, row-links, graph-in}
@@ -23,9 +23,9 @@ use Rattle.rows.proofs.RowListLaws.{neighbours-of-filter, row-listed-radio, len
 use Rattle.link_list.specs.Links.{neighbours-above, links-to, links-above, links-from, Rows-listed}
 
 module _ (n : ℕ) (ts : List ℕ) (small : n ≤ max-radios) (long : length ts ≡ row-bytes * n) where
-  pub rows-listed-few : (most : ℕ) → few most n ts ≡ true → Rows-listed n ts most
-  rows-listed-few most h =
-      record { most = small; few = λ a l. omega (arith, length-row-listed-radio n ts long a l, few-of most n ts h a l) }
+  pub rows-listed-few : (room : ℕ) → few (min room (suc max-neighbours)) n ts ≡ true → Rows-listed n ts room
+  rows-listed-few room h =
+      record { most = small; few = λ a l. omega (arith, length-row-listed-radio n ts long a l, few-of (min room (suc max-neighbours)) n ts h a l) }
 
   module _ (w : within n ts ≡ true) where
     neighbours-above-row : (a : ℕ) → a < n → neighbours-above ts a ≡ filter (λ b. marked ts a b) (range (suc a) (n - suc a))

@@ -53,7 +53,7 @@ fn list_ascending(list: &[u16], answer: &mut [u16]) -> u32
 {
     let mut set = [0u8; Site::ROW_BYTES];
     mark_all(&mut set, list);
-    rows::row_neighbours(&set, 0, answer)
+    rows::list_set(&set, answer)
 }
 
 // The step of a call that changed so many radios: +1 going up, -1 going down, 0 when nothing changed.

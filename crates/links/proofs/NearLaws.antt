@@ -3,20 +3,21 @@
 use mathlib.Core.Path.{_≡_, refl, sym, ap, _∙_}
 use mathlib.Core.Bool.{Bool, _&&_, cond}
 use mathlib.Core.List.{List}
-use Prim.Native.Nat.{ℕ, _+_, _*_, _-_, _/_, _≤_, _<_}
+use Prim.Native.Nat.{ℕ, suc, _+_, _*_, _-_, _/_, _≤_, _<_, min}
 use native.Mathlib.Omega.{arith}
 use lib.Dec.{eqb}
 use lib.ListN.{length, getD, take, drop, length-drop}
 use lib.Seq.{take-all, getD-take, getD-drop, length-take-le}
 use borrow.Author.Tests.{eq-eqb, ne-eqb}
-use Rattle.mesh.specs.Limits.{max-radios, row-bytes}
+use Rattle.mesh.specs.Limits.{max-radios, max-neighbours, row-bytes}
 use Rattle.lists.specs.Lists.{range, overwrite}
 use Rattle.mesh.specs.Tables.{byte-at, marked, put-bit, put-link}
 use Rattle.lists.proofs.Range.{range-in}
 use Rattle.lists.proofs.Filter.{filter-ext}
-use Rattle.lists.proofs.Overwrite.{take-overwrite, overwrite-all}
+use Rattle.lists.proofs.Overwrite.{overwrite-all}
 use Rattle.mesh.proofs.Tables.Laws.{length-put-bit, marked-put-bit}
-use Rattle.rows.specs.Rows.{neighbours-of, row-listed}
+use Rattle.rows.specs.Rows.{neighbours-of, row-listed, row-count}
+use Rattle.rows.proofs.RowListLaws.{row-listed-fits}
 use Rattle.rows.proofs.RowWords.{row-listed-whole}
 use Rattle.links.specs.Turns.{released, places-released, Releasable, Near-ready, Lists-neighbours}
 
@@ -27,19 +28,13 @@ neighbours-of-ext ts us v w h =
     filter-ext (λ x. marked ts v x) (λ x. marked us w x) (range 0 max-radios) (λ x m. h x (omega (arith, range-in 0 max-radios x m)))
 
 -- what `row_neighbours` writes, where there is room
-pub lists-row : (ts : List ℕ) (v r : ℕ) (old new : List ℕ) → row-bytes * v + row-bytes ≤ length ts → length (neighbours-of ts v) ≤ length old
-    → r ≡ length (row-listed ts v) → new ≡ overwrite (take (length old) (row-listed ts v)) old → Lists-neighbours ts v r new
+pub lists-row : (ts : List ℕ) (v r : ℕ) (old new : List ℕ) → row-bytes * v + row-bytes ≤ length ts → length (neighbours-of ts v) ≤ min (length old) (suc max-neighbours)
+    → r ≡ min (length old) (row-count max-neighbours ts v)
+    → new ≡ overwrite (take (min (length old) (suc max-neighbours)) (row-listed ts v)) old → Lists-neighbours ts v r new
 lists-row ts v r old new whole room e f =
-    let xs = neighbours-of ts v in
     let is = row-listed-whole ts v whole in
-    let count : r ≡ length xs = e ∙ ap length is in
-    record {
-      counted = count;
-      listed =
-          ap (take r) (f ∙ ap (λ (z : List ℕ). overwrite (take (length old) z) old) is ∙ ap (λ (z : List ℕ). overwrite z old) (take-all (length old) xs room))
-          ∙ ap (λ (x : ℕ). take x (overwrite xs old)) count
-          ∙ take-overwrite xs old;
-    }
+    let all = row-listed-fits max-neighbours ts v old new r (omega (arith, ap length is, room)) e f in
+    record { counted = all .0 ∙ ap length is; listed = all .1 ∙ is }
 
 -- other rows that mark alike
 pub lists-same : {ts us : List ℕ} {v w : ℕ} (r : ℕ) (new : List ℕ) → neighbours-of ts v ≡ neighbours-of us w → Lists-neighbours ts v r new → Lists-neighbours us w r new
@@ -47,7 +42,7 @@ lists-same r new e h = record { counted = h .counted ∙ ap length e; listed = h
 
 -- the listed radios can be released, since the row's can
 pub near-released : (ts : List ℕ) (v k room : ℕ) (near ns ps : List ℕ) (level : ℕ) (cs : List ℕ) → Lists-neighbours ts v k near
-    → length (neighbours-of ts v) ≤ room → length near ≡ room → Releasable ns ps level (neighbours-of ts v) cs
+    → length (neighbours-of ts v) ≤ min room (suc max-neighbours) → length near ≡ room → Releasable ns ps level (neighbours-of ts v) cs
     → (k ≤ length near) × Releasable ns ps level (take k near) cs
 near-released ts v k room near ns ps level cs h fits long r = (omega (arith, h .counted), rw (h .listed) r)
 
@@ -79,9 +74,10 @@ module _ (u : Bool) (v w : ℕ) (ts row : List ℕ) (whole : row-bytes * v + row
 
 -- a part of the table copied, its bit put, its radios listed
 pub lists-copy : (u : Bool) (v w : ℕ) (ts row0 row1 row2 : List ℕ) (r : ℕ) (old new : List ℕ) → row-bytes * v + row-bytes ≤ length ts
-    → length row0 ≡ row-bytes → w < max-radios → length (neighbours-of (put-bit u v w ts) v) ≤ length old
+    → length row0 ≡ row-bytes → w < max-radios → length (neighbours-of (put-bit u v w ts) v) ≤ min (length old) (suc max-neighbours)
     → row1 ≡ overwrite (take (length row0) (take (row-bytes * v + row-bytes - row-bytes * v) (drop (row-bytes * v) ts))) row0 → row2 ≡ put-bit u 0 w row1
-    → r ≡ length (row-listed row2 0) → new ≡ overwrite (take (length old) (row-listed row2 0)) old → Lists-neighbours (put-bit u v w ts) v r new
+    → r ≡ min (length old) (row-count max-neighbours row2 0)
+    → new ≡ overwrite (take (min (length old) (suc max-neighbours)) (row-listed row2 0)) old → Lists-neighbours (put-bit u v w ts) v r new
 lists-copy u v w ts row0 row1 row2 r old new whole long small room e f g h =
     let part = take row-bytes (drop (row-bytes * v) ts) in
     let cut : length part ≡ row-bytes = length-take-le row-bytes (drop (row-bytes * v) ts) (omega (arith, length-drop (row-bytes * v) ts)) in
@@ -125,7 +121,7 @@ module _ (u : Bool) (a b : ℕ) (ts : List ℕ) (ne : a ≡ b → ⊥) (la : a <
 
 module _ (u : Bool) (a b v : ℕ) (ts : List ℕ) (j : ℕ) where
   pub end-ready-a : (k : ℕ) → v ≡ a → Near-ready u a b v ts j k
-      → (row-bytes * v + row-bytes ≤ length ts) × (j ≡ row-bytes) × (b < max-radios) × (length (neighbours-of (put-bit u v b ts) v) ≤ k)
+      → (row-bytes * v + row-bytes ≤ length ts) × (j ≡ row-bytes) × (b < max-radios) × (length (neighbours-of (put-bit u v b ts) v) ≤ min k (suc max-neighbours))
   end-ready-a k e h = (
     h .row,
     h .row-long,
@@ -134,7 +130,7 @@ module _ (u : Bool) (a b v : ℕ) (ts : List ℕ) (j : ℕ) where
   )
 
   pub end-ready-b : (k : ℕ) → v ≡ b → Near-ready u a b v ts j k
-      → (row-bytes * v + row-bytes ≤ length ts) × (j ≡ row-bytes) × (a < max-radios) × (length (neighbours-of (put-bit u v a ts) v) ≤ k)
+      → (row-bytes * v + row-bytes ≤ length ts) × (j ≡ row-bytes) × (a < max-radios) × (length (neighbours-of (put-bit u v a ts) v) ≤ min k (suc max-neighbours))
   end-ready-b k e h = (
     h .row,
     h .row-long,
@@ -151,8 +147,9 @@ module _ (u : Bool) (a b v : ℕ) (ts : List ℕ) (j : ℕ) where
     lists-b e h =
         rw e (lists-same r new (neighbours-of-b u a b ts (h .differ) (h .radios .0) (h .radios .1) (h .rows .0) (h .rows .1)))
 
-  pub lists-other : (r : ℕ) (old new : List ℕ) → (v ≡ a → ⊥) → (v ≡ b → ⊥) → Near-ready u a b v ts j (length old) → r ≡ length (row-listed ts v)
-      → new ≡ overwrite (take (length old) (row-listed ts v)) old → Lists-neighbours (put-link u a b ts) v r new
+  pub lists-other : (r : ℕ) (old new : List ℕ) → (v ≡ a → ⊥) → (v ≡ b → ⊥) → Near-ready u a b v ts j (length old)
+      → r ≡ min (length old) (row-count max-neighbours ts v)
+      → new ≡ overwrite (take (min (length old) (suc max-neighbours)) (row-listed ts v)) old → Lists-neighbours (put-link u a b ts) v r new
   lists-other r old new na nb h e f =
       let same = neighbours-of-other u a b ts (h .differ) (h .radios .0) (h .radios .1) (h .rows .0) (h .rows .1) v na nb in
       lists-same r new same (lists-row ts v r old new (h .row) (omega (arith, ap length same, h .near-long)) e f)

@@ -12,10 +12,10 @@
 use mathlib.Core.Path.{_≡_}
 use mathlib.Core.Bool.{Bool, true, false, _&&_}
 use mathlib.Core.List.{List, []}
-use Prim.Native.Nat.{ℕ, _+_, _*_, _≤_, _<_}
+use Prim.Native.Nat.{ℕ, suc, _+_, _*_, _≤_, _<_, min}
 use lib.Dec.{ltb, leb, eqb}
 use lib.ListN.{length, getD, take, drop}
-use Rattle.mesh.specs.Limits.{max-radios, row-bytes}
+use Rattle.mesh.specs.Limits.{max-radios, max-neighbours, row-bytes}
 use Rattle.lists.specs.Lists.{count, filter, member, In}
 use Rattle.mesh.specs.Graph.{linked, relinked}
 use Rattle.mesh.specs.Tables.{marked, put-link, graph-in}
@@ -71,7 +71,7 @@ pub record Peel-ready (up : Bool) (a b k most : ℕ) (links numbers order places
   pub links-length : length links ≡ row-bytes * length order
   pub row-is :
       (v w : ℕ) → v < length order → w < max-radios → marked (put-link up a b links) v w ≡ linked-after up a b (length order) links v w
-  pub few : (v : ℕ) → v < length order → length (neighbours-of (put-link up a b links) v) ≤ near-room
+  pub few : (v : ℕ) → v < length order → length (neighbours-of (put-link up a b links) v) ≤ min near-room (suc max-neighbours)
   pub row-long : row-room ≡ row-bytes
   pub list-long : level-size numbers k ≤ list-room
   pub turning :

@@ -15,10 +15,10 @@ use mathlib.Core.Path.{_≡_}
 use mathlib.Core.Logic.{_⊎_}
 use mathlib.Core.Bool.{Bool, true, false, _&&_, cond}
 use mathlib.Core.List.{List, [], _∷_}
-use Prim.Native.Nat.{ℕ, _+_, _*_, _-_, _≤_, _<_}
+use Prim.Native.Nat.{ℕ, suc, _+_, _*_, _-_, _≤_, _<_, min}
 use lib.Dec.{leb, eqb}
 use lib.ListN.{length, getD, set, take}
-use Rattle.mesh.specs.Limits.{max-radios, row-bytes}
+use Rattle.mesh.specs.Limits.{max-radios, max-neighbours, row-bytes}
 use Rattle.mesh.specs.Tables.{put-bit, put-link}
 use Rattle.lists.specs.Lists.{In, Distinct}
 use Rattle.rows.specs.Rows.{neighbours-of}
@@ -69,7 +69,7 @@ pub record Near-ready (up : Bool) (a b v : ℕ) (links : List ℕ) (row-room nea
   pub rows : (row-bytes * a + row-bytes ≤ length links) × (row-bytes * b + row-bytes ≤ length links)
   pub row : row-bytes * v + row-bytes ≤ length links
   pub row-long : row-room ≡ row-bytes
-  pub near-long : length (neighbours-of (put-link up a b links) v) ≤ near-room
+  pub near-long : length (neighbours-of (put-link up a b links) v) ≤ min near-room (suc max-neighbours)
 
 pub record Lists-neighbours (links : List ℕ) (v r : ℕ) (near : List ℕ) : Type 0 where
   pub counted : r ≡ length (neighbours-of links v)

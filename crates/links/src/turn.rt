@@ -1,9 +1,9 @@
 // One turn of the peel: a radio is taken, and its neighbours after the call have one neighbour less that can still be taken.
 ghost use mathlib.Core.Path.{_≡_};
 ghost use mathlib.Core.Bool.{false};
-ghost use Prim.Native.Nat.{ℕ, _≤_, _<_, _+_, _*_};
+ghost use Prim.Native.Nat.{ℕ, suc, _≤_, _<_, _+_, _*_, min};
 ghost use lib.ListN.{length, getD, take};
-ghost use Rattle.mesh.specs.Limits.{max-radios, row-bytes};
+ghost use Rattle.mesh.specs.Limits.{max-radios, max-neighbours, row-bytes};
 ghost use Rattle.lists.specs.Lists.{range};
 ghost use Rattle.mesh.specs.Tables.{put-bit, put-link};
 ghost use Rattle.rows.specs.Rows.{neighbours-of};
@@ -107,9 +107,9 @@ fn release(
 
 // Writes the radios that row v marks, once its bit w is set or cleared, into the list, ascending, and comes back with their count.
 // The row is scratch.
-fn end_neighbours(up: bool, v: u32, w: u32, links: &[u8], row: &mut [u8], near: &mut [u16]) -> u32
+fn end_neighbours(up: bool, v: u32, w: u32, links: &[u8], row: &mut [u8], near: &mut [u16]) -> u8
     requires { ⌜ (row-bytes * v + row-bytes ≤ length (now links)) × (length (now row) ≡ row-bytes) × (w < max-radios) ×
-        (length (neighbours-of (put-bit up v w (now links)) v) ≤ length (now near)) ⌝ }
+        (length (neighbours-of (put-bit up v w (now links)) v) ≤ min (length (now near)) (suc max-neighbours)) ⌝ }
     ensures { λ r. ⌜ Lists-neighbours (put-bit up v w (now (links .entry))) v r (now (near .exit)) ⌝ }
 {
     let start = mesh::Site::ROW_BYTES * v as usize;
@@ -129,7 +129,7 @@ fn neighbours_after(
     links: &[u8],
     row: &mut [u8],
     near: &mut [u16],
-) -> u32
+) -> u8
     requires { ⌜ Near-ready up a b v (now links) (length (now row)) (length (now near)) ⌝ }
     ensures { λ r. ⌜ Lists-neighbours (put-link up a b (now (links .entry))) v r (now (near .exit)) ⌝ }
 {

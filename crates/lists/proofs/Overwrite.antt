@@ -3,16 +3,17 @@ use mathlib.Core.Path.{_≡_, refl, ap, _∙_, sym, ap₂}
 use mathlib.Core.Logic.{_⊎_, inl, inr}
 use mathlib.Core.Bool.{cond, true, false}
 use mathlib.Core.List.{List, [], _∷_, _++_, map, append-nil, append-assoc}
-use Prim.Native.Nat.{ℕ, zero, suc, _+_, _<_, _≤_, min}
+use Prim.Native.Nat.{ℕ, zero, suc, _+_, _-_, _<_, _≤_, min}
 use native.Mathlib.Omega.{arith}
 use native.Mathlib.Nat.{zero-add}
-use lib.ListN.{length, take, drop, set, drop-of-length-le, getD, length-append}
-use lib.Seq.{take-at, take-all, drop-cons, set-at, set-append-left, getD-take, sets, set-out, drop-nil, drop-at}
+use lib.ListN.{length, take, drop, set, drop-of-length-le, getD, length-append, take-append-drop}
+use lib.Seq.{take-at, take-all, drop-cons, set-at, set-append-left, getD-take, sets, set-out, drop-nil, drop-at, drop-drop}
 use lib.Dec.{eqb, ltb}
 use borrow.Author.Tests.{eq-eqb, ne-eqb, ltb-true, ltb-false}
 use Rattle.lists.specs.Lists.{overwrite, range}
 use Rattle.lists.proofs.Map.{map-range-ext, length-map, getD-map-range}
 use Rattle.lists.proofs.Range.{length-range}
+use Rattle.lists.proofs.Parts.{drop-take}
 use Rattle.lists.proofs.Tests.{bool-cases}
 
 pub take-overwrite : {A : Type 0} (new old : List A) → take (length new) (overwrite new old) ≡ new
@@ -110,6 +111,23 @@ sets-min old i xs = go (bool-cases (ltb i (length old)))
     go (inr e) =
         let l = ltb-false i (length old) e in
         sets-full old (min (length old) i) xs (omega arith) ∙ sym (sets-full old i xs l)
+
+-- stores from a place on leave what stands before it
+pub sets-drop : (old : List ℕ) (i : ℕ) (xs : List ℕ) → i ≤ length old → take i old ++ sets (drop i old) 0 xs ≡ sets old i xs
+sets-drop old zero xs h = refl
+sets-drop [] (suc i) xs h = absurd (omega arith)
+sets-drop (y ∷ old) (suc i) xs h = ap {B = List ℕ} (λ zs. y ∷ zs) (sets-drop old i xs (omega arith)) ∙ sym (sets-cons y old i xs)
+
+-- new entries in front of a part that has room for them
+pub overwrite-part : (new old : List ℕ) (k : ℕ) → length new ≤ k → overwrite new (take k old) ++ drop k old ≡ overwrite new old
+unfolding overwrite
+overwrite-part new old k h =
+    let m = length new in
+    let all : m + (k - m) ≡ k = omega arith in
+    append-assoc new (drop m (take k old)) (drop k old)
+    ∙ ap (λ (z : List ℕ). new ++ z)
+    (ap₂ (λ (y z : List ℕ). y ++ z) (drop-take m k old) (ap (λ (j : ℕ). drop j old) (sym all) ∙ sym (drop-drop (k - m) m old))
+    ∙ take-append-drop (k - m) (drop m old))
 
 -- as many new entries as there are old ones
 pub overwrite-all : (new old : List ℕ) → length old ≤ length new → overwrite new old ≡ new

@@ -9,6 +9,7 @@ use lib.ListN.{length, getD, drop, drop-of-length-le}
 use lib.Seq.{drop-cons}
 use borrow.Author.Tests.{eq-eqb, ne-eqb}
 use Rattle.lists.specs.Lists.{overwrite}
+use Rattle.mesh.specs.Limits.{max-neighbours}
 use Rattle.mesh.specs.Cores.{number}
 use Rattle.mesh.specs.Tables.{Tables, marked}
 use Rattle.mesh.specs.Sound.{sound}
@@ -17,9 +18,9 @@ use Rattle.calls.specs.Contracts.Radios.{first-of-two, Number-contract, Neighbo
 use Rattle.calls.specs.declared.Value.{Value}
 use Rattle.calls.proofs.ChainLaws.{radio-zero, pair-zero}
 use Rattle.calls.proofs.ContractLaws.{answer, value-refused, value-answered}
-use Rattle.rows.specs.Rows.{row-listed}
+use Rattle.rows.specs.Rows.{row-count}
 use Rattle.lists.proofs.Tests.{byte-bit}
-use Rattle.soundness.proofs.SoundSite.{Sound-site, site-good-sound, linked-marked, number-entry, degree-listed}
+use Rattle.soundness.proofs.SoundSite.{Sound-site, site-good-sound, linked-marked, number-entry, degree-counted}
 
 -- ---- one radio
 
@@ -43,9 +44,9 @@ module _ (n v : ℕ) (t : Tables) where
     unfolding Number-contract
     number-answered = value-answered _ _ _ e (number-entry n t radio-site v radio-below)
 
-    pub neighbours-answered : (x : ℕ) → x ≡ length (row-listed (t .links) v) → Neighbours-contract n v t (answer 0 x)
+    pub neighbours-answered : (x : ℕ) → x ≡ row-count max-neighbours (t .links) v → Neighbours-contract n v t (answer 0 x)
     unfolding Neighbours-contract
-    neighbours-answered x h = value-answered _ _ _ e (h ∙ degree-listed n t radio-site v radio-below)
+    neighbours-answered x h = value-answered _ _ _ e (h ∙ degree-counted n t radio-site v radio-below)
 
 -- ---- two radios
 

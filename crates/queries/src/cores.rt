@@ -60,6 +60,6 @@ pub fn core<'a>(
     floods::flood::flood(links, numbers, k as u8, v, &mut set, &mut queue);
     Value {
         number: 0,
-        value: rows::row_neighbours(&set, 0, answer),
+        value: rows::list_set(&set, answer),
     }
 }

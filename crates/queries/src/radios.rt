@@ -76,7 +76,7 @@ pub fn neighbours<'a>(n: u32, v: u32, links: &'a [u8], numbers: &'a [u8], order:
     }
     Value {
         number: 0,
-        value: rows::row_degree(links, v),
+        value: rows::row_degree(links, v) as u32,
     }
 }
 

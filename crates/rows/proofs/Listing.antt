@@ -1,17 +1,19 @@
 -- A list of radios written entry by entry into a lent list, as a loop's invariant: what is left gives what the whole gives.
--- In order: a loop that stops when the list is full, the set bits of a word.
+-- In order: a loop that stops when the list is full, a part of a list, the set bits of a word.
 use mathlib.Core.Path.{_≡_, refl, sym, ap, _∙_}
-use mathlib.Core.List.{List, [], _∷_, _++_}
+use mathlib.Core.List.{List, [], _∷_, _++_, append-nil}
 use Prim.Native.Nat.{ℕ, _+_, _-_, _^_, _≤_, _<_, min}
 use native.Mathlib.Omega.{arith}
 use native.Mathlib.Numerals.{add-one}
 use lib.Bits.{bitAnd, and-le-l}
 use lib.Count.{trailingZeros}
-use lib.ListN.{length, set, length-set, length-append}
-use lib.Seq.{sets, length-sets}
+use lib.ListN.{length, set, take, drop, length-set, length-append, length-take, length-drop}
+use lib.Seq.{sets, length-sets, take-all, drop-length, length-take-le}
+use borrow.Rule.Slice.PartMut.{midOf, postOf, putMid, post-is}
+use Rattle.lists.specs.Lists.{overwrite}
 use Rattle.rows.specs.Rows.{set-bits}
 use Rattle.rows.proofs.WordLaws.{set-bits-lowest}
-use Rattle.lists.proofs.Overwrite.{sets-append, sets-full, sets-min}
+use Rattle.lists.proofs.Overwrite.{sets-append, sets-full, sets-min, sets-drop, overwrite-part}
 
 -- ---- a loop that stops when the list is full
 
@@ -61,6 +63,23 @@ module _ {whole : List ℕ} {count : ℕ} {old : List ℕ} where
   pub partial-full : (rest : List ℕ) (n : ℕ) (list : List ℕ) → length list ≤ n → Partial-listing whole count old rest n list
       → (n ≡ min (length old) (count + length whole)) × (list ≡ sets old count whole)
   partial-full rest n list l h = (omega (arith, h .counted, h .inside, h .long), sym (sets-full list n rest l) ∙ h .listed)
+
+-- ---- a part of a list
+
+-- entries written into the part from place i on
+pub put-rest : (list new xs : List ℕ) (i : ℕ) → i ≤ length list → new ≡ sets (midOf i (length list - i) list) 0 xs
+    → putMid i (length list - i) list new ≡ sets list i xs
+put-rest list new xs i h e =
+    let whole = take-all (length list - i) (drop i list) (omega (arith, length-drop i list)) in
+    let none : postOf i (length list - i) list ≡ [] = post-is i (length list) list h ∙ drop-length list in
+    ap (λ (z : List ℕ). take i list ++ z) (rw none (append-nil new) ∙ e ∙ ap (λ (z : List ℕ). sets z 0 xs) whole) ∙ sets-drop list i xs h
+
+-- as many as fit its first k entries
+pub put-front : (list new xs : List ℕ) (k : ℕ) → k ≤ length list → new ≡ overwrite (take (length (take k list)) xs) (take k list)
+    → new ++ drop k list ≡ overwrite (take k xs) list
+put-front list new xs k h e =
+    ap (λ (z : List ℕ). z ++ drop k list) (e ∙ ap (λ (m : ℕ). overwrite (take m xs) (take k list)) (length-take-le k list h))
+    ∙ overwrite-part (take k xs) list k (omega (arith, length-take k xs))
 
 -- ---- the set bits of a word, the lowest first
 

@@ -1,21 +1,28 @@
 -- The neighbours that a row of the links table marks, as a list: laws for callers.
--- In order: ascending entries, neighbours-of (order, repeats, membership, counts), the graph that the table marks, row-listed.
+-- In order: ascending entries, neighbours-of (order, repeats, membership, counts), the graph that the table marks, row-listed,
+-- row-count.
 use mathlib.Core.Path.{_≡_, sym, ap, _∙_}
+use mathlib.Core.Logic.{_⊎_, inl, inr}
 use mathlib.Core.Bool.{Bool, true, false, _&&_}
 use mathlib.Core.List.{List, _++_, append-nil}
-use Prim.Native.Nat.{ℕ, _+_, _*_, _-_, _≤_, _<_}
+use Prim.Native.Nat.{ℕ, suc, _+_, _*_, _-_, _≤_, _<_, min}
 use native.Mathlib.Omega.{arith}
-use lib.ListN.{length}
+use lib.Dec.{leb}
+use lib.ListN.{length, take, length-take}
+use lib.Seq.{take-all}
+use borrow.Author.Tests.{leb-true, leb-false, le-leb, lt-leb}
 use Rattle.mesh.specs.Limits.{max-radios, row-bytes}
-use Rattle.lists.specs.Lists.{range, count, filter, member, In, Distinct, Ascending}
+use Rattle.lists.specs.Lists.{range, count, filter, member, overwrite, In, Distinct, Ascending}
 use Rattle.mesh.specs.Graph.{linked}
 use Rattle.mesh.specs.Tables.{marked, graph-in}
 use Rattle.mesh.specs.Sound.{symmetric, irreflexive, within, row-degree}
+use Rattle.lists.proofs.Tests.{bool-cases}
 use Rattle.lists.proofs.Range.{in-range, range-in, distinct-range, range-append}
 use Rattle.lists.proofs.Filter.{in-filter, member-filter, count-filter, length-filter, filter-none, filter-ext, filter-append, distinct-filter}
+use Rattle.lists.proofs.Overwrite.{take-overwrite}
 use Rattle.mesh.proofs.Tables.Rows.{within-of}
 use Rattle.mesh.proofs.Tables.ReadBack.{linked-graph-in}
-use Rattle.rows.specs.Rows.{neighbours-of, row-listed}
+use Rattle.rows.specs.Rows.{neighbours-of, row-listed, row-count}
 use Rattle.rows.proofs.RowWords.{row-listed-whole}
 use Rattle.lists.proofs.Ascending.{ascending-range, ascending-filter}
 
@@ -80,3 +87,49 @@ row-listed-radio n ts e a h = row-listed-whole ts a (omega arith)
 
 pub length-row-listed-radio : (n : ℕ) (ts : List ℕ) → length ts ≡ row-bytes * n → (a : ℕ) → a < n → length (row-listed ts a) ≡ row-degree ts a
 length-row-listed-radio n ts e a h = ap length (row-listed-radio n ts e a h) ∙ length-neighbours-of ts a
+
+-- what is listed of a row in front of a list, and how many that are
+pub row-listed-taken : (most : ℕ) (ts : List ℕ) (a : ℕ) (old new : List ℕ) (r : ℕ) → r ≡ min (length old) (row-count most ts a)
+    → new ≡ overwrite (take (min (length old) (suc most)) (row-listed ts a)) old → take r new ≡ take (min (length old) (suc most)) (row-listed ts a)
+unfolding row-count
+row-listed-taken most ts a old new r e f =
+    let xs = take (min (length old) (suc most)) (row-listed ts a) in
+    let count : r ≡ length xs = omega (arith, e, length-take (min (length old) (suc most)) (row-listed ts a)) in
+    ap (take r) f ∙ ap (λ (k : ℕ). take k (overwrite xs old)) count ∙ take-overwrite xs old
+
+-- a row that the list has room for
+pub row-listed-fits : (most : ℕ) (ts : List ℕ) (a : ℕ) (old new : List ℕ) (r : ℕ) → length (row-listed ts a) ≤ min (length old) (suc most)
+    → r ≡ min (length old) (row-count most ts a) → new ≡ overwrite (take (min (length old) (suc most)) (row-listed ts a)) old
+    → (r ≡ length (row-listed ts a)) × (take r new ≡ row-listed ts a)
+unfolding row-count
+row-listed-fits most ts a old new r fits e f = (
+  omega (arith, e, fits),
+  row-listed-taken most ts a old new r e f ∙ take-all (min (length old) (suc most)) (row-listed ts a) fits,
+)
+
+-- ---- row-count
+
+-- no further than `most`: all of the row
+pub row-count-few : (most n : ℕ) (ts : List ℕ) → length ts ≡ row-bytes * n → (a : ℕ) → a < n → row-degree ts a ≤ most
+    → row-count most ts a ≡ row-degree ts a
+unfolding row-count
+row-count-few most n ts e a h few = omega (arith, length-row-listed-radio n ts e a h)
+
+-- past `most`: one past it, whatever the row marks
+pub row-count-many : (most n : ℕ) (ts : List ℕ) → length ts ≡ row-bytes * n → (a : ℕ) → a < n → most < row-degree ts a
+    → row-count most ts a ≡ suc most
+unfolding row-count
+row-count-many most n ts e a h many = omega (arith, length-row-listed-radio n ts e a h)
+
+-- the stop does not change what a limit of `most` says of any row
+pub row-count-most : (most n : ℕ) (ts : List ℕ) → length ts ≡ row-bytes * n → (a : ℕ) → a < n
+    → leb (row-count most ts a) most ≡ leb (row-degree ts a) most
+unfolding row-count
+row-count-most most n ts e a h = go (bool-cases (leb (row-degree ts a) most))
+  where
+    long : length (row-listed ts a) ≡ row-degree ts a
+    long = length-row-listed-radio n ts e a h
+
+    go : (leb (row-degree ts a) most ≡ true) ⊎ (leb (row-degree ts a) most ≡ false) → leb (row-count most ts a) most ≡ leb (row-degree ts a) most
+    go (inl f) = le-leb (row-count most ts a) most (omega (arith, long, leb-true (row-degree ts a) most f)) ∙ sym f
+    go (inr f) = lt-leb (row-count most ts a) most (omega (arith, long, leb-false (row-degree ts a) most f)) ∙ sym f

@@ -1,20 +1,20 @@
 -- A row of the links table read word by word, as the loops over its words go: what is left of the row from word k on.
 use mathlib.Core.Path.{_≡_, refl, sym, ap, _∙_}
 use mathlib.Core.List.{List, [], _++_}
-use Prim.Native.Nat.{ℕ, _+_, _*_, _-_, _/_, _%_, _^_, _≤_, _<_, min}
+use Prim.Native.Nat.{ℕ, suc, _+_, _*_, _-_, _/_, _%_, _^_, _≤_, _<_, min}
 use native.Mathlib.Omega.{arith}
 use lib.ListN.{length, getD, take, length-append}
-use lib.Seq.{sets}
+use lib.Seq.{sets, length-sets}
 use lib.Count.{ones, trailingZeros}
 use borrow.Author.Tests.{le-leb, lt-leb}
-use Rattle.mesh.specs.Limits.{max-radios, row-bytes}
+use Rattle.mesh.specs.Limits.{max-radios, max-neighbours, row-bytes}
 use Rattle.lists.specs.Lists.{range, filter, head-or, overwrite}
 use Rattle.mesh.specs.Tables.{digit, byte-at, marked}
 use Rattle.lists.proofs.Filter.{filter-append}
-use Rattle.rows.specs.Rows.{neighbours-of, row-listed, set-bits, row-word}
+use Rattle.rows.specs.Rows.{neighbours-of, row-listed, row-count, set-bits, row-word}
 use Rattle.rows.proofs.WordLaws.{set-bits-filter, set-bits-nothing, set-bits-lowest, length-set-bits, length-set-bits-le, word-at-less, digit-word-at}
 use Rattle.lists.proofs.Range.{range-append}
-use Rattle.lists.proofs.Overwrite.{sets-front}
+use Rattle.lists.proofs.Overwrite.{sets-front, sets-append}
 use Rattle.rows.proofs.Listing.{Partial-listing, partial-part, partial-end}
 
 -- ---- row-listed: the whole row, or none of it
@@ -65,40 +65,107 @@ row-from-word ts bytes a k h =
 
 -- ---- one word more, as the loops' invariants have it
 
--- n bits counted before word k
-abbrev pub Row-counting : (links : List ℕ) → (a n k : ℕ) → Type 0
-Row-counting ts a n k = (k ≤ 8) × (n ≤ 64 * k) × (n + length (row-from ts a k) ≡ length (neighbours-of ts a))
-
-pub row-counting-turn : (ts : List ℕ) → ((j : ℕ) → getD ts j 0 < 256) → (a n k w : ℕ) → k < 8 → w ≡ row-word 8 ts (row-bytes * a + 8 * k)
-    → Row-counting ts a n k → Row-counting ts a (n + ones w) (k + 1)
-row-counting-turn ts bytes a n k w h e i =
+-- word k of a row: how many radios it marks, and how many are left behind it
+pub length-row-from : (ts : List ℕ) → ((j : ℕ) → getD ts j 0 < 256) → (a k w : ℕ) → k < 8 → w ≡ row-word 8 ts (row-bytes * a + 8 * k)
+    → (ones w ≤ 64) × (length (row-from ts a k) ≡ ones w + length (row-from ts a (k + 1)))
+length-row-from ts bytes a k w h e =
     let word = row-word 8 ts (row-bytes * a + 8 * k) in
     let bits = set-bits 64 (64 * k) word in
     let counted : length bits ≡ ones w = length-set-bits 64 (64 * k) word (word-at-less ts bytes (row-bytes * a + 8 * k) 8) ∙ ap ones (sym e) in (
-      omega arith,
-      omega (arith, length-set-bits-le 64 (64 * k) word, i .1),
-      omega (arith, i .2, ap length (row-from-word ts bytes a k h), length-append bits (row-from ts a (k + 1))),
+      omega (arith, length-set-bits-le 64 (64 * k) word),
+      omega (arith, ap length (row-from-word ts bytes a k h), length-append bits (row-from ts a (k + 1))),
     )
+
+-- n radios counted before word k, no more than a row may mark
+abbrev pub Row-counting : (links : List ℕ) → (a n k : ℕ) → Type 0
+Row-counting ts a n k = (k ≤ 8) × (n ≤ max-neighbours) × (n + length (row-from ts a k) ≡ length (neighbours-of ts a))
+
+pub row-counting-turn : (ts : List ℕ) → ((j : ℕ) → getD ts j 0 < 256) → (a n k w : ℕ) → k < 8 → w ≡ row-word 8 ts (row-bytes * a + 8 * k)
+    → n + ones w ≤ max-neighbours → Row-counting ts a n k → Row-counting ts a (n + ones w) (k + 1)
+row-counting-turn ts bytes a n k w h e few i = (omega arith, few, omega (arith, i .2, length-row-from ts bytes a k w h e .1))
+
+-- the count stops
+pub row-counting-stop : (ts : List ℕ) → ((j : ℕ) → getD ts j 0 < 256) → (a n k w : ℕ) → k < 8 → w ≡ row-word 8 ts (row-bytes * a + 8 * k)
+    → row-bytes * a + row-bytes ≤ length ts → suc max-neighbours ≤ n + ones w → Row-counting ts a n k → suc max-neighbours ≡ row-count max-neighbours ts a
+unfolding row-count
+row-counting-stop ts bytes a n k w h e l many i =
+    omega (arith, i .2, length-row-from ts bytes a k w h e .1, ap length (row-listed-whole ts a l))
+
+pub row-counting-end : (ts : List ℕ) (a n k : ℕ) → 8 ≤ k → row-bytes * a + row-bytes ≤ length ts → Row-counting ts a n k → n ≡ row-count max-neighbours ts a
+unfolding row-count
+row-counting-end ts a n k h l i = omega (arith, i .1, i .2, ap length (row-from-end ts a k h), ap length (row-listed-whole ts a l))
 
 -- the neighbours before word k listed
 abbrev pub Row-listing : (links : List ℕ) → (a : ℕ) → (old : List ℕ) → (n k : ℕ) → (list : List ℕ) → Type 0
-Row-listing ts a old n k list = (k ≤ 8) × (n ≤ 64 * k) × Partial-listing (neighbours-of ts a) 0 old (row-from ts a k) n list
+Row-listing ts a old n k list = (k ≤ 8) × Partial-listing (neighbours-of ts a) 0 old (row-from ts a k) n list
 
 pub row-listing-turn : (ts : List ℕ) → ((j : ℕ) → getD ts j 0 < 256) → (a : ℕ) (old : List ℕ) (n k w m : ℕ) (list new : List ℕ) → k < 8
     → w ≡ row-word 8 ts (row-bytes * a + 8 * k) → m ≡ min (length list) (n + length (set-bits 64 (64 * k) w)) → new ≡ sets list n (set-bits 64 (64 * k) w)
     → Row-listing ts a old n k list → Row-listing ts a old m (k + 1) new
 row-listing-turn ts bytes a old n k w m list new h e f g i = (
   omega arith,
-  omega (arith, length-set-bits-le 64 (64 * k) w, i .1),
-  rw (f, g, e) (partial-part (set-bits 64 (64 * k) (row-word 8 ts (row-bytes * a + 8 * k))) (row-from ts a (k + 1)) n list (rw (row-from-word ts bytes a k h) at (i .2))),
+  rw (f, g, e) (partial-part (set-bits 64 (64 * k) (row-word 8 ts (row-bytes * a + 8 * k))) (row-from ts a (k + 1)) n list (rw (row-from-word ts bytes a k h) at (i .1))),
 )
 
 pub row-listing-end : (ts : List ℕ) (a : ℕ) (old : List ℕ) (n k : ℕ) (list : List ℕ) → 8 ≤ k → row-bytes * a + row-bytes ≤ length ts
     → Row-listing ts a old n k list
     → (n ≡ min (length old) (length (row-listed ts a))) × (list ≡ overwrite (take (length old) (row-listed ts a)) old)
 row-listing-end ts a old n k list h l i =
-    let at-end = partial-end (row-from ts a k) n list (row-from-end ts a k h) (i .2) in
+    let at-end = partial-end (row-from ts a k) n list (row-from-end ts a k h) (i .1) in
     rw (row-listed-whole ts a l) (omega (arith, at-end .0), at-end .1 ∙ sets-front old (neighbours-of ts a))
+
+-- ---- a set, kept as one row: all radios counted, as many listed as fit
+
+pub record Set-listing (set old : List ℕ) (n k : ℕ) (list : List ℕ) : Type 0 where
+  pub low : k ≤ 8
+  pub few : n ≤ 64 * k
+  pub long : length list ≡ length old
+  pub counted : n + length (row-from set 0 k) ≡ length (neighbours-of set 0)
+  pub listed : sets list n (row-from set 0 k) ≡ sets old 0 (neighbours-of set 0)
+
+pub set-listing-none : (set old : List ℕ) → Set-listing set old 0 0 old
+set-listing-none set old = record {
+  low = omega arith;
+  few = omega arith;
+  long = refl;
+  counted = omega (arith, ap length (row-from-zero set 0));
+  listed = ap (sets old 0) (row-from-zero set 0);
+}
+
+module _ (set : List ℕ) (bytes : (j : ℕ) → getD set j 0 < 256) (old : List ℕ) (n k w : ℕ) (list new : List ℕ) (h : k < 8)
+    (e : w ≡ row-word 8 set (8 * k)) where
+  set-word : w ≡ row-word 8 set (row-bytes * 0 + 8 * k)
+  set-word = e ∙ ap (row-word 8 set) (omega arith)
+
+  pub set-word-few : ones w ≤ 64
+  set-word-few = length-row-from set bytes 0 k w h set-word .0
+
+  pub set-listing-turn : new ≡ sets list n (set-bits 64 (64 * k) w) → Set-listing set old n k list → Set-listing set old (n + ones w) (k + 1) new
+  set-listing-turn g i =
+      let bits = set-bits 64 (64 * k) w in
+      let rest = row-from set 0 (k + 1) in
+      let count : length bits ≡ ones w =
+      length-set-bits 64 (64 * k) w (omega (arith, word-at-less set bytes (row-bytes * 0 + 8 * k) 8, set-word)) in
+      let split : row-from set 0 k ≡ bits ++ rest = row-from-word set bytes 0 k h ∙ ap (λ (x : ℕ). set-bits 64 (64 * k) x ++ rest) (sym set-word) in
+      record {
+        low = omega arith;
+        few = omega (arith, set-word-few, i .few);
+        long = ap length g ∙ length-sets list n bits ∙ i .long;
+        counted = omega (arith, i .counted, length-row-from set bytes 0 k w h set-word .1);
+        listed =
+            ap (λ (z : List ℕ). sets z (n + ones w) rest) g
+            ∙ ap (λ (m : ℕ). sets (sets list n bits) (n + m) rest) (sym count)
+            ∙ sym (sets-append list n bits rest)
+            ∙ ap (sets list n) (sym split)
+            ∙ i .listed;
+      }
+
+pub set-listing-end : (set old : List ℕ) (n k : ℕ) (list : List ℕ) → 8 ≤ k → row-bytes ≤ length set → Set-listing set old n k list
+    → (n ≡ length (row-listed set 0)) × (list ≡ overwrite (take (length old) (row-listed set 0)) old)
+set-listing-end set old n k list h l i =
+    let none = row-from-end set 0 k h in
+    rw (row-listed-whole set 0 (omega arith))
+    (omega (arith, i .counted, ap length none), ap (sets list n) (sym none) ∙ i .listed ∙ sets-front old (neighbours-of set 0))
 
 -- ---- the lowest radio of a row
 

@@ -1,12 +1,13 @@
 -- Rows of the links table, as lists of radios and as words.
 --   neighbours-of ts a    the radios that row a of the links table ts marks, ascending
 --   row-listed ts a       the same where row a lies whole in the table, else none
+--   row-count most ts a   how many radios row a marks, counted no further than one past `most`
 --   set-bits d i w        the places of the set bits among the d lowest of w, ascending, counted from i
 --   row-word k ts i        the k bytes of ts from place i on, as one number, lowest byte first
 -- Laws are in proofs/RowListLaws.antt and proofs/WordLaws.antt. Definitions only.
 use mathlib.Core.Bool.{cond}
 use mathlib.Core.List.{List, [], _∷_}
-use Prim.Native.Nat.{ℕ, zero, suc, _+_, _*_, _/_, _%_, _^_}
+use Prim.Native.Nat.{ℕ, zero, suc, _+_, _*_, _/_, _%_, _^_, min}
 use lib.Dec.{leb, eqb}
 use lib.ListN.{length, getD}
 use Rattle.mesh.specs.Limits.{max-radios, row-bytes}
@@ -18,6 +19,9 @@ neighbours-of ts a = filter (λ b. marked ts a b) (range 0 max-radios)
 
 unfoldable pub row-listed : (links : List ℕ) → (a : ℕ) → List ℕ
 row-listed ts a = cond (leb (row-bytes * a + row-bytes) (length ts)) (neighbours-of ts a) []
+
+unfoldable pub row-count : (most : ℕ) → (links : List ℕ) → (a : ℕ) → ℕ
+row-count most ts a = min (suc most) (length (row-listed ts a))
 
 unfoldable pub set-bits : (d i w : ℕ) → List ℕ
 set-bits zero i w = []

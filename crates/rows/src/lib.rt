@@ -1,19 +1,23 @@
-// Rows of the links table: one bit tested, set or cleared, a row's neighbours listed and counted, the lowest of them.
+// Rows of the links table: one bit tested, set or cleared, a row's neighbours listed and counted in a byte, the lowest of them;
+// the radios of a set listed.
 // The bits of a row are walked here and nowhere else.
 ghost use mathlib.Core.Path.{_≡_};
-ghost use Prim.Native.Nat.{_≤_, _+_, min};
+ghost use Prim.Native.Nat.{suc, _≤_, _+_, min};
 ghost use lib.ListN.{length, take};
 ghost use lib.Seq.{sets};
-ghost use Rattle.mesh.specs.Limits.{max-radios};
+ghost use Rattle.mesh.specs.Limits.{max-radios, max-neighbours};
 ghost use Rattle.lists.specs.Lists.{head-or, overwrite};
 ghost use Rattle.mesh.specs.Tables.{marked, put-bit, put-link};
-ghost use Rattle.rows.specs.Rows.{row-listed, set-bits, row-word};
+ghost use Rattle.rows.specs.Rows.{row-listed, row-count, set-bits, row-word};
 
 // The bits of a word.
 const WORD_BITS: u32 = 64;
 
 // The words of a row.
 const ROW_WORDS: u32 = mesh::Site::RADIOS / WORD_BITS;
+
+// Where the count of a row's neighbours stops: one past the limit, which tells a row with too many and is short of a byte's limit.
+const STOP: u8 = mesh::Site::NEIGHBOURS as u8 + 1;
 
 // Whether bit b of row a is set; a bit past the table is not.
 pub fn is_marked(links: &[u8], a: u32, b: u32) -> bool
@@ -64,27 +68,30 @@ fn word_at(links: &[u8], at: usize) -> u64
         | (links[at + 7] as u64) << 56
 }
 
-// How many radios row a marks; of a row that is not whole in the table 0.
-pub fn row_degree(links: &[u8], a: u32) -> u32
-    ensures { λ r. ⌜ r ≡ length (row-listed (now (links .entry)) a) ⌝ }
+// How many radios row a marks, counted in a byte that stops at `STOP`; of a row that is not whole in the table 0.
+pub fn row_degree(links: &[u8], a: u32) -> u8
+    ensures { λ r. ⌜ r ≡ row-count max-neighbours (now (links .entry)) a ⌝ }
 {
     let start = mesh::Site::ROW_BYTES * a as usize;
     if links.len() < start + mesh::Site::ROW_BYTES {
         return 0;
     }
-    let mut n: u32 = 0;
+    let mut n: u8 = 0;
     let mut k: u32 = 0;
     while k < ROW_WORDS {
-        n += u64::count_ones(word_at(links, start + 8 * k as usize));
+        n += u64::count_ones(word_at(links, start + 8 * k as usize)) as u8;
+        if STOP <= n {
+            return STOP;
+        }
         k += 1;
     }
     n
 }
 
 // Writes the places of the word's set bits, counted from `first`, into the list from place `count` on, until it is full, and
-// comes back with the count of entries so far. The loop is small, so that it is unrolled word by word.
-fn list_bits(word: u64, first: u32, list: &mut [u16], count: u32) -> u32
-    requires { ⌜ (count ≤ first) × (first + 64 ≤ max-radios) × (count ≤ length (now list)) ⌝ }
+// comes back with the count of entries so far, a byte. The loop is small, so that it is unrolled word by word.
+fn list_bits(word: u64, first: u32, list: &mut [u16], count: u8) -> u8
+    requires { ⌜ (first + 64 ≤ max-radios) × (count ≤ suc max-neighbours) × (count ≤ length (now list)) ⌝ }
     ensures counted { λ r. ⌜ r ≡ min (length (now (list .entry))) (count + length (set-bits 64 first word)) ⌝ }
     ensures listed { λ _. ⌜ now (list .exit) ≡ sets (now (list .entry)) count (set-bits 64 first word) ⌝ }
 {
@@ -101,10 +108,11 @@ fn list_bits(word: u64, first: u32, list: &mut [u16], count: u32) -> u32
     n
 }
 
-// Writes the radios that row a marks into the list, ascending, as many as fit, and comes back with the count of all of them;
-// later entries keep their content. Of a row that is not whole in the table nothing is written, and the count is 0.
-pub fn row_neighbours(links: &[u8], a: u32, list: &mut [u16]) -> u32
-    ensures counted { λ r. ⌜ r ≡ length (row-listed (now (links .entry)) a) ⌝ }
+// Writes the radios that row a marks into a list of at most `STOP` entries, ascending, until it is full, and comes back with how
+// many it wrote.
+fn list_row(links: &[u8], a: u32, list: &mut [u16]) -> u8
+    requires { ⌜ length (now list) ≤ suc max-neighbours ⌝ }
+    ensures counted { λ r. ⌜ r ≡ min (length (now (list .entry))) (length (row-listed (now (links .entry)) a)) ⌝ }
     ensures listed { λ _. ⌜ now (list .exit)
         ≡ overwrite (take (length (now (list .entry))) (row-listed (now (links .entry)) a)) (now (list .entry)) ⌝ }
 {
@@ -112,7 +120,7 @@ pub fn row_neighbours(links: &[u8], a: u32, list: &mut [u16]) -> u32
     if links.len() < start + mesh::Site::ROW_BYTES {
         return 0;
     }
-    let mut n: u32 = 0;
+    let mut n: u8 = 0;
     let mut k: u32 = 0;
     while k < ROW_WORDS {
         n = list_bits(
@@ -123,11 +131,61 @@ pub fn row_neighbours(links: &[u8], a: u32, list: &mut [u16]) -> u32
         );
         k += 1;
     }
-    // a list that is full may hold less than all
-    if (n as usize) < list.len() {
-        return n;
+    n
+}
+
+// How many entries of a list of this length a row's neighbours may take.
+fn row_room(length: usize) -> usize
+    ensures { λ r. ⌜ r ≡ min length (suc max-neighbours) ⌝ }
+{
+    if length < STOP as usize {
+        length
+    } else {
+        STOP as usize
     }
-    row_degree(links, a)
+}
+
+// Writes the radios that row a marks into the list, ascending, until it is full or `STOP` stand in it, and comes back with how
+// many it wrote; later entries keep their content. Of a row that is not whole in the table nothing is written.
+pub fn row_neighbours(links: &[u8], a: u32, list: &mut [u16]) -> u8
+    ensures counted { λ r. ⌜ r ≡ min (length (now (list .entry))) (row-count max-neighbours (now (links .entry)) a) ⌝ }
+    ensures listed { λ _. ⌜ now (list .exit)
+        ≡ overwrite (take (min (length (now (list .entry))) (suc max-neighbours)) (row-listed (now (links .entry)) a)) (now (list .entry)) ⌝ }
+{
+    let room = row_room(list.len());
+    list_row(links, a, &mut list[..room])
+}
+
+// Writes the places of the word's set bits, counted from `first`, into the list from place `at` on, as many as fit.
+fn list_word(word: u64, first: u32, list: &mut [u16], at: usize)
+    requires { ⌜ first + 64 ≤ max-radios ⌝ }
+    ensures { λ _. ⌜ now (list .exit) ≡ sets (now (list .entry)) at (set-bits 64 first word) ⌝ }
+{
+    if list.len() <= at {
+        return;
+    }
+    list_bits(word, first, &mut list[at..], 0);
+}
+
+// Writes the radios of a set, kept as one row, into the list, ascending, as many as fit, and comes back with the count of all of
+// them; later entries keep their content. Of a row that is not whole nothing is written, and the count is 0.
+pub fn list_set(set: &[u8], list: &mut [u16]) -> u32
+    ensures counted { λ r. ⌜ r ≡ length (row-listed (now (set .entry)) 0) ⌝ }
+    ensures listed { λ _. ⌜ now (list .exit)
+        ≡ overwrite (take (length (now (list .entry))) (row-listed (now (set .entry)) 0)) (now (list .entry)) ⌝ }
+{
+    if set.len() < mesh::Site::ROW_BYTES {
+        return 0;
+    }
+    let mut n: u32 = 0;
+    let mut k: u32 = 0;
+    while k < ROW_WORDS {
+        let word = word_at(set, 8 * k as usize);
+        list_word(word, WORD_BITS * k, list, n as usize);
+        n += u64::count_ones(word);
+        k += 1;
+    }
+    n
 }
 
 // The lowest radio that row a marks; where it marks none, or is not whole in the table, the most radios that a site may have.

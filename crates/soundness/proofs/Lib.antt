@@ -11,3 +11,5 @@ pub mod ExamineLaws
 pub mod SoundSite
 -- the high counts, over the graph that the table marks
 pub mod HighCounts
+-- rows with too many bits
+pub mod LongRows

@@ -3,29 +3,28 @@ use mathlib.Core.Path.{_≡_, refl, sym, ap, _∙_}
 use mathlib.Core.Logic.{_⊎_, inl, inr}
 use mathlib.Core.Bool.{Bool, true, false, _&&_, not, and-false}
 use mathlib.Core.List.{List, []}
-use Prim.Native.Nat.{ℕ, suc, _+_, _*_, _≤_, _<_}
+use Prim.Native.Nat.{ℕ, suc, _+_, _*_, _≤_, _<_, min}
 use native.Mathlib.Omega.{arith}
 use native.Mathlib.Numerals.{add-one}
-use mir.Syntax.{w32}
+use mir.Syntax.{w8}
 use mir.Val.{boolByte, Fits}
 use lib.Dec.{ltb, leb, eqb}
 use lib.ListN.{length, getD, take, drop}
-use lib.Seq.{drop-length, getD-take, take-all, length-take-le}
+use lib.Seq.{drop-length, getD-take, length-take-le}
 use borrow.Author.Tests.{ltb-true, ltb-false, lt-ltb, le-leb, lt-leb, eq-eqb, ne-eqb}
-use Rattle.mesh.specs.Limits.{max-radios, max-neighbours, row-bytes}
+use Rattle.mesh.specs.Limits.{max-neighbours, row-bytes}
 use Rattle.lists.specs.Lists.{count, all, overwrite}
 use Rattle.mesh.specs.Tables.{marked}
 use Rattle.mesh.specs.Sound.{number-in}
 use Rattle.lists.proofs.Tests.{bool-cases, never, bit-one, byte-bit}
-use Rattle.lists.proofs.Count.{count-le-length, count-drop}
-use Rattle.lists.proofs.Overwrite.{take-overwrite}
-use Rattle.rows.specs.Rows.{neighbours-of, row-listed}
+use Rattle.lists.proofs.Count.{count-drop}
+use Rattle.rows.specs.Rows.{neighbours-of, row-listed, row-count}
 use Rattle.rows.proofs.MaskLaws.{marked-past}
-use Rattle.rows.proofs.RowListLaws.{row-listed-radio}
+use Rattle.rows.proofs.RowListLaws.{row-listed-radio, row-listed-fits}
 use Rattle.soundness.specs.Checks.{later-count, high-count, ends-good, row-good, Ends-counted, Rows-room, Row-checked}
 use Rattle.lists.proofs.All.{all-drop}
 
-pub count-fits : (x : ℕ) (t : Bool) → x ≤ max-radios → Fits w32 (x + boolByte t)
+pub count-fits : (x : ℕ) (t : Bool) → x ≤ max-neighbours → Fits w8 (x + boolByte t)
 count-fits x t l = omega (arith, byte-bit t, bit-one t)
 
 -- ---- the ends of a row
@@ -116,18 +115,20 @@ module _ (n : ℕ) (links numbers places : List ℕ) (a : ℕ) (list : List ℕ)
 
 module _ (n : ℕ) (links numbers places : List ℕ) (a : ℕ) (list after : List ℕ) (k : ℕ)
     (room : Rows-room n (length links) (length numbers) (length places) (length list)) (radio : a < n)
-    (counted : k ≡ length (row-listed links a)) (listed : after ≡ overwrite (take (length list) (row-listed links a)) list) where
+    (counted : k ≡ min (length list) (row-count max-neighbours links a))
+    (listed : after ≡ overwrite (take (min (length list) (suc max-neighbours)) (row-listed links a)) list) where
   abbrev near : List ℕ
   near = neighbours-of links a
 
   whole : row-listed links a ≡ near
   whole = row-listed-radio n links (room .linked) a radio
 
-  k-is : k ≡ length near
-  k-is = rw whole at counted
+  k-is : k ≡ min (suc max-neighbours) (length near)
+  unfolding row-count
+  k-is = omega (arith, counted, ap length whole, room .listed)
 
   row-bad : row-good max-neighbours n links numbers places a ≡ false → Row-checked n links numbers places a false 0
-  row-bad e = record { answer = sym e; high-is = λ f. never false f refl; few = omega arith }
+  row-bad e = record { answer = sym e; high-is = λ f. never false f refl }
 
   pub row-many : max-neighbours < k → Row-checked n links numbers places a false 0
   unfolding row-good
@@ -140,9 +141,7 @@ module _ (n : ℕ) (links numbers places : List ℕ) (a : ℕ) (list after : Lis
     -- what is listed are the neighbours
     near-is : take k after ≡ near
     near-is =
-        let fits : length near ≤ length list = omega (arith, k-is, room .listed) in
-        ap (take k) (listed ∙ ap (λ (xs : List ℕ). overwrite (take (length list) xs) list) whole ∙ ap (λ (xs : List ℕ). overwrite xs list) (take-all (length list) near fits))
-        ∙ ap (λ (j : ℕ). take j (overwrite near list)) k-is ∙ take-overwrite near list
+        row-listed-fits max-neighbours links a list after k (omega (arith, ap length whole, k-is, room .listed)) counted listed .1 ∙ whole
 
     ends-are : Ends-counted n links numbers places a near good later high
     ends-are = rw (near-is, room .numbered) at ends
@@ -169,7 +168,7 @@ module _ (n : ℕ) (links numbers places : List ℕ) (a : ℕ) (list after : Lis
       ))
 
       pub row-right : later ≤ number-in numbers a → number-in numbers a ≤ high → Row-checked n links numbers places a true high
-      unfolding row-good high-count
+      unfolding row-good
       row-right l h = record {
         answer = sym (rw (
           short,
@@ -178,5 +177,4 @@ module _ (n : ℕ) (links numbers places : List ℕ) (a : ℕ) (list after : Lis
           le-leb (number-in numbers a) (high-count numbers a near) (omega (arith, ends-are .high-is g)),
         ));
         high-is = λ _. ends-are .high-is g;
-        few = omega (arith, ends-are .high-is g, count-le-length (λ b. leb (number-in numbers a) (number-in numbers b)) near, k-is);
       }

@@ -13,12 +13,13 @@ use Rattle.mesh.specs.Sound.{symmetric, irreflexive, within, few, rows-proper, 
 use Rattle.lists.proofs.Tests.{and-left, and-right, and-both}
 use Rattle.mesh.proofs.Cores.Peeling.{getD-numbers}
 use Rattle.mesh.proofs.Tables.ReadBack.{linked-graph-in, degree-graph-in}
+use Rattle.mesh.proofs.Tables.Rows.{few-of}
 use Rattle.mesh.proofs.Tables.Soundness.{Right, sound-right}
 use Rattle.calls.specs.Questions.{lengths-of, size-good, site-lengths}
 use Rattle.calls.proofs.QuestionLaws.{Site-lengths, size-good-true, true-size-good, site-lengths-true, true-site-lengths}
 use Rattle.calls.proofs.ChainLaws.{Site-good}
-use Rattle.rows.specs.Rows.{neighbours-of, row-listed}
-use Rattle.rows.proofs.RowListLaws.{length-neighbours-of}
+use Rattle.rows.specs.Rows.{neighbours-of, row-listed, row-count}
+use Rattle.rows.proofs.RowListLaws.{row-count-few}
 use Rattle.rows.proofs.RowWords.{row-listed-whole}
 use Rattle.soundness.specs.Checks.{fits-sound}
 
@@ -80,9 +81,10 @@ module _ (n : ℕ) (t : Tables) (s : Sound-site n t) where
   pub row-listed-neighbours : (a : ℕ) → a < n → row-listed (t .links) a ≡ neighbours-of (t .links) a
   row-listed-neighbours a l = row-listed-whole (t .links) a (omega (arith, s .links-long))
 
-  pub degree-listed : (a : ℕ) → a < n → length (row-listed (t .links) a) ≡ degree (graph-in n (t .links)) a
-  degree-listed a l =
-      ap length (row-listed-neighbours a l) ∙ length-neighbours-of (t .links) a
+  -- a sound row is counted to its end
+  pub degree-counted : (a : ℕ) → a < n → row-count max-neighbours (t .links) a ≡ degree (graph-in n (t .links)) a
+  degree-counted a l =
+      row-count-few max-neighbours n (t .links) (s .links-long) a l (few-of max-neighbours n (t .links) (s .few) a l)
       ∙ sym (degree-graph-in n (t .links) (s .small) (s .symmetric) (s .irreflexive) (s .within) a l)
 
 -- once questions 1 to 3 got yes

@@ -15,7 +15,7 @@
 use mathlib.Core.Path.{_≡_}
 use mathlib.Core.Bool.{Bool, true, _&&_, not}
 use mathlib.Core.List.{List, [], _∷_}
-use Prim.Native.Nat.{ℕ, _*_, _≤_, _<_, min}
+use Prim.Native.Nat.{ℕ, suc, _*_, _≤_, _<_, min}
 use lib.Dec.{ltb, leb, eqb}
 use lib.ListN.{length, getD}
 use Rattle.mesh.specs.Limits.{max-radios, max-neighbours, row-bytes}
@@ -77,24 +77,23 @@ pub record Ends-counted (n : ℕ) (links numbers places : List ℕ) (a : ℕ) (x
 pub record Ends-room (a k links numbers places list : ℕ) : Type 0 where
   pub linked : links ≡ row-bytes * numbers
   pub listed : k ≤ list
-  pub few : k ≤ max-radios
+  pub few : k ≤ max-neighbours
   pub placed : numbers ≤ places
   pub radio : a < numbers
   pub small : numbers ≤ max-radios
 
--- what checking rows wants of the lengths of the tables that it reads and of its list
+-- what checking rows wants of the lengths of the tables that it reads and of its list, which has room to tell a row with too many
 pub record Rows-room (n links numbers places list : ℕ) : Type 0 where
   pub linked : links ≡ row-bytes * n
   pub numbered : numbers ≡ n
   pub placed : n ≤ places
-  pub listed : max-neighbours ≤ list
+  pub listed : suc max-neighbours ≤ list
   pub small : n ≤ max-radios
 
 -- whether row a is good, and then the high count of a
 pub record Row-checked (n : ℕ) (links numbers places : List ℕ) (a : ℕ) (good : Bool) (high : ℕ) : Type 0 where
   pub answer : good ≡ row-good max-neighbours n links numbers places a
   pub high-is : good ≡ true → high ≡ high-count numbers a (neighbours-of links a)
-  pub few : high ≤ max-neighbours
 
 -- the table `highs` holds the high count of each radio
 pub record Highs (n : ℕ) (links numbers highs : List ℕ) : Type 0 where

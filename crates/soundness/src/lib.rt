@@ -77,8 +77,8 @@ fn rises(numbers: &[u8], order: &[u16]) -> bool
 
 struct Ends {
     good: bool,
-    later: u32,
-    high: u32,
+    later: u8,
+    high: u8,
 }
 
 // Whether the first k listed radios are of the site, are not a, and mark a too; how many of them stand later in the order than a,
@@ -102,8 +102,8 @@ fn count_ends(
     };
     let place = places[a];
     let number = numbers[a];
-    let mut later: u32 = 0;
-    let mut high: u32 = 0;
+    let mut later: u8 = 0;
+    let mut high: u8 = 0;
     let mut i: usize = 0;
     while i < k {
         let b = list[i] as usize;
@@ -114,8 +114,8 @@ fn count_ends(
         if !rows::is_marked(links, b as u32, a as u32) {
             return bad;
         }
-        later += (place < places[b]) as u32;
-        high += (number <= numbers[b]) as u32;
+        later += (place < places[b]) as u8;
+        high += (number <= numbers[b]) as u8;
         i += 1;
     }
     Ends {
@@ -127,7 +127,7 @@ fn count_ends(
 
 struct Row {
     good: bool,
-    high: u32,
+    high: u8,
 }
 
 // Whether document 01's conditions on radio a hold, and then how many of its neighbours have a number that is not below its
@@ -148,14 +148,14 @@ fn row_checked(
         high: 0,
     };
     let k = rows::row_neighbours(links, a, list);
-    if Site::NEIGHBOURS < k {
+    if Site::NEIGHBOURS < k as u32 {
         return bad;
     }
     let ends = count_ends(links, numbers, places, list, k as usize, a as usize);
     if !ends.good {
         return bad;
     }
-    let number = numbers[a as usize] as u32;
+    let number = numbers[a as usize];
     if number < ends.later {
         return bad;
     }
@@ -189,7 +189,7 @@ fn rows_checked(
         if !row.good {
             return false;
         }
-        highs[a as usize] = row.high as u8;
+        highs[a as usize] = row.high;
         a += 1;
     }
     true

@@ -1,6 +1,7 @@
 // The soundness check on damaged tables: each condition of document 01 broken alone, and then lengths and sizes. Prints a line
 // for each: its name, the refusal number and the value (1 sound, 0 not). Changes that do no damage come last: their verdict must
 // differ from the ones above, which so turn on the damage alone. The expected lines are worked out by oracle/damaged.py.
+ghost use Prim.Native.Nat.{_<_};
 use libc::STDOUT_FILENO;
 
 // The sound tables of the site.
@@ -67,22 +68,48 @@ fn put_star(links: &mut [u8], k: u32) {
     }
 }
 
-// The last of 41 radios linked to all others, which stand before it in the order.
-fn say_40() {
-    let mut links = [0u8; 2624];
-    let mut order = [0u16; 41];
-    put_star(&mut links, 40);
-    tables::fill::index16(&mut order);
-    say(b"neighbours-40", 41, &links, &[1u8; 41], &order);
+// The last of n radios linked to the first k, which stand before it in the order.
+fn say_star(name: &[u8], n: u32, k: u32, links: &mut [u8], numbers: &[u8], order: &mut [u16]) {
+    put_star(links, k);
+    tables::fill::index16(order);
+    say(name, n, links, numbers, order);
 }
 
-// The last of 42 radios likewise.
-fn say_41() {
-    let mut links = [0u8; 2688];
-    let mut order = [0u16; 42];
-    put_star(&mut links, 41);
-    tables::fill::index16(&mut order);
-    say(b"neighbours-41", 42, &links, &[1u8; 42], &order);
+// The last of k + 1 radios linked to all others, and to itself where `own` is set: its row has k or k + 1 bits.
+fn say_bits(name: &[u8], k: usize, own: bool)
+    requires { ⌜ k < 512 ⌝ }
+{
+    let mut links = [0u8; 32768];
+    let mut order = [0u16; 512];
+    let numbers = [1u8; 512];
+    let n = k + 1;
+    rows::put_bit(&mut links, own, k as u32, k as u32);
+    say_star(
+        name,
+        n as u32,
+        k as u32,
+        &mut links[..64 * n],
+        &numbers[..n],
+        &mut order[..n],
+    );
+}
+
+// At the limit and one past it.
+fn few_bits() {
+    say_bits(b"neighbours-40", 40, false);
+    say_bits(b"neighbours-41", 41, false);
+    say_bits(b"bits-40", 40, false);
+    say_bits(b"bits-41", 41, false);
+}
+
+// 256 + 32 and 256 + 40 bits are what a byte that wraps takes for few.
+fn many_bits() {
+    say_bits(b"bits-255", 255, false);
+    say_bits(b"bits-256", 256, false);
+    say_bits(b"bits-257", 257, false);
+    say_bits(b"bits-288", 288, false);
+    say_bits(b"bits-296", 296, false);
+    say_bits(b"bits-512", 511, true);
 }
 
 fn rows() {
@@ -126,8 +153,8 @@ fn no_damage() {
 fn main() {
     say_size(b"sound", 5);
     rows();
-    say_40();
-    say_41();
+    few_bits();
+    many_bits();
     orders();
     numbers();
     sizes();

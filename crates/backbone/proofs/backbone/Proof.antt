@@ -27,7 +27,7 @@ returns-2 c =
     let call = asked .before .before .before .before .before .args in
     let t = tables (call .links .now) (call .numbers .now) (call .order .now) in
     backbone-listed (call .n) t (call .answer .now) _ (asked .refusal .ensures) (put .before .before .if1 .left) _ _ _
-    (put .put-backbone .ensures) (listed .row-neighbours .ensures .0) (listed .row-neighbours .ensures .1)
+    (put .put-backbone .ensures) (listed .list-set .ensures .0) (listed .list-set .ensures .1)
 
 pub backbone-spec : {M : Type 1} → statement M
 backbone-spec =

@@ -1,11 +1,12 @@
--- `rows::row_degree` meets its contract: the bits counted so far and the ones from word k on are all bits of the row.
--- The measure is the words that are left.
+-- `rows::row_degree` meets its contract: the radios counted so far and the ones from word k on are all that the row marks, and
+-- the byte has not passed the limit on neighbours. The measure is the words that are left.
 use mathlib.Core.Path.{sym, ap}
 use Prim.Native.Nat.{_-_}
 use native.Mathlib.Omega.{arith}
 use lib.ListN.{length}
 use borrow.Author.Needs.{needs}
-use Rattle.rows.proofs.RowWords.{Row-counting, row-counting-turn, row-from-zero, row-from-end, row-listed-whole, row-listed-short}
+use Rattle.rows.specs.Rows.{row-count}
+use Rattle.rows.proofs.RowWords.{Row-counting, row-counting-turn, row-counting-stop, row-counting-end, length-row-from, row-from-zero, row-listed-short}
 use Rattle.rows.proofs.row_degree.Statement.{statement}
 use Rattle.rows.proofs.row_degree.Tie as tie
 
@@ -15,27 +16,46 @@ Inv-loop links a start n₀ k₀ n k = Row-counting links a n k
 abbrev μ-loop : tie.MeasureT-loop
 μ-loop links a start n₀ k₀ n k = 8 - k
 
+returns : tie.Need-returns Inv-loop μ-loop
+unfolding row-count
+returns c = omega (arith, ap length (row-listed-short (c .before .before .args .links .now) (c .before .before .args .a) (c .if1 .taken)))
+
 loop-holds : tie.Need-loop-holds Inv-loop μ-loop
 loop-holds c = (omega arith, omega arith, omega (arith, ap length (row-from-zero (c .before .before .args .links .now) (c .before .before .args .a))))
 
-loop-again : tie.Need-loop-again Inv-loop μ-loop
-loop-again c =
+cast-n : tie.Need-cast-n Inv-loop μ-loop
+cast-n c =
     let at-loop = c .before .before in
-    row-counting-turn _ (λ j. at-loop .before .before .shared-slice-known .given j .fits) _ (at-loop .loop .n) (at-loop .loop .k) _ (omega arith) (c .word-at .ensures) (at-loop .loop .inv)
+    let few = length-row-from _ (λ j. at-loop .before .before .shared-slice-known .given j .fits) _ (at-loop .loop .k) (c .word-at .result)
+    (c .before .loop-test .taken) (c .word-at .ensures) .0 in
+    omega (arith, few, at-loop .loop .inv .1)
+
+add-n : tie.Need-add-n Inv-loop μ-loop
+add-n c =
+    let at-loop = c .before .before in
+    let few = length-row-from _ (λ j. at-loop .before .before .shared-slice-known .given j .fits) _ (at-loop .loop .k) (c .word-at .result)
+    (c .before .loop-test .taken) (c .word-at .ensures) .0 in
+    omega (arith, few, at-loop .loop .inv .1)
 
 returns-2 : tie.Need-returns-2 Inv-loop μ-loop
 returns-2 c =
-    let call = c .before .before .before .before .args in
-    omega (
-      arith,
-      c .before .loop .inv .2,
-      ap length (row-from-end (call .links .now) (call .a) (c .before .loop .k) (omega arith)),
-      ap length (row-listed-whole (call .links .now) (call .a) (c .before .before .if1 .left)),
-    )
+    let read = c .before in
+    let at-loop = read .before .before in
+    row-counting-stop _ (λ j. at-loop .before .before .shared-slice-known .given j .fits) _ (at-loop .loop .n) (at-loop .loop .k) (read .word-at .result)
+    (read .before .loop-test .taken) (read .word-at .ensures) (at-loop .before .if1 .left) (c .if2 .taken) (at-loop .loop .inv)
+
+loop-again : tie.Need-loop-again Inv-loop μ-loop
+loop-again c =
+    let read = c .before in
+    let at-loop = read .before .before in
+    row-counting-turn _ (λ j. at-loop .before .before .shared-slice-known .given j .fits) _ (at-loop .loop .n) (at-loop .loop .k) (read .word-at .result)
+    (read .before .loop-test .taken) (read .word-at .ensures) (omega (arith, c .if2 .left)) (at-loop .loop .inv)
+
+returns-3 : tie.Need-returns-3 Inv-loop μ-loop
+returns-3 c = row-counting-end _ _ _ _ (c .loop-test .left) (c .before .before .if1 .left) (c .before .loop .inv)
 
 pub row-degree-spec : {M : Type 1} → statement M
 row-degree-spec =
     tie.close (
-    tie.spec Inv-loop μ-loop (λ c. search needs) (λ c. search needs) (λ c. sym (ap length (row-listed-short _ _ (c .if1 .taken)))) loop-holds
-    (λ c. search needs) (λ c. search needs) (λ c. search needs) (λ c κs. search needs) (λ c. omega (arith, loop-again c .1)) (λ c. search needs)
-    (λ c. search needs) loop-again returns-2)
+    tie.spec Inv-loop μ-loop (λ c. search needs) (λ c. search needs) returns loop-holds (λ c. search needs) (λ c. search needs) (λ c. search needs)
+    (λ c κs. search needs) cast-n add-n returns-2 (λ c. search needs) (λ c. search needs) loop-again returns-3)

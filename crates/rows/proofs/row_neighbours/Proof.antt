@@ -1,61 +1,38 @@
--- `rows::row_neighbours` meets its contract: the neighbours listed so far and the ones from word k on are the row's, as far as
--- the list reaches (`Row-listing`); a list that is full leaves the count to `row_degree`. The measure is the words that are left.
-use mathlib.Core.Path.{refl}
-use mathlib.Core.List.{[]}
-use Prim.Native.Nat.{_-_}
+-- `rows::row_neighbours` meets its contract: the part of the list that is lent stops the byte, and what is written into it stands in
+-- front of the list.
+use mathlib.Core.Path.{sym, ap, _∙_}
+use mathlib.Core.List.{List}
+use Prim.Native.Nat.{ℕ}
 use native.Mathlib.Omega.{arith}
+use lib.ListN.{take, length-take}
+use lib.Seq.{length-take-le}
 use borrow.Author.Needs.{needs}
-use Rattle.rows.proofs.Listing.{partial-none}
-use Rattle.lists.proofs.Overwrite.{sets-front}
-use Rattle.rows.proofs.RowWords.{Row-listing, row-listing-turn, row-listing-end, row-from-zero, row-listed-short}
+use Rattle.lists.specs.Lists.{overwrite}
+use Rattle.rows.specs.Rows.{row-listed, row-count}
+use Rattle.rows.proofs.Listing.{put-front}
 use Rattle.rows.proofs.row_neighbours.Statement.{statement}
 use Rattle.rows.proofs.row_neighbours.Tie as tie
 
-abbrev Inv-loop : tie.InvT-loop
-Inv-loop links a list₀ start n₀ k₀ list n k = Row-listing links a list₀ n k list
+slice-aggregate-list-row : tie.Need-slice-aggregate-list-row
+slice-aggregate-list-row c = sym (length-take-le _ _ (omega (arith, c .before .row-room .ensures)))
 
-abbrev μ-loop : tie.MeasureT-loop
-μ-loop links a list₀ start n₀ k₀ list n k = 8 - k
+list-row-requires : tie.Need-list-row-requires
+list-row-requires c κs = omega (arith, c .before .row-room .ensures, length-take (c .before .row-room .result) (c .before .before .before .before .args .list .now))
 
-returns : tie.Need-returns Inv-loop μ-loop
+returns : tie.Need-returns
+unfolding row-count
 returns c =
-    let call = c .before .before .before .args in
-    rw (row-listed-short (call .links .now) (call .a) (c .if1 .taken)) (refl, sets-front (call .list .now) [])
-
-loop-holds : tie.Need-loop-holds Inv-loop μ-loop
-loop-holds c =
-    let call = c .before .before .before .args in
-    (omega arith, omega arith, rw (row-from-zero (call .links .now) (call .a)) (partial-none _ 0 _ (omega arith)))
-
-loop-again : tie.Need-loop-again Inv-loop μ-loop
-loop-again c =
     let listed = c .before .before in
-    let read = listed .before .before in
-    let at-loop = read .before .before in
-    let given = at-loop .before .before in
-    row-listing-turn _ (λ j. given .before .shared-slice-known .given j .fits) _ (given .before .before .args .list .now)
-    (at-loop .loop .n) (at-loop .loop .k) (read .word-at .result) _ (at-loop .loop .list) _
-    (omega arith) (read .word-at .ensures) (listed .list-bits .ensures .0) (listed .list-bits .ensures .1) (at-loop .loop .inv)
-
-returns-2 : tie.Need-returns-2 Inv-loop μ-loop
-returns-2 c =
-    let at-loop = c .before .before in
-    let call = at-loop .before .before .before .before .args in
-    let at-end = row-listing-end (call .links .now) (call .a) (call .list .now) (at-loop .loop .n) (at-loop .loop .k) (at-loop .loop .list)
-    (omega arith) (at-loop .before .if1 .left) (at-loop .loop .inv) in
-    (omega (arith, at-end .0, at-loop .loop .inv .2 .long, c .if2 .taken), at-end .1)
-
-returns-3 : tie.Need-returns-3 Inv-loop μ-loop
-returns-3 c =
-    let at-loop = c .before .before .before in
-    let call = at-loop .before .before .before .before .args in
-    let at-end = row-listing-end (call .links .now) (call .a) (call .list .now) (at-loop .loop .n) (at-loop .loop .k) (at-loop .loop .list)
-    (omega arith) (at-loop .before .if1 .left) (at-loop .loop .inv) in
-    (c .row-degree .ensures, at-end .1)
+    let room = listed .before .before in
+    let call = room .before .before .before .args in
+    let fits = room .row-room .ensures in
+    let xs = row-listed (call .links .now) (call .a) in (
+      omega (arith, listed .list-row .ensures .0, fits, length-take (room .row-room .result) (call .list .now)),
+      put-front (call .list .now) _ xs (room .row-room .result) (omega (arith, fits)) (listed .list-row .ensures .1)
+          ∙ ap (λ (k : ℕ). overwrite (take k xs) (call .list .now)) fits,
+    )
 
 pub row-neighbours-spec : {M : Type 1} → statement M
 row-neighbours-spec =
     tie.close (
-    tie.spec Inv-loop μ-loop (λ c. search needs) (λ c. search needs) returns loop-holds (λ c. search needs) (λ c. search needs) (λ c. search needs)
-    (λ c κs. search needs) (λ c. search needs) (λ c κs. search needs) (λ c. search needs) (λ c. search needs) loop-again (λ c. search needs)
-    (λ c. c .before .before .loop .inv .2 .long) returns-2 (λ c κs. search needs) (λ c. c .before .before .before .loop .inv .2 .long) returns-3)
+    tie.spec (λ c κs. search needs) (λ c. search needs) slice-aggregate-list-row list-row-requires (λ c. search needs) returns)

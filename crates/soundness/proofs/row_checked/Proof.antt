@@ -1,5 +1,4 @@
 -- `soundness::row_checked` meets its contract: what is listed are the row's neighbours, and each test is one condition of `row-good`.
-use native.Mathlib.Omega.{arith}
 use borrow.Author.Tests.{not-true, not-false}
 use borrow.Author.Needs.{needs}
 use Rattle.soundness.proofs.RowChecks.{row-many, row-ends-bad, row-later-bad, row-high-bad, row-right}
@@ -20,9 +19,6 @@ returns-2 c =
     let call = start .args in
     row-ends-bad (call .n) (call .links .now) (call .numbers .now) (call .places .now) (call .a) (call .list .now) _ _ (start .pre .0) (start .pre .1) (listed .row-neighbours .ensures .0) (listed .row-neighbours .ensures .1)
     (c .before .before .before .before .if1 .left) _ _ _ (c .before .before .count-ends .ensures) (not-true _ (c .if2 .taken))
-
-cast-number : tie.Need-cast-number
-cast-number c = omega (arith, c .shared-slice-known4 .given (c .before .before .before .before .before .before .before .before .before .before .before .before .before .before .args .a))
 
 returns-3 : tie.Need-returns-3
 returns-3 c =
@@ -51,5 +47,5 @@ returns-5 c =
 pub row-checked-spec : {M : Type 1} → statement M
 row-checked-spec =
     tie.close (
-    tie.spec (λ c κs. search needs) (λ c. search needs) returns (λ c. search needs) (λ c κs. search needs) (λ c. search needs) returns-2 (λ c. search needs)
-    cast-number (λ c. search needs) returns-3 (λ c. search needs) returns-4 (λ c. search needs) returns-5)
+    tie.spec (λ c κs. search needs) (λ c. search needs) (λ c. search needs) returns (λ c. search needs) (λ c κs. search needs) (λ c. search needs) returns-2
+    (λ c. search needs) (λ c. search needs) returns-3 (λ c. search needs) returns-4 (λ c. search needs) returns-5)

@@ -29,10 +29,10 @@ returns c =
 
 loop-again : tie.Need-loop-again Inv-loop μ-loop
 loop-again c =
-    let at-loop = c .before .before .before .before .before .before .before .before in
+    let at-loop = c .before .before .before .before .before .before .before in
     let start = at-loop .before .before .before .before .before .before in
     let call = start .args in
-    (search needs, rows-turn (call .n) (call .links .now) (call .numbers .now) (call .places .now) (call .highs .now) _ _ (c .before .before .before .before .before .before .before .loop-test .taken) (at-loop .loop .inv .1) _ _ (start .pre .1) (c .before .before .before .before .before .row-checked .ensures) (not-false _ (c .before .if1 .left)))
+    (search needs, rows-turn (call .n) (call .links .now) (call .numbers .now) (call .places .now) (call .highs .now) _ _ (c .before .before .before .before .before .before .loop-test .taken) (at-loop .loop .inv .1) _ _ (start .pre .1) (c .before .before .before .before .row-checked .ensures) (not-false _ (c .if1 .left)))
 
 returns-2 : tie.Need-returns-2 Inv-loop μ-loop
 returns-2 c =
@@ -45,4 +45,4 @@ pub rows-checked-spec : {M : Type 1} → statement M
 rows-checked-spec =
     tie.close (
     tie.spec Inv-loop μ-loop loop-holds (λ c κs. search needs) (λ c. search needs) (λ c. search needs) returns (λ c. search needs) (λ c. search needs)
-    (λ c. search needs) (λ c. search needs) (λ c. search needs) loop-again (λ c. search needs) (λ c. search needs) returns-2)
+    (λ c. search needs) (λ c. search needs) loop-again (λ c. search needs) (λ c. search needs) returns-2)

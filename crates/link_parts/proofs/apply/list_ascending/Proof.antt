@@ -17,8 +17,8 @@ returns c =
     let s = marking .before .before .before .before in
     let answer = s .args .answer .now in
     let is = ap (λ (row : List ℕ). row-listed row 0) (marking .mark-all .ensures) ∙ row-listed-all-marked (s .args .list .now) _ refl in (
-      listed .row-neighbours .ensures .0 ∙ ap length is,
-      listed .row-neighbours .ensures .1 ∙ ap (λ (xs : List ℕ). overwrite (take (length answer) xs) answer) is,
+      listed .list-set .ensures .0 ∙ ap length is,
+      listed .list-set .ensures .1 ∙ ap (λ (xs : List ℕ). overwrite (take (length answer) xs) answer) is,
     )
 
 pub list-ascending-spec : {M : Type 1} → statement M

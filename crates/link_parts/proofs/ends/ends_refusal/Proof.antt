@@ -6,6 +6,7 @@ use borrow.Author.Tests.{not-true, not-false}
 use borrow.Author.Needs.{needs}
 use Rattle.mesh.specs.Limits.{max-neighbours}
 use Rattle.mesh.specs.Tables.{graph-in}
+use Rattle.rows.specs.Rows.{row-count}
 use Rattle.link_parts.proofs.EndsLaws.{linked-marked, degree-listed, ends-four-first, ends-four-second, ends-five, ends-six, ends-down, ends-seven-first}
 use Rattle.link_parts.proofs.EndsLaws.{ends-seven-second, ends-up}
 use Rattle.link_parts.proofs.ends.ends_refusal.Statement.{statement}
@@ -53,6 +54,7 @@ returns-5 c small long proper =
     ends-down max-neighbours (x .up) (x .n) (x .a) (x .b) g la lb (c .before .before .before .if3 .left) (c .before .before .is-marked .result) says (c .before .if4 .left) (not-true (x .up) (c .if5 .taken))
 
 returns-6 : tie.Need-returns-6
+unfolding row-count
 returns-6 c small long proper =
     let s = c .before .before .before .before .before .before .before .before .before in
     let x = s .args in
@@ -64,6 +66,7 @@ returns-6 c small long proper =
     ends-seven-first max-neighbours (x .up) (x .n) (x .a) (x .b) g la lb (c .before .before .before .before .before .if3 .left) (c .before .before .before .before .is-marked .result) says (c .before .before .before .if4 .left) (not-false (x .up) (c .before .before .if5 .left)) (omega (arith, near (x .a) la, c .before .row-degree .ensures))
 
 returns-7 : tie.Need-returns-7
+unfolding row-count
 returns-7 c small long proper =
     let s = c .before .before .before .before .before .before .before .before .before .before .before in
     let x = s .args in
@@ -75,6 +78,7 @@ returns-7 c small long proper =
     ends-seven-second max-neighbours (x .up) (x .n) (x .a) (x .b) g la lb (c .before .before .before .before .before .before .before .if3 .left) (c .before .before .before .before .before .before .is-marked .result) says (c .before .before .before .before .before .if4 .left) (not-false (x .up) (c .before .before .before .before .if5 .left)) (omega (arith, near (x .a) la, c .before .before .before .row-degree .ensures)) (omega (arith, near (x .b) lb, c .before .row-degree2 .ensures))
 
 returns-8 : tie.Need-returns-8
+unfolding row-count
 returns-8 c small long proper =
     let s = c .before .before .before .before .before .before .before .before .before .before .before in
     let x = s .args in
@@ -88,5 +92,5 @@ returns-8 c small long proper =
 pub ends-refusal-spec : {M : Type 1} → statement M
 ends-refusal-spec =
     tie.close (
-    tie.spec returns returns-2 returns-3 (λ c κs. search needs) returns-4 returns-5 (λ c κs. search needs) returns-6 (λ c κs. search needs) returns-7
-    returns-8)
+    tie.spec returns returns-2 returns-3 (λ c κs. search needs) returns-4 returns-5 (λ c κs. search needs) (λ c. search needs) returns-6 (λ c κs. search needs)
+    (λ c. search needs) returns-7 returns-8)

@@ -24,7 +24,7 @@ returns-2 : tie.Need-returns-2
 returns-2 c =
     let call = c .before .before .before .before .before .before .before .before .before .before .before .before .before .before .before .before .args in
     let t = tables (call .links .now) (call .numbers .now) (call .order .now) in
-    core-listed (call .n) (call .v) (call .k) t (call .answer .now) (sym (c .before .before .before .before .before .before .before .before .before .before .before .core-refusal .ensures) ∙ c .before .before .before .before .before .before .before .before .before .before .if1 .left) _ _ _ _ _ _ refl (search needs) (c .before .before .before .before .before .before .before .flood .ensures) (c .before .before .row-neighbours .ensures .0) (c .before .before .row-neighbours .ensures .1)
+    core-listed (call .n) (call .v) (call .k) t (call .answer .now) (sym (c .before .before .before .before .before .before .before .before .before .before .before .core-refusal .ensures) ∙ c .before .before .before .before .before .before .before .before .before .before .if1 .left) _ _ _ _ _ _ refl (search needs) (c .before .before .before .before .before .before .before .flood .ensures) (c .before .before .list-set .ensures .0) (c .before .before .list-set .ensures .1)
 
 pub core-spec : {M : Type 1} → statement M
 core-spec =

@@ -19,4 +19,4 @@ returns-2 c =
     neighbours-answered (call .n) (call .v) t (sym (c .before .before .radio-refusal .ensures) ∙ c .before .if1 .left) _ (c .row-degree .ensures)
 
 pub neighbours-spec : {M : Type 1} → statement M
-neighbours-spec = tie.close (tie.spec (λ c κs. search needs) returns (λ c κs. search needs) returns-2)
+neighbours-spec = tie.close (tie.spec (λ c κs. search needs) returns (λ c κs. search needs) (λ c. search needs) returns-2)

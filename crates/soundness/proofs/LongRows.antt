@@ -1,0 +1,56 @@
+-- Rows with too many bits: the byte stops one past the limit, whatever the row has, and tables with such a row are not sound.
+-- 256 + 32 and 256 + 40 are what a byte that wraps would take for a sound row's.
+use mathlib.Core.Path.{_≡_, refl}
+use mathlib.Core.Logic.{_⊎_, inl, inr}
+use mathlib.Core.Bool.{Bool, true, false, _&&_}
+use mathlib.Core.List.{List, [], _∷_}
+use Prim.Native.Nat.{ℕ, suc, _*_, _<_}
+use native.Mathlib.Omega.{arith}
+use lib.Dec.{ltb}
+use lib.ListN.{length}
+use borrow.Author.Tests.{ltb-true}
+use Rattle.mesh.specs.Limits.{max-neighbours, row-bytes}
+use Rattle.lists.specs.Lists.{all, In}
+use Rattle.mesh.specs.Orders.{each-once, rising, few-later}
+use Rattle.mesh.specs.Tables.{Tables, marked}
+use Rattle.mesh.specs.Sound.{symmetric, irreflexive, within, row-degree, few, rows-proper, enough, number-in, sound-within, sound}
+use Rattle.lists.proofs.Tests.{bool-cases, never, and-left, and-right}
+use Rattle.lists.proofs.All.{all-in}
+use Rattle.mesh.proofs.Tables.Rows.{few-of}
+use Rattle.rows.specs.Rows.{row-count}
+use Rattle.rows.proofs.RowListLaws.{row-count-many}
+
+sound-few : (n : ℕ) (t : Tables) → sound n t ≡ true → few max-neighbours n (t .links) ≡ true
+unfolding sound sound-within rows-proper
+sound-few n t h =
+    let ts = t .links in
+    let num = number-in (t .numbers) in
+    let mirrored = symmetric n ts && irreflexive n ts in
+    let bounded = within n ts && few max-neighbours n ts in
+    let ordered = each-once n (t .order) && (rising num (t .order) && (few-later (marked ts) num (t .order) && enough n (marked ts) num)) in
+    and-right (within n ts) (few max-neighbours n ts) (and-right mirrored bounded (and-left (mirrored && bounded) ordered h))
+
+pub sound-many : (n : ℕ) (t : Tables) (a : ℕ) → a < n → max-neighbours < row-degree (t .links) a → sound n t ≡ false
+sound-many n t a l many = go (bool-cases (sound n t))
+  where
+    go : (sound n t ≡ true) ⊎ (sound n t ≡ false) → sound n t ≡ false
+    go (inl h) = absurd (omega (arith, few-of max-neighbours n (t .links) (sound-few n t h) a l))
+    go (inr h) = h
+
+-- ---- the rows that are tried
+
+abbrev pub long-rows : List ℕ
+long-rows = 41 ∷ 255 ∷ 256 ∷ 257 ∷ 288 ∷ 296 ∷ 512 ∷ []
+
+long-many : (d : ℕ) → In d long-rows → max-neighbours < d
+unfolding all
+long-many d m = ltb-true max-neighbours d (all-in (ltb max-neighbours) long-rows refl d m)
+
+-- with a row of so many bits tables are not sound
+pub long-rows-unsound : (n : ℕ) (t : Tables) (a : ℕ) → a < n → In (row-degree (t .links) a) long-rows → sound n t ≡ false
+long-rows-unsound n t a l m = sound-many n t a l (long-many (row-degree (t .links) a) m)
+
+-- and the byte says so
+pub long-rows-counted : (n : ℕ) (ts : List ℕ) → length ts ≡ row-bytes * n → (a : ℕ) → a < n → In (row-degree ts a) long-rows
+    → row-count max-neighbours ts a ≡ suc max-neighbours
+long-rows-counted n ts e a l m = row-count-many max-neighbours n ts e a l (long-many (row-degree ts a) m)
