@@ -7,15 +7,15 @@ mod say;
 mod site;
 
 fn main() {
-    site::run(b"none", site::NONE, 0);
-    site::run(b"none", site::NONE, 1);
-    site::run(b"none", site::NONE, 252);
-    site::run(b"none", site::NONE, 253);
-    site::run(b"none", site::NONE, 512);
-    site::run(b"none", site::NONE, 513);
-    site::run(b"line", site::LINE, 126);
-    site::run(b"line", site::LINE, 127);
-    site::run(b"all", site::ALL, 41);
-    site::run(b"all", site::ALL, 42);
+    site::none(0);
+    site::none(1);
+    site::none(252);
+    site::none(253);
+    site::none(512);
+    site::none(513);
+    site::line(126);
+    site::line(127);
+    site::all(41);
+    site::all(42);
     pictures::canary();
 }

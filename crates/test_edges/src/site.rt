@@ -5,11 +5,11 @@ use super::say;
 use calls::Reply;
 
 // The shapes of a site: no link, a line of all radios, all linked.
-pub const NONE: u32 = 0;
+const NONE: u32 = 0;
 
-pub const LINE: u32 = 1;
+const LINE: u32 = 1;
 
-pub const ALL: u32 = 2;
+const ALL: u32 = 2;
 
 // One more radio than a site may have, and the bytes of its links table.
 const ENTRIES: usize = 513;
@@ -108,13 +108,14 @@ fn link_up_all(
     say_reply(reply);
 }
 
-// Prints the verdict and the tables.
-fn say_tables(n: u32, links: &[u8], numbers: &[u8], order: &[u16], answer: &[u16]) {
+// Prints the verdict, the tables and the image.
+fn say_site(n: u32, links: &[u8], numbers: &[u8], order: &[u16], answer: &[u16]) {
     let verdict = soundness::check(n, links, numbers, order);
     say::pair(b"check", verdict.number, verdict.value);
     say::numbers(b"numbers", numbers);
     say::radios(b"order", order);
     say::radios(b"answer", answer);
+    pictures::write_all(n, links, numbers, order);
 }
 
 // The site, on tables that are cut to its lengths.
@@ -127,12 +128,11 @@ fn play(
     answer: &mut [u16],
 ) {
     link_up_all(shape, n, links, numbers, order, answer);
-    say_tables(n, links, numbers, order, answer);
-    pictures::write_all(n, links, numbers, order);
+    say_site(n, links, numbers, order, answer);
 }
 
 // Plays a site of n radios and prints it.
-pub fn run(name: &[u8], shape: u32, n: u32) {
+fn run(name: &[u8], shape: u32, n: u32) {
     say::word(name);
     say::field(n);
     say::end_line();
@@ -150,4 +150,16 @@ pub fn run(name: &[u8], shape: u32, n: u32) {
         &mut order[..many],
         &mut answer[..many],
     );
+}
+
+pub fn none(n: u32) {
+    run(b"none", NONE, n);
+}
+
+pub fn line(n: u32) {
+    run(b"line", LINE, n);
+}
+
+pub fn all(n: u32) {
+    run(b"all", ALL, n);
 }

@@ -1,87 +1,67 @@
-// Each exported call, with its name and its answer printed.
+// Each exported call, by the number that the file gives it, with its name and its answer printed.
+use crate::asking;
 use crate::reading::Call;
 use crate::say;
 
-pub fn clear(call: Call, links: &mut [u8], numbers: &mut [u8], order: &mut [u16]) {
-    say::number(
-        b"clear",
-        summerbugle::sb_clear(call.n, links, numbers, order),
-    );
+const CLEAR: u32 = 0;
+
+const CHECK: u32 = 1;
+
+const LINK_UP: u32 = 2;
+
+const LINK_DOWN: u32 = 3;
+
+const NUMBER: u32 = 4;
+
+const NEIGHBOURS: u32 = 5;
+
+const LINKED: u32 = 6;
+
+const FIRST: u32 = 7;
+
+const CORE: u32 = 8;
+
+const BACKBONE: u32 = 9;
+
+const TREE: u32 = 10;
+
+pub const IMAGE_WRITE: u32 = 11;
+
+const IMAGE_READ: u32 = 12;
+
+const IMAGE_BLOCK: u32 = 13;
+
+// A question about a site, which writes no table.
+fn ask<'a>(call: Call, links: &'a [u8], numbers: &'a [u8], order: &'a [u16]) {
+    let n = call.n;
+    let a = call.a;
+    let b = call.b;
+    let kind = call.kind;
+    match kind {
+        CHECK => say::value(b"check", summerbugle::sb_check(n, links, numbers, order)),
+        NUMBER => say::value(
+            b"number",
+            summerbugle::sb_number(n, a, links, numbers, order),
+        ),
+        NEIGHBOURS => say::value(
+            b"neighbours",
+            summerbugle::sb_neighbours(n, a, links, numbers, order),
+        ),
+        LINKED => say::value(
+            b"linked",
+            summerbugle::sb_linked(n, a, b, links, numbers, order),
+        ),
+        FIRST => say::value(
+            b"first",
+            summerbugle::sb_first(n, a, b, links, numbers, order),
+        ),
+        _ => {}
+    }
 }
 
-pub fn check<'a>(call: Call, links: &'a [u8], numbers: &'a [u8], order: &'a [u16]) {
-    say::value(
-        b"check",
-        summerbugle::sb_check(call.n, links, numbers, order),
-    );
-}
-
-pub fn link_up(
-    call: Call,
-    links: &mut [u8],
-    numbers: &mut [u8],
-    order: &mut [u16],
-    answer: &mut [u16],
-) {
-    let r = summerbugle::sb_link_up(call.n, call.a, call.b, links, numbers, order, answer);
-    say::reply(b"link-up", r);
-}
-
-pub fn link_down(
-    call: Call,
-    links: &mut [u8],
-    numbers: &mut [u8],
-    order: &mut [u16],
-    answer: &mut [u16],
-) {
-    let r = summerbugle::sb_link_down(call.n, call.a, call.b, links, numbers, order, answer);
-    say::reply(b"link-down", r);
-}
-
-pub fn number<'a>(call: Call, links: &'a [u8], numbers: &'a [u8], order: &'a [u16]) {
-    let r = summerbugle::sb_number(call.n, call.a, links, numbers, order);
-    say::value(b"number", r);
-}
-
-pub fn neighbours<'a>(call: Call, links: &'a [u8], numbers: &'a [u8], order: &'a [u16]) {
-    let r = summerbugle::sb_neighbours(call.n, call.a, links, numbers, order);
-    say::value(b"neighbours", r);
-}
-
-pub fn linked<'a>(call: Call, links: &'a [u8], numbers: &'a [u8], order: &'a [u16]) {
-    let r = summerbugle::sb_linked(call.n, call.a, call.b, links, numbers, order);
-    say::value(b"linked", r);
-}
-
-pub fn first<'a>(call: Call, links: &'a [u8], numbers: &'a [u8], order: &'a [u16]) {
-    let r = summerbugle::sb_first(call.n, call.a, call.b, links, numbers, order);
-    say::value(b"first", r);
-}
-
-pub fn core<'a>(
-    call: Call,
-    links: &'a [u8],
-    numbers: &'a [u8],
-    order: &'a [u16],
-    answer: &mut [u16],
-) {
-    let r = summerbugle::sb_core(call.n, call.a, call.b, links, numbers, order, answer);
-    say::value(b"core", r);
-}
-
-pub fn backbone<'a>(
-    call: Call,
-    links: &'a [u8],
-    numbers: &'a [u8],
-    order: &'a [u16],
-    answer: &mut [u16],
-) {
-    let r = summerbugle::sb_backbone(call.n, links, numbers, order, answer);
-    say::value(b"backbone", r);
-}
-
-// The list of nodes has `room` places; the fields of all places, lent or not, come back.
-pub fn tree<'a>(
+// A question about a site that lists radios. For a tree the list of nodes has `room` places; the fields of all places, lent or not,
+// come back.
+fn list<'a>(
     call: Call,
     links: &'a [u8],
     numbers: &'a [u8],
@@ -89,28 +69,88 @@ pub fn tree<'a>(
     answer: &mut [u16],
     fields: &mut [u16],
 ) {
-    let r = crate::asking::ask_within(call.n, links, numbers, order, call.room, answer, fields);
-    say::value(b"tree", r);
+    let n = call.n;
+    if call.kind == CORE {
+        let core = summerbugle::sb_core(n, call.a, call.b, links, numbers, order, answer);
+        say::value(b"core", core);
+        return;
+    }
+    if call.kind == BACKBONE {
+        let backbone = summerbugle::sb_backbone(n, links, numbers, order, answer);
+        say::value(b"backbone", backbone);
+        return;
+    }
+    if call.kind == TREE {
+        let tree = asking::ask_within(n, links, numbers, order, call.room, answer, fields);
+        say::value(b"tree", tree);
+    }
 }
 
-pub fn image_write(call: Call, links: &[u8], numbers: &[u8], order: &[u16], buffer: &mut [u8]) {
-    let r = summerbugle::sb_image_write(call.n, links, numbers, order, buffer);
-    say::value(b"image-write", r);
+// A call that takes a link up or down.
+fn link(call: Call, links: &mut [u8], numbers: &mut [u8], order: &mut [u16], answer: &mut [u16]) {
+    if call.kind == LINK_UP {
+        let up = summerbugle::sb_link_up(call.n, call.a, call.b, links, numbers, order, answer);
+        say::reply(b"link-up", up);
+        return;
+    }
+    if call.kind == LINK_DOWN {
+        let down = summerbugle::sb_link_down(call.n, call.a, call.b, links, numbers, order, answer);
+        say::reply(b"link-down", down);
+    }
 }
 
-pub fn image_read(
+// A call that sets the site's tables.
+fn set(call: Call, links: &mut [u8], numbers: &mut [u8], order: &mut [u16], image: &[u8]) {
+    if call.kind == CLEAR {
+        let cleared = summerbugle::sb_clear(call.n, links, numbers, order);
+        say::number(b"clear", cleared);
+        return;
+    }
+    if call.kind == IMAGE_READ {
+        let read = summerbugle::sb_image_read(call.n, links, numbers, order, image);
+        say::number(b"image-read", read);
+    }
+}
+
+// A call on an image that leaves the site's tables. The number of the next block has 64 bits: a has the higher ones.
+fn store(call: Call, links: &[u8], numbers: &[u8], order: &[u16], buffer: &mut [u8]) {
+    if call.kind == IMAGE_WRITE {
+        let written = summerbugle::sb_image_write(call.n, links, numbers, order, buffer);
+        say::value(b"image-write", written);
+        return;
+    }
+    if call.kind == IMAGE_BLOCK {
+        let next = call.a as usize * 4294967296 + call.b as usize;
+        say::block(b"image-block", summerbugle::sb_image_block(buffer, next));
+    }
+}
+
+// A call that only reads the site's tables.
+fn look<'a>(
+    call: Call,
+    links: &'a [u8],
+    numbers: &'a [u8],
+    order: &'a [u16],
+    answer: &mut [u16],
+    fields: &mut [u16],
+    buffer: &mut [u8],
+) {
+    ask(call, links, numbers, order);
+    list(call, links, numbers, order, answer, fields);
+    store(call, links, numbers, order, buffer);
+}
+
+// Makes the call on the lent parts: of these functions one has its kind.
+pub fn put(
     call: Call,
     links: &mut [u8],
     numbers: &mut [u8],
     order: &mut [u16],
-    image: &[u8],
+    answer: &mut [u16],
+    fields: &mut [u16],
+    buffer: &mut [u8],
 ) {
-    let r = summerbugle::sb_image_read(call.n, links, numbers, order, image);
-    say::number(b"image-read", r);
-}
-
-// The number of the next block has 64 bits: a has the higher ones.
-pub fn image_block(call: Call, image: &[u8]) {
-    let next = call.a as usize * 4294967296 + call.b as usize;
-    say::block(b"image-block", summerbugle::sb_image_block(image, next));
+    look(call, links, numbers, order, answer, fields, buffer);
+    link(call, links, numbers, order, answer);
+    set(call, links, numbers, order, buffer);
 }

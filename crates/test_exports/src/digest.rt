@@ -1,4 +1,10 @@
 // A digest of tables: a polynomial sum modulo the largest prime below 2^32.
+use crate::host::Answer;
+use crate::host::Buffer;
+use crate::host::Fields;
+use crate::host::Links;
+use crate::host::Numbers;
+use crate::host::Order;
 
 const MODULUS: u64 = 4294967291;
 
@@ -37,12 +43,12 @@ fn entries(h: u64, s: &[u16]) -> u64 {
 
 // The digest of the host's tables.
 pub fn all(
-    links: &[u8],
-    numbers: &[u8],
-    order: &[u16],
-    answer: &[u16],
-    fields: &[u16],
-    buffer: &[u8],
+    links: &Links,
+    numbers: &Numbers,
+    order: &Order,
+    answer: &Answer,
+    fields: &Fields,
+    buffer: &Buffer,
 ) -> u64 {
     let site = entries(bytes(bytes(0, links), numbers), order);
     bytes(entries(entries(site, answer), fields), buffer)

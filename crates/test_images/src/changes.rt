@@ -3,7 +3,7 @@ use super::digest;
 use super::lines;
 use super::parts;
 use super::pattern;
-use super::reading;
+use image_reader::reader;
 
 // How a byte is changed: below 256 so much is added to it modulo 256; every bit flipped; swapped with the next but one, which
 // changes nothing where the two are equal.
@@ -117,33 +117,24 @@ fn told(h: u64, number: u32, links: &[u8], numbers: &[u8], order: &[u16]) -> u64
     digest::tables(h, links, numbers, order)
 }
 
-// Reads the changed image into tables that hold the pattern.
-fn try_one(
-    t: Tally,
-    at: usize,
-    n: u32,
-    links: &mut [u8],
-    numbers: &mut [u8],
-    order: &mut [u16],
-    image: &[u8],
-) -> Tally {
-    let number = reading::read_fresh(n, links, numbers, order, image);
+// The tally with what a reading left in the tables.
+fn noted(t: Tally, at: usize, number: u32, links: &[u8], numbers: &[u8], order: &[u16]) -> Tally {
     let kept = pattern::are_kept(links, numbers, order);
     let h = digest::mixed(digest::mixed(t.digest, at as u64), number as u64);
     counted(t, number, kept, told(h, number, links, numbers, order))
 }
 
+// Reads the changed image of 5 radios into tables that hold the pattern.
+fn try_one(t: Tally, at: usize, image: &[u8]) -> Tally {
+    let mut links = [pattern::BYTE; 320];
+    let mut numbers = [pattern::BYTE; 5];
+    let mut order = [pattern::ENTRY; 5];
+    let number = reader::read(5, &mut links, &mut numbers, &mut order, image);
+    noted(t, at, number, &links, &numbers, &order)
+}
+
 // Changes every byte of the good image in turn.
-fn try_all(
-    how: u32,
-    mended: bool,
-    n: u32,
-    links: &mut [u8],
-    numbers: &mut [u8],
-    order: &mut [u16],
-    good: &[u8],
-    image: &mut [u8],
-) -> Tally {
+fn try_all(how: u32, mended: bool, good: &[u8], image: &mut [u8; 1536]) -> Tally {
     let mut t = Tally {
         accepted: 0,
         tenth: 0,
@@ -155,7 +146,7 @@ fn try_all(
     let mut at: usize = 0;
     while at < good.len() {
         put_changed(image, good, at, how, mended);
-        t = try_one(t, at, n, links, numbers, order, image);
+        t = try_one(t, at, image);
         at += 1;
     }
     t
@@ -164,16 +155,7 @@ fn try_all(
 // Changes every byte of an image of 5 radios and 3 blocks, and prints the line: how, whether checks were mended, how often 0, 10,
 // 11 and any other number came, how often a refusal changed a table, and the digest.
 fn try_line(how: u32, mended: bool, good: &[u8]) {
-    let t = try_all(
-        how,
-        mended,
-        5,
-        &mut [0u8; 320],
-        &mut [0u8; 5],
-        &mut [0u16; 5],
-        good,
-        &mut [0u8; 1536],
-    );
+    let t = try_all(how, mended, good, &mut [0u8; 1536]);
     lines::print(
         b"change",
         &[

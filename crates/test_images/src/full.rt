@@ -19,12 +19,13 @@ fn put_neighbour(k: u32, image: &mut [u8]) {
     changes::mend(image, at);
 }
 
-// Reads the changed image. The numbers are 1 before.
-pub(crate) fn try_neighbours(k: u32, links: &mut [u8], numbers: &mut [u8], order: &mut [u16]) {
-    let n = std::num::wrapping_add_u32(k, 3);
+// Reads the changed image of a site with these tables: links and order hold zeros before, and numbers 1.
+pub(crate) fn try_neighbours(k: u32, links: &mut [u8], numbers: &[u8], order: &mut [u16]) {
+    let many = (k % 1024) as usize + 3;
+    let n = many as u32;
     let mut image = [0u8; 1536];
     put_site(k, links, order);
     image_writer::writer::write(n, links, numbers, order, &mut image);
     put_neighbour(k, &mut image);
-    reading::try_read(n, links, numbers, order, &image);
+    reading::try_read(n, 64 * many, many, many, &image);
 }

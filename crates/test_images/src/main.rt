@@ -32,24 +32,32 @@ fn try_again(n: u32, links: &[u8], numbers: &[u8], order: &[u16], buffer: &[u8])
     lines::print(b"again", &[lines::yes(tables::fill::same8(buffer, &again))]);
 }
 
-// Writes the site's image, reads it with each length and size and last as it is, writes it again from the tables read, and walks
-// its blocks.
-fn try_image(n: u32, links: &mut [u8], numbers: &mut [u8], order: &mut [u16]) {
-    let mut buffer = [0u8; BUFFER];
-    let exact = writing::try_writes(n, links, numbers, order, &mut buffer);
-    reading::try_cases(n, links, numbers, order, &buffer, exact);
-    try_again(n, links, numbers, order, &buffer);
-    reading::try_blocks(parts::front(&buffer, exact));
-}
-
-// Makes the site and tries its image.
-fn try_site(shape: Shape, links: &mut [u8], numbers: &mut [u8], order: &mut [u16]) {
+// Prints the site, writes its image and reads it with each length and size and last as it is. Comes back with the image's length.
+fn try_image(
+    shape: Shape,
+    links: &[u8],
+    numbers: &[u8],
+    order: &[u16],
+    buffer: &mut [u8],
+) -> usize {
     let n = shape.radios;
     let count = shape.links;
-    sites::put_site(shape, links, numbers, order);
     let digest = digest::tables(0, links, numbers, order);
     lines::print(b"site", &[n as u64, count as u64, digest]);
-    try_image(n, links, numbers, order);
+    let exact = writing::try_writes(n, links, numbers, order, buffer);
+    reading::try_cases(n, buffer, exact);
+    exact
+}
+
+// Makes the site and tries its image, writes it again from the tables read, and walks its blocks.
+fn try_site(shape: Shape, links: &mut [u8], numbers: &mut [u8], order: &mut [u16]) {
+    let mut buffer = [0u8; BUFFER];
+    sites::put_site(shape, links, numbers, order);
+    let exact = try_image(shape, links, numbers, order, &mut buffer);
+    let image = parts::front(&buffer, exact);
+    reading::read_fresh(shape.radios, links, numbers, order, image);
+    try_again(shape.radios, links, numbers, order, &buffer);
+    reading::try_blocks(image);
 }
 
 // Tries a site whose tables are parts of the largest ones.
@@ -90,79 +98,70 @@ fn try_sites() {
 
 // A radio with 40 neighbours is taken, one with 41 is not.
 fn try_full() {
-    full::try_neighbours(39, &mut [0u8; 2688], &mut [1u8; 42], &mut [0u16; 42]);
-    full::try_neighbours(40, &mut [0u8; 2752], &mut [1u8; 43], &mut [0u16; 43]);
+    full::try_neighbours(39, &mut [0u8; 2688], &[1u8; 42], &mut [0u16; 42]);
+    full::try_neighbours(40, &mut [0u8; 2752], &[1u8; 43], &mut [0u16; 43]);
 }
 
-// Writes the image of a small site: a triangle 0 1 2, and 2 linked to 3, 3 to 4. The links table holds zeros before.
-fn put_small(links: &mut [u8], image: &mut [u8]) {
+// A small site: a triangle 0 1 2, and 2 linked to 3, 3 to 4. The links table holds zeros before.
+fn put_small(links: &mut [u8]) {
     rows::put_link(links, true, 0, 1);
     rows::put_link(links, true, 0, 2);
     rows::put_link(links, true, 1, 2);
     rows::put_link(links, true, 2, 3);
     rows::put_link(links, true, 3, 4);
-    let numbers: [u8; 5] = [2, 2, 2, 1, 1];
-    let order: [u16; 5] = [4, 3, 2, 0, 1];
-    image_writer::writer::write(5, links, &numbers, &order, image);
 }
 
-// Reads the small image into tables of these lengths.
-fn read_small(n: u32, rows: usize, radios: usize, entries: usize, image: &[u8]) {
-    reading::try_cut(
-        n,
-        rows,
-        radios,
-        entries,
-        &mut [0u8; 384],
-        &mut [0u8; 6],
-        &mut [0u16; 6],
-        image,
-    );
-}
+// Its numbers and its order.
+const NUMBERS: [u8; 5] = [2, 2, 2, 1, 1];
+
+const ORDER: [u16; 5] = [4, 3, 2, 0, 1];
 
 // Reads the small image with another n, and into tables of other lengths.
 fn try_small_reads(image: &[u8]) {
-    read_small(5, 320, 5, 5, image);
-    read_small(4, 256, 4, 4, image);
-    read_small(6, 384, 6, 6, image);
-    read_small(5, 319, 5, 5, image);
-    read_small(5, 321, 5, 5, image);
-    read_small(5, 320, 4, 5, image);
-    read_small(5, 320, 6, 5, image);
-    read_small(5, 320, 5, 4, image);
-    read_small(5, 320, 5, 6, image);
+    reading::try_read(5, 320, 5, 5, image);
+    reading::try_read(4, 256, 4, 4, image);
+    reading::try_read(6, 384, 6, 6, image);
+    reading::try_read(5, 319, 5, 5, image);
+    reading::try_read(5, 321, 5, 5, image);
+    reading::try_read(5, 320, 4, 5, image);
+    reading::try_read(5, 320, 6, 5, image);
+    reading::try_read(5, 320, 5, 4, image);
+    reading::try_read(5, 320, 5, 6, image);
     reading::try_blocks(image);
     reading::try_blocks(parts::front(image, 1535));
 }
 
-// Writes tables of the small site that are refused: unsound ones by 3, before 9 is asked; 2 before 3, and 1 before 2.
-fn try_small_writes(links: &[u8]) {
-    let numbers: [u8; 5] = [2, 2, 2, 1, 1];
-    let order: [u16; 5] = [4, 3, 2, 0, 1];
-    let mut buffer = [0u8; 1536];
-    writing::try_refused(5, links, &[2, 2, 2, 1, 2], &order, &mut buffer);
-    writing::try_refused(5, links, &numbers, &[4, 3, 2, 0, 0], &mut buffer);
-    writing::try_refused(5, &[1u8; 320], &numbers, &order, &mut buffer);
-    writing::try_refused(5, links, &[2, 2, 2, 1], &order, &mut buffer);
-    writing::try_refused(0, links, &[2, 2, 2, 1], &order, &mut buffer);
+// Writes the small site with other tables.
+fn try_small_write(links: &[u8], numbers: [u8; 5], order: [u16; 5]) {
+    writing::try_refused(5, links, &numbers, &order);
 }
 
-// Reads and walks the small image with a block that fails its check: 1, 2 and 9 are asked before 10, and 10 before 11.
+// Writes tables of the small site that are refused: unsound ones by 3, before 9 is asked; 2 before 3, and 1 before 2.
+fn try_small_writes(links: &[u8]) {
+    try_small_write(links, [2, 2, 2, 1, 2], ORDER);
+    try_small_write(links, NUMBERS, [4, 3, 2, 0, 0]);
+    try_small_write(&[1u8; 320], NUMBERS, ORDER);
+    let short = [2, 2, 2, 1];
+    writing::try_refused(5, links, &short, &ORDER);
+    writing::try_refused(0, links, &short, &ORDER);
+}
+
+// Reads and walks an image that is refused, last with this n.
+fn try_refused(image: &[u8], last: u32) {
+    reading::try_read(5, 320, 5, 5, image);
+    reading::try_read(4, 256, 4, 4, image);
+    reading::try_read(5, 319, 5, 5, image);
+    reading::try_read(last, 319, 5, 5, image);
+    reading::try_blocks(image);
+}
+
+// The small image with a block that fails its check: 1, 2 and 9 are asked before 10, and 10 before 11.
 fn try_small_refusals(good: &[u8]) {
     let mut image = [0u8; 1536];
     tables::fill::copy8(&mut image, good);
     parts::put_byte(&mut image, 600, 77);
-    read_small(5, 320, 5, 5, &image);
-    read_small(4, 256, 4, 4, &image);
-    read_small(5, 319, 5, 5, &image);
-    read_small(0, 319, 5, 5, &image);
-    reading::try_blocks(&image);
-    let cut = parts::front(&image, 1535);
-    read_small(5, 320, 5, 5, cut);
-    read_small(4, 256, 4, 4, cut);
-    read_small(5, 319, 5, 5, cut);
-    read_small(513, 319, 5, 5, cut);
-    reading::try_blocks(cut);
+    try_refused(&image, 0);
+    try_refused(parts::front(&image, 1535), 513);
 }
 
 // Changes every byte of the small image in each way.
@@ -175,15 +174,21 @@ fn try_small_changes(good: &[u8]) {
     changes::try_change(changes::SWAPPED, good);
 }
 
-fn main() {
-    try_sites();
-    try_full();
+// Tries the small site.
+fn try_small() {
     let mut links = [0u8; 320];
     let mut good = [0u8; 1536];
-    put_small(&mut links, &mut good);
+    put_small(&mut links);
+    image_writer::writer::write(5, &links, &NUMBERS, &ORDER, &mut good);
     try_small_reads(&good);
     try_small_writes(&links);
     try_small_refusals(&good);
     try_small_changes(&good);
+}
+
+fn main() {
+    try_sites();
+    try_full();
+    try_small();
     lines::print(b"canaries", &[canaries::count() as u64]);
 }

@@ -1,19 +1,12 @@
 // The pattern that tables and buffers are filled with before a call, so that a byte that was written shows.
 
-const BYTE: u8 = 165;
+pub(crate) const BYTE: u8 = 165;
 
-const ENTRY: u16 = 42405;
+pub(crate) const ENTRY: u16 = 42405;
 
 // Every byte is the pattern's after.
 pub(crate) fn fill(buffer: &mut [u8]) {
     tables::fill::fill8(buffer, BYTE);
-}
-
-// Every entry of the tables is the pattern's after.
-pub(crate) fn fill_tables(links: &mut [u8], numbers: &mut [u8], order: &mut [u16]) {
-    fill(links);
-    fill(numbers);
-    tables::fill::fill16(order, ENTRY);
 }
 
 // Whether every byte is the pattern's.

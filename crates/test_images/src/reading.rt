@@ -6,6 +6,10 @@ use super::parts;
 use super::pattern;
 use block_reader::blocks;
 use image_reader::reader;
+use mesh::Site;
+
+// The bytes of the largest links table.
+const LINKS: usize = Site::ROW_BYTES * Site::RADIOS as usize;
 
 // Reads into tables that hold the pattern.
 pub(crate) fn read_fresh(
@@ -15,7 +19,9 @@ pub(crate) fn read_fresh(
     order: &mut [u16],
     image: &[u8],
 ) -> u32 {
-    pattern::fill_tables(links, numbers, order);
+    pattern::fill(links);
+    pattern::fill(numbers);
+    tables::fill::fill16(order, pattern::ENTRY);
     reader::read(n, links, numbers, order, image)
 }
 
@@ -40,15 +46,46 @@ fn print_read(n: u32, links: &[u8], numbers: &[u8], order: &[u16], image: &[u8],
 }
 
 // Reads into tables that hold the pattern and prints the line.
-pub(crate) fn try_read(
+fn try_tables(n: u32, links: &mut [u8], numbers: &mut [u8], order: &mut [u16], image: &[u8]) {
+    let number = reader::read(n, links, numbers, order, image);
+    print_read(n, links, numbers, order, image, number);
+}
+
+// The same, into the front of each table.
+fn try_fronts(
     n: u32,
+    rows: usize,
+    radios: usize,
+    entries: usize,
     links: &mut [u8],
     numbers: &mut [u8],
     order: &mut [u16],
     image: &[u8],
 ) {
-    let number = read_fresh(n, links, numbers, order, image);
-    print_read(n, links, numbers, order, image, number);
+    let a = tables::fill::least(rows, links.len());
+    let b = tables::fill::least(radios, numbers.len());
+    let c = tables::fill::least(entries, order.len());
+    try_tables(
+        n,
+        &mut links[0..a],
+        &mut numbers[0..b],
+        &mut order[0..c],
+        image,
+    );
+}
+
+// Reads into tables of the lengths given, which hold the pattern, and prints the line.
+pub(crate) fn try_read(n: u32, rows: usize, radios: usize, entries: usize, image: &[u8]) {
+    try_fronts(
+        n,
+        rows,
+        radios,
+        entries,
+        &mut [pattern::BYTE; LINKS],
+        &mut [pattern::BYTE; Site::RADIOS as usize],
+        &mut [pattern::ENTRY; Site::RADIOS as usize],
+        image,
+    );
 }
 
 // The cases of a site: four lengths of the image, four sizes of the site, and last the image as it is.
@@ -77,43 +114,14 @@ fn case_size(k: u32, n: u32) -> u32 {
 }
 
 // Tries every case of a site whose image is the first `exact` bytes of the buffer, zeros after it.
-pub(crate) fn try_cases(
-    n: u32,
-    links: &mut [u8],
-    numbers: &mut [u8],
-    order: &mut [u16],
-    buffer: &[u8],
-    exact: usize,
-) {
+pub(crate) fn try_cases(n: u32, buffer: &[u8], exact: usize) {
+    let many = n as usize % 1024;
     let mut k: u32 = 0;
     while k < CASES {
         let image = parts::front(buffer, case_length(k, exact));
-        try_read(case_size(k, n), links, numbers, order, image);
+        try_read(case_size(k, n), Site::ROW_BYTES * many, many, many, image);
         k += 1;
     }
-}
-
-// Reads into tables of the lengths given, cut from the ones lent.
-pub(crate) fn try_cut(
-    n: u32,
-    rows: usize,
-    radios: usize,
-    entries: usize,
-    links: &mut [u8],
-    numbers: &mut [u8],
-    order: &mut [u16],
-    image: &[u8],
-) {
-    let a = tables::fill::least(rows, links.len());
-    let b = tables::fill::least(radios, numbers.len());
-    let c = tables::fill::least(entries, order.len());
-    try_read(
-        n,
-        &mut links[0..a],
-        &mut numbers[0..b],
-        &mut order[0..c],
-        image,
-    );
 }
 
 // Steps of the block reader so far: the number of its next block, the last refusal number, the bytes given, how often it said

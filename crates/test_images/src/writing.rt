@@ -42,9 +42,10 @@ fn try_write(
 }
 
 // Writes tables that are refused, into a buffer that would do and into none.
-pub(crate) fn try_refused(n: u32, links: &[u8], numbers: &[u8], order: &[u16], buffer: &mut [u8]) {
-    try_write(1536, n, links, numbers, order, buffer);
-    try_write(0, n, links, numbers, order, buffer);
+pub(crate) fn try_refused(n: u32, links: &[u8], numbers: &[u8], order: &[u16]) {
+    let mut buffer = [0u8; 1536];
+    try_write(1536, n, links, numbers, order, &mut buffer);
+    try_write(0, n, links, numbers, order, &mut buffer);
 }
 
 // Writes into as many bytes as the image has, into one less, and into none.

@@ -130,7 +130,6 @@ fn play(
         compared: 0,
         wrong: 0,
     };
-    tables::clear::clear(n, links, numbers, order);
     crate::reading::link_all(fd, n, links, numbers, order, answer);
     let sound = calls(fd, links, numbers, order, answer, none);
     tables::fill::fill8(numbers, 255);

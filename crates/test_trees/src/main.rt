@@ -31,7 +31,7 @@ fn case(path: &[u8]) {
     io::write_all(STDOUT_FILENO, b"\n");
 }
 
-fn main() {
+fn documents() {
     // document 01's
     case(b"m3");
     case(b"m4");
@@ -39,21 +39,35 @@ fn main() {
     case(b"m7");
     // document 02's
     case(b"halls");
-    // sizes
+}
+
+fn sizes() {
     case(b"one-radio");
     case(b"cleared-512");
     case(b"clique-41");
     case(b"pairs-512");
-    // nested cores and several parts
+}
+
+fn nested() {
     case(b"nested-12");
     case(b"nested-12-moved");
     case(b"chain-6");
     case(b"chain-28");
     case(b"chain-28-moved");
+}
+
+fn several_parts() {
     case(b"branches");
     case(b"parts");
     case(b"towers-512");
     case(b"sparse-512");
+}
+
+fn main() {
+    documents();
+    sizes();
+    nested();
+    several_parts();
     // each part of an outcome owed wrongly once
     case(b"canary");
 }

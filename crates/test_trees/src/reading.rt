@@ -12,7 +12,7 @@ pub fn word(fd: i32) -> u16 {
     wide(two[0]) | (wide(two[1]) << 8)
 }
 
-// Takes up each link that the file lists, after their count.
+// Clears the site and takes up each link that the file lists, after their count.
 pub fn link_all(
     fd: i32,
     n: u32,
@@ -21,6 +21,7 @@ pub fn link_all(
     order: &mut [u16],
     answer: &mut [u16],
 ) {
+    tables::clear::clear(n, links, numbers, order);
     let count = word(fd);
     let mut i: u16 = 0;
     while i < count {

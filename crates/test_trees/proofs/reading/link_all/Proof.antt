@@ -15,6 +15,7 @@ abbrev μ-loop : tie.MeasureT-loop
 pub link-all-spec : {M : Type 1} → statement M
 link-all-spec =
     tie.close (
-    tie.spec Inv-loop μ-loop (λ c κs. search needs) (λ c. (refl, refl, refl, refl)) (λ c κs. search needs) (λ c. search needs) (λ c κs. search needs)
-    (λ c. search needs) (λ c κs. search needs) (λ c. search needs) (λ c. search needs) (λ c. (search needs, search needs, search needs, search needs))
-    (λ c. search needs) (λ c. search needs) (λ c. search needs) (λ c. search needs) (λ c. search needs))
+    tie.spec Inv-loop μ-loop (λ c κs. search needs) (λ c κs. search needs) (λ c. (refl, refl, refl, refl)) (λ c κs. search needs) (λ c. search needs)
+    (λ c κs. search needs) (λ c. search needs) (λ c κs. search needs) (λ c. search needs) (λ c. search needs)
+    (λ c. (search needs, search needs, search needs, search needs)) (λ c. search needs) (λ c. search needs) (λ c. search needs) (λ c. search needs)
+    (λ c. search needs))
