@@ -7,8 +7,8 @@
 --   ends-good                each of some radios is below n, is not a, and marks a too
 --   rising-from              numbers never fall along a list, and do not begin below the given one
 --   row-good                 the conditions of document 01 on radio a: its row, its later neighbours, its neighbours that are not below it
---   Ends-room, Rows-room   what private functions of src/lib.rt want of the tables that they read
---   Placing, Places-found, Ends-counted, Row-checked, Highs, Rows-checked, Examined   what the functions of src/lib.rt come back with
+--   Sound-radio, Ends-room, Rows-room   what private functions of src/lib.rt want of the tables that they read
+--   Placing, Places-found, Ends-counted, Later-counted, Row-checked, Highs, Rows-checked, Examined   what the functions of src/lib.rt come back with
 --   nowhere                  a place that no entry of an order has
 --   examinable               questions 1 and 2 get yes, and the lent tables of places and high counts are long enough
 --   fits-sound               questions 1 to 3 get yes
@@ -21,9 +21,10 @@ use Prim.Native.Nat.{ℕ, suc, _+_, _*_, _%_, _≤_, _<_, min}
 use lib.Dec.{ltb, leb, eqb}
 use lib.ListN.{length, getD}
 use Rattle.mesh.specs.Limits.{max-radios, max-neighbours, row-bytes}
-use Rattle.lists.specs.Lists.{range, count, all}
-use Rattle.mesh.specs.Orders.{each-once}
-use Rattle.mesh.specs.Tables.{Tables, marked}
+use Rattle.lists.specs.Lists.{range, count, all, head-or}
+use Rattle.mesh.specs.Orders.{each-once, later-in, nobody}
+use Rattle.mesh.specs.Tables.{Tables, marked, graph-in}
+use Rattle.mesh.specs.Graph.{linked}
 use Rattle.mesh.specs.Sound.{number-in, sound}
 use Rattle.calls.specs.Questions.{Lengths, lengths-of, size-good, site-lengths, answer-length}
 use Rattle.rows.specs.Rows.{neighbours-of}
@@ -56,6 +57,10 @@ row-good most n ts ns ps a =
     leb (length xs) most
     && (ends-good n ts a xs && (leb (later-count ps a xs) (number-in ns a) && leb (number-in ns a) (high-count ns a xs)))
 
+-- questions 1 to 3 get yes of links, numbers and order
+unfoldable pub fits-sound : (n : ℕ) → Tables → Bool
+fits-sound n t = size-good n && (site-lengths n (lengths-of t) && sound n t)
+
 -- `true` of an empty list whatever m
 unfoldable pub rising-from : (num : ℕ → ℕ) → (m : ℕ) → List ℕ → Bool
 rising-from num m [] = true
@@ -84,6 +89,16 @@ pub record Ends-counted (n : ℕ) (links numbers places : List ℕ) (a : ℕ) (x
   pub later-is : good ≡ true → later ≡ later-count places a xs
   pub first-is : good ≡ true → first ≡ first-key places a xs % 65536
   pub high-is : good ≡ true → high ≡ high-count numbers a xs
+
+-- sound tables and a radio of theirs
+pub record Sound-radio (n v : ℕ) (t : Tables) : Type 0 where
+  pub is-sound : fits-sound n t ≡ true
+  pub radio : v < n
+
+-- how many neighbours of v stand after it in the order, and the first of them
+pub record Later-counted (n v : ℕ) (t : Tables) (later first : ℕ) : Type 0 where
+  pub later-is : later ≡ length (later-in (linked (graph-in n (t .links))) v (t .order))
+  pub first-is : first ≡ head-or nobody (later-in (linked (graph-in n (t .links))) v (t .order))
 
 -- what counting the ends of a row wants of the lengths of the tables it reads
 pub record Ends-room (a k links numbers places list : ℕ) : Type 0 where
@@ -129,7 +144,3 @@ pub record Examined (n : ℕ) (t : Tables) (ps qs hs is : List ℕ) (r : Bool) :
   pub highs : r ≡ true → Highs n (t .links) (t .numbers) is
   pub places-long : length qs ≡ length ps
   pub highs-long : length is ≡ length hs
-
--- questions 1 to 3 get yes of links, numbers and order
-unfoldable pub fits-sound : (n : ℕ) → Tables → Bool
-fits-sound n t = size-good n && (site-lengths n (lengths-of t) && sound n t)

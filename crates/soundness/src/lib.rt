@@ -17,6 +17,8 @@ use calls::Refusal;
 use calls::Value;
 use mesh::Site;
 
+pub mod wake;
+
 // A place that no entry of the order has.
 const NOWHERE: u16 = 65535;
 
@@ -25,7 +27,7 @@ const NO_KEY: u32 = 4294967295;
 
 // Writes the place of each radio into `places`. Comes back with whether the order holds each radio below its length once;
 // where it does not, `places` holds anything.
-fn place(order: &[u16], places: &mut [u16]) -> bool
+pub(crate) fn place(order: &[u16], places: &mut [u16]) -> bool
     requires { ⌜ (length (now order) ≤ length (now places)) × (length (now order) ≤ max-radios) ⌝ }
     ensures { λ r. ⌜ Placing (now (order .entry)) (now (places .entry)) (now (places .exit)) r ⌝ }
 {
