@@ -7,13 +7,19 @@ ghost use Rattle.mesh.specs.Sound.{sound};
 ghost use Rattle.calls.specs.Questions.{lengths-of, radio-refusal};
 ghost use Rattle.calls.specs.Contracts.Wake.{Later-contract};
 ghost use Rattle.soundness.specs.Checks.{Sound-radio, Later-counted};
+use crate::Ends;
 use calls::Later;
 use calls::Refusal;
-use crate::Ends;
 use mesh::Site;
 
 // Questions 1 to 4 of one radio.
-pub fn radio_refusal<'a>(n: u32, v: u32, links: &'a [u8], numbers: &'a [u8], order: &'a [u16]) -> u32
+pub fn radio_refusal<'a>(
+    n: u32,
+    v: u32,
+    links: &'a [u8],
+    numbers: &'a [u8],
+    order: &'a [u16],
+) -> u32
     ensures { λ r. ⌜ r ≡ radio-refusal n v (lengths-of (lent (links .entry) (numbers .entry) (order .entry)))
         (sound n (lent (links .entry) (numbers .entry) (order .entry))) ⌝ }
 {

@@ -48,6 +48,11 @@ pub fn neighbours<'a>(call: Call, links: &'a [u8], numbers: &'a [u8], order: &'a
     say::value(b"neighbours", r);
 }
 
+pub fn later_of<'a>(call: Call, links: &'a [u8], numbers: &'a [u8], order: &'a [u16]) {
+    let r = summerbugle::sb_later_of(call.n, call.a, links, numbers, order);
+    say::later(b"later-of", r);
+}
+
 pub fn linked<'a>(call: Call, links: &'a [u8], numbers: &'a [u8], order: &'a [u16]) {
     let r = summerbugle::sb_linked(call.n, call.a, call.b, links, numbers, order);
     say::value(b"linked", r);

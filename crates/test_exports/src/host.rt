@@ -49,17 +49,19 @@ const IMAGE_READ: u32 = 12;
 
 const IMAGE_BLOCK: u32 = 13;
 
-const SPOIL_LINKS: u32 = 14;
+const LATER_OF: u32 = 14;
 
-const SPOIL_NUMBERS: u32 = 15;
+const SPOIL_LINKS: u32 = 15;
 
-const SPOIL_ORDER: u32 = 16;
+const SPOIL_NUMBERS: u32 = 16;
 
-const SPOIL_ANSWER: u32 = 17;
+const SPOIL_ORDER: u32 = 17;
 
-const SPOIL_FIELDS: u32 = 18;
+const SPOIL_ANSWER: u32 = 18;
 
-const SPOIL_BUFFER: u32 = 19;
+const SPOIL_FIELDS: u32 = 19;
+
+const SPOIL_BUFFER: u32 = 20;
 
 // A question about a site, which writes no table.
 fn ask<'a>(call: Call, links: &'a [u8], numbers: &'a [u8], order: &'a [u16]) {
@@ -70,6 +72,7 @@ fn ask<'a>(call: Call, links: &'a [u8], numbers: &'a [u8], order: &'a [u16]) {
         NEIGHBOURS => calling::neighbours(call, links, numbers, order),
         LINKED => calling::linked(call, links, numbers, order),
         FIRST => calling::first(call, links, numbers, order),
+        LATER_OF => calling::later_of(call, links, numbers, order),
         _ => {}
     }
 }
