@@ -82,6 +82,18 @@ fn say_bits(name: &[u8], k: usize, own: bool)
     );
 }
 
+// Rows of up to 512 bits: 256 + 32 and 256 + 40 are what a byte that wraps takes for few.
+fn say_long_rows() {
+    say_bits(b"bits-40", 40, false);
+    say_bits(b"bits-41", 41, false);
+    say_bits(b"bits-255", 255, false);
+    say_bits(b"bits-256", 256, false);
+    say_bits(b"bits-257", 257, false);
+    say_bits(b"bits-288", 288, false);
+    say_bits(b"bits-296", 296, false);
+    say_bits(b"bits-512", 511, true);
+}
+
 fn main() {
     let numbers: [u8; 5] = [2, 2, 2, 1, 0];
     let order: [u16; 5] = [4, 3, 2, 0, 1];
@@ -108,15 +120,7 @@ fn main() {
         &[1u8; 42],
         &mut [0u16; 42],
     );
-    // 256 + 32 and 256 + 40 bits are what a byte that wraps takes for few
-    say_bits(b"bits-40", 40, false);
-    say_bits(b"bits-41", 41, false);
-    say_bits(b"bits-255", 255, false);
-    say_bits(b"bits-256", 256, false);
-    say_bits(b"bits-257", 257, false);
-    say_bits(b"bits-288", 288, false);
-    say_bits(b"bits-296", 296, false);
-    say_bits(b"bits-512", 511, true);
+    say_long_rows();
     // order
     say_tables(b"entry-twice", 5, &numbers, &[4, 3, 2, 0, 0]);
     say_tables(b"entry-n", 5, &numbers, &[4, 3, 2, 0, 5]);
