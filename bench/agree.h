@@ -55,6 +55,9 @@ static int agree_questions(void) {
         unsigned a = rand() % (n + 1), b = rand() % (n + 1), k = rand() % (e->site.numbers[a % n] + 2);
         if (!same(sb_number(n, a, OF(t)), c_number(&u, a)) || !same(sb_neighbours(n, a, OF(t)), c_neighbours(&u, a))) return 0;
         if (!same(sb_linked(n, a, b, OF(t)), c_linked(&u, a, b)) || !same(sb_first(n, a, b, OF(t)), c_first(&u, a, b))) return 0;
+        sb_later l = sb_later_of(n, a, OF(t));
+        struct c_later m = c_later_of(&u, a);
+        if (l.number != m.number || l.count != m.count || l.first != m.first) return 0;
         if (!same(sb_core(n, a, k, OF(t), x, n), c_core(&u, a, k, y, n)) || !same_tables()) return 0;
         if (!same(sb_backbone(n, OF(t), x, n - i % 2), c_backbone(&u, y, n - i % 2)) || !same_tables()) return 0;
     }

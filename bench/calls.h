@@ -80,6 +80,7 @@ CALL(number, sb_number(n, B, SITE).value, c_number(&e->site, B).value)
 CALL(neighbours, sb_neighbours(n, B, SITE).value, c_neighbours(&e->site, B).value)
 CALL(linked, sb_linked(n, A, B, SITE).value, c_linked(&e->site, A, B).value)
 CALL(first, sb_first(n, A, B, SITE).value, c_first(&e->site, A, B).value)
+CALL(later_of, sb_later_of(n, B, SITE).first, c_later_of(&e->site, B).first)
 CALL(link, sb_link_down(n, A, B, SITE, answer, n).count + sb_link_up(n, A, B, SITE, answer, n).count,
      c_link(0, &e->site, A, B, answer, n).count + c_link(1, &e->site, A, B, answer, n).count)
 CALL(core, sb_core(n, A, 1, SITE, answer, n).value, c_core(&e->site, A, 1, answer, n).value)
@@ -99,6 +100,7 @@ static const struct call {
     {"neighbours", engine_neighbours, in_c_neighbours},
     {"linked", engine_linked, in_c_linked},
     {"first", engine_first, in_c_first},
+    {"later_of", engine_later_of, in_c_later_of},
     {"down+up", engine_link, in_c_link},
     {"core", engine_core, in_c_core},
     {"backbone", engine_backbone, in_c_backbone},

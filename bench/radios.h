@@ -38,4 +38,24 @@ static struct c_value c_first(const struct lent *t, uint32_t a, uint32_t b) {
     while (t->order[i] != a && t->order[i] != b) i++;
     return (struct c_value){0, t->order[i]};
 }
+
+struct c_later {
+    unsigned number, count, first;
+};
+
+static struct c_later c_later_of(const struct lent *t, uint32_t v) {
+    uint16_t places[RADIOS], list[NEIGHBOURS];
+    struct c_later l = {c_radios(t, v, v), 0, 0};
+    if (l.number) return l;
+    c_place(t->n, t->order, places);
+    unsigned k = row_list(t->links, v, list, NEIGHBOURS), least = NOWHERE;
+    for (unsigned i = 0; i < k; i++) {
+        unsigned place = places[list[i]];
+        if (place <= places[v]) continue;
+        l.count++;
+        if (place < least) least = place;
+    }
+    l.first = least == NOWHERE ? 65535 : t->order[least];
+    return l;
+}
 #endif

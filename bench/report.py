@@ -16,7 +16,7 @@ TOP = Path(__file__).resolve().parent.parent
 START, END = "<!-- measured: bench/run --write -->\n", "<!-- end -->\n"
 SITES = ["sparse", "dense", "ring", "circulant", "parts"]
 SIZES = [16, 64, 256, 512]
-NEAR = ["clear", "check", "number", "neighbours", "linked", "first", "down+up"]
+NEAR = ["clear", "check", "number", "neighbours", "linked", "first", "later_of", "down+up"]
 MOST_GROWTH, MOST_STACK, LEAST_IGRAPH, LEAST_NETWORKX = 40, 8192, 2, 20
 
 

@@ -27,6 +27,11 @@ static void down(uint32_t a, uint32_t b) { print_reply("down", a, b, sb_link_dow
 
 static void print_value(const char *question, sb_value v) { printf("%s: number %u, value %u\n", question, v.number, v.value); }
 
+static void print_later(uint32_t v) {
+    sb_later l = sb_later_of(N, v, TABLES);
+    printf("later than %u: number %u, count %u, first %u\n", v, l.number, l.count, l.first);
+}
+
 static void print_radios(const char *question, sb_value v) {
     printf("%s: number %u, radios", question, v.number);
     print_list(answer, v.value);
@@ -51,6 +56,9 @@ static void ask(void) {
     print_value("linked 0 6", sb_linked(N, 0, 6, TABLES));
     print_value("linked 1 6", sb_linked(N, 1, 6, TABLES));
     print_value("first of 0 and 6", sb_first(N, 0, 6, TABLES));
+    print_later(0);
+    print_later(1);
+    print_later(7);
     print_radios("core of 6 at level 1", sb_core(N, 6, 1, TABLES, ANSWER));
     print_radios("core of 6 at level 2", sb_core(N, 6, 2, TABLES, ANSWER));
     print_radios("backbone", sb_backbone(N, TABLES, ANSWER));

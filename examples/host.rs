@@ -14,6 +14,13 @@ struct Reply {
 }
 
 #[repr(C)]
+struct Later {
+    number: u32,
+    count: u32,
+    first: u32,
+}
+
+#[repr(C)]
 struct Block {
     number: u32,
     end: u32,
@@ -32,7 +39,7 @@ struct Node {
 
 // The engine's calls; include/summerbugle.h says what each takes and answers.
 mod engine {
-    use super::{Block, Node, Reply, Value};
+    use super::{Block, Later, Node, Reply, Value};
 
     extern "C" {
         pub fn sb_clear(n: u32, l: *mut u8, ll: usize, k: *mut u8, kl: usize, o: *mut u16, ol: usize) -> u32;
@@ -43,6 +50,7 @@ mod engine {
         pub fn sb_neighbours(n: u32, v: u32, l: *const u8, ll: usize, k: *const u8, kl: usize, o: *const u16, ol: usize) -> Value;
         pub fn sb_linked(n: u32, a: u32, b: u32, l: *const u8, ll: usize, k: *const u8, kl: usize, o: *const u16, ol: usize) -> Value;
         pub fn sb_first(n: u32, a: u32, b: u32, l: *const u8, ll: usize, k: *const u8, kl: usize, o: *const u16, ol: usize) -> Value;
+        pub fn sb_later_of(n: u32, v: u32, l: *const u8, ll: usize, k: *const u8, kl: usize, o: *const u16, ol: usize) -> Later;
         pub fn sb_core(n: u32, v: u32, level: u32, l: *const u8, ll: usize, k: *const u8, kl: usize, o: *const u16, ol: usize, w: *mut u16, wl: usize) -> Value;
         pub fn sb_backbone(n: u32, l: *const u8, ll: usize, k: *const u8, kl: usize, o: *const u16, ol: usize, w: *mut u16, wl: usize) -> Value;
         pub fn sb_tree(n: u32, l: *const u8, ll: usize, k: *const u8, kl: usize, o: *const u16, ol: usize, nodes: *mut Node, len: usize, w: *mut u16, wl: usize) -> Value;
@@ -97,6 +105,11 @@ impl Site {
         print_list(&self.answer[..v.value as usize]);
     }
 
+    fn later(&mut self, v: u32) {
+        let l = call!(sb_later_of, self, [v], []);
+        println!("later than {v}: number {}, count {}, first {}", l.number, l.count, l.first);
+    }
+
     fn core(&mut self, v: u32, level: u32) {
         let r = call!(sb_core, self, [v, level], [self.answer.as_mut_ptr(), self.answer.len()]);
         self.print_radios(&format!("core of {v} at level {level}"), r);
@@ -134,6 +147,9 @@ fn ask(s: &mut Site) {
     print_value("linked 0 6", call!(sb_linked, s, [0, 6], []));
     print_value("linked 1 6", call!(sb_linked, s, [1, 6], []));
     print_value("first of 0 and 6", call!(sb_first, s, [0, 6], []));
+    s.later(0);
+    s.later(1);
+    s.later(7);
     s.core(6, 1);
     s.core(6, 2);
     let v = call!(sb_backbone, s, [], [s.answer.as_mut_ptr(), s.answer.len()]);

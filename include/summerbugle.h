@@ -31,6 +31,8 @@ extern "C" {
 #define SB_ROW_BYTES 64u
 /* The name and the parent of the shell tree's root. */
 #define SB_ROOT 65535u
+/* In place of a radio: no later neighbour. */
+#define SB_NOBODY 65535u
 /* The bytes of a block of an image, and of its payload. The longest image has 86 blocks. */
 #define SB_BLOCK_BYTES 512u
 #define SB_PAYLOAD_BYTES 504u
@@ -63,6 +65,13 @@ typedef struct {
     int8_t step;
     uint32_t count;
 } sb_reply;
+
+/* The later neighbours of a radio: refusal number, their count, and the first of them (zeros when refused). */
+typedef struct {
+    uint32_t number;
+    uint32_t count;
+    uint32_t first;
+} sb_later;
 
 /* A node of the shell tree: its name, its level and its parent's name. The root is SB_ROOT, 0, SB_ROOT. */
 typedef struct {
@@ -124,7 +133,7 @@ sb_reply sb_link_down(uint32_t n, uint32_t a, uint32_t b, uint8_t *links, size_t
                       uint16_t *answer, size_t answer_len);
 
 /**
- * The number of radio v. The tables are only read, here and in the next three calls.
+ * The number of radio v. The tables are only read, here and in the next four calls.
  *
  * \return number 0 and the radio's number; or a number from SB_SIZE to SB_RADIO and value 0.
  */
@@ -154,6 +163,15 @@ sb_value sb_linked(uint32_t n, uint32_t a, uint32_t b, const uint8_t *links, siz
  */
 sb_value sb_first(uint32_t n, uint32_t a, uint32_t b, const uint8_t *links, size_t links_len,
                   const uint8_t *numbers, size_t numbers_len, const uint16_t *order, size_t order_len);
+
+/**
+ * The neighbours of radio v that stand after it in the order: how many, and the first of them, through which v is woken.
+ *
+ * \return number 0, the count, at most the radio's number, and the first, SB_NOBODY when the count is 0; or a number from SB_SIZE to
+ *         SB_RADIO, and zeros.
+ */
+sb_later sb_later_of(uint32_t n, uint32_t v, const uint8_t *links, size_t links_len,
+                     const uint8_t *numbers, size_t numbers_len, const uint16_t *order, size_t order_len);
 
 /**
  * The connected core of radio v at level k: all radios reachable from v over radios with number k or more. At level 0 it is v's

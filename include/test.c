@@ -19,6 +19,7 @@ static void expect(const char *what, size_t is, size_t should_be) {
 static void test_structs(void) {
     SIZE(sb_value, 8), PART(sb_value, number, 0, 4), PART(sb_value, value, 4, 4);
     SIZE(sb_reply, 12), PART(sb_reply, number, 0, 4), PART(sb_reply, step, 4, 1), PART(sb_reply, count, 8, 4);
+    SIZE(sb_later, 12), PART(sb_later, number, 0, 4), PART(sb_later, count, 4, 4), PART(sb_later, first, 8, 4);
     SIZE(sb_node, 6), PART(sb_node, name, 0, 2), PART(sb_node, level, 2, 2), PART(sb_node, parent, 4, 2);
     SIZE(sb_block, 32), PART(sb_block, number, 0, 4), PART(sb_block, end, 4, 4);
     PART(sb_block, offset, 8, 8), PART(sb_block, length, 16, 8), PART(sb_block, next, 24, 8);
@@ -42,6 +43,15 @@ static void test_limits(void) {
     expect("a step down", sb_link_down(SB_RADIOS, 0, 1, TABLES, ANSWER).step == -1, 1);
     expect("a step up", sb_link_up(SB_RADIOS, 0, 1, TABLES, ANSWER).step == 1, 1);
     expect("neighbours", sb_neighbours(SB_RADIOS, 0, TABLES).value, SB_NEIGHBOURS);
+}
+
+/* A star: its leaves stand before its hub but for one, which goes last. */
+static void test_later(void) {
+    sb_later none = sb_later_of(SB_RADIOS, order[SB_RADIOS - 1], TABLES);
+    sb_later leaf = sb_later_of(SB_RADIOS, 2, TABLES), past = sb_later_of(SB_RADIOS, SB_RADIOS, TABLES);
+    expect("none later", none.count, 0), expect("nobody", none.first, SB_NOBODY), expect("no refusal", none.number, SB_OK);
+    expect("one later", leaf.count, 1), expect("the hub", leaf.first, 0);
+    expect("later of no radio", past.number, SB_RADIO), expect("zero", past.count + past.first, 0);
 }
 
 static void test_refusals(void) {
@@ -84,6 +94,7 @@ static void test_images(void) {
 int main(void) {
     test_structs();
     test_limits();
+    test_later();
     test_refusals();
     test_tree();
     test_images();

@@ -19,7 +19,7 @@ ENTRIES, PLACES, BUFFER = 514, 515, 4096  # the program's tables: radios, nodes,
 BYTE, KEPT = 165, 600  # what they hold before they are written
 MODULUS, BASE = 4294967291, 65599  # of the digest that the program prints
 KINDS = ["clear", "check", "link-up", "link-down", "number", "neighbours", "linked", "first", "core", "backbone", "tree",
-         "image-write", "image-read", "image-block", "spoil-links", "spoil-numbers", "spoil-order",
+         "image-write", "image-read", "image-block", "later-of", "spoil-links", "spoil-numbers", "spoil-order",
          "spoil-answer", "spoil-fields", "spoil-buffer"]
 CRATE = Path(__file__).resolve().parent.parent / "crates/test_exports"
 
@@ -140,6 +140,14 @@ class Host:
     def first(self, n, a, b, lengths):
         return self.asked(self.refused(n, lengths, a, b), lambda: min(a, b, key=self.order.index))
 
+    def later_of(self, n, v, b, lengths):
+        number = self.refused(n, lengths, v)
+        if number:
+            return [number, 0, 0]
+        order = self.order[:n]
+        later = [u for u in order[order.index(v) + 1:] if reference.linked(self.site(n).links, v, u)]
+        return [0, len(later), later[0] if later else 65535]
+
     def listed(self, number, radios):
         self.answer[:len(radios)] = radios
         return [number, len(radios)]
@@ -210,9 +218,9 @@ class Host:
 # ---- what a host tries
 
 LARGEST = 2 ** 32 - 1
-SITE = ["check", "link-up", "link-down", "number", "neighbours", "linked", "first", "core", "backbone", "tree", "image-write"]
+SITE = ["check", "link-up", "link-down", "number", "neighbours", "linked", "first", "later-of", "core", "backbone", "tree", "image-write"]
 ANSWER = ["link-up", "link-down", "core", "backbone", "tree"]
-RADIO = ["link-up", "link-down", "number", "neighbours", "linked", "first", "core"]
+RADIO = ["link-up", "link-down", "number", "neighbours", "linked", "first", "later-of", "core"]
 
 
 def sizes_and_lengths(host, n):
@@ -258,7 +266,7 @@ def radios(host, n):
 def questions(host, n):
     """Every question about every radio."""
     for v in range(n):
-        for kind in ("number", "neighbours"):
+        for kind in ("number", "neighbours", "later-of"):
             host.call(kind, n, v)
         for k in range(4):
             host.call("core", n, v, k)
@@ -330,6 +338,14 @@ def play(host):
     host.call("link-down", 42, 0, 1)
     host.call("link-up", 42, 41, 0)
     lists(host, 42)
+    for v in (0, 1, 2, 41):
+        host.call("later-of", 42, v)
+    # document 02, W-206: a ring, whose order is 3 2 0 1
+    host.call("clear", 4)
+    for a, b in [(0, 1), (1, 2), (2, 3), (3, 0)]:
+        host.call("link-up", 4, a, b)
+    for v in range(5):
+        host.call("later-of", 4, v)
     # one radio, and as many as a site may have
     host.call("clear", 1)
     lists(host, 1)

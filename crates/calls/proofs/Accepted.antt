@@ -2,6 +2,7 @@
 --   check-right          the check answers 1 exactly for proper rows, core numbers and a k-order
 --   link-right           numbers and order are right after a link call, for the graph in the new links table
 --   number-right         the number answered is the core number by the largest group
+--   later-right          the later neighbours are counted, and the first is the first
 --   core-right, backbone-right   the radios listed are exactly the connected core, the backbone
 --   tree-right-listed    the nodes are the shell tree, and each radio has its node's name
 --   write-right          the bytes written are the image of the tables, and of sound tables
@@ -20,10 +21,10 @@ use lib.ListN.{length, getD, take, drop, List·getD-append}
 use lib.Seq.{ext-getD}
 use borrow.Author.Tests.{ltb-true, ltb-false}
 use Rattle.mesh.specs.Limits.{max-neighbours}
-use Rattle.lists.specs.Lists.{range, overwrite, Ascending, Entries-below}
-use Rattle.mesh.specs.Graph.{Graph, radios, relinked}
+use Rattle.lists.specs.Lists.{range, head-or, overwrite, In, Ascending, Entries-below}
+use Rattle.mesh.specs.Graph.{Graph, linked, radios, relinked}
 use Rattle.mesh.specs.Cores.{Core, number, numbers}
-use Rattle.mesh.specs.Orders.{is-k-order}
+use Rattle.mesh.specs.Orders.{is-k-order, later-in, nobody}
 use Rattle.mesh.specs.Levels.{changed}
 use Rattle.mesh.specs.Tables.{Tables, graph-in, tables-of, Tables-of-size}
 use Rattle.mesh.specs.Sound.{sound}
@@ -33,9 +34,11 @@ use Rattle.mesh.specs.Image.{block-bytes, image-of, image-graph, image-order, w
 use Rattle.mesh.specs.declared.Node.{Node}
 use Rattle.lists.proofs.Tests.{never}
 use Rattle.lists.proofs.Map.{length-map, getD-map-range}
-use Rattle.lists.proofs.Range.{length-range}
+use Rattle.lists.proofs.Range.{length-range, once-below}
 use Rattle.lists.proofs.Overwrite.{take-overwrite, drop-overwrite}
 use Rattle.mesh.proofs.Cores.Peeling.{number-core, number-unique, length-numbers, getD-numbers}
+use Rattle.mesh.proofs.Cores.KOrders.{k-order-certificate}
+use Rattle.mesh.proofs.Cores.Later.{first-is-first, nobody-none}
 use Rattle.mesh.proofs.Tables.ReadBack.{graph-in-links-table}
 use Rattle.mesh.proofs.Tables.Soundness.{sound-iff, valid-sound}
 use Rattle.mesh.proofs.Tables.Sites.{image-valid}
@@ -56,12 +59,14 @@ use Rattle.calls.specs.Contracts.Links.{Link-accepted, Link-refused, Lin
 use Rattle.calls.specs.Contracts.Images.{Read-accepted, Read-contract, Write-contract, Block-none, Block-accepted, Block-contract}
 use Rattle.calls.specs.Contracts.Sites.{Check-contract}
 use Rattle.calls.specs.Contracts.Radios.{Number-contract}
+use Rattle.calls.specs.Contracts.Wake.{Later-accepted, Later-refused, Later-contract}
 use Rattle.calls.specs.Contracts.Cores.{Core-contract, Backbone-contract}
 use Rattle.calls.specs.Contracts.Trees.{Tree-accepted, Tree-refused, Tree-contract}
 use Rattle.calls.specs.Results.{Numbers-right, Site-right, Listed, Link-right, Core-listed, Backbone-listed, Tree-listed, Written-right, Read-right}
-use Rattle.calls.specs.Results.{Block-part, Block-end}
+use Rattle.calls.specs.Results.{Block-part, Block-end, Later-right}
 use Rattle.calls.specs.declared.Reply.{Reply}
 use Rattle.calls.specs.declared.Value.{Value}
+use Rattle.calls.specs.declared.Later.{Later}
 use Rattle.calls.specs.declared.Block.{Block}
 use Rattle.calls.proofs.ContractLaws.{by-cases, by-zero}
 use Rattle.calls.proofs.QuestionLaws.{size-good-true}
@@ -149,6 +154,20 @@ number-right n v t r d z =
     let c = accepted (radio-refusal n v (lengths-of t) (sound n t)) (Value-accepted (number g v) r)
     (λ q. Value-refused q r) (r .number) (λ q e. e .number) d z in
     rw (c .1 .value) (number-core g v (radio-zero n v (lengths-of t) (sound n t) (c .0) .1))
+
+pub later-right : (n v : ℕ) (t : Tables) (r : Later) → Later-contract n v t r → r .number ≡ 0
+    → Later-right (graph-in n (t .links)) v (t .order) (r .count) (r .first)
+unfolding Later-contract sound graph-in
+later-right n v t r d z =
+    let f = linked (graph-in n (t .links)) in
+    let vs = later-in f v (t .order) in
+    let c = accepted (radio-refusal n v (lengths-of t) (sound n t)) (Later-accepted (length vs) (head-or nobody vs) r)
+    (λ q. Later-refused q r) (r .number) (λ q e. e .number) d z in
+    let good = radio-zero n v (lengths-of t) (sound n t) (c .0) .0 in
+    let valid = valid-graph-in max-neighbours n t (good .lent .most) (good .is-sound) in
+    let once = k-order-certificate (graph-in n (t .links)) (t .order) (valid .k-order) .once in
+    let small : (u : ℕ) → In u (t .order) → u < nobody = λ u m. omega (arith, once-below n (t .order) once u m, good .lent .most) in
+    rw (c .1 .count, c .1 .first) (record { counted = refl; some = first-is-first f v (t .order); none = nobody-none f v (t .order) small })
 
 -- ---- connected cores and the backbone
 

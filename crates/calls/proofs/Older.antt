@@ -18,7 +18,7 @@ use Rattle.mesh.proofs.Images.Tables.{valid-graph-in, is-image-within-sound}
 use Rattle.calls.specs.Questions.{ask, Lengths, lengths-of, size-good, are-radios, has-room, lent-refusal, site-refusal, ends-refusal}
 use Rattle.calls.specs.Questions.{link-refusal-within, blocks-refusal, read-refusal-within}
 use Rattle.calls.specs.Outcomes.{read-outcome-within, read-outcome, link-outcome-within, link-outcome, check-outcome, number-outcome, neighbours-outcome}
-use Rattle.calls.specs.Outcomes.{linked-outcome, first-outcome, core-outcome, backbone-outcome, write-outcome, tree-outcome}
+use Rattle.calls.specs.Outcomes.{linked-outcome, first-outcome, core-outcome, backbone-outcome, write-outcome, tree-outcome, later-outcome}
 use Rattle.calls.specs.Older.{Was-sound, Older}
 use Rattle.calls.specs.declared.Reply.{Reply}
 use Rattle.calls.proofs.Outcomes.{number-by}
@@ -126,7 +126,7 @@ older-read n bs t h =
 -- ---- all calls
 
 pub older : Older
-unfolding check-outcome number-outcome neighbours-outcome linked-outcome first-outcome core-outcome backbone-outcome write-outcome tree-outcome
+unfolding check-outcome number-outcome neighbours-outcome linked-outcome first-outcome later-outcome core-outcome backbone-outcome write-outcome tree-outcome
 older = record {
   link = λ up n a b t w s. older-call up n a b t w s .0;
   seven = λ up n a b t w s. older-call up n a b t w s .1;
@@ -135,6 +135,7 @@ older = record {
   neighbours = λ n v t s. rw (s, now-sound n t s);
   linked = λ n a b t s. rw (s, now-sound n t s);
   first = λ n a b t s. rw (s, now-sound n t s);
+  later = λ n v t s. rw (s, now-sound n t s);
   core = λ n v k t w s. rw (s, now-sound n t s);
   backbone = λ n t w s. rw (s, now-sound n t s);
   tree = λ n t m w s. rw (s, now-sound n t s);

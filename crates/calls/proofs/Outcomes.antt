@@ -21,15 +21,16 @@ use Rattle.calls.specs.Contracts.Sites.{Clear-accepted, Clear-contract, 
 use Rattle.calls.specs.Contracts.Links.{Link-accepted, Link-refused, Link-contract}
 use Rattle.calls.specs.Contracts.Images.{Read-accepted, Read-contract, Write-contract, Block-none, Block-accepted, Block-contract}
 use Rattle.calls.specs.Contracts.Radios.{Number-contract, Neighbours-contract, Linked-contract, First-contract}
+use Rattle.calls.specs.Contracts.Wake.{Later-accepted, Later-refused, Later-contract}
 use Rattle.calls.specs.Contracts.Cores.{Core-contract, Backbone-contract}
 use Rattle.calls.specs.Contracts.Trees.{Tree-accepted, Tree-refused, Tree-contract}
 use Rattle.calls.specs.Switches.{switched}
 use Rattle.calls.specs.Outcomes.{by-number, clear-outcome, read-outcome, link-outcome, value-outcome, check-outcome, number-outcome, neighbours-outcome}
 use Rattle.calls.specs.Outcomes.{linked-outcome, first-outcome, listing-outcome, core-outcome, backbone-outcome, write-outcome, tree-outcome, no-block}
-use Rattle.calls.specs.Outcomes.{block-or-end, block-outcome}
+use Rattle.calls.specs.Outcomes.{block-or-end, block-outcome, later-outcome}
 use Rattle.calls.specs.declared.Reply.{Reply}
 use Rattle.calls.specs.declared.Value.{Value}
-use Rattle.calls.proofs.RecordLaws.{tables-ext, reply-ext, value-ext, block-ext}
+use Rattle.calls.proofs.RecordLaws.{tables-ext, reply-ext, value-ext, later-ext, block-ext}
 
 abbrev pub Decides : {A : Type 0} → (A → Type 0) → Type 0
 Decides {A} P = (o s : A) → P o → P s → o ≡ s
@@ -206,6 +207,16 @@ first-decided n a b t = value-by _ _
 pub first-inhabited : (n a b : ℕ) (t : Tables) → First-contract n a b t (first-outcome n a b t)
 unfolding First-contract first-outcome sound
 first-inhabited n a b t = value-met _ _
+
+pub later-decided : (n v : ℕ) (t : Tables) → Decides (Later-contract n v t)
+unfolding Later-contract
+later-decided n v t =
+    by-decides _ (Later-accepted _ _) Later-refused (λ o s p q. later-ext o s (cc) (cc) (cc)) (λ y o s p q. later-ext o s (cc) (cc) (cc))
+
+pub later-inhabited : (n v : ℕ) (t : Tables) → Later-contract n v t (later-outcome n v t)
+unfolding Later-contract later-outcome sound
+later-inhabited n v t =
+    by-meets _ (Later-accepted _ _) Later-refused _ _ (record { number = refl; count = refl; first = refl }) (λ q. record { number = refl; count = refl; first = refl })
 
 pub core-decided :
     (n v k : ℕ) (t : Tables) (w : List ℕ) → Decides {A = Value × List ℕ} (λ o. Core-contract n v k t w (o .0) (o .1))

@@ -5,6 +5,7 @@ use Rattle.mesh.specs.Tables.{Tables}
 use Rattle.calls.specs.Contracts.Forms.{Tables-refused}
 use Rattle.calls.specs.declared.Reply.{Reply}
 use Rattle.calls.specs.declared.Value.{Value}
+use Rattle.calls.specs.declared.Later.{Later}
 use Rattle.calls.specs.declared.Block.{Block}
 
 pub tables-ext : (t v : Tables) → t .links ≡ v .links → t .numbers ≡ v .numbers → t .order ≡ v .order → t ≡ v
@@ -19,6 +20,9 @@ reply-ext r s p q t = rw (← p, ← q, ← t)
 
 pub value-ext : (r s : Value) → r .number ≡ s .number → r .value ≡ s .value → r ≡ s
 value-ext r s p q = rw (← p, ← q)
+
+pub later-ext : (r s : Later) → r .number ≡ s .number → r .count ≡ s .count → r .first ≡ s .first → r ≡ s
+later-ext r s p q t = rw (← p, ← q, ← t)
 
 pub block-ext :
     (r s : Block) → r .number ≡ s .number → r .end ≡ s .end → r .offset ≡ s .offset → r .length ≡ s .length → r .next ≡ s .next →

@@ -17,10 +17,12 @@ use Rattle.calls.specs.Contracts.Sites.{Clear-accepted, Clear-contract, 
 use Rattle.calls.specs.Contracts.Links.{Link-accepted, Link-refused, Link-contract}
 use Rattle.calls.specs.Contracts.Images.{Read-accepted, Read-contract, Write-contract, Block-none, Block-accepted, Block-contract}
 use Rattle.calls.specs.Contracts.Radios.{Number-contract, Neighbours-contract, Linked-contract, First-contract}
+use Rattle.calls.specs.Contracts.Wake.{Later-accepted, Later-refused, Later-contract}
 use Rattle.calls.specs.Contracts.Cores.{Core-contract, Backbone-contract}
 use Rattle.calls.specs.Contracts.Trees.{Tree-accepted, Tree-refused, Tree-contract}
 use Rattle.calls.specs.declared.Reply.{Reply}
 use Rattle.calls.specs.declared.Value.{Value}
+use Rattle.calls.specs.declared.Later.{Later}
 use Rattle.calls.specs.declared.Block.{Block}
 
 -- ---- by the refusal number
@@ -84,6 +86,10 @@ pub neighbours-keeps :
     (n v : ℕ) (t : Tables) (r : Value) → Neighbours-contract n v t r → (r .number ≡ 0 → ⊥) → Value-refused (r .number) r
 unfolding Neighbours-contract
 neighbours-keeps n v t r = value-by _ _ r
+
+pub later-keeps : (n v : ℕ) (t : Tables) (r : Later) → Later-contract n v t r → (r .number ≡ 0 → ⊥) → Later-refused (r .number) r
+unfolding Later-contract
+later-keeps n v t r = by-refusal _ (r .number) (Later-accepted _ _ r) (λ q. Later-refused q r) (λ d. d .number) (λ q d. d .number)
 
 pub linked-keeps : (n a b : ℕ) (t : Tables) (r : Value) → Linked-contract n a b t r → (r .number ≡ 0 → ⊥) → Value-refused (r .number) r
 unfolding Linked-contract

@@ -14,7 +14,7 @@ use Rattle.mesh.specs.declared.Node.{Node}
 use Rattle.calls.specs.Outcomes.{read-outcome-within, read-outcome, link-outcome-within, link-outcome, check-outcome-within, check-outcome}
 use Rattle.calls.specs.Outcomes.{number-outcome-within, number-outcome, neighbours-outcome-within, neighbours-outcome, linked-outcome-within}
 use Rattle.calls.specs.Outcomes.{linked-outcome, first-outcome-within, first-outcome, core-outcome-within, core-outcome, backbone-outcome-within}
-use Rattle.calls.specs.Outcomes.{backbone-outcome, write-outcome-within, write-outcome, tree-outcome-within, tree-outcome}
+use Rattle.calls.specs.Outcomes.{backbone-outcome, write-outcome-within, write-outcome, tree-outcome-within, tree-outcome, later-outcome-within, later-outcome}
 
 -- the conditions of soundness, with the former limit
 abbrev pub Was-sound : (n : ℕ) → Tables → Type 0
@@ -37,6 +37,7 @@ pub record Older : Type 0 where
       (n v : ℕ) (t : Tables) → Was-sound n t → neighbours-outcome n v t ≡ neighbours-outcome-within former-neighbours n v t
   pub linked : (n a b : ℕ) (t : Tables) → Was-sound n t → linked-outcome n a b t ≡ linked-outcome-within former-neighbours n a b t
   pub first : (n a b : ℕ) (t : Tables) → Was-sound n t → first-outcome n a b t ≡ first-outcome-within former-neighbours n a b t
+  pub later : (n v : ℕ) (t : Tables) → Was-sound n t → later-outcome n v t ≡ later-outcome-within former-neighbours n v t
   pub core :
       (n v k : ℕ) (t : Tables) (w : List ℕ) → Was-sound n t →
       core-outcome n v k t w ≡ core-outcome-within former-neighbours n v k t w

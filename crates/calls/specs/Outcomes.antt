@@ -11,9 +11,10 @@ use lib.Dec.{ltb}
 use lib.IntN.{ℤ, pos}
 use lib.ListN.{length, replicate}
 use Rattle.mesh.specs.Limits.{max-neighbours, row-bytes}
-use Rattle.lists.specs.Lists.{range, overwrite}
+use Rattle.lists.specs.Lists.{range, head-or, overwrite}
 use Rattle.mesh.specs.Graph.{linked, degree}
 use Rattle.mesh.specs.Cores.{number}
+use Rattle.mesh.specs.Orders.{later-in, nobody}
 use Rattle.mesh.specs.Levels.{changed, step-of}
 use Rattle.mesh.specs.Tables.{Tables, tables, graph-in, tables-of}
 use Rattle.mesh.specs.Sound.{sound-within}
@@ -27,6 +28,7 @@ use Rattle.calls.specs.Switches.{switch, switched}
 use Rattle.calls.specs.Contracts.Radios.{first-of-two}
 use Rattle.calls.specs.declared.Reply.{Reply}
 use Rattle.calls.specs.declared.Value.{Value}
+use Rattle.calls.specs.declared.Later.{Later}
 use Rattle.calls.specs.declared.Block.{Block}
 
 -- no "no": the accepted outcome; else that of the refusal
@@ -110,6 +112,19 @@ first-outcome-within most n a b t =
 
 unfoldable pub first-outcome : (n a b : ℕ) → Tables → Value
 first-outcome n a b t = first-outcome-within max-neighbours n a b t
+
+-- ---- the later neighbours of a radio
+
+abbrev pub later : (number count first : ℕ) → Later
+later r c v = record { number = r; count = c; first = v }
+
+abbrev pub later-outcome-within : (most n v : ℕ) → Tables → Later
+later-outcome-within most n v t =
+    let vs = later-in (linked (graph-in n (t .links))) v (t .order) in
+    by-number (radio-refusal n v (lengths-of t) (sound-within most n t)) (later 0 (length vs) (head-or nobody vs)) (λ q. later q 0 0)
+
+unfoldable pub later-outcome : (n v : ℕ) → Tables → Later
+later-outcome n v t = later-outcome-within max-neighbours n v t
 
 -- ---- a value, and entries in front of a lent list
 

@@ -3,6 +3,7 @@
 --   Site-right        document 01: sound tables are exactly the ones with proper rows, core numbers and a k-order
 --   Link-right        after a link call: the graph in the new links table, its rows, numbers and order
 --   Listed            a list of radios in front of a lent list
+--   Later-right       the later neighbours of a radio: how many, and the first of them
 --   Core-listed, Backbone-listed   the radios listed
 --   Tree-listed       the nodes listed, and each radio's node name
 --   Written-right, Read-right      after writing and reading an image
@@ -16,9 +17,9 @@ use Prim.Native.Nat.{ℕ, _+_, _*_, _/_, _≤_, _<_}
 use lib.ListN.{length, getD, take, drop}
 use Rattle.mesh.specs.Limits.{max-neighbours}
 use Rattle.lists.specs.Lists.{member, Ascending}
-use Rattle.mesh.specs.Graph.{Graph, relinked}
+use Rattle.mesh.specs.Graph.{Graph, linked, relinked}
 use Rattle.mesh.specs.Cores.{Core}
-use Rattle.mesh.specs.Orders.{is-k-order}
+use Rattle.mesh.specs.Orders.{is-k-order, later-in, nobody, First-later}
 use Rattle.mesh.specs.Tables.{Tables, graph-in}
 use Rattle.mesh.specs.Sound.{rows-proper, number-in, sound}
 use Rattle.mesh.specs.Connected.{In-core, In-backbone}
@@ -48,6 +49,14 @@ pub record Link-right (up : Bool) (n a b : ℕ) (t v : Tables) (count : ℕ) (w 
   pub graph : graph-in n (v .links) ≡ relinked up a b (graph-in n (t .links))
   pub right : Site-right n v
   pub listed : Listed count w x
+
+-- ---- later neighbours
+
+-- xs is the order
+pub record Later-right (g : Graph) (v : ℕ) (xs : List ℕ) (count first : ℕ) : Type 0 where
+  pub counted : count ≡ length (later-in (linked g) v xs)
+  pub some : 0 < count → First-later (linked g) v first xs
+  pub none : (first ≡ nobody) ↔ (count ≡ 0)
 
 -- ---- connected cores, backbone, shell tree
 

@@ -43,6 +43,14 @@ pub struct Value {
     pub value: u32,
 }
 
+// The answer about the later neighbours of a radio: refusal number, their count, and the first of them in the order.
+#[repr(C)]
+pub struct Later {
+    pub number: u32,
+    pub count: u32,
+    pub first: u32,
+}
+
 // The answer of the block reader: refusal number, 1 at the end, where the payload lies, and the number of the next block.
 #[repr(C)]
 pub struct Block {

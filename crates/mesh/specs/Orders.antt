@@ -3,14 +3,18 @@
 --   rising num xs        the numbers never fall along xs
 --   few-later f num xs   no radio of xs has more later neighbours than its number, where f tells neighbours
 --   is-k-order g xs      document 01: core numbers never fall along it, and no radio has more later neighbours than its core number
+--   later-in f v xs      the neighbours of v that stand after v in xs, in their order
+--   nobody               no radio
+--   First-later f v w xs   w is the first neighbour of v that stands after v in xs: there is none between
 --   running-maxima f m xs  for each radio of xs, the greatest count of later neighbours up to it, and at least m
 -- Laws are in proofs/Cores/Orders.antt. Definitions only.
-use mathlib.Core.Bool.{Bool, true, _&&_}
-use mathlib.Core.List.{List, [], _∷_}
+use mathlib.Core.Path.{_≡_}
+use mathlib.Core.Bool.{Bool, true, false, _&&_, cond}
+use mathlib.Core.List.{List, [], _∷_, _++_}
 use Prim.Native.Nat.{ℕ, max}
 use lib.Dec.{leb, eqb}
 use lib.ListN.{length}
-use Rattle.lists.specs.Lists.{range, count, all}
+use Rattle.lists.specs.Lists.{range, count, filter, all, In}
 use Rattle.mesh.specs.Graph.{Graph, linked, neighbours-among}
 use Rattle.mesh.specs.Cores.{number}
 
@@ -25,6 +29,23 @@ rising num (x ∷ y ∷ ys) = leb (num x) (num y) && rising num (y ∷ ys)
 unfoldable pub few-later : (neighbour : ℕ → ℕ → Bool) → (num : ℕ → ℕ) → List ℕ → Bool
 few-later f num [] = true
 few-later f num (x ∷ xs) = leb (neighbours-among f x xs) (num x) && few-later f num xs
+
+-- of the first v, where it stands in xs several times; none where it does not
+unfoldable pub later-in : (neighbour : ℕ → ℕ → Bool) → (v : ℕ) → List ℕ → List ℕ
+later-in f v [] = []
+later-in f v (x ∷ xs) = let rest = later-in f v xs in cond (eqb x v) (filter (f v) xs) rest
+
+-- document 02, W-206: in place of a radio where there is none
+abbrev pub nobody : ℕ
+nobody = 65535
+
+pub record First-later (f : ℕ → ℕ → Bool) (v w : ℕ) (xs : List ℕ) : Type 0 where
+  pub before : List ℕ
+  pub between : List ℕ
+  pub after : List ℕ
+  pub is : xs ≡ before ++ (v ∷ (between ++ (w ∷ after)))
+  pub neighbour : f v w ≡ true
+  pub none-between : (u : ℕ) → In u between → f v u ≡ false
 
 unfoldable pub is-k-order : Graph → List ℕ → Bool
 is-k-order g xs =

@@ -3,25 +3,10 @@
 ghost use mathlib.Core.Path.{_≡_};
 ghost use Rattle.mesh.specs.Tables.{lent};
 ghost use Rattle.mesh.specs.Sound.{sound};
-ghost use Rattle.calls.specs.Questions.{lengths-of, radio-refusal, pair-refusal};
+ghost use Rattle.calls.specs.Questions.{lengths-of, pair-refusal};
 ghost use Rattle.calls.specs.Contracts.Radios.{first-of-two, Number-contract, Neighbours-contract, Linked-contract, First-contract};
 use calls::Refusal;
 use calls::Value;
-
-// Questions 1 to 4 of one radio.
-fn radio_refusal<'a>(n: u32, v: u32, links: &'a [u8], numbers: &'a [u8], order: &'a [u16]) -> u32
-    ensures { λ r. ⌜ r ≡ radio-refusal n v (lengths-of (lent (links .entry) (numbers .entry) (order .entry)))
-        (sound n (lent (links .entry) (numbers .entry) (order .entry))) ⌝ }
-{
-    let number = soundness::refusal(n, links, numbers, order, true);
-    if number != 0 {
-        return number;
-    }
-    if n <= v {
-        return Refusal::RADIO;
-    }
-    0
-}
 
 // Questions 1 to 4 of two radios.
 fn pair_refusal<'a>(
@@ -35,7 +20,7 @@ fn pair_refusal<'a>(
     ensures { λ r. ⌜ r ≡ pair-refusal n a b (lengths-of (lent (links .entry) (numbers .entry) (order .entry)))
         (sound n (lent (links .entry) (numbers .entry) (order .entry))) ⌝ }
 {
-    let number = radio_refusal(n, a, links, numbers, order);
+    let number = soundness::wake::radio_refusal(n, a, links, numbers, order);
     if number != 0 {
         return number;
     }
@@ -49,7 +34,7 @@ fn pair_refusal<'a>(
 pub fn number<'a>(n: u32, v: u32, links: &'a [u8], numbers: &'a [u8], order: &'a [u16]) -> Value
     ensures { λ r. ⌜ Number-contract n v (lent (links .entry) (numbers .entry) (order .entry)) r ⌝ }
 {
-    let refusal = radio_refusal(n, v, links, numbers, order);
+    let refusal = soundness::wake::radio_refusal(n, v, links, numbers, order);
     if refusal != 0 {
         return Value {
             number: refusal,
@@ -67,7 +52,7 @@ pub fn number<'a>(n: u32, v: u32, links: &'a [u8], numbers: &'a [u8], order: &'a
 pub fn neighbours<'a>(n: u32, v: u32, links: &'a [u8], numbers: &'a [u8], order: &'a [u16]) -> Value
     ensures { λ r. ⌜ Neighbours-contract n v (lent (links .entry) (numbers .entry) (order .entry)) r ⌝ }
 {
-    let refusal = radio_refusal(n, v, links, numbers, order);
+    let refusal = soundness::wake::radio_refusal(n, v, links, numbers, order);
     if refusal != 0 {
         return Value {
             number: refusal,

@@ -5,6 +5,10 @@ pub mod CheckLaws
 pub mod CheckLoops
 pub mod RowChecks
 pub mod AllRows
+-- question 4 after the first three
+pub mod RadioLaws
+-- the later neighbours of a radio
+pub mod WakeLaws
 -- the whole check, and its callers
 pub mod ExamineLaws
 -- what sound tables say

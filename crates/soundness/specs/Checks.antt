@@ -1,27 +1,30 @@
 -- The soundness check, row by row.
 --   Placed n order places    the table of places says where each radio stands in the order
+--   sooner-key               the first of a radio and a key
 --   later-count              how many of some radios stand later in the order than a: document 01's "neighbours later in the order"
+--   first-key                the place and the radio, as one number, of the first of some radios that stands later in the order than a
 --   high-count               how many of some radios have a number that is not below that of a
 --   ends-good                each of some radios is below n, is not a, and marks a too
 --   rising-from              numbers never fall along a list, and do not begin below the given one
 --   row-good                 the conditions of document 01 on radio a: its row, its later neighbours, its neighbours that are not below it
---   Ends-room, Rows-room   what private functions of src/lib.rt want of the tables that they read
---   Placing, Places-found, Ends-counted, Row-checked, Highs, Rows-checked, Examined   what the functions of src/lib.rt come back with
+--   Sound-radio, Ends-room, Rows-room   what private functions of src/lib.rt want of the tables that they read
+--   Placing, Places-found, Ends-counted, Later-counted, Row-checked, Highs, Rows-checked, Examined   what the functions of src/lib.rt come back with
 --   nowhere                  a place that no entry of an order has
 --   examinable               questions 1 and 2 get yes, and the lent tables of places and high counts are long enough
 --   fits-sound               questions 1 to 3 get yes
 -- That tables are sound when the order holds each radio once, numbers rise along it and every row is good is `sound-rows` in
 -- proofs/CheckLaws.antt. Definitions only.
 use mathlib.Core.Path.{_≡_}
-use mathlib.Core.Bool.{Bool, true, _&&_, not}
+use mathlib.Core.Bool.{Bool, true, _&&_, not, cond}
 use mathlib.Core.List.{List, [], _∷_}
-use Prim.Native.Nat.{ℕ, suc, _*_, _≤_, _<_, min}
+use Prim.Native.Nat.{ℕ, suc, _+_, _*_, _%_, _≤_, _<_, min}
 use lib.Dec.{ltb, leb, eqb}
 use lib.ListN.{length, getD}
 use Rattle.mesh.specs.Limits.{max-radios, max-neighbours, row-bytes}
-use Rattle.lists.specs.Lists.{range, count, all}
-use Rattle.mesh.specs.Orders.{each-once}
-use Rattle.mesh.specs.Tables.{Tables, marked}
+use Rattle.lists.specs.Lists.{range, count, all, head-or}
+use Rattle.mesh.specs.Orders.{each-once, later-in, nobody}
+use Rattle.mesh.specs.Tables.{Tables, marked, graph-in}
+use Rattle.mesh.specs.Graph.{linked}
 use Rattle.mesh.specs.Sound.{number-in, sound}
 use Rattle.calls.specs.Questions.{Lengths, lengths-of, size-good, site-lengths, answer-length}
 use Rattle.rows.specs.Rows.{neighbours-of}
@@ -30,8 +33,17 @@ use Rattle.rows.specs.Rows.{neighbours-of}
 pub record Placed (n : ℕ) (order places : List ℕ) : Type 0 where
   pub at : (i : ℕ) → i < n → getD places (getD order i 0) 0 ≡ i
 
+-- the key of the radio b at place p where that is later than `place` and before the key's, else the key
+unfoldable pub sooner-key : (place p b key : ℕ) → ℕ
+sooner-key place p b key = cond (ltb place p) (min (p * 65536 + b) key) key
+
 unfoldable pub later-count : (places : List ℕ) → (a : ℕ) → (radios : List ℕ) → ℕ
 later-count ps a xs = count (λ b. ltb (getD ps a 0) (getD ps b 0)) xs
+
+-- a key is a place and a radio of 16 bits each; without a later radio all its bits are set, so that its radio is nobody
+unfoldable pub first-key : (places : List ℕ) → (a : ℕ) → (radios : List ℕ) → ℕ
+first-key ps a [] = 4294967295
+first-key ps a (b ∷ bs) = let rest = first-key ps a bs in sooner-key (getD ps a 0) (getD ps b 0) b rest
 
 unfoldable pub high-count : (numbers : List ℕ) → (a : ℕ) → (radios : List ℕ) → ℕ
 high-count ns a xs = count (λ b. leb (number-in ns a) (number-in ns b)) xs
@@ -44,6 +56,10 @@ row-good most n ts ns ps a =
     let xs = neighbours-of ts a in
     leb (length xs) most
     && (ends-good n ts a xs && (leb (later-count ps a xs) (number-in ns a) && leb (number-in ns a) (high-count ns a xs)))
+
+-- questions 1 to 3 get yes of links, numbers and order
+unfoldable pub fits-sound : (n : ℕ) → Tables → Bool
+fits-sound n t = size-good n && (site-lengths n (lengths-of t) && sound n t)
 
 -- `true` of an empty list whatever m
 unfoldable pub rising-from : (num : ℕ → ℕ) → (m : ℕ) → List ℕ → Bool
@@ -67,11 +83,22 @@ pub record Places-found (order before after : List ℕ) (r : Bool) : Type 0 wher
   pub answer : r ≡ (leb (length order) (min max-radios (length before)) && each-once (length order) order)
   pub placed : r ≡ true → Placed (length order) order after
 
--- whether the radios xs are good ends of a, and then how many are later and how many are not below
-pub record Ends-counted (n : ℕ) (links numbers places : List ℕ) (a : ℕ) (xs : List ℕ) (good : Bool) (later high : ℕ) : Type 0 where
+-- whether the radios xs are good ends of a, and then how many are later and the first of them, and how many are not below
+pub record Ends-counted (n : ℕ) (links numbers places : List ℕ) (a : ℕ) (xs : List ℕ) (good : Bool) (later high first : ℕ) : Type 0 where
   pub answer : good ≡ ends-good n links a xs
   pub later-is : good ≡ true → later ≡ later-count places a xs
+  pub first-is : good ≡ true → first ≡ first-key places a xs % 65536
   pub high-is : good ≡ true → high ≡ high-count numbers a xs
+
+-- sound tables and a radio of theirs
+pub record Sound-radio (n v : ℕ) (t : Tables) : Type 0 where
+  pub is-sound : fits-sound n t ≡ true
+  pub radio : v < n
+
+-- how many neighbours of v stand after it in the order, and the first of them
+pub record Later-counted (n v : ℕ) (t : Tables) (later first : ℕ) : Type 0 where
+  pub later-is : later ≡ length (later-in (linked (graph-in n (t .links))) v (t .order))
+  pub first-is : first ≡ head-or nobody (later-in (linked (graph-in n (t .links))) v (t .order))
 
 -- what counting the ends of a row wants of the lengths of the tables it reads
 pub record Ends-room (a k links numbers places list : ℕ) : Type 0 where
@@ -117,7 +144,3 @@ pub record Examined (n : ℕ) (t : Tables) (ps qs hs is : List ℕ) (r : Bool) :
   pub highs : r ≡ true → Highs n (t .links) (t .numbers) is
   pub places-long : length qs ≡ length ps
   pub highs-long : length is ≡ length hs
-
--- questions 1 to 3 get yes of links, numbers and order
-unfoldable pub fits-sound : (n : ℕ) → Tables → Bool
-fits-sound n t = size-good n && (site-lengths n (lengths-of t) && sound n t)

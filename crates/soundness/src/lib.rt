@@ -11,18 +11,23 @@ ghost use Rattle.calls.specs.Questions.{lengths-of, site-refusal};
 ghost use Rattle.calls.specs.Contracts.Sites.{Check-contract};
 ghost use Rattle.tables.specs.Sizes.{lengths};
 ghost use Rattle.lists.specs.Lists.{Entries-below};
-ghost use Rattle.soundness.specs.Checks.{Placing, Places-found, Ends-room, Ends-counted, Rows-room, Row-checked, Rows-checked};
+ghost use Rattle.soundness.specs.Checks.{Placing, Places-found, sooner-key, Ends-room, Ends-counted, Rows-room, Row-checked, Rows-checked};
 ghost use Rattle.soundness.specs.Checks.{examinable, Examined, fits-sound};
 use calls::Refusal;
 use calls::Value;
 use mesh::Site;
 
+pub mod wake;
+
 // A place that no entry of the order has.
 const NOWHERE: u16 = 65535;
 
+// The key of no radio: its radio is 65,535.
+const NO_KEY: u32 = 4294967295;
+
 // Writes the place of each radio into `places`. Comes back with whether the order holds each radio below its length once;
 // where it does not, `places` holds anything.
-fn place(order: &[u16], places: &mut [u16]) -> bool
+pub(crate) fn place(order: &[u16], places: &mut [u16]) -> bool
     requires { ⌜ (length (now order) ≤ length (now places)) × (length (now order) ≤ max-radios) ⌝ }
     ensures { λ r. ⌜ Placing (now (order .entry)) (now (places .entry)) (now (places .exit)) r ⌝ }
 {
@@ -75,15 +80,31 @@ fn rises(numbers: &[u8], order: &[u16]) -> bool
     true
 }
 
-struct Ends {
-    good: bool,
-    later: u8,
-    high: u8,
+pub(crate) struct Ends {
+    pub(crate) good: bool,
+    pub(crate) later: u8,
+    pub(crate) high: u8,
+    pub(crate) first: u16,
+}
+
+// The key of the radio b at place p, where that is later than `place` and before the key's; else the key. A key is a place and
+// then a radio, 16 bits each.
+fn sooner(place: u16, p: u16, b: u16, key: u32) -> u32
+    ensures { λ r. ⌜ r ≡ sooner-key place p b key ⌝ }
+{
+    if p <= place {
+        return key;
+    }
+    let own = p as u32 * 65536 + b as u32;
+    if key < own {
+        return key;
+    }
+    own
 }
 
 // Whether the first k listed radios are of the site, are not a, and mark a too; how many of them stand later in the order than a,
-// and how many have a number that is not below that of a.
-fn count_ends(
+// and the first of these, 65,535 when there are none; and how many have a number that is not below that of a.
+pub(crate) fn count_ends(
     links: &[u8],
     numbers: &[u8],
     places: &[u16],
@@ -93,20 +114,23 @@ fn count_ends(
 ) -> Ends
     requires { ⌜ Ends-room a k (length (now links)) (length (now numbers)) (length (now places)) (length (now list)) ⌝ }
     ensures { λ r. ⌜ Ends-counted (length (now (numbers .entry))) (now (links .entry)) (now (numbers .entry)) (now (places .entry)) a
-        (take k (now (list .entry))) (r .good) (r .later) (r .high) ⌝ }
+        (take k (now (list .entry))) (r .good) (r .later) (r .high) (r .first) ⌝ }
 {
     let bad = Ends {
         good: false,
         later: 0,
         high: 0,
+        first: 0,
     };
     let place = places[a];
     let number = numbers[a];
     let mut later: u8 = 0;
     let mut high: u8 = 0;
+    let mut key: u32 = NO_KEY;
     let mut i: usize = 0;
     while i < k {
-        let b = list[i] as usize;
+        let x = list[i];
+        let b = x as usize;
         if b == a {
             return bad;
         }
@@ -114,7 +138,9 @@ fn count_ends(
         if !rows::is_marked(links, b as u32, a as u32) {
             return bad;
         }
-        later += (place < places[b]) as u8;
+        let p = places[b];
+        later += (place < p) as u8;
+        key = sooner(place, p, x, key);
         high += (number <= numbers[b]) as u8;
         i += 1;
     }
@@ -122,6 +148,7 @@ fn count_ends(
         good: true,
         later,
         high,
+        first: (key % 65536) as u16,
     }
 }
 

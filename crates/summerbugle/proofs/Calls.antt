@@ -6,6 +6,7 @@ use Rattle.calls.specs.Contracts.Sites.{Clear-contract, Check-contract}
 use Rattle.calls.specs.Contracts.Links.{Link-contract}
 use Rattle.calls.specs.Contracts.Images.{Read-contract, Write-contract, Block-contract}
 use Rattle.calls.specs.Contracts.Radios.{Number-contract, Neighbours-contract, Linked-contract, First-contract}
+use Rattle.calls.specs.Contracts.Wake.{Later-contract}
 use Rattle.calls.specs.Contracts.Cores.{Core-contract, Backbone-contract}
 use Rattle.calls.specs.Contracts.Trees.{Tree-contract}
 use Rattle.block_reader.specs.Reader.{Stepped, Moved}
@@ -34,6 +35,8 @@ use Rattle.summerbugle.proofs.sb_linked as linked
 use Rattle.summerbugle.proofs.sb_linked.Symbol as linked-symbol
 use Rattle.summerbugle.proofs.sb_first as first
 use Rattle.summerbugle.proofs.sb_first.Symbol as first-symbol
+use Rattle.summerbugle.proofs.sb_later_of as later-of
+use Rattle.summerbugle.proofs.sb_later_of.Symbol as later-of-symbol
 use Rattle.summerbugle.proofs.sb_core as core
 use Rattle.summerbugle.proofs.sb_core.Symbol as core-symbol
 use Rattle.summerbugle.proofs.sb_backbone as backbone
@@ -124,6 +127,15 @@ sb-first = record {
   routine = first-symbol.routine;
   kept = first.ended .kept;
   contract = λ κs a r e. First-contract (number-0 a) (number-1 a) (number-2 a) (tables-3 a) r;
+}
+
+-- sb_later_of(n, v, links, numbers, order)
+abbrev pub sb-later-of : Function
+sb-later-of = record {
+  signature = later-of.signature;
+  routine = later-of-symbol.routine;
+  kept = later-of.ended .kept;
+  contract = λ κs a r e. Later-contract (number-0 a) (number-1 a) (tables-2 a) r;
 }
 
 -- sb_core(n, v, k, links, numbers, order, answer)

@@ -30,32 +30,34 @@ use Rattle.calls.specs.Contracts.Sites.{Clear-contract, Check-contract}
 use Rattle.calls.specs.Contracts.Links.{Link-refused, Link-contract}
 use Rattle.calls.specs.Contracts.Images.{Read-contract, Write-contract, Block-none, Block-contract}
 use Rattle.calls.specs.Contracts.Radios.{Number-contract, Neighbours-contract, Linked-contract, First-contract}
+use Rattle.calls.specs.Contracts.Wake.{Later-refused, Later-contract}
 use Rattle.calls.specs.Contracts.Cores.{Core-contract, Backbone-contract}
 use Rattle.calls.specs.Contracts.Trees.{Tree-refused, Tree-contract}
 use Rattle.calls.specs.Outcomes.{clear-outcome, read-outcome, link-outcome, check-outcome, number-outcome, neighbours-outcome, linked-outcome, first-outcome}
-use Rattle.calls.specs.Outcomes.{core-outcome, backbone-outcome, tree-outcome, write-outcome, block-outcome}
-use Rattle.calls.specs.Results.{Site-right, Link-right, Core-listed, Backbone-listed, Tree-listed, Written-right, Read-right, Block-part, Block-end}
+use Rattle.calls.specs.Outcomes.{core-outcome, backbone-outcome, tree-outcome, write-outcome, block-outcome, later-outcome}
+use Rattle.calls.specs.Results.{Site-right, Link-right, Later-right, Core-listed, Backbone-listed, Tree-listed, Written-right, Read-right, Block-part, Block-end}
 use Rattle.calls.specs.Older.{Older}
 use Rattle.calls.specs.Book.{Call, clearing, reading, linking, Answer, plain, book-after}
 use Rattle.calls.specs.Runs.{answer-of, Does, Event, event, Run, givens, called}
 use Rattle.calls.specs.Demand.{Start, Demand-3}
 use Rattle.calls.specs.declared.Reply.{Reply}
 use Rattle.calls.specs.declared.Value.{Value}
+use Rattle.calls.specs.declared.Later.{Later}
 use Rattle.calls.specs.declared.Block.{Block}
 use Rattle.summerbugle.specs.Functions.{Promised, Returns, Gives, Leaves-lent, number-0, number-1, number-2, tables-1, tables-2, tables-3, lent-0, lent-4}
 use Rattle.summerbugle.specs.Functions.{lent-6}
 use Rattle.summerbugle.proofs.Calls.{sb-clear, sb-link-up, sb-link-down, sb-image-read, sb-check, sb-number, sb-neighbours, sb-linked, sb-first, sb-core}
-use Rattle.summerbugle.proofs.Calls.{sb-backbone, sb-tree, sb-image-write, sb-image-block, reader-open, reader-step, reader-moved}
+use Rattle.summerbugle.proofs.Calls.{sb-later-of, sb-backbone, sb-tree, sb-image-write, sb-image-block, reader-open, reader-step, reader-moved}
 -- for the proof
 use Rattle.mesh.proofs.Cores.Peeling.{number-core, number-unique}
 use Rattle.mesh.proofs.Trees.Listed.{backbone-one-part}
 use Rattle.calls.proofs.Outcomes.{exactly, clear-decided, link-decided, read-decided, check-decided, number-decided, neighbours-decided, block-inhabited}
-use Rattle.calls.proofs.Outcomes.{linked-decided, first-decided, core-decided, backbone-decided, tree-decided, write-decided, block-decided}
+use Rattle.calls.proofs.Outcomes.{linked-decided, first-decided, core-decided, backbone-decided, tree-decided, write-decided, block-decided, later-decided}
 use Rattle.calls.proofs.Outcomes.{clear-inhabited, link-inhabited, read-inhabited, check-inhabited, number-inhabited, neighbours-inhabited}
-use Rattle.calls.proofs.Outcomes.{linked-inhabited, first-inhabited, core-inhabited, backbone-inhabited, tree-inhabited, write-inhabited}
+use Rattle.calls.proofs.Outcomes.{linked-inhabited, first-inhabited, core-inhabited, backbone-inhabited, tree-inhabited, write-inhabited, later-inhabited}
 use Rattle.calls.proofs.Refusals.{clear-keeps, link-keeps, read-keeps, check-keeps, number-keeps, neighbours-keeps, linked-keeps, first-keeps}
-use Rattle.calls.proofs.Refusals.{core-keeps, backbone-keeps, tree-keeps, write-keeps, block-keeps}
-use Rattle.calls.proofs.Accepted.{check-right, link-right, number-right, core-right, backbone-right, tree-right-listed, write-right}
+use Rattle.calls.proofs.Refusals.{core-keeps, backbone-keeps, tree-keeps, write-keeps, block-keeps, later-keeps}
+use Rattle.calls.proofs.Accepted.{check-right, link-right, number-right, later-right, core-right, backbone-right, tree-right-listed, write-right}
 use Rattle.calls.proofs.Accepted.{read-what-was-written, read-right, read-eleven, block-right}
 use Rattle.calls.proofs.Older.{older}
 use Rattle.calls.proofs.Total.{run-total}
@@ -74,6 +76,7 @@ use Rattle.summerbugle.proofs.sb_number.Met as number-proof
 use Rattle.summerbugle.proofs.sb_neighbours.Met as neighbours-proof
 use Rattle.summerbugle.proofs.sb_linked.Met as linked-proof
 use Rattle.summerbugle.proofs.sb_first.Met as first-proof
+use Rattle.summerbugle.proofs.sb_later_of.Met as later-of-proof
 use Rattle.summerbugle.proofs.sb_core.Met as core-proof
 use Rattle.summerbugle.proofs.sb_backbone.Met as backbone-proof
 use Rattle.summerbugle.proofs.sb_tree.Met as tree-proof
@@ -92,6 +95,7 @@ pub record Calls-promised (M : Type 1) : Type 2 where
   pub neighbours : Promised sb-neighbours M
   pub linked : Promised sb-linked M
   pub first : Promised sb-first M
+  pub later-of : Promised sb-later-of M
   pub core : Promised sb-core M
   pub backbone : Promised sb-backbone M
   pub tree : Promised sb-tree M
@@ -114,6 +118,7 @@ pub record Calls-return : Type 2 where
   pub neighbours : Returns sb-neighbours
   pub linked : Returns sb-linked
   pub first : Returns sb-first
+  pub later-of : Returns sb-later-of
   pub core : Returns sb-core
   pub backbone : Returns sb-backbone
   pub tree : Returns sb-tree
@@ -136,6 +141,7 @@ pub record Refusals : Type 0 where
   pub neighbours : (n v : ℕ) (t : Tables) (r : Value) → Neighbours-contract n v t r → (r .number ≡ 0 → ⊥) → Value-refused (r .number) r
   pub linked : (n a b : ℕ) (t : Tables) (r : Value) → Linked-contract n a b t r → (r .number ≡ 0 → ⊥) → Value-refused (r .number) r
   pub first : (n a b : ℕ) (t : Tables) (r : Value) → First-contract n a b t r → (r .number ≡ 0 → ⊥) → Value-refused (r .number) r
+  pub later-of : (n v : ℕ) (t : Tables) (r : Later) → Later-contract n v t r → (r .number ≡ 0 → ⊥) → Later-refused (r .number) r
   pub core :
       (n v k : ℕ) (t : Tables) (w : List ℕ) (r : Value) (x : List ℕ) → Core-contract n v k t w r x → (r .number ≡ 0 → ⊥) →
       Listing-refused (r .number) w r x
@@ -163,6 +169,7 @@ pub record Outcomes : Type 0 where
   pub neighbours : (n v : ℕ) (t : Tables) (o : Value) → Neighbours-contract n v t o ↔ (o ≡ neighbours-outcome n v t)
   pub linked : (n a b : ℕ) (t : Tables) (o : Value) → Linked-contract n a b t o ↔ (o ≡ linked-outcome n a b t)
   pub first : (n a b : ℕ) (t : Tables) (o : Value) → First-contract n a b t o ↔ (o ≡ first-outcome n a b t)
+  pub later-of : (n v : ℕ) (t : Tables) (o : Later) → Later-contract n v t o ↔ (o ≡ later-outcome n v t)
   pub core : (n v k : ℕ) (t : Tables) (w : List ℕ) (o : Value × List ℕ) → Core-contract n v k t w (o .0) (o .1) ↔ (o ≡ core-outcome n v k t w)
   pub backbone : (n : ℕ) (t : Tables) (w : List ℕ) (o : Value × List ℕ) → Backbone-contract n t w (o .0) (o .1) ↔ (o ≡ backbone-outcome n t w)
   pub tree :
@@ -182,6 +189,7 @@ pub record Tables-left : Type 0 where
   pub neighbours : Leaves-lent sb-neighbours (λ κs. tables-2) (λ κs. tables-2)
   pub linked : Leaves-lent sb-linked (λ κs. tables-3) (λ κs. tables-3)
   pub first : Leaves-lent sb-first (λ κs. tables-3) (λ κs. tables-3)
+  pub later-of : Leaves-lent sb-later-of (λ κs. tables-2) (λ κs. tables-2)
   pub core : Leaves-lent sb-core (λ κs. tables-3) (λ κs. tables-3)
   pub backbone : Leaves-lent sb-backbone (λ κs. tables-1) (λ κs. tables-1)
   pub tree : Leaves-lent sb-tree (λ κs. tables-1) (λ κs. tables-1)
@@ -211,6 +219,10 @@ pub record Property-2 : Type 0 where
   -- the check's value is 1 exactly for proper rows, core numbers and a k-order
   pub check : (n : ℕ) (t : Tables) (r : Value) → Check-contract n t r → r .number ≡ 0 → (r .value ≡ 1) ↔ Site-right n t
   pub number : (n v : ℕ) (t : Tables) (r : Value) → Number-contract n v t r → r .number ≡ 0 → Core (graph-in n (t .links)) v (r .value)
+  -- the first of the later neighbours is one, and there is none between; nobody exactly when there are none
+  pub later-of :
+      (n v : ℕ) (t : Tables) (r : Later) → Later-contract n v t r → r .number ≡ 0 →
+      Later-right (graph-in n (t .links)) v (t .order) (r .count) (r .first)
   pub core :
       (n v k : ℕ) (t : Tables) (w : List ℕ) (r : Value) (x : List ℕ) → Core-contract n v k t w r x → r .number ≡ 0 →
       Core-listed (graph-in n (t .links)) v k (r .value) w x
@@ -291,6 +303,7 @@ calls-promised = record {
   neighbours = neighbours-proof.met;
   linked = linked-proof.met;
   first = first-proof.met;
+  later-of = later-of-proof.met;
   core = core-proof.met;
   backbone = backbone-proof.met;
   tree = tree-proof.met;
@@ -312,6 +325,7 @@ calls-return = record {
   neighbours = returns sb-neighbours (calls-promised .neighbours);
   linked = returns sb-linked (calls-promised .linked);
   first = returns sb-first (calls-promised .first);
+  later-of = returns sb-later-of (calls-promised .later-of);
   core = returns sb-core (calls-promised .core);
   backbone = returns sb-backbone (calls-promised .backbone);
   tree = returns sb-tree (calls-promised .tree);
@@ -332,6 +346,7 @@ refusals = record {
   neighbours = neighbours-keeps;
   linked = linked-keeps;
   first = first-keeps;
+  later-of = later-keeps;
   core = core-keeps;
   backbone = backbone-keeps;
   tree = tree-keeps;
@@ -349,6 +364,7 @@ outcomes = record {
   neighbours = λ n v t. exactly _ _ (neighbours-inhabited n v t) (neighbours-decided n v t);
   linked = λ n a b t. exactly _ _ (linked-inhabited n a b t) (linked-decided n a b t);
   first = λ n a b t. exactly _ _ (first-inhabited n a b t) (first-decided n a b t);
+  later-of = λ n v t. exactly _ _ (later-inhabited n v t) (later-decided n v t);
   core = λ n v k t w. exactly _ _ (core-inhabited n v k t w) (core-decided n v k t w);
   backbone = λ n t w. exactly _ _ (backbone-inhabited n t w) (backbone-decided n t w);
   tree = λ n t m w. exactly _ _ (tree-inhabited n t m w) (tree-decided n t m w);
@@ -363,6 +379,7 @@ tables-left = record {
   neighbours = λ κs a last. refl;
   linked = λ κs a last. refl;
   first = λ κs a last. refl;
+  later-of = λ κs a last. refl;
   core = λ κs a last. refl;
   backbone = λ κs a last. refl;
   tree = λ κs a last. refl;
@@ -377,6 +394,7 @@ property-2 = record {
   link = link-right;
   check = check-right;
   number = number-right;
+  later-of = later-right;
   core = core-right;
   backbone = backbone-right;
   backbone-one-part = backbone-one-part;

@@ -6,9 +6,11 @@ ghost use Rattle.calls.specs.Contracts.Sites.{Clear-contract, Check-contract};
 ghost use Rattle.calls.specs.Contracts.Links.{Link-contract};
 ghost use Rattle.calls.specs.Contracts.Images.{Read-contract, Write-contract, Block-contract};
 ghost use Rattle.calls.specs.Contracts.Radios.{Number-contract, Neighbours-contract, Linked-contract, First-contract};
+ghost use Rattle.calls.specs.Contracts.Wake.{Later-contract};
 ghost use Rattle.calls.specs.Contracts.Cores.{Core-contract, Backbone-contract};
 ghost use Rattle.calls.specs.Contracts.Trees.{Tree-contract};
 use calls::Block;
+use calls::Later;
 use calls::Reply;
 use calls::Value;
 use mesh::Node;
@@ -132,6 +134,21 @@ pub extern "C" fn sb_first<'a>(
     ensures { λ r. ⌜ First-contract n a b (lent (links .entry) (numbers .entry) (order .entry)) r ⌝ }
 {
     queries::radios::first(n, a, b, links, numbers, order)
+}
+
+// How many neighbours of radio v stand after it in the order, and the first of them, 65,535 when there are none. Refused by 1 to 4:
+// then both are 0.
+#[no_mangle]
+pub extern "C" fn sb_later_of<'a>(
+    n: u32,
+    v: u32,
+    links: &'a [u8],
+    numbers: &'a [u8],
+    order: &'a [u16],
+) -> Later
+    ensures { λ r. ⌜ Later-contract n v (lent (links .entry) (numbers .entry) (order .entry)) r ⌝ }
+{
+    soundness::wake::later_of(n, v, links, numbers, order)
 }
 
 // The connected core of v at level k: the count, and the radios ascending in front of the answer table. Refused by 1 to 4 and 8:

@@ -31,6 +31,8 @@ const IMAGE_READ: u32 = 12;
 
 const IMAGE_BLOCK: u32 = 13;
 
+const LATER_OF: u32 = 14;
+
 // A question about a site, which writes no table.
 fn ask<'a>(call: Call, links: &'a [u8], numbers: &'a [u8], order: &'a [u16]) {
     let n = call.n;
@@ -54,6 +56,10 @@ fn ask<'a>(call: Call, links: &'a [u8], numbers: &'a [u8], order: &'a [u16]) {
         FIRST => say::value(
             b"first",
             summerbugle::sb_first(n, a, b, links, numbers, order),
+        ),
+        LATER_OF => say::later(
+            b"later-of",
+            summerbugle::sb_later_of(n, a, links, numbers, order),
         ),
         _ => {}
     }

@@ -1,5 +1,6 @@
 // What is printed: a word and numbers, a line for each call.
 use calls::Block;
+use calls::Later;
 use calls::Reply;
 use calls::Value;
 use libc::STDOUT_FILENO;
@@ -23,6 +24,13 @@ pub fn number(text: &[u8], x: u32) {
 pub fn value(text: &[u8], r: Value) {
     number(text, r.number);
     field(r.value as u64);
+}
+
+// A word and the answer about later neighbours.
+pub fn later(text: &[u8], r: Later) {
+    number(text, r.number);
+    field(r.count as u64);
+    field(r.first as u64);
 }
 
 // A step, with its sign.

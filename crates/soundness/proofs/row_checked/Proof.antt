@@ -18,7 +18,7 @@ returns-2 c =
     let start = listed .before .before .before .before .before .before in
     let call = start .args in
     row-ends-bad (call .n) (call .links .now) (call .numbers .now) (call .places .now) (call .a) (call .list .now) _ _ (start .pre .0) (start .pre .1) (listed .row-neighbours .ensures .0) (listed .row-neighbours .ensures .1)
-    (c .before .before .before .before .if1 .left) _ _ _ (c .before .before .count-ends .ensures) (not-true _ (c .if2 .taken))
+    (c .before .before .before .before .if1 .left) _ _ _ _ (c .before .before .count-ends .ensures) (not-true _ (c .if2 .taken))
 
 returns-3 : tie.Need-returns-3
 returns-3 c =
@@ -26,7 +26,7 @@ returns-3 c =
     let start = listed .before .before .before .before .before .before in
     let call = start .args in
     row-later-bad (call .n) (call .links .now) (call .numbers .now) (call .places .now) (call .a) (call .list .now) _ _ (start .pre .0) (start .pre .1) (listed .row-neighbours .ensures .0) (listed .row-neighbours .ensures .1)
-    (c .before .before .before .before .before .before .before .if1 .left) _ _ _ (c .before .before .before .before .before .count-ends .ensures) (not-false _ (c .before .before .before .if2 .left)) (c .if3 .taken)
+    (c .before .before .before .before .before .before .before .if1 .left) _ _ _ _ (c .before .before .before .before .before .count-ends .ensures) (not-false _ (c .before .before .before .if2 .left)) (c .if3 .taken)
 
 returns-4 : tie.Need-returns-4
 returns-4 c =
@@ -34,7 +34,7 @@ returns-4 c =
     let start = listed .before .before .before .before .before .before in
     let call = start .args in
     row-high-bad (call .n) (call .links .now) (call .numbers .now) (call .places .now) (call .a) (call .list .now) _ _ (start .pre .0) (start .pre .1) (listed .row-neighbours .ensures .0) (listed .row-neighbours .ensures .1)
-    (c .before .before .before .before .before .before .before .before .before .if1 .left) _ _ _ (c .before .before .before .before .before .before .before .count-ends .ensures) (not-false _ (c .before .before .before .before .before .if2 .left)) (c .before .before .if3 .left) (c .if4 .taken)
+    (c .before .before .before .before .before .before .before .before .before .if1 .left) _ _ _ _ (c .before .before .before .before .before .before .before .count-ends .ensures) (not-false _ (c .before .before .before .before .before .if2 .left)) (c .before .before .if3 .left) (c .if4 .taken)
 
 returns-5 : tie.Need-returns-5
 returns-5 c =
@@ -42,7 +42,7 @@ returns-5 c =
     let start = listed .before .before .before .before .before .before in
     let call = start .args in
     row-right (call .n) (call .links .now) (call .numbers .now) (call .places .now) (call .a) (call .list .now) _ _ (start .pre .0) (start .pre .1) (listed .row-neighbours .ensures .0) (listed .row-neighbours .ensures .1)
-    (c .before .before .before .before .before .before .before .before .before .if1 .left) _ _ _ (c .before .before .before .before .before .before .before .count-ends .ensures) (not-false _ (c .before .before .before .before .before .if2 .left)) (c .before .before .if3 .left) (c .if4 .left)
+    (c .before .before .before .before .before .before .before .before .before .if1 .left) _ _ _ _ (c .before .before .before .before .before .before .before .count-ends .ensures) (not-false _ (c .before .before .before .before .before .if2 .left)) (c .before .before .if3 .left) (c .if4 .left)
 
 pub row-checked-spec : {M : Type 1} → statement M
 row-checked-spec =
