@@ -18,7 +18,8 @@ use Rattle.mesh.specs.Valid.{Allowed}
 use Rattle.mesh.proofs.Images.OtherSize.{is-image-not-other}
 use Rattle.calls.specs.Questions.{ask, Lengths, size-good, site-lengths, answer-length, are-radios, is-radio, ends-differ, can-switch, has-room}
 use Rattle.calls.specs.Questions.{has-level, image-length, holds-image, lent-refusal, site-refusal, ends-refusal, link-refusal, radio-refusal}
-use Rattle.calls.specs.Questions.{pair-refusal, core-refusal, level-refusal, write-refusal, blocks-refusal, image-refusal, read-refusal}
+use Rattle.calls.specs.Questions.{pair-refusal, core-refusal, level-refusal, write-refusal, blocks-refusal, source-refusal, image-refusal}
+use Rattle.calls.specs.Questions.{read-refusal}
 use Rattle.calls.proofs.QuestionLaws.{ask-yes, ask-zero, ask-later, size-good-true, true-size-good, Site-lengths, site-lengths-true, true-site-lengths}
 use Rattle.calls.proofs.QuestionLaws.{is-radio-true, true-is-radio, are-radios-true, true-are-radios, ends-differ-true, true-ends-differ}
 use Rattle.calls.proofs.QuestionLaws.{can-switch-true, true-can-switch, has-room-true, true-has-room, has-level-true, true-has-level, holds-image-true}
@@ -126,14 +127,14 @@ blocks-yes bs later g =
 pub image-zero : (n : ℕ) (bs : List ℕ) → image-refusal n bs ≡ 0 → Blocks-good bs × (is-image n bs ≡ true)
 unfolding image-refusal
 image-zero n bs p =
-    let q = blocks-zero bs (ask 15 (not (other-size n bs)) (ask 11 (is-image n bs) 0)) p in
+    let q = blocks-zero bs (source-refusal n bs) p in
     let r = ask-zero 14 (not (other-size n bs)) (ask 11 (is-image n bs) 0) (q .1) in (q .0, ask-zero 10 (is-image n bs) 0 (r .1) .0)
 
 -- an image of n radios is of no other size
 pub image-yes : (n : ℕ) (bs : List ℕ) → n ≤ max-radios → Blocks-good bs → is-image n bs ≡ true → image-refusal n bs ≡ 0
 unfolding image-refusal
 image-yes n bs small g p =
-    blocks-yes bs (ask 15 (not (other-size n bs)) (ask 11 (is-image n bs) 0)) g
+    blocks-yes bs (source-refusal n bs) g
     ∙ ask-yes 15 (not (other-size n bs)) (ask 11 (is-image n bs) 0) (ap not (is-image-not-other n bs small p))
     ∙ ask-yes 11 (is-image n bs) 0 p
 

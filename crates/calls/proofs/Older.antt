@@ -19,7 +19,7 @@ use Rattle.mesh.proofs.Tables.Older.{sound-within-more, older-image}
 use Rattle.mesh.proofs.Images.Tables.{valid-graph-in, is-image-within-sound, is-image-tables}
 use Rattle.mesh.proofs.Images.OtherSize.{other-size-iff, is-image-not-other}
 use Rattle.calls.specs.Questions.{ask, Lengths, lengths-of, size-good, are-radios, has-room, lent-refusal, site-refusal, ends-refusal}
-use Rattle.calls.specs.Questions.{link-refusal-within, blocks-refusal, image-refusal, read-refusal}
+use Rattle.calls.specs.Questions.{link-refusal-within, blocks-refusal, source-refusal, image-refusal, read-refusal}
 use Rattle.calls.specs.Outcomes.{by-number, read-outcome, link-outcome-within, link-outcome, check-outcome, number-outcome, neighbours-outcome}
 use Rattle.calls.specs.Outcomes.{linked-outcome, first-outcome, core-outcome, backbone-outcome, write-outcome, tree-outcome}
 use Rattle.calls.specs.Older.{Was-sound, former-read-refusal, former-read-outcome, Older}
@@ -109,15 +109,15 @@ module _ (up : Bool) (n a b : ℕ) (t : Tables) (w : List ℕ) (were : Was-sound
 
 -- ---- images
 
--- 15 is not asked of an image of n radios
+-- 15 gets yes: an image of n radios is of no other size
 same-last :
     (n : ℕ) (bs : List ℕ) → size-good n ≡ true → (ask 11 (is-image-within former-neighbours n bs) 0 ≡ 11 → ⊥) →
-    ask 15 (not (other-size n bs)) (ask 11 (is-image n bs) 0) ≡ ask 11 (is-image-within former-neighbours n bs) 0
+    source-refusal n bs ≡ ask 11 (is-image-within former-neighbours n bs) 0
 unfolding ask
 same-last n bs s = go (is-image-within former-neighbours n bs) refl
   where
     go : (b : Bool) → is-image-within former-neighbours n bs ≡ b → (ask 11 b 0 ≡ 11 → ⊥) →
-        ask 15 (not (other-size n bs)) (ask 11 (is-image n bs) 0) ≡ ask 11 b 0
+        source-refusal n bs ≡ ask 11 b 0
     go true e h = let i = older-image n bs e in rw (is-image-not-other n bs (size-good-true n s .1) i, i)
     go false e h = absurd (h refl)
 

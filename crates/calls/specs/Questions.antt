@@ -146,9 +146,13 @@ write-refusal n l room sound g = site-refusal n l true sound (ask 9 (holds-image
 unfoldable pub blocks-refusal : (image : List ℕ) → (later : ℕ) → ℕ
 blocks-refusal bs later = ask 9 (whole-blocks bs) (ask 10 (checks-good bs) later)
 
+-- 15 and 11: of which tables it is the image
+abbrev pub source-refusal : (n : ℕ) → (image : List ℕ) → ℕ
+source-refusal n bs = ask 15 (not (other-size n bs)) (ask 11 (is-image n bs) 0)
+
 -- 9, 10, 15, 11
 unfoldable pub image-refusal : (n : ℕ) → (image : List ℕ) → ℕ
-image-refusal n bs = blocks-refusal bs (ask 15 (not (other-size n bs)) (ask 11 (is-image n bs) 0))
+image-refusal n bs = blocks-refusal bs (source-refusal n bs)
 
 -- an image alone, with no tables to read it into: 1, 9, 10, 15, 11
 unfoldable pub alone-refusal : (n : ℕ) → (image : List ℕ) → ℕ
