@@ -128,15 +128,15 @@ pub image-zero : (n : ℕ) (bs : List ℕ) → image-refusal n bs ≡ 0 → Bloc
 unfolding image-refusal
 image-zero n bs p =
     let q = blocks-zero bs (source-refusal n bs) p in
-    let r = ask-zero 14 (not (other-size n bs)) (ask 11 (is-image n bs) 0) (q .1) in (q .0, ask-zero 10 (is-image n bs) 0 (r .1) .0)
+    let r = ask-zero _ (not (other-size n bs)) _ (q .1) in (q .0, ask-zero _ (is-image n bs) 0 (r .1) .0)
 
 -- an image of n radios is of no other size
 pub image-yes : (n : ℕ) (bs : List ℕ) → n ≤ max-radios → Blocks-good bs → is-image n bs ≡ true → image-refusal n bs ≡ 0
 unfolding image-refusal
 image-yes n bs small g p =
     blocks-yes bs (source-refusal n bs) g
-    ∙ ask-yes 15 (not (other-size n bs)) (ask 11 (is-image n bs) 0) (ap not (is-image-not-other n bs small p))
-    ∙ ask-yes 11 (is-image n bs) 0 p
+    ∙ ask-yes _ (not (other-size n bs)) _ (ap not (is-image-not-other n bs small p))
+    ∙ ask-yes _ (is-image n bs) 0 p
 
 -- ---- the chain of each call; clearing, checking, backbone, shell tree and block reader have the parts above
 
