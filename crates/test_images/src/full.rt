@@ -3,6 +3,7 @@ use super::changes;
 use super::parts;
 use super::reading;
 use super::sites;
+use super::sizes;
 
 // Radio k + 1 linked to the k radios below k, and radio k to k + 2: all numbers are 1.
 fn put_site(k: u32, links: &mut [u8], order: &mut [u16]) {
@@ -19,7 +20,7 @@ fn put_neighbour(k: u32, image: &mut [u8]) {
     changes::mend(image, at);
 }
 
-// Reads the changed image. The numbers are 1 before.
+// Reads the changed image, with every n too. The numbers are 1 before.
 pub(crate) fn try_neighbours(k: u32, links: &mut [u8], numbers: &mut [u8], order: &mut [u16]) {
     let n = std::num::wrapping_add_u32(k, 3);
     let mut image = [0u8; 1536];
@@ -27,4 +28,5 @@ pub(crate) fn try_neighbours(k: u32, links: &mut [u8], numbers: &mut [u8], order
     image_writer::writer::write(n, links, numbers, order, &mut image);
     put_neighbour(k, &mut image);
     reading::try_read(n, links, numbers, order, &image);
+    sizes::try_all(&image);
 }

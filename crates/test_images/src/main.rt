@@ -14,6 +14,7 @@ mod parts;
 mod pattern;
 mod reading;
 mod sites;
+mod sizes;
 mod writing;
 
 use mesh::Site;
@@ -32,12 +33,13 @@ fn try_again(n: u32, links: &[u8], numbers: &[u8], order: &[u16], buffer: &[u8])
     lines::print(b"again", &[lines::yes(tables::fill::same8(buffer, &again))]);
 }
 
-// Writes the site's image, reads it with each length and size and last as it is, writes it again from the tables read, and walks
-// its blocks.
+// Writes the site's image, reads it with each length and size and last as it is, then with every n into other tables, writes it
+// again from the tables read, and walks its blocks.
 fn try_image(n: u32, links: &mut [u8], numbers: &mut [u8], order: &mut [u16]) {
     let mut buffer = [0u8; BUFFER];
     let exact = writing::try_writes(n, links, numbers, order, &mut buffer);
     reading::try_cases(n, links, numbers, order, &buffer, exact);
+    sizes::try_all(parts::front(&buffer, exact));
     try_again(n, links, numbers, order, &buffer);
     reading::try_blocks(parts::front(&buffer, exact));
 }
@@ -76,7 +78,7 @@ fn site(shape: Shape) {
     }
 }
 
-// The sizes where the order or the links take one block more.
+// The sizes where the order or the links take one block more; and 200 radios, which a site of 120 does not take.
 fn try_sites() {
     site(sites::alone(1));
     site(sites::alone(252));
@@ -86,6 +88,7 @@ fn try_sites() {
     site(sites::ring(253, 253, 2));
     site(sites::alone(512));
     site(sites::ring(512, 10240, 40));
+    site(sites::path(200, 199));
 }
 
 // A radio with 40 neighbours is taken, one with 41 is not.
@@ -147,7 +150,7 @@ fn try_small_writes(links: &[u8]) {
     writing::try_refused(0, links, &[2, 2, 2, 1], &order, &mut buffer);
 }
 
-// Reads and walks the small image with a block that fails its check: 1, 2 and 9 are asked before 10, and 10 before 11.
+// Reads and walks the small image with a block that fails its check: 1, 2 and 9 are asked before 10, and 10 before 15 and 11.
 fn try_small_refusals(good: &[u8]) {
     let mut image = [0u8; 1536];
     tables::fill::copy8(&mut image, good);
@@ -185,5 +188,6 @@ fn main() {
     try_small_writes(&links);
     try_small_refusals(&good);
     try_small_changes(&good);
+    sizes::try_small(&good);
     lines::print(b"canaries", &[canaries::count() as u64]);
 }
