@@ -210,13 +210,17 @@ def blocks_lines(image):
     line("held", h)
 
 
-def sizes_line(image):
-    """The image read with every n into tables of n radios, and asked alone."""
+def sizes_line(first, end, image):
+    """The image read with these n into tables of n radios, and asked alone."""
     told = source(image)
-    numbers = [read(n, (ROW * n, n, n), image, told)[0] for n in range(RADIOS + 2)]
+    numbers = [read(n, (ROW * n, n, n), image, told)[0] for n in range(first, end)]
     assert {m for m in range(1, 9) if told[0] in (0, 11) and pictured(m, image)} <= {told[1]}
-    line("sizes", len(image), told[1], *(numbers.count(x) for x in (0, 15, 11)),
+    line("sizes", first, end, len(image), told[1], *(numbers.count(x) for x in (0, 15, 11)),
          sum(x not in (0, 15, 11) for x in numbers), 0, digest(0, numbers))
+
+
+def around_line(n, image):
+    sizes_line(max(0, n - (100 if len(image) <= 4096 else 3)), n + 4, image)
 
 
 def site_lines(n, pairs, order):
@@ -230,7 +234,7 @@ def site_lines(n, pairs, order):
         read_line(n, lengths, other)
     for size in (n - 1, n + 1, 0, 513, n):
         read_line(size, lengths, image)
-    sizes_line(image)
+    around_line(n, image)
     line("again", 1)
     blocks_lines(image)
 
@@ -263,7 +267,7 @@ def full(k):
     assert is_site(n, star + [(k, k + 2)], order)
     image = image_of(n, star + [(k, k + 1)], order)
     read_line(n, (ROW * n, n, n), image)
-    sizes_line(image)
+    around_line(n, image)
 
 
 # ---- every byte of a small image changed
@@ -294,15 +298,15 @@ def mend(image, at):
 
 def other_sizes(good):
     """The image as it is; with headers that say another n; with the first and the last entry of its order exchanged."""
-    sizes_line(good)
+    sizes_line(0, RADIOS + 2, good)
     for says in (0, 4, 6, 513, 65535):
         image = good[:4] + little(says) + good[6:]
         mend(image, 4)
-        sizes_line(image)
+        sizes_line(0, 9, image)
     image = list(good)
     image[516], image[524] = image[524], image[516]
     mend(image, 516)
-    sizes_line(image)
+    sizes_line(0, 9, image)
 
 
 def changes_line(how, mended, n, good):

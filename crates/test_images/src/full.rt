@@ -20,7 +20,7 @@ fn put_neighbour(k: u32, image: &mut [u8]) {
     changes::mend(image, at);
 }
 
-// Reads the changed image, with every n too. The numbers are 1 before.
+// Reads the changed image, with the n around too. The numbers are 1 before.
 pub(crate) fn try_neighbours(k: u32, links: &mut [u8], numbers: &mut [u8], order: &mut [u16]) {
     let n = std::num::wrapping_add_u32(k, 3);
     let mut image = [0u8; 1536];
@@ -28,5 +28,5 @@ pub(crate) fn try_neighbours(k: u32, links: &mut [u8], numbers: &mut [u8], order
     image_writer::writer::write(n, links, numbers, order, &mut image);
     put_neighbour(k, &mut image);
     reading::try_read(n, links, numbers, order, &image);
-    sizes::try_all(&image);
+    sizes::try_around(n, &image);
 }

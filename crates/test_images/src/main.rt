@@ -33,13 +33,13 @@ fn try_again(n: u32, links: &[u8], numbers: &[u8], order: &[u16], buffer: &[u8])
     lines::print(b"again", &[lines::yes(tables::fill::same8(buffer, &again))]);
 }
 
-// Writes the site's image, reads it with each length and size and last as it is, then with every n into other tables, writes it
+// Writes the site's image, reads it with each length and size and last as it is, then with the n around into other tables, writes it
 // again from the tables read, and walks its blocks.
 fn try_image(n: u32, links: &mut [u8], numbers: &mut [u8], order: &mut [u16]) {
     let mut buffer = [0u8; BUFFER];
     let exact = writing::try_writes(n, links, numbers, order, &mut buffer);
     reading::try_cases(n, links, numbers, order, &buffer, exact);
-    sizes::try_all(parts::front(&buffer, exact));
+    sizes::try_around(n, parts::front(&buffer, exact));
     try_again(n, links, numbers, order, &buffer);
     reading::try_blocks(parts::front(&buffer, exact));
 }

@@ -1,4 +1,4 @@
-// Images read with every n into tables of n radios, and asked alone: one n is the image's own, all others are not.
+// Images read with many n into tables of n radios, and asked alone: one n is the image's own, all others are not.
 use super::changes;
 use super::digest;
 use super::lines;
@@ -77,10 +77,7 @@ fn try_cut(
     image: &[u8],
 ) -> Sizes {
     let many = n as usize;
-    let a = tables::fill::least(
-        std::num::wrapping_mul_usize(Site::ROW_BYTES, many),
-        links.len(),
-    );
+    let a = tables::fill::least(Site::ROW_BYTES * many, links.len());
     let b = tables::fill::least(many, numbers.len());
     let c = tables::fill::least(many, order.len());
     try_size(
@@ -93,8 +90,15 @@ fn try_cut(
     )
 }
 
-// Every n from 0 to 513.
-fn try_each(links: &mut [u8], numbers: &mut [u8], order: &mut [u16], image: &[u8]) -> Sizes {
+// Every n from the first to below the end.
+fn try_each(
+    first: u32,
+    end: u32,
+    links: &mut [u8],
+    numbers: &mut [u8],
+    order: &mut [u16],
+    image: &[u8],
+) -> Sizes {
     let mut s = Sizes {
         accepted: 0,
         other: 0,
@@ -103,17 +107,19 @@ fn try_each(links: &mut [u8], numbers: &mut [u8], order: &mut [u16], image: &[u8
         broken: 0,
         digest: 0,
     };
-    let mut n: u32 = 0;
-    while n <= 513 {
+    let mut n: u32 = first;
+    while n < end {
         s = try_cut(s, n, links, numbers, order, image);
         n += 1;
     }
     s
 }
 
-// Prints the line of an image: its length, the n that it says, and the counts.
-pub(crate) fn try_all(image: &[u8]) {
+// Prints the line of an image: the first n, the end, its length, the n that it says, and the counts.
+fn try_range(first: u32, end: u32, image: &[u8]) {
     let s = try_each(
+        first,
+        end,
         &mut [0u8; LINKS_BYTES],
         &mut [0u8; Site::RADIOS as usize],
         &mut [0u16; Site::RADIOS as usize],
@@ -122,6 +128,8 @@ pub(crate) fn try_all(image: &[u8]) {
     lines::print(
         b"sizes",
         &[
+            first as u64,
+            end as u64,
             image.len() as u64,
             image::bytes::word_at(image, 4) as u64,
             s.accepted as u64,
@@ -134,6 +142,25 @@ pub(crate) fn try_all(image: &[u8]) {
     );
 }
 
+// So much less, and at least 0.
+fn less(n: u32, by: u32) -> u32 {
+    if n < by { 0 } else { n - by }
+}
+
+// The sizes below n that are tried; few of a long image.
+fn below(image: &[u8]) -> u32 {
+    if image.len() <= 4096 { 100 } else { 3 }
+}
+
+// Tries an image of n radios with the sizes around.
+pub(crate) fn try_around(n: u32, image: &[u8]) {
+    try_range(
+        less(n, below(image)),
+        std::num::wrapping_add_u32(n, 4),
+        image,
+    );
+}
+
 // Tries the image with a header that says this n, its check mended.
 fn try_header(good: &[u8], says: u32) {
     let mut image = [0u8; 1536];
@@ -141,7 +168,7 @@ fn try_header(good: &[u8], says: u32) {
     parts::put_byte(&mut image, 4, (says % 256) as u8);
     parts::put_byte(&mut image, 5, (says / 256 % 256) as u8);
     changes::mend(&mut image, 4);
-    try_all(&image);
+    try_range(0, 9, &image);
 }
 
 // Tries the image with the first and the last entry of its order exchanged: no k-order.
@@ -151,12 +178,12 @@ fn try_order(good: &[u8]) {
     parts::put_byte(&mut image, 516, parts::byte_at(good, 524));
     parts::put_byte(&mut image, 524, parts::byte_at(good, 516));
     changes::mend(&mut image, 516);
-    try_all(&image);
+    try_range(0, 9, &image);
 }
 
-// Tries an image of 5 radios and 3 blocks as it is; with headers that say another n; with an order that is no k-order.
+// Tries an image of 5 radios and 3 blocks as it is, with every size; with headers that say another n; with an order that is no k-order.
 pub(crate) fn try_small(good: &[u8]) {
-    try_all(good);
+    try_range(0, 514, good);
     try_header(good, 0);
     try_header(good, 4);
     try_header(good, 6);
