@@ -352,8 +352,8 @@ def small_lines():
         changes_line(how, False, 5, good)
         changes_line(how, True, 5, good)
     other_sizes(good)
-    # three tables exchanged, found twice each; images that differ; a refusal that changed a table
-    line("canaries", 2 * 3 + 1 + 1)
+    # three tables exchanged, found twice each; images that differ; a refusal that changed a table; another number alone
+    line("canaries", 2 * 3 + 1 + 1 + 1)
 
 
 def work_out():

@@ -46,7 +46,7 @@ fn counted(s: Sizes, number: u32, broken: bool) -> Sizes {
 }
 
 // Whether a refusal changed a table, or the image alone got another number.
-fn is_broken(n: u32, image: &[u8], number: u32, kept: bool) -> bool {
+pub(crate) fn is_broken(n: u32, image: &[u8], number: u32, kept: bool) -> bool {
     if reader::refusal(n, image) != number {
         return true;
     }

@@ -32,7 +32,9 @@ Passed = lts.After-word-at (
 
 -- the tables then
 abbrev held : Passed → Tables
-held c = let call = c .before .before .before .before .before .before .before .before .before .args in tables (call .links .now) (call .numbers .now) (call .order .now)
+held c =
+    let call = c .before .before .before .before .before .before .before .before .before .args in
+    tables (call .links .now) (call .numbers .now) (call .order .now)
 
 one : (c : Passed) → size-good (c .before .before .before .before .before .before .before .before .before .args .n) ≡ true
 unfolding lengths-of
