@@ -24,5 +24,5 @@ pub(crate) fn count() -> u32 {
     let c = found(b, &links, &numbers, &[42405, 1], h);
     let d = changes::more(c, !tables::fill::same8(&links, &[165, 1]));
     let e = changes::more(d, changes::is_broken(10, false));
-    changes::more(e, sizes::is_broken(0, &links, 9, true))
+    changes::more(e, sizes::is_broken(0, &[165, 1], 9, true))
 }
