@@ -96,6 +96,13 @@ static int agree_writing(void) {
     return 1;
 }
 
+/* The image into the tables of one radio less. */
+static int agree_smaller(const uint8_t *image, unsigned expected) {
+    struct lent p = smaller(t), q = smaller(u);
+    unsigned number = sb_image_read(n - 1, OF(p), image, e->image_length);
+    return number == c_image_read(&q, image, e->image_length) && same_tables() && (!expected || number == expected);
+}
+
 /* The image of the site, and the same with a changed byte, whose block mostly has its check again, into cleared tables. */
 static int agree_reading(void) {
     static uint8_t p[sizeof buffer];
@@ -109,6 +116,7 @@ static int agree_reading(void) {
         if (i % 8) close_block(p + at / BLOCK * BLOCK);
         unsigned number = sb_image_read(n, OF(t), p, e->image_length);
         if (number != c_image_read(&u, p, e->image_length) || !same_tables() || (i == 0 && number)) return 0;
+        if (!agree_smaller(p, i ? 0 : 15)) return 0;
     }
     return 1;
 }

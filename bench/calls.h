@@ -88,7 +88,22 @@ CALL(backbone, sb_backbone(n, SITE, answer, n).value, c_backbone(&e->site, answe
 CALL(image_write, sb_image_write(n, SITE, buffer, sizeof buffer).value, c_image_write(&e->site, buffer, sizeof buffer).value)
 CALL(image_block, sb_image_block(e->image, e->image_length, 0).next, c_image_block(e->image, e->image_length, 0).next)
 CALL(tree, sb_tree(n, SITE, (sb_node *)nodes, n + 1, answer, n).value, c_tree(&e->site, nodes, n + 1, answer, n).value)
+/* The same tables, for one radio less. */
+static struct lent smaller(struct lent t) { return (struct lent){n - 1, t.links, ROW * (n - 1), t.numbers, n - 1, t.order, n - 1}; }
+
+static unsigned read_smaller(void) {
+    struct lent t = smaller(e->other);
+    return sb_image_read(n - 1, OF(t), e->image, e->image_length);
+}
+
+static unsigned c_read_smaller(void) {
+    struct lent t = smaller(e->other);
+    return c_image_read(&t, e->image, e->image_length);
+}
+
 CALL(image_read, sb_image_read(n, OF(e->other), e->image, e->image_length), c_image_read(&e->other, e->image, e->image_length))
+
+CALL(image_other, read_smaller(), c_read_smaller())
 
 static const struct call {
     const char *name;
@@ -107,6 +122,7 @@ static const struct call {
     {"tree", engine_tree, in_c_tree},
     {"image_write", engine_image_write, in_c_image_write},
     {"image_read", engine_image_read, in_c_image_read},
+    {"image_other", engine_image_other, in_c_image_other},
     {"image_block", engine_image_block, in_c_image_block},
 };
 #define CALLS (sizeof calls / sizeof *calls)

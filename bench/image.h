@@ -163,8 +163,10 @@ static unsigned c_image_read(const struct lent *t, const uint8_t *image, size_t 
     uint16_t order[RADIOS], numbers[RADIOS];
     unsigned number = c_sizes(t, 1);
     if (!number) number = c_image_checks(image, length);
-    if (!number && !c_is_image(image, length, t->n, order, numbers)) number = 11;
     if (number) return number;
+    unsigned says = word_at(image + 4);
+    if (says < 1 || says > RADIOS || !c_is_image(image, length, says, order, numbers)) return 11;
+    if (says != t->n) return 15;
     memset(t->links, 0, t->links_len);
     for (unsigned j = 0, m = word_at(image + 6); j < m; j++) {
         const uint8_t *p = link_at(image, t->n, j);

@@ -50,7 +50,8 @@ enum sb_refusal {
     SB_LEVEL = 8,       /* the level is above the radio's number */
     SB_IMAGE_SIZE = 9,  /* the buffer does not hold the image; or the length is 0 or no multiple of 512 */
     SB_IMAGE_CHECK = 10, /* a block does not pass its check */
-    SB_IMAGE = 11       /* the bytes are not the image of sound tables with this n */
+    SB_IMAGE = 11,      /* the bytes are the image of no sound tables */
+    SB_OTHER_SIZE = 15  /* the bytes are the image of sound tables with another n */
 };
 
 /* The answer of a question: refusal number, and the value asked for (0 when refused). */
@@ -221,7 +222,8 @@ sb_value sb_image_write(uint32_t n, const uint8_t *links, size_t links_len,
 /**
  * Read an image of a site of n radios into the tables; the numbers are worked out. What the tables held does not matter.
  *
- * \return 0; or SB_SIZE, SB_LENGTH, SB_IMAGE_SIZE, SB_IMAGE_CHECK, SB_IMAGE, and then every table keeps its content.
+ * \return 0; or SB_SIZE, SB_LENGTH, SB_IMAGE_SIZE, SB_IMAGE_CHECK, then SB_OTHER_SIZE for the image of a site of another size,
+ *         SB_IMAGE for the image of none, and then every table keeps its content.
  */
 uint32_t sb_image_read(uint32_t n, uint8_t *links, size_t links_len,
                        uint8_t *numbers, size_t numbers_len, uint16_t *order, size_t order_len,

@@ -84,7 +84,8 @@ static void test_images(void) {
     expect("next", block.next, 2);
     expect("end", sb_image_block(image, length, 5).end, 1);
     expect("image length", sb_image_block(image, length - 1, 0).number, SB_IMAGE_SIZE);
-    expect("image of another n", sb_image_read(1, links, SB_ROW_BYTES, numbers, 1, order, 1, image, length), SB_IMAGE);
+    expect("image of another n", sb_image_read(1, links, SB_ROW_BYTES, numbers, 1, order, 1, image, length), SB_OTHER_SIZE);
+    expect("image of none", sb_image_read(SB_RADIOS, TABLES, image, length - SB_BLOCK_BYTES), SB_IMAGE);
     expect("image read", sb_image_read(SB_RADIOS, TABLES, image, length), SB_OK);
     expect("neighbours read", sb_neighbours(SB_RADIOS, 0, TABLES).value, SB_NEIGHBOURS);
     image[0] ^= 1;

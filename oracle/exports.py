@@ -283,7 +283,7 @@ def lists(host, n):
 
 
 def images(host, n):
-    """An image written, walked, damaged and read back: 9 before 10, 10 before 11, 2 before 9."""
+    """An image written, walked, damaged and read back: 9 before 10, 10 before 15 and 11, 2 before 9."""
     size = len(host.site(n).image())
     host.call("image-write", n, room=size - 1)
     host.call("image-write", n, room=0)
@@ -301,6 +301,8 @@ def images(host, n):
     host.call("spoil-buffer", n, 4, 1)
     host.call("image-read", n, room=size - 512)
     host.call("image-read", n + 1, room=size)
+    if n > 1:
+        host.call("image-read", n - 1, room=size)
     host.call("clear", n)
     host.call("image-read", n, room=size)
     host.call("check", n)

@@ -1,4 +1,4 @@
-"""The lines that the program `images` owes, worked out from document 01 alone.
+"""The lines that the program `images` owes, worked out from documents 01 and 02 alone.
 
 `python3 oracle/images.py` writes crates/test_images/stdout; with --check it says
 whether the stored file is what it would write. Writer, reader and numbers are
@@ -101,23 +101,33 @@ def block_refusal(image):
     return 0
 
 
-def read(n, lengths, image):
-    """Refusal number of reading into tables of these lengths; of an accepted image also links, numbers and order."""
-    if not 1 <= n <= RADIOS:
-        return 1, None
-    if lengths != (ROW * n, n, n):
-        return 2, None
-    number = block_refusal(image)
-    if number:
-        return number, None
+def pictured(n, image):
+    """Links, numbers and order of the site of n radios whose image it is, where there is one."""
     payload = [x for at in range(0, len(image), BLOCK) for x in image[at + 4:at + 508]]
     words = [a + 256 * b for a, b in zip(payload[::2], payload[1::2])]
     start, count = 252 * (1 + -(-n // 252)), words[1]
     order, ends = words[252:252 + n], words[start:start + 2 * count]
     pairs = list(zip(ends[::2], ends[1::2]))
     if not is_site(n, set(pairs), order) or image_of(n, set(pairs), order) != image:
-        return 11, None
-    return 0, (rows(n, pairs), peeled(n, pairs), order)
+        return None
+    return rows(n, pairs), peeled(n, pairs), order
+
+
+def source(image):
+    """The refusal number of questions 9, 10 and 11; where it is 0, the n that the image says, and its tables."""
+    number, n = block_refusal(image), sum(x << 8 * i for i, x in enumerate(image[4:6]))
+    tables = pictured(n, image) if not number and 1 <= n <= RADIOS else None
+    return number or (0 if tables else 11), n, tables
+
+
+def read(n, lengths, image, told=None):
+    """Refusal number of reading into tables of these lengths; of an accepted image also links, numbers and order."""
+    if not 1 <= n <= RADIOS:
+        return 1, None
+    if lengths != (ROW * n, n, n):
+        return 2, None
+    number, says, tables = told or source(image)
+    return (number, None) if number else (0, tables) if says == n else (15, None)
 
 
 # document 01, M8: one radio, cleared: 1,024 bytes, checks 5 and 4
@@ -200,6 +210,19 @@ def blocks_lines(image):
     line("held", h)
 
 
+def sizes_line(first, end, image):
+    """The image read with these n into tables of n radios, and asked alone."""
+    told = source(image)
+    numbers = [read(n, (ROW * n, n, n), image, told)[0] for n in range(first, end)]
+    assert {m for m in range(1, 9) if told[0] in (0, 11) and pictured(m, image)} <= {told[1]}
+    line("sizes", first, end, len(image), told[1], *(numbers.count(x) for x in (0, 15, 11)),
+         sum(x not in (0, 15, 11) for x in numbers), 0, digest(0, numbers))
+
+
+def around_line(n, image):
+    sizes_line(max(0, n - (100 if len(image) <= 4096 else 3)), n + 4, image)
+
+
 def site_lines(n, pairs, order):
     assert is_site(n, pairs, order) and len(pairs) == len(set(pairs))
     lengths, image = (ROW * n, n, n), image_of(n, pairs, order)
@@ -211,6 +234,7 @@ def site_lines(n, pairs, order):
         read_line(n, lengths, other)
     for size in (n - 1, n + 1, 0, 513, n):
         read_line(size, lengths, image)
+    around_line(n, image)
     line("again", 1)
     blocks_lines(image)
 
@@ -241,7 +265,9 @@ def full(k):
     n, star = k + 3, [(v, k + 1) for v in range(k)]
     order = [(i + k + 2) % n for i in range(n)]
     assert is_site(n, star + [(k, k + 2)], order)
-    read_line(n, (ROW * n, n, n), image_of(n, star + [(k, k + 1)], order))
+    image = image_of(n, star + [(k, k + 1)], order)
+    read_line(n, (ROW * n, n, n), image)
+    around_line(n, image)
 
 
 # ---- every byte of a small image changed
@@ -264,14 +290,32 @@ CHANGES[256] = put(lambda x: x ^ 255)
 CHANGES[257] = swap
 
 
+def mend(image, at):
+    """Gives the block that has byte `at` its check."""
+    start = at // BLOCK * BLOCK
+    image[start + 508:start + BLOCK] = little(check(image[start:start + BLOCK]), 4)
+
+
+def other_sizes(good):
+    """The image as it is; with headers that say another n; with the first and the last entry of its order exchanged."""
+    sizes_line(0, RADIOS + 2, good)
+    for says in (0, 4, 6, 513, 65535):
+        image = good[:4] + little(says) + good[6:]
+        mend(image, 4)
+        sizes_line(0, 9, image)
+    image = list(good)
+    image[516], image[524] = image[524], image[516]
+    mend(image, 516)
+    sizes_line(0, 9, image)
+
+
 def changes_line(how, mended, n, good):
-    counts, h = dict.fromkeys((0, 9, 10, 11), 0), 0
+    counts, h = dict.fromkeys((0, 9, 10, 11), 0), 0  # no change makes an image of another size
     for at in range(len(good)):
         image = list(good)
         CHANGES[how](image, at)
         if mended:
-            start = at // BLOCK * BLOCK
-            image[start + 508:start + BLOCK] = little(check(image[start:start + BLOCK]), 4)
+            mend(image, at)
         number, tables = read(n, (ROW * n, n, n), image)
         counts[number] += 1
         h = digest(h, [at, number])
@@ -307,8 +351,9 @@ def small_lines():
     for how in CHANGES:
         changes_line(how, False, 5, good)
         changes_line(how, True, 5, good)
-    # three tables exchanged, found twice each; images that differ; a refusal that changed a table
-    line("canaries", 2 * 3 + 1 + 1)
+    other_sizes(good)
+    # three tables exchanged, found twice each; images that differ; a refusal that changed a table; another number alone
+    line("canaries", 2 * 3 + 1 + 1 + 1)
 
 
 def work_out():
@@ -320,6 +365,7 @@ def work_out():
     ring(253, 253)
     alone(512)
     ring(512, 10240)
+    path(200, 199)
     full(39)
     full(40)
     small_lines()

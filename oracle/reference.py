@@ -112,25 +112,35 @@ def block_refusal(image):
     return 10 if any(check_bytes(block) != block[508:] for block in blocks) else 0
 
 
-def read(n, image):
-    """Refusal number of reading an image for n radios, questions 9 to 11, and the site of an accepted one."""
-    if block_refusal(image):
-        return block_refusal(image), None
+def pictured(n, image):
+    """The site of n radios whose image it is, where there is one; every block passes its check."""
     blocks = [image[at:at + 512] for at in range(0, len(image), 512)]
     # the only site whose image it can be is the one that its entries tell
     two = lambda block, at: block[4 + at] + 256 * block[5 + at]
     orders, pairs = -(-n // 252), two(blocks[0], 2)
     if len(blocks) != 1 + orders + -(-pairs // 126):
-        return 11, None
+        return None
     site = Site(n)
     site.order = [two(blocks[1 + j // 252], 2 * (j % 252)) for j in range(n)]
     for j in range(pairs):
         block, at = blocks[1 + orders + j // 126], 4 * (j % 126)
         site.links.add((two(block, at), two(block, at + 2)))
     if not all(a < b < n for a, b in site.links):
-        return 11, None
+        return None
     site.numbers = core_numbers(n, site.links)
-    return (0, site) if site.sound() and site.image() == image else (11, None)
+    return site if site.sound() and site.image() == image else None
+
+
+def read(n, image):
+    """Refusal number of reading an image for n radios, questions 9, 10, 15 and 11, and the site of an accepted one."""
+    if block_refusal(image):
+        return block_refusal(image), None
+    # the only n that it can be the image of is the one that it says
+    says = image[4] + 256 * image[5]
+    site = pictured(says, image) if 1 <= says <= RADIOS else None
+    if site is None:
+        return 11, None
+    return (0, site) if says == n else (15, None)
 
 
 def reading(n, image):

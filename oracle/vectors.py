@@ -120,13 +120,18 @@ def checked(image, puts):
 def reading_tried(site):
     """The image as it is, for another n, cut short, empty, with a byte changed;
     then with good checks: a byte of the unused payload, two entries of the
-    order exchanged, the count of links one more, the first link's ends equal."""
+    order exchanged, the count of links one more, a header that says 0, 513 or
+    one more radio, read with this n and with that one, a radio in the order
+    that is none, read with another n, the first link's ends equal."""
     n, image = site.n, site.image()
     whole = len(image)
     tried = [(n, whole, []), (n + 1, whole, []), (n, whole - 1, []), (n, 0, []), (n, whole - 512, []),
              (n, whole, [(4, image[4] ^ 3)]), (n, whole, checked(image, [(900, 1)])),
              (n, whole, checked(image, [(516, image[518]), (518, image[516])])),
-             (n, whole, checked(image, [(6, image[6] + 1)]))]
+             (n, whole, checked(image, [(6, image[6] + 1)])),
+             (n, whole, checked(image, [(4, 0)])), (n, whole, checked(image, [(4, 1), (5, 2)])),
+             (n, whole, checked(image, [(4, n + 1)])), (n + 1, whole, checked(image, [(4, n + 1)])),
+             (n + 1, whole, checked(image, [(516, n)]))]
     if site.links:
         tried.append((n, whole, checked(image, [(1028, image[1030])])))
     for m, many, puts in tried:

@@ -8,7 +8,6 @@
 --   write-right          the bytes written are the image of the tables, and of sound tables
 --   read-right           the tables of an accepted image are sound, and written again they give the same bytes
 --   read-what-was-written   sound tables, written and read, are the same tables
---   read-eleven          11 is the answer to bytes that are the image of no sound tables, and to no others
 --   block-right          what a step of the block reader gives
 use mathlib.Core.Path.{_≡_, refl, sym, ap, ap₂, subst, _∙_}
 use mathlib.Core.Logic.{_⊎_, inl, inr, _↔_}
@@ -30,9 +29,8 @@ use Rattle.mesh.specs.Tables.{Tables, graph-in, tables-of, Tables-of-size}
 use Rattle.mesh.specs.Sound.{sound}
 use Rattle.mesh.specs.Connected.{core-of, backbone}
 use Rattle.mesh.specs.Tree.{tree, node-name, node-names}
-use Rattle.mesh.specs.Image.{block-bytes, image-of, image-graph, image-order, whole-blocks, checks-good, is-image, Tables-image, payload-at}
+use Rattle.mesh.specs.Image.{block-bytes, image-of, image-graph, image-order, is-image, payload-at}
 use Rattle.mesh.specs.declared.Node.{Node}
-use Rattle.lists.proofs.Tests.{never}
 use Rattle.lists.proofs.Map.{length-map, getD-map-range}
 use Rattle.lists.proofs.Range.{length-range, once-below}
 use Rattle.lists.proofs.Overwrite.{take-overwrite, drop-overwrite}
@@ -51,8 +49,8 @@ use Rattle.mesh.proofs.Images.Of.{length-image-of, whole-blocks-image-of, check
 use Rattle.mesh.proofs.Images.Sites.{written-read}
 use Rattle.mesh.proofs.Images.Tables.{valid-graph-in, is-image-sound, is-image-tables, tables-read-written}
 use Rattle.mesh.specs.Valid.{Valid}
-use Rattle.calls.specs.Questions.{ask, By-number, lengths-of, size-good, site-lengths, image-length, lent-refusal, tables-refusal, link-refusal}
-use Rattle.calls.specs.Questions.{radio-refusal, core-refusal, backbone-refusal, tree-refusal, write-refusal, blocks-refusal, image-refusal, read-refusal}
+use Rattle.calls.specs.Questions.{By-number, lengths-of, image-length, tables-refusal, link-refusal}
+use Rattle.calls.specs.Questions.{radio-refusal, core-refusal, backbone-refusal, tree-refusal, write-refusal, read-refusal}
 use Rattle.calls.specs.Questions.{block-refusal}
 use Rattle.calls.specs.Contracts.Forms.{Tables-refused, Value-accepted, Value-refused, Listing-accepted, Listing-refused}
 use Rattle.calls.specs.Contracts.Links.{Link-accepted, Link-refused, Link-contract}
@@ -69,7 +67,6 @@ use Rattle.calls.specs.declared.Value.{Value}
 use Rattle.calls.specs.declared.Later.{Later}
 use Rattle.calls.specs.declared.Block.{Block}
 use Rattle.calls.proofs.ContractLaws.{by-cases, by-zero}
-use Rattle.calls.proofs.QuestionLaws.{size-good-true}
 use Rattle.calls.proofs.ChainLaws.{lent-zero, Site-good, link-zero, radio-zero, core-zero, write-zero, read-zero, read-yes}
 use Rattle.calls.proofs.RecordLaws.{tables-ext}
 
@@ -307,32 +304,6 @@ read-right n bs t r v d z =
       right = numbers-right g v (c .1 .numbers) (ap (is-k-order g) (c .1 .order) ∙ valid .k-order);
       same-bytes = ap (image-of g) (c .1 .order) ∙ written-read n bs (a .2);
     }
-
--- the number that reading answers
-read-number : (n : ℕ) (bs : List ℕ) (t : Tables) (r : ℕ) (v : Tables) → Read-contract n bs t r v → r ≡ read-refusal n (lengths-of t) bs
-unfolding Read-contract
-read-number n bs t r v d = go (by-cases R (Read-accepted n bs r v) (λ q. Tables-refused q r t v) d)
-  where
-    R : ℕ
-    R = read-refusal n (lengths-of t) bs
-
-    go : ((R ≡ 0) × Read-accepted n bs r v) ⊎ ((R ≡ 0 → ⊥) × Tables-refused R r t v) → r ≡ R
-    go (inl p) = p .1 .number ∙ sym (p .0)
-    go (inr p) = p .1 .number
-
--- where 1, 2, 9 and 10 get yes
-pub read-eleven : (n : ℕ) (bs : List ℕ) (t : Tables) (r : ℕ) (v : Tables) → Read-contract n bs t r v → size-good n ≡ true
-    → site-lengths n (lengths-of t) ≡ true → whole-blocks bs ≡ true → checks-good bs ≡ true
-    → ((r ≡ 0) ↔ Tables-image n bs) × ((r ≡ 11) ↔ (Tables-image n bs → ⊥))
-unfolding read-refusal lent-refusal image-refusal blocks-refusal is-image ask
-read-eleven n bs t r v d one two nine ten = go (is-image n bs) refl (read-number n bs t r v d ∙ rw (one, two, nine, ten))
-  where
-    iff : (is-image n bs ≡ true) ↔ Tables-image n bs
-    iff = is-image-tables n bs (size-good-true n one .1)
-
-    go : (b : Bool) → is-image n bs ≡ b → r ≡ ask 11 b 0 → ((r ≡ 0) ↔ Tables-image n bs) × ((r ≡ 11) ↔ (Tables-image n bs → ⊥))
-    go true e f = ((λ z. iff .0 e, λ i. f), (λ z. absurd (omega arith), λ i. absurd (i (iff .0 e))))
-    go false e f = ((λ z. absurd (omega arith), λ i. never (is-image n bs) (iff .1 i) e), (λ z i. never (is-image n bs) (iff .1 i) e, λ i. f))
 
 -- ---- the block reader
 

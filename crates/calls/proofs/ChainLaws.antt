@@ -5,19 +5,21 @@
 --   ..-zero       a chain that is 0: what was asked holds
 --   ..-yes        the way back
 -- Questions 4 to 7 are `Allowed` of mesh. In order: parts of chains, then the chain of each call.
-use mathlib.Core.Path.{_≡_, _∙_, refl}
-use mathlib.Core.Bool.{Bool, true, _&&_, false}
+use mathlib.Core.Path.{_≡_, _∙_, ap, refl}
+use mathlib.Core.Bool.{Bool, true, _&&_, not, false}
 use mathlib.Core.List.{List}
 use Prim.Native.Nat.{ℕ, _≤_, _<_}
 use Rattle.mesh.specs.Limits.{max-radios, max-neighbours}
 use Rattle.mesh.specs.Graph.{Graph}
 use Rattle.mesh.specs.Cores.{number}
-use Rattle.mesh.specs.Image.{whole-blocks, checks-good, is-image}
+use Rattle.mesh.specs.Image.{whole-blocks, checks-good, other-size, is-image}
 use Rattle.lists.proofs.Tests.{and-left, and-right}
 use Rattle.mesh.specs.Valid.{Allowed}
+use Rattle.mesh.proofs.Images.OtherSize.{is-image-not-other}
 use Rattle.calls.specs.Questions.{ask, Lengths, size-good, site-lengths, answer-length, are-radios, is-radio, ends-differ, can-switch, has-room}
 use Rattle.calls.specs.Questions.{has-level, image-length, holds-image, lent-refusal, site-refusal, ends-refusal, link-refusal, radio-refusal}
-use Rattle.calls.specs.Questions.{pair-refusal, core-refusal, level-refusal, write-refusal, blocks-refusal, image-refusal, read-refusal}
+use Rattle.calls.specs.Questions.{pair-refusal, core-refusal, level-refusal, write-refusal, blocks-refusal, source-refusal, image-refusal}
+use Rattle.calls.specs.Questions.{read-refusal}
 use Rattle.calls.proofs.QuestionLaws.{ask-yes, ask-zero, ask-later, size-good-true, true-size-good, Site-lengths, site-lengths-true, true-site-lengths}
 use Rattle.calls.proofs.QuestionLaws.{is-radio-true, true-is-radio, are-radios-true, true-are-radios, ends-differ-true, true-ends-differ}
 use Rattle.calls.proofs.QuestionLaws.{can-switch-true, true-can-switch, has-room-true, true-has-room, has-level-true, true-has-level, holds-image-true}
@@ -105,7 +107,7 @@ ends-yes most up a b g h =
       true-has-room most up g a b (h .room),
     )
 
--- ---- 9 to 11
+-- ---- 9 to 11, and 15
 
 pub record Blocks-good (image : List ℕ) : Type 0 where
   pub whole : whole-blocks image ≡ true
@@ -123,13 +125,18 @@ blocks-yes bs later g =
     ask-yes 9 (whole-blocks bs) (ask 10 (checks-good bs) later) (g .whole) ∙ ask-yes 10 (checks-good bs) later (g .checks)
 
 pub image-zero : (n : ℕ) (bs : List ℕ) → image-refusal n bs ≡ 0 → Blocks-good bs × (is-image n bs ≡ true)
-unfolding image-refusal is-image
+unfolding image-refusal
 image-zero n bs p =
-    let q = blocks-zero bs (ask 11 (is-image n bs) 0) p in (q .0, ask-zero 10 (is-image n bs) 0 (q .1) .0)
+    let q = blocks-zero bs (source-refusal n bs) p in
+    let r = ask-zero _ (not (other-size n bs)) _ (q .1) in (q .0, ask-zero _ (is-image n bs) 0 (r .1) .0)
 
-pub image-yes : (n : ℕ) (bs : List ℕ) → Blocks-good bs → is-image n bs ≡ true → image-refusal n bs ≡ 0
-unfolding image-refusal is-image
-image-yes n bs g p = blocks-yes bs (ask 11 (is-image n bs) 0) g ∙ ask-yes 11 (is-image n bs) 0 p
+-- an image of n radios is of no other size
+pub image-yes : (n : ℕ) (bs : List ℕ) → n ≤ max-radios → Blocks-good bs → is-image n bs ≡ true → image-refusal n bs ≡ 0
+unfolding image-refusal
+image-yes n bs small g p =
+    blocks-yes bs (source-refusal n bs) g
+    ∙ ask-yes _ (not (other-size n bs)) _ (ap not (is-image-not-other n bs small p))
+    ∙ ask-yes _ (is-image n bs) 0 p
 
 -- ---- the chain of each call; clearing, checking, backbone, shell tree and block reader have the parts above
 
@@ -203,7 +210,7 @@ write-yes n l room sound g s h =
 pub read-zero :
     (n : ℕ) (l : Lengths) (bs : List ℕ) → read-refusal n l bs ≡ 0 →
     Lent-good n l true × Blocks-good bs × (is-image n bs ≡ true)
-unfolding read-refusal image-refusal
+unfolding read-refusal
 read-zero n l bs p =
     let q = lent-zero n l true (image-refusal n bs) p in
     let r = image-zero n bs (q .1) in (q .0, r .0, r .1)
@@ -211,8 +218,8 @@ read-zero n l bs p =
 pub read-yes :
     (n : ℕ) (l : Lengths) (bs : List ℕ) → Lent-good n l true → Blocks-good bs → is-image n bs ≡ true →
     read-refusal n l bs ≡ 0
-unfolding read-refusal image-refusal
-read-yes n l bs g s p = lent-yes n l true (image-refusal n bs) g ∙ image-yes n bs s p
+unfolding read-refusal
+read-yes n l bs g s p = lent-yes n l true (image-refusal n bs) g ∙ image-yes n bs (g .most) s p
 
 -- a chain that stops at 1 to 3 does not ask further
 pub site-stops : (n : ℕ) (l : Lengths) (others sound : Bool) (later : ℕ) → (site-refusal n l others sound 0 ≡ 0 → ⊥)

@@ -1,8 +1,8 @@
 -- Proofs about calls: `QuestionLaws`, `ChainLaws`, `ContractLaws` and `RecordLaws` for the crates whose functions meet the
 -- contracts, `Outcomes` that each contract has exactly one outcome, `Refusals` what a refusal keeps, `Total` that every
--- list of calls has a run, `Accepted` what a caller has after an accepted call (property 2), `Older` what calls give of older
--- tables and images, `Exactly` which radios a link call lists, `Cases` that the worked cases hold by
--- `ByPairs`, `WorkedState` and `WorkedLaws`, the others for demand 3.
+-- list of calls has a run, `Accepted` what a caller has after an accepted call (property 2), `ImageNumbers` which bytes reading
+-- refuses by 15 and which by 11, `Older` what calls give of older tables and images, `Exactly` which radios a link call lists,
+-- `Cases` that the worked cases hold by `ByPairs`, `WorkedState` and `WorkedLaws`, the others for demand 3.
 pub mod QuestionLaws
 pub mod ChainLaws
 pub mod ContractLaws
@@ -21,4 +21,5 @@ pub mod WorkedState
 pub mod WorkedLaws
 pub mod Cases
 pub mod Accepted
+pub mod ImageNumbers
 pub mod Older

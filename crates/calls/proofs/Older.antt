@@ -1,10 +1,11 @@
 -- Calls on tables and images from before the limit on neighbours was raised.
 --   older-call     a link call on formerly sound tables: accepted then, the same now; refused by 7 then, taken now
 --   older-read     an image that was read is read as it was
+--   older-other    an older image with another n gets 15, where it got 11
 --   older          all calls
 -- In order: a chain whose last question gets another answer, link calls, images, calls that only read.
 use mathlib.Core.Path.{_≡_, refl, sym, _∙_}
-use mathlib.Core.Bool.{Bool, true, false}
+use mathlib.Core.Bool.{Bool, true, false, not}
 use mathlib.Core.List.{List}
 use Prim.Native.Nat.{ℕ}
 use native.Mathlib.Omega.{arith}
@@ -13,13 +14,15 @@ use Rattle.mesh.specs.Limits.{max-neighbours, former-neighbours}
 use Rattle.mesh.specs.Graph.{Graph}
 use Rattle.mesh.specs.Tables.{Tables, graph-in}
 use Rattle.mesh.specs.Sound.{sound-within}
-use Rattle.mesh.proofs.Tables.Older.{sound-within-more, is-image-within-more, older-image}
-use Rattle.mesh.proofs.Images.Tables.{valid-graph-in, is-image-within-sound}
+use Rattle.mesh.specs.Image.{other-size, is-image-within, is-image}
+use Rattle.mesh.proofs.Tables.Older.{sound-within-more, older-image}
+use Rattle.mesh.proofs.Images.Tables.{valid-graph-in, is-image-within-sound, is-image-tables}
+use Rattle.mesh.proofs.Images.OtherSize.{other-size-iff, is-image-not-other}
 use Rattle.calls.specs.Questions.{ask, Lengths, lengths-of, size-good, are-radios, has-room, lent-refusal, site-refusal, ends-refusal}
-use Rattle.calls.specs.Questions.{link-refusal-within, blocks-refusal, read-refusal-within}
-use Rattle.calls.specs.Outcomes.{read-outcome-within, read-outcome, link-outcome-within, link-outcome, check-outcome, number-outcome, neighbours-outcome}
+use Rattle.calls.specs.Questions.{link-refusal-within, blocks-refusal, source-refusal, image-refusal, read-refusal}
+use Rattle.calls.specs.Outcomes.{by-number, read-outcome, link-outcome-within, link-outcome, check-outcome, number-outcome, neighbours-outcome}
 use Rattle.calls.specs.Outcomes.{linked-outcome, first-outcome, core-outcome, backbone-outcome, write-outcome, tree-outcome, later-outcome}
-use Rattle.calls.specs.Older.{Was-sound, Older}
+use Rattle.calls.specs.Older.{Was-sound, former-read-refusal, former-read-outcome, Older}
 use Rattle.calls.specs.declared.Reply.{Reply}
 use Rattle.calls.proofs.Outcomes.{number-by}
 use Rattle.calls.proofs.QuestionLaws.{size-good-true, are-radios-true, has-room-true, true-has-room}
@@ -27,9 +30,9 @@ use Rattle.calls.proofs.QuestionLaws.{size-good-true, are-radios-true, 
 -- ---- a chain whose last question gets another answer
 
 -- chains x and y agree unless x gives z: so they do after a question more
-ask-unless : (q : ℕ) (answer : Bool) (z x y : ℕ) → ((x ≡ z → ⊥) → y ≡ x) → (ask q answer x ≡ z → ⊥) → ask q answer y ≡ ask q answer x
+ask-unless : (q : ℕ) (answer : Bool) (z x y : ℕ) → (answer ≡ true → (x ≡ z → ⊥) → y ≡ x) → (ask q answer x ≡ z → ⊥) → ask q answer y ≡ ask q answer x
 unfolding ask
-ask-unless q true z x y f h = f h
+ask-unless q true z x y f h = f refl h
 ask-unless q false z x y f h = refl
 
 ask-last : (z : ℕ) (then now : Bool) → (then ≡ true → now ≡ true) → (ask z then 0 ≡ z → ⊥) → ask z now 0 ≡ ask z then 0
@@ -68,9 +71,8 @@ module _ (up : Bool) (n a b : ℕ) (t : Tables) (w : List ℕ) (were : Was-sound
   same-unless-seven : (asked former-neighbours ≡ 7 → ⊥) → asked max-neighbours ≡ asked former-neighbours
   unfolding site-refusal lent-refusal ends-refusal
   same-unless-seven =
-      ask-unless 1 _ 7 _ _
-      (ask-unless 2 _ 7 _ _
-      (ask-unless 3 _ 7 _ _ (ask-unless 4 _ 7 _ _ (ask-unless 5 _ 7 _ _ (ask-unless 6 _ 7 _ _ (ask-last 7 _ _ room-more))))))
+      ask-unless 1 _ 7 _ _ (λ e1. ask-unless 2 _ 7 _ _ (λ e2. ask-unless 3 _ 7 _ _ (λ e3. ask-unless 4 _ 7 _ _ (λ e4.
+      ask-unless 5 _ 7 _ _ (λ e5. ask-unless 6 _ 7 _ _ (λ e6. ask-last 7 _ _ room-more))))))
 
   -- formerly sound tables have fewer neighbours than the limit is now
   seven-taken : asked former-neighbours ≡ 7 → asked max-neighbours ≡ 0
@@ -107,21 +109,56 @@ module _ (up : Bool) (n a b : ℕ) (t : Tables) (w : List ℕ) (were : Was-sound
 
 -- ---- images
 
+-- 15 gets yes: an image of n radios is of no other size
+same-last :
+    (n : ℕ) (bs : List ℕ) → size-good n ≡ true → (ask 11 (is-image-within former-neighbours n bs) 0 ≡ 11 → ⊥) →
+    source-refusal n bs ≡ ask 11 (is-image-within former-neighbours n bs) 0
+unfolding ask
+same-last n bs s = go (is-image-within former-neighbours n bs) refl
+  where
+    go : (b : Bool) → is-image-within former-neighbours n bs ≡ b → (ask 11 b 0 ≡ 11 → ⊥) →
+        source-refusal n bs ≡ ask 11 b 0
+    go true e h = let i = older-image n bs e in rw (is-image-not-other n bs (size-good-true n s .1) i, i)
+    go false e h = absurd (h refl)
+
 same-unless-eleven :
-    (n : ℕ) (bs : List ℕ) (l : Lengths) → (read-refusal-within former-neighbours n l bs ≡ 11 → ⊥) →
-    read-refusal-within max-neighbours n l bs ≡ read-refusal-within former-neighbours n l bs
-unfolding lent-refusal blocks-refusal
+    (n : ℕ) (bs : List ℕ) (l : Lengths) → (former-read-refusal n l bs ≡ 11 → ⊥) → read-refusal n l bs ≡ former-read-refusal n l bs
+unfolding former-read-refusal read-refusal image-refusal lent-refusal blocks-refusal
 same-unless-eleven n bs l =
-    ask-unless 1 _ 11 _ _ (ask-unless 2 _ 11 _ _ (ask-unless 9 _ 11 _ _ (ask-unless 10 _ 11 _ _ (ask-last 11 _ _
-    (is-image-within-more former-neighbours max-neighbours n bs (omega arith))))))
+    ask-unless 1 _ 11 _ _ (λ s. ask-unless 2 _ 11 _ _ (λ e2. ask-unless 9 _ 11 _ _ (λ e9. ask-unless 10 _ 11 _ _ (λ e10. same-last n bs s))))
+
+number-former : (n : ℕ) (bs : List ℕ) (t : Tables) → former-read-outcome n bs t .0 ≡ former-read-refusal n (lengths-of t) bs
+unfolding former-read-outcome
+number-former n bs t = number-by (λ (o : ℕ × Tables). o .0) (former-read-refusal n (lengths-of t) bs) _ _ refl (λ q. refl)
 
 pub older-read :
-    (n : ℕ) (bs : List ℕ) (t : Tables) → (read-outcome-within former-neighbours n bs t .0 ≡ 11 → ⊥) →
-    read-outcome n bs t ≡ read-outcome-within former-neighbours n bs t
-unfolding read-outcome
-older-read n bs t h =
-    let then = read-refusal-within former-neighbours n (lengths-of t) bs in
-    rw (same-unless-eleven n bs (lengths-of t) (λ e. h (number-by (λ (o : ℕ × Tables). o .0) then _ _ refl (λ q. refl) ∙ e)))
+    (n : ℕ) (bs : List ℕ) (t : Tables) → (former-read-outcome n bs t .0 ≡ 11 → ⊥) → read-outcome n bs t ≡ former-read-outcome n bs t
+unfolding read-outcome former-read-outcome
+older-read n bs t h = rw (same-unless-eleven n bs (lengths-of t) (λ e. h (number-former n bs t ∙ e)))
+
+fifteen : (x : ℕ) → ask 1 true (ask 2 true (ask 9 true (ask 10 true (ask 15 (not true) x)))) ≡ 15
+unfolding ask
+fifteen x = refl
+
+-- 1, 2, 9 and 10 get what they got
+fifteen-for-eleven :
+    (n : ℕ) (bs : List ℕ) (l : Lengths) → other-size n bs ≡ true → former-read-refusal n l bs ≡ 11 → read-refusal n l bs ≡ 15
+unfolding former-read-refusal read-refusal image-refusal lent-refusal blocks-refusal
+fifteen-for-eleven n bs l o e =
+    let one = ask-passed 1 (size-good n) 11 _ (λ z. omega arith) e in
+    let two = ask-passed 2 _ 11 _ (λ z. omega arith) (one .1) in
+    let nine = ask-passed 9 _ 11 _ (λ z. omega arith) (two .1) in
+    let ten = ask-passed 10 _ 11 _ (λ z. omega arith) (nine .1) in rw (one .0, two .0, nine .0, ten .0, o) (fifteen (ask 11 (is-image n bs) 0))
+
+pub older-other :
+    (m n : ℕ) (bs : List ℕ) (t : Tables) → size-good m ≡ true → (m ≡ n → ⊥) → is-image-within former-neighbours m bs ≡ true →
+    former-read-outcome n bs t .0 ≡ 11 → read-outcome n bs t ≡ (15, t)
+unfolding read-outcome by-number
+older-other m n bs t s d i e =
+    let small = size-good-true m s .1 in
+    let o = other-size-iff n bs .1
+    (record { radios = m; size = s; other = d; is-image = is-image-tables m bs small .0 (older-image m bs i) }) in
+    rw (fifteen-for-eleven n bs (lengths-of t) o (sym (number-former n bs t) ∙ e))
 
 -- ---- all calls
 
@@ -143,4 +180,5 @@ older = record {
   image-written = λ n t l s. is-image-within-sound former-neighbours n t l (omega arith) s;
   image = older-image;
   image-read = older-read;
+  image-other-size = older-other;
 }

@@ -15,7 +15,7 @@ use Rattle.mesh.specs.Tables.{Tables, graph-in, tables-of}
 use Rattle.mesh.specs.Sound.{sound}
 use Rattle.mesh.specs.Image.{block-bytes}
 use Rattle.mesh.specs.declared.Node.{Node}
-use Rattle.calls.specs.Questions.{By-number, link-refusal, read-refusal}
+use Rattle.calls.specs.Questions.{By-number, link-refusal}
 use Rattle.calls.specs.Contracts.Forms.{Tables-refused, Value-accepted, Value-refused, Value-by, Listing-accepted, Listing-refused, Listing-by}
 use Rattle.calls.specs.Contracts.Sites.{Clear-accepted, Clear-contract, Check-contract}
 use Rattle.calls.specs.Contracts.Links.{Link-accepted, Link-refused, Link-contract}
@@ -281,7 +281,7 @@ read-decided n bs t =
     (λ x. tables-refused x t)
 
 pub read-inhabited : (n : ℕ) (bs : List ℕ) (t : Tables) → let o = read-outcome n bs t in Read-contract n bs t (o .0) (o .1)
-unfolding Read-contract read-outcome read-refusal tables-of
+unfolding Read-contract read-outcome tables-of
 read-inhabited n bs t =
     by-meets
     _

@@ -1,16 +1,18 @@
--- Laws of the questions: one question of a chain, then each question as what it asks, both ways. Chains are in ChainLaws.antt.
+-- Laws of the questions: one question of a chain, then each question as what it asks, both ways; 1 is in mesh. Chains are in
+-- ChainLaws.antt.
 use mathlib.Core.Path.{_≡_, refl}
 use mathlib.Core.Bool.{Bool, true, false, _&&_, not}
 use Prim.Native.Nat.{ℕ, suc, _+_, _*_, _≤_, _<_}
 use native.Mathlib.Omega.{arith}
-use lib.Dec.{ltb, leb, eqb}
+use lib.Dec.{ltb, eqb}
 use borrow.Author.Tests.{ltb-true, leb-true, eqb-true, eqb-false, lt-ltb, le-leb, eq-eqb, ne-eqb, not-true}
-use Rattle.mesh.specs.Limits.{max-radios, row-bytes}
+use Rattle.mesh.specs.Limits.{row-bytes}
 use Rattle.mesh.specs.Graph.{Graph, linked, degree}
 use Rattle.mesh.specs.Cores.{number}
 use Rattle.lists.proofs.Tests.{never, and-left, and-right, and-both}
-use Rattle.calls.specs.Questions.{ask, Lengths, size-good, site-lengths, answer-length, nodes-length, is-radio, are-radios, ends-differ, can-switch}
+use Rattle.calls.specs.Questions.{ask, Lengths, site-lengths, answer-length, nodes-length, is-radio, are-radios, ends-differ, can-switch}
 use Rattle.calls.specs.Questions.{has-room, has-level, image-length, holds-image}
+pub use Rattle.mesh.proofs.Sizes.{size-good-true, true-size-good}
 
 -- ---- one question
 
@@ -34,15 +36,7 @@ unfolding ask
 ask-later r true x y e = e refl
 ask-later r false x y e = refl
 
--- ---- 1 and 2: sizes and lengths
-
-pub size-good-true : (n : ℕ) → size-good n ≡ true → (1 ≤ n) × (n ≤ max-radios)
-unfolding size-good
-size-good-true n p = (leb-true 1 n (and-left (leb 1 n) (leb n max-radios) p), leb-true n max-radios (and-right (leb 1 n) (leb n max-radios) p))
-
-pub true-size-good : (n : ℕ) → 1 ≤ n → n ≤ max-radios → size-good n ≡ true
-unfolding size-good
-true-size-good n p q = and-both (leb 1 n) (leb n max-radios) (le-leb 1 n p) (le-leb n max-radios q)
+-- ---- 2: lengths
 
 -- the lengths of links, numbers and order that question 2 wants
 pub record Site-lengths (n : ℕ) (l : Lengths) : Type 0 where

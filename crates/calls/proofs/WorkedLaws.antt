@@ -100,7 +100,7 @@ listing-right (suc y) r new old xs p =
     rw (← e, ← d, is-value-refl (suc y) 0)
 
 number-read : (n : ℕ) (bs : List ℕ) (t : Tables) → read-outcome n bs t .0 ≡ read-refusal n (lengths-of t) bs
-unfolding read-outcome read-refusal
+unfolding read-outcome
 number-read n bs t = number-by (λ (o : ℕ × Tables). o .0) (read-refusal n (lengths-of t) bs) _ _ refl (λ q. refl)
 
 -- ---- a state

@@ -1,17 +1,20 @@
 -- Document 02, W-208: tables and images from before the limit on neighbours was raised, when it was `former-neighbours`.
---   Was-sound   formerly sound
---   Older       what calls give of them: what they gave then, but that a link-up call refused by 7 is taken
+--   Was-sound                formerly sound
+--   former-read-refusal      reading's questions then
+--   former-read-outcome      what reading gave then
+--   Older                    what calls give of them: what they gave then, but that a link-up call refused by 7 is taken
 -- That it holds is `older` in proofs/Older.antt. Clearing and the block reader do not ask for the limit. Definitions only.
 use mathlib.Core.Path.{_≡_}
 use mathlib.Core.Bool.{Bool, true}
 use mathlib.Core.List.{List}
 use Prim.Native.Nat.{ℕ, _≤_}
-use Rattle.mesh.specs.Limits.{max-radios, former-neighbours}
-use Rattle.mesh.specs.Tables.{Tables, graph-in}
+use Rattle.mesh.specs.Limits.{max-radios, former-neighbours, size-good}
+use Rattle.mesh.specs.Tables.{Tables, graph-in, tables-of}
 use Rattle.mesh.specs.Sound.{sound-within}
-use Rattle.mesh.specs.Image.{image-of, is-image-within, is-image}
+use Rattle.mesh.specs.Image.{image-of, image-graph, image-order, is-image-within, is-image}
 use Rattle.mesh.specs.declared.Node.{Node}
-use Rattle.calls.specs.Outcomes.{read-outcome-within, read-outcome, link-outcome-within, link-outcome, check-outcome-within, check-outcome}
+use Rattle.calls.specs.Questions.{ask, Lengths, lengths-of, lent-refusal, blocks-refusal}
+use Rattle.calls.specs.Outcomes.{by-number, read-outcome, link-outcome-within, link-outcome, check-outcome-within, check-outcome}
 use Rattle.calls.specs.Outcomes.{number-outcome-within, number-outcome, neighbours-outcome-within, neighbours-outcome, linked-outcome-within}
 use Rattle.calls.specs.Outcomes.{linked-outcome, first-outcome-within, first-outcome, core-outcome-within, core-outcome, backbone-outcome-within}
 use Rattle.calls.specs.Outcomes.{backbone-outcome, write-outcome-within, write-outcome, tree-outcome-within, tree-outcome, later-outcome-within, later-outcome}
@@ -19,6 +22,14 @@ use Rattle.calls.specs.Outcomes.{backbone-outcome, write-outcome-within,
 -- the conditions of soundness, with the former limit
 abbrev pub Was-sound : (n : ℕ) → Tables → Type 0
 Was-sound n t = sound-within former-neighbours n t ≡ true
+
+-- the former limit, and 11 for every image that is not one of n radios: 15 is document 02's, W-207
+unfoldable pub former-read-refusal : (n : ℕ) → Lengths → (image : List ℕ) → ℕ
+former-read-refusal n l bs = lent-refusal n l true (blocks-refusal bs (ask 11 (is-image-within former-neighbours n bs) 0))
+
+unfoldable pub former-read-outcome : (n : ℕ) → (image : List ℕ) → Tables → ℕ × Tables
+former-read-outcome n bs t =
+    by-number (former-read-refusal n (lengths-of t) bs) (0, tables-of (image-graph n bs) (image-order n bs)) (λ q. (q, t))
 
 pub record Older : Type 0 where
   -- accepted then, or refused by another question than 7: as it was, result and every lent table
@@ -56,5 +67,9 @@ pub record Older : Type 0 where
   pub image : (n : ℕ) (bs : List ℕ) → is-image-within former-neighbours n bs ≡ true → is-image n bs ≡ true
   -- and reads as it did: accepted then, or refused by another question than 11
   pub image-read :
-      (n : ℕ) (bs : List ℕ) (t : Tables) → (read-outcome-within former-neighbours n bs t .0 ≡ 11 → ⊥) →
-      read-outcome n bs t ≡ read-outcome-within former-neighbours n bs t
+      (n : ℕ) (bs : List ℕ) (t : Tables) → (former-read-outcome n bs t .0 ≡ 11 → ⊥) →
+      read-outcome n bs t ≡ former-read-outcome n bs t
+  -- one with another n, refused by 11 then, is refused by 15
+  pub image-other-size :
+      (m n : ℕ) (bs : List ℕ) (t : Tables) → size-good m ≡ true → (m ≡ n → ⊥) → is-image-within former-neighbours m bs ≡ true →
+      former-read-outcome n bs t .0 ≡ 11 → read-outcome n bs t ≡ (15, t)

@@ -1,7 +1,7 @@
 -- The outcome of each call as an executable definition: its result with the lent tables after it.
 --   by-number refusal accepted refused   the outcome by the number that the call's questions give
 --   clear-outcome .. block-outcome       the outcome of each contract, from what the call is given
---   ..-outcome-within most               the same with that bound on neighbours in questions 3, 7 and 11
+--   ..-outcome-within most               the same with that bound on neighbours in questions 3 and 7
 -- That each meets its contract, and no other outcome does, is `..-inhabited` and `..-decided` in proofs/Outcomes.antt.
 -- Definitions only.
 use mathlib.Core.Bool.{Bool, true, false, cond}
@@ -22,7 +22,7 @@ use Rattle.mesh.specs.Connected.{core-of, backbone}
 use Rattle.mesh.specs.Tree.{tree, node-names}
 use Rattle.mesh.specs.Image.{block-bytes, payload-bytes, image-of, image-graph, image-order}
 use Rattle.mesh.specs.declared.Node.{Node}
-use Rattle.calls.specs.Questions.{lengths-of, image-length, tables-refusal, link-refusal-within, read-refusal-within, radio-refusal, pair-refusal}
+use Rattle.calls.specs.Questions.{lengths-of, image-length, tables-refusal, link-refusal-within, read-refusal, radio-refusal, pair-refusal}
 use Rattle.calls.specs.Questions.{core-refusal, backbone-refusal, tree-refusal, write-refusal, block-refusal}
 use Rattle.calls.specs.Switches.{switch, switched}
 use Rattle.calls.specs.Contracts.Radios.{first-of-two}
@@ -53,12 +53,9 @@ clear-outcome n t =
     (λ q. (q, t))
 
 -- the tables of the image
-abbrev pub read-outcome-within : (most n : ℕ) → (image : List ℕ) → Tables → ℕ × Tables
-read-outcome-within most n bs t =
-    by-number (read-refusal-within most n (lengths-of t) bs) (0, tables-of (image-graph n bs) (image-order n bs)) (λ q. (q, t))
-
 unfoldable pub read-outcome : (n : ℕ) → (image : List ℕ) → Tables → ℕ × Tables
-read-outcome n bs t = read-outcome-within max-neighbours n bs t
+read-outcome n bs t =
+    by-number (read-refusal n (lengths-of t) bs) (0, tables-of (image-graph n bs) (image-order n bs)) (λ q. (q, t))
 
 -- the reply, the tables with the link switched, and the changed radios in front of the answer table
 abbrev pub link-outcome-within : (most : ℕ) → (up : Bool) → (n a b : ℕ) → Tables → (answer : List ℕ) → Reply × Tables × List ℕ

@@ -2,21 +2,23 @@
 --   ask r yes later        question r: a "no" gives its number, a "yes" goes on
 --   By-number              a contract by the number that its chain gives
 --   Lengths                the lengths of links, numbers and order
---   size-good .. is-image  questions 1 to 11 (3 is `sound`, 10 `checks-good`, 11 `is-image` of mesh)
+--   size-good .. is-image  questions 1 to 11 and 15 (1 is `size-good`, 3 `sound`, 10 `checks-good`, 15 `other-size`, 11 `is-image` of mesh)
 --   tables-refusal .. block-refusal   the first "no" of a call's questions, or 0
 -- A chain takes the answer to question 3 and the graph that 6 to 8 are put to, since the link book answers these from its
--- pairs and gives 3 a yes. A chain `..-within most` asks with that bound on neighbours; without it, with a site's own.
+-- pairs and gives 3 a yes. A chain `..-within most` asks with that bound on neighbours; without it, with a site's own. The numbers
+-- of document 02 stand where it puts them: 15 after 10.
 -- Definitions only.
 use mathlib.Core.Bool.{Bool, true, false, _&&_, not}
 use mathlib.Core.List.{List}
 use Prim.Native.Nat.{ℕ, zero, suc, _+_, _*_}
 use lib.Dec.{ltb, leb, eqb}
 use lib.ListN.{length}
-use Rattle.mesh.specs.Limits.{max-radios, max-neighbours, row-bytes}
+use Rattle.mesh.specs.Limits.{max-neighbours, row-bytes}
 use Rattle.mesh.specs.Graph.{Graph, linked, degree}
 use Rattle.mesh.specs.Cores.{number}
 use Rattle.mesh.specs.Tables.{Tables}
-use Rattle.mesh.specs.Image.{block-bytes, block-count, whole-blocks, checks-good, is-image-within}
+use Rattle.mesh.specs.Image.{block-bytes, block-count, whole-blocks, checks-good, other-size, is-image}
+unfoldable pub use Rattle.mesh.specs.Limits.{size-good}
 
 unfoldable pub ask : (number : ℕ) → (yes : Bool) → (later : ℕ) → ℕ
 ask r true later = later
@@ -36,10 +38,6 @@ pub record Lengths : Type 0 where
 
 unfoldable pub lengths-of : Tables → Lengths
 lengths-of t = record { links = length (t .links); numbers = length (t .numbers); order = length (t .order) }
-
--- 1. Is n from 1 to 512?
-unfoldable pub size-good : (n : ℕ) → Bool
-size-good n = leb 1 n && leb n max-radios
 
 -- 2. Do the tables used have their lengths? (answer and node lists may be longer)
 unfoldable pub site-lengths : (n : ℕ) → Lengths → Bool
@@ -148,19 +146,21 @@ write-refusal n l room sound g = site-refusal n l true sound (ask 9 (holds-image
 unfoldable pub blocks-refusal : (image : List ℕ) → (later : ℕ) → ℕ
 blocks-refusal bs later = ask 9 (whole-blocks bs) (ask 10 (checks-good bs) later)
 
--- 9 to 11
-abbrev pub image-refusal-within : (most n : ℕ) → (image : List ℕ) → ℕ
-image-refusal-within most n bs = blocks-refusal bs (ask 11 (is-image-within most n bs) 0)
+-- 15 and 11: of which tables it is the image
+abbrev pub source-refusal : (n : ℕ) → (image : List ℕ) → ℕ
+source-refusal n bs = ask 15 (not (other-size n bs)) (ask 11 (is-image n bs) 0)
 
+-- 9, 10, 15, 11
 unfoldable pub image-refusal : (n : ℕ) → (image : List ℕ) → ℕ
-image-refusal n bs = image-refusal-within max-neighbours n bs
+image-refusal n bs = blocks-refusal bs (source-refusal n bs)
 
--- reading an image: 1, 2, 9, 10, 11
-abbrev pub read-refusal-within : (most n : ℕ) → Lengths → (image : List ℕ) → ℕ
-read-refusal-within most n l bs = lent-refusal n l true (image-refusal-within most n bs)
+-- an image alone, with no tables to read it into: 1, 9, 10, 15, 11
+unfoldable pub alone-refusal : (n : ℕ) → (image : List ℕ) → ℕ
+alone-refusal n bs = ask 1 (size-good n) (image-refusal n bs)
 
+-- reading an image: 1, 2, 9, 10, 15, 11
 unfoldable pub read-refusal : (n : ℕ) → Lengths → (image : List ℕ) → ℕ
-read-refusal n l bs = read-refusal-within max-neighbours n l bs
+read-refusal n l bs = lent-refusal n l true (image-refusal n bs)
 
 -- a step of the block reader: 9 and 10
 unfoldable pub block-refusal : (image : List ℕ) → ℕ

@@ -7,6 +7,7 @@
 --   Core-listed, Backbone-listed   the radios listed
 --   Tree-listed       the nodes listed, and each radio's node name
 --   Written-right, Read-right      after writing and reading an image
+--   Image-answered    the number that reading answers where 1, 2, 9 and 10 got yes
 --   Block-part, Block-end   what a step of the block reader gives
 -- Definitions only.
 use mathlib.Core.Path.{_≡_}
@@ -24,7 +25,7 @@ use Rattle.mesh.specs.Tables.{Tables, graph-in}
 use Rattle.mesh.specs.Sound.{rows-proper, number-in, sound}
 use Rattle.mesh.specs.Connected.{In-core, In-backbone}
 use Rattle.mesh.specs.Tree.{Is-tree, Node-name}
-use Rattle.mesh.specs.Image.{block-bytes, payload-bytes, payload-at, image-of, image-graph, Tables-image}
+use Rattle.mesh.specs.Image.{block-bytes, payload-bytes, payload-at, image-of, image-graph, Tables-image, Other-size, Image-of-none}
 use Rattle.mesh.specs.declared.Node.{Node}
 use Rattle.calls.specs.Contracts.Images.{Block-none}
 use Rattle.calls.specs.declared.Block.{Block}
@@ -91,6 +92,12 @@ pub record Read-right (n : ℕ) (image : List ℕ) (v : Tables) : Type 0 where
   pub graph : graph-in n (v .links) ≡ image-graph n image
   pub right : Numbers-right (image-graph n image) v
   pub same-bytes : image-of (image-graph n image) (v .order) ≡ image
+
+-- document 02, W-207: accepted is the image of sound tables with this n, refused by 15 that with another n, by 11 that of none
+pub record Image-answered (n : ℕ) (image : List ℕ) (r : ℕ) : Type 0 where
+  pub accepted : (r ≡ 0) ↔ Tables-image n image
+  pub other-size : (r ≡ 15) ↔ Other-size n image
+  pub none : (r ≡ 11) ↔ Image-of-none image
 
 -- block i is given: its payload is 504 bytes of the image, which lie in it, and the reader moves to the next block
 pub record Block-part (image : List ℕ) (i : ℕ) (r : Block) : Type 0 where

@@ -1,7 +1,8 @@
 // What each public call promises: the answers' structs, and in specs/ the questions, the named predicate of every call,
 // the link book and demand 3. proofs/ has demand 3, closed. There is no call here: the crates above meet the predicates.
 
-// The numbers of document 01's questions: the first that gets "no" is the call's refusal. A call that is carried out answers 0.
+// The numbers of the questions in documents 01 and 02: the first that gets "no" is the call's refusal. A call that is carried out
+// answers 0.
 pub struct Refusal {}
 
 impl Refusal {
@@ -26,6 +27,8 @@ impl Refusal {
     pub const IMAGE_CHECK: u32 = 10;
 
     pub const IMAGE: u32 = 11;
+
+    pub const OTHER_SIZE: u32 = 15;
 }
 
 // The answer of a link call: refusal number, step (+1, -1, or 0 when nothing changed), count of changed radios.

@@ -1,29 +1,67 @@
--- The reader's outcomes: the first question that gets no, or the tables of the image.
-use mathlib.Core.Path.{_≡_, refl, sym, ap, _∙_}
-use mathlib.Core.Logic.{_⊎_, inl, inr}
+-- The outcomes of reading and of asking an image alone: the first question that gets no, or the tables of the image.
+use mathlib.Core.Path.{_≡_, refl, sym, ap, subst, _∙_}
 use mathlib.Core.Bool.{Bool, true, false, _&&_}
 use mathlib.Core.List.{List}
 use Prim.Native.Nat.{ℕ, _*_, _≤_}
-use native.Mathlib.Omega.{arith}
 use lib.ListN.{length}
-use Rattle.mesh.specs.Limits.{max-radios, row-bytes}
+use Rattle.mesh.specs.Limits.{max-radios, row-bytes, size-good}
 use Rattle.mesh.specs.Tables.{Tables}
-use Rattle.mesh.specs.Image.{whole-blocks, checks-good, is-image}
-use Rattle.lists.proofs.Tests.{bool-cases}
-use Rattle.calls.specs.Questions.{ask, Lengths, lengths-of, size-good, site-lengths, lent-refusal, tables-refusal, blocks-refusal, image-refusal, read-refusal}
-use Rattle.calls.specs.Questions.{block-refusal}
+use Rattle.mesh.specs.Image.{word-at}
+use Rattle.mesh.proofs.Sizes.{size-good-true, true-size-good}
+use Rattle.calls.specs.Questions.{ask, By-number, Lengths, lengths-of, site-lengths, lent-refusal, tables-refusal, source-refusal, image-refusal, alone-refusal}
+use Rattle.calls.specs.Questions.{read-refusal}
 use Rattle.calls.specs.Contracts.Images.{Read-contract, Read-accepted}
 use Rattle.calls.specs.Contracts.Forms.{Tables-refused}
-use Rattle.calls.proofs.ContractLaws.{by-accepted, by-refused}
-use Rattle.calls.proofs.ChainLaws.{Lent-good, lent-zero, lent-yes, Blocks-good, blocks-zero, blocks-yes}
-use Rattle.image_reader.specs.Site.{Site-room}
-use Rattle.image_reader.specs.Reading.{Site-read}
+use Rattle.calls.proofs.ContractLaws.{by-refused}
+use Rattle.calls.proofs.QuestionLaws.{ask-yes}
+use Rattle.calls.proofs.ChainLaws.{Lent-good, lent-zero, lent-yes, Blocks-good, blocks-yes}
+use Rattle.image_reader.specs.Reading.{header-refusal, Source-room, Source-decided, Site-read}
+use Rattle.image_reader.proofs.SourceLaws.{header-stops, header-passes}
+
+-- ---- the header got no refusal
+
+module _ (n : ℕ) (bs : List ℕ) (one : size-good n ≡ true) (p : ℕ) (p-is : p ≡ header-refusal bs) (p-zero : p ≡ 0) where
+  passed : Blocks-good bs × (size-good (word-at bs 4) ≡ true)
+  passed = header-passes bs (sym p-is ∙ p-zero)
+
+  -- 15 and 11 decide
+  pub asked-last : image-refusal n bs ≡ source-refusal n bs
+  unfolding image-refusal
+  asked-last = blocks-yes bs (source-refusal n bs) (passed .0)
+
+  pub header-small : (m : ℕ) → m ≡ word-at bs 4 → m ≤ max-radios
+  header-small m e = size-good-true m (ap size-good e ∙ passed .1) .1
+
+  pub header-room : (m x y z : ℕ) → m ≡ word-at bs 4 → x ≡ m → y ≡ m → z ≡ m → Source-room n m bs x y z
+  header-room m x y z e ex ey ez = record {
+    this-size = one;
+    says = e;
+    says-size = ap size-good e ∙ passed .1;
+    room = record { most = header-small m e; checked = passed .0 .checks; listed-long = ex; ranks-long = ey; counts-long = ez };
+  }
+
+-- ---- an image alone
+
+pub alone-no-size : (n : ℕ) (bs : List ℕ) → size-good n ≡ false → 1 ≡ alone-refusal n bs
+unfolding alone-refusal ask
+alone-no-size n bs e = rw e
+
+module _ (n : ℕ) (bs : List ℕ) (one : size-good n ≡ true) where
+  alone-asked : alone-refusal n bs ≡ image-refusal n bs
+  unfolding alone-refusal
+  alone-asked = ask-yes 1 (size-good n) (image-refusal n bs) one
+
+  pub alone-header : (p : ℕ) → p ≡ header-refusal bs → (p ≡ 0 → ⊥) → p ≡ alone-refusal n bs
+  alone-header p e h = e ∙ sym (header-stops n bs one (λ z. h (e ∙ z))) ∙ sym alone-asked
+
+  pub alone-decided : (p : ℕ) → p ≡ header-refusal bs → p ≡ 0 → (xs ns : List ℕ) (r : ℕ) → Source-decided n bs xs ns r → r ≡ alone-refusal n bs
+  alone-decided p e z xs ns r d = d .answer ∙ sym (asked-last n bs one p e z) ∙ sym alone-asked
+
+-- ---- reading
 
 module _ (n : ℕ) (bs : List ℕ) (t : Tables) where
   abbrev l : Lengths
   l = lengths-of t
-
-  -- ---- a refusal
 
   read-refused : (q : ℕ) → q ≡ read-refusal n l bs → (q ≡ 0 → ⊥) → Read-contract n bs t q t
   unfolding Read-contract
@@ -33,7 +71,7 @@ module _ (n : ℕ) (bs : List ℕ) (t : Tables) where
 
   -- question 1 or 2 got no
   lent-no : (tables-refusal n l ≡ 0 → ⊥) → read-refusal n l bs ≡ tables-refusal n l
-  unfolding read-refusal image-refusal tables-refusal lent-refusal ask
+  unfolding read-refusal tables-refusal lent-refusal ask
   lent-no = go (size-good n) (site-lengths n l) (image-refusal n bs)
     where
       go : (a b : Bool) (x : ℕ) → (ask 1 a (ask 2 (b && true) 0) ≡ 0 → ⊥) → ask 1 a (ask 2 (b && true) x) ≡ ask 1 a (ask 2 (b && true) 0)
@@ -49,50 +87,22 @@ module _ (n : ℕ) (bs : List ℕ) (t : Tables) where
     unfolding tables-refusal
     lent = lent-zero n l true 0 (sym q-is ∙ q-zero) .0
 
+    pub read-size : size-good n ≡ true
+    read-size = true-size-good n (lent .least) (lent .most)
+
     asked : read-refusal n l bs ≡ image-refusal n bs
-    unfolding read-refusal image-refusal
+    unfolding read-refusal
     asked = lent-yes n l true (image-refusal n bs) lent
 
-    -- question 9 or 10 got no
-    blocks-no : (block-refusal bs ≡ 0 → ⊥) → image-refusal n bs ≡ block-refusal bs
-    unfolding image-refusal block-refusal blocks-refusal is-image ask
-    blocks-no = go (whole-blocks bs) (checks-good bs) (ask 11 (is-image n bs) 0)
-      where
-        go : (a b : Bool) (x : ℕ) → (ask 9 a (ask 10 b 0) ≡ 0 → ⊥) → ask 9 a (ask 10 b x) ≡ ask 9 a (ask 10 b 0)
-        go false b x h = refl
-        go true false x h = refl
-        go true true x h = absurd (h refl)
+    -- question 9 or 10 got no, or the header says no size
+    pub read-not-header : (p : ℕ) → p ≡ header-refusal bs → (p ≡ 0 → ⊥) → Read-contract n bs t p t
+    read-not-header p e h = read-refused p (e ∙ sym (header-stops n bs read-size (λ z. h (e ∙ z))) ∙ sym asked) h
 
-    pub read-not-blocks : (p : ℕ) → p ≡ block-refusal bs → (p ≡ 0 → ⊥) → Read-contract n bs t p t
-    read-not-blocks p e h = read-refused p (e ∙ sym (blocks-no (λ z. h (e ∙ z))) ∙ sym asked) h
+    pub read-sized : (length (t .links) ≡ row-bytes * n) × (length (t .numbers) ≡ n) × (length (t .order) ≡ n)
+    unfolding lengths-of
+    read-sized = (lent .lengths .links, lent .lengths .numbers, lent .lengths .order)
 
-    module _ (p : ℕ) (p-is : p ≡ block-refusal bs) (p-zero : p ≡ 0) where
-      blocks : Blocks-good bs
-      unfolding block-refusal
-      blocks = blocks-zero bs 0 (sym p-is ∙ p-zero) .0
-
-      -- ---- question 11 decides
-
-      asked-last : read-refusal n l bs ≡ ask 11 (is-image n bs) 0
-      unfolding image-refusal is-image
-      asked-last = asked ∙ blocks-yes bs (ask 11 (is-image n bs) 0) blocks
-
-      pub read-small : n ≤ max-radios
-      read-small = lent .most
-
-      pub read-sized : (length (t .links) ≡ row-bytes * n) × (length (t .numbers) ≡ n) × (length (t .order) ≡ n)
-      unfolding lengths-of
-      read-sized = (lent .lengths .links, lent .lengths .numbers, lent .lengths .order)
-
-      pub read-room : (x y z : ℕ) → x ≡ n → y ≡ n → z ≡ n → Site-room n bs x y z
-      read-room x y z ex ey ez = record { most = lent .most; checked = blocks .checks; listed-long = ex; ranks-long = ey; counts-long = ez }
-
-      pub read-asked : (r : ℕ) (v : Tables) → Site-read n bs t r v → Read-contract n bs t r v
-      unfolding Read-contract ask
-      read-asked r v s = go (bool-cases (is-image n bs))
-        where
-          go : (is-image n bs ≡ true) ⊎ (is-image n bs ≡ false) → Read-contract n bs t r v
-          go (inl e) = by-accepted (read-refusal n l bs) (λ k. Tables-refused k r t v) (asked-last ∙ ap (λ (b : Bool). ask 11 b 0) e) (s .accepted e)
-          go (inr e) =
-              let eleven : read-refusal n l bs ≡ 11 = asked-last ∙ ap (λ (b : Bool). ask 11 b 0) e in
-              by-refused (read-refusal n l bs) (Read-accepted n bs r v) (λ k. Tables-refused k r t v) (λ z. omega arith) (rw eleven (s .refused e))
+    pub read-asked : (p : ℕ) → p ≡ header-refusal bs → p ≡ 0 → (r : ℕ) (v : Tables) → Site-read n bs t r v → Read-contract n bs t r v
+    unfolding Read-contract Site-read
+    read-asked p e z r v s =
+        subst (λ (k : ℕ). By-number k (Read-accepted n bs r v) (λ x. Tables-refused x r t v)) (sym (asked ∙ asked-last n bs read-size p e z)) s

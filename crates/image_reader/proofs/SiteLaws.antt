@@ -23,13 +23,13 @@ use Rattle.mesh.proofs.Tables.Sites.{image-valid}
 use Rattle.mesh.proofs.Images.Tables.{number-most}
 use Rattle.mesh.proofs.Images.Canonical.{length-image-order}
 use Rattle.mesh.specs.Valid.{Valid}
+use Rattle.calls.specs.Contracts.Images.{Read-accepted}
 use Rattle.tables.specs.Widths.{values}
 use Rattle.tables.proofs.WidthLaws.{length-values, values-below}
 use Rattle.lists.proofs.Overwrite.{overwrite-take}
 use Rattle.image_form.specs.Form.{is-formed}
 use Rattle.image_form.proofs.FormLaws.{is-image-formed}
 use Rattle.image_reader.specs.Site.{links-up-to, few-ends, Tally-room, K-order-decided, Site-decided}
-use Rattle.image_reader.specs.Reading.{Site-read}
 use Rattle.image_reader.proofs.KOrderLaws.{few-degrees}
 
 -- ---- question 11, part by part
@@ -106,12 +106,6 @@ module _ (n : ℕ) (bs : List ℕ) (small : n ≤ max-radios) (b : Bytes bs) (ch
 
 -- ---- the tables
 
-pub site-refused : (n : ℕ) (bs : List ℕ) (t : Tables) (xs ns : List ℕ) (u : Bool) → Site-decided n bs xs ns u → u ≡ false → Site-read n bs t 11 t
-site-refused n bs t xs ns u d e = record {
-  accepted = λ h. never u (d .answer ∙ h) e;
-  refused = λ h. record { number = refl; links = refl; numbers = refl; order = refl };
-}
-
 module _ (n : ℕ) (bs : List ℕ) (small : n ≤ max-radios) (xs ns : List ℕ) (u : Bool) (d : Site-decided n bs xs ns u) (yes : u ≡ true) where
   is-site : is-image n bs ≡ true
   is-site = sym (d .answer) ∙ yes
@@ -140,14 +134,11 @@ module _ (n : ℕ) (bs : List ℕ) (small : n ≤ max-radios) (xs ns : List ℕ)
   -- what the writers of the three tables leave
   pub site-accepted : (m : ℕ) (t : Tables) (ls ks os : List ℕ) → m ≡ word-at bs 6 → length (t .numbers) ≡ n → length (t .order) ≡ n
       → ls ≡ links-table (graph n (links-up-to n bs m)) → ks ≡ values 8 (λ v. getD ns v 0) (length (t .numbers))
-      → os ≡ overwrite (take (length (t .order)) xs) (t .order) → Site-read n bs t 0 (tables ls ks os)
+      → os ≡ overwrite (take (length (t .order)) xs) (t .order) → Read-accepted n bs 0 (tables ls ks os)
   unfolding image-graph image-links links-up-to
   site-accepted m t ls ks os counted kn on le ke oe = record {
-    accepted = λ h. record {
-      number = refl;
-      links = le ∙ ap (λ (k : ℕ). links-table (graph n (links-up-to n bs k))) counted;
-      numbers = ke ∙ ap (values 8 (λ v. getD ns v 0)) kn ∙ numbers-written;
-      order = oe ∙ overwrite-take xs (t .order) (ap length (d .order-is yes) ∙ length-image-order n bs ∙ sym on) ∙ d .order-is yes;
-    };
-    refused = λ h. never (is-image n bs) is-site h;
+    number = refl;
+    links = le ∙ ap (λ (k : ℕ). links-table (graph n (links-up-to n bs k))) counted;
+    numbers = ke ∙ ap (values 8 (λ v. getD ns v 0)) kn ∙ numbers-written;
+    order = oe ∙ overwrite-take xs (t .order) (ap length (d .order-is yes) ∙ length-image-order n bs ∙ sym on) ∙ d .order-is yes;
   }

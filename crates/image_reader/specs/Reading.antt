@@ -1,15 +1,39 @@
--- What reading leaves where questions 1, 2, 9 and 10 got yes.
+-- The reader's questions about an image alone, and what reading leaves where 1, 2, 9 and 10 got yes. An image says its n in its
+-- header, so the header's n is the only one to be tried.
+--   header-refusal     9, 10, and 11 where the header says no size
+--   Source-room        what deciding questions 15 and 11 wants
+--   Source-decided     15, 11 or 0, and then the order and the numbers
+--   Site-read          the tables after
 -- Definitions only.
 use mathlib.Core.Path.{_≡_}
-use mathlib.Core.Bool.{true, false}
+use mathlib.Core.Bool.{true}
 use mathlib.Core.List.{List}
-use Prim.Native.Nat.{ℕ}
+use Prim.Native.Nat.{ℕ, _<_}
+use lib.ListN.{getD}
+use Rattle.mesh.specs.Limits.{size-good}
+use Rattle.mesh.specs.Cores.{number}
 use Rattle.mesh.specs.Tables.{Tables}
-use Rattle.mesh.specs.Image.{is-image}
+use Rattle.mesh.specs.Image.{word-at, image-order, image-graph}
+use Rattle.calls.specs.Questions.{ask, By-number, blocks-refusal, source-refusal}
 use Rattle.calls.specs.Contracts.Images.{Read-accepted}
 use Rattle.calls.specs.Contracts.Forms.{Tables-refused}
+use Rattle.image_reader.specs.Site.{Site-room}
 
--- t and v are the tables before and after: the image's own, or refused by 11
-pub record Site-read (n : ℕ) (image : List ℕ) (t : Tables) (r : ℕ) (v : Tables) : Type 0 where
-  pub accepted : is-image n image ≡ true → Read-accepted n image r v
-  pub refused : is-image n image ≡ false → Tables-refused 11 r t v
+unfoldable pub header-refusal : (image : List ℕ) → ℕ
+header-refusal bs = blocks-refusal bs (ask 11 (size-good (word-at bs 4)) 0)
+
+-- n and the header's m are sizes, and there is room for m radios
+pub record Source-room (n m : ℕ) (image : List ℕ) (listed ranks counts : ℕ) : Type 0 where
+  pub this-size : size-good n ≡ true
+  pub says : m ≡ word-at image 4
+  pub says-size : size-good m ≡ true
+  pub room : Site-room m image listed ranks counts
+
+pub record Source-decided (n : ℕ) (image order numbers : List ℕ) (r : ℕ) : Type 0 where
+  pub answer : r ≡ source-refusal n image
+  pub order-is : r ≡ 0 → order ≡ image-order n image
+  pub numbers-are : r ≡ 0 → (v : ℕ) → v < n → getD numbers v 0 ≡ number (image-graph n image) v
+
+-- t and v are the tables before and after: the image's own, or refused by 15 or 11
+unfoldable pub Site-read : (n : ℕ) → (image : List ℕ) → Tables → (r : ℕ) → (after : Tables) → Type 0
+Site-read n bs t r v = By-number (source-refusal n bs) (Read-accepted n bs r v) (λ q. Tables-refused q r t v)

@@ -6,14 +6,14 @@ ghost use lib.ListN.{length, getD};
 ghost use Rattle.mesh.specs.Limits.{max-radios, row-bytes};
 ghost use Rattle.mesh.specs.Graph.{graph, proper};
 ghost use Rattle.mesh.specs.Tables.{links-table, lent};
+ghost use Rattle.calls.specs.Questions.{alone-refusal};
 ghost use Rattle.calls.specs.Contracts.Images.{Read-contract};
 ghost use Rattle.tables.specs.Widths.{values};
-ghost use Rattle.image_reader.specs.Site.{links-up-to, Site-room};
-ghost use Rattle.image_reader.specs.Reading.{Site-read};
-use super::site;
+ghost use Rattle.image_reader.specs.Site.{links-up-to};
+ghost use Rattle.image_reader.specs.Reading.{Source-room, Site-read};
+use super::source;
 use calls::Refusal;
 use image::bytes;
-use image::checks;
 use image::layout;
 use mesh::Site;
 
@@ -43,9 +43,10 @@ fn put_numbers(ranks: &[u16], numbers: &mut [u8])
     }
 }
 
-// Reads an image whose blocks pass their checks into tables of n radios. Refused by 11.
+// Reads an image whose blocks pass their checks, and whose header says m radios, into tables of n radios. Refused by 15 and 11.
 fn read_site(
     n: u32,
+    m: u32,
     links: &mut [u8],
     numbers: &mut [u8],
     order: &mut [u16],
@@ -54,13 +55,14 @@ fn read_site(
     ranks: &mut [u16],
     counts: &mut [u16],
 ) -> u32
-    requires room { ⌜ Site-room n (now image) (length (now listed)) (length (now ranks)) (length (now counts)) ⌝ }
+    requires room { ⌜ Source-room n m (now image) (length (now listed)) (length (now ranks)) (length (now counts)) ⌝ }
     requires sized { ⌜ (length (now links) ≡ row-bytes * n) × (length (now numbers) ≡ n) × (length (now order) ≡ n) ⌝ }
     ensures { λ r. ⌜ Site-read n (now (image .entry)) (lent (links .entry) (numbers .entry) (order .entry)) r
         (lent (links .exit) (numbers .exit) (order .exit)) ⌝ }
 {
-    if !site::is_site(image, n, listed, ranks, counts) {
-        return Refusal::IMAGE;
+    let number = source::refusal(n, m, image, listed, ranks, counts);
+    if number != 0 {
+        return number;
     }
     put_links(image, n, bytes::word_at(image, layout::LINKS_AT), links);
     put_numbers(ranks, numbers);
@@ -68,8 +70,8 @@ fn read_site(
     0
 }
 
-// Reads an image of n radios into the tables: links and order as the image lists them, the numbers worked out. Refused by 1, 2
-// and 9 to 11: then every table keeps its content.
+// Reads an image of n radios into the tables: links and order as the image lists them, the numbers worked out. Refused by 1, 2, 9,
+// 10, 15 and 11: then every table keeps its content.
 pub fn read(n: u32, links: &mut [u8], numbers: &mut [u8], order: &mut [u16], image: &[u8]) -> u32
     ensures { λ r. ⌜ Read-contract n (now (image .entry)) (lent (links .entry) (numbers .entry) (order .entry)) r
         (lent (links .exit) (numbers .exit) (order .exit)) ⌝ }
@@ -83,19 +85,48 @@ pub fn read(n: u32, links: &mut [u8], numbers: &mut [u8], order: &mut [u16], ima
     if lengths != 0 {
         return lengths;
     }
-    let blocks = checks::refusal(image);
-    if blocks != 0 {
-        return blocks;
+    let header = source::header_refusal(image);
+    if header != 0 {
+        return header;
     }
-    let many = n as usize;
+    let m = bytes::word_at(image, layout::RADIOS_AT);
+    let many = m as usize;
     let mut listed = [0u16; Site::RADIOS as usize];
     let mut ranks = [0u16; Site::RADIOS as usize];
     let mut counts = [0u16; Site::RADIOS as usize];
     read_site(
         n,
+        m,
         links,
         numbers,
         order,
+        image,
+        &mut listed[..many],
+        &mut ranks[..many],
+        &mut counts[..many],
+    )
+}
+
+// The number of an image alone, with no tables to read it into: 1 where n is no size, else 9, 10, 15, 11, or 0 for the image of
+// sound tables with n radios.
+pub fn refusal(n: u32, image: &[u8]) -> u32
+    ensures { λ r. ⌜ r ≡ alone-refusal n (now (image .entry)) ⌝ }
+{
+    if !tables::sizes::is_size(Site { radios: n }) {
+        return Refusal::SIZE;
+    }
+    let header = source::header_refusal(image);
+    if header != 0 {
+        return header;
+    }
+    let m = bytes::word_at(image, layout::RADIOS_AT);
+    let many = m as usize;
+    let mut listed = [0u16; Site::RADIOS as usize];
+    let mut ranks = [0u16; Site::RADIOS as usize];
+    let mut counts = [0u16; Site::RADIOS as usize];
+    source::refusal(
+        n,
+        m,
         image,
         &mut listed[..many],
         &mut ranks[..many],

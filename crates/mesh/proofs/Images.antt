@@ -8,4 +8,5 @@ pub mod Checks
 pub mod Read
 pub mod Sites
 pub mod Tables
+pub mod OtherSize
 pub mod Canonical

@@ -1,4 +1,6 @@
 -- The theory of the definitions, from the bottom up, a folder for each subject. Laws of lists are in crate lists.
+-- the sizes of a site
+pub mod Sizes
 -- graphs and their links
 pub mod GraphLaws
 -- core numbers and k-orders: the certificate, peeling, running maxima

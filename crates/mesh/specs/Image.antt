@@ -10,8 +10,12 @@
 --   is-image-within          question 11, worked out, where `most` bounds the bits of a row
 --   is-image n bs            the same with a site's own bound
 --   Tables-image n bs        question 11: the bytes are the image of some sound tables with this n
+--   other-size n bs          question 15, worked out: the header says another n, and the bytes are the image of sound tables with that
+--   Other-size n bs          question 15: the bytes are the image of some sound tables with another n
+--   Image-of-none bs         question 11 after 15: the bytes are the image of no sound tables
 --   payload-at bs i          the payload of block i, as the block reader gives it
--- That `is-image` is `Tables-image` is `is-image-tables` in proofs/Images/Tables.antt. Definitions only.
+-- That `is-image` is `Tables-image` and `other-size` is `Other-size` is `is-image-tables` (proofs/Images/Tables.antt) and
+-- `other-size-iff` (proofs/Images/OtherSize.antt). Definitions only.
 use mathlib.Core.Path.{_≡_}
 use mathlib.Core.Bool.{Bool, _&&_, not, cond, true}
 use mathlib.Core.List.{List, [], _∷_, _++_, map, flatMap}
@@ -21,7 +25,7 @@ use lib.ListN.{length, getD, take, drop, replicate}
 use Rattle.lists.specs.Lists.{range, all, same, Entries-below}
 use Rattle.mesh.specs.Graph.{Link, Graph, graph, proper, ascending}
 use Rattle.mesh.specs.Tables.{Tables, graph-in, tables-of, Tables-of-size}
-use Rattle.mesh.specs.Limits.{max-neighbours}
+use Rattle.mesh.specs.Limits.{max-neighbours, size-good}
 use Rattle.mesh.specs.Sound.{sound, sound-within}
 
 abbrev pub block-bytes : ℕ
@@ -110,7 +114,7 @@ image-links n bs = map (image-link n bs) (range 0 (word-at bs 6))
 unfoldable pub image-graph : (n : ℕ) → (image : List ℕ) → Graph
 image-graph n bs = graph n (image-links n bs)
 
--- ---- questions 9 to 11
+-- ---- questions 9 to 11, and 15
 
 unfoldable pub whole-blocks : (image : List ℕ) → Bool
 whole-blocks bs = not (eqb (length bs) 0) && eqb (length bs % block-bytes) 0
@@ -139,6 +143,20 @@ pub record Tables-image (n : ℕ) (image : List ℕ) : Type 0 where
   pub order-words : Entries-below 65536 (lent .order)
   pub is-sound : sound n lent ≡ true
   pub written : image-of (graph-in n (lent .links)) (lent .order) ≡ image
+
+unfoldable pub other-size : (n : ℕ) → (image : List ℕ) → Bool
+other-size n bs = let m = word-at bs 4 in not (eqb m n) && (size-good m && is-image m bs)
+
+-- document 02, W-207: the image of some sound tables with another n, from 1 to 512
+pub record Other-size (n : ℕ) (image : List ℕ) : Type 0 where
+  pub radios : ℕ
+  pub size : size-good radios ≡ true
+  pub other : radios ≡ n → ⊥
+  pub is-image : Tables-image radios image
+
+-- document 02, W-207: the image of no sound tables at all
+abbrev pub Image-of-none : (image : List ℕ) → Type 0
+Image-of-none bs = (m : ℕ) → size-good m ≡ true → Tables-image m bs → ⊥
 
 -- ---- the block reader
 

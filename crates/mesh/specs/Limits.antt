@@ -3,8 +3,11 @@
 --   max-neighbours    how many neighbours a radio may have
 --   former-neighbours how many it might have before: tables and images of that time are older ones
 --   row-bytes         how many bytes a row of the links table has
+--   size-good         question 1: is n from 1 to 512?
 -- Definitions only.
+use mathlib.Core.Bool.{Bool, _&&_}
 use Prim.Native.Nat.{ℕ}
+use lib.Dec.{leb}
 
 abbrev pub max-radios : ℕ
 max-radios = 512
@@ -18,3 +21,6 @@ former-neighbours = 32
 
 abbrev pub row-bytes : ℕ
 row-bytes = 64
+
+unfoldable pub size-good : (n : ℕ) → Bool
+size-good n = leb 1 n && leb n max-radios

@@ -22,9 +22,10 @@ use Rattle.mesh.specs.Cores.{Core, number}
 use Rattle.mesh.specs.Tables.{Tables, graph-in}
 use Rattle.mesh.specs.Connected.{In-core}
 use Rattle.mesh.specs.Connected as connected
-use Rattle.mesh.specs.Image.{whole-blocks, checks-good, Tables-image}
+use Rattle.mesh.specs.Image.{whole-blocks, checks-good, Other-size, Image-of-none}
+use Rattle.mesh.specs.Image as images
 use Rattle.mesh.specs.declared.Node.{Node}
-use Rattle.calls.specs.Questions.{lengths-of, size-good, site-lengths}
+use Rattle.calls.specs.Questions.{lengths-of, size-good, site-lengths, image-refusal}
 use Rattle.calls.specs.Contracts.Forms.{Tables-refused, Value-refused, Listing-refused}
 use Rattle.calls.specs.Contracts.Sites.{Clear-contract, Check-contract}
 use Rattle.calls.specs.Contracts.Links.{Link-refused, Link-contract}
@@ -36,6 +37,7 @@ use Rattle.calls.specs.Contracts.Trees.{Tree-refused, Tree-contract}
 use Rattle.calls.specs.Outcomes.{clear-outcome, read-outcome, link-outcome, check-outcome, number-outcome, neighbours-outcome, linked-outcome, first-outcome}
 use Rattle.calls.specs.Outcomes.{core-outcome, backbone-outcome, tree-outcome, write-outcome, block-outcome, later-outcome}
 use Rattle.calls.specs.Results.{Site-right, Link-right, Later-right, Core-listed, Backbone-listed, Tree-listed, Written-right, Read-right, Block-part, Block-end}
+use Rattle.calls.specs.Results.{Image-answered}
 use Rattle.calls.specs.Older.{Older}
 use Rattle.calls.specs.Book.{Call, clearing, reading, linking, Answer, plain, book-after}
 use Rattle.calls.specs.Runs.{answer-of, Does, Event, event, Run, givens, called}
@@ -51,6 +53,7 @@ use Rattle.summerbugle.proofs.Calls.{sb-later-of, sb-backbone, sb-tree,
 -- for the proof
 use Rattle.mesh.proofs.Cores.Peeling.{number-core, number-unique}
 use Rattle.mesh.proofs.Trees.Listed.{backbone-one-part}
+use Rattle.mesh.proofs.Images.OtherSize.{other-size-iff}
 use Rattle.calls.proofs.Outcomes.{exactly, clear-decided, link-decided, read-decided, check-decided, number-decided, neighbours-decided, block-inhabited}
 use Rattle.calls.proofs.Outcomes.{linked-decided, first-decided, core-decided, backbone-decided, tree-decided, write-decided, block-decided, later-decided}
 use Rattle.calls.proofs.Outcomes.{clear-inhabited, link-inhabited, read-inhabited, check-inhabited, number-inhabited, neighbours-inhabited}
@@ -58,7 +61,8 @@ use Rattle.calls.proofs.Outcomes.{linked-inhabited, first-inhabited, core-inhab
 use Rattle.calls.proofs.Refusals.{clear-keeps, link-keeps, read-keeps, check-keeps, number-keeps, neighbours-keeps, linked-keeps, first-keeps}
 use Rattle.calls.proofs.Refusals.{core-keeps, backbone-keeps, tree-keeps, write-keeps, block-keeps, later-keeps}
 use Rattle.calls.proofs.Accepted.{check-right, link-right, number-right, later-right, core-right, backbone-right, tree-right-listed, write-right}
-use Rattle.calls.proofs.Accepted.{read-what-was-written, read-right, read-eleven, block-right}
+use Rattle.calls.proofs.Accepted.{read-what-was-written, read-right, block-right}
+use Rattle.calls.proofs.ImageNumbers.{eleven-iff, read-eleven}
 use Rattle.calls.proofs.Older.{older}
 use Rattle.calls.proofs.Total.{run-total}
 use Rattle.calls.proofs.WholeList.{demand-3}
@@ -245,11 +249,16 @@ pub record Property-2 : Type 0 where
       (u : Tables) (q : ℕ) (v : Tables) → lengths-of u ≡ lengths-of t → Read-contract n (take (r .value) x) u q v → (q ≡ 0) × (v ≡ t)
   -- the tables of an accepted image
   pub image-read : (n : ℕ) (bs : List ℕ) (t : Tables) (r : ℕ) (v : Tables) → Read-contract n bs t r v → r ≡ 0 → Read-right n bs v
-  -- 1, 2, 9 and 10 answered yes: accepted is the image of some sound tables with this n, and refused by 11 the image of none
+  -- 1, 2, 9 and 10 answered yes: accepted is the image of some sound tables with this n, refused by 15 that of some with another n,
+  -- and refused by 11 the image of none
   pub eleven :
       (n : ℕ) (bs : List ℕ) (t : Tables) (r : ℕ) (v : Tables) → Read-contract n bs t r v → size-good n ≡ true →
-      site-lengths n (lengths-of t) ≡ true → whole-blocks bs ≡ true → checks-good bs ≡ true →
-      ((r ≡ 0) ↔ Tables-image n bs) × ((r ≡ 11) ↔ (Tables-image n bs → ⊥))
+      site-lengths n (lengths-of t) ≡ true → whole-blocks bs ≡ true → checks-good bs ≡ true → Image-answered n bs r
+  -- the two questions as they are worked out, for bytes alone
+  pub other-size : (n : ℕ) (bs : List ℕ) → (images.other-size n bs ≡ true) ↔ Other-size n bs
+  pub of-none :
+      (n : ℕ) (bs : List ℕ) → size-good n ≡ true → whole-blocks bs ≡ true → checks-good bs ≡ true →
+      (image-refusal n bs ≡ 11) ↔ Image-of-none bs
   -- a step of the block reader gives the 504 bytes of payload, or the end
   pub block : (bs : List ℕ) (i : ℕ) (r : Block) → Block-contract bs i r → r .number ≡ 0 → Block-part bs i r ⊎ Block-end bs i r
   -- tables and images from before the limit on neighbours was raised: calls give what they gave, and a link-up call refused by 7 is taken
@@ -403,6 +412,8 @@ property-2 = record {
   image-read-back = read-what-was-written;
   image-read = read-right;
   eleven = read-eleven;
+  other-size = other-size-iff;
+  of-none = eleven-iff;
   block = block-right;
   older = older;
 }

@@ -232,8 +232,8 @@ pub extern "C" fn sb_image_write(
     image_writer::writer::write(n, links, numbers, order, buffer)
 }
 
-// Reads an image of n radios into the tables: links and order as the image lists them, the numbers worked out. Refused by 1, 2
-// and 9 to 11: then every table keeps its content.
+// Reads an image of n radios into the tables: links and order as the image lists them, the numbers worked out. Refused by 1, 2,
+// 9, 10, 15 and 11: then every table keeps its content.
 #[no_mangle]
 pub extern "C" fn sb_image_read(
     n: u32,

@@ -7,7 +7,7 @@ use calls::Refusal;
 use mesh::Site;
 
 // Question 1: has the site 1 to 512 radios?
-fn is_size(site: Site) -> bool
+pub fn is_size(site: Site) -> bool
     ensures { λ r. ⌜ r ≡ size-good (site .radios) ⌝ }
 {
     let n = site.radios;

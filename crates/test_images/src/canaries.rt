@@ -2,6 +2,7 @@
 use super::changes;
 use super::digest;
 use super::pattern;
+use super::sizes;
 
 // How many find that one table is not as it was: the one for kept tables, and the digest, which was h.
 fn found(count: u32, links: [u8; 2], numbers: [u8; 2], order: [u16; 2], h: u64) -> u32 {
@@ -10,7 +11,8 @@ fn found(count: u32, links: [u8; 2], numbers: [u8; 2], order: [u16; 2], h: u64) 
     changes::more(seen, digest::tables(0, &links, &numbers, &order) != h)
 }
 
-// One table after another exchanged, then two images that differ, and a refusal that changed a table.
+// One table after another exchanged, then two images that differ, a refusal that changed a table, and an image alone that got another
+// number.
 pub(crate) fn count() -> u32 {
     let bytes = [pattern::BYTE; 2];
     let order = [pattern::ENTRY; 2];
@@ -19,5 +21,6 @@ pub(crate) fn count() -> u32 {
     let b = found(a, bytes, [pattern::BYTE, 1], order, h);
     let c = found(b, bytes, bytes, [pattern::ENTRY, 1], h);
     let d = changes::more(c, !tables::fill::same8(&bytes, &[pattern::BYTE, 1]));
-    changes::more(d, changes::is_broken(10, false))
+    let e = changes::more(d, changes::is_broken(10, false));
+    changes::more(e, sizes::is_broken(0, &[pattern::BYTE, 1], 9, true))
 }

@@ -3,6 +3,7 @@ use super::changes;
 use super::parts;
 use super::reading;
 use super::sites;
+use super::sizes;
 
 // Radio k + 1 linked to the k radios below k, and radio k to k + 2: all numbers are 1.
 fn put_site(k: u32, links: &mut [u8], order: &mut [u16]) {
@@ -19,7 +20,7 @@ fn put_neighbour(k: u32, image: &mut [u8]) {
     changes::mend(image, at);
 }
 
-// Reads the changed image of a site with these tables: links and order hold zeros before, and numbers 1.
+// Reads the changed image of a site with these tables, with the n around too: links and order hold zeros before, and numbers 1.
 pub(crate) fn try_neighbours(k: u32, links: &mut [u8], numbers: &[u8], order: &mut [u16]) {
     let many = (k % 1024) as usize + 3;
     let n = many as u32;
@@ -28,4 +29,5 @@ pub(crate) fn try_neighbours(k: u32, links: &mut [u8], numbers: &[u8], order: &m
     image_writer::writer::write(n, links, numbers, order, &mut image);
     put_neighbour(k, &mut image);
     reading::try_read(n, 64 * many, many, many, &image);
+    sizes::try_around(n, &image);
 }

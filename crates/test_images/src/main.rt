@@ -14,6 +14,7 @@ mod parts;
 mod pattern;
 mod reading;
 mod sites;
+mod sizes;
 mod writing;
 
 use mesh::Site;
@@ -32,7 +33,8 @@ fn try_again(n: u32, links: &[u8], numbers: &[u8], order: &[u16], buffer: &[u8])
     lines::print(b"again", &[lines::yes(tables::fill::same8(buffer, &again))]);
 }
 
-// Prints the site, writes its image and reads it with each length and size and last as it is. Comes back with the image's length.
+// Prints the site, writes its image and reads it with each length and size and last as it is, then with the n around. Comes back with
+// the image's length.
 fn try_image(
     shape: Shape,
     links: &[u8],
@@ -46,6 +48,7 @@ fn try_image(
     lines::print(b"site", &[n as u64, count as u64, digest]);
     let exact = writing::try_writes(n, links, numbers, order, buffer);
     reading::try_cases(n, buffer, exact);
+    sizes::try_around(n, parts::front(buffer, exact));
     exact
 }
 
@@ -84,7 +87,7 @@ fn site(shape: Shape) {
     }
 }
 
-// The sizes where the order or the links take one block more.
+// The sizes where the order or the links take one block more; and 200 radios, which a site of 120 does not take.
 fn try_sites() {
     site(sites::alone(1));
     site(sites::alone(252));
@@ -94,6 +97,7 @@ fn try_sites() {
     site(sites::ring(253, 253, 2));
     site(sites::alone(512));
     site(sites::ring(512, 10240, 40));
+    site(sites::path(200, 199));
 }
 
 // A radio with 40 neighbours is taken, one with 41 is not.
@@ -155,7 +159,7 @@ fn try_refused(image: &[u8], last: u32) {
     reading::try_blocks(image);
 }
 
-// The small image with a block that fails its check: 1, 2 and 9 are asked before 10, and 10 before 11.
+// The small image with a block that fails its check: 1, 2 and 9 are asked before 10, and 10 before 15 and 11.
 fn try_small_refusals(good: &[u8]) {
     let mut image = [0u8; 1536];
     tables::fill::copy8(&mut image, good);
@@ -184,6 +188,7 @@ fn try_small() {
     try_small_writes(&links);
     try_small_refusals(&good);
     try_small_changes(&good);
+    sizes::try_small(&good);
 }
 
 fn main() {

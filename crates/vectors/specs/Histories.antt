@@ -580,20 +580,25 @@ images =
     row 1 [] (
     last-answers []
     ∷ printed (
-    "numbers 0\n" ∷ "order 0\n" ∷ []) ∷ image-reading 1 1024 [] 0 ∷ image-reading 2 1024 [] 11 ∷ image-reading 1 1023 [] 9
+    "numbers 0\n" ∷ "order 0\n" ∷ []) ∷ image-reading 1 1024 [] 0 ∷ image-reading 2 1024 [] 15 ∷ image-reading 1 1023 [] 9
     ∷ image-reading 1 0 [] 9 ∷ image-reading 1 512 [] 11 ∷ image-reading 1 1024 (put 4 2 ∷ []) 10
     ∷ image-reading 1 1024 (put 900 1 ∷ put 1020 137 ∷ put 1021 1 ∷ []) 11 ∷ image-reading 1 1024 (put 516 0 ∷ put 518 0 ∷ []) 0
-    ∷ image-reading 1 1024 (put 6 1 ∷ put 508 12 ∷ []) 11 ∷ [])
+    ∷ image-reading 1 1024 (put 6 1 ∷ put 508 12 ∷ []) 11 ∷ image-reading 1 1024 (put 4 0 ∷ put 508 0 ∷ []) 11
+    ∷ image-reading 1 1024 (put 4 1 ∷ put 5 2 ∷ put 508 17 ∷ []) 11 ∷ image-reading 1 1024 (put 4 2 ∷ put 508 10 ∷ []) 11
+    ∷ image-reading 2 1024 (put 4 2 ∷ put 508 10 ∷ []) 11 ∷ image-reading 2 1024 (put 516 1 ∷ put 1020 9 ∷ []) 11 ∷ [])
     -- two radios, one link
     ∷ row 2 (
     up 0 1 ∷ []) (
     last-answers (
     risen (0 ∷ 1 ∷ []) ∷ [])
     ∷ printed (
-    "0 +1 0 1\n" ∷ "numbers 1 1\n" ∷ "order 0 1\n" ∷ []) ∷ image-reading 2 1536 [] 0 ∷ image-reading 3 1536 [] 11 ∷ image-reading 2 1535 [] 9
+    "0 +1 0 1\n" ∷ "numbers 1 1\n" ∷ "order 0 1\n" ∷ []) ∷ image-reading 2 1536 [] 0 ∷ image-reading 3 1536 [] 15 ∷ image-reading 2 1535 [] 9
     ∷ image-reading 2 0 [] 9 ∷ image-reading 2 1024 [] 11 ∷ image-reading 2 1536 (put 4 1 ∷ []) 10
     ∷ image-reading 2 1536 (put 900 1 ∷ put 1020 144 ∷ put 1021 1 ∷ []) 11 ∷ image-reading 2 1536 (put 516 1 ∷ put 518 0 ∷ put 1020 9 ∷ []) 0
-    ∷ image-reading 2 1536 (put 6 2 ∷ put 508 24 ∷ []) 11 ∷ image-reading 2 1536 (put 1028 1 ∷ put 1532 20 ∷ []) 11 ∷ [])
+    ∷ image-reading 2 1536 (put 6 2 ∷ put 508 24 ∷ []) 11 ∷ image-reading 2 1536 (put 4 0 ∷ put 508 7 ∷ []) 11
+    ∷ image-reading 2 1536 (put 4 1 ∷ put 5 2 ∷ put 508 24 ∷ []) 11 ∷ image-reading 2 1536 (put 4 3 ∷ put 508 22 ∷ []) 11
+    ∷ image-reading 3 1536 (put 4 3 ∷ put 508 22 ∷ []) 11 ∷ image-reading 3 1536 (put 516 2 ∷ put 1020 21 ∷ []) 11
+    ∷ image-reading 2 1536 (put 1028 1 ∷ put 1532 20 ∷ []) 11 ∷ [])
     ∷ []
 
 unfoldable pub random-small : List Row

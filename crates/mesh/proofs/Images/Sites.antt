@@ -1,6 +1,7 @@
 -- Question 11, and both round trips: what is written is read back, and what is read is what was written.
 --   read-written        a valid site, written and read
 --   written-read        an accepted image, read and written
+--   is-image-radios     its header says its n
 --   image-injective     valid sites with equal images are equal
 --   is-image-iff        accepted are exactly the images of valid sites with this n
 use mathlib.Core.Path.{_≡_, refl, sym, ap, ap₂, _∙_}
@@ -83,6 +84,12 @@ written-read n bs h =
     let s = sound n (tables-of g xs) in
     let i = same (image-of g xs) bs in
     same-eq (image-of g xs) bs (and-right s i (and-right (proper n (g .links) && ascending (g .links)) (s && i) h))
+
+-- an image says its n, so that no other need be tried
+pub is-image-radios : (n : ℕ) (bs : List ℕ) → n ≤ max-radios → is-image n bs ≡ true → word-at bs 4 ≡ n
+unfolding image-graph
+is-image-radios n bs small h =
+    sym (ap (λ (xs : List ℕ). word-at xs 4) (written-read n bs h)) ∙ word-at-radios (image-graph n bs) (image-order n bs) (omega arith)
 
 -- ---- question 11
 

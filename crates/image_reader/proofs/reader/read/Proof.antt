@@ -1,12 +1,51 @@
--- `reader::read` meets its contract: the questions in turn, then the reading over scratch for each radio.
-use mathlib.Core.Path.{sym}
+-- `reader::read` meets its contract: lengths, then the header, then of which tables it is the image. Scratch is cut to the header's m.
+use mathlib.Core.Path.{_≡_, sym}
+use mathlib.Core.Bool.{true}
+use Prim.Native.Nat.{_≤_}
 use lib.Seq.{length-take-le}
 use borrow.Author.Needs.{needs}
-use Rattle.mesh.specs.Tables.{tables}
+use Rattle.mesh.specs.Limits.{max-radios, size-good}
+use Rattle.mesh.specs.Tables.{Tables, tables}
 use Rattle.calls.specs.Questions.{lengths-of}
-use Rattle.image_reader.proofs.ReadLaws.{read-not-lent, read-not-blocks, read-small, read-sized, read-room, read-asked}
+use Rattle.image_reader.proofs.ReadLaws.{header-small, header-room, read-not-lent, read-not-header, read-size, read-sized, read-asked}
 use Rattle.image_reader.proofs.reader.read.Statement.{statement}
 use Rattle.image_reader.proofs.reader.read.Tie as tie
+use Rattle.image_reader.proofs.reader.read.Reads as reads
+use Rattle.image_reader.proofs.reader.read.Lts as lts
+use Rattle.image.proofs.bytes.word_at.Reads as word-at-reads
+use Rattle.image_reader.proofs.reader.read_site.Reads as read-site-reads
+use Rattle.image_reader.proofs.source.header_refusal.Reads as header-refusal-reads
+use Rattle.tables.proofs.sizes.of_tables.Reads as of-tables-reads
+
+-- where the header got no refusal
+abbrev Passed : Type 0
+Passed = lts.After-word-at (
+  of-tables-reads.Asked,
+  of-tables-reads.Learnt,
+  header-refusal-reads.Asked,
+  header-refusal-reads.Learnt,
+  word-at-reads.Asked,
+  word-at-reads.Learnt,
+  read-site-reads.Asked,
+  read-site-reads.Learnt,
+) reads.Pre reads.Post
+
+-- the tables then
+abbrev held : Passed → Tables
+held c =
+    let call = c .before .before .before .before .before .before .before .before .before .args in
+    tables (call .links .now) (call .numbers .now) (call .order .now)
+
+one : (c : Passed) → size-good (c .before .before .before .before .before .before .before .before .before .args .n) ≡ true
+unfolding lengths-of
+one c =
+    let else1 = c .before .before .before in
+    let bs = else1 .before .before .before .before .before .before .args .image .now in
+    read-size _ bs (held c) _ (else1 .before .of-tables .ensures) (else1 .if1 .left)
+
+small : (c : Passed) → c .word-at .result ≤ max-radios
+small c =
+    let else2 = c .before in header-small _ _ (one c) _ (else2 .before .header-refusal .ensures) (else2 .if2 .left) _ (c .word-at .ensures .0)
 
 returns : tie.Need-returns
 unfolding lengths-of
@@ -14,117 +53,62 @@ returns c =
     let lent = c .before in
     let call = lent .before .before .before .before .before .args in
     let t = tables (call .links .now) (call .numbers .now) (call .order .now) in
-    let bs = call .image .now in
-    read-not-lent _ bs t _ (c .before .of-tables .ensures) (c .if1 .taken)
+    read-not-lent _ (call .image .now) t _ (lent .of-tables .ensures) (c .if1 .taken)
 
 returns-2 : tie.Need-returns-2
 unfolding lengths-of
 returns-2 c =
-    let else1 = c .before .before in
-    let lent = else1 .before in
-    let call = lent .before .before .before .before .before .args in
+    let header = c .before in
+    let else1 = header .before in
+    let call = else1 .before .before .before .before .before .before .args in
     let t = tables (call .links .now) (call .numbers .now) (call .order .now) in
-    let bs = call .image .now in
-    read-not-blocks _ bs t _ (else1 .before .of-tables .ensures) (else1 .if1 .left) _ (c .before .refusal .ensures) (c .if2 .taken)
+    read-not-header _ (call .image .now) t _ (else1 .before .of-tables .ensures) (else1 .if1 .left) _ (header .header-refusal .ensures) (c .if2 .taken)
 
 array-borrow-prefix-listed : tie.Need-array-borrow-prefix-listed
-unfolding lengths-of
-array-borrow-prefix-listed c =
-    let else2 = c .before .before .before in
-    let asked = else2 .before in
-    let else1 = asked .before in
-    let lent = else1 .before in
-    let call = lent .before .before .before .before .before .args in
-    let t = tables (call .links .now) (call .numbers .now) (call .order .now) in
-    let bs = call .image .now in read-small _ bs t _ (lent .of-tables .ensures) (else1 .if1 .left) _ (asked .refusal .ensures) (else2 .if2 .left)
+array-borrow-prefix-listed c = small (c .before .before .before)
 
 slice-aggregate-read-site : tie.Need-slice-aggregate-read-site
-unfolding lengths-of
-slice-aggregate-read-site c =
-    let else2 = c .before .before .before .before in
-    let asked = else2 .before in
-    let else1 = asked .before in
-    let lent = else1 .before in
-    let call = lent .before .before .before .before .before .args in
-    let t = tables (call .links .now) (call .numbers .now) (call .order .now) in
-    let bs = call .image .now in sym (length-take-le _ _ (read-small _ bs t _ (lent .of-tables .ensures) (else1 .if1 .left) _ (asked .refusal .ensures) (else2 .if2 .left)))
+slice-aggregate-read-site c = sym (length-take-le _ _ (small (c .before .before .before .before)))
 
 array-borrow-prefix-ranks : tie.Need-array-borrow-prefix-ranks
-unfolding lengths-of
-array-borrow-prefix-ranks c =
-    let else2 = c .before .before .before .before in
-    let asked = else2 .before in
-    let else1 = asked .before in
-    let lent = else1 .before in
-    let call = lent .before .before .before .before .before .args in
-    let t = tables (call .links .now) (call .numbers .now) (call .order .now) in
-    let bs = call .image .now in read-small _ bs t _ (lent .of-tables .ensures) (else1 .if1 .left) _ (asked .refusal .ensures) (else2 .if2 .left)
+array-borrow-prefix-ranks c = small (c .before .before .before .before)
 
 slice-aggregate-read-site-2 : tie.Need-slice-aggregate-read-site-2
-unfolding lengths-of
-slice-aggregate-read-site-2 c =
-    let else2 = c .before .before .before .before .before in
-    let asked = else2 .before in
-    let else1 = asked .before in
-    let lent = else1 .before in
-    let call = lent .before .before .before .before .before .args in
-    let t = tables (call .links .now) (call .numbers .now) (call .order .now) in
-    let bs = call .image .now in sym (length-take-le _ _ (read-small _ bs t _ (lent .of-tables .ensures) (else1 .if1 .left) _ (asked .refusal .ensures) (else2 .if2 .left)))
+slice-aggregate-read-site-2 c = sym (length-take-le _ _ (small (c .before .before .before .before .before)))
 
 array-borrow-prefix-counts : tie.Need-array-borrow-prefix-counts
-unfolding lengths-of
-array-borrow-prefix-counts c =
-    let else2 = c .before .before .before .before .before in
-    let asked = else2 .before in
-    let else1 = asked .before in
-    let lent = else1 .before in
-    let call = lent .before .before .before .before .before .args in
-    let t = tables (call .links .now) (call .numbers .now) (call .order .now) in
-    let bs = call .image .now in read-small _ bs t _ (lent .of-tables .ensures) (else1 .if1 .left) _ (asked .refusal .ensures) (else2 .if2 .left)
+array-borrow-prefix-counts c = small (c .before .before .before .before .before)
 
 slice-aggregate-read-site-3 : tie.Need-slice-aggregate-read-site-3
-unfolding lengths-of
-slice-aggregate-read-site-3 c =
-    let else2 = c .before .before .before .before .before .before in
-    let asked = else2 .before in
-    let else1 = asked .before in
-    let lent = else1 .before in
-    let call = lent .before .before .before .before .before .args in
-    let t = tables (call .links .now) (call .numbers .now) (call .order .now) in
-    let bs = call .image .now in sym (length-take-le _ _ (read-small _ bs t _ (lent .of-tables .ensures) (else1 .if1 .left) _ (asked .refusal .ensures) (else2 .if2 .left)))
+slice-aggregate-read-site-3 c = sym (length-take-le _ _ (small (c .before .before .before .before .before .before)))
 
 read-site-requires : tie.Need-read-site-requires
 unfolding lengths-of
 read-site-requires c κs =
-    let else2 = c .before .before .before .before .before .before in
-    let asked = else2 .before in
-    let else1 = asked .before in
-    let lent = else1 .before in
-    let call = lent .before .before .before .before .before .args in
-    let t = tables (call .links .now) (call .numbers .now) (call .order .now) in
-    let bs = call .image .now in
-    let many = read-small _ bs t _ (lent .of-tables .ensures) (else1 .if1 .left) _ (asked .refusal .ensures) (else2 .if2 .left) in (
-      read-room _ bs t _ (lent .of-tables .ensures) (else1 .if1 .left) _ (asked .refusal .ensures) (else2 .if2 .left)
-          _ _ _ (length-take-le _ _ many) (length-take-le _ _ many) (length-take-le _ _ many),
-      read-sized _ bs t _ (lent .of-tables .ensures) (else1 .if1 .left) _ (asked .refusal .ensures) (else2 .if2 .left),
+    let passed = c .before .before .before .before .before .before in
+    let else2 = passed .before in
+    let else1 = else2 .before .before in
+    let bs = else1 .before .before .before .before .before .before .args .image .now in
+    let many = small passed in (
+      header-room _ bs (one passed) _ (else2 .before .header-refusal .ensures) (else2 .if2 .left) _ _ _ _ (passed .word-at .ensures .0)
+          (length-take-le _ _ many) (length-take-le _ _ many) (length-take-le _ _ many),
+      read-sized _ bs (held passed) _ (else1 .before .of-tables .ensures) (else1 .if1 .left),
     )
 
 returns-3 : tie.Need-returns-3
 unfolding lengths-of
 returns-3 c =
     let read = c .before .before .before .before .before .before .before .before .before in
-    let else2 = read .before .before .before .before .before .before .before in
-    let asked = else2 .before in
-    let else1 = asked .before in
-    let lent = else1 .before in
-    let call = lent .before .before .before .before .before .args in
-    let t = tables (call .links .now) (call .numbers .now) (call .order .now) in
-    let bs = call .image .now in
-    read-asked _ bs t _ (lent .of-tables .ensures) (else1 .if1 .left) _ (asked .refusal .ensures) (else2 .if2 .left) _ _ (read .read-site .ensures)
+    let passed = read .before .before .before .before .before .before .before in
+    let else2 = passed .before in
+    let else1 = else2 .before .before in
+    let bs = else1 .before .before .before .before .before .before .args .image .now in
+    read-asked _ bs (held passed) _ (else1 .before .of-tables .ensures) (else1 .if1 .left) _ (else2 .before .header-refusal .ensures) (else2 .if2 .left)
+    _ _ (read .read-site .ensures)
 
 pub read-spec : {M : Type 1} → statement M
 read-spec =
     tie.close (
-    tie.spec (λ c κs. search needs) returns (λ c κs. search needs) returns-2 array-borrow-prefix-listed slice-aggregate-read-site array-borrow-prefix-ranks
-    slice-aggregate-read-site-2 array-borrow-prefix-counts slice-aggregate-read-site-3 read-site-requires (λ c. search needs) (λ c. search needs)
-    (λ c. search needs) returns-3)
+    tie.spec (λ c κs. search needs) returns (λ c κs. search needs) returns-2 (λ c κs. search needs) (λ c. search needs) array-borrow-prefix-listed
+    slice-aggregate-read-site array-borrow-prefix-ranks slice-aggregate-read-site-2 array-borrow-prefix-counts slice-aggregate-read-site-3
+    read-site-requires (λ c. search needs) (λ c. search needs) (λ c. search needs) returns-3)

@@ -1,24 +1,44 @@
--- `reader::read_site` meets its contract: nothing is written before question 11 got yes.
-use borrow.Author.Tests.{not-true, not-false}
+-- `reader::read_site` meets its contract: nothing is written before questions 15 and 11 got yes.
+use mathlib.Core.Path.{refl}
+use native.Mathlib.Omega.{arith}
 use borrow.Author.Needs.{needs}
-use Rattle.image_reader.proofs.SiteLaws.{site-refused, site-accepted, site-proper}
+use Rattle.mesh.specs.Tables.{tables}
+use Rattle.mesh.proofs.Sizes.{size-good-true}
+use Rattle.image_reader.proofs.SiteLaws.{site-accepted, site-proper}
+use Rattle.image_reader.proofs.SourceLaws.{source-refused, source-accepted, source-site, source-says}
 use Rattle.image_reader.proofs.reader.read_site.Statement.{statement}
 use Rattle.image_reader.proofs.reader.read_site.Tie as tie
 
 returns : tie.Need-returns
 returns c =
-    let site = c .before .before .before .before .before .before .before in site-refused _ _ _ _ _ _ (site .is-site .ensures) (not-true (site .is-site .result) (c .if1 .taken))
+    let source = c .before .before .before .before .before .before .before in source-refused _ _ _ _ _ _ (source .refusal .ensures) (c .if1 .taken)
 
 put-links-requires : tie.Need-put-links-requires
 put-links-requires c κs =
     let word = c .before in
     let else1 = word .before in
-    let site = else1 .before .before .before .before .before .before .before in
-    let start = site .before .before .before .before .before .before .before .before .before .before .before in (
-      start .pre .0 .most,
+    let source = else1 .before .before .before .before .before .before .before in
+    let start = source .before .before .before .before .before .before .before .before .before .before .before in
+    let small = size-good-true _ (start .pre .0 .this-size) .1 in (
+      small,
       word .word-at .ensures .1,
       start .pre .1 .0,
-      site-proper _ _ (start .pre .0 .most) _ _ _ (site .is-site .ensures) (not-false (site .is-site .result) (else1 .if1 .left)) _ (word .word-at .ensures .0),
+      site-proper _ _ small _ _ _ (source-site _ _ _ _ _ (source .refusal .ensures) (else1 .if1 .left)) refl _ (word .word-at .ensures .0),
+    )
+
+put-numbers-requires : tie.Need-put-numbers-requires
+put-numbers-requires c κs =
+    let word = c .before .before .before .before .before .before in
+    let else1 = word .before in
+    let source = else1 .before .before .before .before .before .before .before in
+    let start = source .before .before .before .before .before .before .before .before .before .before .before in
+    let room = start .pre .0 in
+    omega (
+      arith,
+      source-says _ _ _ _ _ _ (room .this-size) (room .says) (source .refusal .ensures) (else1 .if1 .left),
+      source .refusal .kept .1 .1 .1 .1 .0,
+      room .room .ranks-long,
+      start .pre .1 .1,
     )
 
 returns-2 : tie.Need-returns-2
@@ -28,15 +48,17 @@ returns-2 c =
     let linked = numbered .before .before .before .before .before in
     let word = linked .before .before in
     let else1 = word .before in
-    let site = else1 .before .before .before .before .before .before .before in
-    let start = site .before .before .before .before .before .before .before .before .before .before .before in
-    site-accepted _ _ (start .pre .0 .most) _ _ _ (site .is-site .ensures) (not-false (site .is-site .result) (else1 .if1 .left))
-    _ _ _ _ _ (word .word-at .ensures .0) (start .pre .1 .1) (start .pre .1 .2)
-    (linked .put-links .ensures) (numbered .put-numbers .ensures) (copied .copy16 .ensures)
+    let source = else1 .before .before .before .before .before .before .before in
+    let start = source .before .before .before .before .before .before .before .before .before .before .before in
+    let t = tables (start .args .links .now) (start .args .numbers .now) (start .args .order .now) in
+    source-accepted _ _ t _ _ _ _ _ (source .refusal .ensures) (else1 .if1 .left)
+    (site-accepted _ _ (size-good-true _ (start .pre .0 .this-size) .1) _ _ _ (source-site _ _ _ _ _ (source .refusal .ensures) (else1 .if1 .left)) refl
+    _ t _ _ _ (word .word-at .ensures .0) (start .pre .1 .1) (start .pre .1 .2)
+    (linked .put-links .ensures) (numbered .put-numbers .ensures) (copied .copy16 .ensures))
 
 pub read-site-spec : {M : Type 1} → statement M
 read-site-spec =
     tie.close (
     tie.spec (λ c κs. search needs) (λ c. search needs) (λ c. search needs) (λ c. search needs) returns (λ c κs. search needs) put-links-requires
-    (λ c κs. search needs) (λ c κs. search needs) (λ c. search needs) (λ c. search needs) (λ c. search needs) (λ c. search needs) (λ c. search needs)
+    put-numbers-requires (λ c κs. search needs) (λ c. search needs) (λ c. search needs) (λ c. search needs) (λ c. search needs) (λ c. search needs)
     (λ c. search needs) returns-2)

@@ -1,0 +1,82 @@
+-- The number that an image gets where questions 1, 2, 9 and 10 got yes: 0, 15 or 11.
+--   image-answered   the image of sound tables with this n, with another n, or of none
+--   eleven-iff       11 is the answer to bytes that are the image of no sound tables, and to no others
+--   read-eleven      so it is of the number that reading answers
+use mathlib.Core.Path.{_≡_, refl, sym, subst, _∙_}
+use mathlib.Core.Logic.{_↔_, _⊎_, inl, inr}
+use mathlib.Core.Bool.{Bool, true, false, not}
+use mathlib.Core.List.{List}
+use Prim.Native.Nat.{ℕ}
+use native.Mathlib.Omega.{arith}
+use lib.Dec.{eqb}
+use borrow.Author.Tests.{eqb-true, eqb-false}
+use Rattle.mesh.specs.Tables.{Tables}
+use Rattle.mesh.specs.Image.{whole-blocks, checks-good, is-image, other-size, Tables-image, Image-of-none}
+use Rattle.lists.proofs.Tests.{bool-cases, never}
+use Rattle.mesh.proofs.Images.Tables.{is-image-tables}
+use Rattle.mesh.proofs.Images.OtherSize.{other-size-iff, is-image-not-other}
+use Rattle.calls.specs.Questions.{ask, lengths-of, size-good, site-lengths, lent-refusal, blocks-refusal, image-refusal, read-refusal}
+use Rattle.calls.specs.Contracts.Images.{Read-accepted, Read-contract}
+use Rattle.calls.specs.Contracts.Forms.{Tables-refused}
+use Rattle.calls.specs.Results.{Image-answered}
+use Rattle.calls.proofs.QuestionLaws.{size-good-true}
+use Rattle.calls.proofs.ContractLaws.{by-cases}
+
+module _ (n : ℕ) (bs : List ℕ) (one : size-good n ≡ true) where
+  of-this-size : (is-image n bs ≡ true) ↔ Tables-image n bs
+  of-this-size = is-image-tables n bs (size-good-true n one .1)
+
+  -- neither of this size nor of another
+  of-none : other-size n bs ≡ false → is-image n bs ≡ false → Image-of-none bs
+  of-none o i m s t = go (bool-cases (eqb m n))
+    where
+      go : (eqb m n ≡ true) ⊎ (eqb m n ≡ false) → ⊥
+      go (inl e) = never (is-image n bs) (of-this-size .1 (subst (λ (k : ℕ). Tables-image k bs) (eqb-true m n e) t)) i
+      go (inr e) =
+          never (other-size n bs) (other-size-iff n bs .1 (record { radios = m; size = s; other = eqb-false m n e; is-image = t })) o
+
+  -- the last two questions
+  answered : (o i : Bool) (r : ℕ) → other-size n bs ≡ o → is-image n bs ≡ i → r ≡ ask 15 (not o) (ask 11 i 0) → Image-answered n bs r
+  unfolding ask
+  answered true true r eo ei e = never (other-size n bs) eo (is-image-not-other n bs (size-good-true n one .1) ei)
+  answered true false r eo ei e = record {
+    accepted = (λ z. absurd (omega arith), λ t. never (is-image n bs) (of-this-size .1 t) ei);
+    other-size = (λ z. other-size-iff n bs .0 eo, λ t. e);
+    none = (λ z. absurd (omega arith), λ h. let t = other-size-iff n bs .0 eo in absurd (h (t .radios) (t .size) (t .is-image)));
+  }
+  answered false true r eo ei e = record {
+    accepted = (λ z. of-this-size .0 ei, λ t. e);
+    other-size = (λ z. absurd (omega arith), λ t. never (other-size n bs) (other-size-iff n bs .1 t) eo);
+    none = (λ z. absurd (omega arith), λ h. absurd (h n one (of-this-size .0 ei)));
+  }
+  answered false false r eo ei e = record {
+    accepted = (λ z. absurd (omega arith), λ t. never (is-image n bs) (of-this-size .1 t) ei);
+    other-size = (λ z. absurd (omega arith), λ t. never (other-size n bs) (other-size-iff n bs .1 t) eo);
+    none = (λ z. of-none eo ei, λ h. e);
+  }
+
+  pub image-answered : whole-blocks bs ≡ true → checks-good bs ≡ true → Image-answered n bs (image-refusal n bs)
+  unfolding image-refusal blocks-refusal ask
+  image-answered nine ten = answered (other-size n bs) (is-image n bs) (image-refusal n bs) refl refl (rw (nine, ten))
+
+  pub eleven-iff : whole-blocks bs ≡ true → checks-good bs ≡ true → (image-refusal n bs ≡ 11) ↔ Image-of-none bs
+  eleven-iff nine ten = image-answered nine ten .none
+
+-- the number that reading answers
+read-number : (n : ℕ) (bs : List ℕ) (t : Tables) (r : ℕ) (v : Tables) → Read-contract n bs t r v → r ≡ read-refusal n (lengths-of t) bs
+unfolding Read-contract
+read-number n bs t r v d = go (by-cases R (Read-accepted n bs r v) (λ q. Tables-refused q r t v) d)
+  where
+    R : ℕ
+    R = read-refusal n (lengths-of t) bs
+
+    go : ((R ≡ 0) × Read-accepted n bs r v) ⊎ ((R ≡ 0 → ⊥) × Tables-refused R r t v) → r ≡ R
+    go (inl p) = p .1 .number ∙ sym (p .0)
+    go (inr p) = p .1 .number
+
+-- where 1, 2, 9 and 10 get yes
+pub read-eleven : (n : ℕ) (bs : List ℕ) (t : Tables) (r : ℕ) (v : Tables) → Read-contract n bs t r v → size-good n ≡ true
+    → site-lengths n (lengths-of t) ≡ true → whole-blocks bs ≡ true → checks-good bs ≡ true → Image-answered n bs r
+unfolding read-refusal lent-refusal image-refusal blocks-refusal ask
+read-eleven n bs t r v d one two nine ten =
+    answered n bs one (other-size n bs) (is-image n bs) r refl refl (read-number n bs t r v d ∙ rw (one, two, nine, ten))

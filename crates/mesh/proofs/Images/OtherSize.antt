@@ -1,0 +1,54 @@
+-- Question 15: the image of sound tables with another n.
+--   other-size-iff       what is worked out from the header's n is the image of some sound tables with another n
+--   is-image-not-other   an image of n radios is of no other size
+--   no-size-none         bytes whose header says no size are the image of none
+use mathlib.Core.Path.{_≡_, sym, ap, _∙_}
+use mathlib.Core.Logic.{_↔_}
+use mathlib.Core.Bool.{true, false, _&&_, not}
+use mathlib.Core.List.{List}
+use Prim.Native.Nat.{ℕ, _≤_}
+use lib.Dec.{eqb}
+use borrow.Author.Tests.{eqb-false, eq-eqb, ne-eqb, not-true}
+use Rattle.mesh.specs.Limits.{max-radios, size-good}
+use Rattle.mesh.specs.Image.{word-at, is-image, Tables-image, other-size, Other-size, Image-of-none}
+use Rattle.lists.proofs.Tests.{and-left, and-right, and-both, never}
+use Rattle.mesh.proofs.Sizes.{size-good-true}
+use Rattle.mesh.proofs.Images.Sites.{is-image-radios}
+use Rattle.mesh.proofs.Images.Tables.{is-image-tables}
+
+-- the image of sound tables with m radios says m
+tables-image-radios : (m : ℕ) (bs : List ℕ) → size-good m ≡ true → Tables-image m bs → (word-at bs 4 ≡ m) × (is-image m bs ≡ true)
+tables-image-radios m bs s i =
+    let small : m ≤ max-radios = size-good-true m s .1 in
+    let h = is-image-tables m bs small .1 i in (is-image-radios m bs small h, h)
+
+pub other-size-iff : (n : ℕ) (bs : List ℕ) → (other-size n bs ≡ true) ↔ Other-size n bs
+unfolding other-size
+other-size-iff n bs = (there, back)
+  where
+    m : ℕ
+    m = word-at bs 4
+
+    there : (not (eqb m n) && (size-good m && is-image m bs)) ≡ true → Other-size n bs
+    there h =
+        let rest = and-right (not (eqb m n)) (size-good m && is-image m bs) h in
+        let size = and-left (size-good m) (is-image m bs) rest in
+        record {
+          radios = m;
+          size = size;
+          other = eqb-false m n (not-true (eqb m n) (and-left (not (eqb m n)) (size-good m && is-image m bs) h));
+          is-image = is-image-tables m bs (size-good-true m size .1) .0 (and-right (size-good m) (is-image m bs) rest);
+        }
+
+    back : Other-size n bs → (not (eqb m n) && (size-good m && is-image m bs)) ≡ true
+    back o =
+        let r = tables-image-radios (o .radios) bs (o .size) (o .is-image) in
+        rw (r .0) (and-both (not (eqb (o .radios) n)) (size-good (o .radios) && is-image (o .radios) bs)
+        (ap not (ne-eqb (o .radios) n (o .other))) (and-both (size-good (o .radios)) (is-image (o .radios) bs) (o .size) (r .1)))
+
+pub is-image-not-other : (n : ℕ) (bs : List ℕ) → n ≤ max-radios → is-image n bs ≡ true → other-size n bs ≡ false
+unfolding other-size
+is-image-not-other n bs small h = rw (eq-eqb (word-at bs 4) n (is-image-radios n bs small h))
+
+pub no-size-none : (bs : List ℕ) → size-good (word-at bs 4) ≡ false → Image-of-none bs
+no-size-none bs e m s i = never (size-good m) s (ap size-good (sym (tables-image-radios m bs s i .0)) ∙ e)
