@@ -26,7 +26,8 @@ pub fn first_above(list: &[u16], a: u32) -> usize
     list.len()
 }
 
-// Lists row a, as far as it fits and no further than one past the limit on neighbours. The span is the listed neighbours above a, the higher ends of the links of which a is the lower.
+// Lists row a, as far as it fits and no further than one past the limit on neighbours. The span is the listed neighbours above
+// a, the higher ends of the links of which a is the lower.
 pub fn list_above(links: &[u8], a: u32, list: &mut [u16]) -> Span
     ensures { λ r. ⌜ Span-of (now (links .entry)) a (now (list .exit)) (r .start) (r .end) ⌝ }
 {
