@@ -1,4 +1,4 @@
--- `say_bits` is safe: the parts of its tables are those of k + 1 radios, and there are at most 512.
+-- `say_bits` is safe: its tables are cut to k + 1 radios, and there are at most 512.
 use mathlib.Core.Path.{sym}
 use Prim.Native.Nat.{_+_, _*_, _≤_}
 use native.Mathlib.Omega.{arith}
