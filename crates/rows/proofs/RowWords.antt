@@ -11,7 +11,7 @@ use Rattle.mesh.specs.Limits.{max-radios, max-neighbours, row-bytes}
 use Rattle.lists.specs.Lists.{range, filter, head-or, overwrite}
 use Rattle.mesh.specs.Tables.{digit, byte-at, marked}
 use Rattle.lists.proofs.Filter.{filter-append}
-use Rattle.rows.specs.Rows.{neighbours-of, row-listed, row-count, set-bits, row-word}
+use Rattle.rows.specs.Rows.{neighbours-of, row-listed, row-count, set-bits, row-word, word-of}
 use Rattle.rows.proofs.WordLaws.{set-bits-filter, set-bits-nothing, set-bits-lowest, length-set-bits, length-set-bits-le, word-at-less, digit-word-at}
 use Rattle.lists.proofs.Range.{range-append}
 use Rattle.lists.proofs.Overwrite.{sets-front, sets-append}
@@ -62,6 +62,16 @@ row-from-word ts bytes a k h =
       filter-append (λ b. marked ts a b) (range (64 * k) 64) (range (64 * (k + 1)) (max-radios - 64 * (k + 1))),
       set-bits-filter 64 (64 * k) (row-word 8 ts (row-bytes * a + 8 * k)) (λ b. marked ts a b) (λ m l. marked-word ts bytes a k m l),
     )
+
+-- ---- a word of a row
+
+pub word-of-whole : (ts : List ℕ) (a k : ℕ) → row-bytes * a + 8 * k + 8 ≤ length ts → word-of ts a k ≡ row-word 8 ts (row-bytes * a + 8 * k)
+unfolding word-of
+word-of-whole ts a k h = rw (le-leb (row-bytes * a + 8 * k + 8) (length ts) h)
+
+pub word-of-short : (ts : List ℕ) (a k : ℕ) → length ts < row-bytes * a + 8 * k + 8 → word-of ts a k ≡ 0
+unfolding word-of
+word-of-short ts a k h = rw (lt-leb (row-bytes * a + 8 * k + 8) (length ts) h)
 
 -- ---- one word more, as the loops' invariants have it
 

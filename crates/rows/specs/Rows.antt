@@ -4,6 +4,7 @@
 --   row-count most ts a   how many radios row a marks, counted no further than one past `most`
 --   set-bits d i w        the places of the set bits among the d lowest of w, ascending, counted from i
 --   row-word k ts i        the k bytes of ts from place i on, as one number, lowest byte first
+--   word-of ts a k         word k of row a, which has the bits of the radios from 64 * k on, where it lies whole in the table, else 0
 -- Laws are in proofs/RowListLaws.antt and proofs/WordLaws.antt. Definitions only.
 use mathlib.Core.Bool.{cond}
 use mathlib.Core.List.{List, [], _∷_}
@@ -30,3 +31,6 @@ set-bits (suc d) i w = let rest = set-bits d (suc i) (w / 2) in cond (eqb (w % 2
 unfoldable pub row-word : (k : ℕ) → (bytes : List ℕ) → (i : ℕ) → ℕ
 row-word zero ts i = 0
 row-word (suc k) ts i = getD ts (i + k) 0 * 2 ^ (8 * k) + row-word k ts i
+
+unfoldable pub word-of : (links : List ℕ) → (a k : ℕ) → ℕ
+word-of ts a k = cond (leb (row-bytes * a + 8 * k + 8) (length ts)) (row-word 8 ts (row-bytes * a + 8 * k)) 0

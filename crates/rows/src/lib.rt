@@ -1,6 +1,5 @@
-// Rows of the links table: one bit tested, set or cleared, a row's neighbours listed and counted in a byte, the lowest of them;
-// the radios of a set listed.
-// The bits of a row are walked here and nowhere else.
+// Rows of the links table: one bit tested, set or cleared, a word read, a row's neighbours listed and counted in a byte, the lowest
+// of them; the radios of a set listed.
 ghost use mathlib.Core.Path.{_≡_};
 ghost use Prim.Native.Nat.{suc, _≤_, _+_, min};
 ghost use lib.ListN.{length, take};
@@ -8,7 +7,7 @@ ghost use lib.Seq.{sets};
 ghost use Rattle.mesh.specs.Limits.{max-radios, max-neighbours};
 ghost use Rattle.lists.specs.Lists.{head-or, overwrite};
 ghost use Rattle.mesh.specs.Tables.{marked, put-bit, put-link};
-ghost use Rattle.rows.specs.Rows.{row-listed, row-count, set-bits, row-word};
+ghost use Rattle.rows.specs.Rows.{row-listed, row-count, set-bits, row-word, word-of};
 
 // The bits of a word.
 const WORD_BITS: u32 = 64;
@@ -66,6 +65,17 @@ fn word_at(links: &[u8], at: usize) -> u64
         | (links[at + 5] as u64) << 40
         | (links[at + 6] as u64) << 48
         | (links[at + 7] as u64) << 56
+}
+
+// Word k of row a, which has the bits of the radios from 64 * k on; 0 where it does not lie whole in the table.
+pub fn row_word(links: &[u8], a: u32, k: u32) -> u64
+    ensures { λ r. ⌜ r ≡ word-of (now (links .entry)) a k ⌝ }
+{
+    let at = mesh::Site::ROW_BYTES * a as usize + 8 * k as usize;
+    if links.len() < at + 8 {
+        return 0;
+    }
+    word_at(links, at)
 }
 
 // How many radios row a marks, counted in a byte that stops at `STOP`; of a row that is not whole in the table 0.
