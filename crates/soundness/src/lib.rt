@@ -32,7 +32,8 @@ pub(crate) fn place(order: &[u16], places: &mut [u16]) -> bool
     requires { ⌜ (length (now order) ≤ length (now places)) × (length (now order) ≤ max-radios) ⌝ }
     ensures { λ r. ⌜ Placing (now (order .entry)) (now (places .entry)) (now (places .exit)) r ⌝ }
 {
-    tables::fill::fill16(places, NOWHERE);
+    let many = order.len();
+    tables::fill::fill16(&mut places[..many], NOWHERE);
     let mut i: usize = 0;
     while i < order.len() {
         let v = order[i] as usize;
@@ -173,7 +174,7 @@ pub(crate) fn count_ends(links: &[u8], numbers: &[u8], places: &[u16], a: u32) -
         first: NO_KEY,
     };
     let mut k: u32 = 0;
-    while k < 8 {
+    while k < Site::RADIOS / 64 {
         let word = rows::row_word(links, a, k);
         ends = count_word(links, numbers, places, a, 64 * k, word, ends);
         if !ends.good {
