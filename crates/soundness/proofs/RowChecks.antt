@@ -20,11 +20,12 @@ use Rattle.mesh.specs.Sound.{number-in}
 use Rattle.lists.proofs.Tests.{bool-cases, never, bit-one, byte-bit, and-left, and-right}
 use Rattle.lists.proofs.All.{all-in, all-append}
 use Rattle.lists.proofs.Filter.{filter-in}
+use Rattle.lists.proofs.Loops.{folded-append}
 use Rattle.lists.proofs.Range.{in-range}
-use Rattle.rows.specs.Rows.{neighbours-of, set-bits, row-word, word-of}
+use Rattle.rows.specs.Rows.{neighbours-of, row-from, set-bits, row-word, word-of}
 use Rattle.rows.proofs.MaskLaws.{marked-past}
 use Rattle.rows.proofs.RowListLaws.{in-neighbours-of}
-use Rattle.rows.proofs.RowWords.{row-from, row-from-zero, row-from-end, row-from-word, word-of-whole}
+use Rattle.rows.proofs.RowWords.{row-from-zero, row-from-end, row-from-word, word-of-whole}
 use Rattle.rows.proofs.WordLaws.{set-bits-nothing, set-bits-lowest, length-set-bits-le}
 use Rattle.soundness.specs.Checks.{sooner-key, first-key, later-count, high-count, ends-good, ends-mark, row-good, Counts, counts, no-ends, end-counted}
 use Rattle.soundness.specs.Checks.{Ends-counted, Rows-room, Word-room, Row-checked}
@@ -75,11 +76,6 @@ marked-radio n ts e b a h = go (bool-cases (ltb b n))
     go (inr q) = never (marked ts b a) h (marked-past ts b a (omega (arith, ltb-false b n q)))
 
 -- ---- what the ends of a row come to
-
-folded-append : {S : Type 0} (f : ℕ → S → S) (xs ys : List ℕ) (s : S) → folded f (xs ++ ys) s ≡ folded f ys (folded f xs s)
-unfolding folded
-folded-append f [] ys s = refl
-folded-append f (x ∷ xs) ys s = folded-append f xs ys (f x s)
 
 module _ (ns ps : List ℕ) (a : ℕ) where
   abbrev add : ℕ → Counts → Counts

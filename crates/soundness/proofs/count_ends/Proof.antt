@@ -43,9 +43,11 @@ loop-again c =
     let read = counted .before in
     let at-loop = read .before .before in
     let start = at-loop .before .before .before .before in
-    let good = not-false _ (c .if1 .left) in
-    (good, row-counting-turn _ _ _ _ (λ j. at-loop .before .before .before .shared-slice-known .given j .fits) (start .pre .0 .linked) _ (start .pre .1) _ _ (read .before .loop-test .taken) (at-loop .loop .inv .1)
-    _ (read .row-word .ensures) _ _ (counted .count-word .ensures) good)
+    let good = not-false _ (c .if1 .left) in (
+      good,
+      row-counting-turn _ _ _ _ (λ j. at-loop .before .before .before .shared-slice-known .given j .fits) (start .pre .0 .linked) _ (start .pre .1) _ _ (read .before .loop-test .taken) (at-loop .loop .inv .1)
+          _ (read .row-word .ensures) _ _ (counted .count-word .ensures) good,
+    )
 
 returns-2 : tie.Need-returns-2 Inv-loop μ-loop
 returns-2 c = row-counting-end _ _ _ _ _ _ _ _ (c .before .loop .inv .0) (c .loop-test .left) (c .before .loop .inv .1)

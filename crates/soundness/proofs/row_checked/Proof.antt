@@ -13,7 +13,7 @@ returns c =
     row-own _ _ _ _ _ (start .pre .0) (start .pre .1) (sym (c .before .is-marked .ensures) ∙ c .if1 .taken)
 
 count-ends-requires : tie.Need-count-ends-requires
-count-ends-requires c κs = let start = c .before .before .before .before .before in 
+count-ends-requires c κs = let start = c .before .before .before .before .before in
     ends-room _ (start .args .links .now) (start .args .numbers .now) (start .args .places .now) _ (start .pre .0) (start .pre .1)
 
 returns-2 : tie.Need-returns-2
