@@ -31,7 +31,8 @@ pub(crate) fn place(order: &[u16], places: &mut [u16]) -> bool
     requires { ⌜ (length (now order) ≤ length (now places)) × (length (now order) ≤ max-radios) ⌝ }
     ensures { λ r. ⌜ Placing (now (order .entry)) (now (places .entry)) (now (places .exit)) r ⌝ }
 {
-    tables::fill::fill16(places, NOWHERE);
+    let many = order.len();
+    tables::fill::fill16(&mut places[..many], NOWHERE);
     let mut i: usize = 0;
     while i < order.len() {
         let v = order[i] as usize;
