@@ -2,7 +2,7 @@
 --   Counting       the digits that are left to count
 --   Spaces, Cells, Lines   after i pieces: what is left takes the buffer where the whole text takes it
 --   line-put       a line from its cells, its spaces and its line feed
-use mathlib.Core.Path.{_≡_, refl, sym, ap, ap₂, _∙_}
+use mathlib.Core.Path.{_≡_, ap}
 use mathlib.Core.List.{List, [], _∷_, _++_, flatMap}
 use Prim.Native.Nat.{ℕ, suc, _+_, _*_, _-_, _/_, _≤_, _<_, min}
 use native.Mathlib.Omega.{arith}
@@ -39,7 +39,7 @@ pub record Spaces (count : ℕ) (b c : Buffer) (i : ℕ) : Type 0 where
 
 pub spaces-none : (count : ℕ) {b : Buffer} → Spaces count b b 0
 spaces-none count {b} =
-    let e : replicate {A = ℕ} (count - 0) space ≡ replicate count space = ap (λ (k : ℕ). replicate k space) (omega arith) in
+    let e : count - 0 ≡ count = omega arith in
     record { low = omega arith; is = rw e putting-none }
 
 pub spaces-next : {count : ℕ} {b c d : Buffer} {i : ℕ} → i < count → Spaces count b c i → Puts c (space ∷ []) d → Spaces count b d (i + 1)
@@ -60,12 +60,13 @@ pub record Cells (ns : List ℕ) (v k : ℕ) (b c : Buffer) (i : ℕ) : Type 0 w
 
 pub cells-none : (ns : List ℕ) (v k : ℕ) {b : Buffer} → Cells ns v k b b 0
 cells-none ns v k {b} =
-    let e : cells ns (v + 0) (k - 0) ≡ cells ns v k = ap₂ {C = List ℕ} (λ (x y : ℕ). cells ns x y) (omega arith) (omega arith) in
-    record { low = omega arith; is = rw e putting-none }
+    let e : v + 0 ≡ v = omega arith in
+    let f : k - 0 ≡ k = omega arith in
+    record { low = omega arith; is = rw (e, f) putting-none }
 
 pub cells-next : {ns : List ℕ} {v k : ℕ} {b c d : Buffer} {i : ℕ} (w x : ℕ) → i < k → w ≡ v + i → x ≡ number-in ns w → Cells ns v k b c i
     → Puts c (cell w x) d → Cells ns v k b d (i + 1)
-unfolding cells range
+unfolding cells range flatMap
 cells-next {ns} {v} {k} {b} {c} {d} {i} w x h f g s p =
     let e : k - i ≡ suc (k - (i + 1)) = omega arith in
     let m : suc (v + i) ≡ v + (i + 1) = omega arith in
@@ -73,17 +74,17 @@ cells-next {ns} {v} {k} {b} {c} {d} {i} w x h f g s p =
     record { low = omega arith; is = putting-piece _ _ split (s .is) p }
 
 pub cells-last : {ns : List ℕ} {v k : ℕ} {b c : Buffer} {i : ℕ} → k ≤ i → Cells ns v k b c i → Puts b (cells ns v k) c
-unfolding cells range
+unfolding cells range flatMap
 cells-last {ns} {v} {k} {b} {c} {i} h s =
     let e : k - i ≡ 0 = omega arith in putting-end (s .is) (rw e)
 
 -- ---- a line
 
-pub line-put : {ns : List ℕ} {i : ℕ} {b c d e : Buffer} (k spaces : ℕ) → Cells-fit ns → line-cells * i < length ns → k ≡ min line-cells (length ns - line-cells * i)
+pub line-put : {ns : List ℕ} {b c d e : Buffer} (i k spaces : ℕ) → Cells-fit ns → line-cells * i < length ns → k ≡ min line-cells (length ns - line-cells * i)
     → spaces ≡ line-width - cell-width * k → Puts b (cells ns (line-cells * i) k) c → Puts c (replicate spaces space) d → Puts d (line-feed ∷ []) e
     → Puts b (sheet-line ns i) e
 unfolding sheet-line filled
-line-put {ns} {i} {b} {c} {d} {e} k spaces fit h f g p q r =
+line-put {ns} {b} {c} {d} {e} i k spaces fit h f g p q r =
     let long : length (cells ns (line-cells * i) k) ≡ cell-width * k = length-cells ns fit (line-cells * i) k (omega arith) in
     let s : spaces ≡ line-width - length (cells ns (line-cells * i) k) = omega arith in
     rw (← f) (puts-append (puts-append p (puts-as (ap (λ (m : ℕ). replicate m space) s) q)) r)
@@ -97,12 +98,11 @@ pub record Lines (ns : List ℕ) (b c : Buffer) (i : ℕ) : Type 0 where
 pub lines-none : (ns : List ℕ) {b : Buffer} → Lines ns b b 0
 unfolding sheet
 lines-none ns {b} =
-    let e : flatMap (sheet-line ns) (range 0 (sheet-lines (length ns) - 0)) ≡ sheet ns
-    = ap (λ (k : ℕ). flatMap (sheet-line ns) (range 0 k)) (omega arith) in
+    let e : sheet-lines (length ns) - 0 ≡ sheet-lines (length ns) = omega arith in
     record { low = omega arith; is = rw e putting-none }
 
 pub lines-next : {ns : List ℕ} {b c d : Buffer} {i : ℕ} → i < sheet-lines (length ns) → Lines ns b c i → Puts c (sheet-line ns i) d → Lines ns b d (i + 1)
-unfolding range
+unfolding range flatMap
 lines-next {ns} {b} {c} {d} {i} h s p =
     let many = sheet-lines (length ns) in
     let e : many - i ≡ suc (many - (i + 1)) = omega arith in
@@ -112,7 +112,7 @@ lines-next {ns} {b} {c} {d} {i} h s p =
     record { low = omega arith; is = putting-piece _ _ split (s .is) p }
 
 pub lines-last : {ns : List ℕ} {b c : Buffer} {i : ℕ} → sheet-lines (length ns) ≤ i → Lines ns b c i → c .bytes ≡ put b (sheet ns) .bytes
-unfolding range
+unfolding range flatMap
 lines-last {ns} {b} {c} {i} h s =
     let e : sheet-lines (length ns) - i ≡ 0 = omega arith in ap (λ (a : Buffer). a .bytes) (putting-end (s .is) (rw e) .is)
 

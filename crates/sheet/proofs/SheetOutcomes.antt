@@ -1,5 +1,6 @@
 -- The call for the site sheet meets its contract, on plain values: refused by 1 to 3, refused by 12, the sheet in front of the page.
 use mathlib.Core.Path.{_≡_, refl, sym, ap, _∙_}
+use mathlib.Core.Bool.{true}
 use mathlib.Core.List.{List, _++_}
 use Prim.Native.Nat.{ℕ, _+_, _*_, _≤_, _<_}
 use native.Mathlib.Omega.{arith}
@@ -60,7 +61,8 @@ module _ (n : ℕ) (t : Tables) (w : List ℕ) where
       sheet-accepted x room short e =
           let long : length (sheet (t .numbers)) ≡ size = length-sheet (t .numbers) sheet-cells-fit ∙ ap sheet-length numbers-long ∙ sym sized in
           let zero-is : refusal ≡ 0 = sheet-yes n (lengths-of t) (length w) (sound n t) passed (omega arith) in
+          let all : 0 + length (sheet (t .numbers)) ≡ length (sheet (t .numbers)) = omega arith in
           let front : x ≡ overwrite (sheet (t .numbers)) w =
           e ∙ ap (λ (b : Buffer). b .bytes) (put-fits w 0 (sheet (t .numbers)) (omega arith) short)
-          ∙ ap (λ (k : ℕ). sheet (t .numbers) ++ drop k w) (omega arith) in
+          ∙ ap (λ (k : ℕ). sheet (t .numbers) ++ drop k w) all in
           listing-answered refusal _ _ w size x zero-is sized front
