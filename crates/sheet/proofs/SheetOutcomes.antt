@@ -32,9 +32,9 @@ module _ (n : ℕ) (t : Tables) (w : List ℕ) where
   sheet-refused q e h =
       listing-refused refusal _ _ w q (e ∙ sym (site-stops n (lengths-of t) true (sound n t) (ask 12 (holds-sheet n (length w)) 0) (λ z. h (e ∙ z)))) h
 
-  module _ (good : questions ≡ 0) where
+  module _ (q : ℕ) (asked : q ≡ questions) (none : q ≡ 0) where
     passed : Site-good n (lengths-of t) true (sound n t)
-    passed = site-zero n (lengths-of t) true (sound n t) 0 good .0
+    passed = site-zero n (lengths-of t) true (sound n t) 0 (sym asked ∙ none) .0
 
     pub sheet-small : n ≤ max-radios
     sheet-small = passed .lent .most

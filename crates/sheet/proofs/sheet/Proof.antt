@@ -1,5 +1,5 @@
 -- `sheet` meets its contract: a refusal touches nothing; accepted, the numbers have at most two digits, and the lines are put.
-use mathlib.Core.Path.{sym, ap, _∙_}
+use mathlib.Core.Path.{ap}
 use Prim.Native.Nat.{ℕ, _*_}
 use native.Mathlib.Omega.{arith}
 use borrow.Author.Needs.{needs}
@@ -19,31 +19,28 @@ lines-requires : tie.Need-lines-requires
 lines-requires c κs =
     let asked = c .before in
     let s = asked .before .before .before .before .before .args in
-    let good = sym (asked .refusal .ensures) ∙ c .if1 .left in
-    omega (arith, sheet-small (s .n) (tables (s .links .now) (s .numbers .now) (s .order .now)) (s .page .now) good)
+    omega (arith, sheet-small (s .n) (tables (s .links .now) (s .numbers .now) (s .order .now)) (s .page .now) _ (asked .refusal .ensures) (c .if1 .left))
 
 mul-size : tie.Need-mul-size
 unfolding sheet-lines
 mul-size c =
     let asked = c .before .before in
     let s = asked .before .before .before .before .before .args in
-    let good = sym (asked .refusal .ensures) ∙ c .before .if1 .left in
-    omega (arith, c .lines .ensures, sheet-small (s .n) (tables (s .links .now) (s .numbers .now) (s .order .now)) (s .page .now) good)
+    omega (arith, c .lines .ensures, sheet-small (s .n) (tables (s .links .now) (s .numbers .now) (s .order .now)) (s .page .now) _ (asked .refusal .ensures) (c .before .if1 .left))
 
 returns-2 : tie.Need-returns-2
 returns-2 c =
-    let asked = c .before .before .before in
+    let lines = c .before in
+    let asked = lines .before .before in
     let s = asked .before .before .before .before .before .args in
-    let good = sym (asked .refusal .ensures) ∙ c .before .before .if1 .left in
-    sheet-no-room (s .n) (tables (s .links .now) (s .numbers .now) (s .order .now)) (s .page .now) good _
-    (ap (λ (k : ℕ). line-bytes * k) (c .before .lines .ensures)) (c .if2 .taken)
+    sheet-no-room (s .n) (tables (s .links .now) (s .numbers .now) (s .order .now)) (s .page .now) _ (asked .refusal .ensures)
+    (lines .before .if1 .left) _ (ap (λ (k : ℕ). line-bytes * k) (lines .lines .ensures)) (c .if2 .taken)
 
 put-sheet-requires : tie.Need-put-sheet-requires
 put-sheet-requires c κs =
     let asked = c .before .before .before .before in
     let s = asked .before .before .before .before .before .args in
-    let good = sym (asked .refusal .ensures) ∙ c .before .before .before .if1 .left in
-    sheet-cells-fit (s .n) (tables (s .links .now) (s .numbers .now) (s .order .now)) (s .page .now) good
+    sheet-cells-fit (s .n) (tables (s .links .now) (s .numbers .now) (s .order .now)) (s .page .now) _ (asked .refusal .ensures) (c .before .before .before .if1 .left)
 
 cast-size : tie.Need-cast-t15
 unfolding sheet-lines
@@ -51,17 +48,17 @@ cast-size c =
     let lines = c .before .before .before .before .before in
     let asked = lines .before .before in
     let s = asked .before .before .before .before .before .args in
-    let good = sym (asked .refusal .ensures) ∙ lines .before .if1 .left in
-    omega (arith, lines .lines .ensures, sheet-small (s .n) (tables (s .links .now) (s .numbers .now) (s .order .now)) (s .page .now) good)
+    omega (arith, lines .lines .ensures, sheet-small (s .n) (tables (s .links .now) (s .numbers .now) (s .order .now)) (s .page .now) _ (asked .refusal .ensures) (lines .before .if1 .left))
 
 returns-3 : tie.Need-returns-3
 returns-3 c =
     let lines = c .before .before .before .before .before in
     let asked = lines .before .before in
-    let s = asked .before .before .before .before .before .args in
-    let good = sym (asked .refusal .ensures) ∙ lines .before .if1 .left in
-    sheet-accepted (s .n) (tables (s .links .now) (s .numbers .now) (s .order .now)) (s .page .now) good _
-    (ap (λ (k : ℕ). line-bytes * k) (lines .lines .ensures)) _ (c .before .before .before .before .if2 .left) (omega (arith, asked .before .before .before .before .before .good .1 .1 .1 .1 .0)) (c .before .before .put-sheet .ensures)
+    let start = asked .before .before .before .before .before in
+    let s = start .args in
+    sheet-accepted (s .n) (tables (s .links .now) (s .numbers .now) (s .order .now)) (s .page .now) _ (asked .refusal .ensures)
+    (lines .before .if1 .left) _ (ap (λ (k : ℕ). line-bytes * k) (lines .lines .ensures)) _ (c .before .before .before .before .if2 .left)
+    (omega (arith, start .good .1 .1 .1 .1 .0)) (c .before .before .put-sheet .ensures)
 
 pub sheet-spec : {M : Type 1} → statement M
 sheet-spec =
