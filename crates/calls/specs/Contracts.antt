@@ -7,4 +7,5 @@ pub mod Radios
 pub mod Wake
 pub mod Cores
 pub mod Trees
+pub mod Staircase
 pub mod Images
