@@ -7,8 +7,8 @@
 --     Refusals         a call whose number is not 0 has zeros beside it, and every lent table keeps its content
 --     Outcomes         for every input a contract has exactly one outcome: the one worked out in calls/specs/Outcomes.antt
 --     Tables-left      what is lent by shared reference is left as it was
---   Property-2       numbers are core numbers by the largest group and orders are k-orders; connected cores, backbone, shell tree and
---                    images follow their definitions; older tables and images are taken as they were
+--   Property-2       numbers are core numbers by the largest group and orders are k-orders; connected cores, backbone, shell tree,
+--                    staircase tree and images follow their definitions; older tables and images are taken as they were
 --   Property-3       demand 3, undivided, over the contracts that the exported calls meet
 use mathlib.Core.Path.{_≡_, refl}
 use mathlib.Core.Logic.{_↔_, _⊎_}
@@ -34,10 +34,11 @@ use Rattle.calls.specs.Contracts.Radios.{Number-contract, Neighbours-contract, 
 use Rattle.calls.specs.Contracts.Wake.{Later-refused, Later-contract}
 use Rattle.calls.specs.Contracts.Cores.{Core-contract, Backbone-contract}
 use Rattle.calls.specs.Contracts.Trees.{Tree-refused, Tree-contract}
+use Rattle.calls.specs.Contracts.Staircase.{Staircase-contract}
 use Rattle.calls.specs.Outcomes.{clear-outcome, read-outcome, link-outcome, check-outcome, number-outcome, neighbours-outcome, linked-outcome, first-outcome}
-use Rattle.calls.specs.Outcomes.{core-outcome, backbone-outcome, tree-outcome, write-outcome, block-outcome, later-outcome}
+use Rattle.calls.specs.Outcomes.{core-outcome, backbone-outcome, tree-outcome, write-outcome, block-outcome, later-outcome, staircase-outcome}
 use Rattle.calls.specs.Results.{Site-right, Link-right, Later-right, Core-listed, Backbone-listed, Tree-listed, Written-right, Read-right, Block-part, Block-end}
-use Rattle.calls.specs.Results.{Image-answered}
+use Rattle.calls.specs.Results.{Image-answered, Staircase-listed}
 use Rattle.calls.specs.Older.{Older}
 use Rattle.calls.specs.Book.{Call, clearing, reading, linking, Answer, plain, book-after}
 use Rattle.calls.specs.Runs.{answer-of, Does, Event, event, Run, givens, called}
@@ -49,17 +50,19 @@ use Rattle.calls.specs.declared.Block.{Block}
 use Rattle.summerbugle.specs.Functions.{Promised, Returns, Gives, Leaves-lent, number-0, number-1, number-2, tables-1, tables-2, tables-3, lent-0, lent-4}
 use Rattle.summerbugle.specs.Functions.{lent-6}
 use Rattle.summerbugle.proofs.Calls.{sb-clear, sb-link-up, sb-link-down, sb-image-read, sb-check, sb-number, sb-neighbours, sb-linked, sb-first, sb-core}
-use Rattle.summerbugle.proofs.Calls.{sb-later-of, sb-backbone, sb-tree, sb-image-write, sb-image-block, reader-open, reader-step, reader-moved}
+use Rattle.summerbugle.proofs.Calls.{sb-later-of, sb-backbone, sb-tree, sb-staircase, sb-image-write, sb-image-block, reader-open, reader-step, reader-moved}
 -- for the proof
 use Rattle.mesh.proofs.Cores.Peeling.{number-core, number-unique}
 use Rattle.mesh.proofs.Trees.Listed.{backbone-one-part}
 use Rattle.mesh.proofs.Images.OtherSize.{other-size-iff}
 use Rattle.calls.proofs.Outcomes.{exactly, clear-decided, link-decided, read-decided, check-decided, number-decided, neighbours-decided, block-inhabited}
-use Rattle.calls.proofs.Outcomes.{linked-decided, first-decided, core-decided, backbone-decided, tree-decided, write-decided, block-decided, later-decided}
+use Rattle.calls.proofs.Outcomes.{linked-decided, first-decided, core-decided, backbone-decided, tree-decided, write-decided, block-decided, later-decided, staircase-decided}
 use Rattle.calls.proofs.Outcomes.{clear-inhabited, link-inhabited, read-inhabited, check-inhabited, number-inhabited, neighbours-inhabited}
 use Rattle.calls.proofs.Outcomes.{linked-inhabited, first-inhabited, core-inhabited, backbone-inhabited, tree-inhabited, write-inhabited, later-inhabited}
+use Rattle.calls.proofs.Outcomes.{staircase-inhabited}
 use Rattle.calls.proofs.Refusals.{clear-keeps, link-keeps, read-keeps, check-keeps, number-keeps, neighbours-keeps, linked-keeps, first-keeps}
-use Rattle.calls.proofs.Refusals.{core-keeps, backbone-keeps, tree-keeps, write-keeps, block-keeps, later-keeps}
+use Rattle.calls.proofs.Refusals.{core-keeps, backbone-keeps, tree-keeps, write-keeps, block-keeps, later-keeps, staircase-keeps}
+use Rattle.forests.proofs.Tree.{staircase-right}
 use Rattle.calls.proofs.Accepted.{check-right, link-right, number-right, later-right, core-right, backbone-right, tree-right-listed, write-right}
 use Rattle.calls.proofs.Accepted.{read-what-was-written, read-right, block-right}
 use Rattle.calls.proofs.ImageNumbers.{eleven-iff, read-eleven}
@@ -84,6 +87,7 @@ use Rattle.summerbugle.proofs.sb_later_of.Met as later-of-proof
 use Rattle.summerbugle.proofs.sb_core.Met as core-proof
 use Rattle.summerbugle.proofs.sb_backbone.Met as backbone-proof
 use Rattle.summerbugle.proofs.sb_tree.Met as tree-proof
+use Rattle.summerbugle.proofs.sb_staircase.Met as staircase-proof
 use Rattle.summerbugle.proofs.sb_image_write.Met as image-write-proof
 use Rattle.summerbugle.proofs.sb_image_block.Met as image-block-proof
 
@@ -103,6 +107,7 @@ pub record Calls-promised (M : Type 1) : Type 2 where
   pub core : Promised sb-core M
   pub backbone : Promised sb-backbone M
   pub tree : Promised sb-tree M
+  pub staircase : Promised sb-staircase M
   pub image-write : Promised sb-image-write M
   pub image-block : Promised sb-image-block M
   -- the block reader in document 01's own form: the part given back lies in the image, and is its 504 bytes of payload
@@ -126,6 +131,7 @@ pub record Calls-return : Type 2 where
   pub core : Returns sb-core
   pub backbone : Returns sb-backbone
   pub tree : Returns sb-tree
+  pub staircase : Returns sb-staircase
   pub image-write : Returns sb-image-write
   pub image-block : Returns sb-image-block
   pub reader-open : Returns reader-open
@@ -155,6 +161,9 @@ pub record Refusals : Type 0 where
   pub tree :
       (n : ℕ) (t : Tables) (m : List Node) (w : List ℕ) (r : Value) (p : List Node) (x : List ℕ) → Tree-contract n t m w r p x →
       (r .number ≡ 0 → ⊥) → Tree-refused (r .number) m w r p x
+  pub staircase :
+      (n : ℕ) (t : Tables) (w : List ℕ) (r : Value) (x : List ℕ) → Staircase-contract n t w r x → (r .number ≡ 0 → ⊥) →
+      Listing-refused (r .number) w r x
   pub image-write :
       (n : ℕ) (t : Tables) (w : List ℕ) (r : Value) (x : List ℕ) → Write-contract n t w r x → (r .number ≡ 0 → ⊥) →
       Listing-refused (r .number) w r x
@@ -179,6 +188,8 @@ pub record Outcomes : Type 0 where
   pub tree :
       (n : ℕ) (t : Tables) (m : List Node) (w : List ℕ) (o : Value × List Node × List ℕ) →
       Tree-contract n t m w (o .0) (o .1) (o .2) ↔ (o ≡ tree-outcome n t m w)
+  pub staircase :
+      (n : ℕ) (t : Tables) (w : List ℕ) (o : Value × List ℕ) → Staircase-contract n t w (o .0) (o .1) ↔ (o ≡ staircase-outcome n t w)
   pub image-write : (n : ℕ) (t : Tables) (w : List ℕ) (o : Value × List ℕ) → Write-contract n t w (o .0) (o .1) ↔ (o ≡ write-outcome n t w)
   pub image-block : (bs : List ℕ) (i : ℕ) (o : Block) → Block-contract bs i o ↔ (o ≡ block-outcome bs i)
 
@@ -197,6 +208,7 @@ pub record Tables-left : Type 0 where
   pub core : Leaves-lent sb-core (λ κs. tables-3) (λ κs. tables-3)
   pub backbone : Leaves-lent sb-backbone (λ κs. tables-1) (λ κs. tables-1)
   pub tree : Leaves-lent sb-tree (λ κs. tables-1) (λ κs. tables-1)
+  pub staircase : Leaves-lent sb-staircase (λ κs. tables-1) (λ κs. tables-1)
   pub image-write : Leaves-lent sb-image-write (λ κs. tables-1) (λ κs. tables-1)
   -- and images
   pub image-read : Leaves-lent sb-image-read (λ κs. lent-4) (λ κs. lent-4)
@@ -239,6 +251,11 @@ pub record Property-2 : Type 0 where
   pub tree :
       (n : ℕ) (t : Tables) (m : List Node) (w : List ℕ) (r : Value) (p : List Node) (x : List ℕ) → Tree-contract n t m w r p x →
       r .number ≡ 0 → Tree-listed (graph-in n (t .links)) (r .value) m p w x
+  -- the kept links are listed: a spanning forest, no other weighs more; the way over them between two joined radios has the greatest
+  -- least weight; those of weight k or more join what shares a connected core at level k
+  pub staircase :
+      (n : ℕ) (t : Tables) (w : List ℕ) (r : Value) (x : List ℕ) → Staircase-contract n t w r x → r .number ≡ 0 →
+      Staircase-listed (graph-in n (t .links)) (r .value) w x
   -- what is written is the image of sound tables, and reading it gives the same tables. That their links are bytes is all that is asked:
   -- a table of 8-bit entries is, but a list of numbers that a contract speaks of need not be
   pub image-written :
@@ -316,6 +333,7 @@ calls-promised = record {
   core = core-proof.met;
   backbone = backbone-proof.met;
   tree = tree-proof.met;
+  staircase = staircase-proof.met;
   image-write = image-write-proof.met;
   image-block = image-block-proof.met;
   reader-open = reader-open-proof.met;
@@ -338,6 +356,7 @@ calls-return = record {
   core = returns sb-core (calls-promised .core);
   backbone = returns sb-backbone (calls-promised .backbone);
   tree = returns sb-tree (calls-promised .tree);
+  staircase = returns sb-staircase (calls-promised .staircase);
   image-write = returns sb-image-write (calls-promised .image-write);
   image-block = returns sb-image-block (calls-promised .image-block);
   reader-open = returns reader-open (calls-promised .reader-open);
@@ -359,6 +378,7 @@ refusals = record {
   core = core-keeps;
   backbone = backbone-keeps;
   tree = tree-keeps;
+  staircase = staircase-keeps;
   image-write = write-keeps;
   image-block = block-keeps;
 }
@@ -377,6 +397,7 @@ outcomes = record {
   core = λ n v k t w. exactly _ _ (core-inhabited n v k t w) (core-decided n v k t w);
   backbone = λ n t w. exactly _ _ (backbone-inhabited n t w) (backbone-decided n t w);
   tree = λ n t m w. exactly _ _ (tree-inhabited n t m w) (tree-decided n t m w);
+  staircase = λ n t w. exactly _ _ (staircase-inhabited n t w) (staircase-decided n t w);
   image-write = λ n t w. exactly _ _ (write-inhabited n t w) (write-decided n t w);
   image-block = λ bs i. exactly _ _ (block-inhabited bs i) (block-decided bs i);
 }
@@ -392,6 +413,7 @@ tables-left = record {
   core = λ κs a last. refl;
   backbone = λ κs a last. refl;
   tree = λ κs a last. refl;
+  staircase = λ κs a last. refl;
   image-write = λ κs a last. refl;
   image-read = λ κs a last. refl;
   image-block = λ κs a last. refl;
@@ -408,6 +430,7 @@ property-2 = record {
   backbone = backbone-right;
   backbone-one-part = backbone-one-part;
   tree = tree-right-listed;
+  staircase = staircase-right;
   image-written = write-right;
   image-read-back = read-what-was-written;
   image-read = read-right;

@@ -33,6 +33,8 @@ const IMAGE_BLOCK: u32 = 13;
 
 const LATER_OF: u32 = 14;
 
+const STAIRCASE: u32 = 15;
+
 // A question about a site, which writes no table.
 fn ask<'a>(call: Call, links: &'a [u8], numbers: &'a [u8], order: &'a [u16]) {
     let n = call.n;
@@ -92,6 +94,21 @@ fn list<'a>(
     }
 }
 
+// The staircase tree, in `room` entries of the fields.
+fn stair<'a>(
+    call: Call,
+    links: &'a [u8],
+    numbers: &'a [u8],
+    order: &'a [u16],
+    fields: &mut [u16],
+) {
+    if call.kind == STAIRCASE {
+        let k = tables::fill::least(call.room, fields.len());
+        let kept = summerbugle::sb_staircase(call.n, links, numbers, order, &mut fields[..k]);
+        say::value(b"staircase", kept);
+    }
+}
+
 // A call that takes a link up or down.
 fn link(call: Call, links: &mut [u8], numbers: &mut [u8], order: &mut [u16], answer: &mut [u16]) {
     if call.kind == LINK_UP {
@@ -143,6 +160,7 @@ fn look<'a>(
 ) {
     ask(call, links, numbers, order);
     list(call, links, numbers, order, answer, fields);
+    stair(call, links, numbers, order, fields);
     store(call, links, numbers, order, buffer);
 }
 
