@@ -156,8 +156,9 @@ module _ (ns : List ℕ) (ls : List Link) (top : ℕ) (s : Growing) where
         low = omega (arith, h .low);
         few = omega (arith, h .few);
         rest =
-            rw n (sym (ap (λ (zs : List Link). grown-all zs after) (levels-skip w ns ls)))
-            ∙ rw e (sym (grown-all-append (of-weight (table-weight ns) (suc w) ls) (levels-falling (table-weight ns) w ls) now)) ∙ h .rest;
+            ap (λ (zs : List Link). grown-all zs after) (ap (λ (k : ℕ). levels-falling (table-weight ns) k ls) n ∙ sym (levels-skip w ns ls))
+            ∙ ap (grown-all (levels-falling (table-weight ns) w ls)) e
+            ∙ sym (grown-all-append (of-weight (table-weight ns) (suc w) ls) (levels-falling (table-weight ns) w ls) now) ∙ h .rest;
       }
 
   pub levels-taking-end : (w : ℕ) (now : Growing) → w ≤ 0 → Levels-taking ns ls top s w now → now ≡ grown-all (levels-falling (table-weight ns) top ls) s

@@ -8,7 +8,9 @@ use mathlib.Core.List.{List, [], _∷_}
 use Prim.Native.Nat.{ℕ, zero, suc, _+_, _-_, _≤_, _<_, max}
 use native.Mathlib.Omega.{arith}
 use lib.Dec.{ltb, eqb}
-use lib.ListN.{getD}
+use native.Mathlib.Numerals.{add-one}
+use lib.ListN.{length, getD, drop, drop-of-length-le}
+use lib.Seq.{drop-cons}
 use borrow.Author.Tests.{ltb-true, ltb-false, lt-ltb, le-ltb, ne-eqb}
 use Rattle.mesh.specs.Graph.{Link}
 use Rattle.mesh.specs.Connected.{greatest}
@@ -51,6 +53,22 @@ number-below w (x ∷ xs) (suc v) = go (number-below w xs v)
     go : (getD xs v 0 ≤ greatest-below w xs) ⊎ (w ≤ getD xs v 0) → (getD xs v 0 ≤ max (below w x) (greatest-below w xs)) ⊎ (w ≤ getD xs v 0)
     go (inl h) = inl (omega arith)
     go (inr h) = inr h
+
+-- the greatest so far, and what is left of the numbers
+abbrev pub Below-so-far : (w : ℕ) → (numbers : List ℕ) → (top v : ℕ) → Type 0
+Below-so-far w ns top v = max top (greatest-below w (drop v ns)) ≡ greatest-below w ns
+
+pub below-turn : (w : ℕ) (ns : List ℕ) (top v x next : ℕ) → v < length ns → x ≡ below w (getD ns v 0) → next ≡ max top x
+    → Below-so-far w ns top v → Below-so-far w ns next (v + 1)
+unfolding greatest
+below-turn w ns top v x next l e n h =
+    let f : drop v ns ≡ getD ns v 0 ∷ drop (v + 1) ns = drop-cons ns v 0 l ∙ rw (add-one v) in
+    let g : greatest-below w (drop v ns) ≡ max (below w (getD ns v 0)) (greatest-below w (drop (v + 1) ns)) = ap (greatest-below w) f in
+    omega (arith, g, h)
+
+pub below-end : (w : ℕ) (ns : List ℕ) (top v : ℕ) → length ns ≤ v → Below-so-far w ns top v → top ≡ greatest-below w ns
+unfolding greatest
+below-end w ns top v l h = omega (arith, ap (greatest-below w) (drop-of-length-le ns {i = v} l), h)
 
 -- ---- levels in between
 

@@ -112,7 +112,9 @@ fn take_radio<'a>(
     }
     let mut near = [0u16; Site::NEIGHBOURS as usize];
     let span = link_list::list_above(links, a as u32, &mut near);
-    take_row(numbers, level, a, &near[span.start..span.end], labels, table, count)
+    let start = span.start;
+    let end = span.end;
+    take_row(numbers, level, a, &near[start..end], labels, table, count)
 }
 
 // One level: each radio in turn.
