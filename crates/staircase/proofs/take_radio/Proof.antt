@@ -1,72 +1,44 @@
+-- `take_radio` meets its contract: what is listed are the neighbours above the radio, all of them, since the row fits the list.
+use mathlib.Core.Path.{_≡_, ap, _∙_}
+use mathlib.Core.List.{List}
+use Prim.Native.Nat.{ℕ}
+use native.Mathlib.Omega.{arith}
+use lib.ListN.{length}
 use borrow.Author.Needs.{needs}
+use Rattle.mesh.specs.Limits.{max-neighbours}
+use Rattle.mesh.specs.Staircase.{of-weight}
+use Rattle.link_list.specs.Links.{neighbours-above, links-to, links-above}
+use Rattle.link_list.proofs.AboveLaws.{above-few, span-is}
+use Rattle.staircase.specs.Growing.{growing, grown-all, table-weight}
+use Rattle.staircase.proofs.LoopLaws.{level-low}
 use Rattle.staircase.proofs.take_radio.Statement.{statement}
 use Rattle.staircase.proofs.take_radio.Tie as tie
-use Rattle.staircase.proofs.take_radio.Reads as reads
-use Rattle.staircase.proofs.take_radio.Lts as lts
-use Rattle.link_list.proofs.list_above.Reads as list-above-reads
-use Rattle.staircase.proofs.take_row.Reads as take-row-reads
 
--- src/lib.rt:110:8
-shared-slice-read-if1 : tie.Need-shared-slice-read-if1
-shared-slice-read-if1 c = search needs
-
--- src/lib.rt:111:9
 returns : tie.Need-returns
-returns c = ?
+unfolding links-above
+returns c =
+    let call = c .before .before .before .before .before .before .args in
+    let s = growing (call .labels .now) (call .table .now) (call .count) in
+    (omega arith, level-low (call .numbers .now) (call .level) (call .a) (neighbours-above (call .links .now) (call .a)) s (c .if1 .taken))
 
--- src/lib.rt:114:55
-slice-aggregate-list-above : tie.Need-slice-aggregate-list-above
-slice-aggregate-list-above c = search needs
-
--- src/lib.rt:114:9
-list-above-requires : tie.Need-list-above-requires
-list-above-requires c κs = search needs
-
--- src/lib.rt:117:33
-mul-take-row : tie.Need-mul-take-row
-mul-take-row c = search needs
-
--- src/lib.rt:117:33
-sub-take-row : tie.Need-sub-take-row
-sub-take-row c = search needs
-
--- src/lib.rt:117:33
-part-take-row-start : tie.Need-part-take-row-start
-part-take-row-start c = search needs
-
--- src/lib.rt:117:33
-part-take-row-end : tie.Need-part-take-row-end
-part-take-row-end c = search needs
-
--- src/lib.rt:117:5
-take-row-requires : tie.Need-take-row-requires
-take-row-requires c κs = search needs
-
--- src/lib.rt:94:1
-same-length : tie.Need-same-length
-same-length c = search needs
-
--- src/lib.rt:94:1
-same-length-2 : tie.Need-same-length-2
-same-length-2 c = search needs
-
--- src/lib.rt:94:1
 returns-2 : tie.Need-returns-2
-returns-2 c = ?
+unfolding links-above
+returns-2 c =
+    let taken = c .before .before .before .before in
+    let listed = taken .before .before .before .before .before .before in
+    let start = listed .before .before .before .before .before .before .before .before in
+    let call = start .args in
+    let s = growing (call .labels .now) (call .table .now) (call .count) in
+    let few = start .pre .3 .few (call .a) (start .pre .0) in
+    let long : length (listed .list-above .last .1 .1 .0) ≡ max-neighbours = listed .list-above .kept .1 .1 .0 in
+    let is = span-is (call .links .now) (call .a) _ _ _ (listed .list-above .ensures) (omega (arith, few, long)) in (
+      omega (arith, taken .take-row .ensures .0, ap length is, above-few (call .links .now) (call .a), few),
+      taken .take-row .ensures .1
+          ∙ ap (λ (bs : List ℕ). grown-all (of-weight (table-weight (call .numbers .now)) (call .level) (links-to (call .a) bs)) s) is,
+    )
 
 pub take-radio-spec : {M : Type 1} → statement M
 take-radio-spec =
-    tie.close
-    (tie.spec
-    shared-slice-read-if1
-    returns
-    slice-aggregate-list-above
-    list-above-requires
-    mul-take-row
-    sub-take-row
-    part-take-row-start
-    part-take-row-end
-    take-row-requires
-    same-length
-    same-length-2
-    returns-2)
+    tie.close (
+    tie.spec (λ c. search needs) returns (λ c. search needs) (λ c κs. search needs) (λ c. search needs) (λ c. search needs) (λ c. search needs)
+    (λ c. search needs) (λ c κs. search needs) (λ c. search needs) (λ c. search needs) returns-2)
