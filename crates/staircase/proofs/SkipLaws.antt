@@ -39,6 +39,10 @@ below-le w x = go (bool-cases (ltb x (suc w)))
 pub greatest-below-less : (w : ℕ) (ns : List ℕ) → greatest-below (suc w) ns ≤ w
 greatest-below-less w ns = greatest-map-le (below (suc w)) ns w (λ x i. below-le w x)
 
+pub greatest-below-lt : (w : ℕ) (ns : List ℕ) → 0 < w → greatest-below w ns < w
+greatest-below-lt zero ns h = absurd (omega arith)
+greatest-below-lt (suc w) ns h = omega (arith, greatest-below-less w ns)
+
 -- a number is at most that, or not below the level
 number-below : (w : ℕ) (ns : List ℕ) (v : ℕ) → (getD ns v 0 ≤ greatest-below w ns) ⊎ (w ≤ getD ns v 0)
 unfolding greatest
