@@ -37,7 +37,6 @@ getD-in [] v d e l = absurd (omega arith)
 getD-in (x ∷ xs) zero d e l = refl
 getD-in (x ∷ xs) (suc v) d e l = getD-in xs v d e (omega arith)
 
-
 link-entries-end : (ks : List Link) (l : Link) → link-entries (ks ++ (l ∷ [])) ≡ link-entries ks ++ (l .low ∷ l .high ∷ [])
 unfolding link-entries
 link-entries-end [] l = refl

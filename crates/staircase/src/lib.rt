@@ -17,7 +17,6 @@ use calls::Value;
 use mesh::Site;
 
 mod labels;
-
 mod levels;
 
 // Takes the link a-b: where the labels of its ends differ it comes behind the first `count` links of the table, and both parts get
@@ -75,7 +74,8 @@ fn take_row<'a>(
     table: &mut [u16],
     count: u32,
 ) -> u32
-    requires { ⌜ (a < length (now numbers)) × (length (now labels) ≡ length (now numbers)) × (1 ≤ level) × (count + length (now ends) ≤ most-taken) ⌝ }
+    requires { ⌜ (a < length (now numbers)) × (length (now labels) ≡ length (now numbers)) × (1 ≤ level) ×
+        (count + length (now ends) ≤ most-taken) ⌝ }
     ensures few { λ r. ⌜ r ≤ count + length (now (ends .entry)) ⌝ }
     ensures taken { λ r. ⌜ growing (now (labels .exit)) (now (table .exit)) r
         ≡ grown-all (of-weight (table-weight (now (numbers .entry))) level (links-to a (now (ends .entry))))

@@ -95,13 +95,7 @@ fn list<'a>(
 }
 
 // The staircase tree, in `room` entries of the fields.
-fn stair<'a>(
-    call: Call,
-    links: &'a [u8],
-    numbers: &'a [u8],
-    order: &'a [u16],
-    fields: &mut [u16],
-) {
+fn stair<'a>(call: Call, links: &'a [u8], numbers: &'a [u8], order: &'a [u16], fields: &mut [u16]) {
     if call.kind == STAIRCASE {
         let k = tables::fill::least(call.room, fields.len());
         let kept = summerbugle::sb_staircase(call.n, links, numbers, order, &mut fields[..k]);
