@@ -18,11 +18,13 @@ loop-again : tie.Need-loop-again Inv-loop μ-loop
 loop-again c =
     let at-loop = c .before .before .before .before in
     let call = at-loop .before .before .args in
-    below-turn (call .level) (call .numbers .now) (at-loop .loop .top) (at-loop .loop .v) _ _ (c .before .before .before .loop-test .taken) (c .before .number-below .ensures) (c .larger .ensures) (at-loop .loop .inv)
+    below-turn (call .level) (call .numbers .now) (at-loop .loop .top) (at-loop .loop .v) _ _ (c .before .before .before .loop-test .taken)
+    (c .before .number-below .ensures) (c .larger .ensures) (at-loop .loop .inv)
 
 returns : tie.Need-returns Inv-loop μ-loop
 returns c =
-    let call = c .before .before .before .args in below-end (call .level) (call .numbers .now) (c .before .loop .top) (c .before .loop .v) (c .loop-test .left) (c .before .loop .inv)
+    let call = c .before .before .before .args in
+    below-end (call .level) (call .numbers .now) (c .before .loop .top) (c .before .loop .v) (c .loop-test .left) (c .before .loop .inv)
 
 pub level-below-spec : {M : Type 1} → statement M
 level-below-spec =
