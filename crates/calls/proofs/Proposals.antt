@@ -16,7 +16,7 @@ use lib.Dec.{eqb}
 use lib.IntN.{ℤ, pos, negsuc}
 use lib.ListN.{length, take}
 use borrow.Author.Tests.{eqb-true, eq-eqb}
-use Rattle.mesh.specs.Limits.{max-neighbours}
+use Rattle.mesh.specs.Limits.{max-radios, max-neighbours}
 use Rattle.lists.specs.Lists.{same}
 use Rattle.mesh.specs.Graph.{Graph}
 use Rattle.mesh.specs.Levels.{changed, step-of}
@@ -31,7 +31,7 @@ use Rattle.calls.specs.Switches.{switched}
 use Rattle.calls.specs.Contracts.Links.{Link-accepted, Link-refused, Link-contract}
 use Rattle.calls.specs.Contracts.Proposals.{Ask-accepted, Ask-refused, Ask-contract, Commit-accepted, Commit-refused, Commit-contract}
 use Rattle.calls.specs.declared.Reply.{Reply}
-use Rattle.calls.proofs.QuestionLaws.{ask-yes, ask-no, ask-zero, true-answer-length}
+use Rattle.calls.proofs.QuestionLaws.{ask-yes, ask-no, ask-zero, ask-later, size-good-true, true-answer-length}
 use Rattle.calls.proofs.ChainLaws.{site-zero, site-yes, ends-then-zero, ends-then-yes, ends-then-no}
 use Rattle.calls.proofs.ContractLaws.{by-cases, by-accepted, by-refused}
 use Rattle.calls.proofs.RecordLaws.{reply-ext}
@@ -39,12 +39,12 @@ use Rattle.calls.proofs.Outcomes.{link-decided}
 
 -- ---- question 16
 
-same-step-refl : (z : ℤ) → same-step z z ≡ true
+pub same-step-refl : (z : ℤ) → same-step z z ≡ true
 unfolding same-step
 same-step-refl (pos x) = eq-eqb x x refl
 same-step-refl (negsuc x) = eq-eqb x x refl
 
-same-step-eq : (x y : ℤ) → same-step x y ≡ true → x ≡ y
+pub same-step-eq : (x y : ℤ) → same-step x y ≡ true → x ≡ y
 unfolding same-step
 same-step-eq (pos x) (pos y) h = ap pos (eqb-true x y h)
 same-step-eq (pos x) (negsuc y) h = never false h refl
@@ -105,9 +105,23 @@ module _ (up : Bool) (n a b : ℕ) (t : Tables) where
   unfolding link-refusal
   link-asking w e = rw e
 
+  -- an answer table for as many radios as a site may have is long enough for any n that question 1 takes
+  link-any : (w : ℕ) → max-radios ≤ w → link-refusal up n a b (lengths-of t) w (sound n t) g ≡ asking
+  unfolding link-refusal site-refusal lent-refusal
+  link-any w l =
+      ask-later 1 (size-good n) _ _ (λ p. let e : answer-length n w ≡ true = true-answer-length n w (omega (arith, size-good-true n p .1)) in rw e)
+
   link-long : (w : ℕ) → link-refusal up n a b (lengths-of t) w (sound n t) g ≡ 0 → answer-length n w ≡ true
   unfolding link-refusal
   link-long w e = site-zero n (lengths-of t) (answer-length n w) (sound n t) (ends-refusal max-neighbours up n a b g) e .0 .lent .further
+
+  -- the number of a committing by that of a link call with a long enough answer table
+  pub commit-numbered :
+      (w : ℕ) → max-radios ≤ w → (z : ℤ) (xs : List ℕ) →
+      let R = link-refusal up n a b (lengths-of t) w (sound n t) g in
+      ((R ≡ 0 → ⊥) → committing z xs ≡ R) × (R ≡ 0 → committing z xs ≡ ask 16 (is-proposal up a b z xs g) 0)
+  commit-numbered w l z xs =
+      let e = link-any w l in (λ h. commit-stops z xs (λ y. h (e ∙ y)) ∙ sym e, λ y. commit-asked z xs (sym e ∙ y))
 
   committed-cases :
       (z : ℤ) (xs : List ℕ) (r : Reply) (v : Tables) → Commit-contract up n a b z xs t r v →
