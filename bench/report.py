@@ -30,7 +30,7 @@ class Run:
 
     def __init__(self, path):
         self.machine = ""
-        self.times, self.stack = defaultdict(dict), {}
+        self.times, self.stack, self.steps = defaultdict(dict), {}, {}
         self.change, self.igraph, self.networkx = {}, {}, {}
         for line in Path(path).read_text().splitlines():
             word, rest = line.split(" ", 1)
@@ -46,6 +46,10 @@ class Run:
     def take_stack(self, rest):
         call, count = rest.split()
         self.stack[call] = int(count)
+
+    def take_steps(self, rest):
+        n, site, *times = rest.split()
+        self.steps[int(n), site] = [float(t) for t in times]
 
     def take_change(self, rest):
         site, engine = rest.split()
@@ -65,7 +69,7 @@ class Run:
 
     def two_steps(self, n, site):
         """Asking, and committing, in parts of the single call."""
-        single, asked, both = (self.times[call][n, site][0] for call in ("down+up", "ask+link", "ask+commit"))
+        single, asked, both = self.steps[n, site]
         asking = asked - single
         return asking / single, (both - asking) / single
 
