@@ -195,15 +195,15 @@ module _ (up : Bool) (n a b : ℕ) (t : Tables) where
         both c = (
           reply-ext r q (c .number ∙ sym (p .number)) (c .step ∙ sym (p .step)) (c .count ∙ sym (p .count)),
           by-accepted R (λ j. Link-refused j t w r v x) (sym asked-number ∙ z) (
-          record {
-            number = c .number;
-            step = c .step;
-            count = c .count;
-            links = ap (λ (o : Tables). o .links) (c .tables);
-            numbers = ap (λ (o : Tables). o .numbers) (c .tables);
-            order = ap (λ (o : Tables). o .order) (c .tables);
-            answer = p .answer;
-          }),
+              record {
+                number = c .number;
+                step = c .step;
+                count = c .count;
+                links = ap (λ (o : Tables). o .links) (c .tables);
+                numbers = ap (λ (o : Tables). o .numbers) (c .tables);
+                order = ap (λ (o : Tables). o .order) (c .tables);
+                answer = p .answer;
+              }),
         )
 
         go : ((committing (q .step) (take (q .count) x) ≡ 0) × Commit-accepted up n a b t r v)

@@ -33,7 +33,7 @@ pub record Ready (up : Bool) (n a b : ℕ) (t : Tables) (places highs : List ℕ
   pub placed :
       (i : ℕ) → i < n → stretch-start (graph-in n (t .links)) (lower-level (graph-in n (t .links)) a b) ≤ i →
       i < stretch-start (graph-in n (t .links)) (lower-level (graph-in n (t .links)) a b)
-          + stretch-length (graph-in n (t .links)) (lower-level (graph-in n (t .links)) a b) →
+      + stretch-length (graph-in n (t .links)) (lower-level (graph-in n (t .links)) a b) →
       getD places (getD (t .order) i 0) 0 ≡ i
   pub counted :
       (v : ℕ) → v < n → number (graph-in n (t .links)) v ≡ lower-level (graph-in n (t .links)) a b →

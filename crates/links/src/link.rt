@@ -41,5 +41,15 @@ pub fn link(
             count: 0,
         };
     }
-    apply::apply(up, a, b, decided.plan, &stretch, links, numbers, order, answer)
+    apply::apply(
+        up,
+        a,
+        b,
+        decided.plan,
+        &stretch,
+        links,
+        numbers,
+        order,
+        answer,
+    )
 }

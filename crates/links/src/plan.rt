@@ -208,6 +208,16 @@ pub fn plan(
             },
         };
     }
-    let plan = plan_link(up, a, b, links, numbers, order, &places, &mut highs, stretch);
+    let plan = plan_link(
+        up,
+        a,
+        b,
+        links,
+        numbers,
+        order,
+        &places,
+        &mut highs,
+        stretch,
+    );
     Decision { number, plan }
 }

@@ -67,5 +67,15 @@ pub fn commit(
         };
     }
     let mut answer = [0u16; Site::RADIOS as usize];
-    apply::apply(up, a, b, decided.plan, &stretch, links, numbers, order, &mut answer)
+    apply::apply(
+        up,
+        a,
+        b,
+        decided.plan,
+        &stretch,
+        links,
+        numbers,
+        order,
+        &mut answer,
+    )
 }

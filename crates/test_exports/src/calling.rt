@@ -143,13 +143,30 @@ fn commit(call: Call, links: &mut [u8], numbers: &mut [u8], order: &mut [u16], f
     let step = (call.room % 256) as u8 as i8;
     let list = &fields[..k];
     if call.kind == COMMIT_UP {
-        let up = summerbugle::sb_commit_up(call.n, call.a, call.b, step, links, numbers, order, list);
+        let up = summerbugle::sb_commit_up(
+            call.n,
+            call.a,
+            call.b,
+            step,
+            links,
+            numbers,
+            order,
+            list,
+        );
         say::reply(b"commit-up", up);
         return;
     }
     if call.kind == COMMIT_DOWN {
-        let down =
-            summerbugle::sb_commit_down(call.n, call.a, call.b, step, links, numbers, order, list);
+        let down = summerbugle::sb_commit_down(
+            call.n,
+            call.a,
+            call.b,
+            step,
+            links,
+            numbers,
+            order,
+            list,
+        );
         say::reply(b"commit-down", down);
     }
 }

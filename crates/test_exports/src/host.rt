@@ -124,7 +124,10 @@ fn end_line(h: u64) {
 // Fills what a call is to write.
 fn refill(call: Call, answer: &mut Answer, fields: &mut Fields, buffer: &mut Buffer) {
     tables::fill::fill16(answer, KEPT);
-    if call.kind == calling::TREE || call.kind == calling::ASK_UP || call.kind == calling::ASK_DOWN {
+    if call.kind == calling::TREE
+        || call.kind == calling::ASK_UP
+        || call.kind == calling::ASK_DOWN
+    {
         tables::fill::fill16(fields, KEPT);
     }
     if call.kind == calling::IMAGE_WRITE {

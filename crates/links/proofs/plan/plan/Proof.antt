@@ -22,9 +22,9 @@ plan-link-requires c κs =
     let x = cut .before .before .before .before .before .args in
     let t = tables (x .links .now) (x .numbers .now) (x .order .now) in (
       plan-ready (x .up) (x .n) (x .a) (x .b) t (x .answer) (x .stretch .now) (cut .least .result) (cut .least .ensures) _ _ (asked .refusal .result)
-      (asked .refusal .ensures) (yes .if1 .left),
+          (asked .refusal .ensures) (yes .if1 .left),
       stretch-room (x .up) (x .n) (x .a) (x .b) t (x .answer) (x .stretch .now) (cut .least .result) (cut .least .ensures) _ _ (asked .refusal .result)
-      (asked .refusal .ensures) (yes .if1 .left),
+          (asked .refusal .ensures) (yes .if1 .left),
     )
 
 returns-2 : tie.Need-returns-2
