@@ -5,6 +5,8 @@ pub mod Calls
 pub mod Returns
 -- all promises
 pub mod Promises
+-- the step that a host lends, handed on
+mod CommitStep
 -- the lent list of nodes: filled place by place, from three tables to the list; a local array in a proof by hand
 mod NodesLaws
 mod NodesAnswer

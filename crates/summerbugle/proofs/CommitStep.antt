@@ -1,0 +1,13 @@
+-- A step that is handed on is the step that was lent: committing's contract, over equal steps.
+use mathlib.Core.Path.{_≡_, subst}
+use mathlib.Core.Bool.{Bool}
+use mathlib.Core.List.{List}
+use Prim.Native.Nat.{ℕ}
+use lib.IntN.{ℤ}
+use Rattle.mesh.specs.Tables.{Tables}
+use Rattle.calls.specs.declared.Reply.{Reply}
+use Rattle.calls.specs.Contracts.Proposals.{Commit-contract}
+
+pub commit-step : (up : Bool) (n a b : ℕ) (xs : List ℕ) (t v : Tables) (r : Reply) (y z : ℤ) → y ≡ z → Commit-contract up n a b y xs t r v
+    → Commit-contract up n a b z xs t r v
+commit-step up n a b xs t v r y z e = subst (λ (x : ℤ). Commit-contract up n a b x xs t r v) e
