@@ -9,12 +9,13 @@ use Rattle.mesh.specs.Graph.{Link, link-of}
 use Rattle.mesh.specs.Image.{block-links, link-bytes}
 use Rattle.lists.proofs.Parts.{length-flatMap}
 use Rattle.mesh.proofs.Images.Blocks.{length-link-bytes}
+use Rattle.lists.specs.Lists.{overwrite}
 use Rattle.lists.proofs.Overwrite.{sets-append}
 use Rattle.lists.proofs.Map.{length-map, flatMap-append, take-map}
 use Rattle.mesh.specs.Limits.{max-neighbours}
-use Rattle.rows.specs.Rows.{row-listed}
-use Rattle.link_list.specs.Links.{neighbours-above, links-to, links-from, Rows-listed, Cursor-good, Span-of}
-use Rattle.link_list.proofs.AboveLaws.{span-count, span-rest}
+use Rattle.rows.specs.Rows.{neighbours-above}
+use Rattle.link_list.specs.Links.{links-to, links-from, Rows-listed, Cursor-good}
+use Rattle.link_list.proofs.AboveLaws.{above-count, above-rest}
 use Rattle.link_list.proofs.LinksFrom.{links-from-row, links-from-end, links-from-add, links-from-next}
 use Rattle.image_writer.specs.Blocks.{Row-put, Links-put}
 
@@ -104,24 +105,25 @@ module _ (n : ℕ) (ts : List ℕ) (a p : ℕ) (start : List ℕ) (row place cou
         good = l .good;
       }
 
--- ---- the radios of a row's span from the cursor on
+-- ---- the listed radios of a row from the cursor on
 
-pub record Row-left (ts : List ℕ) (row place : ℕ) (list : List ℕ) (s e : ℕ) : Type 0 where
-  pub within : s + place ≤ e
+pub record Row-left (ts : List ℕ) (row place : ℕ) (list : List ℕ) (e : ℕ) : Type 0 where
+  pub within : place ≤ e
   pub end : e ≤ length list
-  pub count : e - s ≡ length (neighbours-above ts row)
-  pub is : take (e - (s + place)) (drop (s + place) list) ≡ drop place (neighbours-above ts row)
+  pub count : e ≡ length (neighbours-above ts row)
+  pub is : take (e - place) (drop place list) ≡ drop place (neighbours-above ts row)
 
-pub row-left : (n : ℕ) (ts : List ℕ) (room row place : ℕ) (list : List ℕ) (s e : ℕ) → Rows-listed n ts room → Cursor-good n ts row place → row < n
-    → length list ≡ room → Span-of ts row list s e → Row-left ts row place list s e
-row-left n ts room row place list s e rows good h kept g =
-    let fits : length (row-listed ts row) ≤ min (length list) (suc max-neighbours) = omega (arith, rows .few row h) in
-    let count : e - s ≡ length (neighbours-above ts row) = span-count ts row list s e g fits in
-    record { within = omega (arith, good .place h, g .start); end = g .end; count = count; is = span-rest ts row list s e g fits place }
+pub row-left : (n : ℕ) (ts : List ℕ) (room row place : ℕ) (before list : List ℕ) (e : ℕ) → Rows-listed n ts room → Cursor-good n ts row place → row < n
+    → length before ≡ room → length list ≡ length before → e ≡ min (length before) (min (suc max-neighbours) (length (neighbours-above ts row)))
+    → list ≡ overwrite (take (min (length before) (suc max-neighbours)) (neighbours-above ts row)) before → Row-left ts row place list e
+row-left n ts room row place before list e rows good h long kept counted listed =
+    let fits : length (neighbours-above ts row) ≤ min (length before) (suc max-neighbours) = omega (arith, rows .few row h) in
+    let count = above-count ts row before list e counted listed fits in
+    record { within = omega (arith, good .place h); end = omega arith; count = count; is = above-rest ts row before list e counted listed fits place }
 
 -- how many of them are put
-pub row-left-put : (ts : List ℕ) (row place : ℕ) (list : List ℕ) (s e count : ℕ) (part new : List ℕ) (r : ℕ) → Row-left ts row place list s e
-    → Row-put count row (take (e - (s + place)) (drop (s + place) list)) part new r → r ≡ min (block-links - count) (e - (s + place))
-row-left-put ts row place list s e count part new r l put =
+pub row-left-put : (ts : List ℕ) (row place : ℕ) (list : List ℕ) (e count : ℕ) (part new : List ℕ) (r : ℕ) → Row-left ts row place list e
+    → Row-put count row (take (e - place) (drop place list)) part new r → r ≡ min (block-links - count) (e - place)
+row-left-put ts row place list e count part new r l put =
     put .written
-    ∙ ap (min (block-links - count)) (length-take-le (e - (s + place)) (drop (s + place) list) (omega (arith, l .end, length-drop (s + place) list)))
+    ∙ ap (min (block-links - count)) (length-take-le (e - place) (drop place list) (omega (arith, l .end, length-drop place list)))

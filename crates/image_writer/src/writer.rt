@@ -129,13 +129,11 @@ fn put_links(part: &mut [u8], n: u32, links: &[u8], from: Cursor, list: &mut [u1
     let mut place = from.place;
     let mut count: usize = 0;
     while row < n {
-        let span = link_list::list_above(links, row, list);
-        let start = span.start + place;
-        let end = span.end;
-        let put = put_row(part, count, row, &list[start..end]);
+        let end = rows::row_above(links, row, list) as usize;
+        let put = put_row(part, count, row, &list[place..end]);
         count += put;
         place += put;
-        if start + put < end {
+        if place < end {
             return Cursor { row, place };
         }
         row += 1;

@@ -18,14 +18,15 @@ use Rattle.mesh.specs.Sound.{within, few}
 use Rattle.lists.proofs.Range.{range-in, range-append}
 use Rattle.lists.proofs.Filter.{in-filter, filter-append, filter-none, filter-all}
 use Rattle.mesh.proofs.Tables.Rows.{within-of, few-of}
-use Rattle.rows.specs.Rows.{row-listed}
+use Rattle.rows.specs.Rows.{row-listed, neighbours-above}
 use Rattle.rows.proofs.RowListLaws.{neighbours-of-filter, row-listed-radio, length-row-listed-radio}
-use Rattle.link_list.specs.Links.{neighbours-above, links-to, links-above, links-from, Rows-listed}
+use Rattle.link_list.specs.Links.{links-to, links-above, links-from, Rows-listed}
+use Rattle.link_list.proofs.AboveLaws.{above-few}
 
 module _ (n : ℕ) (ts : List ℕ) (small : n ≤ max-radios) (long : length ts ≡ row-bytes * n) where
   pub rows-listed-few : (room : ℕ) → few (min room (suc max-neighbours)) n ts ≡ true → Rows-listed n ts room
   rows-listed-few room h =
-      record { most = small; few = λ a l. omega (arith, length-row-listed-radio n ts long a l, few-of (min room (suc max-neighbours)) n ts h a l) }
+      record { most = small; few = λ a l. omega (arith, above-few ts a, length-row-listed-radio n ts long a l, few-of (min room (suc max-neighbours)) n ts h a l) }
 
   module _ (w : within n ts ≡ true) where
     neighbours-above-row : (a : ℕ) → a < n → neighbours-above ts a ≡ filter (λ b. marked ts a b) (range (suc a) (n - suc a))

@@ -10,7 +10,8 @@ use Rattle.mesh.specs.Limits.{max-radios}
 use Rattle.lists.specs.Lists.{range}
 use Rattle.mesh.specs.Graph.{Link, link-of}
 use Rattle.lists.proofs.Map.{length-map, drop-map}
-use Rattle.link_list.specs.Links.{neighbours-above, links-to, links-above, links-from, Rows-listed}
+use Rattle.rows.specs.Rows.{neighbours-above}
+use Rattle.link_list.specs.Links.{links-to, links-above, links-from, Rows-listed}
 
 -- ---- links of one radio
 

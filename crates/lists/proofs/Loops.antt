@@ -3,7 +3,7 @@
 --   Counted-from   entries that pass a test are counted
 use mathlib.Core.Path.{_≡_, refl, sym, ap, _∙_}
 use mathlib.Core.Bool.{Bool}
-use mathlib.Core.List.{List, [], _∷_}
+use mathlib.Core.List.{List, [], _∷_, _++_}
 use Prim.Native.Nat.{ℕ, _+_, _^_, _≤_, _<_}
 use native.Mathlib.Omega.{arith}
 use native.Mathlib.Numerals.{add-one}
@@ -32,6 +32,11 @@ module _ {S : Type 0} (f : ℕ → S → S) (xs : List ℕ) (start : S) where
   pub folding-end : (now : S) (i : ℕ) → Folding f xs start now i → length xs ≤ i → now ≡ folded f xs start
   unfolding folded
   folding-end now i b h = ap (λ (l : List ℕ). folded f l now) (sym (drop-of-length-le xs h)) ∙ b .is
+
+pub folded-append : {S : Type 0} (f : ℕ → S → S) (xs ys : List ℕ) (s : S) → folded f (xs ++ ys) s ≡ folded f ys (folded f xs s)
+unfolding folded
+folded-append f [] ys s = refl
+folded-append f (x ∷ xs) ys s = folded-append f xs ys (f x s)
 
 pub length-folded : (f : ℕ → List ℕ → List ℕ) → ((x : ℕ) (s : List ℕ) → length (f x s) ≡ length s) → (xs s : List ℕ) → length (folded f xs s) ≡ length s
 unfolding folded

@@ -7,5 +7,7 @@ pub mod WordLaws
 pub mod Listing
 -- a row word by word
 pub mod RowWords
+-- the radios above a row's own
+pub mod AboveWords
 -- the neighbours that a row marks, as a list: for callers
 pub mod RowListLaws

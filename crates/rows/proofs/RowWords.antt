@@ -11,7 +11,7 @@ use Rattle.mesh.specs.Limits.{max-radios, max-neighbours, row-bytes}
 use Rattle.lists.specs.Lists.{range, filter, head-or, overwrite}
 use Rattle.mesh.specs.Tables.{digit, byte-at, marked}
 use Rattle.lists.proofs.Filter.{filter-append}
-use Rattle.rows.specs.Rows.{neighbours-of, row-listed, row-count, set-bits, row-word}
+use Rattle.rows.specs.Rows.{neighbours-of, row-listed, row-from, row-count, set-bits, row-word, word-of}
 use Rattle.rows.proofs.WordLaws.{set-bits-filter, set-bits-nothing, set-bits-lowest, length-set-bits, length-set-bits-le, word-at-less, digit-word-at}
 use Rattle.lists.proofs.Range.{range-append}
 use Rattle.lists.proofs.Overwrite.{sets-front, sets-append}
@@ -29,9 +29,6 @@ row-listed-short ts a h = rw (lt-leb (row-bytes * a + row-bytes) (length ts) h)
 
 -- ---- a row from word k on
 
-unfoldable pub row-from : (links : List ℕ) → (a k : ℕ) → List ℕ
-row-from ts a k = filter (λ b. marked ts a b) (range (64 * k) (max-radios - 64 * k))
-
 pub row-from-zero : (ts : List ℕ) (a : ℕ) → row-from ts a 0 ≡ neighbours-of ts a
 unfolding row-from neighbours-of
 row-from-zero ts a = refl
@@ -41,7 +38,7 @@ unfolding row-from range filter
 row-from-end ts a k h = let e : max-radios - 64 * k ≡ 0 = omega arith in rw e
 
 -- bit m of word k is the mark of radio 64 * k + m
-marked-word : (ts : List ℕ) → ((j : ℕ) → getD ts j 0 < 256) → (a k m : ℕ) → m < 64
+pub marked-word : (ts : List ℕ) → ((j : ℕ) → getD ts j 0 < 256) → (a k m : ℕ) → m < 64
     → marked ts a (64 * k + m) ≡ digit (row-word 8 ts (row-bytes * a + 8 * k)) m
 unfolding marked byte-at
 marked-word ts bytes a k m h =
@@ -62,6 +59,16 @@ row-from-word ts bytes a k h =
       filter-append (λ b. marked ts a b) (range (64 * k) 64) (range (64 * (k + 1)) (max-radios - 64 * (k + 1))),
       set-bits-filter 64 (64 * k) (row-word 8 ts (row-bytes * a + 8 * k)) (λ b. marked ts a b) (λ m l. marked-word ts bytes a k m l),
     )
+
+-- ---- a word of a row
+
+pub word-of-whole : (ts : List ℕ) (a k : ℕ) → row-bytes * a + 8 * k + 8 ≤ length ts → word-of ts a k ≡ row-word 8 ts (row-bytes * a + 8 * k)
+unfolding word-of
+word-of-whole ts a k h = rw (le-leb (row-bytes * a + 8 * k + 8) (length ts) h)
+
+pub word-of-short : (ts : List ℕ) (a k : ℕ) → length ts < row-bytes * a + 8 * k + 8 → word-of ts a k ≡ 0
+unfolding word-of
+word-of-short ts a k h = rw (lt-leb (row-bytes * a + 8 * k + 8) (length ts) h)
 
 -- ---- one word more, as the loops' invariants have it
 
@@ -95,24 +102,26 @@ pub row-counting-end : (ts : List ℕ) (a n k : ℕ) → 8 ≤ k → row-bytes *
 unfolding row-count
 row-counting-end ts a n k h l i = omega (arith, i .1, i .2, ap length (row-from-end ts a k h), ap length (row-listed-whole ts a l))
 
--- the neighbours before word k listed
-abbrev pub Row-listing : (links : List ℕ) → (a : ℕ) → (old : List ℕ) → (n k : ℕ) → (list : List ℕ) → Type 0
-Row-listing ts a old n k list = (k ≤ 8) × Partial-listing (neighbours-of ts a) 0 old (row-from ts a k) n list
+-- the words from word `from` to before word k listed, after `count` entries
+abbrev pub Words-listing : (links : List ℕ) → (a from count : ℕ) → (old : List ℕ) → (n k : ℕ) → (list : List ℕ) → Type 0
+Words-listing ts a from count old n k list = (k ≤ 8) × Partial-listing (row-from ts a from) count old (row-from ts a k) n list
 
-pub row-listing-turn : (ts : List ℕ) → ((j : ℕ) → getD ts j 0 < 256) → (a : ℕ) (old : List ℕ) (n k w m : ℕ) (list new : List ℕ) → k < 8
+pub words-listing-turn : (ts : List ℕ) → ((j : ℕ) → getD ts j 0 < 256) → (a from count : ℕ) (old : List ℕ) (n k w m : ℕ) (list new : List ℕ) → k < 8
     → w ≡ row-word 8 ts (row-bytes * a + 8 * k) → m ≡ min (length list) (n + length (set-bits 64 (64 * k) w)) → new ≡ sets list n (set-bits 64 (64 * k) w)
-    → Row-listing ts a old n k list → Row-listing ts a old m (k + 1) new
-row-listing-turn ts bytes a old n k w m list new h e f g i = (
+    → Words-listing ts a from count old n k list → Words-listing ts a from count old m (k + 1) new
+words-listing-turn ts bytes a from count old n k w m list new h e f g i = (
   omega arith,
   rw (f, g, e) (partial-part (set-bits 64 (64 * k) (row-word 8 ts (row-bytes * a + 8 * k))) (row-from ts a (k + 1)) n list (rw (row-from-word ts bytes a k h) at (i .1))),
 )
 
-pub row-listing-end : (ts : List ℕ) (a : ℕ) (old : List ℕ) (n k : ℕ) (list : List ℕ) → 8 ≤ k → row-bytes * a + row-bytes ≤ length ts
-    → Row-listing ts a old n k list
-    → (n ≡ min (length old) (length (row-listed ts a))) × (list ≡ overwrite (take (length old) (row-listed ts a)) old)
-row-listing-end ts a old n k list h l i =
-    let at-end = partial-end (row-from ts a k) n list (row-from-end ts a k h) (i .1) in
-    rw (row-listed-whole ts a l) (omega (arith, at-end .0), at-end .1 ∙ sets-front old (neighbours-of ts a))
+pub words-listing-end : (ts : List ℕ) (a from count : ℕ) (old : List ℕ) (n k : ℕ) (list : List ℕ) → 8 ≤ k → Words-listing ts a from count old n k list
+    → (n ≡ min (length old) (count + length (row-from ts a from))) × (list ≡ sets old count (row-from ts a from))
+words-listing-end ts a from count old n k list h i = partial-end (row-from ts a k) n list (row-from-end ts a k h) (i .1)
+
+-- a list written from its front on
+pub front-listed : (xs ys old list : List ℕ) (n : ℕ) → xs ≡ ys → n ≡ min (length old) (0 + length xs) → list ≡ sets old 0 xs
+    → (n ≡ min (length old) (length ys)) × (list ≡ overwrite (take (length old) ys) old)
+front-listed xs ys old list n e f g = (omega (arith, f, ap length e), g ∙ ap (sets old 0) e ∙ sets-front old ys)
 
 -- ---- a set, kept as one row: all radios counted, as many listed as fit
 

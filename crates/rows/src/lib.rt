@@ -1,6 +1,5 @@
-// Rows of the links table: one bit tested, set or cleared, a row's neighbours listed and counted in a byte, the lowest of them;
-// the radios of a set listed.
-// The bits of a row are walked here and nowhere else.
+// Rows of the links table: one bit tested, set or cleared, a word read, a row's neighbours listed and counted in a byte, the lowest
+// of them; the radios of a set listed.
 ghost use mathlib.Core.Path.{_≡_};
 ghost use Prim.Native.Nat.{suc, _≤_, _+_, min};
 ghost use lib.ListN.{length, take};
@@ -8,7 +7,7 @@ ghost use lib.Seq.{sets};
 ghost use Rattle.mesh.specs.Limits.{max-radios, max-neighbours};
 ghost use Rattle.lists.specs.Lists.{head-or, overwrite};
 ghost use Rattle.mesh.specs.Tables.{marked, put-bit, put-link};
-ghost use Rattle.rows.specs.Rows.{row-listed, row-count, set-bits, row-word};
+ghost use Rattle.rows.specs.Rows.{row-listed, neighbours-above, row-from, row-count, set-bits, row-word, word-of, Words-room};
 
 // The bits of a word.
 const WORD_BITS: u32 = 64;
@@ -68,6 +67,17 @@ fn word_at(links: &[u8], at: usize) -> u64
         | (links[at + 7] as u64) << 56
 }
 
+// Word k of row a, which has the bits of the radios from 64 * k on; 0 where it does not lie whole in the table.
+pub fn row_word(links: &[u8], a: u32, k: u32) -> u64
+    ensures { λ r. ⌜ r ≡ word-of (now (links .entry)) a k ⌝ }
+{
+    let at = mesh::Site::ROW_BYTES * a as usize + 8 * k as usize;
+    if links.len() < at + 8 {
+        return 0;
+    }
+    word_at(links, at)
+}
+
 // How many radios row a marks, counted in a byte that stops at `STOP`; of a row that is not whole in the table 0.
 pub fn row_degree(links: &[u8], a: u32) -> u8
     ensures { λ r. ⌜ r ≡ row-count max-neighbours (now (links .entry)) a ⌝ }
@@ -91,7 +101,7 @@ pub fn row_degree(links: &[u8], a: u32) -> u8
 // Writes the places of the word's set bits, counted from `first`, into the list from place `count` on, until it is full, and
 // comes back with the count of entries so far, a byte. The loop is small, so that it is unrolled word by word.
 fn list_bits(word: u64, first: u32, list: &mut [u16], count: u8) -> u8
-    requires { ⌜ (first + 64 ≤ max-radios) × (count ≤ suc max-neighbours) × (count ≤ length (now list)) ⌝ }
+    requires { ⌜ (first ≤ max-radios) × (count ≤ suc max-neighbours) × (count ≤ length (now list)) ⌝ }
     ensures counted { λ r. ⌜ r ≡ min (length (now (list .entry))) (count + length (set-bits 64 first word)) ⌝ }
     ensures listed { λ _. ⌜ now (list .exit) ≡ sets (now (list .entry)) count (set-bits 64 first word) ⌝ }
 {
@@ -108,20 +118,16 @@ fn list_bits(word: u64, first: u32, list: &mut [u16], count: u8) -> u8
     n
 }
 
-// Writes the radios that row a marks into a list of at most `STOP` entries, ascending, until it is full, and comes back with how
-// many it wrote.
-fn list_row(links: &[u8], a: u32, list: &mut [u16]) -> u8
-    requires { ⌜ length (now list) ≤ suc max-neighbours ⌝ }
-    ensures counted { λ r. ⌜ r ≡ min (length (now (list .entry))) (length (row-listed (now (links .entry)) a)) ⌝ }
-    ensures listed { λ _. ⌜ now (list .exit)
-        ≡ overwrite (take (length (now (list .entry))) (row-listed (now (links .entry)) a)) (now (list .entry)) ⌝ }
+// Writes the radios of row a from word `from` on into a list of at most `STOP` entries, ascending, from place `count` on, until it
+// is full, and comes back with the count of entries so far.
+fn list_words(links: &[u8], a: u32, from: u32, list: &mut [u16], count: u8) -> u8
+    requires { ⌜ Words-room a from count (length (now links)) (length (now list)) ⌝ }
+    ensures counted { λ r. ⌜ r ≡ min (length (now (list .entry))) (count + length (row-from (now (links .entry)) a from)) ⌝ }
+    ensures listed { λ _. ⌜ now (list .exit) ≡ sets (now (list .entry)) count (row-from (now (links .entry)) a from) ⌝ }
 {
     let start = mesh::Site::ROW_BYTES * a as usize;
-    if links.len() < start + mesh::Site::ROW_BYTES {
-        return 0;
-    }
-    let mut n: u8 = 0;
-    let mut k: u32 = 0;
+    let mut n = count;
+    let mut k = from;
     while k < ROW_WORDS {
         n = list_bits(
             word_at(links, start + 8 * k as usize),
@@ -132,6 +138,40 @@ fn list_row(links: &[u8], a: u32, list: &mut [u16]) -> u8
         k += 1;
     }
     n
+}
+
+// Writes the radios that row a marks into a list of at most `STOP` entries, ascending, until it is full, and comes back with how
+// many it wrote.
+fn list_row(links: &[u8], a: u32, list: &mut [u16]) -> u8
+    requires { ⌜ length (now list) ≤ suc max-neighbours ⌝ }
+    ensures counted { λ r. ⌜ r ≡ min (length (now (list .entry))) (length (row-listed (now (links .entry)) a)) ⌝ }
+    ensures listed { λ _. ⌜ now (list .exit)
+        ≡ overwrite (take (length (now (list .entry))) (row-listed (now (links .entry)) a)) (now (list .entry)) ⌝ }
+{
+    if links.len() < mesh::Site::ROW_BYTES * a as usize + mesh::Site::ROW_BYTES {
+        return 0;
+    }
+    list_words(links, a, 0, list, 0)
+}
+
+// The same of the radios above a: the bits up to its own are shifted out of its word.
+fn list_above(links: &[u8], a: u32, list: &mut [u16]) -> u8
+    requires { ⌜ length (now list) ≤ suc max-neighbours ⌝ }
+    ensures counted { λ r. ⌜ r ≡ min (length (now (list .entry))) (length (neighbours-above (now (links .entry)) a)) ⌝ }
+    ensures listed { λ _. ⌜ now (list .exit)
+        ≡ overwrite (take (length (now (list .entry))) (neighbours-above (now (links .entry)) a)) (now (list .entry)) ⌝ }
+{
+    if mesh::Site::RADIOS <= a {
+        return 0;
+    }
+    let start = mesh::Site::ROW_BYTES * a as usize;
+    if links.len() < start + mesh::Site::ROW_BYTES {
+        return 0;
+    }
+    let k = a / WORD_BITS;
+    let word = word_at(links, start + 8 * k as usize) >> (a % WORD_BITS) >> 1;
+    let n = list_bits(word, a + 1, list, 0);
+    list_words(links, a, k + 1, list, n)
 }
 
 // How many entries of a list of this length a row's neighbours may take.
@@ -156,9 +196,19 @@ pub fn row_neighbours(links: &[u8], a: u32, list: &mut [u16]) -> u8
     list_row(links, a, &mut list[..room])
 }
 
+// The same of the radios above a, which are the higher ends of the links of which a is the lower.
+pub fn row_above(links: &[u8], a: u32, list: &mut [u16]) -> u8
+    ensures counted { λ r. ⌜ r ≡ min (length (now (list .entry))) (min (suc max-neighbours) (length (neighbours-above (now (links .entry)) a))) ⌝ }
+    ensures listed { λ _. ⌜ now (list .exit)
+        ≡ overwrite (take (min (length (now (list .entry))) (suc max-neighbours)) (neighbours-above (now (links .entry)) a)) (now (list .entry)) ⌝ }
+{
+    let room = row_room(list.len());
+    list_above(links, a, &mut list[..room])
+}
+
 // Writes the places of the word's set bits, counted from `first`, into the list from place `at` on, as many as fit.
 fn list_word(word: u64, first: u32, list: &mut [u16], at: usize)
-    requires { ⌜ first + 64 ≤ max-radios ⌝ }
+    requires { ⌜ first ≤ max-radios ⌝ }
     ensures { λ _. ⌜ now (list .exit) ≡ sets (now (list .entry)) at (set-bits 64 first word) ⌝ }
 {
     if list.len() <= at {

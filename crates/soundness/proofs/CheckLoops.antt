@@ -3,13 +3,13 @@
 use mathlib.Core.Path.{_≡_, refl, sym, ap, _∙_}
 use mathlib.Core.Logic.{_⊎_, inl, inr}
 use mathlib.Core.Bool.{Bool, true, false, _&&_}
-use mathlib.Core.List.{List, [], _∷_}
-use Prim.Native.Nat.{ℕ, suc, _+_, _≤_, _<_, min}
+use mathlib.Core.List.{List, [], _∷_, _++_}
+use Prim.Native.Nat.{ℕ, zero, suc, _+_, _≤_, _<_, min}
 use native.Mathlib.Omega.{arith}
 use native.Mathlib.Numerals.{add-one}
 use lib.Dec.{leb, eqb}
-use lib.ListN.{length, getD, drop, set, replicate, length-set, length-replicate, getD-replicate}
-use lib.Seq.{drop-cons, drop-length, getD-set-same, getD-set-other}
+use lib.ListN.{length, getD, take, drop, set, replicate, length-set, length-append, length-drop, length-replicate}
+use lib.Seq.{drop-cons, drop-length, getD-set-same, getD-set-other, length-take-le}
 use borrow.Author.Tests.{le-leb, lt-leb, eqb-true, eqb-false}
 use Rattle.mesh.specs.Limits.{max-radios}
 use Rattle.mesh.specs.Orders.{each-once, rising}
@@ -78,16 +78,35 @@ pub record Placing-so-far (order : List ℕ) (size : ℕ) (places : List ℕ) (i
   pub at : (j : ℕ) → j < i → (getD order j 0 < length order) × (getD places (getD order j 0) 0 ≡ j)
   pub from : (v : ℕ) → v < length order → (getD places v 0 ≡ nowhere) ⊎ ((getD places v 0 < i) × (getD order (getD places v 0) 0 ≡ v))
 
-module _ (order before filled : List ℕ) (pre : (length order ≤ length before) × (length order ≤ max-radios)) (e : filled ≡ replicate (length before) nowhere) where
+getD-replicated : (k v : ℕ) → v < k → (xs : List ℕ) → getD (replicate k nowhere ++ xs) v 0 ≡ nowhere
+getD-replicated zero v l xs = absurd (omega arith)
+getD-replicated (suc k) zero l xs = refl
+getD-replicated (suc k) (suc v) l xs = getD-replicated k v (omega arith) xs
+
+-- the first places, as many as the order has entries, are free
+module _ (order before part : List ℕ) (pre : (length order ≤ length before) × (length order ≤ max-radios))
+    (e : part ≡ replicate (length (take (length order) before)) nowhere) where
+  abbrev filled : List ℕ
+  filled = part ++ drop (length order) before
+
+  many : part ≡ replicate (length order) nowhere
+  many = e ∙ ap (λ (k : ℕ). replicate k nowhere) (length-take-le (length order) before (pre .0))
+
   size : length filled ≡ length before
-  size = ap length e ∙ length-replicate (length before) nowhere
+  size = omega (
+    arith,
+    length-append part (drop (length order) before),
+    ap length many ∙ length-replicate (length order) nowhere,
+    length-drop (length order) before,
+    pre .0,
+  )
 
   pub placing-none : Placing-so-far order (length filled) filled 0
   placing-none = record {
     low = omega arith;
     long = refl;
     at = λ j l. absurd (omega arith);
-    from = λ v l. inl (ap (λ (xs : List ℕ). getD xs v 0) e ∙ getD-replicate (length before) v nowhere 0 (omega arith));
+    from = λ v l. inl (ap (λ (xs : List ℕ). getD (xs ++ drop (length order) before) v 0) many ∙ getD-replicated (length order) v l (drop (length order) before));
   }
 
   module _ (places : List ℕ) (i : ℕ) (l : i < length order) (s : Placing-so-far order (length filled) places i) where

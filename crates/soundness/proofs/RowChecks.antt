@@ -1,31 +1,34 @@
--- One row of the check on plain values: the ends of a row counted, a row good or not.
+-- One row of the check on plain values: its ends counted word by word, the row good or not.
+-- In order: the first of the later ends by its key, what ends come to, the radios of a word, a row's words, its own radio, one row.
 use mathlib.Core.Path.{_≡_, refl, sym, ap, _∙_}
 use mathlib.Core.Logic.{_⊎_, inl, inr}
-use mathlib.Core.Bool.{Bool, true, false, _&&_, not, and-false, cond}
-use mathlib.Core.List.{List, [], _∷_}
-use Prim.Native.Nat.{ℕ, suc, _+_, _*_, _%_, _≤_, _<_, min}
+use mathlib.Core.Bool.{Bool, true, false, _&&_, not, and-false, and-assoc, and-comm, cond}
+use mathlib.Core.List.{List, [], _∷_, _++_}
+use Prim.Native.Nat.{ℕ, _+_, _*_, _-_, _^_, _≤_, _<_, min}
 use native.Mathlib.Omega.{arith}
-use native.Mathlib.Numerals.{add-one}
 use mir.Syntax.{w8}
 use mir.Val.{boolByte, Fits}
+use lib.Bits.{bitAnd, and-le-l}
+use lib.Count.{trailingZeros}
 use lib.Dec.{ltb, leb, eqb}
-use lib.ListN.{length, getD, take, drop}
-use lib.Seq.{drop-length, drop-cons, getD-take, length-take-le}
-use borrow.Author.Tests.{ltb-true, ltb-false, lt-ltb, le-ltb, le-leb, lt-leb, eq-eqb, ne-eqb}
-use Rattle.mesh.specs.Limits.{max-neighbours, row-bytes}
-use Rattle.lists.specs.Lists.{count, all, overwrite}
+use lib.ListN.{length, getD, length-append}
+use borrow.Author.Tests.{ltb-true, ltb-false, lt-ltb, le-ltb, leb-true, leb-false, le-leb, lt-leb, eq-eqb, ne-eqb}
+use Rattle.mesh.specs.Limits.{max-radios, max-neighbours, row-bytes}
+use Rattle.lists.specs.Lists.{range, count, all, folded, In}
 use Rattle.mesh.specs.Tables.{marked}
 use Rattle.mesh.specs.Sound.{number-in}
-use Rattle.lists.proofs.Tests.{bool-cases, never, bit-one, byte-bit}
-use Rattle.lists.proofs.Count.{count-drop}
-use Rattle.rows.specs.Rows.{neighbours-of, row-listed, row-count}
+use Rattle.lists.proofs.Tests.{bool-cases, never, bit-one, byte-bit, and-left, and-right}
+use Rattle.lists.proofs.All.{all-in, all-append}
+use Rattle.lists.proofs.Filter.{filter-in}
+use Rattle.lists.proofs.Loops.{folded-append}
+use Rattle.lists.proofs.Range.{in-range}
+use Rattle.rows.specs.Rows.{neighbours-of, row-from, set-bits, row-word, word-of}
 use Rattle.rows.proofs.MaskLaws.{marked-past}
-use Rattle.rows.proofs.RowListLaws.{row-listed-radio, row-listed-fits}
-use Rattle.soundness.specs.Checks.{sooner-key, first-key, later-count, high-count, ends-good, row-good, Ends-counted, Rows-room, Row-checked}
-use Rattle.lists.proofs.All.{all-drop}
-
-pub count-fits : (x : ℕ) (t : Bool) → x ≤ max-neighbours → Fits w8 (x + boolByte t)
-count-fits x t l = omega (arith, byte-bit t, bit-one t)
+use Rattle.rows.proofs.RowListLaws.{in-neighbours-of}
+use Rattle.rows.proofs.RowWords.{row-from-zero, row-from-end, row-from-word, word-of-whole}
+use Rattle.rows.proofs.WordLaws.{set-bits-nothing, set-bits-lowest, length-set-bits-le}
+use Rattle.soundness.specs.Checks.{sooner-key, first-key, later-count, high-count, ends-good, ends-mark, row-good, Counts, counts, no-ends, end-counted}
+use Rattle.soundness.specs.Checks.{Ends-counted, Rows-room, Word-room, Row-checked}
 
 -- ---- the first of the later ends, by its key
 
@@ -53,11 +56,6 @@ first-key-most ps a [] = omega arith
 first-key-most ps a (b ∷ bs) =
     omega (arith, sooner-least (getD ps a 0) (getD ps b 0) b (first-key ps a bs), first-key-most ps a bs)
 
-first-key-drop : (ps : List ℕ) (a : ℕ) (xs : List ℕ) (i : ℕ) → i < length xs
-    → first-key ps a (drop i xs) ≡ sooner-key (getD ps a 0) (getD ps (getD xs i 0) 0) (getD xs i 0) (first-key ps a (drop (suc i) xs))
-unfolding first-key
-first-key-drop ps a xs i l = rw (drop-cons xs i 0 l)
-
 -- the code's tests
 pub sooner-early : (place p b key : ℕ) → p ≤ place → key ≡ sooner-key place p b key
 unfolding sooner-key
@@ -77,163 +75,311 @@ marked-radio n ts e b a h = go (bool-cases (ltb b n))
     go (inl q) = ltb-true b n q
     go (inr q) = never (marked ts b a) h (marked-past ts b a (omega (arith, ltb-false b n q)))
 
--- the first i of the radios are good ends, and are counted
-pub record Counting (n : ℕ) (links numbers places : List ℕ) (a : ℕ) (xs : List ℕ) (later high key i : ℕ) : Type 0 where
-  pub low : i ≤ length xs
-  pub good : ends-good n links a (drop i xs) ≡ ends-good n links a xs
-  pub later-is : later + later-count places a (drop i xs) ≡ later-count places a xs
-  pub high-is : high + high-count numbers a (drop i xs) ≡ high-count numbers a xs
-  pub first-is : min key (first-key places a (drop i xs)) ≡ first-key places a xs
-  pub few-key : key ≤ 4294967295
-  pub few-later : later ≤ i
-  pub few-high : high ≤ i
+-- ---- what the ends of a row come to
 
-module _ (n : ℕ) (links numbers places : List ℕ) (a : ℕ) (list : List ℕ) (k : ℕ) (fits : k ≤ length list) where
-  abbrev xs : List ℕ
-  xs = take k list
+module _ (ns ps : List ℕ) (a : ℕ) where
+  abbrev add : ℕ → Counts → Counts
+  add = end-counted ns ps a
 
-  long : length xs ≡ k
-  long = length-take-le k list fits
+  pub counted-all : (xs : List ℕ) (c : Counts) → folded add xs c .count ≡ c .count + length xs
+  unfolding folded end-counted
+  counted-all [] c = omega arith
+  counted-all (b ∷ bs) c = omega (arith, counted-all bs (add b c))
 
-  pub counting-none : Counting n links numbers places a xs 0 0 4294967295 0
-  counting-none = record {
-    low = omega arith;
-    good = refl;
-    later-is = omega arith;
-    high-is = omega arith;
-    first-is = omega (arith, first-key-most places a xs);
-    few-key = omega arith;
-    few-later = omega arith;
-    few-high = omega arith;
-  }
+  pub counted-later : (xs : List ℕ) (c : Counts) → folded add xs c .later ≡ c .later + later-count ps a xs
+  unfolding folded end-counted later-count count
+  counted-later [] c = omega arith
+  counted-later (b ∷ bs) c = omega (arith, counted-later bs (add b c))
 
-  abbrev end-good : ℕ → Bool
-  end-good b = ltb b n && (not (eqb b a) && marked links b a)
+  pub counted-high : (xs : List ℕ) (c : Counts) → folded add xs c .high ≡ c .high + high-count ns a xs
+  unfolding folded end-counted high-count count
+  counted-high [] c = omega arith
+  counted-high (b ∷ bs) c = omega (arith, counted-high bs (add b c))
 
-  module _ (later high key i : ℕ) (l : i < k) (s : Counting n links numbers places a xs later high key i) where
-    entry : getD xs i 0 ≡ getD list i 0
-    entry = getD-take k list i 0 l
+  pub counted-first : (xs : List ℕ) (c : Counts) → c .first ≤ 4294967295 → folded add xs c .first ≡ min (c .first) (first-key ps a xs)
+  unfolding folded end-counted first-key
+  counted-first [] c h = omega arith
+  counted-first (b ∷ bs) c h =
+      counted-first bs (add b c) (omega (arith, sooner-least (getD ps a 0) (getD ps b 0) b (c .first), h))
+      ∙ sooner-min (getD ps a 0) (getD ps b 0) b (c .first) (first-key ps a bs)
 
-    ends-next : ends-good n links a xs ≡ (end-good (getD list i 0) && ends-good n links a (drop (suc i) xs))
-    unfolding ends-good
-    ends-next =
-        sym (s .good) ∙ all-drop end-good xs i (omega (arith, long))
-        ∙ ap (λ (b : ℕ). end-good b && all end-good (drop (suc i) xs)) entry
+  -- the parts stay no more than the whole
+  pub counted-parts : (xs : List ℕ) (c : Counts) → c .later ≤ c .count → c .high ≤ c .count → (folded add xs c .later ≤ folded add xs c .count) × (folded add xs c .high ≤ folded add xs c .count)
+  unfolding folded end-counted
+  counted-parts [] c l h = (l, h)
+  counted-parts (b ∷ bs) c l h =
+      counted-parts bs (add b c) (omega (arith, bit-one (ltb (getD ps a 0) (getD ps b 0)))) (omega (arith, bit-one (leb (number-in ns a) (number-in ns b))))
 
-    not-good : ends-good n links a xs ≡ false → Ends-counted n links numbers places a xs false 0 0 0
-    not-good e = record { answer = sym e; later-is = λ f. never false f refl; first-is = λ f. never false f refl; high-is = λ f. never false f refl }
+-- `rest` is left of the ends `whole`: those before it mark a, and are counted
+pub record Counting (n : ℕ) (links numbers places : List ℕ) (a : ℕ) (whole rest : List ℕ) (before now : Counts) : Type 0 where
+  pub marks : ends-mark n links a rest ≡ ends-mark n links a whole
+  pub is : folded (end-counted numbers places a) rest now ≡ folded (end-counted numbers places a) whole before
+  pub later : now .later ≤ now .count
+  pub high : now .high ≤ now .count
 
-    -- the radio itself
-    pub counting-self : getD list i 0 ≡ a → Ends-counted n links numbers places a xs false 0 0 0
-    counting-self e = not-good (ends-next ∙ rw (eq-eqb (getD list i 0) a e, and-false (ltb (getD list i 0) n)))
+module _ {n : ℕ} {links numbers places : List ℕ} {a : ℕ} {whole : List ℕ} {before : Counts} where
+  pub counting-none : before .later ≤ before .count → before .high ≤ before .count → Counting n links numbers places a whole whole before before
+  counting-none l h = record { marks = refl; is = refl; later = l; high = h }
 
-    -- an entry whose row does not mark a, or that has no row
-    pub counting-alone : marked links (getD list i 0) a ≡ false → Ends-counted n links numbers places a xs false 0 0 0
-    counting-alone m = not-good (ends-next ∙ rw (m, and-false (not (eqb (getD list i 0) a)), and-false (ltb (getD list i 0) n)))
+  pub counting-few : (rest : List ℕ) (now : Counts) → Counting n links numbers places a whole rest before now
+      → now .count + length rest ≡ before .count + length whole
+  counting-few rest now s =
+      sym (counted-all numbers places a rest now) ∙ ap (λ (c : Counts). c .count) (s .is) ∙ counted-all numbers places a whole before
 
-    pub counting-turn : (new : ℕ) → getD list i 0 < n → (getD list i 0 ≡ a → ⊥) → marked links (getD list i 0) a ≡ true
-        → new ≡ sooner-key (getD places a 0) (getD places (getD list i 0) 0) (getD list i 0) key
-        → Counting n links numbers places a xs
-        (later + boolByte (ltb (getD places a 0) (getD places (getD list i 0) 0)))
-        (high + boolByte (leb (getD numbers a 0) (getD numbers (getD list i 0) 0))) new (i + 1)
-    unfolding later-count high-count
-    counting-turn new h d m e =
-        let is-later : ℕ → Bool = λ b. ltb (getD places a 0) (getD places b 0) in
-        let is-high : ℕ → Bool = λ b. leb (getD numbers a 0) (getD numbers b 0) in
-        let x = rw entry at (count-drop is-later xs i (omega (arith, long))) in
-        let y = rw entry at (count-drop is-high xs i (omega (arith, long))) in
-        let z = rw entry at (first-key-drop places a xs i (omega (arith, long))) in
-        let b = getD list i 0 in
+  not-counted : (after : Counts) → (ends-mark n links a whole && leb (before .count + length whole) max-neighbours) ≡ false
+      → Ends-counted n links numbers places a whole before false after
+  not-counted after e = record { answer = sym e; counted = λ f. never false f refl }
+
+  module _ (b : ℕ) (rest : List ℕ) (now : Counts) (s : Counting n links numbers places a whole (b ∷ rest) before now) where
+    -- an end whose row does not mark a, or that has no row
+    pub counting-unmarked : (after : Counts) → marked links b a ≡ false → Ends-counted n links numbers places a whole before false after
+    unfolding ends-mark all
+    counting-unmarked after m =
+        let none : ends-mark n links a whole ≡ false = sym (s .marks) ∙ ap (λ (x : Bool). (ltb b n && x) && all (λ b. ltb b n && marked links b a) rest) m
+        ∙ ap (λ (x : Bool). x && all (λ b. ltb b n && marked links b a) rest) (and-false (ltb b n)) in
+        not-counted after (rw none)
+
+    pub counting-one : (after : Counts) → b < n → marked links b a ≡ true → after ≡ end-counted numbers places a b now → Counting n links numbers places a whole rest before after
+    unfolding ends-mark all folded
+    counting-one after l m e =
+        let parts = counted-parts numbers places a (b ∷ []) now (s .later) (s .high) in
         record {
-          low = omega (arith, long);
-          good = rw add-one (sym (rw (lt-ltb (getD list i 0) n h, ne-eqb (getD list i 0) a d, m) at ends-next));
-          later-is = rw add-one (omega (arith, s .later-is, x));
-          high-is = rw add-one (omega (arith, s .high-is, y));
-          first-is = rw add-one (ap (λ (x : ℕ). min x (first-key places a (drop (suc i) xs))) e
-              ∙ sooner-min (getD places a 0) (getD places b 0) b key (first-key places a (drop (suc i) xs)) ∙ ap (min key) (sym z) ∙ s .first-is);
-          few-key = omega (arith, e, sooner-least (getD places a 0) (getD places b 0) b key, s .few-key);
-          few-later = omega (arith, byte-bit (is-later (getD list i 0)), bit-one (is-later (getD list i 0)), s .few-later);
-          few-high = omega (arith, byte-bit (is-high (getD list i 0)), bit-one (is-high (getD list i 0)), s .few-high);
+          marks = rw (lt-ltb b n l, m) at (s .marks);
+          is = rw e (s .is);
+          later = rw e (parts .0);
+          high = rw e (parts .1);
         }
 
-  pub counting-end : (later high key i : ℕ) → k ≤ i → Counting n links numbers places a xs later high key i
-      → Ends-counted n links numbers places a xs true later high (key % 65536)
-  unfolding ends-good later-count high-count all count first-key
-  counting-end later high key i l s =
-      let at : i ≡ length xs = omega (arith, s .low, long) in
-      let e : drop i xs ≡ [] = ap (λ (j : ℕ). drop j xs) at ∙ drop-length xs in
-      record {
-        answer = rw e at (s .good);
-        later-is = λ _. let z = rw e at (s .later-is) in omega (arith, z);
-        high-is = λ _. let z = rw e at (s .high-is) in omega (arith, z);
-        first-is = λ _. let z = rw e at (s .first-is) in ap (λ (x : ℕ). x % 65536) (omega (arith, z, s .few-key));
-      }
+  module _ (xs rest : List ℕ) (now after : Counts) (good : Bool) (s : Counting n links numbers places a whole (xs ++ rest) before now)
+      (c : Ends-counted n links numbers places a xs now good after) where
+    parted : ends-mark n links a whole ≡ (ends-mark n links a xs && ends-mark n links a rest)
+    unfolding ends-mark
+    parted = sym (s .marks) ∙ all-append (λ b. ltb b n && marked links b a) xs rest
+
+    pub counting-bad : good ≡ false → Ends-counted n links numbers places a whole before good after
+    counting-bad g = rw g (not-counted after (go (bool-cases (ends-mark n links a xs))))
+      where
+        go : (ends-mark n links a xs ≡ true) ⊎ (ends-mark n links a xs ≡ false) → (ends-mark n links a whole && leb (before .count + length whole) max-neighbours) ≡ false
+        go (inl e) =
+            let many = leb-false (now .count + length xs) max-neighbours (rw e at (sym (c .answer) ∙ g)) in
+            rw (lt-leb (before .count + length whole) max-neighbours (omega (arith, many, counting-few (xs ++ rest) now s, length-append xs rest)))
+            (and-false (ends-mark n links a whole))
+        go (inr e) = rw (parted, e)
+
+    pub counting-part : good ≡ true → Counting n links numbers places a whole rest before after × (after .count ≤ max-neighbours)
+    counting-part g =
+        let yes = sym (c .answer) ∙ g in
+        let is-after = c .counted g in
+        let parts = counted-parts numbers places a xs now (s .later) (s .high) in
+        let few = leb-true (now .count + length xs) max-neighbours (and-right (ends-mark n links a xs) (leb (now .count + length xs) max-neighbours) yes) in (
+          record {
+            marks = sym (parted ∙ rw (and-left (ends-mark n links a xs) (leb (now .count + length xs) max-neighbours) yes));
+            is = ap (folded (end-counted numbers places a) rest) is-after ∙ sym (folded-append (end-counted numbers places a) xs rest now) ∙ s .is;
+            later = rw is-after (parts .0);
+            high = rw is-after (parts .1);
+          },
+          omega (arith, few, counted-all numbers places a xs now, ap (λ (x : Counts). x .count) is-after),
+        )
+
+  pub counting-end : (rest : List ℕ) (now : Counts) (good : Bool) → rest ≡ [] → good ≡ leb (now .count) max-neighbours
+      → Counting n links numbers places a whole rest before now → Ends-counted n links numbers places a whole before good now
+  unfolding ends-mark all folded
+  counting-end rest now good e g s =
+      let none = rw e at (s .marks) in
+      let all-counted : now .count ≡ before .count + length whole = omega (arith, counting-few rest now s, ap length e) in
+      record { answer = g ∙ ap (λ (k : ℕ). leb k max-neighbours) all-counted ∙ rw (sym none); counted = λ _. rw e at (s .is) }
+
+-- ---- the radios of a word, the lowest first
+
+abbrev pub Word-counting : (n : ℕ) → (links numbers places : List ℕ) → (a base word : ℕ) → (before now : Counts) → (rest : ℕ) → Type 0
+Word-counting n ts ns ps a base word before now rest = (rest < 2 ^ 64) × Counting n ts ns ps a (set-bits 64 base word) (set-bits 64 base rest) before now
+
+module _ (n : ℕ) (links numbers places : List ℕ) (a base word : ℕ) (before now : Counts) (rest : ℕ) (some : rest ≡ 0 → ⊥)
+    (s : Word-counting n links numbers places a base word before now rest) where
+  abbrev end : ℕ
+  end = base + trailingZeros 64 rest
+
+  first-bit : set-bits 64 base rest ≡ end ∷ set-bits 64 base (bitAnd rest (rest - 1))
+  first-bit = set-bits-lowest 64 base rest (omega (arith, some)) (s .0)
+
+  split : Counting n links numbers places a (set-bits 64 base word) (end ∷ set-bits 64 base (bitAnd rest (rest - 1))) before now
+  split = rw first-bit at (s .1)
+
+  pub word-unmarked : (after : Counts) → marked links end a ≡ false → Ends-counted n links numbers places a (set-bits 64 base word) before false after
+  word-unmarked after m = counting-unmarked end (set-bits 64 base (bitAnd rest (rest - 1))) now split after m
+
+  pub word-turn : (after : Counts) → end < n → marked links end a ≡ true → after ≡ end-counted numbers places a end now
+      → Word-counting n links numbers places a base word before after (bitAnd rest (rest - 1))
+  word-turn after l m e = (
+    omega (arith, and-le-l rest (rest - 1), s .0),
+    counting-one end (set-bits 64 base (bitAnd rest (rest - 1))) now split after l m e,
+  )
+
+  -- one more fits a byte
+  pub word-few : before .count ≤ max-neighbours → now .count ≤ 103
+  word-few few =
+      omega (arith, few, counting-few (set-bits 64 base rest) now (s .1), length-set-bits-le 64 base word, ap length first-bit)
+
+pub word-end : (n : ℕ) (links numbers places : List ℕ) (a base word : ℕ) (before now : Counts) (rest : ℕ) → rest ≡ 0
+    → Word-counting n links numbers places a base word before now rest
+    → Ends-counted n links numbers places a (set-bits 64 base word) before (leb (now .count) max-neighbours) now
+word-end n links numbers places a base word before now rest z s =
+    counting-end (set-bits 64 base rest) now (leb (now .count) max-neighbours) (ap (set-bits 64 base) z ∙ set-bits-nothing 64 base) refl (s .1)
+
+-- the code's sums are the definition's
+pub end-counted-code : (ns ps : List ℕ) (a b : ℕ) (c : Counts) (first : ℕ) → first ≡ sooner-key (getD ps a 0) (getD ps b 0) b (c .first)
+    → counts (c .count + 1) (c .later + boolByte (ltb (getD ps a 0) (getD ps b 0))) (c .high + boolByte (leb (number-in ns a) (number-in ns b))) first
+    ≡ end-counted ns ps a b c
+unfolding end-counted
+end-counted-code ns ps a b c first e = rw (byte-bit (ltb (getD ps a 0) (getD ps b 0)), byte-bit (leb (number-in ns a) (number-in ns b)), e)
+
+pub byte-fits : (x : ℕ) (t : Bool) → x ≤ 103 → Fits w8 (x + boolByte t)
+byte-fits x t l = omega (arith, byte-bit t, bit-one t)
+
+-- ---- a row, word by word
+
+abbrev pub Row-counting : (n : ℕ) → (links numbers places : List ℕ) → (a k : ℕ) → (now : Counts) → Type 0
+Row-counting n ts ns ps a k now = (k ≤ 8) × (now .count ≤ max-neighbours) × Counting n ts ns ps a (neighbours-of ts a) (row-from ts a k) no-ends now
+
+pub word-room : (n : ℕ) (links numbers places : List ℕ) (a : ℕ) → Rows-room n (length links) (length numbers) (length places) → a < n
+    → (k : ℕ) (now : Counts) → k < 8 → Row-counting n links numbers places a k now
+    → Word-room n a (64 * k) (length links) (length places) now
+word-room n links numbers places a room radio k now l s = record {
+  linked = room .linked;
+  placed = room .placed;
+  small = room .small;
+  radio = radio;
+  within = omega arith;
+  counted = record { few = s .1; later = s .2 .later; high = s .2 .high };
+}
+
+pub row-counting-none : (n : ℕ) (links numbers places : List ℕ) (a : ℕ) → Row-counting n links numbers places a 0 no-ends
+row-counting-none n links numbers places a =
+    (omega arith, omega arith, rw (row-from-zero links a) (counting-none (omega arith) (omega arith)))
+
+module _ (n : ℕ) (links numbers places : List ℕ) (bytes : (j : ℕ) → getD links j 0 < 256) (long : length links ≡ row-bytes * n) (a : ℕ) (radio : a < n)
+    (k : ℕ) (now : Counts) (l : k < 8) (s : Row-counting n links numbers places a k now) (word : ℕ) (read : word ≡ word-of links a k)
+    (good : Bool) (after : Counts) (c : Ends-counted n links numbers places a (set-bits 64 (64 * k) word) now good after) where
+  word-is : word ≡ row-word 8 links (row-bytes * a + 8 * k)
+  word-is = read ∙ word-of-whole links a k (omega arith)
+
+  split-row : Counting n links numbers places a (neighbours-of links a) (set-bits 64 (64 * k) word ++ row-from links a (k + 1)) no-ends now
+  split-row = rw (row-from-word links bytes a k l ∙ ap (λ (x : ℕ). set-bits 64 (64 * k) x ++ row-from links a (k + 1)) (sym word-is)) at (s .2)
+
+  pub row-counting-bad : good ≡ false → Ends-counted n links numbers places a (neighbours-of links a) no-ends good after
+  row-counting-bad g = counting-bad (set-bits 64 (64 * k) word) (row-from links a (k + 1)) now after good split-row c g
+
+  pub row-counting-turn : good ≡ true → Row-counting n links numbers places a (k + 1) after
+  row-counting-turn g =
+      let r = counting-part (set-bits 64 (64 * k) word) (row-from links a (k + 1)) now after good split-row c g in (omega arith, r .1, r .0)
+
+pub row-counting-end : (n : ℕ) (links numbers places : List ℕ) (a k : ℕ) (now : Counts) (good : Bool) → good ≡ true → 8 ≤ k
+    → Row-counting n links numbers places a k now → Ends-counted n links numbers places a (neighbours-of links a) no-ends good now
+row-counting-end n links numbers places a k now good g l s =
+    counting-end (row-from links a k) now good (row-from-end links a k l) (g ∙ sym (le-leb (now .count) max-neighbours (s .1))) (s .2)
+
+-- ---- a row's own radio
+
+-- marked by its own row, it is no good end
+pub ends-own : (n : ℕ) (links : List ℕ) (a : ℕ) → a < max-radios → marked links a a ≡ true → ends-good n links a (neighbours-of links a) ≡ false
+unfolding ends-good neighbours-of
+ends-own n links a l m = go (bool-cases (ends-good n links a (neighbours-of links a)))
+  where
+    good : ℕ → Bool
+    good b = ltb b n && (not (eqb b a) && marked links b a)
+
+    mine : In a (neighbours-of links a)
+    mine = filter-in (λ b. marked links a b) (range 0 max-radios) a (in-range 0 max-radios a (omega arith) (omega arith)) m
+
+    go : (ends-good n links a (neighbours-of links a) ≡ true) ⊎ (ends-good n links a (neighbours-of links a) ≡ false) → ends-good n links a (neighbours-of links a) ≡ false
+    go (inl e) =
+        never (good a) (all-in good (neighbours-of links a) e a mine) (rw (eq-eqb a a refl, and-false (ltb a n)))
+    go (inr e) = e
+
+-- not marked, it is none of its ends
+pub ends-others : (n : ℕ) (links : List ℕ) (a : ℕ) → marked links a a ≡ false → ends-good n links a (neighbours-of links a) ≡ ends-mark n links a (neighbours-of links a)
+unfolding ends-good ends-mark all
+ends-others n links a m = go (neighbours-of links a) (λ b i. in-neighbours-of links a b i .1)
+  where
+    go : (xs : List ℕ) → ((b : ℕ) → In b xs → marked links a b ≡ true) → ends-good n links a xs ≡ ends-mark n links a xs
+    go [] h = refl
+    go (b ∷ bs) h =
+        let other : eqb b a ≡ false = ne-eqb b a (λ e. never (marked links a b) (h b (inl refl)) (ap (marked links a) e ∙ m)) in
+        rw (other, go bs (λ c i. h c (inr i)))
 
 -- ---- one row
 
-module _ (n : ℕ) (links numbers places : List ℕ) (a : ℕ) (list after : List ℕ) (k : ℕ)
-    (room : Rows-room n (length links) (length numbers) (length places) (length list)) (radio : a < n)
-    (counted : k ≡ min (length list) (row-count max-neighbours links a))
-    (listed : after ≡ overwrite (take (min (length list) (suc max-neighbours)) (row-listed links a)) list) where
+module _ (n : ℕ) (links numbers places : List ℕ) (a : ℕ) (room : Rows-room n (length links) (length numbers) (length places)) (radio : a < n) where
   abbrev near : List ℕ
   near = neighbours-of links a
-
-  whole : row-listed links a ≡ near
-  whole = row-listed-radio n links (room .linked) a radio
-
-  k-is : k ≡ min (suc max-neighbours) (length near)
-  unfolding row-count
-  k-is = omega (arith, counted, ap length whole, room .listed)
 
   row-bad : row-good max-neighbours n links numbers places a ≡ false → Row-checked n links numbers places a false 0
   row-bad e = record { answer = sym e; high-is = λ f. never false f refl }
 
-  pub row-many : max-neighbours < k → Row-checked n links numbers places a false 0
+  pub ends-room : Rows-room (length numbers) (length links) (length numbers) (length places) × (a < length numbers)
+  ends-room = (
+    record {
+      linked = omega (arith, room .linked, room .numbered);
+      numbered = refl;
+      placed = omega (arith, room .placed, room .numbered);
+      small = omega (arith, room .small, room .numbered);
+    },
+    omega (arith, radio, room .numbered),
+  )
+
+  -- a radio that marks itself
+  pub row-own : marked links a a ≡ true → Row-checked n links numbers places a false 0
   unfolding row-good
-  row-many l = row-bad (rw (lt-leb (length near) max-neighbours (omega (arith, k-is))))
+  row-own m = row-bad (rw (ends-own n links a (omega (arith, radio, room .small)) m, and-false (leb (length near) max-neighbours)))
 
-  module _ (few : k ≤ max-neighbours) (good : Bool) (later high first : ℕ)
-      (ends : Ends-counted (length numbers) links numbers places a (take k after) good later high first) where
-    short : leb (length near) max-neighbours ≡ true
-    short = le-leb (length near) max-neighbours (omega (arith, k-is))
+  module _ (other : marked links a a ≡ false) (good : Bool) (after : Counts)
+      (c : Ends-counted (length numbers) links numbers places a near no-ends good after) where
+    ends : Ends-counted n links numbers places a near no-ends good after
+    ends = rw (room .numbered) at c
 
-    -- what is listed are the neighbours
-    near-is : take k after ≡ near
-    near-is =
-        row-listed-fits max-neighbours links a list after k (omega (arith, ap length whole, k-is, room .listed)) counted listed .1 ∙ whole
+    same-length : length near ≡ 0 + length near
+    same-length = omega arith
 
-    pub ends-are : Ends-counted n links numbers places a near good later high first
-    ends-are = rw (near-is, room .numbered) at ends
+    answered : (leb (length near) max-neighbours && ends-good n links a near) ≡ good
+    answered =
+        ap (λ (x : Bool). leb (length near) max-neighbours && x) (ends-others n links a other)
+        ∙ and-comm (leb (length near) max-neighbours) (ends-mark n links a near)
+        ∙ ap (λ (k : ℕ). ends-mark n links a near && leb k max-neighbours) same-length
+        ∙ sym (ends .answer)
+
+    good-is : row-good max-neighbours n links numbers places a
+        ≡ (good && (leb (later-count places a near) (number-in numbers a) && leb (number-in numbers a) (high-count numbers a near)))
+    unfolding row-good
+    good-is =
+        let counts-good = leb (later-count places a near) (number-in numbers a) && leb (number-in numbers a) (high-count numbers a near) in
+        sym (and-assoc (leb (length near) max-neighbours) (ends-good n links a near) counts-good) ∙ ap (λ (x : Bool). x && counts-good) answered
 
     pub row-ends-bad : good ≡ false → Row-checked n links numbers places a false 0
-    unfolding row-good
-    row-ends-bad e = row-bad (rw (short, sym (ends-are .answer) ∙ e))
+    row-ends-bad g = row-bad (good-is ∙ rw g)
 
     module _ (g : good ≡ true) where
-      ends-good-are : ends-good n links a near ≡ true
-      ends-good-are = sym (ends-are .answer) ∙ g
+      later-is : after .later ≡ later-count places a near
+      later-is = ap (λ (x : Counts). x .later) (ends .counted g) ∙ counted-later numbers places a near no-ends ∙ omega arith
 
-      pub row-later-bad : number-in numbers a < later → Row-checked n links numbers places a false 0
-      unfolding row-good
-      row-later-bad l = row-bad (rw (short, ends-good-are, lt-leb (later-count places a near) (number-in numbers a) (omega (arith, ends-are .later-is g))))
+      high-is : after .high ≡ high-count numbers a near
+      high-is = ap (λ (x : Counts). x .high) (ends .counted g) ∙ counted-high numbers places a near no-ends ∙ omega arith
 
-      pub row-high-bad : later ≤ number-in numbers a → high < number-in numbers a → Row-checked n links numbers places a false 0
-      unfolding row-good
-      row-high-bad l h = row-bad (rw (
-        short,
-        ends-good-are,
-        le-leb (later-count places a near) (number-in numbers a) (omega (arith, ends-are .later-is g)),
-        lt-leb (number-in numbers a) (high-count numbers a near) (omega (arith, ends-are .high-is g)),
+      pub row-later-bad : number-in numbers a < after .later → Row-checked n links numbers places a false 0
+      row-later-bad l = row-bad (good-is ∙ rw (g, lt-leb (later-count places a near) (number-in numbers a) (omega (arith, later-is))))
+
+      pub row-high-bad : after .later ≤ number-in numbers a → after .high < number-in numbers a → Row-checked n links numbers places a false 0
+      row-high-bad l h = row-bad (good-is ∙ rw (
+        g,
+        le-leb (later-count places a near) (number-in numbers a) (omega (arith, later-is)),
+        lt-leb (number-in numbers a) (high-count numbers a near) (omega (arith, high-is)),
       ))
 
-      pub row-right : later ≤ number-in numbers a → number-in numbers a ≤ high → Row-checked n links numbers places a true high
-      unfolding row-good
+      pub row-right : after .later ≤ number-in numbers a → number-in numbers a ≤ after .high → Row-checked n links numbers places a true (after .high)
       row-right l h = record {
-        answer = sym (rw (
-          short,
-          ends-good-are,
-          le-leb (later-count places a near) (number-in numbers a) (omega (arith, ends-are .later-is g)),
-          le-leb (number-in numbers a) (high-count numbers a near) (omega (arith, ends-are .high-is g)),
+        answer = sym (good-is ∙ rw (
+          g,
+          le-leb (later-count places a near) (number-in numbers a) (omega (arith, later-is)),
+          le-leb (number-in numbers a) (high-count numbers a near) (omega (arith, high-is)),
         ));
-        high-is = λ _. ends-are .high-is g;
+        high-is = λ _. high-is;
       }

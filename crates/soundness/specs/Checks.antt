@@ -1,13 +1,16 @@
 -- The soundness check, row by row.
 --   Placed n order places    the table of places says where each radio stands in the order
 --   sooner-key               the first of a radio and a key
+--   Counts, no-ends          how many ends of a row are counted, how many of them are later and the key of the first of these, how many are high
+--   end-counted              the counts with one end more
 --   later-count              how many of some radios stand later in the order than a: document 01's "neighbours later in the order"
 --   first-key                the place and the radio, as one number, of the first of some radios that stands later in the order than a
 --   high-count               how many of some radios have a number that is not below that of a
 --   ends-good                each of some radios is below n, is not a, and marks a too
+--   ends-mark                each of some radios is below n and marks a
 --   rising-from              numbers never fall along a list, and do not begin below the given one
 --   row-good                 the conditions of document 01 on radio a: its row, its later neighbours, its neighbours that are not below it
---   Sound-radio, Ends-room, Rows-room   what private functions of src/lib.rt want of the tables that they read
+--   Sound-radio, Rows-room, Word-room   what private functions of src/lib.rt want of the tables that they read
 --   Placing, Places-found, Ends-counted, Later-counted, Row-checked, Highs, Rows-checked, Examined   what the functions of src/lib.rt come back with
 --   nowhere                  a place that no entry of an order has
 --   examinable               questions 1 and 2 get yes, and the lent tables of places and high counts are long enough
@@ -21,7 +24,7 @@ use Prim.Native.Nat.{ℕ, suc, _+_, _*_, _%_, _≤_, _<_, min}
 use lib.Dec.{ltb, leb, eqb}
 use lib.ListN.{length, getD}
 use Rattle.mesh.specs.Limits.{max-radios, max-neighbours, row-bytes}
-use Rattle.lists.specs.Lists.{range, count, all, head-or}
+use Rattle.lists.specs.Lists.{range, count, all, head-or, folded}
 use Rattle.mesh.specs.Orders.{each-once, later-in, nobody}
 use Rattle.mesh.specs.Tables.{Tables, marked, graph-in}
 use Rattle.mesh.specs.Graph.{linked}
@@ -50,6 +53,29 @@ high-count ns a xs = count (λ b. leb (number-in ns a) (number-in ns b)) xs
 
 unfoldable pub ends-good : (n : ℕ) → (links : List ℕ) → (a : ℕ) → (radios : List ℕ) → Bool
 ends-good n ts a xs = all (λ b. ltb b n && (not (eqb b a) && marked ts b a)) xs
+
+unfoldable pub ends-mark : (n : ℕ) → (links : List ℕ) → (a : ℕ) → (radios : List ℕ) → Bool
+ends-mark n ts a xs = all (λ b. ltb b n && marked ts b a) xs
+
+-- `first` is a key
+pub record Counts : Type 0 where
+  pub count : ℕ
+  pub later : ℕ
+  pub high : ℕ
+  pub first : ℕ
+
+abbrev pub counts : (count later high first : ℕ) → Counts
+counts c l h f = record { count = c; later = l; high = h; first = f }
+
+abbrev pub no-ends : Counts
+no-ends = counts 0 0 0 4294967295
+
+unfoldable pub end-counted : (numbers places : List ℕ) → (a b : ℕ) → Counts → Counts
+end-counted ns ps a b c =
+    counts (c .count + 1)
+    (c .later + cond (ltb (getD ps a 0) (getD ps b 0)) 1 0)
+    (c .high + cond (leb (number-in ns a) (number-in ns b)) 1 0)
+    (sooner-key (getD ps a 0) (getD ps b 0) b (c .first))
 
 unfoldable pub row-good : (most n : ℕ) → (links numbers places : List ℕ) → (a : ℕ) → Bool
 row-good most n ts ns ps a =
@@ -83,12 +109,10 @@ pub record Places-found (order before after : List ℕ) (r : Bool) : Type 0 wher
   pub answer : r ≡ (leb (length order) (min max-radios (length before)) && each-once (length order) order)
   pub placed : r ≡ true → Placed (length order) order after
 
--- whether the radios xs are good ends of a, and then how many are later and the first of them, and how many are not below
-pub record Ends-counted (n : ℕ) (links numbers places : List ℕ) (a : ℕ) (xs : List ℕ) (good : Bool) (later high first : ℕ) : Type 0 where
-  pub answer : good ≡ ends-good n links a xs
-  pub later-is : good ≡ true → later ≡ later-count places a xs
-  pub first-is : good ≡ true → first ≡ first-key places a xs % 65536
-  pub high-is : good ≡ true → high ≡ high-count numbers a xs
+-- whether the radios xs mark a and are, with those counted before, no more than a row may have, and then the counts
+pub record Ends-counted (n : ℕ) (links numbers places : List ℕ) (a : ℕ) (xs : List ℕ) (before : Counts) (good : Bool) (after : Counts) : Type 0 where
+  pub answer : good ≡ (ends-mark n links a xs && leb (before .count + length xs) max-neighbours)
+  pub counted : good ≡ true → after ≡ folded (end-counted numbers places a) xs before
 
 -- sound tables and a radio of theirs
 pub record Sound-radio (n v : ℕ) (t : Tables) : Type 0 where
@@ -100,22 +124,27 @@ pub record Later-counted (n v : ℕ) (t : Tables) (later first : ℕ) : Type 0 w
   pub later-is : later ≡ length (later-in (linked (graph-in n (t .links))) v (t .order))
   pub first-is : first ≡ head-or nobody (later-in (linked (graph-in n (t .links))) v (t .order))
 
--- what counting the ends of a row wants of the lengths of the tables it reads
-pub record Ends-room (a k links numbers places list : ℕ) : Type 0 where
-  pub linked : links ≡ row-bytes * numbers
-  pub listed : k ≤ list
-  pub few : k ≤ max-neighbours
-  pub placed : numbers ≤ places
-  pub radio : a < numbers
-  pub small : numbers ≤ max-radios
-
--- what checking rows wants of the lengths of the tables that it reads and of its list, which has room to tell a row with too many
-pub record Rows-room (n links numbers places list : ℕ) : Type 0 where
+-- what checking rows wants of the lengths of the tables that it reads
+pub record Rows-room (n links numbers places : ℕ) : Type 0 where
   pub linked : links ≡ row-bytes * n
   pub numbered : numbers ≡ n
   pub placed : n ≤ places
-  pub listed : suc max-neighbours ≤ list
   pub small : n ≤ max-radios
+
+-- parts are no more than the whole, which is no more than a row may have
+pub record Few-counted (c : Counts) : Type 0 where
+  pub few : c .count ≤ max-neighbours
+  pub later : c .later ≤ c .count
+  pub high : c .high ≤ c .count
+
+-- what counting the radios of a word of row a, those from `base` on, wants of the tables and of the counts so far
+pub record Word-room (n a base links places : ℕ) (so-far : Counts) : Type 0 where
+  pub linked : links ≡ row-bytes * n
+  pub placed : n ≤ places
+  pub small : n ≤ max-radios
+  pub radio : a < n
+  pub within : base + 64 ≤ max-radios
+  pub counted : Few-counted so-far
 
 -- whether row a is good, and then the high count of a
 pub record Row-checked (n : ℕ) (links numbers places : List ℕ) (a : ℕ) (good : Bool) (high : ℕ) : Type 0 where

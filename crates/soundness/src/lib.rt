@@ -2,7 +2,7 @@
 // tested before it is used as an index.
 ghost use mathlib.Core.Path.{_≡_};
 ghost use Prim.Native.Nat.{_≤_, _<_};
-ghost use lib.ListN.{length, take};
+ghost use lib.ListN.{length};
 ghost use Rattle.mesh.specs.Limits.{max-radios};
 ghost use Rattle.mesh.specs.Orders.{rising};
 ghost use Rattle.mesh.specs.Sound.{number-in, sound};
@@ -11,7 +11,9 @@ ghost use Rattle.calls.specs.Questions.{lengths-of, site-refusal};
 ghost use Rattle.calls.specs.Contracts.Sites.{Check-contract};
 ghost use Rattle.tables.specs.Sizes.{lengths};
 ghost use Rattle.lists.specs.Lists.{Entries-below};
-ghost use Rattle.soundness.specs.Checks.{Placing, Places-found, sooner-key, Ends-room, Ends-counted, Rows-room, Row-checked, Rows-checked};
+ghost use Rattle.rows.specs.Rows.{neighbours-of, set-bits};
+ghost use Rattle.soundness.specs.Checks.{Placing, Places-found, sooner-key, counts, no-ends, Word-room, Ends-counted};
+ghost use Rattle.soundness.specs.Checks.{Rows-room, Row-checked, Rows-checked};
 ghost use Rattle.soundness.specs.Checks.{examinable, Examined, fits-sound};
 use calls::Refusal;
 use calls::Value;
@@ -31,7 +33,8 @@ pub(crate) fn place(order: &[u16], places: &mut [u16]) -> bool
     requires { ⌜ (length (now order) ≤ length (now places)) × (length (now order) ≤ max-radios) ⌝ }
     ensures { λ r. ⌜ Placing (now (order .entry)) (now (places .entry)) (now (places .exit)) r ⌝ }
 {
-    tables::fill::fill16(places, NOWHERE);
+    let many = order.len();
+    tables::fill::fill16(&mut places[..many], NOWHERE);
     let mut i: usize = 0;
     while i < order.len() {
         let v = order[i] as usize;
@@ -80,11 +83,14 @@ fn rises(numbers: &[u8], order: &[u16]) -> bool
     true
 }
 
+// The ends of a row counted so far: whether they are good, how many, how many stand later in the order than the row's radio and the
+// key of the first of these, how many have a number that is not below the radio's.
 pub(crate) struct Ends {
     pub(crate) good: bool,
+    pub(crate) count: u8,
     pub(crate) later: u8,
     pub(crate) high: u8,
-    pub(crate) first: u16,
+    pub(crate) first: u32,
 }
 
 // The key of the radio b at place p, where that is later than `place` and before the key's; else the key. A key is a place and
@@ -102,54 +108,82 @@ fn sooner(place: u16, p: u16, b: u16, key: u32) -> u32
     own
 }
 
-// Whether the first k listed radios are of the site, are not a, and mark a too; how many of them stand later in the order than a,
-// and the first of these, 65,535 when there are none; and how many have a number that is not below that of a.
-pub(crate) fn count_ends(
+// The radios of one word of row a, those from `base` on, counted after the ends before them. They are good where each is of the
+// site and marks a too, and all so far are no more than a row may have. At most 64 follow 40, which a byte holds.
+fn count_word(
     links: &[u8],
     numbers: &[u8],
     places: &[u16],
-    list: &[u16],
-    k: usize,
-    a: usize,
+    a: u32,
+    base: u32,
+    word: u64,
+    ends: Ends,
 ) -> Ends
-    requires { ⌜ Ends-room a k (length (now links)) (length (now numbers)) (length (now places)) (length (now list)) ⌝ }
+    requires { ⌜ Word-room (length (now numbers)) a base (length (now links)) (length (now places))
+        (counts (ends .count) (ends .later) (ends .high) (ends .first)) ⌝ }
     ensures { λ r. ⌜ Ends-counted (length (now (numbers .entry))) (now (links .entry)) (now (numbers .entry)) (now (places .entry)) a
-        (take k (now (list .entry))) (r .good) (r .later) (r .high) (r .first) ⌝ }
+        (set-bits 64 base word) (counts (ends .count) (ends .later) (ends .high) (ends .first)) (r .good)
+        (counts (r .count) (r .later) (r .high) (r .first)) ⌝ }
 {
-    let bad = Ends {
-        good: false,
-        later: 0,
-        high: 0,
-        first: 0,
-    };
-    let place = places[a];
-    let number = numbers[a];
-    let mut later: u8 = 0;
-    let mut high: u8 = 0;
-    let mut key: u32 = NO_KEY;
-    let mut i: usize = 0;
-    while i < k {
-        let x = list[i];
-        let b = x as usize;
-        if b == a {
-            return bad;
-        }
+    let place = places[a as usize];
+    let number = numbers[a as usize];
+    let mut count = ends.count;
+    let mut later = ends.later;
+    let mut high = ends.high;
+    let mut first = ends.first;
+    let mut rest = word;
+    while rest != 0 {
+        let b = base + u64::trailing_zeros(rest);
         // a radio at n or above has no row, and so marks nothing
-        if !rows::is_marked(links, b as u32, a as u32) {
-            return bad;
+        if !rows::is_marked(links, b, a) {
+            return Ends {
+                good: false,
+                count: 0,
+                later: 0,
+                high: 0,
+                first: 0,
+            };
         }
-        let p = places[b];
+        let p = places[b as usize];
         later += (place < p) as u8;
-        key = sooner(place, p, x, key);
-        high += (number <= numbers[b]) as u8;
-        i += 1;
+        first = sooner(place, p, b as u16, first);
+        high += (number <= numbers[b as usize]) as u8;
+        count += 1;
+        rest = rest & (rest - 1);
     }
     Ends {
-        good: true,
+        good: count <= Site::NEIGHBOURS as u8,
+        count,
         later,
         high,
-        first: (key % 65536) as u16,
+        first,
     }
+}
+
+// The ends of row a, word by word: whether each is of the site and marks a too, and they are no more than a row may have; and then
+// their counts.
+pub(crate) fn count_ends(links: &[u8], numbers: &[u8], places: &[u16], a: u32) -> Ends
+    requires { ⌜ Rows-room (length (now numbers)) (length (now links)) (length (now numbers)) (length (now places)) × (a < length (now numbers)) ⌝ }
+    ensures { λ r. ⌜ Ends-counted (length (now (numbers .entry))) (now (links .entry)) (now (numbers .entry)) (now (places .entry)) a
+        (neighbours-of (now (links .entry)) a) no-ends (r .good) (counts (r .count) (r .later) (r .high) (r .first)) ⌝ }
+{
+    let mut ends = Ends {
+        good: true,
+        count: 0,
+        later: 0,
+        high: 0,
+        first: NO_KEY,
+    };
+    let mut k: u32 = 0;
+    while k < Site::RADIOS / 64 {
+        let word = rows::row_word(links, a, k);
+        ends = count_word(links, numbers, places, a, 64 * k, word, ends);
+        if !ends.good {
+            return ends;
+        }
+        k += 1;
+    }
+    ends
 }
 
 struct Row {
@@ -157,28 +191,19 @@ struct Row {
     high: u8,
 }
 
-// Whether document 01's conditions on radio a hold, and then how many of its neighbours have a number that is not below its
-// own. `list` holds anything after.
-fn row_checked(
-    n: u32,
-    links: &[u8],
-    numbers: &[u8],
-    places: &[u16],
-    list: &mut [u16],
-    a: u32,
-) -> Row
-    requires { ⌜ Rows-room n (length (now links)) (length (now numbers)) (length (now places)) (length (now list)) × (a < n) ⌝ }
+// Whether document 01's conditions on radio a hold, and then how many of its neighbours have a number that is not below its own.
+fn row_checked(n: u32, links: &[u8], numbers: &[u8], places: &[u16], a: u32) -> Row
+    requires { ⌜ Rows-room n (length (now links)) (length (now numbers)) (length (now places)) × (a < n) ⌝ }
     ensures { λ r. ⌜ Row-checked n (now (links .entry)) (now (numbers .entry)) (now (places .entry)) a (r .good) (r .high) ⌝ }
 {
     let bad = Row {
         good: false,
         high: 0,
     };
-    let k = rows::row_neighbours(links, a, list);
-    if Site::NEIGHBOURS < k as u32 {
+    if rows::is_marked(links, a, a) {
         return bad;
     }
-    let ends = count_ends(links, numbers, places, list, k as usize, a as usize);
+    let ends = count_ends(links, numbers, places, a);
     if !ends.good {
         return bad;
     }
@@ -196,23 +221,15 @@ fn row_checked(
 }
 
 // Whether document 01's conditions hold of every radio below n, and then `highs` holds for each of them how many of its
-// neighbours have a number that is not below its own; else `highs` holds anything. `list` holds anything after.
-fn rows_checked(
-    n: u32,
-    links: &[u8],
-    numbers: &[u8],
-    places: &[u16],
-    list: &mut [u16],
-    highs: &mut [u8],
-) -> bool
-    requires { ⌜ Rows-room n (length (now links)) (length (now numbers)) (length (now places)) (length (now list)) ×
-        (n ≤ length (now highs)) ⌝ }
+// neighbours have a number that is not below its own; else `highs` holds anything.
+fn rows_checked(n: u32, links: &[u8], numbers: &[u8], places: &[u16], highs: &mut [u8]) -> bool
+    requires { ⌜ Rows-room n (length (now links)) (length (now numbers)) (length (now places)) × (n ≤ length (now highs)) ⌝ }
     ensures { λ r. ⌜ Rows-checked n (now (links .entry)) (now (numbers .entry)) (now (places .entry)) (now (highs .entry))
         (now (highs .exit)) r ⌝ }
 {
     let mut a: u32 = 0;
     while a < n {
-        let row = row_checked(n, links, numbers, places, list, a);
+        let row = row_checked(n, links, numbers, places, a);
         if !row.good {
             return false;
         }
@@ -273,8 +290,7 @@ pub fn examine(
     if !rises(numbers, order) {
         return false;
     }
-    let mut list = [0u16; Site::NEIGHBOURS as usize + 1];
-    rows_checked(n, links, numbers, places, &mut list, highs)
+    rows_checked(n, links, numbers, places, highs)
 }
 
 // Whether n is from 1 to 512, the tables have their lengths, and they are sound.

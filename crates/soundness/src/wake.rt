@@ -1,6 +1,6 @@
 // The later neighbours of a radio: how many, and the first of them in the order, through which the radio is woken.
 ghost use mathlib.Core.Path.{_≡_};
-ghost use Prim.Native.Nat.{_<_};
+ghost use Prim.Native.Nat.{_%_};
 ghost use lib.ListN.{length};
 ghost use Rattle.mesh.specs.Tables.{lent, tables};
 ghost use Rattle.mesh.specs.Sound.{sound};
@@ -36,13 +36,12 @@ pub fn radio_refusal<'a>(
 // The later neighbours of radio v of sound tables, as the check counts them.
 fn later_ends(links: &[u8], numbers: &[u8], order: &[u16], v: u32) -> Ends
     requires { ⌜ Sound-radio (length (now order)) v (tables (now links) (now numbers) (now order)) ⌝ }
-    ensures { λ r. ⌜ Later-counted (length (now (order .entry))) v (lent (links .entry) (numbers .entry) (order .entry)) (r .later) (r .first) ⌝ }
+    ensures { λ r. ⌜ Later-counted (length (now (order .entry))) v (lent (links .entry) (numbers .entry) (order .entry)) (r .later)
+        (r .first % 65536) ⌝ }
 {
     let mut places = [0u16; Site::RADIOS as usize];
-    let mut list = [0u16; Site::NEIGHBOURS as usize + 1];
     crate::place(order, &mut places);
-    let k = rows::row_neighbours(links, v, &mut list);
-    crate::count_ends(links, numbers, &places, &list, k as usize, v as usize)
+    crate::count_ends(links, numbers, &places, v)
 }
 
 // How many neighbours of v stand after it in the order, and the first of them, 65,535 when there are none. Or the refusal number of
@@ -62,6 +61,6 @@ pub fn later_of<'a>(n: u32, v: u32, links: &'a [u8], numbers: &'a [u8], order: &
     Later {
         number: 0,
         count: ends.later as u32,
-        first: ends.first as u32,
+        first: ends.first % 65536,
     }
 }

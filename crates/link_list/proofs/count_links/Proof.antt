@@ -5,7 +5,7 @@ use Prim.Native.Nat.{_-_}
 use native.Mathlib.Omega.{arith}
 use lib.ListN.{length}
 use borrow.Author.Needs.{needs}
-use Rattle.link_list.proofs.AboveLaws.{span-count}
+use Rattle.link_list.proofs.AboveLaws.{above-count}
 use Rattle.link_list.proofs.LinksFrom.{Counting, counting-none, counting-turn, counting-end}
 use Rattle.link_list.proofs.count_links.Statement.{statement}
 use Rattle.link_list.proofs.count_links.Tie as tie
@@ -18,12 +18,13 @@ abbrev μ-loop : tie.MeasureT-loop
 
 loop-again : tie.Need-loop-again Inv-loop μ-loop
 loop-again c =
-    let listed = c .before .before .before in
+    let listed = c .before .before in
     let at-loop = listed .before .before .before in
-    let kept = listed .list-above .kept .1 .1 .0 ∙ at-loop .loop .inv .0 in (
+    let kept = listed .row-above .kept .1 .1 .0 ∙ at-loop .loop .inv .0 in (
       kept,
-      counting-turn _ _ _ _ _ _ (at-loop .loop .inv .1) (omega arith) (omega arith)
-          (λ rows. span-count _ _ _ _ _ (listed .list-above .ensures) (omega (arith, rows .few (at-loop .loop .a) (omega arith)))),
+      counting-turn _ _ _ _ _ _ (at-loop .loop .inv .1) (omega arith) (omega (arith, listed .row-above .ensures .0))
+          (λ rows. above-count _ _ (at-loop .loop .list) _ _ (listed .row-above .ensures .0) (listed .row-above .ensures .1)
+          (omega (arith, rows .few (at-loop .loop .a) (omega arith), at-loop .loop .inv .0))),
     )
 
 returns-2 : tie.Need-returns-2 Inv-loop μ-loop
@@ -33,4 +34,4 @@ pub count-links-spec : {M : Type 1} → statement M
 count-links-spec =
     tie.close (
     tie.spec Inv-loop μ-loop (λ c. λ rows. absurd (omega (arith, rows .most))) (λ c. (omega arith, counting-none _ _ _)) (λ c κs. search needs)
-    (λ c. omega arith) (λ c. omega arith) (λ c. omega arith) (λ c. search needs) (λ c. search needs) loop-again (λ c. search needs) returns-2)
+    (λ c. omega arith) (λ c. omega arith) (λ c. search needs) (λ c. search needs) loop-again (λ c. search needs) returns-2)

@@ -1,113 +1,59 @@
--- `soundness::count_ends` meets its contract: what is left of the list and what is counted give what the whole list gives.
--- The measure is what is left of the list.
-use mathlib.Core.Path.{sym, _∙_}
+-- `soundness::count_ends` meets its contract: the words passed are counted, and what is left of the row and the counts give what the
+-- whole row gives (`Row-counting`). The measure is the words that are left.
+use mathlib.Core.Path.{_≡_, refl}
+use mathlib.Core.Bool.{true}
 use Prim.Native.Nat.{_-_}
 use native.Mathlib.Omega.{arith}
-use lib.Dec.{ltb, leb}
-use lib.ListN.{length, getD, take}
+use lib.ListN.{length}
 use borrow.Author.Needs.{needs}
 use borrow.Author.Tests.{not-true, not-false}
-use Rattle.soundness.proofs.RowChecks.{Counting, counting-none, counting-self, counting-alone, counting-turn, counting-end, count-fits, marked-radio}
+use Rattle.soundness.specs.Checks.{counts}
+use Rattle.soundness.proofs.RowChecks.{Row-counting, row-counting-none, word-room, row-counting-bad, row-counting-turn, row-counting-end}
 use Rattle.soundness.proofs.count_ends.Statement.{statement}
 use Rattle.soundness.proofs.count_ends.Tie as tie
 
 abbrev Inv-loop : tie.InvT-loop
-Inv-loop links numbers places list k a bad place number later₀ high₀ key₀ i₀ later high key i = Counting (length numbers) links numbers places a (take k list) later high key i
+Inv-loop links numbers places a ends₀ k₀ ends k =
+    (ends .good ≡ true) × Row-counting (length numbers) links numbers places a k (counts (ends .count) (ends .later) (ends .high) (ends .first))
 
 abbrev μ-loop : tie.MeasureT-loop
-μ-loop links numbers places list k a bad place number later₀ high₀ key₀ i₀ later high key i = k - i
+μ-loop links numbers places a ends₀ k₀ ends k = 8 - k
 
 loop-holds : tie.Need-loop-holds Inv-loop μ-loop
-loop-holds c =
-    let start = c .before .before .before .before .before .before in
-    counting-none _ _ _ _ _ _ _ (start .pre .listed)
+loop-holds c = (refl, row-counting-none _ _ _ _ _)
 
-cast-b : tie.Need-cast-b Inv-loop μ-loop
-cast-b c = omega (arith, c .shared-slice-known7 .given (c .before .before .loop .i))
+count-word-requires : tie.Need-count-word-requires Inv-loop μ-loop
+count-word-requires c κs =
+    let at-loop = c .before .before in
+    let start = at-loop .before .before .before .before in
+    word-room _ (start .args .links .now) (start .args .numbers .now) (start .args .places .now) _ (start .pre .0) (start .pre .1) _ _ (c .before .loop-test .taken) (at-loop .loop .inv .1)
 
 returns : tie.Need-returns Inv-loop μ-loop
 returns c =
-    let at-loop = c .before .before .before in
-    let start = at-loop .before .before .before .before .before .before .before in
-    let call = start .args in
-    counting-self _ _ _ _ _ _ _ (start .pre .listed) _ _ _ _ (c .before .before .loop-test .taken) (at-loop .loop .inv) (c .if1 .taken)
-
-cast-is-marked : tie.Need-cast-is-marked Inv-loop μ-loop
-cast-is-marked c = omega (arith, c .before .shared-slice-known7 .given (c .before .before .before .loop .i))
-
-cast-is-marked-2 : tie.Need-cast-is-marked-2 Inv-loop μ-loop
-cast-is-marked-2 c = omega (arith, c .before .shared-slice-known7 .given (c .before .before .before .loop .i))
-
-returns-2 : tie.Need-returns-2 Inv-loop μ-loop
-returns-2 c =
-    let at-loop = c .before .before .before .before .before in
-    let start = at-loop .before .before .before .before .before .before .before in
-    let call = start .args in
-    counting-alone _ _ _ _ _ _ _ (start .pre .listed) _ _ _ _ (c .before .before .before .before .loop-test .taken) (at-loop .loop .inv) (sym (c .before .is-marked .ensures) ∙ not-true _ (c .if2 .taken))
-
-mul-p : tie.Need-mul-p Inv-loop μ-loop
-mul-p c =
-    let at-loop = c .before .before .before .before .before in
-    let start = at-loop .before .before .before .before .before .before .before in
-    let call = start .args in
-    let radio = marked-radio _ (call .links .now) (start .pre .linked) _ _ (sym (c .before .is-marked .ensures) ∙ not-false _ (c .if2 .left)) in
-    omega (arith, start .pre .small)
-
-shared-slice-read-p : tie.Need-shared-slice-read-p Inv-loop μ-loop
-shared-slice-read-p c =
-    let at-loop = c .before .before .before .before .before .before in
-    let start = at-loop .before .before .before .before .before .before .before in
-    let call = start .args in
-    let radio = marked-radio _ (call .links .now) (start .pre .linked) _ _ (sym (c .before .before .is-marked .ensures) ∙ not-false _ (c .before .if2 .left)) in
-    omega (arith, start .pre .placed)
-
-add-later : tie.Need-add-later Inv-loop μ-loop
-add-later c =
-    let at-loop = c .before .before .before .before .before .before in
-    let start = at-loop .before .before .before .before .before .before .before in
-    let call = start .args in
-    let b = getD (call .list .now) (at-loop .loop .i) 0 in
-    let few = start .pre .few in
-    count-fits _ (ltb (getD (call .places .now) (call .a) 0) (getD (call .places .now) b 0)) (omega arith)
-
-shared-slice-read-high : tie.Need-shared-slice-read-high Inv-loop μ-loop
-shared-slice-read-high c =
-    let marked = c .before .before .before .before in
-    let at-loop = marked .before .before .before .before in
-    let start = at-loop .before .before .before .before .before .before .before in
-    let call = start .args in
-    let radio = marked-radio _ (call .links .now) (start .pre .linked) _ _ (sym (marked .is-marked .ensures) ∙ not-false _ (c .before .before .before .if2 .left)) in
-    omega arith
-
-add-high : tie.Need-add-high Inv-loop μ-loop
-add-high c =
-    let at-loop = c .before .before .before .before .before .before .before .before in
-    let start = at-loop .before .before .before .before .before .before .before in
-    let call = start .args in
-    let b = getD (call .list .now) (at-loop .loop .i) 0 in
-    let few = start .pre .few in
-    count-fits _ (leb (getD (call .numbers .now) (call .a) 0) (getD (call .numbers .now) b 0)) (omega arith)
+    let counted = c .before .before in
+    let read = counted .before in
+    let at-loop = read .before .before in
+    let start = at-loop .before .before .before .before in
+    row-counting-bad _ _ _ _ (λ j. at-loop .before .before .before .shared-slice-known .given j .fits) (start .pre .0 .linked) _ (start .pre .1) _ _ (read .before .loop-test .taken) (at-loop .loop .inv .1)
+    _ (read .row-word .ensures) _ _ (counted .count-word .ensures) (not-true _ (c .if1 .taken))
 
 loop-again : tie.Need-loop-again Inv-loop μ-loop
 loop-again c =
-    let marked = c .before .before .before .before in
-    let at-loop = marked .before .before .before .before in
-    let start = at-loop .before .before .before .before .before .before .before in
-    let call = start .args in
-    let m = (sym (marked .is-marked .ensures) ∙ not-false _ (c .before .before .before .if2 .left)) in
-    counting-turn _ _ _ _ _ _ _ (start .pre .listed) _ _ _ _ (marked .before .before .before .loop-test .taken) (at-loop .loop .inv) _
-    (marked-radio _ (call .links .now) (start .pre .linked) _ _ m) (marked .before .if1 .left) m (c .before .sooner .ensures)
+    let counted = c .before .before in
+    let read = counted .before in
+    let at-loop = read .before .before in
+    let start = at-loop .before .before .before .before in
+    let good = not-false _ (c .if1 .left) in (
+      good,
+      row-counting-turn _ _ _ _ (λ j. at-loop .before .before .before .shared-slice-known .given j .fits) (start .pre .0 .linked) _ (start .pre .1) _ _ (read .before .loop-test .taken) (at-loop .loop .inv .1)
+          _ (read .row-word .ensures) _ _ (counted .count-word .ensures) good,
+    )
 
-returns-3 : tie.Need-returns-3 Inv-loop μ-loop
-returns-3 c =
-    let at-loop = c .before in
-    let start = at-loop .before .before .before .before .before .before .before in
-    let call = start .args in
-    counting-end _ _ _ _ _ _ _ (start .pre .listed) _ _ _ _ (c .loop-test .left) (at-loop .loop .inv)
+returns-2 : tie.Need-returns-2 Inv-loop μ-loop
+returns-2 c = row-counting-end _ _ _ _ _ _ _ _ (c .before .loop .inv .0) (c .loop-test .left) (c .before .loop .inv .1)
 
 pub count-ends-spec : {M : Type 1} → statement M
 count-ends-spec =
     tie.close (
-    tie.spec Inv-loop μ-loop (λ c. search needs) (λ c. search needs) (λ c. search needs) loop-holds (λ c. search needs) (λ c. search needs) cast-b returns
-    cast-is-marked cast-is-marked-2 (λ c κs. search needs) returns-2 mul-p shared-slice-read-p (λ c. search needs) add-later (λ c κs. search needs)
-    shared-slice-read-high (λ c. search needs) add-high (λ c. search needs) (λ c. search needs) loop-again (λ c. search needs) returns-3)
+    tie.spec Inv-loop μ-loop loop-holds (λ c κs. search needs) (λ c. search needs) count-word-requires returns (λ c. search needs) (λ c. search needs) loop-again
+    returns-2)

@@ -1,8 +1,10 @@
 -- `soundness::place` meets its contract: the entries passed have their places and no other radio has one, so a radio that has a
 -- place stood there before. The measure is what is left of the order.
+use mathlib.Core.Path.{sym}
 use Prim.Native.Nat.{_-_}
 use native.Mathlib.Omega.{arith}
 use lib.ListN.{length}
+use lib.Seq.{length-take-le}
 use borrow.Author.Needs.{needs}
 use Rattle.soundness.proofs.CheckLoops.{Placing-so-far, placing-none, placing-high, placing-again, placing-room, placing-turn, placing-end, placing-not}
 use Rattle.soundness.proofs.CheckLoops.{placing-long}
@@ -10,10 +12,13 @@ use Rattle.soundness.proofs.place.Statement.{statement}
 use Rattle.soundness.proofs.place.Tie as tie
 
 abbrev Inv-loop : tie.InvT-loop
-Inv-loop order places₀ i₀ places i = Placing-so-far order (length places₀) places i
+Inv-loop order places₀ many i₀ places i = Placing-so-far order (length places₀) places i
 
 abbrev μ-loop : tie.MeasureT-loop
-μ-loop order places₀ i₀ places i = length order - i
+μ-loop order places₀ many i₀ places i = length order - i
+
+slice-aggregate-fill16 : tie.Need-slice-aggregate-fill16 Inv-loop μ-loop
+slice-aggregate-fill16 c = sym (length-take-le _ _ (c .before .before .before .pre .0))
 
 loop-holds : tie.Need-loop-holds Inv-loop μ-loop
 loop-holds c =
@@ -98,6 +103,6 @@ returns-3 c =
 pub place-spec : {M : Type 1} → statement M
 place-spec =
     tie.close (
-    tie.spec Inv-loop μ-loop (λ c κs. search needs) loop-holds (λ c. search needs) (λ c. search needs) cast-v same-length returns (λ c. search needs)
+    tie.spec Inv-loop μ-loop (λ c. search needs) slice-aggregate-fill16 (λ c κs. search needs) loop-holds (λ c. search needs) (λ c. search needs) cast-v same-length returns (λ c. search needs)
     slice-read-if2 same-length-2 returns-2 cast-places (λ c. search needs) slice-write-places (λ c. search needs) (λ c. search needs) loop-again same-length-3
     returns-3)

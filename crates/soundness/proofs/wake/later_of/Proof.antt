@@ -27,4 +27,4 @@ returns-2 c =
     later-answered (call .n) (call .v) t (sym (asked .radio-refusal .ensures) ∙ made .before .if1 .left) _ _ (made .later-ends .ensures)
 
 pub later-of-spec : {M : Type 1} → statement M
-later-of-spec = tie.close (tie.spec (λ c κs. search needs) returns later-ends-requires (λ c. search needs) (λ c. search needs) returns-2)
+later-of-spec = tie.close (tie.spec (λ c κs. search needs) returns later-ends-requires (λ c. search needs) returns-2)
