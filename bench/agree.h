@@ -77,6 +77,18 @@ static int agree_tree(void) {
     return 1;
 }
 
+/* Pages: one byte too short, just right, longer. */
+static int agree_sheet(void) {
+    static uint8_t p[PAGE_LINE * RADIOS / 8 + 2], q[sizeof p];
+    start();
+    for (unsigned more = 0; more < 3; more++) {
+        memset(p, 77, sizeof p), memset(q, 77, sizeof q);
+        size_t room = PAGE_LINE * ((n + 7) / 8) - 1 + more;
+        if (!same(sb_sheet(n, OF(t), p, room), c_sheet(&u, q, room)) || memcmp(p, q, sizeof p)) return 0;
+    }
+    return 1;
+}
+
 /* Buffers: one byte too small, just right, larger. Blocks: each, the end, far past it; of an image with a changed byte too. */
 static int agree_writing(void) {
     static uint8_t p[sizeof buffer + 1], q[sizeof buffer + 1];
@@ -128,6 +140,7 @@ static const char *disagreement(struct entry *entry) {
     if (!agree_damaged()) return "check";
     if (!agree_links()) return "link calls";
     if (!agree_questions()) return "questions";
+    if (!agree_sheet()) return "site sheet";
     if (!agree_writing()) return "image writing";
     if (!agree_tree()) return "shell tree";
     if (!agree_reading()) return "image reading";

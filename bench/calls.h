@@ -85,6 +85,7 @@ CALL(link, sb_link_down(n, A, B, SITE, answer, n).count + sb_link_up(n, A, B, SI
      c_link(0, &e->site, A, B, answer, n).count + c_link(1, &e->site, A, B, answer, n).count)
 CALL(core, sb_core(n, A, 1, SITE, answer, n).value, c_core(&e->site, A, 1, answer, n).value)
 CALL(backbone, sb_backbone(n, SITE, answer, n).value, c_backbone(&e->site, answer, n).value)
+CALL(sheet, sb_sheet(n, SITE, buffer, sizeof buffer).value, c_sheet(&e->site, buffer, sizeof buffer).value)
 CALL(image_write, sb_image_write(n, SITE, buffer, sizeof buffer).value, c_image_write(&e->site, buffer, sizeof buffer).value)
 CALL(image_block, sb_image_block(e->image, e->image_length, 0).next, c_image_block(e->image, e->image_length, 0).next)
 CALL(tree, sb_tree(n, SITE, (sb_node *)nodes, n + 1, answer, n).value, c_tree(&e->site, nodes, n + 1, answer, n).value)
@@ -120,6 +121,7 @@ static const struct call {
     {"core", engine_core, in_c_core},
     {"backbone", engine_backbone, in_c_backbone},
     {"tree", engine_tree, in_c_tree},
+    {"sheet", engine_sheet, in_c_sheet},
     {"image_write", engine_image_write, in_c_image_write},
     {"image_read", engine_image_read, in_c_image_read},
     {"image_other", engine_image_other, in_c_image_other},

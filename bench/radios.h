@@ -1,7 +1,9 @@
-/* Clearing, and the questions about one or two radios, in C: the check and a lookup. */
+/* Clearing, the questions about one or two radios, and the site sheet, in C: the check and a lookup. */
 #ifndef RADIOS_H
 #define RADIOS_H
 #include "check.h"
+
+enum { PAGE_LINE = 65 };
 
 static unsigned c_clear(const struct lent *t) {
     unsigned number = c_sizes(t, 1);
@@ -57,5 +59,30 @@ static struct c_later c_later_of(const struct lent *t, uint32_t v) {
     }
     l.first = least == NOWHERE ? 65535 : t->order[least];
     return l;
+}
+
+/* A number right-aligned in so many columns. */
+static uint8_t *c_put_right(uint8_t *p, unsigned columns, unsigned x) {
+    for (unsigned i = columns; i--; x /= 10) p[i] = x || i + 1 == columns ? '0' + x % 10 : ' ';
+    return p + columns;
+}
+
+static struct c_value c_sheet(const struct lent *t, uint8_t *page, size_t room) {
+    unsigned number = c_refusal(t, 1), size = PAGE_LINE * ((t->n + 7) / 8);
+    if (number) return (struct c_value){number, 0};
+    if (room < size) return (struct c_value){12, 0};
+    uint8_t *p = page;
+    for (unsigned v = 0; v < t->n; v++) {
+        p = c_put_right(p, 3, v);
+        *p++ = ':';
+        p = c_put_right(p, 2, t->numbers[v]);
+        *p++ = ' ', *p++ = ' ';
+        if (v % 8 == 7) *p++ = '\n';
+    }
+    if (t->n % 8) {
+        while (p < page + size - 1) *p++ = ' ';
+        *p = '\n';
+    }
+    return (struct c_value){0, size};
 }
 #endif

@@ -1,4 +1,4 @@
-/* A C host: lends tables, takes links up and down, asks, writes an image, walks it and reads it. examples/run builds and runs it. */
+/* A C host: lends tables, takes links up and down, asks, prints a sheet, writes an image, walks it and reads it. examples/run builds and runs it. */
 #include "../include/summerbugle.h"
 #include <stdio.h>
 
@@ -73,6 +73,14 @@ static void print_tree(void) {
     print_list(answer, N);
 }
 
+static void print_sheet(void) {
+    uint8_t page[SB_PAGE_LINE];
+    sb_value sheet = sb_sheet(N, TABLES, page, sizeof page);
+    print_value("sheet", sheet);
+    printf("%.*s", (int)sheet.value, (const char *)page);
+    print_value("sheet on a short page", sb_sheet(N, TABLES, page, sizeof page - 1));
+}
+
 /* The payload lies in the image itself; each step checks the whole image. */
 static void walk(size_t length) {
     sb_block block = sb_image_block(image, length, 0);
@@ -99,6 +107,7 @@ int main(void) {
     make_links();
     ask();
     print_tree();
+    print_sheet();
     keep();
     down(0, 6);
     down(2, 3);

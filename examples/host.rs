@@ -1,4 +1,4 @@
-// A Rust host: lends tables, takes links up and down, asks, writes an image, walks it and reads it. examples/run builds and runs it.
+// A Rust host: lends tables, takes links up and down, asks, prints a sheet, writes an image, walks it and reads it. examples/run builds and runs it.
 
 #[repr(C)]
 struct Value {
@@ -54,6 +54,7 @@ mod engine {
         pub fn sb_core(n: u32, v: u32, level: u32, l: *const u8, ll: usize, k: *const u8, kl: usize, o: *const u16, ol: usize, w: *mut u16, wl: usize) -> Value;
         pub fn sb_backbone(n: u32, l: *const u8, ll: usize, k: *const u8, kl: usize, o: *const u16, ol: usize, w: *mut u16, wl: usize) -> Value;
         pub fn sb_tree(n: u32, l: *const u8, ll: usize, k: *const u8, kl: usize, o: *const u16, ol: usize, nodes: *mut Node, len: usize, w: *mut u16, wl: usize) -> Value;
+        pub fn sb_sheet(n: u32, l: *const u8, ll: usize, k: *const u8, kl: usize, o: *const u16, ol: usize, page: *mut u8, len: usize) -> Value;
         pub fn sb_image_write(n: u32, l: *const u8, ll: usize, k: *const u8, kl: usize, o: *const u16, ol: usize, buffer: *mut u8, len: usize) -> Value;
         pub fn sb_image_read(n: u32, l: *mut u8, ll: usize, k: *mut u8, kl: usize, o: *mut u16, ol: usize, image: *const u8, len: usize) -> u32;
         pub fn sb_image_block(image: *const u8, len: usize, next: usize) -> Block;
@@ -169,6 +170,15 @@ fn print_tree(s: &mut Site) {
     print_list(&s.answer);
 }
 
+fn print_sheet(s: &mut Site) {
+    let mut page = [0u8; 65];
+    let sheet = call!(sb_sheet, s, [], [page.as_mut_ptr(), page.len()]);
+    let length = sheet.value as usize;
+    print_value("sheet", sheet);
+    print!("{}", std::str::from_utf8(&page[..length]).unwrap());
+    print_value("sheet on a short page", call!(sb_sheet, s, [], [page.as_mut_ptr(), page.len() - 1]));
+}
+
 // The payload lies in the image itself; each step checks the whole image.
 fn walk(image: &[u8]) {
     let step = |next| unsafe { engine::sb_image_block(image.as_ptr(), image.len(), next) };
@@ -200,6 +210,7 @@ fn main() {
     make_links(&mut s);
     ask(&mut s);
     print_tree(&mut s);
+    print_sheet(&mut s);
     keep(&mut s);
     s.down(0, 6);
     s.down(2, 3);

@@ -36,6 +36,8 @@ extern "C" {
 /* The bytes of a block of an image, and of its payload. The longest image has 86 blocks. */
 #define SB_BLOCK_BYTES 512u
 #define SB_PAYLOAD_BYTES 504u
+/* The bytes of a line of the site sheet, which has 8 radios and a line feed. The longest sheet has 64 lines. */
+#define SB_PAGE_LINE 65u
 
 /* The refusal numbers: the first question that got "no". */
 enum sb_refusal {
@@ -51,6 +53,7 @@ enum sb_refusal {
     SB_IMAGE_SIZE = 9,  /* the buffer does not hold the image; or the length is 0 or no multiple of 512 */
     SB_IMAGE_CHECK = 10, /* a block does not pass its check */
     SB_IMAGE = 11,      /* the bytes are the image of no sound tables */
+    SB_PAGE = 12,       /* the page is shorter than 65 bytes a line */
     SB_OTHER_SIZE = 15  /* the bytes are the image of sound tables with another n */
 };
 
@@ -208,6 +211,18 @@ sb_value sb_backbone(uint32_t n, const uint8_t *links, size_t links_len,
 sb_value sb_tree(uint32_t n, const uint8_t *links, size_t links_len,
                  const uint8_t *numbers, size_t numbers_len, const uint16_t *order, size_t order_len,
                  sb_node *nodes, size_t nodes_len, uint16_t *answer, size_t answer_len);
+
+/**
+ * Print the site sheet in front of the page: all radios ascending along the lines, 8 to a line. A radio takes 8 columns: its number
+ * in 3 columns right-aligned, a colon, its core number in 2 columns right-aligned, two spaces. The last line is filled with spaces,
+ * and each line ends in a line feed: (n + 7) / 8 lines of SB_PAGE_LINE bytes. No zero byte is put after them. The tables are only read.
+ *
+ * \return number 0 and the sheet's length in bytes; bytes past it keep their content. Or a number (SB_SIZE, SB_LENGTH, SB_UNSOUND,
+ *         SB_PAGE) and value 0, and then the page keeps its content.
+ */
+sb_value sb_sheet(uint32_t n, const uint8_t *links, size_t links_len,
+                  const uint8_t *numbers, size_t numbers_len, const uint16_t *order, size_t order_len,
+                  uint8_t *page, size_t page_len);
 
 /**
  * Write the site's image in front of the buffer. The tables are only read.

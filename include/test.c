@@ -74,6 +74,19 @@ static void test_tree(void) {
     expect("parent", nodes[1].parent, SB_ROOT);
 }
 
+/* 64 lines; the hub has 1, as its leaves have, and radio 41 has 0. */
+static void test_sheet(void) {
+    static uint8_t page[SB_PAGE_LINE * SB_RADIOS / 8 + 1];
+    size_t length = sizeof page - 1;
+    page[length] = 77, page[0] = 77;
+    expect("short page", sb_sheet(SB_RADIOS, TABLES, page, length - 1).number, SB_PAGE), expect("kept", page[0], 77);
+    expect("sheet", sb_sheet(SB_RADIOS, TABLES, page, sizeof page).value, length), expect("kept past it", page[length], 77);
+    expect("first radio", memcmp(page, "  0: 1    1: 1  ", 16), 0);
+    expect("line feed", page[SB_PAGE_LINE - 1], '\n');
+    expect("radio 41", memcmp(page + 5 * SB_PAGE_LINE + 8, " 41: 0  ", 8), 0);
+    expect("last radio", memcmp(page + length - 9, "511: 0  \n", 9), 0);
+}
+
 static void test_images(void) {
     size_t length = 5 * SB_BLOCK_BYTES; /* 1, 3 of the order, 1 of the links */
     expect("short buffer", sb_image_write(SB_RADIOS, TABLES, image, length - 1).number, SB_IMAGE_SIZE);
@@ -98,6 +111,7 @@ int main(void) {
     test_later();
     test_refusals();
     test_tree();
+    test_sheet();
     test_images();
     return failures != 0;
 }

@@ -15,11 +15,11 @@ import peeled
 import reference
 from questions import RADIOS
 
-ENTRIES, PLACES, BUFFER = 514, 515, 4096  # the program's tables: radios, nodes, bytes for an image
+ENTRIES, PLACES, BUFFER = 514, 515, 4608  # the program's tables: radios, nodes, bytes for an image or a page
 BYTE, KEPT = 165, 600  # what they hold before they are written
 MODULUS, BASE = 4294967291, 65599  # of the digest that the program prints
 KINDS = ["clear", "check", "link-up", "link-down", "number", "neighbours", "linked", "first", "core", "backbone", "tree",
-         "image-write", "image-read", "image-block", "later-of", "spoil-links", "spoil-numbers", "spoil-order",
+         "image-write", "image-read", "image-block", "later-of", "sheet", "spoil-links", "spoil-numbers", "spoil-order",
          "spoil-answer", "spoil-fields", "spoil-buffer"]
 CRATE = Path(__file__).resolve().parent.parent / "crates/test_exports"
 
@@ -45,7 +45,7 @@ class Host:
         lengths = [y if x is None else x for x, y in zip((links, numbers, order, answer, room), right)]
         self.words.append([KINDS.index(kind), n, a, b] + lengths)
         self.answer, self.fields = [KEPT] * PLACES, [KEPT] * (3 * PLACES)
-        if kind == "image-write":
+        if kind in ("image-write", "sheet"):
             self.buffer = [BYTE] * BUFFER
         said = getattr(self, kind.replace("-", "_"))(n, a, b, lengths)
         h = 0
@@ -175,6 +175,16 @@ class Host:
         self.buffer[:len(image)] = image
         return [number, len(image)]
 
+    def sheet(self, n, a, b, lengths):
+        """Document 02, W-201."""
+        number = self.refused(n, lengths)
+        cells = [] if number else [f"{v:3}:{x:2}  " for v, x in enumerate(self.numbers[:n])]
+        page = "".join("".join(cells[i:i + 8]).ljust(64) + "\n" for i in range(0, len(cells), 8)).encode()
+        if len(page) > lengths[4]:
+            number, page = 12, b""
+        self.buffer[:len(page)] = page
+        return [number, len(page)]
+
     def image_read(self, n, a, b, lengths):
         number = self.sized(n, lengths)
         if not number:
@@ -218,7 +228,8 @@ class Host:
 # ---- what a host tries
 
 LARGEST = 2 ** 32 - 1
-SITE = ["check", "link-up", "link-down", "number", "neighbours", "linked", "first", "later-of", "core", "backbone", "tree", "image-write"]
+SITE = ["check", "link-up", "link-down", "number", "neighbours", "linked", "first", "later-of", "core", "backbone", "tree", "image-write",
+        "sheet"]
 ANSWER = ["link-up", "link-down", "core", "backbone", "tree"]
 RADIO = ["link-up", "link-down", "number", "neighbours", "linked", "first", "later-of", "core"]
 
@@ -247,7 +258,7 @@ def unsound(host, n):
     host.call("spoil-numbers", n, 0, 255)
     for kind in SITE[1:]:
         host.call(kind, n, n, n, order=n - 1)
-        host.call(kind, n, n, n, room=0 if kind == "image-write" else None)
+        host.call(kind, n, n, n, room=0 if kind in ("image-write", "sheet") else None)
     host.call("spoil-numbers", n, 0, 255)
     host.call("check", n)
 
@@ -280,6 +291,13 @@ def lists(host, n):
     for answer, room in ((n, n + 1), (n + 1, n + 2), (PLACES, PLACES)):
         host.call("backbone", n, answer=answer)
         host.call("tree", n, answer=answer, room=room)
+
+
+def sheets(host, n):
+    """The site sheet: a page one byte short, one that just does, a longer one."""
+    size = 65 * ((n + 7) // 8)
+    for room in (0, size - 1, size, size + 10, BUFFER):
+        host.call("sheet", n, room=room)
 
 
 def images(host, n):
@@ -342,20 +360,34 @@ def play(host):
     lists(host, 42)
     for v in (0, 1, 2, 41):
         host.call("later-of", 42, v)
+    sheets(host, 42)
     # document 02, W-206: a ring, whose order is 3 2 0 1
     host.call("clear", 4)
     for a, b in [(0, 1), (1, 2), (2, 3), (3, 0)]:
         host.call("link-up", 4, a, b)
     for v in range(5):
         host.call("later-of", 4, v)
+    # document 02, W-201: one line and two, a number of two digits
+    for n in (8, 9):
+        host.call("clear", n)
+        for a, b in [(0, 1), (1, 2), (2, 0), (n - 2, n - 1)]:
+            host.call("link-up", n, a, b)
+        sheets(host, n)
+    host.call("clear", 12)
+    for a in range(11):
+        for b in range(a):
+            host.call("link-up", 12, a, b)
+    sheets(host, 12)
     # one radio, and as many as a site may have
     host.call("clear", 1)
     lists(host, 1)
+    sheets(host, 1)
     images(host, 1)
     host.call("clear", 512)
     for a, b in [(0, 511), (511, 256), (256, 0)]:
         host.call("link-up", 512, a, b)
     lists(host, 512)
+    sheets(host, 512)
     host.call("core", 512, 511, 2)
     images(host, 512)
     # the last entry of each table spoiled: the digest must show it

@@ -5,6 +5,7 @@
 --   later-right          the later neighbours are counted, and the first is the first
 --   core-right, backbone-right   the radios listed are exactly the connected core, the backbone
 --   tree-right-listed    the nodes are the shell tree, and each radio has its node's name
+--   sheet-right          the page is the sheet, column by column, with each radio's core number
 --   write-right          the bytes written are the image of the tables, and of sound tables
 --   read-right           the tables of an accepted image are sound, and written again they give the same bytes
 --   read-what-was-written   sound tables, written and read, are the same tables
@@ -51,7 +52,8 @@ use Rattle.mesh.proofs.Images.Tables.{valid-graph-in, is-image-sound, is-image-
 use Rattle.mesh.specs.Valid.{Valid}
 use Rattle.calls.specs.Questions.{By-number, lengths-of, image-length, tables-refusal, link-refusal}
 use Rattle.calls.specs.Questions.{radio-refusal, core-refusal, backbone-refusal, tree-refusal, write-refusal, read-refusal}
-use Rattle.calls.specs.Questions.{block-refusal}
+use Rattle.calls.specs.Questions.{block-refusal, sheet-refusal}
+use Rattle.calls.specs.Sheet.{sheet, sheet-length, Columns}
 use Rattle.calls.specs.Contracts.Forms.{Tables-refused, Value-accepted, Value-refused, Listing-accepted, Listing-refused}
 use Rattle.calls.specs.Contracts.Links.{Link-accepted, Link-refused, Link-contract}
 use Rattle.calls.specs.Contracts.Images.{Read-accepted, Read-contract, Write-contract, Block-none, Block-accepted, Block-contract}
@@ -60,14 +62,16 @@ use Rattle.calls.specs.Contracts.Radios.{Number-contract}
 use Rattle.calls.specs.Contracts.Wake.{Later-accepted, Later-refused, Later-contract}
 use Rattle.calls.specs.Contracts.Cores.{Core-contract, Backbone-contract}
 use Rattle.calls.specs.Contracts.Trees.{Tree-accepted, Tree-refused, Tree-contract}
+use Rattle.calls.specs.Contracts.Pages.{Sheet-contract}
 use Rattle.calls.specs.Results.{Numbers-right, Site-right, Listed, Link-right, Core-listed, Backbone-listed, Tree-listed, Written-right, Read-right}
-use Rattle.calls.specs.Results.{Block-part, Block-end, Later-right}
+use Rattle.calls.specs.Results.{Block-part, Block-end, Later-right, Sheet-right}
 use Rattle.calls.specs.declared.Reply.{Reply}
 use Rattle.calls.specs.declared.Value.{Value}
 use Rattle.calls.specs.declared.Later.{Later}
 use Rattle.calls.specs.declared.Block.{Block}
 use Rattle.calls.proofs.ContractLaws.{by-cases, by-zero}
-use Rattle.calls.proofs.ChainLaws.{lent-zero, Site-good, link-zero, radio-zero, core-zero, write-zero, read-zero, read-yes}
+use Rattle.calls.proofs.ChainLaws.{lent-zero, Site-good, link-zero, radio-zero, core-zero, write-zero, read-zero, read-yes, sheet-zero}
+use Rattle.calls.proofs.SheetLaws.{sheet-fits, length-sheet, sheet-columns, columns-front, columns-by}
 use Rattle.calls.proofs.RecordLaws.{tables-ext}
 
 -- ---- the number 0 is no refusal
@@ -226,6 +230,26 @@ tree-right-listed n t m w r p x d z =
     let c = accepted (tree-refusal n (lengths-of t) (length m) (length w) (sound n t)) (Tree-accepted g m w r p x)
     (λ q. Tree-refused q m w r p x) (r .number) (λ q e. e .number) d z in
     listed-tree g (r .value) m p w x (c .1 .value) (c .1 .nodes) (c .1 .answer)
+
+-- ---- the site sheet
+
+pub sheet-right : (n : ℕ) (t : Tables) (w : List ℕ) (r : Value) (x : List ℕ) → Sheet-contract n t w r x → r .number ≡ 0
+    → Sheet-right n t (r .value) w x
+unfolding Sheet-contract sheet-length lengths-of
+sheet-right n t w r x d z =
+    let new = sheet (t .numbers) in
+    let c = accepted (sheet-refusal n (lengths-of t) (length w) (sound n t)) (Listing-accepted (sheet-length n) new w r x)
+    (λ q. Listing-refused q w r x) (r .number) (λ q e. e .number) d z in
+    let good = sheet-zero n (lengths-of t) (length w) (sound n t) (c .0) .0 in
+    let long = good .lent .lengths .numbers in
+    let fit = sheet-fits n t long (good .is-sound) (good .lent .most) in
+    let size : r .value ≡ length new = c .1 .value ∙ ap sheet-length (sym long) ∙ sym (length-sheet (t .numbers) fit) in
+    record {
+      long = c .1 .value;
+      page = front new w (r .value) x size (c .1 .lent);
+      columns = columns-by n t long (good .is-sound) x (rw (c .1 .lent) (columns-front (t .numbers) fit w));
+      later-bytes = later new w (r .value) x size (c .1 .lent);
+    }
 
 -- ---- images
 

@@ -19,11 +19,12 @@ use Rattle.mesh.proofs.Images.OtherSize.{is-image-not-other}
 use Rattle.calls.specs.Questions.{ask, Lengths, size-good, site-lengths, answer-length, are-radios, is-radio, ends-differ, can-switch, has-room}
 use Rattle.calls.specs.Questions.{has-level, image-length, holds-image, lent-refusal, site-refusal, ends-refusal, link-refusal, radio-refusal}
 use Rattle.calls.specs.Questions.{pair-refusal, core-refusal, level-refusal, write-refusal, blocks-refusal, source-refusal, image-refusal}
-use Rattle.calls.specs.Questions.{read-refusal}
+use Rattle.calls.specs.Questions.{read-refusal, holds-sheet, sheet-refusal}
+use Rattle.calls.specs.Sheet.{sheet-length}
 use Rattle.calls.proofs.QuestionLaws.{ask-yes, ask-zero, ask-later, size-good-true, true-size-good, Site-lengths, site-lengths-true, true-site-lengths}
 use Rattle.calls.proofs.QuestionLaws.{is-radio-true, true-is-radio, are-radios-true, true-are-radios, ends-differ-true, true-ends-differ}
 use Rattle.calls.proofs.QuestionLaws.{can-switch-true, true-can-switch, has-room-true, true-has-room, has-level-true, true-has-level, holds-image-true}
-use Rattle.calls.proofs.QuestionLaws.{true-holds-image}
+use Rattle.calls.proofs.QuestionLaws.{true-holds-image, holds-sheet-true, true-holds-sheet}
 use Rattle.mesh.specs.Sound.{sound}
 
 -- ---- 1 and 2
@@ -206,6 +207,19 @@ pub write-yes :
 unfolding write-refusal
 write-yes n l room sound g s h =
     site-yes n l true sound (ask 9 (holds-image g room) 0) s ∙ ask-yes 9 (holds-image g room) 0 (true-holds-image g room h)
+
+pub sheet-zero :
+    (n : ℕ) (l : Lengths) (room : ℕ) (sound : Bool) → sheet-refusal n l room sound ≡ 0 → Site-good n l true sound × (sheet-length n ≤ room)
+unfolding sheet-refusal
+sheet-zero n l room sound p =
+    let q = site-zero n l true sound (ask 12 (holds-sheet n room) 0) p in
+    (q .0, holds-sheet-true n room (ask-zero 11 (holds-sheet n room) 0 (q .1) .0))
+
+pub sheet-yes :
+    (n : ℕ) (l : Lengths) (room : ℕ) (sound : Bool) → Site-good n l true sound → sheet-length n ≤ room → sheet-refusal n l room sound ≡ 0
+unfolding sheet-refusal
+sheet-yes n l room sound s h =
+    site-yes n l true sound (ask 12 (holds-sheet n room) 0) s ∙ ask-yes 12 (holds-sheet n room) 0 (true-holds-sheet n room h)
 
 pub read-zero :
     (n : ℕ) (l : Lengths) (bs : List ℕ) → read-refusal n l bs ≡ 0 →

@@ -1,12 +1,14 @@
 -- Proofs about calls: `QuestionLaws`, `ChainLaws`, `ContractLaws` and `RecordLaws` for the crates whose functions meet the
--- contracts, `Outcomes` that each contract has exactly one outcome, `Refusals` what a refusal keeps, `Total` that every
--- list of calls has a run, `Accepted` what a caller has after an accepted call (property 2), `ImageNumbers` which bytes reading
--- refuses by 15 and which by 11, `Older` what calls give of older tables and images, `Exactly` which radios a link call lists,
--- `Cases` that the worked cases hold by `ByPairs`, `WorkedState` and `WorkedLaws`, the others for demand 3.
+-- contracts, `SheetLaws` the columns of the site sheet, `Outcomes` that each contract has exactly one outcome, `Refusals` what a
+-- refusal keeps, `Total` that every list of calls has a run, `Accepted` what a caller has after an accepted call (property 2),
+-- `ImageNumbers` which bytes reading refuses by 15 and which by 11, `Older` what calls give of older tables and images, `Exactly`
+-- which radios a link call lists, `Cases` that the worked cases hold by `ByPairs`, `WorkedState` and `WorkedLaws`, `SheetCases` that
+-- the worked sheets do, the others for demand 3.
 pub mod QuestionLaws
 pub mod ChainLaws
 pub mod ContractLaws
 pub mod RecordLaws
+pub mod SheetLaws
 pub mod Outcomes
 pub mod Refusals
 pub mod Total
@@ -20,6 +22,7 @@ pub mod ByPairs
 pub mod WorkedState
 pub mod WorkedLaws
 pub mod Cases
+pub mod SheetCases
 pub mod Accepted
 pub mod ImageNumbers
 pub mod Older

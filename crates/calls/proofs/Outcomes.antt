@@ -24,10 +24,11 @@ use Rattle.calls.specs.Contracts.Radios.{Number-contract, Neighbours-con
 use Rattle.calls.specs.Contracts.Wake.{Later-accepted, Later-refused, Later-contract}
 use Rattle.calls.specs.Contracts.Cores.{Core-contract, Backbone-contract}
 use Rattle.calls.specs.Contracts.Trees.{Tree-accepted, Tree-refused, Tree-contract}
+use Rattle.calls.specs.Contracts.Pages.{Sheet-contract}
 use Rattle.calls.specs.Switches.{switched}
 use Rattle.calls.specs.Outcomes.{by-number, clear-outcome, read-outcome, link-outcome, value-outcome, check-outcome, number-outcome, neighbours-outcome}
 use Rattle.calls.specs.Outcomes.{linked-outcome, first-outcome, listing-outcome, core-outcome, backbone-outcome, write-outcome, tree-outcome, no-block}
-use Rattle.calls.specs.Outcomes.{block-or-end, block-outcome, later-outcome}
+use Rattle.calls.specs.Outcomes.{block-or-end, block-outcome, later-outcome, sheet-outcome}
 use Rattle.calls.specs.declared.Reply.{Reply}
 use Rattle.calls.specs.declared.Value.{Value}
 use Rattle.calls.proofs.RecordLaws.{tables-ext, reply-ext, value-ext, later-ext, block-ext}
@@ -269,6 +270,15 @@ write-decided n t w = listing-by _ _ _ w
 pub write-inhabited : (n : ℕ) (t : Tables) (w : List ℕ) → let o = write-outcome n t w in Write-contract n t w (o .0) (o .1)
 unfolding Write-contract write-outcome sound
 write-inhabited n t w = listing-met _ _ _ w
+
+pub sheet-decided :
+    (n : ℕ) (t : Tables) (w : List ℕ) → Decides {A = Value × List ℕ} (λ o. Sheet-contract n t w (o .0) (o .1))
+unfolding Sheet-contract
+sheet-decided n t w = listing-by _ _ _ w
+
+pub sheet-inhabited : (n : ℕ) (t : Tables) (w : List ℕ) → let o = sheet-outcome n t w in Sheet-contract n t w (o .0) (o .1)
+unfolding Sheet-contract sheet-outcome sound
+sheet-inhabited n t w = listing-met _ _ _ w
 
 pub read-decided : (n : ℕ) (bs : List ℕ) (t : Tables) → Decides {A = ℕ × Tables} (λ o. Read-contract n bs t (o .0) (o .1))
 unfolding Read-contract

@@ -10,8 +10,9 @@ use Rattle.mesh.specs.Limits.{row-bytes}
 use Rattle.mesh.specs.Graph.{Graph, linked, degree}
 use Rattle.mesh.specs.Cores.{number}
 use Rattle.lists.proofs.Tests.{never, and-left, and-right, and-both}
+use Rattle.calls.specs.Sheet.{sheet-length}
 use Rattle.calls.specs.Questions.{ask, Lengths, site-lengths, answer-length, nodes-length, is-radio, are-radios, ends-differ, can-switch}
-use Rattle.calls.specs.Questions.{has-room, has-level, image-length, holds-image}
+use Rattle.calls.specs.Questions.{has-room, has-level, image-length, holds-image, holds-sheet}
 pub use Rattle.mesh.proofs.Sizes.{size-good-true, true-size-good}
 
 -- ---- one question
@@ -140,3 +141,11 @@ holds-image-true g room p = leb-true (image-length g) room p
 pub true-holds-image : (g : Graph) (room : ℕ) → image-length g ≤ room → holds-image g room ≡ true
 unfolding holds-image
 true-holds-image g room l = le-leb (image-length g) room l
+
+pub holds-sheet-true : (n room : ℕ) → holds-sheet n room ≡ true → sheet-length n ≤ room
+unfolding holds-sheet
+holds-sheet-true n room p = leb-true (sheet-length n) room p
+
+pub true-holds-sheet : (n room : ℕ) → sheet-length n ≤ room → holds-sheet n room ≡ true
+unfolding holds-sheet
+true-holds-sheet n room l = le-leb (sheet-length n) room l

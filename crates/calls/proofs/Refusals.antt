@@ -20,6 +20,7 @@ use Rattle.calls.specs.Contracts.Radios.{Number-contract, Neighbours-con
 use Rattle.calls.specs.Contracts.Wake.{Later-accepted, Later-refused, Later-contract}
 use Rattle.calls.specs.Contracts.Cores.{Core-contract, Backbone-contract}
 use Rattle.calls.specs.Contracts.Trees.{Tree-accepted, Tree-refused, Tree-contract}
+use Rattle.calls.specs.Contracts.Pages.{Sheet-contract}
 use Rattle.calls.specs.declared.Reply.{Reply}
 use Rattle.calls.specs.declared.Value.{Value}
 use Rattle.calls.specs.declared.Later.{Later}
@@ -116,6 +117,12 @@ pub write-keeps :
     Listing-refused (r .number) w r x
 unfolding Write-contract
 write-keeps n t w r x = listing-by _ _ _ w r x
+
+pub sheet-keeps :
+    (n : ℕ) (t : Tables) (w : List ℕ) (r : Value) (x : List ℕ) → Sheet-contract n t w r x → (r .number ≡ 0 → ⊥) →
+    Listing-refused (r .number) w r x
+unfolding Sheet-contract
+sheet-keeps n t w r x = listing-by _ _ _ w r x
 
 pub tree-keeps :
     (n : ℕ) (t : Tables) (m : List Node) (w : List ℕ) (r : Value) (p : List Node) (x : List ℕ) → Tree-contract n t m w r p x →

@@ -8,3 +8,4 @@ pub mod Wake
 pub mod Cores
 pub mod Trees
 pub mod Images
+pub mod Pages

@@ -18,6 +18,7 @@ use Rattle.calls.specs.Outcomes.{by-number, read-outcome, link-outcome-w
 use Rattle.calls.specs.Outcomes.{number-outcome-within, number-outcome, neighbours-outcome-within, neighbours-outcome, linked-outcome-within}
 use Rattle.calls.specs.Outcomes.{linked-outcome, first-outcome-within, first-outcome, core-outcome-within, core-outcome, backbone-outcome-within}
 use Rattle.calls.specs.Outcomes.{backbone-outcome, write-outcome-within, write-outcome, tree-outcome-within, tree-outcome, later-outcome-within, later-outcome}
+use Rattle.calls.specs.Outcomes.{sheet-outcome-within, sheet-outcome}
 
 -- the conditions of soundness, with the former limit
 abbrev pub Was-sound : (n : ℕ) → Tables → Type 0
@@ -59,6 +60,8 @@ pub record Older : Type 0 where
       tree-outcome n t m w ≡ tree-outcome-within former-neighbours n t m w
   pub image-write :
       (n : ℕ) (t : Tables) (w : List ℕ) → Was-sound n t → write-outcome n t w ≡ write-outcome-within former-neighbours n t w
+  pub sheet :
+      (n : ℕ) (t : Tables) (w : List ℕ) → Was-sound n t → sheet-outcome n t w ≡ sheet-outcome-within former-neighbours n t w
   -- an older image: what was written of formerly sound tables
   pub image-written :
       (n : ℕ) (t : Tables) → n ≤ max-radios → Was-sound n t →

@@ -23,7 +23,8 @@ use Rattle.mesh.specs.Tree.{tree, node-names}
 use Rattle.mesh.specs.Image.{block-bytes, payload-bytes, image-of, image-graph, image-order}
 use Rattle.mesh.specs.declared.Node.{Node}
 use Rattle.calls.specs.Questions.{lengths-of, image-length, tables-refusal, link-refusal-within, read-refusal, radio-refusal, pair-refusal}
-use Rattle.calls.specs.Questions.{core-refusal, backbone-refusal, tree-refusal, write-refusal, block-refusal}
+use Rattle.calls.specs.Questions.{core-refusal, backbone-refusal, tree-refusal, write-refusal, sheet-refusal, block-refusal}
+use Rattle.calls.specs.Sheet.{sheet, sheet-length}
 use Rattle.calls.specs.Switches.{switch, switched}
 use Rattle.calls.specs.Contracts.Radios.{first-of-two}
 use Rattle.calls.specs.declared.Reply.{Reply}
@@ -153,6 +154,13 @@ write-outcome-within most n t w =
 
 unfoldable pub write-outcome : (n : ℕ) → Tables → (buffer : List ℕ) → Value × List ℕ
 write-outcome n t w = write-outcome-within max-neighbours n t w
+
+abbrev pub sheet-outcome-within : (most n : ℕ) → Tables → (page : List ℕ) → Value × List ℕ
+sheet-outcome-within most n t w =
+    listing-outcome (sheet-refusal n (lengths-of t) (length w) (sound-within most n t)) (sheet-length n) (sheet (t .numbers)) w
+
+unfoldable pub sheet-outcome : (n : ℕ) → Tables → (page : List ℕ) → Value × List ℕ
+sheet-outcome n t w = sheet-outcome-within max-neighbours n t w
 
 -- ---- the shell tree
 

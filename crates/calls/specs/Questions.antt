@@ -2,11 +2,11 @@
 --   ask r yes later        question r: a "no" gives its number, a "yes" goes on
 --   By-number              a contract by the number that its chain gives
 --   Lengths                the lengths of links, numbers and order
---   size-good .. is-image  questions 1 to 11 and 15 (1 is `size-good`, 3 `sound`, 10 `checks-good`, 15 `other-size`, 11 `is-image` of mesh)
+--   size-good .. is-image  questions 1 to 12 and 15 (1 is `size-good`, 3 `sound`, 10 `checks-good`, 15 `other-size`, 11 `is-image` of mesh)
 --   tables-refusal .. block-refusal   the first "no" of a call's questions, or 0
 -- A chain takes the answer to question 3 and the graph that 6 to 8 are put to, since the link book answers these from its
 -- pairs and gives 3 a yes. A chain `..-within most` asks with that bound on neighbours; without it, with a site's own. The numbers
--- of document 02 stand where it puts them: 15 after 10.
+-- of document 02 stand where it puts them: 12 after 3, 15 after 10.
 -- Definitions only.
 use mathlib.Core.Bool.{Bool, true, false, _&&_, not}
 use mathlib.Core.List.{List}
@@ -18,6 +18,7 @@ use Rattle.mesh.specs.Graph.{Graph, linked, degree}
 use Rattle.mesh.specs.Cores.{number}
 use Rattle.mesh.specs.Tables.{Tables}
 use Rattle.mesh.specs.Image.{block-bytes, block-count, whole-blocks, checks-good, other-size, is-image}
+use Rattle.calls.specs.Sheet.{sheet-length}
 unfoldable pub use Rattle.mesh.specs.Limits.{size-good}
 
 unfoldable pub ask : (number : ℕ) → (yes : Bool) → (later : ℕ) → ℕ
@@ -85,6 +86,12 @@ image-length g = block-bytes * block-count (g .n) (length (g .links))
 unfoldable pub holds-image : Graph → (buffer : ℕ) → Bool
 holds-image g room = leb (image-length g) room
 
+-- ---- question 12: pages
+
+-- does the page hold the site sheet?
+unfoldable pub holds-sheet : (n page : ℕ) → Bool
+holds-sheet n room = leb (sheet-length n) room
+
 -- ---- chains
 
 -- 1 and 2, where `others` is what 2 asks of further tables; then the later questions
@@ -141,6 +148,10 @@ tree-refusal n l m w sound = site-refusal n l (nodes-length n m && answer-length
 -- writing an image: 1 to 3 and 9
 unfoldable pub write-refusal : (n : ℕ) → Lengths → (buffer : ℕ) → (sound : Bool) → Graph → ℕ
 write-refusal n l room sound g = site-refusal n l true sound (ask 9 (holds-image g room) 0)
+
+-- the site sheet: 1 to 3 and 12
+unfoldable pub sheet-refusal : (n : ℕ) → Lengths → (page : ℕ) → (sound : Bool) → ℕ
+sheet-refusal n l room sound = site-refusal n l true sound (ask 12 (holds-sheet n room) 0)
 
 -- 9 and 10 of the whole image; then the later questions
 unfoldable pub blocks-refusal : (image : List ℕ) → (later : ℕ) → ℕ

@@ -6,6 +6,7 @@
 --   Later-right       the later neighbours of a radio: how many, and the first of them
 --   Core-listed, Backbone-listed   the radios listed
 --   Tree-listed       the nodes listed, and each radio's node name
+--   Sheet-right       the site sheet, column by column
 --   Written-right, Read-right      after writing and reading an image
 --   Image-answered    the number that reading answers where 1, 2, 9 and 10 got yes
 --   Block-part, Block-end   what a step of the block reader gives
@@ -19,7 +20,7 @@ use lib.ListN.{length, getD, take, drop}
 use Rattle.mesh.specs.Limits.{max-neighbours}
 use Rattle.lists.specs.Lists.{member, Ascending}
 use Rattle.mesh.specs.Graph.{Graph, linked, relinked}
-use Rattle.mesh.specs.Cores.{Core}
+use Rattle.mesh.specs.Cores.{Core, number}
 use Rattle.mesh.specs.Orders.{is-k-order, later-in, nobody, First-later}
 use Rattle.mesh.specs.Tables.{Tables, graph-in}
 use Rattle.mesh.specs.Sound.{rows-proper, number-in, sound}
@@ -27,6 +28,7 @@ use Rattle.mesh.specs.Connected.{In-core, In-backbone}
 use Rattle.mesh.specs.Tree.{Is-tree, Node-name}
 use Rattle.mesh.specs.Image.{block-bytes, payload-bytes, payload-at, image-of, image-graph, Tables-image, Other-size, Image-of-none}
 use Rattle.mesh.specs.declared.Node.{Node}
+use Rattle.calls.specs.Sheet.{line-bytes, sheet, sheet-lines, Columns}
 use Rattle.calls.specs.Contracts.Images.{Block-none}
 use Rattle.calls.specs.declared.Block.{Block}
 
@@ -77,6 +79,15 @@ pub record Tree-listed (g : Graph) (count : ℕ) (m p : List Node) (w x : List �
   -- each radio's entry is its node's name, and nothing else is; later entries keep their content
   pub names : (v : ℕ) → v < g .n → (y : ℕ) → Node-name g v y ↔ (y ≡ getD x v 0)
   pub later-entries : drop (g .n) x ≡ drop (g .n) w
+
+-- ---- the site sheet
+
+-- the first `size` bytes are the sheet, 65 a line, with each radio's core number in its cell; later bytes keep their content
+pub record Sheet-right (n : ℕ) (t : Tables) (size : ℕ) (w x : List ℕ) : Type 0 where
+  pub long : size ≡ line-bytes * sheet-lines n
+  pub page : take size x ≡ sheet (t .numbers)
+  pub columns : Columns n (number (graph-in n (t .links))) x
+  pub later-bytes : drop size x ≡ drop size w
 
 -- ---- images
 

@@ -28,6 +28,8 @@ impl Refusal {
 
     pub const IMAGE: u32 = 11;
 
+    pub const PAGE: u32 = 12;
+
     pub const OTHER_SIZE: u32 = 15;
 }
 

@@ -46,6 +46,34 @@ module _ {A : Type 0} (f : A → List ℕ) (size : ℕ) (sizes : (x : A) → len
       ap (λ (k : ℕ). take size (drop k (f x ++ flatMap f xs))) e
       ∙ ap (take size) (drop-append-add (f x) (flatMap f xs) (size * v)) ∙ take-drop-flatMap d xs v (omega arith)
 
+-- the same for a range, where only its own parts need have that length
+module _ (f : ℕ → List ℕ) (size : ℕ) where
+  pub length-flatMap-range : (i k : ℕ) → ((w : ℕ) → i ≤ w → w < i + k → length (f w) ≡ size) → length (flatMap f (range i k)) ≡ size * k
+  unfolding flatMap range
+  length-flatMap-range i zero sizes = omega arith
+  length-flatMap-range i (suc k) sizes =
+      omega (
+        arith,
+        length-append (f i) (flatMap f (range (suc i) k)),
+        sizes i (omega arith) (omega arith),
+        length-flatMap-range (suc i) k (λ w l h. sizes w (omega arith) (omega arith)),
+        mul-suc size k,
+      )
+
+  pub getD-flatMap-range : (i k : ℕ) → ((w : ℕ) → i ≤ w → w < i + k → length (f w) ≡ size) → (v j : ℕ) → v < k → j < size
+      → getD (flatMap f (range i k)) (size * v + j) 0 ≡ getD (f (i + v)) j 0
+  unfolding flatMap range
+  getD-flatMap-range i zero sizes v j h l = absurd (omega arith)
+  getD-flatMap-range i (suc k) sizes zero j h l =
+      ap (λ (x : ℕ). getD (f i ++ flatMap f (range (suc i) k)) x 0) (omega arith)
+      ∙ List·getD-append (f i) (flatMap f (range (suc i) k)) 0 j (omega (arith, sizes i (omega arith) (omega arith)))
+      ∙ ap (λ (x : ℕ). getD (f x) j 0) (omega arith)
+  getD-flatMap-range i (suc k) sizes (suc v) j h l =
+      ap (λ (x : ℕ). getD (f i ++ flatMap f (range (suc i) k)) x 0) (omega (arith, sizes i (omega arith) (omega arith), mul-suc size v))
+      ∙ getD-append-add (f i) (flatMap f (range (suc i) k)) (size * v + j) 0
+      ∙ getD-flatMap-range (suc i) k (λ w m n. sizes w (omega arith) (omega arith)) v j (omega arith) l
+      ∙ ap (λ (x : ℕ). getD (f x) j 0) (omega arith)
+
 -- a list whose parts are the given ones
 pub flatMap-take-drop : (f : ℕ → List ℕ) (size i k : ℕ) (bs : List ℕ) → length bs ≡ size * k
     → ((v : ℕ) → v < k → take size (drop (size * v) bs) ≡ f (i + v)) → flatMap f (range i k) ≡ bs

@@ -9,6 +9,7 @@ use Rattle.calls.specs.Contracts.Radios.{Number-contract, Neighbours-contract, 
 use Rattle.calls.specs.Contracts.Wake.{Later-contract}
 use Rattle.calls.specs.Contracts.Cores.{Core-contract, Backbone-contract}
 use Rattle.calls.specs.Contracts.Trees.{Tree-contract}
+use Rattle.calls.specs.Contracts.Pages.{Sheet-contract}
 use Rattle.block_reader.specs.Reader.{Stepped, Moved}
 use Rattle.summerbugle.specs.Functions.{Function, number-0, number-1, number-2, tables-1, tables-2, tables-3, lent-0, lent-4, lent-5, lent-6}
 use Rattle.block_reader.proofs.blocks.open as opening
@@ -45,6 +46,8 @@ use Rattle.summerbugle.proofs.sb_tree as tree
 use Rattle.summerbugle.proofs.sb_tree.Symbol as tree-symbol
 use Rattle.summerbugle.proofs.sb_image_write as image-write
 use Rattle.summerbugle.proofs.sb_image_write.Symbol as image-write-symbol
+use Rattle.summerbugle.proofs.sb_sheet as sheet
+use Rattle.summerbugle.proofs.sb_sheet.Symbol as sheet-symbol
 use Rattle.summerbugle.proofs.sb_image_block as image-block
 use Rattle.summerbugle.proofs.sb_image_block.Symbol as image-block-symbol
 
@@ -172,6 +175,15 @@ sb-image-write = record {
   routine = image-write-symbol.routine;
   kept = image-write.ended .kept;
   contract = λ κs a r e. Write-contract (number-0 a) (tables-1 a) (lent-4 a) r (lent-4 e);
+}
+
+-- sb_sheet(n, links, numbers, order, page)
+abbrev pub sb-sheet : Function
+sb-sheet = record {
+  signature = sheet.signature;
+  routine = sheet-symbol.routine;
+  kept = sheet.ended .kept;
+  contract = λ κs a r e. Sheet-contract (number-0 a) (tables-1 a) (lent-4 a) r (lent-4 e);
 }
 
 -- sb_image_block(image, next)

@@ -9,6 +9,7 @@ ghost use Rattle.calls.specs.Contracts.Radios.{Number-contract, Neighbours-cont
 ghost use Rattle.calls.specs.Contracts.Wake.{Later-contract};
 ghost use Rattle.calls.specs.Contracts.Cores.{Core-contract, Backbone-contract};
 ghost use Rattle.calls.specs.Contracts.Trees.{Tree-contract};
+ghost use Rattle.calls.specs.Contracts.Pages.{Sheet-contract};
 use calls::Block;
 use calls::Later;
 use calls::Reply;
@@ -230,6 +231,21 @@ pub extern "C" fn sb_image_write(
     ensures { λ r. ⌜ Write-contract n (lent (links .entry) (numbers .entry) (order .entry)) (now (buffer .entry)) r (now (buffer .exit)) ⌝ }
 {
     image_writer::writer::write(n, links, numbers, order, buffer)
+}
+
+// Writes the site sheet in front of the page, in lines of 64 columns and a line feed: the value is its length in bytes, and bytes past it
+// keep their content. Refused by 1 to 3 and 12: then the page keeps its content.
+#[no_mangle]
+pub extern "C" fn sb_sheet(
+    n: u32,
+    links: &[u8],
+    numbers: &[u8],
+    order: &[u16],
+    page: &mut [u8],
+) -> Value
+    ensures { λ r. ⌜ Sheet-contract n (lent (links .entry) (numbers .entry) (order .entry)) (now (page .entry)) r (now (page .exit)) ⌝ }
+{
+    sheet::sheet(n, links, numbers, order, page)
 }
 
 // Reads an image of n radios into the tables: links and order as the image lists them, the numbers worked out. Refused by 1, 2,

@@ -33,6 +33,8 @@ const IMAGE_BLOCK: u32 = 13;
 
 const LATER_OF: u32 = 14;
 
+pub const SHEET: u32 = 15;
+
 // A question about a site, which writes no table.
 fn ask<'a>(call: Call, links: &'a [u8], numbers: &'a [u8], order: &'a [u16]) {
     let n = call.n;
@@ -118,11 +120,16 @@ fn set(call: Call, links: &mut [u8], numbers: &mut [u8], order: &mut [u16], imag
     }
 }
 
-// A call on an image that leaves the site's tables. The number of the next block has 64 bits: a has the higher ones.
+// A call on an image or a page that leaves the site's tables. The number of the next block has 64 bits: a has the higher ones.
 fn store(call: Call, links: &[u8], numbers: &[u8], order: &[u16], buffer: &mut [u8]) {
     if call.kind == IMAGE_WRITE {
         let written = summerbugle::sb_image_write(call.n, links, numbers, order, buffer);
         say::value(b"image-write", written);
+        return;
+    }
+    if call.kind == SHEET {
+        let printed = summerbugle::sb_sheet(call.n, links, numbers, order, buffer);
+        say::value(b"sheet", printed);
         return;
     }
     if call.kind == IMAGE_BLOCK {

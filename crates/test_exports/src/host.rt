@@ -12,8 +12,8 @@ const ENTRIES: usize = 514;
 
 const LINKS: usize = 64 * ENTRIES;
 
-// Eight blocks.
-const BUFFER: usize = 4096;
+// Nine blocks: the longest site sheet has 4,160 bytes.
+const BUFFER: usize = 4608;
 
 // The tables. They are arrays, as a reference to one has its length in its type: that is cheaper to prove of than a slice.
 pub type Links = [u8; LINKS];
@@ -28,23 +28,23 @@ pub type Fields = [u16; asking::FIELDS];
 
 pub type Buffer = [u8; BUFFER];
 
-// What answer table and nodes hold before each call, and the buffer before an image is written: no radio, level or name.
+// What answer table and nodes hold before each call, and the buffer before an image or a page is written: no radio, level or name.
 pub const KEPT: u16 = 600;
 
 const BYTE: u8 = 165;
 
 // What the host does to its own tables, by the number that the file gives each, after the calls.
-const SPOIL_LINKS: u32 = 15;
+const SPOIL_LINKS: u32 = 16;
 
-const SPOIL_NUMBERS: u32 = 16;
+const SPOIL_NUMBERS: u32 = 17;
 
-const SPOIL_ORDER: u32 = 17;
+const SPOIL_ORDER: u32 = 18;
 
-const SPOIL_ANSWER: u32 = 18;
+const SPOIL_ANSWER: u32 = 19;
 
-const SPOIL_FIELDS: u32 = 19;
+const SPOIL_FIELDS: u32 = 20;
 
-const SPOIL_BUFFER: u32 = 20;
+const SPOIL_BUFFER: u32 = 21;
 
 // The bits to flip in a table: none where another one is spoiled.
 fn bits(call: Call, kind: u32) -> u32 {
@@ -124,7 +124,7 @@ fn end_line(h: u64) {
 fn refill(call: Call, answer: &mut Answer, fields: &mut Fields, buffer: &mut Buffer) {
     tables::fill::fill16(answer, KEPT);
     tables::fill::fill16(fields, KEPT);
-    if call.kind == calling::IMAGE_WRITE {
+    if call.kind == calling::IMAGE_WRITE || call.kind == calling::SHEET {
         tables::fill::fill8(buffer, BYTE);
     }
 }

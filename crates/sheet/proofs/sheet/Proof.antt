@@ -1,0 +1,67 @@
+-- `sheet` meets its contract: a refusal touches nothing; accepted, the numbers have at most two digits, and the lines are put.
+use mathlib.Core.Path.{ap}
+use Prim.Native.Nat.{ℕ, _*_}
+use native.Mathlib.Omega.{arith}
+use borrow.Author.Needs.{needs}
+use Rattle.mesh.specs.Tables.{tables}
+use Rattle.calls.specs.Sheet.{line-bytes, sheet-lines}
+use Rattle.sheet.proofs.SheetOutcomes.{sheet-refused, sheet-small, sheet-cells-fit, sheet-no-room, sheet-accepted}
+use Rattle.sheet.proofs.sheet.Statement.{statement}
+use Rattle.sheet.proofs.sheet.Tie as tie
+
+returns : tie.Need-returns
+returns c =
+    let asked = c .before in
+    let s = asked .before .before .before .before .before .args in
+    sheet-refused (s .n) (tables (s .links .now) (s .numbers .now) (s .order .now)) (s .page .now) _ (asked .refusal .ensures) (c .if1 .taken)
+
+lines-requires : tie.Need-lines-requires
+lines-requires c κs =
+    let asked = c .before in
+    let s = asked .before .before .before .before .before .args in
+    omega (arith, sheet-small (s .n) (tables (s .links .now) (s .numbers .now) (s .order .now)) (s .page .now) _ (asked .refusal .ensures) (c .if1 .left))
+
+mul-size : tie.Need-mul-size
+unfolding sheet-lines
+mul-size c =
+    let asked = c .before .before in
+    let s = asked .before .before .before .before .before .args in
+    omega (arith, c .lines .ensures, sheet-small (s .n) (tables (s .links .now) (s .numbers .now) (s .order .now)) (s .page .now) _ (asked .refusal .ensures) (c .before .if1 .left))
+
+returns-2 : tie.Need-returns-2
+returns-2 c =
+    let lines = c .before in
+    let asked = lines .before .before in
+    let s = asked .before .before .before .before .before .args in
+    sheet-no-room (s .n) (tables (s .links .now) (s .numbers .now) (s .order .now)) (s .page .now) _ (asked .refusal .ensures)
+    (lines .before .if1 .left) _ (ap (λ (k : ℕ). line-bytes * k) (lines .lines .ensures)) (c .if2 .taken)
+
+put-sheet-requires : tie.Need-put-sheet-requires
+put-sheet-requires c κs =
+    let asked = c .before .before .before .before in
+    let s = asked .before .before .before .before .before .args in
+    sheet-cells-fit (s .n) (tables (s .links .now) (s .numbers .now) (s .order .now)) (s .page .now) _ (asked .refusal .ensures) (c .before .before .before .if1 .left)
+
+cast-size : tie.Need-cast-t15
+unfolding sheet-lines
+cast-size c =
+    let lines = c .before .before .before .before .before in
+    let asked = lines .before .before in
+    let s = asked .before .before .before .before .before .args in
+    omega (arith, lines .lines .ensures, sheet-small (s .n) (tables (s .links .now) (s .numbers .now) (s .order .now)) (s .page .now) _ (asked .refusal .ensures) (lines .before .if1 .left))
+
+returns-3 : tie.Need-returns-3
+returns-3 c =
+    let lines = c .before .before .before .before .before in
+    let asked = lines .before .before in
+    let start = asked .before .before .before .before .before in
+    let s = start .args in
+    sheet-accepted (s .n) (tables (s .links .now) (s .numbers .now) (s .order .now)) (s .page .now) _ (asked .refusal .ensures)
+    (lines .before .if1 .left) _ (ap (λ (k : ℕ). line-bytes * k) (lines .lines .ensures)) _ (c .before .before .before .before .if2 .left)
+    (omega (arith, start .good .1 .1 .1 .1 .0)) (c .before .before .put-sheet .ensures)
+
+pub sheet-spec : {M : Type 1} → statement M
+sheet-spec =
+    tie.close (
+    tie.spec (λ c κs. search needs) returns (λ c. search needs) lines-requires mul-size returns-2 put-sheet-requires cast-size (λ c. search needs)
+    returns-3)
