@@ -3,7 +3,7 @@
 #define AGREE_H
 #include "calls.h"
 
-static uint16_t x[RADIOS], y[RADIOS];
+static uint16_t x[2 * RADIOS + 1], y[2 * RADIOS + 1];
 static struct site t_site, u_site;
 static struct lent t, u;
 
@@ -16,7 +16,13 @@ static void start(void) {
     memcpy(t_site.order, e->site.order, 2 * n);
     t_site.n = n, u_site = t_site;
     t = lent_by(&t_site), u = lent_by(&u_site);
-    for (unsigned i = 0; i < RADIOS; i++) x[i] = y[i] = 40000 + i;
+    for (unsigned i = 0; i <= 2 * RADIOS; i++) x[i] = y[i] = 40000 + i;
+}
+
+/* The second site is the first as it is now. */
+static void start_again(void) {
+    u_site = t_site;
+    memcpy(y, x, sizeof y);
 }
 
 static int same_tables(void) { return !memcmp(&t_site, &u_site, sizeof t_site) && !memcmp(x, y, sizeof x); }
@@ -89,6 +95,18 @@ static int agree_sheet(void) {
     return 1;
 }
 
+/* Tables: one entry too few, just enough, more; and on sites that some link calls have changed. */
+static int agree_staircase(void) {
+    for (unsigned i = 0; i < 30; i++) {
+        size_t room = 2 * n - 1 + i % 3;
+        start();
+        for (unsigned k = 0; k < i; k++) c_link(rand() % 3 != 0, &t, rand() % n, rand() % n, x, n);
+        start_again();
+        if (!same(sb_staircase(n, OF(t), x, room), c_staircase(&u, y, room)) || !same_tables()) return 0;
+    }
+    return 1;
+}
+
 /* Buffers: one byte too small, just right, larger. Blocks: each, the end, far past it; of an image with a changed byte too. */
 static int agree_writing(void) {
     static uint8_t p[sizeof buffer + 1], q[sizeof buffer + 1];
@@ -143,6 +161,7 @@ static const char *disagreement(struct entry *entry) {
     if (!agree_sheet()) return "site sheet";
     if (!agree_writing()) return "image writing";
     if (!agree_tree()) return "shell tree";
+    if (!agree_staircase()) return "staircase tree";
     if (!agree_reading()) return "image reading";
     return NULL;
 }

@@ -11,6 +11,7 @@
 #include "link.h"
 #include "radios.h"
 #include "sites.h"
+#include "staircase.h"
 #include "tree.h"
 
 #ifndef TOGETHER
@@ -46,7 +47,7 @@ static struct lent take_site(const struct site *s) {
 }
 
 /* What is lent for answers. */
-static uint16_t answer[RADIOS];
+static uint16_t answer[2 * RADIOS];
 static struct c_node nodes[RADIOS + 1];
 static uint8_t buffer[BLOCK * MOST_BLOCKS];
 static volatile unsigned sink;
@@ -89,6 +90,7 @@ CALL(sheet, sb_sheet(n, SITE, buffer, sizeof buffer).value, c_sheet(&e->site, bu
 CALL(image_write, sb_image_write(n, SITE, buffer, sizeof buffer).value, c_image_write(&e->site, buffer, sizeof buffer).value)
 CALL(image_block, sb_image_block(e->image, e->image_length, 0).next, c_image_block(e->image, e->image_length, 0).next)
 CALL(tree, sb_tree(n, SITE, (sb_node *)nodes, n + 1, answer, n).value, c_tree(&e->site, nodes, n + 1, answer, n).value)
+CALL(staircase, sb_staircase(n, SITE, answer, 2 * n).value, c_staircase(&e->site, answer, 2 * n).value)
 /* The same tables, for one radio less. */
 static struct lent smaller(struct lent t) { return (struct lent){n - 1, t.links, ROW * (n - 1), t.numbers, n - 1, t.order, n - 1}; }
 
@@ -122,6 +124,7 @@ static const struct call {
     {"backbone", engine_backbone, in_c_backbone},
     {"tree", engine_tree, in_c_tree},
     {"sheet", engine_sheet, in_c_sheet},
+    {"staircase", engine_staircase, in_c_staircase},
     {"image_write", engine_image_write, in_c_image_write},
     {"image_read", engine_image_read, in_c_image_read},
     {"image_other", engine_image_other, in_c_image_other},

@@ -5,7 +5,7 @@
 enum { N = 7, IMAGE_ROOM = 4096 };
 
 static uint8_t links[SB_ROW_BYTES * N], numbers[N], image[IMAGE_ROOM];
-static uint16_t order[N], answer[N];
+static uint16_t order[N], answer[N], kept[2 * N];
 static sb_node nodes[N + 1];
 
 #define TABLES links, sizeof links, numbers, N, order, N
@@ -81,6 +81,14 @@ static void print_sheet(void) {
     print_value("sheet on a short page", sb_sheet(N, TABLES, page, sizeof page - 1));
 }
 
+/* The kept links, two entries each. */
+static void print_staircase(void) {
+    sb_value staircase = sb_staircase(N, TABLES, kept, 2 * N);
+    print_value("staircase", staircase);
+    for (uint32_t i = 0; i < staircase.value; i++) printf("keeps %u %u\n", kept[2 * i], kept[2 * i + 1]);
+    print_value("staircase in a short table", sb_staircase(N, TABLES, kept, 2 * N - 1));
+}
+
 /* The payload lies in the image itself; each step checks the whole image. */
 static void walk(size_t length) {
     sb_block block = sb_image_block(image, length, 0);
@@ -108,6 +116,7 @@ int main(void) {
     ask();
     print_tree();
     print_sheet();
+    print_staircase();
     keep();
     down(0, 6);
     down(2, 3);

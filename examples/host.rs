@@ -55,6 +55,7 @@ mod engine {
         pub fn sb_backbone(n: u32, l: *const u8, ll: usize, k: *const u8, kl: usize, o: *const u16, ol: usize, w: *mut u16, wl: usize) -> Value;
         pub fn sb_tree(n: u32, l: *const u8, ll: usize, k: *const u8, kl: usize, o: *const u16, ol: usize, nodes: *mut Node, len: usize, w: *mut u16, wl: usize) -> Value;
         pub fn sb_sheet(n: u32, l: *const u8, ll: usize, k: *const u8, kl: usize, o: *const u16, ol: usize, page: *mut u8, len: usize) -> Value;
+        pub fn sb_staircase(n: u32, l: *const u8, ll: usize, k: *const u8, kl: usize, o: *const u16, ol: usize, w: *mut u16, wl: usize) -> Value;
         pub fn sb_image_write(n: u32, l: *const u8, ll: usize, k: *const u8, kl: usize, o: *const u16, ol: usize, buffer: *mut u8, len: usize) -> Value;
         pub fn sb_image_read(n: u32, l: *mut u8, ll: usize, k: *mut u8, kl: usize, o: *mut u16, ol: usize, image: *const u8, len: usize) -> u32;
         pub fn sb_image_block(image: *const u8, len: usize, next: usize) -> Block;
@@ -179,6 +180,18 @@ fn print_sheet(s: &mut Site) {
     print_value("sheet on a short page", call!(sb_sheet, s, [], [page.as_mut_ptr(), page.len() - 1]));
 }
 
+// The kept links, two entries each.
+fn print_staircase(s: &mut Site) {
+    let mut kept = vec![0u16; 2 * s.n as usize];
+    let staircase = call!(sb_staircase, s, [], [kept.as_mut_ptr(), kept.len()]);
+    let count = staircase.value as usize;
+    print_value("staircase", staircase);
+    for link in kept[..2 * count].chunks(2) {
+        println!("keeps {} {}", link[0], link[1]);
+    }
+    print_value("staircase in a short table", call!(sb_staircase, s, [], [kept.as_mut_ptr(), kept.len() - 1]));
+}
+
 // The payload lies in the image itself; each step checks the whole image.
 fn walk(image: &[u8]) {
     let step = |next| unsafe { engine::sb_image_block(image.as_ptr(), image.len(), next) };
@@ -211,6 +224,7 @@ fn main() {
     ask(&mut s);
     print_tree(&mut s);
     print_sheet(&mut s);
+    print_staircase(&mut s);
     keep(&mut s);
     s.down(0, 6);
     s.down(2, 3);

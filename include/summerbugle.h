@@ -2,12 +2,14 @@
  * summerbugle.h: the link engine of the bolt-tension hubs, for C and C++ hosts.
  *
  * The host lends every table; the engine keeps nothing between calls and allocates nothing. A table is a pointer and a count of
- * ELEMENTS: bytes of the links, the numbers and an image, 16-bit entries of the order and the answer, nodes of the node list.
+ * ELEMENTS: bytes of the links, the numbers and an image, 16-bit entries of the order, the answer and the table of links, nodes of
+ * the node list.
  *
  *   links    64 bytes a radio: radio b is a neighbour of a when bit b % 8 of byte b / 8 of row a is set
  *   numbers  1 byte a radio: its core number
  *   order    n entries: a k-order of the radios
  *   answer   at least n entries: a list of radios is ascending and fills the first entries; later entries keep their content
+ *   table    at least 2 * n entries: a list of links, two entries each, fills the first ones; later entries keep their content
  *
  * Every call checks its tables itself. A refused call answers the number of the first question that got "no" (sb_refusal),
  * zeros beside it, and changes no byte of any table. A call with number 0 was carried out.
@@ -223,6 +225,20 @@ sb_value sb_tree(uint32_t n, const uint8_t *links, size_t links_len,
 sb_value sb_sheet(uint32_t n, const uint8_t *links, size_t links_len,
                   const uint8_t *numbers, size_t numbers_len, const uint16_t *order, size_t order_len,
                   uint8_t *page, size_t page_len);
+
+/**
+ * The staircase tree: the fewest links that still show how strongly any two radios hang together. A link's weight is the smaller of
+ * its ends' numbers. Links are taken by weight falling, then lower radio, then higher radio rising, and one is kept when the kept ones
+ * do not yet join its ends. There are fewer than n; no spanning forest weighs more, and between two radios the least weight along
+ * the kept links is the greatest that any way has. The table must have 2 * n entries. Links, numbers and order are only read.
+ *
+ * \return number 0 and the count of kept links, in the order in which they are taken: link i is table[2 * i], the lower radio, and
+ *         table[2 * i + 1]; later entries keep theirs. Or number SB_SIZE, SB_LENGTH, SB_UNSOUND and value 0, and then the table keeps
+ *         its content.
+ */
+sb_value sb_staircase(uint32_t n, const uint8_t *links, size_t links_len,
+                      const uint8_t *numbers, size_t numbers_len, const uint16_t *order, size_t order_len,
+                      uint16_t *table, size_t table_len);
 
 /**
  * Write the site's image in front of the buffer. The tables are only read.

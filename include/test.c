@@ -27,7 +27,7 @@ static void test_structs(void) {
 
 /* The largest site that the header allows. */
 static uint8_t links[SB_ROW_BYTES * SB_RADIOS], numbers[SB_RADIOS], image[8 * SB_BLOCK_BYTES];
-static uint16_t order[SB_RADIOS], answer[SB_RADIOS];
+static uint16_t order[SB_RADIOS], answer[SB_RADIOS], kept[2 * SB_RADIOS];
 static sb_node nodes[SB_RADIOS + 1];
 #define TABLES links, sizeof links, numbers, SB_RADIOS, order, SB_RADIOS
 #define ANSWER answer, SB_RADIOS
@@ -87,6 +87,16 @@ static void test_sheet(void) {
     expect("last radio", memcmp(page + length - 9, "511: 0  \n", 9), 0);
 }
 
+/* A star keeps all its links, in their order. */
+static void test_staircase(void) {
+    kept[2 * SB_NEIGHBOURS] = SB_NOBODY;
+    expect("too few entries", sb_staircase(SB_RADIOS, TABLES, kept, 2 * SB_RADIOS - 1).number, SB_LENGTH);
+    expect("kept links", sb_staircase(SB_RADIOS, TABLES, kept, 2 * SB_RADIOS).value, SB_NEIGHBOURS);
+    expect("first link", kept[0] + 600 * kept[1], 600);
+    expect("last link", kept[2 * SB_NEIGHBOURS - 2] + 600 * kept[2 * SB_NEIGHBOURS - 1], 600 * SB_NEIGHBOURS);
+    expect("later entry", kept[2 * SB_NEIGHBOURS], SB_NOBODY);
+}
+
 static void test_images(void) {
     size_t length = 5 * SB_BLOCK_BYTES; /* 1, 3 of the order, 1 of the links */
     expect("short buffer", sb_image_write(SB_RADIOS, TABLES, image, length - 1).number, SB_IMAGE_SIZE);
@@ -112,6 +122,7 @@ int main(void) {
     test_refusals();
     test_tree();
     test_sheet();
+    test_staircase();
     test_images();
     return failures != 0;
 }

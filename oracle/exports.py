@@ -11,6 +11,7 @@ oracle/reference.py's.
 import sys
 from pathlib import Path
 
+import kruskal
 import peeled
 import reference
 from questions import RADIOS
@@ -19,7 +20,7 @@ ENTRIES, PLACES, BUFFER = 514, 515, 4608  # the program's tables: radios, nodes,
 BYTE, KEPT = 165, 600  # what they hold before they are written
 MODULUS, BASE = 4294967291, 65599  # of the digest that the program prints
 KINDS = ["clear", "check", "link-up", "link-down", "number", "neighbours", "linked", "first", "core", "backbone", "tree",
-         "image-write", "image-read", "image-block", "later-of", "sheet", "spoil-links", "spoil-numbers", "spoil-order",
+         "image-write", "image-read", "image-block", "later-of", "sheet", "staircase", "spoil-links", "spoil-numbers", "spoil-order",
          "spoil-answer", "spoil-fields", "spoil-buffer"]
 CRATE = Path(__file__).resolve().parent.parent / "crates/test_exports"
 
@@ -39,9 +40,9 @@ class Host:
     # ---- a call: its words, what it does, its line
 
     def call(self, kind, n, a=0, b=0, links=None, numbers=None, order=None, answer=None, room=None):
-        """Lengths that are not given are the right ones; all of the buffer is lent, and room for n + 1 nodes."""
+        """Lengths that are not given are the right ones; all of the buffer is lent, room for n + 1 nodes, and for n links."""
         many = min(n, ENTRIES)
-        right = 64 * many, many, many, many, many + 1 if kind == "tree" else BUFFER
+        right = 64 * many, many, many, many, {"tree": many + 1, "staircase": 2 * many}.get(kind, BUFFER)
         lengths = [y if x is None else x for x, y in zip((links, numbers, order, answer, room), right)]
         self.words.append([KINDS.index(kind), n, a, b] + lengths)
         self.answer, self.fields = [KEPT] * PLACES, [KEPT] * (3 * PLACES)
@@ -167,6 +168,12 @@ class Host:
         self.answer[:len(names)] = names
         return [number, len(nodes)]
 
+    def staircase(self, n, a, b, lengths):
+        number = self.refused(n, lengths, room=lengths[4] >= 2 * n)
+        kept = [] if number else kruskal.staircase(n, self.site(n).links, self.numbers)
+        self.fields[:2 * len(kept)] = [v for link in kept for v in link]
+        return [number, len(kept)]
+
     def image_write(self, n, a, b, lengths):
         number = self.refused(n, lengths)
         image = [] if number else self.site(n).image()
@@ -228,8 +235,8 @@ class Host:
 # ---- what a host tries
 
 LARGEST = 2 ** 32 - 1
-SITE = ["check", "link-up", "link-down", "number", "neighbours", "linked", "first", "later-of", "core", "backbone", "tree", "image-write",
-        "sheet"]
+SITE = ["check", "link-up", "link-down", "number", "neighbours", "linked", "first", "later-of", "core", "backbone", "tree", "staircase",
+        "image-write", "sheet"]
 ANSWER = ["link-up", "link-down", "core", "backbone", "tree"]
 RADIO = ["link-up", "link-down", "number", "neighbours", "linked", "first", "later-of", "core"]
 
@@ -246,6 +253,7 @@ def sizes_and_lengths(host, n):
     for kind in ANSWER:
         host.call(kind, n, 0, 1, answer=n - 1)
     host.call("tree", n, room=n)
+    host.call("staircase", n, room=2 * n - 1)
 
 
 def unsound(host, n):
@@ -287,10 +295,11 @@ def questions(host, n):
 
 
 def lists(host, n):
-    """Backbone and tree, with tables that just do and longer ones."""
+    """Backbone, tree and staircase tree, with tables that just do and longer ones."""
     for answer, room in ((n, n + 1), (n + 1, n + 2), (PLACES, PLACES)):
         host.call("backbone", n, answer=answer)
         host.call("tree", n, answer=answer, room=room)
+        host.call("staircase", n, room=2 * answer)
 
 
 def sheets(host, n):
@@ -349,6 +358,7 @@ def play(host):
     for a, b in [(2, 3), (5, 4), (0, 1)]:
         host.call("link-down", 7, a, b)
         host.call("tree", 7)
+        host.call("staircase", 7)
     # M10: a 40th neighbour is taken, a 41st gets 7, 6 before 7; after one link goes down it is taken
     host.call("clear", 42)
     for v in range(1, 42):
@@ -378,6 +388,7 @@ def play(host):
         for b in range(a):
             host.call("link-up", 12, a, b)
     sheets(host, 12)
+    host.call("staircase", 4)
     # one radio, and as many as a site may have
     host.call("clear", 1)
     lists(host, 1)

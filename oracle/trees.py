@@ -1,15 +1,16 @@
-"""Shell trees, connected cores and backbones of sites, worked out from document 01 and W-202 of document 02 alone.
+"""Shell trees, connected cores, backbones and staircase trees of sites, worked out from document 01 and W-202 and W-209 of document 02
+alone.
 
   python3 oracle/trees.py           write crates/test_trees/data and crates/test_trees/stdout
   python3 oracle/trees.py --check   say whether the stored files are what would be written
 
 A connected core is a part of the radios with number k or more. The tree is made by comparing
 sets: one node for each different connected core, at the largest k. Small sites are compared with
-`reference`, which looks at all sets of radios.
+`reference`, which looks at all sets of radios. Staircase trees are those of oracle/kruskal.py.
 
 A file is words of 16 bits, lower byte first: n; the count of links and the links; the count of
 calls and the calls on the site; the same for calls after all numbers are set to 255. A call is
-its kind (1 tree, 2 backbone, 3 core), n, the length of the answer table, for a tree the places for
+its kind (1 tree, 2 backbone, 3 core, 4 staircase tree), n, the length of the answer table, for a tree the places for
 nodes, for a core the radio and the level; then what is owed: refusal number, value, for a tree the
 lists of names, levels and parents, and the list in the answer table; a list is its count and its
 entries. In the last file, `canary`, each call owes one wrong value.
@@ -19,10 +20,11 @@ import random
 import sys
 from pathlib import Path
 
+import kruskal
 import reference
 from questions import NEIGHBOURS
 
-ROOT, PLACES = 65535, 515
+ROOT, PLACES, ENTRIES = 65535, 515, 1030
 CRATE = Path(__file__).resolve().parent.parent / "crates/test_trees"
 
 
@@ -122,6 +124,13 @@ class File:
         number = self.refused(n, w, sound)
         self.listing([2, n, w], number, [] if number else self.site.backbone(), w, sound)
 
+    def staircase(self, n, w, sound=True, owed=lambda entries: entries):
+        """The table is lent for two entries a link; `owed` may change them."""
+        number = self.refused(n, w // 2, sound)
+        kept = [] if number else kruskal.staircase(n, self.site.links, self.site.numbers)
+        entries = owed([v for link in kept for v in link])
+        self.note(sound, [4, n, w, number, len(kept), len(entries)] + entries, 2 + w)
+
     def core(self, n, w, v, k, sound=True):
         number = self.refused(n, w, sound)
         if not number and v >= n:
@@ -135,6 +144,7 @@ class File:
         for w in (n, PLACES):
             self.tree(n, w)
             self.backbone(n, w)
+            self.staircase(n, 2 * w)
         for v in radios:
             for k in sorted({0, 1, numbers[v] // 2, numbers[v], numbers[v] + 1}):
                 self.core(n, PLACES, v, k)
@@ -146,18 +156,23 @@ class File:
             self.tree(m, w)
             self.backbone(m, w)
             self.core(m, w, 0, 0)
+            self.staircase(m, min(2 * w + 1, ENTRIES))
         for call in (self.tree, self.backbone):
             call(n, PLACES, sound=False)
+        self.staircase(n, ENTRIES, sound=False)
         self.core(n, PLACES, 0, 0, sound=False)
         return self
 
     def canary(self):
-        """Each part of a tree's outcome owed wrongly once, each list also with an entry too few and one too many."""
+        """Each part of a tree's outcome owed wrongly once, each list also with an entry too few and one too many; and a staircase
+        tree's list."""
         wrong = [lambda xs, i=i: xs[:i] + [xs[i] ^ 1] + xs[i + 1:] for i in (0, 1)]
         others = [wrong[1], lambda xs: xs[:-1], lambda xs: xs + [0]]
         for part, change in [(0, wrong[0]), (0, wrong[1])] + [(i, change) for i in range(1, 5) for change in others]:
             self.tree(self.site.n, PLACES, owed=lambda outcome: [
                 change(xs) if i == part else xs for i, xs in enumerate(outcome)])
+        for change in others:
+            self.staircase(self.site.n, ENTRIES, owed=change)
         return self
 
     def bytes(self):
@@ -266,6 +281,9 @@ SITES = {
     "parts": parts(),
     "towers-512": towers(),
     "sparse-512": (512, random_links(512, 700, 512)),
+    "random-40": (40, random_links(40, 70, 40)),
+    "random-200": (200, random_links(200, 420, 200)),
+    "dense-100": (100, random_links(100, 900, 100)),
 }
 
 
@@ -295,6 +313,9 @@ def files():
     lines.append(f"canary calls {file.made} compared {file.compared} wrong {file.made}\n")
     for name, radios in (("m7", [0, 1, 2, 3, 4]), ("halls", [0, 1, 2, 4, 5]), ("m3", list(range(6))), ("cleared-512", [])):
         assert Site(*SITES[name]).backbone() == radios
+    for name, kept in (("one-radio", []), ("m3", [(0, 1), (0, 2), (3, 4), (3, 5)]), ("m5", [(0, 1), (0, 2), (2, 3), (3, 4), (3, 5), (0, 6)])):
+        site = Site(*SITES[name])
+        assert kruskal.staircase(site.n, site.links, site.numbers) == kept
     for name, levels in (("nested-12-moved", 12), ("chain-6", 6), ("chain-28-moved", 28)):
         nodes = Site(*SITES[name]).tree()[0]
         assert [level for _, level, _ in nodes] == list(range(levels + 1))

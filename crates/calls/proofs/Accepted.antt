@@ -1,4 +1,5 @@
 -- Property 2 in terms of the contracts: what a caller has after an accepted call. The definitions are in specs/Results.antt.
+--   accepted             a contract whose number is 0 is met as accepted
 --   check-right          the check answers 1 exactly for proper rows, core numbers and a k-order
 --   link-right           numbers and order are right after a link call, for the graph in the new links table
 --   number-right         the number answered is the core number by the largest group
@@ -76,7 +77,7 @@ use Rattle.calls.proofs.RecordLaws.{tables-ext}
 
 -- ---- the number 0 is no refusal
 
-accepted : (R : ℕ) (A : Type 0) (B : ℕ → Type 0) (number : ℕ) → ((q : ℕ) → B q → number ≡ q) → By-number R A B → number ≡ 0 → (R ≡ 0) × A
+pub accepted : (R : ℕ) (A : Type 0) (B : ℕ → Type 0) (number : ℕ) → ((q : ℕ) → B q → number ≡ q) → By-number R A B → number ≡ 0 → (R ≡ 0) × A
 accepted R A B r says d z = go (by-cases R A B d)
   where
     go : ((R ≡ 0) × A) ⊎ ((R ≡ 0 → ⊥) × B R) → (R ≡ 0) × A

@@ -139,7 +139,7 @@ image-yes n bs small g p =
     ∙ ask-yes _ (not (other-size n bs)) _ (ap not (is-image-not-other n bs small p))
     ∙ ask-yes _ (is-image n bs) 0 p
 
--- ---- the chain of each call; clearing, checking, backbone, shell tree and block reader have the parts above
+-- ---- the chain of each call; clearing, checking, backbone, shell tree, staircase tree and block reader have the parts above
 
 pub link-zero :
     (up : Bool) (a b : ℕ) (l : Lengths) (w : ℕ) (sound : Bool) (g : Graph) → link-refusal up (g .n) a b l w sound g ≡ 0 →

@@ -21,7 +21,7 @@ use Rattle.mesh.proofs.Images.OtherSize.{other-size-iff, is-image-not-other}
 use Rattle.calls.specs.Questions.{ask, Lengths, lengths-of, size-good, are-radios, has-room, lent-refusal, site-refusal, ends-refusal}
 use Rattle.calls.specs.Questions.{link-refusal-within, blocks-refusal, source-refusal, image-refusal, read-refusal}
 use Rattle.calls.specs.Outcomes.{by-number, read-outcome, link-outcome-within, link-outcome, check-outcome, number-outcome, neighbours-outcome}
-use Rattle.calls.specs.Outcomes.{linked-outcome, first-outcome, core-outcome, backbone-outcome, write-outcome, tree-outcome, later-outcome, sheet-outcome}
+use Rattle.calls.specs.Outcomes.{linked-outcome, first-outcome, core-outcome, backbone-outcome, write-outcome, tree-outcome, later-outcome, sheet-outcome, staircase-outcome}
 use Rattle.calls.specs.Older.{Was-sound, former-read-refusal, former-read-outcome, Older}
 use Rattle.calls.specs.declared.Reply.{Reply}
 use Rattle.calls.proofs.Outcomes.{number-by}
@@ -163,7 +163,7 @@ older-other m n bs t s d i e =
 -- ---- all calls
 
 pub older : Older
-unfolding check-outcome number-outcome neighbours-outcome linked-outcome first-outcome later-outcome core-outcome backbone-outcome write-outcome tree-outcome sheet-outcome
+unfolding check-outcome number-outcome neighbours-outcome linked-outcome first-outcome later-outcome core-outcome backbone-outcome staircase-outcome write-outcome tree-outcome sheet-outcome
 older = record {
   link = λ up n a b t w s. older-call up n a b t w s .0;
   seven = λ up n a b t w s. older-call up n a b t w s .1;
@@ -175,6 +175,7 @@ older = record {
   later = λ n v t s. rw (s, now-sound n t s);
   core = λ n v k t w s. rw (s, now-sound n t s);
   backbone = λ n t w s. rw (s, now-sound n t s);
+  staircase = λ n t w s. rw (s, now-sound n t s);
   tree = λ n t m w s. rw (s, now-sound n t s);
   image-write = λ n t w s. rw (s, now-sound n t s);
   sheet = λ n t w s. rw (s, now-sound n t s);

@@ -25,10 +25,11 @@ use Rattle.calls.specs.Contracts.Wake.{Later-accepted, Later-refused, La
 use Rattle.calls.specs.Contracts.Cores.{Core-contract, Backbone-contract}
 use Rattle.calls.specs.Contracts.Trees.{Tree-accepted, Tree-refused, Tree-contract}
 use Rattle.calls.specs.Contracts.Pages.{Sheet-contract}
+use Rattle.calls.specs.Contracts.Staircase.{Staircase-contract}
 use Rattle.calls.specs.Switches.{switched}
 use Rattle.calls.specs.Outcomes.{by-number, clear-outcome, read-outcome, link-outcome, value-outcome, check-outcome, number-outcome, neighbours-outcome}
 use Rattle.calls.specs.Outcomes.{linked-outcome, first-outcome, listing-outcome, core-outcome, backbone-outcome, write-outcome, tree-outcome, no-block}
-use Rattle.calls.specs.Outcomes.{block-or-end, block-outcome, later-outcome, sheet-outcome}
+use Rattle.calls.specs.Outcomes.{block-or-end, block-outcome, later-outcome, sheet-outcome, staircase-outcome}
 use Rattle.calls.specs.declared.Reply.{Reply}
 use Rattle.calls.specs.declared.Value.{Value}
 use Rattle.calls.proofs.RecordLaws.{tables-ext, reply-ext, value-ext, later-ext, block-ext}
@@ -236,6 +237,15 @@ backbone-decided n t w = listing-by _ _ _ w
 pub backbone-inhabited : (n : ℕ) (t : Tables) (w : List ℕ) → let o = backbone-outcome n t w in Backbone-contract n t w (o .0) (o .1)
 unfolding Backbone-contract backbone-outcome sound
 backbone-inhabited n t w = listing-met _ _ _ w
+
+pub staircase-decided :
+    (n : ℕ) (t : Tables) (w : List ℕ) → Decides {A = Value × List ℕ} (λ o. Staircase-contract n t w (o .0) (o .1))
+unfolding Staircase-contract
+staircase-decided n t w = listing-by _ _ _ w
+
+pub staircase-inhabited : (n : ℕ) (t : Tables) (w : List ℕ) → let o = staircase-outcome n t w in Staircase-contract n t w (o .0) (o .1)
+unfolding Staircase-contract staircase-outcome sound
+staircase-inhabited n t w = listing-met _ _ _ w
 
 pub tree-decided :
     (n : ℕ) (t : Tables) (m : List Node) (w : List ℕ) →

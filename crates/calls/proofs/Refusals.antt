@@ -21,6 +21,7 @@ use Rattle.calls.specs.Contracts.Wake.{Later-accepted, Later-refused, La
 use Rattle.calls.specs.Contracts.Cores.{Core-contract, Backbone-contract}
 use Rattle.calls.specs.Contracts.Trees.{Tree-accepted, Tree-refused, Tree-contract}
 use Rattle.calls.specs.Contracts.Pages.{Sheet-contract}
+use Rattle.calls.specs.Contracts.Staircase.{Staircase-contract}
 use Rattle.calls.specs.declared.Reply.{Reply}
 use Rattle.calls.specs.declared.Value.{Value}
 use Rattle.calls.specs.declared.Later.{Later}
@@ -111,6 +112,12 @@ pub backbone-keeps :
     Listing-refused (r .number) w r x
 unfolding Backbone-contract
 backbone-keeps n t w r x = listing-by _ _ _ w r x
+
+pub staircase-keeps :
+    (n : ℕ) (t : Tables) (w : List ℕ) (r : Value) (x : List ℕ) → Staircase-contract n t w r x → (r .number ≡ 0 → ⊥) →
+    Listing-refused (r .number) w r x
+unfolding Staircase-contract
+staircase-keeps n t w r x = listing-by _ _ _ w r x
 
 pub write-keeps :
     (n : ℕ) (t : Tables) (w : List ℕ) (r : Value) (x : List ℕ) → Write-contract n t w r x → (r .number ≡ 0 → ⊥) →

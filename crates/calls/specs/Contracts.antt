@@ -7,5 +7,6 @@ pub mod Radios
 pub mod Wake
 pub mod Cores
 pub mod Trees
+pub mod Staircase
 pub mod Images
 pub mod Pages

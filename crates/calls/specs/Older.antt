@@ -19,6 +19,7 @@ use Rattle.calls.specs.Outcomes.{number-outcome-within, number-outcome, 
 use Rattle.calls.specs.Outcomes.{linked-outcome, first-outcome-within, first-outcome, core-outcome-within, core-outcome, backbone-outcome-within}
 use Rattle.calls.specs.Outcomes.{backbone-outcome, write-outcome-within, write-outcome, tree-outcome-within, tree-outcome, later-outcome-within, later-outcome}
 use Rattle.calls.specs.Outcomes.{sheet-outcome-within, sheet-outcome}
+use Rattle.calls.specs.Outcomes.{staircase-outcome-within, staircase-outcome}
 
 -- the conditions of soundness, with the former limit
 abbrev pub Was-sound : (n : ℕ) → Tables → Type 0
@@ -58,6 +59,8 @@ pub record Older : Type 0 where
   pub tree :
       (n : ℕ) (t : Tables) (m : List Node) (w : List ℕ) → Was-sound n t →
       tree-outcome n t m w ≡ tree-outcome-within former-neighbours n t m w
+  pub staircase :
+      (n : ℕ) (t : Tables) (w : List ℕ) → Was-sound n t → staircase-outcome n t w ≡ staircase-outcome-within former-neighbours n t w
   pub image-write :
       (n : ℕ) (t : Tables) (w : List ℕ) → Was-sound n t → write-outcome n t w ≡ write-outcome-within former-neighbours n t w
   pub sheet :

@@ -20,10 +20,11 @@ use Rattle.mesh.specs.Tables.{Tables, tables, graph-in, tables-of}
 use Rattle.mesh.specs.Sound.{sound-within}
 use Rattle.mesh.specs.Connected.{core-of, backbone}
 use Rattle.mesh.specs.Tree.{tree, node-names}
+use Rattle.mesh.specs.Staircase.{staircase, link-entries}
 use Rattle.mesh.specs.Image.{block-bytes, payload-bytes, image-of, image-graph, image-order}
 use Rattle.mesh.specs.declared.Node.{Node}
 use Rattle.calls.specs.Questions.{lengths-of, image-length, tables-refusal, link-refusal-within, read-refusal, radio-refusal, pair-refusal}
-use Rattle.calls.specs.Questions.{core-refusal, backbone-refusal, tree-refusal, write-refusal, sheet-refusal, block-refusal}
+use Rattle.calls.specs.Questions.{core-refusal, backbone-refusal, tree-refusal, staircase-refusal, write-refusal, sheet-refusal, block-refusal}
 use Rattle.calls.specs.Sheet.{sheet, sheet-length}
 use Rattle.calls.specs.Switches.{switch, switched}
 use Rattle.calls.specs.Contracts.Radios.{first-of-two}
@@ -146,6 +147,15 @@ backbone-outcome-within most n t w =
 
 unfoldable pub backbone-outcome : (n : ℕ) → Tables → (answer : List ℕ) → Value × List ℕ
 backbone-outcome n t w = backbone-outcome-within max-neighbours n t w
+
+-- the kept links, two entries each
+abbrev pub staircase-outcome-within : (most n : ℕ) → Tables → (table : List ℕ) → Value × List ℕ
+staircase-outcome-within most n t w =
+    let kept = staircase (graph-in n (t .links)) in
+    listing-outcome (staircase-refusal n (lengths-of t) (length w) (sound-within most n t)) (length kept) (link-entries kept) w
+
+unfoldable pub staircase-outcome : (n : ℕ) → Tables → (table : List ℕ) → Value × List ℕ
+staircase-outcome n t w = staircase-outcome-within max-neighbours n t w
 
 abbrev pub write-outcome-within : (most n : ℕ) → Tables → (buffer : List ℕ) → Value × List ℕ
 write-outcome-within most n t w =

@@ -40,7 +40,7 @@ pub record Lengths : Type 0 where
 unfoldable pub lengths-of : Tables → Lengths
 lengths-of t = record { links = length (t .links); numbers = length (t .numbers); order = length (t .order) }
 
--- 2. Do the tables used have their lengths? (answer and node lists may be longer)
+-- 2. Do the tables used have their lengths? (answer table, node list and staircase table may be longer)
 unfoldable pub site-lengths : (n : ℕ) → Lengths → Bool
 site-lengths n l = eqb (l .links) (row-bytes * n) && (eqb (l .numbers) n && eqb (l .order) n)
 
@@ -49,6 +49,10 @@ answer-length n w = leb n w
 
 unfoldable pub nodes-length : (n nodes : ℕ) → Bool
 nodes-length n w = leb (n + 1) w
+
+-- document 02, W-209: two entries a link, and there are fewer links than radios
+unfoldable pub staircase-length : (n table : ℕ) → Bool
+staircase-length n w = leb (2 * n) w
 
 -- ---- questions 4 to 8: radios, links, levels
 
@@ -144,6 +148,10 @@ backbone-refusal n l w sound = site-refusal n l (answer-length n w) sound 0
 -- the shell tree: 1 to 3
 unfoldable pub tree-refusal : (n : ℕ) → Lengths → (nodes answer : ℕ) → (sound : Bool) → ℕ
 tree-refusal n l m w sound = site-refusal n l (nodes-length n m && answer-length n w) sound 0
+
+-- the staircase tree: 1 to 3
+unfoldable pub staircase-refusal : (n : ℕ) → Lengths → (table : ℕ) → (sound : Bool) → ℕ
+staircase-refusal n l w sound = site-refusal n l (staircase-length n w) sound 0
 
 -- writing an image: 1 to 3 and 9
 unfoldable pub write-refusal : (n : ℕ) → Lengths → (buffer : ℕ) → (sound : Bool) → Graph → ℕ

@@ -1,4 +1,5 @@
--- What a caller has after an accepted call, in document 01's words: property 2. The proofs are in proofs/Accepted.antt.
+-- What a caller has after an accepted call, in document 01's words: property 2. The proofs are in proofs/Accepted.antt;
+-- of the staircase tree in crate forests.
 --   Numbers-right     numbers are core numbers of a graph by the largest group, and the order is a k-order of it
 --   Site-right        document 01: sound tables are exactly the ones with proper rows, core numbers and a k-order
 --   Link-right        after a link call: the graph in the new links table, its rows, numbers and order
@@ -7,6 +8,7 @@
 --   Core-listed, Backbone-listed   the radios listed
 --   Tree-listed       the nodes listed, and each radio's node name
 --   Sheet-right       the site sheet, column by column
+--   Staircase-listed  the kept links listed, and what they are
 --   Written-right, Read-right      after writing and reading an image
 --   Image-answered    the number that reading answers where 1, 2, 9 and 10 got yes
 --   Block-part, Block-end   what a step of the block reader gives
@@ -26,6 +28,7 @@ use Rattle.mesh.specs.Tables.{Tables, graph-in}
 use Rattle.mesh.specs.Sound.{rows-proper, number-in, sound}
 use Rattle.mesh.specs.Connected.{In-core, In-backbone}
 use Rattle.mesh.specs.Tree.{Is-tree, Node-name}
+use Rattle.mesh.specs.Staircase.{staircase, link-entries, Staircase-tree}
 use Rattle.mesh.specs.Image.{block-bytes, payload-bytes, payload-at, image-of, image-graph, Tables-image, Other-size, Image-of-none}
 use Rattle.mesh.specs.declared.Node.{Node}
 use Rattle.calls.specs.Sheet.{line-bytes, sheet, sheet-lines, Columns}
@@ -88,6 +91,15 @@ pub record Sheet-right (n : ℕ) (t : Tables) (size : ℕ) (w x : List ℕ) : Ty
   pub page : take size x ≡ sheet (t .numbers)
   pub columns : Columns n (number (graph-in n (t .links))) x
   pub later-bytes : drop size x ≡ drop size w
+
+-- w and x are the lent table before and after the call
+pub record Staircase-listed (g : Graph) (count : ℕ) (w x : List ℕ) : Type 0 where
+  -- the kept links stand in front, two entries each; later entries keep their content
+  pub counted : count ≡ length (staircase g)
+  pub listed : take (2 * count) x ≡ link-entries (staircase g)
+  pub later-entries : drop (2 * count) x ≡ drop (2 * count) w
+  -- a heaviest spanning forest, with the widest ways, in document 02's order
+  pub tree : Staircase-tree g (staircase g)
 
 -- ---- images
 

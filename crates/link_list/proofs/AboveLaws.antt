@@ -25,7 +25,7 @@ module _ (ts : List ℕ) (a : ℕ) where
     pub above-count : r ≡ length (neighbours-above ts a)
     above-count = omega (arith, counted, fits)
 
-    above-front : take r list ≡ neighbours-above ts a
+    pub above-front : take r list ≡ neighbours-above ts a
     above-front =
         ap (take r) (listed ∙ ap (λ (xs : List ℕ). overwrite xs before) (take-all (min (length before) (suc max-neighbours)) (neighbours-above ts a) fits))
         ∙ ap (λ (k : ℕ). take k (overwrite (neighbours-above ts a) before)) above-count ∙ take-overwrite (neighbours-above ts a) before

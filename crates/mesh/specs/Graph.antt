@@ -1,6 +1,7 @@
 -- Radios and links.
 --   Link                     a link, its lower radio first
 --   Graph                    n radios, numbered 0 to n - 1, and their links; a site's order is no part of it
+--   In-links l ls            l is one of the links ls
 --   linked g a b             is there a link between a and b
 --   neighbours-among f v xs  how many radios of xs are neighbours of v, where f tells neighbours
 --   neighbours-in g v s      how many neighbours v has in the set s
@@ -8,6 +9,8 @@
 --   relinked up a b g        the graph with the link between a and b taken up or down
 --   proper, ascending        links as an image lists them: lower radio first, radios below n, by lower and then higher
 -- Laws are in proofs/GraphLaws.antt. Definitions only.
+use mathlib.Core.Path.{_≡_}
+use mathlib.Core.Logic.{_⊎_}
 use mathlib.Core.Bool.{Bool, true, _&&_, _||_, cond}
 use mathlib.Core.List.{List, [], _∷_}
 use Prim.Native.Nat.{ℕ}
@@ -30,6 +33,10 @@ graph n ls = record { n = n; links = ls }
 
 unfoldable pub radios : Graph → List ℕ
 radios g = range 0 (g .n)
+
+abbrev pub In-links : Link → List Link → Type 0
+In-links m [] = ⊥
+In-links m (l ∷ ls) = (l ≡ m) ⊎ In-links m ls
 
 -- ---- neighbours
 

@@ -1,4 +1,4 @@
--- Document 01's definitions, one file a subject, in the order in which a reader needs them.
+-- Document 01's definitions, and document 02's beside them, one file a subject, in the order in which a reader needs them.
 pub mod Limits
 pub mod Graph
 pub mod Cores
@@ -10,4 +10,5 @@ pub mod Tables
 pub mod Sound
 pub mod Connected
 pub mod Tree
+pub mod Staircase
 pub mod Image

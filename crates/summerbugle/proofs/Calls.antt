@@ -10,6 +10,7 @@ use Rattle.calls.specs.Contracts.Wake.{Later-contract}
 use Rattle.calls.specs.Contracts.Cores.{Core-contract, Backbone-contract}
 use Rattle.calls.specs.Contracts.Trees.{Tree-contract}
 use Rattle.calls.specs.Contracts.Pages.{Sheet-contract}
+use Rattle.calls.specs.Contracts.Staircase.{Staircase-contract}
 use Rattle.block_reader.specs.Reader.{Stepped, Moved}
 use Rattle.summerbugle.specs.Functions.{Function, number-0, number-1, number-2, tables-1, tables-2, tables-3, lent-0, lent-4, lent-5, lent-6}
 use Rattle.block_reader.proofs.blocks.open as opening
@@ -44,6 +45,8 @@ use Rattle.summerbugle.proofs.sb_backbone as backbone
 use Rattle.summerbugle.proofs.sb_backbone.Symbol as backbone-symbol
 use Rattle.summerbugle.proofs.sb_tree as tree
 use Rattle.summerbugle.proofs.sb_tree.Symbol as tree-symbol
+use Rattle.summerbugle.proofs.sb_staircase as staircase
+use Rattle.summerbugle.proofs.sb_staircase.Symbol as staircase-symbol
 use Rattle.summerbugle.proofs.sb_image_write as image-write
 use Rattle.summerbugle.proofs.sb_image_write.Symbol as image-write-symbol
 use Rattle.summerbugle.proofs.sb_sheet as sheet
@@ -166,6 +169,15 @@ sb-tree = record {
   routine = tree-symbol.routine;
   kept = tree.ended .kept;
   contract = λ κs a r e. Tree-contract (number-0 a) (tables-1 a) (lent-4 a) (lent-5 a) r (lent-4 e) (lent-5 e);
+}
+
+-- sb_staircase(n, links, numbers, order, table)
+abbrev pub sb-staircase : Function
+sb-staircase = record {
+  signature = staircase.signature;
+  routine = staircase-symbol.routine;
+  kept = staircase.ended .kept;
+  contract = λ κs a r e. Staircase-contract (number-0 a) (tables-1 a) (lent-4 a) r (lent-4 e);
 }
 
 -- sb_image_write(n, links, numbers, order, buffer)

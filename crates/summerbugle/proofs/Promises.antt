@@ -7,8 +7,8 @@
 --     Refusals         a call whose number is not 0 has zeros beside it, and every lent table keeps its content
 --     Outcomes         for every input a contract has exactly one outcome: the one worked out in calls/specs/Outcomes.antt
 --     Tables-left      what is lent by shared reference is left as it was
---   Property-2       numbers are core numbers by the largest group and orders are k-orders; connected cores, backbone, shell tree, site
---                    sheet and images follow their definitions; older tables and images are taken as they were
+--   Property-2       numbers are core numbers by the largest group and orders are k-orders; connected cores, backbone, shell tree,
+--                    staircase tree, site sheet and images follow their definitions; older tables and images are taken as they were
 --   Property-3       demand 3, undivided, over the contracts that the exported calls meet
 use mathlib.Core.Path.{_≡_, refl}
 use mathlib.Core.Logic.{_↔_, _⊎_}
@@ -35,10 +35,11 @@ use Rattle.calls.specs.Contracts.Wake.{Later-refused, Later-contract}
 use Rattle.calls.specs.Contracts.Cores.{Core-contract, Backbone-contract}
 use Rattle.calls.specs.Contracts.Trees.{Tree-refused, Tree-contract}
 use Rattle.calls.specs.Contracts.Pages.{Sheet-contract}
+use Rattle.calls.specs.Contracts.Staircase.{Staircase-contract}
 use Rattle.calls.specs.Outcomes.{clear-outcome, read-outcome, link-outcome, check-outcome, number-outcome, neighbours-outcome, linked-outcome, first-outcome}
-use Rattle.calls.specs.Outcomes.{core-outcome, backbone-outcome, tree-outcome, write-outcome, block-outcome, later-outcome, sheet-outcome}
+use Rattle.calls.specs.Outcomes.{core-outcome, backbone-outcome, tree-outcome, write-outcome, block-outcome, later-outcome, sheet-outcome, staircase-outcome}
 use Rattle.calls.specs.Results.{Site-right, Link-right, Later-right, Core-listed, Backbone-listed, Tree-listed, Written-right, Read-right, Block-part, Block-end}
-use Rattle.calls.specs.Results.{Image-answered, Sheet-right}
+use Rattle.calls.specs.Results.{Image-answered, Sheet-right, Staircase-listed}
 use Rattle.calls.specs.Older.{Older}
 use Rattle.calls.specs.Book.{Call, clearing, reading, linking, Answer, plain, book-after}
 use Rattle.calls.specs.Runs.{answer-of, Does, Event, event, Run, givens, called}
@@ -50,17 +51,19 @@ use Rattle.calls.specs.declared.Block.{Block}
 use Rattle.summerbugle.specs.Functions.{Promised, Returns, Gives, Leaves-lent, number-0, number-1, number-2, tables-1, tables-2, tables-3, lent-0, lent-4}
 use Rattle.summerbugle.specs.Functions.{lent-6}
 use Rattle.summerbugle.proofs.Calls.{sb-clear, sb-link-up, sb-link-down, sb-image-read, sb-check, sb-number, sb-neighbours, sb-linked, sb-first, sb-core}
-use Rattle.summerbugle.proofs.Calls.{sb-later-of, sb-backbone, sb-tree, sb-image-write, sb-sheet, sb-image-block, reader-open, reader-step, reader-moved}
+use Rattle.summerbugle.proofs.Calls.{sb-later-of, sb-backbone, sb-tree, sb-staircase, sb-image-write, sb-sheet, sb-image-block, reader-open, reader-step, reader-moved}
 -- for the proof
 use Rattle.mesh.proofs.Cores.Peeling.{number-core, number-unique}
 use Rattle.mesh.proofs.Trees.Listed.{backbone-one-part}
 use Rattle.mesh.proofs.Images.OtherSize.{other-size-iff}
 use Rattle.calls.proofs.Outcomes.{exactly, clear-decided, link-decided, read-decided, check-decided, number-decided, neighbours-decided, block-inhabited}
-use Rattle.calls.proofs.Outcomes.{linked-decided, first-decided, core-decided, backbone-decided, tree-decided, write-decided, block-decided, later-decided, sheet-decided}
+use Rattle.calls.proofs.Outcomes.{linked-decided, first-decided, core-decided, backbone-decided, tree-decided, write-decided, block-decided, later-decided, sheet-decided, staircase-decided}
 use Rattle.calls.proofs.Outcomes.{clear-inhabited, link-inhabited, read-inhabited, check-inhabited, number-inhabited, neighbours-inhabited}
 use Rattle.calls.proofs.Outcomes.{linked-inhabited, first-inhabited, core-inhabited, backbone-inhabited, tree-inhabited, write-inhabited, later-inhabited, sheet-inhabited}
+use Rattle.calls.proofs.Outcomes.{staircase-inhabited}
 use Rattle.calls.proofs.Refusals.{clear-keeps, link-keeps, read-keeps, check-keeps, number-keeps, neighbours-keeps, linked-keeps, first-keeps}
-use Rattle.calls.proofs.Refusals.{core-keeps, backbone-keeps, tree-keeps, write-keeps, block-keeps, later-keeps, sheet-keeps}
+use Rattle.calls.proofs.Refusals.{core-keeps, backbone-keeps, tree-keeps, write-keeps, block-keeps, later-keeps, sheet-keeps, staircase-keeps}
+use Rattle.forests.proofs.Tree.{staircase-right}
 use Rattle.calls.proofs.Accepted.{check-right, link-right, number-right, later-right, core-right, backbone-right, tree-right-listed, write-right}
 use Rattle.calls.proofs.Accepted.{read-what-was-written, read-right, block-right, sheet-right}
 use Rattle.calls.proofs.ImageNumbers.{eleven-iff, read-eleven}
@@ -85,6 +88,7 @@ use Rattle.summerbugle.proofs.sb_later_of.Met as later-of-proof
 use Rattle.summerbugle.proofs.sb_core.Met as core-proof
 use Rattle.summerbugle.proofs.sb_backbone.Met as backbone-proof
 use Rattle.summerbugle.proofs.sb_tree.Met as tree-proof
+use Rattle.summerbugle.proofs.sb_staircase.Met as staircase-proof
 use Rattle.summerbugle.proofs.sb_image_write.Met as image-write-proof
 use Rattle.summerbugle.proofs.sb_sheet.Met as sheet-proof
 use Rattle.summerbugle.proofs.sb_image_block.Met as image-block-proof
@@ -105,6 +109,7 @@ pub record Calls-promised (M : Type 1) : Type 2 where
   pub core : Promised sb-core M
   pub backbone : Promised sb-backbone M
   pub tree : Promised sb-tree M
+  pub staircase : Promised sb-staircase M
   pub image-write : Promised sb-image-write M
   pub sheet : Promised sb-sheet M
   pub image-block : Promised sb-image-block M
@@ -129,6 +134,7 @@ pub record Calls-return : Type 2 where
   pub core : Returns sb-core
   pub backbone : Returns sb-backbone
   pub tree : Returns sb-tree
+  pub staircase : Returns sb-staircase
   pub image-write : Returns sb-image-write
   pub sheet : Returns sb-sheet
   pub image-block : Returns sb-image-block
@@ -159,6 +165,9 @@ pub record Refusals : Type 0 where
   pub tree :
       (n : ℕ) (t : Tables) (m : List Node) (w : List ℕ) (r : Value) (p : List Node) (x : List ℕ) → Tree-contract n t m w r p x →
       (r .number ≡ 0 → ⊥) → Tree-refused (r .number) m w r p x
+  pub staircase :
+      (n : ℕ) (t : Tables) (w : List ℕ) (r : Value) (x : List ℕ) → Staircase-contract n t w r x → (r .number ≡ 0 → ⊥) →
+      Listing-refused (r .number) w r x
   pub image-write :
       (n : ℕ) (t : Tables) (w : List ℕ) (r : Value) (x : List ℕ) → Write-contract n t w r x → (r .number ≡ 0 → ⊥) →
       Listing-refused (r .number) w r x
@@ -186,6 +195,8 @@ pub record Outcomes : Type 0 where
   pub tree :
       (n : ℕ) (t : Tables) (m : List Node) (w : List ℕ) (o : Value × List Node × List ℕ) →
       Tree-contract n t m w (o .0) (o .1) (o .2) ↔ (o ≡ tree-outcome n t m w)
+  pub staircase :
+      (n : ℕ) (t : Tables) (w : List ℕ) (o : Value × List ℕ) → Staircase-contract n t w (o .0) (o .1) ↔ (o ≡ staircase-outcome n t w)
   pub image-write : (n : ℕ) (t : Tables) (w : List ℕ) (o : Value × List ℕ) → Write-contract n t w (o .0) (o .1) ↔ (o ≡ write-outcome n t w)
   pub sheet : (n : ℕ) (t : Tables) (w : List ℕ) (o : Value × List ℕ) → Sheet-contract n t w (o .0) (o .1) ↔ (o ≡ sheet-outcome n t w)
   pub image-block : (bs : List ℕ) (i : ℕ) (o : Block) → Block-contract bs i o ↔ (o ≡ block-outcome bs i)
@@ -205,6 +216,7 @@ pub record Tables-left : Type 0 where
   pub core : Leaves-lent sb-core (λ κs. tables-3) (λ κs. tables-3)
   pub backbone : Leaves-lent sb-backbone (λ κs. tables-1) (λ κs. tables-1)
   pub tree : Leaves-lent sb-tree (λ κs. tables-1) (λ κs. tables-1)
+  pub staircase : Leaves-lent sb-staircase (λ κs. tables-1) (λ κs. tables-1)
   pub image-write : Leaves-lent sb-image-write (λ κs. tables-1) (λ κs. tables-1)
   pub sheet : Leaves-lent sb-sheet (λ κs. tables-1) (λ κs. tables-1)
   -- and images
@@ -251,6 +263,11 @@ pub record Property-2 : Type 0 where
   -- the page has the site sheet in front, column by column, with each radio's core number (document 02, W-201)
   pub sheet :
       (n : ℕ) (t : Tables) (w : List ℕ) (r : Value) (x : List ℕ) → Sheet-contract n t w r x → r .number ≡ 0 → Sheet-right n t (r .value) w x
+  -- the kept links are listed: a spanning forest, no other weighs more; the way over them between two joined radios has the greatest
+  -- least weight; those of weight k or more join what shares a connected core at level k
+  pub staircase :
+      (n : ℕ) (t : Tables) (w : List ℕ) (r : Value) (x : List ℕ) → Staircase-contract n t w r x → r .number ≡ 0 →
+      Staircase-listed (graph-in n (t .links)) (r .value) w x
   -- what is written is the image of sound tables, and reading it gives the same tables. That their links are bytes is all that is asked:
   -- a table of 8-bit entries is, but a list of numbers that a contract speaks of need not be
   pub image-written :
@@ -328,6 +345,7 @@ calls-promised = record {
   core = core-proof.met;
   backbone = backbone-proof.met;
   tree = tree-proof.met;
+  staircase = staircase-proof.met;
   image-write = image-write-proof.met;
   sheet = sheet-proof.met;
   image-block = image-block-proof.met;
@@ -351,6 +369,7 @@ calls-return = record {
   core = returns sb-core (calls-promised .core);
   backbone = returns sb-backbone (calls-promised .backbone);
   tree = returns sb-tree (calls-promised .tree);
+  staircase = returns sb-staircase (calls-promised .staircase);
   image-write = returns sb-image-write (calls-promised .image-write);
   sheet = returns sb-sheet (calls-promised .sheet);
   image-block = returns sb-image-block (calls-promised .image-block);
@@ -373,6 +392,7 @@ refusals = record {
   core = core-keeps;
   backbone = backbone-keeps;
   tree = tree-keeps;
+  staircase = staircase-keeps;
   image-write = write-keeps;
   sheet = sheet-keeps;
   image-block = block-keeps;
@@ -392,6 +412,7 @@ outcomes = record {
   core = λ n v k t w. exactly _ _ (core-inhabited n v k t w) (core-decided n v k t w);
   backbone = λ n t w. exactly _ _ (backbone-inhabited n t w) (backbone-decided n t w);
   tree = λ n t m w. exactly _ _ (tree-inhabited n t m w) (tree-decided n t m w);
+  staircase = λ n t w. exactly _ _ (staircase-inhabited n t w) (staircase-decided n t w);
   image-write = λ n t w. exactly _ _ (write-inhabited n t w) (write-decided n t w);
   sheet = λ n t w. exactly _ _ (sheet-inhabited n t w) (sheet-decided n t w);
   image-block = λ bs i. exactly _ _ (block-inhabited bs i) (block-decided bs i);
@@ -408,6 +429,7 @@ tables-left = record {
   core = λ κs a last. refl;
   backbone = λ κs a last. refl;
   tree = λ κs a last. refl;
+  staircase = λ κs a last. refl;
   image-write = λ κs a last. refl;
   sheet = λ κs a last. refl;
   image-read = λ κs a last. refl;
@@ -426,6 +448,7 @@ property-2 = record {
   backbone-one-part = backbone-one-part;
   tree = tree-right-listed;
   sheet = sheet-right;
+  staircase = staircase-right;
   image-written = write-right;
   image-read-back = read-what-was-written;
   image-read = read-right;

@@ -10,6 +10,7 @@ ghost use Rattle.calls.specs.Contracts.Wake.{Later-contract};
 ghost use Rattle.calls.specs.Contracts.Cores.{Core-contract, Backbone-contract};
 ghost use Rattle.calls.specs.Contracts.Trees.{Tree-contract};
 ghost use Rattle.calls.specs.Contracts.Pages.{Sheet-contract};
+ghost use Rattle.calls.specs.Contracts.Staircase.{Staircase-contract};
 use calls::Block;
 use calls::Later;
 use calls::Reply;
@@ -216,6 +217,21 @@ pub extern "C" fn sb_tree<'a, 's, 't>(
     let count = reply.value as usize;
     nodes::fill(nodes, &names, &levels, &parents, count);
     reply
+}
+
+// The staircase tree: the count of the kept links, and the links in front of the table, which must have 2 n entries, two entries each,
+// lower radio first. Refused by 1 to 3: then the table keeps its content.
+#[no_mangle]
+pub extern "C" fn sb_staircase<'a>(
+    n: u32,
+    links: &'a [u8],
+    numbers: &'a [u8],
+    order: &'a [u16],
+    table: &mut [u16],
+) -> Value
+    ensures { λ r. ⌜ Staircase-contract n (lent (links .entry) (numbers .entry) (order .entry)) (now (table .entry)) r (now (table .exit)) ⌝ }
+{
+    staircase::staircase(n, links, numbers, order, table)
 }
 
 // Writes the site's image in front of the buffer: the value is its length in bytes, and bytes past it keep their content. Refused

@@ -35,6 +35,8 @@ const LATER_OF: u32 = 14;
 
 pub const SHEET: u32 = 15;
 
+const STAIRCASE: u32 = 16;
+
 // A question about a site, which writes no table.
 fn ask<'a>(call: Call, links: &'a [u8], numbers: &'a [u8], order: &'a [u16]) {
     let n = call.n;
@@ -94,6 +96,15 @@ fn list<'a>(
     }
 }
 
+// The staircase tree, in `room` entries of the fields.
+fn stair<'a>(call: Call, links: &'a [u8], numbers: &'a [u8], order: &'a [u16], fields: &mut [u16]) {
+    if call.kind == STAIRCASE {
+        let k = tables::fill::least(call.room, fields.len());
+        let kept = summerbugle::sb_staircase(call.n, links, numbers, order, &mut fields[..k]);
+        say::value(b"staircase", kept);
+    }
+}
+
 // A call that takes a link up or down.
 fn link(call: Call, links: &mut [u8], numbers: &mut [u8], order: &mut [u16], answer: &mut [u16]) {
     if call.kind == LINK_UP {
@@ -150,6 +161,7 @@ fn look<'a>(
 ) {
     ask(call, links, numbers, order);
     list(call, links, numbers, order, answer, fields);
+    stair(call, links, numbers, order, fields);
     store(call, links, numbers, order, buffer);
 }
 

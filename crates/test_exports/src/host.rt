@@ -34,17 +34,17 @@ pub const KEPT: u16 = 600;
 const BYTE: u8 = 165;
 
 // What the host does to its own tables, by the number that the file gives each, after the calls.
-const SPOIL_LINKS: u32 = 16;
+const SPOIL_LINKS: u32 = 17;
 
-const SPOIL_NUMBERS: u32 = 17;
+const SPOIL_NUMBERS: u32 = 18;
 
-const SPOIL_ORDER: u32 = 18;
+const SPOIL_ORDER: u32 = 19;
 
-const SPOIL_ANSWER: u32 = 19;
+const SPOIL_ANSWER: u32 = 20;
 
-const SPOIL_FIELDS: u32 = 20;
+const SPOIL_FIELDS: u32 = 21;
 
-const SPOIL_BUFFER: u32 = 21;
+const SPOIL_BUFFER: u32 = 22;
 
 // The bits to flip in a table: none where another one is spoiled.
 fn bits(call: Call, kind: u32) -> u32 {

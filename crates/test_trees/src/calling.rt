@@ -8,6 +8,9 @@ use mesh::Site;
 // Two places more than the largest tree needs.
 const PLACES: usize = 515;
 
+// The longest table that is lent for entries: two for each of those places.
+const ANSWER: usize = 2 * PLACES;
+
 // The bytes of a site's largest links table.
 const LINKS_BYTES: usize = Site::ROW_BYTES * Site::RADIOS as usize;
 
@@ -58,6 +61,21 @@ fn backbone<'a>(
     crate::compare::entries(fd, answer, after)
 }
 
+// A staircase tree.
+fn staircase<'a>(
+    fd: i32,
+    n: u32,
+    links: &'a [u8],
+    numbers: &'a [u8],
+    order: &'a [u16],
+    table: &mut [u16],
+    t: Tally,
+) -> Tally {
+    let r = staircase::staircase(n, links, numbers, order, table);
+    let after = crate::compare::reply(fd, r, t);
+    crate::compare::entries(fd, table, after)
+}
+
 // A connected core, of the radio and the level that the file names.
 fn core<'a>(
     fd: i32,
@@ -93,6 +111,9 @@ fn call<'a>(
     }
     if kind == 2 {
         return backbone(fd, n, links, numbers, order, &mut answer[..w], t);
+    }
+    if kind == 4 {
+        return staircase(fd, n, links, numbers, order, &mut answer[..w], t);
     }
     core(fd, n, links, numbers, order, &mut answer[..w], t)
 }
@@ -145,7 +166,7 @@ fn cut(fd: i32, n: u32) -> Tally
     let mut links = [0u8; LINKS_BYTES];
     let mut numbers = [0u8; Site::RADIOS as usize];
     let mut order = [0u16; Site::RADIOS as usize];
-    let mut answer = [0u16; PLACES];
+    let mut answer = [0u16; ANSWER];
     play(
         fd,
         n,

@@ -1,4 +1,4 @@
-// Shell trees, connected cores and backbones on the sites of data/, compared with outcomes that a separate program worked out
+// Shell trees, connected cores, backbones and staircase trees on the sites of data/, compared with outcomes that a separate program worked out
 // (oracle/trees.py writes data/ and the expected output). Of each call its number, its value and every entry of what it was lent
 // are compared, entries that must keep their content too. A line for each site: its name, how many calls were made, how many
 // values were compared, and how many were wrong. Of the last one's calls each owes one wrong value on purpose: all must be found.
@@ -63,11 +63,18 @@ fn several_parts() {
     case(b"sparse-512");
 }
 
+fn random() {
+    case(b"random-40");
+    case(b"random-200");
+    case(b"dense-100");
+}
+
 fn main() {
     documents();
     sizes();
     nested();
     several_parts();
+    random();
     // each part of an outcome owed wrongly once
     case(b"canary");
 }

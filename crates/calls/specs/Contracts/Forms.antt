@@ -2,7 +2,7 @@
 -- refusal. Calls that only read links, numbers and order cannot change them, so a contract takes these tables once.
 --   Tables-refused    a refusal with a bare number: every table keeps its content
 --   Value-by          a value: check, number, neighbours, linked, first
---   Listing-by        a value, and a lent list that gets entries in front: core, backbone, image writing, site sheet
+--   Listing-by        a value, and a lent list that gets entries in front: core, backbone, staircase tree, image writing, site sheet
 -- Definitions only.
 use mathlib.Core.Path.{_≡_}
 use mathlib.Core.List.{List}

@@ -9,15 +9,11 @@ use native.Mathlib.Omega.{arith}
 use lib.Dec.{ltb, eqb}
 use borrow.Author.Tests.{ltb-true, lt-ltb, le-ltb, eqb-true, eq-eqb}
 use Rattle.lists.specs.Lists.{member}
-use Rattle.mesh.specs.Graph.{Link, other-ends, link, link-before, ascending}
+use Rattle.mesh.specs.Graph.{Link, In-links, other-ends, link, link-before, ascending}
 use Rattle.lists.proofs.Tests.{never, and-left, and-right, and-both, or-cases, or-left, or-right, trichotomy}
 use Rattle.mesh.proofs.GraphLaws.{Ends, ends-of, of-ends, joins, joins-link, linked-by, linked-by-cons, Proper}
 
 -- ---- membership of links
-
-abbrev pub In-links : Link → List Link → Type 0
-In-links m [] = ⊥
-In-links m (l ∷ ls) = (l ≡ m) ⊎ In-links m ls
 
 pub in-links-left : (m : Link) (ls ms : List Link) → In-links m ls → In-links m (ls ++ ms)
 in-links-left m (l ∷ ls) ms (inl e) = inl e
@@ -162,7 +158,7 @@ pub link-less : (a b : ℕ) → a < b → link a b ≡ record { low = a; high = 
 unfolding link
 link-less a b h = rw (lt-ltb a b h)
 
-link-more : (a b : ℕ) → b < a → link a b ≡ record { low = b; high = a }
+pub link-more : (a b : ℕ) → b < a → link a b ≡ record { low = b; high = a }
 unfolding link
 link-more a b h = rw (le-ltb a b (omega arith))
 

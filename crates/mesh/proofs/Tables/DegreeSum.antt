@@ -14,13 +14,13 @@ use lib.ListN.{length}
 use borrow.Author.Tests.{eqb-true, eqb-false, eq-eqb}
 use Rattle.mesh.specs.Limits.{max-radios, max-neighbours}
 use Rattle.lists.specs.Lists.{range, count, member, total}
-use Rattle.mesh.specs.Graph.{Link, Graph, radios, linked, neighbours-among, degree, other-ends, proper, ascending}
+use Rattle.mesh.specs.Graph.{Link, In-links, Graph, radios, linked, neighbours-among, degree, other-ends, proper, ascending}
 use Rattle.mesh.specs.Image.{blocks-for, order-blocks, block-count}
 use Rattle.lists.proofs.Tests.{bool-cases, bit-true, bit-false, iff-eq}
 use Rattle.lists.proofs.Range.{range-in, length-range, count-range-one}
 use Rattle.lists.proofs.Count.{count-none, count-cong, count-or}
 use Rattle.mesh.proofs.GraphLaws.{Ends, joins, ends-of, of-ends, linked-by, linked-by-cons, linked-by-sym, Proper, proper-of}
-use Rattle.mesh.proofs.Tables.AscendingLinks.{In-links, before-irreflexive, Sorted, sorted-of, link-less, linked-in}
+use Rattle.mesh.proofs.Tables.AscendingLinks.{before-irreflexive, Sorted, sorted-of, link-less, linked-in}
 use Rattle.mesh.specs.Valid.{Valid}
 use Rattle.lists.proofs.Sums.{total-le, total-cong, total-none, total-bits}
 

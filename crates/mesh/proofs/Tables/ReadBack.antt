@@ -12,7 +12,7 @@ use lib.ListN.{length}
 use borrow.Author.Tests.{ltb-true, ltb-false}
 use Rattle.mesh.specs.Limits.{max-radios, row-bytes}
 use Rattle.lists.specs.Lists.{range, filter, In, Bytes}
-use Rattle.mesh.specs.Graph.{Link, Graph, graph, radios, linked, degree, neighbours-among, proper, ascending}
+use Rattle.mesh.specs.Graph.{Link, In-links, Graph, graph, radios, linked, degree, neighbours-among, proper, ascending}
 use Rattle.mesh.specs.Tables.{marked, links-table, row-links, graph-in}
 use Rattle.mesh.specs.Sound.{symmetric, irreflexive, within, row-degree}
 use Rattle.lists.proofs.Tests.{bool-cases, iff-eq, trichotomy}
@@ -21,7 +21,7 @@ use Rattle.lists.proofs.Filter.{in-filter, filter-in}
 use Rattle.mesh.proofs.GraphLaws.{linked-sym, linked-self, Proper, proper-of, of-proper}
 use Rattle.mesh.proofs.Tables.Laws.{table-eq, length-links-table, bytes-links-table, marked-links-table}
 use Rattle.mesh.proofs.Tables.Rows.{symmetric-of, irreflexive-of, within-of, row-degree-count, linked-within}
-use Rattle.mesh.proofs.Tables.AscendingLinks.{In-links, in-links-left, in-links-right, in-links-cases, in-links-proper, proper-in-links, Before}
+use Rattle.mesh.proofs.Tables.AscendingLinks.{in-links-left, in-links-right, in-links-cases, in-links-proper, proper-in-links, Before}
 use Rattle.mesh.proofs.Tables.AscendingLinks.{link-less, Sorted, sorted-of, of-sorted, sorted-append, sorted-eq, in-linked, linked-in}
 
 -- ---- members of joined lists of links

@@ -8,14 +8,14 @@ use Prim.Native.Nat.{ℕ, _≤_, _<_}
 use lib.Dec.{eqb}
 use borrow.Author.Tests.{eq-eqb}
 use Rattle.mesh.specs.Limits.{max-radios}
-use Rattle.mesh.specs.Graph.{Link, Graph, linked, link, link-before, same-link, with-link, without-link, new-links, relinked, proper, ascending}
+use Rattle.mesh.specs.Graph.{Link, In-links, Graph, linked, link, link-before, same-link, with-link, without-link, new-links, relinked, proper, ascending}
 use Rattle.mesh.specs.Tables.{put-link, links-table}
 use Rattle.lists.proofs.Tests.{bool-cases, never, and-both}
 use Rattle.mesh.proofs.GraphLaws.{ends, Ends, ends-of, joins-link, linked-by, linked-by-sym, linked-by-with, linked-by-without, same-link-eq, Proper}
 use Rattle.mesh.proofs.GraphLaws.{proper-of, proper-new-links}
 use Rattle.mesh.proofs.Tables.Laws.{table-eq, length-put-link, bytes-put-link, marked-put-link, length-links-table, bytes-links-table}
 use Rattle.mesh.proofs.Tables.Laws.{marked-links-table}
-use Rattle.mesh.proofs.Tables.AscendingLinks.{In-links, Before, first-before, before-irreflexive, before-of, of-before, before-cases, link-eq, Sorted}
+use Rattle.mesh.proofs.Tables.AscendingLinks.{Before, first-before, before-irreflexive, before-of, of-before, before-cases, link-eq, Sorted}
 use Rattle.mesh.proofs.Tables.AscendingLinks.{sorted-of, of-sorted, in-linked, linked-in}
 
 -- ---- the links stay in their order

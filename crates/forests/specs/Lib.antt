@@ -1,0 +1,2 @@
+-- The worked cases of the staircase tree.
+pub mod Cases

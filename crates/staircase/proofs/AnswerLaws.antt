@@ -1,0 +1,52 @@
+-- The call's contract, met: refused and answered.
+use mathlib.Core.Path.{_≡_, sym, _∙_}
+use mathlib.Core.List.{List}
+use Prim.Native.Nat.{ℕ, _*_, _≤_}
+use native.Mathlib.Omega.{arith}
+use lib.Dec.{leb}
+use lib.ListN.{length}
+use borrow.Author.Tests.{leb-true}
+use Rattle.lists.specs.Lists.{range}
+use Rattle.mesh.specs.Limits.{max-radios, max-neighbours}
+use Rattle.mesh.specs.Connected.{greatest}
+use Rattle.mesh.specs.Tables.{Tables}
+use Rattle.mesh.specs.Sound.{sound}
+use Rattle.calls.specs.Questions.{lengths-of, site-refusal, staircase-length, staircase-refusal}
+use Rattle.calls.specs.Contracts.Staircase.{Staircase-contract}
+use Rattle.link_list.specs.Links.{links-from, Rows-listed}
+use Rattle.calls.proofs.ChainLaws.{Site-good, site-zero}
+use Rattle.calls.proofs.ContractLaws.{answer, listing-refused, listing-answered}
+use Rattle.soundness.proofs.SoundSite.{Sound-site, site-good-sound}
+use Rattle.link_list.proofs.GraphLinks.{rows-listed-few}
+use Rattle.staircase.specs.Growing.{growing, grown-all, table-weight, levels-falling}
+use Rattle.staircase.proofs.LevelLaws.{staircase-count, staircase-table}
+
+module _ (n : ℕ) (t : Tables) (old : List ℕ) (q : ℕ) (asked : q ≡ site-refusal n (lengths-of t) (leb (2 * n) (length old)) (sound n t) 0) where
+  pub staircase-refused : (q ≡ 0 → ⊥) → Staircase-contract n t old (answer q 0) old
+  unfolding Staircase-contract staircase-refusal staircase-length
+  staircase-refused h = listing-refused _ _ _ old q asked h
+
+  module _ (e : q ≡ 0) where
+    good : Site-good n (lengths-of t) (leb (2 * n) (length old)) (sound n t)
+    good = site-zero n (lengths-of t) (leb (2 * n) (length old)) (sound n t) 0 (sym asked ∙ e) .0
+
+    site : Sound-site n t
+    site = site-good-sound n t (leb (2 * n) (length old)) good
+
+    pub staircase-small : length (t .numbers) ≤ max-radios
+    staircase-small = omega (arith, site .small, site .numbers-long)
+
+    pub staircase-rows : Rows-listed (length (t .numbers)) (t .links) max-neighbours
+    staircase-rows = rw (site .numbers-long) (rows-listed-few n (t .links) (site .small) (site .links-long) max-neighbours (site .few))
+
+    pub staircase-answered : (labels table : List ℕ) (count : ℕ)
+        → growing labels table count ≡ grown-all
+        (levels-falling (table-weight (t .numbers)) (greatest (t .numbers)) (links-from (length (t .numbers)) (t .links) 0 0))
+        (growing (range 0 (length (t .numbers))) old 0)
+        → Staircase-contract n t old (answer 0 count) table
+    unfolding Staircase-contract staircase-refusal staircase-length
+    staircase-answered labels table count h =
+        let room = leb-true (2 * n) (length old) (good .lent .further) in
+        listing-answered _ _ _ old count table (sym asked ∙ e)
+        (staircase-count n t site (good .lent .least) old room (growing labels table count) h)
+        (staircase-table n t site (good .lent .least) old room (growing labels table count) h)

@@ -1,0 +1,101 @@
+-- On sound tables the links of the rows, by weight falling, are the graph's; so what grows is the staircase tree.
+--   levels-graph       the links taken are the graph's links by weight falling
+--   staircase-count, staircase-table   what the call answers, and what the lent table holds
+use mathlib.Core.Path.{_≡_, refl, sym, ap, ap₂, _∙_}
+use mathlib.Core.List.{List, [], _++_}
+use Prim.Native.Nat.{ℕ, zero, suc, _*_, _≤_, _<_, min}
+use native.Mathlib.Omega.{arith}
+use lib.Dec.{eqb}
+use lib.ListN.{length}
+use lib.Seq.{take-all}
+use borrow.Author.Tests.{ne-eqb}
+use Rattle.lists.specs.Lists.{range, overwrite}
+use Rattle.mesh.specs.Graph.{Link, Graph, In-links}
+use Rattle.mesh.specs.Cores.{number, numbers}
+use Rattle.mesh.specs.Connected.{greatest}
+use Rattle.mesh.specs.Tables.{Tables, graph-in}
+use Rattle.mesh.specs.Staircase.{weight, of-weight, falling, staircase, link-entries}
+use Rattle.link_list.specs.Links.{links-from}
+use Rattle.lists.proofs.Overwrite.{sets-front}
+use Rattle.mesh.proofs.GraphLaws.{linked-sym}
+use Rattle.mesh.proofs.Links.Call.{linked-positive}
+use Rattle.mesh.proofs.Tables.ReadBack.{Marks, in-graph-in, proper-graph-in}
+use Rattle.soundness.proofs.SoundSite.{Sound-site, linked-marked, number-entry}
+use Rattle.link_list.proofs.GraphLinks.{links-graph-in}
+use Rattle.forests.proofs.JoinedLaws.{Inside}
+use Rattle.forests.proofs.Forests.{filter-links-none, filter-links-ext}
+use Rattle.forests.proofs.Keeping.{in-falling}
+use Rattle.forests.proofs.Heaviest.{links-inside, staircase-fewer}
+use Rattle.forests.proofs.Tree.{length-link-entries}
+use Rattle.staircase.specs.Growing.{Growing, growing, grown-all, table-weight, levels-falling}
+use Rattle.staircase.proofs.Shows.{Shows, shows-none, shows-all}
+
+levels-ext : (wt vt : Link → ℕ) (ls : List Link) → ((m : Link) → In-links m ls → wt m ≡ vt m) → (w : ℕ) → levels-falling wt w ls ≡ levels-falling vt w ls
+unfolding levels-falling
+levels-ext wt vt ls h zero = refl
+levels-ext wt vt ls h (suc w) =
+    ap₂ {C = List Link} (λ xs ys. xs ++ ys)
+    (filter-links-ext (λ l. eqb (wt l) (suc w)) (λ l. eqb (vt l) (suc w)) ls (λ m i. ap (λ (k : ℕ). eqb k (suc w)) (h m i))) (levels-ext wt vt ls h w)
+
+-- where every link weighs something, nothing is left for weight 0
+levels-all : (wt : Link → ℕ) (ls : List Link) → ((m : Link) → In-links m ls → 1 ≤ wt m) → (w : ℕ) → levels-falling wt w ls ≡ falling wt w ls
+unfolding levels-falling falling
+levels-all wt ls h zero = sym (filter-links-none (λ l. eqb (wt l) 0) ls (λ m i. ne-eqb (wt m) 0 (λ e. omega (arith, h m i))))
+levels-all wt ls h (suc w) = ap {B = List Link} (λ xs. of-weight wt (suc w) ls ++ xs) (levels-all wt ls h w)
+
+module _ (n : ℕ) (t : Tables) (s : Sound-site n t) where
+  abbrev site : Graph
+  site = graph-in n (t .links)
+
+  weight-positive : (m : Link) → In-links m (site .links) → 1 ≤ weight site m
+  unfolding weight graph-in
+  weight-positive m i = go (in-graph-in n (t .links) m i)
+    where
+      go : Marks n (t .links) m → 1 ≤ min (number site (m .low)) (number site (m .high))
+      go k =
+          let low : m .low < n = omega (arith, k .lower-first, k .is-radio) in
+          let e = linked-marked n t s (m .low) (m .high) low (k .is-radio) ∙ k .is-marked in
+          omega (
+            arith,
+            linked-positive site (m .low) (m .high) low (k .is-radio) e,
+            linked-positive site (m .high) (m .low) (k .is-radio) low (linked-sym site (m .high) (m .low) ∙ e),
+          )
+
+  inside : Inside n (site .links)
+  unfolding graph-in
+  inside = links-inside site (proper-graph-in n (t .links))
+
+  -- the numbers table gives each link its weight
+  table-weight-is : (m : Link) → In-links m (site .links) → table-weight (t .numbers) m ≡ weight site m
+  unfolding weight
+  table-weight-is m i =
+      let e = inside m i in ap₂ {C = ℕ} (λ x y. min x y) (number-entry n t s (m .low) (e .0)) (number-entry n t s (m .high) (e .1))
+
+  levels-graph : (w : ℕ) → levels-falling (table-weight (t .numbers)) w (links-from n (t .links) 0 0) ≡ falling (weight site) w (site .links)
+  levels-graph w =
+      ap (levels-falling (table-weight (t .numbers)) w) (links-graph-in n (t .links) (s .small) (s .links-long) (s .within))
+      ∙ levels-ext (table-weight (t .numbers)) (weight site) (site .links) table-weight-is w ∙ levels-all (weight site) (site .links) weight-positive w
+
+  -- what the code makes of sound tables
+  module _ (some : 1 ≤ n) (old : List ℕ) (room : 2 * n ≤ length old) (end : Growing)
+      (is-end : end ≡ grown-all (levels-falling (table-weight (t .numbers)) (greatest (t .numbers)) (links-from (length (t .numbers)) (t .links) 0 0))
+      (growing (range 0 (length (t .numbers))) old 0)) where
+    shown : Shows n old (staircase site) end
+    unfolding staircase graph-in
+    shown =
+        rw (is-end, s .numbers-long, levels-graph (greatest (t .numbers)), s .numbers)
+        (shows-all n old (falling (weight site) (greatest (numbers site)) (site .links)) []
+        (λ l i. inside l (in-falling (weight site) (greatest (numbers site)) (site .links) l i .0)) (λ l i. absurd i) (growing (range 0 n) old 0) (shows-none n old))
+
+    fewer : length (staircase site) < n
+    unfolding graph-in
+    fewer = staircase-fewer site (proper-graph-in n (t .links)) some
+
+    pub staircase-count : end .count ≡ length (staircase site)
+    staircase-count = shown .counted
+
+    pub staircase-table : end .table ≡ overwrite (link-entries (staircase site)) old
+    staircase-table =
+        shown .listed ∙ sets-front old (link-entries (staircase site))
+        ∙ ap (λ (xs : List ℕ). overwrite xs old)
+        (take-all (length old) (link-entries (staircase site)) (omega (arith, length-link-entries (staircase site), fewer)))

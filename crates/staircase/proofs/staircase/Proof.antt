@@ -1,0 +1,53 @@
+-- `staircase` meets its contract: refused, the table is untouched; else the tables are sound, and what grows is the staircase tree.
+use mathlib.Core.Path.{sym}
+use native.Mathlib.Omega.{arith}
+use lib.ListN.{length}
+use lib.Seq.{length-take-le}
+use borrow.Author.Needs.{needs}
+use Rattle.mesh.specs.Tables.{tables}
+use Rattle.staircase.proofs.AnswerLaws.{staircase-refused, staircase-small, staircase-rows, staircase-answered}
+use Rattle.staircase.proofs.staircase.Statement.{statement}
+use Rattle.staircase.proofs.staircase.Tie as tie
+
+returns : tie.Need-returns
+returns c =
+    let call = c .before .before .before .before .before .before .args in
+    let t = tables (call .links .now) (call .numbers .now) (call .order .now) in
+    staircase-refused (call .n) t (call .table .now) _ (c .before .refusal .ensures) (c .if1 .taken)
+
+prefix : tie.Need-array-borrow-prefix-labels
+prefix c =
+    let call = c .before .before .before .before .before .before .args in
+    let t = tables (call .links .now) (call .numbers .now) (call .order .now) in
+    staircase-small (call .n) t (call .table .now) _ (c .before .refusal .ensures) (c .if1 .left)
+
+aggregate : tie.Need-slice-aggregate-take-levels
+aggregate c =
+    let asked = c .before in
+    let call = asked .before .before .before .before .before .before .args in
+    let t = tables (call .links .now) (call .numbers .now) (call .order .now) in
+    let small = staircase-small (call .n) t (call .table .now) _ (asked .before .refusal .ensures) (asked .if1 .left) in
+    sym (length-take-le (length (call .numbers .now)) _ small)
+
+take-levels-requires : tie.Need-take-levels-requires
+take-levels-requires c κs =
+    let asked = c .before .before in
+    let call = asked .before .before .before .before .before .before .args in
+    let t = tables (call .links .now) (call .numbers .now) (call .order .now) in
+    let small = staircase-small (call .n) t (call .table .now) _ (asked .before .refusal .ensures) (asked .if1 .left) in (
+      length-take-le (length (call .numbers .now)) _ small,
+      staircase-rows (call .n) t (call .table .now) _ (asked .before .refusal .ensures) (asked .if1 .left),
+    )
+
+returns-2 : tie.Need-returns-2
+returns-2 c =
+    let taken = c .before .before .before in
+    let asked = taken .before .before .before in
+    let call = asked .before .before .before .before .before .before .args in
+    let t = tables (call .links .now) (call .numbers .now) (call .order .now) in
+    staircase-answered (call .n) t (call .table .now) _ (asked .before .refusal .ensures) (asked .if1 .left) _ _ _ (taken .take-levels .ensures)
+
+pub staircase-spec : {M : Type 1} → statement M
+staircase-spec =
+    tie.close (
+    tie.spec (λ c. search needs) (λ c κs. search needs) returns prefix aggregate take-levels-requires (λ c. search needs) returns-2)

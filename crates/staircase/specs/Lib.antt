@@ -1,0 +1,2 @@
+-- What grows while links are taken; for the contracts of private functions.
+pub mod Growing

@@ -1,0 +1,31 @@
+// Levels: a link's weight is the smaller of its ends' numbers, so only levels that some radio has hold links. Nothing is refused.
+ghost use mathlib.Core.Path.{_≡_};
+ghost use Prim.Native.Nat.{min};
+ghost use Rattle.staircase.specs.Growing.{below, greatest-below};
+
+// The smaller of two numbers.
+pub fn smaller(x: u8, y: u8) -> u8
+    ensures { λ r. ⌜ r ≡ min x y ⌝ }
+{
+    if x < y { x } else { y }
+}
+
+// The number x where it is below the level; else 0.
+fn number_below(x: u8, level: u8) -> u8
+    ensures { λ r. ⌜ r ≡ below level x ⌝ }
+{
+    if x < level { x } else { 0 }
+}
+
+// The greatest number of the table that is below the level; 0 where there is none.
+pub fn level_below(numbers: &[u8], level: u8) -> u8
+    ensures { λ r. ⌜ r ≡ greatest-below level (now (numbers .entry)) ⌝ }
+{
+    let mut top: u8 = 0;
+    let mut v: usize = 0;
+    while v < numbers.len() {
+        top = tables::numbers::larger(top, number_below(numbers[v], level));
+        v += 1;
+    }
+    top
+}
