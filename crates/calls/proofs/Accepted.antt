@@ -54,7 +54,7 @@ use Rattle.mesh.specs.Valid.{Valid}
 use Rattle.calls.specs.Questions.{By-number, lengths-of, image-length, tables-refusal, link-refusal}
 use Rattle.calls.specs.Questions.{radio-refusal, core-refusal, backbone-refusal, tree-refusal, write-refusal, read-refusal}
 use Rattle.calls.specs.Questions.{block-refusal, sheet-refusal}
-use Rattle.calls.specs.Sheet.{sheet, sheet-length, Columns}
+use Rattle.calls.specs.Sheet.{sheet, sheet-length}
 use Rattle.calls.specs.Contracts.Forms.{Tables-refused, Value-accepted, Value-refused, Listing-accepted, Listing-refused}
 use Rattle.calls.specs.Contracts.Links.{Link-accepted, Link-refused, Link-contract}
 use Rattle.calls.specs.Contracts.Images.{Read-accepted, Read-contract, Write-contract, Block-none, Block-accepted, Block-contract}
@@ -72,7 +72,7 @@ use Rattle.calls.specs.declared.Later.{Later}
 use Rattle.calls.specs.declared.Block.{Block}
 use Rattle.calls.proofs.ContractLaws.{by-cases, by-zero}
 use Rattle.calls.proofs.ChainLaws.{lent-zero, Site-good, link-zero, radio-zero, core-zero, write-zero, read-zero, read-yes, sheet-zero}
-use Rattle.calls.proofs.SheetLaws.{sheet-fits, length-sheet, sheet-columns, columns-front, columns-by}
+use Rattle.calls.proofs.SheetLaws.{sheet-fits, length-sheet, columns-front, columns-by}
 use Rattle.calls.proofs.RecordLaws.{tables-ext}
 
 -- ---- the number 0 is no refusal

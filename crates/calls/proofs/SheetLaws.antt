@@ -8,17 +8,17 @@
 --   numbers-two-digits    sound tables have numbers of at most 40
 --   sheet-fits            so their sheet has these columns, and each cell has the core number (`columns-by`)
 -- In order: texts in columns, a cell, a line, the sheet, sound tables.
-use mathlib.Core.Path.{_≡_, refl, sym, ap, ap₂, _∙_}
+use mathlib.Core.Path.{_≡_, sym, ap, _∙_}
 use mathlib.Core.Logic.{_⊎_, inl, inr}
-use mathlib.Core.Bool.{true, false, cond}
-use mathlib.Core.List.{List, [], _∷_, _++_, flatMap}
-use Prim.Native.Nat.{ℕ, suc, _+_, _*_, _-_, _/_, _%_, _≤_, _<_, min}
+use mathlib.Core.Bool.{true, false}
+use mathlib.Core.List.{List, [], _∷_, _++_}
+use Prim.Native.Nat.{ℕ, _+_, _*_, _-_, _/_, _%_, _≤_, _<_, min}
 use native.Mathlib.Omega.{arith}
 use lib.Dec.{ltb}
 use lib.ListN.{length, getD, replicate, length-append, length-replicate, getD-replicate, List·getD-append, drop}
 use lib.Seq.{getD-append-add}
-use borrow.Author.Tests.{ltb-true, ltb-false, lt-ltb, le-ltb}
-use Rattle.lists.specs.Lists.{range, overwrite}
+use borrow.Author.Tests.{ltb-true, ltb-false, lt-ltb}
+use Rattle.lists.specs.Lists.{overwrite}
 use Rattle.lists.proofs.Tests.{bool-cases}
 use Rattle.lists.proofs.Parts.{length-flatMap-range, getD-flatMap-range}
 use Rattle.mesh.specs.Limits.{max-radios, max-neighbours}

@@ -4,12 +4,14 @@
 --   right-aligned k xs       the text xs with spaces before it, in k columns
 --   filled k xs              the text xs with spaces after it, in k columns
 --   cell v x                 the cell of radio v with number x
+--   cells ns v k             the cells of k radios from v on
 --   sheet-line ns i          line i of the sheet of the numbers ns
 --   sheet ns                 the sheet: all radios, ascending along the lines
 --   sheet-lines n            how many lines n radios take
 --   sheet-length n           the sheet's length in bytes
 --   digit-column p x         one column of a number: its digit that counts p
 --   Cells-fit ns             radios have at most three digits, and their numbers at most two
+--   column-at i c j          the place of column j of cell c of line i
 --   Columns n num bs         what stands in each column of the page bs
 -- That the sheet has this length and these columns is `length-sheet` and `sheet-columns` in proofs/SheetLaws.antt. Definitions only.
 use mathlib.Core.Path.{_≡_}
@@ -50,7 +52,6 @@ filled k xs = xs ++ replicate (k - length xs) space
 unfoldable pub cell : (radio number : ℕ) → List ℕ
 cell v x = right-aligned 3 (decimal v) ++ bytes-of ":" ++ right-aligned 2 (decimal x) ++ bytes-of "  "
 
--- the cells of k radios from v on
 unfoldable pub cells : (numbers : List ℕ) → (v k : ℕ) → List ℕ
 cells ns v k = flatMap (λ w. cell w (number-in ns w)) (range v k)
 
@@ -78,15 +79,17 @@ pub record Cells-fit (ns : List ℕ) : Type 0 where
   pub radios : length ns ≤ 1000
   pub two-digits : (v : ℕ) → v < length ns → number-in ns v < 100
 
--- the place of column j of cell c of line i
 abbrev pub column-at : (i c j : ℕ) → ℕ
 column-at i c j = line-bytes * i + (cell-width * c + j)
 
 -- a page of n radios, of which v has the number num v
 pub record Columns (n : ℕ) (num : ℕ → ℕ) (bs : List ℕ) : Type 0 where
   -- cell c of line i is that of radio 8 i + c
-  pub cells : (i c j : ℕ) → c < line-cells → j < cell-width → (v : ℕ) → v ≡ line-cells * i + c → v < n → getD bs (column-at i c j) 0 ≡ getD (cell v (num v)) j 0
+  pub cells :
+      (i c j : ℕ) → c < line-cells → j < cell-width → (v : ℕ) → v ≡ line-cells * i + c → v < n →
+      getD bs (column-at i c j) 0 ≡ getD (cell v (num v)) j 0
   -- after the last radio the line has spaces
-  pub spaces : (i c j : ℕ) → i < sheet-lines n → c < line-cells → j < cell-width → n ≤ line-cells * i + c → getD bs (column-at i c j) 0 ≡ space
+  pub spaces :
+      (i c j : ℕ) → i < sheet-lines n → c < line-cells → j < cell-width → n ≤ line-cells * i + c → getD bs (column-at i c j) 0 ≡ space
   -- and after its columns a line feed
   pub feeds : (i : ℕ) → i < sheet-lines n → getD bs (line-bytes * i + line-width) 0 ≡ line-feed

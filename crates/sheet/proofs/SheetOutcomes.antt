@@ -1,5 +1,5 @@
 -- The call for the site sheet meets its contract, on plain values: refused by 1 to 3, refused by 12, the sheet in front of the page.
-use mathlib.Core.Path.{_≡_, refl, sym, ap, _∙_}
+use mathlib.Core.Path.{_≡_, sym, ap, _∙_}
 use mathlib.Core.Bool.{true}
 use mathlib.Core.List.{List, _++_}
 use Prim.Native.Nat.{ℕ, _+_, _*_, _≤_, _<_}

@@ -11,9 +11,6 @@ Inv-loop x rest₀ count₀ rest count = Counting x rest count
 abbrev μ-loop : tie.MeasureT-loop
 μ-loop x rest₀ count₀ rest count = rest
 
-add-count : tie.Need-add-count Inv-loop μ-loop
-add-count c = search needs
-
 loop-again : tie.Need-loop-again Inv-loop μ-loop
 loop-again c = counting-digit _ _ _ (omega arith) (c .before .loop .inv)
 
@@ -22,4 +19,4 @@ returns c = counting-last _ _ _ (omega arith) (c .before .loop .inv)
 
 pub digits-spec : {M : Type 1} → statement M
 digits-spec =
-    tie.close (tie.spec Inv-loop μ-loop (λ c. counting-none _) add-count (λ c. search needs) loop-again returns)
+    tie.close (tie.spec Inv-loop μ-loop (λ c. counting-none _) (λ c. search needs) (λ c. search needs) loop-again returns)

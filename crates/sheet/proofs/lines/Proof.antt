@@ -1,5 +1,4 @@
 -- `lines` meets its contract by the definition.
-use native.Mathlib.Omega.{arith}
 use borrow.Author.Needs.{needs}
 use Rattle.calls.specs.Sheet.{sheet-lines}
 use Rattle.sheet.proofs.lines.Statement.{statement}

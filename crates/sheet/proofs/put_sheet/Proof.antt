@@ -2,7 +2,6 @@
 use Prim.Native.Nat.{_-_}
 use native.Mathlib.Omega.{arith}
 use lib.ListN.{length}
-use borrow.Author.Needs.{needs}
 use Rattle.text.specs.Print.{buffer-at}
 use Rattle.text.proofs.PrintLaws.{length-putting}
 use Rattle.sheet.proofs.PutLaws.{Lines, lines-none, lines-next, lines-last, line-inside}

@@ -2,7 +2,6 @@
 -- are left.
 use Prim.Native.Nat.{_-_}
 use native.Mathlib.Omega.{arith}
-use borrow.Author.Needs.{needs}
 use Rattle.text.specs.Print.{buffer-at}
 use Rattle.text.proofs.PrintLaws.{length-putting}
 use Rattle.sheet.proofs.PutLaws.{Spaces, spaces-none, spaces-next, spaces-last}
