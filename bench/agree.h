@@ -40,6 +40,25 @@ static int agree_links(void) {
     return 1;
 }
 
+/* The same in two steps: true proposals, and ones with a wrong step, entry or length. */
+static int agree_proposals(void) {
+    start();
+    for (unsigned i = 0; i < 400; i++) {
+        unsigned a = rand() % (n + 1), b = rand() % (n + 1);
+        int up = a == n || b == n || a == b || rand() % 20 == 0 || !marked(t.links, a, b);
+        sb_reply r = (up ? sb_ask_up : sb_ask_down)(n, a, b, OF(t), x, n);
+        struct c_reply q = c_ask(up, &u, a, b, y, n);
+        if (r.number != q.number || r.step != q.step || r.count != q.count || !same_tables()) return 0;
+        if (i % 4 == 1) r.step++;
+        if (i % 4 == 2) x[r.count / 2] ^= 1, y[r.count / 2] ^= 1;
+        if (i % 4 == 3) r.count++;
+        sb_reply c = (up ? sb_commit_up : sb_commit_down)(n, a, b, r.step, OF(t), x, r.count);
+        q = c_commit(up, &u, a, b, r.step, y, r.count);
+        if (c.number != q.number || c.step != q.step || c.count != q.count || !same_tables()) return 0;
+    }
+    return 1;
+}
+
 /* The check and the refusal of a question, on tables with a changed byte; clearing. */
 static int agree_damaged(void) {
     for (unsigned i = 0; i < 200; i++) {
@@ -157,6 +176,7 @@ static const char *disagreement(struct entry *entry) {
     if (sb_check(n, SITE).value != 1) return "the site is not sound";
     if (!agree_damaged()) return "check";
     if (!agree_links()) return "link calls";
+    if (!agree_proposals()) return "proposals";
     if (!agree_questions()) return "questions";
     if (!agree_sheet()) return "site sheet";
     if (!agree_writing()) return "image writing";

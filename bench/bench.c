@@ -1,6 +1,7 @@
 /*
  * Each call of the engine against the same algorithm in C, in one run. Lines of output:
  *   ratio CALL N SITE ENGINE C RATIO   time of a call in microseconds, the engine's and that of C
+ *   steps N SITE SINGLE ASKED BOTH     times of a link call's two steps: the single calls, asked and then made single, asked and committed
  *   change SITE ENGINE                 time of a link call at 512 radios, over links all over the site
  *   stack CALL BYTES                   the most stack that the engine's call took
  */
@@ -16,6 +17,14 @@ static void compare(const struct call *call, const char *kind) {
     double best[2];
     best_of(runs, 2, best);
     printf("ratio %-11s %4u %-10s %9.3f %9.3f %6.2f\n", call->name, n, kind, best[0] / count, best[1] / count, best[0] / best[1]);
+}
+
+/* The engine's single link calls and the two steps, in turn. */
+static void compare_steps(const char *kind) {
+    void (*const runs[3])(void) = {engine_link, engine_asked, engine_committed};
+    double best[3];
+    best_of(runs, 3, best);
+    printf("steps %u %s %.3f %.3f %.3f\n", n, kind, best[0] / count, best[1] / count, best[2] / count);
 }
 
 static void time_changes(enum kind kind) {
@@ -44,6 +53,7 @@ int main(void) {
                 unsigned bytes = stack_of(calls[c].engine);
                 if (bytes > stack[c]) stack[c] = bytes;
             }
+            compare_steps(kinds[k]);
         }
     for (unsigned k = 0; k < KINDS; k++) time_changes(k);
     for (unsigned c = 0; c < CALLS; c++) printf("stack %s %u\n", calls[c].name, stack[c]);

@@ -84,6 +84,24 @@ CALL(first, sb_first(n, A, B, SITE).value, c_first(&e->site, A, B).value)
 CALL(later_of, sb_later_of(n, B, SITE).first, c_later_of(&e->site, B).first)
 CALL(link, sb_link_down(n, A, B, SITE, answer, n).count + sb_link_up(n, A, B, SITE, answer, n).count,
      c_link(0, &e->site, A, B, answer, n).count + c_link(1, &e->site, A, B, answer, n).count)
+
+/* A link call in two steps. Asking changes nothing, so it is timed beside the single calls. */
+static unsigned asked(int up) { return (up ? sb_ask_up : sb_ask_down)(n, A, B, SITE, answer, n).count; }
+static unsigned c_asked(int up) { return c_ask(up, &e->site, A, B, answer, n).count; }
+
+static unsigned committed(int up) {
+    sb_reply r = (up ? sb_ask_up : sb_ask_down)(n, A, B, SITE, answer, n);
+    return (up ? sb_commit_up : sb_commit_down)(n, A, B, r.step, SITE, answer, r.count).count;
+}
+
+static unsigned c_committed(int up) {
+    struct c_reply r = c_ask(up, &e->site, A, B, answer, n);
+    return c_commit(up, &e->site, A, B, r.step, answer, r.count).count;
+}
+
+CALL(asked, asked(0) + sb_link_down(n, A, B, SITE, answer, n).count + asked(1) + sb_link_up(n, A, B, SITE, answer, n).count,
+     c_asked(0) + c_link(0, &e->site, A, B, answer, n).count + c_asked(1) + c_link(1, &e->site, A, B, answer, n).count)
+CALL(committed, committed(0) + committed(1), c_committed(0) + c_committed(1))
 CALL(core, sb_core(n, A, 1, SITE, answer, n).value, c_core(&e->site, A, 1, answer, n).value)
 CALL(backbone, sb_backbone(n, SITE, answer, n).value, c_backbone(&e->site, answer, n).value)
 CALL(sheet, sb_sheet(n, SITE, buffer, sizeof buffer).value, c_sheet(&e->site, buffer, sizeof buffer).value)
@@ -120,6 +138,8 @@ static const struct call {
     {"first", engine_first, in_c_first},
     {"later_of", engine_later_of, in_c_later_of},
     {"down+up", engine_link, in_c_link},
+    {"ask+link", engine_asked, in_c_asked},
+    {"ask+commit", engine_committed, in_c_committed},
     {"core", engine_core, in_c_core},
     {"backbone", engine_backbone, in_c_backbone},
     {"tree", engine_tree, in_c_tree},

@@ -1,4 +1,4 @@
-/* Link up and link down in C: one peel of the lower end's level. */
+/* Link up and link down in C, single and in two steps: one peel of the lower end's level. */
 #ifndef LINK_H
 #define LINK_H
 #include "check.h"
@@ -23,17 +23,23 @@ static unsigned c_ends(int up, uint32_t n, uint32_t a, uint32_t b, const uint8_t
     return up && (row_count(links, a) >= NEIGHBOURS || row_count(links, b) >= NEIGHBOURS) ? 7 : 0;
 }
 
-static struct c_reply c_link(int up, const struct lent *t, uint32_t a, uint32_t b, uint16_t *answer, size_t room) {
-    uint16_t places[RADIOS], stretch[RADIOS], list[NEIGHBOURS + 1];
+/* What a link call makes of the lower end's stretch; nothing of the tables is written. */
+struct c_plan {
+    unsigned start, size, taken;
+    uint16_t stretch[RADIOS];
+};
+
+static unsigned c_plan(int up, const struct lent *t, uint32_t a, uint32_t b, int room, struct c_plan *plan) {
+    uint16_t places[RADIOS], *stretch = plan->stretch, list[NEIGHBOURS + 1];
     uint8_t counters[RADIOS];
-    uint64_t fits[8] = {0}, set[8] = {0};
+    uint64_t fits[8] = {0};
     const uint32_t n = t->n;
-    uint8_t *links = t->links, *numbers = t->numbers;
-    uint16_t *order = t->order;
-    unsigned number = c_sizes(t, room >= n);
+    const uint8_t *links = t->links, *numbers = t->numbers;
+    const uint16_t *order = t->order;
+    unsigned number = c_sizes(t, room);
     if (!number && !c_examine(n, links, numbers, order, places, counters)) number = 3;
     if (!number) number = c_ends(up, n, a, b, links);
-    if (number) return (struct c_reply){number, 0, 0};
+    if (number) return number;
     unsigned level = numbers[a] < numbers[b] ? numbers[a] : numbers[b], most = up ? level : level - 1;
     unsigned start = 0, size = 0, taken = 0;
     for (unsigned v = 0; v < n; v++) start += numbers[v] < level, size += numbers[v] == level;
@@ -55,11 +61,49 @@ static struct c_reply c_link(int up, const struct lent *t, uint32_t a, uint32_t 
     }
     for (unsigned p = start, j = taken; p < start + size; p++)
         if (counters[order[p]] > most) stretch[j++] = order[p];
-    put_bit(links, up, a, b), put_bit(links, up, b, a);
-    memcpy(order + start, stretch, 2 * size);
-    unsigned from = up ? taken : 0, to = up ? size : taken;
-    for (unsigned i = from; i < to; i++) set[stretch[i] / 64] |= 1ull << stretch[i] % 64, numbers[stretch[i]] += up ? 1 : -1;
+    plan->start = start, plan->size = size, plan->taken = taken;
+    return 0;
+}
+
+/* The changed radios of a plan, ascending. */
+static struct c_reply c_report(int up, const struct c_plan *plan, uint16_t *answer, size_t room) {
+    uint64_t set[8] = {0};
+    unsigned from = up ? plan->taken : 0, to = up ? plan->size : plan->taken;
+    for (unsigned i = from; i < to; i++) set[plan->stretch[i] / 64] |= 1ull << plan->stretch[i] % 64;
     unsigned count = row_list((const uint8_t *)set, 0, answer, room);
     return (struct c_reply){0, count ? (up ? 1 : -1) : 0, count};
+}
+
+static void c_apply(int up, const struct lent *t, uint32_t a, uint32_t b, const struct c_plan *plan) {
+    unsigned from = up ? plan->taken : 0, to = up ? plan->size : plan->taken;
+    put_bit(t->links, up, a, b), put_bit(t->links, up, b, a);
+    memcpy(t->order + plan->start, plan->stretch, 2 * plan->size);
+    for (unsigned i = from; i < to; i++) t->numbers[plan->stretch[i]] += up ? 1 : -1;
+}
+
+static struct c_reply c_link(int up, const struct lent *t, uint32_t a, uint32_t b, uint16_t *answer, size_t room) {
+    struct c_plan plan;
+    unsigned number = c_plan(up, t, a, b, room >= t->n, &plan);
+    if (number) return (struct c_reply){number, 0, 0};
+    c_apply(up, t, a, b, &plan);
+    return c_report(up, &plan, answer, room);
+}
+
+static struct c_reply c_ask(int up, const struct lent *t, uint32_t a, uint32_t b, uint16_t *answer, size_t room) {
+    struct c_plan plan;
+    unsigned number = c_plan(up, t, a, b, room >= t->n, &plan);
+    if (number) return (struct c_reply){number, 0, 0};
+    return c_report(up, &plan, answer, room);
+}
+
+static struct c_reply c_commit(int up, const struct lent *t, uint32_t a, uint32_t b, int step, const uint16_t *list, size_t count) {
+    struct c_plan plan;
+    uint16_t changed[RADIOS];
+    unsigned number = c_plan(up, t, a, b, 1, &plan);
+    if (number) return (struct c_reply){number, 0, 0};
+    struct c_reply r = c_report(up, &plan, changed, RADIOS);
+    if (r.step != step || r.count != count || memcmp(list, changed, 2 * count)) return (struct c_reply){16, 0, 0};
+    c_apply(up, t, a, b, &plan);
+    return r;
 }
 #endif

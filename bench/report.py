@@ -16,7 +16,8 @@ TOP = Path(__file__).resolve().parent.parent
 START, END = "<!-- measured: bench/run --write -->\n", "<!-- end -->\n"
 SITES = ["sparse", "dense", "ring", "circulant", "parts"]
 SIZES = [16, 64, 256, 512]
-NEAR = ["clear", "check", "number", "neighbours", "linked", "first", "later_of", "down+up"]
+NEAR = ["clear", "check", "number", "neighbours", "linked", "first", "later_of", "down+up", "ask+link", "ask+commit"]
+MOST_ASK, MOST_COMMIT = 1.0, 1.1  # of the single call
 MOST_GROWTH, MOST_STACK, LEAST_IGRAPH, LEAST_NETWORKX = 40, 8192, 2, 20
 
 
@@ -29,7 +30,7 @@ class Run:
 
     def __init__(self, path):
         self.machine = ""
-        self.times, self.stack = defaultdict(dict), {}
+        self.times, self.stack, self.steps = defaultdict(dict), {}, {}
         self.change, self.igraph, self.networkx = {}, {}, {}
         for line in Path(path).read_text().splitlines():
             word, rest = line.split(" ", 1)
@@ -46,6 +47,10 @@ class Run:
         call, count = rest.split()
         self.stack[call] = int(count)
 
+    def take_steps(self, rest):
+        n, site, *times = rest.split()
+        self.steps[int(n), site] = [float(t) for t in times]
+
     def take_change(self, rest):
         site, engine = rest.split()
         self.change[site] = float(engine)
@@ -61,6 +66,12 @@ class Run:
     def ratio(self, call, n, site):
         engine, c = self.times[call][n, site]
         return engine / c
+
+    def two_steps(self, n, site):
+        """Asking, and committing, in parts of the single call."""
+        single, asked, both = self.steps[n, site]
+        asking = asked - single
+        return asking / single, (both - asking) / single
 
     def growth(self, call):
         return self.times[call][512, "sparse"][0] / self.times[call][16, "sparse"][0]
@@ -96,6 +107,13 @@ def times(run):
         yield [call, f"{small:.2f}", *large, f"{run.growth(call):.0f}", met(run.growth(call) <= MOST_GROWTH)]
 
 
+def two_steps(run):
+    for n in SIZES:
+        for step, most in ((0, MOST_ASK), (1, MOST_COMMIT)):
+            values = [run.two_steps(n, site)[step] for site in SITES]
+            yield ["committing" if step else "asking", n, *(f"{x:.2f}" for x in values), most, met(max(values) <= most)]
+
+
 def igraph(run):
     for site, (engine, alone, change) in run.igraph.items():
         good = met(change >= LEAST_IGRAPH * engine)
@@ -121,6 +139,8 @@ def report(run):
               table(["call", "n", *SITES], ratios(run)),
               "### Time of a call, in microseconds, and its growth\n",
               table(["call", "16, sparse", *(f"512, {site}" for site in SITES), "growth, sparse", f"at most {MOST_GROWTH}"], times(run))]
+    parts += ["### A link call in two steps, in parts of the single call\n",
+              table(["step", "n", *SITES, "goal, at most", ""], two_steps(run))]
     if run.igraph:
         parts += ["### A change at 512 radios against igraph, in microseconds\n",
                   table(["site", "engine", "coreness alone", "change and coreness", "times", f"at least {LEAST_IGRAPH}"], igraph(run))]

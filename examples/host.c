@@ -25,6 +25,17 @@ static void up(uint32_t a, uint32_t b) { print_reply("up", a, b, sb_link_up(N, a
 
 static void down(uint32_t a, uint32_t b) { print_reply("down", a, b, sb_link_down(N, a, b, TABLES, ANSWER)); }
 
+/* A link call in two steps: a proposal, a commit with a wrong list, and the commit. */
+static void propose_down(uint32_t a, uint32_t b) {
+    sb_reply asked = sb_ask_down(N, a, b, TABLES, ANSWER);
+    print_reply("ask down", a, b, asked);
+    printf("one short: number %u\n", sb_commit_down(N, a, b, asked.step, TABLES, answer, asked.count - 1).number);
+    print_reply("commit down", a, b, sb_commit_down(N, a, b, asked.step, TABLES, answer, asked.count));
+    asked = sb_ask_up(N, a, b, TABLES, ANSWER);
+    print_reply("ask up", a, b, asked);
+    print_reply("commit up", a, b, sb_commit_up(N, a, b, asked.step, TABLES, answer, asked.count));
+}
+
 static void print_value(const char *question, sb_value v) { printf("%s: number %u, value %u\n", question, v.number, v.value); }
 
 static void print_later(uint32_t v) {
@@ -120,6 +131,7 @@ int main(void) {
     keep();
     down(0, 6);
     down(2, 3);
+    propose_down(0, 1);
     down(0, 1);
     return 0;
 }

@@ -46,6 +46,10 @@ mod engine {
         pub fn sb_check(n: u32, l: *const u8, ll: usize, k: *const u8, kl: usize, o: *const u16, ol: usize) -> Value;
         pub fn sb_link_up(n: u32, a: u32, b: u32, l: *mut u8, ll: usize, k: *mut u8, kl: usize, o: *mut u16, ol: usize, w: *mut u16, wl: usize) -> Reply;
         pub fn sb_link_down(n: u32, a: u32, b: u32, l: *mut u8, ll: usize, k: *mut u8, kl: usize, o: *mut u16, ol: usize, w: *mut u16, wl: usize) -> Reply;
+        pub fn sb_ask_up(n: u32, a: u32, b: u32, l: *const u8, ll: usize, k: *const u8, kl: usize, o: *const u16, ol: usize, w: *mut u16, wl: usize) -> Reply;
+        pub fn sb_ask_down(n: u32, a: u32, b: u32, l: *const u8, ll: usize, k: *const u8, kl: usize, o: *const u16, ol: usize, w: *mut u16, wl: usize) -> Reply;
+        pub fn sb_commit_up(n: u32, a: u32, b: u32, step: i8, l: *mut u8, ll: usize, k: *mut u8, kl: usize, o: *mut u16, ol: usize, c: *const u16, cl: usize) -> Reply;
+        pub fn sb_commit_down(n: u32, a: u32, b: u32, step: i8, l: *mut u8, ll: usize, k: *mut u8, kl: usize, o: *mut u16, ol: usize, c: *const u16, cl: usize) -> Reply;
         pub fn sb_number(n: u32, v: u32, l: *const u8, ll: usize, k: *const u8, kl: usize, o: *const u16, ol: usize) -> Value;
         pub fn sb_neighbours(n: u32, v: u32, l: *const u8, ll: usize, k: *const u8, kl: usize, o: *const u16, ol: usize) -> Value;
         pub fn sb_linked(n: u32, a: u32, b: u32, l: *const u8, ll: usize, k: *const u8, kl: usize, o: *const u16, ol: usize) -> Value;
@@ -100,6 +104,22 @@ impl Site {
     fn down(&mut self, a: u32, b: u32) {
         let r = call!(sb_link_down, self, [a, b], [self.answer.as_mut_ptr(), self.answer.len()]);
         self.print_reply("down", a, b, r);
+    }
+
+    // A link call in two steps: a proposal, a commit with a wrong list, and the commit.
+    fn propose_down(&mut self, a: u32, b: u32) {
+        let asked = call!(sb_ask_down, self, [a, b], [self.answer.as_mut_ptr(), self.answer.len()]);
+        let (step, count) = (asked.step, asked.count as usize);
+        self.print_reply("ask down", a, b, asked);
+        let short = call!(sb_commit_down, self, [a, b, step], [self.answer.as_ptr(), count - 1]);
+        println!("one short: number {}", short.number);
+        let done = call!(sb_commit_down, self, [a, b, step], [self.answer.as_ptr(), count]);
+        self.print_reply("commit down", a, b, done);
+        let asked = call!(sb_ask_up, self, [a, b], [self.answer.as_mut_ptr(), self.answer.len()]);
+        let (step, count) = (asked.step, asked.count as usize);
+        self.print_reply("ask up", a, b, asked);
+        let done = call!(sb_commit_up, self, [a, b, step], [self.answer.as_ptr(), count]);
+        self.print_reply("commit up", a, b, done);
     }
 
     fn print_radios(&self, question: &str, v: Value) {
@@ -228,5 +248,6 @@ fn main() {
     keep(&mut s);
     s.down(0, 6);
     s.down(2, 3);
+    s.propose_down(0, 1);
     s.down(0, 1);
 }

@@ -56,7 +56,8 @@ enum sb_refusal {
     SB_IMAGE_CHECK = 10, /* a block does not pass its check */
     SB_IMAGE = 11,      /* the bytes are the image of no sound tables */
     SB_PAGE = 12,       /* the page is shorter than 65 bytes a line */
-    SB_OTHER_SIZE = 15  /* the bytes are the image of sound tables with another n */
+    SB_OTHER_SIZE = 15, /* the bytes are the image of sound tables with another n */
+    SB_PROPOSAL = 16    /* the list or the step is not exactly what asking would give now */
 };
 
 /* The answer of a question: refusal number, and the value asked for (0 when refused). */
@@ -137,6 +138,48 @@ sb_reply sb_link_up(uint32_t n, uint32_t a, uint32_t b, uint8_t *links, size_t l
 sb_reply sb_link_down(uint32_t n, uint32_t a, uint32_t b, uint8_t *links, size_t links_len,
                       uint8_t *numbers, size_t numbers_len, uint16_t *order, size_t order_len,
                       uint16_t *answer, size_t answer_len);
+
+/**
+ * Ask what sb_link_up would change now. Links, numbers and order are only read.
+ *
+ * The step and the first count entries of the answer table are a proposal for sb_commit_up. Nothing is kept between the two calls.
+ *
+ * \return what sb_link_up would: number 0, step +1 (or 0 when no number would change) and count: answer[0] to answer[count - 1] are
+ *         the radios that would change, ascending; later entries keep theirs. Or a number from SB_SIZE to SB_NO_ROOM, step and count 0,
+ *         and then the answer table keeps its content.
+ */
+sb_reply sb_ask_up(uint32_t n, uint32_t a, uint32_t b, const uint8_t *links, size_t links_len,
+                   const uint8_t *numbers, size_t numbers_len, const uint16_t *order, size_t order_len,
+                   uint16_t *answer, size_t answer_len);
+
+/**
+ * Ask what sb_link_down would change now: as sb_ask_up, with step -1, or 0 when no number would change. Refused by SB_SIZE to
+ * SB_LINK_STATE.
+ */
+sb_reply sb_ask_down(uint32_t n, uint32_t a, uint32_t b, const uint8_t *links, size_t links_len,
+                     const uint8_t *numbers, size_t numbers_len, const uint16_t *order, size_t order_len,
+                     uint16_t *answer, size_t answer_len);
+
+/**
+ * Take the link between radios a and b up where step and list are exactly what sb_ask_up would give now, whoever made them and when.
+ *
+ * The list is lent at its own length, changed_len entries, and only read; it may be empty, and then changed is not read. No answer
+ * table is lent.
+ *
+ * \return number 0, step and count as sb_link_up. Or a number from SB_SIZE to SB_NO_ROOM, then SB_PROPOSAL when the step or the list,
+ *         its length or any entry, is another, also one at n or above; step and count are 0, and every table keeps its content.
+ */
+sb_reply sb_commit_up(uint32_t n, uint32_t a, uint32_t b, int8_t step, uint8_t *links, size_t links_len,
+                      uint8_t *numbers, size_t numbers_len, uint16_t *order, size_t order_len,
+                      const uint16_t *changed, size_t changed_len);
+
+/**
+ * Take the link between radios a and b down: as sb_commit_up, with what sb_ask_down would give now. Refused by SB_SIZE to SB_LINK_STATE
+ * and SB_PROPOSAL.
+ */
+sb_reply sb_commit_down(uint32_t n, uint32_t a, uint32_t b, int8_t step, uint8_t *links, size_t links_len,
+                        uint8_t *numbers, size_t numbers_len, uint16_t *order, size_t order_len,
+                        const uint16_t *changed, size_t changed_len);
 
 /**
  * The number of radio v. The tables are only read, here and in the next four calls.

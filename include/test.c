@@ -54,6 +54,18 @@ static void test_later(void) {
     expect("later of no radio", past.number, SB_RADIO), expect("zero", past.count + past.first, 0);
 }
 
+/* A star: a link between two leaves raises them and the hub. */
+static void test_proposals(void) {
+    sb_reply asked = sb_ask_up(SB_RADIOS, 1, 2, TABLES, ANSWER), down;
+    expect("asked", asked.number, SB_OK), expect("a step asked", asked.step == 1, 1), expect("changed", asked.count, 3);
+    expect("not yet", sb_linked(SB_RADIOS, 1, 2, TABLES).value, 0);
+    expect("a short list", sb_commit_up(SB_RADIOS, 1, 2, asked.step, TABLES, answer, 2).number, SB_PROPOSAL);
+    expect("another step", sb_commit_up(SB_RADIOS, 1, 2, 0, TABLES, answer, 3).number, SB_PROPOSAL);
+    expect("committed", sb_commit_up(SB_RADIOS, 1, 2, asked.step, TABLES, answer, 3).count, 3);
+    down = sb_ask_down(SB_RADIOS, 1, 2, TABLES, ANSWER);
+    expect("committed down", sb_commit_down(SB_RADIOS, 1, 2, down.step, TABLES, answer, down.count).step == -1, 1);
+}
+
 static void test_refusals(void) {
     expect("radio", up(0, SB_RADIOS), SB_RADIO);
     expect("same ends", up(3, 3), SB_SAME_ENDS);
@@ -119,6 +131,7 @@ int main(void) {
     test_structs();
     test_limits();
     test_later();
+    test_proposals();
     test_refusals();
     test_tree();
     test_sheet();

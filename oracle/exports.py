@@ -19,9 +19,10 @@ from questions import RADIOS
 ENTRIES, PLACES, BUFFER = 514, 515, 4608  # the program's tables: radios, nodes, bytes for an image or a page
 BYTE, KEPT = 165, 600  # what they hold before they are written
 MODULUS, BASE = 4294967291, 65599  # of the digest that the program prints
+SIGNED = {1: "+1", -1: "-1", 0: "0"}
 KINDS = ["clear", "check", "link-up", "link-down", "number", "neighbours", "linked", "first", "core", "backbone", "tree",
-         "image-write", "image-read", "image-block", "later-of", "sheet", "staircase", "spoil-links", "spoil-numbers", "spoil-order",
-         "spoil-answer", "spoil-fields", "spoil-buffer"]
+         "image-write", "image-read", "image-block", "later-of", "sheet", "staircase", "ask-up", "ask-down", "commit-up", "commit-down",
+         "spoil-links", "spoil-numbers", "spoil-order", "spoil-answer", "spoil-fields", "spoil-buffer"]
 CRATE = Path(__file__).resolve().parent.parent / "crates/test_exports"
 
 
@@ -45,7 +46,9 @@ class Host:
         right = 64 * many, many, many, many, {"tree": many + 1, "staircase": 2 * many}.get(kind, BUFFER)
         lengths = [y if x is None else x for x, y in zip((links, numbers, order, answer, room), right)]
         self.words.append([KINDS.index(kind), n, a, b] + lengths)
-        self.answer, self.fields = [KEPT] * PLACES, [KEPT] * (3 * PLACES)
+        self.answer = [KEPT] * PLACES
+        if kind in ("tree", "ask-up", "ask-down"):
+            self.fields = [KEPT] * (3 * PLACES)
         if kind in ("image-write", "sheet"):
             self.buffer = [BYTE] * BUFFER
         said = getattr(self, kind.replace("-", "_"))(n, a, b, lengths)
@@ -62,6 +65,10 @@ class Host:
         """Tables of an accepted call, which have the right lengths."""
         links, numbers, order = tables
         self.links[:len(links)], self.numbers[:len(numbers)], self.order[:len(order)] = links, numbers, order
+
+    def words_said(self):
+        """The numbers of the last line, without its digest."""
+        return [int(x) for x in self.lines[-1].split()[1:-1]]
 
     # ---- questions 1 to 4
 
@@ -105,10 +112,8 @@ class Host:
         number = self.sized(n, lengths)
         return [number, 0 if number else int(self.is_sound(n, lengths))]
 
-    def link(self, up, n, a, b, lengths):
-        number = self.refused(n, lengths, room=lengths[3] >= n)
-        if number:
-            return [number, 0, 0]
+    def changes(self, up, n, a, b):
+        """Number, step and changed radios of a link call on sound tables, and the tables that it leaves."""
         site, old = peeled.Site(n), self.site(n)
         site.numbers, site.order = old.numbers, old.order
         for v, u in old.links:
@@ -116,9 +121,50 @@ class Host:
             site.near[u].add(v)
         number, step, changed = site.call(up, a, b)
         old.links = {(v, u) for v in range(n) for u in site.near[v] if v < u}
-        self.put((old.rows(), site.numbers, site.order))
+        return number, step, changed, (old.rows(), site.numbers, site.order)
+
+    def link(self, up, n, a, b, lengths):
+        number = self.refused(n, lengths, room=lengths[3] >= n)
+        if number:
+            return [number, 0, 0]
+        number, step, changed, tables = self.changes(up, n, a, b)
+        self.put(tables)
         self.answer[:len(changed)] = changed
-        return [number, {1: "+1", -1: "-1", 0: "0"}[step], len(changed)]
+        return [number, SIGNED[step], len(changed)]
+
+    # document 02, W-210: the proposal is kept among the fields
+
+    def ask(self, up, n, a, b, lengths):
+        number = self.refused(n, lengths, room=lengths[3] >= n)
+        if number:
+            return [number, 0, 0]
+        number, step, changed, _ = self.changes(up, n, a, b)
+        self.fields[:len(changed)] = changed
+        return [number, SIGNED[step], len(changed)]
+
+    def commit(self, up, n, a, b, lengths):
+        number = self.refused(n, lengths)
+        if number:
+            return [number, 0, 0]
+        number, step, changed, tables = self.changes(up, n, a, b)
+        if not number and (lengths[4] % 256 != step % 256 or self.fields[:lengths[3]] != changed):
+            number = 16
+        if number:
+            return [number, 0, 0]
+        self.put(tables)
+        return [number, SIGNED[step], len(changed)]
+
+    def ask_up(self, *call):
+        return self.ask(True, *call)
+
+    def ask_down(self, *call):
+        return self.ask(False, *call)
+
+    def commit_up(self, *call):
+        return self.commit(True, *call)
+
+    def commit_down(self, *call):
+        return self.commit(False, *call)
 
     def link_up(self, *call):
         return self.link(True, *call)
@@ -235,10 +281,10 @@ class Host:
 # ---- what a host tries
 
 LARGEST = 2 ** 32 - 1
-SITE = ["check", "link-up", "link-down", "number", "neighbours", "linked", "first", "later-of", "core", "backbone", "tree", "staircase",
-        "image-write", "sheet"]
-ANSWER = ["link-up", "link-down", "core", "backbone", "tree"]
-RADIO = ["link-up", "link-down", "number", "neighbours", "linked", "first", "later-of", "core"]
+SITE = ["check", "link-up", "link-down", "ask-up", "ask-down", "commit-up", "commit-down", "number", "neighbours", "linked", "first",
+        "later-of", "core", "backbone", "tree", "staircase", "image-write", "sheet"]
+ANSWER = ["link-up", "link-down", "ask-up", "ask-down", "core", "backbone", "tree"]
+RADIO = ["link-up", "link-down", "ask-up", "ask-down", "commit-up", "commit-down", "number", "neighbours", "linked", "first", "later-of", "core"]
 
 
 def sizes_and_lengths(host, n):
@@ -307,6 +353,84 @@ def sheets(host, n):
     size = 65 * ((n + 7) // 8)
     for room in (0, size - 1, size, size + 10, BUFFER):
         host.call("sheet", n, room=room)
+
+
+def proposals(host):
+    """Document 02, W-210: true, false and stale proposals; 16 after 7, and a listed radio at n or above meets 16."""
+    up, down, none = 1, 255, 0
+    commit = lambda kind, n, a, b, step, count: host.call(f"commit-{kind}", n, a, b, answer=count, room=step)
+    # a path 0 1 2: the ring would raise all three; every wrong step and list, then the right one, then again: 6
+    host.call("clear", 3)
+    for a, b in [(0, 1), (1, 2)]:
+        host.call("link-up", 3, a, b)
+    host.call("ask-up", 3, 0, 2, answer=PLACES)
+    for step, count in ((up, 2), (up, 4), (up, 0), (up, PLACES), (none, 3), (down, 3), (2, 3), (127, 3), (128, 3), (none, 0)):
+        commit("up", 3, 0, 2, step, count)
+    for at, bits in ((2, 3), (2, 1), (1, 3), (0, KEPT), (2, 512)):
+        host.call("spoil-fields", 3, at, bits)
+        commit("up", 3, 0, 2, up, 3)
+        host.call("spoil-fields", 3, at, bits)
+    commit("up", 3, 2, 0, up, 3)
+    commit("up", 3, 0, 2, up, 3)
+    host.call("check", 3)
+    host.call("ask-down", 3, 0, 1)
+    commit("up", 3, 0, 1, down, 3)
+    commit("down", 3, 0, 1, up, 3)
+    commit("down", 3, 0, 1, down, 2)
+    commit("down", 3, 1, 0, down, 3)
+    # a proposal made before other calls is good exactly if it is still true
+    host.call("clear", 6)
+    for a, b in [(0, 1), (3, 4)]:
+        host.call("link-up", 6, a, b)
+    host.call("ask-up", 6, 1, 2)
+    host.call("link-up", 6, 4, 5)
+    commit("up", 6, 1, 2, up, 1)
+    host.call("ask-up", 6, 0, 2)
+    host.call("link-down", 6, 1, 2)
+    commit("up", 6, 0, 2, up, 3)
+    host.call("link-up", 6, 1, 2)
+    commit("up", 6, 0, 2, up, 3)
+    # M2: nothing changes, and the list is empty
+    host.call("clear", 4)
+    for a, b in [(0, 1), (2, 3)]:
+        host.call("link-up", 4, a, b)
+    host.call("ask-up", 4, 0, 2)
+    commit("up", 4, 0, 2, none, 1)
+    commit("up", 4, 0, 2, up, 0)
+    commit("up", 4, 0, 2, none, 0)
+    host.call("ask-down", 4, 2, 0)
+    commit("down", 4, 2, 0, none, 0)
+    # 7 before 16
+    host.call("clear", 42)
+    for v in range(1, 41):
+        host.call("link-up", 42, 0, v)
+    host.call("ask-up", 42, 0, 41)
+    commit("up", 42, 0, 41, none, 0)
+    commit("up", 42, 0, 41, up, PLACES)
+    host.call("link-down", 42, 0, 1)
+    host.call("ask-up", 42, 0, 41)
+    commit("up", 42, 0, 41, up, 1)
+
+
+def single_or_two(host, n, count, seed):
+    """A pseudo-random history on a small site: every call asked, committed falsely and truly, and now and then made single."""
+    host.call("clear", n)
+    x = seed
+    for i in range(count):
+        x = (x * 1103515245 + 12345) % 2 ** 31
+        a, b = x // 65536 % n, x // 4096 % n
+        site = host.site(n)
+        way = "down" if a != b and reference.linked(site.links, a, b) else "up"
+        host.call(f"ask-{way}", n, a, b)
+        number, step, radios = host.words_said()
+        if number == 0:
+            host.call(f"commit-{way}", n, a, b, answer=radios + 1, room=step % 256)
+            host.call(f"commit-{way}", n, a, b, answer=radios, room=(step + 1) % 256)
+        if i % 5 == 4:
+            host.call(f"link-{way}", n, a, b)
+        else:
+            host.call(f"commit-{way}", n, a, b, answer=radios, room=step % 256)
+    host.call("check", n)
 
 
 def images(host, n):
@@ -389,6 +513,9 @@ def play(host):
             host.call("link-up", 12, a, b)
     sheets(host, 12)
     host.call("staircase", 4)
+    proposals(host)
+    for n, count in ((7, 60), (24, 90)):
+        single_or_two(host, n, count, n)
     # one radio, and as many as a site may have
     host.call("clear", 1)
     lists(host, 1)

@@ -2,6 +2,8 @@
 --   accepted             a contract whose number is 0 is met as accepted
 --   check-right          the check answers 1 exactly for proper rows, core numbers and a k-order
 --   link-right           numbers and order are right after a link call, for the graph in the new links table
+--   ask-right            asking lists exactly the radios whose core number would differ
+--   commit-right         numbers and order are right after a committing
 --   number-right         the number answered is the core number by the largest group
 --   later-right          the later neighbours are counted, and the first is the first
 --   core-right, backbone-right   the radios listed are exactly the connected core, the backbone
@@ -13,28 +15,31 @@
 --   block-right          what a step of the block reader gives
 use mathlib.Core.Path.{_≡_, refl, sym, ap, ap₂, subst, _∙_}
 use mathlib.Core.Logic.{_⊎_, inl, inr, _↔_}
-use mathlib.Core.Bool.{Bool, true, false, cond}
+use mathlib.Core.Bool.{Bool, true, false, not, cond}
 use mathlib.Core.List.{List}
 use Prim.Native.Nat.{ℕ, _/_, _<_}
 use native.Mathlib.Omega.{arith}
-use lib.Dec.{ltb}
+use lib.Dec.{ltb, eqb}
+use lib.IntN.{ℤ}
 use lib.ListN.{length, getD, take, drop, List·getD-append}
 use lib.Seq.{ext-getD}
-use borrow.Author.Tests.{ltb-true, ltb-false}
+use borrow.Author.Tests.{ltb-true, ltb-false, eq-eqb, ne-eqb, not-true}
 use Rattle.mesh.specs.Limits.{max-neighbours}
-use Rattle.lists.specs.Lists.{range, head-or, overwrite, In, Ascending, Entries-below}
+use Rattle.lists.specs.Lists.{range, filter, member, head-or, overwrite, In, Ascending, Entries-below}
 use Rattle.mesh.specs.Graph.{Graph, linked, radios, relinked}
 use Rattle.mesh.specs.Cores.{Core, number, numbers}
 use Rattle.mesh.specs.Orders.{is-k-order, later-in, nobody}
-use Rattle.mesh.specs.Levels.{changed}
-use Rattle.mesh.specs.Tables.{Tables, graph-in, tables-of, Tables-of-size}
+use Rattle.mesh.specs.Levels.{changed, new-order}
+use Rattle.mesh.specs.Tables.{Tables, put-link, graph-in, tables-of, Tables-of-size}
 use Rattle.mesh.specs.Sound.{sound}
 use Rattle.mesh.specs.Connected.{core-of, backbone}
 use Rattle.mesh.specs.Tree.{tree, node-name, node-names}
 use Rattle.mesh.specs.Image.{block-bytes, image-of, image-graph, image-order, is-image, payload-at}
 use Rattle.mesh.specs.declared.Node.{Node}
+use Rattle.lists.proofs.Tests.{never}
 use Rattle.lists.proofs.Map.{length-map, getD-map-range}
-use Rattle.lists.proofs.Range.{length-range, once-below}
+use Rattle.lists.proofs.Filter.{member-filter}
+use Rattle.lists.proofs.Range.{length-range, in-range, once-below}
 use Rattle.lists.proofs.Overwrite.{take-overwrite, drop-overwrite}
 use Rattle.mesh.proofs.Cores.Peeling.{number-core, number-unique, length-numbers, getD-numbers}
 use Rattle.mesh.proofs.Cores.KOrders.{k-order-certificate}
@@ -50,28 +55,30 @@ use Rattle.mesh.proofs.Links.Laws.{link-valid}
 use Rattle.mesh.proofs.Images.Of.{length-image-of, whole-blocks-image-of, checks-good-image-of}
 use Rattle.mesh.proofs.Images.Sites.{written-read}
 use Rattle.mesh.proofs.Images.Tables.{valid-graph-in, is-image-sound, is-image-tables, tables-read-written}
-use Rattle.mesh.specs.Valid.{Valid}
-use Rattle.calls.specs.Questions.{By-number, lengths-of, image-length, tables-refusal, link-refusal}
+use Rattle.mesh.specs.Valid.{Valid, Allowed}
+use Rattle.calls.specs.Questions.{By-number, lengths-of, image-length, tables-refusal, link-refusal, commit-refusal}
 use Rattle.calls.specs.Questions.{radio-refusal, core-refusal, backbone-refusal, tree-refusal, write-refusal, read-refusal}
 use Rattle.calls.specs.Questions.{block-refusal, sheet-refusal}
 use Rattle.calls.specs.Sheet.{sheet, sheet-length}
 use Rattle.calls.specs.Contracts.Forms.{Tables-refused, Value-accepted, Value-refused, Listing-accepted, Listing-refused}
 use Rattle.calls.specs.Contracts.Links.{Link-accepted, Link-refused, Link-contract}
+use Rattle.calls.specs.Contracts.Proposals.{Ask-accepted, Ask-refused, Ask-contract, Commit-accepted, Commit-refused, Commit-contract}
 use Rattle.calls.specs.Contracts.Images.{Read-accepted, Read-contract, Write-contract, Block-none, Block-accepted, Block-contract}
 use Rattle.calls.specs.Contracts.Sites.{Check-contract}
+use Rattle.calls.specs.Switches.{switched}
 use Rattle.calls.specs.Contracts.Radios.{Number-contract}
 use Rattle.calls.specs.Contracts.Wake.{Later-accepted, Later-refused, Later-contract}
 use Rattle.calls.specs.Contracts.Cores.{Core-contract, Backbone-contract}
 use Rattle.calls.specs.Contracts.Trees.{Tree-accepted, Tree-refused, Tree-contract}
 use Rattle.calls.specs.Contracts.Pages.{Sheet-contract}
 use Rattle.calls.specs.Results.{Numbers-right, Site-right, Listed, Link-right, Core-listed, Backbone-listed, Tree-listed, Written-right, Read-right}
-use Rattle.calls.specs.Results.{Block-part, Block-end, Later-right, Sheet-right}
+use Rattle.calls.specs.Results.{Ask-right, Commit-right, Block-part, Block-end, Later-right, Sheet-right}
 use Rattle.calls.specs.declared.Reply.{Reply}
 use Rattle.calls.specs.declared.Value.{Value}
 use Rattle.calls.specs.declared.Later.{Later}
 use Rattle.calls.specs.declared.Block.{Block}
 use Rattle.calls.proofs.ContractLaws.{by-cases, by-zero}
-use Rattle.calls.proofs.ChainLaws.{lent-zero, Site-good, link-zero, radio-zero, core-zero, write-zero, read-zero, read-yes, sheet-zero}
+use Rattle.calls.proofs.ChainLaws.{lent-zero, Site-good, link-zero, commit-zero, radio-zero, core-zero, write-zero, read-zero, read-yes, sheet-zero}
 use Rattle.calls.proofs.SheetLaws.{sheet-fits, length-sheet, columns-front, columns-by}
 use Rattle.calls.proofs.RecordLaws.{tables-ext}
 
@@ -101,25 +108,77 @@ numbers-right : (g : Graph) (t : Tables) → t .numbers ≡ numbers g → is-k-o
 numbers-right g t e k = record { cores = λ x l. rw (e, getD-numbers g x l) (number-core g x l); k-order = k }
 
 -- the graph in the new links table is the graph with the link changed
+switched-right :
+    (up : Bool) (n a b : ℕ) (t v : Tables) (others : Bool) → Site-good n (lengths-of t) others (sound n t) →
+    Allowed max-neighbours up a b (graph-in n (t .links)) → v .links ≡ put-link up a b (t .links) →
+    v .numbers ≡ numbers (relinked up a b (graph-in n (t .links))) → v .order ≡ new-order up a b (graph-in n (t .links)) (t .order) →
+    Commit-right up n a b t v
+unfolding graph-in sound lengths-of
+switched-right up n a b t v others good ok links numbers order =
+    let g = graph-in n (t .links) in
+    let valid = link-valid max-neighbours up a b g (t .order) (valid-graph-in max-neighbours n t (good .lent .most) (good .is-sound)) ok in
+    let after : graph-in n (v .links) ≡ relinked up a b g =
+    ap (graph-in n) links ∙ graph-in-put-link up n a b t (good .lent .most) (good .lent .lengths .links) (good .is-sound) ok in
+    record {
+      graph = after;
+      right = record {
+        rows = rw links (rows-put-link up n a b t (good .lent .most) (good .lent .lengths .links) (good .is-sound) ok);
+        right = rw after (numbers-right (relinked up a b g) v numbers (ap (is-k-order (relinked up a b g)) order ∙ valid .k-order));
+      };
+    }
+
 pub link-right : (up : Bool) (n a b : ℕ) (t : Tables) (w : List ℕ) (r : Reply) (v : Tables) (x : List ℕ) → Link-contract up n a b t w r v x
     → r .number ≡ 0 → Link-right up n a b t v (r .count) w x
-unfolding Link-contract graph-in sound lengths-of
+unfolding Link-contract graph-in
 link-right up n a b t w r v x d z =
     let g = graph-in n (t .links) in
     let c = accepted (link-refusal up n a b (lengths-of t) (length w) (sound n t) g) (Link-accepted up a b g t w r v x)
     (λ q. Link-refused q t w r v x) (r .number) (λ q e. e .number) d z in
     let good = link-zero up a b (lengths-of t) (length w) (sound n t) g (c .0) in
-    let valid = link-valid max-neighbours up a b g (t .order) (valid-graph-in max-neighbours n t (good .0 .lent .most) (good .0 .is-sound)) (good .1) in
-    let after : graph-in n (v .links) ≡ relinked up a b g =
-    ap (graph-in n) (c .1 .links) ∙ graph-in-put-link up n a b t (good .0 .lent .most) (good .0 .lent .lengths .links) (good .0 .is-sound) (good .1) in
+    let s = switched-right up n a b t v _ (good .0) (good .1) (c .1 .links) (c .1 .numbers) (c .1 .order) in
     record {
-      graph = after;
-      right = record {
-        rows = rw (c .1 .links) (rows-put-link up n a b t (good .0 .lent .most) (good .0 .lent .lengths .links) (good .0 .is-sound) (good .1));
-        right = rw after (numbers-right (relinked up a b g) v (c .1 .numbers) (ap (is-k-order (relinked up a b g)) (c .1 .order) ∙ valid .k-order));
-      };
+      graph = s .graph;
+      right = s .right;
       listed = listed-front (changed up a b g) w (r .count) x (c .1 .count) (c .1 .answer) (changed-ascending up a b g);
     }
+
+-- ---- a link call in two steps
+
+-- the changed radios are the ones whose core number by the largest group differs
+changed-exactly :
+    (up : Bool) (a b : ℕ) (g : Graph) (v j k : ℕ) → v < g .n → Core g v j → Core (relinked up a b g) v k →
+    (member v (changed up a b g) ≡ true) ↔ (j ≡ k → ⊥)
+unfolding changed radios relinked
+changed-exactly up a b g v j k l p q =
+    let f : ℕ → Bool = λ u. not (eqb (number g u) (number (relinked up a b g) u)) in
+    let is : member v (filter f (range 0 (g .n))) ≡ not (eqb j k) =
+    member-filter f (range 0 (g .n)) v (in-range 0 (g .n) v (omega arith) (omega arith))
+    ∙ rw (number-unique g v j l p, number-unique (relinked up a b g) v k l q) refl in
+    (λ h e. never (eqb j k) (eq-eqb j k e) (not-true (eqb j k) (sym is ∙ h)), λ h. is ∙ ap not (ne-eqb j k h))
+
+pub ask-right : (up : Bool) (n a b : ℕ) (t : Tables) (w : List ℕ) (r : Reply) (x : List ℕ) → Ask-contract up n a b t w r x → r .number ≡ 0
+    → Ask-right up a b (graph-in n (t .links)) (r .count) w x
+unfolding Ask-contract
+ask-right up n a b t w r x d z =
+    let g = graph-in n (t .links) in
+    let c = accepted (link-refusal up n a b (lengths-of t) (length w) (sound n t) g) (Ask-accepted up a b g w r x)
+    (λ q. Ask-refused q w r x) (r .number) (λ q e. e .number) d z in
+    record {
+      exactly = λ v j k l p q. rw (front (changed up a b g) w (r .count) x (c .1 .count) (c .1 .answer)) (changed-exactly up a b g v j k l p q);
+      listed = listed-front (changed up a b g) w (r .count) x (c .1 .count) (c .1 .answer) (changed-ascending up a b g);
+    }
+
+pub commit-right :
+    (up : Bool) (n a b : ℕ) (z : ℤ) (xs : List ℕ) (t : Tables) (r : Reply) (v : Tables) → Commit-contract up n a b z xs t r v → r .number ≡ 0 →
+    Commit-right up n a b t v
+unfolding Commit-contract graph-in switched
+commit-right up n a b z xs t r v d y =
+    let g = graph-in n (t .links) in
+    let c = accepted (commit-refusal up n a b z xs (lengths-of t) (sound n t) g) (Commit-accepted up n a b t r v)
+    (λ q. Commit-refused q t r v) (r .number) (λ q e. e .number) d y in
+    let good = commit-zero up a b z xs (lengths-of t) (sound n t) g (c .0) in
+    switched-right up n a b t v true (good .0) (good .1) (ap (λ (o : Tables). o .links) (c .1 .tables)) (ap (λ (o : Tables). o .numbers) (c .1 .tables))
+    (ap (λ (o : Tables). o .order) (c .1 .tables))
 
 -- ---- the soundness check, and a radio's number
 

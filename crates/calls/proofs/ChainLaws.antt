@@ -9,6 +9,8 @@ use mathlib.Core.Path.{_≡_, _∙_, ap, refl}
 use mathlib.Core.Bool.{Bool, true, _&&_, not, false}
 use mathlib.Core.List.{List}
 use Prim.Native.Nat.{ℕ, _≤_, _<_}
+use native.Mathlib.Omega.{arith}
+use lib.IntN.{ℤ}
 use Rattle.mesh.specs.Limits.{max-radios, max-neighbours}
 use Rattle.mesh.specs.Graph.{Graph}
 use Rattle.mesh.specs.Cores.{number}
@@ -17,9 +19,9 @@ use Rattle.lists.proofs.Tests.{and-left, and-right}
 use Rattle.mesh.specs.Valid.{Allowed}
 use Rattle.mesh.proofs.Images.OtherSize.{is-image-not-other}
 use Rattle.calls.specs.Questions.{ask, Lengths, size-good, site-lengths, answer-length, are-radios, is-radio, ends-differ, can-switch, has-room}
-use Rattle.calls.specs.Questions.{has-level, image-length, holds-image, lent-refusal, site-refusal, ends-refusal, link-refusal, radio-refusal}
+use Rattle.calls.specs.Questions.{has-level, image-length, holds-image, lent-refusal, site-refusal, ends-then, ends-refusal, link-refusal, radio-refusal}
 use Rattle.calls.specs.Questions.{pair-refusal, core-refusal, level-refusal, write-refusal, blocks-refusal, source-refusal, image-refusal}
-use Rattle.calls.specs.Questions.{read-refusal, holds-sheet, sheet-refusal}
+use Rattle.calls.specs.Questions.{read-refusal, holds-sheet, sheet-refusal, is-proposal, commit-refusal}
 use Rattle.calls.specs.Sheet.{sheet-length}
 use Rattle.calls.proofs.QuestionLaws.{ask-yes, ask-zero, ask-later, size-good-true, true-size-good, Site-lengths, site-lengths-true, true-site-lengths}
 use Rattle.calls.proofs.QuestionLaws.{is-radio-true, true-is-radio, are-radios-true, true-are-radios, ends-differ-true, true-ends-differ}
@@ -108,6 +110,47 @@ ends-yes most up a b g h =
       true-has-room most up g a b (h .room),
     )
 
+-- 4 to 7 and what comes after them
+pub ends-then-zero :
+    (most : ℕ) (up : Bool) (n a b : ℕ) (g : Graph) (later : ℕ) → ends-then most up n a b g later ≡ 0 →
+    (ends-refusal most up n a b g ≡ 0) × (later ≡ 0)
+unfolding ends-refusal ask
+ends-then-zero most up n a b g later p = go (are-radios n a b) (ends-differ a b) (can-switch up g a b) (has-room most up g a b) p
+  where
+    go : (h i j k : Bool) → ask 4 h (ask 5 i (ask 6 j (ask 7 k later))) ≡ 0 → (ask 4 h (ask 5 i (ask 6 j (ask 7 k 0))) ≡ 0) × (later ≡ 0)
+    go true true true true e = (refl, e)
+    go true true true false e = absurd (omega arith)
+    go true true false k e = absurd (omega arith)
+    go true false j k e = absurd (omega arith)
+    go false i j k e = absurd (omega arith)
+
+pub ends-then-yes :
+    (most : ℕ) (up : Bool) (n a b : ℕ) (g : Graph) (later : ℕ) → ends-refusal most up n a b g ≡ 0 → ends-then most up n a b g later ≡ later
+unfolding ends-refusal ask
+ends-then-yes most up n a b g later p = go (are-radios n a b) (ends-differ a b) (can-switch up g a b) (has-room most up g a b) p
+  where
+    go : (h i j k : Bool) → ask 4 h (ask 5 i (ask 6 j (ask 7 k 0))) ≡ 0 → ask 4 h (ask 5 i (ask 6 j (ask 7 k later))) ≡ later
+    go true true true true e = refl
+    go true true true false e = absurd (omega arith)
+    go true true false k e = absurd (omega arith)
+    go true false j k e = absurd (omega arith)
+    go false i j k e = absurd (omega arith)
+
+-- a "no" of 4 to 7 comes before what comes after them
+pub ends-then-no :
+    (most : ℕ) (up : Bool) (n a b : ℕ) (g : Graph) (later : ℕ) → (ends-refusal most up n a b g ≡ 0 → ⊥) →
+    ends-then most up n a b g later ≡ ends-refusal most up n a b g
+unfolding ends-refusal ask
+ends-then-no most up n a b g later stops = go (are-radios n a b) (ends-differ a b) (can-switch up g a b) (has-room most up g a b) stops
+  where
+    go : (h i j k : Bool) → (ask 4 h (ask 5 i (ask 6 j (ask 7 k 0))) ≡ 0 → ⊥) →
+        ask 4 h (ask 5 i (ask 6 j (ask 7 k later))) ≡ ask 4 h (ask 5 i (ask 6 j (ask 7 k 0)))
+    go true true true true s = absurd (s refl)
+    go true true true false s = refl
+    go true true false k s = refl
+    go true false j k s = refl
+    go false i j k s = refl
+
 -- ---- 9 to 11, and 15
 
 pub record Blocks-good (image : List ℕ) : Type 0 where
@@ -148,6 +191,24 @@ unfolding link-refusal
 link-zero up a b l w sound g p =
     let q = site-zero (g .n) l (answer-length (g .n) w) sound (ends-refusal max-neighbours up (g .n) a b g) p in
     (q .0, ends-zero max-neighbours up a b g (q .1))
+
+pub commit-zero :
+    (up : Bool) (a b : ℕ) (z : ℤ) (xs : List ℕ) (l : Lengths) (sound : Bool) (g : Graph) → commit-refusal up (g .n) a b z xs l sound g ≡ 0 →
+    Site-good (g .n) l true sound × Allowed max-neighbours up a b g × (is-proposal up a b z xs g ≡ true)
+unfolding commit-refusal
+commit-zero up a b z xs l sound g p =
+    let q = site-zero (g .n) l true sound _ p in
+    let r = ends-then-zero max-neighbours up (g .n) a b g (ask 16 (is-proposal up a b z xs g) 0) (q .1) in
+    (q .0, ends-zero max-neighbours up a b g (r .0), ask-zero 15 (is-proposal up a b z xs g) 0 (r .1) .0)
+
+pub commit-yes :
+    (up : Bool) (a b : ℕ) (z : ℤ) (xs : List ℕ) (l : Lengths) (sound : Bool) (g : Graph) → Site-good (g .n) l true sound →
+    Allowed max-neighbours up a b g → is-proposal up a b z xs g ≡ true → commit-refusal up (g .n) a b z xs l sound g ≡ 0
+unfolding commit-refusal
+commit-yes up a b z xs l sound g s ok p =
+    site-yes (g .n) l true sound _ s
+    ∙ ends-then-yes max-neighbours up (g .n) a b g (ask 16 (is-proposal up a b z xs g) 0) (ends-yes max-neighbours up a b g ok)
+    ∙ ask-yes 16 (is-proposal up a b z xs g) 0 p
 
 pub radio-zero :
     (n v : ℕ) (l : Lengths) (sound : Bool) → radio-refusal n v l sound ≡ 0 → Site-good n l true sound × (v < n)

@@ -10,6 +10,7 @@ use mathlib.Core.Bool.{Bool, true, false}
 use mathlib.Core.List.{List}
 use Prim.Native.Nat.{ℕ, zero, suc, _/_}
 use lib.Dec.{ltb}
+use lib.IntN.{ℤ}
 use lib.ListN.{length}
 use Rattle.mesh.specs.Tables.{Tables, graph-in, tables-of}
 use Rattle.mesh.specs.Sound.{sound}
@@ -19,6 +20,7 @@ use Rattle.calls.specs.Questions.{By-number, link-refusal}
 use Rattle.calls.specs.Contracts.Forms.{Tables-refused, Value-accepted, Value-refused, Value-by, Listing-accepted, Listing-refused, Listing-by}
 use Rattle.calls.specs.Contracts.Sites.{Clear-accepted, Clear-contract, Check-contract}
 use Rattle.calls.specs.Contracts.Links.{Link-accepted, Link-refused, Link-contract}
+use Rattle.calls.specs.Contracts.Proposals.{Ask-accepted, Ask-refused, Ask-contract, Commit-accepted, Commit-refused, Commit-contract}
 use Rattle.calls.specs.Contracts.Images.{Read-accepted, Read-contract, Write-contract, Block-none, Block-accepted, Block-contract}
 use Rattle.calls.specs.Contracts.Radios.{Number-contract, Neighbours-contract, Linked-contract, First-contract}
 use Rattle.calls.specs.Contracts.Wake.{Later-accepted, Later-refused, Later-contract}
@@ -29,7 +31,7 @@ use Rattle.calls.specs.Contracts.Staircase.{Staircase-contract}
 use Rattle.calls.specs.Switches.{switched}
 use Rattle.calls.specs.Outcomes.{by-number, clear-outcome, read-outcome, link-outcome, value-outcome, check-outcome, number-outcome, neighbours-outcome}
 use Rattle.calls.specs.Outcomes.{linked-outcome, first-outcome, listing-outcome, core-outcome, backbone-outcome, write-outcome, tree-outcome, no-block}
-use Rattle.calls.specs.Outcomes.{block-or-end, block-outcome, later-outcome, sheet-outcome, staircase-outcome}
+use Rattle.calls.specs.Outcomes.{block-or-end, block-outcome, later-outcome, sheet-outcome, staircase-outcome, ask-outcome, commit-outcome}
 use Rattle.calls.specs.declared.Reply.{Reply}
 use Rattle.calls.specs.declared.Value.{Value}
 use Rattle.calls.proofs.RecordLaws.{tables-ext, reply-ext, value-ext, later-ext, block-ext}
@@ -177,6 +179,56 @@ link-inhabited up n a b t w =
     _
     (record { number = refl; step = refl; count = refl; links = refl; numbers = refl; order = refl; answer = refl })
     (λ q. record { number = refl; step = refl; count = refl; links = refl; numbers = refl; order = refl; answer = refl })
+
+pub ask-decided :
+    (up : Bool) (n a b : ℕ) (t : Tables) (w : List ℕ) → Decides {A = Reply × List ℕ} (λ o. Ask-contract up n a b t w (o .0) (o .1))
+unfolding Ask-contract
+ask-decided up n a b t w =
+    by-decides
+    _
+    (λ o. Ask-accepted up a b (graph-in n (t .links)) w (o .0) (o .1))
+    (λ x o. Ask-refused x w (o .0) (o .1))
+    (λ o s p q. pair-ext o s (reply-ext (o .0) (s .0) (cc) (cc) (cc)) (cc))
+    (λ x o s p q. pair-ext o s (reply-ext (o .0) (s .0) (cc) (cc) (cc)) (cc))
+
+pub ask-inhabited :
+    (up : Bool) (n a b : ℕ) (t : Tables) (w : List ℕ) → let o = ask-outcome up n a b t w in Ask-contract up n a b t w (o .0) (o .1)
+unfolding Ask-contract ask-outcome
+ask-inhabited up n a b t w =
+    by-meets
+    _
+    (λ (o : Reply × List ℕ). Ask-accepted up a b (graph-in n (t .links)) w (o .0) (o .1))
+    (λ q o. Ask-refused q w (o .0) (o .1))
+    _
+    _
+    (record { number = refl; step = refl; count = refl; answer = refl })
+    (λ q. record { number = refl; step = refl; count = refl; answer = refl })
+
+pub commit-decided :
+    (up : Bool) (n a b : ℕ) (z : ℤ) (xs : List ℕ) (t : Tables) →
+    Decides {A = Reply × Tables} (λ o. Commit-contract up n a b z xs t (o .0) (o .1))
+unfolding Commit-contract
+commit-decided up n a b z xs t =
+    by-decides
+    _
+    (λ o. Commit-accepted up n a b t (o .0) (o .1))
+    (λ x o. Commit-refused x t (o .0) (o .1))
+    (λ o s p q. pair-ext o s (reply-ext (o .0) (s .0) (cc) (cc) (cc)) (cc))
+    (λ x o s p q. pair-ext o s (reply-ext (o .0) (s .0) (cc) (cc) (cc)) (cc))
+
+pub commit-inhabited :
+    (up : Bool) (n a b : ℕ) (z : ℤ) (xs : List ℕ) (t : Tables) →
+    let o = commit-outcome up n a b z xs t in Commit-contract up n a b z xs t (o .0) (o .1)
+unfolding Commit-contract commit-outcome
+commit-inhabited up n a b z xs t =
+    by-meets
+    _
+    (λ (o : Reply × Tables). Commit-accepted up n a b t (o .0) (o .1))
+    (λ q o. Commit-refused q t (o .0) (o .1))
+    _
+    _
+    (record { number = refl; step = refl; count = refl; tables = refl })
+    (λ q. record { number = refl; step = refl; count = refl; tables = refl })
 
 pub number-decided : (n v : ℕ) (t : Tables) → Decides (Number-contract n v t)
 unfolding Number-contract

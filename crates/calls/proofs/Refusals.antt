@@ -7,6 +7,7 @@ use mathlib.Core.Bool.{Bool, true, false}
 use mathlib.Core.List.{List}
 use Prim.Native.Nat.{ℕ, zero, suc, _/_}
 use lib.Dec.{ltb}
+use lib.IntN.{ℤ}
 use lib.ListN.{length}
 use Rattle.mesh.specs.Tables.{Tables, graph-in}
 use Rattle.mesh.specs.Image.{block-bytes}
@@ -15,6 +16,7 @@ use Rattle.calls.specs.Questions.{By-number}
 use Rattle.calls.specs.Contracts.Forms.{Tables-refused, Value-accepted, Value-refused, Value-by, Listing-accepted, Listing-refused, Listing-by}
 use Rattle.calls.specs.Contracts.Sites.{Clear-accepted, Clear-contract, Check-contract}
 use Rattle.calls.specs.Contracts.Links.{Link-accepted, Link-refused, Link-contract}
+use Rattle.calls.specs.Contracts.Proposals.{Ask-accepted, Ask-refused, Ask-contract, Commit-accepted, Commit-refused, Commit-contract}
 use Rattle.calls.specs.Contracts.Images.{Read-accepted, Read-contract, Write-contract, Block-none, Block-accepted, Block-contract}
 use Rattle.calls.specs.Contracts.Radios.{Number-contract, Neighbours-contract, Linked-contract, First-contract}
 use Rattle.calls.specs.Contracts.Wake.{Later-accepted, Later-refused, Later-contract}
@@ -75,6 +77,20 @@ link-keeps up n a b t w r v x =
     (λ q. Link-refused q t w r v x)
     (λ d. d .number)
     (λ q d. d .number)
+
+pub ask-keeps :
+    (up : Bool) (n a b : ℕ) (t : Tables) (w : List ℕ) (r : Reply) (x : List ℕ) → Ask-contract up n a b t w r x → (r .number ≡ 0 → ⊥) →
+    Ask-refused (r .number) w r x
+unfolding Ask-contract
+ask-keeps up n a b t w r x =
+    by-refusal _ (r .number) (Ask-accepted up a b (graph-in n (t .links)) w r x) (λ q. Ask-refused q w r x) (λ d. d .number) (λ q d. d .number)
+
+pub commit-keeps :
+    (up : Bool) (n a b : ℕ) (z : ℤ) (xs : List ℕ) (t : Tables) (r : Reply) (v : Tables) → Commit-contract up n a b z xs t r v →
+    (r .number ≡ 0 → ⊥) → Commit-refused (r .number) t r v
+unfolding Commit-contract
+commit-keeps up n a b z xs t r v =
+    by-refusal _ (r .number) (Commit-accepted up n a b t r v) (λ q. Commit-refused q t r v) (λ d. d .number) (λ q d. d .number)
 
 pub check-keeps : (n : ℕ) (t : Tables) (r : Value) → Check-contract n t r → (r .number ≡ 0 → ⊥) → Value-refused (r .number) r
 unfolding Check-contract

@@ -9,7 +9,7 @@ use mathlib.Core.List.{List, [], _∷_}
 use mathlib.Core.Option.{Option, none, some}
 use Prim.Native.Nat.{ℕ, zero, suc}
 use lib.ListN.{length}
-use lib.IntN.{pos}
+use lib.IntN.{ℤ, pos}
 use Rattle.mesh.specs.Limits.{max-neighbours}
 use Rattle.lists.specs.Lists.{overwrite}
 use Rattle.mesh.specs.Graph.{Link, Graph, graph}
@@ -17,18 +17,20 @@ use Rattle.mesh.specs.Levels.{changed, step-of}
 use Rattle.mesh.specs.Tables.{Tables, graph-in}
 use Rattle.mesh.specs.Image.{image-links}
 use Rattle.lists.proofs.Overwrite.{take-overwrite}
-use Rattle.calls.specs.Questions.{By-number, lengths-of, answer-length, ends-refusal, tables-refusal, link-refusal, read-refusal}
+use Rattle.calls.specs.Questions.{By-number, lengths-of, answer-length, ask, ends-then, ends-refusal, is-proposal, tables-refusal, link-refusal}
+use Rattle.calls.specs.Questions.{commit-refusal, read-refusal}
 use Rattle.calls.specs.Switches.{Switch, switch, pairs-after, switched, tables-after}
 use Rattle.calls.specs.Contracts.Forms.{Tables-refused}
 use Rattle.calls.specs.Contracts.Sites.{Clear-accepted, Clear-contract}
 use Rattle.calls.specs.Contracts.Links.{Link-accepted, Link-refused, Link-contract}
+use Rattle.calls.specs.Contracts.Proposals.{Commit-accepted, Commit-refused, Commit-contract}
 use Rattle.calls.specs.Contracts.Images.{Read-accepted, Read-contract}
-use Rattle.calls.specs.Book.{Call, clearing, reading, linking, other, Answer, plain, reported, Outcome, outcome-of, unless-refused, outcome, first-pairs}
-use Rattle.calls.specs.Book.{pairs-of}
-use Rattle.calls.specs.Runs.{answer-of, Does}
+use Rattle.calls.specs.Book.{Call, clearing, reading, linking, committing, other, Answer, plain, reported, committed, Outcome, outcome-of, unless-refused, outcome}
+use Rattle.calls.specs.Book.{first-pairs, pairs-of}
+use Rattle.calls.specs.Runs.{answer-of, replied, Does}
 use Rattle.calls.specs.Demand.{ended, Call-kept, Start, cleared, read}
 use Rattle.calls.specs.declared.Reply.{Reply}
-use Rattle.calls.proofs.ChainLaws.{lent-zero, link-zero, read-zero}
+use Rattle.calls.proofs.ChainLaws.{lent-zero, link-zero, commit-zero, read-zero}
 use Rattle.calls.proofs.ContractLaws.{by-accepted}
 use Rattle.calls.proofs.RecordLaws.{tables-ext, refused-same}
 use Rattle.calls.proofs.Holds.{Holds, clear-holds, read-holds, unchanged-holds, same-n, read-back, site-asked, with-n, All-allowed, all-holds}
@@ -155,6 +157,21 @@ module _ (n : ℕ) (ps : List Link) (t : Tables) (k : Holds n ps t) where
   link-step (suc y) u m a b r w x v hs p d q =
       refused y _ hs v (q ∙ ap one (answer-refused r (suc y) x (d .number) (d .step) (d .count))) (tables-ext v t (d .links) (d .numbers) (d .order))
 
+  -- ---- committing
+
+  commit-step :
+      (R : ℕ) (u : Bool) (m a b : ℕ) (z : ℤ) (xs : List ℕ) (r : Reply) (v : Tables) (hs : List Answer) →
+      commit-refusal u m a b z xs (lengths-of t) true (graph m ps) ≡ R →
+      By-number R (Commit-accepted u m a b t r v) (λ q. Commit-refused q t r v) → hs ≡ one (replied r) →
+      Stepped n ps (unless-refused R (outcome-of (one (committed u (changed u a b (graph m ps)))) none (switch u a b ∷ []))) t hs v
+  unfolding By-number All-allowed tables-after committed replied plain
+  commit-step zero u m a b z xs r v hs p d q =
+      let y = commit-zero u a b z xs (lengths-of t) true (graph m ps) p in
+      let e = same-n n ps t k m true (y .0 .lent) in
+      let f : graph-in m (t .links) ≡ graph m ps = rw e (read-back n ps t k) in
+      carried hs _ (switch u a b ∷ []) v (q ∙ rw (d .number, d .step, d .count, f)) (rw e at (y .1), tt) (rw e at (d .tables))
+  commit-step (suc y) u m a b z xs r v hs p d q = refused y _ hs v (q ∙ rw (d .number, d .step, d .count)) (d .tables)
+
   -- ---- any call
 
   other-step : (hs : List Answer) (v : Tables) → v ≡ t → hs ≡ [] → Stepped n ps (outcome-of [] none []) t hs v
@@ -165,11 +182,15 @@ module _ (n : ℕ) (ps : List Link) (t : Tables) (k : Holds n ps t) where
   }
 
   pub step : (c : Call) (hs : List Answer) (v : Tables) → Does c t hs v → Stepped n ps (outcome c (lengths-of t) ps) t hs v
-  unfolding Does Clear-contract Read-contract Link-contract outcome link-refusal
+  unfolding Does Clear-contract Read-contract Link-contract Commit-contract outcome link-refusal commit-refusal
   step (clearing m) hs v d = clear-step _ m (d .result) v hs refl (d .contract) (d .answer)
   step (reading m bs) hs v d = read-step _ m (d .result) bs v hs refl (d .contract) (d .answer)
   step (linking u m a b w) hs v d =
       let f = asked (Link-accepted u a b (graph-in m (t .links)) t (d .lent) (d .result) v (d .table)) (λ q. Link-refused q t (d .lent) (d .result) v (d .table))
       (site-asked n ps t k m (answer-length m (length (d .lent))) (λ g. ends-refusal max-neighbours u m a b g)) (d .contract) in
       rw (d .long) (link-step _ u m a b (d .result) (d .lent) (d .table) v hs refl f (d .answer))
+  step (committing u m a b z xs) hs v d =
+      let f = asked (Commit-accepted u m a b t (d .result) v) (λ q. Commit-refused q t (d .result) v)
+      (site-asked n ps t k m true (λ g. ends-then max-neighbours u m a b g (ask 16 (is-proposal u a b z xs g) 0))) (d .contract) in
+      commit-step _ u m a b z xs (d .result) v hs refl f (d .answer)
   step other hs v d = other-step hs v (d .0) (d .1)

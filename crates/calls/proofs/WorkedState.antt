@@ -25,14 +25,14 @@ use Rattle.mesh.specs.Image.{word, long, weighted-sum, check-sum, block, blocks
 use Rattle.mesh.specs.Image.{block-at, image-of, word-at, entry-at, image-order, image-link, image-links, image-graph, whole-blocks, block-check, checks-good}
 use Rattle.mesh.specs.Image.{is-image-within, is-image, other-size}
 use Rattle.calls.specs.Questions.{ask, Lengths, lengths-of, size-good, site-lengths, is-radio, are-radios, ends-differ, can-switch, has-room, has-level}
-use Rattle.calls.specs.Questions.{level-refusal, image-length, lent-refusal, tables-refusal, ends-refusal, blocks-refusal, image-refusal, read-refusal}
+use Rattle.calls.specs.Questions.{same-step, level-refusal, image-length, lent-refusal, tables-refusal, ends-refusal, blocks-refusal, image-refusal, read-refusal}
 use Rattle.calls.specs.Switches.{Switch}
 use Rattle.calls.specs.Outcomes.{by-number, value-outcome, check-outcome}
 use Rattle.calls.specs.Book.{Answer, plain, reported}
 use Rattle.text.specs.Text.{bytes-of, digit-byte, digits-in, decimal, further-fields, printed-line}
 use Rattle.calls.specs.Replay.{step-text, link-line, numbers-line, order-line, closing-lines}
 use Rattle.calls.specs.Worked.{risen, fallen, unchanged, refused, Want, last-answers, all-numbers, whole-order, shell-tree, connected-core}
-use Rattle.calls.specs.Worked.{backbone-radios, image-checks, printed, soundness, image-reading, same-step, same-answers, same-nodes, block-checks}
+use Rattle.calls.specs.Worked.{backbone-radios, image-checks, printed, soundness, image-reading, same-answers, same-nodes, block-checks}
 use Rattle.calls.specs.Worked.{put-in, answer-line, lines, is-value, Row}
 
 pub record State : Type 0 where

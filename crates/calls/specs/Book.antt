@@ -1,5 +1,6 @@
 -- Document 01's link book: what it is given of each call, the pairs that it keeps, and what it answers.
---   Call, Given       what the book is given of a call: n, radios, image bytes, lengths of tables; never what links, numbers and order hold
+--   Call, Given       what the book is given of a call: n, radios, image bytes, a proposal, lengths of tables; never what links, numbers and
+--                     order hold
 --   Answer            what is compared of a call
 --   outcome           what the book makes of a call: answers, where it begins anew, and the links that it takes up or down
 --   pairs-of          the pairs after an outcome
@@ -16,7 +17,7 @@ use lib.ListN.{length}
 use Rattle.mesh.specs.Graph.{Link, graph}
 use Rattle.mesh.specs.Levels.{changed, step-of}
 use Rattle.mesh.specs.Image.{image-links}
-use Rattle.calls.specs.Questions.{Lengths, tables-refusal, link-refusal, read-refusal}
+use Rattle.calls.specs.Questions.{Lengths, tables-refusal, link-refusal, commit-refusal, read-refusal}
 use Rattle.calls.specs.Switches.{Switch, switch, pairs-after}
 
 -- what the book is given of a call, beside the lengths of links, numbers and order: `answer` is the answer table's length
@@ -24,9 +25,10 @@ pub data Call : Type 0 where
   clearing : (n : ℕ) → Call
   reading : (n : ℕ) → (image : List ℕ) → Call
   linking : (up : Bool) → (n a b : ℕ) → (answer : ℕ) → Call
+  committing : (up : Bool) → (n a b : ℕ) → (step : ℤ) → (list : List ℕ) → Call
   other : Call
 
--- what is compared of a call: its number and, for a link call, step, count and listed radios
+-- what is compared of a call: its number and, for a link call, step, count and listed radios; a committing lists none
 pub record Answer : Type 0 where
   pub number : ℕ
   pub step : ℤ
@@ -40,6 +42,10 @@ plain r = record { number = r; step = pos 0; count = 0; listed = [] }
 -- an accepted link call
 unfoldable pub reported : (up : Bool) → (changed : List ℕ) → Answer
 reported up cs = record { number = 0; step = step-of up cs; count = length cs; listed = cs }
+
+-- an accepted committing
+unfoldable pub committed : (up : Bool) → (changed : List ℕ) → Answer
+committed up cs = record { number = 0; step = step-of up cs; count = length cs; listed = [] }
 
 -- ---- one call
 
@@ -65,6 +71,10 @@ outcome (linking up n a b w) l ps =
     unless-refused
     (link-refusal up n a b l w true (graph n ps))
     (outcome-of (reported up (changed up a b (graph n ps)) ∷ []) none (switch up a b ∷ []))
+outcome (committing up n a b z xs) l ps =
+    unless-refused
+    (commit-refusal up n a b z xs l true (graph n ps))
+    (outcome-of (committed up (changed up a b (graph n ps)) ∷ []) none (switch up a b ∷ []))
 outcome other l ps = outcome-of [] none []
 
 -- the pairs that an outcome begins from, where ps are the pairs before it

@@ -17,14 +17,14 @@ use Rattle.mesh.specs.Cores.{number}
 use Rattle.mesh.specs.Orders.{later-in, nobody}
 use Rattle.mesh.specs.Levels.{changed, step-of}
 use Rattle.mesh.specs.Tables.{Tables, tables, graph-in, tables-of}
-use Rattle.mesh.specs.Sound.{sound-within}
+use Rattle.mesh.specs.Sound.{sound-within, sound}
 use Rattle.mesh.specs.Connected.{core-of, backbone}
 use Rattle.mesh.specs.Tree.{tree, node-names}
 use Rattle.mesh.specs.Staircase.{staircase, link-entries}
 use Rattle.mesh.specs.Image.{block-bytes, payload-bytes, image-of, image-graph, image-order}
 use Rattle.mesh.specs.declared.Node.{Node}
 use Rattle.calls.specs.Questions.{lengths-of, image-length, tables-refusal, link-refusal-within, read-refusal, radio-refusal, pair-refusal}
-use Rattle.calls.specs.Questions.{core-refusal, backbone-refusal, tree-refusal, staircase-refusal, write-refusal, sheet-refusal, block-refusal}
+use Rattle.calls.specs.Questions.{link-refusal, commit-refusal, core-refusal, backbone-refusal, tree-refusal, staircase-refusal, write-refusal, sheet-refusal, block-refusal}
 use Rattle.calls.specs.Sheet.{sheet, sheet-length}
 use Rattle.calls.specs.Switches.{switch, switched}
 use Rattle.calls.specs.Contracts.Radios.{first-of-two}
@@ -71,6 +71,28 @@ link-outcome-within most up n a b t w =
 
 unfoldable pub link-outcome : (up : Bool) → (n a b : ℕ) → Tables → (answer : List ℕ) → Reply × Tables × List ℕ
 link-outcome up n a b t w = link-outcome-within max-neighbours up n a b t w
+
+-- ---- a link call in two steps
+
+-- the reply, and the changed radios in front of the answer table
+unfoldable pub ask-outcome : (up : Bool) → (n a b : ℕ) → Tables → (answer : List ℕ) → Reply × List ℕ
+ask-outcome up n a b t w =
+    let g = graph-in n (t .links) in
+    let cs = changed up a b g in
+    by-number
+    (link-refusal up n a b (lengths-of t) (length w) (sound n t) g)
+    (reply 0 (step-of up cs) (length cs), overwrite cs w)
+    (λ q. (reply q (pos 0) 0, w))
+
+-- the reply, and the tables with the link switched
+unfoldable pub commit-outcome : (up : Bool) → (n a b : ℕ) → (step : ℤ) → (list : List ℕ) → Tables → Reply × Tables
+commit-outcome up n a b z xs t =
+    let g = graph-in n (t .links) in
+    let cs = changed up a b g in
+    by-number
+    (commit-refusal up n a b z xs (lengths-of t) (sound n t) g)
+    (reply 0 (step-of up cs) (length cs), switched n (switch up a b) t)
+    (λ q. (reply q (pos 0) 0, t))
 
 -- ---- a value
 

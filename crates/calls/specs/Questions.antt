@@ -2,20 +2,23 @@
 --   ask r yes later        question r: a "no" gives its number, a "yes" goes on
 --   By-number              a contract by the number that its chain gives
 --   Lengths                the lengths of links, numbers and order
---   size-good .. is-image  questions 1 to 12 and 15 (1 is `size-good`, 3 `sound`, 10 `checks-good`, 15 `other-size`, 11 `is-image` of mesh)
+--   size-good .. is-image  questions 1 to 12, 15 and 16 (1 is `size-good`, 3 `sound`, 10 `checks-good`, 15 `other-size`, 11 `is-image` of mesh)
 --   tables-refusal .. block-refusal   the first "no" of a call's questions, or 0
 -- A chain takes the answer to question 3 and the graph that 6 to 8 are put to, since the link book answers these from its
 -- pairs and gives 3 a yes. A chain `..-within most` asks with that bound on neighbours; without it, with a site's own. The numbers
--- of document 02 stand where it puts them: 12 after 3, 15 after 10.
+-- of document 02 stand where it puts them: 12 after 3, 16 after 7, 15 after 10.
 -- Definitions only.
 use mathlib.Core.Bool.{Bool, true, false, _&&_, not}
 use mathlib.Core.List.{List}
 use Prim.Native.Nat.{ℕ, zero, suc, _+_, _*_}
 use lib.Dec.{ltb, leb, eqb}
+use lib.IntN.{ℤ, pos, negsuc}
 use lib.ListN.{length}
 use Rattle.mesh.specs.Limits.{max-neighbours, row-bytes}
+use Rattle.lists.specs.Lists.{same}
 use Rattle.mesh.specs.Graph.{Graph, linked, degree}
 use Rattle.mesh.specs.Cores.{number}
+use Rattle.mesh.specs.Levels.{changed, step-of}
 use Rattle.mesh.specs.Tables.{Tables}
 use Rattle.mesh.specs.Image.{block-bytes, block-count, whole-blocks, checks-good, other-size, is-image}
 use Rattle.calls.specs.Sheet.{sheet-length}
@@ -81,6 +84,18 @@ has-room most false g a b = true
 unfoldable pub has-level : Graph → (v k : ℕ) → Bool
 has-level g v k = leb k (number g v)
 
+-- ---- question 16: proposals
+
+unfoldable pub same-step : (x y : ℤ) → Bool
+same-step (pos a) (pos b) = eqb a b
+same-step (negsuc a) (negsuc b) = eqb a b
+same-step (pos a) (negsuc b) = false
+same-step (negsuc a) (pos b) = false
+
+-- 16. Are the list and the step exactly what asking would give now?
+unfoldable pub is-proposal : (up : Bool) → (a b : ℕ) → (step : ℤ) → (list : List ℕ) → Graph → Bool
+is-proposal up a b z xs g = let cs = changed up a b g in same-step z (step-of up cs) && same xs cs
+
 -- ---- question 9: images
 
 -- writing: does the buffer hold the image?
@@ -110,10 +125,14 @@ site-refusal n l others sound later = lent-refusal n l others (ask 3 sound later
 unfoldable pub tables-refusal : (n : ℕ) → Lengths → ℕ
 tables-refusal n l = lent-refusal n l true 0
 
+-- 4 to 7; then the later questions
+abbrev pub ends-then : (most : ℕ) → (up : Bool) → (n a b : ℕ) → Graph → (later : ℕ) → ℕ
+ends-then most up n a b g later =
+    ask 4 (are-radios n a b) (ask 5 (ends-differ a b) (ask 6 (can-switch up g a b) (ask 7 (has-room most up g a b) later)))
+
 -- 4 to 7
 unfoldable pub ends-refusal : (most : ℕ) → (up : Bool) → (n a b : ℕ) → Graph → ℕ
-ends-refusal most up n a b g =
-    ask 4 (are-radios n a b) (ask 5 (ends-differ a b) (ask 6 (can-switch up g a b) (ask 7 (has-room most up g a b) 0)))
+ends-refusal most up n a b g = ends-then most up n a b g 0
 
 -- a link call: 1 to 7
 abbrev pub link-refusal-within :
@@ -123,6 +142,12 @@ link-refusal-within most up n a b l w sound g =
 
 unfoldable pub link-refusal : (up : Bool) → (n a b : ℕ) → Lengths → (answer : ℕ) → (sound : Bool) → Graph → ℕ
 link-refusal up n a b l w sound g = link-refusal-within max-neighbours up n a b l w sound g
+
+-- committing: 1 to 7 and 16; there is no answer table, and 2 does not ask for the list's length
+unfoldable pub commit-refusal :
+    (up : Bool) → (n a b : ℕ) → (step : ℤ) → (list : List ℕ) → Lengths → (sound : Bool) → Graph → ℕ
+commit-refusal up n a b z xs l sound g =
+    site-refusal n l true sound (ends-then max-neighbours up n a b g (ask 16 (is-proposal up a b z xs g) 0))
 
 -- a radio's number, its neighbour count: 1 to 4
 unfoldable pub radio-refusal : (n v : ℕ) → Lengths → (sound : Bool) → ℕ

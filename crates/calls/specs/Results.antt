@@ -3,6 +3,8 @@
 --   Numbers-right     numbers are core numbers of a graph by the largest group, and the order is a k-order of it
 --   Site-right        document 01: sound tables are exactly the ones with proper rows, core numbers and a k-order
 --   Link-right        after a link call: the graph in the new links table, its rows, numbers and order
+--   Ask-right         the radios that asking lists: the ones whose core number the link would change
+--   Commit-right      after a committing: the graph in the new links table, its rows, numbers and order
 --   Listed            a list of radios in front of a lent list
 --   Later-right       the later neighbours of a radio: how many, and the first of them
 --   Core-listed, Backbone-listed   the radios listed
@@ -55,6 +57,17 @@ pub record Link-right (up : Bool) (n a b : ℕ) (t v : Tables) (count : ℕ) (w 
   pub graph : graph-in n (v .links) ≡ relinked up a b (graph-in n (t .links))
   pub right : Site-right n v
   pub listed : Listed count w x
+
+-- g is the graph in the tables; a radio is listed exactly if its core number would differ
+pub record Ask-right (up : Bool) (a b : ℕ) (g : Graph) (count : ℕ) (w x : List ℕ) : Type 0 where
+  pub exactly :
+      (v j k : ℕ) → v < g .n → Core g v j → Core (relinked up a b g) v k → (member v (take count x) ≡ true) ↔ (j ≡ k → ⊥)
+  pub listed : Listed count w x
+
+-- t and v are the tables before and after
+pub record Commit-right (up : Bool) (n a b : ℕ) (t v : Tables) : Type 0 where
+  pub graph : graph-in n (v .links) ≡ relinked up a b (graph-in n (t .links))
+  pub right : Site-right n v
 
 -- ---- later neighbours
 

@@ -8,13 +8,15 @@ use mathlib.Core.Path.{_≡_}
 use mathlib.Core.Bool.{Bool}
 use mathlib.Core.List.{List, [], _∷_, _++_}
 use Prim.Native.Nat.{ℕ}
+use lib.IntN.{ℤ}
 use lib.ListN.{length, take}
 use Rattle.mesh.specs.Tables.{Tables}
 use Rattle.calls.specs.Questions.{lengths-of}
 use Rattle.calls.specs.Contracts.Sites.{Clear-contract}
 use Rattle.calls.specs.Contracts.Links.{Link-contract}
+use Rattle.calls.specs.Contracts.Proposals.{Commit-contract}
 use Rattle.calls.specs.Contracts.Images.{Read-contract}
-use Rattle.calls.specs.Book.{Call, clearing, reading, linking, other, Given, given, Answer, plain}
+use Rattle.calls.specs.Book.{Call, clearing, reading, linking, committing, other, Given, given, Answer, plain}
 use Rattle.calls.specs.declared.Reply.{Reply}
 
 -- ---- one call
@@ -44,11 +46,22 @@ pub record Linking-done (up : Bool) (n a b w : ℕ) (t : Tables) (hs : List Answ
   pub contract : Link-contract up n a b t lent result v table
   pub answer : hs ≡ answer-of result table ∷ []
 
+-- the reply alone
+unfoldable pub replied : Reply → Answer
+replied r = record { number = r .number; step = r .step; count = r .count; listed = [] }
+
+-- a committing: its reply is its answer
+pub record Committing-done (up : Bool) (n a b : ℕ) (step : ℤ) (list : List ℕ) (t : Tables) (hs : List Answer) (v : Tables) : Type 0 where
+  pub result : Reply
+  pub contract : Commit-contract up n a b step list t result v
+  pub answer : hs ≡ replied result ∷ []
+
 -- any other call leaves the tables as they were; what it answers is not compared
 unfoldable pub Does : Call → (t : Tables) → (answers : List Answer) → (v : Tables) → Type 0
 Does (clearing n) t hs v = Clearing-done n t hs v
 Does (reading n bs) t hs v = Reading-done n bs t hs v
 Does (linking up n a b w) t hs v = Linking-done up n a b w t hs v
+Does (committing up n a b z xs) t hs v = Committing-done up n a b z xs t hs v
 Does other t hs v = (v ≡ t) × (hs ≡ [])
 
 -- ---- a list of calls

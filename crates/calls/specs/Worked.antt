@@ -13,7 +13,7 @@ use mathlib.Core.List.{List, [], _∷_, _++_, map, flatMap}
 use Prim.Native.Nat.{ℕ, zero, suc, _+_, _*_, _-_}
 use Prim.Native.String.{String}
 use lib.Dec.{eqb}
-use lib.IntN.{ℤ, pos, negsuc}
+use lib.IntN.{pos, negsuc}
 use lib.ListN.{length, drop, take, set}
 use Rattle.mesh.specs.Limits.{row-bytes}
 use Rattle.lists.specs.Lists.{range, same}
@@ -21,7 +21,7 @@ use Rattle.mesh.specs.Tables.{Tables, tables, graph-in}
 use Rattle.mesh.specs.Tree.{node}
 use Rattle.mesh.specs.Image.{block-bytes, long}
 use Rattle.mesh.specs.declared.Node.{Node}
-use Rattle.calls.specs.Questions.{image-length}
+use Rattle.calls.specs.Questions.{image-length, same-step}
 use Rattle.calls.specs.Switches.{Switch, switch}
 use Rattle.calls.specs.Outcomes.{clear-outcome, read-outcome, link-outcome, check-outcome, core-outcome, backbone-outcome, write-outcome, tree-outcome}
 use Rattle.calls.specs.Book.{Answer, plain, reported}
@@ -114,12 +114,6 @@ pub data Want : Type 0 where
   soundness : List Put → (numbers order : List ℕ) → (yes : Bool) → Want
   -- the number of reading so many bytes of the image, with these put in, for n radios
   image-reading : (n bytes : ℕ) → List Put → (number : ℕ) → Want
-
-unfoldable pub same-step : ℤ → ℤ → Bool
-same-step (pos a) (pos b) = eqb a b
-same-step (negsuc a) (negsuc b) = eqb a b
-same-step (pos a) (negsuc b) = false
-same-step (negsuc a) (pos b) = false
 
 unfoldable pub same-answers : List Answer → List Answer → Bool
 same-answers [] [] = true

@@ -31,6 +31,8 @@ impl Refusal {
     pub const PAGE: u32 = 12;
 
     pub const OTHER_SIZE: u32 = 15;
+
+    pub const PROPOSAL: u32 = 16;
 }
 
 // The answer of a link call: refusal number, step (+1, -1, or 0 when nothing changed), count of changed radios.

@@ -3,7 +3,7 @@ use mathlib.Core.Path.{_≡_, refl, sym, ap, ap₂, _∙_}
 use mathlib.Core.Logic.{_⊎_, inl, inr}
 use mathlib.Core.Bool.{Bool, true, false, _&&_}
 use mathlib.Core.List.{List, [], _∷_, _++_, append-assoc}
-use Prim.Native.Nat.{ℕ, zero, suc, _+_, _-_, _≤_, _<_}
+use Prim.Native.Nat.{ℕ, zero, suc, _+_, _-_, _≤_, _<_, min}
 use native.Mathlib.Omega.{arith}
 use mir.Syntax.{w8}
 use mir.Val.{SFits, toZ, ofZ}
@@ -14,25 +14,47 @@ use lib.ListN.{length, take, drop, length-drop}
 use lib.Seq.{length-take-le, take-all, take-take, take-add, drop-drop, paste, take-paste, drop-paste}
 use borrow.Author.Tests.{leb-true, leb-false, le-leb, lt-leb}
 use borrow.Rule.Slice.PartMut.{midOf, putMid, mid-len, post-is}
-use Rattle.lists.specs.Lists.{overwrite}
+use Rattle.mesh.specs.Limits.{max-radios}
+use Rattle.lists.specs.Lists.{range, member, overwrite}
 use Rattle.mesh.specs.Levels.{step-of}
 use Rattle.mesh.specs.Tables.{Tables}
 use Rattle.calls.specs.declared.Reply.{Reply}
+use Rattle.tables.specs.Steps.{all-stepped}
 use Rattle.lists.proofs.Tests.{bool-cases, never, and-left, and-right}
+use Rattle.lists.proofs.Count.{count-le-length}
+use Rattle.lists.proofs.Filter.{length-filter}
+use Rattle.lists.proofs.Range.{length-range}
 use Rattle.lists.proofs.Overwrite.{overwrite-take}
-use Rattle.link_parts.specs.Changes.{changed-part, counted-step, plan-fits, Applied, Apply-contract}
-use Rattle.lists.proofs.Parts.{drop-take}
+use Rattle.link_parts.specs.Changes.{changed-part, in-order, counted-step, plan-fits, Reported, Applied, Apply-contract}
+use Rattle.lists.proofs.Parts.{take-min, drop-take}
 
 -- ---- the changed radios of a plan
 
 -- as the code cuts them out of the stretch
-pub changed-part-up : (up : Bool) (k m : ℕ) (xs : List ℕ) → up ≡ true → changed-part up k m xs ≡ take (m - k) (drop k xs)
-unfolding changed-part
-changed-part-up up k m xs e = rw e (drop-take k m xs)
+drop-min : (k : ℕ) (xs : List ℕ) → drop (min k (length xs)) xs ≡ drop k xs
+drop-min zero xs = let e : min 0 (length xs) ≡ 0 = omega arith in rw e
+drop-min (suc k) [] = let e : min (suc k) 0 ≡ 0 = omega arith in rw e
+drop-min (suc k) (x ∷ xs) = let e : min (suc k) (suc (length xs)) ≡ suc (min k (length xs)) = omega arith in rw e (drop-min k xs)
 
-pub changed-part-down : (up : Bool) (k m : ℕ) (xs : List ℕ) → up ≡ false → changed-part up k m xs ≡ take k xs
+pub changed-part-up :
+    (up : Bool) (k m i j : ℕ) (xs : List ℕ) → up ≡ true → j ≡ min m (length xs) → i ≡ min k j → changed-part up k m xs ≡ take (j - i) (drop i xs)
 unfolding changed-part
-changed-part-down up k m xs e = rw e
+changed-part-up up k m i j xs e ej ei =
+    let long : length (take j xs) ≡ j = length-take-le j xs (omega arith) in
+    let at : min k (length (take j xs)) ≡ i = omega arith in
+    let cut : take m xs ≡ take j xs = sym (take-min m xs) ∙ ap (λ (l : ℕ). take l xs) (sym ej) in
+    rw e (ap (drop k) cut ∙ sym (drop-min k (take j xs)) ∙ ap (λ (l : ℕ). drop l (take j xs)) at ∙ drop-take i j xs)
+
+pub changed-part-down : (up : Bool) (k m i : ℕ) (xs : List ℕ) → up ≡ false → i ≡ min k (length xs) → changed-part up k m xs ≡ take i xs
+unfolding changed-part
+changed-part-down up k m i xs e ei = rw e (sym (take-min k xs) ∙ ap (λ (l : ℕ). take l xs) (sym ei))
+
+-- a set has no more radios than a site may have
+pub length-in-order : (xs : List ℕ) → length (in-order xs) ≤ max-radios
+unfolding in-order
+length-in-order xs =
+    let f : ℕ → Bool = λ v. member v xs in
+    omega (arith, length-filter f (range 0 max-radios), count-le-length f (range 0 max-radios), length-range 0 max-radios)
 
 -- ---- a plan that fits
 
@@ -145,6 +167,10 @@ fits-counted-step false (suc k) = record { sfits = omega arith }
 -- a step held in eight bits is the step
 pub counted-step-held : (up : Bool) (k : ℕ) (z : ℤ) → z ≡ counted-step up k → toZ w8 (ofZ w8 z) ≡ counted-step up k
 counted-step-held up k z e = ap (λ (y : ℤ). toZ w8 (ofZ w8 y)) e ∙ toZ-ofZ (fits-counted-step up k)
+
+pub stepped-held :
+    (up : Bool) (k : ℕ) (z : ℤ) (vs ns new : List ℕ) → z ≡ counted-step up k → new ≡ all-stepped vs (toZ w8 (ofZ w8 z)) ns → new ≡ all-stepped vs z ns
+stepped-held up k z vs ns new e h = h ∙ ap (λ (y : ℤ). all-stepped vs y ns) (counted-step-held up k z e ∙ sym e)
 
 -- ---- the call, on plain values
 

@@ -4,6 +4,7 @@
 --   in-order xs          the radios of the list xs, ascending, each once
 --   counted-step up k    document 01's step, by the count of changed radios
 --   plan-fits            a plan that the stretch and the order are long enough for
+--   Reported             what a plan would change, listed
 --   Applied              what is written of a plan that fits
 --   Unapplied            what is written of any other: nothing
 --   Apply-contract       one or the other
@@ -38,6 +39,12 @@ counted-step up (suc k) = cond up (pos 1) (negsuc 0)
 -- `stretch` and `order` are lengths
 unfoldable pub plan-fits : (start size taken stretch order : ℕ) → Bool
 plan-fits start size taken stretch order = leb taken size && (leb size stretch && leb (start + size) order)
+
+pub record Reported (up : Bool) (size taken : ℕ) (stretch answer : List ℕ) (r : Reply) (x : List ℕ) : Type 0 where
+  pub number : r .number ≡ 0
+  pub count : r .count ≡ length (in-order (changed-part up taken size stretch))
+  pub step : r .step ≡ counted-step up (r .count)
+  pub answer-is : x ≡ overwrite (take (length answer) (in-order (changed-part up taken size stretch))) answer
 
 -- the two link bits, the numbers of the changed radios, the stretch of the order, the answer table's front
 pub record Applied (up : Bool) (a b start size taken : ℕ) (stretch : List ℕ) (t : Tables) (answer : List ℕ) (r : Reply) (v : Tables) (x : List ℕ) : Type 0 where

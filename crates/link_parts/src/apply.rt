@@ -5,7 +5,7 @@ ghost use lib.ListN.{length, take};
 ghost use lib.Seq.{paste};
 ghost use Rattle.lists.specs.Lists.{overwrite};
 ghost use Rattle.mesh.specs.Tables.{lent};
-ghost use Rattle.link_parts.specs.Changes.{changed-part, all-marked, in-order, counted-step, plan-fits, Apply-contract};
+ghost use Rattle.link_parts.specs.Changes.{changed-part, all-marked, in-order, counted-step, plan-fits, Reported, Apply-contract};
 use calls::Reply;
 use mesh::Site;
 use tables::fill;
@@ -91,18 +91,34 @@ fn put_stretch(order: &mut [u16], start: usize, size: usize, taken: usize, stret
 }
 
 // Writes the changed radios of a plan into the answer table, ascending, and comes back with their count; later entries keep
-// their content.
+// their content. A stretch that is shorter than the plan says has what it has.
 fn list_changed(up: bool, taken: usize, size: usize, stretch: &[u16], answer: &mut [u16]) -> u32
-    requires { ⌜ (taken ≤ size) × (size ≤ length (now stretch)) ⌝ }
     ensures counted { λ r. ⌜ r ≡ length (in-order (changed-part up taken size (now (stretch .entry)))) ⌝ }
     ensures listed { λ _. ⌜ now (answer .exit)
         ≡ overwrite (take (length (now (answer .entry))) (in-order (changed-part up taken size (now (stretch .entry)))))
         (now (answer .entry)) ⌝ }
 {
     if up {
-        return list_ascending(&stretch[taken..size], answer);
+        let end = fill::least(size, stretch.len());
+        let start = fill::least(taken, end);
+        return list_ascending(&stretch[start..end], answer);
     }
-    list_ascending(&stretch[..taken], answer)
+    let end = fill::least(taken, stretch.len());
+    list_ascending(&stretch[..end], answer)
+}
+
+// What a plan would change: the changed radios stand in front of the answer table, ascending, and the reply tells their count and
+// step; later entries keep their content.
+pub fn report(up: bool, plan: Plan, stretch: &[u16], answer: &mut [u16]) -> Reply
+    ensures { λ r. ⌜ Reported up (plan .size) (plan .taken) (now (stretch .entry)) (now (answer .entry)) r (now (answer .exit)) ⌝ }
+{
+    let count = list_changed(up, plan.taken, plan.size, stretch, answer);
+    let step = step_of(up, count);
+    Reply {
+        number: 0,
+        step,
+        count,
+    }
 }
 
 // Writes a plan into the tables: the link, the changed numbers, the stretch. The answer table gets the changed radios,
@@ -131,13 +147,8 @@ pub fn apply(
         };
     }
     rows::put_link(links, up, a, b);
-    let count = list_changed(up, plan.taken, plan.size, stretch, answer);
-    let step = step_of(up, count);
-    steps::step_numbers(numbers, answer, count, step);
+    let reply = report(up, plan, stretch, answer);
+    steps::step_numbers(numbers, answer, reply.count, reply.step);
     put_stretch(order, plan.start, plan.size, plan.taken, stretch);
-    Reply {
-        number: 0,
-        step,
-        count,
-    }
+    reply
 }

@@ -137,7 +137,7 @@ module _ (up : Bool) (n a b : ℕ) (t : Tables) (answer : List ℕ) (ok : Applic
       let fits : start + size ≤ length (t .order) = omega (arith, plan .fits) in
       rw (le-leb taken size (plan .taken-fits), le-leb size (length stretch) (plan .long), le-leb (start + size) (length (t .order)) fits)
 
-  in-order-planned : in-order (changed-part up taken size stretch) ≡ cs
+  pub in-order-planned : in-order (changed-part up taken size stretch) ≡ cs
   unfolding graph-in
   in-order-planned = in-order-changed up a b g (changed-part up taken size stretch) (ok .small) entries-planned (plan .changed-is)
 
@@ -145,7 +145,7 @@ module _ (up : Bool) (n a b : ℕ) (t : Tables) (answer : List ℕ) (ok : Applic
   unfolding new-order with-stretch
   order-planned = rw (← plan .start-is, ← plan .size-is, ← plan .laid) (append-assoc (take start (t .order)) (take size stretch) (drop (start + size) (t .order)))
 
-  fits-answer : take (length answer) cs ≡ cs
+  pub fits-answer : take (length answer) cs ≡ cs
   unfolding graph-in
   fits-answer = take-all (length answer) cs (omega (arith, ok .room, length-changed up a b g))
 

@@ -1,6 +1,7 @@
 -- The questions of a link call, asked of the tables: what each outcome of the code gives, on plain values.
 -- In order: sound tables, the number of each outcome, what a plan is made from, each outcome, what a plan is applied to.
 use mathlib.Core.Path.{_≡_, refl, sym, ap, subst, _∙_}
+use mathlib.Core.Logic.{_⊎_, inl, inr}
 use mathlib.Core.Bool.{Bool, true, false, _&&_}
 use mathlib.Core.List.{List}
 use Prim.Native.Nat.{ℕ, _≤_, _<_, min}
@@ -8,21 +9,23 @@ use native.Mathlib.Omega.{arith}
 use native.Mathlib.Nat.{le-trans, le-of-eq}
 use lib.Dec.{leb}
 use lib.ListN.{length, getD}
+use borrow.Author.Tests.{leb-true, leb-false, le-leb, lt-leb}
 use Rattle.mesh.specs.Limits.{max-radios, max-neighbours}
 use Rattle.lists.specs.Lists.{range}
 use Rattle.mesh.specs.Graph.{Graph, radios, linked, neighbours-in}
 use Rattle.mesh.specs.Cores.{number, numbers}
 use Rattle.mesh.specs.Tables.{Tables, graph-in}
 use Rattle.mesh.specs.Sound.{number-in, rows-proper, sound}
+use Rattle.lists.proofs.Tests.{bool-cases}
 use Rattle.lists.proofs.Range.{range-in}
 use Rattle.lists.proofs.Filter.{length-filter, filter-ext}
 use Rattle.mesh.proofs.Cores.Peeling.{getD-numbers}
 use Rattle.mesh.proofs.Tables.Rows.{few-of}
 use Rattle.mesh.proofs.Tables.ReadBack.{proper-graph-in, ascending-graph-in, degree-graph-in}
 use Rattle.mesh.proofs.Tables.Soundness.{Right, sound-right}
-use Rattle.calls.specs.Questions.{answer-length, lengths-of, lent-refusal, site-refusal, ends-refusal, link-refusal}
-use Rattle.calls.proofs.QuestionLaws.{ask-no, true-size-good, true-site-lengths, true-answer-length}
-use Rattle.calls.proofs.ChainLaws.{Lent-good, lent-zero, lent-yes, lent-later, site-yes, ends-zero}
+use Rattle.calls.specs.Questions.{ask, Lengths, lengths-of, size-good, site-lengths, answer-length, lent-refusal, site-refusal, ends-refusal, link-refusal}
+use Rattle.calls.proofs.QuestionLaws.{ask-no, ask-later, size-good-true, true-size-good, true-site-lengths, answer-length-true, true-answer-length}
+use Rattle.calls.proofs.ChainLaws.{Lent-good, lent-zero, lent-yes, lent-later, site-yes, ends-zero, link-zero}
 use Rattle.soundness.specs.Checks.{examinable, Examined}
 use Rattle.soundness.proofs.HighCounts.{examined-high}
 use Rattle.links.specs.Plans.{Ready}
@@ -104,8 +107,8 @@ module _ (up : Bool) (n a b : ℕ) (t : Tables) (w : ℕ) where
           allowed = ends-zero max-neighbours up a b g z;
           places-length = omega (arith, good .most, x .places-long);
           highs-length = omega (arith, good .most, x .highs-long);
-          placed = x .placed refl .at;
-          counted = λ v l. examined-high x v l ∙ high-numbers g (t .numbers) (right .core-numbers) v l;
+          placed = λ i l low high. x .placed refl .at i l;
+          counted = λ v l e. examined-high x v l ∙ high-numbers g (t .numbers) (right .core-numbers) v l;
         }
 
 -- ---- each outcome
@@ -140,26 +143,44 @@ module _ (up : Bool) (n a b : ℕ) (t : Tables) (w : ℕ) where
           ready = λ h. ready-asked up n a b t w good ps qs hs is lp lh k (subst (Examined n t ps qs hs is) e x) (sym z ∙ h);
         }
 
--- ---- what it is applied to
+-- ---- what a plan is applied to
 
-pub ready-applicable : (up : Bool) (n a b : ℕ) (t : Tables) (places highs answer : List ℕ) → Ready up n a b t places highs → n ≤ length answer
-    → Applicable up n a b t answer
-unfolding graph-in
-ready-applicable up n a b t places highs answer ready room =
+answer-room : (n w m : ℕ) → n ≤ m → answer-length n (min w m) ≡ answer-length n w
+unfolding answer-length
+answer-room n w m k = go (bool-cases (leb n w))
+  where
+    go : (leb n w ≡ true) ⊎ (leb n w ≡ false) → leb n (min w m) ≡ leb n w
+    go (inl e) = le-leb n (min w m) (omega (arith, leb-true n w e)) ∙ sym e
+    go (inr e) = lt-leb n (min w m) (omega (arith, leb-false n w e)) ∙ sym e
+
+-- a lent stretch for as many radios as a site may have changes no answer
+pub link-room : (up : Bool) (n a b : ℕ) (l : Lengths) (w m : ℕ) (sound : Bool) (g : Graph) → max-radios ≤ m
+    → link-refusal up n a b l (min w m) sound g ≡ link-refusal up n a b l w sound g
+unfolding link-refusal site-refusal lent-refusal
+link-room up n a b l w m sound g h =
+    ask-later 1 (size-good n) _ _ (λ p. let e : answer-length n (min w m) ≡ answer-length n w = answer-room n w m (omega (arith, size-good-true n p .1)) in rw e)
+
+-- what the questions say of the tables where none got "no"
+pub asked-applicable : (up : Bool) (n a b : ℕ) (t : Tables) (answer : List ℕ)
+    → link-refusal up n a b (lengths-of t) (length answer) (sound n t) (graph-in n (t .links)) ≡ 0 → Applicable up n a b t answer
+unfolding graph-in lengths-of
+asked-applicable up n a b t answer e =
     let ts = t .links in
-    let right = right-of n t (ready .numbers-length) (ready .is-sound) in
+    let good = link-zero up a b (lengths-of t) (length answer) (sound n t) (graph-in n ts) e in
+    let lent = good .0 .lent in
+    let right = right-of n t (lent .lengths .numbers) (good .0 .is-sound) in
     let rows = proper-rows max-neighbours n ts (right .rows) in
     record {
-      small = ready .small;
+      small = lent .most;
       valid = record {
         links-proper = proper-graph-in n ts;
         links-ascending = ascending-graph-in n ts;
         degrees = λ v l.
-            le-trans (le-of-eq (degree-graph-in n ts (ready .small) (rows .symmetric-rows) (rows .irreflexive-rows) (rows .within-rows) v l))
+            le-trans (le-of-eq (degree-graph-in n ts (lent .most) (rows .symmetric-rows) (rows .irreflexive-rows) (rows .within-rows) v l))
             (few-of max-neighbours n ts (rows .few-rows) v l);
         k-order = right .k-order;
       };
       numbered = right .core-numbers;
-      allowed = ready .allowed;
-      room = room;
+      allowed = good .1;
+      room = answer-length-true n (length answer) (lent .further);
     }

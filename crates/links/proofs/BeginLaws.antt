@@ -44,19 +44,19 @@ module _ (u : Bool) (k : ℕ) (ns : List ℕ) (v : ℕ) (cs : List ℕ) where
   getD-end-same l e = rw (eq-eqb (getD ns v 0) k e) (getD-set-same cs v (cond u (getD cs v 0 + 1) (getD cs v 0 - 1)) 0 l)
 
 module _ {u : Bool} {a b k start size : ℕ} {ns os cs : List ℕ} (h : Begin-ready u a b k start size ns os cs) where
-  pub begin-a : (a < length ns) × (a < length cs) × (u ≡ false → getD ns a 0 ≡ k → 1 ≤ getD cs a 0) × (getD cs a 0 < 255)
+  pub begin-a : (a < length ns) × (a < length cs) × (u ≡ false → getD ns a 0 ≡ k → 1 ≤ getD cs a 0) × (getD ns a 0 ≡ k → getD cs a 0 < 255)
   begin-a = (h .known-a .0, h .known-a .1, h .above-zero a (inl refl), h .small a (h .known-a .0))
 
   module _ (cs1 : List ℕ) (e : cs1 ≡ end-counted u k ns a cs) where
     kept : getD cs1 b 0 ≡ getD cs b 0
     kept = ap (λ (xs : List ℕ). getD xs b 0) e ∙ getD-end-other u k ns a cs b (λ q. h .differ (sym q))
 
-    pub begin-b : (b < length ns) × (b < length cs1) × (u ≡ false → getD ns b 0 ≡ k → 1 ≤ getD cs1 b 0) × (getD cs1 b 0 < 255)
+    pub begin-b : (b < length ns) × (b < length cs1) × (u ≡ false → getD ns b 0 ≡ k → 1 ≤ getD cs1 b 0) × (getD ns b 0 ≡ k → getD cs1 b 0 < 255)
     begin-b = (
       h .known-b .0,
       omega (arith, h .known-b .1, ap length e, length-end-counted u k ns a cs),
       λ d q. omega (arith, h .above-zero b (inr refl) d q, kept),
-      omega (arith, h .small b (h .known-b .0), kept),
+      λ q. omega (arith, h .small b (h .known-b .0) q, kept),
     )
 
     pub begin-done : (cs2 fs2 : List ℕ) (m : ℕ) (ps fs : List ℕ) → cs2 ≡ end-counted u k ns b cs1 → fs2 ≡ places-fitting os cs2 m ps fs

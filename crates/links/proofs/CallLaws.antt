@@ -1,8 +1,8 @@
--- A link call meets its contract, on plain values: refused, and accepted. q is the refusal number of its questions.
+-- A link call meets its contract, on plain values: what a plan is made from, then the call refused and accepted.
 use mathlib.Core.Path.{_≡_, refl, sym, subst, _∙_}
 use mathlib.Core.Bool.{Bool}
 use mathlib.Core.List.{List}
-use Prim.Native.Nat.{ℕ, _≤_}
+use Prim.Native.Nat.{ℕ, _≤_, min}
 use native.Mathlib.Omega.{arith}
 use lib.IntN.{pos}
 use lib.ListN.{length}
@@ -15,40 +15,69 @@ use Rattle.calls.specs.declared.Reply.{Reply}
 use Rattle.calls.proofs.QuestionLaws.{answer-length-true}
 use Rattle.calls.proofs.ContractLaws.{by-accepted, by-refused}
 use Rattle.calls.proofs.ChainLaws.{site-zero}
-use Rattle.links.specs.Plans.{Ready}
-use Rattle.links.specs.Asked.{Asked}
+use Rattle.link_parts.specs.Changes.{Apply-contract}
+use Rattle.links.specs.Plans.{Ready, Planned}
+use Rattle.links.specs.Asked.{Asked, Plan-contract}
+use Rattle.links.proofs.Asking.{link-room, asked-applicable}
+use Rattle.links.proofs.Applied.{applied-accepted}
 
-module _ (up : Bool) (n a b : ℕ) (t : Tables) (w places highs : List ℕ) (q : ℕ) (asked : Asked up n a b t (length w) places highs q) where
+-- ---- the plan: q is the refusal number of its questions, room the shorter of the answer table and the lent stretch
+
+module _ (up : Bool) (n a b : ℕ) (t : Tables) (w : ℕ) (lent : List ℕ) (room : ℕ) (least : room ≡ min w (length lent)) (places highs : List ℕ) (q : ℕ)
+    (asked : Asked up n a b t room places highs q) (yes : q ≡ 0) where
+  ready : Ready up n a b t places highs
+  ready = asked .ready yes
+
+  -- the order is as long as the site has radios
+  pub plan-ready : Ready up (length (t .order)) a b t places highs
+  plan-ready = subst (λ (k : ℕ). Ready up k a b t places highs) (sym (ready .order-length)) ready
+
+  pub stretch-room : length (t .order) ≤ length lent
+  unfolding link-refusal
+  stretch-room =
+      let good = site-zero n (lengths-of t) (answer-length n room) (sound n t) (ends-refusal max-neighbours up n a b (graph-in n (t .links))) (sym (asked .number) ∙ yes) .0 in
+      omega (arith, ready .order-length, answer-length-true n room (good .lent .further))
+
+  pub plan-made : (start size taken : ℕ) (stretch : List ℕ) → Planned up a b (graph-in (length (t .order)) (t .links)) (t .order) start size taken stretch
+      → Plan-contract up n a b t w lent q start size taken stretch
+  plan-made start size taken stretch d = record {
+    number = rw least at (asked .number);
+    planned = λ z. subst (λ (k : ℕ). Planned up a b (graph-in k (t .links)) (t .order) start size taken stretch) (ready .order-length) d;
+    refused = λ h. absurd (h yes);
+  }
+
+pub plan-refused : (up : Bool) (n a b : ℕ) (t : Tables) (w : ℕ) (lent : List ℕ) (room : ℕ) → room ≡ min w (length lent) → (places highs : List ℕ) (q : ℕ)
+    → Asked up n a b t room places highs q → (q ≡ 0 → ⊥) → Plan-contract up n a b t w lent q 0 0 0 lent
+plan-refused up n a b t w lent room least places highs q asked h =
+    record { number = rw least at (asked .number); planned = λ z. absurd (h z); refused = λ k. (refl, refl, refl, refl) }
+
+-- ---- the call: a plan in a stretch for as many radios as a site may have
+
+module _ (up : Bool) (n a b : ℕ) (t : Tables) (w lent : List ℕ) (q start size taken : ℕ) (stretch : List ℕ)
+    (decided : Plan-contract up n a b t (length w) lent q start size taken stretch) (long : max-radios ≤ length lent) where
   abbrev R : ℕ
   R = link-refusal up n a b (lengths-of t) (length w) (sound n t) (graph-in n (t .links))
+
+  pub number-decided : q ≡ R
+  number-decided = decided .number ∙ link-room up n a b (lengths-of t) (length w) (length lent) (sound n t) (graph-in n (t .links)) long
 
   -- the tables and the answer table are as they were
   pub link-refused : (q ≡ 0 → ⊥) → (r : Reply) → r .number ≡ q → r .step ≡ pos 0 → r .count ≡ 0 → Link-contract up n a b t w r t w
   unfolding Link-contract
   link-refused h r e s c =
-      by-refused R (Link-accepted up a b (graph-in n (t .links)) t w r t w) (λ p. Link-refused p t w r t w) (λ z. h (asked .number ∙ z))
-      (record { number = e ∙ asked .number; step = s; count = c; links = refl; numbers = refl; order = refl; answer = refl })
+      by-refused R (Link-accepted up a b (graph-in n (t .links)) t w r t w) (λ p. Link-refused p t w r t w) (λ z. h (number-decided ∙ z))
+      (record { number = e ∙ number-decided; step = s; count = c; links = refl; numbers = refl; order = refl; answer = refl })
 
-  module _ (yes : q ≡ 0) where
-    ready : Ready up n a b t places highs
-    ready = asked .ready yes
+  pub link-applied : q ≡ 0 → (r : Reply) (v : Tables) (x : List ℕ) → Apply-contract up a b start size taken stretch t w r v x
+      → Link-accepted up a b (graph-in n (t .links)) t w r v x
+  unfolding link-refusal lengths-of
+  link-applied z r v x d =
+      let zero : R ≡ 0 = sym number-decided ∙ z in
+      let good = site-zero n (lengths-of t) (answer-length n (length w)) (sound n t) (ends-refusal max-neighbours up n a b (graph-in n (t .links))) zero .0 in
+      applied-accepted up n a b t w (asked-applicable up n a b t w zero) start size taken stretch (decided .planned z)
+      (omega (arith, good .lent .lengths .order)) r v x d
 
-    -- the order is as long as the site has radios
-    pub link-ready : Ready up (length (t .order)) a b t places highs
-    link-ready = subst (λ (m : ℕ). Ready up m a b t places highs) (sym (ready .order-length)) ready
-
-    pub order-fits : length (t .order) ≤ max-radios
-    order-fits = omega (arith, ready .order-length, ready .small)
-
-    pub answer-fits : length (t .order) ≤ length w
-    unfolding link-refusal
-    answer-fits =
-        let good = site-zero n (lengths-of t) (answer-length n (length w)) (sound n t) (ends-refusal max-neighbours up n a b (graph-in n (t .links))) (sym (asked .number) ∙ yes) .0 in
-        omega (arith, ready .order-length, answer-length-true n (length w) (good .lent .further))
-
-    pub link-accepted : (r : Reply) (v : Tables) (x : List ℕ) → Link-accepted up a b (graph-in (length (t .order)) (t .links)) t w r v x
-        → Link-contract up n a b t w r v x
-    unfolding Link-contract
-    link-accepted r v x d =
-        by-accepted R (λ p. Link-refused p t w r v x) (sym (asked .number) ∙ yes)
-        (subst (λ (m : ℕ). Link-accepted up a b (graph-in m (t .links)) t w r v x) (ready .order-length) d)
+  pub link-accepted : q ≡ 0 → (r : Reply) (v : Tables) (x : List ℕ) → Apply-contract up a b start size taken stretch t w r v x
+      → Link-contract up n a b t w r v x
+  unfolding Link-contract
+  link-accepted z r v x d = by-accepted R (λ p. Link-refused p t w r v x) (sym number-decided ∙ z) (link-applied z r v x d)

@@ -80,12 +80,12 @@ module _ {f : ℕ → ℕ → Bool} {ns os ps : List ℕ} {k start size : ℕ} (
   pub rising-stretch : Rising (λ v. getD ps v 0) (stretch os start size)
   rising-stretch = rising-index (λ v. getD ps v 0) start (stretch os start size) (λ j l.
       let h : j < size = omega (arith, length-stretch os start size (lv .fits)) in
-      ap (λ (x : ℕ). getD ps x 0) (getD-stretch os start size j h) ∙ lv .placed (start + j) (omega (arith, lv .fits)))
+      ap (λ (x : ℕ). getD ps x 0) (getD-stretch os start size j h) ∙ lv .placed (start + j) (omega arith) (omega arith))
 
   pub distinct-stretch : Distinct (stretch os start size)
   distinct-stretch = distinct-index start (stretch os start size) (λ j l.
       let h : j < size = omega (arith, length-stretch os start size (lv .fits)) in
-      ap (λ (x : ℕ). getD ps x 0) (getD-stretch os start size j h) ∙ lv .placed (start + j) (omega (arith, lv .fits)))
+      ap (λ (x : ℕ). getD ps x 0) (getD-stretch os start size j h) ∙ lv .placed (start + j) (omega arith) (omega arith))
     where
       distinct-index : (i : ℕ) (xs : List ℕ) → ((j : ℕ) → j < length xs → getD ps (getD xs j 0) 0 ≡ i + j) → Distinct xs
       distinct-index i [] h = tt

@@ -110,7 +110,7 @@ module _ {f : ℕ → ℕ → Bool} {ns os ps : List ℕ} {k start size : ℕ} (
       taken-level = place-level lv p (there .0) (there .1)
 
       taken-place : place v ≡ p
-      taken-place = lv .placed p taken-below
+      taken-place = lv .placed p (there .0) (there .1)
 
       taken-fits : (member v left && leb (getD cs v 0) m) ≡ true
       taken-fits = sym (h .fitting v taken-level) ∙ ap (marked fs 0) taken-place ∙ first-marked-in fs p first some

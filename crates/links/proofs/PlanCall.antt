@@ -18,7 +18,7 @@ use Rattle.mesh.proofs.Tables.Laws.{marked-replicate}
 use Rattle.links.specs.Plans.{Ready, Planned}
 use Rattle.links.specs.Turns.{ends-counted, places-fitting, Begin-ready}
 use Rattle.links.specs.Peels.{stretch, level-start, level-size, Peel-ready, Peel-done}
-use Rattle.links.proofs.PlanLevel.{a-below, b-below, number-is, level-is, is-level, stretch-fits}
+use Rattle.links.proofs.PlanLevel.{a-below, b-below, number-is, order-radios, level-is, stretch-fits}
 use Rattle.links.proofs.PlanStart.{begin-ready, peel-ready}
 use Rattle.links.proofs.PlanEnd.{plan-end}
 
@@ -63,7 +63,7 @@ module _ {u : Bool} {a b : ℕ} {ts ns os ps cs : List ℕ} (r : Ready u (length
           fits,
           omega (arith, fits, r .small),
           omega (arith, done .fits, stretch-fits r k, r .small),
-          λ p l. omega (arith, is-level r k .radios p l, r .highs-length),
+          λ p l. omega (arith, order-radios r p l, r .highs-length),
         )
 
     pub plan-done : (taken : ℕ) (cs2 list1 list2 : List ℕ) → Peel-done w x y k m ts ns os taken cs2 list1 → length os ≤ length list1

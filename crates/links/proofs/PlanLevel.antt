@@ -105,6 +105,9 @@ module _ {u : Bool} {a b : ℕ} {ts ns os ps cs : List ℕ} (r : Ready u (length
   unfolding graph-in
   b-below = r .allowed .b-radio
 
+  pub order-radios : (p : ℕ) → p < n → getD os p 0 < n
+  order-radios p l = once-below n os is-once (getD os p 0) (in-getD os p l)
+
   pub level-is : min (getD ns a 0) (getD ns b 0) ≡ lower-level g a b
   unfolding lower-level
   level-is = ap₂ min (number-is a a-below) (number-is b b-below)
@@ -161,29 +164,37 @@ module _ {u : Bool} {a b : ℕ} {ts ns os ps cs : List ℕ} (r : Ready u (length
     after-proper : proper (after .n) (after .links) ≡ true
     after-proper = relinked-proper max-neighbours u a b g os is-valid (r .allowed)
 
-    stands-at : (v j : ℕ) → j < size → getD (stretch os start size) j 0 ≡ v
-        → (start ≤ getD ps v 0) × (getD ps v 0 < start + size) × (getD os (getD ps v 0) 0 ≡ v)
-    stands-at v j l e =
-        let is : getD os (start + j) 0 ≡ v = sym (getD-stretch os start size j l) ∙ e in
-        let at : getD ps v 0 ≡ start + j = ap (λ (x : ℕ). getD ps x 0) (sym is) ∙ r .placed (start + j) (omega (arith, stretch-fits)) in
-        (omega arith, omega arith, ap (λ (x : ℕ). getD os x 0) at ∙ is)
-
     linked-past : (v w : ℕ) → n ≤ w → linked after v w ≡ false
     unfolding relinked graph-in
     linked-past v w h = linked-within after after-proper v w h
 
-    pub is-level : Level (linked-after u a b n ts) ns os ps k start size
-    is-level = record {
+    -- k is the lower end's level
+    placed-at : k ≡ min (getD ns a 0) (getD ns b 0) → (p : ℕ) → start ≤ p → p < start + size → getD ps (getD os p 0) 0 ≡ p
+    placed-at ek p low high =
+        let e : k ≡ lower-level g a b = ek ∙ level-is in
+        let s : start ≡ stretch-start g (lower-level g a b) = start-is ∙ ap (stretch-start g) e in
+        let z : size ≡ stretch-length g (lower-level g a b) = size-is ∙ ap (stretch-length g) e in
+        r .placed p (omega (arith, stretch-fits)) (omega arith) (omega arith)
+
+    stands-at : k ≡ min (getD ns a 0) (getD ns b 0) → (v j : ℕ) → j < size → getD (stretch os start size) j 0 ≡ v
+        → (start ≤ getD ps v 0) × (getD ps v 0 < start + size) × (getD os (getD ps v 0) 0 ≡ v)
+    stands-at ek v j l e =
+        let is : getD os (start + j) 0 ≡ v = sym (getD-stretch os start size j l) ∙ e in
+        let at : getD ps v 0 ≡ start + j = ap (λ (x : ℕ). getD ps x 0) (sym is) ∙ placed-at ek (start + j) (omega arith) (omega arith) in
+        (omega arith, omega arith, ap (λ (x : ℕ). getD os x 0) at ∙ is)
+
+    pub is-level : k ≡ min (getD ns a 0) (getD ns b 0) → Level (linked-after u a b n ts) ns os ps k start size
+    is-level ek = record {
       small = r .small;
       numbers-length = r .numbers-length;
       places-length = r .places-length;
       fits = stretch-fits;
-      radios = λ p l. once-below n os is-once (getD os p 0) (in-getD os p l);
-      placed = r .placed;
+      radios = order-radios;
+      placed = placed-at ek;
       numbered = numbered-at;
       stands = λ v l e. (
           let m = getD-of-in v (stretch os start size) (rw stretch-is (filter-in (λ v. eqb (num v) k) os v (once-in n os is-once v l) (eq-eqb (num v) k (sym (number-is v l) ∙ e)))) in
-          stands-at v (m .0) (omega (arith, m .1, length-stretch os start size stretch-fits)) (m .2));
+          stands-at ek v (m .0) (omega (arith, m .1, length-stretch os start size stretch-fits)) (m .2));
       within = λ v w h. past v w h (bool-cases (ltb w n));
       irreflexive = linked-self after after-proper;
       symmetric = linked-sym after;

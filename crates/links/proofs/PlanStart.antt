@@ -1,4 +1,4 @@
--- What a plan starts from: the check's not-lower counts, changed at both ends, count the neighbours after the call among the level
+-- What a plan starts from: the level's not-lower counts, changed at both ends, count the neighbours after the call among the level
 -- and above; the marked places are the ones that fit. So the peel is ready.
 use mathlib.Core.Path.{_≡_, refl, sym, ap, _∙_}
 use mathlib.Core.Logic.{_⊎_, inl, inr}
@@ -13,6 +13,7 @@ use Rattle.mesh.specs.Limits.{max-radios, max-neighbours, row-bytes}
 use Rattle.lists.specs.Lists.{range, count, member, In, Distinct}
 use Rattle.mesh.specs.Graph.{Graph, radios, linked, neighbours-in, relinked}
 use Rattle.mesh.specs.Cores.{number}
+use Rattle.mesh.specs.Levels.{lower-level}
 use Rattle.mesh.specs.Tables.{tables, marked, graph-in}
 use Rattle.lists.proofs.Tests.{bool-cases, and-left, and-both}
 use Rattle.lists.proofs.Member.{in-cases, member-in, in-member}
@@ -30,7 +31,7 @@ use Rattle.links.specs.Peels.{stretch, level-start, level-size, linked-a
 use Rattle.links.proofs.TurnLoops.{length-end-counted, length-places-fitting}
 use Rattle.links.proofs.BeginLaws.{getD-end-other, getD-end-same, marked-fitting}
 use Rattle.links.proofs.LevelLaws.{stretch-stands}
-use Rattle.links.proofs.PlanLevel.{a-below, b-below, is-valid, certified, is-once, number-is, stretch-is, above-is, stretch-fits, stretch-number}
+use Rattle.links.proofs.PlanLevel.{a-below, b-below, is-valid, certified, is-once, number-is, order-radios, level-is, stretch-is, above-is, stretch-fits, stretch-number}
 use Rattle.links.proofs.PlanLevel.{is-level, row-is, row-few}
 
 -- ---- laws of lists
@@ -84,7 +85,10 @@ module _ {u : Bool} {a b : ℕ} {ts ns os ps cs : List ℕ} (r : Ready u (length
       go (inl m) = omega (arith, eqb-true (num v) k (in-filter (λ v. eqb (num v) k) os v m .1))
       go (inr m) = omega (arith, ltb-true k (num v) (in-filter (λ v. ltb k (num v)) os v m .1))
 
-  -- ---- the check's counts
+  -- ---- the counts of the level
+
+  at-level : (v : ℕ) → num v ≡ k → num v ≡ lower-level g a b
+  at-level v e = e ∙ ek ∙ level-is r
 
   counts-high : (v : ℕ) → v < n → num v ≡ k → getD cs v 0 ≡ count (linked g v) zs
   unfolding graph-in
@@ -92,7 +96,7 @@ module _ {u : Bool} {a b : ℕ} {ts ns os ps cs : List ℕ} (r : Ready u (length
       let f : ℕ → Bool = λ w. linked g v w && leb (num v) (num w) in
       omega (
         arith,
-        r .counted v l,
+        r .counted v l (at-level v e),
         neighbours-in-list g v (λ w. leb (num v) (num w)) os (certified r .once),
         ap (count f) cut,
         count-append f (lows num k os) zs,
@@ -209,17 +213,17 @@ module _ {u : Bool} {a b : ℕ} {ts ns os ps cs : List ℕ} (r : Ready u (length
 
   -- ---- before the first turn
 
-  few-high : (v : ℕ) → v < n → getD cs v 0 ≤ max-neighbours
+  few-high : (v : ℕ) → v < n → num v ≡ k → getD cs v 0 ≤ max-neighbours
   unfolding graph-in
-  few-high v l =
-      omega (arith, r .counted v l, neighbours-in-subset g v (λ w. leb (num v) (num w)) (λ w. true) (λ w lw q. refl), degree-in g v, is-valid r .degrees v l)
+  few-high v l e =
+      omega (arith, r .counted v l (at-level v e), neighbours-in-subset g v (λ w. leb (num v) (num w)) (λ w. true) (λ w lw q. refl), degree-in g v, is-valid r .degrees v l)
 
-  linked-high : (v o : ℕ) → v < n → o < n → linked g v o ≡ true → num v ≤ num o → 1 ≤ getD cs v 0
+  linked-high : (v o : ℕ) → v < n → o < n → linked g v o ≡ true → num v ≡ k → num v ≤ num o → 1 ≤ getD cs v 0
   unfolding graph-in neighbours-in radios
-  linked-high v o lv lo h q =
+  linked-high v o lv lo h e q =
       omega (
         arith,
-        r .counted v lv,
+        r .counted v lv (at-level v e),
         count-pos (λ w. linked g v w && leb (num v) (num w)) o (range 0 n) (in-range 0 n o (omega arith) (omega arith))
             (and-both (linked g v o) (leb (num v) (num o)) h (le-leb (num v) (num o) q)),
       )
@@ -230,16 +234,18 @@ module _ {u : Bool} {a b : ℕ} {ts ns os ps cs : List ℕ} (r : Ready u (length
     known-a = (omega (arith, a-below r, r .numbers-length), omega (arith, a-below r, r .highs-length));
     known-b = (omega (arith, b-below r, r .numbers-length), omega (arith, b-below r, r .highs-length));
     above-zero = positive;
-    small = λ v l. omega (arith, few-high v (omega (arith, r .numbers-length)));
+    small = λ v l e. (let h : v < n = omega (arith, r .numbers-length) in omega (arith, few-high v h (sym (number-is r v h) ∙ e)));
     fits = (stretch-fits r k, omega (arith, stretch-fits r k, r .small));
-    radios = λ p l. omega (arith, is-level r k .radios p l, r .highs-length);
+    radios = λ p l. omega (arith, order-radios r p l, r .highs-length);
   }
     where
       positive : (v : ℕ) → (v ≡ a) ⊎ (v ≡ b) → u ≡ false → getD ns v 0 ≡ k → 1 ≤ getD cs v 0
       positive v (inl e) d q =
-          rw e (linked-high a b (a-below r) (b-below r) (r .allowed .state ∙ ap not d) (omega (arith, low-b, number-is r a (a-below r), rw e at q)))
+          let h : num a ≡ k = sym (number-is r a (a-below r)) ∙ rw e at q in
+          rw e (linked-high a b (a-below r) (b-below r) (r .allowed .state ∙ ap not d) h (omega (arith, low-b)))
       positive v (inr e) d q =
-          rw e (linked-high b a (b-below r) (a-below r) (linked-sym g b a ∙ r .allowed .state ∙ ap not d) (omega (arith, low-a, number-is r b (b-below r), rw e at q)))
+          let h : num b ≡ k = sym (number-is r b (b-below r)) ∙ rw e at q in
+          rw e (linked-high b a (b-below r) (a-below r) (linked-sym g b a ∙ r .allowed .state ∙ ap not d) h (omega (arith, low-a)))
 
   module _ (m : ℕ) (fs0 : List ℕ) (long : length fs0 ≡ row-bytes) (zero-row : (q : ℕ) → q < max-radios → marked fs0 0 q ≡ false) where
     abbrev fs1 : List ℕ
@@ -268,14 +274,14 @@ module _ {u : Bool} {a b : ℕ} {ts ns os ps cs : List ℕ} (r : Ready u (length
       where
         fitting : (v : ℕ) → In v (stretch os start size) → marked fs1 0 (getD ps v 0) ≡ (member v (stretch os start size) && leb (getD cs1 v 0) m)
         fitting v i =
-            let s = stretch-stands (is-level r k) v i in
+            let s = stretch-stands (is-level r k ek) v i in
             marks (getD ps v 0) (omega (arith, s .high, stretch-fits r k, r .small))
             ∙ rw (s .entry, in-member (getD ps v 0) (range start size) (in-range start size (getD ps v 0) (s .low) (s .high)), in-member v (stretch os start size) i)
 
     pub peel-ready : (row-room near-room list-room : ℕ) → row-room ≡ row-bytes → near-room ≡ max-neighbours → n ≤ list-room
         → Peel-ready u a b k m ts ns os ps cs1 fs1 row-room near-room list-room
     peel-ready rows nears lists er en el = record {
-      level = is-level r k;
+      level = is-level r k ek;
       differ = r .allowed .differ;
       ends = (a-below r, b-below r);
       links-length = r .links-length;

@@ -1,6 +1,6 @@
 -- What the parts of a link call come back with.
 pub mod Plans
--- the questions
+-- the questions, and a plan by them
 pub mod Asked
 -- the turns of the peel
 pub mod Turns

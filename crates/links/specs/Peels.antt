@@ -43,7 +43,7 @@ pub record Level (f : ℕ → ℕ → Bool) (numbers order places : List ℕ) (k
   pub places-length : length order ≤ length places
   pub fits : start + size ≤ length order
   pub radios : (p : ℕ) → p < length order → getD order p 0 < length order
-  pub placed : (p : ℕ) → p < length order → getD places (getD order p 0) 0 ≡ p
+  pub placed : (p : ℕ) → start ≤ p → p < start + size → getD places (getD order p 0) 0 ≡ p
   pub numbered : (p : ℕ) → start ≤ p → p < start + size → getD numbers (getD order p 0) 0 ≡ k
   pub stands :
       (v : ℕ) → v < length order → getD numbers v 0 ≡ k →

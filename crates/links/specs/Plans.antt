@@ -1,5 +1,5 @@
 -- A planned link call: what the lower end's stretch of the order becomes, and which radios change. Nothing is written yet.
---   Ready          what a plan is made from: sound tables, a call that is allowed, the places and the not-lower counts
+--   Ready          what a plan is made from: sound tables, a call that is allowed, places and not-lower counts of the lower end's level
 --   Planned        what a plan says
 --   Applicable     what a plan is applied to: a valid site with its core numbers, a call that is allowed, room for the answer
 -- Definitions only.
@@ -19,7 +19,8 @@ use Rattle.mesh.specs.Sound.{sound}
 use Rattle.mesh.specs.Valid.{Valid, Allowed}
 use Rattle.link_parts.specs.Changes.{changed-part}
 
--- places and highs are what the soundness check found: where each radio stands, and how many neighbours it has that are not below it
+-- places and highs have where each radio of the lower end's level stands, and how many neighbours it has that are not below it; of
+-- other radios they hold anything. The soundness check finds them for all radios.
 pub record Ready (up : Bool) (n a b : ℕ) (t : Tables) (places highs : List ℕ) : Type 0 where
   pub small : n ≤ max-radios
   pub links-length : length (t .links) ≡ row-bytes * n
@@ -29,9 +30,13 @@ pub record Ready (up : Bool) (n a b : ℕ) (t : Tables) (places highs : List ℕ
   pub allowed : Allowed max-neighbours up a b (graph-in n (t .links))
   pub places-length : n ≤ length places
   pub highs-length : n ≤ length highs
-  pub placed : (i : ℕ) → i < n → getD places (getD (t .order) i 0) 0 ≡ i
+  pub placed :
+      (i : ℕ) → i < n → stretch-start (graph-in n (t .links)) (lower-level (graph-in n (t .links)) a b) ≤ i →
+      i < stretch-start (graph-in n (t .links)) (lower-level (graph-in n (t .links)) a b)
+      + stretch-length (graph-in n (t .links)) (lower-level (graph-in n (t .links)) a b) →
+      getD places (getD (t .order) i 0) 0 ≡ i
   pub counted :
-      (v : ℕ) → v < n →
+      (v : ℕ) → v < n → number (graph-in n (t .links)) v ≡ lower-level (graph-in n (t .links)) a b →
       getD highs v 0
       ≡ neighbours-in (graph-in n (t .links)) v (λ w. leb (number (graph-in n (t .links)) v) (number (graph-in n (t .links)) w))
 

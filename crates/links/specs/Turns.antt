@@ -59,7 +59,7 @@ pub record Begin-ready (up : Bool) (a b k start size : ℕ) (numbers order count
   pub known-a : (a < length numbers) × (a < length counters)
   pub known-b : (b < length numbers) × (b < length counters)
   pub above-zero : (v : ℕ) → (v ≡ a) ⊎ (v ≡ b) → up ≡ false → getD numbers v 0 ≡ k → 1 ≤ getD counters v 0
-  pub small : (v : ℕ) → v < length numbers → getD counters v 0 < 255
+  pub small : (v : ℕ) → v < length numbers → getD numbers v 0 ≡ k → getD counters v 0 < 255
   pub fits : (start + size ≤ length order) × (start + size ≤ max-radios)
   pub radios : (p : ℕ) → p < length order → getD order p 0 < length counters
 

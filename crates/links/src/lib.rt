@@ -1,7 +1,8 @@
 // Link up and link down. A call asks its questions, plans what becomes of the lower end's stretch of the order, and applies the
-// plan: nothing is written before the plan is whole. Refusals leave every table as it was.
+// plan: nothing is written before the plan is whole. Refusals leave every table as it was. The plan alone is to be had too, with the
+// questions asked: it is what asking lists and what committing compares.
 pub mod link;
-mod plan;
+pub mod plan;
 mod questions;
 mod stretch;
 mod turn;

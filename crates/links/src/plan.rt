@@ -1,16 +1,21 @@
-// The plan of a link call: the lower end's stretch laid out anew by one peel, up and down alike. Nothing of the tables is written.
+// The plan of a link call: its questions, and the lower end's stretch laid out anew by one peel, up and down alike. Nothing of the tables
+// is written.
 ghost use mathlib.Core.Path.{_≡_};
 ghost use mathlib.Core.Bool.{false};
 ghost use Prim.Native.Nat.{_≤_, _<_, _+_, min};
 ghost use lib.ListN.{length, getD};
 ghost use Rattle.lists.specs.Lists.{range};
-ghost use Rattle.mesh.specs.Tables.{tables, graph-in};
+ghost use Rattle.mesh.specs.Tables.{tables, graph-in, lent};
 ghost use Rattle.mesh.specs.Peel.{bound};
 ghost use Rattle.links.specs.Turns.{places-fitting, ends-counted, Begin-ready};
 ghost use Rattle.links.specs.Peels.{Peel-ready, Peel-done};
 ghost use Rattle.links.specs.Plans.{Ready, Planned};
+ghost use Rattle.links.specs.Asked.{Plan-contract};
+use super::questions;
 use super::turn::Call;
 use link_parts::apply::Plan;
+use mesh::Site;
+use tables::fill;
 
 // The call at the lower end's level K: the peel takes radios with at most K neighbours going up, K - 1 going down.
 fn call_at(up: bool, a: u32, b: u32, numbers: &[u8]) -> Call
@@ -90,7 +95,7 @@ fn peel(
 {
     let mut taken: usize = 0;
     let mut p = rows::first_marked(fits, 0);
-    while p < mesh::Site::RADIOS {
+    while p < Site::RADIOS {
         let v = order[p as usize];
         list[taken] = v;
         taken += 1;
@@ -113,7 +118,7 @@ fn peel(
 
 // Plans the link a-b going up or down: writes the lower end's stretch, laid out anew, in front of `stretch`; later entries and the
 // counters hold anything.
-pub(crate) fn plan_link(
+fn plan_link(
     up: bool,
     a: u32,
     b: u32,
@@ -131,10 +136,10 @@ pub(crate) fn plan_link(
 {
     let call = call_at(up, a, b, numbers);
     let at = super::stretch::stretch_of(numbers, call.level);
-    let mut fits = [0u8; mesh::Site::ROW_BYTES];
+    let mut fits = [0u8; Site::ROW_BYTES];
     begin(call, at.start, at.size, numbers, order, highs, &mut fits);
-    let mut row = [0u8; mesh::Site::ROW_BYTES];
-    let mut near = [0u16; mesh::Site::NEIGHBOURS as usize];
+    let mut row = [0u8; Site::ROW_BYTES];
+    let mut near = [0u16; Site::NEIGHBOURS as usize];
     let taken = peel(
         call,
         links,
@@ -153,4 +158,66 @@ pub(crate) fn plan_link(
         size: at.size,
         taken,
     }
+}
+
+// A refusal number, and where it is 0 a plan.
+pub struct Decision {
+    pub number: u32,
+    pub plan: Plan,
+}
+
+// Plans the link a-b going up or down: the refusal number of its questions, 1 to 7 or 1 to 6, and at 0 the plan, with the lower end's
+// stretch, laid out anew, in front of `stretch`, whose later entries hold anything. `answer` is the answer table's length; `stretch`
+// must be as long. A refusal leaves `stretch` as it was.
+pub fn plan(
+    up: bool,
+    n: u32,
+    a: u32,
+    b: u32,
+    links: &[u8],
+    numbers: &[u8],
+    order: &[u16],
+    answer: usize,
+    stretch: &mut [u16],
+) -> Decision
+    ensures { λ r. ⌜ Plan-contract up n a b (lent (links .entry) (numbers .entry) (order .entry)) answer (now (stretch .entry))
+        (r .number) (r .plan .start) (r .plan .size) (r .plan .taken) (now (stretch .exit)) ⌝ }
+{
+    let mut places = [0u16; Site::RADIOS as usize];
+    let mut highs = [0u8; Site::RADIOS as usize];
+    let room = fill::least(answer, stretch.len());
+    let number = questions::refusal(
+        up,
+        n,
+        a,
+        b,
+        links,
+        numbers,
+        order,
+        room,
+        &mut places,
+        &mut highs,
+    );
+    if number != 0 {
+        return Decision {
+            number,
+            plan: Plan {
+                start: 0,
+                size: 0,
+                taken: 0,
+            },
+        };
+    }
+    let plan = plan_link(
+        up,
+        a,
+        b,
+        links,
+        numbers,
+        order,
+        &places,
+        &mut highs,
+        stretch,
+    );
+    Decision { number, plan }
 }

@@ -13,7 +13,8 @@ ghost use Rattle.links.specs.Turns.{Lists-neighbours};
 // The counter of v is one more going up and one less going down after, where v is of the level; the others keep theirs.
 pub(crate) fn count_end(up: bool, level: u8, v: usize, numbers: &[u8], counters: &mut [u8])
     requires { ⌜ (v < length (now numbers)) × (v < length (now counters)) ×
-        (up ≡ false → getD (now numbers) v 0 ≡ level → 1 ≤ getD (now counters) v 0) × (getD (now counters) v 0 < 255) ⌝ }
+        (up ≡ false → getD (now numbers) v 0 ≡ level → 1 ≤ getD (now counters) v 0) ×
+        (getD (now numbers) v 0 ≡ level → getD (now counters) v 0 < 255) ⌝ }
     ensures { λ _. ⌜ now (counters .exit) ≡ end-counted up level (now (numbers .entry)) v (now (counters .entry)) ⌝ }
 {
     if numbers[v] == level {

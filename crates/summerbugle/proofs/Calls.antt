@@ -4,6 +4,7 @@ use mathlib.Core.Path.{_≡_}
 use mathlib.Core.Bool.{true, false}
 use Rattle.calls.specs.Contracts.Sites.{Clear-contract, Check-contract}
 use Rattle.calls.specs.Contracts.Links.{Link-contract}
+use Rattle.calls.specs.Contracts.Proposals.{Ask-contract, Commit-contract}
 use Rattle.calls.specs.Contracts.Images.{Read-contract, Write-contract, Block-contract}
 use Rattle.calls.specs.Contracts.Radios.{Number-contract, Neighbours-contract, Linked-contract, First-contract}
 use Rattle.calls.specs.Contracts.Wake.{Later-contract}
@@ -12,7 +13,8 @@ use Rattle.calls.specs.Contracts.Trees.{Tree-contract}
 use Rattle.calls.specs.Contracts.Pages.{Sheet-contract}
 use Rattle.calls.specs.Contracts.Staircase.{Staircase-contract}
 use Rattle.block_reader.specs.Reader.{Stepped, Moved}
-use Rattle.summerbugle.specs.Functions.{Function, number-0, number-1, number-2, tables-1, tables-2, tables-3, lent-0, lent-4, lent-5, lent-6}
+use Rattle.summerbugle.specs.Functions.{Function, number-0, number-1, number-2, step-3, tables-1, tables-2, tables-3, tables-4, lent-0, lent-4, lent-5, lent-6}
+use Rattle.summerbugle.specs.Functions.{lent-7}
 use Rattle.block_reader.proofs.blocks.open as opening
 use Rattle.block_reader.proofs.blocks.open.Symbol as opening-symbol
 use Rattle.block_reader.proofs.blocks.step as stepping
@@ -25,6 +27,14 @@ use Rattle.summerbugle.proofs.sb_link_up as link-up
 use Rattle.summerbugle.proofs.sb_link_up.Symbol as link-up-symbol
 use Rattle.summerbugle.proofs.sb_link_down as link-down
 use Rattle.summerbugle.proofs.sb_link_down.Symbol as link-down-symbol
+use Rattle.summerbugle.proofs.sb_ask_up as ask-up
+use Rattle.summerbugle.proofs.sb_ask_up.Symbol as ask-up-symbol
+use Rattle.summerbugle.proofs.sb_ask_down as ask-down
+use Rattle.summerbugle.proofs.sb_ask_down.Symbol as ask-down-symbol
+use Rattle.summerbugle.proofs.sb_commit_up as commit-up
+use Rattle.summerbugle.proofs.sb_commit_up.Symbol as commit-up-symbol
+use Rattle.summerbugle.proofs.sb_commit_down as commit-down
+use Rattle.summerbugle.proofs.sb_commit_down.Symbol as commit-down-symbol
 use Rattle.summerbugle.proofs.sb_image_read as image-read
 use Rattle.summerbugle.proofs.sb_image_read.Symbol as image-read-symbol
 use Rattle.summerbugle.proofs.sb_check as check
@@ -79,6 +89,42 @@ sb-link-down = record {
   routine = link-down-symbol.routine;
   kept = link-down.ended .kept;
   contract = λ κs a r e. Link-contract false (number-0 a) (number-1 a) (number-2 a) (tables-3 a) (lent-6 a) r (tables-3 e) (lent-6 e);
+}
+
+-- sb_ask_up(n, a, b, links, numbers, order, answer)
+abbrev pub sb-ask-up : Function
+sb-ask-up = record {
+  signature = ask-up.signature;
+  routine = ask-up-symbol.routine;
+  kept = ask-up.ended .kept;
+  contract = λ κs a r e. Ask-contract true (number-0 a) (number-1 a) (number-2 a) (tables-3 a) (lent-6 a) r (lent-6 e);
+}
+
+-- sb_ask_down(n, a, b, links, numbers, order, answer)
+abbrev pub sb-ask-down : Function
+sb-ask-down = record {
+  signature = ask-down.signature;
+  routine = ask-down-symbol.routine;
+  kept = ask-down.ended .kept;
+  contract = λ κs a r e. Ask-contract false (number-0 a) (number-1 a) (number-2 a) (tables-3 a) (lent-6 a) r (lent-6 e);
+}
+
+-- sb_commit_up(n, a, b, step, links, numbers, order, changed)
+abbrev pub sb-commit-up : Function
+sb-commit-up = record {
+  signature = commit-up.signature;
+  routine = commit-up-symbol.routine;
+  kept = commit-up.ended .kept;
+  contract = λ κs a r e. Commit-contract true (number-0 a) (number-1 a) (number-2 a) (step-3 a) (lent-7 a) (tables-4 a) r (tables-4 e);
+}
+
+-- sb_commit_down(n, a, b, step, links, numbers, order, changed)
+abbrev pub sb-commit-down : Function
+sb-commit-down = record {
+  signature = commit-down.signature;
+  routine = commit-down-symbol.routine;
+  kept = commit-down.ended .kept;
+  contract = λ κs a r e. Commit-contract false (number-0 a) (number-1 a) (number-2 a) (step-3 a) (lent-7 a) (tables-4 a) r (tables-4 e);
 }
 
 -- sb_image_read(n, links, numbers, order, image)

@@ -14,7 +14,8 @@ use mathlib.Core.Path.{_≡_, refl}
 use mathlib.Core.Logic.{_↔_, _⊎_}
 use mathlib.Core.Bool.{Bool, true, false}
 use mathlib.Core.List.{List, [], _∷_, _++_}
-use Prim.Native.Nat.{ℕ, _<_}
+use Prim.Native.Nat.{ℕ, _≤_, _<_}
+use lib.IntN.{ℤ}
 use lib.ListN.{length, take}
 use Rattle.lists.specs.Lists.{member, Entries-below}
 use Rattle.mesh.specs.Graph.{Link, Graph, graph}
@@ -29,6 +30,7 @@ use Rattle.calls.specs.Questions.{lengths-of, size-good, site-lengths, image-re
 use Rattle.calls.specs.Contracts.Forms.{Tables-refused, Value-refused, Listing-refused}
 use Rattle.calls.specs.Contracts.Sites.{Clear-contract, Check-contract}
 use Rattle.calls.specs.Contracts.Links.{Link-refused, Link-contract}
+use Rattle.calls.specs.Contracts.Proposals.{Ask-refused, Ask-contract, Commit-refused, Commit-contract}
 use Rattle.calls.specs.Contracts.Images.{Read-contract, Write-contract, Block-none, Block-contract}
 use Rattle.calls.specs.Contracts.Radios.{Number-contract, Neighbours-contract, Linked-contract, First-contract}
 use Rattle.calls.specs.Contracts.Wake.{Later-refused, Later-contract}
@@ -37,20 +39,21 @@ use Rattle.calls.specs.Contracts.Trees.{Tree-refused, Tree-contract}
 use Rattle.calls.specs.Contracts.Pages.{Sheet-contract}
 use Rattle.calls.specs.Contracts.Staircase.{Staircase-contract}
 use Rattle.calls.specs.Outcomes.{clear-outcome, read-outcome, link-outcome, check-outcome, number-outcome, neighbours-outcome, linked-outcome, first-outcome}
-use Rattle.calls.specs.Outcomes.{core-outcome, backbone-outcome, tree-outcome, write-outcome, block-outcome, later-outcome, sheet-outcome, staircase-outcome}
+use Rattle.calls.specs.Outcomes.{core-outcome, backbone-outcome, tree-outcome, write-outcome, block-outcome, later-outcome, sheet-outcome, staircase-outcome, ask-outcome, commit-outcome}
 use Rattle.calls.specs.Results.{Site-right, Link-right, Later-right, Core-listed, Backbone-listed, Tree-listed, Written-right, Read-right, Block-part, Block-end}
-use Rattle.calls.specs.Results.{Image-answered, Sheet-right, Staircase-listed}
+use Rattle.calls.specs.Results.{Image-answered, Sheet-right, Staircase-listed, Ask-right, Commit-right}
 use Rattle.calls.specs.Older.{Older}
-use Rattle.calls.specs.Book.{Call, clearing, reading, linking, Answer, plain, book-after}
-use Rattle.calls.specs.Runs.{answer-of, Does, Event, event, Run, givens, called}
+use Rattle.calls.specs.Book.{Call, clearing, reading, linking, committing, Answer, plain, book-after}
+use Rattle.calls.specs.Runs.{answer-of, replied, Does, Event, event, Run, givens, called}
 use Rattle.calls.specs.Demand.{Start, Demand-3}
 use Rattle.calls.specs.declared.Reply.{Reply}
 use Rattle.calls.specs.declared.Value.{Value}
 use Rattle.calls.specs.declared.Later.{Later}
 use Rattle.calls.specs.declared.Block.{Block}
 use Rattle.summerbugle.specs.Functions.{Promised, Returns, Gives, Leaves-lent, number-0, number-1, number-2, tables-1, tables-2, tables-3, lent-0, lent-4}
-use Rattle.summerbugle.specs.Functions.{lent-6}
+use Rattle.summerbugle.specs.Functions.{step-3, tables-4, lent-6, lent-7}
 use Rattle.summerbugle.proofs.Calls.{sb-clear, sb-link-up, sb-link-down, sb-image-read, sb-check, sb-number, sb-neighbours, sb-linked, sb-first, sb-core}
+use Rattle.summerbugle.proofs.Calls.{sb-ask-up, sb-ask-down, sb-commit-up, sb-commit-down}
 use Rattle.summerbugle.proofs.Calls.{sb-later-of, sb-backbone, sb-tree, sb-staircase, sb-image-write, sb-sheet, sb-image-block, reader-open, reader-step, reader-moved}
 -- for the proof
 use Rattle.mesh.proofs.Cores.Peeling.{number-core, number-unique}
@@ -61,11 +64,14 @@ use Rattle.calls.proofs.Outcomes.{linked-decided, first-decided, core-decided, 
 use Rattle.calls.proofs.Outcomes.{clear-inhabited, link-inhabited, read-inhabited, check-inhabited, number-inhabited, neighbours-inhabited}
 use Rattle.calls.proofs.Outcomes.{linked-inhabited, first-inhabited, core-inhabited, backbone-inhabited, tree-inhabited, write-inhabited, later-inhabited, sheet-inhabited}
 use Rattle.calls.proofs.Outcomes.{staircase-inhabited}
+use Rattle.calls.proofs.Outcomes.{ask-decided, commit-decided, ask-inhabited, commit-inhabited}
+use Rattle.calls.proofs.Refusals.{ask-keeps, commit-keeps}
 use Rattle.calls.proofs.Refusals.{clear-keeps, link-keeps, read-keeps, check-keeps, number-keeps, neighbours-keeps, linked-keeps, first-keeps}
 use Rattle.calls.proofs.Refusals.{core-keeps, backbone-keeps, tree-keeps, write-keeps, block-keeps, later-keeps, sheet-keeps, staircase-keeps}
 use Rattle.forests.proofs.Tree.{staircase-right}
 use Rattle.calls.proofs.Accepted.{check-right, link-right, number-right, later-right, core-right, backbone-right, tree-right-listed, write-right}
-use Rattle.calls.proofs.Accepted.{read-what-was-written, read-right, block-right, sheet-right}
+use Rattle.calls.proofs.Accepted.{ask-right, commit-right, read-what-was-written, read-right, block-right, sheet-right}
+use Rattle.calls.proofs.Proposals.{two-steps, refused-step, commit-iff, commit-number}
 use Rattle.calls.proofs.ImageNumbers.{eleven-iff, read-eleven}
 use Rattle.calls.proofs.Older.{older}
 use Rattle.calls.proofs.Total.{run-total}
@@ -78,6 +84,10 @@ use Rattle.block_reader.proofs.blocks.moved.Met as reader-moved-proof
 use Rattle.summerbugle.proofs.sb_clear.Met as clear-proof
 use Rattle.summerbugle.proofs.sb_link_up.Met as link-up-proof
 use Rattle.summerbugle.proofs.sb_link_down.Met as link-down-proof
+use Rattle.summerbugle.proofs.sb_ask_up.Met as ask-up-proof
+use Rattle.summerbugle.proofs.sb_ask_down.Met as ask-down-proof
+use Rattle.summerbugle.proofs.sb_commit_up.Met as commit-up-proof
+use Rattle.summerbugle.proofs.sb_commit_down.Met as commit-down-proof
 use Rattle.summerbugle.proofs.sb_image_read.Met as image-read-proof
 use Rattle.summerbugle.proofs.sb_check.Met as check-proof
 use Rattle.summerbugle.proofs.sb_number.Met as number-proof
@@ -99,6 +109,10 @@ pub record Calls-promised (M : Type 1) : Type 2 where
   pub clear : Promised sb-clear M
   pub link-up : Promised sb-link-up M
   pub link-down : Promised sb-link-down M
+  pub ask-up : Promised sb-ask-up M
+  pub ask-down : Promised sb-ask-down M
+  pub commit-up : Promised sb-commit-up M
+  pub commit-down : Promised sb-commit-down M
   pub image-read : Promised sb-image-read M
   pub check : Promised sb-check M
   pub number : Promised sb-number M
@@ -124,6 +138,10 @@ pub record Calls-return : Type 2 where
   pub clear : Returns sb-clear
   pub link-up : Returns sb-link-up
   pub link-down : Returns sb-link-down
+  pub ask-up : Returns sb-ask-up
+  pub ask-down : Returns sb-ask-down
+  pub commit-up : Returns sb-commit-up
+  pub commit-down : Returns sb-commit-down
   pub image-read : Returns sb-image-read
   pub check : Returns sb-check
   pub number : Returns sb-number
@@ -149,6 +167,12 @@ pub record Refusals : Type 0 where
   pub link :
       (up : Bool) (n a b : ℕ) (t : Tables) (w : List ℕ) (r : Reply) (v : Tables) (x : List ℕ) → Link-contract up n a b t w r v x →
       (r .number ≡ 0 → ⊥) → Link-refused (r .number) t w r v x
+  pub ask :
+      (up : Bool) (n a b : ℕ) (t : Tables) (w : List ℕ) (r : Reply) (x : List ℕ) → Ask-contract up n a b t w r x → (r .number ≡ 0 → ⊥) →
+      Ask-refused (r .number) w r x
+  pub commit :
+      (up : Bool) (n a b : ℕ) (z : ℤ) (xs : List ℕ) (t : Tables) (r : Reply) (v : Tables) → Commit-contract up n a b z xs t r v →
+      (r .number ≡ 0 → ⊥) → Commit-refused (r .number) t r v
   pub image-read : (n : ℕ) (bs : List ℕ) (t : Tables) (r : ℕ) (v : Tables) → Read-contract n bs t r v → (r ≡ 0 → ⊥) → Tables-refused r r t v
   pub check : (n : ℕ) (t : Tables) (r : Value) → Check-contract n t r → (r .number ≡ 0 → ⊥) → Value-refused (r .number) r
   pub number : (n v : ℕ) (t : Tables) (r : Value) → Number-contract n v t r → (r .number ≡ 0 → ⊥) → Value-refused (r .number) r
@@ -183,6 +207,12 @@ pub record Outcomes : Type 0 where
   pub link :
       (up : Bool) (n a b : ℕ) (t : Tables) (w : List ℕ) (o : Reply × Tables × List ℕ) →
       Link-contract up n a b t w (o .0) (o .1) (o .2) ↔ (o ≡ link-outcome up n a b t w)
+  pub ask :
+      (up : Bool) (n a b : ℕ) (t : Tables) (w : List ℕ) (o : Reply × List ℕ) →
+      Ask-contract up n a b t w (o .0) (o .1) ↔ (o ≡ ask-outcome up n a b t w)
+  pub commit :
+      (up : Bool) (n a b : ℕ) (z : ℤ) (xs : List ℕ) (t : Tables) (o : Reply × Tables) →
+      Commit-contract up n a b z xs t (o .0) (o .1) ↔ (o ≡ commit-outcome up n a b z xs t)
   pub image-read : (n : ℕ) (bs : List ℕ) (t : Tables) (o : ℕ × Tables) → Read-contract n bs t (o .0) (o .1) ↔ (o ≡ read-outcome n bs t)
   pub check : (n : ℕ) (t : Tables) (o : Value) → Check-contract n t o ↔ (o ≡ check-outcome n t)
   pub number : (n v : ℕ) (t : Tables) (o : Value) → Number-contract n v t o ↔ (o ≡ number-outcome n v t)
@@ -213,12 +243,17 @@ pub record Tables-left : Type 0 where
   pub linked : Leaves-lent sb-linked (λ κs. tables-3) (λ κs. tables-3)
   pub first : Leaves-lent sb-first (λ κs. tables-3) (λ κs. tables-3)
   pub later-of : Leaves-lent sb-later-of (λ κs. tables-2) (λ κs. tables-2)
+  pub ask-up : Leaves-lent sb-ask-up (λ κs. tables-3) (λ κs. tables-3)
+  pub ask-down : Leaves-lent sb-ask-down (λ κs. tables-3) (λ κs. tables-3)
   pub core : Leaves-lent sb-core (λ κs. tables-3) (λ κs. tables-3)
   pub backbone : Leaves-lent sb-backbone (λ κs. tables-1) (λ κs. tables-1)
   pub tree : Leaves-lent sb-tree (λ κs. tables-1) (λ κs. tables-1)
   pub staircase : Leaves-lent sb-staircase (λ κs. tables-1) (λ κs. tables-1)
   pub image-write : Leaves-lent sb-image-write (λ κs. tables-1) (λ κs. tables-1)
   pub sheet : Leaves-lent sb-sheet (λ κs. tables-1) (λ κs. tables-1)
+  -- and proposed lists
+  pub commit-up : Leaves-lent sb-commit-up (λ κs. lent-7) (λ κs. lent-7)
+  pub commit-down : Leaves-lent sb-commit-down (λ κs. lent-7) (λ κs. lent-7)
   -- and images
   pub image-read : Leaves-lent sb-image-read (λ κs. lent-4) (λ κs. lent-4)
   pub image-block : Leaves-lent sb-image-block (λ κs. lent-0) (λ κs. lent-0)
@@ -241,6 +276,30 @@ pub record Property-2 : Type 0 where
   pub link :
       (up : Bool) (n a b : ℕ) (t : Tables) (w : List ℕ) (r : Reply) (v : Tables) (x : List ℕ) → Link-contract up n a b t w r v x →
       r .number ≡ 0 → Link-right up n a b t v (r .count) w x
+  -- asking lists exactly the radios whose core number the link would change
+  pub ask :
+      (up : Bool) (n a b : ℕ) (t : Tables) (w : List ℕ) (r : Reply) (x : List ℕ) → Ask-contract up n a b t w r x → r .number ≡ 0 →
+      Ask-right up a b (graph-in n (t .links)) (r .count) w x
+  pub commit :
+      (up : Bool) (n a b : ℕ) (z : ℤ) (xs : List ℕ) (t : Tables) (r : Reply) (v : Tables) → Commit-contract up n a b z xs t r v →
+      r .number ≡ 0 → Commit-right up n a b t v
+  -- a single link call is asking and then, when it is accepted, committing its answer: reply, tables and answer table
+  pub two-steps :
+      (up : Bool) (n a b : ℕ) (t : Tables) (w : List ℕ) (q : Reply) (x : List ℕ) → Ask-contract up n a b t w q x → q .number ≡ 0 →
+      (r : Reply) (v : Tables) → Commit-contract up n a b (q .step) (take (q .count) x) t r v → (r ≡ q) × Link-contract up n a b t w r v x
+  pub refused-step :
+      (up : Bool) (n a b : ℕ) (t : Tables) (w : List ℕ) (q : Reply) (x : List ℕ) → Ask-contract up n a b t w q x → (q .number ≡ 0 → ⊥) →
+      Link-contract up n a b t w q t x
+  -- any proposal, whoever made it and when: committing is accepted exactly if asking now would be, with this step and this list; else
+  -- it is refused by asking's number, and by 16 where asking has none
+  pub commit-iff :
+      (up : Bool) (n a b : ℕ) (t : Tables) (w : List ℕ) (q : Reply) (x : List ℕ) → Ask-contract up n a b t w q x → n ≤ length w →
+      (z : ℤ) (xs : List ℕ) (r : Reply) (v : Tables) → Commit-contract up n a b z xs t r v →
+      (r .number ≡ 0) ↔ ((q .number ≡ 0) × (z ≡ q .step) × (xs ≡ take (q .count) x))
+  pub commit-number :
+      (up : Bool) (n a b : ℕ) (t : Tables) (w : List ℕ) (q : Reply) (x : List ℕ) → Ask-contract up n a b t w q x → n ≤ length w →
+      (z : ℤ) (xs : List ℕ) (r : Reply) (v : Tables) → Commit-contract up n a b z xs t r v →
+      ((q .number ≡ 0 → ⊥) → r .number ≡ q .number) × (q .number ≡ 0 → (r .number ≡ 0 → ⊥) → r .number ≡ 16)
   -- the check's value is 1 exactly for proper rows, core numbers and a k-order
   pub check : (n : ℕ) (t : Tables) (r : Value) → Check-contract n t r → r .number ≡ 0 → (r .value ≡ 1) ↔ Site-right n t
   pub number : (n v : ℕ) (t : Tables) (r : Value) → Number-contract n v t r → r .number ≡ 0 → Core (graph-in n (t .links)) v (r .value)
@@ -295,7 +354,7 @@ pub record Property-2 : Type 0 where
 
 -- ---- property 3
 
--- whatever meets the contract of one of the four calls that write links, numbers and order is a step of a run
+-- whatever meets the contract of one of the calls that write links, numbers and order is a step of a run
 pub record Steps : Type 0 where
   pub clear : Gives sb-clear (λ κs a r e. Does (clearing (number-0 a)) (tables-1 a) (plain r ∷ []) (tables-1 e))
   pub image-read : Gives sb-image-read (λ κs a r e. Does (reading (number-0 a) (lent-4 a)) (tables-1 a) (plain r ∷ []) (tables-1 e))
@@ -305,9 +364,15 @@ pub record Steps : Type 0 where
   pub link-down :
       Gives sb-link-down (λ κs a r e.
       Does (linking false (number-0 a) (number-1 a) (number-2 a) (length (lent-6 a))) (tables-3 a) (answer-of r (lent-6 e) ∷ []) (tables-3 e))
+  pub commit-up :
+      Gives sb-commit-up (λ κs a r e.
+      Does (committing true (number-0 a) (number-1 a) (number-2 a) (step-3 a) (lent-7 a)) (tables-4 a) (replied r ∷ []) (tables-4 e))
+  pub commit-down :
+      Gives sb-commit-down (λ κs a r e.
+      Does (committing false (number-0 a) (number-1 a) (number-2 a) (step-3 a) (lent-7 a)) (tables-4 a) (replied r ∷ []) (tables-4 e))
 
 pub record Property-3 : Type 0 where
-  -- the four calls that write links, numbers and order make steps of runs; the other calls leave these tables (`Tables-left`)
+  -- the calls that write links, numbers and order make steps of runs; the other calls leave these tables (`Tables-left`)
   pub steps : Steps
   -- every list of calls has a run, from any tables
   pub runs : (cs : List Call) (t : Tables) → (es : List Event) × (v : Tables) × Run t es v × (called es ≡ cs)
@@ -335,6 +400,10 @@ calls-promised = record {
   clear = clear-proof.met;
   link-up = link-up-proof.met;
   link-down = link-down-proof.met;
+  ask-up = ask-up-proof.met;
+  ask-down = ask-down-proof.met;
+  commit-up = commit-up-proof.met;
+  commit-down = commit-down-proof.met;
   image-read = image-read-proof.met;
   check = check-proof.met;
   number = number-proof.met;
@@ -359,6 +428,10 @@ calls-return = record {
   clear = returns sb-clear (calls-promised .clear);
   link-up = returns sb-link-up (calls-promised .link-up);
   link-down = returns sb-link-down (calls-promised .link-down);
+  ask-up = returns sb-ask-up (calls-promised .ask-up);
+  ask-down = returns sb-ask-down (calls-promised .ask-down);
+  commit-up = returns sb-commit-up (calls-promised .commit-up);
+  commit-down = returns sb-commit-down (calls-promised .commit-down);
   image-read = returns sb-image-read (calls-promised .image-read);
   check = returns sb-check (calls-promised .check);
   number = returns sb-number (calls-promised .number);
@@ -382,6 +455,8 @@ pub refusals : Refusals
 refusals = record {
   clear = clear-keeps;
   link = link-keeps;
+  ask = ask-keeps;
+  commit = commit-keeps;
   image-read = read-keeps;
   check = check-keeps;
   number = number-keeps;
@@ -402,6 +477,8 @@ pub outcomes : Outcomes
 outcomes = record {
   clear = λ n t. exactly _ _ (clear-inhabited n t) (clear-decided n t);
   link = λ up n a b t w. exactly _ _ (link-inhabited up n a b t w) (link-decided up n a b t w);
+  ask = λ up n a b t w. exactly _ _ (ask-inhabited up n a b t w) (ask-decided up n a b t w);
+  commit = λ up n a b z xs t. exactly _ _ (commit-inhabited up n a b z xs t) (commit-decided up n a b z xs t);
   image-read = λ n bs t. exactly _ _ (read-inhabited n bs t) (read-decided n bs t);
   check = λ n t. exactly _ _ (check-inhabited n t) (check-decided n t);
   number = λ n v t. exactly _ _ (number-inhabited n v t) (number-decided n v t);
@@ -426,12 +503,16 @@ tables-left = record {
   linked = λ κs a last. refl;
   first = λ κs a last. refl;
   later-of = λ κs a last. refl;
+  ask-up = λ κs a last. refl;
+  ask-down = λ κs a last. refl;
   core = λ κs a last. refl;
   backbone = λ κs a last. refl;
   tree = λ κs a last. refl;
   staircase = λ κs a last. refl;
   image-write = λ κs a last. refl;
   sheet = λ κs a last. refl;
+  commit-up = λ κs a last. refl;
+  commit-down = λ κs a last. refl;
   image-read = λ κs a last. refl;
   image-block = λ κs a last. refl;
 }
@@ -440,6 +521,12 @@ pub property-2 : Property-2
 property-2 = record {
   largest-group = λ g v k l. (λ c. number-unique g v k l c, λ e. rw (← e) (number-core g v l));
   link = link-right;
+  ask = ask-right;
+  commit = commit-right;
+  two-steps = two-steps;
+  refused-step = refused-step;
+  commit-iff = commit-iff;
+  commit-number = commit-number;
   check = check-right;
   number = number-right;
   later-of = later-right;
@@ -466,6 +553,8 @@ steps = record {
   image-read = λ κs a r e c. record { result = r; contract = c; answer = refl };
   link-up = λ κs a r e c. record { lent = lent-6 a; long = refl; result = r; table = lent-6 e; contract = c; answer = refl };
   link-down = λ κs a r e c. record { lent = lent-6 a; long = refl; result = r; table = lent-6 e; contract = c; answer = refl };
+  commit-up = λ κs a r e c. record { result = r; contract = c; answer = refl };
+  commit-down = λ κs a r e c. record { result = r; contract = c; answer = refl };
 }
 
 pub property-3 : Property-3

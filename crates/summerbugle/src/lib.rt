@@ -4,6 +4,7 @@ ghost use mathlib.Core.Bool.{true, false};
 ghost use Rattle.mesh.specs.Tables.{lent};
 ghost use Rattle.calls.specs.Contracts.Sites.{Clear-contract, Check-contract};
 ghost use Rattle.calls.specs.Contracts.Links.{Link-contract};
+ghost use Rattle.calls.specs.Contracts.Proposals.{Ask-contract, Commit-contract};
 ghost use Rattle.calls.specs.Contracts.Images.{Read-contract, Write-contract, Block-contract};
 ghost use Rattle.calls.specs.Contracts.Radios.{Number-contract, Neighbours-contract, Linked-contract, First-contract};
 ghost use Rattle.calls.specs.Contracts.Wake.{Later-contract};
@@ -78,6 +79,79 @@ pub extern "C" fn sb_link_down(
         (lent (links .exit) (numbers .exit) (order .exit)) (now (answer .exit)) ⌝ }
 {
     links::link::link(false, n, a, b, links, numbers, order, answer)
+}
+
+// What taking the link between a and b up would change: the step and count that `sb_link_up` would answer now, and the changed radios
+// ascending in front of the answer table, whose later entries keep their content. Refused by 1 to 7: zeros, and the answer table keeps its
+// content.
+#[no_mangle]
+pub extern "C" fn sb_ask_up<'a>(
+    n: u32,
+    a: u32,
+    b: u32,
+    links: &'a [u8],
+    numbers: &'a [u8],
+    order: &'a [u16],
+    answer: &mut [u16],
+) -> Reply
+    ensures { λ r. ⌜ Ask-contract true n a b (lent (links .entry) (numbers .entry) (order .entry)) (now (answer .entry)) r
+        (now (answer .exit)) ⌝ }
+{
+    proposals::ask::ask(true, n, a, b, links, numbers, order, answer)
+}
+
+// What taking the link between a and b down would change: as `sb_ask_up`. Refused by 1 to 6.
+#[no_mangle]
+pub extern "C" fn sb_ask_down<'a>(
+    n: u32,
+    a: u32,
+    b: u32,
+    links: &'a [u8],
+    numbers: &'a [u8],
+    order: &'a [u16],
+    answer: &mut [u16],
+) -> Reply
+    ensures { λ r. ⌜ Ask-contract false n a b (lent (links .entry) (numbers .entry) (order .entry)) (now (answer .entry)) r
+        (now (answer .exit)) ⌝ }
+{
+    proposals::ask::ask(false, n, a, b, links, numbers, order, answer)
+}
+
+// Takes the link between a and b up where `step` and `changed` are exactly what `sb_ask_up` would give now. Accepted: step and count as
+// `sb_link_up` answers them. Refused by 1 to 7 and 16: zeros, and every table keeps its content.
+#[no_mangle]
+pub extern "C" fn sb_commit_up(
+    n: u32,
+    a: u32,
+    b: u32,
+    step: i8,
+    links: &mut [u8],
+    numbers: &mut [u8],
+    order: &mut [u16],
+    changed: &[u16],
+) -> Reply
+    ensures { λ r. ⌜ Commit-contract true n a b step (now (changed .entry)) (lent (links .entry) (numbers .entry) (order .entry)) r
+        (lent (links .exit) (numbers .exit) (order .exit)) ⌝ }
+{
+    proposals::commit::commit(true, n, a, b, step, links, numbers, order, changed)
+}
+
+// Takes the link between a and b down: as `sb_commit_up`, with what `sb_ask_down` would give now. Refused by 1 to 6 and 16.
+#[no_mangle]
+pub extern "C" fn sb_commit_down(
+    n: u32,
+    a: u32,
+    b: u32,
+    step: i8,
+    links: &mut [u8],
+    numbers: &mut [u8],
+    order: &mut [u16],
+    changed: &[u16],
+) -> Reply
+    ensures { λ r. ⌜ Commit-contract false n a b step (now (changed .entry)) (lent (links .entry) (numbers .entry) (order .entry)) r
+        (lent (links .exit) (numbers .exit) (order .exit)) ⌝ }
+{
+    proposals::commit::commit(false, n, a, b, step, links, numbers, order, changed)
 }
 
 // The number of radio v. Refused by 1 to 4: then the value is 0.

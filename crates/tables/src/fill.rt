@@ -87,6 +87,23 @@ pub fn same8(a: &[u8], b: &[u8]) -> bool
     true
 }
 
+// Whether both tables have the same 16-bit entries, and as many. It stops at the first difference.
+pub fn same16(a: &[u16], b: &[u16]) -> bool
+    ensures { λ r. ⌜ r ≡ same (now (a .entry)) (now (b .entry)) ⌝ }
+{
+    if a.len() != b.len() {
+        return false;
+    }
+    let mut i: usize = 0;
+    while i < a.len() {
+        if a[i] != b[i] {
+            return false;
+        }
+        i += 1;
+    }
+    true
+}
+
 // Writes x at a place of the list; past the list nothing changes.
 pub fn put16(list: &mut [u16], at: usize, x: u16)
     ensures { λ _. ⌜ now (list .exit) ≡ set (now (list .entry)) at x ⌝ }

@@ -23,7 +23,7 @@ const CORE: u32 = 8;
 
 const BACKBONE: u32 = 9;
 
-const TREE: u32 = 10;
+pub const TREE: u32 = 10;
 
 pub const IMAGE_WRITE: u32 = 11;
 
@@ -36,6 +36,14 @@ const LATER_OF: u32 = 14;
 pub const SHEET: u32 = 15;
 
 const STAIRCASE: u32 = 16;
+
+pub const ASK_UP: u32 = 17;
+
+pub const ASK_DOWN: u32 = 18;
+
+const COMMIT_UP: u32 = 19;
+
+const COMMIT_DOWN: u32 = 20;
 
 // A question about a site, which writes no table.
 fn ask<'a>(call: Call, links: &'a [u8], numbers: &'a [u8], order: &'a [u16]) {
@@ -105,6 +113,77 @@ fn stair<'a>(call: Call, links: &'a [u8], numbers: &'a [u8], order: &'a [u16], f
     }
 }
 
+// Asks what a link call would change. The proposal is kept in the fields of the nodes, which later calls but these leave: `answer`
+// entries of them are lent.
+fn propose<'a>(
+    call: Call,
+    links: &'a [u8],
+    numbers: &'a [u8],
+    order: &'a [u16],
+    fields: &mut [u16],
+) {
+    let k = tables::fill::least(call.answer, fields.len());
+    if call.kind == ASK_UP {
+        let up = summerbugle::sb_ask_up(
+            call.n,
+            call.a,
+            call.b,
+            links,
+            numbers,
+            order,
+            &mut fields[..k],
+        );
+        say::reply(b"ask-up", up);
+        return;
+    }
+    if call.kind == ASK_DOWN {
+        let down = summerbugle::sb_ask_down(
+            call.n,
+            call.a,
+            call.b,
+            links,
+            numbers,
+            order,
+            &mut fields[..k],
+        );
+        say::reply(b"ask-down", down);
+    }
+}
+
+// Commits a proposal: the first `answer` entries of the fields, and as its step the lowest byte of `room`.
+fn commit(call: Call, links: &mut [u8], numbers: &mut [u8], order: &mut [u16], fields: &[u16]) {
+    let k = tables::fill::least(call.answer, fields.len());
+    let step = (call.room % 256) as u8 as i8;
+    let list = &fields[..k];
+    if call.kind == COMMIT_UP {
+        let up = summerbugle::sb_commit_up(
+            call.n,
+            call.a,
+            call.b,
+            step,
+            links,
+            numbers,
+            order,
+            list,
+        );
+        say::reply(b"commit-up", up);
+        return;
+    }
+    if call.kind == COMMIT_DOWN {
+        let down = summerbugle::sb_commit_down(
+            call.n,
+            call.a,
+            call.b,
+            step,
+            links,
+            numbers,
+            order,
+            list,
+        );
+        say::reply(b"commit-down", down);
+    }
+}
+
 // A call that takes a link up or down.
 fn link(call: Call, links: &mut [u8], numbers: &mut [u8], order: &mut [u16], answer: &mut [u16]) {
     if call.kind == LINK_UP {
@@ -162,6 +241,7 @@ fn look<'a>(
     ask(call, links, numbers, order);
     list(call, links, numbers, order, answer, fields);
     stair(call, links, numbers, order, fields);
+    propose(call, links, numbers, order, fields);
     store(call, links, numbers, order, buffer);
 }
 
@@ -177,5 +257,6 @@ pub fn put(
 ) {
     look(call, links, numbers, order, answer, fields, buffer);
     link(call, links, numbers, order, answer);
+    commit(call, links, numbers, order, fields);
     set(call, links, numbers, order, buffer);
 }

@@ -28,23 +28,24 @@ pub type Fields = [u16; asking::FIELDS];
 
 pub type Buffer = [u8; BUFFER];
 
-// What answer table and nodes hold before each call, and the buffer before an image or a page is written: no radio, level or name.
+// What the answer table holds before each call, the nodes before a tree or a proposal is, and the buffer before an image or a page is written: no
+// radio, level or name.
 pub const KEPT: u16 = 600;
 
 const BYTE: u8 = 165;
 
 // What the host does to its own tables, by the number that the file gives each, after the calls.
-const SPOIL_LINKS: u32 = 17;
+const SPOIL_LINKS: u32 = 21;
 
-const SPOIL_NUMBERS: u32 = 18;
+const SPOIL_NUMBERS: u32 = 22;
 
-const SPOIL_ORDER: u32 = 19;
+const SPOIL_ORDER: u32 = 23;
 
-const SPOIL_ANSWER: u32 = 20;
+const SPOIL_ANSWER: u32 = 24;
 
-const SPOIL_FIELDS: u32 = 21;
+const SPOIL_FIELDS: u32 = 25;
 
-const SPOIL_BUFFER: u32 = 22;
+const SPOIL_BUFFER: u32 = 26;
 
 // The bits to flip in a table: none where another one is spoiled.
 fn bits(call: Call, kind: u32) -> u32 {
@@ -123,7 +124,12 @@ fn end_line(h: u64) {
 // Fills what a call is to write.
 fn refill(call: Call, answer: &mut Answer, fields: &mut Fields, buffer: &mut Buffer) {
     tables::fill::fill16(answer, KEPT);
-    tables::fill::fill16(fields, KEPT);
+    if call.kind == calling::TREE
+        || call.kind == calling::ASK_UP
+        || call.kind == calling::ASK_DOWN
+    {
+        tables::fill::fill16(fields, KEPT);
+    }
     if call.kind == calling::IMAGE_WRITE || call.kind == calling::SHEET {
         tables::fill::fill8(buffer, BYTE);
     }

@@ -1,7 +1,7 @@
 // The file's calls: words of 32 bits, lowest byte first; past the file's end they are 0.
 
 // A call: which one, n, two radios or a radio and a level, and how much of each table is lent. `room` is the count of places for
-// nodes, or of bytes for an image.
+// nodes, or of bytes for an image, or the step of a proposal.
 pub struct Call {
     pub kind: u32,
     pub n: u32,

@@ -1,0 +1,2 @@
+-- Asking and committing meet their contracts, on plain values.
+pub mod ProposalLaws

@@ -1,0 +1,182 @@
+-- Asking and committing meet their contracts, on plain values. In order: a plan's changed radios, asking, a proposal held against a plan,
+-- committing.
+use mathlib.Core.Path.{_≡_, refl, sym, ap, subst, _∙_}
+use mathlib.Core.Bool.{Bool, true, false, _&&_}
+use mathlib.Core.List.{List}
+use Prim.Native.Nat.{ℕ, _≤_, min}
+use native.Mathlib.Omega.{arith}
+use mir.Syntax.{w8}
+use mir.Val.{SFits, toZ, ofZ}
+use mir.Facts.{toZ-ofZ}
+use lib.IntN.{ℤ, pos}
+use lib.ListN.{length, take, replicate, length-replicate}
+use lib.Seq.{length-take-le, take-all}
+use Rattle.mesh.specs.Limits.{max-radios}
+use Rattle.lists.specs.Lists.{same, overwrite}
+use Rattle.mesh.specs.Graph.{Graph}
+use Rattle.mesh.specs.Levels.{changed, step-of}
+use Rattle.mesh.specs.Tables.{Tables, graph-in}
+use Rattle.mesh.specs.Sound.{sound}
+use Rattle.lists.proofs.Parts.{take-min}
+use Rattle.lists.proofs.Overwrite.{take-overwrite}
+use Rattle.calls.specs.Questions.{ask, lengths-of, same-step, is-proposal, link-refusal, commit-refusal}
+use Rattle.calls.specs.Switches.{switched}
+use Rattle.calls.specs.Contracts.Proposals.{Ask-accepted, Ask-refused, Ask-contract, Commit-accepted, Commit-refused, Commit-contract}
+use Rattle.calls.specs.declared.Reply.{Reply}
+use Rattle.calls.proofs.QuestionLaws.{ask-yes, ask-no}
+use Rattle.calls.proofs.ContractLaws.{by-accepted, by-refused}
+use Rattle.calls.proofs.RecordLaws.{tables-ext}
+use Rattle.calls.proofs.Proposals.{commit-numbered, same-step-eq, same-step-refl}
+use Rattle.link_parts.specs.Changes.{changed-part, in-order, counted-step, Reported, Apply-contract}
+use Rattle.link_parts.proofs.ChangeLaws.{counted-step-length, counted-step-held, length-in-order}
+use Rattle.links.specs.Asked.{Plan-contract}
+use Rattle.links.proofs.Asking.{asked-applicable}
+use Rattle.links.proofs.Applied.{in-order-planned, fits-answer}
+use Rattle.links.proofs.CallLaws.{number-decided, link-applied}
+use Rattle.proposals.specs.Proposed.{plan-proposes}
+
+-- ---- a plan in a stretch for as many radios as a site may have; w is the answer table
+
+module _ (up : Bool) (n a b : ℕ) (t : Tables) (w lent : List ℕ) (q start size taken : ℕ) (stretch : List ℕ)
+    (decided : Plan-contract up n a b t (length w) lent q start size taken stretch) (long : max-radios ≤ length lent) where
+  abbrev g : Graph
+  g = graph-in n (t .links)
+
+  abbrev cs : List ℕ
+  cs = changed up a b g
+
+  abbrev R : ℕ
+  R = link-refusal up n a b (lengths-of t) (length w) (sound n t) g
+
+  number-is : q ≡ R
+  number-is = number-decided up n a b t w lent q start size taken stretch decided long
+
+  pub listed-is : q ≡ 0 → in-order (changed-part up taken size stretch) ≡ cs
+  listed-is z =
+      in-order-planned up n a b t w (asked-applicable up n a b t w (sym number-is ∙ z)) start size taken stretch (decided .planned z)
+
+  listed-fits : q ≡ 0 → take (length w) cs ≡ cs
+  listed-fits z = fits-answer up n a b t w (asked-applicable up n a b t w (sym number-is ∙ z)) start size taken stretch (decided .planned z)
+
+  -- ---- asking
+
+  pub ask-refused : (q ≡ 0 → ⊥) → (r : Reply) → r .number ≡ q → r .step ≡ pos 0 → r .count ≡ 0 → Ask-contract up n a b t w r w
+  unfolding Ask-contract
+  ask-refused h r e s c =
+      by-refused R (Ask-accepted up a b g w r w) (λ p. Ask-refused p w r w) (λ z. h (number-is ∙ z))
+      (record { number = e ∙ number-is; step = s; count = c; answer = refl })
+
+  pub ask-accepted : q ≡ 0 → (r : Reply) (x : List ℕ) → Reported up size taken stretch w r x → Ask-contract up n a b t w r x
+  unfolding Ask-contract
+  ask-accepted z r x d =
+      let many : r .count ≡ length cs = d .count ∙ ap length (listed-is z) in
+      by-accepted R (λ p. Ask-refused p w r x) (sym number-is ∙ z)
+      (record {
+        number = d .number;
+        step = d .step ∙ ap (counted-step up) many ∙ counted-step-length up cs;
+        count = many;
+        answer = d .answer-is ∙ ap (λ (ys : List ℕ). overwrite ys w) (ap (take (length w)) (listed-is z) ∙ listed-fits z);
+      })
+
+-- ---- a proposal held against a plan: steps are compared as eight bits
+
+module _ (up : Bool) (size taken : ℕ) (stretch lent : List ℕ) (long : length lent ≡ max-radios) (r : Reply) (x : List ℕ)
+    (told : Reported up size taken stretch lent r x) where
+  abbrev listed : List ℕ
+  listed = in-order (changed-part up taken size stretch)
+
+  front : take (r .count) x ≡ listed
+  front =
+      let all : take (length lent) listed ≡ listed = take-all (length lent) listed (omega (arith, length-in-order (changed-part up taken size stretch))) in
+      rw (told .count, told .answer-is, all) (take-overwrite listed lent)
+
+  pub count-fits : r .count ≤ length x
+  count-fits =
+      omega (
+        arith,
+        told .count,
+        ap length front,
+        ap length (take-min (r .count) x),
+        length-take-le (min (r .count) (length x)) x (omega arith),
+      )
+
+  step-told : r .step ≡ counted-step up (length listed)
+  step-told = told .step ∙ ap (counted-step up) (told .count)
+
+  module _ (z : ℤ) (xs : List ℕ) where
+    -- the step is another
+    pub other-step : (ofZ w8 (r .step) ≡ ofZ w8 z → ⊥) → false ≡ plan-proposes up size taken stretch z xs
+    unfolding plan-proposes
+    other-step h = go (same-step z (counted-step up (length listed))) refl
+      where
+        go : (s : Bool) → same-step z (counted-step up (length listed)) ≡ s → false ≡ (s && same xs listed)
+        go true e = absurd (h (ap (ofZ w8) (step-told ∙ sym (same-step-eq z (counted-step up (length listed)) e))))
+        go false e = refl
+
+    -- the step is this one: the lists decide
+    pub same-list : SFits w8 z → ofZ w8 (r .step) ≡ ofZ w8 z → (ys : List ℕ) → ys ≡ take (r .count) x → same xs ys ≡ plan-proposes up size taken stretch z xs
+    unfolding plan-proposes
+    same-list fits e ys f =
+        let is : z ≡ counted-step up (length listed) =
+        sym (toZ-ofZ fits) ∙ ap (toZ w8) (sym e) ∙ counted-step-held up (length listed) (r .step) step-told in
+        let yes : same-step z (counted-step up (length listed)) ≡ true = rw (← is) (same-step-refl z) in
+        rw (yes, f ∙ front) refl
+
+-- ---- committing: applying lists the changed radios into scratch for as many radios as a site may have; k is its length
+
+abbrev pub scratch : List ℕ
+scratch = replicate max-radios 0
+
+module _ (up : Bool) (n a b : ℕ) (t : Tables) (k : ℕ) (is : k ≡ max-radios) (lent : List ℕ) (q start size taken : ℕ) (stretch : List ℕ)
+    (planned : Plan-contract up n a b t k lent q start size taken stretch) (long : max-radios ≤ length lent) (z : ℤ) (xs : List ℕ) where
+  abbrev site : Graph
+  site = graph-in n (t .links)
+
+  abbrev C : ℕ
+  C = commit-refusal up n a b z xs (lengths-of t) (sound n t) site
+
+  abbrev L : ℕ
+  L = link-refusal up n a b (lengths-of t) (length scratch) (sound n t) site
+
+  decided : Plan-contract up n a b t (length scratch) lent q start size taken stretch
+  decided =
+      subst (λ (j : ℕ). Plan-contract up n a b t j lent q start size taken stretch) (is ∙ sym (length-replicate {A = ℕ} max-radios 0)) planned
+
+  number-asked : q ≡ L
+  number-asked = number-decided up n a b t scratch lent q start size taken stretch decided long
+
+  numbered : ((L ≡ 0 → ⊥) → C ≡ L) × (L ≡ 0 → C ≡ ask 16 (is-proposal up a b z xs site) 0)
+  numbered = commit-numbered up n a b t (length scratch) (omega (arith, length-replicate {A = ℕ} max-radios 0)) z xs
+
+  pub commit-refused : (q ≡ 0 → ⊥) → (r : Reply) → r .number ≡ q → r .step ≡ pos 0 → r .count ≡ 0 → Commit-contract up n a b z xs t r t
+  unfolding Commit-contract
+  commit-refused h r e s c =
+      let same : C ≡ q = numbered .0 (λ y. h (number-asked ∙ y)) ∙ sym number-asked in
+      by-refused C (Commit-accepted up n a b t r t) (λ p. Commit-refused p t r t) (λ y. h (sym same ∙ y))
+      (record { number = e ∙ sym same; step = s; count = c; tables = refl })
+
+  module _ (zero : q ≡ 0) where
+    held : plan-proposes up size taken stretch z xs ≡ is-proposal up a b z xs site
+    unfolding plan-proposes is-proposal
+    held =
+        rw (listed-is up n a b t scratch lent q start size taken stretch decided long zero, counted-step-length up (changed up a b site)) refl
+
+    asked : C ≡ ask 16 (is-proposal up a b z xs site) 0
+    asked = numbered .1 (sym number-asked ∙ zero)
+
+    -- y is the step as the code holds it
+    pub commit-not : (y : ℤ) (o : Bool) → y ≡ z → o ≡ plan-proposes up size taken stretch y xs → o ≡ false → (r : Reply) → r .number ≡ 16 → r .step ≡ pos 0 → r .count ≡ 0
+        → Commit-contract up n a b z xs t r t
+    unfolding Commit-contract
+    commit-not y o f p j r e s c =
+        let same : C ≡ 16 = asked ∙ ask-no 16 _ 0 (sym held ∙ ap (λ (i : ℤ). plan-proposes up size taken stretch i xs) (sym f) ∙ sym p ∙ j) in
+        by-refused C (Commit-accepted up n a b t r t) (λ p. Commit-refused p t r t) (λ y. omega (arith, same, y))
+        (record { number = e ∙ sym same; step = s; count = c; tables = refl })
+
+    pub commit-accepted : (y : ℤ) (o : Bool) → y ≡ z → o ≡ plan-proposes up size taken stretch y xs → o ≡ true → (r : Reply) (v : Tables) (x : List ℕ)
+        → Apply-contract up a b start size taken stretch t scratch r v x → Commit-contract up n a b z xs t r v
+    unfolding Commit-contract switched
+    commit-accepted y o f p j r v x d =
+        let l = link-applied up n a b t scratch lent q start size taken stretch decided long zero r v x d in
+        by-accepted C (λ o. Commit-refused o t r v) (asked ∙ ask-yes 16 _ 0 (sym held ∙ ap (λ (i : ℤ). plan-proposes up size taken stretch i xs) (sym f) ∙ sym p ∙ j))
+        (record { number = l .number; step = l .step; count = l .count; tables = tables-ext v _ (l .links) (l .numbers) (l .order) })

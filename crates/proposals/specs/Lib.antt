@@ -1,0 +1,2 @@
+-- What committing holds a proposal against.
+pub mod Proposed

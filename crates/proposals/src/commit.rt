@@ -1,0 +1,81 @@
+// Committing: a link call that is carried out where a proposal is true.
+ghost use mathlib.Core.Path.{_≡_};
+ghost use Rattle.mesh.specs.Tables.{lent};
+ghost use Rattle.calls.specs.Contracts.Proposals.{Commit-contract};
+ghost use Rattle.proposals.specs.Proposed.{plan-proposes};
+use calls::Refusal;
+use calls::Reply;
+use link_parts::apply;
+use link_parts::apply::Plan;
+use links::plan;
+use mesh::Site;
+use tables::fill;
+
+// Whether step and list are exactly what the plan would change.
+fn is_proposal(up: bool, plan: Plan, stretch: &[u16], step: i8, list: &[u16]) -> bool
+    ensures { λ r. ⌜ r ≡ plan-proposes up (plan .size) (plan .taken) (now (stretch .entry)) step (now (list .entry)) ⌝ }
+{
+    let mut listed = [0u16; Site::RADIOS as usize];
+    let reply = apply::report(up, plan, stretch, &mut listed);
+    if reply.step != step {
+        return false;
+    }
+    fill::same16(list, &listed[..reply.count as usize])
+}
+
+// Takes the link between a and b up, by questions 1 to 7 and 16, or down, by 1 to 6 and 16, where list and step are exactly what asking
+// would give now. Accepted, the reply has number 0, the step and the count of changed radios. Refused, it has the number and zeros, and
+// every table keeps its content.
+pub fn commit(
+    up: bool,
+    n: u32,
+    a: u32,
+    b: u32,
+    step: i8,
+    links: &mut [u8],
+    numbers: &mut [u8],
+    order: &mut [u16],
+    list: &[u16],
+) -> Reply
+    ensures { λ r. ⌜ Commit-contract up n a b step (now (list .entry)) (lent (links .entry) (numbers .entry) (order .entry)) r
+        (lent (links .exit) (numbers .exit) (order .exit)) ⌝ }
+{
+    let mut stretch = [0u16; Site::RADIOS as usize];
+    let decided = plan::plan(
+        up,
+        n,
+        a,
+        b,
+        links,
+        numbers,
+        order,
+        Site::RADIOS as usize,
+        &mut stretch,
+    );
+    if decided.number != 0 {
+        return Reply {
+            number: decided.number,
+            step: 0,
+            count: 0,
+        };
+    }
+    if !is_proposal(up, decided.plan, &stretch, step, list) {
+        return Reply {
+            number: Refusal::PROPOSAL,
+            step: 0,
+            count: 0,
+        };
+    }
+    let mut answer = [0u16; Site::RADIOS as usize];
+    apply::apply(
+        up,
+        a,
+        b,
+        decided.plan,
+        &stretch,
+        links,
+        numbers,
+        order,
+        &mut answer,
+    )
+}
