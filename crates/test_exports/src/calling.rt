@@ -113,9 +113,21 @@ fn stair<'a>(call: Call, links: &'a [u8], numbers: &'a [u8], order: &'a [u16], f
     }
 }
 
-// Asks what a link call would change. The proposal is kept in the fields of the nodes, which later calls but these leave: `answer`
-// entries of them are lent.
-fn propose<'a>(
+// Asks what a link call would change.
+fn propose<'a>(call: Call, links: &'a [u8], numbers: &'a [u8], order: &'a [u16], list: &mut [u16]) {
+    if call.kind == ASK_UP {
+        let up = summerbugle::sb_ask_up(call.n, call.a, call.b, links, numbers, order, list);
+        say::reply(b"ask-up", up);
+        return;
+    }
+    if call.kind == ASK_DOWN {
+        let down = summerbugle::sb_ask_down(call.n, call.a, call.b, links, numbers, order, list);
+        say::reply(b"ask-down", down);
+    }
+}
+
+// The same, into the first `answer` fields of the nodes: there a proposal is kept, since only this and a tree fill them anew.
+fn propose_in<'a>(
     call: Call,
     links: &'a [u8],
     numbers: &'a [u8],
@@ -123,38 +135,12 @@ fn propose<'a>(
     fields: &mut [u16],
 ) {
     let k = tables::fill::least(call.answer, fields.len());
-    if call.kind == ASK_UP {
-        let up = summerbugle::sb_ask_up(
-            call.n,
-            call.a,
-            call.b,
-            links,
-            numbers,
-            order,
-            &mut fields[..k],
-        );
-        say::reply(b"ask-up", up);
-        return;
-    }
-    if call.kind == ASK_DOWN {
-        let down = summerbugle::sb_ask_down(
-            call.n,
-            call.a,
-            call.b,
-            links,
-            numbers,
-            order,
-            &mut fields[..k],
-        );
-        say::reply(b"ask-down", down);
-    }
+    propose(call, links, numbers, order, &mut fields[..k]);
 }
 
-// Commits a proposal: the first `answer` entries of the fields, and as its step the lowest byte of `room`.
-fn commit(call: Call, links: &mut [u8], numbers: &mut [u8], order: &mut [u16], fields: &[u16]) {
-    let k = tables::fill::least(call.answer, fields.len());
+// Commits a proposal, with the lowest byte of `room` as its step.
+fn commit(call: Call, links: &mut [u8], numbers: &mut [u8], order: &mut [u16], list: &[u16]) {
     let step = (call.room % 256) as u8 as i8;
-    let list = &fields[..k];
     if call.kind == COMMIT_UP {
         let up = summerbugle::sb_commit_up(
             call.n,
@@ -182,6 +168,18 @@ fn commit(call: Call, links: &mut [u8], numbers: &mut [u8], order: &mut [u16], f
         );
         say::reply(b"commit-down", down);
     }
+}
+
+// The same, with the first `answer` fields of the nodes as its list.
+fn commit_from(
+    call: Call,
+    links: &mut [u8],
+    numbers: &mut [u8],
+    order: &mut [u16],
+    fields: &[u16],
+) {
+    let k = tables::fill::least(call.answer, fields.len());
+    commit(call, links, numbers, order, &fields[..k]);
 }
 
 // A call that takes a link up or down.
@@ -241,7 +239,7 @@ fn look<'a>(
     ask(call, links, numbers, order);
     list(call, links, numbers, order, answer, fields);
     stair(call, links, numbers, order, fields);
-    propose(call, links, numbers, order, fields);
+    propose_in(call, links, numbers, order, fields);
     store(call, links, numbers, order, buffer);
 }
 
@@ -257,6 +255,6 @@ pub fn put(
 ) {
     look(call, links, numbers, order, answer, fields, buffer);
     link(call, links, numbers, order, answer);
-    commit(call, links, numbers, order, fields);
+    commit_from(call, links, numbers, order, fields);
     set(call, links, numbers, order, buffer);
 }
