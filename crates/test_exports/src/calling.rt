@@ -126,7 +126,7 @@ fn propose<'a>(call: Call, links: &'a [u8], numbers: &'a [u8], order: &'a [u16],
     }
 }
 
-// The same, into the first `answer` fields of the nodes: there a proposal is kept, since only this and a tree fill them anew.
+// The same, into the first `answer` fields of the nodes: there a proposal is kept until one of the trees is asked for.
 fn propose_in<'a>(
     call: Call,
     links: &'a [u8],
