@@ -3,12 +3,6 @@
 #define LINK_H
 #include "check.h"
 
-struct c_reply {
-    unsigned number;
-    int step;
-    unsigned count;
-};
-
 static unsigned first_bit(const uint64_t *set) {
     for (unsigned i = 0; i < 8; i++)
         if (set[i]) return 64 * i + __builtin_ctzll(set[i]);

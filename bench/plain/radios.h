@@ -3,8 +3,6 @@
 #define RADIOS_H
 #include "check.h"
 
-enum { PAGE_LINE = 65 };
-
 static unsigned c_clear(const struct lent *t) {
     unsigned number = c_sizes(t, 1);
     if (number) return number;
@@ -40,10 +38,6 @@ static struct c_value c_first(const struct lent *t, uint32_t a, uint32_t b) {
     while (t->order[i] != a && t->order[i] != b) i++;
     return (struct c_value){0, t->order[i]};
 }
-
-struct c_later {
-    unsigned number, count, first;
-};
 
 static struct c_later c_later_of(const struct lent *t, uint32_t v) {
     uint16_t places[RADIOS], list[NEIGHBOURS];

@@ -3,13 +3,6 @@
 #define IMAGE_H
 #include "check.h"
 
-#define BLOCK 512
-#define BODY 508
-#define HEAD 4
-#define ENTRIES 252
-#define LINKS 126
-#define MOST_BLOCKS 86
-
 static void put_word(uint8_t *p, unsigned x) { p[0] = x, p[1] = x >> 8; }
 
 static unsigned word_at(const uint8_t *p) { return p[0] | p[1] << 8; }
@@ -80,11 +73,6 @@ static unsigned c_image_checks(const uint8_t *image, size_t length) {
         if (c_sum(image + at) != (word_at(image + at + BODY) | (uint32_t)word_at(image + at + BODY + 2) << 16)) return 10;
     return 0;
 }
-
-struct c_block {
-    unsigned number, end;
-    size_t offset, length, next;
-};
 
 static struct c_block c_image_block(const uint8_t *image, size_t length, size_t next) {
     unsigned number = c_image_checks(image, length);

@@ -1,24 +1,7 @@
 /* Questions 1 to 3 in C: the engine's soundness check, the same tests in the same order. */
 #ifndef CHECK_H
 #define CHECK_H
-#include "rows.h"
-
-#define NOWHERE 65535
-
-/* The tables that a call is lent, with their lengths. */
-struct lent {
-    uint32_t n;
-    uint8_t *links;
-    size_t links_len;
-    uint8_t *numbers;
-    size_t numbers_len;
-    uint16_t *order;
-    size_t order_len;
-};
-
-struct c_value {
-    unsigned number, value;
-};
+#include "../program.h"
 
 /* Whether each radio stands once in the order; then its place. */
 static int c_place(uint32_t n, const uint16_t *order, uint16_t *places) {
