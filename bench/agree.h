@@ -62,10 +62,11 @@ static int agree_proposals(void) {
     return 1;
 }
 
-/* A changed byte of the tables: a bit of a row, a number, an entry of the order. */
+/* A changed byte of the tables: a bit of a row, at times a radio's own, a number, an entry of the order. */
 static void damage(unsigned i) {
     unsigned at = rand() % n;
     if (i % 3 == 0) t.links[rand() % (ROW * n)] ^= 1 << rand() % 8;
+    if (i % 30 == 0) put_bit(t.links, 1, at, at);
     if (i % 3 == 1) t.numbers[at] += rand() % 2 ? 1 : -1;
     if (i % 3 == 2) t.order[at] = rand() % (n + 1);
 }
