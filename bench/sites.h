@@ -76,11 +76,7 @@ enum kind { SPARSE, DENSE, RING, CIRCULANT, PARTS, GEOMETRIC_8, GEOMETRIC_20, LE
 static const char *const kinds[KINDS] = {"sparse",      "dense",        "ring",   "circulant",   "parts",
                                          "geometric_8", "geometric_20", "levels", "sparse_turn", "geometric_turn"};
 
-#define TOGETHER 512    /* radios of all sites of a run: small sites and large ones leave the processor as much to learn */
-#define IN_TURN 16384   /* radios of all sites of a run where they are taken in turn */
-#define ALONE SPARSE_TURN /* kinds of which a single site tells something */
-
-static unsigned together(enum kind kind) { return kind >= ALONE ? IN_TURN : TOGETHER; }
+#define ALONE SPARSE_TURN /* the kinds before it are those that a single site shows */
 
 /* Random sites of the same size and kind differ by their index. */
 static void make_site(struct site *s, uint32_t n, enum kind kind, unsigned index) {

@@ -3,6 +3,9 @@
 #define WORK_H
 #include "sites.h"
 
+#define TOGETHER 512  /* radios of all sites of a run: small sites and large ones leave the processor as much to learn */
+#define IN_TURN 16384 /* where they are taken in turn: more than it learns */
+
 static struct entry entries[IN_TURN / 16];
 static uint16_t answer[2 * RADIOS];
 static struct c_node nodes[RADIOS + 1];
@@ -28,7 +31,7 @@ static struct lent take_site(const struct site *s) {
 /* The images are those that the program writes. */
 static void use_sites(const struct program *p, uint32_t n, enum kind kind) {
     static struct site s;
-    work.count = together(kind) / n, next = room;
+    work.count = (kind < ALONE ? TOGETHER : IN_TURN) / n, next = room;
     for (struct entry *e = entries; e < entries + work.count; e++) {
         make_site(&s, n, kind, e - entries);
         e->site = take_site(&s), e->other = take_site(&s);

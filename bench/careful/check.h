@@ -52,7 +52,7 @@ static inline int rest_clear(const struct lent *t) {
  * Whether turning blocks is likely faster than walking links. Sound tables have from half the sum of the numbers to that sum of
  * links. Few radios do not fill a block, and prediction soon learns their rows. The figures are measured.
  */
-static inline int many_links(unsigned n, unsigned sum) { return n >= 32 && sum > (n < 200 ? 9 : 3) * n; }
+static inline int many_links(unsigned n, unsigned sum) { return n >= 32 && sum > (n < 200 ? 9 : 4) * n; }
 
 static int examine(const struct lent *t, struct found *f) {
     unsigned sum;
