@@ -35,7 +35,7 @@ def ratio_columns(run, kind, at, bottom, goal):
     step, parts = (RIGHT - LEFT) / len(run.calls), []
     for i, call in enumerate(run.calls):
         x = LEFT + i * step
-        parts += [line(x, at(1) + 4, x, at(1) - 4, "#888"), text(x + step / 2, bottom + 18, call.replace("_", " "), size=11)]
+        parts += [line(x, at(1) + 4, x, at(1) - 4, "#888"), text(x + step / 2, bottom + 18, call.replace("_", " "), size=10)]
         if goal:
             parts.append(line(x + 4, at(goal(call)), x + step - 4, at(goal(call)), "#c00", 2))
         for j, n in enumerate(run.sizes):
