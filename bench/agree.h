@@ -10,6 +10,8 @@ static uint16_t x[2 * RADIOS + 1], y[2 * RADIOS + 1];
 static struct site t_site, u_site;
 static struct lent t, u;
 
+static struct lent lent_by(struct site *t) { return (struct lent){t->n, t->links, ROW * t->n, t->numbers, t->n, t->order, t->n}; }
+
 static int same(struct c_value r, struct c_value q) { return r.number == q.number && r.value == q.value; }
 static int same_reply(struct c_reply r, struct c_reply q) { return r.number == q.number && r.step == q.step && r.count == q.count; }
 

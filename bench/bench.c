@@ -23,18 +23,24 @@ static const struct program *const programs[] = {PROGRAMS};
 /* ---- calls */
 
 static enum timed call;
-static void run_call(unsigned program) {
-    if (programs[program]->has(call)) programs[program]->runs[call](&work);
+static const struct program *having[COUNT]; /* those that have the call */
+static void run_call(unsigned i) { having[i]->runs[call](&work); }
+
+static unsigned find_having(void) {
+    unsigned count = 0;
+    for (unsigned p = 0; p < COUNT; p++)
+        if (programs[p]->has(call)) having[count++] = programs[p];
+    return count;
 }
 
-/* All programs in turn, in short batches. */
+/* All programs that have the call, in turn, in short batches. */
 static void compare(uint32_t size, enum kind kind) {
     double best[COUNT];
-    best_of(run_call, COUNT, best);
+    best_of(run_call, find_having(), best);
     printf("time %s %u %s", names[call], size, kinds[kind]);
-    for (unsigned p = 0; p < COUNT; p++)
+    for (unsigned p = 0, i = 0; p < COUNT; p++)
         if (programs[p]->has(call))
-            printf(" %.4f", best[p] / work.count);
+            printf(" %.4f", best[i++] / work.count);
         else
             printf(" -");
     printf("\n");
@@ -61,7 +67,7 @@ static int all_agree(uint32_t size, enum kind kind) {
     return 1;
 }
 
-static void engine_call(void) { run_call(0); }
+static void engine_call(void) { programs[0]->runs[call](&work); }
 
 static int time_calls(uint32_t size, enum kind kind, unsigned *stack) {
     use_sites(programs[0], size, kind);
@@ -120,7 +126,8 @@ static int time_changes(enum kind kind) {
 static int once(uint32_t size) {
     use_sites(programs[0], size, SPARSE);
     printf("sites %u\n", work.count);
-    for (call = 0; call < CALLS; call++) run_call(0);
+    for (call = 0; call < CALLS; call++)
+        if (programs[0]->has(call)) programs[0]->runs[call](&work);
     return 0;
 }
 

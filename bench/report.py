@@ -155,9 +155,10 @@ def summary(run):
     plain, careful = ([ratio for call in run.calls for ratio in run.ratios(call, kind)] for kind in ("plain", "careful"))
     means = [statistics.geometric_mean(run.ratios(call, "careful")) for call in run.calls]
     anew = (run.change_by(site, "anew") / run.change_by(site, "engine") for site in run.change)
-    said = [f"In one run a call took {span(plain, '.2f')} times as long as C that follows its algorithm line by line, at -O3 by the better of",
-            f"{' and '.join(run.compilers)}. Against C as a careful programmer would write the call it took {span(careful, '.2f')} times as long,",
-            f"on average {span(means, '.1f')} times by call.",
+    compilers = ("the better of " if len(run.compilers) > 1 else "") + " and ".join(run.compilers)
+    said = [f"In one run a call took {span(plain, '.2f')} times as long as C that follows its algorithm line by line, at -O3 by {compilers}.",
+            "Against C as a careful programmer would write the call it took",
+            f"{span(careful, '.2f')} times as long, on average {span(means, '.1f')} times by call.",
             f"At 512 radios a link call took {span((run.change_by(site, 'engine') for site in run.change), '.0f')} microseconds, the check of its"
             " tables with it. Working all numbers out anew in plain C, which checks nothing and keeps no order, took",
             f"{span(anew, '.2f')} times as long."]

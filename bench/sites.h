@@ -1,6 +1,7 @@
 /* Sites to measure on, with sound tables made by plain peeling. */
 #ifndef SITES_H
 #define SITES_H
+#include "kinds.h"
 #include "program.h"
 #include <stdlib.h>
 
@@ -70,13 +71,6 @@ static void levels(struct site *s) {
     for (unsigned k = 1, at = 0; k <= beside; k++)
         for (unsigned i = 0; i < k; i++, at++) mark(s, inside + k - 1, at % inside);
 }
-
-/* The last two are as SPARSE and GEOMETRIC_8, but so many sites are taken in turn that branch prediction does not learn them. */
-enum kind { SPARSE, DENSE, RING, CIRCULANT, PARTS, GEOMETRIC_8, GEOMETRIC_20, LEVELS, SPARSE_TURN, GEOMETRIC_TURN, KINDS };
-static const char *const kinds[KINDS] = {"sparse",      "dense",        "ring",   "circulant",   "parts",
-                                         "geometric_8", "geometric_20", "levels", "sparse_turn", "geometric_turn"};
-
-#define ALONE SPARSE_TURN /* the kinds before it are those that a single site shows */
 
 /* Random sites of the same size and kind differ by their index. */
 static void make_site(struct site *s, uint32_t n, enum kind kind, unsigned index) {

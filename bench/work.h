@@ -21,8 +21,6 @@ static void *take(const void *from, size_t length) {
     return to;
 }
 
-static struct lent lent_by(struct site *t) { return (struct lent){t->n, t->links, ROW * t->n, t->numbers, t->n, t->order, t->n}; }
-
 static struct lent take_site(const struct site *s) {
     uint8_t *links = take(s->links, ROW * s->n), *numbers = take(s->numbers, s->n);
     return (struct lent){s->n, links, ROW * s->n, numbers, s->n, take(s->order, 2 * s->n), s->n};
