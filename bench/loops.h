@@ -17,7 +17,7 @@ static volatile unsigned sink; /* what a call answers is used */
 #define A e->ends.a
 #define B e->ends.b
 
-static inline unsigned linked_anew(const struct lent *t, struct ends e, uint16_t *answer) {
+static inline unsigned down_and_up(const struct lent *t, struct ends e, uint16_t *answer) {
     return c_link(0, t, e.a, e.b, answer, t->n).count + c_link(1, t, e.a, e.b, answer, t->n).count;
 }
 
@@ -45,7 +45,7 @@ LOOP(neighbours, c_neighbours(S, B).value)
 LOOP(linked, c_linked(S, A, B).value)
 LOOP(first, c_first(S, A, B).value)
 LOOP(later_of, c_later_of(S, B).first)
-LOOP(link, linked_anew(S, e->ends, w->answer))
+LOOP(link, down_and_up(S, e->ends, w->answer))
 LOOP(asked, asked(S, e->ends, w->answer))
 LOOP(committed, committed(0, S, e->ends, w->answer) + committed(1, S, e->ends, w->answer))
 LOOP(core, c_core(S, A, 1, w->answer, N).value)
@@ -60,7 +60,7 @@ LOOP(image_block, c_image_block(e->image, e->image_length, 0).next)
 
 /* Each of the links down and up again. */
 static void run_changes(const struct lent *t, const struct ends *list, unsigned count, uint16_t *answer) {
-    for (unsigned i = 0; i < count; i++) sink += linked_anew(t, list[i], answer);
+    for (unsigned i = 0; i < count; i++) sink += down_and_up(t, list[i], answer);
 }
 
 static void (*const loops[CALLS])(const struct work *) = {
