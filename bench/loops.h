@@ -17,19 +17,30 @@ static volatile unsigned sink; /* what a call answers is used */
 #define A e->ends.a
 #define B e->ends.b
 
+/* The calls below are statements of their own: C leaves open in which order the terms of a sum are worked out. */
 static inline unsigned down_and_up(const struct lent *t, struct ends e, uint16_t *answer) {
-    return c_link(0, t, e.a, e.b, answer, t->n).count + c_link(1, t, e.a, e.b, answer, t->n).count;
+    unsigned changed = c_link(0, t, e.a, e.b, answer, t->n).count;
+    changed += c_link(1, t, e.a, e.b, answer, t->n).count;
+    return changed;
 }
 
 /* A link call in two steps. Asking changes nothing, so it is timed beside the single calls. */
-static inline unsigned asked(const struct lent *t, struct ends e, uint16_t *answer) {
-    unsigned down = c_ask(0, t, e.a, e.b, answer, t->n).count + c_link(0, t, e.a, e.b, answer, t->n).count;
-    return down + c_ask(1, t, e.a, e.b, answer, t->n).count + c_link(1, t, e.a, e.b, answer, t->n).count;
+static inline unsigned ask_and_link(const struct lent *t, struct ends e, uint16_t *answer) {
+    unsigned changed = 0;
+    for (int up = 0; up < 2; up++) {
+        changed += c_ask(up, t, e.a, e.b, answer, t->n).count;
+        changed += c_link(up, t, e.a, e.b, answer, t->n).count;
+    }
+    return changed;
 }
 
-static inline unsigned committed(int up, const struct lent *t, struct ends e, uint16_t *answer) {
-    struct c_reply r = c_ask(up, t, e.a, e.b, answer, t->n);
-    return c_commit(up, t, e.a, e.b, r.step, answer, r.count).count;
+static inline unsigned ask_and_commit(const struct lent *t, struct ends e, uint16_t *answer) {
+    unsigned changed = 0;
+    for (int up = 0; up < 2; up++) {
+        struct c_reply r = c_ask(up, t, e.a, e.b, answer, t->n);
+        changed += c_commit(up, t, e.a, e.b, r.step, answer, r.count).count;
+    }
+    return changed;
 }
 
 /* The image into the same tables, for one radio less. */
@@ -46,8 +57,8 @@ LOOP(linked, c_linked(S, A, B).value)
 LOOP(first, c_first(S, A, B).value)
 LOOP(later_of, c_later_of(S, B).first)
 LOOP(link, down_and_up(S, e->ends, w->answer))
-LOOP(asked, asked(S, e->ends, w->answer))
-LOOP(committed, committed(0, S, e->ends, w->answer) + committed(1, S, e->ends, w->answer))
+LOOP(asked, ask_and_link(S, e->ends, w->answer))
+LOOP(committed, ask_and_commit(S, e->ends, w->answer))
 LOOP(core, c_core(S, A, 1, w->answer, N).value)
 LOOP(backbone, c_backbone(S, w->answer, N).value)
 LOOP(tree, c_tree(S, w->nodes, N + 1, w->answer, N).value)
