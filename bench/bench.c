@@ -55,6 +55,22 @@ static void compare_steps(uint32_t size, enum kind kind) {
     printf("steps %u %s %.3f %.3f %.3f\n", size, kinds[kind], best[0] / work.count, best[1] / work.count, best[2] / work.count);
 }
 
+/* What is timed is a call that is taken, on every site: not one that is refused early. */
+static int all_taken(uint32_t size, enum kind kind) {
+    const struct program *p = programs[0];
+    for (struct entry *e = entries; e < entries + work.count; e++) {
+        struct ends l = e->ends;
+        unsigned refused = p->check(&e->site).value != 1 || p->core(&e->site, l.a, 1, answer, size).number;
+        refused |= p->link(0, &e->site, l.a, l.b, answer, size).number;
+        refused |= p->link(1, &e->site, l.a, l.b, answer, size).number;
+        refused |= p->image_read(&e->other, e->image, e->image_length);
+        if (!refused) continue;
+        printf("a call that is to be timed is refused: %u radios, %s\n", size, kinds[kind]);
+        return 0;
+    }
+    return 1;
+}
+
 /* A program that answers has to answer as the engine does, on as many of the sites as have 512 radios together. */
 static int all_agree(uint32_t size, enum kind kind) {
     for (unsigned p = 1; p < COUNT; p++)
@@ -71,7 +87,7 @@ static void engine_call(void) { programs[0]->runs[call](&work); }
 
 static int time_calls(uint32_t size, enum kind kind, unsigned *stack) {
     use_sites(programs[0], size, kind);
-    if (!all_agree(size, kind)) return 0;
+    if (!all_taken(size, kind) || !all_agree(size, kind)) return 0;
     for (call = 0; call < CALLS; call++) {
         if (!programs[0]->has(call)) continue;
         compare(size, kind);

@@ -8,7 +8,7 @@ class Run:
     """times[call][n, site] holds the time by each program; instructions[call, n] the engine's count; the others go by site."""
 
     def __init__(self, path):
-        self.machine, self.programs = "", []
+        self.machine, self.stolen, self.programs = "", 0, []
         self.times, self.stack, self.steps, self.instructions = defaultdict(dict), {}, {}, {}
         self.change, self.igraph, self.networkx = {}, {}, {}
         for line in Path(path).read_text().splitlines():
@@ -19,6 +19,9 @@ class Run:
 
     def take_machine(self, rest):
         self.machine = rest.replace("x86_64", "x86-64")
+
+    def take_stolen(self, rest):
+        self.stolen = int(rest)
 
     def take_programs(self, rest):
         self.programs = rest.split()
