@@ -8,7 +8,7 @@ class Run:
     """times[call][n, site] holds the time by each program; instructions[call, n] the engine's count; the others go by site."""
 
     def __init__(self, path):
-        self.machine, self.stolen, self.programs = "", 0, []
+        self.machine, self.stolen, self.programs = "", None, []
         self.times, self.stack, self.steps, self.instructions = defaultdict(dict), {}, {}, {}
         self.change, self.igraph, self.networkx = {}, {}, {}
         for line in Path(path).read_text().splitlines():
@@ -21,7 +21,7 @@ class Run:
         self.machine = rest.replace("x86_64", "x86-64")
 
     def take_stolen(self, rest):
-        self.stolen = int(rest)
+        self.stolen = rest
 
     def take_programs(self, rest):
         self.programs = rest.split()

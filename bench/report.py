@@ -131,7 +131,8 @@ def change_parts(run):
 
 def report(run):
     sites = [words(site) for site in run.sites]
-    parts = [f"Machine: {run.machine}; {run.stolen} % of its time went to other machines during the run.\n", *ratio_parts(run)]
+    stolen = f"; {run.stolen} % of its time went to other machines during the run" if run.stolen else ""
+    parts = [f"Machine: {run.machine}{stolen}.\n", *ratio_parts(run)]
     parts += ["### Time of a call of the engine, in microseconds\n",
               table(["call", f"{run.sizes[0]}, sparse", *(f"{run.sizes[-1]}, {site}" for site in sites)], times(run)),
               "### Growth of a call of the engine, sparse sites of 16 and of 512 radios\n",

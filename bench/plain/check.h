@@ -3,9 +3,18 @@
 #define CHECK_H
 #include "../program.h"
 
+/* The radios of row a above a: the bits up to its own are shifted out of its word. */
+static inline unsigned c_above(const uint8_t *links, unsigned a, uint16_t *list) {
+    unsigned k = 0;
+    for (uint64_t w = row_word(links, a, a / 64) >> a % 64 >> 1; w; w &= w - 1) list[k++] = a + 1 + __builtin_ctzll(w);
+    for (unsigned i = a / 64 + 1; i < ROW / 8; i++)
+        for (uint64_t w = row_word(links, a, i); w; w &= w - 1) list[k++] = 64 * i + __builtin_ctzll(w);
+    return k;
+}
+
 /* Whether each radio stands once in the order; then its place. */
 static int c_place(uint32_t n, const uint16_t *order, uint16_t *places) {
-    for (unsigned v = 0; v < RADIOS; v++) places[v] = NOWHERE;
+    for (unsigned v = 0; v < n; v++) places[v] = NOWHERE;
     for (unsigned i = 0; i < n; i++) {
         if (order[i] >= n || places[order[i]] != NOWHERE) return 0;
         places[order[i]] = i;
@@ -13,25 +22,42 @@ static int c_place(uint32_t n, const uint16_t *order, uint16_t *places) {
     return 1;
 }
 
-/* Whether the tables are sound; then places, and for each radio how many neighbours are not below it. */
-static int c_examine(uint32_t n, const uint8_t *links, const uint8_t *numbers, const uint16_t *order, uint16_t *places, uint8_t *highs) {
-    uint16_t list[NEIGHBOURS];
-    if (!c_place(n, order, places)) return 0;
-    for (unsigned i = 0, last = 0; i < n; i++) {
-        if (numbers[order[i]] < last) return 0;
-        last = numbers[order[i]];
-    }
-    for (unsigned a = 0; a < n; a++) {
-        unsigned k = row_list(links, a, list, NEIGHBOURS), later = 0, high = 0;
-        if (k > NEIGHBOURS) return 0;
-        for (unsigned i = 0; i < k; i++) {
-            unsigned b = list[i];
-            if (b >= n || b == a || !marked(links, b, a)) return 0;
-            later += places[a] < places[b];
-            high += numbers[a] <= numbers[b];
+/* Of the neighbours of a row: how many, how many come later, how many are not below, and the place of the first later one. */
+struct c_ends {
+    unsigned count, later, high, first;
+};
+
+/* Walks the set bits of row a; 0 where a neighbour does not have a, or there are too many: which is asked once a word. */
+static inline int c_count_ends(const struct lent *t, const uint16_t *places, unsigned a, struct c_ends *ends) {
+    struct c_ends c = {0, 0, 0, NOWHERE};
+    for (unsigned i = 0; i < ROW / 8; i++) {
+        for (uint64_t w = row_word(t->links, a, i); w; w &= w - 1) {
+            unsigned b = 64 * i + __builtin_ctzll(w);
+            if (b >= t->n || !marked(t->links, b, a)) return 0;
+            unsigned place = places[b];
+            if (place > places[a] && place < c.first) c.first = place;
+            c.later += places[a] < place;
+            c.high += t->numbers[a] <= t->numbers[b];
+            c.count++;
         }
-        if (later > numbers[a] || high < numbers[a]) return 0;
-        highs[a] = high;
+        if (c.count > NEIGHBOURS) return 0;
+    }
+    *ends = c;
+    return 1;
+}
+
+/* Whether the tables are sound; then places, and for each radio how many neighbours are not below it. */
+static int c_examine(const struct lent *t, uint16_t *places, uint8_t *highs) {
+    if (!c_place(t->n, t->order, places)) return 0;
+    for (unsigned i = 0, last = 0; i < t->n; i++) {
+        if (t->numbers[t->order[i]] < last) return 0;
+        last = t->numbers[t->order[i]];
+    }
+    for (unsigned a = 0; a < t->n; a++) {
+        struct c_ends ends;
+        if (marked(t->links, a, a) || !c_count_ends(t, places, a, &ends)) return 0;
+        if (ends.later > t->numbers[a] || ends.high < t->numbers[a]) return 0;
+        highs[a] = ends.high;
     }
     return 1;
 }
@@ -45,7 +71,7 @@ static unsigned c_sizes(const struct lent *t, int others) {
 static int c_sound(const struct lent *t) {
     uint16_t places[RADIOS];
     uint8_t highs[RADIOS];
-    return c_examine(t->n, t->links, t->numbers, t->order, places, highs);
+    return c_examine(t, places, highs);
 }
 
 static unsigned c_refusal(const struct lent *t, int others) {

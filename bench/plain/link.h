@@ -31,7 +31,7 @@ static unsigned c_plan(int up, const struct lent *t, uint32_t a, uint32_t b, int
     const uint8_t *links = t->links, *numbers = t->numbers;
     const uint16_t *order = t->order;
     unsigned number = c_sizes(t, room);
-    if (!number && !c_examine(n, links, numbers, order, places, counters)) number = 3;
+    if (!number && !c_examine(t, places, counters)) number = 3;
     if (!number) number = c_ends(up, n, a, b, links);
     if (number) return number;
     unsigned level = numbers[a] < numbers[b] ? numbers[a] : numbers[b], most = up ? level : level - 1;
