@@ -36,17 +36,23 @@ def met(good):
     return "met" if good else "missed"
 
 
+def mean(run, call, kind):
+    return statistics.geometric_mean(run.ratios(call, kind))
+
+
 def words(name):
     return name.replace("_", " ")
 
 
+def mean_and_worst(run, call, kind):
+    ratio, n, site = run.worst(call, kind)
+    return [f"{mean(run, call, kind):.2f}", f"{ratio:.2f}", f"{n}, {words(site)}"]
+
+
 def worst(run):
     for call in run.calls:
-        plain, n, site = run.worst(call, "plain")
-        mean = statistics.geometric_mean(run.ratios(call, "careful"))
-        careful, m, other = run.worst(call, "careful")
-        verdict = met(plain <= goal(call))
-        yield [call, f"{plain:.2f}", f"{n}, {words(site)}", goal(call), verdict, f"{mean:.2f}", f"{careful:.2f}", f"{m}, {words(other)}"]
+        verdict = met(run.worst(call, "plain")[0] <= goal(call))
+        yield [call, *mean_and_worst(run, call, "plain"), goal(call), verdict, *mean_and_worst(run, call, "careful")]
 
 
 def ratios(run, kind):
@@ -111,7 +117,7 @@ def stacks(run):
 def ratio_parts(run):
     sites = [words(site) for site in run.sites]
     yield "### The ratios of each call\n"
-    yield table(["call", "to line-by-line C, worst", "at", "goal, at most", "", "to careful C, mean", "worst", "at"], worst(run))
+    yield table(["call", "to line-by-line C, mean", "worst", "at", "goal, at most", "", "to careful C, mean", "worst", "at"], worst(run))
     yield "### Ratios to careful C\n"
     yield table(["call", "n", *sites], ratios(run, "careful"))
     yield "### Ratios to line-by-line C\n"
@@ -154,7 +160,7 @@ def span(values, form):
 def summary(run):
     """A paragraph for README.md."""
     plain, careful = ([ratio for call in run.calls for ratio in run.ratios(call, kind)] for kind in ("plain", "careful"))
-    means = [statistics.geometric_mean(run.ratios(call, "careful")) for call in run.calls]
+    means = [mean(run, call, "careful") for call in run.calls]
     anew = (run.change_by(site, "anew") / run.change_by(site, "engine") for site in run.change)
     compilers = ("the better of " if len(run.compilers) > 1 else "") + " and ".join(run.compilers)
     said = [f"In one run a call took {span(plain, '.2f')} times as long as C that follows its algorithm line by line, at -O3 by {compilers}.",
