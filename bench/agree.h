@@ -1,13 +1,19 @@
-/* Engine and C on the same input must answer the same and leave the same bytes, refusals too. */
+/* The engine and another program on the same input must answer the same and leave the same bytes, refusals too. */
 #ifndef AGREE_H
 #define AGREE_H
-#include "calls.h"
+#include "work.h"
 
+static const struct program *one, *two;
+static const struct entry *e;
+static uint32_t n;
 static uint16_t x[2 * RADIOS + 1], y[2 * RADIOS + 1];
 static struct site t_site, u_site;
 static struct lent t, u;
 
-static int same(sb_value r, struct c_value q) { return r.number == q.number && r.value == q.value; }
+static struct lent lent_by(struct site *t) { return (struct lent){t->n, t->links, ROW * t->n, t->numbers, t->n, t->order, t->n}; }
+
+static int same(struct c_value r, struct c_value q) { return r.number == q.number && r.value == q.value; }
+static int same_reply(struct c_reply r, struct c_reply q) { return r.number == q.number && r.step == q.step && r.count == q.count; }
 
 /* Copies of the entry's site, and answer tables of the same content. */
 static void start(void) {
@@ -27,15 +33,16 @@ static void start_again(void) {
 
 static int same_tables(void) { return !memcmp(&t_site, &u_site, sizeof t_site) && !memcmp(x, y, sizeof x); }
 
+/* Mostly a link that is not there goes up and one that is there goes down; some calls are refused. */
+static int goes_up(unsigned a, unsigned b) { return a == n || b == n || a == b || rand() % 20 == 0 || !marked(t.links, a, b); }
+
 /* A link history, with ends at n and equal ends. */
 static int agree_links(void) {
     start();
     for (unsigned i = 0; i < 400; i++) {
         unsigned a = rand() % (n + 1), b = rand() % (n + 1);
-        int up = a == n || b == n || a == b || rand() % 20 == 0 || !marked(t.links, a, b);
-        sb_reply r = up ? sb_link_up(n, a, b, OF(t), x, n) : sb_link_down(n, a, b, OF(t), x, n);
-        struct c_reply q = c_link(up, &u, a, b, y, n);
-        if (r.number != q.number || r.step != q.step || r.count != q.count || !same_tables()) return 0;
+        int up = goes_up(a, b);
+        if (!same_reply(one->link(up, &t, a, b, x, n), two->link(up, &u, a, b, y, n)) || !same_tables()) return 0;
     }
     return 1;
 }
@@ -45,58 +52,87 @@ static int agree_proposals(void) {
     start();
     for (unsigned i = 0; i < 400; i++) {
         unsigned a = rand() % (n + 1), b = rand() % (n + 1);
-        int up = a == n || b == n || a == b || rand() % 20 == 0 || !marked(t.links, a, b);
-        sb_reply r = (up ? sb_ask_up : sb_ask_down)(n, a, b, OF(t), x, n);
-        struct c_reply q = c_ask(up, &u, a, b, y, n);
-        if (r.number != q.number || r.step != q.step || r.count != q.count || !same_tables()) return 0;
+        int up = goes_up(a, b);
+        struct c_reply r = one->ask(up, &t, a, b, x, n);
+        if (!same_reply(r, two->ask(up, &u, a, b, y, n)) || !same_tables()) return 0;
         if (i % 4 == 1) r.step++;
         if (i % 4 == 2) x[r.count / 2] ^= 1, y[r.count / 2] ^= 1;
         if (i % 4 == 3) r.count++;
-        sb_reply c = (up ? sb_commit_up : sb_commit_down)(n, a, b, r.step, OF(t), x, r.count);
-        q = c_commit(up, &u, a, b, r.step, y, r.count);
-        if (c.number != q.number || c.step != q.step || c.count != q.count || !same_tables()) return 0;
+        struct c_reply p = one->commit(up, &t, a, b, r.step, x, r.count), q = two->commit(up, &u, a, b, r.step, y, r.count);
+        if (!same_reply(p, q) || !same_tables()) return 0;
     }
     return 1;
 }
 
-/* The check and the refusal of a question, on tables with a changed byte; clearing. */
+/* A changed byte of the tables: a bit of a row, at times a radio's own, a number, an entry of the order. */
+static void damage(unsigned i) {
+    unsigned at = rand() % n;
+    if (i % 3 == 0) t.links[rand() % (ROW * n)] ^= 1 << rand() % 8;
+    if (i % 30 == 0) put_bit(t.links, 1, at, at);
+    if (i % 3 == 1) t.numbers[at] += rand() % 2 ? 1 : -1;
+    if (i % 3 == 2) t.order[at] = rand() % (n + 1);
+}
+
+/* The check and the refusal of a question, on damaged tables; clearing. */
 static int agree_damaged(void) {
     for (unsigned i = 0; i < 200; i++) {
         start();
-        unsigned at = rand() % n;
-        if (i % 3 == 0) t.links[rand() % (ROW * n)] ^= 1 << rand() % 8;
-        if (i % 3 == 1) t.numbers[at] += rand() % 2 ? 1 : -1;
-        if (i % 3 == 2) t.order[at] = rand() % (n + 1);
+        damage(i);
         u_site = t_site;
-        if (!same(sb_check(n, OF(t)), c_check(&u)) || !same(sb_backbone(n, OF(t), x, n), c_backbone(&u, y, n))) return 0;
+        if (!same(one->check(&t), two->check(&u)) || !same(one->backbone(&t, x, n), two->backbone(&u, y, n))) return 0;
         if (!same_tables()) return 0;
     }
-    return sb_clear(n, OF(t)) == c_clear(&u) && same_tables();
+    return one->clear(&t) == two->clear(&u) && same_tables();
+}
+
+/* Two radios swap their numbers and places, or a link of both rows goes to another radio: each table alone is well formed. */
+static void damage_more(unsigned i) {
+    unsigned p = rand() % n, q = i % 2 ? rand() % n : (p + 1) % n, a = rand() % n, b = rand() % n;
+    uint16_t v = t.order[p];
+    if (i % 3) t.order[p] = t.order[q], t.order[q] = v;
+    if (i % 3 == 2) {
+        uint8_t number = t.numbers[v];
+        t.numbers[v] = t.numbers[t.order[p]], t.numbers[t.order[p]] = number;
+    }
+    if (i % 3 == 0 && a != b) {
+        int on = !marked(t.links, a, b);
+        put_bit(t.links, on, a, b), put_bit(t.links, on, b, a);
+    }
+}
+
+static int agree_damaged_more(void) {
+    for (unsigned i = 0; i < 200; i++) {
+        start();
+        damage_more(i);
+        u_site = t_site;
+        if (!same(one->check(&t), two->check(&u)) || !same_tables()) return 0;
+    }
+    return 1;
 }
 
 static int agree_questions(void) {
     for (unsigned i = 0; i < 200; i++) {
         start();
         unsigned a = rand() % (n + 1), b = rand() % (n + 1), k = rand() % (e->site.numbers[a % n] + 2);
-        if (!same(sb_number(n, a, OF(t)), c_number(&u, a)) || !same(sb_neighbours(n, a, OF(t)), c_neighbours(&u, a))) return 0;
-        if (!same(sb_linked(n, a, b, OF(t)), c_linked(&u, a, b)) || !same(sb_first(n, a, b, OF(t)), c_first(&u, a, b))) return 0;
-        sb_later l = sb_later_of(n, a, OF(t));
-        struct c_later m = c_later_of(&u, a);
+        if (!same(one->number(&t, a), two->number(&u, a)) || !same(one->neighbours(&t, a), two->neighbours(&u, a))) return 0;
+        if (!same(one->linked(&t, a, b), two->linked(&u, a, b)) || !same(one->first(&t, a, b), two->first(&u, a, b))) return 0;
+        struct c_later l = one->later_of(&t, a), m = two->later_of(&u, a);
         if (l.number != m.number || l.count != m.count || l.first != m.first) return 0;
-        if (!same(sb_core(n, a, k, OF(t), x, n), c_core(&u, a, k, y, n)) || !same_tables()) return 0;
-        if (!same(sb_backbone(n, OF(t), x, n - i % 2), c_backbone(&u, y, n - i % 2)) || !same_tables()) return 0;
+        if (!same(one->core(&t, a, k, x, n), two->core(&u, a, k, y, n)) || !same_tables()) return 0;
+        if (!same(one->backbone(&t, x, n - i % 2), two->backbone(&u, y, n - i % 2)) || !same_tables()) return 0;
     }
     return 1;
 }
 
-/* Places for nodes: one too few, just enough, more. */
+/* Places for nodes: one too few, just enough, more; and on sites that some link calls have changed. */
 static int agree_tree(void) {
-    static sb_node p[RADIOS + 3];
-    static struct c_node q[RADIOS + 3];
-    for (unsigned more = 0; more < 3; more++) {
+    static struct c_node p[RADIOS + 3], q[RADIOS + 3];
+    for (unsigned i = 0; i < 30; i++) {
         start();
+        for (unsigned k = 0; k < i; k++) two->link(rand() % 3 != 0, &t, rand() % n, rand() % n, x, n);
+        start_again();
         memset(p, 77, sizeof p), memset(q, 77, sizeof q);
-        if (!same(sb_tree(n, OF(t), p, n + more, x, n), c_tree(&u, q, n + more, y, n))) return 0;
+        if (!same(one->tree(&t, p, n + i % 3, x, n), two->tree(&u, q, n + i % 3, y, n))) return 0;
         if (memcmp(p, q, sizeof p) || !same_tables()) return 0;
     }
     return 1;
@@ -108,8 +144,8 @@ static int agree_sheet(void) {
     start();
     for (unsigned more = 0; more < 3; more++) {
         memset(p, 77, sizeof p), memset(q, 77, sizeof q);
-        size_t room = PAGE_LINE * ((n + 7) / 8) - 1 + more;
-        if (!same(sb_sheet(n, OF(t), p, room), c_sheet(&u, q, room)) || memcmp(p, q, sizeof p)) return 0;
+        size_t length = PAGE_LINE * ((n + 7) / 8) - 1 + more;
+        if (!same(one->sheet(&t, p, length), two->sheet(&u, q, length)) || memcmp(p, q, sizeof p)) return 0;
     }
     return 1;
 }
@@ -117,39 +153,53 @@ static int agree_sheet(void) {
 /* Tables: one entry too few, just enough, more; and on sites that some link calls have changed. */
 static int agree_staircase(void) {
     for (unsigned i = 0; i < 30; i++) {
-        size_t room = 2 * n - 1 + i % 3;
+        size_t length = 2 * n - 1 + i % 3;
         start();
-        for (unsigned k = 0; k < i; k++) c_link(rand() % 3 != 0, &t, rand() % n, rand() % n, x, n);
+        for (unsigned k = 0; k < i; k++) two->link(rand() % 3 != 0, &t, rand() % n, rand() % n, x, n);
         start_again();
-        if (!same(sb_staircase(n, OF(t), x, room), c_staircase(&u, y, room)) || !same_tables()) return 0;
+        if (!same(one->staircase(&t, x, length), two->staircase(&u, y, length)) || !same_tables()) return 0;
     }
     return 1;
 }
 
-/* Buffers: one byte too small, just right, larger. Blocks: each, the end, far past it; of an image with a changed byte too. */
-static int agree_writing(void) {
-    static uint8_t p[sizeof buffer + 1], q[sizeof buffer + 1];
-    start();
-    for (unsigned more = 0; more < 3; more++) {
-        memset(p, 77, sizeof p), memset(q, 77, sizeof q);
-        size_t room = e->image_length - 1 + more;
-        if (!same(sb_image_write(n, OF(t), p, room), c_image_write(&u, q, room)) || memcmp(p, q, sizeof p)) return 0;
-    }
+/* Blocks: each, the end, far past it; of an image with a changed byte too. */
+static int agree_blocks(uint8_t *image) {
     for (unsigned i = 0; i < 80; i++) {
-        size_t next = i == 79 ? SIZE_MAX : i, length = e->image_length - (i % 7 == 6);
-        if (i == 40) p[rand() % e->image_length] ^= 1;
-        sb_block r = sb_image_block(p, length, next);
-        struct c_block b = c_image_block(p, length, next);
+        size_t at = i == 79 ? SIZE_MAX : i, length = e->image_length - (i % 7 == 6);
+        if (i == 40) image[rand() % e->image_length] ^= 1;
+        struct c_block r = one->image_block(image, length, at), b = two->image_block(image, length, at);
         if (r.number != b.number || r.end != b.end || r.offset != b.offset || r.length != b.length || r.next != b.next) return 0;
     }
     return 1;
 }
 
+/* Buffers: one byte too small, just right, larger. */
+static int agree_writing(void) {
+    static uint8_t p[sizeof buffer + 1], q[sizeof buffer + 1];
+    start();
+    for (unsigned more = 0; more < 3; more++) {
+        memset(p, 77, sizeof p), memset(q, 77, sizeof q);
+        size_t length = e->image_length - 1 + more;
+        if (!same(one->image_write(&t, p, length), two->image_write(&u, q, length)) || memcmp(p, q, sizeof p)) return 0;
+    }
+    return agree_blocks(p);
+}
+
+/* The same tables, for one radio less. */
+static struct lent smaller(struct lent s) { return (struct lent){n - 1, s.links, ROW * (n - 1), s.numbers, n - 1, s.order, n - 1}; }
+
 /* The image into the tables of one radio less. */
 static int agree_smaller(const uint8_t *image, unsigned expected) {
     struct lent p = smaller(t), q = smaller(u);
-    unsigned number = sb_image_read(n - 1, OF(p), image, e->image_length);
-    return number == c_image_read(&q, image, e->image_length) && same_tables() && (!expected || number == expected);
+    unsigned number = one->image_read(&p, image, e->image_length);
+    return number == two->image_read(&q, image, e->image_length) && same_tables() && (!expected || number == expected);
+}
+
+/* Gives a block the check of its bytes. */
+static void close_again(uint8_t *block) {
+    uint32_t sum = 0;
+    for (unsigned i = 0; i < BODY; i++) sum += block[i] * (i + 1);
+    for (unsigned i = 0; i < 4; i++) block[BODY + i] = sum >> 8 * i;
 }
 
 /* The image of the site, and the same with a changed byte, whose block mostly has its check again, into cleared tables. */
@@ -157,31 +207,31 @@ static int agree_reading(void) {
     static uint8_t p[sizeof buffer];
     for (unsigned i = 0; i < 300; i++) {
         start();
-        c_clear(&t), c_clear(&u);
+        one->clear(&t), one->clear(&u);
         memcpy(p, e->image, e->image_length);
         size_t at = rand() % (i % 3 ? e->image_length : 2 * BLOCK);
         if (i && i % 2) p[at] ^= 1 << rand() % 8;
         if (i && i % 2 == 0) p[at] = rand() % n;
-        if (i % 8) close_block(p + at / BLOCK * BLOCK);
-        unsigned number = sb_image_read(n, OF(t), p, e->image_length);
-        if (number != c_image_read(&u, p, e->image_length) || !same_tables() || (i == 0 && number)) return 0;
+        if (i % 8) close_again(p + at / BLOCK * BLOCK);
+        unsigned number = one->image_read(&t, p, e->image_length);
+        if (number != two->image_read(&u, p, e->image_length) || !same_tables() || (i == 0 && number)) return 0;
         if (!agree_smaller(p, i ? 0 : 15)) return 0;
     }
     return 1;
 }
 
-/* What differs on the site of an entry, or NULL. */
-static const char *disagreement(struct entry *entry) {
-    e = entry;
-    if (sb_check(n, SITE).value != 1) return "the site is not sound";
-    if (!agree_damaged()) return "check";
+/* What differs between the engine and a program on the site of an entry, or NULL. */
+static const char *disagreement(const struct program *engine, const struct program *other, const struct entry *entry) {
+    one = engine, two = other, e = entry, n = e->site.n;
+    if (one->check(&e->site).value != 1) return "the site is not sound";
+    if (!agree_damaged() || !agree_damaged_more()) return "check";
     if (!agree_links()) return "link calls";
-    if (!agree_proposals()) return "proposals";
+    if (one->has(COMMITTED) && !agree_proposals()) return "proposals";
     if (!agree_questions()) return "questions";
-    if (!agree_sheet()) return "site sheet";
+    if (one->has(SHEET) && !agree_sheet()) return "site sheet";
     if (!agree_writing()) return "image writing";
     if (!agree_tree()) return "shell tree";
-    if (!agree_staircase()) return "staircase tree";
+    if (one->has(STAIRCASE) && !agree_staircase()) return "staircase tree";
     if (!agree_reading()) return "image reading";
     return NULL;
 }

@@ -1,61 +1,167 @@
 /*
- * Each call of the engine against the same algorithm in C, in one run. Lines of output:
- *   ratio CALL N SITE ENGINE C RATIO   time of a call in microseconds, the engine's and that of C
- *   steps N SITE SINGLE ASKED BOTH     times of a link call's two steps: the single calls, asked and then made single, asked and committed
- *   change SITE ENGINE                 time of a link call at 512 radios, over links all over the site
- *   stack CALL BYTES                   the most stack that the engine's call took
+ * Every program that is linked in (PROGRAMS, the engine first) on the same sites, in one run. Lines of output:
+ *   programs NAME ..              the programs, in the order of the times below
+ *   time CALL N SITE TIME ..      time of a call in microseconds, by each program; - where it lacks the call
+ *   steps N SITE SINGLE ASKED BOTH   the engine's link calls: single, asked and then made single, asked and committed
+ *   change SITE TIME ..           time of a link call at 512 radios, over links all over the site
+ *   stack CALL BYTES              the most stack that the engine's call took
+ * --quick: two sizes, few batches. --once N: only the engine's calls, once each, on sparse sites of N radios, for counting.
  */
 #include "agree.h"
-#include "changes.h"
 #include "clock.h"
+#include "names.h"
 #include "stack.h"
 #include <stdio.h>
 
-/* Both programs in turn, in short batches. */
-static void compare(const struct call *call, const char *kind) {
-    void (*const runs[2])(void) = {call->engine, call->in_c};
-    double best[2];
-    best_of(runs, 2, best);
-    printf("ratio %-11s %4u %-10s %9.3f %9.3f %6.2f\n", call->name, n, kind, best[0] / count, best[1] / count, best[0] / best[1]);
+#define P(name) extern const struct program name;
+PROGRAMS
+#undef P
+#define P(name) &name,
+static const struct program *const programs[] = {PROGRAMS};
+#define COUNT (sizeof programs / sizeof *programs)
+
+/* ---- calls */
+
+static enum timed call;
+static const struct program *having[COUNT]; /* those that have the call */
+static void run_call(unsigned i) { having[i]->runs[call](&work); }
+
+static unsigned find_having(void) {
+    unsigned count = 0;
+    for (unsigned p = 0; p < COUNT; p++)
+        if (programs[p]->has(call)) having[count++] = programs[p];
+    return count;
+}
+
+/* All programs that have the call, in turn, in short batches. */
+static void compare(uint32_t size, enum kind kind) {
+    double best[COUNT];
+    best_of(run_call, find_having(), best);
+    printf("time %s %u %s", names[call], size, kinds[kind]);
+    for (unsigned p = 0, i = 0; p < COUNT; p++)
+        if (programs[p]->has(call))
+            printf(" %.4f", best[i++] / work.count);
+        else
+            printf(" -");
+    printf("\n");
 }
 
 /* The engine's single link calls and the two steps, in turn. */
-static void compare_steps(const char *kind) {
-    void (*const runs[3])(void) = {engine_link, engine_asked, engine_committed};
+static void run_step(unsigned step) { programs[0]->runs[LINK + step](&work); }
+
+static void compare_steps(uint32_t size, enum kind kind) {
     double best[3];
-    best_of(runs, 3, best);
-    printf("steps %u %s %.3f %.3f %.3f\n", n, kind, best[0] / count, best[1] / count, best[2] / count);
+    best_of(run_step, 3, best);
+    printf("steps %u %s %.3f %.3f %.3f\n", size, kinds[kind], best[0] / work.count, best[1] / work.count, best[2] / work.count);
 }
 
-static void time_changes(enum kind kind) {
-    void (*const runs[1])(void) = {engine_changes};
-    double best[1];
-    use_changes(kind);
-    best_of(runs, 1, best);
-    printf("change %s %.3f\n", kinds[kind], best[0] / (2 * change_count));
+/* What is timed is a call that is taken, on every site: not one that is refused early. */
+static int all_taken(uint32_t size, enum kind kind) {
+    const struct program *p = programs[0];
+    for (struct entry *e = entries; e < entries + work.count; e++) {
+        struct ends l = e->ends;
+        unsigned refused = p->check(&e->site).value != 1 || p->core(&e->site, l.a, 1, answer, size).number;
+        refused |= p->link(0, &e->site, l.a, l.b, answer, size).number;
+        refused |= p->link(1, &e->site, l.a, l.b, answer, size).number;
+        refused |= p->image_read(&e->other, e->image, e->image_length);
+        if (!refused) continue;
+        printf("a call that is to be timed is refused: %u radios, %s\n", size, kinds[kind]);
+        return 0;
+    }
+    return 1;
 }
 
-int main(void) {
+/* A program that answers has to answer as the engine does, on as many of the sites as have 512 radios together. */
+static int all_agree(uint32_t size, enum kind kind) {
+    for (unsigned p = 1; p < COUNT; p++)
+        for (unsigned j = 0; j < TOGETHER / size && programs[p]->has(CHECK); j++) {
+            const char *what = disagreement(programs[0], programs[p], &entries[j]);
+            if (!what) continue;
+            printf("engine and %s differ: %s, %u radios, %s\n", programs[p]->name, what, size, kinds[kind]);
+            return 0;
+        }
+    return 1;
+}
+
+static void engine_call(void) { programs[0]->runs[call](&work); }
+
+static int time_calls(uint32_t size, enum kind kind, unsigned *stack) {
+    use_sites(programs[0], size, kind);
+    if (!all_taken(size, kind) || !all_agree(size, kind)) return 0;
+    for (call = 0; call < CALLS; call++) {
+        if (!programs[0]->has(call)) continue;
+        compare(size, kind);
+        unsigned bytes = stack_of(engine_call);
+        if (bytes > stack[call]) stack[call] = bytes;
+    }
+    if (programs[0]->has(COMMITTED)) compare_steps(size, kind);
+    return 1;
+}
+
+/* ---- changes */
+
+static struct site site;
+static struct lent changing;
+static struct ends changes[CHANGES];
+static unsigned change_count;
+
+static void run_changes(unsigned program) { programs[program]->changes(&changing, changes, change_count, answer); }
+
+/* Each program strikes a link, and must have the numbers that the engine has then. */
+static int same_changes(void) {
+    static struct site mine, other;
+    for (unsigned p = 1; p < COUNT; p++)
+        for (unsigned i = 0; i < change_count; i++) {
+            mine = other = site;
+            struct lent a = lent_by(&mine), b = lent_by(&other);
+            programs[0]->link(0, &a, changes[i].a, changes[i].b, answer, RADIOS);
+            programs[p]->link(0, &b, changes[i].a, changes[i].b, answer, RADIOS);
+            if (memcmp(mine.numbers, other.numbers, RADIOS) || memcmp(mine.links, other.links, sizeof mine.links)) return 0;
+        }
+    return 1;
+}
+
+static int time_changes(enum kind kind) {
+    double best[COUNT];
+    make_site(&site, RADIOS, kind, 0);
+    changing = lent_by(&site), change_count = some_links(&site, changes, CHANGES);
+    if (!same_changes()) {
+        printf("other numbers after a change: %s\n", kinds[kind]);
+        return 0;
+    }
+    best_of(run_changes, COUNT, best);
+    printf("change %s", kinds[kind]);
+    for (unsigned p = 0; p < COUNT; p++) printf(" %.3f", best[p] / (2 * change_count));
+    printf("\n");
+    return 1;
+}
+
+/* ---- the runs */
+
+/* bench/instructions.py counts what each loop of the engine takes. */
+static int once(uint32_t size) {
+    use_sites(programs[0], size, SPARSE);
+    printf("sites %u\n", work.count);
+    for (call = 0; call < CALLS; call++)
+        if (programs[0]->has(call)) programs[0]->runs[call](&work);
+    return 0;
+}
+
+int main(int argc, char **argv) {
     static const uint32_t sizes[] = {16, 64, 256, 512};
     static unsigned stack[CALLS];
-    for (unsigned i = 0; i < 4; i++)
-        for (unsigned k = 0; k < KINDS; k++) {
-            use_sites(sizes[i], k);
-            for (unsigned j = 0; j < count; j++) {
-                const char *what = disagreement(&entries[j]);
-                if (what) {
-                    printf("engine and C differ: %s, %u radios, %s\n", what, n, kinds[k]);
-                    return 1;
-                }
-            }
-            for (unsigned c = 0; c < CALLS; c++) {
-                compare(&calls[c], kinds[k]);
-                unsigned bytes = stack_of(calls[c].engine);
-                if (bytes > stack[c]) stack[c] = bytes;
-            }
-            compare_steps(kinds[k]);
-        }
-    for (unsigned k = 0; k < KINDS; k++) time_changes(k);
-    for (unsigned c = 0; c < CALLS; c++) printf("stack %s %u\n", calls[c].name, stack[c]);
+    if (argc > 2) return once(atoi(argv[2]));
+    unsigned step = argc > 1 ? 3 : 1;
+    if (step == 3) turns = 3;
+    printf("programs");
+    for (unsigned p = 0; p < COUNT; p++) printf(" %s", programs[p]->name);
+    printf("\n");
+    for (unsigned i = 0; i < 4; i += step)
+        for (unsigned k = 0; k < KINDS; k++)
+            if (!time_calls(sizes[i], k, stack)) return 1;
+    for (unsigned k = 0; k < ALONE; k++)
+        if (!time_changes(k)) return 1;
+    for (call = 0; call < CALLS; call++)
+        if (programs[0]->has(call)) printf("stack %s %u\n", names[call], stack[call]);
     return 0;
 }

@@ -3,8 +3,9 @@
 #define CLOCK_H
 #include <time.h>
 
-#define TURNS 40
 #define BATCH 500.0 /* microseconds */
+
+static unsigned turns = 40;
 
 static double now(void) {
     struct timespec t;
@@ -12,21 +13,22 @@ static double now(void) {
     return t.tv_sec * 1e6 + t.tv_nsec / 1e3;
 }
 
-static double batch(void (*run)(void), unsigned times) {
+static double batch(void (*run)(unsigned), unsigned program, unsigned times) {
     double start = now();
-    for (unsigned i = 0; i < times; i++) run();
+    for (unsigned i = 0; i < times; i++) run(program);
     return (now() - start) / times;
 }
 
-static void best_of(void (*const *runs)(void), unsigned count, double *best) {
+/* The best time of each program, in microseconds; run(i) runs program i once. */
+static void best_of(void (*run)(unsigned), unsigned count, double *best) {
     unsigned times[count];
     for (unsigned i = 0; i < count; i++) {
-        best[i] = batch(runs[i], 3);
+        best[i] = batch(run, i, 3);
         times[i] = 1 + BATCH / best[i];
     }
-    for (unsigned turn = 0; turn < TURNS; turn++)
+    for (unsigned turn = 0; turn < turns; turn++)
         for (unsigned i = 0; i < count; i++) {
-            double t = batch(runs[i], times[i]);
+            double t = batch(run, i, times[i]);
             if (t < best[i]) best[i] = t;
         }
 }

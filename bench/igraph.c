@@ -2,13 +2,24 @@
  * A change by the engine and with igraph, which works all core numbers out anew. Lines of output, in microseconds, at 512 radios:
  *   igraph SITE ENGINE CORENESS CHANGE   a link call; igraph_coreness alone; a link struck or added and igraph_coreness
  */
-#include "changes.h"
 #include "clock.h"
+#include "sites.h"
 #include <igraph/igraph.h>
 #include <stdio.h>
 
+extern const struct program engine;
+
+static struct site site;
+static struct lent changing = {RADIOS, site.links, ROW * RADIOS, site.numbers, RADIOS, site.order, RADIOS};
+static struct ends changes[CHANGES];
+static unsigned change_count;
 static igraph_t graph;
 static igraph_vector_int_t cores;
+
+static void engine_changes(void) {
+    static uint16_t answer[RADIOS];
+    engine.changes(&changing, changes, change_count, answer);
+}
 
 static void work_out(void) { igraph_coreness(&graph, &cores, IGRAPH_ALL); }
 
@@ -21,6 +32,11 @@ static void igraph_changes(void) {
         igraph_add_edge(&graph, changes[i].a, changes[i].b);
         work_out();
     }
+}
+
+static void run(unsigned program) {
+    void (*const runs[3])(void) = {engine_changes, work_out, igraph_changes};
+    runs[program]();
 }
 
 static void make_graph(void) {
@@ -41,18 +57,20 @@ static int same_numbers(void) {
     return 1;
 }
 
-int main(void) {
-    void (*const runs[3])(void) = {engine_changes, work_out, igraph_changes};
+int main(int argc, char **argv) {
     double best[3];
+    (void)argv;
+    if (argc > 1) turns = 3;
     igraph_vector_int_init(&cores, 0);
-    for (unsigned k = 0; k < KINDS; k++) {
-        use_changes(k);
+    for (unsigned k = 0; k < ALONE; k++) {
+        make_site(&site, RADIOS, k, 0);
+        change_count = some_links(&site, changes, CHANGES);
         make_graph();
         if (!same_numbers()) {
             printf("igraph has other numbers: %s\n", kinds[k]);
             return 1;
         }
-        best_of(runs, 3, best);
+        best_of(run, 3, best);
         printf("igraph %s %.3f %.3f %.3f\n", kinds[k], best[0] / (2 * change_count), best[1], best[2] / (2 * change_count));
         igraph_destroy(&graph);
     }

@@ -1,22 +1,21 @@
-"""The plot of a run, as SVG: the ratio of each call, and the time of a call as sites grow."""
+"""The plot of a run, as SVG: the ratio of each call to C of both kinds, and the time of a call as sites grow."""
 
 import math
 
-WIDTH, HEIGHT = 960, 760
-LEFT, RIGHT = 60, 940
-COLOURS = ["#0072b2", "#d55e00", "#009e73", "#aa4499", "#999933"]
-# one for each line of the lower panel, apart from the sites'
+WIDTH, HEIGHT = 1280, 1130
+LEFT, RIGHT = 60, 1260
+COLOURS = ["#0072b2", "#d55e00", "#009e73", "#aa4499", "#999933", "#56b4e9", "#332288", "#cc3311", "#777777", "#111111"]
+# one for each line of the lowest panel, apart from the sites'
 LINES = ["#1b1b1b", "#8c510a", "#01665e", "#762a83", "#b2182b", "#4d9221", "#2166ac", "#c51b7d", "#737373", "#e08214"]
-GROWING = ["clear", "check", "down+up", "core", "tree", "image_write", "image_read", "image_block"]
+GROWING = ["clear", "check", "down+up", "core", "tree", "staircase", "sheet", "image_write", "image_read", "image_block"]
 
 
 def text(x, y, words, anchor="middle", size=12, colour="#222"):
     return f'<text x="{x:.1f}" y="{y:.1f}" text-anchor="{anchor}" font-size="{size}" fill="{colour}">{words}</text>'
 
 
-def line(x, y, x2, y2, colour="#ddd", width=1, dash=""):
-    dashes = f' stroke-dasharray="{dash}"' if dash else ""
-    return f'<line x1="{x:.1f}" y1="{y:.1f}" x2="{x2:.1f}" y2="{y2:.1f}" stroke="{colour}" stroke-width="{width}"{dashes}/>'
+def line(x, y, x2, y2, colour="#ddd", width=1):
+    return f'<line x1="{x:.1f}" y1="{y:.1f}" x2="{x2:.1f}" y2="{y2:.1f}" stroke="{colour}" stroke-width="{width}"/>'
 
 
 def dot(x, y, colour, size=3.5):
@@ -26,31 +25,39 @@ def dot(x, y, colour, size=3.5):
 def legend(sites, y):
     parts, x = [], LEFT
     for site, colour in zip(sites, COLOURS):
-        parts += [dot(x + 5, y - 4, colour), text(x + 14, y, site, "start")]
-        x += 90
+        parts += [dot(x + 5, y - 4, colour), text(x + 14, y, site.replace("_", " "), "start")]
+        x += 106
     return parts + [line(x, y - 4, x + 18, y - 4, "#c00", 2), text(x + 24, y, "goal, at most", "start")]
 
 
-def ratio_panel(run, goal, sizes, sites):
+def ratio_columns(run, kind, at, bottom, goal):
     """A column for each call; in it the sizes from left to right, a dot for each site."""
-    top, bottom, highest = 70, 330, 1.75
-    step = (RIGHT - LEFT) / len(run.times)
+    step, parts = (RIGHT - LEFT) / len(run.calls), []
+    for i, call in enumerate(run.calls):
+        x = LEFT + i * step
+        parts += [line(x, at(1) + 4, x, at(1) - 4, "#888"), text(x + step / 2, bottom + 18, call.replace("_", " "), size=10)]
+        if goal:
+            parts.append(line(x + 4, at(goal(call)), x + step - 4, at(goal(call)), "#c00", 2))
+        for j, n in enumerate(run.sizes):
+            for site, colour in zip(run.sites, COLOURS):
+                parts.append(dot(x + step * (j + 1) / (len(run.sizes) + 1), at(run.ratio(call, n, site, kind)), colour, 2.8))
+    return parts
+
+
+def ratio_panel(run, kind, top, title, goal=None):
+    """Ratios by powers of two, so that twice and half as fast are as far from level."""
+    bottom = top + 300
+    ratios = [ratio for call in run.calls for ratio in run.ratios(call, kind)]
+    low, high = math.floor(min(0, *map(math.log2, ratios))), math.ceil(max(1, *map(math.log2, ratios)))
 
     def at(value):
-        return bottom - (bottom - top) * min(value, highest) / highest
+        return bottom - (bottom - top) * (math.log2(value) - low) / (high - low)
 
-    parts = [text(LEFT, 24, "Time of a call, engine : C of the same algorithm (in each column n = 16, 64, 256, 512)", "start", 14)]
-    parts += legend(sites, 48)
-    for value in (0, 0.5, 1, 1.5):
-        parts += [line(LEFT, at(value), RIGHT, at(value), "#888" if value == 1 else "#ddd"), text(LEFT - 8, at(value) + 4, value, "end")]
-    for i, call in enumerate(run.times):
-        x = LEFT + i * step
-        parts += [line(x + 4, at(goal(call)), x + step - 4, at(goal(call)), "#c00", 2)]
-        parts += [text(x + step / 2, bottom + 18, call.replace("_", " "), size=11)]
-        for j, n in enumerate(sizes):
-            for site, colour in zip(sites, COLOURS):
-                parts.append(dot(x + step * (j + 1) / (len(sizes) + 1), at(run.ratio(call, n, site)), colour, 3))
-    return parts
+    parts = [text(LEFT, top - 16, title, "start", 14)]
+    for power in range(low, high + 1):
+        parts += [line(LEFT, at(2 ** power), RIGHT, at(2 ** power), "#888" if power == 0 else "#ddd")]
+        parts += [text(LEFT - 8, at(2 ** power) + 4, f"{2 ** power:g}", "end")]
+    return parts + ratio_columns(run, kind, at, bottom, goal)
 
 
 def spread(places, gap):
@@ -61,11 +68,11 @@ def spread(places, gap):
     return out
 
 
-def growth_panel(run, sizes):
+def growth_panel(run, top):
     """Time by size, both by powers; a label at the right end of each line."""
-    top, bottom, right = 420, 710, RIGHT - 110
-    calls = [call for call in GROWING if call in run.times]
-    times = {call: [run.times[call][n, "sparse"][0] for n in sizes] for call in calls}
+    bottom, right, sizes = top + 290, RIGHT - 110, run.sizes
+    calls = [call for call in GROWING if call in run.calls]
+    times = {call: [run.engine(call, n, "sparse") for n in sizes] for call in calls}
     low = math.floor(math.log10(min(map(min, times.values()))))
     high = math.ceil(math.log10(max(map(max, times.values()))))
 
@@ -75,7 +82,7 @@ def growth_panel(run, sizes):
     def down(time):
         return bottom - (bottom - top) * (math.log10(time) - low) / (high - low)
 
-    parts = [text(LEFT, top - 24, "Time of a call of the engine on sparse sites, microseconds", "start", 14)]
+    parts = [text(LEFT, top - 16, "Time of a call of the engine on sparse sites, microseconds", "start", 14)]
     for power in range(low, high + 1):
         parts += [line(LEFT, down(10 ** power), right, down(10 ** power)), text(LEFT - 8, down(10 ** power) + 4, f"{10 ** power:g}", "end")]
     for n in sizes:
@@ -91,7 +98,10 @@ def growth_panel(run, sizes):
     return parts
 
 
-def plot(run, goal, sizes, sites):
+def plot(run, goal):
+    sizes = ", ".join(map(str, run.sizes))
     head = f'<svg xmlns="http://www.w3.org/2000/svg" viewBox="0 0 {WIDTH} {HEIGHT}" font-family="sans-serif">'
     back = f'<rect width="{WIDTH}" height="{HEIGHT}" fill="#fff"/>'
-    return "\n".join([head, back, *ratio_panel(run, goal, sizes, sites), *growth_panel(run, sizes), "</svg>", ""])
+    plain = ratio_panel(run, "plain", 70, f"Time of a call, engine : line-by-line C (in each column n = {sizes})", goal)
+    careful = ratio_panel(run, "careful", 440, "Time of a call, engine : careful C")
+    return "\n".join([head, back, *legend(run.sites, 30), *plain, *careful, *growth_panel(run, 810), "</svg>", ""])

@@ -5,76 +5,24 @@
                                          docs/benchmarks.svg
 """
 
+import statistics
 import sys
 import textwrap
-from collections import defaultdict
 from pathlib import Path
 
+from lines import Run
 from plot import plot
 
 TOP = Path(__file__).resolve().parent.parent
 START, END = "<!-- measured: bench/run --write -->\n", "<!-- end -->\n"
-SITES = ["sparse", "dense", "ring", "circulant", "parts"]
-SIZES = [16, 64, 256, 512]
 NEAR = ["clear", "check", "number", "neighbours", "linked", "first", "later_of", "down+up", "ask+link", "ask+commit"]
 MOST_ASK, MOST_COMMIT = 1.0, 1.1  # of the single call
 MOST_GROWTH, MOST_STACK, LEAST_IGRAPH, LEAST_NETWORKX = 40, 8192, 2, 20
 
 
 def goal(call):
+    """The most of the ratio to line-by-line C."""
     return 1.2 if call in NEAR else 1.3 if call == "staircase" else 1.5
-
-
-class Run:
-    """The lines of a run: times[call][n, site] is the engine's time and that of C; others by site."""
-
-    def __init__(self, path):
-        self.machine = ""
-        self.times, self.stack, self.steps = defaultdict(dict), {}, {}
-        self.change, self.igraph, self.networkx = {}, {}, {}
-        for line in Path(path).read_text().splitlines():
-            word, rest = line.split(" ", 1)
-            getattr(self, "take_" + word)(rest)
-
-    def take_machine(self, rest):
-        self.machine = rest.replace("x86_64", "x86-64")
-
-    def take_ratio(self, rest):
-        call, n, site, engine, c, _ = rest.split()
-        self.times[call][int(n), site] = float(engine), float(c)
-
-    def take_stack(self, rest):
-        call, count = rest.split()
-        self.stack[call] = int(count)
-
-    def take_steps(self, rest):
-        n, site, *times = rest.split()
-        self.steps[int(n), site] = [float(t) for t in times]
-
-    def take_change(self, rest):
-        site, engine = rest.split()
-        self.change[site] = float(engine)
-
-    def take_igraph(self, rest):
-        site, *times = rest.split()
-        self.igraph[site] = [float(t) for t in times]
-
-    def take_networkx(self, rest):
-        site, time = rest.split()
-        self.networkx[site] = float(time)
-
-    def ratio(self, call, n, site):
-        engine, c = self.times[call][n, site]
-        return engine / c
-
-    def two_steps(self, n, site):
-        """Asking, and committing, in parts of the single call."""
-        single, asked, both = self.steps[n, site]
-        asking = asked - single
-        return asking / single, (both - asking) / single
-
-    def growth(self, call):
-        return self.times[call][512, "sparse"][0] / self.times[call][16, "sparse"][0]
 
 
 # ---- tables
@@ -88,42 +36,77 @@ def met(good):
     return "met" if good else "missed"
 
 
+def mean(run, call, kind):
+    return statistics.geometric_mean(run.ratios(call, kind))
+
+
+def words(name):
+    return name.replace("_", " ")
+
+
+def mean_and_worst(run, call, kind):
+    ratio, n, site = run.worst(call, kind)
+    return [f"{mean(run, call, kind):.2f}", f"{ratio:.2f}", f"{n}, {words(site)}"]
+
+
 def worst(run):
-    for call in run.times:
-        value, n, site = max((run.ratio(call, n, site), n, site) for n, site in run.times[call])
-        yield [call, f"{value:.2f}", f"{n}, {site}", goal(call), met(value <= goal(call))]
+    for call in run.calls:
+        verdict = met(run.worst(call, "plain")[0] <= goal(call))
+        yield [call, *mean_and_worst(run, call, "plain"), goal(call), verdict, *mean_and_worst(run, call, "careful")]
 
 
-def ratios(run):
-    for call in run.times:
-        for n in SIZES:
-            yield [call, n, *(f"{run.ratio(call, n, site):.2f}" for site in SITES)]
+def ratios(run, kind):
+    for call in run.calls:
+        for n in run.sizes:
+            yield [call, n, *(f"{run.ratio(call, n, site, kind):.2f}" for site in run.sites)]
 
 
 def times(run):
-    for call in run.times:
-        small = run.times[call][16, "sparse"][0]
-        large = (f"{run.times[call][512, site][0]:.1f}" for site in SITES)
-        yield [call, f"{small:.2f}", *large, f"{run.growth(call):.0f}", met(run.growth(call) <= MOST_GROWTH)]
+    low, high = run.sizes[0], run.sizes[-1]
+    for call in run.calls:
+        large = (f"{run.engine(call, high, site):.1f}" for site in run.sites)
+        yield [call, f"{run.engine(call, low, 'sparse'):.2f}", *large]
+
+
+def growths(run):
+    for call in run.calls:
+        in_time = run.engine(call, 512, "sparse") / run.engine(call, 16, "sparse")
+        cells = [call, f"{in_time:.0f}"]
+        if run.instructions:
+            small, large = (run.instructions[call, n] for n in (16, 512))
+            cells += [f"{small:,}", f"{large:,}", f"{large / small:.0f}"]
+        growth = large / small if run.instructions else in_time
+        yield [*cells, met(growth <= MOST_GROWTH)]
+
+
+def growth_head(run):
+    counts = ["instructions, 16", "instructions, 512", "growth"] if run.instructions else []
+    return ["call", "growth of time", *counts, f"at most {MOST_GROWTH}"]
 
 
 def two_steps(run):
-    for n in SIZES:
+    for n in run.sizes:
         for step, most in ((0, MOST_ASK), (1, MOST_COMMIT)):
-            values = [run.two_steps(n, site)[step] for site in SITES]
+            values = [run.two_steps(n, site)[step] for site in run.sites]
             yield ["committing" if step else "asking", n, *(f"{x:.2f}" for x in values), most, met(max(values) <= most)]
+
+
+def changes(run):
+    for site in run.change:
+        engine, *others = (run.change_by(site, kind) for kind in ("engine", "plain", "careful", "anew"))
+        yield [words(site), f"{engine:.1f}", *(f"{time:.1f}" for time in others), f"{others[-1] / engine:.2f}"]
 
 
 def igraph(run):
     for site, (engine, alone, change) in run.igraph.items():
         good = met(change >= LEAST_IGRAPH * engine)
-        yield [site, f"{engine:.1f}", f"{alone:.1f}", f"{change:.1f}", f"{change / engine:.1f}", good]
+        yield [words(site), f"{engine:.1f}", f"{alone:.1f}", f"{alone / engine:.1f}", f"{change:.1f}", f"{change / engine:.1f}", good]
 
 
 def networkx(run):
     for site, time in run.networkx.items():
-        engine = run.change[site]
-        yield [site, f"{engine:.1f}", f"{time:.0f}", f"{time / engine:.0f}", met(time >= LEAST_NETWORKX * engine)]
+        engine = run.change_by(site, "engine")
+        yield [words(site), f"{engine:.1f}", f"{time:.0f}", f"{time / engine:.0f}", met(time >= LEAST_NETWORKX * engine)]
 
 
 def stacks(run):
@@ -131,24 +114,39 @@ def stacks(run):
         yield [call, f"{count:,}", met(count <= MOST_STACK)]
 
 
-def report(run):
-    parts = [f"Machine: {run.machine}.\n"]
-    parts += ["### The worst ratio of each call\n",
-              table(["call", "ratio", "at", "goal, at most", ""], worst(run)),
-              "### Ratios\n",
-              table(["call", "n", *SITES], ratios(run)),
-              "### Time of a call, in microseconds, and its growth\n",
-              table(["call", "16, sparse", *(f"512, {site}" for site in SITES), "growth, sparse", f"at most {MOST_GROWTH}"], times(run))]
-    parts += ["### A link call in two steps, in parts of the single call\n",
-              table(["step", "n", *SITES, "goal, at most", ""], two_steps(run))]
+def ratio_parts(run):
+    sites = [words(site) for site in run.sites]
+    yield "### The ratios of each call\n"
+    yield table(["call", "to line-by-line C, mean", "worst", "at", "goal, at most", "", "to careful C, mean", "worst", "at"], worst(run))
+    yield "### Ratios to careful C\n"
+    yield table(["call", "n", *sites], ratios(run, "careful"))
+    yield "### Ratios to line-by-line C\n"
+    yield table(["call", "n", *sites], ratios(run, "plain"))
+
+
+def change_parts(run):
+    yield "### A change at 512 radios, in microseconds\n"
+    yield table(["site", "engine", "line-by-line C", "careful C", "all numbers anew in plain C", "anew : engine"], changes(run))
     if run.igraph:
-        parts += ["### A change at 512 radios against igraph, in microseconds\n",
-                  table(["site", "engine", "coreness alone", "change and coreness", "times", f"at least {LEAST_IGRAPH}"], igraph(run))]
+        yield "### A change at 512 radios against igraph, in microseconds\n"
+        yield table(["site", "engine", "coreness alone", "times", "change and coreness", "times", f"at least {LEAST_IGRAPH}"], igraph(run))
     if run.networkx:
-        parts += ["### A change at 512 radios against networkx, in microseconds\n",
-                  table(["site", "engine", "change and core numbers", "times", f"at least {LEAST_NETWORKX}"], networkx(run))]
-    parts += ["### Stack of a call, in bytes\n",
-              table(["call", "bytes", f"at most {MOST_STACK:,}"], stacks(run))]
+        yield "### A change at 512 radios against networkx, in microseconds\n"
+        yield table(["site", "engine", "change and core numbers", "times", f"at least {LEAST_NETWORKX}"], networkx(run))
+
+
+def report(run):
+    sites = [words(site) for site in run.sites]
+    stolen = f"; {run.stolen} % of its time went to other machines during the run" if run.stolen else ""
+    parts = [f"Machine: {run.machine}{stolen}.\n", *ratio_parts(run)]
+    parts += ["### Time of a call of the engine, in microseconds\n",
+              table(["call", f"{run.sizes[0]}, sparse", *(f"{run.sizes[-1]}, {site}" for site in sites)], times(run)),
+              "### Growth of a call of the engine, sparse sites of 16 and of 512 radios\n",
+              table(growth_head(run), growths(run))]
+    if run.steps:
+        parts += ["### A link call in two steps, in parts of the single call\n",
+                  table(["step", "n", *sites, "goal, at most", ""], two_steps(run))]
+    parts += [*change_parts(run), "### Stack of a call, in bytes\n", table(["call", "bytes", f"at most {MOST_STACK:,}"], stacks(run))]
     return "\n".join(parts)
 
 
@@ -161,30 +159,39 @@ def span(values, form):
 
 def summary(run):
     """A paragraph for README.md."""
-    ratio = span((run.ratio(call, n, site) for call in run.times for n, site in run.times[call]), ".2f")
-    words = [f"In one run a call took {ratio} times as long as the same algorithm in C at -O3.",
-             f"At 512 radios a link call took {span(run.change.values(), '.0f')} microseconds, the check of its tables with it."]
+    plain, careful = ([ratio for call in run.calls for ratio in run.ratios(call, kind)] for kind in ("plain", "careful"))
+    means = [mean(run, call, "careful") for call in run.calls]
+    anew = (run.change_by(site, "anew") / run.change_by(site, "engine") for site in run.change)
+    compilers = ("the better of " if len(run.compilers) > 1 else "") + " and ".join(run.compilers)
+    said = [f"In one run a call took {span(plain, '.2f')} times as long as C that follows its algorithm line by line, at -O3 by {compilers}.",
+            "Against C as a careful programmer would write the call it took",
+            f"{span(careful, '.2f')} times as long, on average {span(means, '.1f')} times by call.",
+            f"At 512 radios a link call took {span((run.change_by(site, 'engine') for site in run.change), '.0f')} microseconds, the check of its"
+            " tables with it. Working all numbers out anew in plain C, which checks nothing and keeps no order, took",
+            f"{span(anew, '.2f')} times as long."]
     if run.igraph:
-        words.append(f"A change took {span((row[2] / row[0] for row in run.igraph.values()), '.1f')} times as long with igraph's C library.")
+        said.append(f"A change took {span((row[2] / row[0] for row in run.igraph.values()), '.1f')} times as long with igraph's C library, its"
+                    f" `coreness` alone {span((row[1] / row[0] for row in run.igraph.values()), '.1f')} times.")
     if run.networkx:
-        words.append(f"With networkx a change took {span((run.networkx[site] / run.change[site] for site in run.networkx), '.0f')} times as long.")
-    return textwrap.fill(" ".join(words), 132) + "\n"
+        said.append(f"With networkx a change took {span((time / run.change_by(site, 'engine') for site, time in run.networkx.items()), '.0f')} times as long.")
+    return textwrap.fill(" ".join(said), 132) + "\n"
 
 
-def put(page, words):
+def put(page, text):
     before, rest = page.read_text().split(START)
-    page.write_text(before + START + "\n" + words + "\n" + END + rest.split(END)[1])
+    page.write_text(before + START + "\n" + text + "\n" + END + rest.split(END)[1])
 
 
 def write(run):
     put(TOP / "docs/BENCHMARKS.md", report(run))
     put(TOP / "README.md", summary(run))
-    (TOP / "docs/benchmarks.svg").write_text(plot(run, goal, SIZES, SITES))
+    (TOP / "docs/benchmarks.svg").write_text(plot(run, goal))
 
 
 def main():
     run = Run(sys.argv[1])
     print(report(run))
+    print(summary(run))
     if "--write" in sys.argv[2:]:
         write(run)
 

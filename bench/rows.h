@@ -1,4 +1,4 @@
-/* Rows of the links table in C, as the engine reads them: by words, set bits by trailing zeros. */
+/* Rows of the links table in C: by words, set bits by trailing zeros. */
 #ifndef ROWS_H
 #define ROWS_H
 #include <stddef.h>

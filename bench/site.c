@@ -5,7 +5,7 @@
 int main(void) {
     static struct site s;
     struct ends changes[CHANGES];
-    for (unsigned k = 0; k < KINDS; k++) {
+    for (unsigned k = 0; k < ALONE; k++) {
         make_site(&s, RADIOS, k, 0);
         printf("%s\n", kinds[k]);
         for (unsigned v = 0; v < s.n; v++) printf("%u ", s.numbers[v]);

@@ -1,7 +1,8 @@
 /* Sites to measure on, with sound tables made by plain peeling. */
 #ifndef SITES_H
 #define SITES_H
-#include "rows.h"
+#include "kinds.h"
+#include "program.h"
 #include <stdlib.h>
 
 struct site {
@@ -45,8 +46,31 @@ static void circulant(struct site *s, unsigned first, unsigned size, unsigned re
             if (a != (a + d) % size) mark(s, first + a, first + (a + d) % size);
 }
 
-enum kind { SPARSE, DENSE, RING, CIRCULANT, PARTS, KINDS };
-static const char *const kinds[KINDS] = {"sparse", "dense", "ring", "circulant", "parts"};
+/* Radios on a square, linked within the reach that gives `near` neighbours on average: as masts and towers are. */
+static void geometric(struct site *s, unsigned near) {
+    static double x[RADIOS], y[RADIOS];
+    double reach = near / (3.14159265 * s->n);
+    for (unsigned v = 0; v < s->n; v++) x[v] = rand() / (double)RAND_MAX, y[v] = rand() / (double)RAND_MAX;
+    for (unsigned a = 0; a < s->n; a++)
+        for (unsigned b = a + 1; b < s->n; b++) {
+            double across = x[a] - x[b], up = y[a] - y[b];
+            if (across * across + up * up >= reach) continue;
+            if (row_count(s->links, a) < NEIGHBOURS && row_count(s->links, b) < NEIGHBOURS) mark(s, a, b);
+        }
+}
+
+/*
+ * Many levels: a circulant, and beside it radios with 1, 2, 3 .. links into it. As many of these as leave each radio of the
+ * circulant at most two of their links, so that all have at most 40 neighbours. Each core holds the circulant.
+ */
+static void levels(struct site *s) {
+    unsigned beside = 1;
+    while (beside < NEIGHBOURS - 3 && (beside + 1) * (beside + 2) / 2 <= 2 * (s->n - beside - 1)) beside++;
+    unsigned inside = s->n - beside, reach = inside > NEIGHBOURS ? NEIGHBOURS / 2 - 1 : (inside - 1) / 2;
+    circulant(s, 0, inside, reach);
+    for (unsigned k = 1, at = 0; k <= beside; k++)
+        for (unsigned i = 0; i < k; i++, at++) mark(s, inside + k - 1, at % inside);
+}
 
 /* Random sites of the same size and kind differ by their index. */
 static void make_site(struct site *s, uint32_t n, enum kind kind, unsigned index) {
@@ -54,20 +78,19 @@ static void make_site(struct site *s, uint32_t n, enum kind kind, unsigned index
     s->n = n;
     srand(137 + n + 1000 * index);
     unsigned reach = n > 2 * (NEIGHBOURS / 2) ? NEIGHBOURS / 2 : (n - 1) / 2;
-    if (kind == SPARSE) random_links(s, 2 * n, NEIGHBOURS);
+    if (kind == SPARSE || kind == SPARSE_TURN) random_links(s, 2 * n, NEIGHBOURS);
     if (kind == DENSE) random_links(s, n * reach, NEIGHBOURS);
     if (kind == RING) circulant(s, 0, n, 1);
     if (kind == CIRCULANT) circulant(s, 0, n, reach);
     if (kind == PARTS)
         for (unsigned first = 0; first < n; first += 8) circulant(s, first, 8, 1 + first / 8 % 3);
+    if (kind == GEOMETRIC_8 || kind == GEOMETRIC_TURN) geometric(s, 8);
+    if (kind == GEOMETRIC_20) geometric(s, 20);
+    if (kind == LEVELS) levels(s);
     peel(s);
 }
 
 #define CHANGES 32 /* links that are taken down and up again where changes are timed */
-
-struct ends {
-    uint16_t a, b;
-};
 
 /* Some links of the site, spread evenly over all of them; how many these are. */
 static unsigned some_links(const struct site *s, struct ends *list, unsigned room) {

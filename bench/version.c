@@ -1,17 +1,17 @@
 /* The calls of one archive of the engine, for bench/versions: compiled and linked once for each of the two. */
-#include "calls.h"
+#define PROGRAM engine
+#include "engine.c"
+#include "work.h"
 
 #define JOIN(a, b) a##b
-#define NAME(a, b) JOIN(a, b)
+#define OF_VERSION(a, b) JOIN(a, b)
 
-unsigned NAME(VERSION, _calls)(void) { return CALLS; }
-
-const char *NAME(VERSION, _name)(unsigned c) { return calls[c].name; }
+int OF_VERSION(VERSION, _has)(unsigned c) { return engine.has(c); }
 
 /* Comes back with how many sites there are of this size. */
-unsigned NAME(VERSION, _use)(uint32_t size, unsigned kind) {
-    use_sites(size, kind);
-    return count;
+unsigned OF_VERSION(VERSION, _use)(uint32_t size, unsigned kind) {
+    use_sites(&engine, size, kind);
+    return work.count;
 }
 
-void NAME(VERSION, _run)(unsigned c) { calls[c].engine(); }
+void OF_VERSION(VERSION, _run)(unsigned c) { engine.runs[c](&work); }

@@ -3,13 +3,6 @@
 #define IMAGE_H
 #include "check.h"
 
-#define BLOCK 512
-#define BODY 508
-#define HEAD 4
-#define ENTRIES 252
-#define LINKS 126
-#define MOST_BLOCKS 86
-
 static void put_word(uint8_t *p, unsigned x) { p[0] = x, p[1] = x >> 8; }
 
 static unsigned word_at(const uint8_t *p) { return p[0] | p[1] << 8; }
@@ -33,22 +26,11 @@ static void close_block(uint8_t *block) {
     put_word(block + BODY, sum), put_word(block + BODY + 2, sum >> 16);
 }
 
-/* Lists row a; the place of the first neighbour above a, and the count. */
-static unsigned list_above(const uint8_t *links, unsigned a, uint16_t *list, unsigned *end) {
-    unsigned start = 0;
-    *end = row_list(links, a, list, NEIGHBOURS);
-    while (start < *end && list[start] <= a) start++;
-    return start;
-}
-
 static struct c_value c_image_write(const struct lent *t, uint8_t *buffer, size_t room) {
     uint16_t list[NEIGHBOURS];
-    unsigned number = c_refusal(t, 1), count = 0, end;
+    unsigned number = c_refusal(t, 1), count = 0;
     if (number) return (struct c_value){number, 0};
-    for (unsigned a = 0; a < t->n; a++) {
-        unsigned start = list_above(t->links, a, list, &end);
-        count += end - start;
-    }
+    for (unsigned a = 0; a < t->n; a++) count += c_above(t->links, a, list);
     unsigned orders = (t->n + ENTRIES - 1) / ENTRIES, blocks = 1 + orders + (count + LINKS - 1) / LINKS;
     if (room < BLOCK * blocks) return (struct c_value){9, 0};
     for (unsigned i = 0, row = 0, place = 0; i < blocks; i++) {
@@ -61,10 +43,10 @@ static struct c_value c_image_write(const struct lent *t, uint8_t *buffer, size_
             for (unsigned j = 0; j < ENTRIES && from + j < t->n; j++) put_word(block + HEAD + 2 * j, t->order[from + j]);
         } else {
             for (unsigned put = 0; row < t->n; row++, place = 0) {
-                unsigned at = list_above(t->links, row, list, &end) + place;
-                for (; put < LINKS && at < end; put++, at++, place++)
-                    put_word(block + HEAD + 4 * put, row), put_word(block + HEAD + 4 * put + 2, list[at]);
-                if (at < end) break;
+                unsigned end = c_above(t->links, row, list);
+                for (; put < LINKS && place < end; put++, place++)
+                    put_word(block + HEAD + 4 * put, row), put_word(block + HEAD + 4 * put + 2, list[place]);
+                if (place < end) break;
             }
         }
         close_block(block);
@@ -80,11 +62,6 @@ static unsigned c_image_checks(const uint8_t *image, size_t length) {
         if (c_sum(image + at) != (word_at(image + at + BODY) | (uint32_t)word_at(image + at + BODY + 2) << 16)) return 10;
     return 0;
 }
-
-struct c_block {
-    unsigned number, end;
-    size_t offset, length, next;
-};
 
 static struct c_block c_image_block(const uint8_t *image, size_t length, size_t next) {
     unsigned number = c_image_checks(image, length);

@@ -3,12 +3,6 @@
 #define TREE_H
 #include "core.h"
 
-#define ROOT 65535
-
-struct c_node {
-    uint16_t name, level, parent;
-};
-
 static unsigned c_greatest(const struct lent *t) {
     unsigned top = 0;
     for (unsigned v = 0; v < t->n; v++)

@@ -3,8 +3,6 @@
 #define RADIOS_H
 #include "check.h"
 
-enum { PAGE_LINE = 65 };
-
 static unsigned c_clear(const struct lent *t) {
     unsigned number = c_sizes(t, 1);
     if (number) return number;
@@ -41,24 +39,14 @@ static struct c_value c_first(const struct lent *t, uint32_t a, uint32_t b) {
     return (struct c_value){0, t->order[i]};
 }
 
-struct c_later {
-    unsigned number, count, first;
-};
-
 static struct c_later c_later_of(const struct lent *t, uint32_t v) {
-    uint16_t places[RADIOS], list[NEIGHBOURS];
-    struct c_later l = {c_radios(t, v, v), 0, 0};
-    if (l.number) return l;
+    uint16_t places[RADIOS];
+    struct c_ends ends = {0, 0, 0, NOWHERE};
+    unsigned number = c_radios(t, v, v);
+    if (number) return (struct c_later){number, 0, 0};
     c_place(t->n, t->order, places);
-    unsigned k = row_list(t->links, v, list, NEIGHBOURS), least = NOWHERE;
-    for (unsigned i = 0; i < k; i++) {
-        unsigned place = places[list[i]];
-        if (place <= places[v]) continue;
-        l.count++;
-        if (place < least) least = place;
-    }
-    l.first = least == NOWHERE ? 65535 : t->order[least];
-    return l;
+    c_count_ends(t, places, v, &ends);
+    return (struct c_later){0, ends.later, ends.first == NOWHERE ? NOWHERE : t->order[ends.first]};
 }
 
 /* A number right-aligned in so many columns. */

@@ -16,10 +16,10 @@ static unsigned c_level_below(const struct lent *t, unsigned level) {
 static unsigned c_take_radio(const struct lent *t, unsigned level, unsigned a, uint16_t *labels, uint16_t *table, unsigned count) {
     uint16_t list[NEIGHBOURS];
     if (t->numbers[a] < level) return count;
-    unsigned k = row_list(t->links, a, list, NEIGHBOURS);
+    unsigned k = c_above(t->links, a, list);
     for (unsigned i = 0; i < k; i++) {
         unsigned b = list[i], x = labels[a], y = labels[b];
-        if (b < a || (t->numbers[a] < t->numbers[b] ? t->numbers[a] : t->numbers[b]) != level || x == y) continue;
+        if ((t->numbers[a] < t->numbers[b] ? t->numbers[a] : t->numbers[b]) != level || x == y) continue;
         table[2 * count] = a, table[2 * count + 1] = b, count++;
         uint16_t low = x < y ? x : y, high = x < y ? y : x;
         for (unsigned v = 0; v < t->n; v++) labels[v] = labels[v] == high ? low : labels[v];

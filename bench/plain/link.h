@@ -3,12 +3,6 @@
 #define LINK_H
 #include "check.h"
 
-struct c_reply {
-    unsigned number;
-    int step;
-    unsigned count;
-};
-
 static unsigned first_bit(const uint64_t *set) {
     for (unsigned i = 0; i < 8; i++)
         if (set[i]) return 64 * i + __builtin_ctzll(set[i]);
@@ -37,7 +31,7 @@ static unsigned c_plan(int up, const struct lent *t, uint32_t a, uint32_t b, int
     const uint8_t *links = t->links, *numbers = t->numbers;
     const uint16_t *order = t->order;
     unsigned number = c_sizes(t, room);
-    if (!number && !c_examine(n, links, numbers, order, places, counters)) number = 3;
+    if (!number && !c_examine(t, places, counters)) number = 3;
     if (!number) number = c_ends(up, n, a, b, links);
     if (number) return number;
     unsigned level = numbers[a] < numbers[b] ? numbers[a] : numbers[b], most = up ? level : level - 1;

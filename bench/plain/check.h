@@ -1,0 +1,85 @@
+/* Questions 1 to 3 in C: the engine's soundness check, the same tests in the same order. */
+#ifndef CHECK_H
+#define CHECK_H
+#include "../program.h"
+
+/* The radios of row a above a: the bits up to its own are shifted out of its word. */
+static inline unsigned c_above(const uint8_t *links, unsigned a, uint16_t *list) {
+    unsigned k = 0;
+    for (uint64_t w = row_word(links, a, a / 64) >> a % 64 >> 1; w; w &= w - 1) list[k++] = a + 1 + __builtin_ctzll(w);
+    for (unsigned i = a / 64 + 1; i < ROW / 8; i++)
+        for (uint64_t w = row_word(links, a, i); w; w &= w - 1) list[k++] = 64 * i + __builtin_ctzll(w);
+    return k;
+}
+
+/* Whether each radio stands once in the order; then its place. */
+static int c_place(uint32_t n, const uint16_t *order, uint16_t *places) {
+    for (unsigned v = 0; v < n; v++) places[v] = NOWHERE;
+    for (unsigned i = 0; i < n; i++) {
+        if (order[i] >= n || places[order[i]] != NOWHERE) return 0;
+        places[order[i]] = i;
+    }
+    return 1;
+}
+
+/* Of the neighbours of a row: how many, how many come later, how many are not below, and the place of the first later one. */
+struct c_ends {
+    unsigned count, later, high, first;
+};
+
+/* Lists row a and counts its ends; 0 where there are too many, or one is no radio, is a itself or does not have a. */
+static inline int c_count_ends(const struct lent *t, const uint16_t *places, unsigned a, struct c_ends *ends) {
+    uint16_t list[NEIGHBOURS + 1];
+    struct c_ends c = {0, 0, 0, NOWHERE};
+    c.count = row_list(t->links, a, list, NEIGHBOURS + 1);
+    if (c.count > NEIGHBOURS) return 0;
+    for (unsigned i = 0; i < c.count; i++) {
+        unsigned b = list[i];
+        if (b >= t->n || b == a || !marked(t->links, b, a)) return 0;
+        unsigned place = places[b];
+        if (place > places[a] && place < c.first) c.first = place;
+        c.later += places[a] < place;
+        c.high += t->numbers[a] <= t->numbers[b];
+    }
+    *ends = c;
+    return 1;
+}
+
+/* Whether the tables are sound; then places, and for each radio how many neighbours are not below it. */
+static int c_examine(const struct lent *t, uint16_t *places, uint8_t *highs) {
+    if (!c_place(t->n, t->order, places)) return 0;
+    for (unsigned i = 0, last = 0; i < t->n; i++) {
+        if (t->numbers[t->order[i]] < last) return 0;
+        last = t->numbers[t->order[i]];
+    }
+    for (unsigned a = 0; a < t->n; a++) {
+        struct c_ends ends;
+        if (!c_count_ends(t, places, a, &ends)) return 0;
+        if (ends.later > t->numbers[a] || ends.high < t->numbers[a]) return 0;
+        highs[a] = ends.high;
+    }
+    return 1;
+}
+
+/* Questions 1 and 2, where `others` is the answer that 2 gets for further tables. */
+static unsigned c_sizes(const struct lent *t, int others) {
+    if (t->n < 1 || t->n > RADIOS) return 1;
+    return t->links_len != ROW * t->n || t->numbers_len != t->n || t->order_len != t->n || !others ? 2 : 0;
+}
+
+static int c_sound(const struct lent *t) {
+    uint16_t places[RADIOS];
+    uint8_t highs[RADIOS];
+    return c_examine(t, places, highs);
+}
+
+static unsigned c_refusal(const struct lent *t, int others) {
+    unsigned number = c_sizes(t, others);
+    return number ? number : c_sound(t) ? 0 : 3;
+}
+
+static struct c_value c_check(const struct lent *t) {
+    unsigned number = c_sizes(t, 1);
+    return (struct c_value){number, number ? 0 : c_sound(t)};
+}
+#endif

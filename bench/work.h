@@ -1,0 +1,41 @@
+/* The sites of a run: at each size as many as have so many radios together (sites.h), their tables without gaps. */
+#ifndef WORK_H
+#define WORK_H
+#include "sites.h"
+
+#define TOGETHER 512  /* radios of all sites of a run: small sites and large ones leave the processor as much to learn */
+#define IN_TURN 16384 /* where they are taken in turn: more than it learns */
+
+static struct entry entries[IN_TURN / 16];
+static uint16_t answer[2 * RADIOS];
+static struct c_node nodes[RADIOS + 1];
+static uint8_t buffer[BLOCK * MOST_BLOCKS];
+static struct work work = {entries, 0, answer, nodes, buffer, sizeof buffer};
+
+/* Room for the entries' tables and images. */
+static uint8_t room[IN_TURN * (2 * (ROW + 1 + 2) + 4 * NEIGHBOURS / 2) + IN_TURN / 16 * 8 * BLOCK], *next;
+
+static void *take(const void *from, size_t length) {
+    void *to = memcpy(next, from, length);
+    next += (length + 7) / 8 * 8;
+    return to;
+}
+
+static struct lent take_site(const struct site *s) {
+    uint8_t *links = take(s->links, ROW * s->n), *numbers = take(s->numbers, s->n);
+    return (struct lent){s->n, links, ROW * s->n, numbers, s->n, take(s->order, 2 * s->n), s->n};
+}
+
+/* The images are those that the program writes. */
+static void use_sites(const struct program *p, uint32_t n, enum kind kind) {
+    static struct site s;
+    work.count = (kind < ALONE ? TOGETHER : IN_TURN) / n, next = room;
+    for (struct entry *e = entries; e < entries + work.count; e++) {
+        make_site(&s, n, kind, e - entries);
+        e->site = take_site(&s), e->other = take_site(&s);
+        some_links(&s, &e->ends, 1);
+        e->image_length = p->image_write(&e->site, buffer, sizeof buffer).value;
+        e->image = take(buffer, e->image_length);
+    }
+}
+#endif
