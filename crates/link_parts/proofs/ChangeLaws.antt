@@ -1,4 +1,4 @@
--- Laws of what applying a plan writes. In order: the changed radios, a plan that fits, the stretch in the order, the step, the call.
+-- Laws of what applying a plan writes. In order: the changed radios, a plan that fits, the stretch in the order, the step, the calls.
 use mathlib.Core.Path.{_≡_, refl, sym, ap, ap₂, _∙_}
 use mathlib.Core.Logic.{_⊎_, inl, inr}
 use mathlib.Core.Bool.{Bool, true, false, _&&_}
@@ -25,7 +25,7 @@ use Rattle.lists.proofs.Count.{count-le-length}
 use Rattle.lists.proofs.Filter.{length-filter}
 use Rattle.lists.proofs.Range.{length-range}
 use Rattle.lists.proofs.Overwrite.{overwrite-take}
-use Rattle.link_parts.specs.Changes.{changed-part, in-order, counted-step, plan-fits, Reported, Applied, Apply-contract}
+use Rattle.link_parts.specs.Changes.{changed-part, in-order, counted-step, plan-fits, Reported, Plan-put, Write-contract, Applied, Apply-contract}
 use Rattle.lists.proofs.Parts.{take-min, drop-take}
 
 -- ---- the changed radios of a plan
@@ -172,7 +172,21 @@ pub stepped-held :
     (up : Bool) (k : ℕ) (z : ℤ) (vs ns new : List ℕ) → z ≡ counted-step up k → new ≡ all-stepped vs (toZ w8 (ofZ w8 z)) ns → new ≡ all-stepped vs z ns
 stepped-held up k z vs ns new e h = h ∙ ap (λ (y : ℤ). all-stepped vs y ns) (counted-step-held up k z e ∙ sym e)
 
--- ---- the call, on plain values
+-- the same of a step that fits eight bits
+pub stepped-fits : (z : ℤ) (vs ns new : List ℕ) → SFits w8 z → new ≡ all-stepped vs (toZ w8 (ofZ w8 z)) ns → new ≡ all-stepped vs z ns
+stepped-fits z vs ns new f h = h ∙ ap (λ (y : ℤ). all-stepped vs y ns) (toZ-ofZ f)
+
+-- ---- the calls, on plain values
+
+module _ (up : Bool) (a b start size taken : ℕ) (stretch listed : List ℕ) (z : ℤ) (t : Tables) where
+  abbrev room : Bool
+  room = plan-fits start size taken (length stretch) (length (t .order))
+
+  pub unwritten : room ≡ false → Write-contract up a b start size taken stretch listed z t t
+  unwritten e = record { fitting = λ yes. absurd (never room yes e); unfit = λ no. refl }
+
+  pub written : room ≡ true → (v : Tables) → Plan-put up a b start size stretch listed z t v → Write-contract up a b start size taken stretch listed z t v
+  written e v put = record { fitting = λ yes. put; unfit = λ no. absurd (never room e no) }
 
 module _ (up : Bool) (a b start size taken : ℕ) (stretch : List ℕ) (t : Tables) (answer : List ℕ) where
   abbrev fit : Bool

@@ -5,6 +5,8 @@
 --   counted-step up k    document 01's step, by the count of changed radios
 --   plan-fits            a plan that the stretch and the order are long enough for
 --   Reported             what a plan would change, listed
+--   Plan-put             what is written into the tables of a plan that fits, with a list of the changed radios
+--   Write-contract       that, where the plan fits; else nothing
 --   Applied              what is written of a plan that fits
 --   Unapplied            what is written of any other: nothing
 --   Apply-contract       one or the other
@@ -45,6 +47,16 @@ pub record Reported (up : Bool) (size taken : ℕ) (stretch answer : List ℕ) (
   pub count : r .count ≡ length (in-order (changed-part up taken size stretch))
   pub step : r .step ≡ counted-step up (r .count)
   pub answer-is : x ≡ overwrite (take (length answer) (in-order (changed-part up taken size stretch))) answer
+
+-- the two link bits, the numbers of the listed radios, the stretch of the order
+pub record Plan-put (up : Bool) (a b start size : ℕ) (stretch listed : List ℕ) (step : ℤ) (t v : Tables) : Type 0 where
+  pub links : v .links ≡ put-link up a b (t .links)
+  pub numbers : v .numbers ≡ all-stepped listed step (t .numbers)
+  pub order : v .order ≡ paste (t .order) start stretch size
+
+pub record Write-contract (up : Bool) (a b start size taken : ℕ) (stretch listed : List ℕ) (step : ℤ) (t v : Tables) : Type 0 where
+  pub fitting : plan-fits start size taken (length stretch) (length (t .order)) ≡ true → Plan-put up a b start size stretch listed step t v
+  pub unfit : plan-fits start size taken (length stretch) (length (t .order)) ≡ false → v ≡ t
 
 -- the two link bits, the numbers of the changed radios, the stretch of the order, the answer table's front
 pub record Applied (up : Bool) (a b start size taken : ℕ) (stretch : List ℕ) (t : Tables) (answer : List ℕ) (r : Reply) (v : Tables) (x : List ℕ) : Type 0 where

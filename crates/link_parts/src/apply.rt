@@ -1,11 +1,12 @@
 // A planned link call, written into the tables. A plan that the tables are too short for is not applied at all.
+ghost use mathlib.Core.Bool.{true};
 ghost use mathlib.Core.Path.{_≡_};
 ghost use Prim.Native.Nat.{_+_, _-_, _≤_};
 ghost use lib.ListN.{length, take};
 ghost use lib.Seq.{paste};
 ghost use Rattle.lists.specs.Lists.{overwrite};
 ghost use Rattle.mesh.specs.Tables.{lent};
-ghost use Rattle.link_parts.specs.Changes.{changed-part, all-marked, in-order, counted-step, plan-fits, Reported, Apply-contract};
+ghost use Rattle.link_parts.specs.Changes.{changed-part, all-marked, in-order, counted-step, plan-fits, Reported, Plan-put, Write-contract, Apply-contract};
 use calls::Reply;
 use mesh::Site;
 use tables::fill;
@@ -121,6 +122,65 @@ pub fn report(up: bool, plan: Plan, stretch: &[u16], answer: &mut [u16]) -> Repl
     }
 }
 
+// Writes a plan that fits: the link, the numbers of the first k listed radios, the stretch.
+fn put_plan(
+    up: bool,
+    a: u32,
+    b: u32,
+    plan: Plan,
+    stretch: &[u16],
+    links: &mut [u8],
+    numbers: &mut [u8],
+    order: &mut [u16],
+    list: &[u16],
+    k: u32,
+    step: i8,
+)
+    requires { ⌜ plan-fits (plan .start) (plan .size) (plan .taken) (length (now stretch)) (length (now order)) ≡ true ⌝ }
+    ensures { λ _. ⌜ Plan-put up a b (plan .start) (plan .size) (now (stretch .entry)) (take k (now (list .entry))) step
+        (lent (links .entry) (numbers .entry) (order .entry)) (lent (links .exit) (numbers .exit) (order .exit)) ⌝ }
+{
+    rows::put_link(links, up, a, b);
+    steps::step_numbers(numbers, list, k, step);
+    put_stretch(order, plan.start, plan.size, plan.taken, stretch);
+}
+
+// Writes a plan into the tables, its changed radios being the first k of the list. Where the plan does not fit, every table keeps
+// its content.
+pub fn write(
+    up: bool,
+    a: u32,
+    b: u32,
+    plan: Plan,
+    stretch: &[u16],
+    links: &mut [u8],
+    numbers: &mut [u8],
+    order: &mut [u16],
+    list: &[u16],
+    k: u32,
+    step: i8,
+)
+    ensures { λ _. ⌜ Write-contract up a b (plan .start) (plan .size) (plan .taken) (now (stretch .entry)) (take k (now (list .entry))) step
+        (lent (links .entry) (numbers .entry) (order .entry)) (lent (links .exit) (numbers .exit) (order .exit)) ⌝ }
+{
+    if !fits(plan, stretch.len(), order.len()) {
+        return;
+    }
+    put_plan(
+        up,
+        a,
+        b,
+        plan,
+        stretch,
+        links,
+        numbers,
+        order,
+        list,
+        k,
+        step,
+    );
+}
+
 // Writes a plan into the tables: the link, the changed numbers, the stretch. The answer table gets the changed radios,
 // ascending, and the reply tells their count and step. Where the plan does not fit, the reply has zeros and every table keeps its
 // content.
@@ -146,9 +206,19 @@ pub fn apply(
             count: 0,
         };
     }
-    rows::put_link(links, up, a, b);
     let reply = report(up, plan, stretch, answer);
-    steps::step_numbers(numbers, answer, reply.count, reply.step);
-    put_stretch(order, plan.start, plan.size, plan.taken, stretch);
+    put_plan(
+        up,
+        a,
+        b,
+        plan,
+        stretch,
+        links,
+        numbers,
+        order,
+        answer,
+        reply.count,
+        reply.step,
+    );
     reply
 }

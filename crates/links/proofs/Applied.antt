@@ -33,7 +33,7 @@ use Rattle.calls.specs.declared.Reply.{Reply}
 use Rattle.tables.specs.Steps.{stepped, all-stepped}
 use Rattle.tables.proofs.StepLaws.{length-all-stepped, getD-all-stepped-other, getD-all-stepped-listed}
 use Rattle.links.specs.Plans.{Planned, Applicable}
-use Rattle.link_parts.specs.Changes.{changed-part, in-order, counted-step, plan-fits, Apply-contract}
+use Rattle.link_parts.specs.Changes.{changed-part, in-order, counted-step, plan-fits, Applied}
 use Rattle.link_parts.proofs.ChangeLaws.{counted-step-length}
 
 -- ---- a bound on numbers
@@ -131,7 +131,7 @@ module _ (up : Bool) (n a b : ℕ) (t : Tables) (answer : List ℕ) (ok : Applic
   unfolding graph-in
   entries-planned = entries-changed-part up taken size stretch n (plan .taken-fits) (plan .long) (plan .radios)
 
-  planned-fits : n ≤ length (t .order) → plan-fits start size taken (length stretch) (length (t .order)) ≡ true
+  pub planned-fits : n ≤ length (t .order) → plan-fits start size taken (length stretch) (length (t .order)) ≡ true
   unfolding plan-fits graph-in
   planned-fits long =
       let fits : start + size ≤ length (t .order) = omega (arith, plan .fits) in
@@ -150,10 +150,9 @@ module _ (up : Bool) (n a b : ℕ) (t : Tables) (answer : List ℕ) (ok : Applic
   fits-answer = take-all (length answer) cs (omega (arith, ok .room, length-changed up a b g))
 
   -- what is applied of the plan, r the reply, v the tables after, x the answer table after
-  pub applied-accepted : n ≤ length (t .order) → (r : Reply) (v : Tables) (x : List ℕ)
-      → Apply-contract up a b start size taken stretch t answer r v x → Link-accepted up a b g t answer r v x
-  applied-accepted long r v x applied =
-      let d = applied .fitting (planned-fits long) in
+  pub applied-accepted : (r : Reply) (v : Tables) (x : List ℕ) → Applied up a b start size taken stretch t answer r v x
+      → Link-accepted up a b g t answer r v x
+  applied-accepted r v x d =
       let many : r .count ≡ length cs = d .count ∙ ap length in-order-planned in
       let way : r .step ≡ step-of up cs = d .step ∙ ap (counted-step up) many ∙ counted-step-length up cs in
       let listed : x ≡ overwrite cs answer =

@@ -1,6 +1,6 @@
 -- A link call meets its contract, on plain values: what a plan is made from, then the call refused and accepted.
 use mathlib.Core.Path.{_≡_, refl, sym, subst, _∙_}
-use mathlib.Core.Bool.{Bool}
+use mathlib.Core.Bool.{Bool, true}
 use mathlib.Core.List.{List}
 use Prim.Native.Nat.{ℕ, _≤_, min}
 use native.Mathlib.Omega.{arith}
@@ -15,11 +15,11 @@ use Rattle.calls.specs.declared.Reply.{Reply}
 use Rattle.calls.proofs.QuestionLaws.{answer-length-true}
 use Rattle.calls.proofs.ContractLaws.{by-accepted, by-refused}
 use Rattle.calls.proofs.ChainLaws.{site-zero}
-use Rattle.link_parts.specs.Changes.{Apply-contract}
+use Rattle.link_parts.specs.Changes.{plan-fits, Applied, Apply-contract}
 use Rattle.links.specs.Plans.{Ready, Planned}
 use Rattle.links.specs.Asked.{Asked, Plan-contract}
 use Rattle.links.proofs.Asking.{link-room, asked-applicable}
-use Rattle.links.proofs.Applied.{applied-accepted}
+use Rattle.links.proofs.Applied.{planned-fits, applied-accepted}
 
 -- ---- the plan: q is the refusal number of its questions, room the shorter of the answer table and the lent stretch
 
@@ -68,16 +68,19 @@ module _ (up : Bool) (n a b : ℕ) (t : Tables) (w lent : List ℕ) (q start siz
       by-refused R (Link-accepted up a b (graph-in n (t .links)) t w r t w) (λ p. Link-refused p t w r t w) (λ z. h (number-decided ∙ z))
       (record { number = e ∙ number-decided; step = s; count = c; links = refl; numbers = refl; order = refl; answer = refl })
 
-  pub link-applied : q ≡ 0 → (r : Reply) (v : Tables) (x : List ℕ) → Apply-contract up a b start size taken stretch t w r v x
-      → Link-accepted up a b (graph-in n (t .links)) t w r v x
+  pub fits-decided : q ≡ 0 → plan-fits start size taken (length stretch) (length (t .order)) ≡ true
   unfolding link-refusal lengths-of
-  link-applied z r v x d =
+  fits-decided z =
       let zero : R ≡ 0 = sym number-decided ∙ z in
       let good = site-zero n (lengths-of t) (answer-length n (length w)) (sound n t) (ends-refusal max-neighbours up n a b (graph-in n (t .links))) zero .0 in
-      applied-accepted up n a b t w (asked-applicable up n a b t w zero) start size taken stretch (decided .planned z)
-      (omega (arith, good .lent .lengths .order)) r v x d
+      planned-fits up n a b t w (asked-applicable up n a b t w zero) start size taken stretch (decided .planned z)
+      (omega (arith, good .lent .lengths .order))
+
+  pub link-applied : q ≡ 0 → (r : Reply) (v : Tables) (x : List ℕ) → Applied up a b start size taken stretch t w r v x
+      → Link-accepted up a b (graph-in n (t .links)) t w r v x
+  link-applied z = applied-accepted up n a b t w (asked-applicable up n a b t w (sym number-decided ∙ z)) start size taken stretch (decided .planned z)
 
   pub link-accepted : q ≡ 0 → (r : Reply) (v : Tables) (x : List ℕ) → Apply-contract up a b start size taken stretch t w r v x
       → Link-contract up n a b t w r v x
   unfolding Link-contract
-  link-accepted z r v x d = by-accepted R (λ p. Link-refused p t w r v x) (sym number-decided ∙ z) (link-applied z r v x d)
+  link-accepted z r v x d = by-accepted R (λ p. Link-refused p t w r v x) (sym number-decided ∙ z) (link-applied z r v x (d .fitting (fits-decided z)))

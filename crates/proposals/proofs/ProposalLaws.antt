@@ -26,13 +26,14 @@ use Rattle.calls.specs.declared.Reply.{Reply}
 use Rattle.calls.proofs.QuestionLaws.{ask-yes, ask-no}
 use Rattle.calls.proofs.ContractLaws.{by-accepted, by-refused}
 use Rattle.calls.proofs.RecordLaws.{tables-ext}
-use Rattle.calls.proofs.Proposals.{commit-numbered, same-step-eq, same-step-refl}
-use Rattle.link_parts.specs.Changes.{changed-part, in-order, counted-step, Reported, Apply-contract}
+use Rattle.calls.proofs.Proposals.{commit-numbered, proposal-iff, same-step-eq, same-step-refl}
+use Rattle.tables.specs.Steps.{all-stepped}
+use Rattle.link_parts.specs.Changes.{changed-part, in-order, counted-step, Reported, Plan-put, Write-contract, Applied}
 use Rattle.link_parts.proofs.ChangeLaws.{counted-step-length, counted-step-held, length-in-order}
 use Rattle.links.specs.Asked.{Plan-contract}
 use Rattle.links.proofs.Asking.{asked-applicable}
 use Rattle.links.proofs.Applied.{in-order-planned, fits-answer}
-use Rattle.links.proofs.CallLaws.{number-decided, link-applied}
+use Rattle.links.proofs.CallLaws.{number-decided, fits-decided, link-applied}
 use Rattle.proposals.specs.Proposed.{plan-proposes}
 
 -- ---- a plan in a stretch for as many radios as a site may have; w is the answer table
@@ -122,7 +123,7 @@ module _ (up : Bool) (size taken : ℕ) (stretch lent : List ℕ) (long : length
         let yes : same-step z (counted-step up (length listed)) ≡ true = rw (← is) (same-step-refl z) in
         rw (yes, f ∙ front) refl
 
--- ---- committing: applying lists the changed radios into scratch for as many radios as a site may have; k is its length
+-- ---- committing: a single call would list the changed radios in an answer table for as many radios as a site may have; k is its length
 
 abbrev pub scratch : List ℕ
 scratch = replicate max-radios 0
@@ -164,19 +165,57 @@ module _ (up : Bool) (n a b : ℕ) (t : Tables) (k : ℕ) (is : k ≡ max-radios
     asked : C ≡ ask 16 (is-proposal up a b z xs site) 0
     asked = numbered .1 (sym number-asked ∙ zero)
 
-    -- y is the step as the code holds it
-    pub commit-not : (y : ℤ) (o : Bool) → y ≡ z → o ≡ plan-proposes up size taken stretch y xs → o ≡ false → (r : Reply) → r .number ≡ 16 → r .step ≡ pos 0 → r .count ≡ 0
-        → Commit-contract up n a b z xs t r t
-    unfolding Commit-contract
-    commit-not y o f p j r e s c =
-        let same : C ≡ 16 = asked ∙ ask-no 16 _ 0 (sym held ∙ ap (λ (i : ℤ). plan-proposes up size taken stretch i xs) (sym f) ∙ sym p ∙ j) in
-        by-refused C (Commit-accepted up n a b t r t) (λ p. Commit-refused p t r t) (λ y. omega (arith, same, y))
-        (record { number = e ∙ sym same; step = s; count = c; tables = refl })
+    -- y is the step as the code holds it, o what the proposal's test says
+    module _ (y : ℤ) (o : Bool) (f : y ≡ z) (p : o ≡ plan-proposes up size taken stretch y xs) where
+      told-is : o ≡ is-proposal up a b z xs site
+      told-is = p ∙ ap (λ (i : ℤ). plan-proposes up size taken stretch i xs) f ∙ held
 
-    pub commit-accepted : (y : ℤ) (o : Bool) → y ≡ z → o ≡ plan-proposes up size taken stretch y xs → o ≡ true → (r : Reply) (v : Tables) (x : List ℕ)
-        → Apply-contract up a b start size taken stretch t scratch r v x → Commit-contract up n a b z xs t r v
-    unfolding Commit-contract switched
-    commit-accepted y o f p j r v x d =
-        let l = link-applied up n a b t scratch lent q start size taken stretch decided long zero r v x d in
-        by-accepted C (λ o. Commit-refused o t r v) (asked ∙ ask-yes 16 _ 0 (sym held ∙ ap (λ (i : ℤ). plan-proposes up size taken stretch i xs) (sym f) ∙ sym p ∙ j))
-        (record { number = l .number; step = l .step; count = l .count; tables = tables-ext v _ (l .links) (l .numbers) (l .order) })
+      pub commit-not : o ≡ false → (r : Reply) → r .number ≡ 16 → r .step ≡ pos 0 → r .count ≡ 0 → Commit-contract up n a b z xs t r t
+      unfolding Commit-contract
+      commit-not j r e s c =
+          let same : C ≡ 16 = asked ∙ ask-no 16 _ 0 (sym told-is ∙ j) in
+          by-refused C (Commit-accepted up n a b t r t) (λ p. Commit-refused p t r t) (λ y. omega (arith, same, y))
+          (record { number = e ∙ sym same; step = s; count = c; tables = refl })
+
+      module _ (j : o ≡ true) where
+        abbrev now-changed : List ℕ
+        now-changed = changed up a b site
+
+        true-of : (z ≡ step-of up now-changed) × (xs ≡ now-changed)
+        true-of = proposal-iff up a b z xs site .0 (sym told-is ∙ j)
+
+        listed-here : in-order (changed-part up taken size stretch) ≡ now-changed
+        listed-here = listed-is up n a b t scratch lent q start size taken stretch decided long zero
+
+        -- a list as long as a site has radios at most
+        pub list-few : length xs ≤ max-radios
+        list-few = omega (arith, ap length (true-of .1 ∙ sym listed-here), length-in-order (changed-part up taken size stretch))
+
+        -- the list is the one that a single call would have put in front of its answer table
+        applied : (v : Tables) → Plan-put up a b start size stretch (take (length xs) xs) y t v
+            → Applied up a b start size taken stretch t scratch (record { number = 0; step = y; count = length xs }) v
+            (overwrite (take (length scratch) (in-order (changed-part up taken size stretch))) scratch)
+        applied v d =
+            let fit : take (length scratch) now-changed ≡ now-changed =
+            take-all (length scratch) now-changed (omega (arith, list-few, ap length (true-of .1), length-replicate {A = ℕ} max-radios 0)) in
+            let front : take (length xs) (overwrite (take (length scratch) (in-order (changed-part up taken size stretch))) scratch) ≡ xs =
+            rw (listed-here, fit, true-of .1) (take-overwrite now-changed scratch) in
+            record {
+              number = refl;
+              count = ap length (true-of .1 ∙ sym listed-here);
+              step = f ∙ true-of .0 ∙ sym (counted-step-length up now-changed) ∙ ap (λ (ys : List ℕ). counted-step up (length ys)) (sym (true-of .1));
+              links = d .links;
+              answer-is = refl;
+              numbers = d .numbers ∙ ap (λ (ys : List ℕ). all-stepped ys y (t .numbers)) (take-all (length xs) xs (omega arith) ∙ sym front);
+              order = d .order;
+            }
+
+        pub commit-accepted : (v : Tables) → Write-contract up a b start size taken stretch (take (length xs) xs) y t v
+            → Commit-contract up n a b z xs t (record { number = 0; step = y; count = length xs }) v
+        unfolding Commit-contract switched
+        commit-accepted v d =
+            let r : Reply = record { number = 0; step = y; count = length xs } in
+            let put = d .fitting (fits-decided up n a b t scratch lent q start size taken stretch decided long zero) in
+            let l = link-applied up n a b t scratch lent q start size taken stretch decided long zero r v _ (applied v put) in
+            by-accepted C (λ o. Commit-refused o t r v) (asked ∙ ask-yes 16 _ 0 (sym told-is ∙ j))
+            (record { number = l .number; step = l .step; count = l .count; tables = tables-ext v _ (l .links) (l .numbers) (l .order) })

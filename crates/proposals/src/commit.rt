@@ -66,8 +66,8 @@ pub fn commit(
             count: 0,
         };
     }
-    let mut answer = [0u16; Site::RADIOS as usize];
-    apply::apply(
+    let count = list.len() as u32;
+    apply::write(
         up,
         a,
         b,
@@ -76,6 +76,13 @@ pub fn commit(
         links,
         numbers,
         order,
-        &mut answer,
-    )
+        list,
+        count,
+        step,
+    );
+    Reply {
+        number: 0,
+        step,
+        count,
+    }
 }

@@ -1,11 +1,15 @@
 -- `commit::commit` meets its contract: a refusal touches nothing but scratch, by the questions of the link call or by 16, and the plan of an
 -- accepted call is applied.
 use mathlib.Core.Path.{refl}
+use Prim.Native.Nat.{_≤_}
 use mir.Facts.{toZ-ofZ}
+use native.Mathlib.Omega.{arith}
+use lib.ListN.{length}
 use borrow.Author.Needs.{needs}
 use borrow.Author.Tests.{not-true, not-false}
+use Rattle.mesh.specs.Limits.{max-radios}
 use Rattle.mesh.specs.Tables.{tables}
-use Rattle.proposals.proofs.ProposalLaws.{commit-refused, commit-not, commit-accepted}
+use Rattle.proposals.proofs.ProposalLaws.{commit-refused, commit-not, list-few, commit-accepted}
 use Rattle.proposals.proofs.commit.commit.Statement.{statement}
 use Rattle.proposals.proofs.commit.commit.Tie as tie
 
@@ -28,10 +32,23 @@ returns-2 c =
     _ (asked .is-proposal .result) (toZ-ofZ (s .fits .step)) (asked .is-proposal .ensures) (not-true (asked .is-proposal .result) (c .if2 .taken)) _ refl
     refl refl
 
+cast-count : tie.Need-cast-count
+cast-count c =
+    let asked = c .before in
+    let yes = asked .before .before in
+    let decided = yes .before .before .before in
+    let s = decided .before .before .before .before .before .before .before .before .before in
+    let x = s .args in
+    let few : length (x .list .now) ≤ max-radios =
+    list-few (x .up) (x .n) (x .a) (x .b) (tables (x .links .now) (x .numbers .now) (x .order .now)) _ refl _ _ _ _ _ _
+    (decided .plan .ensures) (search needs) (x .step) (x .list .now) (yes .if1 .left)
+    _ (asked .is-proposal .result) (toZ-ofZ (s .fits .step)) (asked .is-proposal .ensures) (not-false (asked .is-proposal .result) (c .if2 .left)) in
+    record { fits = omega (arith, few) }
+
 returns-3 : tie.Need-returns-3
 returns-3 c =
-    let done = c .before .before .before .before .before .before .before in
-    let same = done .before .before .before .before .before .before in
+    let done = c .before .before .before .before .before .before in
+    let same = done .before .before .before .before .before in
     let asked = same .before in
     let yes = asked .before .before in
     let decided = yes .before .before .before in
@@ -39,12 +56,12 @@ returns-3 c =
     let x = s .args in
     commit-accepted (x .up) (x .n) (x .a) (x .b) (tables (x .links .now) (x .numbers .now) (x .order .now)) _ refl _ _ _ _ _ _
     (decided .plan .ensures) (search needs) (x .step) (x .list .now) (yes .if1 .left)
-    _ (asked .is-proposal .result) (toZ-ofZ (s .fits .step)) (asked .is-proposal .ensures) (not-false (asked .is-proposal .result) (same .if2 .left)) _ _ _
-    (done .apply .ensures)
+    _ (asked .is-proposal .result) (toZ-ofZ (s .fits .step)) (asked .is-proposal .ensures) (not-false (asked .is-proposal .result) (same .if2 .left)) _
+    (done .write .ensures)
 
 pub commit-spec : {M : Type 1} → statement M
 commit-spec =
     tie.close (
     tie.spec (λ c. search needs) (λ c. search needs) (λ c κs. search needs) (λ c. search needs) (λ c. search needs) (λ c. search needs) returns
-    (λ c. search needs) (λ c κs. search needs) (λ c. search needs) (λ c. search needs) (λ c. search needs) returns-2 (λ c. search needs)
+    (λ c. search needs) (λ c κs. search needs) (λ c. search needs) (λ c. search needs) (λ c. search needs) returns-2 cast-count
     (λ c. search needs) (λ c κs. search needs) (λ c. search needs) (λ c. search needs) (λ c. search needs) returns-3)
