@@ -3,7 +3,7 @@
 --   same-pairs    tables that link alike hold the same pairs
 --   pairs-agree   the pairs after a list of link calls are told by how often each was made
 use mathlib.Core.Path.{_≡_, refl, sym, subst, _∙_}
-use mathlib.Core.Logic.{_⊎_, inl, inr}
+use mathlib.Core.Logic.{inl, inr}
 use mathlib.Core.Bool.{Bool, true, false, _&&_, not, cond, Bool·beq}
 use mathlib.Core.List.{List, [], _∷_}
 use Prim.Native.Nat.{ℕ, _+_}
@@ -44,7 +44,9 @@ module _ (n v w : ℕ) where
   is-up ps = bit (linked (graph n ps) v w)
 
   -- an accepted up of the link finds it down, an accepted down finds it up
-  found : (s : Switch) (ps : List Link) → Allowed max-neighbours (s .up) (s .a) (s .b) (graph n ps) → ends (s .a) (s .b) v w ≡ true → linked (graph n ps) v w ≡ not (s .up)
+  found :
+      (s : Switch) (ps : List Link) → Allowed max-neighbours (s .up) (s .a) (s .b) (graph n ps) → ends (s .a) (s .b) v w ≡ true →
+      linked (graph n ps) v w ≡ not (s .up)
   found s ps ok e = go (ends-of (s .a) (s .b) v w e)
     where
       go : Ends (s .a) (s .b) v w → linked (graph n ps) v w ≡ not (s .up)
@@ -76,7 +78,8 @@ pub same-pairs :
     ((v w : ℕ) → linked (graph n ps) v w ≡ linked (graph n qs) v w) → ps ≡ qs
 unfolding linked
 same-pairs n ps qs t u k l h =
-    sorted-eq ps qs (sorted-of ps (k .valid .links-ascending)) (sorted-of qs (l .valid .links-ascending)) (sub ps qs t u k l h) (sub qs ps u t l k (λ v w. sym (h v w)))
+    sorted-eq ps qs (sorted-of ps (k .valid .links-ascending)) (sorted-of qs (l .valid .links-ascending)) (sub ps qs t u k l h)
+    (sub qs ps u t l k (λ v w. sym (h v w)))
   where
     sub :
         (ps qs : List Link) (t u : Tables) → Holds n ps t → Holds n qs u → ((v w : ℕ) → linked (graph n ps) v w ≡ linked (graph n qs) v w) →

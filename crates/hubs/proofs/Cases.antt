@@ -1,8 +1,7 @@
 -- Both rows of the worked pair are right: computed on pairs and order, and so by `all-by-state` over the contracts' own outcomes. And they
 -- are the same calls.
 use mathlib.Core.Path.{_≡_, refl}
-use mathlib.Core.Bool.{Bool, true, cond}
-use Prim.Native.Nat.{ℕ, _+_}
+use mathlib.Core.Bool.{true}
 use native.Mathlib.Omega.{arith}
 use Rattle.calls.specs.Worked.{All-right}
 use Rattle.calls.proofs.WorkedState.{all-state-right, compute}

@@ -17,25 +17,23 @@ use Rattle.mesh.specs.Tables.{Tables, graph-in, tables-of}
 use Rattle.mesh.specs.Sound.{sound}
 use Rattle.mesh.specs.Image.{image-of, image-order}
 use Rattle.mesh.specs.Valid.{Allowed}
-use Rattle.mesh.specs.declared.Node.{Node}
 use Rattle.mesh.proofs.Images.Sites.{length-order, read-written-order}
-use Rattle.calls.specs.Questions.{By-number, Lengths, lengths-of, answer-length, nodes-length, staircase-length, site-refusal, link-refusal}
+use Rattle.calls.specs.Questions.{Lengths, lengths-of, answer-length, nodes-length, staircase-length, site-refusal, link-refusal}
 use Rattle.calls.specs.Questions.{tree-refusal, backbone-refusal, staircase-refusal}
 use Rattle.calls.specs.Switches.{Switch, switch, pairs-after}
 use Rattle.calls.specs.Contracts.Cores.{Backbone-contract}
-use Rattle.calls.specs.Contracts.Trees.{Tree-accepted, Tree-refused, Tree-contract}
+use Rattle.calls.specs.Contracts.Trees.{Tree-contract}
 use Rattle.calls.specs.Contracts.Staircase.{Staircase-contract}
 use Rattle.calls.specs.Book.{linking, other, Answer, plain, reported, outcome-of, unless-refused, outcome, first-pairs, pairs-of}
-use Rattle.calls.specs.Runs.{Event, event, Run, next}
+use Rattle.calls.specs.Runs.{Event, Run, next}
 use Rattle.calls.specs.Runs as runs
 use Rattle.calls.specs.Demand.{cleared}
-use Rattle.calls.specs.declared.Value.{Value}
 use Rattle.calls.proofs.ChainLaws.{link-zero}
 use Rattle.calls.proofs.Outcomes.{tree-decided, backbone-decided, staircase-decided}
-use Rattle.calls.proofs.Holds.{Holds, same-n, is-sound, read-back, site-asked, All-allowed}
+use Rattle.calls.proofs.Holds.{Holds, read-back, site-asked, All-allowed}
 use Rattle.calls.proofs.Steps.{Stepped, step}
 use Rattle.calls.proofs.WholeList.{start}
-use Rattle.hubs.specs.Hubs.{Same-calls, Cleared, Singles, ended, single, only-reads, Two-hubs, Equal-sites, Equal-answers, Confluence, Calls-agree}
+use Rattle.hubs.specs.Hubs.{Cleared, Singles, ended, single, only-reads, Two-hubs, Equal-sites, Equal-answers, Confluence, Calls-agree}
 use Rattle.hubs.specs.Hubs.{Equal-orders, Equal-images}
 use Rattle.hubs.proofs.Balance.{pairs-agree}
 

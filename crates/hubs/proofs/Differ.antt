@@ -1,6 +1,9 @@
 -- Orders and images of two hubs may differ: the worked pair of histories, as runs.
-use mathlib.Core.Path.{_≡_, refl, sym, ap, _∙_}
-use mathlib.Core.Bool.{Bool, true, _&&_}
+--   run, singles       link calls played one after the other are a run; where none is refused, of single calls
+--   played-one, played-other   what the rows of the pair say of them
+--   orders-differ, images-differ   so neither can be claimed equal
+use mathlib.Core.Path.{_≡_, sym, ap, _∙_}
+use mathlib.Core.Bool.{true, _&&_}
 use mathlib.Core.List.{List, [], _∷_}
 use Prim.Native.Nat.{ℕ}
 use native.Mathlib.Omega.{arith}
@@ -16,8 +19,8 @@ use Rattle.calls.specs.Outcomes.{clear-outcome, link-outcome}
 use Rattle.calls.specs.Book.{Answer, linking, reported}
 use Rattle.calls.specs.Runs.{answer-of, Does, Event, event, Run, ended, next}
 use Rattle.calls.specs.Questions.{same-step}
-use Rattle.calls.specs.Worked.{entries, lent-tables, Left, left, left-by, played, after, up, risen, Want, last-answers, all-numbers, whole-order, row, same-answers}
-use Rattle.calls.specs.Worked.{meets, meets-all, right, All-right}
+use Rattle.calls.specs.Worked.{entries, lent-tables, Left, left, left-by, played, after, up, risen, Want, last-answers, all-numbers, whole-order}
+use Rattle.calls.specs.Worked.{row, same-answers, meets, meets-all, right, All-right}
 use Rattle.calls.proofs.Outcomes.{clear-inhabited}
 use Rattle.calls.proofs.Total.{link-done}
 use Rattle.hubs.specs.Hubs.{Cleared, Singles, single, Two-hubs, Equal-orders, Equal-images}
@@ -119,8 +122,10 @@ unfolding Equal-orders Two-hubs one-hub other-hub head
 orders-differ claim =
     let cs = up 0 1 ∷ up 2 3 ∷ [] in
     let ds = up 2 3 ∷ up 0 1 ∷ [] in
-    let e = claim 4 (first .tables) (first .tables) (after zeros 4 cs first .tables) (after zeros 4 ds first .tables) (events 4 cs first) (events 4 ds first) cs ds
-    (played-one .cleared) (played-other .cleared) (run 4 cs first) (run 4 ds first) (singles 4 cs first (played-one .taken)) (singles 4 ds first (played-other .taken)) cases-same in
+    let v = after zeros 4 cs first .tables in
+    let w = after zeros 4 ds first .tables in
+    let e = claim 4 (first .tables) (first .tables) v w (events 4 cs first) (events 4 ds first) cs ds (played-one .cleared) (played-other .cleared)
+    (run 4 cs first) (run 4 ds first) (singles 4 cs first (played-one .taken)) (singles 4 ds first (played-other .taken)) cases-same in
     absurd (omega (arith, ap head (sym (played-one .order) ∙ e ∙ played-other .order)))
 
 pub images-differ : Equal-images → ⊥

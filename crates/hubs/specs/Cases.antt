@@ -2,7 +2,7 @@
 -- and images differ. That both rows are right is `cases-right` in proofs/Cases.antt. Definitions only.
 use mathlib.Core.List.{List, [], _∷_}
 use Rattle.mesh.specs.Tree.{root-name, node, root}
-use Rattle.calls.specs.Worked.{up, risen, Want, last-answers, all-numbers, whole-order, shell-tree, backbone-radios, image-checks, Row, row}
+use Rattle.calls.specs.Worked.{up, risen, last-answers, all-numbers, whole-order, shell-tree, backbone-radios, image-checks, Row, row}
 
 unfoldable pub one-hub : Row
 one-hub = row 4 (up 0 1 ∷ up 2 3 ∷ []) (

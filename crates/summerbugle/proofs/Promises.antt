@@ -1,5 +1,5 @@
 -- The promises of the engine: one statement, `Promises`, and its proof, `promises`. Whoever reads the statement and the definitions
--- that it cites (specs/ of mesh, calls, image and of this crate, and the table of calls in Calls.antt) need read no proof.
+-- that it cites (specs/ of mesh, calls, hubs, image and of this crate, and the table of calls in Calls.antt) need read no proof.
 --   Property-1       every public call returns for every input, checks its tables itself, and refuses by number
 --     Calls-promised   each call meets its contract: the whole triple, in which nothing is required
 --     Calls-return     at the machine: from every memory that lends what the signature says, the call returns, and what it returns
