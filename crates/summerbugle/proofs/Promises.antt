@@ -1,5 +1,5 @@
 -- The promises of the engine: one statement, `Promises`, and its proof, `promises`. Whoever reads the statement and the definitions
--- that it cites (specs/ of mesh, calls, image and of this crate, and the table of calls in Calls.antt) need read no proof.
+-- that it cites (specs/ of mesh, calls, hubs, image and of this crate, and the table of calls in Calls.antt) need read no proof.
 --   Property-1       every public call returns for every input, checks its tables itself, and refuses by number
 --     Calls-promised   each call meets its contract: the whole triple, in which nothing is required
 --     Calls-return     at the machine: from every memory that lends what the signature says, the call returns, and what it returns
@@ -9,7 +9,7 @@
 --     Tables-left      what is lent by shared reference is left as it was
 --   Property-2       numbers are core numbers by the largest group and orders are k-orders; connected cores, backbone, shell tree,
 --                    staircase tree, site sheet and images follow their definitions; older tables and images are taken as they were
---   Property-3       demand 3, undivided, over the contracts that the exported calls meet
+--   Property-3       demand 3, undivided, over the contracts that the exported calls meet; two hubs, one mesh
 use mathlib.Core.Path.{_≡_, refl}
 use mathlib.Core.Logic.{_↔_, _⊎_}
 use mathlib.Core.Bool.{Bool, true, false}
@@ -46,6 +46,7 @@ use Rattle.calls.specs.Older.{Older}
 use Rattle.calls.specs.Book.{Call, clearing, reading, linking, committing, Answer, plain, book-after}
 use Rattle.calls.specs.Runs.{answer-of, replied, Does, Event, event, Run, givens, called}
 use Rattle.calls.specs.Demand.{Start, Demand-3}
+use Rattle.hubs.specs.Hubs.{Confluence, Calls-agree, Equal-orders, Equal-images}
 use Rattle.calls.specs.declared.Reply.{Reply}
 use Rattle.calls.specs.declared.Value.{Value}
 use Rattle.calls.specs.declared.Later.{Later}
@@ -77,6 +78,8 @@ use Rattle.calls.proofs.Older.{older}
 use Rattle.calls.proofs.Total.{run-total}
 use Rattle.calls.proofs.WholeList.{demand-3}
 use Rattle.calls.proofs.Exactly.{exactly-changed}
+use Rattle.hubs.proofs.Confluence.{confluence, calls-agree}
+use Rattle.hubs.proofs.Differ.{orders-differ, images-differ}
 use Rattle.summerbugle.proofs.Returns.{returns}
 use Rattle.block_reader.proofs.blocks.open.Met as reader-open-proof
 use Rattle.block_reader.proofs.blocks.step.Met as reader-step-proof
@@ -385,6 +388,13 @@ pub record Property-3 : Type 0 where
       Does (linking up m a b w) t (h ∷ []) u → h .number ≡ 0 → (x j k : ℕ) → x < n → Core (graph n (book-after (givens es) ps)) x j →
       Core (graph n (book-after (givens (es ++ (event (linking up m a b w) t (h ∷ []) u ∷ []))) ps)) x k →
       (member x (h .listed) ≡ true) ↔ (j ≡ k → ⊥)
+  -- two hubs, one mesh (document 02, W-214): both start cleared with the same n and take the same single link calls, none refused, in any
+  -- arrangements. They hold equal links and numbers, and shell tree, backbone and staircase calls with equal lent lists answer equal
+  pub confluence : Confluence
+  pub calls-agree : Calls-agree
+  -- that their orders are always equal, or their images, is false
+  pub orders-differ : Equal-orders → ⊥
+  pub images-differ : Equal-images → ⊥
 
 -- ---- all of them
 
@@ -558,7 +568,16 @@ steps = record {
 }
 
 pub property-3 : Property-3
-property-3 = record { steps = steps; runs = run-total; demand = demand-3; exactly = exactly-changed }
+property-3 = record {
+  steps = steps;
+  runs = run-total;
+  demand = demand-3;
+  exactly = exactly-changed;
+  confluence = confluence;
+  calls-agree = calls-agree;
+  orders-differ = orders-differ;
+  images-differ = images-differ;
+}
 
 pub promises : {M : Type 1} → Promises M
 promises = record {

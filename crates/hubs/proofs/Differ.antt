@@ -1,0 +1,132 @@
+-- Orders and images of two hubs may differ: the worked pair of histories, as runs.
+--   run, singles       link calls played one after the other are a run; where none is refused, of single calls
+--   played-one, played-other   what the rows of the pair say of them
+--   orders-differ, images-differ   so neither can be claimed equal
+use mathlib.Core.Path.{_≡_, sym, ap, _∙_}
+use mathlib.Core.Bool.{true, _&&_}
+use mathlib.Core.List.{List, [], _∷_}
+use Prim.Native.Nat.{ℕ}
+use native.Mathlib.Omega.{arith}
+use lib.ListN.{length}
+use lib.Dec.{eqb}
+use borrow.Author.Tests.{eqb-true}
+use Rattle.lists.specs.Lists.{same}
+use Rattle.lists.proofs.Tests.{and-left, and-right}
+use Rattle.lists.proofs.All.{same-eq}
+use Rattle.mesh.specs.Tables.{Tables}
+use Rattle.calls.specs.Switches.{Switch}
+use Rattle.calls.specs.Outcomes.{clear-outcome, link-outcome}
+use Rattle.calls.specs.Book.{Answer, linking, reported}
+use Rattle.calls.specs.Runs.{answer-of, Does, Event, event, Run, ended, next}
+use Rattle.calls.specs.Questions.{same-step}
+use Rattle.calls.specs.Worked.{entries, lent-tables, Left, left, left-by, played, after, up, risen, Want, last-answers, all-numbers, whole-order}
+use Rattle.calls.specs.Worked.{row, same-answers, meets, meets-all, right, All-right}
+use Rattle.calls.proofs.Outcomes.{clear-inhabited}
+use Rattle.calls.proofs.Total.{link-done}
+use Rattle.hubs.specs.Hubs.{Cleared, Singles, single, Two-hubs, Equal-orders, Equal-images}
+use Rattle.hubs.specs.Hubs as hubs
+use Rattle.hubs.specs.Cases.{one-hub, other-hub, cases}
+use Rattle.hubs.proofs.Confluence.{orders-by-images}
+use Rattle.hubs.proofs.Cases.{cases-right, cases-same}
+
+-- ---- calls played one after the other are a run
+
+abbrev zeros : ℕ → ℕ
+zeros i = 0
+
+abbrev made : (n : ℕ) → Switch → Left → Event
+made n c s =
+    let o = link-outcome (c .up) n (c .a) (c .b) (s .tables) (entries zeros n) in
+    event (linking (c .up) n (c .a) (c .b) (length (entries zeros n))) (s .tables) (answer-of (o .0) (o .2) ∷ []) (o .1)
+
+events : (n : ℕ) → List Switch → Left → List Event
+events n [] s = []
+events n (c ∷ cs) s = made n c s ∷ events n cs (played zeros n c s)
+
+run : (n : ℕ) (cs : List Switch) (s : Left) → Run (s .tables) (events n cs s) (after zeros n cs s .tables)
+unfolding events after played left-by Does
+run n [] s = ended
+run n (c ∷ cs) s = next (link-done (c .up) n (c .a) (c .b) (s .tables) (entries zeros n)) (run n cs (played zeros n c s))
+
+-- none refused
+All-taken : (n : ℕ) → List Switch → Left → Type 0
+All-taken n [] s = Unit {0}
+All-taken n (c ∷ cs) s = (link-outcome (c .up) n (c .a) (c .b) (s .tables) (entries zeros n) .0 .number ≡ 0) × All-taken n cs (played zeros n c s)
+
+singles : (n : ℕ) (cs : List Switch) (s : Left) → All-taken n cs s → Singles n (events n cs s) cs
+unfolding events All-taken answer-of
+singles n [] s ok = hubs.ended
+singles n (c ∷ cs) s ok = single (ok .0) (singles n cs (played zeros n c s) (ok .1))
+
+-- ---- what a row of the worked pair says
+
+abbrev lent : Tables
+lent = lent-tables zeros 4
+
+abbrev first : Left
+first = left (clear-outcome 4 lent .1) []
+
+-- two calls, none refused, and the order that they leave
+record Played (c d : Switch) (xs : List ℕ) : Type 0 where
+  cleared : Cleared 4 (first .tables)
+  taken : All-taken 4 (c ∷ d ∷ []) first
+  order : after zeros 4 (c ∷ d ∷ []) first .tables .order ≡ xs
+
+first-same :
+    (x y : Answer) (xs ys : List Answer) → same-answers (x ∷ xs) (y ∷ ys) ≡ true → (x .number ≡ y .number) × (same-answers xs ys ≡ true)
+unfolding same-answers
+first-same x y xs ys p =
+    let a = eqb (x .number) (y .number) in
+    let b = same-step (x .step) (y .step) in
+    let e = eqb (x .count) (y .count) && same (x .listed) (y .listed) in
+    let f = same-answers xs ys in
+    (eqb-true (x .number) (y .number) (and-left a b (and-left (a && b) (e && f) p)), and-right e f (and-right (a && b) (e && f) p))
+
+by-row :
+    (c d : Switch) (cs ds ns xs : List ℕ) (ws : List Want) →
+    right zeros (row 4 (c ∷ d ∷ []) (last-answers (risen cs ∷ risen ds ∷ []) ∷ all-numbers ns ∷ whole-order xs ∷ ws)) ≡ true → Played c d xs
+unfolding right meets-all meets All-taken after played left-by risen reported answer-of
+by-row c d cs ds ns xs ws p =
+    let s = after zeros 4 (c ∷ d ∷ []) first in
+    let z = eqb (clear-outcome 4 lent .0) 0 in
+    let later = meets-all zeros 4 s (all-numbers ns ∷ whole-order xs ∷ ws) in
+    let answered = meets zeros 4 s (last-answers (risen cs ∷ risen ds ∷ [])) in
+    let q = and-right z (answered && later) p in
+    let one = first-same _ _ _ _ (and-left answered later q) in
+    let two = first-same _ _ _ _ (one .1) in
+    let rest = meets-all zeros 4 s (whole-order xs ∷ ws) in
+    let o = and-right (same (s .tables .numbers) ns) rest (and-right answered later q) in
+    let nought : clear-outcome 4 lent .0 ≡ 0 = eqb-true (clear-outcome 4 lent .0) 0 (and-left z (answered && later) p) in
+    record {
+      cleared = record { before = lent; contract = rw nought at (clear-inhabited 4 lent) };
+      taken = (one .0, (two .0, tt));
+      order = same-eq (s .tables .order) xs (and-left (same (s .tables .order) xs) (meets-all zeros 4 s ws) o);
+    }
+
+-- ---- the pair
+
+played-one : Played (up 0 1) (up 2 3) (2 ∷ 3 ∷ 0 ∷ 1 ∷ [])
+unfolding All-right cases one-hub
+played-one = by-row (up 0 1) (up 2 3) _ _ _ _ _ (cases-right .0 zeros)
+
+played-other : Played (up 2 3) (up 0 1) (0 ∷ 1 ∷ 2 ∷ 3 ∷ [])
+unfolding All-right cases other-hub
+played-other = by-row (up 2 3) (up 0 1) _ _ _ _ _ (cases-right .1 .0 zeros)
+
+head : List ℕ → ℕ
+head [] = 0
+head (x ∷ xs) = x
+
+pub orders-differ : Equal-orders → ⊥
+unfolding Equal-orders Two-hubs one-hub other-hub head
+orders-differ claim =
+    let cs = up 0 1 ∷ up 2 3 ∷ [] in
+    let ds = up 2 3 ∷ up 0 1 ∷ [] in
+    let v = after zeros 4 cs first .tables in
+    let w = after zeros 4 ds first .tables in
+    let e = claim 4 (first .tables) (first .tables) v w (events 4 cs first) (events 4 ds first) cs ds (played-one .cleared) (played-other .cleared)
+    (run 4 cs first) (run 4 ds first) (singles 4 cs first (played-one .taken)) (singles 4 ds first (played-other .taken)) cases-same in
+    absurd (omega (arith, ap head (sym (played-one .order) ∙ e ∙ played-other .order)))
+
+pub images-differ : Equal-images → ⊥
+images-differ claim = orders-differ (orders-by-images claim)

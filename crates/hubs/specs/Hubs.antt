@@ -1,0 +1,103 @@
+-- Two hubs, one mesh (document 02, W-214): hubs that take the same link calls in different arrangements hold the same mesh.
+--   same-call, times   a link call by its direction and its two radios, in either order; how often it stands in a list
+--   Same-calls         two lists have the same calls the same number of times
+--   Cleared n t        the tables t were left by an accepted clearing of n radios
+--   Singles n es ss    the list es is the single link calls ss, none refused; calls that only read may stand between them
+--   Two-hubs C         two hubs that start cleared with the same n and take the same single link calls: C holds of what they hold
+--   Confluence         equal links and numbers, and what is worked out from links
+--   Calls-agree        the shell tree, backbone and staircase calls with equal lent lists answer equal
+-- Calls that stand for several link calls, committings, images and coming back to a mark lie outside.
+-- The proofs are `confluence` and `calls-agree` in proofs/Confluence.antt. Definitions only.
+use mathlib.Core.Path.{_≡_}
+use mathlib.Core.Bool.{Bool, _&&_, _||_, cond, Bool·beq}
+use mathlib.Core.List.{List, [], _∷_}
+use Prim.Native.Nat.{ℕ, _+_}
+use lib.Dec.{eqb}
+use Rattle.mesh.specs.Tables.{Tables, graph-in}
+use Rattle.mesh.specs.Connected.{backbone}
+use Rattle.mesh.specs.Tree.{tree, node-names}
+use Rattle.mesh.specs.Staircase.{staircase}
+use Rattle.mesh.specs.Image.{image-of}
+use Rattle.mesh.specs.declared.Node.{Node}
+use Rattle.calls.specs.Switches.{Switch, switch}
+use Rattle.calls.specs.Contracts.Sites.{Clear-contract}
+use Rattle.calls.specs.Contracts.Cores.{Backbone-contract}
+use Rattle.calls.specs.Contracts.Trees.{Tree-contract}
+use Rattle.calls.specs.Contracts.Staircase.{Staircase-contract}
+use Rattle.calls.specs.Book.{Answer, linking, other}
+use Rattle.calls.specs.Runs.{Event, event, Run}
+use Rattle.calls.specs.declared.Value.{Value}
+
+-- ---- the same calls
+
+-- is s the call that takes the link between a and b up, or down, whichever end it names first?
+unfoldable pub same-call : (up : Bool) → (a b : ℕ) → Switch → Bool
+same-call up a b s = Bool·beq (s .up) up && ((eqb (s .a) a && eqb (s .b) b) || (eqb (s .a) b && eqb (s .b) a))
+
+-- how often it stands in the list
+unfoldable pub times : (up : Bool) → (a b : ℕ) → List Switch → ℕ
+times up a b [] = 0
+times up a b (s ∷ ss) = cond (same-call up a b s) 1 0 + times up a b ss
+
+-- the same calls the same number of times
+unfoldable pub Same-calls : (ss rs : List Switch) → Type 0
+Same-calls ss rs = (up : Bool) (a b : ℕ) → times up a b ss ≡ times up a b rs
+
+-- ---- a hub
+
+-- whatever the tables held before
+pub record Cleared (n : ℕ) (t : Tables) : Type 0 where
+  pub before : Tables
+  pub contract : Clear-contract n before 0 t
+
+-- single link calls only, none refused. A call that only reads is `other` to a run, and leaves the tables
+pub data Singles (n : ℕ) : List Event → List Switch → Type 0 where
+  ended : Singles n [] []
+  single :
+      {up : Bool} {a b w : ℕ} {t v : Tables} {h : Answer} {es : List Event} {ss : List Switch} → h .number ≡ 0 → Singles n es ss →
+      Singles n (event (linking up n a b w) t (h ∷ []) v ∷ es) (switch up a b ∷ ss)
+  only-reads :
+      {t v : Tables} {hs : List Answer} {es : List Event} {ss : List Switch} → Singles n es ss → Singles n (event other t hs v ∷ es) ss
+
+-- ---- two hubs
+
+-- v and w are what the hubs hold in the end. In a run each call gets the tables that the one before it left: nobody else writes them
+unfoldable pub Two-hubs : ((n : ℕ) → (v w : Tables) → Type 0) → Type 0
+Two-hubs C =
+    (n : ℕ) (t u v w : Tables) (es fs : List Event) (ss rs : List Switch) → Cleared n t → Cleared n u → Run t es v → Run u fs w →
+    Singles n es ss → Singles n fs rs → Same-calls ss rs → C n v w
+
+-- orders and images may differ
+pub record Equal-sites (n : ℕ) (v w : Tables) : Type 0 where
+  pub links : v .links ≡ w .links
+  pub numbers : v .numbers ≡ w .numbers
+  pub trees : tree (graph-in n (v .links)) ≡ tree (graph-in n (w .links))
+  pub names : node-names (graph-in n (v .links)) ≡ node-names (graph-in n (w .links))
+  pub backbones : backbone (graph-in n (v .links)) ≡ backbone (graph-in n (w .links))
+  pub staircases : staircase (graph-in n (v .links)) ≡ staircase (graph-in n (w .links))
+
+-- what the two calls come back with and leave of what is lent; m is the n that both are given, right or wrong
+pub record Equal-answers (v w : Tables) : Type 0 where
+  pub tree :
+      (m : ℕ) (ns : List Node) (xs : List ℕ) (o s : Value × List Node × List ℕ) → Tree-contract m v ns xs (o .0) (o .1) (o .2) →
+      Tree-contract m w ns xs (s .0) (s .1) (s .2) → o ≡ s
+  pub backbone :
+      (m : ℕ) (xs : List ℕ) (o s : Value × List ℕ) → Backbone-contract m v xs (o .0) (o .1) → Backbone-contract m w xs (s .0) (s .1) → o ≡ s
+  pub staircase :
+      (m : ℕ) (xs : List ℕ) (o s : Value × List ℕ) → Staircase-contract m v xs (o .0) (o .1) → Staircase-contract m w xs (s .0) (s .1) → o ≡ s
+
+unfoldable pub Confluence : Type 0
+Confluence = Two-hubs Equal-sites
+
+unfoldable pub Calls-agree : Type 0
+Calls-agree = Two-hubs (λ n v w. Equal-answers v w)
+
+-- ---- what cannot be claimed
+
+-- that both have the same order
+unfoldable pub Equal-orders : Type 0
+Equal-orders = Two-hubs (λ n v w. v .order ≡ w .order)
+
+-- that both write the same image
+unfoldable pub Equal-images : Type 0
+Equal-images = Two-hubs (λ n v w. image-of (graph-in n (v .links)) (v .order) ≡ image-of (graph-in n (w .links)) (w .order))

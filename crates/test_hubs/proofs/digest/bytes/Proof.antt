@@ -1,0 +1,18 @@
+-- `digest::bytes` is safe and ends: the measure is what is left of the list.
+use Prim.Native.Nat.{_-_}
+use lib.ListN.{length}
+use borrow.Author.Needs.{needs}
+use Rattle.test_hubs.proofs.digest.bytes.Statement.{statement}
+use Rattle.test_hubs.proofs.digest.bytes.Tie as tie
+
+abbrev Inv-loop : tie.InvT-loop
+Inv-loop h list d₀ i₀ d i = Unit {0}
+
+abbrev μ-loop : tie.MeasureT-loop
+μ-loop h list d₀ i₀ d i = length list - i
+
+pub bytes-spec : {M : Type 1} → statement M
+bytes-spec =
+    tie.close (
+    tie.spec Inv-loop μ-loop (λ c. tt) (λ c. search needs) (λ c κs. search needs) (λ c. search needs) (λ c. search needs) (λ c. tt)
+    (λ c. search needs))
