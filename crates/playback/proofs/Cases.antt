@@ -1,0 +1,1 @@
+-- M1's script leaves another order than M1: computed.
