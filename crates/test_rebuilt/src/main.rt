@@ -10,7 +10,7 @@ mod site;
 
 fn main() {
     site::run(1, 1, 3, 1);
-    site::run(2, 2, 1, 12);
+    site::run(2, 2, 1, 5);
     site::run(7, 7, 60, 3);
     site::run(12, 12, 90, 4);
     site::run(45, 43, 1200, 5);
