@@ -102,7 +102,16 @@ pub fn canary() {
     let mut order = [0u16; 3];
     let mut answer = [0u16; 3];
     tables::clear::clear(3, &mut links, &mut numbers, &mut order);
-    links::link::link(true, 3, 0, 1, &mut links, &mut numbers, &mut order, &mut answer);
+    links::link::link(
+        true,
+        3,
+        0,
+        1,
+        &mut links,
+        &mut numbers,
+        &mut order,
+        &mut answer,
+    );
     compare(3, b"radios 3\nup 0 2\n", &links, &numbers, &order);
     compare(3, b"radios 4\nup 0 1\n", &links, &numbers, &order);
     compare(3, b"radios 3\nup 0 1\nup 0 1\n", &links, &numbers, &order);

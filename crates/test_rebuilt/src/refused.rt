@@ -3,8 +3,14 @@ use crate::say;
 
 // Puts both calls to the first `entries` entries of the numbers, with the first `room` bytes of the buffer.
 fn ask(n: u32, links: &[u8], numbers: &[u8], order: &[u16], text: &mut [u8]) {
-    say::answer(b"length", summerbugle::sb_script_length(n, links, numbers, order));
-    say::answer(b"write", summerbugle::sb_script_write(n, links, numbers, order, text));
+    say::answer(
+        b"length",
+        summerbugle::sb_script_length(n, links, numbers, order),
+    );
+    say::answer(
+        b"write",
+        summerbugle::sb_script_write(n, links, numbers, order, text),
+    );
     say::text(text);
     say::end_line();
 }
@@ -17,7 +23,16 @@ pub fn run() {
     let mut answer = [0u16; 3];
     let mut text = *b"....................";
     tables::clear::clear(3, &mut links, &mut numbers, &mut order);
-    links::link::link(true, 3, 0, 1, &mut links, &mut numbers, &mut order, &mut answer);
+    links::link::link(
+        true,
+        3,
+        0,
+        1,
+        &mut links,
+        &mut numbers,
+        &mut order,
+        &mut answer,
+    );
     ask(0, &links, &numbers, &order, &mut text);
     ask(513, &links, &numbers, &order, &mut text);
     ask(2, &links, &numbers, &order, &mut text);

@@ -33,7 +33,14 @@ pub fn written(n: u32, links: &[u8], numbers: &[u8], order: &[u16], text: &mut [
     let len = size.value as usize;
     let mut longer = [BYTE; ROOM];
     write(n, links, numbers, order, &mut longer, ROOM);
-    write(n, links, numbers, order, text, std::num::wrapping_sub_usize(len, 1));
+    write(
+        n,
+        links,
+        numbers,
+        order,
+        text,
+        std::num::wrapping_sub_usize(len, 1),
+    );
     write(n, links, numbers, order, text, len);
     let end = site::least(len, ROOM);
     say::text(&text[..end]);
