@@ -63,8 +63,8 @@ def site_text(n, m, calls, seed):
     played = replay(script.encode())
     assert all(line.startswith("0 ") for line in played.splitlines()[:-2])
     assert printed("numbers", *site.numbers) in played
-    return (printed("site", n) + printed("length", 0, size) + printed("write", 0, size, 1) + printed("write", 13, 0, 1)
-            + printed("write", 0, size, 1) + script + played + back(n, script, site))
+    return (printed("site", n) + printed("length", 0, size) + printed("write", 0, size, 0) + printed("write", 13, 0, 0)
+            + printed("write", 0, size, 0) + script + played + back(n, script, site))
 
 
 def pair():

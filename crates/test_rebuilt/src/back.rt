@@ -71,27 +71,43 @@ fn say_same(refused: u32, links: bool, numbers: bool, order: bool) {
     say::end_line();
 }
 
+// Plays the script on the new tables and compares them with the site's.
+fn play_on(
+    n: u32,
+    text: &[u8],
+    links: &[u8],
+    numbers: &[u8],
+    order: &[u16],
+    new_links: &mut [u8],
+    new_numbers: &mut [u8],
+    new_order: &mut [u16],
+) {
+    let mut answer = [0u16; site::ENTRIES];
+    let refused = play_lines(n, text, new_links, new_numbers, new_order, &mut answer);
+    say_same(
+        refused,
+        tables::fill::same8(new_links, links),
+        tables::fill::same8(new_numbers, numbers),
+        tables::fill::same16(new_order, order),
+    );
+}
+
 // Plays the script and compares.
 pub fn compare(n: u32, text: &[u8], links: &[u8], numbers: &[u8], order: &[u16]) {
-    let many = site::least(n as usize, 512);
+    let many = site::least(n as usize, site::ENTRIES);
     let bytes = 64 * many;
-    let mut new_links = [1u8; 32768];
-    let mut new_numbers = [1u8; 512];
-    let mut new_order = [1u16; 512];
-    let mut answer = [0u16; 512];
-    let refused = play_lines(
+    let mut new_links = [1u8; site::LINKS];
+    let mut new_numbers = [1u8; site::ENTRIES];
+    let mut new_order = [1u16; site::ENTRIES];
+    play_on(
         n,
         text,
+        links,
+        numbers,
+        order,
         &mut new_links[..bytes],
         &mut new_numbers[..many],
         &mut new_order[..many],
-        &mut answer[..many],
-    );
-    say_same(
-        refused,
-        tables::fill::same8(&new_links[..bytes], links),
-        tables::fill::same8(&new_numbers[..many], numbers),
-        tables::fill::same16(&new_order[..many], order),
     );
 }
 

@@ -5,8 +5,8 @@ mod back;
 mod random;
 mod refused;
 mod say;
-mod script;
 mod site;
+mod writing;
 
 fn main() {
     site::run(1, 1, 3, 1);

@@ -1,21 +1,13 @@
 // One site: pseudo-random links taken up and down, its script written, played and compared.
 ghost use Prim.Native.Nat.{_≤_};
-use crate::back;
 use crate::random;
 use crate::say;
-use crate::script;
+use crate::writing;
 
 // As many radios as a site may have, and the bytes of its links table.
-const ENTRIES: usize = 512;
+pub const ENTRIES: usize = 512;
 
-const LINKS: usize = 64 * ENTRIES;
-
-// The tables of the largest site.
-pub type Links = [u8; LINKS];
-
-pub type Numbers = [u8; ENTRIES];
-
-pub type Radios = [u16; ENTRIES];
+pub const LINKS: usize = 64 * ENTRIES;
 
 pub fn least(x: usize, y: usize) -> usize
     ensures { λ r. ⌜ (r ≤ x) × (r ≤ y) ⌝ }
@@ -57,7 +49,7 @@ fn wander(
     }
 }
 
-// The site's script, and the site rebuilt.
+// The site, on tables that are cut to its lengths, and its script.
 fn play(
     n: u32,
     m: u32,
@@ -70,10 +62,7 @@ fn play(
 ) {
     tables::clear::clear(n, links, numbers, order);
     wander(n, m, calls, seed, links, numbers, order, answer);
-    let mut text = [script::BYTE; script::ROOM];
-    let size = script::written(n, links, numbers, order, &mut text);
-    script::through_player(&text[..size]);
-    back::compare(n, &text[..size], links, numbers, order);
+    writing::write_all(n, links, numbers, order);
 }
 
 // Plays a site of n radios, whose links are among the first m.
