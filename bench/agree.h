@@ -150,6 +150,20 @@ static int agree_sheet(void) {
     return 1;
 }
 
+/* Text buffers: one byte too short, just right, longer. */
+static int agree_script(void) {
+    static uint8_t p[MOST_SCRIPT + 1], q[sizeof p];
+    start();
+    struct c_value size = one->script_length(&t);
+    if (!same(size, two->script_length(&u))) return 0;
+    for (unsigned more = 0; more < 3; more++) {
+        memset(p, 77, sizeof p), memset(q, 77, sizeof q);
+        size_t length = size.value - 1 + more;
+        if (!same(one->script_write(&t, p, length), two->script_write(&u, q, length)) || memcmp(p, q, sizeof p)) return 0;
+    }
+    return 1;
+}
+
 /* Tables: one entry too few, just enough, more; and on sites that some link calls have changed. */
 static int agree_staircase(void) {
     for (unsigned i = 0; i < 30; i++) {
@@ -229,6 +243,7 @@ static const char *disagreement(const struct program *engine, const struct progr
     if (one->has(COMMITTED) && !agree_proposals()) return "proposals";
     if (!agree_questions()) return "questions";
     if (one->has(SHEET) && !agree_sheet()) return "site sheet";
+    if (one->has(SCRIPT_WRITE) && !agree_script()) return "script";
     if (!agree_writing()) return "image writing";
     if (!agree_tree()) return "shell tree";
     if (one->has(STAIRCASE) && !agree_staircase()) return "staircase tree";

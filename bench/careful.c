@@ -3,6 +3,7 @@
 #include "careful/image.h"
 #include "careful/link.h"
 #include "careful/radios.h"
+#include "careful/script.h"
 #include "careful/staircase.h"
 #include "careful/tree.h"
 

@@ -7,11 +7,14 @@
 #pragma weak sb_ask_down
 #pragma weak sb_commit_up
 #pragma weak sb_commit_down
+#pragma weak sb_script_length
+#pragma weak sb_script_write
 #pragma weak sb_sheet
 #pragma weak sb_staircase
 
 static int c_has(enum timed call) {
     if (call == SHEET) return sb_sheet != 0;
+    if (call == SCRIPT_LENGTH || call == SCRIPT_WRITE) return sb_script_length && sb_script_write;
     if (call == STAIRCASE) return sb_staircase != 0;
     if (call == ASKED || call == COMMITTED) return sb_ask_up && sb_ask_down && sb_commit_up && sb_commit_down;
     return 1;
@@ -58,6 +61,12 @@ static struct c_value c_tree(const struct lent *t, struct c_node *nodes, size_t 
 }
 
 static struct c_value c_sheet(const struct lent *t, uint8_t *page, size_t room) { return value(sb_sheet(t->n, OF(t), page, room)); }
+static struct c_value c_script_length(const struct lent *t) { return value(sb_script_length(t->n, OF(t))); }
+
+static struct c_value c_script_write(const struct lent *t, uint8_t *text, size_t room) {
+    return value(sb_script_write(t->n, OF(t), text, room));
+}
+
 static struct c_value c_staircase(const struct lent *t, uint16_t *table, size_t room) { return value(sb_staircase(t->n, OF(t), table, room)); }
 
 static struct c_value c_image_write(const struct lent *t, uint8_t *buffer, size_t room) {

@@ -63,6 +63,8 @@ LOOP(core, c_core(S, A, 1, w->answer, N).value)
 LOOP(backbone, c_backbone(S, w->answer, N).value)
 LOOP(tree, c_tree(S, w->nodes, N + 1, w->answer, N).value)
 LOOP(sheet, c_sheet(S, w->buffer, w->room).value)
+LOOP(script_length, c_script_length(S).value)
+LOOP(script_write, c_script_write(S, w->buffer, w->room).value)
 LOOP(staircase, c_staircase(S, w->answer, 2 * N).value)
 LOOP(image_write, c_image_write(S, w->buffer, w->room).value)
 LOOP(image_read, c_image_read(&e->other, e->image, e->image_length))
@@ -76,7 +78,7 @@ static void run_changes(const struct lent *t, const struct ends *list, unsigned 
 
 static void (*const loops[CALLS])(const struct work *) = {
     run_clear, run_check, run_number, run_neighbours, run_linked, run_first, run_later_of, run_link, run_asked, run_committed, run_core,
-    run_backbone, run_tree, run_sheet, run_staircase, run_image_write, run_image_read, run_image_other, run_image_block,
+    run_backbone, run_tree, run_sheet, run_script_length, run_script_write, run_staircase, run_image_write, run_image_read, run_image_other, run_image_block,
 };
 
 #define TEXT(x) #x
@@ -84,6 +86,6 @@ static void (*const loops[CALLS])(const struct work *) = {
 extern const struct program PROGRAM;
 const struct program PROGRAM = {
     NAME(PROGRAM), c_has, loops, run_changes, c_clear, c_check, c_number, c_neighbours, c_linked, c_first, c_later_of, c_link, c_ask, c_commit,
-    c_core, c_backbone, c_tree, c_sheet, c_staircase, c_image_write, c_image_read, c_image_block,
+    c_core, c_backbone, c_tree, c_sheet, c_script_length, c_script_write, c_staircase, c_image_write, c_image_read, c_image_block,
 };
 #endif

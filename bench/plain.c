@@ -3,6 +3,7 @@
 #include "plain/image.h"
 #include "plain/link.h"
 #include "plain/radios.h"
+#include "plain/script.h"
 #include "plain/staircase.h"
 #include "plain/tree.h"
 

@@ -7,7 +7,7 @@ LEFT, RIGHT = 60, 1260
 COLOURS = ["#0072b2", "#d55e00", "#009e73", "#aa4499", "#999933", "#56b4e9", "#332288", "#cc3311", "#777777", "#111111"]
 # one for each line of the lowest panel, apart from the sites'
 LINES = ["#1b1b1b", "#8c510a", "#01665e", "#762a83", "#b2182b", "#4d9221", "#2166ac", "#c51b7d", "#737373", "#e08214"]
-GROWING = ["clear", "check", "down+up", "core", "tree", "staircase", "sheet", "image_write", "image_read", "image_block"]
+GROWING = ["clear", "check", "down+up", "core", "tree", "staircase", "sheet", "script_write", "image_write", "image_read", "image_block"]
 
 
 def text(x, y, words, anchor="middle", size=12, colour="#222"):

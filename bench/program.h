@@ -19,6 +19,7 @@
 #define MOST_BLOCKS 86
 
 #define PAGE_LINE 65 /* bytes of a line of the site sheet */
+#define MOST_SCRIPT 112651 /* bytes of the longest script */
 
 /* The tables that a call is lent, with their lengths. */
 struct lent {
@@ -78,7 +79,8 @@ struct work {
 
 /* The calls that are timed. LINK is a link down and up again, ASKED and COMMITTED are the same in two steps. */
 enum timed {
-    CLEAR, CHECK, NUMBER, DEGREE, LINKED, FIRST, LATER_OF, LINK, ASKED, COMMITTED, CORE, BACKBONE, TREE, SHEET, STAIRCASE,
+    CLEAR, CHECK, NUMBER, DEGREE, LINKED, FIRST, LATER_OF, LINK, ASKED, COMMITTED, CORE, BACKBONE, TREE, SHEET,
+    SCRIPT_LENGTH, SCRIPT_WRITE, STAIRCASE,
     IMAGE_WRITE, IMAGE_READ, IMAGE_OTHER, IMAGE_BLOCK, CALLS
 };
 
@@ -102,6 +104,8 @@ struct program {
     struct c_value (*backbone)(const struct lent *, uint16_t *answer, size_t room);
     struct c_value (*tree)(const struct lent *, struct c_node *nodes, size_t places, uint16_t *answer, size_t room);
     struct c_value (*sheet)(const struct lent *, uint8_t *page, size_t room);
+    struct c_value (*script_length)(const struct lent *);
+    struct c_value (*script_write)(const struct lent *, uint8_t *text, size_t room);
     struct c_value (*staircase)(const struct lent *, uint16_t *table, size_t room);
     struct c_value (*image_write)(const struct lent *, uint8_t *buffer, size_t room);
     unsigned (*image_read)(const struct lent *, const uint8_t *image, size_t length);

@@ -9,7 +9,7 @@
 static struct entry entries[IN_TURN / 16];
 static uint16_t answer[2 * RADIOS];
 static struct c_node nodes[RADIOS + 1];
-static uint8_t buffer[BLOCK * MOST_BLOCKS];
+static uint8_t buffer[MOST_SCRIPT]; /* an image is shorter */
 static struct work work = {entries, 0, answer, nodes, buffer, sizeof buffer};
 
 /* Room for the entries' tables and images. */

@@ -1,4 +1,4 @@
-/* A C host: lends tables, takes links up and down, asks, prints a sheet, writes an image, walks it and reads it. examples/run builds and runs it. */
+/* A C host: lends tables, takes links up and down, asks, prints a sheet and a script, writes an image, walks it and reads it. examples/run builds and runs it. */
 #include "../include/summerbugle.h"
 #include <stdio.h>
 
@@ -92,6 +92,17 @@ static void print_sheet(void) {
     print_value("sheet on a short page", sb_sheet(N, TABLES, page, sizeof page - 1));
 }
 
+/* The length beforehand is the length written. */
+static void print_script(void) {
+    uint8_t text[128];
+    sb_value length = sb_script_length(N, TABLES);
+    print_value("script length", length);
+    sb_value script = sb_script_write(N, TABLES, text, length.value);
+    print_value("script", script);
+    printf("%.*s", (int)script.value, (const char *)text);
+    print_value("script in a short buffer", sb_script_write(N, TABLES, text, length.value - 1));
+}
+
 /* The kept links, two entries each. */
 static void print_staircase(void) {
     sb_value staircase = sb_staircase(N, TABLES, kept, 2 * N);
@@ -127,6 +138,7 @@ int main(void) {
     ask();
     print_tree();
     print_sheet();
+    print_script();
     print_staircase();
     keep();
     down(0, 6);

@@ -1,4 +1,4 @@
-// A Rust host: lends tables, takes links up and down, asks, prints a sheet, writes an image, walks it and reads it. examples/run builds and runs it.
+// A Rust host: lends tables, takes links up and down, asks, prints a sheet and a script, writes an image, walks it and reads it. examples/run builds and runs it.
 
 #[repr(C)]
 struct Value {
@@ -59,6 +59,8 @@ mod engine {
         pub fn sb_backbone(n: u32, l: *const u8, ll: usize, k: *const u8, kl: usize, o: *const u16, ol: usize, w: *mut u16, wl: usize) -> Value;
         pub fn sb_tree(n: u32, l: *const u8, ll: usize, k: *const u8, kl: usize, o: *const u16, ol: usize, nodes: *mut Node, len: usize, w: *mut u16, wl: usize) -> Value;
         pub fn sb_sheet(n: u32, l: *const u8, ll: usize, k: *const u8, kl: usize, o: *const u16, ol: usize, page: *mut u8, len: usize) -> Value;
+        pub fn sb_script_length(n: u32, l: *const u8, ll: usize, k: *const u8, kl: usize, o: *const u16, ol: usize) -> Value;
+        pub fn sb_script_write(n: u32, l: *const u8, ll: usize, k: *const u8, kl: usize, o: *const u16, ol: usize, text: *mut u8, len: usize) -> Value;
         pub fn sb_staircase(n: u32, l: *const u8, ll: usize, k: *const u8, kl: usize, o: *const u16, ol: usize, w: *mut u16, wl: usize) -> Value;
         pub fn sb_image_write(n: u32, l: *const u8, ll: usize, k: *const u8, kl: usize, o: *const u16, ol: usize, buffer: *mut u8, len: usize) -> Value;
         pub fn sb_image_read(n: u32, l: *mut u8, ll: usize, k: *mut u8, kl: usize, o: *mut u16, ol: usize, image: *const u8, len: usize) -> u32;
@@ -200,6 +202,16 @@ fn print_sheet(s: &mut Site) {
     print_value("sheet on a short page", call!(sb_sheet, s, [], [page.as_mut_ptr(), page.len() - 1]));
 }
 
+// The length beforehand is the length written.
+fn print_script(s: &mut Site) {
+    let length = call!(sb_script_length, s, [], []);
+    let mut text = vec![0u8; length.value as usize];
+    print_value("script length", length);
+    print_value("script", call!(sb_script_write, s, [], [text.as_mut_ptr(), text.len()]));
+    print!("{}", std::str::from_utf8(&text).unwrap());
+    print_value("script in a short buffer", call!(sb_script_write, s, [], [text.as_mut_ptr(), text.len() - 1]));
+}
+
 // The kept links, two entries each.
 fn print_staircase(s: &mut Site) {
     let mut kept = vec![0u16; 2 * s.n as usize];
@@ -244,6 +256,7 @@ fn main() {
     ask(&mut s);
     print_tree(&mut s);
     print_sheet(&mut s);
+    print_script(&mut s);
     print_staircase(&mut s);
     keep(&mut s);
     s.down(0, 6);

@@ -40,6 +40,8 @@ extern "C" {
 #define SB_PAYLOAD_BYTES 504u
 /* The bytes of a line of the site sheet, which has 8 radios and a line feed. The longest sheet has 64 lines. */
 #define SB_PAGE_LINE 65u
+/* The bytes of the longest script: line 1 and 10,240 links. */
+#define SB_SCRIPT_BYTES 112651u
 
 /* The refusal numbers: the first question that got "no". */
 enum sb_refusal {
@@ -56,6 +58,7 @@ enum sb_refusal {
     SB_IMAGE_CHECK = 10, /* a block does not pass its check */
     SB_IMAGE = 11,      /* the bytes are the image of no sound tables */
     SB_PAGE = 12,       /* the page is shorter than 65 bytes a line */
+    SB_TEXT = 13,       /* the text buffer is shorter than the script */
     SB_OTHER_SIZE = 15, /* the bytes are the image of sound tables with another n */
     SB_PROPOSAL = 16    /* the list or the step is not exactly what asking would give now */
 };
@@ -268,6 +271,27 @@ sb_value sb_tree(uint32_t n, const uint8_t *links, size_t links_len,
 sb_value sb_sheet(uint32_t n, const uint8_t *links, size_t links_len,
                   const uint8_t *numbers, size_t numbers_len, const uint16_t *order, size_t order_len,
                   uint8_t *page, size_t page_len);
+
+/**
+ * The length in bytes of the script that rebuilds the site, without writing it. The tables are only read.
+ *
+ * \return number 0 and the length, at most SB_SCRIPT_BYTES; or a number (SB_SIZE, SB_LENGTH, SB_UNSOUND) and value 0.
+ */
+sb_value sb_script_length(uint32_t n, const uint8_t *links, size_t links_len,
+                          const uint8_t *numbers, size_t numbers_len, const uint16_t *order, size_t order_len);
+
+/**
+ * Write the script that rebuilds the site in front of the text buffer: an event text of the replay program, the line `radios N` and then
+ * one line `up A B` for each link, lower radio first, ascending by lower and then higher radio. Played back, no line is refused, and links
+ * and numbers are those of the tables; the order may differ, since the script is another history. No zero byte is put after the text.
+ * The tables are only read.
+ *
+ * \return number 0 and the script's length in bytes, which sb_script_length tells beforehand; bytes past it keep their content. Or a
+ *         number (SB_SIZE, SB_LENGTH, SB_UNSOUND, SB_TEXT) and value 0, and then the text buffer keeps its content.
+ */
+sb_value sb_script_write(uint32_t n, const uint8_t *links, size_t links_len,
+                         const uint8_t *numbers, size_t numbers_len, const uint16_t *order, size_t order_len,
+                         uint8_t *text, size_t text_len);
 
 /**
  * The staircase tree: the fewest links that still show how strongly any two radios hang together. A link's weight is the smaller of

@@ -109,6 +109,21 @@ static void test_staircase(void) {
     expect("later entry", kept[2 * SB_NEIGHBOURS], SB_NOBODY);
 }
 
+/* The hub's 40 links: line 1, 9 lines of 7 bytes and 31 of 8. */
+static void test_script(void) {
+    static uint8_t text[SB_SCRIPT_BYTES];
+    size_t length = sb_script_length(SB_RADIOS, TABLES).value;
+    expect("script length", length, 11 + 9 * 7 + 31 * 8);
+    text[length] = 77, text[0] = 77;
+    expect("short text", sb_script_write(SB_RADIOS, TABLES, text, length - 1).number, SB_TEXT), expect("kept", text[0], 77);
+    expect("script", sb_script_write(SB_RADIOS, TABLES, text, sizeof text).value, length), expect("kept past it", text[length], 77);
+    expect("first lines", memcmp(text, "radios 512\nup 0 1\nup 0 2\n", 25), 0);
+    expect("last line", memcmp(text + length - 8, "up 0 40\n", 8), 0);
+    numbers[0] = 9;
+    expect("unsound", sb_script_length(SB_RADIOS, TABLES).number, SB_UNSOUND);
+    numbers[0] = 1;
+}
+
 static void test_images(void) {
     size_t length = 5 * SB_BLOCK_BYTES; /* 1, 3 of the order, 1 of the links */
     expect("short buffer", sb_image_write(SB_RADIOS, TABLES, image, length - 1).number, SB_IMAGE_SIZE);
@@ -135,6 +150,7 @@ int main(void) {
     test_refusals();
     test_tree();
     test_sheet();
+    test_script();
     test_staircase();
     test_images();
     return failures != 0;

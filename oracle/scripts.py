@@ -156,11 +156,17 @@ FILES = {CRATE / "data" / name: text for name, text in SCRIPTS.items()}
 PRINTED = {name: replay(text) for name, text in SCRIPTS.items()}
 FILES[CRATE / "stdout"] = "".join(f"{name}\n{PRINTED[name]}" for name in [*SCRIPTS, *BY_BYTES]).encode()
 
-if "--check" in sys.argv:
-    stored = {path for path in (CRATE / "data").iterdir()} | {CRATE / "stdout"}
-    same = stored == set(FILES) and all(path.read_bytes() == text for path, text in FILES.items())
-    print("crates/test_scripts:", "as written by this program" if same else "DIFFERENT")
-    sys.exit(not same)
-(CRATE / "data").mkdir(parents=True, exist_ok=True)
-for path, text in FILES.items():
-    path.write_bytes(text)
+
+def main():
+    if "--check" in sys.argv:
+        stored = {path for path in (CRATE / "data").iterdir()} | {CRATE / "stdout"}
+        same = stored == set(FILES) and all(path.read_bytes() == text for path, text in FILES.items())
+        print("crates/test_scripts:", "as written by this program" if same else "DIFFERENT")
+        sys.exit(not same)
+    (CRATE / "data").mkdir(parents=True, exist_ok=True)
+    for path, text in FILES.items():
+        path.write_bytes(text)
+
+
+if __name__ == "__main__":
+    main()

@@ -3,7 +3,7 @@
 -- refusal keeps, `Total` that every list of calls has a run, `Proposals` that a link call is asking and then committing, `Accepted` what a caller has after an accepted call (property 2),
 -- `ImageNumbers` which bytes reading refuses by 15 and which by 11, `Older` what calls give of older tables and images, `Exactly`
 -- which radios a link call lists, `Cases` that the worked cases hold by `ByPairs`, `WorkedState` and `WorkedLaws`, `SheetCases` that
--- the worked sheets do, the others for demand 3.
+-- the worked sheets do, `ScriptLaws` and `Rebuilt` the script that rebuilds a site, the others for demand 3.
 pub mod QuestionLaws
 pub mod ChainLaws
 pub mod ContractLaws
@@ -25,5 +25,7 @@ pub mod WorkedLaws
 pub mod Cases
 pub mod SheetCases
 pub mod Accepted
+pub mod ScriptLaws
+pub mod Rebuilt
 pub mod ImageNumbers
 pub mod Older

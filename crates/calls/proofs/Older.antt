@@ -22,6 +22,7 @@ use Rattle.calls.specs.Questions.{ask, Lengths, lengths-of, size-good, a
 use Rattle.calls.specs.Questions.{link-refusal-within, blocks-refusal, source-refusal, image-refusal, read-refusal}
 use Rattle.calls.specs.Outcomes.{by-number, read-outcome, link-outcome-within, link-outcome, check-outcome, number-outcome, neighbours-outcome}
 use Rattle.calls.specs.Outcomes.{linked-outcome, first-outcome, core-outcome, backbone-outcome, write-outcome, tree-outcome, later-outcome, sheet-outcome, staircase-outcome}
+use Rattle.calls.specs.Outcomes.{script-length-outcome, script-outcome}
 use Rattle.calls.specs.Older.{Was-sound, former-read-refusal, former-read-outcome, Older}
 use Rattle.calls.specs.declared.Reply.{Reply}
 use Rattle.calls.proofs.Outcomes.{number-by}
@@ -163,7 +164,7 @@ older-other m n bs t s d i e =
 -- ---- all calls
 
 pub older : Older
-unfolding check-outcome number-outcome neighbours-outcome linked-outcome first-outcome later-outcome core-outcome backbone-outcome staircase-outcome write-outcome tree-outcome sheet-outcome
+unfolding check-outcome number-outcome neighbours-outcome linked-outcome first-outcome later-outcome core-outcome backbone-outcome staircase-outcome write-outcome tree-outcome sheet-outcome script-length-outcome script-outcome
 older = record {
   link = λ up n a b t w s. older-call up n a b t w s .0;
   seven = λ up n a b t w s. older-call up n a b t w s .1;
@@ -179,6 +180,8 @@ older = record {
   tree = λ n t m w s. rw (s, now-sound n t s);
   image-write = λ n t w s. rw (s, now-sound n t s);
   sheet = λ n t w s. rw (s, now-sound n t s);
+  script-length = λ n t s. rw (s, now-sound n t s);
+  script = λ n t w s. rw (s, now-sound n t s);
   image-written = λ n t l s. is-image-within-sound former-neighbours n t l (omega arith) s;
   image = older-image;
   image-read = older-read;

@@ -27,11 +27,13 @@ use Rattle.calls.specs.Contracts.Wake.{Later-accepted, Later-refused, La
 use Rattle.calls.specs.Contracts.Cores.{Core-contract, Backbone-contract}
 use Rattle.calls.specs.Contracts.Trees.{Tree-accepted, Tree-refused, Tree-contract}
 use Rattle.calls.specs.Contracts.Pages.{Sheet-contract}
+use Rattle.calls.specs.Contracts.Scripts.{Script-length-contract, Script-contract}
 use Rattle.calls.specs.Contracts.Staircase.{Staircase-contract}
 use Rattle.calls.specs.Switches.{switched}
 use Rattle.calls.specs.Outcomes.{by-number, clear-outcome, read-outcome, link-outcome, value-outcome, check-outcome, number-outcome, neighbours-outcome}
 use Rattle.calls.specs.Outcomes.{linked-outcome, first-outcome, listing-outcome, core-outcome, backbone-outcome, write-outcome, tree-outcome, no-block}
 use Rattle.calls.specs.Outcomes.{block-or-end, block-outcome, later-outcome, sheet-outcome, staircase-outcome, ask-outcome, commit-outcome}
+use Rattle.calls.specs.Outcomes.{script-length-outcome, script-outcome}
 use Rattle.calls.specs.declared.Reply.{Reply}
 use Rattle.calls.specs.declared.Value.{Value}
 use Rattle.calls.proofs.RecordLaws.{tables-ext, reply-ext, value-ext, later-ext, block-ext}
@@ -341,6 +343,23 @@ sheet-decided n t w = listing-by _ _ _ w
 pub sheet-inhabited : (n : ℕ) (t : Tables) (w : List ℕ) → let o = sheet-outcome n t w in Sheet-contract n t w (o .0) (o .1)
 unfolding Sheet-contract sheet-outcome sound
 sheet-inhabited n t w = listing-met _ _ _ w
+
+pub script-length-decided : (n : ℕ) (t : Tables) → Decides (Script-length-contract n t)
+unfolding Script-length-contract
+script-length-decided n t = value-by _ _
+
+pub script-length-inhabited : (n : ℕ) (t : Tables) → Script-length-contract n t (script-length-outcome n t)
+unfolding Script-length-contract script-length-outcome sound
+script-length-inhabited n t = value-met _ _
+
+pub script-decided :
+    (n : ℕ) (t : Tables) (w : List ℕ) → Decides {A = Value × List ℕ} (λ o. Script-contract n t w (o .0) (o .1))
+unfolding Script-contract
+script-decided n t w = listing-by _ _ _ w
+
+pub script-inhabited : (n : ℕ) (t : Tables) (w : List ℕ) → let o = script-outcome n t w in Script-contract n t w (o .0) (o .1)
+unfolding Script-contract script-outcome sound
+script-inhabited n t w = listing-met _ _ _ w
 
 pub read-decided : (n : ℕ) (bs : List ℕ) (t : Tables) → Decides {A = ℕ × Tables} (λ o. Read-contract n bs t (o .0) (o .1))
 unfolding Read-contract

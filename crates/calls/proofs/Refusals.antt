@@ -23,6 +23,7 @@ use Rattle.calls.specs.Contracts.Wake.{Later-accepted, Later-refused, La
 use Rattle.calls.specs.Contracts.Cores.{Core-contract, Backbone-contract}
 use Rattle.calls.specs.Contracts.Trees.{Tree-accepted, Tree-refused, Tree-contract}
 use Rattle.calls.specs.Contracts.Pages.{Sheet-contract}
+use Rattle.calls.specs.Contracts.Scripts.{Script-length-contract, Script-contract}
 use Rattle.calls.specs.Contracts.Staircase.{Staircase-contract}
 use Rattle.calls.specs.declared.Reply.{Reply}
 use Rattle.calls.specs.declared.Value.{Value}
@@ -146,6 +147,16 @@ pub sheet-keeps :
     Listing-refused (r .number) w r x
 unfolding Sheet-contract
 sheet-keeps n t w r x = listing-by _ _ _ w r x
+
+pub script-length-keeps : (n : ℕ) (t : Tables) (r : Value) → Script-length-contract n t r → (r .number ≡ 0 → ⊥) → Value-refused (r .number) r
+unfolding Script-length-contract
+script-length-keeps n t r = value-by _ _ r
+
+pub script-keeps :
+    (n : ℕ) (t : Tables) (w : List ℕ) (r : Value) (x : List ℕ) → Script-contract n t w r x → (r .number ≡ 0 → ⊥) →
+    Listing-refused (r .number) w r x
+unfolding Script-contract
+script-keeps n t w r x = listing-by _ _ _ w r x
 
 pub tree-keeps :
     (n : ℕ) (t : Tables) (m : List Node) (w : List ℕ) (r : Value) (p : List Node) (x : List ℕ) → Tree-contract n t m w r p x →

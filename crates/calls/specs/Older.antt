@@ -18,7 +18,7 @@ use Rattle.calls.specs.Outcomes.{by-number, read-outcome, link-outcome-w
 use Rattle.calls.specs.Outcomes.{number-outcome-within, number-outcome, neighbours-outcome-within, neighbours-outcome, linked-outcome-within}
 use Rattle.calls.specs.Outcomes.{linked-outcome, first-outcome-within, first-outcome, core-outcome-within, core-outcome, backbone-outcome-within}
 use Rattle.calls.specs.Outcomes.{backbone-outcome, write-outcome-within, write-outcome, tree-outcome-within, tree-outcome, later-outcome-within, later-outcome}
-use Rattle.calls.specs.Outcomes.{sheet-outcome-within, sheet-outcome}
+use Rattle.calls.specs.Outcomes.{sheet-outcome-within, sheet-outcome, script-length-outcome-within, script-length-outcome, script-outcome-within, script-outcome}
 use Rattle.calls.specs.Outcomes.{staircase-outcome-within, staircase-outcome}
 
 -- the conditions of soundness, with the former limit
@@ -65,6 +65,10 @@ pub record Older : Type 0 where
       (n : ℕ) (t : Tables) (w : List ℕ) → Was-sound n t → write-outcome n t w ≡ write-outcome-within former-neighbours n t w
   pub sheet :
       (n : ℕ) (t : Tables) (w : List ℕ) → Was-sound n t → sheet-outcome n t w ≡ sheet-outcome-within former-neighbours n t w
+  pub script-length :
+      (n : ℕ) (t : Tables) → Was-sound n t → script-length-outcome n t ≡ script-length-outcome-within former-neighbours n t
+  pub script :
+      (n : ℕ) (t : Tables) (w : List ℕ) → Was-sound n t → script-outcome n t w ≡ script-outcome-within former-neighbours n t w
   -- an older image: what was written of formerly sound tables
   pub image-written :
       (n : ℕ) (t : Tables) → n ≤ max-radios → Was-sound n t →

@@ -25,7 +25,9 @@ use Rattle.mesh.specs.Image.{block-bytes, payload-bytes, image-of, image-graph,
 use Rattle.mesh.specs.declared.Node.{Node}
 use Rattle.calls.specs.Questions.{lengths-of, image-length, tables-refusal, link-refusal-within, read-refusal, radio-refusal, pair-refusal}
 use Rattle.calls.specs.Questions.{link-refusal, commit-refusal, core-refusal, backbone-refusal, tree-refusal, staircase-refusal, write-refusal, sheet-refusal, block-refusal}
+use Rattle.calls.specs.Questions.{script-length-refusal, script-refusal}
 use Rattle.calls.specs.Sheet.{sheet, sheet-length}
+use Rattle.calls.specs.Script.{script-of, script-length}
 use Rattle.calls.specs.Switches.{switch, switched}
 use Rattle.calls.specs.Contracts.Radios.{first-of-two}
 use Rattle.calls.specs.declared.Reply.{Reply}
@@ -193,6 +195,23 @@ sheet-outcome-within most n t w =
 
 unfoldable pub sheet-outcome : (n : ℕ) → Tables → (page : List ℕ) → Value × List ℕ
 sheet-outcome n t w = sheet-outcome-within max-neighbours n t w
+
+-- ---- the script: its length, and the script itself
+
+abbrev pub script-length-outcome-within : (most n : ℕ) → Tables → Value
+script-length-outcome-within most n t =
+    value-outcome (script-length-refusal n (lengths-of t) (sound-within most n t)) (script-length (graph-in n (t .links)))
+
+unfoldable pub script-length-outcome : (n : ℕ) → Tables → Value
+script-length-outcome n t = script-length-outcome-within max-neighbours n t
+
+abbrev pub script-outcome-within : (most n : ℕ) → Tables → (text : List ℕ) → Value × List ℕ
+script-outcome-within most n t w =
+    let g = graph-in n (t .links) in
+    listing-outcome (script-refusal n (lengths-of t) (length w) (sound-within most n t) g) (script-length g) (script-of g) w
+
+unfoldable pub script-outcome : (n : ℕ) → Tables → (text : List ℕ) → Value × List ℕ
+script-outcome n t w = script-outcome-within max-neighbours n t w
 
 -- ---- the shell tree
 

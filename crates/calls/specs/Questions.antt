@@ -2,11 +2,11 @@
 --   ask r yes later        question r: a "no" gives its number, a "yes" goes on
 --   By-number              a contract by the number that its chain gives
 --   Lengths                the lengths of links, numbers and order
---   size-good .. is-image  questions 1 to 12, 15 and 16 (1 is `size-good`, 3 `sound`, 10 `checks-good`, 15 `other-size`, 11 `is-image` of mesh)
+--   size-good .. is-image  questions 1 to 13, 15 and 16 (1 is `size-good`, 3 `sound`, 10 `checks-good`, 15 `other-size`, 11 `is-image` of mesh)
 --   tables-refusal .. block-refusal   the first "no" of a call's questions, or 0
 -- A chain takes the answer to question 3 and the graph that 6 to 8 are put to, since the link book answers these from its
 -- pairs and gives 3 a yes. A chain `..-within most` asks with that bound on neighbours; without it, with a site's own. The numbers
--- of document 02 stand where it puts them: 12 after 3, 16 after 7, 15 after 10.
+-- of document 02 stand where it puts them: 12 and 13 after 3, 16 after 7, 15 after 10.
 -- Definitions only.
 use mathlib.Core.Bool.{Bool, true, false, _&&_, not}
 use mathlib.Core.List.{List}
@@ -22,6 +22,7 @@ use Rattle.mesh.specs.Levels.{changed, step-of}
 use Rattle.mesh.specs.Tables.{Tables}
 use Rattle.mesh.specs.Image.{block-bytes, block-count, whole-blocks, checks-good, other-size, is-image}
 use Rattle.calls.specs.Sheet.{sheet-length}
+use Rattle.calls.specs.Script.{script-length}
 unfoldable pub use Rattle.mesh.specs.Limits.{size-good}
 
 unfoldable pub ask : (number : ℕ) → (yes : Bool) → (later : ℕ) → ℕ
@@ -111,6 +112,12 @@ holds-image g room = leb (image-length g) room
 unfoldable pub holds-sheet : (n page : ℕ) → Bool
 holds-sheet n room = leb (sheet-length n) room
 
+-- ---- question 13: scripts
+
+-- does the text buffer hold the script?
+unfoldable pub holds-script : Graph → (text : ℕ) → Bool
+holds-script g room = leb (script-length g) room
+
 -- ---- chains
 
 -- 1 and 2, where `others` is what 2 asks of further tables; then the later questions
@@ -185,6 +192,14 @@ write-refusal n l room sound g = site-refusal n l true sound (ask 9 (holds-image
 -- the site sheet: 1 to 3 and 12
 unfoldable pub sheet-refusal : (n : ℕ) → Lengths → (page : ℕ) → (sound : Bool) → ℕ
 sheet-refusal n l room sound = site-refusal n l true sound (ask 12 (holds-sheet n room) 0)
+
+-- a script's length: 1 to 3
+unfoldable pub script-length-refusal : (n : ℕ) → Lengths → (sound : Bool) → ℕ
+script-length-refusal n l sound = site-refusal n l true sound 0
+
+-- the script: 1 to 3 and 13
+unfoldable pub script-refusal : (n : ℕ) → Lengths → (text : ℕ) → (sound : Bool) → Graph → ℕ
+script-refusal n l room sound g = site-refusal n l true sound (ask 13 (holds-script g room) 0)
 
 -- 9 and 10 of the whole image; then the later questions
 unfoldable pub blocks-refusal : (image : List ℕ) → (later : ℕ) → ℕ

@@ -10,6 +10,8 @@
 --   Core-listed, Backbone-listed   the radios listed
 --   Tree-listed       the nodes listed, and each radio's node name
 --   Sheet-right       the site sheet, column by column
+--   Script-right      the script that rebuilds the site
+--   Script-beforehand the script's length beforehand decides the call that writes it
 --   Staircase-listed  the kept links listed, and what they are
 --   Written-right, Read-right      after writing and reading an image
 --   Image-answered    the number that reading answers where 1, 2, 9 and 10 got yes
@@ -34,6 +36,7 @@ use Rattle.mesh.specs.Staircase.{staircase, link-entries, Staircase-tree}
 use Rattle.mesh.specs.Image.{block-bytes, payload-bytes, payload-at, image-of, image-graph, Tables-image, Other-size, Image-of-none}
 use Rattle.mesh.specs.declared.Node.{Node}
 use Rattle.calls.specs.Sheet.{line-bytes, sheet, sheet-lines, Columns}
+use Rattle.calls.specs.Script.{script-of}
 use Rattle.calls.specs.Contracts.Images.{Block-none}
 use Rattle.calls.specs.declared.Block.{Block}
 
@@ -104,6 +107,17 @@ pub record Sheet-right (n : ℕ) (t : Tables) (size : ℕ) (w x : List ℕ) : Ty
   pub page : take size x ≡ sheet (t .numbers)
   pub columns : Columns n (number (graph-in n (t .links))) x
   pub later-bytes : drop size x ≡ drop size w
+
+-- the first `size` bytes are the script; later bytes keep their content
+pub record Script-right (n : ℕ) (t : Tables) (size : ℕ) (w x : List ℕ) : Type 0 where
+  pub long : size ≡ length (script-of (graph-in n (t .links)))
+  pub text : take size x ≡ script-of (graph-in n (t .links))
+  pub later-bytes : drop size x ≡ drop size w
+
+-- of the same tables: `length` is the length beforehand, `room` the text buffer's; number and value are those of writing
+pub record Script-beforehand (length room number value : ℕ) : Type 0 where
+  pub written : length ≤ room → (number ≡ 0) × (value ≡ length)
+  pub refused : room < length → (number ≡ 13) × (value ≡ 0)
 
 -- w and x are the lent table before and after the call
 pub record Staircase-listed (g : Graph) (count : ℕ) (w x : List ℕ) : Type 0 where

@@ -30,6 +30,8 @@ impl Refusal {
 
     pub const PAGE: u32 = 12;
 
+    pub const TEXT: u32 = 13;
+
     pub const OTHER_SIZE: u32 = 15;
 
     pub const PROPOSAL: u32 = 16;

@@ -21,6 +21,16 @@ unfolding count
 count-mono f g [] h = omega arith
 count-mono f g (x ∷ xs) h = omega (arith, bit-le (f x) (g x) (h x (inl refl)), count-mono f g xs (λ y m. h y (inr m)))
 
+-- where one entry passes the other test alone
+pub count-less :
+    (f g : ℕ → Bool) (b : ℕ) (xs : List ℕ) → In b xs → f b ≡ false → g b ≡ true → ((x : ℕ) → In x xs → f x ≡ true → g x ≡ true) →
+    count f xs < count g xs
+unfolding count
+count-less f g b (x ∷ xs) (inl e) h k sub =
+    omega (arith, bit-false (f x) (ap f e ∙ h), bit-true (g x) (ap g e ∙ k), count-mono f g xs (λ y m. sub y (inr m)))
+count-less f g b (x ∷ xs) (inr i) h k sub =
+    omega (arith, bit-le (f x) (g x) (sub x (inl refl)), count-less f g b xs i h k (λ y m. sub y (inr m)))
+
 pub count-cong : (f h : ℕ → Bool) (xs : List ℕ) → ((x : ℕ) → f x ≡ h x) → count f xs ≡ count h xs
 count-cong f h xs e = le-antisymm (count-mono f h xs (λ x m p. sym (e x) ∙ p)) (count-mono h f xs (λ x m p. e x ∙ p))
 

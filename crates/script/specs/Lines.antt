@@ -16,7 +16,8 @@ use Prim.Native.Nat.{ℕ, _+_, _*_, _-_, _≤_}
 use lib.Dec.{leb, eqb}
 use lib.ListN.{drop}
 use Rattle.lists.specs.Lists.{same}
-use Rattle.text.specs.Text.{bytes-of, space, line-feed, digit-byte, decimal, printed-line}
+use Rattle.text.specs.Text.{bytes-of, space, line-feed, digit-byte}
+use Rattle.calls.specs.Script.{radios-text, up-text, down-text}
 use Rattle.script.specs.declared.lines.Line.{Line}
 use Rattle.script.specs.declared.lines.Line.the-variants.{Radios, Up, Down, Bad}
 use Rattle.script.specs.declared.lines.Number.{Number}
@@ -25,9 +26,9 @@ use Rattle.script.specs.declared.lines.Number.{Number}
 
 -- a word, then the numbers in decimal, single spaces between, ended by a line feed; Bad has no text
 unfoldable pub text-of : Line → List ℕ
-text-of (Radios n) = printed-line (bytes-of "radios") (decimal n ∷ [])
-text-of (Up a b) = printed-line (bytes-of "up") (decimal a ∷ decimal b ∷ [])
-text-of (Down a b) = printed-line (bytes-of "down") (decimal a ∷ decimal b ∷ [])
+text-of (Radios n) = radios-text n
+text-of (Up a b) = up-text a b
+text-of (Down a b) = down-text a b
 text-of Bad = []
 
 -- the largest number of a line

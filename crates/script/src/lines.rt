@@ -13,6 +13,13 @@ const NINE: u32 = 57;
 // The largest number that a line may have.
 const MAX_VALUE: u32 = 65535;
 
+// The words of lines, with the space after them.
+pub const RADIOS: [u8; 7] = *b"radios ";
+
+pub const UP: [u8; 3] = *b"up ";
+
+pub const DOWN: [u8; 5] = *b"down ";
+
 // What a line says.
 pub enum Line {
     Radios(u32),
@@ -174,13 +181,13 @@ fn read_link(s: &[u8], p: usize, up: bool) -> Line
 pub fn parse(s: &[u8]) -> Line
     ensures { λ r. ⌜ r ≡ line-of (now (s .entry)) ⌝ }
 {
-    if starts_with(s, b"up ") {
+    if starts_with(s, &UP) {
         return read_link(s, 3, true);
     }
-    if starts_with(s, b"down ") {
+    if starts_with(s, &DOWN) {
         return read_link(s, 5, false);
     }
-    if starts_with(s, b"radios ") {
+    if starts_with(s, &RADIOS) {
         let n = read_last_number(s, 7);
         if n.ok {
             return Line::Radios(n.value);

@@ -11,6 +11,7 @@ use Rattle.calls.specs.Contracts.Wake.{Later-contract}
 use Rattle.calls.specs.Contracts.Cores.{Core-contract, Backbone-contract}
 use Rattle.calls.specs.Contracts.Trees.{Tree-contract}
 use Rattle.calls.specs.Contracts.Pages.{Sheet-contract}
+use Rattle.calls.specs.Contracts.Scripts.{Script-length-contract, Script-contract}
 use Rattle.calls.specs.Contracts.Staircase.{Staircase-contract}
 use Rattle.block_reader.specs.Reader.{Stepped, Moved}
 use Rattle.summerbugle.specs.Functions.{Function, number-0, number-1, number-2, step-3, tables-1, tables-2, tables-3, tables-4, lent-0, lent-4, lent-5, lent-6}
@@ -61,6 +62,10 @@ use Rattle.summerbugle.proofs.sb_image_write as image-write
 use Rattle.summerbugle.proofs.sb_image_write.Symbol as image-write-symbol
 use Rattle.summerbugle.proofs.sb_sheet as sheet
 use Rattle.summerbugle.proofs.sb_sheet.Symbol as sheet-symbol
+use Rattle.summerbugle.proofs.sb_script_length as script-length
+use Rattle.summerbugle.proofs.sb_script_length.Symbol as script-length-symbol
+use Rattle.summerbugle.proofs.sb_script_write as script-write
+use Rattle.summerbugle.proofs.sb_script_write.Symbol as script-write-symbol
 use Rattle.summerbugle.proofs.sb_image_block as image-block
 use Rattle.summerbugle.proofs.sb_image_block.Symbol as image-block-symbol
 
@@ -242,6 +247,24 @@ sb-sheet = record {
   routine = sheet-symbol.routine;
   kept = sheet.ended .kept;
   contract = λ κs a r e. Sheet-contract (number-0 a) (tables-1 a) (lent-4 a) r (lent-4 e);
+}
+
+-- sb_script_length(n, links, numbers, order)
+abbrev pub sb-script-length : Function
+sb-script-length = record {
+  signature = script-length.signature;
+  routine = script-length-symbol.routine;
+  kept = script-length.ended .kept;
+  contract = λ κs a r e. Script-length-contract (number-0 a) (tables-1 a) r;
+}
+
+-- sb_script_write(n, links, numbers, order, text)
+abbrev pub sb-script-write : Function
+sb-script-write = record {
+  signature = script-write.signature;
+  routine = script-write-symbol.routine;
+  kept = script-write.ended .kept;
+  contract = λ κs a r e. Script-contract (number-0 a) (tables-1 a) (lent-4 a) r (lent-4 e);
 }
 
 -- sb_image_block(image, next)

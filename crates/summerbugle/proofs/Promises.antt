@@ -8,7 +8,7 @@
 --     Outcomes         for every input a contract has exactly one outcome: the one worked out in calls/specs/Outcomes.antt
 --     Tables-left      what is lent by shared reference is left as it was
 --   Property-2       numbers are core numbers by the largest group and orders are k-orders; connected cores, backbone, shell tree,
---                    staircase tree, site sheet and images follow their definitions; older tables and images are taken as they were
+--                    staircase tree, site sheet, script and images follow their definitions; older tables and images are taken as they were
 --   Property-3       demand 3, undivided, over the contracts that the exported calls meet; two hubs, one mesh
 use mathlib.Core.Path.{_≡_, refl}
 use mathlib.Core.Logic.{_↔_, _⊎_}
@@ -37,10 +37,13 @@ use Rattle.calls.specs.Contracts.Wake.{Later-refused, Later-contract}
 use Rattle.calls.specs.Contracts.Cores.{Core-contract, Backbone-contract}
 use Rattle.calls.specs.Contracts.Trees.{Tree-refused, Tree-contract}
 use Rattle.calls.specs.Contracts.Pages.{Sheet-contract}
+use Rattle.calls.specs.Contracts.Scripts.{Script-length-contract, Script-contract}
 use Rattle.calls.specs.Contracts.Staircase.{Staircase-contract}
 use Rattle.calls.specs.Outcomes.{clear-outcome, read-outcome, link-outcome, check-outcome, number-outcome, neighbours-outcome, linked-outcome, first-outcome}
 use Rattle.calls.specs.Outcomes.{core-outcome, backbone-outcome, tree-outcome, write-outcome, block-outcome, later-outcome, sheet-outcome, staircase-outcome, ask-outcome, commit-outcome}
+use Rattle.calls.specs.Outcomes.{script-length-outcome, script-outcome}
 use Rattle.calls.specs.Results.{Site-right, Link-right, Later-right, Core-listed, Backbone-listed, Tree-listed, Written-right, Read-right, Block-part, Block-end}
+use Rattle.calls.specs.Results.{Script-right, Script-beforehand}
 use Rattle.calls.specs.Results.{Image-answered, Sheet-right, Staircase-listed, Ask-right, Commit-right}
 use Rattle.calls.specs.Older.{Older}
 use Rattle.calls.specs.Book.{Call, clearing, reading, linking, committing, Answer, plain, book-after}
@@ -72,6 +75,10 @@ use Rattle.calls.proofs.Refusals.{core-keeps, backbone-keeps, tree-keeps, write
 use Rattle.forests.proofs.Tree.{staircase-right}
 use Rattle.calls.proofs.Accepted.{check-right, link-right, number-right, later-right, core-right, backbone-right, tree-right-listed, write-right}
 use Rattle.calls.proofs.Accepted.{ask-right, commit-right, read-what-was-written, read-right, block-right, sheet-right}
+use Rattle.calls.proofs.Outcomes.{script-length-decided, script-decided, script-length-inhabited, script-inhabited}
+use Rattle.calls.proofs.Refusals.{script-length-keeps, script-keeps}
+use Rattle.calls.proofs.ScriptLaws.{script-right, script-beforehand}
+use Rattle.summerbugle.proofs.Calls.{sb-script-length, sb-script-write}
 use Rattle.calls.proofs.Proposals.{two-steps, refused-step, commit-iff, commit-number}
 use Rattle.calls.proofs.ImageNumbers.{eleven-iff, read-eleven}
 use Rattle.calls.proofs.Older.{older}
@@ -104,6 +111,8 @@ use Rattle.summerbugle.proofs.sb_tree.Met as tree-proof
 use Rattle.summerbugle.proofs.sb_staircase.Met as staircase-proof
 use Rattle.summerbugle.proofs.sb_image_write.Met as image-write-proof
 use Rattle.summerbugle.proofs.sb_sheet.Met as sheet-proof
+use Rattle.summerbugle.proofs.sb_script_length.Met as script-length-proof
+use Rattle.summerbugle.proofs.sb_script_write.Met as script-write-proof
 use Rattle.summerbugle.proofs.sb_image_block.Met as image-block-proof
 
 -- ---- each call meets its contract
@@ -129,6 +138,8 @@ pub record Calls-promised (M : Type 1) : Type 2 where
   pub staircase : Promised sb-staircase M
   pub image-write : Promised sb-image-write M
   pub sheet : Promised sb-sheet M
+  pub script-length : Promised sb-script-length M
+  pub script-write : Promised sb-script-write M
   pub image-block : Promised sb-image-block M
   -- the block reader in document 01's own form: the part given back lies in the image, and is its 504 bytes of payload
   pub reader-open : Promised reader-open M
@@ -158,6 +169,8 @@ pub record Calls-return : Type 2 where
   pub staircase : Returns sb-staircase
   pub image-write : Returns sb-image-write
   pub sheet : Returns sb-sheet
+  pub script-length : Returns sb-script-length
+  pub script-write : Returns sb-script-write
   pub image-block : Returns sb-image-block
   pub reader-open : Returns reader-open
   pub reader-step : Returns reader-step
@@ -201,6 +214,10 @@ pub record Refusals : Type 0 where
   pub sheet :
       (n : ℕ) (t : Tables) (w : List ℕ) (r : Value) (x : List ℕ) → Sheet-contract n t w r x → (r .number ≡ 0 → ⊥) →
       Listing-refused (r .number) w r x
+  pub script-length : (n : ℕ) (t : Tables) (r : Value) → Script-length-contract n t r → (r .number ≡ 0 → ⊥) → Value-refused (r .number) r
+  pub script-write :
+      (n : ℕ) (t : Tables) (w : List ℕ) (r : Value) (x : List ℕ) → Script-contract n t w r x → (r .number ≡ 0 → ⊥) →
+      Listing-refused (r .number) w r x
   pub image-block : (bs : List ℕ) (i : ℕ) (r : Block) → Block-contract bs i r → (r .number ≡ 0 → ⊥) → Block-none (r .number) 0 i r
 
 -- ---- exactly one outcome for every input; o is the result with what is lent to be written, after the call
@@ -232,6 +249,8 @@ pub record Outcomes : Type 0 where
       (n : ℕ) (t : Tables) (w : List ℕ) (o : Value × List ℕ) → Staircase-contract n t w (o .0) (o .1) ↔ (o ≡ staircase-outcome n t w)
   pub image-write : (n : ℕ) (t : Tables) (w : List ℕ) (o : Value × List ℕ) → Write-contract n t w (o .0) (o .1) ↔ (o ≡ write-outcome n t w)
   pub sheet : (n : ℕ) (t : Tables) (w : List ℕ) (o : Value × List ℕ) → Sheet-contract n t w (o .0) (o .1) ↔ (o ≡ sheet-outcome n t w)
+  pub script-length : (n : ℕ) (t : Tables) (o : Value) → Script-length-contract n t o ↔ (o ≡ script-length-outcome n t)
+  pub script-write : (n : ℕ) (t : Tables) (w : List ℕ) (o : Value × List ℕ) → Script-contract n t w (o .0) (o .1) ↔ (o ≡ script-outcome n t w)
   pub image-block : (bs : List ℕ) (i : ℕ) (o : Block) → Block-contract bs i o ↔ (o ≡ block-outcome bs i)
 
 -- ---- what is lent by shared reference
@@ -254,6 +273,8 @@ pub record Tables-left : Type 0 where
   pub staircase : Leaves-lent sb-staircase (λ κs. tables-1) (λ κs. tables-1)
   pub image-write : Leaves-lent sb-image-write (λ κs. tables-1) (λ κs. tables-1)
   pub sheet : Leaves-lent sb-sheet (λ κs. tables-1) (λ κs. tables-1)
+  pub script-length : Leaves-lent sb-script-length (λ κs. tables-1) (λ κs. tables-1)
+  pub script-write : Leaves-lent sb-script-write (λ κs. tables-1) (λ κs. tables-1)
   -- and proposed lists
   pub commit-up : Leaves-lent sb-commit-up (λ κs. lent-7) (λ κs. lent-7)
   pub commit-down : Leaves-lent sb-commit-down (λ κs. lent-7) (λ κs. lent-7)
@@ -325,6 +346,13 @@ pub record Property-2 : Type 0 where
   -- the page has the site sheet in front, column by column, with each radio's core number (document 02, W-201)
   pub sheet :
       (n : ℕ) (t : Tables) (w : List ℕ) (r : Value) (x : List ℕ) → Sheet-contract n t w r x → r .number ≡ 0 → Sheet-right n t (r .value) w x
+  -- the text has the script in front; its length beforehand is the length written, and 13 compares with it (document 02, W-203). That
+  -- playing it rebuilds the site is `written-plays` in crate playback
+  pub script :
+      (n : ℕ) (t : Tables) (w : List ℕ) (r : Value) (x : List ℕ) → Script-contract n t w r x → r .number ≡ 0 → Script-right n t (r .value) w x
+  pub script-beforehand :
+      (n : ℕ) (t : Tables) (s : Value) (w : List ℕ) (r : Value) (x : List ℕ) → Script-length-contract n t s → s .number ≡ 0 →
+      Script-contract n t w r x → Script-beforehand (s .value) (length w) (r .number) (r .value)
   -- the kept links are listed: a spanning forest, no other weighs more; the way over them between two joined radios has the greatest
   -- least weight; those of weight k or more join what shares a connected core at level k
   pub staircase :
@@ -427,6 +455,8 @@ calls-promised = record {
   staircase = staircase-proof.met;
   image-write = image-write-proof.met;
   sheet = sheet-proof.met;
+  script-length = script-length-proof.met;
+  script-write = script-write-proof.met;
   image-block = image-block-proof.met;
   reader-open = reader-open-proof.met;
   reader-step = reader-step-proof.met;
@@ -455,6 +485,8 @@ calls-return = record {
   staircase = returns sb-staircase (calls-promised .staircase);
   image-write = returns sb-image-write (calls-promised .image-write);
   sheet = returns sb-sheet (calls-promised .sheet);
+  script-length = returns sb-script-length (calls-promised .script-length);
+  script-write = returns sb-script-write (calls-promised .script-write);
   image-block = returns sb-image-block (calls-promised .image-block);
   reader-open = returns reader-open (calls-promised .reader-open);
   reader-step = returns reader-step (calls-promised .reader-step);
@@ -480,6 +512,8 @@ refusals = record {
   staircase = staircase-keeps;
   image-write = write-keeps;
   sheet = sheet-keeps;
+  script-length = script-length-keeps;
+  script-write = script-keeps;
   image-block = block-keeps;
 }
 
@@ -502,6 +536,8 @@ outcomes = record {
   staircase = λ n t w. exactly _ _ (staircase-inhabited n t w) (staircase-decided n t w);
   image-write = λ n t w. exactly _ _ (write-inhabited n t w) (write-decided n t w);
   sheet = λ n t w. exactly _ _ (sheet-inhabited n t w) (sheet-decided n t w);
+  script-length = λ n t. exactly _ _ (script-length-inhabited n t) (script-length-decided n t);
+  script-write = λ n t w. exactly _ _ (script-inhabited n t w) (script-decided n t w);
   image-block = λ bs i. exactly _ _ (block-inhabited bs i) (block-decided bs i);
 }
 
@@ -521,6 +557,8 @@ tables-left = record {
   staircase = λ κs a last. refl;
   image-write = λ κs a last. refl;
   sheet = λ κs a last. refl;
+  script-length = λ κs a last. refl;
+  script-write = λ κs a last. refl;
   commit-up = λ κs a last. refl;
   commit-down = λ κs a last. refl;
   image-read = λ κs a last. refl;
@@ -545,6 +583,8 @@ property-2 = record {
   backbone-one-part = backbone-one-part;
   tree = tree-right-listed;
   sheet = sheet-right;
+  script = script-right;
+  script-beforehand = script-beforehand;
   staircase = staircase-right;
   image-written = write-right;
   image-read-back = read-what-was-written;

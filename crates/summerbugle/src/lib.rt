@@ -11,6 +11,7 @@ ghost use Rattle.calls.specs.Contracts.Wake.{Later-contract};
 ghost use Rattle.calls.specs.Contracts.Cores.{Core-contract, Backbone-contract};
 ghost use Rattle.calls.specs.Contracts.Trees.{Tree-contract};
 ghost use Rattle.calls.specs.Contracts.Pages.{Sheet-contract};
+ghost use Rattle.calls.specs.Contracts.Scripts.{Script-length-contract, Script-contract};
 ghost use Rattle.calls.specs.Contracts.Staircase.{Staircase-contract};
 use calls::Block;
 use calls::Later;
@@ -336,6 +337,29 @@ pub extern "C" fn sb_sheet(
     ensures { λ r. ⌜ Sheet-contract n (lent (links .entry) (numbers .entry) (order .entry)) (now (page .entry)) r (now (page .exit)) ⌝ }
 {
     sheet::sheet(n, links, numbers, order, page)
+}
+
+// The length in bytes of the script that rebuilds the site. Refused by 1 to 3: then the value is 0.
+#[no_mangle]
+pub extern "C" fn sb_script_length(n: u32, links: &[u8], numbers: &[u8], order: &[u16]) -> Value
+    ensures { λ r. ⌜ Script-length-contract n (lent (links .entry) (numbers .entry) (order .entry)) r ⌝ }
+{
+    script_writer::length(n, links, numbers, order)
+}
+
+// Writes the script that rebuilds the site in front of the text buffer: the value is its length in bytes, and bytes past it keep their
+// content. Refused by 1 to 3 and 13: then the buffer keeps its content.
+#[no_mangle]
+pub extern "C" fn sb_script_write(
+    n: u32,
+    links: &[u8],
+    numbers: &[u8],
+    order: &[u16],
+    text: &mut [u8],
+) -> Value
+    ensures { λ r. ⌜ Script-contract n (lent (links .entry) (numbers .entry) (order .entry)) (now (text .entry)) r (now (text .exit)) ⌝ }
+{
+    script_writer::write(n, links, numbers, order, text)
 }
 
 // Reads an image of n radios into the tables: links and order as the image lists them, the numbers worked out. Refused by 1, 2,

@@ -1,8 +1,8 @@
 -- Forms of contracts. Each goes by the number that the call's questions give: `..-accepted` when it is 0, `..-refused` when it is a
 -- refusal. Calls that only read links, numbers and order cannot change them, so a contract takes these tables once.
 --   Tables-refused    a refusal with a bare number: every table keeps its content
---   Value-by          a value: check, number, neighbours, linked, first
---   Listing-by        a value, and a lent list that gets entries in front: core, backbone, staircase tree, image writing, site sheet
+--   Value-by          a value: check, number, neighbours, linked, first, a script's length
+--   Listing-by        a value, and a lent list that gets entries in front: core, backbone, staircase tree, image writing, site sheet, script
 -- Definitions only.
 use mathlib.Core.Path.{_≡_}
 use mathlib.Core.List.{List}

@@ -1,0 +1,144 @@
+-- Laws of the script that rebuilds a site (document 02, W-203).
+--   script-zero, script-yes   the chain of writing it
+--   script-most           a site's script has at most 112,651 bytes
+--   script-right          what is written is the script, and later bytes keep their content
+--   script-beforehand     the length beforehand is the length written, and 13 compares with it
+-- That playing it rebuilds the site is in proofs/Rebuilt.antt, and over the replay language in crate playback.
+use mathlib.Core.Path.{_≡_, refl, sym, ap, ap₂, _∙_}
+use mathlib.Core.Logic.{_⊎_, inl, inr}
+use mathlib.Core.Bool.{Bool, true, false}
+use mathlib.Core.List.{List, [], _∷_, _++_, flatMap}
+use Prim.Native.Nat.{ℕ, suc, _+_, _*_, _≤_, _<_}
+use native.Mathlib.Omega.{arith}
+use lib.ListN.{length, take, drop, length-append}
+use borrow.Author.Tests.{leb-true, le-leb, lt-leb}
+use Rattle.lists.specs.Lists.{overwrite}
+use Rattle.lists.proofs.Overwrite.{take-overwrite, drop-overwrite}
+use Rattle.mesh.specs.Limits.{max-radios, max-neighbours}
+use Rattle.mesh.specs.Graph.{Link, Graph, In-links}
+use Rattle.mesh.specs.Tables.{Tables, graph-in}
+use Rattle.mesh.specs.Sound.{sound}
+use Rattle.mesh.specs.Valid.{Valid}
+use Rattle.mesh.proofs.GraphLaws.{proper-of}
+use Rattle.mesh.proofs.Tables.AscendingLinks.{in-links-proper}
+use Rattle.mesh.proofs.Tables.DegreeSum.{links-most}
+use Rattle.text.specs.Text.{bytes-of, decimal, further-fields, printed-line}
+use Rattle.text.proofs.DecimalLaws.{length-decimal-le}
+use Rattle.calls.specs.Script.{radios-text, up-line, script-of, script-length}
+use Rattle.calls.specs.Questions.{ask, By-number, Lengths, lengths-of, holds-script, script-length-refusal, script-refusal}
+use Rattle.calls.specs.Contracts.Forms.{Value-accepted, Value-refused, Listing-accepted, Listing-refused}
+use Rattle.calls.specs.Contracts.Scripts.{Script-length-contract, Script-contract}
+use Rattle.calls.specs.Results.{Script-right, Script-beforehand}
+use Rattle.calls.specs.declared.Value.{Value}
+use Rattle.calls.proofs.QuestionLaws.{ask-yes, ask-no, ask-zero}
+use Rattle.calls.proofs.ContractLaws.{by-zero, by-cases}
+use Rattle.calls.proofs.ChainLaws.{Site-good, site-zero, site-yes}
+use Rattle.calls.proofs.Accepted.{accepted}
+
+-- ---- the chain: 1 to 3 and 13
+
+pub script-zero :
+    (n : ℕ) (l : Lengths) (room : ℕ) (sound : Bool) (g : Graph) → script-refusal n l room sound g ≡ 0 →
+    Site-good n l true sound × (script-length g ≤ room)
+unfolding script-refusal holds-script
+script-zero n l room sound g p =
+    let q = site-zero n l true sound (ask 13 (holds-script g room) 0) p in
+    (q .0, leb-true (script-length g) room (ask-zero 12 (holds-script g room) 0 (q .1) .0))
+
+pub script-yes :
+    (n : ℕ) (l : Lengths) (room : ℕ) (sound : Bool) (g : Graph) → Site-good n l true sound → script-length g ≤ room →
+    script-refusal n l room sound g ≡ 0
+unfolding script-refusal holds-script
+script-yes n l room sound g s h =
+    site-yes n l true sound (ask 13 (holds-script g room) 0) s ∙ ask-yes 13 (holds-script g room) 0 (le-leb (script-length g) room h)
+
+pub script-no :
+    (n : ℕ) (l : Lengths) (room : ℕ) (sound : Bool) (g : Graph) → Site-good n l true sound → room < script-length g →
+    script-refusal n l room sound g ≡ 13
+unfolding script-refusal holds-script
+script-no n l room sound g s h =
+    site-yes n l true sound (ask 13 (holds-script g room) 0) s ∙ ask-no 13 (holds-script g room) 0 (lt-leb (script-length g) room h)
+
+-- ---- its length
+
+length-radios : (n : ℕ) → n < 1000 → length (radios-text n) ≤ 11
+unfolding printed-line further-fields
+length-radios n h = omega (arith, length-append (decimal n) (10 ∷ []), length-decimal-le 2 n (omega arith))
+
+length-up-line : (l : Link) → l .low < 1000 → l .high < 1000 → length (up-line l) ≤ 11
+unfolding up-line printed-line further-fields
+length-up-line l h k =
+    omega (
+      arith,
+      length-append (decimal (l .low)) (32 ∷ (decimal (l .high) ++ (10 ∷ []))),
+      length-append (decimal (l .high)) (10 ∷ []),
+      length-decimal-le 2 (l .low) (omega arith),
+      length-decimal-le 2 (l .high) (omega arith),
+    )
+
+length-ups : (ls : List Link) → ((l : Link) → In-links l ls → (l .low < 1000) × (l .high < 1000)) → length (flatMap up-line ls) ≤ 11 * length ls
+unfolding flatMap
+length-ups [] h = omega arith
+length-ups (l ∷ ls) h =
+    omega (
+      arith,
+      length-append (up-line l) (flatMap up-line ls),
+      length-up-line l (h l (inl refl) .0) (h l (inl refl) .1),
+      length-ups ls (λ m i. h m (inr i)),
+    )
+
+pub script-most : (g : Graph) (xs : List ℕ) → g .n ≤ max-radios → Valid max-neighbours g xs → script-length g ≤ 112651
+unfolding script-length script-of
+script-most g xs small v =
+    let ends : (l : Link) → In-links l (g .links) → (l .low < 1000) × (l .high < 1000) =
+    λ l i. let p = in-links-proper (g .n) (g .links) l (proper-of (g .n) (g .links) (v .links-proper)) i in (omega arith, omega arith) in
+    omega (
+      arith,
+      length-append (radios-text (g .n)) (flatMap up-line (g .links)),
+      length-radios (g .n) (omega arith),
+      length-ups (g .links) ends,
+      links-most g xs small v,
+    )
+
+-- ---- an accepted call
+
+pub script-right : (n : ℕ) (t : Tables) (w : List ℕ) (r : Value) (x : List ℕ) → Script-contract n t w r x → r .number ≡ 0
+    → Script-right n t (r .value) w x
+unfolding Script-contract script-length
+script-right n t w r x d z =
+    let g = graph-in n (t .links) in
+    let new = script-of g in
+    let c = accepted (script-refusal n (lengths-of t) (length w) (sound n t) g) (Listing-accepted (length new) new w r x)
+    (λ q. Listing-refused q w r x) (r .number) (λ q e. e .number) d z in
+    record {
+      long = c .1 .value;
+      text = ap₂ (λ (i : ℕ) (ys : List ℕ). take i ys) (c .1 .value) (c .1 .lent) ∙ take-overwrite new w;
+      later-bytes = rw (c .1 .value, c .1 .lent) (drop-overwrite new w);
+    }
+
+pub script-beforehand :
+    (n : ℕ) (t : Tables) (s : Value) (w : List ℕ) (r : Value) (x : List ℕ) → Script-length-contract n t s → s .number ≡ 0 → Script-contract n t w r x →
+    Script-beforehand (s .value) (length w) (r .number) (r .value)
+unfolding Script-length-contract Script-contract script-length-refusal
+script-beforehand n t s w r x d z e =
+    let g = graph-in n (t .links) in
+    let c = accepted (script-length-refusal n (lengths-of t) (sound n t)) (Value-accepted (script-length g) s)
+    (λ q. Value-refused q s) (s .number) (λ q e. e .number) d z in
+    let good = site-zero n (lengths-of t) true (sound n t) 0 (c .0) .0 in
+    record {
+      written = λ h.
+          let a = by-zero (script-refusal n (lengths-of t) (length w) (sound n t) g) (Listing-accepted (script-length g) (script-of g) w r x)
+          (λ q. Listing-refused q w r x) (script-yes n (lengths-of t) (length w) (sound n t) g good (omega (arith, c .1 .value))) e in
+          (a .number, a .value ∙ sym (c .1 .value));
+      refused = λ h.
+          let q = script-no n (lengths-of t) (length w) (sound n t) g good (omega (arith, c .1 .value)) in
+          let a = by-other (script-refusal n (lengths-of t) (length w) (sound n t) g) (Listing-accepted (script-length g) (script-of g) w r x) q e in
+          (a .number ∙ q, a .value);
+    }
+  where
+    by-other : (R : ℕ) (A : Type 0) → R ≡ 13 → By-number R A (λ q. Listing-refused q w r x) → Listing-refused R w r x
+    by-other R A q b = go (by-cases R A (λ p. Listing-refused p w r x) b)
+      where
+        go : ((R ≡ 0) × A) ⊎ ((R ≡ 0 → ⊥) × Listing-refused R w r x) → Listing-refused R w r x
+        go (inl p) = absurd (omega (arith, p .0))
+        go (inr p) = p .1

@@ -1,0 +1,5 @@
+-- Laws of the code of the script: `PutLaws` for the text that is put piece by piece, `ScriptOutcomes` for the calls, `Cases` that the
+-- worked scripts are right.
+pub mod PutLaws
+pub mod ScriptOutcomes
+pub mod Cases

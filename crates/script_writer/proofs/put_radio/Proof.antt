@@ -1,0 +1,36 @@
+-- `put_radio` meets its contract: what is listed are the neighbours above the radio, all of them, since the row fits the list.
+use mathlib.Core.Path.{sym, ap}
+use mathlib.Core.List.{List, flatMap}
+use Prim.Native.Nat.{ℕ}
+use native.Mathlib.Omega.{arith}
+use lib.ListN.{replicate}
+use lib.Seq.{length-take-le}
+use borrow.Author.Needs.{needs}
+use Rattle.mesh.specs.Limits.{max-neighbours}
+use Rattle.text.proofs.PrintLaws.{puts-as}
+use Rattle.calls.specs.Script.{up-line}
+use Rattle.link_list.specs.Links.{links-to, links-above}
+use Rattle.link_list.proofs.AboveLaws.{above-front}
+use Rattle.script_writer.proofs.put_radio.Statement.{statement}
+use Rattle.script_writer.proofs.put_radio.Tie as tie
+
+aggregate : tie.Need-slice-aggregate-put-row
+aggregate c =
+    let listed = c .before .before .before in
+    sym (length-take-le _ _ (omega (arith, listed .row-above .ensures .0, listed .row-above .kept .1 .1 .0)))
+
+returns : tie.Need-returns
+unfolding links-above
+returns c =
+    let put = c .before .before in
+    let listed = put .before .before .before .before in
+    let start = listed .before .before .before .before in
+    let few = start .pre in
+    let is = above-front (start .args .links .now) (start .args .a) (replicate max-neighbours 0) _ _ (listed .row-above .ensures .0) (listed .row-above .ensures .1)
+    (omega (arith, few)) in
+    puts-as (ap (λ (bs : List ℕ). flatMap up-line (links-to (start .args .a) bs)) is) (put .put-row .ensures)
+
+pub put-radio-spec : {M : Type 1} → statement M
+put-radio-spec =
+    tie.close (
+    tie.spec (λ c. search needs) (λ c κs. search needs) (λ c. search needs) (λ c. search needs) aggregate (λ c κs. search needs) (λ c. search needs) returns)

@@ -1,0 +1,2 @@
+-- Worked scripts.
+pub mod Cases

@@ -1,0 +1,142 @@
+// The script that rebuilds a site: the replay program's line 1, then a line for each link, lower radio first, ascending by lower and
+// then higher. One function puts it and counts it, so its length beforehand is the length written. A buffer that is shorter is refused
+// by 13. The words of the lines are crate script's; digits and bytes are put by crate text.
+ghost use mathlib.Core.Path.{_≡_};
+ghost use mathlib.Core.List.{flatMap};
+ghost use Prim.Native.Nat.{_≤_};
+ghost use lib.ListN.{length};
+ghost use Rattle.mesh.specs.Limits.{max-neighbours};
+ghost use Rattle.mesh.specs.Graph.{graph};
+ghost use Rattle.mesh.specs.Tables.{lent};
+ghost use Rattle.rows.specs.Rows.{neighbours-above};
+ghost use Rattle.text.specs.Print.{buffer-at, Puts};
+ghost use Rattle.calls.specs.Script.{radios-text, up-text, up-line, script-of, script-length};
+ghost use Rattle.calls.specs.Contracts.Scripts.{Script-length-contract, Script-contract};
+ghost use Rattle.link_list.specs.Links.{links-to, links-above, links-from, Rows-listed};
+use calls::Refusal;
+use calls::Value;
+use mesh::Site;
+use script::lines;
+
+// Puts line 1 of a site of n radios.
+fn put_first(buffer: &mut [u8], at: usize, n: u64) -> usize
+    ensures { λ r. ⌜ Puts (buffer-at (now (buffer .entry)) at) (radios-text n) (buffer-at (now (buffer .exit)) r) ⌝ }
+{
+    let number = text::put_text(buffer, at, &lines::RADIOS);
+    let feed = text::put_decimal(buffer, number, n);
+    text::put_byte(buffer, feed, b'\n')
+}
+
+// Puts the line that takes the link between a and b up.
+fn put_up(buffer: &mut [u8], at: usize, a: u64, b: u64) -> usize
+    ensures { λ r. ⌜ Puts (buffer-at (now (buffer .entry)) at) (up-text a b) (buffer-at (now (buffer .exit)) r) ⌝ }
+{
+    let number = text::put_text(buffer, at, &lines::UP);
+    let space = text::put_decimal(buffer, number, a);
+    let feed = text::put_field(buffer, space, b);
+    text::put_byte(buffer, feed, b'\n')
+}
+
+// A radio as it is printed.
+fn wide(x: u16) -> u64
+    ensures { λ r. ⌜ r ≡ x ⌝ }
+{
+    x as u64
+}
+
+// Puts a line for each link of a to the listed radios.
+fn put_row(buffer: &mut [u8], at: usize, a: u64, list: &[u16]) -> usize
+    ensures { λ r. ⌜ Puts (buffer-at (now (buffer .entry)) at) (flatMap up-line (links-to a (now (list .entry))))
+        (buffer-at (now (buffer .exit)) r) ⌝ }
+{
+    let mut place = at;
+    let mut i: usize = 0;
+    while i < list.len() {
+        place = put_up(buffer, place, a, wide(list[i]));
+        i += 1;
+    }
+    place
+}
+
+// Puts a line for each link of a to a radio above it.
+fn put_radio(buffer: &mut [u8], at: usize, links: &[u8], a: u32) -> usize
+    requires { ⌜ length (neighbours-above (now links) a) ≤ max-neighbours ⌝ }
+    ensures { λ r. ⌜ Puts (buffer-at (now (buffer .entry)) at) (flatMap up-line (links-above (now (links .entry)) a))
+        (buffer-at (now (buffer .exit)) r) ⌝ }
+{
+    let mut near = [0u16; Site::NEIGHBOURS as usize];
+    let count = rows::row_above(links, a, &mut near) as usize;
+    put_row(buffer, at, a as u64, &near[..count])
+}
+
+// Puts a line for each link that the first n rows mark.
+fn put_links(buffer: &mut [u8], at: usize, n: u32, links: &[u8]) -> usize
+    requires { ⌜ Rows-listed n (now links) max-neighbours ⌝ }
+    ensures { λ r. ⌜ Puts (buffer-at (now (buffer .entry)) at) (flatMap up-line (links-from n (now (links .entry)) 0 0))
+        (buffer-at (now (buffer .exit)) r) ⌝ }
+{
+    let mut place = at;
+    let mut a: u32 = 0;
+    while a < n {
+        place = put_radio(buffer, place, links, a);
+        a += 1;
+    }
+    place
+}
+
+// Puts the script from the buffer's first byte on and comes back with its length, whether it fits or not.
+fn put_script(buffer: &mut [u8], n: u32, links: &[u8]) -> usize
+    requires { ⌜ Rows-listed n (now links) max-neighbours ⌝ }
+    ensures { λ r. ⌜ Puts (buffer-at (now (buffer .entry)) 0) (script-of (graph n (links-from n (now (links .entry)) 0 0)))
+        (buffer-at (now (buffer .exit)) r) ⌝ }
+{
+    let place = put_first(buffer, 0, n as u64);
+    put_links(buffer, place, n, links)
+}
+
+// The script's length: what putting it counts, with no room for a byte of it.
+fn measure(n: u32, links: &[u8]) -> usize
+    requires listed { ⌜ Rows-listed n (now links) max-neighbours ⌝ }
+    requires short { ⌜ script-length (graph n (links-from n (now links) 0 0)) ≤ 112651 ⌝ }
+    ensures { λ r. ⌜ r ≡ script-length (graph n (links-from n (now (links .entry)) 0 0)) ⌝ }
+{
+    let mut room = [0u8; 0];
+    put_script(&mut room, n, links)
+}
+
+// Number 0 and the script's length in bytes. Or the refusal number of questions 1 to 3 and the value 0.
+pub fn length(n: u32, links: &[u8], numbers: &[u8], order: &[u16]) -> Value
+    ensures { λ r. ⌜ Script-length-contract n (lent (links .entry) (numbers .entry) (order .entry)) r ⌝ }
+{
+    let number = soundness::refusal(n, links, numbers, order, true);
+    if number != 0 {
+        return Value { number, value: 0 };
+    }
+    Value {
+        number: 0,
+        value: measure(n, links) as u32,
+    }
+}
+
+// Number 0 and the script's length in bytes; the script stands in front of the buffer, and later bytes keep their content. Or the
+// refusal number of questions 1 to 3 and 13 and the value 0; the buffer keeps its content.
+pub fn write(n: u32, links: &[u8], numbers: &[u8], order: &[u16], buffer: &mut [u8]) -> Value
+    ensures { λ r. ⌜ Script-contract n (lent (links .entry) (numbers .entry) (order .entry)) (now (buffer .entry)) r (now (buffer .exit)) ⌝ }
+{
+    let number = soundness::refusal(n, links, numbers, order, true);
+    if number != 0 {
+        return Value { number, value: 0 };
+    }
+    let size = measure(n, links);
+    if buffer.len() < size {
+        return Value {
+            number: Refusal::TEXT,
+            value: 0,
+        };
+    }
+    put_script(buffer, n, links);
+    Value {
+        number: 0,
+        value: size as u32,
+    }
+}
