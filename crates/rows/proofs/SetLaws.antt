@@ -187,6 +187,10 @@ pub taken-by-other : (ts : List ℕ) (a : ℕ) (ws : List ℕ) → (length ws �
 unfolding taken-by
 taken-by-other ts a ws h = rw (ne-eqb (length ws) 8 h)
 
+pub taken-by-filter : (ts : List ℕ) (a : ℕ) (ws : List ℕ) → length ws ≡ 8 → taken-by ts a ws ≡ filter (in-set ws) (row-listed ts a)
+unfolding taken-by
+taken-by-filter ts a ws h = rw (eq-eqb (length ws) 8 h)
+
 module _ (ts : List ℕ) (a : ℕ) (ws : List ℕ) where
   -- row a marks b, and the set has it
   abbrev both : ℕ → Bool
@@ -216,9 +220,9 @@ module _ (ts : List ℕ) (a : ℕ) (ws : List ℕ) where
   }
 
   taken-by-both : row-bytes * a + row-bytes ≤ length ts → length ws ≡ 8 → taken-by ts a ws ≡ both-from 0
-  unfolding taken-by neighbours-of
+  unfolding neighbours-of
   taken-by-both h l =
-      rw (eq-eqb (length ws) 8 l, row-listed-whole ts a h) (filter-filter (in-set ws) (λ b. marked ts a b) (range 0 max-radios))
+      taken-by-filter ts a ws l ∙ ap (filter (in-set ws)) (row-listed-whole ts a h) ∙ (filter-filter (in-set ws) (λ b. marked ts a b) (range 0 max-radios))
 
   module _ (bytes : (j : ℕ) → getD ts j 0 < 256) where
     both-word : (k m : ℕ) → m < 64 → both (64 * k + m) ≡ digit (bitAnd (row-word 8 ts (row-bytes * a + 8 * k)) (getD ws k 0)) m

@@ -76,7 +76,7 @@ pub fn take_row(links: &[u8], a: u32, set: &mut [u64], list: &mut [u16]) -> usiz
 
 // Writes the radios that one of two sets has and the other not into the list, ascending, as many as fit, and comes back with how
 // many it wrote; later entries keep their content. Where one of the sets is not eight words nothing is written.
-pub fn list_gone<'a>(whole: &'a [u64], rest: &'a [u64], list: &mut [u16]) -> usize
+pub fn list_gone<'a>(whole: &'a [u64], rest: &'a [u64], list: &mut [u16]) -> u32
     ensures { λ r. ⌜ Gone-listed (now (whole .entry)) (now (rest .entry)) (now (list .entry)) r (now (list .exit)) ⌝ }
 {
     if whole.len() != crate::ROW_WORDS as usize {
@@ -97,5 +97,5 @@ pub fn list_gone<'a>(whole: &'a [u64], rest: &'a [u64], list: &mut [u16]) -> usi
         ) as usize;
         k += 1;
     }
-    n
+    n as u32
 }

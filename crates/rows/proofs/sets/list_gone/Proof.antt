@@ -46,4 +46,5 @@ list-gone-spec =
     tie.close (
     tie.spec Inv-loop μ-loop (λ c. search needs) returns (λ c. search needs) returns-2 (λ c. gone-listing-none _ _ _) (λ c. search needs)
     (λ c. search needs) (λ c. search needs) (λ c. search needs) (λ c. search needs) (λ c. search needs) (λ c κs. search needs) (λ c. search needs)
-    add-n (λ c. search needs) (λ c. search needs) loop-again (λ c. c .before .loop .inv .listing .long) returns-3)
+    add-n (λ c. search needs) (λ c. search needs) loop-again
+    (λ c. omega (arith, c .before .loop .inv .low, c .before .loop .inv .few)) (λ c. c .before .loop .inv .listing .long) returns-3)
