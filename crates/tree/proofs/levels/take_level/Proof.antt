@@ -47,7 +47,8 @@ loop-again c =
     let at-loop = test .before in
     let start = at-loop .before .before .before .before .before .before .before .before .before .before .before .before .before .before .before in
     levelling-turn (start .args .links .now) (start .args .numbers .now) (start .args .level) _ _ _ _ (at-loop .loop .v) _ _ _ _ _ _ _ _ (start .pre .2) (start .pre .4)
-    (test .loop-test .taken) (search needs) (search needs) (record { names = search needs; levels = search needs; parents = search needs; answer = search needs })
+    (test .loop-test .taken) (c .before .before .before .before .before .before .before .before .before .before .before .set2 .given) (c .before .before .before .before .before .before .before .before .before .queue .given)
+    (record { names = c .before .before .before .before .before .before .before .names .given; levels = c .before .before .before .before .before .levels .given; parents = c .before .before .before .parents .given; answer = c .before .answer .given })
     (visited .visit .ensures) (at-loop .loop .inv)
 
 same-length : tie.Need-same-length Inv-loop μ-loop
