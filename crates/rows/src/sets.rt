@@ -89,12 +89,7 @@ pub fn list_gone<'a>(whole: &'a [u64], rest: &'a [u64], list: &mut [u16]) -> u32
     let mut k: u32 = 0;
     while k < crate::ROW_WORDS {
         let at = k as usize;
-        n += crate::list_word(
-            whole[at] ^ rest[at],
-            crate::WORD_BITS * k,
-            list,
-            n,
-        ) as usize;
+        n += crate::list_word(whole[at] ^ rest[at], crate::WORD_BITS * k, list, n) as usize;
         k += 1;
     }
     n as u32
