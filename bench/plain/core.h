@@ -1,43 +1,71 @@
-/* The connected core and the backbone in C: a flood over a queue; part by part, the radios with the greatest number. */
+/* The connected core and the backbone in C: a flood over a queue, by words; part by part, the radios with the greatest number. */
 #ifndef CORE_H
 #define CORE_H
 #include "check.h"
 
-/* Adds to the set v and what it reaches over radios at the level or above; they stand in front of the queue. */
-static unsigned c_flood(const uint8_t *links, const uint8_t *numbers, unsigned level, unsigned v, uint8_t *set, uint16_t *queue) {
-    uint16_t list[NEIGHBOURS];
-    unsigned count = 1;
-    put_bit(set, 1, 0, v);
-    queue[0] = v;
-    for (unsigned i = 0; i < count; i++) {
-        unsigned k = row_list(links, queue[i], list, NEIGHBOURS);
-        for (unsigned j = 0; j < k; j++) {
-            unsigned x = list[j];
-            if (numbers[x] < level || marked(set, 0, x)) continue;
-            put_bit(set, 1, 0, x);
-            queue[count++] = x;
-        }
+#define WORDS (ROW / 8)
+
+static inline int is_in(const uint64_t *set, unsigned v) { return set[v / 64] >> v % 64 & 1; }
+
+/* The radios at the level or above, a word at a time. */
+static inline void c_at_least(const struct lent *t, unsigned level, uint64_t *set) {
+    for (unsigned k = 0; k < WORDS; k++) {
+        unsigned first = 64 * k, many = first >= t->n ? 0 : t->n - first < 64 ? t->n - first : 64;
+        uint64_t word = 0;
+        for (unsigned i = 0; i < many; i++) word |= (uint64_t)(level <= t->numbers[first + i]) << i;
+        set[k] = word;
     }
+}
+
+/* The places of the word's set bits, counted from `first`; how many. */
+static inline unsigned c_list_word(uint64_t word, unsigned first, uint16_t *list) {
+    unsigned n = 0;
+    for (; word; word &= word - 1) list[n++] = first + __builtin_ctzll(word);
+    return n;
+}
+
+/* Takes the radios of row a out of the set, and lists them; how many. */
+static inline unsigned c_take_row(const uint8_t *links, unsigned a, uint64_t *set, uint16_t *list) {
+    unsigned n = 0;
+    for (unsigned k = 0; k < WORDS; k++) {
+        uint64_t word = row_word(links, a, k) & set[k];
+        if (!word) continue;
+        set[k] ^= word;
+        n += c_list_word(word, 64 * k, list + n);
+    }
+    return n;
+}
+
+/* Takes v and what it reaches over radios of the set out of it; they stand in front of the queue. */
+static unsigned c_flood(const uint8_t *links, unsigned v, uint64_t *set, uint16_t *queue) {
+    unsigned count = 1;
+    set[v / 64] &= ~(1ull << v % 64);
+    queue[0] = v;
+    for (unsigned i = 0; i < count; i++) count += c_take_row(links, queue[i], set, queue + count);
     return count;
 }
 
 static struct c_value c_core(const struct lent *t, uint32_t v, uint32_t k, uint16_t *answer, size_t room) {
-    uint8_t set[ROW] = {0};
+    uint64_t set[WORDS], rest[WORDS];
     uint16_t queue[RADIOS];
-    unsigned number = c_refusal(t, room >= t->n);
+    unsigned number = c_refusal(t, room >= t->n), count = 0;
     if (!number) number = v >= t->n ? 4 : t->numbers[v] < k ? 8 : 0;
     if (number) return (struct c_value){number, 0};
-    c_flood(t->links, t->numbers, k, v, set, queue);
-    return (struct c_value){0, row_list(set, 0, answer, room)};
+    c_at_least(t, k, set);
+    memcpy(rest, set, sizeof rest);
+    c_flood(t->links, v, rest, queue);
+    for (unsigned i = 0; i < WORDS; i++) count += c_list_word(set[i] ^ rest[i], 64 * i, answer + count);
+    return (struct c_value){0, count};
 }
 
 /* Each part is flooded once; its radios with the greatest number come into the set, unless that is 0. */
 static void c_put_backbone(const struct lent *t, uint8_t *set) {
-    uint8_t seen[ROW] = {0};
+    uint64_t rest[WORDS];
     uint16_t queue[RADIOS];
+    c_at_least(t, 0, rest);
     for (unsigned v = 0; v < t->n; v++) {
-        if (marked(seen, 0, v)) continue;
-        unsigned count = c_flood(t->links, t->numbers, 0, v, seen, queue), top = 0;
+        if (!is_in(rest, v)) continue;
+        unsigned count = c_flood(t->links, v, rest, queue), top = 0;
         for (unsigned i = 0; i < count; i++)
             if (t->numbers[queue[i]] > top) top = t->numbers[queue[i]];
         if (!top) continue;

@@ -1,8 +1,8 @@
--- Parts taken in turn: the set so far has the backbone of the parts seen.
+-- Parts taken in turn: the set so far has the backbone of the parts taken.
 -- In order: the greatest number of listed radios; their bits; one part; the radios as a loop; the backbone's contract, met.
 use mathlib.Core.Path.{_≡_, refl, sym, ap, _∙_}
 use mathlib.Core.Logic.{_⊎_, inl, inr}
-use mathlib.Core.Bool.{Bool, true, false, _&&_, _||_, cond}
+use mathlib.Core.Bool.{Bool, true, false, _&&_, _||_, not, cond}
 use mathlib.Core.List.{List, [], _∷_, map}
 use Prim.Native.Nat.{ℕ, suc, max, min, _+_, _≤_, _<_}
 use native.Mathlib.Omega.{arith}
@@ -10,15 +10,15 @@ use native.Mathlib.Numerals.{add-one}
 use lib.Dec.{ltb, leb, eqb}
 use lib.ListN.{length, getD, take, replicate, length-replicate}
 use lib.Seq.{take-all}
-use borrow.Author.Tests.{leb-true, eqb-true, eqb-false, lt-ltb, le-ltb, eq-eqb, ne-eqb}
+use borrow.Author.Tests.{leb-true, le-leb, ltb-true, eqb-true, eqb-false, lt-ltb, le-ltb, eq-eqb, ne-eqb}
 use Rattle.mesh.specs.Limits.{max-radios, row-bytes}
 use Rattle.lists.specs.Lists.{folded, range, member, In, overwrite}
 use Rattle.mesh.specs.Graph.{Graph, radios}
 use Rattle.mesh.specs.Cores.{number}
-use Rattle.mesh.specs.Connected.{In-core, core-of, greatest, backbone}
+use Rattle.mesh.specs.Connected.{at-least, In-core, core-of, greatest, backbone}
 use Rattle.mesh.specs.Tables.{Tables, tables, marked, put-bit, graph-in}
 use Rattle.mesh.specs.Sound.{sound}
-use Rattle.lists.proofs.Tests.{bool-cases, never, or-cases, or-left, or-right}
+use Rattle.lists.proofs.Tests.{bool-cases, never, and-left, or-right}
 use Rattle.lists.proofs.Member.{member-in, in-member}
 use Rattle.lists.proofs.Filter.{filter-le}
 use Rattle.lists.proofs.Range.{length-range}
@@ -36,9 +36,10 @@ use Rattle.rows.proofs.RowListLaws.{neighbours-of-filter}
 use Rattle.rows.proofs.RowWords.{row-listed-whole}
 use Rattle.soundness.specs.Checks.{fits-sound}
 use Rattle.soundness.proofs.SoundSite.{Sound-site, fits-sound-site, site-good-fits, number-entry}
-use Rattle.floods.specs.Floods.{Flood-done, Flooded}
+use Rattle.rows.specs.Sets.{in-set}
+use Rattle.floods.specs.Floods.{Level-set, Flood-done, Flooded}
 use Rattle.floods.proofs.FloodSteps.{true-floodable}
-use Rattle.floods.proofs.FloodCore.{member-flood}
+use Rattle.floods.proofs.FloodCore.{level-radios, member-flood}
 use Rattle.backbone.specs.Parts.{part-greatest, top-put, tops-put, part-put, Part-taken, Part-visited, Backbone-put}
 use Rattle.soundness.proofs.SoundSite.{site-good-sound}
 use Rattle.calls.proofs.ContractLaws.{answer, listing-refused, listing-answered}
@@ -121,14 +122,14 @@ module _ (ns : List ℕ) (k w : ℕ) (l : w < max-radios) where
 
 -- ---- one part
 
--- the radios below v are seen, and with a radio its part; the set has the backbone of the parts seen
-pub record Parted (g : Graph) (v : ℕ) (seen set : List ℕ) : Type 0 where
-  pub seen-long : length seen ≡ row-bytes
+-- the radios below v are taken, and with a radio its part; the set has the backbone of the parts taken
+pub record Parted (g : Graph) (v : ℕ) (rest set : List ℕ) : Type 0 where
+  pub rest-long : length rest ≡ 8
   pub set-long : length set ≡ row-bytes
-  pub below : (w : ℕ) → w < v → marked seen 0 w ≡ true
-  pub radios : (w : ℕ) → w < max-radios → marked seen 0 w ≡ true → w < g .n
-  pub whole : (w x : ℕ) → w < g .n → marked seen 0 w ≡ true → In-core g w 0 x → marked seen 0 x ≡ true
-  pub tops : (w : ℕ) → w < max-radios → marked set 0 w ≡ (marked seen 0 w && tops-part g w)
+  pub below : (w : ℕ) → w < v → in-set rest w ≡ false
+  pub radios : (w : ℕ) → in-set rest w ≡ true → w < g .n
+  pub whole : (w x : ℕ) → w < g .n → in-set rest w ≡ false → In-core g w 0 x → in-set rest x ≡ false
+  pub tops : (w : ℕ) → w < max-radios → marked set 0 w ≡ ((ltb w (g .n) && not (in-set rest w)) && tops-part g w)
 
 module _ (n : ℕ) (t : Tables) (s : Sound-site n t) (v : ℕ) (radio : v < n) where
   abbrev g : Graph
@@ -212,11 +213,11 @@ module _ (n : ℕ) (t : Tables) (s : Sound-site n t) (v : ℕ) (radio : v < n) w
             rw e (marked-tops-put (t .numbers) top w l xs set (λ x m. omega (arith, in-part-below x (part-in x m), s .small)) long
             ∙ of-part (eqb (getD (t .numbers) w 0) top) (tops-part g w) (same (λ z. never (eqb top 0) (eq-eqb top 0 z) e)))
 
-  module _ (seen queue set u p : List ℕ) (parted : Parted g v seen set) (same : length u ≡ length seen) (space : n ≤ length queue) where
-    -- a radio that was seen
-    parted-passed : marked seen 0 v ≡ true → (u ≡ seen) × (p ≡ set) → Parted g (suc v) u p
+  module _ (rest queue set u p : List ℕ) (parted : Parted g v rest set) (same : length u ≡ length rest) (space : max-radios ≤ length queue) where
+    -- a radio whose part is taken
+    parted-passed : in-set rest v ≡ false → (u ≡ rest) × (p ≡ set) → Parted g (suc v) u p
     parted-passed e h = rw (h .0, h .1) (record {
-      seen-long = parted .seen-long;
+      rest-long = parted .rest-long;
       set-long = parted .set-long;
       below = λ w l. below w (bool-cases (eqb w v)) l;
       radios = parted .radios;
@@ -224,180 +225,196 @@ module _ (n : ℕ) (t : Tables) (s : Sound-site n t) (v : ℕ) (radio : v < n) w
       tops = parted .tops;
     })
       where
-        below : (w : ℕ) → (eqb w v ≡ true) ⊎ (eqb w v ≡ false) → w < suc v → marked seen 0 w ≡ true
+        below : (w : ℕ) → (eqb w v ≡ true) ⊎ (eqb w v ≡ false) → w < suc v → in-set rest w ≡ false
         below w (inl q) l = rw (eqb-true w v q) e
         below w (inr q) l = parted .below w (omega (arith, eqb-false w v q))
 
-    module _ (fresh : marked seen 0 v ≡ false) (h : Part-taken (t .links) (t .numbers) v seen queue set u p) where
-      -- none of its part was seen
-      apart : (w : ℕ) → In-core g v 0 w → marked seen 0 w ≡ false
+    module _ (fresh : in-set rest v ≡ true) (h : Part-taken (t .links) (t .numbers) v rest queue set u p) where
+      -- all of its part is among the rest
+      part-in-rest : (w : ℕ) → In-core g v 0 w → in-set rest w ≡ true
       unfolding graph-in
-      apart w r = go (bool-cases (marked seen 0 w))
+      part-in-rest w r = go (bool-cases (in-set rest w))
         where
-          go : (marked seen 0 w ≡ true) ⊎ (marked seen 0 w ≡ false) → marked seen 0 w ≡ false
-          go (inl e) = never (marked seen 0 v) (parted .whole w v (in-part-below w r) e (in-core-sym g v 0 w radio (omega arith) r)) fresh
-          go (inr e) = e
+          go : (in-set rest w ≡ true) ⊎ (in-set rest w ≡ false) → in-set rest w ≡ true
+          go (inl e) = e
+          go (inr e) = never (in-set rest v) fresh (parted .whole w v (in-part-below w r) e (in-core-sym g v 0 w radio (omega arith) r))
 
-      done : Flood-done (t .links) (t .numbers) 0 v seen (h .came) u (h .queue-after)
-      done = h .flooded .done (true-floodable (length (t .numbers)) v (length seen) (length queue) (record {
-        small = omega (arith, s .small, s .numbers-long);
-        radio = omega (arith, s .numbers-long);
-        one-row = parted .seen-long;
-        room = omega (arith, s .numbers-long);
-      }))
+      inside : (w : ℕ) → in-set rest w ≡ true → (w < n) × (at-least g 0 w ≡ true)
+      unfolding graph-in at-least
+      inside w e = (parted .radios w e, le-leb 0 (number g w) (omega arith))
+
+      done : Flood-done (t .links) v rest (h .came) u (h .queue-after)
+      done = h .flooded .done (true-floodable v (length rest) (length queue) (record { radio = omega (arith, s .small); words = parted .rest-long; room = space }))
 
       abbrev part : List ℕ
       part = take (h .came) (h .queue-after)
 
       is-part : (w : ℕ) → member w part ≡ member w (core-of g v 0)
-      is-part w = member-flood n t s 0 v seen radio apart (h .came) u (h .queue-after) done w
+      is-part w = member-flood n t s 0 v rest radio inside part-in-rest (h .came) u (h .queue-after) done w
 
-      seen-after : (w : ℕ) → w < max-radios → marked u 0 w ≡ (marked seen 0 w || member w part)
-      seen-after w l = done .bits w l
+      rest-after : (w : ℕ) → in-set u w ≡ (in-set rest w && not (member w part))
+      rest-after w = done .bits w
 
-      -- a radio that is seen after was seen before, or is of the part
-      seen-cases : (w : ℕ) → w < max-radios → marked u 0 w ≡ true → (marked seen 0 w ≡ true) ⊎ In-core g v 0 w
-      seen-cases w l e = go (or-cases (marked seen 0 w) (member w part) (sym (seen-after w l) ∙ e))
+      -- a radio that is not left was not left before, or is of the part
+      gone-cases : (w : ℕ) → in-set u w ≡ false → (in-set rest w ≡ false) ⊎ In-core g v 0 w
+      gone-cases w e = go (bool-cases (in-set rest w)) (bool-cases (member w part))
         where
-          go : (marked seen 0 w ≡ true) ⊎ (member w part ≡ true) → (marked seen 0 w ≡ true) ⊎ In-core g v 0 w
-          go (inl q) = inl q
-          go (inr q) = inr (part-in part is-part w (member-in w part q))
+          go : (in-set rest w ≡ true) ⊎ (in-set rest w ≡ false) → (member w part ≡ true) ⊎ (member w part ≡ false) → (in-set rest w ≡ false) ⊎ In-core g v 0 w
+          go (inr q) m = inl q
+          go (inl q) (inl m) = inr (part-in part is-part w (member-in w part m))
+          go (inl q) (inr m) = never (in-set u w) (rest-after w ∙ rw (q, m)) e
 
-      still-seen : (w : ℕ) → w < max-radios → marked seen 0 w ≡ true → marked u 0 w ≡ true
-      still-seen w l e = seen-after w l ∙ or-left (marked seen 0 w) (member w part) e
+      still-gone : (w : ℕ) → in-set rest w ≡ false → in-set u w ≡ false
+      still-gone w e = rest-after w ∙ rw e
 
-      part-seen : (w : ℕ) → In-core g v 0 w → marked u 0 w ≡ true
-      part-seen w r =
-          seen-after w (omega (arith, in-part-below w r, s .small))
-          ∙ or-right (marked seen 0 w) (member w part) (in-member w part (in-part part is-part w r))
+      part-gone : (w : ℕ) → In-core g v 0 w → in-set u w ≡ false
+      part-gone w r = rest-after w ∙ rw (in-member w part (in-part part is-part w r)) (and-no (in-set rest w))
+        where
+          and-no : (b : Bool) → (b && false) ≡ false
+          and-no true = refl
+          and-no false = refl
 
       parted-taken : Parted g (suc v) u p
       unfolding graph-in
       parted-taken = record {
-        seen-long = same ∙ parted .seen-long;
+        rest-long = same ∙ parted .rest-long;
         set-long = ap length (h .put) ∙ length-part-put (t .numbers) part set ∙ parted .set-long;
         below = λ w l. below w (bool-cases (eqb w v)) l;
-        radios = λ w l e. radios w (seen-cases w l e) l;
-        whole = λ w x l e r. whole w x l (seen-cases w (omega (arith, s .small)) e) r;
+        radios = λ w e. parted .radios w (and-left (in-set rest w) (not (member w part)) (sym (rest-after w) ∙ e));
+        whole = λ w x l e r. whole w x l (gone-cases w e) r;
         tops = λ w l. ap (λ (z : List ℕ). marked z 0 w) (h .put) ∙ marked-part-put part is-part set (parted .set-long) w l
             ∙ ap (λ (b : Bool). b || (member w part && tops-part g w)) (parted .tops w l)
-            ∙ both (marked seen 0 w) (member w part) (tops-part g w) ∙ ap (λ (b : Bool). b && tops-part g w) (sym (seen-after w l));
+            ∙ both (ltb w n) (in-set rest w) (member w part) (tops-part g w) (λ m. lt-ltb w n (in-part-below w (part-in part is-part w (member-in w part m))))
+            ∙ ap (λ (b : Bool). (ltb w n && not b) && tops-part g w) (sym (rest-after w));
       }
         where
-          below : (w : ℕ) → (eqb w v ≡ true) ⊎ (eqb w v ≡ false) → w < suc v → marked u 0 w ≡ true
-          below w (inl q) l = rw (eqb-true w v q) (part-seen v (in-core-here (graph-in n (t .links)) v 0))
-          below w (inr q) l = still-seen w (omega (arith, s .small)) (parted .below w (omega (arith, eqb-false w v q)))
+          below : (w : ℕ) → (eqb w v ≡ true) ⊎ (eqb w v ≡ false) → w < suc v → in-set u w ≡ false
+          below w (inl q) l = rw (eqb-true w v q) (part-gone v (in-core-here (graph-in n (t .links)) v 0))
+          below w (inr q) l = still-gone w (parted .below w (omega (arith, eqb-false w v q)))
 
-          radios : (w : ℕ) → (marked seen 0 w ≡ true) ⊎ In-core (graph-in n (t .links)) v 0 w → w < max-radios → w < n
-          radios w (inl e) l = parted .radios w l e
-          radios w (inr r) l = in-part-below w r
+          whole : (w x : ℕ) → w < n → (in-set rest w ≡ false) ⊎ In-core (graph-in n (t .links)) v 0 w → In-core (graph-in n (t .links)) w 0 x
+              → in-set u x ≡ false
+          whole w x l (inl e) r = still-gone x (parted .whole w x l e r)
+          whole w x l (inr q) r = part-gone x (in-core-trans (graph-in n (t .links)) v 0 w x q r)
 
-          whole : (w x : ℕ) → w < n → (marked seen 0 w ≡ true) ⊎ In-core (graph-in n (t .links)) v 0 w → In-core (graph-in n (t .links)) w 0 x
-              → marked u 0 x ≡ true
-          whole w x l (inl e) r =
-              still-seen x (omega (arith, in-core-below (graph-in n (t .links)) w 0 x l r, s .small)) (parted .whole w x l e r)
-          whole w x l (inr q) r = part-seen x (in-core-trans (graph-in n (t .links)) v 0 w x q r)
+          both : (a b m c : Bool) → (m ≡ true → a ≡ true) → (((a && not b) && c) || (m && c)) ≡ ((a && not (b && not m)) && c)
+          both true true true c i = refl
+          both true true false true i = refl
+          both true true false false i = refl
+          both true false true true i = refl
+          both true false true false i = refl
+          both true false false true i = refl
+          both true false false false i = refl
+          both false b true c i = never false (i refl) refl
+          both false b false c i = refl
 
-          both : (a b c : Bool) → ((a && c) || (b && c)) ≡ ((a || b) && c)
-          both true b true = refl
-          both true true false = refl
-          both true false false = refl
-          both false b c = refl
-
-    parted-next : Part-visited (t .links) (t .numbers) v seen queue set u p → Parted g (suc v) u p
-    parted-next h = go (bool-cases (marked seen 0 v))
+    parted-next : Part-visited (t .links) (t .numbers) v rest queue set u p → Parted g (suc v) u p
+    parted-next h = go (bool-cases (in-set rest v))
       where
-        go : (marked seen 0 v ≡ true) ⊎ (marked seen 0 v ≡ false) → Parted (graph-in n (t .links)) (suc v) u p
-        go (inl e) = parted-passed e (h .passed e)
-        go (inr e) = parted-taken e (h .taken e)
+        go : (in-set rest v ≡ true) ⊎ (in-set rest v ≡ false) → Parted (graph-in n (t .links)) (suc v) u p
+        go (inl e) = parted-taken e (h .taken e)
+        go (inr e) = parted-passed e (h .passed e)
 
 -- ---- the radios as a loop
 
-parted-none : (g : Graph) (seen set : List ℕ) → g .n ≤ max-radios → seen ≡ replicate row-bytes 0 → set ≡ replicate row-bytes 0
-    → Parted g 0 seen set
-parted-none g seen set small e f = rw (e, f) (record {
-  seen-long = length-replicate {A = ℕ} row-bytes 0;
-  set-long = length-replicate {A = ℕ} row-bytes 0;
+parted-none : (n : ℕ) (t : Tables) → Sound-site n t → (old rest set : List ℕ) → length old ≡ 8 → length rest ≡ 8 → Level-set (t .numbers) 0 old rest
+    → set ≡ replicate row-bytes 0 → Parted (graph-in n (t .links)) 0 rest set
+unfolding graph-in
+parted-none n t s old rest set long words level e = record {
+  rest-long = words;
+  set-long = ap length e ∙ length-replicate {A = ℕ} row-bytes 0;
   below = λ w l. absurd (omega arith);
-  radios = λ w l m. never (marked (replicate row-bytes 0) 0 w) m (none w l);
-  whole = λ w x l m r. never (marked (replicate row-bytes 0) 0 w) m (none w (omega arith));
-  tops = λ w l. none w l ∙ sym (ap (λ (b : Bool). b && tops-part g w) (none w l));
-})
+  radios = λ w m. ltb-true w n (sym (all w) ∙ m);
+  whole = λ w x l m r. never (in-set rest w) (all w ∙ lt-ltb w n l) m;
+  tops = λ w l. ap (λ (z : List ℕ). marked z 0 w) e ∙ none w l
+      ∙ sym (ap (λ (b : Bool). (ltb w n && not b) && tops-part (graph-in n (t .links)) w) (all w) ∙ nobody (ltb w n) (tops-part (graph-in n (t .links)) w));
+}
   where
+    and-true : (b : Bool) → (b && true) ≡ b
+    and-true true = refl
+    and-true false = refl
+
+    all : (w : ℕ) → in-set rest w ≡ ltb w n
+    all w =
+        level-radios n t s 0 old rest long words level w
+        ∙ ap (λ (b : Bool). ltb w n && b) (le-leb 0 (number (graph-in n (t .links)) w) (omega arith)) ∙ and-true (ltb w n)
+
     none : (w : ℕ) → w < max-radios → marked (replicate row-bytes 0) 0 w ≡ false
     none w l = marked-replicate row-bytes 0 w (omega (arith, byte-at-less 1 0 w (omega arith) l))
 
--- all radios are seen: the set is the backbone
-parted-all : (g : Graph) (seen set : List ℕ) → g .n ≤ max-radios → Parted g (g .n) seen set → row-listed set 0 ≡ backbone g
+    nobody : (a b : Bool) → ((a && not a) && b) ≡ false
+    nobody true b = refl
+    nobody false b = refl
+
+-- all radios are taken: the set is the backbone
+parted-all : (g : Graph) (rest set : List ℕ) → g .n ≤ max-radios → Parted g (g .n) rest set → row-listed set 0 ≡ backbone g
 unfolding backbone radios
-parted-all g seen set small h =
+parted-all g rest set small h =
     row-listed-whole set 0 (omega (arith, h .set-long))
     ∙ neighbours-of-filter (g .n) set 0 (tops-part g) small
-    (λ w l. h .tops w (omega arith) ∙ ap (λ (b : Bool). b && tops-part g w) (h .below w l))
-    (λ w nw l. h .tops w l ∙ ap (λ (b : Bool). b && tops-part g w) (outside w nw l (bool-cases (marked seen 0 w))))
-  where
-    outside : (w : ℕ) → g .n ≤ w → w < max-radios → (marked seen 0 w ≡ true) ⊎ (marked seen 0 w ≡ false) → marked seen 0 w ≡ false
-    outside w nw l (inl e) = absurd (omega (arith, h .radios w l e))
-    outside w nw l (inr e) = e
+    (λ w l. h .tops w (omega arith) ∙ rw (lt-ltb w (g .n) l, h .below w l))
+    (λ w nw l. h .tops w l ∙ rw (le-ltb w (g .n) nw))
 
 -- before radio v: for sound tables the parts are right if they were so at the start
-pub record Parting (ts ns seen₀ queue₀ set₀ : List ℕ) (v : ℕ) (seen queue set : List ℕ) : Type 0 where
+pub record Parting (ts ns rest₀ queue₀ set₀ : List ℕ) (v : ℕ) (rest queue set : List ℕ) : Type 0 where
   pub within : v ≤ length ns
-  pub seen-long : length seen ≡ length seen₀
+  pub rest-long : length rest ≡ length rest₀
   pub queue-long : length queue ≡ length queue₀
   pub set-long : length set ≡ length set₀
-  pub right : (order : List ℕ) → fits-sound (length ns) (tables ts ns order) ≡ true → Parted (graph-in (length ns) ts) 0 seen₀ set₀
-      → Parted (graph-in (length ns) ts) v seen set
+  pub right : (order : List ℕ) → fits-sound (length ns) (tables ts ns order) ≡ true → Parted (graph-in (length ns) ts) 0 rest₀ set₀
+      → Parted (graph-in (length ns) ts) v rest set
 
-pub parting-none : (ts ns seen queue set : List ℕ) → Parting ts ns seen queue set 0 seen queue set
-parting-none ts ns seen queue set =
-    record { within = omega arith; seen-long = refl; queue-long = refl; set-long = refl; right = λ order e h. h }
+pub parting-none : (ts ns rest queue set : List ℕ) → Parting ts ns rest queue set 0 rest queue set
+parting-none ts ns rest queue set =
+    record { within = omega arith; rest-long = refl; queue-long = refl; set-long = refl; right = λ order e h. h }
 
-pub parting-turn : (ts ns seen₀ queue₀ set₀ : List ℕ) (v : ℕ) (seen queue set u q p : List ℕ) → length ns ≤ length queue₀ → v < length ns
-    → length u ≡ length seen → length q ≡ length queue → length p ≡ length set → Part-visited ts ns v seen queue set u p
-    → Parting ts ns seen₀ queue₀ set₀ v seen queue set → Parting ts ns seen₀ queue₀ set₀ (v + 1) u q p
-parting-turn ts ns seen₀ queue₀ set₀ v seen queue set u q p space l su qq sp h a = record {
+pub parting-turn : (ts ns rest₀ queue₀ set₀ : List ℕ) (v : ℕ) (rest queue set u q p : List ℕ) → max-radios ≤ length queue₀ → v < length ns
+    → length u ≡ length rest → length q ≡ length queue → length p ≡ length set → Part-visited ts ns v rest queue set u p
+    → Parting ts ns rest₀ queue₀ set₀ v rest queue set → Parting ts ns rest₀ queue₀ set₀ (v + 1) u q p
+parting-turn ts ns rest₀ queue₀ set₀ v rest queue set u q p space l su qq sp h a = record {
   within = omega arith;
-  seen-long = su ∙ a .seen-long;
+  rest-long = su ∙ a .rest-long;
   queue-long = qq ∙ a .queue-long;
   set-long = sp ∙ a .set-long;
   right = λ order e start. rw (add-one v) (
-      parted-next (length ns) (tables ts ns order) (fits-sound-site (length ns) (tables ts ns order) e) v l seen queue set u p
+      parted-next (length ns) (tables ts ns order) (fits-sound-site (length ns) (tables ts ns order) e) v l rest queue set u p
       (a .right order e start) su (omega (arith, a .queue-long)) h);
 }
 
-pub parting-end : (ts ns seen₀ queue₀ set₀ : List ℕ) (v : ℕ) (seen queue set : List ℕ) → length ns ≤ max-radios → seen₀ ≡ replicate row-bytes 0
-    → set₀ ≡ replicate row-bytes 0 → length ns ≤ v → Parting ts ns seen₀ queue₀ set₀ v seen queue set → Backbone-put ts ns set
+pub parting-end : (ts ns none rest₀ queue₀ set₀ : List ℕ) (v : ℕ) (rest queue set : List ℕ) → length ns ≤ max-radios → length none ≡ 8 → length rest₀ ≡ 8
+    → Level-set ns 0 none rest₀ → set₀ ≡ replicate row-bytes 0 → length ns ≤ v → Parting ts ns rest₀ queue₀ set₀ v rest queue set → Backbone-put ts ns set
 unfolding Backbone-put graph-in
-parting-end ts ns seen₀ queue₀ set₀ v seen queue set small e f l a order h =
+parting-end ts ns none rest₀ queue₀ set₀ v rest queue set small zero words level f l a order h =
     let g = graph-in (length ns) ts in
+    let site = fits-sound-site (length ns) (tables ts ns order) h in
     let all : v ≡ length ns = omega (arith, a .within) in
-    let last : Parted g (length ns) seen set = rw all at (a .right order h (parted-none g seen₀ set₀ small e f)) in
-    parted-all g seen set small last
+    let start = parted-none (length ns) (tables ts ns order) site none rest₀ set₀ zero words level f in
+    let last : Parted g (length ns) rest set = rw all at (a .right order h start) in
+    parted-all g rest set small last
 
 -- ---- one radio, as the code has it
 
-module _ (ts ns : List ℕ) (v : ℕ) (seen queue set : List ℕ) where
-  pub visited-seen : marked seen 0 v ≡ true → Part-visited ts ns v seen queue set seen set
-  visited-seen e = record { taken = λ q. never _ e q; passed = λ q. (refl, refl) }
+module _ (ts ns : List ℕ) (v : ℕ) (rest queue set : List ℕ) where
+  pub visited-gone : in-set rest v ≡ false → Part-visited ts ns v rest queue set rest set
+  visited-gone e = record { taken = λ q. never _ q e; passed = λ q. (refl, refl) }
 
-  module _ (fresh : marked seen 0 v ≡ false) (r k : ℕ) (u p : List ℕ) (flooded : Flooded ts ns 0 v seen queue r u p)
+  module _ (fresh : in-set rest v ≡ true) (r k : ℕ) (u p : List ℕ) (flooded : Flooded ts v rest queue r u p)
       (front : k ≡ min r (length p)) where
     front-part : take k p ≡ take r p
     front-part = ap (λ (j : ℕ). take j p) front ∙ take-min r p
 
-    visited-part : (set-after : List ℕ) → set-after ≡ part-put ns (take k p) set → Part-visited ts ns v seen queue set u set-after
+    visited-part : (set-after : List ℕ) → set-after ≡ part-put ns (take k p) set → Part-visited ts ns v rest queue set u set-after
     visited-part z h = record {
       taken = λ q. record { came = r; queue-after = p; flooded = flooded; put = h ∙ ap (λ (xs : List ℕ). part-put ns xs set) front-part };
-      passed = λ q. never _ q fresh;
+      passed = λ q. never _ fresh q;
     }
 
     module _ (top : ℕ) (is-top : top ≡ part-greatest ns (take k p)) where
-      pub visited-none : top ≡ 0 → Part-visited ts ns v seen queue set u set
+      pub visited-none : top ≡ 0 → Part-visited ts ns v rest queue set u set
       unfolding part-put
       visited-none e = visited-part set (rw (← is-top, e))
 
-      pub visited-tops : (top ≡ 0 → ⊥) → (z : List ℕ) → z ≡ tops-put ns top (take k p) set → Part-visited ts ns v seen queue set u z
+      pub visited-tops : (top ≡ 0 → ⊥) → (z : List ℕ) → z ≡ tops-put ns top (take k p) set → Part-visited ts ns v rest queue set u z
       unfolding part-put
       visited-tops h z e = visited-part z (e ∙ rw (← is-top, ne-eqb top 0 h))
 

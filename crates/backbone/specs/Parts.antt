@@ -1,9 +1,9 @@
--- Connected parts, taken in turn. A set is one row of bits.
+-- Connected parts, taken in turn. The backbone is kept as one row of bits, the rest of the radios as a set of eight words.
 --   part-greatest ns xs   the greatest number of the radios xs
 --   top-put, tops-put     the set with a radio, or with each of some radios, that has number k
 --   part-put ns xs s      the set with the radios of xs that have their greatest number, where that is not 0
 --   Part-taken            the part of a radio: flooded, and its radios with the greatest number put into the set
---   Part-visited          a radio: its part is taken where it was not seen before, and else nothing changes
+--   Part-visited          a radio: its part is taken where it is among the rest, and else nothing changes
 --   Backbone-put          a set that is the backbone, for sound tables
 -- Definitions only.
 use mathlib.Core.Path.{_≡_}
@@ -13,9 +13,10 @@ use Prim.Native.Nat.{ℕ}
 use lib.Dec.{eqb}
 use lib.ListN.{length, getD, take}
 use Rattle.lists.specs.Lists.{folded}
-use Rattle.mesh.specs.Tables.{marked, put-bit, tables, graph-in}
+use Rattle.mesh.specs.Tables.{put-bit, tables, graph-in}
 use Rattle.mesh.specs.Connected.{greatest, backbone}
 use Rattle.rows.specs.Rows.{row-listed}
+use Rattle.rows.specs.Sets.{in-set}
 use Rattle.soundness.specs.Checks.{fits-sound}
 use Rattle.floods.specs.Floods.{Flooded}
 
@@ -35,16 +36,16 @@ part-put ns xs s = let top = part-greatest ns xs in cond (eqb top 0) s (tops-put
 
 -- ---- parts in turn
 
--- `seen` has the radios of the parts taken so far, t and u are it and the set after
-pub record Part-taken (ts ns : List ℕ) (v : ℕ) (seen queue set t u : List ℕ) : Type 0 where
+-- `rest` has the radios whose parts are not taken yet, t and u are it and the set after
+pub record Part-taken (ts ns : List ℕ) (v : ℕ) (rest queue set t u : List ℕ) : Type 0 where
   pub came : ℕ
   pub queue-after : List ℕ
-  pub flooded : Flooded ts ns 0 v seen queue came t queue-after
+  pub flooded : Flooded ts v rest queue came t queue-after
   pub put : u ≡ part-put ns (take came queue-after) set
 
-pub record Part-visited (ts ns : List ℕ) (v : ℕ) (seen queue set t u : List ℕ) : Type 0 where
-  pub taken : marked seen 0 v ≡ false → Part-taken ts ns v seen queue set t u
-  pub passed : marked seen 0 v ≡ true → (t ≡ seen) × (u ≡ set)
+pub record Part-visited (ts ns : List ℕ) (v : ℕ) (rest queue set t u : List ℕ) : Type 0 where
+  pub taken : in-set rest v ≡ true → Part-taken ts ns v rest queue set t u
+  pub passed : in-set rest v ≡ false → (t ≡ rest) × (u ≡ set)
 
 unfoldable pub Backbone-put : (links numbers set : List ℕ) → Type 0
 Backbone-put ts ns s =

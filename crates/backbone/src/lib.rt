@@ -54,25 +54,25 @@ fn put_tops<'a>(numbers: &'a [u8], top: u8, list: &'a [u16], k: usize, set: &mut
     }
 }
 
-// Radio v: where it was not seen, its connected part comes into `seen`, and the radios of the part that have its greatest number
+// Radio v: where it is among the rest, its connected part leaves the rest, and the radios of the part that have its greatest number
 // come into the set, unless that number is 0. Else nothing changes. The queue holds anything after.
 fn take_part<'a>(
     links: &'a [u8],
     numbers: &'a [u8],
     v: u32,
-    seen: &mut [u8],
+    rest: &mut [u64],
     queue: &mut [u16],
     set: &mut [u8],
 )
     ensures { λ _. ⌜
-        Part-visited (now (links .entry)) (now (numbers .entry)) v (now (seen .entry)) (now (queue .entry))
-        (now (set .entry)) (now (seen .exit)) (now (set .exit))
+        Part-visited (now (links .entry)) (now (numbers .entry)) v (now (rest .entry)) (now (queue .entry))
+        (now (set .entry)) (now (rest .exit)) (now (set .exit))
         ⌝ }
 {
-    if rows::is_marked(seen, 0, v) {
+    if !rows::sets::is_in(rest, v) {
         return;
     }
-    let came = floods::flood::flood(links, numbers, 0, v, seen, queue);
+    let came = floods::flood::flood(links, v, rest, queue);
     let k = tables::fill::least(came, queue.len());
     let top = greatest_of(numbers, queue, k);
     if top == 0 {
@@ -86,11 +86,12 @@ fn put_backbone<'a>(links: &'a [u8], numbers: &'a [u8], set: &mut [u8])
     requires { ⌜ (length (now numbers) ≤ max-radios) × (now set ≡ replicate row-bytes 0) ⌝ }
     ensures { λ _. ⌜ Backbone-put (now (links .entry)) (now (numbers .entry)) (now (set .exit)) ⌝ }
 {
-    let mut seen = [0u8; Site::ROW_BYTES];
+    let mut rest = [0u64; Site::ROW_BYTES / 8];
+    floods::level::at_least(numbers, 0, &mut rest);
     let mut queue = [0u16; Site::RADIOS as usize];
     let mut v: usize = 0;
     while v < numbers.len() {
-        take_part(links, numbers, v as u32, &mut seen, &mut queue, set);
+        take_part(links, numbers, v as u32, &mut rest, &mut queue, set);
         v += 1;
     }
 }

@@ -1,295 +1,234 @@
 -- The flood's invariant: what came in is what the flood spreads to over the radios done so far.
--- In order: one radio, the neighbours of a radio, a turn of the queue, the end.
+-- In order: the neighbours of a radio, a turn of the queue, the start, the end.
 use mathlib.Core.Path.{_≡_, refl, sym, ap, _∙_}
 use mathlib.Core.Logic.{_⊎_, inl, inr}
-use mathlib.Core.Bool.{Bool, true, false, _&&_, _||_, not}
-use mathlib.Core.List.{List, [], _∷_, _++_, append-nil, append-assoc}
-use Prim.Native.Nat.{ℕ, suc, _+_, _≤_, _<_}
+use mathlib.Core.Bool.{Bool, true, false, _&&_, _||_, not, cond}
+use mathlib.Core.List.{List, [], _∷_, _++_}
+use Prim.Native.Nat.{ℕ, suc, _+_, _-_, _/_, _≤_, _<_, min}
 use native.Mathlib.Omega.{arith}
 use native.Mathlib.Numerals.{add-one}
-use lib.Dec.{ltb, leb}
-use lib.ListN.{length, getD, take, set, length-append, length-set}
-use lib.Seq.{length-take-le, take-suc, take-append-le, take-suc-set, take-take, getD-take}
-use borrow.Author.Tests.{lt-ltb}
-use Rattle.mesh.specs.Limits.{max-radios, row-bytes}
-use Rattle.lists.specs.Lists.{folded, range, count, member, In, Distinct}
-use Rattle.mesh.specs.Tables.{marked, put-bit}
-use Rattle.lists.proofs.Tests.{bool-cases, never, and-left, and-both}
-use Rattle.lists.proofs.Member.{in-left, in-right, in-cases, member-in, in-member, in-getD}
+use lib.Dec.{eqb}
+use lib.ListN.{length, getD, take, drop, set, length-append, length-set}
+use lib.Seq.{sets, sets-eq, length-sets, length-take-le, take-at, take-suc, take-append-le, take-suc-set, take-take, getD-take}
+use Rattle.mesh.specs.Limits.{max-radios}
+use Rattle.lists.specs.Lists.{range, count, filter, member, In, Distinct}
+use Rattle.lists.proofs.Tests.{bool-cases, never, and-left}
+use Rattle.lists.proofs.Member.{member-append, in-left, in-right, in-cases, member-in, in-member, in-getD}
 use Rattle.lists.proofs.Range.{in-range, length-range}
-use Rattle.lists.proofs.Distinct.{distinct-one, length-sub, distinct-end}
-use Rattle.mesh.proofs.Tables.Laws.{byte-at-less, length-put-bit, marked-put-bit}
+use Rattle.lists.proofs.Filter.{in-filter, filter-in, distinct-filter}
+use Rattle.lists.proofs.Distinct.{distinct-one, length-sub}
+use Rattle.rows.specs.Rows.{row-listed}
+use Rattle.rows.specs.Sets.{in-set, take-out, taken-by}
+use Rattle.rows.proofs.RowListLaws.{distinct-row-listed}
+use Rattle.rows.proofs.SetLaws.{in-set-radio, length-take-out, in-take-out, taken-by-filter}
+use Rattle.floods.specs.Floods.{Spread, start, onward, Flood, flood-at, came-in, Ends-taken, floodable, Flood-done, Flooded}
 use Rattle.floods.proofs.FloodSteps.{Floodable, floodable-true}
-use Rattle.floods.specs.Floods.{ends-listed, takes-in, Spread, start, onward, Flood, flood-at, came-in, taken-one, taken-all, floodable, Flood-done}
-use Rattle.floods.specs.Floods.{Flooded}
-use Rattle.floods.proofs.FloodRadios.{bits-end, takes-in-radio, takes-in-other}
+
+distinct-both : (xs ys : List ℕ) → Distinct xs → Distinct ys → ((w : ℕ) → In w xs → In w ys → ⊥) → Distinct (xs ++ ys)
+distinct-both [] ys d e apart = e
+distinct-both (x ∷ xs) ys d e apart = (
+  λ m. either (in-cases x xs ys m),
+  distinct-both xs ys (d .1) e (λ w m n. apart w (inr m) n),
+)
+  where
+    either : In x xs ⊎ In x ys → ⊥
+    either (inl m) = d .0 m
+    either (inr m) = apart x (inl refl) m
 
 -- ---- the invariant
 
-module _ (ts ns : List ℕ) (k v : ℕ) (old : List ℕ) where
+module _ (ts : List ℕ) (v : ℕ) (old : List ℕ) where
   abbrev Spreads : ℕ → Type 0
-  Spreads w = Spread ts ns k old v w
+  Spreads w = Spread ts old v w
 
-  -- the set s has the radios xs beside the old ones; whom the radios of `done` lead to has come in
+  -- the set s lacks the radios xs of the old one; whom the radios of `done` lead to has come in
   pub record Spreading (done s xs : List ℕ) : Type 0 where
-    pub long : length s ≡ row-bytes
+    pub long : length s ≡ 8
     pub distinct : Distinct xs
-    pub below : (w : ℕ) → In w xs → w < length ns
-    pub bits : (w : ℕ) → w < max-radios → marked s 0 w ≡ (marked old 0 w || member w xs)
+    pub below : (w : ℕ) → In w xs → w < max-radios
+    pub bits : (w : ℕ) → in-set s w ≡ (in-set old w && not (member w xs))
     pub spread : (w : ℕ) → In w xs → Spreads w
     pub from : In v xs
-    pub closed : (w : ℕ) → In w done → (x : ℕ) → In x (ends-listed ts w) → takes-in ns k old x ≡ true → In x xs
+    pub closed : (w : ℕ) → In w done → (x : ℕ) → In x (row-listed ts w) → in-set old x ≡ true → In x xs
 
-  spreading-few : (done s xs : List ℕ) → Spreading done s xs → length xs ≤ length ns
+  spreading-few : (done s xs : List ℕ) → Spreading done s xs → length xs ≤ max-radios
   spreading-few done s xs h =
       omega (
         arith,
-        length-range 0 (length ns),
-        length-sub xs (range 0 (length ns)) (h .distinct)
-            (λ w m. in-range 0 (length ns) w (omega arith) (omega (arith, h .below w m))),
+        length-range 0 max-radios,
+        length-sub xs (range 0 max-radios) (h .distinct) (λ w m. in-range 0 max-radios w (omega arith) (omega (arith, h .below w m))),
       )
 
-  -- a flood on its way, its queue walked up to `done`
-  pub record Flooding (done : List ℕ) (f : Flood) : Type 0 where
-    pub room : length ns ≤ length (f .queue)
-    pub few : f .count ≤ length ns
-    pub spreading : Spreading done (f .set) (came-in f)
+  -- ---- the neighbours of a radio
 
-  -- whom the radios bs lead to has come in, behind who was in
-  pub record Took (done bs : List ℕ) (f e : Flood) : Type 0 where
-    pub flooding : Flooding done e
-    pub all : (x : ℕ) → In x bs → takes-in ns k old x ≡ true → In x (came-in e)
-    pub more : List ℕ
-    pub behind : came-in e ≡ came-in f ++ more
+  module _ (done s xs : List ℕ) (a : ℕ) (h : Spreading done s xs) where
+    abbrev new : List ℕ
+    new = taken-by ts a s
+
+    in-new : (x : ℕ) → In x new → In x (row-listed ts a) × (in-set s x ≡ true)
+    in-new x m = in-filter (in-set s) (row-listed ts a) x (rw (taken-by-filter ts a s (h .long)) at m)
+
+    new-in : (x : ℕ) → In x (row-listed ts a) → in-set s x ≡ true → In x new
+    new-in x m e = rw (taken-by-filter ts a s (h .long)) (filter-in (in-set s) (row-listed ts a) x m e)
+
+    -- a radio of the set is of the old one, and has not come in
+    fresh : (x : ℕ) → in-set s x ≡ true → (in-set old x ≡ true) × (In x xs → ⊥)
+    fresh x e = (and-left (in-set old x) (not (member x xs)) (sym (h .bits x) ∙ e), λ m. never (in-set s x) e (gone (in-member x xs m)))
+      where
+        and-no : (b : Bool) → (b && false) ≡ false
+        and-no true = refl
+        and-no false = refl
+
+        gone : member x xs ≡ true → in-set s x ≡ false
+        gone q = h .bits x ∙ ap (λ (b : Bool). in-set old x && not b) q ∙ and-no (in-set old x)
+
+    spreading-row : (u : List ℕ) → In a xs → length u ≡ 8 → ((w : ℕ) → in-set u w ≡ (in-set s w && not (member w new)))
+        → Spreading (done ++ a ∷ []) u (xs ++ new)
+    spreading-row u ma lu left = record {
+      long = lu;
+      distinct = distinct-both xs new (h .distinct) (rw (taken-by-filter ts a s (h .long)) (distinct-filter (in-set s) (row-listed ts a) (distinct-row-listed ts a)))
+          (λ w m n. fresh w (in-new w n .1) .1 m);
+      below = λ w m. below w (in-cases w xs new m);
+      bits = λ w. left w ∙ ap (λ (b : Bool). b && not (member w new)) (h .bits w) ∙ both (in-set old w) (member w xs) (member w new)
+          ∙ ap (λ (b : Bool). in-set old w && not b) (sym (member-append w xs new));
+      spread = λ w m. spread w (in-cases w xs new m);
+      from = in-left v xs new (h .from);
+      closed = λ w m. closed w (in-cases w done (a ∷ []) m);
+    }
+      where
+        both : (a b c : Bool) → ((a && not b) && not c) ≡ (a && not (b || c))
+        both true true c = refl
+        both true false c = refl
+        both false b c = refl
+
+        below : (w : ℕ) → In w xs ⊎ In w new → w < max-radios
+        below w (inl m) = h .below w m
+        below w (inr m) = in-set-radio s w (h .long) (in-new w m .1)
+
+        spread : (w : ℕ) → In w xs ⊎ In w new → Spreads w
+        spread w (inl m) = h .spread w m
+        spread w (inr m) = let p = in-new w m in onward (h .spread a ma) (in-member w (row-listed ts a) (p .0)) (fresh w (p .1) .0)
+
+        taken : (x : ℕ) → In x (row-listed ts a) → in-set old x ≡ true → (member x xs ≡ true) ⊎ (member x xs ≡ false) → In x (xs ++ new)
+        taken x m o (inl e) = in-left x xs new (member-in x xs e)
+        taken x m o (inr e) = in-right x xs new (new-in x m (h .bits x ∙ rw (o, e)))
+
+        closed : (w : ℕ) → In w done ⊎ In w (a ∷ []) → (x : ℕ) → In x (row-listed ts w) → in-set old x ≡ true → In x (xs ++ new)
+        closed w (inl m) x mx ox = in-left x xs new (h .closed w m x mx ox)
+        closed w (inr (inl e)) x mx ox = taken x (rw (← e) at mx) ox (bool-cases (member x xs))
 
   -- ---- the queue, walked
 
   -- the first i radios of the queue are done
   pub record Walking (i : ℕ) (f : Flood) : Type 0 where
+    pub room : max-radios ≤ length (f .queue)
+    pub few : f .count ≤ max-radios
     pub reached : i ≤ f .count
-    pub flooding : Flooding (take i (f .queue)) f
+    pub spreading : Spreading (take i (f .queue)) (f .set) (came-in f)
 
-  came-in-long : {done : List ℕ} (f : Flood) → Flooding done f → length (came-in f) ≡ f .count
-  came-in-long f h = length-take-le (f .count) (f .queue) (omega (arith, h .few, h .room))
-
-  spreading-done : (done s xs : List ℕ) (a : ℕ) → Spreading done s xs
-      → ((x : ℕ) → In x (ends-listed ts a) → takes-in ns k old x ≡ true → In x xs) → Spreading (done ++ a ∷ []) s xs
-  spreading-done done s xs a h new = record {
-    long = h .long;
-    distinct = h .distinct;
-    below = h .below;
-    bits = h .bits;
-    spread = h .spread;
-    from = h .from;
-    closed = λ w m. closed w (in-cases w done (a ∷ []) m);
+  pub walking-turn : (i : ℕ) (f e : Flood) → i < f .count → length (e .set) ≡ length (f .set) → Ends-taken ts (getD (f .queue) i 0) f e → Walking i f
+      → Walking (i + 1) e
+  walking-turn i f e l same t h = record {
+    room = rw (queue, length-sets (f .queue) (f .count) more) (h .room);
+    few = omega (arith, all-few, came);
+    reached = omega (arith, came);
+    spreading = rw (front, behind) next;
   }
     where
-      closed : (w : ℕ) → In w done ⊎ In w (a ∷ []) → (x : ℕ) → In x (ends-listed ts w) → takes-in ns k old x ≡ true → In x xs
-      closed w (inl m) = h .closed w m
-      closed w (inr (inl e)) = rw (← e) new
+      a : ℕ
+      a = getD (f .queue) i 0
 
-  module _ (small : length ns ≤ max-radios) where
-    -- a radio that comes in
-    spreading-one : (done s xs : List ℕ) (a b : ℕ) → Spreading done s xs → In a xs → In b (ends-listed ts a) → takes-in ns k s b ≡ true
-        → Spreading done (put-bit true 0 b s) (xs ++ b ∷ [])
-    unfolding takes-in
-    spreading-one done s xs a b h ma mb t =
-        let r = takes-in-radio ns k s b t in
-        let lb : b < max-radios = omega (arith, r .0) in
-        let not-in : In b xs → ⊥ = λ m. never (marked old 0 b || member b xs) (old-or b m) (sym (h .bits b lb) ∙ r .1) in
-        record {
-          long = length-put-bit true 0 b s ∙ h .long;
-          distinct = distinct-end xs b (h .distinct) not-in;
-          below = λ w m. below w (r .0) (in-cases w xs (b ∷ []) m);
-          bits = λ w lw. marked-put-bit true 0 b s 0 w lb lw (omega (arith, byte-at-less 1 0 b (omega arith) lb, h .long))
-              ∙ bits-end (marked s 0 w) (marked old 0 w) b w xs (h .bits w lw);
-          spread = λ w m. spread w (onward (h .spread a ma) (in-member b (ends-listed ts a) mb) (fresh (r .1) (h .bits b lb))) (in-cases w xs (b ∷ []) m);
-          from = in-left v xs (b ∷ []) (h .from);
-          closed = λ w m x mx tx. in-left x xs (b ∷ []) (h .closed w m x mx tx);
-        }
-      where
-        old-or : (w : ℕ) → In w xs → (marked old 0 w || member w xs) ≡ true
-        old-or w m = go (marked old 0 w) (in-member w xs m)
-          where
-            go : (c : Bool) → member w xs ≡ true → (c || member w xs) ≡ true
-            go true e = refl
-            go false e = e
+      more : List ℕ
+      more = taken-by ts a (f .set)
 
-        below : (w : ℕ) → b < length ns → In w xs ⊎ In w (b ∷ []) → w < length ns
-        below w l (inl m) = h .below w m
-        below w l (inr (inl e)) = rw (← e) l
+      queue : e .queue ≡ sets (f .queue) (f .count) more
+      queue = t .queued
 
-        spread : (w : ℕ) → Spreads b → In w xs ⊎ In w (b ∷ []) → Spreads w
-        spread w l (inl m) = h .spread w m
-        spread w l (inr (inl e)) = rw (← e) l
+      long : length (came-in f) ≡ f .count
+      long = length-take-le (f .count) (f .queue) (omega (arith, h .few, h .room))
 
-        -- not in the set, so not in the old one
-        fresh : marked s 0 b ≡ false → marked s 0 b ≡ (marked old 0 b || member b xs) → takes-in ns k old b ≡ true
-        fresh e q = go (marked old 0 b) (sym q ∙ e) refl
-          where
-            go : (c : Bool) → (c || member b xs) ≡ false → marked old 0 b ≡ c → takes-in ns k old b ≡ true
-            go true p z = never true refl p
-            go false p z = and-both (ltb b (length ns) && leb k (getD ns b 0)) (not (marked old 0 b))
-                (and-left (ltb b (length ns) && leb k (getD ns b 0)) (not (marked s 0 b)) t) (rw z)
+      next : Spreading (take i (f .queue) ++ a ∷ []) (e .set) (came-in f ++ more)
+      next = spreading-row (take i (f .queue)) (f .set) (came-in f) a (h .spreading) (e .set)
+          (rw (getD-take (f .count) (f .queue) i 0 l) at (in-getD (came-in f) i (omega (arith, long)))) (same ∙ h .spreading .long) (t .left)
 
-    took-one : (done : List ℕ) (a b : ℕ) (f : Flood) → Flooding done f → In a (came-in f) → In b (ends-listed ts a)
-        → Took done (b ∷ []) f (taken-one ns k b f)
-    unfolding taken-one
-    took-one done a b f h ma mb = go (bool-cases (takes-in ns k (f .set) b))
-      where
-        xs : List ℕ
-        xs = came-in f
+      all-few : f .count + length more ≤ max-radios
+      all-few = omega (arith, spreading-few (take i (f .queue) ++ a ∷ []) (e .set) (came-in f ++ more) next, length-append (came-in f) more, long)
 
-        long : length (came-in f) ≡ f .count
-        long = length-take-le (f .count) (f .queue) (omega (arith, h .few, h .room))
+      came : e .count ≡ f .count + length more
+      came = omega (arith, t .counted, all-few, h .room)
 
-        kept : takes-in ns k (f .set) b ≡ false → (x : ℕ) → In x (b ∷ []) → takes-in ns k old x ≡ true → In x (came-in f)
-        kept e x (inl q) t =
-            let z : takes-in ns k old b ≡ true = rw q t in
-            rw (← q) (there (takes-in-radio ns k old b z) (takes-in-other ns k old (f .set) b z e))
-          where
-            there : (b < length ns) × (marked old 0 b ≡ false) → marked (f .set) 0 b ≡ true → In b (came-in f)
-            there r m = member-in b (came-in f) (sym (either (h .spreading .bits b (omega (arith, r .0)))) ∙ m)
-              where
-                either : marked (f .set) 0 b ≡ (marked old 0 b || member b (came-in f)) → marked (f .set) 0 b ≡ member b (came-in f)
-                either p = p ∙ rw (r .1)
+      parts : e .queue ≡ (came-in f ++ more) ++ drop (f .count + length more) (f .queue)
+      parts = queue ∙ sets-eq more (f .queue) (f .count) (omega (arith, all-few, h .room))
 
-        go : (takes-in ns k (f .set) b ≡ true) ⊎ (takes-in ns k (f .set) b ≡ false) → Took done (b ∷ []) f (taken-one ns k b f)
-        go (inl e) =
-            let next = spreading-one done (f .set) (came-in f) a b (h .spreading) ma mb e in
-            let few : f .count + 1 ≤ length ns = omega (arith, spreading-few done (put-bit true 0 b (f .set)) (came-in f ++ b ∷ []) next, length-append (came-in f) (b ∷ []), long) in
-            let fits : f .count < length (f .queue) = omega (arith, h .room) in
-            let more : take (f .count + 1) (set (f .queue) (f .count) b) ≡ came-in f ++ b ∷ [] =
-            rw (add-one (f .count)) (take-suc-set (f .queue) (f .count) b fits) in
-            rw (e, lt-ltb (f .count) (length (f .queue)) fits)
-            (record {
-              flooding = record { room = rw (length-set (f .queue) (f .count) b) (h .room); few = few; spreading = rw more next };
-              all = λ x m t. rw more (in-right x (came-in f) (b ∷ []) m);
-              more = b ∷ [];
-              behind = more;
-            })
-        go (inr e) = rw e (record { flooding = h; all = kept e; more = []; behind = sym (append-nil (came-in f)) })
+      behind : came-in e ≡ came-in f ++ more
+      behind =
+          ap (λ (k : ℕ). take k (e .queue)) came ∙ ap (take (f .count + length more)) parts
+          ∙ take-at (came-in f ++ more) (drop (f .count + length more) (f .queue)) (f .count + length more) (omega (arith, length-append (came-in f) more, long))
 
-    took-all : (done bs : List ℕ) (a : ℕ) (f : Flood) → Flooding done f → In a (came-in f) → ((b : ℕ) → In b bs → In b (ends-listed ts a))
-        → Took done bs f (taken-all ns k bs f)
-    unfolding taken-all folded
-    took-all done [] a f h ma mb = record { flooding = h; all = λ x m t. absurd m; more = []; behind = sym (append-nil (came-in f)) }
-    took-all done (b ∷ bs) a f h ma mb =
-        go (took-one done a b f h ma (mb b (inl refl))) (λ e q m. took-all done bs a e q m (λ x y. mb x (inr y)))
-      where
-        next : Flood
-        next = taken-one ns k b f
+      front : take (i + 1) (e .queue) ≡ take i (f .queue) ++ a ∷ []
+      front =
+          sym (take-take (i + 1) (e .count) (e .queue) (omega (arith, came))) ∙ ap (take (i + 1)) behind
+          ∙ take-append-le (i + 1) (came-in f) more (omega (arith, long)) ∙ take-take (i + 1) (f .count) (f .queue) (omega arith)
+          ∙ ap (λ (j : ℕ). take j (f .queue)) (add-one i) ∙ take-suc (f .queue) i 0 (omega (arith, h .few, h .room))
 
-        go : Took done (b ∷ []) f next → ((e : Flood) → Flooding done e → In a (came-in e) → Took done bs e (taken-all ns k bs e))
-            → Took done (b ∷ bs) f (taken-all ns k bs next)
-        go t rec = join (rec next (t .flooding) (rw (t .behind) (in-left a (came-in f) (t .more) ma)))
-          where
-            join : Took done bs next (taken-all ns k bs next) → Took done (b ∷ bs) f (taken-all ns k bs next)
-            join r = record {
-              flooding = r .flooding;
-              all = all;
-              more = t .more ++ r .more;
-              behind = r .behind ∙ ap (λ (ys : List ℕ). ys ++ r .more) (t .behind) ∙ append-assoc (came-in f) (t .more) (r .more);
-            }
-              where
-                all : (x : ℕ) → In x (b ∷ bs) → takes-in ns k old x ≡ true → In x (came-in (taken-all ns k bs next))
-                all x (inl e) q = rw (r .behind) (in-left x (came-in next) (r .more) (t .all x (inl e) q))
-                all x (inr m) q = r .all x m q
+  -- the radio that the flood starts from
+  pub walking-start : (queue : List ℕ) → v < max-radios → length old ≡ 8 → max-radios ≤ length queue
+      → Walking 0 (flood-at (take-out v old) (set queue 0 v) 1)
+  unfolding member
+  walking-start queue lv long room =
+      let one : take 1 (set queue 0 v) ≡ v ∷ [] = take-suc-set queue 0 v (omega arith) in
+      record {
+        room = rw (length-set queue 0 v) room;
+        few = omega arith;
+        reached = omega arith;
+        spreading = rw one (record {
+          long = length-take-out v old ∙ long;
+          distinct = (λ m. m, tt);
+          below = below;
+          bits = λ w. in-take-out v w old (omega (arith, long)) ∙ bit (eqb v w) (in-set old w);
+          spread = spread;
+          from = inl refl;
+          closed = λ w m. absurd m;
+        });
+      }
+    where
+      below : (w : ℕ) → In w (v ∷ []) → w < max-radios
+      below w (inl e) = rw (← e) lv
 
-    walking-turn : (i : ℕ) (f : Flood) → i < f .count → Walking i f
-        → Walking (i + 1) (taken-all ns k (ends-listed ts (getD (f .queue) i 0)) f)
-    walking-turn i f l h =
-        go a (taken-all ns k (ends-listed ts a) f) (take-suc (f .queue) i 0 (omega (arith, h .flooding .few, h .flooding .room)))
-        (took-all (take i (f .queue)) (ends-listed ts a) a f (h .flooding)
-        (rw (getD-take (f .count) (f .queue) i 0 l) at (in-getD (came-in f) i (omega (arith, came-in-long f (h .flooding))))) (λ b m. m))
-      where
-        a : ℕ
-        a = getD (f .queue) i 0
+      spread : (w : ℕ) → In w (v ∷ []) → Spreads w
+      spread w (inl e) = rw (← e) start
 
-        go : (a : ℕ) (e : Flood) → take (suc i) (f .queue) ≡ take i (f .queue) ++ a ∷ [] → Took (take i (f .queue)) (ends-listed ts a) f e → Walking (i + 1) e
-        go a e last t =
-            let long = came-in-long f (h .flooding) in
-            let more : i + 1 ≤ e .count =
-            omega (arith, ap length (t .behind), came-in-long e (t .flooding), length-append (came-in f) (t .more), long) in
-            let front : take (i + 1) (e .queue) ≡ take i (f .queue) ++ a ∷ [] =
-            sym (take-take (i + 1) (e .count) (e .queue) more) ∙ ap (take (i + 1)) (t .behind)
-            ∙ take-append-le (i + 1) (came-in f) (t .more) (omega (arith, long)) ∙ take-take (i + 1) (f .count) (f .queue) (omega arith)
-            ∙ ap (λ (j : ℕ). take j (f .queue)) (add-one i) ∙ last in
-            record {
-              reached = more;
-              flooding = record {
-                room = t .flooding .room;
-                few = t .flooding .few;
-                spreading = rw front (spreading-done (take i (f .queue)) (e .set) (came-in e) a (t .flooding .spreading) (t .all));
-              };
-            }
+      bit : (a b : Bool) → cond a false b ≡ (b && not (a || false))
+      bit true true = refl
+      bit true false = refl
+      bit false true = refl
+      bit false false = refl
 
-    pub walking-next : (i : ℕ) (f e : Flood) → i < f .count → Walking i f → e ≡ taken-all ns k (ends-listed ts (getD (f .queue) i 0)) f
-        → Walking (i + 1) e
-    walking-next i f e l h q = rw q (walking-turn i f l h)
+  -- the queue's end
+  walking-end : (i : ℕ) (f : Flood) → f .count ≤ i → Walking i f → Flood-done ts v old (f .count) (f .set) (f .queue)
+  walking-end i f l h =
+      let e : i ≡ f .count = omega (arith, h .reached) in
+      let s : Spreading (came-in f) (f .set) (came-in f) = rw e at (h .spreading) in
+      record {
+        few = h .few;
+        once = λ w. distinct-one w (came-in f) (s .distinct);
+        radios = λ w. (λ m. s .spread w (member-in w (came-in f) m), λ r. in-member w (came-in f) (spread-in (s .from) (s .closed) r));
+        bits = s .bits;
+      }
+    where
+      spread-in : {w : ℕ} → In v (came-in f) → ((w : ℕ) → In w (came-in f) → (x : ℕ) → In x (row-listed ts w) → in-set old x ≡ true → In x (came-in f))
+          → Spreads w → In w (came-in f)
+      spread-in m c start = m
+      spread-in m c (onward {w} {x} r e t) = c w (spread-in m c r) x (member-in x (row-listed ts w) e) t
 
-    -- the radio that the flood starts from
-    pub walking-start : (queue : List ℕ) → v < length ns → length old ≡ row-bytes → length ns ≤ length queue
-        → Walking 0 (flood-at (put-bit true 0 v old) (set queue 0 v) 1)
-    unfolding member
-    walking-start queue lv long room =
-        let lm : v < max-radios = omega arith in
-        let one : take 1 (set queue 0 v) ≡ v ∷ [] = take-suc-set queue 0 v (omega arith) in
-        record {
-          reached = omega arith;
-          flooding = record {
-            room = rw (length-set queue 0 v) room;
-            few = omega arith;
-            spreading = rw one (record {
-              long = length-put-bit true 0 v old ∙ long;
-              distinct = (λ m. m, tt);
-              below = below;
-              bits = λ w lw. marked-put-bit true 0 v old 0 w lm lw (omega (arith, byte-at-less 1 0 v (omega arith) lm))
-                  ∙ bits-end (marked old 0 w) (marked old 0 w) v w [] (or-false (marked old 0 w));
-              spread = spread;
-              from = inl refl;
-              closed = λ w m. absurd m;
-            });
-          };
-        }
-      where
-        below : (w : ℕ) → In w (v ∷ []) → w < length ns
-        below w (inl e) = rw (← e) lv
+-- ---- the flood as the code has it
 
-        spread : (w : ℕ) → In w (v ∷ []) → Spreads w
-        spread w (inl e) = rw (← e) start
+module _ (ts : List ℕ) (v : ℕ) (s q t : List ℕ) (can : floodable v (length s) (length q) ≡ true) (out : t ≡ take-out v s) where
+  sizes : Floodable v (length s) (length q)
+  sizes = floodable-true v (length s) (length q) can
 
-        or-false : (b : Bool) → b ≡ (b || false)
-        or-false true = refl
-        or-false false = refl
+  pub flood-starts : Walking ts v s 0 (flood-at t (set q 0 v) 1)
+  flood-starts = rw out (walking-start ts v s q (sizes .radio) (sizes .words) (sizes .room))
 
-    -- the queue's end
-    pub walking-end : (i : ℕ) (f : Flood) → f .count ≤ i → Walking i f → Flood-done ts ns k v old (f .count) (f .set) (f .queue)
-    walking-end i f l h =
-        let e : i ≡ f .count = omega (arith, h .reached) in
-        let s : Spreading (came-in f) (f .set) (came-in f) = rw e at (h .flooding .spreading) in
-        record {
-          few = h .flooding .few;
-          once = λ w. distinct-one w (came-in f) (s .distinct);
-          radios = λ w. (λ m. s .spread w (member-in w (came-in f) m), λ r. in-member w (came-in f) (spread-in (s .from) (s .closed) r));
-          bits = s .bits;
-        }
-      where
-        spread-in : {w : ℕ} → In v (came-in f) → ((w : ℕ) → In w (came-in f) → (x : ℕ) → In x (ends-listed ts w) → takes-in ns k old x ≡ true → In x (came-in f))
-            → Spreads w → In w (came-in f)
-        spread-in m c start = m
-        spread-in m c (onward {w} {x} r e t) = c w (spread-in m c r) x (member-in x (ends-listed ts w) e) t
-
--- ---- the whole flood
-
-module _ (ts ns : List ℕ) (k v : ℕ) (old queue new : List ℕ) (can : floodable (length ns) v (length old) (length queue) ≡ true)
-    (first : new ≡ put-bit true 0 v old) where
-  abbrev sizes : Floodable (length ns) v (length old) (length queue)
-  sizes = floodable-true (length ns) v (length old) (length queue) can
-
-  -- the flood starts
-  pub flood-starts : Walking ts ns k v old 0 (flood-at new (set queue 0 v) 1)
-  flood-starts = rw first (walking-start ts ns k v old (sizes .small) queue (sizes .radio) (sizes .one-row) (sizes .room))
-
-  pub flood-ends : (i : ℕ) (f : Flood) → f .count ≤ i → Walking ts ns k v old i f → Flooded ts ns k v old queue (f .count) (f .set) (f .queue)
-  flood-ends i f l h = record { done = λ e. walking-end ts ns k v old (sizes .small) i f l h; refused = λ e. never _ can e }
+  pub flood-ends : (i : ℕ) (f : Flood) → f .count ≤ i → Walking ts v s i f → Flooded ts v s q (f .count) (f .set) (f .queue)
+  flood-ends i f l h = record { done = λ e. walking-end ts v s i f l h; refused = λ e. never _ can e }

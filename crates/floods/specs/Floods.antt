@@ -1,34 +1,45 @@
--- Floods: from a radio, a set of radios spreads over neighbours that pass. A set is one row of bits.
---   ends-listed ts a       the radios that row a of the links table ts marks, ascending, as many as a radio may have neighbours
---   takes-in ns k s x      x is a radio with number k or more, and is not in the set s
---   Spread ts ns k s v w   links lead from v to w over radios that the flood takes in, where s is the set before it
+-- Floods: from a radio, over radios of a set. A set is eight words (`in-set`).
+--   Level-word, Level-set  the radios with number k or more, as a word from radio i on, and as a set
+--   Spread ts s v w        links lead from v to w over radios of the set s
 --   Flood                  a flood on its way: the set, the queue of the radios that came in, and how many these are
---   taken-one, taken-all   one radio, or some, come in where the flood takes them in and the queue has room
---   floodable              the flood can be carried out: lengths fit, and v is a radio
+--   Ends-taken             the neighbours of a radio that are in the set come in
+--   floodable              the flood can be carried out: lengths fit, and v may be a radio
 --   Flood-done, Flooded    what the flood leaves
 -- That on sound tables the radios that come in are the connected core is `member-flood` in proofs/FloodCore.antt.
 -- Definitions only.
 use mathlib.Core.Path.{_≡_}
 use mathlib.Core.Logic.{_↔_}
-use mathlib.Core.Bool.{Bool, true, false, _&&_, _||_, not, cond}
+use mathlib.Core.Bool.{Bool, true, false, _&&_, not}
 use mathlib.Core.List.{List}
-use Prim.Native.Nat.{ℕ, _+_, _≤_, _<_}
+use Prim.Native.Nat.{ℕ, _+_, _-_, _≤_, _<_, min}
 use lib.Dec.{ltb, leb, eqb}
-use lib.ListN.{length, getD, take, set}
-use Rattle.mesh.specs.Limits.{max-radios, max-neighbours, row-bytes}
-use Rattle.lists.specs.Lists.{folded, count, member}
-use Rattle.mesh.specs.Tables.{marked, put-bit}
+use lib.ListN.{length, getD, take}
+use lib.Seq.{sets}
+use Rattle.mesh.specs.Limits.{max-radios}
+use Rattle.lists.specs.Lists.{count, member}
+use Rattle.mesh.specs.Tables.{digit}
 use Rattle.rows.specs.Rows.{row-listed}
+use Rattle.rows.specs.Sets.{in-set, taken-by}
 
-unfoldable pub ends-listed : (links : List ℕ) → (a : ℕ) → List ℕ
-ends-listed ts a = take max-neighbours (row-listed ts a)
+-- ---- the radios of a level
 
-unfoldable pub takes-in : (numbers : List ℕ) → (level : ℕ) → (set : List ℕ) → (x : ℕ) → Bool
-takes-in ns k s x = (ltb x (length ns) && leb k (getD ns x 0)) && not (marked s 0 x)
+-- x is a radio with number k or more
+unfoldable pub of-level : (numbers : List ℕ) → (level : ℕ) → (x : ℕ) → Bool
+of-level ns k x = ltb x (length ns) && leb k (getD ns x 0)
 
-pub data Spread (ts ns : List ℕ) (k : ℕ) (set : List ℕ) (v : ℕ) : ℕ → Type 0 where
-  start : Spread ts ns k set v v
-  onward : {w x : ℕ} → Spread ts ns k set v w → member x (ends-listed ts w) ≡ true → takes-in ns k set x ≡ true → Spread ts ns k set v x
+abbrev pub Level-word : (numbers : List ℕ) → (level first word : ℕ) → Type 0
+Level-word ns k i w = (m : ℕ) → m < 64 → digit w m ≡ of-level ns k (i + m)
+
+-- s is the set before, t after
+pub record Level-set (ns : List ℕ) (k : ℕ) (s t : List ℕ) : Type 0 where
+  pub radios : length s ≡ 8 → (x : ℕ) → x < max-radios → in-set t x ≡ of-level ns k x
+  pub other : (length s ≡ 8 → ⊥) → t ≡ s
+
+-- ---- whom the flood reaches
+
+pub data Spread (ts set : List ℕ) (v : ℕ) : ℕ → Type 0 where
+  start : Spread ts set v v
+  onward : {w x : ℕ} → Spread ts set v w → member x (row-listed ts w) ≡ true → in-set set x ≡ true → Spread ts set v x
 
 -- ---- a flood on its way
 
@@ -44,30 +55,26 @@ flood-at s q c = record { set = s; queue = q; count = c }
 abbrev pub came-in : Flood → List ℕ
 came-in f = take (f .count) (f .queue)
 
-unfoldable pub taken-one : (numbers : List ℕ) → (level x : ℕ) → Flood → Flood
-taken-one ns k x f =
-    cond
-    (takes-in ns k (f .set) x && ltb (f .count) (length (f .queue)))
-    (flood-at (put-bit true 0 x (f .set)) (set (f .queue) (f .count) x) (f .count + 1))
-    f
-
-unfoldable pub taken-all : (numbers : List ℕ) → (level : ℕ) → (radios : List ℕ) → Flood → Flood
-taken-all ns k xs f = folded (λ x now. taken-one ns k x now) xs f
+-- f before, e after
+pub record Ends-taken (ts : List ℕ) (a : ℕ) (f e : Flood) : Type 0 where
+  pub counted : e .count ≡ f .count + min (length (f .queue) - f .count) (length (taken-by ts a (f .set)))
+  pub queued : e .queue ≡ sets (f .queue) (f .count) (taken-by ts a (f .set))
+  pub left : (w : ℕ) → in-set (e .set) w ≡ (in-set (f .set) w && not (member w (taken-by ts a (f .set))))
 
 -- ---- the whole flood
 
--- at most 512 radios, v one of them, a set of one row, and a queue with an entry for each radio
-unfoldable pub floodable : (radios v set queue : ℕ) → Bool
-floodable n v s q = (leb n max-radios && ltb v n) && (eqb s row-bytes && leb n q)
+-- v is below 512, a set of eight words, and a queue with an entry for each of 512 radios
+unfoldable pub floodable : (v set queue : ℕ) → Bool
+floodable v s q = ltb v max-radios && (eqb s 8 && leb max-radios q)
 
--- r radios came in, each once, and stand in front of the queue; the set has them beside what it had
-pub record Flood-done (ts ns : List ℕ) (k v : ℕ) (old : List ℕ) (r : ℕ) (set queue : List ℕ) : Type 0 where
-  pub few : r ≤ length ns
+-- r radios came in, each once, and stand in front of the queue; the set has them no more
+pub record Flood-done (ts : List ℕ) (v : ℕ) (old : List ℕ) (r : ℕ) (set queue : List ℕ) : Type 0 where
+  pub few : r ≤ max-radios
   pub once : (w : ℕ) → count (λ x. eqb x w) (take r queue) ≤ 1
-  pub radios : (w : ℕ) → (member w (take r queue) ≡ true) ↔ Spread ts ns k old v w
-  pub bits : (w : ℕ) → w < max-radios → marked set 0 w ≡ (marked old 0 w || member w (take r queue))
+  pub radios : (w : ℕ) → (member w (take r queue) ≡ true) ↔ Spread ts old v w
+  pub bits : (w : ℕ) → in-set set w ≡ (in-set old w && not (member w (take r queue)))
 
 -- s and q are the set and the queue before the flood, t and p after it; where it cannot be carried out they keep their content
-pub record Flooded (ts ns : List ℕ) (k v : ℕ) (s q : List ℕ) (r : ℕ) (t p : List ℕ) : Type 0 where
-  pub done : floodable (length ns) v (length s) (length q) ≡ true → Flood-done ts ns k v s r t p
-  pub refused : floodable (length ns) v (length s) (length q) ≡ false → (r ≡ 0) × (t ≡ s) × (p ≡ q)
+pub record Flooded (ts : List ℕ) (v : ℕ) (s q : List ℕ) (r : ℕ) (t p : List ℕ) : Type 0 where
+  pub done : floodable v (length s) (length q) ≡ true → Flood-done ts v s r t p
+  pub refused : floodable v (length s) (length q) ≡ false → (r ≡ 0) × (t ≡ s) × (p ≡ q)

@@ -1,48 +1,42 @@
--- The connected core's contract, met: the flood of a cleared set, listed.
-use mathlib.Core.Path.{_≡_, sym, ap, _∙_}
-use mathlib.Core.Bool.{Bool, false, _||_}
+-- The connected core's contract, met: what the flood leaves out of its level's set, listed.
+use mathlib.Core.Path.{_≡_, refl, sym, ap, _∙_}
+use mathlib.Core.Bool.{Bool, true, false, _&&_, not, cond}
 use mathlib.Core.List.{List}
-use Prim.Native.Nat.{ℕ, _≤_, _<_}
+use Prim.Native.Nat.{ℕ, _≤_, _<_, min}
 use native.Mathlib.Omega.{arith}
-use lib.ListN.{length, getD, take, replicate, length-replicate}
+use lib.Dec.{ltb, leb}
+use lib.ListN.{length, getD, take}
 use lib.Seq.{take-all}
-use Rattle.mesh.specs.Limits.{max-radios, row-bytes}
-use Rattle.lists.specs.Lists.{range, member, overwrite}
+use borrow.Author.Tests.{ltb-true, lt-ltb, le-leb, eq-eqb}
+use Rattle.mesh.specs.Limits.{max-radios}
+use Rattle.lists.specs.Lists.{range, filter, member, overwrite}
 use Rattle.mesh.specs.Graph.{Graph, radios}
-use Rattle.mesh.specs.Tables.{Tables, marked, graph-in}
+use Rattle.mesh.specs.Cores.{number}
+use Rattle.mesh.specs.Tables.{Tables, graph-in}
 use Rattle.mesh.specs.Sound.{sound}
-use Rattle.mesh.specs.Connected.{In-core, core-of}
+use Rattle.mesh.specs.Connected.{at-least, In-core, core-of}
+use Rattle.lists.proofs.Tests.{never, and-left, and-right, and-both}
 use Rattle.lists.proofs.Member.{in-member, not-member}
-use Rattle.lists.proofs.Filter.{length-filter}
+use Rattle.lists.proofs.Filter.{length-filter, filter-ext, filter-range-within}
 use Rattle.lists.proofs.Count.{count-le-length}
 use Rattle.lists.proofs.Range.{length-range}
 use Rattle.mesh.proofs.Trees.Reach.{core-of-iff, core-of-ascending}
-use Rattle.mesh.proofs.Trees.CoreLevels.{in-core-below}
-use Rattle.mesh.proofs.Tables.Laws.{marked-replicate, byte-at-less}
+use Rattle.mesh.proofs.Trees.CoreLevels.{in-core-below, in-core-level}
 use Rattle.calls.specs.Questions.{lengths-of, core-refusal}
 use Rattle.calls.specs.Contracts.Cores.{Core-contract}
 use Rattle.calls.proofs.ChainLaws.{core-zero}
 use Rattle.calls.proofs.QuestionLaws.{answer-length-true}
-use Rattle.rows.specs.Rows.{row-listed}
-use Rattle.rows.proofs.RowListLaws.{neighbours-of-filter}
-use Rattle.rows.proofs.RowWords.{row-listed-whole}
-use Rattle.floods.specs.Floods.{Flood-done, Flooded}
+use Rattle.rows.specs.Sets.{in-set, in-one, gone, Gone-listed}
+use Rattle.floods.specs.Floods.{Level-set, Flood-done, Flooded}
 use Rattle.soundness.proofs.SoundSite.{Sound-site, number-entry}
 use Rattle.floods.proofs.FloodSteps.{true-floodable}
-use Rattle.floods.proofs.FloodCore.{marked-flood}
+use Rattle.floods.proofs.FloodCore.{level-radios, left-flood}
 use Rattle.soundness.proofs.SoundSite.{site-good-sound}
 use Rattle.calls.proofs.ContractLaws.{answer, listing-refused, listing-answered}
 
--- a cleared set
-abbrev pub cleared : List ℕ
-cleared = replicate row-bytes 0
-
-module _ (n : ℕ) (t : Tables) (s : Sound-site n t) (k v : ℕ) (radio : v < n) where
+module _ (n : ℕ) (t : Tables) (s : Sound-site n t) (k v : ℕ) (radio : v < n) (level : k ≤ number (graph-in n (t .links)) v) where
   abbrev g : Graph
   g = graph-in n (t .links)
-
-  cleared-none : (w : ℕ) → w < max-radios → marked cleared 0 w ≡ false
-  cleared-none w l = marked-replicate row-bytes 0 w (omega (arith, byte-at-less 1 0 w (omega arith) l))
 
   pub length-core : length (core-of g v k) ≤ n
   unfolding radios graph-in
@@ -54,27 +48,56 @@ module _ (n : ℕ) (t : Tables) (s : Sound-site n t) (k v : ℕ) (radio : v < n)
     length-range 0 n,
   )
 
-  -- the set after the flood, as a row: the connected core, ascending
-  pub row-listed-core : (r : ℕ) (set queue : List ℕ) → length set ≡ row-bytes → Flood-done (t .links) (t .numbers) k v cleared r set queue
-      → row-listed set 0 ≡ core-of g v k
+  in-core-radio : (w : ℕ) → In-core g v k w → w < n
+  unfolding graph-in
+  in-core-radio w h = in-core-below g v k w radio h
+
+  in-core-number : (w : ℕ) → In-core g v k w → k ≤ number g w
+  unfolding graph-in
+  in-core-number w h = in-core-level g v k w level h
+
+  core-radio-in : (w : ℕ) → member w (core-of g v k) ≡ true → In-core g v k w
+  unfolding graph-in
+  core-radio-in w m = core-of-iff g v k radio w .0 m
+
+  ascending-core : core-of g v k ≡ filter (λ w. member w (core-of g v k)) (range 0 n)
   unfolding radios graph-in
-  row-listed-core r set queue long done =
-      row-listed-whole set 0 (omega (arith, long))
-      ∙ neighbours-of-filter n set 0 (λ w. member w (core-of g v k)) (s .small)
-      (λ w l. has w (omega (arith, s .small)))
-      (λ w nw l. has w l ∙ not-member w (core-of g v k) (λ m. outside w nw (core-of-iff g v k radio w .0 (in-member w (core-of g v k) m))))
-      ∙ sym (core-of-ascending g v k radio)
-    where
-      below : (w : ℕ) → In-core (graph-in n (t .links)) v k w → w < n
-      below w h = in-core-below (graph-in n (t .links)) v k w radio h
+  ascending-core = core-of-ascending g v k radio
 
-      outside : (w : ℕ) → n ≤ w → In-core (graph-in n (t .links)) v k w → ⊥
-      outside w l h = omega (arith, below w h)
+  -- what the flood over the level's set leaves out of it is the connected core, ascending
+  module _ (set rest : List ℕ) (words : length set ≡ 8) (left : length rest ≡ 8) (has : (w : ℕ) → in-set set w ≡ (ltb w n && leb k (number g w)))
+      (r : ℕ) (queue : List ℕ) (done : Flood-done (t .links) v set r rest queue) where
+    inside : (w : ℕ) → in-set set w ≡ true → (w < n) × (at-least g k w ≡ true)
+    unfolding at-least
+    inside w e =
+        let both = sym (has w) ∙ e in
+        (ltb-true w n (and-left (ltb w n) (leb k (number g w)) both), and-right (ltb w n) (leb k (number g w)) both)
 
-      has : (w : ℕ) → w < max-radios → marked set 0 w ≡ member w (core-of (graph-in n (t .links)) v k)
-      has w l =
-          marked-flood n t s k v cleared radio (λ x h. cleared-none x (omega (arith, below x h, s .small))) r set queue done w l
-          ∙ ap (λ (b : Bool). b || member w (core-of (graph-in n (t .links)) v k)) (cleared-none w l)
+    whole : (w : ℕ) → In-core g v k w → in-set set w ≡ true
+    whole w h = has w ∙ and-both (ltb w n) (leb k (number g w)) (lt-ltb w n (in-core-radio w h)) (le-leb k (number g w) (in-core-number w h))
+
+    in-one-core : (w : ℕ) → in-one set rest w ≡ member w (core-of g v k)
+    unfolding in-one
+    in-one-core w =
+        ap (λ (b : Bool). cond (in-set set w) (not b) b) (left-flood n t s k v set radio inside whole r rest queue done w)
+        ∙ go (in-set set w) (member w (core-of g v k)) (λ m. whole w (core-radio-in w m))
+      where
+        go : (a m : Bool) → (m ≡ true → a ≡ true) → cond a (not (a && not m)) (a && not m) ≡ m
+        go true true h = refl
+        go true false h = refl
+        go false true h = never false (h refl) refl
+        go false false h = refl
+
+    pub gone-core : gone set rest ≡ core-of g v k
+    unfolding gone
+    gone-core =
+        rw (eq-eqb (length set) 8 words, eq-eqb (length rest) 8 left)
+        (filter-ext (in-one set rest) (λ w. member w (core-of g v k)) (range 0 max-radios) (λ w m. in-one-core w)
+        ∙ filter-range-within (λ w. member w (core-of g v k)) n max-radios (s .small) (λ w l. not-member w (core-of g v k) (λ m. outside w l (core-radio-in w (in-member w (core-of g v k) m))))
+        ∙ sym ascending-core)
+      where
+        outside : (w : ℕ) → n ≤ w → In-core (graph-in n (t .links)) v k w → ⊥
+        outside w l h = omega (arith, in-core-radio w h)
 
 module _ (n v k : ℕ) (t : Tables) (old : List ℕ) where
   abbrev refusal : ℕ
@@ -102,19 +125,18 @@ module _ (n v k : ℕ) (t : Tables) (old : List ℕ) where
     core-room : n ≤ length old
     core-room = answer-length-true n (length old) (core-zero n v k (lengths-of t) (length old) (sound n t) (graph-in n (t .links)) e .0 .lent .further)
 
-    pub core-listed : (queue : List ℕ) (r : ℕ) (set after : List ℕ) (c : ℕ) (now : List ℕ) → length queue ≡ max-radios → length set ≡ row-bytes
-        → Flooded (t .links) (t .numbers) k v cleared queue r set after → c ≡ length (row-listed set 0)
-        → now ≡ overwrite (take (length old) (row-listed set 0)) old → Core-contract n v k t old (answer 0 c) now
+    core-number : k ≤ number (graph-in n (t .links)) v
+    core-number = core-zero n v k (lengths-of t) (length old) (sound n t) (graph-in n (t .links)) e .2
+
+    pub core-listed : (none set rest queue : List ℕ) (r : ℕ) (after : List ℕ) (c : ℕ) (now : List ℕ) → length none ≡ 8 → length set ≡ 8 → length rest ≡ 8
+        → length queue ≡ max-radios → Level-set (t .numbers) k none set → Flooded (t .links) v set queue r rest after → Gone-listed set rest old c now
+        → Core-contract n v k t old (answer 0 c) now
     unfolding Core-contract
-    core-listed queue r set after c now room long f counted listed =
+    core-listed none set rest queue r after c now zero words left room level f h =
         let s = core-tables in
-        let can = true-floodable (length (t .numbers)) v (length cleared) (length queue) (record {
-          small = omega (arith, s .small, s .numbers-long);
-          radio = omega (arith, core-radio, s .numbers-long);
-          one-row = length-replicate {A = ℕ} row-bytes 0;
-          room = omega (arith, s .small, s .numbers-long);
-        }) in
-        let is = row-listed-core n t s k v core-radio r set after long (f .done can) in
-        listing-answered _ _ _ old c now e (counted ∙ ap length is)
-        (listed ∙ ap (λ (xs : List ℕ). overwrite (take (length old) xs) old) is
-        ∙ ap (λ (xs : List ℕ). overwrite xs old) (take-all (length old) (core-of (graph-in n (t .links)) v k) (omega (arith, length-core n t s k v core-radio, core-room))))
+        let can = true-floodable v (length set) (length queue) (record { radio = omega (arith, core-radio, s .small); words = words; room = omega arith }) in
+        let is = gone-core n t s k v core-radio core-number set rest words left (level-radios n t s k none set zero words level) r after (f .done can) in
+        let few = length-core n t s k v core-radio core-number in
+        listing-answered _ _ _ old c now e (omega (arith, h .counted, ap length is, few, core-room))
+        (h .listed ∙ ap (λ (xs : List ℕ). overwrite (take (length old) xs) old) is
+        ∙ ap (λ (xs : List ℕ). overwrite xs old) (take-all (length old) (core-of (graph-in n (t .links)) v k) (omega (arith, few, core-room))))

@@ -55,11 +55,13 @@ pub fn core<'a>(
             value: 0,
         };
     }
-    let mut set = [0u8; Site::ROW_BYTES];
+    let mut set = [0u64; Site::ROW_BYTES / 8];
+    floods::level::at_least(numbers, k as u8, &mut set);
+    let mut rest = set;
     let mut queue = [0u16; Site::RADIOS as usize];
-    floods::flood::flood(links, numbers, k as u8, v, &mut set, &mut queue);
+    floods::flood::flood(links, v, &mut rest, &mut queue);
     Value {
         number: 0,
-        value: rows::list_set(&set, answer),
+        value: rows::sets::list_gone(&set, &rest, answer),
     }
 }

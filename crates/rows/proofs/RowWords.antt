@@ -1,5 +1,6 @@
 -- A row of the links table read word by word, as the loops over its words go: what is left of the row from word k on.
 use mathlib.Core.Path.{_≡_, refl, sym, ap, _∙_}
+use mathlib.Core.Bool.{Bool}
 use mathlib.Core.List.{List, [], _++_}
 use Prim.Native.Nat.{ℕ, suc, _+_, _*_, _-_, _/_, _%_, _^_, _≤_, _<_, min}
 use native.Mathlib.Omega.{arith}
@@ -33,9 +34,14 @@ pub row-from-zero : (ts : List ℕ) (a : ℕ) → row-from ts a 0 ≡ neighbours
 unfolding row-from neighbours-of
 row-from-zero ts a = refl
 
+-- no radio stands behind the last word
+pub words-end : (f : ℕ → Bool) (k : ℕ) → 8 ≤ k → filter f (range (64 * k) (max-radios - 64 * k)) ≡ []
+unfolding range filter
+words-end f k h = let e : max-radios - 64 * k ≡ 0 = omega arith in rw e
+
 pub row-from-end : (ts : List ℕ) (a k : ℕ) → 8 ≤ k → row-from ts a k ≡ []
-unfolding row-from range filter
-row-from-end ts a k h = let e : max-radios - 64 * k ≡ 0 = omega arith in rw e
+unfolding row-from
+row-from-end ts a k h = words-end (λ b. marked ts a b) k h
 
 -- bit m of word k is the mark of radio 64 * k + m
 pub marked-word : (ts : List ℕ) → ((j : ℕ) → getD ts j 0 < 256) → (a k m : ℕ) → m < 64
@@ -46,19 +52,25 @@ marked-word ts bytes a k m h =
     let f : (64 * k + m) % 8 ≡ m % 8 = omega arith in
     rw (e, f) (sym (digit-word-at ts bytes (row-bytes * a + 8 * k) 8 m h))
 
-pub row-from-word : (ts : List ℕ) → ((j : ℕ) → getD ts j 0 < 256) → (a k : ℕ) → k < 8
-    → row-from ts a k ≡ set-bits 64 (64 * k) (row-word 8 ts (row-bytes * a + 8 * k)) ++ row-from ts a (k + 1)
-unfolding row-from
-row-from-word ts bytes a k h =
+-- radios from word k on that pass a test, where the word tells the test of its own
+pub words-from : (f : ℕ → Bool) (k w : ℕ) → k < 8 → ((m : ℕ) → m < 64 → f (64 * k + m) ≡ digit w m)
+    → filter f (range (64 * k) (max-radios - 64 * k)) ≡ set-bits 64 (64 * k) w ++ filter f (range (64 * (k + 1)) (max-radios - 64 * (k + 1)))
+words-from f k w h tells =
     let parts : max-radios - 64 * k ≡ 64 + (max-radios - 64 * (k + 1)) = omega arith in
     let next : 64 * k + 64 ≡ 64 * (k + 1) = omega arith in
     rw (
       parts,
       range-append (64 * k) 64 (max-radios - 64 * (k + 1)),
       next,
-      filter-append (λ b. marked ts a b) (range (64 * k) 64) (range (64 * (k + 1)) (max-radios - 64 * (k + 1))),
-      set-bits-filter 64 (64 * k) (row-word 8 ts (row-bytes * a + 8 * k)) (λ b. marked ts a b) (λ m l. marked-word ts bytes a k m l),
+      filter-append f (range (64 * k) 64) (range (64 * (k + 1)) (max-radios - 64 * (k + 1))),
+      set-bits-filter 64 (64 * k) w f tells,
     )
+
+pub row-from-word : (ts : List ℕ) → ((j : ℕ) → getD ts j 0 < 256) → (a k : ℕ) → k < 8
+    → row-from ts a k ≡ set-bits 64 (64 * k) (row-word 8 ts (row-bytes * a + 8 * k)) ++ row-from ts a (k + 1)
+unfolding row-from
+row-from-word ts bytes a k h =
+    words-from (λ b. marked ts a b) k (row-word 8 ts (row-bytes * a + 8 * k)) h (λ m l. marked-word ts bytes a k m l)
 
 -- ---- one word more, as the loops' invariants have it
 

@@ -1,2 +1,3 @@
 -- What the contracts of the rows cite beside the definitions of mesh.
 pub mod Rows
+pub mod Sets

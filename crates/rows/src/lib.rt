@@ -1,14 +1,16 @@
 // Rows of the links table: one bit tested, set or cleared, a row's neighbours listed, all or the ones above its own radio, and counted
-// in a byte, the lowest of them; the radios of a set listed.
+// in a byte, the lowest of them; the radios of a set listed. Sets of eight words are in sets.rt.
 // The bits of a row are walked here and nowhere else.
 ghost use mathlib.Core.Path.{_≡_};
-ghost use Prim.Native.Nat.{suc, _≤_, _+_, min};
+ghost use Prim.Native.Nat.{suc, _≤_, _+_, _-_, min};
 ghost use lib.ListN.{length, take};
 ghost use lib.Seq.{sets};
 ghost use Rattle.mesh.specs.Limits.{max-radios, max-neighbours};
 ghost use Rattle.lists.specs.Lists.{head-or, overwrite};
 ghost use Rattle.mesh.specs.Tables.{marked, put-bit, put-link};
 ghost use Rattle.rows.specs.Rows.{row-listed, neighbours-above, row-from, row-count, set-bits, row-word, Words-room};
+
+pub mod sets;
 
 // The bits of a word.
 const WORD_BITS: u32 = 64;
@@ -196,15 +198,17 @@ pub fn row_above(links: &[u8], a: u32, list: &mut [u16]) -> u8
     list_above(links, a, &mut list[..room])
 }
 
-// Writes the places of the word's set bits, counted from `first`, into the list from place `at` on, as many as fit.
-fn list_word(word: u64, first: u32, list: &mut [u16], at: usize)
+// Writes the places of the word's set bits, counted from `first`, into the list from place `at` on, as many as fit, and comes back
+// with how many these are.
+fn list_word(word: u64, first: u32, list: &mut [u16], at: usize) -> u8
     requires { ⌜ first ≤ max-radios ⌝ }
-    ensures { λ _. ⌜ now (list .exit) ≡ sets (now (list .entry)) at (set-bits 64 first word) ⌝ }
+    ensures counted { λ r. ⌜ r ≡ min (length (now (list .entry)) - at) (length (set-bits 64 first word)) ⌝ }
+    ensures listed { λ _. ⌜ now (list .exit) ≡ sets (now (list .entry)) at (set-bits 64 first word) ⌝ }
 {
     if list.len() <= at {
-        return;
+        return 0;
     }
-    list_bits(word, first, &mut list[at..], 0);
+    list_bits(word, first, &mut list[at..], 0)
 }
 
 // Writes the radios of a set, kept as one row, into the list, ascending, as many as fit, and comes back with the count of all of

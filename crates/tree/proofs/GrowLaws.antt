@@ -4,28 +4,29 @@ use mathlib.Core.Path.{_≡_, refl, sym, ap, ap₂, _∙_}
 use mathlib.Core.Logic.{_⊎_, inl, inr}
 use mathlib.Core.Bool.{Bool, true, false, _&&_, _||_, not, cond}
 use mathlib.Core.List.{List, [], _∷_, _++_, map, append-nil}
-use Prim.Native.Nat.{ℕ, suc, _+_, _≤_, _<_}
+use Prim.Native.Nat.{ℕ, zero, suc, _+_, _≤_, _<_}
 use native.Mathlib.Omega.{arith}
-use lib.Dec.{eqb}
-use lib.ListN.{length, getD, take, set, replicate, length-append, length-replicate}
-use borrow.Author.Tests.{eqb-true, eq-eqb, not-true}
-use Rattle.mesh.specs.Limits.{max-radios, row-bytes}
+use lib.Dec.{ltb, leb, eqb}
+use lib.ListN.{length, getD, take, set, length-append}
+use borrow.Author.Tests.{ltb-true, lt-ltb, le-leb, eqb-true, eq-eqb, ne-eqb, not-true}
+use Rattle.mesh.specs.Limits.{max-radios}
 use Rattle.lists.specs.Lists.{range, member, overwrite}
 use Rattle.mesh.specs.Graph.{Graph, radios}
-use Rattle.mesh.specs.Tables.{Tables, marked, graph-in}
-use Rattle.mesh.specs.Connected.{In-core, core-of}
+use Rattle.mesh.specs.Cores.{number}
+use Rattle.mesh.specs.Tables.{Tables, graph-in}
+use Rattle.mesh.specs.Connected.{at-least, In-core, core-of}
 use Rattle.mesh.specs.Tree.{node, parent-name}
 use Rattle.mesh.specs.declared.Node.{Node}
-use Rattle.lists.proofs.Tests.{bool-cases, and-left, and-right, iff-eq}
+use Rattle.lists.proofs.Tests.{bool-cases, and-left, and-right, and-both, iff-eq}
 use Rattle.lists.proofs.Member.{in-member}
 use Rattle.lists.proofs.Overwrite.{set-overwrite, getD-front}
 use Rattle.lists.proofs.Map.{length-map, map-append, map-range-ext}
-use Rattle.mesh.proofs.Tables.Laws.{marked-replicate, byte-at-less}
 use Rattle.mesh.proofs.Trees.Reach.{core-of-iff}
-use Rattle.mesh.proofs.Trees.CoreLevels.{in-core-below}
-use Rattle.floods.specs.Floods.{Flood-done}
+use Rattle.mesh.proofs.Trees.CoreLevels.{in-core-below, in-core-level}
+use Rattle.rows.specs.Sets.{in-set}
+use Rattle.floods.specs.Floods.{Level-set, Flood-done}
 use Rattle.floods.proofs.FloodSteps.{true-floodable}
-use Rattle.floods.proofs.FloodCore.{member-flood, marked-flood}
+use Rattle.floods.proofs.FloodCore.{level-radios, member-flood, left-flood}
 use Rattle.soundness.proofs.SoundSite.{Sound-site, number-entry}
 use Rattle.tree.specs.Trees.{Lists, lists, with-front, Room, entries-set, takes-node, Node-taken, Nothing-taken, Visited, own, covered, present}
 use Rattle.tree.specs.Trees.{nodes-before, Growing, Marks}
@@ -51,6 +52,18 @@ set-node f xs x d c y e l q =
 
 -- ---- one radio
 
+-- a radio that names no node
+growing-passed : (g : Graph) (k v : ℕ) → v < g .n → 1 ≤ k → (old s : Lists) (c : ℕ) → own g k v ≡ false → Growing g k v old s c → Growing g k (suc v) old s c
+unfolding radios
+growing-passed g k v radio positive old s c o a = record {
+  counted = a .counted ∙ ap length (sym nodes);
+  front = a .front ∙ ap₂ (λ xs ys. with-front xs ys old) (sym nodes)
+      (map-range-ext (present g k v) (present g k (suc v)) 0 (g .n) (λ w b l. sym (present-next g k v radio positive w (omega arith) ∙ rw o)));
+}
+  where
+    nodes : nodes-before g k (suc v) ≡ nodes-before g k v
+    nodes = nodes-before-next g k v positive ∙ rw o (append-nil (nodes-before g k v))
+
 module _ (n : ℕ) (t : Tables) (site : Sound-site n t) (k v : ℕ) (radio : v < n) (positive : 1 ≤ k) (s : List ℕ) where
   abbrev g : Graph
   g = graph-in n (t .links)
@@ -61,20 +74,36 @@ module _ (n : ℕ) (t : Tables) (site : Sound-site n t) (k v : ℕ) (radio : v <
     unfolding takes-node graph-in
     takes-own = iff-eq (takes-node (t .numbers) k s v) (own g k v) into out
       where
-        into : (eqb (getD (t .numbers) v 0) k && not (marked s 0 v)) ≡ true → own g k v ≡ true
+        into : (eqb (getD (t .numbers) v 0) k && in-set s v) ≡ true → own g k v ≡ true
         into h =
             own-covered g k v radio positive
-            (sym (number-entry n t site v radio) ∙ eqb-true (getD (t .numbers) v 0) k (and-left (eqb (getD (t .numbers) v 0) k) (not (marked s 0 v)) h))
-            (sym (marks .bits v radio) ∙ not-true (marked s 0 v) (and-right (eqb (getD (t .numbers) v 0) k) (not (marked s 0 v)) h))
+            (sym (number-entry n t site v radio) ∙ eqb-true (getD (t .numbers) v 0) k (and-left (eqb (getD (t .numbers) v 0) k) (in-set s v) h))
+            (not-true (covered g k v v) (and-right (ltb v (g .n) && leb k (number g v)) (not (covered g k v v)) (sym (marks .bits v) ∙ and-right (eqb (getD (t .numbers) v 0) k) (in-set s v) h)))
 
-        out : own g k v ≡ true → (eqb (getD (t .numbers) v 0) k && not (marked s 0 v)) ≡ true
-        out o = rw (eq-eqb (getD (t .numbers) v 0) k (number-entry n t site v radio ∙ own-lead g k v radio positive o .0), marks .bits v radio ∙ not-covered-own g k v radio positive o)
+        out : own g k v ≡ true → (eqb (getD (t .numbers) v 0) k && in-set s v) ≡ true
+        out o =
+            let e = own-lead g k v radio positive o .0 in
+            and-both (eqb (getD (t .numbers) v 0) k) (in-set s v) (eq-eqb (getD (t .numbers) v 0) k (number-entry n t site v radio ∙ e))
+            (marks .bits v ∙ rw (lt-ltb v n radio, le-leb k (number g v) (omega arith), not-covered-own g k v radio positive o))
 
-    apart : own g k v ≡ true → (w : ℕ) → In-core g v k w → marked s 0 w ≡ false
+    -- the set has the core of a radio that names its own node, and nobody below the level
+    whole : own g k v ≡ true → (w : ℕ) → In-core g v k w → in-set s w ≡ true
     unfolding graph-in
-    apart o w r = marks .bits w (in-core-below g v k w radio r) ∙ core-not-covered g k v radio positive o w r
+    whole o w r =
+        let e = own-lead g k v radio positive o .0 in
+        marks .bits w ∙ rw (
+          lt-ltb w n (in-core-below g v k w radio r),
+          le-leb k (number g w) (in-core-level g v k w (omega arith) r),
+          core-not-covered g k v radio positive o w r,
+        )
 
-  module _ (q : List ℕ) (old before after : Lists) (c r : ℕ) (u : List ℕ) (room : Room n old) (space : n ≤ length q) (marks : Marks g k v s)
+    inside : (w : ℕ) → in-set s w ≡ true → (w < n) × (at-least g k w ≡ true)
+    unfolding graph-in at-least
+    inside w e =
+        let both = and-left (ltb w (g .n) && leb k (number g w)) (not (covered g k v w)) (sym (marks .bits w) ∙ e) in
+        (ltb-true w n (and-left (ltb w (g .n)) (leb k (number g w)) both), and-right (ltb w (g .n)) (leb k (number g w)) both)
+
+  module _ (q : List ℕ) (old before after : Lists) (c r : ℕ) (u : List ℕ) (room : Room n old) (space : max-radios ≤ length q) (marks : Marks g k v s)
       (same : length u ≡ length s) (grown : Growing g k v old before c) where
     abbrev At : Type 0
     At = Marks g k (suc v) u × Growing g k (suc v) old after r
@@ -84,21 +113,19 @@ module _ (n : ℕ) (t : Tables) (site : Sound-site n t) (k v : ℕ) (radio : v <
     passed-next o h = (
       record {
         long = same ∙ marks .long;
-        bits = λ w l. ap (λ (x : List ℕ). marked x 0 w) (h .set) ∙ marks .bits w l ∙ sym (covered-next g k v radio positive w l ∙ none (covered g k v w) (member w (core-of g v k)));
+        bits = λ w. ap (λ (x : List ℕ). in-set x w) (h .set) ∙ marks .bits w ∙ of-radio w (bool-cases (ltb w n));
       },
-      record {
-        counted = h .counted ∙ grown .counted ∙ ap length (sym nodes);
-        front = h .lists ∙ grown .front ∙ ap₂ (λ xs ys. with-front xs ys old) (sym nodes)
-            (map-range-ext (present g k v) (present g k (suc v)) 0 n (λ w a l. sym (present-next g k v radio positive w (omega arith) ∙ rw o)));
-      },
+      rw (h .counted, h .lists) (growing-passed g k v radio positive old before c o grown),
     )
       where
-        nodes : nodes-before g k (suc v) ≡ nodes-before g k v
-        nodes = nodes-before-next g k v positive ∙ rw o (append-nil (nodes-before g k v))
-
         none : (a b : Bool) → (a || (own g k v && b)) ≡ a
         none true b = refl
         none false b = rw o
+
+        of-radio : (w : ℕ) → (ltb w n ≡ true) ⊎ (ltb w n ≡ false)
+            → ((ltb w (g .n) && leb k (number g w)) && not (covered g k v w)) ≡ ((ltb w (g .n) && leb k (number g w)) && not (covered g k (suc v) w))
+        of-radio w (inl e) = rw (covered-next g k v radio positive w (ltb-true w n e), none (covered g k v w) (member w (core-of g v k)))
+        of-radio w (inr e) = rw e
 
     module _ (o : own g k v ≡ true) (h : Node-taken (t .links) (t .numbers) k v s q before c u after r) where
       nodes-taken : nodes-before g k (suc v) ≡ nodes-before g k v ++ node v k (parent-name g v k) ∷ []
@@ -119,16 +146,11 @@ module _ (n : ℕ) (t : Tables) (site : Sound-site n t) (k v : ℕ) (radio : v <
       unfolding graph-in radios with-front
       answer-before = ap (λ (x : Lists). x .answer) (grown .front)
 
-      done : Flood-done (t .links) (t .numbers) k v s (h .core .came) u (h .core .queue)
-      done = h .core .flooded .done (true-floodable (length (t .numbers)) v (length s) (length q) (record {
-        small = omega (arith, site .small, site .numbers-long);
-        radio = omega (arith, site .numbers-long);
-        one-row = marks .long;
-        room = omega (arith, site .numbers-long);
-      }))
+      done : Flood-done (t .links) v s (h .core .came) u (h .core .queue)
+      done = h .core .flooded .done (true-floodable v (length s) (length q) (record { radio = omega (arith, site .small); words = marks .long; room = space }))
 
       came-in : (w : ℕ) → member w (take (h .core .came) (h .core .queue)) ≡ member w (core-of g v k)
-      came-in w = member-flood n t site k v s radio (apart marks o) (h .core .came) u (h .core .queue) done w
+      came-in w = member-flood n t site k v s radio (inside marks) (whole marks o) (h .core .came) u (h .core .queue) done w
 
       answer-taken : after .answer ≡ overwrite (map (present g k (suc v)) (range 0 n)) (old .answer)
       unfolding graph-in
@@ -143,9 +165,23 @@ module _ (n : ℕ) (t : Tables) (site : Sound-site n t) (k v : ℕ) (radio : v <
       unfolding graph-in
       marks-taken = record {
         long = same ∙ marks .long;
-        bits = λ w l. marked-flood n t site k v s radio (apart marks o) (h .core .came) u (h .core .queue) done w (omega (arith, site .small))
-            ∙ ap (λ (b : Bool). b || member w (core-of g v k)) (marks .bits w l) ∙ sym (covered-next g k v radio positive w l ∙ rw o);
+        bits = λ w. left-flood n t site k v s radio (inside marks) (whole marks o) (h .core .came) u (h .core .queue) done w
+            ∙ ap (λ (b : Bool). b && not (member w (core-of g v k))) (marks .bits w) ∙ of-radio w (bool-cases (ltb w n));
       }
+        where
+          both : (a b c : Bool) → ((a && not b) && not c) ≡ (a && not (b || c))
+          both true true c = refl
+          both true false c = refl
+          both false b c = refl
+
+          of-radio : (w : ℕ) → (ltb w n ≡ true) ⊎ (ltb w n ≡ false)
+              → (((ltb w (g .n) && leb k (number g w)) && not (covered g k v w)) && not (member w (core-of g v k)))
+              ≡ ((ltb w (g .n) && leb k (number g w)) && not (covered g k (suc v) w))
+          of-radio w (inl e) =
+              let next : covered g k (suc v) w ≡ (covered g k v w || member w (core-of g v k)) = covered-next g k v radio positive w (ltb-true w n e) ∙ rw o in
+              both (ltb w (g .n) && leb k (number g w)) (covered g k v w) (member w (core-of g v k))
+              ∙ ap (λ (b : Bool). (ltb w (g .n) && leb k (number g w)) && not b) (sym next)
+          of-radio w (inr e) = rw e
 
       taken-next : At
       unfolding with-front graph-in radios
@@ -171,11 +207,17 @@ module _ (n : ℕ) (t : Tables) (site : Sound-site n t) (k v : ℕ) (radio : v <
 
 -- ---- the start and the end of a level
 
-pub marks-start : (g : Graph) (k : ℕ) → g .n ≤ max-radios → Marks g k 0 (replicate row-bytes 0)
-marks-start g k small = record {
-  long = length-replicate {A = ℕ} row-bytes 0;
-  bits = λ w l. marked-replicate row-bytes 0 w (omega (arith, byte-at-less 1 0 w (omega arith) (omega arith))) ∙ sym (covered-none g k w);
+pub marks-start : (n : ℕ) (t : Tables) → Sound-site n t → (k : ℕ) (old s : List ℕ) → length old ≡ 8 → length s ≡ 8 → Level-set (t .numbers) k old s
+    → Marks (graph-in n (t .links)) k 0 s
+unfolding graph-in
+marks-start n t site k old s long words h = record {
+  long = words;
+  bits = λ w. level-radios n t site k old s long words h w ∙ rw (covered-none (graph-in n (t .links)) k w) (and-true (ltb w n && leb k (number (graph-in n (t .links)) w)));
 }
+  where
+    and-true : (b : Bool) → b ≡ (b && true)
+    and-true true = refl
+    and-true false = refl
 
 pub growing-end : (g : Graph) (k c : ℕ) (old s : Lists) → 1 ≤ k → Growing g k (g .n) old s c → Growing g (suc k) 0 old s c
 unfolding radios
@@ -184,3 +226,12 @@ growing-end g k c old s h a = record {
   front = a .front ∙ ap₂ (λ xs ys. with-front xs ys old) (nodes-before-end g k h)
       (map-range-ext (present g k (g .n)) (present g (suc k) 0) 0 (g .n) (λ w m l. present-end g k w h (omega arith) ∙ sym (present-start g (suc k) w)));
 }
+
+-- a level that no radio has
+growing-none : (g : Graph) (k v c : ℕ) (old s : Lists) → 1 ≤ k → v ≤ g .n → ((w : ℕ) → w < g .n → own g k w ≡ false) → Growing g k 0 old s c → Growing g k v old s c
+growing-none g k zero c old s h l none a = a
+growing-none g k (suc v) c old s h l none a = growing-passed g k v l h old s c (none v l) (growing-none g k v c old s h (omega arith) none a)
+
+pub growing-over : (g : Graph) (k c : ℕ) (old s : Lists) → 1 ≤ k → ((w : ℕ) → w < g .n → number g w ≡ k → ⊥) → Growing g k 0 old s c → Growing g (suc k) 0 old s c
+unfolding own
+growing-over g k c old s h none a = growing-end g k c old s h (growing-none g k (g .n) c old s h (omega arith) (λ w l. rw (ne-eqb (number g w) k (none w l))) a)

@@ -14,9 +14,9 @@ use Rattle.tree.specs.Trees.{entries-set, Core-named}
 -- ---- entries set at listed places
 
 -- the list is the queue of a flood
-pub core-named : (ts ns : List ℕ) (k v : ℕ) (s q a t b : List ℕ) (r m : ℕ) (p : List ℕ) → Flooded ts ns k v s q r t p → m ≡ min r (length p)
-    → b ≡ entries-set v (take m p) a → Core-named ts ns k v s q a t b
-core-named ts ns k v s q a t b r m p f e h = record {
+pub core-named : (ts : List ℕ) (v : ℕ) (s q a t b : List ℕ) (r m : ℕ) (p : List ℕ) → Flooded ts v s q r t p → m ≡ min r (length p)
+    → b ≡ entries-set v (take m p) a → Core-named ts v s q a t b
+core-named ts v s q a t b r m p f e h = record {
   came = r;
   queue = p;
   flooded = f;

@@ -5,7 +5,7 @@ use mathlib.Core.List.{List}
 use Prim.Native.Nat.{ℕ, _+_}
 use lib.ListN.{getD, set}
 use borrow.Author.Tests.{eq-eqb, ne-eqb}
-use Rattle.mesh.specs.Tables.{marked}
+use Rattle.rows.specs.Sets.{in-set}
 use Rattle.lists.proofs.Tests.{never}
 use Rattle.tree.specs.Trees.{Lists, lists, Core-named, takes-node, Visited}
 
@@ -20,13 +20,13 @@ module _ (ts ns : List ℕ) (k v : ℕ) (s q : List ℕ) (old : Lists) (c : ℕ)
 
   module _ (number : getD ns v 0 ≡ k) where
     -- named at this level already
-    pub visited-marked : marked s 0 v ≡ true → Visited ts ns k v s q old c s old c
+    pub visited-named : in-set s v ≡ false → Visited ts ns k v s q old c s old c
     unfolding takes-node
-    visited-marked h = takes-node-false (rw (eq-eqb (getD ns v 0) k number, h))
+    visited-named h = takes-node-false (rw (eq-eqb (getD ns v 0) k number, h))
 
     -- a node
-    pub visited-node : (t : List ℕ) (new : Lists) → marked s 0 v ≡ false → new .names ≡ set (old .names) c v → new .levels ≡ set (old .levels) c k
-        → new .parents ≡ set (old .parents) c (getD (old .answer) v 0) → Core-named ts ns k v s q (old .answer) t (new .answer)
+    pub visited-node : (t : List ℕ) (new : Lists) → in-set s v ≡ true → new .names ≡ set (old .names) c v → new .levels ≡ set (old .levels) c k
+        → new .parents ≡ set (old .parents) c (getD (old .answer) v 0) → Core-named ts v s q (old .answer) t (new .answer)
         → Visited ts ns k v s q old c t new (c + 1)
     unfolding takes-node
     visited-node t new h names levels parents core =

@@ -3,7 +3,7 @@
 --   with-front xs ys s      the lists s with the nodes xs and the radios' names ys in front
 --   entries-set x ws t      the table t with x at each place that ws lists
 --   Core-named              a flood from v, and v written for each radio that came in
---   takes-node, Visited     radio v at level k: a node where it has number k and is not in the set, else nothing
+--   takes-node, Visited     radio v at level k: a node where it has number k and is in the set, else nothing
 --   own g k v               v has number k and names its own node
 --   covered g k v w         the connected core of w at level k has a radio of number k below v
 --   name-before g k w       the name that w has before level k: of its nearest node below k
@@ -19,16 +19,16 @@ use mathlib.Core.List.{List, [], _∷_, _++_, map, flatMap}
 use Prim.Native.Nat.{ℕ, zero, suc, _+_, _≤_, _<_, min}
 use lib.Dec.{ltb, leb, eqb}
 use lib.ListN.{length, getD, take, set}
-use Rattle.mesh.specs.Limits.{row-bytes}
 use Rattle.lists.specs.Lists.{folded, range, filter, head-or, overwrite}
 use Rattle.mesh.specs.Graph.{Graph, radios}
 use Rattle.mesh.specs.Cores.{number}
-use Rattle.mesh.specs.Tables.{Tables, tables, marked, graph-in}
+use Rattle.mesh.specs.Tables.{Tables, tables, graph-in}
 use Rattle.mesh.specs.Sound.{sound}
 use Rattle.mesh.specs.Tree.{root-name, root, node, shell, node-name, parent-name, nodes-at, tree, node-names}
 use Rattle.mesh.specs.declared.Node.{Node}
 use Rattle.calls.specs.Questions.{By-number, lengths-of, tree-refusal}
 use Rattle.calls.specs.declared.Value.{Value}
+use Rattle.rows.specs.Sets.{in-set}
 use Rattle.soundness.specs.Checks.{fits-sound}
 use Rattle.floods.specs.Floods.{Flooded}
 
@@ -63,21 +63,21 @@ unfoldable pub entries-set : (x : ℕ) → (places table : List ℕ) → List �
 entries-set x ws t = folded (λ w now. set now w x) ws t
 
 -- s, q and a are the set, the queue and the answer table before, t and b the set and the answer table after
-pub record Core-named (ts ns : List ℕ) (k v : ℕ) (s q a t b : List ℕ) : Type 0 where
+pub record Core-named (ts : List ℕ) (v : ℕ) (s q a t b : List ℕ) : Type 0 where
   pub came : ℕ
   pub queue : List ℕ
-  pub flooded : Flooded ts ns k v s q came t queue
+  pub flooded : Flooded ts v s q came t queue
   pub named : b ≡ entries-set v (take came queue) a
 
 unfoldable pub takes-node : (numbers : List ℕ) → (level : ℕ) → (set : List ℕ) → (v : ℕ) → Bool
-takes-node ns k s v = eqb (getD ns v 0) k && not (marked s 0 v)
+takes-node ns k s v = eqb (getD ns v 0) k && in-set s v
 
 -- a node comes behind the first c: v, the level and the name that v had
 pub record Node-taken (ts ns : List ℕ) (k v : ℕ) (s q : List ℕ) (old : Lists) (c : ℕ) (t : List ℕ) (new : Lists) (r : ℕ) : Type 0 where
   pub names : new .names ≡ set (old .names) c v
   pub levels : new .levels ≡ set (old .levels) c k
   pub parents : new .parents ≡ set (old .parents) c (getD (old .answer) v 0)
-  pub core : Core-named ts ns k v s q (old .answer) t (new .answer)
+  pub core : Core-named ts v s q (old .answer) t (new .answer)
   pub counted : r ≡ c + 1
 
 pub record Nothing-taken (s : List ℕ) (old : Lists) (c : ℕ) (t : List ℕ) (new : Lists) (r : ℕ) : Type 0 where
@@ -116,10 +116,10 @@ pub record Growing (g : Graph) (k v : ℕ) (old new : Lists) (c : ℕ) : Type 0 
   pub counted : c ≡ length (nodes-before g k v)
   pub front : new ≡ with-front (nodes-before g k v) (map (present g k v) (radios g)) old
 
--- the set has the radios that have got their name of level k
+-- the set has the radios with number k or more that have not got their name of level k
 pub record Marks (g : Graph) (k v : ℕ) (s : List ℕ) : Type 0 where
-  pub long : length s ≡ row-bytes
-  pub bits : (w : ℕ) → w < g .n → marked s 0 w ≡ covered g k v w
+  pub long : length s ≡ 8
+  pub bits : (w : ℕ) → in-set s w ≡ ((ltb w (g .n) && leb k (number g w)) && not (covered g k v w))
 
 -- ---- for sound tables
 

@@ -3,7 +3,8 @@ ghost use mathlib.Core.Path.{_≡_};
 ghost use mathlib.Core.Bool.{_&&_};
 ghost use Prim.Native.Nat.{_+_, _*_, _≤_, _<_};
 ghost use lib.ListN.{length};
-ghost use Rattle.mesh.specs.Limits.{max-radios, row-bytes};
+ghost use Rattle.mesh.specs.Limits.{max-radios};
+ghost use Rattle.lists.specs.Lists.{member};
 ghost use Rattle.mesh.specs.Tables.{lent};
 ghost use Rattle.calls.specs.Questions.{nodes-length, answer-length};
 ghost use Rattle.tree.specs.Trees.{lists, Visited, Levelled, Grown, Tables-contract};
@@ -13,15 +14,15 @@ use mesh::Site;
 // The root's name, and its parent.
 const ROOT: u16 = 65535;
 
-// Radio v at a level: where it has the level's number and is not in the set, a node comes behind the first `count` of the three
-// tables, with the name that v had as parent; the core of v comes into the set, and v is the name of its radios in the answer
-// table. Else nothing changes. Comes back with the count after. The queue holds anything after.
+// Radio v at a level: where it has the level's number and is in the set, a node comes behind the first `count` of the three tables,
+// with the name that v had as parent; the core of v leaves the set, and v is the name of its radios in the answer table. Else nothing
+// changes. Comes back with the count after. The queue holds anything after.
 fn visit<'a>(
     links: &'a [u8],
     numbers: &'a [u8],
     level: u8,
     v: u16,
-    set: &mut [u8],
+    set: &mut [u64],
     queue: &mut [u16],
     names: &mut [u16],
     levels: &mut [u16],
@@ -37,7 +38,7 @@ fn visit<'a>(
     if numbers[v as usize] != level {
         return count;
     }
-    if rows::is_marked(set, 0, v as u32) {
+    if !rows::sets::is_in(set, v as u32) {
         return count;
     }
     crate::nodes::put_node(
@@ -49,17 +50,31 @@ fn visit<'a>(
         level as u16,
         answer[v as usize],
     );
-    crate::nodes::name_core(links, numbers, level, v, set, queue, answer);
+    crate::nodes::name_core(links, v, set, queue, answer);
     count + 1
 }
 
-// One level: each radio in turn, with a set that starts empty. The three tables and the answer table hold the nodes and the
-// names with this level after, where they held these without it. Comes back with the count after. The queue holds anything.
+// Whether a radio has this number. Every number is compared, so that the compiler takes many at a time.
+fn has_level(numbers: &[u8], level: u8) -> bool
+    ensures { λ r. ⌜ r ≡ member level (now (numbers .entry)) ⌝ }
+{
+    let mut found = false;
+    let mut v: usize = 0;
+    while v < numbers.len() {
+        found = found | (numbers[v] == level);
+        v += 1;
+    }
+    found
+}
+
+// One level: each radio in turn, with a set that starts as the radios of the level, those of higher numbers too. The three tables and
+// the answer table hold the nodes and the names with this level after, where they held these without it. Comes back with the count
+// after. The set and the queue hold anything.
 fn take_level<'a>(
     links: &'a [u8],
     numbers: &'a [u8],
     level: u8,
-    set: &mut [u8],
+    set: &mut [u64],
     queue: &mut [u16],
     names: &mut [u16],
     levels: &mut [u16],
@@ -68,13 +83,16 @@ fn take_level<'a>(
     count: u32,
 ) -> u32
     requires { ⌜ (length (now numbers) ≤ max-radios) × (length (now numbers) ≤ length (now answer)) × (1 ≤ level) ×
-        (length (now set) ≡ row-bytes) × (max-radios ≤ length (now queue)) × (count ≤ max-radios * level) ⌝ }
+        (length (now set) ≡ 8) × (max-radios ≤ length (now queue)) × (count ≤ max-radios * level) ⌝ }
     ensures few { λ r. ⌜ r ≤ max-radios * (level + 1) ⌝ }
     ensures levelled { λ r. ⌜ Levelled (now (links .entry)) (now (numbers .entry)) level
         (lists (now (names .entry)) (now (levels .entry)) (now (parents .entry)) (now (answer .entry))) count
         (lists (now (names .exit)) (now (levels .exit)) (now (parents .exit)) (now (answer .exit))) r ⌝ }
 {
-    tables::fill::fill8(set, 0);
+    if !has_level(numbers, level) {
+        return count;
+    }
+    floods::level::at_least(numbers, level, set);
     let mut c = count;
     let mut v: usize = 0;
     while v < numbers.len() {
@@ -111,7 +129,7 @@ fn grow<'a>(
         (lists (now (names .entry)) (now (levels .entry)) (now (parents .entry)) (now (answer .entry))) r
         (lists (now (names .exit)) (now (levels .exit)) (now (parents .exit)) (now (answer .exit))) ⌝ }
 {
-    let mut set = [0u8; Site::ROW_BYTES];
+    let mut set = [0u64; Site::ROW_BYTES / 8];
     let mut queue = [0u16; Site::RADIOS as usize];
     crate::nodes::fill_front(answer, numbers.len(), ROOT);
     crate::nodes::put_node(names, levels, parents, 0, ROOT, 0, ROOT);

@@ -36,21 +36,13 @@ fn name_all(list: &[u16], k: usize, x: u16, answer: &mut [u16])
     }
 }
 
-// Floods from v over radios whose number is at least the level, and writes v in the answer table for each radio that came in.
-// The set has these beside what it had; the queue holds anything after.
-pub fn name_core<'a>(
-    links: &'a [u8],
-    numbers: &'a [u8],
-    level: u8,
-    v: u16,
-    set: &mut [u8],
-    queue: &mut [u16],
-    answer: &mut [u16],
-)
-    ensures { λ _. ⌜ Core-named (now (links .entry)) (now (numbers .entry)) level v (now (set .entry)) (now (queue .entry))
-        (now (answer .entry)) (now (set .exit)) (now (answer .exit)) ⌝ }
+// Floods from v over radios of the set, and writes v in the answer table for each radio that came in. The set has these no more; the
+// queue holds anything after.
+pub fn name_core(links: &[u8], v: u16, set: &mut [u64], queue: &mut [u16], answer: &mut [u16])
+    ensures { λ _. ⌜ Core-named (now (links .entry)) v (now (set .entry)) (now (queue .entry)) (now (answer .entry)) (now (set .exit))
+        (now (answer .exit)) ⌝ }
 {
-    let k = floods::flood::flood(links, numbers, level, v as u32, set, queue);
+    let k = floods::flood::flood(links, v as u32, set, queue);
     let m = tables::fill::least(k, queue.len());
     name_all(queue, m, v, answer);
 }

@@ -1,16 +1,17 @@
--- `take_part` meets its contract: a radio that was seen leaves all as it is; else the flood gives its part, and the
+-- `take_part` meets its contract: a radio that is not among the rest leaves all as it is; else the flood gives its part, and the
 -- radios of the part's greatest number come into the set.
 use mathlib.Core.Path.{sym, _∙_}
 use borrow.Author.Needs.{needs}
-use Rattle.backbone.proofs.PartLaws.{visited-seen, visited-none, visited-tops}
+use borrow.Author.Tests.{not-true, not-false}
+use Rattle.backbone.proofs.PartLaws.{visited-gone, visited-none, visited-tops}
 use Rattle.backbone.proofs.take_part.Statement.{statement}
 use Rattle.backbone.proofs.take_part.Tie as tie
 
 returns : tie.Need-returns
 returns c =
     let call = c .before .before .before .before .before .before .before .before .args in
-    visited-seen (call .links .now) (call .numbers .now) (call .v) (call .seen .now) (call .queue .now) (call .set .now)
-    (sym (c .before .is-marked .ensures) ∙ c .if1 .taken)
+    visited-gone (call .links .now) (call .numbers .now) (call .v) (call .rest .now) (call .queue .now) (call .set .now)
+    (sym (c .before .is-in .ensures) ∙ not-true _ (c .if1 .taken))
 
 returns-2 : tie.Need-returns-2
 returns-2 c =
@@ -19,8 +20,8 @@ returns-2 c =
     let flood = least .before .before .before .before .before in
     let fresh = flood .before .before .before in
     let call = fresh .before .before .before .before .before .before .before .before .args in
-    visited-none (call .links .now) (call .numbers .now) (call .v) (call .seen .now) (call .queue .now) (call .set .now)
-    (sym (fresh .before .is-marked .ensures) ∙ fresh .if1 .left) _ _ _ _ (flood .flood .ensures)
+    visited-none (call .links .now) (call .numbers .now) (call .v) (call .rest .now) (call .queue .now) (call .set .now)
+    (sym (fresh .before .is-in .ensures) ∙ not-false _ (fresh .if1 .left)) _ _ _ _ (flood .flood .ensures)
     (least .least .ensures) _ (greatest .greatest-of .ensures) (c .if2 .taken)
 
 returns-3 : tie.Need-returns-3
@@ -32,8 +33,8 @@ returns-3 c =
     let flood = least .before .before .before .before .before in
     let fresh = flood .before .before .before in
     let call = fresh .before .before .before .before .before .before .before .before .args in
-    visited-tops (call .links .now) (call .numbers .now) (call .v) (call .seen .now) (call .queue .now) (call .set .now)
-    (sym (fresh .before .is-marked .ensures) ∙ fresh .if1 .left) _ _ _ _ (flood .flood .ensures)
+    visited-tops (call .links .now) (call .numbers .now) (call .v) (call .rest .now) (call .queue .now) (call .set .now)
+    (sym (fresh .before .is-in .ensures) ∙ not-false _ (fresh .if1 .left)) _ _ _ _ (flood .flood .ensures)
     (least .least .ensures) _ (greatest .greatest-of .ensures) (left .if2 .left) _ (tops .put-tops .ensures)
 
 pub take-part-spec : {M : Type 1} → statement M

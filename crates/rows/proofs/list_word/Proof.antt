@@ -1,7 +1,9 @@
 -- `rows::list_word` meets its contract: what is written into the rest of the list is written from its place on.
 use mathlib.Core.Path.{sym}
 use native.Mathlib.Omega.{arith}
+use lib.ListN.{length}
 use borrow.Author.Needs.{needs}
+use borrow.Rule.Slice.PartMut.{mid-len}
 use Rattle.lists.proofs.Overwrite.{sets-full}
 use Rattle.rows.specs.Rows.{set-bits}
 use Rattle.rows.proofs.Listing.{put-rest}
@@ -11,12 +13,15 @@ use Rattle.rows.proofs.list_word.Tie as tie
 returns : tie.Need-returns
 returns c =
     let call = c .before .before .args in
-    sym (sets-full (call .list .now) (call .at) (set-bits 64 (call .first) (call .word)) (c .if1 .taken))
+    (omega (arith, c .if1 .taken), sym (sets-full (call .list .now) (call .at) (set-bits 64 (call .first) (call .word)) (c .if1 .taken)))
 
 returns-2 : tie.Need-returns-2
 returns-2 c =
     let call = c .before .before .before .before .before .before .args in
-    put-rest (call .list .now) _ (set-bits 64 (call .first) (call .word)) (call .at) (omega arith) (c .before .before .list-bits .ensures .1)
+    let rest = mid-len (call .at) (length (call .list .now)) (call .list .now) (omega arith) in (
+      omega (arith, c .before .before .list-bits .ensures .0, rest),
+      put-rest (call .list .now) _ (set-bits 64 (call .first) (call .word)) (call .at) (omega arith) (c .before .before .list-bits .ensures .1),
+    )
 
 pub list-word-spec : {M : Type 1} → statement M
 list-word-spec =

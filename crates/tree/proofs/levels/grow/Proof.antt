@@ -12,7 +12,7 @@ use Rattle.tree.proofs.levels.grow.Tie as tie
 
 abbrev Inv-loop : tie.InvT-loop
 Inv-loop links numbers names₀ levels₀ parents₀ answer₀ set₀ queue₀ top count₀ k₀ names levels parents answer set queue count k =
-    (length set ≡ 64) × (length queue ≡ 512) × (top < 256) × (k ≤ top + 1)
+    (length set ≡ 8) × (length queue ≡ 512) × (top < 256) × (k ≤ top + 1)
     × Treeing links numbers (lists names₀ levels₀ parents₀ answer₀) count₀ k (lists names levels parents answer) count
 
 abbrev μ-loop : tie.MeasureT-loop

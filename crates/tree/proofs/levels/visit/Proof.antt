@@ -2,8 +2,9 @@
 use mathlib.Core.Path.{sym, _∙_}
 use native.Mathlib.Omega.{arith}
 use borrow.Author.Needs.{needs}
+use borrow.Author.Tests.{not-true, not-false}
 use Rattle.tree.specs.Trees.{lists}
-use Rattle.tree.proofs.VisitSteps.{visited-other, visited-marked, visited-node}
+use Rattle.tree.proofs.VisitSteps.{visited-other, visited-named, visited-node}
 use Rattle.tree.proofs.levels.visit.Statement.{statement}
 use Rattle.tree.proofs.levels.visit.Tie as tie
 
@@ -17,16 +18,26 @@ returns-2 : tie.Need-returns-2
 returns-2 c =
     let call = c .before .before .before .before .before .before .before .before .before .before .before .before .before .args in
     let old = lists (call .names .now) (call .levels .now) (call .parents .now) (call .answer .now) in
-    visited-marked (call .links .now) (call .numbers .now) (call .level) (call .v) (call .set .now) (call .queue .now) old (call .count) (c .before .before .before .if1 .left) (sym (c .before .is-marked .ensures) ∙ c .if2 .taken)
+    visited-named (call .links .now) (call .numbers .now) (call .level) (call .v) (call .set .now) (call .queue .now) old (call .count)
+    (c .before .before .before .if1 .left) (sym (c .before .is-in .ensures) ∙ not-true _ (c .if2 .taken))
 
 add-result : tie.Need-add-result
-add-result c = omega (arith, c .before .before .before .before .before .before .before .before .before .before .before .before .before .before .before .before .before .before .before .before .before .before .before .before .before .before .before .before .before .before .before .before .before .before .pre .2, c .before .before .before .before .before .before .before .before .before .before .before .before .before .before .before .before .before .before .before .before .before .before .before .before .before .before .before .before .before .before .before .before .before .before .fits .level .fits)
+add-result c =
+    let start = c .before .before .before .before .before .before .before .before .before .before .before .before .before .before .before .before .before .before .before .before .before .before .before .before .before .before .before .before .before .before .before .before .before .before in
+    omega (arith, start .pre .2, start .fits .level .fits)
 
 returns-3 : tie.Need-returns-3
 returns-3 c =
-    let call = c .before .before .before .before .before .before .before .before .before .before .before .before .before .before .before .before .before .before .before .before .before .before .before .before .before .before .before .before .before .before .before .before .before .before .args in
+    let named = c .before .before .before .before .before .before in
+    let node = named .before .before .before .before .before .before .before .before .before .before in
+    let fresh = node .before .before .before .before .before in
+    let asked = fresh .before .before .before in
+    let call = asked .before .before .before .before .before .before .before .before .before .before .args in
     let old = lists (call .names .now) (call .levels .now) (call .parents .now) (call .answer .now) in
-    visited-node (call .links .now) (call .numbers .now) (call .level) (call .v) (call .set .now) (call .queue .now) old (call .count) (c .before .before .before .before .before .before .before .before .before .before .before .before .before .before .before .before .before .before .before .before .before .before .before .before .if1 .left) _ (lists (c .before .before .before .before .before .before .before .before .before .before .before .before .before .before .before .before .put-node .last .0) (c .before .before .before .before .before .before .before .before .before .before .before .before .before .before .before .before .put-node .last .1 .0) (c .before .before .before .before .before .before .before .before .before .before .before .before .before .before .before .before .put-node .last .1 .1 .0) (c .before .before .before .before .before .before .name-core .last .1 .1 .1 .1 .1 .1 .0)) (sym (c .before .before .before .before .before .before .before .before .before .before .before .before .before .before .before .before .before .before .before .before .before .before .is-marked .ensures) ∙ c .before .before .before .before .before .before .before .before .before .before .before .before .before .before .before .before .before .before .before .before .before .if2 .left) (c .before .before .before .before .before .before .before .before .before .before .before .before .before .before .before .before .put-node .ensures .0) (c .before .before .before .before .before .before .before .before .before .before .before .before .before .before .before .before .put-node .ensures .1 .0) (c .before .before .before .before .before .before .before .before .before .before .before .before .before .before .before .before .put-node .ensures .1 .1) (c .before .before .before .before .before .before .name-core .ensures)
+    visited-node (call .links .now) (call .numbers .now) (call .level) (call .v) (call .set .now) (call .queue .now) old (call .count) (asked .if1 .left) _
+    (lists (node .put-node .last .0) (node .put-node .last .1 .0) (node .put-node .last .1 .1 .0) (named .name-core .last .1 .1 .1 .1 .0))
+    (sym (fresh .before .is-in .ensures) ∙ not-false _ (fresh .if2 .left))
+    (node .put-node .ensures .0) (node .put-node .ensures .1 .0) (node .put-node .ensures .1 .1) (named .name-core .ensures)
 
 pub visit-spec : {M : Type 1} → statement M
 visit-spec =

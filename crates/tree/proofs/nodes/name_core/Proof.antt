@@ -6,8 +6,12 @@ use Rattle.tree.proofs.nodes.name_core.Tie as tie
 
 returns : tie.Need-returns
 returns c =
-    let call = c .before .before .before .before .before .before .before .before .before .before .before .before .before .before .before .before .before .before .args in
-    core-named (call .links .now) (call .numbers .now) (call .level) (call .v) (call .set .now) (call .queue .now) (call .answer .now) _ _ _ _ _ (c .before .before .before .before .before .before .before .before .before .before .flood .ensures) (c .before .before .before .before .before .least .ensures) (c .before .before .name-all .ensures)
+    let named = c .before .before in
+    let many = named .before .before .before in
+    let flooded = many .before .before .before .before .before in
+    let call = flooded .before .before .before .before .before .before .before .args in
+    core-named (call .links .now) (call .v) (call .set .now) (call .queue .now) (call .answer .now) _ _ _ _ _ (flooded .flood .ensures) (many .least .ensures)
+    (named .name-all .ensures)
 
 pub name-core-spec : {M : Type 1} → statement M
 name-core-spec =

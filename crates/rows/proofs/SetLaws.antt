@@ -1,0 +1,365 @@
+-- Sets of eight words.
+-- In order: digits of words joined by `&` and `^`, one radio tested and taken out, a row's radios taken out word by word, the radios
+-- that one of two sets has.
+use mathlib.Core.Path.{_≡_, refl, sym, ap, _∙_}
+use mathlib.Core.Logic.{_⊎_, inl, inr}
+use mathlib.Core.Bool.{Bool, true, false, _&&_, not, cond}
+use mathlib.Core.List.{List, [], _++_}
+use Prim.Native.Nat.{ℕ, zero, suc, _+_, _*_, _-_, _/_, _%_, _^_, _≤_, _<_, min}
+use native.Mathlib.Omega.{arith}
+use native.Mathlib.Nat.{mod-lt, zero-lt-suc, one-mul, mod-eq-of-lt}
+use lib.Bits.{differ, bitAnd, bitXor, and-step, xor-step, and-shr, xor-shr, xor-zero-r, and-mask}
+use lib.Dec.{ltb, eqb}
+use lib.ListN.{length, getD, take, set, length-set, List·getD-eq-default}
+use lib.Pow.{pow-lt}
+use lib.Seq.{sets, set-out, set-getD, getD-set-same, getD-set-other}
+use borrow.Author.Tests.{ltb-true, ltb-false, eqb-true, eqb-false, eq-eqb, ne-eqb}
+use Rattle.mesh.specs.Limits.{max-radios, row-bytes}
+use Rattle.lists.specs.Lists.{range, filter, member, overwrite}
+use Rattle.mesh.specs.Tables.{digit, marked, put-digit}
+use Rattle.lists.proofs.Filter.{member-filter, filter-filter}
+use Rattle.lists.proofs.Overwrite.{sets-front}
+use Rattle.lists.proofs.Range.{in-range}
+use Rattle.lists.proofs.Tests.{bool-cases, iff-eq}
+use Rattle.mesh.proofs.Tables.Digits.{digit-nothing, digit-put-digit}
+use Rattle.rows.specs.Rows.{neighbours-of, row-listed, set-bits, row-word}
+use Rattle.rows.specs.Sets.{in-set, take-out, word-left, word-taken, taken-by, Row-taken, in-one, gone, Gone-listed}
+use Rattle.rows.proofs.MaskLaws.{put-digit-false}
+use Rattle.rows.proofs.WordLaws.{set-bits-nothing, length-set-bits-le}
+use Rattle.rows.proofs.Listing.{Partial-listing, partial-none, partial-part, partial-end}
+use Rattle.rows.proofs.RowWords.{marked-word, words-from, words-end, row-listed-whole, row-listed-short}
+
+-- ---- digits of joined words
+
+lowest-and : (p q : ℕ) → p < 2 → q < 2 → eqb (min p q) 1 ≡ (eqb p 1 && eqb q 1)
+lowest-and zero zero h l = refl
+lowest-and zero (suc zero) h l = refl
+lowest-and (suc zero) zero h l = refl
+lowest-and (suc zero) (suc zero) h l = refl
+lowest-and (suc (suc p)) q h l = absurd (omega arith)
+lowest-and zero (suc (suc q)) h l = absurd (omega arith)
+lowest-and (suc zero) (suc (suc q)) h l = absurd (omega arith)
+
+digit-and : (x y m : ℕ) → digit (bitAnd x y) m ≡ (digit x m && digit y m)
+unfolding digit
+digit-and x y m =
+    let p = x / 2 ^ m in
+    let q = y / 2 ^ m in
+    let low : bitAnd p q % 2 ≡ min (p % 2) (q % 2) = omega (arith, and-step p q) in
+    ap (λ (z : ℕ). eqb (z % 2) 1) (and-shr x y m) ∙ ap (λ (z : ℕ). eqb z 1) low ∙ lowest-and (p % 2) (q % 2) (omega arith) (omega arith)
+
+lowest-xor : (p q : ℕ) → p < 2 → q < 2 → eqb (differ p q) 1 ≡ cond (eqb p 1) (not (eqb q 1)) (eqb q 1)
+lowest-xor zero zero h l = refl
+lowest-xor zero (suc zero) h l = refl
+lowest-xor (suc zero) zero h l = refl
+lowest-xor (suc zero) (suc zero) h l = refl
+lowest-xor (suc (suc p)) q h l = absurd (omega arith)
+lowest-xor zero (suc (suc q)) h l = absurd (omega arith)
+lowest-xor (suc zero) (suc (suc q)) h l = absurd (omega arith)
+
+digit-xor : (x y m : ℕ) → digit (bitXor x y) m ≡ cond (digit x m) (not (digit y m)) (digit y m)
+unfolding digit
+digit-xor x y m =
+    let p = x / 2 ^ m in
+    let q = y / 2 ^ m in
+    let small : differ (p % 2) (q % 2) < 2 = differ-small (p % 2) (q % 2) (omega arith) (omega arith) in
+    let low : bitXor p q % 2 ≡ differ (p % 2) (q % 2) = omega (arith, xor-step p q) in
+    ap (λ (z : ℕ). eqb (z % 2) 1) (xor-shr x y m) ∙ ap (λ (z : ℕ). eqb z 1) low ∙ lowest-xor (p % 2) (q % 2) (omega arith) (omega arith)
+  where
+    differ-small : (p q : ℕ) → p < 2 → q < 2 → differ p q < 2
+    differ-small zero q h l = l
+    differ-small (suc p) zero h l = h
+    differ-small (suc zero) (suc q) h l = omega arith
+    differ-small (suc (suc p)) (suc q) h l = absurd (omega arith)
+
+digit-left : (row w m : ℕ) → digit (word-left row w) m ≡ (digit w m && not (digit row m))
+unfolding word-left
+digit-left row w m = digit-xor w (bitAnd row w) m ∙ rw (digit-and row w m) (go (digit w m) (digit row m))
+  where
+    go : (a b : Bool) → cond a (not (b && a)) (b && a) ≡ (a && not b)
+    go true true = refl
+    go true false = refl
+    go false true = refl
+    go false false = refl
+
+-- ---- one radio
+
+pub in-set-shift : (ws : List ℕ) (v : ℕ) → eqb (bitAnd (getD ws (v / 64) 0 / 2 ^ (v % 64)) 1) 1 ≡ in-set ws v
+unfolding in-set digit
+in-set-shift ws v = ap (λ (x : ℕ). eqb x 1) (and-mask (getD ws (v / 64) 0 / 2 ^ (v % 64)) 1)
+
+pub in-set-past : (ws : List ℕ) (v : ℕ) → length ws ≤ v / 64 → in-set ws v ≡ false
+unfolding in-set
+in-set-past ws v h = rw (List·getD-eq-default ws 0 h) (digit-nothing (v % 64))
+
+-- a radio of a set of eight words
+pub in-set-radio : (ws : List ℕ) (v : ℕ) → length ws ≡ 8 → in-set ws v ≡ true → v < max-radios
+in-set-radio ws v long h = go (bool-cases (ltb v max-radios))
+  where
+    go : (ltb v max-radios ≡ true) ⊎ (ltb v max-radios ≡ false) → v < max-radios
+    go (inl e) = ltb-true v max-radios e
+    go (inr e) = let z : true ≡ false = sym h ∙ in-set-past ws v (omega (arith, ltb-false v max-radios e)) in absurd (different z)
+      where
+        different : true ≡ false → ⊥
+        different q = let n : _≡_ {A = ℕ} 0 1 = cc in omega arith
+
+mask-value : (v : ℕ) → 1 * 2 ^ (v % 64) % 18446744073709551616 ≡ 2 ^ (v % 64)
+mask-value v = ap (λ (x : ℕ). x % 18446744073709551616) (one-mul (2 ^ (v % 64))) ∙ mod-eq-of-lt (pow-lt (mod-lt v (zero-lt-suc 63)))
+
+pub take-out-mask : (ws : List ℕ) (v : ℕ) → getD ws (v / 64) 0 < 18446744073709551616
+    → set ws (v / 64) (bitAnd (getD ws (v / 64) 0) (18446744073709551615 - 1 * 2 ^ (v % 64) % 18446744073709551616)) ≡ take-out v ws
+unfolding take-out
+take-out-mask ws v h = rw (mask-value v, put-digit-false 64 (getD ws (v / 64) 0) (v % 64) (mod-lt v (zero-lt-suc 63)) h)
+
+pub take-out-past : (ws : List ℕ) (v : ℕ) → length ws ≤ v / 64 → take-out v ws ≡ ws
+unfolding take-out
+take-out-past ws v h = set-out ws (v / 64) (put-digit false (getD ws (v / 64) 0) (v % 64)) h
+
+pub length-take-out : (v : ℕ) (ws : List ℕ) → length (take-out v ws) ≡ length ws
+unfolding take-out
+length-take-out v ws = length-set ws (v / 64) (put-digit false (getD ws (v / 64) 0) (v % 64))
+
+pub in-take-out : (v w : ℕ) (ws : List ℕ) → v / 64 < length ws → in-set (take-out v ws) w ≡ cond (eqb v w) false (in-set ws w)
+unfolding in-set take-out
+in-take-out v w ws l = go (bool-cases (eqb (w / 64) (v / 64)))
+  where
+    x : ℕ
+    x = put-digit false (getD ws (v / 64) 0) (v % 64)
+
+    go : (eqb (w / 64) (v / 64) ≡ true) ⊎ (eqb (w / 64) (v / 64) ≡ false)
+        → digit (getD (set ws (v / 64) x) (w / 64) 0) (w % 64) ≡ cond (eqb v w) false (digit (getD ws (w / 64) 0) (w % 64))
+    go (inl e) =
+        let q : w / 64 ≡ v / 64 = eqb-true (w / 64) (v / 64) e in
+        let same : eqb (v % 64) (w % 64) ≡ eqb v w =
+        iff-eq (eqb (v % 64) (w % 64)) (eqb v w) (λ z. eq-eqb v w (omega (arith, eqb-true (v % 64) (w % 64) z))) (λ z. eq-eqb (v % 64) (w % 64) (omega (arith, eqb-true v w z))) in
+        rw (q, getD-set-same ws (v / 64) x 0 l, digit-put-digit false (getD ws (v / 64) 0) (v % 64) (w % 64), same)
+    go (inr e) =
+        let d = eqb-false (w / 64) (v / 64) e in
+        rw (getD-set-other ws (v / 64) (w / 64) x 0 d, ne-eqb v w (λ z. d (ap (λ (u : ℕ). u / 64) (sym z))))
+
+-- ---- the radios of a row, taken word by word
+
+module _ (row k : ℕ) (ws list : List ℕ) (n : ℕ) where
+  abbrev word : ℕ
+  word = bitAnd row (getD ws k 0)
+
+  -- a word without radios of the set
+  pub nothing-of-word : n ≤ length list → word ≡ 0
+      → (n ≡ min (length list) (n + length (set-bits 64 (64 * k) word))) × ((list ≡ sets list n (set-bits 64 (64 * k) word)) × (ws ≡ word-taken k row ws))
+  unfolding word-taken word-left
+  nothing-of-word room e =
+      let none = set-bits-nothing 64 (64 * k) in
+      rw (e, none) (omega arith, (refl, sym (ap (set ws k) (xor-zero-r (getD ws k 0)) ∙ set-getD ws k 0)))
+
+  pub some-of-word : (m : ℕ) (new : List ℕ) → n ≤ length list → m ≡ min (length list - n) (length (set-bits 64 (64 * k) word))
+      → new ≡ sets list n (set-bits 64 (64 * k) word)
+      → (n + m ≡ min (length list) (n + length (set-bits 64 (64 * k) word))) × ((new ≡ sets list n (set-bits 64 (64 * k) word))
+      × (set ws k (bitXor (getD ws k 0) word) ≡ word-taken k row ws))
+  unfolding word-taken word-left
+  some-of-word m new room e f = (omega (arith, e), (f, refl))
+
+-- nothing of a row that is not whole, and nothing of a set of another size
+pub nothing-taken : (ts : List ℕ) (a : ℕ) (ws list : List ℕ) → taken-by ts a ws ≡ [] → Row-taken ts a ws list 0 ws list
+unfolding overwrite member
+nothing-taken ts a ws list e = record {
+  counted = omega (arith, ap length e);
+  listed = rw e (nothing (length list));
+  left = λ w. rw e (and-true (in-set ws w));
+}
+  where
+    nothing : (k : ℕ) → list ≡ overwrite (take k []) list
+    nothing zero = refl
+    nothing (suc k) = refl
+
+    and-true : (b : Bool) → b ≡ (b && true)
+    and-true true = refl
+    and-true false = refl
+
+pub taken-by-short : (ts : List ℕ) (a : ℕ) (ws : List ℕ) → length ts < row-bytes * a + row-bytes → taken-by ts a ws ≡ []
+unfolding taken-by filter
+taken-by-short ts a ws h = rw (row-listed-short ts a h) (go (eqb (length ws) 8))
+  where
+    go : (t : Bool) → cond t (filter (in-set ws) []) [] ≡ []
+    go true = refl
+    go false = refl
+
+pub taken-by-other : (ts : List ℕ) (a : ℕ) (ws : List ℕ) → (length ws ≡ 8 → ⊥) → taken-by ts a ws ≡ []
+unfolding taken-by
+taken-by-other ts a ws h = rw (ne-eqb (length ws) 8 h)
+
+pub taken-by-filter : (ts : List ℕ) (a : ℕ) (ws : List ℕ) → length ws ≡ 8 → taken-by ts a ws ≡ filter (in-set ws) (row-listed ts a)
+unfolding taken-by
+taken-by-filter ts a ws h = rw (eq-eqb (length ws) 8 h)
+
+module _ (ts : List ℕ) (a : ℕ) (ws : List ℕ) where
+  -- row a marks b, and the set has it
+  abbrev both : ℕ → Bool
+  both b = marked ts a b && in-set ws b
+
+  -- radios of both from word k on
+  abbrev both-from : ℕ → List ℕ
+  both-from k = filter both (range (64 * k) (max-radios - 64 * k))
+
+  -- words before word k are done: their radios listed and taken out
+  pub record Row-taking (old : List ℕ) (n k : ℕ) (us list : List ℕ) : Type 0 where
+    pub low : k ≤ 8
+    pub long : length us ≡ 8
+    pub few : n ≤ 64 * k
+    pub done : (j : ℕ) → j < k → getD us j 0 ≡ word-left (row-word 8 ts (row-bytes * a + 8 * j)) (getD ws j 0)
+    pub same : (j : ℕ) → k ≤ j → getD us j 0 ≡ getD ws j 0
+    pub listing : Partial-listing (both-from 0) 0 old (both-from k) n list
+
+  pub row-taking-none : (old : List ℕ) → length ws ≡ 8 → Row-taking old 0 0 ws old
+  row-taking-none old h = record {
+    low = omega arith;
+    long = h;
+    few = omega arith;
+    done = λ j l. absurd (omega arith);
+    same = λ j l. refl;
+    listing = partial-none (both-from 0) 0 old (omega arith);
+  }
+
+  taken-by-both : row-bytes * a + row-bytes ≤ length ts → length ws ≡ 8 → taken-by ts a ws ≡ both-from 0
+  unfolding neighbours-of
+  taken-by-both h l =
+      taken-by-filter ts a ws l ∙ ap (filter (in-set ws)) (row-listed-whole ts a h) ∙ (filter-filter (in-set ws) (λ b. marked ts a b) (range 0 max-radios))
+
+  module _ (bytes : (j : ℕ) → getD ts j 0 < 256) where
+    both-word : (k m : ℕ) → m < 64 → both (64 * k + m) ≡ digit (bitAnd (row-word 8 ts (row-bytes * a + 8 * k)) (getD ws k 0)) m
+    unfolding in-set
+    both-word k m h =
+        let q : (64 * k + m) / 64 ≡ k = omega arith in
+        let r : (64 * k + m) % 64 ≡ m = omega arith in
+        rw (q, r, marked-word ts bytes a k m h) (sym (digit-and (row-word 8 ts (row-bytes * a + 8 * k)) (getD ws k 0) m))
+
+    pub row-taking-turn : (old : List ℕ) (n k w m : ℕ) (us list vs new : List ℕ) → k < 8 → w ≡ row-word 8 ts (row-bytes * a + 8 * k)
+        → m ≡ min (length list) (n + length (set-bits 64 (64 * k) (bitAnd w (getD us k 0))))
+        → new ≡ sets list n (set-bits 64 (64 * k) (bitAnd w (getD us k 0))) → vs ≡ word-taken k w us
+        → Row-taking old n k us list → Row-taking old m (k + 1) vs new
+    unfolding word-taken
+    row-taking-turn old n k w m us list vs new l e f g v i =
+        let row = row-word 8 ts (row-bytes * a + 8 * k) in
+        let bits = set-bits 64 (64 * k) (bitAnd row (getD ws k 0)) in
+        let here : bitAnd w (getD us k 0) ≡ bitAnd row (getD ws k 0) = rw (e, i .same k (omega arith)) in
+        let split : both-from k ≡ bits ++ both-from (k + 1) = words-from both k (bitAnd row (getD ws k 0)) l (both-word k) in
+        let rest : Partial-listing (both-from 0) 0 old (bits ++ both-from (k + 1)) n list = rw split at (i .listing) in
+        record {
+          low = omega arith;
+          long = ap length v ∙ length-set us k (word-left w (getD us k 0)) ∙ i .long;
+          few = omega (arith, f, length-set-bits-le 64 (64 * k) (bitAnd w (getD us k 0)), i .few);
+          done = λ j h. done j h (bool-cases (eqb j k));
+          same = λ j h. ap (λ (z : List ℕ). getD z j 0) v ∙ getD-set-other us k j (word-left w (getD us k 0)) 0 (λ z. omega arith) ∙ i .same j (omega arith);
+          listing = rw (f, g, here) (partial-part bits (both-from (k + 1)) n list rest);
+        }
+      where
+        done : (j : ℕ) → j < k + 1 → (eqb j k ≡ true) ⊎ (eqb j k ≡ false)
+            → getD vs j 0 ≡ word-left (row-word 8 ts (row-bytes * a + 8 * j)) (getD ws j 0)
+        done j h (inl z) =
+            let q : j ≡ k = eqb-true j k z in
+            rw (q, v, getD-set-same us k (word-left w (getD us k 0)) 0 (omega (arith, i .long)), e, i .same k (omega arith))
+        done j h (inr z) =
+            let q = eqb-false j k z in
+            ap (λ (y : List ℕ). getD y j 0) v ∙ getD-set-other us k j (word-left w (getD us k 0)) 0 q ∙ i .done j (omega arith)
+
+    left-inside : (us : List ℕ) → ((j : ℕ) → j < 8 → getD us j 0 ≡ word-left (row-word 8 ts (row-bytes * a + 8 * j)) (getD ws j 0))
+        → (v : ℕ) → v < max-radios → in-set us v ≡ (in-set ws v && not (marked ts a v))
+    unfolding in-set
+    left-inside us done v l =
+        let p : v ≡ 64 * (v / 64) + v % 64 = omega arith in
+        let word = row-word 8 ts (row-bytes * a + 8 * (v / 64)) in
+        let row : marked ts a v ≡ digit word (v % 64) = ap (marked ts a) p ∙ marked-word ts bytes a (v / 64) (v % 64) (omega arith) in
+        ap (λ (x : ℕ). digit x (v % 64)) (done (v / 64) (omega arith)) ∙ digit-left word (getD ws (v / 64) 0) (v % 64)
+        ∙ ap (λ (b : Bool). digit (getD ws (v / 64) 0) (v % 64) && not b) (sym row)
+
+    left-out : (us : List ℕ) → length ws ≡ 8 → length us ≡ 8
+        → ((j : ℕ) → j < 8 → getD us j 0 ≡ word-left (row-word 8 ts (row-bytes * a + 8 * j)) (getD ws j 0))
+        → (v : ℕ) → in-set us v ≡ (in-set ws v && not (member v (both-from 0)))
+    left-out us lw lu done v = go (bool-cases (ltb v max-radios))
+      where
+        bool : (s r : Bool) → (s && not r) ≡ (s && not (r && s))
+        bool true true = refl
+        bool true false = refl
+        bool false r = refl
+
+        go : (ltb v max-radios ≡ true) ⊎ (ltb v max-radios ≡ false) → in-set us v ≡ (in-set ws v && not (member v (both-from 0)))
+        go (inl e) =
+            let l = ltb-true v max-radios e in
+            left-inside us done v l ∙ bool (in-set ws v) (marked ts a v)
+            ∙ ap (λ (b : Bool). in-set ws v && not b) (sym (member-filter both (range 0 max-radios) v (in-range 0 max-radios v (omega arith) (omega arith))))
+        go (inr e) =
+            let l = ltb-false v max-radios e in
+            rw (in-set-past us v (omega arith), in-set-past ws v (omega arith))
+
+    pub row-taking-end : (old : List ℕ) (n k : ℕ) (us list : List ℕ) → 8 ≤ k → row-bytes * a + row-bytes ≤ length ts → length ws ≡ 8
+        → Row-taking old n k us list → Row-taken ts a ws old n us list
+    row-taking-end old n k us list h whole long i =
+        let none : both-from k ≡ [] = words-end both k h in
+        let all = taken-by-both whole long in
+        let ended = partial-end (both-from k) n list none (i .listing) in
+        record {
+          counted = omega (arith, ended .0, ap length all);
+          listed = ended .1 ∙ sets-front old (both-from 0) ∙ ap (λ (xs : List ℕ). overwrite (take (length old) xs) old) (sym all);
+          left = λ v. left-out us long (i .long) (λ j l. i .done j (omega arith)) v ∙ ap (λ (xs : List ℕ). in-set ws v && not (member v xs)) (sym all);
+        }
+
+-- ---- the radios that one of two sets has
+
+pub gone-first : (x y : List ℕ) → (length x ≡ 8 → ⊥) → gone x y ≡ []
+unfolding gone
+gone-first x y h = rw (ne-eqb (length x) 8 h)
+
+pub gone-second : (x y : List ℕ) → length x ≡ 8 → (length y ≡ 8 → ⊥) → gone x y ≡ []
+unfolding gone
+gone-second x y l h = rw (eq-eqb (length x) 8 l, ne-eqb (length y) 8 h)
+
+pub nothing-gone : (x y list : List ℕ) → gone x y ≡ [] → Gone-listed x y list 0 list
+unfolding overwrite
+nothing-gone x y list e = record { counted = omega (arith, ap length e); listed = rw e (nothing (length list)) }
+  where
+    nothing : (k : ℕ) → list ≡ overwrite (take k []) list
+    nothing zero = refl
+    nothing (suc k) = refl
+
+module _ (x y : List ℕ) where
+  abbrev one-from : ℕ → List ℕ
+  one-from k = filter (in-one x y) (range (64 * k) (max-radios - 64 * k))
+
+  one-word : (k m : ℕ) → m < 64 → in-one x y (64 * k + m) ≡ digit (bitXor (getD x k 0) (getD y k 0)) m
+  unfolding in-one in-set
+  one-word k m h =
+      let q : (64 * k + m) / 64 ≡ k = omega arith in
+      let r : (64 * k + m) % 64 ≡ m = omega arith in
+      rw (q, r) (sym (digit-xor (getD x k 0) (getD y k 0) m))
+
+  pub record Gone-listing (old : List ℕ) (n k : ℕ) (list : List ℕ) : Type 0 where
+    pub low : k ≤ 8
+    pub few : n ≤ 64 * k
+    pub listing : Partial-listing (one-from 0) 0 old (one-from k) n list
+
+  pub gone-listing-none : (old : List ℕ) → Gone-listing old 0 0 old
+  gone-listing-none old = record { low = omega arith; few = omega arith; listing = partial-none (one-from 0) 0 old (omega arith) }
+
+  pub gone-listing-turn : (old : List ℕ) (n k m : ℕ) (list new : List ℕ) → k < 8
+      → m ≡ min (length list - n) (length (set-bits 64 (64 * k) (bitXor (getD x k 0) (getD y k 0))))
+      → new ≡ sets list n (set-bits 64 (64 * k) (bitXor (getD x k 0) (getD y k 0))) → Gone-listing old n k list → Gone-listing old (n + m) (k + 1) new
+  gone-listing-turn old n k m list new l f g i =
+      let bits = set-bits 64 (64 * k) (bitXor (getD x k 0) (getD y k 0)) in
+      let split : one-from k ≡ bits ++ one-from (k + 1) = words-from (in-one x y) k (bitXor (getD x k 0) (getD y k 0)) l (one-word k) in
+      let rest : Partial-listing (one-from 0) 0 old (bits ++ one-from (k + 1)) n list = rw split at (i .listing) in
+      let count : n + m ≡ min (length list) (n + length bits) = omega (arith, f, i .listing .inside, i .listing .long) in
+      record {
+        low = omega arith;
+        few = omega (arith, f, length-set-bits-le 64 (64 * k) (bitXor (getD x k 0) (getD y k 0)), i .few);
+        listing = rw (count, g) (partial-part bits (one-from (k + 1)) n list rest);
+      }
+
+  pub gone-listing-end : (old : List ℕ) (n k : ℕ) (list : List ℕ) → 8 ≤ k → length x ≡ 8 → length y ≡ 8 → Gone-listing old n k list → Gone-listed x y old n list
+  unfolding gone
+  gone-listing-end old n k list h lx ly i =
+      let none : one-from k ≡ [] = words-end (in-one x y) k h in
+      let all : gone x y ≡ one-from 0 = rw (eq-eqb (length x) 8 lx, eq-eqb (length y) 8 ly) in
+      let ended = partial-end (one-from k) n list none (i .listing) in
+      record {
+        counted = omega (arith, ended .0, ap length all);
+        listed = ended .1 ∙ sets-front old (one-from 0) ∙ ap (λ (xs : List ℕ). overwrite (take (length old) xs) old) (sym all);
+      }

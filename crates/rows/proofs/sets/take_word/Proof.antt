@@ -1,0 +1,28 @@
+-- `sets::take_word` meets its contract: a word without radios of the set changes nothing, any other one is listed and taken out.
+use native.Mathlib.Omega.{arith}
+use borrow.Author.Needs.{needs}
+use Rattle.rows.proofs.SetLaws.{nothing-of-word, some-of-word}
+use Rattle.rows.proofs.sets.take_word.Statement.{statement}
+use Rattle.rows.proofs.sets.take_word.Tie as tie
+
+returns : tie.Need-returns
+returns c =
+    let start = c .before .before .before .before in
+    nothing-of-word (start .args .row) (start .args .k) (start .args .set .now) (start .args .list .now) (start .args .n) (start .pre .2) (c .if1 .taken)
+
+add-result : tie.Need-add-result
+add-result c =
+    let start = c .before .before .before .before .before .before .before .before .before in
+    omega (arith, start .pre .2, c .before .before .list-word .ensures .0)
+
+returns-2 : tie.Need-returns-2
+returns-2 c =
+    let start = c .before .before .before .before .before .before .before .before .before in
+    some-of-word (start .args .row) (start .args .k) (start .args .set .now) (start .args .list .now) (start .args .n) _ _ (start .pre .2)
+    (c .before .before .list-word .ensures .0) (c .before .before .list-word .ensures .1)
+
+pub take-word-spec : {M : Type 1} → statement M
+take-word-spec =
+    tie.close (
+    tie.spec (λ c. search needs) (λ c. search needs) returns (λ c. search needs) (λ c. search needs) (λ c. search needs) (λ c. search needs)
+    (λ c. search needs) (λ c κs. search needs) (λ c. search needs) add-result (λ c. search needs) (λ c. search needs) returns-2)

@@ -1,0 +1,96 @@
+// Sets of radios as eight words, a bit for each radio: tested, taken out of, by rows too, and listed.
+ghost use mathlib.Core.Path.{_≡_};
+ghost use Prim.Native.Nat.{_+_, _*_, _≤_, _<_, min};
+ghost use lib.ListN.{length, getD};
+ghost use lib.Bits.{bitAnd};
+ghost use lib.Seq.{sets};
+ghost use Rattle.rows.specs.Rows.{set-bits};
+ghost use Rattle.rows.specs.Sets.{in-set, take-out, word-taken, Row-taken, Gone-listed};
+
+// Whether v is in the set; past its words it is not.
+pub fn is_in(set: &[u64], v: u32) -> bool
+    ensures { λ r. ⌜ r ≡ in-set (now (set .entry)) v ⌝ }
+{
+    let at = (v / crate::WORD_BITS) as usize;
+    if at < set.len() {
+        set[at] >> (v % crate::WORD_BITS) & 1 == 1
+    } else {
+        false
+    }
+}
+
+// Takes v out of the set; past its words nothing changes.
+pub fn take_out(set: &mut [u64], v: u32)
+    ensures { λ _. ⌜ now (set .exit) ≡ take-out v (now (set .entry)) ⌝ }
+{
+    let at = (v / crate::WORD_BITS) as usize;
+    if at < set.len() {
+        set[at] &= !((1 as u64) << (v % crate::WORD_BITS));
+    }
+}
+
+// Takes the radios that word k of a row marks out of word k of the set, and writes them into the list from place n on, as many as
+// fit. Comes back with the count of entries so far.
+fn take_word(row: u64, k: u32, set: &mut [u64], list: &mut [u16], n: usize) -> usize
+    requires { ⌜ (k < 8) × (length (now set) ≡ 8) × (n ≤ length (now list)) × (n ≤ 64 * k) ⌝ }
+    ensures counted { λ r. ⌜ r ≡ min (length (now (list .entry))) (n + length (set-bits 64 (64 * k) (bitAnd row (getD (now (set .entry)) k 0)))) ⌝ }
+    ensures listed { λ _. ⌜ now (list .exit) ≡ sets (now (list .entry)) n (set-bits 64 (64 * k) (bitAnd row (getD (now (set .entry)) k 0))) ⌝ }
+    ensures left { λ _. ⌜ now (set .exit) ≡ word-taken k row (now (set .entry)) ⌝ }
+{
+    let at = k as usize;
+    let word = row & set[at];
+    if word == 0 {
+        return n;
+    }
+    set[at] = set[at] ^ word;
+    n + crate::list_word(word, crate::WORD_BITS * k, list, n) as usize
+}
+
+// Takes the radios that row a marks out of the set, writes them into the list, ascending, as many as fit, and comes back with how
+// many it wrote; later entries keep their content. Where the row is not whole in the table, or the set is not eight words, nothing
+// changes and the count is 0.
+pub fn take_row(links: &[u8], a: u32, set: &mut [u64], list: &mut [u16]) -> usize
+    ensures { λ r. ⌜ Row-taken (now (links .entry)) a (now (set .entry)) (now (list .entry)) r (now (set .exit)) (now (list .exit)) ⌝ }
+{
+    let start = mesh::Site::ROW_BYTES * a as usize;
+    if links.len() < start + mesh::Site::ROW_BYTES {
+        return 0;
+    }
+    if set.len() != crate::ROW_WORDS as usize {
+        return 0;
+    }
+    let mut n: usize = 0;
+    let mut k: u32 = 0;
+    while k < crate::ROW_WORDS {
+        n = take_word(
+            crate::word_at(links, start + 8 * k as usize),
+            k,
+            set,
+            list,
+            n,
+        );
+        k += 1;
+    }
+    n
+}
+
+// Writes the radios that one of two sets has and the other not into the list, ascending, as many as fit, and comes back with how
+// many it wrote; later entries keep their content. Where one of the sets is not eight words nothing is written.
+pub fn list_gone<'a>(whole: &'a [u64], rest: &'a [u64], list: &mut [u16]) -> u32
+    ensures { λ r. ⌜ Gone-listed (now (whole .entry)) (now (rest .entry)) (now (list .entry)) r (now (list .exit)) ⌝ }
+{
+    if whole.len() != crate::ROW_WORDS as usize {
+        return 0;
+    }
+    if rest.len() != crate::ROW_WORDS as usize {
+        return 0;
+    }
+    let mut n: usize = 0;
+    let mut k: u32 = 0;
+    while k < crate::ROW_WORDS {
+        let at = k as usize;
+        n += crate::list_word(whole[at] ^ rest[at], crate::WORD_BITS * k, list, n) as usize;
+        k += 1;
+    }
+    n as u32
+}
