@@ -68,5 +68,5 @@ linking-turn n m bs ts after j a b small p l pair s e =
     (sym (link-eq (image-link n bs j) (link-of a b) (sym (pair .low)) (sym (pair .high))))
     ∙ ap (λ (ls : List Link). links-table (graph n ls)) (sym (links-one-more n bs j))
 
-pub linking-end : (n m : ℕ) (bs ts : List ℕ) (j : ℕ) → Linking n bs ts j → j ≤ m → m ≤ j → ts ≡ links-table (graph n (links-up-to n bs m))
-linking-end n m bs ts j s h k = let e : j ≡ m = omega arith in s ∙ ap (λ (i : ℕ). links-table (graph n (links-up-to n bs i))) e
+pub linking-at : (n : ℕ) (bs ts : List ℕ) (i j : ℕ) → Linking n bs ts i → i ≡ j → Linking n bs ts j
+linking-at n bs ts i j s e = s ∙ ap (λ (k : ℕ). links-table (graph n (links-up-to n bs k))) e

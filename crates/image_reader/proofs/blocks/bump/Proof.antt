@@ -1,8 +1,8 @@
--- `site::bump` meets its contract: one store either way.
+-- `blocks::bump` meets its contract: one store either way.
 use native.Mathlib.Nat.{add-zero}
 use borrow.Author.Needs.{needs}
-use Rattle.image_reader.proofs.site.bump.Statement.{statement}
-use Rattle.image_reader.proofs.site.bump.Tie as tie
+use Rattle.image_reader.proofs.blocks.bump.Statement.{statement}
+use Rattle.image_reader.proofs.blocks.bump.Tie as tie
 
 pub bump-spec : {M : Type 1} → statement M
 bump-spec =
