@@ -1,5 +1,5 @@
 -- Laws of a block's check.
--- In order: the sum byte by byte, four bytes as one number, a block tested, blocks tested one after the other.
+-- In order: the sum byte by byte, four bytes as one number, a block tested, tests one after the other, with and without a stop.
 use mathlib.Core.Path.{_≡_, refl, sym, ap, ap₂, _∙_}
 use mathlib.Core.Bool.{Bool, true, false, _&&_}
 use mathlib.Core.List.{List, [], _∷_}
@@ -14,10 +14,10 @@ use borrow.Author.Tests.{eqb-true, eq-eqb}
 use Rattle.lists.specs.Lists.{range, all, same}
 use Rattle.mesh.specs.Image.{block-bytes, weighted-sum, check-sum, block-check, long}
 use Rattle.lists.proofs.Tests.{iff-eq}
-use Rattle.lists.proofs.All.{same-eq, same-refl}
+use Rattle.lists.proofs.All.{same-eq, same-refl, all-append}
+use Rattle.lists.proofs.Range.{range-suc}
 use Rattle.mesh.proofs.Images.Laws.{check-sum-snoc}
 use Rattle.mesh.proofs.Images.Words.{long-of-long, check-sum-less}
-use Rattle.lists.proofs.Parts.{take-min}
 use Rattle.image.specs.Bytes.{long-at}
 
 abbrev pub Small : List ℕ → Type 0
@@ -148,3 +148,31 @@ module _ (f : ℕ → Bool) (n i : ℕ) (t : Testing f n i) where
   pub testing-end : n ≤ i → all f (range 0 n) ≡ true
   unfolding range all
   testing-end h = let e : n - i ≡ 0 = omega arith in t .is ∙ rw e
+
+-- ---- the same test without a stop: r is the answer of the first v
+
+pub record Passing (f : ℕ → Bool) (n : ℕ) (r : Bool) (v : ℕ) : Type 0 where
+  pub low : v ≤ n
+  pub is : r ≡ all f (range 0 v)
+
+pub passing-none : (f : ℕ → Bool) (n : ℕ) → Passing f n true 0
+unfolding range all
+passing-none f n = record { low = omega arith; is = refl }
+
+one-test-more : (f : ℕ → Bool) (v : ℕ) → all f (range 0 (v + 1)) ≡ (all f (range 0 v) && f v)
+unfolding all
+one-test-more f v =
+    let z : 0 + v ≡ v = omega arith in
+    ap (λ (k : ℕ). all f (range 0 k)) (add-one v) ∙ ap (all f) (range-suc 0 v) ∙ all-append f (range 0 v) ((0 + v) ∷ []) ∙ rw z (drop-true (all f (range 0 v)) (f v))
+  where
+    drop-true : (b c : Bool) → (b && (c && true)) ≡ (b && c)
+    drop-true true true = refl
+    drop-true true false = refl
+    drop-true false c = refl
+
+pub passing-turn : (f : ℕ → Bool) (n : ℕ) (r : Bool) (v : ℕ) → Passing f n r v → v < n → Passing f n (r && f v) (v + 1)
+passing-turn f n r v p l =
+    record { low = omega arith; is = ap (λ (b : Bool). b && f v) (p .is) ∙ sym (one-test-more f v) }
+
+pub passing-end : (f : ℕ → Bool) (n : ℕ) (r : Bool) (v : ℕ) → Passing f n r v → n ≤ v → r ≡ all f (range 0 n)
+passing-end f n r v p h = let e : v ≡ n = omega (arith, p .low) in p .is ∙ ap (λ (k : ℕ). all f (range 0 k)) e

@@ -2,11 +2,10 @@
 use mathlib.Core.Path.{_≡_, refl, sym, ap, _∙_}
 use mathlib.Core.Logic.{_↔_}
 use mathlib.Core.Bool.{Bool, true, false, _&&_}
-use mathlib.Core.List.{List, [], _∷_, map}
+use mathlib.Core.List.{List, [], map}
 use Prim.Native.Nat.{ℕ, suc, _+_, _≤_, _<_, min}
 use native.Mathlib.Omega.{arith}
 use native.Mathlib.Nat.{add-zero}
-use native.Mathlib.Numerals.{add-one}
 use lib.Dec.{ltb, leb}
 use lib.ListN.{length, getD, drop, replicate, getD-replicate}
 use borrow.Author.Tests.{lt-ltb, leb-true, le-leb, lt-leb}
@@ -18,8 +17,8 @@ use Rattle.mesh.specs.Orders.{each-once, rising, few-later, is-k-order, running
 use Rattle.lists.proofs.Tests.{never, iff-eq, ltb-next}
 use Rattle.lists.proofs.Member.{in-member, in-getD}
 use Rattle.lists.proofs.Count.{count-ext, count-all, count-cong}
-use Rattle.lists.proofs.All.{all-append, all-below, below-all, all-range-ext}
-use Rattle.lists.proofs.Range.{range-suc, once-below, once-length}
+use Rattle.lists.proofs.All.{all-below, below-all, all-range-ext}
+use Rattle.lists.proofs.Range.{once-below, once-length}
 use Rattle.mesh.proofs.GraphLaws.{linked-self, linked-by-proper, proper-of, degree-in}
 use Rattle.mesh.proofs.Cores.Orders.{each-once-of, Enough}
 use Rattle.mesh.proofs.Tables.OtherEnds.{ends-neighbours-in}
@@ -29,33 +28,7 @@ use Rattle.soundness.proofs.CheckLaws.{count-later}
 use Rattle.image_reader.specs.Site.{tallied, Tallied, few-ends, running-maxima-of, K-order-decided}
 use Rattle.image_reader.proofs.MaximaLaws.{running-maxima-of-counts}
 
--- ---- a test of each number below n, without a stop: the answer r of the first v
-
-pub record Passing (f : ℕ → Bool) (n : ℕ) (r : Bool) (v : ℕ) : Type 0 where
-  pub low : v ≤ n
-  pub is : r ≡ all f (range 0 v)
-
-pub passing-none : (f : ℕ → Bool) (n : ℕ) → Passing f n true 0
-unfolding range all
-passing-none f n = record { low = omega arith; is = refl }
-
-one-test-more : (f : ℕ → Bool) (v : ℕ) → all f (range 0 (v + 1)) ≡ (all f (range 0 v) && f v)
-unfolding all
-one-test-more f v =
-    let z : 0 + v ≡ v = omega arith in
-    ap (λ (k : ℕ). all f (range 0 k)) (add-one v) ∙ ap (all f) (range-suc 0 v) ∙ all-append f (range 0 v) ((0 + v) ∷ []) ∙ rw z (drop-true (all f (range 0 v)) (f v))
-  where
-    drop-true : (b c : Bool) → (b && (c && true)) ≡ (b && c)
-    drop-true true true = refl
-    drop-true true false = refl
-    drop-true false c = refl
-
-pub passing-turn : (f : ℕ → Bool) (n : ℕ) (r : Bool) (v : ℕ) → Passing f n r v → v < n → Passing f n (r && f v) (v + 1)
-passing-turn f n r v p l =
-    record { low = omega arith; is = ap (λ (b : Bool). b && f v) (p .is) ∙ sym (one-test-more f v) }
-
-pub passing-end : (f : ℕ → Bool) (n : ℕ) (r : Bool) (v : ℕ) → Passing f n r v → n ≤ v → r ≡ all f (range 0 n)
-passing-end f n r v p h = let e : v ≡ n = omega (arith, p .low) in p .is ∙ ap (λ (k : ℕ). all f (range 0 k)) e
+-- ---- entries compared
 
 abbrev pub at-most : (entries most : List ℕ) → (v : ℕ) → Bool
 at-most xs ys v = leb (getD xs v 0) (getD ys v 0)

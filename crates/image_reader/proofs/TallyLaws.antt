@@ -123,7 +123,6 @@ unfolding tallied links-up-to range other-ends count
 tallied-none n rs s bs counts long j h e z =
     record { at = λ v l. ap (λ (xs : List ℕ). getD xs v 0) e ∙ getD-replicate long v 0 0 (omega arith) ∙ rw z }
 
-
 module _ (n : ℕ) (rs : List ℕ) (s : ℕ) (bs start counts : List ℕ) (j : ℕ) (t : Tallying n rs s bs start counts j) (a b : ℕ)
     (pair : Link-at n bs j a b) (lower : a < b) (radio : b < n) (fits : n ≤ length start) where
   abbrev once : List ℕ

@@ -99,13 +99,25 @@ pub(crate) fn list_block(
         let a = word_in(image, at);
         let b = word_in(image, at + 2);
         if b <= a {
-            return Last { good: false, low, high };
+            return Last {
+                good: false,
+                low,
+                high,
+            };
         }
         if n <= b {
-            return Last { good: false, low, high };
+            return Last {
+                good: false,
+                low,
+                high,
+            };
         }
         if !is_before(low, high, a, b) {
-            return Last { good: false, low, high };
+            return Last {
+                good: false,
+                low,
+                high,
+            };
         }
         bump(counts, a, true);
         bump(counts, b, true);
@@ -113,7 +125,11 @@ pub(crate) fn list_block(
         high = b;
         i += 1;
     }
-    Last { good: true, low, high }
+    Last {
+        good: true,
+        low,
+        high,
+    }
 }
 
 // Whether the rank of v is below that of w with the slack added.

@@ -5,7 +5,7 @@ use lib.Dec.{leb}
 use lib.ListN.{length, getD}
 use borrow.Author.Needs.{needs}
 use Rattle.mesh.specs.Limits.{max-neighbours}
-use Rattle.image_reader.proofs.KOrderLaws.{Passing, passing-none, passing-turn, passing-end}
+use Rattle.image.proofs.CheckLaws.{Passing, passing-none, passing-turn, passing-end}
 use Rattle.image_reader.proofs.site.are_few.Statement.{statement}
 use Rattle.image_reader.proofs.site.are_few.Tie as tie
 

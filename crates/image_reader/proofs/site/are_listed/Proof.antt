@@ -36,8 +36,10 @@ list-block-requires c κs =
     let filled = at-loop .before .before .before .before in
     let start = filled .before .before .before .before in
     let room = start .pre in (
-      (record { most = room .most; few = room .few; whole = room .whole; counted = at-loop .loop .inv .0 ∙ filled .fill16 .kept .0 ∙ room .counted },
-          block-there _ _ _ (at-loop .before .blocks-for .ensures) (c .before .loop-test .taken)),
+      (
+        record { most = room .most; few = room .few; whole = room .whole; counted = at-loop .loop .inv .0 ∙ filled .fill16 .kept .0 ∙ room .counted },
+        block-there _ _ _ (at-loop .before .blocks-for .ensures) (c .before .loop-test .taken),
+      ),
       (at-loop .loop .inv .1, at-loop .loop .inv .2),
     )
 

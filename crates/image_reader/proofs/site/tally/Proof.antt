@@ -30,8 +30,10 @@ tally-block-requires c κs =
     let start = filled .before .before .before .before .before in
     let room = start .pre in
     let counted = at-loop .loop .inv .0 ∙ filled .fill16 .kept .0 ∙ room .counted in (
-      (record { most = room .most; few = room .few; whole = room .whole; ranked = room .ranked; counted = counted; is-proper = room .is-proper },
-          block-there _ _ _ (at-loop .before .blocks-for .ensures) (c .before .loop-test .taken)),
+      (
+        record { most = room .most; few = room .few; whole = room .whole; ranked = room .ranked; counted = counted; is-proper = room .is-proper },
+        block-there _ _ _ (at-loop .before .blocks-for .ensures) (c .before .loop-test .taken),
+      ),
       at-loop .loop .inv .1,
     )
 
