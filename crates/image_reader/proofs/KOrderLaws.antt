@@ -7,19 +7,19 @@ use Prim.Native.Nat.{ℕ, suc, _+_, _≤_, _<_, min}
 use native.Mathlib.Omega.{arith}
 use native.Mathlib.Nat.{add-zero}
 use lib.Dec.{ltb, leb}
-use lib.ListN.{length, getD, drop, replicate, getD-replicate}
-use borrow.Author.Tests.{lt-ltb, leb-true, le-leb, lt-leb}
+use lib.ListN.{length, getD, drop}
+use borrow.Author.Tests.{leb-true, le-leb}
 use Rattle.mesh.specs.Limits.{max-radios, max-neighbours}
 use Rattle.lists.specs.Lists.{range, count, all, Each-once}
 use Rattle.mesh.specs.Graph.{Link, Graph, graph, radios, other-ends, linked, neighbours-in, degree, proper, ascending}
 use Rattle.mesh.specs.Cores.{number}
 use Rattle.mesh.specs.Orders.{each-once, rising, few-later, is-k-order, running-maxima}
 use Rattle.lists.proofs.Tests.{never, iff-eq, ltb-next}
-use Rattle.lists.proofs.Member.{in-member, in-getD}
-use Rattle.lists.proofs.Count.{count-ext, count-all, count-cong}
+use Rattle.lists.proofs.Member.{in-getD}
+use Rattle.lists.proofs.Count.{count-all, count-cong}
 use Rattle.lists.proofs.All.{all-below, below-all, all-range-ext}
 use Rattle.lists.proofs.Range.{once-below, once-length}
-use Rattle.mesh.proofs.GraphLaws.{linked-self, linked-by-proper, proper-of, degree-in}
+use Rattle.mesh.proofs.GraphLaws.{linked-self, degree-in}
 use Rattle.mesh.proofs.Cores.Orders.{each-once-of, Enough}
 use Rattle.mesh.proofs.Tables.OtherEnds.{ends-neighbours-in}
 use Rattle.mesh.proofs.Cores.RunningCertificate.{is-k-order-running, running-number}

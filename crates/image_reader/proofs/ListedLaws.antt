@@ -16,8 +16,7 @@ use Rattle.lists.proofs.Tests.{bool-cases, never, trichotomy}
 use Rattle.lists.proofs.Map.{getD-map-range}
 use Rattle.mesh.proofs.Tables.AscendingLinks.{link-eq}
 use Rattle.mesh.proofs.Images.Canonical.{length-image-order}
-use Rattle.image.specs.Bytes.{order-entry, Link-at}
-use Rattle.image_reader.specs.Site.{links-up-to, passed, listed-from, Listed, Tallied, Block-listed, Links-decided, Order-read}
+use Rattle.image_reader.specs.Site.{order-entry, Link-at, links-up-to, passed, listed-from, Listed, Tallied, Block-listed, Links-decided, Order-read}
 
 -- ---- proper and ascending, link by link
 

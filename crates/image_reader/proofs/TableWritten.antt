@@ -14,8 +14,7 @@ use Rattle.mesh.proofs.GraphLaws.{ends, joins, linked-by, linked-by-cons}
 use Rattle.mesh.proofs.Tables.AscendingLinks.{link-eq}
 use Rattle.mesh.proofs.Tables.Laws.{table-eq, length-put-link, bytes-put-link, marked-put-link, length-links-table, bytes-links-table, marked-links-table}
 use Rattle.mesh.proofs.Tables.Laws.{links-table-cleared}
-use Rattle.image.specs.Bytes.{Link-at}
-use Rattle.image_reader.specs.Site.{links-up-to}
+use Rattle.image_reader.specs.Site.{Link-at, links-up-to}
 use Rattle.image_reader.proofs.TallyLaws.{links-one-more, proper-pair}
 
 -- ---- one link more, at the end of the list

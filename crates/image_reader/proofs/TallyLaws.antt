@@ -17,8 +17,7 @@ use Rattle.mesh.proofs.Tables.AscendingLinks.{link-eq}
 use Rattle.lists.proofs.Tests.{bool-cases, and-left, and-right}
 use Rattle.lists.proofs.Count.{count-append, count-le-length}
 use Rattle.lists.proofs.Range.{range-append}
-use Rattle.image.specs.Bytes.{Link-at}
-use Rattle.image_reader.specs.Site.{links-up-to, tallied, Tallied}
+use Rattle.image_reader.specs.Site.{Link-at, links-up-to, tallied, Tallied}
 use Rattle.lists.proofs.Map.{map-append}
 
 -- ---- laws of lists

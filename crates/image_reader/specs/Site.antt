@@ -1,5 +1,7 @@
 -- Question 11 as it is put to an image in place: bs is the image.
 --   links-up-to n bs m           the first m links of the image bs of n radios
+--   order-entry bs j             entry j of the order of the image bs
+--   Link-at                      a-b is link j of the image of n radios
 --   passed m q                   how many of m links stand in the first q blocks of links
 --   listed-from n p ls           the links ls are proper and stand ascending after p
 --   Listed                       whether m links are listed well is what those after the first j decide, the last of which is a-b
@@ -28,12 +30,18 @@ use Rattle.mesh.specs.Limits.{max-radios}
 use Rattle.mesh.specs.Graph.{Link, Graph, link-of, link-before, other-ends, proper, ascending}
 use Rattle.mesh.specs.Cores.{number}
 use Rattle.mesh.specs.Orders.{is-k-order}
-use Rattle.mesh.specs.Image.{block-bytes, block-links, order-blocks, block-count, image-link, image-order, image-graph, checks-good, is-image}
-use Rattle.image.specs.Bytes.{order-entry}
+use Rattle.mesh.specs.Image.{block-bytes, block-entries, block-links, order-blocks, block-count, word-at, entry-at, image-link, image-order, image-graph, checks-good, is-image}
 
 -- `image-links` of mesh is this with the image's own count
 unfoldable pub links-up-to : (n : ℕ) → (image : List ℕ) → (m : ℕ) → List Link
 links-up-to n bs m = map (image-link n bs) (range 0 m)
+
+abbrev pub order-entry : (image : List ℕ) → (j : ℕ) → ℕ
+order-entry bs j = word-at bs (entry-at 1 block-entries 2 j)
+
+pub record Link-at (n : ℕ) (image : List ℕ) (j a b : ℕ) : Type 0 where
+  pub low : a ≡ image-link n image j .low
+  pub high : b ≡ image-link n image j .high
 
 abbrev pub passed : (m q : ℕ) → ℕ
 passed m q = min m (block-links * q)

@@ -1,7 +1,6 @@
 -- `reader::put_links` meets its contract: the blocks passed are marked. The measure is the blocks left.
 use mathlib.Core.Path.{_≡_, refl, sym, _∙_}
 use Prim.Native.Nat.{_-_}
-use native.Mathlib.Omega.{arith}
 use lib.ListN.{length}
 use borrow.Author.Needs.{needs}
 use Rattle.image_reader.specs.Site.{passed}
