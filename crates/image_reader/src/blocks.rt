@@ -54,18 +54,13 @@ fn is_before(a: u32, b: u32, c: u32, d: u32) -> bool
     b < d
 }
 
-// Counts v once more where `on`.
+// Counts v once more where `on`, without a branch: no processor foretells which end of a link comes first.
 fn bump(counts: &mut [u16], v: u32, on: bool)
     requires { ⌜ (v < length (now counts)) × (getD (now counts) v 0 < 65535) ⌝ }
     ensures { λ _. ⌜ now (counts .exit) ≡ set (now (counts .entry)) v (getD (now (counts .entry)) v 0 + cond on 1 0) ⌝ }
 {
     let at = v as usize;
-    let old = counts[at];
-    if on {
-        counts[at] = old + 1;
-    } else {
-        counts[at] = old;
-    }
+    counts[at] = counts[at] + on as u16;
 }
 
 // The last link so far, and whether all so far are listed well.
