@@ -12,7 +12,7 @@ use borrow.Author.Tests.{ltb-true, lt-ltb, le-ltb, eq-eqb}
 use Rattle.lists.specs.Lists.{range}
 use Rattle.mesh.specs.Graph.{Link, link-of, link-before, proper, ascending}
 use Rattle.mesh.specs.Image.{block-bytes, block-entries, word-at, entry-at, image-link, image-order}
-use Rattle.lists.proofs.Tests.{bool-cases, never, trichotomy}
+use Rattle.lists.proofs.Tests.{bool-cases, never, and-left, and-right, trichotomy}
 use Rattle.lists.proofs.Map.{getD-map-range}
 use Rattle.mesh.proofs.Tables.AscendingLinks.{link-eq}
 use Rattle.mesh.proofs.Images.Canonical.{length-image-order}
@@ -73,18 +73,28 @@ module _ (n m : ℕ) (bs : List ℕ) (a b j : ℕ) (l : Listed n m bs a b j) (h 
       let g : image-link n bs j ≡ link-of c d = link-eq (image-link n bs j) (link-of c d) (sym (pair .low)) (sym (pair .high)) in
       l .is ∙ rw (e, f, g)
 
-  pub listed-turn : c < d → d < n → link-before (link-of a b) (link-of c d) ≡ true → Listed n m bs c d (j + 1)
-  listed-turn p q r = record { low = omega arith; is = next-link ∙ rw (lt-ltb c d p, lt-ltb d n q, r) }
+  abbrev fits : Bool
+  fits = (ltb c d && ltb d n) && link-before (link-of a b) (link-of c d)
 
-  pub listed-not-lower : d ≤ c → (proper n (links-up-to n bs m) && ascending (links-up-to n bs m)) ≡ false
-  listed-not-lower p = next-link ∙ rw (le-ltb c d p)
+  pub listed-turn : fits ≡ true → Listed n m bs c d (j + 1)
+  listed-turn e = record {
+    low = omega arith;
+    is = next-link ∙ ap (λ (x : Bool). x && listed-from n (link-of c d) (map (image-link n bs) (range (j + 1) (m - (j + 1))))) e;
+  }
 
-  pub listed-no-radio : c < d → n ≤ d → (proper n (links-up-to n bs m) && ascending (links-up-to n bs m)) ≡ false
-  listed-no-radio p q = next-link ∙ rw (lt-ltb c d p, le-ltb d n q)
+  pub fits-true : (r : Bool) → r ≡ fits → r ≡ true → fits ≡ true
+  fits-true r e f = sym e ∙ f
 
-  pub listed-not-after : c < d → d < n → link-before (link-of a b) (link-of c d) ≡ false
-      → (proper n (links-up-to n bs m) && ascending (links-up-to n bs m)) ≡ false
-  listed-not-after p q r = next-link ∙ rw (lt-ltb c d p, lt-ltb d n q, r)
+  pub listed-stop : (r : Bool) → r ≡ fits → r ≡ false → (proper n (links-up-to n bs m) && ascending (links-up-to n bs m)) ≡ false
+  listed-stop r e f = next-link ∙ ap (λ (x : Bool). x && listed-from n (link-of c d) (map (image-link n bs) (range (j + 1) (m - (j + 1))))) (sym e ∙ f)
+
+  pub lower-of : fits ≡ true → c < d
+  lower-of e =
+      ltb-true c d (and-left (ltb c d) (ltb d n) (and-left (ltb c d && ltb d n) (link-before (link-of a b) (link-of c d)) e))
+
+  pub radio-of : fits ≡ true → d < n
+  radio-of e =
+      ltb-true d n (and-right (ltb c d) (ltb d n) (and-left (ltb c d && ltb d n) (link-before (link-of a b) (link-of c d)) e))
 
 pub listed-end : (n m : ℕ) (bs : List ℕ) (a b j : ℕ) → Listed n m bs a b j → m ≤ j
     → (proper n (links-up-to n bs m) && ascending (links-up-to n bs m)) ≡ true
@@ -98,12 +108,12 @@ listed-from-at n m bs a b i j l e = subst (λ (k : ℕ). Listed n m bs a b k) e 
 
 pub block-refused : (n m q : ℕ) (bs : List ℕ) (low high : ℕ) (counts : List ℕ)
     → (proper n (links-up-to n bs m) && ascending (links-up-to n bs m)) ≡ false → Block-listed n m q bs false low high counts
-block-refused n m q bs low high counts e = record { refused = λ f. e; listed = λ f. never false f refl; ends = λ f. never false f refl }
+block-refused n m q bs low high counts e = record { refused = λ f. e; so-far = λ f. never false f refl }
 
 pub block-passed : (n m q : ℕ) (bs : List ℕ) (low high : ℕ) (counts : List ℕ) (j : ℕ) → Listed n m bs low high j → j ≡ passed m (q + 1)
     → Tallied n [] 1 (links-up-to n bs (passed m (q + 1))) counts → Block-listed n m q bs true low high counts
 block-passed n m q bs low high counts j l e t =
-    record { refused = λ f. never true refl f; listed = λ f. listed-from-at n m bs low high j (passed m (q + 1)) l e; ends = λ f. t }
+    record { refused = λ f. never true refl f; so-far = λ f. (listed-from-at n m bs low high j (passed m (q + 1)) l e, t) }
 
 -- ---- all blocks
 

@@ -12,6 +12,7 @@
 --   Links-room                   what going through the first m links and counting their ends wants
 --   Tally-room                   what counting over the first m links wants
 --   Part-is                      where the links of a block stand, and how many there are
+--   Links-so-far                 the first j links are listed well, a-b being the last, and their ends are counted
 --   Block-listed                 whether the links up to a block's end are listed well, and then the counts of their ends
 --   Links-decided                the same of all m links
 --   Order-read                   the first k entries of the image's order are read
@@ -92,10 +93,12 @@ pub record Part-is (n m q at count : ℕ) : Type 0 where
   pub up-to : block-links * q + count ≡ passed m (q + 1)
 
 -- with no ranks and a slack of 1, every link counts at both ends
+abbrev pub Links-so-far : (n m : ℕ) → (image : List ℕ) → (a b j : ℕ) → (counts : List ℕ) → Type 0
+Links-so-far n m bs a b j cs = Listed n m bs a b j × Tallied n [] 1 (links-up-to n bs j) cs
+
 pub record Block-listed (n m q : ℕ) (image : List ℕ) (good : Bool) (low high : ℕ) (counts : List ℕ) : Type 0 where
   pub refused : good ≡ false → (proper n (links-up-to n image m) && ascending (links-up-to n image m)) ≡ false
-  pub listed : good ≡ true → Listed n m image low high (passed m (q + 1))
-  pub ends : good ≡ true → Tallied n [] 1 (links-up-to n image (passed m (q + 1))) counts
+  pub so-far : good ≡ true → Links-so-far n m image low high (passed m (q + 1)) counts
 
 pub record Links-decided (n m : ℕ) (image counts : List ℕ) (r : Bool) : Type 0 where
   pub answer : r ≡ (proper n (links-up-to n image m) && ascending (links-up-to n image m))

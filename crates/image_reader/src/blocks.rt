@@ -1,15 +1,14 @@
 // The blocks of links of an image, each in one loop: where its links stand is worked out once a block. The order's blocks likewise.
 ghost use mathlib.Core.Path.{_≡_};
 ghost use Prim.Native.Nat.{_≤_, _<_, _+_, _*_, min};
-ghost use mathlib.Core.Bool.{cond};
-ghost use mathlib.Core.List.{[]};
+ghost use mathlib.Core.Bool.{_&&_, cond};
 ghost use lib.Dec.{ltb};
 ghost use lib.ListN.{length, getD, set};
 ghost use Rattle.mesh.specs.Limits.{max-radios};
 ghost use Rattle.mesh.specs.Graph.{graph, link-of, link-before};
 ghost use Rattle.mesh.specs.Tables.{links-table};
 ghost use Rattle.mesh.specs.Image.{block-bytes, block-entries, block-links, word-at};
-ghost use Rattle.image_reader.specs.Site.{links-up-to, passed, Listed, Tallied, Links-room, Tally-room, Part-is, Block-listed, Order-read};
+ghost use Rattle.image_reader.specs.Site.{links-up-to, passed, Tallied, Links-so-far, Links-room, Tally-room, Part-is, Block-listed, Order-read};
 use image::bytes;
 use image::layout;
 
@@ -63,6 +62,19 @@ fn bump(counts: &mut [u16], v: u32, on: bool)
     counts[at] = counts[at] + on as u16;
 }
 
+// Whether the link a-b may stand after the link low-high: its lower radio first, radios below n, ascending.
+fn is_next(n: u32, low: u32, high: u32, a: u32, b: u32) -> bool
+    ensures { λ r. ⌜ r ≡ ((ltb a b && ltb b n) && link-before (link-of low high) (link-of a b)) ⌝ }
+{
+    if b <= a {
+        return false;
+    }
+    if n <= b {
+        return false;
+    }
+    is_before(low, high, a, b)
+}
+
 // The last link so far, and whether all so far are listed well.
 pub(crate) struct Last {
     pub(crate) good: bool,
@@ -70,8 +82,7 @@ pub(crate) struct Last {
     pub(crate) high: u32,
 }
 
-// Whether the links of block q, the last one before them given, have their lower radio first, radios below n, and stand ascending.
-// Then they are counted at both ends.
+// Whether the links of block q, the last one before them given, are listed well. Then they are counted at both ends.
 pub(crate) fn list_block(
     image: &[u8],
     n: u32,
@@ -81,8 +92,7 @@ pub(crate) fn list_block(
     counts: &mut [u16],
 ) -> Last
     requires room { ⌜ Links-room n m (now image) (length (now counts)) × (block-links * q < m) ⌝ }
-    requires before { ⌜ Listed n m (now image) (last .low) (last .high) (passed m q) ×
-        Tallied n [] 1 (links-up-to n (now image) (passed m q)) (now counts) ⌝ }
+    requires before { ⌜ Links-so-far n m (now image) (last .low) (last .high) (passed m q) (now counts) ⌝ }
     ensures { λ r. ⌜ Block-listed n m q (now (image .entry)) (r .good) (r .low) (r .high) (now (counts .exit)) ⌝ }
 {
     let part = part_of(n, m, q);
@@ -93,21 +103,7 @@ pub(crate) fn list_block(
         let at = part.at + 4 * i;
         let a = word_in(image, at);
         let b = word_in(image, at + 2);
-        if b <= a {
-            return Last {
-                good: false,
-                low,
-                high,
-            };
-        }
-        if n <= b {
-            return Last {
-                good: false,
-                low,
-                high,
-            };
-        }
-        if !is_before(low, high, a, b) {
+        if !is_next(n, low, high, a, b) {
             return Last {
                 good: false,
                 low,

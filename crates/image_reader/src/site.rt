@@ -1,6 +1,6 @@
 // Question 11: whether the links and the order that an image lists make a site, and then the numbers. It is put to the image in
-// place: counts over the links, block by block, with a rank and a count for each radio. Tests of all entries do not stop at the first
-// no, which comes once at most: the compiler then does many at a time.
+// place: counts over the links, block by block, with a rank and a count for each radio. A test of all entries of a table does not stop
+// at the first no: the compiler then does many at a time.
 ghost use mathlib.Core.Path.{_≡_};
 ghost use mathlib.Core.Bool.{true};
 ghost use mathlib.Core.List.{map};
@@ -12,7 +12,8 @@ ghost use Rattle.mesh.specs.Limits.{max-radios, max-neighbours};
 ghost use Rattle.mesh.specs.Graph.{graph, ascending};
 ghost use Rattle.mesh.specs.Orders.{each-once};
 ghost use Rattle.mesh.specs.Image.{block-bytes, order-blocks, image-order};
-ghost use Rattle.image_reader.specs.Site.{links-up-to, Tallied, running-maxima-of, Links-room, Tally-room, Links-decided, K-order-decided, Site-room, Site-decided};
+ghost use Rattle.image_reader.specs.Site.{links-up-to, Tallied, running-maxima-of, Links-room, Tally-room};
+ghost use Rattle.image_reader.specs.Site.{Links-decided, K-order-decided, Site-room, Site-decided};
 use super::blocks;
 use super::blocks::Last;
 use image::bytes;

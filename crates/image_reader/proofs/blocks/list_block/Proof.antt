@@ -1,6 +1,6 @@
 -- `blocks::list_block` meets its contract: the block's links passed are listed well and counted, so what is left decides. The measure
 -- is its links left.
-use mathlib.Core.Path.{_≡_, refl, sym, _∙_}
+use mathlib.Core.Path.{_≡_, refl}
 use mathlib.Core.Bool.{true}
 use mathlib.Core.List.{[]}
 use Prim.Native.Nat.{_+_, _*_, _-_, _≤_}
@@ -10,7 +10,7 @@ use borrow.Author.Needs.{needs}
 use Rattle.mesh.specs.Image.{block-links}
 use Rattle.image_reader.specs.Site.{passed, Listed}
 use Rattle.image_reader.proofs.BlockLaws.{link-in, link-inside, link-index}
-use Rattle.image_reader.proofs.ListedLaws.{listed-from-at, listed-turn, listed-not-lower, listed-no-radio, listed-not-after, block-refused, block-passed}
+use Rattle.image_reader.proofs.ListedLaws.{listed-from-at, listed-turn, listed-stop, fits-true, lower-of, radio-of, block-refused, block-passed}
 use Rattle.image_reader.proofs.TallyLaws.{Tallying, tallying-from, tallying-to, tallying-two, once-fits, one-fits}
 use Rattle.image_reader.proofs.blocks.list_block.Statement.{statement}
 use Rattle.image_reader.proofs.blocks.list_block.Tie as tie
@@ -44,60 +44,44 @@ word-in-requires-2 c κs =
 
 returns : tie.Need-returns Inv-loop μ-loop
 returns c =
-    let read = c .before in
-    let at-loop = read .before .before .before .before .before in
-    let part = at-loop .before .part-of .ensures in
-    let start = at-loop .before .before .before .before in
-    let pair = link-in _ _ _ _ _ part _ _ _ _ (read .before .before .before .if1 .taken) (read .before .word-in .ensures .0) (read .word-in2 .ensures .0) in
-    let index = link-index _ _ _ _ _ part _ (read .before .before .before .if1 .taken) in
-    block-refused _ _ _ _ _ _ _ (listed-not-lower _ _ _ _ _ _ (at-loop .loop .inv .1) index _ _ pair (c .if2 .taken))
-
-returns-2 : tie.Need-returns-2 Inv-loop μ-loop
-returns-2 c =
     let read = c .before .before in
     let at-loop = read .before .before .before .before .before in
     let part = at-loop .before .part-of .ensures in
     let start = at-loop .before .before .before .before in
     let pair = link-in _ _ _ _ _ part _ _ _ _ (read .before .before .before .if1 .taken) (read .before .word-in .ensures .0) (read .word-in2 .ensures .0) in
     let index = link-index _ _ _ _ _ part _ (read .before .before .before .if1 .taken) in
-    block-refused _ _ _ _ _ _ _ (listed-no-radio _ _ _ _ _ _ (at-loop .loop .inv .1) index _ _ pair (c .before .if2 .left) (c .if3 .taken))
-
-returns-3 : tie.Need-returns-3 Inv-loop μ-loop
-returns-3 c =
-    let read = c .before .before .before .before in
-    let at-loop = read .before .before .before .before .before in
-    let part = at-loop .before .part-of .ensures in
-    let start = at-loop .before .before .before .before in
-    let pair = link-in _ _ _ _ _ part _ _ _ _ (read .before .before .before .if1 .taken) (read .before .word-in .ensures .0) (read .word-in2 .ensures .0) in
-    let index = link-index _ _ _ _ _ part _ (read .before .before .before .if1 .taken) in
-    block-refused _ _ _ _ _ _ _ (listed-not-after _ _ _ _ _ _ (at-loop .loop .inv .1) index _ _ pair (c .before .before .before .if2 .left)
-    (c .before .before .if3 .left) (sym (c .before .is-before .ensures) ∙ not-true (c .before .is-before .result) (c .if4 .taken)))
+    block-refused _ _ _ _ _ _ _
+    (listed-stop _ _ _ _ _ _ (at-loop .loop .inv .1) index _ _ pair _ (c .before .is-next .ensures) (not-true _ (c .if2 .taken)))
 
 bump-requires : tie.Need-bump-requires Inv-loop μ-loop
 bump-requires c κs =
-    let read = c .before .before .before .before .before in
+    let read = c .before .before .before in
     let at-loop = read .before .before .before .before .before in
     let part = at-loop .before .part-of .ensures in
     let start = at-loop .before .before .before .before in
     let pair = link-in _ _ _ _ _ part _ _ _ _ (read .before .before .before .if1 .taken) (read .before .word-in .ensures .0) (read .word-in2 .ensures .0) in
     let index = link-index _ _ _ _ _ part _ (read .before .before .before .if1 .taken) in
-    let lower = c .before .before .before .before .if2 .left in
-    let radio = c .before .before .before .if3 .left in (
+    let else2 = c .before in
+    let fits = fits-true _ _ _ _ _ _ (at-loop .loop .inv .1) index _ _ pair _ (else2 .before .is-next .ensures) (not-false _ (else2 .if2 .left)) in
+    let lower = lower-of _ _ _ _ _ _ (at-loop .loop .inv .1) index _ _ pair fits in
+    let radio = radio-of _ _ _ _ _ _ (at-loop .loop .inv .1) index _ _ pair fits in (
       omega (arith, at-loop .loop .inv .2 .long, start .pre .0 .0 .counted),
       once-fits _ _ _ _ _ _ _ (at-loop .loop .inv .2) _ _ pair lower radio (omega (arith, start .pre .0 .0 .counted)) (omega (arith, start .pre .0 .0 .few)),
     )
 
 bump-requires-2 : tie.Need-bump-requires-2 Inv-loop μ-loop
 bump-requires-2 c κs =
-    let read = c .before .before .before .before .before .before .before .before .before in
+    let read = c .before .before .before .before .before .before .before in
     let at-loop = read .before .before .before .before .before in
     let part = at-loop .before .part-of .ensures in
     let start = at-loop .before .before .before .before in
     let pair = link-in _ _ _ _ _ part _ _ _ _ (read .before .before .before .if1 .taken) (read .before .word-in .ensures .0) (read .word-in2 .ensures .0) in
     let index = link-index _ _ _ _ _ part _ (read .before .before .before .if1 .taken) in
-    let once = c .before .before .before in
-    let lower = c .before .before .before .before .before .before .before .before .if2 .left in
-    let radio = c .before .before .before .before .before .before .before .if3 .left in (
+    let else2 = c .before .before .before .before .before in
+    let fits = fits-true _ _ _ _ _ _ (at-loop .loop .inv .1) index _ _ pair _ (else2 .before .is-next .ensures) (not-false _ (else2 .if2 .left)) in
+    let lower = lower-of _ _ _ _ _ _ (at-loop .loop .inv .1) index _ _ pair fits in
+    let radio = radio-of _ _ _ _ _ _ (at-loop .loop .inv .1) index _ _ pair fits in
+    let once = c .before .before .before in (
       omega (arith, at-loop .loop .inv .2 .long, start .pre .0 .0 .counted, once .bump .kept .0),
       one-fits _ _ _ _ _ _ _ (at-loop .loop .inv .2) _ _ pair lower radio (omega (arith, start .pre .0 .0 .counted)) true true _ (once .bump .last .0) refl refl
           (once .bump .ensures) (omega (arith, start .pre .0 .0 .few)),
@@ -105,27 +89,27 @@ bump-requires-2 c κs =
 
 loop-again : tie.Need-loop-again Inv-loop μ-loop
 loop-again c =
-    let read = c .before .before .before .before .before .before .before .before .before .before .before .before in
+    let read = c .before .before .before .before .before .before .before .before .before .before in
     let at-loop = read .before .before .before .before .before in
     let part = at-loop .before .part-of .ensures in
     let start = at-loop .before .before .before .before in
     let pair = link-in _ _ _ _ _ part _ _ _ _ (read .before .before .before .if1 .taken) (read .before .word-in .ensures .0) (read .word-in2 .ensures .0) in
     let index = link-index _ _ _ _ _ part _ (read .before .before .before .if1 .taken) in
+    let else2 = c .before .before .before .before .before .before .before .before in
+    let fits = fits-true _ _ _ _ _ _ (at-loop .loop .inv .1) index _ _ pair _ (else2 .before .is-next .ensures) (not-false _ (else2 .if2 .left)) in
+    let lower = lower-of _ _ _ _ _ _ (at-loop .loop .inv .1) index _ _ pair fits in
+    let radio = radio-of _ _ _ _ _ _ (at-loop .loop .inv .1) index _ _ pair fits in
     let twice = c .before .before in
     let once = twice .before .before .before .before in
-    let else4 = once .before .before in
-    let lower = c .before .before .before .before .before .before .before .before .before .before .before .if2 .left in
-    let radio = c .before .before .before .before .before .before .before .before .before .before .if3 .left in
-    let after = sym (else4 .before .is-before .ensures) ∙ not-false (else4 .before .is-before .result) (else4 .if4 .left) in
     let e : block-links * (start .args .q) + at-loop .loop .i + 1 ≡ block-links * (start .args .q) + (at-loop .loop .i + 1) = omega arith in (
       omega arith,
-      rw e at (listed-turn _ _ _ _ _ _ (at-loop .loop .inv .1) index _ _ pair lower radio after),
+      rw e at (listed-turn _ _ _ _ _ _ (at-loop .loop .inv .1) index _ _ pair fits),
       rw e at (tallying-two _ _ _ _ _ _ _ (at-loop .loop .inv .2) _ _ pair lower radio (omega (arith, start .pre .0 .0 .counted)) true true _ (twice .bump2 .last .0)
           refl refl (once .bump .ensures) (twice .bump2 .ensures)),
     )
 
-returns-4 : tie.Need-returns-4 Inv-loop μ-loop
-returns-4 c =
+returns-2 : tie.Need-returns-2 Inv-loop μ-loop
+returns-2 c =
     let at-loop = c .before .before in
     let part = at-loop .before .part-of .ensures in
     let start = at-loop .before .before .before .before in
@@ -137,6 +121,5 @@ pub list-block-spec : {M : Type 1} → statement M
 list-block-spec =
     tie.close (
     tie.spec Inv-loop μ-loop (λ c κs. search needs) loop-holds (λ c. search needs) (λ c. search needs) word-in-requires (λ c. search needs) word-in-requires-2
-    (λ c. c .before .before .before .before .before .before .loop .inv .2 .long) returns (λ c. c .before .before .before .before .before .before .before .loop .inv .2 .long) returns-2 (λ c κs. search needs)
-    (λ c. c .before .before .before .before .before .before .before .before .before .loop .inv .2 .long) returns-3 bump-requires bump-requires-2 (λ c. search needs) (λ c. search needs) loop-again
-    (λ c. c .before .before .loop .inv .2 .long) returns-4)
+    (λ c κs. search needs) (λ c. c .before .before .before .before .before .before .before .loop .inv .2 .long) returns bump-requires bump-requires-2 (λ c. search needs) (λ c. search needs) loop-again
+    (λ c. c .before .before .loop .inv .2 .long) returns-2)

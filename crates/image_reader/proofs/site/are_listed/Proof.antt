@@ -60,8 +60,8 @@ loop-again c =
     let at-loop = listed .before .before .before in
     let good = not-false _ (c .if1 .left) in (
       listed .list-block .kept .1 .1 .1 .1 .1 .0 ∙ at-loop .loop .inv .0,
-      listed .list-block .ensures .listed good,
-      listed .list-block .ensures .ends good,
+      listed .list-block .ensures .so-far good .0,
+      listed .list-block .ensures .so-far good .1,
     )
 
 returns-2 : tie.Need-returns-2 Inv-loop μ-loop
