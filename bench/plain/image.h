@@ -7,9 +7,13 @@ static void put_word(uint8_t *p, unsigned x) { p[0] = x, p[1] = x >> 8; }
 
 static unsigned word_at(const uint8_t *p) { return p[0] | p[1] << 8; }
 
+/* The check by columns: byte i stands in column i % 16 of run i / 16, of which there are 31; then the bytes after them. */
 static uint32_t c_sum(const uint8_t *block) {
-    uint32_t sum = 0;
-    for (unsigned i = 0; i < BODY; i++) sum += block[i] * (i + 1);
+    uint32_t sums[16] = {0}, twice[16] = {0}, sum = 0;
+    for (unsigned r = 0; r < 31; r++)
+        for (unsigned p = 0; p < 16; p++) sums[p] += block[16 * r + p], twice[p] += sums[p];
+    for (unsigned p = 0; p < 16; p++) sum += (p + 497) * sums[p] - 16 * twice[p];
+    for (unsigned i = 496; i < BODY; i++) sum += block[i] * (i + 1);
     return sum;
 }
 
@@ -82,48 +86,81 @@ static int c_formed(const uint8_t *image, size_t length, uint32_t n) {
         if (kind == 1) used = n - ENTRIES * (i - 1) < ENTRIES ? 2 * (n - ENTRIES * (i - 1)) : 2 * ENTRIES;
         if (kind == 2) used = m - LINKS * (i - 1 - orders) < LINKS ? 4 * (m - LINKS * (i - 1 - orders)) : 4 * LINKS;
         if (block[0] != kind || block[1] || word_at(block + 2) != i) return 0;
-        for (unsigned j = HEAD + used; j < BODY; j++)
-            if (block[j]) return 0;
+        int zeros = 1;
+        for (unsigned j = HEAD + used; j < BODY; j++) zeros &= block[j] == 0;
+        if (!zeros) return 0;
     }
     return 1;
 }
 
-static const uint8_t *link_at(const uint8_t *image, uint32_t n, unsigned j) {
-    return image + BLOCK * (1 + (n + ENTRIES - 1) / ENTRIES + j / LINKS) + HEAD + 4 * (j % LINKS);
+/* The links of block q of the blocks of links: the first, and how many there are. */
+struct c_part {
+    const uint8_t *first;
+    unsigned count;
+};
+
+static struct c_part part_of(const uint8_t *image, uint32_t n, unsigned m, unsigned q) {
+    unsigned left = m - LINKS * q;
+    return (struct c_part){image + BLOCK * (1 + (n + ENTRIES - 1) / ENTRIES + q) + HEAD, left < LINKS ? left : LINKS};
 }
 
-/* Whether the links have their lower radio first, radios below n, and stand ascending. */
-static int c_listed(const uint8_t *image, uint32_t n, unsigned m) {
-    for (unsigned j = 0, low = 0, high = 0; j < m; j++) {
-        const uint8_t *p = link_at(image, n, j);
-        unsigned a = word_at(p), b = word_at(p + 2);
-        if (b <= a || b >= n || a < low || (a == low && b <= high)) return 0;
-        low = a, high = b;
+static unsigned link_blocks(unsigned m) { return (m + LINKS - 1) / LINKS; }
+
+/* Whether the links have their lower radio first, radios below n, and stand ascending; counts them at both ends. */
+static int c_listed(const uint8_t *image, uint32_t n, unsigned m, uint16_t *counts) {
+    unsigned low = 0, high = 0;
+    memset(counts, 0, 2 * n);
+    for (unsigned q = 0; q < link_blocks(m); q++) {
+        struct c_part part = part_of(image, n, m, q);
+        for (unsigned i = 0; i < part.count; i++) {
+            unsigned a = word_at(part.first + 4 * i), b = word_at(part.first + 4 * i + 2);
+            if (b <= a || b >= n || a < low || (a == low && b <= high)) return 0;
+            counts[a]++, counts[b]++;
+            low = a, high = b;
+        }
     }
     return 1;
 }
 
 /* For each radio, how many links lead to a radio with a rank of which, with the slack added, its own is below. */
-static void c_tally(const uint8_t *image, uint32_t n, unsigned m, const uint16_t *ranks, unsigned slack, uint16_t *counts) {
-    memset(counts, 0, 2 * RADIOS);
-    for (unsigned j = 0; j < m; j++) {
-        const uint8_t *p = link_at(image, n, j);
-        unsigned a = word_at(p), b = word_at(p + 2);
-        counts[a] += ranks[a] < ranks[b] + slack;
-        counts[b] += ranks[b] < ranks[a] + slack;
+static inline void c_tally(const uint8_t *image, uint32_t n, unsigned m, const uint16_t *ranks, unsigned slack, uint16_t *counts) {
+    memset(counts, 0, 2 * n);
+    for (unsigned q = 0; q < link_blocks(m); q++) {
+        struct c_part part = part_of(image, n, m, q);
+        for (unsigned i = 0; i < part.count; i++) {
+            unsigned a = word_at(part.first + 4 * i), b = word_at(part.first + 4 * i + 2);
+            counts[a] += ranks[a] < ranks[b] + slack;
+            counts[b] += ranks[b] < ranks[a] + slack;
+        }
     }
+}
+
+static void c_read_order(const uint8_t *image, uint32_t n, uint16_t *order) {
+    for (unsigned from = 0; from < n; from += ENTRIES) {
+        const uint8_t *first = image + BLOCK * (1 + from / ENTRIES) + HEAD;
+        unsigned count = n - from < ENTRIES ? n - from : ENTRIES;
+        for (unsigned i = 0; i < count; i++) order[from + i] = word_at(first + 2 * i);
+    }
+}
+
+static int c_each_at_most(const uint16_t *entries, const uint16_t *most, uint32_t n) {
+    int all = 1;
+    for (unsigned v = 0; v < n; v++) all &= entries[v] <= most[v];
+    return all;
+}
+
+static int c_are_few(const uint16_t *counts, uint32_t n) {
+    int few = 1;
+    for (unsigned v = 0; v < n; v++) few &= counts[v] <= NEIGHBOURS;
+    return few;
 }
 
 /* Question 11 for whole blocks: the order and the numbers worked out on yes. */
 static int c_is_image(const uint8_t *image, size_t length, uint32_t n, uint16_t *order, uint16_t *numbers) {
     uint16_t places[RADIOS], counts[RADIOS];
     unsigned m = word_at(image + 6), top = 0;
-    if (!c_formed(image, length, n) || !c_listed(image, n, m)) return 0;
-    memset(numbers, 0, 2 * RADIOS);
-    c_tally(image, n, m, numbers, 1, counts);
-    for (unsigned v = 0; v < n; v++)
-        if (counts[v] > NEIGHBOURS) return 0;
-    for (unsigned i = 0; i < n; i++) order[i] = word_at(image + BLOCK * (1 + i / ENTRIES) + HEAD + 2 * (i % ENTRIES));
+    if (!c_formed(image, length, n) || !c_listed(image, n, m, counts) || !c_are_few(counts, n)) return 0;
+    c_read_order(image, n, order);
     if (!c_place(n, order, places)) return 0;
     c_tally(image, n, m, places, 0, counts);
     for (unsigned i = 0; i < n; i++) {
@@ -131,9 +168,7 @@ static int c_is_image(const uint8_t *image, size_t length, uint32_t n, uint16_t 
         numbers[order[i]] = top;
     }
     c_tally(image, n, m, numbers, 1, counts);
-    for (unsigned v = 0; v < n; v++)
-        if (counts[v] < numbers[v]) return 0;
-    return 1;
+    return c_each_at_most(numbers, counts, n);
 }
 
 static unsigned c_image_read(const struct lent *t, const uint8_t *image, size_t length) {
@@ -145,9 +180,12 @@ static unsigned c_image_read(const struct lent *t, const uint8_t *image, size_t 
     if (says < 1 || says > RADIOS || !c_is_image(image, length, says, order, numbers)) return 11;
     if (says != t->n) return 15;
     memset(t->links, 0, t->links_len);
-    for (unsigned j = 0, m = word_at(image + 6); j < m; j++) {
-        const uint8_t *p = link_at(image, t->n, j);
-        put_bit(t->links, 1, word_at(p), word_at(p + 2)), put_bit(t->links, 1, word_at(p + 2), word_at(p));
+    for (unsigned q = 0, m = word_at(image + 6); q < link_blocks(m); q++) {
+        struct c_part part = part_of(image, t->n, m, q);
+        for (unsigned i = 0; i < part.count; i++) {
+            unsigned a = word_at(part.first + 4 * i), b = word_at(part.first + 4 * i + 2);
+            put_bit(t->links, 1, a, b), put_bit(t->links, 1, b, a);
+        }
     }
     for (unsigned v = 0; v < t->n; v++) t->numbers[v] = numbers[v], t->order[v] = order[v];
     return 0;

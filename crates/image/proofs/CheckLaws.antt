@@ -1,9 +1,9 @@
 -- Laws of a block's check.
--- In order: the sum byte by byte, four bytes as one number, a block tested, blocks tested one after the other.
+-- In order: the sum byte by byte, four bytes as one number, a block tested, tests one after the other, with and without a stop.
 use mathlib.Core.Path.{_≡_, refl, sym, ap, ap₂, _∙_}
 use mathlib.Core.Bool.{Bool, true, false, _&&_}
 use mathlib.Core.List.{List, [], _∷_}
-use Prim.Native.Nat.{ℕ, suc, _+_, _*_, _-_, _/_, _%_, _≤_, _<_, min}
+use Prim.Native.Nat.{ℕ, suc, _+_, _*_, _-_, _/_, _%_, _≤_, _<_}
 use native.Mathlib.Omega.{arith}
 use native.Mathlib.Nat.{mul-le-mul}
 use native.Mathlib.Numerals.{add-one}
@@ -12,51 +12,48 @@ use lib.ListN.{length, getD, take, drop, length-drop}
 use lib.Seq.{take-suc, length-take-le, getD-drop, getD-take}
 use borrow.Author.Tests.{eqb-true, eq-eqb}
 use Rattle.lists.specs.Lists.{range, all, same}
-use Rattle.mesh.specs.Image.{block-bytes, weighted-sum, check-sum, block-check, long}
+use Rattle.mesh.specs.Image.{block-bytes, check-sum, block-check, long}
 use Rattle.lists.proofs.Tests.{iff-eq}
-use Rattle.lists.proofs.All.{same-eq, same-refl}
+use Rattle.lists.proofs.All.{same-eq, same-refl, all-append}
+use Rattle.lists.proofs.Range.{range-suc}
 use Rattle.mesh.proofs.Images.Laws.{check-sum-snoc}
-use Rattle.mesh.proofs.Images.Words.{long-of-long}
-use Rattle.lists.proofs.Parts.{take-min}
+use Rattle.mesh.proofs.Images.Words.{long-of-long, check-sum-less}
 use Rattle.image.specs.Bytes.{long-at}
 
--- ---- the sum byte by byte: i bytes so far
+abbrev pub Small : List ℕ → Type 0
+Small bs = (j : ℕ) → getD bs j 0 < 256
 
-pub record Summing (bytes : List ℕ) (sum i : ℕ) : Type 0 where
-  pub low : i ≤ min 508 (length bytes)
-  pub small : sum ≤ 130560 * i
+-- ---- the sum byte by byte: i of `count` bytes so far
+
+pub record Summing (bytes : List ℕ) (count sum i : ℕ) : Type 0 where
+  pub low : i ≤ count
+  pub few : count ≤ 508
+  pub whole : count ≤ length bytes
   pub is : sum ≡ check-sum (take i bytes)
 
-pub summing-none : (bs : List ℕ) → Summing bs 0 0
-unfolding check-sum weighted-sum
-summing-none bs = record { low = omega arith; small = omega arith; is = refl }
-
-module _ (bs : List ℕ) (sum i x : ℕ) (s : Summing bs sum i) (h : i < min 508 (length bs)) where
-  weight-small : x < 256 → x * (i + 1) ≤ 130560
-  weight-small b =
+module _ (bs : List ℕ) (count sum i x : ℕ) (s : Summing bs count sum i) (h : i < count) (e : x ≡ getD bs i 0) where
+  pub product-fits : x < 256 → x * (i + 1) < 4294967296
+  product-fits b =
       let here : x ≤ 255 = omega arith in
-      let there : i + 1 ≤ 512 = omega arith in
+      let there : i + 1 ≤ 512 = omega (arith, s .few) in
       omega (arith, mul-le-mul here there)
 
-  pub product-fits : x < 256 → x * (i + 1) < 4294967296
-  product-fits b = omega (arith, weight-small b)
+  one-more : sum + x * (i + 1) ≡ check-sum (take (i + 1) bs)
+  one-more =
+      sym (ap (λ (k : ℕ). check-sum (take k bs)) (add-one i) ∙ ap check-sum (take-suc bs i 0 (omega (arith, s .whole)))
+      ∙ check-sum-snoc (take i bs) (getD bs i 0) ∙ rw (← e, length-take-le i bs (omega (arith, s .low, s .whole)), ← s .is))
 
-  pub sum-fits : x < 256 → sum + x * (i + 1) < 4294967296
-  sum-fits b = omega (arith, weight-small b, s .small, s .low)
+  pub sum-fits : Small bs → sum + x * (i + 1) < 4294967296
+  sum-fits b =
+      let long : length (take (i + 1) bs) ≡ i + 1 = length-take-le (i + 1) bs (omega (arith, s .whole)) in
+      rw one-more (check-sum-less (take (i + 1) bs) (λ j k. rw (getD-take (i + 1) bs j 0 (omega arith)) (b j)) (omega (arith, s .few)))
 
-  pub summing-turn : x < 256 → x ≡ getD bs i 0 → Summing bs (sum + x * (i + 1)) (i + 1)
-  summing-turn b e =
-      record {
-        low = omega arith;
-        small = omega (arith, weight-small b, s .small);
-        is =
-            sym (ap (λ (k : ℕ). check-sum (take k bs)) (add-one i) ∙ ap check-sum (take-suc bs i 0 (omega arith))
-            ∙ check-sum-snoc (take i bs) (getD bs i 0) ∙ rw (← e, length-take-le i bs (omega (arith, s .low)), ← s .is));
-      }
+  pub summing-turn : Summing bs count (sum + x * (i + 1)) (i + 1)
+  summing-turn = record { low = omega arith; few = s .few; whole = s .whole; is = one-more }
 
-pub summing-end : (bs : List ℕ) (sum i : ℕ) → Summing bs sum i → min 508 (length bs) ≤ i → sum ≡ check-sum (take 508 bs)
-summing-end bs sum i s h =
-    let e : i ≡ min 508 (length bs) = omega (arith, s .low) in s .is ∙ ap (λ (k : ℕ). check-sum (take k bs)) e ∙ ap check-sum (take-min 508 bs)
+pub summing-end : (bs : List ℕ) (count sum i : ℕ) → Summing bs count sum i → count ≤ i → sum ≡ check-sum (take count bs)
+summing-end bs count sum i s h =
+    let e : i ≡ count = omega (arith, s .low) in s .is ∙ ap (λ (k : ℕ). check-sum (take k bs)) e
 
 -- ---- four bytes as one number
 
@@ -106,9 +103,6 @@ same-long x a b c d h p q r s =
 
 -- ---- a block tested
 
-abbrev pub Small : List ℕ → Type 0
-Small bs = (j : ℕ) → getD bs j 0 < 256
-
 pub block-check-is : (bs : List ℕ) → Small bs → (i s : ℕ) → block-bytes * i + block-bytes ≤ length bs → s < 4294967296
     → s ≡ check-sum (take 508 (take block-bytes (drop (block-bytes * i) bs))) → block-check bs i ≡ eqb s (long-at bs (block-bytes * i + 508))
 unfolding block-check
@@ -154,3 +148,31 @@ module _ (f : ℕ → Bool) (n i : ℕ) (t : Testing f n i) where
   pub testing-end : n ≤ i → all f (range 0 n) ≡ true
   unfolding range all
   testing-end h = let e : n - i ≡ 0 = omega arith in t .is ∙ rw e
+
+-- ---- the same test without a stop: r is the answer of the first v
+
+pub record Passing (f : ℕ → Bool) (n : ℕ) (r : Bool) (v : ℕ) : Type 0 where
+  pub low : v ≤ n
+  pub is : r ≡ all f (range 0 v)
+
+pub passing-none : (f : ℕ → Bool) (n : ℕ) → Passing f n true 0
+unfolding range all
+passing-none f n = record { low = omega arith; is = refl }
+
+one-test-more : (f : ℕ → Bool) (v : ℕ) → all f (range 0 (v + 1)) ≡ (all f (range 0 v) && f v)
+unfolding all
+one-test-more f v =
+    let z : 0 + v ≡ v = omega arith in
+    ap (λ (k : ℕ). all f (range 0 k)) (add-one v) ∙ ap (all f) (range-suc 0 v) ∙ all-append f (range 0 v) ((0 + v) ∷ []) ∙ rw z (drop-true (all f (range 0 v)) (f v))
+  where
+    drop-true : (b c : Bool) → (b && (c && true)) ≡ (b && c)
+    drop-true true true = refl
+    drop-true true false = refl
+    drop-true false c = refl
+
+pub passing-turn : (f : ℕ → Bool) (n : ℕ) (r : Bool) (v : ℕ) → Passing f n r v → v < n → Passing f n (r && f v) (v + 1)
+passing-turn f n r v p l =
+    record { low = omega arith; is = ap (λ (b : Bool). b && f v) (p .is) ∙ sym (one-test-more f v) }
+
+pub passing-end : (f : ℕ → Bool) (n : ℕ) (r : Bool) (v : ℕ) → Passing f n r v → n ≤ v → r ≡ all f (range 0 n)
+passing-end f n r v p h = let e : v ≡ n = omega (arith, p .low) in p .is ∙ ap (λ (k : ℕ). all f (range 0 k)) e

@@ -3,3 +3,5 @@
 pub mod LayoutLaws
 -- a block's check
 pub mod CheckLaws
+-- the check by columns
+pub mod ColumnLaws

@@ -1,10 +1,9 @@
-// The bytes of an image, read in place: single bytes, numbers, entries of the order, links.
+// The bytes of an image, read in place: single bytes and numbers.
 ghost use mathlib.Core.Path.{_≡_};
 ghost use Prim.Native.Nat.{_≤_, _<_, _+_};
 ghost use lib.ListN.{length, getD};
 ghost use Rattle.mesh.specs.Image.{word-at};
-ghost use Rattle.image.specs.Bytes.{long-at, order-entry, Link-at};
-use super::layout;
+ghost use Rattle.image.specs.Bytes.{long-at};
 
 // A byte as a wider number.
 pub fn wide(x: u8) -> u32
@@ -21,14 +20,6 @@ pub fn byte_at(image: &[u8], at: usize) -> u32
         return 0;
     }
     wide(image[at])
-}
-
-// The two bytes from `at` on as one number, lowest byte first.
-fn pair_at(bytes: &[u8], at: usize) -> u32
-    requires { ⌜ at + 2 ≤ length (now bytes) ⌝ }
-    ensures { λ r. ⌜ (r ≡ word-at (now (bytes .entry)) at) × (r < 65536) ⌝ }
-{
-    wide(bytes[at]) + 256 * wide(bytes[at + 1])
 }
 
 // The two bytes from `at` on as one number, lowest byte first; bytes past the end count as 0.
@@ -50,41 +41,4 @@ pub(crate) fn long_at(bytes: &[u8], at: usize) -> u32
         + 256 * wide(bytes[at + 1])
         + 65536 * wide(bytes[at + 2])
         + 16777216 * wide(bytes[at + 3])
-}
-
-// Entry j of the image's order.
-pub fn order_at(image: &[u8], j: u32) -> u32
-    ensures { λ r. ⌜ (r ≡ order-entry (now (image .entry)) j) × (r < 65536) ⌝ }
-{
-    let at = layout::BLOCK * (1 + j / layout::ENTRIES) as usize
-        + layout::HEAD
-        + 2 * (j % layout::ENTRIES) as usize;
-    word_at(image, at)
-}
-
-// A link: its lower radio and its higher.
-pub struct Pair {
-    pub low: u32,
-    pub high: u32,
-}
-
-// Link j of an image of n radios.
-pub fn link_at(image: &[u8], n: u32, j: u32) -> Pair
-    ensures { λ r. ⌜ Link-at n (now (image .entry)) j (r .low) (r .high) ⌝ }
-{
-    let first = 1 + layout::blocks_for(n, layout::ENTRIES);
-    let at = layout::BLOCK * (first + j / layout::LINKS) as usize
-        + layout::HEAD
-        + 4 * (j % layout::LINKS) as usize;
-    if image.len() < at + 4 {
-        return Pair {
-            low: word_at(image, at),
-            high: word_at(image, at + 2),
-        };
-    }
-    // one test for four bytes
-    Pair {
-        low: pair_at(image, at),
-        high: pair_at(image, at + 2),
-    }
 }

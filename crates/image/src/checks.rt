@@ -1,25 +1,94 @@
 // Questions 9 and 10: is the image whole blocks, and does every block pass its check?
 ghost use mathlib.Core.Path.{_≡_};
-ghost use Prim.Native.Nat.{_<_, _/_};
+ghost use Prim.Native.Nat.{_<_, _≤_, _+_, _/_};
 ghost use lib.ListN.{length, take};
 ghost use Rattle.mesh.specs.Image.{block-bytes, check-sum, block-check, checks-good};
 ghost use Rattle.calls.specs.Questions.{block-refusal};
+ghost use Rattle.image.specs.Columns.{Columns, Columns-fit, columns-total};
 use super::bytes;
 use super::layout;
 use calls::Refusal;
 
-// The check of a block: the sum over its first 508 bytes of byte × (position + 1); over all bytes where there are fewer.
-pub fn check_sum(block: &[u8]) -> u32
-    ensures { λ r. ⌜ r ≡ check-sum (take 508 (now (block .entry))) ⌝ }
+// The check is summed by columns, with no product for each byte, which the compiler does for many columns at a time: byte i stands in
+// column i % 16 of run i / 16.
+const COLUMNS: usize = 16;
+
+// The whole runs before the check.
+const RUNS: usize = 31;
+
+// Adds run r to the columns' sums, and these to the sums of the sums.
+fn add_run(block: &[u8], r: usize, sums: &mut [u32], twice: &mut [u32])
+    requires { ⌜ (r < 31) × (496 ≤ length (now block)) × Columns (now block) r (now sums) (now twice) ⌝ }
+    ensures { λ _. ⌜ Columns (now (block .entry)) (r + 1) (now (sums .exit)) (now (twice .exit)) ⌝ }
 {
-    let count = tables::fill::least(layout::BODY, block.len());
+    let mut p: usize = 0;
+    while p < COLUMNS {
+        let sum = sums[p] + bytes::wide(block[COLUMNS * r + p]);
+        sums[p] = sum;
+        twice[p] = twice[p] + sum;
+        p += 1;
+    }
+}
+
+// Adds all runs.
+fn add_runs(block: &[u8], sums: &mut [u32], twice: &mut [u32])
+    requires { ⌜ (496 ≤ length (now block)) × Columns (now block) 0 (now sums) (now twice) ⌝ }
+    ensures { λ _. ⌜ Columns (now (block .entry)) 31 (now (sums .exit)) (now (twice .exit)) ⌝ }
+{
+    let mut r: usize = 0;
+    while r < RUNS {
+        add_run(block, r, sums, twice);
+        r += 1;
+    }
+}
+
+// What the columns add to the check: a byte of column p stands 16 places before 497 + p for each run from its own on.
+fn columns_total(sums: &[u32], twice: &[u32]) -> u32
+    requires { ⌜ Columns-fit (now sums) (now twice) ⌝ }
+    ensures { λ r. ⌜ r ≡ columns-total (now (sums .entry)) (now (twice .entry)) 16 ⌝ }
+{
     let mut sum: u32 = 0;
-    let mut i: usize = 0;
+    let mut p: usize = 0;
+    while p < COLUMNS {
+        sum += (p as u32 + 497) * sums[p] - 16 * twice[p];
+        p += 1;
+    }
+    sum
+}
+
+// The check of the first 496 bytes.
+fn check_runs(block: &[u8]) -> u32
+    requires { ⌜ 496 ≤ length (now block) ⌝ }
+    ensures { λ r. ⌜ r ≡ check-sum (take 496 (now (block .entry))) ⌝ }
+{
+    let mut sums = [0u32; COLUMNS];
+    let mut twice = [0u32; COLUMNS];
+    add_runs(block, &mut sums, &mut twice);
+    columns_total(&sums, &twice)
+}
+
+// The check of the first `count` bytes, of which `start` is that of the first `from`.
+fn check_rest(block: &[u8], from: usize, count: usize, start: u32) -> u32
+    requires { ⌜ (from ≤ count) × (count ≤ 508) × (count ≤ length (now block)) × (start ≡ check-sum (take from (now block))) ⌝ }
+    ensures { λ r. ⌜ r ≡ check-sum (take count (now (block .entry))) ⌝ }
+{
+    let mut sum = start;
+    let mut i = from;
     while i < count {
         sum += bytes::wide(block[i]) * (i as u32 + 1);
         i += 1;
     }
     sum
+}
+
+// The check of a block: the sum over its first 508 bytes of byte × (position + 1); over all bytes where there are fewer.
+pub fn check_sum(block: &[u8]) -> u32
+    ensures { λ r. ⌜ r ≡ check-sum (take 508 (now (block .entry))) ⌝ }
+{
+    if block.len() < layout::BODY {
+        return check_rest(block, 0, block.len(), 0);
+    }
+    check_rest(block, COLUMNS * RUNS, layout::BODY, check_runs(block))
 }
 
 // Whether block i passes its check.

@@ -12,19 +12,18 @@ use image::bytes;
 use image::layout;
 use mesh::Site;
 
-// Whether the k bytes from `at` on are zero.
+// Whether the k bytes from `at` on are zero. It does not stop at the first that is not: the compiler then tests many at a time.
 fn are_zeros(image: &[u8], at: usize, k: usize) -> bool
     requires { ⌜ at + k ≤ length (now image) ⌝ }
     ensures { λ r. ⌜ r ≡ zeros (now (image .entry)) at k ⌝ }
 {
+    let mut all = true;
     let mut j: usize = 0;
     while j < k {
-        if image[at + j] != 0 {
-            return false;
-        }
+        all = all & (image[at + j] == 0);
         j += 1;
     }
-    true
+    all
 }
 
 // Whether block i has this kind, a zero byte, its index, and zeros past the used bytes of its payload.

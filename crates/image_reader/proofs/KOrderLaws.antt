@@ -2,67 +2,50 @@
 use mathlib.Core.Path.{_≡_, refl, sym, ap, _∙_}
 use mathlib.Core.Logic.{_↔_}
 use mathlib.Core.Bool.{Bool, true, false, _&&_}
-use mathlib.Core.List.{List, map}
+use mathlib.Core.List.{List, [], map}
 use Prim.Native.Nat.{ℕ, suc, _+_, _≤_, _<_, min}
 use native.Mathlib.Omega.{arith}
 use native.Mathlib.Nat.{add-zero}
 use lib.Dec.{ltb, leb}
-use lib.ListN.{length, getD, drop, replicate, getD-replicate}
-use borrow.Author.Tests.{lt-ltb, leb-true, le-leb, lt-leb}
+use lib.ListN.{length, getD, drop}
+use borrow.Author.Tests.{leb-true, le-leb}
 use Rattle.mesh.specs.Limits.{max-radios, max-neighbours}
 use Rattle.lists.specs.Lists.{range, count, all, Each-once}
 use Rattle.mesh.specs.Graph.{Link, Graph, graph, radios, other-ends, linked, neighbours-in, degree, proper, ascending}
 use Rattle.mesh.specs.Cores.{number}
 use Rattle.mesh.specs.Orders.{each-once, rising, few-later, is-k-order, running-maxima}
 use Rattle.lists.proofs.Tests.{never, iff-eq, ltb-next}
-use Rattle.lists.proofs.Member.{in-member, in-getD}
-use Rattle.lists.proofs.Count.{count-ext, count-all, count-cong}
+use Rattle.lists.proofs.Member.{in-getD}
+use Rattle.lists.proofs.Count.{count-all, count-cong}
 use Rattle.lists.proofs.All.{all-below, below-all, all-range-ext}
 use Rattle.lists.proofs.Range.{once-below, once-length}
-use Rattle.mesh.proofs.GraphLaws.{linked-self, linked-by-proper, proper-of, degree-in}
+use Rattle.mesh.proofs.GraphLaws.{linked-self, degree-in}
 use Rattle.mesh.proofs.Cores.Orders.{each-once-of, Enough}
 use Rattle.mesh.proofs.Tables.OtherEnds.{ends-neighbours-in}
 use Rattle.mesh.proofs.Cores.RunningCertificate.{is-k-order-running, running-number}
 use Rattle.soundness.specs.Checks.{Placed, Places-found}
 use Rattle.soundness.proofs.CheckLaws.{count-later}
-use Rattle.image.proofs.CheckLaws.{Testing, testing-turn, testing-stop}
 use Rattle.image_reader.specs.Site.{tallied, Tallied, few-ends, running-maxima-of, K-order-decided}
 use Rattle.image_reader.proofs.MaximaLaws.{running-maxima-of-counts}
 
--- ---- entries compared, one after the other
+-- ---- entries compared
 
 abbrev pub at-most : (entries most : List ℕ) → (v : ℕ) → Bool
 at-most xs ys v = leb (getD xs v 0) (getD ys v 0)
 
-pub at-most-turn : (xs ys : List ℕ) (v : ℕ) → Testing (at-most xs ys) (length xs) v → v < length xs → getD xs v 0 ≤ getD ys v 0
-    → Testing (at-most xs ys) (length xs) (v + 1)
-at-most-turn xs ys v t l h = testing-turn (at-most xs ys) (length xs) v t l (le-leb (getD xs v 0) (getD ys v 0) h)
-
-pub at-most-stop : (xs ys : List ℕ) (v : ℕ) → Testing (at-most xs ys) (length xs) v → v < length xs → getD ys v 0 < getD xs v 0
-    → all (at-most xs ys) (range 0 (length xs)) ≡ false
-at-most-stop xs ys v t l h = testing-stop (at-most xs ys) (length xs) v t l (lt-leb (getD xs v 0) (getD ys v 0) h)
-
 -- ---- degrees
 
--- with one rank for all and a slack, every link counts
-tallied-all : (n : ℕ) (ls : List Link) (rs : List ℕ) (x : ℕ) → proper n ls ≡ true → ((v : ℕ) → v < n → getD rs v 0 ≡ x)
-    → (v : ℕ) → v < n → tallied rs 1 ls v ≡ length (other-ends v ls)
+-- with no ranks and a slack of 1, every link counts
+tallied-all : (ls : List Link) (v : ℕ) → tallied [] 1 ls v ≡ length (other-ends v ls)
 unfolding tallied
-tallied-all n ls rs x p e v l =
-    count-ext (λ w. ltb (getD rs v 0) (getD rs w 0 + 1)) (λ w. true) (other-ends v ls)
-    (λ w i. lt-ltb (getD rs v 0) (getD rs w 0 + 1)
-    (omega (arith, e v l, e w (linked-by-proper n ls (proper-of n ls p) v w (in-member w (other-ends v ls) i) .1))))
-    ∙ count-all (other-ends v ls)
+tallied-all ls v = count-all (other-ends v ls)
 
-pub few-tallied : (n : ℕ) (ls : List Link) (rs counts : List ℕ) → proper n ls ≡ true → length rs ≡ n → length counts ≡ n
-    → rs ≡ replicate (length rs) max-neighbours → Tallied n rs 1 ls counts
-    → all (at-most counts rs) (range 0 (length counts)) ≡ few-ends max-neighbours n ls
+pub few-tallied : (n : ℕ) (ls : List Link) (counts : List ℕ) → length counts ≡ n → Tallied n [] 1 ls counts
+    → all (λ v. leb (getD counts v 0) max-neighbours) (range 0 (length counts)) ≡ few-ends max-neighbours n ls
 unfolding few-ends
-few-tallied n ls rs counts p lr lc e t =
-    let rank : (v : ℕ) → v < n → getD rs v 0 ≡ max-neighbours =
-    λ v l. ap (λ (xs : List ℕ). getD xs v 0) e ∙ getD-replicate (length rs) v max-neighbours 0 (omega arith) in
-    rw lc (all-range-ext (at-most counts rs) (λ v. leb (length (other-ends v ls)) max-neighbours) n
-    (λ v l. rw (t .at v l ∙ tallied-all n ls rs max-neighbours p rank v l, rank v l)))
+few-tallied n ls counts lc t =
+    rw lc (all-range-ext (λ v. leb (getD counts v 0) max-neighbours) (λ v. leb (length (other-ends v ls)) max-neighbours) n
+    (λ v l. rw (t .at v l ∙ tallied-all ls v)))
 
 module _ (n : ℕ) (ls : List Link) (p : proper n ls ≡ true) (a : ascending ls ≡ true) where
   abbrev g : Graph

@@ -1,6 +1,8 @@
 -- Laws of the reader.
 -- the links of an image
 pub mod ListedLaws
+-- blocks of links
+pub mod BlockLaws
 -- counts over the links of an image
 pub mod TallyLaws
 -- running maxima along an order

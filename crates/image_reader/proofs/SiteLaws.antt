@@ -3,19 +3,19 @@ use mathlib.Core.Path.{_≡_, refl, sym, ap, subst, _∙_}
 use mathlib.Core.Logic.{_⊎_, inl, inr}
 use mathlib.Core.Bool.{Bool, true, false, _&&_}
 use mathlib.Core.List.{List}
-use Prim.Native.Nat.{ℕ, _≤_, _<_}
+use Prim.Native.Nat.{ℕ, _+_, _*_, _≤_, _<_}
 use native.Mathlib.Omega.{arith}
-use lib.Dec.{leb}
+use lib.Dec.{leb, eqb}
 use lib.ListN.{length, getD, take}
 use lib.Seq.{ext-getD}
-use borrow.Author.Tests.{le-leb}
+use borrow.Author.Tests.{le-leb, eqb-true}
 use Rattle.mesh.specs.Limits.{max-radios, max-neighbours}
 use Rattle.lists.specs.Lists.{overwrite, Bytes}
 use Rattle.mesh.specs.Graph.{Graph, graph, proper, ascending}
 use Rattle.mesh.specs.Cores.{number, numbers}
 use Rattle.mesh.specs.Orders.{is-k-order}
 use Rattle.mesh.specs.Tables.{Tables, tables, links-table}
-use Rattle.mesh.specs.Image.{word-at, image-order, image-links, image-graph, checks-good, is-image}
+use Rattle.mesh.specs.Image.{block-bytes, order-blocks, block-count, word-at, image-order, image-links, image-graph, checks-good, is-image}
 use Rattle.lists.proofs.Tests.{bool-cases, never, iff-eq, and-left, and-right, and-both}
 use Rattle.lists.proofs.Map.{getD-map-range}
 use Rattle.mesh.proofs.Cores.Peeling.{length-numbers, getD-numbers}
@@ -27,7 +27,7 @@ use Rattle.calls.specs.Contracts.Images.{Read-accepted}
 use Rattle.tables.specs.Widths.{values}
 use Rattle.tables.proofs.WidthLaws.{length-values, values-below}
 use Rattle.lists.proofs.Overwrite.{overwrite-take}
-use Rattle.image_form.specs.Form.{is-formed}
+use Rattle.image_form.specs.Form.{blocks-formed, is-formed}
 use Rattle.image_form.proofs.FormLaws.{is-image-formed}
 use Rattle.image_reader.specs.Site.{links-up-to, few-ends, Tally-room, K-order-decided, Site-decided}
 use Rattle.image_reader.proofs.KOrderLaws.{few-degrees}
@@ -61,6 +61,26 @@ module _ (n : ℕ) (bs : List ℕ) (small : n ≤ max-radios) (b : Bytes bs) (ch
     valid-of : is-image n bs ≡ true → Valid max-neighbours listed (image-order n bs)
     valid-of h = subst (λ (k : Graph). Valid max-neighbours k (image-order n bs)) (sym listed-is) (is-image-formed n bs small b checked .0 h .1)
 
+    -- an image that is formed has the blocks for its links
+    whole-of : is-formed n bs ≡ true → length bs ≡ block-bytes * block-count n m
+    unfolding is-formed
+    whole-of h =
+        let k : ℕ = word-at bs 6 in
+        let long : Bool = eqb (length bs) (block-bytes * block-count n k) in
+        let rest : Bool = blocks-formed n k bs (block-count n k) in
+        eqb-true (length bs) (block-bytes * block-count n k) (and-left long rest (and-right (eqb (word-at bs 4) n) (long && rest) h))
+        ∙ ap (λ (j : ℕ). block-bytes * block-count n j) (sym counted)
+
+    pub formed-whole : (u : Bool) → u ≡ (leb n max-radios && is-formed n bs) → u ≡ true → length bs ≡ block-bytes * block-count n m
+    formed-whole u e f = whole-of (and-right (leb n max-radios) (is-formed n bs) (sym e ∙ f))
+
+    pub image-whole : is-image n bs ≡ true → length bs ≡ block-bytes * block-count n m
+    image-whole h = whole-of (is-image-formed n bs small b checked .0 h .0)
+
+    pub orders-inside : (k : ℕ) → k ≡ n → length bs ≡ block-bytes * block-count n m → block-bytes * (1 + order-blocks k) ≤ length bs
+    unfolding block-count
+    orders-inside k e w = rw e (omega arith)
+
     abbrev good : Bool
     good = proper n (links-up-to n bs m) && ascending (links-up-to n bs m)
 
@@ -76,8 +96,8 @@ module _ (n : ℕ) (bs : List ℕ) (small : n ≤ max-radios) (b : Bytes bs) (ch
       pub is-ascending : ascending (links-up-to n bs m) ≡ true
       is-ascending = and-right (proper n (links-up-to n bs m)) (ascending (links-up-to n bs m)) (sym u-is ∙ yes)
 
-      pub tally-room : (x y : ℕ) → x ≡ n → y ≡ n → m < 65536 → Tally-room n m bs x y
-      tally-room x y ex ey fits = record { most = small; few = fits; ranked = ex; counted = ey; is-proper = is-proper }
+      pub tally-room : (x y : ℕ) → x ≡ n → y ≡ n → m < 65536 → block-bytes * block-count n m ≤ length bs → Tally-room n m bs x y
+      tally-room x y ex ey fits w = record { most = small; few = fits; whole = w; ranked = ex; counted = ey; is-proper = is-proper }
 
       pub not-few : (xs ns : List ℕ) (w : Bool) → w ≡ few-ends max-neighbours n (links-up-to n bs m) → w ≡ false → Site-decided n bs xs ns false
       not-few xs ns w e f =
@@ -126,10 +146,22 @@ module _ (n : ℕ) (bs : List ℕ) (small : n ≤ max-radios) (xs ns : List ℕ)
       ap (λ (zs : List ℕ). getD zs v 0) (values-below 8 (λ v. getD ns v 0) n numbers-bytes)
       ∙ getD-map-range 0 (λ v. getD ns v 0) 0 n v h ∙ ap (λ (w : ℕ). getD ns w 0) (omega arith) ∙ d .numbers-are yes v h ∙ sym (getD-numbers g v h))
 
-  pub site-proper : (m : ℕ) → m ≡ word-at bs 6 → proper n (links-up-to n bs m) ≡ true
+  site-proper : (m : ℕ) → m ≡ word-at bs 6 → proper n (links-up-to n bs m) ≡ true
   unfolding image-graph image-links links-up-to
   site-proper m counted =
       ap (λ (k : ℕ). proper n (links-up-to n bs k)) counted ∙ image-valid n bs small is-site .links-proper
+
+  -- what writing the links wants
+  pub site-room : Bytes bs → checks-good bs ≡ true → (m : ℕ) → m ≡ word-at bs 6 → m < 65536 → Tally-room n m bs n n
+  site-room b checked m counted fits =
+      record {
+        most = small;
+        few = fits;
+        whole = omega (arith, image-whole n bs small b checked m counted is-site);
+        ranked = refl;
+        counted = refl;
+        is-proper = site-proper m counted;
+      }
 
   -- what the writers of the three tables leave
   pub site-accepted : (m : ℕ) (t : Tables) (ls ks os : List ℕ) → m ≡ word-at bs 6 → length (t .numbers) ≡ n → length (t .order) ≡ n

@@ -7,7 +7,7 @@ use Prim.Native.Nat.{ℕ, zero, suc, _+_, _-_, _≤_, _<_}
 use native.Mathlib.Omega.{arith}
 use native.Mathlib.Numerals.{add-one}
 use lib.Dec.{ltb, eqb}
-use lib.ListN.{length, getD, set, replicate, length-append, length-set, length-replicate, getD-replicate}
+use lib.ListN.{length, getD, set, replicate, length-append, length-set, getD-replicate}
 use lib.Seq.{getD-set-same, getD-set-other}
 use borrow.Author.Tests.{ltb-true, eqb-true, eqb-false, eq-eqb, ne-eqb}
 use Rattle.lists.specs.Lists.{range, count}
@@ -17,8 +17,7 @@ use Rattle.mesh.proofs.Tables.AscendingLinks.{link-eq}
 use Rattle.lists.proofs.Tests.{bool-cases, and-left, and-right}
 use Rattle.lists.proofs.Count.{count-append, count-le-length}
 use Rattle.lists.proofs.Range.{range-append}
-use Rattle.image.specs.Bytes.{Link-at}
-use Rattle.image_reader.specs.Site.{links-up-to, tallied, Tallied}
+use Rattle.image_reader.specs.Site.{Link-at, links-up-to, tallied, Tallied}
 use Rattle.lists.proofs.Map.{map-append}
 
 -- ---- laws of lists
@@ -117,14 +116,11 @@ pub record Tallying (n : ℕ) (rs : List ℕ) (s : ℕ) (bs start counts : List 
   pub long : length counts ≡ length start
   pub at : (v : ℕ) → v < n → getD counts v 0 ≡ tallied rs s (links-up-to n bs j) v
 
-pub tallying-none : (n : ℕ) (rs : List ℕ) (s : ℕ) (bs start counts : List ℕ) → n ≤ length start → counts ≡ replicate (length start) 0
-    → Tallying n rs s bs start counts 0
+pub tallied-none : (n : ℕ) (rs : List ℕ) (s : ℕ) (bs counts : List ℕ) (long j : ℕ) → n ≤ long → counts ≡ replicate long 0 → j ≡ 0
+    → Tallied n rs s (links-up-to n bs j) counts
 unfolding tallied links-up-to range other-ends count
-tallying-none n rs s bs start counts h e =
-    record {
-      long = ap length e ∙ length-replicate (length start) 0;
-      at = λ v l. ap (λ (xs : List ℕ). getD xs v 0) e ∙ getD-replicate (length start) v 0 0 (omega arith);
-    }
+tallied-none n rs s bs counts long j h e z =
+    record { at = λ v l. ap (λ (xs : List ℕ). getD xs v 0) e ∙ getD-replicate long v 0 0 (omega arith) ∙ rw z }
 
 module _ (n : ℕ) (rs : List ℕ) (s : ℕ) (bs start counts : List ℕ) (j : ℕ) (t : Tallying n rs s bs start counts j) (a b : ℕ)
     (pair : Link-at n bs j a b) (lower : a < b) (radio : b < n) (fits : n ≤ length start) where
@@ -215,10 +211,18 @@ module _ (n : ℕ) (rs : List ℕ) (s : ℕ) (bs start counts : List ℕ) (j : �
         two-is ∙ ap₂ {C = List ℕ} (λ (xs : List ℕ) (x : Bool). set xs b (getD xs b 0 + cond x 1 0)) one-once q-is in
         subst (λ (xs : List ℕ). Tallying n rs s bs start xs (j + 1)) (sym e) tallying-turn
 
-pub tallying-end : (n : ℕ) (rs : List ℕ) (s : ℕ) (bs start counts : List ℕ) (j m : ℕ) → Tallying n rs s bs start counts j → j ≤ m → m ≤ j
-    → Tallied n rs s (links-up-to n bs m) counts
-tallying-end n rs s bs start counts j m t h k =
-    let e : j ≡ m = omega arith in record { at = λ v l. t .at v l ∙ ap (λ (i : ℕ). tallied rs s (links-up-to n bs i) v) e }
+-- counts taken over at j links, and handed on
+pub tallying-from : (n : ℕ) (rs : List ℕ) (s : ℕ) (bs counts : List ℕ) (i j : ℕ) → Tallied n rs s (links-up-to n bs i) counts → i ≡ j
+    → Tallying n rs s bs counts counts j
+tallying-from n rs s bs counts i j t e = record { long = refl; at = λ v l. t .at v l ∙ ap (λ (k : ℕ). tallied rs s (links-up-to n bs k) v) e }
+
+pub tallied-at : (n : ℕ) (rs : List ℕ) (s : ℕ) (bs counts : List ℕ) (i j : ℕ) → Tallied n rs s (links-up-to n bs i) counts → i ≡ j
+    → Tallied n rs s (links-up-to n bs j) counts
+tallied-at n rs s bs counts i j t e = subst (λ (k : ℕ). Tallied n rs s (links-up-to n bs k) counts) e t
+
+pub tallying-to : (n : ℕ) (rs : List ℕ) (s : ℕ) (bs start counts : List ℕ) (j k : ℕ) → Tallying n rs s bs start counts j → j ≡ k
+    → Tallied n rs s (links-up-to n bs k) counts
+tallying-to n rs s bs start counts j k t e = record { at = λ v l. t .at v l ∙ ap (λ (i : ℕ). tallied rs s (links-up-to n bs i) v) e }
 
 -- the pair that is read
 pub proper-pair : (n : ℕ) (bs : List ℕ) (m j a b : ℕ) → proper n (links-up-to n bs m) ≡ true → j < m → Link-at n bs j a b → (a < b) × (b < n)

@@ -1,16 +1,16 @@
 // The image reader.
 ghost use mathlib.Core.Path.{_≡_};
-ghost use mathlib.Core.Bool.{true};
-ghost use Prim.Native.Nat.{ℕ, _≤_, _<_, _*_};
+ghost use Prim.Native.Nat.{ℕ, _≤_, _*_};
 ghost use lib.ListN.{length, getD};
-ghost use Rattle.mesh.specs.Limits.{max-radios, row-bytes};
-ghost use Rattle.mesh.specs.Graph.{graph, proper};
+ghost use Rattle.mesh.specs.Limits.{row-bytes};
+ghost use Rattle.mesh.specs.Graph.{graph};
 ghost use Rattle.mesh.specs.Tables.{links-table, lent};
 ghost use Rattle.calls.specs.Questions.{alone-refusal};
 ghost use Rattle.calls.specs.Contracts.Images.{Read-contract};
 ghost use Rattle.tables.specs.Widths.{values};
-ghost use Rattle.image_reader.specs.Site.{links-up-to};
+ghost use Rattle.image_reader.specs.Site.{links-up-to, Tally-room};
 ghost use Rattle.image_reader.specs.Reading.{Source-room, Site-read};
+use super::blocks;
 use super::source;
 use calls::Refusal;
 use image::bytes;
@@ -19,15 +19,15 @@ use mesh::Site;
 
 // The links table of the first m links of the image.
 fn put_links(image: &[u8], n: u32, m: u32, links: &mut [u8])
-    requires { ⌜ (n ≤ max-radios) × (m < 65536) × (length (now links) ≡ row-bytes * n) × (proper n (links-up-to n (now image) m) ≡ true) ⌝ }
+    requires { ⌜ Tally-room n m (now image) n n × (length (now links) ≡ row-bytes * n) ⌝ }
     ensures { λ _. ⌜ now (links .exit) ≡ links-table (graph n (links-up-to n (now (image .entry)) m)) ⌝ }
 {
     tables::fill::fill8(links, 0);
-    let mut j: u32 = 0;
-    while j < m {
-        let pair = bytes::link_at(image, n, j);
-        rows::put_link(links, true, pair.low, pair.high);
-        j += 1;
+    let end = layout::blocks_for(m, layout::LINKS);
+    let mut q: u32 = 0;
+    while q < end {
+        blocks::mark_block(image, n, m, q, links);
+        q += 1;
     }
 }
 

@@ -1,116 +1,76 @@
 // Question 11: whether the links and the order that an image lists make a site, and then the numbers. It is put to the image in
-// place: counts over the links, with a rank and a count for each radio.
+// place: counts over the links, block by block, with a rank and a count for each radio. A test of all entries of a table does not stop
+// at the first no: the compiler then does many at a time.
 ghost use mathlib.Core.Path.{_≡_};
-ghost use mathlib.Core.Bool.{true, _&&_, cond};
+ghost use mathlib.Core.Bool.{true};
 ghost use mathlib.Core.List.{map};
-ghost use Prim.Native.Nat.{ℕ, _≤_, _<_, _+_, max};
-ghost use lib.Dec.{ltb, leb};
-ghost use lib.ListN.{length, getD, set};
+ghost use Prim.Native.Nat.{ℕ, _≤_, _<_, _+_, _*_, max};
+ghost use lib.Dec.{leb};
+ghost use lib.ListN.{length, getD};
 ghost use Rattle.lists.specs.Lists.{range, all};
 ghost use Rattle.mesh.specs.Limits.{max-radios, max-neighbours};
-ghost use Rattle.mesh.specs.Graph.{graph, link-of, link-before, proper, ascending};
+ghost use Rattle.mesh.specs.Graph.{graph, ascending};
 ghost use Rattle.mesh.specs.Orders.{each-once};
-ghost use Rattle.mesh.specs.Image.{image-order};
-ghost use Rattle.image_reader.specs.Site.{links-up-to, Tallied, few-ends, running-maxima-of, Tally-room, K-order-decided, Site-room, Site-decided};
+ghost use Rattle.mesh.specs.Image.{block-bytes, order-blocks, image-order};
+ghost use Rattle.image_reader.specs.Site.{links-up-to, Tallied, running-maxima-of, Links-room, Tally-room};
+ghost use Rattle.image_reader.specs.Site.{Links-decided, K-order-decided, Site-room, Site-decided};
+use super::blocks;
+use super::blocks::Last;
 use image::bytes;
 use image::layout;
 use image_form::form;
 use mesh::Site;
 
-// Whether the link a-b stands before the link c-d: by the lower radio, then by the higher.
-fn is_before(a: u32, b: u32, c: u32, d: u32) -> bool
-    ensures { λ r. ⌜ r ≡ link-before (link-of a b) (link-of c d) ⌝ }
-{
-    if a < c {
-        return true;
-    }
-    if a != c {
-        return false;
-    }
-    b < d
-}
+const ENTRIES: usize = layout::ENTRIES as usize;
 
-// Whether the first m links of the image have their lower radio first, radios below n, and stand ascending.
-fn are_listed(image: &[u8], n: u32, m: u32) -> bool
-    requires { ⌜ (n ≤ max-radios) × (m < 65536) ⌝ }
-    ensures { λ r. ⌜ r ≡ (proper n (links-up-to n (now (image .entry)) m) && ascending (links-up-to n (now (image .entry)) m)) ⌝ }
+// Whether the first m links of the image have their lower radio first, radios below n, and stand ascending. Then the counts are how
+// many of them each radio has; else they hold anything.
+fn are_listed(image: &[u8], n: u32, m: u32, counts: &mut [u16]) -> bool
+    requires { ⌜ Links-room n m (now image) (length (now counts)) ⌝ }
+    ensures { λ r. ⌜ Links-decided n m (now (image .entry)) (now (counts .exit)) r ⌝ }
 {
-    let mut low: u32 = 0;
-    let mut high: u32 = 0;
-    let mut j: u32 = 0;
-    while j < m {
-        let pair = bytes::link_at(image, n, j);
-        let a = pair.low;
-        let b = pair.high;
-        if b <= a {
+    tables::fill::fill16(counts, 0);
+    let end = layout::blocks_for(m, layout::LINKS);
+    let mut last = Last {
+        good: true,
+        low: 0,
+        high: 0,
+    };
+    let mut q: u32 = 0;
+    while q < end {
+        last = blocks::list_block(image, n, m, q, last, counts);
+        if !last.good {
             return false;
         }
-        if n <= b {
-            return false;
-        }
-        if !is_before(low, high, a, b) {
-            return false;
-        }
-        low = a;
-        high = b;
-        j += 1;
+        q += 1;
     }
     true
 }
 
-// Whether the rank of v is below that of w with the slack added.
-fn is_below(ranks: &[u16], v: u32, w: u32, slack: u16) -> bool
-    requires { ⌜ (v < length (now ranks)) × (w < length (now ranks)) ⌝ }
-    ensures { λ r. ⌜ r ≡ ltb (getD (now (ranks .entry)) v 0) (getD (now (ranks .entry)) w 0 + slack) ⌝ }
-{
-    let x = ranks[v as usize];
-    let y = ranks[w as usize];
-    (x as u32) < y as u32 + slack as u32
-}
-
-// Counts v once more where `on`.
-fn bump(counts: &mut [u16], v: u32, on: bool)
-    requires { ⌜ (v < length (now counts)) × (getD (now counts) v 0 < 65535) ⌝ }
-    ensures { λ _. ⌜ now (counts .exit) ≡ set (now (counts .entry)) v (getD (now (counts .entry)) v 0 + cond on 1 0) ⌝ }
-{
-    let at = v as usize;
-    let old = counts[at];
-    if on {
-        counts[at] = old + 1;
-    } else {
-        counts[at] = old;
-    }
-}
-
 // For each radio v below n, counts[v] is the number of its links among the first m whose other end w has a rank of which, with
-// the slack added, that of v is below. Later entries are zero.
+// the slack added, that of v is below.
 fn tally(image: &[u8], n: u32, m: u32, ranks: &[u16], slack: u16, counts: &mut [u16])
-    requires { ⌜ (n ≤ max-radios) × (m < 65536) × (n ≤ length (now ranks)) × (n ≤ length (now counts)) ×
-        (proper n (links-up-to n (now image) m) ≡ true) ⌝ }
+    requires { ⌜ Tally-room n m (now image) (length (now ranks)) (length (now counts)) ⌝ }
     ensures { λ _. ⌜ Tallied n (now (ranks .entry)) slack (links-up-to n (now (image .entry)) m) (now (counts .exit)) ⌝ }
 {
     tables::fill::fill16(counts, 0);
-    let mut j: u32 = 0;
-    while j < m {
-        let pair = bytes::link_at(image, n, j);
-        let a = pair.low;
-        let b = pair.high;
-        bump(counts, a, is_below(ranks, a, b, slack));
-        bump(counts, b, is_below(ranks, b, a, slack));
-        j += 1;
+    let end = layout::blocks_for(m, layout::LINKS);
+    let mut q: u32 = 0;
+    while q < end {
+        blocks::tally_block(image, n, m, q, ranks, slack, counts);
+        q += 1;
     }
 }
 
 // The image's order, as many entries as `order` has.
 fn read_order(image: &[u8], order: &mut [u16])
-    requires { ⌜ length (now order) ≤ max-radios ⌝ }
+    requires { ⌜ (length (now order) ≤ max-radios) × (block-bytes * (1 + order-blocks (length (now order))) ≤ length (now image)) ⌝ }
     ensures { λ _. ⌜ now (order .exit) ≡ image-order (length (now (order .entry))) (now (image .entry)) ⌝ }
 {
-    let mut j: usize = 0;
-    while j < order.len() {
-        let x = bytes::order_at(image, j as u32);
-        order[j] = (x % 65536) as u16;
-        j += 1;
+    let mut q: usize = 0;
+    while ENTRIES * q < order.len() {
+        blocks::order_block(image, q, order);
+        q += 1;
     }
 }
 
@@ -120,25 +80,26 @@ fn each_at_most(entries: &[u16], most: &[u16]) -> bool
     ensures { λ r. ⌜ r ≡ all (λ (v : ℕ). leb (getD (now (entries .entry)) v 0) (getD (now (most .entry)) v 0))
         (range 0 (length (now (entries .entry)))) ⌝ }
 {
+    let mut all = true;
     let mut v: usize = 0;
     while v < entries.len() {
-        if most[v] < entries[v] {
-            return false;
-        }
+        all = all & (entries[v] <= most[v]);
         v += 1;
     }
-    true
+    all
 }
 
-// Whether no radio has more of the first m links than a radio may have neighbours. Ranks and counts hold anything after.
-fn are_few(image: &[u8], n: u32, m: u32, ranks: &mut [u16], counts: &mut [u16]) -> bool
-    requires { ⌜ Tally-room n m (now image) (length (now ranks)) (length (now counts)) ⌝ }
-    ensures { λ r. ⌜ r ≡ few-ends max-neighbours n (links-up-to n (now (image .entry)) m) ⌝ }
+// Whether no count is above the most neighbours that a radio may have.
+fn are_few(counts: &[u16]) -> bool
+    ensures { λ r. ⌜ r ≡ all (λ (v : ℕ). leb (getD (now (counts .entry)) v 0) max-neighbours) (range 0 (length (now (counts .entry)))) ⌝ }
 {
-    // with equal ranks and a slack of 1 every link counts
-    tables::fill::fill16(ranks, Site::NEIGHBOURS as u16);
-    tally(image, n, m, ranks, 1, counts);
-    each_at_most(counts, ranks)
+    let mut few = true;
+    let mut v: usize = 0;
+    while v < counts.len() {
+        few = few & (counts[v] <= Site::NEIGHBOURS as u16);
+        v += 1;
+    }
+    few
 }
 
 // The larger of two numbers.
@@ -205,10 +166,10 @@ pub(crate) fn is_site(
         return false;
     }
     let m = bytes::word_at(image, layout::LINKS_AT);
-    if !are_listed(image, n, m) {
+    if !are_listed(image, n, m, counts) {
         return false;
     }
-    if !are_few(image, n, m, ranks, counts) {
+    if !are_few(counts) {
         return false;
     }
     read_order(image, listed);

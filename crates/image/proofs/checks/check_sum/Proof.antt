@@ -1,29 +1,25 @@
--- `checks::check_sum` meets its contract: the sum is the check of the bytes passed, each at most 255 × 512. The measure is
--- what is left of the bytes.
-use Prim.Native.Nat.{_-_}
+-- `checks::check_sum` meets its contract: whole runs and what is left of a block; all bytes of less than a block.
+use mathlib.Core.Path.{_≡_, refl, ap, _∙_}
+use Prim.Native.Nat.{ℕ, min}
 use native.Mathlib.Omega.{arith}
+use lib.ListN.{length, take}
 use borrow.Author.Needs.{needs}
-use Rattle.image.proofs.CheckLaws.{Summing, summing-none, summing-turn, summing-end, product-fits, sum-fits}
+use Rattle.lists.proofs.Parts.{take-min}
+use Rattle.mesh.specs.Image.{check-sum, weighted-sum}
 use Rattle.image.proofs.checks.check_sum.Statement.{statement}
 use Rattle.image.proofs.checks.check_sum.Tie as tie
 
-abbrev Inv-loop : tie.InvT-loop
-Inv-loop bytes count sum₀ i₀ sum i = Summing bytes sum i
+check-rest-requires : tie.Need-check-rest-requires
+unfolding check-sum weighted-sum
+check-rest-requires c κs = (omega arith, omega arith, omega arith, refl)
 
-abbrev μ-loop : tie.MeasureT-loop
-μ-loop bytes count sum₀ i₀ sum i = count - i
-
-mul-sum : tie.Need-mul-sum Inv-loop μ-loop
-mul-sum c = record { fits = product-fits _ _ _ _ (c .before .before .before .loop .inv) (omega arith) (c .wide .ensures .1) }
-
-add-sum-2 : tie.Need-add-sum-2 Inv-loop μ-loop
-add-sum-2 c = record { fits = sum-fits _ _ _ _ (c .before .before .before .loop .inv) (omega arith) (c .wide .ensures .1) }
-
-loop-again : tie.Need-loop-again Inv-loop μ-loop
-loop-again c = summing-turn _ _ _ _ (c .before .before .before .loop .inv) (omega arith) (c .wide .ensures .1) (c .wide .ensures .0)
+returns : tie.Need-returns
+returns c =
+    let block = c .before .before .before .args .block .now in
+    let e : length block ≡ min 508 (length block) = omega (arith, c .before .if1 .taken) in
+    c .check-rest .ensures ∙ ap (λ (k : ℕ). check-sum (take k block)) e ∙ ap check-sum (take-min 508 block)
 
 pub check-sum-spec : {M : Type 1} → statement M
 check-sum-spec =
     tie.close (
-    tie.spec Inv-loop μ-loop (λ c κs. search needs) (λ c. summing-none _) (λ c. search needs) (λ c κs. search needs) (λ c. search needs) (λ c. search needs)
-    mul-sum add-sum-2 (λ c. search needs) (λ c. search needs) loop-again (λ c. summing-end _ _ _ (c .before .loop .inv) (omega arith)))
+    tie.spec check-rest-requires returns (λ c. search needs) (λ c κs. search needs) (λ c κs. search needs) (λ c. search needs))

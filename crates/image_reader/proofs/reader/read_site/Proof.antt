@@ -2,9 +2,10 @@
 use mathlib.Core.Path.{refl}
 use native.Mathlib.Omega.{arith}
 use borrow.Author.Needs.{needs}
+use Rattle.lists.specs.Lists.{Bytes}
 use Rattle.mesh.specs.Tables.{tables}
 use Rattle.mesh.proofs.Sizes.{size-good-true}
-use Rattle.image_reader.proofs.SiteLaws.{site-accepted, site-proper}
+use Rattle.image_reader.proofs.SiteLaws.{site-accepted, site-room}
 use Rattle.image_reader.proofs.SourceLaws.{source-refused, source-accepted, source-site, source-says}
 use Rattle.image_reader.proofs.reader.read_site.Statement.{statement}
 use Rattle.image_reader.proofs.reader.read_site.Tie as tie
@@ -19,11 +20,10 @@ put-links-requires c κs =
     let else1 = word .before in
     let source = else1 .before .before .before .before .before .before .before in
     let start = source .before .before .before .before .before .before .before .before .before .before .before in
-    let small = size-good-true _ (start .pre .0 .this-size) .1 in (
-      small,
-      word .word-at .ensures .1,
+    let bytes : Bytes (start .args .image .now) = λ j l. source .before .before .before .before .before .before .before .shared-slice-known .given j .fits in (
+      site-room _ _ (size-good-true _ (start .pre .0 .this-size) .1) _ _ _ (source-site _ _ _ _ _ (source .refusal .ensures) (else1 .if1 .left)) refl bytes
+          (start .pre .0 .room .checked) _ (word .word-at .ensures .0) (word .word-at .ensures .1),
       start .pre .1 .0,
-      site-proper _ _ small _ _ _ (source-site _ _ _ _ _ (source .refusal .ensures) (else1 .if1 .left)) refl _ (word .word-at .ensures .0),
     )
 
 put-numbers-requires : tie.Need-put-numbers-requires

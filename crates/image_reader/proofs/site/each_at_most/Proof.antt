@@ -1,34 +1,24 @@
--- `site::each_at_most` meets its contract: the entries passed are not above theirs. The measure is the entries left.
-use mathlib.Core.Path.{sym}
+-- `site::each_at_most` meets its contract: the answer so far is that of the entries passed. The measure is the entries left.
 use Prim.Native.Nat.{_-_}
 use native.Mathlib.Omega.{arith}
 use lib.ListN.{length}
 use borrow.Author.Needs.{needs}
-use Rattle.image.proofs.CheckLaws.{Testing, testing-none, testing-end}
-use Rattle.image_reader.proofs.KOrderLaws.{at-most, at-most-turn, at-most-stop}
+use Rattle.image.proofs.CheckLaws.{Passing, passing-none, passing-turn, passing-end}
+use Rattle.image_reader.proofs.KOrderLaws.{at-most}
 use Rattle.image_reader.proofs.site.each_at_most.Statement.{statement}
 use Rattle.image_reader.proofs.site.each_at_most.Tie as tie
 
 abbrev Inv-loop : tie.InvT-loop
-Inv-loop entries most v₀ v = Testing (at-most entries most) (length entries) v
+Inv-loop entries most all₀ v₀ all v = Passing (at-most entries most) (length entries) all v
 
 abbrev μ-loop : tie.MeasureT-loop
-μ-loop entries most v₀ v = length entries - v
-
-returns : tie.Need-returns Inv-loop μ-loop
-returns c =
-    let in-loop = c .before .before .before in
-    let start = in-loop .before .before in
-    sym (at-most-stop (start .args .entries .now) (start .args .most .now) _ (in-loop .before .loop .inv) (in-loop .loop-test .taken) (c .if1 .taken))
+μ-loop entries most all₀ v₀ all v = length entries - v
 
 loop-again : tie.Need-loop-again Inv-loop μ-loop
-loop-again c =
-    let in-loop = c .before .before .before in
-    let start = in-loop .before .before in
-    at-most-turn (start .args .entries .now) (start .args .most .now) _ (in-loop .before .loop .inv) (in-loop .loop-test .taken) (c .if1 .left)
+loop-again c = passing-turn _ _ _ _ (c .before .before .before .loop .inv) (omega arith)
 
 pub each-at-most-spec : {M : Type 1} → statement M
 each-at-most-spec =
     tie.close (
-    tie.spec Inv-loop μ-loop (λ c. testing-none _ _) (λ c. search needs) (λ c. search needs) (λ c. search needs) (λ c. search needs) returns
-    (λ c. search needs) (λ c. search needs) loop-again (λ c. sym (testing-end _ _ _ (c .before .loop .inv) (omega arith))))
+    tie.spec Inv-loop μ-loop (λ c. passing-none _ _) (λ c. search needs) (λ c. search needs) (λ c. search needs) (λ c. search needs) (λ c. search needs)
+    (λ c. search needs) loop-again (λ c. passing-end _ _ _ _ (c .before .loop .inv) (c .loop-test .left)))

@@ -29,6 +29,22 @@ run-maxima-requires c κs =
       omega (arith, placed .places-of .kept .1 .0),
     )
 
+tally-requires-2 : tie.Need-tally-requires-2
+tally-requires-2 c κs =
+    let run = c .before .before .before .before in
+    let tallied = run .before .before .before .before .before in
+    let placed = tallied .before .before .before .before .before .before in
+    let start = placed .before .before .before .before .before .before in
+    let room = start .pre .0 in
+    record {
+      most = room .most;
+      few = room .few;
+      whole = room .whole;
+      ranked = run .run-maxima .kept .1 .1 .0 ∙ placed .places-of .kept .1 .0 ∙ room .ranked;
+      counted = tallied .tally .kept .1 .1 .1 .1 .1 .0 ∙ room .counted;
+      is-proper = room .is-proper;
+    }
+
 returns-2 : tie.Need-returns-2
 returns-2 c =
     let tallied2 = c .before .before .before .before .before in
@@ -44,5 +60,5 @@ returns-2 c =
 pub is-k-order-spec : {M : Type 1} → statement M
 is-k-order-spec =
     tie.close (
-    tie.spec (λ c κs. search needs) (λ c. search needs) returns (λ c κs. search needs) run-maxima-requires (λ c κs. search needs) (λ c κs. search needs)
+    tie.spec (λ c κs. search needs) (λ c. search needs) returns (λ c κs. search needs) run-maxima-requires tally-requires-2 (λ c κs. search needs)
     (λ c. search needs) (λ c. search needs) returns-2)

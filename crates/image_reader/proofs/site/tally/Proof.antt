@@ -1,90 +1,55 @@
--- `site::tally` meets its contract: the links passed are counted. The measure is the links left.
-use mathlib.Core.Path.{_≡_, sym, ap, _∙_}
-use Prim.Native.Nat.{ℕ, _-_, _≤_}
+-- `site::tally` meets its contract: the blocks passed are counted. The measure is the blocks left.
+use mathlib.Core.Path.{_≡_, refl, _∙_}
+use Prim.Native.Nat.{_-_}
 use native.Mathlib.Omega.{arith}
-use lib.ListN.{length, replicate}
+use lib.ListN.{length}
 use borrow.Author.Needs.{needs}
-use Rattle.image_reader.proofs.TallyLaws.{Tallying, tallying-none, tallying-end, tallying-two, proper-pair, once-fits, one-fits}
+use Rattle.image_reader.specs.Site.{links-up-to, passed, Tallied}
+use Rattle.image_reader.proofs.BlockLaws.{block-there, passed-none, passed-all}
+use Rattle.image_reader.proofs.TallyLaws.{tallied-none, tallied-at}
 use Rattle.image_reader.proofs.site.tally.Statement.{statement}
 use Rattle.image_reader.proofs.site.tally.Tie as tie
 
 abbrev Inv-loop : tie.InvT-loop
-Inv-loop image n m ranks slack counts₀ j₀ counts j = (j ≤ m) × (n ≤ length counts₀) × Tallying n ranks slack image counts₀ counts j
+Inv-loop image n m ranks slack counts₀ end q₀ counts q =
+    (length counts ≡ length counts₀) × Tallied n ranks slack (links-up-to n image (passed m q)) counts
 
 abbrev μ-loop : tie.MeasureT-loop
-μ-loop image n m ranks slack counts₀ j₀ counts j = m - j
+μ-loop image n m ranks slack counts₀ end q₀ counts q = end - q
 
 loop-holds : tie.Need-loop-holds Inv-loop μ-loop
 loop-holds c =
-    let filled = c .before .before in
+    let filled = c .before .before .before in
     let start = filled .before .before .before .before .before in
-    let long : length (filled .fill16 .last .0) ≡ length (start .args .counts .now) = filled .fill16 .kept .0 in (
-      omega arith,
-      omega (arith, start .pre .3),
-      tallying-none _ _ _ _ _ _ (omega (arith, start .pre .3)) (filled .fill16 .ensures ∙ ap (λ (k : ℕ). replicate {A = ℕ} k 0) (sym long)),
-    )
+    (refl, tallied-none _ _ _ _ _ (length (start .args .counts .now)) _ (omega (arith, start .pre .counted)) (filled .fill16 .ensures) (passed-none _))
 
-is-below-requires : tie.Need-is-below-requires Inv-loop μ-loop
-is-below-requires c κs =
-    let read = c .before in
-    let at-loop = read .before .before in
-    let start = at-loop .before .before .before .before .before .before .before .before in
-    let good = proper-pair _ _ _ _ _ _ (start .pre .4) (read .before .loop-test .taken) (read .link-at .ensures) in
-    (omega (arith, start .pre .2), omega (arith, start .pre .2))
-
-bump-requires : tie.Need-bump-requires Inv-loop μ-loop
-bump-requires c κs =
-    let read = c .before .before in
-    let at-loop = read .before .before in
-    let start = at-loop .before .before .before .before .before .before .before .before in
-    let good = proper-pair _ _ _ _ _ _ (start .pre .4) (read .before .loop-test .taken) (read .link-at .ensures) in (
-      omega (arith, at-loop .loop .inv .1, at-loop .loop .inv .2 .long),
-      once-fits _ _ _ _ _ _ _ (at-loop .loop .inv .2) _ _ (read .link-at .ensures) (good .0) (good .1) (at-loop .loop .inv .1) (omega arith),
-    )
-
-is-below-requires-2 : tie.Need-is-below-requires-2 Inv-loop μ-loop
-is-below-requires-2 c κs =
-    let read = c .before .before .before .before .before .before in
-    let at-loop = read .before .before in
-    let start = at-loop .before .before .before .before .before .before .before .before in
-    let good = proper-pair _ _ _ _ _ _ (start .pre .4) (read .before .loop-test .taken) (read .link-at .ensures) in
-    (omega (arith, start .pre .2), omega (arith, start .pre .2))
-
-bump-requires-2 : tie.Need-bump-requires-2 Inv-loop μ-loop
-bump-requires-2 c κs =
-    let once = c .before .before .before .before in
-    let read = once .before .before .before in
-    let at-loop = read .before .before in
-    let start = at-loop .before .before .before .before .before .before .before .before in
-    let good = proper-pair _ _ _ _ _ _ (start .pre .4) (read .before .loop-test .taken) (read .link-at .ensures) in (
-      omega (arith, at-loop .loop .inv .1, at-loop .loop .inv .2 .long, once .bump .kept .0),
-      one-fits _ _ _ _ _ _ _ (at-loop .loop .inv .2) _ _ (read .link-at .ensures) (good .0) (good .1) (at-loop .loop .inv .1)
-          _ (c .is-below2 .result) _ (once .bump .last .0) (once .before .is-below .ensures) (c .is-below2 .ensures) (once .bump .ensures) (omega arith),
+tally-block-requires : tie.Need-tally-block-requires Inv-loop μ-loop
+tally-block-requires c κs =
+    let at-loop = c .before .before in
+    let filled = at-loop .before .before .before .before in
+    let start = filled .before .before .before .before .before in
+    let room = start .pre in
+    let counted = at-loop .loop .inv .0 ∙ filled .fill16 .kept .0 ∙ room .counted in (
+      (
+        record { most = room .most; few = room .few; whole = room .whole; ranked = room .ranked; counted = counted; is-proper = room .is-proper },
+        block-there _ _ _ (at-loop .before .blocks-for .ensures) (c .before .loop-test .taken),
+      ),
+      at-loop .loop .inv .1,
     )
 
 loop-again : tie.Need-loop-again Inv-loop μ-loop
 loop-again c =
-    let twice = c .before .before in
-    let below2 = twice .before in
-    let once = below2 .before .before .before .before in
-    let read = once .before .before .before in
-    let at-loop = read .before .before in
-    let start = at-loop .before .before .before .before .before .before .before .before in
-    let good = proper-pair _ _ _ _ _ _ (start .pre .4) (read .before .loop-test .taken) (read .link-at .ensures) in (
-      omega arith,
-      at-loop .loop .inv .1,
-      tallying-two _ _ _ _ _ _ _ (at-loop .loop .inv .2) _ _ (read .link-at .ensures) (good .0) (good .1) (at-loop .loop .inv .1)
-          _ (below2 .is-below2 .result) _ (twice .bump2 .last .0) (once .before .is-below .ensures) (below2 .is-below2 .ensures) (once .bump .ensures) (twice .bump2 .ensures),
-    )
-
-same-length : tie.Need-same-length Inv-loop μ-loop
-same-length c = c .before .loop .inv .2 .long ∙ c .before .before .before .before .fill16 .kept .0
+    let counted = c .before .before in
+    let at-loop = counted .before .before .before in
+    (counted .tally-block .kept .1 .1 .1 .1 .1 .1 .0 ∙ at-loop .loop .inv .0, counted .tally-block .ensures)
 
 returns : tie.Need-returns Inv-loop μ-loop
-returns c = tallying-end _ _ _ _ _ _ _ _ (c .before .loop .inv .2) (c .before .loop .inv .0) (omega arith)
+returns c =
+    let at-loop = c .before in
+    tallied-at _ _ _ _ _ _ _ (at-loop .loop .inv .1) (passed-all _ _ _ (at-loop .before .blocks-for .ensures) (c .loop-test .left))
 
 pub tally-spec : {M : Type 1} → statement M
 tally-spec =
     tie.close (
-    tie.spec Inv-loop μ-loop (λ c κs. search needs) loop-holds (λ c κs. search needs) is-below-requires bump-requires is-below-requires-2 bump-requires-2
-    (λ c. search needs) (λ c. search needs) loop-again same-length returns)
+    tie.spec Inv-loop μ-loop (λ c κs. search needs) (λ c κs. search needs) loop-holds tally-block-requires (λ c. search needs) (λ c. search needs) loop-again
+    (λ c. c .before .loop .inv .0 ∙ c .before .before .before .before .before .fill16 .kept .0) returns)

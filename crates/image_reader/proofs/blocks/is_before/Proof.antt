@@ -1,8 +1,8 @@
--- `site::is_before` meets its contract: by the lower radios, then by the higher ones.
+-- `blocks::is_before` meets its contract: by the lower radios, then by the higher ones.
 use borrow.Author.Tests.{lt-ltb, le-ltb, eq-eqb, ne-eqb}
 use Rattle.mesh.specs.Graph.{link-before}
-use Rattle.image_reader.proofs.site.is_before.Statement.{statement}
-use Rattle.image_reader.proofs.site.is_before.Tie as tie
+use Rattle.image_reader.proofs.blocks.is_before.Statement.{statement}
+use Rattle.image_reader.proofs.blocks.is_before.Tie as tie
 
 returns : tie.Need-returns
 unfolding link-before

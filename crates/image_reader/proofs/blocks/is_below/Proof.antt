@@ -1,8 +1,8 @@
--- `site::is_below` meets its contract: entries are below 65536, so the sum fits.
+-- `blocks::is_below` meets its contract: entries are below 65536, so the sum fits.
 use native.Mathlib.Omega.{arith}
 use borrow.Author.Needs.{needs}
-use Rattle.image_reader.proofs.site.is_below.Statement.{statement}
-use Rattle.image_reader.proofs.site.is_below.Tie as tie
+use Rattle.image_reader.proofs.blocks.is_below.Statement.{statement}
+use Rattle.image_reader.proofs.blocks.is_below.Tie as tie
 
 cast-result : tie.Need-cast-result
 cast-result c = omega (arith, c .shared-slice-known2 .given (c .before .before .args .v), c .shared-slice-known2 .given (c .before .before .args .w))

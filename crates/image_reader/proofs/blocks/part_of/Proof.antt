@@ -1,0 +1,26 @@
+-- `blocks::part_of` meets its contract: the place and the count are the definition's own.
+use mathlib.Core.Path.{refl}
+use native.Mathlib.Omega.{arith}
+use borrow.Author.Needs.{needs}
+use Rattle.mesh.specs.Image.{blocks-for, order-blocks}
+use Rattle.image_reader.proofs.BlockLaws.{part-is}
+use Rattle.image_reader.proofs.blocks.part_of.Statement.{statement}
+use Rattle.image_reader.proofs.blocks.part_of.Tie as tie
+
+add-first : tie.Need-add-first
+unfolding blocks-for
+add-first c = omega (arith, c .blocks-for .ensures)
+
+add-at : tie.Need-add-at
+unfolding blocks-for
+add-at c = omega (arith, c .blocks-for .ensures)
+
+returns : tie.Need-returns
+unfolding order-blocks
+returns c = part-is _ _ _ _ _ _ (c .before .before .pre .2) (c .before .blocks-for .ensures) refl (c .least .ensures)
+
+pub part-of-spec : {M : Type 1} → statement M
+part-of-spec =
+    tie.close (
+    tie.spec (λ c κs. search needs) add-first add-at (λ c. search needs) (λ c. search needs) (λ c. search needs) (λ c. search needs) (λ c. search needs)
+    (λ c. search needs) (λ c. search needs) (λ c κs. search needs) returns)
