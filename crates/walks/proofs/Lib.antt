@@ -1,0 +1,7 @@
+-- The walk of a link going up (document 001, sections 5 and 6). `Front`: radios with few later neighbours are taken in their order.
+-- `Beginning`: what stands before the beginning end stays, and the rest is any peel of the rest of the level. `Turns`: the walk's turns
+-- are a run of the peel. `Ended`: the order and the changed radios at its end.
+pub mod Front
+pub mod Beginning
+pub mod Turns
+pub mod Ended
