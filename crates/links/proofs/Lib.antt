@@ -24,3 +24,8 @@ pub mod PlanCall
 pub mod Applied
 -- a call refused and accepted
 pub mod CallLaws
+-- the walk of a link going up: its loops, what its turns write, the turns
+pub mod WalkLoops
+pub mod WalkReleased
+pub mod WalkHeld
+pub mod WalkTurns

@@ -6,3 +6,5 @@ pub mod Asked
 pub mod Turns
 -- the peel of a level
 pub mod Peels
+-- the walk of a link going up
+pub mod Walks

@@ -6,3 +6,4 @@ pub mod plan;
 mod questions;
 mod stretch;
 mod turn;
+mod walk;

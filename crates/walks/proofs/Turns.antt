@@ -9,11 +9,12 @@ use mathlib.Core.Path.{_≡_, refl, sym, ap, _∙_}
 use mathlib.Core.Logic.{_⊎_, inl, inr}
 use mathlib.Core.Bool.{Bool, true, false, cond}
 use mathlib.Core.List.{List, [], _∷_, _++_, append-nil, append-assoc}
-use Prim.Native.Nat.{ℕ, suc, _+_, _-_, _≤_, _<_}
+use Prim.Native.Nat.{ℕ, zero, suc, _+_, _-_, _≤_, _<_}
 use native.Mathlib.Omega.{arith}
+use native.Mathlib.Nat.{add-zero, add-suc}
 use lib.Dec.{ltb, leb, eqb}
 use lib.ListN.{length, getD, take, drop, length-drop, length-append, take-append-drop, drop-of-length-le}
-use lib.Seq.{drop-cons, getD-drop, take-at, take-all}
+use lib.Seq.{drop-cons, getD-drop, take-at, take-all, take-suc}
 use borrow.Author.Tests.{leb-true, leb-false, le-leb, lt-leb, eqb-true, eqb-false, ltb-true, ltb-false, lt-ltb, le-ltb}
 use Rattle.lists.specs.Lists.{count, filter, member, In, Distinct, Rising}
 use Rattle.lists.proofs.Tests.{bool-cases, never, bit-true, bit-false}
@@ -61,16 +62,16 @@ module _ (f : ℕ → ℕ → Bool) (most : ℕ) (above part : List ℕ) (pos : 
     pub only : (q : ℕ) → next q ≡ true → ((q ≡ p → ⊥) × (due q ≡ true)) ⊎ ((w : ℕ) × In w later × (pos w ≡ q))
 
   module _ (P : Part f part pos) where
-    in-part : (v : ℕ) → In v part → (pos v < length part) × (getD part (pos v) 0 ≡ v)
+    pub in-part : (v : ℕ) → In v part → (pos v < length part) × (getD part (pos v) 0 ≡ v)
     in-part v m =
         let r = getD-of-in v part m in
         let e : pos v ≡ r .0 = ap pos (sym (r .2)) ∙ P .placed (r .0) (r .1) in
         (omega (arith, r .1), ap (λ (i : ℕ). getD part i 0) e ∙ r .2)
 
-    same-place : (v w : ℕ) → In v part → In w part → pos v ≡ pos w → v ≡ w
+    pub same-place : (v w : ℕ) → In v part → In w part → pos v ≡ pos w → v ≡ w
     same-place v w m q e = sym (in-part v m .1) ∙ ap (λ (i : ℕ). getD part i 0) e ∙ in-part w q .1
 
-    in-rest : (k v : ℕ) → In v (drop k part) → (k ≤ pos v) × (pos v < length part)
+    pub in-rest : (k v : ℕ) → In v (drop k part) → (k ≤ pos v) × (pos v < length part)
     in-rest k v m =
         let r = getD-of-in v (drop k part) m in
         let l : k + r .0 < length part = omega (arith, r .1, length-drop k part) in
@@ -90,7 +91,7 @@ module _ (f : ℕ → ℕ → Bool) (most : ℕ) (above part : List ℕ) (pos : 
       left-rises =
           rw (takes-now-filter f most above (P .distinct) (h .takes)) (rising-filter pos (λ v. member v (h .held ++ rest)) part (P .rises))
 
-      held-part : (v : ℕ) → In v (h .held) → In v part
+      pub held-part : (v : ℕ) → In v (h .held) → In v part
       held-part v m = takes-now-in f most above (h .takes) v (in-left v (h .held) rest m)
 
       not-due-full : (v : ℕ) → In v (h .held) → due (pos v) ≡ false → most < left (h .held) front v
@@ -442,7 +443,7 @@ module _ (f : ℕ → ℕ → Bool) (most : ℕ) (above part : List ℕ) (pos : 
 
       -- ---- the end
 
-      length-held : length taken + length (h .held) ≡ front
+      pub length-held : length taken + length (h .held) ≡ front
       length-held =
           omega (
             arith,
@@ -511,6 +512,38 @@ module _ (f : ℕ → ℕ → Bool) (most : ℕ) (above part : List ℕ) (pos : 
 
           empty : h .held ≡ []
           empty = nil (h .held) (omega (arith, length-held))
+
+    -- ---- radios before the next place due are passed as they stand
+
+    module _ (mark : ℕ → Bool) (counter : ℕ → ℕ) (due : ℕ → Bool) (front : ℕ) (taken : List ℕ) where
+      abbrev Passed : ℕ → Type 0
+      Passed m = Walks (taken ++ take m (drop front part)) (front + m) mark counter due
+
+      longer : (m : ℕ) → front + suc m ≤ length part
+          → (taken ++ take m (drop front part)) ++ (getD part (front + m) 0 ∷ []) ≡ taken ++ take (suc m) (drop front part)
+      longer m room =
+          append-assoc taken (take m (drop front part)) (getD part (front + m) 0 ∷ [])
+          ∙ ap (λ (z : List ℕ). taken ++ z)
+          (ap (λ (x : ℕ). take m (drop front part) ++ (x ∷ [])) (sym (getD-drop front part m 0))
+          ∙ sym (take-suc (drop front part) m 0 (omega (arith, length-drop front part))))
+
+      pass-one : (m : ℕ) → Passed m → front + suc m ≤ length part → ((q : ℕ) → q < front + suc m → due q ≡ false)
+          → count (f (getD part (front + m) 0)) (drop (suc (front + m)) part) + count (f (getD part (front + m) 0)) above ≤ most → Passed (suc m)
+      pass-one m h room undue few =
+          let one : Walks ((taken ++ take m (drop front part)) ++ (getD part (front + m) 0 ∷ [])) (suc (front + m)) mark counter due =
+          turn-pass h (omega arith) (λ q l. undue q (omega arith)) (undue (front + m) (omega arith)) few in
+          rw (← longer m room, add-suc front m) one
+
+      pass-all : (m : ℕ) → Passed 0 → front + m ≤ length part → ((q : ℕ) → q < front + m → due q ≡ false)
+          → ((i : ℕ) → front ≤ i → i < length part → count (f (getD part i 0)) (drop (suc i) part) + count (f (getD part i 0)) above ≤ most) → Passed m
+      pass-all zero h room undue few = h
+      pass-all (suc m) h room undue few =
+          pass-one m (pass-all m h (omega arith) (λ q l. undue q (omega arith)) few) room undue (few (front + m) (omega arith) (omega arith))
+
+      pub turns-pass : (m : ℕ) → Walks taken front mark counter due → front + m ≤ length part → ((q : ℕ) → q < front + m → due q ≡ false)
+          → ((i : ℕ) → front ≤ i → i < length part → count (f (getD part i 0)) (drop (suc i) part) + count (f (getD part i 0)) above ≤ most)
+          → Walks (taken ++ take m (drop front part)) (front + m) mark counter due
+      turns-pass m h room undue few = pass-all m (rw (append-nil taken, add-zero front) h) room undue few
 
     -- before the first turn
     pub turns-none : (mark : ℕ → Bool) (counter : ℕ → ℕ) (due : ℕ → Bool) → ((v : ℕ) → mark v ≡ false) → ((v : ℕ) → counter v ≤ most)
