@@ -29,3 +29,5 @@ pub mod WalkLoops
 pub mod WalkReleased
 pub mod WalkHeld
 pub mod WalkTurns
+pub mod WalkMade
+pub mod WalkSteps

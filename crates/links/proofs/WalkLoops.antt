@@ -3,17 +3,18 @@
 use mathlib.Core.Path.{_≡_, refl, sym, ap, _∙_}
 use mathlib.Core.Logic.{_⊎_, inl, inr}
 use mathlib.Core.Bool.{Bool, true, false, cond}
-use mathlib.Core.List.{List, [], _∷_}
-use Prim.Native.Nat.{ℕ, _+_, _≤_, _<_}
+use mathlib.Core.List.{List, [], _∷_, _++_}
+use Prim.Native.Nat.{ℕ, _+_, _-_, _≤_, _<_}
 use mir.Syntax.{w8}
 use mir.Val.{boolByte, Fits}
 use native.Mathlib.Omega.{arith}
 use lib.Dec.{eqb}
-use lib.ListN.{length, getD, take}
-use lib.Seq.{length-take-le, getD-take}
+use lib.ListN.{length, getD, take, drop}
+use lib.Seq.{length-take-le, getD-take, take-take, paste}
+use borrow.Rule.Slice.PartMut.{midOf, putMid, mid-len}
 use borrow.Author.Tests.{eqb-true, eq-eqb, ne-eqb, lt-ltb, le-ltb, le-leb, lt-leb}
 use Rattle.mesh.specs.Limits.{max-radios, max-neighbours, row-bytes}
-use Rattle.lists.specs.Lists.{count, folded, head-or, In}
+use Rattle.lists.specs.Lists.{count, folded, head-or, overwrite, In}
 use Rattle.mesh.specs.Tables.{marked, put-bit}
 use Rattle.lists.proofs.Tests.{bool-cases, bit-one, byte-bit}
 use Rattle.lists.proofs.Member.{in-getD}
@@ -21,6 +22,7 @@ use Rattle.lists.proofs.Loops.{Counted-from, counted-turn, counted-end, length-
 use Rattle.mesh.proofs.Tables.Laws.{length-put-bit}
 use Rattle.rows.specs.Rows.{neighbours-of, row-listed}
 use Rattle.rows.proofs.RowWords.{row-listed-whole}
+use Rattle.link_parts.proofs.ChangeLaws.{put-part}
 use Rattle.links.specs.Walks.{is-later, place-touched, places-touched, stop-place, next-place, Known}
 use Rattle.links.proofs.TurnLaws.{marked-put}
 
@@ -70,6 +72,19 @@ module _ (first size front taken : ℕ) (ds : List ℕ) where
     pub next-on : first + front ≤ p → front < size → p ≡ next-place first size front taken ds
     unfolding next-place
     next-on l h = rw (lt-leb front taken some, ← whole, le-ltb p (first + front) l, lt-leb size front h)
+
+-- ---- passing
+
+-- a part of ys copied over as long a part of xs
+pub copied-part : (xs ys new : List ℕ) (front until at : ℕ) → front ≤ until → until ≤ length ys → at + (until - front) ≤ length xs
+    → new ≡ overwrite (take (length (midOf at (at + (until - front) - at) xs)) (midOf front (until - front) ys)) (midOf at (at + (until - front) - at) xs)
+    → putMid at (at + (until - front) - at) xs new ≡ paste xs at (drop front ys) (until - front)
+copied-part xs ys new front until at low high room e =
+    let m = until - front in
+    let long : length (midOf front m ys) ≡ m = mid-len front until ys high in
+    put-part xs (midOf front m ys) new at (at + m) (ap (λ (x : ℕ). at + x) long) room e
+    ∙ ap (λ (x : ℕ). paste xs at (midOf front m ys) x) long
+    ∙ ap (λ (z : List ℕ). take at xs ++ z ++ drop (at + m) xs) (take-take m m (drop front ys) (omega arith))
 
 -- ---- touching
 

@@ -118,12 +118,13 @@ fn look(
     due: &mut [u8],
     list: &mut [u16],
 ) -> usize
-    requires site { ⌜ Walk-site (rise .a) (rise .b) (rise .most) first size (now links) (now numbers) (now tail) (now places) ⌝ }
-    requires state { ⌜ Walk-state (rise .a) (rise .b) (rise .most) first size (now links) (now tail) (now places) front taken
-        (now held) (now counters) (now due) (now list) ⌝ }
-    requires free { ⌜ (front < size) × ((q : ℕ) → q < front → marked (now due) 0 (first + q) ≡ false) ⌝ }
-    ensures { λ r. ⌜ Walk-state (rise .a) (rise .b) (rise .most) first size (now (links .entry)) (now (tail .entry)) (now (places .entry))
+    requires { ⌜ Walk-site (rise .a) (rise .b) (rise .most) first size (now links) (now numbers) (now tail) (now places) ×
+        Walk-state (rise .a) (rise .b) (rise .most) first size (now links) (now tail) (now places) front taken
+        (now held) (now counters) (now due) (now list) ×
+        ((front < size) × ((q : ℕ) → q < front → marked (now due) 0 (first + q) ≡ false)) ⌝ }
+    ensures state { λ r. ⌜ Walk-state (rise .a) (rise .b) (rise .most) first size (now (links .entry)) (now (tail .entry)) (now (places .entry))
         (front + 1) r (now (held .exit)) (now (counters .exit)) (now (due .exit)) (now (list .exit)) ⌝ }
+    ensures kept { λ r. ⌜ taken ≤ r ⌝ }
 {
     let mut row = [0u8; Site::ROW_BYTES];
     let mut near = [0u16; Site::NEIGHBOURS as usize];
@@ -168,10 +169,10 @@ fn back(
     due: &mut [u8],
     list: &mut [u16],
 )
-    requires site { ⌜ Walk-site (rise .a) (rise .b) (rise .most) first size (now links) (now numbers) (now tail) (now places) ⌝ }
-    requires state { ⌜ Walk-state (rise .a) (rise .b) (rise .most) first size (now links) (now tail) (now places) front taken
-        (now held) (now counters) (now due) (now list) ⌝ }
-    requires fallen { ⌜ (p ≡ head-or max-radios (neighbours-of (now due) 0)) × (p < first + front) ⌝ }
+    requires { ⌜ Walk-site (rise .a) (rise .b) (rise .most) first size (now links) (now numbers) (now tail) (now places) ×
+        Walk-state (rise .a) (rise .b) (rise .most) first size (now links) (now tail) (now places) front taken
+        (now held) (now counters) (now due) (now list) ×
+        ((p ≡ head-or max-radios (neighbours-of (now due) 0)) × (p < first + front)) ⌝ }
     ensures { λ _. ⌜ Walk-state (rise .a) (rise .b) (rise .most) first size (now (links .entry)) (now (tail .entry)) (now (places .entry))
         front (taken + 1) (now (held .exit)) (now (counters .exit)) (now (due .exit)) (now (list .exit)) ⌝ }
 {
@@ -246,10 +247,10 @@ fn step(
     due: &mut [u8],
     list: &mut [u16],
 ) -> Reached
-    requires site { ⌜ Walk-site (rise .a) (rise .b) (rise .most) first size (now links) (now numbers) (now tail) (now places) ⌝ }
-    requires state { ⌜ Walk-state (rise .a) (rise .b) (rise .most) first size (now links) (now tail) (now places) front taken
-        (now held) (now counters) (now due) (now list) ⌝ }
-    requires turn { ⌜ (p ≡ next-place first size front taken (now due)) × (p ≤ max-radios) ⌝ }
+    requires { ⌜ Walk-site (rise .a) (rise .b) (rise .most) first size (now links) (now numbers) (now tail) (now places) ×
+        Walk-state (rise .a) (rise .b) (rise .most) first size (now links) (now tail) (now places) front taken
+        (now held) (now counters) (now due) (now list) ×
+        ((p ≡ next-place first size front taken (now due)) × (p ≤ max-radios)) ⌝ }
     ensures state { λ r. ⌜ Walk-state (rise .a) (rise .b) (rise .most) first size (now (links .entry)) (now (tail .entry))
         (now (places .entry)) (r .front) (r .taken) (now (held .exit)) (now (counters .exit)) (now (due .exit)) (now (list .exit)) ⌝ }
     ensures further { λ r. ⌜ (1 ≤ r .front) × (front + taken < r .front + r .taken) ⌝ }

@@ -6,9 +6,9 @@ use mathlib.Core.Path.{_≡_, refl, ap, _∙_}
 use mathlib.Core.Logic.{_⊎_, inl, inr}
 use mathlib.Core.Bool.{Bool}
 use mathlib.Core.List.{List, [], _∷_, _++_, append-nil, append-assoc}
-use Prim.Native.Nat.{ℕ, suc, _+_, _≤_, _<_}
+use Prim.Native.Nat.{ℕ, zero, suc, _+_, _≤_, _<_}
 use native.Mathlib.Omega.{arith}
-use lib.ListN.{length, getD, drop}
+use lib.ListN.{length, getD, take, drop, take-append-drop}
 use lib.Seq.{drop-cons}
 use Rattle.lists.specs.Lists.{count, In}
 use Rattle.lists.proofs.Count.{count-append, count-ext}
@@ -37,6 +37,12 @@ module _ (f : ℕ → ℕ → Bool) (most : ℕ) (above : List ℕ) where
   few-front-head xs i l h =
       let cut : Few-front f most above (getD xs i 0 ∷ drop (suc i) xs) [] = rw (drop-cons xs i 0 l) at h in
       omega (arith, cut .0, ap (count (f (getD xs i 0))) (append-nil (drop (suc i) xs)))
+
+  -- from a later entry on
+  pub few-from-one : (xs : List ℕ) (i : ℕ) → 1 ≤ i → Few-front f most above (drop 1 xs) [] → Few-front f most above (drop i xs) []
+  few-from-one xs zero l h = absurd (omega arith)
+  few-from-one [] (suc i) l h = tt
+  few-from-one (x ∷ xs) (suc i) l h = few-front-right (take i xs) (drop i xs) (rw (take-append-drop i xs) h)
 
   -- from an order before the call: numbers of at most `most`, and the same neighbours
   pub few-front-of : (g : ℕ → ℕ → Bool) (num : ℕ → ℕ) (xs ys : List ℕ) → Few-later g num (xs ++ (ys ++ above))

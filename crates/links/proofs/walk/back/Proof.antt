@@ -1,96 +1,60 @@
+-- `walk::back` meets its contract: the candidate's mark goes, and its neighbours are released; the mathematics is in `proofs.WalkMade`.
+use Prim.Native.Nat.{_-_}
+use native.Mathlib.Omega.{arith}
 use borrow.Author.Needs.{needs}
+use Rattle.links.proofs.WalkMade.{back-place, back-below, back-room, back-fits, back-takes, back-made}
 use Rattle.links.proofs.walk.back.Statement.{statement}
 use Rattle.links.proofs.walk.back.Tie as tie
-use Rattle.links.proofs.walk.back.Reads as reads
-use Rattle.links.proofs.walk.back.Lts as lts
-use Rattle.links.proofs.turn.take_radio.Reads as take-radio-reads
 
--- src/walk.rt:180:18
 sub-v : tie.Need-sub-v
-sub-v c = ?
+sub-v c =
+    let start = c .before .before .before .before .before .before .before .before in back-place (start .pre .0) (start .pre .1) (start .args .p) (start .pre .2) .0
 
--- src/walk.rt:180:13
 mul-v : tie.Need-mul-v
-mul-v c = ?
+mul-v c =
+    let start = c .before .before .before .before .before .before .before .before in
+    let place = back-place (start .pre .0) (start .pre .1) (start .args .p) (start .pre .2) in omega (arith, place .2)
 
--- src/walk.rt:180:13
 shared-slice-read-v : tie.Need-shared-slice-read-v
-shared-slice-read-v c = ?
+shared-slice-read-v c =
+    let start = c .before .before .before .before .before .before .before .before .before in omega (arith, back-place (start .pre .0) (start .pre .1) (start .args .p) (start .pre .2) .1, start .pre .0 .fits)
 
--- src/walk.rt:181:10
 cast-held : tie.Need-cast-held
-cast-held c = ?
+cast-held c =
+    let start = c .before .before .before .before .before .before .before .before .before in omega (arith, c .shared-slice-known5 .given (start .args .p - start .args .first))
 
--- src/walk.rt:181:5
 slice-write-held : tie.Need-slice-write-held
-slice-write-held c = ?
+slice-write-held c =
+    let start = c .before .before .before .before .before .before .before .before .before in omega (arith, back-below (start .pre .0) (start .pre .1) (start .args .p) (start .pre .2), start .pre .1 .held-long)
 
--- src/walk.rt:182:5
 mul-list : tie.Need-mul-list
-mul-list c = ?
+mul-list c =
+    let start = c .before .before .before .before .before .before .before .before .before in omega (arith, back-fits (start .pre .0) (start .pre .1) (start .args .p) (start .pre .2))
 
--- src/walk.rt:182:5
 slice-write-list : tie.Need-slice-write-list
-slice-write-list c = ?
+slice-write-list c =
+    let start = c .before .before .before .before .before .before .before .before .before in back-room (start .pre .0) (start .pre .1) (start .args .p) (start .pre .2)
 
--- src/walk.rt:192:9
 cast-take-radio : tie.Need-cast-take-radio
-cast-take-radio c = ?
+cast-take-radio c =
+    let start = c .before .before .before .before .before .before .before .before .before in omega (arith, back-place (start .pre .0) (start .pre .1) (start .args .p) (start .pre .2) .2)
 
--- src/walk.rt:193:9
 cast-take-radio-2 : tie.Need-cast-take-radio-2
-cast-take-radio-2 c = ?
+cast-take-radio-2 c =
+    let start = c .before .before .before .before .before .before .before .before .before in omega (arith, c .shared-slice-known5 .given (start .args .p - start .args .first))
 
--- src/walk.rt:199:9
-slice-aggregate-take-radio : tie.Need-slice-aggregate-take-radio
-slice-aggregate-take-radio c = search needs
-
--- src/walk.rt:200:9
-slice-aggregate-take-radio-2 : tie.Need-slice-aggregate-take-radio-2
-slice-aggregate-take-radio-2 c = search needs
-
--- src/walk.rt:190:5
 take-radio-requires : tie.Need-take-radio-requires
-take-radio-requires c κs = ?
+take-radio-requires c κs =
+    let start = c .before .before .before .before .before .before .before .before .before .before .before .before .before .before in back-takes (start .pre .0) (start .pre .1) (start .args .p) (start .pre .2)
 
--- src/walk.rt:155:1
-same-length : tie.Need-same-length
-same-length c = search needs
-
--- src/walk.rt:155:1
-same-length-2 : tie.Need-same-length-2
-same-length-2 c = search needs
-
--- src/walk.rt:155:1
-same-length-3 : tie.Need-same-length-3
-same-length-3 c = search needs
-
--- src/walk.rt:155:1
-same-length-4 : tie.Need-same-length-4
-same-length-4 c = search needs
-
--- src/walk.rt:155:1
 returns : tie.Need-returns
-returns c = ?
+returns c =
+    let made = c .before .before .before .before .before .before in
+    let start = made .before .before .before .before .before .before .before .before .before .before .before .before .before .before .before in
+    back-made (start .pre .0) (start .pre .1) (start .args .p) (start .pre .2) _ _ (made .take-radio .ensures .0) (made .take-radio .ensures .1)
 
 pub back-spec : {M : Type 1} → statement M
 back-spec =
-    tie.close
-    (tie.spec
-    sub-v
-    mul-v
-    shared-slice-read-v
-    cast-held
-    slice-write-held
-    mul-list
-    slice-write-list
-    cast-take-radio
-    cast-take-radio-2
-    slice-aggregate-take-radio
-    slice-aggregate-take-radio-2
-    take-radio-requires
-    same-length
-    same-length-2
-    same-length-3
-    same-length-4
-    returns)
+    tie.close (
+    tie.spec sub-v mul-v shared-slice-read-v cast-held slice-write-held mul-list slice-write-list cast-take-radio cast-take-radio-2 (λ c. search needs)
+    (λ c. search needs) take-radio-requires (λ c. search needs) (λ c. search needs) (λ c. search needs) (λ c. search needs) returns)
