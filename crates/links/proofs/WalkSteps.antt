@@ -86,6 +86,16 @@ unfolding head-or
 lowest-small [] h = omega arith
 lowest-small (x ∷ xs) h = omega (arith, h x (inl refl))
 
+-- the loop's invariant: so far a state of the walk, and p is where its next turn is
+pub record Walk-from (a b k first size : ℕ) (ts tail ps : List ℕ) (room : ℕ) (hs cs ds list : List ℕ) (taken front p : ℕ) : Type 0 where
+  pub long-held : length hs ≡ max-radios
+  pub long-counters : length cs ≡ max-radios
+  pub long-due : length ds ≡ row-bytes
+  pub long-list : length list ≡ room
+  pub some : 1 ≤ front
+  pub next : p ≡ next-place first size front taken ds
+  pub state : Walk-state a b k first size ts tail ps front taken hs cs ds list
+
 module _ {a b k first size : ℕ} {ts ns tail ps : List ℕ} (s : Walk-site a b k first size ts ns tail ps) where
   abbrev f : ℕ → ℕ → Bool
   f = joined a b first ts tail
@@ -141,8 +151,20 @@ module _ {a b k first size : ℕ} {ts ns tail ps : List ℕ} (s : Walk-site a b 
       → leb c k ≡ leb (count (f e) (drop 1 tail)) k
   settled-is r c near listed counted = ap (λ (x : ℕ). leb x k) is
     where
-      left : count (is-left k (first + 0) ns ps (replicate max-radios 0)) (neighbours-of us e) ≡ count (f e) ([] ++ drop 1 part) + count (f e) above
-      left = turned.look-count s (start-state tail (s .fits)) e first-is (s .some) (start-free .1)
+      none : List ℕ
+      none = start-state tail (s .fits) .walking .held
+
+      empty : (zs : List ℕ) → length zs ≡ 0 → zs ≡ []
+      empty [] q = refl
+      empty (z ∷ zs) q = absurd (omega arith)
+
+      none-held : none ≡ []
+      none-held = empty none (omega (arith, turns.length-held f k above part pos (turned.is-part s) (start-state tail (s .fits) .walking)))
+
+      left : count (is-left k (first + 0) ns ps (replicate max-radios 0)) (neighbours-of us e) ≡ count (f e) (drop 1 part) + count (f e) above
+      left =
+          turned.look-count s (start-state tail (s .fits)) e first-is (s .some) (start-free .1)
+          ∙ ap (λ (z : List ℕ). count (f e) (z ++ drop 1 part) + count (f e) above) none-held
 
       is : c ≡ count (f e) (drop 1 tail)
       is =
@@ -153,6 +175,15 @@ module _ {a b k first size : ℕ} {ts ns tail ps : List ℕ} (s : Walk-site a b 
   module _ {front taken : ℕ} {hs cs ds list : List ℕ} (st : Walk-state a b k first size ts tail ps front taken hs cs ds list) where
     pub front-fits : (front ≤ size) × (first + front ≤ max-radios)
     front-fits = (omega (arith, st .walking .room, turned.part-length s), omega (arith, st .walking .room, turned.part-length s, s .fits, s .small))
+
+    -- what `list_stuck` asks
+    pub walk-radios : (0 + front ≤ length tail) × (0 + front ≤ max-radios) × (taken ≤ max-radios) × ((p : ℕ) → p < length tail → getD tail p 0 < length cs)
+    walk-radios = (
+      omega (arith, front-fits .0, s .fits),
+      omega (arith, front-fits .1),
+      omega (arith, st .passed, front-fits .1),
+      λ p l. omega (arith, s .radios (getD tail p 0) (in-getD tail p l), st .counters-long),
+    )
 
     module _ (p : ℕ) (turn : (p ≡ next-place first size front taken ds) × (p ≤ max-radios)) where
       at : (taken < front) × (p ≡ head-or max-radios (neighbours-of ds 0)) × ((p < first + front) ⊎ ((first + front ≤ p) × (front < size)))
@@ -192,15 +223,6 @@ module _ {a b k first size : ℕ} {ts ns tail ps : List ℕ} (s : Walk-site a b 
             (undue until (omega (arith, l))) list1 made
 
   -- ---- the loop
-
-  pub record Walk-from (room : ℕ) (hs cs ds list : List ℕ) (taken front p : ℕ) : Type 0 where
-    pub long-held : length hs ≡ max-radios
-    pub long-counters : length cs ≡ max-radios
-    pub long-due : length ds ≡ row-bytes
-    pub long-list : length list ≡ room
-    pub some : 1 ≤ front
-    pub next : p ≡ next-place first size front taken ds
-    pub state : Walk-state a b k first size ts tail ps front taken hs cs ds list
 
   module _ {front taken : ℕ} {hs cs ds list : List ℕ} (st : Walk-state a b k first size ts tail ps front taken hs cs ds list) (some : 1 ≤ front)
       (p : ℕ) (stop : stop-place ≤ p) (next : p ≡ next-place first size front taken ds) where
@@ -272,7 +294,8 @@ module _ {a b k first size : ℕ} {ts ns tail ps : List ℕ} (s : Walk-site a b 
         gone = drop-of-length-le part {i = front} (omega (arith, h .1, turned.part-length s))
 
         whole : filter (λ v. ltb k (getD cs v 0)) part ≡ stuck
-        whole = ap (λ (x : ℕ). filter (λ v. ltb k (getD cs v 0)) (take x tail)) (omega (arith, h .1, front-fits st .0))
+        whole =
+            let same : size ≡ front = omega (arith, h .1, front-fits st .0) in ap (λ (x : ℕ). filter (λ v. ltb k (getD cs v 0)) (take x tail)) same
 
     pub walk-end : (list1 : List ℕ) → list1 ≡ sets list taken (filter (λ v. ltb k (getD cs v 0)) (stretch tail 0 front))
         → Walk-done a b k first size ts tail front taken list1
