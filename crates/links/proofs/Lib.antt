@@ -31,3 +31,4 @@ pub mod WalkHeld
 pub mod WalkTurns
 pub mod WalkMade
 pub mod WalkSteps
+pub mod WalkPlan

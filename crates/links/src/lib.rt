@@ -4,6 +4,7 @@
 pub mod link;
 pub mod plan;
 mod questions;
+mod rise;
 mod stretch;
 mod turn;
 mod walk;

@@ -1,46 +1,52 @@
--- `plan::plan_link` meets its contract: each call's facts are handed to the next; the mathematics is in `proofs.PlanCall`.
-use mathlib.Core.Path.{_∙_}
-use native.Mathlib.Omega.{arith}
 use borrow.Author.Needs.{needs}
-use Rattle.links.proofs.PlanCall.{plan-level, plan-begin, plan-peel, plan-stuck, plan-done}
 use Rattle.links.proofs.plan.plan_link.Statement.{statement}
 use Rattle.links.proofs.plan.plan_link.Tie as tie
+use Rattle.links.proofs.plan.plan_link.Reads as reads
+use Rattle.links.proofs.plan.plan_link.Lts as lts
+use Rattle.links.proofs.plan.plan_peel.Reads as plan-peel-reads
+use Rattle.links.proofs.rise.plan_up.Reads as plan-up-reads
 
-begin-requires : tie.Need-begin-requires
-begin-requires c κs =
-    let at = c .before .before in
-    let called = at .before in plan-begin (called .before .before .before .before .before .before .before .pre .0) (called .call-at .ensures) (at .stretch-of .ensures)
+-- src/plan.rt:182:9
+plan-up-requires : tie.Need-plan-up-requires
+plan-up-requires c κs = ?
 
-peel-requires : tie.Need-peel-requires
-peel-requires c κs =
-    let ready = c .before .before .before .before .before .before .before .before in
-    let at = ready .before .before .before in
-    let called = at .before in
-    let start = called .before .before .before .before .before .before .before in
-    plan-peel (start .pre .0) (called .call-at .ensures) (at .stretch-of .ensures) _ _ _ (ready .begin .ensures) (start .pre .1)
+-- src/plan.rt:182:9
+same-length : tie.Need-same-length
+same-length c = search needs
 
-list-stuck-requires : tie.Need-list-stuck-requires
-list-stuck-requires c κs =
-    let peeled = c .before .before .before .before .before .before .before .before .before in
-    let at = peeled .before .before .before .before .before .before .before .before .before .before .before .before in
-    let called = at .before in
-    let start = called .before .before .before .before .before .before .before in
-    let kept = peeled .peel .kept in
-    let first = peeled .before .before .before .before .before .before .before .before .before .begin .kept in
-    plan-stuck (start .pre .0) (called .call-at .ensures) (at .stretch-of .ensures) _ _ _ (kept .1 .1 .1 .1 .1 .0 ∙ first .1 .1 .1 .1 .1 .0) (peeled .peel .ensures)
+-- src/plan.rt:182:9
+same-length-2 : tie.Need-same-length-2
+same-length-2 c = search needs
 
+-- src/plan.rt:182:9
 returns : tie.Need-returns
-returns c =
-    let listed = c .before .before in
-    let peeled = listed .before .before .before .before .before .before .before .before .before .before in
-    let at = peeled .before .before .before .before .before .before .before .before .before .before .before .before in
-    let called = at .before in
-    let start = called .before .before .before .before .before .before .before in
-    let kept = peeled .peel .kept in
-    plan-done (start .pre .0) (called .call-at .ensures) (at .stretch-of .ensures) _ _ _ _ (peeled .peel .ensures) (omega (arith, start .pre .1, kept .1 .1 .1 .1 .1 .1 .1 .1 .1 .0)) (listed .list-stuck .ensures)
+returns c = ?
+
+-- src/plan.rt:184:5
+plan-peel-requires : tie.Need-plan-peel-requires
+plan-peel-requires c κs = search needs
+
+-- src/plan.rt:165:1
+same-length-3 : tie.Need-same-length-3
+same-length-3 c = search needs
+
+-- src/plan.rt:165:1
+same-length-4 : tie.Need-same-length-4
+same-length-4 c = search needs
+
+-- src/plan.rt:165:1
+returns-2 : tie.Need-returns-2
+returns-2 c = search needs
 
 pub plan-link-spec : {M : Type 1} → statement M
 plan-link-spec =
-    tie.close (
-    tie.spec (λ c κs. plan-level (c .before .before .before .before .before .before .pre .0)) (λ c κs. search needs) (λ c. search needs) begin-requires
-    (λ c. search needs) (λ c. search needs) (λ c. search needs) peel-requires list-stuck-requires (λ c. search needs) (λ c. search needs) returns)
+    tie.close
+    (tie.spec
+    plan-up-requires
+    same-length
+    same-length-2
+    returns
+    plan-peel-requires
+    same-length-3
+    same-length-4
+    returns-2)
