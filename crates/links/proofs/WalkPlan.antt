@@ -11,7 +11,7 @@ use Prim.Native.Nat.{ℕ, suc, _+_, _*_, _-_, _≤_, _<_, min}
 use native.Mathlib.Omega.{arith}
 use lib.Dec.{ltb, leb, eqb}
 use lib.ListN.{length, getD, take, drop, length-drop, take-append-drop, drop-of-length-le}
-use lib.Seq.{length-take-le, getD-take, getD-drop, drop-cons, drop-drop, drop-append-le, take-take, paste, paste-zero}
+use lib.Seq.{length-take-le, getD-take, getD-drop, drop-cons, drop-drop, drop-append-le, take-take, take-all, paste, paste-zero}
 use borrow.Author.Tests.{ltb-true, ltb-false, lt-ltb, eq-eqb, ne-eqb, leb-true}
 use Rattle.mesh.specs.Limits.{max-radios, max-neighbours, row-bytes}
 use Rattle.lists.specs.Lists.{count, filter, member, In, Distinct}
@@ -171,6 +171,9 @@ module _ {a b : ℕ} {ts ns os ps cs : List ℕ} (r : Ready true (length os) a b
 
     pub part-fits : size ≤ length tail
     part-fits = omega (arith, sizes, tail-length, stretch-fits r k, inside)
+
+    pub part-room : size ≤ n
+    part-room = omega (arith, sizes, stretch-fits r k)
 
     high-is : high ≡ drop (start + many) os
     high-is = drop-drop size first os ∙ ap (λ (x : ℕ). drop x os) sizes
@@ -376,3 +379,30 @@ module _ {a b : ℕ} {ts ns os ps cs : List ℕ} (r : Ready true (length os) a b
 
         small : count (linked after e) (mids num (lower-level g a b) rest) + count (linked after e) (highs num (lower-level g a b) os) ≤ lower-level g a b
         small = rw (← eK, part-rest, highs-high) (omega (arith, few-later, ap (count (linked after e)) behind, count-append (linked after e) (drop 1 part) high))
+
+    -- ---- as the code names its values: where the call begins, and what is lent of the order
+
+    module _ (from : ℕ) (ef : from ≡ first) (lent : List ℕ) (el : lent ≡ take (length os - from) (drop from os)) where
+      lent-is : lent ≡ tail
+      lent-is = el ∙ take-all (length os - from) (drop from os) (omega (arith, length-drop from os)) ∙ ap (λ (x : ℕ). drop x os) ef
+
+      pub site-lent : Walk-site a b k from size ts ns lent ps
+      site-lent = rw (lent-is, ef) site
+
+      pub settled-lent : (t : Bool) (list : List ℕ) → t ≡ leb (count (joined a b from ts lent (getD lent 0 0)) (drop 1 lent)) k → t ≡ true
+          → Planned true a b g os from 0 0 list
+      settled-lent t list e h = rw ef (settled-plan (rw (lent-is, ef) at (sym e ∙ h)) list)
+
+      pub walked-lent : (at front taken : ℕ) (list : List ℕ) → at ≡ from → Walk-done a b k from size ts lent front taken list
+          → Planned true a b g os at front taken list
+      walked-lent at front taken list e done = rw (e, ef) (walked-plan front taken list (rw (lent-is, ef) at done))
+
+-- ends that have an entry in both tables
+pub ends-known : {a b : ℕ} {ts ns os ps cs : List ℕ} → Ready true (length os) a b (tables ts ns os) ps cs
+    → (a < length ns) × (b < length ns) × (a < length ps) × (b < length ps)
+ends-known r = (
+  omega (arith, a-below r, r .numbers-length),
+  omega (arith, b-below r, r .numbers-length),
+  omega (arith, a-below r, r .places-length),
+  omega (arith, b-below r, r .places-length),
+)

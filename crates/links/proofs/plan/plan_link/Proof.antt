@@ -1,52 +1,17 @@
+-- `plan::plan_link` meets its contract: up and down, a plan of the call.
 use borrow.Author.Needs.{needs}
+use Rattle.links.proofs.CallLaws.{ready-up, planned-up}
 use Rattle.links.proofs.plan.plan_link.Statement.{statement}
 use Rattle.links.proofs.plan.plan_link.Tie as tie
-use Rattle.links.proofs.plan.plan_link.Reads as reads
-use Rattle.links.proofs.plan.plan_link.Lts as lts
-use Rattle.links.proofs.plan.plan_peel.Reads as plan-peel-reads
-use Rattle.links.proofs.rise.plan_up.Reads as plan-up-reads
 
--- src/plan.rt:182:9
 plan-up-requires : tie.Need-plan-up-requires
-plan-up-requires c κs = ?
+plan-up-requires c κs =
+    let start = c .before .before .before .before .before .before .before .before .before in (ready-up (c .before .before .if1 .taken) (start .pre .0), start .pre .1)
 
--- src/plan.rt:182:9
-same-length : tie.Need-same-length
-same-length c = search needs
-
--- src/plan.rt:182:9
-same-length-2 : tie.Need-same-length-2
-same-length-2 c = search needs
-
--- src/plan.rt:182:9
 returns : tie.Need-returns
-returns c = ?
-
--- src/plan.rt:184:5
-plan-peel-requires : tie.Need-plan-peel-requires
-plan-peel-requires c κs = search needs
-
--- src/plan.rt:165:1
-same-length-3 : tie.Need-same-length-3
-same-length-3 c = search needs
-
--- src/plan.rt:165:1
-same-length-4 : tie.Need-same-length-4
-same-length-4 c = search needs
-
--- src/plan.rt:165:1
-returns-2 : tie.Need-returns-2
-returns-2 c = search needs
+returns c = let made = c .before .before .before .before in planned-up (made .before .before .before .if1 .taken) (made .plan-up .ensures)
 
 pub plan-link-spec : {M : Type 1} → statement M
 plan-link-spec =
-    tie.close
-    (tie.spec
-    plan-up-requires
-    same-length
-    same-length-2
-    returns
-    plan-peel-requires
-    same-length-3
-    same-length-4
-    returns-2)
+    tie.close (
+    tie.spec plan-up-requires (λ c. search needs) (λ c. search needs) returns (λ c κs. search needs) (λ c. search needs) (λ c. search needs) (λ c. search needs))

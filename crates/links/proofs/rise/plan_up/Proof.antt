@@ -1,151 +1,145 @@
+-- `rise::plan_up` meets its contract: the beginning end stands in its level, and each branch's plan is document 01's; the mathematics is in
+-- `proofs.WalkPlan`.
+use mathlib.Core.Path.{refl}
+use native.Mathlib.Omega.{arith}
 use borrow.Author.Needs.{needs}
+use Rattle.links.proofs.WalkPlan.{ends-known, begins-below, begins-inside, part-room, site-lent, settled-lent, walked-lent}
 use Rattle.links.proofs.rise.plan_up.Statement.{statement}
 use Rattle.links.proofs.rise.plan_up.Tie as tie
-use Rattle.links.proofs.rise.plan_up.Reads as reads
-use Rattle.links.proofs.rise.plan_up.Lts as lts
-use Rattle.links.proofs.plan.lower.Reads as lower-reads
-use Rattle.links.proofs.plan.plan_peel.Reads as plan-peel-reads
-use Rattle.links.proofs.stretch.stretch_of.Reads as stretch-of-reads
-use Rattle.links.proofs.walk.beginning.Reads as beginning-reads
-use Rattle.links.proofs.walk.settled.Reads as settled-reads
-use Rattle.links.proofs.walk.walk.Reads as walk-reads
 
--- src/rise.rt:31:28
 shared-slice-read-lower : tie.Need-shared-slice-read-lower
-shared-slice-read-lower c = ?
+shared-slice-read-lower c =
+    ends-known (c .before .before .before .before .before .before .before .pre .0) .0
 
--- src/rise.rt:31:49
 shared-slice-read-lower-2 : tie.Need-shared-slice-read-lower-2
-shared-slice-read-lower-2 c = ?
+shared-slice-read-lower-2 c =
+    ends-known (c .before .before .before .before .before .before .before .before .pre .0) .1
 
--- src/rise.rt:31:9
-lower-requires : tie.Need-lower-requires
-lower-requires c κs = search needs
-
--- src/rise.rt:32:9
-stretch-of-requires : tie.Need-stretch-of-requires
-stretch-of-requires c κs = search needs
-
--- src/rise.rt:33:9
 beginning-requires : tie.Need-beginning-requires
-beginning-requires c κs = ?
+beginning-requires c κs =
+    ends-known (c .before .before .before .before .before .before .before .before .before .before .pre .0)
 
--- src/rise.rt:34:17
 mul-first : tie.Need-mul-first
-mul-first c = ?
+mul-first c =
+    let chosen = c in
+    let sized = chosen .before in
+    let most = sized .before in
+    let start = most .before .before .before .before .before .before .before .before .before in
+    omega (arith, begins-below (start .pre .0) (most .lower .result) (most .lower .ensures) (chosen .beginning .result) (chosen .beginning .ensures), start .pre .0 .small)
 
--- src/rise.rt:34:17
 shared-slice-read-first : tie.Need-shared-slice-read-first
-shared-slice-read-first c = ?
+shared-slice-read-first c =
+    let chosen = c .before in
+    let sized = chosen .before in
+    let most = sized .before in
+    let start = most .before .before .before .before .before .before .before .before .before in
+    omega (arith, begins-below (start .pre .0) (most .lower .result) (most .lower .ensures) (chosen .beginning .result) (chosen .beginning .ensures), start .pre .0 .places-length)
 
--- src/rise.rt:34:17
 cast-first : tie.Need-cast-first
-cast-first c = ?
+cast-first c =
+    omega (arith, c .shared-slice-known7 .given (c .before .beginning .result))
 
--- src/rise.rt:35:16
 add-size : tie.Need-add-size
-add-size c = ?
+add-size c =
+    let chosen = c .before .before in
+    let sized = chosen .before in
+    let most = sized .before in
+    let start = most .before .before .before .before .before .before .before .before .before in
+    let inside = begins-inside (start .pre .0) (most .lower .result) (most .lower .ensures) (chosen .beginning .result) (chosen .beginning .ensures) in omega (arith, inside .2, sized .stretch-of .ensures .0, sized .stretch-of .ensures .1, start .pre .0 .small)
 
--- src/rise.rt:35:16
 sub-size : tie.Need-sub-size
-sub-size c = ?
+sub-size c =
+    let chosen = c .before .before in
+    let sized = chosen .before in
+    let most = sized .before in
+    let start = most .before .before .before .before .before .before .before .before .before in
+    let inside = begins-inside (start .pre .0) (most .lower .result) (most .lower .ensures) (chosen .beginning .result) (chosen .beginning .ensures) in omega (arith, inside .1, sized .stretch-of .ensures .0, sized .stretch-of .ensures .1)
 
--- src/rise.rt:37:57
 mul-settled : tie.Need-mul-settled
-mul-settled c = ?
+mul-settled c =
+    let chosen = c .before .before in
+    let sized = chosen .before in
+    let most = sized .before in
+    let start = most .before .before .before .before .before .before .before .before .before in
+    let inside = begins-inside (start .pre .0) (most .lower .result) (most .lower .ensures) (chosen .beginning .result) (chosen .beginning .ensures) in omega (arith, inside .1, inside .2, start .pre .0 .small)
 
--- src/rise.rt:37:57
 sub-settled : tie.Need-sub-settled
-sub-settled c = ?
+sub-settled c =
+    let chosen = c .before .before in
+    let sized = chosen .before in
+    let most = sized .before in
+    let start = most .before .before .before .before .before .before .before .before .before in
+    let inside = begins-inside (start .pre .0) (most .lower .result) (most .lower .ensures) (chosen .beginning .result) (chosen .beginning .ensures) in omega (arith, inside .1, inside .2)
 
--- src/rise.rt:37:57
 part-settled-start : tie.Need-part-settled-start
-part-settled-start c = ?
+part-settled-start c =
+    let chosen = c .before .before in
+    let sized = chosen .before in
+    let most = sized .before in
+    let start = most .before .before .before .before .before .before .before .before .before in
+    let inside = begins-inside (start .pre .0) (most .lower .result) (most .lower .ensures) (chosen .beginning .result) (chosen .beginning .ensures) in omega (arith, inside .1, inside .2)
 
--- src/rise.rt:37:57
-part-settled-end : tie.Need-part-settled-end
-part-settled-end c = search needs
-
--- src/rise.rt:37:8
-settled-requires : tie.Need-settled-requires
-settled-requires c κs = ?
-
--- src/rise.rt:38:9
-returns : tie.Need-returns
-returns c = ?
-
--- src/rise.rt:51:13
 mul-walk : tie.Need-mul-walk
-mul-walk c = ?
+mul-walk c =
+    let chosen = c .before .before .before .before .before .before .before in
+    let sized = chosen .before in
+    let most = sized .before in
+    let start = most .before .before .before .before .before .before .before .before .before in
+    let inside = begins-inside (start .pre .0) (most .lower .result) (most .lower .ensures) (chosen .beginning .result) (chosen .beginning .ensures) in omega (arith, inside .1, inside .2, start .pre .0 .small)
 
--- src/rise.rt:51:13
 sub-walk : tie.Need-sub-walk
-sub-walk c = ?
+sub-walk c =
+    let chosen = c .before .before .before .before .before .before .before in
+    let sized = chosen .before in
+    let most = sized .before in
+    let start = most .before .before .before .before .before .before .before .before .before in
+    let inside = begins-inside (start .pre .0) (most .lower .result) (most .lower .ensures) (chosen .beginning .result) (chosen .beginning .ensures) in omega (arith, inside .1, inside .2)
 
--- src/rise.rt:51:13
 part-walk-start : tie.Need-part-walk-start
-part-walk-start c = ?
+part-walk-start c =
+    let chosen = c .before .before .before .before .before .before .before in
+    let sized = chosen .before in
+    let most = sized .before in
+    let start = most .before .before .before .before .before .before .before .before .before in
+    let inside = begins-inside (start .pre .0) (most .lower .result) (most .lower .ensures) (chosen .beginning .result) (chosen .beginning .ensures) in omega (arith, inside .1, inside .2)
 
--- src/rise.rt:51:13
-part-walk-end : tie.Need-part-walk-end
-part-walk-end c = search needs
+settled-requires : tie.Need-settled-requires
+settled-requires c κs =
+    let chosen = c .before .before .before in
+    let sized = chosen .before in
+    let most = sized .before in
+    let start = most .before .before .before .before .before .before .before .before .before in
+    site-lent (start .pre .0) (most .lower .result) (most .lower .ensures) (chosen .beginning .result) (chosen .beginning .ensures) _ (omega (arith, sized .stretch-of .ensures .0, sized .stretch-of .ensures .1)) _ refl _ refl
 
--- src/rise.rt:45:9
+returns : tie.Need-returns
+returns c =
+    let asked = c .before in
+    let chosen = asked .before .before .before .before in
+    let sized = chosen .before in
+    let most = sized .before in
+    let start = most .before .before .before .before .before .before .before .before .before in
+    settled-lent (start .pre .0) (most .lower .result) (most .lower .ensures) (chosen .beginning .result) (chosen .beginning .ensures) _ refl _ refl _ refl (asked .settled .result) _ (asked .settled .ensures) (c .if1 .taken)
+
 walk-requires : tie.Need-walk-requires
-walk-requires c κs = ?
+walk-requires c κs =
+    let chosen = c .before .before .before .before .before .before .before .before .before in
+    let sized = chosen .before in
+    let most = sized .before in
+    let start = most .before .before .before .before .before .before .before .before .before in
+    (site-lent (start .pre .0) (most .lower .result) (most .lower .ensures) (chosen .beginning .result) (chosen .beginning .ensures) _ (omega (arith, sized .stretch-of .ensures .0, sized .stretch-of .ensures .1)) _ refl _ refl, omega (arith, start .pre .1, part-room (start .pre .0) (most .lower .result) (most .lower .ensures) (chosen .beginning .result) (chosen .beginning .ensures) _ refl, sized .stretch-of .ensures .0, sized .stretch-of .ensures .1))
 
--- src/rise.rt:45:9
-same-length : tie.Need-same-length
-same-length c = search needs
-
--- src/rise.rt:45:9
 returns-2 : tie.Need-returns-2
-returns-2 c = ?
-
--- src/rise.rt:56:5
-plan-peel-requires : tie.Need-plan-peel-requires
-plan-peel-requires c κs = search needs
-
--- src/rise.rt:16:1
-same-length-2 : tie.Need-same-length-2
-same-length-2 c = search needs
-
--- src/rise.rt:16:1
-same-length-3 : tie.Need-same-length-3
-same-length-3 c = search needs
-
--- src/rise.rt:16:1
-returns-3 : tie.Need-returns-3
-returns-3 c = search needs
+returns-2 c =
+    let made = c .before .before in
+    let chosen = made .before .before .before .before .before .before .before .before .before .before in
+    let sized = chosen .before in
+    let most = sized .before in
+    let start = most .before .before .before .before .before .before .before .before .before in
+    walked-lent (start .pre .0) (most .lower .result) (most .lower .ensures) (chosen .beginning .result) (chosen .beginning .ensures) _ (omega (arith, sized .stretch-of .ensures .0, sized .stretch-of .ensures .1)) _ refl _ refl _ _ _ _ (made .walk .ensures .0) (made .walk .ensures .1)
 
 pub plan-up-spec : {M : Type 1} → statement M
 plan-up-spec =
-    tie.close
-    (tie.spec
-    shared-slice-read-lower
-    shared-slice-read-lower-2
-    lower-requires
-    stretch-of-requires
-    beginning-requires
-    mul-first
-    shared-slice-read-first
-    cast-first
-    add-size
-    sub-size
-    mul-settled
-    sub-settled
-    part-settled-start
-    part-settled-end
-    settled-requires
-    returns
-    mul-walk
-    sub-walk
-    part-walk-start
-    part-walk-end
-    walk-requires
-    same-length
-    returns-2
-    plan-peel-requires
-    same-length-2
-    same-length-3
-    returns-3)
+    tie.close (
+    tie.spec shared-slice-read-lower shared-slice-read-lower-2 (λ c κs. search needs) (λ c κs. search needs) beginning-requires mul-first shared-slice-read-first
+    cast-first add-size sub-size mul-settled sub-settled part-settled-start (λ c. search needs) settled-requires returns mul-walk sub-walk part-walk-start (λ c. search needs) walk-requires
+    (λ c. search needs) returns-2 (λ c κs. search needs) (λ c. search needs) (λ c. search needs) (λ c. search needs))
