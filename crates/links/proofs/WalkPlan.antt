@@ -34,7 +34,7 @@ use Rattle.link_parts.specs.Changes.{changed-part}
 use Rattle.links.specs.Plans.{Ready, Planned}
 use Rattle.links.specs.Peels.{level-start, level-size, linked-after, Level}
 use Rattle.links.specs.Walks.{radios-of, joined, beginning-end, Walk-site, Walk-done}
-use Rattle.links.proofs.PlanLevel.{a-below, b-below, is-valid, is-once, number-is, level-is, above-is, stretch-fits, is-level, row-is, row-few}
+use Rattle.links.proofs.PlanLevel.{a-below, b-below, is-valid, is-once, number-is, order-radios, level-is, above-is, stretch-fits, is-level, row-is, row-few}
 
 -- ---- the beginning end
 
@@ -128,6 +128,10 @@ module _ {a b : ℕ} {ts ns os ps cs : List ℕ} (r : Ready true (length os) a b
 
   inside : first < n
   inside = omega (arith, place .1, stretch-fits r k)
+
+  -- what `leads` asks
+  pub leads-known : (first ≤ n) × (first ≤ max-radios) × ((p : ℕ) → p < n → getD os p 0 < length ns)
+  leads-known = (omega (arith, inside), omega (arith, inside, r .small), λ p l. omega (arith, order-radios r p l, r .numbers-length))
 
   tail-length : length tail ≡ n - first
   tail-length = length-drop first os

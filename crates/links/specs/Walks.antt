@@ -6,6 +6,7 @@
 --   places-touched               the same for each of the listed radios
 --   next-place                   where the next turn is, `stop-place` when the walk is at its end
 --   beginning-end                the lower end, with equal numbers the earlier
+--   stands-first first k ns os   the radio at place `first` stands first in level k
 --   Known                        listed radios that have an entry in tables of these lengths
 --   Walk-site                    what the walk is made from
 --   Walk-state                   so many radios are taken, how far the front is, the candidates, their counters, the places due, the list
@@ -52,6 +53,10 @@ next-place first size front taken ds =
 unfoldable pub beginning-end : (a b : ℕ) → (numbers places : List ℕ) → ℕ
 beginning-end a b ns ps =
     cond (ltb (getD ns a 0) (getD ns b 0)) a (cond (ltb (getD ns b 0) (getD ns a 0)) b (cond (ltb (getD ps a 0) (getD ps b 0)) a b))
+
+-- nothing stands before it, or what does is of a lower level
+unfoldable pub stands-first : (first k : ℕ) → (numbers order : List ℕ) → Bool
+stands-first first k ns os = cond (eqb first 0) true (ltb (getD ns (getD os (first - 1) 0) 0) k)
 
 abbrev pub Known : (numbers places held : ℕ) → (near : List ℕ) → Type 0
 Known ns ps hs near = (v : ℕ) → In v near → (v < ns) × (v < ps) × (v < hs)

@@ -29,29 +29,29 @@ pub(crate) fn plan_up(
         (r .size) (r .taken) (now (stretch .exit)) ⌝ }
 {
     let most = plan::lower(numbers[a as usize], numbers[b as usize]);
-    let at = stretch::stretch_of(numbers, most);
     let e = walk::beginning(a as usize, b as usize, numbers, places);
     let first = places[e] as usize;
-    let size = at.start + at.size - first;
     let rise = Rise { a, b, most };
-    if walk::settled(rise, first, size, links, numbers, &order[first..], places) {
+    if walk::settled(rise, first, links, numbers, &order[first..], places) {
         return Plan {
             start: first,
             size: 0,
             taken: 0,
         };
     }
-    if at.start < first {
-        return walk::walk(
-            rise,
-            first,
-            size,
-            links,
-            numbers,
-            &order[first..],
-            places,
-            stretch,
-        );
+    if walk::leads(first, most, numbers, order) {
+        return plan::plan_peel(true, a, b, links, numbers, order, places, highs, stretch);
     }
-    plan::plan_peel(true, a, b, links, numbers, order, places, highs, stretch)
+    let at = stretch::stretch_of(numbers, most);
+    let size = at.start + at.size - first;
+    walk::walk(
+        rise,
+        first,
+        size,
+        links,
+        numbers,
+        &order[first..],
+        places,
+        stretch,
+    )
 }

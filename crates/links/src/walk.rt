@@ -12,7 +12,7 @@ ghost use Rattle.mesh.specs.Limits.{max-radios, max-neighbours, row-bytes};
 ghost use Rattle.lists.specs.Lists.{count, head-or};
 ghost use Rattle.mesh.specs.Tables.{marked};
 ghost use Rattle.rows.specs.Rows.{neighbours-of};
-ghost use Rattle.links.specs.Walks.{is-left, place-touched, places-touched, next-place, joined, beginning-end, Known};
+ghost use Rattle.links.specs.Walks.{is-left, place-touched, places-touched, next-place, joined, beginning-end, stands-first, Known};
 ghost use Rattle.links.specs.Walks.{Walk-site, Walk-state, Walk-done};
 use super::turn;
 use super::turn::Call;
@@ -390,17 +390,16 @@ pub(crate) fn beginning(a: usize, b: usize, numbers: &[u8], places: &[u16]) -> u
     b
 }
 
-// Whether the beginning end, the first of the part, has at most `most` later neighbours with the link: then nothing moves or rises.
+// Whether the beginning end, which stands at place `first`, has at most `most` later neighbours with the link: then nothing moves or rises.
 pub(crate) fn settled(
     rise: Rise,
     first: usize,
-    size: usize,
     links: &[u8],
     numbers: &[u8],
     tail: &[u16],
     places: &[u16],
 ) -> bool
-    requires { ⌜ Walk-site (rise .a) (rise .b) (rise .most) first size (now links) (now numbers) (now tail) (now places) ⌝ }
+    requires { ⌜ ((size : ℕ) × Walk-site (rise .a) (rise .b) (rise .most) first size (now links) (now numbers) (now tail) (now places)) ⌝ }
     ensures { λ r. ⌜ r ≡ leb (count (joined (rise .a) (rise .b) first (now (links .entry)) (now (tail .entry)) (getD (now (tail .entry)) 0 0))
         (drop 1 (now (tail .entry)))) (rise .most) ⌝ }
 {
@@ -418,4 +417,17 @@ pub(crate) fn settled(
         &mut near,
     ) as usize;
     count_left(&near, k, rise.most, first as u16, numbers, places, &held) <= rise.most
+}
+
+// Whether the radio at place `first` stands first in its level.
+pub(crate) fn leads(first: usize, level: u8, numbers: &[u8], order: &[u16]) -> bool
+    requires { ⌜ (first ≤ length (now order)) × (first ≤ max-radios) ×
+        ((p : ℕ) → p < length (now order) → getD (now order) p 0 < length (now numbers)) ⌝ }
+    ensures { λ r. ⌜ r ≡ stands-first first level (now (numbers .entry)) (now (order .entry)) ⌝ }
+{
+    if first == 0 {
+        return true;
+    }
+    let v = order[first - 1] as usize;
+    numbers[v] < level
 }

@@ -68,6 +68,8 @@ use Rattle.calls.proofs.Outcomes.{ask-decided, commit-decided, ask-inhabited, c
 use Rattle.calls.proofs.Refusals.{ask-keeps, commit-keeps}
 use Rattle.calls.proofs.Refusals.{clear-keeps, link-keeps, read-keeps, check-keeps, number-keeps, neighbours-keeps, linked-keeps, first-keeps}
 use Rattle.calls.proofs.Refusals.{core-keeps, backbone-keeps, tree-keeps, write-keeps, block-keeps, later-keeps, sheet-keeps, staircase-keeps}
+use Rattle.walks.specs.Results.{Beginning-kept}
+use Rattle.walks.proofs.Kept.{link-begins, commit-begins}
 use Rattle.forests.proofs.Tree.{staircase-right}
 use Rattle.calls.proofs.Accepted.{check-right, link-right, number-right, later-right, core-right, backbone-right, tree-right-listed, write-right}
 use Rattle.calls.proofs.Accepted.{ask-right, commit-right, read-what-was-written, read-right, block-right, sheet-right}
@@ -276,6 +278,14 @@ pub record Property-2 : Type 0 where
   pub link :
       (up : Bool) (n a b : ℕ) (t : Tables) (w : List ℕ) (r : Reply) (v : Tables) (x : List ℕ) → Link-contract up n a b t w r v x →
       r .number ≡ 0 → Link-right up n a b t v (r .count) w x
+  -- after a link came up nothing before the beginning end's place has moved: the lower end's, with equal numbers the earlier's
+  -- (document 02, W-213)
+  pub link-begins :
+      (n a b : ℕ) (t : Tables) (w : List ℕ) (r : Reply) (v : Tables) (x : List ℕ) → Link-contract true n a b t w r v x → r .number ≡ 0 →
+      Beginning-kept a b (graph-in n (t .links)) (t .order) (v .order)
+  pub commit-begins :
+      (n a b : ℕ) (z : ℤ) (xs : List ℕ) (t : Tables) (r : Reply) (v : Tables) → Commit-contract true n a b z xs t r v → r .number ≡ 0 →
+      Beginning-kept a b (graph-in n (t .links)) (t .order) (v .order)
   -- asking lists exactly the radios whose core number the link would change
   pub ask :
       (up : Bool) (n a b : ℕ) (t : Tables) (w : List ℕ) (r : Reply) (x : List ℕ) → Ask-contract up n a b t w r x → r .number ≡ 0 →
@@ -521,6 +531,8 @@ pub property-2 : Property-2
 property-2 = record {
   largest-group = λ g v k l. (λ c. number-unique g v k l c, λ e. rw (← e) (number-core g v l));
   link = link-right;
+  link-begins = link-begins;
+  commit-begins = commit-begins;
   ask = ask-right;
   commit = commit-right;
   two-steps = two-steps;

@@ -17,20 +17,20 @@ cast-neighbours-after c =
 
 neighbours-after-requires : tie.Need-neighbours-after-requires
 neighbours-after-requires c κs =
-    let start = c .before .before .before .before .before .before .before in near-ready (start .pre) _ (first-below (start .pre)) row-bytes max-neighbours refl refl
+    let start = c .before .before .before .before .before .before .before in near-ready (start .pre .1) _ (first-below (start .pre .1)) row-bytes max-neighbours refl refl
 
 count-left-requires : tie.Need-count-left-requires
 count-left-requires c κs =
     let made = c .before .before .before .before in
     let start = made .before .before .before .before .before .before .before .before in
-    listed-known (start .pre) _ _ _ (replicate max-radios 0) (first-below (start .pre)) (omega (arith, start .pre .small, length-replicate {A = ℕ} max-radios 0)) (made .neighbours-after .ensures)
+    listed-known (start .pre .1) _ _ _ (replicate max-radios 0) (first-below (start .pre .1)) (omega (arith, start .pre .1 .small, length-replicate {A = ℕ} max-radios 0)) (made .neighbours-after .ensures)
     (made .neighbours-after .kept .1 .1 .1 .1 .1 .1 .0)
 
 returns : tie.Need-returns
 returns c =
     let counted = c .before in
     let made = counted .before .before .before .before .before in
-    let start = made .before .before .before .before .before .before .before .before in settled-is (start .pre) _ _ _ (made .neighbours-after .ensures) (counted .count-left .ensures)
+    let start = made .before .before .before .before .before .before .before .before in settled-is (start .pre .1) _ _ _ (made .neighbours-after .ensures) (counted .count-left .ensures)
 
 pub settled-spec : {M : Type 1} → statement M
 settled-spec =
