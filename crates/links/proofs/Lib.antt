@@ -24,3 +24,9 @@ pub mod PlanCall
 pub mod Applied
 -- a call refused and accepted
 pub mod CallLaws
+-- not-lower counts after a link
+pub mod CountLaws
+-- a link on tables known to be sound
+pub mod StepLaws
+-- a batch
+pub mod BatchLaws

@@ -6,3 +6,7 @@ pub mod Asked
 pub mod Turns
 -- the peel of a level
 pub mod Peels
+-- a link on tables known to be sound
+pub mod Steps
+-- the questions of a batch
+pub mod Batched

@@ -118,7 +118,7 @@ fn peel(
 
 // Plans the link a-b going up or down: writes the lower end's stretch, laid out anew, in front of `stretch`; later entries and the
 // counters hold anything.
-fn plan_link(
+pub(crate) fn plan_link(
     up: bool,
     a: u32,
     b: u32,
