@@ -7,10 +7,12 @@
 #pragma weak sb_ask_down
 #pragma weak sb_commit_up
 #pragma weak sb_commit_down
+#pragma weak sb_link_batch
 #pragma weak sb_sheet
 #pragma weak sb_staircase
 
 static int c_has(enum timed call) {
+    if (call == BATCH) return sb_link_batch != 0;
     if (call == SHEET) return sb_sheet != 0;
     if (call == STAIRCASE) return sb_staircase != 0;
     if (call == ASKED || call == COMMITTED) return sb_ask_up && sb_ask_down && sb_commit_up && sb_commit_down;
@@ -44,6 +46,10 @@ static struct c_reply c_ask(int up, const struct lent *t, uint32_t a, uint32_t b
 
 static struct c_reply c_commit(int up, const struct lent *t, uint32_t a, uint32_t b, int step, const uint16_t *list, size_t count) {
     return reply(up ? sb_commit_up(t->n, a, b, step, OF(t), list, count) : sb_commit_down(t->n, a, b, step, OF(t), list, count));
+}
+
+static struct c_value c_link_batch(const struct lent *t, const uint16_t *list, size_t count) {
+    return value(sb_link_batch(t->n, OF(t), list, count));
 }
 
 static struct c_value c_core(const struct lent *t, uint32_t v, uint32_t k, uint16_t *answer, size_t room) {

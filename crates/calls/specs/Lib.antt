@@ -5,6 +5,7 @@
 pub mod Sheet
 pub mod Questions
 pub mod Switches
+pub mod Batches
 pub mod Contracts
 pub mod Outcomes
 pub mod Results

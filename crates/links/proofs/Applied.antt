@@ -56,7 +56,7 @@ entries-changed-part true k m xs n h l small i p =
 entries-changed-part false k m xs n h l small i p =
     let q : i < k = omega (arith, length-take-le k xs (omega arith)) in rw (getD-take k xs i 0 q) (small i (omega arith))
 
-length-changed : (up : Bool) (a b : ℕ) (g : Graph) → length (changed up a b g) ≤ g .n
+pub length-changed : (up : Bool) (a b : ℕ) (g : Graph) → length (changed up a b g) ≤ g .n
 unfolding changed radios
 length-changed up a b g =
     let f : ℕ → Bool = λ v. not (eqb (number g v) (number (relinked up a b g) v)) in

@@ -32,3 +32,9 @@ pub mod WalkTurns
 pub mod WalkMade
 pub mod WalkSteps
 pub mod WalkPlan
+-- not-lower counts after a link
+pub mod CountLaws
+-- a link on tables known to be sound
+pub mod StepLaws
+-- a batch
+pub mod BatchLaws

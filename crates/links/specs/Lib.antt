@@ -8,3 +8,7 @@ pub mod Turns
 pub mod Peels
 -- the walk of a link going up
 pub mod Walks
+-- a link on tables known to be sound
+pub mod Steps
+-- the questions of a batch
+pub mod Batched

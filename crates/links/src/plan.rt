@@ -162,7 +162,7 @@ pub(crate) fn plan_peel(
 
 // Plans the link a-b going up or down: writes what stands in the order from the plan's start on after, in front of `stretch`; later
 // entries and the counters hold anything.
-fn plan_link(
+pub(crate) fn plan_link(
     up: bool,
     a: u32,
     b: u32,
