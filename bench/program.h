@@ -58,10 +58,10 @@ struct ends {
     uint16_t a, b;
 };
 
-/* A site, another that is written over, a link of the site, and an image of it. */
+/* A site, another that is written over, a link of the site, two radios that are not linked, and an image of it. */
 struct entry {
     struct lent site, other;
-    struct ends ends;
+    struct ends ends, apart;
     uint8_t *image;
     size_t image_length;
 };
@@ -76,10 +76,10 @@ struct work {
     size_t room;
 };
 
-/* The calls that are timed. LINK is a link down and up again, ASKED and COMMITTED are the same in two steps. */
+/* The calls that are timed. LINK is a link down and up again, ASKED and COMMITTED are the same in two steps, NEW is a new link up. */
 enum timed {
     CLEAR, CHECK, NUMBER, DEGREE, LINKED, FIRST, LATER_OF, LINK, ASKED, COMMITTED, CORE, BACKBONE, TREE, SHEET, STAIRCASE,
-    IMAGE_WRITE, IMAGE_READ, IMAGE_OTHER, IMAGE_BLOCK, CALLS
+    IMAGE_WRITE, IMAGE_READ, IMAGE_OTHER, IMAGE_BLOCK, NEW, CALLS
 };
 
 /* A program that has no answer for a call leaves it out: an older engine, or one that only makes changes. */

@@ -34,6 +34,7 @@ static void use_sites(const struct program *p, uint32_t n, enum kind kind) {
         make_site(&s, n, kind, e - entries);
         e->site = take_site(&s), e->other = take_site(&s);
         some_links(&s, &e->ends, 1);
+        e->apart = some_pair(&s);
         e->image_length = p->image_write(&e->site, buffer, sizeof buffer).value;
         e->image = take(buffer, e->image_length);
     }
