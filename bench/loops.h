@@ -24,6 +24,17 @@ static inline unsigned down_and_up(const struct lent *t, struct ends e, uint16_t
     return changed;
 }
 
+/* A link that is down taken up, and the tables put back: two bits, numbers and order. */
+static inline unsigned new_link(const struct lent *t, struct ends e, uint16_t *answer) {
+    uint8_t numbers[RADIOS];
+    uint16_t order[RADIOS];
+    memcpy(numbers, t->numbers, t->n), memcpy(order, t->order, 2 * t->n);
+    unsigned changed = c_link(1, t, e.a, e.b, answer, t->n).count;
+    memcpy(t->numbers, numbers, t->n), memcpy(t->order, order, 2 * t->n);
+    put_bit(t->links, 0, e.a, e.b), put_bit(t->links, 0, e.b, e.a);
+    return changed;
+}
+
 /* A link call in two steps. Asking changes nothing, so it is timed beside the single calls. */
 static inline unsigned ask_and_link(const struct lent *t, struct ends e, uint16_t *answer) {
     unsigned changed = 0;
@@ -75,6 +86,7 @@ LOOP(image_write, c_image_write(S, w->buffer, w->room).value)
 LOOP(image_read, c_image_read(&e->other, e->image, e->image_length))
 LOOP(image_other, read_smaller(e))
 LOOP(image_block, c_image_block(e->image, e->image_length, 0).next)
+LOOP(new, new_link(S, e->apart, w->answer))
 
 /* Each of the links down and up again. */
 static void run_changes(const struct lent *t, const struct ends *list, unsigned count, uint16_t *answer) {
@@ -83,7 +95,7 @@ static void run_changes(const struct lent *t, const struct ends *list, unsigned 
 
 static void (*const loops[CALLS])(const struct work *) = {
     run_clear, run_check, run_number, run_neighbours, run_linked, run_first, run_later_of, run_link, run_asked, run_committed, run_batch,
-    run_core, run_backbone, run_tree, run_sheet, run_staircase, run_image_write, run_image_read, run_image_other, run_image_block,
+    run_core, run_backbone, run_tree, run_sheet, run_staircase, run_image_write, run_image_read, run_image_other, run_image_block, run_new,
 };
 
 #define TEXT(x) #x

@@ -59,10 +59,10 @@ struct ends {
     uint16_t a, b;
 };
 
-/* A site, another that is written over, a link of the site, links of it for a batch, and an image of it. */
+/* A site, another that is written over, a link of the site, two radios that are not linked, links of it for a batch, and an image of it. */
 struct entry {
     struct lent site, other;
-    struct ends ends;
+    struct ends ends, apart;
     struct ends *batch;
     unsigned batch_count;
     uint8_t *image;
@@ -79,10 +79,11 @@ struct work {
     size_t room;
 };
 
-/* The calls that are timed. LINK is a link down and up again, ASKED and COMMITTED are the same in two steps. BATCH clears a site first. */
+/* The calls that are timed. LINK is a link down and up again, ASKED and COMMITTED are the same in two steps, NEW is a new link up. BATCH
+   clears a site first. */
 enum timed {
     CLEAR, CHECK, NUMBER, DEGREE, LINKED, FIRST, LATER_OF, LINK, ASKED, COMMITTED, BATCH, CORE, BACKBONE, TREE, SHEET, STAIRCASE,
-    IMAGE_WRITE, IMAGE_READ, IMAGE_OTHER, IMAGE_BLOCK, CALLS
+    IMAGE_WRITE, IMAGE_READ, IMAGE_OTHER, IMAGE_BLOCK, NEW, CALLS
 };
 
 /* A program that has no answer for a call leaves it out: an older engine, or one that only makes changes. */

@@ -37,6 +37,7 @@ static void use_sites(const struct program *p, uint32_t n, enum kind kind) {
         struct ends batch[MOST_BATCH];
         e->batch_count = some_links(&s, batch, MOST_BATCH);
         e->batch = take(batch, sizeof batch);
+        e->apart = some_pair(&s);
         e->image_length = p->image_write(&e->site, buffer, sizeof buffer).value;
         e->image = take(buffer, e->image_length);
     }
