@@ -79,9 +79,9 @@ struct work {
     size_t room;
 };
 
-/* The calls that are timed. LINK is a link down and up again, ASKED and COMMITTED are the same in two steps. BATCH clears a site first. */
+/* The calls that are timed. LINK is a link down and up again, ASKED and COMMITTED are the same in two steps. BATCHED clears a site first. */
 enum timed {
-    CLEAR, CHECK, NUMBER, DEGREE, LINKED, FIRST, LATER_OF, LINK, ASKED, COMMITTED, BATCH, CORE, BACKBONE, TREE, SHEET, STAIRCASE,
+    CLEAR, CHECK, NUMBER, DEGREE, LINKED, FIRST, LATER_OF, LINK, ASKED, COMMITTED, BATCHED, CORE, BACKBONE, TREE, SHEET, STAIRCASE,
     IMAGE_WRITE, IMAGE_READ, IMAGE_OTHER, IMAGE_BLOCK, CALLS
 };
 
