@@ -240,7 +240,7 @@ static const char *disagreement(const struct program *engine, const struct progr
     if (!agree_damaged() || !agree_damaged_more()) return "check";
     if (!agree_links()) return "link calls";
     if (one->has(COMMITTED) && !agree_proposals()) return "proposals";
-    if (one->has(BATCH) && !agree_batches()) return "batches";
+    if (one->has(BATCHED) && !agree_batches()) return "batches";
     if (!agree_questions()) return "questions";
     if (one->has(SHEET) && !agree_sheet()) return "site sheet";
     if (!agree_writing()) return "image writing";

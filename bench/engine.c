@@ -12,7 +12,7 @@
 #pragma weak sb_staircase
 
 static int c_has(enum timed call) {
-    if (call == BATCH) return sb_link_batch != 0;
+    if (call == BATCHED) return sb_link_batch != 0;
     if (call == SHEET) return sb_sheet != 0;
     if (call == STAIRCASE) return sb_staircase != 0;
     if (call == ASKED || call == COMMITTED) return sb_ask_up && sb_ask_down && sb_commit_up && sb_commit_down;

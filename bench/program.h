@@ -79,10 +79,10 @@ struct work {
     size_t room;
 };
 
-/* The calls that are timed. LINK is a link down and up again, ASKED and COMMITTED are the same in two steps, NEW is a new link up. BATCH
+/* The calls that are timed. LINK is a link down and up again, ASKED and COMMITTED are the same in two steps, NEW is a new link up. BATCHED
    clears a site first. */
 enum timed {
-    CLEAR, CHECK, NUMBER, DEGREE, LINKED, FIRST, LATER_OF, LINK, ASKED, COMMITTED, BATCH, CORE, BACKBONE, TREE, SHEET, STAIRCASE,
+    CLEAR, CHECK, NUMBER, DEGREE, LINKED, FIRST, LATER_OF, LINK, ASKED, COMMITTED, BATCHED, CORE, BACKBONE, TREE, SHEET, STAIRCASE,
     IMAGE_WRITE, IMAGE_READ, IMAGE_OTHER, IMAGE_BLOCK, NEW, CALLS
 };
 
