@@ -64,6 +64,19 @@ static int agree_proposals(void) {
     return 1;
 }
 
+/* Batches of some links: the last one may be refused, and the list may be odd. */
+static int agree_batches(void) {
+    uint16_t list[24];
+    start();
+    for (unsigned i = 0; i < 100; i++) {
+        unsigned count = rand() % 24;
+        for (unsigned j = 0; j < count; j++) list[j] = rand() % (n + j / 16);
+        struct c_value p = one->link_batch(&t, list, count), q = two->link_batch(&u, list, count);
+        if (p.number != q.number || p.value != q.value || !same_tables()) return 0;
+    }
+    return 1;
+}
+
 /* A changed byte of the tables: a bit of a row, at times a radio's own, a number, an entry of the order. */
 static void damage(unsigned i) {
     unsigned at = rand() % n;
@@ -241,6 +254,7 @@ static const char *disagreement(const struct program *engine, const struct progr
     if (!agree_damaged() || !agree_damaged_more()) return "check";
     if (!agree_links()) return "link calls";
     if (one->has(COMMITTED) && !agree_proposals()) return "proposals";
+    if (one->has(BATCHED) && !agree_batches()) return "batches";
     if (!agree_questions()) return "questions";
     if (one->has(SHEET) && !agree_sheet()) return "site sheet";
     if (one->has(SCRIPT_WRITE) && !agree_script()) return "script";

@@ -9,10 +9,12 @@
 #pragma weak sb_commit_down
 #pragma weak sb_script_length
 #pragma weak sb_script_write
+#pragma weak sb_link_batch
 #pragma weak sb_sheet
 #pragma weak sb_staircase
 
 static int c_has(enum timed call) {
+    if (call == BATCHED) return sb_link_batch != 0;
     if (call == SHEET) return sb_sheet != 0;
     if (call == SCRIPT_LENGTH || call == SCRIPT_WRITE) return sb_script_length && sb_script_write;
     if (call == STAIRCASE) return sb_staircase != 0;
@@ -47,6 +49,10 @@ static struct c_reply c_ask(int up, const struct lent *t, uint32_t a, uint32_t b
 
 static struct c_reply c_commit(int up, const struct lent *t, uint32_t a, uint32_t b, int step, const uint16_t *list, size_t count) {
     return reply(up ? sb_commit_up(t->n, a, b, step, OF(t), list, count) : sb_commit_down(t->n, a, b, step, OF(t), list, count));
+}
+
+static struct c_value c_link_batch(const struct lent *t, const uint16_t *list, size_t count) {
+    return value(sb_link_batch(t->n, OF(t), list, count));
 }
 
 static struct c_value c_core(const struct lent *t, uint32_t v, uint32_t k, uint16_t *answer, size_t room) {

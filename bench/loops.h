@@ -24,6 +24,17 @@ static inline unsigned down_and_up(const struct lent *t, struct ends e, uint16_t
     return changed;
 }
 
+/* A link that is down taken up, and the tables put back: two bits, numbers and order. */
+static inline unsigned new_link(const struct lent *t, struct ends e, uint16_t *answer) {
+    uint8_t numbers[RADIOS];
+    uint16_t order[RADIOS];
+    memcpy(numbers, t->numbers, t->n), memcpy(order, t->order, 2 * t->n);
+    unsigned changed = c_link(1, t, e.a, e.b, answer, t->n).count;
+    memcpy(t->numbers, numbers, t->n), memcpy(t->order, order, 2 * t->n);
+    put_bit(t->links, 0, e.a, e.b), put_bit(t->links, 0, e.b, e.a);
+    return changed;
+}
+
 /* A link call in two steps. Asking changes nothing, so it is timed beside the single calls. */
 static inline unsigned ask_and_link(const struct lent *t, struct ends e, uint16_t *answer) {
     unsigned changed = 0;
@@ -43,6 +54,12 @@ static inline unsigned ask_and_commit(const struct lent *t, struct ends e, uint1
     return changed;
 }
 
+/* Up to 100 links of the site, taken up in one batch on cleared tables. */
+static inline unsigned clear_and_batch(const struct entry *e) {
+    c_clear(&e->other);
+    return c_link_batch(&e->other, &e->batch->a, 2 * e->batch_count).value;
+}
+
 /* The image into the same tables, for one radio less. */
 static inline unsigned read_smaller(const struct entry *e) {
     struct lent t = {N - 1, e->other.links, ROW * (N - 1), e->other.numbers, N - 1, e->other.order, N - 1};
@@ -59,6 +76,7 @@ LOOP(later_of, c_later_of(S, B).first)
 LOOP(link, down_and_up(S, e->ends, w->answer))
 LOOP(asked, ask_and_link(S, e->ends, w->answer))
 LOOP(committed, ask_and_commit(S, e->ends, w->answer))
+LOOP(batch, clear_and_batch(e))
 LOOP(core, c_core(S, A, 1, w->answer, N).value)
 LOOP(backbone, c_backbone(S, w->answer, N).value)
 LOOP(tree, c_tree(S, w->nodes, N + 1, w->answer, N).value)
@@ -70,6 +88,7 @@ LOOP(image_write, c_image_write(S, w->buffer, w->room).value)
 LOOP(image_read, c_image_read(&e->other, e->image, e->image_length))
 LOOP(image_other, read_smaller(e))
 LOOP(image_block, c_image_block(e->image, e->image_length, 0).next)
+LOOP(new, new_link(S, e->apart, w->answer))
 
 /* Each of the links down and up again. */
 static void run_changes(const struct lent *t, const struct ends *list, unsigned count, uint16_t *answer) {
@@ -77,8 +96,9 @@ static void run_changes(const struct lent *t, const struct ends *list, unsigned 
 }
 
 static void (*const loops[CALLS])(const struct work *) = {
-    run_clear, run_check, run_number, run_neighbours, run_linked, run_first, run_later_of, run_link, run_asked, run_committed, run_core,
-    run_backbone, run_tree, run_sheet, run_script_length, run_script_write, run_staircase, run_image_write, run_image_read, run_image_other, run_image_block,
+    run_clear, run_check, run_number, run_neighbours, run_linked, run_first, run_later_of, run_link, run_asked, run_committed, run_batch,
+    run_core, run_backbone, run_tree, run_sheet, run_script_length, run_script_write, run_staircase, run_image_write, run_image_read,
+    run_image_other, run_image_block, run_new,
 };
 
 #define TEXT(x) #x
@@ -86,6 +106,6 @@ static void (*const loops[CALLS])(const struct work *) = {
 extern const struct program PROGRAM;
 const struct program PROGRAM = {
     NAME(PROGRAM), c_has, loops, run_changes, c_clear, c_check, c_number, c_neighbours, c_linked, c_first, c_later_of, c_link, c_ask, c_commit,
-    c_core, c_backbone, c_tree, c_sheet, c_script_length, c_script_write, c_staircase, c_image_write, c_image_read, c_image_block,
+    c_link_batch, c_core, c_backbone, c_tree, c_sheet, c_script_length, c_script_write, c_staircase, c_image_write, c_image_read, c_image_block,
 };
 #endif

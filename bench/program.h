@@ -18,6 +18,7 @@
 #define LINKS 126
 #define MOST_BLOCKS 86
 
+#define MOST_BATCH 100 /* links of a batch that is timed */
 #define PAGE_LINE 65 /* bytes of a line of the site sheet */
 #define MOST_SCRIPT 112651 /* bytes of the longest script */
 
@@ -59,10 +60,12 @@ struct ends {
     uint16_t a, b;
 };
 
-/* A site, another that is written over, a link of the site, and an image of it. */
+/* A site, another that is written over, a link of the site, two radios that are not linked, links of it for a batch, and an image of it. */
 struct entry {
     struct lent site, other;
-    struct ends ends;
+    struct ends ends, apart;
+    struct ends *batch;
+    unsigned batch_count;
     uint8_t *image;
     size_t image_length;
 };
@@ -77,11 +80,11 @@ struct work {
     size_t room;
 };
 
-/* The calls that are timed. LINK is a link down and up again, ASKED and COMMITTED are the same in two steps. */
+/* The calls that are timed. LINK is a link down and up again, ASKED and COMMITTED are the same in two steps, NEW is a new link up. BATCHED
+   clears a site first. */
 enum timed {
-    CLEAR, CHECK, NUMBER, DEGREE, LINKED, FIRST, LATER_OF, LINK, ASKED, COMMITTED, CORE, BACKBONE, TREE, SHEET,
-    SCRIPT_LENGTH, SCRIPT_WRITE, STAIRCASE,
-    IMAGE_WRITE, IMAGE_READ, IMAGE_OTHER, IMAGE_BLOCK, CALLS
+    CLEAR, CHECK, NUMBER, DEGREE, LINKED, FIRST, LATER_OF, LINK, ASKED, COMMITTED, BATCHED, CORE, BACKBONE, TREE, SHEET,
+    SCRIPT_LENGTH, SCRIPT_WRITE, STAIRCASE, IMAGE_WRITE, IMAGE_READ, IMAGE_OTHER, IMAGE_BLOCK, NEW, CALLS
 };
 
 /* A program that has no answer for a call leaves it out: an older engine, or one that only makes changes. */
@@ -100,6 +103,7 @@ struct program {
     struct c_reply (*link)(int up, const struct lent *, uint32_t a, uint32_t b, uint16_t *answer, size_t room);
     struct c_reply (*ask)(int up, const struct lent *, uint32_t a, uint32_t b, uint16_t *answer, size_t room);
     struct c_reply (*commit)(int up, const struct lent *, uint32_t a, uint32_t b, int step, const uint16_t *list, size_t count);
+    struct c_value (*link_batch)(const struct lent *, const uint16_t *list, size_t count);
     struct c_value (*core)(const struct lent *, uint32_t v, uint32_t k, uint16_t *answer, size_t room);
     struct c_value (*backbone)(const struct lent *, uint16_t *answer, size_t room);
     struct c_value (*tree)(const struct lent *, struct c_node *nodes, size_t places, uint16_t *answer, size_t room);

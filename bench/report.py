@@ -15,7 +15,7 @@ from plot import plot
 
 TOP = Path(__file__).resolve().parent.parent
 START, END = "<!-- measured: bench/run --write -->\n", "<!-- end -->\n"
-NEAR = ["clear", "check", "number", "neighbours", "linked", "first", "later_of", "down+up", "ask+link", "ask+commit"]
+NEAR = ["clear", "check", "number", "neighbours", "linked", "first", "later_of", "down+up", "ask+link", "ask+commit", "batch", "new"]
 MOST_ASK, MOST_COMMIT = 1.0, 1.1  # of the single call
 MOST_GROWTH, MOST_STACK, LEAST_IGRAPH, LEAST_NETWORKX = 40, 8192, 2, 20
 

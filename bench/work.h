@@ -13,7 +13,7 @@ static uint8_t buffer[MOST_SCRIPT]; /* an image is shorter */
 static struct work work = {entries, 0, answer, nodes, buffer, sizeof buffer};
 
 /* Room for the entries' tables and images. */
-static uint8_t room[IN_TURN * (2 * (ROW + 1 + 2) + 4 * NEIGHBOURS / 2) + IN_TURN / 16 * 8 * BLOCK], *next;
+static uint8_t room[IN_TURN * (2 * (ROW + 1 + 2) + 4 * NEIGHBOURS / 2) + IN_TURN / 16 * (8 * BLOCK + 4 * MOST_BATCH)], *next;
 
 static void *take(const void *from, size_t length) {
     void *to = memcpy(next, from, length);
@@ -34,6 +34,10 @@ static void use_sites(const struct program *p, uint32_t n, enum kind kind) {
         make_site(&s, n, kind, e - entries);
         e->site = take_site(&s), e->other = take_site(&s);
         some_links(&s, &e->ends, 1);
+        struct ends batch[MOST_BATCH];
+        e->batch_count = some_links(&s, batch, MOST_BATCH);
+        e->batch = take(batch, sizeof batch);
+        e->apart = some_pair(&s);
         e->image_length = p->image_write(&e->site, buffer, sizeof buffer).value;
         e->image = take(buffer, e->image_length);
     }

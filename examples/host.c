@@ -38,6 +38,15 @@ static void propose_down(uint32_t a, uint32_t b) {
 
 static void print_value(const char *question, sb_value v) { printf("%s: number %u, value %u\n", question, v.number, v.value); }
 
+/* A batch that stops at its third link, with the links before it up; and one with half a link. */
+static void take_batch(void) {
+    uint16_t list[] = {0, 1, 0, 6, 6, 6, 2, 3};
+    print_value("batch", sb_link_batch(N, TABLES, list, 8));
+    print_value("batch of an odd list", sb_link_batch(N, TABLES, list + 6, 1));
+    printf("order");
+    print_list(order, N);
+}
+
 static void print_later(uint32_t v) {
     sb_later l = sb_later_of(N, v, TABLES);
     printf("later than %u: number %u, count %u, first %u\n", v, l.number, l.count, l.first);
@@ -145,5 +154,6 @@ int main(void) {
     down(2, 3);
     propose_down(0, 1);
     down(0, 1);
+    take_batch();
     return 0;
 }

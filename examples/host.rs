@@ -46,6 +46,7 @@ mod engine {
         pub fn sb_check(n: u32, l: *const u8, ll: usize, k: *const u8, kl: usize, o: *const u16, ol: usize) -> Value;
         pub fn sb_link_up(n: u32, a: u32, b: u32, l: *mut u8, ll: usize, k: *mut u8, kl: usize, o: *mut u16, ol: usize, w: *mut u16, wl: usize) -> Reply;
         pub fn sb_link_down(n: u32, a: u32, b: u32, l: *mut u8, ll: usize, k: *mut u8, kl: usize, o: *mut u16, ol: usize, w: *mut u16, wl: usize) -> Reply;
+        pub fn sb_link_batch(n: u32, l: *mut u8, ll: usize, k: *mut u8, kl: usize, o: *mut u16, ol: usize, list: *const u16, len: usize) -> Value;
         pub fn sb_ask_up(n: u32, a: u32, b: u32, l: *const u8, ll: usize, k: *const u8, kl: usize, o: *const u16, ol: usize, w: *mut u16, wl: usize) -> Reply;
         pub fn sb_ask_down(n: u32, a: u32, b: u32, l: *const u8, ll: usize, k: *const u8, kl: usize, o: *const u16, ol: usize, w: *mut u16, wl: usize) -> Reply;
         pub fn sb_commit_up(n: u32, a: u32, b: u32, step: i8, l: *mut u8, ll: usize, k: *mut u8, kl: usize, o: *mut u16, ol: usize, c: *const u16, cl: usize) -> Reply;
@@ -145,6 +146,16 @@ fn print_list(list: &[u16]) {
         print!(" {x}");
     }
     println!();
+}
+
+// A batch that stops at its third link, with the links before it up; and one with half a link.
+fn take_batch(s: &mut Site) {
+    let list: [u16; 8] = [0, 1, 0, 6, 6, 6, 2, 3];
+    print_value("batch", call!(sb_link_batch, s, [], [list.as_ptr(), list.len()]));
+    let odd = &list[6..7];
+    print_value("batch of an odd list", call!(sb_link_batch, s, [], [odd.as_ptr(), odd.len()]));
+    print!("order");
+    print_list(&s.order);
 }
 
 fn print_value(question: &str, v: Value) {
@@ -263,4 +274,5 @@ fn main() {
     s.down(2, 3);
     s.propose_down(0, 1);
     s.down(0, 1);
+    take_batch(&mut s);
 }

@@ -10,9 +10,11 @@
  *   order    n entries: a k-order of the radios
  *   answer   at least n entries: a list of radios is ascending and fills the first entries; later entries keep their content
  *   table    at least 2 * n entries: a list of links, two entries each, fills the first ones; later entries keep their content
+ *   list     a list of links that a batch reads, two entries each
  *
  * Every call checks its tables itself. A refused call answers the number of the first question that got "no" (sb_refusal),
- * zeros beside it, and changes no byte of any table. A call with number 0 was carried out.
+ * zeros beside it, and changes no byte of any table; one refusal alone stands beside a change and a count, that of a link in a batch
+ * (sb_link_batch). A call with number 0 was carried out.
  *
  * What C cannot check, and the proofs assume: a pointer is not NULL, is aligned, and is good for its count of elements; a table
  * that a call writes overlaps no other table of the call; calls on the same tables do not run at the same time.
@@ -141,6 +143,19 @@ sb_reply sb_link_up(uint32_t n, uint32_t a, uint32_t b, uint8_t *links, size_t l
 sb_reply sb_link_down(uint32_t n, uint32_t a, uint32_t b, uint8_t *links, size_t links_len,
                       uint8_t *numbers, size_t numbers_len, uint16_t *order, size_t order_len,
                       uint16_t *answer, size_t answer_len);
+
+/**
+ * Take up the links of a list, two entries each, one by one, and stop at the first that is refused. The links before it remain, and are
+ * counted beside its number: the only refusal of this interface beside which a change and a count stand. The tables are checked once, so a
+ * batch is quicker than its links one by one.
+ *
+ * \return number 0 and value list_len / 2, the count of links done; or a number from SB_RADIO to SB_NO_ROOM, that of the link list[2 *
+ *         value], list[2 * value + 1], and value the count of links before it, which are up; or SB_SIZE, SB_LENGTH (list_len may not be
+ *         odd), SB_UNSOUND, before any link, value 0, and then every table keeps its content.
+ */
+sb_value sb_link_batch(uint32_t n, uint8_t *links, size_t links_len,
+                       uint8_t *numbers, size_t numbers_len, uint16_t *order, size_t order_len,
+                       const uint16_t *list, size_t list_len);
 
 /**
  * Ask what sb_link_up would change now. Links, numbers and order are only read.

@@ -54,6 +54,18 @@ static void test_later(void) {
     expect("later of no radio", past.number, SB_RADIO), expect("zero", past.count + past.first, 0);
 }
 
+/* A star with one leaf less: a batch takes it up again, and stops at a link that is up. */
+static void test_batch(void) {
+    uint16_t list[] = {0, 1, 2, 0, 3, 4};
+    sb_link_down(SB_RADIOS, 0, 1, TABLES, ANSWER);
+    sb_value odd = sb_link_batch(SB_RADIOS, TABLES, list, 5), none = sb_link_batch(SB_RADIOS, TABLES, list, 0);
+    sb_value some = sb_link_batch(SB_RADIOS, TABLES, list, 6);
+    expect("an odd list", odd.number, SB_LENGTH), expect("no link done", odd.value, 0);
+    expect("an empty list", none.number, SB_OK), expect("none done", none.value, 0);
+    expect("a link that is up", some.number, SB_LINK_STATE), expect("one link done", some.value, 1);
+    expect("it remains", sb_linked(SB_RADIOS, 0, 1, TABLES).value, 1), expect("the next does not", sb_linked(SB_RADIOS, 3, 4, TABLES).value, 0);
+}
+
 /* A star: a link between two leaves raises them and the hub. */
 static void test_proposals(void) {
     sb_reply asked = sb_ask_up(SB_RADIOS, 1, 2, TABLES, ANSWER), down;
@@ -146,6 +158,7 @@ int main(void) {
     test_structs();
     test_limits();
     test_later();
+    test_batch();
     test_proposals();
     test_refusals();
     test_tree();

@@ -72,6 +72,17 @@ def circulant(n, reach):
     return [(v, (v + d) % n) for d in range(1, reach + 1) for v in range(n)]
 
 
+def grown(n, many, seed):
+    """So many pairs of n radios, one after another, each once, drawn by a congruential generator."""
+    found, x = [], seed
+    while len(found) < many:
+        x = (x * 6364136223846793005 + 1442695040888963407) % 2**64
+        a, b = (x >> 33) % n, (x >> 48) % n
+        if a != b and (a, b) not in found and (b, a) not in found:
+            found.append((a, b))
+    return found
+
+
 def pairs(many):
     """A link up and down in turn: lines of 7 and 9 bytes, which print 9 each."""
     return [("down" if i % 2 else "up", 0, 1) for i in range(many)]
@@ -97,6 +108,10 @@ SCRIPTS = {
     "clique-41": script(41, ups(clique(41)) + downs(clique(41))),
     "ring-512": script(512, ups(circulant(512, 1)) + downs([(0, 1), (511, 0)])),
     "circulant-512": script(512, ups(circulant(512, 20)) + downs([(0, 1), (0, 20)])),
+    # sites that grow link by link, sparse and dense, and one that rises whole
+    "grown-512": script(512, ups(grown(512, 1200, 1))),
+    "grown-48": script(48, ups(grown(48, 900, 2))),
+    "risen-96": script(96, ups(circulant(96, 6)) + downs([(0, 1), (40, 43)]) + ups([(40, 43), (1, 0)])),
     # edges of the language
     "empty": b"",
     "empty-line": b"\n",

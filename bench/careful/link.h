@@ -1,5 +1,5 @@
 /*
- * Link up and link down of a careful programmer, single and in two steps: where the order stands the call is done; otherwise the
+ * Link up and link down of a careful programmer, single, in two steps and in a batch: where the order stands the call is done; otherwise the
  * lower end's level is peeled once, and only links to radios of the level that are left are looked at.
  */
 #ifndef LINK_H
@@ -129,5 +129,45 @@ static struct c_reply c_commit(int up, const struct lent *t, uint32_t a, uint32_
     unsigned all = list_set(plan.changed, changed);
     int right = step == (all ? (up ? 1 : -1) : 0) && count == all && !memcmp(list, changed, 2 * all);
     return right ? apply(up, t, a, b, &plan, changed, all) : (struct c_reply){16, 0, 0};
+}
+
+/* How many neighbours of v stand later in the order. */
+static unsigned later_than(const struct lent *t, const struct found *f, unsigned v) {
+    unsigned k = 0;
+    for (unsigned i = 0; i < WORDS; i++)
+        for (uint64_t w = row_word(t->links, v, i); w; w &= w - 1) k += f->places[64 * i + __builtin_ctzll(w)] > f->places[v];
+    return k;
+}
+
+/* The neighbours of each radio of the level that are not below it. */
+static void count_highs(const struct lent *t, struct found *f, unsigned level) {
+    uint64_t set[WORDS];
+    at_least(t, level, set);
+    for (unsigned i = f->starts[level]; i < t->n && t->numbers[t->order[i]] == level; i++) {
+        unsigned v = t->order[i], k = 0;
+        for (unsigned j = 0; j < WORDS; j++) k += bits(row_word(t->links, v, j) & set[j]);
+        f->highs[v] = k;
+    }
+}
+
+/* The tables are checked once. Where the order stands a link costs its own rows alone; else its level is counted and peeled. */
+static struct c_value c_link_batch(const struct lent *t, const uint16_t *list, size_t count) {
+    struct found f;
+    struct plan plan;
+    uint16_t changed[RADIOS];
+    unsigned number = refusal(t, count % 2 == 0, &f), done = 0, sum;
+    for (; !number && 2 * done < count; done++) {
+        uint32_t a = list[2 * done], b = list[2 * done + 1];
+        number = ends_refused(1, t, a, b);
+        if (number) break;
+        unsigned level = t->numbers[a] < t->numbers[b] ? t->numbers[a] : t->numbers[b], first = f.places[a] < f.places[b] ? a : b;
+        plan.from = plan.size = 0;
+        memset(plan.changed, 0, sizeof plan.changed);
+        int stands = later_than(t, &f, first) < level;
+        if (!stands) count_highs(t, &f, level), peel_level(1, t, &f, a, b, level, &plan);
+        apply(1, t, a, b, &plan, changed, list_set(plan.changed, changed));
+        if (!stands) ordered(t, &f, &sum);
+    }
+    return (struct c_value){number, done};
 }
 #endif

@@ -1,4 +1,4 @@
-/* Link up and link down in C, single and in two steps: one peel of the lower end's level. */
+/* Link up and link down in C, single, in two steps and in a batch: one peel of the lower end's level. */
 #ifndef LINK_H
 #define LINK_H
 #include "check.h"
@@ -23,17 +23,13 @@ struct c_plan {
     uint16_t stretch[RADIOS];
 };
 
-static unsigned c_plan(int up, const struct lent *t, uint32_t a, uint32_t b, int room, struct c_plan *plan) {
-    uint16_t places[RADIOS], *stretch = plan->stretch, list[NEIGHBOURS + 1];
-    uint8_t counters[RADIOS];
+/* From places and not-lower counts of every radio; the counts are used up. */
+static void c_peel(int up, const struct lent *t, uint32_t a, uint32_t b, const uint16_t *places, uint8_t *counters, struct c_plan *plan) {
+    uint16_t *stretch = plan->stretch, list[NEIGHBOURS + 1];
     uint64_t fits[8] = {0};
     const uint32_t n = t->n;
     const uint8_t *links = t->links, *numbers = t->numbers;
     const uint16_t *order = t->order;
-    unsigned number = c_sizes(t, room);
-    if (!number && !c_examine(t, places, counters)) number = 3;
-    if (!number) number = c_ends(up, n, a, b, links);
-    if (number) return number;
     unsigned level = numbers[a] < numbers[b] ? numbers[a] : numbers[b], most = up ? level : level - 1;
     unsigned start = 0, size = 0, taken = 0;
     for (unsigned v = 0; v < n; v++) start += numbers[v] < level, size += numbers[v] == level;
@@ -56,7 +52,16 @@ static unsigned c_plan(int up, const struct lent *t, uint32_t a, uint32_t b, int
     for (unsigned p = start, j = taken; p < start + size; p++)
         if (counters[order[p]] > most) stretch[j++] = order[p];
     plan->start = start, plan->size = size, plan->taken = taken;
-    return 0;
+}
+
+static unsigned c_plan(int up, const struct lent *t, uint32_t a, uint32_t b, int room, struct c_plan *plan) {
+    uint16_t places[RADIOS];
+    uint8_t counters[RADIOS];
+    unsigned number = c_sizes(t, room);
+    if (!number && !c_examine(t, places, counters)) number = 3;
+    if (!number) number = c_ends(up, t->n, a, b, t->links);
+    if (!number) c_peel(up, t, a, b, places, counters, plan);
+    return number;
 }
 
 /* The changed radios of a plan, ascending. */
@@ -99,5 +104,43 @@ static struct c_reply c_commit(int up, const struct lent *t, uint32_t a, uint32_
     if (r.step != step || r.count != count || memcmp(list, changed, 2 * count)) return (struct c_reply){16, 0, 0};
     c_apply(up, t, a, b, &plan);
     return r;
+}
+
+/* Both ends, the changed radios and their neighbours counted anew. */
+static void c_renew(const struct lent *t, uint32_t a, uint32_t b, const uint16_t *changed, unsigned count, uint8_t *highs) {
+    uint64_t set[8] = {0};
+    uint16_t list[RADIOS], near[NEIGHBOURS];
+    for (unsigned i = 0; i < count; i++) {
+        unsigned m = row_list(t->links, changed[i], near, NEIGHBOURS);
+        set[changed[i] / 64] |= 1ull << changed[i] % 64;
+        for (unsigned j = 0; j < m; j++) set[near[j] / 64] |= 1ull << near[j] % 64;
+    }
+    set[a / 64] |= 1ull << a % 64, set[b / 64] |= 1ull << b % 64;
+    unsigned k = row_list((const uint8_t *)set, 0, list, RADIOS);
+    for (unsigned i = 0; i < k; i++) {
+        unsigned m = row_list(t->links, list[i], near, NEIGHBOURS), high = 0;
+        for (unsigned j = 0; j < m; j++) high += t->numbers[list[i]] <= t->numbers[near[j]];
+        highs[list[i]] = high;
+    }
+}
+
+static struct c_value c_link_batch(const struct lent *t, const uint16_t *list, size_t count) {
+    struct c_plan plan;
+    uint16_t places[RADIOS], changed[RADIOS];
+    uint8_t highs[RADIOS], counters[RADIOS];
+    unsigned number = c_sizes(t, count % 2 == 0), done = 0;
+    if (!number && !c_examine(t, places, highs)) number = 3;
+    for (; !number && 2 * done < count; done++) {
+        uint32_t a = list[2 * done], b = list[2 * done + 1];
+        number = c_ends(1, t->n, a, b, t->links);
+        if (number) break;
+        memcpy(counters, highs, t->n);
+        c_peel(1, t, a, b, places, counters, &plan);
+        c_apply(1, t, a, b, &plan);
+        struct c_reply r = c_report(1, &plan, changed, RADIOS);
+        c_place(t->n, t->order, places);
+        c_renew(t, a, b, changed, r.count, highs);
+    }
+    return (struct c_value){number, done};
 }
 #endif

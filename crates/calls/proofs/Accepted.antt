@@ -108,7 +108,7 @@ numbers-right : (g : Graph) (t : Tables) → t .numbers ≡ numbers g → is-k-o
 numbers-right g t e k = record { cores = λ x l. rw (e, getD-numbers g x l) (number-core g x l); k-order = k }
 
 -- the graph in the new links table is the graph with the link changed
-switched-right :
+pub switched-right :
     (up : Bool) (n a b : ℕ) (t v : Tables) (others : Bool) → Site-good n (lengths-of t) others (sound n t) →
     Allowed max-neighbours up a b (graph-in n (t .links)) → v .links ≡ put-link up a b (t .links) →
     v .numbers ≡ numbers (relinked up a b (graph-in n (t .links))) → v .order ≡ new-order up a b (graph-in n (t .links)) (t .order) →
@@ -182,7 +182,7 @@ commit-right up n a b z xs t r v d y =
 
 -- ---- the soundness check, and a radio's number
 
-site-right : (n : ℕ) (t : Tables) → length (t .numbers) ≡ n → (sound n t ≡ true) ↔ Site-right n t
+pub site-right : (n : ℕ) (t : Tables) → length (t .numbers) ≡ n → (sound n t ≡ true) ↔ Site-right n t
 unfolding sound graph-in
 site-right n t long =
     let g = graph-in n (t .links) in

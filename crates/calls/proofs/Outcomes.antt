@@ -21,6 +21,7 @@ use Rattle.calls.specs.Contracts.Forms.{Tables-refused, Value-accepted, 
 use Rattle.calls.specs.Contracts.Sites.{Clear-accepted, Clear-contract, Check-contract}
 use Rattle.calls.specs.Contracts.Links.{Link-accepted, Link-refused, Link-contract}
 use Rattle.calls.specs.Contracts.Proposals.{Ask-accepted, Ask-refused, Ask-contract, Commit-accepted, Commit-refused, Commit-contract}
+use Rattle.calls.specs.Contracts.Batches.{Batch-done, Batch-refused, Batch-contract}
 use Rattle.calls.specs.Contracts.Images.{Read-accepted, Read-contract, Write-contract, Block-none, Block-accepted, Block-contract}
 use Rattle.calls.specs.Contracts.Radios.{Number-contract, Neighbours-contract, Linked-contract, First-contract}
 use Rattle.calls.specs.Contracts.Wake.{Later-accepted, Later-refused, Later-contract}
@@ -32,7 +33,7 @@ use Rattle.calls.specs.Contracts.Staircase.{Staircase-contract}
 use Rattle.calls.specs.Switches.{switched}
 use Rattle.calls.specs.Outcomes.{by-number, clear-outcome, read-outcome, link-outcome, value-outcome, check-outcome, number-outcome, neighbours-outcome}
 use Rattle.calls.specs.Outcomes.{linked-outcome, first-outcome, listing-outcome, core-outcome, backbone-outcome, write-outcome, tree-outcome, no-block}
-use Rattle.calls.specs.Outcomes.{block-or-end, block-outcome, later-outcome, sheet-outcome, staircase-outcome, ask-outcome, commit-outcome}
+use Rattle.calls.specs.Outcomes.{block-or-end, block-outcome, later-outcome, sheet-outcome, staircase-outcome, ask-outcome, commit-outcome, batch-outcome}
 use Rattle.calls.specs.Outcomes.{script-length-outcome, script-outcome}
 use Rattle.calls.specs.declared.Reply.{Reply}
 use Rattle.calls.specs.declared.Value.{Value}
@@ -231,6 +232,28 @@ commit-inhabited up n a b z xs t =
     _
     (record { number = refl; step = refl; count = refl; tables = refl })
     (λ q. record { number = refl; step = refl; count = refl; tables = refl })
+
+pub batch-decided : (n : ℕ) (xs : List ℕ) (t : Tables) → Decides {A = Value × Tables} (λ o. Batch-contract n xs t (o .0) (o .1))
+unfolding Batch-contract
+batch-decided n xs t =
+    by-decides
+    _
+    (λ o. Batch-done n xs (graph-in n (t .links) .links) t (o .0) (o .1))
+    (λ x o. Batch-refused x t (o .0) (o .1))
+    (λ o s p q. pair-ext o s (value-ext (o .0) (s .0) (cc) (cc)) (cc))
+    (λ x o s p q. pair-ext o s (value-ext (o .0) (s .0) (cc) (cc)) (cc))
+
+pub batch-inhabited : (n : ℕ) (xs : List ℕ) (t : Tables) → let o = batch-outcome n xs t in Batch-contract n xs t (o .0) (o .1)
+unfolding Batch-contract batch-outcome
+batch-inhabited n xs t =
+    by-meets
+    _
+    (λ (o : Value × Tables). Batch-done n xs (graph-in n (t .links) .links) t (o .0) (o .1))
+    (λ q o. Batch-refused q t (o .0) (o .1))
+    _
+    _
+    (record { number = refl; value = refl; tables = refl })
+    (λ q. record { number = refl; value = refl; tables = refl })
 
 pub number-decided : (n v : ℕ) (t : Tables) → Decides (Number-contract n v t)
 unfolding Number-contract

@@ -24,17 +24,21 @@ use Rattle.calls.specs.Contracts.Forms.{Tables-refused}
 use Rattle.calls.specs.Contracts.Sites.{Clear-accepted, Clear-contract}
 use Rattle.calls.specs.Contracts.Links.{Link-accepted, Link-refused, Link-contract}
 use Rattle.calls.specs.Contracts.Proposals.{Commit-accepted, Commit-refused, Commit-contract}
+use Rattle.calls.specs.Batches.{list-length, batch-refusal, batch-switches, batch-stop}
+use Rattle.calls.specs.Contracts.Batches.{Batch-done, Batch-refused, Batch-contract}
 use Rattle.calls.specs.Contracts.Images.{Read-accepted, Read-contract}
-use Rattle.calls.specs.Book.{Call, clearing, reading, linking, committing, other, Answer, plain, reported, committed, Outcome, outcome-of, unless-refused, outcome}
+use Rattle.calls.specs.Book.{Call, clearing, reading, linking, committing, batching, other, Answer, plain, reported, committed, counted, Outcome, outcome-of, unless-refused, outcome}
 use Rattle.calls.specs.Book.{first-pairs, pairs-of}
 use Rattle.calls.specs.Runs.{answer-of, replied, Does}
 use Rattle.calls.specs.Demand.{ended, Call-kept, Start, cleared, read}
 use Rattle.calls.specs.declared.Reply.{Reply}
-use Rattle.calls.proofs.ChainLaws.{lent-zero, link-zero, commit-zero, read-zero}
+use Rattle.calls.specs.declared.Value.{Value}
+use Rattle.calls.proofs.ChainLaws.{lent-zero, site-zero, link-zero, commit-zero, read-zero}
 use Rattle.calls.proofs.ContractLaws.{by-accepted}
 use Rattle.calls.proofs.RecordLaws.{tables-ext, refused-same}
 use Rattle.calls.proofs.Holds.{Holds, clear-holds, read-holds, unchanged-holds, same-n, read-back, site-asked, with-n, All-allowed, all-holds}
 use Rattle.calls.proofs.Holds.{all-switching}
+use Rattle.calls.proofs.Batches.{batch-allowed}
 
 pub record Stepped (n : ℕ) (ps : List Link) (o : Outcome) (t : Tables) (hs : List Answer) (v : Tables) : Type 0 where
   pub kept : Call-kept n ps o t hs v
@@ -172,6 +176,20 @@ module _ (n : ℕ) (ps : List Link) (t : Tables) (k : Holds n ps t) where
       carried hs _ (switch u a b ∷ []) v (q ∙ rw (d .number, d .step, d .count, f)) (rw e at (y .1), tt) (rw e at (d .tables))
   commit-step (suc y) u m a b z xs r v hs p d q = refused y _ hs v (q ∙ rw (d .number, d .step, d .count)) (d .tables)
 
+  -- ---- a batch
+
+  batch-step :
+      (R m : ℕ) (xs : List ℕ) (r : Value) (v : Tables) (hs : List Answer) → batch-refusal m (lengths-of t) (length xs) true ≡ R →
+      By-number R (Batch-done m xs (graph-in m (t .links) .links) t r v) (λ q. Batch-refused q t r v) → hs ≡ one (counted (r .number) (r .value)) →
+      Stepped n ps (unless-refused R (outcome-of (one (counted (batch-stop m xs ps) (length (batch-switches m xs ps)))) none (batch-switches m xs ps))) t hs v
+  unfolding By-number batch-refusal counted plain
+  batch-step zero m xs r v hs p d q =
+      let e = same-n n ps t k m (list-length (length xs)) (site-zero m (lengths-of t) (list-length (length xs)) true 0 p .0 .lent) in
+      let f : graph-in m (t .links) .links ≡ ps = rw e (ap (λ (g : Graph). g .links) (read-back n ps t k)) in
+      let c : Batch-done n xs ps t r v = rw (f, e) at d in
+      rw e (carried hs _ (batch-switches n xs ps) v (q ∙ rw (c .number, c .value)) (batch-allowed n xs ps) (c .tables))
+  batch-step (suc y) m xs r v hs p d q = refused y _ hs v (q ∙ rw (d .number, d .value)) (d .tables)
+
   -- ---- any call
 
   other-step : (hs : List Answer) (v : Tables) → v ≡ t → hs ≡ [] → Stepped n ps (outcome-of [] none []) t hs v
@@ -182,7 +200,7 @@ module _ (n : ℕ) (ps : List Link) (t : Tables) (k : Holds n ps t) where
   }
 
   pub step : (c : Call) (hs : List Answer) (v : Tables) → Does c t hs v → Stepped n ps (outcome c (lengths-of t) ps) t hs v
-  unfolding Does Clear-contract Read-contract Link-contract Commit-contract outcome link-refusal commit-refusal
+  unfolding Does Clear-contract Read-contract Link-contract Commit-contract Batch-contract outcome link-refusal commit-refusal batch-refusal
   step (clearing m) hs v d = clear-step _ m (d .result) v hs refl (d .contract) (d .answer)
   step (reading m bs) hs v d = read-step _ m (d .result) bs v hs refl (d .contract) (d .answer)
   step (linking u m a b w) hs v d =
@@ -193,4 +211,8 @@ module _ (n : ℕ) (ps : List Link) (t : Tables) (k : Holds n ps t) where
       let f = asked (Commit-accepted u m a b t (d .result) v) (λ q. Commit-refused q t (d .result) v)
       (site-asked n ps t k m true (λ g. ends-then max-neighbours u m a b g (ask 16 (is-proposal u a b z xs g) 0))) (d .contract) in
       commit-step _ u m a b z xs (d .result) v hs refl f (d .answer)
+  step (batching m xs) hs v d =
+      let f = asked (Batch-done m xs (graph-in m (t .links) .links) t (d .result) v) (λ q. Batch-refused q t (d .result) v)
+      (site-asked n ps t k m (list-length (length xs)) (λ g. 0)) (d .contract) in
+      batch-step _ m xs (d .result) v hs refl f (d .answer)
   step other hs v d = other-step hs v (d .0) (d .1)

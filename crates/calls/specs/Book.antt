@@ -1,5 +1,5 @@
 -- Document 01's link book: what it is given of each call, the pairs that it keeps, and what it answers.
---   Call, Given       what the book is given of a call: n, radios, image bytes, a proposal, lengths of tables; never what links, numbers and
+--   Call, Given       what the book is given of a call: n, radios, image bytes, a proposal, a list of links, lengths of tables; never what links, numbers and
 --                     order hold
 --   Answer            what is compared of a call
 --   outcome           what the book makes of a call: answers, where it begins anew, and the links that it takes up or down
@@ -19,6 +19,7 @@ use Rattle.mesh.specs.Levels.{changed, step-of}
 use Rattle.mesh.specs.Image.{image-links}
 use Rattle.calls.specs.Questions.{Lengths, tables-refusal, link-refusal, commit-refusal, read-refusal}
 use Rattle.calls.specs.Switches.{Switch, switch, pairs-after}
+use Rattle.calls.specs.Batches.{batch-refusal, batch-switches, batch-stop}
 
 -- what the book is given of a call, beside the lengths of links, numbers and order: `answer` is the answer table's length
 pub data Call : Type 0 where
@@ -26,6 +27,7 @@ pub data Call : Type 0 where
   reading : (n : ℕ) → (image : List ℕ) → Call
   linking : (up : Bool) → (n a b : ℕ) → (answer : ℕ) → Call
   committing : (up : Bool) → (n a b : ℕ) → (step : ℤ) → (list : List ℕ) → Call
+  batching : (n : ℕ) → (list : List ℕ) → Call
   other : Call
 
 -- what is compared of a call: its number and, for a link call, step, count and listed radios; a committing lists none
@@ -46,6 +48,10 @@ reported up cs = record { number = 0; step = step-of up cs; count = length cs; l
 -- an accepted committing
 unfoldable pub committed : (up : Bool) → (changed : List ℕ) → Answer
 committed up cs = record { number = 0; step = step-of up cs; count = length cs; listed = [] }
+
+-- a batch: the number of the link refused, or 0, and the count of links done
+unfoldable pub counted : (number count : ℕ) → Answer
+counted r k = record { number = r; step = pos 0; count = k; listed = [] }
 
 -- ---- one call
 
@@ -75,6 +81,10 @@ outcome (committing up n a b z xs) l ps =
     unless-refused
     (commit-refusal up n a b z xs l true (graph n ps))
     (outcome-of (committed up (changed up a b (graph n ps)) ∷ []) none (switch up a b ∷ []))
+outcome (batching n xs) l ps =
+    unless-refused
+    (batch-refusal n l (length xs) true)
+    (outcome-of (counted (batch-stop n xs ps) (length (batch-switches n xs ps)) ∷ []) none (batch-switches n xs ps))
 outcome other l ps = outcome-of [] none []
 
 -- the pairs that an outcome begins from, where ps are the pairs before it

@@ -4,6 +4,7 @@ pub mod Forms
 pub mod Sites
 pub mod Links
 pub mod Proposals
+pub mod Batches
 pub mod Radios
 pub mod Wake
 pub mod Cores

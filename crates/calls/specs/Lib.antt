@@ -6,6 +6,7 @@ pub mod Sheet
 pub mod Script
 pub mod Questions
 pub mod Switches
+pub mod Batches
 pub mod Contracts
 pub mod Outcomes
 pub mod Results

@@ -28,7 +28,8 @@ use Rattle.calls.specs.Questions.{link-refusal, commit-refusal, core-ref
 use Rattle.calls.specs.Questions.{script-length-refusal, script-refusal}
 use Rattle.calls.specs.Sheet.{sheet, sheet-length}
 use Rattle.calls.specs.Script.{script-of, script-length}
-use Rattle.calls.specs.Switches.{switch, switched}
+use Rattle.calls.specs.Switches.{switch, switched, tables-after}
+use Rattle.calls.specs.Batches.{batch-refusal, batch-switches, batch-stop}
 use Rattle.calls.specs.Contracts.Radios.{first-of-two}
 use Rattle.calls.specs.declared.Reply.{Reply}
 use Rattle.calls.specs.declared.Value.{Value}
@@ -95,6 +96,17 @@ commit-outcome up n a b z xs t =
     (commit-refusal up n a b z xs (lengths-of t) (sound n t) g)
     (reply 0 (step-of up cs) (length cs), switched n (switch up a b) t)
     (λ q. (reply q (pos 0) 0, t))
+
+-- ---- a batch
+
+-- the number of the link refused, or 0, the count of links done, and the tables with these up
+unfoldable pub batch-outcome : (n : ℕ) → (list : List ℕ) → Tables → Value × Tables
+batch-outcome n xs t =
+    let ps = graph-in n (t .links) .links in
+    by-number
+    (batch-refusal n (lengths-of t) (length xs) (sound n t))
+    (value (batch-stop n xs ps) (length (batch-switches n xs ps)), tables-after n (batch-switches n xs ps) t)
+    (λ q. (value q 0, t))
 
 -- ---- a value
 

@@ -5,6 +5,7 @@
 --   Link-right        after a link call: the graph in the new links table, its rows, numbers and order
 --   Ask-right         the radios that asking lists: the ones whose core number the link would change
 --   Commit-right      after a committing: the graph in the new links table, its rows, numbers and order
+--   Batch-right       after a batch: the same, by the links done
 --   Listed            a list of radios in front of a lent list
 --   Later-right       the later neighbours of a radio: how many, and the first of them
 --   Core-listed, Backbone-listed   the radios listed
@@ -25,7 +26,7 @@ use Prim.Native.Nat.{ℕ, _+_, _*_, _/_, _≤_, _<_}
 use lib.ListN.{length, getD, take, drop}
 use Rattle.mesh.specs.Limits.{max-neighbours}
 use Rattle.lists.specs.Lists.{member, Ascending}
-use Rattle.mesh.specs.Graph.{Graph, linked, relinked}
+use Rattle.mesh.specs.Graph.{Graph, graph, linked, relinked}
 use Rattle.mesh.specs.Cores.{Core, number}
 use Rattle.mesh.specs.Orders.{is-k-order, later-in, nobody, First-later}
 use Rattle.mesh.specs.Tables.{Tables, graph-in}
@@ -38,6 +39,9 @@ use Rattle.mesh.specs.declared.Node.{Node}
 use Rattle.calls.specs.Sheet.{line-bytes, sheet, sheet-lines, Columns}
 use Rattle.calls.specs.Script.{script-of}
 use Rattle.calls.specs.Contracts.Images.{Block-none}
+use Rattle.calls.specs.Switches.{pairs-after}
+use Rattle.calls.specs.Batches.{ups}
+use Rattle.calls.specs.declared.Value.{Value}
 use Rattle.calls.specs.declared.Block.{Block}
 
 -- ---- numbers and order
@@ -71,6 +75,14 @@ pub record Ask-right (up : Bool) (a b : ℕ) (g : Graph) (count : ℕ) (w x : Li
 pub record Commit-right (up : Bool) (n a b : ℕ) (t v : Tables) : Type 0 where
   pub graph : graph-in n (v .links) ≡ relinked up a b (graph-in n (t .links))
   pub right : Site-right n v
+
+-- ---- a batch
+
+-- t and v are the tables before and after: the graph is what the links done make of it, which are all where the number is 0
+pub record Batch-right (n : ℕ) (list : List ℕ) (t v : Tables) (r : Value) : Type 0 where
+  pub graph : graph-in n (v .links) ≡ graph n (pairs-after (ups (take (2 * r .value) list)) (graph-in n (t .links) .links))
+  pub right : Site-right n v
+  pub all : r .number ≡ 0 → 2 * r .value ≡ length list
 
 -- ---- later neighbours
 

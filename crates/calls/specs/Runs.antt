@@ -15,9 +15,11 @@ use Rattle.calls.specs.Questions.{lengths-of}
 use Rattle.calls.specs.Contracts.Sites.{Clear-contract}
 use Rattle.calls.specs.Contracts.Links.{Link-contract}
 use Rattle.calls.specs.Contracts.Proposals.{Commit-contract}
+use Rattle.calls.specs.Contracts.Batches.{Batch-contract}
 use Rattle.calls.specs.Contracts.Images.{Read-contract}
-use Rattle.calls.specs.Book.{Call, clearing, reading, linking, committing, other, Given, given, Answer, plain}
+use Rattle.calls.specs.Book.{Call, clearing, reading, linking, committing, batching, other, Given, given, Answer, plain, counted}
 use Rattle.calls.specs.declared.Reply.{Reply}
+use Rattle.calls.specs.declared.Value.{Value}
 
 -- ---- one call
 
@@ -56,12 +58,19 @@ pub record Committing-done (up : Bool) (n a b : ℕ) (step : ℤ) (list : List �
   pub contract : Commit-contract up n a b step list t result v
   pub answer : hs ≡ replied result ∷ []
 
+-- a batch: its number and its count are its answer
+pub record Batching-done (n : ℕ) (list : List ℕ) (t : Tables) (hs : List Answer) (v : Tables) : Type 0 where
+  pub result : Value
+  pub contract : Batch-contract n list t result v
+  pub answer : hs ≡ counted (result .number) (result .value) ∷ []
+
 -- any other call leaves the tables as they were; what it answers is not compared
 unfoldable pub Does : Call → (t : Tables) → (answers : List Answer) → (v : Tables) → Type 0
 Does (clearing n) t hs v = Clearing-done n t hs v
 Does (reading n bs) t hs v = Reading-done n bs t hs v
 Does (linking up n a b w) t hs v = Linking-done up n a b w t hs v
 Does (committing up n a b z xs) t hs v = Committing-done up n a b z xs t hs v
+Does (batching n xs) t hs v = Batching-done n xs t hs v
 Does other t hs v = (v ≡ t) × (hs ≡ [])
 
 -- ---- a list of calls

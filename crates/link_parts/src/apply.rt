@@ -36,7 +36,7 @@ fn fits(plan: Plan, stretch: usize, order: usize) -> bool
 }
 
 // Sets the bit of each listed radio in the set, which is one row.
-fn mark_all(set: &mut [u8], list: &[u16])
+pub fn mark_all(set: &mut [u8], list: &[u16])
     ensures { λ _. ⌜ now (set .exit) ≡ all-marked (now (list .entry)) (now (set .entry)) ⌝ }
 {
     let mut i: usize = 0;

@@ -3,7 +3,7 @@
 use mathlib.Core.Path.{_≡_, sym, ap, ap₂, _∙_}
 use mathlib.Core.Logic.{_⊎_, inl, inr}
 use mathlib.Core.Bool.{Bool, true, false, _&&_, not}
-use mathlib.Core.List.{List, [], _∷_, append-assoc}
+use mathlib.Core.List.{List, [], _∷_}
 use Prim.Native.Nat.{ℕ, suc, _+_, _-_, _≤_, _<_}
 use native.Mathlib.Omega.{arith}
 use native.Mathlib.Nat.{le-trans}
@@ -11,13 +11,13 @@ use lib.Dec.{eqb}
 use borrow.Author.Tests.{le-leb}
 use lib.IntN.{ℤ}
 use lib.ListN.{length, getD, take, drop, length-drop}
-use lib.Seq.{length-take-le, take-all, ext-getD, paste, getD-take, getD-drop}
+use lib.Seq.{length-take-le, take-all, ext-getD, getD-take, getD-drop}
 use Rattle.mesh.specs.Limits.{max-radios, max-neighbours}
 use Rattle.lists.specs.Lists.{range, count, filter, member, overwrite, In, Distinct, Entries-below}
 use Rattle.mesh.specs.Graph.{Graph, radios, linked, degree, neighbours-among, neighbours-in, relinked}
 use Rattle.mesh.specs.Cores.{Group, number, numbers}
-use Rattle.mesh.specs.Levels.{changed, step-of, with-stretch, new-order}
-use Rattle.mesh.specs.Tables.{Tables, graph-in, put-link}
+use Rattle.mesh.specs.Levels.{changed, step-of}
+use Rattle.mesh.specs.Tables.{Tables, graph-in}
 use Rattle.lists.proofs.Tests.{bool-cases, never, and-left}
 use Rattle.lists.proofs.Member.{in-member, member-in, not-member, getD-of-in}
 use Rattle.lists.proofs.Range.{range-in, length-range, distinct-range}
@@ -56,7 +56,7 @@ entries-changed-part true k m xs n h l small i p =
 entries-changed-part false k m xs n h l small i p =
     let q : i < k = omega (arith, length-take-le k xs (omega arith)) in rw (getD-take k xs i 0 q) (small i (omega arith))
 
-length-changed : (up : Bool) (a b : ℕ) (g : Graph) → length (changed up a b g) ≤ g .n
+pub length-changed : (up : Bool) (a b : ℕ) (g : Graph) → length (changed up a b g) ≤ g .n
 unfolding changed radios
 length-changed up a b g =
     let f : ℕ → Bool = λ v. not (eqb (number g v) (number (relinked up a b g) v)) in
@@ -141,10 +141,6 @@ module _ (up : Bool) (n a b : ℕ) (t : Tables) (answer : List ℕ) (ok : Applic
   unfolding graph-in
   in-order-planned = in-order-changed up a b g (changed-part up taken size stretch) (ok .small) entries-planned (plan .changed-is)
 
-  order-planned : paste (t .order) start stretch size ≡ new-order up a b g (t .order)
-  unfolding new-order with-stretch
-  order-planned = rw (← plan .start-is, ← plan .size-is, ← plan .laid) (append-assoc (take start (t .order)) (take size stretch) (drop (start + size) (t .order)))
-
   pub fits-answer : take (length answer) cs ≡ cs
   unfolding graph-in
   fits-answer = take-all (length answer) cs (omega (arith, ok .room, length-changed up a b g))
@@ -164,6 +160,6 @@ module _ (up : Bool) (n a b : ℕ) (t : Tables) (answer : List ℕ) (ok : Applic
         count = many;
         links = d .links;
         numbers = d .numbers ∙ rw (front, way, ok .numbered) (numbers-stepped up a b g (t .order) (ok .valid) (ok .allowed));
-        order = d .order ∙ order-planned;
+        order = d .order ∙ plan .laid;
         answer = listed;
       }

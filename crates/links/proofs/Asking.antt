@@ -41,7 +41,7 @@ unfolding sound
 right-of n t e h = sound-right max-neighbours n t e h
 
 -- the neighbours that are not below a radio, by the table of numbers and by core numbers
-high-numbers : (g : Graph) (ns : List ℕ) → ns ≡ numbers g → (v : ℕ) → v < g .n
+pub high-numbers : (g : Graph) (ns : List ℕ) → ns ≡ numbers g → (v : ℕ) → v < g .n
     → neighbours-in g v (λ w. leb (number-in ns v) (number-in ns w)) ≡ neighbours-in g v (λ w. leb (number g v) (number g w))
 unfolding neighbours-in radios
 high-numbers g ns e v l =

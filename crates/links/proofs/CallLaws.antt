@@ -7,6 +7,7 @@ use native.Mathlib.Omega.{arith}
 use lib.IntN.{pos}
 use lib.ListN.{length}
 use Rattle.mesh.specs.Limits.{max-radios, max-neighbours}
+use Rattle.mesh.specs.Graph.{Graph}
 use Rattle.mesh.specs.Tables.{Tables, graph-in}
 use Rattle.mesh.specs.Sound.{sound}
 use Rattle.calls.specs.Questions.{answer-length, lengths-of, ends-refusal, link-refusal}
@@ -84,3 +85,12 @@ module _ (up : Bool) (n a b : ℕ) (t : Tables) (w lent : List ℕ) (q start siz
       → Link-contract up n a b t w r v x
   unfolding Link-contract
   link-accepted z r v x d = by-accepted R (λ p. Link-refused p t w r v x) (sym number-decided ∙ z) (link-applied z r v x (d .fitting (fits-decided z)))
+
+-- ---- going up
+
+pub ready-up : {up : Bool} {n a b : ℕ} {t : Tables} {places highs : List ℕ} → up ≡ true → Ready up n a b t places highs → Ready true n a b t places highs
+ready-up {up} {n} {a} {b} {t} {places} {highs} e r = subst (λ (u : Bool). Ready u n a b t places highs) e r
+
+pub planned-up : {up : Bool} {a b : ℕ} {g : Graph} {order : List ℕ} {start size taken : ℕ} {stretch : List ℕ} → up ≡ true
+    → Planned true a b g order start size taken stretch → Planned up a b g order start size taken stretch
+planned-up {up} {a} {b} {g} {order} {start} {size} {taken} {stretch} e p = subst (λ (u : Bool). Planned u a b g order start size taken stretch) (sym e) p

@@ -24,3 +24,17 @@ pub mod PlanCall
 pub mod Applied
 -- a call refused and accepted
 pub mod CallLaws
+-- the walk of a link going up: its loops, what its turns write, the turns
+pub mod WalkLoops
+pub mod WalkReleased
+pub mod WalkHeld
+pub mod WalkTurns
+pub mod WalkMade
+pub mod WalkSteps
+pub mod WalkPlan
+-- not-lower counts after a link
+pub mod CountLaws
+-- a link on tables known to be sound
+pub mod StepLaws
+-- a batch
+pub mod BatchLaws

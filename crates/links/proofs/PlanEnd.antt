@@ -2,7 +2,7 @@
 use mathlib.Core.Path.{_≡_, sym, ap, ap₂, subst, _∙_}
 use mathlib.Core.Logic.{_⊎_, inl, inr}
 use mathlib.Core.Bool.{Bool, true, false, cond}
-use mathlib.Core.List.{List, _++_}
+use mathlib.Core.List.{List, _++_, append-assoc}
 use Prim.Native.Nat.{ℕ, _+_, _≤_, _<_}
 use native.Mathlib.Omega.{arith}
 use lib.Dec.{ltb}
@@ -12,7 +12,7 @@ use Rattle.mesh.specs.Limits.{max-neighbours}
 use Rattle.lists.specs.Lists.{filter, member, In}
 use Rattle.mesh.specs.Graph.{Graph, linked, relinked}
 use Rattle.mesh.specs.Cores.{number}
-use Rattle.mesh.specs.Levels.{changed, lower-level, new-stretch}
+use Rattle.mesh.specs.Levels.{changed, lower-level, new-stretch, with-stretch, new-order}
 use Rattle.mesh.specs.Tables.{tables, graph-in}
 use Rattle.lists.proofs.Member.{in-cases, in-getD}
 use Rattle.lists.proofs.Count.{count-all}
@@ -102,17 +102,20 @@ module _ {u : Bool} {a b : ℕ} {ts ns os ps cs : List ℕ} (r : Ready u (length
     long-list : n ≤ length list2
     long-list = omega (arith, room, ap length written, length-sets list1 taken stuck)
 
+    stretch-laid : take size list2 ≡ new-stretch u after K (changed u a b g) level (above os start size)
+    unfolding peel
+    stretch-laid =
+        front
+        ∙ sym (link-call.new-stretch-is max-neighbours u a b g os (is-valid r) (r .allowed) peel)
+        ∙ sym (ap₂ (λ (xs ys : List ℕ). new-stretch u after K (changed u a b g) xs ys) (stretch-is r K) (above-is r K))
+
     plan-at : Planned u a b g os start size taken list2
-    unfolding changed-part graph-in peel
+    unfolding changed-part graph-in peel new-order with-stretch
     plan-at = record {
-      start-is = start-is r K;
-      size-is = size-is r K;
       fits = stretch-fits r K;
       long = omega (arith, stretch-fits r K, long-list);
       taken-fits = done .fits;
-      laid = front
-          ∙ sym (link-call.new-stretch-is max-neighbours u a b g os (is-valid r) (r .allowed) peel)
-          ∙ sym (ap₂ (λ (xs ys : List ℕ). new-stretch u after K (changed u a b g) xs ys) (stretch-is r K) (above-is r K));
+      laid = rw (← start-is r K, ← size-is r K, ← stretch-laid) (append-assoc (take start os) (take size list2) (drop (start + size) os));
       changed-is = λ v l. link-call.changed-part max-neighbours u a b g os (is-valid r) (r .allowed) peel v l ∙ ap (member v) (part-is u);
       radios = λ i l. rw (sym (getD-take size list2 i 0 l) ∙ ap (λ (xs : List ℕ). getD xs i 0) front) (front-in (getD (first ++ stuck) i 0) (in-getD (first ++ stuck) i (omega (arith, both-length))));
     }

@@ -6,3 +6,9 @@ pub mod Asked
 pub mod Turns
 -- the peel of a level
 pub mod Peels
+-- the walk of a link going up
+pub mod Walks
+-- a link on tables known to be sound
+pub mod Steps
+-- the questions of a batch
+pub mod Batched

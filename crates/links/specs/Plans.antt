@@ -1,4 +1,4 @@
--- A planned link call: what the lower end's stretch of the order becomes, and which radios change. Nothing is written yet.
+-- A planned link call: what becomes of the lower end's stretch of the order, and which radios change. Nothing is written yet.
 --   Ready          what a plan is made from: sound tables, a call that is allowed, places and not-lower counts of the lower end's level
 --   Planned        what a plan says
 --   Applicable     what a plan is applied to: a valid site with its core numbers, a call that is allowed, room for the answer
@@ -8,12 +8,13 @@ use mathlib.Core.Bool.{Bool, true}
 use mathlib.Core.List.{List}
 use Prim.Native.Nat.{ℕ, _+_, _*_, _≤_, _<_}
 use lib.Dec.{leb}
-use lib.ListN.{length, getD, take, drop}
+use lib.ListN.{length, getD}
+use lib.Seq.{paste}
 use Rattle.mesh.specs.Limits.{max-radios, max-neighbours, row-bytes}
 use Rattle.lists.specs.Lists.{member}
-use Rattle.mesh.specs.Graph.{Graph, neighbours-in, relinked}
+use Rattle.mesh.specs.Graph.{Graph, neighbours-in}
 use Rattle.mesh.specs.Cores.{number, numbers}
-use Rattle.mesh.specs.Levels.{changed, lower-level, stretch-start, stretch-length, new-stretch}
+use Rattle.mesh.specs.Levels.{changed, lower-level, stretch-start, stretch-length, new-order}
 use Rattle.mesh.specs.Tables.{Tables, graph-in}
 use Rattle.mesh.specs.Sound.{sound}
 use Rattle.mesh.specs.Valid.{Valid, Allowed}
@@ -40,16 +41,13 @@ pub record Ready (up : Bool) (n a b : ℕ) (t : Tables) (places highs : List ℕ
       getD highs v 0
       ≡ neighbours-in (graph-in n (t .links)) v (λ w. leb (number (graph-in n (t .links)) v) (number (graph-in n (t .links)) w))
 
--- the first `size` entries of `stretch` are the stretch laid out anew; the first `taken` of them were taken by the peel
+-- the first `size` entries of `stretch` stand in the order from `start` on after; the first `taken` of them were taken by the peel. They
+-- are the whole stretch of the lower end's level, or as much of it as a walk went through
 pub record Planned (up : Bool) (a b : ℕ) (g : Graph) (order : List ℕ) (start size taken : ℕ) (stretch : List ℕ) : Type 0 where
-  pub start-is : start ≡ stretch-start g (lower-level g a b)
-  pub size-is : size ≡ stretch-length g (lower-level g a b)
   pub fits : start + size ≤ g .n
   pub long : size ≤ length stretch
   pub taken-fits : taken ≤ size
-  pub laid :
-      take size stretch
-      ≡ new-stretch up (relinked up a b g) (lower-level g a b) (changed up a b g) (take size (drop start order)) (drop (start + size) order)
+  pub laid : paste order start stretch size ≡ new-order up a b g order
   pub changed-is : (v : ℕ) → v < g .n → member v (changed up a b g) ≡ member v (changed-part up taken size stretch)
   pub radios : (i : ℕ) → i < size → getD stretch i 0 < g .n
 

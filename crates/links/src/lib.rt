@@ -1,8 +1,13 @@
-// Link up and link down. A call asks its questions, plans what becomes of the lower end's stretch of the order, and applies the
+// Link up and link down, one by one and in a batch. A call asks its questions, plans what becomes of the lower end's stretch of the order, and applies the
 // plan: nothing is written before the plan is whole. Refusals leave every table as it was. The plan alone is to be had too, with the
 // questions asked: it is what asking lists and what committing compares.
+pub mod batch;
+mod counts;
 pub mod link;
 pub mod plan;
 mod questions;
+mod rise;
+mod step;
 mod stretch;
 mod turn;
+mod walk;

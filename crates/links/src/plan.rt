@@ -1,5 +1,5 @@
-// The plan of a link call: its questions, and the lower end's stretch laid out anew by one peel, up and down alike. Nothing of the tables
-// is written.
+// The plan of a link call: its questions, and the lower end's stretch laid out anew, by one peel up and down alike, or going up by the walk.
+// Nothing of the tables is written.
 ghost use mathlib.Core.Path.{_≡_};
 ghost use mathlib.Core.Bool.{false};
 ghost use Prim.Native.Nat.{_≤_, _<_, _+_, min};
@@ -45,7 +45,7 @@ fn call_at(up: bool, a: u32, b: u32, numbers: &[u8]) -> Call
 }
 
 // The smaller of two numbers.
-fn lower(x: u8, y: u8) -> u8
+pub(crate) fn lower(x: u8, y: u8) -> u8
     ensures { λ r. ⌜ r ≡ min x y ⌝ }
 {
     if x < y { x } else { y }
@@ -116,9 +116,9 @@ fn peel(
     taken
 }
 
-// Plans the link a-b going up or down: writes the lower end's stretch, laid out anew, in front of `stretch`; later entries and the
-// counters hold anything.
-fn plan_link(
+// Plans the link a-b going up or down by the peel: writes the lower end's stretch, laid out anew, in front of `stretch`; later entries and
+// the counters hold anything.
+pub(crate) fn plan_peel(
     up: bool,
     a: u32,
     b: u32,
@@ -160,14 +160,38 @@ fn plan_link(
     }
 }
 
+// Plans the link a-b going up or down: writes what stands in the order from the plan's start on after, in front of `stretch`; later
+// entries and the counters hold anything.
+pub(crate) fn plan_link(
+    up: bool,
+    a: u32,
+    b: u32,
+    links: &[u8],
+    numbers: &[u8],
+    order: &[u16],
+    places: &[u16],
+    highs: &mut [u8],
+    stretch: &mut [u16],
+) -> Plan
+    requires ready { ⌜ Ready up (length (now order)) a b (tables (now links) (now numbers) (now order)) (now places) (now highs) ⌝ }
+    requires room { ⌜ length (now order) ≤ length (now stretch) ⌝ }
+    ensures { λ r. ⌜ Planned up a b (graph-in (length (now (order .entry))) (now (links .entry))) (now (order .entry)) (r .start)
+        (r .size) (r .taken) (now (stretch .exit)) ⌝ }
+{
+    if up {
+        return super::rise::plan_up(a, b, links, numbers, order, places, highs, stretch);
+    }
+    plan_peel(up, a, b, links, numbers, order, places, highs, stretch)
+}
+
 // A refusal number, and where it is 0 a plan.
 pub struct Decision {
     pub number: u32,
     pub plan: Plan,
 }
 
-// Plans the link a-b going up or down: the refusal number of its questions, 1 to 7 or 1 to 6, and at 0 the plan, with the lower end's
-// stretch, laid out anew, in front of `stretch`, whose later entries hold anything. `answer` is the answer table's length; `stretch`
+// Plans the link a-b going up or down: the refusal number of its questions, 1 to 7 or 1 to 6, and at 0 the plan, with what it lays out
+// anew of the lower end's stretch in front of `stretch`, whose later entries hold anything. `answer` is the answer table's length; `stretch`
 // must be as long. A refusal leaves `stretch` as it was.
 pub fn plan(
     up: bool,

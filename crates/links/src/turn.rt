@@ -75,7 +75,7 @@ fn release_one(
 }
 
 // Does so for the first k listed radios.
-fn release(
+pub(crate) fn release(
     near: &[u16],
     k: usize,
     level: u8,
@@ -122,7 +122,7 @@ fn end_neighbours(up: bool, v: u32, w: u32, links: &[u8], row: &mut [u8], near: 
 
 // Writes the neighbours that v has after the link a-b went up or down into the list, ascending, and comes back with their count.
 // The row is scratch.
-fn neighbours_after(
+pub(crate) fn neighbours_after(
     up: bool,
     a: u32,
     b: u32,

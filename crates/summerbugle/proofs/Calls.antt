@@ -5,6 +5,7 @@ use mathlib.Core.Bool.{true, false}
 use Rattle.calls.specs.Contracts.Sites.{Clear-contract, Check-contract}
 use Rattle.calls.specs.Contracts.Links.{Link-contract}
 use Rattle.calls.specs.Contracts.Proposals.{Ask-contract, Commit-contract}
+use Rattle.calls.specs.Contracts.Batches.{Batch-contract}
 use Rattle.calls.specs.Contracts.Images.{Read-contract, Write-contract, Block-contract}
 use Rattle.calls.specs.Contracts.Radios.{Number-contract, Neighbours-contract, Linked-contract, First-contract}
 use Rattle.calls.specs.Contracts.Wake.{Later-contract}
@@ -36,6 +37,8 @@ use Rattle.summerbugle.proofs.sb_commit_up as commit-up
 use Rattle.summerbugle.proofs.sb_commit_up.Symbol as commit-up-symbol
 use Rattle.summerbugle.proofs.sb_commit_down as commit-down
 use Rattle.summerbugle.proofs.sb_commit_down.Symbol as commit-down-symbol
+use Rattle.summerbugle.proofs.sb_link_batch as link-batch
+use Rattle.summerbugle.proofs.sb_link_batch.Symbol as link-batch-symbol
 use Rattle.summerbugle.proofs.sb_image_read as image-read
 use Rattle.summerbugle.proofs.sb_image_read.Symbol as image-read-symbol
 use Rattle.summerbugle.proofs.sb_check as check
@@ -130,6 +133,15 @@ sb-commit-down = record {
   routine = commit-down-symbol.routine;
   kept = commit-down.ended .kept;
   contract = λ κs a r e. Commit-contract false (number-0 a) (number-1 a) (number-2 a) (step-3 a) (lent-7 a) (tables-4 a) r (tables-4 e);
+}
+
+-- sb_link_batch(n, links, numbers, order, list)
+abbrev pub sb-link-batch : Function
+sb-link-batch = record {
+  signature = link-batch.signature;
+  routine = link-batch-symbol.routine;
+  kept = link-batch.ended .kept;
+  contract = λ κs a r e. Batch-contract (number-0 a) (lent-4 a) (tables-1 a) r (tables-1 e);
 }
 
 -- sb_image_read(n, links, numbers, order, image)

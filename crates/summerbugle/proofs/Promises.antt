@@ -4,7 +4,8 @@
 --     Calls-promised   each call meets its contract: the whole triple, in which nothing is required
 --     Calls-return     at the machine: from every memory that lends what the signature says, the call returns, and what it returns
 --                      and leaves meets the contract
---     Refusals         a call whose number is not 0 has zeros beside it, and every lent table keeps its content
+--     Refusals         a call whose number is not 0 has zeros beside it, and every lent table keeps its content; of a batch, where a link was
+--                      refused, the links before it are counted and remain
 --     Outcomes         for every input a contract has exactly one outcome: the one worked out in calls/specs/Outcomes.antt
 --     Tables-left      what is lent by shared reference is left as it was
 --   Property-2       numbers are core numbers by the largest group and orders are k-orders; connected cores, backbone, shell tree,
@@ -26,11 +27,14 @@ use Rattle.mesh.specs.Connected as connected
 use Rattle.mesh.specs.Image.{whole-blocks, checks-good, Other-size, Image-of-none}
 use Rattle.mesh.specs.Image as images
 use Rattle.mesh.specs.declared.Node.{Node}
+use Rattle.mesh.specs.Sound.{sound}
 use Rattle.calls.specs.Questions.{lengths-of, size-good, site-lengths, image-refusal}
 use Rattle.calls.specs.Contracts.Forms.{Tables-refused, Value-refused, Listing-refused}
 use Rattle.calls.specs.Contracts.Sites.{Clear-contract, Check-contract}
 use Rattle.calls.specs.Contracts.Links.{Link-refused, Link-contract}
 use Rattle.calls.specs.Contracts.Proposals.{Ask-refused, Ask-contract, Commit-refused, Commit-contract}
+use Rattle.calls.specs.Batches.{batch-refusal}
+use Rattle.calls.specs.Contracts.Batches.{Batch-refused, Batch-contract, Batch-stopped, Batch-single}
 use Rattle.calls.specs.Contracts.Images.{Read-contract, Write-contract, Block-none, Block-contract}
 use Rattle.calls.specs.Contracts.Radios.{Number-contract, Neighbours-contract, Linked-contract, First-contract}
 use Rattle.calls.specs.Contracts.Wake.{Later-refused, Later-contract}
@@ -40,13 +44,13 @@ use Rattle.calls.specs.Contracts.Pages.{Sheet-contract}
 use Rattle.calls.specs.Contracts.Scripts.{Script-length-contract, Script-contract}
 use Rattle.calls.specs.Contracts.Staircase.{Staircase-contract}
 use Rattle.calls.specs.Outcomes.{clear-outcome, read-outcome, link-outcome, check-outcome, number-outcome, neighbours-outcome, linked-outcome, first-outcome}
-use Rattle.calls.specs.Outcomes.{core-outcome, backbone-outcome, tree-outcome, write-outcome, block-outcome, later-outcome, sheet-outcome, staircase-outcome, ask-outcome, commit-outcome}
+use Rattle.calls.specs.Outcomes.{core-outcome, backbone-outcome, tree-outcome, write-outcome, block-outcome, later-outcome, sheet-outcome, staircase-outcome, ask-outcome, commit-outcome, batch-outcome}
 use Rattle.calls.specs.Outcomes.{script-length-outcome, script-outcome}
 use Rattle.calls.specs.Results.{Site-right, Link-right, Later-right, Core-listed, Backbone-listed, Tree-listed, Written-right, Read-right, Block-part, Block-end}
 use Rattle.calls.specs.Results.{Script-right, Script-beforehand}
-use Rattle.calls.specs.Results.{Image-answered, Sheet-right, Staircase-listed, Ask-right, Commit-right}
+use Rattle.calls.specs.Results.{Image-answered, Sheet-right, Staircase-listed, Ask-right, Commit-right, Batch-right}
 use Rattle.calls.specs.Older.{Older}
-use Rattle.calls.specs.Book.{Call, clearing, reading, linking, committing, Answer, plain, book-after}
+use Rattle.calls.specs.Book.{Call, clearing, reading, linking, committing, batching, Answer, plain, counted, book-after}
 use Rattle.calls.specs.Runs.{answer-of, replied, Does, Event, event, Run, givens, called}
 use Rattle.calls.specs.Demand.{Start, Demand-3}
 use Rattle.hubs.specs.Hubs.{Confluence, Calls-agree, Equal-orders, Equal-images}
@@ -57,7 +61,7 @@ use Rattle.calls.specs.declared.Block.{Block}
 use Rattle.summerbugle.specs.Functions.{Promised, Returns, Gives, Leaves-lent, number-0, number-1, number-2, tables-1, tables-2, tables-3, lent-0, lent-4}
 use Rattle.summerbugle.specs.Functions.{step-3, tables-4, lent-6, lent-7}
 use Rattle.summerbugle.proofs.Calls.{sb-clear, sb-link-up, sb-link-down, sb-image-read, sb-check, sb-number, sb-neighbours, sb-linked, sb-first, sb-core}
-use Rattle.summerbugle.proofs.Calls.{sb-ask-up, sb-ask-down, sb-commit-up, sb-commit-down}
+use Rattle.summerbugle.proofs.Calls.{sb-ask-up, sb-ask-down, sb-commit-up, sb-commit-down, sb-link-batch}
 use Rattle.summerbugle.proofs.Calls.{sb-later-of, sb-backbone, sb-tree, sb-staircase, sb-image-write, sb-sheet, sb-image-block, reader-open, reader-step, reader-moved}
 -- for the proof
 use Rattle.mesh.proofs.Cores.Peeling.{number-core, number-unique}
@@ -69,9 +73,13 @@ use Rattle.calls.proofs.Outcomes.{clear-inhabited, link-inhabited, read-inhabit
 use Rattle.calls.proofs.Outcomes.{linked-inhabited, first-inhabited, core-inhabited, backbone-inhabited, tree-inhabited, write-inhabited, later-inhabited, sheet-inhabited}
 use Rattle.calls.proofs.Outcomes.{staircase-inhabited}
 use Rattle.calls.proofs.Outcomes.{ask-decided, commit-decided, ask-inhabited, commit-inhabited}
+use Rattle.calls.proofs.Outcomes.{batch-decided, batch-inhabited}
 use Rattle.calls.proofs.Refusals.{ask-keeps, commit-keeps}
+use Rattle.calls.proofs.Batches.{batch-keeps, batch-right, batch-single}
 use Rattle.calls.proofs.Refusals.{clear-keeps, link-keeps, read-keeps, check-keeps, number-keeps, neighbours-keeps, linked-keeps, first-keeps}
 use Rattle.calls.proofs.Refusals.{core-keeps, backbone-keeps, tree-keeps, write-keeps, block-keeps, later-keeps, sheet-keeps, staircase-keeps}
+use Rattle.walks.specs.Results.{Beginning-kept}
+use Rattle.walks.proofs.Kept.{link-begins, commit-begins}
 use Rattle.forests.proofs.Tree.{staircase-right}
 use Rattle.calls.proofs.Accepted.{check-right, link-right, number-right, later-right, core-right, backbone-right, tree-right-listed, write-right}
 use Rattle.calls.proofs.Accepted.{ask-right, commit-right, read-what-was-written, read-right, block-right, sheet-right}
@@ -98,6 +106,7 @@ use Rattle.summerbugle.proofs.sb_ask_up.Met as ask-up-proof
 use Rattle.summerbugle.proofs.sb_ask_down.Met as ask-down-proof
 use Rattle.summerbugle.proofs.sb_commit_up.Met as commit-up-proof
 use Rattle.summerbugle.proofs.sb_commit_down.Met as commit-down-proof
+use Rattle.summerbugle.proofs.sb_link_batch.Met as link-batch-proof
 use Rattle.summerbugle.proofs.sb_image_read.Met as image-read-proof
 use Rattle.summerbugle.proofs.sb_check.Met as check-proof
 use Rattle.summerbugle.proofs.sb_number.Met as number-proof
@@ -125,6 +134,7 @@ pub record Calls-promised (M : Type 1) : Type 2 where
   pub ask-down : Promised sb-ask-down M
   pub commit-up : Promised sb-commit-up M
   pub commit-down : Promised sb-commit-down M
+  pub link-batch : Promised sb-link-batch M
   pub image-read : Promised sb-image-read M
   pub check : Promised sb-check M
   pub number : Promised sb-number M
@@ -156,6 +166,7 @@ pub record Calls-return : Type 2 where
   pub ask-down : Returns sb-ask-down
   pub commit-up : Returns sb-commit-up
   pub commit-down : Returns sb-commit-down
+  pub link-batch : Returns sb-link-batch
   pub image-read : Returns sb-image-read
   pub check : Returns sb-check
   pub number : Returns sb-number
@@ -189,6 +200,10 @@ pub record Refusals : Type 0 where
   pub commit :
       (up : Bool) (n a b : ℕ) (z : ℤ) (xs : List ℕ) (t : Tables) (r : Reply) (v : Tables) → Commit-contract up n a b z xs t r v →
       (r .number ≡ 0 → ⊥) → Commit-refused (r .number) t r v
+  -- the only refusal beside which a change and a count stand
+  pub link-batch :
+      (n : ℕ) (xs : List ℕ) (t : Tables) (r : Value) (v : Tables) → Batch-contract n xs t r v → (r .number ≡ 0 → ⊥) →
+      Batch-refused (r .number) t r v ⊎ Batch-stopped n xs t r v
   pub image-read : (n : ℕ) (bs : List ℕ) (t : Tables) (r : ℕ) (v : Tables) → Read-contract n bs t r v → (r ≡ 0 → ⊥) → Tables-refused r r t v
   pub check : (n : ℕ) (t : Tables) (r : Value) → Check-contract n t r → (r .number ≡ 0 → ⊥) → Value-refused (r .number) r
   pub number : (n v : ℕ) (t : Tables) (r : Value) → Number-contract n v t r → (r .number ≡ 0 → ⊥) → Value-refused (r .number) r
@@ -233,6 +248,7 @@ pub record Outcomes : Type 0 where
   pub commit :
       (up : Bool) (n a b : ℕ) (z : ℤ) (xs : List ℕ) (t : Tables) (o : Reply × Tables) →
       Commit-contract up n a b z xs t (o .0) (o .1) ↔ (o ≡ commit-outcome up n a b z xs t)
+  pub link-batch : (n : ℕ) (xs : List ℕ) (t : Tables) (o : Value × Tables) → Batch-contract n xs t (o .0) (o .1) ↔ (o ≡ batch-outcome n xs t)
   pub image-read : (n : ℕ) (bs : List ℕ) (t : Tables) (o : ℕ × Tables) → Read-contract n bs t (o .0) (o .1) ↔ (o ≡ read-outcome n bs t)
   pub check : (n : ℕ) (t : Tables) (o : Value) → Check-contract n t o ↔ (o ≡ check-outcome n t)
   pub number : (n v : ℕ) (t : Tables) (o : Value) → Number-contract n v t o ↔ (o ≡ number-outcome n v t)
@@ -275,9 +291,10 @@ pub record Tables-left : Type 0 where
   pub sheet : Leaves-lent sb-sheet (λ κs. tables-1) (λ κs. tables-1)
   pub script-length : Leaves-lent sb-script-length (λ κs. tables-1) (λ κs. tables-1)
   pub script-write : Leaves-lent sb-script-write (λ κs. tables-1) (λ κs. tables-1)
-  -- and proposed lists
+  -- and proposed lists, and lists of links
   pub commit-up : Leaves-lent sb-commit-up (λ κs. lent-7) (λ κs. lent-7)
   pub commit-down : Leaves-lent sb-commit-down (λ κs. lent-7) (λ κs. lent-7)
+  pub link-batch : Leaves-lent sb-link-batch (λ κs. lent-4) (λ κs. lent-4)
   -- and images
   pub image-read : Leaves-lent sb-image-read (λ κs. lent-4) (λ κs. lent-4)
   pub image-block : Leaves-lent sb-image-block (λ κs. lent-0) (λ κs. lent-0)
@@ -300,6 +317,14 @@ pub record Property-2 : Type 0 where
   pub link :
       (up : Bool) (n a b : ℕ) (t : Tables) (w : List ℕ) (r : Reply) (v : Tables) (x : List ℕ) → Link-contract up n a b t w r v x →
       r .number ≡ 0 → Link-right up n a b t v (r .count) w x
+  -- after a link came up nothing before the beginning end's place has moved: the lower end's, with equal numbers the earlier's
+  -- (document 02, W-213)
+  pub link-begins :
+      (n a b : ℕ) (t : Tables) (w : List ℕ) (r : Reply) (v : Tables) (x : List ℕ) → Link-contract true n a b t w r v x → r .number ≡ 0 →
+      Beginning-kept a b (graph-in n (t .links)) (t .order) (v .order)
+  pub commit-begins :
+      (n a b : ℕ) (z : ℤ) (xs : List ℕ) (t : Tables) (r : Reply) (v : Tables) → Commit-contract true n a b z xs t r v → r .number ≡ 0 →
+      Beginning-kept a b (graph-in n (t .links)) (t .order) (v .order)
   -- asking lists exactly the radios whose core number the link would change
   pub ask :
       (up : Bool) (n a b : ℕ) (t : Tables) (w : List ℕ) (r : Reply) (x : List ℕ) → Ask-contract up n a b t w r x → r .number ≡ 0 →
@@ -324,6 +349,14 @@ pub record Property-2 : Type 0 where
       (up : Bool) (n a b : ℕ) (t : Tables) (w : List ℕ) (q : Reply) (x : List ℕ) → Ask-contract up n a b t w q x → n ≤ length w →
       (z : ℤ) (xs : List ℕ) (r : Reply) (v : Tables) → Commit-contract up n a b z xs t r v →
       ((q .number ≡ 0 → ⊥) → r .number ≡ q .number) × (q .number ≡ 0 → (r .number ≡ 0 → ⊥) → r .number ≡ 16)
+  -- after a batch whose questions 1 to 3 got yes
+  pub link-batch :
+      (n : ℕ) (xs : List ℕ) (t : Tables) (r : Value) (v : Tables) → Batch-contract n xs t r v →
+      batch-refusal n (lengths-of t) (length xs) (sound n t) ≡ 0 → Batch-right n xs t v r
+  -- a batch of one link is the single call; the answer table has room, as the single call asks of it
+  pub batch-single :
+      (n a b : ℕ) (t : Tables) (w : List ℕ) (q : Reply) (u : Tables) (x : List ℕ) → n ≤ length w → (r : Value) (v : Tables) →
+      Link-contract true n a b t w q u x → Batch-contract n (a ∷ b ∷ []) t r v → Batch-single q u r v
   -- the check's value is 1 exactly for proper rows, core numbers and a k-order
   pub check : (n : ℕ) (t : Tables) (r : Value) → Check-contract n t r → r .number ≡ 0 → (r .value ≡ 1) ↔ Site-right n t
   pub number : (n v : ℕ) (t : Tables) (r : Value) → Number-contract n v t r → r .number ≡ 0 → Core (graph-in n (t .links)) v (r .value)
@@ -401,6 +434,8 @@ pub record Steps : Type 0 where
   pub commit-down :
       Gives sb-commit-down (λ κs a r e.
       Does (committing false (number-0 a) (number-1 a) (number-2 a) (step-3 a) (lent-7 a)) (tables-4 a) (replied r ∷ []) (tables-4 e))
+  pub link-batch :
+      Gives sb-link-batch (λ κs a r e. Does (batching (number-0 a) (lent-4 a)) (tables-1 a) (counted (r .number) (r .value) ∷ []) (tables-1 e))
 
 pub record Property-3 : Type 0 where
   -- the calls that write links, numbers and order make steps of runs; the other calls leave these tables (`Tables-left`)
@@ -442,6 +477,7 @@ calls-promised = record {
   ask-down = ask-down-proof.met;
   commit-up = commit-up-proof.met;
   commit-down = commit-down-proof.met;
+  link-batch = link-batch-proof.met;
   image-read = image-read-proof.met;
   check = check-proof.met;
   number = number-proof.met;
@@ -472,6 +508,7 @@ calls-return = record {
   ask-down = returns sb-ask-down (calls-promised .ask-down);
   commit-up = returns sb-commit-up (calls-promised .commit-up);
   commit-down = returns sb-commit-down (calls-promised .commit-down);
+  link-batch = returns sb-link-batch (calls-promised .link-batch);
   image-read = returns sb-image-read (calls-promised .image-read);
   check = returns sb-check (calls-promised .check);
   number = returns sb-number (calls-promised .number);
@@ -499,6 +536,7 @@ refusals = record {
   link = link-keeps;
   ask = ask-keeps;
   commit = commit-keeps;
+  link-batch = batch-keeps;
   image-read = read-keeps;
   check = check-keeps;
   number = number-keeps;
@@ -523,6 +561,7 @@ outcomes = record {
   link = λ up n a b t w. exactly _ _ (link-inhabited up n a b t w) (link-decided up n a b t w);
   ask = λ up n a b t w. exactly _ _ (ask-inhabited up n a b t w) (ask-decided up n a b t w);
   commit = λ up n a b z xs t. exactly _ _ (commit-inhabited up n a b z xs t) (commit-decided up n a b z xs t);
+  link-batch = λ n xs t. exactly _ _ (batch-inhabited n xs t) (batch-decided n xs t);
   image-read = λ n bs t. exactly _ _ (read-inhabited n bs t) (read-decided n bs t);
   check = λ n t. exactly _ _ (check-inhabited n t) (check-decided n t);
   number = λ n v t. exactly _ _ (number-inhabited n v t) (number-decided n v t);
@@ -561,6 +600,7 @@ tables-left = record {
   script-write = λ κs a last. refl;
   commit-up = λ κs a last. refl;
   commit-down = λ κs a last. refl;
+  link-batch = λ κs a last. refl;
   image-read = λ κs a last. refl;
   image-block = λ κs a last. refl;
 }
@@ -569,12 +609,16 @@ pub property-2 : Property-2
 property-2 = record {
   largest-group = λ g v k l. (λ c. number-unique g v k l c, λ e. rw (← e) (number-core g v l));
   link = link-right;
+  link-begins = link-begins;
+  commit-begins = commit-begins;
   ask = ask-right;
   commit = commit-right;
   two-steps = two-steps;
   refused-step = refused-step;
   commit-iff = commit-iff;
   commit-number = commit-number;
+  link-batch = batch-right;
+  batch-single = batch-single;
   check = check-right;
   number = number-right;
   later-of = later-right;
@@ -605,6 +649,7 @@ steps = record {
   link-down = λ κs a r e c. record { lent = lent-6 a; long = refl; result = r; table = lent-6 e; contract = c; answer = refl };
   commit-up = λ κs a r e c. record { result = r; contract = c; answer = refl };
   commit-down = λ κs a r e c. record { result = r; contract = c; answer = refl };
+  link-batch = λ κs a r e c. record { result = r; contract = c; answer = refl };
 }
 
 pub property-3 : Property-3

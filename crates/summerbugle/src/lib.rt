@@ -5,6 +5,7 @@ ghost use Rattle.mesh.specs.Tables.{lent};
 ghost use Rattle.calls.specs.Contracts.Sites.{Clear-contract, Check-contract};
 ghost use Rattle.calls.specs.Contracts.Links.{Link-contract};
 ghost use Rattle.calls.specs.Contracts.Proposals.{Ask-contract, Commit-contract};
+ghost use Rattle.calls.specs.Contracts.Batches.{Batch-contract};
 ghost use Rattle.calls.specs.Contracts.Images.{Read-contract, Write-contract, Block-contract};
 ghost use Rattle.calls.specs.Contracts.Radios.{Number-contract, Neighbours-contract, Linked-contract, First-contract};
 ghost use Rattle.calls.specs.Contracts.Wake.{Later-contract};
@@ -80,6 +81,23 @@ pub extern "C" fn sb_link_down(
         (lent (links .exit) (numbers .exit) (order .exit)) (now (answer .exit)) ⌝ }
 {
     links::link::link(false, n, a, b, links, numbers, order, answer)
+}
+
+// Takes the links of the list, two entries each, up one by one, and stops at the first that 4 to 7 refuse. The number is that of the link
+// refused, or 0; the value counts the links done, which remain: the only refusal beside which a change and a count stand. Refused by 1 to
+// 3, before any link: the value is 0, and every table keeps its content.
+#[no_mangle]
+pub extern "C" fn sb_link_batch(
+    n: u32,
+    links: &mut [u8],
+    numbers: &mut [u8],
+    order: &mut [u16],
+    list: &[u16],
+) -> Value
+    ensures { λ r. ⌜ Batch-contract n (now (list .entry)) (lent (links .entry) (numbers .entry) (order .entry)) r
+        (lent (links .exit) (numbers .exit) (order .exit)) ⌝ }
+{
+    links::batch::batch(n, links, numbers, order, list)
 }
 
 // What taking the link between a and b up would change: the step and count that `sb_link_up` would answer now, and the changed radios

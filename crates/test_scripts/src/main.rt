@@ -34,6 +34,9 @@ fn sites() {
     case(b"clique-41");
     case(b"ring-512");
     case(b"circulant-512");
+    case(b"grown-512");
+    case(b"grown-48");
+    case(b"risen-96");
 }
 
 // First lines of another form.

@@ -1,0 +1,291 @@
+-- What a batch comes to.
+--   batch-allowed     questions 4 to 7 of each link that it takes up got yes, in turn
+--   Batch-left        what is left of a batch gives what the whole gives: for the loop that takes the links up one by one
+--   batch-first, batch-next, batch-ended, batch-halted   so it is before the first link, after a link, at the end, at a refusal
+--   batch-stopped     a batch that stops: the links before are up, and its number is that of the next one
+--   batch-all         a batch that does not stop takes every link up
+--   batch-single      a batch of one link is the single call
+--   batch-right       numbers are core numbers and the order is a k-order of what the links done make of the site
+use mathlib.Core.Path.{_≡_, refl, sym, ap, subst, _∙_}
+use mathlib.Core.Logic.{_⊎_, inl, inr}
+use mathlib.Core.Bool.{Bool, true, false, cond}
+use mathlib.Core.List.{List, [], _∷_}
+use Prim.Native.Nat.{ℕ, zero, suc, _+_, _*_, _≤_, _<_, _%_}
+use native.Mathlib.Omega.{arith}
+use lib.ListN.{length, getD, take}
+use borrow.Author.Tests.{eqb-true, ne-eqb}
+use Rattle.mesh.specs.Limits.{max-neighbours}
+use Rattle.mesh.specs.Graph.{Link, Graph, graph, link-before, with-link, relinked, new-links}
+use Rattle.mesh.specs.Tables.{Tables, graph-in}
+use Rattle.mesh.specs.Sound.{sound}
+use Rattle.mesh.specs.Valid.{Allowed}
+use Rattle.mesh.proofs.Tables.DegreeSum.{links-most}
+use Rattle.calls.specs.Questions.{By-number, lengths-of, site-refusal, ends-refusal, link-refusal}
+use Rattle.calls.specs.Switches.{Switch, switch, pairs-after, switched, tables-after}
+use Rattle.calls.specs.Batches.{list-length, batch-refusal, up-refusal, unless, then, batch-switches, batch-stop, ups}
+use Rattle.calls.specs.Contracts.Links.{Link-accepted, Link-refused, Link-contract}
+use Rattle.calls.specs.Contracts.Batches.{Batch-done, Batch-refused, Batch-contract, Batch-stopped, Batch-single}
+use Rattle.calls.specs.Results.{Batch-right}
+use Rattle.calls.specs.declared.Reply.{Reply}
+use Rattle.calls.specs.declared.Value.{Value}
+use Rattle.calls.proofs.QuestionLaws.{true-answer-length}
+use Rattle.calls.proofs.ChainLaws.{site-zero, site-yes, site-stops, ends-zero}
+use Rattle.calls.proofs.Holds.{All-allowed}
+use Rattle.calls.proofs.ContractLaws.{answer, by-zero, by-cases}
+use Rattle.calls.proofs.RecordLaws.{tables-ext}
+use Rattle.calls.proofs.SoundSwitches.{Good, good-valid, good-right, switched-good, switched-graph, all-good}
+
+-- ---- every link taken up is allowed
+
+pub batch-allowed : (n : ℕ) (xs : List ℕ) (ps : List Link) → All-allowed n ps (batch-switches n xs ps)
+unfolding batch-switches All-allowed unless
+batch-allowed n [] ps = tt
+batch-allowed n (a ∷ []) ps = tt
+batch-allowed n (a ∷ b ∷ xs) ps = go (up-refusal n a b ps) refl (batch-allowed n xs (new-links true a b ps))
+  where
+    go : (R : ℕ) → up-refusal n a b ps ≡ R → All-allowed n (new-links true a b ps) (batch-switches n xs (new-links true a b ps))
+        → All-allowed n ps (unless R (switch true a b ∷ batch-switches n xs (new-links true a b ps)))
+    go zero e i = (ends-zero max-neighbours true a b (graph n ps) e, i)
+    go (suc q) e i = tt
+
+-- ---- the links that a batch takes up, as a part of its list
+
+length-ups : (xs : List ℕ) → length xs % 2 ≡ 0 → 2 * length (ups xs) ≡ length xs
+unfolding ups
+length-ups [] e = refl
+length-ups (a ∷ []) e = absurd (omega arith)
+length-ups (a ∷ b ∷ xs) e = omega (arith, length-ups xs (omega (arith, e)))
+
+-- the links before the one refused, or all
+pub batch-front : (n : ℕ) (xs : List ℕ) (ps : List Link) → batch-switches n xs ps ≡ ups (take (2 * length (batch-switches n xs ps)) xs)
+unfolding batch-switches unless ups
+batch-front n [] ps = refl
+batch-front n (a ∷ []) ps = refl
+batch-front n (a ∷ b ∷ xs) ps = go (up-refusal n a b ps) (batch-front n xs (new-links true a b ps))
+  where
+    rest : List Switch
+    rest = batch-switches n xs (new-links true a b ps)
+
+    go : (R : ℕ) → rest ≡ ups (take (2 * length rest) xs)
+        → unless R (switch true a b ∷ rest) ≡ ups (take (2 * length (unless R (switch true a b ∷ rest))) (a ∷ b ∷ xs))
+    go zero e =
+        let s : 2 * length (switch true a b ∷ rest) ≡ suc (suc (2 * length rest)) = omega arith in rw s (ap {B = List Switch} (λ ss. switch true a b ∷ ss) e)
+    go (suc q) e = refl
+
+pub batch-all : (n : ℕ) (xs : List ℕ) (ps : List Link) → batch-stop n xs ps ≡ 0 → batch-switches n xs ps ≡ ups xs
+unfolding batch-switches batch-stop unless then ups
+batch-all n [] ps e = refl
+batch-all n (a ∷ []) ps e = refl
+batch-all n (a ∷ b ∷ xs) ps e = go (up-refusal n a b ps) (batch-all n xs (new-links true a b ps)) e
+  where
+    go : (R : ℕ) → (batch-stop n xs (new-links true a b ps) ≡ 0 → batch-switches n xs (new-links true a b ps) ≡ ups xs)
+        → then R (batch-stop n xs (new-links true a b ps)) ≡ 0
+        → unless R (switch true a b ∷ batch-switches n xs (new-links true a b ps)) ≡ switch true a b ∷ ups xs
+    go zero h z = ap {B = List Switch} (λ ss. switch true a b ∷ ss) (h z)
+    go (suc q) h z = absurd (omega arith)
+
+-- the link that is refused stands after the ones done, and is refused by the pairs after these
+record Stop (n : ℕ) (xs : List ℕ) (ps : List Link) (k q : ℕ) : Type 0 where
+  there : 2 * k + 1 < length xs
+  refused : q ≡ up-refusal n (getD xs (2 * k) 0) (getD xs (2 * k + 1) 0) (pairs-after (batch-switches n xs ps) ps)
+
+stop-at : (n : ℕ) (xs : List ℕ) (ps : List Link) → (batch-stop n xs ps ≡ 0 → ⊥) → Stop n xs ps (length (batch-switches n xs ps)) (batch-stop n xs ps)
+unfolding batch-switches batch-stop unless then pairs-after
+stop-at n [] ps h = absurd (h refl)
+stop-at n (a ∷ []) ps h = absurd (h refl)
+stop-at n (a ∷ b ∷ xs) ps h =
+    let s = go (up-refusal n a b ps) refl (stop-at n xs (new-links true a b ps)) h in record { there = s .0; refused = s .1 }
+  where
+    qs : List Link
+    qs = new-links true a b ps
+
+    rest : List Switch
+    rest = batch-switches n xs qs
+
+    go : (R : ℕ) → up-refusal n a b ps ≡ R → ((batch-stop n xs qs ≡ 0 → ⊥) → Stop n xs qs (length rest) (batch-stop n xs qs))
+        → (then R (batch-stop n xs qs) ≡ 0 → ⊥)
+        → (2 * length (unless R (switch true a b ∷ rest)) + 1 < length (a ∷ b ∷ xs))
+        × (then R (batch-stop n xs qs)
+        ≡ up-refusal n (getD (a ∷ b ∷ xs) (2 * length (unless R (switch true a b ∷ rest))) 0) (getD (a ∷ b ∷ xs) (2 * length (unless R (switch true a b ∷ rest)) + 1) 0)
+        (pairs-after (unless R (switch true a b ∷ rest)) ps))
+    go zero e rec g =
+        let s = rec g in
+        let k : 2 * length (switch true a b ∷ rest) ≡ suc (suc (2 * length rest)) = omega arith in
+        let j : 2 * length (switch true a b ∷ rest) + 1 ≡ suc (suc (2 * length rest + 1)) = omega arith in
+        (omega (arith, s .there), rw (j, k) (s .refused))
+    go (suc q) e rec g = (omega arith, sym e)
+
+-- ---- the loop that takes the links up one by one
+
+abbrev pub pairs : (n : ℕ) → Tables → List Link
+pairs n t = graph-in n (t .links) .links
+
+-- k links of the list xs are done, which brought the tables t to u, and ys is what is left of the list
+pub record Batch-left (n : ℕ) (xs : List ℕ) (t : Tables) (k : ℕ) (ys : List ℕ) (u : Tables) : Type 0 where
+  pub stop : batch-stop n xs (pairs n t) ≡ batch-stop n ys (pairs n u)
+  pub count : length (batch-switches n xs (pairs n t)) ≡ k + length (batch-switches n ys (pairs n u))
+  pub tables : tables-after n (batch-switches n xs (pairs n t)) t ≡ tables-after n (batch-switches n ys (pairs n u)) u
+  pub links : length (pairs n u) ≡ k + length (pairs n t)
+
+pub batch-first : (n : ℕ) (xs : List ℕ) (t : Tables) → Batch-left n xs t 0 xs t
+batch-first n xs t = record { stop = refl; count = omega arith; tables = refl; links = omega arith }
+
+length-with-link : (l : Link) (ls : List Link) → length (with-link l ls) ≡ suc (length ls)
+unfolding with-link
+length-with-link l [] = refl
+length-with-link l (m ∷ ms) = go (link-before l m) (length-with-link l ms)
+  where
+    go : (b : Bool) → length (with-link l ms) ≡ suc (length ms) → length (cond b (l ∷ m ∷ ms) (m ∷ with-link l ms)) ≡ suc (suc (length ms))
+    go true e = refl
+    go false e = ap suc e
+
+length-new-links : (a b : ℕ) (ls : List Link) → length (new-links true a b ls) ≡ suc (length ls)
+unfolding new-links
+length-new-links a b ls = length-with-link _ ls
+
+module _ {n : ℕ} {xs : List ℕ} {t : Tables} {k : ℕ} {u : Tables} where
+  pub batch-next : (a b : ℕ) (ys : List ℕ) → Batch-left n xs t k (a ∷ b ∷ ys) u → Good n u → ends-refusal max-neighbours true n a b (graph-in n (u .links)) ≡ 0
+      → Batch-left n xs t (k + 1) ys (switched n (switch true a b) u)
+  unfolding batch-stop batch-switches then unless tables-after graph-in relinked
+  batch-next a b ys w g e =
+      let f : pairs n (switched n (switch true a b) u) ≡ new-links true a b (pairs n u) =
+      ap (λ (h : Graph). h .links) (switched-graph n u g (switch true a b) (ends-zero max-neighbours true a b (graph-in n (u .links)) e)) in
+      record {
+        stop = w .stop ∙ rw (e, f);
+        count = w .count ∙ rw (e, f) (omega arith);
+        tables = w .tables ∙ rw (e, f);
+        links = omega (arith, ap length f, length-new-links a b (pairs n u), w .links);
+      }
+
+  pub batch-ended : Batch-left n xs t k [] u → Batch-done n xs (pairs n t) t (answer 0 k) u
+  unfolding batch-stop batch-switches tables-after
+  batch-ended w = record { number = sym (w .stop); value = sym (w .count ∙ omega arith); tables = sym (w .tables) }
+
+  pub batch-halted : (a b q : ℕ) (ys : List ℕ) → Batch-left n xs t k (a ∷ b ∷ ys) u → q ≡ ends-refusal max-neighbours true n a b (graph-in n (u .links)) → (q ≡ 0 → ⊥)
+      → Batch-done n xs (pairs n t) t (answer q k) u
+  unfolding batch-stop batch-switches then unless tables-after graph-in
+  batch-halted a b zero ys w e h = absurd (h refl)
+  batch-halted a b (suc q) ys w e h =
+      record { number = sym (w .stop ∙ rw (← e)); value = sym (w .count ∙ rw (← e) (omega arith)); tables = sym (w .tables ∙ rw (← e)) }
+
+  -- a site has at most 10,240 links
+  pub batch-few : (ys : List ℕ) → Batch-left n xs t k ys u → Good n u → k ≤ 10240
+  unfolding graph-in
+  batch-few ys w g = omega (arith, w .links, links-most (graph-in n (u .links)) (u .order) (g .lent .most) (good-valid n u g))
+
+-- ---- what a caller has after a batch
+
+module _ (n : ℕ) (xs : List ℕ) (t : Tables) (r : Value) (v : Tables) where
+  abbrev ps : List Link
+  ps = pairs n t
+
+  abbrev R : ℕ
+  R = batch-refusal n (lengths-of t) (length xs) (sound n t)
+
+  abbrev Done : Type 0
+  Done = Batch-done n xs ps t r v
+
+  -- 1 to 3 got yes
+  module _ (zero-is : R ≡ 0) (d : Done) where
+    asked : Good n t × (list-length (length xs) ≡ true)
+    unfolding batch-refusal
+    asked =
+        let s = site-zero n (lengths-of t) (list-length (length xs)) (sound n t) 0 zero-is .0 in
+        (record { lent = record { least = s .lent .least; most = s .lent .most; lengths = s .lent .lengths; further = refl }; is-sound = s .is-sound }, s .lent .further)
+
+    after : Good n v × (graph-in n (v .links) ≡ graph n (pairs-after (batch-switches n xs ps) ps))
+    unfolding graph-in
+    after =
+        subst (λ (o : Tables). Good n o × (graph-in n (o .links) ≡ graph n (pairs-after (batch-switches n xs ps) ps))) (sym (d .tables))
+        (all-good n ps (batch-switches n xs ps) t (asked .0) refl (batch-allowed n xs ps))
+
+    front : batch-switches n xs ps ≡ ups (take (2 * r .value) xs)
+    front = batch-front n xs ps ∙ ap (λ (k : ℕ). ups (take (2 * k) xs)) (sym (d .value))
+
+    done-right : Batch-right n xs t v r
+    unfolding list-length
+    done-right = record {
+      graph = after .1 ∙ ap (λ (ss : List Switch). graph n (pairs-after ss ps)) front;
+      right = good-right n v (after .0);
+      all = λ z. omega (arith, d .value, ap length (batch-all n xs ps (sym (d .number) ∙ z)), length-ups xs (eqb-true (length xs % 2) 0 (asked .1)));
+    }
+
+    done-stopped : (r .number ≡ 0 → ⊥) → Batch-stopped n xs t r v
+    unfolding graph-in
+    done-stopped h =
+        let s = stop-at n xs ps (λ z. h (d .number ∙ z)) in
+        record {
+          there = omega (arith, d .value, s .there);
+          done = d .tables ∙ ap (λ (ss : List Switch). tables-after n ss t) front;
+          refused = d .number ∙ s .refused ∙ rw (after .1, d .value);
+        }
+
+  pub batch-right : Batch-contract n xs t r v → R ≡ 0 → Batch-right n xs t v r
+  unfolding Batch-contract
+  batch-right c z = done-right z (by-zero R Done (λ q. Batch-refused q t r v) z c)
+
+  -- a number beside which a change may stand is that of a link
+  pub batch-keeps : Batch-contract n xs t r v → (r .number ≡ 0 → ⊥) → Batch-refused (r .number) t r v ⊎ Batch-stopped n xs t r v
+  unfolding Batch-contract
+  batch-keeps c h = go (by-cases R Done (λ q. Batch-refused q t r v) c)
+    where
+      go : ((R ≡ 0) × Done) ⊎ ((R ≡ 0 → ⊥) × Batch-refused R t r v) → Batch-refused (r .number) t r v ⊎ Batch-stopped n xs t r v
+      go (inl p) = inr (done-stopped (p .0) (p .1) h)
+      go (inr p) = inl (record { number = refl; value = p .1 .value; tables = p .1 .tables })
+
+-- ---- a batch of one link
+
+module _ (n a b : ℕ) (t : Tables) (w : List ℕ) (q : Reply) (u : Tables) (x : List ℕ) (room : n ≤ length w) (r : Value) (v : Tables) where
+  abbrev g : Graph
+  g = graph-in n (t .links)
+
+  abbrev L : ℕ
+  L = link-refusal true n a b (lengths-of t) (length w) (sound n t) g
+
+  abbrev S : ℕ
+  S = site-refusal n (lengths-of t) true (sound n t) 0
+
+  link-is : L ≡ site-refusal n (lengths-of t) true (sound n t) (ends-refusal max-neighbours true n a b g)
+  unfolding link-refusal
+  link-is = rw (true-answer-length n (length w) room)
+
+  -- the link was asked for: taken up, or refused
+  single : (R : ℕ) → ends-refusal max-neighbours true n a b g ≡ R → By-number R (Link-accepted true a b g t w q u x) (λ p. Link-refused p t w q u x)
+      → Batch-done n (a ∷ b ∷ []) (pairs n t) t r v → Batch-single q u r v
+  unfolding By-number batch-stop batch-switches then unless tables-after switched graph-in
+  single zero e c d = record {
+    number = d .number ∙ rw e (sym (c .number));
+    value = d .value ∙ rw (e, c .number);
+    tables = d .tables ∙ rw e (sym (tables-ext u _ (c .links) (c .numbers) (c .order)));
+  }
+  single (suc p) e c d = record {
+    number = d .number ∙ rw e (sym (c .number));
+    value = d .value ∙ rw (e, c .number, ne-eqb (suc p) 0 (λ z. omega arith)) refl;
+    tables = d .tables ∙ rw e (sym (tables-ext u t (c .links) (c .numbers) (c .order)));
+  }
+
+  stopped-at : (i j : ℕ) → i ≡ j → (j ≡ 0 → ⊥) → By-number i (Link-accepted true a b g t w q u x) (λ p. Link-refused p t w q u x) → Link-refused j t w q u x
+  stopped-at i j e h c = pick (by-cases i (Link-accepted true a b g t w q u x) (λ p. Link-refused p t w q u x) c)
+    where
+      pick : ((i ≡ 0) × Link-accepted true a b g t w q u x) ⊎ ((i ≡ 0 → ⊥) × Link-refused i t w q u x) → Link-refused j t w q u x
+      pick (inl z) = absurd (h (sym e ∙ z .0))
+      pick (inr z) = subst (λ (m : ℕ). Link-refused m t w q u x) e (z .1)
+
+  pub batch-single : Link-contract true n a b t w q u x → Batch-contract n (a ∷ b ∷ []) t r v → Batch-single q u r v
+  unfolding Link-contract Batch-contract batch-refusal list-length
+  batch-single c d = go (by-cases S (Batch-done n (a ∷ b ∷ []) (pairs n t) t r v) (λ p. Batch-refused p t r v) d)
+    where
+      go : ((S ≡ 0) × Batch-done n (a ∷ b ∷ []) (pairs n t) t r v) ⊎ ((S ≡ 0 → ⊥) × Batch-refused S t r v) → Batch-single q u r v
+      go (inl p) =
+          let k = site-zero n (lengths-of t) true (sound n t) 0 (p .0) .0 in
+          let e : L ≡ ends-refusal max-neighbours true n a b g = link-is ∙ site-yes n (lengths-of t) true (sound n t) _ k in
+          single (ends-refusal max-neighbours true n a b g) refl
+          (subst (λ (i : ℕ). By-number i (Link-accepted true a b g t w q u x) (λ p. Link-refused p t w q u x)) e c) (p .1)
+      go (inr p) =
+          let e : L ≡ S = link-is ∙ site-stops n (lengths-of t) true (sound n t) _ (p .0) in
+          let l = stopped-at L S e (p .0) c in
+          record {
+            number = p .1 .number ∙ sym (l .number);
+            value = p .1 .value ∙ rw (l .number, ne-eqb S 0 (p .0));
+            tables = p .1 .tables ∙ sym (tables-ext u t (l .links) (l .numbers) (l .order));
+          }

@@ -1,0 +1,308 @@
+-- A link taken up or down on tables that are known to be sound, on plain values.
+-- In order: what is known of prepared tables, the plan, what it is applied to, the counts that stay, the tables after.
+use mathlib.Core.Path.{_≡_, refl, sym, ap, subst, _∙_}
+use mathlib.Core.Logic.{_⊎_, inl, inr}
+use mathlib.Core.Bool.{Bool, true, false, _&&_, cond}
+use mathlib.Core.List.{List}
+use Prim.Native.Nat.{ℕ, _+_, _*_, _≤_, _<_, min}
+use native.Mathlib.Omega.{arith}
+use lib.Dec.{ltb, leb}
+use lib.ListN.{length, getD, take, replicate, length-replicate}
+use borrow.Author.Tests.{ltb-true, ltb-false, le-leb}
+use Rattle.mesh.specs.Limits.{max-radios, max-neighbours, row-bytes}
+use Rattle.lists.specs.Lists.{count, member, overwrite, In, Each-once}
+use Rattle.lists.proofs.Tests.{bool-cases, never, and-left, and-right}
+use Rattle.lists.proofs.Member.{in-getD, in-member, not-member, member-in}
+use Rattle.lists.proofs.Count.{count-ext}
+use Rattle.lists.proofs.Overwrite.{overwrite-take, take-overwrite}
+use Rattle.mesh.specs.Graph.{Graph, linked, relinked}
+use Rattle.mesh.specs.Cores.{number, numbers}
+use Rattle.mesh.specs.Orders.{each-once, rising, few-later, is-k-order}
+use Rattle.mesh.specs.Levels.{changed}
+use Rattle.mesh.specs.Tables.{Tables, tables, marked, put-link, graph-in}
+use Rattle.mesh.specs.Sound.{number-in, rows-proper, sound}
+use Rattle.mesh.specs.Valid.{Allowed}
+use Rattle.mesh.proofs.Cores.Peeling.{getD-numbers}
+use Rattle.mesh.proofs.Links.Call.{changed-below, unchanged-number}
+use Rattle.mesh.proofs.Tables.Rows.{symmetric-of, within-of, few-of}
+use Rattle.calls.specs.Questions.{lengths-of, size-good, site-lengths, ends-refusal}
+use Rattle.calls.specs.Switches.{switch, switched}
+use Rattle.calls.specs.declared.Reply.{Reply}
+use Rattle.calls.proofs.QuestionLaws.{size-good-true, site-lengths-true}
+use Rattle.calls.proofs.ChainLaws.{ends-zero}
+use Rattle.calls.proofs.RecordLaws.{tables-ext}
+use Rattle.calls.proofs.SoundSwitches.{Good, good-valid, switched-good}
+use Rattle.rows.specs.Rows.{neighbours-of}
+use Rattle.rows.proofs.RowListLaws.{in-neighbours-of, member-neighbours-of, length-neighbours-of}
+use Rattle.soundness.specs.Checks.{Placed, Highs, high-count, fits-sound, Places-found}
+use Rattle.soundness.proofs.HighCounts.{high-count-neighbours-in}
+use Rattle.soundness.proofs.SoundSite.{Sound-site, fits-sound-site, site-good-fits, site-good-sound, number-entry}
+use Rattle.link_parts.specs.Changes.{Apply-contract}
+use Rattle.links.specs.Plans.{Ready, Planned, Applicable}
+use Rattle.links.specs.Steps.{Prepared, Step-ready, Changed-by, Carried, Stepped, around, touched, recounted, Rows-known}
+use Rattle.links.proofs.Asking.{right-of, high-numbers}
+use Rattle.links.proofs.NearLaws.{neighbours-of-other}
+use Rattle.links.proofs.Applied.{length-changed, planned-fits, applied-accepted}
+use Rattle.links.proofs.CountLaws.{touched-ends, touched-around, getD-recounted, length-recounted}
+
+-- ---- what is known of prepared tables
+
+pub fits-good : (n : ℕ) (t : Tables) → fits-sound n t ≡ true → Good n t
+unfolding fits-sound
+fits-good n t h =
+    let size = and-left (size-good n) (site-lengths n (lengths-of t) && sound n t) h in
+    let rest = and-right (size-good n) (site-lengths n (lengths-of t) && sound n t) h in
+    record {
+      lent = record {
+        least = size-good-true n size .0;
+        most = size-good-true n size .1;
+        lengths = site-lengths-true n (lengths-of t) (and-left (site-lengths n (lengths-of t)) (sound n t) rest);
+        further = refl;
+      };
+      is-sound = and-right (site-lengths n (lengths-of t)) (sound n t) rest;
+    }
+
+-- rows that can be counted
+pub rows-known : (n : ℕ) (t : Tables) → Sound-site n t → Rows-known n (t .links) (t .numbers)
+rows-known n t s = record {
+  small = s .small;
+  links-length = s .links-long;
+  numbers-length = s .numbers-long;
+  few = λ v l. omega (arith, length-neighbours-of (t .links) v, few-of max-neighbours n (t .links) (s .few) v l);
+  radios = λ v w l i. let m = in-neighbours-of (t .links) v w i in below v w l (m .0) (m .1) (bool-cases (ltb w n));
+}
+  where
+    below : (v w : ℕ) → v < n → w < max-radios → marked (t .links) v w ≡ true → (ltb w n ≡ true) ⊎ (ltb w n ≡ false) → w < n
+    below v w l lw m (inl e) = ltb-true w n e
+    below v w l lw m (inr e) = never (marked (t .links) v w) m (within-of n (t .links) (s .within) v w l (ltb-false w n e) lw)
+
+module _ {up : Bool} {n a b : ℕ} {t : Tables} {places highs : List ℕ} (k : Step-ready up n a b t places highs) where
+  abbrev g : Graph
+  g = graph-in n (t .links)
+
+  good : Good n t
+  good = fits-good n t (k .prepared .good)
+
+  site : Sound-site n t
+  site = fits-sound-site n t (k .prepared .good)
+
+  allowed : Allowed max-neighbours up a b g
+  unfolding graph-in
+  allowed = ends-zero max-neighbours up a b g (k .asked)
+
+  -- ---- the plan
+
+  pub step-plan : (counters : List ℕ) → length counters ≡ max-radios → (copied : List ℕ) → copied ≡ overwrite (take (length counters) highs) counters
+      → Ready up n a b t places copied
+  unfolding lengths-of graph-in
+  step-plan zeros long copied e =
+      let is : copied ≡ highs = e ∙ overwrite-take highs zeros (k .prepared .highs-length ∙ sym long) in
+      record {
+        small = good .lent .most;
+        links-length = good .lent .lengths .links;
+        numbers-length = good .lent .lengths .numbers;
+        order-length = good .lent .lengths .order;
+        is-sound = good .is-sound;
+        allowed = allowed;
+        places-length = omega (arith, good .lent .most, k .prepared .places-length);
+        highs-length = omega (arith, good .lent .most, ap length is, k .prepared .highs-length);
+        placed = λ i l low high. k .prepared .placed .at i l;
+        counted = λ v l level. ap (λ (hs : List ℕ). getD hs v 0) is
+            ∙ k .prepared .counted .at v l
+            ∙ high-count-neighbours-in n t (good .is-sound) (good .lent .most) v l
+            ∙ high-numbers g (t .numbers) (site .numbers) v l;
+      }
+
+  -- a stretch for as many radios as a site may have has room
+  pub step-room : length (t .order) ≤ length (replicate {A = ℕ} max-radios 0)
+  unfolding lengths-of
+  step-room = omega (arith, good .lent .lengths .order, good .lent .most, length-replicate {A = ℕ} max-radios 0)
+
+  -- ---- what it is applied to
+
+  applicable : (answer : List ℕ) → length answer ≡ max-radios → Applicable up n a b t answer
+  applicable answer room = record {
+    small = good .lent .most;
+    valid = good-valid n t good;
+    numbered = site .numbers;
+    allowed = allowed;
+    room = omega (arith, good .lent .most);
+  }
+
+  pub step-changed : (start size taken : ℕ) (stretch : List ℕ) → Planned up a b g (t .order) start size taken stretch → (answer : List ℕ) → length answer ≡ max-radios
+      → (r : Reply) (v : Tables) (x : List ℕ) → Apply-contract up a b start size taken stretch t answer r v x → Changed-by up n a b t v (r .count) x
+  unfolding switched lengths-of
+  step-changed start size taken stretch plan answer room r v x d =
+      let ok = applicable answer room in
+      let fit = planned-fits up n a b t answer ok start size taken stretch plan (omega (arith, good .lent .lengths .order)) in
+      let l = applied-accepted up n a b t answer ok start size taken stretch plan r v x (d .fitting fit) in
+      record {
+        tables = tables-ext v _ (l .links) (l .numbers) (l .order);
+        counted = l .count;
+        listed = rw (l .count, l .answer) (take-overwrite (changed up a b g) answer);
+      }
+
+  -- ---- the tables after
+
+  abbrev after : Tables
+  after = switched n (switch up a b) t
+
+  good-after : Good n after
+  good-after = switched-good n t good (switch up a b) allowed
+
+  site-after : Sound-site n after
+  site-after = site-good-sound n after true good-after
+
+  abbrev cs : List ℕ
+  cs = changed up a b g
+
+  -- a radio that is no end, has not changed and is no neighbour of one that has keeps its count
+  kept-count : (v : ℕ) → v < n → (v ≡ a → ⊥) → (v ≡ b → ⊥) → ((w : ℕ) → In w cs → In v (around (after .links) w) → ⊥)
+      → high-count (t .numbers) v (neighbours-of (t .links) v) ≡ high-count (after .numbers) v (neighbours-of (after .links) v)
+  unfolding high-count switched graph-in relinked
+  kept-count v l na nb far =
+      count-ext (λ w. leb (number-in (t .numbers) v) (number-in (t .numbers) w)) (λ w. leb (number-in (after .numbers) v) (number-in (after .numbers) w)) (neighbours-of (t .links) v)
+      (λ w i. rw (same v l (λ m. far v m (inl refl)), same w (near w i) (λ m. far w m (inr (mirrored w i)))))
+      ∙ ap (count (λ w. leb (number-in (after .numbers) v) (number-in (after .numbers) w))) rows
+    where
+      rows : neighbours-of (t .links) v ≡ neighbours-of (after .links) v
+      rows =
+          neighbours-of-other up a b (t .links) (allowed .differ) (omega (arith, allowed .a-radio, site .small)) (omega (arith, allowed .b-radio, site .small))
+          (omega (arith, allowed .a-radio, site .links-long)) (omega (arith, allowed .b-radio, site .links-long)) v na nb
+
+      near : (w : ℕ) → In w (neighbours-of (t .links) v) → w < n
+      near w i = rows-known n t site .radios v w l i
+
+      mirrored : (w : ℕ) → In w (neighbours-of (t .links) v) → In v (neighbours-of (after .links) w)
+      mirrored w i =
+          let m = in-neighbours-of (after .links) v w (subst (In w) rows i) in
+          let lv : v < max-radios = omega (arith, site .small) in
+          member-in v (neighbours-of (after .links) w)
+          (member-neighbours-of (after .links) w v lv ∙ symmetric-of n (after .links) (site-after .symmetric) w v (near w i) l ∙ m .1)
+
+      same : (w : ℕ) → w < n → (In w cs → ⊥) → number-in (t .numbers) w ≡ number-in (after .numbers) w
+      same w lw not =
+          number-entry n t site w lw
+          ∙ unchanged-number up a b g w lw (not-member w cs not)
+          ∙ sym (getD-numbers (relinked up a b g) w lw)
+
+  counts-after : (new : List ℕ) → new ≡ recounted (after .links) (after .numbers) (neighbours-of (touched a b cs (after .links)) 0) highs
+      → Highs n (after .links) (after .numbers) new
+  unfolding graph-in
+  counts-after new e = record { at = λ v l. ap (λ (hs : List ℕ). getD hs v 0) e ∙ count-of v l }
+    where
+      ts : List ℕ
+      ts = after .links
+
+      la : a < max-radios
+      la = omega (arith, allowed .a-radio, site .small)
+
+      lb : b < max-radios
+      lb = omega (arith, allowed .b-radio, site .small)
+
+      untouched : (v : ℕ) → v < max-radios → (marked (touched a b cs ts) 0 v ≡ false)
+          → (v ≡ a → ⊥) × (v ≡ b → ⊥) × ((w : ℕ) → In w cs → In v (around ts w) → ⊥)
+      untouched v lv f = (
+        λ q. never (marked (touched a b cs ts) 0 v) (touched-ends a b cs ts la lb v lv (inl q)) f,
+        λ q. never (marked (touched a b cs ts) 0 v) (touched-ends a b cs ts la lb v lv (inr q)) f,
+        λ w i j. never (marked (touched a b cs ts) 0 v) (touched-around a b cs ts la lb w v lv i j) f,
+      )
+
+      either : (v : ℕ) → v < n → (m : Bool) → marked (touched a b cs ts) 0 v ≡ m
+          → cond m (high-count (after .numbers) v (neighbours-of ts v)) (getD highs v 0) ≡ high-count (after .numbers) v (neighbours-of ts v)
+      either v l true f = refl
+      either v l false f =
+          let u = untouched v (omega (arith, site .small)) f in
+          k .prepared .counted .at v l ∙ kept-count v l (u .0) (u .1) (u .2)
+
+      count-of : (v : ℕ) → v < n
+          → getD (recounted ts (after .numbers) (neighbours-of (touched a b cs ts) 0) highs) v 0 ≡ high-count (after .numbers) v (neighbours-of ts v)
+      count-of v l =
+          getD-recounted ts (after .numbers) v (neighbours-of (touched a b cs ts) 0) highs (omega (arith, k .prepared .highs-length, site .small))
+          ∙ ap (λ (m : Bool). cond m (high-count (after .numbers) v (neighbours-of ts v)) (getD highs v 0)) (member-neighbours-of (touched a b cs ts) 0 v (omega (arith, site .small)))
+          ∙ either v l (marked (touched a b cs ts) 0 v) refl
+
+  -- as the code names its values: v are the tables after the change, k the count of changed radios, which stand in front of `list`
+  module _ (v : Tables) (many : ℕ) (list : List ℕ) (d : Changed-by up n a b t v many list) where
+    list-is : take many list ≡ cs
+    list-is = d .listed
+
+    pub changed-fits : length list ≡ max-radios → many ≤ length list
+    unfolding graph-in
+    changed-fits long = omega (arith, d .counted, length-changed up a b g, site .small)
+
+    changed-radios : (i : ℕ) → i < length (take many list) → getD (take many list) i 0 < n
+    unfolding graph-in
+    changed-radios i l = rw list-is (changed-below up a b g _ (in-member _ cs (in-getD cs i (rw list-is at l))))
+
+    numbers-length : length (v .numbers) ≡ n
+    numbers-length = ap (λ (o : Tables). length (o .numbers)) (d .tables) ∙ site-after .numbers-long
+
+    -- what counting anew wants
+    pub renew-ready : Rows-known (length (v .numbers)) (v .links) (v .numbers) × (length (v .numbers) ≤ length highs) × (a < length (v .numbers)) × (b < length (v .numbers))
+        × ((i : ℕ) → i < length (take many list) → getD (take many list) i 0 < length (v .numbers))
+    unfolding graph-in
+    renew-ready =
+        let rows : Rows-known n (v .links) (v .numbers) = subst (λ (o : Tables). Rows-known n (o .links) (o .numbers)) (sym (d .tables)) (rows-known n after site-after) in (
+          subst (λ (m : ℕ). Rows-known m (v .links) (v .numbers)) (sym numbers-length) rows,
+          omega (arith, numbers-length, k .prepared .highs-length, site .small),
+          omega (arith, numbers-length, allowed .a-radio),
+          omega (arith, numbers-length, allowed .b-radio),
+          λ i l. omega (arith, numbers-length, changed-radios i l),
+        )
+
+    order-once : each-once (length (v .order)) (v .order) ≡ true
+    unfolding is-k-order graph-in lengths-of
+    order-once =
+        let s = good-after in
+        let long : length (v .order) ≡ n = ap (λ (o : Tables). length (o .order)) (d .tables) ∙ s .lent .lengths .order in
+        let h = graph-in n (after .links) in
+        rw (long, ap (λ (o : Tables). o .order) (d .tables))
+        (and-left (each-once n (after .order)) (rising (number h) (after .order) && few-later (linked h) (number h) (after .order)) (good-valid n after s .k-order))
+
+    -- the tables after, prepared again
+    pub step-carried : (p : List ℕ) (found : Bool) → Places-found (v .order) places p found → length p ≡ length places
+        → (h : List ℕ) → h ≡ recounted (v .links) (v .numbers) (neighbours-of (touched a b (take many list) (v .links)) 0) highs → Carried up n a b t v p h
+    unfolding lengths-of
+    step-carried p found f lp h e =
+        let long : length (v .order) ≡ n = ap (λ (o : Tables). length (o .order)) (d .tables) ∙ good-after .lent .lengths .order in
+        let yes : found ≡ true =
+        f .answer ∙ rw (order-once, le-leb (length (v .order)) (min max-radios (length places)) (omega (arith, long, k .prepared .places-length, site .small))) in
+        let is : h ≡ recounted (after .links) (after .numbers) (neighbours-of (touched a b cs (after .links)) 0) highs =
+        e ∙ rw (list-is, d .tables) in
+        record {
+          tables = d .tables;
+          prepared = subst (λ (o : Tables). Prepared n o p h) (sym (d .tables)) (record {
+            good = site-good-fits n after true good-after;
+            places-length = lp ∙ k .prepared .places-length;
+            highs-length = ap length is ∙ length-recounted (after .links) (after .numbers) _ highs ∙ k .prepared .highs-length;
+            placed = rw (long, d .tables) at (f .placed yes);
+            counted = counts-after h is;
+          });
+        }
+
+-- ---- a step
+
+module _ (up : Bool) (n a b : ℕ) (t : Tables) (places highs : List ℕ) (k : Prepared n t places highs) (r : ℕ)
+    (asked : r ≡ ends-refusal max-neighbours up n a b (graph-in n (t .links))) where
+  order-long : length (t .order) ≡ n
+  unfolding lengths-of
+  order-long = fits-good n t (k .good) .lent .lengths .order
+
+  pub step-refused : (r ≡ 0 → ⊥) → Stepped up n a b t r t places highs
+  step-refused h = record { number = asked; done = λ z. absurd (h z); refused = λ z. refl; prepared = k }
+
+  pub step-ready : r ≡ 0 → Step-ready up (length (t .order)) a b t places highs
+  step-ready z = subst (λ (m : ℕ). Step-ready up m a b t places highs) (sym order-long) (record { prepared = k; asked = sym asked ∙ z })
+
+  pub step-done : r ≡ 0 → (v : Tables) (p h : List ℕ) → Carried up (length (t .order)) a b t v p h → Stepped up n a b t 0 v p h
+  step-done z v p h d =
+      let c : Carried up n a b t v p h = subst (λ (m : ℕ). Carried up m a b t v p h) order-long d in
+      record { number = sym z ∙ asked; done = λ y. c .tables; refused = λ y. absurd (y refl); prepared = c .prepared }
+
+-- questions 4 to 7 are put to rows that are proper
+pub step-asked : {n : ℕ} {t : Tables} {places highs : List ℕ} → Prepared n t places highs
+    → (n ≤ max-radios) × (length (t .links) ≡ row-bytes * n) × (rows-proper max-neighbours n (t .links) ≡ true)
+unfolding lengths-of
+step-asked {n} {t} k =
+    let s = fits-good n t (k .good) in (s .lent .most, s .lent .lengths .links, right-of n t (s .lent .lengths .numbers) (s .is-sound) .rows)

@@ -1,0 +1,79 @@
+-- A link taken up or down on tables that are known to be sound: what the check finds is kept from link to link.
+--   Prepared         questions 1 to 3 get yes of the tables, and places and not-lower counts of every radio are at hand
+--   Step-ready       the same, and questions 4 to 7 of a link get yes
+--   Changed-by       the tables that the link leaves, and the radios that it changed
+--   Carried          the tables that it leaves, prepared again
+--   Stepped          the number of questions 4 to 7, and the tables after them, prepared again
+--   around ts v      the radio v and its neighbours
+--   touched          the set of both ends, of the changed radios and of their neighbours: the radios whose not-lower count may differ
+--   recounted        the not-lower counts with those of some radios counted anew
+--   Rows-known       rows that can be counted
+-- Laws are in proofs/CountLaws.antt and proofs/StepLaws.antt. Definitions only.
+use mathlib.Core.Path.{_≡_}
+use mathlib.Core.Bool.{Bool, true}
+use mathlib.Core.List.{List, _∷_}
+use Prim.Native.Nat.{ℕ, _*_, _≤_, _<_}
+use lib.ListN.{length, set, take, replicate}
+use Rattle.mesh.specs.Limits.{max-radios, max-neighbours, row-bytes}
+use Rattle.lists.specs.Lists.{folded, In}
+use Rattle.mesh.specs.Levels.{changed}
+use Rattle.mesh.specs.Tables.{Tables, put-bit, graph-in}
+use Rattle.calls.specs.Questions.{ends-refusal}
+use Rattle.calls.specs.Switches.{switch, switched}
+use Rattle.rows.specs.Rows.{neighbours-of}
+use Rattle.soundness.specs.Checks.{Placed, Highs, high-count, fits-sound}
+use Rattle.link_parts.specs.Changes.{all-marked}
+
+-- ---- one link
+
+-- places and highs have room for as many radios as a site may have
+pub record Prepared (n : ℕ) (t : Tables) (places highs : List ℕ) : Type 0 where
+  pub good : fits-sound n t ≡ true
+  pub places-length : length places ≡ max-radios
+  pub highs-length : length highs ≡ max-radios
+  pub placed : Placed n (t .order) places
+  pub counted : Highs n (t .links) (t .numbers) highs
+
+pub record Step-ready (up : Bool) (n a b : ℕ) (t : Tables) (places highs : List ℕ) : Type 0 where
+  pub prepared : Prepared n t places highs
+  pub asked : ends-refusal max-neighbours up n a b (graph-in n (t .links)) ≡ 0
+
+-- t and v are the tables before and after; the first `count` entries of `list` are the changed radios
+pub record Changed-by (up : Bool) (n a b : ℕ) (t v : Tables) (count : ℕ) (list : List ℕ) : Type 0 where
+  pub tables : v ≡ switched n (switch up a b) t
+  pub counted : count ≡ length (changed up a b (graph-in n (t .links)))
+  pub listed : take count list ≡ changed up a b (graph-in n (t .links))
+
+pub record Carried (up : Bool) (n a b : ℕ) (t v : Tables) (places highs : List ℕ) : Type 0 where
+  pub tables : v ≡ switched n (switch up a b) t
+  pub prepared : Prepared n v places highs
+
+-- refused, every table keeps its content
+pub record Stepped (up : Bool) (n a b : ℕ) (t : Tables) (r : ℕ) (v : Tables) (places highs : List ℕ) : Type 0 where
+  pub number : r ≡ ends-refusal max-neighbours up n a b (graph-in n (t .links))
+  pub done : r ≡ 0 → v ≡ switched n (switch up a b) t
+  pub refused : (r ≡ 0 → ⊥) → v ≡ t
+  pub prepared : Prepared n v places highs
+
+-- ---- not-lower counts
+
+abbrev pub around : (links : List ℕ) → (v : ℕ) → List ℕ
+around ts v = v ∷ neighbours-of ts v
+
+-- `radios` and their neighbours, in the set
+unfoldable pub all-around : (links radios set : List ℕ) → List ℕ
+all-around ts vs s = folded (λ v now. all-marked (around ts v) now) vs s
+
+unfoldable pub touched : (a b : ℕ) → (changed links : List ℕ) → List ℕ
+touched a b cs ts = put-bit true 0 b (put-bit true 0 a (all-around ts cs (replicate row-bytes 0)))
+
+unfoldable pub recounted : (links numbers radios highs : List ℕ) → List ℕ
+recounted ts ns vs hs = folded (λ v now. set now v (high-count ns v (neighbours-of ts v))) vs hs
+
+-- rows of n radios, each with as many neighbours as a radio may have, and all of them radios
+pub record Rows-known (n : ℕ) (links numbers : List ℕ) : Type 0 where
+  pub small : n ≤ max-radios
+  pub links-length : length links ≡ row-bytes * n
+  pub numbers-length : length numbers ≡ n
+  pub few : (v : ℕ) → v < n → length (neighbours-of links v) ≤ max-neighbours
+  pub radios : (v w : ℕ) → v < n → In w (neighbours-of links v) → w < n

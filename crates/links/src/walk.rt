@@ -1,0 +1,433 @@
+// The walk of a link going up (document 001, sections 5 and 6): from the beginning end, the lower one and with equal numbers the earlier,
+// forward through its level. A radio that has more than `most` neighbours among what is above, what stands later in the level and the
+// candidates becomes a candidate; one that has not is taken, and a candidate that then falls short is taken back, the first in the order
+// first. What is no candidate's neighbour is passed without a look at its row. The order is lent from the beginning end's place on.
+ghost use mathlib.Core.Path.{_≡_};
+ghost use mathlib.Core.Bool.{false};
+ghost use Prim.Native.Nat.{ℕ, _≤_, _<_, _+_, _-_};
+ghost use lib.ListN.{length, getD, take, drop};
+ghost use lib.Seq.{paste};
+ghost use lib.Dec.{leb};
+ghost use Rattle.mesh.specs.Limits.{max-radios, max-neighbours, row-bytes};
+ghost use Rattle.lists.specs.Lists.{count, head-or};
+ghost use Rattle.mesh.specs.Tables.{marked};
+ghost use Rattle.rows.specs.Rows.{neighbours-of};
+ghost use Rattle.links.specs.Walks.{is-left, place-touched, places-touched, next-place, joined, beginning-end, stands-first, Known};
+ghost use Rattle.links.specs.Walks.{Walk-site, Walk-state, Walk-done};
+use super::turn;
+use super::turn::Call;
+use link_parts::apply::Plan;
+use mesh::Site;
+use tables::fill;
+
+// How a candidate is marked in the table of candidates.
+const CANDIDATE: u8 = 1;
+
+// Where no turn is: past every place, and past what `first_marked` gives where nothing is marked.
+const STOP: usize = Site::RADIOS as usize + 1;
+
+// A link going up at its lower end's level: radios with at most `most` neighbours left are taken.
+pub(crate) struct Rise {
+    pub(crate) a: u32,
+    pub(crate) b: u32,
+    pub(crate) most: u8,
+}
+
+// How far a walk has come: so many radios of the part, and of these so many taken.
+struct Reached {
+    front: usize,
+    taken: usize,
+}
+
+// Whether w counts for a radio at place p of the level: it is above, stands later in the level, or is a candidate.
+fn is_left(w: usize, level: u8, p: u16, numbers: &[u8], places: &[u16], held: &[u8]) -> bool
+    requires { ⌜ (w < length (now numbers)) × (w < length (now places)) × (w < length (now held)) ⌝ }
+    ensures { λ r. ⌜ r ≡ is-left level p (now (numbers .entry)) (now (places .entry)) (now (held .entry)) w ⌝ }
+{
+    if numbers[w] != level {
+        return level < numbers[w];
+    }
+    if p < places[w] {
+        return true;
+    }
+    held[w] == CANDIDATE
+}
+
+// How many of the first k listed radios count.
+fn count_left(
+    near: &[u16],
+    k: usize,
+    level: u8,
+    p: u16,
+    numbers: &[u8],
+    places: &[u16],
+    held: &[u8],
+) -> u8
+    requires { ⌜ (k ≤ length (now near)) × (k ≤ max-neighbours) ×
+        Known (length (now numbers)) (length (now places)) (length (now held)) (take k (now near)) ⌝ }
+    ensures { λ r. ⌜ r ≡ count (is-left level p (now (numbers .entry)) (now (places .entry)) (now (held .entry))) (take k (now (near .entry))) ⌝ }
+{
+    let mut n: u8 = 0;
+    let mut i: usize = 0;
+    while i < k {
+        n += is_left(near[i] as usize, level, p, numbers, places, held) as u8;
+        i += 1;
+    }
+    n
+}
+
+// Makes the place of w due, where w stands in the level later than place p.
+fn touch_one(w: usize, level: u8, p: u16, numbers: &[u8], places: &[u16], due: &mut [u8])
+    requires { ⌜ (w < length (now numbers)) × (w < length (now places)) ⌝ }
+    ensures { λ _. ⌜ now (due .exit) ≡ place-touched level p (now (numbers .entry)) (now (places .entry)) w (now (due .entry)) ⌝ }
+{
+    if numbers[w] == level {
+        if p < places[w] {
+            rows::put_bit(due, true, 0, places[w] as u32);
+        }
+    }
+}
+
+// Does so for the first k listed radios.
+fn touch(near: &[u16], k: usize, level: u8, p: u16, numbers: &[u8], places: &[u16], due: &mut [u8])
+    requires { ⌜ (k ≤ length (now near)) × Known (length (now numbers)) (length (now places)) (length (now numbers)) (take k (now near)) ⌝ }
+    ensures { λ _. ⌜ now (due .exit)
+        ≡ places-touched level p (now (numbers .entry)) (now (places .entry)) (take k (now (near .entry))) (now (due .entry)) ⌝ }
+{
+    let mut i: usize = 0;
+    while i < k {
+        touch_one(near[i] as usize, level, p, numbers, places, due);
+        i += 1;
+    }
+}
+
+// Looks at the radio at the front, when no place before it is due: it is held as a candidate, and its later neighbours in the level are
+// due; or it is taken, and the candidates among its neighbours lose one. Comes back with the count of the taken.
+fn look(
+    rise: Rise,
+    first: usize,
+    size: usize,
+    front: usize,
+    taken: usize,
+    links: &[u8],
+    numbers: &[u8],
+    tail: &[u16],
+    places: &[u16],
+    held: &mut [u8],
+    counters: &mut [u8],
+    due: &mut [u8],
+    list: &mut [u16],
+) -> usize
+    requires { ⌜ Walk-site (rise .a) (rise .b) (rise .most) first size (now links) (now numbers) (now tail) (now places) ×
+        Walk-state (rise .a) (rise .b) (rise .most) first size (now links) (now tail) (now places) front taken
+        (now held) (now counters) (now due) (now list) ×
+        ((front < size) × ((q : ℕ) → q < front → marked (now due) 0 (first + q) ≡ false)) ⌝ }
+    ensures state { λ r. ⌜ Walk-state (rise .a) (rise .b) (rise .most) first size (now (links .entry)) (now (tail .entry)) (now (places .entry))
+        (front + 1) r (now (held .exit)) (now (counters .exit)) (now (due .exit)) (now (list .exit)) ⌝ }
+    ensures kept { λ r. ⌜ taken ≤ r ⌝ }
+{
+    let mut row = [0u8; Site::ROW_BYTES];
+    let mut near = [0u16; Site::NEIGHBOURS as usize];
+    let v = tail[front];
+    let p = first + front;
+    rows::put_bit(due, false, 0, p as u32);
+    let k = turn::neighbours_after(
+        true,
+        rise.a,
+        rise.b,
+        v as u32,
+        links,
+        &mut row,
+        &mut near,
+    ) as usize;
+    let c = count_left(&near, k, rise.most, p as u16, numbers, places, held);
+    if rise.most < c {
+        held[v as usize] = CANDIDATE;
+        counters[v as usize] = c;
+        touch(&near, k, rise.most, p as u16, numbers, places, due);
+        return taken;
+    }
+    list[taken] = v;
+    turn::release(&near, k, CANDIDATE, rise.most, held, places, counters, due);
+    taken + 1
+}
+
+// Takes the candidate at place p back: it fell short, and no place before it is due.
+fn back(
+    rise: Rise,
+    first: usize,
+    size: usize,
+    p: usize,
+    front: usize,
+    taken: usize,
+    links: &[u8],
+    numbers: &[u8],
+    tail: &[u16],
+    places: &[u16],
+    held: &mut [u8],
+    counters: &mut [u8],
+    due: &mut [u8],
+    list: &mut [u16],
+)
+    requires { ⌜ Walk-site (rise .a) (rise .b) (rise .most) first size (now links) (now numbers) (now tail) (now places) ×
+        Walk-state (rise .a) (rise .b) (rise .most) first size (now links) (now tail) (now places) front taken
+        (now held) (now counters) (now due) (now list) ×
+        ((p ≡ head-or max-radios (neighbours-of (now due) 0)) × (p < first + front)) ⌝ }
+    ensures { λ _. ⌜ Walk-state (rise .a) (rise .b) (rise .most) first size (now (links .entry)) (now (tail .entry)) (now (places .entry))
+        front (taken + 1) (now (held .exit)) (now (counters .exit)) (now (due .exit)) (now (list .exit)) ⌝ }
+{
+    let mut row = [0u8; Site::ROW_BYTES];
+    let mut near = [0u16; Site::NEIGHBOURS as usize];
+    let v = tail[p - first];
+    held[v as usize] = 0;
+    list[taken] = v;
+    let call = Call {
+        up: true,
+        a: rise.a,
+        b: rise.b,
+        level: CANDIDATE,
+        most: rise.most,
+    };
+    turn::take_radio(
+        call,
+        p as u32,
+        v as u32,
+        links,
+        held,
+        places,
+        counters,
+        due,
+        &mut row,
+        &mut near,
+    );
+}
+
+// Takes the radios from the front to `until`, as they stand: no candidate is their neighbour.
+fn pass(front: usize, until: usize, taken: usize, tail: &[u16], list: &mut [u16])
+    requires { ⌜ (front ≤ until) × (until ≤ length (now tail)) × (taken + (until - front) ≤ length (now list)) ⌝ }
+    ensures { λ _. ⌜ now (list .exit) ≡ paste (now (list .entry)) taken (drop front (now (tail .entry))) (until - front) ⌝ }
+{
+    let end = taken + (until - front);
+    fill::copy16(&mut list[taken..end], &tail[front..until]);
+}
+
+// Where the next turn is, `STOP` when the walk is at its end.
+fn next(first: usize, size: usize, front: usize, taken: usize, due: &[u8]) -> usize
+    requires { ⌜ (first + front ≤ max-radios) × (length (now due) ≡ row-bytes) ⌝ }
+    ensures { λ r. ⌜ r ≡ next-place first size front taken (now (due .entry)) ⌝ }
+{
+    if front <= taken {
+        return STOP;
+    }
+    let p = rows::first_marked(due, 0) as usize;
+    if p < first + front {
+        return p;
+    }
+    // tested before the front is looked at: where nothing is due, p is 512, and so may the end of the part be
+    if size <= front {
+        return STOP;
+    }
+    p
+}
+
+// One turn at place p: a candidate is taken back, the front is looked at, or what stands before the next place due is passed.
+fn step(
+    rise: Rise,
+    first: usize,
+    size: usize,
+    p: usize,
+    front: usize,
+    taken: usize,
+    links: &[u8],
+    numbers: &[u8],
+    tail: &[u16],
+    places: &[u16],
+    held: &mut [u8],
+    counters: &mut [u8],
+    due: &mut [u8],
+    list: &mut [u16],
+) -> Reached
+    requires { ⌜ Walk-site (rise .a) (rise .b) (rise .most) first size (now links) (now numbers) (now tail) (now places) ×
+        Walk-state (rise .a) (rise .b) (rise .most) first size (now links) (now tail) (now places) front taken
+        (now held) (now counters) (now due) (now list) ×
+        ((p ≡ next-place first size front taken (now due)) × (p ≤ max-radios)) ⌝ }
+    ensures state { λ r. ⌜ Walk-state (rise .a) (rise .b) (rise .most) first size (now (links .entry)) (now (tail .entry))
+        (now (places .entry)) (r .front) (r .taken) (now (held .exit)) (now (counters .exit)) (now (due .exit)) (now (list .exit)) ⌝ }
+    ensures further { λ r. ⌜ (1 ≤ r .front) × (front + taken < r .front + r .taken) ⌝ }
+{
+    if p < first + front {
+        back(
+            rise,
+            first,
+            size,
+            p,
+            front,
+            taken,
+            links,
+            numbers,
+            tail,
+            places,
+            held,
+            counters,
+            due,
+            list,
+        );
+        return Reached {
+            front,
+            taken: taken + 1,
+        };
+    }
+    if p == first + front {
+        let taken = look(
+            rise,
+            first,
+            size,
+            front,
+            taken,
+            links,
+            numbers,
+            tail,
+            places,
+            held,
+            counters,
+            due,
+            list,
+        );
+        return Reached {
+            front: front + 1,
+            taken,
+        };
+    }
+    let until = fill::least(p - first, size);
+    pass(front, until, taken, tail, list);
+    Reached {
+        front: until,
+        taken: taken + (until - front),
+    }
+}
+
+// Walks the part: `size` entries of `tail`, which is the order from place `first` on. Writes what it went through, laid out anew, in
+// front of the list; later entries hold anything.
+pub(crate) fn walk(
+    rise: Rise,
+    first: usize,
+    size: usize,
+    links: &[u8],
+    numbers: &[u8],
+    tail: &[u16],
+    places: &[u16],
+    list: &mut [u16],
+) -> Plan
+    requires site { ⌜ Walk-site (rise .a) (rise .b) (rise .most) first size (now links) (now numbers) (now tail) (now places) ⌝ }
+    requires room { ⌜ size ≤ length (now list) ⌝ }
+    ensures start { λ r. ⌜ r .start ≡ first ⌝ }
+    ensures walked { λ r. ⌜ Walk-done (rise .a) (rise .b) (rise .most) first size (now (links .entry)) (now (tail .entry)) (r .size)
+        (r .taken) (now (list .exit)) ⌝ }
+{
+    let mut held = [0u8; Site::RADIOS as usize];
+    let mut counters = [0u8; Site::RADIOS as usize];
+    let mut due = [0u8; Site::ROW_BYTES];
+    let mut taken = look(
+        rise,
+        first,
+        size,
+        0,
+        0,
+        links,
+        numbers,
+        tail,
+        places,
+        &mut held,
+        &mut counters,
+        &mut due,
+        list,
+    );
+    let mut front: usize = 1;
+    let mut p = next(first, size, front, taken, &due);
+    while p < STOP {
+        let now = step(
+            rise,
+            first,
+            size,
+            p,
+            front,
+            taken,
+            links,
+            numbers,
+            tail,
+            places,
+            &mut held,
+            &mut counters,
+            &mut due,
+            list,
+        );
+        front = now.front;
+        taken = now.taken;
+        p = next(first, size, front, taken, &due);
+    }
+    super::stretch::list_stuck(0, front, rise.most, taken, tail, &counters, list);
+    Plan {
+        start: first,
+        size: front,
+        taken,
+    }
+}
+
+// The beginning end: the lower end, with equal numbers the earlier.
+pub(crate) fn beginning(a: usize, b: usize, numbers: &[u8], places: &[u16]) -> usize
+    requires { ⌜ (a < length (now numbers)) × (b < length (now numbers)) × (a < length (now places)) × (b < length (now places)) ⌝ }
+    ensures { λ r. ⌜ r ≡ beginning-end a b (now (numbers .entry)) (now (places .entry)) ⌝ }
+{
+    if numbers[a] < numbers[b] {
+        return a;
+    }
+    if numbers[b] < numbers[a] {
+        return b;
+    }
+    if places[a] < places[b] {
+        return a;
+    }
+    b
+}
+
+// Whether the beginning end, which stands at place `first`, has at most `most` later neighbours with the link: then nothing moves or rises.
+pub(crate) fn settled(
+    rise: Rise,
+    first: usize,
+    links: &[u8],
+    numbers: &[u8],
+    tail: &[u16],
+    places: &[u16],
+) -> bool
+    requires { ⌜ ((size : ℕ) × Walk-site (rise .a) (rise .b) (rise .most) first size (now links) (now numbers) (now tail) (now places)) ⌝ }
+    ensures { λ r. ⌜ r ≡ leb (count (joined (rise .a) (rise .b) first (now (links .entry)) (now (tail .entry)) (getD (now (tail .entry)) 0 0))
+        (drop 1 (now (tail .entry)))) (rise .most) ⌝ }
+{
+    let mut row = [0u8; Site::ROW_BYTES];
+    let mut near = [0u16; Site::NEIGHBOURS as usize];
+    let held = [0u8; Site::RADIOS as usize];
+    let v = tail[0];
+    let k = turn::neighbours_after(
+        true,
+        rise.a,
+        rise.b,
+        v as u32,
+        links,
+        &mut row,
+        &mut near,
+    ) as usize;
+    count_left(&near, k, rise.most, first as u16, numbers, places, &held) <= rise.most
+}
+
+// Whether the radio at place `first` stands first in its level.
+pub(crate) fn leads(first: usize, level: u8, numbers: &[u8], order: &[u16]) -> bool
+    requires { ⌜ (first ≤ length (now order)) × (first ≤ max-radios) ×
+        ((p : ℕ) → p < length (now order) → getD (now order) p 0 < length (now numbers)) ⌝ }
+    ensures { λ r. ⌜ r ≡ stands-first first level (now (numbers .entry)) (now (order .entry)) ⌝ }
+{
+    if first == 0 {
+        return true;
+    }
+    let v = order[first - 1] as usize;
+    numbers[v] < level
+}

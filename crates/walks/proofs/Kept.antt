@@ -1,0 +1,103 @@
+-- Entries before the beginning end's place never move: of every order after a link came up, by the contracts of the public calls.
+--   beginning-kept   the order of the definitions
+--   link-begins      after a link call
+--   commit-begins    after a committing
+use mathlib.Core.Path.{_≡_, refl, ap, _∙_}
+use mathlib.Core.Logic.{_⊎_, inl, inr}
+use mathlib.Core.Bool.{true, false, _||_}
+use mathlib.Core.List.{List, [], _∷_, _++_}
+use Prim.Native.Nat.{ℕ, _<_}
+use lib.Dec.{eqb}
+use lib.IntN.{ℤ}
+use lib.ListN.{length, getD, take}
+use lib.Seq.{take-at, getD-at}
+use borrow.Author.Tests.{eqb-true, eqb-false}
+use Rattle.mesh.specs.Limits.{max-neighbours}
+use Rattle.lists.specs.Lists.{In}
+use Rattle.mesh.specs.Graph.{Graph}
+use Rattle.mesh.specs.Cores.{number}
+use Rattle.mesh.specs.Levels.{new-order}
+use Rattle.mesh.specs.Tables.{Tables, graph-in}
+use Rattle.mesh.specs.Sound.{sound}
+use Rattle.mesh.specs.Valid.{Valid, Allowed}
+use Rattle.lists.proofs.Tests.{bool-cases}
+use Rattle.lists.proofs.Range.{once-in}
+use Rattle.mesh.proofs.Cores.KOrders.{k-order-certificate}
+use Rattle.mesh.proofs.Images.Tables.{valid-graph-in}
+use Rattle.calls.specs.Questions.{lengths-of, link-refusal, commit-refusal}
+use Rattle.calls.specs.Switches.{switched}
+use Rattle.calls.specs.Contracts.Links.{Link-accepted, Link-refused, Link-contract}
+use Rattle.calls.specs.Contracts.Proposals.{Commit-accepted, Commit-refused, Commit-contract}
+use Rattle.calls.specs.declared.Reply.{Reply}
+use Rattle.calls.proofs.ChainLaws.{link-zero, commit-zero}
+use Rattle.calls.proofs.Accepted.{accepted}
+use Rattle.walks.specs.Results.{before-ends, Beginning-kept}
+use Rattle.walks.proofs.Beginning as beginning
+
+-- a list cut at the first end that it has
+pub record Cut (a b : ℕ) (xs : List ℕ) : Type 0 where
+  pub end : ℕ
+  pub rest : List ℕ
+  pub whole : xs ≡ before-ends a b xs ++ end ∷ rest
+  pub is-end : (end ≡ a) ⊎ (end ≡ b)
+  pub no-end : (x : ℕ) → In x (before-ends a b xs) → (x ≡ a → ⊥) × (x ≡ b → ⊥)
+
+pub cut-at : (a b : ℕ) (xs : List ℕ) → In a xs → Cut a b xs
+unfolding before-ends
+cut-at a b [] m = absurd m
+cut-at a b (x ∷ xs) m = go (λ i. cut-at a b xs i) (bool-cases (eqb x a)) (bool-cases (eqb x b)) m
+  where
+    more : Cut a b xs → eqb x a ≡ false → eqb x b ≡ false → Cut a b (x ∷ xs)
+    more c ea eb = record {
+      end = c .end;
+      rest = c .rest;
+      whole = rw (ea, eb) (ap (λ (z : List ℕ). x ∷ z) (c .whole));
+      is-end = c .is-end;
+      no-end = rw (ea, eb) (before c ea eb);
+    }
+      where
+        before : Cut a b xs → eqb x a ≡ false → eqb x b ≡ false → (y : ℕ) → In y (x ∷ before-ends a b xs) → (y ≡ a → ⊥) × (y ≡ b → ⊥)
+        before c ea eb y (inl e) = (λ q. eqb-false x a ea (e ∙ q), λ q. eqb-false x b eb (e ∙ q))
+        before c ea eb y (inr i) = c .no-end y i
+
+    go : (In a xs → Cut a b xs) → (eqb x a ≡ true) ⊎ (eqb x a ≡ false) → (eqb x b ≡ true) ⊎ (eqb x b ≡ false) → In a (x ∷ xs) → Cut a b (x ∷ xs)
+    go rec (inl e) q m = record { end = x; rest = xs; whole = rw e refl; is-end = inl (eqb-true x a e); no-end = rw e (λ y i. absurd i) }
+    go rec (inr e) (inl q) m = record { end = x; rest = xs; whole = rw (e, q) refl; is-end = inr (eqb-true x b q); no-end = rw (e, q) (λ y i. absurd i) }
+    go rec (inr e) (inr q) (inl s) = absurd (eqb-false x a e s)
+    go rec (inr e) (inr q) (inr i) = more (rec i) e q
+
+pub beginning-kept : (a b : ℕ) (g : Graph) (xs : List ℕ) → Valid max-neighbours g xs → Allowed max-neighbours true a b g
+    → Beginning-kept a b g xs (new-order true a b g xs)
+beginning-kept a b g xs valid ok = at (cut-at a b xs (once-in (g .n) xs (k-order-certificate g xs (valid .k-order) .once) a (ok .a-radio)))
+  where
+    at : Cut a b xs → Beginning-kept a b g xs (new-order true a b g xs)
+    at c =
+        let ps = before-ends a b xs in
+        let stands : getD xs (length ps) 0 ≡ c .end = ap (λ (z : List ℕ). getD z (length ps) 0) (c .whole) ∙ getD-at ps (c .end) (c .rest) 0 (length ps) refl in
+        record {
+          kept = beginning.before-kept max-neighbours a b g xs valid ok ps (c .end) (c .rest) (c .whole) (c .is-end) (c .no-end)
+              ∙ ap (take (length ps)) (c .whole) ∙ take-at ps (c .end ∷ c .rest) (length ps) refl;
+          end = rw stands (c .is-end);
+          lower = rw stands (beginning.begins-low max-neighbours a b g xs valid ok ps (c .end) (c .rest) (c .whole) (c .is-end) (c .no-end));
+        }
+
+pub link-begins : (n a b : ℕ) (t : Tables) (w : List ℕ) (r : Reply) (v : Tables) (x : List ℕ) → Link-contract true n a b t w r v x → r .number ≡ 0
+    → Beginning-kept a b (graph-in n (t .links)) (t .order) (v .order)
+unfolding Link-contract graph-in sound
+link-begins n a b t w r v x d z =
+    let g = graph-in n (t .links) in
+    let c = accepted (link-refusal true n a b (lengths-of t) (length w) (sound n t) g) (Link-accepted true a b g t w r v x)
+    (λ q. Link-refused q t w r v x) (r .number) (λ q e. e .number) d z in
+    let good = link-zero true a b (lengths-of t) (length w) (sound n t) g (c .0) in
+    rw (c .1 .order) (beginning-kept a b g (t .order) (valid-graph-in max-neighbours n t (good .0 .lent .most) (good .0 .is-sound)) (good .1))
+
+pub commit-begins : (n a b : ℕ) (z : ℤ) (xs : List ℕ) (t : Tables) (r : Reply) (v : Tables) → Commit-contract true n a b z xs t r v → r .number ≡ 0
+    → Beginning-kept a b (graph-in n (t .links)) (t .order) (v .order)
+unfolding Commit-contract graph-in switched sound
+commit-begins n a b z xs t r v d y =
+    let g = graph-in n (t .links) in
+    let c = accepted (commit-refusal true n a b z xs (lengths-of t) (sound n t) g) (Commit-accepted true n a b t r v)
+    (λ q. Commit-refused q t r v) (r .number) (λ q e. e .number) d y in
+    let good = commit-zero true a b z xs (lengths-of t) (sound n t) g (c .0) in
+    let order : v .order ≡ new-order true a b g (t .order) = ap (λ (o : Tables). o .order) (c .1 .tables) in
+    rw order (beginning-kept a b g (t .order) (valid-graph-in max-neighbours n t (good .0 .lent .most) (good .0 .is-sound)) (good .1))
