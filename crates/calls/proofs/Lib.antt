@@ -11,11 +11,16 @@ pub mod RecordLaws
 pub mod SheetLaws
 pub mod Outcomes
 pub mod Refusals
-pub mod Total
+pub mod Accepted
+pub mod MarkCalls
+pub mod MarkOutcomes
 pub mod LinkKept
 pub mod Holds
 pub mod Steps
+pub mod Histories
 pub mod WholeList
+pub mod HistoryRestored
+pub mod Total
 pub mod Exactly
 pub mod Proposals
 pub mod FormerDemand
@@ -24,6 +29,5 @@ pub mod WorkedState
 pub mod WorkedLaws
 pub mod Cases
 pub mod SheetCases
-pub mod Accepted
 pub mod ImageNumbers
 pub mod Older

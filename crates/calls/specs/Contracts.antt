@@ -11,3 +11,4 @@ pub mod Trees
 pub mod Staircase
 pub mod Images
 pub mod Pages
+pub mod Marks

@@ -16,7 +16,8 @@ use Rattle.calls.specs.Contracts.Sites.{Clear-contract}
 use Rattle.calls.specs.Contracts.Links.{Link-contract}
 use Rattle.calls.specs.Contracts.Proposals.{Commit-contract}
 use Rattle.calls.specs.Contracts.Images.{Read-contract}
-use Rattle.calls.specs.Book.{Call, clearing, reading, linking, committing, other, Given, given, Answer, plain}
+use Rattle.calls.specs.Contracts.Marks.{Set-contract, Remove-contract, Return-contract}
+use Rattle.calls.specs.Book.{Call, clearing, reading, linking, committing, setting, removing, returning, other, Given, given, Answer, plain}
 use Rattle.calls.specs.declared.Reply.{Reply}
 
 -- ---- one call
@@ -56,12 +57,37 @@ pub record Committing-done (up : Bool) (n a b : ℕ) (step : ℤ) (list : List �
   pub contract : Commit-contract up n a b step list t result v
   pub answer : hs ≡ replied result ∷ []
 
+-- a mark set: its number is its answer; the tables are lent to be read, `after` is the store after it
+pub record Setting-done (n : ℕ) (x bs : List ℕ) (t : Tables) (hs : List Answer) (v : Tables) : Type 0 where
+  pub result : ℕ
+  pub after : List ℕ
+  pub contract : Set-contract n x t bs result after
+  pub left : v ≡ t
+  pub answer : hs ≡ plain result ∷ []
+
+-- a mark removed
+pub record Removing-done (n : ℕ) (x bs : List ℕ) (t : Tables) (hs : List Answer) (v : Tables) : Type 0 where
+  pub result : ℕ
+  pub after : List ℕ
+  pub contract : Remove-contract n x t bs result after
+  pub left : v ≡ t
+  pub answer : hs ≡ plain result ∷ []
+
+-- a coming back: its number is its answer
+pub record Returning-done (n : ℕ) (x bs : List ℕ) (t : Tables) (hs : List Answer) (v : Tables) : Type 0 where
+  pub result : ℕ
+  pub contract : Return-contract n x bs t result v
+  pub answer : hs ≡ plain result ∷ []
+
 -- any other call leaves the tables as they were; what it answers is not compared
 unfoldable pub Does : Call → (t : Tables) → (answers : List Answer) → (v : Tables) → Type 0
 Does (clearing n) t hs v = Clearing-done n t hs v
 Does (reading n bs) t hs v = Reading-done n bs t hs v
 Does (linking up n a b w) t hs v = Linking-done up n a b w t hs v
 Does (committing up n a b z xs) t hs v = Committing-done up n a b z xs t hs v
+Does (setting n x bs) t hs v = Setting-done n x bs t hs v
+Does (removing n x bs) t hs v = Removing-done n x bs t hs v
+Does (returning n x bs) t hs v = Returning-done n x bs t hs v
 Does other t hs v = (v ≡ t) × (hs ≡ [])
 
 -- ---- a list of calls
