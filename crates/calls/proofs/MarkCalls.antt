@@ -195,7 +195,7 @@ other-marks n x t bs r cs y (inr d) h = removed-others n x t bs r cs y d h
 -- ---- coming back
 
 -- an image of sound tables passes its checks
-image-blocks : (n : ℕ) (bs : List ℕ) → is-image n bs ≡ true → Blocks-good bs
+pub image-blocks : (n : ℕ) (bs : List ℕ) → is-image n bs ≡ true → Blocks-good bs
 image-blocks n bs i =
     let g = image-graph n bs in
     let xs = image-order n bs in

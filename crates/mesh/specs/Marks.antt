@@ -1,7 +1,7 @@
 -- Named marks (W-211): a lent store of 8 places, each a name, an image of sound tables and zeros to its end.
 --   name-bytes, place-bytes, places, store-bytes   sizes
---   is-letter c        A to Z, 0 to 9
---   is-name x          8 bytes: letters, at least one, then spaces
+--   is-alphanumeric c        A to Z, 0 to 9
+--   is-name x          8 bytes: A to Z and 0 to 9, at least one, then spaces
 --   before x y         x stands before y, by bytes
 --   name-in p          the name of the place p
 --   image-size n bs    how many bytes the image at the front of bs has, by its own count of links
@@ -47,16 +47,16 @@ store-bytes = 352320
 
 -- ---- names
 
-unfoldable pub is-letter : ℕ → Bool
-is-letter c = (leb 65 c && leb c 90) || (leb 48 c && leb c 57)
+unfoldable pub is-alphanumeric : ℕ → Bool
+is-alphanumeric c = (leb 65 c && leb c 90) || (leb 48 c && leb c 57)
 
-unfoldable pub letters-then-spaces : List ℕ → Bool
-letters-then-spaces [] = true
-letters-then-spaces (c ∷ cs) =
-    let rest = letters-then-spaces cs in cond (is-letter c) rest (all (λ d. eqb d 32) (c ∷ cs))
+unfoldable pub alphanumerics-then-spaces : List ℕ → Bool
+alphanumerics-then-spaces [] = true
+alphanumerics-then-spaces (c ∷ cs) =
+    let rest = alphanumerics-then-spaces cs in cond (is-alphanumeric c) rest (all (λ d. eqb d 32) (c ∷ cs))
 
 unfoldable pub is-name : List ℕ → Bool
-is-name x = eqb (length x) name-bytes && (is-letter (getD x 0 0) && letters-then-spaces x)
+is-name x = eqb (length x) name-bytes && (is-alphanumeric (getD x 0 0) && alphanumerics-then-spaces x)
 
 unfoldable pub before : (x y : List ℕ) → Bool
 before x [] = false

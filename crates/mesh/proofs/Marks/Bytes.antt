@@ -131,7 +131,7 @@ module _ (ps : List (List ℕ)) (s : Sized ps) (few : length ps ≤ places) wher
   more-zeros : (k w : ℕ) → length ps ≡ suc k → w ≡ place-bytes → replicate w 0 ++ zeros (places - length ps) ≡ zeros (places - k)
   more-zeros k w e h =
       let f : w + place-bytes * (places - length ps) ≡ place-bytes * (places - k) = omega arith in
-      replicate-append-replicate w (place-bytes * (places - length ps)) 0 ∙ ap (λ (j : ℕ). replicate j 0) f
+      rw (replicate-append-replicate {A = ℕ} w (place-bytes * (places - length ps)) 0, f)
 
   -- the places without place r, and zeros behind
   without : (r k : ℕ) → r < length ps → length ps ≡ suc k →
@@ -139,7 +139,7 @@ module _ (ps : List (List ℕ)) (s : Sized ps) (few : length ps ≤ places) wher
   unfolding store-of
   without r k l e =
       let m : places - k ≡ places - length (take r ps ++ drop (suc r) ps) =
-          omega (arith, length-append (take r ps) (drop (suc r) ps), length-take-le r ps (omega arith), length-drop (suc r) ps) in
+      omega (arith, length-append (take r ps) (drop (suc r) ps), length-take-le r ps (omega arith), length-drop (suc r) ps) in
       ap₂ {C = List ℕ} (λ xs j. xs ++ zeros j) (sym (joined-append (take r ps) (drop (suc r) ps))) m
 
   pub taken-out : (r k w : ℕ) → r < length ps → length ps ≡ suc k → w ≡ place-bytes →
@@ -154,12 +154,12 @@ module _ (ps : List (List ℕ)) (s : Sized ps) (few : length ps ≤ places) wher
       let i : place-bytes * suc r - place-bytes ≡ place-bytes * r = omega arith in
       let j : place-bytes * length ps - place-bytes + place-bytes ≡ place-bytes * length ps = omega arith in
       let ds : take (place-bytes * suc r - place-bytes) bs ++ (take (place-bytes * length ps - place-bytes * suc r) (drop (place-bytes * suc r) bs) ++ X) ≡ (A ++ C) ++ X =
-          ap₂ {C = List ℕ} (λ xs ys. xs ++ (ys ++ X)) (ap (λ (m : ℕ). take m bs) i ∙ first-part r (omega arith)) (used-part (suc r) (omega arith))
-          ∙ sym (append-assoc A C X) in
+      ap₂ {C = List ℕ} (λ xs ys. xs ++ (ys ++ X)) (ap (λ (m : ℕ). take m bs) i ∙ first-part r (omega arith)) (used-part (suc r) (omega arith))
+      ∙ sym (append-assoc A C X) in
       let long : length (A ++ C) ≡ place-bytes * k = omega (arith, length-append A C, first-long r (omega arith), later-long (suc r)) in
       let rest : drop (place-bytes * k + place-bytes) ((A ++ C) ++ X) ≡ zeros (places - length ps) =
-          sym (drop-drop place-bytes (place-bytes * k) ((A ++ C) ++ X)) ∙ ap (drop place-bytes) (drop-at (A ++ C) X (place-bytes * k) long)
-          ∙ drop-drop place-bytes (place-bytes * length ps - place-bytes) bs ∙ ap (λ (m : ℕ). drop m bs) j ∙ unused-part in
+      sym (drop-drop place-bytes (place-bytes * k) ((A ++ C) ++ X)) ∙ ap (drop place-bytes) (drop-at (A ++ C) X (place-bytes * k) long)
+      ∙ drop-drop place-bytes (place-bytes * length ps - place-bytes) bs ∙ ap (λ (m : ℕ). drop m bs) j ∙ unused-part in
       ap (λ (xs : List ℕ). take (place-bytes * k) xs ++ (replicate w 0 ++ drop (place-bytes * k + place-bytes) xs)) ds
       ∙ ap₂ {C = List ℕ} (λ xs ys. xs ++ (replicate w 0 ++ ys)) (take-at (A ++ C) X (place-bytes * k) long) rest
       ∙ ap (λ (xs : List ℕ). (A ++ C) ++ xs) (more-zeros k w e h)

@@ -20,7 +20,7 @@ use Rattle.mesh.specs.Limits.{max-radios, max-neighbours}
 use Rattle.lists.specs.Lists.{all, same}
 use Rattle.mesh.specs.Graph.{Graph}
 use Rattle.mesh.specs.Image.{block-bytes, block-count, word-at, image-of, image-links, image-graph, image-order, is-image}
-use Rattle.mesh.specs.Marks.{name-bytes, place-bytes, places, store-bytes, is-letter, is-name, before, is-zeros, name-in, image-size, image-in, is-mark, place-of, places-of, used, marks-in, are-marks, is-store, store-of}
+use Rattle.mesh.specs.Marks.{name-bytes, place-bytes, places, store-bytes, is-alphanumeric, is-name, before, is-zeros, name-in, image-size, image-in, is-mark, place-of, places-of, used, marks-in, are-marks, is-store, store-of}
 use Rattle.lists.proofs.Tests.{bool-cases, never, and-left, and-right, and-both, or-cases}
 use Rattle.mesh.proofs.Tables.DegreeSum.{block-count-most}
 use Rattle.mesh.proofs.Tables.Sites.{image-valid}
@@ -52,9 +52,9 @@ zeros-take (suc k) [] h = refl
 zeros-take (suc k) (b ∷ bs) h =
     and-both (eqb b 0) (is-zeros (take k bs)) (and-left (eqb b 0) (is-zeros bs) h) (zeros-take k bs (and-right (eqb b 0) (is-zeros bs) h))
 
-letter-more : (c : ℕ) → is-letter c ≡ true → 0 < c
-unfolding is-letter
-letter-more c h = go (or-cases (leb 65 c && leb c 90) (leb 48 c && leb c 57) h)
+alphanumeric-more : (c : ℕ) → is-alphanumeric c ≡ true → 0 < c
+unfolding is-alphanumeric
+alphanumeric-more c h = go (or-cases (leb 65 c && leb c 90) (leb 48 c && leb c 57) h)
   where
     go : ((leb 65 c && leb c 90) ≡ true) ⊎ ((leb 48 c && leb c 57) ≡ true) → 0 < c
     go (inl e) = omega (arith, leb-true 65 c (and-left (leb 65 c) (leb c 90) e))
@@ -70,8 +70,8 @@ unfolding is-zeros all is-name name-in
 mark-nonzero n [] h = never false (mark-name n [] h) refl
 mark-nonzero n (c ∷ p) h =
     let k = mark-name n (c ∷ p) h in
-    let l = and-left (is-letter c) _ (and-right (eqb (length (take 8 (c ∷ p))) 8) _ k) in
-    rw (ne-eqb c 0 (λ e. omega (arith, letter-more c l)))
+    let l = and-left (is-alphanumeric c) _ (and-right (eqb (length (take 8 (c ∷ p))) 8) _ k) in
+    rw (ne-eqb c 0 (λ e. omega (arith, alphanumeric-more c l)))
 
 -- ---- places
 

@@ -130,7 +130,7 @@ good-rules n bs len h =
     let r = s .marks .rising in
     let z = and-right (are-marks n [] ps) (is-zeros (drop (place-bytes * length ps) bs)) h in
     let up : (i j : ℕ) → i < j → j < length ps → before (name-at bs i) (name-at bs j) ≡ true = λ i j l m.
-        ap₂ before (sym (name i (omega arith))) (sym (name j m)) ∙ rising-pair n [] ps r i j l m in
+    ap₂ before (sym (name i (omega arith))) (sym (name j m)) ∙ rising-pair n [] ps r i j l m in
     record {
       used = length ps;
       few = s .marks .few;
