@@ -3,15 +3,15 @@ use mathlib.Core.Path.{_≡_, refl, sym, ap, ap₂, _∙_}
 use mathlib.Core.Logic.{_⊎_, inl, inr}
 use mathlib.Core.Bool.{Bool, true, false, _&&_, _||_, cond, or-false, and-true, and-assoc}
 use mathlib.Core.List.{List, [], _∷_}
-use Prim.Native.Nat.{ℕ, zero, suc, _+_, _*_, _-_, _^_, _≤_, _<_, bitOr}
+use Prim.Native.Nat.{ℕ, zero, suc, _+_, _*_, _-_, _^_, _≤_, _<_}
 use native.Mathlib.Omega.{arith}
 use lib.Dec.{ltb, leb, eqb}
 use lib.ListN.{length, getD, take, drop, length-drop, drop-of-length-le}
 use lib.Seq.{drop-cons, getD-drop, take-all}
-use lib.Bits.{or-zero-l, or-add-and, and-le-r}
+use lib.Bits.{bitOr, or-zero-l, or-add-and, and-le-r}
 use borrow.Author.Tests.{eqb-true, eqb-false, ltb-true, lt-ltb, le-ltb, eq-eqb, ne-eqb, le-leb, lt-leb}
 use Rattle.lists.specs.Lists.{all}
-use Rattle.lists.proofs.Tests.{iff-eq, or-right, bool-cases}
+use Rattle.lists.proofs.Tests.{iff-eq, or-right, bool-cases, and-both}
 use Rattle.mesh.specs.Image.{block-bytes, block-count, order-blocks, blocks-for, word-at}
 use Rattle.mesh.specs.Marks.{name-bytes, is-alphanumeric, alphanumerics-then-spaces, is-zeros, before, image-size}
 
@@ -134,9 +134,10 @@ or-zero : (a b : ℕ) → eqb (bitOr a b) 0 ≡ (eqb a 0 && eqb b 0)
 or-zero a b = go (bool-cases (eqb a 0)) (bool-cases (eqb b 0))
   where
     go : (eqb a 0 ≡ true) ⊎ (eqb a 0 ≡ false) → (eqb b 0 ≡ true) ⊎ (eqb b 0 ≡ false) → eqb (bitOr a b) 0 ≡ (eqb a 0 && eqb b 0)
-    go (inl p) (inl q) = rw (eqb-true a 0 p, eqb-true b 0 q, or-zero-l 0)
-    go (inl p) (inr q) = rw (eqb-true a 0 p, or-zero-l b, q)
-    go (inr p) q = rw p (ne-eqb (bitOr a b) 0 (λ e. eqb-false a 0 p (omega (arith, or-add-and a b, and-le-r a b))))
+    go (inl p) (inl q) = ap (λ (x : ℕ). eqb x 0) (ap₂ bitOr (eqb-true a 0 p) (eqb-true b 0 q) ∙ or-zero-l 0) ∙ sym (and-both (eqb a 0) (eqb b 0) p q)
+    go (inl p) (inr q) = ap (λ (x : ℕ). eqb x 0) (ap (λ (x : ℕ). bitOr x b) (eqb-true a 0 p) ∙ or-zero-l b) ∙ sym (ap (λ (t : Bool). t && eqb b 0) p)
+    go (inr p) q =
+        ne-eqb (bitOr a b) 0 (λ e. eqb-false a 0 p (omega (arith, e, or-add-and a b, and-le-r a b))) ∙ sym (ap (λ (t : Bool). t && eqb b 0) p)
 
 -- the first i bytes are joined
 abbrev pub Joining : (bytes : List ℕ) → (joined i : ℕ) → Type 0

@@ -9,7 +9,7 @@ use lib.Seq.{drop-cons, drop-drop}
 use borrow.Author.Tests.{eqb-true, eq-eqb, ne-eqb}
 use Rattle.lists.specs.Lists.{same}
 use Rattle.mesh.specs.Limits.{size-good}
-use Rattle.mesh.specs.Marks.{name-bytes, place-bytes, places, store-bytes, before, is-zeros, name-in, is-mark, places-of, used, marks-in, are-marks, is-store, rank, heads}
+use Rattle.mesh.specs.Marks.{name-bytes, place-bytes, places, store-bytes, before, is-name, is-zeros, name-in, is-mark, places-of, used, marks-in, are-marks, is-store, rank, heads}
 use Rattle.mesh.specs.Marks.{place-at, name-at}
 use Rattle.mesh.proofs.Marks.Rules.{mark-at, name-of-place}
 use Rattle.calls.specs.Questions.{ask, Lengths, site-refusal}
@@ -245,9 +245,22 @@ module _ (n : ℕ) (l : Lengths) (sound : Bool) (x bs : List ℕ) (q : ℕ) (e :
   pub site-is-good : q ≡ 0 → Site-good n l (store-length bs) sound
   site-is-good h = site-zero n l (store-length bs) sound 0 (sym e ∙ h) .0
 
-  pub asked-17 : q ≡ 0 → (t : Bool) → t ≡ marks-good n x bs → ask 17 t 0 ≡ mark-refusal n l sound x bs 0
+  -- 17
+  asked-17 : q ≡ 0 → (t : Bool) → marks-good n x bs ≡ t → ask 17 t 0 ≡ mark-refusal n l sound x bs 0
   unfolding mark-refusal
-  asked-17 h t f = ap (λ (b : Bool). ask 17 b 0) f ∙ sym (site-yes n l (store-length bs) sound (ask 17 (marks-good n x bs) 0) (site-is-good h))
+  asked-17 h t f = sym (ap (λ (b : Bool). ask 17 b 0) f) ∙ sym (site-yes n l (store-length bs) sound (ask 17 (marks-good n x bs) 0) (site-is-good h))
+
+  pub not-store : q ≡ 0 → is-store n bs ≡ false → 17 ≡ mark-refusal n l sound x bs 0
+  unfolding marks-good ask
+  not-store h f = asked-17 h false (ap (λ (b : Bool). b && is-name x) f)
+
+  pub not-named : q ≡ 0 → is-store n bs ≡ true → is-name x ≡ false → 17 ≡ mark-refusal n l sound x bs 0
+  unfolding marks-good ask
+  not-named h f g = asked-17 h false (ap₂ {C = Bool} (λ b d. b && d) f g)
+
+  pub all-good : q ≡ 0 → is-store n bs ≡ true → is-name x ≡ true → 0 ≡ mark-refusal n l sound x bs 0
+  unfolding marks-good ask
+  all-good h f g = asked-17 h true (ap₂ {C = Bool} (λ b d. b && d) f g)
 
 pub good-size : (n : ℕ) (l : Lengths) (others sound : Bool) → Site-good n l others sound → size-good n ≡ true
 good-size n l others sound g = true-size-good n (g .lent .least) (g .lent .most)

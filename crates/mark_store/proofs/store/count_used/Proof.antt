@@ -9,7 +9,7 @@ use Rattle.mark_store.proofs.store.count_used.Statement.{statement}
 use Rattle.mark_store.proofs.store.count_used.Tie as tie
 use Rattle.mark_store.proofs.store.count_used.Reads as reads
 use Rattle.mark_store.proofs.store.count_used.Lts as lts
-use Rattle.mark_store.proofs.bytes.are_all.Reads as are-all-reads
+use Rattle.mark_store.proofs.bytes.are_zeros.Reads as are-zeros-reads
 
 abbrev Inv-loop : tie.InvT-loop
 Inv-loop store i₀ i = Counting store i
@@ -30,26 +30,26 @@ add-end : tie.Need-add-end Inv-loop μ-loop
 add-end c = search needs
 
 -- src/store.rt:25:27
-sub-are-all : tie.Need-sub-are-all Inv-loop μ-loop
-sub-are-all c = search needs
+sub-are-zeros : tie.Need-sub-are-zeros Inv-loop μ-loop
+sub-are-zeros c = search needs
 
 -- src/store.rt:25:27
-part-are-all-start : tie.Need-part-are-all-start Inv-loop μ-loop
-part-are-all-start c = search needs
+part-are-zeros-start : tie.Need-part-are-zeros-start Inv-loop μ-loop
+part-are-zeros-start c = search needs
 
 -- src/store.rt:25:27
-part-are-all-end : tie.Need-part-are-all-end Inv-loop μ-loop
-part-are-all-end c = search needs
+part-are-zeros-end : tie.Need-part-are-zeros-end Inv-loop μ-loop
+part-are-zeros-end c = search needs
 
 -- src/store.rt:25:12
-are-all-requires : tie.Need-are-all-requires Inv-loop μ-loop
-are-all-requires c κs = search needs
+are-zeros-requires : tie.Need-are-zeros-requires Inv-loop μ-loop
+are-zeros-requires c κs = search needs
 
 -- src/store.rt:26:13
 returns : tie.Need-returns Inv-loop μ-loop
 returns c =
     let at-loop = c .before .before .before .before in
-    (counting-stop _ (at-loop .loop .i) (c .before .are-all .result) (at-loop .loop .inv) (omega arith) (c .before .are-all .ensures) (c .if1 .taken), at-loop .loop .inv .low)
+    (counting-stop _ (at-loop .loop .i) (c .before .are-zeros .result) (at-loop .loop .inv) (omega arith) (c .before .are-zeros .ensures) (c .if1 .taken), at-loop .loop .inv .low)
 
 -- src/store.rt:28:9
 add-i : tie.Need-add-i Inv-loop μ-loop
@@ -63,7 +63,7 @@ loop-less c = search needs
 loop-again : tie.Need-loop-again Inv-loop μ-loop
 loop-again c =
     let at-loop = c .before .before .before .before in
-    counting-turn _ (at-loop .loop .i) (c .before .are-all .result) (at-loop .loop .inv) (omega arith) (c .before .are-all .ensures) (c .if1 .left)
+    counting-turn _ (at-loop .loop .i) (c .before .are-zeros .result) (at-loop .loop .inv) (omega arith) (c .before .are-zeros .ensures) (c .if1 .left)
 
 -- src/store.rt:17:1
 returns-2 : tie.Need-returns-2 Inv-loop μ-loop
@@ -78,10 +78,10 @@ count-used-spec =
     loop-holds
     mul-at
     add-end
-    sub-are-all
-    part-are-all-start
-    part-are-all-end
-    are-all-requires
+    sub-are-zeros
+    part-are-zeros-start
+    part-are-zeros-end
+    are-zeros-requires
     returns
     add-i
     loop-less

@@ -10,7 +10,7 @@ use Rattle.mark_store.proofs.store.is_store.Statement.{statement}
 use Rattle.mark_store.proofs.store.is_store.Tie as tie
 use Rattle.mark_store.proofs.store.is_store.Reads as reads
 use Rattle.mark_store.proofs.store.is_store.Lts as lts
-use Rattle.mark_store.proofs.bytes.are_all.Reads as are-all-reads
+use Rattle.mark_store.proofs.bytes.are_zeros.Reads as are-zeros-reads
 use Rattle.mark_store.proofs.places.is_mark.Reads as is-mark-reads
 use Rattle.mark_store.proofs.store.count_used.Reads as count-used-reads
 use Rattle.mark_store.proofs.store.is_rising.Reads as is-rising-reads
@@ -101,26 +101,26 @@ mul-rest : tie.Need-mul-rest Inv-loop μ-loop
 mul-rest c = search needs
 
 -- src/store.rt:67:20
-sub-are-all : tie.Need-sub-are-all Inv-loop μ-loop
-sub-are-all c = search needs
+sub-are-zeros : tie.Need-sub-are-zeros Inv-loop μ-loop
+sub-are-zeros c = search needs
 
 -- src/store.rt:67:20
-part-are-all-start : tie.Need-part-are-all-start Inv-loop μ-loop
-part-are-all-start c = search needs
+part-are-zeros-start : tie.Need-part-are-zeros-start Inv-loop μ-loop
+part-are-zeros-start c = search needs
 
 -- src/store.rt:67:20
-part-are-all-end : tie.Need-part-are-all-end Inv-loop μ-loop
-part-are-all-end c = search needs
+part-are-zeros-end : tie.Need-part-are-zeros-end Inv-loop μ-loop
+part-are-zeros-end c = search needs
 
 -- src/store.rt:67:5
-are-all-requires : tie.Need-are-all-requires Inv-loop μ-loop
-are-all-requires c κs = search needs
+are-zeros-requires : tie.Need-are-zeros-requires Inv-loop μ-loop
+are-zeros-requires c κs = search needs
 
 -- src/store.rt:49:1
 returns-3 : tie.Need-returns-3 Inv-loop μ-loop
 returns-3 c =
     let at-loop = c .before .before .before in
-    store-tested _ _ (at-loop .loop .i) _ (c .are-all .result) (at-loop .loop .inv) (omega arith) (at-loop .before .count-used .ensures .0) (c .are-all .ensures)
+    store-tested _ _ (at-loop .loop .i) _ (c .are-zeros .result) (at-loop .loop .inv) (omega arith) (at-loop .before .count-used .ensures .0) (c .are-zeros .ensures)
 
 pub is-store-spec : {M : Type 1} → statement M
 is-store-spec =
@@ -143,8 +143,8 @@ is-store-spec =
     loop-less
     loop-again
     mul-rest
-    sub-are-all
-    part-are-all-start
-    part-are-all-end
-    are-all-requires
+    sub-are-zeros
+    part-are-zeros-start
+    part-are-zeros-end
+    are-zeros-requires
     returns-3)
