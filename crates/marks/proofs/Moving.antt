@@ -1,11 +1,11 @@
 -- Bytes being moved by one place: laws of one step of both loops.
 --   up-none, up-turn       from the last byte on: those from i on are moved
 --   down-none, down-turn   from the first byte on: those before i are moved
-use mathlib.Core.Path.{_≡_, refl, sym, ap, ap₂, _∙_}
+use mathlib.Core.Path.{_≡_, refl, sym, ap, ap₂, subst, _∙_}
 use mathlib.Core.List.{List, [], _∷_, _++_, append-assoc}
 use Prim.Native.Nat.{ℕ, zero, suc, _+_, _-_, _≤_, _<_}
 use native.Mathlib.Omega.{arith}
-use lib.ListN.{length, getD, take, drop, set, length-append, length-take, length-drop, take-append-drop}
+use lib.ListN.{length, getD, take, drop, set, length-append, length-take, length-drop, length-set, take-append-drop}
 use lib.Seq.{take-suc, drop-cons, length-take-le, getD-take, getD-drop, set-at, paste, paste-zero, paste-suc, length-paste-head, getD-append-add}
 use Rattle.mesh.specs.Marks.{place-bytes, moved-up, moved-down}
 
@@ -108,3 +108,45 @@ down-turn bs now from i l h m e =
     ap₂ {C = List ℕ} (λ k y. set now k y) w v ∙ ap (λ (ys : List ℕ). set ys (a + j) (getD (drop from bs) j 0)) (e ∙ down-is bs from i l h)
     ∙ paste-suc bs a (drop from bs) j 0 (omega arith) (omega (arith, length-drop from bs)) ∙ ap (paste bs a (drop from bs)) s
     ∙ sym (down-is bs from (i + 1) l (omega arith))
+
+-- ---- invariants
+
+pub record Moving-up (bs now : List ℕ) (from to i : ℕ) : Type 0 where
+  pub low : from ≤ i
+  pub high : i ≤ to
+  pub long : length now ≡ length bs
+  pub is : now ≡ moved-up bs i to
+
+pub moving-up-turn : (bs now : List ℕ) (from to i : ℕ) → to + place-bytes ≤ length bs → Moving-up bs now from to i → from < i →
+    Moving-up bs (set now (i - 1 + place-bytes) (getD now (i - 1) 0)) from to (i - 1)
+moving-up-turn bs now from to zero h m l = absurd (omega arith)
+moving-up-turn bs now from to (suc j) h m l =
+    let e : j ≡ suc j - 1 = omega arith in
+    subst (λ (k : ℕ). Moving-up bs (set now (k + place-bytes) (getD now k 0)) from to k) e
+    (record {
+      low = omega arith;
+      high = omega (arith, m .high);
+      long = simp length-set (m .long);
+      is = up-turn bs now j to (m .high) h (m .is);
+    })
+
+pub moving-up-end : (bs now : List ℕ) (from to i : ℕ) → Moving-up bs now from to i → i ≤ from → now ≡ moved-up bs from to
+moving-up-end bs now from to i m l = let e : i ≡ from = omega (arith, m .low) in m .is ∙ ap (λ (k : ℕ). moved-up bs k to) e
+
+pub record Moving-down (bs now : List ℕ) (from to i : ℕ) : Type 0 where
+  pub low : from ≤ i
+  pub high : i ≤ to
+  pub long : length now ≡ length bs
+  pub is : now ≡ moved-down bs from i
+
+pub moving-down-turn : (bs now : List ℕ) (from to i : ℕ) → place-bytes ≤ from → to ≤ length bs → Moving-down bs now from to i → i < to →
+    Moving-down bs (set now (i - place-bytes) (getD now i 0)) from to (i + 1)
+moving-down-turn bs now from to i p h m l = record {
+  low = omega (arith, m .low);
+  high = omega arith;
+  long = simp length-set (m .long);
+  is = down-turn bs now from i p (m .low) (omega arith) (m .is);
+}
+
+pub moving-down-end : (bs now : List ℕ) (from to i : ℕ) → Moving-down bs now from to i → to ≤ i → now ≡ moved-down bs from to
+moving-down-end bs now from to i m l = let e : i ≡ to = omega (arith, m .high) in m .is ∙ ap (moved-down bs from) e

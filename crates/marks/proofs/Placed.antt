@@ -2,9 +2,11 @@
 --   placed       so the place is the mark of the name and the tables
 --   placed-at    put into place i of a store
 use mathlib.Core.Path.{_≡_, refl, sym, ap, ap₂, _∙_}
+use mathlib.Core.Bool.{true}
 use mathlib.Core.List.{List, [], _∷_, _++_, append-nil}
 use Prim.Native.Nat.{ℕ, _+_, _*_, _-_, _≤_, _<_}
 use native.Mathlib.Omega.{arith}
+use lib.Dec.{eqb}
 use lib.ListN.{length, take, drop, replicate, length-append, length-drop, length-replicate, drop-of-length-le}
 use lib.Seq.{take-at, drop-at, drop-drop, take-all}
 use borrow.Author.Tests.{eqb-true}
@@ -15,14 +17,17 @@ use Rattle.lists.proofs.Parts.{drop-replicate}
 use Rattle.mesh.specs.Tables.{Tables, graph-in}
 use Rattle.mesh.specs.Sound.{sound}
 use Rattle.mesh.specs.Image.{image-of}
-use Rattle.mesh.specs.Marks.{name-bytes, place-bytes, is-name, place-of}
-use Rattle.mesh.proofs.Marks.Laws.{length-name}
+use Rattle.mesh.specs.Marks.{name-bytes, place-bytes, is-alphanumeric, alphanumerics-then-spaces, is-name, place-of}
 use Rattle.calls.specs.Questions.{lengths-of, write-refusal, image-length}
 use Rattle.calls.specs.Contracts.Forms.{Listing-accepted, Listing-refused}
 use Rattle.calls.specs.Contracts.Images.{Write-contract}
 use Rattle.calls.specs.declared.Value.{Value}
 use Rattle.calls.proofs.ContractLaws.{by-zero}
 use Rattle.marks.specs.Placing.{Markable, mark-place, put-place}
+
+length-name : (x : List ℕ) → is-name x ≡ true → length x ≡ name-bytes
+unfolding is-name
+length-name x h = eqb-true (length x) name-bytes (and-left (eqb (length x) name-bytes) _ h)
 
 module _ (n : ℕ) (t : Tables) (x : List ℕ) (k : Markable n t x) (len : ℕ) (long : len ≡ place-bytes) (z y : List ℕ) (zeros : z ≡ replicate len 0)
     (named : y ≡ overwrite (take (length z) x) z) where
