@@ -16,7 +16,7 @@ use lib.Dec.{ltb}
 use lib.ListN.{length}
 use borrow.Author.Tests.{eqb-true, ltb-true}
 use Rattle.mesh.specs.Limits.{max-radios}
-use Rattle.lists.specs.Lists.{same}
+use Rattle.lists.specs.Lists.{same, Entries-below}
 use Rattle.mesh.specs.Graph.{Graph}
 use Rattle.mesh.specs.Cores.{numbers}
 use Rattle.mesh.specs.Tables.{Tables, tables-of, graph-in}
@@ -235,15 +235,18 @@ return-right n x bs t v d =
     let c = by-accepted (read-refusal n (lengths-of t) (mark-image n x bs)) (λ q. Tables-refused q 0 t v) (mark-read n (lengths-of t) (sound n t) x bs (q .0) (q .1)) (a .1) in
     (c, read-right n (mark-image n x bs) t 0 v c refl)
 
--- set with the tables t, then any calls that leave the mark: coming back restores t
+-- set with the tables t, later the store has the same place under that name: coming back restores t. That their links are bytes is all that
+-- is asked of them
 pub return-restores :
-    (n : ℕ) (x : List ℕ) (t u v : Tables) (bs cs ds : List ℕ) → Tables-of-size n t → Set-contract n x t bs 0 cs → Same-mark x cs ds →
+    (n : ℕ) (x : List ℕ) (t u v : Tables) (bs cs ds : List ℕ) → Entries-below 256 (t .links) → Set-contract n x t bs 0 cs → Same-mark x cs ds →
     Return-contract n x ds u 0 v → v ≡ t
-unfolding mark-image tables-of Set-contract
-return-restores n x t u v bs cs ds z d s c =
+unfolding mark-image tables-of Set-contract lengths-of
+return-restores n x t u v bs cs ds bytes d s c =
     let k = set-right n x t bs cs d in
     let a = accepted-zero (set-refusal n (lengths-of t) (sound n t) x bs) (Store-accepted (set-store n x t bs) 0 cs) (λ q. Store-refused q bs 0 cs) (λ q e. omega (arith, e .number)) d in
     let site = set-zero n (lengths-of t) (sound n t) x bs (a .0) .0 .site in
+    let l = site .lent .lengths in
+    let z : Tables-of-size n t = record { links-length = l .links; numbers-length = l .numbers; order-length = l .order; links-bytes = bytes } in
     let image = image-of (graph-in n (t .links)) (t .order) in
     let e : mark-image n x ds ≡ image = ap (image-in n) (s .place) ∙ k .image in
     let r = return-accepted n x ds u v c .1 in

@@ -211,7 +211,7 @@ module _ (n : ℕ) (x : List ℕ) (t : Tables) (bs : List ℕ) (q : ℕ) (e : q 
     unfolding Set-contract set-refusal has-place is-marked
     set-full h f =
         let none : has-place x bs ≡ false =
-            ap₂ {C = Bool} (λ a b. a || b) (sym there-is ∙ h) (le-ltb (length marks) places (omega (arith, counted))) in
+        ap₂ {C = Bool} (λ a b. a || b) (sym there-is ∙ h) (le-ltb (length marks) places (omega (arith, counted))) in
         let r = further (ask 19 (has-place x bs) 0) ∙ ask-no 19 (has-place x bs) 0 none in
         by-refused _ (Store-accepted (set-store n x t bs) 19 bs) (λ y. Store-refused y bs 19 bs) (λ z. omega (arith, r)) (record { number = sym r; store = refl })
 

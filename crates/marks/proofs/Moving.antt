@@ -17,8 +17,12 @@ length-moved-up bs i to l h =
     let part = take (to - i) (drop i bs) in
     let rest = drop (to + place-bytes) bs in
     omega (
-      arith, length-append (take (i + place-bytes) bs) (part ++ rest), length-append part rest, length-take-le (i + place-bytes) bs (omega arith),
-      length-take-le (to - i) (drop i bs) (omega (arith, length-drop i bs)), length-drop (to + place-bytes) bs,
+      arith,
+      length-append (take (i + place-bytes) bs) (part ++ rest),
+      length-append part rest,
+      length-take-le (i + place-bytes) bs (omega arith),
+      length-take-le (to - i) (drop i bs) (omega (arith, length-drop i bs)),
+      length-drop (to + place-bytes) bs,
     )
 
 pub up-none : (bs : List ℕ) (to : ℕ) → bs ≡ moved-up bs to to
@@ -35,10 +39,10 @@ up-turn bs now i to l h e =
     let x = getD bs (i + place-bytes) 0 in
     let s : suc i + place-bytes ≡ suc (i + place-bytes) = omega arith in
     let f : now ≡ front ++ (x ∷ rest) =
-        e ∙ ap (λ (k : ℕ). take k bs ++ rest) s ∙ ap (λ (ys : List ℕ). ys ++ rest) (take-suc bs (i + place-bytes) 0 (omega arith)) ∙ append-assoc front (x ∷ []) rest in
+    e ∙ ap (λ (k : ℕ). take k bs ++ rest) s ∙ ap (λ (ys : List ℕ). ys ++ rest) (take-suc bs (i + place-bytes) 0 (omega arith)) ∙ append-assoc front (x ∷ []) rest in
     let v : getD now i 0 ≡ getD bs i 0 =
-        ap (λ (ys : List ℕ). getD ys i 0) (e ∙ ap (λ (k : ℕ). take k bs ++ rest) s)
-        ∙ getD-front i (suc (i + place-bytes)) bs rest (omega arith) (omega arith) in
+    ap (λ (ys : List ℕ). getD ys i 0) (e ∙ ap (λ (k : ℕ). take k bs ++ rest) s)
+    ∙ getD-front i (suc (i + place-bytes)) bs rest (omega arith) (omega arith) in
     let d : to - i ≡ suc (to - suc i) = omega arith in
     ap₂ {C = List ℕ} (λ ys y. set ys (i + place-bytes) y) f v
     ∙ set-at front x rest (getD bs i 0) (i + place-bytes) (length-take-le (i + place-bytes) bs (omega arith))
@@ -67,8 +71,12 @@ length-moved-down bs from to l h m =
     let part = take (to - from) (drop from bs) in
     let rest = drop (to - place-bytes) bs in
     omega (
-      arith, length-append (take (from - place-bytes) bs) (part ++ rest), length-append part rest, length-take-le (from - place-bytes) bs (omega arith),
-      length-take-le (to - from) (drop from bs) (omega (arith, length-drop from bs)), length-drop (to - place-bytes) bs,
+      arith,
+      length-append (take (from - place-bytes) bs) (part ++ rest),
+      length-append part rest,
+      length-take-le (from - place-bytes) bs (omega arith),
+      length-take-le (to - from) (drop from bs) (omega (arith, length-drop from bs)),
+      length-drop (to - place-bytes) bs,
     )
 
 pub down-none : (bs : List ℕ) (from : ℕ) → place-bytes ≤ from → bs ≡ moved-down bs from from
@@ -86,10 +94,12 @@ read-above bs from i l h m =
     let part = take (i - from) (drop from bs) in
     let rest = drop (i - place-bytes) bs in
     let long : length (front ++ part) ≡ i - place-bytes =
-        omega (
-          arith, length-append front part, length-take-le (from - place-bytes) bs (omega arith),
-          length-take-le (i - from) (drop from bs) (omega (arith, length-drop from bs)),
-        ) in
+    omega (
+      arith,
+      length-append front part,
+      length-take-le (from - place-bytes) bs (omega arith),
+      length-take-le (i - from) (drop from bs) (omega (arith, length-drop from bs)),
+    ) in
     let e : i ≡ length (front ++ part) + place-bytes = omega arith in
     let d : i - place-bytes + place-bytes ≡ i = omega arith in
     ap (λ (ys : List ℕ). getD ys i 0) (sym (append-assoc front part rest)) ∙ ap (λ (k : ℕ). getD ((front ++ part) ++ rest) k 0) e
@@ -101,8 +111,8 @@ down-turn bs now from i l h m e =
     let a = from - place-bytes in
     let j = i - from in
     let v : getD now i 0 ≡ getD (drop from bs) j 0 =
-        let k : i ≡ from + j = omega arith in
-        ap (λ (ys : List ℕ). getD ys i 0) e ∙ read-above bs from i l h m ∙ ap (λ (z : ℕ). getD bs z 0) k ∙ sym (getD-drop from bs j 0) in
+    let k : i ≡ from + j = omega arith in
+    ap (λ (ys : List ℕ). getD ys i 0) e ∙ read-above bs from i l h m ∙ ap (λ (z : ℕ). getD bs z 0) k ∙ sym (getD-drop from bs j 0) in
     let w : i - place-bytes ≡ a + j = omega arith in
     let s : suc j ≡ i + 1 - from = omega arith in
     ap₂ {C = List ℕ} (λ k y. set now k y) w v ∙ ap (λ (ys : List ℕ). set ys (a + j) (getD (drop from bs) j 0)) (e ∙ down-is bs from i l h)

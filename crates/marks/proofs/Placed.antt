@@ -2,32 +2,25 @@
 --   placed       so the place is the mark of the name and the tables
 --   placed-at    put into place i of a store
 use mathlib.Core.Path.{_≡_, refl, sym, ap, ap₂, _∙_}
-use mathlib.Core.Bool.{true}
 use mathlib.Core.List.{List, [], _∷_, _++_, append-nil}
 use Prim.Native.Nat.{ℕ, _+_, _*_, _-_, _≤_, _<_}
 use native.Mathlib.Omega.{arith}
-use lib.Dec.{eqb}
 use lib.ListN.{length, take, drop, replicate, length-append, length-drop, length-replicate, drop-of-length-le}
 use lib.Seq.{take-at, drop-at, drop-drop, take-all}
-use borrow.Author.Tests.{eqb-true}
 use borrow.Rule.Slice.PartMut.{putMid}
 use Rattle.lists.specs.Lists.{overwrite}
-use Rattle.lists.proofs.Tests.{and-left}
 use Rattle.lists.proofs.Parts.{drop-replicate}
 use Rattle.mesh.specs.Tables.{Tables, graph-in}
 use Rattle.mesh.specs.Sound.{sound}
 use Rattle.mesh.specs.Image.{image-of}
-use Rattle.mesh.specs.Marks.{name-bytes, place-bytes, is-alphanumeric, alphanumerics-then-spaces, is-name, place-of}
+use Rattle.mesh.specs.Marks.{name-bytes, place-bytes, place-of}
+use Rattle.mesh.proofs.Marks.Laws.{length-name}
 use Rattle.calls.specs.Questions.{lengths-of, write-refusal, image-length}
 use Rattle.calls.specs.Contracts.Forms.{Listing-accepted, Listing-refused}
 use Rattle.calls.specs.Contracts.Images.{Write-contract}
 use Rattle.calls.specs.declared.Value.{Value}
 use Rattle.calls.proofs.ContractLaws.{by-zero}
 use Rattle.marks.specs.Placing.{Markable, mark-place, put-place}
-
-length-name : (x : List ℕ) → is-name x ≡ true → length x ≡ name-bytes
-unfolding is-name
-length-name x h = eqb-true (length x) name-bytes (and-left (eqb (length x) name-bytes) _ h)
 
 module _ (n : ℕ) (t : Tables) (x : List ℕ) (k : Markable n t x) (len : ℕ) (long : len ≡ place-bytes) (z y : List ℕ) (zeros : z ≡ replicate len 0)
     (named : y ≡ overwrite (take (length z) x) z) where
@@ -60,7 +53,7 @@ module _ (n : ℕ) (t : Tables) (x : List ℕ) (k : Markable n t x) (len : ℕ) 
         let part = take (length y - name-bytes) (drop name-bytes y) in
         let e : length part ≡ place-bytes - name-bytes = ap length rest-zeros ∙ length-replicate (len - name-bytes) 0 ∙ ap (λ (j : ℕ). j - name-bytes) long in
         let z : write-refusal n (lengths-of t) (length part) (sound n t) (graph-in n (t .links)) ≡ 0 =
-            ap (λ (j : ℕ). write-refusal n (lengths-of t) j (sound n t) (graph-in n (t .links))) e ∙ k .writable in
+        ap (λ (j : ℕ). write-refusal n (lengths-of t) j (sound n t) (graph-in n (t .links))) e ∙ k .writable in
         let a = by-zero _ (Listing-accepted (image-length (graph-in n (t .links))) image part r w) (λ q. Listing-refused q part r w) z written in
         let f : len - name-bytes - length image ≡ place-bytes - (name-bytes + length image) = omega arith in
         a .lent ∙ ap (λ (zs : List ℕ). image ++ drop (length image) zs) rest-zeros
@@ -70,7 +63,7 @@ module _ (n : ℕ) (t : Tables) (x : List ℕ) (k : Markable n t x) (len : ℕ) 
     unfolding mark-place place-of
     placed =
         let none : drop (length y - name-bytes) (drop name-bytes y) ≡ [] =
-            let l : length (drop name-bytes y) ≤ length y - name-bytes = omega (arith, length-drop name-bytes y) in drop-of-length-le (drop name-bytes y) l in
+        let l : length (drop name-bytes y) ≤ length y - name-bytes = omega (arith, length-drop name-bytes y) in drop-of-length-le (drop name-bytes y) l in
         ap₂ {C = List ℕ} (λ xs ys. xs ++ (w ++ ys)) (ap (take name-bytes) name-then ∙ take-at x (replicate (len - name-bytes) 0) name-bytes (length-name x (k .name))) none
         ∙ ap (λ (ys : List ℕ). x ++ ys) (append-nil w ∙ accepted)
 

@@ -29,7 +29,15 @@ fn put_mark(n: u32, links: &[u8], numbers: &[u8], order: &[u16], name: &[u8], pl
 }
 
 // Place i of the store is that mark after.
-fn put_at(n: u32, links: &[u8], numbers: &[u8], order: &[u16], name: &[u8], kept: &mut [u8], i: usize)
+fn put_at(
+    n: u32,
+    links: &[u8],
+    numbers: &[u8],
+    order: &[u16],
+    name: &[u8],
+    kept: &mut [u8],
+    i: usize,
+)
     requires { ⌜ Markable n (lent links numbers order) (now name) × (length (now kept) ≡ store-bytes) × (i < places) ⌝ }
     ensures { λ _. ⌜ now (kept .exit) ≡ put-place (now (kept .entry)) i
         (mark-place n (lent (links .entry) (numbers .entry) (order .entry)) (now (name .entry))) ⌝ }
@@ -64,7 +72,14 @@ pub fn set(n: u32, links: &[u8], numbers: &[u8], order: &[u16], name: &[u8], kep
 
 // Removes the mark of the name: later marks move one place down, and the last place used is unused after. Refused by 1, 2, 3, 17 and
 // 18: then every byte of the store keeps its content.
-pub fn remove(n: u32, links: &[u8], numbers: &[u8], order: &[u16], name: &[u8], kept: &mut [u8]) -> u32
+pub fn remove(
+    n: u32,
+    links: &[u8],
+    numbers: &[u8],
+    order: &[u16],
+    name: &[u8],
+    kept: &mut [u8],
+) -> u32
     ensures { λ r. ⌜ Remove-contract n (now (name .entry)) (lent (links .entry) (numbers .entry) (order .entry)) (now (kept .entry)) r
         (now (kept .exit)) ⌝ }
 {
@@ -85,7 +100,14 @@ pub fn remove(n: u32, links: &[u8], numbers: &[u8], order: &[u16], name: &[u8], 
 
 // Comes back to the mark of the name: links and order as its image lists them, the numbers worked out. Refused by 1, 2, 3, 17 and 18:
 // then every table keeps its content.
-pub fn come_back(n: u32, links: &mut [u8], numbers: &mut [u8], order: &mut [u16], name: &[u8], kept: &[u8]) -> u32
+pub fn come_back(
+    n: u32,
+    links: &mut [u8],
+    numbers: &mut [u8],
+    order: &mut [u16],
+    name: &[u8],
+    kept: &[u8],
+) -> u32
     ensures { λ r. ⌜ Return-contract n (now (name .entry)) (now (kept .entry)) (lent (links .entry) (numbers .entry) (order .entry)) r
         (lent (links .exit) (numbers .exit) (order .exit)) ⌝ }
 {

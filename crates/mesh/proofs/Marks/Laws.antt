@@ -214,7 +214,7 @@ store-marks n bs len h =
 
 -- ---- one place
 
-length-name : (x : List ℕ) → is-name x ≡ true → length x ≡ name-bytes
+pub length-name : (x : List ℕ) → is-name x ≡ true → length x ≡ name-bytes
 unfolding is-name
 length-name x h = eqb-true (length x) name-bytes (and-left (eqb (length x) name-bytes) _ h)
 

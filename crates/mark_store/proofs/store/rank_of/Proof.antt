@@ -19,9 +19,11 @@ returns : tie.Need-returns Inv-loop μ-loop
 returns c =
     let asked = c .before in
     let at-loop = asked .before .before .before in
-    let start = at-loop .before .before .before in
-    (ranking-stop _ _ (at-loop .loop .i) (at-loop .loop .inv) (omega (arith, start .pre .1)) (asked .is-before .result) (asked .is-before .ensures)
-    (not-true (asked .is-before .result) (c .if1 .taken)), omega arith)
+    let start = at-loop .before .before .before in (
+      ranking-stop _ _ (at-loop .loop .i) (at-loop .loop .inv) (omega (arith, start .pre .1)) (asked .is-before .result) (asked .is-before .ensures)
+          (not-true (asked .is-before .result) (c .if1 .taken)),
+      omega arith,
+    )
 
 loop-again : tie.Need-loop-again Inv-loop μ-loop
 loop-again c =
