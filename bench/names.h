@@ -5,6 +5,6 @@
 
 static const char *const names[CALLS] = {
     "clear", "check", "number", "neighbours", "linked", "first", "later_of", "down+up", "ask+link", "ask+commit", "core", "backbone", "tree",
-    "sheet", "staircase", "image_write", "image_read", "image_other", "image_block",
+    "sheet", "staircase", "image_write", "image_read", "image_other", "image_block", "mark_set", "remove+set", "mark_return",
 };
 #endif

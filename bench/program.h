@@ -20,6 +20,12 @@
 
 #define PAGE_LINE 65 /* bytes of a line of the site sheet */
 
+/* The store of named marks: places, bytes of a name, of a place and of the store. */
+#define MARKS 8
+#define MARK_NAME 8
+#define MARK_PLACE 44040
+#define MARK_STORE (MARKS * MARK_PLACE)
+
 /* The tables that a call is lent, with their lengths. */
 struct lent {
     uint32_t n;
@@ -74,12 +80,14 @@ struct work {
     struct c_node *nodes;
     uint8_t *buffer;
     size_t room;
+    uint8_t *store; /* full: the marks M0 to M7 */
 };
 
-/* The calls that are timed. LINK is a link down and up again, ASKED and COMMITTED are the same in two steps. */
+/* The calls that are timed. LINK is a link down and up again, ASKED and COMMITTED are the same in two steps. MARK_SET replaces a mark of a
+ * full store, MARK_MOVED removes the first of eight and sets it again. */
 enum timed {
     CLEAR, CHECK, NUMBER, DEGREE, LINKED, FIRST, LATER_OF, LINK, ASKED, COMMITTED, CORE, BACKBONE, TREE, SHEET, STAIRCASE,
-    IMAGE_WRITE, IMAGE_READ, IMAGE_OTHER, IMAGE_BLOCK, CALLS
+    IMAGE_WRITE, IMAGE_READ, IMAGE_OTHER, IMAGE_BLOCK, MARK_SET, MARK_MOVED, MARK_RETURN, CALLS
 };
 
 /* A program that has no answer for a call leaves it out: an older engine, or one that only makes changes. */
@@ -106,5 +114,8 @@ struct program {
     struct c_value (*image_write)(const struct lent *, uint8_t *buffer, size_t room);
     unsigned (*image_read)(const struct lent *, const uint8_t *image, size_t length);
     struct c_block (*image_block)(const uint8_t *image, size_t length, size_t next);
+    unsigned (*mark_set)(const struct lent *, const uint8_t *name, size_t length, uint8_t *store, size_t room);
+    unsigned (*mark_remove)(const struct lent *, const uint8_t *name, size_t length, uint8_t *store, size_t room);
+    unsigned (*mark_return)(const struct lent *, const uint8_t *name, size_t length, const uint8_t *store, size_t room);
 };
 #endif
