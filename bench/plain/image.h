@@ -118,7 +118,7 @@ static void c_tally(const uint8_t *image, uint32_t n, unsigned m, const uint16_t
 static int c_is_image(const uint8_t *image, size_t length, uint32_t n, uint16_t *order, uint16_t *numbers) {
     uint16_t places[RADIOS], counts[RADIOS];
     unsigned m = word_at(image + 6), top = 0;
-    if (!c_formed(image, length, n) || !c_listed(image, n, m)) return 0;
+    if (n < 1 || !c_formed(image, length, n) || !c_listed(image, n, m)) return 0;
     memset(numbers, 0, 2 * RADIOS);
     c_tally(image, n, m, numbers, 1, counts);
     for (unsigned v = 0; v < n; v++)

@@ -39,6 +39,8 @@ use Rattle.calls.specs.Contracts.Trees.{Tree-refused, Tree-contract}
 use Rattle.calls.specs.Contracts.Pages.{Sheet-contract}
 use Rattle.calls.specs.Contracts.Staircase.{Staircase-contract}
 use Rattle.calls.specs.Contracts.Marks.{Store-refused, Set-contract, Remove-contract, Return-contract}
+use Rattle.mesh.specs.Limits.{max-radios}
+use Rattle.mesh.specs.Marks.{store-bytes, is-store, Store-rules}
 use Rattle.calls.specs.Marks.{mark-image}
 use Rattle.calls.specs.MarkOutcomes.{set-outcome, remove-outcome, return-outcome}
 use Rattle.calls.specs.MarkResults.{Set-right, Removed-right, Same-mark}
@@ -72,6 +74,7 @@ use Rattle.calls.proofs.Outcomes.{staircase-inhabited}
 use Rattle.calls.proofs.Outcomes.{ask-decided, commit-decided, ask-inhabited, commit-inhabited}
 use Rattle.calls.proofs.MarkOutcomes.{set-decided, remove-decided, return-decided, set-inhabited, remove-inhabited, return-inhabited}
 use Rattle.calls.proofs.MarkOutcomes.{set-keeps, remove-keeps, return-keeps}
+use Rattle.mesh.proofs.Marks.Rules.{store-good-iff}
 use Rattle.calls.proofs.MarkCalls.{set-right, removed-right, other-marks, return-right, return-restores}
 use Rattle.calls.proofs.HistoryRestored.{history-restored}
 use Rattle.calls.proofs.Refusals.{ask-keeps, commit-keeps}
@@ -383,7 +386,9 @@ pub record Property-2 : Type 0 where
   pub of-none :
       (n : ℕ) (bs : List ℕ) → size-good n ≡ true → whole-blocks bs ≡ true → checks-good bs ≡ true →
       (image-refusal n bs ≡ 11) ↔ Image-of-none bs
-  -- named marks (document 02, W-211): a mark set is the image of the tables, a mark removed is gone, and the store keeps the rules again;
+  -- named marks (document 02, W-211): question 17 of a store of full length gets yes exactly if every place keeps the rules
+  pub store-good : (n : ℕ) (bs : List ℕ) → n ≤ max-radios → length bs ≡ store-bytes → (is-store n bs ≡ true) ↔ Store-rules n bs
+  -- a mark set is the image of the tables, a mark removed is gone, and the store keeps the rules again;
   -- every other mark is the same, byte for byte, whatever the call answers
   pub mark-set : (n : ℕ) (x : List ℕ) (t : Tables) (bs cs : List ℕ) → Set-contract n x t bs 0 cs → Set-right n x t bs cs
   pub mark-remove : (n : ℕ) (x : List ℕ) (t : Tables) (bs cs : List ℕ) → Remove-contract n x t bs 0 cs → Removed-right n x bs cs
@@ -623,6 +628,7 @@ property-2 = record {
   eleven = read-eleven;
   other-size = other-size-iff;
   of-none = eleven-iff;
+  store-good = store-good-iff;
   mark-set = set-right;
   mark-remove = removed-right;
   other-marks = other-marks;
