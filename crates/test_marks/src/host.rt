@@ -1,4 +1,5 @@
 // The host: its tables and its store, the calls on them, and what it prints after each.
+ghost use Prim.Native.Nat.{_≤_};
 use crate::changing;
 use crate::digest;
 use crate::reading;
@@ -41,19 +42,18 @@ const FLIP_NUMBERS: u32 = 7;
 
 const COPY_PLACE: u32 = 8;
 
-// A link call.
-fn link(call: Call, links: &mut [u8], numbers: &mut [u8], order: &mut [u16]) {
+// A link goes up.
+fn up(call: Call, links: &mut [u8], numbers: &mut [u8], order: &mut [u16]) {
     let mut answer = [0u16; ENTRIES];
-    if call.kind == UP {
-        let r =
-            summerbugle::sb_link_up(call.n, call.a, call.b, links, numbers, order, &mut answer);
-        say::number(b"up", r.number);
-    }
-    if call.kind == DOWN {
-        let r =
-            summerbugle::sb_link_down(call.n, call.a, call.b, links, numbers, order, &mut answer);
-        say::number(b"down", r.number);
-    }
+    let r = summerbugle::sb_link_up(call.n, call.a, call.b, links, numbers, order, &mut answer);
+    say::number(b"up", r.number);
+}
+
+// A link goes down.
+fn down(call: Call, links: &mut [u8], numbers: &mut [u8], order: &mut [u16]) {
+    let mut answer = [0u16; ENTRIES];
+    let r = summerbugle::sb_link_down(call.n, call.a, call.b, links, numbers, order, &mut answer);
+    say::number(b"down", r.number);
 }
 
 // A call that writes the tables.
@@ -70,68 +70,79 @@ fn write(
             b"clear",
             summerbugle::sb_clear(call.n, links, numbers, order),
         );
+        return;
     }
-    if call.kind == RETURN {
-        say::number(
-            b"return",
-            summerbugle::sb_mark_return(call.n, links, numbers, order, name, store),
-        );
+    if call.kind == UP {
+        up(call, links, numbers, order);
+        return;
     }
-    link(call, links, numbers, order);
+    if call.kind == DOWN {
+        down(call, links, numbers, order);
+        return;
+    }
+    if call.kind != RETURN {
+        return;
+    }
+    let number = summerbugle::sb_mark_return(call.n, links, numbers, order, name, store);
+    say::number(b"return", number);
 }
 
 // A call that writes the store.
-fn mark<'a>(
-    call: Call,
-    links: &'a [u8],
-    numbers: &'a [u8],
-    order: &'a [u16],
-    name: &[u8],
-    store: &mut [u8],
-) {
+fn mark(call: Call, links: &[u8], numbers: &[u8], order: &[u16], name: &[u8], store: &mut [u8]) {
     if call.kind == SET {
-        say::number(
-            b"set",
-            summerbugle::sb_mark_set(call.n, links, numbers, order, name, store),
-        );
+        let number = summerbugle::sb_mark_set(call.n, links, numbers, order, name, store);
+        say::number(b"set", number);
+        return;
     }
-    if call.kind == REMOVE {
-        say::number(
-            b"remove",
-            summerbugle::sb_mark_remove(call.n, links, numbers, order, name, store),
-        );
+    if call.kind != REMOVE {
+        return;
     }
+    let number = summerbugle::sb_mark_remove(call.n, links, numbers, order, name, store);
+    say::number(b"remove", number);
 }
 
-// Other hands.
-fn change(call: Call, numbers: &mut [u8], store: &mut [u8]) {
+// Other hands change the store.
+fn change(call: Call, store: &mut Store) {
     if call.kind == FLIP_STORE {
         changing::flip8(store, call.a as usize, call.b);
         say::number(b"flip", call.b);
+        return;
     }
-    if call.kind == FLIP_NUMBERS {
-        changing::flip8(numbers, call.a as usize, call.b);
-        say::number(b"spoil", call.b);
+    if call.kind != COPY_PLACE {
+        return;
     }
-    if call.kind == COPY_PLACE {
-        changing::copy_place(store, call.a, call.b);
-        say::number(b"copy", call.b);
-    }
+    changing::copy_place(store, call.a, call.b);
+    say::number(b"copy", call.b);
 }
 
-// Lends the front of each table, of the name and of the store.
-fn lend(
+// Other hands change the numbers.
+fn spoil(call: Call, numbers: &mut [u8]) {
+    if call.kind != FLIP_NUMBERS {
+        return;
+    }
+    changing::flip8(numbers, call.a as usize, call.b);
+    say::number(b"spoil", call.b);
+}
+
+// How many radios the tables are lent for.
+fn radios(call: Call) -> usize
+    ensures { λ r. ⌜ r ≤ 64 ⌝ }
+{
+    tables::fill::least(call.n as usize, ENTRIES)
+}
+
+// Lends the front of each table to be written, and of the name and of the store.
+fn lend_tables(
     call: Call,
     links: &mut [u8],
     numbers: &mut [u8],
     order: &mut [u16],
     name: &[u8],
-    store: &mut [u8],
+    store: &[u8],
 ) {
-    let n = tables::fill::least(call.n as usize, ENTRIES);
-    let i = tables::fill::least(64 * n, links.len());
-    let j = tables::fill::least(n, numbers.len());
-    let k = tables::fill::least(n, order.len());
+    let i = tables::fill::least(64 * radios(call), links.len());
+    let j = tables::fill::least(radios(call), numbers.len());
+    let k = tables::fill::least(radios(call), order.len());
     let l = tables::fill::least(call.name, name.len());
     let m = tables::fill::least(call.store, store.len());
     write(
@@ -142,6 +153,22 @@ fn lend(
         &name[..l],
         &store[..m],
     );
+}
+
+// Lends the front of the store to be written, and of the name and of each table.
+fn lend_store(
+    call: Call,
+    links: &[u8],
+    numbers: &[u8],
+    order: &[u16],
+    name: &[u8],
+    store: &mut [u8],
+) {
+    let i = tables::fill::least(64 * radios(call), links.len());
+    let j = tables::fill::least(radios(call), numbers.len());
+    let k = tables::fill::least(radios(call), order.len());
+    let l = tables::fill::least(call.name, name.len());
+    let m = tables::fill::least(call.store, store.len());
     mark(
         call,
         &links[..i],
@@ -153,13 +180,7 @@ fn lend(
 }
 
 // The digest of the tables, and of the store where it was lent or changed.
-fn digest_after(
-    kind: u32,
-    links: &Links,
-    numbers: &Numbers,
-    order: &Order,
-    store: &Store,
-) -> u64 {
+fn digest_after(kind: u32, links: &Links, numbers: &Numbers, order: &Order, store: &Store) -> u64 {
     if kind < SET {
         return digest::tables(links, numbers, order);
     }
@@ -174,10 +195,11 @@ fn line(
     order: &mut Order,
     store: &mut Store,
 ) -> u64 {
-    let mut name = [0u8; 9];
-    changing::put_name(&mut name, call.low, call.high);
-    lend(call, links, numbers, order, &name, store);
-    change(call, numbers, store);
+    let name = changing::name_of(call.low, call.high);
+    lend_tables(call, links, numbers, order, &name, store);
+    lend_store(call, links, numbers, order, &name, store);
+    change(call, store);
+    spoil(call, numbers);
     let h = digest_after(call.kind, links, numbers, order, store);
     say::field(h);
     say::word(b"\n");
