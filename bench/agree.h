@@ -247,6 +247,32 @@ static int agree_reading(void) {
     return 1;
 }
 
+/* Marks set, removed and come back to, by some names, good and bad, in a store that is damaged now and then. */
+static int agree_marks(void) {
+    static const char *const some[] = {"A       ", "B       ", "B0      ", "TOWER1  ", "TOWER1AB", "TOWER1AC", "Z       ", "0       ", "9       ", "a       ", "A B     "};
+    static uint8_t p[MARK_STORE], q[MARK_STORE];
+    memset(p, 0, sizeof p), memset(q, 0, sizeof q);
+    start();
+    for (unsigned i = 0; i < 120; i++) {
+        const uint8_t *name = (const uint8_t *)some[rand() % 11];
+        size_t at = rand() % sizeof p, room = sizeof p - (i % 31 == 30);
+        uint8_t flip = i % 10 == 9;
+        p[at] ^= flip, q[at] ^= flip;
+        one->link(rand() % 3 != 0, &t, rand() % n, rand() % n, x, n);
+        start_again();
+        unsigned number, other;
+        if (i % 4 == 2)
+            number = one->mark_remove(&t, name, MARK_NAME, p, room), other = two->mark_remove(&u, name, MARK_NAME, q, room);
+        else if (i % 4 == 3)
+            number = one->mark_return(&t, name, MARK_NAME, p, room), other = two->mark_return(&u, name, MARK_NAME, q, room);
+        else
+            number = one->mark_set(&t, name, MARK_NAME, p, room), other = two->mark_set(&u, name, MARK_NAME, q, room);
+        if (number != other || memcmp(p, q, sizeof p) || !same_tables()) return 0;
+        p[at] ^= flip, q[at] ^= flip;
+    }
+    return 1;
+}
+
 /* What differs between the engine and a program on the site of an entry, or NULL. */
 static const char *disagreement(const struct program *engine, const struct program *other, const struct entry *entry) {
     one = engine, two = other, e = entry, n = e->site.n;
@@ -262,6 +288,7 @@ static const char *disagreement(const struct program *engine, const struct progr
     if (!agree_tree()) return "shell tree";
     if (one->has(STAIRCASE) && !agree_staircase()) return "staircase tree";
     if (!agree_reading()) return "image reading";
+    if (one->has(MARK_SET) && !agree_marks()) return "marks";
     return NULL;
 }
 #endif

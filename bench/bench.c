@@ -64,6 +64,7 @@ static int all_taken(uint32_t size, enum kind kind) {
         refused |= p->link(0, &e->site, l.a, l.b, answer, size).number;
         refused |= p->link(1, &e->site, l.a, l.b, answer, size).number;
         refused |= p->image_read(&e->other, e->image, e->image_length);
+        if (p->has(MARK_SET)) refused |= p->mark_return(&e->other, (const uint8_t *)"M7      ", MARK_NAME, store, sizeof store);
         if (!refused) continue;
         printf("a call that is to be timed is refused: %u radios, %s\n", size, kinds[kind]);
         return 0;

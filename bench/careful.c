@@ -2,6 +2,7 @@
 #include "careful/core.h"
 #include "careful/image.h"
 #include "careful/link.h"
+#include "careful/marks.h"
 #include "careful/radios.h"
 #include "careful/script.h"
 #include "careful/staircase.h"

@@ -12,12 +12,16 @@
 #pragma weak sb_link_batch
 #pragma weak sb_sheet
 #pragma weak sb_staircase
+#pragma weak sb_mark_set
+#pragma weak sb_mark_remove
+#pragma weak sb_mark_return
 
 static int c_has(enum timed call) {
     if (call == BATCHED) return sb_link_batch != 0;
     if (call == SHEET) return sb_sheet != 0;
     if (call == SCRIPT_LENGTH || call == SCRIPT_WRITE) return sb_script_length && sb_script_write;
     if (call == STAIRCASE) return sb_staircase != 0;
+    if (call == MARK_SET || call == MARK_MOVED || call == MARK_RETURN) return sb_mark_set && sb_mark_remove && sb_mark_return;
     if (call == ASKED || call == COMMITTED) return sb_ask_up && sb_ask_down && sb_commit_up && sb_commit_down;
     return 1;
 }
@@ -84,6 +88,18 @@ static unsigned c_image_read(const struct lent *t, const uint8_t *image, size_t 
 static struct c_block c_image_block(const uint8_t *image, size_t length, size_t next) {
     sb_block r = sb_image_block(image, length, next);
     return (struct c_block){r.number, r.end, r.offset, r.length, r.next};
+}
+
+static unsigned c_mark_set(const struct lent *t, const uint8_t *name, size_t length, uint8_t *store, size_t room) {
+    return sb_mark_set(t->n, OF(t), name, length, store, room);
+}
+
+static unsigned c_mark_remove(const struct lent *t, const uint8_t *name, size_t length, uint8_t *store, size_t room) {
+    return sb_mark_remove(t->n, OF(t), name, length, store, room);
+}
+
+static unsigned c_mark_return(const struct lent *t, const uint8_t *name, size_t length, const uint8_t *store, size_t room) {
+    return sb_mark_return(t->n, OF(t), name, length, store, room);
 }
 
 #include "loops.h"

@@ -11,7 +11,7 @@ import sys
 from pathlib import Path
 
 # where a call has another name than its loop, run_NAME in bench/loops.h
-NAMES = {"link": "down+up", "asked": "ask+link", "committed": "ask+commit"}
+NAMES = {"link": "down+up", "asked": "ask+link", "committed": "ask+commit", "mark_moved": "remove+set"}
 
 
 def main():

@@ -16,6 +16,8 @@ static volatile unsigned sink; /* what a call answers is used */
 #define N e->site.n
 #define A e->ends.a
 #define B e->ends.b
+#define FIRST_MARK (const uint8_t *)"M0      "
+#define LAST_MARK (const uint8_t *)"M7      "
 
 /* The calls below are statements of their own: C leaves open in which order the terms of a sum are worked out. */
 static inline unsigned down_and_up(const struct lent *t, struct ends e, uint16_t *answer) {
@@ -66,6 +68,12 @@ static inline unsigned read_smaller(const struct entry *e) {
     return c_image_read(&t, e->image, e->image_length);
 }
 
+/* The first of eight marks out and in again: every other place moves twice. */
+static inline unsigned remove_and_set(const struct lent *t, uint8_t *store) {
+    unsigned number = c_mark_remove(t, FIRST_MARK, MARK_NAME, store, MARK_STORE);
+    return number + c_mark_set(t, FIRST_MARK, MARK_NAME, store, MARK_STORE);
+}
+
 LOOP(clear, c_clear(&e->other))
 LOOP(check, c_check(S).value)
 LOOP(number, c_number(S, B).value)
@@ -89,6 +97,9 @@ LOOP(image_read, c_image_read(&e->other, e->image, e->image_length))
 LOOP(image_other, read_smaller(e))
 LOOP(image_block, c_image_block(e->image, e->image_length, 0).next)
 LOOP(new, new_link(S, e->apart, w->answer))
+LOOP(mark_set, c_mark_set(S, LAST_MARK, MARK_NAME, w->store, MARK_STORE))
+LOOP(mark_moved, remove_and_set(S, w->store))
+LOOP(mark_return, c_mark_return(&e->other, LAST_MARK, MARK_NAME, w->store, MARK_STORE))
 
 /* Each of the links down and up again. */
 static void run_changes(const struct lent *t, const struct ends *list, unsigned count, uint16_t *answer) {
@@ -98,7 +109,7 @@ static void run_changes(const struct lent *t, const struct ends *list, unsigned 
 static void (*const loops[CALLS])(const struct work *) = {
     run_clear, run_check, run_number, run_neighbours, run_linked, run_first, run_later_of, run_link, run_asked, run_committed, run_batch,
     run_core, run_backbone, run_tree, run_sheet, run_script_length, run_script_write, run_staircase, run_image_write, run_image_read,
-    run_image_other, run_image_block, run_new,
+    run_image_other, run_image_block, run_new, run_mark_set, run_mark_moved, run_mark_return,
 };
 
 #define TEXT(x) #x
@@ -107,5 +118,6 @@ extern const struct program PROGRAM;
 const struct program PROGRAM = {
     NAME(PROGRAM), c_has, loops, run_changes, c_clear, c_check, c_number, c_neighbours, c_linked, c_first, c_later_of, c_link, c_ask, c_commit,
     c_link_batch, c_core, c_backbone, c_tree, c_sheet, c_script_length, c_script_write, c_staircase, c_image_write, c_image_read, c_image_block,
+    c_mark_set, c_mark_remove, c_mark_return,
 };
 #endif

@@ -2,6 +2,7 @@
 #include "plain/core.h"
 #include "plain/image.h"
 #include "plain/link.h"
+#include "plain/marks.h"
 #include "plain/radios.h"
 #include "plain/script.h"
 #include "plain/staircase.h"

@@ -22,6 +22,12 @@
 #define PAGE_LINE 65 /* bytes of a line of the site sheet */
 #define MOST_SCRIPT 112651 /* bytes of the longest script */
 
+/* The store of named marks: places, bytes of a name, of a place and of the store. */
+#define MARKS 8
+#define MARK_NAME 8
+#define MARK_PLACE 44040
+#define MARK_STORE (MARKS * MARK_PLACE)
+
 /* The tables that a call is lent, with their lengths. */
 struct lent {
     uint32_t n;
@@ -78,13 +84,15 @@ struct work {
     struct c_node *nodes;
     uint8_t *buffer;
     size_t room;
+    uint8_t *store; /* full: the marks M0 to M7 */
 };
 
 /* The calls that are timed. LINK is a link down and up again, ASKED and COMMITTED are the same in two steps, NEW is a new link up. BATCHED
-   clears a site first. */
+ * clears a site first. MARK_SET replaces a mark of a full store, MARK_MOVED removes the first of eight and sets it again. */
 enum timed {
     CLEAR, CHECK, NUMBER, DEGREE, LINKED, FIRST, LATER_OF, LINK, ASKED, COMMITTED, BATCHED, CORE, BACKBONE, TREE, SHEET,
-    SCRIPT_LENGTH, SCRIPT_WRITE, STAIRCASE, IMAGE_WRITE, IMAGE_READ, IMAGE_OTHER, IMAGE_BLOCK, NEW, CALLS
+    SCRIPT_LENGTH, SCRIPT_WRITE, STAIRCASE, IMAGE_WRITE, IMAGE_READ, IMAGE_OTHER, IMAGE_BLOCK, NEW, MARK_SET, MARK_MOVED, MARK_RETURN,
+    CALLS
 };
 
 /* A program that has no answer for a call leaves it out: an older engine, or one that only makes changes. */
@@ -114,5 +122,8 @@ struct program {
     struct c_value (*image_write)(const struct lent *, uint8_t *buffer, size_t room);
     unsigned (*image_read)(const struct lent *, const uint8_t *image, size_t length);
     struct c_block (*image_block)(const uint8_t *image, size_t length, size_t next);
+    unsigned (*mark_set)(const struct lent *, const uint8_t *name, size_t length, uint8_t *store, size_t room);
+    unsigned (*mark_remove)(const struct lent *, const uint8_t *name, size_t length, uint8_t *store, size_t room);
+    unsigned (*mark_return)(const struct lent *, const uint8_t *name, size_t length, const uint8_t *store, size_t room);
 };
 #endif

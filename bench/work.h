@@ -10,7 +10,8 @@ static struct entry entries[IN_TURN / 16];
 static uint16_t answer[2 * RADIOS];
 static struct c_node nodes[RADIOS + 1];
 static uint8_t buffer[MOST_SCRIPT]; /* an image is shorter */
-static struct work work = {entries, 0, answer, nodes, buffer, sizeof buffer};
+static uint8_t store[MARK_STORE];
+static struct work work = {entries, 0, answer, nodes, buffer, sizeof buffer, store};
 
 /* Room for the entries' tables and images. */
 static uint8_t room[IN_TURN * (2 * (ROW + 1 + 2) + 4 * NEIGHBOURS / 2) + IN_TURN / 16 * (8 * BLOCK + 4 * MOST_BATCH)], *next;
@@ -24,6 +25,14 @@ static void *take(const void *from, size_t length) {
 static struct lent take_site(const struct site *s) {
     uint8_t *links = take(s->links, ROW * s->n), *numbers = take(s->numbers, s->n);
     return (struct lent){s->n, links, ROW * s->n, numbers, s->n, take(s->order, 2 * s->n), s->n};
+}
+
+/* Eight marks of the sites in turn. */
+static void use_store(const struct program *p) {
+    static uint8_t name[] = "M0      ";
+    memset(store, 0, sizeof store);
+    if (!p->has(MARK_SET)) return;
+    for (unsigned i = 0; i < MARKS; i++) name[1] = '0' + i, p->mark_set(&entries[i % work.count].site, name, MARK_NAME, store, sizeof store);
 }
 
 /* The images are those that the program writes. */
@@ -41,5 +50,6 @@ static void use_sites(const struct program *p, uint32_t n, enum kind kind) {
         e->image_length = p->image_write(&e->site, buffer, sizeof buffer).value;
         e->image = take(buffer, e->image_length);
     }
+    use_store(p);
 }
 #endif

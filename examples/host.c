@@ -1,4 +1,5 @@
-/* A C host: lends tables, takes links up and down, asks, prints a sheet and a script, writes an image, walks it and reads it. examples/run builds and runs it. */
+/* A C host: lends tables, takes links up and down, asks, prints a sheet and a script, writes an image, walks it and reads it, sets marks and
+ * comes back. examples/run builds and runs it. */
 #include "../include/summerbugle.h"
 #include <stdio.h>
 
@@ -7,6 +8,7 @@ enum { N = 7, IMAGE_ROOM = 4096 };
 static uint8_t links[SB_ROW_BYTES * N], numbers[N], image[IMAGE_ROOM];
 static uint16_t order[N], answer[N], kept[2 * N];
 static sb_node nodes[N + 1];
+static uint8_t store[SB_STORE_BYTES];
 
 #define TABLES links, sizeof links, numbers, N, order, N
 #define ANSWER answer, N
@@ -142,6 +144,22 @@ static void keep(void) {
     print_value("linked 0 6", sb_linked(N, 0, 6, TABLES));
 }
 
+#define NAME(text) (const uint8_t *)(text), SB_NAME_BYTES
+#define STORE store, sizeof store
+
+/* Two states named, and the way back to the first. */
+static void mark(void) {
+    printf("set TOWER1: number %u\n", sb_mark_set(N, TABLES, NAME("TOWER1  "), STORE));
+    down(0, 6);
+    printf("set A: number %u\n", sb_mark_set(N, TABLES, NAME("A       "), STORE));
+    printf("first %.8s, second %.8s\n", (const char *)store, (const char *)store + SB_PLACE_BYTES);
+    printf("set a: number %u\n", sb_mark_set(N, TABLES, NAME("a       "), STORE));
+    printf("back to TOWER1: number %u\n", sb_mark_return(N, TABLES, NAME("TOWER1  "), STORE));
+    print_value("linked 0 6", sb_linked(N, 0, 6, TABLES));
+    printf("remove A: number %u\n", sb_mark_remove(N, TABLES, NAME("A       "), STORE));
+    printf("back to A: number %u\n", sb_mark_return(N, TABLES, NAME("A       "), STORE));
+}
+
 int main(void) {
     make_links();
     ask();
@@ -150,6 +168,7 @@ int main(void) {
     print_script();
     print_staircase();
     keep();
+    mark();
     down(0, 6);
     down(2, 3);
     propose_down(0, 1);

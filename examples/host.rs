@@ -1,4 +1,5 @@
-// A Rust host: lends tables, takes links up and down, asks, prints a sheet and a script, writes an image, walks it and reads it. examples/run builds and runs it.
+// A Rust host: lends tables, takes links up and down, asks, prints a sheet and a script, writes an image, walks it and reads it, sets marks
+// and comes back. examples/run builds and runs it.
 
 #[repr(C)]
 struct Value {
@@ -65,6 +66,9 @@ mod engine {
         pub fn sb_staircase(n: u32, l: *const u8, ll: usize, k: *const u8, kl: usize, o: *const u16, ol: usize, w: *mut u16, wl: usize) -> Value;
         pub fn sb_image_write(n: u32, l: *const u8, ll: usize, k: *const u8, kl: usize, o: *const u16, ol: usize, buffer: *mut u8, len: usize) -> Value;
         pub fn sb_image_read(n: u32, l: *mut u8, ll: usize, k: *mut u8, kl: usize, o: *mut u16, ol: usize, image: *const u8, len: usize) -> u32;
+        pub fn sb_mark_set(n: u32, l: *const u8, ll: usize, k: *const u8, kl: usize, o: *const u16, ol: usize, name: *const u8, nl: usize, store: *mut u8, sl: usize) -> u32;
+        pub fn sb_mark_remove(n: u32, l: *const u8, ll: usize, k: *const u8, kl: usize, o: *const u16, ol: usize, name: *const u8, nl: usize, store: *mut u8, sl: usize) -> u32;
+        pub fn sb_mark_return(n: u32, l: *mut u8, ll: usize, k: *mut u8, kl: usize, o: *mut u16, ol: usize, name: *const u8, nl: usize, store: *const u8, sl: usize) -> u32;
         pub fn sb_image_block(image: *const u8, len: usize, next: usize) -> Block;
     }
 }
@@ -261,6 +265,24 @@ fn keep(s: &mut Site) {
     print_value("linked 0 6", call!(sb_linked, s, [0, 6], []));
 }
 
+// Two states named, and the way back to the first.
+fn mark(s: &mut Site) {
+    let mut store = vec![0u8; 8 * 44040];
+    let set = |s: &mut Site, store: &mut [u8], name: &str| call!(sb_mark_set, s, [], [name.as_ptr(), name.len(), store.as_mut_ptr(), store.len()]);
+    let back = |s: &mut Site, store: &[u8], name: &str| call!(sb_mark_return, s, [], [name.as_ptr(), name.len(), store.as_ptr(), store.len()]);
+    println!("set TOWER1: number {}", set(s, &mut store, "TOWER1  "));
+    s.down(0, 6);
+    println!("set A: number {}", set(s, &mut store, "A       "));
+    let name = |i: usize| std::str::from_utf8(&store[44040 * i..44040 * i + 8]).unwrap();
+    println!("first {}, second {}", name(0), name(1));
+    println!("set a: number {}", set(s, &mut store, "a       "));
+    println!("back to TOWER1: number {}", back(s, &store, "TOWER1  "));
+    print_value("linked 0 6", call!(sb_linked, s, [0, 6], []));
+    let a = "A       ";
+    println!("remove A: number {}", call!(sb_mark_remove, s, [], [a.as_ptr(), a.len(), store.as_mut_ptr(), store.len()]));
+    println!("back to A: number {}", back(s, &store, a));
+}
+
 fn main() {
     let mut s = Site::new(7);
     make_links(&mut s);
@@ -270,6 +292,7 @@ fn main() {
     print_script(&mut s);
     print_staircase(&mut s);
     keep(&mut s);
+    mark(&mut s);
     s.down(0, 6);
     s.down(2, 3);
     s.propose_down(0, 1);

@@ -44,6 +44,11 @@ extern "C" {
 #define SB_PAGE_LINE 65u
 /* The bytes of the longest script: line 1 and 10,240 links. */
 #define SB_SCRIPT_BYTES 112651u
+/* A store of named marks: 8 places, each a name, an image of at most 86 blocks and zeros to its end. */
+#define SB_MARKS 8u
+#define SB_NAME_BYTES 8u
+#define SB_PLACE_BYTES 44040u
+#define SB_STORE_BYTES 352320u
 
 /* The refusal numbers: the first question that got "no". */
 enum sb_refusal {
@@ -62,7 +67,10 @@ enum sb_refusal {
     SB_PAGE = 12,       /* the page is shorter than 65 bytes a line */
     SB_TEXT = 13,       /* the text buffer is shorter than the script */
     SB_OTHER_SIZE = 15, /* the bytes are the image of sound tables with another n */
-    SB_PROPOSAL = 16    /* the list or the step is not exactly what asking would give now */
+    SB_PROPOSAL = 16,   /* the list or the step is not exactly what asking would give now */
+    SB_MARK = 17,       /* a place of the store, or the name, breaks the rules */
+    SB_NO_MARK = 18,    /* there is no mark of this name */
+    SB_MARKS_FULL = 19  /* a new name finds 8 marks */
 };
 
 /* The answer of a question: refusal number, and the value asked for (0 when refused). */
@@ -341,6 +349,41 @@ sb_value sb_image_write(uint32_t n, const uint8_t *links, size_t links_len,
 uint32_t sb_image_read(uint32_t n, uint8_t *links, size_t links_len,
                        uint8_t *numbers, size_t numbers_len, uint16_t *order, size_t order_len,
                        const uint8_t *image, size_t image_len);
+
+/**
+ * Set a mark: name the state of the tables so as to come back to it. A mark of that name is replaced. Links, numbers and order are only
+ * read.
+ *
+ * The store is lent at SB_STORE_BYTES; one of zeros has no marks. It keeps the marks in rising order of name by bytes, no name twice,
+ * used places first, and every call on marks checks each place. A name is SB_NAME_BYTES of A to Z and 0 to 9, at least one, then spaces;
+ * it may not lie in the store.
+ *
+ * \return 0; every other mark is as it was, byte for byte. Or SB_SIZE, SB_LENGTH (the store's length too), SB_UNSOUND, SB_MARK (the
+ *         name's length too), SB_MARKS_FULL, and then the store keeps its content.
+ */
+uint32_t sb_mark_set(uint32_t n, const uint8_t *links, size_t links_len,
+                     const uint8_t *numbers, size_t numbers_len, const uint16_t *order, size_t order_len,
+                     const uint8_t *name, size_t name_len, uint8_t *store, size_t store_len);
+
+/**
+ * Remove a mark: its place serves another. Links, numbers and order are only read.
+ *
+ * \return 0; every other mark is as it was, byte for byte. Or SB_SIZE, SB_LENGTH, SB_UNSOUND, SB_MARK, SB_NO_MARK, and then the store
+ *         keeps its content.
+ */
+uint32_t sb_mark_remove(uint32_t n, const uint8_t *links, size_t links_len,
+                        const uint8_t *numbers, size_t numbers_len, const uint16_t *order, size_t order_len,
+                        const uint8_t *name, size_t name_len, uint8_t *store, size_t store_len);
+
+/**
+ * Come back to a mark: links, numbers and order are as they were when it was set. The store is only read. The tables must be sound; to
+ * come back from tables that are not, read the image that stands SB_NAME_BYTES after the beginning of the mark's place.
+ *
+ * \return 0; or SB_SIZE, SB_LENGTH, SB_UNSOUND, SB_MARK, SB_NO_MARK, and then every table keeps its content.
+ */
+uint32_t sb_mark_return(uint32_t n, uint8_t *links, size_t links_len,
+                        uint8_t *numbers, size_t numbers_len, uint16_t *order, size_t order_len,
+                        const uint8_t *name, size_t name_len, const uint8_t *store, size_t store_len);
 
 /**
  * A step of the block reader: start with next = 0, and go on with the next of the step before. Any value of next is safe.

@@ -29,6 +29,7 @@ static void test_structs(void) {
 static uint8_t links[SB_ROW_BYTES * SB_RADIOS], numbers[SB_RADIOS], image[8 * SB_BLOCK_BYTES];
 static uint16_t order[SB_RADIOS], answer[SB_RADIOS], kept[2 * SB_RADIOS];
 static sb_node nodes[SB_RADIOS + 1];
+static uint8_t store[SB_STORE_BYTES];
 #define TABLES links, sizeof links, numbers, SB_RADIOS, order, SB_RADIOS
 #define ANSWER answer, SB_RADIOS
 
@@ -154,6 +155,30 @@ static void test_images(void) {
     expect("image check", sb_image_block(image, length, 0).number, SB_IMAGE_CHECK);
 }
 
+static size_t mark(const char *name) { return sb_mark_set(SB_RADIOS, TABLES, (const uint8_t *)name, SB_NAME_BYTES, store, sizeof store); }
+
+/* The tables hold a star. */
+static void test_marks(void) {
+    static const char names[] = "M0      M1      M2      M3      M4      M5      M6      M7      ";
+    const uint8_t *first = (const uint8_t *)names;
+    expect("places", SB_MARKS * SB_PLACE_BYTES, SB_STORE_BYTES);
+    for (uint32_t i = 0; i < SB_MARKS; i++) expect("mark", mark(names + SB_NAME_BYTES * i), SB_OK);
+    expect("ninth name", mark("M8      "), SB_MARKS_FULL);
+    expect("name again", mark("M7      "), SB_OK);
+    expect("name of 7 bytes", sb_mark_set(SB_RADIOS, TABLES, first, 7, store, sizeof store), SB_MARK);
+    expect("lower case", mark("m8      "), SB_MARK);
+    expect("short store", sb_mark_set(SB_RADIOS, TABLES, first, SB_NAME_BYTES, store, sizeof store - 1), SB_LENGTH);
+    expect("removed", sb_mark_remove(SB_RADIOS, TABLES, first, SB_NAME_BYTES, store, sizeof store), SB_OK);
+    expect("removed again", sb_mark_remove(SB_RADIOS, TABLES, first, SB_NAME_BYTES, store, sizeof store), SB_NO_MARK);
+    expect("moved down", memcmp(store, "M1      ", SB_NAME_BYTES), 0);
+    expect("cleared", sb_clear(SB_RADIOS, TABLES), SB_OK);
+    expect("no such mark", sb_mark_return(SB_RADIOS, TABLES, first, SB_NAME_BYTES, store, sizeof store), SB_NO_MARK);
+    expect("come back", sb_mark_return(SB_RADIOS, TABLES, first + 8, SB_NAME_BYTES, store, sizeof store), SB_OK);
+    expect("neighbours again", sb_neighbours(SB_RADIOS, 0, TABLES).value, SB_NEIGHBOURS);
+    store[0] = ' ';
+    expect("spoiled", sb_mark_return(SB_RADIOS, TABLES, first + 16, SB_NAME_BYTES, store, sizeof store), SB_MARK);
+}
+
 int main(void) {
     test_structs();
     test_limits();
@@ -165,6 +190,7 @@ int main(void) {
     test_sheet();
     test_script();
     test_staircase();
+    test_marks();
     test_images();
     return failures != 0;
 }

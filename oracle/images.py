@@ -372,9 +372,14 @@ def work_out():
     return "".join(LINES)
 
 
-text = work_out()
-if "--check" in sys.argv:
-    same = OUT.read_text() == text
-    print("crates/test_images/stdout:", "as written by this program" if same else "DIFFERENT")
-    sys.exit(not same)
-OUT.write_text(text)
+def main():
+    text = work_out()
+    if "--check" in sys.argv:
+        same = OUT.read_text() == text
+        print("crates/test_images/stdout:", "as written by this program" if same else "DIFFERENT")
+        sys.exit(not same)
+    OUT.write_text(text)
+
+
+if __name__ == "__main__":
+    main()

@@ -159,7 +159,7 @@ static int c_are_few(const uint16_t *counts, uint32_t n) {
 static int c_is_image(const uint8_t *image, size_t length, uint32_t n, uint16_t *order, uint16_t *numbers) {
     uint16_t places[RADIOS], counts[RADIOS];
     unsigned m = word_at(image + 6), top = 0;
-    if (!c_formed(image, length, n) || !c_listed(image, n, m, counts) || !c_are_few(counts, n)) return 0;
+    if (n < 1 || !c_formed(image, length, n) || !c_listed(image, n, m, counts) || !c_are_few(counts, n)) return 0;
     c_read_order(image, n, order);
     if (!c_place(n, order, places)) return 0;
     c_tally(image, n, m, places, 0, counts);

@@ -15,7 +15,7 @@ use Rattle.lists.proofs.Tests.{bool-cases}
 use Rattle.mesh.proofs.Cores.Certificate.{core-unique}
 use Rattle.calls.specs.Book.{Call, linking, Answer, book-after}
 use Rattle.calls.specs.Runs.{Does, Event, event, Run, ended, next, givens}
-use Rattle.calls.specs.Demand.{By-one, Link-kept, Start, Kept, Demand-3}
+use Rattle.calls.specs.Demand.{By-one, Link-kept, Start, beginning, Kept, Demand-3}
 use Rattle.calls.proofs.WholeList.{demand-3}
 
 -- a run with one call more
@@ -29,7 +29,8 @@ unfolding By-one
 differ true j k e p = omega arith
 differ false j k e p = omega arith
 
-kept : (n : ℕ) (ps : List Link) (t v : Tables) (es : List Event) → Start n ps t → Run t es v → Kept n ps es (graph n (book-after (givens es) ps)) v
+kept : (n : ℕ) (ps : List Link) (t v : Tables) (es : List Event) (s : Start n ps t) → Run t es v →
+    Kept n ps (beginning s) es (graph n (book-after (givens es) ps)) v
 unfolding Demand-3
 kept = demand-3
 

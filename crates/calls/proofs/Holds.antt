@@ -27,7 +27,7 @@ use Rattle.calls.specs.Questions.{lengths-of, site-refusal, tables-refus
 use Rattle.calls.specs.Switches.{Switch, pairs-after, switched, tables-after}
 use Rattle.calls.specs.Contracts.Sites.{Clear-accepted}
 use Rattle.calls.specs.Contracts.Images.{Read-accepted}
-use Rattle.calls.specs.Book.{reported}
+use Rattle.calls.specs.Book.{reported, from-clearing, from-image, beginning-tables}
 use Rattle.calls.specs.Demand.{Link-kept, Switching, ended, next}
 use Rattle.calls.proofs.ChainLaws.{Lent-good, lent-zero, lent-later, read-zero}
 use Rattle.calls.proofs.RecordLaws.{tables-ext}
@@ -41,22 +41,31 @@ pub record Holds (n : ℕ) (ps : List Link) (t : Tables) : Type 0 where
 
 -- ---- after an accepted clearing or reading
 
+-- the tables that it leaves
+pub clear-is : (m r : ℕ) (v : Tables) → Clear-accepted m r v → v ≡ beginning-tables (from-clearing m)
+unfolding beginning-tables tables-of
+clear-is m r v d = tables-ext v _ (d .links ∙ sym (links-table-cleared m)) (d .numbers ∙ sym (numbers-cleared m)) (d .order)
+
+pub read-is : (m : ℕ) (bs : List ℕ) (r : ℕ) (v : Tables) → Read-accepted m bs r v → v ≡ beginning-tables (from-image m bs)
+unfolding beginning-tables tables-of
+read-is m bs r v d = tables-ext v _ (d .links) (d .numbers) (d .order)
+
 pub clear-holds : (m r : ℕ) (t v : Tables) → tables-refusal m (lengths-of t) ≡ 0 → Clear-accepted m r v → Holds m [] v
-unfolding tables-refusal tables-of
+unfolding tables-refusal beginning-tables
 clear-holds m r t v p d = record {
   most = lent-zero m (lengths-of t) true 0 p .0 .most;
   xs = range 0 m;
   valid = valid-cleared m max-neighbours;
-  is = tables-ext v _ (d .links ∙ sym (links-table-cleared m)) (d .numbers ∙ sym (numbers-cleared m)) (d .order);
+  is = clear-is m r v d;
 }
 
 pub read-holds :
     (m : ℕ) (bs : List ℕ) (r : ℕ) (t v : Tables) → read-refusal m (lengths-of t) bs ≡ 0 → Read-accepted m bs r v →
     Holds m (image-links m bs) v
-unfolding read-refusal tables-of image-graph
+unfolding read-refusal beginning-tables image-graph
 read-holds m bs r t v p d =
     let q = read-zero m (lengths-of t) bs p in
-    record { most = q .0 .most; xs = image-order m bs; valid = image-valid m bs (q .0 .most) (q .2); is = tables-ext v _ (d .links) (d .numbers) (d .order) }
+    record { most = q .0 .most; xs = image-order m bs; valid = image-valid m bs (q .0 .most) (q .2); is = read-is m bs r v d }
 
 -- ---- tables that hold the pairs
 

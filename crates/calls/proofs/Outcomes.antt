@@ -47,7 +47,7 @@ exactly P o met decided s = (λ p. decided s o p met, λ e. rw e met)
 
 -- ---- pairs and triples
 
-pair-ext : {A B : Type 0} (o s : A × B) → o .0 ≡ s .0 → o .1 ≡ s .1 → o ≡ s
+pub pair-ext : {A B : Type 0} (o s : A × B) → o .0 ≡ s .0 → o .1 ≡ s .1 → o ≡ s
 pair-ext {A} {B} o s p q = ap₂ {C = A × B} (λ x y. (x, y)) p q
 
 triple-ext : {A B C : Type 0} (o s : A × B × C) → o .0 ≡ s .0 → o .1 ≡ s .1 → o .2 ≡ s .2 → o ≡ s
@@ -56,7 +56,7 @@ triple-ext {A} {B} {C} o s p q r = rw (← p, ← q, ← r)
 -- ---- by the refusal number
 
 -- accepted and refused outcomes decide: so does the contract
-by-decides :
+pub by-decides :
     {A : Type 0} (R : ℕ) (P : A → Type 0) (Q : ℕ → A → Type 0) → Decides P → ((q : ℕ) → Decides (Q q)) →
     Decides (λ o. By-number R (P o) (λ q. Q q o))
 unfolding By-number
@@ -64,7 +64,7 @@ by-decides zero P Q f g o s p q = f o s p q
 by-decides (suc x) P Q f g o s p q = g (suc x) o s p q
 
 -- the outcomes worked out meet them: so does the one by the number
-by-meets :
+pub by-meets :
     {A : Type 0} (R : ℕ) (P : A → Type 0) (Q : ℕ → A → Type 0) (a : A) (r : ℕ → A) → P a → ((q : ℕ) → Q q (r q)) →
     By-number R (P (by-number R a r)) (λ q. Q q (by-number R a r))
 unfolding By-number by-number
@@ -109,7 +109,7 @@ listing-met R x new old =
     (λ q. record { number = refl; value = refl; lent = refl })
 
 -- a number and the three tables
-tables-refused : (q : ℕ) (t : Tables) → Decides {A = ℕ × Tables} (λ o. Tables-refused q (o .0) t (o .1))
+pub tables-refused : (q : ℕ) (t : Tables) → Decides {A = ℕ × Tables} (λ o. Tables-refused q (o .0) t (o .1))
 tables-refused x t o s p q = pair-ext o s (cc) (tables-ext (o .1) (s .1) (cc) (cc) (cc))
 
 block-none : (q e i : ℕ) → Decides (Block-none q e i)

@@ -32,7 +32,7 @@ use Rattle.calls.specs.declared.Block.{Block}
 
 -- ---- by the refusal number
 
-by-refusal :
+pub by-refusal :
     (R number : ℕ) (A : Type 0) (B : ℕ → Type 0) → (A → number ≡ 0) → ((q : ℕ) → B q → number ≡ q) → By-number R A B →
     (number ≡ 0 → ⊥) → B number
 unfolding By-number

@@ -15,7 +15,8 @@ use Rattle.lists.specs.Lists.{overwrite}
 use Rattle.mesh.specs.Graph.{Link, Graph, graph}
 use Rattle.mesh.specs.Levels.{changed, step-of}
 use Rattle.mesh.specs.Tables.{Tables, graph-in}
-use Rattle.mesh.specs.Image.{image-links}
+use Rattle.mesh.specs.Sound.{sound}
+use Rattle.mesh.specs.Image.{image-links, image-graph}
 use Rattle.lists.proofs.Overwrite.{take-overwrite}
 use Rattle.calls.specs.Questions.{By-number, lengths-of, answer-length, ask, ends-then, ends-refusal, is-proposal, tables-refusal, link-refusal}
 use Rattle.calls.specs.Questions.{commit-refusal, read-refusal}
@@ -27,15 +28,20 @@ use Rattle.calls.specs.Contracts.Proposals.{Commit-accepted, Commit-refu
 use Rattle.calls.specs.Batches.{list-length, batch-refusal, batch-switches, batch-stop}
 use Rattle.calls.specs.Contracts.Batches.{Batch-done, Batch-refused, Batch-contract}
 use Rattle.calls.specs.Contracts.Images.{Read-accepted, Read-contract}
-use Rattle.calls.specs.Book.{Call, clearing, reading, linking, committing, batching, other, Answer, plain, reported, committed, counted, Outcome, outcome-of, unless-refused, outcome}
-use Rattle.calls.specs.Book.{first-pairs, pairs-of}
+use Rattle.calls.specs.Marks.{store-length, marks-good, is-marked, has-place, mark-refusal, set-refusal, named-refusal, mark-image}
+use Rattle.calls.specs.Contracts.Marks.{Store-accepted, Store-refused, Store-by, Set-contract, Remove-contract, Return-contract}
+use Rattle.calls.specs.Book.{Call, clearing, reading, linking, committing, batching, setting, removing, returning, other, Answer, plain, reported, committed, counted, Outcome}
+use Rattle.calls.specs.Book.{Beginning, from-clearing, from-image, Marking, no-mark, sets, removes, returns, outcome-of, outcome-with, unless-refused, outcome}
+use Rattle.calls.specs.Book.{beginning-pairs, first-pairs, pairs-of, radios, beginning-tables}
 use Rattle.calls.specs.Runs.{answer-of, replied, Does}
-use Rattle.calls.specs.Demand.{ended, Call-kept, Start, cleared, read}
+use Rattle.calls.specs.Demand.{ended, Call-kept, Start, cleared, read, By-history}
 use Rattle.calls.specs.declared.Reply.{Reply}
 use Rattle.calls.specs.declared.Value.{Value}
 use Rattle.calls.proofs.ChainLaws.{lent-zero, site-zero, link-zero, commit-zero, read-zero}
 use Rattle.calls.proofs.ContractLaws.{by-accepted}
 use Rattle.calls.proofs.RecordLaws.{tables-ext, refused-same}
+use Rattle.calls.proofs.MarkCalls.{named-zero, mark-read}
+use Rattle.calls.proofs.Holds.{clear-is, read-is}
 use Rattle.calls.proofs.Holds.{Holds, clear-holds, read-holds, unchanged-holds, same-n, read-back, site-asked, with-n, All-allowed, all-holds}
 use Rattle.calls.proofs.Holds.{all-switching}
 use Rattle.calls.proofs.Batches.{batch-allowed}
@@ -44,15 +50,20 @@ pub record Stepped (n : ℕ) (ps : List Link) (o : Outcome) (t : Tables) (hs : L
   pub kept : Call-kept n ps o t hs v
   pub holds : Holds n (pairs-of o ps) v
 
-is-none : Option (List Link) → Type 0
+is-none : Option Beginning → Type 0
 is-none none = Unit {0}
 is-none (some x) = ⊥
 
-some-none : {qs : List Link} → some qs ≡ none → ⊥
+some-none : {b : Beginning} → some b ≡ none → ⊥
 unfolding is-none
 some-none j = subst is-none (sym j) tt
 
-none-some : {qs : List Link} → none ≡ some qs → ⊥
+-- what it begins from, or b
+the-beginning : Beginning → Option Beginning → Beginning
+the-beginning b none = b
+the-beginning b (some d) = d
+
+none-some : {b : Beginning} → none ≡ some b → ⊥
 none-some j = some-none (sym j)
 
 abbrev one : Answer → List Answer
@@ -78,20 +89,30 @@ module _ (n : ℕ) (ps : List Link) (t : Tables) (k : Holds n ps t) where
   unfolding unless-refused pairs-of first-pairs pairs-after tables-after
   refused q o hs v e f = record { kept = record { answered = e; tables = λ j. f; switching = λ j. rw f ended; started = λ qs j. absurd (none-some j) }; holds = unchanged-holds n ps t k f }
 
-  -- a clearing or a reading
+  -- a clearing, a reading or a coming back
   restarted :
-      (hs rs : List Answer) (qs : List Link) (v : Tables) → hs ≡ rs → Start n qs v → Holds n qs v →
-      Stepped n ps (unless-refused 0 (outcome-of rs (some qs) [])) t hs v
-  unfolding unless-refused pairs-of first-pairs pairs-after tables-after
-  restarted hs rs qs v e s k′ = record {
+      (hs rs : List Answer) (b : Beginning) (m : Marking) (v : Tables) → hs ≡ rs → radios b ≡ n → v ≡ beginning-tables b → Start n (beginning-pairs b) v →
+      Holds n (beginning-pairs b) v → Stepped n ps (unless-refused 0 (outcome-with rs (some b) [] m)) t hs v
+  unfolding unless-refused pairs-of first-pairs pairs-after tables-after the-beginning
+  restarted hs rs b m v e z f s k′ = record {
     kept = record {
       answered = e;
       tables = λ j. absurd (some-none j);
       switching = λ j. absurd (some-none j);
-      started = λ os j.
-          record { first = v; start = subst (λ (zs : List Link). Start n zs v) (ap (λ (b : Option (List Link)). first-pairs b []) j) s; tables = refl };
+      started = λ d j.
+          subst (λ (c : Beginning). By-history n (record { began = c; calls = [] }) v) (ap (the-beginning b) j)
+          (record { size = z; start = subst (Start n (beginning-pairs b)) f s; tables = f });
     };
     holds = k′;
+  }
+
+  -- a call that leaves links, numbers and order, and sets or removes a mark
+  left-alone :
+      (hs rs : List Answer) (m : Marking) (v : Tables) → hs ≡ rs → v ≡ t → Stepped n ps (unless-refused 0 (outcome-with rs none [] m)) t hs v
+  unfolding unless-refused pairs-of first-pairs pairs-after tables-after
+  left-alone hs rs m v e f = record {
+    kept = record { answered = e; tables = λ j. f; switching = λ j. rw f ended; started = λ qs j. absurd (none-some j) };
+    holds = unchanged-holds n ps t k f;
   }
 
   -- links taken up or down one after the other
@@ -125,22 +146,29 @@ module _ (n : ℕ) (ps : List Link) (t : Tables) (k : Holds n ps t) where
   clear-step :
       (R m r : ℕ) (v : Tables) (hs : List Answer) → tables-refusal m (lengths-of t) ≡ R →
       By-number R (Clear-accepted m r v) (λ q. Tables-refused q r t v) → hs ≡ one (plain r) →
-      Stepped n ps (unless-refused R (outcome-of (one (plain 0)) (some []) [])) t hs v
-  unfolding By-number tables-refusal
+      Stepped n ps (unless-refused R (outcome-of (one (plain 0)) (some (from-clearing m)) [])) t hs v
+  unfolding By-number tables-refusal radios beginning-pairs
   clear-step zero m r v hs p d q =
-      restarted hs _ [] v (q ∙ ap (λ (x : ℕ). one (plain x)) (d .number))
-      (clear-start m r v p d) (with-n n ps t k m [] v true (lent-zero m (lengths-of t) true 0 p .0) (clear-holds m r t v p d))
+      restarted hs _ (from-clearing m) no-mark v (q ∙ ap (λ (x : ℕ). one (plain x)) (d .number))
+      (same-n n ps t k m true (lent-zero m (lengths-of t) true 0 p .0)) (clear-is m r v d) (clear-start m r v p d) (with-n n ps t k m [] v true (lent-zero m (lengths-of t) true 0 p .0) (clear-holds m r t v p d))
   clear-step (suc x) m r v hs p d q = refused x _ hs v (q ∙ ap (λ (x : ℕ). one (plain x)) (d .number)) (refused-same (suc x) r t v d)
+
+  -- of an image that reading takes
+  image-step :
+      (m r : ℕ) (bs : List ℕ) (mark : Marking) (v : Tables) (hs : List Answer) → read-refusal m (lengths-of t) bs ≡ 0 → Read-accepted m bs r v →
+      hs ≡ one (plain r) → Stepped n ps (unless-refused 0 (outcome-with (one (plain 0)) (some (from-image m bs)) [] mark)) t hs v
+  unfolding radios beginning-pairs
+  image-step m r bs mark v hs p d q =
+      restarted hs _ (from-image m bs) mark v (q ∙ ap (λ (x : ℕ). one (plain x)) (d .number))
+      (same-n n ps t k m true (read-zero m (lengths-of t) bs p .0)) (read-is m bs r v d) (read-start m r bs v p d)
+      (with-n n ps t k m (image-links m bs) v true (read-zero m (lengths-of t) bs p .0) (read-holds m bs r t v p d))
 
   read-step :
       (R m r : ℕ) (bs : List ℕ) (v : Tables) (hs : List Answer) → read-refusal m (lengths-of t) bs ≡ R →
       By-number R (Read-accepted m bs r v) (λ q. Tables-refused q r t v) → hs ≡ one (plain r) →
-      Stepped n ps (unless-refused R (outcome-of (one (plain 0)) (some (image-links m bs)) [])) t hs v
+      Stepped n ps (unless-refused R (outcome-of (one (plain 0)) (some (from-image m bs)) [])) t hs v
   unfolding By-number read-refusal
-  read-step zero m r bs v hs p d q =
-      restarted hs _ (image-links m bs) v (q ∙ ap (λ (x : ℕ). one (plain x)) (d .number))
-      (read-start m r bs v p d)
-      (with-n n ps t k m (image-links m bs) v true (read-zero m (lengths-of t) bs p .0) (read-holds m bs r t v p d))
+  read-step zero m r bs v hs p d q = image-step m r bs no-mark v hs p d q
   read-step (suc x) m r bs v hs p d q = refused x _ hs v (q ∙ ap (λ (x : ℕ). one (plain x)) (d .number)) (refused-same (suc x) r t v d)
 
   -- ---- a link call
@@ -190,6 +218,31 @@ module _ (n : ℕ) (ps : List Link) (t : Tables) (k : Holds n ps t) where
       rw e (carried hs _ (batch-switches n xs ps) v (q ∙ rw (c .number, c .value)) (batch-allowed n xs ps) (c .tables))
   batch-step (suc y) m xs r v hs p d q = refused y _ hs v (q ∙ rw (d .number, d .value)) (d .tables)
 
+  -- ---- marks (W-211)
+
+  -- setting and removing
+  store-step :
+      (R r : ℕ) (new old cs : List ℕ) (mark : Marking) (v : Tables) (hs : List Answer) → Store-by R new old r cs → v ≡ t → hs ≡ one (plain r) →
+      Stepped n ps (unless-refused R (outcome-with (one (plain 0)) none [] mark)) t hs v
+  unfolding By-number
+  store-step zero r new old cs mark v hs d e q = left-alone hs _ mark v (q ∙ ap (λ (x : ℕ). one (plain x)) (d .number)) e
+  store-step (suc y) r new old cs mark v hs d e q = refused y _ hs v (q ∙ ap (λ (x : ℕ). one (plain x)) (d .number)) e
+
+  return-step :
+      (R m r : ℕ) (x bs : List ℕ) (v : Tables) (hs : List Answer) → named-refusal m (lengths-of t) true x bs ≡ R →
+      By-number R (Read-accepted m (mark-image m x bs) r v) (λ q. Tables-refused q r t v) → hs ≡ one (plain r) →
+      Stepped n ps (unless-refused R (outcome-with (one (plain 0)) (some (from-image m (mark-image m x bs))) [] (returns x))) t hs v
+  unfolding By-number
+  return-step zero m r x bs v hs p d q =
+      let a = named-zero m (lengths-of t) true x bs p in
+      image-step m r (mark-image m x bs) (returns x) v hs (mark-read m (lengths-of t) true x bs (a .0) (a .1)) d q
+  return-step (suc y) m r x bs v hs p d q = refused y _ hs v (q ∙ ap (λ (x : ℕ). one (plain x)) (d .number)) (refused-same (suc y) r t v d)
+
+  -- question 3 gets yes
+  mark-asked : (m : ℕ) (x bs : List ℕ) (later : ℕ) → mark-refusal m (lengths-of t) (sound m t) x bs later ≡ mark-refusal m (lengths-of t) true x bs later
+  unfolding mark-refusal
+  mark-asked m x bs later = site-asked n ps t k m (store-length bs) (λ g. ask 17 (marks-good m x bs) later)
+
   -- ---- any call
 
   other-step : (hs : List Answer) (v : Tables) → v ≡ t → hs ≡ [] → Stepped n ps (outcome-of [] none []) t hs v
@@ -200,7 +253,7 @@ module _ (n : ℕ) (ps : List Link) (t : Tables) (k : Holds n ps t) where
   }
 
   pub step : (c : Call) (hs : List Answer) (v : Tables) → Does c t hs v → Stepped n ps (outcome c (lengths-of t) ps) t hs v
-  unfolding Does Clear-contract Read-contract Link-contract Commit-contract Batch-contract outcome link-refusal commit-refusal batch-refusal
+  unfolding Does Clear-contract Read-contract Link-contract Commit-contract Batch-contract Set-contract Remove-contract Return-contract outcome link-refusal commit-refusal batch-refusal set-refusal named-refusal
   step (clearing m) hs v d = clear-step _ m (d .result) v hs refl (d .contract) (d .answer)
   step (reading m bs) hs v d = read-step _ m (d .result) bs v hs refl (d .contract) (d .answer)
   step (linking u m a b w) hs v d =
@@ -215,4 +268,13 @@ module _ (n : ℕ) (ps : List Link) (t : Tables) (k : Holds n ps t) where
       let f = asked (Batch-done m xs (graph-in m (t .links) .links) t (d .result) v) (λ q. Batch-refused q t (d .result) v)
       (site-asked n ps t k m (list-length (length xs)) (λ g. 0)) (d .contract) in
       batch-step _ m xs (d .result) v hs refl f (d .answer)
+  step (setting m x bs) hs v d =
+      store-step _ (d .result) _ _ (d .after) (sets x) v hs
+      (asked _ _ (mark-asked m x bs (ask 19 (has-place x bs) 0)) (d .contract)) (d .left) (d .answer)
+  step (removing m x bs) hs v d =
+      store-step _ (d .result) _ _ (d .after) (removes x) v hs
+      (asked _ _ (mark-asked m x bs (ask 18 (is-marked x bs) 0)) (d .contract)) (d .left) (d .answer)
+  step (returning m x bs) hs v d =
+      return-step _ m (d .result) x bs v hs refl
+      (asked _ _ (mark-asked m x bs (ask 18 (is-marked x bs) 0)) (d .contract)) (d .answer)
   step other hs v d = other-step hs v (d .0) (d .1)

@@ -8,10 +8,12 @@ use mathlib.Core.List.{List, [], _∷_}
 use Prim.Native.Nat.{ℕ}
 use lib.ListN.{length, replicate, length-replicate}
 use Rattle.mesh.specs.Tables.{Tables}
-use Rattle.calls.specs.Book.{Call, clearing, reading, linking, committing, batching, other, Answer, plain, counted}
+use Rattle.calls.specs.Book.{Call, clearing, reading, linking, committing, batching, setting, removing, returning, other, Answer, plain, counted}
 use Rattle.calls.specs.Outcomes.{clear-outcome, read-outcome, link-outcome, commit-outcome, batch-outcome}
+use Rattle.calls.specs.MarkOutcomes.{set-outcome, remove-outcome, return-outcome}
 use Rattle.calls.specs.Runs.{answer-of, replied, Linking-done, Does, Event, event, Run, ended, next, called}
 use Rattle.calls.proofs.Outcomes.{clear-inhabited, read-inhabited, link-inhabited, commit-inhabited, batch-inhabited}
+use Rattle.calls.proofs.MarkOutcomes.{set-inhabited, remove-inhabited, return-inhabited}
 
 pub link-done :
     (up : Bool) (n a b : ℕ) (t : Tables) (w : List ℕ) → let o = link-outcome up n a b t w in
@@ -42,6 +44,15 @@ call-total (committing up n a b z xs) t =
 call-total (batching n xs) t =
     let o = batch-outcome n xs t in
     ((counted (o .0 .number) (o .0 .value) ∷ [], o .1), record { result = o .0; contract = batch-inhabited n xs t; answer = refl })
+call-total (setting n x bs) t =
+    let o = set-outcome n x t bs in
+    ((plain (o .0) ∷ [], t), record { result = o .0; after = o .1; contract = set-inhabited n x t bs; left = refl; answer = refl })
+call-total (removing n x bs) t =
+    let o = remove-outcome n x t bs in
+    ((plain (o .0) ∷ [], t), record { result = o .0; after = o .1; contract = remove-inhabited n x t bs; left = refl; answer = refl })
+call-total (returning n x bs) t =
+    let o = return-outcome n x bs t in
+    ((plain (o .0) ∷ [], o .1), record { result = o .0; contract = return-inhabited n x bs t; answer = refl })
 call-total other t = (([], t), (refl, refl))
 
 pub run-total : (cs : List Call) (t : Tables) → (es : List Event) × (v : Tables) × Run t es v × (called es ≡ cs)

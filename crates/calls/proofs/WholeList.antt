@@ -2,7 +2,7 @@
 use mathlib.Core.Path.{_≡_, refl, ap, sym, subst, _∙_}
 use mathlib.Core.Bool.{Bool, true}
 use mathlib.Core.List.{List, [], _∷_, _++_}
-use mathlib.Core.Option.{Option, none, some}
+use mathlib.Core.Option.{none}
 use Prim.Native.Nat.{ℕ, zero, suc, _<_}
 use native.Mathlib.Omega.{arith}
 use Rattle.mesh.specs.Graph.{Link, graph}
@@ -11,19 +11,21 @@ use Rattle.mesh.specs.Orders.{is-k-order}
 use Rattle.mesh.specs.Tables.{Tables, tables-of}
 use Rattle.mesh.specs.Sound.{number-in}
 use Rattle.mesh.specs.Levels.{changed}
+use Rattle.mesh.specs.Image.{image-links}
 use Rattle.mesh.proofs.Cores.Peeling.{number-core, getD-numbers}
 use Rattle.calls.specs.Questions.{By-number, lengths-of, answer-length, tables-refusal, read-refusal, link-refusal}
 use Rattle.calls.specs.Switches.{Switch, switch, pairs-after, tables-after}
 use Rattle.calls.specs.Contracts.Forms.{Tables-refused}
 use Rattle.calls.specs.Contracts.Sites.{Clear-accepted, Clear-contract}
 use Rattle.calls.specs.Contracts.Images.{Read-accepted, Read-contract}
-use Rattle.calls.specs.Book.{Call, linking, Given, given, Answer, plain, reported, Outcome, outcome-of, unless-refused, outcome, first-pairs, pairs-of}
-use Rattle.calls.specs.Book.{booked, book-answers, book-after, History, fresh, history-by, history-after, history}
+use Rattle.calls.specs.Book.{Call, linking, given, Answer, plain, reported, outcome-of, unless-refused, outcome, pairs-of}
+use Rattle.calls.specs.Book.{booked, book-answers, book-after, beginning-pairs, radios, beginning-tables, fresh, past, history}
 use Rattle.calls.specs.Runs.{Event, event, Run, ended, next, givens, answers}
-use Rattle.calls.specs.Demand.{Link-kept, Switching, Start, cleared, read, By-history, Call-kept, Demand-3}
+use Rattle.calls.specs.Demand.{Link-kept, Switching, Start, cleared, read, beginning, Demand-3}
 use Rattle.calls.proofs.ChainLaws.{link-zero}
-use Rattle.calls.proofs.Holds.{Holds, clear-holds, read-holds, same-n, is-sound, read-back, pairs-after-append, tables-after-append}
+use Rattle.calls.proofs.Holds.{Holds, clear-holds, read-holds, clear-is, read-is, same-n, is-sound, read-back}
 use Rattle.calls.proofs.Steps.{Stepped, step}
+use Rattle.calls.proofs.Histories.{Traced, Past-holds, past-kept}
 
 -- each call of a list, with the tables before it
 Each : (n : ℕ) → (ps : List Link) → List Event → Type 0
@@ -88,28 +90,6 @@ link-called :
 unfolding booked outcome
 link-called n ps u m a b w t v h c z = link-by-number n ps u m a b w t v h (c .before) z _ refl (c .stepped)
 
--- ---- the link history
-
-history-now :
-    (o : Outcome) (ps : List Link) (b : Option (List Link)) (h : History) → ps ≡ pairs-after (h .calls) (h .began) →
-    pairs-after (o .switches) (first-pairs b ps) ≡ pairs-after (history-by b (o .switches) h .calls) (history-by b (o .switches) h .began)
-unfolding first-pairs history-by
-history-now o ps none h f = ap (pairs-after (o .switches)) f ∙ sym (pairs-after-append (h .calls) (o .switches) (h .began))
-history-now o ps (some qs) h f = refl
-
-history-is :
-    (cs : List Given) (ps : List Link) (h : History) → ps ≡ pairs-after (h .calls) (h .began) →
-    book-after cs ps ≡ pairs-after (history-after cs ps h .calls) (history-after cs ps h .began)
-unfolding book-after history-after pairs-of
-history-is [] ps h e = e
-history-is (c ∷ cs) ps h e =
-    let o = booked c ps in history-is cs (pairs-of o ps) (history-by (o .begins) (o .switches) h) (history-now o ps (o .begins) h e)
-
-pairs-by-history :
-    (n : ℕ) (cs : List Given) (ps : List Link) → graph n (book-after cs ps) ≡ graph n (pairs-after (history cs ps .calls) (history cs ps .began))
-unfolding history fresh pairs-after
-pairs-by-history n cs ps = ap (graph n) (history-is cs ps (fresh ps) refl)
-
 -- ---- the tables
 
 core-at : (n : ℕ) (ps : List Link) (v : Tables) → Holds n ps v → (x : ℕ) → x < n → Core (graph n ps) x (number-in (v .numbers) x)
@@ -138,34 +118,29 @@ start (read n bs t v d) =
     let a = start-with (read-refusal n (lengths-of t) bs) (Read-accepted n bs 0 v) t v d in
     read-holds n bs 0 t v (a .0) (a .1)
 
--- ---- the tables by the link history
+-- ---- the link history
 
--- after an outcome
-tables-now :
-    (n : ℕ) (ps : List Link) (o : Outcome) (t : Tables) (hs : List Answer) (u : Tables) (h : History) → Call-kept n ps o t hs u → By-history n h t →
-    (b : Option (List Link)) → o .begins ≡ b → By-history n (history-by b (o .switches) h) u
-unfolding history-by
-tables-now n ps o t hs u h c k none e = record {
-  first = k .first;
-  start = k .start;
-  tables = c .tables e ∙ ap (tables-after n (o .switches)) (k .tables) ∙ sym (tables-after-append n (h .calls) (o .switches) (k .first));
-}
-tables-now n ps o t hs u h c k (some qs) e = c .started qs e
+-- what a list began from makes the tables that it started with
+start-traced : {n : ℕ} {ps : List Link} {t : Tables} → (s : Start n ps t) → Traced n (fresh (beginning s)) ps t
+unfolding Clear-contract Read-contract beginning fresh radios beginning-pairs pairs-after tables-after
+start-traced (cleared n t v d) =
+    let a = start-with (tables-refusal n (lengths-of t)) (Clear-accepted n 0 v) t v d in
+    let e = clear-is n 0 v (a .1) in
+    record { holds = start (cleared n t v d); by = record { size = refl; start = subst (Start n []) e (cleared n t v d); tables = e }; pairs = refl }
+start-traced (read n bs t v d) =
+    let a = start-with (read-refusal n (lengths-of t) bs) (Read-accepted n bs 0 v) t v d in
+    let e = read-is n bs 0 v (a .1) in
+    record { holds = start (read n bs t v d); by = record { size = refl; start = subst (Start n (image-links n bs)) e (read n bs t v d); tables = e }; pairs = refl }
 
-history-kept :
-    (n : ℕ) (ps : List Link) (h : History) {t v : Tables} {es : List Event} → Holds n ps t → Run t es v → By-history n h t →
-    By-history n (history-after (givens es) ps h) v
-unfolding givens history-after booked
-history-kept n ps h k ended b = b
-history-kept n ps h k (next {c = c} {t = t} {u = u} {hs = hs} d r) b =
-    let s = step n ps t k c hs u d in
-    let o = outcome c (lengths-of t) ps in
-    history-kept n (pairs-of o ps) (history-by (o .begins) (o .switches) h) (s .holds) r
-    (tables-now n ps o t hs u h (s .kept) b (o .begins) refl)
+-- with no mark set
+pub start-past : {n : ℕ} {ps : List Link} {t : Tables} → (s : Start n ps t) → Past-holds n ps (past (fresh (beginning s)) []) t
+start-past s = record { traced = start-traced s; marks = tt }
 
-tables-by-history : (n : ℕ) (ps : List Link) (t v : Tables) (es : List Event) → Start n ps t → Run t es v → By-history n (history (givens es) ps) v
-unfolding history fresh tables-after
-tables-by-history n ps t v es s r = history-kept n ps (fresh ps) (start s) r (record { first = t; start = s; tables = refl })
+history-traced :
+    (n : ℕ) (ps : List Link) (t v : Tables) (es : List Event) (s : Start n ps t) → Run t es v →
+    Traced n (history (givens es) ps (beginning s)) (book-after (givens es) ps) v
+unfolding history
+history-traced n ps t v es s r = past-kept n ps (past (fresh (beginning s)) []) (start-past s) r .traced
 
 -- ---- demand 3
 
@@ -181,8 +156,8 @@ demand-3 n ps t v es s r =
       k-order = k-order-at n (book-after (givens es) ps) v k;
       sound = is-sound n (book-after (givens es) ps) v k;
       read-back = read-back n (book-after (givens es) ps) v k;
-      pairs-by-history = pairs-by-history n (givens es) ps;
-      by-history = tables-by-history n ps t v es s r;
+      pairs-by-history = ap (graph n) (history-traced n ps t v es s r .pairs);
+      by-history = history-traced n ps t v es s r .by;
       answered = i .answered;
       calls = λ before after c t u hs e. call-at n ps before after c t u hs (subst (Each n ps) e (i .each)) .stepped .kept;
       link-calls = λ before after up m a b w t u h e z.

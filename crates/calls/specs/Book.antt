@@ -1,25 +1,34 @@
 -- Document 01's link book: what it is given of each call, the pairs that it keeps, and what it answers.
---   Call, Given       what the book is given of a call: n, radios, image bytes, a proposal, a list of links, lengths of tables; never what links, numbers and
---                     order hold
+--   Call, Given       what the book is given of a call: n, radios, image bytes, a proposal, a list of links, a name and a store, lengths of
+--                     tables; never what links, numbers and order hold
 --   Answer            what is compared of a call
---   outcome           what the book makes of a call: answers, where it begins anew, and the links that it takes up or down
+--   Beginning         what a link history begins from: a clearing, or a read image
+--   outcome           what the book makes of a call: answers, what it begins anew from, the links that it takes up or down, and what it
+--                     does with a mark
 --   pairs-of          the pairs after an outcome
 --   book-answers, book-after   answers and pairs of a list of calls
---   History, history  the pairs that the last accepted clearing or reading left, and the accepted link calls since
+--   History           what it began from, and the accepted link calls since
+--   Past              the link history, and for each mark set the history at that moment
+--   recalled          the history that coming back to a mark restores
+--   history           the link history after a list of calls
+--   all-leave x       no accepted call of a list sets or removes the mark x
 -- A further call is a constructor of `Call` and a clause of `outcome` here, and a clause of `Does` in specs/Runs.antt.
 -- Definitions only.
-use mathlib.Core.Bool.{Bool, true}
+use mathlib.Core.Bool.{Bool, true, _&&_, not, cond}
 use mathlib.Core.List.{List, [], _∷_, _++_}
 use mathlib.Core.Option.{Option, none, some}
 use Prim.Native.Nat.{ℕ, zero, suc}
 use lib.IntN.{ℤ, pos}
 use lib.ListN.{length}
+use Rattle.lists.specs.Lists.{range, same}
 use Rattle.mesh.specs.Graph.{Link, graph}
 use Rattle.mesh.specs.Levels.{changed, step-of}
-use Rattle.mesh.specs.Image.{image-links}
+use Rattle.mesh.specs.Tables.{Tables, tables-of, graph-in}
+use Rattle.mesh.specs.Image.{image-links, image-graph, image-order, image-of}
 use Rattle.calls.specs.Questions.{Lengths, tables-refusal, link-refusal, commit-refusal, read-refusal}
-use Rattle.calls.specs.Switches.{Switch, switch, pairs-after}
+use Rattle.calls.specs.Switches.{Switch, switch, pairs-after, tables-after}
 use Rattle.calls.specs.Batches.{batch-refusal, batch-switches, batch-stop}
+use Rattle.calls.specs.Marks.{set-refusal, named-refusal, mark-image}
 
 -- what the book is given of a call, beside the lengths of links, numbers and order: `answer` is the answer table's length
 pub data Call : Type 0 where
@@ -28,6 +37,9 @@ pub data Call : Type 0 where
   linking : (up : Bool) → (n a b : ℕ) → (answer : ℕ) → Call
   committing : (up : Bool) → (n a b : ℕ) → (step : ℤ) → (list : List ℕ) → Call
   batching : (n : ℕ) → (list : List ℕ) → Call
+  setting : (n : ℕ) → (name store : List ℕ) → Call
+  removing : (n : ℕ) → (name store : List ℕ) → Call
+  returning : (n : ℕ) → (name store : List ℕ) → Call
   other : Call
 
 -- what is compared of a call: its number and, for a link call, step, count and listed radios; a committing lists none
@@ -55,14 +67,30 @@ counted r k = record { number = r; step = pos 0; count = k; listed = [] }
 
 -- ---- one call
 
--- the answers to be compared, the pairs that the call begins from where it begins anew, and the links that it takes up or down in turn
+-- what a link history begins from: an accepted clearing of n radios, or an accepted reading of an image
+pub data Beginning : Type 0 where
+  from-clearing : (n : ℕ) → Beginning
+  from-image : (n : ℕ) → (image : List ℕ) → Beginning
+
+-- what a call does with the mark of a name (W-211)
+pub data Marking : Type 0 where
+  no-mark : Marking
+  sets : (name : List ℕ) → Marking
+  removes : (name : List ℕ) → Marking
+  returns : (name : List ℕ) → Marking
+
+-- the answers to be compared, what the call begins anew from, if it does, the links that it takes up or down in turn, and its mark
 pub record Outcome : Type 0 where
   pub answers : List Answer
-  pub begins : Option (List Link)
+  pub begins : Option Beginning
   pub switches : List Switch
+  pub marking : Marking
 
-abbrev pub outcome-of : List Answer → Option (List Link) → List Switch → Outcome
-outcome-of hs b ss = record { answers = hs; begins = b; switches = ss }
+abbrev pub outcome-with : List Answer → Option Beginning → List Switch → Marking → Outcome
+outcome-with hs b ss m = record { answers = hs; begins = b; switches = ss; marking = m }
+
+abbrev pub outcome-of : List Answer → Option Beginning → List Switch → Outcome
+outcome-of hs b ss = outcome-with hs b ss no-mark
 
 -- a "no" gives its number and zeros, and the pairs stay
 unfoldable pub unless-refused : (refusal : ℕ) → Outcome → Outcome
@@ -71,8 +99,8 @@ unless-refused (suc q) o = outcome-of (plain (suc q) ∷ []) none []
 
 -- each call is put its questions: 3 gets yes, 6 and 7 are asked of the pairs; any other call is passed over
 unfoldable pub outcome : Call → Lengths → (pairs : List Link) → Outcome
-outcome (clearing n) l ps = unless-refused (tables-refusal n l) (outcome-of (plain 0 ∷ []) (some []) [])
-outcome (reading n bs) l ps = unless-refused (read-refusal n l bs) (outcome-of (plain 0 ∷ []) (some (image-links n bs)) [])
+outcome (clearing n) l ps = unless-refused (tables-refusal n l) (outcome-of (plain 0 ∷ []) (some (from-clearing n)) [])
+outcome (reading n bs) l ps = unless-refused (read-refusal n l bs) (outcome-of (plain 0 ∷ []) (some (from-image n bs)) [])
 outcome (linking up n a b w) l ps =
     unless-refused
     (link-refusal up n a b l w true (graph n ps))
@@ -85,12 +113,21 @@ outcome (batching n xs) l ps =
     unless-refused
     (batch-refusal n l (length xs) true)
     (outcome-of (counted (batch-stop n xs ps) (length (batch-switches n xs ps)) ∷ []) none (batch-switches n xs ps))
+outcome (setting n x bs) l ps = unless-refused (set-refusal n l true x bs) (outcome-with (plain 0 ∷ []) none [] (sets x))
+outcome (removing n x bs) l ps = unless-refused (named-refusal n l true x bs) (outcome-with (plain 0 ∷ []) none [] (removes x))
+outcome (returning n x bs) l ps =
+    unless-refused (named-refusal n l true x bs) (outcome-with (plain 0 ∷ []) (some (from-image n (mark-image n x bs))) [] (returns x))
 outcome other l ps = outcome-of [] none []
 
+-- the pairs that a beginning leaves
+unfoldable pub beginning-pairs : Beginning → List Link
+beginning-pairs (from-clearing n) = []
+beginning-pairs (from-image n bs) = image-links n bs
+
 -- the pairs that an outcome begins from, where ps are the pairs before it
-unfoldable pub first-pairs : Option (List Link) → (pairs : List Link) → List Link
+unfoldable pub first-pairs : Option Beginning → (pairs : List Link) → List Link
 first-pairs none ps = ps
-first-pairs (some qs) ps = qs
+first-pairs (some b) ps = beginning-pairs b
 
 -- the pairs after it: an up adds its pair, a down strikes it
 unfoldable pub pairs-of : Outcome → (pairs : List Link) → List Link
@@ -122,25 +159,89 @@ book-after (c ∷ cs) ps = book-after cs (pairs-of (booked c ps) ps)
 
 -- ---- the link history
 
--- the pairs that the last accepted clearing or reading left, and the accepted link calls since
+-- what it began from, and the accepted link calls since
 pub record History : Type 0 where
-  pub began : List Link
+  pub began : Beginning
   pub calls : List Switch
 
--- at the start of a list: nothing since the clearing or reading that left the pairs
-unfoldable pub fresh : (pairs : List Link) → History
-fresh ps = record { began = ps; calls = [] }
+-- nothing since the beginning
+unfoldable pub fresh : Beginning → History
+fresh b = record { began = b; calls = [] }
 
--- after an outcome: anew where it begins anew; the links that it takes up or down are further calls
-unfoldable pub history-by : Option (List Link) → List Switch → History → History
+-- after a call: anew where it begins anew; the links that it takes up or down are further calls
+unfoldable pub history-by : Option Beginning → List Switch → History → History
 history-by none ss h = record { began = h .began; calls = h .calls ++ ss }
-history-by (some qs) ss h = record { began = qs; calls = ss }
+history-by (some b) ss h = record { began = b; calls = ss }
 
-unfoldable pub history-after : List Given → (pairs : List Link) → History → History
-history-after [] ps h = h
-history-after (c ∷ cs) ps h =
-    let o = booked c ps in history-after cs (pairs-of o ps) (history-by (o .begins) (o .switches) h)
+-- the radios of a beginning, and the tables that it leaves
+unfoldable pub radios : Beginning → ℕ
+radios (from-clearing n) = n
+radios (from-image n bs) = n
 
--- of a list from its start
-unfoldable pub history : List Given → (pairs : List Link) → History
-history cs ps = history-after cs ps (fresh ps)
+unfoldable pub beginning-tables : Beginning → Tables
+beginning-tables (from-clearing n) = tables-of (graph n []) (range 0 n)
+beginning-tables (from-image n bs) = tables-of (image-graph n bs) (image-order n bs)
+
+-- the image of the tables that a history leaves
+unfoldable pub image-at : History → List ℕ
+image-at h =
+    let n = radios (h .began) in
+    let v = tables-after n (h .calls) (beginning-tables (h .began)) in
+    image-of (graph-in n (v .links)) (v .order)
+
+-- ---- marks (W-211)
+
+-- a mark set: its name, and the history at that moment
+pub record Marked : Type 0 where
+  pub name : List ℕ
+  pub history : History
+
+-- the link history, and the marks set, the newest first
+pub record Past : Type 0 where
+  pub history : History
+  pub marks : List Marked
+
+abbrev pub past : History → List Marked → Past
+past h ms = record { history = h; marks = ms }
+
+unfoldable pub unmarked : (name : List ℕ) → List Marked → List Marked
+unmarked x [] = []
+unmarked x (m ∷ ms) = let rest = unmarked x ms in cond (same (m .name) x) rest (m ∷ rest)
+
+-- coming back to the mark x, where h begins from the image that the store has: the history at which x was set, if that image is the
+-- one that was set; else the mark was put there by other hands, and counts as a read image
+unfoldable pub recalled : (name : List ℕ) → History → List Marked → History
+recalled x h [] = h
+recalled x h (m ∷ ms) =
+    let rest = recalled x h ms in
+    cond (same (m .name) x) (cond (same (image-at (m .history)) (image-at h)) (m .history) h) rest
+
+-- what a call's mark makes of the past, where h is the history after the call
+unfoldable pub marked-by : Marking → History → List Marked → Past
+marked-by no-mark h ms = past h ms
+marked-by (sets x) h ms = past h (record { name = x; history = h } ∷ ms)
+marked-by (removes x) h ms = past h (unmarked x ms)
+marked-by (returns x) h ms = past (recalled x h ms) ms
+
+unfoldable pub past-by : Outcome → Past → Past
+past-by o p = marked-by (o .marking) (history-by (o .begins) (o .switches) (p .history)) (p .marks)
+
+-- after a list of calls
+unfoldable pub past-after : List Given → (pairs : List Link) → Past → Past
+past-after [] ps p = p
+past-after (c ∷ cs) ps p = let o = booked c ps in past-after cs (pairs-of o ps) (past-by o p)
+
+-- no accepted call of a list sets or removes the mark x
+unfoldable pub leaves : (name : List ℕ) → Marking → Bool
+leaves x no-mark = true
+leaves x (sets y) = not (same y x)
+leaves x (removes y) = not (same y x)
+leaves x (returns y) = true
+
+unfoldable pub all-leave : (name : List ℕ) → List Given → (pairs : List Link) → Bool
+all-leave x [] ps = true
+all-leave x (c ∷ cs) ps = let o = booked c ps in leaves x (o .marking) && all-leave x cs (pairs-of o ps)
+
+-- of a list that starts from b, with no mark set
+unfoldable pub history : List Given → (pairs : List Link) → Beginning → History
+history cs ps b = past-after cs ps (past (fresh b) []) .history

@@ -13,3 +13,4 @@ pub mod Staircase
 pub mod Images
 pub mod Pages
 pub mod Scripts
+pub mod Marks

@@ -25,7 +25,8 @@ use Rattle.mesh.specs.Image.{image-links}
 use Rattle.calls.specs.Contracts.Sites.{Clear-contract}
 use Rattle.calls.specs.Contracts.Images.{Read-contract}
 use Rattle.calls.specs.Switches.{Switch, pairs-after, tables-after}
-use Rattle.calls.specs.Book.{Call, linking, Answer, reported, Outcome, given, booked, book-answers, book-after, History, history}
+use Rattle.calls.specs.Book.{Call, linking, Answer, reported, Outcome, given, booked, book-answers, book-after, Beginning, from-clearing, from-image}
+use Rattle.calls.specs.Book.{beginning-pairs, radios, beginning-tables, History, history}
 use Rattle.calls.specs.Questions.{lengths-of}
 use Rattle.calls.specs.Runs.{Event, event, Run, givens, answers}
 
@@ -89,11 +90,16 @@ pub data Start : (n : ℕ) → (pairs : List Link) → Tables → Type 0 where
   cleared : (n : ℕ) (t v : Tables) → Clear-contract n t 0 v → Start n [] v
   read : (n : ℕ) (image : List ℕ) (t v : Tables) → Read-contract n image t 0 v → Start n (image-links n image) v
 
--- links, numbers and order are what the link history makes of the tables that the last clearing or reading left
+-- what a list that starts there began from
+unfoldable pub beginning : {n : ℕ} {ps : List Link} {t : Tables} → Start n ps t → Beginning
+beginning (cleared n t v d) = from-clearing n
+beginning (read n bs t v d) = from-image n bs
+
+-- links, numbers and order are what the link history makes of the tables that the clearing or reading left from which it began
 pub record By-history (n : ℕ) (h : History) (v : Tables) : Type 0 where
-  pub first : Tables
-  pub start : Start n (h .began) first
-  pub tables : v ≡ tables-after n (h .calls) first
+  pub size : radios (h .began) ≡ n
+  pub start : Start n (beginning-pairs (h .began)) (beginning-tables (h .began))
+  pub tables : v ≡ tables-after n (h .calls) (beginning-tables (h .began))
 
 -- ---- one call
 
@@ -103,13 +109,14 @@ pub record Call-kept (n : ℕ) (ps : List Link) (o : Outcome) (t : Tables) (hs :
   -- it leaves what single link calls leave, one after the other, and each link keeps what a link call keeps
   pub tables : o .begins ≡ none → v ≡ tables-after n (o .switches) t
   pub switching : o .begins ≡ none → Switching n ps (o .switches) t v
-  -- where it begins anew, it is an accepted clearing or reading
-  pub started : (qs : List Link) → o .begins ≡ some qs → By-history n (record { began = qs; calls = o .switches }) v
+  -- where it begins anew, the tables are those that an accepted clearing or reading leaves; coming back to a mark leaves what reading
+  -- its image does
+  pub started : (b : Beginning) → o .begins ≡ some b → By-history n (record { began = b; calls = o .switches }) v
 
 -- ---- a list of calls
 
--- g is the graph of the book's pairs after the list, v are the tables that the list leaves
-pub record Kept (n : ℕ) (ps : List Link) (es : List Event) (g : Graph) (v : Tables) : Type 0 where
+-- g is the graph of the book's pairs after the list, v are the tables that the list leaves; b is what the list began from
+pub record Kept (n : ℕ) (ps : List Link) (b : Beginning) (es : List Event) (g : Graph) (v : Tables) : Type 0 where
   -- the links table marks exactly the book's pairs, and the numbers are the core numbers by these pairs
   pub links : v .links ≡ links-table g
   pub numbers : v .numbers ≡ numbers g
@@ -118,9 +125,10 @@ pub record Kept (n : ℕ) (ps : List Link) (es : List Event) (g : Graph) (v : Ta
   pub sound : sound n v ≡ true
   -- read back, the links table gives the book's pairs
   pub read-back : graph-in n (v .links) ≡ g
-  -- and these are what the link history makes of the pairs that it began from
-  pub pairs-by-history : g ≡ graph n (pairs-after (history (givens es) ps .calls) (history (givens es) ps .began))
-  pub by-history : By-history n (history (givens es) ps) v
+  -- and these are what the link history makes of the pairs that it began from; after coming back to a mark set in the list, that is the
+  -- history at that moment
+  pub pairs-by-history : g ≡ graph n (pairs-after (history (givens es) ps b .calls) (beginning-pairs (history (givens es) ps b .began)))
+  pub by-history : By-history n (history (givens es) ps b) v
   -- every call answered as the book does
   pub answered : answers es ≡ book-answers (givens es) ps
   -- each call, wherever it stands in the list
@@ -136,5 +144,5 @@ pub record Kept (n : ℕ) (ps : List Link) (es : List Event) (g : Graph) (v : Ta
 -- every run from a start keeps it
 unfoldable pub Demand-3 : Type 0
 Demand-3 =
-    (n : ℕ) (ps : List Link) (t v : Tables) (es : List Event) → Start n ps t → Run t es v →
-    Kept n ps es (graph n (book-after (givens es) ps)) v
+    (n : ℕ) (ps : List Link) (t v : Tables) (es : List Event) (s : Start n ps t) → Run t es v →
+    Kept n ps (beginning s) es (graph n (book-after (givens es) ps)) v

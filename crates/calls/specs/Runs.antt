@@ -17,7 +17,8 @@ use Rattle.calls.specs.Contracts.Links.{Link-contract}
 use Rattle.calls.specs.Contracts.Proposals.{Commit-contract}
 use Rattle.calls.specs.Contracts.Batches.{Batch-contract}
 use Rattle.calls.specs.Contracts.Images.{Read-contract}
-use Rattle.calls.specs.Book.{Call, clearing, reading, linking, committing, batching, other, Given, given, Answer, plain, counted}
+use Rattle.calls.specs.Contracts.Marks.{Set-contract, Remove-contract, Return-contract}
+use Rattle.calls.specs.Book.{Call, clearing, reading, linking, committing, batching, setting, removing, returning, other, Given, given, Answer, plain, counted}
 use Rattle.calls.specs.declared.Reply.{Reply}
 use Rattle.calls.specs.declared.Value.{Value}
 
@@ -64,6 +65,28 @@ pub record Batching-done (n : ℕ) (list : List ℕ) (t : Tables) (hs : List Ans
   pub contract : Batch-contract n list t result v
   pub answer : hs ≡ counted (result .number) (result .value) ∷ []
 
+-- a mark set: its number is its answer; the tables are lent to be read, `after` is the store after it
+pub record Setting-done (n : ℕ) (x bs : List ℕ) (t : Tables) (hs : List Answer) (v : Tables) : Type 0 where
+  pub result : ℕ
+  pub after : List ℕ
+  pub contract : Set-contract n x t bs result after
+  pub left : v ≡ t
+  pub answer : hs ≡ plain result ∷ []
+
+-- a mark removed
+pub record Removing-done (n : ℕ) (x bs : List ℕ) (t : Tables) (hs : List Answer) (v : Tables) : Type 0 where
+  pub result : ℕ
+  pub after : List ℕ
+  pub contract : Remove-contract n x t bs result after
+  pub left : v ≡ t
+  pub answer : hs ≡ plain result ∷ []
+
+-- a coming back: its number is its answer
+pub record Returning-done (n : ℕ) (x bs : List ℕ) (t : Tables) (hs : List Answer) (v : Tables) : Type 0 where
+  pub result : ℕ
+  pub contract : Return-contract n x bs t result v
+  pub answer : hs ≡ plain result ∷ []
+
 -- any other call leaves the tables as they were; what it answers is not compared
 unfoldable pub Does : Call → (t : Tables) → (answers : List Answer) → (v : Tables) → Type 0
 Does (clearing n) t hs v = Clearing-done n t hs v
@@ -71,6 +94,9 @@ Does (reading n bs) t hs v = Reading-done n bs t hs v
 Does (linking up n a b w) t hs v = Linking-done up n a b w t hs v
 Does (committing up n a b z xs) t hs v = Committing-done up n a b z xs t hs v
 Does (batching n xs) t hs v = Batching-done n xs t hs v
+Does (setting n x bs) t hs v = Setting-done n x bs t hs v
+Does (removing n x bs) t hs v = Removing-done n x bs t hs v
+Does (returning n x bs) t hs v = Returning-done n x bs t hs v
 Does other t hs v = (v ≡ t) × (hs ≡ [])
 
 -- ---- a list of calls

@@ -35,6 +35,12 @@ impl Refusal {
     pub const OTHER_SIZE: u32 = 15;
 
     pub const PROPOSAL: u32 = 16;
+
+    pub const MARK: u32 = 17;
+
+    pub const NO_MARK: u32 = 18;
+
+    pub const MARKS_FULL: u32 = 19;
 }
 
 // The answer of a link call: refusal number, step (+1, -1, or 0 when nothing changed), count of changed radios.

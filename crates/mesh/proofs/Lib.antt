@@ -13,5 +13,7 @@ pub mod Tables
 pub mod Trees
 -- the site image
 pub mod Images
+-- named marks: names in order, places, the store
+pub mod Marks
 -- the limits of the code
 pub mod SiteLimits

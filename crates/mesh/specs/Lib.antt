@@ -12,3 +12,4 @@ pub mod Connected
 pub mod Tree
 pub mod Staircase
 pub mod Image
+pub mod Marks

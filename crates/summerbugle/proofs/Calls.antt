@@ -14,6 +14,7 @@ use Rattle.calls.specs.Contracts.Trees.{Tree-contract}
 use Rattle.calls.specs.Contracts.Pages.{Sheet-contract}
 use Rattle.calls.specs.Contracts.Scripts.{Script-length-contract, Script-contract}
 use Rattle.calls.specs.Contracts.Staircase.{Staircase-contract}
+use Rattle.calls.specs.Contracts.Marks.{Set-contract, Remove-contract, Return-contract}
 use Rattle.block_reader.specs.Reader.{Stepped, Moved}
 use Rattle.summerbugle.specs.Functions.{Function, number-0, number-1, number-2, step-3, tables-1, tables-2, tables-3, tables-4, lent-0, lent-4, lent-5, lent-6}
 use Rattle.summerbugle.specs.Functions.{lent-7}
@@ -69,6 +70,12 @@ use Rattle.summerbugle.proofs.sb_script_length as script-length
 use Rattle.summerbugle.proofs.sb_script_length.Symbol as script-length-symbol
 use Rattle.summerbugle.proofs.sb_script_write as script-write
 use Rattle.summerbugle.proofs.sb_script_write.Symbol as script-write-symbol
+use Rattle.summerbugle.proofs.sb_mark_set as mark-set
+use Rattle.summerbugle.proofs.sb_mark_set.Symbol as mark-set-symbol
+use Rattle.summerbugle.proofs.sb_mark_remove as mark-remove
+use Rattle.summerbugle.proofs.sb_mark_remove.Symbol as mark-remove-symbol
+use Rattle.summerbugle.proofs.sb_mark_return as mark-return
+use Rattle.summerbugle.proofs.sb_mark_return.Symbol as mark-return-symbol
 use Rattle.summerbugle.proofs.sb_image_block as image-block
 use Rattle.summerbugle.proofs.sb_image_block.Symbol as image-block-symbol
 
@@ -277,6 +284,33 @@ sb-script-write = record {
   routine = script-write-symbol.routine;
   kept = script-write.ended .kept;
   contract = λ κs a r e. Script-contract (number-0 a) (tables-1 a) (lent-4 a) r (lent-4 e);
+}
+
+-- sb_mark_set(n, links, numbers, order, name, store)
+abbrev pub sb-mark-set : Function
+sb-mark-set = record {
+  signature = mark-set.signature;
+  routine = mark-set-symbol.routine;
+  kept = mark-set.ended .kept;
+  contract = λ κs a r e. Set-contract (number-0 a) (lent-4 a) (tables-1 a) (lent-5 a) r (lent-5 e);
+}
+
+-- sb_mark_remove(n, links, numbers, order, name, store)
+abbrev pub sb-mark-remove : Function
+sb-mark-remove = record {
+  signature = mark-remove.signature;
+  routine = mark-remove-symbol.routine;
+  kept = mark-remove.ended .kept;
+  contract = λ κs a r e. Remove-contract (number-0 a) (lent-4 a) (tables-1 a) (lent-5 a) r (lent-5 e);
+}
+
+-- sb_mark_return(n, links, numbers, order, name, store)
+abbrev pub sb-mark-return : Function
+sb-mark-return = record {
+  signature = mark-return.signature;
+  routine = mark-return-symbol.routine;
+  kept = mark-return.ended .kept;
+  contract = λ κs a r e. Return-contract (number-0 a) (lent-4 a) (lent-5 a) (tables-1 a) r (tables-1 e);
 }
 
 -- sb_image_block(image, next)

@@ -9,7 +9,7 @@
 --     Outcomes         for every input a contract has exactly one outcome: the one worked out in calls/specs/Outcomes.antt
 --     Tables-left      what is lent by shared reference is left as it was
 --   Property-2       numbers are core numbers by the largest group and orders are k-orders; connected cores, backbone, shell tree,
---                    staircase tree, site sheet, script and images follow their definitions; older tables and images are taken as they were
+--                    staircase tree, site sheet, script, images and named marks follow their definitions; older tables and images are taken as they were
 --   Property-3       demand 3, undivided, over the contracts that the exported calls meet; two hubs, one mesh
 use mathlib.Core.Path.{_≡_, refl}
 use mathlib.Core.Logic.{_↔_, _⊎_}
@@ -18,7 +18,7 @@ use mathlib.Core.List.{List, [], _∷_, _++_}
 use Prim.Native.Nat.{ℕ, _≤_, _<_}
 use lib.IntN.{ℤ}
 use lib.ListN.{length, take}
-use Rattle.lists.specs.Lists.{member, Entries-below}
+use Rattle.lists.specs.Lists.{member, same, Entries-below}
 use Rattle.mesh.specs.Graph.{Link, Graph, graph}
 use Rattle.mesh.specs.Cores.{Core, number}
 use Rattle.mesh.specs.Tables.{Tables, graph-in}
@@ -43,6 +43,12 @@ use Rattle.calls.specs.Contracts.Trees.{Tree-refused, Tree-contract}
 use Rattle.calls.specs.Contracts.Pages.{Sheet-contract}
 use Rattle.calls.specs.Contracts.Scripts.{Script-length-contract, Script-contract}
 use Rattle.calls.specs.Contracts.Staircase.{Staircase-contract}
+use Rattle.calls.specs.Contracts.Marks.{Store-refused, Set-contract, Remove-contract, Return-contract}
+use Rattle.mesh.specs.Limits.{max-radios}
+use Rattle.mesh.specs.Marks.{store-bytes, is-store, Store-rules}
+use Rattle.calls.specs.Marks.{mark-image}
+use Rattle.calls.specs.MarkOutcomes.{set-outcome, remove-outcome, return-outcome}
+use Rattle.calls.specs.MarkResults.{Set-right, Removed-right, Same-mark}
 use Rattle.calls.specs.Outcomes.{clear-outcome, read-outcome, link-outcome, check-outcome, number-outcome, neighbours-outcome, linked-outcome, first-outcome}
 use Rattle.calls.specs.Outcomes.{core-outcome, backbone-outcome, tree-outcome, write-outcome, block-outcome, later-outcome, sheet-outcome, staircase-outcome, ask-outcome, commit-outcome, batch-outcome}
 use Rattle.calls.specs.Outcomes.{script-length-outcome, script-outcome}
@@ -50,18 +56,19 @@ use Rattle.calls.specs.Results.{Site-right, Link-right, Later-right, Core-liste
 use Rattle.calls.specs.Results.{Script-right, Script-beforehand}
 use Rattle.calls.specs.Results.{Image-answered, Sheet-right, Staircase-listed, Ask-right, Commit-right, Batch-right}
 use Rattle.calls.specs.Older.{Older}
-use Rattle.calls.specs.Book.{Call, clearing, reading, linking, committing, batching, Answer, plain, counted, book-after}
+use Rattle.calls.specs.Book.{Call, clearing, reading, linking, committing, batching, setting, removing, returning, Answer, plain, counted, book-after, history, all-leave}
 use Rattle.calls.specs.Runs.{answer-of, replied, Does, Event, event, Run, givens, called}
-use Rattle.calls.specs.Demand.{Start, Demand-3}
+use Rattle.calls.specs.Demand.{Start, beginning, Demand-3}
 use Rattle.hubs.specs.Hubs.{Confluence, Calls-agree, Equal-orders, Equal-images}
 use Rattle.calls.specs.declared.Reply.{Reply}
 use Rattle.calls.specs.declared.Value.{Value}
 use Rattle.calls.specs.declared.Later.{Later}
 use Rattle.calls.specs.declared.Block.{Block}
 use Rattle.summerbugle.specs.Functions.{Promised, Returns, Gives, Leaves-lent, number-0, number-1, number-2, tables-1, tables-2, tables-3, lent-0, lent-4}
-use Rattle.summerbugle.specs.Functions.{step-3, tables-4, lent-6, lent-7}
+use Rattle.summerbugle.specs.Functions.{step-3, tables-4, lent-5, lent-6, lent-7}
 use Rattle.summerbugle.proofs.Calls.{sb-clear, sb-link-up, sb-link-down, sb-image-read, sb-check, sb-number, sb-neighbours, sb-linked, sb-first, sb-core}
 use Rattle.summerbugle.proofs.Calls.{sb-ask-up, sb-ask-down, sb-commit-up, sb-commit-down, sb-link-batch}
+use Rattle.summerbugle.proofs.Calls.{sb-mark-set, sb-mark-remove, sb-mark-return}
 use Rattle.summerbugle.proofs.Calls.{sb-later-of, sb-backbone, sb-tree, sb-staircase, sb-image-write, sb-sheet, sb-image-block, reader-open, reader-step, reader-moved}
 -- for the proof
 use Rattle.mesh.proofs.Cores.Peeling.{number-core, number-unique}
@@ -74,6 +81,11 @@ use Rattle.calls.proofs.Outcomes.{linked-inhabited, first-inhabited, core-inhab
 use Rattle.calls.proofs.Outcomes.{staircase-inhabited}
 use Rattle.calls.proofs.Outcomes.{ask-decided, commit-decided, ask-inhabited, commit-inhabited}
 use Rattle.calls.proofs.Outcomes.{batch-decided, batch-inhabited}
+use Rattle.calls.proofs.MarkOutcomes.{set-decided, remove-decided, return-decided, set-inhabited, remove-inhabited, return-inhabited}
+use Rattle.calls.proofs.MarkOutcomes.{set-keeps, remove-keeps, return-keeps}
+use Rattle.mesh.proofs.Marks.Rules.{store-good-iff}
+use Rattle.calls.proofs.MarkCalls.{set-right, removed-right, other-marks, return-right, return-restores}
+use Rattle.calls.proofs.HistoryRestored.{history-restored}
 use Rattle.calls.proofs.Refusals.{ask-keeps, commit-keeps}
 use Rattle.calls.proofs.Batches.{batch-keeps, batch-right, batch-single}
 use Rattle.calls.proofs.Refusals.{clear-keeps, link-keeps, read-keeps, check-keeps, number-keeps, neighbours-keeps, linked-keeps, first-keeps}
@@ -122,6 +134,9 @@ use Rattle.summerbugle.proofs.sb_image_write.Met as image-write-proof
 use Rattle.summerbugle.proofs.sb_sheet.Met as sheet-proof
 use Rattle.summerbugle.proofs.sb_script_length.Met as script-length-proof
 use Rattle.summerbugle.proofs.sb_script_write.Met as script-write-proof
+use Rattle.summerbugle.proofs.sb_mark_set.Met as mark-set-proof
+use Rattle.summerbugle.proofs.sb_mark_remove.Met as mark-remove-proof
+use Rattle.summerbugle.proofs.sb_mark_return.Met as mark-return-proof
 use Rattle.summerbugle.proofs.sb_image_block.Met as image-block-proof
 
 -- ---- each call meets its contract
@@ -150,6 +165,9 @@ pub record Calls-promised (M : Type 1) : Type 2 where
   pub sheet : Promised sb-sheet M
   pub script-length : Promised sb-script-length M
   pub script-write : Promised sb-script-write M
+  pub mark-set : Promised sb-mark-set M
+  pub mark-remove : Promised sb-mark-remove M
+  pub mark-return : Promised sb-mark-return M
   pub image-block : Promised sb-image-block M
   -- the block reader in document 01's own form: the part given back lies in the image, and is its 504 bytes of payload
   pub reader-open : Promised reader-open M
@@ -182,6 +200,9 @@ pub record Calls-return : Type 2 where
   pub sheet : Returns sb-sheet
   pub script-length : Returns sb-script-length
   pub script-write : Returns sb-script-write
+  pub mark-set : Returns sb-mark-set
+  pub mark-remove : Returns sb-mark-remove
+  pub mark-return : Returns sb-mark-return
   pub image-block : Returns sb-image-block
   pub reader-open : Returns reader-open
   pub reader-step : Returns reader-step
@@ -233,6 +254,12 @@ pub record Refusals : Type 0 where
   pub script-write :
       (n : ℕ) (t : Tables) (w : List ℕ) (r : Value) (x : List ℕ) → Script-contract n t w r x → (r .number ≡ 0 → ⊥) →
       Listing-refused (r .number) w r x
+  pub mark-set :
+      (n : ℕ) (x : List ℕ) (t : Tables) (bs : List ℕ) (r : ℕ) (cs : List ℕ) → Set-contract n x t bs r cs → (r ≡ 0 → ⊥) → Store-refused r bs r cs
+  pub mark-remove :
+      (n : ℕ) (x : List ℕ) (t : Tables) (bs : List ℕ) (r : ℕ) (cs : List ℕ) → Remove-contract n x t bs r cs → (r ≡ 0 → ⊥) → Store-refused r bs r cs
+  pub mark-return :
+      (n : ℕ) (x bs : List ℕ) (t : Tables) (r : ℕ) (v : Tables) → Return-contract n x bs t r v → (r ≡ 0 → ⊥) → Tables-refused r r t v
   pub image-block : (bs : List ℕ) (i : ℕ) (r : Block) → Block-contract bs i r → (r .number ≡ 0 → ⊥) → Block-none (r .number) 0 i r
 
 -- ---- exactly one outcome for every input; o is the result with what is lent to be written, after the call
@@ -267,6 +294,11 @@ pub record Outcomes : Type 0 where
   pub sheet : (n : ℕ) (t : Tables) (w : List ℕ) (o : Value × List ℕ) → Sheet-contract n t w (o .0) (o .1) ↔ (o ≡ sheet-outcome n t w)
   pub script-length : (n : ℕ) (t : Tables) (o : Value) → Script-length-contract n t o ↔ (o ≡ script-length-outcome n t)
   pub script-write : (n : ℕ) (t : Tables) (w : List ℕ) (o : Value × List ℕ) → Script-contract n t w (o .0) (o .1) ↔ (o ≡ script-outcome n t w)
+  pub mark-set :
+      (n : ℕ) (x : List ℕ) (t : Tables) (bs : List ℕ) (o : ℕ × List ℕ) → Set-contract n x t bs (o .0) (o .1) ↔ (o ≡ set-outcome n x t bs)
+  pub mark-remove :
+      (n : ℕ) (x : List ℕ) (t : Tables) (bs : List ℕ) (o : ℕ × List ℕ) → Remove-contract n x t bs (o .0) (o .1) ↔ (o ≡ remove-outcome n x t bs)
+  pub mark-return : (n : ℕ) (x bs : List ℕ) (t : Tables) (o : ℕ × Tables) → Return-contract n x bs t (o .0) (o .1) ↔ (o ≡ return-outcome n x bs t)
   pub image-block : (bs : List ℕ) (i : ℕ) (o : Block) → Block-contract bs i o ↔ (o ≡ block-outcome bs i)
 
 -- ---- what is lent by shared reference
@@ -291,6 +323,13 @@ pub record Tables-left : Type 0 where
   pub sheet : Leaves-lent sb-sheet (λ κs. tables-1) (λ κs. tables-1)
   pub script-length : Leaves-lent sb-script-length (λ κs. tables-1) (λ κs. tables-1)
   pub script-write : Leaves-lent sb-script-write (λ κs. tables-1) (λ κs. tables-1)
+  pub mark-set : Leaves-lent sb-mark-set (λ κs. tables-1) (λ κs. tables-1)
+  pub mark-remove : Leaves-lent sb-mark-remove (λ κs. tables-1) (λ κs. tables-1)
+  -- and names and stores
+  pub set-name : Leaves-lent sb-mark-set (λ κs. lent-4) (λ κs. lent-4)
+  pub remove-name : Leaves-lent sb-mark-remove (λ κs. lent-4) (λ κs. lent-4)
+  pub return-name : Leaves-lent sb-mark-return (λ κs. lent-4) (λ κs. lent-4)
+  pub return-store : Leaves-lent sb-mark-return (λ κs. lent-5) (λ κs. lent-5)
   -- and proposed lists, and lists of links
   pub commit-up : Leaves-lent sb-commit-up (λ κs. lent-7) (λ κs. lent-7)
   pub commit-down : Leaves-lent sb-commit-down (λ κs. lent-7) (λ κs. lent-7)
@@ -411,6 +450,22 @@ pub record Property-2 : Type 0 where
   pub of-none :
       (n : ℕ) (bs : List ℕ) → size-good n ≡ true → whole-blocks bs ≡ true → checks-good bs ≡ true →
       (image-refusal n bs ≡ 11) ↔ Image-of-none bs
+  -- named marks (document 02, W-211): question 17 of a store of full length gets yes exactly if every place keeps the rules
+  pub store-good : (n : ℕ) (bs : List ℕ) → n ≤ max-radios → length bs ≡ store-bytes → (is-store n bs ≡ true) ↔ Store-rules n bs
+  -- a mark set is the image of the tables, a mark removed is gone, and the store keeps the rules again;
+  -- every other mark is the same, byte for byte, whatever the call answers
+  pub mark-set : (n : ℕ) (x : List ℕ) (t : Tables) (bs cs : List ℕ) → Set-contract n x t bs 0 cs → Set-right n x t bs cs
+  pub mark-remove : (n : ℕ) (x : List ℕ) (t : Tables) (bs cs : List ℕ) → Remove-contract n x t bs 0 cs → Removed-right n x bs cs
+  pub other-marks :
+      (n : ℕ) (x : List ℕ) (t : Tables) (bs : List ℕ) (r : ℕ) (cs y : List ℕ) → Set-contract n x t bs r cs ⊎ Remove-contract n x t bs r cs →
+      same x y ≡ false → Same-mark y bs cs
+  -- coming back is reading the mark's image; to a mark that is as it was set, it restores the tables of that moment
+  pub mark-return :
+      (n : ℕ) (x bs : List ℕ) (t v : Tables) → Return-contract n x bs t 0 v →
+      Read-contract n (mark-image n x bs) t 0 v × Read-right n (mark-image n x bs) v
+  pub return-restores :
+      (n : ℕ) (x : List ℕ) (t u v : Tables) (bs cs ds : List ℕ) → Entries-below 256 (t .links) → Set-contract n x t bs 0 cs → Same-mark x cs ds →
+      Return-contract n x ds u 0 v → v ≡ t
   -- a step of the block reader gives the 504 bytes of payload, or the end
   pub block : (bs : List ℕ) (i : ℕ) (r : Block) → Block-contract bs i r → r .number ≡ 0 → Block-part bs i r ⊎ Block-end bs i r
   -- tables and images from before the limit on neighbours was raised: calls give what they gave, and a link-up call refused by 7 is taken
@@ -436,6 +491,10 @@ pub record Steps : Type 0 where
       Does (committing false (number-0 a) (number-1 a) (number-2 a) (step-3 a) (lent-7 a)) (tables-4 a) (replied r ∷ []) (tables-4 e))
   pub link-batch :
       Gives sb-link-batch (λ κs a r e. Does (batching (number-0 a) (lent-4 a)) (tables-1 a) (counted (r .number) (r .value) ∷ []) (tables-1 e))
+  -- setting and removing a mark write none of these tables; the history must know of them
+  pub mark-set : Gives sb-mark-set (λ κs a r e. Does (setting (number-0 a) (lent-4 a) (lent-5 a)) (tables-1 a) (plain r ∷ []) (tables-1 a))
+  pub mark-remove : Gives sb-mark-remove (λ κs a r e. Does (removing (number-0 a) (lent-4 a) (lent-5 a)) (tables-1 a) (plain r ∷ []) (tables-1 a))
+  pub mark-return : Gives sb-mark-return (λ κs a r e. Does (returning (number-0 a) (lent-4 a) (lent-5 a)) (tables-1 a) (plain r ∷ []) (tables-1 e))
 
 pub record Property-3 : Type 0 where
   -- the calls that write links, numbers and order make steps of runs; the other calls leave these tables (`Tables-left`)
@@ -458,6 +517,15 @@ pub record Property-3 : Type 0 where
   -- that their orders are always equal, or their images, is false
   pub orders-differ : Equal-orders → ⊥
   pub images-differ : Equal-images → ⊥
+  -- an accepted set, calls of which none is an accepted set or removal of that name, an accepted coming back to the image that was set:
+  -- the link history, with the clearing or read image that it began from, is the one at the setting
+  pub restored :
+      (n : ℕ) (ps : List Link) (t₀ t u v : Tables) (s : Start n ps t₀) (before between : List Event) (m j : ℕ) (x bs ds : List ℕ) →
+      Run t₀ before t → Does (setting m x bs) t (plain 0 ∷ []) t → Run t between u → Does (returning j x ds) u (plain 0 ∷ []) v →
+      all-leave x (givens between) (book-after (givens before) ps) ≡ true → mark-image j x ds ≡ images.image-of (graph-in n (t .links)) (t .order) →
+      history (givens (before ++ (event (setting m x bs) t (plain 0 ∷ []) t ∷ (between ++ (event (returning j x ds) u (plain 0 ∷ []) v ∷ []))))) ps
+      (beginning s)
+      ≡ history (givens before) ps (beginning s)
 
 -- ---- all of them
 
@@ -493,6 +561,9 @@ calls-promised = record {
   sheet = sheet-proof.met;
   script-length = script-length-proof.met;
   script-write = script-write-proof.met;
+  mark-set = mark-set-proof.met;
+  mark-remove = mark-remove-proof.met;
+  mark-return = mark-return-proof.met;
   image-block = image-block-proof.met;
   reader-open = reader-open-proof.met;
   reader-step = reader-step-proof.met;
@@ -524,6 +595,9 @@ calls-return = record {
   sheet = returns sb-sheet (calls-promised .sheet);
   script-length = returns sb-script-length (calls-promised .script-length);
   script-write = returns sb-script-write (calls-promised .script-write);
+  mark-set = returns sb-mark-set (calls-promised .mark-set);
+  mark-remove = returns sb-mark-remove (calls-promised .mark-remove);
+  mark-return = returns sb-mark-return (calls-promised .mark-return);
   image-block = returns sb-image-block (calls-promised .image-block);
   reader-open = returns reader-open (calls-promised .reader-open);
   reader-step = returns reader-step (calls-promised .reader-step);
@@ -552,6 +626,9 @@ refusals = record {
   sheet = sheet-keeps;
   script-length = script-length-keeps;
   script-write = script-keeps;
+  mark-set = set-keeps;
+  mark-remove = remove-keeps;
+  mark-return = return-keeps;
   image-block = block-keeps;
 }
 
@@ -577,6 +654,9 @@ outcomes = record {
   sheet = λ n t w. exactly _ _ (sheet-inhabited n t w) (sheet-decided n t w);
   script-length = λ n t. exactly _ _ (script-length-inhabited n t) (script-length-decided n t);
   script-write = λ n t w. exactly _ _ (script-inhabited n t w) (script-decided n t w);
+  mark-set = λ n x t bs. exactly _ _ (set-inhabited n x t bs) (set-decided n x t bs);
+  mark-remove = λ n x t bs. exactly _ _ (remove-inhabited n x t bs) (remove-decided n x t bs);
+  mark-return = λ n x bs t. exactly _ _ (return-inhabited n x bs t) (return-decided n x bs t);
   image-block = λ bs i. exactly _ _ (block-inhabited bs i) (block-decided bs i);
 }
 
@@ -598,6 +678,12 @@ tables-left = record {
   sheet = λ κs a last. refl;
   script-length = λ κs a last. refl;
   script-write = λ κs a last. refl;
+  mark-set = λ κs a last. refl;
+  mark-remove = λ κs a last. refl;
+  set-name = λ κs a last. refl;
+  remove-name = λ κs a last. refl;
+  return-name = λ κs a last. refl;
+  return-store = λ κs a last. refl;
   commit-up = λ κs a last. refl;
   commit-down = λ κs a last. refl;
   link-batch = λ κs a last. refl;
@@ -636,6 +722,12 @@ property-2 = record {
   eleven = read-eleven;
   other-size = other-size-iff;
   of-none = eleven-iff;
+  store-good = store-good-iff;
+  mark-set = set-right;
+  mark-remove = removed-right;
+  other-marks = other-marks;
+  mark-return = return-right;
+  return-restores = return-restores;
   block = block-right;
   older = older;
 }
@@ -650,6 +742,9 @@ steps = record {
   commit-up = λ κs a r e c. record { result = r; contract = c; answer = refl };
   commit-down = λ κs a r e c. record { result = r; contract = c; answer = refl };
   link-batch = λ κs a r e c. record { result = r; contract = c; answer = refl };
+  mark-set = λ κs a r e c. record { result = r; after = lent-5 e; contract = c; left = refl; answer = refl };
+  mark-remove = λ κs a r e c. record { result = r; after = lent-5 e; contract = c; left = refl; answer = refl };
+  mark-return = λ κs a r e c. record { result = r; contract = c; answer = refl };
 }
 
 pub property-3 : Property-3
@@ -662,6 +757,7 @@ property-3 = record {
   calls-agree = calls-agree;
   orders-differ = orders-differ;
   images-differ = images-differ;
+  restored = history-restored;
 }
 
 pub promises : {M : Type 1} → Promises M

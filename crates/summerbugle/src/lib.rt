@@ -14,6 +14,7 @@ ghost use Rattle.calls.specs.Contracts.Trees.{Tree-contract};
 ghost use Rattle.calls.specs.Contracts.Pages.{Sheet-contract};
 ghost use Rattle.calls.specs.Contracts.Scripts.{Script-length-contract, Script-contract};
 ghost use Rattle.calls.specs.Contracts.Staircase.{Staircase-contract};
+ghost use Rattle.calls.specs.Contracts.Marks.{Set-contract, Remove-contract, Return-contract};
 use calls::Block;
 use calls::Later;
 use calls::Reply;
@@ -394,6 +395,57 @@ pub extern "C" fn sb_image_read(
         (lent (links .exit) (numbers .exit) (order .exit)) ⌝ }
 {
     image_reader::reader::read(n, links, numbers, order, image)
+}
+
+// Sets the mark of the name in the store: the image of the tables, in place of a mark of that name. Refused by 1, 2, 3, 17 and 19: then
+// the store keeps its content.
+#[no_mangle]
+pub extern "C" fn sb_mark_set(
+    n: u32,
+    links: &[u8],
+    numbers: &[u8],
+    order: &[u16],
+    name: &[u8],
+    store: &mut [u8],
+) -> u32
+    ensures { λ r. ⌜ Set-contract n (now (name .entry)) (lent (links .entry) (numbers .entry) (order .entry)) (now (store .entry)) r
+        (now (store .exit)) ⌝ }
+{
+    marks::set(n, links, numbers, order, name, store)
+}
+
+// Removes the mark of the name from the store: its place serves another. Refused by 1, 2, 3, 17 and 18: then the store keeps its
+// content.
+#[no_mangle]
+pub extern "C" fn sb_mark_remove(
+    n: u32,
+    links: &[u8],
+    numbers: &[u8],
+    order: &[u16],
+    name: &[u8],
+    store: &mut [u8],
+) -> u32
+    ensures { λ r. ⌜ Remove-contract n (now (name .entry)) (lent (links .entry) (numbers .entry) (order .entry)) (now (store .entry)) r
+        (now (store .exit)) ⌝ }
+{
+    marks::remove(n, links, numbers, order, name, store)
+}
+
+// Comes back to the mark of the name: links, numbers and order as they were when it was set. Refused by 1, 2, 3, 17 and 18: then every
+// table keeps its content.
+#[no_mangle]
+pub extern "C" fn sb_mark_return(
+    n: u32,
+    links: &mut [u8],
+    numbers: &mut [u8],
+    order: &mut [u16],
+    name: &[u8],
+    store: &[u8],
+) -> u32
+    ensures { λ r. ⌜ Return-contract n (now (name .entry)) (now (store .entry)) (lent (links .entry) (numbers .entry) (order .entry)) r
+        (lent (links .exit) (numbers .exit) (order .exit)) ⌝ }
+{
+    marks::come_back(n, links, numbers, order, name, store)
 }
 
 // A step of the block reader whose next block is `next`: where the payload lies in the image, and the number of the next block;

@@ -1,0 +1,206 @@
+-- Coming back to a mark gives back the link history at the moment when it was set (W-211).
+--   history-restored   an accepted set, calls none of which sets or removes that name, an accepted coming back to the image that was
+--                      set: the history, with the clearing or read image that it began from, is the one at the setting
+use mathlib.Core.Path.{_≡_, refl, sym, ap, ap₂, _∙_}
+use mathlib.Core.Logic.{_⊎_, inl, inr}
+use mathlib.Core.Bool.{Bool, true, false, _&&_, not, cond}
+use mathlib.Core.List.{List, [], _∷_, _++_}
+use mathlib.Core.Option.{none, some}
+use Prim.Native.Nat.{ℕ, zero, suc, _≤_}
+use native.Mathlib.Omega.{arith}
+use Rattle.mesh.specs.Limits.{max-radios}
+use Rattle.lists.specs.Lists.{same}
+use Rattle.lists.proofs.All.{same-refl, same-eq}
+use Rattle.lists.proofs.Tests.{and-left, and-right, bool-cases, never}
+use Rattle.mesh.specs.Graph.{Link, Graph, graph}
+use Rattle.mesh.specs.Tables.{Tables, tables-of, graph-in}
+use Rattle.mesh.specs.Image.{image-of, image-graph, image-order, is-image}
+use Rattle.mesh.proofs.Tables.ReadBack.{graph-in-links-table}
+use Rattle.mesh.proofs.Tables.Sites.{image-valid}
+use Rattle.mesh.proofs.Images.Sites.{written-read}
+use Rattle.calls.specs.Questions.{Lengths, lengths-of}
+use Rattle.calls.specs.Marks.{store-length, set-refusal, named-refusal, mark-image}
+use Rattle.calls.specs.Switches.{pairs-after, tables-after}
+use Rattle.calls.specs.Book.{from-image, Marking, no-mark, sets, removes, returns, Outcome, outcome-with, unless-refused, outcome, setting, returning, Answer, plain}
+use Rattle.calls.specs.Book.{Given, given, booked, first-pairs, pairs-of, book-after, radios, beginning-tables, History, fresh, history-by, image-at, Marked, Past, past}
+use Rattle.calls.specs.Book.{unmarked, recalled, marked-by, past-by, past-after, leaves, all-leave, history}
+use Rattle.calls.specs.Runs.{Event, event, Run, Does, givens}
+use Rattle.calls.specs.Demand.{Start, beginning}
+use Rattle.calls.proofs.Holds.{Holds, same-n, read-back}
+use Rattle.calls.proofs.MarkCalls.{named-zero, mark-is-image}
+use Rattle.calls.proofs.Steps.{step}
+use Rattle.calls.proofs.Histories.{Traced, Past-holds, image-is, order-is, past-kept}
+use Rattle.calls.proofs.WholeList.{start-past}
+
+-- ---- what is recalled
+
+differs : (x y : List ℕ) → not (same y x) ≡ true → same y x ≡ false
+differs x y h = go (bool-cases (same y x))
+  where
+    go : (same y x ≡ true) ⊎ (same y x ≡ false) → same y x ≡ false
+    go (inl e) = never (not (same y x)) h (ap not e)
+    go (inr e) = e
+
+recalled-unmarked : (x y : List ℕ) (h : History) (ms : List Marked) → same y x ≡ false → recalled x h (unmarked y ms) ≡ recalled x h ms
+unfolding recalled unmarked
+recalled-unmarked x y h [] e = refl
+recalled-unmarked x y h (m ∷ ms) e = go (same (m .name) y) refl (recalled-unmarked x y h ms e)
+  where
+    go : (t : Bool) → same (m .name) y ≡ t → recalled x h (unmarked y ms) ≡ recalled x h ms → recalled x h (cond t (unmarked y ms) (m ∷ unmarked y ms)) ≡ recalled x h (m ∷ ms)
+    go true d rec =
+        let f : same (m .name) x ≡ false = ap (λ (z : List ℕ). same z x) (same-eq (m .name) y d) ∙ e in rw f rec
+    go false d rec = rw rec
+
+-- a call that neither sets nor removes x
+recalled-step : (x : List ℕ) (h i : History) (ms : List Marked) (m : Marking) → leaves x m ≡ true → recalled x h (marked-by m i ms .marks) ≡ recalled x h ms
+unfolding recalled marked-by leaves
+recalled-step x h i ms no-mark e = refl
+recalled-step x h i ms (sets y) e = rw (differs x y e)
+recalled-step x h i ms (removes y) e = recalled-unmarked x y h ms (differs x y e)
+recalled-step x h i ms (returns y) e = refl
+
+recalled-after : (x : List ℕ) (h : History) (cs : List Given) (ps : List Link) (p : Past) → all-leave x cs ps ≡ true → recalled x h (past-after cs ps p .marks) ≡ recalled x h (p .marks)
+unfolding all-leave past-after past-by
+recalled-after x h [] ps p e = refl
+recalled-after x h (c ∷ cs) ps p e =
+    let o = booked c ps in
+    let l = leaves x (o .marking) in
+    let r = all-leave x cs (pairs-of o ps) in
+    recalled-after x h cs (pairs-of o ps) (past-by o p) (and-right l r e)
+    ∙ recalled-step x h (history-by (o .begins) (o .switches) (p .history)) (p .marks) (o .marking) (and-left l r e)
+
+recalled-own : (x : List ℕ) (h i : History) (ms : List Marked) → image-at i ≡ image-at h → recalled x h (record { name = x; history = i } ∷ ms) ≡ i
+unfolding recalled
+recalled-own x h i ms e = rw (same-refl x, e, same-refl (image-at h))
+
+-- ---- lists one after the other
+
+givens-append : (es fs : List Event) → givens (es ++ fs) ≡ givens es ++ givens fs
+unfolding givens
+givens-append [] fs = refl
+givens-append (event c t hs v ∷ es) fs = ap {B = List Given} (λ cs. given c (lengths-of t) ∷ cs) (givens-append es fs)
+
+past-append : (cs ds : List Given) (ps : List Link) (p : Past) → past-after (cs ++ ds) ps p ≡ past-after ds (book-after cs ps) (past-after cs ps p)
+unfolding past-after book-after
+past-append [] ds ps p = refl
+past-append (c ∷ cs) ds ps p = past-append cs ds (pairs-of (booked c ps) ps) (past-by (booked c ps) p)
+
+same-calls : (h : History) → history-by none [] h ≡ h
+unfolding history-by
+same-calls h = ap {B = History} (λ cs. record { began = h .began; calls = cs }) (append-nil (h .calls))
+  where
+    append-nil : {A : Type 0} (xs : List A) → xs ++ [] ≡ xs
+    append-nil [] = refl
+    append-nil {A} (x ∷ xs) = ap {B = List A} (λ ys. x ∷ ys) (append-nil xs)
+
+-- ---- accepted calls
+
+number-of : List Answer → ℕ
+number-of [] = 1
+number-of (h ∷ hs) = h .number
+
+-- a number 0 is no refusal
+accepted : (R : ℕ) (o : Outcome) → plain 0 ∷ [] ≡ unless-refused R o .answers → R ≡ 0
+unfolding unless-refused number-of plain
+accepted zero o e = refl
+accepted (suc q) o e = absurd (omega (arith, ap number-of e))
+
+accepted-set : (m : ℕ) (x bs : List ℕ) (l : Lengths) (ps : List Link) → plain 0 ∷ [] ≡ outcome (setting m x bs) l ps .answers →
+    outcome (setting m x bs) l ps ≡ outcome-with (plain 0 ∷ []) none [] (sets x)
+unfolding outcome unless-refused
+accepted-set m x bs l ps e =
+    let o = outcome-with (plain 0 ∷ []) none [] (sets x) in
+    ap (λ (R : ℕ). unless-refused R o) (accepted (set-refusal m l true x bs) o e)
+
+accepted-return : (j : ℕ) (x ds : List ℕ) (l : Lengths) (ps : List Link) → plain 0 ∷ [] ≡ outcome (returning j x ds) l ps .answers →
+    (named-refusal j l true x ds ≡ 0) × (outcome (returning j x ds) l ps ≡ outcome-with (plain 0 ∷ []) (some (from-image j (mark-image j x ds))) [] (returns x))
+unfolding outcome unless-refused
+accepted-return j x ds l ps e =
+    let o = outcome-with (plain 0 ∷ []) (some (from-image j (mark-image j x ds))) [] (returns x) in
+    let z = accepted (named-refusal j l true x ds) o e in
+    (z, ap (λ (R : ℕ). unless-refused R o) z)
+
+-- the image of what reading an image leaves is that image
+image-read : (j : ℕ) (bs : List ℕ) → j ≤ max-radios → is-image j bs ≡ true → image-at (fresh (from-image j bs)) ≡ bs
+unfolding image-at fresh radios tables-after beginning-tables tables-of image-graph
+image-read j bs small i =
+    let v = image-valid j bs small i in
+    ap (λ (g : Graph). image-of g (image-order j bs)) (graph-in-links-table (image-graph j bs) small (v .links-proper) (v .links-ascending)) ∙ written-read j bs i
+
+-- ---- the theorem
+
+module _ (n : ℕ) (qs : List Link) (p : Past) (t : Tables) (k : Past-holds n qs p t) (m : ℕ) (x bs : List ℕ) (d : Does (setting m x bs) t (plain 0 ∷ []) t) where
+  abbrev marked : Past
+  marked = past (p .history) (record { name = x; history = p .history } ∷ p .marks)
+
+  marked-holds : Past-holds n qs marked t
+  marked-holds = record { traced = k .traced; marks = (record { pairs = qs; tables = t; traced = k .traced }, k .marks) }
+
+  set-is : outcome (setting m x bs) (lengths-of t) qs ≡ outcome-with (plain 0 ∷ []) none [] (sets x)
+  set-is = accepted-set m x bs (lengths-of t) qs (step n qs t (k .traced .holds) (setting m x bs) (plain 0 ∷ []) t d .kept .answered)
+
+  after-set : (cs : List Given) → past-after (given (setting m x bs) (lengths-of t) ∷ cs) qs p ≡ past-after cs qs marked
+  unfolding past-after booked past-by marked-by pairs-of pairs-after first-pairs
+  after-set cs =
+      ap₂ (past-after cs) (ap (λ (o : Outcome). pairs-of o qs) set-is)
+      (ap (λ (o : Outcome). past-by o p) set-is ∙ ap (λ (h : History). past h (record { name = x; history = h } ∷ p .marks)) (same-calls (p .history)))
+
+  -- the image that was set
+  set-image : image-at (p .history) ≡ image-of (graph-in n (t .links)) (t .order)
+  set-image =
+      image-is n (p .history) qs t (k .traced)
+      ∙ sym (ap₂ image-of (read-back n qs t (k .traced .holds)) (order-is n qs t (k .traced .holds)))
+
+  module _ (between : List Event) (u v : Tables) (j : ℕ) (ds : List ℕ) (r : Run t between u) (b : Does (returning j x ds) u (plain 0 ∷ []) v)
+      (free : all-leave x (givens between) qs ≡ true) (still : mark-image j x ds ≡ image-of (graph-in n (t .links)) (t .order)) where
+    abbrev then : Past
+    then = past-after (givens between) qs marked
+
+    abbrev pairs : List Link
+    pairs = book-after (givens between) qs
+
+    kept : Past-holds n pairs then u
+    kept = past-kept n qs marked marked-holds r
+
+    return-is :
+        (named-refusal j (lengths-of u) true x ds ≡ 0)
+        × (outcome (returning j x ds) (lengths-of u) pairs ≡ outcome-with (plain 0 ∷ []) (some (from-image j (mark-image j x ds))) [] (returns x))
+    return-is =
+        accepted-return j x ds (lengths-of u) pairs (step n pairs u (kept .traced .holds) (returning j x ds) (plain 0 ∷ []) v b .kept .answered)
+
+    -- the mark's image is the one that was set
+    back-image : image-at (p .history) ≡ image-at (fresh (from-image j (mark-image j x ds)))
+    back-image =
+        let q = named-zero j (lengths-of u) true x ds (return-is .0) in
+        set-image ∙ sym still ∙ sym (image-read j (mark-image j x ds) (q .0 .site .lent .most) (mark-is-image j x ds (q .0 .store .marks) (q .1)))
+
+    after-return : past-after (given (returning j x ds) (lengths-of u) ∷ []) pairs then .history ≡ p .history
+    unfolding past-after booked past-by marked-by history-by fresh
+    after-return =
+        ap (λ (o : Outcome). past-by o then .history) (return-is .1)
+        ∙ recalled-after x (fresh (from-image j (mark-image j x ds))) (givens between) qs marked free
+        ∙ recalled-own x (fresh (from-image j (mark-image j x ds))) (p .history) (p .marks) back-image
+
+    restored : past-after (givens (event (setting m x bs) t (plain 0 ∷ []) t ∷ (between ++ (event (returning j x ds) u (plain 0 ∷ []) v ∷ [])))) qs p .history ≡ p .history
+    unfolding givens
+    restored =
+        let back = given (returning j x ds) (lengths-of u) ∷ [] in
+        ap (λ (o : Past). o .history)
+        (after-set (givens (between ++ (event (returning j x ds) u (plain 0 ∷ []) v ∷ [])))
+        ∙ ap (λ (cs : List Given). past-after cs qs marked) (givens-append between (event (returning j x ds) u (plain 0 ∷ []) v ∷ []))
+        ∙ past-append (givens between) back qs marked)
+        ∙ after-return
+
+pub history-restored :
+    (n : ℕ) (ps : List Link) (t₀ t u v : Tables) (s : Start n ps t₀) (before between : List Event) (m j : ℕ) (x bs ds : List ℕ) →
+    Run t₀ before t → Does (setting m x bs) t (plain 0 ∷ []) t → Run t between u → Does (returning j x ds) u (plain 0 ∷ []) v →
+    all-leave x (givens between) (book-after (givens before) ps) ≡ true → mark-image j x ds ≡ image-of (graph-in n (t .links)) (t .order) →
+    history (givens (before ++ (event (setting m x bs) t (plain 0 ∷ []) t ∷ (between ++ (event (returning j x ds) u (plain 0 ∷ []) v ∷ []))))) ps (beginning s)
+    ≡ history (givens before) ps (beginning s)
+unfolding history
+history-restored n ps t₀ t u v s before between m j x bs ds r₁ d₁ r₂ d₂ free still =
+    let p₀ = past (fresh (beginning s)) [] in
+    let rest = event (setting m x bs) t (plain 0 ∷ []) t ∷ (between ++ (event (returning j x ds) u (plain 0 ∷ []) v ∷ [])) in
+    ap (λ (o : Past). o .history)
+    (ap (λ (cs : List Given). past-after cs ps p₀) (givens-append before rest) ∙ past-append (givens before) (givens rest) ps p₀)
+    ∙ restored n (book-after (givens before) ps) (past-after (givens before) ps p₀) t (past-kept n ps p₀ (start-past s) r₁) m x bs d₁ between u v j ds r₂ d₂ free still

@@ -1,0 +1,255 @@
+-- What an accepted call on marks keeps, and that coming back restores what was set.
+--   Mark-asked        1, 2, 3 and 17 got yes
+--   ..-zero           a chain that is 0: what was asked holds
+--   set-right, removed-right   the store after an accepted call: it keeps the rules again
+--   set-others, removed-others, other-marks   other marks are unaffected, whatever the call answers
+--   mark-is-image, mark-read   a mark that the store has holds an image of sound tables, which reading takes
+--   return-right      after an accepted coming back: what reading the mark's image leaves
+--   return-restores   coming back to a mark restores links, numbers and order as they were when it was set
+use mathlib.Core.Path.{_≡_, refl, sym, ap, ap₂, _∙_}
+use mathlib.Core.Logic.{_⊎_, inl, inr}
+use mathlib.Core.Bool.{Bool, true, false, _&&_, _||_, cond}
+use mathlib.Core.List.{List, [], _∷_}
+use Prim.Native.Nat.{ℕ, zero, suc, _+_, _≤_, _<_}
+use native.Mathlib.Omega.{arith}
+use lib.Dec.{ltb}
+use lib.ListN.{length}
+use borrow.Author.Tests.{eqb-true, ltb-true}
+use Rattle.mesh.specs.Limits.{max-radios}
+use Rattle.lists.specs.Lists.{same, Entries-below}
+use Rattle.mesh.specs.Graph.{Graph}
+use Rattle.mesh.specs.Cores.{numbers}
+use Rattle.mesh.specs.Tables.{Tables, tables-of, graph-in}
+use Rattle.mesh.specs.Sound.{sound}
+use Rattle.mesh.specs.Image.{image-of, image-graph, image-order, is-image, whole-blocks, checks-good}
+use Rattle.mesh.proofs.Images.Of.{whole-blocks-image-of, checks-good-image-of}
+use Rattle.mesh.proofs.Images.Sites.{written-read}
+use Rattle.mesh.specs.Marks.{places, store-bytes, before, is-name, is-store, name-in, image-in, place-of, marks-in, store-of, has-mark, found, with-mark, without-mark}
+use Rattle.lists.proofs.Tests.{and-left, and-right, or-cases, never}
+use Rattle.mesh.specs.Tables.{Tables-of-size}
+use Rattle.mesh.proofs.Images.Tables.{is-image-sound, tables-read-written}
+use Rattle.mesh.proofs.Marks.Lists.{rising-with, has-mark-with-same, found-with-same, found-with-other, has-mark-with-other, length-with, rising-without, has-mark-without-same, found-without-other, has-mark-without-other, length-without, found-mark}
+use Rattle.mesh.proofs.Marks.Rules.{store-good-iff}
+use Rattle.mesh.proofs.Marks.Laws.{Marks, marks-store-of, length-store-of, is-store-of, Store-marks, store-marks, Place-mark, place-mark, mark-place}
+use Rattle.calls.specs.Questions.{ask, By-number, Lengths, lengths-of, read-refusal}
+use Rattle.calls.specs.Contracts.Forms.{Tables-refused}
+use Rattle.calls.specs.Contracts.Images.{Read-accepted, Read-contract}
+use Rattle.calls.specs.Results.{Read-right}
+use Rattle.calls.specs.MarkResults.{Store-right, Set-right, Removed-right, Same-mark}
+use Rattle.calls.specs.Marks.{store-length, marks-good, is-marked, has-place, mark-refusal, set-refusal, named-refusal, set-store, removed-store, mark-image}
+use Rattle.calls.specs.Contracts.Marks.{Store-accepted, Store-refused, Set-contract, Remove-contract, Return-contract}
+use Rattle.calls.proofs.QuestionLaws.{ask-yes, ask-zero, ask-later}
+use Rattle.calls.proofs.ChainLaws.{Site-good, site-zero, Lent-good, Blocks-good, read-yes}
+use Rattle.calls.proofs.ContractLaws.{by-accepted}
+use Rattle.calls.proofs.Accepted.{read-right}
+use Rattle.calls.proofs.RecordLaws.{tables-ext}
+
+-- ---- questions
+
+pub record Mark-asked (n : ℕ) (l : Lengths) (sound : Bool) (x bs : List ℕ) : Type 0 where
+  pub site : Site-good n l (store-length bs) sound
+  pub store : Store-marks n bs
+  pub name : is-name x ≡ true
+
+pub mark-zero : (n : ℕ) (l : Lengths) (sound : Bool) (x bs : List ℕ) (later : ℕ) → mark-refusal n l sound x bs later ≡ 0 → Mark-asked n l sound x bs × (later ≡ 0)
+unfolding mark-refusal marks-good store-length
+mark-zero n l sound x bs later p =
+    let q = site-zero n l (store-length bs) sound (ask 17 (marks-good n x bs) later) p in
+    let r = ask-zero 16 (marks-good n x bs) later (q .1) in (
+      record {
+        site = q .0;
+        store = store-marks n bs (eqb-true (length bs) store-bytes (q .0 .lent .further)) (and-left (is-store n bs) (is-name x) (r .0));
+        name = and-right (is-store n bs) (is-name x) (r .0);
+      },
+      r .1,
+    )
+
+pub set-zero : (n : ℕ) (l : Lengths) (sound : Bool) (x bs : List ℕ) → set-refusal n l sound x bs ≡ 0 → Mark-asked n l sound x bs × (has-place x bs ≡ true)
+unfolding set-refusal
+set-zero n l sound x bs p = let q = mark-zero n l sound x bs _ p in (q .0, ask-zero 18 (has-place x bs) 0 (q .1) .0)
+
+pub named-zero : (n : ℕ) (l : Lengths) (sound : Bool) (x bs : List ℕ) → named-refusal n l sound x bs ≡ 0 → Mark-asked n l sound x bs × (is-marked x bs ≡ true)
+unfolding named-refusal
+named-zero n l sound x bs p = let q = mark-zero n l sound x bs _ p in (q .0, ask-zero 17 (is-marked x bs) 0 (q .1) .0)
+
+-- the number 0 is no refusal
+accepted-zero : (R : ℕ) (A : Type 0) (B : ℕ → Type 0) → ((q : ℕ) → B (suc q) → ⊥) → By-number R A B → (R ≡ 0) × A
+unfolding By-number
+accepted-zero zero A B f d = (refl, d)
+accepted-zero (suc q) A B f d = absurd (f q d)
+
+-- ---- setting
+
+-- the store of at most 8 marks in rising order
+store-right : (n : ℕ) (ps : List (List ℕ)) (cs : List ℕ) → n ≤ max-radios → Marks n ps → cs ≡ store-of ps → Store-right n cs
+store-right n ps cs small m e =
+    let long : length cs ≡ store-bytes = ap length e ∙ length-store-of n ps m in
+    let good : is-store n cs ≡ true = ap (is-store n) e ∙ is-store-of n ps m in
+    record { long = long; good = good; rules = store-good-iff n cs small long .0 good }
+
+name-first : (x : List ℕ) → is-name x ≡ true → before [] x ≡ true
+unfolding before is-name
+name-first [] h = never false h refl
+name-first (c ∷ cs) h = refl
+
+set-marks :
+    (n : ℕ) (x image : List ℕ) (ps : List (List ℕ)) → Marks n ps → Place-mark n x image → is-name x ≡ true →
+    (has-mark x ps || ltb (length ps) places) ≡ true → Marks n (with-mark (place-of x image) ps)
+set-marks n x image ps m k name room =
+    let p = place-of x image in
+    let more = length-with n [] p ps (m .rising) in
+    record {
+      rising = rising-with n p (k .long) (k .good) [] ps (rw (k .name) (name-first x name)) (m .rising);
+      few = go (or-cases (has-mark x ps) (ltb (length ps) places) room) (rw (k .name) at more) (m .few);
+    }
+  where
+    go : (has-mark x ps ≡ true) ⊎ (ltb (length ps) places ≡ true) →
+        length (with-mark (place-of x image) ps) + cond (has-mark x ps) 1 0 ≡ suc (length ps) → length ps ≤ places →
+        length (with-mark (place-of x image) ps) ≤ places
+    go (inl h) l f = omega (arith, rw h at l)
+    go (inr h) l f = omega (arith, ltb-true (length ps) places h)
+
+pub set-right : (n : ℕ) (x : List ℕ) (t : Tables) (bs cs : List ℕ) → Set-contract n x t bs 0 cs → Set-right n x t bs cs
+unfolding Set-contract set-store has-place is-marked mark-image
+set-right n x t bs cs d =
+    let a = accepted-zero (set-refusal n (lengths-of t) (sound n t) x bs) (Store-accepted (set-store n x t bs) 0 cs) (λ q. Store-refused q bs 0 cs) (λ q e. omega (arith, e .number)) d in
+    let q = set-zero n (lengths-of t) (sound n t) x bs (a .0) in
+    let image = image-of (graph-in n (t .links)) (t .order) in
+    let small = q .0 .site .lent .most in
+    let k = place-mark n x image small (q .0 .name) (is-image-sound n t small (q .0 .site .is-sound)) in
+    let p = place-of x image in
+    let ps = marks-in bs in
+    let m = q .0 .store .marks in
+    let b = set-marks n x image ps m k (q .0 .name) (q .1) in
+    let e = ap marks-in (a .1 .store) ∙ marks-store-of n (with-mark p ps) b in
+    record {
+      store = store-right n (with-mark p ps) cs small b (a .1 .store);
+      there = rw e (ap (λ (y : List ℕ). has-mark y (with-mark p ps)) (sym (k .name)) ∙ has-mark-with-same p ps);
+      image = rw e (ap (image-in n) (ap (λ (y : List ℕ). found y (with-mark p ps)) (sym (k .name)) ∙ found-with-same p ps) ∙ k .image);
+      count = rw e (rw (k .name) at (length-with n [] p ps (m .rising)));
+    }
+
+-- ---- removing
+
+pub removed-right : (n : ℕ) (x : List ℕ) (t : Tables) (bs cs : List ℕ) → Remove-contract n x t bs 0 cs → Removed-right n x bs cs
+unfolding Remove-contract removed-store is-marked
+removed-right n x t bs cs d =
+    let a = accepted-zero (named-refusal n (lengths-of t) (sound n t) x bs) (Store-accepted (removed-store x bs) 0 cs) (λ q. Store-refused q bs 0 cs) (λ q e. omega (arith, e .number)) d in
+    let q = named-zero n (lengths-of t) (sound n t) x bs (a .0) in
+    let ps = marks-in bs in
+    let m = q .0 .store .marks in
+    let few = m .few in
+    let less = length-without x ps in
+    let b : Marks n (without-mark x ps) = record { rising = rising-without n x [] ps (m .rising); few = omega arith } in
+    let e = ap marks-in (a .1 .store) ∙ marks-store-of n (without-mark x ps) b in
+    let l : length (without-mark x ps) + 1 ≡ length ps = rw (q .1) at less in
+    record {
+      store = store-right n (without-mark x ps) cs (q .0 .site .lent .most) b (a .1 .store);
+      gone = rw e (has-mark-without-same n x [] ps (m .rising));
+      count = rw e (omega arith);
+    }
+
+-- ---- other marks are unaffected, whatever the call answers
+
+same-mark : (y bs cs : List ℕ) → cs ≡ bs → Same-mark y bs cs
+same-mark y bs cs e = record { there = ap (is-marked y) e; place = ap (λ (o : List ℕ). found y (marks-in o)) e }
+
+pub set-others : (n : ℕ) (x : List ℕ) (t : Tables) (bs : List ℕ) (r : ℕ) (cs y : List ℕ) → Set-contract n x t bs r cs → same x y ≡ false → Same-mark y bs cs
+unfolding Set-contract By-number set-store is-marked has-place
+set-others n x t bs r cs y d h = go (set-refusal n (lengths-of t) (sound n t) x bs) refl d
+  where
+    go : (R : ℕ) → set-refusal n (lengths-of t) (sound n t) x bs ≡ R → By-number R (Store-accepted (set-store n x t bs) r cs) (λ q. Store-refused q bs r cs) → Same-mark y bs cs
+    go zero e a =
+        let q = set-zero n (lengths-of t) (sound n t) x bs e in
+        let image = image-of (graph-in n (t .links)) (t .order) in
+        let small = q .0 .site .lent .most in
+        let k = place-mark n x image small (q .0 .name) (is-image-sound n t small (q .0 .site .is-sound)) in
+        let p = place-of x image in
+        let b = set-marks n x image (marks-in bs) (q .0 .store .marks) k (q .0 .name) (q .1) in
+        let f = ap marks-in (a .store) ∙ marks-store-of n (with-mark p (marks-in bs)) b in
+        let o : same (name-in p) y ≡ false = ap (λ (z : List ℕ). same z y) (k .name) ∙ h in
+        record { there = ap (has-mark y) f ∙ has-mark-with-other y p (marks-in bs) o; place = ap (found y) f ∙ found-with-other y p (marks-in bs) o }
+    go (suc z) e a = same-mark y bs cs (a .store)
+
+pub removed-others : (n : ℕ) (x : List ℕ) (t : Tables) (bs : List ℕ) (r : ℕ) (cs y : List ℕ) → Remove-contract n x t bs r cs → same x y ≡ false → Same-mark y bs cs
+unfolding Remove-contract By-number removed-store is-marked
+removed-others n x t bs r cs y d h = go (named-refusal n (lengths-of t) (sound n t) x bs) refl d
+  where
+    go : (R : ℕ) → named-refusal n (lengths-of t) (sound n t) x bs ≡ R → By-number R (Store-accepted (removed-store x bs) r cs) (λ q. Store-refused q bs r cs) → Same-mark y bs cs
+    go zero e a =
+        let m = named-zero n (lengths-of t) (sound n t) x bs e .0 .store .marks in
+        let few = m .few in
+        let less = length-without x (marks-in bs) in
+        let b : Marks n (without-mark x (marks-in bs)) = record { rising = rising-without n x [] (marks-in bs) (m .rising); few = omega arith } in
+        let f = ap marks-in (a .store) ∙ marks-store-of n (without-mark x (marks-in bs)) b in
+        record { there = ap (has-mark y) f ∙ has-mark-without-other x y (marks-in bs) h; place = ap (found y) f ∙ found-without-other x y (marks-in bs) h }
+    go (suc z) e a = same-mark y bs cs (a .store)
+
+-- setting or removing another name
+pub other-marks :
+    (n : ℕ) (x : List ℕ) (t : Tables) (bs : List ℕ) (r : ℕ) (cs y : List ℕ) → Set-contract n x t bs r cs ⊎ Remove-contract n x t bs r cs →
+    same x y ≡ false → Same-mark y bs cs
+other-marks n x t bs r cs y (inl d) h = set-others n x t bs r cs y d h
+other-marks n x t bs r cs y (inr d) h = removed-others n x t bs r cs y d h
+
+-- ---- coming back
+
+-- an image of sound tables passes its checks
+pub image-blocks : (n : ℕ) (bs : List ℕ) → is-image n bs ≡ true → Blocks-good bs
+image-blocks n bs i =
+    let g = image-graph n bs in
+    let xs = image-order n bs in
+    record {
+      whole = ap whole-blocks (sym (written-read n bs i)) ∙ whole-blocks-image-of g xs;
+      checks = ap checks-good (sym (written-read n bs i)) ∙ checks-good-image-of g xs;
+    }
+
+-- a mark that the store has holds an image of sound tables
+pub mark-is-image : (n : ℕ) (x bs : List ℕ) → Marks n (marks-in bs) → is-marked x bs ≡ true → is-image n (mark-image n x bs) ≡ true
+unfolding is-marked mark-image
+mark-is-image n x bs m h =
+    let f = found-mark n x [] (marks-in bs) (m .rising) h in mark-place n (found x (marks-in bs)) (f .0) (f .1) .1
+
+-- accepted: the tables of the mark's image
+pub return-accepted :
+    (n : ℕ) (x bs : List ℕ) (t v : Tables) → Return-contract n x bs t 0 v →
+    (named-refusal n (lengths-of t) (sound n t) x bs ≡ 0) × Read-accepted n (mark-image n x bs) 0 v
+unfolding Return-contract
+return-accepted n x bs t v d =
+    accepted-zero (named-refusal n (lengths-of t) (sound n t) x bs) (Read-accepted n (mark-image n x bs) 0 v) (λ q. Tables-refused q 0 t v) (λ q e. omega (arith, e .number)) d
+
+-- reading takes it
+pub mark-read :
+    (n : ℕ) (l : Lengths) (sound : Bool) (x bs : List ℕ) → Mark-asked n l sound x bs → is-marked x bs ≡ true → read-refusal n l (mark-image n x bs) ≡ 0
+mark-read n l sound x bs a h =
+    let g = a .site .lent in
+    let i = mark-is-image n x bs (a .store .marks) h in
+    read-yes n l (mark-image n x bs) (record { least = g .least; most = g .most; lengths = g .lengths; further = refl }) (image-blocks n (mark-image n x bs) i) i
+
+-- accepted: what reading the mark's image leaves
+pub return-right : (n : ℕ) (x bs : List ℕ) (t v : Tables) → Return-contract n x bs t 0 v → Read-contract n (mark-image n x bs) t 0 v × Read-right n (mark-image n x bs) v
+unfolding Read-contract
+return-right n x bs t v d =
+    let a = return-accepted n x bs t v d in
+    let q = named-zero n (lengths-of t) (sound n t) x bs (a .0) in
+    let c = by-accepted (read-refusal n (lengths-of t) (mark-image n x bs)) (λ q. Tables-refused q 0 t v) (mark-read n (lengths-of t) (sound n t) x bs (q .0) (q .1)) (a .1) in
+    (c, read-right n (mark-image n x bs) t 0 v c refl)
+
+-- set with the tables t, later the store has the same place under that name: coming back restores t. That their links are bytes is all that
+-- is asked of them
+pub return-restores :
+    (n : ℕ) (x : List ℕ) (t u v : Tables) (bs cs ds : List ℕ) → Entries-below 256 (t .links) → Set-contract n x t bs 0 cs → Same-mark x cs ds →
+    Return-contract n x ds u 0 v → v ≡ t
+unfolding mark-image tables-of Set-contract lengths-of
+return-restores n x t u v bs cs ds bytes d s c =
+    let k = set-right n x t bs cs d in
+    let a = accepted-zero (set-refusal n (lengths-of t) (sound n t) x bs) (Store-accepted (set-store n x t bs) 0 cs) (λ q. Store-refused q bs 0 cs) (λ q e. omega (arith, e .number)) d in
+    let site = set-zero n (lengths-of t) (sound n t) x bs (a .0) .0 .site in
+    let l = site .lent .lengths in
+    let z : Tables-of-size n t = record { links-length = l .links; numbers-length = l .numbers; order-length = l .order; links-bytes = bytes } in
+    let image = image-of (graph-in n (t .links)) (t .order) in
+    let e : mark-image n x ds ≡ image = ap (image-in n) (s .place) ∙ k .image in
+    let r = return-accepted n x ds u v c .1 in
+    tables-ext v (tables-of (image-graph n (mark-image n x ds)) (image-order n (mark-image n x ds))) (r .links) (r .numbers) (r .order)
+    ∙ ap (λ (o : List ℕ). tables-of (image-graph n o) (image-order n o)) e
+    ∙ tables-read-written n t (site .lent .most) z (site .is-sound)

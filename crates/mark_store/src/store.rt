@@ -1,0 +1,153 @@
+// The store of marks: 8 places, used ones first, in rising order of name.
+ghost use mathlib.Core.Path.{_≡_};
+ghost use mathlib.Core.Bool.{true};
+ghost use Prim.Native.Nat.{_≤_, _<_};
+ghost use lib.ListN.{length};
+ghost use Rattle.mesh.specs.Limits.{size-good};
+ghost use Rattle.mesh.specs.Tables.{lent};
+ghost use Rattle.mesh.specs.Sound.{sound};
+ghost use Rattle.mesh.specs.Marks.{places, store-bytes, before, name-at, marks-in, is-store, rank};
+ghost use Rattle.calls.specs.Questions.{lengths-of};
+ghost use Rattle.calls.specs.Marks.{mark-refusal};
+ghost use Rattle.mark_store.specs.Store.{last-name, Located};
+use super::bytes;
+use super::names;
+use super::places;
+use super::places::NAME;
+use super::places::PLACE;
+use calls::Refusal;
+use tables::fill;
+
+pub const PLACES: usize = 8;
+
+pub const STORE: usize = 352320;
+
+// How many places are used: those before the first that is all zero.
+fn count_used(store: &[u8]) -> usize
+    requires { ⌜ length (now store) ≡ store-bytes ⌝ }
+    ensures { λ r. ⌜ (r ≡ length (marks-in (now (store .entry)))) × (r ≤ places) ⌝ }
+{
+    let mut i: usize = 0;
+    while i < PLACES {
+        let at = PLACE * i;
+        let end = at + PLACE;
+        if bytes::are_zeros(&store[at..end]) {
+            return i;
+        }
+        i += 1;
+    }
+    PLACES
+}
+
+// Whether the name of place i stands after that of the place before it; yes for the first.
+fn is_rising(store: &[u8], i: usize) -> bool
+    requires { ⌜ (length (now store) ≡ store-bytes) × (i < places) ⌝ }
+    ensures { λ r. ⌜ r ≡ before (last-name (now (store .entry)) i) (name-at (now (store .entry)) i) ⌝ }
+{
+    let at = PLACE * i;
+    let end = at + NAME;
+    if i == 0 {
+        return names::is_before(&store[0..0], &store[at..end]);
+    }
+    let last = at - PLACE;
+    let last_end = last + NAME;
+    names::is_before(&store[last..last_end], &store[at..end])
+}
+
+// Whether the store keeps the rules: the used places are marks in rising order of name, and all after them is zero.
+fn is_store(n: u32, store: &[u8]) -> bool
+    requires { ⌜ (size-good n ≡ true) × (length (now store) ≡ store-bytes) ⌝ }
+    ensures { λ r. ⌜ r ≡ is-store n (now (store .entry)) ⌝ }
+{
+    let k = count_used(store);
+    let mut i: usize = 0;
+    while i < k {
+        let at = PLACE * i;
+        let end = at + PLACE;
+        if !places::is_mark(n, &store[at..end]) {
+            return false;
+        }
+        if !is_rising(store, i) {
+            return false;
+        }
+        i += 1;
+    }
+    let rest = PLACE * k;
+    bytes::are_zeros(&store[rest..])
+}
+
+// How many of the k used places have names that stand before the given one: where it stands or is to stand.
+fn rank_of(store: &[u8], k: usize, name: &[u8]) -> usize
+    requires { ⌜ (length (now store) ≡ store-bytes) × (k ≡ length (marks-in (now store))) × (k ≤ places) ⌝ }
+    ensures { λ r. ⌜ (r ≡ rank (now (name .entry)) (marks-in (now (store .entry)))) × (r ≤ k) ⌝ }
+{
+    let mut i: usize = 0;
+    while i < k {
+        let at = PLACE * i;
+        let end = at + NAME;
+        if !names::is_before(&store[at..end], name) {
+            return i;
+        }
+        i += 1;
+    }
+    k
+}
+
+// Where a name stands or is to stand in a store: how many places are used, how many names stand before it, and whether the next one
+// is the name.
+pub struct Spot {
+    pub used: usize,
+    pub rank: usize,
+    pub there: bool,
+}
+
+// Finds the spot of the name; zeros where the store has another length.
+pub fn locate(store: &[u8], name: &[u8]) -> Spot
+    ensures { λ r. ⌜ Located (now (store .entry)) (now (name .entry)) (r .used) (r .rank) (r .there) ⌝ }
+{
+    if store.len() != STORE {
+        return Spot {
+            used: 0,
+            rank: 0,
+            there: false,
+        };
+    }
+    let used = count_used(store);
+    let rank = rank_of(store, used, name);
+    if rank == used {
+        return Spot {
+            used,
+            rank,
+            there: false,
+        };
+    }
+    let at = PLACE * rank;
+    let end = at + NAME;
+    let there = fill::same8(&store[at..end], name);
+    Spot { used, rank, there }
+}
+
+// Questions 1, 2, 3 and 17 of a call on marks.
+pub fn refusal(
+    n: u32,
+    links: &[u8],
+    numbers: &[u8],
+    order: &[u16],
+    name: &[u8],
+    store: &[u8],
+) -> u32
+    ensures { λ r. ⌜ r ≡ mark-refusal n (lengths-of (lent (links .entry) (numbers .entry) (order .entry)))
+        (sound n (lent (links .entry) (numbers .entry) (order .entry))) (now (name .entry)) (now (store .entry)) 0 ⌝ }
+{
+    let number = soundness::refusal(n, links, numbers, order, store.len() == STORE);
+    if number != 0 {
+        return number;
+    }
+    if !is_store(n, store) {
+        return Refusal::MARK;
+    }
+    if !names::is_name(name) {
+        return Refusal::MARK;
+    }
+    0
+}

@@ -1,0 +1,25 @@
+-- A mark put into its place.
+--   Markable n t x     the tables are sound ones of n radios whose image a place holds, and x is a name
+--   mark-place n t x   the place of the name x and the image of the tables
+--   put-place bs i p   the store bs with p as place i
+-- Definitions only.
+use mathlib.Core.Path.{_≡_}
+use mathlib.Core.Bool.{true}
+use mathlib.Core.List.{List, _++_}
+use Prim.Native.Nat.{ℕ, _+_, _*_, _-_}
+use lib.ListN.{take, drop}
+use Rattle.mesh.specs.Tables.{Tables, graph-in}
+use Rattle.mesh.specs.Sound.{sound}
+use Rattle.mesh.specs.Image.{image-of}
+use Rattle.mesh.specs.Marks.{name-bytes, place-bytes, is-name, place-of}
+use Rattle.calls.specs.Questions.{lengths-of, write-refusal}
+
+pub record Markable (n : ℕ) (t : Tables) (x : List ℕ) : Type 0 where
+  pub writable : write-refusal n (lengths-of t) (place-bytes - name-bytes) (sound n t) (graph-in n (t .links)) ≡ 0
+  pub name : is-name x ≡ true
+
+unfoldable pub mark-place : (n : ℕ) → Tables → (name : List ℕ) → List ℕ
+mark-place n t x = place-of x (image-of (graph-in n (t .links)) (t .order))
+
+unfoldable pub put-place : (store : List ℕ) → (i : ℕ) → (place : List ℕ) → List ℕ
+put-place bs i p = take (place-bytes * i) bs ++ (p ++ drop (place-bytes * i + place-bytes) bs)

@@ -1,0 +1,81 @@
+-- The order of names, by bytes: a strict total order of lists.
+use mathlib.Core.Path.{_≡_, refl, sym, ap}
+use mathlib.Core.Logic.{_⊎_, inl, inr}
+use mathlib.Core.Bool.{Bool, true, false, _&&_, _||_}
+use mathlib.Core.List.{List, [], _∷_}
+use Prim.Native.Nat.{ℕ, _<_}
+use native.Mathlib.Omega.{arith}
+use lib.Dec.{ltb, eqb}
+use borrow.Author.Tests.{ltb-true, eqb-true, lt-ltb, eq-eqb, ne-eqb}
+use Rattle.lists.specs.Lists.{same}
+use Rattle.mesh.specs.Marks.{before}
+use Rattle.lists.proofs.Tests.{never, and-left, and-right, and-both, or-left, or-right, or-cases, bool-cases, trichotomy}
+use Rattle.lists.proofs.All.{same-refl, same-eq}
+
+-- ---- at the first byte
+
+pub before-less : (a b : ℕ) (x y : List ℕ) → a < b → before (a ∷ x) (b ∷ y) ≡ true
+unfolding before
+before-less a b x y h = or-left (ltb a b) (eqb a b && before x y) (lt-ltb a b h)
+
+pub before-equal : (a b : ℕ) (x y : List ℕ) → a ≡ b → before x y ≡ true → before (a ∷ x) (b ∷ y) ≡ true
+unfolding before
+before-equal a b x y e h = or-right (ltb a b) (eqb a b && before x y) (and-both (eqb a b) (before x y) (eq-eqb a b e) h)
+
+pub before-cases : (a b : ℕ) (x y : List ℕ) → before (a ∷ x) (b ∷ y) ≡ true → (a < b) ⊎ ((a ≡ b) × (before x y ≡ true))
+unfolding before
+before-cases a b x y h = go (or-cases (ltb a b) (eqb a b && before x y) h)
+  where
+    go : (ltb a b ≡ true) ⊎ ((eqb a b && before x y) ≡ true) → (a < b) ⊎ ((a ≡ b) × (before x y ≡ true))
+    go (inl p) = inl (ltb-true a b p)
+    go (inr p) = inr (eqb-true a b (and-left (eqb a b) (before x y) p), and-right (eqb a b) (before x y) p)
+
+-- ---- a strict total order
+
+pub before-trans : (x y z : List ℕ) → before x y ≡ true → before y z ≡ true → before x z ≡ true
+unfolding before
+before-trans x [] z p q = never false p refl
+before-trans x (b ∷ y) [] p q = never false q refl
+before-trans [] (b ∷ y) (c ∷ z) p q = refl
+before-trans (a ∷ x) (b ∷ y) (c ∷ z) p q = go (before-trans x y z) (before-cases a b x y p) (before-cases b c y z q)
+  where
+    go : (before x y ≡ true → before y z ≡ true → before x z ≡ true) → (a < b) ⊎ ((a ≡ b) × (before x y ≡ true))
+        → (b < c) ⊎ ((b ≡ c) × (before y z ≡ true)) → before (a ∷ x) (c ∷ z) ≡ true
+    go rec (inl h) (inl k) = before-less a c x z (omega arith)
+    go rec (inl h) (inr k) = before-less a c x z (omega (arith, k .0))
+    go rec (inr h) (inl k) = before-less a c x z (omega (arith, h .0))
+    go rec (inr h) (inr k) = before-equal a c x z (omega (arith, h .0, k .0)) (rec (h .1) (k .1))
+
+pub before-self : (x : List ℕ) → before x x ≡ true → ⊥
+unfolding before
+before-self [] p = never false p refl
+before-self (a ∷ x) p = go (before-self x) (before-cases a a x x p)
+  where
+    go : (before x x ≡ true → ⊥) → (a < a) ⊎ ((a ≡ a) × (before x x ≡ true)) → ⊥
+    go rec (inl h) = absurd (omega arith)
+    go rec (inr h) = rec (h .1)
+
+pub before-differ : (x y : List ℕ) → before x y ≡ true → same y x ≡ false
+before-differ x y p = go (bool-cases (same y x))
+  where
+    go : (same y x ≡ true) ⊎ (same y x ≡ false) → same y x ≡ false
+    go (inl e) = absurd (before-self y (rw (← same-eq y x e) at p))
+    go (inr e) = e
+
+pub before-total : (x y : List ℕ) → before x y ≡ false → same y x ≡ false → before y x ≡ true
+unfolding before same
+before-total [] [] p q = never true refl q
+before-total [] (b ∷ y) p q = never true refl p
+before-total (a ∷ x) [] p q = refl
+before-total (a ∷ x) (b ∷ y) p q = go (before-total x y) (trichotomy a b)
+  where
+    equal : a ≡ b → (before x y ≡ false → same y x ≡ false → before y x ≡ true) → (before x y ≡ true) ⊎ (before x y ≡ false)
+        → (same y x ≡ true) ⊎ (same y x ≡ false) → before (b ∷ y) (a ∷ x) ≡ true
+    equal e rec (inl h) k = never (before (a ∷ x) (b ∷ y)) (before-equal a b x y e h) p
+    equal e rec (inr h) (inl k) = never (same (b ∷ y) (a ∷ x)) (and-both (eqb b a) (same y x) (eq-eqb b a (sym e)) k) q
+    equal e rec (inr h) (inr k) = before-equal b a y x (sym e) (rec h k)
+
+    go : (before x y ≡ false → same y x ≡ false → before y x ≡ true) → (a < b) ⊎ ((a ≡ b) ⊎ (b < a)) → before (b ∷ y) (a ∷ x) ≡ true
+    go rec (inl h) = never (before (a ∷ x) (b ∷ y)) (before-less a b x y h) p
+    go rec (inr (inl e)) = equal e rec (bool-cases (before x y)) (bool-cases (same y x))
+    go rec (inr (inr h)) = before-less b a y x h
