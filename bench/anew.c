@@ -5,7 +5,7 @@
  */
 #include "program.h"
 
-/* The radios by neighbours left: `by` holds them, those with k from starts[k] on. */
+/* The radios by neighbours left: `by` holds them, the ones with k from starts[k] on. */
 struct peel {
     uint16_t by[RADIOS], places[RADIOS], starts[RADIOS + 1];
     uint8_t left[RADIOS];
@@ -31,7 +31,7 @@ static void sort_by_degree(const struct lent *t, struct peel *p) {
     }
 }
 
-/* One neighbour less for v: it changes place with the first of those with as many, which then start behind it. */
+/* One neighbour less for v: it changes place with the first of the ones with as many, which then start behind it. */
 static inline void lower(struct peel *p, unsigned v) {
     unsigned k = p->left[v]--, at = p->places[v], start = p->starts[k]++, first = p->by[start];
     p->by[at] = first, p->places[first] = at;

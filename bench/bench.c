@@ -23,7 +23,7 @@ static const struct program *const programs[] = {PROGRAMS};
 /* ---- calls */
 
 static enum timed call;
-static const struct program *having[COUNT]; /* those that have the call */
+static const struct program *having[COUNT]; /* the programs that have the call */
 static void run_call(unsigned i) { having[i]->runs[call](&work); }
 
 static unsigned find_having(void) {

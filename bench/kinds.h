@@ -7,5 +7,5 @@ enum kind { SPARSE, DENSE, RING, CIRCULANT, PARTS, GEOMETRIC_8, GEOMETRIC_20, LE
 static const char *const kinds[KINDS] = {"sparse",      "dense",        "ring",   "circulant",   "parts",
                                          "geometric_8", "geometric_20", "levels", "sparse_turn", "geometric_turn"};
 
-#define ALONE SPARSE_TURN /* the kinds before it are those that a single site shows */
+#define ALONE SPARSE_TURN /* the kinds before it are shown by a single site */
 #endif

@@ -35,7 +35,7 @@ static void use_store(const struct program *p) {
     for (unsigned i = 0; i < MARKS; i++) name[1] = '0' + i, p->mark_set(&entries[i % work.count].site, name, MARK_NAME, store, sizeof store);
 }
 
-/* The images are those that the program writes. */
+/* The images are what the program writes. */
 static void use_sites(const struct program *p, uint32_t n, enum kind kind) {
     static struct site s;
     work.count = (kind < ALONE ? TOGETHER : IN_TURN) / n, next = room;

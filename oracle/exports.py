@@ -4,7 +4,7 @@
   python3 oracle/exports.py --check   say whether the stored files are what would be written
 
 The program counts how many of the tables that it spoils its digest shows; all must be. The file has words of 32 bits, lowest byte first: the count of calls, and nine words a call. Tables stand in lists as long as the
-program's; a call is answered from their lent parts and nothing else. Link calls are those of oracle/peeled.py, the rest is
+program's; a call is answered from their lent parts and nothing else. Link calls are oracle/peeled.py's, the rest is
 oracle/reference.py's.
 """
 

@@ -157,7 +157,7 @@ def read_line(n, lengths, image):
 
 
 def refusal(n, links, numbers, order):
-    """Questions 1 to 3. Sound tables are those with proper rows, core numbers and a k-order."""
+    """Questions 1 to 3. Sound tables have proper rows, core numbers and a k-order."""
     if not 1 <= n <= RADIOS:
         return 1
     if (len(links), len(numbers), len(order)) != (ROW * n, n, n):
@@ -184,7 +184,7 @@ def write_line(image, room):
 
 
 def blocks_lines(image):
-    """A reader's steps, two more than there are blocks; then those of the reader that holds the image."""
+    """A reader's steps, two more than there are blocks; then the steps of the reader that holds the image."""
     number, count = block_refusal(image), len(image) // BLOCK
     at = given = ends = h = 0
     for _ in range(count + 2):

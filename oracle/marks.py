@@ -4,7 +4,7 @@
   python3 oracle/marks.py --check   say whether the stored files are what would be written
 
 A store keeps the rules when what is read out of it, name by name and site by site, written again gives the same bytes; the program goes
-by the rules one by one. Link calls are those of oracle/peeled.py, images those of oracle/images.py. The file has words of 32 bits,
+by the rules one by one. Link calls are oracle/peeled.py's, images oracle/images.py's. The file has words of 32 bits,
 lowest byte first: the count of calls, and eight words a call. The program counts the changes of other hands that its digest shows; all
 must be.
 """

@@ -6,7 +6,7 @@ alone.
 
 A connected core is a part of the radios with number k or more. The tree is made by comparing
 sets: one node for each different connected core, at the largest k. Small sites are compared with
-`reference`, which looks at all sets of radios. Staircase trees are those of oracle/kruskal.py.
+`reference`, which looks at all sets of radios. Staircase trees are oracle/kruskal.py's.
 
 A file is words of 16 bits, lower byte first: n; the count of links and the links; the count of
 calls and the calls on the site; the same for calls after all numbers are set to 255. A call is

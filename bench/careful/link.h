@@ -21,7 +21,7 @@ struct plan {
     uint64_t changed[WORDS];
 };
 
-/* What is left of the level; places of those that fit, which are taken first; the count that fits. */
+/* What is left of the level; places of the radios that fit, which are taken first; the count that fits. */
 struct peeling {
     uint64_t left[WORDS], fits[WORDS];
     unsigned most;

@@ -7,7 +7,7 @@
 #include "check.h"
 #include "joins.h"
 
-/* Radios with the level's number, radios not below it, and those with a link of the level. */
+/* Radios with the level's number, radios not below it, and radios with a link of the level. */
 struct level {
     uint64_t own[WORDS], not_below[WORDS], rows[WORDS];
 };

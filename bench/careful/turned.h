@@ -50,7 +50,7 @@ static inline unsigned counted(uint64_t (*planes)[WORDS], unsigned v) {
     return k;
 }
 
-/* Adds the carry into plane `from` and those above; comes back with what no plane holds. */
+/* Adds the carry into plane `from` and the ones above; comes back with what no plane holds. */
 static inline uint64_t add_carry(uint64_t (*planes)[WORDS], unsigned from, uint64_t *carry) {
     uint64_t over = 0;
     for (unsigned p = from; p < PLANES; p++)
@@ -78,7 +78,7 @@ static inline uint64_t add_rows(const struct lent *t, uint64_t (*planes)[WORDS],
     return add_carry(planes, 1, carry);
 }
 
-/* The radios from place `from` up to `to` have the number k, those behind are counted: the later and the not lower neighbours. */
+/* The radios from place `from` up to `to` have the number k, the ones behind are counted: the later and the not lower neighbours. */
 static inline uint64_t count_level(const struct lent *t, struct found *f, uint64_t (*planes)[WORDS], unsigned from, unsigned to) {
     const unsigned k = t->numbers[t->order[from]];
     uint64_t bad = 0;

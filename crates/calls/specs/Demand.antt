@@ -109,7 +109,7 @@ pub record Call-kept (n : ℕ) (ps : List Link) (o : Outcome) (t : Tables) (hs :
   -- it leaves what single link calls leave, one after the other, and each link keeps what a link call keeps
   pub tables : o .begins ≡ none → v ≡ tables-after n (o .switches) t
   pub switching : o .begins ≡ none → Switching n ps (o .switches) t v
-  -- where it begins anew, the tables are those that an accepted clearing or reading leaves; coming back to a mark leaves what reading
+  -- where it begins anew, the tables are what an accepted clearing or reading leaves; coming back to a mark leaves what reading
   -- its image does
   pub started : (b : Beginning) → o .begins ≡ some b → By-history n (record { began = b; calls = o .switches }) v
 

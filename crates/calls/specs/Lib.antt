@@ -2,7 +2,7 @@
 -- has after an accepted call (property 2); `Older` is what calls give of older tables and images; `FormerDemand` is the statement of a
 -- corollary; `Replay` is what the replay program prints;
 -- `Marks`, `MarkOutcomes` and `MarkResults` are the named marks of W-211;
--- `Worked` and `Cases` are the worked cases of document 01, `SheetCases` those of the site sheet.
+-- `Worked` and `Cases` are the worked cases of document 01, `SheetCases` the site sheet's.
 pub mod Sheet
 pub mod Script
 pub mod Questions

@@ -126,7 +126,7 @@ pub record Script-right (n : ℕ) (t : Tables) (size : ℕ) (w x : List ℕ) : T
   pub text : take size x ≡ script-of (graph-in n (t .links))
   pub later-bytes : drop size x ≡ drop size w
 
--- of the same tables: `length` is the length beforehand, `room` the text buffer's; number and value are those of writing
+-- of the same tables: `length` is the length beforehand, `room` the text buffer's; number and value are writing's
 pub record Script-beforehand (length room number value : ℕ) : Type 0 where
   pub written : length ≤ room → (number ≡ 0) × (value ≡ length)
   pub refused : room < length → (number ≡ 13) × (value ≡ 0)

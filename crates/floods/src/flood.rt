@@ -1,5 +1,5 @@
 // The flood: from a radio, over radios of a set. Whom it reaches leaves the set. No recursion: a queue of the radios that came in is
-// walked from its front while others come in behind, and each takes those out of the set that its row marks, a word at a time.
+// walked from its front while others come in behind, and each takes out of the set the radios that its row marks, a word at a time.
 ghost use mathlib.Core.Path.{_≡_};
 ghost use Prim.Native.Nat.{_+_, _≤_};
 ghost use lib.ListN.{length};

@@ -8,7 +8,7 @@ ghost use Rattle.mesh.specs.Limits.{max-radios};
 ghost use Rattle.floods.specs.Floods.{Level-word, Level-set};
 use mesh::Site;
 
-// Of the radios from `first` on, 64 or as many as there are, those whose number is at least the level, a bit for each.
+// Of the radios from `first` on, 64 or as many as there are, the ones whose number is at least the level, a bit for each.
 fn level_word(numbers: &[u8], level: u8, first: usize) -> u64
     requires { ⌜ first ≤ max-radios ⌝ }
     ensures { λ r. ⌜ Level-word (now (numbers .entry)) level first r ⌝ }

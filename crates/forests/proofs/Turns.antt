@@ -1,5 +1,5 @@
 -- The kept links stand in the order in which links are taken.
---   falling-turn     the links by weight falling are in turn, where those of the graph ascend
+--   falling-turn     the links by weight falling are in turn, where the graph's links ascend
 --   keep-turn        and so are the kept ones
 --   staircase-turn   so is the staircase tree
 use mathlib.Core.Path.{_≡_, refl, sym, _∙_}

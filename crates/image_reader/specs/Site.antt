@@ -4,7 +4,7 @@
 --   Link-at                      a-b is link j of the image of n radios
 --   passed m q                   how many of m links stand in the first q blocks of links
 --   listed-from n p ls           the links ls are proper and stand ascending after p
---   Listed                       whether m links are listed well is what those after the first j decide, the last of which is a-b
+--   Listed                       whether m links are listed well is what the links after the first j decide, the last of which is a-b
 --   tallied rs s ls v            how many links of v in ls have another end w with the rank of v below that of w and the slack s
 --   Tallied                      these counts for each radio below n
 --   few-ends most n ls           no radio below n has more than `most` links in ls

@@ -6,7 +6,7 @@
 --   Stepped          the number of questions 4 to 7, and the tables after them, prepared again
 --   around ts v      the radio v and its neighbours
 --   touched          the set of both ends, of the changed radios and of their neighbours: the radios whose not-lower count may differ
---   recounted        the not-lower counts with those of some radios counted anew
+--   recounted        the not-lower counts, some radios counted anew
 --   Rows-known       rows that can be counted
 -- Laws are in proofs/CountLaws.antt and proofs/StepLaws.antt. Definitions only.
 use mathlib.Core.Path.{_≡_}

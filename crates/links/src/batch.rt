@@ -14,7 +14,7 @@ use mesh::Site;
 use tables::sizes;
 
 // Takes the links of the list, two entries each, up one by one: the number of the first that is refused by 4 to 7, or 0, and the count of
-// links done, which remain. Places and not-lower counts are those of the tables, before and after.
+// links done, which remain. Places and not-lower counts are the tables', before and after.
 fn take_links(
     n: u32,
     list: &[u16],

@@ -47,7 +47,7 @@ fn change(
     apply::apply(up, a, b, plan, &stretch, links, numbers, order, changed).count
 }
 
-// The same, and places and not-lower counts are those of the tables after.
+// The same, and places and not-lower counts are the later tables'.
 fn carry_out(
     up: bool,
     a: u32,

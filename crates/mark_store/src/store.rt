@@ -22,7 +22,7 @@ pub const PLACES: usize = 8;
 
 pub const STORE: usize = 352320;
 
-// How many places are used: those before the first that is all zero.
+// How many places are used: the ones before the first that is all zero.
 fn count_used(store: &[u8]) -> usize
     requires { ⌜ length (now store) ≡ store-bytes ⌝ }
     ensures { λ r. ⌜ (r ≡ length (marks-in (now (store .entry)))) × (r ≤ places) ⌝ }

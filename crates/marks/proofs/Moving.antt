@@ -1,6 +1,6 @@
 -- Bytes being moved by one place: laws of one step of both loops.
---   up-none, up-turn       from the last byte on: those from i on are moved
---   down-none, down-turn   from the first byte on: those before i are moved
+--   up-none, up-turn       from the last byte on: the bytes from i on are moved
+--   down-none, down-turn   from the first byte on: the bytes before i are moved
 use mathlib.Core.Path.{_≡_, refl, sym, ap, ap₂, subst, _∙_}
 use mathlib.Core.List.{List, [], _∷_, _++_, append-assoc}
 use Prim.Native.Nat.{ℕ, zero, suc, _+_, _-_, _≤_, _<_}

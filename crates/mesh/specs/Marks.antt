@@ -10,7 +10,7 @@
 --   is-mark n p        the place p is a name, an image of sound tables with n radios, and zeros to its end
 --   place-of x bs      the place of the name x and the image bs
 --   places-of k bs     the first k places of the store bs
---   marks-in bs        the used places of the store bs: those before the first that is all zero
+--   marks-in bs        the used places of the store bs: the ones before the first that is all zero
 --   are-marks n x ps   the places ps are marks in rising order of name, the first after the name x
 --   is-store n bs      the used places are marks in rising order of name, no name twice; all after them is zero
 --   store-of ps        the store whose used places are ps

@@ -1,6 +1,6 @@
 -- The staircase tree (document 02, W-209, following document 004): the fewest links that show how strongly radios hang together.
 --   weight g l           the smaller of its ends' numbers
---   falling wt top ls    the links of ls by weight falling from top, those of one weight in the order of ls
+--   falling wt top ls    the links of ls by weight falling from top, links of one weight in the order of ls
 --   Joined n ks a b      the links ks lead from a to b;  `joined` is the test
 --   keep n ks ls         the links of ls taken in turn: one is kept when its ends are not yet joined by kept ones
 --   staircase g          the kept links, in the order in which they are taken

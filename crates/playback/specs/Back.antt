@@ -1,4 +1,4 @@
--- Document 02, W-203: played back, no line is refused, and links and numbers are those of the tables; the order may differ.
+-- Document 02, W-203: played back, no line is refused, and links and numbers are the tables'; the order may differ.
 --   None-refused hs        every answer has number 0
 --   Rebuilds n t hs v      what answers and tables left are, where a script of the tables t was played
 --   Plays-back n t input   the input is played to its end, and that rebuilds t

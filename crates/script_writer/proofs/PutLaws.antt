@@ -50,7 +50,7 @@ pub ends-last : {a : ℕ} {bs : List ℕ} {b c : Buffer} {i : ℕ} → length bs
 unfolding flatMap
 ends-last {a} {bs} {b} {c} {i} h s = putting-end (s .is) (rw (drop-of-length-le bs h))
 
--- ---- the rows: those below a are put
+-- ---- the rows: the ones below a are put
 
 pub record Rows (n : ℕ) (ts : List ℕ) (b c : Buffer) (a : ℕ) : Type 0 where
   pub low : a ≤ n

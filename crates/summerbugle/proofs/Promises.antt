@@ -426,7 +426,7 @@ pub record Property-2 : Type 0 where
       (n : ℕ) (t : Tables) (s : Value) (w : List ℕ) (r : Value) (x : List ℕ) → Script-length-contract n t s → s .number ≡ 0 →
       Script-contract n t w r x → Script-beforehand (s .value) (length w) (r .number) (r .value)
   -- the kept links are listed: a spanning forest, no other weighs more; the way over them between two joined radios has the greatest
-  -- least weight; those of weight k or more join what shares a connected core at level k
+  -- least weight; kept links of weight k or more join what shares a connected core at level k
   pub staircase :
       (n : ℕ) (t : Tables) (w : List ℕ) (r : Value) (x : List ℕ) → Staircase-contract n t w r x → r .number ≡ 0 →
       Staircase-listed (graph-in n (t .links)) (r .value) w x

@@ -33,7 +33,7 @@ fn write(n: u32, links: &[u8], numbers: &[u8], order: &[u16], buffer: &mut [u8],
 
 // Plays the text from a file of its own.
 fn through_player(text: &[u8]) {
-    let mut name = *b"/tmp/summerbugle-XXXXXX";
+    let mut name = *b"script-XXXXXX";
     let fd = os::create_temp(&mut name);
     if fd < 0 {
         os::fail(&name);

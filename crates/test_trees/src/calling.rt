@@ -8,7 +8,7 @@ use mesh::Site;
 // Two places more than the largest tree needs.
 const PLACES: usize = 515;
 
-// The longest table that is lent for entries: two for each of those places.
+// The longest table that is lent for entries: two for each of these places.
 const ANSWER: usize = 2 * PLACES;
 
 // The bytes of a site's largest links table.

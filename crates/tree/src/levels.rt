@@ -67,7 +67,7 @@ fn has_level(numbers: &[u8], level: u8) -> bool
     found
 }
 
-// One level: each radio in turn, with a set that starts as the radios of the level, those of higher numbers too. The three tables and
+// One level: each radio in turn, with a set that starts as the radios of the level and of higher ones. The three tables and
 // the answer table hold the nodes and the names with this level after, where they held these without it. Comes back with the count
 // after. The set and the queue hold anything.
 fn take_level<'a>(

@@ -18,13 +18,13 @@ use Rattle.lists.specs.Lists.{count, filter, member, In, Rising}
 use Rattle.mesh.specs.Graph.{Graph, linked, relinked}
 use Rattle.mesh.specs.Cores.{number}
 use Rattle.mesh.specs.Levels.{changed, lower-level, new-order}
-use Rattle.lists.proofs.Member.{in-left, in-right, in-cases}
+use Rattle.lists.proofs.Member.{in-left, in-cases}
 use Rattle.lists.proofs.Filter.{in-filter, filter-append, filter-none}
 use Rattle.lists.proofs.Distinct.{distinct-right}
 use Rattle.lists.proofs.Range.{once-in, once-distinct}
 use Rattle.mesh.proofs.GraphLaws.{Ends}
 use Rattle.mesh.proofs.Cores.Orders.{Few-later, few-later-right}
-use Rattle.lists.proofs.Ascending.{rising-left, rising-right}
+use Rattle.lists.proofs.Ascending.{rising-left, rising-right, rising-before}
 use Rattle.mesh.proofs.Cores.Certificate.{Certificate}
 use Rattle.mesh.proofs.Cores.KOrders.{k-order-certificate}
 use Rattle.mesh.specs.Peel.{Takes, Peels}
@@ -35,12 +35,6 @@ use Rattle.mesh.proofs.Links.Call as link-call
 use Rattle.mesh.specs.Valid.{Valid, Allowed, smaller, larger}
 use Rattle.walks.specs.Walk.{Few-front}
 use Rattle.walks.proofs.Front.{few-front-of, takes-front, peels-from}
-
--- what stands before an entry is not above it
-rising-before : (num : ℕ → ℕ) (e : ℕ) (ps qs : List ℕ) → Rising num (ps ++ e ∷ qs) → (w : ℕ) → In w ps → num w ≤ num e
-rising-before num e [] qs r w m = absurd m
-rising-before num e (p ∷ ps) qs r w (inl q) = rw (← q) (r .0 e (in-right e ps (e ∷ qs) (inl refl)))
-rising-before num e (p ∷ ps) qs r w (inr q) = rising-before num e ps qs (r .1) w q
 
 module _ (most : ℕ) (a b : ℕ) (g : Graph) (xs : List ℕ) (valid : Valid most g xs) (ok : Allowed most true a b g) where
   abbrev K : ℕ

@@ -1,7 +1,7 @@
 -- Where a name stands or is to stand among places in rising order: laws of `rank`.
 --   ranked             the name is there exactly if the place at its rank has it
 --   found-at           then that place is the mark
---   with-at, with-new  a mark set is put at its rank, in place of the one of its name or before those that follow
+--   with-at, with-new  a mark set is put at its rank, in place of the one of its name or before the ones that follow
 --   without-at         a mark removed leaves the places before and after it
 use mathlib.Core.Path.{_≡_, refl, sym, ap, _∙_}
 use mathlib.Core.Logic.{_⊎_, inl, inr}

@@ -1,4 +1,4 @@
--- `rows::list_words` meets its contract: the radios listed so far and the ones from word k on are those from the first word on, as
+-- `rows::list_words` meets its contract: the radios listed so far and the ones from word k on are all from the first word on, as
 -- far as the list reaches (`Words-listing`). The measure is the words that are left.
 use Prim.Native.Nat.{_-_}
 use native.Mathlib.Omega.{arith}

@@ -1,4 +1,4 @@
--- `level::at_least` meets its contract: the words before word k are those of the level (`Level-setting`). The measure is the words that
+-- `level::at_least` meets its contract: the words before word k are the level's (`Level-setting`). The measure is the words that
 -- are left.
 use mathlib.Core.Path.{sym, _∙_}
 use Prim.Native.Nat.{_-_}
