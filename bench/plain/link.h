@@ -1,13 +1,7 @@
-/* Link up and link down in C, single, in two steps and in a batch: one peel of the lower end's level. */
+/* Link up and link down in C, single, in two steps and in a batch: one walk through the lower end's level, or one peel of it. */
 #ifndef LINK_H
 #define LINK_H
-#include "check.h"
-
-static unsigned first_bit(const uint64_t *set) {
-    for (unsigned i = 0; i < 8; i++)
-        if (set[i]) return 64 * i + __builtin_ctzll(set[i]);
-    return RADIOS;
-}
+#include "walk.h"
 
 /* Questions 4 to 7. */
 static unsigned c_ends(int up, uint32_t n, uint32_t a, uint32_t b, const uint8_t *links) {
@@ -16,12 +10,6 @@ static unsigned c_ends(int up, uint32_t n, uint32_t a, uint32_t b, const uint8_t
     if (marked(links, a, b) == up) return 6;
     return up && (row_count(links, a) >= NEIGHBOURS || row_count(links, b) >= NEIGHBOURS) ? 7 : 0;
 }
-
-/* What a link call makes of the lower end's stretch; nothing of the tables is written. */
-struct c_plan {
-    unsigned start, size, taken;
-    uint16_t stretch[RADIOS];
-};
 
 /* From places and not-lower counts of every radio; the counts are used up. */
 static void c_peel(int up, const struct lent *t, uint32_t a, uint32_t b, const uint16_t *places, uint8_t *counters, struct c_plan *plan) {
@@ -54,13 +42,18 @@ static void c_peel(int up, const struct lent *t, uint32_t a, uint32_t b, const u
     plan->start = start, plan->size = size, plan->taken = taken;
 }
 
+/* From the same; the counts are used up. */
+static void c_plan_link(int up, const struct lent *t, uint32_t a, uint32_t b, const uint16_t *places, uint8_t *counters, struct c_plan *plan) {
+    if (!up || !c_rise(t, a, b, places, plan)) c_peel(up, t, a, b, places, counters, plan);
+}
+
 static unsigned c_plan(int up, const struct lent *t, uint32_t a, uint32_t b, int room, struct c_plan *plan) {
     uint16_t places[RADIOS];
     uint8_t counters[RADIOS];
     unsigned number = c_sizes(t, room);
     if (!number && !c_examine(t, places, counters)) number = 3;
     if (!number) number = c_ends(up, t->n, a, b, t->links);
-    if (!number) c_peel(up, t, a, b, places, counters, plan);
+    if (!number) c_plan_link(up, t, a, b, places, counters, plan);
     return number;
 }
 
@@ -135,7 +128,7 @@ static struct c_value c_link_batch(const struct lent *t, const uint16_t *list, s
         number = c_ends(1, t->n, a, b, t->links);
         if (number) break;
         memcpy(counters, highs, t->n);
-        c_peel(1, t, a, b, places, counters, &plan);
+        c_plan_link(1, t, a, b, places, counters, &plan);
         c_apply(1, t, a, b, &plan);
         struct c_reply r = c_report(1, &plan, changed, RADIOS);
         c_place(t->n, t->order, places);

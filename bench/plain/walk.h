@@ -1,0 +1,118 @@
+/* The walk of a link going up in C: from the beginning end forward through its level. */
+#ifndef WALK_H
+#define WALK_H
+#include "check.h"
+
+/* What a link call makes of the lower end's stretch, or of the walked part of it; nothing of the tables is written. */
+struct c_plan {
+    unsigned start, size, taken;
+    uint16_t stretch[RADIOS];
+};
+
+static unsigned first_bit(const uint64_t *set) {
+    for (unsigned i = 0; i < 8; i++)
+        if (set[i]) return 64 * i + __builtin_ctzll(set[i]);
+    return RADIOS;
+}
+
+/* A walk: the level, the radios held as candidates and their counters, and the places that are due. */
+struct c_walk {
+    const struct lent *t;
+    const uint16_t *places;
+    uint32_t a, b;
+    unsigned level;
+    uint8_t held[RADIOS], counters[RADIOS];
+    uint64_t due[8];
+};
+
+/* The neighbours of v with the link. */
+static unsigned c_near(const struct c_walk *w, unsigned v, uint16_t *near) {
+    unsigned m = row_list(w->t->links, v, near, NEIGHBOURS + 1);
+    if (v == w->a) near[m++] = w->b;
+    if (v == w->b) near[m++] = w->a;
+    return m;
+}
+
+/* How many of the listed radios are above, stand later than place p in the level, or are candidates. */
+static unsigned c_left(const struct c_walk *w, const uint16_t *near, unsigned m, unsigned p) {
+    const uint8_t *numbers = w->t->numbers;
+    unsigned left = 0;
+    for (unsigned i = 0; i < m; i++) {
+        unsigned x = near[i];
+        left += numbers[x] != w->level ? w->level < numbers[x] : p < w->places[x] || w->held[x];
+    }
+    return left;
+}
+
+/* The candidates among the neighbours of a taken radio lose one; who falls short is due. */
+static void c_release(struct c_walk *w, const uint16_t *near, unsigned m) {
+    for (unsigned i = 0; i < m; i++) {
+        unsigned x = near[i];
+        if (w->held[x] && --w->counters[x] == w->level) w->due[w->places[x] / 64] |= 1ull << w->places[x] % 64;
+    }
+}
+
+/* Looks at v at place p: 1 where it is held, 0 where it is taken. */
+static int c_look(struct c_walk *w, unsigned v, unsigned p) {
+    uint16_t near[NEIGHBOURS + 1];
+    w->due[p / 64] &= ~(1ull << p % 64);
+    unsigned m = c_near(w, v, near), left = c_left(w, near, m, p);
+    if (left <= w->level) {
+        c_release(w, near, m);
+        return 0;
+    }
+    w->held[v] = 1, w->counters[v] = left;
+    for (unsigned i = 0; i < m; i++) {
+        unsigned x = near[i];
+        if (w->t->numbers[x] == w->level && p < w->places[x]) w->due[w->places[x] / 64] |= 1ull << w->places[x] % 64;
+    }
+    return 1;
+}
+
+/* The walk through `size` radios of the order from place `first` on. */
+static void c_go(struct c_walk *w, unsigned first, unsigned size, struct c_plan *plan) {
+    const uint16_t *tail = w->t->order + first;
+    uint16_t near[NEIGHBOURS + 1], *list = plan->stretch;
+    unsigned front = 1, taken = 0;
+    if (!c_look(w, tail[0], first)) list[taken++] = tail[0];
+    while (taken < front) {
+        unsigned p = first_bit(w->due);
+        if (p < first + front) {
+            unsigned v = tail[p - first];
+            w->held[v] = 0, list[taken++] = v;
+            w->due[p / 64] &= ~(1ull << p % 64);
+            c_release(w, near, c_near(w, v, near));
+        } else if (size <= front) {
+            break;
+        } else if (p == first + front) {
+            if (!c_look(w, tail[front], p)) list[taken++] = tail[front];
+            front++;
+        } else {
+            unsigned until = p - first < size ? p - first : size;
+            memcpy(list + taken, tail + front, 2 * (until - front));
+            taken += until - front, front = until;
+        }
+    }
+    plan->start = first, plan->size = front, plan->taken = taken;
+    for (unsigned i = 0, j = taken; i < front; i++)
+        if (w->held[tail[i]]) list[j++] = tail[i];
+}
+
+/* The plan of a link going up, but where the beginning end leads its level: then 0, and the level is to be peeled. */
+static int c_rise(const struct lent *t, uint32_t a, uint32_t b, const uint16_t *places, struct c_plan *plan) {
+    const uint8_t *numbers = t->numbers;
+    struct c_walk w = {.t = t, .places = places, .a = a, .b = b};
+    uint16_t near[NEIGHBOURS + 1];
+    unsigned e = numbers[a] < numbers[b] || (numbers[a] == numbers[b] && places[a] < places[b]) ? a : b;
+    unsigned first = places[e], end = 0;
+    w.level = numbers[e];
+    if (c_left(&w, near, c_near(&w, e, near), first) <= w.level) {
+        plan->start = first, plan->size = plan->taken = 0;
+        return 1;
+    }
+    if (first == 0 || numbers[t->order[first - 1]] < w.level) return 0;
+    for (unsigned v = 0; v < t->n; v++) end += numbers[v] <= w.level;
+    c_go(&w, first, end - first, plan);
+    return 1;
+}
+#endif
