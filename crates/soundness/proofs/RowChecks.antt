@@ -110,12 +110,13 @@ module _ (n : ℕ) (links numbers places : List ℕ) (a : ℕ) (room : Rows-room
     ends : Ends-counted n links numbers places a good later high first
     ends = rw (room .numbered) at counted
 
-    row-is : row-good max-neighbours n links numbers places a
-        ≡ (good && (leb (later-count places a xs) (number-in numbers a) && leb (number-in numbers a) (high-count numbers a xs)))
+    abbrev counts : Bool
+    counts = leb (later-count places a xs) (number-in numbers a) && leb (number-in numbers a) (high-count numbers a xs)
+
+    row-is : row-good max-neighbours n links numbers places a ≡ (good && counts)
     unfolding row-good
     row-is =
-        go (leb (length xs) max-neighbours) (ends-good n links a xs) (leb (later-count places a xs) (number-in numbers a) && leb (number-in numbers a) (high-count numbers a xs))
-        ∙ ap (λ (g : Bool). g && (leb (later-count places a xs) (number-in numbers a) && leb (number-in numbers a) (high-count numbers a xs))) (sym (ends .answer))
+        go (leb (length xs) max-neighbours) (ends-good n links a xs) counts ∙ ap (λ (g : Bool). g && counts) (sym (ends .answer))
       where
         go : (p q r : Bool) → (p && (q && r)) ≡ ((p && q) && r)
         go true q r = refl

@@ -136,7 +136,11 @@ pub record Walking (links numbers places : List ℕ) (a first word : ℕ) (s : T
 
 module _ (links numbers places : List ℕ) (a first word : ℕ) (s : Tally) where
   pub walking-none : word < 2 ^ 64 → Walk-room first s → Walking links numbers places a first word s word s
-  walking-none h r = record { small = h; same = refl; so-far = tallied-none numbers places a s (set-bits 64 first word) (r .few-later) (r .few-high) (r .few-key) }
+  walking-none h r = record {
+    small = h;
+    same = refl;
+    so-far = tallied-none numbers places a s (set-bits 64 first word) (r .few-later) (r .few-high) (r .few-key);
+  }
 
   module _ (rest : ℕ) (t : Tally) (some : rest ≡ 0 → ⊥) (h : Walking links numbers places a first word s rest t) where
     abbrev b : ℕ
@@ -191,7 +195,9 @@ module _ (links numbers places : List ℕ) (a : ℕ) where
     low = omega arith;
     few = omega arith;
     same = ap (ends-mark links a) (row-from-zero links a);
-    so-far = rw (row-from-zero links a) (tallied-none numbers places a (tally 0 0 0 4294967295) (neighbours-of links a) (omega arith) (omega arith) (omega arith));
+    so-far =
+        rw (row-from-zero links a)
+        (tallied-none numbers places a (tally 0 0 0 4294967295) (neighbours-of links a) (omega arith) (omega arith) (omega arith));
   }
 
   module _ (bytes : (j : ℕ) → getD links j 0 < 256) (k : ℕ) (t : Tally) (h : k < 8) (i : Row-walking links numbers places a k t) (w : ℕ)

@@ -174,7 +174,7 @@ pub(crate) struct Ends {
 
 // Whether row a marks at most 40 radios, and these are of the site, are not a, and mark a too; how many of them stand later in the
 // order than a, and the first of these, 65,535 when there are none; and how many have a number that is not below that of a.
-// It is small, so that each caller has its own: the check then does not pay for the first.
+// It is small enough that the compiler gives each caller its own: the check then does not pay for the first.
 pub(crate) fn count_ends(links: &[u8], numbers: &[u8], places: &[u16], a: u32) -> Ends
     requires { ⌜ Ends-room a (length (now links)) (length (now numbers)) (length (now places)) ⌝ }
     ensures { λ r. ⌜ Ends-counted (length (now (numbers .entry))) (now (links .entry)) (now (numbers .entry)) (now (places .entry)) a

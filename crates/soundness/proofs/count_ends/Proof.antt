@@ -1,8 +1,9 @@
 -- `soundness::count_ends` meets its contract: the words of the row are walked one by one, and the ends that are left and what is counted
 -- come to what the whole row comes to (`Row-walking`). The measure is the words that are left.
 use mathlib.Core.Path.{sym, _∙_}
-use Prim.Native.Nat.{_+_, _*_, _-_}
+use Prim.Native.Nat.{ℕ, _+_, _*_, _-_, _<_}
 use native.Mathlib.Omega.{arith}
+use lib.ListN.{getD}
 use borrow.Author.Needs.{needs}
 use borrow.Author.Tests.{not-true, not-false}
 use Rattle.mesh.specs.Limits.{row-bytes}
@@ -38,7 +39,8 @@ walk-word-requires c κs =
     let at-loop = c .before .before in
     let start = at-loop .before .before .before .before .before .before .before in
     let so-far = at-loop .loop .inv .so-far in
-    (start .pre, record { start = omega arith; few = at-loop .loop .inv .few; few-later = so-far .few-later; few-high = so-far .few-high; few-key = so-far .few-key })
+    let few = at-loop .loop .inv .few in
+    (start .pre, record { start = omega arith; few = few; few-later = so-far .few-later; few-high = so-far .few-high; few-key = so-far .few-key })
 
 returns-2 : tie.Need-returns-2 Inv-loop μ-loop
 returns-2 c =
@@ -48,11 +50,12 @@ returns-2 c =
     let asked = at-loop .before .before in
     let start = asked .before .before .before .before .before in
     let a = start .args .a in
+    let bytes : (j : ℕ) → getD (start .args .links .now) j 0 < 256 = λ j. asked .before .before .before .before .shared-slice-known .given j .fits in
     let word = read .word-of .ensures
     ∙ word-of-row (start .args .links .now) a (at-loop .loop .k) (row-bytes * a + row-bytes - row-bytes * a) (omega arith)
     (omega (arith, start .pre .linked, start .pre .radio)) (omega arith) in
     ends-alone _ _ _ _ _ (start .pre .linked) (sym (asked .before .is-marked .ensures) ∙ asked .if1 .left)
-    (row-walking-alone _ _ _ _ (λ j. asked .before .before .before .before .shared-slice-known .given j .fits) (at-loop .loop .k) _ (omega arith) (at-loop .loop .inv)
+    (row-walking-alone _ _ _ _ bytes (at-loop .loop .k) _ (omega arith) (at-loop .loop .inv)
     (read .word-of .result) word _ _ (walked .walk-word .ensures) (not-true _ (c .if2 .taken)))
 
 returns-3 : tie.Need-returns-3 Inv-loop μ-loop
@@ -63,11 +66,12 @@ returns-3 c =
     let asked = at-loop .before .before in
     let start = asked .before .before .before .before .before in
     let a = start .args .a in
+    let bytes : (j : ℕ) → getD (start .args .links .now) j 0 < 256 = λ j. asked .before .before .before .before .shared-slice-known .given j .fits in
     let word = read .word-of .ensures
     ∙ word-of-row (start .args .links .now) a (at-loop .loop .k) (row-bytes * a + row-bytes - row-bytes * a) (omega arith)
     (omega (arith, start .pre .linked, start .pre .radio)) (omega arith) in
     ends-many _ _ _ _ _
-    (row-walking-many _ _ _ _ (λ j. asked .before .before .before .before .shared-slice-known .given j .fits) (at-loop .loop .k) _ (omega arith) (at-loop .loop .inv)
+    (row-walking-many _ _ _ _ bytes (at-loop .loop .k) _ (omega arith) (at-loop .loop .inv)
     (read .word-of .result) word _ _ (walked .walk-word .ensures) (not-false _ (c .before .before .if2 .left)) (c .if3 .taken))
 
 loop-again : tie.Need-loop-again Inv-loop μ-loop
@@ -78,10 +82,11 @@ loop-again c =
     let asked = at-loop .before .before in
     let start = asked .before .before .before .before .before in
     let a = start .args .a in
+    let bytes : (j : ℕ) → getD (start .args .links .now) j 0 < 256 = λ j. asked .before .before .before .before .shared-slice-known .given j .fits in
     let word = read .word-of .ensures
     ∙ word-of-row (start .args .links .now) a (at-loop .loop .k) (row-bytes * a + row-bytes - row-bytes * a) (omega arith)
     (omega (arith, start .pre .linked, start .pre .radio)) (omega arith) in
-    row-walking-turn _ _ _ _ (λ j. asked .before .before .before .before .shared-slice-known .given j .fits) (at-loop .loop .k) _ (omega arith) (at-loop .loop .inv)
+    row-walking-turn _ _ _ _ bytes (at-loop .loop .k) _ (omega arith) (at-loop .loop .inv)
     (read .word-of .result) word _ _ (walked .walk-word .ensures) (not-false _ (c .before .before .if2 .left)) (c .if3 .left)
 
 returns-4 : tie.Need-returns-4 Inv-loop μ-loop
@@ -95,6 +100,6 @@ returns-4 c =
 pub count-ends-spec : {M : Type 1} → statement M
 count-ends-spec =
     tie.close (
-    tie.spec Inv-loop μ-loop (λ c κs. search needs) returns (λ c. search needs) (λ c. search needs) (λ c. search needs) (λ c. search needs) part-row-end loop-holds
-    (λ c. search needs) (λ c κs. search needs) walk-word-requires returns-2 (λ c. search needs) returns-3 (λ c. search needs) (λ c. search needs) loop-again
-    (λ c. search needs) returns-4)
+    tie.spec Inv-loop μ-loop (λ c κs. search needs) returns (λ c. search needs) (λ c. search needs) (λ c. search needs) (λ c. search needs) part-row-end
+    loop-holds (λ c. search needs) (λ c κs. search needs) walk-word-requires returns-2 (λ c. search needs) returns-3 (λ c. search needs)
+    (λ c. search needs) loop-again (λ c. search needs) returns-4)

@@ -26,27 +26,33 @@ place-requires c κs =
 returns-2 : tie.Need-returns-2
 unfolding lengths-of
 returns-2 c =
-    let asked = c .before .before .before .before .before .before in
+    let placing = c .before .before .before in
+    let asked = placing .before .before .before in
     let call = asked .before .before .before .before .before .before .args in
     let t = tables (call .links .now) (call .numbers .now) (call .order .now) in
-    examined-unplaced _ t (call .places .now) (call .highs .now) _ (asked .is-examinable .ensures) (not-false _ (c .before .before .before .before .before .if1 .left)) _ _ (c .before .before .before .place .ensures) (not-true _ (c .if2 .taken))
+    examined-unplaced _ t (call .places .now) (call .highs .now) _ (asked .is-examinable .ensures) (not-false _ (placing .before .before .if1 .left))
+    _ _ (placing .place .ensures) (not-true _ (c .if2 .taken))
 
 rises-requires : tie.Need-rises-requires
 unfolding lengths-of
 rises-requires c κs =
-    let asked = c .before .before .before .before .before .before in
+    let placing = c .before .before .before in
+    let asked = placing .before .before .before in
     let call = asked .before .before .before .before .before .before .args in
     let t = tables (call .links .now) (call .numbers .now) (call .order .now) in
-    entries-below _ t (call .places .now) (call .highs .now) _ (asked .is-examinable .ensures) (not-false _ (c .before .before .before .before .before .if1 .left)) _ _ (c .before .before .before .place .ensures) (not-false _ (c .if2 .left))
+    entries-below _ t (call .places .now) (call .highs .now) _ (asked .is-examinable .ensures) (not-false _ (placing .before .before .if1 .left))
+    _ _ (placing .place .ensures) (not-false _ (c .if2 .left))
 
 returns-3 : tie.Need-returns-3
 unfolding lengths-of
 returns-3 c =
-    let asked = c .before .before .before .before .before .before .before .before in
+    let placed = c .before .before in
+    let placing = placed .before .before .before in
+    let asked = placing .before .before .before in
     let call = asked .before .before .before .before .before .before .args in
     let t = tables (call .links .now) (call .numbers .now) (call .order .now) in
-    examined-falls _ t (call .places .now) (call .highs .now) _ (asked .is-examinable .ensures) (not-false _ (c .before .before .before .before .before .before .before .if1 .left))
-    _ _ (c .before .before .before .before .before .place .ensures) (not-false _ (c .before .before .if2 .left)) _ (c .before .rises .ensures) (not-true _ (c .if3 .taken))
+    examined-falls _ t (call .places .now) (call .highs .now) _ (asked .is-examinable .ensures) (not-false _ (placing .before .before .if1 .left))
+    _ _ (placing .place .ensures) (not-false _ (placed .if2 .left)) _ (c .before .rises .ensures) (not-true _ (c .if3 .taken))
 
 rows-checked-requires : tie.Need-rows-checked-requires
 unfolding lengths-of

@@ -35,7 +35,8 @@ add-b c =
 returns : tie.Need-returns Inv-loop μ-loop
 returns c =
     let turn = c .before .before in
-    walking-alone _ _ _ _ _ _ _ (turn .before .loop .rest) _ (turn .loop-test .taken) (turn .before .loop .inv) _ (sym (c .before .is-marked .ensures) ∙ not-true _ (c .if1 .taken))
+    walking-alone _ _ _ _ _ _ _ (turn .before .loop .rest) _ (turn .loop-test .taken) (turn .before .loop .inv) _
+    (sym (c .before .is-marked .ensures) ∙ not-true _ (c .if1 .taken))
 
 cast-p : tie.Need-cast-p Inv-loop μ-loop
 cast-p c =
@@ -89,7 +90,8 @@ shared-slice-read-high : tie.Need-shared-slice-read-high Inv-loop μ-loop
 shared-slice-read-high c =
     let marked = c .before .before .before .before in
     let start = marked .before .before .before .before .before .before .before .before in
-    let radio = marked-radio _ (start .args .links .now) (start .pre .0 .linked) _ _ (sym (marked .is-marked .ensures) ∙ not-false _ (c .before .before .before .if1 .left)) in
+    let marks = sym (marked .is-marked .ensures) ∙ not-false _ (c .before .before .before .if1 .left) in
+    let radio = marked-radio _ (start .args .links .now) (start .pre .0 .linked) _ _ marks in
     omega arith
 
 add-high : tie.Need-add-high Inv-loop μ-loop
