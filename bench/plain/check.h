@@ -27,19 +27,20 @@ struct c_ends {
     unsigned count, later, high, first;
 };
 
-/* Lists row a and counts its ends; 0 where there are too many, or one is no radio, is a itself or does not have a. */
+/* Counts the ends of row a, word by word; 0 where there are too many, or one is no radio, is a itself or does not have a. */
 static inline int c_count_ends(const struct lent *t, const uint16_t *places, unsigned a, struct c_ends *ends) {
-    uint16_t list[NEIGHBOURS + 1];
     struct c_ends c = {0, 0, 0, NOWHERE};
-    c.count = row_list(t->links, a, list, NEIGHBOURS + 1);
-    if (c.count > NEIGHBOURS) return 0;
-    for (unsigned i = 0; i < c.count; i++) {
-        unsigned b = list[i];
-        if (b >= t->n || b == a || !marked(t->links, b, a)) return 0;
-        unsigned place = places[b];
-        if (place > places[a] && place < c.first) c.first = place;
-        c.later += places[a] < place;
-        c.high += t->numbers[a] <= t->numbers[b];
+    if (marked(t->links, a, a)) return 0;
+    for (unsigned i = 0; i < ROW / 8; i++) {
+        for (uint64_t w = row_word(t->links, a, i); w; w &= w - 1) {
+            unsigned b = 64 * i + __builtin_ctzll(w);
+            if (b >= t->n || !marked(t->links, b, a)) return 0;
+            unsigned place = places[b];
+            if (place > places[a] && place < c.first) c.first = place;
+            c.count++, c.later += places[a] < place;
+            c.high += t->numbers[a] <= t->numbers[b];
+        }
+        if (c.count > NEIGHBOURS) return 0;
     }
     *ends = c;
     return 1;

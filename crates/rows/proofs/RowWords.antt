@@ -2,17 +2,17 @@
 use mathlib.Core.Path.{_≡_, refl, sym, ap, _∙_}
 use mathlib.Core.Bool.{Bool}
 use mathlib.Core.List.{List, [], _++_}
-use Prim.Native.Nat.{ℕ, suc, _+_, _*_, _-_, _/_, _%_, _^_, _≤_, _<_, min}
+use Prim.Native.Nat.{ℕ, zero, suc, _+_, _*_, _-_, _/_, _%_, _^_, _≤_, _<_, min}
 use native.Mathlib.Omega.{arith}
-use lib.ListN.{length, getD, take, length-append}
-use lib.Seq.{sets, length-sets}
+use lib.ListN.{length, getD, take, drop, length-append, length-take, length-drop}
+use lib.Seq.{sets, length-sets, getD-take, getD-drop}
 use lib.Count.{ones, trailingZeros}
 use borrow.Author.Tests.{le-leb, lt-leb}
 use Rattle.mesh.specs.Limits.{max-radios, max-neighbours, row-bytes}
 use Rattle.lists.specs.Lists.{range, filter, head-or, overwrite}
 use Rattle.mesh.specs.Tables.{digit, byte-at, marked}
 use Rattle.lists.proofs.Filter.{filter-append}
-use Rattle.rows.specs.Rows.{neighbours-of, row-listed, row-from, row-count, set-bits, row-word}
+use Rattle.rows.specs.Rows.{neighbours-of, row-listed, row-from, row-count, set-bits, row-word, word-of}
 use Rattle.rows.proofs.WordLaws.{set-bits-filter, set-bits-nothing, set-bits-lowest, length-set-bits, length-set-bits-le, word-at-less, digit-word-at}
 use Rattle.lists.proofs.Range.{range-append}
 use Rattle.lists.proofs.Overwrite.{sets-front, sets-append}
@@ -71,6 +71,33 @@ pub row-from-word : (ts : List ℕ) → ((j : ℕ) → getD ts j 0 < 256) → (a
 unfolding row-from
 row-from-word ts bytes a k h =
     words-from (λ b. marked ts a b) k (row-word 8 ts (row-bytes * a + 8 * k)) h (λ m l. marked-word ts bytes a k m l)
+
+-- ---- a row that is lent by itself
+
+pub word-of-whole : (row : List ℕ) (k : ℕ) → 8 * k + 8 ≤ length row → word-of row k ≡ row-word 8 row (8 * k)
+unfolding word-of
+word-of-whole row k h = rw (le-leb (8 * k + 8) (length row) h)
+
+pub word-of-short : (row : List ℕ) (k : ℕ) → length row < 8 * k + 8 → word-of row k ≡ 0
+unfolding word-of
+word-of-short row k h = rw (lt-leb (8 * k + 8) (length row) h)
+
+-- bytes of a part of a table, joined
+row-word-part : (ts : List ℕ) (start long i k : ℕ) → i + k ≤ long → row-word k (take long (drop start ts)) i ≡ row-word k ts (start + i)
+unfolding row-word
+row-word-part ts start long i zero h = refl
+row-word-part ts start long i (suc k) h =
+    let here : start + (i + k) ≡ start + i + k = omega arith in
+    let byte : getD (take long (drop start ts)) (i + k) 0 ≡ getD ts (start + i + k) 0 =
+    getD-take long (drop start ts) (i + k) 0 (omega arith) ∙ getD-drop start ts (i + k) 0 ∙ ap (λ (j : ℕ). getD ts j 0) here in
+    rw (byte, row-word-part ts start long i k (omega arith))
+
+-- word k of row a, which is lent as the m bytes from its start on
+pub word-of-row : (ts : List ℕ) (a k m : ℕ) → m ≡ row-bytes → row-bytes * a + row-bytes ≤ length ts → k < 8
+    → word-of (take m (drop (row-bytes * a) ts)) k ≡ row-word 8 ts (row-bytes * a + 8 * k)
+word-of-row ts a k m e whole h =
+    word-of-whole (take m (drop (row-bytes * a) ts)) k (omega (arith, length-take m (drop (row-bytes * a) ts), length-drop (row-bytes * a) ts))
+    ∙ row-word-part ts (row-bytes * a) m (8 * k) 8 (omega arith)
 
 -- ---- one word more, as the loops' invariants have it
 

@@ -6,6 +6,7 @@
 --   row-count most ts a   how many radios row a marks, counted no further than one past `most`
 --   set-bits d i w        the places of the set bits among the d lowest of w, ascending, counted from i
 --   row-word k ts i        the k bytes of ts from place i on, as one number, lowest byte first
+--   word-of row k          word k of a row that stands by itself, 0 past it
 --   Words-room             what a private function of src/lib.rt wants of lengths
 -- Laws are in proofs/RowListLaws.antt and proofs/WordLaws.antt. Definitions only.
 use mathlib.Core.Bool.{cond}
@@ -39,6 +40,9 @@ set-bits (suc d) i w = let rest = set-bits d (suc i) (w / 2) in cond (eqb (w % 2
 unfoldable pub row-word : (k : ℕ) → (bytes : List ℕ) → (i : ℕ) → ℕ
 row-word zero ts i = 0
 row-word (suc k) ts i = getD ts (i + k) 0 * 2 ^ (8 * k) + row-word k ts i
+
+unfoldable pub word-of : (row : List ℕ) → (k : ℕ) → ℕ
+word-of ts k = cond (leb (8 * k + 8) (length ts)) (row-word 8 ts (8 * k)) 0
 
 -- what listing the words of row a from word `from` on wants of the lengths of the table and of the list, which has `count` entries
 pub record Words-room (a from count links list : ℕ) : Type 0 where

@@ -1,6 +1,6 @@
 // Rows of the links table: one bit tested, set or cleared, a row's neighbours listed, all or the ones above its own radio, and counted
-// in a byte, the lowest of them; the radios of a set listed. Sets of eight words are in sets.rt.
-// The bits of a row are walked here and nowhere else.
+// in a byte, the lowest of them; the words of a row; the radios of a set listed. Sets of eight words are in sets.rt.
+// The bits of a row are walked here, and by the count of its ends in the soundness check.
 ghost use mathlib.Core.Path.{_≡_};
 ghost use Prim.Native.Nat.{suc, _≤_, _+_, _-_, min};
 ghost use lib.ListN.{length, take};
@@ -8,7 +8,7 @@ ghost use lib.Seq.{sets};
 ghost use Rattle.mesh.specs.Limits.{max-radios, max-neighbours};
 ghost use Rattle.lists.specs.Lists.{head-or, overwrite};
 ghost use Rattle.mesh.specs.Tables.{marked, put-bit, put-link};
-ghost use Rattle.rows.specs.Rows.{row-listed, neighbours-above, row-from, row-count, set-bits, row-word, Words-room};
+ghost use Rattle.rows.specs.Rows.{row-listed, neighbours-above, row-from, row-count, set-bits, row-word, word-of, Words-room};
 
 pub mod sets;
 
@@ -68,6 +68,17 @@ fn word_at(links: &[u8], at: usize) -> u64
         | (links[at + 5] as u64) << 40
         | (links[at + 6] as u64) << 48
         | (links[at + 7] as u64) << 56
+}
+
+// Word k of a row that is lent by itself; past the row 0.
+pub fn word_of(row: &[u8], k: u32) -> u64
+    ensures { λ r. ⌜ r ≡ word-of (now (row .entry)) k ⌝ }
+{
+    let at = 8 * k as usize;
+    if row.len() < at + 8 {
+        return 0;
+    }
+    word_at(row, at)
 }
 
 // How many radios row a marks, counted in a byte that stops at `STOP`; of a row that is not whole in the table 0.

@@ -3,7 +3,7 @@ use mathlib.Core.Path.{_≡_, refl, sym, ap, _∙_}
 use mathlib.Core.Logic.{_⊎_, inl, inr}
 use mathlib.Core.Bool.{Bool, true, false, _&&_, cond, and-true, and-false}
 use mathlib.Core.List.{List}
-use Prim.Native.Nat.{ℕ, suc, _≤_, min}
+use Prim.Native.Nat.{ℕ, _≤_, min}
 use native.Mathlib.Omega.{arith}
 use mir.Val.{boolByte}
 use lib.Dec.{eqb}
@@ -114,14 +114,13 @@ module _ (n : ℕ) (t : Tables) (ps hs : List ℕ) where
       pub examined-falls : (u : Bool) → u ≡ rising (number-in (t .numbers)) (t .order) → u ≡ false → Examined n t ps qs hs hs false
       examined-falls u e f = examined-no qs hs (d .long) refl (unsound (sound-is ∙ rw (sym e ∙ f)))
 
-      pub rows-room : (list : ℕ) → suc max-neighbours ≤ list → Rows-room n (length (t .links)) (length (t .numbers)) (length qs) list × (n ≤ length hs)
+      pub rows-room : Rows-room n (length (t .links)) (length (t .numbers)) (length qs) × (n ≤ length hs)
       unfolding lengths-of
-      rows-room list l = (
+      rows-room = (
         record {
           linked = sizes .lengths .links;
           numbered = sizes .lengths .numbers;
           placed = omega (arith, sizes .places, d .long);
-          listed = l;
           small = sizes .small;
         },
         sizes .highs,

@@ -3,6 +3,7 @@
 pub mod CheckLaws
 -- the loops: the order, one row, all rows
 pub mod CheckLoops
+pub mod Tallies
 pub mod RowChecks
 pub mod AllRows
 -- question 4 after the first three

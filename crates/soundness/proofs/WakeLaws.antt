@@ -7,16 +7,16 @@ use mathlib.Core.List.{List, [], _∷_}
 use Prim.Native.Nat.{ℕ, suc, _+_, _*_, _-_, _%_, _≤_, _<_, min}
 use native.Mathlib.Omega.{arith}
 use lib.Dec.{ltb, leb}
-use lib.ListN.{length, getD, take, drop, length-drop}
+use lib.ListN.{length, getD, drop, length-drop}
 use lib.Seq.{getD-drop}
 use borrow.Author.Tests.{ltb-true, ltb-false, lt-ltb, leb-true, leb-false}
-use Rattle.mesh.specs.Limits.{max-radios, max-neighbours, row-bytes}
-use Rattle.lists.specs.Lists.{range, filter, all, head-or, overwrite, In, Each-once, Rising}
+use Rattle.mesh.specs.Limits.{max-radios, max-neighbours}
+use Rattle.lists.specs.Lists.{range, filter, all, head-or, In, Each-once, Rising}
 use Rattle.mesh.specs.Graph.{linked}
 use Rattle.mesh.specs.Orders.{later-in, nobody, rising}
 use Rattle.mesh.specs.Tables.{Tables, marked, graph-in}
-use Rattle.mesh.specs.Sound.{row-degree, number-in, sound, sound-within}
-use Rattle.lists.proofs.Tests.{bool-cases, never, and-left, and-right}
+use Rattle.mesh.specs.Sound.{number-in, sound, sound-within}
+use Rattle.lists.proofs.Tests.{bool-cases, never, and-left, and-right, and-both}
 use Rattle.lists.proofs.Filter.{in-filter, filter-in, filter-ext, length-filter}
 use Rattle.lists.proofs.Range.{once-below, once-length, once-in, in-range}
 use Rattle.lists.proofs.Member.{in-getD, getD-of-in}
@@ -25,15 +25,15 @@ use Rattle.lists.proofs.All.{all-below}
 use Rattle.mesh.proofs.Cores.Later.{later-in-at}
 use Rattle.mesh.proofs.Cores.Orders.{of-each-once}
 use Rattle.mesh.proofs.Cores.KOrders.{k-order-certificate}
-use Rattle.mesh.proofs.Tables.Rows.{within-of, few-of}
+use Rattle.mesh.proofs.Tables.Rows.{within-of}
 use Rattle.mesh.proofs.Tables.Soundness.{sound-right}
 use Rattle.calls.specs.Questions.{lengths-of, size-good, site-lengths, radio-refusal}
 use Rattle.calls.specs.Outcomes.{later}
 use Rattle.calls.specs.Contracts.Wake.{Later-accepted, Later-refused, Later-contract}
 use Rattle.calls.proofs.ChainLaws.{radio-zero}
 use Rattle.calls.proofs.ContractLaws.{by-accepted, by-refused}
-use Rattle.rows.specs.Rows.{neighbours-of, row-listed, row-count}
-use Rattle.rows.proofs.RowListLaws.{in-neighbours-of, row-count-few, row-listed-radio, length-row-listed-radio, row-listed-fits}
+use Rattle.rows.specs.Rows.{neighbours-of}
+use Rattle.rows.proofs.RowListLaws.{in-neighbours-of}
 use Rattle.soundness.specs.Checks.{Placed, Placing, sooner-key, first-key, later-count, high-count, ends-good, row-good, fits-sound}
 use Rattle.soundness.specs.Checks.{Sound-radio, Ends-room, Ends-counted, Later-counted}
 use Rattle.soundness.proofs.CheckLaws.{place-of, later-count-is, sound-rows}
@@ -223,55 +223,38 @@ module _ (v : ℕ) (t : Tables) (h : Sound-radio (length (t .order)) v t) where
   pub ends-placed : (before after : List ℕ) (r : Bool) → Placing (t .order) before after r → Placed n (t .order) after
   ends-placed before after r p = p .placed (p .answer ∙ of-each-once n (t .order) order-once)
 
-  few : row-degree (t .links) v ≤ max-neighbours
-  few = few-of max-neighbours n (t .links) (ends-site .few) v (h .radio)
+  pub ends-room : (places : ℕ) → places ≡ max-radios → Ends-room v (length (t .links)) (length (t .numbers)) places
+  ends-room p e = record {
+    linked = omega (arith, ends-site .links-long, ends-site .numbers-long);
+    placed = omega (arith, ends-site .numbers-long, ends-site .small);
+    radio = omega (arith, ends-site .numbers-long, h .radio);
+    small = omega (arith, ends-site .numbers-long, ends-site .small);
+  }
 
-  module _ (old new : List ℕ) (k : ℕ) (room : length old ≡ suc max-neighbours) (counted : k ≡ min (length old) (row-count max-neighbours (t .links) v)) where
-    k-is : k ≡ row-degree (t .links) v
-    k-is =
-        let all = row-count-few max-neighbours n (t .links) (ends-site .links-long) v (h .radio) few in
-        omega (arith, counted, all, few, room)
+  module _ (places : List ℕ) (placed : Placed n (t .order) places) where
+    all-good : (leb (length (neighbours-of (t .links) v)) max-neighbours && ends-good n (t .links) v (neighbours-of (t .links) v)) ≡ true
+    unfolding row-good
+    all-good =
+        let num = number-in (t .numbers) in
+        let row = row-good max-neighbours n (t .links) (t .numbers) places in
+        let xs = neighbours-of (t .links) v in
+        let rows = and-right (rising num (t .order)) (all row (range 0 n))
+        (sym (sound-rows max-neighbours n t places (ends-site .small) order-once placed) ∙ sound-is) in
+        let p = leb (length xs) max-neighbours in
+        let q = ends-good n (t .links) v xs in
+        let counts = leb (later-count places v xs) (number-in (t .numbers) v) && leb (number-in (t .numbers) v) (high-count (t .numbers) v xs) in
+        let good = all-below row n rows v (h .radio) in
+        and-both p q (and-left p (q && counts) good) (and-left q counts (and-right p (q && counts) good))
 
-    pub ends-room : (places list : ℕ) → places ≡ max-radios → list ≡ suc max-neighbours → Ends-room v k (length (t .links)) (length (t .numbers)) places list
-    ends-room p l e f = record {
-      linked = omega (arith, ends-site .links-long, ends-site .numbers-long);
-      listed = omega (arith, k-is, few);
-      few = omega (arith, k-is, few);
-      placed = omega (arith, ends-site .numbers-long, ends-site .small);
-      radio = omega (arith, ends-site .numbers-long, h .radio);
-      small = omega (arith, ends-site .numbers-long, ends-site .small);
-    }
-
-    module _ (listed : new ≡ overwrite (take (min (length old) (suc max-neighbours)) (row-listed (t .links) v)) old) (places : List ℕ)
-        (placed : Placed n (t .order) places) where
-      near-is : take k new ≡ neighbours-of (t .links) v
-      near-is =
-          let whole = row-listed-radio n (t .links) (ends-site .links-long) v (h .radio) in
-          row-listed-fits max-neighbours (t .links) v old new k
-          (omega (arith, length-row-listed-radio n (t .links) (ends-site .links-long) v (h .radio), few, room)) counted listed .1 ∙ whole
-
-      all-good : ends-good n (t .links) v (neighbours-of (t .links) v) ≡ true
-      unfolding row-good
-      all-good =
-          let num = number-in (t .numbers) in
-          let row = row-good max-neighbours n (t .links) (t .numbers) places in
-          let xs = neighbours-of (t .links) v in
-          let rows = and-right (rising num (t .order)) (all row (range 0 n))
-          (sym (sound-rows max-neighbours n t places (ends-site .small) order-once placed) ∙ sound-is) in
-          let counts = leb (later-count places v xs) (number-in (t .numbers) v) && leb (number-in (t .numbers) v) (high-count (t .numbers) v xs) in
-          and-left (ends-good n (t .links) v xs) counts
-          (and-right (leb (length xs) max-neighbours) (ends-good n (t .links) v xs && counts) (all-below row n rows v (h .radio)))
-
-      pub ends-later : (good : Bool) (later high first : ℕ) → Ends-counted (length (t .numbers)) (t .links) (t .numbers) places v (take k new) good later high first
-          → Later-counted n v t later first
-      ends-later good later high first c =
-          let ends : Ends-counted n (t .links) (t .numbers) places v (neighbours-of (t .links) v) good later high first =
-          rw (near-is, ends-site .numbers-long) at c in
-          let yes = ends .answer ∙ all-good in
-          record {
-            later-is = ends .later-is yes ∙ later-count-rest n v t places ends-site order-once placed (h .radio);
-            first-is = ends .first-is yes ∙ first-key-rest n v t places ends-site order-once placed (h .radio);
-          }
+    pub ends-later : (good : Bool) (later high first : ℕ) → Ends-counted (length (t .numbers)) (t .links) (t .numbers) places v good later high first
+        → Later-counted n v t later first
+    ends-later good later high first c =
+        let ends : Ends-counted n (t .links) (t .numbers) places v good later high first = rw (ends-site .numbers-long) at c in
+        let yes = ends .answer ∙ all-good in
+        record {
+          later-is = ends .later-is yes ∙ later-count-rest n v t places ends-site order-once placed (h .radio);
+          first-is = ends .first-is yes ∙ first-key-rest n v t places ends-site order-once placed (h .radio);
+        }
 
 -- ---- the answer
 

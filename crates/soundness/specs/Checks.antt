@@ -4,11 +4,14 @@
 --   later-count              how many of some radios stand later in the order than a: document 01's "neighbours later in the order"
 --   first-key                the place and the radio, as one number, of the first of some radios that stands later in the order than a
 --   high-count               how many of some radios have a number that is not below that of a
+--   ends-mark                each of some radios marks a too
 --   ends-good                each of some radios is below n, is not a, and marks a too
+--   Tally                    what is counted of some ends of a row
 --   rising-from              numbers never fall along a list, and do not begin below the given one
 --   row-good                 the conditions of document 01 on radio a: its row, its later neighbours, its neighbours that are not below it
---   Sound-radio, Ends-room, Rows-room   what private functions of src/lib.rt want of the tables that they read
---   Placing, Places-found, Ends-counted, Later-counted, Row-checked, Highs, Rows-checked, Examined   what the functions of src/lib.rt come back with
+--   Sound-radio, Ends-room, Walk-room, Rows-room   what private functions of src/lib.rt want of the tables that they read
+--   Placing, Places-found, Tallied, Walked, Ends-counted, Later-counted, Row-checked, Highs, Rows-checked, Examined
+--                            what the functions of src/lib.rt come back with
 --   nowhere                  a place that no entry of an order has
 --   examinable               questions 1 and 2 get yes, and the lent tables of places and high counts are long enough
 --   fits-sound               questions 1 to 3 get yes
@@ -17,7 +20,7 @@
 use mathlib.Core.Path.{_≡_}
 use mathlib.Core.Bool.{Bool, true, _&&_, not, cond}
 use mathlib.Core.List.{List, [], _∷_}
-use Prim.Native.Nat.{ℕ, suc, _+_, _*_, _%_, _≤_, _<_, min}
+use Prim.Native.Nat.{ℕ, _+_, _*_, _%_, _≤_, _<_, min}
 use lib.Dec.{ltb, leb, eqb}
 use lib.ListN.{length, getD}
 use Rattle.mesh.specs.Limits.{max-radios, max-neighbours, row-bytes}
@@ -47,6 +50,9 @@ first-key ps a (b ∷ bs) = let rest = first-key ps a bs in sooner-key (getD ps 
 
 unfoldable pub high-count : (numbers : List ℕ) → (a : ℕ) → (radios : List ℕ) → ℕ
 high-count ns a xs = count (λ b. leb (number-in ns a) (number-in ns b)) xs
+
+unfoldable pub ends-mark : (links : List ℕ) → (a : ℕ) → (radios : List ℕ) → Bool
+ends-mark ts a xs = all (λ b. marked ts b a) xs
 
 unfoldable pub ends-good : (n : ℕ) → (links : List ℕ) → (a : ℕ) → (radios : List ℕ) → Bool
 ends-good n ts a xs = all (λ b. ltb b n && (not (eqb b a) && marked ts b a)) xs
@@ -83,12 +89,37 @@ pub record Places-found (order before after : List ℕ) (r : Bool) : Type 0 wher
   pub answer : r ≡ (leb (length order) (min max-radios (length before)) && each-once (length order) order)
   pub placed : r ≡ true → Placed (length order) order after
 
--- whether the radios xs are good ends of a, and then how many are later and the first of them, and how many are not below
-pub record Ends-counted (n : ℕ) (links numbers places : List ℕ) (a : ℕ) (xs : List ℕ) (good : Bool) (later high first : ℕ) : Type 0 where
-  pub answer : good ≡ ends-good n links a xs
-  pub later-is : good ≡ true → later ≡ later-count places a xs
-  pub first-is : good ≡ true → first ≡ first-key places a xs % 65536
-  pub high-is : good ≡ true → high ≡ high-count numbers a xs
+-- what is counted of some ends of a row: how many, how many later, how many not below, and the key of the first later one
+pub record Tally : Type 0 where
+  pub count : ℕ
+  pub later : ℕ
+  pub high : ℕ
+  pub key : ℕ
+
+abbrev pub tally : (count later high key : ℕ) → Tally
+tally c l h k = record { count = c; later = l; high = h; key = k }
+
+-- the ends `left` counted to t come to what the ends `whole` counted to s come to
+pub record Tallied (numbers places : List ℕ) (a : ℕ) (s : Tally) (whole left : List ℕ) (t : Tally) : Type 0 where
+  pub count-is : t .count + length left ≡ s .count + length whole
+  pub later-is : t .later + later-count places a left ≡ s .later + later-count places a whole
+  pub high-is : t .high + high-count numbers a left ≡ s .high + high-count numbers a whole
+  pub first-is : min (t .key) (first-key places a left) ≡ min (s .key) (first-key places a whole)
+  pub few-later : t .later ≤ t .count
+  pub few-high : t .high ≤ t .count
+  pub few-key : t .key ≤ 4294967295
+
+-- whether the radios xs mark a, and then what they and s come to
+pub record Walked (links numbers places : List ℕ) (a : ℕ) (s : Tally) (xs : List ℕ) (good : Bool) (t : Tally) : Type 0 where
+  pub answer : good ≡ ends-mark links a xs
+  pub tallied : good ≡ true → Tallied numbers places a s xs [] t
+
+-- whether row a marks no more radios than it may and they are good ends, and then how many are later and the first of them, and how many are not below
+pub record Ends-counted (n : ℕ) (links numbers places : List ℕ) (a : ℕ) (good : Bool) (later high first : ℕ) : Type 0 where
+  pub answer : good ≡ (leb (length (neighbours-of links a)) max-neighbours && ends-good n links a (neighbours-of links a))
+  pub later-is : good ≡ true → later ≡ later-count places a (neighbours-of links a)
+  pub first-is : good ≡ true → first ≡ first-key places a (neighbours-of links a) % 65536
+  pub high-is : good ≡ true → high ≡ high-count numbers a (neighbours-of links a)
 
 -- sound tables and a radio of theirs
 pub record Sound-radio (n v : ℕ) (t : Tables) : Type 0 where
@@ -101,20 +132,25 @@ pub record Later-counted (n v : ℕ) (t : Tables) (later first : ℕ) : Type 0 w
   pub first-is : first ≡ head-or nobody (later-in (linked (graph-in n (t .links))) v (t .order))
 
 -- what counting the ends of a row wants of the lengths of the tables it reads
-pub record Ends-room (a k links numbers places list : ℕ) : Type 0 where
+pub record Ends-room (a links numbers places : ℕ) : Type 0 where
   pub linked : links ≡ row-bytes * numbers
-  pub listed : k ≤ list
-  pub few : k ≤ max-neighbours
   pub placed : numbers ≤ places
   pub radio : a < numbers
   pub small : numbers ≤ max-radios
 
--- what checking rows wants of the lengths of the tables that it reads and of its list, which has room to tell a row with too many
-pub record Rows-room (n links numbers places list : ℕ) : Type 0 where
+-- what counting the ends of a word wants of its first radio and of what is counted before
+pub record Walk-room (first : ℕ) (t : Tally) : Type 0 where
+  pub start : first ≤ max-radios
+  pub few : t .count ≤ max-neighbours
+  pub few-later : t .later ≤ t .count
+  pub few-high : t .high ≤ t .count
+  pub few-key : t .key ≤ 4294967295
+
+-- what checking rows wants of the lengths of the tables that it reads
+pub record Rows-room (n links numbers places : ℕ) : Type 0 where
   pub linked : links ≡ row-bytes * n
   pub numbered : numbers ≡ n
   pub placed : n ≤ places
-  pub listed : suc max-neighbours ≤ list
   pub small : n ≤ max-radios
 
 -- whether row a is good, and then the high count of a

@@ -2,7 +2,7 @@
 // tested before it is used as an index.
 ghost use mathlib.Core.Path.{_≡_};
 ghost use Prim.Native.Nat.{_≤_, _<_};
-ghost use lib.ListN.{length, take};
+ghost use lib.ListN.{length};
 ghost use Rattle.mesh.specs.Limits.{max-radios};
 ghost use Rattle.mesh.specs.Orders.{rising};
 ghost use Rattle.mesh.specs.Sound.{number-in, sound};
@@ -11,7 +11,9 @@ ghost use Rattle.calls.specs.Questions.{lengths-of, site-refusal};
 ghost use Rattle.calls.specs.Contracts.Sites.{Check-contract};
 ghost use Rattle.tables.specs.Sizes.{lengths};
 ghost use Rattle.lists.specs.Lists.{Entries-below};
-ghost use Rattle.soundness.specs.Checks.{Placing, Places-found, sooner-key, Ends-room, Ends-counted, Rows-room, Row-checked, Rows-checked};
+ghost use Rattle.rows.specs.Rows.{set-bits};
+ghost use Rattle.soundness.specs.Checks.{Placing, Places-found, sooner-key, tally, Walk-room, Walked, Ends-room, Ends-counted};
+ghost use Rattle.soundness.specs.Checks.{Rows-room, Row-checked, Rows-checked};
 ghost use Rattle.soundness.specs.Checks.{examinable, Examined, fits-sound};
 use calls::Refusal;
 use calls::Value;
@@ -24,6 +26,11 @@ const NOWHERE: u16 = 65535;
 
 // The key of no radio: its radio is 65,535.
 const NO_KEY: u32 = 4294967295;
+
+// The bits of a word, and the words of a row.
+const WORD_BITS: u32 = 64;
+
+const ROW_WORDS: u32 = Site::RADIOS / WORD_BITS;
 
 // Writes the place of each radio into `places`. Comes back with whether the order holds each radio below its length once;
 // where it does not, `places` holds anything.
@@ -81,13 +88,6 @@ fn rises(numbers: &[u8], order: &[u16]) -> bool
     true
 }
 
-pub(crate) struct Ends {
-    pub(crate) good: bool,
-    pub(crate) later: u8,
-    pub(crate) high: u8,
-    pub(crate) first: u16,
-}
-
 // The key of the radio b at place p, where that is later than `place` and before the key's; else the key. A key is a place and
 // then a radio, 16 bits each.
 fn sooner(place: u16, p: u16, b: u16, key: u32) -> u32
@@ -103,19 +103,82 @@ fn sooner(place: u16, p: u16, b: u16, key: u32) -> u32
     own
 }
 
-// Whether the first k listed radios are of the site, are not a, and mark a too; how many of them stand later in the order than a,
-// and the first of these, 65,535 when there are none; and how many have a number that is not below that of a.
-pub(crate) fn count_ends(
+// What is counted of the ends of a row while each of them marks the row's radio too: how many, how many stand later in the order,
+// how many have a number that is not below, and the key of the first later one.
+struct Walk {
+    good: bool,
+    count: u8,
+    later: u8,
+    high: u8,
+    key: u32,
+}
+
+// Counts the ends that a word marks, from radio `first` on, to what is counted of row a before; good where each of them marks a too.
+fn walk_word(
     links: &[u8],
     numbers: &[u8],
     places: &[u16],
-    list: &[u16],
-    k: usize,
-    a: usize,
-) -> Ends
-    requires { ⌜ Ends-room a k (length (now links)) (length (now numbers)) (length (now places)) (length (now list)) ⌝ }
+    a: u32,
+    first: u32,
+    word: u64,
+    walk: Walk,
+) -> Walk
+    requires { ⌜ Ends-room a (length (now links)) (length (now numbers)) (length (now places))
+        × Walk-room first (tally (walk .count) (walk .later) (walk .high) (walk .key)) ⌝ }
+    ensures { λ r. ⌜ Walked (now (links .entry)) (now (numbers .entry)) (now (places .entry)) a
+        (tally (walk .count) (walk .later) (walk .high) (walk .key)) (set-bits 64 first word)
+        (r .good) (tally (r .count) (r .later) (r .high) (r .key)) ⌝ }
+{
+    let bad = Walk {
+        good: false,
+        count: 0,
+        later: 0,
+        high: 0,
+        key: 0,
+    };
+    let place = places[a as usize];
+    let number = numbers[a as usize];
+    let mut count = walk.count;
+    let mut later = walk.later;
+    let mut high = walk.high;
+    let mut key = walk.key;
+    let mut rest = word;
+    while rest != 0 {
+        let b = first + u64::trailing_zeros(rest);
+        // a radio at n or above has no row, and so marks nothing
+        if !rows::is_marked(links, b, a) {
+            return bad;
+        }
+        let p = places[b as usize];
+        count += 1;
+        later += (place < p) as u8;
+        key = sooner(place, p, b as u16, key);
+        high += (number <= numbers[b as usize]) as u8;
+        rest = rest & (rest - 1);
+    }
+    Walk {
+        good: true,
+        count,
+        later,
+        high,
+        key,
+    }
+}
+
+pub(crate) struct Ends {
+    pub(crate) good: bool,
+    pub(crate) later: u8,
+    pub(crate) high: u8,
+    pub(crate) first: u16,
+}
+
+// Whether row a marks at most 40 radios, and these are of the site, are not a, and mark a too; how many of them stand later in the
+// order than a, and the first of these, 65,535 when there are none; and how many have a number that is not below that of a.
+// It is small enough that the compiler gives each caller its own: the check then does not pay for the first.
+pub(crate) fn count_ends(links: &[u8], numbers: &[u8], places: &[u16], a: u32) -> Ends
+    requires { ⌜ Ends-room a (length (now links)) (length (now numbers)) (length (now places)) ⌝ }
     ensures { λ r. ⌜ Ends-counted (length (now (numbers .entry))) (now (links .entry)) (now (numbers .entry)) (now (places .entry)) a
-        (take k (now (list .entry))) (r .good) (r .later) (r .high) (r .first) ⌝ }
+        (r .good) (r .later) (r .high) (r .first) ⌝ }
 {
     let bad = Ends {
         good: false,
@@ -123,33 +186,43 @@ pub(crate) fn count_ends(
         high: 0,
         first: 0,
     };
-    let place = places[a];
-    let number = numbers[a];
-    let mut later: u8 = 0;
-    let mut high: u8 = 0;
-    let mut key: u32 = NO_KEY;
-    let mut i: usize = 0;
-    while i < k {
-        let x = list[i];
-        let b = x as usize;
-        if b == a {
+    if rows::is_marked(links, a, a) {
+        return bad;
+    }
+    let start = Site::ROW_BYTES * a as usize;
+    let end = start + Site::ROW_BYTES;
+    let row = &links[start..end];
+    let mut walk = Walk {
+        good: true,
+        count: 0,
+        later: 0,
+        high: 0,
+        key: NO_KEY,
+    };
+    let mut k: u32 = 0;
+    while k < ROW_WORDS {
+        walk = walk_word(
+            links,
+            numbers,
+            places,
+            a,
+            WORD_BITS * k,
+            rows::word_of(row, k),
+            walk,
+        );
+        if !walk.good {
             return bad;
         }
-        // a radio at n or above has no row, and so marks nothing
-        if !rows::is_marked(links, b as u32, a as u32) {
+        if Site::NEIGHBOURS < walk.count as u32 {
             return bad;
         }
-        let p = places[b];
-        later += (place < p) as u8;
-        key = sooner(place, p, x, key);
-        high += (number <= numbers[b]) as u8;
-        i += 1;
+        k += 1;
     }
     Ends {
         good: true,
-        later,
-        high,
-        first: (key % 65536) as u16,
+        later: walk.later,
+        high: walk.high,
+        first: (walk.key % 65536) as u16,
     }
 }
 
@@ -158,28 +231,16 @@ struct Row {
     high: u8,
 }
 
-// Whether document 01's conditions on radio a hold, and then how many of its neighbours have a number that is not below its
-// own. `list` holds anything after.
-fn row_checked(
-    n: u32,
-    links: &[u8],
-    numbers: &[u8],
-    places: &[u16],
-    list: &mut [u16],
-    a: u32,
-) -> Row
-    requires { ⌜ Rows-room n (length (now links)) (length (now numbers)) (length (now places)) (length (now list)) × (a < n) ⌝ }
+// Whether document 01's conditions on radio a hold, and then how many of its neighbours have a number that is not below its own.
+fn row_checked(n: u32, links: &[u8], numbers: &[u8], places: &[u16], a: u32) -> Row
+    requires { ⌜ Rows-room n (length (now links)) (length (now numbers)) (length (now places)) × (a < n) ⌝ }
     ensures { λ r. ⌜ Row-checked n (now (links .entry)) (now (numbers .entry)) (now (places .entry)) a (r .good) (r .high) ⌝ }
 {
     let bad = Row {
         good: false,
         high: 0,
     };
-    let k = rows::row_neighbours(links, a, list);
-    if Site::NEIGHBOURS < k as u32 {
-        return bad;
-    }
-    let ends = count_ends(links, numbers, places, list, k as usize, a as usize);
+    let ends = count_ends(links, numbers, places, a);
     if !ends.good {
         return bad;
     }
@@ -197,23 +258,15 @@ fn row_checked(
 }
 
 // Whether document 01's conditions hold of every radio below n, and then `highs` holds for each of them how many of its
-// neighbours have a number that is not below its own; else `highs` holds anything. `list` holds anything after.
-fn rows_checked(
-    n: u32,
-    links: &[u8],
-    numbers: &[u8],
-    places: &[u16],
-    list: &mut [u16],
-    highs: &mut [u8],
-) -> bool
-    requires { ⌜ Rows-room n (length (now links)) (length (now numbers)) (length (now places)) (length (now list)) ×
-        (n ≤ length (now highs)) ⌝ }
+// neighbours have a number that is not below its own; else `highs` holds anything.
+fn rows_checked(n: u32, links: &[u8], numbers: &[u8], places: &[u16], highs: &mut [u8]) -> bool
+    requires { ⌜ Rows-room n (length (now links)) (length (now numbers)) (length (now places)) × (n ≤ length (now highs)) ⌝ }
     ensures { λ r. ⌜ Rows-checked n (now (links .entry)) (now (numbers .entry)) (now (places .entry)) (now (highs .entry))
         (now (highs .exit)) r ⌝ }
 {
     let mut a: u32 = 0;
     while a < n {
-        let row = row_checked(n, links, numbers, places, list, a);
+        let row = row_checked(n, links, numbers, places, a);
         if !row.good {
             return false;
         }
@@ -274,8 +327,7 @@ pub fn examine(
     if !rises(numbers, order) {
         return false;
     }
-    let mut list = [0u16; Site::NEIGHBOURS as usize + 1];
-    rows_checked(n, links, numbers, places, &mut list, highs)
+    rows_checked(n, links, numbers, places, highs)
 }
 
 // Whether n is from 1 to 512, the tables have their lengths, and they are sound.

@@ -39,10 +39,8 @@ fn later_ends(links: &[u8], numbers: &[u8], order: &[u16], v: u32) -> Ends
     ensures { λ r. ⌜ Later-counted (length (now (order .entry))) v (lent (links .entry) (numbers .entry) (order .entry)) (r .later) (r .first) ⌝ }
 {
     let mut places = [0u16; Site::RADIOS as usize];
-    let mut list = [0u16; Site::NEIGHBOURS as usize + 1];
     crate::place(order, &mut places);
-    let k = rows::row_neighbours(links, v, &mut list);
-    crate::count_ends(links, numbers, &places, &list, k as usize, v as usize)
+    crate::count_ends(links, numbers, &places, v)
 }
 
 // How many neighbours of v stand after it in the order, and the first of them, 65,535 when there are none. Or the refusal number of

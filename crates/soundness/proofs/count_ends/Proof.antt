@@ -1,113 +1,105 @@
--- `soundness::count_ends` meets its contract: what is left of the list and what is counted give what the whole list gives.
--- The measure is what is left of the list.
+-- `soundness::count_ends` meets its contract: the words of the row are walked one by one, and the ends that are left and what is counted
+-- come to what the whole row comes to (`Row-walking`). The measure is the words that are left.
 use mathlib.Core.Path.{sym, _∙_}
-use Prim.Native.Nat.{_-_}
+use Prim.Native.Nat.{ℕ, _+_, _*_, _-_, _<_}
 use native.Mathlib.Omega.{arith}
-use lib.Dec.{ltb, leb}
-use lib.ListN.{length, getD, take}
+use lib.ListN.{getD}
 use borrow.Author.Needs.{needs}
 use borrow.Author.Tests.{not-true, not-false}
-use Rattle.soundness.proofs.RowChecks.{Counting, counting-none, counting-self, counting-alone, counting-turn, counting-end, count-fits, marked-radio}
+use Rattle.mesh.specs.Limits.{row-bytes}
+use Rattle.rows.proofs.RowWords.{word-of-row}
+use Rattle.soundness.specs.Checks.{tally}
+use Rattle.soundness.proofs.RowChecks.{ends-own, ends-many, ends-alone, ends-right}
+use Rattle.soundness.proofs.Tallies.{Row-walking, row-walking-none, row-walking-alone, row-walking-many, row-walking-turn, row-walking-end}
 use Rattle.soundness.proofs.count_ends.Statement.{statement}
 use Rattle.soundness.proofs.count_ends.Tie as tie
 
 abbrev Inv-loop : tie.InvT-loop
-Inv-loop links numbers places list k a bad place number later₀ high₀ key₀ i₀ later high key i = Counting (length numbers) links numbers places a (take k list) later high key i
+Inv-loop links numbers places a bad start end row walk₀ k₀ walk k =
+    Row-walking links numbers places a k (tally (walk .count) (walk .later) (walk .high) (walk .key))
 
 abbrev μ-loop : tie.MeasureT-loop
-μ-loop links numbers places list k a bad place number later₀ high₀ key₀ i₀ later high key i = k - i
-
-loop-holds : tie.Need-loop-holds Inv-loop μ-loop
-loop-holds c =
-    let start = c .before .before .before .before .before .before in
-    counting-none _ _ _ _ _ _ _ (start .pre .listed)
-
-cast-b : tie.Need-cast-b Inv-loop μ-loop
-cast-b c = omega (arith, c .shared-slice-known7 .given (c .before .before .loop .i))
+μ-loop links numbers places a bad start end row walk₀ k₀ walk k = 8 - k
 
 returns : tie.Need-returns Inv-loop μ-loop
 returns c =
-    let at-loop = c .before .before .before in
+    let start = c .before .before .before .before .before in
+    ends-own _ _ _ _ _ (omega (arith, start .pre .radio, start .pre .small)) (sym (c .before .is-marked .ensures) ∙ c .if1 .taken)
+
+part-row-end : tie.Need-part-row-end Inv-loop μ-loop
+part-row-end c =
+    let start = c .before .before .before .before .before in
+    omega (arith, start .pre .linked, start .pre .radio)
+
+loop-holds : tie.Need-loop-holds Inv-loop μ-loop
+loop-holds c = row-walking-none _ _ _ _
+
+walk-word-requires : tie.Need-walk-word-requires Inv-loop μ-loop
+walk-word-requires c κs =
+    let at-loop = c .before .before in
     let start = at-loop .before .before .before .before .before .before .before in
-    let call = start .args in
-    counting-self _ _ _ _ _ _ _ (start .pre .listed) _ _ _ _ (c .before .before .loop-test .taken) (at-loop .loop .inv) (c .if1 .taken)
-
-cast-is-marked : tie.Need-cast-is-marked Inv-loop μ-loop
-cast-is-marked c = omega (arith, c .before .shared-slice-known7 .given (c .before .before .before .loop .i))
-
-cast-is-marked-2 : tie.Need-cast-is-marked-2 Inv-loop μ-loop
-cast-is-marked-2 c = omega (arith, c .before .shared-slice-known7 .given (c .before .before .before .loop .i))
+    let so-far = at-loop .loop .inv .so-far in
+    let few = at-loop .loop .inv .few in
+    (start .pre, record { start = omega arith; few = few; few-later = so-far .few-later; few-high = so-far .few-high; few-key = so-far .few-key })
 
 returns-2 : tie.Need-returns-2 Inv-loop μ-loop
 returns-2 c =
-    let at-loop = c .before .before .before .before .before in
-    let start = at-loop .before .before .before .before .before .before .before in
-    let call = start .args in
-    counting-alone _ _ _ _ _ _ _ (start .pre .listed) _ _ _ _ (c .before .before .before .before .loop-test .taken) (at-loop .loop .inv) (sym (c .before .is-marked .ensures) ∙ not-true _ (c .if2 .taken))
-
-mul-p : tie.Need-mul-p Inv-loop μ-loop
-mul-p c =
-    let at-loop = c .before .before .before .before .before in
-    let start = at-loop .before .before .before .before .before .before .before in
-    let call = start .args in
-    let radio = marked-radio _ (call .links .now) (start .pre .linked) _ _ (sym (c .before .is-marked .ensures) ∙ not-false _ (c .if2 .left)) in
-    omega (arith, start .pre .small)
-
-shared-slice-read-p : tie.Need-shared-slice-read-p Inv-loop μ-loop
-shared-slice-read-p c =
-    let at-loop = c .before .before .before .before .before .before in
-    let start = at-loop .before .before .before .before .before .before .before in
-    let call = start .args in
-    let radio = marked-radio _ (call .links .now) (start .pre .linked) _ _ (sym (c .before .before .is-marked .ensures) ∙ not-false _ (c .before .if2 .left)) in
-    omega (arith, start .pre .placed)
-
-add-later : tie.Need-add-later Inv-loop μ-loop
-add-later c =
-    let at-loop = c .before .before .before .before .before .before in
-    let start = at-loop .before .before .before .before .before .before .before in
-    let call = start .args in
-    let b = getD (call .list .now) (at-loop .loop .i) 0 in
-    let few = start .pre .few in
-    count-fits _ (ltb (getD (call .places .now) (call .a) 0) (getD (call .places .now) b 0)) (omega arith)
-
-shared-slice-read-high : tie.Need-shared-slice-read-high Inv-loop μ-loop
-shared-slice-read-high c =
-    let marked = c .before .before .before .before in
-    let at-loop = marked .before .before .before .before in
-    let start = at-loop .before .before .before .before .before .before .before in
-    let call = start .args in
-    let radio = marked-radio _ (call .links .now) (start .pre .linked) _ _ (sym (marked .is-marked .ensures) ∙ not-false _ (c .before .before .before .if2 .left)) in
-    omega arith
-
-add-high : tie.Need-add-high Inv-loop μ-loop
-add-high c =
-    let at-loop = c .before .before .before .before .before .before .before .before in
-    let start = at-loop .before .before .before .before .before .before .before in
-    let call = start .args in
-    let b = getD (call .list .now) (at-loop .loop .i) 0 in
-    let few = start .pre .few in
-    count-fits _ (leb (getD (call .numbers .now) (call .a) 0) (getD (call .numbers .now) b 0)) (omega arith)
-
-loop-again : tie.Need-loop-again Inv-loop μ-loop
-loop-again c =
-    let marked = c .before .before .before .before in
-    let at-loop = marked .before .before .before .before in
-    let start = at-loop .before .before .before .before .before .before .before in
-    let call = start .args in
-    let m = (sym (marked .is-marked .ensures) ∙ not-false _ (c .before .before .before .if2 .left)) in
-    counting-turn _ _ _ _ _ _ _ (start .pre .listed) _ _ _ _ (marked .before .before .before .loop-test .taken) (at-loop .loop .inv) _
-    (marked-radio _ (call .links .now) (start .pre .linked) _ _ m) (marked .before .if1 .left) m (c .before .sooner .ensures)
+    let walked = c .before .before in
+    let read = walked .before in
+    let at-loop = read .before .before in
+    let asked = at-loop .before .before in
+    let start = asked .before .before .before .before .before in
+    let a = start .args .a in
+    let bytes : (j : ℕ) → getD (start .args .links .now) j 0 < 256 = λ j. asked .before .before .before .before .shared-slice-known .given j .fits in
+    let word = read .word-of .ensures
+    ∙ word-of-row (start .args .links .now) a (at-loop .loop .k) (row-bytes * a + row-bytes - row-bytes * a) (omega arith)
+    (omega (arith, start .pre .linked, start .pre .radio)) (omega arith) in
+    ends-alone _ _ _ _ _ (start .pre .linked) (sym (asked .before .is-marked .ensures) ∙ asked .if1 .left)
+    (row-walking-alone _ _ _ _ bytes (at-loop .loop .k) _ (omega arith) (at-loop .loop .inv)
+    (read .word-of .result) word _ _ (walked .walk-word .ensures) (not-true _ (c .if2 .taken)))
 
 returns-3 : tie.Need-returns-3 Inv-loop μ-loop
 returns-3 c =
-    let at-loop = c .before in
-    let start = at-loop .before .before .before .before .before .before .before in
-    let call = start .args in
-    counting-end _ _ _ _ _ _ _ (start .pre .listed) _ _ _ _ (c .loop-test .left) (at-loop .loop .inv)
+    let walked = c .before .before .before .before in
+    let read = walked .before in
+    let at-loop = read .before .before in
+    let asked = at-loop .before .before in
+    let start = asked .before .before .before .before .before in
+    let a = start .args .a in
+    let bytes : (j : ℕ) → getD (start .args .links .now) j 0 < 256 = λ j. asked .before .before .before .before .shared-slice-known .given j .fits in
+    let word = read .word-of .ensures
+    ∙ word-of-row (start .args .links .now) a (at-loop .loop .k) (row-bytes * a + row-bytes - row-bytes * a) (omega arith)
+    (omega (arith, start .pre .linked, start .pre .radio)) (omega arith) in
+    ends-many _ _ _ _ _
+    (row-walking-many _ _ _ _ bytes (at-loop .loop .k) _ (omega arith) (at-loop .loop .inv)
+    (read .word-of .result) word _ _ (walked .walk-word .ensures) (not-false _ (c .before .before .if2 .left)) (c .if3 .taken))
+
+loop-again : tie.Need-loop-again Inv-loop μ-loop
+loop-again c =
+    let walked = c .before .before .before .before in
+    let read = walked .before in
+    let at-loop = read .before .before in
+    let asked = at-loop .before .before in
+    let start = asked .before .before .before .before .before in
+    let a = start .args .a in
+    let bytes : (j : ℕ) → getD (start .args .links .now) j 0 < 256 = λ j. asked .before .before .before .before .shared-slice-known .given j .fits in
+    let word = read .word-of .ensures
+    ∙ word-of-row (start .args .links .now) a (at-loop .loop .k) (row-bytes * a + row-bytes - row-bytes * a) (omega arith)
+    (omega (arith, start .pre .linked, start .pre .radio)) (omega arith) in
+    row-walking-turn _ _ _ _ bytes (at-loop .loop .k) _ (omega arith) (at-loop .loop .inv)
+    (read .word-of .result) word _ _ (walked .walk-word .ensures) (not-false _ (c .before .before .if2 .left)) (c .if3 .left)
+
+returns-4 : tie.Need-returns-4 Inv-loop μ-loop
+returns-4 c =
+    let at-loop = c .before .before in
+    let asked = at-loop .before .before in
+    let start = asked .before .before .before .before .before in
+    ends-right _ _ _ _ _ (start .pre .linked) (sym (asked .before .is-marked .ensures) ∙ asked .if1 .left) _ (at-loop .loop .inv .few)
+    (row-walking-end _ _ _ _ _ _ (c .before .loop-test .left) (at-loop .loop .inv))
 
 pub count-ends-spec : {M : Type 1} → statement M
 count-ends-spec =
     tie.close (
-    tie.spec Inv-loop μ-loop (λ c. search needs) (λ c. search needs) (λ c. search needs) loop-holds (λ c. search needs) (λ c. search needs) cast-b returns
-    cast-is-marked cast-is-marked-2 (λ c κs. search needs) returns-2 mul-p shared-slice-read-p (λ c. search needs) add-later (λ c κs. search needs)
-    shared-slice-read-high (λ c. search needs) add-high (λ c. search needs) (λ c. search needs) loop-again (λ c. search needs) returns-3)
+    tie.spec Inv-loop μ-loop (λ c κs. search needs) returns (λ c. search needs) (λ c. search needs) (λ c. search needs) (λ c. search needs) part-row-end
+    loop-holds (λ c. search needs) (λ c κs. search needs) walk-word-requires returns-2 (λ c. search needs) returns-3 (λ c. search needs)
+    (λ c. search needs) loop-again (λ c. search needs) returns-4)

@@ -1,8 +1,7 @@
 -- `soundness::sooner` meets its contract: an earlier place leaves the key, of a later one the smaller key counts.
-use mathlib.Core.Path.{_∙_}
 use native.Mathlib.Omega.{arith}
 use borrow.Author.Needs.{needs}
-use Rattle.soundness.proofs.RowChecks.{sooner-early, sooner-late}
+use Rattle.soundness.proofs.Tallies.{sooner-early, sooner-late}
 use Rattle.soundness.proofs.sooner.Statement.{statement}
 use Rattle.soundness.proofs.sooner.Tie as tie
 

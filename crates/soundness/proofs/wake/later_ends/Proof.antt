@@ -1,6 +1,4 @@
--- `wake::later_ends` meets its contract: the places are the order's, what is listed is the whole row, and its ends are counted.
-use mathlib.Core.Path.{refl}
-use lib.ListN.{replicate}
+-- `wake::later_ends` meets its contract: the places are the order's, and the ends of the row are counted.
 use borrow.Author.Needs.{needs}
 use Rattle.mesh.specs.Tables.{tables}
 use Rattle.soundness.proofs.WakeLaws.{ends-site, ends-placed, ends-room, ends-later}
@@ -15,24 +13,19 @@ place-requires c κs =
 
 count-ends-requires : tie.Need-count-ends-requires
 count-ends-requires c κs =
-    let listed = c .before .before .before in
-    let placing = listed .before .before .before in
+    let placing = c .before .before in
     let start = placing .before .before .before .before .before in
     let t = tables (start .args .links .now) (start .args .numbers .now) (start .args .order .now) in
-    ends-room (start .args .v) t (start .pre) (replicate 41 0) (listed .row-neighbours .last .1 .1 .0) (listed .row-neighbours .result) refl (listed .row-neighbours .ensures .0)
-    _ _ (placing .place .kept .1 .0) (listed .row-neighbours .kept .1 .1 .0)
+    ends-room (start .args .v) t (start .pre) _ (placing .place .kept .1 .0)
 
 returns : tie.Need-returns
 returns c =
-    let listed = c .before .before .before .before in
-    let placing = listed .before .before .before in
+    let placing = c .before .before .before in
     let start = placing .before .before .before .before .before in
     let t = tables (start .args .links .now) (start .args .numbers .now) (start .args .order .now) in
-    ends-later (start .args .v) t (start .pre) (replicate 41 0) _ (listed .row-neighbours .result) refl (listed .row-neighbours .ensures .0) (listed .row-neighbours .ensures .1)
-    _ (ends-placed (start .args .v) t (start .pre) _ _ _ (placing .place .ensures)) _ _ _ _ (c .count-ends .ensures)
+    ends-later (start .args .v) t (start .pre) _ (ends-placed (start .args .v) t (start .pre) _ _ _ (placing .place .ensures)) _ _ _ _ (c .count-ends .ensures)
 
 pub later-ends-spec : {M : Type 1} → statement M
 later-ends-spec =
     tie.close (
-    tie.spec (λ c. search needs) place-requires (λ c. search needs) (λ c κs. search needs) (λ c. search needs) (λ c. search needs) (λ c. search needs)
-    count-ends-requires returns)
+    tie.spec (λ c. search needs) place-requires (λ c. search needs) count-ends-requires returns)
