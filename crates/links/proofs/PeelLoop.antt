@@ -13,7 +13,8 @@ use Rattle.mesh.specs.Tables.{marked, put-bit, put-link}
 use Rattle.rows.specs.Rows.{neighbours-of, row-listed}
 use Rattle.rows.proofs.RowWords.{row-listed-whole}
 use Rattle.links.specs.Turns.{released, places-released, Releasable, Near-ready}
-use Rattle.links.specs.Peels.{level-start, level-size, linked-after, Turning, Peel-ready, Peel-done}
+use Rattle.walk_parts.specs.Places.{level-start, level-size}
+use Rattle.links.specs.Peels.{linked-after, Turning, Peel-ready, Peel-done}
 use Rattle.links.proofs.TurnLoops.{length-released}
 use Rattle.links.proofs.LevelLaws.{first-marked-least}
 use Rattle.links.proofs.PeelTurns.{turns-end, taken-below, taken-room, taken-releasable, turns-more}

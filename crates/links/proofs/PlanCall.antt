@@ -17,7 +17,8 @@ use Rattle.mesh.specs.Peel.{bound}
 use Rattle.mesh.proofs.Tables.Laws.{marked-replicate}
 use Rattle.links.specs.Plans.{Ready, Planned}
 use Rattle.links.specs.Turns.{ends-counted, places-fitting, Begin-ready}
-use Rattle.links.specs.Peels.{stretch, level-start, level-size, Peel-ready, Peel-done}
+use Rattle.walk_parts.specs.Places.{level-start, level-size}
+use Rattle.links.specs.Peels.{stretch, Peel-ready, Peel-done}
 use Rattle.links.proofs.PlanLevel.{a-below, b-below, number-is, order-radios, level-is, stretch-fits}
 use Rattle.links.proofs.PlanStart.{begin-ready, peel-ready}
 use Rattle.links.proofs.PlanEnd.{plan-end}

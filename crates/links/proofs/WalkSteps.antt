@@ -30,7 +30,8 @@ use Rattle.walks.proofs.Turns as turns
 use Rattle.walks.proofs.Front.{few-from-one}
 use Rattle.links.specs.Turns.{Lists-neighbours}
 use Rattle.links.specs.Peels.{stretch}
-use Rattle.links.specs.Walks.{is-left, stop-place, next-place, radios-of, joined, Walk-site, Walk-state, Walk-done}
+use Rattle.walk_parts.specs.Places.{stop-place, next-place}
+use Rattle.links.specs.Walks.{is-left, radios-of, joined, Walk-site, Walk-state, Walk-done}
 use Rattle.links.proofs.LevelLaws.{first-marked-least}
 use Rattle.links.proofs.WalkReleased.{marked-small}
 use Rattle.links.proofs.WalkTurns as turned

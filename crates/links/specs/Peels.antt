@@ -1,8 +1,6 @@
 -- The peel of a level, as its loop sees it: f tells neighbours after the call.
 --   stretch order start size   the entries of the level's stretch
 --   above order start size     the entries after it
---   level-start ns k           how many numbers are below k: where the stretch of level k starts
---   level-size ns k            how many numbers are k: how long that stretch is
 --   linked-after               neighbours after the call
 --   Level                      what the peel is made from: numbers, order and places that fit together, and neighbours after the call
 --   Turning                    so many radios are taken, what is left, the counters and the fitting places
@@ -21,18 +19,13 @@ use Rattle.mesh.specs.Graph.{linked, relinked}
 use Rattle.mesh.specs.Tables.{marked, put-link, graph-in}
 use Rattle.mesh.specs.Peel.{Takes, Peels}
 use Rattle.rows.specs.Rows.{neighbours-of}
+use Rattle.walk_parts.specs.Places.{level-start, level-size}
 
 abbrev pub stretch : (order : List ℕ) → (start size : ℕ) → List ℕ
 stretch os start size = take size (drop start os)
 
 abbrev pub above : (order : List ℕ) → (start size : ℕ) → List ℕ
 above os start size = drop (start + size) os
-
-abbrev pub level-start : (numbers : List ℕ) → (k : ℕ) → ℕ
-level-start ns k = count (λ x. ltb x k) ns
-
-abbrev pub level-size : (numbers : List ℕ) → (k : ℕ) → ℕ
-level-size ns k = count (λ x. eqb x k) ns
 
 abbrev pub linked-after : (up : Bool) → (a b n : ℕ) → (links : List ℕ) → (v w : ℕ) → Bool
 linked-after up a b n ts v w = linked (relinked up a b (graph-in n ts)) v w

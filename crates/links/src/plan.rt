@@ -16,6 +16,7 @@ use super::turn::Call;
 use link_parts::apply::Plan;
 use mesh::Site;
 use tables::fill;
+use walk_parts::stretch;
 
 // The call at the lower end's level K: the peel takes radios with at most K neighbours going up, K - 1 going down.
 fn call_at(up: bool, a: u32, b: u32, numbers: &[u8]) -> Call
@@ -135,7 +136,7 @@ pub(crate) fn plan_peel(
         (r .size) (r .taken) (now (stretch .exit)) ⌝ }
 {
     let call = call_at(up, a, b, numbers);
-    let at = super::stretch::stretch_of(numbers, call.level);
+    let at = stretch::stretch_of(numbers, call.level);
     let mut fits = [0u8; Site::ROW_BYTES];
     begin(call, at.start, at.size, numbers, order, highs, &mut fits);
     let mut row = [0u8; Site::ROW_BYTES];

@@ -12,19 +12,18 @@ ghost use Rattle.mesh.specs.Limits.{max-radios, max-neighbours, row-bytes};
 ghost use Rattle.lists.specs.Lists.{count, head-or};
 ghost use Rattle.mesh.specs.Tables.{marked};
 ghost use Rattle.rows.specs.Rows.{neighbours-of};
-ghost use Rattle.links.specs.Walks.{is-left, place-touched, places-touched, next-place, joined, beginning-end, stands-first, Known};
+ghost use Rattle.walk_parts.specs.Places.{next-place};
+ghost use Rattle.links.specs.Walks.{is-left, place-touched, places-touched, joined, Known};
 ghost use Rattle.links.specs.Walks.{Walk-site, Walk-state, Walk-done};
 use super::turn;
 use super::turn::Call;
 use link_parts::apply::Plan;
 use mesh::Site;
 use tables::fill;
+use walk_parts::places::STOP;
 
 // How a candidate is marked in the table of candidates.
 const CANDIDATE: u8 = 1;
-
-// Where no turn is: past every place, and past what `first_marked` gives where nothing is marked.
-const STOP: usize = Site::RADIOS as usize + 1;
 
 // A link going up at its lower end's level: radios with at most `most` neighbours left are taken.
 pub(crate) struct Rise {
@@ -211,25 +210,6 @@ fn pass(front: usize, until: usize, taken: usize, tail: &[u16], list: &mut [u16]
     fill::copy16(&mut list[taken..end], &tail[front..until]);
 }
 
-// Where the next turn is, `STOP` when the walk is at its end.
-fn next(first: usize, size: usize, front: usize, taken: usize, due: &[u8]) -> usize
-    requires { ⌜ (first + front ≤ max-radios) × (length (now due) ≡ row-bytes) ⌝ }
-    ensures { λ r. ⌜ r ≡ next-place first size front taken (now (due .entry)) ⌝ }
-{
-    if front <= taken {
-        return STOP;
-    }
-    let p = rows::first_marked(due, 0) as usize;
-    if p < first + front {
-        return p;
-    }
-    // tested before the front is looked at: where nothing is due, p is 512, and so may the end of the part be
-    if size <= front {
-        return STOP;
-    }
-    p
-}
-
 // One turn at place p: a candidate is taken back, the front is looked at, or what stands before the next place due is passed.
 fn step(
     rise: Rise,
@@ -343,7 +323,7 @@ pub(crate) fn walk(
         list,
     );
     let mut front: usize = 1;
-    let mut p = next(first, size, front, taken, &due);
+    let mut p = walk_parts::places::next(first, size, front, taken, &due);
     while p < STOP {
         let now = step(
             rise,
@@ -363,7 +343,7 @@ pub(crate) fn walk(
         );
         front = now.front;
         taken = now.taken;
-        p = next(first, size, front, taken, &due);
+        p = walk_parts::places::next(first, size, front, taken, &due);
     }
     super::stretch::list_stuck(0, front, rise.most, taken, tail, &counters, list);
     Plan {
@@ -371,23 +351,6 @@ pub(crate) fn walk(
         size: front,
         taken,
     }
-}
-
-// The beginning end: the lower end, with equal numbers the earlier.
-pub(crate) fn beginning(a: usize, b: usize, numbers: &[u8], places: &[u16]) -> usize
-    requires { ⌜ (a < length (now numbers)) × (b < length (now numbers)) × (a < length (now places)) × (b < length (now places)) ⌝ }
-    ensures { λ r. ⌜ r ≡ beginning-end a b (now (numbers .entry)) (now (places .entry)) ⌝ }
-{
-    if numbers[a] < numbers[b] {
-        return a;
-    }
-    if numbers[b] < numbers[a] {
-        return b;
-    }
-    if places[a] < places[b] {
-        return a;
-    }
-    b
 }
 
 // Whether the beginning end, which stands at place `first`, has at most `most` later neighbours with the link: then nothing moves or rises.
@@ -417,17 +380,4 @@ pub(crate) fn settled(
         &mut near,
     ) as usize;
     count_left(&near, k, rise.most, first as u16, numbers, places, &held) <= rise.most
-}
-
-// Whether the radio at place `first` stands first in its level.
-pub(crate) fn leads(first: usize, level: u8, numbers: &[u8], order: &[u16]) -> bool
-    requires { ⌜ (first ≤ length (now order)) × (first ≤ max-radios) ×
-        ((p : ℕ) → p < length (now order) → getD (now order) p 0 < length (now numbers)) ⌝ }
-    ensures { λ r. ⌜ r ≡ stands-first first level (now (numbers .entry)) (now (order .entry)) ⌝ }
-{
-    if first == 0 {
-        return true;
-    }
-    let v = order[first - 1] as usize;
-    numbers[v] < level
 }

@@ -3,7 +3,7 @@
 use Prim.Native.Nat.{_-_}
 use native.Mathlib.Omega.{arith}
 use borrow.Author.Needs.{needs}
-use Rattle.links.specs.Peels.{level-size}
+use Rattle.walk_parts.specs.Places.{level-size}
 use Rattle.links.proofs.PeelLoop.{Peel-from, peel-none, peel-below, peel-room, peel-write, peel-near, peel-releasable, peel-turn, peel-end}
 use Rattle.links.proofs.plan.peel.Statement.{statement}
 use Rattle.links.proofs.plan.peel.Tie as tie

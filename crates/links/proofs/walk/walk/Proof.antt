@@ -20,11 +20,6 @@ look-requires : tie.Need-look-requires Inv-loop μ-loop
 look-requires c κs =
     let start = c .before .before .before .before .before .before .before .before .before in (start .pre .0, start-state (start .pre .0) _ (start .pre .1), start-free (start .pre .0))
 
-next-requires : tie.Need-next-requires Inv-loop μ-loop
-next-requires c κs =
-    let made = c .before .before .before .before .before .before in
-    let start = made .before .before .before .before .before .before .before .before .before .before in (front-fits (start .pre .0) (made .look .ensures .0) .1, made .look .ensures .0 .due-long)
-
 loop-holds : tie.Need-loop-holds Inv-loop μ-loop
 loop-holds c =
     let made = c .before .before .before .before .before .before .before in
@@ -42,11 +37,6 @@ step-requires : tie.Need-step-requires Inv-loop μ-loop
 step-requires c κs =
     let at-loop = c .before .before .before .before .before in
     let start = at-loop .before .before .before .before .before .before .before .before .before .before .before .before .before .before .before .before .before .before in (start .pre .0, at-loop .loop .inv .state, (at-loop .loop .inv .next, omega (arith, c .before .before .before .before .loop-test .taken)))
-
-next-requires-2 : tie.Need-next-requires-2 Inv-loop μ-loop
-next-requires-2 c κs =
-    let made = c .before .before .before .before .before .before in
-    let start = made .before .before .before .before .before .before .before .before .before .before .before .before .before .before .before .before .before .before .before .before .before .before .before .before in (front-fits (start .pre .0) (made .step .ensures .0) .1, made .step .ensures .0 .due-long)
 
 loop-less : tie.Need-loop-less Inv-loop μ-loop
 loop-less c =
@@ -87,5 +77,5 @@ returns c =
 pub walk-spec : {M : Type 1} → statement M
 walk-spec =
     tie.close (
-    tie.spec Inv-loop μ-loop (λ c. search needs) (λ c. search needs) (λ c. search needs) look-requires (λ c. search needs) next-requires loop-holds (λ c. search needs) (λ c. search needs) (λ c. search needs) step-requires (λ c. search needs) next-requires-2 loop-less loop-again (λ c. search needs)
+    tie.spec Inv-loop μ-loop (λ c. search needs) (λ c. search needs) (λ c. search needs) look-requires (λ c κs. search needs) loop-holds (λ c. search needs) (λ c. search needs) (λ c. search needs) step-requires (λ c κs. search needs) loop-less loop-again (λ c. search needs)
     list-stuck-requires same-length returns)
