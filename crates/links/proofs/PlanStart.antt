@@ -279,16 +279,15 @@ module _ {u : Bool} {a b : ℕ} {ts ns os ps cs : List ℕ} (r : Ready u (length
             marks (getD ps v 0) (omega (arith, s .high, stretch-fits r k, r .small))
             ∙ rw (s .entry, in-member (getD ps v 0) (range start size) (in-range start size (getD ps v 0) (s .low) (s .high)), in-member v (stretch os start size) i)
 
-    pub peel-ready : (row-room near-room list-room : ℕ) → row-room ≡ row-bytes → near-room ≡ max-neighbours → n ≤ list-room
-        → Peel-ready u a b k m ts ns os ps cs1 fs1 row-room near-room list-room
-    peel-ready rows nears lists er en el = record {
+    pub peel-ready : (near-room list-room : ℕ) → near-room ≡ max-neighbours → n ≤ list-room
+        → Peel-ready u a b k m ts ns os ps cs1 fs1 near-room list-room
+    peel-ready nears lists en el = record {
       level = is-level r k ek;
       differ = r .allowed .differ;
       ends = (a-below r, b-below r);
       links-length = r .links-length;
       row-is = row-is r k;
       few = λ v l. omega (arith, row-few r k v l);
-      row-long = er;
       list-long = omega (arith, stretch-fits r k);
       turning = begin-turning;
     }

@@ -57,7 +57,7 @@ pub record Turning (f : ℕ → ℕ → Bool) (most : ℕ) (order places : List 
   pub counters-long : length order ≤ length counters
   pub fits-long : length fits ≡ row-bytes
 
-pub record Peel-ready (up : Bool) (a b k most : ℕ) (links numbers order places counters fits : List ℕ) (row-room near-room list-room : ℕ) : Type 0 where
+pub record Peel-ready (up : Bool) (a b k most : ℕ) (links numbers order places counters fits : List ℕ) (near-room list-room : ℕ) : Type 0 where
   pub level : Level (linked-after up a b (length order) links) numbers order places k (level-start numbers k) (level-size numbers k)
   pub differ : a ≡ b → ⊥
   pub ends : (a < length order) × (b < length order)
@@ -65,7 +65,6 @@ pub record Peel-ready (up : Bool) (a b k most : ℕ) (links numbers order places
   pub row-is :
       (v w : ℕ) → v < length order → w < max-radios → marked (put-link up a b links) v w ≡ linked-after up a b (length order) links v w
   pub few : (v : ℕ) → v < length order → length (neighbours-of (put-link up a b links) v) ≤ min near-room (suc max-neighbours)
-  pub row-long : row-room ≡ row-bytes
   pub list-long : level-size numbers k ≤ list-room
   pub turning :
       Turning (linked-after up a b (length order) links) most order places (level-start numbers k) (level-size numbers k) [] counters fits

@@ -125,20 +125,11 @@ fn look(
         (front + 1) r (now (held .exit)) (now (counters .exit)) (now (due .exit)) (now (list .exit)) ⌝ }
     ensures kept { λ r. ⌜ taken ≤ r ⌝ }
 {
-    let mut row = [0u8; Site::ROW_BYTES];
     let mut near = [0u16; Site::NEIGHBOURS as usize];
     let v = tail[front];
     let p = first + front;
     rows::put_bit(due, false, 0, p as u32);
-    let k = turn::neighbours_after(
-        true,
-        rise.a,
-        rise.b,
-        v as u32,
-        links,
-        &mut row,
-        &mut near,
-    ) as usize;
+    let k = turn::neighbours_after(true, rise.a, rise.b, v as u32, links, &mut near) as usize;
     let c = count_left(&near, k, rise.most, p as u16, numbers, places, held);
     if rise.most < c {
         held[v as usize] = CANDIDATE;
@@ -175,7 +166,6 @@ fn back(
     ensures { λ _. ⌜ Walk-state (rise .a) (rise .b) (rise .most) first size (now (links .entry)) (now (tail .entry)) (now (places .entry))
         front (taken + 1) (now (held .exit)) (now (counters .exit)) (now (due .exit)) (now (list .exit)) ⌝ }
 {
-    let mut row = [0u8; Site::ROW_BYTES];
     let mut near = [0u16; Site::NEIGHBOURS as usize];
     let v = tail[p - first];
     held[v as usize] = 0;
@@ -196,7 +186,6 @@ fn back(
         places,
         counters,
         due,
-        &mut row,
         &mut near,
     );
 }
@@ -366,18 +355,9 @@ pub(crate) fn settled(
     ensures { λ r. ⌜ r ≡ leb (count (joined (rise .a) (rise .b) first (now (links .entry)) (now (tail .entry)) (getD (now (tail .entry)) 0 0))
         (drop 1 (now (tail .entry)))) (rise .most) ⌝ }
 {
-    let mut row = [0u8; Site::ROW_BYTES];
     let mut near = [0u16; Site::NEIGHBOURS as usize];
     let held = [0u8; Site::RADIOS as usize];
     let v = tail[0];
-    let k = turn::neighbours_after(
-        true,
-        rise.a,
-        rise.b,
-        v as u32,
-        links,
-        &mut row,
-        &mut near,
-    ) as usize;
+    let k = turn::neighbours_after(true, rise.a, rise.b, v as u32, links, &mut near) as usize;
     count_left(&near, k, rise.most, first as u16, numbers, places, &held) <= rise.most
 }
