@@ -8,6 +8,7 @@ ghost use Rattle.links.specs.Plans.{Ready, Planned};
 ghost use Rattle.links.specs.Walks.{Begins};
 use super::plan;
 use super::walk;
+use super::walk::Part;
 use super::walk::Rise;
 use link_parts::apply::Plan;
 use walk_parts::ends;
@@ -64,7 +65,8 @@ fn plan_on(
         );
     }
     let size = at.start + at.size - first;
-    walk::walk(rise, first, size, links, numbers, tail, places, stretch)
+    let part = Part { first, size };
+    walk::walk(rise, part, links, numbers, tail, places, stretch)
 }
 
 // Plans the link a-b going up. Where the beginning end has fewer than K neighbours that are not lower, nothing moves and nothing rises.
