@@ -1,17 +1,19 @@
 -- The neighbours of a radio after a link went up or down: by the row's own bits where the radio is no end of the link, else by
 -- a copy of the row with one bit put.
 use mathlib.Core.Path.{_≡_, refl, sym, ap, _∙_}
-use mathlib.Core.Bool.{Bool, _&&_, cond}
+use mathlib.Core.Logic.{_⊎_, inl, inr}
+use mathlib.Core.Bool.{Bool, true, false, _&&_, cond}
 use mathlib.Core.List.{List}
 use Prim.Native.Nat.{ℕ, suc, _+_, _*_, _-_, _/_, _≤_, _<_, min}
 use native.Mathlib.Omega.{arith}
 use lib.Dec.{eqb}
 use lib.ListN.{length, getD, take, drop, length-drop}
 use lib.Seq.{take-all, getD-take, getD-drop, length-take-le}
-use borrow.Author.Tests.{eq-eqb, ne-eqb}
+use borrow.Author.Tests.{eqb-true, eqb-false, eq-eqb, ne-eqb}
 use Rattle.mesh.specs.Limits.{max-radios, max-neighbours, row-bytes}
 use Rattle.lists.specs.Lists.{range, overwrite}
 use Rattle.mesh.specs.Tables.{byte-at, marked, put-bit, put-link}
+use Rattle.lists.proofs.Tests.{bool-cases}
 use Rattle.lists.proofs.Range.{range-in}
 use Rattle.lists.proofs.Filter.{filter-ext}
 use Rattle.lists.proofs.Overwrite.{overwrite-all}
@@ -19,7 +21,7 @@ use Rattle.mesh.proofs.Tables.Laws.{length-put-bit, marked-put-bit}
 use Rattle.rows.specs.Rows.{neighbours-of, row-listed, row-count}
 use Rattle.rows.proofs.RowListLaws.{row-listed-fits}
 use Rattle.rows.proofs.RowWords.{row-listed-whole}
-use Rattle.links.specs.Turns.{released, places-released, Releasable, Near-ready, Lists-neighbours}
+use Rattle.links.specs.Turns.{released, places-released, Releasable, other-end, Near-ready, Lists-neighbours}
 
 -- rows that mark alike list alike
 pub neighbours-of-ext : (ts us : List ℕ) (v w : ℕ) → ((x : ℕ) → x < max-radios → marked ts v x ≡ marked us w x) → neighbours-of ts v ≡ neighbours-of us w
@@ -119,37 +121,74 @@ module _ (u : Bool) (a b : ℕ) (ts : List ℕ) (ne : a ≡ b → ⊥) (la : a <
 
 -- ---- the cases of the code
 
-module _ (u : Bool) (a b v : ℕ) (ts : List ℕ) (j : ℕ) where
-  pub end-ready-a : (k : ℕ) → v ≡ a → Near-ready u a b v ts j k
-      → (row-bytes * v + row-bytes ≤ length ts) × (j ≡ row-bytes) × (b < max-radios) × (length (neighbours-of (put-bit u v b ts) v) ≤ min k (suc max-neighbours))
+module _ (u : Bool) (a b v : ℕ) (ts : List ℕ) where
+  -- what `end_neighbours` asks of the row of v with bit w put
+  abbrev End-ready : (w k : ℕ) → Type 0
+  End-ready w k =
+      (row-bytes * v + row-bytes ≤ length ts) × (w < max-radios) × (length (neighbours-of (put-bit u v w ts) v) ≤ min k (suc max-neighbours))
+
+  end-ready-a : (k : ℕ) → v ≡ a → Near-ready u a b v ts k → End-ready b k
   end-ready-a k e h = (
     h .row,
-    h .row-long,
     h .radios .1,
     rw e (omega (arith, ap length (neighbours-of-a u a b ts (h .differ) (h .radios .0) (h .radios .1) (h .rows .0) (h .rows .1)), rw e at (h .near-long))),
   )
 
-  pub end-ready-b : (k : ℕ) → v ≡ b → Near-ready u a b v ts j k
-      → (row-bytes * v + row-bytes ≤ length ts) × (j ≡ row-bytes) × (a < max-radios) × (length (neighbours-of (put-bit u v a ts) v) ≤ min k (suc max-neighbours))
+  end-ready-b : (k : ℕ) → v ≡ b → Near-ready u a b v ts k → End-ready a k
   end-ready-b k e h = (
     h .row,
-    h .row-long,
     h .radios .0,
     rw e (omega (arith, ap length (neighbours-of-b u a b ts (h .differ) (h .radios .0) (h .radios .1) (h .rows .0) (h .rows .1)), rw e at (h .near-long))),
   )
 
   module _ (r : ℕ) {k : ℕ} (new : List ℕ) where
-    pub lists-a : v ≡ a → Near-ready u a b v ts j k → Lists-neighbours (put-bit u v b ts) v r new → Lists-neighbours (put-link u a b ts) v r new
+    lists-a : v ≡ a → Near-ready u a b v ts k → Lists-neighbours (put-bit u v b ts) v r new → Lists-neighbours (put-link u a b ts) v r new
     lists-a e h =
         rw e (lists-same r new (neighbours-of-a u a b ts (h .differ) (h .radios .0) (h .radios .1) (h .rows .0) (h .rows .1)))
 
-    pub lists-b : v ≡ b → Near-ready u a b v ts j k → Lists-neighbours (put-bit u v a ts) v r new → Lists-neighbours (put-link u a b ts) v r new
+    lists-b : v ≡ b → Near-ready u a b v ts k → Lists-neighbours (put-bit u v a ts) v r new → Lists-neighbours (put-link u a b ts) v r new
     lists-b e h =
         rw e (lists-same r new (neighbours-of-b u a b ts (h .differ) (h .radios .0) (h .radios .1) (h .rows .0) (h .rows .1)))
 
-  pub lists-other : (r : ℕ) (old new : List ℕ) → (v ≡ a → ⊥) → (v ≡ b → ⊥) → Near-ready u a b v ts j (length old)
-      → r ≡ min (length old) (row-count max-neighbours ts v)
-      → new ≡ overwrite (take (min (length old) (suc max-neighbours)) (row-listed ts v)) old → Lists-neighbours (put-link u a b ts) v r new
-  lists-other r old new na nb h e f =
-      let same = neighbours-of-other u a b ts (h .differ) (h .radios .0) (h .radios .1) (h .rows .0) (h .rows .1) v na nb in
-      lists-same r new same (lists-row ts v r old new (h .row) (omega (arith, ap length same, h .near-long)) e f)
+  -- w is the other end, or v itself
+  module _ (w : ℕ) (is : w ≡ other-end a b v) where
+    which : ((v ≡ a) × (w ≡ b)) ⊎ (((v ≡ b) × (w ≡ a)) ⊎ ((v ≡ a → ⊥) × (v ≡ b → ⊥) × (w ≡ v)))
+    unfolding other-end
+    which = go (bool-cases (eqb v a)) (bool-cases (eqb v b)) is
+      where
+        go : (eqb v a ≡ true) ⊎ (eqb v a ≡ false) → (eqb v b ≡ true) ⊎ (eqb v b ≡ false) → w ≡ cond (eqb v a) b (cond (eqb v b) a v)
+            → ((v ≡ a) × (w ≡ b)) ⊎ (((v ≡ b) × (w ≡ a)) ⊎ ((v ≡ a → ⊥) × (v ≡ b → ⊥) × (w ≡ v)))
+        go (inl e) f q = inl (eqb-true v a e, rw e at q)
+        go (inr e) (inl f) q = inr (inl (eqb-true v b f, rw (e, f) at q))
+        go (inr e) (inr f) q = inr (inr (eqb-false v a e, eqb-false v b f, rw (e, f) at q))
+
+    pub end-ready : (k : ℕ) → (w ≡ v → ⊥) → Near-ready u a b v ts k → End-ready w k
+    end-ready k ne h = go which
+      where
+        go : ((v ≡ a) × (w ≡ b)) ⊎ (((v ≡ b) × (w ≡ a)) ⊎ ((v ≡ a → ⊥) × (v ≡ b → ⊥) × (w ≡ v))) → End-ready w k
+        go (inl q) = rw (q .1) (end-ready-a k (q .0) h)
+        go (inr (inl q)) = rw (q .1) (end-ready-b k (q .0) h)
+        go (inr (inr q)) = absurd (ne (q .2))
+
+    pub lists-end : (r : ℕ) {k : ℕ} (new : List ℕ) → (w ≡ v → ⊥) → Near-ready u a b v ts k → Lists-neighbours (put-bit u v w ts) v r new
+        → Lists-neighbours (put-link u a b ts) v r new
+    lists-end r new ne h l = go which
+      where
+        go : ((v ≡ a) × (w ≡ b)) ⊎ (((v ≡ b) × (w ≡ a)) ⊎ ((v ≡ a → ⊥) × (v ≡ b → ⊥) × (w ≡ v))) → Lists-neighbours (put-link u a b ts) v r new
+        go (inl q) = lists-a r new (q .0) h (rw (q .1) at l)
+        go (inr (inl q)) = lists-b r new (q .0) h (rw (q .1) at l)
+        go (inr (inr q)) = absurd (ne (q .2))
+
+    pub lists-other : (r : ℕ) (old new : List ℕ) → w ≡ v → Near-ready u a b v ts (length old) → r ≡ min (length old) (row-count max-neighbours ts v)
+        → new ≡ overwrite (take (min (length old) (suc max-neighbours)) (row-listed ts v)) old → Lists-neighbours (put-link u a b ts) v r new
+    lists-other r old new e h counted listed = go which
+      where
+        no-end : (v ≡ a → ⊥) → (v ≡ b → ⊥) → Lists-neighbours (put-link u a b ts) v r new
+        no-end na nb =
+            let same = neighbours-of-other u a b ts (h .differ) (h .radios .0) (h .radios .1) (h .rows .0) (h .rows .1) v na nb in
+            lists-same r new same (lists-row ts v r old new (h .row) (omega (arith, ap length same, h .near-long)) counted listed)
+
+        go : ((v ≡ a) × (w ≡ b)) ⊎ (((v ≡ b) × (w ≡ a)) ⊎ ((v ≡ a → ⊥) × (v ≡ b → ⊥) × (w ≡ v))) → Lists-neighbours (put-link u a b ts) v r new
+        go (inl q) = absurd (h .differ (sym (q .0) ∙ sym e ∙ q .1))
+        go (inr (inl q)) = absurd (h .differ (sym (q .1) ∙ e ∙ q .0))
+        go (inr (inr q)) = no-end (q .0) (q .1)

@@ -17,7 +17,8 @@ use Rattle.mesh.specs.Peel.{bound}
 use Rattle.mesh.proofs.Tables.Laws.{marked-replicate}
 use Rattle.links.specs.Plans.{Ready, Planned}
 use Rattle.links.specs.Turns.{ends-counted, places-fitting, Begin-ready}
-use Rattle.links.specs.Peels.{stretch, level-start, level-size, Peel-ready, Peel-done}
+use Rattle.walk_parts.specs.Places.{level-start, level-size}
+use Rattle.links.specs.Peels.{stretch, Peel-ready, Peel-done}
 use Rattle.links.proofs.PlanLevel.{a-below, b-below, number-is, order-radios, level-is, stretch-fits}
 use Rattle.links.proofs.PlanStart.{begin-ready, peel-ready}
 use Rattle.links.proofs.PlanEnd.{plan-end}
@@ -49,12 +50,12 @@ module _ {u : Bool} {a b : ℕ} {ts ns os ps cs : List ℕ} (r : Ready u (length
 
     pub plan-peel : (cs1 fs1 : List ℕ) (room : ℕ) → (cs1 ≡ ends-counted w x y k ns cs)
         × (fs1 ≡ places-fitting os (ends-counted w x y k ns cs) m (range from many) (replicate row-bytes 0)) → length os ≤ room
-        → Peel-ready w x y k m ts ns os ps cs1 fs1 row-bytes max-neighbours room
+        → Peel-ready w x y k m ts ns os ps cs1 fs1 max-neighbours room
     unfolding byte-at
     plan-peel cs1 fs1 room e l =
         rw (e .0, e .1, call .0, call .1, call .2, at .0, at .1)
         (peel-ready r k (call .3) m (replicate row-bytes 0) (length-replicate {A = ℕ} row-bytes 0) (λ q lq. marked-replicate row-bytes 0 q (omega arith))
-        row-bytes max-neighbours room refl refl l)
+        max-neighbours room refl l)
 
     pub plan-stuck : (taken : ℕ) (cs2 list1 : List ℕ) → length cs2 ≡ length cs → Peel-done w x y k m ts ns os taken cs2 list1
         → (from + many ≤ length os) × (from + many ≤ max-radios) × (taken ≤ max-radios) × ((p : ℕ) → p < length os → getD os p 0 < length cs2)

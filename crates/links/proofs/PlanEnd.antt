@@ -21,7 +21,8 @@ use Rattle.mesh.specs.Peel.{bound, Peels}
 use Rattle.mesh.proofs.Links.Peel.{Peeling, takes-permutation, takes-taken-in, takes-now-in}
 use Rattle.links.specs.Plans.{Ready, Planned}
 use Rattle.link_parts.specs.Changes.{changed-part}
-use Rattle.links.specs.Peels.{stretch, above, level-start, level-size, Peel-done}
+use Rattle.walk_parts.specs.Places.{level-start, level-size}
+use Rattle.links.specs.Peels.{stretch, above, Peel-done}
 use Rattle.links.proofs.StretchLoops.{length-stretch}
 use Rattle.links.proofs.PlanLevel.{is-valid, start-is, size-is, stretch-is, above-is, stretch-fits, stretch-number}
 use Rattle.mesh.proofs.Links.Call as link-call

@@ -35,7 +35,8 @@ use Rattle.mesh.proofs.Tables.Soundness.{Right, sound-right}
 use Rattle.rows.specs.Rows.{neighbours-of}
 use Rattle.rows.proofs.RowListLaws.{length-neighbours-of}
 use Rattle.links.specs.Plans.{Ready}
-use Rattle.links.specs.Peels.{stretch, above, level-start, level-size, linked-after, Level}
+use Rattle.walk_parts.specs.Places.{level-start, level-size}
+use Rattle.links.specs.Peels.{stretch, above, linked-after, Level}
 use Rattle.links.proofs.StretchLoops.{length-stretch, getD-stretch}
 use Rattle.lists.proofs.Member.{in-getD, getD-of-in}
 use Rattle.lists.proofs.Count.{count-map}

@@ -27,7 +27,8 @@ use Rattle.mesh.specs.Peel.{none}
 use Rattle.mesh.proofs.Tables.Relinked.{linked-relinked}
 use Rattle.links.specs.Plans.{Ready}
 use Rattle.links.specs.Turns.{end-counted, ends-counted, places-fitting, Begin-ready}
-use Rattle.links.specs.Peels.{stretch, level-start, level-size, linked-after, Turning, Peel-ready}
+use Rattle.walk_parts.specs.Places.{level-start, level-size}
+use Rattle.links.specs.Peels.{stretch, linked-after, Turning, Peel-ready}
 use Rattle.links.proofs.TurnLoops.{length-end-counted, length-places-fitting}
 use Rattle.links.proofs.BeginLaws.{getD-end-other, getD-end-same, marked-fitting}
 use Rattle.links.proofs.LevelLaws.{stretch-stands}
@@ -141,13 +142,13 @@ module _ {u : Bool} {a b : ℕ} {ts ns os ps cs : List ℕ} (r : Ready u (length
   abbrev cs1 : List ℕ
   cs1 = ends-counted u a b k ns cs
 
-  counter-a : num a ≡ k → getD cs1 a 0 ≡ cond u (getD cs a 0 + 1) (getD cs a 0 - 1)
+  pub counter-a : num a ≡ k → getD cs1 a 0 ≡ cond u (getD cs a 0 + 1) (getD cs a 0 - 1)
   unfolding ends-counted
   counter-a e =
       getD-end-other u k ns b (end-counted u k ns a cs) a (r .allowed .differ)
       ∙ getD-end-same u k ns a cs (omega (arith, a-below r, r .highs-length)) (number-is r a (a-below r) ∙ e)
 
-  counter-b : num b ≡ k → getD cs1 b 0 ≡ cond u (getD cs b 0 + 1) (getD cs b 0 - 1)
+  pub counter-b : num b ≡ k → getD cs1 b 0 ≡ cond u (getD cs b 0 + 1) (getD cs b 0 - 1)
   unfolding ends-counted
   counter-b e =
       let kept = getD-end-other u k ns a cs b (λ q. r .allowed .differ (sym q)) in
@@ -180,7 +181,7 @@ module _ {u : Bool} {a b : ℕ} {ts ns os ps cs : List ℕ} (r : Ready u (length
       go (inl e) = absurd (no (ends-of a b b x e))
       go (inr e) = e
 
-  counted-level : (v : ℕ) → v < n → num v ≡ k → getD cs1 v 0 ≡ count (linked after v) zs
+  pub counted-level : (v : ℕ) → v < n → num v ≡ k → getD cs1 v 0 ≡ count (linked after v) zs
   counted-level v l e = go (bool-cases (eqb v a)) (bool-cases (eqb v b))
     where
       at-a : num a ≡ k → getD cs1 a 0 ≡ count (linked after a) zs
@@ -278,16 +279,15 @@ module _ {u : Bool} {a b : ℕ} {ts ns os ps cs : List ℕ} (r : Ready u (length
             marks (getD ps v 0) (omega (arith, s .high, stretch-fits r k, r .small))
             ∙ rw (s .entry, in-member (getD ps v 0) (range start size) (in-range start size (getD ps v 0) (s .low) (s .high)), in-member v (stretch os start size) i)
 
-    pub peel-ready : (row-room near-room list-room : ℕ) → row-room ≡ row-bytes → near-room ≡ max-neighbours → n ≤ list-room
-        → Peel-ready u a b k m ts ns os ps cs1 fs1 row-room near-room list-room
-    peel-ready rows nears lists er en el = record {
+    pub peel-ready : (near-room list-room : ℕ) → near-room ≡ max-neighbours → n ≤ list-room
+        → Peel-ready u a b k m ts ns os ps cs1 fs1 near-room list-room
+    peel-ready nears lists en el = record {
       level = is-level r k ek;
       differ = r .allowed .differ;
       ends = (a-below r, b-below r);
       links-length = r .links-length;
       row-is = row-is r k;
       few = λ v l. omega (arith, row-few r k v l);
-      row-long = er;
       list-long = omega (arith, stretch-fits r k);
       turning = begin-turning;
     }

@@ -12,18 +12,16 @@ use lib.Dec.{eqb}
 use lib.ListN.{length, getD, take, drop}
 use lib.Seq.{length-take-le, getD-take, take-take, paste}
 use borrow.Rule.Slice.PartMut.{midOf, putMid, mid-len}
-use borrow.Author.Tests.{eqb-true, eq-eqb, ne-eqb, lt-ltb, le-ltb, le-leb, lt-leb}
+use borrow.Author.Tests.{eqb-true, eq-eqb, ne-eqb, lt-ltb, le-ltb}
 use Rattle.mesh.specs.Limits.{max-radios, max-neighbours, row-bytes}
-use Rattle.lists.specs.Lists.{count, folded, head-or, overwrite, In}
+use Rattle.lists.specs.Lists.{count, folded, overwrite, In}
 use Rattle.mesh.specs.Tables.{marked, put-bit}
 use Rattle.lists.proofs.Tests.{bool-cases, bit-one, byte-bit}
 use Rattle.lists.proofs.Member.{in-getD}
 use Rattle.lists.proofs.Loops.{Counted-from, counted-turn, counted-end, length-folded}
 use Rattle.mesh.proofs.Tables.Laws.{length-put-bit}
-use Rattle.rows.specs.Rows.{neighbours-of, row-listed}
-use Rattle.rows.proofs.RowWords.{row-listed-whole}
 use Rattle.link_parts.proofs.ChangeLaws.{put-part}
-use Rattle.links.specs.Walks.{is-later, place-touched, places-touched, stop-place, next-place, Known}
+use Rattle.links.specs.Walks.{is-later, place-touched, places-touched, Known}
 use Rattle.links.proofs.TurnLaws.{marked-put}
 
 -- ---- listed radios
@@ -48,30 +46,6 @@ left-end f near k n i room e h = counted-end f (take k near) n i (e ∙ sym (len
 -- a byte is enough
 pub left-fits : (n i : ℕ) (t : Bool) → n ≤ i → i < max-neighbours → Fits w8 (n + boolByte t)
 left-fits n i t h l = record { fits = omega (arith, byte-bit t, bit-one t) }
-
--- ---- where the next turn is
-
-module _ (first size front taken : ℕ) (ds : List ℕ) where
-  pub next-none : front ≤ taken → stop-place ≡ next-place first size front taken ds
-  unfolding next-place
-  next-none l = rw (le-leb front taken l)
-
-  -- what `first_marked` says of a whole row
-  module _ (p : ℕ) (some : taken < front) (long : length ds ≡ row-bytes) (e : p ≡ head-or max-radios (row-listed ds 0)) where
-    whole : p ≡ head-or max-radios (neighbours-of ds 0)
-    whole = e ∙ ap (head-or max-radios) (row-listed-whole ds 0 (omega arith))
-
-    pub next-before : p < first + front → p ≡ next-place first size front taken ds
-    unfolding next-place
-    next-before l = rw (lt-leb front taken some, ← whole, lt-ltb p (first + front) l)
-
-    pub next-end : first + front ≤ p → size ≤ front → stop-place ≡ next-place first size front taken ds
-    unfolding next-place
-    next-end l h = rw (lt-leb front taken some, ← whole, le-ltb p (first + front) l, le-leb size front h)
-
-    pub next-on : first + front ≤ p → front < size → p ≡ next-place first size front taken ds
-    unfolding next-place
-    next-on l h = rw (lt-leb front taken some, ← whole, le-ltb p (first + front) l, lt-leb size front h)
 
 -- ---- passing
 

@@ -93,8 +93,8 @@ module _ {a b k first size : ℕ} {ts ns tail ps : List ℕ} (s : Walk-site a b 
       back-fits =
           omega (arith, turned.back-room s st p (fallen .0) (fallen .1) y y-is, st .walking .room, turned.part-length s, s .fits, s .small)
 
-      pub back-takes : Near-ready true a b y ts row-bytes max-neighbours × Releasable (set hs y 0) ps 1 (neighbours-of us y) cs
-      back-takes = (turned.near-ready s y back-below row-bytes max-neighbours refl refl, turned.back-releasable s st p (fallen .0) (fallen .1) y y-is)
+      pub back-takes : Near-ready true a b y ts max-neighbours × Releasable (set hs y 0) ps 1 (neighbours-of us y) cs
+      back-takes = (turned.near-ready s y back-below max-neighbours refl, turned.back-releasable s st p (fallen .0) (fallen .1) y y-is)
 
       pub back-made : (cs1 ds1 : List ℕ) → cs1 ≡ released (set hs y 0) 1 (neighbours-of us y) cs
           → ds1 ≡ places-released (set hs y 0) ps 1 k (neighbours-of us y) cs (put-bit false 0 p ds)

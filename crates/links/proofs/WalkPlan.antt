@@ -2,7 +2,8 @@
 --   Chosen         the beginning end: it is of the lower level, and the other end does not stand before it
 --   site           what the walk is made from
 --   walked-plan    the plan of a walk
---   settled-plan   the plan of the quick path
+--   settled-plan   the plan of the quick path, as a row tells it
+--   short-plan     the same, as the not-lower count tells it
 use mathlib.Core.Path.{_≡_, refl, sym, ap, subst, _∙_}
 use mathlib.Core.Logic.{_⊎_, inl, inr}
 use mathlib.Core.Bool.{Bool, true, false, cond}
@@ -32,8 +33,11 @@ use Rattle.walks.specs.Walk.{Few-front}
 use Rattle.walks.proofs.Beginning as beginning
 use Rattle.link_parts.specs.Changes.{changed-part}
 use Rattle.links.specs.Plans.{Ready, Planned}
-use Rattle.links.specs.Peels.{level-start, level-size, linked-after, Level}
-use Rattle.links.specs.Walks.{radios-of, joined, beginning-end, Walk-site, Walk-done}
+use Rattle.walk_parts.specs.Places.{level-start, level-size, beginning-end}
+use Rattle.links.specs.Peels.{linked-after, Level}
+use Rattle.links.specs.Walks.{radios-of, joined, Walk-site, Walk-done}
+use Rattle.links.specs.Turns.{ends-counted}
+use Rattle.links.proofs.PlanStart.{counter-a, counter-b, counted-level}
 use Rattle.links.proofs.PlanLevel.{a-below, b-below, is-valid, is-once, number-is, order-radios, level-is, above-is, stretch-fits, is-level, row-is, row-few}
 
 -- ---- the beginning end
@@ -128,10 +132,6 @@ module _ {a b : ℕ} {ts ns os ps cs : List ℕ} (r : Ready true (length os) a b
 
   inside : first < n
   inside = omega (arith, place .1, stretch-fits r k)
-
-  -- what `leads` asks
-  pub leads-known : (first ≤ n) × (first ≤ max-radios) × ((p : ℕ) → p < n → getD os p 0 < length ns)
-  leads-known = (omega (arith, inside), omega (arith, inside, r .small), λ p l. omega (arith, order-radios r p l, r .numbers-length))
 
   tail-length : length tail ≡ n - first
   tail-length = length-drop first os
@@ -356,9 +356,13 @@ module _ {a b : ℕ} {ts ns os ps cs : List ℕ} (r : Ready true (length os) a b
 
     -- ---- the quick path
 
-    pub settled-plan : leb (count (joined a b first ts tail (getD tail 0 0)) (drop 1 tail)) k ≡ true → (list : List ℕ) → Planned true a b g os first 0 0 list
+    -- few neighbours stand later with the link
+    abbrev Few-later : Type 0
+    Few-later = count (linked after e) (drop 1 part) + count (linked after e) high ≤ k
+
+    unmoved-plan : Few-later → (list : List ℕ) → Planned true a b g os first 0 0 list
     unfolding changed-part graph-in member
-    settled-plan h list = record {
+    unmoved-plan h list = record {
       fits = omega (arith, inside);
       long = omega arith;
       taken-fits = omega arith;
@@ -368,6 +372,14 @@ module _ {a b : ℕ} {ts ns os ps cs : List ℕ} (r : Ready true (length os) a b
           beginning.unmoved-changed max-neighbours a b g os (is-valid r) (r .allowed) (take first os) e rest cut (pick .end) no-end small v l;
       radios = λ i l. absurd (omega arith);
     }
+      where
+        small : count (linked after e) (mids num (lower-level g a b) rest) + count (linked after e) (highs num (lower-level g a b) os) ≤ lower-level g a b
+        small = rw (← eK, part-rest, highs-high) h
+
+    -- as a row tells it
+    pub settled-plan : leb (count (joined a b first ts tail (getD tail 0 0)) (drop 1 tail)) k ≡ true → (list : List ℕ) → Planned true a b g os first 0 0 list
+    settled-plan h =
+        unmoved-plan (omega (arith, few-later, ap (count (linked after e)) behind, count-append (linked after e) (drop 1 part) high))
       where
         begins : getD tail 0 0 ≡ e
         begins = ap (λ (z : List ℕ). getD z 0 0) tail-is
@@ -381,8 +393,39 @@ module _ {a b : ℕ} {ts ns os ps cs : List ℕ} (r : Ready true (length os) a b
             rw begins at (subst (λ (x : ℕ). count (linked-after true a b x ts (getD tail 0 0)) (drop 1 tail) ≤ k) all-radios
             (leb-true (count (joined a b first ts tail (getD tail 0 0)) (drop 1 tail)) k h))
 
-        small : count (linked after e) (mids num (lower-level g a b) rest) + count (linked after e) (highs num (lower-level g a b) os) ≤ lower-level g a b
-        small = rw (← eK, part-rest, highs-high) (omega (arith, few-later, ap (count (linked after e)) behind, count-append (linked after e) (drop 1 part) high))
+    -- as the not-lower count tells it: what stands later is not lower
+    pub short-plan : getD cs e 0 < k → (list : List ℕ) → Planned true a b g os first 0 0 list
+    short-plan h =
+        unmoved-plan (
+        omega (
+          arith,
+          more,
+          counted-level r k ek e begins-below level-is-k,
+          count-append f (mids num k os) (highs num k os),
+          ap (count f) highs-high,
+          ap (count f) mids-cut,
+          count-append f (mids num k (take first os)) part,
+          ap (count f) (take-append-drop 1 part),
+          count-append f (take 1 part) (drop 1 part),
+        ))
+      where
+        f : ℕ → Bool
+        f = linked after e
+
+        level-is-k : num e ≡ k
+        level-is-k = sym (number-is r e begins-below) ∙ pick .level
+
+        more : getD (ends-counted true a b k ns cs) e 0 ≡ getD cs e 0 + 1
+        more = go (pick .end)
+          where
+            go : (e ≡ a) ⊎ (e ≡ b) → getD (ends-counted true a b k ns cs) e 0 ≡ getD cs e 0 + 1
+            go (inl q) = rw q (counter-a r k ek (ap num (sym q) ∙ level-is-k))
+            go (inr q) = rw q (counter-b r k ek (ap num (sym q) ∙ level-is-k))
+
+        mids-cut : mids num k os ≡ mids num k (take first os) ++ part
+        mids-cut =
+            ap (mids num k) cut ∙ filter-append (λ v. eqb (num v) k) (take first os) (e ∷ rest)
+            ∙ ap (λ (z : List ℕ). mids num k (take first os) ++ z) mids-part
 
     -- ---- as the code names its values: where the call begins, and what is lent of the order
 
@@ -400,6 +443,11 @@ module _ {a b : ℕ} {ts ns os ps cs : List ℕ} (r : Ready true (length os) a b
       pub walked-lent : (at front taken : ℕ) (list : List ℕ) → at ≡ from → Walk-done a b k from size ts lent front taken list
           → Planned true a b g os at front taken list
       walked-lent at front taken list e done = rw (e, ef) (walked-plan front taken list (rw (lent-is, ef) at done))
+
+-- a plan that moves nothing, as the code names its values
+pub planned-as : {a b from at front taken : ℕ} {g : Graph} {os list : List ℕ} → (at ≡ from) × (front ≡ 0) × (taken ≡ 0)
+    → Planned true a b g os from 0 0 list → Planned true a b g os at front taken list
+planned-as e p = rw (e .0, e .1, e .2) p
 
 -- ends that have an entry in both tables
 pub ends-known : {a b : ℕ} {ts ns os ps cs : List ℕ} → Ready true (length os) a b (tables ts ns os) ps cs

@@ -30,7 +30,8 @@ use Rattle.walks.proofs.Turns as turns
 use Rattle.walks.proofs.Front.{few-from-one}
 use Rattle.links.specs.Turns.{Lists-neighbours}
 use Rattle.links.specs.Peels.{stretch}
-use Rattle.links.specs.Walks.{is-left, stop-place, next-place, radios-of, joined, Walk-site, Walk-state, Walk-done}
+use Rattle.walk_parts.specs.Places.{stop-place, next-place}
+use Rattle.links.specs.Walks.{is-left, radios-of, joined, Walk-site, Walk-state, Walk-done}
 use Rattle.links.proofs.LevelLaws.{first-marked-least}
 use Rattle.links.proofs.WalkReleased.{marked-small}
 use Rattle.links.proofs.WalkTurns as turned
@@ -305,3 +306,8 @@ module _ {a b k first size : ℕ} {ts ns tail ps : List ℕ} (s : Walk-site a b 
         go : (front ≤ taken) ⊎ ((first + front ≤ head-or max-radios (neighbours-of ds 0)) × (size ≤ front)) → Walk-done a b k first size ts tail front taken list1
         go (inl l) = none-left l list1 made
         go (inr h) = all-walked h list1 made
+
+-- as the code names its values
+pub done-as : {a b k first size front taken at many : ℕ} {ts tail list : List ℕ} → at ≡ front → many ≡ taken → Walk-done a b k first size ts tail front taken list
+    → Walk-done a b k first size ts tail at many list
+done-as e f d = rw (e, f) d

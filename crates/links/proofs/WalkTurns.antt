@@ -168,13 +168,12 @@ module _ {a b k first size : ℕ} {ts ns tail ps : List ℕ} (s : Walk-site a b 
     near-radios hs l w m =
         let h = s .within x w (near-joined w m) in (omega (arith, s .numbers-length), omega (arith, s .places-length), omega arith)
 
-    pub near-ready : (rows nears : ℕ) → rows ≡ row-bytes → nears ≡ max-neighbours → Near-ready true a b x ts rows nears
-    near-ready rows nears er en = record {
+    pub near-ready : (nears : ℕ) → nears ≡ max-neighbours → Near-ready true a b x ts nears
+    near-ready nears en = record {
       differ = s .differ;
       radios = (omega (arith, s .ends .0, s .small), omega (arith, s .ends .1, s .small));
       rows = (omega (arith, s .ends .0, s .links-length), omega (arith, s .ends .1, s .links-length));
       row = omega (arith, lx, s .links-length);
-      row-long = er;
       near-long = omega (arith, s .row-few x lx);
     }
 

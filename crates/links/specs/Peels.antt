@@ -1,8 +1,6 @@
 -- The peel of a level, as its loop sees it: f tells neighbours after the call.
 --   stretch order start size   the entries of the level's stretch
 --   above order start size     the entries after it
---   level-start ns k           how many numbers are below k: where the stretch of level k starts
---   level-size ns k            how many numbers are k: how long that stretch is
 --   linked-after               neighbours after the call
 --   Level                      what the peel is made from: numbers, order and places that fit together, and neighbours after the call
 --   Turning                    so many radios are taken, what is left, the counters and the fitting places
@@ -21,18 +19,13 @@ use Rattle.mesh.specs.Graph.{linked, relinked}
 use Rattle.mesh.specs.Tables.{marked, put-link, graph-in}
 use Rattle.mesh.specs.Peel.{Takes, Peels}
 use Rattle.rows.specs.Rows.{neighbours-of}
+use Rattle.walk_parts.specs.Places.{level-start, level-size}
 
 abbrev pub stretch : (order : List ℕ) → (start size : ℕ) → List ℕ
 stretch os start size = take size (drop start os)
 
 abbrev pub above : (order : List ℕ) → (start size : ℕ) → List ℕ
 above os start size = drop (start + size) os
-
-abbrev pub level-start : (numbers : List ℕ) → (k : ℕ) → ℕ
-level-start ns k = count (λ x. ltb x k) ns
-
-abbrev pub level-size : (numbers : List ℕ) → (k : ℕ) → ℕ
-level-size ns k = count (λ x. eqb x k) ns
 
 abbrev pub linked-after : (up : Bool) → (a b n : ℕ) → (links : List ℕ) → (v w : ℕ) → Bool
 linked-after up a b n ts v w = linked (relinked up a b (graph-in n ts)) v w
@@ -64,7 +57,7 @@ pub record Turning (f : ℕ → ℕ → Bool) (most : ℕ) (order places : List 
   pub counters-long : length order ≤ length counters
   pub fits-long : length fits ≡ row-bytes
 
-pub record Peel-ready (up : Bool) (a b k most : ℕ) (links numbers order places counters fits : List ℕ) (row-room near-room list-room : ℕ) : Type 0 where
+pub record Peel-ready (up : Bool) (a b k most : ℕ) (links numbers order places counters fits : List ℕ) (near-room list-room : ℕ) : Type 0 where
   pub level : Level (linked-after up a b (length order) links) numbers order places k (level-start numbers k) (level-size numbers k)
   pub differ : a ≡ b → ⊥
   pub ends : (a < length order) × (b < length order)
@@ -72,7 +65,6 @@ pub record Peel-ready (up : Bool) (a b k most : ℕ) (links numbers order places
   pub row-is :
       (v w : ℕ) → v < length order → w < max-radios → marked (put-link up a b links) v w ≡ linked-after up a b (length order) links v w
   pub few : (v : ℕ) → v < length order → length (neighbours-of (put-link up a b links) v) ≤ min near-room (suc max-neighbours)
-  pub row-long : row-room ≡ row-bytes
   pub list-long : level-size numbers k ≤ list-room
   pub turning :
       Turning (linked-after up a b (length order) links) most order places (level-start numbers k) (level-size numbers k) [] counters fits

@@ -8,6 +8,7 @@
 --   places-fitting os cs m is fs  the fitting places fs with each of the places `is` whose radio has a counter of at most m
 --   Releasable                    listed radios that can lose a neighbour: no repeats, and counters of the level above 0
 --   Begin-ready                   ends and places for the first turn
+--   other-end a b v               the other end of the link a-b, where v is an end; else v itself
 --   Near-ready                    rows and room for the neighbours of v after the link a-b went up or down
 --   Lists-neighbours ts v r xs    the first r entries of xs are the radios that row v of ts marks
 -- Laws are in proofs/TurnLaws.antt. Definitions only.
@@ -63,12 +64,14 @@ pub record Begin-ready (up : Bool) (a b k start size : ℕ) (numbers order count
   pub fits : (start + size ≤ length order) × (start + size ≤ max-radios)
   pub radios : (p : ℕ) → p < length order → getD order p 0 < length counters
 
-pub record Near-ready (up : Bool) (a b v : ℕ) (links : List ℕ) (row-room near-room : ℕ) : Type 0 where
+unfoldable pub other-end : (a b v : ℕ) → ℕ
+other-end a b v = cond (eqb v a) b (cond (eqb v b) a v)
+
+pub record Near-ready (up : Bool) (a b v : ℕ) (links : List ℕ) (near-room : ℕ) : Type 0 where
   pub differ : a ≡ b → ⊥
   pub radios : (a < max-radios) × (b < max-radios)
   pub rows : (row-bytes * a + row-bytes ≤ length links) × (row-bytes * b + row-bytes ≤ length links)
   pub row : row-bytes * v + row-bytes ≤ length links
-  pub row-long : row-room ≡ row-bytes
   pub near-long : length (neighbours-of (put-link up a b links) v) ≤ min near-room (suc max-neighbours)
 
 pub record Lists-neighbours (links : List ℕ) (v r : ℕ) (near : List ℕ) : Type 0 where

@@ -4,9 +4,7 @@
 --   is-later k p ns ps w         w stands in level k, later than place p
 --   place-touched k p ns ps w ds   the places due ds with the place of w, where w stands later
 --   places-touched               the same for each of the listed radios
---   next-place                   where the next turn is, `stop-place` when the walk is at its end
---   beginning-end                the lower end, with equal numbers the earlier
---   stands-first first k ns os   the radio at place `first` stands first in level k
+--   Begins                       where a link going up begins: its lower end's level, and the place of the beginning end
 --   Known                        listed radios that have an entry in tables of these lengths
 --   Walk-site                    what the walk is made from
 --   Walk-state                   so many radios are taken, how far the front is, the candidates, their counters, the places due, the list
@@ -16,15 +14,16 @@ use mathlib.Core.Path.{_≡_}
 use mathlib.Core.Logic.{_⊎_}
 use mathlib.Core.Bool.{Bool, true, false, _&&_, _||_, cond}
 use mathlib.Core.List.{List, [], _++_}
-use Prim.Native.Nat.{ℕ, suc, _+_, _*_, _-_, _≤_, _<_}
+use Prim.Native.Nat.{ℕ, _+_, _*_, _-_, _≤_, _<_, min}
 use lib.Dec.{ltb, leb, eqb}
 use lib.ListN.{length, getD, take, drop}
 use Rattle.mesh.specs.Limits.{max-radios, max-neighbours, row-bytes}
-use Rattle.lists.specs.Lists.{folded, head-or, In, Distinct}
+use Rattle.lists.specs.Lists.{folded, In, Distinct}
 use Rattle.mesh.specs.Tables.{marked, put-bit, put-link}
 use Rattle.mesh.specs.Peel.{Peels}
 use Rattle.rows.specs.Rows.{neighbours-of}
 use Rattle.walks.specs.Walk.{Few-front, Walking}
+use Rattle.walk_parts.specs.Places.{beginning-end}
 use Rattle.links.specs.Peels.{linked-after}
 
 unfoldable pub is-left : (k p : ℕ) → (numbers places held : List ℕ) → (w : ℕ) → Bool
@@ -39,24 +38,9 @@ place-touched k p ns ps w ds = cond (is-later k p ns ps w) (put-bit true 0 (getD
 unfoldable pub places-touched : (k p : ℕ) → (numbers places near due : List ℕ) → List ℕ
 places-touched k p ns ps vs ds = folded (place-touched k p ns ps) vs ds
 
--- past every place, and past what `first_marked` gives where nothing is marked
-abbrev pub stop-place : ℕ
-stop-place = suc max-radios
-
--- the first place due where it stands before the front; else the walk is at its end when no candidate is left or the part is at its
--- end, and goes on there when neither is so
-unfoldable pub next-place : (first size front taken : ℕ) → (due : List ℕ) → ℕ
-next-place first size front taken ds =
-    let p = head-or max-radios (neighbours-of ds 0) in
-    cond (leb front taken) stop-place (cond (ltb p (first + front)) p (cond (leb size front) stop-place p))
-
-unfoldable pub beginning-end : (a b : ℕ) → (numbers places : List ℕ) → ℕ
-beginning-end a b ns ps =
-    cond (ltb (getD ns a 0) (getD ns b 0)) a (cond (ltb (getD ns b 0) (getD ns a 0)) b (cond (ltb (getD ps a 0) (getD ps b 0)) a b))
-
--- nothing stands before it, or what does is of a lower level
-unfoldable pub stands-first : (first k : ℕ) → (numbers order : List ℕ) → Bool
-stands-first first k ns os = cond (eqb first 0) true (ltb (getD ns (getD os (first - 1) 0) 0) k)
+pub record Begins (a b k first : ℕ) (numbers places : List ℕ) : Type 0 where
+  pub level : k ≡ min (getD numbers a 0) (getD numbers b 0)
+  pub place : first ≡ getD places (beginning-end a b numbers places) 0
 
 abbrev pub Known : (numbers places held : ℕ) → (near : List ℕ) → Type 0
 Known ns ps hs near = (v : ℕ) → In v near → (v < ns) × (v < ps) × (v < hs)

@@ -16,6 +16,7 @@ use super::turn::Call;
 use link_parts::apply::Plan;
 use mesh::Site;
 use tables::fill;
+use walk_parts::stretch;
 
 // The call at the lower end's level K: the peel takes radios with at most K neighbours going up, K - 1 going down.
 fn call_at(up: bool, a: u32, b: u32, numbers: &[u8]) -> Call
@@ -75,7 +76,7 @@ fn begin(
 
 // Takes radios of the level in turn, always the first of the stretch that has at most `most` neighbours among what is left and
 // above, until none fits. Writes them in front of the list and comes back with their count; later entries keep their content.
-// A stuck radio then has a counter above `most`, a taken one has not. Fitting places, the row and the list `near` are scratch.
+// A stuck radio then has a counter above `most`, a taken one has not. Fitting places and the list `near` are scratch.
 fn peel(
     call: Call,
     links: &[u8],
@@ -84,12 +85,11 @@ fn peel(
     places: &[u16],
     counters: &mut [u8],
     fits: &mut [u8],
-    row: &mut [u8],
     near: &mut [u16],
     list: &mut [u16],
 ) -> usize
     requires { ⌜ Peel-ready (call .up) (call .a) (call .b) (call .level) (call .most) (now links) (now numbers) (now order)
-        (now places) (now counters) (now fits) (length (now row)) (length (now near)) (length (now list)) ⌝ }
+        (now places) (now counters) (now fits) (length (now near)) (length (now list)) ⌝ }
     ensures { λ r. ⌜ Peel-done (call .up) (call .a) (call .b) (call .level) (call .most) (now (links .entry)) (now (numbers .entry))
         (now (order .entry)) r (now (counters .exit)) (now (list .exit)) ⌝ }
 {
@@ -108,7 +108,6 @@ fn peel(
             places,
             counters,
             fits,
-            row,
             near,
         );
         p = rows::first_marked(fits, 0);
@@ -135,10 +134,9 @@ pub(crate) fn plan_peel(
         (r .size) (r .taken) (now (stretch .exit)) ⌝ }
 {
     let call = call_at(up, a, b, numbers);
-    let at = super::stretch::stretch_of(numbers, call.level);
+    let at = stretch::stretch_of(numbers, call.level);
     let mut fits = [0u8; Site::ROW_BYTES];
     begin(call, at.start, at.size, numbers, order, highs, &mut fits);
-    let mut row = [0u8; Site::ROW_BYTES];
     let mut near = [0u16; Site::NEIGHBOURS as usize];
     let taken = peel(
         call,
@@ -148,7 +146,6 @@ pub(crate) fn plan_peel(
         places,
         highs,
         &mut fits,
-        &mut row,
         &mut near,
         stretch,
     );

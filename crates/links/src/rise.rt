@@ -1,18 +1,76 @@
 // The plan of a link going up: nothing, a walk from the beginning end on, or the peel of its whole level.
+ghost use mathlib.Core.Path.{_≡_};
 ghost use mathlib.Core.Bool.{true};
 ghost use Prim.Native.Nat.{_≤_};
 ghost use lib.ListN.{length};
 ghost use Rattle.mesh.specs.Tables.{tables, graph-in};
 ghost use Rattle.links.specs.Plans.{Ready, Planned};
+ghost use Rattle.links.specs.Walks.{Begins};
 use super::plan;
-use super::stretch;
 use super::walk;
+use super::walk::Part;
 use super::walk::Rise;
 use link_parts::apply::Plan;
+use walk_parts::ends;
+use walk_parts::stretch;
 
-// Plans the link a-b going up. Where the beginning end has at most K later neighbours with the link, nothing moves and nothing rises. Where
-// it stands first in its level, the level is peeled: a level that rises whole has every row read by the walk and none by the peel.
-// Elsewhere the walk goes from that end on.
+// A level of so many radios or fewer is peeled: the walk reads the rows of all who rise, the peel those of the others.
+const SMALL: usize = 16;
+
+// A plan that moves nothing.
+fn unmoved(first: usize) -> Plan
+    ensures { λ r. ⌜ (r .start ≡ first) × (r .size ≡ 0) × (r .taken ≡ 0) ⌝ }
+{
+    Plan {
+        start: first,
+        size: 0,
+        taken: 0,
+    }
+}
+
+// Plans the link from the beginning end, at place `first`, on. Where that end has at most K later neighbours with the link, nothing moves
+// and nothing rises. A small level is peeled; elsewhere the walk goes from that end on.
+fn plan_on(
+    rise: Rise,
+    first: usize,
+    links: &[u8],
+    numbers: &[u8],
+    order: &[u16],
+    places: &[u16],
+    highs: &mut [u8],
+    stretch: &mut [u16],
+) -> Plan
+    requires ready { ⌜ Ready true (length (now order)) (rise .a) (rise .b) (tables (now links) (now numbers) (now order)) (now places) (now highs) ⌝ }
+    requires room { ⌜ length (now order) ≤ length (now stretch) ⌝ }
+    requires begins { ⌜ Begins (rise .a) (rise .b) (rise .most) first (now numbers) (now places) ⌝ }
+    ensures { λ r. ⌜ Planned true (rise .a) (rise .b) (graph-in (length (now (order .entry))) (now (links .entry))) (now (order .entry)) (r .start)
+        (r .size) (r .taken) (now (stretch .exit)) ⌝ }
+{
+    let tail = &order[first..];
+    if walk::settled(rise, first, links, numbers, tail, places) {
+        return unmoved(first);
+    }
+    let at = stretch::stretch_of(numbers, rise.most);
+    if at.size <= SMALL {
+        return plan::plan_peel(
+            true,
+            rise.a,
+            rise.b,
+            links,
+            numbers,
+            order,
+            places,
+            highs,
+            stretch,
+        );
+    }
+    let size = at.start + at.size - first;
+    let part = Part { first, size };
+    walk::walk(rise, part, links, numbers, tail, places, stretch)
+}
+
+// Plans the link a-b going up. Where the beginning end has fewer than K neighbours that are not lower, nothing moves and nothing rises.
+// Where it stands first in its level, the level is peeled: a level that rises whole has every row read by the walk and none by the peel.
 pub(crate) fn plan_up(
     a: u32,
     b: u32,
@@ -29,29 +87,14 @@ pub(crate) fn plan_up(
         (r .size) (r .taken) (now (stretch .exit)) ⌝ }
 {
     let most = plan::lower(numbers[a as usize], numbers[b as usize]);
-    let e = walk::beginning(a as usize, b as usize, numbers, places);
+    let e = ends::beginning(a as usize, b as usize, numbers, places);
     let first = places[e] as usize;
-    let rise = Rise { a, b, most };
-    if walk::settled(rise, first, links, numbers, &order[first..], places) {
-        return Plan {
-            start: first,
-            size: 0,
-            taken: 0,
-        };
+    if highs[e] < most {
+        return unmoved(first);
     }
-    if walk::leads(first, most, numbers, order) {
+    if ends::leads(first, most, numbers, order) {
         return plan::plan_peel(true, a, b, links, numbers, order, places, highs, stretch);
     }
-    let at = stretch::stretch_of(numbers, most);
-    let size = at.start + at.size - first;
-    walk::walk(
-        rise,
-        first,
-        size,
-        links,
-        numbers,
-        &order[first..],
-        places,
-        stretch,
-    )
+    let rise = Rise { a, b, most };
+    plan_on(rise, first, links, numbers, order, places, highs, stretch)
 }

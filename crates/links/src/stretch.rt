@@ -1,4 +1,4 @@
-// The stretch of a level in the order: where it stands, and the entries of it that the peel does not take.
+// The stretch of a level in the order: the entries of it that the peel does not take.
 ghost use mathlib.Core.Path.{_≡_};
 ghost use Prim.Native.Nat.{ℕ, _≤_, _<_, _+_};
 ghost use lib.Dec.{ltb};
@@ -6,29 +6,7 @@ ghost use lib.ListN.{length, getD};
 ghost use lib.Seq.{sets};
 ghost use Rattle.mesh.specs.Limits.{max-radios};
 ghost use Rattle.lists.specs.Lists.{filter};
-ghost use Rattle.links.specs.Peels.{level-start, level-size, stretch};
-
-// Where a stretch starts, and how long it is.
-pub(crate) struct Stretch {
-    pub(crate) start: usize,
-    pub(crate) size: usize,
-}
-
-// The stretch of the level: after as many entries as there are numbers below it, as long as there are numbers equal to it.
-pub(crate) fn stretch_of(numbers: &[u8], level: u8) -> Stretch
-    ensures started { λ r. ⌜ r .start ≡ level-start (now (numbers .entry)) level ⌝ }
-    ensures sized { λ r. ⌜ r .size ≡ level-size (now (numbers .entry)) level ⌝ }
-{
-    let mut start: usize = 0;
-    let mut size: usize = 0;
-    let mut i: usize = 0;
-    while i < numbers.len() {
-        start += (numbers[i] < level) as usize;
-        size += (numbers[i] == level) as usize;
-        i += 1;
-    }
-    Stretch { start, size }
-}
+ghost use Rattle.links.specs.Peels.{stretch};
 
 // Writes the radios of the stretch whose counter is above `most`, in their order, into the list from place `taken` on.
 pub(crate) fn list_stuck(

@@ -8,7 +8,8 @@ ghost use Rattle.lists.specs.Lists.{range};
 ghost use Rattle.mesh.specs.Tables.{put-bit, put-link};
 ghost use Rattle.rows.specs.Rows.{neighbours-of};
 ghost use Rattle.links.specs.Turns.{end-counted, counter-less, released, place-marked, places-released, places-fitting, Releasable, Near-ready};
-ghost use Rattle.links.specs.Turns.{Lists-neighbours};
+ghost use Rattle.links.specs.Turns.{Lists-neighbours, other-end};
+use mesh::Site;
 
 // The counter of v is one more going up and one less going down after, where v is of the level; the others keep theirs.
 pub(crate) fn count_end(up: bool, level: u8, v: usize, numbers: &[u8], counters: &mut [u8])
@@ -107,38 +108,47 @@ pub(crate) fn release(
 }
 
 // Writes the radios that row v marks, once its bit w is set or cleared, into the list, ascending, and comes back with their count.
-// The row is scratch.
-fn end_neighbours(up: bool, v: u32, w: u32, links: &[u8], row: &mut [u8], near: &mut [u16]) -> u8
-    requires { ⌜ (row-bytes * v + row-bytes ≤ length (now links)) × (length (now row) ≡ row-bytes) × (w < max-radios) ×
+fn end_neighbours(up: bool, v: u32, w: u32, links: &[u8], near: &mut [u16]) -> u8
+    requires { ⌜ (row-bytes * v + row-bytes ≤ length (now links)) × (w < max-radios) ×
         (length (neighbours-of (put-bit up v w (now links)) v) ≤ min (length (now near)) (suc max-neighbours)) ⌝ }
     ensures { λ r. ⌜ Lists-neighbours (put-bit up v w (now (links .entry))) v r (now (near .exit)) ⌝ }
 {
-    let start = mesh::Site::ROW_BYTES * v as usize;
-    let end = start + mesh::Site::ROW_BYTES;
-    tables::fill::copy8(row, &links[start..end]);
-    rows::put_bit(row, up, 0, w);
-    rows::row_neighbours(row, 0, near)
+    let mut row = [0u8; Site::ROW_BYTES];
+    let start = Site::ROW_BYTES * v as usize;
+    let end = start + Site::ROW_BYTES;
+    tables::fill::copy8(&mut row, &links[start..end]);
+    rows::put_bit(&mut row, up, 0, w);
+    rows::row_neighbours(&row, 0, near)
+}
+
+// The other end of the link a-b, where v is an end; else v itself.
+fn other_end(a: u32, b: u32, v: u32) -> u32
+    ensures { λ r. ⌜ r ≡ other-end a b v ⌝ }
+{
+    if v == a {
+        return b;
+    }
+    if v == b {
+        return a;
+    }
+    v
 }
 
 // Writes the neighbours that v has after the link a-b went up or down into the list, ascending, and comes back with their count.
-// The row is scratch.
 pub(crate) fn neighbours_after(
     up: bool,
     a: u32,
     b: u32,
     v: u32,
     links: &[u8],
-    row: &mut [u8],
     near: &mut [u16],
 ) -> u8
-    requires { ⌜ Near-ready up a b v (now links) (length (now row)) (length (now near)) ⌝ }
+    requires { ⌜ Near-ready up a b v (now links) (length (now near)) ⌝ }
     ensures { λ r. ⌜ Lists-neighbours (put-link up a b (now (links .entry))) v r (now (near .exit)) ⌝ }
 {
-    if v == a {
-        return end_neighbours(up, v, b, links, row, near);
-    }
-    if v == b {
-        return end_neighbours(up, v, a, links, row, near);
+    let w = other_end(a, b, v);
+    if w != v {
+        return end_neighbours(up, v, w, links, near);
     }
     rows::row_neighbours(links, v, near)
 }
@@ -153,7 +163,7 @@ pub(crate) struct Call {
 }
 
 // Takes the radio v at place p: the place fits no more, and the neighbours that v has after the call are released.
-// The row and the list `near` are scratch.
+// The list `near` is scratch.
 pub(crate) fn take_radio(
     call: Call,
     p: u32,
@@ -163,10 +173,9 @@ pub(crate) fn take_radio(
     places: &[u16],
     counters: &mut [u8],
     fits: &mut [u8],
-    row: &mut [u8],
     near: &mut [u16],
 )
-    requires { ⌜ Near-ready (call .up) (call .a) (call .b) v (now links) (length (now row)) (length (now near)) ×
+    requires { ⌜ Near-ready (call .up) (call .a) (call .b) v (now links) (length (now near)) ×
         Releasable (now numbers) (now places) (call .level)
         (neighbours-of (put-link (call .up) (call .a) (call .b) (now links)) v) (now counters) ⌝ }
     ensures counted { λ _. ⌜ now (counters .exit) ≡ released (now (numbers .entry)) (call .level)
@@ -176,7 +185,7 @@ pub(crate) fn take_radio(
         (put-bit false 0 p (now (fits .entry))) ⌝ }
 {
     rows::put_bit(fits, false, 0, p);
-    let k = neighbours_after(call.up, call.a, call.b, v, links, row, near) as usize;
+    let k = neighbours_after(call.up, call.a, call.b, v, links, near) as usize;
     release(
         near,
         k,

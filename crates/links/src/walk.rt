@@ -12,25 +12,30 @@ ghost use Rattle.mesh.specs.Limits.{max-radios, max-neighbours, row-bytes};
 ghost use Rattle.lists.specs.Lists.{count, head-or};
 ghost use Rattle.mesh.specs.Tables.{marked};
 ghost use Rattle.rows.specs.Rows.{neighbours-of};
-ghost use Rattle.links.specs.Walks.{is-left, place-touched, places-touched, next-place, joined, beginning-end, stands-first, Known};
+ghost use Rattle.walk_parts.specs.Places.{next-place};
+ghost use Rattle.links.specs.Walks.{is-left, place-touched, places-touched, joined, Known};
 ghost use Rattle.links.specs.Walks.{Walk-site, Walk-state, Walk-done};
 use super::turn;
 use super::turn::Call;
 use link_parts::apply::Plan;
 use mesh::Site;
 use tables::fill;
+use walk_parts::places::STOP;
 
 // How a candidate is marked in the table of candidates.
 const CANDIDATE: u8 = 1;
-
-// Where no turn is: past every place, and past what `first_marked` gives where nothing is marked.
-const STOP: usize = Site::RADIOS as usize + 1;
 
 // A link going up at its lower end's level: radios with at most `most` neighbours left are taken.
 pub(crate) struct Rise {
     pub(crate) a: u32,
     pub(crate) b: u32,
     pub(crate) most: u8,
+}
+
+// The part of the level that a walk goes through: `size` entries of the order from place `first` on.
+pub(crate) struct Part {
+    pub(crate) first: usize,
+    pub(crate) size: usize,
 }
 
 // How far a walk has come: so many radios of the part, and of these so many taken.
@@ -102,13 +107,11 @@ fn touch(near: &[u16], k: usize, level: u8, p: u16, numbers: &[u8], places: &[u1
 }
 
 // Looks at the radio at the front, when no place before it is due: it is held as a candidate, and its later neighbours in the level are
-// due; or it is taken, and the candidates among its neighbours lose one. Comes back with the count of the taken.
+// due; or it is taken, and the candidates among its neighbours lose one.
 fn look(
     rise: Rise,
-    first: usize,
-    size: usize,
-    front: usize,
-    taken: usize,
+    part: Part,
+    at: Reached,
     links: &[u8],
     numbers: &[u8],
     tail: &[u16],
@@ -117,49 +120,46 @@ fn look(
     counters: &mut [u8],
     due: &mut [u8],
     list: &mut [u16],
-) -> usize
-    requires { ⌜ Walk-site (rise .a) (rise .b) (rise .most) first size (now links) (now numbers) (now tail) (now places) ×
-        Walk-state (rise .a) (rise .b) (rise .most) first size (now links) (now tail) (now places) front taken
+) -> Reached
+    requires { ⌜ Walk-site (rise .a) (rise .b) (rise .most) (part .first) (part .size) (now links) (now numbers) (now tail) (now places) ×
+        Walk-state (rise .a) (rise .b) (rise .most) (part .first) (part .size) (now links) (now tail) (now places) (at .front) (at .taken)
         (now held) (now counters) (now due) (now list) ×
-        ((front < size) × ((q : ℕ) → q < front → marked (now due) 0 (first + q) ≡ false)) ⌝ }
-    ensures state { λ r. ⌜ Walk-state (rise .a) (rise .b) (rise .most) first size (now (links .entry)) (now (tail .entry)) (now (places .entry))
-        (front + 1) r (now (held .exit)) (now (counters .exit)) (now (due .exit)) (now (list .exit)) ⌝ }
-    ensures kept { λ r. ⌜ taken ≤ r ⌝ }
+        ((at .front < part .size) × ((q : ℕ) → q < at .front → marked (now due) 0 (part .first + q) ≡ false)) ⌝ }
+    ensures state { λ r. ⌜ Walk-state (rise .a) (rise .b) (rise .most) (part .first) (part .size) (now (links .entry)) (now (tail .entry)) (now (places .entry))
+        (r .front) (r .taken) (now (held .exit)) (now (counters .exit)) (now (due .exit)) (now (list .exit)) ⌝ }
+    ensures further { λ r. ⌜ (r .front ≡ at .front + 1) × (at .taken ≤ r .taken) ⌝ }
 {
-    let mut row = [0u8; Site::ROW_BYTES];
     let mut near = [0u16; Site::NEIGHBOURS as usize];
+    let front = at.front;
+    let taken = at.taken;
     let v = tail[front];
-    let p = first + front;
+    let p = part.first + front;
     rows::put_bit(due, false, 0, p as u32);
-    let k = turn::neighbours_after(
-        true,
-        rise.a,
-        rise.b,
-        v as u32,
-        links,
-        &mut row,
-        &mut near,
-    ) as usize;
+    let k = turn::neighbours_after(true, rise.a, rise.b, v as u32, links, &mut near) as usize;
     let c = count_left(&near, k, rise.most, p as u16, numbers, places, held);
     if rise.most < c {
         held[v as usize] = CANDIDATE;
         counters[v as usize] = c;
         touch(&near, k, rise.most, p as u16, numbers, places, due);
-        return taken;
+        return Reached {
+            front: front + 1,
+            taken,
+        };
     }
     list[taken] = v;
     turn::release(&near, k, CANDIDATE, rise.most, held, places, counters, due);
-    taken + 1
+    Reached {
+        front: front + 1,
+        taken: taken + 1,
+    }
 }
 
 // Takes the candidate at place p back: it fell short, and no place before it is due.
 fn back(
     rise: Rise,
-    first: usize,
-    size: usize,
+    part: Part,
     p: usize,
-    front: usize,
-    taken: usize,
+    at: Reached,
     links: &[u8],
     numbers: &[u8],
     tail: &[u16],
@@ -168,18 +168,19 @@ fn back(
     counters: &mut [u8],
     due: &mut [u8],
     list: &mut [u16],
-)
-    requires { ⌜ Walk-site (rise .a) (rise .b) (rise .most) first size (now links) (now numbers) (now tail) (now places) ×
-        Walk-state (rise .a) (rise .b) (rise .most) first size (now links) (now tail) (now places) front taken
+) -> Reached
+    requires { ⌜ Walk-site (rise .a) (rise .b) (rise .most) (part .first) (part .size) (now links) (now numbers) (now tail) (now places) ×
+        Walk-state (rise .a) (rise .b) (rise .most) (part .first) (part .size) (now links) (now tail) (now places) (at .front) (at .taken)
         (now held) (now counters) (now due) (now list) ×
-        ((p ≡ head-or max-radios (neighbours-of (now due) 0)) × (p < first + front)) ⌝ }
-    ensures { λ _. ⌜ Walk-state (rise .a) (rise .b) (rise .most) first size (now (links .entry)) (now (tail .entry)) (now (places .entry))
-        front (taken + 1) (now (held .exit)) (now (counters .exit)) (now (due .exit)) (now (list .exit)) ⌝ }
+        ((p ≡ head-or max-radios (neighbours-of (now due) 0)) × (p < part .first + at .front)) ⌝ }
+    ensures state { λ r. ⌜ Walk-state (rise .a) (rise .b) (rise .most) (part .first) (part .size) (now (links .entry)) (now (tail .entry)) (now (places .entry))
+        (r .front) (r .taken) (now (held .exit)) (now (counters .exit)) (now (due .exit)) (now (list .exit)) ⌝ }
+    ensures further { λ r. ⌜ (r .front ≡ at .front) × (r .taken ≡ at .taken + 1) ⌝ }
 {
-    let mut row = [0u8; Site::ROW_BYTES];
     let mut near = [0u16; Site::NEIGHBOURS as usize];
-    let v = tail[p - first];
+    let v = tail[p - part.first];
     held[v as usize] = 0;
+    let taken = at.taken;
     list[taken] = v;
     let call = Call {
         up: true,
@@ -197,9 +198,12 @@ fn back(
         places,
         counters,
         due,
-        &mut row,
         &mut near,
     );
+    Reached {
+        front: at.front,
+        taken: taken + 1,
+    }
 }
 
 // Takes the radios from the front to `until`, as they stand: no candidate is their neighbour.
@@ -211,33 +215,12 @@ fn pass(front: usize, until: usize, taken: usize, tail: &[u16], list: &mut [u16]
     fill::copy16(&mut list[taken..end], &tail[front..until]);
 }
 
-// Where the next turn is, `STOP` when the walk is at its end.
-fn next(first: usize, size: usize, front: usize, taken: usize, due: &[u8]) -> usize
-    requires { ⌜ (first + front ≤ max-radios) × (length (now due) ≡ row-bytes) ⌝ }
-    ensures { λ r. ⌜ r ≡ next-place first size front taken (now (due .entry)) ⌝ }
-{
-    if front <= taken {
-        return STOP;
-    }
-    let p = rows::first_marked(due, 0) as usize;
-    if p < first + front {
-        return p;
-    }
-    // tested before the front is looked at: where nothing is due, p is 512, and so may the end of the part be
-    if size <= front {
-        return STOP;
-    }
-    p
-}
-
 // One turn at place p: a candidate is taken back, the front is looked at, or what stands before the next place due is passed.
 fn step(
     rise: Rise,
-    first: usize,
-    size: usize,
+    part: Part,
     p: usize,
-    front: usize,
-    taken: usize,
+    at: Reached,
     links: &[u8],
     numbers: &[u8],
     tail: &[u16],
@@ -247,22 +230,20 @@ fn step(
     due: &mut [u8],
     list: &mut [u16],
 ) -> Reached
-    requires { ⌜ Walk-site (rise .a) (rise .b) (rise .most) first size (now links) (now numbers) (now tail) (now places) ×
-        Walk-state (rise .a) (rise .b) (rise .most) first size (now links) (now tail) (now places) front taken
+    requires { ⌜ Walk-site (rise .a) (rise .b) (rise .most) (part .first) (part .size) (now links) (now numbers) (now tail) (now places) ×
+        Walk-state (rise .a) (rise .b) (rise .most) (part .first) (part .size) (now links) (now tail) (now places) (at .front) (at .taken)
         (now held) (now counters) (now due) (now list) ×
-        ((p ≡ next-place first size front taken (now due)) × (p ≤ max-radios)) ⌝ }
-    ensures state { λ r. ⌜ Walk-state (rise .a) (rise .b) (rise .most) first size (now (links .entry)) (now (tail .entry))
+        ((p ≡ next-place (part .first) (part .size) (at .front) (at .taken) (now due)) × (p ≤ max-radios)) ⌝ }
+    ensures state { λ r. ⌜ Walk-state (rise .a) (rise .b) (rise .most) (part .first) (part .size) (now (links .entry)) (now (tail .entry))
         (now (places .entry)) (r .front) (r .taken) (now (held .exit)) (now (counters .exit)) (now (due .exit)) (now (list .exit)) ⌝ }
-    ensures further { λ r. ⌜ (1 ≤ r .front) × (front + taken < r .front + r .taken) ⌝ }
+    ensures further { λ r. ⌜ (1 ≤ r .front) × (at .front + at .taken < r .front + r .taken) ⌝ }
 {
-    if p < first + front {
-        back(
+    if p < part.first + at.front {
+        return back(
             rise,
-            first,
-            size,
+            part,
             p,
-            front,
-            taken,
+            at,
             links,
             numbers,
             tail,
@@ -272,18 +253,12 @@ fn step(
             due,
             list,
         );
-        return Reached {
-            front,
-            taken: taken + 1,
-        };
     }
-    if p == first + front {
-        let taken = look(
+    if p == part.first + at.front {
+        return look(
             rise,
-            first,
-            size,
-            front,
-            taken,
+            part,
+            at,
             links,
             numbers,
             tail,
@@ -293,46 +268,51 @@ fn step(
             due,
             list,
         );
-        return Reached {
-            front: front + 1,
-            taken,
-        };
     }
-    let until = fill::least(p - first, size);
-    pass(front, until, taken, tail, list);
+    let until = fill::least(p - part.first, part.size);
+    pass(at.front, until, at.taken, tail, list);
     Reached {
         front: until,
-        taken: taken + (until - front),
+        taken: at.taken + (until - at.front),
     }
 }
 
-// Walks the part: `size` entries of `tail`, which is the order from place `first` on. Writes what it went through, laid out anew, in
+// What a walk that came so far plans.
+fn plan_of(part: Part, at: Reached) -> Plan
+    ensures { λ r. ⌜ (r .start ≡ part .first) × (r .size ≡ at .front) × (r .taken ≡ at .taken) ⌝ }
+{
+    Plan {
+        start: part.first,
+        size: at.front,
+        taken: at.taken,
+    }
+}
+
+// Walks the part, whose entries stand in front of `tail`, the order from its first place on. Writes what it went through, laid out anew, in
 // front of the list; later entries hold anything.
 pub(crate) fn walk(
     rise: Rise,
-    first: usize,
-    size: usize,
+    part: Part,
     links: &[u8],
     numbers: &[u8],
     tail: &[u16],
     places: &[u16],
     list: &mut [u16],
 ) -> Plan
-    requires site { ⌜ Walk-site (rise .a) (rise .b) (rise .most) first size (now links) (now numbers) (now tail) (now places) ⌝ }
-    requires room { ⌜ size ≤ length (now list) ⌝ }
-    ensures start { λ r. ⌜ r .start ≡ first ⌝ }
-    ensures walked { λ r. ⌜ Walk-done (rise .a) (rise .b) (rise .most) first size (now (links .entry)) (now (tail .entry)) (r .size)
+    requires site { ⌜ Walk-site (rise .a) (rise .b) (rise .most) (part .first) (part .size) (now links) (now numbers) (now tail) (now places) ⌝ }
+    requires room { ⌜ part .size ≤ length (now list) ⌝ }
+    ensures start { λ r. ⌜ r .start ≡ part .first ⌝ }
+    ensures walked { λ r. ⌜ Walk-done (rise .a) (rise .b) (rise .most) (part .first) (part .size) (now (links .entry)) (now (tail .entry)) (r .size)
         (r .taken) (now (list .exit)) ⌝ }
 {
     let mut held = [0u8; Site::RADIOS as usize];
     let mut counters = [0u8; Site::RADIOS as usize];
     let mut due = [0u8; Site::ROW_BYTES];
-    let mut taken = look(
+    let start = Reached { front: 0, taken: 0 };
+    let mut at = look(
         rise,
-        first,
-        size,
-        0,
-        0,
+        part,
+        start,
         links,
         numbers,
         tail,
@@ -342,16 +322,13 @@ pub(crate) fn walk(
         &mut due,
         list,
     );
-    let mut front: usize = 1;
-    let mut p = next(first, size, front, taken, &due);
+    let mut p = walk_parts::places::next(part.first, part.size, at.front, at.taken, &due);
     while p < STOP {
-        let now = step(
+        at = step(
             rise,
-            first,
-            size,
+            part,
             p,
-            front,
-            taken,
+            at,
             links,
             numbers,
             tail,
@@ -361,33 +338,10 @@ pub(crate) fn walk(
             &mut due,
             list,
         );
-        front = now.front;
-        taken = now.taken;
-        p = next(first, size, front, taken, &due);
+        p = walk_parts::places::next(part.first, part.size, at.front, at.taken, &due);
     }
-    super::stretch::list_stuck(0, front, rise.most, taken, tail, &counters, list);
-    Plan {
-        start: first,
-        size: front,
-        taken,
-    }
-}
-
-// The beginning end: the lower end, with equal numbers the earlier.
-pub(crate) fn beginning(a: usize, b: usize, numbers: &[u8], places: &[u16]) -> usize
-    requires { ⌜ (a < length (now numbers)) × (b < length (now numbers)) × (a < length (now places)) × (b < length (now places)) ⌝ }
-    ensures { λ r. ⌜ r ≡ beginning-end a b (now (numbers .entry)) (now (places .entry)) ⌝ }
-{
-    if numbers[a] < numbers[b] {
-        return a;
-    }
-    if numbers[b] < numbers[a] {
-        return b;
-    }
-    if places[a] < places[b] {
-        return a;
-    }
-    b
+    super::stretch::list_stuck(0, at.front, rise.most, at.taken, tail, &counters, list);
+    plan_of(part, at)
 }
 
 // Whether the beginning end, which stands at place `first`, has at most `most` later neighbours with the link: then nothing moves or rises.
@@ -403,31 +357,9 @@ pub(crate) fn settled(
     ensures { λ r. ⌜ r ≡ leb (count (joined (rise .a) (rise .b) first (now (links .entry)) (now (tail .entry)) (getD (now (tail .entry)) 0 0))
         (drop 1 (now (tail .entry)))) (rise .most) ⌝ }
 {
-    let mut row = [0u8; Site::ROW_BYTES];
     let mut near = [0u16; Site::NEIGHBOURS as usize];
     let held = [0u8; Site::RADIOS as usize];
     let v = tail[0];
-    let k = turn::neighbours_after(
-        true,
-        rise.a,
-        rise.b,
-        v as u32,
-        links,
-        &mut row,
-        &mut near,
-    ) as usize;
+    let k = turn::neighbours_after(true, rise.a, rise.b, v as u32, links, &mut near) as usize;
     count_left(&near, k, rise.most, first as u16, numbers, places, &held) <= rise.most
-}
-
-// Whether the radio at place `first` stands first in its level.
-pub(crate) fn leads(first: usize, level: u8, numbers: &[u8], order: &[u16]) -> bool
-    requires { ⌜ (first ≤ length (now order)) × (first ≤ max-radios) ×
-        ((p : ℕ) → p < length (now order) → getD (now order) p 0 < length (now numbers)) ⌝ }
-    ensures { λ r. ⌜ r ≡ stands-first first level (now (numbers .entry)) (now (order .entry)) ⌝ }
-{
-    if first == 0 {
-        return true;
-    }
-    let v = order[first - 1] as usize;
-    numbers[v] < level
 }

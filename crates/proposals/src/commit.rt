@@ -1,5 +1,6 @@
 // Committing: a link call that is carried out where a proposal is true.
 ghost use mathlib.Core.Path.{_≡_};
+ghost use lib.IntN.{pos};
 ghost use Rattle.mesh.specs.Tables.{lent};
 ghost use Rattle.calls.specs.Contracts.Proposals.{Commit-contract};
 ghost use Rattle.proposals.specs.Proposed.{plan-proposes};
@@ -21,6 +22,17 @@ fn is_proposal(up: bool, plan: Plan, stretch: &[u16], step: i8, list: &[u16]) ->
         return false;
     }
     fill::same16(list, &listed[..reply.count as usize])
+}
+
+// A refusal: the number and zeros.
+fn refused(number: u32) -> Reply
+    ensures { λ r. ⌜ (r .number ≡ number) × (r .step ≡ pos 0) × (r .count ≡ 0) ⌝ }
+{
+    Reply {
+        number,
+        step: 0,
+        count: 0,
+    }
 }
 
 // Takes the link between a and b up, by questions 1 to 7 and 16, or down, by 1 to 6 and 16, where list and step are exactly what asking
@@ -53,18 +65,10 @@ pub fn commit(
         &mut stretch,
     );
     if decided.number != 0 {
-        return Reply {
-            number: decided.number,
-            step: 0,
-            count: 0,
-        };
+        return refused(decided.number);
     }
     if !is_proposal(up, decided.plan, &stretch, step, list) {
-        return Reply {
-            number: Refusal::PROPOSAL,
-            step: 0,
-            count: 0,
-        };
+        return refused(Refusal::PROPOSAL);
     }
     let count = list.len() as u32;
     apply::write(

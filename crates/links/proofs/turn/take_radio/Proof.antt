@@ -7,19 +7,15 @@ use Rattle.links.proofs.turn.take_radio.Tie as tie
 
 release-requires : tie.Need-release-requires
 release-requires c κs =
-    let made = c .before .before .before .before .before .before .before in
-    let start = made .before .before .before .before .before .before .before .before .before .before .before .before .before .before in
-    near-released _ _ _ (length (start .args .near .now)) _ _ _ _ _ (made .neighbours-after .ensures) (start .pre .0 .near-long) (search needs) (start .pre .1)
+    let start = c .before .before .before .before .before .before .before .before .before .before .before .before .before .before .before .before .before in
+    near-released _ _ _ (length (start .args .near .now)) _ _ _ _ _ (c .before .before .before .before .before .neighbours-after .ensures) (start .pre .0 .near-long) (search needs) (start .pre .1)
 
 returns : tie.Need-returns
 returns c =
     let done = c .before .before .before .before in
-    let made = done .before .before .before .before .before .before .before .before in
-    let put = made .before .before .before .before .before in
-    near-done _ _ _ _ _ _ _ _ _ _ _ _ _ (made .neighbours-after .ensures) (put .put-bit .ensures) (done .release .ensures .0) (done .release .ensures .1)
+    near-done _ _ _ _ _ _ _ _ _ _ _ _ _ (c .before .before .before .before .before .before .before .before .before .before .neighbours-after .ensures) (c .before .before .before .before .before .before .before .before .before .before .before .before .before .before .put-bit .ensures) (done .release .ensures .0) (done .release .ensures .1)
 
 pub take-radio-spec : {M : Type 1} → statement M
 take-radio-spec =
     tie.close (
-    tie.spec (λ c κs. search needs) (λ c κs. search needs) (λ c. search needs) release-requires (λ c. search needs) (λ c. search needs) (λ c. search needs)
-    (λ c. search needs) returns)
+    tie.spec (λ c κs. search needs) (λ c κs. search needs) (λ c. search needs) release-requires (λ c. search needs) (λ c. search needs) (λ c. search needs) returns)

@@ -4,7 +4,7 @@ use native.Mathlib.Omega.{arith}
 use lib.ListN.{replicate, length-replicate}
 use Prim.Native.Nat.{ℕ}
 use borrow.Author.Needs.{needs}
-use Rattle.mesh.specs.Limits.{max-radios, max-neighbours, row-bytes}
+use Rattle.mesh.specs.Limits.{max-radios, max-neighbours}
 use Rattle.links.proofs.WalkTurns.{near-ready}
 use Rattle.links.proofs.WalkMade.{listed-known}
 use Rattle.links.proofs.WalkSteps.{first-below, settled-is}
@@ -17,22 +17,20 @@ cast-neighbours-after c =
 
 neighbours-after-requires : tie.Need-neighbours-after-requires
 neighbours-after-requires c κs =
-    let start = c .before .before .before .before .before .before .before in near-ready (start .pre .1) _ (first-below (start .pre .1)) row-bytes max-neighbours refl refl
+    let start = c .before .before .before .before .before .before in near-ready (start .pre .1) _ (first-below (start .pre .1)) max-neighbours refl
 
 count-left-requires : tie.Need-count-left-requires
 count-left-requires c κs =
-    let made = c .before .before .before .before in
-    let start = made .before .before .before .before .before .before .before .before in
+    let made = c .before .before .before in
+    let start = c .before .before .before .before .before .before .before .before .before .before in
     listed-known (start .pre .1) _ _ _ (replicate max-radios 0) (first-below (start .pre .1)) (omega (arith, start .pre .1 .small, length-replicate {A = ℕ} max-radios 0)) (made .neighbours-after .ensures)
-    (made .neighbours-after .kept .1 .1 .1 .1 .1 .1 .0)
+    (made .neighbours-after .kept .1 .1 .1 .1 .1 .0)
 
 returns : tie.Need-returns
 returns c =
-    let counted = c .before in
-    let made = counted .before .before .before .before .before in
-    let start = made .before .before .before .before .before .before .before .before in settled-is (start .pre .1) _ _ _ (made .neighbours-after .ensures) (counted .count-left .ensures)
+    let start = c .before .before .before .before .before .before .before .before .before .before .before .before in settled-is (start .pre .1) _ _ _ (c .before .before .before .before .before .neighbours-after .ensures) (c .before .count-left .ensures)
 
 pub settled-spec : {M : Type 1} → statement M
 settled-spec =
     tie.close (
-    tie.spec (λ c. search needs) cast-neighbours-after (λ c. search needs) (λ c. search needs) neighbours-after-requires (λ c. search needs) (λ c. search needs) (λ c. search needs) (λ c. search needs) count-left-requires returns)
+    tie.spec (λ c. search needs) cast-neighbours-after (λ c. search needs) neighbours-after-requires (λ c. search needs) (λ c. search needs) (λ c. search needs) (λ c. search needs) count-left-requires returns)

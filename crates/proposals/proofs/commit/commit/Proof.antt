@@ -15,29 +15,29 @@ use Rattle.proposals.proofs.commit.commit.Tie as tie
 
 returns : tie.Need-returns
 returns c =
-    let decided = c .before .before .before in
-    let x = decided .before .before .before .before .before .before .before .before .before .args in
+    let decided = c .before .before .before .before in
+    let x = c .before .before .before .before .before .before .before .before .before .before .before .before .before .args in
     commit-refused (x .up) (x .n) (x .a) (x .b) (tables (x .links .now) (x .numbers .now) (x .order .now)) _ refl _ _ _ _ _ _
-    (decided .plan .ensures) (search needs) (x .step) (x .list .now) (c .if1 .taken) _ refl refl refl
+    (decided .plan .ensures) (search needs) (x .step) (x .list .now) (c .before .if1 .taken) _ (c .refused .ensures .0) (c .refused .ensures .1) (c .refused .ensures .2)
 
 returns-2 : tie.Need-returns-2
 returns-2 c =
-    let asked = c .before in
-    let yes = asked .before .before in
-    let decided = yes .before .before .before in
-    let s = decided .before .before .before .before .before .before .before .before .before in
+    let asked = c .before .before in
+    let yes = c .before .before .before .before in
+    let decided = c .before .before .before .before .before .before .before in
+    let s = c .before .before .before .before .before .before .before .before .before .before .before .before .before .before .before .before in
     let x = s .args in
     commit-not (x .up) (x .n) (x .a) (x .b) (tables (x .links .now) (x .numbers .now) (x .order .now)) _ refl _ _ _ _ _ _
     (decided .plan .ensures) (search needs) (x .step) (x .list .now) (yes .if1 .left)
-    _ (asked .is-proposal .result) (toZ-ofZ (s .fits .step)) (asked .is-proposal .ensures) (not-true (asked .is-proposal .result) (c .if2 .taken)) _ refl
-    refl refl
+    _ (asked .is-proposal .result) (toZ-ofZ (s .fits .step)) (asked .is-proposal .ensures) (not-true (asked .is-proposal .result) (c .before .if2 .taken)) _ (c .refused2 .ensures .0)
+    (c .refused2 .ensures .1) (c .refused2 .ensures .2)
 
 cast-count : tie.Need-cast-count
 cast-count c =
     let asked = c .before in
-    let yes = asked .before .before in
-    let decided = yes .before .before .before in
-    let s = decided .before .before .before .before .before .before .before .before .before in
+    let yes = c .before .before .before in
+    let decided = c .before .before .before .before .before .before in
+    let s = c .before .before .before .before .before .before .before .before .before .before .before .before .before .before .before in
     let x = s .args in
     let few : length (x .list .now) ≤ max-radios =
     list-few (x .up) (x .n) (x .a) (x .b) (tables (x .links .now) (x .numbers .now) (x .order .now)) _ refl _ _ _ _ _ _
@@ -48,11 +48,11 @@ cast-count c =
 returns-3 : tie.Need-returns-3
 returns-3 c =
     let done = c .before .before .before .before .before .before in
-    let same = done .before .before .before .before .before in
-    let asked = same .before in
-    let yes = asked .before .before in
-    let decided = yes .before .before .before in
-    let s = decided .before .before .before .before .before .before .before .before .before in
+    let same = c .before .before .before .before .before .before .before .before .before .before .before in
+    let asked = c .before .before .before .before .before .before .before .before .before .before .before .before in
+    let yes = c .before .before .before .before .before .before .before .before .before .before .before .before .before .before in
+    let decided = c .before .before .before .before .before .before .before .before .before .before .before .before .before .before .before .before .before in
+    let s = c .before .before .before .before .before .before .before .before .before .before .before .before .before .before .before .before .before .before .before .before .before .before .before .before .before .before in
     let x = s .args in
     commit-accepted (x .up) (x .n) (x .a) (x .b) (tables (x .links .now) (x .numbers .now) (x .order .now)) _ refl _ _ _ _ _ _
     (decided .plan .ensures) (search needs) (x .step) (x .list .now) (yes .if1 .left)
@@ -62,6 +62,6 @@ returns-3 c =
 pub commit-spec : {M : Type 1} → statement M
 commit-spec =
     tie.close (
-    tie.spec (λ c. search needs) (λ c. search needs) (λ c κs. search needs) (λ c. search needs) (λ c. search needs) (λ c. search needs) returns
-    (λ c. search needs) (λ c κs. search needs) (λ c. search needs) (λ c. search needs) (λ c. search needs) returns-2 cast-count
+    tie.spec (λ c. search needs) (λ c. search needs) (λ c κs. search needs) (λ c κs. search needs) (λ c. search needs) (λ c. search needs) (λ c. search needs) returns
+    (λ c. search needs) (λ c κs. search needs) (λ c κs. search needs) (λ c. search needs) (λ c. search needs) (λ c. search needs) returns-2 cast-count
     (λ c. search needs) (λ c κs. search needs) (λ c. search needs) (λ c. search needs) (λ c. search needs) returns-3)

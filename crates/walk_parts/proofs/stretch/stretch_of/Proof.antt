@@ -7,8 +7,8 @@ use lib.Dec.{ltb, eqb}
 use lib.ListN.{length, getD}
 use borrow.Author.Needs.{needs}
 use Rattle.lists.proofs.Loops.{Counted-from, counted-fits, counted-turn, counted-end}
-use Rattle.links.proofs.stretch.stretch_of.Statement.{statement}
-use Rattle.links.proofs.stretch.stretch_of.Tie as tie
+use Rattle.walk_parts.proofs.stretch.stretch_of.Statement.{statement}
+use Rattle.walk_parts.proofs.stretch.stretch_of.Tie as tie
 
 abbrev Inv-loop : tie.InvT-loop
 Inv-loop numbers level start₀ size₀ i₀ start size i =

@@ -1,0 +1,2 @@
+-- Laws of the walk's places.
+pub mod PlaceLaws

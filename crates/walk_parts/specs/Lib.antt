@@ -1,0 +1,2 @@
+-- Where a walk begins and goes on.
+pub mod Places

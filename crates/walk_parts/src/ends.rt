@@ -1,0 +1,53 @@
+// The beginning end of a link, and whether a radio leads its level.
+ghost use mathlib.Core.Path.{_≡_};
+ghost use lib.ListN.{getD};
+ghost use Rattle.walk_parts.specs.Places.{beginning-end, stands-first};
+
+// The number of radio v.
+fn number_of(numbers: &[u8], v: usize) -> u8
+    ensures { λ r. ⌜ r ≡ getD (now (numbers .entry)) v 0 ⌝ }
+{
+    if v < numbers.len() {
+        return numbers[v];
+    }
+    0
+}
+
+// The entry at place p of a list of radios or of places.
+fn entry_of(list: &[u16], p: usize) -> u16
+    ensures { λ r. ⌜ r ≡ getD (now (list .entry)) p 0 ⌝ }
+{
+    if p < list.len() {
+        return list[p];
+    }
+    0
+}
+
+// The beginning end: the lower end, with equal numbers the earlier.
+pub fn beginning(a: usize, b: usize, numbers: &[u8], places: &[u16]) -> usize
+    ensures { λ r. ⌜ r ≡ beginning-end a b (now (numbers .entry)) (now (places .entry)) ⌝ }
+{
+    let x = number_of(numbers, a);
+    let y = number_of(numbers, b);
+    if x < y {
+        return a;
+    }
+    if y < x {
+        return b;
+    }
+    if entry_of(places, a) < entry_of(places, b) {
+        return a;
+    }
+    b
+}
+
+// Whether the radio at place `first` stands first in its level.
+pub fn leads(first: usize, level: u8, numbers: &[u8], order: &[u16]) -> bool
+    ensures { λ r. ⌜ r ≡ stands-first first level (now (numbers .entry)) (now (order .entry)) ⌝ }
+{
+    if first == 0 {
+        return true;
+    }
+    let v = entry_of(order, first - 1);
+    number_of(numbers, v as usize) < level
+}
