@@ -2,8 +2,7 @@
 --   Chosen         the beginning end: it is of the lower level, and the other end does not stand before it
 --   site           what the walk is made from
 --   walked-plan    the plan of a walk
---   settled-plan   the plan of the quick path, as a row tells it
---   short-plan     the same, as the not-lower count tells it
+--   settled-plan   the plan of the quick path
 use mathlib.Core.Path.{_≡_, refl, sym, ap, subst, _∙_}
 use mathlib.Core.Logic.{_⊎_, inl, inr}
 use mathlib.Core.Bool.{Bool, true, false, cond}
@@ -36,8 +35,6 @@ use Rattle.links.specs.Plans.{Ready, Planned}
 use Rattle.walk_parts.specs.Places.{level-start, level-size, beginning-end}
 use Rattle.links.specs.Peels.{linked-after, Level}
 use Rattle.links.specs.Walks.{radios-of, joined, Walk-site, Walk-done}
-use Rattle.links.specs.Turns.{ends-counted}
-use Rattle.links.proofs.PlanStart.{counter-a, counter-b, counted-level}
 use Rattle.links.proofs.PlanLevel.{a-below, b-below, is-valid, is-once, number-is, order-radios, level-is, above-is, stretch-fits, is-level, row-is, row-few}
 
 -- ---- the beginning end
@@ -392,40 +389,6 @@ module _ {a b : ℕ} {ts ns os ps cs : List ℕ} (r : Ready true (length os) a b
         few-later =
             rw begins at (subst (λ (x : ℕ). count (linked-after true a b x ts (getD tail 0 0)) (drop 1 tail) ≤ k) all-radios
             (leb-true (count (joined a b first ts tail (getD tail 0 0)) (drop 1 tail)) k h))
-
-    -- as the not-lower count tells it: what stands later is not lower
-    pub short-plan : getD cs e 0 < k → (list : List ℕ) → Planned true a b g os first 0 0 list
-    short-plan h =
-        unmoved-plan (
-        omega (
-          arith,
-          more,
-          counted-level r k ek e begins-below level-is-k,
-          count-append f (mids num k os) (highs num k os),
-          ap (count f) highs-high,
-          ap (count f) mids-cut,
-          count-append f (mids num k (take first os)) part,
-          ap (count f) (take-append-drop 1 part),
-          count-append f (take 1 part) (drop 1 part),
-        ))
-      where
-        f : ℕ → Bool
-        f = linked after e
-
-        level-is-k : num e ≡ k
-        level-is-k = sym (number-is r e begins-below) ∙ pick .level
-
-        more : getD (ends-counted true a b k ns cs) e 0 ≡ getD cs e 0 + 1
-        more = go (pick .end)
-          where
-            go : (e ≡ a) ⊎ (e ≡ b) → getD (ends-counted true a b k ns cs) e 0 ≡ getD cs e 0 + 1
-            go (inl q) = rw q (counter-a r k ek (ap num (sym q) ∙ level-is-k))
-            go (inr q) = rw q (counter-b r k ek (ap num (sym q) ∙ level-is-k))
-
-        mids-cut : mids num k os ≡ mids num k (take first os) ++ part
-        mids-cut =
-            ap (mids num k) cut ∙ filter-append (λ v. eqb (num v) k) (take first os) (e ∷ rest)
-            ∙ ap (λ (z : List ℕ). mids num k (take first os) ++ z) mids-part
 
     -- ---- as the code names its values: where the call begins, and what is lent of the order
 

@@ -14,7 +14,7 @@ use link_parts::apply::Plan;
 use walk_parts::ends;
 use walk_parts::stretch;
 
-// A level of so many radios or fewer is peeled: the walk reads the rows of all who rise, the peel those of the others.
+// A level of so many radios or fewer is peeled: the walk reads the rows of all who rise, the peel the rows of the others.
 const SMALL: usize = 16;
 
 // A plan that moves nothing.
@@ -69,8 +69,8 @@ fn plan_on(
     walk::walk(rise, part, links, numbers, tail, places, stretch)
 }
 
-// Plans the link a-b going up. Where the beginning end has fewer than K neighbours that are not lower, nothing moves and nothing rises.
-// Where it stands first in its level, the level is peeled: a level that rises whole has every row read by the walk and none by the peel.
+// Plans the link a-b going up. Where the beginning end stands first in its level, its neighbours that are not lower, at least K, stand later,
+// and the link adds one: it is never settled. The level is then peeled: where it rises whole the walk reads every row, the peel none.
 pub(crate) fn plan_up(
     a: u32,
     b: u32,
@@ -89,9 +89,6 @@ pub(crate) fn plan_up(
     let most = plan::lower(numbers[a as usize], numbers[b as usize]);
     let e = ends::beginning(a as usize, b as usize, numbers, places);
     let first = places[e] as usize;
-    if highs[e] < most {
-        return unmoved(first);
-    }
     if ends::leads(first, most, numbers, order) {
         return plan::plan_peel(true, a, b, links, numbers, order, places, highs, stretch);
     }

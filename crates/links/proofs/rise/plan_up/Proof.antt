@@ -1,11 +1,11 @@
 -- `rise::plan_up` meets its contract: the beginning end has a place, and each branch's plan is document 01's; the mathematics is in
 -- `proofs.WalkPlan`.
-use mathlib.Core.Path.{refl, ap}
+use mathlib.Core.Path.{ap}
 use Prim.Native.Nat.{ℕ}
 use native.Mathlib.Omega.{arith}
 use lib.ListN.{getD}
 use borrow.Author.Needs.{needs}
-use Rattle.links.proofs.WalkPlan.{ends-known, begins-below, short-plan, planned-as}
+use Rattle.links.proofs.WalkPlan.{ends-known, begins-below}
 use Rattle.links.proofs.rise.plan_up.Statement.{statement}
 use Rattle.links.proofs.rise.plan_up.Tie as tie
 
@@ -33,24 +33,11 @@ cast-first : tie.Need-cast-first
 cast-first c =
     omega (arith, c .shared-slice-known7 .given (c .before .beginning .result))
 
-slice-read-if1 : tie.Need-slice-read-if1
-slice-read-if1 c =
-    let chosen = c .before .before in
-    let most = chosen .before in
-    let start = c .before .before .before .before .before .before .before .before .before .before .before .before in omega (arith, begins-below (start .pre .0) (most .lower .result) (most .lower .ensures) (chosen .beginning .result) (chosen .beginning .ensures), start .pre .0 .highs-length)
-
-returns : tie.Need-returns
-returns c =
-    let chosen = c .before .before .before .before in
-    let most = chosen .before in
-    let start = c .before .before .before .before .before .before .before .before .before .before .before .before .before .before in
-    planned-as (c .unmoved .ensures) (short-plan (start .pre .0) (most .lower .result) (most .lower .ensures) (chosen .beginning .result) (chosen .beginning .ensures) _ refl (c .before .if1 .taken) _)
-
 plan-on-requires : tie.Need-plan-on-requires
 plan-on-requires c κs =
-    let chosen = c .before .before .before .before .before .before .before in
+    let chosen = c .before .before .before .before .before in
     let most = chosen .before in
-    let start = c .before .before .before .before .before .before .before .before .before .before .before .before .before .before .before .before .before in (
+    let start = c .before .before .before .before .before .before .before .before .before .before .before .before .before .before .before in (
       start .pre .0,
       (
         start .pre .1,
@@ -64,5 +51,5 @@ plan-on-requires c κs =
 pub plan-up-spec : {M : Type 1} → statement M
 plan-up-spec =
     tie.close (
-    tie.spec shared-slice-read-lower shared-slice-read-lower-2 (λ c κs. search needs) (λ c κs. search needs) mul-first shared-slice-read-first cast-first slice-read-if1
-    (λ c κs. search needs) returns (λ c κs. search needs) (λ c κs. search needs) (λ c. search needs) (λ c. search needs) (λ c. search needs) plan-on-requires (λ c. search needs) (λ c. search needs) (λ c. search needs))
+    tie.spec shared-slice-read-lower shared-slice-read-lower-2 (λ c κs. search needs) (λ c κs. search needs) mul-first shared-slice-read-first cast-first
+    (λ c κs. search needs) (λ c κs. search needs) (λ c. search needs) (λ c. search needs) (λ c. search needs) plan-on-requires (λ c. search needs) (λ c. search needs) (λ c. search needs))
