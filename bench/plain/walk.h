@@ -9,6 +9,8 @@ struct c_plan {
     uint16_t stretch[RADIOS];
 };
 
+#define SMALL 16 /* radios of a level that is peeled in any case */
+
 static unsigned first_bit(const uint64_t *set) {
     for (unsigned i = 0; i < 8; i++)
         if (set[i]) return 64 * i + __builtin_ctzll(set[i]);
@@ -98,20 +100,21 @@ static void c_go(struct c_walk *w, unsigned first, unsigned size, struct c_plan 
         if (w->held[tail[i]]) list[j++] = tail[i];
 }
 
-/* The plan of a link going up, but where the beginning end leads its level: then 0, and the level is to be peeled. */
+/* The plan of a link going up, but where the beginning end leads its level, or the level is small: then 0, and the level is to be peeled. */
 static int c_rise(const struct lent *t, uint32_t a, uint32_t b, const uint16_t *places, struct c_plan *plan) {
     const uint8_t *numbers = t->numbers;
     struct c_walk w = {.t = t, .places = places, .a = a, .b = b};
     uint16_t near[NEIGHBOURS + 1];
     unsigned e = numbers[a] < numbers[b] || (numbers[a] == numbers[b] && places[a] < places[b]) ? a : b;
-    unsigned first = places[e], end = 0;
+    unsigned first = places[e], start = 0, end = 0;
     w.level = numbers[e];
+    if (first == 0 || numbers[t->order[first - 1]] < w.level) return 0;
     if (c_left(&w, near, c_near(&w, e, near), first) <= w.level) {
         plan->start = first, plan->size = plan->taken = 0;
         return 1;
     }
-    if (first == 0 || numbers[t->order[first - 1]] < w.level) return 0;
-    for (unsigned v = 0; v < t->n; v++) end += numbers[v] <= w.level;
+    for (unsigned v = 0; v < t->n; v++) start += numbers[v] < w.level, end += numbers[v] <= w.level;
+    if (end - start <= SMALL) return 0;
     c_go(&w, first, end - first, plan);
     return 1;
 }
