@@ -17,6 +17,8 @@ pub mod MarkOutcomes
 pub mod LinkKept
 pub mod Holds
 pub mod SoundSwitches
+pub mod Turns
+pub mod HeardLaws
 pub mod Batches
 pub mod BatchCases
 pub mod Steps
