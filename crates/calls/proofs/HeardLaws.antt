@@ -28,9 +28,9 @@ use Rattle.mesh.proofs.GraphLaws.{linked-sym, linked-self, proper-of}
 use Rattle.mesh.proofs.Tables.Laws.{marked-bit-table}
 use Rattle.mesh.proofs.Tables.Rows.{of-symmetric, of-irreflexive, irreflexive-of}
 use Rattle.mesh.proofs.Tables.ReadBack.{in-graph-in, proper-graph-in, sorted-graph-in, ascending-graph-in, linked-graph-in}
-use Rattle.calls.specs.Switches.{Switch, switch, pairs-after}
+use Rattle.calls.specs.Switches.{Switch, switch, pairs-after, All-allowed}
 use Rattle.calls.specs.Heard.{agreed, agreed-degree, agreed-few, heard-proper, row-switches, switches-where, goes-down, comes-up, heard-switches}
-use Rattle.calls.proofs.Holds.{All-allowed, all-allowed-append, pairs-after-append}
+use Rattle.calls.proofs.Holds.{all-allowed-append, pairs-after-append}
 use Rattle.calls.proofs.Turns.{Ordered, pairs-eq, Room, switches-of, Turned, turns}
 
 -- ---- links that pass a test
@@ -170,7 +170,9 @@ module _ (n : ℕ) (hs : List ℕ) (ps : List Link) (small : n ≤ max-radios) (
       go true false = refl
       go false y = refl
 
-  up-passes : (m : Link) → In-links m ups → (linked (graph n middle) (m .low) (m .high) ≡ false) × (linked (graph n (agreed-links n hs)) (m .low) (m .high) ≡ true)
+  up-passes :
+      (m : Link) → In-links m ups →
+      (linked (graph n middle) (m .low) (m .high) ≡ false) × (linked (graph n (agreed-links n hs)) (m .low) (m .high) ≡ true)
   unfolding comes-up
   up-passes m i =
       let k = where-passes n (comes-up g hs) small m i in

@@ -20,7 +20,7 @@ use Rattle.mesh.specs.Image.{image-links, image-graph}
 use Rattle.lists.proofs.Overwrite.{take-overwrite}
 use Rattle.calls.specs.Questions.{By-number, lengths-of, answer-length, ask, ends-then, ends-refusal, is-proposal, tables-refusal, link-refusal}
 use Rattle.calls.specs.Questions.{commit-refusal, read-refusal}
-use Rattle.calls.specs.Switches.{Switch, switch, pairs-after, switched, tables-after}
+use Rattle.calls.specs.Switches.{Switch, switch, pairs-after, switched, tables-after, All-allowed}
 use Rattle.calls.specs.Contracts.Forms.{Tables-refused}
 use Rattle.calls.specs.Contracts.Sites.{Clear-accepted, Clear-contract}
 use Rattle.calls.specs.Contracts.Links.{Link-accepted, Link-refused, Link-contract}
@@ -42,7 +42,7 @@ use Rattle.calls.proofs.ContractLaws.{by-accepted}
 use Rattle.calls.proofs.RecordLaws.{tables-ext, refused-same}
 use Rattle.calls.proofs.MarkCalls.{named-zero, mark-read}
 use Rattle.calls.proofs.Holds.{clear-is, read-is}
-use Rattle.calls.proofs.Holds.{Holds, clear-holds, read-holds, unchanged-holds, same-n, read-back, site-asked, with-n, All-allowed, all-holds}
+use Rattle.calls.proofs.Holds.{Holds, clear-holds, read-holds, unchanged-holds, same-n, read-back, site-asked, with-n, all-holds}
 use Rattle.calls.proofs.Holds.{all-switching}
 use Rattle.calls.proofs.Batches.{batch-allowed}
 

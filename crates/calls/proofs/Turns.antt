@@ -19,8 +19,7 @@ use Rattle.lists.proofs.Range.{range-in, in-range}
 use Rattle.mesh.proofs.GraphLaws.{Ends, ends, ends-of, linked-by, linked-by-cons, linked-sym, joins, Proper, proper-of, of-proper, proper-new-links}
 use Rattle.mesh.proofs.Tables.AscendingLinks.{Before, Sorted, sorted-of, sorted-eq, in-links-proper, link-less, in-linked, linked-in}
 use Rattle.mesh.proofs.Tables.Relinked.{linked-relinked, ascending-new-links}
-use Rattle.calls.specs.Switches.{Switch, switch, pairs-after}
-use Rattle.calls.proofs.Holds.{All-allowed}
+use Rattle.calls.specs.Switches.{Switch, switch, pairs-after, All-allowed}
 
 pub record Ordered (n : ℕ) (ps : List Link) : Type 0 where
   pub is-proper : proper n ps ≡ true
@@ -75,7 +74,9 @@ room-at :
     degree (graph n ps) v < max-neighbours
 unfolding degree neighbours-among radios linked
 room-at n G ps ls r v w lv lw p q =
-    let c = count-less (linked (graph n ps) v) (linked G v) w (range 0 n) (in-range 0 n w (omega arith) (omega arith)) p q (λ x m. r .inside v x lv (omega (arith, range-in 0 n x m))) in
+    let c =
+    count-less (linked (graph n ps) v) (linked G v) w (range 0 n) (in-range 0 n w (omega arith) (omega arith)) p q
+    (λ x m. r .inside v x lv (omega (arith, range-in 0 n x m))) in
     let d : count (linked G v) (range 0 n) ≤ max-neighbours = rw (r .same-n) at (r .few v lv) in omega arith
 
 -- ---- in turn

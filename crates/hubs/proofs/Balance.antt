@@ -15,8 +15,8 @@ use Rattle.mesh.specs.Valid.{Allowed}
 use Rattle.mesh.proofs.GraphLaws.{Ends, ends, ends-of, linked-sym, proper-of}
 use Rattle.mesh.proofs.Tables.AscendingLinks.{in-links-proper, sorted-of, sorted-eq, link-less, in-linked, linked-in}
 use Rattle.mesh.proofs.Tables.Relinked.{linked-relinked}
-use Rattle.calls.specs.Switches.{Switch, pairs-after, switched, tables-after}
-use Rattle.calls.proofs.Holds.{Holds, switched-holds, All-allowed, all-holds}
+use Rattle.calls.specs.Switches.{Switch, pairs-after, switched, tables-after, All-allowed}
+use Rattle.calls.proofs.Holds.{Holds, switched-holds, all-holds}
 use Rattle.hubs.specs.Hubs.{same-call, times, Same-calls}
 
 bit : Bool → ℕ
