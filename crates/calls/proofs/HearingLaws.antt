@@ -48,7 +48,7 @@ good-marked n t k =
     let rows = and-left (symmetric n (t .links) && irreflexive n (t .links)) _ (sound-certificate max-neighbours n t (k .is-sound) .0) in
     linked-graph-in n (t .links) (and-left (symmetric n (t .links)) _ rows) (and-right (symmetric n (t .links)) _ rows)
 
-ordered-in : (n : ℕ) (ts : List ℕ) → Ordered n (graph-in n ts .links)
+pub ordered-in : (n : ℕ) (ts : List ℕ) → Ordered n (graph-in n ts .links)
 ordered-in n ts = record { is-proper = proper-graph-in n ts; is-ascending = ascending-graph-in n ts }
 
 -- ---- switches that are left

@@ -1,0 +1,1 @@
+-- A worked hearing, computed from the definitions.
