@@ -103,7 +103,7 @@ pub agreed-told : (n : ℕ) (hs : List ℕ) → heard-proper n hs ≡ true → T
 unfolding heard-proper agreed
 agreed-told n hs p = record {
   symmetric = λ a b _ _. agreed-sym hs a b;
-  irreflexive = λ a l. ap (λ (x : Bool). x && marked hs a a) (irreflexive-of n hs (and-left (irreflexive n hs) (within n hs) p) a l);
+  irreflexive = λ a l. ap (λ (x : Bool). x && marked hs a a) (irreflexive-of n hs (and-left (irreflexive n hs) _ p) a l);
 }
 
 abbrev pub agreed-links : (n : ℕ) → (heard : List ℕ) → List Link
