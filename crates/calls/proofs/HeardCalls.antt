@@ -8,17 +8,17 @@
 use mathlib.Core.Path.{_≡_, refl, sym, ap, ap₂, subst, _∙_}
 use mathlib.Core.Logic.{_⊎_, inl, inr}
 use mathlib.Core.Bool.{Bool, true, false, _&&_, not}
-use mathlib.Core.List.{List, [], _++_, map, flatMap}
-use Prim.Native.Nat.{ℕ, suc, _+_, _*_, _-_, _≤_, _<_}
+use mathlib.Core.List.{List, [], _++_, map}
+use Prim.Native.Nat.{ℕ, suc, _*_, _-_, _≤_, _<_}
 use native.Mathlib.Omega.{arith}
 use lib.Dec.{ltb, eqb}
 use lib.ListN.{length}
 use borrow.Author.Tests.{ltb-true, ltb-false, eqb-true}
 use Rattle.mesh.specs.Limits.{max-radios, max-neighbours, row-bytes}
-use Rattle.lists.specs.Lists.{range, count, total, filter}
-use Rattle.mesh.specs.Graph.{Link, Graph, graph, linked}
-use Rattle.mesh.specs.Tables.{Tables, marked, bit-table, graph-in}
-use Rattle.mesh.specs.Sound.{sound, symmetric, irreflexive, within, few, row-degree, rows-proper}
+use Rattle.lists.specs.Lists.{range, count, total}
+use Rattle.mesh.specs.Graph.{Graph, graph, linked}
+use Rattle.mesh.specs.Tables.{Tables, marked, graph-in}
+use Rattle.mesh.specs.Sound.{sound, symmetric, irreflexive, within, row-degree, rows-proper}
 use Rattle.lists.proofs.Tests.{bool-cases, and-left, and-right}
 use Rattle.lists.proofs.Range.{range-in, length-range}
 use Rattle.lists.proofs.Filter.{filter-none}
@@ -29,16 +29,15 @@ use Rattle.mesh.proofs.GraphLaws.{linked-sym}
 use Rattle.mesh.proofs.Tables.Laws.{marked-bit-table}
 use Rattle.mesh.proofs.Tables.Rows.{within-of, row-degree-count}
 use Rattle.mesh.proofs.Tables.Soundness.{sound-certificate}
-use Rattle.mesh.proofs.Tables.ReadBack.{proper-graph-in, ascending-graph-in}
-use Rattle.calls.specs.Questions.{ask, lengths-of}
-use Rattle.calls.specs.Switches.{Switch, switch, pairs-after, tables-after, All-allowed}
+use Rattle.calls.specs.Questions.{lengths-of}
+use Rattle.calls.specs.Switches.{Switch, switch, tables-after, All-allowed}
 use Rattle.calls.specs.Heard.{agreed, heard-alone, one-sided, one-sided-count, heard-lengths, heard-proper, agreed-few, hear-refusal}
 use Rattle.calls.specs.Heard.{row-switches, switches-where, goes-down, comes-up, heard-switches}
 use Rattle.calls.specs.Contracts.Heard.{Hear-accepted, Hear-refused, Hear-contract}
 use Rattle.calls.specs.Results.{Hear-right}
 use Rattle.calls.specs.declared.Value.{Value}
 use Rattle.calls.proofs.QuestionLaws.{ask-zero}
-use Rattle.calls.proofs.ChainLaws.{Site-good, site-zero}
+use Rattle.calls.proofs.ChainLaws.{site-zero}
 use Rattle.calls.proofs.ContractLaws.{by-zero}
 use Rattle.calls.proofs.SoundSwitches.{Good, good-right, all-good}
 use Rattle.calls.proofs.HeardLaws.{agreed-links, agreed-linked, hear-allowed, hear-pairs}

@@ -4,12 +4,12 @@ use mathlib.Core.Path.{_≡_, refl}
 use mathlib.Core.Bool.{true, false}
 use mathlib.Core.List.{List, [], _∷_, _++_}
 use Prim.Native.Nat.{ℕ}
-use lib.ListN.{length, replicate}
+use lib.ListN.{replicate}
 use Rattle.lists.specs.Lists.{range}
 use Rattle.mesh.specs.Graph.{Link, graph, link-of, neighbours-in}
 use Rattle.mesh.specs.Tables.{Tables, tables, put-digit, put-bit, put-link, row-links, graph-in, tables-of}
 use Rattle.calls.specs.Questions.{lengths-of, site-refusal}
-use Rattle.calls.specs.Switches.{Switch, switch, switched, tables-after}
+use Rattle.calls.specs.Switches.{switch, switched, tables-after}
 use Rattle.calls.specs.Heard.{agreed, agreed-degree, heard-alone, one-sided, one-sided-count, heard-lengths, heard-proper, agreed-few, hear-refusal}
 use Rattle.calls.specs.Heard.{row-switches, switches-where, goes-down, comes-up, heard-switches}
 use Rattle.calls.specs.Outcomes.{value, hear-outcome}

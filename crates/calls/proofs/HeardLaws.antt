@@ -6,8 +6,7 @@
 --   hear-allowed      questions 4 to 7 of each single call get yes
 --   middle-linked     what is linked after the downs
 --   hear-pairs        the pairs after all of them are the agreed links
-use mathlib.Core.Path.{_≡_, refl, sym, ap, ap₂, subst, _∙_}
-use mathlib.Core.Logic.{_⊎_, inl, inr}
+use mathlib.Core.Path.{_≡_, refl, sym, ap, ap₂, _∙_}
 use mathlib.Core.Bool.{Bool, true, false, _&&_, not, cond, and-comm}
 use mathlib.Core.List.{List, [], _∷_, _++_, map, flatMap}
 use Prim.Native.Nat.{ℕ, zero, suc, _+_, _-_, _≤_, _<_}
@@ -15,10 +14,10 @@ use native.Mathlib.Omega.{arith}
 use lib.Dec.{leb}
 use borrow.Author.Tests.{leb-true}
 use Rattle.mesh.specs.Limits.{max-radios, max-neighbours}
-use Rattle.lists.specs.Lists.{range, filter, all, count}
+use Rattle.lists.specs.Lists.{range, filter, count}
 use Rattle.mesh.specs.Graph.{Link, Graph, graph, link-of, In-links, radios, linked, neighbours-among, degree}
 use Rattle.mesh.specs.Tables.{marked, bit-table, row-links, graph-in}
-use Rattle.mesh.specs.Sound.{irreflexive, within}
+use Rattle.mesh.specs.Sound.{irreflexive}
 use Rattle.lists.proofs.Tests.{never, and-left, and-right}
 use Rattle.lists.proofs.Range.{range-in}
 use Rattle.lists.proofs.Filter.{filter-ext}

@@ -8,20 +8,18 @@
 --   downs-end, ups-end   all rows are done
 --   downs-row, ups-row   which radios of a row are switched, by the rows as they are then
 use mathlib.Core.Path.{_≡_, refl, sym, ap, ap₂, subst, _∙_}
-use mathlib.Core.Logic.{_⊎_, inl, inr}
+use mathlib.Core.Logic.{inl, inr}
 use mathlib.Core.Bool.{Bool, true, false, _&&_, not, cond}
 use mathlib.Core.List.{List, [], _∷_, _++_, map, flatMap, append-assoc, append-nil}
-use Prim.Native.Nat.{ℕ, zero, suc, _+_, _-_, _≤_, _<_}
+use Prim.Native.Nat.{ℕ, suc, _-_, _≤_, _<_}
 use native.Mathlib.Omega.{arith}
-use lib.Dec.{eqb}
 use lib.ListN.{length, take, length-append}
 use lib.Seq.{take-append-seam}
-use Rattle.mesh.specs.Limits.{max-radios, max-neighbours}
+use Rattle.mesh.specs.Limits.{max-neighbours}
 use Rattle.lists.specs.Lists.{range, filter, In, Ascending}
 use Rattle.mesh.specs.Graph.{Link, Graph, graph, linked, relinked, new-links}
-use Rattle.mesh.specs.Tables.{Tables, marked, put-link, graph-in}
-use Rattle.mesh.specs.Sound.{sound, symmetric, irreflexive, within, few, rows-proper}
-use Rattle.mesh.specs.Valid.{Allowed}
+use Rattle.mesh.specs.Tables.{Tables, marked, graph-in}
+use Rattle.mesh.specs.Sound.{sound, symmetric, irreflexive, few, rows-proper}
 use Rattle.lists.proofs.Tests.{and-left, and-right}
 use Rattle.lists.proofs.Range.{range-in}
 use Rattle.lists.proofs.Filter.{filter-ext, filter-filter}
@@ -33,11 +31,11 @@ use Rattle.calls.specs.Questions.{lengths-of, ends-refusal}
 use Rattle.calls.specs.Switches.{Switch, switch, pairs-after, switched, tables-after, All-allowed}
 use Rattle.calls.specs.Heard.{agreed, agreed-few, heard-proper, row-switches, switches-where, goes-down, comes-up, heard-switches}
 use Rattle.calls.specs.Hearing.{Left, Phase, rows-from, Rows-left, Row-left, downs, ups}
-use Rattle.calls.proofs.ChainLaws.{Site-good, ends-yes}
-use Rattle.calls.proofs.Holds.{pairs-after-append, tables-after-append}
+use Rattle.calls.proofs.ChainLaws.{ends-yes}
+use Rattle.calls.proofs.Holds.{tables-after-append}
 use Rattle.calls.proofs.SoundSwitches.{Good, switched-graph, all-good}
 use Rattle.calls.proofs.Turns.{Ordered}
-use Rattle.calls.proofs.HeardLaws.{hear-allowed, downs-pairs, middle, middle-linked}
+use Rattle.calls.proofs.HeardLaws.{hear-allowed, downs-pairs, middle-linked}
 
 -- ---- sound tables
 
