@@ -131,7 +131,7 @@ static void make_heard(enum kind kind) {
             if (marked(heard_start.links, (5 * a + 1) % RADIOS, (5 * b + 1) % RADIOS)) put_bit(all_heard, 1, a, b);
     switches = 0;
     add_switches(0), downs = switches, add_switches(1);
-    hearing = lent_by(&heard_site);
+    heard_site = heard_start, hearing = lent_by(&heard_site);
 }
 
 static int time_hearing(enum kind kind) {
