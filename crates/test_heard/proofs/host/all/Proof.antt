@@ -5,10 +5,10 @@ use Rattle.test_heard.proofs.host.all.Statement.{statement}
 use Rattle.test_heard.proofs.host.all.Tie as tie
 
 abbrev Inv-loop : tie.InvT-loop
-Inv-loop fd links₀ numbers₀ order₀ list₀ count seen₀ i₀ links numbers order list seen i = Unit
+Inv-loop fd links₀ numbers₀ order₀ heard₀ further₀ count seen₀ i₀ links numbers order heard further seen i = Unit
 
 abbrev μ-loop : tie.MeasureT-loop
-μ-loop fd links₀ numbers₀ order₀ list₀ count seen₀ i₀ links numbers order list seen i = count - i
+μ-loop fd links₀ numbers₀ order₀ heard₀ further₀ count seen₀ i₀ links numbers order heard further seen i = count - i
 
 pub all-spec : {M : Type 1} → statement M
 all-spec =

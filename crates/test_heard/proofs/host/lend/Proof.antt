@@ -8,7 +8,8 @@ use Rattle.test_heard.proofs.host.lend.Tie as tie
 pub lend-spec : {M : Type 1} → statement M
 lend-spec =
     tie.close (
-    tie.spec (λ c κs. search needs) (λ c κs. search needs) (λ c κs. search needs) (λ c κs. search needs) (λ c. search needs)
+    tie.spec (λ c κs. search needs) (λ c κs. search needs) (λ c κs. search needs) (λ c κs. search needs) (λ c κs. search needs) (λ c. search needs)
     (λ c. sym (length-take-le _ _ (search needs))) (λ c. search needs) (λ c. sym (length-take-le _ _ (search needs))) (λ c. search needs)
-    (λ c. sym (length-take-le _ _ (search needs))) (λ c. sym (length-take-le _ _ (search needs))) (λ c κs. search needs) (λ c. search needs)
-    (λ c. search needs) (λ c. search needs) (λ c. search needs))
+    (λ c. sym (length-take-le _ _ (search needs))) (λ c. sym (length-take-le _ _ (search needs))) (λ c. search needs)
+    (λ c. sym (length-take-le _ _ (search needs))) (λ c κs. search needs) (λ c. search needs) (λ c. search needs) (λ c. search needs)
+    (λ c. search needs) (λ c. search needs))
