@@ -22,8 +22,9 @@ use Rattle.mesh.specs.Sound.{irreflexive, within}
 use Rattle.mesh.proofs.Tables.Rows.{irreflexive-of, of-irreflexive}
 use Rattle.rows.specs.Rows.{neighbours-of}
 use Rattle.rows.proofs.MaskLaws.{marked-past}
+use Rattle.calls.specs.Questions.{ask}
 use Rattle.calls.specs.Heard.{agreed, agreed-degree, heard-proper, agreed-few}
-use Rattle.heard.specs.Hearing.{Of-size, In-front, none-from, hears}
+use Rattle.heard.specs.Hearing.{Of-size, In-front, none-from, hears, rows-refusal}
 
 -- ---- no radio at n or above
 
@@ -130,3 +131,19 @@ module _ (n : ℕ) (hs : List ℕ) where
       go : (agreed-few max-neighbours n hs ≡ true) ⊎ (agreed-few max-neighbours n hs ≡ false) → false ≡ agreed-few max-neighbours n hs
       go (inl t) = never (leb (agreed-degree n hs a) max-neighbours) (all-below (λ x. leb (agreed-degree n hs x) max-neighbours) n t a l) many
       go (inr t) = sym t
+
+-- ---- both questions
+
+module _ (n : ℕ) (hs : List ℕ) where
+  pub refusal-fourteen : heard-proper n hs ≡ false → 14 ≡ rows-refusal n hs
+  unfolding rows-refusal ask
+  refusal-fourteen e = rw e
+
+  module _ (is-proper : heard-proper n hs ≡ true) where
+    pub refusal-seven : agreed-few max-neighbours n hs ≡ false → 7 ≡ rows-refusal n hs
+    unfolding rows-refusal ask
+    refusal-seven e = rw (is-proper, e)
+
+    pub refusal-none : agreed-few max-neighbours n hs ≡ true → 0 ≡ rows-refusal n hs
+    unfolding rows-refusal ask
+    refusal-none e = rw (is-proper, e)

@@ -3,6 +3,7 @@
 --   In-front xs r list     the first r entries of the list are xs
 --   hears hs a b           b hears a
 --   none-from n hs a       row a marks no radio at n or above
+--   rows-refusal n hs      questions 14 and 7
 --   alone-put              the further table after the pair of a and a radio that it hears: marked unless that radio hears a
 --   Pair-marked, Row-marked, One-sided-marked   what marking a pair, a row and a table comes back with
 --   wanted up hs ts a b    the link between a and b is to come up, or to go down, by the links table ts
@@ -14,11 +15,12 @@ use mathlib.Core.List.{List}
 use Prim.Native.Nat.{ℕ, suc, _*_, _-_, _≤_, _<_}
 use lib.Dec.{ltb}
 use lib.ListN.{length, take}
-use Rattle.mesh.specs.Limits.{max-radios, row-bytes}
+use Rattle.mesh.specs.Limits.{max-radios, max-neighbours, row-bytes}
 use Rattle.lists.specs.Lists.{range, count, filter, all, folded}
 use Rattle.mesh.specs.Tables.{marked, put-bit}
 use Rattle.mesh.specs.Sound.{within}
-use Rattle.calls.specs.Heard.{agreed, one-sided, one-sided-count}
+use Rattle.calls.specs.Questions.{ask}
+use Rattle.calls.specs.Heard.{agreed, heard-proper, agreed-few, one-sided, one-sided-count}
 
 pub record Of-size (n : ℕ) (hs : List ℕ) : Type 0 where
   pub most : n ≤ max-radios
@@ -35,6 +37,10 @@ none-from n hs a = all (λ b. not (marked hs a b)) (range n (max-radios - n))
 
 unfoldable pub hears : (heard : List ℕ) → (a b : ℕ) → Bool
 hears hs a b = marked hs b a
+
+-- the number of the first "no", or 0
+unfoldable pub rows-refusal : (n : ℕ) → (heard : List ℕ) → ℕ
+rows-refusal n hs = ask 14 (heard-proper n hs) (ask 7 (agreed-few max-neighbours n hs) 0)
 
 -- ---- one-sided pairs
 

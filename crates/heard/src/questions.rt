@@ -3,8 +3,9 @@ ghost use mathlib.Core.Path.{_≡_};
 ghost use Rattle.mesh.specs.Limits.{max-neighbours};
 ghost use Rattle.lists.specs.Lists.{count};
 ghost use Rattle.calls.specs.Heard.{heard-proper, agreed-few};
-ghost use Rattle.heard.specs.Hearing.{Of-size, none-from, hears};
+ghost use Rattle.heard.specs.Hearing.{Of-size, none-from, hears, rows-refusal};
 use super::row;
+use calls::Refusal;
 use mesh::Site;
 
 // Whether row a marks no radio at n or above.
@@ -68,4 +69,17 @@ pub fn are_few(n: u32, heard: &[u8]) -> bool
         a += 1;
     }
     true
+}
+
+// The number of questions 14 and 7, or 0.
+pub fn refusal(n: u32, heard: &[u8]) -> u32
+    ensures { λ r. ⌜ (Of-size n (now (heard .entry)) → r ≡ rows-refusal n (now (heard .entry))) ⌝ }
+{
+    if !is_proper(n, heard) {
+        return Refusal::HEARD;
+    }
+    if !are_few(n, heard) {
+        return Refusal::NO_ROOM;
+    }
+    0
 }
