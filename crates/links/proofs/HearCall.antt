@@ -77,8 +77,8 @@ module _ (n : ℕ) (hs : List ℕ) (f : ℕ) (t : Tables) (p h q : ℕ) (e : q �
 
         pub hear-unsound : r ≡ false → Hear-asked n hs f t p h qs js 3
         unfolding ask
-        hear-unsound no =
-            record { number = λ ep eh. sym (then-asked ∙ rw (sym (sound-is ep eh) ∙ no)); prepared = λ _ _ z. absurd (omega arith) }
+        hear-unsound bad =
+            record { number = λ ep eh. sym (then-asked ∙ rw (sym (sound-is ep eh) ∙ bad)); prepared = λ _ _ z. absurd (omega arith) }
 
         pub hear-sound : r ≡ true → (m : ℕ) → (Of-size n hs → m ≡ rows-refusal n hs) → Hear-asked n hs f t p h qs js m
         unfolding ask

@@ -119,17 +119,17 @@ pub fn hear(
     numbers: &mut [u8],
     order: &mut [u16],
     heard: &[u8],
-    one_sided: &mut [u8],
+    further: &mut [u8],
 ) -> Value
-    ensures { λ r. ⌜ Hear-contract n (now (heard .entry)) (lent (links .entry) (numbers .entry) (order .entry)) (now (one_sided .entry)) r
-        (lent (links .exit) (numbers .exit) (order .exit)) (now (one_sided .exit)) ⌝ }
+    ensures { λ r. ⌜ Hear-contract n (now (heard .entry)) (lent (links .entry) (numbers .entry) (order .entry)) (now (further .entry)) r
+        (lent (links .exit) (numbers .exit) (order .exit)) (now (further .exit)) ⌝ }
 {
     let mut places = [0u16; Site::RADIOS as usize];
     let mut highs = [0u8; Site::RADIOS as usize];
     let number = refusal(
         n,
         heard,
-        one_sided.len(),
+        further.len(),
         links,
         numbers,
         order,
@@ -139,7 +139,7 @@ pub fn hear(
     if number != 0 {
         return Value { number, value: 0 };
     }
-    let count = heard::one_sided::mark(n, heard, one_sided);
+    let count = heard::one_sided::mark(n, heard, further);
     switch_rows(
         false,
         n,
