@@ -64,17 +64,7 @@ fn switch_rows(
     let mut a: u32 = 0;
     while a < n {
         let k = heard::wanted::list(up, heard, links, a, &mut list);
-        switch_row(
-            up,
-            n,
-            a,
-            &list[..k],
-            links,
-            numbers,
-            order,
-            places,
-            highs,
-        );
+        switch_row(up, n, a, &list[..k], links, numbers, order, places, highs);
         a += 1;
     }
 }
