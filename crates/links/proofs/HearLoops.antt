@@ -1,0 +1,147 @@
+-- The loops of a hearing, on plain values: the links of a row, and the rows of a phase.
+use mathlib.Core.Path.{_≡_, refl, sym, ap, subst, _∙_}
+use mathlib.Core.Bool.{Bool, true, false, _&&_, not, cond}
+use mathlib.Core.List.{List, [], _∷_}
+use Prim.Native.Nat.{ℕ, suc, _+_, _*_, _-_, _≤_, _<_}
+use native.Mathlib.Omega.{arith}
+use native.Mathlib.Numerals.{add-one}
+use lib.ListN.{length, getD, take, drop, drop-of-length-le}
+use lib.Seq.{drop-cons, length-take-le}
+use Rattle.mesh.specs.Limits.{max-radios, max-neighbours, row-bytes}
+use Rattle.lists.specs.Lists.{range, filter, In, Ascending}
+use Rattle.lists.proofs.Tests.{and-left, and-right}
+use Rattle.lists.proofs.Range.{range-in, length-range}
+use Rattle.lists.proofs.Filter.{filter-all, filter-ext, in-filter, filter-le}
+use Rattle.lists.proofs.Ascending.{ascending-range, ascending-filter}
+use Rattle.mesh.specs.Tables.{Tables, marked, graph-in}
+use Rattle.mesh.specs.Sound.{sound, within, rows-proper, few, symmetric, irreflexive}
+use Rattle.mesh.proofs.Tables.Soundness.{sound-certificate}
+use Rattle.calls.specs.Questions.{lengths-of, ends-refusal}
+use Rattle.calls.specs.Switches.{switch, switched}
+use Rattle.calls.specs.Heard.{agreed}
+use Rattle.calls.specs.Hearing.{Phase, Rows-left, Row-left}
+use Rattle.calls.proofs.SoundSwitches.{Good}
+use Rattle.calls.proofs.HearingLaws.{row-first, row-next, row-end}
+use Rattle.heard.specs.Hearing.{Of-size, In-front, wanted, Wanted-listed}
+use Rattle.links.specs.Steps.{Prepared, Stepped}
+use Rattle.links.specs.Hearings.{Phase-by, Row-switched, Rows-switched}
+use Rattle.links.proofs.StepLaws.{fits-good}
+
+-- ---- the links of a row
+
+-- i of the listed links are done, which brought the tables t to u
+pub record Row-switching (up : Bool) (n a : ℕ) (bs : List ℕ) (t u : Tables) (places highs : List ℕ) (i : ℕ) : Type 0 where
+  pub prepared : Prepared n u places highs
+  pub left : (p : Phase) (s : Tables) → p .up ≡ up → Row-left n p s a (λ b. true) bs t → Row-left n p s a (λ b. true) (drop i bs) u
+
+pub switching-none : (up : Bool) (n a : ℕ) (bs : List ℕ) {t : Tables} {places highs : List ℕ} → Prepared n t places highs
+    → Row-switching up n a bs t t places highs 0
+switching-none up n a bs k = record { prepared = k; left = λ p s e r. r }
+
+module _ {up : Bool} {n a : ℕ} {bs : List ℕ} {t u : Tables} {places highs : List ℕ} {i : ℕ} (w : Row-switching up n a bs t u places highs i) where
+  pub switching-turn : i < length bs → (r : ℕ) (v : Tables) (qs is : List ℕ) → Stepped up n a (getD bs i 0) u r v qs is
+      → Row-switching up n a bs t v qs is (i + 1)
+  switching-turn l r v qs is d = record { prepared = d .prepared; left = next }
+    where
+      b : ℕ
+      b = getD bs i 0
+
+      rest : drop i bs ≡ b ∷ drop (i + 1) bs
+      rest = drop-cons bs i 0 l ∙ ap (λ (j : ℕ). b ∷ drop j bs) (sym (add-one i))
+
+      next : (p : Phase) (s : Tables) → p .up ≡ up → Row-left n p s a (λ x. true) bs t → Row-left n p s a (λ x. true) (drop (i + 1) bs) v
+      next p s e o =
+          let q : Row-left n p s a (λ x. true) (b ∷ drop (i + 1) bs) u = subst (λ (xs : List ℕ). Row-left n p s a (λ x. true) xs u) rest (w .left p s e o) in
+          let y = row-next q (fits-good n u (w .prepared .good)) refl in
+          let z : r ≡ 0 = d .number ∙ subst (λ (x : Bool). ends-refusal max-neighbours x n a b (graph-in n (u .links)) ≡ 0) e (y .0) in
+          let f : switched n (switch (p .up) a b) u ≡ v = ap (λ (x : Bool). switched n (switch x a b) u) e ∙ sym (d .done z) in
+          subst (λ (x : Tables). Row-left n p s a (λ x. true) (drop (i + 1) bs) x) f (y .1)
+
+  pub switching-end : length bs ≤ i → Row-switched up n a bs t u places highs
+  switching-end l = record {
+    prepared = w .prepared;
+    left = λ p s e o. row-end (subst (λ (xs : List ℕ). Row-left n p s a (λ b. true) xs u) (drop-of-length-le bs l) (w .left p s e o));
+  }
+
+-- ---- the rows of a phase
+
+-- the rows before row a are done
+pub record Rows-switching (up : Bool) (n : ℕ) (hs : List ℕ) (t u : Tables) (places highs : List ℕ) (a : ℕ) : Type 0 where
+  pub low : a ≤ n
+  pub size : Of-size n hs
+  pub prepared : Prepared n u places highs
+  pub left : (p : Phase) (s : Tables) → p .up ≡ up → Phase-by n hs p → Rows-left n p s 0 t → Rows-left n p s a u
+
+pub rows-none : (up : Bool) (n : ℕ) (hs : List ℕ) {t : Tables} {places highs : List ℕ} → Prepared n t places highs → Of-size n hs
+    → Rows-switching up n hs t t places highs 0
+rows-none up n hs k s = record { low = omega arith; size = s; prepared = k; left = λ p s e y r. r }
+
+good-within : (n : ℕ) (t : Tables) → Good n t → within n (t .links) ≡ true
+unfolding rows-proper sound
+good-within n t k =
+    and-left (within n (t .links)) (few max-neighbours n (t .links))
+    (and-right (symmetric n (t .links) && irreflexive n (t .links)) _ (sound-certificate max-neighbours n t (k .is-sound) .0))
+
+good-size : (n : ℕ) (t : Tables) → Good n t → Of-size n (t .links)
+unfolding lengths-of
+good-size n t k = record { most = k .lent .most; long = k .lent .lengths .links }
+
+module _ {up : Bool} {n : ℕ} {hs : List ℕ} {t u : Tables} {places highs : List ℕ} {a : ℕ} (w : Rows-switching up n hs t u places highs a) where
+  good : Good n u
+  good = fits-good n u (w .prepared .good)
+
+  abbrev radios : List ℕ
+  radios = range (suc a) (n - suc a)
+
+  abbrev chosen : List ℕ
+  chosen = filter (wanted up hs (u .links) a) radios
+
+  module _ (l : a < n) (old new : List ℕ) (k : ℕ) (room : length old ≡ max-radios) (d : Wanted-listed up hs (u .links) a old k new) where
+    front : In-front chosen k new
+    front = d .is n (w .size) (good-size n u good) (good-within n u good) l room
+
+    few-chosen : length chosen ≤ max-radios
+    few-chosen = omega (arith, filter-le (wanted up hs (u .links) a) radios (n - suc a) (length-range (suc a) (n - suc a)), w .size .most)
+
+    -- they fit the list
+    pub rows-fit : length new ≡ length old → k ≤ length new
+    rows-fit e = omega (arith, front .counted, few-chosen, e, room)
+
+    pub rows-long : length new ≡ length old → k ≡ length (take k new)
+    rows-long e = sym (length-take-le k new (rows-fit e))
+
+    inside : (b : ℕ) → In b chosen → (a < b) × (b < n)
+    inside b i = let o = range-in (suc a) (n - suc a) b (in-filter (wanted up hs (u .links) a) radios b i .0) in (omega (arith, o .0), omega (arith, o .0, o .1, l))
+
+    -- by what the rows mark, these are the pairs of the phase
+    chosen-is : (p : Phase) (s : Tables) → p .up ≡ up → Phase-by n hs p → Rows-left n p s a u → filter (λ b. true) chosen ≡ filter (p .test a) radios
+    unfolding Phase-by wanted
+    chosen-is p s e y r =
+        filter-all (λ b. true) chosen (λ b i. refl)
+        ∙ filter-ext (wanted up hs (u .links) a) (p .test a) radios
+        (λ b i.
+        let o = range-in (suc a) (n - suc a) b i in
+        let lb : a < b = omega (arith, o .0) in
+        let ln : b < n = omega (arith, o .0, o .1, l) in
+        ap (λ (m : Bool). cond up (agreed hs a b && not m) (m && not (agreed hs a b))) (r .kept a b (omega arith) lb ln)
+        ∙ ap (λ (x : Bool). cond x (agreed hs a b && not (p .marks a b)) (p .marks a b && not (agreed hs a b))) (sym e)
+        ∙ sym (y a b lb ln))
+
+    pub rows-turn : (v : Tables) (qs is : List ℕ) → Row-switched up n a (take k new) u v qs is → Rows-switching up n hs t v qs is (a + 1)
+    rows-turn v qs is c = record {
+      low = omega (arith, l);
+      size = w .size;
+      prepared = c .prepared;
+      left = λ p s e y o.
+          let r = w .left p s e y o in
+          let f : Row-left n p s a (λ b. true) chosen u =
+          row-first l r (λ b. true) chosen (chosen-is p s e y r) inside (ascending-filter (wanted up hs (u .links) a) radios (ascending-range (suc a) (n - suc a))) in
+          subst (λ (j : ℕ). Rows-left n p s j v) (sym (add-one a))
+          (c .left p s e (subst (λ (xs : List ℕ). Row-left n p s a (λ b. true) xs u) (sym (front .listed)) f));
+    }
+
+  pub rows-done : n ≤ a → Rows-switched up n hs t u places highs
+  rows-done h = record {
+    prepared = w .prepared;
+    left = λ p s e y o. let q : a ≡ n = omega (arith, h, w .low) in subst (λ (j : ℕ). Rows-left n p s j u) q (w .left p s e y o);
+  }

@@ -1,0 +1,52 @@
+-- `hear::hear` meets its contract: a refusal touches nothing but scratch; else the one-sided pairs are marked, and both phases are done.
+use mathlib.Core.Path.{refl}
+use borrow.Author.Needs.{needs}
+use Rattle.mesh.specs.Tables.{tables}
+use Rattle.links.proofs.HearCall.{hear-refused, hear-prepared, hear-size, hear-done}
+use Rattle.links.proofs.hear.hear.Statement.{statement}
+use Rattle.links.proofs.hear.hear.Tie as tie
+
+returns : tie.Need-returns
+returns c =
+    let asked = c .before .before .before in
+    let x = asked .before .before .before .before .before .before .before .before .before .before .before .args in
+    hear-refused (x .n) (x .heard .now) (x .further .now) (tables (x .links .now) (x .numbers .now) (x .order .now)) _ _ refl refl _ _ (asked .refusal .result)
+    (asked .refusal .ensures) (c .if1 .taken)
+
+switch-rows-requires : tie.Need-switch-rows-requires
+switch-rows-requires c κs =
+    let asked = c .before .before .before .before .before .before .before .before .before .before .before .before in
+    let x = asked .before .before .before .before .before .before .before .before .before .before .before .args in
+    let yes = c .before .before .before .before .before .before .before .before .before .if1 .left in (
+      hear-prepared (x .n) (x .heard .now) (x .further .now) (tables (x .links .now) (x .numbers .now) (x .order .now)) _ _ refl refl _ _ (asked .refusal .result)
+          (asked .refusal .ensures) yes,
+      hear-size (x .n) (x .heard .now) (x .further .now) (tables (x .links .now) (x .numbers .now) (x .order .now)) _ _ refl refl _ _ (asked .refusal .result)
+          (asked .refusal .ensures) yes,
+    )
+
+switch-rows-requires-2 : tie.Need-switch-rows-requires-2
+switch-rows-requires-2 c κs =
+    let asked = c .before .before .before .before .before .before .before .before .before .before .before .before .before .before .before .before .before .before .before .before .before .before .before .before .before .before in
+    let x = asked .before .before .before .before .before .before .before .before .before .before .before .args in (
+      c .before .before .before .before .before .before .before .before .before .before .before .before .before .switch-rows .ensures .prepared,
+      hear-size (x .n) (x .heard .now) (x .further .now) (tables (x .links .now) (x .numbers .now) (x .order .now)) _ _ refl refl _ _ (asked .refusal .result)
+          (asked .refusal .ensures) (c .before .before .before .before .before .before .before .before .before .before .before .before .before .before .before .before .before .before .before .before .before .before .before .if1 .left),
+    )
+
+returns-2 : tie.Need-returns-2
+returns-2 c =
+    let risen = c .before .before .before .before .before .before .before .before in
+    let fallen = risen .before .before .before .before .before .before .before .before .before .before .before .before .before .before in
+    let marked = fallen .before .before .before .before .before .before .before .before in
+    let asked = marked .before .before .before .before .before in
+    let x = asked .before .before .before .before .before .before .before .before .before .before .before .args in
+    hear-done (x .n) (x .heard .now) (x .further .now) (tables (x .links .now) (x .numbers .now) (x .order .now)) _ _ refl refl _ _ (asked .refusal .result)
+    (asked .refusal .ensures) (marked .before .before .if1 .left)
+    (marked .mark .result) _ (marked .mark .ensures) _ _ _ (fallen .switch-rows .ensures) _ _ _ (risen .switch-rows2 .ensures)
+
+pub hear-spec : {M : Type 1} → statement M
+hear-spec =
+    tie.close (
+    tie.spec (λ c. search needs) (λ c. search needs) (λ c κs. search needs) (λ c. search needs) (λ c. search needs) (λ c. search needs) returns
+    (λ c κs. search needs) (λ c. search needs) (λ c. search needs) switch-rows-requires (λ c. search needs) (λ c. search needs) switch-rows-requires-2
+    (λ c. search needs) (λ c. search needs) (λ c. search needs) (λ c. search needs) returns-2)
