@@ -38,7 +38,7 @@ static unsigned c_mark_alone(uint32_t n, const uint8_t *heard, uint8_t *further)
     return count;
 }
 
-/* The links that go up, or down, row by row; those of a row are listed before the first of them. */
+/* The links that go up, or down, row by row; the ones of a row are listed before the first goes. */
 static void c_switch(int up, const struct lent *t, const uint8_t *heard, uint16_t *places, uint8_t *highs) {
     uint16_t list[RADIOS];
     for (unsigned a = 0; a < t->n; a++) {

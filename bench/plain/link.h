@@ -124,7 +124,7 @@ static void c_renew(const struct lent *t, uint32_t a, uint32_t b, const uint16_t
     }
 }
 
-/* A link of a list that is allowed: places and not-lower counts are those of the tables, before and after. */
+/* A link of a list that is allowed: places and not-lower counts are kept up to date. */
 static void c_step(int up, const struct lent *t, uint32_t a, uint32_t b, uint16_t *places, uint8_t *highs) {
     struct c_plan plan;
     uint16_t changed[RADIOS];
