@@ -9,7 +9,7 @@ use native.Mathlib.Omega.{arith}
 use native.Mathlib.Numerals.{add-one}
 use mir.Val.{boolByte}
 use lib.Dec.{ltb}
-use lib.ListN.{length, getD, set, take, drop, length-set, drop-of-length-le}
+use lib.ListN.{length, getD, set, take, drop, length-set, length-append, drop-of-length-le}
 use lib.Seq.{take-set-le, take-suc-set, drop-cons, length-take-le}
 use borrow.Author.Tests.{lt-ltb, le-ltb}
 use Rattle.mesh.specs.Limits.{max-radios, row-bytes}
@@ -22,7 +22,7 @@ use Rattle.mesh.specs.Sound.{within}
 use Rattle.mesh.proofs.Tables.Rows.{within-of}
 use Rattle.rows.specs.Rows.{neighbours-of}
 use Rattle.calls.specs.Heard.{agreed}
-use Rattle.heard.specs.Hearing.{Of-size, In-front, wanted, above-wanted, Wanted-listed}
+use Rattle.heard.specs.Hearing.{Of-size, In-front, wanted, above-wanted, Kept-in-front, Wanted-listed}
 use Rattle.heard.proofs.AskLaws.{agreed-past}
 
 -- ---- one link
@@ -73,13 +73,14 @@ pub record Keeping (f : ℕ → Bool) (xs : List ℕ) (room : ℕ) (list : List 
   pub low : n ≤ i
   pub inside : i ≤ length xs
   pub long : length list ≡ room
+  pub fits : n ≤ room
   pub listed : take n list ++ filter f (drop i xs) ≡ filter f xs
 
 pub keeping-none : (f : ℕ → Bool) (xs list : List ℕ) → Keeping f xs (length list) list 0 0
-keeping-none f xs list = record { low = omega arith; inside = omega arith; long = refl; listed = refl }
+keeping-none f xs list = record { low = omega arith; inside = omega arith; long = refl; fits = omega arith; listed = refl }
 
-module _ (f : ℕ → Bool) (xs : List ℕ) (room : ℕ) (list : List ℕ) (n i : ℕ) (fits : length xs ≤ room) (k : Keeping f xs room list n i) where
-  module _ (l : i < length xs) where
+module _ (f : ℕ → Bool) (xs : List ℕ) (room : ℕ) (list : List ℕ) (n i : ℕ) (k : Keeping f xs room list n i) where
+  module _ (l : i < length xs) (more : n < length list) where
     abbrev x : ℕ
     x = getD xs i 0
 
@@ -92,7 +93,7 @@ module _ (f : ℕ → Bool) (xs : List ℕ) (room : ℕ) (list : List ℕ) (n i 
 
     kept : f x ≡ true → take (suc n) (set list n x) ++ left ≡ filter f xs
     kept e =
-        ap (λ (ys : List ℕ). ys ++ left) (take-suc-set list n x (omega (arith, k .low, k .long, fits, l)))
+        ap (λ (ys : List ℕ). ys ++ left) (take-suc-set list n x more)
         ∙ append-assoc (take n list) (x ∷ []) left
         ∙ ap (λ (ys : List ℕ). take n list ++ ys) (sym (next ∙ cond-true (f x) (x ∷ left) left e))
         ∙ k .listed
@@ -108,21 +109,29 @@ module _ (f : ℕ → Bool) (xs : List ℕ) (room : ℕ) (list : List ℕ) (n i 
       low = omega (arith, k .low, byte-bit true);
       inside = omega (arith, l);
       long = length-set list n x ∙ k .long;
+      fits = omega (arith, more, k .long, byte-bit true);
       listed = let m : n + boolByte true ≡ suc n = omega (arith, byte-bit true) in rw m (kept (sym e));
     }
     keeping-turn false e = record {
       low = omega (arith, k .low, byte-bit false);
       inside = omega (arith, l);
       long = length-set list n x ∙ k .long;
+      fits = omega (arith, more, k .long, byte-bit false);
       listed = let m : n + boolByte false ≡ n = omega (arith, byte-bit false) in rw m (passed (sym e));
     }
 
-  pub keeping-end : length xs ≤ i → In-front (filter f xs) n list
+  pub keeping-full : (old : List ℕ) → room ≡ length old → length list ≤ n → Kept-in-front f xs old n list
+  keeping-full old e l = record {
+    is = λ h.
+        absurd (omega (arith, h, l, e, k .long, ap length (k .listed), length-append (take n list) (filter f (drop i xs)), length-take-le n list (omega (arith, k .fits, k .long))));
+  }
+
+  pub keeping-end : (old : List ℕ) → length xs ≤ i → Kept-in-front f xs old n list
   unfolding filter
-  keeping-end l =
+  keeping-end old l =
       let all : take n list ≡ filter f xs =
       sym (append-nil (take n list)) ∙ ap (λ (ys : List ℕ). take n list ++ filter f ys) (sym (drop-of-length-le xs l)) ∙ k .listed in
-      record { counted = sym (length-take-le n list (omega (arith, k .low, k .inside, k .long, fits))) ∙ ap length all; listed = all }
+      record { is = λ h. record { counted = sym (length-take-le n list (omega (arith, k .fits, k .long))) ∙ ap length all; listed = all } }
 
 -- ---- the links of a row
 
@@ -189,11 +198,12 @@ module _ (u : Bool) (hs ts : List ℕ) (a n : ℕ) (sh : Of-size n hs) (st : Of-
   unfolding wanted
   down-marked e b h = and-left (marked ts a b) (not (agreed hs a b)) (rw e at h)
 
-  module _ (row new : List ℕ) (k r : ℕ) (kept : In-front (filter (above-wanted u hs ts a) (take k row)) r new) where
+  module _ (row old new : List ℕ) (k r : ℕ) (kept : Kept-in-front (above-wanted u hs ts a) (take k row) old r new) (room : length higher < length old) where
     kept-front : (xs : List ℕ) → In-front (neighbours-of xs a) k row → filter (above-wanted u hs ts a) (neighbours-of xs a) ≡ higher → In-front higher r new
-    kept-front xs f e =
-        let s : filter (above-wanted u hs ts a) (take k row) ≡ higher = ap (filter (above-wanted u hs ts a)) (f .listed) ∙ e in
-        record { counted = kept .counted ∙ ap length s; listed = kept .listed ∙ s }
+    kept-front xs o e =
+        let s : filter (above-wanted u hs ts a) (take k row) ≡ higher = ap (filter (above-wanted u hs ts a)) (o .listed) ∙ e in
+        let f = kept .is (omega (arith, room, ap length s)) in
+        record { counted = f .counted ∙ ap length s; listed = f .listed ∙ s }
 
     pub up-front : u ≡ true → In-front (neighbours-of hs a) k row → In-front higher r new
     up-front e f = kept-front hs f (row-wanted hs (up-marked e))

@@ -7,6 +7,7 @@
 --   alone-put              the further table after the pair of a and a radio that it hears: marked unless that radio hears a
 --   Pair-marked, Row-marked, One-sided-marked   what marking a pair, a row and a table comes back with
 --   wanted up hs ts a b    the link between a and b is to come up, or to go down, by the links table ts
+--   Kept-in-front          the radios of a list that pass a test, in front of another list
 --   Wanted-listed          the radios above a whose link with a is wanted, in front of a list
 -- Definitions only.
 use mathlib.Core.Path.{_≡_}
@@ -68,6 +69,11 @@ wanted u hs ts a b = cond u (agreed hs a b && not (marked ts a b)) (marked ts a 
 unfoldable pub above-wanted : (up : Bool) → (heard links : List ℕ) → (a b : ℕ) → Bool
 above-wanted u hs ts a b = ltb a b && wanted u hs ts a b
 
+-- of the radios xs the ones that pass the test, where the list has room for one more
+pub record Kept-in-front (f : ℕ → Bool) (xs old : List ℕ) (r : ℕ) (new : List ℕ) : Type 0 where
+  pub is : length (filter f xs) < length old → In-front (filter f xs) r new
+
 pub record Wanted-listed (up : Bool) (hs ts : List ℕ) (a : ℕ) (old : List ℕ) (r : ℕ) (new : List ℕ) : Type 0 where
-  pub is : (n : ℕ) → Of-size n hs → Of-size n ts → within n ts ≡ true → a < n → length old ≡ max-radios
+  pub is : (n : ℕ) → Of-size n hs → Of-size n ts → within n ts ≡ true → a < n
+      → length (filter (wanted up hs ts a) (range (suc a) (n - suc a))) < length old
       → In-front (filter (wanted up hs ts a) (range (suc a) (n - suc a))) r new

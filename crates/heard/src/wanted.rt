@@ -1,10 +1,7 @@
 // The links of a row that are to go down, or to come up, for the site to have the agreed links.
 ghost use mathlib.Core.Path.{_≡_};
-ghost use Prim.Native.Nat.{_≤_};
-ghost use lib.ListN.{length};
-ghost use Rattle.lists.specs.Lists.{filter};
 ghost use Rattle.calls.specs.Heard.{agreed};
-ghost use Rattle.heard.specs.Hearing.{In-front, above-wanted, Wanted-listed};
+ghost use Rattle.heard.specs.Hearing.{above-wanted, Kept-in-front, Wanted-listed};
 use super::row;
 use mesh::Site;
 
@@ -38,8 +35,8 @@ fn is_wanted<'a>(up: bool, heard: &'a [u8], links: &'a [u8], a: u32, b: u32) -> 
     !is_agreed(heard, a, b)
 }
 
-// Writes the radios of the row whose link with a is wanted into the list, in their order, and comes back with their count; the rest of
-// the list holds anything.
+// Writes the radios of the row whose link with a is wanted into the list, in their order, until it is full, and comes back with their
+// count; the rest of the list holds anything.
 fn keep<'a>(
     up: bool,
     heard: &'a [u8],
@@ -48,12 +45,15 @@ fn keep<'a>(
     row: &'a [u16],
     list: &mut [u16],
 ) -> usize
-    requires { ⌜ length (now row) ≤ length (now list) ⌝ }
-    ensures { λ r. ⌜ In-front (filter (above-wanted up (now (heard .entry)) (now (links .entry)) a) (now (row .entry))) r (now (list .exit)) ⌝ }
+    ensures { λ r. ⌜ Kept-in-front (above-wanted up (now (heard .entry)) (now (links .entry)) a) (now (row .entry)) (now (list .entry)) r
+        (now (list .exit)) ⌝ }
 {
     let mut n: usize = 0;
     let mut i: usize = 0;
     while i < row.len() {
+        if list.len() <= n {
+            return n;
+        }
         list[n] = row[i];
         n += is_wanted(up, heard, links, a, row[i] as u32) as usize;
         i += 1;
@@ -61,8 +61,8 @@ fn keep<'a>(
     n
 }
 
-// Writes the radios above a whose link with a is to come up, or to go down, into a list of 512 entries, ascending, and comes back with
-// their count; the rest of the list holds anything. Where the list is shorter, or a row not whole, the count is 0.
+// Writes the radios above a whose link with a is to come up, or to go down, into the list, ascending, and comes back with their count, where
+// the list has room for one more; the rest of it holds anything. Where a row is not whole the count is 0.
 pub fn list<'a>(up: bool, heard: &'a [u8], links: &'a [u8], a: u32, list: &mut [u16]) -> usize
     ensures { λ r. ⌜ Wanted-listed up (now (heard .entry)) (now (links .entry)) a (now (list .entry)) r (now (list .exit)) ⌝ }
 {
@@ -71,9 +71,6 @@ pub fn list<'a>(up: bool, heard: &'a [u8], links: &'a [u8], a: u32, list: &mut [
         return 0;
     }
     if links.len() < end {
-        return 0;
-    }
-    if list.len() != Site::RADIOS as usize {
         return 0;
     }
     let mut row = [0u16; Site::RADIOS as usize];

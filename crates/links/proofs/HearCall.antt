@@ -155,6 +155,9 @@ module _ (n : ℕ) (hs w : List ℕ) (t : Tables) (p h : ℕ) (ep : p ≡ max-ra
       long = eqb-true (length hs) (row-bytes * n) (and-left (eqb (length hs) (row-bytes * n)) (eqb (length w) (row-bytes * n)) (answers .0));
     }
 
+    pub hear-few : agreed-few max-neighbours n hs ≡ true
+    hear-few = answers .2
+
     further-long : length w ≡ row-bytes * n
     unfolding heard-lengths
     further-long = eqb-true (length w) (row-bytes * n) (and-right (eqb (length hs) (row-bytes * n)) (eqb (length w) (row-bytes * n)) (answers .0))

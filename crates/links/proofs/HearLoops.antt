@@ -5,20 +5,25 @@ use mathlib.Core.List.{List, [], _∷_}
 use Prim.Native.Nat.{ℕ, suc, _+_, _*_, _-_, _≤_, _<_}
 use native.Mathlib.Omega.{arith}
 use native.Mathlib.Numerals.{add-one}
+use lib.Dec.{leb}
 use lib.ListN.{length, getD, take, drop, drop-of-length-le}
 use lib.Seq.{drop-cons, length-take-le}
-use Rattle.mesh.specs.Limits.{max-radios, max-neighbours, row-bytes}
-use Rattle.lists.specs.Lists.{range, filter, In, Ascending}
+use borrow.Author.Tests.{leb-true}
+use Rattle.mesh.specs.Limits.{max-radios, max-neighbours}
+use Rattle.lists.specs.Lists.{range, count, filter, In}
 use Rattle.lists.proofs.Tests.{and-left, and-right}
-use Rattle.lists.proofs.Range.{range-in, length-range}
-use Rattle.lists.proofs.Filter.{filter-all, filter-ext, in-filter, filter-le}
+use Rattle.lists.proofs.Count.{count-mono, count-append}
+use Rattle.lists.proofs.Range.{range-in, range-append}
+use Rattle.lists.proofs.All.{all-below}
+use Rattle.lists.proofs.Filter.{filter-all, filter-ext, in-filter, length-filter}
 use Rattle.lists.proofs.Ascending.{ascending-range, ascending-filter}
 use Rattle.mesh.specs.Tables.{Tables, marked, graph-in}
-use Rattle.mesh.specs.Sound.{sound, within, rows-proper, few, symmetric, irreflexive}
+use Rattle.mesh.specs.Sound.{sound, within, row-degree, rows-proper, few, symmetric, irreflexive}
+use Rattle.mesh.proofs.Tables.Rows.{few-of}
 use Rattle.mesh.proofs.Tables.Soundness.{sound-certificate}
 use Rattle.calls.specs.Questions.{lengths-of, ends-refusal}
 use Rattle.calls.specs.Switches.{switch, switched}
-use Rattle.calls.specs.Heard.{agreed}
+use Rattle.calls.specs.Heard.{agreed, agreed-degree, agreed-few}
 use Rattle.calls.specs.Hearing.{Phase, Rows-left, Row-left}
 use Rattle.calls.proofs.SoundSwitches.{Good}
 use Rattle.calls.proofs.HearingLaws.{row-first, row-next, row-end}
@@ -69,12 +74,19 @@ module _ {up : Bool} {n a : ℕ} {bs : List ℕ} {t u : Tables} {places highs : 
 pub record Rows-switching (up : Bool) (n : ℕ) (hs : List ℕ) (t u : Tables) (places highs : List ℕ) (a : ℕ) : Type 0 where
   pub low : a ≤ n
   pub size : Of-size n hs
+  pub few : agreed-few max-neighbours n hs ≡ true
   pub prepared : Prepared n u places highs
   pub left : (p : Phase) (s : Tables) → p .up ≡ up → Phase-by n hs p → Rows-left n p s 0 t → Rows-left n p s a u
 
 pub rows-none : (up : Bool) (n : ℕ) (hs : List ℕ) {t : Tables} {places highs : List ℕ} → Prepared n t places highs → Of-size n hs
-    → Rows-switching up n hs t t places highs 0
-rows-none up n hs k s = record { low = omega arith; size = s; prepared = k; left = λ p s e y r. r }
+    → agreed-few max-neighbours n hs ≡ true → Rows-switching up n hs t t places highs 0
+rows-none up n hs k s f = record { low = omega arith; size = s; few = f; prepared = k; left = λ p s e y r. r }
+
+good-few : (n : ℕ) (t : Tables) → Good n t → few max-neighbours n (t .links) ≡ true
+unfolding rows-proper sound
+good-few n t k =
+    and-right (within n (t .links)) (few max-neighbours n (t .links))
+    (and-right (symmetric n (t .links) && irreflexive n (t .links)) _ (sound-certificate max-neighbours n t (k .is-sound) .0))
 
 good-within : (n : ℕ) (t : Tables) → Good n t → within n (t .links) ≡ true
 unfolding rows-proper sound
@@ -96,16 +108,54 @@ module _ {up : Bool} {n : ℕ} {hs : List ℕ} {t u : Tables} {places highs : Li
   abbrev chosen : List ℕ
   chosen = filter (wanted up hs (u .links) a) radios
 
-  module _ (l : a < n) (old new : List ℕ) (k : ℕ) (room : length old ≡ max-radios) (d : Wanted-listed up hs (u .links) a old k new) where
-    front : In-front chosen k new
-    front = d .is n (w .size) (good-size n u good) (good-within n u good) l room
+  module _ (l : a < n) where
+    -- a part of the radios has at most as many that pass a test
+    part-count : (f : ℕ → Bool) (m : ℕ) → n ≤ m → count f radios ≤ count f (range 0 m)
+    part-count f m h =
+        let e : m ≡ (suc a + (n - suc a)) + (m - n) = omega (arith, l, h) in
+        let z : 0 + suc a ≡ suc a = omega arith in
+        let y : count f (range 0 m) ≡ (count f (range 0 (suc a)) + count f radios) + count f (range (0 + (suc a + (n - suc a))) (m - n)) =
+        ap (λ (j : ℕ). count f (range 0 j)) e
+        ∙ ap (count f) (range-append 0 (suc a + (n - suc a)) (m - n)) ∙ count-append f (range 0 (suc a + (n - suc a))) _
+        ∙ ap (λ (j : ℕ). j + count f (range (0 + (suc a + (n - suc a))) (m - n)))
+        (ap (count f) (range-append 0 (suc a) (n - suc a) ∙ rw z) ∙ count-append f (range 0 (suc a)) radios) in
+        omega (arith, y)
 
-    few-chosen : length chosen ≤ max-radios
-    few-chosen = omega (arith, filter-le (wanted up hs (u .links) a) radios (n - suc a) (length-range (suc a) (n - suc a)), w .size .most)
+    few-up : count (λ b. agreed hs a b && not (marked (u .links) a b)) radios ≤ max-neighbours
+    unfolding agreed-few agreed-degree
+    few-up =
+        omega (
+          arith,
+          count-mono (λ b. agreed hs a b && not (marked (u .links) a b)) (agreed hs a) radios (λ b i h. and-left (agreed hs a b) _ h),
+          part-count (agreed hs a) n (omega arith),
+          leb-true (agreed-degree n hs a) max-neighbours (all-below (λ x. leb (agreed-degree n hs x) max-neighbours) n (w .few) a l),
+        )
+
+    few-down : count (λ b. marked (u .links) a b && not (agreed hs a b)) radios ≤ max-neighbours
+    unfolding row-degree
+    few-down =
+        omega (
+          arith,
+          count-mono (λ b. marked (u .links) a b && not (agreed hs a b)) (marked (u .links) a) radios (λ b i h. and-left (marked (u .links) a b) _ h),
+          part-count (marked (u .links) a) max-radios (w .size .most),
+          few-of max-neighbours n (u .links) (good-few n u good) a l,
+        )
+
+    few-chosen : length chosen ≤ max-neighbours
+    unfolding wanted
+    few-chosen = omega (arith, length-filter (wanted up hs (u .links) a) radios, go up)
+      where
+        go : (x : Bool) → count (λ b. cond x (agreed hs a b && not (marked (u .links) a b)) (marked (u .links) a b && not (agreed hs a b))) radios ≤ max-neighbours
+        go true = few-up
+        go false = few-down
+
+  module _ (l : a < n) (old new : List ℕ) (k : ℕ) (room : length old ≡ suc max-neighbours) (d : Wanted-listed up hs (u .links) a old k new) where
+    front : In-front chosen k new
+    front = d .is n (w .size) (good-size n u good) (good-within n u good) l (omega (arith, few-chosen l, room))
 
     -- they fit the list
     pub rows-fit : length new ≡ length old → k ≤ length new
-    rows-fit e = omega (arith, front .counted, few-chosen, e, room)
+    rows-fit e = omega (arith, front .counted, few-chosen l, e, room)
 
     pub rows-long : length new ≡ length old → k ≡ length (take k new)
     rows-long e = sym (length-take-le k new (rows-fit e))
@@ -131,6 +181,7 @@ module _ {up : Bool} {n : ℕ} {hs : List ℕ} {t u : Tables} {places highs : Li
     rows-turn v qs is c = record {
       low = omega (arith, l);
       size = w .size;
+      few = w .few;
       prepared = c .prepared;
       left = λ p s e y o.
           let r = w .left p s e y o in

@@ -1,7 +1,10 @@
 // A hearing: the site brought to the links that both ends hear, as if by single calls. The tables are checked once.
 ghost use mathlib.Core.Path.{_≡_};
+ghost use mathlib.Core.Bool.{true};
 ghost use lib.ListN.{length};
+ghost use Rattle.mesh.specs.Limits.{max-neighbours};
 ghost use Rattle.mesh.specs.Tables.{lent};
+ghost use Rattle.calls.specs.Heard.{agreed-few};
 ghost use Rattle.calls.specs.Contracts.Heard.{Hear-contract};
 ghost use Rattle.heard.specs.Hearing.{Of-size};
 ghost use Rattle.links.specs.Steps.{Prepared};
@@ -45,7 +48,8 @@ fn switch_row(
     }
 }
 
-// Takes the links that are wanted up, or down, row by row; those of a row are listed before the first of them.
+// Takes the links that are wanted up, or down, row by row; the ones of a row, at most as many as a radio may have neighbours, are listed
+// before the first of them.
 fn switch_rows(
     up: bool,
     n: u32,
@@ -56,11 +60,12 @@ fn switch_rows(
     places: &mut [u16],
     highs: &mut [u8],
 )
-    requires { ⌜ Prepared n (lent links numbers order) (now places) (now highs) × Of-size n (now heard) ⌝ }
+    requires { ⌜ Prepared n (lent links numbers order) (now places) (now highs) × Of-size n (now heard) ×
+        (agreed-few max-neighbours n (now heard) ≡ true) ⌝ }
     ensures { λ _. ⌜ Rows-switched up n (now (heard .entry)) (lent (links .entry) (numbers .entry) (order .entry))
         (lent (links .exit) (numbers .exit) (order .exit)) (now (places .exit)) (now (highs .exit)) ⌝ }
 {
-    let mut list = [0u16; Site::RADIOS as usize];
+    let mut list = [0u16; Site::NEIGHBOURS as usize + 1];
     let mut a: u32 = 0;
     while a < n {
         let k = heard::wanted::list(up, heard, links, a, &mut list);

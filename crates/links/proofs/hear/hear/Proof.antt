@@ -2,7 +2,7 @@
 use mathlib.Core.Path.{refl}
 use borrow.Author.Needs.{needs}
 use Rattle.mesh.specs.Tables.{tables}
-use Rattle.links.proofs.HearCall.{hear-refused, hear-prepared, hear-size, hear-done}
+use Rattle.links.proofs.HearCall.{hear-refused, hear-prepared, hear-size, hear-few, hear-done}
 use Rattle.links.proofs.hear.hear.Statement.{statement}
 use Rattle.links.proofs.hear.hear.Tie as tie
 
@@ -22,6 +22,8 @@ switch-rows-requires c κs =
           (asked .refusal .ensures) yes,
       hear-size (x .n) (x .heard .now) (x .further .now) (tables (x .links .now) (x .numbers .now) (x .order .now)) _ _ refl refl _ _ (asked .refusal .result)
           (asked .refusal .ensures) yes,
+      hear-few (x .n) (x .heard .now) (x .further .now) (tables (x .links .now) (x .numbers .now) (x .order .now)) _ _ refl refl _ _ (asked .refusal .result)
+          (asked .refusal .ensures) yes,
     )
 
 switch-rows-requires-2 : tie.Need-switch-rows-requires-2
@@ -30,6 +32,8 @@ switch-rows-requires-2 c κs =
     let x = asked .before .before .before .before .before .before .before .before .before .before .before .args in (
       c .before .before .before .before .before .before .before .before .before .before .before .before .before .switch-rows .ensures .prepared,
       hear-size (x .n) (x .heard .now) (x .further .now) (tables (x .links .now) (x .numbers .now) (x .order .now)) _ _ refl refl _ _ (asked .refusal .result)
+          (asked .refusal .ensures) (c .before .before .before .before .before .before .before .before .before .before .before .before .before .before .before .before .before .before .before .before .before .before .before .if1 .left),
+      hear-few (x .n) (x .heard .now) (x .further .now) (tables (x .links .now) (x .numbers .now) (x .order .now)) _ _ refl refl _ _ (asked .refusal .result)
           (asked .refusal .ensures) (c .before .before .before .before .before .before .before .before .before .before .before .before .before .before .before .before .before .before .before .before .before .before .before .if1 .left),
     )
 

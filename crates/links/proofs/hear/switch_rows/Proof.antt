@@ -1,11 +1,10 @@
 -- `hear::switch_rows` meets its contract: the rows before row a are done (`Rows-switching`), and the list has room for a row. The measure is
 -- the rows left.
 use mathlib.Core.Path.{_≡_, refl, sym, _∙_}
-use Prim.Native.Nat.{_-_}
-use native.Mathlib.Omega.{arith}
+use Prim.Native.Nat.{suc, _-_}
 use lib.ListN.{length}
 use borrow.Author.Needs.{needs}
-use Rattle.mesh.specs.Limits.{max-radios}
+use Rattle.mesh.specs.Limits.{max-neighbours}
 use Rattle.mesh.specs.Tables.{tables}
 use Rattle.links.proofs.BatchLaws.{same-lengths}
 use Rattle.links.proofs.HearLoops.{Rows-switching, rows-none, rows-fit, rows-long, rows-turn, rows-done}
@@ -14,13 +13,13 @@ use Rattle.links.proofs.hear.switch_rows.Tie as tie
 
 abbrev Inv-loop : tie.InvT-loop
 Inv-loop up n heard links₀ numbers₀ order₀ places₀ highs₀ list₀ a₀ links numbers order places highs list a =
-    (length list ≡ max-radios) × Rows-switching up n heard (tables links₀ numbers₀ order₀) (tables links numbers order) places highs a
+    (length list ≡ suc max-neighbours) × Rows-switching up n heard (tables links₀ numbers₀ order₀) (tables links numbers order) places highs a
 
 abbrev μ-loop : tie.MeasureT-loop
 μ-loop up n heard links₀ numbers₀ order₀ places₀ highs₀ list₀ a₀ links numbers order places highs list a = n - a
 
 loop-holds : tie.Need-loop-holds Inv-loop μ-loop
-loop-holds c = (refl, rows-none _ _ _ (c .before .before .before .before .before .before .pre .0) (c .before .before .before .before .before .before .pre .1))
+loop-holds c = (refl, rows-none _ _ _ (c .before .before .before .before .before .before .pre .0) (c .before .before .before .before .before .before .pre .1) (c .before .before .before .before .before .before .pre .2))
 
 array-share-prefix-list : tie.Need-array-share-prefix-list Inv-loop μ-loop
 array-share-prefix-list c =
