@@ -135,11 +135,11 @@ def worked(host):
     for name, right in (("links", 256), ("numbers", 4), ("order", 4), ("heard", 256), ("further", 256)):
         host.call(HEAR, 4, heard, **{name: right - 1})
         host.call(HEAR, 4, heard, **{name: right + 1})
-    host.call(SPOIL, 0)  # radio 0 marks itself, or no longer does
+    host.call(SPOIL, 0, links=256)  # radio 0 marks itself, or no longer does
     host.call(HEAR, 4, heard)
     host.call(HEAR, 4, [*heard, (0, 0)])
     host.call(HEAR, 4, heard, further=255)
-    host.call(SPOIL, 0)
+    host.call(SPOIL, 0, links=256)
     host.call(HEAR, 4, heard)
     host.call(HEAR, 4, [])
 
