@@ -154,7 +154,7 @@ sb-link-batch = record {
   contract = λ κs a r e. Batch-contract (number-0 a) (lent-4 a) (tables-1 a) r (tables-1 e);
 }
 
--- sb_hear(n, links, numbers, order, heard, one_sided)
+-- sb_hear(n, links, numbers, order, heard, further)
 abbrev pub sb-hear : Function
 sb-hear = record {
   signature = hear.signature;

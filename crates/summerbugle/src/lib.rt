@@ -112,12 +112,12 @@ pub extern "C" fn sb_hear(
     numbers: &mut [u8],
     order: &mut [u16],
     heard: &[u8],
-    one_sided: &mut [u8],
+    further: &mut [u8],
 ) -> Value
-    ensures { λ r. ⌜ Hear-contract n (now (heard .entry)) (lent (links .entry) (numbers .entry) (order .entry)) (now (one_sided .entry)) r
-        (lent (links .exit) (numbers .exit) (order .exit)) (now (one_sided .exit)) ⌝ }
+    ensures { λ r. ⌜ Hear-contract n (now (heard .entry)) (lent (links .entry) (numbers .entry) (order .entry)) (now (further .entry)) r
+        (lent (links .exit) (numbers .exit) (order .exit)) (now (further .exit)) ⌝ }
 {
-    links::hear::hear(n, links, numbers, order, heard, one_sided)
+    links::hear::hear(n, links, numbers, order, heard, further)
 }
 
 // What taking the link between a and b up would change: the step and count that `sb_link_up` would answer now, and the changed radios
