@@ -212,7 +212,7 @@ module _ (u : Bool) (hs ts : List ℕ) (a n : ℕ) (sh : Of-size n hs) (st : Of-
     down-front e f = kept-front ts f (row-wanted ts (down-marked e))
 
 -- what is not listed was not asked for
-pub wanted-short : (u : Bool) (hs ts : List ℕ) (a : ℕ) (old new : List ℕ) → (length hs < row-bytes * a + row-bytes) ⊎ (length ts < row-bytes * a + row-bytes)
-    → Wanted-listed u hs ts a old 0 new
-wanted-short u hs ts a old new (inl h) = record { is = λ n sh st w l o. absurd (omega (arith, h, sh .long, l)) }
-wanted-short u hs ts a old new (inr h) = record { is = λ n sh st w l o. absurd (omega (arith, h, st .long, l)) }
+pub wanted-short : (u : Bool) (hs ts : List ℕ) (a room : ℕ) (old new : List ℕ)
+    → (length hs < row-bytes * a + row-bytes) ⊎ (length ts < row-bytes * a + row-bytes) → Wanted-listed u hs ts a room old 0 new
+wanted-short u hs ts a room old new (inl h) = record { is = λ n sh st w l m o. absurd (omega (arith, h, sh .long, l)) }
+wanted-short u hs ts a room old new (inr h) = record { is = λ n sh st w l m o. absurd (omega (arith, h, st .long, l)) }
