@@ -6,7 +6,7 @@ use mathlib.Core.Path.{_≡_, refl, sym, ap, _∙_}
 use mathlib.Core.Logic.{_⊎_, inl, inr}
 use mathlib.Core.Bool.{Bool, true, false, _&&_, not, cond}
 use mathlib.Core.List.{List}
-use Prim.Native.Nat.{ℕ, suc, _+_, _*_, _-_, _^_, _≤_, _<_}
+use Prim.Native.Nat.{ℕ, suc, _+_, _-_, _^_, _≤_, _<_}
 use native.Mathlib.Omega.{arith}
 use native.Mathlib.Numerals.{add-one}
 use mir.Syntax.{w32}
@@ -14,7 +14,7 @@ use mir.Val.{boolByte, Fits}
 use lib.Dec.{leb}
 use lib.ListN.{length}
 use borrow.Author.Tests.{leb-true, leb-false, le-leb}
-use Rattle.mesh.specs.Limits.{max-radios, max-neighbours, row-bytes}
+use Rattle.mesh.specs.Limits.{max-radios, max-neighbours}
 use Rattle.lists.specs.Lists.{range, count, all}
 use Rattle.lists.proofs.Tests.{bool-cases, never, and-left, and-right, and-both, byte-bit, bit-one}
 use Rattle.lists.proofs.Count.{count-mono}
@@ -116,8 +116,11 @@ module _ (n : ℕ) (hs : List ℕ) (s : Of-size n hs) where
   unfolding agreed-degree row-degree agreed
   degree-most a l =
       omega (
-      arith, count-mono (agreed hs a) (λ b. marked hs a b) (range 0 n) (λ b i h. and-left (marked hs a b) (marked hs b a) h),
-      count-front (λ b. marked hs a b) n max-radios (s .most), length-row-listed-radio n hs (s .long) a l)
+        arith,
+        count-mono (agreed hs a) (λ b. marked hs a b) (range 0 n) (λ b i h. and-left (marked hs a b) (marked hs b a) h),
+        count-front (λ b. marked hs a b) n max-radios (s .most),
+        length-row-listed-radio n hs (s .long) a l,
+      )
 
   pub few-heard : (a r : ℕ) → r ≡ row-count max-neighbours hs a → r ≤ max-neighbours → a < n → true ≡ leb (agreed-degree n hs a) max-neighbours
   unfolding row-count

@@ -32,4 +32,5 @@ returns-2 c = λ s. few-end _ _ _ (c .before .loop .inv s) (c .loop-test .left)
 pub are-few-spec : {M : Type 1} → statement M
 are-few-spec =
     tie.close (
-    tie.spec Inv-loop μ-loop (λ c. λ s x l. absurd (omega (arith, l))) (λ c κs. search needs) returns (λ c. search needs) (λ c. search needs) loop-again returns-2)
+    tie.spec Inv-loop μ-loop (λ c. λ s x l. absurd (omega (arith, l))) (λ c κs. search needs) returns (λ c. search needs) (λ c. search needs) loop-again
+    returns-2)

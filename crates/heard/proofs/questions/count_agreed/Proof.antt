@@ -1,7 +1,6 @@
 -- `questions::count_agreed` meets its contract: what is counted so far and what the radios from b on come to is the whole count
 -- (`Counting`). The measure is the radios left.
 use Prim.Native.Nat.{_-_}
-use native.Mathlib.Omega.{arith}
 use borrow.Author.Needs.{needs}
 use Rattle.heard.proofs.AskLaws.{Counting, counting-none, counting-fits, counting-turn, counting-end}
 use Rattle.heard.proofs.questions.count_agreed.Statement.{statement}

@@ -1,5 +1,5 @@
 -- `questions::is_few` meets its contract: agreed links are at most as many as radios heard.
-use mathlib.Core.Path.{_∙_, ap}
+use mathlib.Core.Path.{ap}
 use lib.Dec.{leb}
 use Prim.Native.Nat.{ℕ}
 use borrow.Author.Needs.{needs}
