@@ -6,14 +6,14 @@ use mathlib.Core.Path.{_≡_, refl, sym, ap, _∙_}
 use mathlib.Core.Logic.{_⊎_, inl, inr}
 use mathlib.Core.Bool.{Bool, true, false, _&&_, _||_, not, cond}
 use mathlib.Core.List.{List, [], _∷_}
-use Prim.Native.Nat.{ℕ, suc, _+_, _*_, _-_, _≤_, _<_, _^_}
+use Prim.Native.Nat.{ℕ, suc, _+_, _*_, _-_, _≤_, _<_}
 use native.Mathlib.Omega.{arith}
 use native.Mathlib.Numerals.{add-one}
 use mir.Syntax.{w32}
-use mir.Val.{boolByte, Fits}
-use lib.Dec.{ltb, leb, eqb}
+use mir.Val.{Fits}
+use lib.Dec.{ltb, eqb}
 use lib.ListN.{length, take, replicate, length-replicate}
-use borrow.Author.Tests.{eqb-true, eqb-false, eq-eqb, ne-eqb, lt-ltb, le-ltb, leb-true, leb-false}
+use borrow.Author.Tests.{eqb-true, eq-eqb, ne-eqb, lt-ltb, le-ltb}
 use Rattle.mesh.specs.Limits.{max-radios, row-bytes}
 use Rattle.lists.specs.Lists.{Bytes, In, range, count, total, member, folded}
 use Rattle.lists.proofs.Tests.{trichotomy}
@@ -22,9 +22,10 @@ use Rattle.lists.proofs.Range.{count-below}
 use Rattle.lists.proofs.Filter.{count-filter}
 use Rattle.lists.proofs.Loops.{length-folded}
 use Rattle.lists.proofs.Parts.{bytes-replicate}
-use Rattle.mesh.specs.Tables.{byte-at, marked, put-bit}
+use Rattle.mesh.specs.Tables.{marked, put-bit}
 use Rattle.mesh.specs.Sound.{within}
-use Rattle.mesh.proofs.Tables.Laws.{table-eq, marked-replicate, byte-at-less, length-put-bit, bytes-put-bit, marked-put-bit, length-bit-table, bytes-bit-table, marked-bit-table}
+use Rattle.mesh.proofs.Tables.Laws.{table-eq, marked-replicate, byte-at-less, length-put-bit}
+use Rattle.mesh.proofs.Tables.Laws.{bytes-put-bit, marked-put-bit, length-bit-table, bytes-bit-table, marked-bit-table}
 use Rattle.mesh.proofs.Tables.Rows.{within-of}
 use Rattle.rows.specs.Rows.{neighbours-of}
 use Rattle.rows.proofs.RowListLaws.{in-neighbours-of, member-neighbours-of}
@@ -123,7 +124,8 @@ module _ (hs : List ℕ) (a n : ℕ) (la : a < n) where
 abbrev pairs-of : (n : ℕ) → (heard : List ℕ) → (x : ℕ) → ℕ
 pairs-of n hs x = count (heard-alone hs x) (range 0 n)
 
-pairs-left : (n : ℕ) (hs : List ℕ) (a : ℕ) → a < n → total (pairs-of n hs) (range a (n - a)) ≡ pairs-of n hs a + total (pairs-of n hs) (range (a + 1) (n - (a + 1)))
+pairs-left : (n : ℕ) (hs : List ℕ) (a : ℕ) → a < n → total (pairs-of n hs) (range a (n - a)) ≡ pairs-of n hs a + total (pairs-of n hs)
+    (range (a + 1) (n - (a + 1)))
 unfolding range
 pairs-left n hs a l = let e : n - a ≡ suc (n - (a + 1)) = omega (arith, l) in rw (e, add-one a)
 
@@ -180,7 +182,8 @@ module _ (n : ℕ) (hs : List ℕ) (room : ℕ) (s : Of-size n hs) where
         ∙ ap (λ (t : Bool). (eqb a x && (t && not (marked hs y a))) || marked further x y) (member-neighbours-of hs a y ly)
         ∙ own (eqb a x) refl
       where
-        own : (t : Bool) → eqb a x ≡ t → ((t && (marked hs a y && not (marked hs y a))) || marked further x y) ≡ ((t && (marked hs x y && not (marked hs y x))) || marked further x y)
+        own : (t : Bool) → eqb a x ≡ t → ((t && (marked hs a y && not (marked hs y a))) || marked further x y) ≡
+            ((t && (marked hs x y && not (marked hs y x))) || marked further x y)
         own true e = let q : a ≡ x = eqb-true a x e in rw q
         own false e = refl
 
@@ -206,11 +209,13 @@ module _ (n : ℕ) (hs : List ℕ) (room : ℕ) (s : Of-size n hs) where
       marks = next-marks;
     }
 
-  pub marking-end : (w further : List ℕ) (k a : ℕ) → room ≡ length w → Marking n hs room further k a → n ≤ a → One-sided-marked n hs w k further
+  pub marking-end : (many : ℕ) (w further : List ℕ) (k a : ℕ) → room ≡ length w → Marking n hs room further k a → n ≤ a → One-sided-marked n hs many w k further
   unfolding one-sided one-sided-count
-  marking-end w further k a e m l = record {
-    counted = λ t h. let c : k + total (pairs-of n hs) (range a (n - a)) ≡ total (pairs-of n hs) (range 0 n) = m .counted h in sym (sym c ∙ rw (pairs-past n hs a l) (omega arith));
-    table = λ t long.
+  marking-end many w further k a e m l = record {
+    counted =
+        λ t _ h. let c : k + total (pairs-of n hs) (range a (n - a)) ≡ total (pairs-of n hs) (range 0 n) = m .counted h in sym
+        (sym c ∙ rw (pairs-past n hs a l) (omega arith));
+    table = λ t _ long.
         table-eq n further _ (m .long ∙ e ∙ long) (length-bit-table n (heard-alone hs)) (m .bytes) (bytes-bit-table n (heard-alone hs))
         (λ x y lx ly. m .marks (e ∙ long) x y lx ly ∙ rw (lt-ltb x a (omega (arith, lx, l))) (sym (marked-bit-table n (heard-alone hs) x y lx ly)));
   }

@@ -2,14 +2,14 @@
 use mathlib.Core.Path.{_≡_, sym, ap, _∙_}
 use mathlib.Core.Bool.{Bool}
 use mathlib.Core.List.{List}
-use Prim.Native.Nat.{ℕ, _+_, _*_, _-_, _/_, _%_, _^_, _≤_, _<_}
+use Prim.Native.Nat.{ℕ, _+_, _*_, _-_, _/_, _%_, _≤_, _<_}
 use native.Mathlib.Omega.{arith}
 use mir.Syntax.{w32}
 use mir.Val.{boolByte, Fits}
 use lib.ListN.{length, getD, take, drop, length-drop}
 use lib.Seq.{take-all, getD-take, getD-drop, length-take-le}
 use Rattle.mesh.specs.Limits.{max-radios, row-bytes}
-use Rattle.lists.specs.Lists.{range, filter, overwrite}
+use Rattle.lists.specs.Lists.{range, overwrite}
 use Rattle.lists.proofs.Tests.{byte-bit, bit-one}
 use Rattle.lists.proofs.Loops.{Counted-from, counted-turn}
 use Rattle.lists.proofs.Range.{range-in, length-range}

@@ -123,7 +123,17 @@ module _ (f : ℕ → Bool) (xs : List ℕ) (room : ℕ) (list : List ℕ) (n i 
   pub keeping-full : (old : List ℕ) → room ≡ length old → length list ≤ n → Kept-in-front f xs old n list
   keeping-full old e l = record {
     is = λ h.
-        absurd (omega (arith, h, l, e, k .long, ap length (k .listed), length-append (take n list) (filter f (drop i xs)), length-take-le n list (omega (arith, k .fits, k .long))));
+        absurd (omega (
+          arith,
+          h,
+          l,
+          e,
+          k .long,
+          ap length (k .listed),
+          length-append (take n list) (filter f (drop i xs)),
+          length-take-le n list
+              (omega (arith, k .fits, k .long)),
+        ));
   }
 
   pub keeping-end : (old : List ℕ) → length xs ≤ i → Kept-in-front f xs old n list
@@ -167,7 +177,8 @@ module _ (u : Bool) (hs ts : List ℕ) (a n : ℕ) (sh : Of-size n hs) (st : Of-
       (λ b m. let i = range-in n (max-radios - n) b m in nothing (ltb a b) (wanted-past b (i .0) (omega (arith, i .1, sh .most)))) in
       ap (filter f) parts
       ∙ filter-append f (range 0 (suc a)) (range (suc a) (n - suc a) ++ range n (max-radios - n))
-      ∙ ap₂ {C = List ℕ} (λ xs ys. xs ++ ys) low (filter-append f (range (suc a) (n - suc a)) (range n (max-radios - n)) ∙ ap₂ {C = List ℕ} (λ xs ys. xs ++ ys) mid high)
+      ∙ ap₂ {C = List ℕ} (λ xs ys. xs ++ ys) low (filter-append f (range (suc a) (n - suc a)) (range n (max-radios - n)) ∙ ap₂ {C = List ℕ}
+      (λ xs ys. xs ++ ys) mid high)
       ∙ append-nil higher
     where
       nothing : (x : Bool) {y : Bool} → y ≡ false → (x && y) ≡ false
@@ -212,7 +223,7 @@ module _ (u : Bool) (hs ts : List ℕ) (a n : ℕ) (sh : Of-size n hs) (st : Of-
     down-front e f = kept-front ts f (row-wanted ts (down-marked e))
 
 -- what is not listed was not asked for
-pub wanted-short : (u : Bool) (hs ts : List ℕ) (a : ℕ) (old new : List ℕ) → (length hs < row-bytes * a + row-bytes) ⊎ (length ts < row-bytes * a + row-bytes)
-    → Wanted-listed u hs ts a old 0 new
-wanted-short u hs ts a old new (inl h) = record { is = λ n sh st w l o. absurd (omega (arith, h, sh .long, l)) }
-wanted-short u hs ts a old new (inr h) = record { is = λ n sh st w l o. absurd (omega (arith, h, st .long, l)) }
+pub wanted-short : (u : Bool) (hs ts : List ℕ) (a room : ℕ) (old new : List ℕ)
+    → (length hs < row-bytes * a + row-bytes) ⊎ (length ts < row-bytes * a + row-bytes) → Wanted-listed u hs ts a room old 0 new
+wanted-short u hs ts a room old new (inl h) = record { is = λ n sh st w l m o. absurd (omega (arith, h, sh .long, l)) }
+wanted-short u hs ts a room old new (inr h) = record { is = λ n sh st w l m o. absurd (omega (arith, h, st .long, l)) }

@@ -56,9 +56,10 @@ pub record Row-marked (hs : List ℕ) (a : ℕ) (xs w : List ℕ) (r : ℕ) (x :
   pub counted : r ≡ count (λ b. not (hears hs a b)) xs
   pub table : x ≡ folded (alone-put hs a) xs w
 
-pub record One-sided-marked (n : ℕ) (hs w : List ℕ) (r : ℕ) (x : List ℕ) : Type 0 where
-  pub counted : Of-size n hs → within n hs ≡ true → r ≡ one-sided-count n hs
-  pub table : Of-size n hs → length w ≡ row-bytes * n → x ≡ one-sided n hs
+-- `room` is the length of a list that a row is listed in
+pub record One-sided-marked (n : ℕ) (hs : List ℕ) (room : ℕ) (w : List ℕ) (r : ℕ) (x : List ℕ) : Type 0 where
+  pub counted : Of-size n hs → room ≡ max-radios → within n hs ≡ true → r ≡ one-sided-count n hs
+  pub table : Of-size n hs → room ≡ max-radios → length w ≡ row-bytes * n → x ≡ one-sided n hs
 
 -- ---- links to come up or to go down
 
@@ -73,7 +74,8 @@ above-wanted u hs ts a b = ltb a b && wanted u hs ts a b
 pub record Kept-in-front (f : ℕ → Bool) (xs old : List ℕ) (r : ℕ) (new : List ℕ) : Type 0 where
   pub is : length (filter f xs) < length old → In-front (filter f xs) r new
 
-pub record Wanted-listed (up : Bool) (hs ts : List ℕ) (a : ℕ) (old : List ℕ) (r : ℕ) (new : List ℕ) : Type 0 where
-  pub is : (n : ℕ) → Of-size n hs → Of-size n ts → within n ts ≡ true → a < n
+-- `room` is the length of a list that a row is listed in
+pub record Wanted-listed (up : Bool) (hs ts : List ℕ) (a room : ℕ) (old : List ℕ) (r : ℕ) (new : List ℕ) : Type 0 where
+  pub is : (n : ℕ) → Of-size n hs → Of-size n ts → within n ts ≡ true → a < n → room ≡ max-radios
       → length (filter (wanted up hs ts a) (range (suc a) (n - suc a))) < length old
       → In-front (filter (wanted up hs ts a) (range (suc a) (n - suc a))) r new

@@ -33,9 +33,9 @@ fn mark_row<'a>(heard: &'a [u8], a: u32, list: &'a [u16], further: &mut [u8]) ->
 }
 
 // Marks the one-sided pairs of n radios in the further table, all its other bits are zero after, and comes back with their count. Where
-// one of the tables has another length nothing is written, and the count is 0.
-pub fn mark(n: u32, heard: &[u8], further: &mut [u8]) -> u32
-    ensures { λ r. ⌜ One-sided-marked n (now (heard .entry)) (now (further .entry)) r (now (further .exit)) ⌝ }
+// the heard table has another length, or `list` has not 512 entries, nothing is written, and the count is 0. `list` holds anything after.
+pub fn mark(n: u32, heard: &[u8], further: &mut [u8], list: &mut [u16]) -> u32
+    ensures { λ r. ⌜ One-sided-marked n (now (heard .entry)) (length (now (list .entry))) (now (further .entry)) r (now (further .exit)) ⌝ }
 {
     if heard.len() != Site::ROW_BYTES * n as usize {
         return 0;
@@ -43,12 +43,14 @@ pub fn mark(n: u32, heard: &[u8], further: &mut [u8]) -> u32
     if Site::RADIOS < n {
         return 0;
     }
+    if list.len() != Site::RADIOS as usize {
+        return 0;
+    }
     fill::fill8(further, 0);
-    let mut list = [0u16; Site::RADIOS as usize];
     let mut count: u32 = 0;
     let mut a: u32 = 0;
     while a < n {
-        let k = row::list(heard, a, &mut list);
+        let k = row::list(heard, a, list);
         count += mark_row(heard, a, &list[..k], further);
         a += 1;
     }

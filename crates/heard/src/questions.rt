@@ -1,9 +1,10 @@
 // Questions 14 and 7 of a heard table.
 ghost use mathlib.Core.Path.{_≡_};
+ghost use Prim.Native.Nat.{_<_};
+ghost use lib.Dec.{leb};
 ghost use Rattle.mesh.specs.Limits.{max-neighbours};
-ghost use Rattle.lists.specs.Lists.{count};
-ghost use Rattle.calls.specs.Heard.{heard-proper, agreed-few};
-ghost use Rattle.heard.specs.Hearing.{Of-size, none-from, hears, rows-refusal};
+ghost use Rattle.calls.specs.Heard.{agreed-degree, heard-proper, agreed-few};
+ghost use Rattle.heard.specs.Hearing.{Of-size, none-from, rows-refusal};
 use super::row;
 use calls::Refusal;
 use mesh::Site;
@@ -39,31 +40,36 @@ pub fn is_proper(n: u32, heard: &[u8]) -> bool
     true
 }
 
-// How many of the listed radios hear a.
-fn count_hearers<'a>(heard: &'a [u8], a: u32, list: &'a [u16]) -> usize
-    ensures { λ r. ⌜ r ≡ count (hears (now (heard .entry)) a) (now (list .entry)) ⌝ }
+// How many agreed links a has to radios below n.
+fn count_agreed(n: u32, heard: &[u8], a: u32) -> u32
+    ensures { λ r. ⌜ r ≡ agreed-degree n (now (heard .entry)) a ⌝ }
 {
-    let mut n: usize = 0;
-    let mut i: usize = 0;
-    while i < list.len() {
-        n += rows::is_marked(heard, list[i] as u32, a) as usize;
-        i += 1;
+    let mut k: u32 = 0;
+    let mut b: u32 = 0;
+    while b < n {
+        k += row::is_agreed(heard, a, b) as u32;
+        b += 1;
     }
-    n
+    k
 }
 
-// Question 7: has each of n radios at most as many agreed links as a radio may have neighbours? Of a table of another length no.
+// Whether a has at most as many agreed links as a radio may have neighbours. One that hears no more radios than that need not be counted.
+fn is_few(n: u32, heard: &[u8], a: u32) -> bool
+    ensures { λ r. ⌜ (Of-size n (now (heard .entry)) → a < n → r ≡ leb (agreed-degree n (now (heard .entry)) a) max-neighbours) ⌝ }
+{
+    if rows::row_degree(heard, a) as u32 <= Site::NEIGHBOURS {
+        return true;
+    }
+    count_agreed(n, heard, a) <= Site::NEIGHBOURS
+}
+
+// Question 7: has each of n radios at most as many agreed links as a radio may have neighbours?
 pub fn are_few(n: u32, heard: &[u8]) -> bool
     ensures { λ r. ⌜ (Of-size n (now (heard .entry)) → r ≡ agreed-few max-neighbours n (now (heard .entry))) ⌝ }
 {
-    if heard.len() != Site::ROW_BYTES * n as usize {
-        return false;
-    }
-    let mut list = [0u16; Site::RADIOS as usize];
     let mut a: u32 = 0;
     while a < n {
-        let k = row::list(heard, a, &mut list);
-        if (Site::NEIGHBOURS as usize) < count_hearers(heard, a, &list[..k]) {
+        if !is_few(n, heard, a) {
             return false;
         }
         a += 1;

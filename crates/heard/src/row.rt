@@ -1,8 +1,9 @@
-// The radios that a row marks, as many as these may be.
+// The radios that a row marks, as many as these may be; and links that are agreed.
 ghost use mathlib.Core.Path.{_≡_};
 ghost use Prim.Native.Nat.{_+_, _*_, _≤_};
 ghost use lib.ListN.{length};
 ghost use Rattle.mesh.specs.Limits.{max-radios, row-bytes};
+ghost use Rattle.calls.specs.Heard.{agreed};
 ghost use Rattle.rows.specs.Rows.{neighbours-of};
 ghost use Rattle.heard.specs.Hearing.{In-front};
 use mesh::Site;
@@ -14,4 +15,14 @@ pub(crate) fn list(table: &[u8], a: u32, list: &mut [u16]) -> usize
 {
     let start = Site::ROW_BYTES * a as usize;
     rows::list_set(&table[start..start + Site::ROW_BYTES], list) as usize
+}
+
+// Whether each of a and b hears the other.
+pub(crate) fn is_agreed(heard: &[u8], a: u32, b: u32) -> bool
+    ensures { λ r. ⌜ r ≡ agreed (now (heard .entry)) a b ⌝ }
+{
+    if !rows::is_marked(heard, a, b) {
+        return false;
+    }
+    rows::is_marked(heard, b, a)
 }

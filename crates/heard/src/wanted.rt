@@ -1,19 +1,9 @@
 // The links of a row that are to go down, or to come up, for the site to have the agreed links.
 ghost use mathlib.Core.Path.{_≡_};
-ghost use Rattle.calls.specs.Heard.{agreed};
+ghost use lib.ListN.{length};
 ghost use Rattle.heard.specs.Hearing.{above-wanted, Kept-in-front, Wanted-listed};
 use super::row;
 use mesh::Site;
-
-// Whether each of a and b hears the other.
-fn is_agreed(heard: &[u8], a: u32, b: u32) -> bool
-    ensures { λ r. ⌜ r ≡ agreed (now (heard .entry)) a b ⌝ }
-{
-    if !rows::is_marked(heard, a, b) {
-        return false;
-    }
-    rows::is_marked(heard, b, a)
-}
 
 // Whether b is above a and the link between them is to come up, or to go down.
 fn is_wanted<'a>(up: bool, heard: &'a [u8], links: &'a [u8], a: u32, b: u32) -> bool
@@ -27,12 +17,12 @@ fn is_wanted<'a>(up: bool, heard: &'a [u8], links: &'a [u8], a: u32, b: u32) -> 
         if linked {
             return false;
         }
-        return is_agreed(heard, a, b);
+        return row::is_agreed(heard, a, b);
     }
     if !linked {
         return false;
     }
-    !is_agreed(heard, a, b)
+    !row::is_agreed(heard, a, b)
 }
 
 // Writes the radios of the row whose link with a is wanted into the list, in their order, until it is full, and comes back with their
@@ -62,9 +52,18 @@ fn keep<'a>(
 }
 
 // Writes the radios above a whose link with a is to come up, or to go down, into the list, ascending, and comes back with their count, where
-// the list has room for one more; the rest of it holds anything. Where a row is not whole the count is 0.
-pub fn list<'a>(up: bool, heard: &'a [u8], links: &'a [u8], a: u32, list: &mut [u16]) -> usize
-    ensures { λ r. ⌜ Wanted-listed up (now (heard .entry)) (now (links .entry)) a (now (list .entry)) r (now (list .exit)) ⌝ }
+// the list has room for one more; the rest of it holds anything. Where a row is not whole, or `radios` has not 512 entries, the count is
+// 0. `radios` holds anything after.
+pub fn list<'a>(
+    up: bool,
+    heard: &'a [u8],
+    links: &'a [u8],
+    a: u32,
+    radios: &mut [u16],
+    list: &mut [u16],
+) -> usize
+    ensures { λ r. ⌜ Wanted-listed up (now (heard .entry)) (now (links .entry)) a (length (now (radios .entry))) (now (list .entry)) r
+        (now (list .exit)) ⌝ }
 {
     let end = Site::ROW_BYTES * a as usize + Site::ROW_BYTES;
     if heard.len() < end {
@@ -73,11 +72,13 @@ pub fn list<'a>(up: bool, heard: &'a [u8], links: &'a [u8], a: u32, list: &mut [
     if links.len() < end {
         return 0;
     }
-    let mut row = [0u16; Site::RADIOS as usize];
-    if up {
-        let k = row::list(heard, a, &mut row);
-        return keep(up, heard, links, a, &row[..k], list);
+    if radios.len() != Site::RADIOS as usize {
+        return 0;
     }
-    let k = row::list(links, a, &mut row);
-    keep(up, heard, links, a, &row[..k], list)
+    if up {
+        let k = row::list(heard, a, radios);
+        return keep(up, heard, links, a, &radios[..k], list);
+    }
+    let k = row::list(links, a, radios);
+    keep(up, heard, links, a, &radios[..k], list)
 }

@@ -1,32 +1,32 @@
 -- A hearing meets its contract, on plain values: its questions, and the call.
-use mathlib.Core.Path.{_≡_, refl, sym, ap, subst, _∙_}
-use mathlib.Core.Bool.{Bool, true, false, _&&_, not, cond}
+use mathlib.Core.Path.{_≡_, refl, sym, ap, _∙_}
+use mathlib.Core.Bool.{Bool, true, false, _&&_, not}
 use mathlib.Core.List.{List}
-use Prim.Native.Nat.{ℕ, _+_, _*_, _≤_, _<_}
+use Prim.Native.Nat.{ℕ, _*_, _≤_}
 use native.Mathlib.Omega.{arith}
 use lib.Dec.{eqb}
 use lib.ListN.{length}
 use borrow.Author.Tests.{eqb-true, eq-eqb, ne-eqb}
 use Rattle.mesh.specs.Limits.{max-radios, max-neighbours, row-bytes}
-use Rattle.mesh.specs.Graph.{linked}
-use Rattle.mesh.specs.Tables.{Tables, marked, graph-in}
+use Rattle.mesh.specs.Tables.{Tables, marked}
 use Rattle.mesh.specs.Sound.{sound, within, irreflexive}
 use Rattle.lists.proofs.Tests.{and-left, and-right}
 use Rattle.calls.specs.Questions.{ask, lengths-of, tables-refusal}
-use Rattle.calls.specs.Heard.{agreed, agreed-few, heard-proper, heard-lengths, hear-refusal, goes-down, comes-up, one-sided, one-sided-count}
-use Rattle.calls.specs.Hearing.{Phase, Rows-left, downs, ups}
+use Rattle.calls.specs.Heard.{agreed, agreed-few, heard-proper, heard-lengths, hear-refusal, goes-down, comes-up}
+use Rattle.calls.specs.Hearing.{Rows-left, downs, ups}
 use Rattle.calls.specs.Contracts.Heard.{Hear-accepted, Hear-refused, Hear-contract}
 use Rattle.calls.proofs.QuestionLaws.{ask-zero}
 use Rattle.calls.proofs.ChainLaws.{lent-zero, site-zero}
 use Rattle.calls.proofs.ContractLaws.{answer, by-accepted, by-refused}
 use Rattle.calls.proofs.SoundSwitches.{Good}
 use Rattle.calls.proofs.HearingLaws.{good-marked, rows-first, downs-end, ups-end}
-use Rattle.soundness.specs.Checks.{Examined, fits-sound}
+use Rattle.soundness.specs.Checks.{Examined}
 use Rattle.soundness.proofs.ExamineLaws.{site-refused, site-lent, fits-sound-lent, examinable-room}
 use Rattle.heard.specs.Hearing.{Of-size, rows-refusal, One-sided-marked}
 use Rattle.links.specs.Steps.{Prepared}
-use Rattle.links.specs.Hearings.{Phase-by, Rows-switched, Hear-asked}
+use Rattle.links.specs.Hearings.{Phase-by, Counted-site, Rows-switched, Hear-asked}
 use Rattle.links.proofs.StepLaws.{fits-good}
+use Rattle.links.proofs.HearLoops.{prepared-site, with-places}
 
 -- ---- the questions
 
@@ -54,7 +54,11 @@ module _ (n : ℕ) (hs : List ℕ) (f : ℕ) (t : Tables) (p h q : ℕ) (e : q �
     pub heard-other : (length hs ≡ length (t .links) → ⊥) → (places highs : List ℕ) → Hear-asked n hs f t p h places highs 2
     unfolding heard-lengths ask
     heard-other h0 places highs =
-        record { number = λ _ _. sym (asked ∙ rw (ne-eqb (length hs) (row-bytes * n) (λ z. h0 (z ∙ sym links-long)))); prepared = λ _ _ z. absurd (omega arith) }
+        record {
+          number = λ _ _. sym (asked ∙ rw (ne-eqb (length hs) (row-bytes * n) (λ z. h0 (z ∙ sym links-long))));
+          prepared = λ _ _ z. absurd
+              (omega arith);
+        }
 
     module _ (same : length hs ≡ length (t .links)) where
       heard-long : length hs ≡ row-bytes * n
@@ -135,8 +139,12 @@ module _ (n : ℕ) (hs w : List ℕ) (t : Tables) (p h : ℕ) (ep : p ≡ max-ra
     is-zero : R ≡ 0
     is-zero = sym (d .number ep eh) ∙ yes
 
-    pub hear-prepared : Prepared n t places highs
+    hear-prepared : Prepared n t places highs
     hear-prepared = d .prepared ep eh yes
+
+    -- places may be written over
+    pub hear-ready : (room : ℕ) → room ≡ length places → Counted-site n t room highs
+    hear-ready room e = with-places (prepared-site hear-prepared) e
 
     good : Good n t
     good = fits-good n t (hear-prepared .good)
@@ -166,7 +174,8 @@ module _ (n : ℕ) (hs w : List ℕ) (t : Tables) (p h : ℕ) (ep : p ≡ max-ra
     unfolding heard-proper
     is-within = and-right (irreflexive n hs) (within n hs) (answers .1)
 
-    module _ (count : ℕ) (x : List ℕ) (m : One-sided-marked n hs w count x) (u : Tables) (ps is : List ℕ) (down : Rows-switched false n hs t u ps is)
+    module _ (count : ℕ) (x : List ℕ) (room : ℕ) (full : room ≡ max-radios) (m : One-sided-marked n hs room w count x) (u : Tables) (ps is : List ℕ)
+        (down : Rows-switched false n hs t u ps is)
         (v : Tables) (qs js : List ℕ) (up : Rows-switched true n hs u v qs js) where
       after-downs : Rows-left n (downs n hs t) t n u
       after-downs = down .left (downs n hs t) t (downs-up n hs t) (downs-by n hs t good) (rows-first n hs t good (answers .1) (answers .2))
@@ -179,7 +188,7 @@ module _ (n : ℕ) (hs w : List ℕ) (t : Tables) (p h : ℕ) (ep : p ≡ max-ra
       hear-done =
           by-accepted R (λ y. Hear-refused y t w (answer 0 count) v x) is-zero (record {
             number = refl;
-            value = m .counted hear-size is-within;
+            value = m .counted hear-size full is-within;
             tables = ups-end n hs t good (answers .1) (answers .2) after-ups;
-            further = m .table hear-size further-long;
+            further = m .table hear-size full further-long;
           })

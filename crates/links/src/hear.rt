@@ -1,21 +1,22 @@
 // A hearing: the site brought to the links that both ends hear, as if by single calls. The tables are checked once.
 ghost use mathlib.Core.Path.{_≡_};
 ghost use mathlib.Core.Bool.{true};
+ghost use Prim.Native.Nat.{_≤_};
 ghost use lib.ListN.{length};
-ghost use Rattle.mesh.specs.Limits.{max-neighbours};
+ghost use Rattle.mesh.specs.Limits.{max-radios, max-neighbours};
 ghost use Rattle.mesh.specs.Tables.{lent};
 ghost use Rattle.calls.specs.Heard.{agreed-few};
 ghost use Rattle.calls.specs.Contracts.Heard.{Hear-contract};
 ghost use Rattle.heard.specs.Hearing.{Of-size};
-ghost use Rattle.links.specs.Steps.{Prepared};
-ghost use Rattle.links.specs.Hearings.{Row-switched, Rows-switched, Hear-asked};
+ghost use Rattle.links.specs.Hearings.{Counted-site, Row-switched, Rows-switched, Hear-asked};
 use super::step;
 use calls::Refusal;
 use calls::Value;
 use mesh::Site;
 use tables::sizes;
 
-// Takes the links of a to the listed radios up or down, one by one. Places and not-lower counts are those of the tables, before and after.
+// Takes the links of a to the listed radios up or down, one by one. The not-lower counts of the tables are at hand before and after; places
+// hold anything before, and are found anew where there is a link to take.
 fn switch_row(
     up: bool,
     n: u32,
@@ -27,10 +28,14 @@ fn switch_row(
     places: &mut [u16],
     highs: &mut [u8],
 )
-    requires { ⌜ Prepared n (lent links numbers order) (now places) (now highs) ⌝ }
+    requires { ⌜ Counted-site n (lent links numbers order) (length (now places)) (now highs) × (length (now list) ≤ max-radios) ⌝ }
     ensures { λ _. ⌜ Row-switched up n a (now (list .entry)) (lent (links .entry) (numbers .entry) (order .entry))
         (lent (links .exit) (numbers .exit) (order .exit)) (now (places .exit)) (now (highs .exit)) ⌝ }
 {
+    if list.len() == 0 {
+        return;
+    }
+    soundness::places_of(order, places);
     let mut i: usize = 0;
     while i < list.len() {
         step::step(
@@ -49,7 +54,7 @@ fn switch_row(
 }
 
 // Takes the links that are wanted up, or down, row by row; the ones of a row, at most as many as a radio may have neighbours, are listed
-// before the first of them.
+// before the first of them. In between, places serve as a list of the radios of a row.
 fn switch_rows(
     up: bool,
     n: u32,
@@ -60,7 +65,7 @@ fn switch_rows(
     places: &mut [u16],
     highs: &mut [u8],
 )
-    requires { ⌜ Prepared n (lent links numbers order) (now places) (now highs) × Of-size n (now heard) ×
+    requires { ⌜ Counted-site n (lent links numbers order) (length (now places)) (now highs) × Of-size n (now heard) ×
         (agreed-few max-neighbours n (now heard) ≡ true) ⌝ }
     ensures { λ _. ⌜ Rows-switched up n (now (heard .entry)) (lent (links .entry) (numbers .entry) (order .entry))
         (lent (links .exit) (numbers .exit) (order .exit)) (now (places .exit)) (now (highs .exit)) ⌝ }
@@ -68,7 +73,7 @@ fn switch_rows(
     let mut list = [0u16; Site::NEIGHBOURS as usize + 1];
     let mut a: u32 = 0;
     while a < n {
-        let k = heard::wanted::list(up, heard, links, a, &mut list);
+        let k = heard::wanted::list(up, heard, links, a, places, &mut list);
         switch_row(up, n, a, &list[..k], links, numbers, order, places, highs);
         a += 1;
     }
@@ -134,7 +139,7 @@ pub fn hear(
     if number != 0 {
         return Value { number, value: 0 };
     }
-    let count = heard::one_sided::mark(n, heard, further);
+    let count = heard::one_sided::mark(n, heard, further, &mut places);
     switch_rows(
         false,
         n,

@@ -26,7 +26,8 @@ cast-mark-pair c = omega (arith, c .shared-slice-known3 .given (c .before .befor
 add-n : tie.Need-add-n Inv-loop μ-loop
 add-n c =
     let at-loop = c .before .before .before .before .before .before in
-    tally-fits _ _ (c .before .before .mark-pair .result) (at-loop .loop .inv .1 .0) (omega (arith, at-loop .before .before .before .before .pre, c .before .before .before .before .before .loop-test .taken))
+    tally-fits _ _ (c .before .before .mark-pair .result) (at-loop .loop .inv .1 .0) (omega
+    (arith, at-loop .before .before .before .before .pre, c .before .before .before .before .before .loop-test .taken))
 
 loop-again : tie.Need-loop-again Inv-loop μ-loop
 loop-again c =
@@ -46,6 +47,7 @@ returns c =
 pub mark-row-spec : {M : Type 1} → statement M
 mark-row-spec =
     tie.close (
-    tie.spec Inv-loop μ-loop (λ c. (folding-none _ _ _, (omega arith, omega arith))) (λ c. search needs) (λ c. search needs) cast-mark-pair (λ c κs. search needs)
+    tie.spec Inv-loop μ-loop (λ c. (folding-none _ _ _, (omega arith, omega arith))) (λ c. search needs) (λ c. search needs) cast-mark-pair
+    (λ c κs. search needs)
     (λ c. search needs) add-n (λ c. search needs) (λ c. search needs) loop-again
     (λ c. folding-long _ (λ b s. length-alone-put _ _ b s) _ _ _ _ (c .before .loop .inv .0)) returns)

@@ -28,7 +28,8 @@ returns-2 c =
 loop-again : tie.Need-loop-again Inv-loop μ-loop
 loop-again c =
     let tested = c .before .before .before in
-    proper-turn _ _ _ (tested .before .before .loop .inv) (sym (tested .is-marked .ensures) ∙ c .before .before .if1 .left) (sym (c .before .is-within .ensures) ∙ not-false _ (c .if2 .left))
+    proper-turn _ _ _ (tested .before .before .loop .inv) (sym (tested .is-marked .ensures) ∙ c .before .before .if1 .left)
+    (sym (c .before .is-within .ensures) ∙ not-false _ (c .if2 .left))
 
 returns-3 : tie.Need-returns-3 Inv-loop μ-loop
 returns-3 c = proper-end _ _ _ (c .before .loop .inv) (c .loop-test .left)

@@ -1,7 +1,6 @@
 -- `questions::is_within` meets its contract: no radio from n on is marked as far as none from b on is. The measure is the radios left.
 use mathlib.Core.Path.{_≡_, refl, sym, _∙_}
 use Prim.Native.Nat.{_-_}
-use native.Mathlib.Omega.{arith}
 use borrow.Author.Needs.{needs}
 use Rattle.mesh.specs.Limits.{max-radios}
 use Rattle.heard.specs.Hearing.{none-from}

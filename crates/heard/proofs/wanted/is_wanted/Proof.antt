@@ -17,7 +17,8 @@ returns-2 c =
 returns-3 : tie.Need-returns-3
 returns-3 c =
     let tested = c .before .before .before in
-    wanted-up _ _ _ _ _ (tested .before .if1 .left) (c .before .before .if2 .taken) (sym (tested .is-marked .ensures) ∙ c .before .if3 .left) _ (c .is-agreed .ensures)
+    wanted-up _ _ _ _ _ (tested .before .if1 .left) (c .before .before .if2 .taken) (sym (tested .is-marked .ensures) ∙ c .before .if3 .left) _
+    (c .is-agreed .ensures)
 
 returns-4 : tie.Need-returns-4
 returns-4 c =
@@ -27,7 +28,8 @@ returns-4 c =
 returns-5 : tie.Need-returns-5
 returns-5 c =
     let tested = c .before .before .before in
-    wanted-down _ _ _ _ _ (tested .before .if1 .left) (c .before .before .if2 .left) (sym (tested .is-marked .ensures) ∙ not-false _ (c .before .if4 .left)) _ (c .is-agreed2 .ensures)
+    wanted-down _ _ _ _ _ (tested .before .if1 .left) (c .before .before .if2 .left) (sym (tested .is-marked .ensures) ∙ not-false _ (c .before .if4 .left)) _
+    (c .is-agreed2 .ensures)
 
 pub is-wanted-spec : {M : Type 1} → statement M
 is-wanted-spec =

@@ -34,6 +34,7 @@ loop-again c =
 pub keep-spec : {M : Type 1} → statement M
 keep-spec =
     tie.close (
-    tie.spec Inv-loop μ-loop (λ c. keeping-none _ _ _) (λ c. c .before .before .loop .inv .long) returns (λ c. search needs) (λ c. search needs) (λ c. search needs)
+    tie.spec Inv-loop μ-loop (λ c. keeping-none _ _ _) (λ c. c .before .before .loop .inv .long) returns (λ c. search needs) (λ c. search needs)
+    (λ c. search needs)
     (λ c. c .before .if1 .left) (λ c. search needs) (λ c. search needs) cast-is-wanted (λ c κs. search needs) (λ c. search needs) add-n (λ c. search needs)
     (λ c. search needs) loop-again (λ c. c .before .loop .inv .long) (λ c. keeping-end _ _ _ _ _ _ (c .before .loop .inv) _ (c .loop-test .left)))

@@ -2,7 +2,7 @@
 use mathlib.Core.Path.{refl}
 use borrow.Author.Needs.{needs}
 use Rattle.mesh.specs.Tables.{tables}
-use Rattle.links.proofs.HearCall.{hear-refused, hear-prepared, hear-size, hear-few, hear-done}
+use Rattle.links.proofs.HearCall.{hear-refused, hear-ready, hear-size, hear-few, hear-done}
 use Rattle.links.proofs.hear.hear.Statement.{statement}
 use Rattle.links.proofs.hear.hear.Tie as tie
 
@@ -15,11 +15,12 @@ returns c =
 
 switch-rows-requires : tie.Need-switch-rows-requires
 switch-rows-requires c κs =
-    let asked = c .before .before .before .before .before .before .before .before .before .before .before .before in
+    let marked = c .before .before .before .before .before .before .before .before in
+    let asked = marked .before .before .before .before .before .before in
     let x = asked .before .before .before .before .before .before .before .before .before .before .before .args in
-    let yes = c .before .before .before .before .before .before .before .before .before .if1 .left in (
-      hear-prepared (x .n) (x .heard .now) (x .further .now) (tables (x .links .now) (x .numbers .now) (x .order .now)) _ _ refl refl _ _ (asked .refusal .result)
-          (asked .refusal .ensures) yes,
+    let yes = marked .before .before .before .if1 .left in (
+      hear-ready (x .n) (x .heard .now) (x .further .now) (tables (x .links .now) (x .numbers .now) (x .order .now)) _ _ refl refl _ _ (asked .refusal .result)
+          (asked .refusal .ensures) yes _ (marked .mark .kept .1 .1 .1 .0),
       hear-size (x .n) (x .heard .now) (x .further .now) (tables (x .links .now) (x .numbers .now) (x .order .now)) _ _ refl refl _ _ (asked .refusal .result)
           (asked .refusal .ensures) yes,
       hear-few (x .n) (x .heard .now) (x .further .now) (tables (x .links .now) (x .numbers .now) (x .order .now)) _ _ refl refl _ _ (asked .refusal .result)
@@ -28,29 +29,33 @@ switch-rows-requires c κs =
 
 switch-rows-requires-2 : tie.Need-switch-rows-requires-2
 switch-rows-requires-2 c κs =
-    let asked = c .before .before .before .before .before .before .before .before .before .before .before .before .before .before .before .before .before .before .before .before .before .before .before .before .before .before in
-    let x = asked .before .before .before .before .before .before .before .before .before .before .before .args in (
-      c .before .before .before .before .before .before .before .before .before .before .before .before .before .switch-rows .ensures .prepared,
+    let fallen = c .before .before .before .before .before .before .before .before .before .before .before .before .before in
+    let marked = fallen .before .before .before .before .before .before .before .before .before in
+    let asked = marked .before .before .before .before .before .before in
+    let x = asked .before .before .before .before .before .before .before .before .before .before .before .args in
+    let yes = marked .before .before .before .if1 .left in (
+      fallen .switch-rows .ensures .ready,
       hear-size (x .n) (x .heard .now) (x .further .now) (tables (x .links .now) (x .numbers .now) (x .order .now)) _ _ refl refl _ _ (asked .refusal .result)
-          (asked .refusal .ensures) (c .before .before .before .before .before .before .before .before .before .before .before .before .before .before .before .before .before .before .before .before .before .before .before .if1 .left),
+          (asked .refusal .ensures) yes,
       hear-few (x .n) (x .heard .now) (x .further .now) (tables (x .links .now) (x .numbers .now) (x .order .now)) _ _ refl refl _ _ (asked .refusal .result)
-          (asked .refusal .ensures) (c .before .before .before .before .before .before .before .before .before .before .before .before .before .before .before .before .before .before .before .before .before .before .before .if1 .left),
+          (asked .refusal .ensures) yes,
     )
 
 returns-2 : tie.Need-returns-2
 returns-2 c =
     let risen = c .before .before .before .before .before .before .before .before in
     let fallen = risen .before .before .before .before .before .before .before .before .before .before .before .before .before .before in
-    let marked = fallen .before .before .before .before .before .before .before .before in
-    let asked = marked .before .before .before .before .before in
+    let marked = fallen .before .before .before .before .before .before .before .before .before in
+    let asked = marked .before .before .before .before .before .before in
     let x = asked .before .before .before .before .before .before .before .before .before .before .before .args in
     hear-done (x .n) (x .heard .now) (x .further .now) (tables (x .links .now) (x .numbers .now) (x .order .now)) _ _ refl refl _ _ (asked .refusal .result)
-    (asked .refusal .ensures) (marked .before .before .if1 .left)
-    (marked .mark .result) _ (marked .mark .ensures) _ _ _ (fallen .switch-rows .ensures) _ _ _ (risen .switch-rows2 .ensures)
+    (asked .refusal .ensures) (marked .before .before .before .if1 .left)
+    (marked .mark .result) _ _ (asked .refusal .kept .1 .1 .1 .1 .1 .1 .0) (marked .mark .ensures) _ _ _ (fallen .switch-rows .ensures) _ _ _
+    (risen .switch-rows2 .ensures)
 
 pub hear-spec : {M : Type 1} → statement M
 hear-spec =
     tie.close (
     tie.spec (λ c. search needs) (λ c. search needs) (λ c κs. search needs) (λ c. search needs) (λ c. search needs) (λ c. search needs) returns
-    (λ c κs. search needs) (λ c. search needs) (λ c. search needs) switch-rows-requires (λ c. search needs) (λ c. search needs) switch-rows-requires-2
-    (λ c. search needs) (λ c. search needs) (λ c. search needs) (λ c. search needs) returns-2)
+    (λ c. search needs) (λ c κs. search needs) (λ c. search needs) (λ c. search needs) switch-rows-requires (λ c. search needs) (λ c. search needs)
+    switch-rows-requires-2 (λ c. search needs) (λ c. search needs) (λ c. search needs) (λ c. search needs) returns-2)

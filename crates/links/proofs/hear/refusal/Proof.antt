@@ -41,7 +41,8 @@ returns-4 c =
     let x = asked .before .before .before .before .before .before .before .args in
     hear-unsound (x .n) (x .heard .now) (x .further) (tables (x .links .now) (x .numbers .now) (x .order .now)) _ _ (asked .of-tables .result)
     (asked .of-tables .ensures) (tested .before .before .if1 .left) (tested .before .if2 .left) (tested .if3 .left)
-    (x .places .now) _ (x .highs .now) _ refl refl (examined .examine .result) (examined .examine .ensures) (not-true (examined .examine .result) (c .if4 .taken))
+    (x .places .now) _ (x .highs .now) _ refl refl (examined .examine .result) (examined .examine .ensures)
+    (not-true (examined .examine .result) (c .if4 .taken))
 
 returns-5 : tie.Need-returns-5
 unfolding lengths-of
