@@ -138,10 +138,12 @@ static int time_hearing(enum kind kind) {
     static struct site one_call;
     double best[2];
     make_heard(kind);
-    for (unsigned single = 0; single < 2; single++) {
-        best[single] = batch(run_hearing, single, 1);
-        if (!single) one_call = heard_site;
-    }
+    for (unsigned turn = 0; turn < 3; turn++)
+        for (unsigned single = 0; single < 2; single++) {
+            double time = batch(run_hearing, single, 1);
+            if (!turn || time < best[single]) best[single] = time;
+            if (!single) one_call = heard_site;
+        }
     printf("heard %s %u %.0f %.0f\n", kinds[kind], switches, best[0], best[1]);
     if (memcmp(&one_call, &heard_site, sizeof one_call)) printf("a hearing and its single calls differ: %s\n", kinds[kind]);
     return !memcmp(&one_call, &heard_site, sizeof one_call);
