@@ -24,7 +24,7 @@ use Rattle.soundness.specs.Checks.{Examined}
 use Rattle.soundness.proofs.ExamineLaws.{site-refused, site-lent, fits-sound-lent, examinable-room}
 use Rattle.heard.specs.Hearing.{Of-size, rows-refusal, One-sided-marked}
 use Rattle.links.specs.Steps.{Prepared}
-use Rattle.links.specs.Hearings.{Phase-by, Counted-site, Rows-switched, Hear-asked}
+use Rattle.links.specs.Hearings.{Phase-by, Counted-site, Rows-switched, Brought, Hear-asked}
 use Rattle.links.proofs.StepLaws.{fits-good}
 use Rattle.links.proofs.HearLoops.{prepared-site, with-places}
 
@@ -122,6 +122,10 @@ module _ (n : ℕ) (hs : List ℕ) (t : Tables) (k : Good n t) where
       go true false = refl
       go false y = refl
 
+pub both-brought : {n : ℕ} {hs : List ℕ} {t u v : Tables} {ps is qs js : List ℕ} → Rows-switched false n hs t u ps is → Rows-switched true n hs u v qs js
+    → Brought n hs t v
+both-brought {n} {hs} {t} {u} d e = record { between = u; down = λ s p. d .left p s; up = λ s p. e .left p s }
+
 -- ---- the call
 
 module _ (n : ℕ) (hs w : List ℕ) (t : Tables) (p h : ℕ) (ep : p ≡ max-radios) (eh : h ≡ max-radios) (places highs : List ℕ) (q : ℕ)
@@ -174,14 +178,12 @@ module _ (n : ℕ) (hs w : List ℕ) (t : Tables) (p h : ℕ) (ep : p ≡ max-ra
     unfolding heard-proper
     is-within = and-right (irreflexive n hs) (within n hs) (answers .1)
 
-    module _ (count : ℕ) (x : List ℕ) (room : ℕ) (full : room ≡ max-radios) (m : One-sided-marked n hs room w count x) (u : Tables) (ps is : List ℕ)
-        (down : Rows-switched false n hs t u ps is)
-        (v : Tables) (qs js : List ℕ) (up : Rows-switched true n hs u v qs js) where
-      after-downs : Rows-left n (downs n hs t) t n u
-      after-downs = down .left (downs n hs t) t (downs-up n hs t) (downs-by n hs t good) (rows-first n hs t good (answers .1) (answers .2))
+    module _ (count : ℕ) (x : List ℕ) (room : ℕ) (full : room ≡ max-radios) (m : One-sided-marked n hs room w count x) (v : Tables) (b : Brought n hs t v) where
+      after-downs : Rows-left n (downs n hs t) t n (b .between)
+      after-downs = b .down t (downs n hs t) (downs-up n hs t) (downs-by n hs t good) (rows-first n hs t good (answers .1) (answers .2))
 
       after-ups : Rows-left n (ups n hs t) t n v
-      after-ups = up .left (ups n hs t) t (ups-up n hs t) (ups-by n hs t good) (downs-end n hs t good (answers .1) (answers .2) after-downs)
+      after-ups = b .up t (ups n hs t) (ups-up n hs t) (ups-by n hs t good) (downs-end n hs t good (answers .1) (answers .2) after-downs)
 
       pub hear-done : Hear-contract n hs t w (answer 0 count) v x
       unfolding Hear-contract

@@ -3,10 +3,11 @@
 --   Counted-site    questions 1 to 3 get yes of the tables, and the not-lower counts of every radio are at hand
 --   Row-switched    the listed links of a row are done
 --   Rows-switched   all rows are done
+--   Brought         both phases are done
 --   Hear-asked      the refusal number of a hearing, and where it is 0 what its first link is taken with
 -- Definitions only.
 use mathlib.Core.Path.{_≡_}
-use mathlib.Core.Bool.{Bool, true, _&&_, not, cond}
+use mathlib.Core.Bool.{Bool, true, false, _&&_, not, cond}
 use mathlib.Core.List.{List}
 use Prim.Native.Nat.{ℕ, suc, _<_}
 use lib.ListN.{length}
@@ -39,6 +40,12 @@ pub record Row-switched (up : Bool) (n a : ℕ) (bs : List ℕ) (t v : Tables) (
 pub record Rows-switched (up : Bool) (n : ℕ) (hs : List ℕ) (t v : Tables) (places highs : List ℕ) : Type 0 where
   pub ready : Counted-site n v (length places) highs
   pub left : (p : Phase) (s : Tables) → p .up ≡ up → Phase-by n hs p → Rows-left n p s 0 t → Rows-left n p s n v
+
+-- the tables between, which the downs leave and the ups find
+pub record Brought (n : ℕ) (hs : List ℕ) (t v : Tables) : Type 0 where
+  pub between : Tables
+  pub down : (s : Tables) (p : Phase) → p .up ≡ false → Phase-by n hs p → Rows-left n p s 0 t → Rows-left n p s n between
+  pub up : (s : Tables) (p : Phase) → p .up ≡ true → Phase-by n hs p → Rows-left n p s 0 between → Rows-left n p s n v
 
 -- `further`, `p` and `h` are lengths: of the further table, of the lent places and of the lent not-lower counts, which are for as many
 -- radios as a site may have

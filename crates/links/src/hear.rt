@@ -8,7 +8,7 @@ ghost use Rattle.mesh.specs.Tables.{lent};
 ghost use Rattle.calls.specs.Heard.{agreed-few};
 ghost use Rattle.calls.specs.Contracts.Heard.{Hear-contract};
 ghost use Rattle.heard.specs.Hearing.{Of-size};
-ghost use Rattle.links.specs.Hearings.{Counted-site, Row-switched, Rows-switched, Hear-asked};
+ghost use Rattle.links.specs.Hearings.{Counted-site, Row-switched, Rows-switched, Brought, Hear-asked};
 use super::step;
 use calls::Refusal;
 use calls::Value;
@@ -79,6 +79,25 @@ fn switch_rows(
     }
 }
 
+// Links to go down, then links to come up.
+fn bring(
+    n: u32,
+    heard: &[u8],
+    links: &mut [u8],
+    numbers: &mut [u8],
+    order: &mut [u16],
+    places: &mut [u16],
+    highs: &mut [u8],
+)
+    requires { ⌜ Counted-site n (lent links numbers order) (length (now places)) (now highs) × Of-size n (now heard) ×
+        (agreed-few max-neighbours n (now heard) ≡ true) ⌝ }
+    ensures { λ _. ⌜ Brought n (now (heard .entry)) (lent (links .entry) (numbers .entry) (order .entry))
+        (lent (links .exit) (numbers .exit) (order .exit)) ⌝ }
+{
+    switch_rows(false, n, heard, links, numbers, order, places, highs);
+    switch_rows(true, n, heard, links, numbers, order, places, highs);
+}
+
 // Questions 1 to 3, 14 and 7 of a hearing whose further table has so many bytes. At 0, `places` and `highs` hold the place and the not-lower
 // count of each radio; else anything.
 fn refusal(
@@ -140,26 +159,7 @@ pub fn hear(
         return Value { number, value: 0 };
     }
     let count = heard::one_sided::mark(n, heard, further, &mut places);
-    switch_rows(
-        false,
-        n,
-        heard,
-        links,
-        numbers,
-        order,
-        &mut places,
-        &mut highs,
-    );
-    switch_rows(
-        true,
-        n,
-        heard,
-        links,
-        numbers,
-        order,
-        &mut places,
-        &mut highs,
-    );
+    bring(n, heard, links, numbers, order, &mut places, &mut highs);
     Value {
         number: 0,
         value: count,

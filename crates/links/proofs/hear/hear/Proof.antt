@@ -13,8 +13,8 @@ returns c =
     hear-refused (x .n) (x .heard .now) (x .further .now) (tables (x .links .now) (x .numbers .now) (x .order .now)) _ _ refl refl _ _ (asked .refusal .result)
     (asked .refusal .ensures) (c .if1 .taken)
 
-switch-rows-requires : tie.Need-switch-rows-requires
-switch-rows-requires c κs =
+bring-requires : tie.Need-bring-requires
+bring-requires c κs =
     let marked = c .before .before .before .before .before .before .before .before in
     let asked = marked .before .before .before .before .before .before in
     let x = asked .before .before .before .before .before .before .before .before .before .before .before .args in
@@ -27,35 +27,19 @@ switch-rows-requires c κs =
           (asked .refusal .ensures) yes,
     )
 
-switch-rows-requires-2 : tie.Need-switch-rows-requires-2
-switch-rows-requires-2 c κs =
-    let fallen = c .before .before .before .before .before .before .before .before .before .before .before .before .before in
-    let marked = fallen .before .before .before .before .before .before .before .before .before in
-    let asked = marked .before .before .before .before .before .before in
-    let x = asked .before .before .before .before .before .before .before .before .before .before .before .args in
-    let yes = marked .before .before .before .if1 .left in (
-      fallen .switch-rows .ensures .ready,
-      hear-size (x .n) (x .heard .now) (x .further .now) (tables (x .links .now) (x .numbers .now) (x .order .now)) _ _ refl refl _ _ (asked .refusal .result)
-          (asked .refusal .ensures) yes,
-      hear-few (x .n) (x .heard .now) (x .further .now) (tables (x .links .now) (x .numbers .now) (x .order .now)) _ _ refl refl _ _ (asked .refusal .result)
-          (asked .refusal .ensures) yes,
-    )
-
 returns-2 : tie.Need-returns-2
 returns-2 c =
-    let risen = c .before .before .before .before .before .before .before .before in
-    let fallen = risen .before .before .before .before .before .before .before .before .before .before .before .before .before .before in
-    let marked = fallen .before .before .before .before .before .before .before .before .before in
+    let brought = c .before .before .before .before .before .before .before .before in
+    let marked = brought .before .before .before .before .before .before .before .before .before in
     let asked = marked .before .before .before .before .before .before in
     let x = asked .before .before .before .before .before .before .before .before .before .before .before .args in
     hear-done (x .n) (x .heard .now) (x .further .now) (tables (x .links .now) (x .numbers .now) (x .order .now)) _ _ refl refl _ _ (asked .refusal .result)
     (asked .refusal .ensures) (marked .before .before .before .if1 .left)
-    (marked .mark .result) _ _ (asked .refusal .kept .1 .1 .1 .1 .1 .1 .0) (marked .mark .ensures) _ _ _ (fallen .switch-rows .ensures) _ _ _
-    (risen .switch-rows2 .ensures)
+    (marked .mark .result) _ _ (asked .refusal .kept .1 .1 .1 .1 .1 .1 .0) (marked .mark .ensures) _ (brought .bring .ensures)
 
 pub hear-spec : {M : Type 1} → statement M
 hear-spec =
     tie.close (
     tie.spec (λ c. search needs) (λ c. search needs) (λ c κs. search needs) (λ c. search needs) (λ c. search needs) (λ c. search needs) returns
-    (λ c. search needs) (λ c κs. search needs) (λ c. search needs) (λ c. search needs) switch-rows-requires (λ c. search needs) (λ c. search needs)
-    switch-rows-requires-2 (λ c. search needs) (λ c. search needs) (λ c. search needs) (λ c. search needs) returns-2)
+    (λ c. search needs) (λ c κs. search needs) (λ c. search needs) (λ c. search needs) bring-requires (λ c. search needs) (λ c. search needs)
+    (λ c. search needs) (λ c. search needs) returns-2)
