@@ -77,6 +77,29 @@ static int agree_batches(void) {
     return 1;
 }
 
+/* Heard tables: what is linked with some bits changed, of one end or of both, at times a radio's own or one at n; much that is heard by
+ * all; other lengths. */
+static int agree_heard(void) {
+    static uint8_t heard[ROW * RADIOS + 1], p[ROW * RADIOS + 1], q[ROW * RADIOS + 1];
+    start();
+    for (unsigned i = 0; i < 40; i++) {
+        memcpy(heard, t.links, ROW * n), memset(p, 77, sizeof p), memset(q, 77, sizeof q);
+        for (unsigned j = 0; j < n; j++) {
+            unsigned a = rand() % n, b = rand() % n, one_end = rand() % 3 == 0;
+            if (a == b || (i % 8 == 7 && j > 50)) continue;
+            heard[ROW * a + b / 8] ^= 1 << b % 8;
+            if (!one_end) heard[ROW * b + a / 8] ^= 1 << a % 8;
+        }
+        if (i % 10 == 3) put_bit(heard, 1, i % n, i % n);
+        if (i % 10 == 5 && n < RADIOS) put_bit(heard, 1, i % n, n + rand() % (RADIOS - n));
+        if (i % 10 == 7)
+            for (unsigned a = 0; a < n; a++) put_bit(heard, a != i % n, a, i % n), put_bit(heard, a != i % n, i % n, a);
+        size_t h = ROW * n + (i % 20 == 18), f = ROW * n - (i % 20 == 19);
+        if (!same(one->hear(&t, heard, h, p, f), two->hear(&u, heard, h, q, f)) || memcmp(p, q, sizeof p) || !same_tables()) return 0;
+    }
+    return 1;
+}
+
 /* A changed byte of the tables: a bit of a row, at times a radio's own, a number, an entry of the order. */
 static void damage(unsigned i) {
     unsigned at = rand() % n;
@@ -281,6 +304,7 @@ static const char *disagreement(const struct program *engine, const struct progr
     if (!agree_links()) return "link calls";
     if (one->has(COMMITTED) && !agree_proposals()) return "proposals";
     if (one->has(BATCHED) && !agree_batches()) return "batches";
+    if (one->has(HEARD) && !agree_heard()) return "hearings";
     if (!agree_questions()) return "questions";
     if (one->has(SHEET) && !agree_sheet()) return "site sheet";
     if (one->has(SCRIPT_WRITE) && !agree_script()) return "script";

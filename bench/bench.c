@@ -3,6 +3,7 @@
  *   programs NAME ..              the programs, in the order of the times below
  *   time CALL N SITE TIME ..      time of a call in microseconds, by each program; - where it lacks the call
  *   steps N SITE SINGLE ASKED BOTH   the engine's link calls: single, asked and then made single, asked and committed
+ *   heard SITE LINKS CALL SINGLE  a hearing of the engine at 512 radios that takes all links down and others up, and the single calls
  *   change SITE TIME ..           time of a link call at 512 radios, over links all over the site
  *   stack CALL BYTES              the most stack that the engine's call took
  * --quick: two sizes, few batches. --once N: only the engine's calls, once each, on sparse sites of N radios, for counting.
@@ -64,6 +65,7 @@ static int all_taken(uint32_t size, enum kind kind) {
         refused |= p->link(0, &e->site, l.a, l.b, answer, size).number;
         refused |= p->link(1, &e->site, l.a, l.b, answer, size).number;
         refused |= p->image_read(&e->other, e->image, e->image_length);
+        for (unsigned i = 0; i < 2 && p->has(HEARD); i++) refused |= p->hear(&e->site, e->heard[i], ROW * size, buffer, ROW * size).number;
         if (p->has(MARK_SET)) refused |= p->mark_return(&e->other, (const uint8_t *)"M7      ", MARK_NAME, store, sizeof store);
         if (!refused) continue;
         printf("a call that is to be timed is refused: %u radios, %s\n", size, kinds[kind]);
@@ -97,6 +99,54 @@ static int time_calls(uint32_t size, enum kind kind, unsigned *stack) {
     }
     if (programs[0]->has(COMMITTED)) compare_steps(size, kind);
     return 1;
+}
+
+/* ---- a hearing that changes every link, and the same by single calls */
+
+static struct site heard_site, heard_start;
+static struct lent hearing;
+static uint8_t all_heard[ROW * RADIOS], alone[ROW * RADIOS];
+static struct ends goes[RADIOS * NEIGHBOURS];
+static unsigned downs, switches;
+
+static void run_hearing(unsigned single) {
+    heard_site = heard_start;
+    if (!single) programs[0]->hear(&hearing, all_heard, sizeof all_heard, alone, sizeof alone);
+    for (unsigned i = 0; single && i < switches; i++) programs[0]->link(i >= downs, &hearing, goes[i].a, goes[i].b, answer, RADIOS);
+}
+
+/* The links that go down, or up, by lower radio and then higher. */
+static void add_switches(int up) {
+    for (unsigned a = 0; a < RADIOS; a++)
+        for (unsigned b = a + 1; b < RADIOS; b++)
+            if (marked(all_heard, a, b) == up && marked(heard_start.links, a, b) != up) goes[switches++] = (struct ends){a, b};
+}
+
+/* Radio v hears as 5 v + 1 does: the links of the site under other names. */
+static void make_heard(enum kind kind) {
+    make_site(&heard_start, RADIOS, kind, 0);
+    memset(all_heard, 0, sizeof all_heard);
+    for (unsigned a = 0; a < RADIOS; a++)
+        for (unsigned b = 0; b < RADIOS; b++)
+            if (marked(heard_start.links, (5 * a + 1) % RADIOS, (5 * b + 1) % RADIOS)) put_bit(all_heard, 1, a, b);
+    switches = 0;
+    add_switches(0), downs = switches, add_switches(1);
+    heard_site = heard_start, hearing = lent_by(&heard_site);
+}
+
+static int time_hearing(enum kind kind) {
+    static struct site one_call;
+    double best[2];
+    make_heard(kind);
+    for (unsigned turn = 0; turn < 3; turn++)
+        for (unsigned single = 0; single < 2; single++) {
+            double time = batch(run_hearing, single, 1);
+            if (!turn || time < best[single]) best[single] = time;
+            if (!single) one_call = heard_site;
+        }
+    printf("heard %s %u %.0f %.0f\n", kinds[kind], switches, best[0], best[1]);
+    if (memcmp(&one_call, &heard_site, sizeof one_call)) printf("a hearing and its single calls differ: %s\n", kinds[kind]);
+    return !memcmp(&one_call, &heard_site, sizeof one_call);
 }
 
 /* ---- changes */
@@ -160,6 +210,8 @@ int main(int argc, char **argv) {
     for (unsigned i = 0; i < 4; i += step)
         for (unsigned k = 0; k < KINDS; k++)
             if (!time_calls(sizes[i], k, stack)) return 1;
+    for (unsigned k = 0; k < ALONE && programs[0]->has(HEARD); k++)
+        if (!time_hearing(k)) return 1;
     for (unsigned k = 0; k < ALONE; k++)
         if (!time_changes(k)) return 1;
     for (call = 0; call < CALLS; call++)

@@ -1,5 +1,6 @@
 /* Careful C as a program: the same tables and answers, each call as a careful programmer would write it, in portable C. */
 #include "careful/core.h"
+#include "careful/heard.h"
 #include "careful/image.h"
 #include "careful/link.h"
 #include "careful/marks.h"

@@ -10,6 +10,7 @@
 #pragma weak sb_script_length
 #pragma weak sb_script_write
 #pragma weak sb_link_batch
+#pragma weak sb_hear
 #pragma weak sb_sheet
 #pragma weak sb_staircase
 #pragma weak sb_mark_set
@@ -18,6 +19,7 @@
 
 static int c_has(enum timed call) {
     if (call == BATCHED) return sb_link_batch != 0;
+    if (call == HEARD) return sb_hear != 0;
     if (call == SHEET) return sb_sheet != 0;
     if (call == SCRIPT_LENGTH || call == SCRIPT_WRITE) return sb_script_length && sb_script_write;
     if (call == STAIRCASE) return sb_staircase != 0;
@@ -57,6 +59,10 @@ static struct c_reply c_commit(int up, const struct lent *t, uint32_t a, uint32_
 
 static struct c_value c_link_batch(const struct lent *t, const uint16_t *list, size_t count) {
     return value(sb_link_batch(t->n, OF(t), list, count));
+}
+
+static struct c_value c_hear(const struct lent *t, const uint8_t *heard, size_t heard_len, uint8_t *further, size_t further_len) {
+    return value(sb_hear(t->n, OF(t), heard, heard_len, further, further_len));
 }
 
 static struct c_value c_core(const struct lent *t, uint32_t v, uint32_t k, uint16_t *answer, size_t room) {

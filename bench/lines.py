@@ -10,7 +10,7 @@ class Run:
     def __init__(self, path):
         self.machine, self.stolen, self.programs = "", None, []
         self.times, self.stack, self.steps, self.instructions = defaultdict(dict), {}, {}, {}
-        self.change, self.igraph, self.networkx = {}, {}, {}
+        self.heard, self.change, self.igraph, self.networkx = {}, {}, {}, {}
         for line in Path(path).read_text().splitlines():
             word, rest = line.split(" ", 1)
             getattr(self, "take_" + word)(rest)
@@ -41,6 +41,10 @@ class Run:
     def take_steps(self, rest):
         n, site, *times = rest.split()
         self.steps[int(n), site] = [float(time) for time in times]
+
+    def take_heard(self, rest):
+        site, *numbers = rest.split()
+        self.heard[site] = [int(x) for x in numbers]
 
     def take_change(self, rest):
         site, *times = rest.split()

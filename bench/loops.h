@@ -62,6 +62,13 @@ static inline unsigned clear_and_batch(const struct entry *e) {
     return c_link_batch(&e->other, &e->batch->a, 2 * e->batch_count).value;
 }
 
+/* Up to 100 links of the site are not heard, and then heard again. */
+static inline unsigned hear_twice(const struct entry *e, uint8_t *further) {
+    size_t bytes = ROW * e->site.n;
+    unsigned alone = c_hear(&e->site, e->heard[0], bytes, further, bytes).value;
+    return alone + c_hear(&e->site, e->heard[1], bytes, further, bytes).value;
+}
+
 /* The image into the same tables, for one radio less. */
 static inline unsigned read_smaller(const struct entry *e) {
     struct lent t = {N - 1, e->other.links, ROW * (N - 1), e->other.numbers, N - 1, e->other.order, N - 1};
@@ -85,6 +92,7 @@ LOOP(link, down_and_up(S, e->ends, w->answer))
 LOOP(asked, ask_and_link(S, e->ends, w->answer))
 LOOP(committed, ask_and_commit(S, e->ends, w->answer))
 LOOP(batch, clear_and_batch(e))
+LOOP(hear, hear_twice(e, w->buffer))
 LOOP(core, c_core(S, A, 1, w->answer, N).value)
 LOOP(backbone, c_backbone(S, w->answer, N).value)
 LOOP(tree, c_tree(S, w->nodes, N + 1, w->answer, N).value)
@@ -108,7 +116,7 @@ static void run_changes(const struct lent *t, const struct ends *list, unsigned 
 
 static void (*const loops[CALLS])(const struct work *) = {
     run_clear, run_check, run_number, run_neighbours, run_linked, run_first, run_later_of, run_link, run_asked, run_committed, run_batch,
-    run_core, run_backbone, run_tree, run_sheet, run_script_length, run_script_write, run_staircase, run_image_write, run_image_read,
+    run_hear, run_core, run_backbone, run_tree, run_sheet, run_script_length, run_script_write, run_staircase, run_image_write, run_image_read,
     run_image_other, run_image_block, run_new, run_mark_set, run_mark_moved, run_mark_return,
 };
 
@@ -117,7 +125,7 @@ static void (*const loops[CALLS])(const struct work *) = {
 extern const struct program PROGRAM;
 const struct program PROGRAM = {
     NAME(PROGRAM), c_has, loops, run_changes, c_clear, c_check, c_number, c_neighbours, c_linked, c_first, c_later_of, c_link, c_ask, c_commit,
-    c_link_batch, c_core, c_backbone, c_tree, c_sheet, c_script_length, c_script_write, c_staircase, c_image_write, c_image_read, c_image_block,
+    c_link_batch, c_hear, c_core, c_backbone, c_tree, c_sheet, c_script_length, c_script_write, c_staircase, c_image_write, c_image_read, c_image_block,
     c_mark_set, c_mark_remove, c_mark_return,
 };
 #endif

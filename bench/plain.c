@@ -1,5 +1,6 @@
 /* Line-by-line C as a program: the engine's algorithms, pass by pass, without its guards. */
 #include "plain/core.h"
+#include "plain/heard.h"
 #include "plain/image.h"
 #include "plain/link.h"
 #include "plain/marks.h"

@@ -66,12 +66,14 @@ struct ends {
     uint16_t a, b;
 };
 
-/* A site, another that is written over, a link of the site, two radios that are not linked, links of it for a batch, and an image of it. */
+/* A site, another that is written over, a link of the site, two radios that are not linked, links of it for a batch, heard tables of the site
+ * without these links and with them, and an image of it. */
 struct entry {
     struct lent site, other;
     struct ends ends, apart;
     struct ends *batch;
     unsigned batch_count;
+    uint8_t *heard[2];
     uint8_t *image;
     size_t image_length;
 };
@@ -88,9 +90,9 @@ struct work {
 };
 
 /* The calls that are timed. LINK is a link down and up again, ASKED and COMMITTED are the same in two steps, NEW is a new link up. BATCHED
- * clears a site first. MARK_SET replaces a mark of a full store, MARK_MOVED removes the first of eight and sets it again. */
+ * clears a site first. HEARD is two hearings: links of the site go down, and come up again. MARK_SET replaces a mark of a full store, MARK_MOVED removes the first of eight and sets it again. */
 enum timed {
-    CLEAR, CHECK, NUMBER, DEGREE, LINKED, FIRST, LATER_OF, LINK, ASKED, COMMITTED, BATCHED, CORE, BACKBONE, TREE, SHEET,
+    CLEAR, CHECK, NUMBER, DEGREE, LINKED, FIRST, LATER_OF, LINK, ASKED, COMMITTED, BATCHED, HEARD, CORE, BACKBONE, TREE, SHEET,
     SCRIPT_LENGTH, SCRIPT_WRITE, STAIRCASE, IMAGE_WRITE, IMAGE_READ, IMAGE_OTHER, IMAGE_BLOCK, NEW, MARK_SET, MARK_MOVED, MARK_RETURN,
     CALLS
 };
@@ -112,6 +114,7 @@ struct program {
     struct c_reply (*ask)(int up, const struct lent *, uint32_t a, uint32_t b, uint16_t *answer, size_t room);
     struct c_reply (*commit)(int up, const struct lent *, uint32_t a, uint32_t b, int step, const uint16_t *list, size_t count);
     struct c_value (*link_batch)(const struct lent *, const uint16_t *list, size_t count);
+    struct c_value (*hear)(const struct lent *, const uint8_t *heard, size_t heard_len, uint8_t *further, size_t further_len);
     struct c_value (*core)(const struct lent *, uint32_t v, uint32_t k, uint16_t *answer, size_t room);
     struct c_value (*backbone)(const struct lent *, uint16_t *answer, size_t room);
     struct c_value (*tree)(const struct lent *, struct c_node *nodes, size_t places, uint16_t *answer, size_t room);

@@ -15,9 +15,9 @@ from plot import plot
 
 TOP = Path(__file__).resolve().parent.parent
 START, END = "<!-- measured: bench/run --write -->\n", "<!-- end -->\n"
-NEAR = ["clear", "check", "number", "neighbours", "linked", "first", "later_of", "down+up", "ask+link", "ask+commit", "batch", "new"]
+NEAR = ["clear", "check", "number", "neighbours", "linked", "first", "later_of", "down+up", "ask+link", "ask+commit", "batch", "hear", "new"]
 MOST_ASK, MOST_COMMIT = 1.0, 1.1  # of the single call
-MOST_GROWTH, MOST_STACK, LEAST_IGRAPH, LEAST_NETWORKX = 40, 8192, 2, 20
+MOST_GROWTH, MOST_STACK, LEAST_IGRAPH, LEAST_NETWORKX, LEAST_HEARD = 40, 8192, 2, 20, 3
 
 
 def goal(call):
@@ -91,6 +91,11 @@ def two_steps(run):
             yield ["committing" if step else "asking", n, *(f"{x:.2f}" for x in values), most, met(max(values) <= most)]
 
 
+def hearings(run):
+    for site, (links, call, single) in run.heard.items():
+        yield [words(site), f"{links:,}", f"{call / 1000:.1f}", f"{single / 1000:.1f}", f"{single / call:.1f}", met(single >= LEAST_HEARD * call)]
+
+
 def changes(run):
     for site in run.change:
         engine, *others = (run.change_by(site, kind) for kind in ("engine", "plain", "careful", "anew"))
@@ -125,6 +130,9 @@ def ratio_parts(run):
 
 
 def change_parts(run):
+    if run.heard:
+        yield "### A hearing at 512 radios that takes all links down and others up, in milliseconds\n"
+        yield table(["site", "links changed", "hearing", "single calls", "times", f"at least {LEAST_HEARD}"], hearings(run))
     yield "### A change at 512 radios, in microseconds\n"
     yield table(["site", "engine", "line-by-line C", "careful C", "all numbers anew in plain C", "anew : engine"], changes(run))
     if run.igraph:

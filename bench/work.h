@@ -14,7 +14,7 @@ static uint8_t store[MARK_STORE];
 static struct work work = {entries, 0, answer, nodes, buffer, sizeof buffer, store};
 
 /* Room for the entries' tables and images. */
-static uint8_t room[IN_TURN * (2 * (ROW + 1 + 2) + 4 * NEIGHBOURS / 2) + IN_TURN / 16 * (8 * BLOCK + 4 * MOST_BATCH)], *next;
+static uint8_t room[IN_TURN * (4 * ROW + 2 * (1 + 2) + 4 * NEIGHBOURS / 2) + IN_TURN / 16 * (8 * BLOCK + 4 * MOST_BATCH)], *next;
 
 static void *take(const void *from, size_t length) {
     void *to = memcpy(next, from, length);
@@ -46,6 +46,9 @@ static void use_sites(const struct program *p, uint32_t n, enum kind kind) {
         struct ends batch[MOST_BATCH];
         e->batch_count = some_links(&s, batch, MOST_BATCH);
         e->batch = take(batch, sizeof batch);
+        e->heard[0] = take(s.links, ROW * n), e->heard[1] = take(s.links, ROW * n);
+        for (unsigned i = 0; i < e->batch_count; i++)
+            put_bit(e->heard[0], 0, batch[i].a, batch[i].b), put_bit(e->heard[0], 0, batch[i].b, batch[i].a);
         e->apart = some_pair(&s);
         e->image_length = p->image_write(&e->site, buffer, sizeof buffer).value;
         e->image = take(buffer, e->image_length);

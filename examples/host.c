@@ -1,5 +1,5 @@
 /* A C host: lends tables, takes links up and down, asks, prints a sheet and a script, writes an image, walks it and reads it, sets marks and
- * comes back. examples/run builds and runs it. */
+ * comes back, and takes what radios hear. examples/run builds and runs it. */
 #include "../include/summerbugle.h"
 #include <stdio.h>
 
@@ -45,6 +45,25 @@ static void take_batch(void) {
     uint16_t list[] = {0, 1, 0, 6, 6, 6, 2, 3};
     print_value("batch", sb_link_batch(N, TABLES, list, 8));
     print_value("batch of an odd list", sb_link_batch(N, TABLES, list + 6, 1));
+    printf("order");
+    print_list(order, N);
+}
+
+/* What is linked is heard, but 6 does not hear 0 any more, and 2 and 3 hear each other; then 5 hears itself. */
+static void take_heard(void) {
+    uint8_t heard[sizeof links], one_sided[sizeof links];
+    for (unsigned i = 0; i < sizeof links; i++) heard[i] = links[i];
+    heard[SB_ROW_BYTES * 6] ^= 1 << 0;
+    heard[SB_ROW_BYTES * 2] ^= 1 << 3;
+    heard[SB_ROW_BYTES * 3] ^= 1 << 2;
+    print_value("hear", sb_hear(N, TABLES, heard, sizeof heard, one_sided, sizeof one_sided));
+    for (unsigned v = 0; v < N; v++)
+        for (unsigned u = 0; u < N; u++)
+            if (one_sided[SB_ROW_BYTES * v + u / 8] >> u % 8 & 1) printf("only %u hears %u\n", v, u);
+    print_value("linked 0 6", sb_linked(N, 0, 6, TABLES));
+    print_value("linked 2 3", sb_linked(N, 2, 3, TABLES));
+    heard[SB_ROW_BYTES * 5] ^= 1 << 5;
+    print_value("hear itself", sb_hear(N, TABLES, heard, sizeof heard, one_sided, sizeof one_sided));
     printf("order");
     print_list(order, N);
 }
@@ -174,5 +193,6 @@ int main(void) {
     propose_down(0, 1);
     down(0, 1);
     take_batch();
+    take_heard();
     return 0;
 }

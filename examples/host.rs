@@ -1,5 +1,5 @@
 // A Rust host: lends tables, takes links up and down, asks, prints a sheet and a script, writes an image, walks it and reads it, sets marks
-// and comes back. examples/run builds and runs it.
+// and comes back, and takes what radios hear. examples/run builds and runs it.
 
 #[repr(C)]
 struct Value {
@@ -48,6 +48,7 @@ mod engine {
         pub fn sb_link_up(n: u32, a: u32, b: u32, l: *mut u8, ll: usize, k: *mut u8, kl: usize, o: *mut u16, ol: usize, w: *mut u16, wl: usize) -> Reply;
         pub fn sb_link_down(n: u32, a: u32, b: u32, l: *mut u8, ll: usize, k: *mut u8, kl: usize, o: *mut u16, ol: usize, w: *mut u16, wl: usize) -> Reply;
         pub fn sb_link_batch(n: u32, l: *mut u8, ll: usize, k: *mut u8, kl: usize, o: *mut u16, ol: usize, list: *const u16, len: usize) -> Value;
+        pub fn sb_hear(n: u32, l: *mut u8, ll: usize, k: *mut u8, kl: usize, o: *mut u16, ol: usize, heard: *const u8, hl: usize, one_sided: *mut u8, sl: usize) -> Value;
         pub fn sb_ask_up(n: u32, a: u32, b: u32, l: *const u8, ll: usize, k: *const u8, kl: usize, o: *const u16, ol: usize, w: *mut u16, wl: usize) -> Reply;
         pub fn sb_ask_down(n: u32, a: u32, b: u32, l: *const u8, ll: usize, k: *const u8, kl: usize, o: *const u16, ol: usize, w: *mut u16, wl: usize) -> Reply;
         pub fn sb_commit_up(n: u32, a: u32, b: u32, step: i8, l: *mut u8, ll: usize, k: *mut u8, kl: usize, o: *mut u16, ol: usize, c: *const u16, cl: usize) -> Reply;
@@ -158,6 +159,27 @@ fn take_batch(s: &mut Site) {
     print_value("batch", call!(sb_link_batch, s, [], [list.as_ptr(), list.len()]));
     let odd = &list[6..7];
     print_value("batch of an odd list", call!(sb_link_batch, s, [], [odd.as_ptr(), odd.len()]));
+    print!("order");
+    print_list(&s.order);
+}
+
+// What is linked is heard, but 6 does not hear 0 any more, and 2 and 3 hear each other; then 5 hears itself.
+fn take_heard(s: &mut Site) {
+    let mut heard = s.links.clone();
+    let mut one_sided = vec![0u8; heard.len()];
+    for (a, b) in [(6, 0), (2, 3), (3, 2)] {
+        heard[64 * a] ^= 1 << b;
+    }
+    print_value("hear", call!(sb_hear, s, [], [heard.as_ptr(), heard.len(), one_sided.as_mut_ptr(), one_sided.len()]));
+    for v in 0..s.n as usize {
+        for u in (0..s.n as usize).filter(|u| one_sided[64 * v + u / 8] >> (u % 8) & 1 == 1) {
+            println!("only {v} hears {u}");
+        }
+    }
+    print_value("linked 0 6", call!(sb_linked, s, [0, 6], []));
+    print_value("linked 2 3", call!(sb_linked, s, [2, 3], []));
+    heard[64 * 5] ^= 1 << 5;
+    print_value("hear itself", call!(sb_hear, s, [], [heard.as_ptr(), heard.len(), one_sided.as_mut_ptr(), one_sided.len()]));
     print!("order");
     print_list(&s.order);
 }
@@ -298,4 +320,5 @@ fn main() {
     s.propose_down(0, 1);
     s.down(0, 1);
     take_batch(&mut s);
+    take_heard(&mut s);
 }

@@ -11,6 +11,8 @@
  *   answer   at least n entries: a list of radios is ascending and fills the first entries; later entries keep their content
  *   table    at least 2 * n entries: a list of links, two entries each, fills the first ones; later entries keep their content
  *   list     a list of links that a batch reads, two entries each
+ *   heard    64 bytes a radio, in the shape of the links: bit b of row a is set when a hears b
+ *   one_sided  64 bytes a radio, in the shape of the links: bit b of row a is set when a hears b and b does not hear a
  *
  * Every call checks its tables itself. A refused call answers the number of the first question that got "no" (sb_refusal),
  * zeros beside it, and changes no byte of any table; one refusal alone stands beside a change and a count, that of a link in a batch
@@ -59,13 +61,14 @@ enum sb_refusal {
     SB_RADIO = 4,       /* a radio named is not below n */
     SB_SAME_ENDS = 5,   /* the ends of the link are the same radio */
     SB_LINK_STATE = 6,  /* going up: the link is up already; going down: it is down */
-    SB_NO_ROOM = 7,     /* going up: an end has 40 neighbours */
+    SB_NO_ROOM = 7,     /* going up: an end has 40 neighbours; of a heard table: a radio has more than 40 agreed links */
     SB_LEVEL = 8,       /* the level is above the radio's number */
     SB_IMAGE_SIZE = 9,  /* the buffer does not hold the image; or the length is 0 or no multiple of 512 */
     SB_IMAGE_CHECK = 10, /* a block does not pass its check */
     SB_IMAGE = 11,      /* the bytes are the image of no sound tables */
     SB_PAGE = 12,       /* the page is shorter than 65 bytes a line */
     SB_TEXT = 13,       /* the text buffer is shorter than the script */
+    SB_HEARD = 14,      /* a heard row marks its own radio or one at n or above */
     SB_OTHER_SIZE = 15, /* the bytes are the image of sound tables with another n */
     SB_PROPOSAL = 16,   /* the list or the step is not exactly what asking would give now */
     SB_MARK = 17,       /* a place of the store, or the name, breaks the rules */
@@ -164,6 +167,23 @@ sb_reply sb_link_down(uint32_t n, uint32_t a, uint32_t b, uint8_t *links, size_t
 sb_value sb_link_batch(uint32_t n, uint8_t *links, size_t links_len,
                        uint8_t *numbers, size_t numbers_len, uint16_t *order, size_t order_len,
                        const uint16_t *list, size_t list_len);
+
+/**
+ * Bring the site to the links that both ends hear, and mark the pairs of which one end alone hears the other.
+ *
+ * A link is agreed when each end hears the other. Links that are not agreed go down, by lower radio and then higher; then agreed links that
+ * are down come up, likewise: links, numbers and order are what single calls in this turn leave. The tables are checked once. Every byte
+ * of one_sided is written. A heard row may mark more than 40 radios; only agreed links are bounded. The heard table is only read.
+ *
+ * Where all links of a full site of 512 radios go down and as many others come up the call makes 20,480 links' work, which may take up to a
+ * second; a call that changes no link takes about as long as sb_check.
+ *
+ * \return number 0 and value the count of one-sided pairs, which is that of bits set in one_sided; or SB_SIZE, SB_LENGTH (heard_len and
+ *         one_sided_len are 64 * n, not more), SB_UNSOUND, SB_HEARD, SB_NO_ROOM, value 0, and then every table keeps its content.
+ */
+sb_value sb_hear(uint32_t n, uint8_t *links, size_t links_len,
+                 uint8_t *numbers, size_t numbers_len, uint16_t *order, size_t order_len,
+                 const uint8_t *heard, size_t heard_len, uint8_t *one_sided, size_t one_sided_len);
 
 /**
  * Ask what sb_link_up would change now. Links, numbers and order are only read.

@@ -67,6 +67,26 @@ static void test_batch(void) {
     expect("it remains", sb_linked(SB_RADIOS, 0, 1, TABLES).value, 1), expect("the next does not", sb_linked(SB_RADIOS, 3, 4, TABLES).value, 0);
 }
 
+/* A star of 40 leaves: what is linked is heard, then a 41st leaf, one-sided and agreed. */
+static void test_heard(void) {
+    static uint8_t heard[sizeof links], one_sided[sizeof links];
+    uint8_t *hub = heard + (SB_NEIGHBOURS + 1) / 8, *leaf = heard + SB_ROW_BYTES * (SB_NEIGHBOURS + 1);
+    memcpy(heard, links, sizeof links), memset(one_sided, 77, sizeof one_sided);
+#define HEAR sb_hear(SB_RADIOS, TABLES, heard, sizeof heard, one_sided, sizeof one_sided)
+    expect("a byte short", sb_hear(SB_RADIOS, TABLES, heard, sizeof heard, one_sided, sizeof one_sided - 1).number, SB_LENGTH);
+    expect("a row more", sb_hear(1, links, SB_ROW_BYTES, numbers, 1, order, 1, heard, 2 * SB_ROW_BYTES, one_sided, SB_ROW_BYTES).number, SB_LENGTH);
+    leaf[(SB_NEIGHBOURS + 1) / 8] ^= 1 << (SB_NEIGHBOURS + 1) % 8;
+    expect("hears itself", HEAR.number, SB_HEARD), expect("kept", one_sided[0], 77);
+    leaf[(SB_NEIGHBOURS + 1) / 8] ^= 1 << (SB_NEIGHBOURS + 1) % 8;
+    expect("what is linked", HEAR.value, 0), expect("no one-sided pair", one_sided[0], 0);
+    *hub |= 1 << (SB_NEIGHBOURS + 1) % 8, *leaf |= 1, one_sided[0] = 77;
+    expect("a 41st link", HEAR.number, SB_NO_ROOM), expect("kept again", one_sided[0], 77);
+    *leaf &= ~1;
+    expect("one end alone", HEAR.value, 1), expect("marked", one_sided[(SB_NEIGHBOURS + 1) / 8], 1 << (SB_NEIGHBOURS + 1) % 8);
+    expect("not linked", sb_linked(SB_RADIOS, 0, SB_NEIGHBOURS + 1, TABLES).value, 0);
+    expect("as before", sb_neighbours(SB_RADIOS, 0, TABLES).value, SB_NEIGHBOURS);
+}
+
 /* A star: a link between two leaves raises them and the hub. */
 static void test_proposals(void) {
     sb_reply asked = sb_ask_up(SB_RADIOS, 1, 2, TABLES, ANSWER), down;
@@ -184,6 +204,7 @@ int main(void) {
     test_limits();
     test_later();
     test_batch();
+    test_heard();
     test_proposals();
     test_refusals();
     test_tree();

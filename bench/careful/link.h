@@ -150,23 +150,42 @@ static void count_highs(const struct lent *t, struct found *f, unsigned level) {
     }
 }
 
-/* The tables are checked once. Where the order stands a link costs its own rows alone; else its level is counted and peeled. */
-static struct c_value c_link_batch(const struct lent *t, const uint16_t *list, size_t count) {
-    struct found f;
+/* How many neighbours of v are not below it. */
+static unsigned high_of(const struct lent *t, unsigned v) {
+    unsigned k = 0;
+    for (unsigned i = 0; i < WORDS; i++)
+        for (uint64_t w = row_word(t->links, v, i); w; w &= w - 1) k += t->numbers[64 * i + __builtin_ctzll(w)] >= t->numbers[v];
+    return k;
+}
+
+/* Whether the order stands, by the rows of the ends alone. */
+static int stands_by_rows(int up, const struct lent *t, const struct found *f, uint32_t a, uint32_t b, unsigned level) {
+    if (up) return later_than(t, f, f->places[a] < f->places[b] ? a : b) < level;
+    return !(t->numbers[a] == level && high_of(t, a) == level) && !(t->numbers[b] == level && high_of(t, b) == level);
+}
+
+/* A link of a list that is allowed. Where the order stands it costs its own rows alone; else its level is counted and peeled. */
+static void step_of_batch(int up, const struct lent *t, uint32_t a, uint32_t b, struct found *f) {
     struct plan plan;
     uint16_t changed[RADIOS];
-    unsigned number = refusal(t, count % 2 == 0, &f), done = 0, sum;
+    unsigned level = t->numbers[a] < t->numbers[b] ? t->numbers[a] : t->numbers[b], sum;
+    plan.from = plan.size = 0;
+    memset(plan.changed, 0, sizeof plan.changed);
+    int stands = stands_by_rows(up, t, f, a, b, level);
+    if (!stands) count_highs(t, f, level), peel_level(up, t, f, a, b, level, &plan);
+    apply(up, t, a, b, &plan, changed, list_set(plan.changed, changed));
+    if (!stands) ordered(t, f, &sum);
+}
+
+/* The tables are checked once. */
+static struct c_value c_link_batch(const struct lent *t, const uint16_t *list, size_t count) {
+    struct found f;
+    unsigned number = refusal(t, count % 2 == 0, &f), done = 0;
     for (; !number && 2 * done < count; done++) {
         uint32_t a = list[2 * done], b = list[2 * done + 1];
         number = ends_refused(1, t, a, b);
         if (number) break;
-        unsigned level = t->numbers[a] < t->numbers[b] ? t->numbers[a] : t->numbers[b], first = f.places[a] < f.places[b] ? a : b;
-        plan.from = plan.size = 0;
-        memset(plan.changed, 0, sizeof plan.changed);
-        int stands = later_than(t, &f, first) < level;
-        if (!stands) count_highs(t, &f, level), peel_level(1, t, &f, a, b, level, &plan);
-        apply(1, t, a, b, &plan, changed, list_set(plan.changed, changed));
-        if (!stands) ordered(t, &f, &sum);
+        step_of_batch(1, t, a, b, &f);
     }
     return (struct c_value){number, done};
 }

@@ -117,22 +117,29 @@ static void c_renew(const struct lent *t, uint32_t a, uint32_t b, const uint16_t
     }
 }
 
-static struct c_value c_link_batch(const struct lent *t, const uint16_t *list, size_t count) {
+/* A link of a list that is allowed: places and not-lower counts are kept up to date. */
+static void c_step(int up, const struct lent *t, uint32_t a, uint32_t b, uint16_t *places, uint8_t *highs) {
     struct c_plan plan;
-    uint16_t places[RADIOS], changed[RADIOS];
-    uint8_t highs[RADIOS], counters[RADIOS];
+    uint16_t changed[RADIOS];
+    uint8_t counters[RADIOS];
+    memcpy(counters, highs, t->n);
+    c_plan_link(up, t, a, b, places, counters, &plan);
+    c_apply(up, t, a, b, &plan);
+    struct c_reply r = c_report(up, &plan, changed, RADIOS);
+    c_place(t->n, t->order, places);
+    c_renew(t, a, b, changed, r.count, highs);
+}
+
+static struct c_value c_link_batch(const struct lent *t, const uint16_t *list, size_t count) {
+    uint16_t places[RADIOS];
+    uint8_t highs[RADIOS];
     unsigned number = c_sizes(t, count % 2 == 0), done = 0;
     if (!number && !c_examine(t, places, highs)) number = 3;
     for (; !number && 2 * done < count; done++) {
         uint32_t a = list[2 * done], b = list[2 * done + 1];
         number = c_ends(1, t->n, a, b, t->links);
         if (number) break;
-        memcpy(counters, highs, t->n);
-        c_plan_link(1, t, a, b, places, counters, &plan);
-        c_apply(1, t, a, b, &plan);
-        struct c_reply r = c_report(1, &plan, changed, RADIOS);
-        c_place(t->n, t->order, places);
-        c_renew(t, a, b, changed, r.count, highs);
+        c_step(1, t, a, b, places, highs);
     }
     return (struct c_value){number, done};
 }

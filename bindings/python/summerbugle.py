@@ -35,13 +35,14 @@ MEANINGS = {
     4: "a radio named is not below n",
     5: "the ends of the link are the same radio",
     6: "going up the link is up already, going down it is down",
-    7: "an end has 40 neighbours",
+    7: "an end has 40 neighbours, or a radio would have more than 40 agreed links",
     8: "the level is above the radio's number",
     9: "the buffer does not hold the image, or the length is 0 or no multiple of 512",
     10: "a block does not pass its check",
     11: "the bytes are the image of no sound tables",
     12: "the page is shorter than 65 bytes a line",
     13: "the text buffer is shorter than the script",
+    14: "a heard row marks its own radio or one at n or above",
     15: "the bytes are the image of sound tables with another n",
     16: "the list or the step is not exactly what asking would give now",
     17: "a place of the store, or the name, breaks the rules",
@@ -114,6 +115,7 @@ CALLS = {
     "sb_commit_up": (_Reply, "u32 u32 u32 step " + _TABLES + " entries"),
     "sb_commit_down": (_Reply, "u32 u32 u32 step " + _TABLES + " entries"),
     "sb_link_batch": (_Value, "u32 " + _TABLES + " entries"),
+    "sb_hear": (_Value, "u32 " + _TABLES + " bytes bytes"),
     "sb_number": (_Value, "u32 u32 " + _TABLES),
     "sb_neighbours": (_Value, "u32 u32 " + _TABLES),
     "sb_linked": (_Value, "u32 u32 u32 " + _TABLES),
@@ -274,6 +276,13 @@ class Site:
         if done.number in (1, 2, 3):
             raise Refused(done.number)
         return Batch(done.value, done.number)
+
+    def hear(self, heard):
+        """Brings the site to the links that both ends hear, by a heard table in the shape of `links`: the one-sided pairs (a, b), of which
+        a hears b and b does not hear a."""
+        one_sided = bytearray(ROW_BYTES * self.n)
+        self._call("sb_hear", (), (bytes(heard), one_sided))
+        return [(a, b) for a in range(self.n) for b in range(self.n) if one_sided[ROW_BYTES * a + b // 8] >> b % 8 & 1]
 
     # questions about radios
 

@@ -175,6 +175,23 @@ class Questions(unittest.TestCase):
             site.link_batch([(2, 3)])
         self.assertEqual(caught.exception.number, 3)
 
+    def test_heard(self):
+        site = linked(4, clique([0, 1, 2]))
+        heard = bytearray(256)
+        for a, b in ((0, 1), (1, 0), (1, 2), (0, 2), (2, 0), (2, 3), (3, 2)):
+            heard[64 * a] |= 1 << b
+        before = bytes(heard)
+        self.assertEqual(site.hear(heard), [(1, 2)])
+        self.assertEqual((list(site.numbers), list(site.order), heard), ([1, 1, 1, 1], [3, 2, 0, 1], before))
+        self.assertEqual([site.linked(a, b) for a, b in clique(range(4))], [True, True, False, False, False, True])
+        left = kept(site)
+        heard[0] |= 1
+        for number, table in ((14, heard), (2, heard[:255]), (2, heard + b"\0")):
+            with self.assertRaises(Refused) as caught:
+                site.hear(table)
+            self.assertEqual((caught.exception.number, kept(site)), (number, left))
+        self.assertEqual((site.hear(site.links), kept(site)), ([], left))
+
     def test_scripts(self):
         self.assertEqual(linked(2, [(0, 1)]).script(), "radios 2\nup 0 1\n")
         site = Site(12)

@@ -21,7 +21,7 @@ use Rattle.mesh.specs.Sound.{sound}
 use Rattle.mesh.specs.Valid.{Allowed}
 use Rattle.mesh.proofs.Tables.DegreeSum.{links-most}
 use Rattle.calls.specs.Questions.{By-number, lengths-of, site-refusal, ends-refusal, link-refusal}
-use Rattle.calls.specs.Switches.{Switch, switch, pairs-after, switched, tables-after}
+use Rattle.calls.specs.Switches.{Switch, switch, pairs-after, switched, tables-after, All-allowed}
 use Rattle.calls.specs.Batches.{list-length, batch-refusal, up-refusal, unless, then, batch-switches, batch-stop, ups}
 use Rattle.calls.specs.Contracts.Links.{Link-accepted, Link-refused, Link-contract}
 use Rattle.calls.specs.Contracts.Batches.{Batch-done, Batch-refused, Batch-contract, Batch-stopped, Batch-single}
@@ -30,7 +30,6 @@ use Rattle.calls.specs.declared.Reply.{Reply}
 use Rattle.calls.specs.declared.Value.{Value}
 use Rattle.calls.proofs.QuestionLaws.{true-answer-length}
 use Rattle.calls.proofs.ChainLaws.{site-zero, site-yes, site-stops, ends-zero}
-use Rattle.calls.proofs.Holds.{All-allowed}
 use Rattle.calls.proofs.ContractLaws.{answer, by-zero, by-cases}
 use Rattle.calls.proofs.RecordLaws.{tables-ext}
 use Rattle.calls.proofs.SoundSwitches.{Good, good-valid, good-right, switched-good, switched-graph, all-good}

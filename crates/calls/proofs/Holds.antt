@@ -2,8 +2,7 @@
 --   Holds n ps t      the tables t hold n radios, the pairs ps and some k-order of them
 --   clear-holds, read-holds   so they do after an accepted clearing or reading
 --   site-asked        question 3 gets yes of them, and later questions are put to the book's pairs
---   All-allowed       questions 4 to 7 of each link got yes, in turn
---   all-holds, all-switching   then the tables hold the pairs after them, and each keeps what a link call keeps
+--   all-holds, all-switching   where links are allowed in turn, the tables hold the pairs after them, and each keeps what a link call keeps
 use mathlib.Core.Path.{_≡_, refl, ap, sym, subst, _∙_}
 use mathlib.Core.Bool.{Bool, true}
 use mathlib.Core.List.{List, [], _∷_, _++_}
@@ -24,7 +23,7 @@ use Rattle.mesh.proofs.Tables.Sites.{valid-cleared, numbers-cleared, image-vali
 use Rattle.mesh.proofs.Links.Laws.{link-valid, link-table}
 use Rattle.mesh.specs.Valid.{Valid, Allowed}
 use Rattle.calls.specs.Questions.{lengths-of, site-refusal, tables-refusal, read-refusal}
-use Rattle.calls.specs.Switches.{Switch, pairs-after, switched, tables-after}
+use Rattle.calls.specs.Switches.{Switch, pairs-after, switched, tables-after, All-allowed}
 use Rattle.calls.specs.Contracts.Sites.{Clear-accepted}
 use Rattle.calls.specs.Contracts.Images.{Read-accepted}
 use Rattle.calls.specs.Book.{reported, from-clearing, from-image, beginning-tables}
@@ -128,11 +127,6 @@ module _ (n : ℕ) (ps : List Link) (t : Tables) (k : Holds n ps t) where
         rw (switched-is, k .is) (link-kept (s .up) (s .a) (s .b) (graph n ps) (k .xs) (k .most) (k .valid) ok)
 
 -- ---- links one after the other
-
-unfoldable pub All-allowed : (n : ℕ) → (pairs : List Link) → List Switch → Type 0
-All-allowed n ps [] = Unit {0}
-All-allowed n ps (s ∷ ss) =
-    Allowed max-neighbours (s .up) (s .a) (s .b) (graph n ps) × All-allowed n (new-links (s .up) (s .a) (s .b) ps) ss
 
 pub all-holds : (n : ℕ) (ps : List Link) (ss : List Switch) (t : Tables) → Holds n ps t → All-allowed n ps ss → Holds n (pairs-after ss ps) (tables-after n ss t)
 unfolding All-allowed pairs-after tables-after

@@ -22,6 +22,7 @@ use Rattle.calls.specs.Contracts.Sites.{Clear-accepted, Clear-contract, 
 use Rattle.calls.specs.Contracts.Links.{Link-accepted, Link-refused, Link-contract}
 use Rattle.calls.specs.Contracts.Proposals.{Ask-accepted, Ask-refused, Ask-contract, Commit-accepted, Commit-refused, Commit-contract}
 use Rattle.calls.specs.Contracts.Batches.{Batch-done, Batch-refused, Batch-contract}
+use Rattle.calls.specs.Contracts.Heard.{Hear-accepted, Hear-refused, Hear-contract}
 use Rattle.calls.specs.Contracts.Images.{Read-accepted, Read-contract, Write-contract, Block-none, Block-accepted, Block-contract}
 use Rattle.calls.specs.Contracts.Radios.{Number-contract, Neighbours-contract, Linked-contract, First-contract}
 use Rattle.calls.specs.Contracts.Wake.{Later-accepted, Later-refused, Later-contract}
@@ -33,7 +34,7 @@ use Rattle.calls.specs.Contracts.Staircase.{Staircase-contract}
 use Rattle.calls.specs.Switches.{switched}
 use Rattle.calls.specs.Outcomes.{by-number, clear-outcome, read-outcome, link-outcome, value-outcome, check-outcome, number-outcome, neighbours-outcome}
 use Rattle.calls.specs.Outcomes.{linked-outcome, first-outcome, listing-outcome, core-outcome, backbone-outcome, write-outcome, tree-outcome, no-block}
-use Rattle.calls.specs.Outcomes.{block-or-end, block-outcome, later-outcome, sheet-outcome, staircase-outcome, ask-outcome, commit-outcome, batch-outcome}
+use Rattle.calls.specs.Outcomes.{block-or-end, block-outcome, later-outcome, sheet-outcome, staircase-outcome, ask-outcome, commit-outcome, batch-outcome, hear-outcome}
 use Rattle.calls.specs.Outcomes.{script-length-outcome, script-outcome}
 use Rattle.calls.specs.declared.Reply.{Reply}
 use Rattle.calls.specs.declared.Value.{Value}
@@ -254,6 +255,30 @@ batch-inhabited n xs t =
     _
     (record { number = refl; value = refl; tables = refl })
     (λ q. record { number = refl; value = refl; tables = refl })
+
+pub hear-decided :
+    (n : ℕ) (hs : List ℕ) (t : Tables) (w : List ℕ) → Decides {A = Value × Tables × List ℕ} (λ o. Hear-contract n hs t w (o .0) (o .1) (o .2))
+unfolding Hear-contract
+hear-decided n hs t w =
+    by-decides
+    _
+    (λ o. Hear-accepted n hs t (o .0) (o .1) (o .2))
+    (λ x o. Hear-refused x t w (o .0) (o .1) (o .2))
+    (λ o s p q. triple-ext o s (value-ext (o .0) (s .0) (cc) (cc)) (cc) (cc))
+    (λ x o s p q. triple-ext o s (value-ext (o .0) (s .0) (cc) (cc)) (cc) (cc))
+
+pub hear-inhabited :
+    (n : ℕ) (hs : List ℕ) (t : Tables) (w : List ℕ) → let o = hear-outcome n hs t w in Hear-contract n hs t w (o .0) (o .1) (o .2)
+unfolding Hear-contract hear-outcome
+hear-inhabited n hs t w =
+    by-meets
+    _
+    (λ (o : Value × Tables × List ℕ). Hear-accepted n hs t (o .0) (o .1) (o .2))
+    (λ q o. Hear-refused q t w (o .0) (o .1) (o .2))
+    _
+    _
+    (record { number = refl; value = refl; tables = refl; further = refl })
+    (λ q. record { number = refl; value = refl; tables = refl; further = refl })
 
 pub number-decided : (n v : ℕ) (t : Tables) → Decides (Number-contract n v t)
 unfolding Number-contract

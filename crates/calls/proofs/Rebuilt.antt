@@ -21,8 +21,7 @@ use Rattle.mesh.proofs.GraphLaws.{ends, Ends, ends-of, linked-sym, proper-of, o
 use Rattle.mesh.proofs.Tables.Relinked.{linked-relinked, ascending-new-links}
 use Rattle.mesh.proofs.Tables.AscendingLinks.{in-links-right, in-links-proper, Before, before-irreflexive, before-trans, before-of, link-eq, Sorted, sorted-of}
 use Rattle.mesh.proofs.Tables.AscendingLinks.{in-linked, link-less}
-use Rattle.calls.specs.Switches.{Switch, switch, pairs-after}
-use Rattle.calls.proofs.Holds.{All-allowed}
+use Rattle.calls.specs.Switches.{Switch, switch, pairs-after, All-allowed}
 
 unfoldable pub ups : List Link → List Switch
 ups [] = []

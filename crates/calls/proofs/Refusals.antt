@@ -17,6 +17,7 @@ use Rattle.calls.specs.Contracts.Forms.{Tables-refused, Value-accepted, 
 use Rattle.calls.specs.Contracts.Sites.{Clear-accepted, Clear-contract, Check-contract}
 use Rattle.calls.specs.Contracts.Links.{Link-accepted, Link-refused, Link-contract}
 use Rattle.calls.specs.Contracts.Proposals.{Ask-accepted, Ask-refused, Ask-contract, Commit-accepted, Commit-refused, Commit-contract}
+use Rattle.calls.specs.Contracts.Heard.{Hear-accepted, Hear-refused, Hear-contract}
 use Rattle.calls.specs.Contracts.Images.{Read-accepted, Read-contract, Write-contract, Block-none, Block-accepted, Block-contract}
 use Rattle.calls.specs.Contracts.Radios.{Number-contract, Neighbours-contract, Linked-contract, First-contract}
 use Rattle.calls.specs.Contracts.Wake.{Later-accepted, Later-refused, Later-contract}
@@ -109,6 +110,13 @@ neighbours-keeps n v t r = value-by _ _ r
 pub later-keeps : (n v : ℕ) (t : Tables) (r : Later) → Later-contract n v t r → (r .number ≡ 0 → ⊥) → Later-refused (r .number) r
 unfolding Later-contract
 later-keeps n v t r = by-refusal _ (r .number) (Later-accepted _ _ r) (λ q. Later-refused q r) (λ d. d .number) (λ q d. d .number)
+
+pub hear-keeps :
+    (n : ℕ) (hs : List ℕ) (t : Tables) (w : List ℕ) (r : Value) (v : Tables) (x : List ℕ) → Hear-contract n hs t w r v x →
+    (r .number ≡ 0 → ⊥) → Hear-refused (r .number) t w r v x
+unfolding Hear-contract
+hear-keeps n hs t w r v x =
+    by-refusal _ (r .number) (Hear-accepted n hs t r v x) (λ q. Hear-refused q t w r v x) (λ d. d .number) (λ q d. d .number)
 
 pub linked-keeps : (n a b : ℕ) (t : Tables) (r : Value) → Linked-contract n a b t r → (r .number ≡ 0 → ⊥) → Value-refused (r .number) r
 unfolding Linked-contract

@@ -23,11 +23,10 @@ use Rattle.mesh.proofs.Tables.Laws.{length-put-link}
 use Rattle.mesh.proofs.Links.Laws.{link-valid}
 use Rattle.mesh.proofs.Images.Tables.{valid-graph-in}
 use Rattle.calls.specs.Questions.{lengths-of}
-use Rattle.calls.specs.Switches.{Switch, pairs-after, switched, tables-after}
+use Rattle.calls.specs.Switches.{Switch, pairs-after, switched, tables-after, All-allowed}
 use Rattle.calls.specs.Results.{Site-right, Commit-right}
 use Rattle.calls.proofs.ChainLaws.{Site-good}
 use Rattle.calls.proofs.Accepted.{switched-right, site-right}
-use Rattle.calls.proofs.Holds.{All-allowed}
 
 abbrev pub Good : (n : ℕ) → Tables → Type 0
 Good n t = Site-good n (lengths-of t) true (sound n t)

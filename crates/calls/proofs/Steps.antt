@@ -20,17 +20,20 @@ use Rattle.mesh.specs.Image.{image-links, image-graph}
 use Rattle.lists.proofs.Overwrite.{take-overwrite}
 use Rattle.calls.specs.Questions.{By-number, lengths-of, answer-length, ask, ends-then, ends-refusal, is-proposal, tables-refusal, link-refusal}
 use Rattle.calls.specs.Questions.{commit-refusal, read-refusal}
-use Rattle.calls.specs.Switches.{Switch, switch, pairs-after, switched, tables-after}
+use Rattle.calls.specs.Switches.{Switch, switch, pairs-after, switched, tables-after, All-allowed}
 use Rattle.calls.specs.Contracts.Forms.{Tables-refused}
 use Rattle.calls.specs.Contracts.Sites.{Clear-accepted, Clear-contract}
 use Rattle.calls.specs.Contracts.Links.{Link-accepted, Link-refused, Link-contract}
 use Rattle.calls.specs.Contracts.Proposals.{Commit-accepted, Commit-refused, Commit-contract}
 use Rattle.calls.specs.Batches.{list-length, batch-refusal, batch-switches, batch-stop}
 use Rattle.calls.specs.Contracts.Batches.{Batch-done, Batch-refused, Batch-contract}
+use Rattle.calls.specs.Heard.{heard-lengths, heard-proper, agreed-few, hear-refusal, one-sided-count, heard-switches}
+use Rattle.calls.specs.Contracts.Heard.{Hear-accepted, Hear-refused, Hear-contract}
 use Rattle.calls.specs.Contracts.Images.{Read-accepted, Read-contract}
 use Rattle.calls.specs.Marks.{store-length, marks-good, is-marked, has-place, mark-refusal, set-refusal, named-refusal, mark-image}
 use Rattle.calls.specs.Contracts.Marks.{Store-accepted, Store-refused, Store-by, Set-contract, Remove-contract, Return-contract}
-use Rattle.calls.specs.Book.{Call, clearing, reading, linking, committing, batching, setting, removing, returning, other, Answer, plain, reported, committed, counted, Outcome}
+use Rattle.calls.specs.Book.{Call, clearing, reading, linking, committing, batching, hearing, setting, removing, returning, other, Outcome}
+use Rattle.calls.specs.Book.{Answer, plain, reported, committed, counted}
 use Rattle.calls.specs.Book.{Beginning, from-clearing, from-image, Marking, no-mark, sets, removes, returns, outcome-of, outcome-with, unless-refused, outcome}
 use Rattle.calls.specs.Book.{beginning-pairs, first-pairs, pairs-of, radios, beginning-tables}
 use Rattle.calls.specs.Runs.{answer-of, replied, Does}
@@ -42,9 +45,11 @@ use Rattle.calls.proofs.ContractLaws.{by-accepted}
 use Rattle.calls.proofs.RecordLaws.{tables-ext, refused-same}
 use Rattle.calls.proofs.MarkCalls.{named-zero, mark-read}
 use Rattle.calls.proofs.Holds.{clear-is, read-is}
-use Rattle.calls.proofs.Holds.{Holds, clear-holds, read-holds, unchanged-holds, same-n, read-back, site-asked, with-n, All-allowed, all-holds}
+use Rattle.calls.proofs.Holds.{Holds, clear-holds, read-holds, unchanged-holds, same-n, read-back, site-asked, with-n, all-holds}
 use Rattle.calls.proofs.Holds.{all-switching}
+use Rattle.calls.proofs.QuestionLaws.{ask-zero}
 use Rattle.calls.proofs.Batches.{batch-allowed}
+use Rattle.calls.proofs.HeardLaws.{hear-allowed}
 
 pub record Stepped (n : ℕ) (ps : List Link) (o : Outcome) (t : Tables) (hs : List Answer) (v : Tables) : Type 0 where
   pub kept : Call-kept n ps o t hs v
@@ -218,6 +223,26 @@ module _ (n : ℕ) (ps : List Link) (t : Tables) (k : Holds n ps t) where
       rw e (carried hs _ (batch-switches n xs ps) v (q ∙ rw (c .number, c .value)) (batch-allowed n xs ps) (c .tables))
   batch-step (suc y) m xs r v hs p d q = refused y _ hs v (q ∙ rw (d .number, d .value)) (d .tables)
 
+  -- ---- a hearing
+
+  hear-step :
+      (R m : ℕ) (xs w : List ℕ) (r : Value) (v : Tables) (x : List ℕ) (hs : List Answer) → hear-refusal m (lengths-of t) xs (length w) true ≡ R →
+      By-number R (Hear-accepted m xs t r v x) (λ q. Hear-refused q t w r v x) → hs ≡ one (counted (r .number) (r .value)) →
+      Stepped n ps (unless-refused R (outcome-of (one (counted 0 (one-sided-count m xs))) none (heard-switches (graph m ps) xs))) t hs v
+  unfolding By-number hear-refusal counted plain
+  hear-step zero m xs w r v x hs p d q =
+      let z = site-zero m (lengths-of t) (heard-lengths m (length xs) (length w)) true _ p in
+      let y = ask-zero 13 (heard-proper m xs) _ (z .1) in
+      let few = ask-zero 6 (agreed-few max-neighbours m xs) 0 (y .1) .0 in
+      let e = same-n n ps t k m (heard-lengths m (length xs) (length w)) (z .0 .lent) in
+      let f : graph-in m (t .links) ≡ graph m ps = rw e (read-back n ps t k) in
+      let c : v ≡ tables-after n (heard-switches (graph n ps) xs) t = rw (f, e) at (d .tables) in
+      rw e
+      (carried hs _ (heard-switches (graph n ps) xs) v (q ∙ rw (d .number, d .value, e))
+      (hear-allowed n xs ps (k .most) (record { is-proper = k .valid .links-proper; is-ascending = k .valid .links-ascending }) (rw e at (y .0)) (rw e at few))
+      c)
+  hear-step (suc y) m xs w r v x hs p d q = refused y _ hs v (q ∙ rw (d .number, d .value)) (d .tables)
+
   -- ---- marks (W-211)
 
   -- setting and removing
@@ -253,7 +278,7 @@ module _ (n : ℕ) (ps : List Link) (t : Tables) (k : Holds n ps t) where
   }
 
   pub step : (c : Call) (hs : List Answer) (v : Tables) → Does c t hs v → Stepped n ps (outcome c (lengths-of t) ps) t hs v
-  unfolding Does Clear-contract Read-contract Link-contract Commit-contract Batch-contract Set-contract Remove-contract Return-contract outcome link-refusal commit-refusal batch-refusal set-refusal named-refusal
+  unfolding Does Clear-contract Read-contract Link-contract Commit-contract Batch-contract Hear-contract Set-contract Remove-contract Return-contract outcome link-refusal commit-refusal batch-refusal hear-refusal set-refusal named-refusal
   step (clearing m) hs v d = clear-step _ m (d .result) v hs refl (d .contract) (d .answer)
   step (reading m bs) hs v d = read-step _ m (d .result) bs v hs refl (d .contract) (d .answer)
   step (linking u m a b w) hs v d =
@@ -268,6 +293,11 @@ module _ (n : ℕ) (ps : List Link) (t : Tables) (k : Holds n ps t) where
       let f = asked (Batch-done m xs (graph-in m (t .links) .links) t (d .result) v) (λ q. Batch-refused q t (d .result) v)
       (site-asked n ps t k m (list-length (length xs)) (λ g. 0)) (d .contract) in
       batch-step _ m xs (d .result) v hs refl f (d .answer)
+  step (hearing m xs w) hs v d =
+      let f = asked (Hear-accepted m xs t (d .result) v (d .marks)) (λ q. Hear-refused q t (d .lent) (d .result) v (d .marks))
+      (site-asked n ps t k m (heard-lengths m (length xs) (length (d .lent))) (λ g. ask 14 (heard-proper m xs) (ask 7 (agreed-few max-neighbours m xs) 0)))
+      (d .contract) in
+      rw (d .long) (hear-step _ m xs (d .lent) (d .result) v (d .marks) hs refl f (d .answer))
   step (setting m x bs) hs v d =
       store-step _ (d .result) _ _ (d .after) (sets x) v hs
       (asked _ _ (mark-asked m x bs (ask 19 (has-place x bs) 0)) (d .contract)) (d .left) (d .answer)

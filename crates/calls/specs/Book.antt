@@ -1,6 +1,6 @@
 -- Document 01's link book: what it is given of each call, the pairs that it keeps, and what it answers.
---   Call, Given       what the book is given of a call: n, radios, image bytes, a proposal, a list of links, a name and a store, lengths of
---                     tables; never what links, numbers and order hold
+--   Call, Given       what the book is given of a call: n, radios, image bytes, a proposal, a list of links, a heard table, a name and a
+--                     store, lengths of tables; never what links, numbers and order hold
 --   Answer            what is compared of a call
 --   Beginning         what a link history begins from: a clearing, or a read image
 --   outcome           what the book makes of a call: answers, what it begins anew from, the links that it takes up or down, and what it
@@ -28,15 +28,18 @@ use Rattle.mesh.specs.Image.{image-links, image-graph, image-order, image-of}
 use Rattle.calls.specs.Questions.{Lengths, tables-refusal, link-refusal, commit-refusal, read-refusal}
 use Rattle.calls.specs.Switches.{Switch, switch, pairs-after, tables-after}
 use Rattle.calls.specs.Batches.{batch-refusal, batch-switches, batch-stop}
+use Rattle.calls.specs.Heard.{hear-refusal, one-sided-count, heard-switches}
 use Rattle.calls.specs.Marks.{set-refusal, named-refusal, mark-image}
 
--- what the book is given of a call, beside the lengths of links, numbers and order: `answer` is the answer table's length
+-- what the book is given of a call, beside the lengths of links, numbers and order: `answer` is the answer table's length, `further` that of
+-- the table that marks one-sided pairs
 pub data Call : Type 0 where
   clearing : (n : ℕ) → Call
   reading : (n : ℕ) → (image : List ℕ) → Call
   linking : (up : Bool) → (n a b : ℕ) → (answer : ℕ) → Call
   committing : (up : Bool) → (n a b : ℕ) → (step : ℤ) → (list : List ℕ) → Call
   batching : (n : ℕ) → (list : List ℕ) → Call
+  hearing : (n : ℕ) → (heard : List ℕ) → (further : ℕ) → Call
   setting : (n : ℕ) → (name store : List ℕ) → Call
   removing : (n : ℕ) → (name store : List ℕ) → Call
   returning : (n : ℕ) → (name store : List ℕ) → Call
@@ -61,7 +64,7 @@ reported up cs = record { number = 0; step = step-of up cs; count = length cs; l
 unfoldable pub committed : (up : Bool) → (changed : List ℕ) → Answer
 committed up cs = record { number = 0; step = step-of up cs; count = length cs; listed = [] }
 
--- a batch: the number of the link refused, or 0, and the count of links done
+-- a batch: the number of the link refused, or 0, and the count of links done; a hearing: 0, and the count of one-sided pairs
 unfoldable pub counted : (number count : ℕ) → Answer
 counted r k = record { number = r; step = pos 0; count = k; listed = [] }
 
@@ -113,6 +116,10 @@ outcome (batching n xs) l ps =
     unless-refused
     (batch-refusal n l (length xs) true)
     (outcome-of (counted (batch-stop n xs ps) (length (batch-switches n xs ps)) ∷ []) none (batch-switches n xs ps))
+outcome (hearing n hs w) l ps =
+    unless-refused
+    (hear-refusal n l hs w true)
+    (outcome-of (counted 0 (one-sided-count n hs) ∷ []) none (heard-switches (graph n ps) hs))
 outcome (setting n x bs) l ps = unless-refused (set-refusal n l true x bs) (outcome-with (plain 0 ∷ []) none [] (sets x))
 outcome (removing n x bs) l ps = unless-refused (named-refusal n l true x bs) (outcome-with (plain 0 ∷ []) none [] (removes x))
 outcome (returning n x bs) l ps =

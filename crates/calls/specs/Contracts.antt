@@ -5,6 +5,7 @@ pub mod Sites
 pub mod Links
 pub mod Proposals
 pub mod Batches
+pub mod Heard
 pub mod Radios
 pub mod Wake
 pub mod Cores

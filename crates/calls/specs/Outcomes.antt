@@ -30,6 +30,7 @@ use Rattle.calls.specs.Sheet.{sheet, sheet-length}
 use Rattle.calls.specs.Script.{script-of, script-length}
 use Rattle.calls.specs.Switches.{switch, switched, tables-after}
 use Rattle.calls.specs.Batches.{batch-refusal, batch-switches, batch-stop}
+use Rattle.calls.specs.Heard.{hear-refusal, one-sided, one-sided-count, heard-switches}
 use Rattle.calls.specs.Contracts.Radios.{first-of-two}
 use Rattle.calls.specs.declared.Reply.{Reply}
 use Rattle.calls.specs.declared.Value.{Value}
@@ -107,6 +108,16 @@ batch-outcome n xs t =
     (batch-refusal n (lengths-of t) (length xs) (sound n t))
     (value (batch-stop n xs ps) (length (batch-switches n xs ps)), tables-after n (batch-switches n xs ps) t)
     (λ q. (value q 0, t))
+
+-- ---- a hearing
+
+-- the count of one-sided pairs, the tables with the agreed links, and the further table, where w is what it holds before
+unfoldable pub hear-outcome : (n : ℕ) → (heard : List ℕ) → Tables → (further : List ℕ) → Value × Tables × List ℕ
+hear-outcome n hs t w =
+    by-number
+    (hear-refusal n (lengths-of t) hs (length w) (sound n t))
+    (value 0 (one-sided-count n hs), tables-after n (heard-switches (graph-in n (t .links)) hs) t, one-sided n hs)
+    (λ q. (value q 0, t, w))
 
 -- ---- a value
 

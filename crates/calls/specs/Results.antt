@@ -6,6 +6,7 @@
 --   Ask-right         the radios that asking lists: the ones whose core number the link would change
 --   Commit-right      after a committing: the graph in the new links table, its rows, numbers and order
 --   Batch-right       after a batch: the same, by the links done
+--   Hear-right        after a hearing: the links are exactly the agreed ones, and the one-sided pairs are marked and counted
 --   Listed            a list of radios in front of a lent list
 --   Later-right       the later neighbours of a radio: how many, and the first of them
 --   Core-listed, Backbone-listed   the radios listed
@@ -20,17 +21,17 @@
 -- Definitions only.
 use mathlib.Core.Path.{_≡_}
 use mathlib.Core.Logic.{_↔_}
-use mathlib.Core.Bool.{Bool, true}
+use mathlib.Core.Bool.{Bool, true, _&&_, not}
 use mathlib.Core.List.{List}
 use Prim.Native.Nat.{ℕ, _+_, _*_, _/_, _≤_, _<_}
 use lib.ListN.{length, getD, take, drop}
-use Rattle.mesh.specs.Limits.{max-neighbours}
-use Rattle.lists.specs.Lists.{member, Ascending}
+use Rattle.mesh.specs.Limits.{max-radios, max-neighbours}
+use Rattle.lists.specs.Lists.{range, total, member, Ascending}
 use Rattle.mesh.specs.Graph.{Graph, graph, linked, relinked}
 use Rattle.mesh.specs.Cores.{Core, number}
 use Rattle.mesh.specs.Orders.{is-k-order, later-in, nobody, First-later}
-use Rattle.mesh.specs.Tables.{Tables, graph-in}
-use Rattle.mesh.specs.Sound.{rows-proper, number-in, sound}
+use Rattle.mesh.specs.Tables.{Tables, marked, graph-in}
+use Rattle.mesh.specs.Sound.{row-degree, rows-proper, number-in, sound}
 use Rattle.mesh.specs.Connected.{In-core, In-backbone}
 use Rattle.mesh.specs.Tree.{Is-tree, Node-name}
 use Rattle.mesh.specs.Staircase.{staircase, link-entries, Staircase-tree}
@@ -39,8 +40,9 @@ use Rattle.mesh.specs.declared.Node.{Node}
 use Rattle.calls.specs.Sheet.{line-bytes, sheet, sheet-lines, Columns}
 use Rattle.calls.specs.Script.{script-of}
 use Rattle.calls.specs.Contracts.Images.{Block-none}
-use Rattle.calls.specs.Switches.{pairs-after}
+use Rattle.calls.specs.Switches.{pairs-after, All-allowed}
 use Rattle.calls.specs.Batches.{ups}
+use Rattle.calls.specs.Heard.{heard-switches}
 use Rattle.calls.specs.declared.Value.{Value}
 use Rattle.calls.specs.declared.Block.{Block}
 
@@ -83,6 +85,20 @@ pub record Batch-right (n : ℕ) (list : List ℕ) (t v : Tables) (r : Value) : 
   pub graph : graph-in n (v .links) ≡ graph n (pairs-after (ups (take (2 * r .value) list)) (graph-in n (t .links) .links))
   pub right : Site-right n v
   pub all : r .number ≡ 0 → 2 * r .value ≡ length list
+
+-- ---- a hearing
+
+-- t and v are the tables before and after, x is the further table after
+pub record Hear-right (n : ℕ) (heard : List ℕ) (t v : Tables) (r : Value) (x : List ℕ) : Type 0 where
+  -- no single call would be refused
+  pub allowed : All-allowed n (graph-in n (t .links) .links) (heard-switches (graph-in n (t .links)) heard)
+  -- bit b of row a of the links is set exactly if each of a and b hears the other
+  pub links : (a b : ℕ) → a < n → b < max-radios → marked (v .links) a b ≡ (marked heard a b && marked heard b a)
+  pub right : Site-right n v
+  -- bit b of row a is set exactly if a hears b and b does not hear a
+  pub marks : (a b : ℕ) → a < n → b < max-radios → marked x a b ≡ (marked heard a b && not (marked heard b a))
+  -- the value is the number of bits set in the further table
+  pub counted : r .value ≡ total (row-degree x) (range 0 n)
 
 -- ---- later neighbours
 

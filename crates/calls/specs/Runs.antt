@@ -16,9 +16,10 @@ use Rattle.calls.specs.Contracts.Sites.{Clear-contract}
 use Rattle.calls.specs.Contracts.Links.{Link-contract}
 use Rattle.calls.specs.Contracts.Proposals.{Commit-contract}
 use Rattle.calls.specs.Contracts.Batches.{Batch-contract}
+use Rattle.calls.specs.Contracts.Heard.{Hear-contract}
 use Rattle.calls.specs.Contracts.Images.{Read-contract}
 use Rattle.calls.specs.Contracts.Marks.{Set-contract, Remove-contract, Return-contract}
-use Rattle.calls.specs.Book.{Call, clearing, reading, linking, committing, batching, setting, removing, returning, other, Given, given, Answer, plain, counted}
+use Rattle.calls.specs.Book.{Call, clearing, reading, linking, committing, batching, hearing, setting, removing, returning, other, Given, given, Answer, plain, counted}
 use Rattle.calls.specs.declared.Reply.{Reply}
 use Rattle.calls.specs.declared.Value.{Value}
 
@@ -65,6 +66,15 @@ pub record Batching-done (n : ℕ) (list : List ℕ) (t : Tables) (hs : List Ans
   pub contract : Batch-contract n list t result v
   pub answer : hs ≡ counted (result .number) (result .value) ∷ []
 
+-- a hearing: its number and its count are its answer; `lent` and `marks` are what the further table holds before and after it
+pub record Hearing-done (n : ℕ) (heard : List ℕ) (w : ℕ) (t : Tables) (hs : List Answer) (v : Tables) : Type 0 where
+  pub lent : List ℕ
+  pub long : w ≡ length lent
+  pub result : Value
+  pub marks : List ℕ
+  pub contract : Hear-contract n heard t lent result v marks
+  pub answer : hs ≡ counted (result .number) (result .value) ∷ []
+
 -- a mark set: its number is its answer; the tables are lent to be read, `after` is the store after it
 pub record Setting-done (n : ℕ) (x bs : List ℕ) (t : Tables) (hs : List Answer) (v : Tables) : Type 0 where
   pub result : ℕ
@@ -94,6 +104,7 @@ Does (reading n bs) t hs v = Reading-done n bs t hs v
 Does (linking up n a b w) t hs v = Linking-done up n a b w t hs v
 Does (committing up n a b z xs) t hs v = Committing-done up n a b z xs t hs v
 Does (batching n xs) t hs v = Batching-done n xs t hs v
+Does (hearing n xs w) t hs v = Hearing-done n xs w t hs v
 Does (setting n x bs) t hs v = Setting-done n x bs t hs v
 Does (removing n x bs) t hs v = Removing-done n x bs t hs v
 Does (returning n x bs) t hs v = Returning-done n x bs t hs v

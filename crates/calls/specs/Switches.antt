@@ -3,14 +3,17 @@
 --   pairs-after ss ps   the pairs that are left of ps
 --   switched n s t      the tables that an accepted link call leaves of t
 --   tables-after n ss t the same of a list, one after the other
+--   All-allowed n ps ss questions 4 to 7 of each get yes in turn, where ps are the pairs before the first
 -- Definitions only.
 use mathlib.Core.Bool.{Bool}
 use mathlib.Core.List.{List, [], _∷_}
 use Prim.Native.Nat.{ℕ}
-use Rattle.mesh.specs.Graph.{Link, relinked, new-links}
+use Rattle.mesh.specs.Limits.{max-neighbours}
+use Rattle.mesh.specs.Graph.{Link, graph, relinked, new-links}
 use Rattle.mesh.specs.Cores.{numbers}
 use Rattle.mesh.specs.Levels.{new-order}
 use Rattle.mesh.specs.Tables.{Tables, tables, put-link, graph-in}
+use Rattle.mesh.specs.Valid.{Allowed}
 
 -- the link between a and b goes up or down
 pub record Switch : Type 0 where
@@ -39,3 +42,9 @@ switched n s t =
 unfoldable pub tables-after : (n : ℕ) → List Switch → Tables → Tables
 tables-after n [] t = t
 tables-after n (s ∷ ss) t = tables-after n ss (switched n s t)
+
+-- no single call of them would be refused
+unfoldable pub All-allowed : (n : ℕ) → (pairs : List Link) → List Switch → Type 0
+All-allowed n ps [] = Unit {0}
+All-allowed n ps (s ∷ ss) =
+    Allowed max-neighbours (s .up) (s .a) (s .b) (graph n ps) × All-allowed n (new-links (s .up) (s .a) (s .b) ps) ss

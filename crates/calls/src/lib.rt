@@ -32,6 +32,8 @@ impl Refusal {
 
     pub const TEXT: u32 = 13;
 
+    pub const HEARD: u32 = 14;
+
     pub const OTHER_SIZE: u32 = 15;
 
     pub const PROPOSAL: u32 = 16;

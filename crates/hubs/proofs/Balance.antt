@@ -2,21 +2,21 @@
 --   balance       ups of a link and its state before are as many as its downs and its state after
 --   same-pairs    tables that link alike hold the same pairs
 --   pairs-agree   the pairs after a list of link calls are told by how often each was made
-use mathlib.Core.Path.{_≡_, refl, sym, subst, _∙_}
+use mathlib.Core.Path.{_≡_, refl, _∙_}
 use mathlib.Core.Logic.{inl, inr}
 use mathlib.Core.Bool.{Bool, true, false, _&&_, not, cond, Bool·beq}
 use mathlib.Core.List.{List, [], _∷_}
 use Prim.Native.Nat.{ℕ, _+_}
 use native.Mathlib.Omega.{arith}
 use Rattle.mesh.specs.Limits.{max-neighbours}
-use Rattle.mesh.specs.Graph.{Link, graph, linked, link, relinked, new-links, In-links}
+use Rattle.mesh.specs.Graph.{Link, graph, linked, relinked, new-links}
 use Rattle.mesh.specs.Tables.{Tables}
 use Rattle.mesh.specs.Valid.{Allowed}
-use Rattle.mesh.proofs.GraphLaws.{Ends, ends, ends-of, linked-sym, proper-of}
-use Rattle.mesh.proofs.Tables.AscendingLinks.{in-links-proper, sorted-of, sorted-eq, link-less, in-linked, linked-in}
+use Rattle.mesh.proofs.GraphLaws.{Ends, ends, ends-of, linked-sym}
 use Rattle.mesh.proofs.Tables.Relinked.{linked-relinked}
-use Rattle.calls.specs.Switches.{Switch, pairs-after, switched, tables-after}
-use Rattle.calls.proofs.Holds.{Holds, switched-holds, All-allowed, all-holds}
+use Rattle.calls.specs.Switches.{Switch, pairs-after, switched, tables-after, All-allowed}
+use Rattle.calls.proofs.Holds.{Holds, switched-holds, all-holds}
+use Rattle.calls.proofs.Turns.{Ordered, pairs-eq}
 use Rattle.hubs.specs.Hubs.{same-call, times, Same-calls}
 
 bit : Bool → ℕ
@@ -76,20 +76,10 @@ module _ (n v w : ℕ) where
 pub same-pairs :
     (n : ℕ) (ps qs : List Link) (t u : Tables) → Holds n ps t → Holds n qs u →
     ((v w : ℕ) → linked (graph n ps) v w ≡ linked (graph n qs) v w) → ps ≡ qs
-unfolding linked
-same-pairs n ps qs t u k l h =
-    sorted-eq ps qs (sorted-of ps (k .valid .links-ascending)) (sorted-of qs (l .valid .links-ascending)) (sub ps qs t u k l h)
-    (sub qs ps u t l k (λ v w. sym (h v w)))
+same-pairs n ps qs t u k l h = pairs-eq n ps qs (ordered k) (ordered l) (λ v w _ _. h v w)
   where
-    sub :
-        (ps qs : List Link) (t u : Tables) → Holds n ps t → Holds n qs u → ((v w : ℕ) → linked (graph n ps) v w ≡ linked (graph n qs) v w) →
-        (m : Link) → In-links m ps → In-links m qs
-    sub ps qs t u k l h m i =
-        let o = in-links-proper n ps m (proper-of n ps (k .valid .links-proper)) i in
-        let is : link (m .low) (m .high) ≡ m = link-less (m .low) (m .high) (o .0) in
-        let there : linked (graph n ps) (m .low) (m .high) ≡ true = in-linked ps (m .low) (m .high) (rw is i) in
-        subst (λ (z : Link). In-links z qs) is
-        (linked-in n qs (m .low) (m .high) (proper-of n qs (l .valid .links-proper)) (sym (h (m .low) (m .high)) ∙ there))
+    ordered : {rs : List Link} {o : Tables} → Holds n rs o → Ordered n rs
+    ordered k = record { is-proper = k .valid .links-proper; is-ascending = k .valid .links-ascending }
 
 pub pairs-agree :
     (n : ℕ) (ps : List Link) (t u : Tables) (ss rs : List Switch) → Holds n ps t → Holds n ps u → All-allowed n ps ss → All-allowed n ps rs →

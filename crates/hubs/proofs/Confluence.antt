@@ -20,7 +20,7 @@ use Rattle.mesh.specs.Valid.{Allowed}
 use Rattle.mesh.proofs.Images.Sites.{length-order, read-written-order}
 use Rattle.calls.specs.Questions.{Lengths, lengths-of, answer-length, nodes-length, staircase-length, site-refusal, link-refusal}
 use Rattle.calls.specs.Questions.{tree-refusal, backbone-refusal, staircase-refusal}
-use Rattle.calls.specs.Switches.{Switch, switch, pairs-after}
+use Rattle.calls.specs.Switches.{Switch, switch, pairs-after, All-allowed}
 use Rattle.calls.specs.Contracts.Cores.{Backbone-contract}
 use Rattle.calls.specs.Contracts.Trees.{Tree-contract}
 use Rattle.calls.specs.Contracts.Staircase.{Staircase-contract}
@@ -30,7 +30,7 @@ use Rattle.calls.specs.Runs as runs
 use Rattle.calls.specs.Demand.{cleared}
 use Rattle.calls.proofs.ChainLaws.{link-zero}
 use Rattle.calls.proofs.Outcomes.{tree-decided, backbone-decided, staircase-decided}
-use Rattle.calls.proofs.Holds.{Holds, read-back, site-asked, All-allowed}
+use Rattle.calls.proofs.Holds.{Holds, read-back, site-asked}
 use Rattle.calls.proofs.Steps.{Stepped, step}
 use Rattle.calls.proofs.WholeList.{start}
 use Rattle.hubs.specs.Hubs.{Cleared, Singles, ended, single, only-reads, Two-hubs, Equal-sites, Equal-answers, Confluence, Calls-agree}

@@ -38,3 +38,6 @@ pub mod CountLaws
 pub mod StepLaws
 -- a batch
 pub mod BatchLaws
+-- a hearing
+pub mod HearLoops
+pub mod HearCall

@@ -12,3 +12,5 @@ pub mod Walks
 pub mod Steps
 -- the questions of a batch
 pub mod Batched
+-- the rows of a hearing, and its questions
+pub mod Hearings

@@ -3,6 +3,7 @@
 --   marked ts a b      document 01: bit b of row a of the links table ts is set
 --   put-bit on a b ts  the links table ts with bit b of row a set or cleared
 --   put-link           both bits of a link set or cleared
+--   bit-table n f      the table of that shape, of n rows, with bit b of row a by the test f
 --   links-table g      the links table that marks exactly the links of g, each in both rows
 --   graph-in n ts      the graph that the links table ts marks, read back from the bits above the diagonal
 --   tables-of g xs     the tables of the graph g with the order xs
@@ -17,7 +18,7 @@ use lib.Dec.{eqb}
 use lib.ListN.{length, getD, set}
 use Rattle.mesh.specs.Limits.{row-bytes}
 use Rattle.lists.specs.Lists.{Entries-below, range, filter}
-use Rattle.mesh.specs.Graph.{Link, Graph, graph, radios, linked}
+use Rattle.mesh.specs.Graph.{Link, Graph, graph, linked}
 use Rattle.mesh.specs.Cores.{numbers}
 
 pub record Tables : Type 0 where
@@ -55,18 +56,22 @@ put-bit on a b ts = set ts (byte-at a b) (put-digit on (getD ts (byte-at a b) 0)
 unfoldable pub put-link : (up : Bool) → (a b : ℕ) → (links : List ℕ) → List ℕ
 put-link u a b ts = put-bit u b a (put-bit u a b ts)
 
--- ---- the table of a graph
+-- ---- tables of bits, and the table of a graph
 
 -- the number whose lowest k bits the test gives
 unfoldable pub from-digits : (k : ℕ) → (ℕ → Bool) → ℕ
 from-digits zero f = 0
 from-digits (suc k) f = cond (f 0) 1 0 + 2 * from-digits k (λ i. f (suc i))
 
-unfoldable pub row-of : Graph → (a : ℕ) → List ℕ
-row-of g a = let near = linked g a in map (λ j. from-digits 8 (λ i. near (8 * j + i))) (range 0 row-bytes)
+-- a row with bit b by the test
+unfoldable pub bit-row : (ℕ → Bool) → List ℕ
+bit-row f = map (λ j. from-digits 8 (λ i. f (8 * j + i))) (range 0 row-bytes)
+
+unfoldable pub bit-table : (n : ℕ) → (ℕ → ℕ → Bool) → List ℕ
+bit-table n f = flatMap (λ a. let near = f a in bit-row near) (range 0 n)
 
 unfoldable pub links-table : Graph → List ℕ
-links-table g = flatMap (row-of g) (radios g)
+links-table g = bit-table (g .n) (linked g)
 
 unfoldable pub tables-of : Graph → (order : List ℕ) → Tables
 tables-of g xs = tables (links-table g) (numbers g) xs

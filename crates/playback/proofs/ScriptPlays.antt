@@ -23,7 +23,7 @@ use Rattle.mesh.proofs.Tables.Sites.{valid-cleared, numbers-cleared}
 use Rattle.mesh.proofs.Images.Tables.{valid-graph-in, tables-of-graph-in}
 use Rattle.calls.specs.Script.{radios-text, up-line, script-of}
 use Rattle.calls.specs.Questions.{lengths-of, script-refusal}
-use Rattle.calls.specs.Switches.{Switch, switch, pairs-after, switched, tables-after}
+use Rattle.calls.specs.Switches.{Switch, switch, pairs-after, switched, tables-after, All-allowed}
 use Rattle.calls.specs.Outcomes.{by-number, reply, link-outcome}
 use Rattle.calls.specs.Contracts.Forms.{Listing-accepted, Listing-refused}
 use Rattle.calls.specs.Contracts.Links.{Link-contract}
@@ -37,7 +37,7 @@ use Rattle.calls.proofs.ChainLaws.{ends-yes}
 use Rattle.calls.proofs.RecordLaws.{tables-ext}
 use Rattle.calls.proofs.Outcomes.{link-decided, link-inhabited}
 use Rattle.calls.proofs.Accepted.{accepted}
-use Rattle.calls.proofs.Holds.{Holds, All-allowed, switched-holds, all-holds}
+use Rattle.calls.proofs.Holds.{Holds, switched-holds, all-holds}
 use Rattle.calls.proofs.ByPairs.{link-by-pairs}
 use Rattle.calls.proofs.ScriptLaws.{script-zero, script-right}
 use Rattle.calls.proofs.Rebuilt.{ups, Rebuilt, rebuilt}

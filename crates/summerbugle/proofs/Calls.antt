@@ -6,6 +6,7 @@ use Rattle.calls.specs.Contracts.Sites.{Clear-contract, Check-contract}
 use Rattle.calls.specs.Contracts.Links.{Link-contract}
 use Rattle.calls.specs.Contracts.Proposals.{Ask-contract, Commit-contract}
 use Rattle.calls.specs.Contracts.Batches.{Batch-contract}
+use Rattle.calls.specs.Contracts.Heard.{Hear-contract}
 use Rattle.calls.specs.Contracts.Images.{Read-contract, Write-contract, Block-contract}
 use Rattle.calls.specs.Contracts.Radios.{Number-contract, Neighbours-contract, Linked-contract, First-contract}
 use Rattle.calls.specs.Contracts.Wake.{Later-contract}
@@ -40,6 +41,8 @@ use Rattle.summerbugle.proofs.sb_commit_down as commit-down
 use Rattle.summerbugle.proofs.sb_commit_down.Symbol as commit-down-symbol
 use Rattle.summerbugle.proofs.sb_link_batch as link-batch
 use Rattle.summerbugle.proofs.sb_link_batch.Symbol as link-batch-symbol
+use Rattle.summerbugle.proofs.sb_hear as hear
+use Rattle.summerbugle.proofs.sb_hear.Symbol as hear-symbol
 use Rattle.summerbugle.proofs.sb_image_read as image-read
 use Rattle.summerbugle.proofs.sb_image_read.Symbol as image-read-symbol
 use Rattle.summerbugle.proofs.sb_check as check
@@ -149,6 +152,15 @@ sb-link-batch = record {
   routine = link-batch-symbol.routine;
   kept = link-batch.ended .kept;
   contract = λ κs a r e. Batch-contract (number-0 a) (lent-4 a) (tables-1 a) r (tables-1 e);
+}
+
+-- sb_hear(n, links, numbers, order, heard, further)
+abbrev pub sb-hear : Function
+sb-hear = record {
+  signature = hear.signature;
+  routine = hear-symbol.routine;
+  kept = hear.ended .kept;
+  contract = λ κs a r e. Hear-contract (number-0 a) (lent-4 a) (tables-1 a) (lent-5 a) r (tables-1 e) (lent-5 e);
 }
 
 -- sb_image_read(n, links, numbers, order, image)

@@ -9,7 +9,8 @@
 --     Outcomes         for every input a contract has exactly one outcome: the one worked out in calls/specs/Outcomes.antt
 --     Tables-left      what is lent by shared reference is left as it was
 --   Property-2       numbers are core numbers by the largest group and orders are k-orders; connected cores, backbone, shell tree,
---                    staircase tree, site sheet, script, images and named marks follow their definitions; older tables and images are taken as they were
+--                    staircase tree, site sheet, script, images and named marks follow their definitions; a hearing leaves exactly the links
+--                    that both ends hear; older tables and images are taken as they were
 --   Property-3       demand 3, undivided, over the contracts that the exported calls meet; two hubs, one mesh
 use mathlib.Core.Path.{_≡_, refl}
 use mathlib.Core.Logic.{_↔_, _⊎_}
@@ -35,6 +36,8 @@ use Rattle.calls.specs.Contracts.Links.{Link-refused, Link-contract}
 use Rattle.calls.specs.Contracts.Proposals.{Ask-refused, Ask-contract, Commit-refused, Commit-contract}
 use Rattle.calls.specs.Batches.{batch-refusal}
 use Rattle.calls.specs.Contracts.Batches.{Batch-refused, Batch-contract, Batch-stopped, Batch-single}
+use Rattle.calls.specs.Heard.{hear-refusal}
+use Rattle.calls.specs.Contracts.Heard.{Hear-refused, Hear-contract}
 use Rattle.calls.specs.Contracts.Images.{Read-contract, Write-contract, Block-none, Block-contract}
 use Rattle.calls.specs.Contracts.Radios.{Number-contract, Neighbours-contract, Linked-contract, First-contract}
 use Rattle.calls.specs.Contracts.Wake.{Later-refused, Later-contract}
@@ -51,12 +54,12 @@ use Rattle.calls.specs.MarkOutcomes.{set-outcome, remove-outcome, return-outcom
 use Rattle.calls.specs.MarkResults.{Set-right, Removed-right, Same-mark}
 use Rattle.calls.specs.Outcomes.{clear-outcome, read-outcome, link-outcome, check-outcome, number-outcome, neighbours-outcome, linked-outcome, first-outcome}
 use Rattle.calls.specs.Outcomes.{core-outcome, backbone-outcome, tree-outcome, write-outcome, block-outcome, later-outcome, sheet-outcome, staircase-outcome, ask-outcome, commit-outcome, batch-outcome}
-use Rattle.calls.specs.Outcomes.{script-length-outcome, script-outcome}
+use Rattle.calls.specs.Outcomes.{script-length-outcome, script-outcome, hear-outcome}
 use Rattle.calls.specs.Results.{Site-right, Link-right, Later-right, Core-listed, Backbone-listed, Tree-listed, Written-right, Read-right, Block-part, Block-end}
-use Rattle.calls.specs.Results.{Script-right, Script-beforehand}
+use Rattle.calls.specs.Results.{Script-right, Script-beforehand, Hear-right}
 use Rattle.calls.specs.Results.{Image-answered, Sheet-right, Staircase-listed, Ask-right, Commit-right, Batch-right}
 use Rattle.calls.specs.Older.{Older}
-use Rattle.calls.specs.Book.{Call, clearing, reading, linking, committing, batching, setting, removing, returning, Answer, plain, counted, book-after, history, all-leave}
+use Rattle.calls.specs.Book.{Call, clearing, reading, linking, committing, batching, hearing, setting, removing, returning, Answer, plain, counted, book-after, history, all-leave}
 use Rattle.calls.specs.Runs.{answer-of, replied, Does, Event, event, Run, givens, called}
 use Rattle.calls.specs.Demand.{Start, beginning, Demand-3}
 use Rattle.hubs.specs.Hubs.{Confluence, Calls-agree, Equal-orders, Equal-images}
@@ -67,7 +70,7 @@ use Rattle.calls.specs.declared.Block.{Block}
 use Rattle.summerbugle.specs.Functions.{Promised, Returns, Gives, Leaves-lent, number-0, number-1, number-2, tables-1, tables-2, tables-3, lent-0, lent-4}
 use Rattle.summerbugle.specs.Functions.{step-3, tables-4, lent-5, lent-6, lent-7}
 use Rattle.summerbugle.proofs.Calls.{sb-clear, sb-link-up, sb-link-down, sb-image-read, sb-check, sb-number, sb-neighbours, sb-linked, sb-first, sb-core}
-use Rattle.summerbugle.proofs.Calls.{sb-ask-up, sb-ask-down, sb-commit-up, sb-commit-down, sb-link-batch}
+use Rattle.summerbugle.proofs.Calls.{sb-ask-up, sb-ask-down, sb-commit-up, sb-commit-down, sb-link-batch, sb-hear}
 use Rattle.summerbugle.proofs.Calls.{sb-mark-set, sb-mark-remove, sb-mark-return}
 use Rattle.summerbugle.proofs.Calls.{sb-later-of, sb-backbone, sb-tree, sb-staircase, sb-image-write, sb-sheet, sb-image-block, reader-open, reader-step, reader-moved}
 -- for the proof
@@ -80,14 +83,15 @@ use Rattle.calls.proofs.Outcomes.{clear-inhabited, link-inhabited, read-inhabit
 use Rattle.calls.proofs.Outcomes.{linked-inhabited, first-inhabited, core-inhabited, backbone-inhabited, tree-inhabited, write-inhabited, later-inhabited, sheet-inhabited}
 use Rattle.calls.proofs.Outcomes.{staircase-inhabited}
 use Rattle.calls.proofs.Outcomes.{ask-decided, commit-decided, ask-inhabited, commit-inhabited}
-use Rattle.calls.proofs.Outcomes.{batch-decided, batch-inhabited}
+use Rattle.calls.proofs.Outcomes.{batch-decided, batch-inhabited, hear-decided, hear-inhabited}
 use Rattle.calls.proofs.MarkOutcomes.{set-decided, remove-decided, return-decided, set-inhabited, remove-inhabited, return-inhabited}
 use Rattle.calls.proofs.MarkOutcomes.{set-keeps, remove-keeps, return-keeps}
 use Rattle.mesh.proofs.Marks.Rules.{store-good-iff}
 use Rattle.calls.proofs.MarkCalls.{set-right, removed-right, other-marks, return-right, return-restores}
 use Rattle.calls.proofs.HistoryRestored.{history-restored}
-use Rattle.calls.proofs.Refusals.{ask-keeps, commit-keeps}
+use Rattle.calls.proofs.Refusals.{ask-keeps, commit-keeps, hear-keeps}
 use Rattle.calls.proofs.Batches.{batch-keeps, batch-right, batch-single}
+use Rattle.calls.proofs.HeardCalls.{hear-right}
 use Rattle.calls.proofs.Refusals.{clear-keeps, link-keeps, read-keeps, check-keeps, number-keeps, neighbours-keeps, linked-keeps, first-keeps}
 use Rattle.calls.proofs.Refusals.{core-keeps, backbone-keeps, tree-keeps, write-keeps, block-keeps, later-keeps, sheet-keeps, staircase-keeps}
 use Rattle.walks.specs.Results.{Beginning-kept}
@@ -119,6 +123,7 @@ use Rattle.summerbugle.proofs.sb_ask_down.Met as ask-down-proof
 use Rattle.summerbugle.proofs.sb_commit_up.Met as commit-up-proof
 use Rattle.summerbugle.proofs.sb_commit_down.Met as commit-down-proof
 use Rattle.summerbugle.proofs.sb_link_batch.Met as link-batch-proof
+use Rattle.summerbugle.proofs.sb_hear.Met as hear-proof
 use Rattle.summerbugle.proofs.sb_image_read.Met as image-read-proof
 use Rattle.summerbugle.proofs.sb_check.Met as check-proof
 use Rattle.summerbugle.proofs.sb_number.Met as number-proof
@@ -150,6 +155,7 @@ pub record Calls-promised (M : Type 1) : Type 2 where
   pub commit-up : Promised sb-commit-up M
   pub commit-down : Promised sb-commit-down M
   pub link-batch : Promised sb-link-batch M
+  pub hear : Promised sb-hear M
   pub image-read : Promised sb-image-read M
   pub check : Promised sb-check M
   pub number : Promised sb-number M
@@ -185,6 +191,7 @@ pub record Calls-return : Type 2 where
   pub commit-up : Returns sb-commit-up
   pub commit-down : Returns sb-commit-down
   pub link-batch : Returns sb-link-batch
+  pub hear : Returns sb-hear
   pub image-read : Returns sb-image-read
   pub check : Returns sb-check
   pub number : Returns sb-number
@@ -225,6 +232,9 @@ pub record Refusals : Type 0 where
   pub link-batch :
       (n : ℕ) (xs : List ℕ) (t : Tables) (r : Value) (v : Tables) → Batch-contract n xs t r v → (r .number ≡ 0 → ⊥) →
       Batch-refused (r .number) t r v ⊎ Batch-stopped n xs t r v
+  pub hear :
+      (n : ℕ) (hs : List ℕ) (t : Tables) (w : List ℕ) (r : Value) (v : Tables) (x : List ℕ) → Hear-contract n hs t w r v x →
+      (r .number ≡ 0 → ⊥) → Hear-refused (r .number) t w r v x
   pub image-read : (n : ℕ) (bs : List ℕ) (t : Tables) (r : ℕ) (v : Tables) → Read-contract n bs t r v → (r ≡ 0 → ⊥) → Tables-refused r r t v
   pub check : (n : ℕ) (t : Tables) (r : Value) → Check-contract n t r → (r .number ≡ 0 → ⊥) → Value-refused (r .number) r
   pub number : (n v : ℕ) (t : Tables) (r : Value) → Number-contract n v t r → (r .number ≡ 0 → ⊥) → Value-refused (r .number) r
@@ -276,6 +286,9 @@ pub record Outcomes : Type 0 where
       (up : Bool) (n a b : ℕ) (z : ℤ) (xs : List ℕ) (t : Tables) (o : Reply × Tables) →
       Commit-contract up n a b z xs t (o .0) (o .1) ↔ (o ≡ commit-outcome up n a b z xs t)
   pub link-batch : (n : ℕ) (xs : List ℕ) (t : Tables) (o : Value × Tables) → Batch-contract n xs t (o .0) (o .1) ↔ (o ≡ batch-outcome n xs t)
+  pub hear :
+      (n : ℕ) (hs : List ℕ) (t : Tables) (w : List ℕ) (o : Value × Tables × List ℕ) →
+      Hear-contract n hs t w (o .0) (o .1) (o .2) ↔ (o ≡ hear-outcome n hs t w)
   pub image-read : (n : ℕ) (bs : List ℕ) (t : Tables) (o : ℕ × Tables) → Read-contract n bs t (o .0) (o .1) ↔ (o ≡ read-outcome n bs t)
   pub check : (n : ℕ) (t : Tables) (o : Value) → Check-contract n t o ↔ (o ≡ check-outcome n t)
   pub number : (n v : ℕ) (t : Tables) (o : Value) → Number-contract n v t o ↔ (o ≡ number-outcome n v t)
@@ -330,10 +343,11 @@ pub record Tables-left : Type 0 where
   pub remove-name : Leaves-lent sb-mark-remove (λ κs. lent-4) (λ κs. lent-4)
   pub return-name : Leaves-lent sb-mark-return (λ κs. lent-4) (λ κs. lent-4)
   pub return-store : Leaves-lent sb-mark-return (λ κs. lent-5) (λ κs. lent-5)
-  -- and proposed lists, and lists of links
+  -- and proposed lists, lists of links, and heard tables
   pub commit-up : Leaves-lent sb-commit-up (λ κs. lent-7) (λ κs. lent-7)
   pub commit-down : Leaves-lent sb-commit-down (λ κs. lent-7) (λ κs. lent-7)
   pub link-batch : Leaves-lent sb-link-batch (λ κs. lent-4) (λ κs. lent-4)
+  pub hear : Leaves-lent sb-hear (λ κs. lent-4) (λ κs. lent-4)
   -- and images
   pub image-read : Leaves-lent sb-image-read (λ κs. lent-4) (λ κs. lent-4)
   pub image-block : Leaves-lent sb-image-block (λ κs. lent-0) (λ κs. lent-0)
@@ -396,6 +410,11 @@ pub record Property-2 : Type 0 where
   pub batch-single :
       (n a b : ℕ) (t : Tables) (w : List ℕ) (q : Reply) (u : Tables) (x : List ℕ) → n ≤ length w → (r : Value) (v : Tables) →
       Link-contract true n a b t w q u x → Batch-contract n (a ∷ b ∷ []) t r v → Batch-single q u r v
+  -- after an accepted hearing the links are exactly the ones that both ends hear, no single call would have been refused, and the pairs of
+  -- which one end hears the other are marked and counted
+  pub hear :
+      (n : ℕ) (hs : List ℕ) (t : Tables) (w : List ℕ) (r : Value) (v : Tables) (x : List ℕ) → Hear-contract n hs t w r v x →
+      hear-refusal n (lengths-of t) hs (length w) (sound n t) ≡ 0 → Hear-right n hs t v r x
   -- the check's value is 1 exactly for proper rows, core numbers and a k-order
   pub check : (n : ℕ) (t : Tables) (r : Value) → Check-contract n t r → r .number ≡ 0 → (r .value ≡ 1) ↔ Site-right n t
   pub number : (n v : ℕ) (t : Tables) (r : Value) → Number-contract n v t r → r .number ≡ 0 → Core (graph-in n (t .links)) v (r .value)
@@ -491,6 +510,9 @@ pub record Steps : Type 0 where
       Does (committing false (number-0 a) (number-1 a) (number-2 a) (step-3 a) (lent-7 a)) (tables-4 a) (replied r ∷ []) (tables-4 e))
   pub link-batch :
       Gives sb-link-batch (λ κs a r e. Does (batching (number-0 a) (lent-4 a)) (tables-1 a) (counted (r .number) (r .value) ∷ []) (tables-1 e))
+  pub hear :
+      Gives sb-hear (λ κs a r e.
+      Does (hearing (number-0 a) (lent-4 a) (length (lent-5 a))) (tables-1 a) (counted (r .number) (r .value) ∷ []) (tables-1 e))
   -- setting and removing a mark write none of these tables; the history must know of them
   pub mark-set : Gives sb-mark-set (λ κs a r e. Does (setting (number-0 a) (lent-4 a) (lent-5 a)) (tables-1 a) (plain r ∷ []) (tables-1 a))
   pub mark-remove : Gives sb-mark-remove (λ κs a r e. Does (removing (number-0 a) (lent-4 a) (lent-5 a)) (tables-1 a) (plain r ∷ []) (tables-1 a))
@@ -546,6 +568,7 @@ calls-promised = record {
   commit-up = commit-up-proof.met;
   commit-down = commit-down-proof.met;
   link-batch = link-batch-proof.met;
+  hear = hear-proof.met;
   image-read = image-read-proof.met;
   check = check-proof.met;
   number = number-proof.met;
@@ -580,6 +603,7 @@ calls-return = record {
   commit-up = returns sb-commit-up (calls-promised .commit-up);
   commit-down = returns sb-commit-down (calls-promised .commit-down);
   link-batch = returns sb-link-batch (calls-promised .link-batch);
+  hear = returns sb-hear (calls-promised .hear);
   image-read = returns sb-image-read (calls-promised .image-read);
   check = returns sb-check (calls-promised .check);
   number = returns sb-number (calls-promised .number);
@@ -611,6 +635,7 @@ refusals = record {
   ask = ask-keeps;
   commit = commit-keeps;
   link-batch = batch-keeps;
+  hear = hear-keeps;
   image-read = read-keeps;
   check = check-keeps;
   number = number-keeps;
@@ -639,6 +664,7 @@ outcomes = record {
   ask = λ up n a b t w. exactly _ _ (ask-inhabited up n a b t w) (ask-decided up n a b t w);
   commit = λ up n a b z xs t. exactly _ _ (commit-inhabited up n a b z xs t) (commit-decided up n a b z xs t);
   link-batch = λ n xs t. exactly _ _ (batch-inhabited n xs t) (batch-decided n xs t);
+  hear = λ n hs t w. exactly _ _ (hear-inhabited n hs t w) (hear-decided n hs t w);
   image-read = λ n bs t. exactly _ _ (read-inhabited n bs t) (read-decided n bs t);
   check = λ n t. exactly _ _ (check-inhabited n t) (check-decided n t);
   number = λ n v t. exactly _ _ (number-inhabited n v t) (number-decided n v t);
@@ -687,6 +713,7 @@ tables-left = record {
   commit-up = λ κs a last. refl;
   commit-down = λ κs a last. refl;
   link-batch = λ κs a last. refl;
+  hear = λ κs a last. refl;
   image-read = λ κs a last. refl;
   image-block = λ κs a last. refl;
 }
@@ -705,6 +732,7 @@ property-2 = record {
   commit-number = commit-number;
   link-batch = batch-right;
   batch-single = batch-single;
+  hear = hear-right;
   check = check-right;
   number = number-right;
   later-of = later-right;
@@ -742,6 +770,7 @@ steps = record {
   commit-up = λ κs a r e c. record { result = r; contract = c; answer = refl };
   commit-down = λ κs a r e c. record { result = r; contract = c; answer = refl };
   link-batch = λ κs a r e c. record { result = r; contract = c; answer = refl };
+  hear = λ κs a r e c. record { lent = lent-5 a; long = refl; result = r; marks = lent-5 e; contract = c; answer = refl };
   mark-set = λ κs a r e c. record { result = r; after = lent-5 e; contract = c; left = refl; answer = refl };
   mark-remove = λ κs a r e c. record { result = r; after = lent-5 e; contract = c; left = refl; answer = refl };
   mark-return = λ κs a r e c. record { result = r; contract = c; answer = refl };

@@ -6,6 +6,7 @@ ghost use Rattle.calls.specs.Contracts.Sites.{Clear-contract, Check-contract};
 ghost use Rattle.calls.specs.Contracts.Links.{Link-contract};
 ghost use Rattle.calls.specs.Contracts.Proposals.{Ask-contract, Commit-contract};
 ghost use Rattle.calls.specs.Contracts.Batches.{Batch-contract};
+ghost use Rattle.calls.specs.Contracts.Heard.{Hear-contract};
 ghost use Rattle.calls.specs.Contracts.Images.{Read-contract, Write-contract, Block-contract};
 ghost use Rattle.calls.specs.Contracts.Radios.{Number-contract, Neighbours-contract, Linked-contract, First-contract};
 ghost use Rattle.calls.specs.Contracts.Wake.{Later-contract};
@@ -99,6 +100,24 @@ pub extern "C" fn sb_link_batch(
         (lent (links .exit) (numbers .exit) (order .exit)) ⌝ }
 {
     links::batch::batch(n, links, numbers, order, list)
+}
+
+// Brings the site to the links that both ends hear: links that are not agreed go down, by lower radio and then higher, then agreed links
+// come up, likewise. The value counts the one-sided pairs, which are marked in the further table, all its other bits zero. Refused by 1 to
+// 3, 14 and 7, before anything changes: the value is 0, and every table keeps its content.
+#[no_mangle]
+pub extern "C" fn sb_hear(
+    n: u32,
+    links: &mut [u8],
+    numbers: &mut [u8],
+    order: &mut [u16],
+    heard: &[u8],
+    further: &mut [u8],
+) -> Value
+    ensures { λ r. ⌜ Hear-contract n (now (heard .entry)) (lent (links .entry) (numbers .entry) (order .entry)) (now (further .entry)) r
+        (lent (links .exit) (numbers .exit) (order .exit)) (now (further .exit)) ⌝ }
+{
+    links::hear::hear(n, links, numbers, order, heard, further)
 }
 
 // What taking the link between a and b up would change: the step and count that `sb_link_up` would answer now, and the changed radios

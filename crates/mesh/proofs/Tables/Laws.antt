@@ -1,5 +1,5 @@
 -- Laws of the links table.
--- In order: parts of equal length joined, bytes, marks of a table, one bit and one link put, the table of a graph.
+-- In order: parts of equal length joined, bytes, marks of a table, one bit and one link put, tables of bits, the table of a graph.
 use mathlib.Core.Path.{_≡_, refl, sym, ap, ap₂, _∙_}
 use mathlib.Core.Logic.{_⊎_, inl, inr}
 use mathlib.Core.Bool.{Bool, true, false, _&&_, _||_, cond, and-comm}
@@ -13,8 +13,8 @@ use lib.Seq.{getD-append-add, getD-set-same, getD-set-other, ext-getD}
 use borrow.Author.Tests.{eqb-true, eqb-false, eq-eqb, ne-eqb}
 use Rattle.mesh.specs.Limits.{max-radios, row-bytes}
 use Rattle.lists.specs.Lists.{range, member, Bytes}
-use Rattle.mesh.specs.Graph.{Graph, graph, radios, other-ends, linked}
-use Rattle.mesh.specs.Tables.{digit, byte-at, marked, put-digit, put-bit, put-link, from-digits, row-of, links-table}
+use Rattle.mesh.specs.Graph.{Graph, graph, other-ends, linked}
+use Rattle.mesh.specs.Tables.{digit, byte-at, marked, put-digit, put-bit, put-link, from-digits, bit-row, bit-table, links-table}
 use Rattle.lists.proofs.Tests.{bool-cases}
 use Rattle.lists.proofs.Range.{length-range}
 use Rattle.lists.proofs.Map.{length-map, getD-map-range}
@@ -159,41 +159,57 @@ marked-put-link u n a b ts v w big len la lb lw =
     either false true = refl
     either false false = refl
 
+-- ---- tables of bits
+
+module _ (n : ℕ) (f : ℕ → ℕ → Bool) where
+  length-bit-row : (a : ℕ) → length (bit-row (f a)) ≡ row-bytes
+  unfolding bit-row
+  length-bit-row a = length-map (λ j. from-digits 8 (λ i. f a (8 * j + i))) (range 0 row-bytes) ∙ length-range 0 row-bytes
+
+  pub length-bit-table : length (bit-table n f) ≡ row-bytes * n
+  unfolding bit-table
+  length-bit-table = length-flatMap-range (λ a. bit-row (f a)) row-bytes length-bit-row 0 n
+
+  getD-bit-table : (a j : ℕ) → a < n → j < row-bytes
+      → getD (bit-table n f) (row-bytes * a + j) 0 ≡ from-digits 8 (λ i. f a (8 * j + i))
+  unfolding bit-table bit-row
+  getD-bit-table a j h l =
+      getD-flatMap-range (λ a. bit-row (f a)) row-bytes length-bit-row 0 n a j h l
+      ∙ ap (λ (x : ℕ). getD (bit-row (f x)) j 0) (omega arith)
+      ∙ getD-map-range 0 (λ j. from-digits 8 (λ i. f a (8 * j + i))) 0 row-bytes j l
+      ∙ ap (λ (x : ℕ). from-digits 8 (λ i. f a (8 * x + i))) (omega arith)
+
+  pub bytes-bit-table : Bytes (bit-table n f)
+  bytes-bit-table i h =
+      let len = length-bit-table in
+      let place : row-bytes * (i / row-bytes) + i % row-bytes ≡ i = omega arith in
+      rw (← place, getD-bit-table (i / row-bytes) (i % row-bytes) (omega arith) (omega arith))
+      (from-digits-less 8 (λ d. f (i / row-bytes) (8 * (i % row-bytes) + d)))
+
+  -- bit b of row a is what the test says
+  pub marked-bit-table : (a b : ℕ) → a < n → b < max-radios → marked (bit-table n f) a b ≡ f a b
+  marked-bit-table a b h l =
+      let place : 8 * (b / 8) + b % 8 ≡ b = omega arith in
+      ap (marked (bit-table n f) a) (sym place)
+      ∙ marked-digit (bit-table n f) a (b / 8) (b % 8) (omega arith)
+      ∙ ap (λ (x : ℕ). digit x (b % 8)) (getD-bit-table a (b / 8) h (omega arith))
+      ∙ digit-from-digits 8 (λ i. f a (8 * (b / 8) + i)) (b % 8) (omega arith)
+      ∙ ap (f a) place
+
 -- ---- the table of a graph
 
-length-row-of : (g : Graph) (a : ℕ) → length (row-of g a) ≡ row-bytes
-unfolding row-of
-length-row-of g a = length-map (λ j. from-digits 8 (λ i. linked g a (8 * j + i))) (range 0 row-bytes) ∙ length-range 0 row-bytes
-
 pub length-links-table : (g : Graph) → length (links-table g) ≡ row-bytes * g .n
-unfolding links-table radios
-length-links-table g = length-flatMap-range (row-of g) row-bytes (length-row-of g) 0 (g .n)
-
-pub getD-links-table : (g : Graph) (a j : ℕ) → a < g .n → j < row-bytes
-    → getD (links-table g) (row-bytes * a + j) 0 ≡ from-digits 8 (λ i. linked g a (8 * j + i))
-unfolding links-table radios row-of
-getD-links-table g a j h l =
-    getD-flatMap-range (row-of g) row-bytes (length-row-of g) 0 (g .n) a j h l
-    ∙ ap (λ (x : ℕ). getD (row-of g x) j 0) (omega arith)
-    ∙ getD-map-range 0 (λ j. from-digits 8 (λ i. linked g a (8 * j + i))) 0 row-bytes j l
-    ∙ ap (λ (x : ℕ). from-digits 8 (λ i. linked g a (8 * x + i))) (omega arith)
+unfolding links-table
+length-links-table g = length-bit-table (g .n) (linked g)
 
 pub bytes-links-table : (g : Graph) → Bytes (links-table g)
-bytes-links-table g i h =
-    let len = length-links-table g in
-    let place : row-bytes * (i / row-bytes) + i % row-bytes ≡ i = omega arith in
-    rw (← place, getD-links-table g (i / row-bytes) (i % row-bytes) (omega arith) (omega arith))
-    (from-digits-less 8 (λ d. linked g (i / row-bytes) (8 * (i % row-bytes) + d)))
+unfolding links-table
+bytes-links-table g = bytes-bit-table (g .n) (linked g)
 
 -- the table marks exactly the links
 pub marked-links-table : (g : Graph) (a b : ℕ) → a < g .n → b < max-radios → marked (links-table g) a b ≡ linked g a b
-marked-links-table g a b h l =
-    let place : 8 * (b / 8) + b % 8 ≡ b = omega arith in
-    ap (marked (links-table g) a) (sym place)
-    ∙ marked-digit (links-table g) a (b / 8) (b % 8) (omega arith)
-    ∙ ap (λ (x : ℕ). digit x (b % 8)) (getD-links-table g a (b / 8) h (omega arith))
-    ∙ digit-from-digits 8 (λ i. linked g a (8 * (b / 8) + i)) (b % 8) (omega arith)
-    ∙ ap (linked g a) place
+unfolding links-table
+marked-links-table g = marked-bit-table (g .n) (linked g)
 
 -- no links: zero bytes
 pub links-table-cleared : (n : ℕ) → links-table (graph n []) ≡ replicate (row-bytes * n) 0

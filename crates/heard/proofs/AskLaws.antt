@@ -1,0 +1,195 @@
+-- Questions 14 and 7, row by row.
+--   Proper-below     the rows before row a mark neither their own radio nor one at n or above
+--   Counting         agreed links of a radio, counted
+--   Few-below        the radios before radio a have few enough agreed links
+use mathlib.Core.Path.{_≡_, refl, sym, ap, _∙_}
+use mathlib.Core.Logic.{_⊎_, inl, inr}
+use mathlib.Core.Bool.{Bool, true, false, _&&_, not, cond}
+use mathlib.Core.List.{List}
+use Prim.Native.Nat.{ℕ, suc, _+_, _-_, _^_, _≤_, _<_}
+use native.Mathlib.Omega.{arith}
+use native.Mathlib.Numerals.{add-one}
+use mir.Syntax.{w32}
+use mir.Val.{boolByte, Fits}
+use lib.Dec.{leb}
+use lib.ListN.{length}
+use borrow.Author.Tests.{leb-true, leb-false, le-leb}
+use Rattle.mesh.specs.Limits.{max-radios, max-neighbours}
+use Rattle.lists.specs.Lists.{range, count, all}
+use Rattle.lists.proofs.Tests.{bool-cases, never, and-left, and-right, and-both, byte-bit, bit-one}
+use Rattle.lists.proofs.Count.{count-mono}
+use Rattle.lists.proofs.Range.{count-front}
+use Rattle.lists.proofs.All.{all-below, below-all}
+use Rattle.mesh.specs.Tables.{marked}
+use Rattle.mesh.specs.Sound.{irreflexive, within, row-degree}
+use Rattle.mesh.proofs.Tables.Rows.{irreflexive-of, of-irreflexive}
+use Rattle.rows.specs.Rows.{row-listed, row-count}
+use Rattle.rows.proofs.MaskLaws.{marked-past}
+use Rattle.rows.proofs.RowListLaws.{length-row-listed-radio}
+use Rattle.calls.specs.Questions.{ask}
+use Rattle.calls.specs.Heard.{agreed, agreed-degree, heard-proper, agreed-few}
+use Rattle.heard.specs.Hearing.{Of-size, none-from, rows-refusal}
+
+-- ---- no radio at n or above
+
+module _ (hs : List ℕ) (a b : ℕ) where
+  none-end : max-radios ≤ b → none-from b hs a ≡ true
+  unfolding none-from range all
+  none-end l = let e : max-radios - b ≡ 0 = omega arith in rw e
+
+  none-first : b < max-radios → none-from b hs a ≡ (not (marked hs a b) && none-from (b + 1) hs a)
+  unfolding none-from range all
+  none-first l =
+      let e : max-radios - b ≡ suc (max-radios - (b + 1)) = omega arith in
+      rw (e, add-one b)
+
+  pub within-end : (n : ℕ) → none-from n hs a ≡ none-from b hs a → max-radios ≤ b → true ≡ none-from n hs a
+  within-end n h l = sym (h ∙ none-end l)
+
+  pub within-turn : (n : ℕ) → none-from n hs a ≡ none-from b hs a → b < max-radios → marked hs a b ≡ false → none-from n hs a ≡ none-from (b + 1) hs a
+  within-turn n h l e = h ∙ none-first l ∙ rw e
+
+  pub within-no : (n : ℕ) → none-from n hs a ≡ none-from b hs a → b < max-radios → marked hs a b ≡ true → false ≡ none-from n hs a
+  within-no n h l e = sym (h ∙ none-first l ∙ rw e)
+
+-- ---- question 14
+
+abbrev pub Proper-below : (n : ℕ) → (heard : List ℕ) → (a : ℕ) → Type 0
+Proper-below n hs a = (x : ℕ) → x < a → (marked hs x x ≡ false) × (none-from n hs x ≡ true)
+
+module _ (n : ℕ) (hs : List ℕ) where
+  none-within : within n hs ≡ all (none-from n hs) (range 0 n)
+  unfolding within none-from
+  none-within = refl
+
+  pub proper-turn : (a : ℕ) → Proper-below n hs a → marked hs a a ≡ false → none-from n hs a ≡ true → Proper-below n hs (a + 1)
+  proper-turn a h e f x l = go (bool-cases (leb a x))
+    where
+      go : (leb a x ≡ true) ⊎ (leb a x ≡ false) → (marked hs x x ≡ false) × (none-from n hs x ≡ true)
+      go (inl t) = let s : x ≡ a = omega (arith, leb-true a x t) in rw s (e, f)
+      go (inr t) = h x (omega (arith, leb-false a x t))
+
+  pub proper-end : (a : ℕ) → Proper-below n hs a → n ≤ a → true ≡ heard-proper n hs
+  unfolding heard-proper
+  proper-end a h l =
+      sym (and-both (irreflexive n hs) (within n hs) (of-irreflexive n hs (λ x m. h x (omega (arith, m, l)) .0))
+      (none-within ∙ below-all (none-from n hs) n (λ x m. h x (omega (arith, m, l)) .1)))
+
+  by-proper : (heard-proper n hs ≡ true → ⊥) → false ≡ heard-proper n hs
+  by-proper h = go (bool-cases (heard-proper n hs))
+    where
+      go : (heard-proper n hs ≡ true) ⊎ (heard-proper n hs ≡ false) → false ≡ heard-proper n hs
+      go (inl t) = absurd (h t)
+      go (inr t) = sym t
+
+  pub proper-own : (a : ℕ) → a < n → marked hs a a ≡ true → false ≡ heard-proper n hs
+  unfolding heard-proper
+  proper-own a l e = by-proper (λ p. never (marked hs a a) e (irreflexive-of n hs (and-left (irreflexive n hs) (within n hs) p) a l))
+
+  pub proper-past : (a : ℕ) → a < n → none-from n hs a ≡ false → false ≡ heard-proper n hs
+  unfolding heard-proper
+  proper-past a l e =
+      by-proper (λ p. never (none-from n hs a) (all-below (none-from n hs) n (sym none-within ∙ and-right (irreflexive n hs) (within n hs) p) a l) e)
+
+-- ---- question 7
+
+range-first : (f : ℕ → Bool) (n b : ℕ) → b < n → count f (range b (n - b)) ≡ cond (f b) 1 0 + count f (range (b + 1) (n - (b + 1)))
+unfolding range count
+range-first f n b l = let e : n - b ≡ suc (n - (b + 1)) = omega (arith, l) in rw (e, add-one b)
+
+range-past : (f : ℕ → Bool) (n b : ℕ) → n ≤ b → count f (range b (n - b)) ≡ 0
+unfolding range count
+range-past f n b l = let e : n - b ≡ 0 = omega (arith, l) in rw e
+
+module _ (n : ℕ) (hs : List ℕ) (s : Of-size n hs) where
+  -- a radio at n or above has no row
+  pub agreed-past : (a b : ℕ) → n ≤ b → a < max-radios → agreed hs a b ≡ false
+  unfolding agreed
+  agreed-past a b l m = rw (marked-past hs b a (omega (arith, s .long))) (nothing (marked hs a b))
+    where
+      nothing : (x : Bool) → (x && false) ≡ false
+      nothing true = refl
+      nothing false = refl
+
+  -- a radio has at most as many agreed links as it hears radios
+  degree-most : (a : ℕ) → a < n → agreed-degree n hs a ≤ length (row-listed hs a)
+  unfolding agreed-degree row-degree agreed
+  degree-most a l =
+      omega (
+        arith,
+        count-mono (agreed hs a) (λ b. marked hs a b) (range 0 n) (λ b i h. and-left (marked hs a b) (marked hs b a) h),
+        count-front (λ b. marked hs a b) n max-radios (s .most),
+        length-row-listed-radio n hs (s .long) a l,
+      )
+
+  pub few-heard : (a r : ℕ) → r ≡ row-count max-neighbours hs a → r ≤ max-neighbours → a < n → true ≡ leb (agreed-degree n hs a) max-neighbours
+  unfolding row-count
+  few-heard a r e f l = sym (le-leb (agreed-degree n hs a) max-neighbours (omega (arith, e, f, degree-most a l)))
+
+-- ---- counting agreed links
+
+-- k of the radios below b have an agreed link with a
+pub record Counting (n : ℕ) (hs : List ℕ) (a k b : ℕ) : Type 0 where
+  pub low : b ≤ n
+  pub few : k ≤ b
+  pub is : k + count (agreed hs a) (range b (n - b)) ≡ agreed-degree n hs a
+
+module _ (n : ℕ) (hs : List ℕ) (a : ℕ) where
+  pub counting-none : Counting n hs a 0 0
+  unfolding agreed-degree
+  counting-none = record { low = omega arith; few = omega arith; is = let z : n - 0 ≡ n = omega arith in rw z (omega arith) }
+
+  pub counting-fits : (k b : ℕ) (t : Bool) → Counting n hs a k b → b < n → n < 2 ^ 32 → Fits w32 (k + boolByte t)
+  counting-fits k b t c l h = record { fits = omega (arith, c .few, l, h, byte-bit t, bit-one t) }
+
+  pub counting-turn : (k b : ℕ) (r : Bool) → Counting n hs a k b → b < n → r ≡ agreed hs a b → Counting n hs a (k + boolByte r) (b + 1)
+  counting-turn k b r c l e = record {
+    low = omega (arith, l);
+    few = omega (arith, c .few, byte-bit r, bit-one r);
+    is = omega (arith, c .is, byte-bit r, ap (λ (t : Bool). cond {A = ℕ} t 1 0) e, next);
+  }
+    where
+      next : count (agreed hs a) (range b (n - b)) ≡ cond (agreed hs a b) 1 0 + count (agreed hs a) (range (b + 1) (n - (b + 1)))
+      next = range-first (agreed hs a) n b l
+
+  pub counting-end : (k b : ℕ) → Counting n hs a k b → n ≤ b → k ≡ agreed-degree n hs a
+  counting-end k b c l = omega (arith, c .is, range-past (agreed hs a) n b l)
+
+abbrev pub Few-below : (n : ℕ) → (heard : List ℕ) → (a : ℕ) → Type 0
+Few-below n hs a = (x : ℕ) → x < a → leb (agreed-degree n hs x) max-neighbours ≡ true
+
+module _ (n : ℕ) (hs : List ℕ) where
+  pub few-turn : (a : ℕ) → Few-below n hs a → leb (agreed-degree n hs a) max-neighbours ≡ true → Few-below n hs (a + 1)
+  few-turn a h e x l = go (bool-cases (leb a x))
+    where
+      go : (leb a x ≡ true) ⊎ (leb a x ≡ false) → leb (agreed-degree n hs x) max-neighbours ≡ true
+      go (inl t) = let s : x ≡ a = omega (arith, leb-true a x t) in rw s e
+      go (inr t) = h x (omega (arith, leb-false a x t))
+
+  pub few-end : (a : ℕ) → Few-below n hs a → n ≤ a → true ≡ agreed-few max-neighbours n hs
+  unfolding agreed-few
+  few-end a h l = sym (below-all (λ x. leb (agreed-degree n hs x) max-neighbours) n (λ x m. h x (omega (arith, m, l))))
+
+  pub few-no : (a : ℕ) → a < n → leb (agreed-degree n hs a) max-neighbours ≡ false → false ≡ agreed-few max-neighbours n hs
+  unfolding agreed-few
+  few-no a l many = go (bool-cases (agreed-few max-neighbours n hs))
+    where
+      go : (agreed-few max-neighbours n hs ≡ true) ⊎ (agreed-few max-neighbours n hs ≡ false) → false ≡ agreed-few max-neighbours n hs
+      go (inl t) = never (leb (agreed-degree n hs a) max-neighbours) (all-below (λ x. leb (agreed-degree n hs x) max-neighbours) n t a l) many
+      go (inr t) = sym t
+
+-- ---- both questions
+
+module _ (n : ℕ) (hs : List ℕ) where
+  pub refusal-fourteen : heard-proper n hs ≡ false → 14 ≡ rows-refusal n hs
+  unfolding rows-refusal ask
+  refusal-fourteen e = rw e
+
+  module _ (is-proper : heard-proper n hs ≡ true) where
+    pub refusal-seven : agreed-few max-neighbours n hs ≡ false → 7 ≡ rows-refusal n hs
+    unfolding rows-refusal ask
+    refusal-seven e = rw (is-proper, e)
+
+    pub refusal-none : agreed-few max-neighbours n hs ≡ true → 0 ≡ rows-refusal n hs
+    unfolding rows-refusal ask
+    refusal-none e = rw (is-proper, e)

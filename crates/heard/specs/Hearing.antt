@@ -1,0 +1,81 @@
+-- A heard table row by row. The terms of document 02, W-205, are in specs/Heard.antt of `calls`.
+--   Of-size n hs           the table hs has n rows
+--   In-front xs r list     the first r entries of the list are xs
+--   hears hs a b           b hears a
+--   none-from n hs a       row a marks no radio at n or above
+--   rows-refusal n hs      questions 14 and 7
+--   alone-put              the further table after the pair of a and a radio that it hears: marked unless that radio hears a
+--   Pair-marked, Row-marked, One-sided-marked   what marking a pair, a row and a table comes back with
+--   wanted up hs ts a b    the link between a and b is to come up, or to go down, by the links table ts
+--   Kept-in-front          the radios of a list that pass a test, in front of another list
+--   Wanted-listed          the radios above a whose link with a is wanted, in front of a list
+-- Definitions only.
+use mathlib.Core.Path.{_≡_}
+use mathlib.Core.Bool.{Bool, true, _&&_, not, cond}
+use mathlib.Core.List.{List}
+use Prim.Native.Nat.{ℕ, suc, _*_, _-_, _≤_, _<_}
+use lib.Dec.{ltb}
+use lib.ListN.{length, take}
+use Rattle.mesh.specs.Limits.{max-radios, max-neighbours, row-bytes}
+use Rattle.lists.specs.Lists.{range, count, filter, all, folded}
+use Rattle.mesh.specs.Tables.{marked, put-bit}
+use Rattle.mesh.specs.Sound.{within}
+use Rattle.calls.specs.Questions.{ask}
+use Rattle.calls.specs.Heard.{agreed, heard-proper, agreed-few, one-sided, one-sided-count}
+
+pub record Of-size (n : ℕ) (hs : List ℕ) : Type 0 where
+  pub most : n ≤ max-radios
+  pub long : length hs ≡ row-bytes * n
+
+pub record In-front (xs : List ℕ) (r : ℕ) (list : List ℕ) : Type 0 where
+  pub counted : r ≡ length xs
+  pub listed : take r list ≡ xs
+
+-- ---- questions 14 and 7
+
+unfoldable pub none-from : (n : ℕ) → (heard : List ℕ) → (a : ℕ) → Bool
+none-from n hs a = all (λ b. not (marked hs a b)) (range n (max-radios - n))
+
+unfoldable pub hears : (heard : List ℕ) → (a b : ℕ) → Bool
+hears hs a b = marked hs b a
+
+-- the number of the first "no", or 0
+unfoldable pub rows-refusal : (n : ℕ) → (heard : List ℕ) → ℕ
+rows-refusal n hs = ask 14 (heard-proper n hs) (ask 7 (agreed-few max-neighbours n hs) 0)
+
+-- ---- one-sided pairs
+
+unfoldable pub alone-put : (heard : List ℕ) → (a b : ℕ) → (further : List ℕ) → List ℕ
+alone-put hs a b w = cond (hears hs a b) w (put-bit true a b w)
+
+pub record Pair-marked (hs : List ℕ) (a b : ℕ) (w : List ℕ) (r : Bool) (x : List ℕ) : Type 0 where
+  pub answer : r ≡ not (hears hs a b)
+  pub table : x ≡ alone-put hs a b w
+
+pub record Row-marked (hs : List ℕ) (a : ℕ) (xs w : List ℕ) (r : ℕ) (x : List ℕ) : Type 0 where
+  pub counted : r ≡ count (λ b. not (hears hs a b)) xs
+  pub table : x ≡ folded (alone-put hs a) xs w
+
+-- `room` is the length of a list that a row is listed in
+pub record One-sided-marked (n : ℕ) (hs : List ℕ) (room : ℕ) (w : List ℕ) (r : ℕ) (x : List ℕ) : Type 0 where
+  pub counted : Of-size n hs → room ≡ max-radios → within n hs ≡ true → r ≡ one-sided-count n hs
+  pub table : Of-size n hs → room ≡ max-radios → length w ≡ row-bytes * n → x ≡ one-sided n hs
+
+-- ---- links to come up or to go down
+
+unfoldable pub wanted : (up : Bool) → (heard links : List ℕ) → (a b : ℕ) → Bool
+wanted u hs ts a b = cond u (agreed hs a b && not (marked ts a b)) (marked ts a b && not (agreed hs a b))
+
+-- and b is above a
+unfoldable pub above-wanted : (up : Bool) → (heard links : List ℕ) → (a b : ℕ) → Bool
+above-wanted u hs ts a b = ltb a b && wanted u hs ts a b
+
+-- of the radios xs the ones that pass the test, where the list has room for one more
+pub record Kept-in-front (f : ℕ → Bool) (xs old : List ℕ) (r : ℕ) (new : List ℕ) : Type 0 where
+  pub is : length (filter f xs) < length old → In-front (filter f xs) r new
+
+-- `room` is the length of a list that a row is listed in
+pub record Wanted-listed (up : Bool) (hs ts : List ℕ) (a room : ℕ) (old : List ℕ) (r : ℕ) (new : List ℕ) : Type 0 where
+  pub is : (n : ℕ) → Of-size n hs → Of-size n ts → within n ts ≡ true → a < n → room ≡ max-radios
+      → length (filter (wanted up hs ts a) (range (suc a) (n - suc a))) < length old
+      → In-front (filter (wanted up hs ts a) (range (suc a) (n - suc a))) r new

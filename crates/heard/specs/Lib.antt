@@ -1,0 +1,2 @@
+-- What the functions on a heard table come back with.
+pub mod Hearing

@@ -1,0 +1,91 @@
+// Questions 14 and 7 of a heard table.
+ghost use mathlib.Core.Path.{_≡_};
+ghost use Prim.Native.Nat.{_<_};
+ghost use lib.Dec.{leb};
+ghost use Rattle.mesh.specs.Limits.{max-neighbours};
+ghost use Rattle.calls.specs.Heard.{agreed-degree, heard-proper, agreed-few};
+ghost use Rattle.heard.specs.Hearing.{Of-size, none-from, rows-refusal};
+use super::row;
+use calls::Refusal;
+use mesh::Site;
+
+// Whether row a marks no radio at n or above.
+fn is_within(n: u32, heard: &[u8], a: u32) -> bool
+    ensures { λ r. ⌜ r ≡ none-from n (now (heard .entry)) a ⌝ }
+{
+    let mut b = n;
+    while b < Site::RADIOS {
+        if rows::is_marked(heard, a, b) {
+            return false;
+        }
+        b += 1;
+    }
+    true
+}
+
+// Question 14: does no row mark its own radio or one at n or above?
+pub fn is_proper(n: u32, heard: &[u8]) -> bool
+    ensures { λ r. ⌜ r ≡ heard-proper n (now (heard .entry)) ⌝ }
+{
+    let mut a: u32 = 0;
+    while a < n {
+        if rows::is_marked(heard, a, a) {
+            return false;
+        }
+        if !is_within(n, heard, a) {
+            return false;
+        }
+        a += 1;
+    }
+    true
+}
+
+// How many agreed links a has to radios below n.
+fn count_agreed(n: u32, heard: &[u8], a: u32) -> u32
+    ensures { λ r. ⌜ r ≡ agreed-degree n (now (heard .entry)) a ⌝ }
+{
+    let mut k: u32 = 0;
+    let mut b: u32 = 0;
+    while b < n {
+        k += row::is_agreed(heard, a, b) as u32;
+        b += 1;
+    }
+    k
+}
+
+// Whether a has at most as many agreed links as a radio may have neighbours. One that hears no more radios than that need not be counted.
+fn is_few(n: u32, heard: &[u8], a: u32) -> bool
+    ensures { λ r. ⌜ (Of-size n (now (heard .entry)) → a < n → r ≡ leb (agreed-degree n (now (heard .entry)) a) max-neighbours) ⌝ }
+{
+    if rows::row_degree(heard, a) as u32 <= Site::NEIGHBOURS {
+        return true;
+    }
+    count_agreed(n, heard, a) <= Site::NEIGHBOURS
+}
+
+// Question 7: has each of n radios at most as many agreed links as a radio may have neighbours?
+pub fn are_few(n: u32, heard: &[u8]) -> bool
+    ensures { λ r. ⌜ (Of-size n (now (heard .entry)) → r ≡ agreed-few max-neighbours n (now (heard .entry))) ⌝ }
+{
+    let mut a: u32 = 0;
+    while a < n {
+        if !is_few(n, heard, a) {
+            return false;
+        }
+        a += 1;
+    }
+    true
+}
+
+// The number of questions 14 and 7, or 0.
+pub fn refusal(n: u32, heard: &[u8]) -> u32
+    ensures { λ r. ⌜ (Of-size n (now (heard .entry)) → r ≡ rows-refusal n (now (heard .entry))) ⌝ }
+{
+    if !is_proper(n, heard) {
+        return Refusal::HEARD;
+    }
+    if !are_few(n, heard) {
+        return Refusal::NO_ROOM;
+    }
+    0
+}

@@ -1,0 +1,196 @@
+-- A hearing meets its contract, on plain values: its questions, and the call.
+use mathlib.Core.Path.{_≡_, refl, sym, ap, _∙_}
+use mathlib.Core.Bool.{Bool, true, false, _&&_, not}
+use mathlib.Core.List.{List}
+use Prim.Native.Nat.{ℕ, _*_, _≤_}
+use native.Mathlib.Omega.{arith}
+use lib.Dec.{eqb}
+use lib.ListN.{length}
+use borrow.Author.Tests.{eqb-true, eq-eqb, ne-eqb}
+use Rattle.mesh.specs.Limits.{max-radios, max-neighbours, row-bytes}
+use Rattle.mesh.specs.Tables.{Tables, marked}
+use Rattle.mesh.specs.Sound.{sound, within, irreflexive}
+use Rattle.lists.proofs.Tests.{and-left, and-right}
+use Rattle.calls.specs.Questions.{ask, lengths-of, tables-refusal}
+use Rattle.calls.specs.Heard.{agreed, agreed-few, heard-proper, heard-lengths, hear-refusal, goes-down, comes-up}
+use Rattle.calls.specs.Hearing.{Rows-left, downs, ups}
+use Rattle.calls.specs.Contracts.Heard.{Hear-accepted, Hear-refused, Hear-contract}
+use Rattle.calls.proofs.QuestionLaws.{ask-zero}
+use Rattle.calls.proofs.ChainLaws.{lent-zero, site-zero}
+use Rattle.calls.proofs.ContractLaws.{answer, by-accepted, by-refused}
+use Rattle.calls.proofs.SoundSwitches.{Good}
+use Rattle.calls.proofs.HearingLaws.{good-marked, rows-first, downs-end, ups-end}
+use Rattle.soundness.specs.Checks.{Examined}
+use Rattle.soundness.proofs.ExamineLaws.{site-refused, site-lent, fits-sound-lent, examinable-room}
+use Rattle.heard.specs.Hearing.{Of-size, rows-refusal, One-sided-marked}
+use Rattle.links.specs.Steps.{Prepared}
+use Rattle.links.specs.Hearings.{Phase-by, Counted-site, Rows-switched, Brought, Hear-asked}
+use Rattle.links.proofs.StepLaws.{fits-good}
+use Rattle.links.proofs.HearLoops.{prepared-site, with-places}
+
+-- ---- the questions
+
+module _ (n : ℕ) (hs : List ℕ) (f : ℕ) (t : Tables) (p h q : ℕ) (e : q ≡ tables-refusal n (lengths-of t)) where
+  pub hear-lengths : (q ≡ 0 → ⊥) → (places highs : List ℕ) → Hear-asked n hs f t p h places highs q
+  unfolding hear-refusal
+  hear-lengths h0 places highs = record {
+    number = λ _ _. e ∙ sym (site-refused n (lengths-of t) (heard-lengths n (length hs) f) (sound n t) _ (λ z. h0 (e ∙ z)));
+    prepared = λ _ _ z. absurd (h0 z);
+  }
+
+  module _ (yes : q ≡ 0) where
+    asked : hear-refusal n (lengths-of t) hs f (sound n t) ≡ ask 2 (heard-lengths n (length hs) f) (ask 3 (sound n t) (rows-refusal n hs))
+    unfolding hear-refusal rows-refusal
+    asked = site-lent n (lengths-of t) (heard-lengths n (length hs) f) (sound n t) _ (sym e ∙ yes)
+
+    links-long : length (t .links) ≡ row-bytes * n
+    unfolding tables-refusal lengths-of
+    links-long = lent-zero n (lengths-of t) true 0 (sym e ∙ yes) .0 .lengths .links
+
+    most : n ≤ max-radios
+    unfolding tables-refusal
+    most = lent-zero n (lengths-of t) true 0 (sym e ∙ yes) .0 .most
+
+    pub heard-other : (length hs ≡ length (t .links) → ⊥) → (places highs : List ℕ) → Hear-asked n hs f t p h places highs 2
+    unfolding heard-lengths ask
+    heard-other h0 places highs =
+        record {
+          number = λ _ _. sym (asked ∙ rw (ne-eqb (length hs) (row-bytes * n) (λ z. h0 (z ∙ sym links-long))));
+          prepared = λ _ _ z. absurd
+              (omega arith);
+        }
+
+    module _ (same : length hs ≡ length (t .links)) where
+      heard-long : length hs ≡ row-bytes * n
+      heard-long = same ∙ links-long
+
+      pub further-other : (f ≡ length (t .links) → ⊥) → (places highs : List ℕ) → Hear-asked n hs f t p h places highs 2
+      unfolding heard-lengths ask
+      further-other h0 places highs = record {
+        number = λ _ _. sym (asked ∙ rw (eq-eqb (length hs) (row-bytes * n) heard-long, ne-eqb f (row-bytes * n) (λ z. h0 (z ∙ sym links-long))));
+        prepared = λ _ _ z. absurd (omega arith);
+      }
+
+      module _ (like : f ≡ length (t .links)) (ps qs is js : List ℕ) (lp : length ps ≡ p) (lh : length is ≡ h) (r : Bool) (x : Examined n t ps qs is js r) where
+        sound-is : p ≡ max-radios → h ≡ max-radios → r ≡ sound n t
+        sound-is ep eh = x .answer ∙ rw (lp ∙ ep, lh ∙ eh) (examinable-room n t) ∙ fits-sound-lent n t (sym e ∙ yes)
+
+        then-asked : hear-refusal n (lengths-of t) hs f (sound n t) ≡ ask 3 (sound n t) (rows-refusal n hs)
+        unfolding heard-lengths ask
+        then-asked = asked ∙ rw (eq-eqb (length hs) (row-bytes * n) heard-long, eq-eqb f (row-bytes * n) (like ∙ links-long))
+
+        pub hear-unsound : r ≡ false → Hear-asked n hs f t p h qs js 3
+        unfolding ask
+        hear-unsound bad =
+            record { number = λ ep eh. sym (then-asked ∙ rw (sym (sound-is ep eh) ∙ bad)); prepared = λ _ _ z. absurd (omega arith) }
+
+        pub hear-sound : r ≡ true → (m : ℕ) → (Of-size n hs → m ≡ rows-refusal n hs) → Hear-asked n hs f t p h qs js m
+        unfolding ask
+        hear-sound good m is-asked = record {
+          number = λ ep eh. is-asked (record { most = most; long = heard-long }) ∙ sym (then-asked ∙ rw (sym (sound-is ep eh) ∙ good));
+          prepared = λ ep eh z. record {
+            good = fits-sound-lent n t (sym e ∙ yes) ∙ sym (sound-is ep eh) ∙ good;
+            places-length = x .places-long ∙ lp ∙ ep;
+            highs-length = x .highs-long ∙ lh ∙ eh;
+            placed = x .placed good;
+            counted = x .highs good;
+          };
+        }
+
+-- ---- both phases
+
+downs-up : (n : ℕ) (hs : List ℕ) (t : Tables) → downs n hs t .up ≡ false
+unfolding downs
+downs-up n hs t = refl
+
+ups-up : (n : ℕ) (hs : List ℕ) (t : Tables) → ups n hs t .up ≡ true
+unfolding ups
+ups-up n hs t = refl
+
+module _ (n : ℕ) (hs : List ℕ) (t : Tables) (k : Good n t) where
+  downs-by : Phase-by n hs (downs n hs t)
+  unfolding Phase-by downs goes-down
+  downs-by a b la lb = ap (λ (x : Bool). x && not (agreed hs a b)) (good-marked n t k a b (omega (arith, la, lb)) lb)
+
+  ups-by : Phase-by n hs (ups n hs t)
+  unfolding Phase-by ups comes-up
+  ups-by a b la lb =
+      ap (λ (x : Bool). agreed hs a b && not x) (good-marked n t k a b (omega (arith, la, lb)) lb) ∙ go (agreed hs a b) (marked (t .links) a b)
+    where
+      go : (x y : Bool) → (x && not y) ≡ (x && not (y && x))
+      go true true = refl
+      go true false = refl
+      go false y = refl
+
+pub both-brought : {n : ℕ} {hs : List ℕ} {t u v : Tables} {ps is qs js : List ℕ} → Rows-switched false n hs t u ps is → Rows-switched true n hs u v qs js
+    → Brought n hs t v
+both-brought {n} {hs} {t} {u} d e = record { between = u; down = λ s p. d .left p s; up = λ s p. e .left p s }
+
+-- ---- the call
+
+module _ (n : ℕ) (hs w : List ℕ) (t : Tables) (p h : ℕ) (ep : p ≡ max-radios) (eh : h ≡ max-radios) (places highs : List ℕ) (q : ℕ)
+    (d : Hear-asked n hs (length w) t p h places highs q) where
+  abbrev R : ℕ
+  R = hear-refusal n (lengths-of t) hs (length w) (sound n t)
+
+  pub hear-refused : (q ≡ 0 → ⊥) → Hear-contract n hs t w (answer q 0) t w
+  unfolding Hear-contract
+  hear-refused h0 =
+      by-refused R (Hear-accepted n hs t (answer q 0) t w) (λ x. Hear-refused x t w (answer q 0) t w) (λ z. h0 (d .number ep eh ∙ z))
+      (record { number = d .number ep eh; value = refl; tables = refl; further = refl })
+
+  module _ (yes : q ≡ 0) where
+    is-zero : R ≡ 0
+    is-zero = sym (d .number ep eh) ∙ yes
+
+    hear-prepared : Prepared n t places highs
+    hear-prepared = d .prepared ep eh yes
+
+    -- places may be written over
+    pub hear-ready : (room : ℕ) → room ≡ length places → Counted-site n t room highs
+    hear-ready room e = with-places (prepared-site hear-prepared) e
+
+    good : Good n t
+    good = fits-good n t (hear-prepared .good)
+
+    answers : (heard-lengths n (length hs) (length w) ≡ true) × (heard-proper n hs ≡ true) × (agreed-few max-neighbours n hs ≡ true)
+    unfolding hear-refusal
+    answers =
+        let s = site-zero n (lengths-of t) (heard-lengths n (length hs) (length w)) (sound n t) _ is-zero in
+        let o = ask-zero 13 (heard-proper n hs) _ (s .1) in
+        (s .0 .lent .further, o .0, ask-zero 6 (agreed-few max-neighbours n hs) 0 (o .1) .0)
+
+    pub hear-size : Of-size n hs
+    unfolding heard-lengths
+    hear-size = record {
+      most = good .lent .most;
+      long = eqb-true (length hs) (row-bytes * n) (and-left (eqb (length hs) (row-bytes * n)) (eqb (length w) (row-bytes * n)) (answers .0));
+    }
+
+    pub hear-few : agreed-few max-neighbours n hs ≡ true
+    hear-few = answers .2
+
+    further-long : length w ≡ row-bytes * n
+    unfolding heard-lengths
+    further-long = eqb-true (length w) (row-bytes * n) (and-right (eqb (length hs) (row-bytes * n)) (eqb (length w) (row-bytes * n)) (answers .0))
+
+    is-within : within n hs ≡ true
+    unfolding heard-proper
+    is-within = and-right (irreflexive n hs) (within n hs) (answers .1)
+
+    module _ (count : ℕ) (x : List ℕ) (room : ℕ) (full : room ≡ max-radios) (m : One-sided-marked n hs room w count x) (v : Tables) (b : Brought n hs t v) where
+      after-downs : Rows-left n (downs n hs t) t n (b .between)
+      after-downs = b .down t (downs n hs t) (downs-up n hs t) (downs-by n hs t good) (rows-first n hs t good (answers .1) (answers .2))
+
+      after-ups : Rows-left n (ups n hs t) t n v
+      after-ups = b .up t (ups n hs t) (ups-up n hs t) (ups-by n hs t good) (downs-end n hs t good (answers .1) (answers .2) after-downs)
+
+      pub hear-done : Hear-contract n hs t w (answer 0 count) v x
+      unfolding Hear-contract
+      hear-done =
+          by-accepted R (λ y. Hear-refused y t w (answer 0 count) v x) is-zero (record {
+            number = refl;
+            value = m .counted hear-size full is-within;
+            tables = ups-end n hs t good (answers .1) (answers .2) after-ups;
+            further = m .table hear-size full further-long;
+          })
