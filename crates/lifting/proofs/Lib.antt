@@ -1,0 +1,1 @@
+-- Laws of the search for one link that lifts a radio.
