@@ -1,3 +1,3 @@
--- The search for one link that lifts a radio: a level peeled with some radios held, pairs tried and ruled out; what a caller has.
-pub mod Peeled
+-- The search for one link that lifts a radio: a level peeled with one radio kept, pairs tried and ruled out.
+pub mod Peeling
 pub mod Search
