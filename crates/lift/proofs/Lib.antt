@@ -1,0 +1,2 @@
+-- Laws of the search: `PeelLaws` for the leaves of the peel.
+mod PeelLaws

@@ -1,0 +1,2 @@
+-- The search as its functions carry it out: `Peels` is the peel.
+pub mod Peels

@@ -1,0 +1,2 @@
+// One link that lifts a radio.
+mod peel;
