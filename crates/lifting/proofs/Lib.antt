@@ -1,1 +1,2 @@
--- Laws of the search for one link that lifts a radio.
+-- Laws of the search for one link that lifts a radio. `Peeling`: the peel of a level with one radio kept.
+pub mod Peeling
