@@ -287,6 +287,6 @@ module _ (g : Graph) (xs : List ℕ) (valid : Valid max-neighbours g xs) (k r a 
     peeling-lifts e = lifted-lifts g r a c (record {
       allowed = ok;
       greater =
-        le-trans (le-of-eq (ap suc kr))
-        (number-core t r lr .largest (suc k) (stays g k cs) (λ x l m. stays-group x l (stays-cases g k cs x m)) (stays-left g k cs r e));
+          le-trans (le-of-eq (ap suc kr))
+          (number-core t r lr .largest (suc k) (stays g k cs) (λ x l m. stays-group x l (stays-cases g k cs x m)) (stays-left g k cs r e));
     })
