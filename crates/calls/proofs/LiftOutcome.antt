@@ -1,11 +1,11 @@
 -- The question for one link that lifts a radio: its contract has exactly one outcome, what a refusal gives, and how the contract is met.
 --   lift-decided, lift-inhabited   two answers that meet the contract are equal, and the one worked out meets it
 --   lift-keeps                     a refusal gives its number and zeros
---   lift-zero, lift-yes            when the chain gives 0
+--   lift-zero, lift-twenty         when the chain gives 0, and when 20
 --   lift-refused, lift-unanswered, lift-answered   refused by 1 to 4; by 20; the first pair
 use mathlib.Core.Path.{_≡_, refl, sym, ap, _∙_}
 use mathlib.Core.Bool.{Bool, true, false, _&&_}
-use mathlib.Core.List.{List, []}
+use mathlib.Core.List.{[]}
 use Prim.Native.Nat.{ℕ, _<_}
 use native.Mathlib.Omega.{arith}
 use Rattle.mesh.specs.Graph.{Link, link-of, Graph}
@@ -18,7 +18,7 @@ use Rattle.calls.specs.Contracts.Lift.{Pair-accepted, Pair-refused, Lift
 use Rattle.calls.specs.declared.Pair.{Pair}
 use Rattle.calls.proofs.QuestionLaws.{ask-zero, ask-yes, ask-no, is-radio-true}
 use Rattle.calls.proofs.ContractLaws.{by-accepted, by-refused}
-use Rattle.calls.proofs.ChainLaws.{Site-good, site-zero, site-yes, radio-zero}
+use Rattle.calls.proofs.ChainLaws.{Site-good, site-zero, site-yes}
 use Rattle.calls.proofs.Outcomes.{Decides, by-decides, by-meets}
 use Rattle.calls.proofs.Refusals.{by-refusal}
 
@@ -73,6 +73,20 @@ lift-asks n v l sound g e =
     let p = site-zero n l true sound (ask 4 (is-radio n v) 0) e in
     site-yes n l true sound (ask 4 (is-radio n v) (ask 20 (is-lifted (lifting g v)) 0)) (p .0)
     ∙ ask-yes 4 (is-radio n v) (ask 20 (is-lifted (lifting g v)) 0) (ask-zero 3 (is-radio n v) 0 (p .1) .0)
+
+-- the chain gives 20 only at its last question
+pub lift-twenty : (n v : ℕ) (l : Lengths) (sound : Bool) (g : Graph) → lift-refusal n v l sound g ≡ 20
+    → (radio-refusal n v l sound ≡ 0) × (is-lifted (lifting g v) ≡ false)
+unfolding lift-refusal radio-refusal site-refusal lent-refusal ask
+lift-twenty n v l sound g = go (size-good n) (site-lengths n l && true) sound (is-radio n v) (is-lifted (lifting g v))
+  where
+    go : (a b c d e : Bool) → ask 1 a (ask 2 b (ask 3 c (ask 4 d (ask 20 e 0)))) ≡ 20 → (ask 1 a (ask 2 b (ask 3 c (ask 4 d 0))) ≡ 0) × (e ≡ false)
+    go true true true true true k = absurd (omega (arith, k))
+    go true true true true false k = (refl, refl)
+    go true true true false e k = absurd (omega (arith, k))
+    go true true false d e k = absurd (omega (arith, k))
+    go true false c d e k = absurd (omega (arith, k))
+    go false b c d e k = absurd (omega (arith, k))
 
 -- ---- the contract met
 

@@ -4,7 +4,6 @@
 -- That it meets `Lift-contract`, and no other outcome does, is `lift-inhabited` and `lift-decided` in proofs/LiftOutcome.antt.
 -- Definitions only.
 use Prim.Native.Nat.{ℕ}
-use Rattle.mesh.specs.Graph.{Link}
 use Rattle.mesh.specs.Tables.{Tables, graph-in}
 use Rattle.mesh.specs.Sound.{sound}
 use Rattle.calls.specs.Questions.{lengths-of}

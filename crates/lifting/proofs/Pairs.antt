@@ -4,16 +4,16 @@
 --   lift-group          a pair that lifts a radio has a group with it
 --   radio-refutes .. high-refutes   pairs without such a group
 --   peeling-lifts       what stays is such a group
-use mathlib.Core.Path.{_≡_, refl, sym, ap, _∙_}
+use mathlib.Core.Path.{_≡_, sym, ap, _∙_}
 use mathlib.Core.Logic.{_⊎_, inl, inr}
-use mathlib.Core.Bool.{Bool, true, false, not, _&&_, _||_}
+use mathlib.Core.Bool.{Bool, true, false, _&&_}
 use mathlib.Core.List.{List}
 use Prim.Native.Nat.{ℕ, suc, _+_, _≤_, _<_}
 use native.Mathlib.Omega.{arith}
 use native.Mathlib.Nat.{le-trans, le-of-eq}
 use lib.Dec.{ltb, leb, eqb}
 use lib.ListN.{getD}
-use borrow.Author.Tests.{ltb-true, ltb-false, lt-ltb, leb-true, leb-false, le-leb, eqb-true, eqb-false, eq-eqb}
+use borrow.Author.Tests.{ltb-true, lt-ltb, leb-true, le-leb, eqb-true, eqb-false, eq-eqb}
 use Rattle.lists.specs.Lists.{range, filter, member}
 use Rattle.mesh.specs.Limits.{max-neighbours}
 use Rattle.mesh.specs.Graph.{Graph, link-of, radios, linked, neighbours-in, relinked}
@@ -28,7 +28,7 @@ use Rattle.mesh.proofs.GraphLaws.{Ends, Adds, linked-sym, relinked-adds, adds-c
 use Rattle.mesh.proofs.Links.Moves.{adds-most}
 use Rattle.mesh.proofs.Cores.Certificate.{core-enough}
 use Rattle.mesh.proofs.Cores.Peeling.{number-core}
-use Rattle.mesh.proofs.Links.Call.{changed-below, unchanged-number}
+use Rattle.mesh.proofs.Links.Call.{unchanged-number}
 use Rattle.mesh.proofs.Links.Laws.{link-level, link-by-one}
 use Rattle.calls.specs.Questions.{ends-refusal, can-switch, has-room}
 use Rattle.calls.specs.Lift.{lifts}

@@ -9,18 +9,18 @@ use mathlib.Core.Path.{_≡_, refl, sym, ap, _∙_}
 use mathlib.Core.Logic.{_⊎_, inl, inr}
 use mathlib.Core.Bool.{Bool, true, false, _&&_, _||_, and-false}
 use mathlib.Core.List.{List}
-use Prim.Native.Nat.{ℕ, suc, _+_, _≤_, _<_}
+use Prim.Native.Nat.{ℕ, _+_, _≤_, _<_}
 use native.Mathlib.Omega.{arith}
 use native.Mathlib.Nat.{le-antisymm, le-trans, le-of-eq}
 use lib.Dec.{ltb, leb, eqb}
 use lib.ListN.{getD}
-use borrow.Author.Tests.{ltb-true, ltb-false, lt-ltb, le-ltb, leb-true, le-leb, lt-leb, eqb-true, eqb-false}
+use borrow.Author.Tests.{ltb-true, ltb-false, lt-ltb, le-ltb, leb-true, le-leb, eqb-true, eqb-false}
 use Rattle.lists.specs.Lists.{range, count}
 use Rattle.mesh.specs.Limits.{max-neighbours}
-use Rattle.mesh.specs.Graph.{Graph, radios, linked, neighbours-in, degree}
+use Rattle.mesh.specs.Graph.{Graph, radios, linked, neighbours-in}
 use Rattle.mesh.specs.Cores.{number}
 use Rattle.mesh.specs.Valid.{Valid}
-use Rattle.lists.proofs.Tests.{bool-cases, never, and-right, and-both, or-cases, or-left, or-right, iff-eq}
+use Rattle.lists.proofs.Tests.{bool-cases, never, and-both, or-cases, or-left, or-right}
 use Rattle.lists.proofs.Range.{in-range, distinct-range}
 use Rattle.lists.proofs.Count.{count-pos, count-less, count-ext}
 use Rattle.lists.proofs.Distinct.{count-plus-one}

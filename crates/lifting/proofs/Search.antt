@@ -3,7 +3,7 @@
 --   none-start, none-next         lower radios that are done
 --   first-found, none-found       what `lifting` then is
 --   lifted-first, lifted-none, none-lifted   what a pair of the list, and an empty list, say
-use mathlib.Core.Path.{_≡_, refl, sym, ap, _∙_}
+use mathlib.Core.Path.{_≡_, refl, ap, _∙_}
 use mathlib.Core.Logic.{_⊎_, inl, inr}
 use mathlib.Core.Bool.{Bool, true, false, _&&_}
 use mathlib.Core.List.{List, [], _∷_, _++_, map, flatMap}
