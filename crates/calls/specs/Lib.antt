@@ -1,7 +1,7 @@
 -- What calls promise, in the order in which a reader needs it. `Sheet` is the printed page, `Script` the script that rebuilds a site; `Outcomes` are the outcomes worked out; `Results` is what a caller
 -- has after an accepted call (property 2); `Older` is what calls give of older tables and images; `FormerDemand` is the statement of a
 -- corollary; `Replay` is what the replay program prints;
--- `Lift` is what lifts a radio (W-212); `Marks`, `MarkOutcomes` and `MarkResults` are the named marks of W-211;
+-- `Lift` and `LiftOutcome` are what lifts a radio (W-212); `Marks`, `MarkOutcomes` and `MarkResults` are the named marks of W-211;
 -- `Worked` and `Cases` are the worked cases of document 01, `SheetCases` those of the site sheet.
 pub mod Sheet
 pub mod Script
@@ -13,6 +13,7 @@ pub mod Marks
 pub mod Contracts
 pub mod Outcomes
 pub mod MarkOutcomes
+pub mod LiftOutcome
 pub mod Results
 pub mod MarkResults
 pub mod Older

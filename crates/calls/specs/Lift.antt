@@ -1,6 +1,6 @@
 -- One link that lifts a radio (document 02, W-212).
---   all-pairs n      the pairs of different radios below n, by lower radio and then higher
 --   lifts g v l      a link call would take the link l up now (questions 4 to 7), and the core number of v would be greater with it
+--   lifting-from     the pairs that lift v and have the lower radio a, by the higher radio
 --   lifting g v      the pairs that lift v, by lower radio and then higher
 --   first-pair ls    the first of them
 --   lift-refusal     1 to 4, and 20: is there a pair that lifts the radio?
@@ -9,15 +9,11 @@ use mathlib.Core.Bool.{Bool, true, false, _&&_}
 use mathlib.Core.List.{List, [], _∷_, map, flatMap}
 use Prim.Native.Nat.{ℕ, suc, _-_}
 use lib.Dec.{ltb, eqb}
-use Rattle.lists.specs.Lists.{range}
+use Rattle.lists.specs.Lists.{range, filter}
 use Rattle.mesh.specs.Limits.{max-neighbours}
-use Rattle.mesh.specs.Graph.{Link, link-of, Graph, relinked}
+use Rattle.mesh.specs.Graph.{Link, link-of, Graph, radios, relinked}
 use Rattle.mesh.specs.Cores.{number}
-use Rattle.mesh.specs.Staircase.{filter-links}
 use Rattle.calls.specs.Questions.{Lengths, ask, is-radio, site-refusal, ends-refusal}
-
-unfoldable pub all-pairs : (n : ℕ) → List Link
-all-pairs n = flatMap (λ a. map (link-of a) (range (suc a) (n - suc a))) (range 0 n)
 
 -- document 02: a pair whose link is down, would be accepted now, and would raise that radio's core number
 unfoldable pub lifts : Graph → (v : ℕ) → Link → Bool
@@ -25,8 +21,11 @@ lifts g v l =
     eqb (ends-refusal max-neighbours true (g .n) (l .low) (l .high) g) 0
     && ltb (number g v) (number (relinked true (l .low) (l .high) g) v)
 
+unfoldable pub lifting-from : Graph → (v a : ℕ) → List Link
+lifting-from g v a = map (link-of a) (filter (λ b. lifts g v (link-of a b)) (range (suc a) (g .n - suc a)))
+
 unfoldable pub lifting : Graph → (v : ℕ) → List Link
-lifting g v = let does = lifts g v in filter-links does (all-pairs (g .n))
+lifting g v = flatMap (lifting-from g v) (radios g)
 
 -- zeros where there is none
 unfoldable pub first-pair : List Link → Link

@@ -42,7 +42,7 @@ impl Refusal {
 
     pub const MARKS_FULL: u32 = 19;
 
-    pub const NO_PAIR: u32 = 20;
+    pub const NO_LIFT: u32 = 20;
 }
 
 // The answer of a link call: refusal number, step (+1, -1, or 0 when nothing changed), count of changed radios.
