@@ -1,2 +1,3 @@
--- Laws of the search: `PeelLaws` for the leaves of the peel.
+-- Laws of the search: `PeelLaws` for the leaves of the peel, `PeelSteps` for its turns.
 mod PeelLaws
+mod PeelSteps

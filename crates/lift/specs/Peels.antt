@@ -5,6 +5,7 @@
 --   Due                a set has exactly the radios that are to be taken
 --   Lowered            some radios, where they are left, have one less, and are due where they are then to be taken
 --   Peel-state         a peel on its way, with nothing held taken
+--   Peel-begin         what a peel begins with
 --   Peel-end           what the peel comes back with
 -- A set of radios is one row. Definitions only.
 use mathlib.Core.Path.{_≡_}
@@ -45,15 +46,23 @@ pub record Lowered (k a : ℕ) (held xs cs due ds new : List ℕ) : Type 0 where
 -- no held radio is taken
 pub record Peel-state (links held : List ℕ) (k a : ℕ) (cs due : List ℕ) : Type 0 where
   pub peeling : Peeling (graph-of links) k a cs
+  pub low : k < 128
   pub long : length cs ≡ max-radios
   pub due-long : length due ≡ row-bytes
   pub due-is : Due k a held cs due
-  pub kept : (w : ℕ) → marked held 0 w ≡ true → stays (graph-of links) k cs w ≡ true
+  pub kept : (w : ℕ) → w < max-radios → marked held 0 w ≡ true → stays (graph-of links) k cs w ≡ true
+
+pub record Peel-begin (links held : List ℕ) (k a r : ℕ) (cs : List ℕ) : Type 0 where
+  pub peeling : Peeling (graph-of links) k a cs
+  pub low : k < 128
+  pub long : length cs ≡ max-radios
+  pub kept : (w : ℕ) → w < max-radios → marked held 0 w ≡ true → stays (graph-of links) k cs w ≡ true
+  pub there : left cs r ≡ true
 
 -- `is-left` is whether r is left; where it is, what is left, but for a and the held ones, has more than k neighbours that stay
 pub record Peel-end (links held : List ℕ) (k a r : ℕ) (cs : List ℕ) (is-left : Bool) : Type 0 where
   pub peeling : Peeling (graph-of links) k a cs
   pub long : length cs ≡ max-radios
-  pub kept : (w : ℕ) → marked held 0 w ≡ true → stays (graph-of links) k cs w ≡ true
+  pub kept : (w : ℕ) → w < max-radios → marked held 0 w ≡ true → stays (graph-of links) k cs w ≡ true
   pub answer : is-left ≡ left cs r
   pub done : is-left ≡ true → (w : ℕ) → left cs w ≡ true → (w ≡ a → ⊥) → marked held 0 w ≡ false → k < getD cs w 255

@@ -1,2 +1,3 @@
 // One link that lifts a radio.
 mod peel;
+mod tries;

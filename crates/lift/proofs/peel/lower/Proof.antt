@@ -47,5 +47,6 @@ returns c =
 pub lower-spec : {M : Type 1} → statement M
 lower-spec =
     tie.close (
-    tie.spec Inv-loop μ-loop loop-holds (λ c. search needs) (λ c. search needs) (λ c. search needs) lower-one-requires (λ c. search needs)
+    tie.spec Inv-loop μ-loop loop-holds (λ c. search needs) (λ c. search needs)
+    (λ c. omega (arith, c .shared-slice-known3 .given (c .before .before .loop .i))) lower-one-requires (λ c. search needs)
     (λ c. search needs) loop-again (λ c. c .before .loop .inv .long) (λ c. c .before .loop .inv .due-long) returns)
