@@ -2,7 +2,7 @@
 --   is-due        what each test of the code says of it
 --   Lowered       of nobody, of one radio, of one radio and then others
 --   Lowering      the listed radios from place i on are left
---   Marking       the radios below v are marked where they are due
+--   Marking       the radios below v are marked where they pass a test
 use mathlib.Core.Path.{_≡_, refl, sym, ap, subst, _∙_}
 use mathlib.Core.Logic.{_⊎_, inl, inr}
 use mathlib.Core.Bool.{Bool, true, false, _&&_, _||_, not, cond}
@@ -21,7 +21,7 @@ use Rattle.mesh.specs.Limits.{max-radios, row-bytes}
 use Rattle.mesh.specs.Tables.{marked, put-bit, byte-at}
 use Rattle.mesh.proofs.Tables.Laws.{marked-put-bit, length-put-bit}
 use Rattle.lifting.specs.Peeling.{left}
-use Rattle.lift.specs.Peels.{is-due, Due, Lowered}
+use Rattle.lift.specs.Peels.{is-due, Lowered}
 
 -- ---- tests
 
@@ -57,36 +57,35 @@ module _ (k a : ℕ) (held cs : List ℕ) (v : ℕ) (l : v < length cs) where
   unfolding is-due
   due-other t h ne e = rw (le-leb (getD cs v 255) k (omega (arith, getD-any cs v 0 255 l)), ne-eqb v a ne, e)
 
--- ---- the radios marked where they are due
+-- ---- radios marked where they pass a test
 
--- the radios below v are marked
-pub record Marking (k a : ℕ) (held cs old : List ℕ) (v : ℕ) (due : List ℕ) : Type 0 where
-  pub long : length due ≡ length old
-  pub low : v ≤ max-radios
-  pub is : (w : ℕ) → w < v → marked due 0 w ≡ is-due k a held cs w
+-- the radios below v are marked where they pass, the others as before
+pub record Marking (f : ℕ → Bool) (old : List ℕ) (v : ℕ) (row : List ℕ) : Type 0 where
+  pub long : length row ≡ length old
+  pub is : (w : ℕ) → w < v → w < max-radios → marked row 0 w ≡ f w
+  pub other : (w : ℕ) → v ≤ w → w < max-radios → marked row 0 w ≡ marked old 0 w
 
-module _ (k a : ℕ) (held cs old : List ℕ) (room : length old ≡ row-bytes) where
-  pub marking-none : Marking k a held cs old 0 old
-  marking-none = record { long = refl; low = omega arith; is = λ w l. absurd (let no : ⊥ = omega arith in no) }
+module _ (f : ℕ → Bool) (old : List ℕ) (room : length old ≡ row-bytes) where
+  pub marking-none : Marking f old 0 old
+  marking-none = record { long = refl; is = λ w l lw. absurd (omega arith); other = λ w l lw. refl }
 
-  pub marking-turn : (v : ℕ) (due new : List ℕ) → v < max-radios → new ≡ put-bit (is-due k a held cs v) 0 v due → Marking k a held cs old v due
-      → Marking k a held cs old (v + 1) new
+  pub marking-turn : (v : ℕ) (row new : List ℕ) → v < max-radios → new ≡ put-bit (f v) 0 v row → Marking f old v row → Marking f old (v + 1) new
   unfolding byte-at
-  marking-turn v due new l e h = record {
-    long = ap length e ∙ length-put-bit (is-due k a held cs v) 0 v due ∙ h .long;
-    low = omega arith;
-    is = λ w lw. ap (λ (ds : List ℕ). marked ds 0 w) e ∙ put w lw ∙ at w lw (bool-cases (eqb v w));
+  marking-turn v row new l e h = record {
+    long = ap length e ∙ length-put-bit (f v) 0 v row ∙ h .long;
+    is = λ w less lw. put w lw ∙ at w less lw (bool-cases (eqb v w));
+    other = λ w more lw. put w lw ∙ rw (ne-eqb v w (λ q. past v w more q)) (h .other w (omega arith) lw);
   }
     where
-      put : (w : ℕ) → w < v + 1 → marked (put-bit (is-due k a held cs v) 0 v due) 0 w ≡ cond (eqb 0 0 && eqb v w) (is-due k a held cs v) (marked due 0 w)
-      put w lw = marked-put-bit (is-due k a held cs v) 0 v due 0 w l (omega arith) (omega (arith, h .long, room))
+      put : (w : ℕ) → w < max-radios → marked new 0 w ≡ cond (eqb 0 0 && eqb v w) (f v) (marked row 0 w)
+      put w lw = ap (λ (xs : List ℕ). marked xs 0 w) e ∙ marked-put-bit (f v) 0 v row 0 w l lw (omega (arith, h .long, room))
 
-      at : (w : ℕ) → w < v + 1 → (eqb v w ≡ true) ⊎ (eqb v w ≡ false) → cond (eqb 0 0 && eqb v w) (is-due k a held cs v) (marked due 0 w) ≡ is-due k a held cs w
-      at w lw (inl q) = rw q (ap (is-due k a held cs) (eqb-true v w q))
-      at w lw (inr q) = rw q (h .is w (less-other v w lw (eqb-false v w q)))
+      past : (v w : ℕ) → v + 1 ≤ w → v ≡ w → ⊥
+      past v w more q = omega arith
 
-  pub marking-end : (v : ℕ) (due : List ℕ) → max-radios ≤ v → Marking k a held cs old v due → Due k a held cs due
-  marking-end v due l h = λ w lw. h .is w (omega arith)
+      at : (w : ℕ) → w < v + 1 → w < max-radios → (eqb v w ≡ true) ⊎ (eqb v w ≡ false) → cond (eqb 0 0 && eqb v w) (f v) (marked row 0 w) ≡ f w
+      at w less lw (inl q) = rw q (ap f (eqb-true v w q))
+      at w less lw (inr q) = rw q (h .is w (less-other v w less (eqb-false v w q)) lw)
 
 -- ---- nobody lowered
 

@@ -1,20 +1,14 @@
+-- `tries::is_carried` meets its contract: each return is a case of `carried`.
+use Rattle.lift.proofs.TryLaws.{carried-gone, carried-left}
 use borrow.Author.Needs.{needs}
 use Rattle.lift.proofs.tries.is_carried.Statement.{statement}
 use Rattle.lift.proofs.tries.is_carried.Tie as tie
-use Rattle.lift.proofs.tries.is_carried.Reads as reads
-use Rattle.lift.proofs.tries.is_carried.Lts as lts
 
--- src/tries.rt:86:13
-shared-slice-read-c : tie.Need-shared-slice-read-c
-shared-slice-read-c c = search needs
-
--- src/tries.rt:88:9
 returns : tie.Need-returns
-returns c = ?
+returns c = carried-gone _ _ _ (c .before .before .pre) (c .if1 .taken)
 
--- src/tries.rt:82:1
 returns-2 : tie.Need-returns-2
-returns-2 c = ?
+returns-2 c = carried-left _ _ _ (c .before .before .pre) (c .if1 .left)
 
 pub is-carried-spec : {M : Type 1} → statement M
-is-carried-spec = tie.close (tie.spec shared-slice-read-c returns returns-2)
+is-carried-spec = tie.close (tie.spec (λ c. search needs) returns returns-2)

@@ -1,69 +1,44 @@
+-- `tries::rule_out` meets its contract: the radios below c are ruled out or stay (`Ruling`). The measure is the radios left.
+use mathlib.Core.Path.{_≡_, sym, _∙_}
+use mathlib.Core.Logic.{⊎-elim}
+use mathlib.Core.Bool.{false, cond}
+use Prim.Native.Nat.{_-_, _≤_}
+use native.Mathlib.Omega.{arith}
+use lib.ListN.{length}
+use Rattle.lists.proofs.Tests.{cond-true, cond-false}
+use Rattle.mesh.specs.Tables.{put-bit}
+use Rattle.lift.proofs.TryLaws.{Ruling, ruling-none, ruling-turn, ruling-end}
+use borrow.Author.Needs.{needs}
 use Rattle.lift.proofs.tries.rule_out.Statement.{statement}
 use Rattle.lift.proofs.tries.rule_out.Tie as tie
-use Rattle.lift.proofs.tries.rule_out.Reads as reads
-use Rattle.lift.proofs.tries.rule_out.Lts as lts
-use Rattle.lift.proofs.tries.is_ruled_out.Reads as is-ruled-out-reads
-use Rattle.rows.proofs.put_bit.Reads as put-bit-reads
 
 abbrev Inv-loop : tie.InvT-loop
-Inv-loop level gone numbers counters untried₀ c₀ untried c = ?
+Inv-loop level gone numbers counters untried₀ c₀ untried c = Ruling level gone numbers counters untried₀ c untried × (c ≤ length numbers)
 
 abbrev μ-loop : tie.MeasureT-loop
-μ-loop level gone numbers counters untried₀ c₀ untried c = ?
+μ-loop level gone numbers counters untried₀ c₀ untried c = length numbers - c
 
--- src/tries.rt:128:5
 loop-holds : tie.Need-loop-holds Inv-loop μ-loop
-loop-holds c = ?
+loop-holds c = (ruling-none _ _ _ _ _ (c .before .before .before .pre .3), omega arith)
 
--- src/tries.rt:129:25
-cast-is-ruled-out : tie.Need-cast-is-ruled-out Inv-loop μ-loop
-cast-is-ruled-out c = ?
-
--- src/tries.rt:129:12
-is-ruled-out-requires : tie.Need-is-ruled-out-requires Inv-loop μ-loop
-is-ruled-out-requires c κs = ?
-
--- src/tries.rt:130:46
-cast-put-bit : tie.Need-cast-put-bit Inv-loop μ-loop
-cast-put-bit c = ?
-
--- src/tries.rt:130:13
-put-bit-requires : tie.Need-put-bit-requires Inv-loop μ-loop
-put-bit-requires c κs = ?
-
--- src/tries.rt:132:9
-add-c : tie.Need-add-c Inv-loop μ-loop
-add-c c = ?
-
--- src/tries.rt:128:5
-loop-less : tie.Need-loop-less Inv-loop μ-loop
-loop-less c = ?
-
--- src/tries.rt:128:5
 loop-again : tie.Need-loop-again Inv-loop μ-loop
-loop-again c = ?
+loop-again c =
+    let at-loop = c .before .before .before in
+    let start = c .before .before .before .before .before .before .before in
+    let i = at-loop .loop .c in
+    let test = c .before .is-ruled-out in
+    let new : c .if1 .untried ≡ cond (test .result) (put-bit false 0 i (at-loop .loop .untried)) (at-loop .loop .untried) =
+    ⊎-elim (λ w. w .5 ∙ w .2 .ensures ∙ sym (cond-true _ _ _ (w .0 .taken))) (λ w. w .1 ∙ sym (cond-false _ _ _ (w .0 .left))) (c .if1 .came) in
+    (ruling-turn _ _ _ _ _ (start .pre .3) i (test .result) _ _ (omega (arith, start .pre .0, c .before .before .loop-test .taken)) (test .ensures) new (at-loop .loop .inv .0),
+    omega (arith, c .before .before .loop-test .taken))
 
--- src/tries.rt:123:1
-same-length : tie.Need-same-length Inv-loop μ-loop
-same-length c = ?
-
--- src/tries.rt:123:1
 returns : tie.Need-returns Inv-loop μ-loop
-returns c = ?
+returns c =
+    let at-loop = c .before in
+    ruling-end _ _ _ _ _ (c .before .before .before .before .before .pre .3) (at-loop .loop .c) _ (omega (arith, c .loop-test .left, at-loop .loop .inv .1)) (at-loop .loop .inv .0)
 
 pub rule-out-spec : {M : Type 1} → statement M
 rule-out-spec =
-    tie.close
-    (tie.spec
-    Inv-loop
-    μ-loop
-    loop-holds
-    cast-is-ruled-out
-    is-ruled-out-requires
-    cast-put-bit
-    put-bit-requires
-    add-c
-    loop-less
-    loop-again
-    same-length
-    returns)
+    tie.close (
+    tie.spec Inv-loop μ-loop loop-holds (λ c. search needs) (λ c κs. search needs) (λ c. search needs) (λ c κs. search needs) (λ c. search needs) (λ c. search needs)
+    loop-again (λ c. c .before .loop .inv .0 .long) returns)

@@ -1,63 +1,33 @@
+-- `tries::start` meets its contract: the counters of the radios below v stand (`Starting`). The measure is the radios left.
+use Prim.Native.Nat.{_-_}
+use native.Mathlib.Omega.{arith}
+use Rattle.mesh.specs.Limits.{max-radios}
+use Rattle.lift.proofs.TryLaws.{Starting, starting-none, starting-turn, starting-end}
+use borrow.Author.Needs.{needs}
 use Rattle.lift.proofs.tries.start.Statement.{statement}
 use Rattle.lift.proofs.tries.start.Tie as tie
-use Rattle.lift.proofs.tries.start.Reads as reads
-use Rattle.lift.proofs.tries.start.Lts as lts
-use Rattle.lift.proofs.tries.counter_of.Reads as counter-of-reads
 
 abbrev Inv-loop : tie.InvT-loop
-Inv-loop level numbers highs counters₀ v₀ counters v = ?
+Inv-loop level numbers highs counters₀ v₀ counters v = Starting level numbers highs counters₀ v counters
 
 abbrev μ-loop : tie.MeasureT-loop
-μ-loop level numbers highs counters₀ v₀ counters v = ?
+μ-loop level numbers highs counters₀ v₀ counters v = max-radios - v
 
--- src/tries.rt:36:5
 loop-holds : tie.Need-loop-holds Inv-loop μ-loop
-loop-holds c = ?
+loop-holds c = starting-none _ _ _ _ (c .before .before .before .pre .1)
 
--- src/tries.rt:36:15
-cast-loop : tie.Need-cast-loop Inv-loop μ-loop
-cast-loop c = ?
-
--- src/tries.rt:37:23
-counter-of-requires : tie.Need-counter-of-requires Inv-loop μ-loop
-counter-of-requires c κs = ?
-
--- src/tries.rt:37:9
 slice-write-counters : tie.Need-slice-write-counters Inv-loop μ-loop
-slice-write-counters c = ?
+slice-write-counters c = omega (arith, c .before .before .before .before .before .before .pre .1, c .before .before .loop .inv .long, c .before .loop-test .taken)
 
--- src/tries.rt:38:9
-add-v : tie.Need-add-v Inv-loop μ-loop
-add-v c = ?
-
--- src/tries.rt:36:5
-loop-less : tie.Need-loop-less Inv-loop μ-loop
-loop-less c = ?
-
--- src/tries.rt:36:5
 loop-again : tie.Need-loop-again Inv-loop μ-loop
-loop-again c = ?
+loop-again c =
+    starting-turn _ _ _ _ (c .before .before .before .before .before .before .pre .1) (c .before .before .loop .v) _ _ (c .before .loop-test .taken) (c .counter-of .ensures) (c .before .before .loop .inv)
 
--- src/tries.rt:31:1
-same-length : tie.Need-same-length Inv-loop μ-loop
-same-length c = ?
-
--- src/tries.rt:31:1
 returns : tie.Need-returns Inv-loop μ-loop
-returns c = ?
+returns c = starting-end _ _ _ _ (c .before .before .before .before .before .pre .1) (c .before .loop .v) _ (c .loop-test .left) (c .before .loop .inv)
 
 pub start-spec : {M : Type 1} → statement M
 start-spec =
-    tie.close
-    (tie.spec
-    Inv-loop
-    μ-loop
-    loop-holds
-    cast-loop
-    counter-of-requires
-    slice-write-counters
-    add-v
-    loop-less
-    loop-again
-    same-length
-    returns)
+    tie.close (
+    tie.spec Inv-loop μ-loop loop-holds (λ c. search needs) (λ c κs. search needs) slice-write-counters (λ c. search needs) (λ c. search needs) loop-again
+    (λ c. c .before .loop .inv .long) returns)
