@@ -3,3 +3,5 @@ mod PeelLaws
 mod PeelSteps
 mod TryLaws
 mod TrySteps
+mod SearchLaws
+mod SearchSteps

@@ -3,7 +3,6 @@
 // the radio rules others out too. Refused: 1 to 4, and 20 where there is no such pair. Tables are only read. No public function has a
 // `requires`.
 ghost use mathlib.Core.Path.{_≡_};
-ghost use Prim.Native.Nat.{_≤_};
 ghost use lib.ListN.{length};
 ghost use Rattle.mesh.specs.Limits.{max-radios};
 ghost use Rattle.mesh.specs.Tables.{lent};
@@ -45,17 +44,6 @@ fn checked<'a>(
     0
 }
 
-// The answer of a refusal.
-fn refused(number: u32) -> Pair
-    ensures { λ r. ⌜ (r .number ≡ number) × (r .low ≡ 0) × (r .high ≡ 0) ⌝ }
-{
-    Pair {
-        number,
-        low: 0,
-        high: 0,
-    }
-}
-
 // The first pair, by lower radio and then higher, whose link is down, would be taken up now and would raise the number of v. Or the
 // refusal number, 1 to 4 or 20, and zeros.
 pub fn lift<'a>(n: u32, v: u32, links: &'a [u8], numbers: &'a [u8], order: &'a [u16]) -> Pair
@@ -64,14 +52,26 @@ pub fn lift<'a>(n: u32, v: u32, links: &'a [u8], numbers: &'a [u8], order: &'a [
     let mut highs = [0u8; Site::RADIOS as usize];
     let number = checked(n, links, numbers, order, &mut highs);
     if number != 0 {
-        return refused(number);
+        return Pair {
+            number,
+            low: 0,
+            high: 0,
+        };
     }
     if n <= v {
-        return refused(Refusal::RADIO);
+        return Pair {
+            number: Refusal::RADIO,
+            low: 0,
+            high: 0,
+        };
     }
     let pair = search::first_pair(links, numbers, &highs, v);
     if pair.low == Site::RADIOS {
-        return refused(Refusal::NO_LIFT);
+        return Pair {
+            number: Refusal::NO_LIFT,
+            low: 0,
+            high: 0,
+        };
     }
     Pair {
         number: 0,

@@ -1,7 +1,9 @@
 // The search over pairs, by lower and then higher radio: for each lower end the pairs that may lift the radio are tried, the lowest higher
 // end first, until one lifts it or all are ruled out.
 ghost use mathlib.Core.Path.{_≡_};
+ghost use mathlib.Core.Bool.{_||_};
 ghost use Prim.Native.Nat.{_≤_, _<_};
+ghost use lib.Dec.{eqb};
 ghost use lib.ListN.{length, getD};
 ghost use Rattle.mesh.specs.Limits.{max-radios, row-bytes};
 ghost use Rattle.lift.specs.Tries.{Search-site};
@@ -38,6 +40,17 @@ fn mark_free(level: u8, links: &[u8], numbers: &[u8], free: &mut [u8])
     }
 }
 
+// Whether one of two radios is of the level.
+fn has_level(a: u32, c: u32, level: u8, numbers: &[u8]) -> bool
+    requires { ⌜ (a < length (now numbers)) × (c < length (now numbers)) ⌝ }
+    ensures { λ x. ⌜ x ≡ (eqb (getD (now (numbers .entry)) a 0) level || eqb (getD (now (numbers .entry)) c 0) level) ⌝ }
+{
+    if numbers[a as usize] == level {
+        return true;
+    }
+    numbers[c as usize] == level
+}
+
 // Whether the pair a, c may lift a radio of the level, where a may be an end: c may be one too, the lower number is the level, and the
 // link is down.
 fn may_lift(a: u32, c: u32, level: u8, links: &[u8], numbers: &[u8], free: &[u8]) -> bool
@@ -50,10 +63,8 @@ fn may_lift(a: u32, c: u32, level: u8, links: &[u8], numbers: &[u8], free: &[u8]
     if !rows::is_marked(free, 0, c) {
         return false;
     }
-    if numbers[a as usize] != level {
-        if numbers[c as usize] != level {
-            return false;
-        }
+    if !has_level(a, c, level, numbers) {
+        return false;
     }
     !rows::is_marked(links, a, c)
 }
