@@ -1,9 +1,10 @@
 -- The leaves of the search over pairs, and the questions before it.
 --   is-free, may-lift     what each test of the code says of them
 --   checked-..            questions 1 to 3, and what the search reads
+--   answer-..             what the call answers
 use mathlib.Core.Path.{_≡_, refl, sym, ap, subst, _∙_}
 use mathlib.Core.Bool.{Bool, true, false, _&&_, _||_, not}
-use mathlib.Core.List.{List}
+use mathlib.Core.List.{List, []}
 use Prim.Native.Nat.{ℕ, _*_, _/_, _≤_, _<_}
 use native.Mathlib.Omega.{arith}
 use lib.Dec.{ltb, leb, eqb}
@@ -11,13 +12,19 @@ use lib.ListN.{length, getD}
 use borrow.Author.Tests.{eq-eqb, ne-eqb, lt-ltb, le-ltb, le-leb, lt-leb, not-true, not-false}
 use Rattle.lists.proofs.Tests.{and-right}
 use Rattle.mesh.specs.Limits.{max-radios, max-neighbours, row-bytes}
-use Rattle.mesh.specs.Graph.{neighbours-in}
 use Rattle.mesh.specs.Tables.{Tables, tables, marked, graph-in}
 use Rattle.mesh.specs.Sound.{sound}
-use Rattle.calls.specs.Questions.{Lengths, lengths-of, site-refusal, tables-refusal, ask}
+use Rattle.mesh.specs.Graph.{link-of, neighbours-in}
+use Rattle.calls.specs.Questions.{lengths-of, tables-refusal, radio-refusal, ask}
+use Rattle.calls.specs.Lift.{lifting, first-pair, is-lifted}
+use Rattle.calls.specs.LiftOutcome.{pair}
+use Rattle.calls.specs.Contracts.Lift.{Lift-contract}
+use Rattle.calls.proofs.ChainLaws.{Site-good, site-zero}
+use Rattle.calls.proofs.LiftOutcome.{lift-refused, lift-unanswered, lift-answered}
 use Rattle.rows.specs.Rows.{row-count}
 use Rattle.soundness.specs.Checks.{fits-sound, examinable, Examined}
 use Rattle.soundness.proofs.ExamineLaws.{examinable-room, fits-sound-lent, site-refused, site-lent}
+use Rattle.soundness.proofs.RadioLaws.{radio-no, radio-four, radio-none}
 use Rattle.soundness.proofs.HighCounts.{examined-high}
 use Rattle.soundness.proofs.SoundSite.{fits-sound-site}
 use Rattle.lift.specs.Peels.{graph-of}
@@ -88,7 +95,7 @@ module _ (n : ℕ) (t : Tables) (highs : List ℕ) (q : ℕ) (lent : q ≡ table
       ready = λ z. absurd (three z);
     }
       where
-        three : 3 ≡ 0 → ⊥
+        three : _≡_ {A = ℕ} 3 0 → ⊥
         three z = omega arith
 
     pub checked-sound : (x : Bool) → Examined n t ps qs hs highs x → not x ≡ false → Checked n t highs 0
@@ -112,3 +119,39 @@ module _ (n : ℕ) (t : Tables) (highs : List ℕ) (q : ℕ) (lent : q ≡ table
           counted = λ v l. examined-high examined v (omega (arith, fits-sound-site n t is-sound .numbers-long))
             ∙ ap (λ (m : ℕ). neighbours-in (graph-in m (t .links)) v (λ w. leb (getD (t .numbers) v 0) (getD (t .numbers) w 0))) rows;
         }
+
+-- ---- the answer
+
+module _ (n v : ℕ) (t : Tables) (highs : List ℕ) (q : ℕ) (c : Checked n t highs q) (none : q ≡ 0) where
+  good : Site-good n (lengths-of t) true (sound n t)
+  good = site-zero n (lengths-of t) true (sound n t) 0 (sym (c .asked) ∙ none) .0
+
+  pub checked-radios : length (t .numbers) ≡ n
+  unfolding lengths-of
+  checked-radios = good .lent .lengths .numbers
+
+  rows-are : length (t .links) / row-bytes ≡ n
+  unfolding lengths-of
+  rows-are = omega (arith, good .lent .lengths .links)
+
+  module _ (lv : v < n) where
+    asked-all : radio-refusal n v (lengths-of t) (sound n t) ≡ 0
+    asked-all = sym (radio-none n v (lengths-of t) (sound n t) q (c .asked) none lv)
+
+    pub answer-none : lifting (graph-of (t .links)) v ≡ [] → Lift-contract n v t (pair 20 0 0)
+    answer-none h = lift-unanswered n v t asked-all (subst (λ (m : ℕ). lifting (graph-in m (t .links)) v ≡ []) rows-are h)
+
+    pub answer-some : (a b : ℕ) → (is-lifted (lifting (graph-of (t .links)) v) ≡ true) × (first-pair (lifting (graph-of (t .links)) v) ≡ link-of a b)
+        → Lift-contract n v t (pair 0 a b)
+    answer-some a b h =
+        lift-answered n v t asked-all a b
+        (subst (λ (m : ℕ). (is-lifted (lifting (graph-in m (t .links)) v) ≡ true) × (first-pair (lifting (graph-in m (t .links)) v) ≡ link-of a b)) rows-are h)
+
+pub answer-refused : (n v : ℕ) (t : Tables) (highs : List ℕ) (q : ℕ) → Checked n t highs q → (q ≡ 0 → ⊥) → Lift-contract n v t (pair q 0 0)
+answer-refused n v t highs q c ne = lift-refused n v t q (radio-no n v (lengths-of t) (sound n t) q (c .asked) ne) ne
+
+pub answer-past : (n v : ℕ) (t : Tables) (highs : List ℕ) (q : ℕ) → Checked n t highs q → q ≡ 0 → n ≤ v → Lift-contract n v t (pair 4 0 0)
+answer-past n v t highs q c none past = lift-refused n v t 4 (radio-four n v (lengths-of t) (sound n t) q (c .asked) none past) four
+  where
+    four : _≡_ {A = ℕ} 4 0 → ⊥
+    four z = omega arith

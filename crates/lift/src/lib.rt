@@ -66,7 +66,7 @@ pub fn lift<'a>(n: u32, v: u32, links: &'a [u8], numbers: &'a [u8], order: &'a [
         };
     }
     let pair = search::first_pair(links, numbers, &highs, v);
-    if pair.low == Site::RADIOS {
+    if Site::RADIOS <= pair.low {
         return Pair {
             number: Refusal::NO_LIFT,
             low: 0,
