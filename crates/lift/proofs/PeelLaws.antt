@@ -265,7 +265,7 @@ module _ (k a : ℕ) (held xs old old-due : List ℕ) where
             due-long = one .due-long ∙ h .due-long;
             once = both .1;
             whole = λ es end r. h .whole es end (subst (λ (ys : List ℕ). Lowered k a held ys cs due es end) (sym cut)
-              (lowered-cons k a x held (drop (i + 1) xs) cs due ds new es end (both .0) one r));
+                (lowered-cons k a x held (drop (i + 1) xs) cs due ds new es end (both .0) one r));
           }
 
   pub lowering-end : (i : ℕ) (cs due : List ℕ) → length xs ≤ i → Lowering k a held xs old old-due i cs due → Lowered k a held xs old old-due cs due

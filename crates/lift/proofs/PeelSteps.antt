@@ -86,7 +86,7 @@ module _ (links held : List ℕ) (k a : ℕ) (cs due : List ℕ) (s : Sound-link
   unfolding is-due
   not-low-end =
       eqb-false v a (not-true (eqb v a)
-        (and-left (not (eqb v a)) (not (marked held 0 v)) (and-right (leb (getD cs v 255) k) (not (eqb v a) && not (marked held 0 v)) own-due)))
+      (and-left (not (eqb v a)) (not (marked held 0 v)) (and-right (leb (getD cs v 255) k) (not (eqb v a) && not (marked held 0 v)) own-due)))
 
   not-held : marked held 0 v ≡ false
   unfolding is-due
@@ -149,9 +149,9 @@ module _ (links held : List ℕ) (k a : ℕ) (cs due : List ℕ) (s : Sound-link
     taken = record {
       own = own-after;
       near = λ w ne l q.
-        let above = peeling-near (graph-of links) (s .order) (links-valid links s) k a cs v w (h .peeling) own-left l q in
-        let less = after-other w ne ∙ cond-true (left cs w && linked (graph-of links) v w) (getD cs w 255 - 1) (getD cs w 255) (and-both (left cs w) (linked (graph-of links) v w) l q) in
-        omega (arith, above, less);
+          let above = peeling-near (graph-of links) (s .order) (links-valid links s) k a cs v w (h .peeling) own-left l q in
+          let less = after-other w ne ∙ cond-true (left cs w && linked (graph-of links) v w) (getD cs w 255 - 1) (getD cs w 255) (and-both (left cs w) (linked (graph-of links) v w) l q) in
+          omega (arith, above, less);
       far = λ w ne q. after-other w ne ∙ cond-false (left cs w && linked (graph-of links) v w) (getD cs w 255 - 1) (getD cs w 255) q;
     }
 
@@ -177,7 +177,7 @@ module _ (links held : List ℕ) (k a : ℕ) (cs due : List ℕ) (s : Sound-link
     due-less w ne q =
         and-both (leb (getD ds w 255) k) (not (eqb w a) && not (marked held 0 w))
         (le-leb (getD ds w 255) k
-          (omega (arith, never-more w ne, leb-true (getD cs w 255) k (and-left (leb (getD cs w 255) k) (not (eqb w a) && not (marked held 0 w)) q))))
+        (omega (arith, never-more w ne, leb-true (getD cs w 255) k (and-left (leb (getD cs w 255) k) (not (eqb w a) && not (marked held 0 w)) q))))
         (and-right (leb (getD cs w 255) k) (not (eqb w a) && not (marked held 0 w)) q)
 
     due-same : (w : ℕ) → getD ds w 255 ≡ getD cs w 255 → is-due k a held cs w ≡ is-due k a held ds w

@@ -117,7 +117,7 @@ module _ (n : ℕ) (t : Tables) (highs : List ℕ) (q : ℕ) (lent : q ≡ table
           is-sound = subst (λ (m : ℕ). fits-sound m t ≡ true) rows is-sound;
           highs-long = omega (arith, fits-sound-site n t is-sound .numbers-long, fits-sound-site n t is-sound .small, examined .highs-long, high-room);
           counted = λ v l. examined-high examined v (omega (arith, fits-sound-site n t is-sound .numbers-long))
-            ∙ ap (λ (m : ℕ). neighbours-in (graph-in m (t .links)) v (λ w. leb (getD (t .numbers) v 0) (getD (t .numbers) w 0))) rows;
+              ∙ ap (λ (m : ℕ). neighbours-in (graph-in m (t .links)) v (λ w. leb (getD (t .numbers) v 0) (getD (t .numbers) w 0))) rows;
         }
 
 -- ---- the answer

@@ -76,9 +76,10 @@ module _ (links numbers highs : List ℕ) (s : Search-site links numbers highs) 
     free-is : (v : ℕ) → v < length numbers → marked free 0 v ≡ true → (k ≤ number g v) × (degree g v < max-neighbours)
     unfolding is-free
     free-is v l e =
-        let both : (leb k (getD numbers v 0) && ltb (row-count max-neighbours links v) max-neighbours) ≡ true = sym (fr .is v l) ∙ e in
-        (omega (arith, entry v l, leb-true k (getD numbers v 0) (and-left (leb k (getD numbers v 0)) (ltb (row-count max-neighbours links v) max-neighbours) both)),
-        omega (arith, row-degree-is v l, ltb-true (row-count max-neighbours links v) max-neighbours (and-right (leb k (getD numbers v 0)) (ltb (row-count max-neighbours links v) max-neighbours) both)))
+        let both : (leb k (getD numbers v 0) && ltb (row-count max-neighbours links v) max-neighbours) ≡ true = sym (fr .is v l) ∙ e in (
+          omega (arith, entry v l, leb-true k (getD numbers v 0) (and-left (leb k (getD numbers v 0)) (ltb (row-count max-neighbours links v) max-neighbours) both)),
+          omega (arith, row-degree-is v l, ltb-true (row-count max-neighbours links v) max-neighbours (and-right (leb k (getD numbers v 0)) (ltb (row-count max-neighbours links v) max-neighbours) both)),
+        )
 
     is-free-of : (v : ℕ) → v < length numbers → k ≤ number g v → degree g v < max-neighbours → marked free 0 v ≡ true
     unfolding is-free
@@ -104,10 +105,11 @@ module _ (links numbers highs : List ℕ) (s : Search-site links numbers highs) 
           let rest = and-right (ltb a c) (marked free 0 c && (has c && not (marked links a c))) e in
           let last = and-right (marked free 0 c) (has c && not (marked links a c)) rest in
           let own = free-is a la on in
-          let other = free-is c lc (and-left (marked free 0 c) (has c && not (marked links a c)) rest) in
-          (ltb-true a c (and-left (ltb a c) (marked free 0 c && (has c && not (marked links a c))) e),
-          candidate-made g k a c (lower-is c lc (own .0) (other .0) (and-left (has c) (not (marked links a c)) last))
-          (linked-is a c la lc ∙ not-true (marked links a c) (and-right (has c) (not (marked links a c)) last)) (own .1) (other .1))
+          let other = free-is c lc (and-left (marked free 0 c) (has c && not (marked links a c)) rest) in (
+            ltb-true a c (and-left (ltb a c) (marked free 0 c && (has c && not (marked links a c))) e),
+            candidate-made g k a c (lower-is c lc (own .0) (other .0) (and-left (has c) (not (marked links a c)) last))
+                (linked-is a c la lc ∙ not-true (marked links a c) (and-right (has c) (not (marked links a c)) last)) (own .1) (other .1),
+          )
 
       level-of : (c : ℕ) → c < length numbers → min (number g a) (number g c) ≡ k → has c ≡ true
       level-of c lc e = go (bool-cases (eqb (getD numbers a 0) k))
@@ -123,9 +125,10 @@ module _ (links numbers highs : List ℕ) (s : Search-site links numbers highs) 
       candidate-may c ac lc e =
           let level = candidate-level g k a c e in
           let ok = candidate-allowed g k a c ac (omega (arith, graph-radios links numbers highs s)) e in
-          let room = ok .room refl in
-          (is-free-of a la (omega (arith, level)) (room .0),
-          rw (lt-ltb a c ac, is-free-of c lc (omega (arith, level)) (room .1), level-of c lc level, sym (linked-is a c la lc) ∙ ok .state))
+          let room = ok .room refl in (
+            is-free-of a la (omega (arith, level)) (room .0),
+            rw (lt-ltb a c ac, is-free-of c lc (omega (arith, level)) (room .1), level-of c lc level, sym (linked-is a c la lc) ∙ ok .state),
+          )
 
       pub end-closed : marked free 0 a ≡ false → Higher-end links r a max-radios
       end-closed off = record {
@@ -147,7 +150,7 @@ module _ (links numbers highs : List ℕ) (s : Search-site links numbers highs) 
           long = m .long ∙ length-replicate {A = ℕ} row-bytes 0;
           candidates = λ c lc q. own c lc q (bool-cases (ltb c (length numbers)));
           rest = untried-start g (s .order) valid k r a lr-graph kr (marked new 0)
-            (λ c ac lc q. other c ac (omega (arith, graph-radios links numbers highs s)) q (bool-cases (candidate g k a c)));
+              (λ c ac lc q. other c ac (omega (arith, graph-radios links numbers highs s)) q (bool-cases (candidate g k a c)));
         }
           where
             own : (c : ℕ) → c < max-radios → marked new 0 c ≡ true → (ltb c (length numbers) ≡ true) ⊎ (ltb c (length numbers) ≡ false)

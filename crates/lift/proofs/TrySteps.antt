@@ -89,9 +89,9 @@ module _ (links numbers highs : List ℕ) (s : Search-site links numbers highs) 
       s .counted v l
       ∙ le-antisymm
       (neighbours-in-subset g v (λ w. leb (getD numbers v 0) (getD numbers w 0)) (λ w. leb (number g v) (number g w))
-        (λ w lw q. subst (λ (b : Bool). b ≡ true) (same w lw) q))
+      (λ w lw q. subst (λ (b : Bool). b ≡ true) (same w lw) q))
       (neighbours-in-subset g v (λ w. leb (number g v) (number g w)) (λ w. leb (getD numbers v 0) (getD numbers w 0))
-        (λ w lw q. subst (λ (b : Bool). b ≡ true) (sym (same w lw)) q))
+      (λ w lw q. subst (λ (b : Bool). b ≡ true) (sym (same w lw)) q))
     where
       same : (w : ℕ) → w < g .n → leb (getD numbers v 0) (getD numbers w 0) ≡ leb (number g v) (number g w)
       same w lw = rw (number-is v l, number-is w (omega (arith, graph-radios)))
@@ -137,7 +137,7 @@ module _ (links numbers highs : List ℕ) (s : Search-site links numbers highs) 
       started a la ka =
           peeling-starts g (s .order) valid k a cs (omega (arith, graph-radios)) ka (λ v lv e. own-start v (omega (arith, graph-radios)) e)
           (λ v lv ne. st v (omega (arith, graph-radios, site-small))
-            ∙ sym (start-other k numbers highs v (omega (arith, graph-radios)) (λ e. ne (sym (number-is v (omega (arith, graph-radios))) ∙ e))))
+          ∙ sym (start-other k numbers highs v (omega (arith, graph-radios)) (λ e. ne (sym (number-is v (omega (arith, graph-radios))) ∙ e))))
           past-start
 
       pub tried-begin : (a b : ℕ) (untried : List ℕ) → b < max-radios → marked untried 0 b ≡ true → Trying links r a untried → Peel-begin links untried k a r cs
@@ -174,13 +174,13 @@ module _ (links numbers highs : List ℕ) (s : Search-site links numbers highs) 
       pub tried-found : t ≡ true → Tried links r a b old old true
       tried-found passed = record {
         does = λ e.
-          let all : (x && (carried k cs a && carried k cs b)) ≡ true = sym test ∙ passed in
-          let left-yes : x ≡ true = and-left x (carried k cs a && carried k cs b) all in
-          let both = and-right x (carried k cs a && carried k cs b) all in
-          peeling-lifts g (s .order) valid k r a b lr-graph level-is cs (end .peeling)
-          (candidate-allowed g k a b (try .candidates b small on .0) b-radio (subst (λ (y : ℕ). candidate g y a b ≡ true) level-is (try .candidates b small on .2)))
-          (end .high-end) (fits a (and-left (carried k cs a) (carried k cs b) both)) (fits b (and-right (carried k cs a) (carried k cs b) both)) (end .done left-yes)
-          (sym (end .answer) ∙ left-yes);
+            let all : (x && (carried k cs a && carried k cs b)) ≡ true = sym test ∙ passed in
+            let left-yes : x ≡ true = and-left x (carried k cs a && carried k cs b) all in
+            let both = and-right x (carried k cs a && carried k cs b) all in
+            peeling-lifts g (s .order) valid k r a b lr-graph level-is cs (end .peeling)
+            (candidate-allowed g k a b (try .candidates b small on .0) b-radio (subst (λ (y : ℕ). candidate g y a b ≡ true) level-is (try .candidates b small on .2)))
+            (end .high-end) (fits a (and-left (carried k cs a) (carried k cs b) both)) (fits b (and-right (carried k cs a) (carried k cs b) both)) (end .done left-yes)
+            (sym (end .answer) ∙ left-yes);
         next = λ e. never true refl e;
         fewer = λ e. never true refl e;
       }
@@ -243,7 +243,7 @@ module _ (links numbers highs : List ℕ) (s : Search-site links numbers highs) 
             go (inr e) (inl o) =
                 let mid-out : marked mid 0 c ≡ false = sym (new-at c lc-small ∙ rw e) ∙ q in
                 inr (ruled-refuted c (omega (arith, lc, graph-radios))
-                  (ruled-passed (marked old 0 c) (ltb c (length numbers)) (ruled-out k (not x) numbers cs c) o (sym (ruled .is c lc-small) ∙ mid-out)))
+                (ruled-passed (marked old 0 c) (ltb c (length numbers)) (ruled-out k (not x) numbers cs c) o (sym (ruled .is c lc-small) ∙ mid-out)))
 
         pub tried-not : t ≡ false → Tried links r a b old new false
         tried-not failed = record {
@@ -254,6 +254,6 @@ module _ (links numbers highs : List ℕ) (s : Search-site links numbers highs) 
             rest = untried-next g r a (marked old 0) (marked new 0) (try .rest) (gone-refuted failed);
           };
           fewer = λ e.
-            count-less (marked new 0) (marked old 0) b (range 0 max-radios) (in-range 0 max-radios b (omega arith) (omega arith))
-            (new-at b small ∙ rw (eq-eqb b b refl)) on (λ c i q. still-old c (omega (arith, range-in 0 max-radios c i)) q);
+              count-less (marked new 0) (marked old 0) b (range 0 max-radios) (in-range 0 max-radios b (omega arith) (omega arith))
+              (new-at b small ∙ rw (eq-eqb b b refl)) on (λ c i q. still-old c (omega (arith, range-in 0 max-radios c i)) q);
         }

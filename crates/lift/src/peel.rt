@@ -90,15 +90,7 @@ fn lower(
 }
 
 // Takes radio v, which is due: its neighbours that are left have one less.
-fn take(
-    links: &[u8],
-    v: u32,
-    level: u8,
-    a: u32,
-    held: &[u8],
-    counters: &mut [u8],
-    due: &mut [u8],
-)
+fn take(links: &[u8], v: u32, level: u8, a: u32, held: &[u8], counters: &mut [u8], due: &mut [u8])
     requires { ⌜ Sound-links (now links) × Peel-state (now links) (now held) level a (now counters) (now due) ×
         (v < max-radios) × (marked (now due) 0 v ≡ true) ⌝ }
     ensures state { λ _. ⌜ Peel-state (now (links .entry)) (now (held .entry)) level a (now (counters .exit)) (now (due .exit)) ⌝ }

@@ -40,14 +40,7 @@ fn start(level: u8, numbers: &[u8], highs: &[u8], counters: &mut [u8])
 }
 
 // Peels with a and the held radios left alone. Comes back with whether r is left.
-fn peel_around(
-    links: &[u8],
-    r: u32,
-    level: u8,
-    a: u32,
-    held: &[u8],
-    counters: &mut [u8],
-) -> bool
+fn peel_around(links: &[u8], r: u32, level: u8, a: u32, held: &[u8], counters: &mut [u8]) -> bool
     requires { ⌜ Sound-links (now links) × Peel-begin (now links) (now held) level a r (now counters) ⌝ }
     ensures { λ x. ⌜ Peel-end (now (links .entry)) (now (held .entry)) level a r (now (counters .exit)) x ⌝ }
 {

@@ -39,9 +39,10 @@ returns c =
 
 loop-again : tie.Need-loop-again Inv-loop μ-loop
 loop-again c =
-    let start = c .before .before .before .before .before .before .before .before .before .before .before .before in
-    (pair-next _ _ _ (start .pre .0) _ (start .pre .1) _ _ (c .before .before .before .loop-test .taken) (c .before .before .before .before .loop .inv .0) (c .before .higher-end .ensures) (c .if1 .left),
-    omega (arith, c .before .before .before .loop-test .taken))
+    let start = c .before .before .before .before .before .before .before .before .before .before .before .before in (
+      pair-next _ _ _ (start .pre .0) _ (start .pre .1) _ _ (c .before .before .before .loop-test .taken) (c .before .before .before .before .loop .inv .0) (c .before .higher-end .ensures) (c .if1 .left),
+      omega (arith, c .before .before .before .loop-test .taken),
+    )
 
 returns-2 : tie.Need-returns-2 Inv-loop μ-loop
 returns-2 c =

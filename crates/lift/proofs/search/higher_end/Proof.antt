@@ -36,7 +36,7 @@ loop-holds c =
     let start = c .before .before .before .before .before .before .before .before .before .before .before .before in
     λ s lr. record {
       trying = trying-start _ _ _ s _ lr _ (start .pre .3) _ (start .pre .2) (sym (c .before .before .before .before .before .before .before .is-marked .ensures) ∙ not-false _ (c .before .before .before .before .before .before .if1 .left)) _
-        (c .before .before .before .mark-ends .ensures);
+          (c .before .before .before .mark-ends .ensures);
       first = c .first-marked .ensures;
     }
 

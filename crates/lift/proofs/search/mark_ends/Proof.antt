@@ -23,10 +23,11 @@ loop-holds c = (marking-none _ _ (c .before .before .before .before .pre .1), om
 loop-again : tie.Need-loop-again Inv-loop μ-loop
 loop-again c =
     let at-loop = c .before .before .before .before .before .before in
-    let v = at-loop .loop .c in
-    (marking-turn _ _ (c .before .before .before .before .before .before .before .before .before .before .before .pre .1) v _ _ (omega (arith, c .before .before .before .before .before .before .before .before .before .before .before .pre .0, c .before .before .before .before .before .loop-test .taken))
-    (c .before .before .put-bit .ensures ∙ ap (λ (t : Bool). put-bit t 0 v (at-loop .loop .untried)) (c .before .before .before .may-lift .ensures)) (at-loop .loop .inv .0),
-    omega (arith, c .before .before .before .before .before .loop-test .taken))
+    let v = at-loop .loop .c in (
+      marking-turn _ _ (c .before .before .before .before .before .before .before .before .before .before .before .pre .1) v _ _ (omega (arith, c .before .before .before .before .before .before .before .before .before .before .before .pre .0, c .before .before .before .before .before .loop-test .taken))
+          (c .before .before .put-bit .ensures ∙ ap (λ (t : Bool). put-bit t 0 v (at-loop .loop .untried)) (c .before .before .before .may-lift .ensures)) (at-loop .loop .inv .0),
+      omega (arith, c .before .before .before .before .before .loop-test .taken),
+    )
 
 returns : tie.Need-returns Inv-loop μ-loop
 returns c =

@@ -13,9 +13,11 @@ returns c =
 
 peel-around-requires-2 : tie.Need-peel-around-requires-2
 peel-around-requires-2 c κs =
-    let start = c .before .before .before .before .before .before .before .before .before .before .before .before .before in
-    (start .pre .0, left-begin _ _ _ _ _ _ _ (start .pre .2) (start .pre .3) _ (c .before .before .before .put-bit .ensures) _ (not-false _ (c .before .before .before .before .before .if1 .left)) (start .pre .1 .low)
-    (c .before .before .before .before .before .before .before .before .peel-around .ensures))
+    let start = c .before .before .before .before .before .before .before .before .before .before .before .before .before in (
+      start .pre .0,
+      left-begin _ _ _ _ _ _ _ (start .pre .2) (start .pre .3) _ (c .before .before .before .put-bit .ensures) _ (not-false _ (c .before .before .before .before .before .if1 .left)) (start .pre .1 .low)
+          (c .before .before .before .before .before .before .before .before .peel-around .ensures),
+    )
 
 returns-2 : tie.Need-returns-2
 returns-2 c =

@@ -28,9 +28,10 @@ loop-again c =
     let i = at-loop .loop .c in
     let test = c .before .is-ruled-out in
     let new : c .if1 .untried ≡ cond (test .result) (put-bit false 0 i (at-loop .loop .untried)) (at-loop .loop .untried) =
-    ⊎-elim (λ w. w .5 ∙ w .2 .ensures ∙ sym (cond-true _ _ _ (w .0 .taken))) (λ w. w .1 ∙ sym (cond-false _ _ _ (w .0 .left))) (c .if1 .came) in
-    (ruling-turn _ _ _ _ _ (start .pre .3) i (test .result) _ _ (omega (arith, start .pre .0, c .before .before .loop-test .taken)) (test .ensures) new (at-loop .loop .inv .0),
-    omega (arith, c .before .before .loop-test .taken))
+    ⊎-elim (λ w. w .5 ∙ w .2 .ensures ∙ sym (cond-true _ _ _ (w .0 .taken))) (λ w. w .1 ∙ sym (cond-false _ _ _ (w .0 .left))) (c .if1 .came) in (
+      ruling-turn _ _ _ _ _ (start .pre .3) i (test .result) _ _ (omega (arith, start .pre .0, c .before .before .loop-test .taken)) (test .ensures) new (at-loop .loop .inv .0),
+      omega (arith, c .before .before .loop-test .taken),
+    )
 
 returns : tie.Need-returns Inv-loop μ-loop
 returns c =
