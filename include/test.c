@@ -62,8 +62,8 @@ static void test_lift(void) {
     expect("a pair", hub.number, SB_OK), expect("its lower radio", hub.low, 1), expect("its higher radio", hub.high, 2);
     expect("past the hub, which is full", alone.low, 1), expect("the radio itself", alone.high, SB_RADIOS - 1);
     expect("lift of no radio", past.number, SB_RADIO), expect("zero", past.low + past.high, 0);
-    static const uint8_t row[SB_ROW_BYTES], number[1];
-    static const uint16_t place[1];
+    static const uint8_t row[SB_ROW_BYTES] = {0}, number[1] = {0};
+    static const uint16_t place[1] = {0};
     sb_pair none = sb_lift(1, 0, row, sizeof row, number, 1, place, 1);
     expect("no pair", none.number, SB_NO_LIFT), expect("zeros", none.low + none.high, 0);
 }
