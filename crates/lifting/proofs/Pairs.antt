@@ -24,7 +24,8 @@ use Rattle.lists.proofs.Tests.{bool-cases, never, and-left, and-right, and-both
 use Rattle.lists.proofs.Range.{in-range, distinct-range}
 use Rattle.lists.proofs.Count.{count-less}
 use Rattle.lists.proofs.Filter.{distinct-filter}
-use Rattle.mesh.proofs.GraphLaws.{Ends, Adds, linked-sym, relinked-adds, adds-cases, adds-has, adds-keeps, neighbours-in-mono, neighbours-in-subset, neighbours-in-filter}
+use Rattle.mesh.proofs.GraphLaws.{Ends, Adds, linked-sym, relinked-adds, adds-cases, adds-has, adds-keeps}
+use Rattle.mesh.proofs.GraphLaws.{neighbours-in-mono, neighbours-in-subset, neighbours-in-filter}
 use Rattle.mesh.proofs.Links.Moves.{adds-most}
 use Rattle.mesh.proofs.Cores.Certificate.{core-enough}
 use Rattle.mesh.proofs.Cores.Peeling.{number-core}
@@ -222,7 +223,7 @@ module _ (g : Graph) (xs : List ℕ) (valid : Valid max-neighbours g xs) (k r a 
 
     -- c was taken with fewer than k neighbours
     pub few-refutes : 128 ≤ getD cs c 255 → getD cs c 255 < 128 + k → lifts g r (link-of a c) ≡ false
-    few-refutes l m = refuted g r a c (λ h. p .few c (risen h) (lift-group h) l m)
+    few-refutes l m = refuted g r a c (λ h. p .few c (risen h) (lift-group h) l (omega (arith, m)))
 
     -- an end has fewer than k neighbours staying
     short : (h : Lifted g r a c) → stays g k cs c ≡ true → (x : ℕ) → risen h x ≡ true → left cs x ≡ true → k ≤ getD cs x 255
@@ -253,9 +254,10 @@ module _ (g : Graph) (xs : List ℕ) (valid : Valid max-neighbours g xs) (k r a 
         → neighbours-in g x (stays g k cs) < neighbours-in t x (stays g k cs)
     unfolding neighbours-in radios relinked
     one-more x y l out new m =
-        count-less (λ b. linked g x b && stays g k cs b) (λ b. linked t x b && stays g k cs b) y (range 0 (g .n)) (in-range 0 (g .n) y (omega arith) (omega arith))
-        (rw out) (and-both (linked t x y) (stays g k cs y) new m)
-        (λ b i e. and-both (linked t x b) (stays g k cs b) (adds-keeps more x b (and-left (linked g x b) (stays g k cs b) e)) (and-right (linked g x b) (stays g k cs b) e))
+        count-less (λ b. linked g x b && stays g k cs b) (λ b. linked t x b && stays g k cs b) y (range 0 (g .n))
+        (in-range 0 (g .n) y (omega arith) (omega arith)) (rw out) (and-both (linked t x y) (stays g k cs y) new m)
+        (λ b i e. and-both (linked t x b) (stays g k cs b) (adds-keeps more x b (and-left (linked g x b) (stays g k cs b) e))
+        (and-right (linked g x b) (stays g k cs b) e))
 
     at-left : (x : ℕ) → left cs x ≡ true → (eqb x a ≡ true) ⊎ (eqb x a ≡ false) → (eqb x c ≡ true) ⊎ (eqb x c ≡ false)
         → suc k ≤ neighbours-in t x (stays g k cs)

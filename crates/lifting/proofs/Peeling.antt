@@ -104,7 +104,7 @@ module _ (g : Graph) (xs : List ℕ) (valid : Valid max-neighbours g xs) (k a : 
     level = λ v e. level v e;
     counted = λ v e. own v (level v e .0) (level v e .1) ∙ same v;
     avoided = λ c s p e x h. in-stays x (p .radio x h) (p .high x h);
-    few = λ c s p l h. never (left cs c) (fits c (p .radio c (p .high-end)) h) (high-left cs c l);
+    few = λ c s p l h. never (left cs c) (fits c (p .radio c (p .high-end)) (omega (arith, h))) (high-left cs c l);
     small = λ v e. small v e;
     lower-end = in-stays a la ka;
   }
@@ -160,7 +160,7 @@ module _ (g : Graph) (xs : List ℕ) (valid : Valid max-neighbours g xs) (k a : 
           )
 
       -- an entry that is not 255 is a counter
-      fits : (c : ℕ) → c < g .n → getD cs c 255 < 128 + k → left cs c ≡ true
+      fits : (c : ℕ) → c < g .n → getD cs c 255 ≤ 128 + k → left cs c ≡ true
       fits c l h = at (bool-cases (eqb (number g c) k))
         where
           at : (eqb (number g c) k ≡ true) ⊎ (eqb (number g c) k ≡ false) → left cs c ≡ true
@@ -263,7 +263,7 @@ module _ (g : Graph) (xs : List ℕ) (valid : Valid max-neighbours g xs) (k a : 
       level = λ w e. p .level w (taken-still g cs ds v now t w e .0);
       counted = counted;
       avoided = avoided;
-      few = few;
+      few = λ c s q l h. few c s q l (omega (arith, h));
       small = λ w e. le-trans (smaller w e) (p .small w (taken-still g cs ds v now t w e .0));
       lower-end = same-stays a (λ z. ne (sym z)) ∙ p .lower-end;
     }
