@@ -164,7 +164,7 @@ def all_graphs(n):
 
 
 def worked():
-    """REQUEST's: no links, a path, a triangle, one radio, a triangle with a tail, two triangles, a ring with a diagonal."""
+    """Worked pairs: no links, a path, a triangle, one radio, a triangle with a tail, two triangles, a ring with a diagonal."""
     triangle, other = [(0, 1), (0, 2), (1, 2)], [(3, 4), (3, 5), (4, 5)]
     f = File()
     for n, links in ((3, []), (3, [(0, 1), (1, 2)]), (3, triangle), (1, []), (5, triangle + [(2, 3), (3, 4)]), (6, triangle + other),

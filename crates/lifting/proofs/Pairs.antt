@@ -225,7 +225,7 @@ module _ (g : Graph) (xs : List ℕ) (valid : Valid max-neighbours g xs) (k r a 
     pub few-refutes : 128 ≤ getD cs c 255 → getD cs c 255 < 128 + k → lifts g r (link-of a c) ≡ false
     few-refutes l m = refuted g r a c (λ h. p .few c (risen h) (lift-group h) l (omega (arith, m)))
 
-    -- an end has fewer than k neighbours staying
+    -- an end has fewer than k neighbours that stay
     short : (h : Lifted g r a c) → stays g k cs c ≡ true → (x : ℕ) → risen h x ≡ true → left cs x ≡ true → k ≤ getD cs x 255
     short h m x i e =
         le-trans (lift-group h .ends x i) (le-trans (neighbours-in-subset g x (risen h) (stays g k cs)

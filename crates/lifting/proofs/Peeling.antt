@@ -1,6 +1,6 @@
 -- A level peeled with one radio kept.
 --   peeling-starts   the counters that the check found
---   peeling-takes    a radio with at most k neighbours staying is taken
+--   peeling-takes    a radio with at most k neighbours that stay is taken
 --   peeling-near     a neighbour of a radio that is left has one to lose
 --   taken-fewer      fewer radios are left
 -- Why a group of a pair keeps clear of the taken radios: the first one taken that it had would have had k + 1 neighbours in the group, and

@@ -6,7 +6,7 @@
 --   stays g k cs v        v is above the level, or left
 --   Pair-group g k a c s  with the link a-c up, s would give each member k + 1 neighbours inside it; it has both ends
 --   Taken g v cs ds       the counters when v is taken
---   Peeling g k a cs      radios were taken that had at most k neighbours staying, and a was not
+--   Peeling g k a cs      radios were taken of whose neighbours at most k stayed, and a was not
 -- Laws are in proofs/Peeling.antt. Definitions only.
 use mathlib.Core.Path.{_≡_}
 use mathlib.Core.Bool.{Bool, true, false, _&&_, _||_}
