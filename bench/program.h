@@ -53,6 +53,10 @@ struct c_later {
     unsigned number, count, first;
 };
 
+struct c_pair {
+    unsigned number, low, high;
+};
+
 struct c_node {
     uint16_t name, level, parent;
 };

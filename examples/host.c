@@ -73,6 +73,11 @@ static void print_later(uint32_t v) {
     printf("later than %u: number %u, count %u, first %u\n", v, l.number, l.count, l.first);
 }
 
+static void print_lift(uint32_t v) {
+    sb_pair p = sb_lift(N, v, TABLES);
+    printf("lift of %u: number %u, pair %u %u\n", v, p.number, p.low, p.high);
+}
+
 static void print_radios(const char *question, sb_value v) {
     printf("%s: number %u, radios", question, v.number);
     print_list(answer, v.value);
@@ -100,6 +105,9 @@ static void ask(void) {
     print_later(0);
     print_later(1);
     print_later(7);
+    print_lift(6);
+    print_lift(0);
+    print_lift(7);
     print_radios("core of 6 at level 1", sb_core(N, 6, 1, TABLES, ANSWER));
     print_radios("core of 6 at level 2", sb_core(N, 6, 2, TABLES, ANSWER));
     print_radios("backbone", sb_backbone(N, TABLES, ANSWER));

@@ -22,6 +22,13 @@ struct Later {
 }
 
 #[repr(C)]
+struct Pair {
+    number: u32,
+    low: u32,
+    high: u32,
+}
+
+#[repr(C)]
 struct Block {
     number: u32,
     end: u32,
@@ -40,7 +47,7 @@ struct Node {
 
 // The engine's calls; include/summerbugle.h says what each takes and answers.
 mod engine {
-    use super::{Block, Later, Node, Reply, Value};
+    use super::{Block, Later, Node, Pair, Reply, Value};
 
     extern "C" {
         pub fn sb_clear(n: u32, l: *mut u8, ll: usize, k: *mut u8, kl: usize, o: *mut u16, ol: usize) -> u32;
@@ -58,6 +65,7 @@ mod engine {
         pub fn sb_linked(n: u32, a: u32, b: u32, l: *const u8, ll: usize, k: *const u8, kl: usize, o: *const u16, ol: usize) -> Value;
         pub fn sb_first(n: u32, a: u32, b: u32, l: *const u8, ll: usize, k: *const u8, kl: usize, o: *const u16, ol: usize) -> Value;
         pub fn sb_later_of(n: u32, v: u32, l: *const u8, ll: usize, k: *const u8, kl: usize, o: *const u16, ol: usize) -> Later;
+        pub fn sb_lift(n: u32, v: u32, l: *const u8, ll: usize, k: *const u8, kl: usize, o: *const u16, ol: usize) -> Pair;
         pub fn sb_core(n: u32, v: u32, level: u32, l: *const u8, ll: usize, k: *const u8, kl: usize, o: *const u16, ol: usize, w: *mut u16, wl: usize) -> Value;
         pub fn sb_backbone(n: u32, l: *const u8, ll: usize, k: *const u8, kl: usize, o: *const u16, ol: usize, w: *mut u16, wl: usize) -> Value;
         pub fn sb_tree(n: u32, l: *const u8, ll: usize, k: *const u8, kl: usize, o: *const u16, ol: usize, nodes: *mut Node, len: usize, w: *mut u16, wl: usize) -> Value;
@@ -140,6 +148,11 @@ impl Site {
         println!("later than {v}: number {}, count {}, first {}", l.number, l.count, l.first);
     }
 
+    fn lift(&mut self, v: u32) {
+        let p = call!(sb_lift, self, [v], []);
+        println!("lift of {v}: number {}, pair {} {}", p.number, p.low, p.high);
+    }
+
     fn core(&mut self, v: u32, level: u32) {
         let r = call!(sb_core, self, [v, level], [self.answer.as_mut_ptr(), self.answer.len()]);
         self.print_radios(&format!("core of {v} at level {level}"), r);
@@ -211,6 +224,9 @@ fn ask(s: &mut Site) {
     s.later(0);
     s.later(1);
     s.later(7);
+    s.lift(6);
+    s.lift(0);
+    s.lift(7);
     s.core(6, 1);
     s.core(6, 2);
     let v = call!(sb_backbone, s, [], [s.answer.as_mut_ptr(), s.answer.len()]);

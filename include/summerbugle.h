@@ -73,7 +73,8 @@ enum sb_refusal {
     SB_PROPOSAL = 16,   /* the list or the step is not exactly what asking would give now */
     SB_MARK = 17,       /* a place of the store, or the name, breaks the rules */
     SB_NO_MARK = 18,    /* there is no mark of this name */
-    SB_MARKS_FULL = 19  /* a new name finds 8 marks */
+    SB_MARKS_FULL = 19, /* a new name finds 8 marks */
+    SB_NO_LIFT = 20     /* no link would raise the radio's number */
 };
 
 /* The answer of a question: refusal number, and the value asked for (0 when refused). */
@@ -95,6 +96,13 @@ typedef struct {
     uint32_t count;
     uint32_t first;
 } sb_later;
+
+/* A pair of radios, the lower one first (zeros when refused). */
+typedef struct {
+    uint32_t number;
+    uint32_t low;
+    uint32_t high;
+} sb_pair;
 
 /* A node of the shell tree: its name, its level and its parent's name. The root is SB_ROOT, 0, SB_ROOT. */
 typedef struct {
@@ -267,6 +275,18 @@ sb_value sb_first(uint32_t n, uint32_t a, uint32_t b, const uint8_t *links, size
  */
 sb_later sb_later_of(uint32_t n, uint32_t v, const uint8_t *links, size_t links_len,
                      const uint8_t *numbers, size_t numbers_len, const uint16_t *order, size_t order_len);
+
+/**
+ * One link that lifts radio v: the first pair, by lower radio and then higher, whose link is down, which sb_link_up would take up now, and
+ * with which the number of v would be greater. It is advice: nothing is kept and nothing changes. A pair that raises other radios alone
+ * does not count. The tables are only read. One call looks at up to n * (n - 1) / 2 pairs: at 512 radios it takes a fraction of a second
+ * where nearly every pair must be looked at, and far less where one of the first does.
+ *
+ * \return number 0 and the pair, low below high; or a number from SB_SIZE to SB_RADIO, or SB_NO_LIFT exactly if there is no such pair,
+ *         and zeros.
+ */
+sb_pair sb_lift(uint32_t n, uint32_t v, const uint8_t *links, size_t links_len,
+                const uint8_t *numbers, size_t numbers_len, const uint16_t *order, size_t order_len);
 
 /**
  * The connected core of radio v at level k: all radios reachable from v over radios with number k or more. At level 0 it is v's

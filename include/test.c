@@ -20,6 +20,7 @@ static void test_structs(void) {
     SIZE(sb_value, 8), PART(sb_value, number, 0, 4), PART(sb_value, value, 4, 4);
     SIZE(sb_reply, 12), PART(sb_reply, number, 0, 4), PART(sb_reply, step, 4, 1), PART(sb_reply, count, 8, 4);
     SIZE(sb_later, 12), PART(sb_later, number, 0, 4), PART(sb_later, count, 4, 4), PART(sb_later, first, 8, 4);
+    SIZE(sb_pair, 12), PART(sb_pair, number, 0, 4), PART(sb_pair, low, 4, 4), PART(sb_pair, high, 8, 4);
     SIZE(sb_node, 6), PART(sb_node, name, 0, 2), PART(sb_node, level, 2, 2), PART(sb_node, parent, 4, 2);
     SIZE(sb_block, 32), PART(sb_block, number, 0, 4), PART(sb_block, end, 4, 4);
     PART(sb_block, offset, 8, 8), PART(sb_block, length, 16, 8), PART(sb_block, next, 24, 8);
@@ -53,6 +54,18 @@ static void test_later(void) {
     expect("none later", none.count, 0), expect("nobody", none.first, SB_NOBODY), expect("no refusal", none.number, SB_OK);
     expect("one later", leaf.count, 1), expect("the hub", leaf.first, 0);
     expect("later of no radio", past.number, SB_RADIO), expect("zero", past.count + past.first, 0);
+}
+
+/* A star: a link between its first two leaves lifts the hub, and the hub itself takes no link more. One radio alone has no pair. */
+static void test_lift(void) {
+    sb_pair hub = sb_lift(SB_RADIOS, 0, TABLES), alone = sb_lift(SB_RADIOS, SB_RADIOS - 1, TABLES), past = sb_lift(SB_RADIOS, SB_RADIOS, TABLES);
+    expect("a pair", hub.number, SB_OK), expect("its lower radio", hub.low, 1), expect("its higher radio", hub.high, 2);
+    expect("past the hub, which is full", alone.low, 1), expect("the radio itself", alone.high, SB_RADIOS - 1);
+    expect("lift of no radio", past.number, SB_RADIO), expect("zero", past.low + past.high, 0);
+    static const uint8_t row[SB_ROW_BYTES] = {0}, number[1] = {0};
+    static const uint16_t place[1] = {0};
+    sb_pair none = sb_lift(1, 0, row, sizeof row, number, 1, place, 1);
+    expect("no pair", none.number, SB_NO_LIFT), expect("zeros", none.low + none.high, 0);
 }
 
 /* A star with one leaf less: a batch takes it up again, and stops at a link that is up. */
@@ -203,6 +216,7 @@ int main(void) {
     test_structs();
     test_limits();
     test_later();
+    test_lift();
     test_batch();
     test_heard();
     test_proposals();

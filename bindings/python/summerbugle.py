@@ -48,11 +48,13 @@ MEANINGS = {
     17: "a place of the store, or the name, breaks the rules",
     18: "there is no mark of this name",
     19: "a new name finds 8 marks",
+    20: "no link would raise the radio's number",
 }
 
 Change = namedtuple("Change", "step radios")
 Batch = namedtuple("Batch", "done number")
 Later = namedtuple("Later", "count first")
+Pair = namedtuple("Pair", "low high")
 Node = namedtuple("Node", "name level parent")
 Tree = namedtuple("Tree", "nodes names")
 
@@ -79,6 +81,10 @@ class _Reply(ctypes.Structure):
 
 class _Later(ctypes.Structure):
     _fields_ = [("number", ctypes.c_uint32), ("count", ctypes.c_uint32), ("first", ctypes.c_uint32)]
+
+
+class _Pair(ctypes.Structure):
+    _fields_ = [("number", ctypes.c_uint32), ("low", ctypes.c_uint32), ("high", ctypes.c_uint32)]
 
 
 class _Node(ctypes.Structure):
@@ -121,6 +127,7 @@ CALLS = {
     "sb_linked": (_Value, "u32 u32 u32 " + _TABLES),
     "sb_first": (_Value, "u32 u32 u32 " + _TABLES),
     "sb_later_of": (_Later, "u32 u32 " + _TABLES),
+    "sb_lift": (_Pair, "u32 u32 " + _TABLES),
     "sb_core": (_Value, "u32 u32 u32 " + _TABLES + " entries"),
     "sb_backbone": (_Value, "u32 " + _TABLES + " entries"),
     "sb_tree": (_Value, "u32 " + _TABLES + " nodes entries"),
@@ -306,6 +313,11 @@ class Site:
         """How many neighbours of a radio stand after it in the order, and the first of them, or None."""
         later = self._call("sb_later_of", (v,))
         return Later(later.count, None if later.first == NOBODY else later.first)
+
+    def lift(self, v):
+        """The first pair of radios, by lower and then higher, whose link would be taken up now and would raise a radio's number."""
+        pair = self._call("sb_lift", (v,))
+        return Pair(pair.low, pair.high)
 
     # what hangs together
 

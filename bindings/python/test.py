@@ -14,7 +14,7 @@ ROOT = os.path.dirname(os.path.dirname(HERE))
 sys.path.insert(0, HERE)
 
 import summerbugle  # noqa: E402
-from summerbugle import Batch, Change, Later, Marks, Node, Refused, Site, call, entries  # noqa: E402
+from summerbugle import Batch, Change, Later, Marks, Node, Pair, Refused, Site, call, entries  # noqa: E402
 
 
 def linked(n, pairs):
@@ -200,6 +200,18 @@ class Questions(unittest.TestCase):
         short = bytearray(b"x" * 41)
         self.assertEqual(call("sb_script_write", 12, site.links, site.numbers, site.order, short).number, 13)
         self.assertEqual(short, b"x" * 41)
+
+    def test_lift(self):
+        tail = linked(5, clique([0, 1, 2]) + [(2, 3), (3, 4)])
+        before = kept(tail)
+        self.assertEqual((Site(3).lift(2), tail.lift(3), tail.lift(4)), (Pair(0, 2), Pair(0, 3), Pair(0, 4)))
+        self.assertEqual(kept(tail), before)
+        self.assertEqual(linked(4, [(0, 1), (1, 2), (2, 3), (0, 3), (0, 2)]).lift(0), Pair(1, 3))
+        self.assertEqual(linked(43, [(0, b) for b in range(1, 41)]).lift(42), Pair(1, 42))
+        for number, site, v in ((20, Site(1), 0), (20, linked(6, clique([0, 1, 2]) + clique([3, 4, 5])), 0), (4, Site(3), 3)):
+            with self.assertRaises(Refused) as caught:
+                site.lift(v)
+            self.assertEqual(caught.exception.number, number)
 
     def test_marks(self):
         site, marks = linked(3, clique([0, 1, 2])), Marks()

@@ -6,7 +6,7 @@
 -- by row, `HeardCalls` what a hearing comes to, `HeardCases` a worked one, `Accepted` what a caller has after an accepted call (property 2),
 -- `ImageNumbers` which bytes reading refuses by 15 and which by 11, `Older` what calls give of older tables and images, `Exactly`
 -- which radios a link call lists, `Cases` that the worked cases hold by `ByPairs`, `WorkedState` and `WorkedLaws`, `SheetCases` that
--- the worked sheets do, `ScriptLaws` and `Rebuilt` the script that rebuilds a site, the others for demand 3.
+-- the worked sheets do, `LiftOutcome` the question for one link that lifts a radio, `ScriptLaws` and `Rebuilt` the script that rebuilds a site, the others for demand 3.
 pub mod QuestionLaws
 pub mod ChainLaws
 pub mod ContractLaws
@@ -16,6 +16,7 @@ pub mod Outcomes
 pub mod Refusals
 pub mod MarkCalls
 pub mod MarkOutcomes
+pub mod LiftOutcome
 pub mod LinkKept
 pub mod Holds
 pub mod SoundSwitches

@@ -11,6 +11,7 @@ pub mod Wake
 pub mod Cores
 pub mod Trees
 pub mod Staircase
+pub mod Lift
 pub mod Images
 pub mod Pages
 pub mod Scripts

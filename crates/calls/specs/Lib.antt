@@ -1,7 +1,8 @@
 -- What calls promise, in the order in which a reader needs it. `Sheet` is the printed page, `Script` the script that rebuilds a site;
 -- `Outcomes` are the outcomes worked out; `Results` is what a caller has after an accepted call (property 2); `Older` is what calls give of older tables and images; `FormerDemand` is the statement of a
 -- corollary; `Replay` is what the replay program prints;
--- `Heard` and `Hearing` are W-205, links that both ends hear; `Marks`, `MarkOutcomes` and `MarkResults` are the named marks of W-211;
+-- `Heard` and `Hearing` are W-205, links that both ends hear; `Lift` and `LiftOutcome` are what lifts a radio (W-212); `Marks`, `MarkOutcomes`
+-- and `MarkResults` are the named marks of W-211;
 -- `Worked` and `Cases` are the worked cases of document 01, `SheetCases` the site sheet's.
 pub mod Sheet
 pub mod Script
@@ -10,10 +11,12 @@ pub mod Switches
 pub mod Batches
 pub mod Heard
 pub mod Hearing
+pub mod Lift
 pub mod Marks
 pub mod Contracts
 pub mod Outcomes
 pub mod MarkOutcomes
+pub mod LiftOutcome
 pub mod Results
 pub mod MarkResults
 pub mod Older

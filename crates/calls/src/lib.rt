@@ -43,6 +43,8 @@ impl Refusal {
     pub const NO_MARK: u32 = 18;
 
     pub const MARKS_FULL: u32 = 19;
+
+    pub const NO_LIFT: u32 = 20;
 }
 
 // The answer of a link call: refusal number, step (+1, -1, or 0 when nothing changed), count of changed radios.
@@ -66,6 +68,14 @@ pub struct Later {
     pub number: u32,
     pub count: u32,
     pub first: u32,
+}
+
+// The answer of the question for a link that lifts a radio: refusal number, and the pair, lower radio first.
+#[repr(C)]
+pub struct Pair {
+    pub number: u32,
+    pub low: u32,
+    pub high: u32,
 }
 
 // The answer of the block reader: refusal number, 1 at the end, where the payload lies, and the number of the next block.

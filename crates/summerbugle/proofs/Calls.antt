@@ -10,6 +10,7 @@ use Rattle.calls.specs.Contracts.Heard.{Hear-contract}
 use Rattle.calls.specs.Contracts.Images.{Read-contract, Write-contract, Block-contract}
 use Rattle.calls.specs.Contracts.Radios.{Number-contract, Neighbours-contract, Linked-contract, First-contract}
 use Rattle.calls.specs.Contracts.Wake.{Later-contract}
+use Rattle.calls.specs.Contracts.Lift.{Lift-contract}
 use Rattle.calls.specs.Contracts.Cores.{Core-contract, Backbone-contract}
 use Rattle.calls.specs.Contracts.Trees.{Tree-contract}
 use Rattle.calls.specs.Contracts.Pages.{Sheet-contract}
@@ -57,6 +58,8 @@ use Rattle.summerbugle.proofs.sb_first as first
 use Rattle.summerbugle.proofs.sb_first.Symbol as first-symbol
 use Rattle.summerbugle.proofs.sb_later_of as later-of
 use Rattle.summerbugle.proofs.sb_later_of.Symbol as later-of-symbol
+use Rattle.summerbugle.proofs.sb_lift as lift
+use Rattle.summerbugle.proofs.sb_lift.Symbol as lift-symbol
 use Rattle.summerbugle.proofs.sb_core as core
 use Rattle.summerbugle.proofs.sb_core.Symbol as core-symbol
 use Rattle.summerbugle.proofs.sb_backbone as backbone
@@ -224,6 +227,15 @@ sb-later-of = record {
   routine = later-of-symbol.routine;
   kept = later-of.ended .kept;
   contract = λ κs a r e. Later-contract (number-0 a) (number-1 a) (tables-2 a) r;
+}
+
+-- sb_lift(n, v, links, numbers, order)
+abbrev pub sb-lift : Function
+sb-lift = record {
+  signature = lift.signature;
+  routine = lift-symbol.routine;
+  kept = lift.ended .kept;
+  contract = λ κs a r e. Lift-contract (number-0 a) (number-1 a) (tables-2 a) r;
 }
 
 -- sb_core(n, v, k, links, numbers, order, answer)

@@ -1,5 +1,5 @@
 -- The promises of the engine: one statement, `Promises`, and its proof, `promises`. Whoever reads the statement and the definitions
--- that it cites (specs/ of mesh, calls, hubs, image and of this crate, and the table of calls in Calls.antt) need read no proof.
+-- that it cites (specs/ of mesh, calls, lifting, hubs, image and of this crate, and the table of calls in Calls.antt) need read no proof.
 --   Property-1       every public call returns for every input, checks its tables itself, and refuses by number
 --     Calls-promised   each call meets its contract: the whole triple, in which nothing is required
 --     Calls-return     at the machine: from every memory that lends what the signature says, the call returns, and what it returns
@@ -9,8 +9,8 @@
 --     Outcomes         for every input a contract has exactly one outcome: the one worked out in calls/specs/Outcomes.antt
 --     Tables-left      what is lent by shared reference is left as it was
 --   Property-2       numbers are core numbers by the largest group and orders are k-orders; connected cores, backbone, shell tree,
---                    staircase tree, site sheet, script, images and named marks follow their definitions; a hearing leaves exactly the links
---                    that both ends hear; older tables and images are taken as they were
+--                    staircase tree, the link that lifts a radio, site sheet, script, images and named marks follow their definitions; a
+--                    hearing leaves exactly the links that both ends hear; older tables and images are taken as they were
 --   Property-3       demand 3, undivided, over the contracts that the exported calls meet; two hubs, one mesh
 use mathlib.Core.Path.{_≡_, refl}
 use mathlib.Core.Logic.{_↔_, _⊎_}
@@ -20,7 +20,7 @@ use Prim.Native.Nat.{ℕ, _≤_, _<_}
 use lib.IntN.{ℤ}
 use lib.ListN.{length, take}
 use Rattle.lists.specs.Lists.{member, same, Entries-below}
-use Rattle.mesh.specs.Graph.{Link, Graph, graph}
+use Rattle.mesh.specs.Graph.{Link, link-of, Graph, graph}
 use Rattle.mesh.specs.Cores.{Core, number}
 use Rattle.mesh.specs.Tables.{Tables, graph-in}
 use Rattle.mesh.specs.Connected.{In-core}
@@ -29,7 +29,7 @@ use Rattle.mesh.specs.Image.{whole-blocks, checks-good, Other-size, Image-of-no
 use Rattle.mesh.specs.Image as images
 use Rattle.mesh.specs.declared.Node.{Node}
 use Rattle.mesh.specs.Sound.{sound}
-use Rattle.calls.specs.Questions.{lengths-of, size-good, site-lengths, image-refusal}
+use Rattle.calls.specs.Questions.{lengths-of, size-good, site-lengths, image-refusal, radio-refusal}
 use Rattle.calls.specs.Contracts.Forms.{Tables-refused, Value-refused, Listing-refused}
 use Rattle.calls.specs.Contracts.Sites.{Clear-contract, Check-contract}
 use Rattle.calls.specs.Contracts.Links.{Link-refused, Link-contract}
@@ -41,6 +41,7 @@ use Rattle.calls.specs.Contracts.Heard.{Hear-refused, Hear-contract}
 use Rattle.calls.specs.Contracts.Images.{Read-contract, Write-contract, Block-none, Block-contract}
 use Rattle.calls.specs.Contracts.Radios.{Number-contract, Neighbours-contract, Linked-contract, First-contract}
 use Rattle.calls.specs.Contracts.Wake.{Later-refused, Later-contract}
+use Rattle.calls.specs.Contracts.Lift.{Pair-refused, Lift-contract}
 use Rattle.calls.specs.Contracts.Cores.{Core-contract, Backbone-contract}
 use Rattle.calls.specs.Contracts.Trees.{Tree-refused, Tree-contract}
 use Rattle.calls.specs.Contracts.Pages.{Sheet-contract}
@@ -51,6 +52,8 @@ use Rattle.mesh.specs.Limits.{max-radios}
 use Rattle.mesh.specs.Marks.{store-bytes, is-store, Store-rules}
 use Rattle.calls.specs.Marks.{mark-image}
 use Rattle.calls.specs.MarkOutcomes.{set-outcome, remove-outcome, return-outcome}
+use Rattle.calls.specs.Lift.{lifts}
+use Rattle.calls.specs.LiftOutcome.{lift-outcome}
 use Rattle.calls.specs.MarkResults.{Set-right, Removed-right, Same-mark}
 use Rattle.calls.specs.Outcomes.{clear-outcome, read-outcome, link-outcome, check-outcome, number-outcome, neighbours-outcome, linked-outcome, first-outcome}
 use Rattle.calls.specs.Outcomes.{core-outcome, backbone-outcome, tree-outcome, write-outcome, block-outcome, later-outcome, sheet-outcome, staircase-outcome, ask-outcome, commit-outcome, batch-outcome}
@@ -62,16 +65,20 @@ use Rattle.calls.specs.Older.{Older}
 use Rattle.calls.specs.Book.{Call, clearing, reading, linking, committing, batching, hearing, setting, removing, returning, Answer, plain, counted, book-after, history, all-leave}
 use Rattle.calls.specs.Runs.{answer-of, replied, Does, Event, event, Run, givens, called}
 use Rattle.calls.specs.Demand.{Start, beginning, Demand-3}
+use Rattle.lifting.specs.Search.{No-lift}
+use Rattle.lifting.specs.Results.{Raises, Lift-right}
 use Rattle.hubs.specs.Hubs.{Confluence, Calls-agree, Equal-orders, Equal-images}
 use Rattle.calls.specs.declared.Reply.{Reply}
 use Rattle.calls.specs.declared.Value.{Value}
 use Rattle.calls.specs.declared.Later.{Later}
+use Rattle.calls.specs.declared.Pair.{Pair}
 use Rattle.calls.specs.declared.Block.{Block}
 use Rattle.summerbugle.specs.Functions.{Promised, Returns, Gives, Leaves-lent, number-0, number-1, number-2, tables-1, tables-2, tables-3, lent-0, lent-4}
 use Rattle.summerbugle.specs.Functions.{step-3, tables-4, lent-5, lent-6, lent-7}
 use Rattle.summerbugle.proofs.Calls.{sb-clear, sb-link-up, sb-link-down, sb-image-read, sb-check, sb-number, sb-neighbours, sb-linked, sb-first, sb-core}
 use Rattle.summerbugle.proofs.Calls.{sb-ask-up, sb-ask-down, sb-commit-up, sb-commit-down, sb-link-batch, sb-hear}
 use Rattle.summerbugle.proofs.Calls.{sb-mark-set, sb-mark-remove, sb-mark-return}
+use Rattle.summerbugle.proofs.Calls.{sb-lift}
 use Rattle.summerbugle.proofs.Calls.{sb-later-of, sb-backbone, sb-tree, sb-staircase, sb-image-write, sb-sheet, sb-image-block, reader-open, reader-step, reader-moved}
 -- for the proof
 use Rattle.mesh.proofs.Cores.Peeling.{number-core, number-unique}
@@ -97,6 +104,8 @@ use Rattle.calls.proofs.Refusals.{core-keeps, backbone-keeps, tree-keeps, write
 use Rattle.walks.specs.Results.{Beginning-kept}
 use Rattle.walks.proofs.Kept.{link-begins, commit-begins}
 use Rattle.forests.proofs.Tree.{staircase-right}
+use Rattle.calls.proofs.LiftOutcome.{lift-decided, lift-inhabited, lift-keeps}
+use Rattle.lifting.proofs.Answers.{lift-core, lift-right, lift-none}
 use Rattle.calls.proofs.Accepted.{check-right, link-right, number-right, later-right, core-right, backbone-right, tree-right-listed, write-right}
 use Rattle.calls.proofs.Accepted.{ask-right, commit-right, read-what-was-written, read-right, block-right, sheet-right}
 use Rattle.calls.proofs.Outcomes.{script-length-decided, script-decided, script-length-inhabited, script-inhabited}
@@ -131,6 +140,7 @@ use Rattle.summerbugle.proofs.sb_neighbours.Met as neighbours-proof
 use Rattle.summerbugle.proofs.sb_linked.Met as linked-proof
 use Rattle.summerbugle.proofs.sb_first.Met as first-proof
 use Rattle.summerbugle.proofs.sb_later_of.Met as later-of-proof
+use Rattle.summerbugle.proofs.sb_lift.Met as lift-proof
 use Rattle.summerbugle.proofs.sb_core.Met as core-proof
 use Rattle.summerbugle.proofs.sb_backbone.Met as backbone-proof
 use Rattle.summerbugle.proofs.sb_tree.Met as tree-proof
@@ -163,6 +173,7 @@ pub record Calls-promised (M : Type 1) : Type 2 where
   pub linked : Promised sb-linked M
   pub first : Promised sb-first M
   pub later-of : Promised sb-later-of M
+  pub lift : Promised sb-lift M
   pub core : Promised sb-core M
   pub backbone : Promised sb-backbone M
   pub tree : Promised sb-tree M
@@ -199,6 +210,7 @@ pub record Calls-return : Type 2 where
   pub linked : Returns sb-linked
   pub first : Returns sb-first
   pub later-of : Returns sb-later-of
+  pub lift : Returns sb-lift
   pub core : Returns sb-core
   pub backbone : Returns sb-backbone
   pub tree : Returns sb-tree
@@ -242,6 +254,7 @@ pub record Refusals : Type 0 where
   pub linked : (n a b : ℕ) (t : Tables) (r : Value) → Linked-contract n a b t r → (r .number ≡ 0 → ⊥) → Value-refused (r .number) r
   pub first : (n a b : ℕ) (t : Tables) (r : Value) → First-contract n a b t r → (r .number ≡ 0 → ⊥) → Value-refused (r .number) r
   pub later-of : (n v : ℕ) (t : Tables) (r : Later) → Later-contract n v t r → (r .number ≡ 0 → ⊥) → Later-refused (r .number) r
+  pub lift : (n v : ℕ) (t : Tables) (r : Pair) → Lift-contract n v t r → (r .number ≡ 0 → ⊥) → Pair-refused (r .number) r
   pub core :
       (n v k : ℕ) (t : Tables) (w : List ℕ) (r : Value) (x : List ℕ) → Core-contract n v k t w r x → (r .number ≡ 0 → ⊥) →
       Listing-refused (r .number) w r x
@@ -296,6 +309,7 @@ pub record Outcomes : Type 0 where
   pub linked : (n a b : ℕ) (t : Tables) (o : Value) → Linked-contract n a b t o ↔ (o ≡ linked-outcome n a b t)
   pub first : (n a b : ℕ) (t : Tables) (o : Value) → First-contract n a b t o ↔ (o ≡ first-outcome n a b t)
   pub later-of : (n v : ℕ) (t : Tables) (o : Later) → Later-contract n v t o ↔ (o ≡ later-outcome n v t)
+  pub lift : (n v : ℕ) (t : Tables) (o : Pair) → Lift-contract n v t o ↔ (o ≡ lift-outcome n v t)
   pub core : (n v k : ℕ) (t : Tables) (w : List ℕ) (o : Value × List ℕ) → Core-contract n v k t w (o .0) (o .1) ↔ (o ≡ core-outcome n v k t w)
   pub backbone : (n : ℕ) (t : Tables) (w : List ℕ) (o : Value × List ℕ) → Backbone-contract n t w (o .0) (o .1) ↔ (o ≡ backbone-outcome n t w)
   pub tree :
@@ -326,6 +340,7 @@ pub record Tables-left : Type 0 where
   pub linked : Leaves-lent sb-linked (λ κs. tables-3) (λ κs. tables-3)
   pub first : Leaves-lent sb-first (λ κs. tables-3) (λ κs. tables-3)
   pub later-of : Leaves-lent sb-later-of (λ κs. tables-2) (λ κs. tables-2)
+  pub lift : Leaves-lent sb-lift (λ κs. tables-2) (λ κs. tables-2)
   pub ask-up : Leaves-lent sb-ask-up (λ κs. tables-3) (λ κs. tables-3)
   pub ask-down : Leaves-lent sb-ask-down (λ κs. tables-3) (λ κs. tables-3)
   pub core : Leaves-lent sb-core (λ κs. tables-3) (λ κs. tables-3)
@@ -422,6 +437,14 @@ pub record Property-2 : Type 0 where
   pub later-of :
       (n v : ℕ) (t : Tables) (r : Later) → Later-contract n v t r → r .number ≡ 0 →
       Later-right (graph-in n (t .links)) v (t .order) (r .count) (r .first)
+  -- the pair is the first that lifts the radio; by the largest group the radio's core number is then greater; taking the link up is
+  -- accepted and lists the radio (document 02, W-212)
+  pub lift : (n v : ℕ) (t : Tables) (r : Pair) → Lift-contract n v t r → r .number ≡ 0 → Lift-right n v t (link-of (r .low) (r .high))
+  -- a pair lifts a radio exactly if the radio's core number is greater with its link; 20 exactly if no pair does
+  pub lift-core : (g : Graph) (v : ℕ) (l : Link) → v < g .n → (lifts g v l ≡ true) ↔ Raises g v l
+  pub lift-none :
+      (n v : ℕ) (t : Tables) (r : Pair) → Lift-contract n v t r →
+      (r .number ≡ 20) ↔ ((radio-refusal n v (lengths-of t) (sound n t) ≡ 0) × No-lift (graph-in n (t .links)) v)
   pub core :
       (n v k : ℕ) (t : Tables) (w : List ℕ) (r : Value) (x : List ℕ) → Core-contract n v k t w r x → r .number ≡ 0 →
       Core-listed (graph-in n (t .links)) v k (r .value) w x
@@ -576,6 +599,7 @@ calls-promised = record {
   linked = linked-proof.met;
   first = first-proof.met;
   later-of = later-of-proof.met;
+  lift = lift-proof.met;
   core = core-proof.met;
   backbone = backbone-proof.met;
   tree = tree-proof.met;
@@ -611,6 +635,7 @@ calls-return = record {
   linked = returns sb-linked (calls-promised .linked);
   first = returns sb-first (calls-promised .first);
   later-of = returns sb-later-of (calls-promised .later-of);
+  lift = returns sb-lift (calls-promised .lift);
   core = returns sb-core (calls-promised .core);
   backbone = returns sb-backbone (calls-promised .backbone);
   tree = returns sb-tree (calls-promised .tree);
@@ -643,6 +668,7 @@ refusals = record {
   linked = linked-keeps;
   first = first-keeps;
   later-of = later-keeps;
+  lift = lift-keeps;
   core = core-keeps;
   backbone = backbone-keeps;
   tree = tree-keeps;
@@ -672,6 +698,7 @@ outcomes = record {
   linked = λ n a b t. exactly _ _ (linked-inhabited n a b t) (linked-decided n a b t);
   first = λ n a b t. exactly _ _ (first-inhabited n a b t) (first-decided n a b t);
   later-of = λ n v t. exactly _ _ (later-inhabited n v t) (later-decided n v t);
+  lift = λ n v t. exactly _ _ (lift-inhabited n v t) (lift-decided n v t);
   core = λ n v k t w. exactly _ _ (core-inhabited n v k t w) (core-decided n v k t w);
   backbone = λ n t w. exactly _ _ (backbone-inhabited n t w) (backbone-decided n t w);
   tree = λ n t m w. exactly _ _ (tree-inhabited n t m w) (tree-decided n t m w);
@@ -694,6 +721,7 @@ tables-left = record {
   linked = λ κs a last. refl;
   first = λ κs a last. refl;
   later-of = λ κs a last. refl;
+  lift = λ κs a last. refl;
   ask-up = λ κs a last. refl;
   ask-down = λ κs a last. refl;
   core = λ κs a last. refl;
@@ -736,6 +764,9 @@ property-2 = record {
   check = check-right;
   number = number-right;
   later-of = later-right;
+  lift = lift-right;
+  lift-core = lift-core;
+  lift-none = lift-none;
   core = core-right;
   backbone = backbone-right;
   backbone-one-part = backbone-one-part;

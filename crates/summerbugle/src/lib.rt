@@ -10,6 +10,7 @@ ghost use Rattle.calls.specs.Contracts.Heard.{Hear-contract};
 ghost use Rattle.calls.specs.Contracts.Images.{Read-contract, Write-contract, Block-contract};
 ghost use Rattle.calls.specs.Contracts.Radios.{Number-contract, Neighbours-contract, Linked-contract, First-contract};
 ghost use Rattle.calls.specs.Contracts.Wake.{Later-contract};
+ghost use Rattle.calls.specs.Contracts.Lift.{Lift-contract};
 ghost use Rattle.calls.specs.Contracts.Cores.{Core-contract, Backbone-contract};
 ghost use Rattle.calls.specs.Contracts.Trees.{Tree-contract};
 ghost use Rattle.calls.specs.Contracts.Pages.{Sheet-contract};
@@ -18,6 +19,7 @@ ghost use Rattle.calls.specs.Contracts.Staircase.{Staircase-contract};
 ghost use Rattle.calls.specs.Contracts.Marks.{Set-contract, Remove-contract, Return-contract};
 use calls::Block;
 use calls::Later;
+use calls::Pair;
 use calls::Reply;
 use calls::Value;
 use mesh::Node;
@@ -264,6 +266,21 @@ pub extern "C" fn sb_later_of<'a>(
     ensures { λ r. ⌜ Later-contract n v (lent (links .entry) (numbers .entry) (order .entry)) r ⌝ }
 {
     soundness::wake::later_of(n, v, links, numbers, order)
+}
+
+// The first pair, by lower radio and then higher, whose link is down, would be taken up now, and would raise the number of radio v.
+// Nothing changes. Refused by 1 to 4, and by 20 exactly if there is none: then low and high are 0.
+#[no_mangle]
+pub extern "C" fn sb_lift<'a>(
+    n: u32,
+    v: u32,
+    links: &'a [u8],
+    numbers: &'a [u8],
+    order: &'a [u16],
+) -> Pair
+    ensures { λ r. ⌜ Lift-contract n v (lent (links .entry) (numbers .entry) (order .entry)) r ⌝ }
+{
+    lift::lift(n, v, links, numbers, order)
 }
 
 // The connected core of v at level k: the count, and the radios ascending in front of the answer table. Refused by 1 to 4 and 8:

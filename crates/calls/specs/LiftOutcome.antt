@@ -1,0 +1,21 @@
+-- The outcome of the question for one link that lifts a radio, as an executable definition.
+--   pair           an answer
+--   lift-outcome   the first pair that lifts v, by lower radio and then higher; or the refusal
+-- That it meets `Lift-contract`, and no other outcome does, is `lift-inhabited` and `lift-decided` in proofs/LiftOutcome.antt.
+-- Definitions only.
+use Prim.Native.Nat.{ℕ}
+use Rattle.mesh.specs.Tables.{Tables, graph-in}
+use Rattle.mesh.specs.Sound.{sound}
+use Rattle.calls.specs.Questions.{lengths-of}
+use Rattle.calls.specs.Lift.{lifting, first-pair, lift-refusal}
+use Rattle.calls.specs.Outcomes.{by-number}
+use Rattle.calls.specs.declared.Pair.{Pair}
+
+abbrev pub pair : (number low high : ℕ) → Pair
+pair r a b = record { number = r; low = a; high = b }
+
+unfoldable pub lift-outcome : (n v : ℕ) → Tables → Pair
+lift-outcome n v t =
+    let g = graph-in n (t .links) in
+    let first = first-pair (lifting g v) in
+    by-number (lift-refusal n v (lengths-of t) (sound n t) g) (pair 0 (first .low) (first .high)) (λ q. pair q 0 0)

@@ -1,0 +1,277 @@
+-- The leaves of the peel, as laws of counters and sets.
+--   is-due        what each test of the code says of it
+--   Lowered       of nobody, of one radio, of one radio and then others
+--   Lowering      the listed radios from place i on are left
+--   Marking       the radios below v are marked where they pass a test
+use mathlib.Core.Path.{_≡_, refl, sym, ap, subst, _∙_}
+use mathlib.Core.Logic.{_⊎_, inl, inr}
+use mathlib.Core.Bool.{Bool, true, false, _&&_, _||_, not, cond}
+use mathlib.Core.List.{List, [], _∷_}
+use Prim.Native.Nat.{ℕ, zero, suc, _+_, _-_, _≤_, _<_}
+use native.Mathlib.Omega.{arith}
+use native.Mathlib.Numerals.{add-one}
+use lib.Dec.{ltb, eqb}
+use lib.ListN.{length, getD, set, drop, length-set, drop-of-length-le}
+use lib.Seq.{getD-set-same, getD-set-other, drop-cons}
+use borrow.Author.Tests.{eqb-true, eqb-false, eq-eqb, ne-eqb, le-leb, lt-leb, lt-ltb, le-ltb}
+use Rattle.lists.specs.Lists.{In, Distinct, member}
+use Rattle.lists.proofs.Tests.{bool-cases, cond-false}
+use Rattle.lists.proofs.Member.{not-member}
+use Rattle.mesh.specs.Limits.{max-radios, row-bytes}
+use Rattle.mesh.specs.Tables.{marked, put-bit, byte-at}
+use Rattle.mesh.proofs.Tables.Laws.{marked-put-bit, length-put-bit}
+use Rattle.lifting.specs.Peeling.{left}
+use Rattle.lift.specs.Peels.{is-due, Lowered}
+
+-- ---- tests
+
+pub and-no : (a b : Bool) → b ≡ false → (a && b) ≡ false
+and-no true b e = e
+and-no false b e = refl
+
+pub or-no : (a b : Bool) → b ≡ false → (a || b) ≡ a
+or-no true b e = refl
+or-no false b e = e
+
+-- an entry that is there is the same whatever stands for none
+pub getD-any : (xs : List ℕ) (i d e : ℕ) → i < length xs → getD xs i d ≡ getD xs i e
+getD-any [] i d e l = omega arith
+getD-any (x ∷ xs) zero d e l = refl
+getD-any (x ∷ xs) (suc i) d e l = getD-any xs i d e (omega arith)
+
+less-other : (v w : ℕ) → w < v + 1 → (v ≡ w → ⊥) → w < v
+less-other v w l ne = omega arith
+
+-- ---- is-due
+
+module _ (k a : ℕ) (held cs : List ℕ) (v : ℕ) (l : v < length cs) where
+  pub due-high : k < getD cs v 0 → false ≡ is-due k a held cs v
+  unfolding is-due
+  due-high h = rw (lt-leb (getD cs v 255) k (omega (arith, getD-any cs v 0 255 l)))
+
+  pub due-own : getD cs v 0 ≤ k → v ≡ a → false ≡ is-due k a held cs v
+  unfolding is-due
+  due-own h e = rw (le-leb (getD cs v 255) k (omega (arith, getD-any cs v 0 255 l)), eq-eqb v a e)
+
+  pub due-other : (t : Bool) → getD cs v 0 ≤ k → (v ≡ a → ⊥) → t ≡ marked held 0 v → not t ≡ is-due k a held cs v
+  unfolding is-due
+  due-other t h ne e = rw (le-leb (getD cs v 255) k (omega (arith, getD-any cs v 0 255 l)), ne-eqb v a ne, e)
+
+-- ---- radios marked where they pass a test
+
+-- the radios below v are marked where they pass, the others as before
+pub record Marking (f : ℕ → Bool) (old : List ℕ) (v : ℕ) (row : List ℕ) : Type 0 where
+  pub long : length row ≡ length old
+  pub is : (w : ℕ) → w < v → w < max-radios → marked row 0 w ≡ f w
+  pub other : (w : ℕ) → v ≤ w → w < max-radios → marked row 0 w ≡ marked old 0 w
+
+module _ (f : ℕ → Bool) (old : List ℕ) (room : length old ≡ row-bytes) where
+  pub marking-none : Marking f old 0 old
+  marking-none = record { long = refl; is = λ w l lw. absurd (omega arith); other = λ w l lw. refl }
+
+  pub marking-turn : (v : ℕ) (row new : List ℕ) → v < max-radios → new ≡ put-bit (f v) 0 v row → Marking f old v row → Marking f old (v + 1) new
+  unfolding byte-at
+  marking-turn v row new l e h = record {
+    long = ap length e ∙ length-put-bit (f v) 0 v row ∙ h .long;
+    is = λ w less lw. put w lw ∙ at w less lw (bool-cases (eqb v w));
+    other = λ w more lw. put w lw ∙ rw (ne-eqb v w (λ q. past v w more q)) (h .other w (omega arith) lw);
+  }
+    where
+      put : (w : ℕ) → w < max-radios → marked new 0 w ≡ cond (eqb 0 0 && eqb v w) (f v) (marked row 0 w)
+      put w lw = ap (λ (xs : List ℕ). marked xs 0 w) e ∙ marked-put-bit (f v) 0 v row 0 w l lw (omega (arith, h .long, room))
+
+      past : (v w : ℕ) → v + 1 ≤ w → v ≡ w → ⊥
+      past v w more q = omega arith
+
+      at : (w : ℕ) → w < v + 1 → w < max-radios → (eqb v w ≡ true) ⊎ (eqb v w ≡ false) → cond (eqb 0 0 && eqb v w) (f v) (marked row 0 w) ≡ f w
+      at w less lw (inl q) = rw q (ap f (eqb-true v w q))
+      at w less lw (inr q) = rw q (h .is w (less-other v w less (eqb-false v w q)) lw)
+
+-- ---- nobody lowered
+
+pub lowered-none : (k a : ℕ) (held cs due : List ℕ) → Lowered k a held [] cs due cs due
+unfolding member
+lowered-none k a held cs due = record {
+  long = refl;
+  due-long = refl;
+  counter-after = λ w. sym (cond-false (left cs w && false) (getD cs w 255 - 1) (getD cs w 255) (and-no (left cs w) false refl));
+  due-after = λ w l. sym (or-no (marked due 0 w) ((left cs w && false) && is-due k a held cs w) (rw (and-no (left cs w) false refl)));
+}
+
+-- ---- one radio lowered
+
+one-other : (w v : ℕ) → (w ≡ v → ⊥) → member v (w ∷ []) ≡ false
+unfolding member
+one-other w v ne = rw (ne-eqb w v ne)
+
+one-same : (w v : ℕ) → w ≡ v → member v (w ∷ []) ≡ true
+unfolding member
+one-same w v e = rw (eq-eqb w v e)
+
+module _ (k a w : ℕ) (held cs due : List ℕ) (l : w < length cs) where
+  untouched : (v : ℕ) → left cs w ≡ false → (left cs v && member v (w ∷ [])) ≡ false
+  untouched v gone = by-test (bool-cases (eqb w v))
+    where
+      by-test : (eqb w v ≡ true) ⊎ (eqb w v ≡ false) → (left cs v && member v (w ∷ [])) ≡ false
+      by-test (inl q) = rw (ap (left cs) (sym (eqb-true w v q)) ∙ gone)
+      by-test (inr q) = and-no (left cs v) (member v (w ∷ [])) (one-other w v (eqb-false w v q))
+
+  gone : 128 ≤ getD cs w 0 → left cs w ≡ false
+  unfolding left
+  gone h = le-ltb (getD cs w 255) 128 (omega (arith, getD-any cs w 0 255 l))
+
+  pub lowered-gone : 128 ≤ getD cs w 0 → Lowered k a held (w ∷ []) cs due cs due
+  lowered-gone h = record {
+    long = refl;
+    due-long = refl;
+    counter-after = λ v. sym (cond-false (left cs v && member v (w ∷ [])) (getD cs v 255 - 1) (getD cs v 255) (untouched v (gone h)));
+    due-after = λ v lv. sym (or-no (marked due 0 v) ((left cs v && member v (w ∷ [])) && is-due k a held cs v) (rw (untouched v (gone h))));
+  }
+
+  is-left : getD cs w 0 < 128 → left cs w ≡ true
+  unfolding left
+  is-left h = lt-ltb (getD cs w 255) 128 (omega (arith, getD-any cs w 0 255 l))
+
+  -- y is the counter after, t whether w is then due
+  module _ (y : ℕ) (t : Bool) (new : List ℕ) (small : w < max-radios) (room : length due ≡ row-bytes) (h : getD cs w 0 < 128) (less : y ≡ getD cs w 0 - 1)
+      (test : t ≡ is-due k a held (set cs w y) w) (put : new ≡ cond t (put-bit true 0 w due) due) where
+    abbrev ds : List ℕ
+    ds = set cs w y
+
+    counter-at : (v : ℕ) → (eqb w v ≡ true) ⊎ (eqb w v ≡ false) → getD ds v 255 ≡ cond (left cs v && member v (w ∷ [])) (getD cs v 255 - 1) (getD cs v 255)
+    counter-at v (inl q) =
+        let e : w ≡ v = eqb-true w v q in
+        subst (λ (x : ℕ). getD ds x 255 ≡ cond (left cs x && member x (w ∷ [])) (getD cs x 255 - 1) (getD cs x 255)) e
+        (rw (is-left h, one-same w w refl) (getD-set-same cs w y 255 l ∙ less ∙ ap (λ (x : ℕ). x - 1) (getD-any cs w 0 255 l)))
+    counter-at v (inr q) =
+        getD-set-other cs w v y 255 (λ e. eqb-false w v q (sym e))
+        ∙ sym (cond-false (left cs v && member v (w ∷ [])) (getD cs v 255 - 1) (getD cs v 255) (and-no (left cs v) (member v (w ∷ [])) (one-other w v
+        (eqb-false w v q))))
+
+    marked-new : (v : ℕ) → v < max-radios → (u : Bool) → new ≡ cond u (put-bit true 0 w due) due → marked new 0 v ≡ (marked due 0 v || (eqb w v && u))
+    unfolding byte-at
+    marked-new v lv true e = ap (λ (xs : List ℕ). marked xs 0 v) e ∙ marked-put-bit true 0 w due 0 v small lv (omega (arith, room))
+        ∙ flip (eqb w v) (marked due 0 v)
+      where
+        flip : (b m : Bool) → cond b true m ≡ (m || (b && true))
+        flip true true = refl
+        flip true false = refl
+        flip false true = refl
+        flip false false = refl
+    marked-new v lv false e = ap (λ (xs : List ℕ). marked xs 0 v) e ∙ sym (or-no (marked due 0 v) (eqb w v && false) (and-no (eqb w v) false refl))
+
+    due-at : (v : ℕ) → (eqb w v ≡ true) ⊎ (eqb w v ≡ false) → (eqb w v && t) ≡ ((left cs v && member v (w ∷ [])) && is-due k a held ds v)
+    due-at v (inl q) =
+        let e : w ≡ v = eqb-true w v q in
+        subst (λ (x : ℕ). (eqb w x && t) ≡ ((left cs x && member x (w ∷ [])) && is-due k a held ds x)) e (rw
+        (is-left h, one-same w w refl, eq-eqb w w refl) test)
+    due-at v (inr q) = rw (q, and-no (left cs v) (member v (w ∷ [])) (one-other w v (eqb-false w v q)))
+
+    pub lowered-one : Lowered k a held (w ∷ []) cs due ds new
+    lowered-one = record {
+      long = length-set cs w y;
+      due-long = ap length put ∙ long-put t;
+      counter-after = λ v. counter-at v (bool-cases (eqb w v));
+      due-after = λ v lv. marked-new v lv t put ∙ ap (λ (b : Bool). marked due 0 v || b) (due-at v (bool-cases (eqb w v)));
+    }
+      where
+        long-put : (u : Bool) → length (cond u (put-bit true 0 w due) due) ≡ length due
+        long-put true = length-put-bit true 0 w due
+        long-put false = refl
+
+-- ---- one radio lowered, and then others
+
+module _ (k a x : ℕ) (held xs cs due cs1 due1 ds new : List ℕ) (out : In x xs → ⊥) (one : Lowered k a held (x ∷ []) cs due cs1 due1)
+    (rest : Lowered k a held xs cs1 due1 ds new) where
+  more-same : (w : ℕ) → x ≡ w → member w xs ≡ false
+  more-same w e = not-member w xs (λ i. out (subst (λ (y : ℕ). In y xs) (sym e) i))
+
+  more-other : (w : ℕ) → (x ≡ w → ⊥) → member w (x ∷ xs) ≡ member w xs
+  unfolding member
+  more-other w ne = rw (ne-eqb x w ne)
+
+  both-same : (w : ℕ) → x ≡ w → member w (x ∷ []) ≡ member w (x ∷ xs)
+  unfolding member
+  both-same w e = rw (eq-eqb x w e)
+
+  counter-same : (w : ℕ) → x ≡ w → getD ds w 255 ≡ getD cs1 w 255
+  counter-same w e =
+      rest .counter-after w ∙ cond-false (left cs1 w && member w xs) (getD cs1 w 255 - 1) (getD cs1 w 255) (and-no (left cs1 w) (member w xs) (more-same w e))
+
+  counter-other : (w : ℕ) → (x ≡ w → ⊥) → getD cs1 w 255 ≡ getD cs w 255
+  counter-other w ne =
+      one .counter-after w
+      ∙ cond-false (left cs w && member w (x ∷ [])) (getD cs w 255 - 1) (getD cs w 255) (and-no (left cs w) (member w (x ∷ [])) (one-other x w ne))
+
+  left-other : (w : ℕ) → (x ≡ w → ⊥) → left cs1 w ≡ left cs w
+  unfolding left
+  left-other w ne = ap (λ (y : ℕ). ltb y 128) (counter-other w ne)
+
+  due-like : (w : ℕ) → x ≡ w → is-due k a held cs1 w ≡ is-due k a held ds w
+  unfolding is-due
+  due-like w e = rw (counter-same w e)
+
+  counter-both : (w : ℕ) → (eqb x w ≡ true) ⊎ (eqb x w ≡ false) → getD ds w 255 ≡ cond (left cs w && member w (x ∷ xs)) (getD cs w 255 - 1) (getD cs w 255)
+  counter-both w (inl q) =
+      let e : x ≡ w = eqb-true x w q in
+      counter-same w e ∙ one .counter-after w ∙ ap (λ (b : Bool). cond (left cs w && b) (getD cs w 255 - 1) (getD cs w 255)) (both-same w e)
+  counter-both w (inr q) =
+      let ne : x ≡ w → ⊥ = eqb-false x w q in rw (more-other w ne, sym (left-other w ne), sym (counter-other w ne)) (rest .counter-after w)
+
+  due-both : (w : ℕ) → w < max-radios → (eqb x w ≡ true) ⊎ (eqb x w ≡ false)
+      → marked new 0 w ≡ (marked due 0 w || ((left cs w && member w (x ∷ xs)) && is-due k a held ds w))
+  due-both w l (inl q) =
+      let e : x ≡ w = eqb-true x w q in
+      rest .due-after w l
+      ∙ or-no (marked due1 0 w) ((left cs1 w && member w xs) && is-due k a held ds w) (rw (and-no (left cs1 w) (member w xs) (more-same w e)))
+      ∙ one .due-after w l
+      ∙ rw (both-same w e, due-like w e)
+  due-both w l (inr q) =
+      let ne : x ≡ w → ⊥ = eqb-false x w q in
+      rest .due-after w l
+      ∙ ap (λ (b : Bool). b || ((left cs1 w && member w xs) && is-due k a held ds w))
+      (one .due-after w l ∙ or-no (marked due 0 w) ((left cs w && member w (x ∷ [])) && is-due k a held cs1 w) (rw (and-no (left cs w) (member w
+      (x ∷ [])) (one-other x w ne))))
+      ∙ rw (more-other w ne, left-other w ne)
+
+  pub lowered-cons : Lowered k a held (x ∷ xs) cs due ds new
+  lowered-cons = record {
+    long = rest .long ∙ one .long;
+    due-long = rest .due-long ∙ one .due-long;
+    counter-after = λ w. counter-both w (bool-cases (eqb x w));
+    due-after = λ w l. due-both w l (bool-cases (eqb x w));
+  }
+
+-- ---- the listed radios lowered
+
+-- from place i of the list on is left
+pub record Lowering (k a : ℕ) (held xs old old-due : List ℕ) (i : ℕ) (cs due : List ℕ) : Type 0 where
+  pub low : i ≤ length xs
+  pub long : length cs ≡ length old
+  pub due-long : length due ≡ length old-due
+  pub once : Distinct (drop i xs)
+  pub whole : (ds new : List ℕ) → Lowered k a held (drop i xs) cs due ds new → Lowered k a held xs old old-due ds new
+
+module _ (k a : ℕ) (held xs old old-due : List ℕ) where
+  pub lowering-none : Distinct xs → Lowering k a held xs old old-due 0 old old-due
+  lowering-none d = record { low = omega arith; long = refl; due-long = refl; once = d; whole = λ ds new h. h }
+
+  pub lowering-turn : (i x : ℕ) (cs due ds new : List ℕ) → i < length xs → x ≡ getD xs i 0 → Lowered k a held (x ∷ []) cs due ds new
+      → Lowering k a held xs old old-due i cs due → Lowering k a held xs old old-due (i + 1) ds new
+  lowering-turn i x cs due ds new l e one h = go (rw (add-one i) (drop-cons xs i 0 l ∙ ap (λ (y : ℕ). y ∷ drop (suc i) xs) (sym e)))
+    where
+      go : drop i xs ≡ x ∷ drop (i + 1) xs → Lowering k a held xs old old-due (i + 1) ds new
+      go cut =
+          let both : Distinct (x ∷ drop (i + 1) xs) = subst Distinct cut (h .once) in
+          record {
+            low = omega arith;
+            long = one .long ∙ h .long;
+            due-long = one .due-long ∙ h .due-long;
+            once = both .1;
+            whole = λ es end r. h .whole es end (subst (λ (ys : List ℕ). Lowered k a held ys cs due es end) (sym cut)
+                (lowered-cons k a x held (drop (i + 1) xs) cs due ds new es end (both .0) one r));
+          }
+
+  pub lowering-end : (i : ℕ) (cs due : List ℕ) → length xs ≤ i → Lowering k a held xs old old-due i cs due → Lowered k a held xs old old-due cs due
+  lowering-end i cs due l h =
+      h .whole cs due (subst (λ (ys : List ℕ). Lowered k a held ys cs due cs due) (sym (drop-of-length-le xs l)) (lowered-none k a held cs due))

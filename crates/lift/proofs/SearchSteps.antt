@@ -1,0 +1,237 @@
+-- The search over pairs: candidates marked, a lower end done, all done.
+--   trying-start    the marked radios are the higher ends of a's candidates
+--   end-..          the lower end a is done: no candidates, a pair that lifts, or all ruled out
+--   pair-..         the first pair, or none
+use mathlib.Core.Path.{_≡_, refl, sym, subst, _∙_}
+use mathlib.Core.Logic.{_⊎_, inl, inr}
+use mathlib.Core.Bool.{Bool, true, false, _&&_, _||_, not}
+use mathlib.Core.List.{List}
+use Prim.Native.Nat.{ℕ, _+_, _/_, _≤_, _<_, min}
+use native.Mathlib.Omega.{arith}
+use lib.Dec.{ltb, leb, eqb}
+use lib.ListN.{length, getD, replicate, length-replicate}
+use borrow.Author.Tests.{eqb-true, eqb-false, eq-eqb, ltb-true, ltb-false, lt-ltb, le-leb, lt-leb, leb-true, leb-false, not-true}
+use Rattle.lists.specs.Lists.{head-or}
+use Rattle.lists.proofs.Tests.{bool-cases, never, and-left, and-right, and-both, or-cases, or-left, or-right}
+use Rattle.mesh.specs.Limits.{max-radios, max-neighbours, row-bytes}
+use Rattle.mesh.specs.Graph.{Graph, link-of, linked, degree}
+use Rattle.mesh.specs.Cores.{number}
+use Rattle.mesh.specs.Levels.{lower-level}
+use Rattle.mesh.specs.Tables.{tables, marked, byte-at}
+use Rattle.mesh.specs.Valid.{Valid}
+use Rattle.mesh.proofs.Tables.Laws.{marked-replicate}
+use Rattle.calls.specs.Questions.{can-switch, has-room}
+use Rattle.calls.specs.Lift.{lifts}
+use Rattle.rows.specs.Rows.{row-listed, row-count}
+use Rattle.soundness.proofs.SoundSite.{linked-marked, degree-counted}
+use Rattle.lifting.specs.Search.{candidate, None-below}
+use Rattle.lifting.proofs.Pairs.{candidate-refutes, candidate-allowed}
+use Rattle.lifting.proofs.Search.{untried-start, none-next, first-found, none-found}
+use Rattle.lift.specs.Peels.{graph-of}
+use Rattle.lift.specs.Tries.{Search-site, Trying, Tried}
+use Rattle.lift.specs.Search.{is-free, Free, may-lift, Marked, Higher-end, Pair-found}
+use Rattle.lift.proofs.PeelSteps.{links-site, links-valid, first-due, none-before}
+use Rattle.lift.proofs.TrySteps.{candidate-level, site-links, site-radios, graph-radios, site-small, number-is, level-is}
+
+-- where one number is not the level, the other is
+min-other : (x y u v k : ℕ) → u ≡ x → v ≡ y → min x y ≡ k → (u ≡ k → ⊥) → v ≡ k
+min-other x y u v k e f m ne = omega arith
+
+-- a candidate, from its parts
+candidate-made : (g : Graph) (k a c : ℕ) → min (number g a) (number g c) ≡ k → linked g a c ≡ false → degree g a < max-neighbours → degree g c < max-neighbours
+    → candidate g k a c ≡ true
+unfolding candidate lower-level can-switch has-room
+candidate-made g k a c e l da dc = rw (
+  eq-eqb (min (number g a) (number g c)) k e,
+  l,
+  lt-ltb (degree g a) max-neighbours da,
+  lt-ltb
+      (degree g c) max-neighbours dc,
+)
+
+module _ (links numbers highs : List ℕ) (s : Search-site links numbers highs) (r : ℕ) (lr : r < length numbers) where
+  abbrev g : Graph
+  g = graph-of links
+
+  abbrev k : ℕ
+  k = getD numbers r 0
+
+  valid : Valid max-neighbours g (s .order)
+  valid = links-valid links (site-links links numbers highs s)
+
+  lr-graph : r < g .n
+  lr-graph = omega (arith, graph-radios links numbers highs s)
+
+  kr : number g r ≡ k
+  kr = level-is links numbers highs s r lr
+
+  entry : (v : ℕ) → v < length numbers → getD numbers v 0 ≡ number g v
+  entry v l = number-is links numbers highs s v l
+
+  row-degree-is : (v : ℕ) → v < length numbers → row-count max-neighbours links v ≡ degree g v
+  row-degree-is v l =
+      degree-counted (length links / row-bytes) (tables links numbers (s .order)) (links-site links (site-links links numbers highs s)) v
+      (omega (arith, site-radios links numbers highs s))
+
+  linked-is : (v w : ℕ) → v < length numbers → w < length numbers → linked g v w ≡ marked links v w
+  linked-is v w l m =
+      linked-marked (length links / row-bytes) (tables links numbers (s .order)) (links-site links (site-links links numbers highs s)) v w
+      (omega (arith, site-radios links numbers highs s)) (omega (arith, site-radios links numbers highs s))
+
+  module _ (free : List ℕ) (fr : Free k links numbers free) where
+    free-is : (v : ℕ) → v < length numbers → marked free 0 v ≡ true → (k ≤ number g v) × (degree g v < max-neighbours)
+    unfolding is-free
+    free-is v l e =
+        let both : (leb k (getD numbers v 0) && ltb (row-count max-neighbours links v) max-neighbours) ≡ true = sym (fr .is v l) ∙ e in (
+          omega (
+            arith,
+            entry v l,
+            leb-true k (getD numbers v 0) (and-left (leb k (getD numbers v 0)) (ltb
+                (row-count max-neighbours links v) max-neighbours) both),
+          ),
+          omega (
+            arith,
+            row-degree-is v l,
+            ltb-true (row-count max-neighbours links v) max-neighbours (and-right (leb k (getD numbers v 0)) (ltb
+                (row-count max-neighbours links v) max-neighbours) both),
+          ),
+        )
+
+    is-free-of : (v : ℕ) → v < length numbers → k ≤ number g v → degree g v < max-neighbours → marked free 0 v ≡ true
+    unfolding is-free
+    is-free-of v l h d =
+        fr .is v l
+        ∙ and-both (leb k (getD numbers v 0)) (ltb (row-count max-neighbours links v) max-neighbours) (le-leb k (getD numbers v 0) (omega (arith, entry v l)))
+        (lt-ltb (row-count max-neighbours links v) max-neighbours (omega (arith, row-degree-is v l)))
+
+    module _ (a : ℕ) (la : a < length numbers) where
+      abbrev has : ℕ → Bool
+      has c = eqb (getD numbers a 0) k || eqb (getD numbers c 0) k
+
+      lower-is : (c : ℕ) → c < length numbers → k ≤ number g a → k ≤ number g c → has c ≡ true → min (number g a) (number g c) ≡ k
+      lower-is c lc ha hc e = go (or-cases (eqb (getD numbers a 0) k) (eqb (getD numbers c 0) k) e)
+        where
+          go : (eqb (getD numbers a 0) k ≡ true) ⊎ (eqb (getD numbers c 0) k ≡ true) → min (number g a) (number g c) ≡ k
+          go (inl q) = omega (arith, ha, hc, entry a la, eqb-true (getD numbers a 0) k q)
+          go (inr q) = omega (arith, ha, hc, entry c lc, eqb-true (getD numbers c 0) k q)
+
+      may-candidate : marked free 0 a ≡ true → (c : ℕ) → c < length numbers → may-lift a k links numbers free c ≡ true → (a < c) × (candidate g k a c ≡ true)
+      unfolding may-lift
+      may-candidate on c lc e =
+          let rest = and-right (ltb a c) (marked free 0 c && (has c && not (marked links a c))) e in
+          let last = and-right (marked free 0 c) (has c && not (marked links a c)) rest in
+          let own = free-is a la on in
+          let other = free-is c lc (and-left (marked free 0 c) (has c && not (marked links a c)) rest) in (
+            ltb-true a c (and-left (ltb a c) (marked free 0 c && (has c && not (marked links a c))) e),
+            candidate-made g k a c (lower-is c lc (own .0) (other .0) (and-left (has c) (not (marked links a c)) last))
+                (linked-is a c la lc ∙ not-true (marked links a c) (and-right (has c) (not (marked links a c)) last)) (own .1) (other .1),
+          )
+
+      level-of : (c : ℕ) → c < length numbers → min (number g a) (number g c) ≡ k → has c ≡ true
+      level-of c lc e = go (bool-cases (eqb (getD numbers a 0) k))
+        where
+          go : (eqb (getD numbers a 0) k ≡ true) ⊎ (eqb (getD numbers a 0) k ≡ false) → has c ≡ true
+          go (inl q) = or-left (eqb (getD numbers a 0) k) (eqb (getD numbers c 0) k) q
+          go (inr q) =
+              let ne = eqb-false (getD numbers a 0) k q in
+              or-right (eqb (getD numbers a 0) k) (eqb (getD numbers c 0) k) (eq-eqb (getD numbers c 0) k (min-other (number g a) (number g c)
+              (getD numbers a 0) (getD numbers c 0) k (entry a la) (entry c lc) e ne))
+
+      candidate-may : (c : ℕ) → a < c → c < length numbers → candidate g k a c ≡ true → (marked free 0 a ≡ true) × (may-lift a k links numbers free c ≡ true)
+      unfolding may-lift
+      candidate-may c ac lc e =
+          let level = candidate-level g k a c e in
+          let ok = candidate-allowed g k a c ac (omega (arith, graph-radios links numbers highs s)) e in
+          let room = ok .room refl in (
+            is-free-of a la (omega (arith, level)) (room .0),
+            rw (lt-ltb a c ac, is-free-of c lc (omega (arith, level)) (room .1), level-of c lc level, sym (linked-is a c la lc) ∙ ok .state),
+          )
+
+      pub end-closed : marked free 0 a ≡ false → Higher-end links r a max-radios
+      end-closed off = record {
+        found = λ l. absurd (omega arith);
+        none-below = λ c ac l m. candidate-refutes g (s .order) valid k r a c lr-graph kr (not-candidate c ac (omega
+            (arith, graph-radios links numbers highs s)) (bool-cases (candidate g k a c)));
+      }
+        where
+          not-candidate : (c : ℕ) → a < c → c < length numbers → (candidate g k a c ≡ true) ⊎ (candidate g k a c ≡ false) → candidate g k a c ≡ false
+          not-candidate c ac lc (inr q) = q
+          not-candidate c ac lc (inl q) = never (marked free 0 a) (candidate-may c ac lc q .0) off
+
+      module _ (on : marked free 0 a ≡ true) (new : List ℕ) (m : Marked a k links numbers free (replicate row-bytes 0) new) where
+        none-past : (c : ℕ) → length numbers ≤ c → c < max-radios → marked new 0 c ≡ false
+        unfolding byte-at
+        none-past c l lc = m .other c l lc ∙ marked-replicate row-bytes 0 c (omega arith)
+
+        pub trying-start : Trying links r a new
+        trying-start = record {
+          long = m .long ∙ length-replicate {A = ℕ} row-bytes 0;
+          candidates = λ c lc q. own c lc q (bool-cases (ltb c (length numbers)));
+          rest = untried-start g (s .order) valid k r a lr-graph kr (marked new 0)
+              (λ c ac lc q. other c ac (omega (arith, graph-radios links numbers highs s)) q (bool-cases (candidate g k a c)));
+        }
+          where
+            own : (c : ℕ) → c < max-radios → marked new 0 c ≡ true → (ltb c (length numbers) ≡ true) ⊎ (ltb c (length numbers) ≡ false)
+                → (a < c) × (c < g .n) × (candidate g (number g r) a c ≡ true)
+            own c lc q (inl e) =
+                let l = ltb-true c (length numbers) e in
+                let is = may-candidate on c l (sym (m .is c l lc) ∙ q) in
+                (is .0, omega (arith, l, graph-radios links numbers highs s), subst (λ (x : ℕ). candidate g x a c ≡ true) (sym kr) (is .1))
+            own c lc q (inr e) = never (marked new 0 c) q (none-past c (ltb-false c (length numbers) e) lc)
+
+            other : (c : ℕ) → a < c → c < length numbers → marked new 0 c ≡ false → (candidate g k a c ≡ true) ⊎ (candidate g k a c ≡ false)
+                → candidate g k a c ≡ false
+            other c ac lc q (inr e) = e
+            other c ac lc q (inl e) =
+                never (marked new 0 c) (m .is c lc (omega (arith, lc, site-small links numbers highs s)) ∙ candidate-may c ac lc e .1) q
+
+  -- ---- a lower end done
+
+  -- b is the lowest untried radio
+  pub record Trying-on (a : ℕ) (untried : List ℕ) (b : ℕ) : Type 0 where
+    pub trying : Trying links r a untried
+    pub first : b ≡ head-or max-radios (row-listed untried 0)
+
+  module _ (a b : ℕ) (old : List ℕ) (h : Trying-on a old b) where
+    below : (c : ℕ) → a < c → c < b → c < g .n → lifts g r (link-of a c) ≡ false
+    below c ac l m =
+        h .trying .rest c ac m (none-before old (h .trying .long) b (h .first) c l (omega
+        (arith, m, graph-radios links numbers highs s, site-small links numbers highs s)))
+
+    pub lowest-on : b < max-radios → marked old 0 b ≡ true
+    lowest-on l = first-due old (h .trying .long) b (h .first) l
+
+    pub end-found : b < max-radios → (new : List ℕ) (x : Bool) → x ≡ true → Tried links r a b old new x → Higher-end links r a b
+    end-found l new x e t =
+        let own = h .trying .candidates b l (lowest-on l) in record { found = λ q. (own .0, own .1, t .does e); none-below = below }
+
+    pub end-none : max-radios ≤ b → Higher-end links r a max-radios
+    end-none l = record { found = λ q. absurd (omega arith); none-below = λ c ac q m. below c ac (omega arith) m }
+
+    pub trying-next : (new : List ℕ) (x : Bool) (d : ℕ) → x ≡ false → Tried links r a b old new x → d ≡ head-or max-radios (row-listed new 0)
+        → Trying-on a new d
+    trying-next new x d e t f = record { trying = t .next e; first = f }
+
+  -- ---- all lower ends
+
+  module _ (a b : ℕ) (la : a < length numbers) (none : None-below g r a) (end : Higher-end links r a b) where
+    pub pair-some : b < max-radios → Pair-found links r a b
+    pair-some l =
+        let f = end .found l in
+        record {
+          some = λ q. first-found g r a b (λ c. leb b c) none (λ c ac lc e. end .none-below c ac (leb-false b c e) lc) (λ c ac cb. lt-leb b c cb)
+              (f .0) (f .1) (f .2);
+          none = λ q. absurd (omega (arith, q, la, site-small links numbers highs s));
+        }
+
+    pub pair-next : max-radios ≤ b → None-below g r (a + 1)
+    pair-next l =
+        none-next g r a (λ c. false) none (λ c ac lc e. end .none-below c ac (omega
+        (arith, l, lc, graph-radios links numbers highs s, site-small links numbers highs s)) lc)
+        (λ c ac lc. refl)
+
+  pub pair-none : (a : ℕ) → a ≡ length numbers → None-below g r a → Pair-found links r max-radios 0
+  pair-none a e none = record {
+    some = λ q. absurd (omega arith);
+    none = λ q. none-found g r (subst (λ (x : ℕ). None-below g r x) (e ∙ sym (graph-radios links numbers highs s)) none);
+  }

@@ -1,0 +1,206 @@
+-- The leaves of a pair tried, as laws of counters and rows.
+--   counter-start, carried, ruled-out   what each test of the code says of them
+--   Starting    the counters of the radios below v stand
+--   Ruling      the radios below i are ruled out or stay
+--   begin-state, left-early, left-begin, left-late   the two peels of a pair
+use mathlib.Core.Path.{_≡_, refl, sym, ap, subst, _∙_}
+use mathlib.Core.Logic.{_⊎_, inl, inr}
+use mathlib.Core.Bool.{Bool, true, false, _&&_, not, cond}
+use mathlib.Core.List.{List}
+use Prim.Native.Nat.{ℕ, _+_, _≤_, _<_}
+use native.Mathlib.Omega.{arith}
+use lib.Dec.{ltb, leb, eqb}
+use lib.ListN.{length, getD, set, replicate, length-set, length-replicate}
+use lib.Seq.{getD-set-same, getD-set-other}
+use borrow.Author.Tests.{eqb-true, eqb-false, eq-eqb, ne-eqb, ltb-true, lt-ltb, le-ltb, not-true, not-false}
+use Rattle.lists.proofs.Tests.{bool-cases, never, iff-eq}
+use Rattle.mesh.specs.Limits.{max-radios, row-bytes}
+use Rattle.mesh.specs.Tables.{marked, put-bit, byte-at}
+use Rattle.mesh.proofs.Tables.Laws.{marked-replicate, marked-put-bit, length-put-bit}
+use Rattle.lifting.specs.Peeling.{stays}
+use Rattle.lifting.proofs.Peeling.{below-left, high-left}
+use Rattle.lift.specs.Peels.{graph-of, Due, Peel-state, Peel-begin, Peel-end}
+use Rattle.lift.specs.Tries.{counter-start, Started, Left-end, carried, ruled-out, Ruled-out}
+use Rattle.lift.proofs.PeelLaws.{getD-any}
+use Rattle.lift.proofs.PeelSteps.{inside-left}
+
+-- ---- the counters before the peel
+
+module _ (k : ℕ) (ns hs : List ℕ) where
+  pub start-past : (v : ℕ) → length ns ≤ v → 255 ≡ counter-start k ns hs v
+  unfolding counter-start
+  start-past v l = rw (le-ltb v (length ns) l)
+
+  pub start-other : (v : ℕ) → v < length ns → (getD ns v 0 ≡ k → ⊥) → 255 ≡ counter-start k ns hs v
+  unfolding counter-start
+  start-other v l ne = rw (lt-ltb v (length ns) l, ne-eqb (getD ns v 0) k ne)
+
+  pub start-own : (v : ℕ) → v < length ns → getD ns v 0 ≡ k → getD hs v 0 ≡ counter-start k ns hs v
+  unfolding counter-start
+  start-own v l e = rw (lt-ltb v (length ns) l, eq-eqb (getD ns v 0) k e)
+
+  -- the counters of the radios below v stand
+  pub record Starting (old : List ℕ) (v : ℕ) (cs : List ℕ) : Type 0 where
+    pub long : length cs ≡ length old
+    pub low : v ≤ max-radios
+    pub is : (w : ℕ) → w < v → getD cs w 255 ≡ counter-start k ns hs w
+
+  module _ (old : List ℕ) (room : length old ≡ max-radios) where
+    pub starting-none : Starting old 0 old
+    starting-none = record { long = refl; low = omega arith; is = λ w l. absurd (omega arith) }
+
+    pub starting-turn : (v x : ℕ) (cs : List ℕ) → v < max-radios → x ≡ counter-start k ns hs v → Starting old v cs → Starting old (v + 1) (set cs v x)
+    starting-turn v x cs l e h = record {
+      long = length-set cs v x ∙ h .long;
+      low = omega arith;
+      is = λ w lw. at w lw (bool-cases (eqb w v));
+    }
+      where
+        at : (w : ℕ) → w < v + 1 → (eqb w v ≡ true) ⊎ (eqb w v ≡ false) → getD (set cs v x) w 255 ≡ counter-start k ns hs w
+        at w lw (inl q) =
+            subst (λ (y : ℕ). getD (set cs v x) y 255 ≡ counter-start k ns hs y) (sym (eqb-true w v q))
+            (getD-set-same cs v x 255 (omega (arith, h .long, room)) ∙ e)
+        at w lw (inr q) =
+            let ne : w ≡ v → ⊥ = eqb-false w v q in getD-set-other cs v w x 255 ne ∙ h .is w (omega arith)
+
+    pub starting-end : (v : ℕ) (cs : List ℕ) → max-radios ≤ v → Starting old v cs → Started k ns hs cs
+    starting-end v cs l h = λ w lw. h .is w (omega arith)
+
+-- ---- carried
+
+module _ (k : ℕ) (cs : List ℕ) (v : ℕ) (l : v < length cs) where
+  pub carried-gone : 128 ≤ getD cs v 0 → true ≡ carried k cs v
+  unfolding carried
+  carried-gone h = rw (high-left cs v (omega (arith, getD-any cs v 0 255 l)))
+
+  pub carried-left : getD cs v 0 < 128 → leb k (getD cs v 0) ≡ carried k cs v
+  unfolding carried
+  carried-left h = rw (below-left cs v (omega (arith, getD-any cs v 0 255 l)), getD-any cs v 0 255 l)
+
+-- ---- the tests of `is_found`
+
+pub found-gone : (l x y : Bool) → not l ≡ true → false ≡ (l && (x && y))
+found-gone l x y e = rw (not-true l e)
+
+pub found-low : (l x y t : Bool) → not l ≡ false → t ≡ x → not t ≡ true → false ≡ (l && (x && y))
+found-low l x y t e p q = rw (not-false l e, sym p, not-true t q)
+
+pub found-high : (l x y t u : Bool) → not l ≡ false → t ≡ x → not t ≡ false → u ≡ y → u ≡ (l && (x && y))
+found-high l x y t u e p q f = rw (not-false l e, sym p, not-false t q) f
+
+-- ---- ruled-out
+
+module _ (k : ℕ) (gone : Bool) (ns cs : List ℕ) (c : ℕ) (l : c < length cs) where
+  pub ruled-above : k < getD ns c 0 → gone ≡ ruled-out k gone ns cs c
+  unfolding ruled-out
+  ruled-above h = rw (lt-ltb k (getD ns c 0) h)
+
+  pub ruled-left : getD ns c 0 ≤ k → getD cs c 0 < 128 → gone ≡ ruled-out k gone ns cs c
+  unfolding ruled-out
+  ruled-left h q = rw (le-ltb k (getD ns c 0) h, below-left cs c (omega (arith, getD-any cs c 0 255 l)))
+
+  pub ruled-taken : getD ns c 0 ≤ k → 128 ≤ getD cs c 0 → ltb (getD cs c 0) (128 + k) ≡ ruled-out k gone ns cs c
+  unfolding ruled-out
+  ruled-taken h q = rw (le-ltb k (getD ns c 0) h, high-left cs c (omega (arith, getD-any cs c 0 255 l)), getD-any cs c 0 255 l)
+
+-- the radios below i are ruled out or stay
+pub record Ruling (k : ℕ) (gone : Bool) (ns cs old : List ℕ) (i : ℕ) (new : List ℕ) : Type 0 where
+  pub long : length new ≡ length old
+  pub is : (c : ℕ) → c < max-radios → marked new 0 c ≡ (marked old 0 c && not (ltb c i && ruled-out k gone ns cs c))
+
+module _ (k : ℕ) (gone : Bool) (ns cs old : List ℕ) (room : length old ≡ row-bytes) where
+  pub ruling-none : Ruling k gone ns cs old 0 old
+  ruling-none = record { long = refl; is = λ c l. rw (le-ltb c 0 (omega arith)) (sym (whole (marked old 0 c))) }
+    where
+      whole : (b : Bool) → (b && true) ≡ b
+      whole true = refl
+      whole false = refl
+
+  pub ruling-turn : (i : ℕ) (t : Bool) (now next : List ℕ) → i < max-radios → t ≡ ruled-out k gone ns cs i → next ≡ cond t (put-bit false 0 i now) now
+      → Ruling k gone ns cs old i now → Ruling k gone ns cs old (i + 1) next
+  unfolding byte-at
+  ruling-turn i t now next l test e h = record {
+    long = ap length e ∙ long-put t ∙ h .long;
+    is = λ c lc. ap (λ (xs : List ℕ). marked xs 0 c) e ∙ put c lc t ∙ at c lc (bool-cases (eqb i c));
+  }
+    where
+      long-put : (u : Bool) → length (cond u (put-bit false 0 i now) now) ≡ length now
+      long-put true = length-put-bit false 0 i now
+      long-put false = refl
+
+      put : (c : ℕ) → c < max-radios → (u : Bool) → marked (cond u (put-bit false 0 i now) now) 0 c ≡ cond (u && eqb i c) false (marked now 0 c)
+      put c lc true = marked-put-bit false 0 i now 0 c l lc (omega (arith, h .long, room))
+      put c lc false = refl
+
+      fit : (u m : Bool) → cond (u && true) false (m && true) ≡ (m && not u)
+      fit true true = refl
+      fit true false = refl
+      fit false true = refl
+      fit false false = refl
+
+      other : (u m : Bool) → cond (u && false) false m ≡ m
+      other true m = refl
+      other false m = refl
+
+      further : (c : ℕ) → (i ≡ c → ⊥) → ltb c i ≡ ltb c (i + 1)
+      further c ne =
+          iff-eq (ltb c i) (ltb c (i + 1)) (λ q. lt-ltb c (i + 1) (omega (arith, ltb-true c i q)))
+          (λ q. let less = ltb-true c (i + 1) q in lt-ltb c i (omega arith))
+
+      at : (c : ℕ) → c < max-radios → (eqb i c ≡ true) ⊎ (eqb i c ≡ false)
+          → cond (t && eqb i c) false (marked now 0 c) ≡ (marked old 0 c && not (ltb c (i + 1) && ruled-out k gone ns cs c))
+      at c lc (inl q) =
+          subst (λ (x : ℕ). cond (t && eqb i x) false (marked now 0 x) ≡ (marked old 0 x && not (ltb x (i + 1) && ruled-out k gone ns cs x))) (eqb-true i c q)
+          (rw (eq-eqb i i refl, h .is i l, le-ltb i i (omega arith), lt-ltb i (i + 1) (omega arith), ← test) (fit t (marked old 0 i)))
+      at c lc (inr q) = rw (q, ← further c (eqb-false i c q)) (other t (marked now 0 c) ∙ h .is c lc)
+
+  pub ruling-end : (i : ℕ) (new : List ℕ) → i ≡ length ns → Ruling k gone ns cs old i new → Ruled-out k gone ns cs old new
+  ruling-end i new e h = record { long = h .long; is = rw (← e) (h .is) }
+
+-- ---- the two peels
+
+pub begin-state : (links held : List ℕ) (k a r : ℕ) (cs due : List ℕ) → length due ≡ row-bytes → Due k a held cs due → Peel-begin links held k a r cs
+    → Peel-state links held k a cs due
+begin-state links held k a r cs due long d h =
+    record { peeling = h .peeling; low = h .low; long = h .long; due-long = long; due-is = d; kept = h .kept }
+
+module _ (links untried : List ℕ) (k a b r : ℕ) (cs : List ℕ) (small : b < max-radios) (on : marked untried 0 b ≡ true) where
+  -- r was taken with all untried held
+  pub left-early : (t : Bool) → t ≡ false → Peel-end links untried k a r cs t → Left-end links k a b r cs false
+  left-early t e h = record {
+    peeling = h .peeling;
+    long = h .long;
+    high-end = h .kept b small on;
+    answer = sym e ∙ h .answer;
+    done = λ no. never false no refl;
+  }
+
+  module _ (held : List ℕ) (put : held ≡ put-bit true 0 b (replicate row-bytes 0)) where
+    held-at : (w : ℕ) → w < max-radios → marked held 0 w ≡ eqb b w
+    unfolding byte-at
+    held-at w lw =
+        ap (λ (xs : List ℕ). marked xs 0 w) put
+        ∙ marked-put-bit true 0 b (replicate row-bytes 0) 0 w small lw (omega (arith, length-replicate {A = ℕ} row-bytes 0))
+        ∙ rw (marked-replicate row-bytes 0 w (omega arith)) (same (eqb b w))
+      where
+        same : (t : Bool) → cond t true false ≡ t
+        same true = refl
+        same false = refl
+
+    pub left-begin : (t : Bool) → t ≡ true → k < 128 → Peel-end links untried k a r cs t → Peel-begin links held k a r cs
+    left-begin t e low h = record {
+      peeling = h .peeling;
+      low = low;
+      long = h .long;
+      kept = λ w lw q. subst (λ (x : ℕ). stays (graph-of links) k cs x ≡ true) (eqb-true b w (sym (held-at w lw) ∙ q)) (h .kept b small on);
+      there = sym (h .answer) ∙ e;
+    }
+
+    pub left-late : (t : Bool) (ds : List ℕ) → Peel-end links held k a r ds t → Left-end links k a b r ds t
+    left-late t ds h = record {
+      peeling = h .peeling;
+      long = h .long;
+      high-end = h .kept b small (held-at b small ∙ eq-eqb b b refl);
+      answer = h .answer;
+      done = λ yes w l na nb. h .done yes w l na (held-at w (inside-left ds w (h .long) l) ∙ ne-eqb b w (λ e. nb (sym e)));
+    }

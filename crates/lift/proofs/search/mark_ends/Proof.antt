@@ -1,0 +1,45 @@
+-- `search::mark_ends` meets its contract: the radios below c are marked where the pair may lift (`Marking`). The measure is the radios left.
+use mathlib.Core.Path.{_∙_, ap}
+use mathlib.Core.Bool.{Bool}
+use Prim.Native.Nat.{_-_, _≤_}
+use native.Mathlib.Omega.{arith}
+use lib.ListN.{length}
+use Rattle.mesh.specs.Tables.{put-bit}
+use Rattle.lift.specs.Search.{may-lift}
+use Rattle.lift.proofs.PeelLaws.{Marking, marking-none, marking-turn}
+use borrow.Author.Needs.{needs}
+use Rattle.lift.proofs.search.mark_ends.Statement.{statement}
+use Rattle.lift.proofs.search.mark_ends.Tie as tie
+
+abbrev Inv-loop : tie.InvT-loop
+Inv-loop a level links numbers free untried₀ c₀ untried c = Marking (may-lift a level links numbers free) untried₀ c untried × (c ≤ length numbers)
+
+abbrev μ-loop : tie.MeasureT-loop
+μ-loop a level links numbers free untried₀ c₀ untried c = length numbers - c
+
+loop-holds : tie.Need-loop-holds Inv-loop μ-loop
+loop-holds c = (marking-none _ _ (c .before .before .before .before .pre .1), omega arith)
+
+loop-again : tie.Need-loop-again Inv-loop μ-loop
+loop-again c =
+    let at-loop = c .before .before .before .before .before .before in
+    let v = at-loop .loop .c in (
+      marking-turn _ _ (c .before .before .before .before .before .before .before .before .before .before .before .pre .1) v _ _ (omega (arith, c .before .before .before .before .before .before .before .before .before .before .before .pre .0, c .before .before .before .before .before .loop-test .taken))
+          (c .before .before .put-bit .ensures ∙ ap (λ (t : Bool). put-bit t 0 v (at-loop .loop .untried)) (c .before .before .before .may-lift .ensures)) (at-loop .loop .inv .0),
+      omega (arith, c .before .before .before .before .before .loop-test .taken),
+    )
+
+returns : tie.Need-returns Inv-loop μ-loop
+returns c =
+    let inv = c .before .loop .inv in
+    record {
+      long = inv .0 .long;
+      is = λ v l lv. inv .0 .is v (omega (arith, c .loop-test .left)) lv;
+      other = λ v l lv. inv .0 .other v (omega (arith, inv .1)) lv;
+    }
+
+pub mark-ends-spec : {M : Type 1} → statement M
+mark-ends-spec =
+    tie.close (
+    tie.spec Inv-loop μ-loop loop-holds (λ c. search needs) (λ c κs. search needs) (λ c. search needs) (λ c κs. search needs) (λ c. search needs) (λ c. search needs) loop-again
+    (λ c. c .before .loop .inv .0 .long) returns)

@@ -1,0 +1,45 @@
+-- `tries::rule_out` meets its contract: the radios below c are ruled out or stay (`Ruling`). The measure is the radios left.
+use mathlib.Core.Path.{_≡_, sym, _∙_}
+use mathlib.Core.Logic.{⊎-elim}
+use mathlib.Core.Bool.{false, cond}
+use Prim.Native.Nat.{_-_, _≤_}
+use native.Mathlib.Omega.{arith}
+use lib.ListN.{length}
+use Rattle.lists.proofs.Tests.{cond-true, cond-false}
+use Rattle.mesh.specs.Tables.{put-bit}
+use Rattle.lift.proofs.TryLaws.{Ruling, ruling-none, ruling-turn, ruling-end}
+use borrow.Author.Needs.{needs}
+use Rattle.lift.proofs.tries.rule_out.Statement.{statement}
+use Rattle.lift.proofs.tries.rule_out.Tie as tie
+
+abbrev Inv-loop : tie.InvT-loop
+Inv-loop level gone numbers counters untried₀ c₀ untried c = Ruling level gone numbers counters untried₀ c untried × (c ≤ length numbers)
+
+abbrev μ-loop : tie.MeasureT-loop
+μ-loop level gone numbers counters untried₀ c₀ untried c = length numbers - c
+
+loop-holds : tie.Need-loop-holds Inv-loop μ-loop
+loop-holds c = (ruling-none _ _ _ _ _ (c .before .before .before .pre .3), omega arith)
+
+loop-again : tie.Need-loop-again Inv-loop μ-loop
+loop-again c =
+    let at-loop = c .before .before .before in
+    let start = c .before .before .before .before .before .before .before in
+    let i = at-loop .loop .c in
+    let test = c .before .is-ruled-out in
+    let new : c .if1 .untried ≡ cond (test .result) (put-bit false 0 i (at-loop .loop .untried)) (at-loop .loop .untried) =
+    ⊎-elim (λ w. w .5 ∙ w .2 .ensures ∙ sym (cond-true _ _ _ (w .0 .taken))) (λ w. w .1 ∙ sym (cond-false _ _ _ (w .0 .left))) (c .if1 .came) in (
+      ruling-turn _ _ _ _ _ (start .pre .3) i (test .result) _ _ (omega (arith, start .pre .0, c .before .before .loop-test .taken)) (test .ensures) new (at-loop .loop .inv .0),
+      omega (arith, c .before .before .loop-test .taken),
+    )
+
+returns : tie.Need-returns Inv-loop μ-loop
+returns c =
+    let at-loop = c .before in
+    ruling-end _ _ _ _ _ (c .before .before .before .before .before .pre .3) (at-loop .loop .c) _ (omega (arith, c .loop-test .left, at-loop .loop .inv .1)) (at-loop .loop .inv .0)
+
+pub rule-out-spec : {M : Type 1} → statement M
+rule-out-spec =
+    tie.close (
+    tie.spec Inv-loop μ-loop loop-holds (λ c. search needs) (λ c κs. search needs) (λ c. search needs) (λ c κs. search needs) (λ c. search needs) (λ c. search needs)
+    loop-again (λ c. c .before .loop .inv .0 .long) returns)

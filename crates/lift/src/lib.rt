@@ -1,0 +1,81 @@
+// One link that lifts a radio: the first pair, by lower radio and then higher, whose link is down, would be taken up now, and would raise
+// the radio's core number. Only pairs can whose lower number is the radio's own, K. A peel of level K that shows that a pair does not lift
+// the radio rules others out too. Refused: 1 to 4, and 20 where there is no such pair. Tables are only read. No public function has a
+// `requires`.
+ghost use mathlib.Core.Path.{_≡_};
+ghost use lib.ListN.{length};
+ghost use Rattle.mesh.specs.Limits.{max-radios};
+ghost use Rattle.mesh.specs.Tables.{lent};
+ghost use Rattle.calls.specs.Contracts.Lift.{Lift-contract};
+ghost use Rattle.lift.specs.Search.{Checked};
+use calls::Pair;
+use calls::Refusal;
+use mesh::Site;
+
+mod peel;
+mod search;
+mod tries;
+
+// Questions 1 to 3: the refusal number, or 0. At 0, `highs` holds how many neighbours of each radio have a number that is not below its
+// own; else it holds anything.
+fn checked<'a>(
+    n: u32,
+    links: &'a [u8],
+    numbers: &'a [u8],
+    order: &'a [u16],
+    highs: &mut [u8],
+) -> u32
+    requires { ⌜ length (now highs) ≡ max-radios ⌝ }
+    ensures { λ q. ⌜ Checked n (lent (links .entry) (numbers .entry) (order .entry)) (now (highs .exit)) q ⌝ }
+{
+    let mut places = [0u16; Site::RADIOS as usize];
+    let number = tables::sizes::of_tables(
+        Site { radios: n },
+        links.len(),
+        numbers.len(),
+        order.len(),
+    );
+    if number != 0 {
+        return number;
+    }
+    if !soundness::examine(n, links, numbers, order, &mut places, highs) {
+        return Refusal::UNSOUND;
+    }
+    0
+}
+
+// The first pair, by lower radio and then higher, whose link is down, would be taken up now and would raise the number of v. Or the
+// refusal number, 1 to 4 or 20, and zeros.
+pub fn lift<'a>(n: u32, v: u32, links: &'a [u8], numbers: &'a [u8], order: &'a [u16]) -> Pair
+    ensures { λ r. ⌜ Lift-contract n v (lent (links .entry) (numbers .entry) (order .entry)) r ⌝ }
+{
+    let mut highs = [0u8; Site::RADIOS as usize];
+    let number = checked(n, links, numbers, order, &mut highs);
+    if number != 0 {
+        return Pair {
+            number,
+            low: 0,
+            high: 0,
+        };
+    }
+    if n <= v {
+        return Pair {
+            number: Refusal::RADIO,
+            low: 0,
+            high: 0,
+        };
+    }
+    let pair = search::first_pair(links, numbers, &highs, v);
+    if Site::RADIOS <= pair.low {
+        return Pair {
+            number: Refusal::NO_LIFT,
+            low: 0,
+            high: 0,
+        };
+    }
+    Pair {
+        number: 0,
+        low: pair.low,
+        high: pair.high,
+    }
+}

@@ -1,0 +1,129 @@
+// The peel of a level, without any new link: radios with at most K neighbours that are left or above are taken, never a, the lower end of
+// the pairs tried, nor a held radio. A counter below 128 is of a radio that is left, 128 more of one that is taken, as it was when it was
+// taken; 255 stands for no radio of the level.
+ghost use mathlib.Core.Path.{_≡_};
+ghost use mathlib.Core.Bool.{true};
+ghost use Prim.Native.Nat.{_≤_, _<_, _-_};
+ghost use mathlib.Core.List.{[], _∷_};
+ghost use lib.ListN.{length, take};
+ghost use Rattle.mesh.specs.Limits.{max-radios, row-bytes};
+ghost use Rattle.lists.specs.Lists.{Distinct, Entries-below, range, count};
+ghost use Rattle.mesh.specs.Tables.{marked};
+ghost use Rattle.lifting.specs.Peeling.{left};
+ghost use Rattle.lift.specs.Peels.{is-due, Due, Lowered, Sound-links, Peel-state, Peel-end};
+use mesh::Site;
+
+// What a counter grows by when its radio is taken.
+pub(crate) const GONE: u8 = 128;
+
+// The counter of what is no radio of the level.
+pub(crate) const NO_COUNTER: u8 = 255;
+
+// Whether radio v is to be taken: its counter is at most the level, and it is neither a nor held.
+fn is_due(v: u32, level: u8, a: u32, held: &[u8], counters: &[u8]) -> bool
+    requires { ⌜ v < length (now counters) ⌝ }
+    ensures { λ r. ⌜ r ≡ is-due level a (now (held .entry)) (now (counters .entry)) v ⌝ }
+{
+    if level < counters[v as usize] {
+        return false;
+    }
+    if v == a {
+        return false;
+    }
+    !rows::is_marked(held, 0, v)
+}
+
+// Makes exactly the radios due that are to be taken.
+pub(crate) fn mark_due(level: u8, a: u32, held: &[u8], counters: &[u8], due: &mut [u8])
+    requires { ⌜ (length (now counters) ≡ max-radios) × (length (now due) ≡ row-bytes) ⌝ }
+    ensures { λ _. ⌜ Due level a (now (held .entry)) (now (counters .entry)) (now (due .exit)) ⌝ }
+{
+    let mut v: u32 = 0;
+    while v < Site::RADIOS {
+        rows::put_bit(due, is_due(v, level, a, held, counters), 0, v);
+        v += 1;
+    }
+}
+
+// One less, and 0 of 0.
+fn one_less(x: u8) -> u8
+    ensures { λ r. ⌜ r ≡ x - 1 ⌝ }
+{
+    if x == 0 { 0 } else { x - 1 }
+}
+
+// Takes one off the counter of w, where w is left; it is due if it is then to be taken.
+fn lower_one(w: u32, level: u8, a: u32, held: &[u8], counters: &mut [u8], due: &mut [u8])
+    requires { ⌜ (w < length (now counters)) × (w < max-radios) × (length (now due) ≡ row-bytes) ⌝ }
+    ensures { λ _. ⌜ Lowered level a (now (held .entry)) (w ∷ []) (now (counters .entry)) (now (due .entry)) (now (counters .exit)) (now (due .exit)) ⌝ }
+{
+    let x = counters[w as usize];
+    if GONE <= x {
+        return;
+    }
+    counters[w as usize] = one_less(x);
+    if is_due(w, level, a, held, counters) {
+        rows::put_bit(due, true, 0, w);
+    }
+}
+
+// Does so for the first k listed radios.
+fn lower(
+    near: &[u16],
+    k: usize,
+    level: u8,
+    a: u32,
+    held: &[u8],
+    counters: &mut [u8],
+    due: &mut [u8],
+)
+    requires { ⌜ (k ≤ length (now near)) × Distinct (take k (now near)) × Entries-below max-radios (take k (now near)) ×
+        (length (now counters) ≡ max-radios) × (length (now due) ≡ row-bytes) ⌝ }
+    ensures { λ _. ⌜ Lowered level a (now (held .entry)) (take k (now (near .entry))) (now (counters .entry)) (now (due .entry))
+        (now (counters .exit)) (now (due .exit)) ⌝ }
+{
+    let mut i: usize = 0;
+    while i < k {
+        lower_one(near[i] as u32, level, a, held, counters, due);
+        i += 1;
+    }
+}
+
+// Takes radio v, which is due: its neighbours that are left have one less.
+fn take(links: &[u8], v: u32, level: u8, a: u32, held: &[u8], counters: &mut [u8], due: &mut [u8])
+    requires { ⌜ Sound-links (now links) × Peel-state (now links) (now held) level a (now counters) (now due) ×
+        (v < max-radios) × (marked (now due) 0 v ≡ true) ⌝ }
+    ensures state { λ _. ⌜ Peel-state (now (links .entry)) (now (held .entry)) level a (now (counters .exit)) (now (due .exit)) ⌝ }
+    ensures fewer { λ _. ⌜ count (left (now (counters .exit))) (range 0 max-radios) < count (left (now (counters .entry))) (range 0 max-radios) ⌝ }
+{
+    let mut near = [0u16; Site::NEIGHBOURS as usize];
+    rows::put_bit(due, false, 0, v);
+    counters[v as usize] += GONE;
+    let k = rows::row_neighbours(links, v, &mut near) as usize;
+    lower(&near, k, level, a, held, counters, due);
+}
+
+// Takes the lowest radio due, again and again, until none is due or radio r is taken. Comes back with whether r is left.
+pub(crate) fn peel(
+    links: &[u8],
+    r: u32,
+    level: u8,
+    a: u32,
+    held: &[u8],
+    counters: &mut [u8],
+    due: &mut [u8],
+) -> bool
+    requires { ⌜ Sound-links (now links) × Peel-state (now links) (now held) level a (now counters) (now due) ×
+        (r < max-radios) × (left (now counters) r ≡ true) ⌝ }
+    ensures { λ x. ⌜ Peel-end (now (links .entry)) (now (held .entry)) level a r (now (counters .exit)) x ⌝ }
+{
+    let mut v = rows::first_marked(due, 0);
+    while v < Site::RADIOS {
+        take(links, v, level, a, held, counters, due);
+        if GONE <= counters[r as usize] {
+            return false;
+        }
+        v = rows::first_marked(due, 0);
+    }
+    true
+}

@@ -1,0 +1,161 @@
+-- What a caller has of the answer to the question for one link that lifts a radio, by its contract alone.
+--   lift-core       a pair lifts a radio exactly if it raises its core number by the largest group
+--   lift-first      an accepted call gives a pair that lifts the radio, and no pair before it does
+--   lift-none       20 exactly if questions 1 to 4 get yes and no pair lifts it
+--   lift-accepted   a link call that takes the pair given up is accepted, and lists the radio
+--   lift-right      all of an accepted call
+use mathlib.Core.Path.{_≡_, refl, sym, ap, _∙_}
+use mathlib.Core.Logic.{_⊎_, inl, inr, _↔_}
+use mathlib.Core.Bool.{true, false}
+use mathlib.Core.List.{List, [], _∷_}
+use Prim.Native.Nat.{ℕ, _<_}
+use native.Mathlib.Omega.{arith}
+use lib.ListN.{length, take}
+use Rattle.lists.specs.Lists.{In, member}
+use Rattle.mesh.specs.Limits.{max-neighbours}
+use Rattle.mesh.specs.Graph.{Link, link-of, Graph, relinked}
+use Rattle.mesh.specs.Cores.{number}
+use Rattle.mesh.specs.Levels.{changed}
+use Rattle.mesh.specs.Tables.{Tables, graph-in}
+use Rattle.mesh.specs.Sound.{sound}
+use Rattle.lists.proofs.Tests.{bool-cases, never}
+use Rattle.lists.proofs.Member.{member-in}
+use Rattle.lists.proofs.Overwrite.{take-overwrite}
+use Rattle.mesh.proofs.Cores.Peeling.{number-core, number-unique}
+use Rattle.mesh.proofs.Links.Call.{unchanged-number}
+use Rattle.calls.specs.Questions.{lengths-of, answer-length, ends-refusal, link-refusal, radio-refusal}
+use Rattle.calls.specs.Lift.{lifts, lifting, first-pair, is-lifted, lift-refusal}
+use Rattle.calls.specs.Contracts.Lift.{Pair-accepted, Pair-refused, Lift-contract}
+use Rattle.calls.specs.Contracts.Links.{Link-accepted, Link-refused, Link-contract}
+use Rattle.calls.specs.declared.Pair.{Pair}
+use Rattle.calls.proofs.QuestionLaws.{true-answer-length}
+use Rattle.calls.proofs.ChainLaws.{Site-good, site-yes, ends-yes}
+use Rattle.calls.proofs.ContractLaws.{by-cases, by-zero}
+use Rattle.calls.proofs.Accepted.{accepted}
+use Rattle.calls.proofs.LiftOutcome.{lift-zero, lift-twenty, lift-unanswered, lift-decided}
+use Rattle.lifting.specs.Search.{First-lift, No-lift}
+use Rattle.lifting.specs.Results.{Raises, Listed-up, Lift-right}
+use Rattle.lifting.proofs.Pairs.{lifts-lifted, lifted-lifts}
+use Rattle.lifting.proofs.Search.{lifted-first, lifted-none, none-lifted}
+
+-- ---- by the largest group
+
+pub lift-core : (g : Graph) (v : ℕ) (l : Link) → v < g .n → (lifts g v l ≡ true) ↔ Raises g v l
+unfolding relinked
+lift-core g v l lv = (to, from)
+  where
+    t : Graph
+    t = relinked true (l .low) (l .high) g
+
+    to : lifts g v l ≡ true → Raises g v l
+    to e =
+        let h = lifts-lifted g v (l .low) (l .high) e in
+        record {
+          allowed = h .allowed;
+          before = number g v;
+          after = number t v;
+          core-before = number-core g v lv;
+          core-after = number-core t v lv;
+          greater = h .greater;
+        }
+
+    from : Raises g v l → lifts g v l ≡ true
+    from r = lifted-lifts g v (l .low) (l .high) (record {
+      allowed = r .allowed;
+      greater = omega (arith, r .greater, number-unique g v (r .before) lv (r .core-before), number-unique t v (r .after) lv (r .core-after));
+    })
+
+-- ---- the call
+
+module _ (n v : ℕ) (t : Tables) (r : Pair) (d : Lift-contract n v t r) where
+  abbrev g : Graph
+  g = graph-in n (t .links)
+
+  abbrev given : Link
+  given = link-of (r .low) (r .high)
+
+  module _ (z : r .number ≡ 0) where
+    answer : (lift-refusal n v (lengths-of t) (sound n t) g ≡ 0) × Pair-accepted (first-pair (lifting g v)) r
+    unfolding Lift-contract
+    answer = accepted (lift-refusal n v (lengths-of t) (sound n t) g) (Pair-accepted (first-pair (lifting g v)) r)
+        (λ q. Pair-refused q r) (r .number) (λ q e. e .number) d z
+
+    asked : Site-good n (lengths-of t) true (sound n t) × (v < n) × (is-lifted (lifting g v) ≡ true)
+    asked = lift-zero n v (lengths-of t) (sound n t) g (answer .0)
+
+    same : given ≡ first-pair (lifting g v)
+    same = rw (answer .1 .low, answer .1 .high) refl
+
+    pub lift-first : First-lift g v given
+    lift-first = rw same (lifted-first g v (asked .2))
+
+    raises : Raises g v given
+    unfolding graph-in
+    raises = lift-core g v given (asked .1) .0 (lift-first .does)
+
+    pub lift-accepted : Listed-up n v t given
+    unfolding Link-contract link-refusal graph-in
+    lift-accepted w s u x long c = (yes .number, listed)
+      where
+        a : ℕ
+        a = r .low
+
+        b : ℕ
+        b = r .high
+
+        good : Site-good n (lengths-of t) (answer-length n (length w)) (sound n t)
+        good =
+            let lent = asked .0 .lent in
+            record {
+              lent = record { least = lent .least; most = lent .most; lengths = lent .lengths; further = true-answer-length n (length w) long };
+              is-sound = asked .0 .is-sound;
+            }
+
+        zero-refusal : link-refusal true n a b (lengths-of t) (length w) (sound n t) g ≡ 0
+        zero-refusal =
+            site-yes n (lengths-of t) (answer-length n (length w)) (sound n t) (ends-refusal max-neighbours true n a b g) good
+            ∙ ends-yes max-neighbours true a b g (raises .allowed)
+
+        yes : Link-accepted true a b g t w s u x
+        yes = by-zero (link-refusal true n a b (lengths-of t) (length w) (sound n t) g) (Link-accepted true a b g t w s u x)
+            (λ q. Link-refused q t w s u x) zero-refusal c
+
+        moved : In v (changed true a b g)
+        moved = go (bool-cases (member v (changed true a b g)))
+          where
+            go : (member v (changed true a b g) ≡ true) ⊎ (member v (changed true a b g) ≡ false) → In v (changed true a b g)
+            go (inl e) = member-in v (changed true a b g) e
+            go (inr e) =
+                absurd (omega (arith, lifts-lifted g v a b (lift-first .does) .greater, unchanged-number true a b g v (asked .1) e))
+
+        listed : In v (take (s .count) x)
+        listed = rw (yes .count, yes .answer, take-overwrite (changed true a b g) w) moved
+
+    pub lift-right : Lift-right n v t given
+    lift-right = record { first = lift-first; raises = raises; listed = lift-accepted }
+
+  -- ---- 20
+
+  pub lift-none : (r .number ≡ 20) ↔ ((radio-refusal n v (lengths-of t) (sound n t) ≡ 0) × No-lift g v)
+  unfolding is-lifted Lift-contract
+  lift-none = (to, from)
+    where
+      from : (radio-refusal n v (lengths-of t) (sound n t) ≡ 0) × No-lift g v → r .number ≡ 20
+      from (e, h) =
+          let none : lifting g v ≡ [] = empty (lifting g v) (none-lifted g v h) in
+          ap (λ (p : Pair). p .number) (lift-decided n v t r _ d (lift-unanswered n v t e none))
+        where
+          empty : (ls : List Link) → is-lifted ls ≡ false → ls ≡ []
+          empty [] q = refl
+          empty (l ∷ ls) q = never true refl q
+
+      to : r .number ≡ 20 → (radio-refusal n v (lengths-of t) (sound n t) ≡ 0) × No-lift g v
+      to e = go (by-cases (lift-refusal n v (lengths-of t) (sound n t) g) (Pair-accepted (first-pair (lifting g v)) r) (λ q. Pair-refused q r) d)
+        where
+          go : ((lift-refusal n v (lengths-of t) (sound n t) g ≡ 0) × Pair-accepted (first-pair (lifting g v)) r)
+              ⊎ ((lift-refusal n v (lengths-of t) (sound n t) g ≡ 0 → ⊥) × Pair-refused (lift-refusal n v (lengths-of t) (sound n t) g) r)
+              → (radio-refusal n v (lengths-of t) (sound n t) ≡ 0) × No-lift g v
+          go (inl p) = absurd (omega (arith, p .1 .number, e))
+          go (inr p) =
+              let q = lift-twenty n v (lengths-of t) (sound n t) g (sym (p .1 .number) ∙ e) in
+              (q .0, lifted-none g v (q .1))
