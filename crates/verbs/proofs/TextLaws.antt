@@ -39,5 +39,6 @@ by-listed F size zero count new old reply now w r x e l t =
     let same : take (size (reply .value)) now ≡ new = rw (l .value, l .lent, sym e) (take-overwrite new old) in
     subst (λ (k : List ℕ). Text-by 0 (F k) w r x) same told
 by-listed F size (suc q) count new old reply now w r x e l t =
-    let told : Text-by (suc q) (F (take (size (reply .value)) now)) w r x = subst (λ (k : ℕ). Text-by k (F (take (size (reply .value)) now)) w r x) (l .number) t in
+    let told : Text-by (suc q) (F (take (size (reply .value)) now)) w r x
+    = subst (λ (k : ℕ). Text-by k (F (take (size (reply .value)) now)) w r x) (l .number) t in
     record { number = told .number; length = told .length; lent = told .lent }

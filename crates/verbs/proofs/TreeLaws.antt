@@ -35,9 +35,12 @@ told-tree : (g : Graph) (s u : Lists) (k many : ℕ) → k ≡ length (tree g) �
     → u ≡ with-front (tree g) (node-names g) s → told k many u ≡ tree-text g
 unfolding tree-text with-front
 told-tree g s u k many d e h =
-    let names : take k (u .names) ≡ map (λ (x : Node). x .name) (tree g) = front-of (λ (x : Node). x .name) (tree g) (s .names) (u .names) k d (ap (λ (l : Lists). l .names) h) in
-    let levels : take k (u .levels) ≡ map (λ (x : Node). x .level) (tree g) = front-of (λ (x : Node). x .level) (tree g) (s .levels) (u .levels) k d (ap (λ (l : Lists). l .levels) h) in
-    let parents : take k (u .parents) ≡ map (λ (x : Node). x .parent) (tree g) = front-of (λ (x : Node). x .parent) (tree g) (s .parents) (u .parents) k d (ap (λ (l : Lists). l .parents) h) in
+    let names : take k (u .names) ≡ map (λ (x : Node). x .name) (tree g)
+    = front-of (λ (x : Node). x .name) (tree g) (s .names) (u .names) k d (ap (λ (l : Lists). l .names) h) in
+    let levels : take k (u .levels) ≡ map (λ (x : Node). x .level) (tree g)
+    = front-of (λ (x : Node). x .level) (tree g) (s .levels) (u .levels) k d (ap (λ (l : Lists). l .levels) h) in
+    let parents : take k (u .parents) ≡ map (λ (x : Node). x .parent) (tree g)
+    = front-of (λ (x : Node). x .parent) (tree g) (s .parents) (u .parents) k d (ap (λ (l : Lists). l .parents) h) in
     let radios : take many (u .answer) ≡ node-names g = rw (e, ap (λ (l : Lists). l .answer) h) (take-overwrite (node-names g) (s .answer)) in
     rw (names, levels, parents, radios)
 

@@ -22,15 +22,18 @@ returns-3 c = as-verb _ _ _ _ _ _ _ (c .before .before .before .before .enum-tol
 
 returns-4 : tie.Need-returns-4
 unfolding Said
-returns-4 c = as-verb _ _ _ _ _ _ _ (c .before .before .before .before .before .enum-told4 .given .1) (as-sheet _ _ _ _ _ _ (c .written .ensures) (c .before .before .before .sheet .ensures))
+returns-4 c = as-verb _ _ _ _ _ _ _ (c .before .before .before .before .before .enum-told4 .given .1)
+    (as-sheet _ _ _ _ _ _ (c .written .ensures) (c .before .before .before .sheet .ensures))
 
 returns-5 : tie.Need-returns-5
 unfolding Said
-returns-5 c = as-verb _ _ _ _ _ _ _ (c .before .before .before .before .before .enum-told5 .given .1) (as-script _ _ _ _ _ _ (c .written2 .ensures) (c .before .before .before .write .ensures))
+returns-5 c = as-verb _ _ _ _ _ _ _ (c .before .before .before .before .before .enum-told5 .given .1)
+    (as-script _ _ _ _ _ _ (c .written2 .ensures) (c .before .before .before .write .ensures))
 
 returns-6 : tie.Need-returns-6
 unfolding Said
-returns-6 c = as-verb _ _ _ _ _ _ _ (c .before .before .before .before .before .enum-told6 .given .1) (as-image _ _ _ _ _ _ (c .written3 .ensures) (c .before .before .before .write2 .ensures))
+returns-6 c = as-verb _ _ _ _ _ _ _ (c .before .before .before .before .before .enum-told6 .given .1)
+    (as-image _ _ _ _ _ _ (c .written3 .ensures) (c .before .before .before .write2 .ensures))
 
 returns-7 : tie.Need-returns-7
 unfolding Said

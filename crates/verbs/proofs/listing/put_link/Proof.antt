@@ -11,7 +11,8 @@ returns c =
     let byte = c .before .before in
     let second = byte .before .before .before .before in
     let first = second .before .before .before .before in
-    puts-append (first .before .before .before .before .put-text .ensures) (puts-append (first .put-field .ensures) (puts-append (second .put-field2 .ensures) (byte .put-byte .ensures)))
+    puts-append (first .before .before .before .before .put-text .ensures)
+    (puts-append (first .put-field .ensures) (puts-append (second .put-field2 .ensures) (byte .put-byte .ensures)))
 
 pub put-link-spec : {M : Type 1} → statement M
 put-link-spec =

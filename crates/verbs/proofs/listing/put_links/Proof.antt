@@ -25,8 +25,11 @@ loop-again c =
     let first = second .before .before in
     let at-loop = first .before .before .before .before in
     let table = at-loop .before .before .before .args .table .now in
-    let i = at-loop .loop .i in
-    (omega arith, putting-piece _ _ (pair-next table i _ _ (omega arith) (first .wide .ensures) (second .wide2 .ensures)) (at-loop .loop .inv .1) (put .put-link .ensures))
+    let i = at-loop .loop .i in (
+      omega arith,
+      putting-piece _ _ (pair-next table i _ _ (omega arith) (first .wide .ensures) (second .wide2 .ensures)) (at-loop .loop .inv .1)
+          (put .put-link .ensures),
+    )
 
 returns : tie.Need-returns Inv-loop μ-loop
 returns c =

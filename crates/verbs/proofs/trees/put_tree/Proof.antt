@@ -55,7 +55,8 @@ returns-2 c =
     let call = start .args in
     let k = call .reply .value in
     let names : take (counted .least .result) (call .names .now) ≡ take k (call .names .now) = take-least k _ _ _ (start .pre .0) (counted .least .ensures) in
-    let levels : take (counted .least .result) (call .levels .now) ≡ take k (call .levels .now) = take-least k _ _ _ (start .pre .1) (counted .least .ensures) in
+    let levels : take (counted .least .result) (call .levels .now) ≡ take k (call .levels .now)
+    = take-least k _ _ _ (start .pre .1) (counted .least .ensures) in
     let parents : take (counted .least .result) (call .parents .now) ≡ take k (call .parents .now)
     = take-least k _ _ _ (start .pre .2) (counted .least .ensures) in
     let same : node-lines (take (counted .least .result) (call .names .now)) (take (counted .least .result) (call .levels .now))
