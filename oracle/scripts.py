@@ -167,19 +167,24 @@ BY_BYTES = ["m1", "refusals", "clique-41", "radios-very-long", "unterminated", "
 last_lines = [replay(SCRIPTS[name]).splitlines()[3:] for name in ("m1", "canary")]
 assert all(x != y for x, y in zip(*last_lines)) and [len(lines) for lines in last_lines] == [3, 3]
 
-FILES = {CRATE / "data" / name: text for name, text in SCRIPTS.items()}
-PRINTED = {name: replay(text) for name, text in SCRIPTS.items()}
-FILES[CRATE / "stdout"] = "".join(f"{name}\n{PRINTED[name]}" for name in [*SCRIPTS, *BY_BYTES]).encode()
+
+def files():
+    """What is stored: each script, and what is printed of all."""
+    shown = {name: replay(text) for name, text in SCRIPTS.items()}
+    stored = {CRATE / "data" / name: text for name, text in SCRIPTS.items()}
+    stored[CRATE / "stdout"] = "".join(f"{name}\n{shown[name]}" for name in [*SCRIPTS, *BY_BYTES]).encode()
+    return stored
 
 
 def main():
+    written = files()
     if "--check" in sys.argv:
         stored = {path for path in (CRATE / "data").iterdir()} | {CRATE / "stdout"}
-        same = stored == set(FILES) and all(path.read_bytes() == text for path, text in FILES.items())
+        same = stored == set(written) and all(path.read_bytes() == text for path, text in written.items())
         print("crates/test_scripts:", "as written by this program" if same else "DIFFERENT")
         sys.exit(not same)
     (CRATE / "data").mkdir(parents=True, exist_ok=True)
-    for path, text in FILES.items():
+    for path, text in written.items():
         path.write_bytes(text)
 
 

@@ -165,6 +165,14 @@ class Questions(unittest.TestCase):
             self.assertEqual(caught.exception.number, number)
         self.assertEqual([len(part) for part in summerbugle.blocks(image)], [504, 504, 504])
 
+    def test_clearing(self):
+        site = linked(5, clique([0, 1, 2]))
+        before, image = kept(site), site.image()
+        site.clear()
+        self.assertEqual(kept(site), kept(Site(5)))
+        site.read_image(image)
+        self.assertEqual(kept(site), before)
+
     def test_batches(self):
         site = Site(4)
         self.assertEqual(site.link_batch([(0, 1), (1, 2), (0, 0), (0, 2)]), Batch(2, 5))

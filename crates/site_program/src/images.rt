@@ -1,0 +1,81 @@
+// An image, read into a site's tables.
+ghost use mathlib.Core.Path.{_≡_};
+ghost use Prim.Native.Nat.{_≤_};
+ghost use Rattle.site_program.specs.Inputs.{wrong};
+use crate::refusals;
+use calls::Refusal;
+use image::bytes;
+use image::layout;
+use mesh::Site;
+
+// The bytes of the longest image.
+const LONGEST: usize = 86 * layout::BLOCK;
+
+// How many radios the image says; 1 where that is no size, and then no question but 1 gets another answer.
+pub(crate) fn radios(image: &[u8]) -> u32 {
+    let n = bytes::word_at(image, layout::RADIOS_AT);
+    if n == 0 {
+        return 1;
+    }
+    if Site::RADIOS < n {
+        return 1;
+    }
+    n
+}
+
+// The first block that does not pass its check; their count where all pass.
+fn bad_block(image: &[u8]) -> usize {
+    let count = image.len() / layout::BLOCK;
+    let mut i: usize = 0;
+    while i < count {
+        let at = layout::BLOCK * i;
+        let end = at + layout::BLOCK;
+        let check = bytes::word_at(image, at + layout::BODY) as u64
+            + 65536 * bytes::word_at(image, at + layout::BODY + 2) as u64;
+        if image::checks::check_sum(&image[at..end]) as u64 != check {
+            return i;
+        }
+        i += 1;
+    }
+    count
+}
+
+// Where the image got "no": its length, a block, its form or its content.
+fn say_where(errors: i32, n: u32, image: &[u8], number: u32) -> u32
+    ensures { λ r. ⌜ r ≡ wrong ⌝ }
+{
+    if number == Refusal::IMAGE_SIZE {
+        return refusals::say_image(errors, number, b"length", image.len() as u64);
+    }
+    if number == Refusal::IMAGE_CHECK {
+        return refusals::say_image(errors, number, b"block", bad_block(image) as u64);
+    }
+    if image_form::form::is_formed(image, n) {
+        return refusals::say_image(errors, number, b"order or links of radios", n as u64);
+    }
+    refusals::say_image(errors, number, b"form of an image of radios", n as u64)
+}
+
+// Reads the image: the status.
+pub(crate) fn read(
+    errors: i32,
+    n: u32,
+    image: &[u8],
+    links: &mut [u8],
+    numbers: &mut [u8],
+    order: &mut [u16],
+) -> u32
+    ensures { λ r. ⌜ r ≤ 1 ⌝ }
+{
+    if LONGEST < image.len() {
+        return refusals::say(
+            errors,
+            b"no script, and longer than the longest image, 44032 bytes",
+        );
+    }
+    let number = image_reader::reader::read(n, links, numbers, order, image);
+    if number == 0 {
+        return 0;
+    }
+    say_where(errors, n, image, number)
+}

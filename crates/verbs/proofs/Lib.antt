@@ -1,0 +1,6 @@
+-- `TextLaws`: texts put or refused; `LineLaws`: lines of links and nodes, one after another; `TreeLaws`: the shell tree's text;
+-- `SaidLaws`: for `answer`.
+pub mod TextLaws
+pub mod LineLaws
+pub mod TreeLaws
+pub mod SaidLaws

@@ -1,0 +1,306 @@
+"""Images and scripts for the program `site`, with what it owes on each, worked out from documents 01 and 02 and docs/FORMATS.md alone.
+
+  python3 oracle/site.py           write data/ and stdout of crates/test_site, and stdin, args and stdout of crates/site
+  python3 oracle/site.py --check   say whether the stored files are what would be written
+
+Images are written and refused by oracle/images.py, scripts are played on the site of oracle/peeled.py, cores, backbones and trees are
+of oracle/trees.py, staircase trees of oracle/kruskal.py.
+"""
+
+import random
+import sys
+from pathlib import Path
+
+import images
+import kruskal
+import peeled
+import trees
+from scripts import LARGEST, LINE, lines_of, printed
+
+CRATES = Path(__file__).resolve().parent.parent / "crates"
+WORDS = {4: "a radio named is not below the count of radios", 5: "the ends of the link are the same radio",
+         6: "the link is up already, or down already", 7: "an end has 40 neighbours", 8: "the level is above the radio's number",
+         9: "the length is 0 or no multiple of 512", 10: "a block does not pass its check",
+         11: "the bytes are the image of no sound site"}
+FORM = "no line of the language stands here"
+VERBS = ["check", "numbers", "sheet", "script", "backbone", "staircase", "tree"]
+HELP = (CRATES / "site_program/src/help.rt").read_text()
+
+
+class Refused(Exception):
+    """The one line that a run owes on the error output."""
+
+
+def refused(where, number):
+    return Refused(f"{where}refused by {number}: {WORDS[number]}")
+
+
+# ---- the input
+
+class Found:
+    """A site that was read: links, numbers, order."""
+
+    def __init__(self, n, links, order):
+        self.n, self.links, self.order = n, sorted(links), order
+        self.site = trees.Site(n, links)
+        self.numbers = self.site.numbers
+
+
+def played(script):
+    site = None
+    for last, line in enumerate(lines_of(script), 1):
+        said = LINE.fullmatch(line)
+        form = said and max(int(x) for x in (said[1], said[3], said[4]) if x) <= LARGEST and (said[1] is not None) == (last == 1)
+        if not form or last == 1 and not 1 <= int(said[1]) <= images.RADIOS:
+            raise Refused(f"script, line {last}: {FORM}")
+        if last == 1:
+            site = peeled.Site(int(said[1]))
+            continue
+        number = site.call(said[2] == b"up", int(said[3]), int(said[4]))[0]
+        if number:
+            raise refused(f"script, line {last}: ", number)
+    return Found(site.n, [(a, b) for a in range(site.n) for b in site.near[a] if a < b], site.order)
+
+
+def formed(n, image):
+    """Whether the image is one of n radios but for what its order and links are: kinds, indices, counts and unused bytes."""
+    words = [a + 256 * b for a, b in zip(image[::2], image[1::2])]
+    links = words[3]
+    sizes = [4] + [2 * min(252, n - i) for i in range(0, n, 252)] + [4 * min(126, links - i) for i in range(0, links, 126)]
+    kinds = [0] + [1] * -(-n // 252) + [2] * -(-links // 126)
+    if words[2] != n or len(image) != 512 * len(sizes):
+        return False
+    return all(image[512 * i:512 * i + 4] == [kind, 0] + images.little(i) and not any(image[512 * i + 4 + size:512 * i + 508])
+               for i, (kind, size) in enumerate(zip(kinds, sizes)))
+
+
+def read(image):
+    if len(image) > 86 * 512:
+        raise Refused("no script, and longer than the longest image, 44032 bytes")
+    image = list(image)
+    number, n, tables = images.source(image)
+    n = n if 1 <= n <= images.RADIOS else 1
+    if number == 9:
+        raise refused(f"no script; image, length {len(image)}: ", 9)
+    if number == 10:
+        blocks = [image[at:at + 512] for at in range(0, len(image), 512)]
+        bad = [images.little(images.check(block), 4) == block[508:] for block in blocks].index(False)
+        raise refused(f"no script; image, block {bad}: ", 10)
+    if number == 11:
+        what = "order or links" if formed(n, image) else "form of an image"
+        raise refused(f"no script; image, {what} of radios {n}: ", 11)
+    rows, _, order = tables
+    return Found(n, [(a, b) for a in range(n) for b in range(a + 1, n) if rows[64 * a + b // 8] >> b % 8 & 1], order)
+
+
+def found(data):
+    return played(data) if data.startswith(b"radios") else read(data)
+
+
+# ---- the verbs
+
+def sheet(site):
+    cells = [f"{v:3}:{k:2}  " for v, k in enumerate(site.numbers)]
+    return "".join("".join(cells[i:i + 8]).ljust(64) + "\n" for i in range(0, site.n, 8))
+
+
+def tree(site):
+    nodes, names = site.site.tree()
+    return "".join(printed("node", *node) for node in nodes) + printed("nodes", *names)
+
+
+def core(site, v, k):
+    if v >= site.n:
+        raise refused("", 4)
+    if k > site.numbers[v]:
+        raise refused("", 8)
+    return printed("core", *sorted(site.site.core(v, k)))
+
+
+SAYS = {
+    "check": lambda s: f"0 accepted: a site of {s.n} radios\n",
+    "numbers": lambda s: printed("numbers", *s.numbers),
+    "sheet": sheet,
+    "script": lambda s: printed("radios", s.n) + "".join(printed("up", *link) for link in s.links),
+    "backbone": lambda s: printed("backbone", *s.site.backbone()),
+    "staircase": lambda s: "".join(printed("link", *link) for link in kruskal.staircase(s.n, s.links, s.numbers)),
+    "tree": tree,
+    "image": lambda s: bytes(images.image_of(s.n, s.links, s.order)).decode("latin-1"),
+}
+
+
+def number(word):
+    """A number of a script's form, or nothing."""
+    return int(word) if word.isdigit() and word == str(int(word)) and int(word) <= LARGEST else None
+
+
+def help_page():
+    """The page stands once, in the program's text."""
+    return "".join(part.split('",\n')[0] for part in HELP.split('b"')[1:])
+
+
+def answer(data, verb, words):
+    if verb == "help":
+        return help_page()
+    if verb not in SAYS and verb != "core":
+        raise Refused("unknown verb; site help lists them")
+    numbers = [number(word) for word in words]
+    if len(words) != (2 if verb == "core" else 0) or None in numbers:
+        raise Refused(f"{verb} takes " + ("a radio and a level, 0 to 65535 each" if verb == "core" else "no number"))
+    site = found(data)
+    return core(site, *numbers) if verb == "core" else SAYS[verb](site)
+
+
+def run(data, verb, words=()):
+    """What is printed, the error output with it, and the status."""
+    try:
+        return answer(data, verb, list(words)) + "status 0\n"
+    except Refused as line:
+        return f"site: {line}\nstatus 1\n"
+
+
+# ---- the inputs
+
+def script(n, links):
+    return "".join([printed("radios", n)] + [printed("up", *link) for link in links]).encode()
+
+
+def wandered(n, count, seed):
+    """Links among n radios, each radio with at most 40 of them."""
+    draw, near, links = random.Random(seed), [0] * n, set()
+    for _ in range(count):
+        a, b = sorted(draw.sample(range(n), 2))
+        if near[a] < 40 and near[b] < 40 and (a, b) not in links:
+            links.add((a, b))
+            near[a] += 1
+            near[b] += 1
+    return sorted(links)
+
+
+def with_checks(image):
+    """The image with the check of each block worked out anew."""
+    out = []
+    for at in range(0, len(image), 512):
+        block = image[at:at + 508]
+        out += block + images.little(images.check(block), 4)
+    return out
+
+
+def changed(image, at, x):
+    return image[:at] + [x] + image[at + 1:]
+
+
+def k_order(n, links):
+    """A k-order: a radio with the fewest neighbours left is next."""
+    near = {v: set() for v in range(n)}
+    for a, b in links:
+        near[a].add(b)
+        near[b].add(a)
+    order = []
+    while near:
+        v = min(near, key=lambda u: (len(near[u]), u))
+        order.append(v)
+        for u in near.pop(v):
+            near[u].discard(v)
+    numbers = images.peeled(n, links)
+    return sorted(order, key=lambda v: numbers[v])
+
+
+SEVEN = [(0, 1), (1, 2), (0, 2), (3, 4), (4, 5), (3, 5), (2, 3), (0, 6)]
+
+
+def files():
+    seven = played(script(7, SEVEN))
+    image = images.image_of(7, seven.links, seven.order)
+    large = {n: wandered(n, count, n) for n, count in ((300, 500), (512, 2000))}
+    out = {f"image-{n}": images.image_of(n, links, k_order(n, links)) for n, links in large.items()}
+    clique = [(0, v) for v in range(1, 42)]
+    out |= {
+        "script-7": script(7, SEVEN), "image-7": image, "image-1": images.image_of(1, [], [0]),
+        "empty": [], "cut": image[:-12], "cut-at-a-block": image[:-512], "two-images": image + image,
+        "damaged-first-byte": changed(image, 0, 9), "damaged-check": changed(image, 508, image[508] ^ 1),
+        "damaged-last-block": changed(image, len(image) - 400, image[-400] ^ 16),
+        "says-0-radios": with_checks(changed(image, 4, 0)), "says-600-radios": with_checks(changed(changed(image, 4, 88), 5, 2)),
+        "says-8-radios": with_checks(changed(image, 4, 8)),
+        "other-order": with_checks(image[:516] + image[518:520] + image[516:518] + image[520:]),
+        "longest-zeros": [0] * 44032, "longer-zeros": [0] * 44033,
+        "refused-4": b"radios 3\nup 0 1\nup 0 3\nup 1 2\n", "refused-5": b"radios 3\nup 2 2\n",
+        "refused-6": b"radios 3\nup 0 1\nup 1 0\n", "refused-7": script(42, clique),
+        "radios-alone": b"radios", "radios-0": b"radios 0\n", "radios-513": b"radios 513\n", "first-line-only": b"radios 9\n",
+        "no-line-feed": b"radios 3\nup 0 1", "second-radios": b"radios 3\nradios 3\n", "empty-line": b"radios 3\n\nup 0 1\n",
+        "very-long-line": b"radios 3\nup 0 1" + b" " * 5000 + b"\n", "capital": b"radios 3\nUp 0 1\n",
+    }
+    return {name: bytes(content) for name, content in out.items()}
+
+
+# ---- the run
+
+def cases(data):
+    """Words and inputs in the program's order."""
+    for name in ("script-7", "image-7", "image-1", "image-300", "image-512"):
+        yield from ((name, verb, [], ("", "")) for verb in VERBS)
+    yield "script-7", "help", [], ("", "")
+    for name, v, k in [("image-7", "6", "1"), ("script-7", "0", "2"), ("image-7", "6", "2"), ("image-7", "7", "0"), ("image-7", "65535", "65535"),
+                       ("image-7", "65536", "0"), ("image-7", "01", "0"), ("image-7", "", "0"), ("image-7", "1 2", "0"), ("image-7", "0" * 18, "0")]:
+        yield name, "core", [v, k], (v, k)
+    yield "image-7", "core", ["6"], ("6", "")
+    yield "image-7", "core", [], ("", "")
+    yield "image-7", "core", ["6", "1", "1"], ("6", "1")
+    yield "image-7", "sheet", ["6"], ("6", "")
+    yield from (("image-7", verb, [], ("", "")) for verb in ("sheets", "", "page"))
+    for name, verb in [("empty", "check"), ("empty", "sheet"), ("cut", "check"), ("cut-at-a-block", "check"), ("damaged-first-byte", "check"),
+                       ("damaged-check", "numbers"), ("damaged-last-block", "check"), ("two-images", "check"), ("says-0-radios", "check"),
+                       ("says-600-radios", "check"), ("says-8-radios", "check"), ("other-order", "check"), ("longest-zeros", "check"),
+                       ("longer-zeros", "check"), ("refused-4", "numbers"), ("refused-5", "check"), ("refused-6", "image"), ("refused-7", "tree"),
+                       ("radios-alone", "check"), ("radios-0", "check"), ("radios-513", "check"), ("first-line-only", "sheet"),
+                       ("no-line-feed", "check"), ("second-radios", "check"), ("empty-line", "check"), ("very-long-line", "check"),
+                       ("capital", "check")]:
+        yield name, verb, [], ("", "")
+
+
+def long_texts():
+    """Noise, and 32,768 lines that take a link up and down again and again: what they end with decides."""
+    noise = bytes(10485760)
+    lines = 32768
+    yield "noise\n" + run(noise, "check")
+    yield "noise\n" + run(noise, "check")
+    yield f"noise\nsite: script, line 2: {FORM}\nstatus 1\n"
+    yield "long script\nnumbers 0 0 0\nstatus 0\n"
+    yield "long script\nnumbers 0 1 1\nstatus 0\n"
+    yield f"long script\nsite: script, line {lines + 3}: refused by 6: {WORDS[6]}\nstatus 1\n"
+
+
+def text(data):
+    out = []
+    for name, verb, words, shown in cases(data):
+        out.append(" ".join([name, verb, *shown]) + "\n" + run(data[name], verb, words))
+    for name, image in (("script-7", "image-7"), ("image-512", "image-512")):
+        assert SAYS["image"](found(data[name])).encode("latin-1") == data[image]
+        out.append(f"{name} image\nstatus 0\nsame 1\n" + run(data[image], "check"))
+    return "".join(out + list(long_texts())).encode()
+
+
+def stored_files():
+    data = files()
+    towers = (CRATES.parent / "examples/towers.txt").read_bytes()
+    site = {"stdin": towers, "args": b"sheet\n", "stdout": run(towers, "sheet").removesuffix("status 0\n").encode()}
+    out = {CRATES / "test_site/data" / name: content for name, content in data.items()}
+    out |= {CRATES / "site" / name: content for name, content in site.items()}
+    return out | {CRATES / "test_site/stdout": text(data)}
+
+
+def main():
+    written = stored_files()
+    data = CRATES / "test_site/data"
+    if "--check" in sys.argv:
+        same = {path for path in written if path.exists() and path.read_bytes() == written[path]}
+        right = same == set(written) and {path.name for path in data.iterdir()} == {path.name for path in written if path.parent == data}
+        print("crates/site, crates/test_site:", "as written by this program" if right else "DIFFERENT")
+        sys.exit(not right)
+    data.mkdir(parents=True, exist_ok=True)
+    for path, content in written.items():
+        path.write_bytes(content)
+
+
+if __name__ == "__main__":
+    main()
