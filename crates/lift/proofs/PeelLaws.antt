@@ -10,12 +10,12 @@ use mathlib.Core.List.{List, [], _∷_}
 use Prim.Native.Nat.{ℕ, zero, suc, _+_, _-_, _≤_, _<_}
 use native.Mathlib.Omega.{arith}
 use native.Mathlib.Numerals.{add-one}
-use lib.Dec.{ltb, leb, eqb}
+use lib.Dec.{ltb, eqb}
 use lib.ListN.{length, getD, set, drop, length-set, drop-of-length-le}
 use lib.Seq.{getD-set-same, getD-set-other, drop-cons}
-use borrow.Author.Tests.{eqb-true, eqb-false, eq-eqb, ne-eqb, le-leb, lt-leb, lt-ltb, le-ltb, not-true}
+use borrow.Author.Tests.{eqb-true, eqb-false, eq-eqb, ne-eqb, le-leb, lt-leb, lt-ltb, le-ltb}
 use Rattle.lists.specs.Lists.{In, Distinct, member}
-use Rattle.lists.proofs.Tests.{bool-cases, cond-false, cond-true}
+use Rattle.lists.proofs.Tests.{bool-cases, cond-false}
 use Rattle.lists.proofs.Member.{not-member}
 use Rattle.mesh.specs.Limits.{max-radios, row-bytes}
 use Rattle.mesh.specs.Tables.{marked, put-bit, byte-at}
@@ -145,11 +145,13 @@ module _ (k a w : ℕ) (held cs due : List ℕ) (l : w < length cs) where
         (rw (is-left h, one-same w w refl) (getD-set-same cs w y 255 l ∙ less ∙ ap (λ (x : ℕ). x - 1) (getD-any cs w 0 255 l)))
     counter-at v (inr q) =
         getD-set-other cs w v y 255 (λ e. eqb-false w v q (sym e))
-        ∙ sym (cond-false (left cs v && member v (w ∷ [])) (getD cs v 255 - 1) (getD cs v 255) (and-no (left cs v) (member v (w ∷ [])) (one-other w v (eqb-false w v q))))
+        ∙ sym (cond-false (left cs v && member v (w ∷ [])) (getD cs v 255 - 1) (getD cs v 255) (and-no (left cs v) (member v (w ∷ [])) (one-other w v
+        (eqb-false w v q))))
 
     marked-new : (v : ℕ) → v < max-radios → (u : Bool) → new ≡ cond u (put-bit true 0 w due) due → marked new 0 v ≡ (marked due 0 v || (eqb w v && u))
     unfolding byte-at
-    marked-new v lv true e = ap (λ (xs : List ℕ). marked xs 0 v) e ∙ marked-put-bit true 0 w due 0 v small lv (omega (arith, room)) ∙ flip (eqb w v) (marked due 0 v)
+    marked-new v lv true e = ap (λ (xs : List ℕ). marked xs 0 v) e ∙ marked-put-bit true 0 w due 0 v small lv (omega (arith, room))
+        ∙ flip (eqb w v) (marked due 0 v)
       where
         flip : (b m : Bool) → cond b true m ≡ (m || (b && true))
         flip true true = refl
@@ -161,7 +163,8 @@ module _ (k a w : ℕ) (held cs due : List ℕ) (l : w < length cs) where
     due-at : (v : ℕ) → (eqb w v ≡ true) ⊎ (eqb w v ≡ false) → (eqb w v && t) ≡ ((left cs v && member v (w ∷ [])) && is-due k a held ds v)
     due-at v (inl q) =
         let e : w ≡ v = eqb-true w v q in
-        subst (λ (x : ℕ). (eqb w x && t) ≡ ((left cs x && member x (w ∷ [])) && is-due k a held ds x)) e (rw (is-left h, one-same w w refl, eq-eqb w w refl) test)
+        subst (λ (x : ℕ). (eqb w x && t) ≡ ((left cs x && member x (w ∷ [])) && is-due k a held ds x)) e (rw
+        (is-left h, one-same w w refl, eq-eqb w w refl) test)
     due-at v (inr q) = rw (q, and-no (left cs v) (member v (w ∷ [])) (one-other w v (eqb-false w v q)))
 
     pub lowered-one : Lowered k a held (w ∷ []) cs due ds new
@@ -227,7 +230,8 @@ module _ (k a x : ℕ) (held xs cs due cs1 due1 ds new : List ℕ) (out : In x x
       let ne : x ≡ w → ⊥ = eqb-false x w q in
       rest .due-after w l
       ∙ ap (λ (b : Bool). b || ((left cs1 w && member w xs) && is-due k a held ds w))
-      (one .due-after w l ∙ or-no (marked due 0 w) ((left cs w && member w (x ∷ [])) && is-due k a held cs1 w) (rw (and-no (left cs w) (member w (x ∷ [])) (one-other x w ne))))
+      (one .due-after w l ∙ or-no (marked due 0 w) ((left cs w && member w (x ∷ [])) && is-due k a held cs1 w) (rw (and-no (left cs w) (member w
+      (x ∷ [])) (one-other x w ne))))
       ∙ rw (more-other w ne, left-other w ne)
 
   pub lowered-cons : Lowered k a held (x ∷ xs) cs due ds new

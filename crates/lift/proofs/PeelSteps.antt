@@ -5,13 +5,13 @@ use mathlib.Core.Path.{_≡_, refl, sym, ap, subst, _∙_}
 use mathlib.Core.Logic.{_⊎_, inl, inr}
 use mathlib.Core.Bool.{Bool, true, false, _&&_, _||_, not, cond}
 use mathlib.Core.List.{List, [], _∷_}
-use Prim.Native.Nat.{ℕ, suc, _+_, _*_, _-_, _/_, _≤_, _<_, min}
+use Prim.Native.Nat.{ℕ, suc, _+_, _-_, _/_, _≤_, _<_, min}
 use native.Mathlib.Omega.{arith}
 use lib.Dec.{ltb, leb, eqb}
 use lib.ListN.{length, getD, set, take, length-set, List·getD-eq-default}
 use lib.Seq.{getD-set-same, getD-set-other}
 use borrow.Author.Tests.{eqb-true, eqb-false, eq-eqb, ne-eqb, ltb-true, ltb-false, leb-true, leb-false, le-leb, lt-leb, not-true}
-use Rattle.lists.specs.Lists.{In, Distinct, Entries-below, member, count, range, overwrite, head-or}
+use Rattle.lists.specs.Lists.{In, Entries-below, member, count, range, overwrite, head-or}
 use Rattle.lists.proofs.Tests.{bool-cases, never, and-left, and-right, and-both, cond-false, cond-true}
 use Rattle.lists.proofs.Ascending.{head-or-lowest}
 use Rattle.lists.proofs.Member.{in-getD, member-in}
@@ -30,10 +30,10 @@ use Rattle.rows.proofs.RowListLaws.{ascending-neighbours-of, in-neighbours-of, 
 use Rattle.rows.proofs.RowWords.{row-listed-whole}
 use Rattle.soundness.specs.Checks.{fits-sound}
 use Rattle.soundness.proofs.SoundSite.{Sound-site, fits-sound-site, linked-marked, row-listed-neighbours}
-use Rattle.lifting.specs.Peeling.{left, stays, Taken, Peeling}
+use Rattle.lifting.specs.Peeling.{left, stays, Taken}
 use Rattle.lifting.proofs.Peeling.{left-below, high-left, below-left, stays-above, stays-left, stays-cases, taken-fewer, peeling-near, peeling-takes}
-use Rattle.lift.specs.Peels.{graph-of, Sound-links, is-due, Due, Lowered, Peel-state, Peel-end}
-use Rattle.lift.proofs.PeelLaws.{and-no, or-no, getD-any}
+use Rattle.lift.specs.Peels.{graph-of, Sound-links, is-due, Lowered, Peel-state, Peel-end}
+use Rattle.lift.proofs.PeelLaws.{or-no, getD-any}
 
 -- ---- sound links
 
@@ -130,7 +130,8 @@ module _ (links held : List ℕ) (k a : ℕ) (cs due : List ℕ) (s : Sound-link
   other-left w ne = ap (λ (x : ℕ). ltb x 128) (other-counter w ne)
 
   -- then its neighbours'
-  module _ (due1 ds new xs : List ℕ) (out : due1 ≡ put-bit false 0 v due) (near : xs ≡ neighbours-of links v) (lower : Lowered k a held xs cs1 due1 ds new) where
+  module _ (due1 ds new xs : List ℕ) (out : due1 ≡ put-bit false 0 v due) (near : xs ≡ neighbours-of links v)
+      (lower : Lowered k a held xs cs1 due1 ds new) where
     own-after : getD ds v 255 ≡ 128 + getD cs v 255
     own-after =
         lower .counter-after v ∙ cond-false (left cs1 v && member v xs) (getD cs1 v 255 - 1) (getD cs1 v 255) (rw own-gone) ∙ own-counter
@@ -150,7 +151,8 @@ module _ (links held : List ℕ) (k a : ℕ) (cs due : List ℕ) (s : Sound-link
       own = own-after;
       near = λ w ne l q.
           let above = peeling-near (graph-of links) (s .order) (links-valid links s) k a cs v w (h .peeling) own-left l q in
-          let less = after-other w ne ∙ cond-true (left cs w && linked (graph-of links) v w) (getD cs w 255 - 1) (getD cs w 255) (and-both (left cs w) (linked (graph-of links) v w) l q) in
+          let less = after-other w ne ∙ cond-true (left cs w && linked (graph-of links) v w) (getD cs w 255 - 1) (getD cs w 255) (and-both (left cs w)
+          (linked (graph-of links) v w) l q) in
           omega (arith, above, less);
       far = λ w ne q. after-other w ne ∙ cond-false (left cs w && linked (graph-of links) v w) (getD cs w 255 - 1) (getD cs w 255) q;
     }
@@ -184,7 +186,8 @@ module _ (links held : List ℕ) (k a : ℕ) (cs due : List ℕ) (s : Sound-link
     unfolding is-due
     due-same w e = rw e
 
-    due-other-after : (w : ℕ) → (w ≡ v → ⊥) → (b : Bool) → (left cs w && linked (graph-of links) v w) ≡ b → (is-due k a held cs w || (b && is-due k a held ds w)) ≡ is-due k a held ds w
+    due-other-after : (w : ℕ) → (w ≡ v → ⊥) → (b : Bool) → (left cs w && linked (graph-of links) v w) ≡ b
+        → (is-due k a held cs w || (b && is-due k a held ds w)) ≡ is-due k a held ds w
     due-other-after w ne true q = absorbed (is-due k a held cs w) (is-due k a held ds w) (due-less w ne)
       where
         absorbed : (x y : Bool) → (x ≡ true → y ≡ true) → (x || y) ≡ y
@@ -239,7 +242,8 @@ module _ (due : List ℕ) (long : length due ≡ row-bytes) (v : ℕ) (e : v ≡
   first = e ∙ ap (head-or max-radios) whole
 
   pub first-due : v < max-radios → marked due 0 v ≡ true
-  first-due l = rw first (in-neighbours-of due 0 (head-or max-radios (neighbours-of due 0)) (head-in max-radios (neighbours-of due 0) (omega (arith, first))) .1)
+  first-due l = rw first (in-neighbours-of due 0 (head-or max-radios (neighbours-of due 0)) (head-in max-radios (neighbours-of due 0) (omega
+      (arith, first))) .1)
 
   pub none-before : (w : ℕ) → w < v → w < max-radios → marked due 0 w ≡ false
   none-before w l lw = not-marked (bool-cases (marked due 0 w))
@@ -297,8 +301,10 @@ module _ (links held : List ℕ) (k a r : ℕ) (cs due : List ℕ) where
     done = λ yes w l ne out. more w l ne out (bool-cases (leb (getD cs w 255) k));
   }
     where
-      more : (w : ℕ) → left cs w ≡ true → (w ≡ a → ⊥) → marked held 0 w ≡ false → (leb (getD cs w 255) k ≡ true) ⊎ (leb (getD cs w 255) k ≡ false) → k < getD cs w 255
+      more : (w : ℕ) → left cs w ≡ true → (w ≡ a → ⊥) → marked held 0 w ≡ false → (leb (getD cs w 255) k ≡ true) ⊎ (leb (getD cs w 255) k ≡ false)
+          → k < getD cs w 255
       more w l ne out (inr q) = leb-false (getD cs w 255) k q
       more w l ne out (inl q) =
           let small : w < max-radios = inside-left cs w (h .state .long) l in
-          never (is-due k a held cs w) (due-again k a held cs w q ne out) (sym (h .state .due-is w small) ∙ none-before due (h .state .due-long) v (h .first) w (omega arith) small)
+          never (is-due k a held cs w) (due-again k a held cs w q ne out) (sym (h .state .due-is w small)
+          ∙ none-before due (h .state .due-long) v (h .first) w (omega arith) small)

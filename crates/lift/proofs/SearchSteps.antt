@@ -2,7 +2,7 @@
 --   trying-start    the marked radios are the higher ends of a's candidates
 --   end-..          the lower end a is done: no candidates, a pair that lifts, or all ruled out
 --   pair-..         the first pair, or none
-use mathlib.Core.Path.{_≡_, refl, sym, ap, subst, _∙_}
+use mathlib.Core.Path.{_≡_, refl, sym, subst, _∙_}
 use mathlib.Core.Logic.{_⊎_, inl, inr}
 use mathlib.Core.Bool.{Bool, true, false, _&&_, _||_, not}
 use mathlib.Core.List.{List}
@@ -17,14 +17,14 @@ use Rattle.mesh.specs.Limits.{max-radios, max-neighbours, row-bytes}
 use Rattle.mesh.specs.Graph.{Graph, link-of, linked, degree}
 use Rattle.mesh.specs.Cores.{number}
 use Rattle.mesh.specs.Levels.{lower-level}
-use Rattle.mesh.specs.Tables.{tables, marked, byte-at, graph-in}
-use Rattle.mesh.specs.Valid.{Valid, Allowed}
+use Rattle.mesh.specs.Tables.{tables, marked, byte-at}
+use Rattle.mesh.specs.Valid.{Valid}
 use Rattle.mesh.proofs.Tables.Laws.{marked-replicate}
 use Rattle.calls.specs.Questions.{can-switch, has-room}
-use Rattle.calls.specs.Lift.{lifts, lifting, first-pair, is-lifted}
+use Rattle.calls.specs.Lift.{lifts}
 use Rattle.rows.specs.Rows.{row-listed, row-count}
 use Rattle.soundness.proofs.SoundSite.{linked-marked, degree-counted}
-use Rattle.lifting.specs.Search.{candidate, None-below, Untried}
+use Rattle.lifting.specs.Search.{candidate, None-below}
 use Rattle.lifting.proofs.Pairs.{candidate-refutes, candidate-allowed}
 use Rattle.lifting.proofs.Search.{untried-start, none-next, first-found, none-found}
 use Rattle.lift.specs.Peels.{graph-of}
@@ -41,7 +41,13 @@ min-other x y u v k e f m ne = omega arith
 candidate-made : (g : Graph) (k a c : ℕ) → min (number g a) (number g c) ≡ k → linked g a c ≡ false → degree g a < max-neighbours → degree g c < max-neighbours
     → candidate g k a c ≡ true
 unfolding candidate lower-level can-switch has-room
-candidate-made g k a c e l da dc = rw (eq-eqb (min (number g a) (number g c)) k e, l, lt-ltb (degree g a) max-neighbours da, lt-ltb (degree g c) max-neighbours dc)
+candidate-made g k a c e l da dc = rw (
+  eq-eqb (min (number g a) (number g c)) k e,
+  l,
+  lt-ltb (degree g a) max-neighbours da,
+  lt-ltb
+      (degree g c) max-neighbours dc,
+)
 
 module _ (links numbers highs : List ℕ) (s : Search-site links numbers highs) (r : ℕ) (lr : r < length numbers) where
   abbrev g : Graph
@@ -77,8 +83,18 @@ module _ (links numbers highs : List ℕ) (s : Search-site links numbers highs) 
     unfolding is-free
     free-is v l e =
         let both : (leb k (getD numbers v 0) && ltb (row-count max-neighbours links v) max-neighbours) ≡ true = sym (fr .is v l) ∙ e in (
-          omega (arith, entry v l, leb-true k (getD numbers v 0) (and-left (leb k (getD numbers v 0)) (ltb (row-count max-neighbours links v) max-neighbours) both)),
-          omega (arith, row-degree-is v l, ltb-true (row-count max-neighbours links v) max-neighbours (and-right (leb k (getD numbers v 0)) (ltb (row-count max-neighbours links v) max-neighbours) both)),
+          omega (
+            arith,
+            entry v l,
+            leb-true k (getD numbers v 0) (and-left (leb k (getD numbers v 0)) (ltb
+                (row-count max-neighbours links v) max-neighbours) both),
+          ),
+          omega (
+            arith,
+            row-degree-is v l,
+            ltb-true (row-count max-neighbours links v) max-neighbours (and-right (leb k (getD numbers v 0)) (ltb
+                (row-count max-neighbours links v) max-neighbours) both),
+          ),
         )
 
     is-free-of : (v : ℕ) → v < length numbers → k ≤ number g v → degree g v < max-neighbours → marked free 0 v ≡ true
@@ -118,7 +134,8 @@ module _ (links numbers highs : List ℕ) (s : Search-site links numbers highs) 
           go (inl q) = or-left (eqb (getD numbers a 0) k) (eqb (getD numbers c 0) k) q
           go (inr q) =
               let ne = eqb-false (getD numbers a 0) k q in
-              or-right (eqb (getD numbers a 0) k) (eqb (getD numbers c 0) k) (eq-eqb (getD numbers c 0) k (min-other (number g a) (number g c) (getD numbers a 0) (getD numbers c 0) k (entry a la) (entry c lc) e ne))
+              or-right (eqb (getD numbers a 0) k) (eqb (getD numbers c 0) k) (eq-eqb (getD numbers c 0) k (min-other (number g a) (number g c)
+              (getD numbers a 0) (getD numbers c 0) k (entry a la) (entry c lc) e ne))
 
       candidate-may : (c : ℕ) → a < c → c < length numbers → candidate g k a c ≡ true → (marked free 0 a ≡ true) × (may-lift a k links numbers free c ≡ true)
       unfolding may-lift
@@ -133,7 +150,8 @@ module _ (links numbers highs : List ℕ) (s : Search-site links numbers highs) 
       pub end-closed : marked free 0 a ≡ false → Higher-end links r a max-radios
       end-closed off = record {
         found = λ l. absurd (omega arith);
-        none-below = λ c ac l m. candidate-refutes g (s .order) valid k r a c lr-graph kr (not-candidate c ac (omega (arith, graph-radios links numbers highs s)) (bool-cases (candidate g k a c)));
+        none-below = λ c ac l m. candidate-refutes g (s .order) valid k r a c lr-graph kr (not-candidate c ac (omega
+            (arith, graph-radios links numbers highs s)) (bool-cases (candidate g k a c)));
       }
         where
           not-candidate : (c : ℕ) → a < c → c < length numbers → (candidate g k a c ≡ true) ⊎ (candidate g k a c ≡ false) → candidate g k a c ≡ false
@@ -161,7 +179,8 @@ module _ (links numbers highs : List ℕ) (s : Search-site links numbers highs) 
                 (is .0, omega (arith, l, graph-radios links numbers highs s), subst (λ (x : ℕ). candidate g x a c ≡ true) (sym kr) (is .1))
             own c lc q (inr e) = never (marked new 0 c) q (none-past c (ltb-false c (length numbers) e) lc)
 
-            other : (c : ℕ) → a < c → c < length numbers → marked new 0 c ≡ false → (candidate g k a c ≡ true) ⊎ (candidate g k a c ≡ false) → candidate g k a c ≡ false
+            other : (c : ℕ) → a < c → c < length numbers → marked new 0 c ≡ false → (candidate g k a c ≡ true) ⊎ (candidate g k a c ≡ false)
+                → candidate g k a c ≡ false
             other c ac lc q (inr e) = e
             other c ac lc q (inl e) =
                 never (marked new 0 c) (m .is c lc (omega (arith, lc, site-small links numbers highs s)) ∙ candidate-may c ac lc e .1) q
@@ -176,7 +195,8 @@ module _ (links numbers highs : List ℕ) (s : Search-site links numbers highs) 
   module _ (a b : ℕ) (old : List ℕ) (h : Trying-on a old b) where
     below : (c : ℕ) → a < c → c < b → c < g .n → lifts g r (link-of a c) ≡ false
     below c ac l m =
-        h .trying .rest c ac m (none-before old (h .trying .long) b (h .first) c l (omega (arith, m, graph-radios links numbers highs s, site-small links numbers highs s)))
+        h .trying .rest c ac m (none-before old (h .trying .long) b (h .first) c l (omega
+        (arith, m, graph-radios links numbers highs s, site-small links numbers highs s)))
 
     pub lowest-on : b < max-radios → marked old 0 b ≡ true
     lowest-on l = first-due old (h .trying .long) b (h .first) l
@@ -188,7 +208,8 @@ module _ (links numbers highs : List ℕ) (s : Search-site links numbers highs) 
     pub end-none : max-radios ≤ b → Higher-end links r a max-radios
     end-none l = record { found = λ q. absurd (omega arith); none-below = λ c ac q m. below c ac (omega arith) m }
 
-    pub trying-next : (new : List ℕ) (x : Bool) (d : ℕ) → x ≡ false → Tried links r a b old new x → d ≡ head-or max-radios (row-listed new 0) → Trying-on a new d
+    pub trying-next : (new : List ℕ) (x : Bool) (d : ℕ) → x ≡ false → Tried links r a b old new x → d ≡ head-or max-radios (row-listed new 0)
+        → Trying-on a new d
     trying-next new x d e t f = record { trying = t .next e; first = f }
 
   -- ---- all lower ends
@@ -198,13 +219,15 @@ module _ (links numbers highs : List ℕ) (s : Search-site links numbers highs) 
     pair-some l =
         let f = end .found l in
         record {
-          some = λ q. first-found g r a b (λ c. leb b c) none (λ c ac lc e. end .none-below c ac (leb-false b c e) lc) (λ c ac cb. lt-leb b c cb) (f .0) (f .1) (f .2);
+          some = λ q. first-found g r a b (λ c. leb b c) none (λ c ac lc e. end .none-below c ac (leb-false b c e) lc) (λ c ac cb. lt-leb b c cb)
+              (f .0) (f .1) (f .2);
           none = λ q. absurd (omega (arith, q, la, site-small links numbers highs s));
         }
 
     pub pair-next : max-radios ≤ b → None-below g r (a + 1)
     pair-next l =
-        none-next g r a (λ c. false) none (λ c ac lc e. end .none-below c ac (omega (arith, l, lc, graph-radios links numbers highs s, site-small links numbers highs s)) lc)
+        none-next g r a (λ c. false) none (λ c ac lc e. end .none-below c ac (omega
+        (arith, l, lc, graph-radios links numbers highs s, site-small links numbers highs s)) lc)
         (λ c ac lc. refl)
 
   pub pair-none : (a : ℕ) → a ≡ length numbers → None-below g r a → Pair-found links r max-radios 0

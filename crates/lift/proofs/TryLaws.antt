@@ -5,7 +5,7 @@
 --   begin-state, left-early, left-begin, left-late   the two peels of a pair
 use mathlib.Core.Path.{_≡_, refl, sym, ap, subst, _∙_}
 use mathlib.Core.Logic.{_⊎_, inl, inr}
-use mathlib.Core.Bool.{Bool, true, false, _&&_, _||_, not, cond}
+use mathlib.Core.Bool.{Bool, true, false, _&&_, not, cond}
 use mathlib.Core.List.{List}
 use Prim.Native.Nat.{ℕ, _+_, _≤_, _<_}
 use native.Mathlib.Omega.{arith}
@@ -17,7 +17,7 @@ use Rattle.lists.proofs.Tests.{bool-cases, never, iff-eq}
 use Rattle.mesh.specs.Limits.{max-radios, row-bytes}
 use Rattle.mesh.specs.Tables.{marked, put-bit, byte-at}
 use Rattle.mesh.proofs.Tables.Laws.{marked-replicate, marked-put-bit, length-put-bit}
-use Rattle.lifting.specs.Peeling.{left, stays}
+use Rattle.lifting.specs.Peeling.{stays}
 use Rattle.lifting.proofs.Peeling.{below-left, high-left}
 use Rattle.lift.specs.Peels.{graph-of, Due, Peel-state, Peel-begin, Peel-end}
 use Rattle.lift.specs.Tries.{counter-start, Started, Left-end, carried, ruled-out, Ruled-out}

@@ -12,8 +12,8 @@ use native.Mathlib.Omega.{arith}
 use native.Mathlib.Nat.{le-antisymm}
 use lib.Dec.{ltb, leb, eqb}
 use lib.ListN.{length, getD, List·getD-eq-default}
-use borrow.Author.Tests.{eqb-true, eqb-false, eq-eqb, ne-eqb, ltb-true, ltb-false, leb-true, leb-false, not-true}
-use Rattle.lists.specs.Lists.{count, range}
+use borrow.Author.Tests.{eqb-true, eq-eqb, ltb-true, ltb-false, leb-true, leb-false, not-true}
+use Rattle.lists.specs.Lists.{range}
 use Rattle.lists.proofs.Tests.{bool-cases, never, and-left, and-right}
 use Rattle.lists.proofs.Range.{in-range, range-in}
 use Rattle.lists.proofs.Count.{count-less}
@@ -21,8 +21,8 @@ use Rattle.mesh.specs.Limits.{max-radios, max-neighbours, row-bytes}
 use Rattle.mesh.specs.Graph.{Graph, link-of, neighbours-in}
 use Rattle.mesh.specs.Cores.{number}
 use Rattle.mesh.specs.Levels.{lower-level}
-use Rattle.mesh.specs.Tables.{Tables, tables, marked, put-bit, byte-at, graph-in}
-use Rattle.mesh.specs.Valid.{Valid, Allowed}
+use Rattle.mesh.specs.Tables.{tables, marked, put-bit, byte-at, graph-in}
+use Rattle.mesh.specs.Valid.{Valid}
 use Rattle.mesh.proofs.GraphLaws.{neighbours-in-subset, degree-in}
 use Rattle.mesh.proofs.Cores.Certificate.{core-enough}
 use Rattle.mesh.proofs.Cores.Peeling.{number-core}
@@ -31,12 +31,12 @@ use Rattle.calls.specs.Questions.{can-switch, has-room}
 use Rattle.calls.specs.Lift.{lifts}
 use Rattle.soundness.proofs.SoundSite.{number-entry}
 use Rattle.lifting.specs.Peeling.{left, stays, Peeling}
-use Rattle.lifting.specs.Search.{candidate, Untried}
-use Rattle.lifting.proofs.Peeling.{left-below, below-left, stays-above, stays-left, peeling-starts}
+use Rattle.lifting.specs.Search.{candidate}
+use Rattle.lifting.proofs.Peeling.{below-left, stays-above, stays-left, peeling-starts}
 use Rattle.lifting.proofs.Pairs.{candidate-allowed, radio-refutes, few-refutes, low-refutes, high-refutes, peeling-lifts}
 use Rattle.lifting.proofs.Search.{untried-next}
 use Rattle.lift.specs.Peels.{graph-of, Sound-links, Peel-begin}
-use Rattle.lift.specs.Tries.{Search-site, counter-start, Started, Left-end, carried, ruled-out, Ruled-out, Trying, Tried}
+use Rattle.lift.specs.Tries.{Search-site, Started, Left-end, carried, ruled-out, Ruled-out, Trying, Tried}
 use Rattle.lift.proofs.PeelSteps.{links-site, links-valid}
 use Rattle.lift.proofs.TryLaws.{start-past, start-other, start-own}
 
@@ -148,7 +148,12 @@ module _ (links numbers highs : List ℕ) (s : Search-site links numbers highs) 
             peeling = started a (omega (arith, own .0, own .1, graph-radios)) (omega (arith, level, level-is));
             low = level-low;
             long = long;
-            kept = λ w lw q. let c = h .candidates w lw q in stays-start w (omega (arith, c .1, graph-radios)) (omega (arith, candidate-level g (number g r) a w (c .2), level-is));
+            kept = λ w lw q. let c = h .candidates w lw q in stays-start w (omega (arith, c .1, graph-radios)) (omega (
+              arith,
+              candidate-level g
+                  (number g r) a w (c .2),
+              level-is,
+            ));
             there = left-start r lr level-is;
           }
 
@@ -178,8 +183,10 @@ module _ (links numbers highs : List ℕ) (s : Search-site links numbers highs) 
             let left-yes : x ≡ true = and-left x (carried k cs a && carried k cs b) all in
             let both = and-right x (carried k cs a && carried k cs b) all in
             peeling-lifts g (s .order) valid k r a b lr-graph level-is cs (end .peeling)
-            (candidate-allowed g k a b (try .candidates b small on .0) b-radio (subst (λ (y : ℕ). candidate g y a b ≡ true) level-is (try .candidates b small on .2)))
-            (end .high-end) (fits a (and-left (carried k cs a) (carried k cs b) both)) (fits b (and-right (carried k cs a) (carried k cs b) both)) (end .done left-yes)
+            (candidate-allowed g k a b (try .candidates b small on .0) b-radio (subst (λ (y : ℕ). candidate g y a b ≡ true) level-is
+            (try .candidates b small on .2)))
+            (end .high-end) (fits a (and-left (carried k cs a) (carried k cs b) both)) (fits b (and-right (carried k cs a) (carried k cs b) both))
+            (end .done left-yes)
             (sym (end .answer) ∙ left-yes);
         next = λ e. never true refl e;
         fewer = λ e. never true refl e;

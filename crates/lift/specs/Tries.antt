@@ -17,7 +17,7 @@ use lib.Dec.{ltb, leb, eqb}
 use lib.ListN.{length, getD}
 use Rattle.lists.specs.Lists.{count, range}
 use Rattle.mesh.specs.Limits.{max-radios, row-bytes}
-use Rattle.mesh.specs.Graph.{Graph, link-of, neighbours-in}
+use Rattle.mesh.specs.Graph.{link-of, neighbours-in}
 use Rattle.mesh.specs.Cores.{number}
 use Rattle.mesh.specs.Tables.{tables, marked}
 use Rattle.calls.specs.Lift.{lifts}

@@ -1,5 +1,4 @@
 -- `lift` meets its contract: questions 1 to 4, and then the first pair that lifts v, or 20.
-use mathlib.Core.Path.{_≡_, sym, _∙_}
 use native.Mathlib.Omega.{arith}
 use borrow.Author.Needs.{needs}
 use Rattle.mesh.specs.Tables.{tables}

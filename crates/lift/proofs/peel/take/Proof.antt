@@ -1,5 +1,5 @@
 -- `peel::take` meets its contract: its counter grows, the listed neighbours are the radio's own, and they are lowered (`state-takes`).
-use mathlib.Core.Path.{_≡_, refl, sym, ap, subst, _∙_}
+use mathlib.Core.Path.{refl, sym, ap, subst, _∙_}
 use Prim.Native.Nat.{_+_}
 use native.Mathlib.Omega.{arith}
 use lib.ListN.{length, getD, replicate, length-set}

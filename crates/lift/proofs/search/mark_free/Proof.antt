@@ -1,7 +1,7 @@
 -- `search::mark_free` meets its contract: the radios below v are marked where they may be ends (`Marking`). The measure is the radios left.
 use mathlib.Core.Path.{_∙_, ap}
 use mathlib.Core.Bool.{Bool}
-use Prim.Native.Nat.{_-_, _≤_}
+use Prim.Native.Nat.{_-_}
 use native.Mathlib.Omega.{arith}
 use lib.ListN.{length}
 use Rattle.mesh.specs.Tables.{put-bit}

@@ -1,5 +1,4 @@
 -- `tries::is_left` meets its contract: r is gone when all untried are held, or what the second peel says of it.
-use mathlib.Core.Path.{_∙_}
 use borrow.Author.Tests.{not-true, not-false}
 use Rattle.lift.proofs.TryLaws.{left-early, left-begin, left-late}
 use borrow.Author.Needs.{needs}

@@ -1,5 +1,4 @@
 -- `tries::is_ruled_out` meets its contract: each return is a case of `ruled-out`.
-use native.Mathlib.Omega.{arith}
 use Rattle.lift.proofs.TryLaws.{ruled-above, ruled-left, ruled-taken}
 use borrow.Author.Needs.{needs}
 use Rattle.lift.proofs.tries.is_ruled_out.Statement.{statement}
