@@ -17,6 +17,7 @@ use borrow.Author.Tests.{eqb-true, eqb-false, eq-eqb, ne-eqb, le-leb, lt-leb, lt
 use Rattle.lists.specs.Lists.{In, Distinct, member}
 use Rattle.lists.proofs.Tests.{bool-cases, cond-false}
 use Rattle.lists.proofs.Member.{not-member}
+use Rattle.lists.proofs.Parts.{getD-any}
 use Rattle.mesh.specs.Limits.{max-radios, row-bytes}
 use Rattle.mesh.specs.Tables.{marked, put-bit, byte-at}
 use Rattle.mesh.proofs.Tables.Laws.{marked-put-bit, length-put-bit}
@@ -32,12 +33,6 @@ and-no false b e = refl
 pub or-no : (a b : Bool) → b ≡ false → (a || b) ≡ a
 or-no true b e = refl
 or-no false b e = e
-
--- an entry that is there is the same whatever stands for none
-pub getD-any : (xs : List ℕ) (i d e : ℕ) → i < length xs → getD xs i d ≡ getD xs i e
-getD-any [] i d e l = omega arith
-getD-any (x ∷ xs) zero d e l = refl
-getD-any (x ∷ xs) (suc i) d e l = getD-any xs i d e (omega arith)
 
 less-other : (v w : ℕ) → w < v + 1 → (v ≡ w → ⊥) → w < v
 less-other v w l ne = omega arith

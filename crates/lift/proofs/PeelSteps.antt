@@ -14,7 +14,7 @@ use borrow.Author.Tests.{eqb-true, eqb-false, eq-eqb, ne-eqb, ltb-true, ltb-fals
 use Rattle.lists.specs.Lists.{In, Entries-below, member, count, range, overwrite, head-or}
 use Rattle.lists.proofs.Tests.{bool-cases, never, and-left, and-right, and-both, cond-false, cond-true}
 use Rattle.lists.proofs.Ascending.{head-or-lowest}
-use Rattle.lists.proofs.Member.{in-getD, member-in}
+use Rattle.lists.proofs.Member.{in-getD, member-in, head-or-below}
 use Rattle.mesh.specs.Limits.{max-radios, max-neighbours, row-bytes}
 use Rattle.mesh.specs.Graph.{linked}
 use Rattle.mesh.specs.Cores.{number}
@@ -33,7 +33,8 @@ use Rattle.soundness.proofs.SoundSite.{Sound-site, fits-sound-site, linked-mark
 use Rattle.lifting.specs.Peeling.{left, stays, Taken}
 use Rattle.lifting.proofs.Peeling.{left-below, high-left, below-left, stays-above, stays-left, stays-cases, taken-fewer, peeling-near, peeling-takes}
 use Rattle.lift.specs.Peels.{graph-of, Sound-links, is-due, Lowered, Peel-state, Peel-end}
-use Rattle.lift.proofs.PeelLaws.{or-no, getD-any}
+use Rattle.lift.proofs.PeelLaws.{or-no}
+use Rattle.lists.proofs.Parts.{getD-any}
 
 -- ---- sound links
 
@@ -229,11 +230,6 @@ module _ (links held : List ℕ) (k a : ℕ) (cs due : List ℕ) (s : Sound-link
 
 -- ---- who is due first
 
-head-in : (d : ℕ) (xs : List ℕ) → head-or d xs < d → In (head-or d xs) xs
-unfolding head-or
-head-in d [] l = absurd (omega arith)
-head-in d (x ∷ xs) l = inl refl
-
 module _ (due : List ℕ) (long : length due ≡ row-bytes) (v : ℕ) (e : v ≡ head-or max-radios (row-listed due 0)) where
   whole : row-listed due 0 ≡ neighbours-of due 0
   whole = row-listed-whole due 0 (omega (arith, long))
@@ -242,7 +238,7 @@ module _ (due : List ℕ) (long : length due ≡ row-bytes) (v : ℕ) (e : v ≡
   first = e ∙ ap (head-or max-radios) whole
 
   pub first-due : v < max-radios → marked due 0 v ≡ true
-  first-due l = rw first (in-neighbours-of due 0 (head-or max-radios (neighbours-of due 0)) (head-in max-radios (neighbours-of due 0) (omega
+  first-due l = rw first (in-neighbours-of due 0 (head-or max-radios (neighbours-of due 0)) (head-or-below max-radios (neighbours-of due 0) (omega
       (arith, first))) .1)
 
   pub none-before : (w : ℕ) → w < v → w < max-radios → marked due 0 w ≡ false

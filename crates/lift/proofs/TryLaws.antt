@@ -21,7 +21,7 @@ use Rattle.lifting.specs.Peeling.{stays}
 use Rattle.lifting.proofs.Peeling.{below-left, high-left}
 use Rattle.lift.specs.Peels.{graph-of, Due, Peel-state, Peel-begin, Peel-end}
 use Rattle.lift.specs.Tries.{counter-start, Started, Left-end, carried, ruled-out, Ruled-out}
-use Rattle.lift.proofs.PeelLaws.{getD-any}
+use Rattle.lists.proofs.Parts.{getD-any}
 use Rattle.lift.proofs.PeelSteps.{inside-left}
 
 -- ---- the counters before the peel

@@ -33,8 +33,9 @@ use Rattle.links.specs.Steps.{around, all-around, touched, recounted, Ro
 
 -- ---- a counted list
 
-pub high-fits : (n i : ℕ) (t : Bool) → n ≤ i → i < max-neighbours → Fits w8 (n + boolByte t)
-high-fits n i t h l = record { fits = omega (arith, byte-bit t, bit-one t) }
+-- a byte is enough for a count of neighbours
+pub count-fits : (n i : ℕ) (t : Bool) → n ≤ i → i < max-neighbours → Fits w8 (n + boolByte t)
+count-fits n i t h l = record { fits = omega (arith, byte-bit t, bit-one t) }
 
 -- the list is the front of a longer one
 pub counted-front : (f : ℕ → Bool) (list : List ℕ) (k n i : ℕ) → k ≤ length list → i < k → Counted-from f (take k list) n i

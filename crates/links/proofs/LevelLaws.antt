@@ -11,7 +11,7 @@ use Rattle.mesh.specs.Limits.{max-radios}
 use Rattle.lists.specs.Lists.{member, head-or, In, Distinct, Rising}
 use Rattle.mesh.specs.Tables.{marked}
 use Rattle.lists.proofs.Tests.{bool-cases}
-use Rattle.lists.proofs.Member.{member-in, in-getD, getD-of-in}
+use Rattle.lists.proofs.Member.{member-in, in-getD, getD-of-in, head-or-below}
 use Rattle.rows.specs.Rows.{neighbours-of}
 use Rattle.rows.proofs.RowListLaws.{ascending-neighbours-of, in-neighbours-of, member-neighbours-of}
 use Rattle.links.specs.Peels.{stretch, Level}
@@ -20,15 +20,10 @@ use Rattle.lists.proofs.Ascending.{head-or-lowest, rising-index}
 
 -- ---- the lowest marked place
 
-head-in : (d : ℕ) (xs : List ℕ) → head-or d xs < d → In (head-or d xs) xs
-unfolding head-or
-head-in d [] l = absurd (omega arith)
-head-in d (x ∷ xs) l = inl refl
-
 module _ (fs : List ℕ) (p : ℕ) (first : p ≡ head-or max-radios (neighbours-of fs 0)) where
   pub first-marked-in : p < max-radios → marked fs 0 p ≡ true
   first-marked-in l =
-      rw first (in-neighbours-of fs 0 (head-or max-radios (neighbours-of fs 0)) (head-in max-radios (neighbours-of fs 0) (omega arith)) .1)
+      rw first (in-neighbours-of fs 0 (head-or max-radios (neighbours-of fs 0)) (head-or-below max-radios (neighbours-of fs 0) (omega arith)) .1)
 
   pub first-marked-least : (q : ℕ) → q < p → q < max-radios → marked fs 0 q ≡ false
   first-marked-least q l lq = go (bool-cases (member q (neighbours-of fs 0)))

@@ -13,7 +13,7 @@ use borrow.Author.Tests.{eqb-true, eqb-false, eq-eqb, ne-eqb}
 use Rattle.mesh.specs.Limits.{max-radios, row-bytes}
 use Rattle.lists.specs.Lists.{member}
 use Rattle.mesh.specs.Tables.{byte-at, marked, put-bit}
-use Rattle.lists.proofs.Tests.{bool-cases, and-left}
+use Rattle.lists.proofs.Tests.{never, bool-cases, and-left}
 use Rattle.lists.proofs.Member.{not-member}
 use Rattle.mesh.proofs.Tables.Laws.{marked-put-bit}
 use Rattle.links.specs.Turns.{counter-less, released, place-marked, places-released, Releasable}
@@ -25,6 +25,21 @@ pub marked-put : (on : Bool) (p q : ℕ) (fs : List ℕ) → length fs ≡ row-b
     → marked (put-bit on 0 p fs) 0 q ≡ cond (eqb p q) on (marked fs 0 q)
 unfolding byte-at
 marked-put on p q fs e lp lq = marked-put-bit on 0 p fs 0 q lp lq (omega arith)
+
+-- where one place of a part is cleared, a place that is still marked is another
+pub cleared-other : (first p q : ℕ) (fs : List ℕ) → length fs ≡ row-bytes → first + p < max-radios → first + q < max-radios
+    → marked (put-bit false 0 (first + p) fs) 0 (first + q) ≡ true → (q ≡ p → ⊥) × (marked fs 0 (first + q) ≡ true)
+cleared-other first p q fs long lp lq t = go (bool-cases (eqb (first + p) (first + q)))
+  where
+    put : marked (put-bit false 0 (first + p) fs) 0 (first + q) ≡ cond (eqb (first + p) (first + q)) false (marked fs 0 (first + q))
+    put = marked-put false (first + p) (first + q) fs long lp lq
+
+    go : (eqb (first + p) (first + q) ≡ true) ⊎ (eqb (first + p) (first + q) ≡ false) → (q ≡ p → ⊥) × (marked fs 0 (first + q) ≡ true)
+    go (inl e) = never (marked (put-bit false 0 (first + p) fs) 0 (first + q)) t (put ∙ ap (λ (b : Bool). cond b false (marked fs 0 (first + q))) e)
+    go (inr e) = (
+      λ s. eqb-false (first + p) (first + q) e (ap (λ (z : ℕ). first + z) (sym s)),
+      sym (put ∙ ap (λ (b : Bool). cond b false (marked fs 0 (first + q))) e) ∙ t,
+    )
 
 -- ---- counters
 

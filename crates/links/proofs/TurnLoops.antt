@@ -14,14 +14,11 @@ use borrow.Author.Tests.{eq-eqb, ne-eqb}
 use Rattle.lists.specs.Lists.{range}
 use Rattle.mesh.specs.Tables.{put-bit}
 use Rattle.lists.proofs.Tests.{bool-cases}
+use Rattle.lists.proofs.Parts.{length-cond}
 use Rattle.mesh.proofs.Tables.Laws.{length-put-bit}
 use Rattle.links.specs.Turns.{end-counted, counter-less, released, place-marked, places-released, places-fitting, Releasable}
 
 -- ---- lengths
-
-length-cond : (t : Bool) (xs ys : List ℕ) → length xs ≡ length ys → length (cond t xs ys) ≡ length ys
-length-cond true xs ys e = e
-length-cond false xs ys e = refl
 
 pub length-counter-less : (ns : List ℕ) (k v : ℕ) (cs : List ℕ) → length (counter-less ns k v cs) ≡ length cs
 unfolding counter-less

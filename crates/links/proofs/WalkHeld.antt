@@ -17,7 +17,7 @@ use Rattle.lists.proofs.Member.{member-in}
 use Rattle.mesh.proofs.Tables.Laws.{length-put-bit}
 use Rattle.rows.specs.Rows.{neighbours-of}
 use Rattle.rows.proofs.RowListLaws.{in-neighbours-of, member-neighbours-of}
-use Rattle.links.proofs.TurnLaws.{marked-put}
+use Rattle.links.proofs.TurnLaws.{marked-put, cleared-other}
 use Rattle.walks.proofs.Turns.{Held}
 use Rattle.links.specs.Walks.{is-later, places-touched}
 use Rattle.links.proofs.WalkLoops.{Small, length-touched, touched-keeps, touched-marks, touched-only}
@@ -52,14 +52,7 @@ module _ (f : ℕ → ℕ → Bool) (most first : ℕ) (above part ns ps : List 
   cleared-at q l = marked-put false (first + p) (first + q) fs long lp l
 
   old : (q : ℕ) → first + q < max-radios → marked fs0 0 (first + q) ≡ true → (q ≡ p → ⊥) × (marked fs 0 (first + q) ≡ true)
-  old q l t = go (bool-cases (eqb (first + p) (first + q)))
-    where
-      go : (eqb (first + p) (first + q) ≡ true) ⊎ (eqb (first + p) (first + q) ≡ false) → (q ≡ p → ⊥) × (marked fs 0 (first + q) ≡ true)
-      go (inl e) = never (marked fs0 0 (first + q)) t (cleared-at q l ∙ ap (λ (b : Bool). cond b false (marked fs 0 (first + q))) e)
-      go (inr e) = (
-        λ s. eqb-false (first + p) (first + q) e (ap (λ (z : ℕ). first + z) (sym s)),
-        sym (cleared-at q l ∙ ap (λ (b : Bool). cond b false (marked fs 0 (first + q))) e) ∙ t,
-      )
+  old q l t = cleared-other first p q fs long lp l t
 
   near-joined : (w : ℕ) → In w near → f x w ≡ true
   near-joined w m = let r = in-neighbours-of us x w m in sym (row-is w (r .0)) ∙ r .1

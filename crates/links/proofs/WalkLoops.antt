@@ -18,6 +18,7 @@ use Rattle.lists.specs.Lists.{count, folded, overwrite, In}
 use Rattle.mesh.specs.Tables.{marked, put-bit}
 use Rattle.lists.proofs.Tests.{bool-cases, bit-one, byte-bit}
 use Rattle.lists.proofs.Member.{in-getD}
+use Rattle.lists.proofs.Parts.{length-cond}
 use Rattle.lists.proofs.Loops.{Counted-from, counted-turn, counted-end, length-folded}
 use Rattle.mesh.proofs.Tables.Laws.{length-put-bit}
 use Rattle.link_parts.proofs.ChangeLaws.{put-part}
@@ -43,10 +44,6 @@ left-turn f near k n i r room l e h =
 pub left-end : (f : ℕ → Bool) (near : List ℕ) (k n i : ℕ) → k ≤ length near → i ≡ k → Counted-from f (take k near) n i → n ≡ count f (take k near)
 left-end f near k n i room e h = counted-end f (take k near) n i (e ∙ sym (length-take-le k near room)) h
 
--- a byte is enough
-pub left-fits : (n i : ℕ) (t : Bool) → n ≤ i → i < max-neighbours → Fits w8 (n + boolByte t)
-left-fits n i t h l = record { fits = omega (arith, byte-bit t, bit-one t) }
-
 -- ---- passing
 
 -- a part of ys copied over as long a part of xs
@@ -71,10 +68,6 @@ module _ (k p : ℕ) (ns ps : List ℕ) where
   unfolding place-touched is-later
   touched-not w ds (inl e) = rw (ne-eqb (getD ns w 0) k e)
   touched-not w ds (inr e) = rw (eq-eqb (getD ns w 0) k (e .0), le-ltb p (getD ps w 0) (e .1))
-
-  length-cond : (t : Bool) (xs ys : List ℕ) → length xs ≡ length ys → length (cond t xs ys) ≡ length ys
-  length-cond true xs ys e = e
-  length-cond false xs ys e = refl
 
   pub length-place-touched : (w : ℕ) (ds : List ℕ) → length (place-touched k p ns ps w ds) ≡ length ds
   unfolding place-touched

@@ -20,7 +20,7 @@ use Rattle.rows.specs.Rows.{neighbours-of}
 use Rattle.rows.proofs.RowListLaws.{in-neighbours-of, member-neighbours-of}
 use Rattle.links.specs.Turns.{counter-less, released, place-marked, places-released, Releasable}
 use Rattle.links.proofs.TurnLoops.{length-place-marked, length-places-released, releasable-tail}
-use Rattle.links.proofs.TurnLaws.{marked-put, getD-released, marked-released, marked-released-place}
+use Rattle.links.proofs.TurnLaws.{marked-put, cleared-other, getD-released, marked-released, marked-released-place}
 use Rattle.walks.proofs.Turns.{Released}
 
 -- a row has no bit past its bytes
@@ -99,14 +99,7 @@ module _ (f : ℕ → ℕ → Bool) (most first : ℕ) (above part hs ps : List 
   cleared q l = marked-put false (first + p) (first + q) fs long lp l
 
   old : (q : ℕ) → first + q < max-radios → marked fs0 0 (first + q) ≡ true → (q ≡ p → ⊥) × (marked fs 0 (first + q) ≡ true)
-  old q l t = go (bool-cases (eqb (first + p) (first + q)))
-    where
-      go : (eqb (first + p) (first + q) ≡ true) ⊎ (eqb (first + p) (first + q) ≡ false) → (q ≡ p → ⊥) × (marked fs 0 (first + q) ≡ true)
-      go (inl e) = never (marked fs0 0 (first + q)) t (cleared q l ∙ ap (λ (b : Bool). cond b false (marked fs 0 (first + q))) e)
-      go (inr e) = (
-        λ s. eqb-false (first + p) (first + q) e (ap (λ (z : ℕ). first + z) (sym s)),
-        sym (cleared q l ∙ ap (λ (b : Bool). cond b false (marked fs 0 (first + q))) e) ∙ t,
-      )
+  old q l t = cleared-other first p q fs long lp l t
 
   pub released-is : Released f most above part pos x p mark (λ v. getD cs v 0) (λ v. getD cs1 v 0) (λ q. marked fs 0 (first + q)) (λ q. marked fs1 0 (first + q))
   released-is = record {

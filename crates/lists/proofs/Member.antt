@@ -26,6 +26,12 @@ in-getD [] j h = absurd (omega arith)
 in-getD (x ∷ xs) zero h = inl refl
 in-getD (x ∷ xs) (suc j) h = inr (in-getD xs j (omega arith))
 
+-- a head below the default is an entry
+pub head-or-below : (d : ℕ) (xs : List ℕ) → head-or d xs < d → In (head-or d xs) xs
+unfolding head-or
+head-or-below d [] l = absurd (omega arith)
+head-or-below d (x ∷ xs) l = inl refl
+
 pub head-or-in : (d v : ℕ) (xs : List ℕ) → In v xs → In (head-or d xs) xs
 unfolding head-or
 head-or-in d v (x ∷ xs) m = inl refl

@@ -1,7 +1,7 @@
 -- Laws of parts: parts of equal length joined, a part of a part, lists of bytes, zeros.
 use mathlib.Core.Path.{_≡_, sym, ap, _∙_, refl, ap₂}
 use mathlib.Core.Logic.{_⊎_, inl, inr}
-use mathlib.Core.Bool.{true, false}
+use mathlib.Core.Bool.{Bool, true, false, cond}
 use mathlib.Core.List.{List, [], _∷_, _++_, flatMap}
 use Prim.Native.Nat.{ℕ, zero, suc, _+_, _*_, _<_, _≤_, min, _-_}
 use native.Mathlib.Omega.{arith}
@@ -14,6 +14,16 @@ use lib.Dec.{ltb}
 use borrow.Author.Tests.{ltb-true, ltb-false}
 use Rattle.lists.specs.Lists.{Bytes, range}
 use Rattle.lists.proofs.Tests.{bool-cases}
+
+-- an entry that is there is the same whatever stands for none
+pub getD-any : (xs : List ℕ) (i d e : ℕ) → i < length xs → getD xs i d ≡ getD xs i e
+getD-any [] i d e l = absurd (omega arith)
+getD-any (x ∷ xs) zero d e l = refl
+getD-any (x ∷ xs) (suc i) d e l = getD-any xs i d e (omega arith)
+
+pub length-cond : (t : Bool) (xs ys : List ℕ) → length xs ≡ length ys → length (cond t xs ys) ≡ length ys
+length-cond true xs ys e = e
+length-cond false xs ys e = refl
 
 pub bytes-replicate : (k : ℕ) → Bytes (replicate k 0)
 bytes-replicate k i h = rw (getD-replicate {A = ℕ} k i 0 0 (omega (arith, length-replicate {A = ℕ} k 0))) (omega arith)

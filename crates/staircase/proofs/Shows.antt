@@ -14,6 +14,7 @@ use borrow.Author.Tests.{eqb-true, eq-eqb}
 use Rattle.lists.specs.Lists.{range}
 use Rattle.mesh.specs.Graph.{Link}
 use Rattle.mesh.specs.Staircase.{Joined, joined, keep, link-entries}
+use Rattle.lists.proofs.Parts.{getD-any}
 use Rattle.lists.proofs.Tests.{bool-cases, never, iff-eq, trichotomy}
 use Rattle.lists.proofs.Range.{length-range, getD-range}
 use Rattle.lists.proofs.Map.{length-map}
@@ -31,11 +32,6 @@ getD-map-in : (h : ℕ → ℕ) (xs : List ℕ) (v d e : ℕ) → v < length xs 
 getD-map-in h [] v d e l = absurd (omega arith)
 getD-map-in h (x ∷ xs) zero d e l = refl
 getD-map-in h (x ∷ xs) (suc v) d e l = getD-map-in h xs v d e (omega arith)
-
-getD-in : (xs : List ℕ) (v d e : ℕ) → v < length xs → getD xs v d ≡ getD xs v e
-getD-in [] v d e l = absurd (omega arith)
-getD-in (x ∷ xs) zero d e l = refl
-getD-in (x ∷ xs) (suc v) d e l = getD-in xs v d e (omega arith)
 
 link-entries-end : (ks : List Link) (l : Link) → link-entries (ks ++ (l ∷ [])) ≡ link-entries ks ++ (l .low ∷ l .high ∷ [])
 unfolding link-entries
@@ -91,7 +87,7 @@ shows-none n old = record {
     own v = go (trichotomy v n)
       where
         go : (v < n) ⊎ ((v ≡ n) ⊎ (n < v)) → entry (range 0 n) v ≡ v
-        go (inl h) = omega (arith, getD-in (range 0 n) v v 0 (omega (arith, length-range 0 n)), getD-range 0 n v h)
+        go (inl h) = omega (arith, getD-any (range 0 n) v v 0 (omega (arith, length-range 0 n)), getD-range 0 n v h)
         go (inr (inl h)) = List·getD-eq-default (range 0 n) v {n = v} (omega (arith, length-range 0 n))
         go (inr (inr h)) = List·getD-eq-default (range 0 n) v {n = v} (omega (arith, length-range 0 n))
 
@@ -145,7 +141,7 @@ module _ (n : ℕ) (old : List ℕ) (ks : List Link) (inside : Inside n ks) (l :
   pub shows-one : Shows n old (now n ks l) (grown-one l s)
   unfolding grown-one
   shows-one =
-      rw (labels-tell, getD-in (s .labels) (l .low) 0 (l .low) (omega (arith, ends .0, shows .long)), getD-in (s .labels) (l .high) 0 (l .high) (omega (arith, ends .1, shows .long)))
+      rw (labels-tell, getD-any (s .labels) (l .low) 0 (l .low) (omega (arith, ends .0, shows .long)), getD-any (s .labels) (l .high) 0 (l .high) (omega (arith, ends .1, shows .long)))
       (go (bool-cases (eqb (entry (s .labels) (l .low)) (entry (s .labels) (l .high)))))
     where
       a : ℕ
