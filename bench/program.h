@@ -94,7 +94,8 @@ struct work {
 };
 
 /* The calls that are timed. LINK is a link down and up again, ASKED and COMMITTED are the same in two steps, NEW is a new link up. BATCHED
- * clears a site first. HEARD is two hearings: links of the site go down, and come up again. MARK_SET replaces a mark of a full store, MARK_MOVED removes the first of eight and sets it again. */
+ * clears a site first. HEARD is two hearings: links of the site go down, and come up again. MARK_SET replaces a mark of a full store,
+ * MARK_MOVED removes the first of eight and sets it again. */
 enum timed {
     CLEAR, CHECK, NUMBER, DEGREE, LINKED, FIRST, LATER_OF, LINK, ASKED, COMMITTED, BATCHED, HEARD, CORE, BACKBONE, TREE, SHEET,
     SCRIPT_LENGTH, SCRIPT_WRITE, STAIRCASE, IMAGE_WRITE, IMAGE_READ, IMAGE_OTHER, IMAGE_BLOCK, NEW, MARK_SET, MARK_MOVED, MARK_RETURN,

@@ -1,7 +1,7 @@
 -- A hearing carried out row by row: each switch is allowed, and what is left after it.
 --   left-first, left-next, left-done    before the first switch, after one, after the last
 --   rows-first        before the first row of the downs
---   row-first         a row is begun: a list of radios above it with a test that tells the ones to be switched
+--   row-first         the start of a row: a list of radios above it with a test that tells the ones to be switched
 --   row-skip          a radio that the test leaves out
 --   row-next          a radio that it tells: questions 4 to 7 get yes, and the rest is left
 --   row-end           the row is done

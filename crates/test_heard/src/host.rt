@@ -10,7 +10,8 @@ const ENTRIES: usize = 514;
 
 const LINKS: usize = 64 * ENTRIES;
 
-// The tables: links, heard and further ones have one shape. They are arrays, as a reference to one has its length in its type: that is cheaper to prove of than a slice.
+// The tables: links, heard and further ones have one shape. They are arrays, as a reference to one has its length in its type: that is
+// cheaper to prove of than a slice.
 type Links = [u8; LINKS];
 
 type Numbers = [u8; ENTRIES];
