@@ -4,15 +4,17 @@
   python3 oracle/site.py --check   say whether the stored files are what would be written
 
 Images are written and refused by oracle/images.py, scripts are played on the site of oracle/peeled.py, cores, backbones and trees are
-of oracle/trees.py, staircase trees of oracle/kruskal.py.
+of oracle/trees.py, staircase trees of oracle/kruskal.py, links that lift a radio of oracle/lift.py, which tries every pair.
 """
 
 import random
 import sys
+from functools import cache
 from pathlib import Path
 
 import images
 import kruskal
+import lift
 import peeled
 import trees
 from scripts import LARGEST, LINE, lines_of, printed
@@ -21,7 +23,7 @@ CRATES = Path(__file__).resolve().parent.parent / "crates"
 WORDS = {4: "a radio named is not below the count of radios", 5: "the ends of the link are the same radio",
          6: "the link is up already, or down already", 7: "an end has 40 neighbours", 8: "the level is above the radio's number",
          9: "the length is 0 or no multiple of 512", 10: "a block does not pass its check",
-         11: "the bytes are the image of no sound site"}
+         11: "the bytes are the image of no sound site", 20: "no link would raise the radio's number"}
 FORM = "no line of the language stands here"
 VERBS = ["check", "numbers", "sheet", "script", "backbone", "staircase", "tree"]
 HELP = (CRATES / "site_program/src/help.rt").read_text()
@@ -117,6 +119,27 @@ def core(site, v, k):
     return printed("core", *sorted(site.site.core(v, k)))
 
 
+@cache
+def firsts(n, links):
+    """For each radio that a link lifts the first one."""
+    site = peeled.Site(n)
+    for a, b in links:
+        site.near[a].add(b), site.near[b].add(a)
+    return lift.firsts(site)
+
+
+def lifted(site, v):
+    if v >= site.n:
+        raise refused("", 4)
+    first = firsts(site.n, tuple(site.links))
+    if v not in first:
+        raise refused("", 20)
+    return printed("link", *first[v])
+
+
+# Verbs with numbers: what they take, and what they print.
+TAKES = {"core": (2, "a radio and a level, 0 to 65535 each", core), "lift": (1, "a radio, 0 to 65535", lifted)}
+
 SAYS = {
     "check": lambda s: f"0 accepted: a site of {s.n} radios\n",
     "numbers": lambda s: printed("numbers", *s.numbers),
@@ -142,13 +165,13 @@ def help_page():
 def answer(data, verb, words):
     if verb == "help":
         return help_page()
-    if verb not in SAYS and verb != "core":
+    if verb not in SAYS and verb not in TAKES:
         raise Refused("unknown verb; site help lists them")
     numbers = [number(word) for word in words]
-    if len(words) != (2 if verb == "core" else 0) or None in numbers:
-        raise Refused(f"{verb} takes " + ("a radio and a level, 0 to 65535 each" if verb == "core" else "no number"))
-    site = found(data)
-    return core(site, *numbers) if verb == "core" else SAYS[verb](site)
+    count, what, says = TAKES.get(verb) or (0, "no number", SAYS.get(verb))
+    if len(words) != count or None in numbers:
+        raise Refused(f"{verb} takes {what}")
+    return says(found(data), *numbers)
 
 
 def run(data, verb, words=()):
@@ -243,6 +266,13 @@ def cases(data):
     for name, v, k in [("image-7", "6", "1"), ("script-7", "0", "2"), ("image-7", "6", "2"), ("image-7", "7", "0"), ("image-7", "65535", "65535"),
                        ("image-7", "65536", "0"), ("image-7", "01", "0"), ("image-7", "", "0"), ("image-7", "1 2", "0"), ("image-7", "0" * 18, "0")]:
         yield name, "core", [v, k], (v, k)
+    for name, v in [("script-7", "6"), ("script-7", "0"), ("script-7", "7"), ("image-7", "6"), ("image-7", "0"), ("image-7", "7"), ("image-7", "65535"),
+                    ("image-7", "65536"), ("image-7", "06"), ("image-7", ""), ("image-1", "0"), ("image-300", "299"), ("image-300", "0"),
+                    ("refused-6", "0"), ("cut", "0")]:
+        yield name, "lift", [v], (v, "")
+    yield "script-7", "lift", [], ("", "")
+    yield "image-7", "lift", [], ("", "")
+    yield "image-7", "lift", ["6", "1"], ("6", "1")
     yield "image-7", "core", ["6"], ("6", "")
     yield "image-7", "core", [], ("", "")
     yield "image-7", "core", ["6", "1", "1"], ("6", "1")

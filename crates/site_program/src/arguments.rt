@@ -35,13 +35,16 @@ fn two(v: &[u8], k: &[u8]) -> Numbers {
     }
 }
 
-// The numbers of a verb that takes `takes` of them and is given `count` words.
+// The numbers of a verb that takes `takes` of them and is given `count` words; k is 0 where it takes one.
 pub(crate) fn given(takes: usize, count: usize, v: &[u8], k: &[u8]) -> Numbers {
     if takes != count {
         return none(false);
     }
     if takes == 0 {
         return none(true);
+    }
+    if takes == 1 {
+        return two(v, b"0");
     }
     two(v, k)
 }

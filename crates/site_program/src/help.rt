@@ -16,6 +16,7 @@ FILE is an image or a script. One that begins with the word radios is a script, 
   image       the image of the site, in bytes
   backbone    the radios with the greatest number of their own connected part
   core V K    the connected core of radio V at level K
+  lift V      one link that would raise the number of radio V: the first, by lower radio and then higher
   tree        the shell tree: a line for each node (name, level, parent), then the node of each radio
   staircase   the staircase tree: a line for each kept link, in the order in which they are taken
   help        this page

@@ -9,6 +9,7 @@ mod parts;
 mod refusals;
 mod scripts;
 mod source;
+mod words;
 
 use arguments::Numbers;
 use mesh::Site;

@@ -2,7 +2,7 @@
 ghost use mathlib.Core.Path.{_≡_};
 ghost use Rattle.site_program.specs.Inputs.{wrong};
 use crate::parts;
-use calls::Refusal;
+use crate::words;
 
 // The status of a run that went wrong.
 pub const WRONG: u32 = 1;
@@ -33,46 +33,12 @@ pub(crate) fn say(errors: i32, words: &[u8]) -> u32
     write(errors, &out, end)
 }
 
-// What the numbers of images mean.
-fn put_image_words(out: &mut [u8], at: usize, number: u32) -> usize {
-    if number == Refusal::IMAGE_SIZE {
-        return text::put_text(out, at, b"the length is 0 or no multiple of 512");
-    }
-    if number == Refusal::IMAGE_CHECK {
-        return text::put_text(out, at, b"a block does not pass its check");
-    }
-    if number == Refusal::IMAGE {
-        return text::put_text(out, at, b"the bytes are the image of no sound site");
-    }
-    text::put_text(out, at, b"the call is refused")
-}
-
-// What the numbers mean.
-fn put_words(out: &mut [u8], at: usize, number: u32) -> usize {
-    if number == Refusal::RADIO {
-        return text::put_text(out, at, b"a radio named is not below the count of radios");
-    }
-    if number == Refusal::SAME_ENDS {
-        return text::put_text(out, at, b"the ends of the link are the same radio");
-    }
-    if number == Refusal::LINK_STATE {
-        return text::put_text(out, at, b"the link is up already, or down already");
-    }
-    if number == Refusal::NO_ROOM {
-        return text::put_text(out, at, b"an end has 40 neighbours");
-    }
-    if number == Refusal::LEVEL {
-        return text::put_text(out, at, b"the level is above the radio's number");
-    }
-    put_image_words(out, at, number)
-}
-
 // "refused by", the number, a colon, and the words.
 fn put_refused(out: &mut [u8], at: usize, number: u32) -> usize {
     let word = text::put_text(out, at, b"refused by");
     let digits = text::put_field(out, word, number as u64);
     let colon = text::put_text(out, digits, b": ");
-    put_words(out, colon, number)
+    words::put_words(out, colon, number)
 }
 
 // A verb's call that is refused.
@@ -137,6 +103,9 @@ pub(crate) fn say_usage(errors: i32, verb: &[u8], takes: usize) -> u32
 fn put_usage(out: &mut [u8], at: usize, takes: usize) -> usize {
     if takes == 0 {
         return text::put_text(out, at, b" takes no number");
+    }
+    if takes == 1 {
+        return text::put_text(out, at, b" takes a radio, 0 to 65535");
     }
     text::put_text(out, at, b" takes a radio and a level, 0 to 65535 each")
 }

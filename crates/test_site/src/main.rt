@@ -5,6 +5,7 @@ mod run;
 
 use run::case;
 use run::core;
+use run::lift;
 
 // Every verb on a script and on an image of the same site.
 fn verbs_of(path: &[u8]) {
@@ -40,8 +41,30 @@ fn cores() {
     core(b"image-7", b"000000000000000000", b"0");
 }
 
+// Links that lift a radio, and what refuses them.
+fn lifts() {
+    lift(b"script-7", b"6");
+    lift(b"script-7", b"0");
+    lift(b"script-7", b"7");
+    lift(b"image-7", b"6");
+    lift(b"image-7", b"0");
+    lift(b"image-7", b"7");
+    lift(b"image-7", b"65535");
+    lift(b"image-7", b"65536");
+    lift(b"image-7", b"06");
+    lift(b"image-7", b"");
+    lift(b"image-1", b"0");
+    lift(b"image-300", b"299");
+    lift(b"image-300", b"0");
+    lift(b"refused-6", b"0");
+    lift(b"cut", b"0");
+}
+
 // Words that no verb takes.
 fn words() {
+    run::words(b"script-7", b"lift", 0, b"", b"");
+    run::words(b"image-7", b"lift", 0, b"", b"");
+    run::words(b"image-7", b"lift", 2, b"6", b"1");
     run::words(b"image-7", b"core", 1, b"6", b"");
     run::words(b"image-7", b"core", 0, b"", b"");
     run::words(b"image-7", b"core", 3, b"6", b"1");
@@ -89,6 +112,7 @@ fn bad_scripts() {
 fn main() {
     good();
     cores();
+    lifts();
     words();
     bad_images();
     bad_scripts();

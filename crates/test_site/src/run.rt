@@ -54,9 +54,14 @@ pub fn core(path: &[u8], v: &[u8], k: &[u8]) {
     words(path, b"core", 2, v, k);
 }
 
+// A link that lifts a radio.
+pub fn lift(path: &[u8], v: &[u8]) {
+    words(path, b"lift", 1, v, b"");
+}
+
 // A new file without a name, open for reading and writing; negative where there is none.
 pub(crate) fn new_file() -> i32 {
-    let mut name = *b"/tmp/summerbugle-XXXXXX";
+    let mut name = *b"site-XXXXXX";
     let fd = os::create_temp(&mut name);
     if fd < 0 {
         os::fail(&name);

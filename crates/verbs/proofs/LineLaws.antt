@@ -7,12 +7,12 @@ use native.Mathlib.Numerals.{add-one}
 use lib.ListN.{length, drop, getD, length-drop, drop-of-length-le}
 use lib.Seq.{drop-cons}
 use Rattle.text.specs.Text.{bytes-of, decimal, printed-line}
-use Rattle.verbs.specs.Texts.{pair-lines, node-lines}
+use Rattle.verbs.specs.Texts.{link-line, pair-lines, node-lines}
 
 -- ---- pair-lines
 
 pub pair-next : (xs : List ℕ) (i a b : ℕ) → 2 * i + 1 < length xs → a ≡ getD xs (2 * i) 0 → b ≡ getD xs (2 * i + 1) 0
-    → pair-lines (drop (2 * i) xs) ≡ printed-line (bytes-of "link") (decimal a ∷ decimal b ∷ []) ++ pair-lines (drop (2 * (i + 1)) xs)
+    → pair-lines (drop (2 * i) xs) ≡ link-line a b ++ pair-lines (drop (2 * (i + 1)) xs)
 unfolding pair-lines
 pair-next xs i a b h d e =
     let next : 2 * (i + 1) ≡ suc (suc (2 * i)) = omega arith in

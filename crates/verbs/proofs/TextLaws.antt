@@ -1,4 +1,4 @@
--- Texts put in front of a buffer: refused, accepted, and of a list that a call put in front of a table.
+-- Texts put in front of a buffer: refused, accepted, of a list that a call put in front of a table, and of a pair.
 use mathlib.Core.Path.{_≡_, refl, sym, _∙_, ap, subst}
 use mathlib.Core.List.{List}
 use Prim.Native.Nat.{ℕ, zero, suc, _<_, min}
@@ -7,11 +7,14 @@ use lib.ListN.{length, take}
 use Rattle.lists.proofs.Overwrite.{take-overwrite}
 use Rattle.lists.proofs.Parts.{take-min}
 use Rattle.text.specs.Print.{buffer-at, Puts}
+use Rattle.mesh.specs.Graph.{Link}
 use Rattle.calls.specs.Questions.{By-number}
 use Rattle.calls.specs.Contracts.Forms.{Listing-by}
+use Rattle.calls.specs.Contracts.Lift.{Pair-accepted, Pair-refused}
+use Rattle.calls.specs.declared.Pair.{Pair}
 use Rattle.calls.specs.declared.Value.{Value}
 use Rattle.verbs.specs.declared.Text.{Text}
-use Rattle.verbs.specs.Texts.{Text-by}
+use Rattle.verbs.specs.Texts.{link-line, Text-by}
 
 -- ---- Text-by
 
@@ -41,4 +44,15 @@ by-listed F size zero count new old reply now w r x e l t =
 by-listed F size (suc q) count new old reply now w r x e l t =
     let told : Text-by (suc q) (F (take (size (reply .value)) now)) w r x
     = subst (λ (k : ℕ). Text-by k (F (take (size (reply .value)) now)) w r x) (l .number) t in
+    record { number = told .number; length = told .length; lent = told .lent }
+
+-- the line of a pair that a call answered
+pub by-pair : (R : ℕ) (l : Link) (p : Pair) (w : List ℕ) (r : Text) (x : List ℕ) → By-number R (Pair-accepted l p) (λ q. Pair-refused q p)
+    → Text-by (p .number) (link-line (p .low) (p .high)) w r x → Text-by R (link-line (l .low) (l .high)) w r x
+unfolding By-number
+by-pair zero l p w r x a t =
+    let told : Text-by 0 (link-line (p .low) (p .high)) w r x = subst (λ (k : ℕ). Text-by k (link-line (p .low) (p .high)) w r x) (a .number) t in
+    rw (sym (a .low), sym (a .high)) told
+by-pair (suc q) l p w r x a t =
+    let told : Text-by (suc q) (link-line (p .low) (p .high)) w r x = subst (λ (k : ℕ). Text-by k (link-line (p .low) (p .high)) w r x) (a .number) t in
     record { number = told .number; length = told .length; lent = told .lent }

@@ -1,6 +1,6 @@
 -- What each verb of the program `site` says: its text in front of a buffer, or the refusal of its call.
 --   value-of r      the answer of a call that writes a text itself
---   Backbone-said .. Tree-said   texts of lists, which have room for every site
+--   Backbone-said .. Tree-said   texts of lists, which have room for every site; Lift-said a link's line
 --   Said verb       the contract of a verb
 -- Definitions only.
 use mathlib.Core.List.{List, []}
@@ -12,6 +12,7 @@ use Rattle.mesh.specs.Sound.{sound}
 use Rattle.mesh.specs.Connected.{core-of, backbone}
 use Rattle.mesh.specs.Staircase.{staircase, link-entries}
 use Rattle.calls.specs.Questions.{lengths-of, core-refusal, backbone-refusal, staircase-refusal, tree-refusal}
+use Rattle.calls.specs.Lift.{lifting, first-pair, lift-refusal}
 use Rattle.calls.specs.Replay.{numbers-line}
 use Rattle.calls.specs.Contracts.Pages.{Sheet-contract}
 use Rattle.calls.specs.Contracts.Scripts.{Script-contract}
@@ -19,8 +20,8 @@ use Rattle.calls.specs.Contracts.Images.{Write-contract}
 use Rattle.calls.specs.declared.Value.{Value}
 use Rattle.verbs.specs.declared.Text.{Text}
 use Rattle.verbs.specs.declared.names.Verb.{Verb}
-use Rattle.verbs.specs.declared.names.Verb.the-variants.{Help, Check, Numbers, Sheet, Script, Image, Backbone, Staircase, Tree, Core, Unknown}
-use Rattle.verbs.specs.Texts.{radios-line, pair-lines, tree-text, accepted-line, Text-by}
+use Rattle.verbs.specs.declared.names.Verb.the-variants.{Help, Check, Numbers, Sheet, Script, Image, Backbone, Staircase, Tree, Core, Lift, Unknown}
+use Rattle.verbs.specs.Texts.{radios-line, link-line, pair-lines, tree-text, accepted-line, Text-by}
 
 -- the number, and the length as the value
 abbrev pub value-of : Text → Value
@@ -36,6 +37,13 @@ unfoldable pub Core-said : (n v k : ℕ) → Tables → (old : List ℕ) → Tex
 Core-said n v k t w r x =
     let g = graph-in n (t .links) in
     Text-by (core-refusal n v k (lengths-of t) max-radios (sound n t) g) (radios-line (bytes-of "core") (core-of g v k)) w r x
+
+-- the first link that lifts v, in one line
+unfoldable pub Lift-said : (n v : ℕ) → Tables → (old : List ℕ) → Text → (now : List ℕ) → Type 0
+Lift-said n v t w r x =
+    let g = graph-in n (t .links) in
+    let l = first-pair (lifting g v) in
+    Text-by (lift-refusal n v (lengths-of t) (sound n t) g) (link-line (l .low) (l .high)) w r x
 
 -- the staircase tree, a line for each kept link
 unfoldable pub Staircase-said : (n : ℕ) → Tables → (old : List ℕ) → Text → (now : List ℕ) → Type 0
@@ -59,4 +67,5 @@ Said Backbone v k n t w r x = Backbone-said n t w r x
 Said Staircase v k n t w r x = Staircase-said n t w r x
 Said Tree v k n t w r x = Tree-said n t w r x
 Said Core v k n t w r x = Core-said n v k t w r x
+Said Lift v k n t w r x = Lift-said n v t w r x
 Said Unknown v k n t w r x = Text-by 0 [] w r x

@@ -1,5 +1,6 @@
 -- The texts that the program `site` prints, as bytes.
 --   radios-line word rs    a word, and a list of radios
+--   link-line a b          the line of a link
 --   pair-lines xs          a line for each link of a table of links
 --   node-lines xs ls ps    a line for each node of the shell tree: name, level, parent
 --   tree-text g            the shell tree: its nodes, then each radio's node
@@ -23,11 +24,15 @@ use Rattle.verbs.specs.declared.Text.{Text}
 unfoldable pub radios-line : (word radios : List ℕ) → List ℕ
 radios-line w rs = printed-line w (map decimal rs)
 
+-- a link, lower radio first
+abbrev pub link-line : (a b : ℕ) → List ℕ
+link-line a b = printed-line (bytes-of "link") (decimal a ∷ decimal b ∷ [])
+
 -- a line for each link, two entries each; an entry alone has none
 unfoldable pub pair-lines : (entries : List ℕ) → List ℕ
 pair-lines [] = []
 pair-lines (a ∷ []) = []
-pair-lines (a ∷ b ∷ xs) = printed-line (bytes-of "link") (decimal a ∷ decimal b ∷ []) ++ pair-lines xs
+pair-lines (a ∷ b ∷ xs) = link-line a b ++ pair-lines xs
 
 -- a line for each node, as far as the shortest list goes
 unfoldable pub node-lines : (names levels parents : List ℕ) → List ℕ

@@ -65,6 +65,7 @@ pub fn answer<'a>(
         Verb::Staircase => listing::staircase(n, links, numbers, order, out),
         Verb::Tree => trees::tree(n, links, numbers, order, out),
         Verb::Core => listing::core(n, v, k, links, numbers, order, out),
+        Verb::Lift => listing::lift(n, v, links, numbers, order, out),
         Verb::Unknown => Text {
             number: 0,
             length: 0,

@@ -2,13 +2,12 @@
 ghost use mathlib.Core.Path.{_≡_};
 ghost use Prim.Native.Nat.{_*_};
 ghost use lib.ListN.{take};
-ghost use mathlib.Core.List.{[], _∷_};
 ghost use Rattle.mesh.specs.Tables.{lent};
-ghost use Rattle.text.specs.Text.{bytes-of, decimal, printed-line};
 ghost use Rattle.text.specs.Print.{buffer-at, Puts};
-ghost use Rattle.verbs.specs.Texts.{radios-line, pair-lines, Text-by};
-ghost use Rattle.verbs.specs.Said.{Backbone-said, Core-said, Staircase-said};
+ghost use Rattle.verbs.specs.Texts.{radios-line, link-line, pair-lines, Text-by};
+ghost use Rattle.verbs.specs.Said.{Backbone-said, Core-said, Lift-said, Staircase-said};
 use crate::Text;
+use calls::Pair;
 use calls::Value;
 use mesh::Site;
 
@@ -71,8 +70,7 @@ pub(crate) fn wide(x: u16) -> u64
 
 // The line of a link.
 fn put_link(out: &mut [u8], at: usize, a: u64, b: u64) -> usize
-    ensures { λ r. ⌜ Puts (buffer-at (now (out .entry)) at) (printed-line (bytes-of "link") (decimal a ∷ decimal b ∷ []))
-        (buffer-at (now (out .exit)) r) ⌝ }
+    ensures { λ r. ⌜ Puts (buffer-at (now (out .entry)) at) (link-line a b) (buffer-at (now (out .exit)) r) ⌝ }
 {
     let after_word = text::put_text(out, at, b"link");
     let after_a = text::put_field(out, after_word, a);
@@ -125,4 +123,33 @@ pub(crate) fn staircase<'a>(
     let mut table = [0u16; ENTRIES];
     let reply = staircase::staircase(n, links, numbers, order, &mut table);
     put_kept(reply, &table, out)
+}
+
+// The line of a pair's link. Nothing is put where the pair is a refusal.
+fn put_pair(pair: Pair, out: &mut [u8]) -> Text
+    ensures { λ r. ⌜ Text-by (pair .number) (link-line (pair .low) (pair .high)) (now (out .entry)) r (now (out .exit)) ⌝ }
+{
+    if pair.number != 0 {
+        return Text {
+            number: pair.number,
+            length: 0,
+        };
+    }
+    let length = put_link(out, 0, pair.low as u64, pair.high as u64);
+    Text { number: 0, length }
+}
+
+// The first link that lifts v, in one line.
+pub(crate) fn lift<'a>(
+    n: u32,
+    v: u32,
+    links: &'a [u8],
+    numbers: &'a [u8],
+    order: &'a [u16],
+    out: &mut [u8],
+) -> Text
+    ensures { λ r. ⌜ Lift-said n v (lent (links .entry) (numbers .entry) (order .entry)) (now (out .entry)) r (now (out .exit)) ⌝ }
+{
+    let pair = lift::lift(n, v, links, numbers, order);
+    put_pair(pair, out)
 }

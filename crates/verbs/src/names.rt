@@ -12,6 +12,7 @@ pub enum Verb {
     Staircase,
     Tree,
     Core,
+    Lift,
     Unknown,
 }
 
@@ -52,6 +53,9 @@ pub fn verb_of(word: &[u8]) -> Verb {
     if same8(word, b"core") {
         return Verb::Core;
     }
+    if same8(word, b"lift") {
+        return Verb::Lift;
+    }
     plain_verb_of(word)
 }
 
@@ -59,6 +63,7 @@ pub fn verb_of(word: &[u8]) -> Verb {
 pub fn takes(verb: Verb) -> usize {
     match verb {
         Verb::Core => 2,
+        Verb::Lift => 1,
         _ => 0,
     }
 }

@@ -52,8 +52,12 @@ unfolding Said
 returns-10 c = as-verb _ _ _ _ _ _ _ (c .before .before .before .before .enum-told10 .given .1) (c .before .before .core .ensures)
 
 returns-11 : tie.Need-returns-11
+unfolding Said
+returns-11 c = as-verb _ _ _ _ _ _ _ (c .before .before .before .before .enum-told11 .given .1) (c .before .before .lift .ensures)
+
+returns-12 : tie.Need-returns-12
 unfolding Said By-number put
-returns-11 c = as-verb _ _ _ _ _ _ _ (c .enum-told11 .given .1) (record { number = refl; puts = record { is = refl } })
+returns-12 c = as-verb _ _ _ _ _ _ _ (c .enum-told12 .given .1) (record { number = refl; puts = record { is = refl } })
 
 pub answer-spec : {M : Type 1} → statement M
 answer-spec =
@@ -61,6 +65,7 @@ answer-spec =
     tie.spec (λ c. search needs) (λ c. search needs) (λ c κs. search needs) (λ c. search needs) (λ c κs. search needs) (λ c. search needs)
     (λ c κs. search needs) (λ c κs. search needs) (λ c. search needs) (λ c κs. search needs) (λ c κs. search needs) (λ c. search needs)
     (λ c κs. search needs) (λ c κs. search needs) (λ c. search needs) (λ c κs. search needs) (λ c. search needs) (λ c κs. search needs)
-    (λ c. search needs) (λ c κs. search needs) (λ c. search needs) (λ c κs. search needs) (λ c. search needs) returns (λ c. search needs) returns-2
+    (λ c. search needs) (λ c κs. search needs) (λ c. search needs) (λ c κs. search needs) (λ c. search needs)
+    (λ c κs. search needs) (λ c. search needs) returns (λ c. search needs) returns-2
     (λ c. search needs) returns-3 (λ c. search needs) returns-4 (λ c. search needs) returns-5 (λ c. search needs) returns-6 (λ c. search needs)
-    returns-7 (λ c. search needs) returns-8 (λ c. search needs) returns-9 (λ c. search needs) returns-10 returns-11)
+    returns-7 (λ c. search needs) returns-8 (λ c. search needs) returns-9 (λ c. search needs) returns-10 (λ c. search needs) returns-11 returns-12)
