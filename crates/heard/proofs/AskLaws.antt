@@ -2,7 +2,7 @@
 --   Proper-below     the rows before row a mark neither their own radio nor one at n or above
 --   Counting         agreed links of a radio, counted
 --   Few-below        the radios before radio a have few enough agreed links
-use mathlib.Core.Path.{_≡_, refl, sym, ap, _∙_}
+use mathlib.Core.Path.{_≡_, refl, sym, ap, _∙_, subst}
 use mathlib.Core.Logic.{_⊎_, inl, inr}
 use mathlib.Core.Bool.{Bool, true, false, _&&_, not, cond}
 use mathlib.Core.List.{List}
@@ -52,6 +52,14 @@ module _ (hs : List ℕ) (a b : ℕ) where
   pub within-no : (n : ℕ) → none-from n hs a ≡ none-from b hs a → b < max-radios → marked hs a b ≡ true → false ≡ none-from n hs a
   within-no n h l e = sym (h ∙ none-first l ∙ rw e)
 
+-- what holds of every radio below a, and of a, holds below the next
+below-next : (P : ℕ → Type 0) (a : ℕ) → ((x : ℕ) → x < a → P x) → P a → (x : ℕ) → x < a + 1 → P x
+below-next P a h e x l = go (bool-cases (leb a x))
+  where
+    go : (leb a x ≡ true) ⊎ (leb a x ≡ false) → P x
+    go (inl t) = let s : a ≡ x = omega (arith, leb-true a x t) in subst P s e
+    go (inr t) = h x (omega (arith, leb-false a x t))
+
 -- ---- question 14
 
 abbrev pub Proper-below : (n : ℕ) → (heard : List ℕ) → (a : ℕ) → Type 0
@@ -63,11 +71,7 @@ module _ (n : ℕ) (hs : List ℕ) where
   none-within = refl
 
   pub proper-turn : (a : ℕ) → Proper-below n hs a → marked hs a a ≡ false → none-from n hs a ≡ true → Proper-below n hs (a + 1)
-  proper-turn a h e f x l = go (bool-cases (leb a x))
-    where
-      go : (leb a x ≡ true) ⊎ (leb a x ≡ false) → (marked hs x x ≡ false) × (none-from n hs x ≡ true)
-      go (inl t) = let s : x ≡ a = omega (arith, leb-true a x t) in rw s (e, f)
-      go (inr t) = h x (omega (arith, leb-false a x t))
+  proper-turn a h e f = below-next (λ x. (marked hs x x ≡ false) × (none-from n hs x ≡ true)) a h (e, f)
 
   pub proper-end : (a : ℕ) → Proper-below n hs a → n ≤ a → true ≡ heard-proper n hs
   unfolding heard-proper
@@ -160,11 +164,7 @@ Few-below n hs a = (x : ℕ) → x < a → leb (agreed-degree n hs x) max-neighb
 
 module _ (n : ℕ) (hs : List ℕ) where
   pub few-turn : (a : ℕ) → Few-below n hs a → leb (agreed-degree n hs a) max-neighbours ≡ true → Few-below n hs (a + 1)
-  few-turn a h e x l = go (bool-cases (leb a x))
-    where
-      go : (leb a x ≡ true) ⊎ (leb a x ≡ false) → leb (agreed-degree n hs x) max-neighbours ≡ true
-      go (inl t) = let s : x ≡ a = omega (arith, leb-true a x t) in rw s e
-      go (inr t) = h x (omega (arith, leb-false a x t))
+  few-turn a h e = below-next (λ x. leb (agreed-degree n hs x) max-neighbours ≡ true) a h e
 
   pub few-end : (a : ℕ) → Few-below n hs a → n ≤ a → true ≡ agreed-few max-neighbours n hs
   unfolding agreed-few

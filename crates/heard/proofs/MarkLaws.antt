@@ -30,7 +30,7 @@ use Rattle.mesh.proofs.Tables.Rows.{within-of}
 use Rattle.rows.specs.Rows.{neighbours-of}
 use Rattle.rows.proofs.RowListLaws.{in-neighbours-of, member-neighbours-of}
 use Rattle.calls.specs.Heard.{heard-alone, one-sided, one-sided-count}
-use Rattle.heard.specs.Hearing.{Of-size, In-front, hears, alone-put, Pair-marked, Row-marked, One-sided-marked}
+use Rattle.heard.specs.Hearing.{Of-size, Is-prefix, hears, alone-put, Pair-marked, Row-marked, One-sided-marked}
 use Rattle.heard.proofs.RowLaws.{neighbours-most}
 
 -- ---- a pair
@@ -153,7 +153,7 @@ module _ (n : ℕ) (hs : List ℕ) (room : ℕ) (s : Of-size n hs) where
     marks = λ long x y lx ly. marked-replicate room x y (omega (arith, long, byte-at-less n x y lx ly)) ∙ rw (le-ltb x 0 (omega arith));
   })
 
-  module _ (further : List ℕ) (k a : ℕ) (m : Marking n hs room further k a) (l : a < n) (i : ℕ) (list : List ℕ) (f : In-front (neighbours-of hs a) i list)
+  module _ (further : List ℕ) (k a : ℕ) (m : Marking n hs room further k a) (l : a < n) (i : ℕ) (list : List ℕ) (f : Is-prefix (neighbours-of hs a) i list)
       (r : ℕ) (new : List ℕ) (d : Row-marked hs a (take i list) further r new) where
     table-is : new ≡ folded (alone-put hs a) (neighbours-of hs a) further
     table-is = d .table ∙ ap (λ (xs : List ℕ). folded (alone-put hs a) xs further) (f .listed)

@@ -18,7 +18,7 @@ use Rattle.lists.proofs.Overwrite.{take-overwrite}
 use Rattle.mesh.specs.Tables.{digit, byte-at, marked}
 use Rattle.rows.specs.Rows.{neighbours-of, row-listed}
 use Rattle.rows.proofs.RowWords.{row-listed-whole}
-use Rattle.heard.specs.Hearing.{In-front}
+use Rattle.heard.specs.Hearing.{Is-prefix}
 
 -- a row marks at most as many radios as there are
 pub neighbours-most : (ts : List ℕ) (a : ℕ) → length (neighbours-of ts a) ≤ max-radios
@@ -26,7 +26,7 @@ unfolding neighbours-of
 neighbours-most ts a = filter-le (λ b. marked ts a b) (range 0 max-radios) max-radios (length-range 0 max-radios)
 
 -- a listed row
-module _ (ts : List ℕ) (a : ℕ) {r : ℕ} {list : List ℕ} (f : In-front (neighbours-of ts a) r list) where
+module _ (ts : List ℕ) (a : ℕ) {r : ℕ} {list : List ℕ} (f : Is-prefix (neighbours-of ts a) r list) where
   pub front-few : length (take r list) ≤ max-radios
   front-few = omega (arith, ap length (f .listed), neighbours-most ts a)
 
@@ -73,9 +73,9 @@ module _ (ts : List ℕ) (a : ℕ) (whole : row-bytes * a + row-bytes ≤ length
       filter-ext (λ b. marked part 0 b) (λ b. marked ts a b) (range 0 max-radios) (λ b m. part-marked b (omega (arith, range-in 0 max-radios b m)))
 
   -- the part of the table that is row a, listed
-  pub row-in-front : (old new : List ℕ) (r : ℕ) → length old ≡ max-radios → r ≡ length (row-listed part 0)
-      → new ≡ overwrite (take (length old) (row-listed part 0)) old → In-front (neighbours-of ts a) r new
-  row-in-front old new r long e f =
+  pub row-prefix : (old new : List ℕ) (r : ℕ) → length old ≡ max-radios → r ≡ length (row-listed part 0)
+      → new ≡ overwrite (take (length old) (row-listed part 0)) old → Is-prefix (neighbours-of ts a) r new
+  row-prefix old new r long e f =
       let is : row-listed part 0 ≡ neighbours-of ts a = row-listed-whole part 0 (omega (arith, part-long)) ∙ part-neighbours in
       let all : take (length old) (row-listed part 0) ≡ neighbours-of ts a =
       take-all (length old) (row-listed part 0) (omega (arith, long, ap length is, neighbours-most ts a)) ∙ is in

@@ -22,7 +22,7 @@ use Rattle.mesh.specs.Sound.{within}
 use Rattle.mesh.proofs.Tables.Rows.{within-of}
 use Rattle.rows.specs.Rows.{neighbours-of}
 use Rattle.calls.specs.Heard.{agreed}
-use Rattle.heard.specs.Hearing.{Of-size, In-front, wanted, above-wanted, Kept-in-front, Wanted-listed}
+use Rattle.heard.specs.Hearing.{Of-size, Is-prefix, wanted, above-wanted, Filtered-prefix, Wanted-listed}
 use Rattle.heard.proofs.AskLaws.{agreed-past}
 
 -- ---- one link
@@ -120,7 +120,7 @@ module _ (f : ℕ → Bool) (xs : List ℕ) (room : ℕ) (list : List ℕ) (n i 
       listed = let m : n + boolByte false ≡ n = omega (arith, byte-bit false) in rw m (passed (sym e));
     }
 
-  pub keeping-full : (old : List ℕ) → room ≡ length old → length list ≤ n → Kept-in-front f xs old n list
+  pub keeping-full : (old : List ℕ) → room ≡ length old → length list ≤ n → Filtered-prefix f xs old n list
   keeping-full old e l = record {
     is = λ h.
         absurd (omega (
@@ -136,7 +136,7 @@ module _ (f : ℕ → Bool) (xs : List ℕ) (room : ℕ) (list : List ℕ) (n i 
         ));
   }
 
-  pub keeping-end : (old : List ℕ) → length xs ≤ i → Kept-in-front f xs old n list
+  pub keeping-end : (old : List ℕ) → length xs ≤ i → Filtered-prefix f xs old n list
   unfolding filter
   keeping-end old l =
       let all : take n list ≡ filter f xs =
@@ -209,17 +209,17 @@ module _ (u : Bool) (hs ts : List ℕ) (a n : ℕ) (sh : Of-size n hs) (st : Of-
   unfolding wanted
   down-marked e b h = and-left (marked ts a b) (not (agreed hs a b)) (rw e at h)
 
-  module _ (row old new : List ℕ) (k r : ℕ) (kept : Kept-in-front (above-wanted u hs ts a) (take k row) old r new) (room : length higher < length old) where
-    kept-front : (xs : List ℕ) → In-front (neighbours-of xs a) k row → filter (above-wanted u hs ts a) (neighbours-of xs a) ≡ higher → In-front higher r new
+  module _ (row old new : List ℕ) (k r : ℕ) (kept : Filtered-prefix (above-wanted u hs ts a) (take k row) old r new) (room : length higher < length old) where
+    kept-front : (xs : List ℕ) → Is-prefix (neighbours-of xs a) k row → filter (above-wanted u hs ts a) (neighbours-of xs a) ≡ higher → Is-prefix higher r new
     kept-front xs o e =
         let s : filter (above-wanted u hs ts a) (take k row) ≡ higher = ap (filter (above-wanted u hs ts a)) (o .listed) ∙ e in
         let f = kept .is (omega (arith, room, ap length s)) in
         record { counted = f .counted ∙ ap length s; listed = f .listed ∙ s }
 
-    pub up-front : u ≡ true → In-front (neighbours-of hs a) k row → In-front higher r new
+    pub up-front : u ≡ true → Is-prefix (neighbours-of hs a) k row → Is-prefix higher r new
     up-front e f = kept-front hs f (row-wanted hs (up-marked e))
 
-    pub down-front : u ≡ false → In-front (neighbours-of ts a) k row → In-front higher r new
+    pub down-front : u ≡ false → Is-prefix (neighbours-of ts a) k row → Is-prefix higher r new
     down-front e f = kept-front ts f (row-wanted ts (down-marked e))
 
 -- what is not listed was not asked for

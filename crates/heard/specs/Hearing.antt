@@ -1,13 +1,13 @@
 -- A heard table row by row. The terms of document 02, W-205, are in specs/Heard.antt of `calls`.
 --   Of-size n hs           the table hs has n rows
---   In-front xs r list     the first r entries of the list are xs
+--   Is-prefix xs r list     the first r entries of the list are xs
 --   hears hs a b           b hears a
 --   none-from n hs a       row a marks no radio at n or above
 --   rows-refusal n hs      questions 14 and 7
 --   alone-put              the further table after the pair of a and a radio that it hears: marked unless that radio hears a
 --   Pair-marked, Row-marked, One-sided-marked   what marking a pair, a row and a table comes back with
 --   wanted up hs ts a b    the link between a and b is to come up, or to go down, by the links table ts
---   Kept-in-front          the radios of a list that pass a test, in front of another list
+--   Filtered-prefix          the radios of a list that pass a test, in front of another list
 --   Wanted-listed          the radios above a whose link with a is wanted, in front of a list
 -- Definitions only.
 use mathlib.Core.Path.{_≡_}
@@ -27,7 +27,7 @@ pub record Of-size (n : ℕ) (hs : List ℕ) : Type 0 where
   pub most : n ≤ max-radios
   pub long : length hs ≡ row-bytes * n
 
-pub record In-front (xs : List ℕ) (r : ℕ) (list : List ℕ) : Type 0 where
+pub record Is-prefix (xs : List ℕ) (r : ℕ) (list : List ℕ) : Type 0 where
   pub counted : r ≡ length xs
   pub listed : take r list ≡ xs
 
@@ -71,11 +71,11 @@ unfoldable pub above-wanted : (up : Bool) → (heard links : List ℕ) → (a b 
 above-wanted u hs ts a b = ltb a b && wanted u hs ts a b
 
 -- of the radios xs the ones that pass the test, where the list has room for one more
-pub record Kept-in-front (f : ℕ → Bool) (xs old : List ℕ) (r : ℕ) (new : List ℕ) : Type 0 where
-  pub is : length (filter f xs) < length old → In-front (filter f xs) r new
+pub record Filtered-prefix (f : ℕ → Bool) (xs old : List ℕ) (r : ℕ) (new : List ℕ) : Type 0 where
+  pub is : length (filter f xs) < length old → Is-prefix (filter f xs) r new
 
 -- `room` is the length of a list that a row is listed in
 pub record Wanted-listed (up : Bool) (hs ts : List ℕ) (a room : ℕ) (old : List ℕ) (r : ℕ) (new : List ℕ) : Type 0 where
   pub is : (n : ℕ) → Of-size n hs → Of-size n ts → within n ts ≡ true → a < n → room ≡ max-radios
       → length (filter (wanted up hs ts a) (range (suc a) (n - suc a))) < length old
-      → In-front (filter (wanted up hs ts a) (range (suc a) (n - suc a))) r new
+      → Is-prefix (filter (wanted up hs ts a) (range (suc a) (n - suc a))) r new

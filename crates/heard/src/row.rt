@@ -5,13 +5,13 @@ ghost use lib.ListN.{length};
 ghost use Rattle.mesh.specs.Limits.{max-radios, row-bytes};
 ghost use Rattle.calls.specs.Heard.{agreed};
 ghost use Rattle.rows.specs.Rows.{neighbours-of};
-ghost use Rattle.heard.specs.Hearing.{In-front};
+ghost use Rattle.heard.specs.Hearing.{Is-prefix};
 use mesh::Site;
 
 // Writes the radios that row a marks into the list, ascending, and comes back with their count; the rest of the list holds anything.
 pub(crate) fn list(table: &[u8], a: u32, list: &mut [u16]) -> usize
     requires { ⌜ (row-bytes * a + row-bytes ≤ length (now table)) × (length (now list) ≡ max-radios) ⌝ }
-    ensures { λ r. ⌜ In-front (neighbours-of (now (table .entry)) a) r (now (list .exit)) ⌝ }
+    ensures { λ r. ⌜ Is-prefix (neighbours-of (now (table .entry)) a) r (now (list .exit)) ⌝ }
 {
     let start = Site::ROW_BYTES * a as usize;
     rows::list_set(&table[start..start + Site::ROW_BYTES], list) as usize

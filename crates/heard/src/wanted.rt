@@ -1,7 +1,7 @@
 // The links of a row that are to go down, or to come up, for the site to have the agreed links.
 ghost use mathlib.Core.Path.{_≡_};
 ghost use lib.ListN.{length};
-ghost use Rattle.heard.specs.Hearing.{above-wanted, Kept-in-front, Wanted-listed};
+ghost use Rattle.heard.specs.Hearing.{above-wanted, Filtered-prefix, Wanted-listed};
 use super::row;
 use mesh::Site;
 
@@ -35,7 +35,7 @@ fn keep<'a>(
     row: &'a [u16],
     list: &mut [u16],
 ) -> usize
-    ensures { λ r. ⌜ Kept-in-front (above-wanted up (now (heard .entry)) (now (links .entry)) a) (now (row .entry)) (now (list .entry)) r
+    ensures { λ r. ⌜ Filtered-prefix (above-wanted up (now (heard .entry)) (now (links .entry)) a) (now (row .entry)) (now (list .entry)) r
         (now (list .exit)) ⌝ }
 {
     let mut n: usize = 0;

@@ -65,9 +65,6 @@ module _ (links numbers highs : List ℕ) (s : Search-site links numbers highs) 
   kr : number g r ≡ k
   kr = level-is links numbers highs s r lr
 
-  entry : (v : ℕ) → v < length numbers → getD numbers v 0 ≡ number g v
-  entry v l = number-is links numbers highs s v l
-
   row-degree-is : (v : ℕ) → v < length numbers → row-count max-neighbours links v ≡ degree g v
   row-degree-is v l =
       degree-counted (length links / row-bytes) (tables links numbers (s .order)) (links-site links (site-links links numbers highs s)) v
@@ -85,7 +82,7 @@ module _ (links numbers highs : List ℕ) (s : Search-site links numbers highs) 
         let both : (leb k (getD numbers v 0) && ltb (row-count max-neighbours links v) max-neighbours) ≡ true = sym (fr .is v l) ∙ e in (
           omega (
             arith,
-            entry v l,
+            number-is links numbers highs s v l,
             leb-true k (getD numbers v 0) (and-left (leb k (getD numbers v 0)) (ltb
                 (row-count max-neighbours links v) max-neighbours) both),
           ),
@@ -101,7 +98,7 @@ module _ (links numbers highs : List ℕ) (s : Search-site links numbers highs) 
     unfolding is-free
     is-free-of v l h d =
         fr .is v l
-        ∙ and-both (leb k (getD numbers v 0)) (ltb (row-count max-neighbours links v) max-neighbours) (le-leb k (getD numbers v 0) (omega (arith, entry v l)))
+        ∙ and-both (leb k (getD numbers v 0)) (ltb (row-count max-neighbours links v) max-neighbours) (le-leb k (getD numbers v 0) (omega (arith, number-is links numbers highs s v l)))
         (lt-ltb (row-count max-neighbours links v) max-neighbours (omega (arith, row-degree-is v l)))
 
     module _ (a : ℕ) (la : a < length numbers) where
@@ -112,8 +109,8 @@ module _ (links numbers highs : List ℕ) (s : Search-site links numbers highs) 
       lower-is c lc ha hc e = go (or-cases (eqb (getD numbers a 0) k) (eqb (getD numbers c 0) k) e)
         where
           go : (eqb (getD numbers a 0) k ≡ true) ⊎ (eqb (getD numbers c 0) k ≡ true) → min (number g a) (number g c) ≡ k
-          go (inl q) = omega (arith, ha, hc, entry a la, eqb-true (getD numbers a 0) k q)
-          go (inr q) = omega (arith, ha, hc, entry c lc, eqb-true (getD numbers c 0) k q)
+          go (inl q) = omega (arith, ha, hc, number-is links numbers highs s a la, eqb-true (getD numbers a 0) k q)
+          go (inr q) = omega (arith, ha, hc, number-is links numbers highs s c lc, eqb-true (getD numbers c 0) k q)
 
       may-candidate : marked free 0 a ≡ true → (c : ℕ) → c < length numbers → may-lift a k links numbers free c ≡ true → (a < c) × (candidate g k a c ≡ true)
       unfolding may-lift
@@ -135,7 +132,7 @@ module _ (links numbers highs : List ℕ) (s : Search-site links numbers highs) 
           go (inr q) =
               let ne = eqb-false (getD numbers a 0) k q in
               or-right (eqb (getD numbers a 0) k) (eqb (getD numbers c 0) k) (eq-eqb (getD numbers c 0) k (min-other (number g a) (number g c)
-              (getD numbers a 0) (getD numbers c 0) k (entry a la) (entry c lc) e ne))
+              (getD numbers a 0) (getD numbers c 0) k (number-is links numbers highs s a la) (number-is links numbers highs s c lc) e ne))
 
       candidate-may : (c : ℕ) → a < c → c < length numbers → candidate g k a c ≡ true → (marked free 0 a ≡ true) × (may-lift a k links numbers free c ≡ true)
       unfolding may-lift

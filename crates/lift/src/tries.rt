@@ -114,7 +114,8 @@ fn is_ruled_out(c: u32, level: u8, gone: bool, numbers: &[u8], counters: &[u8]) 
 
 // Takes the radios out of the untried that are ruled out.
 fn rule_out(level: u8, gone: bool, numbers: &[u8], counters: &[u8], untried: &mut [u8])
-    requires { ⌜ (length (now numbers) ≤ max-radios) × (length (now counters) ≡ max-radios) × (level < 128) × (length (now untried) ≡ row-bytes) ⌝ }
+    requires { ⌜ (length (now numbers) ≤ max-radios) × (length (now counters) ≡ max-radios) × (level < 128) ×
+        (length (now untried) ≡ row-bytes) ⌝ }
     ensures { λ _. ⌜ Ruled-out level gone (now (numbers .entry)) (now (counters .entry)) (now (untried .entry)) (now (untried .exit)) ⌝ }
 {
     let mut c: usize = 0;

@@ -72,14 +72,15 @@ module _ (n k : ℕ) (t : Tables) (p h q : ℕ) (e : q ≡ tables-refusal n (len
 
 -- ---- tables that are prepared keep their lengths
 
-pub record Same-lengths (t : Tables) (ps hs : List ℕ) (u : Tables) (qs is : List ℕ) : Type 0 where
+-- p and q are the lengths of the places before and after
+pub record Same-lengths (t : Tables) (p : ℕ) (hs : List ℕ) (u : Tables) (q : ℕ) (is : List ℕ) : Type 0 where
   pub links : length (u .links) ≡ length (t .links)
   pub numbers : length (u .numbers) ≡ length (t .numbers)
   pub order : length (u .order) ≡ length (t .order)
-  pub places : length qs ≡ length ps
+  pub places : q ≡ p
   pub highs : length is ≡ length hs
 
-pub same-lengths : {n : ℕ} {t : Tables} {ps hs : List ℕ} {u : Tables} {qs is : List ℕ} → Prepared n t ps hs → Prepared n u qs is → Same-lengths t ps hs u qs is
+pub same-lengths : {n : ℕ} {t : Tables} {ps hs : List ℕ} {u : Tables} {qs is : List ℕ} → Prepared n t ps hs → Prepared n u qs is → Same-lengths t (length ps) hs u (length qs) is
 unfolding lengths-of
 same-lengths {n} {t} {ps} {hs} {u} {qs} {is} k j =
     let s = fits-good n t (k .good) .lent .lengths in

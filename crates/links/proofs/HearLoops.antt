@@ -31,9 +31,10 @@ use Rattle.calls.specs.Hearing.{Phase, Rows-left, Row-left}
 use Rattle.calls.proofs.SoundSwitches.{Good, good-valid}
 use Rattle.soundness.specs.Checks.{Places-found}
 use Rattle.calls.proofs.HearingLaws.{row-first, row-next, row-end}
-use Rattle.heard.specs.Hearing.{Of-size, In-front, wanted, Wanted-listed}
+use Rattle.heard.specs.Hearing.{Of-size, Is-prefix, wanted, Wanted-listed}
 use Rattle.links.specs.Steps.{Prepared, Stepped}
 use Rattle.links.specs.Hearings.{Phase-by, Counted-site, Row-switched, Rows-switched}
+use Rattle.links.proofs.BatchLaws.{Same-lengths}
 use Rattle.links.proofs.StepLaws.{fits-good}
 
 -- ---- places found anew
@@ -65,14 +66,7 @@ places-found {n} {t} {places} {highs} {new} {found} k f e =
       counted = k .counted;
     }
 
-pub record Same-site (t : Tables) (p : ℕ) (hs : List ℕ) (u : Tables) (q : ℕ) (is : List ℕ) : Type 0 where
-  pub links : length (u .links) ≡ length (t .links)
-  pub numbers : length (u .numbers) ≡ length (t .numbers)
-  pub order : length (u .order) ≡ length (t .order)
-  pub places : q ≡ p
-  pub highs : length is ≡ length hs
-
-pub same-site : {n : ℕ} {t : Tables} {p : ℕ} {hs : List ℕ} {u : Tables} {q : ℕ} {is : List ℕ} → Counted-site n t p hs → Counted-site n u q is → Same-site t p
+pub same-site : {n : ℕ} {t : Tables} {p : ℕ} {hs : List ℕ} {u : Tables} {q : ℕ} {is : List ℕ} → Counted-site n t p hs → Counted-site n u q is → Same-lengths t p
     hs u q is
 unfolding lengths-of
 same-site {n} {t} {p} {hs} {u} {q} {is} k j =
@@ -212,7 +206,7 @@ module _ {up : Bool} {n : ℕ} {hs : List ℕ} {t u : Tables} {places highs : Li
 
   module _ (l : a < n) (old new : List ℕ) (k : ℕ) (room : length old ≡ suc max-neighbours)
       (d : Wanted-listed up hs (u .links) a (length places) old k new) where
-    front : In-front chosen k new
+    front : Is-prefix chosen k new
     front = d .is n (w .size) (good-size n u good) (good-within n u good) l (w .ready .places-length) (omega (arith, few-chosen l, room))
 
     -- they fit the list

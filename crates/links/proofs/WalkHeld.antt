@@ -48,12 +48,6 @@ module _ (f : ℕ → ℕ → Bool) (most first : ℕ) (above part ns ps : List 
   long1 : length fs1 ≡ row-bytes
   long1 = length-touched most (first + p) ns ps near fs0 ∙ long0
 
-  cleared-at : (q : ℕ) → first + q < max-radios → marked fs0 0 (first + q) ≡ cond (eqb (first + p) (first + q)) false (marked fs 0 (first + q))
-  cleared-at q l = marked-put false (first + p) (first + q) fs long lp l
-
-  old : (q : ℕ) → first + q < max-radios → marked fs0 0 (first + q) ≡ true → (q ≡ p → ⊥) × (marked fs 0 (first + q) ≡ true)
-  old q l t = cleared-other first p q fs long lp l t
-
   near-joined : (w : ℕ) → In w near → f x w ≡ true
   near-joined w m = let r = in-neighbours-of us x w m in sym (row-is w (r .0)) ∙ r .1
 
@@ -68,7 +62,7 @@ module _ (f : ℕ → ℕ → Bool) (most first : ℕ) (above part ns ps : List 
 
       go : (marked fs0 0 (first + q) ≡ true) ⊎ ((w : ℕ) × In w near × (is-later most (first + p) ns ps w ≡ true) × (getD ps w 0 ≡ first + q))
           → ((q ≡ p → ⊥) × (marked fs 0 (first + q) ≡ true)) ⊎ ((w : ℕ) × In w later × (pos w ≡ q))
-      go (inl u) = inl (old q l u)
+      go (inl u) = inl (cleared-other first p q fs long lp l u)
       go (inr (w, m, u, e)) = inr (w, back w (near-joined w m) u, omega arith)
 
   pub held-is : Held f most above part pos x p c later (λ v. getD cs v 0) (λ v. getD (set cs x c) v 0) (λ q. marked fs 0 (first + q)) (λ q. marked fs1 0 (first + q))
@@ -78,7 +72,7 @@ module _ (f : ℕ → ℕ → Bool) (most first : ℕ) (above part ns ps : List 
     cleared = next-false (bool-cases (marked fs1 0 (first + p)));
     kept = λ q ne t. (let l = marked-small fs (first + q) long t in
         touched-keeps most (first + p) ns ps near fs0 small long0 (first + q) l
-        (cleared-at q l ∙ rw (ne-eqb (first + p) (first + q) (λ s. ne (omega arith))) t));
+        (marked-put false (first + p) (first + q) fs long lp l ∙ rw (ne-eqb (first + p) (first + q) (λ s. ne (omega arith))) t));
     touches = λ w m e. (let s = stands w m in
         let is : first + (getD ps w 0 - first) ≡ getD ps w 0 = omega (arith, s .0) in
         rw is (touched-marks most (first + p) ns ps near fs0 small long0 w

@@ -95,12 +95,6 @@ module _ (f : ℕ → ℕ → Bool) (most first : ℕ) (above part hs ps : List 
   at-place : (w : ℕ) → w < length hs → mark w ≡ true → marked fs1 0 (getD ps w 0) ≡ (marked fs0 0 (getD ps w 0) || (member w near && eqb (getD cs1 w 0) most))
   at-place w l a = marked-released-place hs ps 1 most small apart near cs fs0 long0 ready w l (eqb-true (getD hs w 0) 1 a)
 
-  cleared : (q : ℕ) → first + q < max-radios → marked fs0 0 (first + q) ≡ cond (eqb (first + p) (first + q)) false (marked fs 0 (first + q))
-  cleared q l = marked-put false (first + p) (first + q) fs long lp l
-
-  old : (q : ℕ) → first + q < max-radios → marked fs0 0 (first + q) ≡ true → (q ≡ p → ⊥) × (marked fs 0 (first + q) ≡ true)
-  old q l t = cleared-other first p q fs long lp l t
-
   pub released-is : Released f most above part pos x p mark (λ v. getD cs v 0) (λ v. getD cs1 v 0) (λ q. marked fs 0 (first + q)) (λ q. marked fs1 0 (first + q))
   released-is = record {
     less = λ w a e. omega (arith, getD-released hs 1 ps near cs ready w, bit w (in-member w near (near-in w e)) a);
@@ -132,7 +126,7 @@ module _ (f : ℕ → ℕ → Bool) (most first : ℕ) (above part hs ps : List 
       kept q ne t =
           let l = marked-small fs (first + q) long t in
           released-keeps hs ps 1 most small near cs fs0 long0 ready (first + q) l
-          (cleared q l ∙ rw (ne-eqb (first + p) (first + q) (λ s. ne (omega arith))) t)
+          (marked-put false (first + p) (first + q) fs long lp l ∙ rw (ne-eqb (first + p) (first + q) (λ s. ne (omega arith))) t)
 
       only : (q : ℕ) → marked fs1 0 (first + q) ≡ true
           → ((q ≡ p → ⊥) × (marked fs 0 (first + q) ≡ true)) ⊎ ((w : ℕ) × (mark w ≡ true) × (f x w ≡ true) × (getD cs1 w 0 ≡ most) × (pos w ≡ q))
@@ -144,14 +138,14 @@ module _ (f : ℕ → ℕ → Bool) (most first : ℕ) (above part hs ps : List 
           new : (w : ℕ) → w < length hs → mark w ≡ true → getD ps w 0 ≡ first + q
               → (marked fs0 0 (getD ps w 0) ≡ true) ⊎ ((member w near && eqb (getD cs1 w 0) most) ≡ true)
               → ((q ≡ p → ⊥) × (marked fs 0 (first + q) ≡ true)) ⊎ ((w : ℕ) × (mark w ≡ true) × (f x w ≡ true) × (getD cs1 w 0 ≡ most) × (pos w ≡ q))
-          new w lw a e (inl u) = inl (old q l (rw e at u))
+          new w lw a e (inl u) = inl (cleared-other first p q fs long lp l (rw e at u))
           new w lw a e (inr u) =
               let m = in-neighbours-of us x w (member-in w near (and-left (member w near) (eqb (getD cs1 w 0) most) u)) in
               inr (w, a, sym (row-is w (m .0)) ∙ m .1, eqb-true (getD cs1 w 0) most (and-right (member w near) (eqb (getD cs1 w 0) most) u), omega arith)
 
           go : (marked fs0 0 (first + q) ≡ true) ⊎ ((w : ℕ) × (w < length hs) × (getD hs w 0 ≡ 1) × (getD ps w 0 ≡ first + q))
               → ((q ≡ p → ⊥) × (marked fs 0 (first + q) ≡ true)) ⊎ ((w : ℕ) × (mark w ≡ true) × (f x w ≡ true) × (getD cs1 w 0 ≡ most) × (pos w ≡ q))
-          go (inl u) = inl (old q l u)
+          go (inl u) = inl (cleared-other first p q fs long lp l u)
           go (inr (w, lw, a, e)) =
               let b : mark w ≡ true = eq-eqb (getD hs w 0) 1 a in
               new w lw b e (or-cases (marked fs0 0 (getD ps w 0)) (member w near && eqb (getD cs1 w 0) most) (sym (at-place w lw b) ∙ ap (marked fs1 0) e ∙ t))
