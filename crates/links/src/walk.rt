@@ -125,8 +125,8 @@ fn look(
         Walk-state (rise .a) (rise .b) (rise .most) (part .first) (part .size) (now links) (now tail) (now places) (at .front) (at .taken)
         (now held) (now counters) (now due) (now list) ×
         ((at .front < part .size) × ((q : ℕ) → q < at .front → marked (now due) 0 (part .first + q) ≡ false)) ⌝ }
-    ensures state { λ r. ⌜ Walk-state (rise .a) (rise .b) (rise .most) (part .first) (part .size) (now (links .entry)) (now (tail .entry)) (now (places .entry))
-        (r .front) (r .taken) (now (held .exit)) (now (counters .exit)) (now (due .exit)) (now (list .exit)) ⌝ }
+    ensures state { λ r. ⌜ Walk-state (rise .a) (rise .b) (rise .most) (part .first) (part .size) (now (links .entry)) (now (tail .entry))
+        (now (places .entry)) (r .front) (r .taken) (now (held .exit)) (now (counters .exit)) (now (due .exit)) (now (list .exit)) ⌝ }
     ensures further { λ r. ⌜ (r .front ≡ at .front + 1) × (at .taken ≤ r .taken) ⌝ }
 {
     let mut near = [0u16; Site::NEIGHBOURS as usize];
@@ -173,8 +173,8 @@ fn back(
         Walk-state (rise .a) (rise .b) (rise .most) (part .first) (part .size) (now links) (now tail) (now places) (at .front) (at .taken)
         (now held) (now counters) (now due) (now list) ×
         ((p ≡ head-or max-radios (neighbours-of (now due) 0)) × (p < part .first + at .front)) ⌝ }
-    ensures state { λ r. ⌜ Walk-state (rise .a) (rise .b) (rise .most) (part .first) (part .size) (now (links .entry)) (now (tail .entry)) (now (places .entry))
-        (r .front) (r .taken) (now (held .exit)) (now (counters .exit)) (now (due .exit)) (now (list .exit)) ⌝ }
+    ensures state { λ r. ⌜ Walk-state (rise .a) (rise .b) (rise .most) (part .first) (part .size) (now (links .entry)) (now (tail .entry))
+        (now (places .entry)) (r .front) (r .taken) (now (held .exit)) (now (counters .exit)) (now (due .exit)) (now (list .exit)) ⌝ }
     ensures further { λ r. ⌜ (r .front ≡ at .front) × (r .taken ≡ at .taken + 1) ⌝ }
 {
     let mut near = [0u16; Site::NEIGHBOURS as usize];
