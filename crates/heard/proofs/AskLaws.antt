@@ -5,26 +5,32 @@
 use mathlib.Core.Path.{_≡_, refl, sym, ap, _∙_, subst}
 use mathlib.Core.Logic.{_⊎_, inl, inr}
 use mathlib.Core.Bool.{Bool, true, false, _&&_, not, cond}
-use mathlib.Core.List.{List}
-use Prim.Native.Nat.{ℕ, suc, _+_, _-_, _^_, _≤_, _<_}
+use mathlib.Core.List.{List, [], _∷_}
+use Prim.Native.Nat.{ℕ, suc, _+_, _*_, _-_, _/_, _%_, _^_, _≤_, _<_}
 use native.Mathlib.Omega.{arith}
 use native.Mathlib.Numerals.{add-one}
 use mir.Syntax.{w32}
 use mir.Val.{boolByte, Fits}
-use lib.Dec.{leb}
-use lib.ListN.{length}
-use borrow.Author.Tests.{leb-true, leb-false, le-leb}
-use Rattle.mesh.specs.Limits.{max-radios, max-neighbours}
-use Rattle.lists.specs.Lists.{range, count, all}
+use lib.Bits.{bitAnd}
+use lib.Count.{trailingZeros}
+use lib.Dec.{leb, eqb}
+use lib.ListN.{length, getD}
+use lib.Pow.{shr-shr, shr-lt}
+use borrow.Author.Tests.{leb-true, leb-false, le-leb, not-true}
+use Rattle.mesh.specs.Limits.{max-radios, max-neighbours, row-bytes}
+use Rattle.lists.specs.Lists.{range, count, filter, all, In}
 use Rattle.lists.proofs.Tests.{bool-cases, never, and-left, and-right, and-both, byte-bit, bit-one}
 use Rattle.lists.proofs.Count.{count-mono}
-use Rattle.lists.proofs.Range.{count-front}
-use Rattle.lists.proofs.All.{all-below, below-all}
-use Rattle.mesh.specs.Tables.{marked}
+use Rattle.lists.proofs.Range.{count-front, range-append}
+use Rattle.lists.proofs.Filter.{in-filter, filter-in}
+use Rattle.lists.proofs.All.{all-in, in-all, all-below, below-all, all-append}
+use Rattle.mesh.specs.Tables.{digit, marked}
 use Rattle.mesh.specs.Sound.{irreflexive, within, row-degree}
 use Rattle.mesh.proofs.Tables.Rows.{irreflexive-of, of-irreflexive}
-use Rattle.rows.specs.Rows.{row-listed, row-count}
+use Rattle.rows.specs.Rows.{row-listed, row-count, set-bits, row-word}
 use Rattle.rows.proofs.MaskLaws.{marked-past}
+use Rattle.rows.proofs.WordLaws.{set-bits-filter, set-bits-nothing, set-bits-lowest, word-at-less}
+use Rattle.rows.proofs.RowWords.{marked-word}
 use Rattle.rows.proofs.RowListLaws.{length-row-listed-radio}
 use Rattle.calls.specs.Questions.{ask}
 use Rattle.calls.specs.Heard.{agreed, agreed-degree, heard-proper, agreed-few}
@@ -51,6 +57,64 @@ module _ (hs : List ℕ) (a b : ℕ) where
 
   pub within-no : (n : ℕ) → none-from n hs a ≡ none-from b hs a → b < max-radios → marked hs a b ≡ true → false ≡ none-from n hs a
   within-no n h l e = sym (h ∙ none-first l ∙ rw e)
+
+-- ---- no radio at n or above, word by word
+
+-- of radios of which none passes a test, and of which one does
+all-not : (f : ℕ → Bool) (xs : List ℕ) → filter f xs ≡ [] → all (λ b. not (f b)) xs ≡ true
+all-not f xs e = in-all (λ b. not (f b)) xs (λ v m. go v m (bool-cases (f v)))
+  where
+    go : (v : ℕ) → In v xs → (f v ≡ true) ⊎ (f v ≡ false) → not (f v) ≡ true
+    go v m (inl t) = absurd (subst (In v) e (filter-in f xs v m t))
+    go v m (inr t) = rw t
+
+not-all : (f : ℕ → Bool) (xs : List ℕ) (v : ℕ) → In v (filter f xs) → all (λ b. not (f b)) xs ≡ false
+not-all f xs v m = go (bool-cases (all (λ b. not (f b)) xs))
+  where
+    go : (all (λ b. not (f b)) xs ≡ true) ⊎ (all (λ b. not (f b)) xs ≡ false) → all (λ b. not (f b)) xs ≡ false
+    go (inl t) = let i = in-filter f xs v m in never (f v) (i .1) (not-true (f v) (all-in (λ b. not (f b)) xs t v (i .0)))
+    go (inr t) = t
+
+module _ (hs : List ℕ) (bytes : (j : ℕ) → getD hs j 0 < 256) (a b w : ℕ) (l : b < max-radios) (e : w ≡ row-word 8 hs (row-bytes * a + 8 * (b / 64))) where
+  -- the radios of the word from b on, as many as are left of it, and its bits, these alone
+  abbrev left : ℕ
+  left = 64 - b % 64
+
+  abbrev bits : ℕ
+  bits = w / 2 ^ (b % 64)
+
+  bits-left : bits < 2 ^ left
+  bits-left =
+      let all-bits : 64 ≡ left + b % 64 = omega arith in
+      let low : w < 2 ^ (left + b % 64) = rw (← all-bits) (omega (arith, e, word-at-less hs bytes (row-bytes * a + 8 * (b / 64)) 8)) in
+      shr-lt left (b % 64) low
+
+  bits-marked : set-bits left b bits ≡ filter (λ x. marked hs a x) (range b left)
+  unfolding digit
+  bits-marked =
+      set-bits-filter left b bits (λ x. marked hs a x) (λ j m.
+      let here : b + j ≡ 64 * (b / 64) + (b % 64 + j) = omega arith in
+      ap (marked hs a) here ∙ marked-word hs bytes a (b / 64) (b % 64 + j) (omega (arith, m)) ∙ ap (λ (y : ℕ). digit y (b % 64 + j)) (sym e)
+      ∙ sym (ap (λ (y : ℕ). eqb (y % 2) 1) (shr-shr w (b % 64) j)))
+
+  none-word : none-from b hs a ≡ (all (λ x. not (marked hs a x)) (range b left) && none-from (b + left) hs a)
+  unfolding none-from
+  none-word =
+      let parts : max-radios - b ≡ left + (max-radios - (b + left)) = omega (arith, l) in
+      rw (parts, range-append b left (max-radios - (b + left))) (all-append (λ x. not (marked hs a x)) (range b left) _)
+
+  pub word-turn : (n : ℕ) → none-from n hs a ≡ none-from b hs a → bits ≡ 0 → none-from n hs a ≡ none-from (b + left) hs a
+  word-turn n h z =
+      let none : filter (λ x. marked hs a x) (range b left) ≡ [] =
+      sym bits-marked ∙ ap (set-bits left b) z ∙ set-bits-nothing left b in
+      h ∙ none-word ∙ rw (all-not (λ x. marked hs a x) (range b left) none)
+
+  pub word-no : (n : ℕ) → none-from n hs a ≡ none-from b hs a → (bits ≡ 0 → ⊥) → false ≡ none-from n hs a
+  word-no n h some =
+      let first : filter (λ x. marked hs a x) (range b left) ≡ (b + trailingZeros left bits) ∷ set-bits left b (bitAnd bits (bits - 1)) =
+      sym bits-marked ∙ set-bits-lowest left b bits (omega (arith, some)) bits-left in
+      sym (h ∙ none-word ∙ rw (not-all (λ x. marked hs a x) (range b left) (b + trailingZeros left bits) (subst (In (b + trailingZeros left bits)) (sym first)
+      (inl refl))))
 
 -- what holds of every radio below a, and of a, holds below the next
 below-next : (P : ℕ → Type 0) (a : ℕ) → ((x : ℕ) → x < a → P x) → P a → (x : ℕ) → x < a + 1 → P x
@@ -96,6 +160,15 @@ module _ (n : ℕ) (hs : List ℕ) where
       by-proper (λ p. never (none-from n hs a) (all-below (none-from n hs) n (sym none-within ∙ and-right (irreflexive n hs) (within n hs) p) a l) e)
 
 -- ---- question 7
+
+module _ (hs : List ℕ) (a b : ℕ) where
+  pub agreed-no : marked hs a b ≡ false → false ≡ agreed hs a b
+  unfolding agreed
+  agreed-no e = rw e
+
+  pub agreed-yes : (r : Bool) → marked hs a b ≡ true → r ≡ marked hs b a → r ≡ agreed hs a b
+  unfolding agreed
+  agreed-yes r e f = rw e f
 
 range-first : (f : ℕ → Bool) (n b : ℕ) → b < n → count f (range b (n - b)) ≡ cond (f b) 1 0 + count f (range (b + 1) (n - (b + 1)))
 unfolding range count

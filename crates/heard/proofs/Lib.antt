@@ -1,6 +1,4 @@
 -- Laws of a heard table, for its functions and their callers.
--- a row listed
-pub mod RowLaws
 -- questions 14 and 7
 pub mod AskLaws
 -- the one-sided pairs

@@ -1,18 +1,39 @@
 // Questions 14 and 7 of a heard table.
 ghost use mathlib.Core.Path.{_≡_};
-ghost use Prim.Native.Nat.{_<_};
+ghost use Prim.Native.Nat.{_+_, _*_, _≤_, _<_};
 ghost use lib.Dec.{leb};
-ghost use Rattle.mesh.specs.Limits.{max-neighbours};
-ghost use Rattle.calls.specs.Heard.{agreed-degree, heard-proper, agreed-few};
+ghost use lib.ListN.{length};
+ghost use Rattle.mesh.specs.Limits.{max-neighbours, row-bytes};
+ghost use Rattle.calls.specs.Heard.{agreed, agreed-degree, heard-proper, agreed-few};
 ghost use Rattle.heard.specs.Hearing.{Of-size, none-from, rows-refusal};
-use super::row;
 use calls::Refusal;
 use mesh::Site;
 
-// Whether row a marks no radio at n or above.
+// Whether row a, which is whole in the table, marks no radio at n or above: word by word; of the first the bits below n are shifted out.
+fn is_whole_within(n: u32, heard: &[u8], a: u32) -> bool
+    requires { ⌜ row-bytes * a + row-bytes ≤ length (now heard) ⌝ }
+    ensures { λ r. ⌜ r ≡ none-from n (now (heard .entry)) a ⌝ }
+{
+    let start = Site::ROW_BYTES * a as usize;
+    let end = start + Site::ROW_BYTES;
+    let row = &heard[start..end];
+    let mut b = n;
+    while b < Site::RADIOS {
+        if rows::word_of(row, b / crate::WORD_BITS) >> (b % crate::WORD_BITS) != 0 {
+            return false;
+        }
+        b += crate::WORD_BITS - b % crate::WORD_BITS;
+    }
+    true
+}
+
+// Whether row a marks no radio at n or above. A row that is not whole in the table is read bit by bit.
 fn is_within(n: u32, heard: &[u8], a: u32) -> bool
     ensures { λ r. ⌜ r ≡ none-from n (now (heard .entry)) a ⌝ }
 {
+    if Site::ROW_BYTES * a as usize + Site::ROW_BYTES <= heard.len() {
+        return is_whole_within(n, heard, a);
+    }
     let mut b = n;
     while b < Site::RADIOS {
         if rows::is_marked(heard, a, b) {
@@ -40,6 +61,16 @@ pub fn is_proper(n: u32, heard: &[u8]) -> bool
     true
 }
 
+// Whether each of a and b hears the other.
+fn is_agreed(heard: &[u8], a: u32, b: u32) -> bool
+    ensures { λ r. ⌜ r ≡ agreed (now (heard .entry)) a b ⌝ }
+{
+    if !rows::is_marked(heard, a, b) {
+        return false;
+    }
+    rows::is_marked(heard, b, a)
+}
+
 // How many agreed links a has to radios below n.
 fn count_agreed(n: u32, heard: &[u8], a: u32) -> u32
     ensures { λ r. ⌜ r ≡ agreed-degree n (now (heard .entry)) a ⌝ }
@@ -47,7 +78,7 @@ fn count_agreed(n: u32, heard: &[u8], a: u32) -> u32
     let mut k: u32 = 0;
     let mut b: u32 = 0;
     while b < n {
-        k += row::is_agreed(heard, a, b) as u32;
+        k += is_agreed(heard, a, b) as u32;
         b += 1;
     }
     k

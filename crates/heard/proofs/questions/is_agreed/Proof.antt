@@ -1,10 +1,10 @@
--- `row::is_agreed` meets its contract: each test is one of `agreed`.
+-- `questions::is_agreed` meets its contract: each test is one of `agreed`.
 use mathlib.Core.Path.{sym, _∙_}
 use borrow.Author.Needs.{needs}
 use borrow.Author.Tests.{not-true, not-false}
-use Rattle.heard.proofs.WantLaws.{agreed-no, agreed-yes}
-use Rattle.heard.proofs.row.is_agreed.Statement.{statement}
-use Rattle.heard.proofs.row.is_agreed.Tie as tie
+use Rattle.heard.proofs.AskLaws.{agreed-no, agreed-yes}
+use Rattle.heard.proofs.questions.is_agreed.Statement.{statement}
+use Rattle.heard.proofs.questions.is_agreed.Tie as tie
 
 returns : tie.Need-returns
 returns c = agreed-no _ _ _ (sym (c .before .is-marked .ensures) ∙ not-true _ (c .if1 .taken))
