@@ -3,8 +3,6 @@
 #define HEARD_H
 #include "link.h"
 
-static int c_agreed(const uint8_t *heard, unsigned a, unsigned b) { return marked(heard, a, b) && marked(heard, b, a); }
-
 /* Question 14: word by word; of the first word the bits below n are shifted out. */
 static int c_proper(uint32_t n, const uint8_t *heard) {
     for (unsigned a = 0; a < n; a++) {
@@ -20,7 +18,8 @@ static int c_few(uint32_t n, const uint8_t *heard) {
     for (unsigned a = 0; a < n; a++) {
         if (row_count(heard, a) <= NEIGHBOURS) continue;
         unsigned count = 0;
-        for (unsigned b = 0; b < n; b++) count += c_agreed(heard, a, b);
+        for (unsigned i = 0; i < ROW / 8; i++)
+            for (uint64_t w = row_word(heard, a, i); w; w &= w - 1) count += marked(heard, 64 * i + __builtin_ctzll(w), a);
         if (count > NEIGHBOURS) return 0;
     }
     return 1;

@@ -1,16 +1,13 @@
 -- Questions 14 and 7, row by row.
 --   Proper-below     the rows before row a mark neither their own radio nor one at n or above
---   Counting         agreed links of a radio, counted
 --   Few-below        the radios before radio a have few enough agreed links
 use mathlib.Core.Path.{_≡_, refl, sym, ap, _∙_, subst}
 use mathlib.Core.Logic.{_⊎_, inl, inr}
-use mathlib.Core.Bool.{Bool, true, false, _&&_, not, cond}
+use mathlib.Core.Bool.{Bool, true, false, _&&_, not}
 use mathlib.Core.List.{List, [], _∷_}
 use Prim.Native.Nat.{ℕ, suc, _+_, _*_, _-_, _/_, _%_, _^_, _≤_, _<_}
 use native.Mathlib.Omega.{arith}
 use native.Mathlib.Numerals.{add-one}
-use mir.Syntax.{w32}
-use mir.Val.{boolByte, Fits}
 use lib.Bits.{bitAnd}
 use lib.Count.{trailingZeros}
 use lib.Dec.{leb, eqb}
@@ -19,22 +16,22 @@ use lib.Pow.{shr-shr, shr-lt}
 use borrow.Author.Tests.{leb-true, leb-false, le-leb, not-true}
 use Rattle.mesh.specs.Limits.{max-radios, max-neighbours, row-bytes}
 use Rattle.lists.specs.Lists.{range, count, filter, all, In}
-use Rattle.lists.proofs.Tests.{bool-cases, never, and-left, and-right, and-both, byte-bit, bit-one}
+use Rattle.lists.proofs.Tests.{bool-cases, never, and-left, and-right, and-both}
 use Rattle.lists.proofs.Count.{count-mono}
-use Rattle.lists.proofs.Range.{count-front, range-append}
+use Rattle.lists.proofs.Range.{count-front, count-below, range-append}
 use Rattle.lists.proofs.Filter.{in-filter, filter-in}
 use Rattle.lists.proofs.All.{all-in, in-all, all-below, below-all, all-append}
 use Rattle.mesh.specs.Tables.{digit, marked}
 use Rattle.mesh.specs.Sound.{irreflexive, within, row-degree}
 use Rattle.mesh.proofs.Tables.Rows.{irreflexive-of, of-irreflexive}
-use Rattle.rows.specs.Rows.{row-listed, row-count, set-bits, row-word}
+use Rattle.rows.specs.Rows.{neighbours-of, row-listed, row-count, set-bits, row-word}
 use Rattle.rows.proofs.MaskLaws.{marked-past}
 use Rattle.rows.proofs.WordLaws.{set-bits-filter, set-bits-nothing, set-bits-lowest, word-at-less}
-use Rattle.rows.proofs.RowWords.{marked-word}
-use Rattle.rows.proofs.RowListLaws.{length-row-listed-radio}
+use Rattle.rows.proofs.RowWords.{marked-word, row-listed-short}
+use Rattle.rows.proofs.RowListLaws.{count-neighbours-of, length-row-listed-radio}
 use Rattle.calls.specs.Questions.{ask}
 use Rattle.calls.specs.Heard.{agreed, agreed-degree, heard-proper, agreed-few}
-use Rattle.heard.specs.Hearing.{Of-size, none-from, rows-refusal}
+use Rattle.heard.specs.Hearing.{Of-size, hears, none-from, rows-refusal}
 
 -- ---- no radio at n or above
 
@@ -161,23 +158,6 @@ module _ (n : ℕ) (hs : List ℕ) where
 
 -- ---- question 7
 
-module _ (hs : List ℕ) (a b : ℕ) where
-  pub agreed-no : marked hs a b ≡ false → false ≡ agreed hs a b
-  unfolding agreed
-  agreed-no e = rw e
-
-  pub agreed-yes : (r : Bool) → marked hs a b ≡ true → r ≡ marked hs b a → r ≡ agreed hs a b
-  unfolding agreed
-  agreed-yes r e f = rw e f
-
-range-first : (f : ℕ → Bool) (n b : ℕ) → b < n → count f (range b (n - b)) ≡ cond (f b) 1 0 + count f (range (b + 1) (n - (b + 1)))
-unfolding range count
-range-first f n b l = let e : n - b ≡ suc (n - (b + 1)) = omega (arith, l) in rw (e, add-one b)
-
-range-past : (f : ℕ → Bool) (n b : ℕ) → n ≤ b → count f (range b (n - b)) ≡ 0
-unfolding range count
-range-past f n b l = let e : n - b ≡ 0 = omega (arith, l) in rw e
-
 module _ (n : ℕ) (hs : List ℕ) (s : Of-size n hs) where
   -- a radio at n or above has no row
   pub agreed-past : (a b : ℕ) → n ≤ b → a < max-radios → agreed hs a b ≡ false
@@ -203,34 +183,23 @@ module _ (n : ℕ) (hs : List ℕ) (s : Of-size n hs) where
   unfolding row-count
   few-heard a r e f l = sym (le-leb (agreed-degree n hs a) max-neighbours (omega (arith, e, f, degree-most a l)))
 
--- ---- counting agreed links
+  -- agreed links are counted along the radios that a hears
+  pub few-counted : (a r : ℕ) → r ≡ count (hears hs a) (neighbours-of hs a) → a < n → leb r max-neighbours ≡ leb (agreed-degree n hs a) max-neighbours
+  unfolding agreed-degree agreed hears
+  few-counted a r e l =
+      ap (λ (k : ℕ). leb k max-neighbours)
+      (e ∙ count-neighbours-of (hears hs a) hs a
+      ∙ count-below (agreed hs a) n max-radios (s .most) (λ b nb lb. agreed-past a b nb (omega (arith, l, s .most))))
 
--- k of the radios below b have an agreed link with a
-pub record Counting (n : ℕ) (hs : List ℕ) (a k b : ℕ) : Type 0 where
-  pub low : b ≤ n
-  pub few : k ≤ b
-  pub is : k + count (agreed hs a) (range b (n - b)) ≡ agreed-degree n hs a
-
-module _ (n : ℕ) (hs : List ℕ) (a : ℕ) where
-  pub counting-none : Counting n hs a 0 0
-  unfolding agreed-degree
-  counting-none = record { low = omega arith; few = omega arith; is = let z : n - 0 ≡ n = omega arith in rw z (omega arith) }
-
-  pub counting-fits : (k b : ℕ) (t : Bool) → Counting n hs a k b → b < n → n < 2 ^ 32 → Fits w32 (k + boolByte t)
-  counting-fits k b t c l h = record { fits = omega (arith, c .few, l, h, byte-bit t, bit-one t) }
-
-  pub counting-turn : (k b : ℕ) (r : Bool) → Counting n hs a k b → b < n → r ≡ agreed hs a b → Counting n hs a (k + boolByte r) (b + 1)
-  counting-turn k b r c l e = record {
-    low = omega (arith, l);
-    few = omega (arith, c .few, byte-bit r, bit-one r);
-    is = omega (arith, c .is, byte-bit r, ap (λ (t : Bool). cond {A = ℕ} t 1 0) e, next);
-  }
-    where
-      next : count (agreed hs a) (range b (n - b)) ≡ cond (agreed hs a b) 1 0 + count (agreed hs a) (range (b + 1) (n - (b + 1)))
-      next = range-first (agreed hs a) n b l
-
-  pub counting-end : (k b : ℕ) → Counting n hs a k b → n ≤ b → k ≡ agreed-degree n hs a
-  counting-end k b c l = omega (arith, c .is, range-past (agreed hs a) n b l)
+-- a row of which radios are counted is whole
+pub counted-whole : (hs : List ℕ) (a r : ℕ) → r ≡ row-count max-neighbours hs a → max-neighbours < r → row-bytes * a + row-bytes ≤ length hs
+unfolding row-count
+counted-whole hs a r e many = go (bool-cases (leb (row-bytes * a + row-bytes) (length hs)))
+  where
+    go : (leb (row-bytes * a + row-bytes) (length hs) ≡ true) ⊎ (leb (row-bytes * a + row-bytes) (length hs) ≡ false)
+        → row-bytes * a + row-bytes ≤ length hs
+    go (inl t) = leb-true (row-bytes * a + row-bytes) (length hs) t
+    go (inr t) = absurd (omega (arith, e, many, ap length (row-listed-short hs a (leb-false (row-bytes * a + row-bytes) (length hs) t))))
 
 abbrev pub Few-below : (n : ℕ) → (heard : List ℕ) → (a : ℕ) → Type 0
 Few-below n hs a = (x : ℕ) → x < a → leb (agreed-degree n hs x) max-neighbours ≡ true

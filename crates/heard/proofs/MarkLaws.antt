@@ -11,17 +11,17 @@ use native.Mathlib.Omega.{arith}
 use native.Mathlib.Numerals.{add-one}
 use mir.Syntax.{w32}
 use mir.Val.{boolByte, Fits}
-use lib.Bits.{bitAnd, and-le-l}
+use lib.Bits.{bitAnd}
 use lib.Count.{trailingZeros}
 use lib.Dec.{ltb, eqb}
-use lib.ListN.{length, getD, replicate, length-append, length-replicate}
+use lib.ListN.{length, getD, replicate, length-replicate}
 use borrow.Author.Tests.{eqb-true, eq-eqb, ne-eqb, lt-ltb, le-ltb}
 use Rattle.mesh.specs.Limits.{max-radios, row-bytes}
 use Rattle.lists.specs.Lists.{Bytes, In, range, count, total, member, folded}
-use Rattle.lists.proofs.Tests.{trichotomy, byte-bit, bit-one}
-use Rattle.lists.proofs.Count.{count-le-length, count-append}
-use Rattle.lists.proofs.Range.{count-below, length-range}
-use Rattle.lists.proofs.Filter.{count-filter, filter-le}
+use Rattle.lists.proofs.Tests.{trichotomy}
+use Rattle.lists.proofs.Count.{count-le-length}
+use Rattle.lists.proofs.Range.{count-below}
+use Rattle.lists.proofs.Filter.{count-filter}
 use Rattle.lists.proofs.Loops.{length-folded, folded-append}
 use Rattle.lists.proofs.Parts.{bytes-replicate}
 use Rattle.mesh.specs.Tables.{marked, put-bit}
@@ -30,16 +30,11 @@ use Rattle.mesh.proofs.Tables.Laws.{table-eq, marked-replicate, byte-at-less, l
 use Rattle.mesh.proofs.Tables.Laws.{bytes-put-bit, marked-put-bit, length-bit-table, bytes-bit-table, marked-bit-table}
 use Rattle.mesh.proofs.Tables.Rows.{within-of}
 use Rattle.rows.specs.Rows.{neighbours-of, row-from, set-bits, row-word}
-use Rattle.rows.proofs.WordLaws.{set-bits-nothing, set-bits-lowest, length-set-bits-le}
-use Rattle.rows.proofs.RowWords.{row-from-zero, row-from-word, row-from-end}
+use Rattle.rows.proofs.RowWords.{row-from-zero, row-from-end}
 use Rattle.rows.proofs.RowListLaws.{in-neighbours-of, member-neighbours-of}
 use Rattle.calls.specs.Heard.{heard-alone, one-sided, one-sided-count}
 use Rattle.heard.specs.Hearing.{Of-size, hears, alone-put, Pair-marked, Row-marked, One-sided-marked}
-
--- a row marks at most as many radios as there are
-neighbours-most : (ts : List ℕ) (a : ℕ) → length (neighbours-of ts a) ≤ max-radios
-unfolding neighbours-of
-neighbours-most ts a = filter-le (λ b. marked ts a b) (range 0 max-radios) max-radios (length-range 0 max-radios)
+use Rattle.heard.proofs.TallyLaws.{Counting, counting-none, counting-one, counting-part, counting-end, word-lowest, word-less, word-none, neighbours-most, row-split}
 
 -- ---- a pair
 
@@ -129,22 +124,20 @@ module _ (hs : List ℕ) (a n : ℕ) (la : a < n) where
 -- the pairs of a with the radios `whole` are begun from the table w; `rest` are left
 pub record Row-marking (hs : List ℕ) (a : ℕ) (whole w rest : List ℕ) (r : ℕ) (x : List ℕ) : Type 0 where
   pub long : length x ≡ length w
-  pub few : r + length rest ≤ length whole
-  pub counted : r + count (λ b. not (hears hs a b)) rest ≡ count (λ b. not (hears hs a b)) whole
+  pub tally : Counting (λ b. not (hears hs a b)) whole rest r
   pub table : folded (alone-put hs a) rest x ≡ folded (alone-put hs a) whole w
 
 module _ {hs : List ℕ} {a : ℕ} where
   pub row-none : {whole w : List ℕ} → Row-marking hs a whole w whole 0 w
-  row-none = record { long = refl; few = omega arith; counted = omega arith; table = refl }
+  row-none {whole} {w} = record { long = refl; tally = counting-none (λ b. not (hears hs a b)) whole; table = refl }
 
   module _ {whole w : List ℕ} {r : ℕ} {x : List ℕ} where
     pub row-pair : {b : ℕ} {rest : List ℕ} {t : Bool} {y : List ℕ} → Row-marking hs a whole w (b ∷ rest) r x → Pair-marked hs a b x t y
         → Row-marking hs a whole w rest (r + boolByte t) y
-    unfolding count folded
+    unfolding folded
     row-pair {b} {rest} {t} {y} m d = record {
       long = ap length (d .table) ∙ length-alone-put hs a b x ∙ m .long;
-      few = omega (arith, m .few, byte-bit t, bit-one t);
-      counted = omega (arith, m .counted, byte-bit t, ap (λ (u : Bool). cond {A = ℕ} u 1 0) (d .answer));
+      tally = counting-one (d .answer) (m .tally);
       table = ap (folded (alone-put hs a) rest) (d .table) ∙ m .table;
     }
 
@@ -152,38 +145,26 @@ module _ {hs : List ℕ} {a : ℕ} where
         → Row-marking hs a whole w rest (r + s) y
     row-part {bs} {rest} {s} {y} m d = record {
       long = ap length (d .table) ∙ length-alones hs a bs x ∙ m .long;
-      few = omega (arith, m .few, d .counted, count-le-length (λ b. not (hears hs a b)) bs, length-append bs rest);
-      counted = omega (arith, m .counted, d .counted, count-append (λ b. not (hears hs a b)) bs rest);
+      tally = counting-part bs rest (d .counted) (m .tally);
       table = ap (folded (alone-put hs a) rest) (d .table) ∙ sym (folded-append (alone-put hs a) bs rest x) ∙ m .table;
     }
 
     pub row-end : {rest : List ℕ} → rest ≡ [] → Row-marking hs a whole w rest r x → Row-marked hs a whole w r x
-    unfolding count folded
+    unfolding folded
     row-end {rest} e m =
-        record {
-          counted = omega (arith, m .counted, ap (count (λ b. not (hears hs a b))) e);
-          table = ap (λ (xs : List ℕ). folded (alone-put hs a) xs x) (sym e) ∙ m .table;
-        }
+        record { counted = counting-end e (m .tally); table = ap (λ (xs : List ℕ). folded (alone-put hs a) xs x) (sym e) ∙ m .table }
 
 -- the pairs of a with the radios of a word
 abbrev pub Word-marking : (heard : List ℕ) → (a first word : ℕ) → (w : List ℕ) → (rest r : ℕ) → (x : List ℕ) → Type 0
 Word-marking hs a first word w rest r x = (rest < 2 ^ 64) × Row-marking hs a (set-bits 64 first word) w (set-bits 64 first rest) r x
 
 module _ {hs : List ℕ} {a : ℕ} (first word : ℕ) {w : List ℕ} (rest : ℕ) {r : ℕ} {x : List ℕ} (m : Word-marking hs a first word w rest r x) where
-  module _ (some : rest ≡ 0 → ⊥) where
-    lowest : set-bits 64 first rest ≡ (first + trailingZeros 64 rest) ∷ set-bits 64 first (bitAnd rest (rest - 1))
-    lowest = set-bits-lowest 64 first rest (omega (arith, some)) (m .0)
-
-    pub word-fits : (t : Bool) → Fits w32 (r + boolByte t)
-    word-fits t =
-        record { fits = omega (arith, m .1 .few, length-set-bits-le 64 first word, ap length lowest, byte-bit t, bit-one t) }
-
-    pub word-pair : {t : Bool} {y : List ℕ} → Pair-marked hs a (first + trailingZeros 64 rest) x t y
-        → Word-marking hs a first word w (bitAnd rest (rest - 1)) (r + boolByte t) y
-    word-pair d = (omega (arith, and-le-l rest (rest - 1), m .0), row-pair (rw lowest at (m .1)) d)
+  pub word-pair : (rest ≡ 0 → ⊥) → {t : Bool} {y : List ℕ} → Pair-marked hs a (first + trailingZeros 64 rest) x t y
+      → Word-marking hs a first word w (bitAnd rest (rest - 1)) (r + boolByte t) y
+  word-pair some d = (word-less rest (m .0), row-pair (rw (word-lowest first rest (m .0) some) at (m .1)) d)
 
   pub word-end : rest ≡ 0 → Row-marked hs a (set-bits 64 first word) w r x
-  word-end z = row-end (ap (set-bits 64 first) z ∙ set-bits-nothing 64 first) (m .1)
+  word-end z = row-end (word-none first rest z) (m .1)
 
 -- the pairs of a with the radios of its words before word k
 abbrev pub Words-marking : (heard : List ℕ) → (a : ℕ) → (w : List ℕ) → (k r : ℕ) → (x : List ℕ) → Type 0
@@ -194,14 +175,8 @@ words-none hs a w = (omega arith, rw (row-from-zero hs a) row-none)
 
 module _ {hs : List ℕ} (bytes : (j : ℕ) → getD hs j 0 < 256) {a : ℕ} {w : List ℕ} {k r : ℕ} {x : List ℕ} (m : Words-marking hs a w k r x) (l : k < 8) {word : ℕ}
     (e : word ≡ row-word 8 hs (row-bytes * a + 8 * k)) {s : ℕ} {y : List ℕ} (d : Row-marked hs a (set-bits 64 (64 * k) word) x s y) where
-  split : row-from hs a k ≡ set-bits 64 (64 * k) word ++ row-from hs a (k + 1)
-  split = row-from-word hs bytes a k l ∙ ap (λ (z : ℕ). set-bits 64 (64 * k) z ++ row-from hs a (k + 1)) (sym e)
-
   pub words-turn : Words-marking hs a w (k + 1) (r + s) y
-  words-turn = (omega (arith, l), row-part (rw split at (m .1)) d)
-
-  pub words-fit : Fits w32 (r + s)
-  words-fit = record { fits = omega (arith, words-turn .1 .few, neighbours-most hs a) }
+  words-turn = (omega (arith, l), row-part (rw (row-split hs bytes a k word l e) at (m .1)) d)
 
 pub words-end : {hs : List ℕ} {a : ℕ} {w : List ℕ} {k r : ℕ} {x : List ℕ} → Words-marking hs a w k r x → 8 ≤ k → Row-marked hs a (neighbours-of hs a) w r x
 words-end {hs} {a} {w} {k} m h = row-end (row-from-end hs a k h) (m .1)

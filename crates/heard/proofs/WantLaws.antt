@@ -17,7 +17,7 @@ use lib.Seq.{take-set-le, take-suc-set, length-take-le}
 use borrow.Author.Tests.{lt-ltb, le-ltb}
 use Rattle.mesh.specs.Limits.{max-radios, row-bytes}
 use Rattle.lists.specs.Lists.{range, filter}
-use Rattle.lists.proofs.Tests.{byte-bit, bit-one}
+use Rattle.lists.proofs.Tests.{byte-bit}
 use Rattle.lists.proofs.Range.{range-in, range-append}
 use Rattle.lists.proofs.Filter.{filter-ext, filter-filter, filter-append, filter-none}
 use Rattle.mesh.specs.Tables.{digit, marked}
@@ -26,10 +26,10 @@ use Rattle.mesh.proofs.Tables.Digits.{digit-zero, digit-suc}
 use Rattle.mesh.proofs.Tables.Laws.{length-bit-table, marked-bit-table}
 use Rattle.mesh.proofs.Tables.Rows.{within-of}
 use Rattle.rows.specs.Rows.{set-bits, row-word}
-use Rattle.rows.proofs.WordLaws.{set-bits-nothing, set-bits-lowest, length-set-bits-le}
 use Rattle.rows.proofs.RowWords.{marked-word, words-from, words-end}
 use Rattle.calls.specs.Heard.{agreed, heard-alone, one-sided}
 use Rattle.heard.specs.Hearing.{Of-size, Is-prefix, wanted, wanted-by, wanted-in, above-from, Listed-from, Wanted-listed}
+use Rattle.heard.proofs.TallyLaws.{word-lowest, word-less, word-none}
 use Rattle.heard.proofs.AskLaws.{agreed-past}
 
 -- ---- words
@@ -136,13 +136,11 @@ module _ (a first word : ℕ) {count : ℕ} {old : List ℕ} (rest : ℕ) {n : �
   unfolding filter
   word-listing-turn some l =
       let b : ℕ = first + trailingZeros 64 rest in
-      let next : set-bits 64 first rest ≡ b ∷ set-bits 64 first (bitAnd rest (rest - 1)) =
-      set-bits-lowest 64 first rest (omega (arith, some)) (i .0) in
-      (omega (arith, and-le-l rest (rest - 1), i .0), listing-one b (ltb a b) l (rw next at (i .1)))
+      (word-less rest (i .0), listing-one b (ltb a b) l (rw (word-lowest first rest (i .0) some) at (i .1)))
 
   pub word-listing-end : rest ≡ 0 → Listed-from (filter (ltb a) (set-bits 64 first word)) count old n list
   unfolding filter
-  word-listing-end z = listing-end (i .1) (ap (filter (ltb a)) (ap (set-bits 64 first) z ∙ set-bits-nothing 64 first))
+  word-listing-end z = listing-end (i .1) (ap (filter (ltb a)) (word-none first rest z))
 
 -- ---- the words of a row
 

@@ -1,14 +1,14 @@
 -- The loops of a hearing, on plain values: the links of a row, and the rows of a phase.
 use mathlib.Core.Path.{_≡_, refl, sym, ap, subst, _∙_}
 use mathlib.Core.Bool.{Bool, true, false, _&&_, not, cond}
-use mathlib.Core.List.{List, [], _∷_}
-use Prim.Native.Nat.{ℕ, suc, _+_, _-_, _≤_, _<_, min}
+use mathlib.Core.List.{List, _∷_}
+use Prim.Native.Nat.{ℕ, suc, _+_, _-_, _≤_, _<_}
 use native.Mathlib.Omega.{arith}
 use native.Mathlib.Numerals.{add-one}
 use lib.Dec.{leb}
 use lib.ListN.{length, getD, take, drop, drop-of-length-le}
 use lib.Seq.{drop-cons, length-take-le}
-use borrow.Author.Tests.{leb-true, le-leb}
+use borrow.Author.Tests.{leb-true}
 use Rattle.mesh.specs.Limits.{max-radios, max-neighbours}
 use Rattle.lists.specs.Lists.{range, count, filter, In}
 use Rattle.lists.proofs.Tests.{and-left, and-right}
@@ -17,9 +17,6 @@ use Rattle.lists.proofs.Range.{range-in, range-append}
 use Rattle.lists.proofs.All.{all-below}
 use Rattle.lists.proofs.Filter.{filter-all, filter-ext, in-filter, length-filter}
 use Rattle.lists.proofs.Ascending.{ascending-range, ascending-filter}
-use Rattle.mesh.specs.Graph.{linked}
-use Rattle.mesh.specs.Cores.{number}
-use Rattle.mesh.specs.Orders.{each-once, rising, few-later, is-k-order}
 use Rattle.mesh.specs.Tables.{Tables, marked, graph-in}
 use Rattle.mesh.specs.Sound.{sound, within, row-degree, rows-proper, few, symmetric, irreflexive}
 use Rattle.mesh.proofs.Tables.Rows.{few-of}
@@ -28,13 +25,11 @@ use Rattle.calls.specs.Questions.{lengths-of, ends-refusal}
 use Rattle.calls.specs.Switches.{switch, switched}
 use Rattle.calls.specs.Heard.{agreed, agreed-degree, agreed-few}
 use Rattle.calls.specs.Hearing.{Phase, Rows-left, Row-left}
-use Rattle.calls.proofs.SoundSwitches.{Good, good-valid}
-use Rattle.soundness.specs.Checks.{Places-found}
+use Rattle.calls.proofs.SoundSwitches.{Good}
 use Rattle.calls.proofs.HearingLaws.{row-first, row-next, row-end}
 use Rattle.heard.specs.Hearing.{Of-size, Is-prefix, wanted, Wanted-listed}
 use Rattle.links.specs.Steps.{Prepared, Stepped}
 use Rattle.links.specs.Hearings.{Phase-by, Marked-hearing, Row-switched, Rows-switched}
-use Rattle.links.proofs.BatchLaws.{Same-lengths}
 use Rattle.links.proofs.StepLaws.{fits-good}
 
 -- ---- the links of a row

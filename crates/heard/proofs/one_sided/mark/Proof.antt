@@ -1,6 +1,6 @@
 -- `one_sided::mark` meets its contract: the rows before row a are marked, and counted with what is left as the whole (`Marking`). The
 -- measure is the rows left.
-use mathlib.Core.Path.{_≡_, sym, ap, _∙_}
+use mathlib.Core.Path.{sym, ap, _∙_}
 use Prim.Native.Nat.{ℕ, _-_}
 use native.Mathlib.Omega.{arith}
 use lib.ListN.{length, replicate}

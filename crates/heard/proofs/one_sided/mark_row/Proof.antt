@@ -7,7 +7,8 @@ use lib.ListN.{getD}
 use borrow.Author.Needs.{needs}
 use Rattle.mesh.specs.Limits.{row-bytes}
 use Rattle.rows.proofs.RowWords.{word-of-row}
-use Rattle.heard.proofs.MarkLaws.{Words-marking, words-none, words-turn, words-fit, words-end}
+use Rattle.heard.proofs.TallyLaws.{row-fits}
+use Rattle.heard.proofs.MarkLaws.{Words-marking, words-none, words-turn, words-end}
 use Rattle.heard.proofs.one_sided.mark_row.Statement.{statement}
 use Rattle.heard.proofs.one_sided.mark_row.Tie as tie
 
@@ -32,10 +33,10 @@ add-n c =
     let x = given .before .args in
     let l = read .before .loop-test .taken in
     let bytes : (j : ℕ) → getD (x .heard .now) j 0 < 256 = λ j. given .shared-slice-known .given j .fits in
-    words-fit bytes (at-loop .loop .inv) l
+    row-fits _ _ (words-turn bytes (at-loop .loop .inv) l
     (read .word-of .ensures
     ∙ word-of-row (x .heard .now) (x .a) (at-loop .loop .k) (row-bytes * x .a + row-bytes - row-bytes * x .a) (omega arith) (given .before .pre) l)
-    (marked .mark-word .ensures)
+    (marked .mark-word .ensures) .1 .tally)
 
 loop-again : tie.Need-loop-again Inv-loop μ-loop
 loop-again c =

@@ -5,7 +5,8 @@ use native.Mathlib.Omega.{arith}
 use lib.Bits.{and-le-r}
 use lib.Count.{trailing-le}
 use borrow.Author.Needs.{needs}
-use Rattle.heard.proofs.MarkLaws.{Word-marking, row-none, word-fits, word-pair, word-end}
+use Rattle.heard.proofs.TallyLaws.{word-fits}
+use Rattle.heard.proofs.MarkLaws.{Word-marking, row-none, word-pair, word-end}
 use Rattle.heard.proofs.one_sided.mark_word.Statement.{statement}
 use Rattle.heard.proofs.one_sided.mark_word.Tie as tie
 
@@ -24,7 +25,7 @@ add-n : tie.Need-add-n Inv-loop μ-loop
 add-n c =
     let paired = c .before .before in
     let turn = paired .before .before in
-    word-fits _ _ (turn .before .loop .rest) (turn .before .loop .inv) (turn .loop-test .taken) (paired .mark-pair .result)
+    word-fits _ _ (turn .before .loop .rest) (turn .before .loop .inv .0) (turn .loop-test .taken) (turn .before .loop .inv .1 .tally) (paired .mark-pair .result)
 
 loop-less : tie.Need-loop-less Inv-loop μ-loop
 loop-less c =

@@ -1,9 +1,8 @@
 -- `wanted::list_words` meets its contract: the words of the rows are taken one by one, and what is left gives with what is written what all of
 -- them give (`Words-listing`). The measure is the words that are left.
 use mathlib.Core.Path.{_≡_, _∙_}
-use Prim.Native.Nat.{ℕ, _+_, _*_, _-_, _<_}
+use Prim.Native.Nat.{_+_, _*_, _-_}
 use native.Mathlib.Omega.{arith}
-use lib.ListN.{getD}
 use borrow.Author.Needs.{needs}
 use Rattle.mesh.specs.Limits.{row-bytes}
 use Rattle.rows.proofs.RowWords.{word-of-row}
