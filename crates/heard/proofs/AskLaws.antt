@@ -1,34 +1,37 @@
 -- Questions 14 and 7, row by row.
 --   Proper-below     the rows before row a mark neither their own radio nor one at n or above
---   Counting         agreed links of a radio, counted
 --   Few-below        the radios before radio a have few enough agreed links
 use mathlib.Core.Path.{_≡_, refl, sym, ap, _∙_, subst}
 use mathlib.Core.Logic.{_⊎_, inl, inr}
-use mathlib.Core.Bool.{Bool, true, false, _&&_, not, cond}
-use mathlib.Core.List.{List}
-use Prim.Native.Nat.{ℕ, suc, _+_, _-_, _^_, _≤_, _<_}
+use mathlib.Core.Bool.{Bool, true, false, _&&_, not}
+use mathlib.Core.List.{List, [], _∷_}
+use Prim.Native.Nat.{ℕ, suc, _+_, _*_, _-_, _/_, _%_, _^_, _≤_, _<_}
 use native.Mathlib.Omega.{arith}
 use native.Mathlib.Numerals.{add-one}
-use mir.Syntax.{w32}
-use mir.Val.{boolByte, Fits}
-use lib.Dec.{leb}
-use lib.ListN.{length}
-use borrow.Author.Tests.{leb-true, leb-false, le-leb}
-use Rattle.mesh.specs.Limits.{max-radios, max-neighbours}
-use Rattle.lists.specs.Lists.{range, count, all}
-use Rattle.lists.proofs.Tests.{bool-cases, never, and-left, and-right, and-both, byte-bit, bit-one}
+use lib.Bits.{bitAnd}
+use lib.Count.{trailingZeros}
+use lib.Dec.{leb, eqb}
+use lib.ListN.{length, getD}
+use lib.Pow.{shr-shr, shr-lt}
+use borrow.Author.Tests.{leb-true, leb-false, le-leb, not-true}
+use Rattle.mesh.specs.Limits.{max-radios, max-neighbours, row-bytes}
+use Rattle.lists.specs.Lists.{range, count, filter, all, In}
+use Rattle.lists.proofs.Tests.{bool-cases, never, and-left, and-right, and-both}
 use Rattle.lists.proofs.Count.{count-mono}
-use Rattle.lists.proofs.Range.{count-front}
-use Rattle.lists.proofs.All.{all-below, below-all}
-use Rattle.mesh.specs.Tables.{marked}
+use Rattle.lists.proofs.Range.{count-front, count-below, range-append}
+use Rattle.lists.proofs.Filter.{in-filter, filter-in}
+use Rattle.lists.proofs.All.{all-in, in-all, all-below, below-all, all-append}
+use Rattle.mesh.specs.Tables.{digit, marked}
 use Rattle.mesh.specs.Sound.{irreflexive, within, row-degree}
 use Rattle.mesh.proofs.Tables.Rows.{irreflexive-of, of-irreflexive}
-use Rattle.rows.specs.Rows.{row-listed, row-count}
+use Rattle.rows.specs.Rows.{neighbours-of, row-listed, row-count, set-bits, row-word}
 use Rattle.rows.proofs.MaskLaws.{marked-past}
-use Rattle.rows.proofs.RowListLaws.{length-row-listed-radio}
+use Rattle.rows.proofs.WordLaws.{set-bits-filter, set-bits-nothing, set-bits-lowest, word-at-less}
+use Rattle.rows.proofs.RowWords.{marked-word, row-listed-short}
+use Rattle.rows.proofs.RowListLaws.{count-neighbours-of, length-row-listed-radio}
 use Rattle.calls.specs.Questions.{ask}
 use Rattle.calls.specs.Heard.{agreed, agreed-degree, heard-proper, agreed-few}
-use Rattle.heard.specs.Hearing.{Of-size, none-from, rows-refusal}
+use Rattle.heard.specs.Hearing.{Of-size, hears, none-from, rows-refusal}
 
 -- ---- no radio at n or above
 
@@ -51,6 +54,64 @@ module _ (hs : List ℕ) (a b : ℕ) where
 
   pub within-no : (n : ℕ) → none-from n hs a ≡ none-from b hs a → b < max-radios → marked hs a b ≡ true → false ≡ none-from n hs a
   within-no n h l e = sym (h ∙ none-first l ∙ rw e)
+
+-- ---- no radio at n or above, word by word
+
+-- of radios of which none passes a test, and of which one does
+all-not : (f : ℕ → Bool) (xs : List ℕ) → filter f xs ≡ [] → all (λ b. not (f b)) xs ≡ true
+all-not f xs e = in-all (λ b. not (f b)) xs (λ v m. go v m (bool-cases (f v)))
+  where
+    go : (v : ℕ) → In v xs → (f v ≡ true) ⊎ (f v ≡ false) → not (f v) ≡ true
+    go v m (inl t) = absurd (subst (In v) e (filter-in f xs v m t))
+    go v m (inr t) = rw t
+
+not-all : (f : ℕ → Bool) (xs : List ℕ) (v : ℕ) → In v (filter f xs) → all (λ b. not (f b)) xs ≡ false
+not-all f xs v m = go (bool-cases (all (λ b. not (f b)) xs))
+  where
+    go : (all (λ b. not (f b)) xs ≡ true) ⊎ (all (λ b. not (f b)) xs ≡ false) → all (λ b. not (f b)) xs ≡ false
+    go (inl t) = let i = in-filter f xs v m in never (f v) (i .1) (not-true (f v) (all-in (λ b. not (f b)) xs t v (i .0)))
+    go (inr t) = t
+
+module _ (hs : List ℕ) (bytes : (j : ℕ) → getD hs j 0 < 256) (a b w : ℕ) (l : b < max-radios) (e : w ≡ row-word 8 hs (row-bytes * a + 8 * (b / 64))) where
+  -- the radios of the word from b on, as many as are left of it, and its bits, these alone
+  abbrev left : ℕ
+  left = 64 - b % 64
+
+  abbrev bits : ℕ
+  bits = w / 2 ^ (b % 64)
+
+  bits-left : bits < 2 ^ left
+  bits-left =
+      let all-bits : 64 ≡ left + b % 64 = omega arith in
+      let low : w < 2 ^ (left + b % 64) = rw (← all-bits) (omega (arith, e, word-at-less hs bytes (row-bytes * a + 8 * (b / 64)) 8)) in
+      shr-lt left (b % 64) low
+
+  bits-marked : set-bits left b bits ≡ filter (λ x. marked hs a x) (range b left)
+  unfolding digit
+  bits-marked =
+      set-bits-filter left b bits (λ x. marked hs a x) (λ j m.
+      let here : b + j ≡ 64 * (b / 64) + (b % 64 + j) = omega arith in
+      ap (marked hs a) here ∙ marked-word hs bytes a (b / 64) (b % 64 + j) (omega (arith, m)) ∙ ap (λ (y : ℕ). digit y (b % 64 + j)) (sym e)
+      ∙ sym (ap (λ (y : ℕ). eqb (y % 2) 1) (shr-shr w (b % 64) j)))
+
+  none-word : none-from b hs a ≡ (all (λ x. not (marked hs a x)) (range b left) && none-from (b + left) hs a)
+  unfolding none-from
+  none-word =
+      let parts : max-radios - b ≡ left + (max-radios - (b + left)) = omega (arith, l) in
+      rw (parts, range-append b left (max-radios - (b + left))) (all-append (λ x. not (marked hs a x)) (range b left) _)
+
+  pub word-turn : (n : ℕ) → none-from n hs a ≡ none-from b hs a → bits ≡ 0 → none-from n hs a ≡ none-from (b + left) hs a
+  word-turn n h z =
+      let none : filter (λ x. marked hs a x) (range b left) ≡ [] =
+      sym bits-marked ∙ ap (set-bits left b) z ∙ set-bits-nothing left b in
+      h ∙ none-word ∙ rw (all-not (λ x. marked hs a x) (range b left) none)
+
+  pub word-no : (n : ℕ) → none-from n hs a ≡ none-from b hs a → (bits ≡ 0 → ⊥) → false ≡ none-from n hs a
+  word-no n h some =
+      let first : filter (λ x. marked hs a x) (range b left) ≡ (b + trailingZeros left bits) ∷ set-bits left b (bitAnd bits (bits - 1)) =
+      sym bits-marked ∙ set-bits-lowest left b bits (omega (arith, some)) bits-left in
+      sym (h ∙ none-word ∙ rw (not-all (λ x. marked hs a x) (range b left) (b + trailingZeros left bits) (subst (In (b + trailingZeros left bits)) (sym first)
+      (inl refl))))
 
 -- what holds of every radio below a, and of a, holds below the next
 below-next : (P : ℕ → Type 0) (a : ℕ) → ((x : ℕ) → x < a → P x) → P a → (x : ℕ) → x < a + 1 → P x
@@ -97,14 +158,6 @@ module _ (n : ℕ) (hs : List ℕ) where
 
 -- ---- question 7
 
-range-first : (f : ℕ → Bool) (n b : ℕ) → b < n → count f (range b (n - b)) ≡ cond (f b) 1 0 + count f (range (b + 1) (n - (b + 1)))
-unfolding range count
-range-first f n b l = let e : n - b ≡ suc (n - (b + 1)) = omega (arith, l) in rw (e, add-one b)
-
-range-past : (f : ℕ → Bool) (n b : ℕ) → n ≤ b → count f (range b (n - b)) ≡ 0
-unfolding range count
-range-past f n b l = let e : n - b ≡ 0 = omega (arith, l) in rw e
-
 module _ (n : ℕ) (hs : List ℕ) (s : Of-size n hs) where
   -- a radio at n or above has no row
   pub agreed-past : (a b : ℕ) → n ≤ b → a < max-radios → agreed hs a b ≡ false
@@ -130,34 +183,23 @@ module _ (n : ℕ) (hs : List ℕ) (s : Of-size n hs) where
   unfolding row-count
   few-heard a r e f l = sym (le-leb (agreed-degree n hs a) max-neighbours (omega (arith, e, f, degree-most a l)))
 
--- ---- counting agreed links
+  -- agreed links are counted along the radios that a hears
+  pub few-counted : (a r : ℕ) → r ≡ count (hears hs a) (neighbours-of hs a) → a < n → leb r max-neighbours ≡ leb (agreed-degree n hs a) max-neighbours
+  unfolding agreed-degree agreed hears
+  few-counted a r e l =
+      ap (λ (k : ℕ). leb k max-neighbours)
+      (e ∙ count-neighbours-of (hears hs a) hs a
+      ∙ count-below (agreed hs a) n max-radios (s .most) (λ b nb lb. agreed-past a b nb (omega (arith, l, s .most))))
 
--- k of the radios below b have an agreed link with a
-pub record Counting (n : ℕ) (hs : List ℕ) (a k b : ℕ) : Type 0 where
-  pub low : b ≤ n
-  pub few : k ≤ b
-  pub is : k + count (agreed hs a) (range b (n - b)) ≡ agreed-degree n hs a
-
-module _ (n : ℕ) (hs : List ℕ) (a : ℕ) where
-  pub counting-none : Counting n hs a 0 0
-  unfolding agreed-degree
-  counting-none = record { low = omega arith; few = omega arith; is = let z : n - 0 ≡ n = omega arith in rw z (omega arith) }
-
-  pub counting-fits : (k b : ℕ) (t : Bool) → Counting n hs a k b → b < n → n < 2 ^ 32 → Fits w32 (k + boolByte t)
-  counting-fits k b t c l h = record { fits = omega (arith, c .few, l, h, byte-bit t, bit-one t) }
-
-  pub counting-turn : (k b : ℕ) (r : Bool) → Counting n hs a k b → b < n → r ≡ agreed hs a b → Counting n hs a (k + boolByte r) (b + 1)
-  counting-turn k b r c l e = record {
-    low = omega (arith, l);
-    few = omega (arith, c .few, byte-bit r, bit-one r);
-    is = omega (arith, c .is, byte-bit r, ap (λ (t : Bool). cond {A = ℕ} t 1 0) e, next);
-  }
-    where
-      next : count (agreed hs a) (range b (n - b)) ≡ cond (agreed hs a b) 1 0 + count (agreed hs a) (range (b + 1) (n - (b + 1)))
-      next = range-first (agreed hs a) n b l
-
-  pub counting-end : (k b : ℕ) → Counting n hs a k b → n ≤ b → k ≡ agreed-degree n hs a
-  counting-end k b c l = omega (arith, c .is, range-past (agreed hs a) n b l)
+-- a row of which radios are counted is whole
+pub counted-whole : (hs : List ℕ) (a r : ℕ) → r ≡ row-count max-neighbours hs a → max-neighbours < r → row-bytes * a + row-bytes ≤ length hs
+unfolding row-count
+counted-whole hs a r e many = go (bool-cases (leb (row-bytes * a + row-bytes) (length hs)))
+  where
+    go : (leb (row-bytes * a + row-bytes) (length hs) ≡ true) ⊎ (leb (row-bytes * a + row-bytes) (length hs) ≡ false)
+        → row-bytes * a + row-bytes ≤ length hs
+    go (inl t) = leb-true (row-bytes * a + row-bytes) (length hs) t
+    go (inr t) = absurd (omega (arith, e, many, ap length (row-listed-short hs a (leb-false (row-bytes * a + row-bytes) (length hs) t))))
 
 abbrev pub Few-below : (n : ℕ) → (heard : List ℕ) → (a : ℕ) → Type 0
 Few-below n hs a = (x : ℕ) → x < a → leb (agreed-degree n hs x) max-neighbours ≡ true

@@ -1,6 +1,6 @@
 -- Laws of a heard table, for its functions and their callers.
--- a row listed
-pub mod RowLaws
+-- radios counted, word by word
+pub mod TallyLaws
 -- questions 14 and 7
 pub mod AskLaws
 -- the one-sided pairs

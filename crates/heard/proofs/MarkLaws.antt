@@ -1,18 +1,20 @@
 -- The one-sided pairs.
 --   pair-heard, pair-alone   a pair that is passed over, a pair that is marked
---   row-turn, row-end        the pairs of a row
+--   Row-marking              some pairs of a row are marked and counted, and give with what is left what all of them give
 --   Marking                  the rows before row a are marked, and counted with what is left as the whole
 use mathlib.Core.Path.{_≡_, refl, sym, ap, _∙_}
 use mathlib.Core.Logic.{_⊎_, inl, inr}
 use mathlib.Core.Bool.{Bool, true, false, _&&_, _||_, not, cond}
-use mathlib.Core.List.{List, [], _∷_}
-use Prim.Native.Nat.{ℕ, suc, _+_, _*_, _-_, _≤_, _<_}
+use mathlib.Core.List.{List, [], _∷_, _++_}
+use Prim.Native.Nat.{ℕ, suc, _+_, _*_, _-_, _^_, _≤_, _<_}
 use native.Mathlib.Omega.{arith}
 use native.Mathlib.Numerals.{add-one}
 use mir.Syntax.{w32}
-use mir.Val.{Fits}
+use mir.Val.{boolByte, Fits}
+use lib.Bits.{bitAnd}
+use lib.Count.{trailingZeros}
 use lib.Dec.{ltb, eqb}
-use lib.ListN.{length, take, replicate, length-replicate}
+use lib.ListN.{length, getD, replicate, length-replicate}
 use borrow.Author.Tests.{eqb-true, eq-eqb, ne-eqb, lt-ltb, le-ltb}
 use Rattle.mesh.specs.Limits.{max-radios, row-bytes}
 use Rattle.lists.specs.Lists.{Bytes, In, range, count, total, member, folded}
@@ -20,18 +22,19 @@ use Rattle.lists.proofs.Tests.{trichotomy}
 use Rattle.lists.proofs.Count.{count-le-length}
 use Rattle.lists.proofs.Range.{count-below}
 use Rattle.lists.proofs.Filter.{count-filter}
-use Rattle.lists.proofs.Loops.{length-folded}
+use Rattle.lists.proofs.Loops.{length-folded, folded-append}
 use Rattle.lists.proofs.Parts.{bytes-replicate}
 use Rattle.mesh.specs.Tables.{marked, put-bit}
 use Rattle.mesh.specs.Sound.{within}
 use Rattle.mesh.proofs.Tables.Laws.{table-eq, marked-replicate, byte-at-less, length-put-bit}
 use Rattle.mesh.proofs.Tables.Laws.{bytes-put-bit, marked-put-bit, length-bit-table, bytes-bit-table, marked-bit-table}
 use Rattle.mesh.proofs.Tables.Rows.{within-of}
-use Rattle.rows.specs.Rows.{neighbours-of}
+use Rattle.rows.specs.Rows.{neighbours-of, row-from, set-bits, row-word}
+use Rattle.rows.proofs.RowWords.{row-from-zero, row-from-end}
 use Rattle.rows.proofs.RowListLaws.{in-neighbours-of, member-neighbours-of}
 use Rattle.calls.specs.Heard.{heard-alone, one-sided, one-sided-count}
-use Rattle.heard.specs.Hearing.{Of-size, Is-prefix, hears, alone-put, Pair-marked, Row-marked, One-sided-marked}
-use Rattle.heard.proofs.RowLaws.{neighbours-most}
+use Rattle.heard.specs.Hearing.{Of-size, hears, alone-put, Pair-marked, Row-marked, One-sided-marked}
+use Rattle.heard.proofs.TallyLaws.{Counting, counting-none, counting-one, counting-part, counting-end, word-lowest, word-less, word-none, neighbours-most, row-split}
 
 -- ---- a pair
 
@@ -118,6 +121,66 @@ module _ (hs : List ℕ) (a n : ℕ) (la : a < n) where
       go s true e m z = let q : b ≡ y = eqb-true b y e in rw q (join s m (hears hs a y) z)
       go s false e m z = part s m (hears hs a y) (hears hs a b) z
 
+-- the pairs of a with the radios `whole` are begun from the table w; `rest` are left
+pub record Row-marking (hs : List ℕ) (a : ℕ) (whole w rest : List ℕ) (r : ℕ) (x : List ℕ) : Type 0 where
+  pub long : length x ≡ length w
+  pub tally : Counting (λ b. not (hears hs a b)) whole rest r
+  pub table : folded (alone-put hs a) rest x ≡ folded (alone-put hs a) whole w
+
+module _ {hs : List ℕ} {a : ℕ} where
+  pub row-none : {whole w : List ℕ} → Row-marking hs a whole w whole 0 w
+  row-none {whole} {w} = record { long = refl; tally = counting-none (λ b. not (hears hs a b)) whole; table = refl }
+
+  module _ {whole w : List ℕ} {r : ℕ} {x : List ℕ} where
+    pub row-pair : {b : ℕ} {rest : List ℕ} {t : Bool} {y : List ℕ} → Row-marking hs a whole w (b ∷ rest) r x → Pair-marked hs a b x t y
+        → Row-marking hs a whole w rest (r + boolByte t) y
+    unfolding folded
+    row-pair {b} {rest} {t} {y} m d = record {
+      long = ap length (d .table) ∙ length-alone-put hs a b x ∙ m .long;
+      tally = counting-one (d .answer) (m .tally);
+      table = ap (folded (alone-put hs a) rest) (d .table) ∙ m .table;
+    }
+
+    pub row-part : {bs rest : List ℕ} {s : ℕ} {y : List ℕ} → Row-marking hs a whole w (bs ++ rest) r x → Row-marked hs a bs x s y
+        → Row-marking hs a whole w rest (r + s) y
+    row-part {bs} {rest} {s} {y} m d = record {
+      long = ap length (d .table) ∙ length-alones hs a bs x ∙ m .long;
+      tally = counting-part bs rest (d .counted) (m .tally);
+      table = ap (folded (alone-put hs a) rest) (d .table) ∙ sym (folded-append (alone-put hs a) bs rest x) ∙ m .table;
+    }
+
+    pub row-end : {rest : List ℕ} → rest ≡ [] → Row-marking hs a whole w rest r x → Row-marked hs a whole w r x
+    unfolding folded
+    row-end {rest} e m =
+        record { counted = counting-end e (m .tally); table = ap (λ (xs : List ℕ). folded (alone-put hs a) xs x) (sym e) ∙ m .table }
+
+-- the pairs of a with the radios of a word
+abbrev pub Word-marking : (heard : List ℕ) → (a first word : ℕ) → (w : List ℕ) → (rest r : ℕ) → (x : List ℕ) → Type 0
+Word-marking hs a first word w rest r x = (rest < 2 ^ 64) × Row-marking hs a (set-bits 64 first word) w (set-bits 64 first rest) r x
+
+module _ {hs : List ℕ} {a : ℕ} (first word : ℕ) {w : List ℕ} (rest : ℕ) {r : ℕ} {x : List ℕ} (m : Word-marking hs a first word w rest r x) where
+  pub word-pair : (rest ≡ 0 → ⊥) → {t : Bool} {y : List ℕ} → Pair-marked hs a (first + trailingZeros 64 rest) x t y
+      → Word-marking hs a first word w (bitAnd rest (rest - 1)) (r + boolByte t) y
+  word-pair some d = (word-less rest (m .0), row-pair (rw (word-lowest first rest (m .0) some) at (m .1)) d)
+
+  pub word-end : rest ≡ 0 → Row-marked hs a (set-bits 64 first word) w r x
+  word-end z = row-end (word-none first rest z) (m .1)
+
+-- the pairs of a with the radios of its words before word k
+abbrev pub Words-marking : (heard : List ℕ) → (a : ℕ) → (w : List ℕ) → (k r : ℕ) → (x : List ℕ) → Type 0
+Words-marking hs a w k r x = (k ≤ 8) × Row-marking hs a (neighbours-of hs a) w (row-from hs a k) r x
+
+pub words-none : (hs : List ℕ) (a : ℕ) (w : List ℕ) → Words-marking hs a w 0 0 w
+words-none hs a w = (omega arith, rw (row-from-zero hs a) row-none)
+
+module _ {hs : List ℕ} (bytes : (j : ℕ) → getD hs j 0 < 256) {a : ℕ} {w : List ℕ} {k r : ℕ} {x : List ℕ} (m : Words-marking hs a w k r x) (l : k < 8) {word : ℕ}
+    (e : word ≡ row-word 8 hs (row-bytes * a + 8 * k)) {s : ℕ} {y : List ℕ} (d : Row-marked hs a (set-bits 64 (64 * k) word) x s y) where
+  pub words-turn : Words-marking hs a w (k + 1) (r + s) y
+  words-turn = (omega (arith, l), row-part (rw (row-split hs bytes a k word l e) at (m .1)) d)
+
+pub words-end : {hs : List ℕ} {a : ℕ} {w : List ℕ} {k r : ℕ} {x : List ℕ} → Words-marking hs a w k r x → 8 ≤ k → Row-marked hs a (neighbours-of hs a) w r x
+words-end {hs} {a} {w} {k} m h = row-end (row-from-end hs a k h) (m .1)
+
 -- ---- a table
 
 -- one-sided pairs of row x
@@ -153,23 +216,17 @@ module _ (n : ℕ) (hs : List ℕ) (room : ℕ) (s : Of-size n hs) where
     marks = λ long x y lx ly. marked-replicate room x y (omega (arith, long, byte-at-less n x y lx ly)) ∙ rw (le-ltb x 0 (omega arith));
   })
 
-  module _ (further : List ℕ) (k a : ℕ) (m : Marking n hs room further k a) (l : a < n) (i : ℕ) (list : List ℕ) (f : Is-prefix (neighbours-of hs a) i list)
-      (r : ℕ) (new : List ℕ) (d : Row-marked hs a (take i list) further r new) where
-    table-is : new ≡ folded (alone-put hs a) (neighbours-of hs a) further
-    table-is = d .table ∙ ap (λ (xs : List ℕ). folded (alone-put hs a) xs further) (f .listed)
-
-    count-is : r ≡ count (λ b. not (hears hs a b)) (neighbours-of hs a)
-    count-is = d .counted ∙ ap (count (λ b. not (hears hs a b))) (f .listed)
-
+  module _ (further : List ℕ) (k a : ℕ) (m : Marking n hs room further k a) (l : a < n) (r : ℕ) (new : List ℕ)
+      (d : Row-marked hs a (neighbours-of hs a) further r new) where
     pairs-is : within n hs ≡ true → r ≡ pairs-of n hs a
     unfolding neighbours-of heard-alone hears
     pairs-is h =
-        count-is
+        d .counted
         ∙ count-filter (λ b. not (marked hs b a)) (λ b. marked hs a b) (range 0 max-radios)
         ∙ count-below (heard-alone hs a) n max-radios (s .most) (λ b nb lb. rw (within-of n hs h a b l nb lb))
 
     row-few : r ≤ max-radios
-    row-few = omega (arith, count-is, count-le-length (λ b. not (hears hs a b)) (neighbours-of hs a), neighbours-most hs a)
+    row-few = omega (arith, d .counted, count-le-length (λ b. not (hears hs a b)) (neighbours-of hs a), neighbours-most hs a)
 
     pub marking-fits : Fits w32 (k + r)
     marking-fits = record { fits = omega (arith, m .few, row-few, l, s .most) }
@@ -177,7 +234,7 @@ module _ (n : ℕ) (hs : List ℕ) (room : ℕ) (s : Of-size n hs) where
     row-marks : room ≡ row-bytes * n → (x y : ℕ) → y < max-radios → marked new x y ≡ ((eqb a x && heard-alone hs x y) || marked further x y)
     unfolding heard-alone hears
     row-marks long x y ly =
-        ap (λ (t : List ℕ). marked t x y) table-is
+        ap (λ (t : List ℕ). marked t x y) (d .table)
         ∙ marked-alones hs a n l (neighbours-of hs a) further (m .long ∙ long) (λ b j. in-neighbours-of hs a b j .0) x y ly
         ∙ ap (λ (t : Bool). (eqb a x && (t && not (marked hs y a))) || marked further x y) (member-neighbours-of hs a y ly)
         ∙ own (eqb a x) refl
@@ -202,20 +259,20 @@ module _ (n : ℕ) (hs : List ℕ) (room : ℕ) (s : Of-size n hs) where
     pub marking-turn : Marking n hs room new (k + r) (a + 1)
     marking-turn = record {
       low = omega (arith, l);
-      long = ap length table-is ∙ length-alones hs a (neighbours-of hs a) further ∙ m .long;
-      bytes = rw table-is (bytes-alones hs a n l (neighbours-of hs a) further (m .bytes));
+      long = ap length (d .table) ∙ length-alones hs a (neighbours-of hs a) further ∙ m .long;
+      bytes = rw (d .table) (bytes-alones hs a n l (neighbours-of hs a) further (m .bytes));
       few = omega (arith, m .few, row-few);
       counted = λ h. omega (arith, pairs-is h, m .counted h, pairs-left n hs a l);
       marks = next-marks;
     }
 
-  pub marking-end : (many : ℕ) (w further : List ℕ) (k a : ℕ) → room ≡ length w → Marking n hs room further k a → n ≤ a → One-sided-marked n hs many w k further
+  pub marking-end : (w further : List ℕ) (k a : ℕ) → room ≡ length w → Marking n hs room further k a → n ≤ a → One-sided-marked n hs w k further
   unfolding one-sided one-sided-count
-  marking-end many w further k a e m l = record {
+  marking-end w further k a e m l = record {
     counted =
-        λ t _ h. let c : k + total (pairs-of n hs) (range a (n - a)) ≡ total (pairs-of n hs) (range 0 n) = m .counted h in sym
+        λ t h. let c : k + total (pairs-of n hs) (range a (n - a)) ≡ total (pairs-of n hs) (range 0 n) = m .counted h in sym
         (sym c ∙ rw (pairs-past n hs a l) (omega arith));
-    table = λ t _ long.
+    table = λ t long.
         table-eq n further _ (m .long ∙ e ∙ long) (length-bit-table n (heard-alone hs)) (m .bytes) (bytes-bit-table n (heard-alone hs))
         (λ x y lx ly. m .marks (e ∙ long) x y lx ly ∙ rw (lt-ltb x a (omega (arith, lx, l))) (sym (marked-bit-table n (heard-alone hs) x y lx ly)));
   }

@@ -7,13 +7,15 @@
 --   alone-put              the further table after the pair of a and a radio that it hears: marked unless that radio hears a
 --   Pair-marked, Row-marked, One-sided-marked   what marking a pair, a row and a table comes back with
 --   wanted up hs ts a b    the link between a and b is to come up, or to go down, by the links table ts
---   Filtered-prefix          the radios of a list that pass a test, in front of another list
+--   wanted-by              the same, by whether a hears b, alone, and is linked with it
+--   above-from             the radios above a whose link with a is wanted, by three rows, whose words from that of a on are read
+--   Listed-from            entries written into a list from a place on
 --   Wanted-listed          the radios above a whose link with a is wanted, in front of a list
 -- Definitions only.
 use mathlib.Core.Path.{_≡_}
 use mathlib.Core.Bool.{Bool, true, _&&_, not, cond}
-use mathlib.Core.List.{List}
-use Prim.Native.Nat.{ℕ, suc, _*_, _-_, _≤_, _<_}
+use mathlib.Core.List.{List, _++_}
+use Prim.Native.Nat.{ℕ, suc, _+_, _*_, _-_, _/_, _≤_, _<_}
 use lib.Dec.{ltb}
 use lib.ListN.{length, take}
 use Rattle.mesh.specs.Limits.{max-radios, max-neighbours, row-bytes}
@@ -56,26 +58,33 @@ pub record Row-marked (hs : List ℕ) (a : ℕ) (xs w : List ℕ) (r : ℕ) (x :
   pub counted : r ≡ count (λ b. not (hears hs a b)) xs
   pub table : x ≡ folded (alone-put hs a) xs w
 
--- `room` is the length of a list that a row is listed in
-pub record One-sided-marked (n : ℕ) (hs : List ℕ) (room : ℕ) (w : List ℕ) (r : ℕ) (x : List ℕ) : Type 0 where
-  pub counted : Of-size n hs → room ≡ max-radios → within n hs ≡ true → r ≡ one-sided-count n hs
-  pub table : Of-size n hs → room ≡ max-radios → length w ≡ row-bytes * n → x ≡ one-sided n hs
+pub record One-sided-marked (n : ℕ) (hs w : List ℕ) (r : ℕ) (x : List ℕ) : Type 0 where
+  pub counted : Of-size n hs → within n hs ≡ true → r ≡ one-sided-count n hs
+  pub table : Of-size n hs → length w ≡ row-bytes * n → x ≡ one-sided n hs
 
 -- ---- links to come up or to go down
 
 unfoldable pub wanted : (up : Bool) → (heard links : List ℕ) → (a b : ℕ) → Bool
 wanted u hs ts a b = cond u (agreed hs a b && not (marked ts a b)) (marked ts a b && not (agreed hs a b))
 
--- and b is above a
-unfoldable pub above-wanted : (up : Bool) → (heard links : List ℕ) → (a b : ℕ) → Bool
-above-wanted u hs ts a b = ltb a b && wanted u hs ts a b
+-- what is heard and not alone is agreed
+unfoldable pub wanted-by : (up hears alone linked : Bool) → Bool
+wanted-by u h f l = cond u ((h && not f) && not l) (l && not (h && not f))
 
--- of the radios xs the ones that pass the test, where the list has room for one more
-pub record Filtered-prefix (f : ℕ → Bool) (xs old : List ℕ) (r : ℕ) (new : List ℕ) : Type 0 where
-  pub is : length (filter f xs) < length old → Is-prefix (filter f xs) r new
+-- `further` tells what is heard alone
+unfoldable pub wanted-in : (up : Bool) → (heard further links : List ℕ) → (a b : ℕ) → Bool
+wanted-in u hs ws ts a b = wanted-by u (marked hs a b) (marked ws a b) (marked ts a b)
 
--- `room` is the length of a list that a row is listed in
-pub record Wanted-listed (up : Bool) (hs ts : List ℕ) (a room : ℕ) (old : List ℕ) (r : ℕ) (new : List ℕ) : Type 0 where
-  pub is : (n : ℕ) → Of-size n hs → Of-size n ts → within n ts ≡ true → a < n → room ≡ max-radios
+unfoldable pub above-from : (up : Bool) → (heard further links : List ℕ) → (a : ℕ) → List ℕ
+above-from u hs ws ts a = filter (ltb a) (filter (wanted-in u hs ws ts a) (range (64 * (a / 64)) (max-radios - 64 * (a / 64))))
+
+-- the entries xs stand from place `count` of the list on, where it has room for one more
+pub record Listed-from (xs : List ℕ) (count : ℕ) (old : List ℕ) (r : ℕ) (new : List ℕ) : Type 0 where
+  pub inside : r ≤ length old
+  pub is : count + length xs < length old → (r ≡ count + length xs) × (take r new ≡ take count old ++ xs)
+
+-- `further` has the one-sided pairs
+pub record Wanted-listed (up : Bool) (hs ws ts : List ℕ) (a : ℕ) (old : List ℕ) (r : ℕ) (new : List ℕ) : Type 0 where
+  pub is : (n : ℕ) → Of-size n hs → ws ≡ one-sided n hs → Of-size n ts → within n ts ≡ true → a < n
       → length (filter (wanted up hs ts a) (range (suc a) (n - suc a))) < length old
       → Is-prefix (filter (wanted up hs ts a) (range (suc a) (n - suc a))) r new

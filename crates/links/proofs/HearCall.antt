@@ -24,9 +24,8 @@ use Rattle.soundness.specs.Checks.{Examined}
 use Rattle.soundness.proofs.ExamineLaws.{site-refused, site-lent, fits-sound-lent, examinable-room}
 use Rattle.heard.specs.Hearing.{Of-size, rows-refusal, One-sided-marked}
 use Rattle.links.specs.Steps.{Prepared}
-use Rattle.links.specs.Hearings.{Phase-by, Counted-site, Rows-switched, Brought, Hear-asked}
+use Rattle.links.specs.Hearings.{Phase-by, Marked-hearing, Rows-switched, Brought, Hear-asked}
 use Rattle.links.proofs.StepLaws.{fits-good}
-use Rattle.links.proofs.HearLoops.{prepared-site, with-places}
 
 -- ---- the questions
 
@@ -143,12 +142,8 @@ module _ (n : ℕ) (hs w : List ℕ) (t : Tables) (p h : ℕ) (ep : p ≡ max-ra
     is-zero : R ≡ 0
     is-zero = sym (d .number ep eh) ∙ yes
 
-    hear-prepared : Prepared n t places highs
+    pub hear-prepared : Prepared n t places highs
     hear-prepared = d .prepared ep eh yes
-
-    -- places may be written over
-    pub hear-ready : (room : ℕ) → room ≡ length places → Counted-site n t room highs
-    hear-ready room e = with-places (prepared-site hear-prepared) e
 
     good : Good n t
     good = fits-good n t (hear-prepared .good)
@@ -160,15 +155,12 @@ module _ (n : ℕ) (hs w : List ℕ) (t : Tables) (p h : ℕ) (ep : p ≡ max-ra
         let o = ask-zero 13 (heard-proper n hs) _ (s .1) in
         (s .0 .lent .further, o .0, ask-zero 6 (agreed-few max-neighbours n hs) 0 (o .1) .0)
 
-    pub hear-size : Of-size n hs
+    hear-size : Of-size n hs
     unfolding heard-lengths
     hear-size = record {
       most = good .lent .most;
       long = eqb-true (length hs) (row-bytes * n) (and-left (eqb (length hs) (row-bytes * n)) (eqb (length w) (row-bytes * n)) (answers .0));
     }
-
-    pub hear-few : agreed-few max-neighbours n hs ≡ true
-    hear-few = answers .2
 
     further-long : length w ≡ row-bytes * n
     unfolding heard-lengths
@@ -178,19 +170,23 @@ module _ (n : ℕ) (hs w : List ℕ) (t : Tables) (p h : ℕ) (ep : p ≡ max-ra
     unfolding heard-proper
     is-within = and-right (irreflexive n hs) (within n hs) (answers .1)
 
-    module _ (count : ℕ) (x : List ℕ) (room : ℕ) (full : room ≡ max-radios) (m : One-sided-marked n hs room w count x) (v : Tables) (b : Brought n hs t v) where
-      after-downs : Rows-left n (downs n hs t) t n (b .between)
-      after-downs = b .down t (downs n hs t) (downs-up n hs t) (downs-by n hs t good) (rows-first n hs t good (answers .1) (answers .2))
+    module _ (count : ℕ) (x : List ℕ) (m : One-sided-marked n hs w count x) where
+      pub hear-marked : Marked-hearing n hs x
+      hear-marked = record { size = hear-size; few = answers .2; further = m .table hear-size further-long }
 
-      after-ups : Rows-left n (ups n hs t) t n v
-      after-ups = b .up t (ups n hs t) (ups-up n hs t) (ups-by n hs t good) (downs-end n hs t good (answers .1) (answers .2) after-downs)
+      module _ (v : Tables) (b : Brought n hs t v) where
+        after-downs : Rows-left n (downs n hs t) t n (b .between)
+        after-downs = b .down t (downs n hs t) (downs-up n hs t) (downs-by n hs t good) (rows-first n hs t good (answers .1) (answers .2))
 
-      pub hear-done : Hear-contract n hs t w (answer 0 count) v x
-      unfolding Hear-contract
-      hear-done =
-          by-accepted R (λ y. Hear-refused y t w (answer 0 count) v x) is-zero (record {
-            number = refl;
-            value = m .counted hear-size full is-within;
-            tables = ups-end n hs t good (answers .1) (answers .2) after-ups;
-            further = m .table hear-size full further-long;
-          })
+        after-ups : Rows-left n (ups n hs t) t n v
+        after-ups = b .up t (ups n hs t) (ups-up n hs t) (ups-by n hs t good) (downs-end n hs t good (answers .1) (answers .2) after-downs)
+
+        pub hear-done : Hear-contract n hs t w (answer 0 count) v x
+        unfolding Hear-contract
+        hear-done =
+            by-accepted R (λ y. Hear-refused y t w (answer 0 count) v x) is-zero (record {
+              number = refl;
+              value = m .counted hear-size is-within;
+              tables = ups-end n hs t good (answers .1) (answers .2) after-ups;
+              further = m .table hear-size further-long;
+            })

@@ -1,14 +1,14 @@
 -- The loops of a hearing, on plain values: the links of a row, and the rows of a phase.
 use mathlib.Core.Path.{_≡_, refl, sym, ap, subst, _∙_}
 use mathlib.Core.Bool.{Bool, true, false, _&&_, not, cond}
-use mathlib.Core.List.{List, [], _∷_}
-use Prim.Native.Nat.{ℕ, suc, _+_, _-_, _≤_, _<_, min}
+use mathlib.Core.List.{List, _∷_}
+use Prim.Native.Nat.{ℕ, suc, _+_, _-_, _≤_, _<_}
 use native.Mathlib.Omega.{arith}
 use native.Mathlib.Numerals.{add-one}
 use lib.Dec.{leb}
 use lib.ListN.{length, getD, take, drop, drop-of-length-le}
 use lib.Seq.{drop-cons, length-take-le}
-use borrow.Author.Tests.{leb-true, le-leb}
+use borrow.Author.Tests.{leb-true}
 use Rattle.mesh.specs.Limits.{max-radios, max-neighbours}
 use Rattle.lists.specs.Lists.{range, count, filter, In}
 use Rattle.lists.proofs.Tests.{and-left, and-right}
@@ -17,9 +17,6 @@ use Rattle.lists.proofs.Range.{range-in, range-append}
 use Rattle.lists.proofs.All.{all-below}
 use Rattle.lists.proofs.Filter.{filter-all, filter-ext, in-filter, length-filter}
 use Rattle.lists.proofs.Ascending.{ascending-range, ascending-filter}
-use Rattle.mesh.specs.Graph.{linked}
-use Rattle.mesh.specs.Cores.{number}
-use Rattle.mesh.specs.Orders.{each-once, rising, few-later, is-k-order}
 use Rattle.mesh.specs.Tables.{Tables, marked, graph-in}
 use Rattle.mesh.specs.Sound.{sound, within, row-degree, rows-proper, few, symmetric, irreflexive}
 use Rattle.mesh.proofs.Tables.Rows.{few-of}
@@ -28,57 +25,12 @@ use Rattle.calls.specs.Questions.{lengths-of, ends-refusal}
 use Rattle.calls.specs.Switches.{switch, switched}
 use Rattle.calls.specs.Heard.{agreed, agreed-degree, agreed-few}
 use Rattle.calls.specs.Hearing.{Phase, Rows-left, Row-left}
-use Rattle.calls.proofs.SoundSwitches.{Good, good-valid}
-use Rattle.soundness.specs.Checks.{Places-found}
+use Rattle.calls.proofs.SoundSwitches.{Good}
 use Rattle.calls.proofs.HearingLaws.{row-first, row-next, row-end}
 use Rattle.heard.specs.Hearing.{Of-size, Is-prefix, wanted, Wanted-listed}
 use Rattle.links.specs.Steps.{Prepared, Stepped}
-use Rattle.links.specs.Hearings.{Phase-by, Counted-site, Row-switched, Rows-switched}
-use Rattle.links.proofs.BatchLaws.{Same-lengths}
+use Rattle.links.specs.Hearings.{Phase-by, Marked-hearing, Row-switched, Rows-switched}
 use Rattle.links.proofs.StepLaws.{fits-good}
-
--- ---- places found anew
-
-pub prepared-site : {n : ℕ} {t : Tables} {places highs : List ℕ} → Prepared n t places highs → Counted-site n t (length places) highs
-prepared-site k = record { good = k .good; places-length = k .places-length; highs-length = k .highs-length; counted = k .counted }
-
--- places written over
-pub with-places : {n : ℕ} {t : Tables} {p q : ℕ} {highs : List ℕ} → Counted-site n t p highs → q ≡ p → Counted-site n t q highs
-with-places k e = record { good = k .good; places-length = e ∙ k .places-length; highs-length = k .highs-length; counted = k .counted }
-
-pub places-found : {n : ℕ} {t : Tables} {places highs new : List ℕ} {found : Bool} → Counted-site n t (length places) highs
-    → Places-found (t .order) places new found → length new ≡ length places → Prepared n t new highs
-unfolding lengths-of is-k-order graph-in
-places-found {n} {t} {places} {highs} {new} {found} k f e =
-    let g = fits-good n t (k .good) in
-    let h = graph-in n (t .links) in
-    let long : length (t .order) ≡ n = g .lent .lengths .order in
-    let once : each-once (length (t .order)) (t .order) ≡ true =
-    rw long
-    (and-left (each-once n (t .order)) (rising (number h) (t .order) && few-later (linked h) (number h) (t .order)) (good-valid n t g .k-order)) in
-    let yes : found ≡ true =
-    f .answer ∙ rw (once, le-leb (length (t .order)) (min max-radios (length places)) (omega (arith, long, k .places-length, g .lent .most))) in
-    record {
-      good = k .good;
-      places-length = e ∙ k .places-length;
-      highs-length = k .highs-length;
-      placed = rw long at (f .placed yes);
-      counted = k .counted;
-    }
-
-pub same-site : {n : ℕ} {t : Tables} {p : ℕ} {hs : List ℕ} {u : Tables} {q : ℕ} {is : List ℕ} → Counted-site n t p hs → Counted-site n u q is → Same-lengths t p
-    hs u q is
-unfolding lengths-of
-same-site {n} {t} {p} {hs} {u} {q} {is} k j =
-    let s = fits-good n t (k .good) .lent .lengths in
-    let o = fits-good n u (j .good) .lent .lengths in
-    record {
-      links = o .links ∙ sym (s .links);
-      numbers = o .numbers ∙ sym (s .numbers);
-      order = o .order ∙ sym (s .order);
-      places = j .places-length ∙ sym (k .places-length);
-      highs = j .highs-length ∙ sym (k .highs-length);
-    }
 
 -- ---- the links of a row
 
@@ -112,29 +64,22 @@ module _ {up : Bool} {n a : ℕ} {bs : List ℕ} {t u : Tables} {places highs : 
 
   pub switching-end : length bs ≤ i → Row-switched up n a bs t u places highs
   switching-end l = record {
-    ready = prepared-site (w .prepared);
+    ready = w .prepared;
     left = λ p s e o. row-end (subst (λ (xs : List ℕ). Row-left n p s a (λ b. true) xs u) (drop-of-length-le bs l) (w .left p s e o));
   }
-
--- no link is listed
-pub switching-empty : (up : Bool) (n a : ℕ) (bs : List ℕ) {t : Tables} {places highs : List ℕ} → Counted-site n t (length places) highs → length bs ≡ 0
-    → Row-switched up n a bs t t places highs
-switching-empty up n a [] k e = record { ready = k; left = λ p s q o. row-end o }
-switching-empty up n a (b ∷ bs) k e = absurd (omega (arith, e))
 
 -- ---- the rows of a phase
 
 -- the rows before row a are done
-pub record Rows-switching (up : Bool) (n : ℕ) (hs : List ℕ) (t u : Tables) (places highs : List ℕ) (a : ℕ) : Type 0 where
+pub record Rows-switching (up : Bool) (n : ℕ) (hs ws : List ℕ) (t u : Tables) (places highs : List ℕ) (a : ℕ) : Type 0 where
   pub low : a ≤ n
-  pub size : Of-size n hs
-  pub few : agreed-few max-neighbours n hs ≡ true
-  pub ready : Counted-site n u (length places) highs
+  pub hearing : Marked-hearing n hs ws
+  pub ready : Prepared n u places highs
   pub left : (p : Phase) (s : Tables) → p .up ≡ up → Phase-by n hs p → Rows-left n p s 0 t → Rows-left n p s a u
 
-pub rows-none : (up : Bool) (n : ℕ) (hs : List ℕ) {t : Tables} {places highs : List ℕ} → Counted-site n t (length places) highs → Of-size n hs
-    → agreed-few max-neighbours n hs ≡ true → Rows-switching up n hs t t places highs 0
-rows-none up n hs k s f = record { low = omega arith; size = s; few = f; ready = k; left = λ p s e y r. r }
+pub rows-none : (up : Bool) (n : ℕ) (hs ws : List ℕ) {t : Tables} {places highs : List ℕ} → Prepared n t places highs → Marked-hearing n hs ws
+    → Rows-switching up n hs ws t t places highs 0
+rows-none up n hs ws k h = record { low = omega arith; hearing = h; ready = k; left = λ p s e y r. r }
 
 good-few : (n : ℕ) (t : Tables) → Good n t → few max-neighbours n (t .links) ≡ true
 unfolding rows-proper sound
@@ -152,7 +97,7 @@ good-size : (n : ℕ) (t : Tables) → Good n t → Of-size n (t .links)
 unfolding lengths-of
 good-size n t k = record { most = k .lent .most; long = k .lent .lengths .links }
 
-module _ {up : Bool} {n : ℕ} {hs : List ℕ} {t u : Tables} {places highs : List ℕ} {a : ℕ} (w : Rows-switching up n hs t u places highs a) where
+module _ {up : Bool} {n : ℕ} {hs ws : List ℕ} {t u : Tables} {places highs : List ℕ} {a : ℕ} (w : Rows-switching up n hs ws t u places highs a) where
   good : Good n u
   good = fits-good n u (w .ready .good)
 
@@ -182,7 +127,7 @@ module _ {up : Bool} {n : ℕ} {hs : List ℕ} {t u : Tables} {places highs : Li
           arith,
           count-mono (λ b. agreed hs a b && not (marked (u .links) a b)) (agreed hs a) radios (λ b i h. and-left (agreed hs a b) _ h),
           part-count (agreed hs a) n (omega arith),
-          leb-true (agreed-degree n hs a) max-neighbours (all-below (λ x. leb (agreed-degree n hs x) max-neighbours) n (w .few) a l),
+          leb-true (agreed-degree n hs a) max-neighbours (all-below (λ x. leb (agreed-degree n hs x) max-neighbours) n (w .hearing .few) a l),
         )
 
     few-down : count (λ b. marked (u .links) a b && not (agreed hs a b)) radios ≤ max-neighbours
@@ -191,7 +136,7 @@ module _ {up : Bool} {n : ℕ} {hs : List ℕ} {t u : Tables} {places highs : Li
         omega (
           arith,
           count-mono (λ b. marked (u .links) a b && not (agreed hs a b)) (marked (u .links) a) radios (λ b i h. and-left (marked (u .links) a b) _ h),
-          part-count (marked (u .links) a) max-radios (w .size .most),
+          part-count (marked (u .links) a) max-radios (w .hearing .size .most),
           few-of max-neighbours n (u .links) (good-few n u good) a l,
         )
 
@@ -205,9 +150,9 @@ module _ {up : Bool} {n : ℕ} {hs : List ℕ} {t u : Tables} {places highs : Li
         go false = few-down
 
   module _ (l : a < n) (old new : List ℕ) (k : ℕ) (room : length old ≡ suc max-neighbours)
-      (d : Wanted-listed up hs (u .links) a (length places) old k new) where
+      (d : Wanted-listed up hs ws (u .links) a old k new) where
     front : Is-prefix chosen k new
-    front = d .is n (w .size) (good-size n u good) (good-within n u good) l (w .ready .places-length) (omega (arith, few-chosen l, room))
+    front = d .is n (w .hearing .size) (w .hearing .further) (good-size n u good) (good-within n u good) l (omega (arith, few-chosen l, room))
 
     -- they fit the list
     pub rows-fit : length new ≡ length old → k ≤ length new
@@ -237,11 +182,10 @@ module _ {up : Bool} {n : ℕ} {hs : List ℕ} {t u : Tables} {places highs : Li
         ∙ ap (λ (x : Bool). cond x (agreed hs a b && not (p .marks a b)) (p .marks a b && not (agreed hs a b))) (sym e)
         ∙ sym (y a b lb ln))
 
-    pub rows-turn : (v : Tables) (qs is : List ℕ) → Row-switched up n a (take k new) u v qs is → Rows-switching up n hs t v qs is (a + 1)
+    pub rows-turn : (v : Tables) (qs is : List ℕ) → Row-switched up n a (take k new) u v qs is → Rows-switching up n hs ws t v qs is (a + 1)
     rows-turn v qs is c = record {
       low = omega (arith, l);
-      size = w .size;
-      few = w .few;
+      hearing = w .hearing;
       ready = c .ready;
       left = λ p s e y o.
           let r = w .left p s e y o in

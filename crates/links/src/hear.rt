@@ -1,22 +1,18 @@
 // A hearing: the site brought to the links that both ends hear, as if by single calls. The tables are checked once.
-ghost use mathlib.Core.Path.{_≡_};
-ghost use mathlib.Core.Bool.{true};
 ghost use Prim.Native.Nat.{_≤_};
 ghost use lib.ListN.{length};
-ghost use Rattle.mesh.specs.Limits.{max-radios, max-neighbours};
+ghost use Rattle.mesh.specs.Limits.{max-radios};
 ghost use Rattle.mesh.specs.Tables.{lent};
-ghost use Rattle.calls.specs.Heard.{agreed-few};
 ghost use Rattle.calls.specs.Contracts.Heard.{Hear-contract};
-ghost use Rattle.heard.specs.Hearing.{Of-size};
-ghost use Rattle.links.specs.Hearings.{Counted-site, Row-switched, Rows-switched, Brought, Hear-asked};
+ghost use Rattle.links.specs.Steps.{Prepared};
+ghost use Rattle.links.specs.Hearings.{Marked-hearing, Row-switched, Rows-switched, Brought, Hear-asked};
 use super::step;
 use calls::Refusal;
 use calls::Value;
 use mesh::Site;
 use tables::sizes;
 
-// Takes the links of a to the listed radios up or down, one by one. The not-lower counts of the tables are at hand before and after; places
-// hold anything before, and are found anew where there is a link to take.
+// Takes the links of a to the listed radios up or down, one by one. Places and not-lower counts are the tables', before and after.
 fn switch_row(
     up: bool,
     n: u32,
@@ -28,14 +24,10 @@ fn switch_row(
     places: &mut [u16],
     highs: &mut [u8],
 )
-    requires { ⌜ Counted-site n (lent links numbers order) (length (now places)) (now highs) × (length (now list) ≤ max-radios) ⌝ }
+    requires { ⌜ Prepared n (lent links numbers order) (now places) (now highs) × (length (now list) ≤ max-radios) ⌝ }
     ensures { λ _. ⌜ Row-switched up n a (now (list .entry)) (lent (links .entry) (numbers .entry) (order .entry))
         (lent (links .exit) (numbers .exit) (order .exit)) (now (places .exit)) (now (highs .exit)) ⌝ }
 {
-    if list.len() == 0 {
-        return;
-    }
-    soundness::places_of(order, places);
     let mut i: usize = 0;
     while i < list.len() {
         step::step(
@@ -54,48 +46,68 @@ fn switch_row(
 }
 
 // Takes the links that are wanted up, or down, row by row; the ones of a row, at most as many as a radio may have neighbours, are listed
-// before the first of them. In between, places serve as a list of the radios of a row.
-fn switch_rows(
+// before the first of them. `further` has the one-sided pairs.
+fn switch_rows<'a>(
     up: bool,
     n: u32,
-    heard: &[u8],
+    heard: &'a [u8],
+    further: &'a [u8],
     links: &mut [u8],
     numbers: &mut [u8],
     order: &mut [u16],
     places: &mut [u16],
     highs: &mut [u8],
 )
-    requires { ⌜ Counted-site n (lent links numbers order) (length (now places)) (now highs) × Of-size n (now heard) ×
-        (agreed-few max-neighbours n (now heard) ≡ true) ⌝ }
+    requires { ⌜ Prepared n (lent links numbers order) (now places) (now highs) × Marked-hearing n (now heard) (now further) ⌝ }
     ensures { λ _. ⌜ Rows-switched up n (now (heard .entry)) (lent (links .entry) (numbers .entry) (order .entry))
         (lent (links .exit) (numbers .exit) (order .exit)) (now (places .exit)) (now (highs .exit)) ⌝ }
 {
     let mut list = [0u16; Site::NEIGHBOURS as usize + 1];
     let mut a: u32 = 0;
     while a < n {
-        let k = heard::wanted::list(up, heard, links, a, places, &mut list);
+        let k = heard::wanted::list(up, heard, further, links, a, &mut list);
         switch_row(up, n, a, &list[..k], links, numbers, order, places, highs);
         a += 1;
     }
 }
 
 // Links to go down, then links to come up.
-fn bring(
+fn bring<'a>(
     n: u32,
-    heard: &[u8],
+    heard: &'a [u8],
+    further: &'a [u8],
     links: &mut [u8],
     numbers: &mut [u8],
     order: &mut [u16],
     places: &mut [u16],
     highs: &mut [u8],
 )
-    requires { ⌜ Counted-site n (lent links numbers order) (length (now places)) (now highs) × Of-size n (now heard) ×
-        (agreed-few max-neighbours n (now heard) ≡ true) ⌝ }
+    requires { ⌜ Prepared n (lent links numbers order) (now places) (now highs) × Marked-hearing n (now heard) (now further) ⌝ }
     ensures { λ _. ⌜ Brought n (now (heard .entry)) (lent (links .entry) (numbers .entry) (order .entry))
         (lent (links .exit) (numbers .exit) (order .exit)) ⌝ }
 {
-    switch_rows(false, n, heard, links, numbers, order, places, highs);
-    switch_rows(true, n, heard, links, numbers, order, places, highs);
+    switch_rows(
+        false,
+        n,
+        heard,
+        further,
+        links,
+        numbers,
+        order,
+        places,
+        highs,
+    );
+    switch_rows(
+        true,
+        n,
+        heard,
+        further,
+        links,
+        numbers,
+        order,
+        places,
+        highs,
+    );
 }
 
 // Questions 1 to 3, 14 and 7 of a hearing whose further table has so many bytes. At 0, `places` and `highs` hold the place and the not-lower
@@ -158,8 +170,17 @@ pub fn hear(
     if number != 0 {
         return Value { number, value: 0 };
     }
-    let count = heard::one_sided::mark(n, heard, further, &mut places);
-    bring(n, heard, links, numbers, order, &mut places, &mut highs);
+    let count = heard::one_sided::mark(n, heard, further);
+    bring(
+        n,
+        heard,
+        further,
+        links,
+        numbers,
+        order,
+        &mut places,
+        &mut highs,
+    );
     Value {
         number: 0,
         value: count,

@@ -1,53 +1,60 @@
--- `one_sided::mark_row` meets its contract: what is left of the list gives what all of it gives (`Folding`), and what is counted so far and
--- what is left is the whole count. The measure is what is left of the list.
-use Prim.Native.Nat.{_-_}
+-- `one_sided::mark_row` meets its contract: the words of the row are taken one by one, and what is left of the row gives with what is marked
+-- what the whole row gives (`Words-marking`). The measure is the words that are left.
+use mathlib.Core.Path.{_∙_}
+use Prim.Native.Nat.{ℕ, _+_, _*_, _-_, _<_}
 use native.Mathlib.Omega.{arith}
-use lib.ListN.{length}
+use lib.ListN.{getD}
 use borrow.Author.Needs.{needs}
-use mathlib.Core.Bool.{not}
-use Prim.Native.Nat.{ℕ}
-use Rattle.lists.proofs.Loops.{Folding, folding-none, folding-turn, folding-end, folding-long, Counted-from, counted-end}
-use Rattle.heard.specs.Hearing.{hears, alone-put}
-use Rattle.heard.proofs.RowLaws.{tally-fits, tally-turn}
-use Rattle.heard.proofs.MarkLaws.{length-alone-put}
+use Rattle.mesh.specs.Limits.{row-bytes}
+use Rattle.rows.proofs.RowWords.{word-of-row}
+use Rattle.heard.proofs.TallyLaws.{row-fits}
+use Rattle.heard.proofs.MarkLaws.{Words-marking, words-none, words-turn, words-end}
 use Rattle.heard.proofs.one_sided.mark_row.Statement.{statement}
 use Rattle.heard.proofs.one_sided.mark_row.Tie as tie
 
 abbrev Inv-loop : tie.InvT-loop
-Inv-loop heard a list further₀ n₀ i₀ further n i =
-    Folding (alone-put heard a) list further₀ further i × Counted-from (λ (b : ℕ). not (hears heard a b)) list n i
+Inv-loop heard a further₀ start end row n₀ k₀ further n k = Words-marking heard a further₀ k n further
 
 abbrev μ-loop : tie.MeasureT-loop
-μ-loop heard a list further₀ n₀ i₀ further n i = length list - i
+μ-loop heard a further₀ start end row n₀ k₀ further n k = 8 - k
 
-cast-mark-pair : tie.Need-cast-mark-pair Inv-loop μ-loop
-cast-mark-pair c = omega (arith, c .shared-slice-known3 .given (c .before .before .loop .i))
+part-row-end : tie.Need-part-row-end Inv-loop μ-loop
+part-row-end c = omega (arith, c .before .before .pre)
+
+mark-word-requires : tie.Need-mark-word-requires Inv-loop μ-loop
+mark-word-requires c κs = omega (arith, c .before .before .loop-test .taken)
 
 add-n : tie.Need-add-n Inv-loop μ-loop
 add-n c =
-    let at-loop = c .before .before .before .before .before .before in
-    tally-fits _ _ (c .before .before .mark-pair .result) (at-loop .loop .inv .1 .0) (omega
-    (arith, at-loop .before .before .before .before .pre, c .before .before .before .before .before .loop-test .taken))
+    let marked = c .before .before in
+    let read = marked .before .before in
+    let at-loop = read .before .before in
+    let given = at-loop .before .before .before in
+    let x = given .before .args in
+    let l = read .before .loop-test .taken in
+    let bytes : (j : ℕ) → getD (x .heard .now) j 0 < 256 = λ j. given .shared-slice-known .given j .fits in
+    row-fits _ _ (words-turn bytes (at-loop .loop .inv) l
+    (read .word-of .ensures
+    ∙ word-of-row (x .heard .now) (x .a) (at-loop .loop .k) (row-bytes * x .a + row-bytes - row-bytes * x .a) (omega arith) (given .before .pre) l)
+    (marked .mark-word .ensures) .1 .tally)
 
 loop-again : tie.Need-loop-again Inv-loop μ-loop
 loop-again c =
-    let at-loop = c .before .before .before .before .before .before in
-    let l = c .before .before .before .before .before .loop-test .taken in
-    let d = c .before .before .mark-pair .ensures in
-    (folding-turn _ _ _ _ _ _ (at-loop .loop .inv .0) l (d .table), tally-turn _ _ _ _ _ l (d .answer) (at-loop .loop .inv .1))
-
-returns : tie.Need-returns Inv-loop μ-loop
-returns c =
-    let at-loop = c .before in
-    record {
-      counted = counted-end _ _ _ _ (omega (arith, at-loop .loop .inv .0 .low, c .loop-test .left)) (at-loop .loop .inv .1);
-      table = folding-end _ _ _ _ _ (at-loop .loop .inv .0) (c .loop-test .left);
-    }
+    let marked = c .before .before in
+    let read = marked .before .before in
+    let at-loop = read .before .before in
+    let given = at-loop .before .before .before in
+    let x = given .before .args in
+    let l = read .before .loop-test .taken in
+    let bytes : (j : ℕ) → getD (x .heard .now) j 0 < 256 = λ j. given .shared-slice-known .given j .fits in
+    words-turn bytes (at-loop .loop .inv) l
+    (read .word-of .ensures
+    ∙ word-of-row (x .heard .now) (x .a) (at-loop .loop .k) (row-bytes * x .a + row-bytes - row-bytes * x .a) (omega arith) (given .before .pre) l)
+    (marked .mark-word .ensures)
 
 pub mark-row-spec : {M : Type 1} → statement M
 mark-row-spec =
     tie.close (
-    tie.spec Inv-loop μ-loop (λ c. (folding-none _ _ _, (omega arith, omega arith))) (λ c. search needs) (λ c. search needs) cast-mark-pair
-    (λ c κs. search needs)
-    (λ c. search needs) add-n (λ c. search needs) (λ c. search needs) loop-again
-    (λ c. folding-long _ (λ b s. length-alone-put _ _ b s) _ _ _ _ (c .before .loop .inv .0)) returns)
+    tie.spec Inv-loop μ-loop (λ c. search needs) (λ c. search needs) (λ c. search needs) (λ c. search needs) part-row-end (λ c. words-none _ _ _)
+    (λ c. search needs) (λ c κs. search needs) mark-word-requires add-n (λ c. search needs) (λ c. search needs) loop-again
+    (λ c. c .before .loop .inv .1 .long) (λ c. words-end (c .before .loop .inv) (c .loop-test .left)))

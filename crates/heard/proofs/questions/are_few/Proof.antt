@@ -19,12 +19,12 @@ abbrev μ-loop : tie.MeasureT-loop
 returns : tie.Need-returns Inv-loop μ-loop
 returns c = λ s.
     let l = c .before .before .loop-test .taken in
-    few-no _ _ _ l (sym (c .before .is-few .ensures s l) ∙ not-true _ (c .if1 .taken))
+    few-no _ _ _ l (sym (c .before .is-few .ensures _ s l) ∙ not-true _ (c .if1 .taken))
 
 loop-again : tie.Need-loop-again Inv-loop μ-loop
 loop-again c = λ s.
     let l = c .before .before .loop-test .taken in
-    few-turn _ _ _ (c .before .before .before .loop .inv s) (sym (c .before .is-few .ensures s l) ∙ not-false _ (c .if1 .left))
+    few-turn _ _ _ (c .before .before .before .loop .inv s) (sym (c .before .is-few .ensures _ s l) ∙ not-false _ (c .if1 .left))
 
 returns-2 : tie.Need-returns-2 Inv-loop μ-loop
 returns-2 c = λ s. few-end _ _ _ (c .before .loop .inv s) (c .loop-test .left)

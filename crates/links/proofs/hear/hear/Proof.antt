@@ -2,7 +2,7 @@
 use mathlib.Core.Path.{refl}
 use borrow.Author.Needs.{needs}
 use Rattle.mesh.specs.Tables.{tables}
-use Rattle.links.proofs.HearCall.{hear-refused, hear-ready, hear-size, hear-few, hear-done}
+use Rattle.links.proofs.HearCall.{hear-refused, hear-prepared, hear-marked, hear-done}
 use Rattle.links.proofs.hear.hear.Statement.{statement}
 use Rattle.links.proofs.hear.hear.Tie as tie
 
@@ -16,30 +16,27 @@ returns c =
 bring-requires : tie.Need-bring-requires
 bring-requires c κs =
     let marked = c .before .before .before .before .before .before .before .before in
-    let asked = marked .before .before .before .before .before .before in
+    let asked = marked .before .before .before .before .before in
     let x = asked .before .before .before .before .before .before .before .before .before .before .before .args in
-    let yes = marked .before .before .before .if1 .left in (
-      hear-ready (x .n) (x .heard .now) (x .further .now) (tables (x .links .now) (x .numbers .now) (x .order .now)) _ _ refl refl _ _ (asked .refusal .result)
-          (asked .refusal .ensures) yes _ (marked .mark .kept .1 .1 .1 .0),
-      hear-size (x .n) (x .heard .now) (x .further .now) (tables (x .links .now) (x .numbers .now) (x .order .now)) _ _ refl refl _ _ (asked .refusal .result)
+    let yes = marked .before .before .if1 .left in (
+      hear-prepared (x .n) (x .heard .now) (x .further .now) (tables (x .links .now) (x .numbers .now) (x .order .now)) _ _ refl refl _ _ (asked .refusal .result)
           (asked .refusal .ensures) yes,
-      hear-few (x .n) (x .heard .now) (x .further .now) (tables (x .links .now) (x .numbers .now) (x .order .now)) _ _ refl refl _ _ (asked .refusal .result)
-          (asked .refusal .ensures) yes,
+      hear-marked (x .n) (x .heard .now) (x .further .now) (tables (x .links .now) (x .numbers .now) (x .order .now)) _ _ refl refl _ _ (asked .refusal .result)
+          (asked .refusal .ensures) yes (marked .mark .result) _ (marked .mark .ensures),
     )
 
 returns-2 : tie.Need-returns-2
 returns-2 c =
     let brought = c .before .before .before .before .before .before .before .before in
     let marked = brought .before .before .before .before .before .before .before .before .before in
-    let asked = marked .before .before .before .before .before .before in
+    let asked = marked .before .before .before .before .before in
     let x = asked .before .before .before .before .before .before .before .before .before .before .before .args in
     hear-done (x .n) (x .heard .now) (x .further .now) (tables (x .links .now) (x .numbers .now) (x .order .now)) _ _ refl refl _ _ (asked .refusal .result)
-    (asked .refusal .ensures) (marked .before .before .before .if1 .left)
-    (marked .mark .result) _ _ (asked .refusal .kept .1 .1 .1 .1 .1 .1 .0) (marked .mark .ensures) _ (brought .bring .ensures)
+    (asked .refusal .ensures) (marked .before .before .if1 .left) (marked .mark .result) _ (marked .mark .ensures) _ (brought .bring .ensures)
 
 pub hear-spec : {M : Type 1} → statement M
 hear-spec =
     tie.close (
     tie.spec (λ c. search needs) (λ c. search needs) (λ c κs. search needs) (λ c. search needs) (λ c. search needs) (λ c. search needs) returns
-    (λ c. search needs) (λ c κs. search needs) (λ c. search needs) (λ c. search needs) bring-requires (λ c. search needs) (λ c. search needs)
+    (λ c κs. search needs) (λ c. search needs) (λ c. search needs) bring-requires (λ c. search needs) (λ c. search needs)
     (λ c. search needs) (λ c. search needs) returns-2)

@@ -1,11 +1,12 @@
--- `hear::switch_row` meets its contract: without a link nothing changes; else places are found, and what is left of the list gives what the
--- whole list gives (`Row-switching`). The measure is what is left of the list.
+-- `hear::switch_row` meets its contract: what is left of the list gives what the whole list gives (`Row-switching`). The measure is what is
+-- left of the list.
 use Prim.Native.Nat.{_-_}
 use native.Mathlib.Omega.{arith}
 use lib.ListN.{length}
 use borrow.Author.Needs.{needs}
 use Rattle.mesh.specs.Tables.{tables}
-use Rattle.links.proofs.HearLoops.{prepared-site, places-found, same-site, Row-switching, switching-none, switching-turn, switching-end, switching-empty}
+use Rattle.links.proofs.BatchLaws.{same-lengths}
+use Rattle.links.proofs.HearLoops.{Row-switching, switching-none, switching-turn, switching-end}
 use Rattle.links.proofs.hear.switch_row.Statement.{statement}
 use Rattle.links.proofs.hear.switch_row.Tie as tie
 
@@ -16,16 +17,8 @@ Inv-loop up n a list links₀ numbers₀ order₀ places₀ highs₀ i₀ links 
 abbrev μ-loop : tie.MeasureT-loop
 μ-loop up n a list links₀ numbers₀ order₀ places₀ highs₀ i₀ links numbers order places highs i = length list - i
 
-returns : tie.Need-returns Inv-loop μ-loop
-returns c =
-    let start = c .before .before .before .before .before .before .before in
-    switching-empty _ _ _ _ (start .pre .0) (c .if1 .taken)
-
 loop-holds : tie.Need-loop-holds Inv-loop μ-loop
-loop-holds c =
-    let found = c .before .before .places-of in
-    switching-none _ _ _ _ (places-found (c .before .before .before .before .before .before .before .before .before .before .before .before .pre .0)
-    (found .ensures) (found .kept .1 .0))
+loop-holds c = switching-none _ _ _ _ (c .before .before .before .before .before .before .pre .0)
 
 cast-step : tie.Need-cast-step Inv-loop μ-loop
 cast-step c = omega (arith, c .shared-slice-known2 .given (c .before .before .loop .i))
@@ -33,7 +26,7 @@ cast-step c = omega (arith, c .shared-slice-known2 .given (c .before .before .lo
 add-i : tie.Need-add-i Inv-loop μ-loop
 add-i c =
     let in-loop = c .before .before .before .before .before .before .before .before .before .before .before .before .before .before .before .before .before in
-    let start = in-loop .before .before .before .before .before .before .before .before .before .before .before .before .before .before in
+    let start = in-loop .before .before .before .before .before .before .before .before in
     record { fits = omega (arith, start .pre .1, in-loop .loop-test .taken) }
 
 loop-again : tie.Need-loop-again Inv-loop μ-loop
@@ -46,16 +39,11 @@ loop-again c =
 pub switch-row-spec : {M : Type 1} → statement M
 switch-row-spec =
     tie.close (
-    tie.spec Inv-loop μ-loop returns (λ c κs. search needs) loop-holds (λ c. search needs) (λ c. search needs) cast-step
+    tie.spec Inv-loop μ-loop loop-holds (λ c. search needs) (λ c. search needs) cast-step
     (λ c κs. c .before .before .before .before .before .before .before .loop .inv .prepared) add-i (λ c. search needs) loop-again
-    (λ c. same-site (c .before .before .before .before .before .before .before .before .before .before .before .before .before .before .pre .0)
-    (prepared-site (c .before .loop .inv .prepared)) .links)
-    (λ c. same-site (c .before .before .before .before .before .before .before .before .before .before .before .before .before .before .pre .0)
-    (prepared-site (c .before .loop .inv .prepared)) .numbers)
-    (λ c. same-site (c .before .before .before .before .before .before .before .before .before .before .before .before .before .before .pre .0)
-    (prepared-site (c .before .loop .inv .prepared)) .order)
-    (λ c. same-site (c .before .before .before .before .before .before .before .before .before .before .before .before .before .before .pre .0)
-    (prepared-site (c .before .loop .inv .prepared)) .places)
-    (λ c. same-site (c .before .before .before .before .before .before .before .before .before .before .before .before .before .before .pre .0)
-    (prepared-site (c .before .loop .inv .prepared)) .highs)
+    (λ c. same-lengths (c .before .before .before .before .before .before .before .before .pre .0) (c .before .loop .inv .prepared) .links)
+    (λ c. same-lengths (c .before .before .before .before .before .before .before .before .pre .0) (c .before .loop .inv .prepared) .numbers)
+    (λ c. same-lengths (c .before .before .before .before .before .before .before .before .pre .0) (c .before .loop .inv .prepared) .order)
+    (λ c. same-lengths (c .before .before .before .before .before .before .before .before .pre .0) (c .before .loop .inv .prepared) .places)
+    (λ c. same-lengths (c .before .before .before .before .before .before .before .before .pre .0) (c .before .loop .inv .prepared) .highs)
     (λ c. switching-end (c .before .loop .inv) (c .loop-test .left)))
