@@ -11,7 +11,13 @@ static unsigned c_ends(int up, uint32_t n, uint32_t a, uint32_t b, const uint8_t
     return up && (row_count(links, a) >= NEIGHBOURS || row_count(links, b) >= NEIGHBOURS) ? 7 : 0;
 }
 
-/* From places and not-lower counts of every radio; the counts are used up. */
+/* Takes one off the counter of v, where v is of the level; its place fits if the counter is then `most`. */
+static void c_lose(unsigned v, unsigned level, unsigned most, const uint8_t *numbers, const uint16_t *places, uint8_t *counters, uint64_t *fits) {
+    if (numbers[v] == level && --counters[v] == most) fits[places[v] / 64] |= 1ull << places[v] % 64;
+}
+
+/* From places and not-lower counts of every radio; the counts are used up. Going down only an end can fit before the first turn, and where
+ * nobody is taken nothing moves. */
 static void c_peel(int up, const struct lent *t, uint32_t a, uint32_t b, const uint16_t *places, uint8_t *counters, struct c_plan *plan) {
     uint16_t *stretch = plan->stretch, list[NEIGHBOURS + 1];
     uint64_t fits[8] = {0};
@@ -20,23 +26,25 @@ static void c_peel(int up, const struct lent *t, uint32_t a, uint32_t b, const u
     const uint16_t *order = t->order;
     unsigned level = numbers[a] < numbers[b] ? numbers[a] : numbers[b], most = up ? level : level - 1;
     unsigned start = 0, size = 0, taken = 0;
-    for (unsigned v = 0; v < n; v++) start += numbers[v] < level, size += numbers[v] == level;
-    if (numbers[a] == level) counters[a] += up ? 1 : -1;
-    if (numbers[b] == level) counters[b] += up ? 1 : -1;
-    for (unsigned p = start; p < start + size; p++)
-        if (counters[order[p]] <= most) fits[p / 64] |= 1ull << p % 64;
+    if (up) {
+        c_stretch(n, numbers, level, &start, &size);
+        counters[a] += numbers[a] == level, counters[b] += numbers[b] == level;
+        for (unsigned p = start; p < start + size; p++)
+            if (counters[order[p]] <= most) fits[p / 64] |= 1ull << p % 64;
+    } else {
+        c_lose(a, level, most, numbers, places, counters, fits);
+        c_lose(b, level, most, numbers, places, counters, fits);
+    }
     for (unsigned p; (p = first_bit(fits)) < RADIOS;) {
         unsigned v = order[p], other = v == a ? b : v == b ? a : n;
         stretch[taken++] = v;
         fits[p / 64] &= ~(1ull << p % 64);
         unsigned m = row_list(links, v, list, NEIGHBOURS + 1);
         if (other < n && up) list[m++] = other;
-        for (unsigned i = 0; i < m; i++) {
-            unsigned x = list[i];
-            if (numbers[x] != level || (!up && x == other)) continue;
-            if (--counters[x] == most) fits[places[x] / 64] |= 1ull << places[x] % 64;
-        }
+        for (unsigned i = 0; i < m; i++)
+            if (up || list[i] != other) c_lose(list[i], level, most, numbers, places, counters, fits);
     }
+    if (!up && taken) c_stretch(n, numbers, level, &start, &size);
     for (unsigned p = start, j = taken; p < start + size; p++)
         if (counters[order[p]] > most) stretch[j++] = order[p];
     plan->start = start, plan->size = size, plan->taken = taken;
@@ -126,7 +134,7 @@ static void c_step(int up, const struct lent *t, uint32_t a, uint32_t b, uint16_
     c_plan_link(up, t, a, b, places, counters, &plan);
     c_apply(up, t, a, b, &plan);
     struct c_reply r = c_report(up, &plan, changed, RADIOS);
-    c_place(t->n, t->order, places);
+    for (unsigned i = 0; i < plan.size; i++) places[t->order[plan.start + i]] = plan.start + i;
     c_renew(t, a, b, changed, r.count, highs);
 }
 

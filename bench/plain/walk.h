@@ -11,6 +11,19 @@ struct c_plan {
 
 #define SMALL 16 /* radios of a level that is peeled in any case */
 
+#define PART 128 /* numbers that are counted in bytes at a time */
+
+/* The stretch of a level: how many numbers are below it, and how many are equal to it. */
+static void c_stretch(uint32_t n, const uint8_t *numbers, unsigned level, unsigned *start, unsigned *size) {
+    *start = *size = 0;
+    for (unsigned v = 0; v < n;) {
+        unsigned end = n - v < PART ? n : v + PART;
+        uint8_t below = 0, equal = 0;
+        for (; v < end; v++) below += numbers[v] < level, equal += numbers[v] == level;
+        *start += below, *size += equal;
+    }
+}
+
 static unsigned first_bit(const uint64_t *set) {
     for (unsigned i = 0; i < 8; i++)
         if (set[i]) return 64 * i + __builtin_ctzll(set[i]);
@@ -100,22 +113,23 @@ static void c_go(struct c_walk *w, unsigned first, unsigned size, struct c_plan 
         if (w->held[tail[i]]) list[j++] = tail[i];
 }
 
-/* The plan of a link going up, but where the beginning end leads its level, or the level is small: then 0, and the level is to be peeled. */
+/* The plan of a link going up, but where the beginning end leads a level above 0, or the level is small: then 0, and the level is to be
+ * peeled. */
 static int c_rise(const struct lent *t, uint32_t a, uint32_t b, const uint16_t *places, struct c_plan *plan) {
     const uint8_t *numbers = t->numbers;
     struct c_walk w = {.t = t, .places = places, .a = a, .b = b};
     uint16_t near[NEIGHBOURS + 1];
     unsigned e = numbers[a] < numbers[b] || (numbers[a] == numbers[b] && places[a] < places[b]) ? a : b;
-    unsigned first = places[e], start = 0, end = 0;
+    unsigned first = places[e], start, size;
     w.level = numbers[e];
-    if (first == 0 || numbers[t->order[first - 1]] < w.level) return 0;
+    if (w.level && (first == 0 || numbers[t->order[first - 1]] < w.level)) return 0;
     if (c_left(&w, near, c_near(&w, e, near), first) <= w.level) {
         plan->start = first, plan->size = plan->taken = 0;
         return 1;
     }
-    for (unsigned v = 0; v < t->n; v++) start += numbers[v] < w.level, end += numbers[v] <= w.level;
-    if (end - start <= SMALL) return 0;
-    c_go(&w, first, end - first, plan);
+    c_stretch(t->n, numbers, w.level, &start, &size);
+    if (size <= SMALL) return 0;
+    c_go(&w, first, start + size - first, plan);
     return 1;
 }
 #endif

@@ -86,11 +86,12 @@ module _ (up : Bool) (n a b : ℕ) (t : Tables) (w lent : List ℕ) (q start siz
   unfolding Link-contract
   link-accepted z r v x d = by-accepted R (λ p. Link-refused p t w r v x) (sym number-decided ∙ z) (link-applied z r v x (d .fitting (fits-decided z)))
 
--- ---- going up
+-- ---- going up or down
 
-pub ready-up : {up : Bool} {n a b : ℕ} {t : Tables} {places highs : List ℕ} → up ≡ true → Ready up n a b t places highs → Ready true n a b t places highs
-ready-up {up} {n} {a} {b} {t} {places} {highs} e r = subst (λ (u : Bool). Ready u n a b t places highs) e r
+pub ready-as : {up u : Bool} {n a b : ℕ} {t : Tables} {places highs : List ℕ} → up ≡ u → Ready up n a b t places highs → Ready u n a b t places highs
+ready-as {n = n} {a = a} {b = b} {t = t} {places = places} {highs = highs} e r = subst (λ (w : Bool). Ready w n a b t places highs) e r
 
-pub planned-up : {up : Bool} {a b : ℕ} {g : Graph} {order : List ℕ} {start size taken : ℕ} {stretch : List ℕ} → up ≡ true
-    → Planned true a b g order start size taken stretch → Planned up a b g order start size taken stretch
-planned-up {up} {a} {b} {g} {order} {start} {size} {taken} {stretch} e p = subst (λ (u : Bool). Planned u a b g order start size taken stretch) (sym e) p
+pub planned-for : {up u : Bool} {a b : ℕ} {g : Graph} {order : List ℕ} {start size taken : ℕ} {stretch : List ℕ} → up ≡ u
+    → Planned u a b g order start size taken stretch → Planned up a b g order start size taken stretch
+planned-for {a = a} {b = b} {g = g} {order = order} {start = start} {size = size} {taken = taken} {stretch = stretch} e p =
+    subst (λ (w : Bool). Planned w a b g order start size taken stretch) (sym e) p

@@ -4,17 +4,16 @@ use mathlib.Core.Path.{_≡_, refl, sym, ap, subst, _∙_}
 use mathlib.Core.Logic.{_⊎_, inl, inr}
 use mathlib.Core.Bool.{Bool, true, false, _||_, cond}
 use mathlib.Core.List.{List, [], _∷_}
-use Prim.Native.Nat.{ℕ, suc, _+_, _*_, _≤_, _<_, min, _^_}
+use Prim.Native.Nat.{ℕ, suc, _+_, _*_, _≤_, _<_, min}
 use native.Mathlib.Omega.{arith}
-use mir.Syntax.{w8}
-use mir.Val.{boolByte, Fits}
+use mir.Val.{boolByte}
 use lib.Dec.{leb, eqb}
 use lib.ListN.{length, getD, set, take, replicate, length-replicate, length-set}
 use lib.Seq.{take-all, length-take-le, getD-take, getD-set-same, getD-set-other}
 use borrow.Author.Tests.{eqb-true, eqb-false, eq-eqb, ne-eqb}
 use Rattle.mesh.specs.Limits.{max-radios, max-neighbours, row-bytes}
 use Rattle.lists.specs.Lists.{folded, range, count, member, overwrite, In}
-use Rattle.lists.proofs.Tests.{bool-cases, never, bit-one, byte-bit, or-cases, or-left, or-right}
+use Rattle.lists.proofs.Tests.{bool-cases, never, or-cases, or-left, or-right}
 use Rattle.lists.proofs.Member.{in-getD, getD-of-in, member-in, in-member}
 use Rattle.lists.proofs.Filter.{filter-le}
 use Rattle.lists.proofs.Range.{length-range}
@@ -32,10 +31,6 @@ use Rattle.links.proofs.TurnLaws.{marked-put}
 use Rattle.links.specs.Steps.{around, all-around, touched, recounted, Rows-known}
 
 -- ---- a counted list
-
--- a byte is enough for a count of neighbours
-pub count-fits : (n i : ℕ) (t : Bool) → n ≤ i → i < max-neighbours → Fits w8 (n + boolByte t)
-count-fits n i t h l = record { fits = omega (arith, byte-bit t, bit-one t) }
 
 -- the list is the front of a longer one
 pub counted-front : (f : ℕ → Bool) (list : List ℕ) (k n i : ℕ) → k ≤ length list → i < k → Counted-from f (take k list) n i

@@ -20,6 +20,8 @@ pub mod PlanLevel
 pub mod PlanStart
 pub mod PlanEnd
 pub mod PlanCall
+-- the plan of a link going down
+pub mod FallPlan
 -- a plan applied
 pub mod Applied
 -- a call refused and accepted
@@ -34,6 +36,8 @@ pub mod WalkSteps
 pub mod WalkPlan
 -- not-lower counts after a link
 pub mod CountLaws
+-- places after a link
+pub mod PlacesLaws
 -- a link on tables known to be sound
 pub mod StepLaws
 -- a batch

@@ -3,13 +3,13 @@
 -- the bound are the stuck ones.
 use mathlib.Core.Path.{_≡_, refl, sym, ap, _∙_}
 use mathlib.Core.Logic.{_⊎_, inl, inr}
-use mathlib.Core.Bool.{Bool, true, false, _&&_, _||_, cond, or-false}
+use mathlib.Core.Bool.{Bool, true, false, _&&_, _||_, cond}
 use mathlib.Core.List.{List, [], _∷_, _++_}
 use Prim.Native.Nat.{ℕ, _+_, _-_, _≤_, _<_}
 use native.Mathlib.Omega.{arith}
 use lib.Dec.{ltb, leb, eqb}
 use lib.ListN.{length, getD, length-append}
-use borrow.Author.Tests.{eqb-true, eqb-false, eq-eqb, ne-eqb, leb-true, leb-false, le-leb, lt-leb, lt-ltb, le-ltb}
+use borrow.Author.Tests.{eqb-true, eqb-false, ne-eqb, leb-true, leb-false, lt-ltb, le-ltb}
 use Rattle.mesh.specs.Limits.{max-radios, row-bytes}
 use Rattle.lists.specs.Lists.{count, filter, member, head-or, In, Distinct, Rising}
 use Rattle.mesh.specs.Tables.{marked, put-bit}
@@ -25,7 +25,7 @@ use Rattle.rows.specs.Rows.{neighbours-of}
 use Rattle.rows.proofs.RowListLaws.{distinct-neighbours-of, in-neighbours-of, member-neighbours-of}
 use Rattle.links.specs.Turns.{released, places-released, Releasable}
 use Rattle.links.specs.Peels.{stretch, above, Level, Turning}
-use Rattle.links.proofs.TurnLaws.{marked-put, getD-released, marked-released, marked-released-place}
+use Rattle.links.proofs.TurnLaws.{marked-put, getD-released-level, fits-released, marked-released, marked-released-place}
 use Rattle.links.proofs.TurnLoops.{length-released, length-places-released}
 use Rattle.links.proofs.StretchLoops.{length-stretch}
 use Rattle.lists.proofs.Ascending.{rising-filter, rising-before}
@@ -157,12 +157,7 @@ module _ {f : ℕ → ℕ → Bool} {ns os ps : List ℕ} {k start size : ℕ} (
         counter-after : (w : ℕ) → In w level → getD cs1 w 0 + cond (f v w) 1 0 ≡ getD cs w 0
         counter-after w i =
             let s = stretch-stands lv w i in
-            ap (λ (b : Bool). getD cs1 w 0 + cond b 1 0) (sym (member-near w (s .below)) ∙ and-right-true (member w near) (eqb (getD ns w 0) k) (eq-eqb (getD ns w 0) k (s .level)))
-            ∙ getD-released ns k ps near cs taken-releasable w
-          where
-            and-right-true : (a b : Bool) → b ≡ true → a ≡ (a && b)
-            and-right-true true b e = sym e
-            and-right-true false b e = refl
+            ap (λ (b : Bool). getD cs1 w 0 + cond b 1 0) (sym (member-near w (s .below))) ∙ getD-released-level ns k ps near cs taken-releasable w (s .level)
 
         counter-less-or-same : (w : ℕ) → In w level → getD cs1 w 0 ≤ getD cs w 0
         counter-less-or-same w i = omega (arith, counter-after w i)
@@ -235,17 +230,6 @@ module _ {f : ℕ → ℕ → Bool} {ns os ps : List ℕ} {k start size : ℕ} (
                   back (inl a) = in-left w xs (v ∷ ys) a
                   back (inr b) = in-right w xs (v ∷ ys) (inr b)
 
-          -- a counter that falls to the bound, and one that was there
-          left-fitting : (t : Bool) (x y : ℕ) → y + cond t 1 0 ≡ x → (leb x m || (t && eqb y m)) ≡ leb y m
-          left-fitting false x y e = or-false (leb x m) ∙ ap (λ (z : ℕ). leb z m) (omega arith)
-          left-fitting true x y e = go (bool-cases (leb x m)) (bool-cases (eqb y m))
-            where
-              go : (leb x m ≡ true) ⊎ (leb x m ≡ false) → (eqb y m ≡ true) ⊎ (eqb y m ≡ false) → (leb x m || eqb y m) ≡ leb y m
-              go (inl a) b = ap (λ (z : Bool). z || eqb y m) a ∙ sym (le-leb y m (omega (arith, leb-true x m a)))
-              go (inr a) (inl b) = ap (λ (z : Bool). z || eqb y m) a ∙ b ∙ sym (le-leb y m (omega (arith, eqb-true y m b)))
-              go (inr a) (inr b) =
-                  ap (λ (z : Bool). z || eqb y m) a ∙ b ∙ sym (lt-leb y m (omega (arith, leb-false x m a, eqb-false y m b)))
-
           taken-unfit : (t : Bool) (x y : ℕ) → y + cond t 1 0 ≡ x → x ≤ m → (t && eqb y m) ≡ false
           taken-unfit false x y e l = refl
           taken-unfit true x y e l = ne-eqb y m (λ q. omega arith)
@@ -257,7 +241,7 @@ module _ {f : ℕ → ℕ → Bool} {ns os ps : List ℕ} {k start size : ℕ} (
               s = stretch-stands lv w i
 
               others : (v ≡ w → ⊥) → (t : Bool) → member w left ≡ t → ((t && leb (getD cs w 0) m) || (f v w && eqb (getD cs1 w 0) m)) ≡ (t && leb (getD cs1 w 0) m)
-              others ne true e = left-fitting (f v w) (getD cs w 0) (getD cs1 w 0) (counter-after w i)
+              others ne true e = fits-released m (f v w) (getD cs w 0) (getD cs1 w 0) (counter-after w i)
               others ne false e = used (level-cases w i)
                 where
                   used : In w taken ⊎ In w left → (f v w && eqb (getD cs1 w 0) m) ≡ false

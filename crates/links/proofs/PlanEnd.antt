@@ -1,13 +1,13 @@
 -- What a plan comes to: the taken, then the stuck, are document 01's layout of the stretch, and one part of them the changed radios.
-use mathlib.Core.Path.{_≡_, sym, ap, ap₂, subst, _∙_}
+use mathlib.Core.Path.{_≡_, refl, sym, ap, ap₂, subst, _∙_}
 use mathlib.Core.Logic.{_⊎_, inl, inr}
 use mathlib.Core.Bool.{Bool, true, false, cond}
-use mathlib.Core.List.{List, _++_, append-assoc}
+use mathlib.Core.List.{List, [], _++_, append-assoc}
 use Prim.Native.Nat.{ℕ, _+_, _≤_, _<_}
 use native.Mathlib.Omega.{arith}
 use lib.Dec.{ltb}
-use lib.ListN.{length, getD, take, drop, length-append}
-use lib.Seq.{sets, sets-eq, length-sets, take-at, drop-at, take-take, getD-take, length-take-le}
+use lib.ListN.{length, getD, take, drop, length-append, take-append-drop}
+use lib.Seq.{paste, paste-zero, drop-drop, sets, sets-eq, length-sets, take-at, drop-at, take-take, getD-take, length-take-le}
 use Rattle.mesh.specs.Limits.{max-neighbours}
 use Rattle.lists.specs.Lists.{filter, member, In}
 use Rattle.mesh.specs.Graph.{Graph, linked, relinked}
@@ -17,7 +17,7 @@ use Rattle.mesh.specs.Tables.{tables, graph-in}
 use Rattle.lists.proofs.Member.{in-cases, in-getD}
 use Rattle.lists.proofs.Count.{count-all}
 use Rattle.mesh.proofs.Links.LevelCut.{mids, highs}
-use Rattle.mesh.specs.Peel.{bound, Peels}
+use Rattle.mesh.specs.Peel.{bound, Takes, none, Peels}
 use Rattle.mesh.proofs.Links.Peel.{Peeling, takes-permutation, takes-taken-in, takes-now-in}
 use Rattle.links.specs.Plans.{Ready, Planned}
 use Rattle.link_parts.specs.Changes.{changed-part}
@@ -121,6 +121,36 @@ module _ {u : Bool} {a b : ℕ} {ts ns os ps cs : List ℕ} (r : Ready u (length
       radios = λ i l. rw (sym (getD-take size list2 i 0 l) ∙ ap (λ (xs : List ℕ). getD xs i 0) front) (front-in (getD (first ++ stuck) i 0) (in-getD (first ++ stuck) i (omega (arith, both-length))));
     }
 
+    -- ---- nothing taken going down: nothing moves, nothing falls
+
+    level-stuck : taken ≡ 0 → level ≡ stuck
+    level-stuck z = takes-none (subst (λ (x : ℕ). Takes (linked after) (bound u K) (above os start size) level (take x list1) stuck) z (done .peels .takes))
+      where
+        takes-none : {f : ℕ → ℕ → Bool} {m : ℕ} {others left now : List ℕ} → Takes f m others left [] now → left ≡ now
+        takes-none none = refl
+
+    laid-unmoved : taken ≡ 0 → paste os start list2 size ≡ os
+    laid-unmoved z =
+        ap (λ (xs : List ℕ). take start os ++ xs ++ drop (start + size) os) (front ∙ ap (λ (x : ℕ). take x list1 ++ stuck) z ∙ sym (level-stuck z))
+        ∙ append-assoc (take start os) level (drop (start + size) os)
+        ∙ ap (λ (xs : List ℕ). take start os ++ (level ++ xs)) (sym (drop-drop size start os))
+        ∙ ap (λ (xs : List ℕ). take start os ++ xs) (take-append-drop size (drop start os))
+        ∙ take-append-drop start os
+
+    unmoved-at : taken ≡ 0 → u ≡ false → Planned u a b g os 0 0 taken list1
+    unfolding changed-part
+    unmoved-at z d = record {
+      fits = omega arith;
+      long = omega arith;
+      taken-fits = omega (arith, z);
+      laid = sym (paste-zero os 0 list1) ∙ sym (laid-unmoved z) ∙ plan-at .laid;
+      changed-is = λ v l. plan-at .changed-is v l ∙ ap (member v) (nobody u taken z d);
+      radios = λ i l. absurd (omega arith);
+    }
+      where
+        nobody : (w : Bool) (t : ℕ) → t ≡ 0 → w ≡ false → changed-part w t size list2 ≡ changed-part w t 0 list1
+        nobody w t z d = rw (d, z)
+
   -- as the code names its values
   pub plan-end : (w : Bool) (x y k m from many taken : ℕ) (cs1 list1 list2 : List ℕ) → w ≡ u → x ≡ a → y ≡ b → k ≡ K → m ≡ bound u K
       → from ≡ level-start ns k → many ≡ level-size ns k → Peel-done w x y k m ts ns os taken cs1 list1 → n ≤ length list1
@@ -129,3 +159,8 @@ module _ {u : Bool} {a b : ℕ} {ts ns os ps cs : List ℕ} (r : Ready u (length
       let fs : from ≡ start = es ∙ ap (level-start ns) ek in
       let fz : many ≡ size = ez ∙ ap (level-size ns) ek in
       rw (fs, fz) (plan-at taken cs1 list1 list2 (rw (ew, ex, ey, em, ek) at done) room (rw (fs, fz, em) at written))
+
+  pub plan-unmoved : (w : Bool) (x y k m taken : ℕ) (cs1 list1 : List ℕ) → w ≡ u → x ≡ a → y ≡ b → k ≡ K → m ≡ bound u K
+      → Peel-done w x y k m ts ns os taken cs1 list1 → n ≤ length list1 → taken ≡ 0 → u ≡ false → Planned u a b g os 0 0 taken list1
+  plan-unmoved w x y k m taken cs1 list1 ew ex ey ek em done room z d =
+      unmoved-at taken cs1 list1 (sets list1 taken (filter (λ v. ltb (bound u K) (getD cs1 v 0)) level)) (rw (ew, ex, ey, em, ek) at done) room refl z d

@@ -28,7 +28,7 @@ use Rattle.mesh.proofs.Tables.Relinked.{linked-relinked}
 use Rattle.links.specs.Plans.{Ready}
 use Rattle.links.specs.Turns.{end-counted, ends-counted, places-fitting, Begin-ready}
 use Rattle.walk_parts.specs.Places.{level-start, level-size}
-use Rattle.links.specs.Peels.{stretch, linked-after, Turning, Peel-ready}
+use Rattle.links.specs.Peels.{stretch, above, linked-after, Turning, Peel-ready}
 use Rattle.links.proofs.TurnLoops.{length-end-counted, length-places-fitting}
 use Rattle.links.proofs.BeginLaws.{getD-end-other, getD-end-same, marked-fitting}
 use Rattle.links.proofs.LevelLaws.{stretch-stands}
@@ -248,6 +248,27 @@ module _ {u : Bool} {a b : ℕ} {ts ns os ps cs : List ℕ} (r : Ready u (length
           let h : num b ≡ k = sym (number-is r b (b-below r)) ∙ rw e at q in
           rw e (linked-high b a (b-below r) (a-below r) (linked-sym g b a ∙ r .allowed .state ∙ ap not d) h (omega (arith, low-a)))
 
+  -- the counters of the level, by its stretch and what is above
+  pub counted-stretch : (v : ℕ) → In v (stretch os start size)
+      → getD cs1 v 0 ≡ count (linked-after u a b n ts v) (stretch os start size) + count (linked-after u a b n ts v) (above os start size)
+  counted-stretch v i =
+      let s = stretch-number r k v i in
+      counted-level v (s .0) (s .1) ∙ count-append (linked after v) (mids num k os) (highs num k os) ∙ rw (stretch-is r k, above-is r k)
+
+  -- counters and fitting places before the first turn
+  pub turning-ready : (m : ℕ) (counters fits : List ℕ) → Turning (linked-after u a b n ts) m os ps start size [] counters fits
+      → (near-room list-room : ℕ) → near-room ≡ max-neighbours → n ≤ list-room → Peel-ready u a b k m ts ns os ps counters fits near-room list-room
+  turning-ready m counters fits turning nears lists en el = record {
+    level = is-level r k ek;
+    differ = r .allowed .differ;
+    ends = (a-below r, b-below r);
+    links-length = r .links-length;
+    row-is = row-is r k;
+    few = λ v l. omega (arith, row-few r k v l);
+    list-long = omega (arith, stretch-fits r k);
+    turning = turning;
+  }
+
   module _ (m : ℕ) (fs0 : List ℕ) (long : length fs0 ≡ row-bytes) (zero-row : (q : ℕ) → q < max-radios → marked fs0 0 q ≡ false) where
     abbrev fs1 : List ℕ
     fs1 = places-fitting os cs1 m (range start size) fs0
@@ -262,10 +283,7 @@ module _ {u : Bool} {a b : ℕ} {ts ns os ps cs : List ℕ} (r : Ready u (length
     begin-turning = record {
       rest = stretch os start size;
       takes = none;
-      counted = λ v i. (let s = stretch-number r k v i in
-          counted-level v (s .0) (s .1)
-          ∙ count-append (linked after v) (mids num k os) (highs num k os)
-          ∙ rw (stretch-is r k, above-is r k));
+      counted = counted-stretch;
       fitting = fitting;
       standing = λ p l h. (let i = range-in start size p (member-in p (range start size) (and-left (member p (range start size)) (leb (getD cs1 (getD os p 0) 0) m) (sym (marks p l) ∙ h))) in (i .0, i .1));
       spent = λ v i. absurd i;
@@ -281,13 +299,4 @@ module _ {u : Bool} {a b : ℕ} {ts ns os ps cs : List ℕ} (r : Ready u (length
 
     pub peel-ready : (near-room list-room : ℕ) → near-room ≡ max-neighbours → n ≤ list-room
         → Peel-ready u a b k m ts ns os ps cs1 fs1 near-room list-room
-    peel-ready nears lists en el = record {
-      level = is-level r k ek;
-      differ = r .allowed .differ;
-      ends = (a-below r, b-below r);
-      links-length = r .links-length;
-      row-is = row-is r k;
-      few = λ v l. omega (arith, row-few r k v l);
-      list-long = omega (arith, stretch-fits r k);
-      turning = begin-turning;
-    }
+    peel-ready nears lists en el = turning-ready m cs1 fs1 begin-turning nears lists en el

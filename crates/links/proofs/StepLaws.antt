@@ -4,25 +4,26 @@ use mathlib.Core.Path.{_≡_, refl, sym, ap, subst, _∙_}
 use mathlib.Core.Logic.{_⊎_, inl, inr}
 use mathlib.Core.Bool.{Bool, true, false, _&&_, cond}
 use mathlib.Core.List.{List}
-use Prim.Native.Nat.{ℕ, _+_, _*_, _≤_, _<_, min}
+use Prim.Native.Nat.{ℕ, _+_, _*_, _≤_, _<_}
 use native.Mathlib.Omega.{arith}
 use lib.Dec.{ltb, leb}
 use lib.ListN.{length, getD, take, replicate, length-replicate}
-use borrow.Author.Tests.{ltb-true, ltb-false, le-leb}
+use borrow.Author.Tests.{ltb-true, ltb-false}
 use Rattle.mesh.specs.Limits.{max-radios, max-neighbours, row-bytes}
-use Rattle.lists.specs.Lists.{count, member, overwrite, In, Each-once}
+use Rattle.lists.specs.Lists.{range, count, member, overwrite, In, Each-once}
 use Rattle.lists.proofs.Tests.{bool-cases, never, and-left, and-right}
 use Rattle.lists.proofs.Member.{in-getD, in-member, not-member, member-in}
 use Rattle.lists.proofs.Count.{count-ext}
+use Rattle.lists.proofs.Range.{once-below, once-distinct}
 use Rattle.lists.proofs.Overwrite.{overwrite-take, take-overwrite}
-use Rattle.mesh.specs.Graph.{Graph, linked, relinked}
+use Rattle.mesh.specs.Graph.{Graph, relinked}
 use Rattle.mesh.specs.Cores.{number, numbers}
-use Rattle.mesh.specs.Orders.{each-once, rising, few-later, is-k-order}
 use Rattle.mesh.specs.Levels.{changed}
 use Rattle.mesh.specs.Tables.{Tables, tables, marked, put-link, graph-in}
 use Rattle.mesh.specs.Sound.{number-in, rows-proper, sound}
 use Rattle.mesh.specs.Valid.{Allowed}
 use Rattle.mesh.proofs.Cores.Peeling.{getD-numbers}
+use Rattle.mesh.proofs.Cores.KOrders.{k-order-certificate}
 use Rattle.mesh.proofs.Links.Call.{changed-below, unchanged-number}
 use Rattle.mesh.proofs.Tables.Rows.{symmetric-of, within-of, few-of}
 use Rattle.calls.specs.Questions.{lengths-of, size-good, site-lengths, ends-refusal}
@@ -34,15 +35,16 @@ use Rattle.calls.proofs.RecordLaws.{tables-ext}
 use Rattle.calls.proofs.SoundSwitches.{Good, good-valid, switched-good}
 use Rattle.rows.specs.Rows.{neighbours-of}
 use Rattle.rows.proofs.RowListLaws.{in-neighbours-of, member-neighbours-of, length-neighbours-of}
-use Rattle.soundness.specs.Checks.{Placed, Highs, high-count, fits-sound, Places-found}
+use Rattle.soundness.specs.Checks.{Placed, Highs, high-count, fits-sound}
 use Rattle.soundness.proofs.HighCounts.{high-count-neighbours-in}
 use Rattle.soundness.proofs.SoundSite.{Sound-site, fits-sound-site, site-good-fits, site-good-sound, number-entry}
 use Rattle.link_parts.specs.Changes.{Apply-contract}
 use Rattle.links.specs.Plans.{Ready, Planned, Applicable}
-use Rattle.links.specs.Steps.{Prepared, Step-ready, Changed-by, Carried, Stepped, around, touched, recounted, Rows-known}
+use Rattle.links.specs.Steps.{Prepared, Step-ready, Changed-by, Carried, Stepped, places-put, around, touched, recounted, Rows-known}
 use Rattle.links.proofs.Asking.{right-of, high-numbers}
 use Rattle.links.proofs.NearLaws.{neighbours-of-other}
 use Rattle.links.proofs.Applied.{length-changed, planned-fits, applied-accepted}
+use Rattle.links.proofs.PlacesLaws.{getD-paste-outside, length-places-put, placed-again}
 use Rattle.links.proofs.CountLaws.{touched-ends, touched-around, getD-recounted, length-recounted}
 
 -- ---- what is known of prepared tables
@@ -130,8 +132,8 @@ module _ {up : Bool} {n a b : ℕ} {t : Tables} {places highs : List ℕ} (k : S
   }
 
   pub step-changed : (start size taken : ℕ) (stretch : List ℕ) → Planned up a b g (t .order) start size taken stretch → (answer : List ℕ) → length answer ≡ max-radios
-      → (r : Reply) (v : Tables) (x : List ℕ) → Apply-contract up a b start size taken stretch t answer r v x → Changed-by up n a b t v (r .count) x
-  unfolding switched lengths-of
+      → (r : Reply) (v : Tables) (x : List ℕ) → Apply-contract up a b start size taken stretch t answer r v x → Changed-by up n a b t v (r .count) x start size
+  unfolding switched lengths-of graph-in
   step-changed start size taken stretch plan answer room r v x d =
       let ok = applicable answer room in
       let fit = planned-fits up n a b t answer ok start size taken stretch plan (omega (arith, good .lent .lengths .order)) in
@@ -140,6 +142,9 @@ module _ {up : Bool} {n a b : ℕ} {t : Tables} {places highs : List ℕ} (k : S
         tables = tables-ext v _ (l .links) (l .numbers) (l .order);
         counted = l .count;
         listed = rw (l .count, l .answer) (take-overwrite (changed up a b g) answer);
+        part-fits = plan .fits;
+        unmoved = λ p o. ap (λ (xs : List ℕ). getD xs p 0) (l .order ∙ sym (plan .laid))
+            ∙ getD-paste-outside (t .order) start stretch size p (omega (arith, plan .fits, good .lent .lengths .order)) (plan .long) o;
       }
 
   -- ---- the tables after
@@ -223,7 +228,7 @@ module _ {up : Bool} {n a b : ℕ} {t : Tables} {places highs : List ℕ} (k : S
           ∙ either v l (marked (touched a b cs ts) 0 v) refl
 
   -- as the code names its values: v are the tables after the change, k the count of changed radios, which stand in front of `list`
-  module _ (v : Tables) (many : ℕ) (list : List ℕ) (d : Changed-by up n a b t v many list) where
+  module _ (v : Tables) (many : ℕ) (list : List ℕ) (start size : ℕ) (d : Changed-by up n a b t v many list start size) where
     list-is : take many list ≡ cs
     list-is = d .listed
 
@@ -251,32 +256,38 @@ module _ {up : Bool} {n a b : ℕ} {t : Tables} {places highs : List ℕ} (k : S
           λ i l. omega (arith, numbers-length, changed-radios i l),
         )
 
-    order-once : each-once (length (v .order)) (v .order) ≡ true
-    unfolding is-k-order graph-in lengths-of
+    order-once : Each-once n (v .order)
+    unfolding graph-in
     order-once =
-        let s = good-after in
-        let long : length (v .order) ≡ n = ap (λ (o : Tables). length (o .order)) (d .tables) ∙ s .lent .lengths .order in
-        let h = graph-in n (after .links) in
-        rw (long, ap (λ (o : Tables). o .order) (d .tables))
-        (and-left (each-once n (after .order)) (rising (number h) (after .order) && few-later (linked h) (number h) (after .order)) (good-valid n after s .k-order))
+        rw (ap (λ (o : Tables). o .order) (d .tables)) (k-order-certificate (graph-in n (after .links)) (after .order) (good-valid n after good-after .k-order) .once)
+
+    order-length : length (v .order) ≡ n
+    unfolding lengths-of
+    order-length = ap (λ (o : Tables). length (o .order)) (d .tables) ∙ good-after .lent .lengths .order
+
+    order-known : (p : ℕ) → p < n → getD (v .order) p 0 < length places
+    order-known p l =
+        omega (arith, once-below n (v .order) order-once (getD (v .order) p 0) (in-getD (v .order) p (omega (arith, order-length))), k .prepared .places-length, site .small)
+
+    -- what putting places wants
+    pub put-ready : (start + size ≤ length (v .order)) × (length (v .order) ≤ max-radios) × ((p : ℕ) → p < length (v .order) → getD (v .order) p 0 < length places)
+    put-ready = (omega (arith, d .part-fits, order-length), omega (arith, order-length, site .small), λ p l. order-known p (omega (arith, order-length)))
 
     -- the tables after, prepared again
-    pub step-carried : (p : List ℕ) (found : Bool) → Places-found (v .order) places p found → length p ≡ length places
+    pub step-carried : (p : List ℕ) → p ≡ places-put (v .order) (range start size) places
         → (h : List ℕ) → h ≡ recounted (v .links) (v .numbers) (neighbours-of (touched a b (take many list) (v .links)) 0) highs → Carried up n a b t v p h
-    unfolding lengths-of
-    step-carried p found f lp h e =
-        let long : length (v .order) ≡ n = ap (λ (o : Tables). length (o .order)) (d .tables) ∙ good-after .lent .lengths .order in
-        let yes : found ≡ true =
-        f .answer ∙ rw (order-once, le-leb (length (v .order)) (min max-radios (length places)) (omega (arith, long, k .prepared .places-length, site .small))) in
+    step-carried p f h e =
+        let again : Placed n (v .order) p =
+        rw f (placed-again n (t .order) (v .order) places start size (once-distinct n (v .order) order-once) order-length (d .part-fits) order-known (d .unmoved) (k .prepared .placed)) in
         let is : h ≡ recounted (after .links) (after .numbers) (neighbours-of (touched a b cs (after .links)) 0) highs =
         e ∙ rw (list-is, d .tables) in
         record {
           tables = d .tables;
           prepared = subst (λ (o : Tables). Prepared n o p h) (sym (d .tables)) (record {
             good = site-good-fits n after true good-after;
-            places-length = lp ∙ k .prepared .places-length;
+            places-length = ap length f ∙ length-places-put (v .order) (range start size) places ∙ k .prepared .places-length;
             highs-length = ap length is ∙ length-recounted (after .links) (after .numbers) _ highs ∙ k .prepared .highs-length;
-            placed = rw (long, d .tables) at (f .placed yes);
+            placed = subst (λ (o : Tables). Placed n (o .order) p) (d .tables) again;
             counted = counts-after h is;
           });
         }

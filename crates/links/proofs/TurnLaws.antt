@@ -6,10 +6,10 @@ use mathlib.Core.Bool.{Bool, true, false, _&&_, _||_, cond, or-true, or-false, a
 use mathlib.Core.List.{List, [], _∷_}
 use Prim.Native.Nat.{ℕ, _+_, _-_, _<_}
 use native.Mathlib.Omega.{arith}
-use lib.Dec.{eqb}
+use lib.Dec.{leb, eqb}
 use lib.ListN.{length, getD, set}
 use lib.Seq.{getD-set-same, getD-set-other}
-use borrow.Author.Tests.{eqb-true, eqb-false, eq-eqb, ne-eqb}
+use borrow.Author.Tests.{eqb-true, eqb-false, eq-eqb, ne-eqb, leb-true, leb-false, le-leb, lt-leb}
 use Rattle.mesh.specs.Limits.{max-radios, row-bytes}
 use Rattle.lists.specs.Lists.{member}
 use Rattle.mesh.specs.Tables.{byte-at, marked, put-bit}
@@ -96,6 +96,27 @@ module _ (ns : List ℕ) (k : ℕ) where
             ap (λ (x : ℕ). getD cs x 0) same,
             h .above-zero v (inl refl) at-level,
           ))
+
+  -- a radio of the level
+  pub getD-released-level : (ps near cs : List ℕ) → Releasable ns ps k near cs → (w : ℕ) → getD ns w 0 ≡ k
+      → getD (released ns k near cs) w 0 + cond (member w near) 1 0 ≡ getD cs w 0
+  getD-released-level ps near cs h w e =
+      ap (λ (b : Bool). getD (released ns k near cs) w 0 + cond b 1 0) (and-right-true (member w near) (eqb (getD ns w 0) k) (eq-eqb (getD ns w 0) k e))
+      ∙ getD-released ps near cs h w
+    where
+      and-right-true : (a b : Bool) → b ≡ true → a ≡ (a && b)
+      and-right-true true b e = sym e
+      and-right-true false b e = refl
+
+-- a counter that falls to the bound, and one that was there
+pub fits-released : (m : ℕ) (t : Bool) (x y : ℕ) → y + cond t 1 0 ≡ x → (leb x m || (t && eqb y m)) ≡ leb y m
+fits-released m false x y e = or-false (leb x m) ∙ ap (λ (z : ℕ). leb z m) (omega arith)
+fits-released m true x y e = go (bool-cases (leb x m)) (bool-cases (eqb y m))
+  where
+    go : (leb x m ≡ true) ⊎ (leb x m ≡ false) → (eqb y m ≡ true) ⊎ (eqb y m ≡ false) → (leb x m || eqb y m) ≡ leb y m
+    go (inl a) b = ap (λ (z : Bool). z || eqb y m) a ∙ sym (le-leb y m (omega (arith, leb-true x m a)))
+    go (inr a) (inl b) = ap (λ (z : Bool). z || eqb y m) a ∙ b ∙ sym (le-leb y m (omega (arith, eqb-true y m b)))
+    go (inr a) (inr b) = ap (λ (z : Bool). z || eqb y m) a ∙ b ∙ sym (lt-leb y m (omega (arith, leb-false x m a, eqb-false y m b)))
 
 -- ---- places
 

@@ -1,7 +1,8 @@
 -- A link taken up or down on tables that are known to be sound: what the check finds is kept from link to link.
 --   Prepared         questions 1 to 3 get yes of the tables, and places and not-lower counts of every radio are at hand
 --   Step-ready       the same, and questions 4 to 7 of a link get yes
---   Changed-by       the tables that the link leaves, and the radios that it changed
+--   Changed-by       the tables that the link leaves, the radios that it changed, and the part of the order outside of which nothing moved
+--   places-put       the places of the radios that stand at some places of the order, put into the table of places
 --   Carried          the tables that it leaves, prepared again
 --   Stepped          the number of questions 4 to 7, and the tables after them, prepared again
 --   around ts v      the radio v and its neighbours
@@ -10,10 +11,11 @@
 --   Rows-known       rows that can be counted
 -- Laws are in proofs/CountLaws.antt and proofs/StepLaws.antt. Definitions only.
 use mathlib.Core.Path.{_≡_}
+use mathlib.Core.Logic.{_⊎_}
 use mathlib.Core.Bool.{Bool, true}
 use mathlib.Core.List.{List, _∷_}
-use Prim.Native.Nat.{ℕ, _*_, _≤_, _<_}
-use lib.ListN.{length, set, take, replicate}
+use Prim.Native.Nat.{ℕ, _+_, _*_, _≤_, _<_}
+use lib.ListN.{length, getD, set, take, replicate}
 use Rattle.mesh.specs.Limits.{max-radios, max-neighbours, row-bytes}
 use Rattle.lists.specs.Lists.{folded, In}
 use Rattle.mesh.specs.Levels.{changed}
@@ -38,11 +40,17 @@ pub record Step-ready (up : Bool) (n a b : ℕ) (t : Tables) (places highs : Lis
   pub prepared : Prepared n t places highs
   pub asked : ends-refusal max-neighbours up n a b (graph-in n (t .links)) ≡ 0
 
--- t and v are the tables before and after; the first `count` entries of `list` are the changed radios
-pub record Changed-by (up : Bool) (n a b : ℕ) (t v : Tables) (count : ℕ) (list : List ℕ) : Type 0 where
+-- t and v are the tables before and after; the first `count` entries of `list` are the changed radios, and the order is another at most at
+-- `size` places from `start` on
+pub record Changed-by (up : Bool) (n a b : ℕ) (t v : Tables) (count : ℕ) (list : List ℕ) (start size : ℕ) : Type 0 where
   pub tables : v ≡ switched n (switch up a b) t
   pub counted : count ≡ length (changed up a b (graph-in n (t .links)))
   pub listed : take count list ≡ changed up a b (graph-in n (t .links))
+  pub part-fits : start + size ≤ n
+  pub unmoved : (p : ℕ) → (p < start) ⊎ (start + size ≤ p) → getD (v .order) p 0 ≡ getD (t .order) p 0
+
+unfoldable pub places-put : (order spots places : List ℕ) → List ℕ
+places-put os is ps = folded (λ p now. set now (getD os p 0) p) is ps
 
 pub record Carried (up : Bool) (n a b : ℕ) (t v : Tables) (places highs : List ℕ) : Type 0 where
   pub tables : v ≡ switched n (switch up a b) t

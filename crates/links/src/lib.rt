@@ -4,6 +4,7 @@
 // A hearing brings the site to the links that both ends hear.
 pub mod batch;
 mod counts;
+mod fall;
 pub mod hear;
 pub mod link;
 pub mod plan;

@@ -1,7 +1,7 @@
 // The plan of a link call: its questions, and the lower end's stretch laid out anew, by one peel up and down alike, or going up by the walk.
 // Nothing of the tables is written.
 ghost use mathlib.Core.Path.{_≡_};
-ghost use mathlib.Core.Bool.{false};
+ghost use mathlib.Core.Bool.{true, false};
 ghost use Prim.Native.Nat.{_≤_, _<_, _+_, min};
 ghost use lib.ListN.{length, getD};
 ghost use Rattle.lists.specs.Lists.{range};
@@ -19,7 +19,7 @@ use tables::fill;
 use walk_parts::stretch;
 
 // The call at the lower end's level K: the peel takes radios with at most K neighbours going up, K - 1 going down.
-fn call_at(up: bool, a: u32, b: u32, numbers: &[u8]) -> Call
+pub(crate) fn call_at(up: bool, a: u32, b: u32, numbers: &[u8]) -> Call
     requires { ⌜ (a < length (now numbers)) × (b < length (now numbers)) ×
         (up ≡ false → 1 ≤ min (getD (now numbers) a 0) (getD (now numbers) b 0)) ⌝ }
     ensures { λ r. ⌜ (r .up ≡ up) × (r .a ≡ a) × (r .b ≡ b) ×
@@ -77,7 +77,7 @@ fn begin(
 // Takes radios of the level in turn, always the first of the stretch that has at most `most` neighbours among what is left and
 // above, until none fits. Writes them in front of the list and comes back with their count; later entries keep their content.
 // A stuck radio then has a counter above `most`, a taken one has not. Fitting places and the list `near` are scratch.
-fn peel(
+pub(crate) fn peel(
     call: Call,
     links: &[u8],
     numbers: &[u8],
@@ -115,10 +115,9 @@ fn peel(
     taken
 }
 
-// Plans the link a-b going up or down by the peel: writes the lower end's stretch, laid out anew, in front of `stretch`; later entries and
-// the counters hold anything.
+// Plans the link a-b going up by the peel: writes the lower end's stretch, laid out anew, in front of `stretch`; later entries and the
+// counters hold anything.
 pub(crate) fn plan_peel(
-    up: bool,
     a: u32,
     b: u32,
     links: &[u8],
@@ -128,12 +127,12 @@ pub(crate) fn plan_peel(
     highs: &mut [u8],
     stretch: &mut [u16],
 ) -> Plan
-    requires ready { ⌜ Ready up (length (now order)) a b (tables (now links) (now numbers) (now order)) (now places) (now highs) ⌝ }
+    requires ready { ⌜ Ready true (length (now order)) a b (tables (now links) (now numbers) (now order)) (now places) (now highs) ⌝ }
     requires room { ⌜ length (now order) ≤ length (now stretch) ⌝ }
-    ensures { λ r. ⌜ Planned up a b (graph-in (length (now (order .entry))) (now (links .entry))) (now (order .entry)) (r .start)
+    ensures { λ r. ⌜ Planned true a b (graph-in (length (now (order .entry))) (now (links .entry))) (now (order .entry)) (r .start)
         (r .size) (r .taken) (now (stretch .exit)) ⌝ }
 {
-    let call = call_at(up, a, b, numbers);
+    let call = call_at(true, a, b, numbers);
     let at = stretch::stretch_of(numbers, call.level);
     let mut fits = [0u8; Site::ROW_BYTES];
     begin(call, at.start, at.size, numbers, order, highs, &mut fits);
@@ -178,7 +177,7 @@ pub(crate) fn plan_link(
     if up {
         return super::rise::plan_up(a, b, links, numbers, order, places, highs, stretch);
     }
-    plan_peel(up, a, b, links, numbers, order, places, highs, stretch)
+    super::fall::plan_down(a, b, links, numbers, order, places, highs, stretch)
 }
 
 // A refusal number, and where it is 0 a plan.

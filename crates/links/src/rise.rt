@@ -53,7 +53,6 @@ fn plan_on(
     let at = stretch::stretch_of(numbers, rise.most);
     if at.size <= SMALL {
         return plan::plan_peel(
-            true,
             rise.a,
             rise.b,
             links,
@@ -70,7 +69,8 @@ fn plan_on(
 }
 
 // Plans the link a-b going up. Where the beginning end stands first in its level, its neighbours that are not lower, at least K, stand later,
-// and the link adds one: it is never settled. The level is then peeled: where it rises whole the walk reads every row, the peel none.
+// and the link adds one: it is never settled. The level is then peeled: where it rises whole the walk reads every row, the peel none. At level 0
+// only ends rise, and the walk reads only their rows.
 pub(crate) fn plan_up(
     a: u32,
     b: u32,
@@ -89,9 +89,12 @@ pub(crate) fn plan_up(
     let most = plan::lower(numbers[a as usize], numbers[b as usize]);
     let e = ends::beginning(a as usize, b as usize, numbers, places);
     let first = places[e] as usize;
-    if ends::leads(first, most, numbers, order) {
-        return plan::plan_peel(true, a, b, links, numbers, order, places, highs, stretch);
-    }
     let rise = Rise { a, b, most };
+    if most == 0 {
+        return plan_on(rise, first, links, numbers, order, places, highs, stretch);
+    }
+    if ends::leads(first, most, numbers, order) {
+        return plan::plan_peel(a, b, links, numbers, order, places, highs, stretch);
+    }
     plan_on(rise, first, links, numbers, order, places, highs, stretch)
 }

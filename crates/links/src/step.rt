@@ -1,10 +1,12 @@
 // One link of a list taken up or down on tables that are known to be sound. What the check finds of them, the place and the not-lower
 // count of each radio, is kept up to date from link to link, so that the next one needs no check.
 ghost use mathlib.Core.Path.{_≡_};
-ghost use lib.ListN.{length};
+ghost use Prim.Native.Nat.{ℕ, _≤_, _<_, _+_};
+ghost use lib.ListN.{length, getD};
+ghost use Rattle.lists.specs.Lists.{range};
 ghost use Rattle.mesh.specs.Limits.{max-radios};
 ghost use Rattle.mesh.specs.Tables.{lent};
-ghost use Rattle.links.specs.Steps.{Prepared, Step-ready, Changed-by, Carried, Stepped};
+ghost use Rattle.links.specs.Steps.{Prepared, Step-ready, Changed-by, Carried, Stepped, places-put};
 use super::counts;
 use super::plan;
 use link_parts::apply;
@@ -12,8 +14,15 @@ use link_parts::ends;
 use mesh::Site;
 use tables::fill;
 
-// Takes the link a-b up or down: writes the tables, and the changed radios in front of `changed`, ascending, and comes back with their
-// count. Places and not-lower counts are left as they were.
+// What a link changed: so many numbers, and of the order at most `size` entries from `start` on.
+struct Outcome {
+    count: u32,
+    start: usize,
+    size: usize,
+}
+
+// Takes the link a-b up or down: writes the tables, and the changed radios in front of `changed`, ascending. Places and not-lower counts are
+// left as they were.
 fn change(
     up: bool,
     a: u32,
@@ -24,11 +33,11 @@ fn change(
     places: &[u16],
     highs: &[u8],
     changed: &mut [u16],
-) -> u32
+) -> Outcome
     requires ready { ⌜ Step-ready up (length (now order)) a b (lent links numbers order) (now places) (now highs) ⌝ }
     requires room { ⌜ length (now changed) ≡ max-radios ⌝ }
     ensures { λ r. ⌜ Changed-by up (length (now (order .entry))) a b (lent (links .entry) (numbers .entry) (order .entry))
-        (lent (links .exit) (numbers .exit) (order .exit)) r (now (changed .exit)) ⌝ }
+        (lent (links .exit) (numbers .exit) (order .exit)) (r .count) (now (changed .exit)) (r .start) (r .size) ⌝ }
 {
     let mut counters = [0u8; Site::RADIOS as usize];
     fill::copy8(&mut counters, highs);
@@ -44,7 +53,26 @@ fn change(
         &mut counters,
         &mut stretch,
     );
-    apply::apply(up, a, b, plan, &stretch, links, numbers, order, changed).count
+    let reply = apply::apply(up, a, b, plan, &stretch, links, numbers, order, changed);
+    Outcome {
+        count: reply.count,
+        start: plan.start,
+        size: plan.size,
+    }
+}
+
+// Each radio that stands at one of `size` places of the order from `start` on has that place after; the others keep theirs.
+fn put_places(order: &[u16], start: usize, size: usize, places: &mut [u16])
+    requires { ⌜ (start + size ≤ length (now order)) × (length (now order) ≤ max-radios) ×
+        ((p : ℕ) → p < length (now order) → getD (now order) p 0 < length (now places)) ⌝ }
+    ensures { λ _. ⌜ now (places .exit) ≡ places-put (now (order .entry)) (range start size) (now (places .entry)) ⌝ }
+{
+    let mut i: usize = 0;
+    while i < size {
+        let p = start + i;
+        places[order[p] as usize] = p as u16;
+        i += 1;
+    }
 }
 
 // The same, and places and not-lower counts are the later tables'.
@@ -63,9 +91,9 @@ fn carry_out(
         (lent (links .exit) (numbers .exit) (order .exit)) (now (places .exit)) (now (highs .exit)) ⌝ }
 {
     let mut changed = [0u16; Site::RADIOS as usize];
-    let k = change(up, a, b, links, numbers, order, places, highs, &mut changed);
-    soundness::places_of(order, places);
-    counts::renew(a, b, &changed[..k as usize], links, numbers, highs);
+    let made = change(up, a, b, links, numbers, order, places, highs, &mut changed);
+    put_places(order, made.start, made.size, places);
+    counts::renew(a, b, &changed[..made.count as usize], links, numbers, highs);
 }
 
 // Takes the link a-b up, by questions 4 to 7, or down, by 4 to 6, and comes back with their number. Refused, every table keeps its content.

@@ -8,7 +8,8 @@ use lib.ListN.{length, getD, take}
 use lib.Seq.{length-take-le}
 use borrow.Author.Needs.{needs}
 use Rattle.lists.proofs.Loops.{Counted-from, counted-end}
-use Rattle.links.proofs.CountLaws.{count-fits, counted-front}
+use Rattle.walk_parts.proofs.LevelCounts.{counted-byte}
+use Rattle.links.proofs.CountLaws.{counted-front}
 use Rattle.links.proofs.counts.count_high.Statement.{statement}
 use Rattle.links.proofs.counts.count_high.Tie as tie
 
@@ -40,7 +41,7 @@ add-high : tie.Need-add-high Inv-loop μ-loop
 add-high c =
     let at-loop = c .before .before .before in
     let call = at-loop .before .args in
-    count-fits (at-loop .loop .high) (at-loop .loop .i) (leb (call .number) (getD (call .numbers .now) (getD (call .near .now) (at-loop .loop .i) 0) 0)) (at-loop .loop .inv .1 .0) (omega (arith, at-loop .before .pre .1, c .before .before .loop-test .taken))
+    counted-byte (at-loop .loop .high) (at-loop .loop .i) (leb (call .number) (getD (call .numbers .now) (getD (call .near .now) (at-loop .loop .i) 0) 0)) (at-loop .loop .inv .1 .0) (omega (arith, at-loop .before .pre .1, c .before .before .loop-test .taken))
 
 add-i : tie.Need-add-i Inv-loop μ-loop
 add-i c = search needs

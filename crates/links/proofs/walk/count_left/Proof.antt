@@ -7,7 +7,7 @@ use borrow.Author.Needs.{needs}
 use Rattle.lists.proofs.Loops.{Counted-from}
 use Rattle.links.specs.Walks.{is-left}
 use Rattle.links.proofs.WalkLoops.{near-known, left-turn, left-end}
-use Rattle.links.proofs.CountLaws.{count-fits}
+use Rattle.walk_parts.proofs.LevelCounts.{counted-byte}
 use Rattle.links.proofs.walk.count_left.Statement.{statement}
 use Rattle.links.proofs.walk.count_left.Tie as tie
 
@@ -30,7 +30,7 @@ add-n : tie.Need-add-n Inv-loop μ-loop
 add-n c =
     let at-loop = c .before .before .before in
     let start = at-loop .before .before .before .before .before in
-    count-fits (at-loop .loop .n) (at-loop .loop .i) (c .is-left .result) (at-loop .loop .inv .1 .0) (omega (arith, start .pre .1, c .before .before .loop-test .taken))
+    counted-byte (at-loop .loop .n) (at-loop .loop .i) (c .is-left .result) (at-loop .loop .inv .1 .0) (omega (arith, start .pre .1, c .before .before .loop-test .taken))
 
 loop-again : tie.Need-loop-again Inv-loop μ-loop
 loop-again c =
