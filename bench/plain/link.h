@@ -13,7 +13,7 @@ static unsigned c_ends(int up, uint32_t n, uint32_t a, uint32_t b, const uint8_t
 
 /* From places and not-lower counts of every radio; the counts are used up. */
 static void c_peel(int up, const struct lent *t, uint32_t a, uint32_t b, const uint16_t *places, uint8_t *counters, struct c_plan *plan) {
-    uint16_t *stretch = plan->stretch, list[NEIGHBOURS + 1];
+    uint16_t *stretch = plan->stretch;
     uint64_t fits[8] = {0};
     const uint32_t n = t->n;
     const uint8_t *links = t->links, *numbers = t->numbers;
@@ -26,16 +26,9 @@ static void c_peel(int up, const struct lent *t, uint32_t a, uint32_t b, const u
     for (unsigned p = start; p < start + size; p++)
         if (counters[order[p]] <= most) fits[p / 64] |= 1ull << p % 64;
     for (unsigned p; (p = first_bit(fits)) < RADIOS;) {
-        unsigned v = order[p], other = v == a ? b : v == b ? a : n;
+        unsigned v = order[p];
         stretch[taken++] = v;
-        fits[p / 64] &= ~(1ull << p % 64);
-        unsigned m = row_list(links, v, list, NEIGHBOURS + 1);
-        if (other < n && up) list[m++] = other;
-        for (unsigned i = 0; i < m; i++) {
-            unsigned x = list[i];
-            if (numbers[x] != level || (!up && x == other)) continue;
-            if (--counters[x] == most) fits[places[x] / 64] |= 1ull << places[x] % 64;
-        }
+        c_take(up, a, b, p, v, links, level, most, numbers, places, counters, fits);
     }
     for (unsigned p = start, j = taken; p < start + size; p++)
         if (counters[order[p]] > most) stretch[j++] = order[p];
