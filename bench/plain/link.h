@@ -19,7 +19,7 @@ static void c_lose(unsigned v, unsigned level, unsigned most, const uint8_t *num
 /* From places and not-lower counts of every radio; the counts are used up. Going down only an end can fit before the first turn, and where
  * nobody is taken nothing moves. */
 static void c_peel(int up, const struct lent *t, uint32_t a, uint32_t b, const uint16_t *places, uint8_t *counters, struct c_plan *plan) {
-    uint16_t *stretch = plan->stretch, list[NEIGHBOURS + 1];
+    uint16_t *stretch = plan->stretch;
     uint64_t fits[8] = {0};
     const uint32_t n = t->n;
     const uint8_t *links = t->links, *numbers = t->numbers;
@@ -36,13 +36,9 @@ static void c_peel(int up, const struct lent *t, uint32_t a, uint32_t b, const u
         c_lose(b, level, most, numbers, places, counters, fits);
     }
     for (unsigned p; (p = first_bit(fits)) < RADIOS;) {
-        unsigned v = order[p], other = v == a ? b : v == b ? a : n;
+        unsigned v = order[p];
         stretch[taken++] = v;
-        fits[p / 64] &= ~(1ull << p % 64);
-        unsigned m = row_list(links, v, list, NEIGHBOURS + 1);
-        if (other < n && up) list[m++] = other;
-        for (unsigned i = 0; i < m; i++)
-            if (up || list[i] != other) c_lose(list[i], level, most, numbers, places, counters, fits);
+        c_take(up, a, b, p, v, links, level, most, numbers, places, counters, fits);
     }
     if (!up && taken) c_stretch(n, numbers, level, &start, &size);
     for (unsigned p = start, j = taken; p < start + size; p++)

@@ -30,6 +30,30 @@ static unsigned first_bit(const uint64_t *set) {
     return RADIOS;
 }
 
+/* The radios that a row marks lose one, where they are of the level; the place of one that comes to `most` fits. */
+static inline void c_release_row(const uint8_t *row, unsigned level, unsigned most, const uint8_t *numbers, const uint16_t *places, uint8_t *counters,
+                                 uint64_t *fits) {
+    for (unsigned i = 0; i < ROW / 8; i++)
+        for (uint64_t w = row_word(row, 0, i); w; w &= w - 1) {
+            unsigned x = 64 * i + __builtin_ctzll(w);
+            if (numbers[x] == level && --counters[x] == most) fits[places[x] / 64] |= 1ull << places[x] % 64;
+        }
+}
+
+/* Takes v at place p: the neighbours that it has after the call are released. */
+static void c_take(int up, uint32_t a, uint32_t b, unsigned p, unsigned v, const uint8_t *links, unsigned level, unsigned most, const uint8_t *numbers,
+                   const uint16_t *places, uint8_t *counters, uint64_t *fits) {
+    fits[p / 64] &= ~(1ull << p % 64);
+    if (v == a || v == b) {
+        uint8_t row[ROW];
+        memcpy(row, links + ROW * v, ROW);
+        put_bit(row, up, 0, v == a ? b : a);
+        c_release_row(row, level, most, numbers, places, counters, fits);
+    } else {
+        c_release_row(links + ROW * v, level, most, numbers, places, counters, fits);
+    }
+}
+
 /* A walk: the level, the radios held as candidates and their counters, and the places that are due. */
 struct c_walk {
     const struct lent *t;
@@ -87,7 +111,7 @@ static int c_look(struct c_walk *w, unsigned v, unsigned p) {
 /* The walk through `size` radios of the order from place `first` on. */
 static void c_go(struct c_walk *w, unsigned first, unsigned size, struct c_plan *plan) {
     const uint16_t *tail = w->t->order + first;
-    uint16_t near[NEIGHBOURS + 1], *list = plan->stretch;
+    uint16_t *list = plan->stretch;
     unsigned front = 1, taken = 0;
     if (!c_look(w, tail[0], first)) list[taken++] = tail[0];
     while (taken < front) {
@@ -95,8 +119,7 @@ static void c_go(struct c_walk *w, unsigned first, unsigned size, struct c_plan 
         if (p < first + front) {
             unsigned v = tail[p - first];
             w->held[v] = 0, list[taken++] = v;
-            w->due[p / 64] &= ~(1ull << p % 64);
-            c_release(w, near, c_near(w, v, near));
+            c_take(1, w->a, w->b, p, v, w->t->links, 1, w->level, w->held, w->places, w->counters, w->due);
         } else if (size <= front) {
             break;
         } else if (p == first + front) {

@@ -42,53 +42,55 @@ lists-row ts v r old new whole room e f =
 pub lists-same : {ts us : List ℕ} {v w : ℕ} (r : ℕ) (new : List ℕ) → neighbours-of ts v ≡ neighbours-of us w → Lists-neighbours ts v r new → Lists-neighbours us w r new
 lists-same r new e h = record { counted = h .counted ∙ ap length e; listed = h .listed ∙ e }
 
--- the listed radios can be released, since the row's can
-pub near-released : (ts : List ℕ) (v k room : ℕ) (near ns ps : List ℕ) (level : ℕ) (cs : List ℕ) → Lists-neighbours ts v k near
-    → length (neighbours-of ts v) ≤ min room (suc max-neighbours) → length near ≡ room → Releasable ns ps level (neighbours-of ts v) cs
-    → (k ≤ length near) × Releasable ns ps level (take k near) cs
-near-released ts v k room near ns ps level cs h fits long r = (omega (arith, h .counted), rw (h .listed) r)
+-- the same radios, listed another way
+pub releasable-same : {xs ys : List ℕ} (ns ps : List ℕ) (k : ℕ) (cs : List ℕ) → xs ≡ ys → Releasable ns ps k ys cs → Releasable ns ps k xs cs
+releasable-same ns ps k cs e h = rw e h
 
-pub near-done : (ts : List ℕ) (v k : ℕ) (near ns ps : List ℕ) (level most : ℕ) (cs fs put cs1 fs1 : List ℕ) → Lists-neighbours ts v k near → put ≡ fs
-    → cs1 ≡ released ns level (take k near) cs → fs1 ≡ places-released ns ps level most (take k near) cs put
-    → (cs1 ≡ released ns level (neighbours-of ts v) cs) × (fs1 ≡ places-released ns ps level most (neighbours-of ts v) cs fs)
-near-done ts v k near ns ps level most cs fs put cs1 fs1 h e f g = (
-  f ∙ ap (λ (xs : List ℕ). released ns level xs cs) (h .listed),
-  g ∙ ap (λ (xs : List ℕ). places-released ns ps level most xs cs put) (h .listed) ∙ ap (places-released ns ps level most (neighbours-of ts v) cs) e,
-)
+-- and the same places fitting before
+pub released-same : {xs ys : List ℕ} (ns ps : List ℕ) (k m : ℕ) (cs put fs cs1 fs1 : List ℕ) → xs ≡ ys → put ≡ fs → cs1 ≡ released ns k xs cs
+    → fs1 ≡ places-released ns ps k m xs cs put → (cs1 ≡ released ns k ys cs) × (fs1 ≡ places-released ns ps k m ys cs fs)
+released-same ns ps k m cs put fs cs1 fs1 e p f g = rw (← e, ← p) (f, g)
 
--- ---- a copied row
+-- ---- a row lent as a part of the table: its m bytes from its start on
 
-module _ (u : Bool) (v w : ℕ) (ts row : List ℕ) (whole : row-bytes * v + row-bytes ≤ length ts) (small : w < max-radios)
-    (long : length row ≡ row-bytes) (copied : (i : ℕ) → i < row-bytes → getD row i 0 ≡ getD ts (row-bytes * v + i) 0) where
-  marked-copy : (x : ℕ) → x < max-radios → marked row 0 x ≡ marked ts v x
+module _ (ts : List ℕ) (v m : ℕ) (long : m ≡ row-bytes) (whole : row-bytes * v + row-bytes ≤ length ts) where
+  abbrev part : List ℕ
+  part = take m (drop (row-bytes * v) ts)
+
+  pub length-part : length part ≡ row-bytes
+  length-part = length-take-le m (drop (row-bytes * v) ts) (omega (arith, length-drop (row-bytes * v) ts)) ∙ long
+
+  marked-part : (x : ℕ) → x < max-radios → marked part 0 x ≡ marked ts v x
   unfolding marked byte-at
-  marked-copy x l =
+  marked-part x l =
       let e : row-bytes * 0 + x / 8 ≡ x / 8 = omega arith in
-      rw (e, copied (x / 8) (omega arith))
+      rw (e, getD-take m (drop (row-bytes * v) ts) (x / 8) 0 (omega arith), getD-drop (row-bytes * v) ts (x / 8) 0)
 
-  pub neighbours-of-copy : neighbours-of (put-bit u 0 w row) 0 ≡ neighbours-of (put-bit u v w ts) v
+  neighbours-of-part : neighbours-of part 0 ≡ neighbours-of ts v
+  neighbours-of-part = neighbours-of-ext part ts 0 v marked-part
+
+  -- with one bit put
+  neighbours-of-put : (u : Bool) (w : ℕ) → w < max-radios → neighbours-of (put-bit u 0 w part) 0 ≡ neighbours-of (put-bit u v w ts) v
   unfolding byte-at
-  neighbours-of-copy = neighbours-of-ext (put-bit u 0 w row) (put-bit u v w ts) 0 v (λ x l.
-      marked-put-bit u 0 w row 0 x small l (omega arith)
-      ∙ ap (λ (t : Bool). cond (eqb w x) u t) (marked-copy x l)
+  neighbours-of-put u w small = neighbours-of-ext (put-bit u 0 w part) (put-bit u v w ts) 0 v (λ x l.
+      marked-put-bit u 0 w part 0 x small l (omega (arith, length-part))
+      ∙ ap (λ (t : Bool). cond (eqb w x) u t) (marked-part x l)
       ∙ ap (λ (t : Bool). cond (t && eqb w x) u (marked ts v x)) (sym (eq-eqb v v refl))
       ∙ sym (marked-put-bit u v w ts v x small l (omega arith)))
 
--- a part of the table copied, its bit put, its radios listed
-pub lists-copy : (u : Bool) (v w : ℕ) (ts row0 row1 row2 : List ℕ) (r : ℕ) (old new : List ℕ) → row-bytes * v + row-bytes ≤ length ts
-    → length row0 ≡ row-bytes → w < max-radios → length (neighbours-of (put-bit u v w ts) v) ≤ min (length old) (suc max-neighbours)
-    → row1 ≡ overwrite (take (length row0) (take (row-bytes * v + row-bytes - row-bytes * v) (drop (row-bytes * v) ts))) row0 → row2 ≡ put-bit u 0 w row1
-    → r ≡ min (length old) (row-count max-neighbours row2 0)
-    → new ≡ overwrite (take (min (length old) (suc max-neighbours)) (row-listed row2 0)) old → Lists-neighbours (put-bit u v w ts) v r new
-lists-copy u v w ts row0 row1 row2 r old new whole long small room e f g h =
-    let part = take row-bytes (drop (row-bytes * v) ts) in
-    let cut : length part ≡ row-bytes = length-take-le row-bytes (drop (row-bytes * v) ts) (omega (arith, length-drop (row-bytes * v) ts)) in
-    let all : row-bytes * v + row-bytes - row-bytes * v ≡ row-bytes = omega arith in
-    let is : row1 ≡ part = e ∙ ap (λ (x : ℕ). overwrite (take (length row0) (take x (drop (row-bytes * v) ts))) row0) all ∙ ap (λ (z : List ℕ). overwrite z row0) (take-all (length row0) part (omega arith)) ∙ overwrite-all part row0 (omega arith) in
-    let same : neighbours-of row2 0 ≡ neighbours-of (put-bit u v w ts) v =
-    ap (λ (z : List ℕ). neighbours-of z 0) (f ∙ ap (put-bit u 0 w) is)
-    ∙ neighbours-of-copy u v w ts part whole small cut (λ i l. getD-take row-bytes (drop (row-bytes * v) ts) i 0 l ∙ getD-drop (row-bytes * v) ts i 0) in
-    lists-same r new same (lists-row row2 0 r old new (omega (arith, ap length (f ∙ ap (put-bit u 0 w) is), length-put-bit u 0 w part)) (omega (arith, ap length same)) g h)
+  -- copied, and one bit put
+  pub row-copied : (u : Bool) (w : ℕ) (row0 row1 row2 : List ℕ) → w < max-radios → length row0 ≡ row-bytes
+      → row1 ≡ overwrite (take (length row0) part) row0 → row2 ≡ put-bit u 0 w row1 → neighbours-of row2 0 ≡ neighbours-of (put-bit u v w ts) v
+  row-copied u w row0 row1 row2 small l e f =
+      let is : row1 ≡ part =
+      e ∙ ap (λ (z : List ℕ). overwrite z row0) (take-all (length row0) part (omega (arith, length-part))) ∙ overwrite-all part row0 (omega (arith, length-part)) in
+      ap (λ (z : List ℕ). neighbours-of z 0) (f ∙ ap (put-bit u 0 w) is) ∙ neighbours-of-put u w small
+
+-- a row that marks as another does, listed
+pub lists-copy : {ts : List ℕ} {v : ℕ} (row : List ℕ) (r : ℕ) (old new : List ℕ) → length row ≡ row-bytes → neighbours-of row 0 ≡ neighbours-of ts v
+    → length (neighbours-of ts v) ≤ min (length old) (suc max-neighbours) → r ≡ min (length old) (row-count max-neighbours row 0)
+    → new ≡ overwrite (take (min (length old) (suc max-neighbours)) (row-listed row 0)) old → Lists-neighbours ts v r new
+lists-copy row r old new long same room g h = lists-same r new same (lists-row row 0 r old new (omega arith) (omega (arith, ap length same)) g h)
 
 -- ---- the rows of both ends, and the others
 
@@ -127,29 +129,6 @@ module _ (u : Bool) (a b v : ℕ) (ts : List ℕ) where
   End-ready w k =
       (row-bytes * v + row-bytes ≤ length ts) × (w < max-radios) × (length (neighbours-of (put-bit u v w ts) v) ≤ min k (suc max-neighbours))
 
-  end-ready-a : (k : ℕ) → v ≡ a → Near-ready u a b v ts k → End-ready b k
-  end-ready-a k e h = (
-    h .row,
-    h .radios .1,
-    rw e (omega (arith, ap length (neighbours-of-a u a b ts (h .differ) (h .radios .0) (h .radios .1) (h .rows .0) (h .rows .1)), rw e at (h .near-long))),
-  )
-
-  end-ready-b : (k : ℕ) → v ≡ b → Near-ready u a b v ts k → End-ready a k
-  end-ready-b k e h = (
-    h .row,
-    h .radios .0,
-    rw e (omega (arith, ap length (neighbours-of-b u a b ts (h .differ) (h .radios .0) (h .radios .1) (h .rows .0) (h .rows .1)), rw e at (h .near-long))),
-  )
-
-  module _ (r : ℕ) {k : ℕ} (new : List ℕ) where
-    lists-a : v ≡ a → Near-ready u a b v ts k → Lists-neighbours (put-bit u v b ts) v r new → Lists-neighbours (put-link u a b ts) v r new
-    lists-a e h =
-        rw e (lists-same r new (neighbours-of-a u a b ts (h .differ) (h .radios .0) (h .radios .1) (h .rows .0) (h .rows .1)))
-
-    lists-b : v ≡ b → Near-ready u a b v ts k → Lists-neighbours (put-bit u v a ts) v r new → Lists-neighbours (put-link u a b ts) v r new
-    lists-b e h =
-        rw e (lists-same r new (neighbours-of-b u a b ts (h .differ) (h .radios .0) (h .radios .1) (h .rows .0) (h .rows .1)))
-
   -- w is the other end, or v itself
   module _ (w : ℕ) (is : w ≡ other-end a b v) where
     which : ((v ≡ a) × (w ≡ b)) ⊎ (((v ≡ b) × (w ≡ a)) ⊎ ((v ≡ a → ⊥) × (v ≡ b → ⊥) × (w ≡ v)))
@@ -162,33 +141,39 @@ module _ (u : Bool) (a b v : ℕ) (ts : List ℕ) where
         go (inr e) (inl f) q = inr (inl (eqb-true v b f, rw (e, f) at q))
         go (inr e) (inr f) q = inr (inr (eqb-false v a e, eqb-false v b f, rw (e, f) at q))
 
-    pub end-ready : (k : ℕ) → (w ≡ v → ⊥) → Near-ready u a b v ts k → End-ready w k
-    end-ready k ne h = go which
+    -- the row of an end, with the bit of the other end put, and any other row as it is
+    pub neighbours-of-end : {k : ℕ} → (w ≡ v → ⊥) → Near-ready u a b v ts k
+        → (w < max-radios) × (neighbours-of (put-bit u v w ts) v ≡ neighbours-of (put-link u a b ts) v)
+    neighbours-of-end ne h = go which
       where
-        go : ((v ≡ a) × (w ≡ b)) ⊎ (((v ≡ b) × (w ≡ a)) ⊎ ((v ≡ a → ⊥) × (v ≡ b → ⊥) × (w ≡ v))) → End-ready w k
-        go (inl q) = rw (q .1) (end-ready-a k (q .0) h)
-        go (inr (inl q)) = rw (q .1) (end-ready-b k (q .0) h)
+        go : ((v ≡ a) × (w ≡ b)) ⊎ (((v ≡ b) × (w ≡ a)) ⊎ ((v ≡ a → ⊥) × (v ≡ b → ⊥) × (w ≡ v)))
+            → (w < max-radios) × (neighbours-of (put-bit u v w ts) v ≡ neighbours-of (put-link u a b ts) v)
+        go (inl q) = rw (q .0, q .1) (h .radios .1, neighbours-of-a u a b ts (h .differ) (h .radios .0) (h .radios .1) (h .rows .0) (h .rows .1))
+        go (inr (inl q)) = rw (q .0, q .1) (h .radios .0, neighbours-of-b u a b ts (h .differ) (h .radios .0) (h .radios .1) (h .rows .0) (h .rows .1))
         go (inr (inr q)) = absurd (ne (q .2))
+
+    neighbours-of-same : {k : ℕ} → w ≡ v → Near-ready u a b v ts k → neighbours-of ts v ≡ neighbours-of (put-link u a b ts) v
+    neighbours-of-same e h = go which
+      where
+        go : ((v ≡ a) × (w ≡ b)) ⊎ (((v ≡ b) × (w ≡ a)) ⊎ ((v ≡ a → ⊥) × (v ≡ b → ⊥) × (w ≡ v))) → neighbours-of ts v ≡ neighbours-of (put-link u a b ts) v
+        go (inl q) = absurd (h .differ (sym (q .0) ∙ sym e ∙ q .1))
+        go (inr (inl q)) = absurd (h .differ (sym (q .1) ∙ e ∙ q .0))
+        go (inr (inr q)) = neighbours-of-other u a b ts (h .differ) (h .radios .0) (h .radios .1) (h .rows .0) (h .rows .1) v (q .0) (q .1)
+
+    -- any other row, lent by itself
+    pub neighbours-of-lent : {k : ℕ} (m : ℕ) → m ≡ row-bytes → w ≡ v → Near-ready u a b v ts k
+        → neighbours-of (take m (drop (row-bytes * v) ts)) 0 ≡ neighbours-of (put-link u a b ts) v
+    neighbours-of-lent m long e h = neighbours-of-part ts v m long (h .row) ∙ neighbours-of-same e h
+
+    pub end-ready : (k : ℕ) → (w ≡ v → ⊥) → Near-ready u a b v ts k → End-ready w k
+    end-ready k ne h = let r = neighbours-of-end ne h in (h .row, r .0, omega (arith, ap length (r .1), h .near-long))
 
     pub lists-end : (r : ℕ) {k : ℕ} (new : List ℕ) → (w ≡ v → ⊥) → Near-ready u a b v ts k → Lists-neighbours (put-bit u v w ts) v r new
         → Lists-neighbours (put-link u a b ts) v r new
-    lists-end r new ne h l = go which
-      where
-        go : ((v ≡ a) × (w ≡ b)) ⊎ (((v ≡ b) × (w ≡ a)) ⊎ ((v ≡ a → ⊥) × (v ≡ b → ⊥) × (w ≡ v))) → Lists-neighbours (put-link u a b ts) v r new
-        go (inl q) = lists-a r new (q .0) h (rw (q .1) at l)
-        go (inr (inl q)) = lists-b r new (q .0) h (rw (q .1) at l)
-        go (inr (inr q)) = absurd (ne (q .2))
+    lists-end r new ne h = lists-same r new (neighbours-of-end ne h .1)
 
     pub lists-other : (r : ℕ) (old new : List ℕ) → w ≡ v → Near-ready u a b v ts (length old) → r ≡ min (length old) (row-count max-neighbours ts v)
         → new ≡ overwrite (take (min (length old) (suc max-neighbours)) (row-listed ts v)) old → Lists-neighbours (put-link u a b ts) v r new
-    lists-other r old new e h counted listed = go which
-      where
-        no-end : (v ≡ a → ⊥) → (v ≡ b → ⊥) → Lists-neighbours (put-link u a b ts) v r new
-        no-end na nb =
-            let same = neighbours-of-other u a b ts (h .differ) (h .radios .0) (h .radios .1) (h .rows .0) (h .rows .1) v na nb in
-            lists-same r new same (lists-row ts v r old new (h .row) (omega (arith, ap length same, h .near-long)) counted listed)
-
-        go : ((v ≡ a) × (w ≡ b)) ⊎ (((v ≡ b) × (w ≡ a)) ⊎ ((v ≡ a → ⊥) × (v ≡ b → ⊥) × (w ≡ v))) → Lists-neighbours (put-link u a b ts) v r new
-        go (inl q) = absurd (h .differ (sym (q .0) ∙ sym e ∙ q .1))
-        go (inr (inl q)) = absurd (h .differ (sym (q .1) ∙ e ∙ q .0))
-        go (inr (inr q)) = no-end (q .0) (q .1)
+    lists-other r old new e h counted listed =
+        let same = neighbours-of-same e h in
+        lists-same r new same (lists-row ts v r old new (h .row) (omega (arith, ap length same, h .near-long)) counted listed)

@@ -1,21 +1,29 @@
 -- The loops of a turn, as invariants over what is left of their lists.
--- In order: lengths, the places that fit at the start, the listed radios released.
+-- In order: lengths, the places that fit at the start, radios released: one, of a list, of a word, of a row.
 use mathlib.Core.Path.{_≡_, refl, sym, ap, _∙_}
 use mathlib.Core.Logic.{_⊎_, inl, inr}
 use mathlib.Core.Bool.{Bool, true, false, _&&_, cond}
-use mathlib.Core.List.{List, [], _∷_}
-use Prim.Native.Nat.{ℕ, suc, _+_, _-_, _≤_, _<_}
+use mathlib.Core.List.{List, [], _∷_, _++_}
+use Prim.Native.Nat.{ℕ, suc, _+_, _*_, _-_, _^_, _≤_, _<_}
 use native.Mathlib.Omega.{arith}
 use native.Mathlib.Numerals.{add-one}
+use lib.Bits.{bitAnd, and-le-l}
+use lib.Count.{trailingZeros}
 use lib.Dec.{leb, eqb}
 use lib.ListN.{length, getD, set, drop, length-set}
 use lib.Seq.{drop-cons, getD-set-other, drop-length}
 use borrow.Author.Tests.{eq-eqb, ne-eqb}
+use Rattle.mesh.specs.Limits.{row-bytes}
 use Rattle.lists.specs.Lists.{range}
 use Rattle.mesh.specs.Tables.{put-bit}
 use Rattle.lists.proofs.Tests.{bool-cases}
+use Rattle.lists.proofs.Member.{in-left}
+use Rattle.lists.proofs.Distinct.{distinct-left}
 use Rattle.lists.proofs.Parts.{length-cond}
 use Rattle.mesh.proofs.Tables.Laws.{length-put-bit}
+use Rattle.rows.specs.Rows.{neighbours-of, row-from, set-bits, row-word, word-of}
+use Rattle.rows.proofs.WordLaws.{set-bits-nothing, set-bits-lowest}
+use Rattle.rows.proofs.RowWords.{row-from-zero, row-from-word, row-from-end, word-of-whole}
 use Rattle.links.specs.Turns.{end-counted, counter-less, released, place-marked, places-released, places-fitting, Releasable}
 
 -- ---- lengths
@@ -109,7 +117,7 @@ module _ (ns ps : List ℕ) (k m v : ℕ) (cs fs : List ℕ) where
   unfolding counter-less place-marked
   release-other e = (rw (ne-eqb (getD ns v 0) k e), rw (ne-eqb (getD ns v 0) k e))
 
--- ---- the listed radios released
+-- ---- radios released
 
 pub releasable-tail : (ns ps : List ℕ) (k v : ℕ) (vs cs : List ℕ) → Releasable ns ps k (v ∷ vs) cs → Releasable ns ps k vs (counter-less ns k v cs)
 unfolding counter-less
@@ -136,43 +144,137 @@ length-places-released ns ps k m (v ∷ vs) cs fs =
     let less = counter-less ns k v cs in
     length-places-released ns ps k m vs less (place-marked ns ps k m v less fs) ∙ length-place-marked ns ps k m v less fs
 
--- from place i of the list on is left
-pub record Releasing (numbers places : List ℕ) (k most : ℕ) (near old fits-old : List ℕ) (i : ℕ) (counters fits : List ℕ) : Type 0 where
+-- what `release_one` asks of the first radio
+pub releasable-head : (ns ps : List ℕ) (k v : ℕ) (vs cs : List ℕ) → Releasable ns ps k (v ∷ vs) cs
+    → (v < length ns) × (v < length ps) × (v < length cs) × (getD ns v 0 ≡ k → 1 ≤ getD cs v 0)
+releasable-head ns ps k v vs cs h = let r = h .known v (inl refl) in (r .0, r .1, r .2, h .above-zero v (inl refl))
+
+releasable-part : (ns ps : List ℕ) (k : ℕ) (xs rest cs : List ℕ) → Releasable ns ps k (xs ++ rest) cs → Releasable ns ps k xs cs
+releasable-part ns ps k xs rest cs h = record {
+  once = distinct-left xs rest (h .once);
+  known = λ w m. h .known w (in-left w xs rest m);
+  above-zero = λ w m. h .above-zero w (in-left w xs rest m);
+}
+
+-- what is left of the radios gives what all of them give
+pub record Releasing (numbers places : List ℕ) (k most : ℕ) (near old fits-old rest counters fits : List ℕ) : Type 0 where
   pub long : length counters ≡ length old
   pub long-fits : length fits ≡ length fits-old
-  pub low : i ≤ length near
-  pub ready : Releasable numbers places k (drop i near) counters
-  pub counted : released numbers k (drop i near) counters ≡ released numbers k near old
-  pub marked : places-released numbers places k most (drop i near) counters fits ≡ places-released numbers places k most near old fits-old
+  pub ready : Releasable numbers places k rest counters
+  pub counted : released numbers k rest counters ≡ released numbers k near old
+  pub marked : places-released numbers places k most rest counters fits ≡ places-released numbers places k most near old fits-old
 
 module _ (ns ps : List ℕ) (k m : ℕ) (near old fold : List ℕ) where
-  pub releasing-none : Releasable ns ps k near old → Releasing ns ps k m near old fold 0 old fold
-  releasing-none h = record { long = refl; long-fits = refl; low = omega arith; ready = h; counted = refl; marked = refl }
+  pub releasing-none : Releasable ns ps k near old → Releasing ns ps k m near old fold near old fold
+  releasing-none h = record { long = refl; long-fits = refl; ready = h; counted = refl; marked = refl }
 
-  -- the next radio
-  pub releasing-next : (i : ℕ) (cs fs : List ℕ) → i < length near → Releasing ns ps k m near old fold i cs fs
-      → Releasable ns ps k (getD near i 0 ∷ drop (suc i) near) cs
-  releasing-next i cs fs l h = rw (drop-cons near i 0 l) at (h .ready)
-
-  pub releasing-turn : (i v : ℕ) (cs fs cs1 fs1 : List ℕ) → i < length near → v ≡ getD near i 0 → cs1 ≡ counter-less ns k v cs
-      → fs1 ≡ place-marked ns ps k m v (counter-less ns k v cs) fs → Releasing ns ps k m near old fold i cs fs
-      → Releasing ns ps k m near old fold (i + 1) cs1 fs1
+  pub releasing-one : (v : ℕ) (rest cs fs cs1 fs1 : List ℕ) → cs1 ≡ counter-less ns k v cs → fs1 ≡ place-marked ns ps k m v (counter-less ns k v cs) fs
+      → Releasing ns ps k m near old fold (v ∷ rest) cs fs → Releasing ns ps k m near old fold rest cs1 fs1
   unfolding released places-released
-  releasing-turn i v cs fs cs1 fs1 l e f g h =
-      let cut : drop i near ≡ v ∷ drop (i + 1) near = drop-cons near i 0 l ∙ rw (e, add-one i) in
-      record {
-        long = ap length f ∙ length-counter-less ns k v cs ∙ h .long;
-        long-fits = ap length g ∙ length-place-marked ns ps k m v (counter-less ns k v cs) fs ∙ h .long-fits;
-        low = omega arith;
-        ready = rw f (releasable-tail ns ps k v (drop (i + 1) near) cs (rw cut at (h .ready)));
-        counted = rw f (rw cut at (h .counted));
-        marked = rw (g, f) (rw cut at (h .marked));
-      }
+  releasing-one v rest cs fs cs1 fs1 f g h = record {
+    long = ap length f ∙ length-counter-less ns k v cs ∙ h .long;
+    long-fits = ap length g ∙ length-place-marked ns ps k m v (counter-less ns k v cs) fs ∙ h .long-fits;
+    ready = rw f (releasable-tail ns ps k v rest cs (h .ready));
+    counted = rw f (h .counted);
+    marked = rw (g, f) (h .marked);
+  }
 
-  pub releasing-end : (i : ℕ) (cs fs : List ℕ) → length near ≤ i → Releasing ns ps k m near old fold i cs fs
+  -- a part of what is left
+  pub releasing-part : (xs rest cs fs cs1 fs1 : List ℕ) → cs1 ≡ released ns k xs cs → fs1 ≡ places-released ns ps k m xs cs fs
+      → Releasing ns ps k m near old fold (xs ++ rest) cs fs → Releasing ns ps k m near old fold rest cs1 fs1
+  unfolding released places-released
+  releasing-part [] rest cs fs cs1 fs1 f g h = rw (f, g) h
+  releasing-part (v ∷ xs) rest cs fs cs1 fs1 f g h =
+      let less = counter-less ns k v cs in
+      releasing-part xs rest less (place-marked ns ps k m v less fs) cs1 fs1 f g (releasing-one v (xs ++ rest) cs fs less (place-marked ns ps k m v less fs) refl refl h)
+
+  pub releasing-end : (rest cs fs : List ℕ) → rest ≡ [] → Releasing ns ps k m near old fold rest cs fs
       → (cs ≡ released ns k near old) × (fs ≡ places-released ns ps k m near old fold)
   unfolding released places-released
-  releasing-end i cs fs l h =
-      let all : i ≡ length near = omega (arith, h .low) in
-      let none : drop i near ≡ [] = ap (λ (x : ℕ). drop x near) all ∙ drop-length near in
-      (rw none at (h .counted), rw none at (h .marked))
+  releasing-end rest cs fs e h = (rw e at (h .counted), rw e at (h .marked))
+
+-- ---- listed radios: from place i of the list on is left
+
+module _ (ns ps : List ℕ) (k m : ℕ) (near old fold : List ℕ) where
+  abbrev pub List-releasing : (i : ℕ) → (counters fits : List ℕ) → Type 0
+  List-releasing i cs fs = (i ≤ length near) × Releasing ns ps k m near old fold (drop i near) cs fs
+
+  module _ (i v : ℕ) (cs fs : List ℕ) (l : i < length near) (e : v ≡ getD near i 0) (h : List-releasing i cs fs) where
+    next : Releasing ns ps k m near old fold (v ∷ drop (i + 1) near) cs fs
+    next = let cut : drop i near ≡ v ∷ drop (i + 1) near = drop-cons near i 0 l ∙ rw (e, add-one i) in rw cut at (h .1)
+
+    pub list-next : (v < length ns) × (v < length ps) × (v < length cs) × (getD ns v 0 ≡ k → 1 ≤ getD cs v 0)
+    list-next = releasable-head ns ps k v (drop (i + 1) near) cs (next .ready)
+
+    pub list-turn : (cs1 fs1 : List ℕ) → cs1 ≡ counter-less ns k v cs → fs1 ≡ place-marked ns ps k m v (counter-less ns k v cs) fs
+        → List-releasing (i + 1) cs1 fs1
+    list-turn cs1 fs1 f g = (omega arith, releasing-one ns ps k m near old fold v (drop (i + 1) near) cs fs cs1 fs1 f g next)
+
+  pub list-end : (i : ℕ) (cs fs : List ℕ) → length near ≤ i → List-releasing i cs fs
+      → (cs ≡ released ns k near old) × (fs ≡ places-released ns ps k m near old fold)
+  list-end i cs fs l h =
+      let all : i ≡ length near = omega (arith, h .0) in
+      releasing-end ns ps k m near old fold (drop i near) cs fs (ap (λ (x : ℕ). drop x near) all ∙ drop-length near) (h .1)
+
+-- ---- the set bits of a word: each turn takes the lowest off
+
+module _ (ns ps : List ℕ) (k m first word : ℕ) (old fold : List ℕ) where
+  abbrev pub Word-releasing : (rest : ℕ) → (counters fits : List ℕ) → Type 0
+  Word-releasing rest cs fs = (rest < 2 ^ 64) × Releasing ns ps k m (set-bits 64 first word) old fold (set-bits 64 first rest) cs fs
+
+  module _ (rest : ℕ) (cs fs : List ℕ) (some : rest ≡ 0 → ⊥) (h : Word-releasing rest cs fs) where
+    abbrev lowest : ℕ
+    lowest = first + trailingZeros 64 rest
+
+    abbrev others : ℕ
+    others = bitAnd rest (rest - 1)
+
+    bits-next : Releasing ns ps k m (set-bits 64 first word) old fold (lowest ∷ set-bits 64 first others) cs fs
+    bits-next = rw (set-bits-lowest 64 first rest (omega arith) (h .0)) at (h .1)
+
+    pub word-next : (lowest < length ns) × (lowest < length ps) × (lowest < length cs) × (getD ns lowest 0 ≡ k → 1 ≤ getD cs lowest 0)
+    word-next = releasable-head ns ps k lowest (set-bits 64 first others) cs (bits-next .ready)
+
+    pub word-turn : (cs1 fs1 : List ℕ) → cs1 ≡ counter-less ns k lowest cs → fs1 ≡ place-marked ns ps k m lowest (counter-less ns k lowest cs) fs
+        → Word-releasing others cs1 fs1
+    word-turn cs1 fs1 f g = (
+      omega (arith, and-le-l rest (rest - 1), h .0),
+      releasing-one ns ps k m (set-bits 64 first word) old fold lowest (set-bits 64 first others) cs fs cs1 fs1 f g bits-next,
+    )
+
+  pub word-end : (rest : ℕ) (cs fs : List ℕ) → rest ≡ 0 → Word-releasing rest cs fs
+      → (cs ≡ released ns k (set-bits 64 first word) old) × (fs ≡ places-released ns ps k m (set-bits 64 first word) old fold)
+  word-end rest cs fs e h =
+      releasing-end ns ps k m (set-bits 64 first word) old fold (set-bits 64 first rest) cs fs (ap (set-bits 64 first) e ∙ set-bits-nothing 64 first) (h .1)
+
+-- ---- the words of a row: from word j on is left
+
+module _ (ns ps : List ℕ) (k m : ℕ) (row old fold : List ℕ) where
+  abbrev pub Row-releasing : (j : ℕ) → (counters fits : List ℕ) → Type 0
+  Row-releasing j cs fs = (j ≤ 8) × Releasing ns ps k m (neighbours-of row 0) old fold (row-from row 0 j) cs fs
+
+  pub row-none : Releasable ns ps k (neighbours-of row 0) old → Row-releasing 0 old fold
+  row-none h = (omega arith, rw (row-from-zero row 0) (releasing-none ns ps k m (neighbours-of row 0) old fold h))
+
+  module _ (long : length row ≡ row-bytes) (bytes : (i : ℕ) → getD row i 0 < 256) (j w : ℕ) (cs fs : List ℕ) (l : j < 8) (e : w ≡ word-of row j)
+      (h : Row-releasing j cs fs) where
+    abbrev bits : List ℕ
+    bits = set-bits 64 (64 * j) w
+
+    row-next : Releasing ns ps k m (neighbours-of row 0) old fold (bits ++ row-from row 0 (j + 1)) cs fs
+    row-next =
+        let here : row-bytes * 0 + 8 * j ≡ 8 * j = omega arith in
+        let is : row-word 8 row (row-bytes * 0 + 8 * j) ≡ w = ap (row-word 8 row) here ∙ sym (word-of-whole row j (omega arith)) ∙ sym e in
+        let split : row-from row 0 j ≡ bits ++ row-from row 0 (j + 1) =
+        row-from-word row bytes 0 j l ∙ ap (λ (x : ℕ). set-bits 64 (64 * j) x ++ row-from row 0 (j + 1)) is in
+        rw split at (h .1)
+
+    pub row-ready : Releasable ns ps k bits cs
+    row-ready = releasable-part ns ps k bits (row-from row 0 (j + 1)) cs (row-next .ready)
+
+    pub row-turn : (cs1 fs1 : List ℕ) → cs1 ≡ released ns k bits cs → fs1 ≡ places-released ns ps k m bits cs fs → Row-releasing (j + 1) cs1 fs1
+    row-turn cs1 fs1 f g = (omega arith, releasing-part ns ps k m (neighbours-of row 0) old fold bits (row-from row 0 (j + 1)) cs fs cs1 fs1 f g row-next)
+
+  pub row-end : (j : ℕ) (cs fs : List ℕ) → 8 ≤ j → Row-releasing j cs fs
+      → (cs ≡ released ns k (neighbours-of row 0) old) × (fs ≡ places-released ns ps k m (neighbours-of row 0) old fold)
+  row-end j cs fs l h = releasing-end ns ps k m (neighbours-of row 0) old fold (row-from row 0 j) cs fs (row-from-end row 0 j l) (h .1)

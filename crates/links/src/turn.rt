@@ -6,10 +6,15 @@ ghost use lib.ListN.{length, getD, take};
 ghost use Rattle.mesh.specs.Limits.{max-radios, max-neighbours, row-bytes};
 ghost use Rattle.lists.specs.Lists.{range};
 ghost use Rattle.mesh.specs.Tables.{put-bit, put-link};
-ghost use Rattle.rows.specs.Rows.{neighbours-of};
+ghost use Rattle.rows.specs.Rows.{neighbours-of, set-bits};
 ghost use Rattle.links.specs.Turns.{end-counted, counter-less, released, place-marked, places-released, places-fitting, Releasable, Near-ready};
 ghost use Rattle.links.specs.Turns.{Lists-neighbours, other-end};
 use mesh::Site;
+
+// The bits of a word, and the words of a row.
+const WORD_BITS: u32 = 64;
+
+const ROW_WORDS: u32 = Site::RADIOS / WORD_BITS;
 
 // The counter of v is one more going up and one less going down after, where v is of the level; the others keep theirs.
 pub(crate) fn count_end(up: bool, level: u8, v: usize, numbers: &[u8], counters: &mut [u8])
@@ -107,17 +112,83 @@ pub(crate) fn release(
     }
 }
 
+// Releases the radios of a word's set bits, counted from `first`, the lowest first.
+fn release_word(
+    word: u64,
+    first: u32,
+    level: u8,
+    most: u8,
+    numbers: &[u8],
+    places: &[u16],
+    counters: &mut [u8],
+    fits: &mut [u8],
+)
+    requires { ⌜ (first ≤ max-radios) × Releasable (now numbers) (now places) level (set-bits 64 first word) (now counters) ⌝ }
+    ensures counted { λ _. ⌜ now (counters .exit) ≡ released (now (numbers .entry)) level (set-bits 64 first word) (now (counters .entry)) ⌝ }
+    ensures marked { λ _. ⌜ now (fits .exit)
+        ≡ places-released (now (numbers .entry)) (now (places .entry)) level most (set-bits 64 first word)
+        (now (counters .entry)) (now (fits .entry)) ⌝ }
+{
+    let mut rest = word;
+    while rest != 0 {
+        let v = first + u64::trailing_zeros(rest);
+        release_one(v as usize, level, most, numbers, places, counters, fits);
+        rest = rest & (rest - 1);
+    }
+}
+
+// Releases the radios that a row marks, which is lent by itself: by its words, with no list between.
+fn release_row(
+    row: &[u8],
+    level: u8,
+    most: u8,
+    numbers: &[u8],
+    places: &[u16],
+    counters: &mut [u8],
+    fits: &mut [u8],
+)
+    requires { ⌜ (length (now row) ≡ row-bytes) × Releasable (now numbers) (now places) level (neighbours-of (now row) 0) (now counters) ⌝ }
+    ensures counted { λ _. ⌜ now (counters .exit) ≡ released (now (numbers .entry)) level (neighbours-of (now (row .entry)) 0) (now (counters .entry)) ⌝ }
+    ensures marked { λ _. ⌜ now (fits .exit)
+        ≡ places-released (now (numbers .entry)) (now (places .entry)) level most (neighbours-of (now (row .entry)) 0)
+        (now (counters .entry)) (now (fits .entry)) ⌝ }
+{
+    let mut k: u32 = 0;
+    while k < ROW_WORDS {
+        release_word(
+            rows::word_of(row, k),
+            WORD_BITS * k,
+            level,
+            most,
+            numbers,
+            places,
+            counters,
+            fits,
+        );
+        k += 1;
+    }
+}
+
+// A copy of row v with its bit w set or cleared.
+fn end_row(up: bool, v: u32, w: u32, links: &[u8]) -> [u8; Site::ROW_BYTES]
+    requires { ⌜ (row-bytes * v + row-bytes ≤ length (now links)) × (w < max-radios) ⌝ }
+    ensures { λ r. ⌜ neighbours-of r 0 ≡ neighbours-of (put-bit up v w (now (links .entry))) v ⌝ }
+{
+    let start = Site::ROW_BYTES * v as usize;
+    let end = start + Site::ROW_BYTES;
+    let mut row = [0u8; Site::ROW_BYTES];
+    tables::fill::copy8(&mut row, &links[start..end]);
+    rows::put_bit(&mut row, up, 0, w);
+    row
+}
+
 // Writes the radios that row v marks, once its bit w is set or cleared, into the list, ascending, and comes back with their count.
 fn end_neighbours(up: bool, v: u32, w: u32, links: &[u8], near: &mut [u16]) -> u8
     requires { ⌜ (row-bytes * v + row-bytes ≤ length (now links)) × (w < max-radios) ×
         (length (neighbours-of (put-bit up v w (now links)) v) ≤ min (length (now near)) (suc max-neighbours)) ⌝ }
     ensures { λ r. ⌜ Lists-neighbours (put-bit up v w (now (links .entry))) v r (now (near .exit)) ⌝ }
 {
-    let mut row = [0u8; Site::ROW_BYTES];
-    let start = Site::ROW_BYTES * v as usize;
-    let end = start + Site::ROW_BYTES;
-    tables::fill::copy8(&mut row, &links[start..end]);
-    rows::put_bit(&mut row, up, 0, w);
+    let row = end_row(up, v, w, links);
     rows::row_neighbours(&row, 0, near)
 }
 
@@ -162,8 +233,30 @@ pub(crate) struct Call {
     pub(crate) most: u8,
 }
 
+// Releases the radios that row v marks, once its bit w is set or cleared.
+fn release_end(
+    call: Call,
+    v: u32,
+    w: u32,
+    links: &[u8],
+    numbers: &[u8],
+    places: &[u16],
+    counters: &mut [u8],
+    fits: &mut [u8],
+)
+    requires { ⌜ (row-bytes * v + row-bytes ≤ length (now links)) × (w < max-radios) ×
+        Releasable (now numbers) (now places) (call .level) (neighbours-of (put-bit (call .up) v w (now links)) v) (now counters) ⌝ }
+    ensures counted { λ _. ⌜ now (counters .exit) ≡ released (now (numbers .entry)) (call .level)
+        (neighbours-of (put-bit (call .up) v w (now (links .entry))) v) (now (counters .entry)) ⌝ }
+    ensures marked { λ _. ⌜ now (fits .exit) ≡ places-released (now (numbers .entry)) (now (places .entry)) (call .level) (call .most)
+        (neighbours-of (put-bit (call .up) v w (now (links .entry))) v) (now (counters .entry)) (now (fits .entry)) ⌝ }
+{
+    let row = end_row(call.up, v, w, links);
+    release_row(&row, call.level, call.most, numbers, places, counters, fits);
+}
+
 // Takes the radio v at place p: the place fits no more, and the neighbours that v has after the call are released.
-// The list `near` is scratch.
+// Its row is walked by words and not listed: `near` keeps its content.
 pub(crate) fn take_radio(
     call: Call,
     p: u32,
@@ -185,10 +278,15 @@ pub(crate) fn take_radio(
         (put-bit false 0 p (now (fits .entry))) ⌝ }
 {
     rows::put_bit(fits, false, 0, p);
-    let k = neighbours_after(call.up, call.a, call.b, v, links, near) as usize;
-    release(
-        near,
-        k,
+    let w = other_end(call.a, call.b, v);
+    if w != v {
+        release_end(call, v, w, links, numbers, places, counters, fits);
+        return;
+    }
+    let start = Site::ROW_BYTES * v as usize;
+    let end = start + Site::ROW_BYTES;
+    release_row(
+        &links[start..end],
         call.level,
         call.most,
         numbers,

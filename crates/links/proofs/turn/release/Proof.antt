@@ -1,24 +1,23 @@
--- `turn::release` meets its contract: the listed radios from place i on give what all of them give (`Releasing`). The measure
+-- `turn::release` meets its contract: the listed radios from place i on give what all of them give (`List-releasing`). The measure
 -- is the radios that are left.
-use mathlib.Core.Path.{_≡_, sym}
-use mathlib.Core.Logic.{inl}
+use mathlib.Core.Path.{sym}
 use Prim.Native.Nat.{_-_}
 use native.Mathlib.Omega.{arith}
-use lib.ListN.{take, getD}
+use lib.ListN.{take}
 use lib.Seq.{length-take-le, getD-take}
 use borrow.Author.Needs.{needs}
-use Rattle.links.proofs.TurnLoops.{Releasing, releasing-none, releasing-next, releasing-turn, releasing-end}
+use Rattle.links.proofs.TurnLoops.{releasing-none, List-releasing, list-next, list-turn, list-end}
 use Rattle.links.proofs.turn.release.Statement.{statement}
 use Rattle.links.proofs.turn.release.Tie as tie
 
 abbrev Inv-loop : tie.InvT-loop
-Inv-loop near k level most numbers places counters₀ fits₀ i₀ counters fits i = Releasing numbers places level most (take k near) counters₀ fits₀ i counters fits
+Inv-loop near k level most numbers places counters₀ fits₀ i₀ counters fits i = List-releasing numbers places level most (take k near) counters₀ fits₀ i counters fits
 
 abbrev μ-loop : tie.MeasureT-loop
 μ-loop near k level most numbers places counters₀ fits₀ i₀ counters fits i = k - i
 
 loop-holds : tie.Need-loop-holds Inv-loop μ-loop
-loop-holds c = releasing-none _ _ _ _ _ _ _ (c .before .before .before .before .before .pre .1)
+loop-holds c = (omega arith, releasing-none _ _ _ _ _ _ _ (c .before .before .before .before .before .pre .1))
 
 cast-release-one : tie.Need-cast-release-one Inv-loop μ-loop
 cast-release-one c = omega (arith, c .shared-slice-known4 .given (c .before .before .loop .i))
@@ -28,10 +27,8 @@ release-one-requires c κs =
     let at-loop = c .before .before .before .before in
     let call = at-loop .before .before .before .before .before .before .args in
     let i = at-loop .loop .i in
-    let at : getD (take (call .k) (call .near .now)) i 0 ≡ getD (call .near .now) i 0 = getD-take (call .k) (call .near .now) i 0 (omega arith) in
-    let next = releasing-next _ _ _ _ _ _ _ i _ _ (omega (arith, length-take-le (call .k) (call .near .now) (omega arith))) (at-loop .loop .inv) in
-    let known = next .known (getD (call .near .now) i 0) (inl at) in
-    (known .0, known .1, known .2, next .above-zero (getD (call .near .now) i 0) (inl at))
+    list-next _ _ _ _ _ _ _ i _ _ _ (omega (arith, length-take-le (call .k) (call .near .now) (omega arith)))
+    (sym (getD-take (call .k) (call .near .now) i 0 (omega arith))) (at-loop .loop .inv)
 
 loop-again : tie.Need-loop-again Inv-loop μ-loop
 loop-again c =
@@ -39,16 +36,16 @@ loop-again c =
     let at-loop = made .before .before .before .before .before in
     let call = at-loop .before .before .before .before .before .before .args in
     let i = at-loop .loop .i in
-    releasing-turn _ _ _ _ _ _ _ i (getD (call .near .now) i 0) _ _ _ _ (omega (arith, length-take-le (call .k) (call .near .now) (omega arith)))
-    (sym (getD-take (call .k) (call .near .now) i 0 (omega arith))) (made .release-one .ensures .0) (made .release-one .ensures .1) (at-loop .loop .inv)
+    list-turn _ _ _ _ _ _ _ i _ _ _ (omega (arith, length-take-le (call .k) (call .near .now) (omega arith)))
+    (sym (getD-take (call .k) (call .near .now) i 0 (omega arith))) (at-loop .loop .inv) _ _ (made .release-one .ensures .0) (made .release-one .ensures .1)
 
 returns : tie.Need-returns Inv-loop μ-loop
 returns c =
     let call = c .before .before .before .before .before .before .before .args in
-    releasing-end _ _ _ _ _ _ _ (c .before .loop .i) _ _ (omega (arith, length-take-le (call .k) (call .near .now) (omega arith))) (c .before .loop .inv)
+    list-end _ _ _ _ _ _ _ (c .before .loop .i) _ _ (omega (arith, length-take-le (call .k) (call .near .now) (omega arith))) (c .before .loop .inv)
 
 pub release-spec : {M : Type 1} → statement M
 release-spec =
     tie.close (
     tie.spec Inv-loop μ-loop loop-holds (λ c. search needs) (λ c. search needs) cast-release-one release-one-requires (λ c. search needs) (λ c. search needs)
-    loop-again (λ c. c .before .loop .inv .long) (λ c. c .before .loop .inv .long-fits) returns)
+    loop-again (λ c. c .before .loop .inv .1 .long) (λ c. c .before .loop .inv .1 .long-fits) returns)

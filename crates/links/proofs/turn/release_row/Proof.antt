@@ -1,0 +1,45 @@
+-- `turn::release_row` meets its contract: the words of the row are released one by one, and the radios from word k on give what the whole
+-- row gives (`Row-releasing`). The measure is the words that are left.
+use Prim.Native.Nat.{_-_}
+use native.Mathlib.Omega.{arith}
+use borrow.Author.Needs.{needs}
+use Rattle.links.proofs.TurnLoops.{Row-releasing, row-none, row-ready, row-turn, row-end}
+use Rattle.links.proofs.turn.release_row.Statement.{statement}
+use Rattle.links.proofs.turn.release_row.Tie as tie
+
+abbrev Inv-loop : tie.InvT-loop
+Inv-loop row level most numbers places counters₀ fits₀ k₀ counters fits k = Row-releasing numbers places level most row counters₀ fits₀ k counters fits
+
+abbrev μ-loop : tie.MeasureT-loop
+μ-loop row level most numbers places counters₀ fits₀ k₀ counters fits k = 8 - k
+
+loop-holds : tie.Need-loop-holds Inv-loop μ-loop
+loop-holds c = row-none _ _ _ _ _ _ _ (c .before .before .before .before .before .pre .1)
+
+release-word-requires : tie.Need-release-word-requires Inv-loop μ-loop
+release-word-requires c κs =
+    let read = c .before .before in
+    let at-loop = read .before .before in
+    let given = at-loop .before .before .before .before .before in (
+      omega arith,
+      row-ready _ _ _ _ _ _ _ (given .before .pre .0) (λ j. given .shared-slice-known .given j .fits) (at-loop .loop .k) _ _ _ (omega arith)
+          (read .word-of .ensures) (at-loop .loop .inv),
+    )
+
+loop-again : tie.Need-loop-again Inv-loop μ-loop
+loop-again c =
+    let made = c .before .before .before .before in
+    let read = made .before .before .before in
+    let at-loop = read .before .before in
+    let given = at-loop .before .before .before .before .before in
+    row-turn _ _ _ _ _ _ _ (given .before .pre .0) (λ j. given .shared-slice-known .given j .fits) (at-loop .loop .k) _ _ _ (omega arith)
+    (read .word-of .ensures) (at-loop .loop .inv) _ _ (made .release-word .ensures .0) (made .release-word .ensures .1)
+
+returns : tie.Need-returns Inv-loop μ-loop
+returns c = row-end _ _ _ _ _ _ _ _ _ _ (c .loop-test .left) (c .before .loop .inv)
+
+pub release-row-spec : {M : Type 1} → statement M
+release-row-spec =
+    tie.close (
+    tie.spec Inv-loop μ-loop loop-holds (λ c κs. search needs) (λ c. search needs) release-word-requires (λ c. search needs) (λ c. search needs)
+    loop-again (λ c. c .before .loop .inv .1 .long) (λ c. c .before .loop .inv .1 .long-fits) returns)
