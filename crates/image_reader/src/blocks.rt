@@ -5,15 +5,14 @@ ghost use mathlib.Core.Bool.{_&&_, cond};
 ghost use lib.Dec.{ltb};
 ghost use lib.ListN.{length, getD, set};
 ghost use Rattle.mesh.specs.Limits.{max-radios};
-ghost use Rattle.mesh.specs.Graph.{graph, link-of, link-before};
-ghost use Rattle.mesh.specs.Tables.{links-table};
+ghost use Rattle.mesh.specs.Graph.{link-of, link-before};
 ghost use Rattle.mesh.specs.Image.{block-bytes, block-entries, block-links, word-at};
 ghost use Rattle.image_reader.specs.Site.{links-up-to, passed, Tallied, Links-so-far, Links-room, Tally-room, Part-is, Block-listed, Order-read};
 use image::bytes;
 use image::layout;
 
 // The two bytes from `at` on as one number, lowest byte first.
-fn word_in(image: &[u8], at: usize) -> u32
+pub(crate) fn word_in(image: &[u8], at: usize) -> u32
     requires { ⌜ at + 2 ≤ length (now image) ⌝ }
     ensures { λ r. ⌜ (r ≡ word-at (now (image .entry)) at) × (r < 65536) ⌝ }
 {
@@ -21,13 +20,13 @@ fn word_in(image: &[u8], at: usize) -> u32
 }
 
 // The links of a block: where the first one stands, and how many there are.
-struct Part {
-    at: usize,
-    count: usize,
+pub(crate) struct Part {
+    pub(crate) at: usize,
+    pub(crate) count: usize,
 }
 
 // The links of block q of the blocks of links, in an image of n radios and m links.
-fn part_of(n: u32, m: u32, q: u32) -> Part
+pub(crate) fn part_of(n: u32, m: u32, q: u32) -> Part
     requires { ⌜ (n ≤ max-radios) × (m < 65536) × (block-links * q < m) ⌝ }
     ensures { λ r. ⌜ Part-is n m q (r .at) (r .count) ⌝ }
 {
@@ -155,23 +154,6 @@ pub(crate) fn tally_block(
         let b = word_in(image, at + 2);
         bump(counts, a, is_below(ranks, a, b, slack));
         bump(counts, b, is_below(ranks, b, a, slack));
-        i += 1;
-    }
-}
-
-// Marks the links of block q in the links table.
-pub(crate) fn mark_block(image: &[u8], n: u32, m: u32, q: u32, links: &mut [u8])
-    requires room { ⌜ Tally-room n m (now image) n n × (block-links * q < m) ⌝ }
-    requires before { ⌜ now links ≡ links-table (graph n (links-up-to n (now image) (passed m q))) ⌝ }
-    ensures { λ _. ⌜ now (links .exit) ≡ links-table (graph n (links-up-to n (now (image .entry)) (passed m (q + 1)))) ⌝ }
-{
-    let part = part_of(n, m, q);
-    let mut i: usize = 0;
-    while i < part.count {
-        let at = part.at + 4 * i;
-        let a = word_in(image, at);
-        let b = word_in(image, at + 2);
-        rows::put_link(links, true, a, b);
         i += 1;
     }
 }

@@ -4,3 +4,4 @@ mod blocks;
 pub mod reader;
 mod site;
 mod source;
+mod table;

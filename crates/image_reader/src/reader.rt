@@ -3,33 +3,17 @@ ghost use mathlib.Core.Path.{_≡_};
 ghost use Prim.Native.Nat.{ℕ, _≤_, _*_};
 ghost use lib.ListN.{length, getD};
 ghost use Rattle.mesh.specs.Limits.{row-bytes};
-ghost use Rattle.mesh.specs.Graph.{graph};
-ghost use Rattle.mesh.specs.Tables.{links-table, lent};
+ghost use Rattle.mesh.specs.Tables.{lent};
 ghost use Rattle.calls.specs.Questions.{alone-refusal};
 ghost use Rattle.calls.specs.Contracts.Images.{Read-contract};
 ghost use Rattle.tables.specs.Widths.{values};
-ghost use Rattle.image_reader.specs.Site.{links-up-to, Tally-room};
 ghost use Rattle.image_reader.specs.Reading.{Source-room, Site-read};
-use super::blocks;
 use super::source;
+use super::table;
 use calls::Refusal;
 use image::bytes;
 use image::layout;
 use mesh::Site;
-
-// The links table of the first m links of the image.
-fn put_links(image: &[u8], n: u32, m: u32, links: &mut [u8])
-    requires { ⌜ Tally-room n m (now image) n n × (length (now links) ≡ row-bytes * n) ⌝ }
-    ensures { λ _. ⌜ now (links .exit) ≡ links-table (graph n (links-up-to n (now (image .entry)) m)) ⌝ }
-{
-    tables::fill::fill8(links, 0);
-    let end = layout::blocks_for(m, layout::LINKS);
-    let mut q: u32 = 0;
-    while q < end {
-        blocks::mark_block(image, n, m, q, links);
-        q += 1;
-    }
-}
 
 // The ranks as bytes.
 fn put_numbers(ranks: &[u16], numbers: &mut [u8])
@@ -64,7 +48,7 @@ fn read_site(
     if number != 0 {
         return number;
     }
-    put_links(image, n, bytes::word_at(image, layout::LINKS_AT), links);
+    table::put_links(image, n, bytes::word_at(image, layout::LINKS_AT), links);
     put_numbers(ranks, numbers);
     tables::fill::copy16(order, listed);
     0

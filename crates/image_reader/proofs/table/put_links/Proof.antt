@@ -1,4 +1,4 @@
--- `reader::put_links` meets its contract: the blocks passed are marked. The measure is the blocks left.
+-- `table::put_links` meets its contract: the blocks passed are marked. The measure is the blocks left.
 use mathlib.Core.Path.{_≡_, refl, sym, _∙_}
 use Prim.Native.Nat.{_-_}
 use lib.ListN.{length}
@@ -6,8 +6,8 @@ use borrow.Author.Needs.{needs}
 use Rattle.image_reader.specs.Site.{passed}
 use Rattle.image_reader.proofs.BlockLaws.{block-there, passed-none, passed-all}
 use Rattle.image_reader.proofs.TableWritten.{Linking, linking-none, linking-at}
-use Rattle.image_reader.proofs.reader.put_links.Statement.{statement}
-use Rattle.image_reader.proofs.reader.put_links.Tie as tie
+use Rattle.image_reader.proofs.table.put_links.Statement.{statement}
+use Rattle.image_reader.proofs.table.put_links.Tie as tie
 
 abbrev Inv-loop : tie.InvT-loop
 Inv-loop image n m links₀ end q₀ links q = (length links ≡ length links₀) × Linking n image links (passed m q)
