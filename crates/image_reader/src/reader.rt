@@ -37,14 +37,13 @@ fn read_site(
     image: &[u8],
     listed: &mut [u16],
     ranks: &mut [u16],
-    counts: &mut [u16],
 ) -> u32
-    requires room { ⌜ Source-room n m (now image) (length (now listed)) (length (now ranks)) (length (now counts)) ⌝ }
+    requires room { ⌜ Source-room n m (now image) (length (now listed)) (length (now ranks)) ⌝ }
     requires sized { ⌜ (length (now links) ≡ row-bytes * n) × (length (now numbers) ≡ n) × (length (now order) ≡ n) ⌝ }
     ensures { λ r. ⌜ Site-read n (now (image .entry)) (lent (links .entry) (numbers .entry) (order .entry)) r
         (lent (links .exit) (numbers .exit) (order .exit)) ⌝ }
 {
-    let number = source::refusal(n, m, image, listed, ranks, counts);
+    let number = source::refusal(n, m, image, listed, ranks);
     if number != 0 {
         return number;
     }
@@ -77,7 +76,6 @@ pub fn read(n: u32, links: &mut [u8], numbers: &mut [u8], order: &mut [u16], ima
     let many = m as usize;
     let mut listed = [0u16; Site::RADIOS as usize];
     let mut ranks = [0u16; Site::RADIOS as usize];
-    let mut counts = [0u16; Site::RADIOS as usize];
     read_site(
         n,
         m,
@@ -87,7 +85,6 @@ pub fn read(n: u32, links: &mut [u8], numbers: &mut [u8], order: &mut [u16], ima
         image,
         &mut listed[..many],
         &mut ranks[..many],
-        &mut counts[..many],
     )
 }
 
@@ -107,13 +104,5 @@ pub fn refusal(n: u32, image: &[u8]) -> u32
     let many = m as usize;
     let mut listed = [0u16; Site::RADIOS as usize];
     let mut ranks = [0u16; Site::RADIOS as usize];
-    let mut counts = [0u16; Site::RADIOS as usize];
-    source::refusal(
-        n,
-        m,
-        image,
-        &mut listed[..many],
-        &mut ranks[..many],
-        &mut counts[..many],
-    )
+    source::refusal(n, m, image, &mut listed[..many], &mut ranks[..many])
 }

@@ -5,8 +5,8 @@ use native.Mathlib.Omega.{arith}
 use lib.ListN.{length}
 use borrow.Author.Needs.{needs}
 use Rattle.mesh.specs.Image.{block-links}
-use Rattle.image_reader.proofs.BlockLaws.{link-in, link-inside, link-index}
-use Rattle.image_reader.proofs.TallyLaws.{proper-pair}
+use Rattle.image_site.proofs.BlockLaws.{link-in, link-inside, link-index, block-passed}
+use Rattle.image_site.proofs.TallyLaws.{proper-pair}
 use Rattle.image_reader.proofs.TableWritten.{Linking, linking-at, linking-turn, rows-there}
 use Rattle.image_reader.proofs.table.mark_block.Statement.{statement}
 use Rattle.image_reader.proofs.table.mark_block.Tie as tie
@@ -63,8 +63,9 @@ loop-again c =
 returns : tie.Need-returns Inv-loop μ-loop
 returns c =
     let at-loop = c .before .before in
-    let part = at-loop .before .part-of .ensures in
-    linking-at _ _ _ _ _ (at-loop .loop .inv .2) (omega (arith, part .up-to, at-loop .loop .inv .0, c .if1 .left))
+    let start = at-loop .before .before .before .before in
+    linking-at _ _ _ _ _ (at-loop .loop .inv .2)
+    (block-passed _ _ _ _ _ (at-loop .before .part-of .ensures) (start .pre .0 .1) _ (at-loop .loop .inv .0) (c .if1 .left))
 
 pub mark-block-spec : {M : Type 1} → statement M
 mark-block-spec =
