@@ -106,20 +106,35 @@ static struct c_part part_of(const uint8_t *image, uint32_t n, unsigned m, unsig
 
 static unsigned link_blocks(unsigned m) { return (m + LINKS - 1) / LINKS; }
 
-/* Whether the links have their lower radio first, radios below n, and stand ascending; counts them at both ends. */
-static int c_listed(const uint8_t *image, uint32_t n, unsigned m, uint16_t *counts) {
-    unsigned low = 0, high = 0;
-    memset(counts, 0, 2 * n);
+static uint32_t long_at(const uint8_t *p) { return word_at(p) | (uint32_t)word_at(p + 2) << 16; }
+
+/* Whether the links have their lower radio first, radios below n, and stand ascending, by a key with the lower radio first. */
+static int c_listed(const uint8_t *image, uint32_t n, unsigned m) {
+    uint32_t last = 0;
+    int good = 1;
+    for (unsigned q = 0; q < link_blocks(m); q++) {
+        struct c_part part = part_of(image, n, m, q);
+        for (unsigned i = 0; i < part.count; i++) {
+            uint32_t x = long_at(part.first + 4 * i), key = x << 16 | x >> 16;
+            good &= ((x & 65535) < x >> 16) & (x >> 16 < n) & (last < key);
+            last = key;
+        }
+    }
+    return good;
+}
+
+/* For each radio, how many links it has, and how many of them lead to a later radio. */
+static inline void c_count_links(const uint8_t *image, uint32_t n, unsigned m, const uint16_t *places, uint16_t *counts, uint16_t *later) {
+    memset(counts, 0, 2 * n), memset(later, 0, 2 * n);
     for (unsigned q = 0; q < link_blocks(m); q++) {
         struct c_part part = part_of(image, n, m, q);
         for (unsigned i = 0; i < part.count; i++) {
             unsigned a = word_at(part.first + 4 * i), b = word_at(part.first + 4 * i + 2);
-            if (b <= a || b >= n || a < low || (a == low && b <= high)) return 0;
             counts[a]++, counts[b]++;
-            low = a, high = b;
+            later[a] += places[a] < places[b];
+            later[b] += places[b] < places[a];
         }
     }
-    return 1;
 }
 
 /* For each radio, how many links lead to a radio with a rank of which, with the slack added, its own is below. */
@@ -157,14 +172,15 @@ static int c_are_few(const uint16_t *counts, uint32_t n) {
 
 /* Question 11 for whole blocks: the order and the numbers worked out on yes. */
 static int c_is_image(const uint8_t *image, size_t length, uint32_t n, uint16_t *order, uint16_t *numbers) {
-    uint16_t places[RADIOS], counts[RADIOS];
+    uint16_t counts[RADIOS], later[RADIOS];
     unsigned m = word_at(image + 6), top = 0;
-    if (n < 1 || !c_formed(image, length, n) || !c_listed(image, n, m, counts) || !c_are_few(counts, n)) return 0;
+    if (n < 1 || !c_formed(image, length, n) || !c_listed(image, n, m)) return 0;
     c_read_order(image, n, order);
-    if (!c_place(n, order, places)) return 0;
-    c_tally(image, n, m, places, 0, counts);
+    if (!c_place(n, order, numbers)) return 0; /* the places, until the numbers take their place */
+    c_count_links(image, n, m, numbers, counts, later);
+    if (!c_are_few(counts, n)) return 0;
     for (unsigned i = 0; i < n; i++) {
-        if (counts[order[i]] > top) top = counts[order[i]];
+        if (later[order[i]] > top) top = later[order[i]];
         numbers[order[i]] = top;
     }
     c_tally(image, n, m, numbers, 1, counts);

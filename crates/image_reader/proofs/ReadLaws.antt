@@ -32,12 +32,12 @@ module _ (n : ℕ) (bs : List ℕ) (one : size-good n ≡ true) (p : ℕ) (p-is 
   pub header-small : (m : ℕ) → m ≡ word-at bs 4 → m ≤ max-radios
   header-small m e = size-good-true m (ap size-good e ∙ passed .1) .1
 
-  pub header-room : (m x y z : ℕ) → m ≡ word-at bs 4 → x ≡ m → y ≡ m → z ≡ m → Source-room n m bs x y z
-  header-room m x y z e ex ey ez = record {
+  pub header-room : (m x y : ℕ) → m ≡ word-at bs 4 → x ≡ m → y ≡ m → Source-room n m bs x y
+  header-room m x y e ex ey = record {
     this-size = one;
     says = e;
     says-size = ap size-good e ∙ passed .1;
-    room = record { most = header-small m e; checked = passed .0 .checks; listed-long = ex; ranks-long = ey; counts-long = ez };
+    room = record { most = header-small m e; checked = passed .0 .checks; listed-long = ex; ranks-long = ey };
   }
 
 -- ---- an image alone

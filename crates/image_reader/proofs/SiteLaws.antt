@@ -11,11 +11,11 @@ use lib.Seq.{ext-getD}
 use borrow.Author.Tests.{le-leb, eqb-true}
 use Rattle.mesh.specs.Limits.{max-radios, max-neighbours}
 use Rattle.lists.specs.Lists.{overwrite, Bytes}
-use Rattle.mesh.specs.Graph.{Graph, graph, proper, ascending}
+use Rattle.mesh.specs.Graph.{Link, Graph, graph, proper, ascending}
 use Rattle.mesh.specs.Cores.{number, numbers}
 use Rattle.mesh.specs.Orders.{is-k-order}
 use Rattle.mesh.specs.Tables.{Tables, tables, links-table}
-use Rattle.mesh.specs.Image.{block-bytes, order-blocks, block-count, word-at, image-order, image-links, image-graph, checks-good, is-image}
+use Rattle.mesh.specs.Image.{block-bytes, block-count, word-at, image-order, image-links, image-graph, checks-good, is-image}
 use Rattle.lists.proofs.Tests.{bool-cases, never, iff-eq, and-left, and-right, and-both}
 use Rattle.lists.proofs.Map.{getD-map-range}
 use Rattle.mesh.proofs.Cores.Peeling.{length-numbers, getD-numbers}
@@ -29,104 +29,95 @@ use Rattle.tables.proofs.WidthLaws.{length-values, values-below}
 use Rattle.lists.proofs.Overwrite.{overwrite-take}
 use Rattle.image_form.specs.Form.{blocks-formed, is-formed}
 use Rattle.image_form.proofs.FormLaws.{is-image-formed}
-use Rattle.image_reader.specs.Site.{links-up-to, few-ends, Tally-room, K-order-decided, Site-decided}
-use Rattle.image_reader.proofs.KOrderLaws.{few-degrees}
+use Rattle.image_site.specs.Site.{links-up-to, few-ends, Tally-room, Site-room, Site-decided}
+use Rattle.image_site.proofs.KOrderLaws.{few-degrees}
+use Rattle.image_reader.specs.Reading.{Image-decided}
 
 -- ---- question 11, part by part
 
-module _ (n : ℕ) (bs : List ℕ) (small : n ≤ max-radios) (b : Bytes bs) (checked : checks-good bs ≡ true) where
-  abbrev site : Graph
-  site = image-graph n bs
+-- an image that is formed has the blocks for its links
+whole-of : (n : ℕ) (bs : List ℕ) (m : ℕ) → m ≡ word-at bs 6 → is-formed n bs ≡ true → length bs ≡ block-bytes * block-count n m
+unfolding is-formed
+whole-of n bs m counted h =
+    let k : ℕ = word-at bs 6 in
+    let long : Bool = eqb (length bs) (block-bytes * block-count n k) in
+    let rest : Bool = blocks-formed n k bs (block-count n k) in
+    eqb-true (length bs) (block-bytes * block-count n k) (and-left long rest (and-right (eqb (word-at bs 4) n) (long && rest) h))
+    ∙ ap (λ (j : ℕ). block-bytes * block-count n j) (sym counted)
 
-  refused : (xs ns : List ℕ) → (is-image n bs ≡ true → ⊥) → Site-decided n bs xs ns false
-  refused xs ns h = record { answer = sym (pick (bool-cases (is-image n bs))); order-is = λ f. never false f refl; numbers-are = λ f. never false f refl }
-    where
-      pick : (is-image n bs ≡ true) ⊎ (is-image n bs ≡ false) → is-image n bs ≡ false
-      pick (inl e) = absurd (h e)
-      pick (inr e) = e
+module _ (n : ℕ) (bs : List ℕ) (small : n ≤ max-radios) (u : Bool) (u-is : u ≡ (leb n max-radios && is-formed n bs)) where
+  -- what asking the site wants
+  pub site-room : u ≡ true → (m x y : ℕ) → m ≡ word-at bs 6 → m < 65536 → x ≡ n → y ≡ n → Site-room n m bs x y
+  site-room e m x y counted fits ex ey = record {
+    most = small;
+    few = fits;
+    whole = omega (arith, whole-of n bs m counted (and-right (leb n max-radios) (is-formed n bs) (sym u-is ∙ e)));
+    order-long = ex;
+    numbers-long = ey;
+  }
 
-  pub not-formed : (xs ns : List ℕ) (u : Bool) → u ≡ (leb n max-radios && is-formed n bs) → u ≡ false → Site-decided n bs xs ns false
-  not-formed xs ns u e f =
-      refused xs ns (λ h. never u (e ∙ and-both (leb n max-radios) (is-formed n bs) (le-leb n max-radios small)
-      (is-image-formed n bs small b checked .0 h .0)) f)
+  module _ (b : Bytes bs) (checked : checks-good bs ≡ true) where
+    -- an image is formed, and its links and its order are valid
+    valid-of : is-image n bs ≡ true → Valid max-neighbours (image-graph n bs) (image-order n bs)
+    valid-of h = is-image-formed n bs small b checked .0 h .1
 
-  module _ (m : ℕ) (counted : m ≡ word-at bs 6) where
-    abbrev listed : Graph
-    listed = graph n (links-up-to n bs m)
+    pub not-formed : (xs ns : List ℕ) → u ≡ false → Image-decided n bs xs ns false
+    not-formed xs ns f = record { answer = sym (pick (bool-cases (is-image n bs))); order-is = λ e. never false e refl; numbers-are = λ e. never false e refl }
+      where
+        pick : (is-image n bs ≡ true) ⊎ (is-image n bs ≡ false) → is-image n bs ≡ false
+        pick (inl e) =
+            never u (u-is ∙ and-both (leb n max-radios) (is-formed n bs) (le-leb n max-radios small) (is-image-formed n bs small b checked .0 e .0)) f
+        pick (inr e) = e
 
-    listed-is : listed ≡ site
-    unfolding image-graph image-links links-up-to
-    listed-is = ap (λ (k : ℕ). graph n (links-up-to n bs k)) counted
+    module _ (yes : u ≡ true) (m : ℕ) (counted : m ≡ word-at bs 6) (xs ns : List ℕ) (r : Bool) (d : Site-decided n m bs xs ns r) where
+      abbrev ls : List Link
+      ls = links-up-to n bs m
 
-    valid-of : is-image n bs ≡ true → Valid max-neighbours listed (image-order n bs)
-    valid-of h = subst (λ (k : Graph). Valid max-neighbours k (image-order n bs)) (sym listed-is) (is-image-formed n bs small b checked .0 h .1)
+      abbrev good : Bool
+      good = proper n ls && ascending ls
 
-    -- an image that is formed has the blocks for its links
-    whole-of : is-formed n bs ≡ true → length bs ≡ block-bytes * block-count n m
-    unfolding is-formed
-    whole-of h =
-        let k : ℕ = word-at bs 6 in
-        let long : Bool = eqb (length bs) (block-bytes * block-count n k) in
-        let rest : Bool = blocks-formed n k bs (block-count n k) in
-        eqb-true (length bs) (block-bytes * block-count n k) (and-left long rest (and-right (eqb (word-at bs 4) n) (long && rest) h))
-        ∙ ap (λ (j : ℕ). block-bytes * block-count n j) (sym counted)
+      listed-is : graph n ls ≡ image-graph n bs
+      unfolding image-graph image-links links-up-to
+      listed-is = ap (λ (k : ℕ). graph n (links-up-to n bs k)) counted
 
-    pub formed-whole : (u : Bool) → u ≡ (leb n max-radios && is-formed n bs) → u ≡ true → length bs ≡ block-bytes * block-count n m
-    formed-whole u e f = whole-of (and-right (leb n max-radios) (is-formed n bs) (sym e ∙ f))
+      -- the site's answer is yes where the links and the order are valid
+      of-valid : Valid max-neighbours (graph n ls) (image-order n bs) → r ≡ true
+      of-valid v =
+          d .answer ∙ and-both good (few-ends max-neighbours n ls && is-k-order (graph n ls) (image-order n bs))
+          (and-both (proper n ls) (ascending ls) (v .links-proper) (v .links-ascending))
+          (and-both (few-ends max-neighbours n ls) (is-k-order (graph n ls) (image-order n bs))
+          (few-degrees n ls (v .links-proper) (v .links-ascending) max-neighbours .1 (v .degrees)) (v .k-order))
 
-    pub image-whole : is-image n bs ≡ true → length bs ≡ block-bytes * block-count n m
-    image-whole h = whole-of (is-image-formed n bs small b checked .0 h .0)
+      to-valid : r ≡ true → Valid max-neighbours (graph n ls) (image-order n bs)
+      to-valid e =
+          let rest : Bool = few-ends max-neighbours n ls && is-k-order (graph n ls) (image-order n bs) in
+          let all = sym (d .answer) ∙ e in
+          let p = and-left (proper n ls) (ascending ls) (and-left good rest all) in
+          let a = and-right (proper n ls) (ascending ls) (and-left good rest all) in
+          let few = and-left (few-ends max-neighbours n ls) (is-k-order (graph n ls) (image-order n bs)) (and-right good rest all) in
+          record {
+            links-proper = p;
+            links-ascending = a;
+            degrees = few-degrees n ls p a max-neighbours .0 few;
+            k-order = and-right (few-ends max-neighbours n ls) (is-k-order (graph n ls) (image-order n bs)) (and-right good rest all);
+          }
 
-    pub orders-inside : (k : ℕ) → k ≡ n → length bs ≡ block-bytes * block-count n m → block-bytes * (1 + order-blocks k) ≤ length bs
-    unfolding block-count
-    orders-inside k e w = rw e (omega arith)
-
-    abbrev good : Bool
-    good = proper n (links-up-to n bs m) && ascending (links-up-to n bs m)
-
-    pub not-listed : (xs ns : List ℕ) (u : Bool) → u ≡ good → u ≡ false → Site-decided n bs xs ns false
-    not-listed xs ns u e f =
-        refused xs ns (λ h. let v = valid-of h in
-        never u (e ∙ and-both (proper n (links-up-to n bs m)) (ascending (links-up-to n bs m)) (v .links-proper) (v .links-ascending)) f)
-
-    module _ (u : Bool) (u-is : u ≡ good) (yes : u ≡ true) where
-      pub is-proper : proper n (links-up-to n bs m) ≡ true
-      is-proper = and-left (proper n (links-up-to n bs m)) (ascending (links-up-to n bs m)) (sym u-is ∙ yes)
-
-      pub is-ascending : ascending (links-up-to n bs m) ≡ true
-      is-ascending = and-right (proper n (links-up-to n bs m)) (ascending (links-up-to n bs m)) (sym u-is ∙ yes)
-
-      pub tally-room : (x y : ℕ) → x ≡ n → y ≡ n → m < 65536 → block-bytes * block-count n m ≤ length bs → Tally-room n m bs x y
-      tally-room x y ex ey fits w = record { most = small; few = fits; whole = w; ranked = ex; counted = ey; is-proper = is-proper }
-
-      pub not-few : (xs ns : List ℕ) (w : Bool) → w ≡ few-ends max-neighbours n (links-up-to n bs m) → w ≡ false → Site-decided n bs xs ns false
-      not-few xs ns w e f =
-          refused xs ns (λ h. never w (e ∙ few-degrees n (links-up-to n bs m) is-proper is-ascending max-neighbours .1 (valid-of h .degrees)) f)
-
-      -- every part but the last got yes: the k-order decides
-      pub site-decided : (asked w r : Bool) (xs ns : List ℕ) → asked ≡ (leb n max-radios && is-formed n bs) → asked ≡ true
-          → w ≡ few-ends max-neighbours n (links-up-to n bs m) → w ≡ true → xs ≡ image-order n bs
-          → K-order-decided listed xs ns r → Site-decided n bs xs ns r
-      unfolding image-graph
-      site-decided asked w r xs ns a-is a-yes w-is w-yes x d = record {
+      -- the form got yes: the site decides
+      pub image-decided : Image-decided n bs xs ns r
+      image-decided = record {
         answer = iff-eq r (is-image n bs)
-            (λ f. is-image-formed n bs small b checked .1 (
-              and-right (leb n max-radios) (is-formed n bs) (sym a-is ∙ a-yes),
-              subst (λ (k : Graph). Valid max-neighbours k (image-order n bs)) listed-is (record {
-                links-proper = is-proper;
-                links-ascending = is-ascending;
-                degrees = few-degrees n (links-up-to n bs m) is-proper is-ascending max-neighbours .0 (sym w-is ∙ w-yes);
-                k-order = sym (d .answer ∙ ap (is-k-order listed) x) ∙ f;
-              }),
+            (λ e. is-image-formed n bs small b checked .1 (
+              and-right (leb n max-radios) (is-formed n bs) (sym u-is ∙ yes),
+              subst (λ (k : Graph). Valid max-neighbours k (image-order n bs)) listed-is (to-valid e),
             ))
-            (λ h. d .answer ∙ ap (is-k-order listed) x ∙ valid-of h .k-order);
-        order-is = λ f. x;
-        numbers-are = λ f v l. d .numbers f v l ∙ ap (λ (k : Graph). number k v) listed-is;
+            (λ h. of-valid (subst (λ (k : Graph). Valid max-neighbours k (image-order n bs)) (sym listed-is) (valid-of h)));
+        order-is = d .order-is;
+        numbers-are = λ e v l. d .numbers-are e v l ∙ ap (λ (k : Graph). number k v) listed-is;
       }
 
 -- ---- the tables
 
-module _ (n : ℕ) (bs : List ℕ) (small : n ≤ max-radios) (xs ns : List ℕ) (u : Bool) (d : Site-decided n bs xs ns u) (yes : u ≡ true) where
+module _ (n : ℕ) (bs : List ℕ) (small : n ≤ max-radios) (xs ns : List ℕ) (u : Bool) (d : Image-decided n bs xs ns u) (yes : u ≡ true) where
   is-site : is-image n bs ≡ true
   is-site = sym (d .answer) ∙ yes
 
@@ -152,12 +143,12 @@ module _ (n : ℕ) (bs : List ℕ) (small : n ≤ max-radios) (xs ns : List ℕ)
       ap (λ (k : ℕ). proper n (links-up-to n bs k)) counted ∙ image-valid n bs small is-site .links-proper
 
   -- what writing the links wants
-  pub site-room : Bytes bs → checks-good bs ≡ true → (m : ℕ) → m ≡ word-at bs 6 → m < 65536 → Tally-room n m bs n n
-  site-room b checked m counted fits =
+  pub links-room : Bytes bs → checks-good bs ≡ true → (m : ℕ) → m ≡ word-at bs 6 → m < 65536 → Tally-room n m bs n n
+  links-room b checked m counted fits =
       record {
         most = small;
         few = fits;
-        whole = omega (arith, image-whole n bs small b checked m counted is-site);
+        whole = omega (arith, whole-of n bs m counted (is-image-formed n bs small b checked .0 is-site .0));
         ranked = refl;
         counted = refl;
         is-proper = site-proper m counted;

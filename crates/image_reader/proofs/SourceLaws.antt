@@ -25,8 +25,7 @@ use Rattle.calls.specs.Contracts.Forms.{Tables-refused}
 use Rattle.calls.proofs.QuestionLaws.{ask-zero}
 use Rattle.calls.proofs.ContractLaws.{by-accepted, by-refused}
 use Rattle.calls.proofs.ChainLaws.{Blocks-good, blocks-zero, blocks-yes}
-use Rattle.image_reader.specs.Site.{Site-decided}
-use Rattle.image_reader.specs.Reading.{header-refusal, Source-decided, Site-read}
+use Rattle.image_reader.specs.Reading.{header-refusal, Image-decided, Source-decided, Site-read}
 
 -- ---- by the header's n
 
@@ -93,7 +92,7 @@ header-passes bs e =
 -- ---- the decision's outcomes; the bytes were decided for the header's m
 
 module _ (n m : ℕ) (bs : List ℕ) (one : size-good n ≡ true) (m-is : m ≡ word-at bs 4) (size : size-good m ≡ true) (xs ns : List ℕ) (u : Bool)
-    (d : Site-decided m bs xs ns u) where
+    (d : Image-decided m bs xs ns u) where
   pub source-none : u ≡ false → Source-decided n bs xs ns 11
   source-none e = record {
     answer = sym (found-none n bs one
@@ -114,7 +113,7 @@ module _ (n m : ℕ) (bs : List ℕ) (one : size-good n ≡ true) (m-is : m ≡ 
 
   pub source-this : u ≡ true → m ≡ n → Source-decided n bs xs ns 0
   source-this e q =
-      let is : Site-decided n bs xs ns u = subst (λ (k : ℕ). Site-decided k bs xs ns u) q d in
+      let is : Image-decided n bs xs ns u = subst (λ (k : ℕ). Image-decided k bs xs ns u) q d in
       record {
         answer = sym (found-this n bs one (sym (is .answer) ∙ e) (sym m-is ∙ q));
         order-is = λ z. is .order-is e;
@@ -135,7 +134,7 @@ unfolding Site-read
 source-accepted n bs t xs ns q r v d e a = by-accepted (source-refusal n bs) (λ k. Tables-refused k r t v) (sym (d .answer) ∙ e) a
 
 -- the bytes are then an image of n radios
-pub source-site : (n : ℕ) (bs xs ns : List ℕ) (r : ℕ) → Source-decided n bs xs ns r → r ≡ 0 → Site-decided n bs xs ns true
+pub source-site : (n : ℕ) (bs xs ns : List ℕ) (r : ℕ) → Source-decided n bs xs ns r → r ≡ 0 → Image-decided n bs xs ns true
 source-site n bs xs ns r d e =
     let a = ask-zero _ (not (other-size n bs)) _ (sym (d .answer) ∙ e) in
     record {

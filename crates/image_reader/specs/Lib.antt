@@ -1,3 +1,2 @@
 -- What the contracts of the reader cite beside the definitions of mesh and calls.
-pub mod Site
 pub mod Reading

@@ -1,33 +1,46 @@
 -- The reader's questions about an image alone, and what reading leaves where 1, 2, 9 and 10 got yes. An image says its n in its
 -- header, so the header's n is the only one to be tried.
 --   header-refusal     9, 10, and 11 where the header says no size
+--   Image-room         what deciding question 11 wants
+--   Image-decided      whether the bytes are an image of n radios, and then its order and its numbers
 --   Source-room        what deciding questions 15 and 11 wants
 --   Source-decided     15, 11 or 0, and then the order and the numbers
 --   Site-read          the tables after
 -- Definitions only.
 use mathlib.Core.Path.{_≡_}
-use mathlib.Core.Bool.{true}
+use mathlib.Core.Bool.{Bool, true}
 use mathlib.Core.List.{List}
-use Prim.Native.Nat.{ℕ, _<_}
+use Prim.Native.Nat.{ℕ, _≤_, _<_}
 use lib.ListN.{getD}
-use Rattle.mesh.specs.Limits.{size-good}
+use Rattle.mesh.specs.Limits.{max-radios, size-good}
 use Rattle.mesh.specs.Cores.{number}
 use Rattle.mesh.specs.Tables.{Tables}
-use Rattle.mesh.specs.Image.{word-at, image-order, image-graph}
+use Rattle.mesh.specs.Image.{word-at, image-order, image-graph, checks-good, is-image}
 use Rattle.calls.specs.Questions.{ask, By-number, blocks-refusal, source-refusal}
 use Rattle.calls.specs.Contracts.Images.{Read-accepted}
 use Rattle.calls.specs.Contracts.Forms.{Tables-refused}
-use Rattle.image_reader.specs.Site.{Site-room}
 
 unfoldable pub header-refusal : (image : List ℕ) → ℕ
 header-refusal bs = blocks-refusal bs (ask 11 (size-good (word-at bs 4)) 0)
 
+-- n radios, an image whose blocks pass their checks, and tables with an entry for each radio
+pub record Image-room (n : ℕ) (image : List ℕ) (listed ranks : ℕ) : Type 0 where
+  pub most : n ≤ max-radios
+  pub checked : checks-good image ≡ true
+  pub listed-long : listed ≡ n
+  pub ranks-long : ranks ≡ n
+
+pub record Image-decided (n : ℕ) (image order numbers : List ℕ) (r : Bool) : Type 0 where
+  pub answer : r ≡ is-image n image
+  pub order-is : r ≡ true → order ≡ image-order n image
+  pub numbers-are : r ≡ true → (v : ℕ) → v < n → getD numbers v 0 ≡ number (image-graph n image) v
+
 -- n and the header's m are sizes, and there is room for m radios
-pub record Source-room (n m : ℕ) (image : List ℕ) (listed ranks counts : ℕ) : Type 0 where
+pub record Source-room (n m : ℕ) (image : List ℕ) (listed ranks : ℕ) : Type 0 where
   pub this-size : size-good n ≡ true
   pub says : m ≡ word-at image 4
   pub says-size : size-good m ≡ true
-  pub room : Site-room m image listed ranks counts
+  pub room : Image-room m image listed ranks
 
 pub record Source-decided (n : ℕ) (image order numbers : List ℕ) (r : ℕ) : Type 0 where
   pub answer : r ≡ source-refusal n image

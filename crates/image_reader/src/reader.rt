@@ -3,33 +3,17 @@ ghost use mathlib.Core.Path.{_≡_};
 ghost use Prim.Native.Nat.{ℕ, _≤_, _*_};
 ghost use lib.ListN.{length, getD};
 ghost use Rattle.mesh.specs.Limits.{row-bytes};
-ghost use Rattle.mesh.specs.Graph.{graph};
-ghost use Rattle.mesh.specs.Tables.{links-table, lent};
+ghost use Rattle.mesh.specs.Tables.{lent};
 ghost use Rattle.calls.specs.Questions.{alone-refusal};
 ghost use Rattle.calls.specs.Contracts.Images.{Read-contract};
 ghost use Rattle.tables.specs.Widths.{values};
-ghost use Rattle.image_reader.specs.Site.{links-up-to, Tally-room};
 ghost use Rattle.image_reader.specs.Reading.{Source-room, Site-read};
-use super::blocks;
 use super::source;
+use super::table;
 use calls::Refusal;
 use image::bytes;
 use image::layout;
 use mesh::Site;
-
-// The links table of the first m links of the image.
-fn put_links(image: &[u8], n: u32, m: u32, links: &mut [u8])
-    requires { ⌜ Tally-room n m (now image) n n × (length (now links) ≡ row-bytes * n) ⌝ }
-    ensures { λ _. ⌜ now (links .exit) ≡ links-table (graph n (links-up-to n (now (image .entry)) m)) ⌝ }
-{
-    tables::fill::fill8(links, 0);
-    let end = layout::blocks_for(m, layout::LINKS);
-    let mut q: u32 = 0;
-    while q < end {
-        blocks::mark_block(image, n, m, q, links);
-        q += 1;
-    }
-}
 
 // The ranks as bytes.
 fn put_numbers(ranks: &[u16], numbers: &mut [u8])
@@ -53,18 +37,17 @@ fn read_site(
     image: &[u8],
     listed: &mut [u16],
     ranks: &mut [u16],
-    counts: &mut [u16],
 ) -> u32
-    requires room { ⌜ Source-room n m (now image) (length (now listed)) (length (now ranks)) (length (now counts)) ⌝ }
+    requires room { ⌜ Source-room n m (now image) (length (now listed)) (length (now ranks)) ⌝ }
     requires sized { ⌜ (length (now links) ≡ row-bytes * n) × (length (now numbers) ≡ n) × (length (now order) ≡ n) ⌝ }
     ensures { λ r. ⌜ Site-read n (now (image .entry)) (lent (links .entry) (numbers .entry) (order .entry)) r
         (lent (links .exit) (numbers .exit) (order .exit)) ⌝ }
 {
-    let number = source::refusal(n, m, image, listed, ranks, counts);
+    let number = source::refusal(n, m, image, listed, ranks);
     if number != 0 {
         return number;
     }
-    put_links(image, n, bytes::word_at(image, layout::LINKS_AT), links);
+    table::put_links(image, n, bytes::word_at(image, layout::LINKS_AT), links);
     put_numbers(ranks, numbers);
     tables::fill::copy16(order, listed);
     0
@@ -93,7 +76,6 @@ pub fn read(n: u32, links: &mut [u8], numbers: &mut [u8], order: &mut [u16], ima
     let many = m as usize;
     let mut listed = [0u16; Site::RADIOS as usize];
     let mut ranks = [0u16; Site::RADIOS as usize];
-    let mut counts = [0u16; Site::RADIOS as usize];
     read_site(
         n,
         m,
@@ -103,7 +85,6 @@ pub fn read(n: u32, links: &mut [u8], numbers: &mut [u8], order: &mut [u16], ima
         image,
         &mut listed[..many],
         &mut ranks[..many],
-        &mut counts[..many],
     )
 }
 
@@ -123,13 +104,5 @@ pub fn refusal(n: u32, image: &[u8]) -> u32
     let many = m as usize;
     let mut listed = [0u16; Site::RADIOS as usize];
     let mut ranks = [0u16; Site::RADIOS as usize];
-    let mut counts = [0u16; Site::RADIOS as usize];
-    source::refusal(
-        n,
-        m,
-        image,
-        &mut listed[..many],
-        &mut ranks[..many],
-        &mut counts[..many],
-    )
+    source::refusal(n, m, image, &mut listed[..many], &mut ranks[..many])
 }

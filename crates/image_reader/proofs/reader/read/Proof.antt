@@ -76,30 +76,24 @@ array-borrow-prefix-ranks c = small (c .before .before .before .before)
 slice-aggregate-read-site-2 : tie.Need-slice-aggregate-read-site-2
 slice-aggregate-read-site-2 c = sym (length-take-le _ _ (small (c .before .before .before .before .before)))
 
-array-borrow-prefix-counts : tie.Need-array-borrow-prefix-counts
-array-borrow-prefix-counts c = small (c .before .before .before .before .before)
-
-slice-aggregate-read-site-3 : tie.Need-slice-aggregate-read-site-3
-slice-aggregate-read-site-3 c = sym (length-take-le _ _ (small (c .before .before .before .before .before .before)))
-
 read-site-requires : tie.Need-read-site-requires
 unfolding lengths-of
 read-site-requires c κs =
-    let passed = c .before .before .before .before .before .before in
+    let passed = c .before .before .before .before .before in
     let else2 = passed .before in
     let else1 = else2 .before .before in
     let bs = else1 .before .before .before .before .before .before .args .image .now in
     let many = small passed in (
-      header-room _ bs (one passed) _ (else2 .before .header-refusal .ensures) (else2 .if2 .left) _ _ _ _ (passed .word-at .ensures .0)
-          (length-take-le _ _ many) (length-take-le _ _ many) (length-take-le _ _ many),
+      header-room _ bs (one passed) _ (else2 .before .header-refusal .ensures) (else2 .if2 .left) _ _ _ (passed .word-at .ensures .0)
+          (length-take-le _ _ many) (length-take-le _ _ many),
       read-sized _ bs (held passed) _ (else1 .before .of-tables .ensures) (else1 .if1 .left),
     )
 
 returns-3 : tie.Need-returns-3
 unfolding lengths-of
 returns-3 c =
-    let read = c .before .before .before .before .before .before .before .before .before in
-    let passed = read .before .before .before .before .before .before .before in
+    let read = c .before .before .before .before .before .before .before .before in
+    let passed = read .before .before .before .before .before .before in
     let else2 = passed .before in
     let else1 = else2 .before .before in
     let bs = else1 .before .before .before .before .before .before .args .image .now in
@@ -110,5 +104,5 @@ pub read-spec : {M : Type 1} → statement M
 read-spec =
     tie.close (
     tie.spec (λ c κs. search needs) returns (λ c κs. search needs) returns-2 (λ c κs. search needs) (λ c. search needs) array-borrow-prefix-listed
-    slice-aggregate-read-site array-borrow-prefix-ranks slice-aggregate-read-site-2 array-borrow-prefix-counts slice-aggregate-read-site-3
+    slice-aggregate-read-site array-borrow-prefix-ranks slice-aggregate-read-site-2
     read-site-requires (λ c. search needs) (λ c. search needs) (λ c. search needs) returns-3)

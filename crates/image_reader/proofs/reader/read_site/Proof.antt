@@ -5,23 +5,23 @@ use borrow.Author.Needs.{needs}
 use Rattle.lists.specs.Lists.{Bytes}
 use Rattle.mesh.specs.Tables.{tables}
 use Rattle.mesh.proofs.Sizes.{size-good-true}
-use Rattle.image_reader.proofs.SiteLaws.{site-accepted, site-room}
+use Rattle.image_reader.proofs.SiteLaws.{site-accepted, links-room}
 use Rattle.image_reader.proofs.SourceLaws.{source-refused, source-accepted, source-site, source-says}
 use Rattle.image_reader.proofs.reader.read_site.Statement.{statement}
 use Rattle.image_reader.proofs.reader.read_site.Tie as tie
 
 returns : tie.Need-returns
 returns c =
-    let source = c .before .before .before .before .before .before .before in source-refused _ _ _ _ _ _ (source .refusal .ensures) (c .if1 .taken)
+    let source = c .before .before .before .before .before in source-refused _ _ _ _ _ _ (source .refusal .ensures) (c .if1 .taken)
 
 put-links-requires : tie.Need-put-links-requires
 put-links-requires c κs =
     let word = c .before in
     let else1 = word .before in
-    let source = else1 .before .before .before .before .before .before .before in
-    let start = source .before .before .before .before .before .before .before .before .before .before .before in
-    let bytes : Bytes (start .args .image .now) = λ j l. source .before .before .before .before .before .before .before .shared-slice-known .given j .fits in (
-      site-room _ _ (size-good-true _ (start .pre .0 .this-size) .1) _ _ _ (source-site _ _ _ _ _ (source .refusal .ensures) (else1 .if1 .left)) refl bytes
+    let source = else1 .before .before .before .before .before in
+    let start = source .before .before .before .before .before .before .before .before .before in
+    let bytes : Bytes (start .args .image .now) = λ j l. source .before .before .before .before .before .shared-slice-known .given j .fits in (
+      links-room _ _ (size-good-true _ (start .pre .0 .this-size) .1) _ _ _ (source-site _ _ _ _ _ (source .refusal .ensures) (else1 .if1 .left)) refl bytes
           (start .pre .0 .room .checked) _ (word .word-at .ensures .0) (word .word-at .ensures .1),
       start .pre .1 .0,
     )
@@ -30,8 +30,8 @@ put-numbers-requires : tie.Need-put-numbers-requires
 put-numbers-requires c κs =
     let word = c .before .before .before .before .before .before in
     let else1 = word .before in
-    let source = else1 .before .before .before .before .before .before .before in
-    let start = source .before .before .before .before .before .before .before .before .before .before .before in
+    let source = else1 .before .before .before .before .before in
+    let start = source .before .before .before .before .before .before .before .before .before in
     let room = start .pre .0 in
     omega (
       arith,
@@ -48,8 +48,8 @@ returns-2 c =
     let linked = numbered .before .before .before .before .before in
     let word = linked .before .before in
     let else1 = word .before in
-    let source = else1 .before .before .before .before .before .before .before in
-    let start = source .before .before .before .before .before .before .before .before .before .before .before in
+    let source = else1 .before .before .before .before .before in
+    let start = source .before .before .before .before .before .before .before .before .before in
     let t = tables (start .args .links .now) (start .args .numbers .now) (start .args .order .now) in
     source-accepted _ _ t _ _ _ _ _ (source .refusal .ensures) (else1 .if1 .left)
     (site-accepted _ _ (size-good-true _ (start .pre .0 .this-size) .1) _ _ _ (source-site _ _ _ _ _ (source .refusal .ensures) (else1 .if1 .left)) refl
@@ -59,6 +59,6 @@ returns-2 c =
 pub read-site-spec : {M : Type 1} → statement M
 read-site-spec =
     tie.close (
-    tie.spec (λ c κs. search needs) (λ c. search needs) (λ c. search needs) (λ c. search needs) returns (λ c κs. search needs) put-links-requires
+    tie.spec (λ c κs. search needs) (λ c. search needs) (λ c. search needs) returns (λ c κs. search needs) put-links-requires
     put-numbers-requires (λ c κs. search needs) (λ c. search needs) (λ c. search needs) (λ c. search needs) (λ c. search needs) (λ c. search needs)
-    (λ c. search needs) returns-2)
+    returns-2)

@@ -60,24 +60,18 @@ array-borrow-prefix-ranks c = small (c .before)
 slice-aggregate-refusal-2 : tie.Need-slice-aggregate-refusal-2
 slice-aggregate-refusal-2 c = sym (length-take-le _ _ (small (c .before .before)))
 
-array-borrow-prefix-counts : tie.Need-array-borrow-prefix-counts
-array-borrow-prefix-counts c = small (c .before .before)
-
-slice-aggregate-refusal-3 : tie.Need-slice-aggregate-refusal-3
-slice-aggregate-refusal-3 c = sym (length-take-le _ _ (small (c .before .before .before)))
-
 refusal-requires : tie.Need-refusal-requires
 refusal-requires c κs =
-    let passed = c .before .before .before in
+    let passed = c .before .before in
     let else2 = passed .before in
     let many = small passed in
-    header-room _ _ (one passed) _ (else2 .before .header-refusal .ensures) (else2 .if2 .left) _ _ _ _ (passed .word-at .ensures .0)
-    (length-take-le _ _ many) (length-take-le _ _ many) (length-take-le _ _ many)
+    header-room _ _ (one passed) _ (else2 .before .header-refusal .ensures) (else2 .if2 .left) _ _ _ (passed .word-at .ensures .0)
+    (length-take-le _ _ many) (length-take-le _ _ many)
 
 returns-3 : tie.Need-returns-3
 returns-3 c =
-    let source = c .before .before .before in
-    let passed = source .before .before .before .before in
+    let source = c .before .before in
+    let passed = source .before .before .before in
     let else2 = passed .before in
     alone-decided _ _ (one passed) _ (else2 .before .header-refusal .ensures) (else2 .if2 .left) _ _ _ (source .refusal .ensures)
 
@@ -85,5 +79,4 @@ pub refusal-spec : {M : Type 1} → statement M
 refusal-spec =
     tie.close (
     tie.spec (λ c κs. search needs) returns (λ c κs. search needs) returns-2 (λ c κs. search needs) (λ c. search needs) array-borrow-prefix-listed
-    slice-aggregate-refusal array-borrow-prefix-ranks slice-aggregate-refusal-2 array-borrow-prefix-counts slice-aggregate-refusal-3 refusal-requires
-    returns-3)
+    slice-aggregate-refusal array-borrow-prefix-ranks slice-aggregate-refusal-2 refusal-requires returns-3)

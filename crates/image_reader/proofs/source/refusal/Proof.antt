@@ -7,28 +7,28 @@ use Rattle.image_reader.proofs.source.refusal.Tie as tie
 
 returns : tie.Need-returns
 returns c =
-    let site = c .before .before .before .before .before .before .before in
-    let room = site .before .before .before .before .before .before .before .before .pre in
-    source-none _ _ _ (room .this-size) (room .says) (room .says-size) _ _ _ (site .is-site .ensures) (not-true (site .is-site .result) (c .if1 .taken))
+    let image = c .before .before .before .before .before in
+    let room = image .before .before .before .before .before .before .pre in
+    source-none _ _ _ (room .this-size) (room .says) (room .says-size) _ _ _ (image .is-image .ensures) (not-true (image .is-image .result) (c .if1 .taken))
 
 returns-2 : tie.Need-returns-2
 returns-2 c =
     let else1 = c .before in
-    let site = else1 .before .before .before .before .before .before .before in
-    let room = site .before .before .before .before .before .before .before .before .pre in
-    source-other _ _ _ (room .this-size) (room .says) (room .says-size) _ _ _ (site .is-site .ensures) (not-false (site .is-site .result) (else1 .if1 .left))
+    let image = else1 .before .before .before .before .before in
+    let room = image .before .before .before .before .before .before .pre in
+    source-other _ _ _ (room .this-size) (room .says) (room .says-size) _ _ _ (image .is-image .ensures) (not-false (image .is-image .result) (else1 .if1 .left))
     (c .if2 .taken)
 
 returns-3 : tie.Need-returns-3
 returns-3 c =
     let else1 = c .before in
-    let site = else1 .before .before .before .before .before .before .before in
-    let room = site .before .before .before .before .before .before .before .before .pre in
-    source-this _ _ _ (room .this-size) (room .says) (room .says-size) _ _ _ (site .is-site .ensures) (not-false (site .is-site .result) (else1 .if1 .left))
+    let image = else1 .before .before .before .before .before in
+    let room = image .before .before .before .before .before .before .pre in
+    source-this _ _ _ (room .this-size) (room .says) (room .says-size) _ _ _ (image .is-image .ensures) (not-false (image .is-image .result) (else1 .if1 .left))
     (c .if2 .left)
 
 pub refusal-spec : {M : Type 1} → statement M
 refusal-spec =
     tie.close (
-    tie.spec (λ c κs. search needs) (λ c. search needs) (λ c. search needs) (λ c. search needs) returns (λ c. search needs) (λ c. search needs)
-    (λ c. search needs) returns-2 (λ c. search needs) (λ c. search needs) (λ c. search needs) returns-3)
+    tie.spec (λ c κs. search needs) (λ c. search needs) (λ c. search needs) returns (λ c. search needs) (λ c. search needs) returns-2
+    (λ c. search needs) (λ c. search needs) returns-3)

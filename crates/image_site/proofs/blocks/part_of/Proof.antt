@@ -1,0 +1,18 @@
+-- `blocks::part_of` meets its contract: the place and the count are the definition's own.
+use mathlib.Core.Path.{refl}
+use borrow.Author.Needs.{needs}
+use Rattle.mesh.specs.Image.{order-blocks}
+use Rattle.image_site.proofs.BlockLaws.{part-is}
+use Rattle.image_site.proofs.blocks.part_of.Statement.{statement}
+use Rattle.image_site.proofs.blocks.part_of.Tie as tie
+
+returns : tie.Need-returns
+unfolding order-blocks
+returns c =
+    let left = c .before in part-is _ _ _ _ _ _ _ (left .before .blocks-for .ensures) refl (left .links-from .ensures) (c .least .ensures)
+
+pub part-of-spec : {M : Type 1} → statement M
+part-of-spec =
+    tie.close (
+    tie.spec (λ c κs. search needs) (λ c. search needs) (λ c. search needs) (λ c. search needs) (λ c. search needs) (λ c. search needs)
+    (λ c. search needs) (λ c κs. search needs) (λ c κs. search needs) returns)
