@@ -30,28 +30,63 @@ static void close_block(uint8_t *block) {
     put_word(block + BODY, sum), put_word(block + BODY + 2, sum >> 16);
 }
 
-static struct c_value c_image_write(const struct lent *t, uint8_t *buffer, size_t room) {
+static unsigned c_blocks(unsigned n, unsigned links) { return 1 + (n + ENTRIES - 1) / ENTRIES + (links + LINKS - 1) / LINKS; }
+
+/* Whether there is room for the image: the links are counted only where there is none for as many as a site may have. */
+static int c_has_room(const struct lent *t, size_t room) {
     uint16_t list[NEIGHBOURS];
-    unsigned number = c_refusal(t, 1), count = 0;
-    if (number) return (struct c_value){number, 0};
+    unsigned count = 0;
+    if (BLOCK * c_blocks(t->n, NEIGHBOURS / 2 * t->n) <= room) return 1;
     for (unsigned a = 0; a < t->n; a++) count += c_above(t->links, a, list);
-    unsigned orders = (t->n + ENTRIES - 1) / ENTRIES, blocks = 1 + orders + (count + LINKS - 1) / LINKS;
-    if (room < BLOCK * blocks) return (struct c_value){9, 0};
-    for (unsigned i = 0, row = 0, place = 0; i < blocks; i++) {
+    return BLOCK * c_blocks(t->n, count) <= room;
+}
+
+/* Where the next link goes, and the end of the payload of its block: at the end, it goes into the next block. */
+struct c_spot {
+    size_t at, end;
+};
+
+static inline struct c_spot put_bits(uint8_t *buffer, struct c_spot p, unsigned a, unsigned first, uint64_t word) {
+    for (; word; word &= word - 1) {
+        if (p.at == p.end) {
+            uint8_t *block = buffer + p.end + 4;
+            block[0] = 2, block[1] = 0;
+            put_word(block + 2, (p.end + 4) / BLOCK);
+            p.at = p.end + 8, p.end += BLOCK;
+        }
+        put_word(buffer + p.at, a), put_word(buffer + p.at + 2, first + __builtin_ctzll(word));
+        p.at += 4;
+    }
+    return p;
+}
+
+/* The links, from block `first` on; how many these are. */
+static unsigned put_links(const struct lent *t, uint8_t *buffer, unsigned first) {
+    struct c_spot p = {BLOCK * first - 4, BLOCK * first - 4};
+    for (unsigned a = 0; a < t->n; a++) {
+        p = put_bits(buffer, p, a, a + 1, row_word(t->links, a, a / 64) >> a % 64 >> 1);
+        for (unsigned i = a / 64 + 1; i < ROW / 8; i++) p = put_bits(buffer, p, a, 64 * i, row_word(t->links, a, i));
+    }
+    return LINKS * ((p.end + 4) / BLOCK - first) - (p.end - p.at) / 4;
+}
+
+static struct c_value c_image_write(const struct lent *t, uint8_t *buffer, size_t room) {
+    unsigned number = c_refusal(t, 1), orders = (t->n + ENTRIES - 1) / ENTRIES;
+    if (number) return (struct c_value){number, 0};
+    if (!c_has_room(t, room)) return (struct c_value){9, 0};
+    unsigned count = put_links(t, buffer, 1 + orders), blocks = c_blocks(t->n, count);
+    for (unsigned i = 0; i < blocks; i++) {
         uint8_t *block = buffer + BLOCK * i;
-        open_block(block, i == 0 ? 0 : i <= orders ? 1 : 2, i);
         if (i == 0) {
+            open_block(block, 0, 0);
             put_word(block + HEAD, t->n), put_word(block + HEAD + 2, count);
         } else if (i <= orders) {
             unsigned from = ENTRIES * (i - 1);
+            open_block(block, 1, i);
             for (unsigned j = 0; j < ENTRIES && from + j < t->n; j++) put_word(block + HEAD + 2 * j, t->order[from + j]);
         } else {
-            for (unsigned put = 0; row < t->n; row++, place = 0) {
-                unsigned end = c_above(t->links, row, list);
-                for (; put < LINKS && place < end; put++, place++)
-                    put_word(block + HEAD + 4 * put, row), put_word(block + HEAD + 4 * put + 2, list[place]);
-                if (place < end) break;
-            }
+            unsigned left = count - LINKS * (i - 1 - orders), used = HEAD + 4 * (left < LINKS ? left : LINKS);
+            memset(block + used, 0, BLOCK - used);
         }
         close_block(block);
     }

@@ -1,19 +1,21 @@
 -- Laws of the block filler.
--- In order: laws of lists, a block opened, a block sealed, an opened block with its payload sealed, entries put one after the other.
+-- In order: a block opened, zeros stored, a block sealed, an opened block with its payload sealed, entries put one after the other.
 use mathlib.Core.Path.{_≡_, refl, sym, ap, ap₂, _∙_}
 use mathlib.Core.List.{List, [], _∷_, _++_, flatMap, append-assoc, append-nil}
-use Prim.Native.Nat.{ℕ, _+_, _*_, _-_, _/_, _%_, _≤_, _<_, min}
+use Prim.Native.Nat.{ℕ, suc, _+_, _*_, _-_, _/_, _%_, _≤_, _<_, min}
 use native.Mathlib.Omega.{arith}
 use native.Mathlib.Nat.{div-div-eq-div-mul}
 use native.Mathlib.Numerals.{add-one}
 use lib.ListN.{length, getD, take, drop, set, replicate, length-append, length-take, length-drop, replicate-append-replicate, drop-of-length-le}
 use lib.Seq.{sets, sets-eq, length-sets, take-suc, take-at, take-all, length-take-le, drop-drop, getD-take, getD-drop}
+use borrow.Rule.Slice.PartMut.{putMid}
 use Rattle.mesh.specs.Image.{block-bytes, payload-bytes, block-entries, word, long, check-sum, block}
 use Rattle.mesh.proofs.Images.Blocks.{block-body, block-check-last, length-block-body}
 use Rattle.lists.proofs.Parts.{length-flatMap, drop-replicate}
 use Rattle.mesh.proofs.Images.Words.{length-word, length-long}
 use Rattle.lists.proofs.Overwrite.{sets-append}
 use Rattle.image_writer.specs.Filler.{opened, sealed}
+use Rattle.image_writer.specs.Blocks.{links-head}
 use Rattle.lists.proofs.Map.{flatMap-append}
 
 -- ---- a block opened
@@ -25,6 +27,21 @@ opened-sets k i b e = rw e
 pub length-opened : (k i : ℕ) → length (opened k i) ≡ block-bytes
 unfolding opened word
 length-opened k i = refl
+
+-- the head of a block of links, stored
+pub head-sets : (b : List ℕ) (at i : ℕ) → sets (set (set b at 2) (at + 1) 0) (at + 2) (word i) ≡ sets b at (links-head i)
+unfolding links-head
+head-sets b at i =
+    let one : at + 1 ≡ suc at = omega arith in
+    let two : at + 2 ≡ suc (suc at) = omega arith in rw (one, two)
+
+-- zeros stored after the first e bytes
+pub zeros-put : (part new : List ℕ) (e k : ℕ) → length part ≡ block-bytes → e ≤ block-bytes → k ≡ block-bytes - e
+    → new ≡ replicate (length (take k (drop e part))) 0 → putMid e k part new ≡ take e part ++ replicate (block-bytes - e) 0
+zeros-put part new e k long h m is =
+    let n : length (take k (drop e part)) ≡ block-bytes - e = omega (arith, length-take k (drop e part), length-drop e part) in
+    let past : drop k (drop e part) ≡ [] = drop-of-length-le (drop e part) {i = k} (omega (arith, length-drop e part)) in
+    ap (λ (zs : List ℕ). take e part ++ zs) (ap₂ {C = List ℕ} (λ xs ys. xs ++ ys) (is ∙ ap (λ (j : ℕ). replicate {A = ℕ} j 0) n) past ∙ append-nil (replicate (block-bytes - e) 0))
 
 -- ---- a block sealed
 
@@ -45,15 +62,21 @@ sealed-sets b x h e =
 -- ---- an opened block with its payload, sealed
 
 module _ (k i : ℕ) (xs : List ℕ) (fits : length xs ≤ payload-bytes) where
-  filled-body : sets (opened k i) 4 xs ≡ block-body k i xs ++ replicate 4 0
+  -- the head, the payload and zeros after it
+  pub filled-payload : sets (opened k i) 4 xs ≡ k ∷ 0 ∷ word i ++ xs ++ replicate (508 - length xs) 0
   unfolding opened word
-  filled-body =
-      let rest : replicate {A = ℕ} (508 - length xs) 0 ≡ replicate (payload-bytes - length xs) 0 ++ replicate 4 0 =
-      let e : 508 - length xs ≡ payload-bytes - length xs + 4 = omega arith in
-      ap (λ (m : ℕ). replicate {A = ℕ} m 0) e ∙ sym (replicate-append-replicate (payload-bytes - length xs) 4 0) in
+  filled-payload =
       let four : drop (4 + length xs) (opened k i) ≡ drop (length xs) (replicate 508 0) = sym (drop-drop (length xs) 4 (opened k i)) in
       sets-eq xs (opened k i) 4 (omega (arith, length-opened k i))
-      ∙ ap (λ (ys : List ℕ). (k ∷ 0 ∷ i % 256 ∷ i / 256 % 256 ∷ xs) ++ ys) (four ∙ drop-replicate (length xs) 508 0 ∙ rest)
+      ∙ ap (λ (ys : List ℕ). (k ∷ 0 ∷ i % 256 ∷ i / 256 % 256 ∷ xs) ++ ys) (four ∙ drop-replicate (length xs) 508 0)
+
+  filled-body : sets (opened k i) 4 xs ≡ block-body k i xs ++ replicate 4 0
+  unfolding word
+  filled-body =
+      let e : 508 - length xs ≡ payload-bytes - length xs + 4 = omega arith in
+      let rest : replicate {A = ℕ} (508 - length xs) 0 ≡ replicate (payload-bytes - length xs) 0 ++ replicate 4 0 =
+      ap (λ (m : ℕ). replicate {A = ℕ} m 0) e ∙ sym (replicate-append-replicate (payload-bytes - length xs) 4 0) in
+      filled-payload ∙ ap (λ (ys : List ℕ). (k ∷ 0 ∷ i % 256 ∷ i / 256 % 256 ∷ xs) ++ ys) rest
       ∙ sym (append-assoc (k ∷ 0 ∷ i % 256 ∷ i / 256 % 256 ∷ xs) (replicate (payload-bytes - length xs) 0) (replicate 4 0))
 
   pub sealed-payload : sealed (sets (opened k i) 4 xs) ≡ block k i xs

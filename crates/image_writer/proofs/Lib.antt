@@ -1,8 +1,8 @@
 -- Laws of the writer.
 -- a block filled in
 pub mod FillerLaws
--- the links of a block
-pub mod LinksPut
+-- links written over the blocks
+pub mod LinksWritten
 -- the blocks
 pub mod BlockFilling
 -- the writer's outcomes

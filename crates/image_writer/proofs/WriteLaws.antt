@@ -9,13 +9,13 @@ use lib.ListN.{length, drop}
 use borrow.Author.Tests.{lt-leb}
 use Rattle.mesh.specs.Limits.{max-radios, max-neighbours, row-bytes}
 use Rattle.lists.specs.Lists.{range, overwrite}
-use Rattle.mesh.specs.Graph.{Graph, graph}
+use Rattle.mesh.specs.Graph.{Link, Graph, graph}
 use Rattle.mesh.specs.Tables.{Tables, graph-in}
 use Rattle.mesh.specs.Sound.{within, few, sound}
-use Rattle.mesh.specs.Image.{block-bytes, block-count, block-at, image-of}
+use Rattle.mesh.specs.Image.{block-bytes, block-links, blocks-for, order-blocks, block-count, block-at, image-of}
 use Rattle.mesh.proofs.Images.Of.{length-image-of}
 use Rattle.mesh.proofs.Images.Tables.{valid-graph-in}
-use Rattle.mesh.proofs.Tables.DegreeSum.{links-most}
+use Rattle.mesh.proofs.Tables.DegreeSum.{links-few}
 use Rattle.calls.specs.Questions.{ask, lengths-of, site-refusal, write-refusal, image-length, holds-image}
 use Rattle.calls.specs.Contracts.Images.{Write-contract}
 use Rattle.calls.specs.Contracts.Forms.{Listing-refused}
@@ -25,7 +25,9 @@ use Rattle.calls.proofs.ChainLaws.{Site-good, site-zero, site-yes, write-yes, s
 use Rattle.soundness.proofs.SoundSite.{Sound-site, sound-site}
 use Rattle.link_list.specs.Links.{links-from, Rows-listed}
 use Rattle.link_list.proofs.GraphLinks.{rows-listed-few, links-graph-in}
-use Rattle.image_writer.specs.Blocks.{marked-graph}
+use Rattle.image_writer.specs.Blocks.{marked-graph, Written, written, links-written, Links-room, links-before, Place-counted, part-filled}
+use Rattle.image_writer.proofs.LinksWritten.{Blocks-written, blocks-written}
+use Rattle.image_writer.proofs.BlockFilling.{image-filled, image-counted, image-place}
 
 -- ---- the outcomes
 
@@ -74,9 +76,15 @@ module _ (n : ℕ) (t : Tables) (w : List ℕ) where
     unfolding graph-in
     whole = ap (graph n) (links-graph-in n (t .links) write-small write-links (site .within))
 
+    -- as many links as a site of n radios may have
+    pub write-most : length (links-from n (t .links) 0 0) ≤ 20 * n
+    unfolding sound graph-in
+    write-most =
+        omega (arith, links-few max-neighbours g (t .order) (valid-graph-in max-neighbours n t write-small write-sound), ap (λ (h : Graph). length (h .links)) whole)
+
     pub write-few : length (links-from n (t .links) 0 0) ≤ 10240
     unfolding sound graph-in
-    write-few = omega (arith, links-most g (t .order) write-small (valid-graph-in max-neighbours n t write-small write-sound), ap (λ (h : Graph). length (h .links)) whole)
+    write-few = omega (arith, write-most, write-small)
 
     blocks-are : block-count n (length (links-from n (t .links) 0 0)) ≡ block-count (g .n) (length (g .links))
     unfolding graph-in
@@ -107,3 +115,43 @@ module _ (n : ℕ) (t : Tables) (w : List ℕ) where
           let long : length (image-of g (t .order)) ≡ block-bytes * blocks = length-image-of g (t .order) ∙ ap (λ (k : ℕ). block-bytes * k) (sym (counted ∙ blocks-are)) in
           by-accepted refusal (λ q. Listing-refused q w (record { number = 0; value = block-bytes * blocks }) x) zero-is
           (record { number = refl; value = sym length-is; lent = e ∙ ap₂ {C = List ℕ} (λ (xs : List ℕ) (k : ℕ). xs ++ drop k w) front (sym long) })
+
+    -- ---- the links written from block `first` on, and the blocks filled in
+
+    module _ (first : ℕ) (h : first ≡ 1 + order-blocks n) (fits : block-bytes * block-count n (length (links-from n (t .links) 0 0)) ≤ length w) where
+      abbrev ls : List Link
+      ls = links-from n (t .links) 0 0
+
+      few-blocks : block-bytes * block-count n (length ls) ≤ 44032
+      unfolding block-count order-blocks blocks-for
+      few-blocks = omega (arith, write-few, write-small)
+
+      pub write-room : Links-room (block-bytes * first - 4) (block-bytes * first - 4) (length ls) (length w)
+      unfolding block-count blocks-for
+      write-room =
+          record {
+            free = 0;
+            blocks = blocks-for (length ls) block-links;
+            here = omega arith;
+            room = omega arith;
+            fits = omega (arith, h, fits);
+            most = omega (arith, h, few-blocks);
+          }
+
+      module _ (v : Written) (is : v ≡ links-written (written (block-bytes * first - 4) (block-bytes * first - 4) w) ls) where
+        written-blocks : Blocks-written first (blocks-for (length ls) block-links) ls w v
+        unfolding block-count blocks-for
+        written-blocks =
+            rw is (blocks-written (blocks-for (length ls) block-links) first ls w (omega (arith, h)) (omega arith) (omega arith) (omega (arith, h, fits)))
+
+        pub write-counted : links-before (v .at) (v .end) first ≡ length ls
+        write-counted = image-counted n first ls (t .order) w v h written-blocks
+
+        pub write-place : Place-counted (v .at) (v .end) first
+        write-place = image-place n first ls (t .order) w v h written-blocks few-blocks
+
+        pub write-done : (m blocks : ℕ) (x : List ℕ) → m ≡ length ls → blocks ≡ block-count n m
+            → x ≡ flatMap (part-filled n m (t .order) (v .bytes)) (range 0 blocks) ++ drop (block-bytes * blocks) (v .bytes)
+            → Write-contract n t w (record { number = 0; value = block-bytes * blocks }) x
+        write-done m blocks x e b put =
+            write-accepted blocks (b ∙ ap (block-count n) e) x (rw (b ∙ ap (block-count n) e) fits) (image-filled n first ls (t .order) w v h written-blocks m blocks x e b put)

@@ -1,17 +1,22 @@
-// The image writer. Each block is filled in through its own part of the buffer.
+// The image writer. The links are written first, over the blocks that hold them, and where they end tells how many they are; then each
+// block is filled in through its own part of the buffer.
 ghost use mathlib.Core.Path.{_≡_};
 ghost use mathlib.Core.List.{_++_, flatMap};
-ghost use Prim.Native.Nat.{_≤_, _+_, _*_};
+ghost use Prim.Native.Nat.{_≤_, _<_, _+_, _*_, _/_};
+ghost use lib.Dec.{leb};
 ghost use lib.ListN.{length, take, drop};
 ghost use lib.Seq.{sets};
 ghost use Rattle.lists.specs.Lists.{range};
 ghost use Rattle.mesh.specs.Graph.{link-of};
-ghost use Rattle.mesh.specs.Image.{block-bytes, block-entries, block-links, link-bytes, word, block, block-at};
+ghost use Rattle.mesh.specs.Image.{block-bytes, block-entries, block-links, block-count, word, link-bytes, block};
+ghost use Rattle.mesh.specs.Limits.{max-radios, max-neighbours, row-bytes};
 ghost use Rattle.mesh.specs.Tables.{lent};
 ghost use Rattle.calls.specs.Contracts.Images.{Write-contract};
+ghost use Rattle.rows.specs.Rows.{neighbours-above, row-from, row-word, set-bits};
+ghost use Rattle.link_list.specs.Links.{links-to, links-above, links-from, Rows-listed};
 ghost use Rattle.image_writer.specs.Filler.{opened, sealed};
-ghost use Rattle.link_list.specs.Links.{Rows-listed, Cursor-good};
-ghost use Rattle.image_writer.specs.Blocks.{Row-put, Links-put, Links-filled, Writable, Cursor-at, Block-filled, marked-graph};
+ghost use Rattle.image_writer.specs.Blocks.{most-bytes, links-head, written, link-written, links-written, Links-room};
+ghost use Rattle.image_writer.specs.Blocks.{links-before, Place-counted, links-filled, block-filled, part-filled};
 use calls::Refusal;
 use calls::Value;
 use image::checks;
@@ -22,6 +27,11 @@ use mesh::Site;
 const ENTRIES: usize = layout::ENTRIES as usize;
 
 const LINKS: usize = layout::LINKS as usize;
+
+// The bits of a word, and the words of a row.
+const WORD_BITS: u32 = 64;
+
+const ROW_WORDS: u32 = Site::RADIOS / WORD_BITS;
 
 // Writes x as two bytes from `at` on, lowest first.
 fn put_word(part: &mut [u8], at: usize, x: u32)
@@ -96,121 +106,180 @@ fn put_link(part: &mut [u8], at: usize, a: u32, b: u32)
     put_word(part, at + 2, b);
 }
 
-// Writes the links of a to the listed radios, as many as the block has room for after `count` links, and comes back with how
-// many these are.
-fn put_row(part: &mut [u8], count: usize, a: u32, list: &[u16]) -> usize
-    requires { ⌜ (length (now part) ≡ block-bytes) × (count ≤ block-links) ⌝ }
-    ensures { λ r. ⌜ Row-put count a (now (list .entry)) (now (part .entry)) (now (part .exit)) r ⌝ }
+// Where the next link goes: place `at` of the buffer; or, where that is the end of its block's payload, into the next block.
+struct Place {
+    at: usize,
+    end: usize,
+}
+
+// The head of a block of links, which starts at `at`.
+fn put_head(buffer: &mut [u8], at: usize)
+    requires { ⌜ (at + 4 ≤ length (now buffer)) × (at ≤ most-bytes) ⌝ }
+    ensures { λ _. ⌜ now (buffer .exit) ≡ sets (now (buffer .entry)) at (links-head (at / block-bytes)) ⌝ }
 {
-    let room = tables::fill::least(LINKS - count, list.len());
-    let mut i: usize = 0;
-    while i < room {
-        let b = list[i];
-        put_link(part, layout::HEAD + 4 * (count + i), a, b as u32);
-        i += 1;
+    buffer[at] = 2;
+    buffer[at + 1] = 0;
+    put_word(buffer, at + 2, (at / layout::BLOCK) as u32);
+}
+
+// Writes the link of a and b, of which a is the lower, and comes back with the place after it. The next block is opened only by a link
+// that stands in it.
+fn add_link(buffer: &mut [u8], place: Place, a: u32, b: u32) -> Place
+    requires { ⌜ Links-room (place .at) (place .end) 1 (length (now buffer)) ⌝ }
+    ensures { λ r. ⌜ written (r .at) (r .end) (now (buffer .exit))
+        ≡ link-written (written (place .at) (place .end) (now (buffer .entry))) (link-of a b) ⌝ }
+{
+    if place.at == place.end {
+        put_head(buffer, place.end + 4);
+        put_link(buffer, place.end + 8, a, b);
+        return Place {
+            at: place.end + 12,
+            end: place.end + layout::BLOCK,
+        };
     }
-    room
-}
-
-// The next link to write: number `place` of the links that row `row` has to radios above it.
-struct Cursor {
-    row: u32,
-    place: usize,
-}
-
-// Writes the links from `from` on into the payload, as many as a block has, and comes back with where the next one is. `list`
-// holds anything after.
-fn put_links(part: &mut [u8], n: u32, links: &[u8], from: Cursor, list: &mut [u16]) -> Cursor
-    requires { ⌜ (length (now part) ≡ block-bytes) × Rows-listed n (now links) (length (now list)) ×
-        Cursor-good n (now links) (from .row) (from .place) ⌝ }
-    ensures { λ r. ⌜ Links-put n (now (links .entry)) (from .row) (from .place) (now (part .entry)) (now (part .exit)) (r .row) (r .place) ⌝ }
-{
-    let mut row = from.row;
-    let mut place = from.place;
-    let mut count: usize = 0;
-    while row < n {
-        let end = rows::row_above(links, row, list) as usize;
-        let put = put_row(part, count, row, &list[place..end]);
-        count += put;
-        place += put;
-        if place < end {
-            return Cursor { row, place };
-        }
-        row += 1;
-        place = 0;
+    put_link(buffer, place.at, a, b);
+    Place {
+        at: place.at + 4,
+        end: place.end,
     }
-    Cursor { row, place }
 }
 
-// A block of kind 2: the links from `from` on. Comes back with where the next one is.
-fn fill_links(
-    part: &mut [u8],
-    index: u32,
-    n: u32,
-    links: &[u8],
-    from: Cursor,
-    list: &mut [u16],
-) -> Cursor
-    requires { ⌜ (length (now part) ≡ block-bytes) × Rows-listed n (now links) (length (now list)) ×
-        Cursor-good n (now links) (from .row) (from .place) ⌝ }
-    ensures { λ r. ⌜ Links-filled n index (now (links .entry)) (from .row) (from .place) (now (part .exit)) (r .row) (r .place) ⌝ }
+// Writes the links of a to the radios that a word marks, from radio `first` on.
+fn put_bits(buffer: &mut [u8], from: Place, a: u32, first: u32, word: u64) -> Place
+    requires { ⌜ (first ≤ max-radios) × Links-room (from .at) (from .end) (length (set-bits 64 first word)) (length (now buffer)) ⌝ }
+    ensures { λ r. ⌜ written (r .at) (r .end) (now (buffer .exit))
+        ≡ links-written (written (from .at) (from .end) (now (buffer .entry))) (links-to a (set-bits 64 first word)) ⌝ }
 {
-    open_block(part, 2, index);
-    let next = put_links(part, n, links, from, list);
+    let mut place = from;
+    let mut rest = word;
+    while rest != 0 {
+        place = add_link(buffer, place, a, first + u64::trailing_zeros(rest));
+        rest = rest & (rest - 1);
+    }
+    place
+}
+
+// Word k of row a.
+fn row_word(links: &[u8], a: u32, k: u32) -> u64
+    requires { ⌜ (a < max-radios) × (k < 8) × (row-bytes * a + row-bytes ≤ length (now links)) ⌝ }
+    ensures { λ r. ⌜ r ≡ row-word 8 (now (links .entry)) (row-bytes * a + 8 * k) ⌝ }
+{
+    let at = Site::ROW_BYTES * a as usize + 8 * k as usize;
+    let end = at + 8;
+    rows::word_of(&links[at..end], 0)
+}
+
+// Writes the links of a to the radios that its row marks from word `first` on.
+fn put_words(buffer: &mut [u8], from: Place, links: &[u8], a: u32, first: u32) -> Place
+    requires { ⌜ (a < max-radios) × (first ≤ 8) × (row-bytes * a + row-bytes ≤ length (now links)) ×
+        Links-room (from .at) (from .end) (length (row-from (now links) a first)) (length (now buffer)) ⌝ }
+    ensures { λ r. ⌜ written (r .at) (r .end) (now (buffer .exit))
+        ≡ links-written (written (from .at) (from .end) (now (buffer .entry))) (links-to a (row-from (now (links .entry)) a first)) ⌝ }
+{
+    let mut place = from;
+    let mut k = first;
+    while k < ROW_WORDS {
+        place = put_bits(buffer, place, a, WORD_BITS * k, row_word(links, a, k));
+        k += 1;
+    }
+    place
+}
+
+// Writes the links of a to the radios above it that its row marks: the bits up to its own are shifted out of its word.
+fn put_row(buffer: &mut [u8], from: Place, links: &[u8], a: u32) -> Place
+    requires { ⌜ (a < max-radios) × (row-bytes * a + row-bytes ≤ length (now links)) ×
+        Links-room (from .at) (from .end) (length (neighbours-above (now links) a)) (length (now buffer)) ⌝ }
+    ensures { λ r. ⌜ written (r .at) (r .end) (now (buffer .exit))
+        ≡ links-written (written (from .at) (from .end) (now (buffer .entry))) (links-above (now (links .entry)) a) ⌝ }
+{
+    let k = a / WORD_BITS;
+    let word = row_word(links, a, k) >> (a % WORD_BITS) >> 1;
+    let place = put_bits(buffer, from, a, a + 1, word);
+    put_words(buffer, place, links, a, k + 1)
+}
+
+// Writes the links that the first n rows mark.
+fn put_links(buffer: &mut [u8], from: Place, n: u32, links: &[u8]) -> Place
+    requires { ⌜ (n ≤ max-radios) × (row-bytes * n ≤ length (now links)) ×
+        Links-room (from .at) (from .end) (length (links-from n (now links) 0 0)) (length (now buffer)) ⌝ }
+    ensures { λ r. ⌜ written (r .at) (r .end) (now (buffer .exit))
+        ≡ links-written (written (from .at) (from .end) (now (buffer .entry))) (links-from n (now (links .entry)) 0 0) ⌝ }
+{
+    let mut place = from;
+    let mut a: u32 = 0;
+    while a < n {
+        place = put_row(buffer, place, links, a);
+        a += 1;
+    }
+    place
+}
+
+// A block of kind 2, which has its head and `used` links: zeros after them, and the check.
+fn fill_links(part: &mut [u8], used: usize)
+    requires { ⌜ (length (now part) ≡ block-bytes) × (used ≤ block-links) ⌝ }
+    ensures { λ _. ⌜ now (part .exit) ≡ links-filled used (now (part .entry)) ⌝ }
+{
+    let end = layout::HEAD + 4 * used;
+    tables::fill::fill8(&mut part[end..], 0);
     close_block(part);
-    next
 }
 
-// Block i of the image. Comes back with the next link after it.
-fn fill_block(
-    part: &mut [u8],
-    i: u32,
-    n: u32,
-    count: u32,
-    links: &[u8],
-    order: &[u16],
-    from: Cursor,
-    list: &mut [u16],
-) -> Cursor
-    requires { ⌜ (length (now part) ≡ block-bytes) × Writable n count (now links) (now order) (now list) ×
-        Cursor-at n (now links) i (from .row) (from .place) ⌝ }
-    ensures { λ r. ⌜ Block-filled n i (now (links .entry)) (now (order .entry)) (now (part .exit)) (r .row) (r .place) ⌝ }
+// Block i of the image of n radios and `count` links: where it is one of links, its head and links stand in it already.
+fn fill_block(part: &mut [u8], i: u32, n: u32, count: u32, order: &[u16])
+    requires { ⌜ (length (now part) ≡ block-bytes) × (length (now order) ≡ n) × (i < block-count n count) × (n ≤ max-radios) ⌝ }
+    ensures { λ _. ⌜ now (part .exit) ≡ block-filled n count (now (order .entry)) (now (part .entry)) i ⌝ }
 {
     if i == 0 {
         fill_counts(part, n, count);
-        return from;
+        return;
     }
-    if i <= layout::blocks_for(n, layout::ENTRIES) {
+    let orders = layout::blocks_for(n, layout::ENTRIES);
+    if i <= orders {
         fill_order(part, i, order, ENTRIES * (i as usize - 1));
-        return from;
+        return;
     }
-    fill_links(part, i, n, links, from, list)
+    let before = layout::LINKS * (i - 1 - orders);
+    fill_links(part, tables::fill::least(LINKS, (count - before) as usize));
 }
 
-// Fills the first `blocks` blocks of the buffer, each through its own part; bytes past them keep their content. `list` holds
-// anything after.
-fn write_blocks(
-    blocks: u32,
-    n: u32,
-    count: u32,
-    links: &[u8],
-    order: &[u16],
-    buffer: &mut [u8],
-    list: &mut [u16],
-)
-    requires { ⌜ (block-bytes * blocks ≤ length (now buffer)) × Writable n count (now links) (now order) (now list) ⌝ }
+// Fills the blocks, each through its own part of the buffer; bytes past them keep their content.
+fn fill_blocks(blocks: u32, n: u32, count: u32, order: &[u16], buffer: &mut [u8])
+    requires { ⌜ (block-bytes * blocks ≤ length (now buffer)) × (length (now order) ≡ n) × (blocks ≡ block-count n count) × (n ≤ max-radios) ⌝ }
     ensures { λ _. ⌜ now (buffer .exit)
-        ≡ flatMap (block-at (marked-graph n (now (links .entry))) (now (order .entry))) (range 0 blocks) ++ drop
-        (block-bytes * blocks) (now (buffer .entry)) ⌝ }
+        ≡ flatMap (part-filled n count (now (order .entry)) (now (buffer .entry))) (range 0 blocks)
+        ++ drop (block-bytes * blocks) (now (buffer .entry)) ⌝ }
 {
-    let mut from = Cursor { row: 0, place: 0 };
     let mut i: u32 = 0;
     while i < blocks {
         let at = layout::BLOCK * i as usize;
         let end = at + layout::BLOCK;
-        from = fill_block(&mut buffer[at..end], i, n, count, links, order, from, list);
+        fill_block(&mut buffer[at..end], i, n, count, order);
         i += 1;
     }
+}
+
+// Whether a buffer of this length holds the image. The links are counted only where it might not: where it is shorter than the image
+// of n radios with as many links as a site may have.
+fn has_room(n: u32, links: &[u8], bytes: usize) -> bool
+    requires { ⌜ Rows-listed n (now links) max-neighbours × (length (links-from n (now links) 0 0) ≤ 20 * n) ⌝ }
+    ensures { λ r. ⌜ r ≡ leb (block-bytes * block-count n (length (links-from n (now (links .entry)) 0 0))) bytes ⌝ }
+{
+    let most = Site::NEIGHBOURS / 2 * n;
+    if layout::BLOCK * layout::block_count(n, most) as usize <= bytes {
+        return true;
+    }
+    let mut list = [0u16; Site::NEIGHBOURS as usize];
+    let count = link_list::count_links(n, links, &mut list);
+    layout::BLOCK * layout::block_count(n, count) as usize <= bytes
+}
+
+// How many links stand before the place, where the first is in block `first`.
+fn links_before(place: Place, first: u32) -> u32
+    requires { ⌜ Place-counted (place .at) (place .end) first ⌝ }
+    ensures { λ r. ⌜ r ≡ links-before (place .at) (place .end) first ⌝ }
+{
+    let blocks = ((place.end + 4) / layout::BLOCK) as u32 - first;
+    layout::LINKS * blocks - ((place.end - place.at) / 4) as u32
 }
 
 // Writes the image of sound tables in front of the buffer; the value is its length in bytes, and bytes past it keep their
@@ -222,16 +291,18 @@ pub fn write(n: u32, links: &[u8], numbers: &[u8], order: &[u16], buffer: &mut [
     if number != 0 {
         return Value { number, value: 0 };
     }
-    let mut list = [0u16; Site::NEIGHBOURS as usize];
-    let count = link_list::count_links(n, links, &mut list);
-    let blocks = layout::block_count(n, count);
-    if buffer.len() < layout::BLOCK * blocks as usize {
+    if !has_room(n, links, buffer.len()) {
         return Value {
             number: Refusal::IMAGE_SIZE,
             value: 0,
         };
     }
-    write_blocks(blocks, n, count, links, order, buffer, &mut list);
+    let first = 1 + layout::blocks_for(n, layout::ENTRIES);
+    let end = layout::BLOCK * first as usize - 4;
+    let place = put_links(buffer, Place { at: end, end }, n, links);
+    let count = links_before(place, first);
+    let blocks = layout::block_count(n, count);
+    fill_blocks(blocks, n, count, order, buffer);
     Value {
         number: 0,
         value: layout::BLOCK as u32 * blocks,

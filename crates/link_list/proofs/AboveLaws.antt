@@ -1,16 +1,15 @@
 -- Laws of the neighbours above a radio, as they are listed.
-use mathlib.Core.Path.{_≡_, refl, sym, ap, _∙_}
+use mathlib.Core.Path.{_≡_, refl, ap, _∙_}
 use mathlib.Core.List.{List}
-use Prim.Native.Nat.{ℕ, suc, _-_, _≤_, _<_, min}
+use Prim.Native.Nat.{ℕ, suc, _≤_, min}
 use native.Mathlib.Omega.{arith}
 use lib.Dec.{ltb}
-use lib.ListN.{length, take, drop}
+use lib.ListN.{length, take}
 use lib.Seq.{take-all}
 use Rattle.mesh.specs.Limits.{max-neighbours}
 use Rattle.lists.specs.Lists.{filter, overwrite}
 use Rattle.lists.proofs.Filter.{filter-le}
 use Rattle.lists.proofs.Overwrite.{take-overwrite}
-use Rattle.lists.proofs.Parts.{drop-take}
 use Rattle.rows.specs.Rows.{row-listed, neighbours-above}
 
 module _ (ts : List ℕ) (a : ℕ) where
@@ -29,7 +28,3 @@ module _ (ts : List ℕ) (a : ℕ) where
     above-front =
         ap (take r) (listed ∙ ap (λ (xs : List ℕ). overwrite xs before) (take-all (min (length before) (suc max-neighbours)) (neighbours-above ts a) fits))
         ∙ ap (λ (k : ℕ). take k (overwrite (neighbours-above ts a) before)) above-count ∙ take-overwrite (neighbours-above ts a) before
-
-    -- from number p on
-    pub above-rest : (p : ℕ) → take (r - p) (drop p list) ≡ drop p (neighbours-above ts a)
-    above-rest p = sym (drop-take p r list) ∙ ap (drop p) above-front

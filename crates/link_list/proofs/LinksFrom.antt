@@ -1,24 +1,17 @@
 -- Laws of the links from a row on.
--- In order: links of one radio, what is left, links counted.
-use mathlib.Core.Path.{_≡_, refl, sym, ap, _∙_}
-use mathlib.Core.List.{List, [], _∷_, _++_, flatMap}
-use Prim.Native.Nat.{ℕ, zero, suc, _+_, _*_, _-_, _≤_, _<_}
+-- In order: what is left, links counted.
+use mathlib.Core.Path.{_≡_, ap, _∙_}
+use mathlib.Core.List.{List, [], _++_, flatMap}
+use Prim.Native.Nat.{ℕ, suc, _+_, _*_, _-_, _≤_, _<_}
 use native.Mathlib.Omega.{arith}
-use lib.ListN.{length, getD, drop, length-append, drop-of-length-le}
-use lib.Seq.{drop-append-le, drop-nil, drop-drop}
+use lib.ListN.{length, drop, length-append}
+use lib.Seq.{drop-append-le, drop-nil}
 use Rattle.mesh.specs.Limits.{max-radios}
 use Rattle.lists.specs.Lists.{range}
 use Rattle.mesh.specs.Graph.{Link, link-of}
 use Rattle.lists.proofs.Map.{length-map, drop-map}
 use Rattle.rows.specs.Rows.{neighbours-above}
 use Rattle.link_list.specs.Links.{links-to, links-above, links-from, Rows-listed}
-
--- ---- links of one radio
-
-pub getD-links-to : (a : ℕ) (bs : List ℕ) (i : ℕ) → getD (links-to a bs) i (link-of a 0) ≡ link-of a (getD bs i 0)
-getD-links-to a [] i = refl
-getD-links-to a (b ∷ bs) zero = refl
-getD-links-to a (b ∷ bs) (suc i) = getD-links-to a bs i
 
 -- ---- what is left
 
@@ -44,15 +37,6 @@ module _ (n : ℕ) (ts : List ℕ) where
   pub links-from-end : (a p : ℕ) → n ≤ a → links-from n ts a p ≡ []
   unfolding links-from flatMap range
   links-from-end a p h = let e : n - a ≡ 0 = omega arith in rw e (drop-nil p)
-
-  pub links-from-add : (a p q : ℕ) → links-from n ts a (p + q) ≡ drop q (links-from n ts a p)
-  unfolding links-from
-  links-from-add a p q = sym (drop-drop q p (flatMap (links-above ts) (range a (n - a))))
-
-  pub links-from-next : (a : ℕ) → a < n → links-from n ts a (length (neighbours-above ts a)) ≡ links-from n ts (a + 1) 0
-  links-from-next a h =
-      links-from-row a (length (neighbours-above ts a)) h (omega arith)
-      ∙ ap (λ (bs : List ℕ). links-to a bs ++ links-from n ts (a + 1) 0) (drop-of-length-le (neighbours-above ts a) {i = length (neighbours-above ts a)} (omega arith))
 
 -- ---- links counted: the links of the rows below a
 

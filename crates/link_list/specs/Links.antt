@@ -3,7 +3,6 @@
 --   links-above ts a        the links of a to its neighbours above it
 --   links-from n ts a p     the links of the rows from a to n - 1 without the first p
 --   Rows-listed             rows that fit a list
---   Cursor-good             the next link is number p of row a
 -- That these are the links of mesh's `graph-in` is `links-graph-in` in proofs/GraphLinks.antt. Definitions only.
 use mathlib.Core.List.{List, map, flatMap}
 use Prim.Native.Nat.{ℕ, suc, _-_, _≤_, _<_, min}
@@ -28,7 +27,3 @@ links-from n ts a p = drop p (flatMap (links-above ts) (range a (n - a)))
 pub record Rows-listed (n : ℕ) (links : List ℕ) (room : ℕ) : Type 0 where
   pub most : n ≤ max-radios
   pub few : (a : ℕ) → a < n → length (neighbours-above links a) ≤ min room (suc max-neighbours)
-
--- the next link is number p of row a; past the last row there is none
-pub record Cursor-good (n : ℕ) (links : List ℕ) (a p : ℕ) : Type 0 where
-  pub place : a < n → p ≤ length (neighbours-above links a)

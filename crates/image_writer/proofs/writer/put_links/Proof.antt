@@ -1,72 +1,61 @@
--- `writer::put_links` meets its contract: the links put and the links from the cursor on are all that were left (`Linking`). A row
--- that has a link left filled the block. The measure is the rows left.
-use mathlib.Core.Path.{_≡_, refl, _∙_}
-use Prim.Native.Nat.{_-_}
+-- `writer::put_links` meets its contract: the links of the rows from a on give what all of them give (`Writing`). The measure is the
+-- rows left.
+use mathlib.Core.Path.{sym}
+use Prim.Native.Nat.{_+_, _-_, _≤_}
 use native.Mathlib.Omega.{arith}
-use lib.ListN.{length}
 use borrow.Author.Needs.{needs}
-use Rattle.image_writer.proofs.LinksPut.{Linking, linking-none, linking-row, linking-next, linking-full, linking-end, Row-left, row-left, row-left-put}
+use Rattle.mesh.specs.Graph.{link-of}
+use Rattle.lists.proofs.Map.{length-map}
+use Rattle.rows.specs.Rows.{neighbours-above}
+use Rattle.link_list.specs.Links.{links-above, links-from}
+use Rattle.link_list.proofs.LinksFrom.{links-from-end}
+use Rattle.image_writer.specs.Blocks.{written}
+use Rattle.image_writer.proofs.LinksWritten.{Writing, writing-none, writing-room, writing-part, writing-end, links-rows}
 use Rattle.image_writer.proofs.writer.put_links.Statement.{statement}
 use Rattle.image_writer.proofs.writer.put_links.Tie as tie
-use Rattle.image_writer.proofs.writer.put_links.Reads as reads
-use Rattle.image_writer.proofs.writer.put_links.Lts as lts
-use Rattle.image_writer.proofs.writer.put_row.Reads as put-row-reads
-use Rattle.rows.proofs.row_above.Reads as row-above-reads
 
 abbrev Inv-loop : tie.InvT-loop
-Inv-loop part₀ n links list₀ row₀ place₀ count₀ part list row place count = (length list ≡ length list₀) × Linking n links row₀ place₀ part₀ row place count part
+Inv-loop buffer₀ n links place₀ a₀ buffer place a =
+    (a ≤ n) × Writing (links-from n links 0 0) (written (place₀ .at) (place₀ .end) buffer₀) (links-from n links a 0) (written (place .at) (place .end) buffer)
 
 abbrev μ-loop : tie.MeasureT-loop
-μ-loop part₀ n links list₀ row₀ place₀ count₀ part list row place count = n - row
+μ-loop buffer₀ n links place₀ a₀ buffer place a = n - a
 
--- where a row is listed
-abbrev Listed : Type 0
-Listed = lts.After-row-above (row-above-reads.Asked, row-above-reads.Learnt, put-row-reads.Asked, put-row-reads.Learnt) reads.Pre reads.Post Inv-loop μ-loop
-
-here : (c : Listed) →
-    Row-left (c .before .before .before .before .before .before .before .args .links .now) (c .before .before .before .loop .row)
-    (c .before .before .before .loop .place) (c .row-above .last .1 .1 .0) (c .row-above .result)
-here c =
-    let at-loop = c .before .before .before in
-    row-left _ _ _ _ _ (at-loop .loop .list) _ _ (at-loop .before .before .before .before .pre .1) (at-loop .loop .inv .1 .good) (c .before .before .loop-test .taken)
-    (at-loop .loop .inv .0) (c .row-above .kept .1 .1 .0) (c .row-above .ensures .0) (c .row-above .ensures .1)
-
-add-place : tie.Need-add-place Inv-loop μ-loop
-add-place c =
-    let put = c .before .before in
-    let listed = put .before .before .before .before .before .before in
-    omega (arith, row-left-put _ _ _ _ _ _ _ _ _ (here listed) (put .put-row .ensures), here listed .within, here listed .end)
-
-returns : tie.Need-returns Inv-loop μ-loop
-returns c =
-    let put = c .before .before .before in
-    let listed = put .before .before .before .before .before .before in
-    let at-loop = listed .before .before .before in
-    let more = listed .before .before .loop-test .taken in
-    let turned =
-    linking-row _ _ _ _ _ _ _ _ _ (at-loop .loop .inv .1) (put .put-row .result) _ (put .put-row .last .0) more (here listed .is)
-    (put .put-row .kept .0) (put .put-row .ensures) in
-    linking-full _ _ _ _ _ _ _ _ _ turned (omega (arith, row-left-put _ _ _ _ _ _ _ _ _ (here listed) (put .put-row .ensures)))
+put-row-requires : tie.Need-put-row-requires Inv-loop μ-loop
+unfolding links-above
+put-row-requires c κs =
+    let turn = c .before in
+    let at-loop = turn .before in
+    let start = at-loop .before .before .before in
+    let call = start .args in
+    let a = at-loop .loop .a in
+    let row = links-rows (call .n) (call .links .now) a (turn .loop-test .taken) in (
+      omega (arith, start .pre .0),
+      omega (arith, start .pre .1),
+      writing-room _ _ (links-above (call .links .now) a) (links-from (call .n) (call .links .now) (a + 1) 0) _ _
+          (sym (length-map (link-of a) (neighbours-above (call .links .now) a))) (rw row at (at-loop .loop .inv .1)),
+    )
 
 loop-again : tie.Need-loop-again Inv-loop μ-loop
 loop-again c =
-    let put = c .before .before .before in
-    let listed = put .before .before .before .before .before .before in
-    let at-loop = listed .before .before .before in
-    let more = listed .before .before .loop-test .taken in
-    let turned =
-    linking-row _ _ _ _ _ _ _ _ _ (at-loop .loop .inv .1) (put .put-row .result) _ (put .put-row .last .0) more (here listed .is)
-    (put .put-row .kept .0) (put .put-row .ensures) in (
-      listed .row-above .kept .1 .1 .0 ∙ at-loop .loop .inv .0,
-      linking-next _ _ _ _ _ _ _ _ _ turned more (omega (arith, row-left-put _ _ _ _ _ _ _ _ _ (here listed) (put .put-row .ensures), here listed .within, here listed .count)),
+    let put = c .before .before in
+    let turn = put .before .before in
+    let at-loop = turn .before in
+    let call = at-loop .before .before .before .args in
+    let a = at-loop .loop .a in
+    let row = links-rows (call .n) (call .links .now) a (turn .loop-test .taken) in (
+      omega arith,
+      writing-part _ _ (links-above (call .links .now) a) (links-from (call .n) (call .links .now) (a + 1) 0) _ _ (rw row at (at-loop .loop .inv .1))
+          (put .put-row .ensures) (put .put-row .kept .0),
     )
+
+returns : tie.Need-returns Inv-loop μ-loop
+returns c =
+    let call = c .before .before .before .before .args in
+    writing-end _ _ _ _ (links-from-end (call .n) (call .links .now) (c .before .loop .a) 0 (c .loop-test .left)) (c .before .loop .inv .1)
 
 pub put-links-spec : {M : Type 1} → statement M
 put-links-spec =
     tie.close (
-    tie.spec Inv-loop μ-loop (λ c. (refl, linking-none _ _ _ _ _ (c .before .before .before .pre .2))) (λ c κs. search needs) (λ c. search needs)
-    (λ c. omega (arith, here (c .before .before .before) .within, c .before .before .before .row-above .ensures .0))
-    (λ c. omega (arith, here (c .before .before .before) .within)) (λ c. omega (arith, here (c .before .before .before .before) .within))
-    (λ c. omega (arith, here (c .before .before .before .before) .end)) (λ c κs. search needs) (λ c. search needs) add-place (λ c. search needs)
-    (λ c. search needs) returns (λ c. search needs) (λ c. search needs) loop-again (λ c. search needs) (λ c. search needs)
-    (λ c. linking-end _ _ _ _ _ _ _ _ _ (c .before .loop .inv .1) (omega arith)))
+    tie.spec Inv-loop μ-loop (λ c. (omega arith, writing-none _ _ (c .before .before .pre .2))) put-row-requires (λ c. search needs) (λ c. search needs) loop-again
+    (λ c. c .before .loop .inv .1 .long) returns)

@@ -1,0 +1,20 @@
+-- `writer::row_word` meets its contract: the eight bytes are lent by themselves, so that no test of their place is left.
+use mathlib.Core.Path.{_∙_}
+use Prim.Native.Nat.{_+_, _*_, _-_}
+use native.Mathlib.Omega.{arith}
+use borrow.Author.Needs.{needs}
+use Rattle.image_writer.proofs.LinksWritten.{word-of-part}
+use Rattle.image_writer.proofs.writer.row_word.Statement.{statement}
+use Rattle.image_writer.proofs.writer.row_word.Tie as tie
+
+returns : tie.Need-returns
+returns c =
+    let call = c .before .before .before .args in
+    let at = 64 * call .a + 8 * call .k in
+    c .word-of .ensures ∙ word-of-part (call .links .now) at (at + 8 - at) (omega arith) (omega arith)
+
+pub row-word-spec : {M : Type 1} → statement M
+row-word-spec =
+    tie.close (
+    tie.spec (λ c. search needs) (λ c. search needs) (λ c. search needs) (λ c. search needs) (λ c. search needs) (λ c. search needs) (λ c. search needs)
+    (λ c κs. search needs) returns)
