@@ -1,4 +1,4 @@
-/* The connected core and the backbone in C: a flood over a queue, by words; part by part, the radios with the greatest number. */
+/* The connected core and the backbone in C: a flood by layers, by words; part by part, the radios with the greatest number. */
 #ifndef CORE_H
 #define CORE_H
 #include "check.h"
@@ -24,11 +24,17 @@ static inline unsigned c_list_word(uint64_t word, unsigned first, uint16_t *list
     return n;
 }
 
-/* Takes the radios of row a out of the set, and lists them; how many. */
-static inline unsigned c_take_row(const uint8_t *links, unsigned a, uint64_t *set, uint16_t *list) {
+/* Joins the rows of the radios of the list from place `from` on and before place `to` into the set. */
+static inline void c_join_rows(const uint8_t *links, const uint16_t *list, unsigned from, unsigned to, uint64_t *set) {
+    for (unsigned i = from; i < to; i++)
+        for (unsigned k = 0; k < WORDS; k++) set[k] |= row_word(links, list[i], k);
+}
+
+/* Takes the radios of the other set out of the set, and lists them; how many. */
+static inline unsigned c_take_common(const uint64_t *other, uint64_t *set, uint16_t *list) {
     unsigned n = 0;
     for (unsigned k = 0; k < WORDS; k++) {
-        uint64_t word = row_word(links, a, k) & set[k];
+        uint64_t word = other[k] & set[k];
         if (!word) continue;
         set[k] ^= word;
         n += c_list_word(word, 64 * k, list + n);
@@ -36,12 +42,17 @@ static inline unsigned c_take_row(const uint8_t *links, unsigned a, uint64_t *se
     return n;
 }
 
-/* Takes v and what it reaches over radios of the set out of it; they stand in front of the queue. */
+/* Takes v and what it reaches over radios of the set out of it, layer by layer; they stand in front of the queue. */
 static unsigned c_flood(const uint8_t *links, unsigned v, uint64_t *set, uint16_t *queue) {
     unsigned count = 1;
     set[v / 64] &= ~(1ull << v % 64);
     queue[0] = v;
-    for (unsigned i = 0; i < count; i++) count += c_take_row(links, queue[i], set, queue + count);
+    for (unsigned i = 0; i < count;) {
+        uint64_t reach[WORDS] = {0};
+        c_join_rows(links, queue, i, count, reach);
+        i = count;
+        count += c_take_common(reach, set, queue + count);
+    }
     return count;
 }
 

@@ -1,31 +1,78 @@
--- The flood's steps as the code has them: the neighbours of a radio, and whether the flood can be carried out.
-use mathlib.Core.Path.{_≡_, refl, sym, _∙_}
+-- The flood's steps as the code has them: rows joined, a layer, and whether the flood can be carried out.
+use mathlib.Core.Path.{_≡_, refl, sym, ap, _∙_}
+use mathlib.Core.Logic.{_⊎_, inl, inr}
 use mathlib.Core.Bool.{true, false, _&&_}
 use mathlib.Core.List.{List}
-use Prim.Native.Nat.{ℕ, _+_, _-_, _≤_, _<_}
+use Prim.Native.Nat.{ℕ, _+_, _-_, _/_, _%_, _≤_, _<_}
 use native.Mathlib.Omega.{arith}
 use lib.Dec.{ltb, leb, eqb}
-use lib.ListN.{length}
-use borrow.Author.Tests.{ltb-true, leb-true, eqb-true, lt-ltb, le-ltb, le-leb, eq-eqb, ne-eqb}
+use lib.ListN.{length, getD, replicate}
+use borrow.Author.Tests.{ltb-true, leb-true, eqb-true, eqb-false, lt-ltb, le-ltb, le-leb, eq-eqb, ne-eqb}
 use borrow.Rule.Slice.PartMut.{midOf, putMid, mid-len}
 use Rattle.mesh.specs.Limits.{max-radios}
+use Rattle.mesh.specs.Tables.{digit}
+use Rattle.lists.specs.Lists.{member}
+use Rattle.mesh.proofs.Tables.Digits.{digit-nothing}
 use Rattle.lists.proofs.Overwrite.{sets-front}
-use Rattle.lists.proofs.Tests.{never, and-left, and-right}
-use Rattle.rows.specs.Sets.{taken-by, Row-taken}
+use Rattle.lists.proofs.Parts.{getD-zeros}
+use Rattle.lists.proofs.Tests.{bool-cases, never, and-left, and-right, or-cases, or-left, or-right}
+use Rattle.rows.specs.Rows.{row-listed}
+use Rattle.rows.specs.Sets.{in-set, Row-joined, common, Common-taken}
 use Rattle.rows.proofs.Listing.{put-rest}
-use Rattle.floods.specs.Floods.{flood-at, floodable, Ends-taken, Flooded}
+use Rattle.floods.specs.Floods.{flood-at, Marked-by, Rows-joined, Layer-taken, floodable, Flooded}
 
--- ---- the neighbours of a radio, written into the rest of the queue
+-- ---- rows joined, one by one
 
-pub ends-taken : (ts : List ℕ) (a : ℕ) (s q : List ℕ) (c r : ℕ) (t new : List ℕ) → c ≤ length q
-    → Row-taken ts a s (midOf c (length q - c) q) r t new → Ends-taken ts a (flood-at s q c) (flood-at t (putMid c (length q - c) q new) (c + r))
-ends-taken ts a s q c r t new room h =
+pub rows-joined-none : (ts list : List ℕ) (from : ℕ) (r : List ℕ) → Rows-joined ts list from from r r
+rows-joined-none ts list from r = record { some = λ x e. inl e; all = λ x m. absurd (omega (arith, m .low, m .high)) }
+
+pub rows-joined-turn : (ts list : List ℕ) (from to : ℕ) (r s t : List ℕ) → from ≤ to → length s ≡ 8 → Row-joined ts (getD list to 0) s t
+    → Rows-joined ts list from to r s → Rows-joined ts list from (to + 1) r t
+rows-joined-turn ts list from to r s t l long row h = record { some = λ x e. some x (or-cases _ _ (sym (row .bits long x) ∙ e)); all = λ x m. all x m (bool-cases (eqb (m .place) to)) }
+  where
+    some : (x : ℕ) → (in-set s x ≡ true) ⊎ (member x (row-listed ts (getD list to 0)) ≡ true) → (in-set r x ≡ true) ⊎ Marked-by ts list from (to + 1) x
+    some x (inr e) = inr (record { place = to; low = l; high = omega arith; marks = e })
+    some x (inl e) = go (h .some x e)
+      where
+        go : (in-set r x ≡ true) ⊎ Marked-by ts list from to x → (in-set r x ≡ true) ⊎ Marked-by ts list from (to + 1) x
+        go (inl q) = inl q
+        go (inr m) = inr (record { place = m .place; low = m .low; high = omega (arith, m .high); marks = m .marks })
+
+    all : (x : ℕ) (m : Marked-by ts list from (to + 1) x) → (eqb (m .place) to ≡ true) ⊎ (eqb (m .place) to ≡ false) → in-set t x ≡ true
+    all x m (inl e) =
+        row .bits long x
+        ∙ or-right (in-set s x) _ (ap (λ (j : ℕ). member x (row-listed ts (getD list j 0))) (sym (eqb-true (m .place) to e)) ∙ m .marks)
+    all x m (inr e) =
+        row .bits long x
+        ∙ or-left (in-set s x) _ (h .all x (record { place = m .place; low = m .low; high = omega (arith, m .high, eqb-false (m .place) to e); marks = m .marks }))
+
+pub rows-joined-end : (ts list : List ℕ) (from to i : ℕ) (r s : List ℕ) → to ≤ i → i ≤ to → Rows-joined ts list from i r s → Rows-joined ts list from to r s
+rows-joined-end ts list from to i r s l g h = let e : i ≡ to = omega arith in rw e at h
+
+-- ---- a layer: the neighbours of the radios that came in last, written into the rest of the queue
+
+in-none : (x : ℕ) → in-set (replicate 8 0) x ≡ false
+unfolding in-set
+in-none x = ap (λ (w : ℕ). digit w (x % 64)) (getD-zeros 8 (x / 64)) ∙ digit-nothing (x % 64)
+
+pub layer-taken : (ts : List ℕ) (from : ℕ) (s q : List ℕ) (c r : ℕ) (reach t new : List ℕ) → c ≤ length q → length reach ≡ 8
+    → Rows-joined ts q from c (replicate 8 0) reach → Common-taken reach s (midOf c (length q - c) q) r t new
+    → Layer-taken ts from (flood-at s q c) (flood-at t (putMid c (length q - c) q new) (c + r))
+layer-taken ts from s q c r reach t new room long joined h =
     let rest = mid-len c (length q) q (omega arith) in
     record {
+      reach = reach;
+      long = long;
+      some = λ x e. some x (joined .some x e);
+      all = joined .all;
       counted = omega (arith, h .counted, rest);
-      queued = put-rest q new (taken-by ts a s) c room (h .listed ∙ sym (sets-front (midOf c (length q - c) q) (taken-by ts a s)));
+      queued = put-rest q new (common reach s) c room (h .listed ∙ sym (sets-front (midOf c (length q - c) q) (common reach s)));
       left = h .left;
     }
+  where
+    some : (x : ℕ) → (in-set (replicate 8 0) x ≡ true) ⊎ Marked-by ts q from c x → Marked-by ts q from c x
+    some x (inl e) = never _ e (in-none x)
+    some x (inr m) = m
 
 -- ---- whether the flood can be carried out
 

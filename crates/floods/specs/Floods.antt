@@ -2,13 +2,15 @@
 --   Level-word, Level-set  the radios with number k or more, as a word from radio i on, and as a set
 --   Spread ts s v w        links lead from v to w over radios of the set s
 --   Flood                  a flood on its way: the set, the queue of the radios that came in, and how many these are
---   Ends-taken             the neighbours of a radio that are in the set come in
+--   Marked-by              a radio that stands in a stretch of a list has x as neighbour
+--   Rows-joined            the neighbours of the radios of a stretch, put into a set
+--   Layer-taken            the neighbours of the radios that came in last come in where the set has them
 --   floodable              the flood can be carried out: lengths fit, and v may be a radio
 --   Flood-done, Flooded    what the flood leaves
 -- That on sound tables the radios that come in are the connected core is `member-flood` in proofs/FloodCore.antt.
 -- Definitions only.
 use mathlib.Core.Path.{_≡_}
-use mathlib.Core.Logic.{_↔_}
+use mathlib.Core.Logic.{_↔_, _⊎_}
 use mathlib.Core.Bool.{Bool, true, false, _&&_, not}
 use mathlib.Core.List.{List}
 use Prim.Native.Nat.{ℕ, _+_, _-_, _≤_, _<_, min}
@@ -19,7 +21,7 @@ use Rattle.mesh.specs.Limits.{max-radios}
 use Rattle.lists.specs.Lists.{count, member}
 use Rattle.mesh.specs.Tables.{digit}
 use Rattle.rows.specs.Rows.{row-listed}
-use Rattle.rows.specs.Sets.{in-set, taken-by}
+use Rattle.rows.specs.Sets.{in-set, common}
 
 -- ---- the radios of a level
 
@@ -55,11 +57,27 @@ flood-at s q c = record { set = s; queue = q; count = c }
 abbrev pub came-in : Flood → List ℕ
 came-in f = take (f .count) (f .queue)
 
+-- row j of the list marks x, for a place j from `from` on and before `to`
+pub record Marked-by (ts list : List ℕ) (from to x : ℕ) : Type 0 where
+  pub place : ℕ
+  pub low : from ≤ place
+  pub high : place < to
+  pub marks : member x (row-listed ts (getD list place 0)) ≡ true
+
+-- r before, s after
+pub record Rows-joined (ts list : List ℕ) (from to : ℕ) (r s : List ℕ) : Type 0 where
+  pub some : (x : ℕ) → in-set s x ≡ true → (in-set r x ≡ true) ⊎ Marked-by ts list from to x
+  pub all : (x : ℕ) → Marked-by ts list from to x → in-set s x ≡ true
+
 -- f before, e after
-pub record Ends-taken (ts : List ℕ) (a : ℕ) (f e : Flood) : Type 0 where
-  pub counted : e .count ≡ f .count + min (length (f .queue) - f .count) (length (taken-by ts a (f .set)))
-  pub queued : e .queue ≡ sets (f .queue) (f .count) (taken-by ts a (f .set))
-  pub left : (w : ℕ) → in-set (e .set) w ≡ (in-set (f .set) w && not (member w (taken-by ts a (f .set))))
+pub record Layer-taken (ts : List ℕ) (from : ℕ) (f e : Flood) : Type 0 where
+  pub reach : List ℕ
+  pub long : length reach ≡ 8
+  pub some : (x : ℕ) → in-set reach x ≡ true → Marked-by ts (f .queue) from (f .count) x
+  pub all : (x : ℕ) → Marked-by ts (f .queue) from (f .count) x → in-set reach x ≡ true
+  pub counted : e .count ≡ f .count + min (length (f .queue) - f .count) (length (common reach (f .set)))
+  pub queued : e .queue ≡ sets (f .queue) (f .count) (common reach (f .set))
+  pub left : (w : ℕ) → in-set (e .set) w ≡ (in-set (f .set) w && not (member w (common reach (f .set))))
 
 -- ---- the whole flood
 

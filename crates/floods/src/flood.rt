@@ -1,20 +1,34 @@
-// The flood: from a radio, over radios of a set. Whom it reaches leaves the set. No recursion: a queue of the radios that came in is
-// walked from its front while others come in behind, and each takes out of the set the radios that its row marks, a word at a time.
+// The flood: from a radio, over radios of a set. Whom it reaches leaves the set. No recursion: it goes by layers, breadth first. The rows
+// of the radios that came in last are joined by words, and what the set has of them comes in next.
 ghost use mathlib.Core.Path.{_≡_};
 ghost use Prim.Native.Nat.{_+_, _≤_};
 ghost use lib.ListN.{length};
 ghost use Rattle.mesh.specs.Limits.{max-radios};
-ghost use Rattle.floods.specs.Floods.{flood-at, floodable, Ends-taken, Flooded};
+ghost use Rattle.floods.specs.Floods.{flood-at, floodable, Rows-joined, Layer-taken, Flooded};
 use mesh::Site;
 
-// Takes the neighbours of radio a out of the set; they come behind the first `count` entries of the queue, as many as fit. Comes back
-// with how many entries the queue then has.
-fn take_ends(links: &[u8], a: u32, set: &mut [u64], queue: &mut [u16], count: usize) -> usize
-    requires { ⌜ (count ≤ length (now queue)) × (count ≤ max-radios) ⌝ }
-    ensures { λ r. ⌜ Ends-taken (now (links .entry)) a (flood-at (now (set .entry)) (now (queue .entry)) count)
+// Puts the neighbours of the radios that stand in the list from place `from` on and before place `to` into the set.
+fn join_rows<'a>(links: &'a [u8], list: &'a [u16], from: usize, to: usize, set: &mut [u64])
+    requires { ⌜ (from ≤ to) × (to ≤ length (now list)) × (length (now set) ≡ 8) ⌝ }
+    ensures { λ _. ⌜ Rows-joined (now (links .entry)) (now (list .entry)) from to (now (set .entry)) (now (set .exit)) ⌝ }
+{
+    let mut i = from;
+    while i < to {
+        rows::sets::join_row(links, list[i] as u32, set);
+        i += 1;
+    }
+}
+
+// Takes the neighbours of the radios that stand in the queue from place `from` on, and before place `count`, out of the set; they
+// come behind the first `count` entries of the queue, as many as fit. Comes back with how many entries the queue then has.
+fn take_layer(links: &[u8], set: &mut [u64], queue: &mut [u16], from: usize, count: usize) -> usize
+    requires { ⌜ (from ≤ count) × (count ≤ length (now queue)) × (count ≤ max-radios) × (length (now set) ≡ 8) ⌝ }
+    ensures { λ r. ⌜ Layer-taken (now (links .entry)) from (flood-at (now (set .entry)) (now (queue .entry)) count)
         (flood-at (now (set .exit)) (now (queue .exit)) r) ⌝ }
 {
-    count + rows::sets::take_row(links, a, set, &mut queue[count..])
+    let mut reach = [0u64; Site::ROW_BYTES / 8];
+    join_rows(links, queue, from, count, &mut reach);
+    count + rows::sets::take_common(&reach, set, &mut queue[count..])
 }
 
 // Whether v may be a radio, the set is eight words, and the queue has an entry for each of 512 radios.
@@ -44,9 +58,9 @@ pub fn flood(links: &[u8], v: u32, set: &mut [u64], queue: &mut [u16]) -> usize
     let mut count: usize = 1;
     let mut i: usize = 0;
     while i < count {
-        let a = queue[i] as u32;
-        count = take_ends(links, a, set, queue, count);
-        i += 1;
+        let next = take_layer(links, set, queue, i, count);
+        i = count;
+        count = next;
     }
     count
 }

@@ -1,14 +1,14 @@
 -- Sets of eight words.
--- In order: digits of words joined by `&` and `^`, one radio tested and taken out, a row's radios taken out word by word, the radios
--- that one of two sets has.
+-- In order: digits of words joined by `&`, `|` and `^`, one radio tested and taken out, the radios of another set taken out word by
+-- word, the radios of a row put in, the radios that one of two sets has.
 use mathlib.Core.Path.{_≡_, refl, sym, ap, _∙_}
 use mathlib.Core.Logic.{_⊎_, inl, inr}
-use mathlib.Core.Bool.{Bool, true, false, _&&_, not, cond}
+use mathlib.Core.Bool.{Bool, true, false, _&&_, _||_, not, cond}
 use mathlib.Core.List.{List, [], _++_}
-use Prim.Native.Nat.{ℕ, zero, suc, _+_, _*_, _-_, _/_, _%_, _^_, _≤_, _<_, min}
+use Prim.Native.Nat.{ℕ, zero, suc, _+_, _*_, _-_, _/_, _%_, _^_, _≤_, _<_, min, max}
 use native.Mathlib.Omega.{arith}
 use native.Mathlib.Nat.{mod-lt, zero-lt-suc, one-mul, mod-eq-of-lt}
-use lib.Bits.{differ, bitAnd, bitXor, and-step, xor-step, and-shr, xor-shr, xor-zero-r, and-mask}
+use lib.Bits.{differ, bitAnd, bitOr, bitXor, and-step, or-step, xor-step, and-shr, or-shr, xor-shr, xor-zero-r, and-mask}
 use lib.Dec.{ltb, eqb}
 use lib.ListN.{length, getD, take, set, length-set, List·getD-eq-default}
 use lib.Pow.{pow-lt}
@@ -17,16 +17,18 @@ use borrow.Author.Tests.{ltb-true, ltb-false, eqb-true, eqb-false, eq-eqb, ne-eq
 use Rattle.mesh.specs.Limits.{max-radios, row-bytes}
 use Rattle.lists.specs.Lists.{range, filter, member, overwrite}
 use Rattle.mesh.specs.Tables.{digit, marked, put-digit}
-use Rattle.lists.proofs.Filter.{member-filter, filter-filter}
+use Rattle.lists.proofs.Filter.{member-filter}
 use Rattle.lists.proofs.Overwrite.{sets-front}
+use Rattle.lists.proofs.Member.{not-member}
 use Rattle.lists.proofs.Range.{in-range}
 use Rattle.lists.proofs.Tests.{bool-cases, iff-eq}
 use Rattle.mesh.proofs.Tables.Digits.{digit-nothing, digit-put-digit}
 use Rattle.rows.specs.Rows.{neighbours-of, row-listed, set-bits, row-word}
-use Rattle.rows.specs.Sets.{in-set, take-out, word-left, word-taken, taken-by, Row-taken, in-one, gone, Gone-listed}
+use Rattle.rows.specs.Sets.{in-set, take-out, word-left, word-taken, Row-joined, common, Common-taken, in-one, gone, Gone-listed}
 use Rattle.rows.proofs.MaskLaws.{put-digit-false}
 use Rattle.rows.proofs.WordLaws.{set-bits-nothing, length-set-bits-le}
 use Rattle.rows.proofs.Listing.{Partial-listing, partial-none, partial-part, partial-end}
+use Rattle.rows.proofs.RowListLaws.{in-neighbours-of, member-neighbours-of}
 use Rattle.rows.proofs.RowWords.{marked-word, words-from, words-end, row-listed-whole, row-listed-short}
 
 -- ---- digits of joined words
@@ -47,6 +49,23 @@ digit-and x y m =
     let q = y / 2 ^ m in
     let low : bitAnd p q % 2 ≡ min (p % 2) (q % 2) = omega (arith, and-step p q) in
     ap (λ (z : ℕ). eqb (z % 2) 1) (and-shr x y m) ∙ ap (λ (z : ℕ). eqb z 1) low ∙ lowest-and (p % 2) (q % 2) (omega arith) (omega arith)
+
+lowest-or : (p q : ℕ) → p < 2 → q < 2 → eqb (max p q) 1 ≡ (eqb p 1 || eqb q 1)
+lowest-or zero zero h l = refl
+lowest-or zero (suc zero) h l = refl
+lowest-or (suc zero) zero h l = refl
+lowest-or (suc zero) (suc zero) h l = refl
+lowest-or (suc (suc p)) q h l = absurd (omega arith)
+lowest-or zero (suc (suc q)) h l = absurd (omega arith)
+lowest-or (suc zero) (suc (suc q)) h l = absurd (omega arith)
+
+digit-or : (x y m : ℕ) → digit (bitOr x y) m ≡ (digit x m || digit y m)
+unfolding digit
+digit-or x y m =
+    let p = x / 2 ^ m in
+    let q = y / 2 ^ m in
+    let low : bitOr p q % 2 ≡ max (p % 2) (q % 2) = omega (arith, or-step p q) in
+    ap (λ (z : ℕ). eqb (z % 2) 1) (or-shr x y m) ∙ ap (λ (z : ℕ). eqb z 1) low ∙ lowest-or (p % 2) (q % 2) (omega arith) (omega arith)
 
 lowest-xor : (p q : ℕ) → p < 2 → q < 2 → eqb (differ p q) 1 ≡ cond (eqb p 1) (not (eqb q 1)) (eqb q 1)
 lowest-xor zero zero h l = refl
@@ -137,15 +156,15 @@ in-take-out v w ws l = go (bool-cases (eqb (w / 64) (v / 64)))
         let d = eqb-false (w / 64) (v / 64) e in
         rw (getD-set-other ws (v / 64) (w / 64) x 0 d, ne-eqb v w (λ z. d (ap (λ (u : ℕ). u / 64) (sym z))))
 
--- ---- the radios of a row, taken word by word
+-- ---- the radios of another set, taken out word by word
 
-module _ (row k : ℕ) (ws list : List ℕ) (n : ℕ) where
+module _ (x k : ℕ) (ws list : List ℕ) (n : ℕ) where
   abbrev word : ℕ
-  word = bitAnd row (getD ws k 0)
+  word = bitAnd x (getD ws k 0)
 
   -- a word without radios of the set
   pub nothing-of-word : n ≤ length list → word ≡ 0
-      → (n ≡ min (length list) (n + length (set-bits 64 (64 * k) word))) × ((list ≡ sets list n (set-bits 64 (64 * k) word)) × (ws ≡ word-taken k row ws))
+      → (n ≡ min (length list) (n + length (set-bits 64 (64 * k) word))) × ((list ≡ sets list n (set-bits 64 (64 * k) word)) × (ws ≡ word-taken k x ws))
   unfolding word-taken word-left
   nothing-of-word room e =
       let none = set-bits-nothing 64 (64 * k) in
@@ -154,14 +173,26 @@ module _ (row k : ℕ) (ws list : List ℕ) (n : ℕ) where
   pub some-of-word : (m : ℕ) (new : List ℕ) → n ≤ length list → m ≡ min (length list - n) (length (set-bits 64 (64 * k) word))
       → new ≡ sets list n (set-bits 64 (64 * k) word)
       → (n + m ≡ min (length list) (n + length (set-bits 64 (64 * k) word))) × ((new ≡ sets list n (set-bits 64 (64 * k) word))
-      × (set ws k (bitXor (getD ws k 0) word) ≡ word-taken k row ws))
+      × (set ws k (bitXor (getD ws k 0) word) ≡ word-taken k x ws))
   unfolding word-taken word-left
   some-of-word m new room e f = (omega (arith, e), (f, refl))
 
--- nothing of a row that is not whole, and nothing of a set of another size
-pub nothing-taken : (ts : List ℕ) (a : ℕ) (ws list : List ℕ) → taken-by ts a ws ≡ [] → Row-taken ts a ws list 0 ws list
+-- nothing of a set of another size
+pub common-first : (x y : List ℕ) → (length x ≡ 8 → ⊥) → common x y ≡ []
+unfolding common
+common-first x y h = rw (ne-eqb (length x) 8 h)
+
+pub common-second : (x y : List ℕ) → length x ≡ 8 → (length y ≡ 8 → ⊥) → common x y ≡ []
+unfolding common
+common-second x y l h = rw (eq-eqb (length x) 8 l, ne-eqb (length y) 8 h)
+
+pub common-filter : (x y : List ℕ) → length x ≡ 8 → length y ≡ 8 → common x y ≡ filter (λ v. in-set x v && in-set y v) (range 0 max-radios)
+unfolding common
+common-filter x y lx ly = rw (eq-eqb (length x) 8 lx, eq-eqb (length y) 8 ly)
+
+pub nothing-taken : (x ws list : List ℕ) → common x ws ≡ [] → Common-taken x ws list 0 ws list
 unfolding overwrite member
-nothing-taken ts a ws list e = record {
+nothing-taken x ws list e = record {
   counted = omega (arith, ap length e);
   listed = rw e (nothing (length list));
   left = λ w. rw e (and-true (in-set ws w));
@@ -175,42 +206,25 @@ nothing-taken ts a ws list e = record {
     and-true true = refl
     and-true false = refl
 
-pub taken-by-short : (ts : List ℕ) (a : ℕ) (ws : List ℕ) → length ts < row-bytes * a + row-bytes → taken-by ts a ws ≡ []
-unfolding taken-by filter
-taken-by-short ts a ws h = rw (row-listed-short ts a h) (go (eqb (length ws) 8))
-  where
-    go : (t : Bool) → cond t (filter (in-set ws) []) [] ≡ []
-    go true = refl
-    go false = refl
-
-pub taken-by-other : (ts : List ℕ) (a : ℕ) (ws : List ℕ) → (length ws ≡ 8 → ⊥) → taken-by ts a ws ≡ []
-unfolding taken-by
-taken-by-other ts a ws h = rw (ne-eqb (length ws) 8 h)
-
-pub taken-by-filter : (ts : List ℕ) (a : ℕ) (ws : List ℕ) → length ws ≡ 8 → taken-by ts a ws ≡ filter (in-set ws) (row-listed ts a)
-unfolding taken-by
-taken-by-filter ts a ws h = rw (eq-eqb (length ws) 8 h)
-
-module _ (ts : List ℕ) (a : ℕ) (ws : List ℕ) where
-  -- row a marks b, and the set has it
+module _ (x ws : List ℕ) where
   abbrev both : ℕ → Bool
-  both b = marked ts a b && in-set ws b
+  both v = in-set x v && in-set ws v
 
   -- radios of both from word k on
   abbrev both-from : ℕ → List ℕ
   both-from k = filter both (range (64 * k) (max-radios - 64 * k))
 
   -- words before word k are done: their radios listed and taken out
-  pub record Row-taking (old : List ℕ) (n k : ℕ) (us list : List ℕ) : Type 0 where
+  pub record Common-taking (old : List ℕ) (n k : ℕ) (us list : List ℕ) : Type 0 where
     pub low : k ≤ 8
     pub long : length us ≡ 8
     pub few : n ≤ 64 * k
-    pub done : (j : ℕ) → j < k → getD us j 0 ≡ word-left (row-word 8 ts (row-bytes * a + 8 * j)) (getD ws j 0)
+    pub done : (j : ℕ) → j < k → getD us j 0 ≡ word-left (getD x j 0) (getD ws j 0)
     pub same : (j : ℕ) → k ≤ j → getD us j 0 ≡ getD ws j 0
     pub listing : Partial-listing (both-from 0) 0 old (both-from k) n list
 
-  pub row-taking-none : (old : List ℕ) → length ws ≡ 8 → Row-taking old 0 0 ws old
-  row-taking-none old h = record {
+  pub common-taking-none : (old : List ℕ) → length ws ≡ 8 → Common-taking old 0 0 ws old
+  common-taking-none old h = record {
     low = omega arith;
     long = h;
     few = omega arith;
@@ -219,88 +233,135 @@ module _ (ts : List ℕ) (a : ℕ) (ws : List ℕ) where
     listing = partial-none (both-from 0) 0 old (omega arith);
   }
 
-  taken-by-both : row-bytes * a + row-bytes ≤ length ts → length ws ≡ 8 → taken-by ts a ws ≡ both-from 0
-  unfolding neighbours-of
-  taken-by-both h l =
-      taken-by-filter ts a ws l ∙ ap (filter (in-set ws)) (row-listed-whole ts a h) ∙ (filter-filter (in-set ws) (λ b. marked ts a b) (range 0 max-radios))
+  both-word : (k m : ℕ) → m < 64 → both (64 * k + m) ≡ digit (bitAnd (getD x k 0) (getD ws k 0)) m
+  unfolding in-set
+  both-word k m h =
+      let q : (64 * k + m) / 64 ≡ k = omega arith in
+      let r : (64 * k + m) % 64 ≡ m = omega arith in
+      rw (q, r) (sym (digit-and (getD x k 0) (getD ws k 0) m))
 
-  module _ (bytes : (j : ℕ) → getD ts j 0 < 256) where
-    both-word : (k m : ℕ) → m < 64 → both (64 * k + m) ≡ digit (bitAnd (row-word 8 ts (row-bytes * a + 8 * k)) (getD ws k 0)) m
-    unfolding in-set
-    both-word k m h =
-        let q : (64 * k + m) / 64 ≡ k = omega arith in
-        let r : (64 * k + m) % 64 ≡ m = omega arith in
-        rw (q, r, marked-word ts bytes a k m h) (sym (digit-and (row-word 8 ts (row-bytes * a + 8 * k)) (getD ws k 0) m))
+  pub common-taking-turn : (old : List ℕ) (n k m : ℕ) (us list vs new : List ℕ) → k < 8
+      → m ≡ min (length list) (n + length (set-bits 64 (64 * k) (bitAnd (getD x k 0) (getD us k 0))))
+      → new ≡ sets list n (set-bits 64 (64 * k) (bitAnd (getD x k 0) (getD us k 0))) → vs ≡ word-taken k (getD x k 0) us
+      → Common-taking old n k us list → Common-taking old m (k + 1) vs new
+  unfolding word-taken
+  common-taking-turn old n k m us list vs new l f g v i =
+      let w = getD x k 0 in
+      let bits = set-bits 64 (64 * k) (bitAnd w (getD ws k 0)) in
+      let here : bitAnd w (getD us k 0) ≡ bitAnd w (getD ws k 0) = ap (bitAnd w) (i .same k (omega arith)) in
+      let split : both-from k ≡ bits ++ both-from (k + 1) = words-from both k (bitAnd w (getD ws k 0)) l (both-word k) in
+      let rest : Partial-listing (both-from 0) 0 old (bits ++ both-from (k + 1)) n list = rw split at (i .listing) in
+      record {
+        low = omega arith;
+        long = ap length v ∙ length-set us k (word-left w (getD us k 0)) ∙ i .long;
+        few = omega (arith, f, length-set-bits-le 64 (64 * k) (bitAnd w (getD us k 0)), i .few);
+        done = λ j h. done j h (bool-cases (eqb j k));
+        same = λ j h. ap (λ (z : List ℕ). getD z j 0) v ∙ getD-set-other us k j (word-left w (getD us k 0)) 0 (λ z. omega arith) ∙ i .same j (omega arith);
+        listing = rw (f, g, here) (partial-part bits (both-from (k + 1)) n list rest);
+      }
+    where
+      done : (j : ℕ) → j < k + 1 → (eqb j k ≡ true) ⊎ (eqb j k ≡ false) → getD vs j 0 ≡ word-left (getD x j 0) (getD ws j 0)
+      done j h (inl z) =
+          let q : j ≡ k = eqb-true j k z in
+          rw (q, v, getD-set-same us k (word-left (getD x k 0) (getD us k 0)) 0 (omega (arith, i .long)), i .same k (omega arith))
+      done j h (inr z) =
+          let q = eqb-false j k z in
+          ap (λ (y : List ℕ). getD y j 0) v ∙ getD-set-other us k j (word-left (getD x k 0) (getD us k 0)) 0 q ∙ i .done j (omega arith)
 
-    pub row-taking-turn : (old : List ℕ) (n k w m : ℕ) (us list vs new : List ℕ) → k < 8 → w ≡ row-word 8 ts (row-bytes * a + 8 * k)
-        → m ≡ min (length list) (n + length (set-bits 64 (64 * k) (bitAnd w (getD us k 0))))
-        → new ≡ sets list n (set-bits 64 (64 * k) (bitAnd w (getD us k 0))) → vs ≡ word-taken k w us
-        → Row-taking old n k us list → Row-taking old m (k + 1) vs new
-    unfolding word-taken
-    row-taking-turn old n k w m us list vs new l e f g v i =
-        let row = row-word 8 ts (row-bytes * a + 8 * k) in
-        let bits = set-bits 64 (64 * k) (bitAnd row (getD ws k 0)) in
-        let here : bitAnd w (getD us k 0) ≡ bitAnd row (getD ws k 0) = rw (e, i .same k (omega arith)) in
-        let split : both-from k ≡ bits ++ both-from (k + 1) = words-from both k (bitAnd row (getD ws k 0)) l (both-word k) in
-        let rest : Partial-listing (both-from 0) 0 old (bits ++ both-from (k + 1)) n list = rw split at (i .listing) in
-        record {
-          low = omega arith;
-          long = ap length v ∙ length-set us k (word-left w (getD us k 0)) ∙ i .long;
-          few = omega (arith, f, length-set-bits-le 64 (64 * k) (bitAnd w (getD us k 0)), i .few);
-          done = λ j h. done j h (bool-cases (eqb j k));
-          same = λ j h. ap (λ (z : List ℕ). getD z j 0) v ∙ getD-set-other us k j (word-left w (getD us k 0)) 0 (λ z. omega arith) ∙ i .same j (omega arith);
-          listing = rw (f, g, here) (partial-part bits (both-from (k + 1)) n list rest);
-        }
-      where
-        done : (j : ℕ) → j < k + 1 → (eqb j k ≡ true) ⊎ (eqb j k ≡ false)
-            → getD vs j 0 ≡ word-left (row-word 8 ts (row-bytes * a + 8 * j)) (getD ws j 0)
-        done j h (inl z) =
-            let q : j ≡ k = eqb-true j k z in
-            rw (q, v, getD-set-same us k (word-left w (getD us k 0)) 0 (omega (arith, i .long)), e, i .same k (omega arith))
-        done j h (inr z) =
-            let q = eqb-false j k z in
-            ap (λ (y : List ℕ). getD y j 0) v ∙ getD-set-other us k j (word-left w (getD us k 0)) 0 q ∙ i .done j (omega arith)
+  left-out : (us : List ℕ) → length ws ≡ 8 → length us ≡ 8 → ((j : ℕ) → j < 8 → getD us j 0 ≡ word-left (getD x j 0) (getD ws j 0))
+      → (v : ℕ) → in-set us v ≡ (in-set ws v && not (member v (both-from 0)))
+  unfolding in-set
+  left-out us lw lu done v = go (bool-cases (ltb v max-radios))
+    where
+      bool : (s r : Bool) → (s && not r) ≡ (s && not (r && s))
+      bool true true = refl
+      bool true false = refl
+      bool false r = refl
 
-    left-inside : (us : List ℕ) → ((j : ℕ) → j < 8 → getD us j 0 ≡ word-left (row-word 8 ts (row-bytes * a + 8 * j)) (getD ws j 0))
-        → (v : ℕ) → v < max-radios → in-set us v ≡ (in-set ws v && not (marked ts a v))
-    unfolding in-set
-    left-inside us done v l =
-        let p : v ≡ 64 * (v / 64) + v % 64 = omega arith in
-        let word = row-word 8 ts (row-bytes * a + 8 * (v / 64)) in
-        let row : marked ts a v ≡ digit word (v % 64) = ap (marked ts a) p ∙ marked-word ts bytes a (v / 64) (v % 64) (omega arith) in
-        ap (λ (x : ℕ). digit x (v % 64)) (done (v / 64) (omega arith)) ∙ digit-left word (getD ws (v / 64) 0) (v % 64)
-        ∙ ap (λ (b : Bool). digit (getD ws (v / 64) 0) (v % 64) && not b) (sym row)
+      inside : v < max-radios → in-set us v ≡ (in-set ws v && not (in-set x v))
+      inside l = ap (λ (y : ℕ). digit y (v % 64)) (done (v / 64) (omega arith)) ∙ digit-left (getD x (v / 64) 0) (getD ws (v / 64) 0) (v % 64)
 
-    left-out : (us : List ℕ) → length ws ≡ 8 → length us ≡ 8
-        → ((j : ℕ) → j < 8 → getD us j 0 ≡ word-left (row-word 8 ts (row-bytes * a + 8 * j)) (getD ws j 0))
-        → (v : ℕ) → in-set us v ≡ (in-set ws v && not (member v (both-from 0)))
-    left-out us lw lu done v = go (bool-cases (ltb v max-radios))
-      where
-        bool : (s r : Bool) → (s && not r) ≡ (s && not (r && s))
-        bool true true = refl
-        bool true false = refl
-        bool false r = refl
+      go : (ltb v max-radios ≡ true) ⊎ (ltb v max-radios ≡ false) → in-set us v ≡ (in-set ws v && not (member v (both-from 0)))
+      go (inl e) =
+          let l = ltb-true v max-radios e in
+          inside l ∙ bool (in-set ws v) (in-set x v)
+          ∙ ap (λ (b : Bool). in-set ws v && not b) (sym (member-filter both (range 0 max-radios) v (in-range 0 max-radios v (omega arith) (omega arith))))
+      go (inr e) =
+          let l = ltb-false v max-radios e in
+          rw (in-set-past us v (omega arith), in-set-past ws v (omega arith))
 
-        go : (ltb v max-radios ≡ true) ⊎ (ltb v max-radios ≡ false) → in-set us v ≡ (in-set ws v && not (member v (both-from 0)))
-        go (inl e) =
-            let l = ltb-true v max-radios e in
-            left-inside us done v l ∙ bool (in-set ws v) (marked ts a v)
-            ∙ ap (λ (b : Bool). in-set ws v && not b) (sym (member-filter both (range 0 max-radios) v (in-range 0 max-radios v (omega arith) (omega arith))))
-        go (inr e) =
-            let l = ltb-false v max-radios e in
-            rw (in-set-past us v (omega arith), in-set-past ws v (omega arith))
+  pub common-taking-end : (old : List ℕ) (n k : ℕ) (us list : List ℕ) → 8 ≤ k → length x ≡ 8 → length ws ≡ 8
+      → Common-taking old n k us list → Common-taken x ws old n us list
+  common-taking-end old n k us list h lx lw i =
+      let none : both-from k ≡ [] = words-end both k h in
+      let all = common-filter x ws lx lw in
+      let ended = partial-end (both-from k) n list none (i .listing) in
+      record {
+        counted = omega (arith, ended .0, ap length all);
+        listed = ended .1 ∙ sets-front old (both-from 0) ∙ ap (λ (xs : List ℕ). overwrite (take (length old) xs) old) (sym all);
+        left = λ v. left-out us lw (i .long) (λ j l. i .done j (omega arith)) v ∙ ap (λ (xs : List ℕ). in-set ws v && not (member v xs)) (sym all);
+      }
 
-    pub row-taking-end : (old : List ℕ) (n k : ℕ) (us list : List ℕ) → 8 ≤ k → row-bytes * a + row-bytes ≤ length ts → length ws ≡ 8
-        → Row-taking old n k us list → Row-taken ts a ws old n us list
-    row-taking-end old n k us list h whole long i =
-        let none : both-from k ≡ [] = words-end both k h in
-        let all = taken-by-both whole long in
-        let ended = partial-end (both-from k) n list none (i .listing) in
-        record {
-          counted = omega (arith, ended .0, ap length all);
-          listed = ended .1 ∙ sets-front old (both-from 0) ∙ ap (λ (xs : List ℕ). overwrite (take (length old) xs) old) (sym all);
-          left = λ v. left-out us long (i .long) (λ j l. i .done j (omega arith)) v ∙ ap (λ (xs : List ℕ). in-set ws v && not (member v xs)) (sym all);
-        }
+-- ---- the radios of a row, put in word by word
+
+pub row-joined-other : (ts : List ℕ) (a : ℕ) (ws : List ℕ) → (length ws ≡ 8 → ⊥) → Row-joined ts a ws ws
+row-joined-other ts a ws h = record { bits = λ l. absurd (h l); other = λ l. refl }
+
+pub row-joined-short : (ts : List ℕ) (a : ℕ) (ws : List ℕ) → length ts < row-bytes * a + row-bytes → Row-joined ts a ws ws
+unfolding member
+row-joined-short ts a ws h = record { bits = λ l w. rw (row-listed-short ts a h) (or-no (in-set ws w)); other = λ l. refl }
+  where
+    or-no : (b : Bool) → b ≡ (b || false)
+    or-no true = refl
+    or-no false = refl
+
+module _ (ts : List ℕ) (a : ℕ) (ws : List ℕ) where
+  -- words before word k are joined with the row's
+  pub record Row-joining (k : ℕ) (us : List ℕ) : Type 0 where
+    pub low : k ≤ 8
+    pub long : length us ≡ 8
+    pub done : (j : ℕ) → j < k → getD us j 0 ≡ bitOr (getD ws j 0) (row-word 8 ts (row-bytes * a + 8 * j))
+    pub same : (j : ℕ) → k ≤ j → getD us j 0 ≡ getD ws j 0
+
+  pub row-joining-none : length ws ≡ 8 → Row-joining 0 ws
+  row-joining-none h = record { low = omega arith; long = h; done = λ j l. absurd (omega arith); same = λ j l. refl }
+
+  pub row-joining-turn : (k w : ℕ) (us : List ℕ) → k < 8 → w ≡ row-word 8 ts (row-bytes * a + 8 * k) → Row-joining k us
+      → Row-joining (k + 1) (set us k (bitOr (getD us k 0) w))
+  row-joining-turn k w us l e i = record {
+    low = omega arith;
+    long = length-set us k (bitOr (getD us k 0) w) ∙ i .long;
+    done = λ j h. done j h (bool-cases (eqb j k));
+    same = λ j h. getD-set-other us k j (bitOr (getD us k 0) w) 0 (λ z. omega arith) ∙ i .same j (omega arith);
+  }
+    where
+      done : (j : ℕ) → j < k + 1 → (eqb j k ≡ true) ⊎ (eqb j k ≡ false)
+          → getD (set us k (bitOr (getD us k 0) w)) j 0 ≡ bitOr (getD ws j 0) (row-word 8 ts (row-bytes * a + 8 * j))
+      done j h (inl z) =
+          let q : j ≡ k = eqb-true j k z in
+          rw (q, getD-set-same us k (bitOr (getD us k 0) w) 0 (omega (arith, i .long)), e, i .same k (omega arith))
+      done j h (inr z) =
+          let q = eqb-false j k z in
+          getD-set-other us k j (bitOr (getD us k 0) w) 0 q ∙ i .done j (omega arith)
+
+  pub row-joining-end : ((j : ℕ) → getD ts j 0 < 256) → (k : ℕ) (us : List ℕ) → 8 ≤ k → row-bytes * a + row-bytes ≤ length ts → length ws ≡ 8
+      → Row-joining k us → Row-joined ts a ws us
+  unfolding in-set
+  row-joining-end bytes k us h whole long i = record { bits = λ l w. go w (bool-cases (ltb w max-radios)); other = λ l. absurd (l long) }
+    where
+      go : (w : ℕ) → (ltb w max-radios ≡ true) ⊎ (ltb w max-radios ≡ false) → in-set us w ≡ (in-set ws w || member w (row-listed ts a))
+      go w (inl e) =
+          let l = ltb-true w max-radios e in
+          let p : w ≡ 64 * (w / 64) + w % 64 = omega arith in
+          let word = row-word 8 ts (row-bytes * a + 8 * (w / 64)) in
+          let row : marked ts a w ≡ digit word (w % 64) = ap (marked ts a) p ∙ marked-word ts bytes a (w / 64) (w % 64) (omega arith) in
+          let listed : member w (row-listed ts a) ≡ marked ts a w = ap (member w) (row-listed-whole ts a whole) ∙ member-neighbours-of ts a w l in
+          ap (λ (y : ℕ). digit y (w % 64)) (i .done (w / 64) (omega arith)) ∙ digit-or (getD ws (w / 64) 0) word (w % 64)
+          ∙ ap (λ (b : Bool). digit (getD ws (w / 64) 0) (w % 64) || b) (sym row ∙ sym listed)
+      go w (inr e) =
+          let l = ltb-false w max-radios e in
+          in-set-past us w (omega (arith, i .long))
+          ∙ sym (ap (λ (b : Bool). b || member w (row-listed ts a)) (in-set-past ws w (omega arith)) ∙ ap (member w) (row-listed-whole ts a whole) ∙ not-member w (neighbours-of ts a) (λ m. omega (arith, in-neighbours-of ts a w m .0)))
 
 -- ---- the radios that one of two sets has
 

@@ -1,15 +1,16 @@
 -- Sets of radios as eight words of 64 bits: radio v is bit v % 64 of word v / 64.
 --   in-set ws v            v is in the set ws
 --   take-out v ws          the set without v
---   word-left row w        the word w without the bits that the word `row` has
---   word-taken k row ws    the set ws with its word k without these bits
---   taken-by ts a ws       the radios of the set ws that row a of the links table ts marks, ascending; none where ws is not eight words
---   Row-taken              these listed, and taken out of the set
+--   Row-joined             the radios that row a of the links table ts marks put into a set
+--   word-left x w          the word w without the bits that the word x has
+--   word-taken k x ws      the set ws with its word k without these bits
+--   common x y             the radios that the sets x and y both have, ascending; none where one is not eight words
+--   Common-taken           these listed, and taken out of the second set
 --   gone x y               the radios that one of the sets x and y has and the other not, ascending; none where one is not eight words
 --   Gone-listed            these listed
 -- Laws are in proofs/SetLaws.antt. Definitions only.
 use mathlib.Core.Path.{_≡_}
-use mathlib.Core.Bool.{Bool, false, _&&_, not, cond}
+use mathlib.Core.Bool.{Bool, false, _&&_, _||_, not, cond}
 use mathlib.Core.List.{List, []}
 use Prim.Native.Nat.{ℕ, _/_, _%_, min}
 use lib.Bits.{bitAnd, bitXor}
@@ -26,20 +27,25 @@ in-set ws v = digit (getD ws (v / 64) 0) (v % 64)
 unfoldable pub take-out : (v : ℕ) → (words : List ℕ) → List ℕ
 take-out v ws = set ws (v / 64) (put-digit false (getD ws (v / 64) 0) (v % 64))
 
-unfoldable pub word-left : (row word : ℕ) → ℕ
-word-left r w = bitXor w (bitAnd r w)
+-- ws before, us after
+pub record Row-joined (ts : List ℕ) (a : ℕ) (ws us : List ℕ) : Type 0 where
+  pub bits : length ws ≡ 8 → (w : ℕ) → in-set us w ≡ (in-set ws w || member w (row-listed ts a))
+  pub other : (length ws ≡ 8 → ⊥) → us ≡ ws
 
-unfoldable pub word-taken : (k row : ℕ) → (words : List ℕ) → List ℕ
-word-taken k r ws = set ws k (word-left r (getD ws k 0))
+unfoldable pub word-left : (other word : ℕ) → ℕ
+word-left x w = bitXor w (bitAnd x w)
 
-unfoldable pub taken-by : (links : List ℕ) → (a : ℕ) → (words : List ℕ) → List ℕ
-taken-by ts a ws = cond (eqb (length ws) 8) (filter (in-set ws) (row-listed ts a)) []
+unfoldable pub word-taken : (k other : ℕ) → (words : List ℕ) → List ℕ
+word-taken k x ws = set ws k (word-left x (getD ws k 0))
+
+unfoldable pub common : (x y : List ℕ) → List ℕ
+common x y = cond (eqb (length x) 8 && eqb (length y) 8) (filter (λ v. in-set x v && in-set y v) (range 0 max-radios)) []
 
 -- ws and list before, us and new after; r entries were written
-pub record Row-taken (ts : List ℕ) (a : ℕ) (ws list : List ℕ) (r : ℕ) (us new : List ℕ) : Type 0 where
-  pub counted : r ≡ min (length list) (length (taken-by ts a ws))
-  pub listed : new ≡ overwrite (take (length list) (taken-by ts a ws)) list
-  pub left : (w : ℕ) → in-set us w ≡ (in-set ws w && not (member w (taken-by ts a ws)))
+pub record Common-taken (x ws list : List ℕ) (r : ℕ) (us new : List ℕ) : Type 0 where
+  pub counted : r ≡ min (length list) (length (common x ws))
+  pub listed : new ≡ overwrite (take (length list) (common x ws)) list
+  pub left : (w : ℕ) → in-set us w ≡ (in-set ws w && not (member w (common x ws)))
 
 unfoldable pub in-one : (x y : List ℕ) → (v : ℕ) → Bool
 in-one x y v = cond (in-set x v) (not (in-set y v)) (in-set y v)

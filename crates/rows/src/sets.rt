@@ -1,11 +1,11 @@
-// Sets of radios as eight words, a bit for each radio: tested, taken out of, by rows too, and listed.
+// Sets of radios as eight words, a bit for each radio: tested, taken out of, joined with rows, and listed.
 ghost use mathlib.Core.Path.{_≡_};
 ghost use Prim.Native.Nat.{_+_, _*_, _≤_, _<_, min};
 ghost use lib.ListN.{length, getD};
 ghost use lib.Bits.{bitAnd};
 ghost use lib.Seq.{sets};
 ghost use Rattle.rows.specs.Rows.{set-bits};
-ghost use Rattle.rows.specs.Sets.{in-set, take-out, word-taken, Row-taken, Gone-listed};
+ghost use Rattle.rows.specs.Sets.{in-set, take-out, word-taken, Row-joined, Common-taken, Gone-listed};
 
 // Whether v is in the set; past its words it is not.
 pub fn is_in(set: &[u64], v: u32) -> bool
@@ -29,16 +29,16 @@ pub fn take_out(set: &mut [u64], v: u32)
     }
 }
 
-// Takes the radios that word k of a row marks out of word k of the set, and writes them into the list from place n on, as many as
+// Takes the radios that word k of another set has out of word k of the set, and writes them into the list from place n on, as many as
 // fit. Comes back with the count of entries so far.
-fn take_word(row: u64, k: u32, set: &mut [u64], list: &mut [u16], n: usize) -> usize
+fn take_word(other: u64, k: u32, set: &mut [u64], list: &mut [u16], n: usize) -> usize
     requires { ⌜ (k < 8) × (length (now set) ≡ 8) × (n ≤ length (now list)) × (n ≤ 64 * k) ⌝ }
-    ensures counted { λ r. ⌜ r ≡ min (length (now (list .entry))) (n + length (set-bits 64 (64 * k) (bitAnd row (getD (now (set .entry)) k 0)))) ⌝ }
-    ensures listed { λ _. ⌜ now (list .exit) ≡ sets (now (list .entry)) n (set-bits 64 (64 * k) (bitAnd row (getD (now (set .entry)) k 0))) ⌝ }
-    ensures left { λ _. ⌜ now (set .exit) ≡ word-taken k row (now (set .entry)) ⌝ }
+    ensures counted { λ r. ⌜ r ≡ min (length (now (list .entry))) (n + length (set-bits 64 (64 * k) (bitAnd other (getD (now (set .entry)) k 0)))) ⌝ }
+    ensures listed { λ _. ⌜ now (list .exit) ≡ sets (now (list .entry)) n (set-bits 64 (64 * k) (bitAnd other (getD (now (set .entry)) k 0))) ⌝ }
+    ensures left { λ _. ⌜ now (set .exit) ≡ word-taken k other (now (set .entry)) ⌝ }
 {
     let at = k as usize;
-    let word = row & set[at];
+    let word = other & set[at];
     if word == 0 {
         return n;
     }
@@ -46,14 +46,35 @@ fn take_word(row: u64, k: u32, set: &mut [u64], list: &mut [u16], n: usize) -> u
     n + crate::list_word(word, crate::WORD_BITS * k, list, n) as usize
 }
 
-// Takes the radios that row a marks out of the set, writes them into the list, ascending, as many as fit, and comes back with how
-// many it wrote; later entries keep their content. Where the row is not whole in the table, or the set is not eight words, nothing
-// changes and the count is 0.
-pub fn take_row(links: &[u8], a: u32, set: &mut [u64], list: &mut [u16]) -> usize
-    ensures { λ r. ⌜ Row-taken (now (links .entry)) a (now (set .entry)) (now (list .entry)) r (now (set .exit)) (now (list .exit)) ⌝ }
+// Puts the radios that row a marks into the set. Where the row is not whole in the table, or the set is not eight words, nothing
+// changes.
+pub fn join_row(links: &[u8], a: u32, set: &mut [u64])
+    ensures { λ _. ⌜ Row-joined (now (links .entry)) a (now (set .entry)) (now (set .exit)) ⌝ }
 {
     let start = mesh::Site::ROW_BYTES * a as usize;
-    if links.len() < start + mesh::Site::ROW_BYTES {
+    let end = start + mesh::Site::ROW_BYTES;
+    if links.len() < end {
+        return;
+    }
+    if set.len() != crate::ROW_WORDS as usize {
+        return;
+    }
+    let row = &links[start..end];
+    let mut k: u32 = 0;
+    while k < crate::ROW_WORDS {
+        let at = k as usize;
+        set[at] = set[at] | crate::word_of(row, k);
+        k += 1;
+    }
+}
+
+// Takes the radios that the other set has too out of the set, writes them into the list, ascending, as many as fit, and comes back
+// with how many it wrote; later entries keep their content. Where one of the sets is not eight words nothing changes and the count
+// is 0.
+pub fn take_common(other: &[u64], set: &mut [u64], list: &mut [u16]) -> usize
+    ensures { λ r. ⌜ Common-taken (now (other .entry)) (now (set .entry)) (now (list .entry)) r (now (set .exit)) (now (list .exit)) ⌝ }
+{
+    if other.len() != crate::ROW_WORDS as usize {
         return 0;
     }
     if set.len() != crate::ROW_WORDS as usize {
@@ -62,13 +83,7 @@ pub fn take_row(links: &[u8], a: u32, set: &mut [u64], list: &mut [u16]) -> usiz
     let mut n: usize = 0;
     let mut k: u32 = 0;
     while k < crate::ROW_WORDS {
-        n = take_word(
-            crate::word_at(links, start + 8 * k as usize),
-            k,
-            set,
-            list,
-            n,
-        );
+        n = take_word(other[k as usize], k, set, list, n);
         k += 1;
     }
     n

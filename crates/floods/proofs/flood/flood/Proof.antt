@@ -40,58 +40,33 @@ slice-write-queue c =
     let sizes = floodable-true _ _ _ (sym (asked .is-floodable .ensures) ∙ not-false _ (c .before .before .before .before .if1 .left)) in
     omega (arith, sizes .room)
 
-mul-a : tie.Need-mul-a Inv-loop μ-loop
-mul-a c =
-    let at-loop = c .before in
+take-layer-requires : tie.Need-take-layer-requires Inv-loop μ-loop
+take-layer-requires c κs =
+    let at-loop = c .before .before .before in
     let call = at-loop .before .before .before .before .before .before .before .before .before .before .args in
     let can = sym (at-loop .before .before .before .before .before .before .is-floodable .ensures) ∙ not-false _ (at-loop .before .before .before .before .before .if1 .left) in
     let starts = flood-starts (call .links .now) (call .v) (call .set .now) (call .queue .now) _ can (at-loop .before .before .before .take-out .ensures) in
     let walked = at-loop .loop .inv .2 (call .set .now) starts in
-    omega (arith, walked .few, c .loop-test .taken)
-
-slice-read-a : tie.Need-slice-read-a Inv-loop μ-loop
-slice-read-a c =
-    let at-loop = c .before .before in
-    let call = at-loop .before .before .before .before .before .before .before .before .before .before .args in
-    let can = sym (at-loop .before .before .before .before .before .before .is-floodable .ensures) ∙ not-false _ (at-loop .before .before .before .before .before .if1 .left) in
-    let starts = flood-starts (call .links .now) (call .v) (call .set .now) (call .queue .now) _ can (at-loop .before .before .before .take-out .ensures) in
-    let walked = at-loop .loop .inv .2 (call .set .now) starts in
-    omega (arith, walked .few, walked .room, c .before .loop-test .taken)
-
-take-ends-requires : tie.Need-take-ends-requires Inv-loop μ-loop
-take-ends-requires c κs =
-    let at-loop = c .before .before .before .before in
-    let call = at-loop .before .before .before .before .before .before .before .before .before .before .args in
-    let can = sym (at-loop .before .before .before .before .before .before .is-floodable .ensures) ∙ not-false _ (at-loop .before .before .before .before .before .if1 .left) in
-    let starts = flood-starts (call .links .now) (call .v) (call .set .now) (call .queue .now) _ can (at-loop .before .before .before .take-out .ensures) in
-    let walked = at-loop .loop .inv .2 (call .set .now) starts in
-    (omega (arith, walked .few, walked .room), walked .few)
-
-add-i : tie.Need-add-i Inv-loop μ-loop
-add-i c =
-    let at-loop = c .before .before .before .before .before .before .before .before .before in
-    let call = at-loop .before .before .before .before .before .before .before .before .before .before .args in
-    let can = sym (at-loop .before .before .before .before .before .before .is-floodable .ensures) ∙ not-false _ (at-loop .before .before .before .before .before .if1 .left) in
-    let starts = flood-starts (call .links .now) (call .v) (call .set .now) (call .queue .now) _ can (at-loop .before .before .before .take-out .ensures) in
-    let walked = at-loop .loop .inv .2 (call .set .now) starts in
-    omega (arith, walked .few, c .before .before .before .before .before .before .before .before .loop-test .taken)
+    (walked .reached, omega (arith, walked .few, walked .room), walked .few, walked .spreading .long)
 
 loop-less : tie.Need-loop-less Inv-loop μ-loop
 loop-less c =
-    let at-loop = c .before .before .before .before .before .before .before .before .before in
+    let test = c .before .before .before .before .before .before .before in
+    let at-loop = test .before in
     let call = at-loop .before .before .before .before .before .before .before .before .before .before .args in
     let can = sym (at-loop .before .before .before .before .before .before .is-floodable .ensures) ∙ not-false _ (at-loop .before .before .before .before .before .if1 .left) in
     let starts = flood-starts (call .links .now) (call .v) (call .set .now) (call .queue .now) _ can (at-loop .before .before .before .take-out .ensures) in
     let walked = at-loop .loop .inv .2 (call .set .now) starts in
-    omega (arith, walked .few, c .before .before .before .before .before .before .before .before .loop-test .taken)
+    omega (arith, walked .few, test .loop-test .taken)
 
 loop-again : tie.Need-loop-again Inv-loop μ-loop
 loop-again c =
-    let at-loop = c .before .before .before .before .before .before .before .before .before in
+    let taken = c .before .before .before .before in
+    let at-loop = taken .before .before .before .before in
     let call = at-loop .before .before .before .before .before .before .before .before .before .before .args in (
       search needs,
       search needs,
-      λ old h. walking-turn (call .links .now) (call .v) old (at-loop .loop .i) _ _ (c .before .before .before .before .before .before .before .before .loop-test .taken) (search needs) (c .before .before .before .before .take-ends .ensures) (at-loop .loop .inv .2 old h),
+      λ old h. walking-turn (call .links .now) (call .v) old (at-loop .loop .i) _ _ (search needs) (taken .take-layer .ensures) (at-loop .loop .inv .2 old h),
     )
 
 same-length : tie.Need-same-length Inv-loop μ-loop
@@ -117,6 +92,5 @@ returns-2 c =
 pub flood-spec : {M : Type 1} → statement M
 flood-spec =
     tie.close (
-    tie.spec Inv-loop μ-loop (λ c κs. search needs) returns (λ c κs. search needs) cast-queue slice-write-queue (λ c. (refl, refl, λ old h. h)) mul-a
-    slice-read-a (λ c. omega (arith, c .slice-known4 .given (c .before .before .loop .i))) take-ends-requires add-i loop-less loop-again same-length
-    same-length-2 returns-2)
+    tie.spec Inv-loop μ-loop (λ c κs. search needs) returns (λ c κs. search needs) cast-queue slice-write-queue (λ c. (refl, refl, λ old h. h))
+    take-layer-requires loop-less loop-again same-length same-length-2 returns-2)

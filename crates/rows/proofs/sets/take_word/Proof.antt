@@ -8,7 +8,7 @@ use Rattle.rows.proofs.sets.take_word.Tie as tie
 returns : tie.Need-returns
 returns c =
     let start = c .before .before .before .before in
-    nothing-of-word (start .args .row) (start .args .k) (start .args .set .now) (start .args .list .now) (start .args .n) (start .pre .2) (c .if1 .taken)
+    nothing-of-word (start .args .other) (start .args .k) (start .args .set .now) (start .args .list .now) (start .args .n) (start .pre .2) (c .if1 .taken)
 
 add-result : tie.Need-add-result
 add-result c =
@@ -18,7 +18,7 @@ add-result c =
 returns-2 : tie.Need-returns-2
 returns-2 c =
     let start = c .before .before .before .before .before .before .before .before .before in
-    some-of-word (start .args .row) (start .args .k) (start .args .set .now) (start .args .list .now) (start .args .n) _ _ (start .pre .2)
+    some-of-word (start .args .other) (start .args .k) (start .args .set .now) (start .args .list .now) (start .args .n) _ _ (start .pre .2)
     (c .before .before .list-word .ensures .0) (c .before .before .list-word .ensures .1)
 
 pub take-word-spec : {M : Type 1} → statement M
