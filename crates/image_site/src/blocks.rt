@@ -7,7 +7,8 @@ ghost use lib.Dec.{ltb};
 ghost use lib.ListN.{length, getD, set};
 ghost use Rattle.mesh.specs.Limits.{max-radios};
 ghost use Rattle.mesh.specs.Image.{block-bytes, block-entries, block-links, word-at};
-ghost use Rattle.image_site.specs.Site.{links-up-to, passed, key-of, next-key, Listed, Tallied, count-link, Link-fits, Links-room, Tally-room, Part-is, Order-read};
+ghost use Rattle.image_site.specs.Site.{links-up-to, passed, key-of, next-key, Listed, Tallied, count-link, Order-read};
+ghost use Rattle.image_site.specs.Site.{Link-fits, Links-room, Tally-room, Part-is};
 use image::bytes;
 use image::layout;
 
@@ -19,7 +20,7 @@ fn word_in(image: &[u8], at: usize) -> u32
     bytes::wide(image[at]) + 256 * bytes::wide(image[at + 1])
 }
 
-// The four bytes from `at` on as one number, lowest byte first: a link's lower radio, and before it its higher one.
+// The four bytes from `at` on as one number, lowest byte first: of a link its low half is the lower radio, its high half the higher one.
 fn long_in(image: &[u8], at: usize) -> u32
     requires { ⌜ at + 4 ≤ length (now image) ⌝ }
     ensures { λ r. ⌜ (r ≡ word-at (now (image .entry)) at + 65536 * word-at (now (image .entry)) (at + 2)) ×
