@@ -13,7 +13,7 @@ use Rattle.mesh.specs.Tables.{Tables, graph-in}
 use Rattle.mesh.specs.Sound.{sound}
 use Rattle.mesh.proofs.Images.Tables.{valid-graph-in}
 use Rattle.text.specs.Print.{Buffer, buffer-at, max-place, put, Puts}
-use Rattle.text.proofs.PrintLaws.{at-put, put-fits}
+use Rattle.text.proofs.PrintLaws.{put-fits}
 use Rattle.calls.specs.Script.{script-of, script-length}
 use Rattle.calls.specs.Questions.{ask, lengths-of, site-refusal, holds-script, script-length-refusal, script-refusal}
 use Rattle.calls.specs.Contracts.Scripts.{Script-length-contract, Script-contract}
@@ -23,12 +23,6 @@ use Rattle.calls.proofs.ScriptLaws.{script-yes, script-no, script-most}
 use Rattle.soundness.proofs.SoundSite.{Sound-site, site-good-sound}
 use Rattle.link_list.specs.Links.{links-from, Rows-listed}
 use Rattle.link_list.proofs.GraphLinks.{rows-listed-few, links-graph-in}
-
--- the place after a short text is its length, whatever the buffer
-pub measured : (w x : List ℕ) (r : ℕ) (h : Graph) → script-length h ≤ 112651 → Puts (buffer-at w 0) (script-of h) (buffer-at x r) → r ≡ script-length h
-unfolding script-length
-measured w x r h short p =
-    omega (arith, ap (λ (b : Buffer). b .at) (p .is), at-put (buffer-at w 0) (script-of h) (omega arith))
 
 module _ (n : ℕ) (t : Tables) where
   abbrev questions : ℕ

@@ -1,14 +1,15 @@
 // The script that rebuilds a site: the replay program's line 1, then a line for each link, lower radio first, ascending by lower and
-// then higher. One function puts it and counts it, so its length beforehand is the length written. A buffer that is shorter is refused
-// by 13. The words of the lines are crate script's; digits and bytes are put by crate text.
+// then higher. Its length is counted by digits beforehand, and is the length written. A buffer that is shorter is refused by 13. The
+// words of the lines are crate script's; digits and bytes are put by crate text.
 ghost use mathlib.Core.Path.{_≡_};
 ghost use mathlib.Core.List.{flatMap};
-ghost use Prim.Native.Nat.{_≤_};
+ghost use Prim.Native.Nat.{_≤_, _<_};
 ghost use lib.ListN.{length};
-ghost use Rattle.mesh.specs.Limits.{max-neighbours};
+ghost use Rattle.mesh.specs.Limits.{max-radios, max-neighbours};
 ghost use Rattle.mesh.specs.Graph.{graph};
 ghost use Rattle.mesh.specs.Tables.{lent};
 ghost use Rattle.rows.specs.Rows.{neighbours-above};
+ghost use Rattle.text.specs.Text.{decimal};
 ghost use Rattle.text.specs.Print.{buffer-at, Puts};
 ghost use Rattle.calls.specs.Script.{radios-text, up-text, up-line, script-of, script-length};
 ghost use Rattle.calls.specs.Contracts.Scripts.{Script-length-contract, Script-contract};
@@ -94,14 +95,72 @@ fn put_script(buffer: &mut [u8], n: u32, links: &[u8]) -> usize
     put_links(buffer, place, n, links)
 }
 
-// The script's length: what putting it counts, with no room for a byte of it.
+// How many digits x has.
+fn digits(x: u16) -> usize
+    ensures { λ r. ⌜ (r ≡ length (decimal x)) × (r ≤ 5) ⌝ }
+{
+    if x < 10 {
+        return 1;
+    }
+    if x < 100 {
+        return 2;
+    }
+    if x < 1000 {
+        return 3;
+    }
+    if x < 10000 {
+        return 4;
+    }
+    5
+}
+
+// The bytes of a line for each link of a to the listed radios: beside their digits, a line has `up`, two spaces and a line feed.
+fn row_length(a: u16, list: &[u16]) -> usize
+    requires { ⌜ length (now list) ≤ max-neighbours ⌝ }
+    ensures { λ r. ⌜ r ≡ length (flatMap up-line (links-to a (now (list .entry)))) ⌝ }
+{
+    let own = 5 + digits(a);
+    let mut sum: usize = 0;
+    let mut i: usize = 0;
+    while i < list.len() {
+        sum += own + digits(list[i]);
+        i += 1;
+    }
+    sum
+}
+
+// The bytes of a line for each link of a to a radio above it.
+fn radio_length(links: &[u8], a: u32) -> usize
+    requires { ⌜ (a < max-radios) × (length (neighbours-above (now links) a) ≤ max-neighbours) ⌝ }
+    ensures { λ r. ⌜ r ≡ length (flatMap up-line (links-above (now (links .entry)) a)) ⌝ }
+{
+    let mut near = [0u16; Site::NEIGHBOURS as usize];
+    let count = rows::row_above(links, a, &mut near) as usize;
+    row_length(a as u16, &near[..count])
+}
+
+// The bytes of a line for each link that the first n rows mark.
+fn links_length(n: u32, links: &[u8]) -> usize
+    requires listed { ⌜ Rows-listed n (now links) max-neighbours ⌝ }
+    requires short { ⌜ length (flatMap up-line (links-from n (now links) 0 0)) ≤ 112651 ⌝ }
+    ensures { λ r. ⌜ r ≡ length (flatMap up-line (links-from n (now (links .entry)) 0 0)) ⌝ }
+{
+    let mut sum: usize = 0;
+    let mut a: u32 = 0;
+    while a < n {
+        sum += radio_length(links, a);
+        a += 1;
+    }
+    sum
+}
+
+// The script's length, counted by digits: line 1 has `radios`, a space and a line feed beside them.
 fn measure(n: u32, links: &[u8]) -> usize
     requires listed { ⌜ Rows-listed n (now links) max-neighbours ⌝ }
     requires short { ⌜ script-length (graph n (links-from n (now links) 0 0)) ≤ 112651 ⌝ }
     ensures { λ r. ⌜ r ≡ script-length (graph n (links-from n (now (links .entry)) 0 0)) ⌝ }
 {
-    let mut room = [0u8; 0];
-    put_script(&mut room, n, links)
+    8 + digits(n as u16) + links_length(n, links)
 }
 
 // Number 0 and the script's length in bytes. Or the refusal number of questions 1 to 3 and the value 0.

@@ -1,11 +1,30 @@
--- `measure` meets its contract: the place after the script is its length.
+-- `measure` meets its contract: line 1 and the lines of the links.
+use native.Mathlib.Omega.{arith}
 use borrow.Author.Needs.{needs}
-use Rattle.script_writer.proofs.ScriptOutcomes.{measured}
+use Rattle.link_list.specs.Links.{links-from}
+use Rattle.script_writer.proofs.LengthLaws.{length-script}
 use Rattle.script_writer.proofs.measure.Statement.{statement}
 use Rattle.script_writer.proofs.measure.Tie as tie
 
+links-length-requires : tie.Need-links-length-requires
+links-length-requires c κs =
+    let start = c .before .before in
+    let ls = links-from (start .args .n) (start .args .links .now) 0 0 in
+    (start .pre .0, omega (arith, start .pre .1, length-script (start .args .n) ls))
+
+add-result-2 : tie.Need-add-result-2
+add-result-2 c =
+    let start = c .before .before .before in
+    let ls = links-from (start .args .n) (start .args .links .now) 0 0 in
+    omega (arith, start .pre .1, length-script (start .args .n) ls, c .links-length .ensures, c .before .digits .ensures .0)
+
 returns : tie.Need-returns
-returns c = measured _ _ _ _ (c .before .before .before .before .pre .1) (c .before .put-script .ensures)
+returns c =
+    let start = c .before .before .before in
+    let ls = links-from (start .args .n) (start .args .links .now) 0 0 in
+    omega (arith, length-script (start .args .n) ls, c .links-length .ensures, c .before .digits .ensures .0)
 
 pub measure-spec : {M : Type 1} → statement M
-measure-spec = tie.close (tie.spec (λ c. search needs) (λ c κs. search needs) returns)
+measure-spec =
+    tie.close (
+    tie.spec (λ c. search needs) (λ c κs. search needs) (λ c. search needs) links-length-requires add-result-2 returns)
