@@ -17,7 +17,8 @@ use Rattle.mesh.specs.Sound.{sound}
 use Rattle.calls.specs.Questions.{lengths-of}
 use Rattle.calls.specs.Heard.{agreed, hear-refusal}
 use Rattle.calls.specs.Hearing.{Phase, Rows-left, Row-left}
-use Rattle.soundness.specs.Checks.{Highs, fits-sound}
+use Rattle.row_conditions.specs.Conditions.{Highs}
+use Rattle.soundness.specs.Checks.{fits-sound}
 use Rattle.links.specs.Steps.{Prepared}
 
 unfoldable pub Phase-by : (n : ℕ) → (heard : List ℕ) → Phase → Type 0

@@ -22,7 +22,8 @@ use Rattle.lists.proofs.All.{all-append}
 use Rattle.rows.specs.Rows.{neighbours-of, row-from, set-bits, row-word}
 use Rattle.rows.proofs.WordLaws.{set-bits-nothing, set-bits-lowest, length-set-bits-le}
 use Rattle.rows.proofs.RowWords.{row-from-zero, row-from-word, row-from-end}
-use Rattle.soundness.specs.Checks.{sooner-key, first-key, later-count, high-count, ends-mark, Tally, tally, Tallied, Walked, Walk-room}
+use Rattle.row_conditions.specs.Conditions.{sooner-key, first-key, later-count, high-count}
+use Rattle.soundness.specs.Checks.{ends-mark, Tally, tally, Tallied, Walked, Walk-room}
 
 pub count-fits : (x : ℕ) (t : Bool) → x < 255 → Fits w8 (x + boolByte t)
 count-fits x t l = omega (arith, byte-bit t, bit-one t)
