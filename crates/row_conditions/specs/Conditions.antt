@@ -7,13 +7,14 @@
 --   Highs n links numbers highs   the table of high counts has the one of each radio
 --   ends-good                each of some radios is below n, is not a, and marks a too
 --   row-good                 the conditions of document 01 on radio a: its row, its later neighbours, its neighbours that are not below it
+--   highest-word n first     the highest word whose bits, counted from radio `first`, all are radios below n
 --   rising-from              numbers never fall along a list, and do not begin below the given one
 -- That tables are sound when the order holds each radio once, numbers rise along it and every row is good is `sound-rows` in
 -- proofs/RowByRow.antt. Definitions only.
 use mathlib.Core.Path.{_≡_}
 use mathlib.Core.Bool.{Bool, true, _&&_, not, cond}
 use mathlib.Core.List.{List, [], _∷_}
-use Prim.Native.Nat.{ℕ, _+_, _*_, _<_, min}
+use Prim.Native.Nat.{ℕ, _+_, _*_, _-_, _^_, _<_, min}
 use lib.Dec.{ltb, leb, eqb}
 use lib.ListN.{length, getD}
 use Rattle.lists.specs.Lists.{count, all}
@@ -52,6 +53,9 @@ row-good most n ts ns ps a =
 -- the table `highs` holds the high count of each radio
 pub record Highs (n : ℕ) (links numbers highs : List ℕ) : Type 0 where
   pub at : (v : ℕ) → v < n → getD highs v 0 ≡ high-count numbers v (neighbours-of links v)
+
+unfoldable pub highest-word : (n first : ℕ) → ℕ
+highest-word n first = 2 ^ min 64 (n - first) - 1
 
 -- `true` of an empty list whatever m
 unfoldable pub rising-from : (num : ℕ → ℕ) → (m : ℕ) → List ℕ → Bool

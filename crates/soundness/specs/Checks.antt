@@ -1,5 +1,6 @@
 -- The soundness check, row by row.
 --   ends-mark                each of some radios marks a too
+--   Highest-words            the highest word of each word of a row
 --   Tally                    what is counted of some ends of a row
 --   Sound-radio, Ends-room, Walk-room, Rows-room   what private functions of src/lib.rt want of the tables that they read
 --   Placing, Places-found, Tallied, Walked, Ends-counted, Later-counted, Row-checked, Rows-checked, Examined
@@ -13,7 +14,7 @@ use mathlib.Core.Bool.{Bool, true, _&&_}
 use mathlib.Core.List.{List, []}
 use Prim.Native.Nat.{ℕ, _+_, _*_, _%_, _≤_, _<_, min}
 use lib.Dec.{leb}
-use lib.ListN.{length}
+use lib.ListN.{length, getD}
 use Rattle.mesh.specs.Limits.{max-radios, max-neighbours, row-bytes}
 use Rattle.lists.specs.Lists.{range, all, head-or}
 use Rattle.mesh.specs.Orders.{each-once, later-in, nobody}
@@ -22,7 +23,7 @@ use Rattle.mesh.specs.Graph.{linked}
 use Rattle.mesh.specs.Sound.{sound}
 use Rattle.calls.specs.Questions.{Lengths, lengths-of, size-good, site-lengths, answer-length}
 use Rattle.rows.specs.Rows.{neighbours-of}
-use Rattle.row_conditions.specs.Conditions.{Placed, Highs, later-count, first-key, high-count, ends-good, row-good}
+use Rattle.row_conditions.specs.Conditions.{Placed, Highs, later-count, first-key, high-count, ends-good, row-good, highest-word}
 
 unfoldable pub ends-mark : (links : List ℕ) → (a : ℕ) → (radios : List ℕ) → Bool
 ends-mark ts a xs = all (λ b. marked ts b a) xs
@@ -47,6 +48,10 @@ pub record Placing (order before after : List ℕ) (r : Bool) : Type 0 where
 pub record Places-found (order before after : List ℕ) (r : Bool) : Type 0 where
   pub answer : r ≡ (leb (length order) (min max-radios (length before)) && each-once (length order) order)
   pub placed : r ≡ true → Placed (length order) order after
+
+-- the highest words of a site of n radios, one for each word of a row
+pub record Highest-words (n : ℕ) (words : List ℕ) : Type 0 where
+  pub at : (k : ℕ) → k < 8 → getD words k 0 ≡ highest-word n (64 * k)
 
 -- what is counted of some ends of a row: how many, how many later, how many not below, and the key of the first later one
 pub record Tally : Type 0 where
