@@ -27,18 +27,28 @@ struct c_ends {
     unsigned count, later, high, first;
 };
 
+/* The highest words whose bits all are radios of a site of n, one for each word of a row. */
+static inline void c_highest_words(uint32_t n, uint64_t *highest) {
+    for (unsigned i = 0; i < ROW / 8; i++)
+        highest[i] = n <= 64 * i ? 0 : n - 64 * i >= 64 ? UINT64_MAX : ((uint64_t)1 << (n - 64 * i)) - 1;
+}
+
 /* Counts the ends of row a, word by word; 0 where there are too many, or one is no radio, is a itself or does not have a. */
-static inline int c_count_ends(const struct lent *t, const uint16_t *places, unsigned a, struct c_ends *ends) {
+static inline int c_count_ends(const struct lent *t, const uint16_t *places, const uint64_t *highest, unsigned a, struct c_ends *ends) {
     struct c_ends c = {0, 0, 0, NOWHERE};
     if (marked(t->links, a, a)) return 0;
+    unsigned own_place = places[a], own = t->numbers[a];
     for (unsigned i = 0; i < ROW / 8; i++) {
-        for (uint64_t w = row_word(t->links, a, i); w; w &= w - 1) {
+        uint64_t w = row_word(t->links, a, i);
+        if (!w) continue;
+        if (w > highest[i]) return 0;
+        for (; w; w &= w - 1) {
             unsigned b = 64 * i + __builtin_ctzll(w);
-            if (b >= t->n || !marked(t->links, b, a)) return 0;
+            if (!marked(t->links, b, a)) return 0;
             unsigned place = places[b];
-            if (place > places[a] && place < c.first) c.first = place;
-            c.count++, c.later += places[a] < place;
-            c.high += t->numbers[a] <= t->numbers[b];
+            if (place > own_place && place < c.first) c.first = place;
+            c.count++, c.later += own_place < place;
+            c.high += own <= t->numbers[b];
         }
         if (c.count > NEIGHBOURS) return 0;
     }
@@ -53,9 +63,11 @@ static int c_examine(const struct lent *t, uint16_t *places, uint8_t *highs) {
         if (t->numbers[t->order[i]] < last) return 0;
         last = t->numbers[t->order[i]];
     }
+    uint64_t highest[ROW / 8];
+    c_highest_words(t->n, highest);
     for (unsigned a = 0; a < t->n; a++) {
         struct c_ends ends;
-        if (!c_count_ends(t, places, a, &ends)) return 0;
+        if (!c_count_ends(t, places, highest, a, &ends)) return 0;
         if (ends.later > t->numbers[a] || ends.high < t->numbers[a]) return 0;
         highs[a] = ends.high;
     }

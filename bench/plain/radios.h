@@ -41,11 +41,13 @@ static struct c_value c_first(const struct lent *t, uint32_t a, uint32_t b) {
 
 static struct c_later c_later_of(const struct lent *t, uint32_t v) {
     uint16_t places[RADIOS];
+    uint64_t highest[ROW / 8];
     struct c_ends ends = {0, 0, 0, NOWHERE};
     unsigned number = c_radios(t, v, v);
     if (number) return (struct c_later){number, 0, 0};
     c_place(t->n, t->order, places);
-    c_count_ends(t, places, v, &ends);
+    c_highest_words(t->n, highest);
+    c_count_ends(t, places, highest, v, &ends);
     return (struct c_later){0, ends.later, ends.first == NOWHERE ? NOWHERE : t->order[ends.first]};
 }
 

@@ -22,8 +22,9 @@ use Rattle.mesh.proofs.GraphLaws.{linked-self, degree-in}
 use Rattle.mesh.proofs.Cores.Orders.{each-once-of, Enough}
 use Rattle.mesh.proofs.Tables.OtherEnds.{ends-neighbours-in}
 use Rattle.mesh.proofs.Cores.RunningCertificate.{is-k-order-running, running-number}
-use Rattle.soundness.specs.Checks.{Placed, Places-found}
-use Rattle.soundness.proofs.CheckLaws.{count-later}
+use Rattle.row_conditions.specs.Conditions.{Placed}
+use Rattle.soundness.specs.Checks.{Places-found}
+use Rattle.row_conditions.proofs.RowByRow.{count-later}
 use Rattle.image_site.specs.Site.{tallied, Tallied, few-ends, running-maxima-of, Order-placed, K-order-decided, Sound-decided}
 use Rattle.image_site.proofs.MaximaLaws.{running-maxima-of-counts}
 

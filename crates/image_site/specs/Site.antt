@@ -36,7 +36,7 @@ use Rattle.mesh.specs.Graph.{Link, Graph, graph, link-of, link-before, other-en
 use Rattle.mesh.specs.Cores.{number}
 use Rattle.mesh.specs.Orders.{each-once, is-k-order}
 use Rattle.mesh.specs.Image.{block-bytes, block-entries, block-links, order-blocks, block-count, word-at, entry-at, image-link, image-order}
-use Rattle.soundness.specs.Checks.{Placed}
+use Rattle.row_conditions.specs.Conditions.{Placed}
 
 -- `image-links` of mesh is this with the image's own count
 unfoldable pub links-up-to : (n : ℕ) → (image : List ℕ) → (m : ℕ) → List Link

@@ -24,7 +24,7 @@ use Rattle.mesh.proofs.Tables.Laws.{length-put-bit, marked-replicate}
 use Rattle.rows.specs.Rows.{neighbours-of, row-listed, row-count}
 use Rattle.rows.proofs.RowListLaws.{row-listed-fits, in-neighbours-of}
 use Rattle.rows.proofs.RowWords.{row-listed-whole}
-use Rattle.soundness.specs.Checks.{high-count}
+use Rattle.row_conditions.specs.Conditions.{high-count}
 use Rattle.link_parts.specs.Changes.{all-marked}
 use Rattle.link_parts.proofs.Marking.{length-all-marked, marked-all-marked}
 use Rattle.links.proofs.TurnLaws.{marked-put}

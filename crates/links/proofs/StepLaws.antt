@@ -35,7 +35,8 @@ use Rattle.calls.proofs.RecordLaws.{tables-ext}
 use Rattle.calls.proofs.SoundSwitches.{Good, good-valid, switched-good}
 use Rattle.rows.specs.Rows.{neighbours-of}
 use Rattle.rows.proofs.RowListLaws.{in-neighbours-of, member-neighbours-of, length-neighbours-of}
-use Rattle.soundness.specs.Checks.{Placed, Highs, high-count, fits-sound}
+use Rattle.row_conditions.specs.Conditions.{Placed, Highs, high-count}
+use Rattle.soundness.specs.Checks.{fits-sound}
 use Rattle.soundness.proofs.HighCounts.{high-count-neighbours-in}
 use Rattle.soundness.proofs.SoundSite.{Sound-site, fits-sound-site, site-good-fits, site-good-sound, number-entry}
 use Rattle.link_parts.specs.Changes.{Apply-contract}

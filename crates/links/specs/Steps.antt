@@ -23,7 +23,8 @@ use Rattle.mesh.specs.Tables.{Tables, put-bit, graph-in}
 use Rattle.calls.specs.Questions.{ends-refusal}
 use Rattle.calls.specs.Switches.{switch, switched}
 use Rattle.rows.specs.Rows.{neighbours-of}
-use Rattle.soundness.specs.Checks.{Placed, Highs, high-count, fits-sound}
+use Rattle.row_conditions.specs.Conditions.{Placed, Highs, high-count}
+use Rattle.soundness.specs.Checks.{fits-sound}
 use Rattle.link_parts.specs.Changes.{all-marked}
 
 -- ---- one link

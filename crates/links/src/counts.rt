@@ -7,7 +7,7 @@ ghost use lib.ListN.{length, getD, take};
 ghost use Rattle.lists.specs.Lists.{count, In};
 ghost use Rattle.mesh.specs.Limits.{max-neighbours, max-radios, row-bytes};
 ghost use Rattle.rows.specs.Rows.{neighbours-of, row-listed};
-ghost use Rattle.soundness.specs.Checks.{high-count};
+ghost use Rattle.row_conditions.specs.Conditions.{high-count};
 ghost use Rattle.link_parts.specs.Changes.{all-marked};
 ghost use Rattle.links.specs.Steps.{around, all-around, touched, recounted, Rows-known};
 use link_parts::apply;

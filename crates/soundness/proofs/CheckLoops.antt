@@ -3,7 +3,7 @@
 use mathlib.Core.Path.{_≡_, refl, sym, ap, _∙_}
 use mathlib.Core.Logic.{_⊎_, inl, inr}
 use mathlib.Core.Bool.{Bool, true, false, _&&_}
-use mathlib.Core.List.{List, [], _∷_, _++_}
+use mathlib.Core.List.{List, _++_}
 use Prim.Native.Nat.{ℕ, zero, suc, _+_, _≤_, _<_, min}
 use native.Mathlib.Omega.{arith}
 use native.Mathlib.Numerals.{add-one}
@@ -17,21 +17,13 @@ use Rattle.lists.proofs.Tests.{bool-cases, never, trichotomy}
 use Rattle.lists.specs.Lists.{Each-once}
 use Rattle.lists.proofs.Range.{once-of, once-below, once-distinct}
 use Rattle.mesh.proofs.Cores.Orders.{each-once-of, of-each-once}
-use Rattle.soundness.specs.Checks.{Placing, Places-found, nowhere, rising-from}
+use Rattle.row_conditions.specs.Conditions.{rising-from}
+use Rattle.row_conditions.proofs.RowByRow.{rising-from-zero}
+use Rattle.soundness.specs.Checks.{Placing, Places-found, nowhere}
 use Rattle.lists.proofs.Member.{in-getD, getD-of-in}
 use Rattle.lists.proofs.Distinct.{distinct-at, distinct-twice}
 
 -- ---- numbers along the order
-
-rising-cons : (num : ℕ → ℕ) (x : ℕ) (xs : List ℕ) → rising-from num (num x) xs ≡ rising num (x ∷ xs)
-unfolding rising-from rising
-rising-cons num x [] = refl
-rising-cons num x (y ∷ ys) = ap (λ (b : Bool). leb (num x) (num y) && b) (rising-cons num y ys)
-
-rising-from-zero : (num : ℕ → ℕ) (xs : List ℕ) → rising-from num 0 xs ≡ rising num xs
-unfolding rising-from rising
-rising-from-zero num [] = refl
-rising-from-zero num (x ∷ xs) = rw (le-leb 0 (num x) (omega arith)) (rising-cons num x xs)
 
 rising-from-drop : (num : ℕ → ℕ) (xs : List ℕ) (m i : ℕ) → i < length xs
     → rising-from num m (drop i xs) ≡ (leb m (num (getD xs i 0)) && rising-from num (num (getD xs i 0)) (drop (suc i) xs))

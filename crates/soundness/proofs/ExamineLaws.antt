@@ -23,9 +23,10 @@ use Rattle.calls.proofs.ContractLaws.{by-accepted, by-refused}
 use Rattle.calls.proofs.ChainLaws.{lent-zero}
 use Rattle.calls.proofs.QuestionLaws.{true-size-good, true-site-lengths, true-answer-length, size-good-true, Site-lengths, site-lengths-true}
 use Rattle.calls.proofs.QuestionLaws.{answer-length-true}
-use Rattle.soundness.specs.Checks.{Placed, Placing, row-good, Rows-room, Rows-checked, examinable, Examined, fits-sound}
+use Rattle.row_conditions.specs.Conditions.{Placed, row-good}
+use Rattle.soundness.specs.Checks.{Placing, Rows-room, Rows-checked, examinable, Examined, fits-sound}
 use Rattle.lists.proofs.Member.{in-getD}
-use Rattle.soundness.proofs.CheckLaws.{sound-rows}
+use Rattle.row_conditions.proofs.RowByRow.{sound-rows}
 
 -- ---- what can be examined
 

@@ -18,7 +18,8 @@ use Rattle.lists.proofs.Tests.{and-left, and-right}
 use Rattle.lists.proofs.Filter.{count-filter}
 use Rattle.calls.specs.Questions.{lengths-of}
 use Rattle.rows.specs.Rows.{neighbours-of}
-use Rattle.soundness.specs.Checks.{high-count, examinable, Examined}
+use Rattle.row_conditions.specs.Conditions.{high-count}
+use Rattle.soundness.specs.Checks.{examinable, Examined}
 use Rattle.rows.proofs.RowListLaws.{neighbours-of-linked}
 use Rattle.soundness.proofs.ExamineLaws.{Sizes, examinable-true}
 
@@ -29,7 +30,7 @@ module _ (n : ℕ) (t : Tables) (yes : sound n t ≡ true) where
   abbrev num : ℕ → ℕ
   num = number-in (t .numbers)
 
-  proper-rows : rows-proper max-neighbours n ts ≡ true
+  pub proper-rows : rows-proper max-neighbours n ts ≡ true
   unfolding sound sound-within
   proper-rows =
       and-left (rows-proper max-neighbours n ts)

@@ -1,6 +1,4 @@
 -- Laws of the soundness check, for its functions and their callers.
--- soundness row by row
-pub mod CheckLaws
 -- the loops: the order, one row, all rows
 pub mod CheckLoops
 pub mod Tallies

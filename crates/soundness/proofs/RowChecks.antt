@@ -19,8 +19,9 @@ use Rattle.lists.proofs.Range.{in-range}
 use Rattle.rows.specs.Rows.{neighbours-of}
 use Rattle.rows.proofs.MaskLaws.{marked-past}
 use Rattle.rows.proofs.RowListLaws.{in-neighbours-of}
-use Rattle.soundness.specs.Checks.{first-key, later-count, high-count, ends-mark, ends-good, row-good, Tally, tally, Tallied}
-use Rattle.soundness.specs.Checks.{Ends-counted, Rows-room, Row-checked}
+use Rattle.row_conditions.specs.Conditions.{first-key, later-count, high-count, ends-good, row-good}
+use Rattle.soundness.specs.Checks.{ends-mark, Tally, tally, Tallied}
+use Rattle.soundness.specs.Checks.{Highest-words, Ends-room, Ends-counted, Rows-room, Row-checked}
 use Rattle.soundness.proofs.Tallies.{first-key-most}
 
 -- only a radio of the site has a row that marks
@@ -98,6 +99,18 @@ module _ (n : ℕ) (links numbers places : List ℕ) (a : ℕ) where
     }
 
 -- ---- one row
+
+pub row-room : (n links numbers places a : ℕ) (words : List ℕ) → Rows-room n links numbers places → Highest-words n words → a < n
+    → Ends-room a links numbers places × Highest-words numbers words
+row-room n links numbers places a words r h l = (
+  record {
+    linked = omega (arith, r .linked, r .numbered);
+    placed = omega (arith, r .placed, r .numbered);
+    radio = omega (arith, r .numbered);
+    small = omega (arith, r .small, r .numbered);
+  },
+  rw (r .numbered) h,
+)
 
 module _ (n : ℕ) (links numbers places : List ℕ) (a : ℕ) (room : Rows-room n (length links) (length numbers) (length places)) where
   abbrev xs : List ℕ

@@ -4,7 +4,7 @@ use mathlib.Core.Path.{_≡_, refl, sym, ap, _∙_}
 use mathlib.Core.Logic.{_⊎_, inl, inr}
 use mathlib.Core.Bool.{Bool, true, false, _&&_, cond}
 use mathlib.Core.List.{List, [], _∷_, _++_}
-use Prim.Native.Nat.{ℕ, _+_, _*_, _-_, _^_, _≤_, _<_, min}
+use Prim.Native.Nat.{ℕ, zero, suc, _+_, _*_, _-_, _^_, _≤_, _<_, min}
 use native.Mathlib.Omega.{arith}
 use mir.Syntax.{w8}
 use mir.Val.{boolByte, Fits}
@@ -22,7 +22,10 @@ use Rattle.lists.proofs.All.{all-append}
 use Rattle.rows.specs.Rows.{neighbours-of, row-from, set-bits, row-word}
 use Rattle.rows.proofs.WordLaws.{set-bits-nothing, set-bits-lowest, length-set-bits-le}
 use Rattle.rows.proofs.RowWords.{row-from-zero, row-from-word, row-from-end}
-use Rattle.soundness.specs.Checks.{sooner-key, first-key, later-count, high-count, ends-mark, Tally, tally, Tallied, Walked, Walk-room}
+use Rattle.rows.proofs.MaskLaws.{marked-past}
+use Rattle.row_conditions.specs.Conditions.{sooner-key, first-key, later-count, high-count, highest-word}
+use Rattle.row_conditions.proofs.HighestWord.{highest-word-below, highest-word-above}
+use Rattle.soundness.specs.Checks.{ends-mark, Highest-words, Tally, tally, Tallied, Walked, Walk-room}
 
 pub count-fits : (x : ℕ) (t : Bool) → x < 255 → Fits w8 (x + boolByte t)
 count-fits x t l = omega (arith, byte-bit t, bit-one t)
@@ -126,10 +129,29 @@ module _ (numbers places : List ℕ) (a : ℕ) where
       few-key = w .few-key;
     }
 
+-- ---- the highest words
+
+pub highest-words-all : (n a b c d e f g h : ℕ) → a ≡ highest-word n 0 → b ≡ highest-word n 64 → c ≡ highest-word n 128 → d ≡ highest-word n 192
+    → e ≡ highest-word n 256 → f ≡ highest-word n 320 → g ≡ highest-word n 384 → h ≡ highest-word n 448
+    → Highest-words n (a ∷ b ∷ c ∷ d ∷ e ∷ f ∷ g ∷ h ∷ [])
+highest-words-all n a b c d e f g h ia ib ic id ie if ig ih = record { at = at }
+  where
+    at : (k : ℕ) → k < 8 → getD (a ∷ b ∷ c ∷ d ∷ e ∷ f ∷ g ∷ h ∷ []) k 0 ≡ highest-word n (64 * k)
+    at zero l = ia
+    at (suc zero) l = ib
+    at (suc (suc zero)) l = ic
+    at (suc (suc (suc zero))) l = id
+    at (suc (suc (suc (suc zero)))) l = ie
+    at (suc (suc (suc (suc (suc zero))))) l = if
+    at (suc (suc (suc (suc (suc (suc zero)))))) l = ig
+    at (suc (suc (suc (suc (suc (suc (suc zero))))))) l = ih
+    at (suc (suc (suc (suc (suc (suc (suc (suc k)))))))) l = absurd (omega arith)
+
 -- ---- a word walked: each turn takes its lowest set bit off
 
 -- the ends of the bits that are left decide, and come with t to what the whole word comes to
 pub record Walking (links numbers places : List ℕ) (a first word : ℕ) (s : Tally) (rest : ℕ) (t : Tally) : Type 0 where
+  pub low : rest ≤ word
   pub small : rest < 2 ^ 64
   pub same : ends-mark links a (set-bits 64 first rest) ≡ ends-mark links a (set-bits 64 first word)
   pub so-far : Tallied numbers places a s (set-bits 64 first word) (set-bits 64 first rest) t
@@ -137,6 +159,7 @@ pub record Walking (links numbers places : List ℕ) (a first word : ℕ) (s : T
 module _ (links numbers places : List ℕ) (a first word : ℕ) (s : Tally) where
   pub walking-none : word < 2 ^ 64 → Walk-room first s → Walking links numbers places a first word s word s
   walking-none h r = record {
+    low = omega arith;
     small = h;
     same = refl;
     so-far = tallied-none numbers places a s (set-bits 64 first word) (r .few-later) (r .few-high) (r .few-key);
@@ -156,6 +179,10 @@ module _ (links numbers places : List ℕ) (a first word : ℕ) (s : Tally) wher
     unfolding ends-mark all
     mark-next = sym (ap (ends-mark links a) lowest) ∙ h .same
 
+    -- a bit of a word that is not above the highest is a radio
+    pub walking-radio : (n highest : ℕ) → highest ≡ highest-word n first → word ≤ highest → b < n
+    walking-radio n highest e l = highest-word-below n first rest (omega (arith, h .low)) b (rw lowest (inl refl))
+
     pub walking-few : s .count ≤ max-neighbours → t .count < 104
     walking-few few = omega (arith, h .so-far .count-is, ap length lowest, length-set-bits-le 64 first word)
 
@@ -168,6 +195,7 @@ module _ (links numbers places : List ℕ) (a first word : ℕ) (s : Tally) wher
     pub walking-turn : (new : ℕ) → marked links b a ≡ true → new ≡ sooner-key (getD places a 0) (getD places b 0) b (t .key)
         → Walking links numbers places a first word s others (more numbers places a b t new)
     walking-turn new m e = record {
+      low = omega (arith, and-le-l rest (rest - 1), h .low);
       small = omega (arith, and-le-l rest (rest - 1), h .small);
       same = sym (ap (λ (x : Bool). x && ends-mark links a (set-bits 64 first others)) m) ∙ mark-next;
       so-far = tallied-one numbers places a s (set-bits 64 first word) b (set-bits 64 first others) t new e (rw lowest at (h .so-far));
@@ -179,6 +207,18 @@ module _ (links numbers places : List ℕ) (a first word : ℕ) (s : Tally) wher
   walking-end rest t e h =
       let none : set-bits 64 first rest ≡ [] = ap (set-bits 64 first) e ∙ set-bits-nothing 64 first in
       record { answer = sym (ap (ends-mark links a) none) ∙ h .same; tallied = λ _. rw none at (h .so-far) }
+
+  pub walking-zero : word ≡ 0 → Walk-room first s → Walked links numbers places a s (set-bits 64 first word) true s
+  walking-zero e r = walking-end word s e (walking-none (omega arith) r)
+
+  -- a word above the highest marks a radio that has no row
+  pub walking-above : (n : ℕ) → length links ≡ row-bytes * n → word < 2 ^ 64 → highest-word n first < word
+      → (u : Tally) → Walked links numbers places a s (set-bits 64 first word) false u
+  unfolding ends-mark
+  walking-above n e l h u = record {
+    answer = sym (highest-word-above (λ b. marked links b a) n first word h l (λ b k. marked-past links b a (omega arith)));
+    tallied = λ f. never false f refl;
+  }
 
 -- ---- a row walked, word by word
 

@@ -1,76 +1,36 @@
 -- The soundness check, row by row.
---   Placed n order places    the table of places says where each radio stands in the order
---   sooner-key               the first of a radio and a key
---   later-count              how many of some radios stand later in the order than a: document 01's "neighbours later in the order"
---   first-key                the place and the radio, as one number, of the first of some radios that stands later in the order than a
---   high-count               how many of some radios have a number that is not below that of a
 --   ends-mark                each of some radios marks a too
---   ends-good                each of some radios is below n, is not a, and marks a too
+--   Highest-words            the highest word of each word of a row
 --   Tally                    what is counted of some ends of a row
---   rising-from              numbers never fall along a list, and do not begin below the given one
---   row-good                 the conditions of document 01 on radio a: its row, its later neighbours, its neighbours that are not below it
 --   Sound-radio, Ends-room, Walk-room, Rows-room   what private functions of src/lib.rt want of the tables that they read
---   Placing, Places-found, Tallied, Walked, Ends-counted, Later-counted, Row-checked, Highs, Rows-checked, Examined
+--   Placing, Places-found, Tallied, Walked, Ends-counted, Later-counted, Row-checked, Rows-checked, Examined
 --                            what the functions of src/lib.rt come back with
 --   nowhere                  a place that no entry of an order has
 --   examinable               questions 1 and 2 get yes, and the lent tables of places and high counts are long enough
 --   fits-sound               questions 1 to 3 get yes
--- That tables are sound when the order holds each radio once, numbers rise along it and every row is good is `sound-rows` in
--- proofs/CheckLaws.antt. Definitions only.
+-- The conditions on a row that they speak of are in crate row_conditions. Definitions only.
 use mathlib.Core.Path.{_≡_}
-use mathlib.Core.Bool.{Bool, true, _&&_, not, cond}
-use mathlib.Core.List.{List, [], _∷_}
+use mathlib.Core.Bool.{Bool, true, _&&_}
+use mathlib.Core.List.{List, []}
 use Prim.Native.Nat.{ℕ, _+_, _*_, _%_, _≤_, _<_, min}
-use lib.Dec.{ltb, leb, eqb}
+use lib.Dec.{leb}
 use lib.ListN.{length, getD}
 use Rattle.mesh.specs.Limits.{max-radios, max-neighbours, row-bytes}
-use Rattle.lists.specs.Lists.{range, count, all, head-or}
+use Rattle.lists.specs.Lists.{range, all, head-or}
 use Rattle.mesh.specs.Orders.{each-once, later-in, nobody}
 use Rattle.mesh.specs.Tables.{Tables, marked, graph-in}
 use Rattle.mesh.specs.Graph.{linked}
-use Rattle.mesh.specs.Sound.{number-in, sound}
+use Rattle.mesh.specs.Sound.{sound}
 use Rattle.calls.specs.Questions.{Lengths, lengths-of, size-good, site-lengths, answer-length}
 use Rattle.rows.specs.Rows.{neighbours-of}
-
--- entry i of the order stands at place i
-pub record Placed (n : ℕ) (order places : List ℕ) : Type 0 where
-  pub at : (i : ℕ) → i < n → getD places (getD order i 0) 0 ≡ i
-
--- the key of the radio b at place p where that is later than `place` and before the key's, else the key
-unfoldable pub sooner-key : (place p b key : ℕ) → ℕ
-sooner-key place p b key = cond (ltb place p) (min (p * 65536 + b) key) key
-
-unfoldable pub later-count : (places : List ℕ) → (a : ℕ) → (radios : List ℕ) → ℕ
-later-count ps a xs = count (λ b. ltb (getD ps a 0) (getD ps b 0)) xs
-
--- a key is a place and a radio of 16 bits each; without a later radio all its bits are set, so that its radio is nobody
-unfoldable pub first-key : (places : List ℕ) → (a : ℕ) → (radios : List ℕ) → ℕ
-first-key ps a [] = 4294967295
-first-key ps a (b ∷ bs) = let rest = first-key ps a bs in sooner-key (getD ps a 0) (getD ps b 0) b rest
-
-unfoldable pub high-count : (numbers : List ℕ) → (a : ℕ) → (radios : List ℕ) → ℕ
-high-count ns a xs = count (λ b. leb (number-in ns a) (number-in ns b)) xs
+use Rattle.row_conditions.specs.Conditions.{Placed, Highs, later-count, first-key, high-count, ends-good, row-good, highest-word}
 
 unfoldable pub ends-mark : (links : List ℕ) → (a : ℕ) → (radios : List ℕ) → Bool
 ends-mark ts a xs = all (λ b. marked ts b a) xs
 
-unfoldable pub ends-good : (n : ℕ) → (links : List ℕ) → (a : ℕ) → (radios : List ℕ) → Bool
-ends-good n ts a xs = all (λ b. ltb b n && (not (eqb b a) && marked ts b a)) xs
-
-unfoldable pub row-good : (most n : ℕ) → (links numbers places : List ℕ) → (a : ℕ) → Bool
-row-good most n ts ns ps a =
-    let xs = neighbours-of ts a in
-    leb (length xs) most
-    && (ends-good n ts a xs && (leb (later-count ps a xs) (number-in ns a) && leb (number-in ns a) (high-count ns a xs)))
-
 -- questions 1 to 3 get yes of links, numbers and order
 unfoldable pub fits-sound : (n : ℕ) → Tables → Bool
 fits-sound n t = size-good n && (site-lengths n (lengths-of t) && sound n t)
-
--- `true` of an empty list whatever m
-unfoldable pub rising-from : (num : ℕ → ℕ) → (m : ℕ) → List ℕ → Bool
-rising-from num m [] = true
-rising-from num m (x ∷ xs) = leb m (num x) && rising-from num (num x) xs
 
 -- ---- what the functions of the check come back with
 
@@ -88,6 +48,10 @@ pub record Placing (order before after : List ℕ) (r : Bool) : Type 0 where
 pub record Places-found (order before after : List ℕ) (r : Bool) : Type 0 where
   pub answer : r ≡ (leb (length order) (min max-radios (length before)) && each-once (length order) order)
   pub placed : r ≡ true → Placed (length order) order after
+
+-- the highest words of a site of n radios, one for each word of a row
+pub record Highest-words (n : ℕ) (words : List ℕ) : Type 0 where
+  pub at : (k : ℕ) → k < 8 → getD words k 0 ≡ highest-word n (64 * k)
 
 -- what is counted of some ends of a row: how many, how many later, how many not below, and the key of the first later one
 pub record Tally : Type 0 where
@@ -157,10 +121,6 @@ pub record Rows-room (n links numbers places : ℕ) : Type 0 where
 pub record Row-checked (n : ℕ) (links numbers places : List ℕ) (a : ℕ) (good : Bool) (high : ℕ) : Type 0 where
   pub answer : good ≡ row-good max-neighbours n links numbers places a
   pub high-is : good ≡ true → high ≡ high-count numbers a (neighbours-of links a)
-
--- the table `highs` holds the high count of each radio
-pub record Highs (n : ℕ) (links numbers highs : List ℕ) : Type 0 where
-  pub at : (v : ℕ) → v < n → getD highs v 0 ≡ high-count numbers v (neighbours-of links v)
 
 -- whether all rows are good, and then the high counts
 pub record Rows-checked (n : ℕ) (links numbers places before after : List ℕ) (r : Bool) : Type 0 where

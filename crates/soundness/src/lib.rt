@@ -1,18 +1,20 @@
 // The soundness check: document 01's local conditions, decided for any content of tables of the right lengths. An entry is
 // tested before it is used as an index.
 ghost use mathlib.Core.Path.{_≡_};
-ghost use Prim.Native.Nat.{_≤_, _<_};
+ghost use mathlib.Core.Bool.{true};
+ghost use Prim.Native.Nat.{_+_, _*_, _/_, _≤_, _<_};
 ghost use lib.ListN.{length};
-ghost use Rattle.mesh.specs.Limits.{max-radios};
+ghost use Rattle.mesh.specs.Limits.{max-radios, row-bytes};
 ghost use Rattle.mesh.specs.Orders.{rising};
 ghost use Rattle.mesh.specs.Sound.{number-in, sound};
-ghost use Rattle.mesh.specs.Tables.{lent};
+ghost use Rattle.mesh.specs.Tables.{lent, marked};
 ghost use Rattle.calls.specs.Questions.{lengths-of, site-refusal};
 ghost use Rattle.calls.specs.Contracts.Sites.{Check-contract};
 ghost use Rattle.tables.specs.Sizes.{lengths};
 ghost use Rattle.lists.specs.Lists.{Entries-below};
 ghost use Rattle.rows.specs.Rows.{set-bits};
-ghost use Rattle.soundness.specs.Checks.{Placing, Places-found, sooner-key, tally, Walk-room, Walked, Ends-room, Ends-counted};
+ghost use Rattle.row_conditions.specs.Conditions.{sooner-key, highest-word};
+ghost use Rattle.soundness.specs.Checks.{Placing, Places-found, Highest-words, tally, Walk-room, Walked, Ends-room, Ends-counted};
 ghost use Rattle.soundness.specs.Checks.{Rows-room, Row-checked, Rows-checked};
 ghost use Rattle.soundness.specs.Checks.{examinable, Examined, fits-sound};
 use calls::Refusal;
@@ -31,6 +33,9 @@ const NO_KEY: u32 = 4294967295;
 const WORD_BITS: u32 = 64;
 
 const ROW_WORDS: u32 = Site::RADIOS / WORD_BITS;
+
+// A word with all bits set.
+const ALL_BITS: u64 = 18446744073709551615;
 
 // Writes the place of each radio into `places`. Comes back with whether the order holds each radio below its length once;
 // where it does not, `places` holds anything.
@@ -103,6 +108,44 @@ fn sooner(place: u16, p: u16, b: u16, key: u32) -> u32
     own
 }
 
+// The highest word whose bits, counted from radio `first`, all are radios of a site of n. A word above it marks a radio at n or above.
+fn highest_word(n: u32, first: u32) -> u64
+    ensures { λ r. ⌜ r ≡ highest-word n first ⌝ }
+{
+    if n <= first {
+        return 0;
+    }
+    let many = n - first;
+    if WORD_BITS <= many {
+        return ALL_BITS;
+    }
+    (1 << many) - 1
+}
+
+// The highest words of a site of n, one for each word of a row: worked out once, so that no neighbour by itself is held against n.
+pub(crate) fn highest_words(n: u32) -> [u64; ROW_WORDS as usize]
+    ensures { λ r. ⌜ Highest-words n r ⌝ }
+{
+    [
+        highest_word(n, 0),
+        highest_word(n, 64),
+        highest_word(n, 128),
+        highest_word(n, 192),
+        highest_word(n, 256),
+        highest_word(n, 320),
+        highest_word(n, 384),
+        highest_word(n, 448),
+    ]
+}
+
+// Whether the row of radio b, which is in the table, marks a.
+fn marks(links: &[u8], b: u32, a: u32) -> bool
+    requires { ⌜ row-bytes * b + a / 8 < length (now links) ⌝ }
+    ensures { λ r. ⌜ r ≡ marked (now (links .entry)) b a ⌝ }
+{
+    links[Site::ROW_BYTES * b as usize + (a / 8) as usize] >> (a % 8) & 1 == 1
+}
+
 // What is counted of the ends of a row while each of them marks the row's radio too: how many, how many stand later in the order,
 // how many have a number that is not below, and the key of the first later one.
 struct Walk {
@@ -114,17 +157,20 @@ struct Walk {
 }
 
 // Counts the ends that a word marks, from radio `first` on, to what is counted of row a before; good where each of them marks a too.
+// A word above the highest marks a radio that has no row, and so does not mark a; of 0, which most words are, that is not asked.
 fn walk_word(
     links: &[u8],
     numbers: &[u8],
     places: &[u16],
     a: u32,
     first: u32,
+    highest: u64,
     word: u64,
     walk: Walk,
 ) -> Walk
     requires { ⌜ Ends-room a (length (now links)) (length (now numbers)) (length (now places))
-        × Walk-room first (tally (walk .count) (walk .later) (walk .high) (walk .key)) ⌝ }
+        × Walk-room first (tally (walk .count) (walk .later) (walk .high) (walk .key))
+        × (highest ≡ highest-word (length (now numbers)) first) × (walk .good ≡ true) ⌝ }
     ensures { λ r. ⌜ Walked (now (links .entry)) (now (numbers .entry)) (now (places .entry)) a
         (tally (walk .count) (walk .later) (walk .high) (walk .key)) (set-bits 64 first word)
         (r .good) (tally (r .count) (r .later) (r .high) (r .key)) ⌝ }
@@ -138,6 +184,12 @@ fn walk_word(
     };
     let place = places[a as usize];
     let number = numbers[a as usize];
+    if word == 0 {
+        return walk;
+    }
+    if highest < word {
+        return bad;
+    }
     let mut count = walk.count;
     let mut later = walk.later;
     let mut high = walk.high;
@@ -145,8 +197,7 @@ fn walk_word(
     let mut rest = word;
     while rest != 0 {
         let b = first + u64::trailing_zeros(rest);
-        // a radio at n or above has no row, and so marks nothing
-        if !rows::is_marked(links, b, a) {
+        if !marks(links, b, a) {
             return bad;
         }
         let p = places[b as usize];
@@ -175,8 +226,15 @@ pub(crate) struct Ends {
 // Whether row a marks at most 40 radios, and these are of the site, are not a, and mark a too; how many of them stand later in the
 // order than a, and the first of these, 65,535 when there are none; and how many have a number that is not below that of a.
 // It is small enough that the compiler gives each caller its own: the check then does not pay for the first.
-pub(crate) fn count_ends(links: &[u8], numbers: &[u8], places: &[u16], a: u32) -> Ends
-    requires { ⌜ Ends-room a (length (now links)) (length (now numbers)) (length (now places)) ⌝ }
+pub(crate) fn count_ends(
+    links: &[u8],
+    numbers: &[u8],
+    places: &[u16],
+    highest: &[u64; ROW_WORDS as usize],
+    a: u32,
+) -> Ends
+    requires { ⌜ Ends-room a (length (now links)) (length (now numbers)) (length (now places))
+        × Highest-words (length (now numbers)) (now highest) ⌝ }
     ensures { λ r. ⌜ Ends-counted (length (now (numbers .entry))) (now (links .entry)) (now (numbers .entry)) (now (places .entry)) a
         (r .good) (r .later) (r .high) (r .first) ⌝ }
 {
@@ -201,15 +259,9 @@ pub(crate) fn count_ends(links: &[u8], numbers: &[u8], places: &[u16], a: u32) -
     };
     let mut k: u32 = 0;
     while k < ROW_WORDS {
-        walk = walk_word(
-            links,
-            numbers,
-            places,
-            a,
-            WORD_BITS * k,
-            rows::word_of(row, k),
-            walk,
-        );
+        let word = rows::word_of(row, k);
+        let limit = highest[k as usize];
+        walk = walk_word(links, numbers, places, a, WORD_BITS * k, limit, word, walk);
         if !walk.good {
             return bad;
         }
@@ -232,15 +284,22 @@ struct Row {
 }
 
 // Whether document 01's conditions on radio a hold, and then how many of its neighbours have a number that is not below its own.
-fn row_checked(n: u32, links: &[u8], numbers: &[u8], places: &[u16], a: u32) -> Row
-    requires { ⌜ Rows-room n (length (now links)) (length (now numbers)) (length (now places)) × (a < n) ⌝ }
+fn row_checked(
+    n: u32,
+    links: &[u8],
+    numbers: &[u8],
+    places: &[u16],
+    highest: &[u64; ROW_WORDS as usize],
+    a: u32,
+) -> Row
+    requires { ⌜ Rows-room n (length (now links)) (length (now numbers)) (length (now places)) × Highest-words n (now highest) × (a < n) ⌝ }
     ensures { λ r. ⌜ Row-checked n (now (links .entry)) (now (numbers .entry)) (now (places .entry)) a (r .good) (r .high) ⌝ }
 {
     let bad = Row {
         good: false,
         high: 0,
     };
-    let ends = count_ends(links, numbers, places, a);
+    let ends = count_ends(links, numbers, places, highest, a);
     if !ends.good {
         return bad;
     }
@@ -264,9 +323,10 @@ fn rows_checked(n: u32, links: &[u8], numbers: &[u8], places: &[u16], highs: &mu
     ensures { λ r. ⌜ Rows-checked n (now (links .entry)) (now (numbers .entry)) (now (places .entry)) (now (highs .entry))
         (now (highs .exit)) r ⌝ }
 {
+    let highest = highest_words(n);
     let mut a: u32 = 0;
     while a < n {
-        let row = row_checked(n, links, numbers, places, a);
+        let row = row_checked(n, links, numbers, places, &highest, a);
         if !row.good {
             return false;
         }

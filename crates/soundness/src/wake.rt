@@ -40,7 +40,8 @@ fn later_ends(links: &[u8], numbers: &[u8], order: &[u16], v: u32) -> Ends
 {
     let mut places = [0u16; Site::RADIOS as usize];
     crate::place(order, &mut places);
-    crate::count_ends(links, numbers, &places, v)
+    let highest = crate::highest_words(numbers.len() as u32);
+    crate::count_ends(links, numbers, &places, &highest, v)
 }
 
 // How many neighbours of v stand after it in the order, and the first of them, 65,535 when there are none. Or the refusal number of

@@ -1,9 +1,14 @@
 -- `soundness::row_checked` meets its contract: each test is one condition of `row-good`.
 use borrow.Author.Tests.{not-true, not-false}
 use borrow.Author.Needs.{needs}
-use Rattle.soundness.proofs.RowChecks.{row-ends-bad, row-later-bad, row-high-bad, row-right}
+use Rattle.soundness.proofs.RowChecks.{row-room, row-ends-bad, row-later-bad, row-high-bad, row-right}
 use Rattle.soundness.proofs.row_checked.Statement.{statement}
 use Rattle.soundness.proofs.row_checked.Tie as tie
+
+count-ends-requires : tie.Need-count-ends-requires
+count-ends-requires c κs =
+    let start = c .before .before .before in
+    row-room _ _ _ _ _ _ (start .pre .0) (start .pre .1) (start .pre .2)
 
 returns : tie.Need-returns
 returns c =
@@ -35,4 +40,4 @@ returns-4 c =
     row-right _ _ _ _ _ (start .pre .0) _ _ _ _ (counted .count-ends .ensures) (not-false _ (asked .if1 .left)) (later .if2 .left) (c .if3 .left)
 
 pub row-checked-spec : {M : Type 1} → statement M
-row-checked-spec = tie.close (tie.spec (λ c κs. search needs) returns (λ c. search needs) returns-2 returns-3 returns-4)
+row-checked-spec = tie.close (tie.spec count-ends-requires returns (λ c. search needs) returns-2 returns-3 returns-4)

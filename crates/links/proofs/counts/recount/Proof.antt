@@ -7,7 +7,7 @@ use lib.ListN.{getD, take, set, length-set}
 use borrow.Author.Needs.{needs}
 use Rattle.lists.proofs.Loops.{Folding, folding-none, folding-front, folding-front-end, folding-long}
 use Rattle.rows.specs.Rows.{neighbours-of}
-use Rattle.soundness.specs.Checks.{high-count}
+use Rattle.row_conditions.specs.Conditions.{high-count}
 use Rattle.links.specs.Steps.{recounted}
 use Rattle.links.proofs.counts.recount.Statement.{statement}
 use Rattle.links.proofs.counts.recount.Tie as tie

@@ -25,8 +25,20 @@ use Rattle.mesh.proofs.Cores.Orders.{of-each-once, Few-later, few-later-of, of-
 use Rattle.mesh.proofs.Tables.Rows.{symmetric-of, of-symmetric, irreflexive-of, of-irreflexive, within-of, of-within, few-of, of-few}
 use Rattle.rows.specs.Rows.{neighbours-of}
 use Rattle.rows.proofs.RowListLaws.{in-neighbours-of, length-neighbours-of, count-neighbours-of}
-use Rattle.soundness.specs.Checks.{Placed, later-count, high-count, ends-good, row-good}
+use Rattle.row_conditions.specs.Conditions.{Placed, rising-from, later-count, high-count, ends-good, row-good}
 use Rattle.lists.proofs.Member.{in-getD, getD-of-in}
+
+-- ---- numbers along the order
+
+rising-cons : (num : ℕ → ℕ) (x : ℕ) (xs : List ℕ) → rising-from num (num x) xs ≡ rising num (x ∷ xs)
+unfolding rising-from rising
+rising-cons num x [] = refl
+rising-cons num x (y ∷ ys) = ap (λ (b : Bool). leb (num x) (num y) && b) (rising-cons num y ys)
+
+pub rising-from-zero : (num : ℕ → ℕ) (xs : List ℕ) → rising-from num 0 xs ≡ rising num xs
+unfolding rising-from rising
+rising-from-zero num [] = refl
+rising-from-zero num (x ∷ xs) = rw (le-leb 0 (num x) (omega arith)) (rising-cons num x xs)
 
 -- ---- later neighbours, entry by entry
 

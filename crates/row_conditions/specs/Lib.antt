@@ -1,0 +1,2 @@
+-- What the contracts of the soundness check cite of a row's conditions.
+pub mod Conditions

@@ -1,0 +1,10 @@
+-- `soundness::marks` meets its contract: the shifted and masked byte is the digit that `marked` names.
+use borrow.Author.Needs.{needs}
+use Rattle.rows.proofs.MaskLaws.{marked-shift}
+use Rattle.soundness.proofs.marks.Statement.{statement}
+use Rattle.soundness.proofs.marks.Tie as tie
+
+pub marks-spec : {M : Type 1} → statement M
+marks-spec =
+    tie.close (
+    tie.spec (λ c. search needs) (λ c. search needs) (λ c. search needs) (λ c. search needs) (λ c. search needs) (λ c. search needs) (λ c. marked-shift _ _ _))
