@@ -1,8 +1,8 @@
--- `scripts::play` is safe: each of its calls keeps the lengths of the tables.
+-- `play` is safe: each of its calls keeps the lengths of the tables.
 use native.Mathlib.Omega.{arith}
 use borrow.Author.Needs.{needs}
-use Rattle.site_program.proofs.scripts.play.Statement.{statement}
-use Rattle.site_program.proofs.scripts.play.Tie as tie
+use Rattle.site_script.proofs.play.Statement.{statement}
+use Rattle.site_script.proofs.play.Tie as tie
 
 same-length : tie.Need-same-length
 same-length c =

@@ -1,8 +1,8 @@
 // What goes wrong, as one line on the error descriptor: where, the refusal number, and what it means in words. Each answers status 1.
 ghost use mathlib.Core.Path.{_≡_};
-ghost use Rattle.site_program.specs.Inputs.{wrong};
-use crate::parts;
-use crate::words;
+ghost use Rattle.site_parts.specs.Inputs.{wrong};
+use crate::lengths;
+use refusal_words::put_refused;
 
 // The status of a run that went wrong.
 pub const WRONG: u32 = 1;
@@ -17,13 +17,13 @@ const LINE_BYTES: usize = 256;
 fn write(errors: i32, out: &[u8], length: usize) -> u32
     ensures { λ r. ⌜ r ≡ wrong ⌝ }
 {
-    let count = parts::within(length, out);
+    let count = lengths::within(length, out);
     io::write_all(errors, &out[..count]);
     WRONG
 }
 
 // A line in words.
-pub(crate) fn say(errors: i32, words: &[u8]) -> u32
+pub fn say(errors: i32, words: &[u8]) -> u32
     ensures { λ r. ⌜ r ≡ wrong ⌝ }
 {
     let mut out = [0u8; LINE_BYTES];
@@ -33,16 +33,8 @@ pub(crate) fn say(errors: i32, words: &[u8]) -> u32
     write(errors, &out, end)
 }
 
-// "refused by", the number, a colon, and the words.
-fn put_refused(out: &mut [u8], at: usize, number: u32) -> usize {
-    let word = text::put_text(out, at, b"refused by");
-    let digits = text::put_field(out, word, number as u64);
-    let colon = text::put_text(out, digits, b": ");
-    words::put_words(out, colon, number)
-}
-
 // A verb's call that is refused.
-pub(crate) fn say_call(errors: i32, number: u32) -> u32
+pub fn say_call(errors: i32, number: u32) -> u32
     ensures { λ r. ⌜ r ≡ wrong ⌝ }
 {
     let mut out = [0u8; LINE_BYTES];
@@ -53,7 +45,7 @@ pub(crate) fn say_call(errors: i32, number: u32) -> u32
 }
 
 // A line of a script that is refused, or of another form.
-pub(crate) fn say_line(errors: i32, line: u64, number: u32) -> u32
+pub fn say_line(errors: i32, line: u64, number: u32) -> u32
     ensures { λ r. ⌜ r ≡ wrong ⌝ }
 {
     let mut out = [0u8; LINE_BYTES];
@@ -74,7 +66,7 @@ fn put_line(out: &mut [u8], at: usize, number: u32) -> usize {
 }
 
 // An image that is refused, and where.
-pub(crate) fn say_image(errors: i32, number: u32, place: &[u8], x: u64) -> u32
+pub fn say_image(errors: i32, number: u32, place: &[u8], x: u64) -> u32
     ensures { λ r. ⌜ r ≡ wrong ⌝ }
 {
     let mut out = [0u8; LINE_BYTES];
@@ -88,7 +80,7 @@ pub(crate) fn say_image(errors: i32, number: u32, place: &[u8], x: u64) -> u32
 }
 
 // A verb with numbers of another form, or with more or fewer of them.
-pub(crate) fn say_usage(errors: i32, verb: &[u8], takes: usize) -> u32
+pub fn say_usage(errors: i32, verb: &[u8], takes: usize) -> u32
     ensures { λ r. ⌜ r ≡ wrong ⌝ }
 {
     let mut out = [0u8; LINE_BYTES];

@@ -1,10 +1,10 @@
--- `scripts::first_end` meets its contract: a place after a byte of the input. The measure is how many bytes are left to look at.
+-- `first_end` meets its contract: a place after a byte of the input. The measure is how many bytes are left to look at.
 use Prim.Native.Nat.{_≤_, _-_}
 use native.Mathlib.Omega.{arith}
 use Rattle.io.proofs.Counting.{counts}
 use borrow.Author.Needs.{needs}
-use Rattle.site_program.proofs.scripts.first_end.Statement.{statement}
-use Rattle.site_program.proofs.scripts.first_end.Tie as tie
+use Rattle.site_script.proofs.first_end.Statement.{statement}
+use Rattle.site_script.proofs.first_end.Tie as tie
 
 abbrev Inv-loop : tie.InvT-loop
 Inv-loop front i₀ i = i ≤ 11

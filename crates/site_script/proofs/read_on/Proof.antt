@@ -1,9 +1,9 @@
--- `scripts::read_on` is safe and ends: tables and line keep their lengths, and the measure is the count of reads left.
+-- `read_on` is safe and ends: tables and line keep their lengths, and the measure is the count of reads left.
 use mathlib.Core.Path.{_≡_, refl}
 use lib.ListN.{length}
 use borrow.Author.Needs.{needs}
-use Rattle.site_program.proofs.scripts.read_on.Statement.{statement}
-use Rattle.site_program.proofs.scripts.read_on.Tie as tie
+use Rattle.site_script.proofs.read_on.Statement.{statement}
+use Rattle.site_script.proofs.read_on.Tie as tie
 
 abbrev Inv-loop : tie.InvT-loop
 Inv-loop ends n line₀ links₀ numbers₀ order₀ s₀ reads₀ line links numbers order s reads =

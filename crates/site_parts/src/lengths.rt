@@ -5,7 +5,7 @@ ghost use lib.ListN.{length};
 ghost use Rattle.io.specs.Counts.{Counts};
 
 // A length that a text has, cut to its buffer.
-pub(crate) fn within(size: usize, buffer: &[u8]) -> usize
+pub fn within(size: usize, buffer: &[u8]) -> usize
     ensures counts { λ r. ⌜ Counts r (now (buffer .entry)) ⌝ }
     ensures least { λ r. ⌜ r ≡ min size (length (now (buffer .entry))) ⌝ }
 {

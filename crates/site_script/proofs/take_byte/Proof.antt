@@ -1,11 +1,11 @@
--- `scripts::take_byte` is safe: a line that has room for a byte has its bytes so far and the byte.
+-- `take_byte` is safe: a line that has room for a byte has its bytes so far and the byte.
 use mathlib.Core.Path.{sym}
 use native.Mathlib.Omega.{arith}
 use lib.ListN.{length-set}
 use lib.Seq.{length-take-le}
 use borrow.Author.Needs.{needs}
-use Rattle.site_program.proofs.scripts.take_byte.Statement.{statement}
-use Rattle.site_program.proofs.scripts.take_byte.Tie as tie
+use Rattle.site_script.proofs.take_byte.Statement.{statement}
+use Rattle.site_script.proofs.take_byte.Tie as tie
 
 pub take-byte-spec : {M : Type 1} → statement M
 take-byte-spec =

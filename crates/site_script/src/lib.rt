@@ -1,10 +1,11 @@
-// A script, played on a site's tables, line by line, as its bytes come. A line of another form or a refused one ends the run.
+// A script, played on a site's tables, line by line, as its bytes come. A line of another form or a refused one ends the run. No public
+// function has a `requires`.
 ghost use Rattle.io.specs.Counts.{Counts};
-use crate::Ends;
-use crate::parts;
-use crate::refusals;
 use mesh::Site;
 use script::lines::Line;
+use site_parts::Ends;
+use site_parts::lengths;
+use site_parts::refusals;
 
 // The longest first line: `radios 512` and its line feed.
 const FIRST_BYTES: usize = 11;
@@ -40,7 +41,7 @@ fn first_end(front: &[u8]) -> usize
 }
 
 // The radios that the first line names; 0 where it is of another form or names no size.
-pub(crate) fn radios(front: &[u8]) -> u32 {
+pub fn radios(front: &[u8]) -> u32 {
     let end = first_end(front);
     match script::lines::parse(&front[..end]) {
         Line::Radios(n) => {
@@ -151,7 +152,7 @@ fn show(errors: i32, line: u64) {
         let mut out = [0u8; 32];
         let word = text::put_text(&mut out, 0, b"\rline");
         let end = text::put_field(&mut out, word, line);
-        let length = parts::within(end, &out);
+        let length = lengths::within(end, &out);
         io::write_all(errors, &out[..length]);
     }
 }
@@ -231,7 +232,7 @@ fn ended(s: Course) -> Course {
 }
 
 // Plays the script, of which the front is read, from its second line on.
-pub(crate) fn play(
+pub fn play(
     ends: Ends,
     n: u32,
     front: &[u8],

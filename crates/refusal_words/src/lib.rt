@@ -1,4 +1,5 @@
-// What the refusal numbers mean, 1 to 20, in words.
+// What the refusal numbers mean, 1 to 20, in words, put into a lent buffer. A text that does not fit is cut, and counted whole. No public
+// function has a `requires`.
 use calls::Refusal;
 
 // What 16 to 20 mean: proposals, marks and lifts.
@@ -74,7 +75,7 @@ fn put_table_words(out: &mut [u8], at: usize, number: u32) -> usize {
 }
 
 // What a number means; here 4 to 8: radios, links and levels.
-pub(crate) fn put_words(out: &mut [u8], at: usize, number: u32) -> usize {
+fn put_words(out: &mut [u8], at: usize, number: u32) -> usize {
     if number == Refusal::RADIO {
         return text::put_text(out, at, b"a radio named is not below the count of radios");
     }
@@ -91,4 +92,12 @@ pub(crate) fn put_words(out: &mut [u8], at: usize, number: u32) -> usize {
         return text::put_text(out, at, b"the level is above the radio's number");
     }
     put_table_words(out, at, number)
+}
+
+// "refused by", the number, a colon, and the words.
+pub fn put_refused(out: &mut [u8], at: usize, number: u32) -> usize {
+    let word = text::put_text(out, at, b"refused by");
+    let digits = text::put_field(out, word, number as u64);
+    let colon = text::put_text(out, digits, b": ");
+    put_words(out, colon, number)
 }

@@ -1,10 +1,10 @@
--- `scripts::take_chunk` is safe and ends: tables and line keep their lengths, and the measure is how many bytes are left.
+-- `take_chunk` is safe and ends: tables and line keep their lengths, and the measure is how many bytes are left.
 use mathlib.Core.Path.{_≡_, refl}
 use Prim.Native.Nat.{_-_}
 use lib.ListN.{length}
 use borrow.Author.Needs.{needs}
-use Rattle.site_program.proofs.scripts.take_chunk.Statement.{statement}
-use Rattle.site_program.proofs.scripts.take_chunk.Tie as tie
+use Rattle.site_script.proofs.take_chunk.Statement.{statement}
+use Rattle.site_script.proofs.take_chunk.Tie as tie
 
 abbrev Inv-loop : tie.InvT-loop
 Inv-loop chunk n line₀ links₀ numbers₀ order₀ s₀ i₀ line links numbers order s i =

@@ -5,10 +5,10 @@ use Prim.Native.Nat.{ℕ}
 use lib.ListN.{take}
 use Rattle.lists.specs.Lists.{same}
 use Rattle.lists.proofs.Parts.{take-min}
-use Rattle.site_program.specs.Inputs.{script-word, is-script}
+use Rattle.site_parts.specs.Inputs.{script-word, is-script}
 use borrow.Author.Needs.{needs}
-use Rattle.site_program.proofs.source.is_script.Statement.{statement}
-use Rattle.site_program.proofs.source.is_script.Tie as tie
+use Rattle.site_parts.proofs.source.is_script.Statement.{statement}
+use Rattle.site_parts.proofs.source.is_script.Tie as tie
 
 returns : tie.Need-returns
 unfolding is-script
