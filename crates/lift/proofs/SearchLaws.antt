@@ -26,6 +26,7 @@ use Rattle.soundness.proofs.ExamineLaws.{examinable-room, fits-sound-lent, site
 use Rattle.soundness.proofs.RadioLaws.{radio-no, radio-four, radio-none}
 use Rattle.soundness.proofs.HighCounts.{examined-high}
 use Rattle.soundness.proofs.SoundSite.{fits-sound-site}
+use Rattle.lift_parts.specs.Counters.{room-left}
 use Rattle.lift.specs.Peels.{graph-of}
 use Rattle.lift.specs.Tries.{Search-site}
 use Rattle.lift.specs.Search.{is-free, may-lift, Checked}
@@ -34,11 +35,11 @@ use Rattle.lift.specs.Search.{is-free, may-lift, Checked}
 
 module _ (k : ℕ) (ts ns : List ℕ) (v : ℕ) where
   pub free-low : getD ns v 0 < k → false ≡ is-free k ts ns v
-  unfolding is-free
+  unfolding is-free room-left
   free-low h = rw (lt-leb k (getD ns v 0) h)
 
-  pub free-room : (x : ℕ) → k ≤ getD ns v 0 → x ≡ row-count max-neighbours ts v → ltb x max-neighbours ≡ is-free k ts ns v
-  unfolding is-free
+  pub free-room : (x : ℕ) → k ≤ getD ns v 0 → x ≡ row-count max-neighbours ts v → room-left x ≡ is-free k ts ns v
+  unfolding is-free room-left
   free-room x h e = rw (le-leb k (getD ns v 0) h, e)
 
 -- ---- may-lift

@@ -27,6 +27,7 @@ use Rattle.soundness.proofs.SoundSite.{linked-marked, degree-counted}
 use Rattle.lifting.specs.Search.{candidate, None-below}
 use Rattle.lifting.proofs.Pairs.{candidate-refutes, candidate-allowed}
 use Rattle.lifting.proofs.Search.{untried-start, none-next, first-found, none-found}
+use Rattle.lift_parts.specs.Counters.{room-left}
 use Rattle.lift.specs.Peels.{graph-of}
 use Rattle.lift.specs.Tries.{Search-site, Trying, Tried}
 use Rattle.lift.specs.Search.{is-free, Free, may-lift, Marked, Higher-end, Pair-found}
@@ -77,7 +78,7 @@ module _ (links numbers highs : List ℕ) (s : Search-site links numbers highs) 
 
   module _ (free : List ℕ) (fr : Free k links numbers free) where
     free-is : (v : ℕ) → v < length numbers → marked free 0 v ≡ true → (k ≤ number g v) × (degree g v < max-neighbours)
-    unfolding is-free
+    unfolding is-free room-left
     free-is v l e =
         let both : (leb k (getD numbers v 0) && ltb (row-count max-neighbours links v) max-neighbours) ≡ true = sym (fr .is v l) ∙ e in (
           omega (
@@ -95,7 +96,7 @@ module _ (links numbers highs : List ℕ) (s : Search-site links numbers highs) 
         )
 
     is-free-of : (v : ℕ) → v < length numbers → k ≤ number g v → degree g v < max-neighbours → marked free 0 v ≡ true
-    unfolding is-free
+    unfolding is-free room-left
     is-free-of v l h d =
         fr .is v l
         ∙ and-both (leb k (getD numbers v 0)) (ltb (row-count max-neighbours links v) max-neighbours) (le-leb k (getD numbers v 0) (omega (arith, number-is links numbers highs s v l)))

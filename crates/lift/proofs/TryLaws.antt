@@ -3,7 +3,7 @@
 --   Starting    the counters of the radios below v stand
 --   Ruling      the radios below i are ruled out or stay
 --   begin-state, left-early, left-begin, left-late   the two peels of a pair
-use mathlib.Core.Path.{_≡_, refl, sym, ap, subst, _∙_}
+use mathlib.Core.Path.{_≡_, refl, sym, ap, ap₂, subst, _∙_}
 use mathlib.Core.Logic.{_⊎_, inl, inr}
 use mathlib.Core.Bool.{Bool, true, false, _&&_, not, cond}
 use mathlib.Core.List.{List}
@@ -19,6 +19,7 @@ use Rattle.mesh.specs.Tables.{marked, put-bit, byte-at}
 use Rattle.mesh.proofs.Tables.Laws.{marked-replicate, marked-put-bit, length-put-bit}
 use Rattle.lifting.specs.Peeling.{stays}
 use Rattle.lifting.proofs.Peeling.{below-left, high-left}
+use Rattle.lift_parts.specs.Counters.{carries, rules-out}
 use Rattle.lift.specs.Peels.{graph-of, Due, Peel-state, Peel-begin, Peel-end}
 use Rattle.lift.specs.Tries.{counter-start, Started, Left-end, carried, ruled-out, Ruled-out}
 use Rattle.lists.proofs.Parts.{getD-any}
@@ -66,42 +67,21 @@ module _ (k : ℕ) (ns hs : List ℕ) where
     pub starting-end : (v : ℕ) (cs : List ℕ) → max-radios ≤ v → Starting old v cs → Started k ns hs cs
     starting-end v cs l h = λ w lw. h .is w (omega arith)
 
--- ---- carried
+-- ---- tests of entries
 
-module _ (k : ℕ) (cs : List ℕ) (v : ℕ) (l : v < length cs) where
-  pub carried-gone : 128 ≤ getD cs v 0 → true ≡ carried k cs v
-  unfolding carried
-  carried-gone h = rw (high-left cs v (omega (arith, getD-any cs v 0 255 l)))
+carried-entry : (k : ℕ) (cs : List ℕ) (v : ℕ) → v < length cs → carries k (getD cs v 0) ≡ carried k cs v
+unfolding carried
+carried-entry k cs v l = ap (carries k) (getD-any cs v 0 255 l)
 
-  pub carried-left : getD cs v 0 < 128 → leb k (getD cs v 0) ≡ carried k cs v
-  unfolding carried
-  carried-left h = rw (below-left cs v (omega (arith, getD-any cs v 0 255 l)), getD-any cs v 0 255 l)
+pub found-entries : (t : Bool) (k : ℕ) (cs : List ℕ) (a b : ℕ) → a < length cs → b < length cs
+    → (t && (carries k (getD cs a 0) && carries k (getD cs b 0))) ≡ (t && (carried k cs a && carried k cs b))
+found-entries t k cs a b la lb = ap₂ {C = Bool} (λ x y. t && (x && y)) (carried-entry k cs a la) (carried-entry k cs b lb)
 
--- ---- the tests of `is_found`
+pub ruled-entry : (k : ℕ) (gone : Bool) (ns cs : List ℕ) (c : ℕ) → c < length cs → rules-out k gone (getD ns c 0) (getD cs c 0) ≡ ruled-out k gone ns cs c
+unfolding ruled-out
+ruled-entry k gone ns cs c l = ap (rules-out k gone (getD ns c 0)) (getD-any cs c 0 255 l)
 
-pub found-gone : (l x y : Bool) → not l ≡ true → false ≡ (l && (x && y))
-found-gone l x y e = rw (not-true l e)
-
-pub found-low : (l x y t : Bool) → not l ≡ false → t ≡ x → not t ≡ true → false ≡ (l && (x && y))
-found-low l x y t e p q = rw (not-false l e, sym p, not-true t q)
-
-pub found-high : (l x y t u : Bool) → not l ≡ false → t ≡ x → not t ≡ false → u ≡ y → u ≡ (l && (x && y))
-found-high l x y t u e p q f = rw (not-false l e, sym p, not-false t q) f
-
--- ---- ruled-out
-
-module _ (k : ℕ) (gone : Bool) (ns cs : List ℕ) (c : ℕ) (l : c < length cs) where
-  pub ruled-above : k < getD ns c 0 → gone ≡ ruled-out k gone ns cs c
-  unfolding ruled-out
-  ruled-above h = rw (lt-ltb k (getD ns c 0) h)
-
-  pub ruled-left : getD ns c 0 ≤ k → getD cs c 0 < 128 → gone ≡ ruled-out k gone ns cs c
-  unfolding ruled-out
-  ruled-left h q = rw (le-ltb k (getD ns c 0) h, below-left cs c (omega (arith, getD-any cs c 0 255 l)))
-
-  pub ruled-taken : getD ns c 0 ≤ k → 128 ≤ getD cs c 0 → ltb (getD cs c 0) (128 + k) ≡ ruled-out k gone ns cs c
-  unfolding ruled-out
-  ruled-taken h q = rw (le-ltb k (getD ns c 0) h, high-left cs c (omega (arith, getD-any cs c 0 255 l)), getD-any cs c 0 255 l)
+-- ---- radios ruled out
 
 -- the radios below i are ruled out or stay
 pub record Ruling (k : ℕ) (gone : Bool) (ns cs old : List ℕ) (i : ℕ) (new : List ℕ) : Type 0 where

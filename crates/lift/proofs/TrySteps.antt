@@ -36,6 +36,7 @@ use Rattle.lifting.proofs.Peeling.{below-left, stays-above, stays-left, peeling
 use Rattle.lifting.proofs.Pairs.{candidate-allowed, radio-refutes, few-refutes, low-refutes, high-refutes, peeling-lifts}
 use Rattle.lifting.proofs.Search.{untried-next}
 use Rattle.lift.specs.Peels.{graph-of, Sound-links, Peel-begin}
+use Rattle.lift_parts.specs.Counters.{carries, rules-out}
 use Rattle.lift.specs.Tries.{Search-site, Started, Left-end, carried, ruled-out, Ruled-out, Trying, Tried}
 use Rattle.lift.proofs.PeelSteps.{links-site, links-valid}
 use Rattle.lift.proofs.TryLaws.{start-past, start-other, start-own}
@@ -106,7 +107,7 @@ module _ (links numbers highs : List ℕ) (s : Search-site links numbers highs) 
     lr-graph : r < g .n
     lr-graph = omega (arith, graph-radios)
 
-    pub level-low : k < 128
+    level-low : k < 128
     level-low =
         omega (arith, level-is, core-enough g (number g) (number-core g) r lr-graph, few-high r (λ w. leb (number g r) (number g w)) lr)
 
@@ -165,11 +166,11 @@ module _ (links numbers highs : List ℕ) (s : Search-site links numbers highs) 
       b-radio = try .candidates b small on .1
 
       fits : (v : ℕ) → carried k cs v ≡ true → left cs v ≡ true → k ≤ getD cs v 255
-      unfolding carried
+      unfolding carried carries left
       fits v c l = leb-true k (getD cs v 255) (rw l at c)
 
       short : (v : ℕ) → carried k cs v ≡ false → (left cs v ≡ true) × (getD cs v 255 < k)
-      unfolding carried
+      unfolding carried carries left
       short v c = go (bool-cases (left cs v))
         where
           go : (left cs v ≡ true) ⊎ (left cs v ≡ false) → (left cs v ≡ true) × (getD cs v 255 < k)
@@ -210,7 +211,7 @@ module _ (links numbers highs : List ℕ) (s : Search-site links numbers highs) 
 
       -- a radio that is ruled out
       ruled-refuted : (c : ℕ) → c < length numbers → ruled-out k (not x) numbers cs c ≡ true → lifts g r (link-of a c) ≡ false
-      unfolding ruled-out stays
+      unfolding ruled-out rules-out left stays
       ruled-refuted c lc q = go (bool-cases (ltb k (getD numbers c 0) || left cs c))
         where
           go : ((ltb k (getD numbers c 0) || left cs c) ≡ true) ⊎ ((ltb k (getD numbers c 0) || left cs c) ≡ false) → lifts g r (link-of a c) ≡ false

@@ -18,11 +18,12 @@ use Rattle.mesh.specs.Sound.{sound}
 use Rattle.calls.specs.Questions.{lengths-of, site-refusal}
 use Rattle.calls.specs.Lift.{lifts, lifting, first-pair, is-lifted}
 use Rattle.rows.specs.Rows.{row-count}
+use Rattle.lift_parts.specs.Counters.{room-left}
 use Rattle.lift.specs.Peels.{graph-of}
 use Rattle.lift.specs.Tries.{Search-site}
 
 unfoldable pub is-free : (k : ℕ) → (links numbers : List ℕ) → (v : ℕ) → Bool
-is-free k ts ns v = leb k (getD ns v 0) && ltb (row-count max-neighbours ts v) max-neighbours
+is-free k ts ns v = leb k (getD ns v 0) && room-left (row-count max-neighbours ts v)
 
 pub record Free (k : ℕ) (links numbers free-row : List ℕ) : Type 0 where
   pub long : length free-row ≡ row-bytes

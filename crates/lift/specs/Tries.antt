@@ -24,6 +24,7 @@ use Rattle.calls.specs.Lift.{lifts}
 use Rattle.soundness.specs.Checks.{fits-sound}
 use Rattle.lifting.specs.Peeling.{left, stays, Peeling}
 use Rattle.lifting.specs.Search.{candidate, Untried}
+use Rattle.lift_parts.specs.Counters.{carries, rules-out}
 use Rattle.lift.specs.Peels.{graph-of}
 
 -- the order is the one of the tables
@@ -48,11 +49,11 @@ pub record Left-end (links : List ℕ) (k a b r : ℕ) (cs : List ℕ) (is-left 
   pub done : is-left ≡ true → (w : ℕ) → left cs w ≡ true → (w ≡ a → ⊥) → (w ≡ b → ⊥) → k < getD cs w 255
 
 unfoldable pub carried : (k : ℕ) → (counters : List ℕ) → (v : ℕ) → Bool
-carried k cs v = cond (left cs v) (leb k (getD cs v 255)) true
+carried k cs v = carries k (getD cs v 255)
 
 -- `gone` is whether the radio was taken
 unfoldable pub ruled-out : (k : ℕ) → (gone : Bool) → (numbers counters : List ℕ) → (c : ℕ) → Bool
-ruled-out k gone ns cs c = cond (ltb k (getD ns c 0) || left cs c) gone (ltb (getD cs c 255) (128 + k))
+ruled-out k gone ns cs c = rules-out k gone (getD ns c 0) (getD cs c 255)
 
 -- old before, new after
 pub record Ruled-out (k : ℕ) (gone : Bool) (numbers counters old new : List ℕ) : Type 0 where

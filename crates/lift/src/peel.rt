@@ -11,10 +11,8 @@ ghost use Rattle.lists.specs.Lists.{Distinct, Entries-below, range, count};
 ghost use Rattle.mesh.specs.Tables.{marked};
 ghost use Rattle.lifting.specs.Peeling.{left};
 ghost use Rattle.lift.specs.Peels.{is-due, Due, Lowered, Sound-links, Peel-state, Peel-end};
+use lift_parts::GONE;
 use mesh::Site;
-
-// What a counter grows by when its radio is taken.
-pub(crate) const GONE: u8 = 128;
 
 // The counter of what is no radio of the level.
 pub(crate) const NO_COUNTER: u8 = 255;

@@ -25,7 +25,7 @@ fn is_free(v: u32, level: u8, links: &[u8], numbers: &[u8]) -> bool
     if numbers[v as usize] < level {
         return false;
     }
-    (rows::row_degree(links, v) as u32) < Site::NEIGHBOURS
+    lift_parts::has_room(rows::row_degree(links, v))
 }
 
 // The radios that may be ends.

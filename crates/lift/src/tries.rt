@@ -9,7 +9,6 @@ ghost use Rattle.mesh.specs.Tables.{marked};
 ghost use Rattle.lift.specs.Peels.{Sound-links, Peel-begin, Peel-end};
 ghost use Rattle.lift.specs.Tries.{Search-site, counter-start, Started, Left-end, carried, ruled-out, Ruled-out, Trying, Tried};
 use super::peel;
-use super::peel::GONE;
 use super::peel::NO_COUNTER;
 use mesh::Site;
 
@@ -71,51 +70,25 @@ fn is_left(
     peel_around(links, r, level, a, &held, counters)
 }
 
-// Whether the link would leave v more neighbours than the level: it is above, or has at least so many without it.
-fn is_carried(v: u32, level: u8, counters: &[u8]) -> bool
-    requires { ⌜ v < length (now counters) ⌝ }
-    ensures { λ x. ⌜ x ≡ carried level (now (counters .entry)) v ⌝ }
-{
-    let c = counters[v as usize];
-    if GONE <= c {
-        return true;
-    }
-    level <= c
-}
-
 // Whether the pair lifts the radio, which is left or not.
 fn is_found(left: bool, a: u32, b: u32, level: u8, counters: &[u8]) -> bool
     requires { ⌜ (a < length (now counters)) × (b < length (now counters)) ⌝ }
     ensures { λ x. ⌜ x ≡ (left && (carried level (now (counters .entry)) a && carried level (now (counters .entry)) b)) ⌝ }
 {
-    if !left {
-        return false;
-    }
-    if !is_carried(a, level, counters) {
-        return false;
-    }
-    is_carried(b, level, counters)
+    lift_parts::is_found(left, level, counters[a as usize], counters[b as usize])
 }
 
 // Whether the pair of a and c is ruled out: c had too few neighbours to be carried when it was taken, or the radio was taken and c not.
 fn is_ruled_out(c: u32, level: u8, gone: bool, numbers: &[u8], counters: &[u8]) -> bool
-    requires { ⌜ (c < length (now numbers)) × (c < length (now counters)) × (level < 128) ⌝ }
+    requires { ⌜ (c < length (now numbers)) × (c < length (now counters)) ⌝ }
     ensures { λ x. ⌜ x ≡ ruled-out level gone (now (numbers .entry)) (now (counters .entry)) c ⌝ }
 {
-    if level < numbers[c as usize] {
-        return gone;
-    }
-    let x = counters[c as usize];
-    if x < GONE {
-        return gone;
-    }
-    x < GONE + level
+    lift_parts::is_ruled_out(level, gone, numbers[c as usize], counters[c as usize])
 }
 
 // Takes the radios out of the untried that are ruled out.
 fn rule_out(level: u8, gone: bool, numbers: &[u8], counters: &[u8], untried: &mut [u8])
-    requires { ⌜ (length (now numbers) ≤ max-radios) × (length (now counters) ≡ max-radios) × (level < 128) ×
-        (length (now untried) ≡ row-bytes) ⌝ }
+    requires { ⌜ (length (now numbers) ≤ max-radios) × (length (now counters) ≡ max-radios) × (length (now untried) ≡ row-bytes) ⌝ }
     ensures { λ _. ⌜ Ruled-out level gone (now (numbers .entry)) (now (counters .entry)) (now (untried .entry)) (now (untried .exit)) ⌝ }
 {
     let mut c: usize = 0;

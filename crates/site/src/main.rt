@@ -1,6 +1,6 @@
 // The program `site`: its words are handed to the library. After `--status` the status, 0 or 1, is written to descriptor 3, for
 // bin/site, which ends with it.
-use site_program::Ends;
+use site_parts::Ends;
 
 // The longest word that is read; a longer one counts as empty, which no verb and no number is.
 const WORD_BYTES: usize = 32;

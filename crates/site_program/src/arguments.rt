@@ -1,6 +1,6 @@
 // The numbers after a verb, in the form that a script's numbers have: 0 to 65,535, no leading zeros.
-use crate::parts;
 use script::lines::Line;
+use site_parts::lengths;
 
 // Whether they are as many as the verb takes and of this form, and the numbers.
 pub struct Numbers {
@@ -24,7 +24,7 @@ fn two(v: &[u8], k: &[u8]) -> Numbers {
     let after_space = text::put_byte(&mut line, after_v, b' ');
     let after_k = text::put_text(&mut line, after_space, k);
     let end = text::put_byte(&mut line, after_k, b'\n');
-    let length = parts::within(end, &line);
+    let length = lengths::within(end, &line);
     match script::lines::parse(&line[..length]) {
         Line::Up(a, b) => Numbers {
             ok: true,

@@ -1,12 +1,12 @@
 // An image, read into a site's tables.
 ghost use mathlib.Core.Path.{_≡_};
 ghost use Prim.Native.Nat.{_≤_};
-ghost use Rattle.site_program.specs.Inputs.{wrong};
-use crate::refusals;
+ghost use Rattle.site_parts.specs.Inputs.{wrong};
 use calls::Refusal;
 use image::bytes;
 use image::layout;
 use mesh::Site;
+use site_parts::refusals;
 
 // The bytes of the longest image.
 const LONGEST: usize = 86 * layout::BLOCK;

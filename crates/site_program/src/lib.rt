@@ -5,14 +5,13 @@ ghost use Prim.Native.Nat.{_≤_};
 mod arguments;
 mod help;
 mod images;
-mod parts;
-mod refusals;
-mod scripts;
 mod source;
-mod words;
 
 use arguments::Numbers;
 use mesh::Site;
+use site_parts::Ends;
+use site_parts::lengths;
+use site_parts::refusals;
 use verbs::Verb;
 
 // The bytes of a site's largest links table.
@@ -20,13 +19,6 @@ const LINKS_BYTES: usize = Site::ROW_BYTES * Site::RADIOS as usize;
 
 // The bytes of the longest text, a script of 10,240 links.
 const TEXT_BYTES: usize = 112651;
-
-// Where a run reads and writes.
-pub struct Ends {
-    pub input: i32,
-    pub output: i32,
-    pub errors: i32,
-}
 
 // Prints what the verb says of the site: the status.
 fn print<'a>(
@@ -45,7 +37,7 @@ fn print<'a>(
     if text.number != 0 {
         return refusals::say_call(ends.errors, text.number);
     }
-    let length = parts::within(text.length, &out);
+    let length = lengths::within(text.length, &out);
     if io::write_all(ends.output, &out[..length]) {
         return 0;
     }

@@ -1,6 +1,6 @@
 // One run of the library, printed.
 use libc::STDOUT_FILENO;
-use site_program::Ends;
+use site_parts::Ends;
 
 // As many bytes as the longest image.
 const BYTES: usize = 44032;

@@ -1,19 +1,15 @@
--- `tries::is_found` meets its contract: its three tests in turn.
-use Rattle.lift.specs.Tries.{carried}
-use Rattle.lift.proofs.TryLaws.{found-gone, found-low, found-high}
+-- `tries::is_found` meets its contract: the test of the two entries.
+use mathlib.Core.Path.{_∙_}
+use Rattle.lift.proofs.TryLaws.{found-entries}
 use borrow.Author.Needs.{needs}
 use Rattle.lift.proofs.tries.is_found.Statement.{statement}
 use Rattle.lift.proofs.tries.is_found.Tie as tie
 
 returns : tie.Need-returns
-returns c = let call = c .before .before .args in
-    found-gone (call .left) (carried (call .level) (call .counters .now) (call .a)) (carried (call .level) (call .counters .now) (call .b)) (c .if1 .taken)
-
-returns-2 : tie.Need-returns-2
-returns-2 c = let call = c .before .before .before .before .args in found-low (call .left) _ (carried (call .level) (call .counters .now) (call .b)) _ (c .before .before .if1 .left) (c .before .is-carried .ensures) (c .if2 .taken)
-
-returns-3 : tie.Need-returns-3
-returns-3 c = let call = c .before .before .before .before .before .args in found-high (call .left) _ _ _ _ (c .before .before .before .if1 .left) (c .before .before .is-carried .ensures) (c .before .if2 .left) (c .is-carried2 .ensures)
+returns c =
+    let start = c .before .before .before .before in
+    let call = start .args in
+    c .is-found .ensures ∙ found-entries (call .left) (call .level) (call .counters .now) (call .a) (call .b) (start .pre .0) (start .pre .1)
 
 pub is-found-spec : {M : Type 1} → statement M
-is-found-spec = tie.close (tie.spec returns (λ c κs. search needs) returns-2 (λ c κs. search needs) returns-3)
+is-found-spec = tie.close (tie.spec (λ c. search needs) (λ c. search needs) (λ c κs. search needs) returns)

@@ -1,6 +1,6 @@
 -- `tries::lifts` meets its contract: what the peel of the pair leaves says that it lifts r (`tried-found`), or rules it out (`tried-not`).
 use native.Mathlib.Omega.{arith}
-use Rattle.lift.proofs.TrySteps.{site-links, site-small, level-low, tried-begin, tried-found, tried-not}
+use Rattle.lift.proofs.TrySteps.{site-links, site-small, tried-begin, tried-found, tried-not}
 use borrow.Author.Needs.{needs}
 use Rattle.lift.proofs.tries.lifts.Statement.{statement}
 use Rattle.lift.proofs.tries.lifts.Tie as tie
@@ -32,8 +32,7 @@ returns c =
 rule-out-requires : tie.Need-rule-out-requires
 rule-out-requires c κs =
     let start = c .before .before .before .before .before .before .before .before .before .before .before .before .before .before .before .before .before in
-    let call = start .args in
-    (site-small _ _ _ (start .pre .0), c .before .before .before .before .before .before .is-left .ensures .long, level-low _ _ _ (start .pre .0) (call .r) (start .pre .1), start .pre .2 .long)
+    (site-small _ _ _ (start .pre .0), c .before .before .before .before .before .before .is-left .ensures .long, start .pre .2 .long)
 
 returns-2 : tie.Need-returns-2
 returns-2 c =

@@ -19,7 +19,7 @@ abbrev μ-loop : tie.MeasureT-loop
 μ-loop level gone numbers counters untried₀ c₀ untried c = length numbers - c
 
 loop-holds : tie.Need-loop-holds Inv-loop μ-loop
-loop-holds c = (ruling-none _ _ _ _ _ (c .before .before .before .pre .3), omega arith)
+loop-holds c = (ruling-none _ _ _ _ _ (c .before .before .before .pre .2), omega arith)
 
 loop-again : tie.Need-loop-again Inv-loop μ-loop
 loop-again c =
@@ -29,14 +29,14 @@ loop-again c =
     let test = c .before .is-ruled-out in
     let new : c .if1 .untried ≡ cond (test .result) (put-bit false 0 i (at-loop .loop .untried)) (at-loop .loop .untried) =
     ⊎-elim (λ w. w .5 ∙ w .2 .ensures ∙ sym (cond-true _ _ _ (w .0 .taken))) (λ w. w .1 ∙ sym (cond-false _ _ _ (w .0 .left))) (c .if1 .came) in (
-      ruling-turn _ _ _ _ _ (start .pre .3) i (test .result) _ _ (omega (arith, start .pre .0, c .before .before .loop-test .taken)) (test .ensures) new (at-loop .loop .inv .0),
+      ruling-turn _ _ _ _ _ (start .pre .2) i (test .result) _ _ (omega (arith, start .pre .0, c .before .before .loop-test .taken)) (test .ensures) new (at-loop .loop .inv .0),
       omega (arith, c .before .before .loop-test .taken),
     )
 
 returns : tie.Need-returns Inv-loop μ-loop
 returns c =
     let at-loop = c .before in
-    ruling-end _ _ _ _ _ (c .before .before .before .before .before .pre .3) (at-loop .loop .c) _ (omega (arith, c .loop-test .left, at-loop .loop .inv .1)) (at-loop .loop .inv .0)
+    ruling-end _ _ _ _ _ (c .before .before .before .before .before .pre .2) (at-loop .loop .c) _ (omega (arith, c .loop-test .left, at-loop .loop .inv .1)) (at-loop .loop .inv .0)
 
 pub rule-out-spec : {M : Type 1} → statement M
 rule-out-spec =
