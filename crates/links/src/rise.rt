@@ -90,11 +90,10 @@ pub(crate) fn plan_up(
     let e = ends::beginning(a as usize, b as usize, numbers, places);
     let first = places[e] as usize;
     let rise = Rise { a, b, most };
-    if most == 0 {
-        return plan_on(rise, first, links, numbers, order, places, highs, stretch);
-    }
-    if ends::leads(first, most, numbers, order) {
-        return plan::plan_peel(a, b, links, numbers, order, places, highs, stretch);
+    if 0 < most {
+        if ends::leads(first, most, numbers, order) {
+            return plan::plan_peel(a, b, links, numbers, order, places, highs, stretch);
+        }
     }
     plan_on(rise, first, links, numbers, order, places, highs, stretch)
 }

@@ -48,25 +48,8 @@ plan-on-requires c κs =
       ),
     )
 
-plan-on-requires-2 : tie.Need-plan-on-requires-2
-plan-on-requires-2 c κs =
-    let chosen = c .before .before .before .before .before .before in
-    let most = chosen .before in
-    let start = c .before .before .before .before .before .before .before .before .before .before .before .before .before .before .before .before in (
-      start .pre .0,
-      (
-        start .pre .1,
-        record {
-          level = most .lower .ensures;
-          place = ap (λ (x : ℕ). getD (start .args .places .now) x 0) (chosen .beginning .ensures);
-        },
-      ),
-    )
-
 pub plan-up-spec : {M : Type 1} → statement M
 plan-up-spec =
     tie.close (
     tie.spec shared-slice-read-lower shared-slice-read-lower-2 (λ c κs. search needs) (λ c κs. search needs) mul-first shared-slice-read-first cast-first
-    plan-on-requires (λ c. search needs) (λ c. search needs) (λ c. search needs)
-    (λ c κs. search needs) (λ c κs. search needs) (λ c. search needs) (λ c. search needs) (λ c. search needs)
-    plan-on-requires-2 (λ c. search needs) (λ c. search needs) (λ c. search needs))
+    (λ c κs. search needs) (λ c κs. search needs) (λ c. search needs) (λ c. search needs) (λ c. search needs) plan-on-requires (λ c. search needs) (λ c. search needs) (λ c. search needs))
