@@ -13,8 +13,9 @@ static int c_proper(uint32_t n, const uint8_t *heard) {
     return 1;
 }
 
-/* Question 7: who hears no more radios than that need not be counted. */
+/* Question 7: so few radios cannot have more; who hears no more radios than that need not be counted. */
 static int c_few(uint32_t n, const uint8_t *heard) {
+    if (n <= NEIGHBOURS) return 1;
     for (unsigned a = 0; a < n; a++) {
         if (row_count(heard, a) <= NEIGHBOURS) continue;
         unsigned count = 0;

@@ -17,8 +17,8 @@ use borrow.Author.Tests.{leb-true, leb-false, le-leb, not-true}
 use Rattle.mesh.specs.Limits.{max-radios, max-neighbours, row-bytes}
 use Rattle.lists.specs.Lists.{range, count, filter, all, In}
 use Rattle.lists.proofs.Tests.{bool-cases, never, and-left, and-right, and-both}
-use Rattle.lists.proofs.Count.{count-mono}
-use Rattle.lists.proofs.Range.{count-front, count-below, range-append}
+use Rattle.lists.proofs.Count.{count-mono, count-le-length}
+use Rattle.lists.proofs.Range.{count-front, count-below, length-range, range-append}
 use Rattle.lists.proofs.Filter.{in-filter, filter-in}
 use Rattle.lists.proofs.All.{all-in, in-all, all-below, below-all, all-append}
 use Rattle.mesh.specs.Tables.{digit, marked}
@@ -211,6 +211,13 @@ module _ (n : ℕ) (hs : List ℕ) where
   pub few-end : (a : ℕ) → Few-below n hs a → n ≤ a → true ≡ agreed-few max-neighbours n hs
   unfolding agreed-few
   few-end a h l = sym (below-all (λ x. leb (agreed-degree n hs x) max-neighbours) n (λ x m. h x (omega (arith, m, l))))
+
+  -- agreed links are with some of the n radios
+  pub few-small : n ≤ max-neighbours → true ≡ agreed-few max-neighbours n hs
+  unfolding agreed-few agreed-degree
+  few-small l =
+      sym (below-all (λ x. leb (agreed-degree n hs x) max-neighbours) n (λ x m.
+      le-leb (agreed-degree n hs x) max-neighbours (omega (arith, l, count-le-length (agreed hs x) (range 0 n), length-range 0 n))))
 
   pub few-no : (a : ℕ) → a < n → leb (agreed-degree n hs a) max-neighbours ≡ false → false ≡ agreed-few max-neighbours n hs
   unfolding agreed-few

@@ -170,16 +170,16 @@ module _ {hs : List ℕ} {a : ℕ} (first word : ℕ) {w : List ℕ} (rest : ℕ
 abbrev pub Words-marking : (heard : List ℕ) → (a : ℕ) → (w : List ℕ) → (k r : ℕ) → (x : List ℕ) → Type 0
 Words-marking hs a w k r x = (k ≤ 8) × Row-marking hs a (neighbours-of hs a) w (row-from hs a k) r x
 
-pub words-none : (hs : List ℕ) (a : ℕ) (w : List ℕ) → Words-marking hs a w 0 0 w
-words-none hs a w = (omega arith, rw (row-from-zero hs a) row-none)
+pub words-marking-none : (hs : List ℕ) (a : ℕ) (w : List ℕ) → Words-marking hs a w 0 0 w
+words-marking-none hs a w = (omega arith, rw (row-from-zero hs a) row-none)
 
 module _ {hs : List ℕ} (bytes : (j : ℕ) → getD hs j 0 < 256) {a : ℕ} {w : List ℕ} {k r : ℕ} {x : List ℕ} (m : Words-marking hs a w k r x) (l : k < 8) {word : ℕ}
     (e : word ≡ row-word 8 hs (row-bytes * a + 8 * k)) {s : ℕ} {y : List ℕ} (d : Row-marked hs a (set-bits 64 (64 * k) word) x s y) where
-  pub words-turn : Words-marking hs a w (k + 1) (r + s) y
-  words-turn = (omega (arith, l), row-part (rw (row-split hs bytes a k word l e) at (m .1)) d)
+  pub words-marking-turn : Words-marking hs a w (k + 1) (r + s) y
+  words-marking-turn = (omega (arith, l), row-part (rw (row-split hs bytes a k word l e) at (m .1)) d)
 
-pub words-end : {hs : List ℕ} {a : ℕ} {w : List ℕ} {k r : ℕ} {x : List ℕ} → Words-marking hs a w k r x → 8 ≤ k → Row-marked hs a (neighbours-of hs a) w r x
-words-end {hs} {a} {w} {k} m h = row-end (row-from-end hs a k h) (m .1)
+pub words-marking-end : {hs : List ℕ} {a : ℕ} {w : List ℕ} {k r : ℕ} {x : List ℕ} → Words-marking hs a w k r x → 8 ≤ k → Row-marked hs a (neighbours-of hs a) w r x
+words-marking-end {hs} {a} {w} {k} m h = row-end (row-from-end hs a k h) (m .1)
 
 -- ---- a table
 

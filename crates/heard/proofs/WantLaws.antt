@@ -125,22 +125,22 @@ module _ {whole : List ℕ} {count : ℕ} {old rest : List ℕ} {n : ℕ} {list 
   }
 
 -- the radios of a word that are above a
-abbrev pub Word-listing : (a first word count : ℕ) → (old : List ℕ) → (rest n : ℕ) → (list : List ℕ) → Type 0
-Word-listing a first word count old rest n list =
+abbrev pub Above-listing : (a first word count : ℕ) → (old : List ℕ) → (rest n : ℕ) → (list : List ℕ) → Type 0
+Above-listing a first word count old rest n list =
     (rest < 2 ^ 64) × Listing-from (filter (ltb a) (set-bits 64 first word)) count old (filter (ltb a) (set-bits 64 first rest)) n list
 
-module _ (a first word : ℕ) {count : ℕ} {old : List ℕ} (rest : ℕ) {n : ℕ} {list : List ℕ} (i : Word-listing a first word count old rest n list) where
-  pub word-listing-turn : (rest ≡ 0 → ⊥) → n < length list
-      → Word-listing a first word count old (bitAnd rest (rest - 1)) (n + boolByte (ltb a (first + trailingZeros 64 rest)))
+module _ (a first word : ℕ) {count : ℕ} {old : List ℕ} (rest : ℕ) {n : ℕ} {list : List ℕ} (i : Above-listing a first word count old rest n list) where
+  pub above-listing-turn : (rest ≡ 0 → ⊥) → n < length list
+      → Above-listing a first word count old (bitAnd rest (rest - 1)) (n + boolByte (ltb a (first + trailingZeros 64 rest)))
       (set list n (first + trailingZeros 64 rest))
   unfolding filter
-  word-listing-turn some l =
+  above-listing-turn some l =
       let b : ℕ = first + trailingZeros 64 rest in
       (word-less rest (i .0), listing-one b (ltb a b) l (rw (word-lowest first rest (i .0) some) at (i .1)))
 
-  pub word-listing-end : rest ≡ 0 → Listed-from (filter (ltb a) (set-bits 64 first word)) count old n list
+  pub above-listing-end : rest ≡ 0 → Listed-from (filter (ltb a) (set-bits 64 first word)) count old n list
   unfolding filter
-  word-listing-end z = listing-end (i .1) (ap (filter (ltb a)) (word-none first rest z))
+  above-listing-end z = listing-end (i .1) (ap (filter (ltb a)) (word-none first rest z))
 
 -- ---- the words of a row
 

@@ -104,10 +104,13 @@ fn is_few(heard: &[u8], a: u32) -> bool
     count_agreed(heard, a) <= Site::NEIGHBOURS
 }
 
-// Question 7: has each of n radios at most as many agreed links as a radio may have neighbours?
+// Question 7: has each of n radios at most as many agreed links as a radio may have neighbours? So few radios cannot have more.
 pub fn are_few(n: u32, heard: &[u8]) -> bool
     ensures { λ r. ⌜ (Of-size n (now (heard .entry)) → r ≡ agreed-few max-neighbours n (now (heard .entry))) ⌝ }
 {
+    if n <= Site::NEIGHBOURS {
+        return true;
+    }
     let mut a: u32 = 0;
     while a < n {
         if !is_few(heard, a) {

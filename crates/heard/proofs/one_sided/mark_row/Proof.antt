@@ -8,7 +8,7 @@ use borrow.Author.Needs.{needs}
 use Rattle.mesh.specs.Limits.{row-bytes}
 use Rattle.rows.proofs.RowWords.{word-of-row}
 use Rattle.heard.proofs.TallyLaws.{row-fits}
-use Rattle.heard.proofs.MarkLaws.{Words-marking, words-none, words-turn, words-end}
+use Rattle.heard.proofs.MarkLaws.{Words-marking, words-marking-none, words-marking-turn, words-marking-end}
 use Rattle.heard.proofs.one_sided.mark_row.Statement.{statement}
 use Rattle.heard.proofs.one_sided.mark_row.Tie as tie
 
@@ -33,7 +33,7 @@ add-n c =
     let x = given .before .args in
     let l = read .before .loop-test .taken in
     let bytes : (j : ℕ) → getD (x .heard .now) j 0 < 256 = λ j. given .shared-slice-known .given j .fits in
-    row-fits _ _ (words-turn bytes (at-loop .loop .inv) l
+    row-fits _ _ (words-marking-turn bytes (at-loop .loop .inv) l
     (read .word-of .ensures
     ∙ word-of-row (x .heard .now) (x .a) (at-loop .loop .k) (row-bytes * x .a + row-bytes - row-bytes * x .a) (omega arith) (given .before .pre) l)
     (marked .mark-word .ensures) .1 .tally)
@@ -47,7 +47,7 @@ loop-again c =
     let x = given .before .args in
     let l = read .before .loop-test .taken in
     let bytes : (j : ℕ) → getD (x .heard .now) j 0 < 256 = λ j. given .shared-slice-known .given j .fits in
-    words-turn bytes (at-loop .loop .inv) l
+    words-marking-turn bytes (at-loop .loop .inv) l
     (read .word-of .ensures
     ∙ word-of-row (x .heard .now) (x .a) (at-loop .loop .k) (row-bytes * x .a + row-bytes - row-bytes * x .a) (omega arith) (given .before .pre) l)
     (marked .mark-word .ensures)
@@ -55,6 +55,6 @@ loop-again c =
 pub mark-row-spec : {M : Type 1} → statement M
 mark-row-spec =
     tie.close (
-    tie.spec Inv-loop μ-loop (λ c. search needs) (λ c. search needs) (λ c. search needs) (λ c. search needs) part-row-end (λ c. words-none _ _ _)
+    tie.spec Inv-loop μ-loop (λ c. search needs) (λ c. search needs) (λ c. search needs) (λ c. search needs) part-row-end (λ c. words-marking-none _ _ _)
     (λ c. search needs) (λ c κs. search needs) mark-word-requires add-n (λ c. search needs) (λ c. search needs) loop-again
-    (λ c. c .before .loop .inv .1 .long) (λ c. words-end (c .before .loop .inv) (c .loop-test .left)))
+    (λ c. c .before .loop .inv .1 .long) (λ c. words-marking-end (c .before .loop .inv) (c .loop-test .left)))

@@ -1,5 +1,5 @@
 -- `wanted::list_above` meets its contract: each turn takes the lowest set bit off the word, and what is left of the radios above a gives with
--- the ones written what all of them give (`Word-listing`). The measure is the word that is left.
+-- the ones written what all of them give (`Above-listing`). The measure is the word that is left.
 use Prim.Native.Nat.{_+_, _-_}
 use native.Mathlib.Omega.{arith}
 use lib.Bits.{and-le-r}
@@ -7,12 +7,12 @@ use lib.Count.{trailingZeros, trailing-le}
 use lib.Dec.{ltb}
 use borrow.Author.Needs.{needs}
 use Rattle.lists.proofs.Loops.{counted-fits}
-use Rattle.heard.proofs.WantLaws.{Word-listing, listing-none, listing-full, word-listing-turn, word-listing-end}
+use Rattle.heard.proofs.WantLaws.{Above-listing, listing-none, listing-full, above-listing-turn, above-listing-end}
 use Rattle.heard.proofs.wanted.list_above.Statement.{statement}
 use Rattle.heard.proofs.wanted.list_above.Tie as tie
 
 abbrev Inv-loop : tie.InvT-loop
-Inv-loop a first word list₀ count n₀ rest₀ list n rest = Word-listing a first word count list₀ rest n list
+Inv-loop a first word list₀ count n₀ rest₀ list n rest = Above-listing a first word count list₀ rest n list
 
 abbrev μ-loop : tie.MeasureT-loop
 μ-loop a first word list₀ count n₀ rest₀ list n rest = rest
@@ -40,10 +40,10 @@ loop-less c = omega (arith, and-le-r (c .before .before .loop .rest) (c .before 
 
 loop-again : tie.Need-loop-again Inv-loop μ-loop
 loop-again c =
-    word-listing-turn _ _ _ (c .before .before .loop .rest) (c .before .before .loop .inv) (c .before .loop-test .taken) (c .if1 .left)
+    above-listing-turn _ _ _ (c .before .before .loop .rest) (c .before .before .loop .inv) (c .before .loop-test .taken) (c .if1 .left)
 
 returns-2 : tie.Need-returns-2 Inv-loop μ-loop
-returns-2 c = word-listing-end _ _ _ (c .before .loop .rest) (c .before .loop .inv) (c .loop-test .left)
+returns-2 c = above-listing-end _ _ _ (c .before .loop .rest) (c .before .loop .inv) (c .loop-test .left)
 
 pub list-above-spec : {M : Type 1} → statement M
 list-above-spec =
