@@ -1,6 +1,6 @@
 -- Sets of eight words.
--- In order: digits of words joined by `&`, `|` and `^`, one radio tested and taken out, the radios of another set taken out word by
--- word, the radios of a row put in, the radios that one of two sets has.
+-- In order: digits of words joined by `&`, `|` and `^`, one radio tested, taken out and put in, the radios of another set taken out and
+-- listed, the lowest radio of two sets, words changed in turn, the radios that one of two sets has.
 use mathlib.Core.Path.{_≡_, refl, sym, ap, _∙_}
 use mathlib.Core.Logic.{_⊎_, inl, inr}
 use mathlib.Core.Bool.{Bool, true, false, _&&_, _||_, not, cond}
@@ -8,14 +8,15 @@ use mathlib.Core.List.{List, [], _++_}
 use Prim.Native.Nat.{ℕ, zero, suc, _+_, _*_, _-_, _/_, _%_, _^_, _≤_, _<_, min, max}
 use native.Mathlib.Omega.{arith}
 use native.Mathlib.Nat.{mod-lt, zero-lt-suc, one-mul, mod-eq-of-lt}
-use lib.Bits.{differ, bitAnd, bitOr, bitXor, and-step, or-step, xor-step, and-shr, or-shr, xor-shr, xor-zero-r, and-mask}
+use lib.Bits.{differ, bitAnd, bitOr, bitXor, and-step, or-step, xor-step, and-shr, or-shr, xor-shr, xor-zero-r, and-mask, and-lt}
+use lib.Count.{trailingZeros}
 use lib.Dec.{ltb, eqb}
 use lib.ListN.{length, getD, take, set, length-set, List·getD-eq-default}
 use lib.Pow.{pow-lt}
 use lib.Seq.{sets, set-out, set-getD, getD-set-same, getD-set-other}
 use borrow.Author.Tests.{ltb-true, ltb-false, eqb-true, eqb-false, eq-eqb, ne-eqb}
 use Rattle.mesh.specs.Limits.{max-radios, row-bytes}
-use Rattle.lists.specs.Lists.{range, filter, member, overwrite}
+use Rattle.lists.specs.Lists.{range, filter, member, head-or, overwrite}
 use Rattle.mesh.specs.Tables.{digit, marked, put-digit}
 use Rattle.lists.proofs.Filter.{member-filter}
 use Rattle.lists.proofs.Overwrite.{sets-front}
@@ -24,9 +25,9 @@ use Rattle.lists.proofs.Range.{in-range}
 use Rattle.lists.proofs.Tests.{bool-cases, iff-eq}
 use Rattle.mesh.proofs.Tables.Digits.{digit-nothing, digit-put-digit}
 use Rattle.rows.specs.Rows.{neighbours-of, row-listed, set-bits, row-word}
-use Rattle.rows.specs.Sets.{in-set, take-out, word-left, word-taken, Row-joined, common, Common-taken, in-one, gone, Gone-listed}
-use Rattle.rows.proofs.MaskLaws.{put-digit-false}
-use Rattle.rows.proofs.WordLaws.{set-bits-nothing, length-set-bits-le}
+use Rattle.rows.specs.Sets.{in-set, take-out, put-in, word-left, word-taken, Row-joined, common, Common-taken, Set-taken, in-one, gone, Gone-listed}
+use Rattle.rows.proofs.MaskLaws.{put-digit-true, put-digit-false}
+use Rattle.rows.proofs.WordLaws.{set-bits-nothing, set-bits-lowest, length-set-bits-le}
 use Rattle.rows.proofs.Listing.{Partial-listing, partial-none, partial-part, partial-end}
 use Rattle.rows.proofs.RowListLaws.{in-neighbours-of, member-neighbours-of}
 use Rattle.rows.proofs.RowWords.{marked-word, words-from, words-end, row-listed-whole, row-listed-short}
@@ -138,23 +139,46 @@ pub length-take-out : (v : ℕ) (ws : List ℕ) → length (take-out v ws) ≡ l
 unfolding take-out
 length-take-out v ws = length-set ws (v / 64) (put-digit false (getD ws (v / 64) 0) (v % 64))
 
-pub in-take-out : (v w : ℕ) (ws : List ℕ) → v / 64 < length ws → in-set (take-out v ws) w ≡ cond (eqb v w) false (in-set ws w)
-unfolding in-set take-out
-in-take-out v w ws l = go (bool-cases (eqb (w / 64) (v / 64)))
+-- one radio's bit written
+in-put : (b : Bool) (v w : ℕ) (ws : List ℕ) → v / 64 < length ws
+    → in-set (set ws (v / 64) (put-digit b (getD ws (v / 64) 0) (v % 64))) w ≡ cond (eqb v w) b (in-set ws w)
+unfolding in-set
+in-put b v w ws l = go (bool-cases (eqb (w / 64) (v / 64)))
   where
     x : ℕ
-    x = put-digit false (getD ws (v / 64) 0) (v % 64)
+    x = put-digit b (getD ws (v / 64) 0) (v % 64)
 
     go : (eqb (w / 64) (v / 64) ≡ true) ⊎ (eqb (w / 64) (v / 64) ≡ false)
-        → digit (getD (set ws (v / 64) x) (w / 64) 0) (w % 64) ≡ cond (eqb v w) false (digit (getD ws (w / 64) 0) (w % 64))
+        → digit (getD (set ws (v / 64) x) (w / 64) 0) (w % 64) ≡ cond (eqb v w) b (digit (getD ws (w / 64) 0) (w % 64))
     go (inl e) =
         let q : w / 64 ≡ v / 64 = eqb-true (w / 64) (v / 64) e in
         let same : eqb (v % 64) (w % 64) ≡ eqb v w =
         iff-eq (eqb (v % 64) (w % 64)) (eqb v w) (λ z. eq-eqb v w (omega (arith, eqb-true (v % 64) (w % 64) z))) (λ z. eq-eqb (v % 64) (w % 64) (omega (arith, eqb-true v w z))) in
-        rw (q, getD-set-same ws (v / 64) x 0 l, digit-put-digit false (getD ws (v / 64) 0) (v % 64) (w % 64), same)
+        rw (q, getD-set-same ws (v / 64) x 0 l, digit-put-digit b (getD ws (v / 64) 0) (v % 64) (w % 64), same)
     go (inr e) =
         let d = eqb-false (w / 64) (v / 64) e in
         rw (getD-set-other ws (v / 64) (w / 64) x 0 d, ne-eqb v w (λ z. d (ap (λ (u : ℕ). u / 64) (sym z))))
+
+pub in-take-out : (v w : ℕ) (ws : List ℕ) → v / 64 < length ws → in-set (take-out v ws) w ≡ cond (eqb v w) false (in-set ws w)
+unfolding take-out
+in-take-out v w ws l = in-put false v w ws l
+
+pub in-put-in : (v w : ℕ) (ws : List ℕ) → v / 64 < length ws → in-set (put-in v ws) w ≡ cond (eqb v w) true (in-set ws w)
+unfolding put-in
+in-put-in v w ws l = in-put true v w ws l
+
+pub put-in-mask : (ws : List ℕ) (v : ℕ)
+    → set ws (v / 64) (bitOr (getD ws (v / 64) 0) (1 * 2 ^ (v % 64) % 18446744073709551616)) ≡ put-in v ws
+unfolding put-in
+put-in-mask ws v = rw (mask-value v, put-digit-true (getD ws (v / 64) 0) (v % 64))
+
+pub put-in-past : (ws : List ℕ) (v : ℕ) → length ws ≤ v / 64 → put-in v ws ≡ ws
+unfolding put-in
+put-in-past ws v h = set-out ws (v / 64) (put-digit true (getD ws (v / 64) 0) (v % 64)) h
+
+pub length-put-in : (v : ℕ) (ws : List ℕ) → length (put-in v ws) ≡ length ws
+unfolding put-in
+length-put-in v ws = length-set ws (v / 64) (put-digit true (getD ws (v / 64) 0) (v % 64))
 
 -- ---- the radios of another set, taken out word by word
 
@@ -302,8 +326,86 @@ module _ (x ws : List ℕ) where
         left = λ v. left-out us lw (i .long) (λ j l. i .done j (omega arith)) v ∙ ap (λ (xs : List ℕ). in-set ws v && not (member v xs)) (sym all);
       }
 
--- ---- the radios of a row, put in word by word
+-- ---- the lowest radio that two sets have
 
+-- both have no radio before word k
+abbrev pub Common-search : (x y : List ℕ) → (k : ℕ) → Type 0
+Common-search x y k = (k ≤ 8) × (both-from x y 0 ≡ both-from x y k)
+
+pub common-search-turn : (x y : List ℕ) (k : ℕ) → k < 8 → bitAnd (getD x k 0) (getD y k 0) ≡ 0 → Common-search x y k → Common-search x y (k + 1)
+common-search-turn x y k h z i = (
+  omega arith,
+  i .1
+      ∙ words-from (both x y) k (bitAnd (getD x k 0) (getD y k 0)) h (both-word x y k)
+      ∙ ap (λ (r : List ℕ). r ++ both-from x y (k + 1)) (ap (set-bits 64 (64 * k)) z ∙ set-bits-nothing 64 (64 * k)),
+)
+
+module _ (x y : List ℕ) (lx : length x ≡ 8) (ly : length y ≡ 8) where
+  pub common-search-found : (k : ℕ) → k < 8 → getD x k 0 < 2 ^ 64 → getD y k 0 < 2 ^ 64 → (bitAnd (getD x k 0) (getD y k 0) ≡ 0 → ⊥) → Common-search x y k
+      → 64 * k + trailingZeros 64 (bitAnd (getD x k 0) (getD y k 0)) ≡ head-or max-radios (common x y)
+  unfolding head-or
+  common-search-found k h wx wy some i =
+      let w = bitAnd (getD x k 0) (getD y k 0) in
+      let pos : 0 < w = omega arith in
+      sym
+      (ap (head-or max-radios)
+      (common-filter x y lx ly
+      ∙ i .1
+      ∙ words-from (both x y) k w h (both-word x y k)
+      ∙ ap (λ (r : List ℕ). r ++ both-from x y (k + 1)) (set-bits-lowest 64 (64 * k) w pos (and-lt 64 (getD x k 0) (getD y k 0) wx wy))))
+
+  pub common-search-end : (k : ℕ) → 8 ≤ k → Common-search x y k → max-radios ≡ head-or max-radios (common x y)
+  unfolding head-or
+  common-search-end k h i = sym (ap (head-or max-radios) (common-filter x y lx ly ∙ i .1 ∙ words-end (both x y) k h))
+
+pub common-none : (x y : List ℕ) → common x y ≡ [] → max-radios ≡ head-or max-radios (common x y)
+unfolding head-or
+common-none x y e = sym (ap (head-or max-radios) e)
+
+-- ---- every word of a set changed in turn
+
+module _ (f : ℕ → ℕ → ℕ) (ws : List ℕ) where
+  -- words before word k are changed
+  pub record Changing (k : ℕ) (us : List ℕ) : Type 0 where
+    pub low : k ≤ 8
+    pub long : length us ≡ 8
+    pub done : (j : ℕ) → j < k → getD us j 0 ≡ f j (getD ws j 0)
+    pub same : (j : ℕ) → k ≤ j → getD us j 0 ≡ getD ws j 0
+
+  pub changing-none : length ws ≡ 8 → Changing 0 ws
+  changing-none h = record { low = omega arith; long = h; done = λ j l. absurd (omega arith); same = λ j l. refl }
+
+  pub changing-turn : (k w : ℕ) (us : List ℕ) → k < 8 → w ≡ f k (getD us k 0) → Changing k us → Changing (k + 1) (set us k w)
+  changing-turn k w us l e i = record {
+    low = omega arith;
+    long = length-set us k w ∙ i .long;
+    done = λ j h. done j h (bool-cases (eqb j k));
+    same = λ j h. getD-set-other us k j w 0 (λ z. omega arith) ∙ i .same j (omega arith);
+  }
+    where
+      done : (j : ℕ) → j < k + 1 → (eqb j k ≡ true) ⊎ (eqb j k ≡ false) → getD (set us k w) j 0 ≡ f j (getD ws j 0)
+      done j h (inl z) =
+          let q : j ≡ k = eqb-true j k z in
+          rw q (getD-set-same us k w 0 (omega (arith, i .long)) ∙ e ∙ ap (f k) (i .same k (omega arith)))
+      done j h (inr z) = getD-set-other us k j w 0 (eqb-false j k z) ∙ i .done j (omega (arith, eqb-false j k z))
+
+-- the radios of another set taken out
+pub set-taken-other : (x ws : List ℕ) → ((length x ≡ 8) × (length ws ≡ 8) → ⊥) → Set-taken x ws ws
+set-taken-other x ws h = record { bits = λ lx lw. absurd (h (lx, lw)); other = λ l. refl }
+
+pub set-taken-end : (x ws us : List ℕ) (k : ℕ) → 8 ≤ k → length x ≡ 8 → length ws ≡ 8 → Changing (λ j w. word-left (getD x j 0) w) ws k us → Set-taken x ws us
+unfolding in-set
+set-taken-end x ws us k h lx lw i = record { bits = λ p q w. go w (bool-cases (ltb w max-radios)); other = λ l. absurd (l (lx, lw)) }
+  where
+    go : (w : ℕ) → (ltb w max-radios ≡ true) ⊎ (ltb w max-radios ≡ false) → in-set us w ≡ (in-set ws w && not (in-set x w))
+    go w (inl e) =
+        let l = ltb-true w max-radios e in
+        ap (λ (y : ℕ). digit y (w % 64)) (i .done (w / 64) (omega arith)) ∙ digit-left (getD x (w / 64) 0) (getD ws (w / 64) 0) (w % 64)
+    go w (inr e) =
+        let l = ltb-false w max-radios e in
+        rw (in-set-past us w (omega (arith, i .long)), in-set-past ws w (omega arith))
+
+-- the radios of a row put in
 pub row-joined-other : (ts : List ℕ) (a : ℕ) (ws : List ℕ) → (length ws ≡ 8 → ⊥) → Row-joined ts a ws ws
 row-joined-other ts a ws h = record { bits = λ l. absurd (h l); other = λ l. refl }
 
@@ -316,33 +418,8 @@ row-joined-short ts a ws h = record { bits = λ l w. rw (row-listed-short ts a h
     or-no false = refl
 
 module _ (ts : List ℕ) (a : ℕ) (ws : List ℕ) where
-  -- words before word k are joined with the row's
-  pub record Row-joining (k : ℕ) (us : List ℕ) : Type 0 where
-    pub low : k ≤ 8
-    pub long : length us ≡ 8
-    pub done : (j : ℕ) → j < k → getD us j 0 ≡ bitOr (getD ws j 0) (row-word 8 ts (row-bytes * a + 8 * j))
-    pub same : (j : ℕ) → k ≤ j → getD us j 0 ≡ getD ws j 0
-
-  pub row-joining-none : length ws ≡ 8 → Row-joining 0 ws
-  row-joining-none h = record { low = omega arith; long = h; done = λ j l. absurd (omega arith); same = λ j l. refl }
-
-  pub row-joining-turn : (k w : ℕ) (us : List ℕ) → k < 8 → w ≡ row-word 8 ts (row-bytes * a + 8 * k) → Row-joining k us
-      → Row-joining (k + 1) (set us k (bitOr (getD us k 0) w))
-  row-joining-turn k w us l e i = record {
-    low = omega arith;
-    long = length-set us k (bitOr (getD us k 0) w) ∙ i .long;
-    done = λ j h. done j h (bool-cases (eqb j k));
-    same = λ j h. getD-set-other us k j (bitOr (getD us k 0) w) 0 (λ z. omega arith) ∙ i .same j (omega arith);
-  }
-    where
-      done : (j : ℕ) → j < k + 1 → (eqb j k ≡ true) ⊎ (eqb j k ≡ false)
-          → getD (set us k (bitOr (getD us k 0) w)) j 0 ≡ bitOr (getD ws j 0) (row-word 8 ts (row-bytes * a + 8 * j))
-      done j h (inl z) =
-          let q : j ≡ k = eqb-true j k z in
-          rw (q, getD-set-same us k (bitOr (getD us k 0) w) 0 (omega (arith, i .long)), e, i .same k (omega arith))
-      done j h (inr z) =
-          let q = eqb-false j k z in
-          getD-set-other us k j (bitOr (getD us k 0) w) 0 q ∙ i .done j (omega arith)
+  abbrev pub Row-joining : (k : ℕ) → (us : List ℕ) → Type 0
+  Row-joining k us = Changing (λ j w. bitOr w (row-word 8 ts (row-bytes * a + 8 * j))) ws k us
 
   pub row-joining-end : ((j : ℕ) → getD ts j 0 < 256) → (k : ℕ) (us : List ℕ) → 8 ≤ k → row-bytes * a + row-bytes ≤ length ts → length ws ≡ 8
       → Row-joining k us → Row-joined ts a ws us

@@ -1,16 +1,18 @@
 -- Sets of radios as eight words of 64 bits: radio v is bit v % 64 of word v / 64.
 --   in-set ws v            v is in the set ws
 --   take-out v ws          the set without v
+--   put-in v ws            the set with v
 --   Row-joined             the radios that row a of the links table ts marks put into a set
 --   word-left x w          the word w without the bits that the word x has
 --   word-taken k x ws      the set ws with its word k without these bits
 --   common x y             the radios that the sets x and y both have, ascending; none where one is not eight words
 --   Common-taken           these listed, and taken out of the second set
+--   Set-taken              the radios of another set taken out of a set
 --   gone x y               the radios that one of the sets x and y has and the other not, ascending; none where one is not eight words
 --   Gone-listed            these listed
 -- Laws are in proofs/SetLaws.antt. Definitions only.
 use mathlib.Core.Path.{_≡_}
-use mathlib.Core.Bool.{Bool, false, _&&_, _||_, not, cond}
+use mathlib.Core.Bool.{Bool, true, false, _&&_, _||_, not, cond}
 use mathlib.Core.List.{List, []}
 use Prim.Native.Nat.{ℕ, _/_, _%_, min}
 use lib.Bits.{bitAnd, bitXor}
@@ -26,6 +28,9 @@ in-set ws v = digit (getD ws (v / 64) 0) (v % 64)
 
 unfoldable pub take-out : (v : ℕ) → (words : List ℕ) → List ℕ
 take-out v ws = set ws (v / 64) (put-digit false (getD ws (v / 64) 0) (v % 64))
+
+unfoldable pub put-in : (v : ℕ) → (words : List ℕ) → List ℕ
+put-in v ws = set ws (v / 64) (put-digit true (getD ws (v / 64) 0) (v % 64))
 
 -- ws before, us after
 pub record Row-joined (ts : List ℕ) (a : ℕ) (ws us : List ℕ) : Type 0 where
@@ -46,6 +51,11 @@ pub record Common-taken (x ws list : List ℕ) (r : ℕ) (us new : List ℕ) : T
   pub counted : r ≡ min (length list) (length (common x ws))
   pub listed : new ≡ overwrite (take (length list) (common x ws)) list
   pub left : (w : ℕ) → in-set us w ≡ (in-set ws w && not (member w (common x ws)))
+
+-- ws before, us after
+pub record Set-taken (x ws us : List ℕ) : Type 0 where
+  pub bits : length x ≡ 8 → length ws ≡ 8 → (w : ℕ) → in-set us w ≡ (in-set ws w && not (in-set x w))
+  pub other : ((length x ≡ 8) × (length ws ≡ 8) → ⊥) → us ≡ ws
 
 unfoldable pub in-one : (x y : List ℕ) → (v : ℕ) → Bool
 in-one x y v = cond (in-set x v) (not (in-set y v)) (in-set y v)

@@ -1,11 +1,13 @@
-// Sets of radios as eight words, a bit for each radio: tested, taken out of, joined with rows, and listed.
+// Sets of radios as eight words, a bit for each radio: tested, put into, taken out of, joined with rows, compared and listed.
 ghost use mathlib.Core.Path.{_≡_};
 ghost use Prim.Native.Nat.{_+_, _*_, _≤_, _<_, min};
 ghost use lib.ListN.{length, getD};
 ghost use lib.Bits.{bitAnd};
 ghost use lib.Seq.{sets};
+ghost use Rattle.mesh.specs.Limits.{max-radios};
+ghost use Rattle.lists.specs.Lists.{head-or};
 ghost use Rattle.rows.specs.Rows.{set-bits};
-ghost use Rattle.rows.specs.Sets.{in-set, take-out, word-taken, Row-joined, Common-taken, Gone-listed};
+ghost use Rattle.rows.specs.Sets.{in-set, take-out, put-in, word-taken, Row-joined, common, Common-taken, Set-taken, Gone-listed};
 
 // Whether v is in the set; past its words it is not.
 pub fn is_in(set: &[u64], v: u32) -> bool
@@ -26,6 +28,16 @@ pub fn take_out(set: &mut [u64], v: u32)
     let at = (v / crate::WORD_BITS) as usize;
     if at < set.len() {
         set[at] &= !((1 as u64) << (v % crate::WORD_BITS));
+    }
+}
+
+// Puts v into the set; past its words nothing changes.
+pub fn put_in(set: &mut [u64], v: u32)
+    ensures { λ _. ⌜ now (set .exit) ≡ put-in v (now (set .entry)) ⌝ }
+{
+    let at = (v / crate::WORD_BITS) as usize;
+    if at < set.len() {
+        set[at] |= (1 as u64) << (v % crate::WORD_BITS);
     }
 }
 
@@ -87,6 +99,44 @@ pub fn take_common(other: &[u64], set: &mut [u64], list: &mut [u16]) -> usize
         k += 1;
     }
     n
+}
+
+// Takes the radios that the other set has too out of the set. Where one of the sets is not eight words nothing changes.
+pub fn take_set(other: &[u64], set: &mut [u64])
+    ensures { λ _. ⌜ Set-taken (now (other .entry)) (now (set .entry)) (now (set .exit)) ⌝ }
+{
+    if other.len() != crate::ROW_WORDS as usize {
+        return;
+    }
+    if set.len() != crate::ROW_WORDS as usize {
+        return;
+    }
+    let mut k: usize = 0;
+    while k < crate::ROW_WORDS as usize {
+        set[k] = set[k] ^ (other[k] & set[k]);
+        k += 1;
+    }
+}
+
+// The lowest radio that both sets have; where there is none, or one of them is not eight words, the most radios that a site may have.
+pub fn first_common<'a>(one: &'a [u64], other: &'a [u64]) -> u32
+    ensures { λ r. ⌜ r ≡ head-or max-radios (common (now (one .entry)) (now (other .entry))) ⌝ }
+{
+    if one.len() != crate::ROW_WORDS as usize {
+        return mesh::Site::RADIOS;
+    }
+    if other.len() != crate::ROW_WORDS as usize {
+        return mesh::Site::RADIOS;
+    }
+    let mut k: u32 = 0;
+    while k < crate::ROW_WORDS {
+        let word = one[k as usize] & other[k as usize];
+        if word != 0 {
+            return crate::WORD_BITS * k + u64::trailing_zeros(word);
+        }
+        k += 1;
+    }
+    mesh::Site::RADIOS
 }
 
 // Writes the radios that one of two sets has and the other not into the list, ascending, as many as fit, and comes back with how

@@ -226,12 +226,3 @@ growing-end g k c old s h a = record {
   front = a .front ∙ ap₂ (λ xs ys. with-front xs ys old) (nodes-before-end g k h)
       (map-range-ext (present g k (g .n)) (present g (suc k) 0) 0 (g .n) (λ w m l. present-end g k w h (omega arith) ∙ sym (present-start g (suc k) w)));
 }
-
--- a level that no radio has
-growing-none : (g : Graph) (k v c : ℕ) (old s : Lists) → 1 ≤ k → v ≤ g .n → ((w : ℕ) → w < g .n → own g k w ≡ false) → Growing g k 0 old s c → Growing g k v old s c
-growing-none g k zero c old s h l none a = a
-growing-none g k (suc v) c old s h l none a = growing-passed g k v l h old s c (none v l) (growing-none g k v c old s h (omega arith) none a)
-
-pub growing-over : (g : Graph) (k c : ℕ) (old s : Lists) → 1 ≤ k → ((w : ℕ) → w < g .n → number g w ≡ k → ⊥) → Growing g k 0 old s c → Growing g (suc k) 0 old s c
-unfolding own
-growing-over g k c old s h none a = growing-end g k c old s h (growing-none g k (g .n) c old s h (omega arith) (λ w l. rw (ne-eqb (number g w) k (none w l))) a)

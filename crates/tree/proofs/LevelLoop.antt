@@ -1,25 +1,24 @@
 -- One level as a loop over the radios: what its invariant says, and what it says at the end.
-use mathlib.Core.Path.{_≡_, refl, sym, ap, _∙_}
+use mathlib.Core.Path.{_≡_, refl, _∙_}
 use mathlib.Core.Logic.{_⊎_, inl, inr}
-use mathlib.Core.Bool.{Bool, true, false, _||_}
-use mathlib.Core.List.{List, [], _∷_}
-use Prim.Native.Nat.{ℕ, suc, _+_, _≤_, _<_}
+use mathlib.Core.Bool.{true, false}
+use mathlib.Core.List.{List}
+use Prim.Native.Nat.{ℕ, zero, suc, _+_, _-_, _≤_, _<_, min}
 use native.Mathlib.Omega.{arith}
 use native.Mathlib.Numerals.{add-one}
-use lib.ListN.{length, getD, drop}
-use lib.Dec.{eqb}
-use lib.Seq.{drop-cons, drop-length}
+use lib.ListN.{length}
 use Rattle.mesh.specs.Limits.{max-radios}
-use Rattle.mesh.specs.Cores.{number}
-use Rattle.lists.specs.Lists.{member}
 use Rattle.mesh.specs.Tables.{tables, graph-in}
-use Rattle.lists.proofs.Tests.{bool-cases, never}
-use Rattle.lists.proofs.Member.{in-member, in-getD}
+use Rattle.lists.proofs.Tests.{bool-cases}
 use Rattle.soundness.specs.Checks.{fits-sound}
-use Rattle.soundness.proofs.SoundSite.{fits-sound-site, number-entry}
-use Rattle.tree.specs.Trees.{Lists, Room, takes-node, Visited, Growing, Marks, Levelled}
+use Rattle.soundness.proofs.SoundSite.{fits-sound-site}
+use Rattle.lists.specs.Lists.{head-or}
+use Rattle.rows.specs.Sets.{common}
+use Rattle.tree.specs.Trees.{Lists, Room, takes-node, Visited, Shell-set, Growing, Marks, Levelled}
 use Rattle.floods.specs.Floods.{Level-set}
-use Rattle.tree.proofs.GrowLaws.{visited-next, marks-start, growing-end, growing-over}
+use Rattle.tree.proofs.GrowLaws.{visited-next, marks-start, growing-end}
+use Rattle.tree.proofs.ShellSets.{takes-none, later}
+use Rattle.tree.proofs.VisitSteps.{takes-node-false}
 
 -- the count grows by one at most
 pub visited-count : (ts ns : List ℕ) (k v : ℕ) (s q : List ℕ) (before : Lists) (c : ℕ) (t : List ℕ) (after : Lists) (r : ℕ)
@@ -82,52 +81,56 @@ levelling-turn ts ns k s₀ q₀ before c₀ v s q now c t p after r positive sp
         rw (add-one v) (visited-next (length ns) (tables ts ns order) (fits-sound-site (length ns) (tables ts ns order) e) k v l positive s q old now after c r t room
         (omega (arith, a .queue-long)) (m .0) st (m .1) h)
 
-pub levelling-end : (ts ns : List ℕ) (k : ℕ) (s s₀ q₀ : List ℕ) (before : Lists) (c₀ v : ℕ) (t q : List ℕ) (after : Lists) (c : ℕ)
-    → 1 ≤ k → length s ≡ 8 → length s₀ ≡ 8 → Level-set ns k s s₀ → length ns ≤ v
-    → Levelling ts ns k s₀ q₀ before c₀ v t q after c → Levelled ts ns k before c₀ after c
+-- radios that bring no node are passed over
+pub levelling-over : (ts ns : List ℕ) (k : ℕ) (s₀ q₀ : List ℕ) (before : Lists) (c₀ v m : ℕ) (s q : List ℕ) (now : Lists) (c : ℕ) → 1 ≤ k → max-radios ≤ length q₀
+    → v + m ≤ length ns → ((u : ℕ) → u < length ns → u < v + m → takes-node ns k s u ≡ false)
+    → Levelling ts ns k s₀ q₀ before c₀ v s q now c → Levelling ts ns k s₀ q₀ before c₀ (v + m) s q now c
+levelling-over ts ns k s₀ q₀ before c₀ v zero s q now c positive space l none a = let e : v + 0 ≡ v = omega arith in rw e a
+levelling-over ts ns k s₀ q₀ before c₀ v (suc m) s q now c positive space l none a =
+    let w = v + m in
+    let e : w + 1 ≡ v + suc m = omega arith in
+    let so-far = levelling-over ts ns k s₀ q₀ before c₀ v m s q now c positive space (omega arith) (λ u h b. none u h (omega arith)) a in
+    rw e at (levelling-turn ts ns k s₀ q₀ before c₀ w s q now c s q now c positive space (omega arith) refl refl
+    (record { names = refl; levels = refl; parents = refl; answer = refl })
+    (takes-node-false ts ns k w s q now c (none w (omega arith) (omega arith))) so-far)
+
+-- as far as the lowest radio of the level that the set still has
+pub levelling-to : (ts ns : List ℕ) (k : ℕ) (s₀ q₀ : List ℕ) (before : Lists) (c₀ v w : ℕ) (s q : List ℕ) (now : Lists) (c : ℕ) → 1 ≤ k → max-radios ≤ length q₀
+    → v ≤ length ns → v ≤ w → ((u : ℕ) → u < length ns → u < w → takes-node ns k s u ≡ false)
+    → Levelling ts ns k s₀ q₀ before c₀ v s q now c → Levelling ts ns k s₀ q₀ before c₀ (min w (length ns)) s q now c
+levelling-to ts ns k s₀ q₀ before c₀ v w s q now c positive space l b none a =
+    let m = min w (length ns) - v in
+    let e : v + m ≡ min w (length ns) = omega arith in
+    rw e at (levelling-over ts ns k s₀ q₀ before c₀ v m s q now c positive space (omega arith) (λ u h r. none u h (omega arith)) a)
+
+-- the lowest radio of the level that the set has, and then the next one
+module _ (ts ns : List ℕ) (k : ℕ) (shell : List ℕ) (own : Shell-set ns k shell) (s₀ q₀ : List ℕ) (before : Lists) (c₀ v : ℕ) (s q : List ℕ) (now : Lists) (c : ℕ)
+    (positive : 1 ≤ k) (space : max-radios ≤ length q₀) (words : length s₀ ≡ 8) (small : length ns ≤ max-radios) (radio : v < length ns)
+    (lowest : v ≡ head-or max-radios (common shell s)) (a : Levelling ts ns k s₀ q₀ before c₀ (min v (length ns)) s q now c) where
+  here : Levelling ts ns k s₀ q₀ before c₀ v s q now c
+  here = let e : min v (length ns) ≡ v = omega arith in rw e at a
+
+  long : length s ≡ 8
+  long = here .set-long ∙ words
+
+  module _ (t : List ℕ) (after : Lists) (r w : ℕ) (st : length t ≡ length s) (h : Visited ts ns k v s q now c t after r)
+      (e : w ≡ head-or max-radios (common shell t)) where
+    pub levelling-later : v < w
+    levelling-later = omega (arith, e, later ts ns k shell own s long v lowest radio small q (omega (arith, here .queue-long)) now c t after r st h)
+
+    pub levelling-next : (p : List ℕ) → length p ≡ length q → Same-lengths now after → Levelling ts ns k s₀ q₀ before c₀ (min w (length ns)) t p after r
+    levelling-next p qt same =
+        levelling-to ts ns k s₀ q₀ before c₀ (v + 1) w t p after r positive space (omega arith) (omega (arith, levelling-later))
+        (takes-none ts ns k shell own t (st ∙ long) w e)
+        (levelling-turn ts ns k s₀ q₀ before c₀ v s q now c t p after r positive space radio st qt same h here)
+
+pub levelling-end : (ts ns : List ℕ) (k : ℕ) (s₀ q₀ : List ℕ) (before : Lists) (c₀ v : ℕ) (t q : List ℕ) (after : Lists) (c : ℕ)
+    → 1 ≤ k → length s₀ ≡ 8 → Level-set ns k s₀ s₀ → length ns ≤ v
+    → Levelling ts ns k s₀ q₀ before c₀ (min v (length ns)) t q after c → Levelled ts ns k before c₀ after c
 unfolding Levelled graph-in
-levelling-end ts ns k s s₀ q₀ before c₀ v t q after c positive long words level l a order e old room grown =
+levelling-end ts ns k s₀ q₀ before c₀ v t q after c positive words level l a order e old room grown =
     let g = graph-in (length ns) ts in
-    let all : v ≡ length ns = omega (arith, a .within) in
-    let start : Marks g k 0 s₀ = marks-start (length ns) (tables ts ns order) (fits-sound-site (length ns) (tables ts ns order) e) k s s₀ long words level in
+    let all : min v (length ns) ≡ length ns = omega arith in
+    let start : Marks g k 0 s₀ = marks-start (length ns) (tables ts ns order) (fits-sound-site (length ns) (tables ts ns order) e) k s₀ s₀ words words level in
     let last : Growing g k (length ns) old after c = rw all at (a .right order e old room start grown .1) in
     rw (add-one k) (growing-end g k c old after positive last)
-
--- ---- whether a radio has the level
-
--- the numbers before radio v are compared
-abbrev pub Comparing : (numbers : List ℕ) → (level : ℕ) → (found : Bool) → (v : ℕ) → Type 0
-Comparing ns k found v = (v ≤ length ns) × ((found || member k (drop v ns)) ≡ member k ns)
-
-pub comparing-turn : (ns : List ℕ) (k : ℕ) (found : Bool) (v : ℕ) → v < length ns → Comparing ns k found v
-    → Comparing ns k (found || eqb (getD ns v 0) k) (v + 1)
-unfolding member
-comparing-turn ns k found v l h = (
-  omega arith,
-  rw (add-one v) (either found (eqb (getD ns v 0) k) (member k (drop (suc v) ns)) ∙ ap (λ (xs : List ℕ). found || member k xs) (sym (drop-cons ns v 0 l)) ∙ h .1),
-)
-  where
-    either : (a b c : Bool) → ((a || b) || c) ≡ (a || (b || c))
-    either true b c = refl
-    either false b c = refl
-
-pub comparing-end : (ns : List ℕ) (k : ℕ) (found : Bool) (v : ℕ) → length ns ≤ v → Comparing ns k found v → found ≡ member k ns
-unfolding member
-comparing-end ns k found v l h =
-    let all : v ≡ length ns = omega (arith, h .0) in
-    let none : drop v ns ≡ [] = rw all (drop-length ns) in or-no found ∙ ap (λ (xs : List ℕ). found || member k xs) (sym none) ∙ h .1
-  where
-    or-no : (b : Bool) → b ≡ (b || false)
-    or-no true = refl
-    or-no false = refl
-
--- a level that no radio has
-pub levelled-none : (ts ns : List ℕ) (k : ℕ) (before : Lists) (c : ℕ) → 1 ≤ k → member k ns ≡ false → Levelled ts ns k before c before c
-unfolding Levelled graph-in
-levelled-none ts ns k before c positive nobody order e old room grown =
-    rw (add-one k) (growing-over (graph-in (length ns) ts) k c old before positive none grown)
-  where
-    none : (w : ℕ) → w < length ns → number (graph-in (length ns) ts) w ≡ k → ⊥
-    none w l q =
-        let entry : getD ns w 0 ≡ k = number-entry (length ns) (tables ts ns order) (fits-sound-site (length ns) (tables ts ns order) e) w l ∙ q in
-        never (member k ns) (in-member k ns (rw entry at (in-getD ns w l))) nobody

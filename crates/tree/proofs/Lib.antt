@@ -1,6 +1,8 @@
 -- Laws of the shell tree's code.
 -- loops over one table
 pub mod NodeWrites
+-- radios sorted by their numbers
+pub mod ShellSets
 -- names and nodes, level by level
 pub mod ShellCover
 pub mod NodeLists

@@ -1,25 +1,29 @@
 -- All levels as a loop: the root first, then level by level to the greatest number, and what the lists hold at the end.
 use mathlib.Core.Path.{_≡_, refl, sym, ap, ap₂, _∙_}
-use mathlib.Core.Bool.{true}
+use mathlib.Core.Bool.{true, _&&_}
 use mathlib.Core.List.{List, [], _∷_, map}
 use Prim.Native.Nat.{ℕ, suc, _+_, _*_, _≤_, _<_, min}
 use native.Mathlib.Omega.{arith}
 use native.Mathlib.Numerals.{add-one}
 use lib.ListN.{length, set, replicate}
-use Rattle.mesh.specs.Limits.{max-radios}
+use Rattle.mesh.specs.Limits.{max-radios, max-neighbours}
 use Rattle.lists.specs.Lists.{overwrite}
 use Rattle.mesh.specs.Graph.{Graph, radios}
 use Rattle.mesh.specs.Cores.{number}
-use Rattle.mesh.specs.Tables.{tables, graph-in}
+use Rattle.mesh.specs.Tables.{Tables, tables, graph-in}
+use Rattle.mesh.specs.Sound.{sound}
+use Rattle.calls.specs.Questions.{size-good, site-lengths, lengths-of}
+use Rattle.lists.proofs.Tests.{and-right}
 use Rattle.mesh.specs.Connected.{greatest}
 use Rattle.mesh.specs.Tree.{root-name, root, node-name, parent-name, node-names}
 use Rattle.mesh.proofs.Trees.Laws.{number-le-n}
 use Rattle.mesh.proofs.Trees.ShellNames.{node-name-parent}
 use Rattle.mesh.proofs.Trees.Listed.{getD-le-greatest, greatest-le}
+use Rattle.calls.proofs.SheetLaws.{numbers-two-digits}
 use Rattle.soundness.specs.Checks.{fits-sound}
 use Rattle.lists.proofs.Map.{map-range-constant, map-range-ext}
 use Rattle.soundness.proofs.SoundSite.{fits-sound-site, number-entry}
-use Rattle.tree.specs.Trees.{Lists, with-front, Room, name-before, present, Growing, Levelled, Tree-written, Grown}
+use Rattle.tree.specs.Trees.{Lists, with-front, Room, name-before, present, Growing, Levelled, Treed, Tree-written, Grown}
 use Rattle.tree.proofs.ShellCover.{present-start}
 use Rattle.lists.proofs.Overwrite.{set-overwrite}
 use Rattle.tree.proofs.NodeLists.{nodes-before-start, nodes-before-tree}
@@ -106,16 +110,27 @@ treeing-turn ts ns before c₀ k now c after r same few h a = record {
   right = λ order e old room grown. h order e old room (a .right order e old room grown);
 }
 
-pub treeing-end : (ts ns : List ℕ) (old before : Lists) (top k : ℕ) (after : Lists) (c : ℕ) → top ≡ greatest ns → k ≡ top + 1
+pub treeing-end : (ts ns : List ℕ) (before : Lists) (top k : ℕ) (after : Lists) (c : ℕ) → k ≡ top + 1 → Treeing ts ns before 1 k after c
+    → Treed ts ns top before after c
+unfolding Treed
+treeing-end ts ns before top k after c e a order h old room grown = rw e at (a .right order h old room grown)
+
+is-sound : (n : ℕ) (t : Tables) → fits-sound n t ≡ true → sound n t ≡ true
+unfolding fits-sound
+is-sound n t h = and-right (site-lengths n (lengths-of t)) (sound n t) (and-right (size-good n) (site-lengths n (lengths-of t) && sound n t) h)
+
+-- on sound tables no number is above the most neighbours
+pub grown-all : (ts ns : List ℕ) (old before : Lists) (high top : ℕ) (after : Lists) (c : ℕ) → length ns ≤ max-radios → high ≡ greatest ns → top ≡ min high max-neighbours
     → before .names ≡ set (old .names) 0 root-name → before .levels ≡ set (old .levels) 0 0 → before .parents ≡ set (old .parents) 0 root-name
     → before .answer ≡ overwrite (replicate (min (length ns) (length (old .answer))) root-name) (old .answer)
-    → Treeing ts ns before 1 k after c → Grown ts ns old c after
-unfolding Grown graph-in
-treeing-end ts ns old before top k after c e q names levels parents answer a order h room =
+    → Treed ts ns top before after c → Grown ts ns old c after
+unfolding Grown Treed graph-in
+grown-all ts ns old before high top after c small e m names levels parents answer a order h room =
     let g = graph-in (length ns) ts in
     let site = fits-sound-site (length ns) (tables ts ns order) h in
     let start = growing-start g old before (length ns) room refl names levels parents answer in
-    let last : Growing g (suc top) 0 old after c = rw (q ∙ add-one top) at (a .right order h old room start) in
+    let last : Growing g (suc top) 0 old after c = rw (add-one top) at (a order h old room start) in
+    let most : greatest ns ≤ max-neighbours = greatest-le ns max-neighbours (λ v l. numbers-two-digits (length ns) (tables ts ns order) refl (is-sound (length ns) (tables ts ns order) h) small v l) in
     growing-last g top c old after
     (omega (arith, greatest-le ns (length ns) (λ v l. omega (arith, number-entry (length ns) (tables ts ns order) site v l, number-le-n g v))))
     (λ w l. omega (arith, number-entry (length ns) (tables ts ns order) site w l, getD-le-greatest ns w l)) last

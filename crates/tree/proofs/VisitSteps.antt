@@ -10,7 +10,8 @@ use Rattle.lists.proofs.Tests.{never}
 use Rattle.tree.specs.Trees.{Lists, lists, Core-named, takes-node, Visited}
 
 module _ (ts ns : List ℕ) (k v : ℕ) (s q : List ℕ) (old : Lists) (c : ℕ) where
-  takes-node-false : takes-node ns k s v ≡ false → Visited ts ns k v s q old c s old c
+  -- nothing for v
+  pub takes-node-false : takes-node ns k s v ≡ false → Visited ts ns k v s q old c s old c
   takes-node-false h = record { taken = λ e. never _ e h; passed = λ e. record { set = refl; lists = refl; counted = refl } }
 
   -- another number

@@ -4,22 +4,26 @@
 --   entries-set x ws t      the table t with x at each place that ws lists
 --   Core-named              a flood from v, and v written for each radio that came in
 --   takes-node, Visited     radio v at level k: a node where it has number k and is in the set, else nothing
+--   has-number ns k x       x is a radio with number k
+--   Shells-put, Shell-set   all radios sorted by their numbers, and the radios with number k as a set
+--   Level-ready, Levels-ready  what one level, and all of them, want of tables, sets and lengths
 --   own g k v               v has number k and names its own node
 --   covered g k v w         the connected core of w at level k has a radio of number k below v
 --   name-before g k w       the name that w has before level k: of its nearest node below k
 --   present g k v w         the name that w has at level k before v
 --   nodes-before g k v      the root and the nodes that come before v at level k
 --   Growing                 the lists hold these nodes and names in front
---   Levelled, Grown         what one level, and all of them, leave for sound tables
+--   Levelled, Treed, Grown  what one level, all of them, and these with the root leave for sound tables
 --   Tables-contract         document 01: the shell tree, its nodes as three tables
 -- Definitions only.
 use mathlib.Core.Path.{_≡_}
-use mathlib.Core.Bool.{Bool, true, false, _&&_, not, cond}
+use mathlib.Core.Bool.{Bool, true, false, _&&_, _||_, not, cond}
 use mathlib.Core.List.{List, [], _∷_, _++_, map, flatMap}
-use Prim.Native.Nat.{ℕ, zero, suc, _+_, _≤_, _<_, min}
+use Prim.Native.Nat.{ℕ, zero, suc, _+_, _*_, _/_, _%_, _≤_, _<_, min}
 use lib.Dec.{ltb, leb, eqb}
 use lib.ListN.{length, getD, take, set}
 use Rattle.lists.specs.Lists.{folded, range, filter, head-or, overwrite}
+use Rattle.mesh.specs.Limits.{max-radios, max-neighbours}
 use Rattle.mesh.specs.Graph.{Graph, radios}
 use Rattle.mesh.specs.Cores.{number}
 use Rattle.mesh.specs.Tables.{Tables, tables, graph-in}
@@ -30,7 +34,7 @@ use Rattle.calls.specs.Questions.{By-number, lengths-of, tree-refusal}
 use Rattle.calls.specs.declared.Value.{Value}
 use Rattle.rows.specs.Sets.{in-set}
 use Rattle.soundness.specs.Checks.{fits-sound}
-use Rattle.floods.specs.Floods.{Flooded}
+use Rattle.floods.specs.Floods.{Level-set, Flooded}
 
 pub record Lists : Type 0 where
   pub names : List ℕ
@@ -89,6 +93,37 @@ pub record Visited (ts ns : List ℕ) (k v : ℕ) (s q : List ℕ) (old : Lists)
   pub taken : takes-node ns k s v ≡ true → Node-taken ts ns k v s q old c t new r
   pub passed : takes-node ns k s v ≡ false → Nothing-taken s old c t new r
 
+-- ---- the radios of a level
+
+unfoldable pub has-number : (numbers : List ℕ) → (k x : ℕ) → Bool
+has-number ns k x = ltb x (length ns) && eqb (getD ns x 0) k
+
+-- ws before, us after: of 512 bits for each number, bit x of number k
+pub record Shells-put (ns ws us : List ℕ) : Type 0 where
+  pub bits : (u : ℕ) → u / 64 < length ws → in-set us u ≡ (in-set ws u || has-number ns (u / max-radios) (u % max-radios))
+
+pub record Shell-set (ns : List ℕ) (k : ℕ) (ws : List ℕ) : Type 0 where
+  pub long : length ws ≡ 8
+  pub bits : (x : ℕ) → in-set ws x ≡ has-number ns k x
+
+-- `queue` and `answer` are lengths
+pub record Level-ready (ns : List ℕ) (k : ℕ) (shell set : List ℕ) (queue answer count : ℕ) : Type 0 where
+  pub small : length ns ≤ max-radios
+  pub named : length ns ≤ answer
+  pub positive : 1 ≤ k
+  pub words : length set ≡ 8
+  pub level : Level-set ns k set set
+  pub own : Shell-set ns k shell
+  pub room : max-radios ≤ queue
+  pub few : count ≤ max-radios * k
+
+pub record Levels-ready (ns : List ℕ) (top : ℕ) (shells : List ℕ) (answer : ℕ) : Type 0 where
+  pub small : length ns ≤ max-radios
+  pub named : length ns ≤ answer
+  pub low : top ≤ max-neighbours
+  pub long : length shells ≡ 8 * (max-neighbours + 1)
+  pub bits : (u : ℕ) → u / 64 < length shells → in-set shells u ≡ has-number ns (u / max-radios) (u % max-radios)
+
 -- ---- the tree on its way
 
 unfoldable pub own : Graph → (k v : ℕ) → Bool
@@ -128,6 +163,12 @@ unfoldable pub Levelled : (links numbers : List ℕ) → (k : ℕ) → (before :
 Levelled ts ns k s c t r =
     let g = graph-in (length ns) ts in
     (order : List ℕ) → fits-sound (length ns) (tables ts ns order) ≡ true → (old : Lists) → Room (length ns) old → Growing g k 0 old s c → Growing g (k + 1) 0 old t r
+
+-- all levels to the top, where the lists hold the root alone
+unfoldable pub Treed : (links numbers : List ℕ) → (top : ℕ) → (before after : Lists) → (r : ℕ) → Type 0
+Treed ts ns top s t r =
+    let g = graph-in (length ns) ts in
+    (order : List ℕ) → fits-sound (length ns) (tables ts ns order) ≡ true → (old : Lists) → Room (length ns) old → Growing g 1 0 old s 1 → Growing g (top + 1) 0 old t r
 
 -- the whole tree in front
 pub record Tree-written (g : Graph) (before : Lists) (r : ℕ) (after : Lists) : Type 0 where

@@ -4,15 +4,17 @@ ghost use mathlib.Core.Bool.{_&&_};
 ghost use Prim.Native.Nat.{_+_, _*_, _≤_, _<_};
 ghost use lib.ListN.{length};
 ghost use Rattle.mesh.specs.Limits.{max-radios};
-ghost use Rattle.lists.specs.Lists.{member};
 ghost use Rattle.mesh.specs.Tables.{lent};
 ghost use Rattle.calls.specs.Questions.{nodes-length, answer-length};
-ghost use Rattle.tree.specs.Trees.{lists, Visited, Levelled, Grown, Tables-contract};
+ghost use Rattle.tree.specs.Trees.{lists, Visited, Shells-put, Level-ready, Levels-ready, Levelled, Treed, Grown, Tables-contract};
 use calls::Value;
 use mesh::Site;
 
 // The root's name, and its parent.
 const ROOT: u16 = 65535;
+
+// The words of a level's set.
+const SHELL: usize = Site::ROW_BYTES / 8;
 
 // Radio v at a level: where it has the level's number and is in the set, a node comes behind the first `count` of the three tables,
 // with the name that v had as parent; the core of v leaves the set, and v is the name of its radios in the answer table. Else nothing
@@ -54,26 +56,27 @@ fn visit<'a>(
     count + 1
 }
 
-// Whether a radio has this number. Every number is compared, so that the compiler takes many at a time.
-fn has_level(numbers: &[u8], level: u8) -> bool
-    ensures { λ r. ⌜ r ≡ member level (now (numbers .entry)) ⌝ }
+// Puts each radio into the set of its number: the radios with number k are the eight words from word 8 * k on. A number past the words
+// changes nothing.
+fn put_shells(numbers: &[u8], shells: &mut [u64])
+    requires { ⌜ length (now numbers) ≤ max-radios ⌝ }
+    ensures { λ _. ⌜ Shells-put (now (numbers .entry)) (now (shells .entry)) (now (shells .exit)) ⌝ }
 {
-    let mut found = false;
     let mut v: usize = 0;
     while v < numbers.len() {
-        found = found | (numbers[v] == level);
+        rows::sets::put_in(shells, Site::RADIOS * numbers[v] as u32 + v as u32);
         v += 1;
     }
-    found
 }
 
-// One level: each radio in turn, with a set that starts as the radios of the level and of higher ones. The three tables and
-// the answer table hold the nodes and the names with this level after, where they held these without it. Comes back with the count
-// after. The set and the queue hold anything.
+// One level: each of its radios in turn that is still in the set, which starts as the radios of the level and of higher ones; `shell`
+// has the radios of the level. The three tables and the answer table hold the nodes and the names with this level after, where they
+// held these without it. Comes back with the count after. The set and the queue hold anything.
 fn take_level<'a>(
     links: &'a [u8],
     numbers: &'a [u8],
     level: u8,
+    shell: &'a [u64],
     set: &mut [u64],
     queue: &mut [u16],
     names: &mut [u16],
@@ -82,19 +85,14 @@ fn take_level<'a>(
     answer: &mut [u16],
     count: u32,
 ) -> u32
-    requires { ⌜ (length (now numbers) ≤ max-radios) × (length (now numbers) ≤ length (now answer)) × (1 ≤ level) ×
-        (length (now set) ≡ 8) × (max-radios ≤ length (now queue)) × (count ≤ max-radios * level) ⌝ }
+    requires { ⌜ Level-ready (now numbers) level (now shell) (now set) (length (now queue)) (length (now answer)) count ⌝ }
     ensures few { λ r. ⌜ r ≤ max-radios * (level + 1) ⌝ }
     ensures levelled { λ r. ⌜ Levelled (now (links .entry)) (now (numbers .entry)) level
         (lists (now (names .entry)) (now (levels .entry)) (now (parents .entry)) (now (answer .entry))) count
         (lists (now (names .exit)) (now (levels .exit)) (now (parents .exit)) (now (answer .exit))) r ⌝ }
 {
-    if !has_level(numbers, level) {
-        return count;
-    }
-    floods::level::at_least(numbers, level, set);
     let mut c = count;
-    let mut v: usize = 0;
+    let mut v = rows::sets::first_common(shell, set) as usize;
     while v < numbers.len() {
         c = visit(
             links,
@@ -109,9 +107,54 @@ fn take_level<'a>(
             answer,
             c,
         );
-        v += 1;
+        v = rows::sets::first_common(shell, set) as usize;
     }
     c
+}
+
+// All levels to the top, where the lists hold the root alone before: the three tables and the answer table hold the tree after. Comes
+// back with the count of nodes.
+fn take_levels<'a>(
+    links: &'a [u8],
+    numbers: &'a [u8],
+    top: usize,
+    shells: &'a [u64],
+    names: &mut [u16],
+    levels: &mut [u16],
+    parents: &mut [u16],
+    answer: &mut [u16],
+) -> u32
+    requires { ⌜ Levels-ready (now numbers) top (now shells) (length (now answer)) ⌝ }
+    ensures { λ r. ⌜ Treed (now (links .entry)) (now (numbers .entry)) top
+        (lists (now (names .entry)) (now (levels .entry)) (now (parents .entry)) (now (answer .entry)))
+        (lists (now (names .exit)) (now (levels .exit)) (now (parents .exit)) (now (answer .exit))) r ⌝ }
+{
+    let mut queue = [0u16; Site::RADIOS as usize];
+    let mut all = [0u64; Site::ROW_BYTES / 8];
+    floods::level::at_least(numbers, 1, &mut all);
+    let mut count: u32 = 1;
+    let mut k: usize = 1;
+    while k <= top {
+        let mut set = all;
+        let first = SHELL * k;
+        let shell = &shells[first..first + SHELL];
+        count = take_level(
+            links,
+            numbers,
+            k as u8,
+            shell,
+            &mut set,
+            &mut queue,
+            names,
+            levels,
+            parents,
+            answer,
+            count,
+        );
+        rows::sets::take_set(shell, &mut all);
+        k += 1;
+    }
+    count
 }
 
 // The whole tree, for sound tables: comes back with the count of nodes, the root with them. The nodes stand in front of the three
@@ -129,29 +172,15 @@ fn grow<'a>(
         (lists (now (names .entry)) (now (levels .entry)) (now (parents .entry)) (now (answer .entry))) r
         (lists (now (names .exit)) (now (levels .exit)) (now (parents .exit)) (now (answer .exit))) ⌝ }
 {
-    let mut set = [0u64; Site::ROW_BYTES / 8];
-    let mut queue = [0u16; Site::RADIOS as usize];
+    let mut shells = [0u64; SHELL * (Site::NEIGHBOURS as usize + 1)];
+    put_shells(numbers, &mut shells);
     crate::nodes::fill_front(answer, numbers.len(), ROOT);
     crate::nodes::put_node(names, levels, parents, 0, ROOT, 0, ROOT);
-    let top = tables::numbers::greatest(numbers) as u32;
-    let mut count: u32 = 1;
-    let mut k: u32 = 1;
-    while k <= top {
-        count = take_level(
-            links,
-            numbers,
-            k as u8,
-            &mut set,
-            &mut queue,
-            names,
-            levels,
-            parents,
-            answer,
-            count,
-        );
-        k += 1;
-    }
-    count
+    let top = tables::fill::least(
+        tables::numbers::greatest(numbers) as usize,
+        Site::NEIGHBOURS as usize,
+    );
+    take_levels(links, numbers, top, &shells, names, levels, parents, answer)
 }
 
 // Whether there are n + 1 places for nodes, and n for the radios' names.

@@ -1,12 +1,14 @@
 -- `sets::join_row` meets its contract: the words before word k are joined with the row's (`Row-joining`). The measure is the words
 -- that are left.
-use mathlib.Core.Path.{sym, _∙_}
+use mathlib.Core.Path.{sym, ap, _∙_}
 use Prim.Native.Nat.{_+_, _*_, _-_}
 use native.Mathlib.Omega.{arith}
+use lib.Bits.{bitOr}
+use lib.ListN.{getD}
 use borrow.Author.Needs.{needs}
 use Rattle.mesh.specs.Limits.{row-bytes}
 use Rattle.rows.proofs.RowWords.{word-of-row}
-use Rattle.rows.proofs.SetLaws.{Row-joining, row-joining-none, row-joining-turn, row-joining-end, row-joined-short, row-joined-other}
+use Rattle.rows.proofs.SetLaws.{Row-joining, changing-none, changing-turn, row-joining-end, row-joined-short, row-joined-other}
 use Rattle.rows.proofs.sets.join_row.Statement.{statement}
 use Rattle.rows.proofs.sets.join_row.Tie as tie
 
@@ -37,7 +39,7 @@ loop-again c =
     let word = c .word-of .ensures
     ∙ word-of-row (call .links .now) (call .a) (at-loop .loop .k) (row-bytes * call .a + row-bytes - row-bytes * call .a) (omega arith)
     (omega (arith, tests .before .if1 .left)) (test .loop-test .taken) in
-    row-joining-turn (call .links .now) (call .a) (call .set .now) (at-loop .loop .k) _ (at-loop .loop .set) (test .loop-test .taken) word (at-loop .loop .inv)
+    changing-turn _ (call .set .now) (at-loop .loop .k) _ (at-loop .loop .set) (test .loop-test .taken) (ap (bitOr (getD (at-loop .loop .set) (at-loop .loop .k) 0)) word) (at-loop .loop .inv)
 
 returns-3 : tie.Need-returns-3 Inv-loop μ-loop
 returns-3 c =
@@ -52,6 +54,6 @@ pub join-row-spec : {M : Type 1} → statement M
 join-row-spec =
     tie.close (
     tie.spec Inv-loop μ-loop (λ c. search needs) (λ c. search needs) returns (λ c. search needs) returns-2 (λ c. search needs) (λ c. search needs)
-    (λ c. omega (arith, c .before .if1 .left)) (λ c. row-joining-none _ _ _ (c .before .if2 .left)) (λ c. search needs) (λ c. search needs) slice-read-set (λ c κs. search needs)
+    (λ c. omega (arith, c .before .if1 .left)) (λ c. changing-none _ _ (c .before .if2 .left)) (λ c. search needs) (λ c. search needs) slice-read-set (λ c κs. search needs)
     (λ c. search needs) slice-write-set (λ c. search needs) (λ c. search needs) loop-again
     (λ c. c .before .loop .inv .long ∙ sym (c .before .before .before .if2 .left)) returns-3)

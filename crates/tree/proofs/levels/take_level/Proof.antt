@@ -1,72 +1,93 @@
--- `levels::take_level` meets its contract: before each radio the set and the lists are right if they were so at the level's start
--- (`Levelling`); a level that no radio has changes nothing. The measure is what is left of the radios.
-use mathlib.Core.Path.{sym, _∙_}
-use Prim.Native.Nat.{_-_}
+-- `levels::take_level` meets its contract: before radio v, the lowest of the level that the set still has, the set and the lists are right
+-- if they were so at the level's start (`Levelling`). The measure is what is left of the radios.
+use mathlib.Core.Path.{_≡_, sym, _∙_}
+use Prim.Native.Nat.{_-_, min}
 use native.Mathlib.Omega.{arith}
 use lib.ListN.{length}
 use borrow.Author.Needs.{needs}
-use borrow.Author.Tests.{not-true}
+use Rattle.mesh.specs.Limits.{max-radios}
+use Rattle.lists.specs.Lists.{head-or}
+use Rattle.rows.specs.Sets.{common}
 use Rattle.tree.specs.Trees.{lists}
-use Rattle.tree.proofs.LevelLoop.{Levelling, levelling-none, levelling-turn, levelling-end, levelled-none}
+use Rattle.tree.proofs.ShellSets.{takes-none}
+use Rattle.tree.proofs.LevelLoop.{Levelling, levelling-none, levelling-to, levelling-later, levelling-next, levelling-end}
 use Rattle.tree.proofs.levels.take_level.Statement.{statement}
 use Rattle.tree.proofs.levels.take_level.Tie as tie
 
 abbrev Inv-loop : tie.InvT-loop
-Inv-loop links numbers level set₀ queue₀ names₀ levels₀ parents₀ answer₀ count c₀ v₀ set queue names levels parents answer c v =
-    Levelling links numbers level set₀ queue₀ (lists names₀ levels₀ parents₀ answer₀) count v set queue (lists names levels parents answer) c
+Inv-loop links numbers level shell set₀ queue₀ names₀ levels₀ parents₀ answer₀ count c₀ v₀ set queue names levels parents answer c v =
+    (v ≡ head-or max-radios (common shell set))
+    × Levelling links numbers level set₀ queue₀ (lists names₀ levels₀ parents₀ answer₀) count (min v (length numbers)) set queue (lists names levels parents answer) c
 
 abbrev μ-loop : tie.MeasureT-loop
-μ-loop links numbers level set₀ queue₀ names₀ levels₀ parents₀ answer₀ count c₀ v₀ set queue names levels parents answer c v =
+μ-loop links numbers level shell set₀ queue₀ names₀ levels₀ parents₀ answer₀ count c₀ v₀ set queue names levels parents answer c v =
     length numbers - v
 
-returns : tie.Need-returns Inv-loop μ-loop
-returns c =
-    let start = c .before .before .before .before .before .before .before .before .before .before in (
-      omega (arith, start .pre .5),
-      levelled-none (start .args .links .now) (start .args .numbers .now) (start .args .level) _ _ (start .pre .2)
-          (sym (c .before .has-level .ensures) ∙ not-true _ (c .if1 .taken)),
+loop-holds : tie.Need-loop-holds Inv-loop μ-loop
+loop-holds c =
+    let start = c .before .before .before .before .before .before .before .before .before .before .before in
+    let ready = start .pre in (
+      c .first-common .ensures,
+      levelling-to (start .args .links .now) (start .args .numbers .now) (start .args .level) (start .args .set .now) (start .args .queue .now) _ _ 0 (c .first-common .result) _ _ _ _ (ready .positive) (ready .room)
+          (omega arith) (omega arith) (takes-none (start .args .links .now) _ _ (start .args .shell .now) (ready .own) _ (ready .words) (c .first-common .result) (c .first-common .ensures))
+          (levelling-none _ _ _ _ _ _ _),
     )
 
 cast-visit : tie.Need-cast-visit Inv-loop μ-loop
-cast-visit c = omega (arith, c .loop-test .taken, c .before .before .before .before .before .before .before .before .before .before .before .before .before .before .before .before .pre .0)
+cast-visit c = omega (arith, c .loop-test .taken, c .before .before .before .before .before .before .before .before .before .before .before .before .before .pre .small)
 
 visit-requires : tie.Need-visit-requires Inv-loop μ-loop
 visit-requires c κs =
     let test = c .before .before .before .before .before .before in
     let at-loop = test .before in
-    let start = at-loop .before .before .before .before .before .before .before .before .before .before .before .before .before .before .before in (
+    let ready = at-loop .before .before .before .before .before .before .before .before .before .before .before .before .pre in (
       test .loop-test .taken,
-      omega (arith, test .loop-test .taken, start .pre .1, at-loop .loop .inv .lengths .answer),
-      omega (arith, test .loop-test .taken, start .pre .0, start .pre .5, at-loop .loop .inv .few),
+      omega (arith, test .loop-test .taken, ready .named, at-loop .loop .inv .1 .lengths .answer),
+      omega (arith, test .loop-test .taken, ready .small, ready .few, at-loop .loop .inv .1 .few),
+    )
+
+loop-less : tie.Need-loop-less Inv-loop μ-loop
+loop-less c =
+    let visited = c .before .before .before .before .before .before .before .before .before .before .before .before .before .before in
+    let test = visited .before .before .before .before .before .before .before in
+    let at-loop = test .before in
+    let start = at-loop .before .before .before .before .before .before .before .before .before .before .before .before in
+    let ready = start .pre in
+    omega (
+      arith,
+      test .loop-test .taken,
+      levelling-later (start .args .links .now) (start .args .numbers .now) (start .args .level) (start .args .shell .now) (ready .own) (start .args .set .now) (start .args .queue .now) _ _ (at-loop .loop .v) _ _ _ _
+          (ready .positive) (ready .room) (ready .words) (ready .small) (test .loop-test .taken) (at-loop .loop .inv .0) (at-loop .loop .inv .1) _ _ _ _ (c .before .before .before .before .before .before .before .before .before .before .before .before .before .set .given)
+          (visited .visit .ensures) (c .first-common2 .ensures),
     )
 
 loop-again : tie.Need-loop-again Inv-loop μ-loop
 loop-again c =
-    let visited = c .before .before .before .before .before .before .before .before .before .before .before .before in
+    let visited = c .before .before .before .before .before .before .before .before .before .before .before .before .before .before in
     let test = visited .before .before .before .before .before .before .before in
     let at-loop = test .before in
-    let start = at-loop .before .before .before .before .before .before .before .before .before .before .before .before .before .before .before in
-    levelling-turn (start .args .links .now) (start .args .numbers .now) (start .args .level) _ _ _ _ (at-loop .loop .v) _ _ _ _ _ _ _ _ (start .pre .2) (start .pre .4)
-    (test .loop-test .taken) (c .before .before .before .before .before .before .before .before .before .before .before .set2 .given) (c .before .before .before .before .before .before .before .before .before .queue .given)
-    (record { names = c .before .before .before .before .before .before .before .names .given; levels = c .before .before .before .before .before .levels .given; parents = c .before .before .before .parents .given; answer = c .before .answer .given })
-    (visited .visit .ensures) (at-loop .loop .inv)
+    let start = at-loop .before .before .before .before .before .before .before .before .before .before .before .before in
+    let ready = start .pre in (
+      c .first-common2 .ensures,
+      levelling-next (start .args .links .now) (start .args .numbers .now) (start .args .level) (start .args .shell .now) (ready .own) (start .args .set .now) (start .args .queue .now) _ _ (at-loop .loop .v) _ _ _ _
+          (ready .positive) (ready .room) (ready .words) (ready .small) (test .loop-test .taken) (at-loop .loop .inv .0) (at-loop .loop .inv .1) _ _ _ _ (c .before .before .before .before .before .before .before .before .before .before .before .before .before .set .given)
+          (visited .visit .ensures) (c .first-common2 .ensures) _ (c .before .before .before .before .before .before .before .before .before .before .before .queue .given)
+          (record { names = c .before .before .before .before .before .before .before .before .before .names .given; levels = c .before .before .before .before .before .before .before .levels .given; parents = c .before .before .before .before .before .parents .given; answer = c .before .before .before .answer .given }),
+    )
 
-same-length : tie.Need-same-length Inv-loop μ-loop
-same-length c = c .before .loop .inv .set-long ∙ c .before .before .before .set .given
-
-returns-2 : tie.Need-returns-2 Inv-loop μ-loop
-returns-2 c =
+returns : tie.Need-returns Inv-loop μ-loop
+returns c =
     let at-loop = c .before in
-    let level = at-loop .before .before .before in
-    let start = at-loop .before .before .before .before .before .before .before .before .before .before .before .before .before .before .before in (
-      omega (arith, start .pre .0, start .pre .5, at-loop .loop .inv .within, at-loop .loop .inv .few),
-      levelling-end (start .args .links .now) (start .args .numbers .now) (start .args .level) (start .args .set .now) _ _ _ _ (at-loop .loop .v) _ _ _ _ (start .pre .2) (start .pre .3)
-          (at-loop .before .before .set .given ∙ start .pre .3) (level .at-least .ensures) (c .loop-test .left) (at-loop .loop .inv),
+    let start = at-loop .before .before .before .before .before .before .before .before .before .before .before .before in
+    let ready = start .pre in (
+      omega (arith, ready .small, ready .few, at-loop .loop .inv .1 .within, at-loop .loop .inv .1 .few),
+      levelling-end (start .args .links .now) (start .args .numbers .now) (start .args .level) (start .args .set .now) _ _ _ (at-loop .loop .v) _ _ _ _ (ready .positive) (ready .words)
+          (ready .level) (c .loop-test .left) (at-loop .loop .inv .1),
     )
 
 pub take-level-spec : {M : Type 1} → statement M
 take-level-spec =
     tie.close (
-    tie.spec Inv-loop μ-loop (λ c κs. search needs) returns (λ c κs. search needs) (λ c. levelling-none _ _ _ _ _ _ _) cast-visit visit-requires
-    (λ c. search needs) (λ c. search needs) loop-again same-length (λ c. c .before .loop .inv .queue-long) (λ c. c .before .loop .inv .lengths .names)
-    (λ c. c .before .loop .inv .lengths .levels) (λ c. c .before .loop .inv .lengths .parents) (λ c. c .before .loop .inv .lengths .answer) returns-2)
+    tie.spec Inv-loop μ-loop (λ c κs. search needs) (λ c. search needs) loop-holds cast-visit visit-requires (λ c κs. search needs) (λ c. search needs) loop-less loop-again
+    (λ c. c .before .loop .inv .1 .set-long) (λ c. c .before .loop .inv .1 .queue-long) (λ c. c .before .loop .inv .1 .lengths .names)
+    (λ c. c .before .loop .inv .1 .lengths .levels) (λ c. c .before .loop .inv .1 .lengths .parents) (λ c. c .before .loop .inv .1 .lengths .answer) returns)
