@@ -1,15 +1,11 @@
-"""The batches that the program `test_batches` makes as a host, and the lines that it owes, worked out from document 02 alone.
-
-  python3 oracle/batches.py           write crates/test_batches/data and crates/test_batches/stdout
-  python3 oracle/batches.py --check   say whether the stored files are what would be written
+"""The batches that the program `test_many_links` makes as a host, and the lines that it owes, worked out from document 02 alone.
+oracle/many_links.py writes and checks them.
 
 A batch is so many single calls, each worked out by oracle/peeled.py, until one is refused. The file has words of 32 bits, lowest byte
 first: the count of calls, and for each six words and its list.
 """
 
 import random
-import sys
-from pathlib import Path
 
 import peeled
 import reference
@@ -19,7 +15,6 @@ ENTRIES, LIST = 514, 1200  # the program's tables: radios, entries of a list
 BYTE, KEPT = 165, 600  # what they hold before they are written
 MODULUS, BASE = 4294967291, 65599  # of the digest that the program prints
 CLEAR, BATCH, SPOIL = range(3)
-CRATE = Path(__file__).resolve().parent.parent / "crates/test_batches"
 
 
 def digest(h, values):
@@ -147,22 +142,11 @@ def sites(host):
         host.call(BATCH, n, pairs(some.sample(links, min(count, len(links)))))
 
 
-def main():
+def made():
+    """The bytes of data/batches, and the lines that the program owes for them."""
     host = Host()
     worked(host)
     limits(host)
     sites(host)
     words = [len(host.lines), *host.words]
-    files = {CRATE / "data/batches": b"".join(x.to_bytes(4, "little") for x in words),
-             CRATE / "stdout": ("".join(host.lines) + f"canaries {host.canaries}\n").encode()}
-    if "--check" in sys.argv:
-        same = all(path.read_bytes() == content for path, content in files.items())
-        print("crates/test_batches:", "as written by this program" if same else "DIFFERENT")
-        sys.exit(not same)
-    for path, content in files.items():
-        path.parent.mkdir(parents=True, exist_ok=True)
-        path.write_bytes(content)
-
-
-if __name__ == "__main__":
-    main()
+    return b"".join(x.to_bytes(4, "little") for x in words), "".join(host.lines) + f"canaries {host.canaries}\n"

@@ -1,7 +1,5 @@
-"""The hearings that the program `test_heard` makes as a host, and the lines that it owes, worked out from document 02 alone.
-
-  python3 oracle/heard.py           write crates/test_heard/data and crates/test_heard/stdout
-  python3 oracle/heard.py --check   say whether the stored files are what would be written
+"""The hearings that the program `test_many_links` makes as a host, and the lines that it owes, worked out from document 02 alone.
+oracle/many_links.py writes and checks them.
 
 A heard table is a set of ordered pairs here: (a, b) where a hears b. A hearing is so many single calls, each worked out by
 oracle/peeled.py; none of them may be refused. The file has words of 32 bits, lowest byte first: the count of calls, and for each eight words
@@ -9,8 +7,6 @@ and the bytes of the heard table that change before it, each a place and the bit
 """
 
 import random
-import sys
-from pathlib import Path
 
 import peeled
 import reference
@@ -20,7 +16,6 @@ ENTRIES = 514  # the radios that the program's tables have room for
 BYTE, KEPT = 165, 600  # what they hold before they are written
 MODULUS, BASE = 4294967291, 65599  # of the digest that the program prints
 CLEAR, HEAR, SPOIL = range(3)
-CRATE = Path(__file__).resolve().parent.parent / "crates/test_heard"
 
 
 def digest(h, values):
@@ -190,22 +185,11 @@ def sites(host):
         host.call(HEAR, n, [(a, b) for a in range(n) for b in range(n) if a != b and some.random() < chance])
 
 
-def main():
+def made():
+    """The bytes of data/hearings, and the lines that the program owes for them."""
     host = Host()
     worked(host)
     limits(host)
     sites(host)
     words = [len(host.lines), *host.words]
-    files = {CRATE / "data/calls": b"".join(x.to_bytes(4, "little") for x in words),
-             CRATE / "stdout": ("".join(host.lines) + f"canaries {host.canaries}\n").encode()}
-    if "--check" in sys.argv:
-        same = all(path.read_bytes() == content for path, content in files.items())
-        print("crates/test_heard:", "as written by this program" if same else "DIFFERENT")
-        sys.exit(not same)
-    for path, content in files.items():
-        path.parent.mkdir(parents=True, exist_ok=True)
-        path.write_bytes(content)
-
-
-if __name__ == "__main__":
-    main()
+    return b"".join(x.to_bytes(4, "little") for x in words), "".join(host.lines) + f"canaries {host.canaries}\n"

@@ -3,7 +3,7 @@
 -- refusal keeps, `Total` that every list of calls has a run, `Proposals` that a link call is asking and then committing,
 -- `SoundSwitches` what links taken up or down leave of sound tables, `Batches` what a batch comes to, `BatchCases` worked ones, `Turns`
 -- sorted links taken up or down in turn, `HeardLaws` that the single calls of a hearing are allowed, `HearingLaws` what is left of them row
--- by row, `HeardCalls` what a hearing comes to, `HeardCases` a worked one, `Accepted` what a caller has after an accepted call (property 2),
+-- by row, `HeardCalls` what a hearing comes to, `Accepted` what a caller has after an accepted call (property 2),
 -- `ImageNumbers` which bytes reading refuses by 15 and which by 11, `Older` what calls give of older tables and images, `Exactly`
 -- which radios a link call lists, `Cases` that the worked cases hold by `ByPairs`, `WorkedState` and `WorkedLaws`, `SheetCases` that
 -- the worked sheets do, `LiftOutcome` the question for one link that lifts a radio, `ScriptLaws` and `Rebuilt` the script that rebuilds a site, the others for demand 3.
@@ -24,7 +24,6 @@ pub mod Turns
 pub mod HeardLaws
 pub mod HearingLaws
 pub mod HeardCalls
-pub mod HeardCases
 pub mod Batches
 pub mod BatchCases
 pub mod Steps

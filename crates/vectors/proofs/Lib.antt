@@ -1,2 +1,3 @@
--- The histories are right.
+-- The histories are right, and a worked hearing.
 pub mod Histories
+pub mod HeardCases

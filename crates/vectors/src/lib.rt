@@ -1,1 +1,1 @@
-// Link histories with their expected values, as a proved table over the definitions: no function is here.
+// Link histories with their expected values, as a proved table over the definitions, and a worked hearing: no function is here.

@@ -164,34 +164,42 @@ are-marks-rising n x (p ∷ ps) s h =
       are-marks-rising n (name-in p) ps (s .1) (and-right (before x (name-in p)) (are-marks n (name-in p) ps) k),
     )
 
--- the used places stand at the front of the store
-record Front (k : ℕ) (bs : List ℕ) (us : List (List ℕ)) : Type 0 where
+-- the used places stand at the front of the store; w is the length of a place, a variable here: with the number itself its steps are counted
+record Front (w k : ℕ) (bs : List ℕ) (us : List (List ℕ)) : Type 0 where
   sized : Sized us
   few : length us ≤ k
-  front : bs ≡ joined us ++ drop (place-bytes * length us) bs
+  front : bs ≡ joined us ++ drop (w * length us) bs
 
-used-front : (k : ℕ) (bs : List ℕ) → place-bytes * k ≤ length bs → Front k bs (used (places-of k bs))
-unfolding used places-of flatMap
-used-front zero bs h = record { sized = tt; few = omega arith; front = refl }
+front-none : (w k : ℕ) (bs : List ℕ) → Front w k bs []
+unfolding flatMap
+front-none w k bs =
+    let e : 0 ≡ w * 0 = omega arith in record { sized = tt; few = omega arith; front = ap (λ (j : ℕ). drop j bs) e }
+
+front-more : (w k : ℕ) (bs : List ℕ) (us : List (List ℕ)) → length (take w bs) ≡ place-bytes → Front w k (drop w bs) us → Front w (suc k) bs (take w bs ∷ us)
+unfolding flatMap
+front-more w k bs us l f =
+    let e : w + w * length us ≡ w * suc (length us) = omega (arith, mul-suc w (length us)) in
+    let rest = drop (w * length us) (drop w bs) in
+    record {
+      sized = (l, f .sized);
+      few = omega (arith, f .few);
+      front =
+          sym (take-append-drop w bs)
+          ∙ ap (λ (xs : List ℕ). take w bs ++ xs) (f .front)
+          ∙ sym (append-assoc (take w bs) (joined us) rest)
+          ∙ ap (λ (xs : List ℕ). (take w bs ++ joined us) ++ xs) (drop-drop (w * length us) w bs ∙ ap (λ (j : ℕ). drop j bs) e);
+    }
+
+used-front : (k : ℕ) (bs : List ℕ) → place-bytes * k ≤ length bs → Front place-bytes k bs (used (places-of k bs))
+unfolding used places-of
+used-front zero bs h = front-none place-bytes zero bs
 used-front (suc k) bs h =
     go (is-zeros (take place-bytes bs)) (used-front k (drop place-bytes bs) (omega (arith, length-drop place-bytes bs)))
   where
-    go : (t : Bool) → Front k (drop place-bytes bs) (used (places-of k (drop place-bytes bs)))
-        → Front (suc k) bs (cond t [] (take place-bytes bs ∷ used (places-of k (drop place-bytes bs))))
-    go true f = record { sized = tt; few = omega arith; front = refl }
-    go false f =
-        let us = used (places-of k (drop place-bytes bs)) in
-        let e : place-bytes + place-bytes * length us ≡ place-bytes * suc (length us) = omega arith in
-        let rest = drop (place-bytes * length us) (drop place-bytes bs) in
-        record {
-          sized = (length-take-le place-bytes bs (omega arith), f .sized);
-          few = omega (arith, f .few);
-          front =
-              sym (take-append-drop place-bytes bs)
-              ∙ ap (λ (xs : List ℕ). take place-bytes bs ++ xs) (f .front)
-              ∙ sym (append-assoc (take place-bytes bs) (joined us) rest)
-              ∙ ap (λ (xs : List ℕ). (take place-bytes bs ++ joined us) ++ xs) (drop-drop (place-bytes * length us) place-bytes bs ∙ ap (λ (j : ℕ). drop j bs) e);
-        }
+    go : (t : Bool) → Front place-bytes k (drop place-bytes bs) (used (places-of k (drop place-bytes bs)))
+        → Front place-bytes (suc k) bs (cond t [] (take place-bytes bs ∷ used (places-of k (drop place-bytes bs))))
+    go true f = front-none place-bytes (suc k) bs
+    go false f = front-more place-bytes k bs (used (places-of k (drop place-bytes bs))) (length-take-le place-bytes bs (omega arith)) f
 
 pub record Store-marks (n : ℕ) (bs : List ℕ) : Type 0 where
   pub marks : Marks n (marks-in bs)

@@ -30,19 +30,20 @@ place-first : (bs : List ℕ) → take place-bytes bs ≡ place-at bs 0
 unfolding place-at
 place-first bs = let e : 0 ≡ place-bytes * 0 = omega arith in ap (λ (x : ℕ). take place-bytes (drop x bs)) e
 
+-- entry i of a list that is empty or begins with p
+entry-of : (t : Bool) (p : List ℕ) (ps : List (List ℕ)) (f : ℕ → List ℕ) → p ≡ f 0 → ((i : ℕ) → i < length ps → getD ps i [] ≡ f (suc i)) →
+    (i : ℕ) → i < length (cond t [] (p ∷ ps)) → getD (cond t [] (p ∷ ps)) i [] ≡ f i
+entry-of true p ps f e r i l = absurd (omega arith)
+entry-of false p ps f e r zero l = e
+entry-of false p ps f e r (suc i) l = r i (omega arith)
+
 -- place i of the used ones
 used-getD : (k : ℕ) (bs : List ℕ) (i : ℕ) → i < length (used (places-of k bs)) → getD (used (places-of k bs)) i [] ≡ place-at bs i
 unfolding used places-of
 used-getD zero bs i l = absurd (omega arith)
-used-getD (suc k) bs i l = go (is-zeros (take place-bytes bs)) i (used-getD k (drop place-bytes bs)) l
-  where
-    go : (t : Bool) (j : ℕ) →
-        ((m : ℕ) → m < length (used (places-of k (drop place-bytes bs))) → getD (used (places-of k (drop place-bytes bs))) m [] ≡ place-at (drop place-bytes bs) m) →
-        j < length (cond t [] (take place-bytes bs ∷ used (places-of k (drop place-bytes bs)))) →
-        getD (cond t [] (take place-bytes bs ∷ used (places-of k (drop place-bytes bs)))) j [] ≡ place-at bs j
-    go true j rec h = absurd (omega arith)
-    go false zero rec h = place-first bs
-    go false (suc j) rec h = rec j (omega arith) ∙ place-next bs j
+used-getD (suc k) bs i l =
+    entry-of (is-zeros (take place-bytes bs)) (take place-bytes bs) (used (places-of k (drop place-bytes bs))) (place-at bs) (place-first bs)
+    (λ j h. used-getD k (drop place-bytes bs) j h ∙ place-next bs j) i l
 
 pub mark-at : (bs : List ℕ) (i : ℕ) → i < length (marks-in bs) → getD (marks-in bs) i [] ≡ place-at bs i
 unfolding marks-in

@@ -1,0 +1,17 @@
+-- `hearings::all` is safe and ends: the measure is what is left of the count.
+use Prim.Native.Nat.{_-_}
+use borrow.Author.Needs.{needs}
+use Rattle.test_many_links.proofs.hearings.all.Statement.{statement}
+use Rattle.test_many_links.proofs.hearings.all.Tie as tie
+
+abbrev Inv-loop : tie.InvT-loop
+Inv-loop fd links₀ numbers₀ order₀ heard₀ further₀ count seen₀ i₀ links numbers order heard further seen i = Unit
+
+abbrev μ-loop : tie.MeasureT-loop
+μ-loop fd links₀ numbers₀ order₀ heard₀ further₀ count seen₀ i₀ links numbers order heard further seen i = count - i
+
+pub all-spec : {M : Type 1} → statement M
+all-spec =
+    tie.close (
+    tie.spec Inv-loop μ-loop (λ c κs. search needs) (λ c. search needs) (λ c κs. search needs) (λ c κs. search needs) (λ c. search needs)
+    (λ c. search needs) (λ c. search needs) (λ c. search needs))

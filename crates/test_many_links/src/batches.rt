@@ -1,0 +1,166 @@
+// Batches: the host's tables, the calls on them, and what it prints after each.
+use crate::digest;
+use crate::say;
+use crate::words;
+use calls::Value;
+
+// Room for two radios more than a site may have, and for 600 links.
+const ENTRIES: usize = 514;
+
+const LINKS: usize = 64 * ENTRIES;
+
+const LIST: usize = 1200;
+
+// The tables. They are arrays, as a reference to one has its length in its type: that is cheaper to prove of than a slice.
+type Links = [u8; LINKS];
+
+type Numbers = [u8; ENTRIES];
+
+type Order = [u16; ENTRIES];
+
+type List = [u16; LIST];
+
+// What the tables hold before the first call.
+const BYTE: u8 = 165;
+
+const KEPT: u16 = 600;
+
+// What a call of the file is.
+const CLEAR: u32 = 0;
+
+const BATCH: u32 = 1;
+
+const SPOIL: u32 = 2;
+
+// A call: which one, n, how much of each table is lent, and how many entries of the list.
+pub struct Call {
+    pub kind: u32,
+    pub n: u32,
+    pub links: usize,
+    pub numbers: usize,
+    pub order: usize,
+    pub list: usize,
+}
+
+// The next call.
+fn next_call(fd: i32) -> Call {
+    Call {
+        kind: words::word(fd),
+        n: words::word(fd),
+        links: words::word(fd) as usize,
+        numbers: words::word(fd) as usize,
+        order: words::word(fd) as usize,
+        list: words::word(fd) as usize,
+    }
+}
+
+// The next entries, as many as the list has room for.
+fn next_list(fd: i32, count: usize, list: &mut [u16]) {
+    for i in 0..count {
+        let x = (words::word(fd) % 65536) as u16;
+        tables::fill::put16(list, i, x);
+    }
+}
+
+// Clears the lent tables.
+fn clear(n: u32, links: &mut [u8], numbers: &mut [u8], order: &mut [u16]) -> Value {
+    Value {
+        number: summerbugle::sb_clear(n, links, numbers, order),
+        value: 0,
+    }
+}
+
+// Makes the call on the lent tables.
+fn put(call: Call, links: &mut [u8], numbers: &mut [u8], order: &mut [u16], list: &[u16]) {
+    if call.kind == CLEAR {
+        say::value(b"clear", clear(call.n, links, numbers, order));
+        return;
+    }
+    if call.kind == BATCH {
+        say::value(
+            b"batch",
+            summerbugle::sb_link_batch(call.n, links, numbers, order, list),
+        );
+        return;
+    }
+    if call.kind == SPOIL {
+        words::flip(links, call.n as usize, 1);
+        say::text(b"spoil");
+    }
+}
+
+// Lends the front of each table.
+fn lend(call: Call, links: &mut [u8], numbers: &mut [u8], order: &mut [u16], list: &[u16]) {
+    let i = tables::fill::least(call.links, links.len());
+    let j = tables::fill::least(call.numbers, numbers.len());
+    let k = tables::fill::least(call.order, order.len());
+    let l = tables::fill::least(call.list, list.len());
+    put(
+        call,
+        &mut links[..i],
+        &mut numbers[..j],
+        &mut order[..k],
+        &list[..l],
+    );
+}
+
+// The digest of the host's tables.
+fn all_tables(links: &Links, numbers: &Numbers, order: &Order, list: &List) -> u64 {
+    let site = digest::entries(digest::bytes(digest::bytes(0, links), numbers), order);
+    digest::entries(site, list)
+}
+
+// Makes the call and ends its line. Comes back with 1 for a canary.
+fn line(
+    call: Call,
+    links: &mut Links,
+    numbers: &mut Numbers,
+    order: &mut Order,
+    list: &List,
+) -> u32 {
+    let h = all_tables(links, numbers, order, list);
+    lend(call, links, numbers, order, list);
+    let after = all_tables(links, numbers, order, list);
+    say::end_line(after);
+    say::canary(call.kind == SPOIL, h, after)
+}
+
+// The next call of the file.
+fn one(
+    fd: i32,
+    links: &mut Links,
+    numbers: &mut Numbers,
+    order: &mut Order,
+    list: &mut List,
+) -> u32 {
+    let call = next_call(fd);
+    next_list(fd, call.list, list);
+    line(call, links, numbers, order, list)
+}
+
+// All calls of the file, after their count. Comes back with the count of canaries.
+fn all(
+    fd: i32,
+    links: &mut Links,
+    numbers: &mut Numbers,
+    order: &mut Order,
+    list: &mut List,
+) -> u32 {
+    let count = words::word(fd);
+    let mut seen: u32 = 0;
+    for i in 0..count {
+        let more = one(fd, links, numbers, order, list);
+        seen = std::num::wrapping_add_u32(seen, more);
+    }
+    seen
+}
+
+// Plays the file, and prints how many spoiled tables the digest showed.
+pub fn play(fd: i32) {
+    let mut links = [BYTE; LINKS];
+    let mut numbers = [BYTE; ENTRIES];
+    let mut order = [KEPT; ENTRIES];
+    let mut list = [KEPT; LIST];
+    let seen = all(fd, &mut links, &mut numbers, &mut order, &mut list);
+    say::canaries(seen);
+}
