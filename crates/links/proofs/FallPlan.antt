@@ -9,7 +9,7 @@ use native.Mathlib.Omega.{arith}
 use lib.Dec.{leb, eqb}
 use lib.ListN.{length, getD, replicate, length-replicate}
 use borrow.Author.Tests.{lt-leb}
-use Rattle.mesh.specs.Limits.{max-radios, max-neighbours, row-bytes}
+use Rattle.mesh.specs.Limits.{max-radios, row-bytes}
 use Rattle.lists.specs.Lists.{member, In}
 use Rattle.lists.proofs.Tests.{never}
 use Rattle.lists.proofs.Member.{in-member}
@@ -124,12 +124,12 @@ module _ {a b : ℕ} {ts ns os ps cs : List ℕ} (r : Ready false (length os) a 
     fall-release = ends-releasable k (call .3)
 
     pub fall-peel : (cs1 fs1 : List ℕ) (room : ℕ) → cs1 ≡ released ns k near cs → fs1 ≡ places-released ns ps k m near cs (replicate row-bytes 0) → length os ≤ room
-        → Peel-ready w x y k m ts ns os ps cs1 fs1 max-neighbours room
+        → Peel-ready w x y k m ts ns os ps cs1 fs1 room
     unfolding byte-at
     fall-peel cs1 fs1 room ec ef l =
         rw (ec, ef, call .0, call .1, call .2)
         (turning-ready r k (call .3) m _ _ (turning k (call .3) m (call .4 ∙ ap (λ (z : ℕ). z - 1) (sym (call .3))) (replicate row-bytes 0)
-        (length-replicate {A = ℕ} row-bytes 0) (λ q lq. marked-replicate row-bytes 0 q (omega arith))) max-neighbours room refl l)
+        (length-replicate {A = ℕ} row-bytes 0) (λ q lq. marked-replicate row-bytes 0 q (omega arith))) room l)
 
     pub fall-unmoved : (taken : ℕ) (cs2 list1 : List ℕ) → Peel-done w x y k m ts ns os taken cs2 list1 → length os ≤ length list1 → taken ≡ 0
         → Planned false a b g os 0 0 taken list1

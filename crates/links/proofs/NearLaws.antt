@@ -7,7 +7,7 @@ use mathlib.Core.List.{List}
 use Prim.Native.Nat.{ℕ, suc, _+_, _*_, _-_, _/_, _≤_, _<_, min}
 use native.Mathlib.Omega.{arith}
 use lib.Dec.{eqb}
-use lib.ListN.{length, getD, take, drop, length-drop}
+use lib.ListN.{length, take, drop, length-drop}
 use lib.Seq.{take-all, getD-take, getD-drop, length-take-le}
 use borrow.Author.Tests.{eqb-true, eqb-false, eq-eqb, ne-eqb}
 use Rattle.mesh.specs.Limits.{max-radios, max-neighbours, row-bytes}
@@ -21,7 +21,7 @@ use Rattle.mesh.proofs.Tables.Laws.{length-put-bit, marked-put-bit}
 use Rattle.rows.specs.Rows.{neighbours-of, row-listed, row-count}
 use Rattle.rows.proofs.RowListLaws.{row-listed-fits}
 use Rattle.rows.proofs.RowWords.{row-listed-whole}
-use Rattle.links.specs.Turns.{released, places-released, Releasable, other-end, Near-ready, Lists-neighbours}
+use Rattle.links.specs.Turns.{released, places-released, Releasable, other-end, Row-ready, Near-ready, Lists-neighbours}
 
 -- rows that mark alike list alike
 pub neighbours-of-ext : (ts us : List ℕ) (v w : ℕ) → ((x : ℕ) → x < max-radios → marked ts v x ≡ marked us w x) → neighbours-of ts v ≡ neighbours-of us w
@@ -142,7 +142,7 @@ module _ (u : Bool) (a b v : ℕ) (ts : List ℕ) where
         go (inr e) (inr f) q = inr (inr (eqb-false v a e, eqb-false v b f, rw (e, f) at q))
 
     -- the row of an end, with the bit of the other end put, and any other row as it is
-    pub neighbours-of-end : {k : ℕ} → (w ≡ v → ⊥) → Near-ready u a b v ts k
+    pub neighbours-of-end : (w ≡ v → ⊥) → Row-ready a b v ts
         → (w < max-radios) × (neighbours-of (put-bit u v w ts) v ≡ neighbours-of (put-link u a b ts) v)
     neighbours-of-end ne h = go which
       where
@@ -152,7 +152,7 @@ module _ (u : Bool) (a b v : ℕ) (ts : List ℕ) where
         go (inr (inl q)) = rw (q .0, q .1) (h .radios .0, neighbours-of-b u a b ts (h .differ) (h .radios .0) (h .radios .1) (h .rows .0) (h .rows .1))
         go (inr (inr q)) = absurd (ne (q .2))
 
-    neighbours-of-same : {k : ℕ} → w ≡ v → Near-ready u a b v ts k → neighbours-of ts v ≡ neighbours-of (put-link u a b ts) v
+    neighbours-of-same : w ≡ v → Row-ready a b v ts → neighbours-of ts v ≡ neighbours-of (put-link u a b ts) v
     neighbours-of-same e h = go which
       where
         go : ((v ≡ a) × (w ≡ b)) ⊎ (((v ≡ b) × (w ≡ a)) ⊎ ((v ≡ a → ⊥) × (v ≡ b → ⊥) × (w ≡ v))) → neighbours-of ts v ≡ neighbours-of (put-link u a b ts) v
@@ -161,19 +161,19 @@ module _ (u : Bool) (a b v : ℕ) (ts : List ℕ) where
         go (inr (inr q)) = neighbours-of-other u a b ts (h .differ) (h .radios .0) (h .radios .1) (h .rows .0) (h .rows .1) v (q .0) (q .1)
 
     -- any other row, lent by itself
-    pub neighbours-of-lent : {k : ℕ} (m : ℕ) → m ≡ row-bytes → w ≡ v → Near-ready u a b v ts k
+    pub neighbours-of-lent : (m : ℕ) → m ≡ row-bytes → w ≡ v → Row-ready a b v ts
         → neighbours-of (take m (drop (row-bytes * v) ts)) 0 ≡ neighbours-of (put-link u a b ts) v
     neighbours-of-lent m long e h = neighbours-of-part ts v m long (h .row) ∙ neighbours-of-same e h
 
     pub end-ready : (k : ℕ) → (w ≡ v → ⊥) → Near-ready u a b v ts k → End-ready w k
-    end-ready k ne h = let r = neighbours-of-end ne h in (h .row, r .0, omega (arith, ap length (r .1), h .near-long))
+    end-ready k ne h = let r = neighbours-of-end ne (h .ready) in (h .ready .row, r .0, omega (arith, ap length (r .1), h .near-long))
 
     pub lists-end : (r : ℕ) {k : ℕ} (new : List ℕ) → (w ≡ v → ⊥) → Near-ready u a b v ts k → Lists-neighbours (put-bit u v w ts) v r new
         → Lists-neighbours (put-link u a b ts) v r new
-    lists-end r new ne h = lists-same r new (neighbours-of-end ne h .1)
+    lists-end r new ne h = lists-same r new (neighbours-of-end ne (h .ready) .1)
 
     pub lists-other : (r : ℕ) (old new : List ℕ) → w ≡ v → Near-ready u a b v ts (length old) → r ≡ min (length old) (row-count max-neighbours ts v)
         → new ≡ overwrite (take (min (length old) (suc max-neighbours)) (row-listed ts v)) old → Lists-neighbours (put-link u a b ts) v r new
     lists-other r old new e h counted listed =
-        let same = neighbours-of-same e h in
-        lists-same r new same (lists-row ts v r old new (h .row) (omega (arith, ap length same, h .near-long)) counted listed)
+        let same = neighbours-of-same e (h .ready) in
+        lists-same r new same (lists-row ts v r old new (h .ready .row) (omega (arith, ap length same, h .near-long)) counted listed)

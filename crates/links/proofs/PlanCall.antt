@@ -1,5 +1,5 @@
 -- The facts that a plan's code hands from call to call, as the code names its values.
-use mathlib.Core.Path.{_≡_, refl, ap, _∙_}
+use mathlib.Core.Path.{_≡_, ap, _∙_}
 use mathlib.Core.Bool.{Bool, true, false, not}
 use mathlib.Core.List.{List}
 use Prim.Native.Nat.{ℕ, _+_, _≤_, _<_, min}
@@ -7,9 +7,9 @@ use native.Mathlib.Omega.{arith}
 use lib.Dec.{ltb}
 use lib.ListN.{length, getD, replicate, length-replicate}
 use lib.Seq.{sets}
-use Rattle.mesh.specs.Limits.{max-radios, max-neighbours, row-bytes}
+use Rattle.mesh.specs.Limits.{max-radios, row-bytes}
 use Rattle.lists.specs.Lists.{range, filter}
-use Rattle.mesh.specs.Graph.{radios, linked}
+use Rattle.mesh.specs.Graph.{linked}
 use Rattle.mesh.specs.Tables.{tables, byte-at, graph-in}
 use Rattle.mesh.proofs.GraphLaws.{linked-sym}
 use Rattle.mesh.proofs.Links.Call.{linked-positive}
@@ -50,12 +50,12 @@ module _ {u : Bool} {a b : ℕ} {ts ns os ps cs : List ℕ} (r : Ready u (length
 
     pub plan-peel : (cs1 fs1 : List ℕ) (room : ℕ) → (cs1 ≡ ends-counted w x y k ns cs)
         × (fs1 ≡ places-fitting os (ends-counted w x y k ns cs) m (range from many) (replicate row-bytes 0)) → length os ≤ room
-        → Peel-ready w x y k m ts ns os ps cs1 fs1 max-neighbours room
+        → Peel-ready w x y k m ts ns os ps cs1 fs1 room
     unfolding byte-at
     plan-peel cs1 fs1 room e l =
         rw (e .0, e .1, call .0, call .1, call .2, at .0, at .1)
         (peel-ready r k (call .3) m (replicate row-bytes 0) (length-replicate {A = ℕ} row-bytes 0) (λ q lq. marked-replicate row-bytes 0 q (omega arith))
-        max-neighbours room refl l)
+        room l)
 
     pub plan-stuck : (taken : ℕ) (cs2 list1 : List ℕ) → length cs2 ≡ length cs → Peel-done w x y k m ts ns os taken cs2 list1
         → (from + many ≤ length os) × (from + many ≤ max-radios) × (taken ≤ max-radios) × ((p : ℕ) → p < length os → getD os p 0 < length cs2)

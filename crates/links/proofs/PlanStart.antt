@@ -33,7 +33,7 @@ use Rattle.links.proofs.TurnLoops.{length-end-counted, length-places-fi
 use Rattle.links.proofs.BeginLaws.{getD-end-other, getD-end-same, marked-fitting}
 use Rattle.links.proofs.LevelLaws.{stretch-stands}
 use Rattle.links.proofs.PlanLevel.{a-below, b-below, is-valid, certified, is-once, number-is, order-radios, level-is, stretch-is, above-is, stretch-fits, stretch-number}
-use Rattle.links.proofs.PlanLevel.{is-level, row-is, row-few}
+use Rattle.links.proofs.PlanLevel.{is-level, row-is}
 
 -- ---- laws of lists
 
@@ -257,14 +257,13 @@ module _ {u : Bool} {a b : ℕ} {ts ns os ps cs : List ℕ} (r : Ready u (length
 
   -- counters and fitting places before the first turn
   pub turning-ready : (m : ℕ) (counters fits : List ℕ) → Turning (linked-after u a b n ts) m os ps start size [] counters fits
-      → (near-room list-room : ℕ) → near-room ≡ max-neighbours → n ≤ list-room → Peel-ready u a b k m ts ns os ps counters fits near-room list-room
-  turning-ready m counters fits turning nears lists en el = record {
+      → (list-room : ℕ) → n ≤ list-room → Peel-ready u a b k m ts ns os ps counters fits list-room
+  turning-ready m counters fits turning lists el = record {
     level = is-level r k ek;
     differ = r .allowed .differ;
     ends = (a-below r, b-below r);
     links-length = r .links-length;
     row-is = row-is r k;
-    few = λ v l. omega (arith, row-few r k v l);
     list-long = omega (arith, stretch-fits r k);
     turning = turning;
   }
@@ -297,6 +296,5 @@ module _ {u : Bool} {a b : ℕ} {ts ns os ps cs : List ℕ} (r : Ready u (length
             marks (getD ps v 0) (omega (arith, s .high, stretch-fits r k, r .small))
             ∙ rw (s .entry, in-member (getD ps v 0) (range start size) (in-range start size (getD ps v 0) (s .low) (s .high)), in-member v (stretch os start size) i)
 
-    pub peel-ready : (near-room list-room : ℕ) → near-room ≡ max-neighbours → n ≤ list-room
-        → Peel-ready u a b k m ts ns os ps cs1 fs1 near-room list-room
-    peel-ready nears lists en el = turning-ready m cs1 fs1 begin-turning nears lists en el
+    pub peel-ready : (list-room : ℕ) → n ≤ list-room → Peel-ready u a b k m ts ns os ps cs1 fs1 list-room
+    peel-ready lists el = turning-ready m cs1 fs1 begin-turning lists el

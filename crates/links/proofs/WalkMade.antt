@@ -1,16 +1,16 @@
 -- The facts that the walk's code hands from call to call, as the code names its values.
-use mathlib.Core.Path.{_≡_, refl, sym, ap, _∙_}
+use mathlib.Core.Path.{_≡_, sym, ap, _∙_}
 use mathlib.Core.Bool.{true, false}
 use mathlib.Core.List.{List}
-use Prim.Native.Nat.{ℕ, _+_, _-_, _≤_, _<_, min}
+use Prim.Native.Nat.{ℕ, _+_, _-_, _≤_, _<_}
 use native.Mathlib.Omega.{arith}
 use lib.ListN.{length, getD, set, take}
-use Rattle.mesh.specs.Limits.{max-radios, max-neighbours, row-bytes}
+use Rattle.mesh.specs.Limits.{max-radios, max-neighbours}
 use Rattle.lists.specs.Lists.{count, head-or}
 use Rattle.mesh.specs.Tables.{marked, put-bit, put-link}
 use Rattle.rows.specs.Rows.{neighbours-of}
-use Rattle.links.specs.Turns.{released, places-released, Releasable, Near-ready, Lists-neighbours}
-use Rattle.links.specs.Walks.{is-left, places-touched, radios-of, joined, Known, Walk-site, Walk-state}
+use Rattle.links.specs.Turns.{released, places-released, Releasable, Row-ready, Lists-neighbours}
+use Rattle.links.specs.Walks.{is-left, places-touched, radios-of, Known, Walk-site, Walk-state}
 use Rattle.links.proofs.WalkTurns as turned
 
 module _ {a b k first size : ℕ} {ts ns tail ps : List ℕ} (s : Walk-site a b k first size ts ns tail ps) where
@@ -93,8 +93,8 @@ module _ {a b k first size : ℕ} {ts ns tail ps : List ℕ} (s : Walk-site a b 
       back-fits =
           omega (arith, turned.back-room s st p (fallen .0) (fallen .1) y y-is, st .walking .room, turned.part-length s, s .fits, s .small)
 
-      pub back-takes : Near-ready true a b y ts max-neighbours × Releasable (set hs y 0) ps 1 (neighbours-of us y) cs
-      back-takes = (turned.near-ready s y back-below max-neighbours refl, turned.back-releasable s st p (fallen .0) (fallen .1) y y-is)
+      pub back-takes : Row-ready a b y ts × Releasable (set hs y 0) ps 1 (neighbours-of us y) cs
+      back-takes = (turned.row-ready s y back-below, turned.back-releasable s st p (fallen .0) (fallen .1) y y-is)
 
       pub back-made : (cs1 ds1 : List ℕ) → cs1 ≡ released (set hs y 0) 1 (neighbours-of us y) cs
           → ds1 ≡ places-released (set hs y 0) ps 1 k (neighbours-of us y) cs (put-bit false 0 p ds)

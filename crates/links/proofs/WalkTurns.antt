@@ -5,20 +5,19 @@
 --   pass-done     radios are passed
 use mathlib.Core.Path.{_≡_, refl, sym, ap, _∙_}
 use mathlib.Core.Logic.{_⊎_, inl, inr}
-use mathlib.Core.Bool.{Bool, true, false, _||_, cond, or-true}
+use mathlib.Core.Bool.{Bool, true, false, cond, or-true}
 use mathlib.Core.List.{List, [], _∷_, _++_, append-assoc}
-use Prim.Native.Nat.{ℕ, suc, _+_, _*_, _-_, _≤_, _<_}
+use Prim.Native.Nat.{ℕ, suc, _+_, _-_, _≤_, _<_}
 use native.Mathlib.Omega.{arith}
 use native.Mathlib.Numerals.{add-one}
 use native.Mathlib.Nat.{le-antisymm}
 use lib.Dec.{ltb, eqb}
 use lib.ListN.{length, getD, set, take, drop, length-set, length-drop, take-append-drop}
 use lib.Seq.{length-take-le, getD-take, getD-drop, getD-set-same, getD-set-other, take-suc-set, drop-cons, paste, take-paste, length-paste}
-use borrow.Author.Tests.{eqb-true, eqb-false, eq-eqb, ne-eqb, lt-ltb, ltb-true, ltb-false}
+use borrow.Author.Tests.{eqb-true, eqb-false, eq-eqb, ne-eqb, lt-ltb, ltb-true}
 use Rattle.mesh.specs.Limits.{max-radios, max-neighbours, row-bytes}
-use Rattle.lists.specs.Lists.{count, member, head-or, In, Distinct}
+use Rattle.lists.specs.Lists.{count, head-or, In, Distinct}
 use Rattle.mesh.specs.Tables.{marked, put-bit, put-link}
-use Rattle.mesh.specs.Peel.{Takes}
 use Rattle.lists.proofs.Tests.{bool-cases, never, and-left, and-right, or-cases}
 use Rattle.lists.proofs.Member.{in-left, in-right, in-cases, in-member, member-in, in-getD, getD-of-in}
 use Rattle.lists.proofs.Count.{count-append, count-pos}
@@ -32,7 +31,7 @@ use Rattle.rows.proofs.RowListLaws.{in-neighbours-of, member-neighbours-of, dis
 use Rattle.walks.specs.Walk.{Part, Walking}
 use Rattle.walks.proofs.Turns as turns
 use Rattle.walks.proofs.Front.{few-front-head, few-from-one}
-use Rattle.links.specs.Turns.{released, places-released, Releasable, Near-ready}
+use Rattle.links.specs.Turns.{released, places-released, Releasable, Row-ready, Near-ready}
 use Rattle.links.specs.Walks.{is-left, is-later, places-touched, radios-of, joined, Known, Walk-site, Walk-state}
 use Rattle.links.proofs.TurnLoops.{length-released, length-places-released}
 use Rattle.links.proofs.TurnLaws.{marked-put, marked-released}
@@ -168,14 +167,16 @@ module _ {a b k first size : ℕ} {ts ns tail ps : List ℕ} (s : Walk-site a b 
     near-radios hs l w m =
         let h = s .within x w (near-joined w m) in (omega (arith, s .numbers-length), omega (arith, s .places-length), omega arith)
 
-    pub near-ready : (nears : ℕ) → nears ≡ max-neighbours → Near-ready true a b x ts nears
-    near-ready nears en = record {
+    pub row-ready : Row-ready a b x ts
+    row-ready = record {
       differ = s .differ;
       radios = (omega (arith, s .ends .0, s .small), omega (arith, s .ends .1, s .small));
       rows = (omega (arith, s .ends .0, s .links-length), omega (arith, s .ends .1, s .links-length));
       row = omega (arith, lx, s .links-length);
-      near-long = omega (arith, s .row-few x lx);
     }
+
+    pub near-ready : (nears : ℕ) → nears ≡ max-neighbours → Near-ready true a b x ts nears
+    near-ready nears en = record { ready = row-ready; near-long = omega (arith, s .row-few x lx) }
 
   module _ {front taken : ℕ} {hs cs ds list : List ℕ} (st : Walk-state a b k first size ts tail ps front taken hs cs ds list) where
     abbrev held : List ℕ

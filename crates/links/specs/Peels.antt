@@ -10,15 +10,14 @@
 use mathlib.Core.Path.{_≡_}
 use mathlib.Core.Bool.{Bool, true, false, _&&_}
 use mathlib.Core.List.{List, []}
-use Prim.Native.Nat.{ℕ, suc, _+_, _*_, _≤_, _<_, min}
-use lib.Dec.{ltb, leb, eqb}
+use Prim.Native.Nat.{ℕ, _+_, _*_, _≤_, _<_}
+use lib.Dec.{ltb, leb}
 use lib.ListN.{length, getD, take, drop}
-use Rattle.mesh.specs.Limits.{max-radios, max-neighbours, row-bytes}
+use Rattle.mesh.specs.Limits.{max-radios, row-bytes}
 use Rattle.lists.specs.Lists.{count, filter, member, In}
 use Rattle.mesh.specs.Graph.{linked, relinked}
 use Rattle.mesh.specs.Tables.{marked, put-link, graph-in}
 use Rattle.mesh.specs.Peel.{Takes, Peels}
-use Rattle.rows.specs.Rows.{neighbours-of}
 use Rattle.walk_parts.specs.Places.{level-start, level-size}
 
 abbrev pub stretch : (order : List ℕ) → (start size : ℕ) → List ℕ
@@ -57,14 +56,13 @@ pub record Turning (f : ℕ → ℕ → Bool) (most : ℕ) (order places : List 
   pub counters-long : length order ≤ length counters
   pub fits-long : length fits ≡ row-bytes
 
-pub record Peel-ready (up : Bool) (a b k most : ℕ) (links numbers order places counters fits : List ℕ) (near-room list-room : ℕ) : Type 0 where
+pub record Peel-ready (up : Bool) (a b k most : ℕ) (links numbers order places counters fits : List ℕ) (list-room : ℕ) : Type 0 where
   pub level : Level (linked-after up a b (length order) links) numbers order places k (level-start numbers k) (level-size numbers k)
   pub differ : a ≡ b → ⊥
   pub ends : (a < length order) × (b < length order)
   pub links-length : length links ≡ row-bytes * length order
   pub row-is :
       (v w : ℕ) → v < length order → w < max-radios → marked (put-link up a b links) v w ≡ linked-after up a b (length order) links v w
-  pub few : (v : ℕ) → v < length order → length (neighbours-of (put-link up a b links) v) ≤ min near-room (suc max-neighbours)
   pub list-long : level-size numbers k ≤ list-room
   pub turning :
       Turning (linked-after up a b (length order) links) most order places (level-start numbers k) (level-size numbers k) [] counters fits

@@ -9,7 +9,8 @@
 --   Releasable                    listed radios that can lose a neighbour: no repeats, and counters of the level above 0
 --   Begin-ready                   ends and places for the first turn
 --   other-end a b v               the other end of the link a-b, where v is an end; else v itself
---   Near-ready                    rows and room for the neighbours of v after the link a-b went up or down
+--   Row-ready                     ends of the link a-b and their rows, and the row of v
+--   Near-ready                    the same, and room for the neighbours of v after the link a-b went up or down
 --   Lists-neighbours ts v r xs    the first r entries of xs are the radios that row v of ts marks
 -- Laws are in proofs/TurnLaws.antt. Definitions only.
 use mathlib.Core.Path.{_≡_}
@@ -67,11 +68,14 @@ pub record Begin-ready (up : Bool) (a b k start size : ℕ) (numbers order count
 unfoldable pub other-end : (a b v : ℕ) → ℕ
 other-end a b v = cond (eqb v a) b (cond (eqb v b) a v)
 
-pub record Near-ready (up : Bool) (a b v : ℕ) (links : List ℕ) (near-room : ℕ) : Type 0 where
+pub record Row-ready (a b v : ℕ) (links : List ℕ) : Type 0 where
   pub differ : a ≡ b → ⊥
   pub radios : (a < max-radios) × (b < max-radios)
   pub rows : (row-bytes * a + row-bytes ≤ length links) × (row-bytes * b + row-bytes ≤ length links)
   pub row : row-bytes * v + row-bytes ≤ length links
+
+pub record Near-ready (up : Bool) (a b v : ℕ) (links : List ℕ) (near-room : ℕ) : Type 0 where
+  pub ready : Row-ready a b v links
   pub near-long : length (neighbours-of (put-link up a b links) v) ≤ min near-room (suc max-neighbours)
 
 pub record Lists-neighbours (links : List ℕ) (v r : ℕ) (near : List ℕ) : Type 0 where

@@ -40,7 +40,6 @@ pub(crate) fn plan_down(
         highs,
         &mut fits,
     );
-    let mut near = [0u16; Site::NEIGHBOURS as usize];
     let taken = plan::peel(
         call,
         links,
@@ -49,7 +48,6 @@ pub(crate) fn plan_down(
         places,
         highs,
         &mut fits,
-        &mut near,
         stretch,
     );
     if taken == 0 {

@@ -76,7 +76,7 @@ fn begin(
 
 // Takes radios of the level in turn, always the first of the stretch that has at most `most` neighbours among what is left and
 // above, until none fits. Writes them in front of the list and comes back with their count; later entries keep their content.
-// A stuck radio then has a counter above `most`, a taken one has not. Fitting places and the list `near` are scratch.
+// A stuck radio then has a counter above `most`, a taken one has not. Fitting places are scratch.
 pub(crate) fn peel(
     call: Call,
     links: &[u8],
@@ -85,11 +85,10 @@ pub(crate) fn peel(
     places: &[u16],
     counters: &mut [u8],
     fits: &mut [u8],
-    near: &mut [u16],
     list: &mut [u16],
 ) -> usize
     requires { ⌜ Peel-ready (call .up) (call .a) (call .b) (call .level) (call .most) (now links) (now numbers) (now order)
-        (now places) (now counters) (now fits) (length (now near)) (length (now list)) ⌝ }
+        (now places) (now counters) (now fits) (length (now list)) ⌝ }
     ensures { λ r. ⌜ Peel-done (call .up) (call .a) (call .b) (call .level) (call .most) (now (links .entry)) (now (numbers .entry))
         (now (order .entry)) r (now (counters .exit)) (now (list .exit)) ⌝ }
 {
@@ -108,7 +107,6 @@ pub(crate) fn peel(
             places,
             counters,
             fits,
-            near,
         );
         p = rows::first_marked(fits, 0);
     }
@@ -136,7 +134,6 @@ pub(crate) fn plan_peel(
     let at = stretch::stretch_of(numbers, call.level);
     let mut fits = [0u8; Site::ROW_BYTES];
     begin(call, at.start, at.size, numbers, order, highs, &mut fits);
-    let mut near = [0u16; Site::NEIGHBOURS as usize];
     let taken = peel(
         call,
         links,
@@ -145,7 +142,6 @@ pub(crate) fn plan_peel(
         places,
         highs,
         &mut fits,
-        &mut near,
         stretch,
     );
     super::stretch::list_stuck(at.start, at.size, call.most, taken, order, highs, stretch);

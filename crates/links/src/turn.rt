@@ -7,7 +7,7 @@ ghost use Rattle.mesh.specs.Limits.{max-radios, max-neighbours, row-bytes};
 ghost use Rattle.lists.specs.Lists.{range};
 ghost use Rattle.mesh.specs.Tables.{put-bit, put-link};
 ghost use Rattle.rows.specs.Rows.{neighbours-of, set-bits};
-ghost use Rattle.links.specs.Turns.{end-counted, counter-less, released, place-marked, places-released, places-fitting, Releasable, Near-ready};
+ghost use Rattle.links.specs.Turns.{end-counted, counter-less, released, place-marked, places-released, places-fitting, Releasable, Row-ready, Near-ready};
 ghost use Rattle.links.specs.Turns.{Lists-neighbours, other-end};
 use mesh::Site;
 
@@ -256,7 +256,7 @@ fn release_end(
 }
 
 // Takes the radio v at place p: the place fits no more, and the neighbours that v has after the call are released.
-// Its row is walked by words and not listed: `near` keeps its content.
+// Its row is walked by words and not listed.
 pub(crate) fn take_radio(
     call: Call,
     p: u32,
@@ -266,9 +266,8 @@ pub(crate) fn take_radio(
     places: &[u16],
     counters: &mut [u8],
     fits: &mut [u8],
-    near: &mut [u16],
 )
-    requires { ⌜ Near-ready (call .up) (call .a) (call .b) v (now links) (length (now near)) ×
+    requires { ⌜ Row-ready (call .a) (call .b) v (now links) ×
         Releasable (now numbers) (now places) (call .level)
         (neighbours-of (put-link (call .up) (call .a) (call .b) (now links)) v) (now counters) ⌝ }
     ensures counted { λ _. ⌜ now (counters .exit) ≡ released (now (numbers .entry)) (call .level)

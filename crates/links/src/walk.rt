@@ -177,7 +177,6 @@ fn back(
         (now (places .entry)) (r .front) (r .taken) (now (held .exit)) (now (counters .exit)) (now (due .exit)) (now (list .exit)) ⌝ }
     ensures further { λ r. ⌜ (r .front ≡ at .front) × (r .taken ≡ at .taken + 1) ⌝ }
 {
-    let mut near = [0u16; Site::NEIGHBOURS as usize];
     let v = tail[p - part.first];
     held[v as usize] = 0;
     let taken = at.taken;
@@ -198,7 +197,6 @@ fn back(
         places,
         counters,
         due,
-        &mut near,
     );
     Reached {
         front: at.front,

@@ -11,7 +11,7 @@ release-end-requires : tie.Need-release-end-requires
 release-end-requires c κs =
     let branch = c .before .before in
     let asked = branch .before in
-    let start = asked .before .before .before .before .before .before .before .before .before .before .before in
+    let start = asked .before .before .before .before .before .before .before .before .before .before in
     let same = neighbours-of-end _ _ _ _ _ _ (asked .other-end .ensures) (branch .if1 .taken) (start .pre .0) in
     (start .pre .0 .row, same .0, releasable-same _ _ _ _ (same .1) (start .pre .1))
 
@@ -21,20 +21,20 @@ returns c =
     let branch = made .before .before .before in
     let asked = branch .before in
     let put = asked .before .before .before in
-    let start = put .before .before .before .before .before .before .before .before in
+    let start = put .before .before .before .before .before .before .before in
     released-same _ _ _ _ _ _ _ _ _ (neighbours-of-end _ _ _ _ _ _ (asked .other-end .ensures) (branch .if1 .taken) (start .pre .0) .1) (put .put-bit .ensures)
     (made .release-end .ensures .0) (made .release-end .ensures .1)
 
 part-release-row-end : tie.Need-part-release-row-end
 part-release-row-end c =
-    let start = c .before .before .before .before .before .before .before .before .before .before .before .before in
+    let start = c .before .before .before .before .before .before .before .before .before .before .before in
     omega (arith, start .pre .0 .row)
 
 release-row-requires : tie.Need-release-row-requires
 release-row-requires c κs =
     let branch = c .before .before .before in
     let asked = branch .before in
-    let start = asked .before .before .before .before .before .before .before .before .before .before .before in
+    let start = asked .before .before .before .before .before .before .before .before .before .before in
     let v = start .args .v in
     let long = row-bytes * v + row-bytes - row-bytes * v in (
       length-part _ v long (omega arith) (start .pre .0 .row),
@@ -47,7 +47,7 @@ returns-2 c =
     let branch = made .before .before .before .before in
     let asked = branch .before in
     let put = asked .before .before .before in
-    let start = put .before .before .before .before .before .before .before .before in
+    let start = put .before .before .before .before .before .before .before in
     let v = start .args .v in
     let long = row-bytes * v + row-bytes - row-bytes * v in
     released-same _ _ _ _ _ _ _ _ _ (neighbours-of-lent _ _ _ _ _ _ (asked .other-end .ensures) long (omega arith) (branch .if1 .left) (start .pre .0))

@@ -46,20 +46,20 @@ cast-take-radio-2 c =
 
 take-radio-requires : tie.Need-take-radio-requires
 take-radio-requires c κs =
-    let start = c .before .before .before .before .before .before .before .before .before .before .before .before .before .before in back-takes (start .pre .0) (start .pre .1) (start .args .p) (start .pre .2)
+    let start = c .before .before .before .before .before .before .before .before .before .before .before .before .before in back-takes (start .pre .0) (start .pre .1) (start .args .p) (start .pre .2)
 
-add-t17 : tie.Need-add-t17
-add-t17 c =
-    let start = c .before .before .before .before .before .before .before .before .before .before .before .before .before .before .before .before .before .before .before .before in omega (arith, back-fits (start .pre .0) (start .pre .1) (start .args .p) (start .pre .2))
+add-t16 : tie.Need-add-t16
+add-t16 c =
+    let start = c .before .before .before .before .before .before .before .before .before .before .before .before .before .before .before .before .before .before in omega (arith, back-fits (start .pre .0) (start .pre .1) (start .args .p) (start .pre .2))
 
 returns : tie.Need-returns
 returns c =
-    let made = c .before .before .before .before .before in
-    let start = c .before .before .before .before .before .before .before .before .before .before .before .before .before .before .before .before .before .before .before .before in
+    let made = c .before .before .before .before in
+    let start = c .before .before .before .before .before .before .before .before .before .before .before .before .before .before .before .before .before .before in
     (back-made (start .pre .0) (start .pre .1) (start .args .p) (start .pre .2) _ _ (made .take-radio .ensures .0) (made .take-radio .ensures .1), (refl, refl))
 
 pub back-spec : {M : Type 1} → statement M
 back-spec =
     tie.close (
-    tie.spec sub-v mul-v shared-slice-read-v cast-held slice-write-held mul-list slice-write-list cast-take-radio cast-take-radio-2 (λ c. search needs)
-    take-radio-requires add-t17 (λ c. search needs) (λ c. search needs) (λ c. search needs) (λ c. search needs) returns)
+    tie.spec sub-v mul-v shared-slice-read-v cast-held slice-write-held mul-list slice-write-list cast-take-radio cast-take-radio-2
+    take-radio-requires add-t16 (λ c. search needs) (λ c. search needs) (λ c. search needs) (λ c. search needs) returns)
