@@ -42,11 +42,11 @@ fn mark_row(heard: &[u8], a: u32, further: &mut [u8]) -> u32
     let row = &heard[start..end];
     let mut n: u32 = 0;
     let mut k: u32 = 0;
-    while k < crate::ROW_WORDS {
+    while k < rows::ROW_WORDS {
         n += mark_word(
             heard,
             a,
-            crate::WORD_BITS * k,
+            rows::WORD_BITS * k,
             rows::word_of(row, k),
             further,
         );

@@ -21,10 +21,10 @@ fn is_whole_within(n: u32, heard: &[u8], a: u32) -> bool
     let row = &heard[start..end];
     let mut b = n;
     while b < Site::RADIOS {
-        if rows::word_of(row, b / crate::WORD_BITS) >> (b % crate::WORD_BITS) != 0 {
+        if rows::word_of(row, b / rows::WORD_BITS) >> (b % rows::WORD_BITS) != 0 {
             return false;
         }
-        b += crate::WORD_BITS - b % crate::WORD_BITS;
+        b += rows::WORD_BITS - b % rows::WORD_BITS;
     }
     true
 }
@@ -87,8 +87,8 @@ fn count_agreed(heard: &[u8], a: u32) -> u32
     let row = &heard[start..end];
     let mut n: u32 = 0;
     let mut k: u32 = 0;
-    while k < crate::ROW_WORDS {
-        n += count_word(heard, a, crate::WORD_BITS * k, rows::word_of(row, k));
+    while k < rows::ROW_WORDS {
+        n += count_word(heard, a, rows::WORD_BITS * k, rows::word_of(row, k));
         k += 1;
     }
     n

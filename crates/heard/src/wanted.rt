@@ -62,15 +62,15 @@ fn list_words<'a>(
     let alone = &further[start..end];
     let linked = &links[start..end];
     let mut n: usize = 0;
-    let mut k = a / crate::WORD_BITS;
-    while k < crate::ROW_WORDS {
+    let mut k = a / rows::WORD_BITS;
+    while k < rows::ROW_WORDS {
         let word = wanted_word(
             up,
             rows::word_of(hears, k),
             rows::word_of(alone, k),
             rows::word_of(linked, k),
         );
-        n = list_above(a, crate::WORD_BITS * k, word, list, n);
+        n = list_above(a, rows::WORD_BITS * k, word, list, n);
         k += 1;
     }
     n

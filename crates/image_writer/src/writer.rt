@@ -28,11 +28,6 @@ const ENTRIES: usize = layout::ENTRIES as usize;
 
 const LINKS: usize = layout::LINKS as usize;
 
-// The bits of a word, and the words of a row.
-const WORD_BITS: u32 = 64;
-
-const ROW_WORDS: u32 = Site::RADIOS / WORD_BITS;
-
 // Writes x as two bytes from `at` on, lowest first.
 fn put_word(part: &mut [u8], at: usize, x: u32)
     requires { ⌜ at + 2 ≤ length (now part) ⌝ }
@@ -178,8 +173,8 @@ fn put_words(buffer: &mut [u8], from: Place, links: &[u8], a: u32, first: u32) -
 {
     let mut place = from;
     let mut k = first;
-    while k < ROW_WORDS {
-        place = put_bits(buffer, place, a, WORD_BITS * k, row_word(links, a, k));
+    while k < rows::ROW_WORDS {
+        place = put_bits(buffer, place, a, rows::WORD_BITS * k, row_word(links, a, k));
         k += 1;
     }
     place
@@ -192,8 +187,8 @@ fn put_row(buffer: &mut [u8], from: Place, links: &[u8], a: u32) -> Place
     ensures { λ r. ⌜ written (r .at) (r .end) (now (buffer .exit))
         ≡ links-written (written (from .at) (from .end) (now (buffer .entry))) (links-above (now (links .entry)) a) ⌝ }
 {
-    let k = a / WORD_BITS;
-    let word = row_word(links, a, k) >> (a % WORD_BITS) >> 1;
+    let k = a / rows::WORD_BITS;
+    let word = row_word(links, a, k) >> (a % rows::WORD_BITS) >> 1;
     let place = put_bits(buffer, from, a, a + 1, word);
     put_words(buffer, place, links, a, k + 1)
 }

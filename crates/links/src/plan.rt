@@ -98,16 +98,7 @@ pub(crate) fn peel(
         let v = order[p as usize];
         list[taken] = v;
         taken += 1;
-        super::turn::take_radio(
-            call,
-            p,
-            v as u32,
-            links,
-            numbers,
-            places,
-            counters,
-            fits,
-        );
+        super::turn::take_radio(call, p, v as u32, links, numbers, places, counters, fits);
         p = rows::first_marked(fits, 0);
     }
     taken

@@ -11,11 +11,6 @@ ghost use Rattle.links.specs.Turns.{end-counted, counter-less, released,
 ghost use Rattle.links.specs.Turns.{Lists-neighbours, other-end};
 use mesh::Site;
 
-// The bits of a word, and the words of a row.
-const WORD_BITS: u32 = 64;
-
-const ROW_WORDS: u32 = Site::RADIOS / WORD_BITS;
-
 // The counter of v is one more going up and one less going down after, where v is of the level; the others keep theirs.
 pub(crate) fn count_end(up: bool, level: u8, v: usize, numbers: &[u8], counters: &mut [u8])
     requires { ⌜ (v < length (now numbers)) × (v < length (now counters)) ×
@@ -154,10 +149,10 @@ fn release_row(
         (now (counters .entry)) (now (fits .entry)) ⌝ }
 {
     let mut k: u32 = 0;
-    while k < ROW_WORDS {
+    while k < rows::ROW_WORDS {
         release_word(
             rows::word_of(row, k),
-            WORD_BITS * k,
+            rows::WORD_BITS * k,
             level,
             most,
             numbers,

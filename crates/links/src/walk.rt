@@ -188,16 +188,7 @@ fn back(
         level: CANDIDATE,
         most: rise.most,
     };
-    turn::take_radio(
-        call,
-        p as u32,
-        v as u32,
-        links,
-        held,
-        places,
-        counters,
-        due,
-    );
+    turn::take_radio(call, p as u32, v as u32, links, held, places, counters, due);
     Reached {
         front: at.front,
         taken: taken + 1,

@@ -13,10 +13,10 @@ ghost use Rattle.rows.specs.Rows.{row-listed, neighbours-above, row-from
 pub mod sets;
 
 // The bits of a word.
-const WORD_BITS: u32 = 64;
+pub const WORD_BITS: u32 = 64;
 
 // The words of a row.
-const ROW_WORDS: u32 = mesh::Site::RADIOS / WORD_BITS;
+pub const ROW_WORDS: u32 = mesh::Site::RADIOS / WORD_BITS;
 
 // Where the count of a row's neighbours stops: one past the limit, which tells a row with too many and is short of a byte's limit.
 const STOP: u8 = mesh::Site::NEIGHBOURS as u8 + 1;

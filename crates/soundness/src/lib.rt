@@ -29,11 +29,6 @@ const NOWHERE: u16 = 65535;
 // The key of no radio: its radio is 65,535.
 const NO_KEY: u32 = 4294967295;
 
-// The bits of a word, and the words of a row.
-const WORD_BITS: u32 = 64;
-
-const ROW_WORDS: u32 = Site::RADIOS / WORD_BITS;
-
 // A word with all bits set.
 const ALL_BITS: u64 = 18446744073709551615;
 
@@ -116,14 +111,14 @@ fn highest_word(n: u32, first: u32) -> u64
         return 0;
     }
     let many = n - first;
-    if WORD_BITS <= many {
+    if rows::WORD_BITS <= many {
         return ALL_BITS;
     }
     (1 << many) - 1
 }
 
 // The highest words of a site of n, one for each word of a row: worked out once, so that no neighbour by itself is held against n.
-pub(crate) fn highest_words(n: u32) -> [u64; ROW_WORDS as usize]
+pub(crate) fn highest_words(n: u32) -> [u64; rows::ROW_WORDS as usize]
     ensures { λ r. ⌜ Highest-words n r ⌝ }
 {
     [
@@ -230,7 +225,7 @@ pub(crate) fn count_ends(
     links: &[u8],
     numbers: &[u8],
     places: &[u16],
-    highest: &[u64; ROW_WORDS as usize],
+    highest: &[u64; rows::ROW_WORDS as usize],
     a: u32,
 ) -> Ends
     requires { ⌜ Ends-room a (length (now links)) (length (now numbers)) (length (now places))
@@ -258,10 +253,19 @@ pub(crate) fn count_ends(
         key: NO_KEY,
     };
     let mut k: u32 = 0;
-    while k < ROW_WORDS {
+    while k < rows::ROW_WORDS {
         let word = rows::word_of(row, k);
         let limit = highest[k as usize];
-        walk = walk_word(links, numbers, places, a, WORD_BITS * k, limit, word, walk);
+        walk = walk_word(
+            links,
+            numbers,
+            places,
+            a,
+            rows::WORD_BITS * k,
+            limit,
+            word,
+            walk,
+        );
         if !walk.good {
             return bad;
         }
@@ -289,7 +293,7 @@ fn row_checked(
     links: &[u8],
     numbers: &[u8],
     places: &[u16],
-    highest: &[u64; ROW_WORDS as usize],
+    highest: &[u64; rows::ROW_WORDS as usize],
     a: u32,
 ) -> Row
     requires { ⌜ Rows-room n (length (now links)) (length (now numbers)) (length (now places)) × Highest-words n (now highest) × (a < n) ⌝ }
