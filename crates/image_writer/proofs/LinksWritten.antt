@@ -8,11 +8,11 @@ use native.Mathlib.Omega.{arith}
 use lib.Bits.{bitAnd}
 use lib.Count.{trailingZeros}
 use lib.ListN.{length, getD, take, drop, length-append, length-take, length-drop, take-append-drop}
-use lib.Seq.{getD-take, getD-drop, sets, sets-eq, length-sets, take-at, drop-at, take-all, take-take, drop-drop, length-take-le}
+use lib.Seq.{sets, sets-eq, length-sets, take-at, drop-at, take-all, take-take, drop-drop, length-take-le}
 use borrow.Author.Tests.{eq-eqb, ne-eqb}
 use Rattle.mesh.specs.Graph.{Link, link-of}
 use Rattle.rows.specs.Rows.{neighbours-above, row-from, set-bits, row-word, word-of}
-use Rattle.rows.proofs.RowWords.{row-from-word, word-of-whole}
+use Rattle.rows.proofs.RowWords.{row-from-word, word-of-whole, row-word-part}
 use Rattle.rows.proofs.WordLaws.{set-bits-lowest}
 use Rattle.link_list.specs.Links.{links-to, links-above, links-from}
 use Rattle.link_list.proofs.LinksFrom.{links-from-row}
@@ -159,18 +159,11 @@ links-rows n ts a h = links-from-row n ts a 0 h (omega arith)
 
 -- ---- a word that is lent by itself
 
-row-word-part : (ts : List ℕ) (at m k : ℕ) → k ≤ m → row-word k (take m (drop at ts)) 0 ≡ row-word k ts at
-unfolding row-word
-row-word-part ts at m zero h = refl
-row-word-part ts at m (suc k) h =
-    let z : 0 + k ≡ k = omega arith in
-    let byte : getD (take m (drop at ts)) (0 + k) 0 ≡ getD ts (at + k) 0 =
-    ap (λ (j : ℕ). getD (take m (drop at ts)) j 0) z ∙ getD-take m (drop at ts) k 0 (omega arith) ∙ getD-drop at ts k 0 in
-    rw (byte, row-word-part ts at m k (omega arith))
-
 pub word-of-part : (ts : List ℕ) (at m : ℕ) → m ≡ 8 → at + 8 ≤ length ts → word-of (take m (drop at ts)) 0 ≡ row-word 8 ts at
 word-of-part ts at m e h =
-    word-of-whole (take m (drop at ts)) 0 (omega (arith, length-take m (drop at ts), length-drop at ts)) ∙ row-word-part ts at m 8 (omega arith)
+    let here : at + 0 ≡ at = omega arith in
+    word-of-whole (take m (drop at ts)) 0 (omega (arith, length-take m (drop at ts), length-drop at ts)) ∙ row-word-part ts at m 0 8 (omega arith)
+    ∙ ap (row-word 8 ts) here
 
 -- ---- links of one block
 

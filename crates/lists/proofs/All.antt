@@ -3,19 +3,14 @@ use mathlib.Core.Path.{_≡_, refl, ap₂, ap, sym, _∙_}
 use mathlib.Core.Logic.{inl, inr, _⊎_}
 use mathlib.Core.Bool.{Bool, _&&_, true, false}
 use mathlib.Core.List.{List, _∷_, [], _++_}
-use Prim.Native.Nat.{ℕ, suc, _<_}
+use Prim.Native.Nat.{ℕ, _<_}
 use native.Mathlib.Omega.{arith}
-use lib.ListN.{length, getD, drop}
-use lib.Seq.{drop-cons}
+use lib.ListN.{length}
 use lib.Dec.{eqb}
 use borrow.Author.Tests.{eq-eqb, eqb-true}
 use Rattle.lists.specs.Lists.{all, In, range, same}
 use Rattle.lists.proofs.Tests.{and-left, and-right, and-both, never, bool-cases, iff-eq}
 use Rattle.lists.proofs.Range.{in-range, range-in}
-
-pub all-drop : (f : ℕ → Bool) (xs : List ℕ) (i : ℕ) → i < length xs → all f (drop i xs) ≡ (f (getD xs i 0) && all f (drop (suc i) xs))
-unfolding all
-all-drop f xs i l = rw (drop-cons xs i 0 l)
 
 pub all-in : (f : ℕ → Bool) (xs : List ℕ) → all f xs ≡ true → (v : ℕ) → In v xs → f v ≡ true
 unfolding all

@@ -6,15 +6,9 @@ use mathlib.Core.List.{List, [], _∷_, _++_, map}
 use Prim.Native.Nat.{ℕ, suc, _+_, _<_, _≤_, zero}
 use native.Mathlib.Nat.{le-antisymm}
 use native.Mathlib.Omega.{arith}
-use mir.Val.{boolByte}
-use lib.ListN.{length, getD, drop}
-use lib.Seq.{drop-cons}
+use lib.ListN.{length}
 use Rattle.lists.specs.Lists.{count, In}
-use Rattle.lists.proofs.Tests.{byte-bit, never, bit-one, bit-le, bit-true, bool-cases, bit-false}
-
-pub count-drop : (f : ℕ → Bool) (xs : List ℕ) (i : ℕ) → i < length xs → count f (drop i xs) ≡ boolByte (f (getD xs i 0)) + count f (drop (suc i) xs)
-unfolding count
-count-drop f xs i l = rw (drop-cons xs i 0 l, byte-bit (f (getD xs i 0)))
+use Rattle.lists.proofs.Tests.{never, bit-one, bit-le, bit-true, bool-cases, bit-false}
 
 pub count-mono : (f g : ℕ → Bool) (xs : List ℕ) → ((x : ℕ) → In x xs → f x ≡ true → g x ≡ true) → count f xs ≤ count g xs
 unfolding count

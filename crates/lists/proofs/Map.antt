@@ -107,11 +107,6 @@ unfolding flatMap
 flatMap-append f [] ys = refl
 flatMap-append {B = B} f (x ∷ xs) ys = ap (λ (zs : List B). f x ++ zs) (flatMap-append f xs ys) ∙ sym (append-assoc (f x) (flatMap f xs) (flatMap f ys))
 
-pub take-map : {A B : Type 0} (f : A → B) (k : ℕ) (xs : List A) → take k (map f xs) ≡ map f (take k xs)
-take-map f zero xs = refl
-take-map f (suc k) [] = refl
-take-map {B = B} f (suc k) (x ∷ xs) = ap {B = List B} (λ ys. f x ∷ ys) (take-map f k xs)
-
 pub drop-map : {A B : Type 0} (f : A → B) (k : ℕ) (xs : List A) → drop k (map f xs) ≡ map f (drop k xs)
 drop-map f zero xs = refl
 drop-map f (suc k) [] = refl

@@ -3,8 +3,8 @@
 -- row-count.
 use mathlib.Core.Path.{_≡_, sym, ap, _∙_}
 use mathlib.Core.Logic.{_⊎_, inl, inr}
-use mathlib.Core.Bool.{Bool, true, false, _&&_, cond}
-use mathlib.Core.List.{List, [], _++_, append-nil}
+use mathlib.Core.Bool.{Bool, true, false, _&&_}
+use mathlib.Core.List.{List, _++_, append-nil}
 use Prim.Native.Nat.{ℕ, suc, _+_, _*_, _-_, _≤_, _<_, min}
 use native.Mathlib.Omega.{arith}
 use lib.Dec.{leb}
@@ -84,14 +84,6 @@ neighbours-of-linked n ts big s r w a la = neighbours-of-filter n ts a (linked (
 -- the rows of a table of n radios
 pub row-listed-radio : (n : ℕ) (ts : List ℕ) → length ts ≡ row-bytes * n → (a : ℕ) → a < n → row-listed ts a ≡ neighbours-of ts a
 row-listed-radio n ts e a h = row-listed-whole ts a (omega arith)
-
-pub distinct-row-listed : (ts : List ℕ) (a : ℕ) → Distinct (row-listed ts a)
-unfolding row-listed
-distinct-row-listed ts a = go (leb (row-bytes * a + row-bytes) (length ts))
-  where
-    go : (t : Bool) → Distinct (cond t (neighbours-of ts a) [])
-    go true = distinct-neighbours-of ts a
-    go false = tt
 
 pub length-row-listed-radio : (n : ℕ) (ts : List ℕ) → length ts ≡ row-bytes * n → (a : ℕ) → a < n → length (row-listed ts a) ≡ row-degree ts a
 length-row-listed-radio n ts e a h = ap length (row-listed-radio n ts e a h) ∙ length-neighbours-of ts a

@@ -83,7 +83,7 @@ unfolding word-of
 word-of-short row k h = rw (lt-leb (8 * k + 8) (length row) h)
 
 -- bytes of a part of a table, joined
-row-word-part : (ts : List ℕ) (start long i k : ℕ) → i + k ≤ long → row-word k (take long (drop start ts)) i ≡ row-word k ts (start + i)
+pub row-word-part : (ts : List ℕ) (start long i k : ℕ) → i + k ≤ long → row-word k (take long (drop start ts)) i ≡ row-word k ts (start + i)
 unfolding row-word
 row-word-part ts start long i zero h = refl
 row-word-part ts start long i (suc k) h =

@@ -86,15 +86,6 @@ module _ (k i : ℕ) (xs : List ℕ) (fits : length xs ≤ payload-bytes) where
       ap (drop 508) (block-check-last k i xs) ∙ drop-at (block-body k i xs) check 508 length-block-body
       ∙ ap (λ (bs : List ℕ). long (check-sum bs)) (sym take-block)
 
-  pub getD-block-check : (j : ℕ) → getD (block k i xs) (508 + j) 0 ≡ getD (long (check-sum (take 508 (block k i xs)))) j 0
-  getD-block-check j = sym (getD-drop 508 (block k i xs) j 0) ∙ ap (λ (bs : List ℕ). getD bs j 0) drop-block
-
-  -- the payload's part of a block
-  pub payload-block : take payload-bytes (drop 4 (block k i xs)) ≡ filled xs
-  payload-block =
-      ap (λ (bs : List ℕ). take payload-bytes (drop 4 bs)) (block-check-last k i xs)
-      ∙ take-at (filled xs) check payload-bytes (length-filled xs fits)
-
 -- ---- entries in a payload: part j of a list, `each` entries of `size` bytes a block
 
 module _ {A : Type 0} (f : A → List ℕ) (size : ℕ) (sizes : (x : A) → length (f x) ≡ size) (each : ℕ) where
