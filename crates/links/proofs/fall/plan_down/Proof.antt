@@ -27,7 +27,7 @@ returns : tie.Need-returns
 returns c =
     let start = c .before .before .before .before .before .before .before .before .before .before .before .before .before .before .before .before .before .before .before .before .before .before .before .before in
     let peeled = c .before .before .before .before .before .before .peel in
-    fall-unmoved (start .pre .0) (c .before .before .before .before .before .before .before .before .before .before .before .before .before .before .before .before .before .call-at .ensures) _ _ _ (peeled .ensures) (omega (arith, start .pre .1, peeled .kept .1 .1 .1 .1 .1 .1 .1 .1 .0)) (c .if1 .taken)
+    fall-unmoved (start .pre .0) (c .before .before .before .before .before .before .before .before .before .before .before .before .before .before .before .before .before .call-at .ensures) _ _ _ (peeled .ensures) (omega (arith, start .pre .1, peeled .kept .1 .1 .1 .1 .1 .1 .1 .0)) (c .if1 .taken)
 
 list-stuck-requires : tie.Need-list-stuck-requires
 list-stuck-requires c κs =
@@ -40,7 +40,7 @@ returns-2 c =
     let start = c .before .before .before .before .before .before .before .before .before .before .before .before .before .before .before .before .before .before .before .before .before .before .before .before .before .before .before .before .before .before in
     let peeled = c .before .before .before .before .before .before .before .before .before .before .before .before .peel in
     plan-done (start .pre .0) (c .before .before .before .before .before .before .before .before .before .before .before .before .before .before .before .before .before .before .before .before .before .before .before .call-at .ensures) (c .before .before .before .before .before .stretch-of .ensures) _ _ _ _ (peeled .ensures)
-    (omega (arith, start .pre .1, peeled .kept .1 .1 .1 .1 .1 .1 .1 .1 .0)) (c .before .before .list-stuck .ensures)
+    (omega (arith, start .pre .1, peeled .kept .1 .1 .1 .1 .1 .1 .1 .0)) (c .before .before .list-stuck .ensures)
 
 pub plan-down-spec : {M : Type 1} → statement M
 plan-down-spec =

@@ -25,7 +25,7 @@ returns c =
     let peeled = c .before .before .before .before .before .before .before .before .before .before in
     let start = c .before .before .before .before .before .before .before .before .before .before .before .before .before .before .before .before .before .before .before .before .before .before .before .before .before .before .before .before in
     plan-done (start .pre .0) (c .before .before .before .before .before .before .before .before .before .before .before .before .before .before .before .before .before .before .before .before .before .call-at .ensures) (c .before .before .before .before .before .before .before .before .before .before .before .before .before .before .before .before .before .before .before .before .stretch-of .ensures) _ _ _ _ (peeled .peel .ensures)
-    (omega (arith, start .pre .1, peeled .peel .kept .1 .1 .1 .1 .1 .1 .1 .1 .0)) (c .before .before .list-stuck .ensures)
+    (omega (arith, start .pre .1, peeled .peel .kept .1 .1 .1 .1 .1 .1 .1 .0)) (c .before .before .list-stuck .ensures)
 
 pub plan-peel-spec : {M : Type 1} → statement M
 plan-peel-spec =
