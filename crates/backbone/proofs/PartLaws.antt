@@ -36,7 +36,7 @@ use Rattle.rows.proofs.RowListLaws.{neighbours-of-filter}
 use Rattle.rows.proofs.RowWords.{row-listed-whole}
 use Rattle.soundness.specs.Checks.{fits-sound}
 use Rattle.soundness.proofs.SoundSite.{Sound-site, fits-sound-site, site-good-fits, number-entry}
-use Rattle.rows.specs.Sets.{in-set}
+use Rattle.sets.specs.Sets.{in-set}
 use Rattle.floods.specs.Floods.{Level-set, Flood-done, Flooded}
 use Rattle.floods.proofs.FloodSteps.{true-floodable}
 use Rattle.floods.proofs.FloodCore.{level-radios, member-flood}

@@ -16,7 +16,7 @@ use Rattle.lists.specs.Lists.{folded}
 use Rattle.mesh.specs.Tables.{put-bit, tables, graph-in}
 use Rattle.mesh.specs.Connected.{greatest, backbone}
 use Rattle.rows.specs.Rows.{row-listed}
-use Rattle.rows.specs.Sets.{in-set}
+use Rattle.sets.specs.Sets.{in-set}
 use Rattle.soundness.specs.Checks.{fits-sound}
 use Rattle.floods.specs.Floods.{Flooded}
 

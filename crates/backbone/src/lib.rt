@@ -69,7 +69,7 @@ fn take_part<'a>(
         (now (set .entry)) (now (rest .exit)) (now (set .exit))
         ⌝ }
 {
-    if !rows::sets::is_in(rest, v) {
+    if !sets::is_in(rest, v) {
         return;
     }
     let came = floods::flood::flood(links, v, rest, queue);

@@ -18,8 +18,8 @@ use Rattle.lists.proofs.Range.{in-range, length-range, distinct-range}
 use Rattle.lists.proofs.Filter.{in-filter, filter-in, distinct-filter}
 use Rattle.lists.proofs.Distinct.{distinct-one, length-sub}
 use Rattle.rows.specs.Rows.{row-listed}
-use Rattle.rows.specs.Sets.{in-set, take-out, common}
-use Rattle.rows.proofs.SetLaws.{in-set-radio, length-take-out, in-take-out, common-filter}
+use Rattle.sets.specs.Sets.{in-set, take-out, common}
+use Rattle.sets.proofs.SetLaws.{in-set-radio, length-take-out, in-take-out, common-filter}
 use Rattle.floods.specs.Floods.{Spread, start, onward, Flood, flood-at, came-in, Marked-by, Layer-taken, floodable, Flood-done, Flooded}
 use Rattle.floods.proofs.FloodSteps.{Floodable, floodable-true}
 

@@ -17,7 +17,7 @@ use Rattle.lists.proofs.Overwrite.{sets-front}
 use Rattle.lists.proofs.Parts.{getD-zeros}
 use Rattle.lists.proofs.Tests.{bool-cases, never, and-left, and-right, or-cases, or-left, or-right}
 use Rattle.rows.specs.Rows.{row-listed}
-use Rattle.rows.specs.Sets.{in-set, Row-joined, common, Common-taken}
+use Rattle.sets.specs.Sets.{in-set, Row-joined, common, Common-taken}
 use Rattle.rows.proofs.Listing.{put-rest}
 use Rattle.floods.specs.Floods.{flood-at, Marked-by, Rows-joined, Layer-taken, floodable, Flooded}
 

@@ -14,7 +14,7 @@ fn join_rows<'a>(links: &'a [u8], list: &'a [u16], from: usize, to: usize, set: 
 {
     let mut i = from;
     while i < to {
-        rows::sets::join_row(links, list[i] as u32, set);
+        sets::join_row(links, list[i] as u32, set);
         i += 1;
     }
 }
@@ -28,7 +28,7 @@ fn take_layer(links: &[u8], set: &mut [u64], queue: &mut [u16], from: usize, cou
 {
     let mut reach = [0u64; Site::ROW_BYTES / 8];
     join_rows(links, queue, from, count, &mut reach);
-    count + rows::sets::take_common(&reach, set, &mut queue[count..])
+    count + sets::take_common(&reach, set, &mut queue[count..])
 }
 
 // Whether v may be a radio, the set is eight words, and the queue has an entry for each of 512 radios.
@@ -53,7 +53,7 @@ pub fn flood(links: &[u8], v: u32, set: &mut [u64], queue: &mut [u16]) -> usize
     if !is_floodable(v as usize, set.len(), queue.len()) {
         return 0;
     }
-    rows::sets::take_out(set, v);
+    sets::take_out(set, v);
     queue[0] = v as u16;
     let mut count: usize = 1;
     let mut i: usize = 0;

@@ -62,6 +62,6 @@ pub fn core<'a>(
     floods::flood::flood(links, v, &mut rest, &mut queue);
     Value {
         number: 0,
-        value: rows::sets::list_gone(&set, &rest, answer),
+        value: sets::list_gone(&set, &rest, answer),
     }
 }

@@ -11,5 +11,3 @@ pub mod RowWords
 pub mod AboveWords
 -- the neighbours that a row marks, as a list: for callers
 pub mod RowListLaws
--- sets of eight words
-pub mod SetLaws

@@ -7,12 +7,12 @@ use native.Mathlib.Omega.{arith}
 use lib.ListN.{length, getD, take, drop, length-append, length-take, length-drop}
 use lib.Seq.{sets, length-sets, getD-take, getD-drop}
 use lib.Count.{ones, trailingZeros}
-use borrow.Author.Tests.{le-leb, lt-leb}
+use borrow.Author.Tests.{le-leb, lt-leb, lt-ltb, le-ltb}
 use Rattle.mesh.specs.Limits.{max-radios, max-neighbours, row-bytes}
 use Rattle.lists.specs.Lists.{range, filter, head-or, overwrite}
 use Rattle.mesh.specs.Tables.{digit, byte-at, marked}
 use Rattle.lists.proofs.Filter.{filter-append}
-use Rattle.rows.specs.Rows.{neighbours-of, row-listed, row-from, row-count, set-bits, row-word, word-of}
+use Rattle.rows.specs.Rows.{neighbours-of, row-listed, row-from, row-count, set-bits, word-radios, row-word, word-of}
 use Rattle.rows.proofs.WordLaws.{set-bits-filter, set-bits-nothing, set-bits-lowest, length-set-bits, length-set-bits-le, word-at-less, digit-word-at}
 use Rattle.lists.proofs.Range.{range-append}
 use Rattle.lists.proofs.Overwrite.{sets-front, sets-append}
@@ -230,3 +230,13 @@ searching-found ts bytes a k w h e some i =
     (i .1
     ∙ row-from-word ts bytes a k h
     ∙ ap (λ (x : List ℕ). x ++ row-from ts a (k + 1)) (ap (set-bits 64 (64 * k)) (sym e) ∙ set-bits-lowest 64 (64 * k) w pos less))
+
+-- ---- the radios of a word of a set
+
+pub word-radios-below : (k w : ℕ) → k < 8 → word-radios k w ≡ set-bits 64 (64 * k) w
+unfolding word-radios
+word-radios-below k w h = rw (lt-ltb k 8 h)
+
+pub word-radios-past : (k w : ℕ) → 8 ≤ k → word-radios k w ≡ []
+unfolding word-radios
+word-radios-past k w h = rw (le-ltb k 8 h)

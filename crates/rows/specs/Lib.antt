@@ -1,3 +1,2 @@
 -- What the contracts of the rows cite beside the definitions of mesh.
 pub mod Rows
-pub mod Sets

@@ -1,5 +1,5 @@
 // Rows of the links table: one bit tested, set or cleared, a row's neighbours listed, all or the ones above its own radio, and counted
-// in a byte, the lowest of them; the words of a row; the radios of a set listed. Sets of eight words are in sets.rt.
+// in a byte, the lowest of them; the words of a row; the radios of a set, or of a word of one, listed.
 // The bits of a row are walked here, and by the count of its ends in the soundness check.
 ghost use mathlib.Core.Path.{_≡_};
 ghost use Prim.Native.Nat.{suc, _≤_, _+_, _-_, min};
@@ -8,9 +8,7 @@ ghost use lib.Seq.{sets};
 ghost use Rattle.mesh.specs.Limits.{max-radios, max-neighbours};
 ghost use Rattle.lists.specs.Lists.{head-or, overwrite};
 ghost use Rattle.mesh.specs.Tables.{marked, put-bit, put-link};
-ghost use Rattle.rows.specs.Rows.{row-listed, neighbours-above, row-from, row-count, set-bits, row-word, word-of, Words-room};
-
-pub mod sets;
+ghost use Rattle.rows.specs.Rows.{row-listed, neighbours-above, row-from, row-count, set-bits, word-radios, row-word, word-of, Words-room};
 
 // The bits of a word.
 pub const WORD_BITS: u32 = 64;
@@ -220,6 +218,18 @@ fn list_word(word: u64, first: u32, list: &mut [u16], at: usize) -> u8
         return 0;
     }
     list_bits(word, first, &mut list[at..], 0)
+}
+
+// Writes the radios of word k of a set into the list from place `at` on, ascending, as many as fit, and comes back with how many
+// these are. Past the words of a set nothing is written.
+pub fn list_radios(word: u64, k: u32, list: &mut [u16], at: usize) -> u8
+    ensures counted { λ r. ⌜ r ≡ min (length (now (list .entry)) - at) (length (word-radios k word)) ⌝ }
+    ensures listed { λ _. ⌜ now (list .exit) ≡ sets (now (list .entry)) at (word-radios k word) ⌝ }
+{
+    if ROW_WORDS <= k {
+        return 0;
+    }
+    list_word(word, WORD_BITS * k, list, at)
 }
 
 // Writes the radios of a set, kept as one row, into the list, ascending, as many as fit, and comes back with the count of all of

@@ -20,8 +20,8 @@ use Rattle.lists.proofs.Parts.{getD-zeros}
 use Rattle.lists.proofs.Filter.{in-filter, filter-in}
 use Rattle.lists.proofs.Range.{in-range, range-in}
 use Rattle.lists.proofs.Ascending.{head-or-lowest, ascending-filter, ascending-range}
-use Rattle.rows.specs.Sets.{in-set, put-in, common, Set-taken}
-use Rattle.rows.proofs.SetLaws.{in-set-past, in-set-radio, in-put-in, put-in-past, length-put-in, common-filter}
+use Rattle.sets.specs.Sets.{in-set, put-in, common, Set-taken}
+use Rattle.sets.proofs.SetLaws.{in-set-past, in-set-radio, in-put-in, put-in-past, length-put-in, common-filter}
 use Rattle.floods.specs.Floods.{of-level, Level-set, Spread, start}
 use Rattle.floods.proofs.FloodSteps.{true-floodable}
 use Rattle.tree.specs.Trees.{Lists, takes-node, Visited, has-number, Shells-put, Shell-set, Level-ready, Levels-ready}

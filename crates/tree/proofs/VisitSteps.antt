@@ -5,7 +5,7 @@ use mathlib.Core.List.{List}
 use Prim.Native.Nat.{ℕ, _+_}
 use lib.ListN.{getD, set}
 use borrow.Author.Tests.{eq-eqb, ne-eqb}
-use Rattle.rows.specs.Sets.{in-set}
+use Rattle.sets.specs.Sets.{in-set}
 use Rattle.lists.proofs.Tests.{never}
 use Rattle.tree.specs.Trees.{Lists, lists, Core-named, takes-node, Visited}
 

@@ -32,7 +32,7 @@ use Rattle.mesh.specs.Tree.{root-name, root, node, shell, node-name, parent-nam
 use Rattle.mesh.specs.declared.Node.{Node}
 use Rattle.calls.specs.Questions.{By-number, lengths-of, tree-refusal}
 use Rattle.calls.specs.declared.Value.{Value}
-use Rattle.rows.specs.Sets.{in-set}
+use Rattle.sets.specs.Sets.{in-set}
 use Rattle.soundness.specs.Checks.{fits-sound}
 use Rattle.floods.specs.Floods.{Level-set, Flooded}
 

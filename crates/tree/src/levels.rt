@@ -40,7 +40,7 @@ fn visit<'a>(
     if numbers[v as usize] != level {
         return count;
     }
-    if !rows::sets::is_in(set, v as u32) {
+    if !sets::is_in(set, v as u32) {
         return count;
     }
     crate::nodes::put_node(
@@ -64,7 +64,7 @@ fn put_shells(numbers: &[u8], shells: &mut [u64])
 {
     let mut v: usize = 0;
     while v < numbers.len() {
-        rows::sets::put_in(shells, Site::RADIOS * numbers[v] as u32 + v as u32);
+        sets::put_in(shells, Site::RADIOS * numbers[v] as u32 + v as u32);
         v += 1;
     }
 }
@@ -92,7 +92,7 @@ fn take_level<'a>(
         (lists (now (names .exit)) (now (levels .exit)) (now (parents .exit)) (now (answer .exit))) r ⌝ }
 {
     let mut c = count;
-    let mut v = rows::sets::first_common(shell, set) as usize;
+    let mut v = sets::first_common(shell, set) as usize;
     while v < numbers.len() {
         c = visit(
             links,
@@ -107,7 +107,7 @@ fn take_level<'a>(
             answer,
             c,
         );
-        v = rows::sets::first_common(shell, set) as usize;
+        v = sets::first_common(shell, set) as usize;
     }
     c
 }
@@ -151,7 +151,7 @@ fn take_levels<'a>(
             answer,
             count,
         );
-        rows::sets::take_set(shell, &mut all);
+        sets::take_set(shell, &mut all);
         k += 1;
     }
     count

@@ -8,7 +8,7 @@ use lib.ListN.{length, length-set}
 use borrow.Author.Needs.{needs}
 use borrow.Author.Tests.{not-true, not-false}
 use Rattle.mesh.specs.Limits.{max-radios}
-use Rattle.rows.proofs.SetLaws.{length-take-out}
+use Rattle.sets.proofs.SetLaws.{length-take-out}
 use Rattle.floods.specs.Floods.{flood-at}
 use Rattle.floods.proofs.FloodSteps.{floodable-true, flooded-not}
 use Rattle.floods.proofs.FloodLaws.{Walking, walking-turn, flood-starts, flood-ends}

@@ -24,13 +24,13 @@ use Rattle.lists.proofs.Member.{not-member}
 use Rattle.lists.proofs.Range.{in-range}
 use Rattle.lists.proofs.Tests.{bool-cases, iff-eq}
 use Rattle.mesh.proofs.Tables.Digits.{digit-nothing, digit-put-digit}
 use Rattle.rows.specs.Rows.{neighbours-of, row-listed, set-bits, row-word}
-use Rattle.rows.specs.Sets.{in-set, take-out, put-in, word-left, word-taken, Row-joined, common, Common-taken, Set-taken, in-one, gone, Gone-listed}
+use Rattle.sets.specs.Sets.{in-set, take-out, put-in, word-left, word-taken, Row-joined, common, Common-taken, Set-taken, in-one, gone, Gone-listed}
 use Rattle.rows.proofs.MaskLaws.{put-digit-true, put-digit-false}
 use Rattle.rows.proofs.WordLaws.{set-bits-nothing, set-bits-lowest, length-set-bits-le}
 use Rattle.rows.proofs.Listing.{Partial-listing, partial-none, partial-part, partial-end}
 use Rattle.rows.proofs.RowListLaws.{in-neighbours-of, member-neighbours-of}
 use Rattle.rows.proofs.RowWords.{marked-word, words-from, words-end, row-listed-whole, row-listed-short}
 
 -- ---- digits of joined words
 

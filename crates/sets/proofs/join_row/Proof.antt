@@ -7,10 +7,10 @@ use lib.Bits.{bitOr}
 use lib.ListN.{getD}
 use borrow.Author.Needs.{needs}
 use Rattle.mesh.specs.Limits.{row-bytes}
 use Rattle.rows.proofs.RowWords.{word-of-row}
-use Rattle.rows.proofs.SetLaws.{Row-joining, changing-none, changing-turn, row-joining-end, row-joined-short, row-joined-other}
-use Rattle.rows.proofs.sets.join_row.Statement.{statement}
-use Rattle.rows.proofs.sets.join_row.Tie as tie
+use Rattle.sets.proofs.SetLaws.{Row-joining, changing-none, changing-turn, row-joining-end, row-joined-short, row-joined-other}
+use Rattle.sets.proofs.join_row.Statement.{statement}
+use Rattle.sets.proofs.join_row.Tie as tie
 
 abbrev Inv-loop : tie.InvT-loop
 Inv-loop links a set₀ start end row k₀ set k = Row-joining links a set₀ k set

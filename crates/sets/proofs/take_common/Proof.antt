@@ -4,9 +4,9 @@ use mathlib.Core.Path.{sym, _∙_}
 use Prim.Native.Nat.{_-_}
 use native.Mathlib.Omega.{arith}
 use borrow.Author.Needs.{needs}
-use Rattle.rows.proofs.SetLaws.{Common-taking, common-taking-none, common-taking-turn, common-taking-end, nothing-taken, common-first, common-second}
-use Rattle.rows.proofs.sets.take_common.Statement.{statement}
-use Rattle.rows.proofs.sets.take_common.Tie as tie
+use Rattle.sets.proofs.SetLaws.{Common-taking, common-taking-none, common-taking-turn, common-taking-end, nothing-taken, common-first, common-second}
+use Rattle.sets.proofs.take_common.Statement.{statement}
+use Rattle.sets.proofs.take_common.Tie as tie
 
 abbrev Inv-loop : tie.InvT-loop
 Inv-loop other set₀ list₀ n₀ k₀ set list n k = Common-taking other set₀ list₀ n k set list

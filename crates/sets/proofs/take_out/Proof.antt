@@ -2,9 +2,9 @@
 use mathlib.Core.Path.{sym}
 use Prim.Native.Nat.{_/_}
 use borrow.Author.Needs.{needs}
-use Rattle.rows.proofs.SetLaws.{take-out-mask, take-out-past}
-use Rattle.rows.proofs.sets.take_out.Statement.{statement}
-use Rattle.rows.proofs.sets.take_out.Tie as tie
+use Rattle.sets.proofs.SetLaws.{take-out-mask, take-out-past}
+use Rattle.sets.proofs.take_out.Statement.{statement}
+use Rattle.sets.proofs.take_out.Tie as tie
 
 returns : tie.Need-returns
 returns c = take-out-mask _ (c .before .before .args .v) (c .slice-known .given (c .before .before .args .v / 64) .fits)

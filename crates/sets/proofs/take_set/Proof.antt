@@ -5,10 +5,10 @@ use Prim.Native.Nat.{_-_}
 use native.Mathlib.Omega.{arith}
 use lib.ListN.{getD}
 use borrow.Author.Needs.{needs}
-use Rattle.rows.specs.Sets.{word-left}
-use Rattle.rows.proofs.SetLaws.{Changing, changing-none, changing-turn, set-taken-other, set-taken-end}
-use Rattle.rows.proofs.sets.take_set.Statement.{statement}
-use Rattle.rows.proofs.sets.take_set.Tie as tie
+use Rattle.sets.specs.Sets.{word-left}
+use Rattle.sets.proofs.SetLaws.{Changing, changing-none, changing-turn, set-taken-other, set-taken-end}
+use Rattle.sets.proofs.take_set.Statement.{statement}
+use Rattle.sets.proofs.take_set.Tie as tie
 
 abbrev Inv-loop : tie.InvT-loop
 Inv-loop other set₀ k₀ set k = Changing (λ j w. word-left (getD other j 0) w) set₀ k set

@@ -7,9 +7,9 @@ use lib.Bits.{bitAnd}
 use lib.Count.{trailing-le}
 use lib.ListN.{getD}
 use borrow.Author.Needs.{needs}
-use Rattle.rows.proofs.SetLaws.{Common-search, common-search-turn, common-search-found, common-search-end, common-none, common-first, common-second}
-use Rattle.rows.proofs.sets.first_common.Statement.{statement}
-use Rattle.rows.proofs.sets.first_common.Tie as tie
+use Rattle.sets.proofs.SetLaws.{Common-search, common-search-turn, common-search-found, common-search-end, common-none, common-first, common-second}
+use Rattle.sets.proofs.first_common.Statement.{statement}
+use Rattle.sets.proofs.first_common.Tie as tie
 
 abbrev Inv-loop : tie.InvT-loop
 Inv-loop one other k₀ k = Common-search one other k

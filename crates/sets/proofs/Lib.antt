@@ -1,0 +1,2 @@
+-- Laws of sets of eight words, for their functions and callers.
+pub mod SetLaws
