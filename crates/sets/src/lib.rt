@@ -9,19 +9,13 @@ ghost use Rattle.lists.specs.Lists.{head-or};
 ghost use Rattle.rows.specs.Rows.{set-bits};
 ghost use Rattle.sets.specs.Sets.{in-set, take-out, put-in, word-taken, Row-joined, common, Common-taken, Set-taken, Gone-listed};
 
-// The bits of a word.
-const WORD_BITS: u32 = 64;
-
-// The words of a set.
-const ROW_WORDS: u32 = mesh::Site::RADIOS / WORD_BITS;
-
 // Whether v is in the set; past its words it is not.
 pub fn is_in(set: &[u64], v: u32) -> bool
     ensures { λ r. ⌜ r ≡ in-set (now (set .entry)) v ⌝ }
 {
-    let at = (v / WORD_BITS) as usize;
+    let at = (v / rows::WORD_BITS) as usize;
     if at < set.len() {
-        set[at] >> (v % WORD_BITS) & 1 == 1
+        set[at] >> (v % rows::WORD_BITS) & 1 == 1
     } else {
         false
     }
@@ -31,9 +25,9 @@ pub fn is_in(set: &[u64], v: u32) -> bool
 pub fn take_out(set: &mut [u64], v: u32)
     ensures { λ _. ⌜ now (set .exit) ≡ take-out v (now (set .entry)) ⌝ }
 {
-    let at = (v / WORD_BITS) as usize;
+    let at = (v / rows::WORD_BITS) as usize;
     if at < set.len() {
-        set[at] &= !((1 as u64) << (v % WORD_BITS));
+        set[at] &= !((1 as u64) << (v % rows::WORD_BITS));
     }
 }
 
@@ -41,9 +35,9 @@ pub fn take_out(set: &mut [u64], v: u32)
 pub fn put_in(set: &mut [u64], v: u32)
     ensures { λ _. ⌜ now (set .exit) ≡ put-in v (now (set .entry)) ⌝ }
 {
-    let at = (v / WORD_BITS) as usize;
+    let at = (v / rows::WORD_BITS) as usize;
     if at < set.len() {
-        set[at] |= (1 as u64) << (v % WORD_BITS);
+        set[at] |= (1 as u64) << (v % rows::WORD_BITS);
     }
 }
 
@@ -74,12 +68,12 @@ pub fn join_row(links: &[u8], a: u32, set: &mut [u64])
     if links.len() < end {
         return;
     }
-    if set.len() != ROW_WORDS as usize {
+    if set.len() != rows::ROW_WORDS as usize {
         return;
     }
     let row = &links[start..end];
     let mut k: u32 = 0;
-    while k < ROW_WORDS {
+    while k < rows::ROW_WORDS {
         let at = k as usize;
         set[at] = set[at] | rows::word_of(row, k);
         k += 1;
@@ -92,15 +86,15 @@ pub fn join_row(links: &[u8], a: u32, set: &mut [u64])
 pub fn take_common(other: &[u64], set: &mut [u64], list: &mut [u16]) -> usize
     ensures { λ r. ⌜ Common-taken (now (other .entry)) (now (set .entry)) (now (list .entry)) r (now (set .exit)) (now (list .exit)) ⌝ }
 {
-    if other.len() != ROW_WORDS as usize {
+    if other.len() != rows::ROW_WORDS as usize {
         return 0;
     }
-    if set.len() != ROW_WORDS as usize {
+    if set.len() != rows::ROW_WORDS as usize {
         return 0;
     }
     let mut n: usize = 0;
     let mut k: u32 = 0;
-    while k < ROW_WORDS {
+    while k < rows::ROW_WORDS {
         n = take_word(other[k as usize], k, set, list, n);
         k += 1;
     }
@@ -111,14 +105,14 @@ pub fn take_common(other: &[u64], set: &mut [u64], list: &mut [u16]) -> usize
 pub fn take_set(other: &[u64], set: &mut [u64])
     ensures { λ _. ⌜ Set-taken (now (other .entry)) (now (set .entry)) (now (set .exit)) ⌝ }
 {
-    if other.len() != ROW_WORDS as usize {
+    if other.len() != rows::ROW_WORDS as usize {
         return;
     }
-    if set.len() != ROW_WORDS as usize {
+    if set.len() != rows::ROW_WORDS as usize {
         return;
     }
     let mut k: usize = 0;
-    while k < ROW_WORDS as usize {
+    while k < rows::ROW_WORDS as usize {
         set[k] = set[k] ^ (other[k] & set[k]);
         k += 1;
     }
@@ -128,17 +122,17 @@ pub fn take_set(other: &[u64], set: &mut [u64])
 pub fn first_common<'a>(one: &'a [u64], other: &'a [u64]) -> u32
     ensures { λ r. ⌜ r ≡ head-or max-radios (common (now (one .entry)) (now (other .entry))) ⌝ }
 {
-    if one.len() != ROW_WORDS as usize {
+    if one.len() != rows::ROW_WORDS as usize {
         return mesh::Site::RADIOS;
     }
-    if other.len() != ROW_WORDS as usize {
+    if other.len() != rows::ROW_WORDS as usize {
         return mesh::Site::RADIOS;
     }
     let mut k: u32 = 0;
-    while k < ROW_WORDS {
+    while k < rows::ROW_WORDS {
         let word = one[k as usize] & other[k as usize];
         if word != 0 {
-            return WORD_BITS * k + u64::trailing_zeros(word);
+            return rows::WORD_BITS * k + u64::trailing_zeros(word);
         }
         k += 1;
     }
@@ -150,15 +144,15 @@ pub fn first_common<'a>(one: &'a [u64], other: &'a [u64]) -> u32
 pub fn list_gone<'a>(whole: &'a [u64], rest: &'a [u64], list: &mut [u16]) -> u32
     ensures { λ r. ⌜ Gone-listed (now (whole .entry)) (now (rest .entry)) (now (list .entry)) r (now (list .exit)) ⌝ }
 {
-    if whole.len() != ROW_WORDS as usize {
+    if whole.len() != rows::ROW_WORDS as usize {
         return 0;
     }
-    if rest.len() != ROW_WORDS as usize {
+    if rest.len() != rows::ROW_WORDS as usize {
         return 0;
     }
     let mut n: usize = 0;
     let mut k: u32 = 0;
-    while k < ROW_WORDS {
+    while k < rows::ROW_WORDS {
         let at = k as usize;
         n += rows::list_radios(whole[at] ^ rest[at], k, list, n) as usize;
         k += 1;
