@@ -7,8 +7,8 @@ ghost use Rattle.mesh.specs.Limits.{max-radios, max-neighbours, row-bytes};
 ghost use Rattle.lists.specs.Lists.{range};
 ghost use Rattle.mesh.specs.Tables.{put-bit, put-link};
 ghost use Rattle.rows.specs.Rows.{neighbours-of, set-bits};
-ghost use Rattle.links.specs.Turns.{end-counted, counter-less, released, place-marked, places-released, places-fitting, Releasable, Row-ready, Near-ready};
-ghost use Rattle.links.specs.Turns.{Lists-neighbours, other-end};
+ghost use Rattle.links.specs.Turns.{end-counted, counter-less, released, place-marked, places-released, places-fitting, Releasable};
+ghost use Rattle.links.specs.Turns.{Row-ready, Near-ready, Lists-neighbours, other-end};
 use mesh::Site;
 
 // The counter of v is one more going up and one less going down after, where v is of the level; the others keep theirs.
