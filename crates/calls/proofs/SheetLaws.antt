@@ -202,13 +202,13 @@ module _ (ns : List ℕ) (fit : Cells-fit ns) where
   columns-front w = record {
     cells = λ i c j h k v e l.
         let m : i < sheet-lines (length ns) = line-of i c (omega arith) in
-        in-front (column-at i c j) (omega arith) ∙ sheet-columns .cells i c j h k v e l;
-    spaces = λ i c j m h k l. in-front (column-at i c j) (omega arith) ∙ sheet-columns .spaces i c j m h k l;
-    feeds = λ i m. in-front (line-bytes * i + line-width) (omega arith) ∙ sheet-columns .feeds i m;
+        getD-page (column-at i c j) (omega arith) ∙ sheet-columns .cells i c j h k v e l;
+    spaces = λ i c j m h k l. getD-page (column-at i c j) (omega arith) ∙ sheet-columns .spaces i c j m h k l;
+    feeds = λ i m. getD-page (line-bytes * i + line-width) (omega arith) ∙ sheet-columns .feeds i m;
   }
     where
-      in-front : (j : ℕ) → j < line-bytes * sheet-lines (length ns) → getD (overwrite (sheet ns) w) j 0 ≡ getD (sheet ns) j 0
-      in-front j h = List·getD-append (sheet ns) (drop (length (sheet ns)) w) 0 j (omega (arith, length-sheet))
+      getD-page : (j : ℕ) → j < line-bytes * sheet-lines (length ns) → getD (overwrite (sheet ns) w) j 0 ≡ getD (sheet ns) j 0
+      getD-page j h = List·getD-append (sheet ns) (drop (length (sheet ns)) w) 0 j (omega (arith, length-sheet))
 
 -- ---- sound tables
 

@@ -121,7 +121,7 @@ module _ (hs : List ℕ) (a n : ℕ) (la : a < n) where
       go s true e m z = let q : b ≡ y = eqb-true b y e in rw q (join s m (hears hs a y) z)
       go s false e m z = part s m (hears hs a y) (hears hs a b) z
 
--- the pairs of a with the radios `whole` are begun from the table w; `rest` are left
+-- of the pairs of a with the radios `whole`, marked from the table w on, the ones with `rest` are left
 pub record Row-marking (hs : List ℕ) (a : ℕ) (whole w rest : List ℕ) (r : ℕ) (x : List ℕ) : Type 0 where
   pub long : length x ≡ length w
   pub tally : Counting (λ b. not (hears hs a b)) whole rest r

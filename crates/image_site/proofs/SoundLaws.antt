@@ -22,7 +22,7 @@ module _ (n : ℕ) (ls : List Link) (xs ns : List ℕ) (w : Bool) (w-is : w ≡ 
 
 -- ---- links too
 
--- an image with the blocks for its links has those for its order
+-- an image with the blocks for its links has the ones for its order
 pub orders-inside : (n m k long : ℕ) → k ≡ n → block-bytes * block-count n m ≤ long → block-bytes * (1 + order-blocks k) ≤ long
 unfolding block-count
 orders-inside n m k long e w = rw e (omega arith)

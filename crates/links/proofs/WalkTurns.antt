@@ -238,7 +238,7 @@ module _ {a b k first size : ℕ} {ts ns tail ps : List ℕ} (s : Walk-site a b 
 
     -- ---- the radio at the front
 
-    module _ (v : ℕ) (v-is : v ≡ getD part front 0) (in-front : front < size) (undue : (q : ℕ) → q < front → marked ds 0 (first + q) ≡ false) where
+    module _ (v : ℕ) (v-is : v ≡ getD part front 0) (front-inside : front < size) (undue : (q : ℕ) → q < front → marked ds 0 (first + q) ≡ false) where
       abbrev later : List ℕ
       later = drop (suc front) part
 

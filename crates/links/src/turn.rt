@@ -143,7 +143,8 @@ fn release_row(
     fits: &mut [u8],
 )
     requires { ⌜ (length (now row) ≡ row-bytes) × Releasable (now numbers) (now places) level (neighbours-of (now row) 0) (now counters) ⌝ }
-    ensures counted { λ _. ⌜ now (counters .exit) ≡ released (now (numbers .entry)) level (neighbours-of (now (row .entry)) 0) (now (counters .entry)) ⌝ }
+    ensures counted { λ _. ⌜ now (counters .exit)
+        ≡ released (now (numbers .entry)) level (neighbours-of (now (row .entry)) 0) (now (counters .entry)) ⌝ }
     ensures marked { λ _. ⌜ now (fits .exit)
         ≡ places-released (now (numbers .entry)) (now (places .entry)) level most (neighbours-of (now (row .entry)) 0)
         (now (counters .entry)) (now (fits .entry)) ⌝ }

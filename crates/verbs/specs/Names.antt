@@ -1,5 +1,5 @@
 -- The words of the program `site`.
---   plain-verb-of word   the verb of a word, of those that print what one call writes, or no call's
+--   plain-verb-of word   the verb of a word, of the ones that print what one call writes, or no call's
 --   verb-of word         the verb of a word; `Unknown` where it is none
 --   numbers-of verb      how many numbers follow the verb
 -- Laws are in proofs/NameLaws.antt. Definitions only.

@@ -209,7 +209,7 @@ module _ (f : ℕ → ℕ → Bool) (most : ℕ) (above part : List ℕ) (pos : 
 
       -- ---- what stands at the front, when no place before it is due
 
-      module _ (in-front : front < length part) (none : (p : ℕ) → p < front → due p ≡ false) where
+      module _ (front-below : front < length part) (none : (p : ℕ) → p < front → due p ≡ false) where
         abbrev x : ℕ
         x = getD part front 0
 
@@ -217,10 +217,10 @@ module _ (f : ℕ → ℕ → Bool) (most : ℕ) (above part : List ℕ) (pos : 
         after = drop (suc front) part
 
         x-place : pos x ≡ front
-        x-place = P .placed front in-front
+        x-place = P .placed front front-below
 
         cut : rest ≡ x ∷ after
-        cut = drop-cons part front 0 in-front
+        cut = drop-cons part front 0 front-below
 
         front-in : (w : ℕ) → In w after → In w rest
         front-in w m = rw cut (inr m)
@@ -241,10 +241,10 @@ module _ (f : ℕ → ℕ → Bool) (most : ℕ) (above part : List ℕ) (pos : 
         pub turn-take : {new : ℕ → ℕ} {next : ℕ → Bool} → Released x front mark counter new due next
             → count (f x) (h .held ++ after) + count (f x) above ≤ most → Walks (taken ++ (x ∷ [])) (suc front) mark new next
         turn-take {new} {next} r fit =
-            turn-leave x (rw x-place r) (h .held) (suc front) (walk-take f most above (h .held) after x takes-now fit all-full) (omega (arith, in-front))
+            turn-leave x (rw x-place r) (h .held) (suc front) (walk-take f most above (h .held) after x takes-now fit all-full) (omega (arith, front-below))
             (omega arith, omega (arith, x-place)) (λ p l. passes p (bool-cases (eqb p front)) l)
             (λ g. ap (λ (z : List ℕ). count g (h .held ++ z)) cut ∙ count-mid g x (h .held) after) (λ v m. (m, not-front v m)) (λ v m. inr m) front-in
-            (in-getD part front in-front) (h .spent x (λ m. not-front x m refl)) (h .marks)
+            (in-getD part front front-below) (h .spent x (λ m. not-front x m refl)) (h .marks)
           where
             passes : (p : ℕ) → (eqb p front ≡ true) ⊎ (eqb p front ≡ false) → p < suc front → (p ≡ pos x) ⊎ (p < front)
             passes p (inl e) l = inl (eqb-true p front e ∙ sym x-place)
@@ -332,7 +332,7 @@ module _ (f : ℕ → ℕ → Bool) (most : ℕ) (above part : List ℕ) (pos : 
           turn-hold = record {
             held = held1;
             takes = walk-hold f most above (h .held) after x takes-now;
-            room = omega (arith, in-front);
+            room = omega (arith, front-below);
             behind = behind1;
             marks = marks1;
             exact = λ v m. full1 v (held-cases v m) .1;

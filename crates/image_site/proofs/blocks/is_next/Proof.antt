@@ -1,4 +1,4 @@
--- `blocks::is_next` meets its contract: the halves of x are those of its key, the other way round.
+-- `blocks::is_next` meets its contract: the halves of x are the ones of its key, the other way round.
 use mathlib.Core.Path.{_≡_}
 use Prim.Native.Nat.{_+_, _*_, _/_, _%_}
 use native.Mathlib.Omega.{arith}
