@@ -2,16 +2,21 @@
 
 import math
 
-WIDTH, HEIGHT = 1280, 1130
+WIDTH, HEIGHT = 1280, 1170
 LEFT, RIGHT = 60, 1260
 COLOURS = ["#0072b2", "#d55e00", "#009e73", "#aa4499", "#999933", "#56b4e9", "#332288", "#cc3311", "#777777", "#111111"]
 # one for each line of the lowest panel, apart from the sites'
-LINES = ["#1b1b1b", "#8c510a", "#01665e", "#762a83", "#b2182b", "#4d9221", "#2166ac", "#c51b7d", "#737373", "#e08214"]
+LINES = ["#1b1b1b", "#8c510a", "#01665e", "#762a83", "#b2182b", "#4d9221", "#2166ac", "#c51b7d", "#737373", "#e08214", "#35978f"]
 GROWING = ["clear", "check", "down+up", "core", "tree", "staircase", "sheet", "script_write", "image_write", "image_read", "image_block"]
 
 
 def text(x, y, words, anchor="middle", size=12, colour="#222"):
     return f'<text x="{x:.1f}" y="{y:.1f}" text-anchor="{anchor}" font-size="{size}" fill="{colour}">{words}</text>'
+
+
+def slanted(x, y, words, size=11):
+    """Words that end at the place, rising to it: more of them fit side by side."""
+    return f'<text x="{x:.1f}" y="{y:.1f}" text-anchor="end" font-size="{size}" fill="#222" transform="rotate(-35 {x:.1f} {y:.1f})">{words}</text>'
 
 
 def line(x, y, x2, y2, colour="#ddd", width=1):
@@ -26,7 +31,7 @@ def legend(sites, y):
     parts, x = [], LEFT
     for site, colour in zip(sites, COLOURS):
         parts += [dot(x + 5, y - 4, colour), text(x + 14, y, site.replace("_", " "), "start")]
-        x += 106
+        x += 110
     return parts + [line(x, y - 4, x + 18, y - 4, "#c00", 2), text(x + 24, y, "goal, at most", "start")]
 
 
@@ -35,7 +40,7 @@ def ratio_columns(run, kind, at, bottom, goal):
     step, parts = (RIGHT - LEFT) / len(run.calls), []
     for i, call in enumerate(run.calls):
         x = LEFT + i * step
-        parts += [line(x, at(1) + 4, x, at(1) - 4, "#888"), text(x + step / 2, bottom + 18, call.replace("_", " "), size=10)]
+        parts += [line(x, at(1) + 4, x, at(1) - 4, "#888"), slanted(x + step / 2 + 4, bottom + 14, call.replace("_", " "))]
         if goal:
             parts.append(line(x + 4, at(goal(call)), x + step - 4, at(goal(call)), "#c00", 2))
         for j, n in enumerate(run.sizes):
@@ -103,5 +108,5 @@ def plot(run, goal):
     head = f'<svg xmlns="http://www.w3.org/2000/svg" viewBox="0 0 {WIDTH} {HEIGHT}" font-family="sans-serif">'
     back = f'<rect width="{WIDTH}" height="{HEIGHT}" fill="#fff"/>'
     plain = ratio_panel(run, "plain", 70, f"Time of a call, engine : line-by-line C (in each column n = {sizes})", goal)
-    careful = ratio_panel(run, "careful", 440, "Time of a call, engine : careful C")
-    return "\n".join([head, back, *legend(run.sites, 30), *plain, *careful, *growth_panel(run, 810), "</svg>", ""])
+    careful = ratio_panel(run, "careful", 460, "Time of a call, engine : careful C")
+    return "\n".join([head, back, *legend(run.sites, 30), *plain, *careful, *growth_panel(run, 850), "</svg>", ""])
