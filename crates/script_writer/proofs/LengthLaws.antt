@@ -1,6 +1,6 @@
 -- The script's length, counted: the digits of a number, the bytes of a line, and the invariant of each loop.
 --   digits-two, ..               how many digits a number has
---   length-radios, length-up, length-script   the bytes of a line, and of all
+--   length-radios, length-up-text, length-up, length-script   the bytes of a line, and of all
 --   Ends-counted, Rows-counted   after i pieces: what is counted and the bytes of what is left are the bytes of the whole
 use mathlib.Core.Path.{_≡_, ap, _∙_}
 use mathlib.Core.List.{List, _∷_, [], _++_, flatMap}
@@ -14,7 +14,7 @@ use Rattle.mesh.specs.Graph.{Link, link-of, graph}
 use Rattle.rows.specs.Rows.{neighbours-above}
 use Rattle.text.specs.Text.{decimal, further-fields, printed-line}
 use Rattle.text.proofs.DecimalLaws.{length-decimal-digit, length-decimal-more}
-use Rattle.calls.specs.Script.{radios-text, up-line, script-of, script-length}
+use Rattle.calls.specs.Script.{radios-text, up-text, up-line, script-of, script-length}
 use Rattle.link_list.specs.Links.{links-to, links-above, links-from}
 use Rattle.link_list.proofs.LinksFrom.{links-from-row, links-from-end}
 
@@ -34,13 +34,17 @@ digits-five x h l = omega (arith, length-decimal-more x (omega arith), digits-fo
 
 -- ---- lines
 
-length-radios : (n : ℕ) → length (radios-text n) ≡ 8 + length (decimal n)
+pub length-radios : (n : ℕ) → length (radios-text n) ≡ 8 + length (decimal n)
 unfolding printed-line further-fields
 length-radios n = omega (arith, length-append (decimal n) (10 ∷ []))
 
+pub length-up-text : (a b : ℕ) → length (up-text a b) ≡ 5 + length (decimal a) + length (decimal b)
+unfolding printed-line further-fields
+length-up-text a b = omega (arith, length-append (decimal a) (32 ∷ (decimal b ++ (10 ∷ []))), length-append (decimal b) (10 ∷ []))
+
 length-up : (a b : ℕ) → length (up-line (link-of a b)) ≡ 5 + length (decimal a) + length (decimal b)
-unfolding up-line printed-line further-fields
-length-up a b = omega (arith, length-append (decimal a) (32 ∷ (decimal b ++ (10 ∷ []))), length-append (decimal b) (10 ∷ []))
+unfolding up-line
+length-up a b = length-up-text a b
 
 -- the whole script
 pub length-script : (n : ℕ) (ls : List Link) → script-length (graph n ls) ≡ 8 + length (decimal n) + length (flatMap up-line ls)
