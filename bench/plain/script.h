@@ -42,7 +42,7 @@ static void c_put_script(const struct lent *t, uint8_t *p) {
     }
 }
 
-static unsigned c_digits(unsigned x) { return x < 10 ? 1 : x < 100 ? 2 : x < 1000 ? 3 : x < 10000 ? 4 : 5; }
+static unsigned c_digits(unsigned x) { return x < 10 ? 1 : x < 100 ? 2 : 3; }
 
 static struct c_value c_script_length(const struct lent *t) {
     uint16_t list[NEIGHBOURS];

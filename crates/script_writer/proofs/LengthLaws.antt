@@ -26,12 +26,6 @@ digits-two x h l = omega (arith, length-decimal-more x h, length-decimal-digit (
 pub digits-three : (x : ℕ) → 100 ≤ x → x < 1000 → length (decimal x) ≡ 3
 digits-three x h l = omega (arith, length-decimal-more x (omega arith), digits-two (x / 10) (omega arith) (omega arith))
 
-pub digits-four : (x : ℕ) → 1000 ≤ x → x < 10000 → length (decimal x) ≡ 4
-digits-four x h l = omega (arith, length-decimal-more x (omega arith), digits-three (x / 10) (omega arith) (omega arith))
-
-pub digits-five : (x : ℕ) → 10000 ≤ x → x < 100000 → length (decimal x) ≡ 5
-digits-five x h l = omega (arith, length-decimal-more x (omega arith), digits-four (x / 10) (omega arith) (omega arith))
-
 -- ---- lines
 
 pub length-radios : (n : ℕ) → length (radios-text n) ≡ 8 + length (decimal n)
@@ -55,14 +49,14 @@ length-script n ls = omega (arith, length-append (radios-text n) (flatMap up-lin
 
 pub record Ends-counted (a : ℕ) (bs : List ℕ) (i sum : ℕ) : Type 0 where
   pub low : i ≤ length bs
-  pub small : sum ≤ 15 * i
+  pub small : sum ≤ 11 * i
   pub is : sum + length (flatMap up-line (links-to a (drop i bs))) ≡ length (flatMap up-line (links-to a bs))
 
 pub ends-counted-none : (a : ℕ) (bs : List ℕ) → Ends-counted a bs 0 0
 ends-counted-none a bs = record { low = omega arith; small = omega arith; is = omega arith }
 
-pub ends-counted-next : (a : ℕ) (bs : List ℕ) (i sum own d : ℕ) → i < length bs → own ≡ 5 + length (decimal a) → own ≤ 10 → d ≡ length (decimal (getD bs i 0)) → d ≤ 5
-    → Ends-counted a bs i sum → Ends-counted a bs (i + 1) (sum + (own + d))
+pub ends-counted-next : (a : ℕ) (bs : List ℕ) (i sum own d : ℕ) → i < length bs → own ≡ 5 + length (decimal a) → own ≤ 8
+    → d ≡ length (decimal (getD bs i 0)) → d ≤ 3 → Ends-counted a bs i sum → Ends-counted a bs (i + 1) (sum + (own + d))
 unfolding flatMap
 ends-counted-next a bs i sum own d h e few f less c =
     let split : length (flatMap up-line (links-to a (drop i bs)))

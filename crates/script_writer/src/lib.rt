@@ -134,9 +134,10 @@ fn put_script(buffer: &mut [u8], n: u32, links: &[u8]) -> usize
     put_links(buffer, place, n, links)
 }
 
-// How many digits x has.
+// How many digits a radio has.
 fn digits(x: u16) -> usize
-    ensures { λ r. ⌜ (r ≡ length (decimal x)) × (r ≤ 5) ⌝ }
+    requires { ⌜ x < 1000 ⌝ }
+    ensures { λ r. ⌜ (r ≡ length (decimal x)) × (r ≤ 3) ⌝ }
 {
     if x < 10 {
         return 1;
@@ -144,18 +145,13 @@ fn digits(x: u16) -> usize
     if x < 100 {
         return 2;
     }
-    if x < 1000 {
-        return 3;
-    }
-    if x < 10000 {
-        return 4;
-    }
-    5
+    3
 }
 
 // The bytes of a line for each link of a to the listed radios: beside their digits, a line has `up`, two spaces and a line feed.
 fn row_length(a: u16, list: &[u16]) -> usize
-    requires { ⌜ length (now list) ≤ max-neighbours ⌝ }
+    requires radios { ⌜ (a < max-radios) × Entries-below max-radios (now list) ⌝ }
+    requires few { ⌜ length (now list) ≤ max-neighbours ⌝ }
     ensures { λ r. ⌜ r ≡ length (flatMap up-line (links-to a (now (list .entry)))) ⌝ }
 {
     let own = 5 + digits(a);

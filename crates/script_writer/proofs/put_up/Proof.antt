@@ -27,7 +27,7 @@ first-space c =
 lower-requires : tie.Need-put-number-requires
 lower-requires c κs =
     let start = c .before .before in
-    (start .pre .0, simp length-set (omega (arith, length-up-text (start .args .a) (start .args .b))))
+    (omega (arith, start .pre .0, start .pre .1), simp length-set (omega (arith, length-up-text (start .args .a) (start .args .b))))
 
 second-space : tie.Need-slice-write-buffer-4
 second-space c =
@@ -50,7 +50,7 @@ higher-requires c κs =
     let start = lower .before .before .before in
     let s = start .args in
     let long = simp length-set at (lower .put-number .kept .0) in (
-      start .pre .1,
+      omega (arith, start .pre .0, start .pre .1),
       simp length-set (omega (arith, long, up-lower (s .buffer .now) (s .at) (s .a) (s .b) (start .pre .2) (omega arith) (lower .put-number .ensures))),
     )
 
