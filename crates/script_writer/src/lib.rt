@@ -20,6 +20,13 @@ use calls::Value;
 use mesh::Site;
 use script::lines;
 
+// The letters of `up`, and the space after it.
+const U: u8 = lines::UP[0];
+
+const P: u8 = lines::UP[1];
+
+const SPACE: u8 = lines::UP[2];
+
 // Puts line 1 of a site of n radios.
 fn put_first(buffer: &mut [u8], at: usize, n: u64) -> usize
     ensures { λ r. ⌜ Puts (buffer-at (now (buffer .entry)) at) (radios-text n) (buffer-at (now (buffer .exit)) r) ⌝ }
@@ -62,9 +69,9 @@ fn put_up(buffer: &mut [u8], at: usize, a: u32, b: u32) -> usize
     requires { ⌜ (a < 1000) × (b < 1000) × (at + length (up-text a b) ≤ length (now buffer)) ⌝ }
     ensures { λ r. ⌜ Puts (buffer-at (now (buffer .entry)) at) (up-text a b) (buffer-at (now (buffer .exit)) r) ⌝ }
 {
-    buffer[at] = lines::UP[0];
-    buffer[at + 1] = lines::UP[1];
-    buffer[at + 2] = lines::UP[2];
+    buffer[at] = U;
+    buffer[at + 1] = P;
+    buffer[at + 2] = SPACE;
     let space = put_number(buffer, at + 3, a);
     buffer[space] = b' ';
     let feed = put_number(buffer, space + 1, b);

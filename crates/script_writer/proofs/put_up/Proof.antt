@@ -97,5 +97,5 @@ returns c =
 pub put-up-spec : {M : Type 1} → statement M
 put-up-spec =
     tie.close (
-    tie.spec (λ c. search needs) first-letter (λ c. search needs) (λ c. search needs) second-letter (λ c. search needs) (λ c. search needs) first-space
+    tie.spec first-letter (λ c. search needs) second-letter (λ c. search needs) first-space
     (λ c. search needs) lower-requires second-space add-space higher-requires feed add-feed same-length returns)
