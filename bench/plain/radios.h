@@ -51,28 +51,34 @@ static struct c_later c_later_of(const struct lent *t, uint32_t v) {
     return (struct c_later){0, ends.later, ends.first == NOWHERE ? NOWHERE : t->order[ends.first]};
 }
 
-/* A number right-aligned in so many columns. */
-static uint8_t *c_put_right(uint8_t *p, unsigned columns, unsigned x) {
-    for (unsigned i = columns; i--; x /= 10) p[i] = x || i + 1 == columns ? '0' + x % 10 : ' ';
-    return p + columns;
+/* A column of x: its digit that counts p, or a space where it has none. */
+static inline uint8_t c_column(unsigned p, unsigned x) { return x < p ? ' ' : '0' + x / p % 10; }
+
+/* The cell of radio v, column by column. */
+static inline void c_put_cell(uint8_t *cell, unsigned v, unsigned x) {
+    cell[0] = c_column(100, v);
+    cell[1] = c_column(10, v);
+    cell[2] = '0' + v % 10;
+    cell[3] = ':';
+    cell[4] = c_column(10, x);
+    cell[5] = '0' + x % 10;
+    cell[6] = ' ';
+    cell[7] = ' ';
+}
+
+/* Line i: the cells of its radios, spaces, a line feed. */
+static inline void c_put_line(uint8_t *line, const struct lent *t, unsigned i) {
+    unsigned first = 8 * i, k = t->n - first < 8 ? t->n - first : 8;
+    for (unsigned j = 0; j < k; j++) c_put_cell(line + 8 * j, first + j, t->numbers[first + j]);
+    for (unsigned j = 8 * k; j < PAGE_LINE - 1; j++) line[j] = ' ';
+    line[PAGE_LINE - 1] = '\n';
 }
 
 static struct c_value c_sheet(const struct lent *t, uint8_t *page, size_t room) {
-    unsigned number = c_refusal(t, 1), size = PAGE_LINE * ((t->n + 7) / 8);
+    unsigned number = c_refusal(t, 1), lines = (t->n + 7) / 8;
     if (number) return (struct c_value){number, 0};
-    if (room < size) return (struct c_value){12, 0};
-    uint8_t *p = page;
-    for (unsigned v = 0; v < t->n; v++) {
-        p = c_put_right(p, 3, v);
-        *p++ = ':';
-        p = c_put_right(p, 2, t->numbers[v]);
-        *p++ = ' ', *p++ = ' ';
-        if (v % 8 == 7) *p++ = '\n';
-    }
-    if (t->n % 8) {
-        while (p < page + size - 1) *p++ = ' ';
-        *p = '\n';
-    }
-    return (struct c_value){0, size};
+    if (room < PAGE_LINE * lines) return (struct c_value){12, 0};
+    for (unsigned i = 0; i < lines; i++) c_put_line(page + PAGE_LINE * i, t, i);
+    return (struct c_value){0, PAGE_LINE * lines};
 }
 #endif

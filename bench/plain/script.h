@@ -1,41 +1,48 @@
-/* The script that rebuilds a site, in C: put byte by byte; its length counted by digits. */
+/* The script that rebuilds a site, in C: its length counted by digits, then put byte by byte. */
 #ifndef SCRIPT_H
 #define SCRIPT_H
 #include "check.h"
 
-/* Text put from a place on; a byte past the room is left out, and counted. */
-struct c_text {
-    uint8_t *bytes;
-    size_t room, at;
-};
-
-static inline void c_put_byte(struct c_text *p, uint8_t x) {
-    if (p->at < p->room) p->bytes[p->at] = x;
-    p->at++;
+/* Puts x, of at most three digits; the place after it. */
+static inline uint8_t *c_put_number(uint8_t *p, unsigned x) {
+    if (x < 10) {
+        p[0] = '0' + x;
+        return p + 1;
+    }
+    if (x < 100) {
+        p[0] = '0' + x / 10;
+        p[1] = '0' + x % 10;
+        return p + 2;
+    }
+    p[0] = '0' + x / 100;
+    p[1] = '0' + x / 10 % 10;
+    p[2] = '0' + x % 10;
+    return p + 3;
 }
 
-static inline void c_put_word(struct c_text *p, const char *word) {
-    while (*word) c_put_byte(p, *word++);
+static inline uint8_t *c_put_up(uint8_t *p, unsigned a, unsigned b) {
+    p[0] = 'u';
+    p[1] = 'p';
+    p[2] = ' ';
+    p = c_put_number(p + 3, a);
+    *p++ = ' ';
+    p = c_put_number(p, b);
+    *p++ = '\n';
+    return p;
 }
 
-static void c_put_decimal(struct c_text *p, uint64_t x) {
-    if (x >= 10) c_put_decimal(p, x / 10);
-    c_put_byte(p, '0' + x % 10);
-}
-
-static void c_put_script(const struct lent *t, struct c_text *p) {
+static void c_put_script(const struct lent *t, uint8_t *p) {
     uint16_t list[NEIGHBOURS];
-    c_put_word(p, "radios "), c_put_decimal(p, t->n), c_put_byte(p, '\n');
+    for (const char *word = "radios "; *word; word++) *p++ = *word;
+    p = c_put_number(p, t->n);
+    *p++ = '\n';
     for (unsigned a = 0; a < t->n; a++) {
         unsigned count = c_above(t->links, a, list);
-        for (unsigned i = 0; i < count; i++) {
-            c_put_word(p, "up "), c_put_decimal(p, a);
-            c_put_byte(p, ' '), c_put_decimal(p, list[i]), c_put_byte(p, '\n');
-        }
+        for (unsigned i = 0; i < count; i++) p = c_put_up(p, a, list[i]);
     }
 }
 
-static unsigned c_digits(unsigned x) { return x < 10 ? 1 : x < 100 ? 2 : x < 1000 ? 3 : x < 10000 ? 4 : 5; }
+static unsigned c_digits(unsigned x) { return x < 10 ? 1 : x < 100 ? 2 : 3; }
 
 static struct c_value c_script_length(const struct lent *t) {
     uint16_t list[NEIGHBOURS];
@@ -49,11 +56,10 @@ static struct c_value c_script_length(const struct lent *t) {
 }
 
 static struct c_value c_script_write(const struct lent *t, uint8_t *text, size_t room) {
-    struct c_text p = {text, room, 0};
     struct c_value length = c_script_length(t);
     if (length.number) return length;
     if (room < length.value) return (struct c_value){13, 0};
-    c_put_script(t, &p);
+    c_put_script(t, text);
     return length;
 }
 #endif

@@ -1,6 +1,6 @@
 -- The script's length, counted: the digits of a number, the bytes of a line, and the invariant of each loop.
 --   digits-two, ..               how many digits a number has
---   length-radios, length-up, length-script   the bytes of a line, and of all
+--   length-radios, length-up-text, length-up, length-script   the bytes of a line, and of all
 --   Ends-counted, Rows-counted   after i pieces: what is counted and the bytes of what is left are the bytes of the whole
 use mathlib.Core.Path.{_≡_, ap, _∙_}
 use mathlib.Core.List.{List, _∷_, [], _++_, flatMap}
@@ -14,7 +14,7 @@ use Rattle.mesh.specs.Graph.{Link, link-of, graph}
 use Rattle.rows.specs.Rows.{neighbours-above}
 use Rattle.text.specs.Text.{decimal, further-fields, printed-line}
 use Rattle.text.proofs.DecimalLaws.{length-decimal-digit, length-decimal-more}
-use Rattle.calls.specs.Script.{radios-text, up-line, script-of, script-length}
+use Rattle.calls.specs.Script.{radios-text, up-text, up-line, script-of, script-length}
 use Rattle.link_list.specs.Links.{links-to, links-above, links-from}
 use Rattle.link_list.proofs.LinksFrom.{links-from-row, links-from-end}
 
@@ -26,21 +26,19 @@ digits-two x h l = omega (arith, length-decimal-more x h, length-decimal-digit (
 pub digits-three : (x : ℕ) → 100 ≤ x → x < 1000 → length (decimal x) ≡ 3
 digits-three x h l = omega (arith, length-decimal-more x (omega arith), digits-two (x / 10) (omega arith) (omega arith))
 
-pub digits-four : (x : ℕ) → 1000 ≤ x → x < 10000 → length (decimal x) ≡ 4
-digits-four x h l = omega (arith, length-decimal-more x (omega arith), digits-three (x / 10) (omega arith) (omega arith))
-
-pub digits-five : (x : ℕ) → 10000 ≤ x → x < 100000 → length (decimal x) ≡ 5
-digits-five x h l = omega (arith, length-decimal-more x (omega arith), digits-four (x / 10) (omega arith) (omega arith))
-
 -- ---- lines
 
-length-radios : (n : ℕ) → length (radios-text n) ≡ 8 + length (decimal n)
+pub length-radios : (n : ℕ) → length (radios-text n) ≡ 8 + length (decimal n)
 unfolding printed-line further-fields
 length-radios n = omega (arith, length-append (decimal n) (10 ∷ []))
 
+pub length-up-text : (a b : ℕ) → length (up-text a b) ≡ 5 + length (decimal a) + length (decimal b)
+unfolding printed-line further-fields
+length-up-text a b = omega (arith, length-append (decimal a) (32 ∷ (decimal b ++ (10 ∷ []))), length-append (decimal b) (10 ∷ []))
+
 length-up : (a b : ℕ) → length (up-line (link-of a b)) ≡ 5 + length (decimal a) + length (decimal b)
-unfolding up-line printed-line further-fields
-length-up a b = omega (arith, length-append (decimal a) (32 ∷ (decimal b ++ (10 ∷ []))), length-append (decimal b) (10 ∷ []))
+unfolding up-line
+length-up a b = length-up-text a b
 
 -- the whole script
 pub length-script : (n : ℕ) (ls : List Link) → script-length (graph n ls) ≡ 8 + length (decimal n) + length (flatMap up-line ls)
@@ -51,14 +49,14 @@ length-script n ls = omega (arith, length-append (radios-text n) (flatMap up-lin
 
 pub record Ends-counted (a : ℕ) (bs : List ℕ) (i sum : ℕ) : Type 0 where
   pub low : i ≤ length bs
-  pub small : sum ≤ 15 * i
+  pub small : sum ≤ 11 * i
   pub is : sum + length (flatMap up-line (links-to a (drop i bs))) ≡ length (flatMap up-line (links-to a bs))
 
 pub ends-counted-none : (a : ℕ) (bs : List ℕ) → Ends-counted a bs 0 0
 ends-counted-none a bs = record { low = omega arith; small = omega arith; is = omega arith }
 
-pub ends-counted-next : (a : ℕ) (bs : List ℕ) (i sum own d : ℕ) → i < length bs → own ≡ 5 + length (decimal a) → own ≤ 10 → d ≡ length (decimal (getD bs i 0)) → d ≤ 5
-    → Ends-counted a bs i sum → Ends-counted a bs (i + 1) (sum + (own + d))
+pub ends-counted-next : (a : ℕ) (bs : List ℕ) (i sum own d : ℕ) → i < length bs → own ≡ 5 + length (decimal a) → own ≤ 8
+    → d ≡ length (decimal (getD bs i 0)) → d ≤ 3 → Ends-counted a bs i sum → Ends-counted a bs (i + 1) (sum + (own + d))
 unfolding flatMap
 ends-counted-next a bs i sum own d h e few f less c =
     let split : length (flatMap up-line (links-to a (drop i bs)))

@@ -1,15 +1,16 @@
 // The script that rebuilds a site: the replay program's line 1, then a line for each link, lower radio first, ascending by lower and
-// then higher. Its length is counted by digits beforehand, and is the length written. A buffer that is shorter is refused by 13. The
-// words of the lines are crate script's; digits and bytes are put by crate text.
+// then higher. Its length is counted by digits beforehand, and is the length written. A buffer that is shorter is refused by 13; in a
+// longer one no byte of a link's line asks whether it fits. The words of the lines are crate script's.
 ghost use mathlib.Core.Path.{_≡_};
 ghost use mathlib.Core.List.{flatMap};
-ghost use Prim.Native.Nat.{_≤_, _<_};
+ghost use Prim.Native.Nat.{_+_, _≤_, _<_};
 ghost use lib.ListN.{length};
+ghost use Rattle.lists.specs.Lists.{Entries-below};
 ghost use Rattle.mesh.specs.Limits.{max-radios, max-neighbours};
 ghost use Rattle.mesh.specs.Graph.{graph};
 ghost use Rattle.mesh.specs.Tables.{lent};
 ghost use Rattle.rows.specs.Rows.{neighbours-above};
-ghost use Rattle.text.specs.Text.{decimal};
+ghost use Rattle.text.specs.Text.{digit-byte, decimal};
 ghost use Rattle.text.specs.Print.{buffer-at, Puts};
 ghost use Rattle.calls.specs.Script.{radios-text, up-text, up-line, script-of, script-length};
 ghost use Rattle.calls.specs.Contracts.Scripts.{Script-length-contract, Script-contract};
@@ -18,6 +19,13 @@ use calls::Refusal;
 use calls::Value;
 use mesh::Site;
 use script::lines;
+
+// The letters of `up`, and the space after it.
+const U: u8 = lines::UP[0];
+
+const P: u8 = lines::UP[1];
+
+const SPACE: u8 = lines::UP[2];
 
 // Puts line 1 of a site of n radios.
 fn put_first(buffer: &mut [u8], at: usize, n: u64) -> usize
@@ -28,25 +36,60 @@ fn put_first(buffer: &mut [u8], at: usize, n: u64) -> usize
     text::put_byte(buffer, feed, b'\n')
 }
 
+// The byte of a digit.
+fn digit_byte(digit: u32) -> u8
+    requires { ⌜ digit < 10 ⌝ }
+    ensures { λ r. ⌜ r ≡ digit-byte digit ⌝ }
+{
+    b'0' + digit as u8
+}
+
+// Puts a radio, which has at most three digits.
+fn put_number(buffer: &mut [u8], at: usize, x: u32) -> usize
+    requires { ⌜ (x < 1000) × (at + length (decimal x) ≤ length (now buffer)) ⌝ }
+    ensures { λ r. ⌜ Puts (buffer-at (now (buffer .entry)) at) (decimal x) (buffer-at (now (buffer .exit)) r) ⌝ }
+{
+    if x < 10 {
+        buffer[at] = digit_byte(x);
+        return at + 1;
+    }
+    if x < 100 {
+        buffer[at] = digit_byte(x / 10);
+        buffer[at + 1] = digit_byte(x % 10);
+        return at + 2;
+    }
+    buffer[at] = digit_byte(x / 100);
+    buffer[at + 1] = digit_byte(x / 10 % 10);
+    buffer[at + 2] = digit_byte(x % 10);
+    at + 3
+}
+
 // Puts the line that takes the link between a and b up.
-fn put_up(buffer: &mut [u8], at: usize, a: u64, b: u64) -> usize
+fn put_up(buffer: &mut [u8], at: usize, a: u32, b: u32) -> usize
+    requires { ⌜ (a < 1000) × (b < 1000) × (at + length (up-text a b) ≤ length (now buffer)) ⌝ }
     ensures { λ r. ⌜ Puts (buffer-at (now (buffer .entry)) at) (up-text a b) (buffer-at (now (buffer .exit)) r) ⌝ }
 {
-    let number = text::put_text(buffer, at, &lines::UP);
-    let space = text::put_decimal(buffer, number, a);
-    let feed = text::put_field(buffer, space, b);
-    text::put_byte(buffer, feed, b'\n')
+    buffer[at] = U;
+    buffer[at + 1] = P;
+    buffer[at + 2] = SPACE;
+    let space = put_number(buffer, at + 3, a);
+    buffer[space] = b' ';
+    let feed = put_number(buffer, space + 1, b);
+    buffer[feed] = b'\n';
+    feed + 1
 }
 
 // A radio as it is printed.
-fn wide(x: u16) -> u64
+fn wide(x: u16) -> u32
     ensures { λ r. ⌜ r ≡ x ⌝ }
 {
-    x as u64
+    x as u32
 }
 
 // Puts a line for each link of a to the listed radios.
-fn put_row(buffer: &mut [u8], at: usize, a: u64, list: &[u16]) -> usize
+fn put_row(buffer: &mut [u8], at: usize, a: u32, list: &[u16]) -> usize
+    requires radios { ⌜ (a < max-radios) × Entries-below max-radios (now list) ⌝ }
+    requires room { ⌜ at + length (flatMap up-line (links-to a (now list))) ≤ length (now buffer) ⌝ }
     ensures { λ r. ⌜ Puts (buffer-at (now (buffer .entry)) at) (flatMap up-line (links-to a (now (list .entry))))
         (buffer-at (now (buffer .exit)) r) ⌝ }
 {
@@ -61,18 +104,20 @@ fn put_row(buffer: &mut [u8], at: usize, a: u64, list: &[u16]) -> usize
 
 // Puts a line for each link of a to a radio above it.
 fn put_radio(buffer: &mut [u8], at: usize, links: &[u8], a: u32) -> usize
-    requires { ⌜ length (neighbours-above (now links) a) ≤ max-neighbours ⌝ }
+    requires listed { ⌜ (a < max-radios) × (length (neighbours-above (now links) a) ≤ max-neighbours) ⌝ }
+    requires room { ⌜ at + length (flatMap up-line (links-above (now links) a)) ≤ length (now buffer) ⌝ }
     ensures { λ r. ⌜ Puts (buffer-at (now (buffer .entry)) at) (flatMap up-line (links-above (now (links .entry)) a))
         (buffer-at (now (buffer .exit)) r) ⌝ }
 {
     let mut near = [0u16; Site::NEIGHBOURS as usize];
     let count = rows::row_above(links, a, &mut near) as usize;
-    put_row(buffer, at, a as u64, &near[..count])
+    put_row(buffer, at, a, &near[..count])
 }
 
 // Puts a line for each link that the first n rows mark.
 fn put_links(buffer: &mut [u8], at: usize, n: u32, links: &[u8]) -> usize
-    requires { ⌜ Rows-listed n (now links) max-neighbours ⌝ }
+    requires listed { ⌜ Rows-listed n (now links) max-neighbours ⌝ }
+    requires room { ⌜ at + length (flatMap up-line (links-from n (now links) 0 0)) ≤ length (now buffer) ⌝ }
     ensures { λ r. ⌜ Puts (buffer-at (now (buffer .entry)) at) (flatMap up-line (links-from n (now (links .entry)) 0 0))
         (buffer-at (now (buffer .exit)) r) ⌝ }
 {
@@ -85,9 +130,10 @@ fn put_links(buffer: &mut [u8], at: usize, n: u32, links: &[u8]) -> usize
     place
 }
 
-// Puts the script from the buffer's first byte on and comes back with its length, whether it fits or not.
+// Puts the script, which fits, from the buffer's first byte on and comes back with its length.
 fn put_script(buffer: &mut [u8], n: u32, links: &[u8]) -> usize
-    requires { ⌜ Rows-listed n (now links) max-neighbours ⌝ }
+    requires listed { ⌜ Rows-listed n (now links) max-neighbours ⌝ }
+    requires room { ⌜ script-length (graph n (links-from n (now links) 0 0)) ≤ length (now buffer) ⌝ }
     ensures { λ r. ⌜ Puts (buffer-at (now (buffer .entry)) 0) (script-of (graph n (links-from n (now (links .entry)) 0 0)))
         (buffer-at (now (buffer .exit)) r) ⌝ }
 {
@@ -95,9 +141,10 @@ fn put_script(buffer: &mut [u8], n: u32, links: &[u8]) -> usize
     put_links(buffer, place, n, links)
 }
 
-// How many digits x has.
+// How many digits a radio has.
 fn digits(x: u16) -> usize
-    ensures { λ r. ⌜ (r ≡ length (decimal x)) × (r ≤ 5) ⌝ }
+    requires { ⌜ x < 1000 ⌝ }
+    ensures { λ r. ⌜ (r ≡ length (decimal x)) × (r ≤ 3) ⌝ }
 {
     if x < 10 {
         return 1;
@@ -105,18 +152,13 @@ fn digits(x: u16) -> usize
     if x < 100 {
         return 2;
     }
-    if x < 1000 {
-        return 3;
-    }
-    if x < 10000 {
-        return 4;
-    }
-    5
+    3
 }
 
 // The bytes of a line for each link of a to the listed radios: beside their digits, a line has `up`, two spaces and a line feed.
 fn row_length(a: u16, list: &[u16]) -> usize
-    requires { ⌜ length (now list) ≤ max-neighbours ⌝ }
+    requires radios { ⌜ (a < max-radios) × Entries-below max-radios (now list) ⌝ }
+    requires few { ⌜ length (now list) ≤ max-neighbours ⌝ }
     ensures { λ r. ⌜ r ≡ length (flatMap up-line (links-to a (now (list .entry)))) ⌝ }
 {
     let own = 5 + digits(a);

@@ -47,6 +47,9 @@ module _ (n : ℕ) (t : Tables) (w : List ℕ) where
     sheet-cells-fit = sheet-fits n t numbers-long (passed .is-sound) sheet-small
 
     module _ (size : ℕ) (sized : size ≡ line-bytes * sheet-lines n) where
+      pub sheet-room : size ≤ length w → line-bytes * sheet-lines (length (t .numbers)) ≤ length w
+      sheet-room room = omega (arith, ap sheet-lines numbers-long)
+
       pub sheet-no-room : length w < size → Sheet-contract n t w (record { number = 12; value = 0 }) w
       unfolding Sheet-contract sheet-refusal sheet-length holds-sheet
       sheet-no-room h =

@@ -1,12 +1,13 @@
 // The site sheet on a printed page: all radios with their numbers, ascending along the lines, in cells of 8 columns, 8 cells to a line.
-// A page that is shorter than the sheet is refused by 12. Digits and bytes are put by crate text.
+// A page that is shorter than the sheet is refused by 12; on a longer one each byte has its place, and none asks whether it fits.
 ghost use mathlib.Core.Path.{_≡_};
-ghost use Prim.Native.Nat.{_+_, _*_, _-_, _<_, _≤_};
+ghost use Prim.Native.Nat.{_+_, _*_, _%_, _<_, _≤_};
 ghost use lib.ListN.{length, replicate};
 ghost use Rattle.mesh.specs.Tables.{lent};
-ghost use Rattle.text.specs.Text.{space, decimal};
+ghost use Rattle.text.specs.Text.{space, digit-byte};
 ghost use Rattle.text.specs.Print.{buffer-at, put, Puts};
-ghost use Rattle.calls.specs.Sheet.{right-aligned, cell, cells, sheet-line, sheet-lines, sheet, line-cells, Cells-fit};
+ghost use Rattle.calls.specs.Sheet.{digit-column, cell, cells, sheet-line, sheet-lines, sheet};
+ghost use Rattle.calls.specs.Sheet.{cell-width, line-cells, line-bytes, Cells-fit};
 ghost use Rattle.calls.specs.Contracts.Pages.{Sheet-contract};
 use calls::Refusal;
 use calls::Value;
@@ -20,90 +21,87 @@ const CELLS: usize = 8;
 // The columns of a line.
 const WIDTH: usize = 64;
 
-// How many digits x has.
-fn digits(x: u64) -> usize
-    ensures { λ r. ⌜ r ≡ length (decimal x) ⌝ }
-{
-    let mut rest = x;
-    let mut count: usize = 1;
-    while rest >= 10 {
-        rest = rest / 10;
-        count += 1;
-    }
-    count
-}
-
-// How many spaces stand before x in so many columns.
-fn spaces_before(columns: usize, x: u64) -> usize
-    ensures { λ r. ⌜ r ≡ columns - length (decimal x) ⌝ }
-{
-    let many = digits(x);
-    if many < columns { columns - many } else { 0 }
-}
-
 // Puts so many spaces.
-fn put_spaces(page: &mut [u8], at: usize, count: usize) -> usize
-    ensures { λ r. ⌜ Puts (buffer-at (now (page .entry)) at) (replicate count space) (buffer-at (now (page .exit)) r) ⌝ }
+fn put_spaces(page: &mut [u8], at: usize, count: usize)
+    requires { ⌜ at + count ≤ length (now page) ⌝ }
+    ensures { λ _. ⌜ Puts (buffer-at (now (page .entry)) at) (replicate count space) (buffer-at (now (page .exit)) (at + count)) ⌝ }
 {
-    let mut place = at;
     let mut i: usize = 0;
     while i < count {
-        place = text::put_byte(page, place, b' ');
+        page[at + i] = b' ';
         i += 1;
     }
-    place
 }
 
-// Puts x right-aligned in so many columns.
-fn put_right(page: &mut [u8], at: usize, columns: usize, x: u64) -> usize
-    ensures { λ r. ⌜ Puts (buffer-at (now (page .entry)) at) (right-aligned columns (decimal x)) (buffer-at (now (page .exit)) r) ⌝ }
+// The byte of the last digit of x.
+fn last_digit(x: u32) -> u8
+    ensures { λ r. ⌜ r ≡ digit-byte (x % 10) ⌝ }
 {
-    let place = put_spaces(page, at, spaces_before(columns, x));
-    text::put_decimal(page, place, x)
+    b'0' + (x % 10) as u8
 }
 
-// Puts the cell of radio v with number x.
-fn put_cell(page: &mut [u8], at: usize, v: u64, x: u64) -> usize
-    ensures { λ r. ⌜ Puts (buffer-at (now (page .entry)) at) (cell v x) (buffer-at (now (page .exit)) r) ⌝ }
+// The column of x for its digit that counts p: a space where x has no such digit.
+fn column(p: u32, x: u32) -> u8
+    requires { ⌜ 0 < p ⌝ }
+    ensures { λ r. ⌜ r ≡ digit-column p x ⌝ }
 {
-    let colon = put_right(page, at, 3, v);
-    let number = text::put_byte(page, colon, b':');
-    let end = put_right(page, number, 2, x);
-    put_spaces(page, end, 2)
+    if x < p {
+        return b' ';
+    }
+    last_digit(x / p)
+}
+
+// Puts the cell of radio v with number x, column by column.
+fn put_cell(page: &mut [u8], at: usize, v: u32, x: u32)
+    requires { ⌜ (at + cell-width ≤ length (now page)) × (v < 1000) × (x < 100) ⌝ }
+    ensures { λ _. ⌜ Puts (buffer-at (now (page .entry)) at) (cell v x) (buffer-at (now (page .exit)) (at + cell-width)) ⌝ }
+{
+    page[at] = column(100, v);
+    page[at + 1] = column(10, v);
+    page[at + 2] = last_digit(v);
+    page[at + 3] = b':';
+    page[at + 4] = column(10, x);
+    page[at + 5] = last_digit(x);
+    page[at + 6] = b' ';
+    page[at + 7] = b' ';
 }
 
 // A number as it is printed.
-fn wide(x: u8) -> u64
+fn wide(x: u8) -> u32
     ensures { λ r. ⌜ r ≡ x ⌝ }
 {
-    x as u64
+    x as u32
 }
 
 // Puts the cells of k radios from v on.
-fn put_cells(page: &mut [u8], at: usize, numbers: &[u8], v: usize, k: usize) -> usize
-    requires { ⌜ v + k ≤ length (now numbers) ⌝ }
-    ensures { λ r. ⌜ Puts (buffer-at (now (page .entry)) at) (cells (now (numbers .entry)) v k) (buffer-at (now (page .exit)) r) ⌝ }
+fn put_cells(page: &mut [u8], at: usize, numbers: &[u8], v: usize, k: usize)
+    requires fit { ⌜ Cells-fit (now numbers) ⌝ }
+    requires inside { ⌜ v + k ≤ length (now numbers) ⌝ }
+    requires room { ⌜ at + cell-width * k ≤ length (now page) ⌝ }
+    ensures { λ _. ⌜ Puts (buffer-at (now (page .entry)) at) (cells (now (numbers .entry)) v k)
+        (buffer-at (now (page .exit)) (at + cell-width * k)) ⌝ }
 {
-    let mut place = at;
     let mut i: usize = 0;
     while i < k {
         let w = v + i;
-        place = put_cell(page, place, w as u64, wide(numbers[w]));
+        put_cell(page, at + CELL * i, w as u32, wide(numbers[w]));
         i += 1;
     }
-    place
 }
 
 // Puts line i: the cells of its radios, spaces up to the last column, a line feed.
-fn put_line(page: &mut [u8], at: usize, numbers: &[u8], i: usize) -> usize
-    requires { ⌜ Cells-fit (now numbers) × (line-cells * i < length (now numbers)) ⌝ }
-    ensures { λ r. ⌜ Puts (buffer-at (now (page .entry)) at) (sheet-line (now (numbers .entry)) i) (buffer-at (now (page .exit)) r) ⌝ }
+fn put_line(page: &mut [u8], at: usize, numbers: &[u8], i: usize)
+    requires fit { ⌜ Cells-fit (now numbers) ⌝ }
+    requires inside { ⌜ line-cells * i < length (now numbers) ⌝ }
+    requires room { ⌜ at + line-bytes ≤ length (now page) ⌝ }
+    ensures { λ _. ⌜ Puts (buffer-at (now (page .entry)) at) (sheet-line (now (numbers .entry)) i)
+        (buffer-at (now (page .exit)) (at + line-bytes)) ⌝ }
 {
     let first = CELLS * i;
     let k = tables::fill::least(CELLS, numbers.len() - first);
-    let end = put_cells(page, at, numbers, first, k);
-    let feed = put_spaces(page, end, WIDTH - CELL * k);
-    text::put_byte(page, feed, b'\n')
+    put_cells(page, at, numbers, first, k);
+    put_spaces(page, at + CELL * k, WIDTH - CELL * k);
+    page[at + WIDTH] = b'\n';
 }
 
 // How many lines n radios take.
@@ -116,14 +114,14 @@ fn lines(n: usize) -> usize
 
 // Puts the sheet from the page's first byte on.
 fn put_sheet(page: &mut [u8], numbers: &[u8])
-    requires { ⌜ Cells-fit (now numbers) ⌝ }
+    requires fit { ⌜ Cells-fit (now numbers) ⌝ }
+    requires room { ⌜ line-bytes * sheet-lines (length (now numbers)) ≤ length (now page) ⌝ }
     ensures { λ _. ⌜ now (page .exit) ≡ put (buffer-at (now (page .entry)) 0) (sheet (now (numbers .entry))) .bytes ⌝ }
 {
     let count = lines(numbers.len());
-    let mut place: usize = 0;
     let mut i: usize = 0;
     while i < count {
-        place = put_line(page, place, numbers, i);
+        put_line(page, (WIDTH + 1) * i, numbers, i);
         i += 1;
     }
 }

@@ -6,6 +6,9 @@ use Rattle.script_writer.proofs.LengthLaws.{length-script}
 use Rattle.script_writer.proofs.measure.Statement.{statement}
 use Rattle.script_writer.proofs.measure.Tie as tie
 
+digits-requires : tie.Need-digits-requires
+digits-requires c κs = omega (arith, c .before .pre .0 .most)
+
 links-length-requires : tie.Need-links-length-requires
 links-length-requires c κs =
     let start = c .before .before in
@@ -27,4 +30,4 @@ returns c =
 pub measure-spec : {M : Type 1} → statement M
 measure-spec =
     tie.close (
-    tie.spec (λ c. search needs) (λ c κs. search needs) (λ c. search needs) links-length-requires add-result-2 returns)
+    tie.spec (λ c. search needs) digits-requires (λ c. search needs) links-length-requires add-result-2 returns)

@@ -3,13 +3,14 @@ use mathlib.Core.Path.{sym, ap, _∙_}
 use mathlib.Core.List.{List, flatMap}
 use Prim.Native.Nat.{ℕ}
 use native.Mathlib.Omega.{arith}
-use lib.ListN.{length, replicate, length-take}
+use lib.ListN.{length, replicate}
 use lib.Seq.{length-take-le}
 use borrow.Author.Needs.{needs}
 use Rattle.mesh.specs.Limits.{max-neighbours}
 use Rattle.calls.specs.Script.{up-line}
 use Rattle.link_list.specs.Links.{links-to, links-above}
 use Rattle.link_list.proofs.AboveLaws.{above-front}
+use Rattle.script_writer.proofs.PutLaws.{above-radios}
 use Rattle.script_writer.proofs.radio_length.Statement.{statement}
 use Rattle.script_writer.proofs.radio_length.Tie as tie
 
@@ -21,16 +22,21 @@ aggregate c =
 row-length-requires : tie.Need-row-length-requires
 row-length-requires c κs =
     let listed = c .before .before in
-    omega (arith, length-take (listed .row-above .result) (listed .row-above .last .1 .1 .0), listed .row-above .ensures .0)
+    let start = listed .before .before .before in
+    let s = start .args in
+    let is = above-front (s .links .now) (s .a) (replicate max-neighbours 0) _ _ (listed .row-above .ensures .0) (listed .row-above .ensures .1)
+    (omega (arith, start .pre .1)) in
+    ((start .pre .0, rw is (above-radios (s .links .now) (s .a))), omega (arith, start .pre .1, ap length is))
 
 returns : tie.Need-returns
 unfolding links-above
 returns c =
     let listed = c .before .before .before in
     let start = listed .before .before .before in
-    let is = above-front (start .args .links .now) (start .args .a) (replicate max-neighbours 0) _ _ (listed .row-above .ensures .0) (listed .row-above .ensures .1)
+    let s = start .args in
+    let is = above-front (s .links .now) (s .a) (replicate max-neighbours 0) _ _ (listed .row-above .ensures .0) (listed .row-above .ensures .1)
     (omega (arith, start .pre .1)) in
-    c .row-length .ensures ∙ ap (λ (bs : List ℕ). length (flatMap up-line (links-to (start .args .a) bs))) is
+    c .row-length .ensures ∙ ap (λ (bs : List ℕ). length (flatMap up-line (links-to (s .a) bs))) is
 
 pub radio-length-spec : {M : Type 1} → statement M
 radio-length-spec =

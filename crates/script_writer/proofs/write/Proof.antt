@@ -29,9 +29,11 @@ returns-2 c =
 
 put-script-requires : tie.Need-put-script-requires
 put-script-requires c κs =
-    let asked = c .before .before .before .before in
+    let measured = c .before .before in
+    let asked = measured .before .before in
     let s = asked .before .before .before .before .before .args in
-    rows-good (s .n) (tables (s .links .now) (s .numbers .now) (s .order .now)) _ (asked .refusal .ensures) (c .before .before .before .if1 .left)
+    let t = tables (s .links .now) (s .numbers .now) (s .order .now) in
+    (rows-good (s .n) t _ (asked .refusal .ensures) (measured .before .if1 .left), omega (arith, measured .measure .ensures, c .before .if2 .left))
 
 cast-size : tie.Need-cast-t12
 cast-size c =

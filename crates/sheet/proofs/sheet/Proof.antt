@@ -5,7 +5,7 @@ use native.Mathlib.Omega.{arith}
 use borrow.Author.Needs.{needs}
 use Rattle.mesh.specs.Tables.{tables}
 use Rattle.calls.specs.Sheet.{line-bytes, sheet-lines}
-use Rattle.sheet.proofs.SheetOutcomes.{sheet-refused, sheet-small, sheet-cells-fit, sheet-no-room, sheet-accepted}
+use Rattle.sheet.proofs.SheetOutcomes.{sheet-refused, sheet-small, sheet-cells-fit, sheet-room, sheet-no-room, sheet-accepted}
 use Rattle.sheet.proofs.sheet.Statement.{statement}
 use Rattle.sheet.proofs.sheet.Tie as tie
 
@@ -26,7 +26,8 @@ unfolding sheet-lines
 mul-size c =
     let asked = c .before .before in
     let s = asked .before .before .before .before .before .args in
-    omega (arith, c .lines .ensures, sheet-small (s .n) (tables (s .links .now) (s .numbers .now) (s .order .now)) (s .page .now) _ (asked .refusal .ensures) (c .before .if1 .left))
+    let t = tables (s .links .now) (s .numbers .now) (s .order .now) in
+    omega (arith, c .lines .ensures, sheet-small (s .n) t (s .page .now) _ (asked .refusal .ensures) (c .before .if1 .left))
 
 returns-2 : tie.Need-returns-2
 returns-2 c =
@@ -38,9 +39,14 @@ returns-2 c =
 
 put-sheet-requires : tie.Need-put-sheet-requires
 put-sheet-requires c κs =
-    let asked = c .before .before .before .before in
+    let lines = c .before .before in
+    let asked = lines .before .before in
     let s = asked .before .before .before .before .before .args in
-    sheet-cells-fit (s .n) (tables (s .links .now) (s .numbers .now) (s .order .now)) (s .page .now) _ (asked .refusal .ensures) (c .before .before .before .if1 .left)
+    let t = tables (s .links .now) (s .numbers .now) (s .order .now) in (
+      sheet-cells-fit (s .n) t (s .page .now) _ (asked .refusal .ensures) (lines .before .if1 .left),
+      sheet-room (s .n) t (s .page .now) _ (asked .refusal .ensures) (lines .before .if1 .left) _ (ap (λ (k : ℕ). line-bytes * k) (lines .lines .ensures))
+          (c .before .if2 .left),
+    )
 
 cast-size : tie.Need-cast-t15
 unfolding sheet-lines
@@ -48,7 +54,8 @@ cast-size c =
     let lines = c .before .before .before .before .before in
     let asked = lines .before .before in
     let s = asked .before .before .before .before .before .args in
-    omega (arith, lines .lines .ensures, sheet-small (s .n) (tables (s .links .now) (s .numbers .now) (s .order .now)) (s .page .now) _ (asked .refusal .ensures) (lines .before .if1 .left))
+    let t = tables (s .links .now) (s .numbers .now) (s .order .now) in
+    omega (arith, lines .lines .ensures, sheet-small (s .n) t (s .page .now) _ (asked .refusal .ensures) (lines .before .if1 .left))
 
 returns-3 : tie.Need-returns-3
 returns-3 c =
