@@ -7,13 +7,17 @@ static void put_word(uint8_t *p, unsigned x) { p[0] = x, p[1] = x >> 8; }
 
 static unsigned word_at(const uint8_t *p) { return p[0] | p[1] << 8; }
 
-/* The check by columns: byte i stands in column i % 16 of run i / 16, of which there are 31; then the bytes after them. */
+/* The check by columns: byte i stands in column i % 24 of run i / 24, of which there are 21; then the bytes after them. */
+static inline void add_byte(uint8_t x, unsigned p, uint16_t *sums, uint16_t *twice) { sums[p] += x, twice[p] += sums[p]; }
+
 static uint32_t c_sum(const uint8_t *block) {
-    uint32_t sums[16] = {0}, twice[16] = {0}, sum = 0;
-    for (unsigned r = 0; r < 31; r++)
-        for (unsigned p = 0; p < 16; p++) sums[p] += block[16 * r + p], twice[p] += sums[p];
-    for (unsigned p = 0; p < 16; p++) sum += (p + 497) * sums[p] - 16 * twice[p];
-    for (unsigned i = 496; i < BODY; i++) sum += block[i] * (i + 1);
+    uint16_t sums[24] = {0}, twice[24] = {0};
+    uint32_t sum = 0;
+    for (unsigned r = 0; r < 21; r++)
+        for (unsigned p = 0; p < 8; p++)
+            for (unsigned q = p; q < 24; q += 8) add_byte(block[24 * r + q], q, sums, twice);
+    for (unsigned p = 0; p < 24; p++) sum += (p + 505) * sums[p] - 24 * (uint32_t)twice[p];
+    for (unsigned i = 504; i < BODY; i++) sum += block[i] * (i + 1);
     return sum;
 }
 
@@ -158,30 +162,44 @@ static int c_listed(const uint8_t *image, uint32_t n, unsigned m) {
     return good;
 }
 
-/* For each radio, how many links it has, and how many of them lead to a later radio. */
+static inline void c_count_at(const uint8_t *p, const uint16_t *places, uint16_t *counts, uint16_t *later) {
+    unsigned a = word_at(p), b = word_at(p + 2);
+    counts[a]++, counts[b]++;
+    later[a] += places[a] < places[b];
+    later[b] += places[b] < places[a];
+}
+
+/* For each radio, how many links it has, and how many of them lead to a later radio; the two halves of a block side by side. */
 static inline void c_count_links(const uint8_t *image, uint32_t n, unsigned m, const uint16_t *places, uint16_t *counts, uint16_t *later) {
     memset(counts, 0, 2 * n), memset(later, 0, 2 * n);
     for (unsigned q = 0; q < link_blocks(m); q++) {
         struct c_part part = part_of(image, n, m, q);
-        for (unsigned i = 0; i < part.count; i++) {
-            unsigned a = word_at(part.first + 4 * i), b = word_at(part.first + 4 * i + 2);
-            counts[a]++, counts[b]++;
-            later[a] += places[a] < places[b];
-            later[b] += places[b] < places[a];
+        unsigned half = part.count / 2;
+        for (unsigned i = 0; i < half; i++) {
+            c_count_at(part.first + 4 * i, places, counts, later);
+            c_count_at(part.first + 4 * (half + i), places, counts, later);
         }
+        if (part.count > half + half) c_count_at(part.first + 4 * (half + half), places, counts, later);
     }
 }
 
-/* For each radio, how many links lead to a radio with a rank of which, with the slack added, its own is below. */
+static inline void c_tally_at(const uint8_t *p, const uint16_t *ranks, unsigned slack, uint16_t *counts) {
+    unsigned a = word_at(p), b = word_at(p + 2);
+    counts[a] += ranks[a] < ranks[b] + slack;
+    counts[b] += ranks[b] < ranks[a] + slack;
+}
+
+/* For each radio, how many links lead to a radio with a rank of which, with the slack added, its own is below; likewise by halves. */
 static inline void c_tally(const uint8_t *image, uint32_t n, unsigned m, const uint16_t *ranks, unsigned slack, uint16_t *counts) {
     memset(counts, 0, 2 * n);
     for (unsigned q = 0; q < link_blocks(m); q++) {
         struct c_part part = part_of(image, n, m, q);
-        for (unsigned i = 0; i < part.count; i++) {
-            unsigned a = word_at(part.first + 4 * i), b = word_at(part.first + 4 * i + 2);
-            counts[a] += ranks[a] < ranks[b] + slack;
-            counts[b] += ranks[b] < ranks[a] + slack;
+        unsigned half = part.count / 2;
+        for (unsigned i = 0; i < half; i++) {
+            c_tally_at(part.first + 4 * i, ranks, slack, counts);
+            c_tally_at(part.first + 4 * (half + i), ranks, slack, counts);
         }
+        if (part.count > half + half) c_tally_at(part.first + 4 * (half + half), ranks, slack, counts);
     }
 }
 

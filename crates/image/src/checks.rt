@@ -4,36 +4,55 @@ ghost use Prim.Native.Nat.{_<_, _≤_, _+_, _/_};
 ghost use lib.ListN.{length, take};
 ghost use Rattle.mesh.specs.Image.{block-bytes, check-sum, block-check, checks-good};
 ghost use Rattle.calls.specs.Questions.{block-refusal};
-ghost use Rattle.image.specs.Columns.{Columns, Columns-fit, columns-total};
+ghost use Rattle.image.specs.Columns.{Byte-fits, Byte-added, Columns, Columns-fit, columns-total};
 use super::bytes;
 use super::layout;
 use calls::Refusal;
 
 // The check is summed by columns, with no product for each byte, which the compiler does for many columns at a time: byte i stands in
-// column i % 16 of run i / 16.
-const COLUMNS: usize = 16;
+// column i % 24 of run i / 24.
+const COLUMNS: usize = 24;
+
+// A turn adds a byte to one column of each third: of that the compiler makes three sums of eight columns, which stay in registers.
+const THIRD: usize = COLUMNS / 3;
 
 // The whole runs before the check.
-const RUNS: usize = 31;
+const RUNS: usize = 21;
 
-// Adds run r to the columns' sums, and these to the sums of the sums.
-fn add_run(block: &[u8], r: usize, sums: &mut [u32], twice: &mut [u32])
-    requires { ⌜ (r < 31) × (496 ≤ length (now block)) × Columns (now block) r (now sums) (now twice) ⌝ }
+// Adds byte i to the sum of column p, and this sum to the sum of the sums.
+fn add_byte(block: &[u8], i: usize, p: usize, sums: &mut [u16], twice: &mut [u16])
+    requires { ⌜ Byte-fits (now block) i p (now sums) (now twice) ⌝ }
+    ensures { λ _. ⌜ Byte-added (now (block .entry)) i p (now (sums .entry)) (now (twice .entry)) (now (sums .exit)) (now (twice .exit)) ⌝ }
+{
+    let sum = sums[p] + block[i] as u16;
+    sums[p] = sum;
+    twice[p] = twice[p] + sum;
+}
+
+// Adds run r.
+fn add_run(block: &[u8], r: usize, sums: &mut [u16], twice: &mut [u16])
+    requires { ⌜ (r < 21) × (504 ≤ length (now block)) × Columns (now block) r (now sums) (now twice) ⌝ }
     ensures { λ _. ⌜ Columns (now (block .entry)) (r + 1) (now (sums .exit)) (now (twice .exit)) ⌝ }
 {
     let mut p: usize = 0;
-    while p < COLUMNS {
-        let sum = sums[p] + bytes::wide(block[COLUMNS * r + p]);
-        sums[p] = sum;
-        twice[p] = twice[p] + sum;
+    while p < THIRD {
+        add_byte(block, COLUMNS * r + p, p, sums, twice);
+        add_byte(block, COLUMNS * r + (THIRD + p), THIRD + p, sums, twice);
+        add_byte(
+            block,
+            COLUMNS * r + (2 * THIRD + p),
+            2 * THIRD + p,
+            sums,
+            twice,
+        );
         p += 1;
     }
 }
 
 // Adds all runs.
-fn add_runs(block: &[u8], sums: &mut [u32], twice: &mut [u32])
-    requires { ⌜ (496 ≤ length (now block)) × Columns (now block) 0 (now sums) (now twice) ⌝ }
-    ensures { λ _. ⌜ Columns (now (block .entry)) 31 (now (sums .exit)) (now (twice .exit)) ⌝ }
+fn add_runs(block: &[u8], sums: &mut [u16], twice: &mut [u16])
+    requires { ⌜ (504 ≤ length (now block)) × Columns (now block) 0 (now sums) (now twice) ⌝ }
+    ensures { λ _. ⌜ Columns (now (block .entry)) 21 (now (sums .exit)) (now (twice .exit)) ⌝ }
 {
     let mut r: usize = 0;
     while r < RUNS {
@@ -42,27 +61,27 @@ fn add_runs(block: &[u8], sums: &mut [u32], twice: &mut [u32])
     }
 }
 
-// What the columns add to the check: a byte of column p stands 16 places before 497 + p for each run from its own on.
-fn columns_total(sums: &[u32], twice: &[u32]) -> u32
+// What the columns add to the check: a byte of column p stands 24 places before 505 + p for each run from its own on.
+fn columns_total(sums: &[u16], twice: &[u16]) -> u32
     requires { ⌜ Columns-fit (now sums) (now twice) ⌝ }
-    ensures { λ r. ⌜ r ≡ columns-total (now (sums .entry)) (now (twice .entry)) 16 ⌝ }
+    ensures { λ r. ⌜ r ≡ columns-total (now (sums .entry)) (now (twice .entry)) 24 ⌝ }
 {
     let mut sum: u32 = 0;
     let mut p: usize = 0;
     while p < COLUMNS {
-        sum += (p as u32 + 497) * sums[p] - 16 * twice[p];
+        sum += (p as u32 + 505) * sums[p] as u32 - 24 * twice[p] as u32;
         p += 1;
     }
     sum
 }
 
-// The check of the first 496 bytes.
+// The check of the first 504 bytes.
 fn check_runs(block: &[u8]) -> u32
-    requires { ⌜ 496 ≤ length (now block) ⌝ }
-    ensures { λ r. ⌜ r ≡ check-sum (take 496 (now (block .entry))) ⌝ }
+    requires { ⌜ 504 ≤ length (now block) ⌝ }
+    ensures { λ r. ⌜ r ≡ check-sum (take 504 (now (block .entry))) ⌝ }
 {
-    let mut sums = [0u32; COLUMNS];
-    let mut twice = [0u32; COLUMNS];
+    let mut sums = [0u16; COLUMNS];
+    let mut twice = [0u16; COLUMNS];
     add_runs(block, &mut sums, &mut twice);
     columns_total(&sums, &twice)
 }

@@ -5,6 +5,8 @@ pub mod ListedLaws
 pub mod BlockLaws
 -- counts over the links
 pub mod TallyLaws
+-- the two halves of a block side by side
+pub mod HalvesLaws
 -- running maxima along an order
 pub mod MaximaLaws
 -- what the counts decide

@@ -1,24 +1,23 @@
--- Laws of the counts over an image's links: one link more, and the loop that counts.
+-- Laws of the counts over an image's links: links in a row, one link counted, and the loop that counts two runs of links.
 use mathlib.Core.Path.{_≡_, refl, sym, ap, ap₂, subst, _∙_}
 use mathlib.Core.Logic.{_⊎_, inl, inr}
 use mathlib.Core.Bool.{Bool, true, false, _&&_, cond}
 use mathlib.Core.List.{List, [], _∷_, _++_, map}
-use Prim.Native.Nat.{ℕ, zero, suc, _+_, _-_, _≤_, _<_}
+use Prim.Native.Nat.{ℕ, zero, suc, _+_, _≤_, _<_}
 use native.Mathlib.Omega.{arith}
-use native.Mathlib.Numerals.{add-one}
 use lib.Dec.{ltb, eqb}
-use lib.ListN.{length, getD, set, replicate, length-append, length-set, getD-replicate}
+use lib.ListN.{length, getD, set, replicate, length-set, getD-replicate}
 use lib.Seq.{getD-set-same, getD-set-other}
 use borrow.Author.Tests.{ltb-true, eqb-true, eqb-false, eq-eqb, ne-eqb}
 use Rattle.lists.specs.Lists.{range, count}
-use Rattle.mesh.specs.Graph.{Link, other-ends, proper}
+use Rattle.mesh.specs.Graph.{Link, link-of, other-ends, proper}
 use Rattle.mesh.specs.Image.{image-link}
 use Rattle.mesh.proofs.Tables.AscendingLinks.{link-eq}
 use Rattle.lists.proofs.Tests.{bool-cases, and-left, and-right}
 use Rattle.lists.proofs.Count.{count-append, count-le-length}
-use Rattle.lists.proofs.Range.{range-append}
+use Rattle.lists.proofs.Range.{range-append, length-range}
 use Rattle.image_site.specs.Site.{Link-at, links-up-to, tallied, Tallied, count-link, Link-fits}
-use Rattle.lists.proofs.Map.{map-append}
+use Rattle.lists.proofs.Map.{map-append, length-map}
 
 -- ---- laws of lists
 
@@ -45,22 +44,9 @@ length-other-ends v (l ∷ ls) = go (eqb (l .low) v) (eqb (l .high) v) (length-o
     go false true e = omega arith
     go false false e = omega arith
 
--- ---- one link more
+-- ---- proper links
 
-pub links-one-more : (n : ℕ) (bs : List ℕ) (j : ℕ) → links-up-to n bs (j + 1) ≡ links-up-to n bs j ++ (image-link n bs j ∷ [])
-unfolding links-up-to range
-links-one-more n bs j =
-    let z : 0 + j ≡ j = omega arith in
-    ap (map (image-link n bs)) (range-append 0 j 1) ∙ map-append (image-link n bs) (range 0 j) (range (0 + j) 1) ∙ rw z
-
-length-links : (n : ℕ) (bs : List ℕ) (j : ℕ) → length (links-up-to n bs j) ≡ j
-unfolding links-up-to range
-length-links n bs zero = refl
-length-links n bs (suc j) =
-    ap (λ (k : ℕ). length (links-up-to n bs k)) (sym (add-one j)) ∙ ap length (links-one-more n bs j)
-    ∙ length-append (links-up-to n bs j) (image-link n bs j ∷ []) ∙ omega (arith, length-links n bs j)
-
--- link j of proper links
+-- link j of them
 pub proper-at : (n : ℕ) (f : ℕ → Link) (i k j : ℕ) → proper n (map f (range i k)) ≡ true → i ≤ j → j < i + k
     → (f j .low < f j .high) × (f j .high < n)
 unfolding proper range
@@ -80,107 +66,111 @@ proper-at n f i (suc k) j h a b = go (eqb i j) refl (λ p. proper-at n f (suc i)
         subst (λ (x : ℕ). (f x .low < f x .high) × (f x .high < n)) (eqb-true i j e) first
     go false e rec = rec (let d : (i ≡ j → ⊥) = eqb-false i j e in omega arith)
 
+-- the pair that is read
+pub proper-pair : (n : ℕ) (bs : List ℕ) (m j a b : ℕ) → proper n (links-up-to n bs m) ≡ true → j < m → Link-at n bs j a b → (a < b) × (b < n)
+unfolding links-up-to
+proper-pair n bs m j a b h l pair = omega (arith, proper-at n (image-link n bs) 0 m j h (omega arith) (omega arith), pair .low, pair .high)
+
+-- ---- links in a row
+
+-- the k links from link j on; `links-up-to` has those from the first one on
+unfoldable pub links-of : (n : ℕ) → (image : List ℕ) → (j k : ℕ) → List Link
+links-of n bs j k = map (image-link n bs) (range j k)
+
+length-links-of : (n : ℕ) (bs : List ℕ) (j k : ℕ) → length (links-of n bs j k) ≡ k
+unfolding links-of
+length-links-of n bs j k = length-map (image-link n bs) (range j k) ∙ length-range j k
+
+up-to : (n : ℕ) (bs : List ℕ) (j : ℕ) → links-up-to n bs j ≡ links-of n bs 0 j
+unfolding links-up-to links-of
+up-to n bs j = refl
+
+links-of-append : (n : ℕ) (bs : List ℕ) (j k i : ℕ) → links-of n bs j (k + i) ≡ links-of n bs j k ++ links-of n bs (j + k) i
+unfolding links-of
+links-of-append n bs j k i =
+    ap (map (image-link n bs)) (range-append j k i) ∙ map-append (image-link n bs) (range j k) (range (j + k) i)
+
+pub links-one-more : (n : ℕ) (bs : List ℕ) (j : ℕ) → links-up-to n bs (j + 1) ≡ links-up-to n bs j ++ (image-link n bs j ∷ [])
+unfolding links-up-to links-of range
+links-one-more n bs j = let z : 0 + j ≡ j = omega arith in links-of-append n bs 0 j 1 ∙ rw z
+
 module _ (rs : List ℕ) (s : ℕ) where
   abbrev below : (v w : ℕ) → Bool
   below v w = ltb (getD rs v 0) (getD rs w 0 + s)
 
-  pub tallied-le : (n : ℕ) (bs : List ℕ) (j v : ℕ) → tallied rs s (links-up-to n bs j) v ≤ j
+  tallied-le : (ls : List Link) (v : ℕ) → tallied rs s ls v ≤ length ls
   unfolding tallied
-  tallied-le n bs j v =
-      omega (arith, count-le-length (below v) (other-ends v (links-up-to n bs j)), length-other-ends v (links-up-to n bs j), length-links n bs j)
+  tallied-le ls v = omega (arith, count-le-length (below v) (other-ends v ls), length-other-ends v ls)
 
-  tallied-more : (n : ℕ) (bs : List ℕ) (j v : ℕ)
-      → tallied rs s (links-up-to n bs (j + 1)) v ≡ tallied rs s (links-up-to n bs j) v + count (below v) (other-ends v (image-link n bs j ∷ []))
+  tallied-append : (ls ms : List Link) (v : ℕ) → tallied rs s (ls ++ ms) v ≡ tallied rs s ls v + tallied rs s ms v
   unfolding tallied
-  tallied-more n bs j v =
-      ap (λ (ls : List Link). count (below v) (other-ends v ls)) (links-one-more n bs j)
-      ∙ ap (count (below v)) (other-ends-append v (links-up-to n bs j) (image-link n bs j ∷ []))
-      ∙ count-append (below v) (other-ends v (links-up-to n bs j)) (other-ends v (image-link n bs j ∷ []))
+  tallied-append ls ms v = ap (count (below v)) (other-ends-append v ls ms) ∙ count-append (below v) (other-ends v ls) (other-ends v ms)
 
-  -- the other ends of one link
-  ends-low : (a b v : ℕ) → a ≡ v → count (below v) (other-ends v (record { low = a; high = b } ∷ [])) ≡ cond (below v b) 1 0
-  unfolding other-ends count
-  ends-low a b v e = rw (eq-eqb a v e) (omega arith)
+  tallied-row : (n : ℕ) (bs : List ℕ) (j k i v : ℕ)
+      → tallied rs s (links-of n bs j (k + i)) v ≡ tallied rs s (links-of n bs j k) v + tallied rs s (links-of n bs (j + k) i) v
+  tallied-row n bs j k i v =
+      ap (λ (ls : List Link). tallied rs s ls v) (links-of-append n bs j k i) ∙ tallied-append (links-of n bs j k) (links-of n bs (j + k) i) v
 
-  ends-high : (a b v : ℕ) → (a ≡ v → ⊥) → b ≡ v → count (below v) (other-ends v (record { low = a; high = b } ∷ [])) ≡ cond (below v a) 1 0
-  unfolding other-ends count
-  ends-high a b v d e = rw (ne-eqb a v d, eq-eqb b v e) (omega arith)
+  tallied-no-links : (n : ℕ) (bs : List ℕ) (k v : ℕ) → tallied rs s (links-of n bs k 0) v ≡ 0
+  tallied-no-links n bs k v = omega (arith, tallied-le (links-of n bs k 0) v, length-links-of n bs k 0)
 
-  ends-none : (a b v : ℕ) → (a ≡ v → ⊥) → (b ≡ v → ⊥) → count (below v) (other-ends v (record { low = a; high = b } ∷ [])) ≡ 0
-  unfolding other-ends count
-  ends-none a b v d e = rw (ne-eqb a v d, ne-eqb b v e)
+  -- one link at its ends, and at others
+  tallied-low : (a b v : ℕ) → a ≡ v → tallied rs s (link-of a b ∷ []) v ≡ cond (below v b) 1 0
+  unfolding tallied other-ends count
+  tallied-low a b v e = rw (eq-eqb a v e) (omega arith)
 
--- ---- the loop: j links counted
+  tallied-high : (a b v : ℕ) → (a ≡ v → ⊥) → b ≡ v → tallied rs s (link-of a b ∷ []) v ≡ cond (below v a) 1 0
+  unfolding tallied other-ends count
+  tallied-high a b v d e = rw (ne-eqb a v d, eq-eqb b v e) (omega arith)
 
-pub record Tallying (n : ℕ) (rs : List ℕ) (s : ℕ) (bs start counts : List ℕ) (j : ℕ) : Type 0 where
-  pub long : length counts ≡ length start
-  pub at : (v : ℕ) → v < n → getD counts v 0 ≡ tallied rs s (links-up-to n bs j) v
+  tallied-other : (a b v : ℕ) → (a ≡ v → ⊥) → (b ≡ v → ⊥) → tallied rs s (link-of a b ∷ []) v ≡ 0
+  unfolding tallied other-ends count
+  tallied-other a b v d e = rw (ne-eqb a v d, ne-eqb b v e)
 
-pub tallied-none : (n : ℕ) (rs : List ℕ) (s : ℕ) (bs counts : List ℕ) (long j : ℕ) → n ≤ long → counts ≡ replicate long 0 → j ≡ 0
-    → Tallied n rs s (links-up-to n bs j) counts
-unfolding tallied links-up-to range other-ends count
-tallied-none n rs s bs counts long j h e z =
-    record { at = λ v l. ap (λ (xs : List ℕ). getD xs v 0) e ∙ getD-replicate long v 0 0 (omega arith) ∙ rw z }
+-- ---- one link counted
 
-module _ (n : ℕ) (rs : List ℕ) (s : ℕ) (bs start counts : List ℕ) (j : ℕ) (t : Tallying n rs s bs start counts j) (a b : ℕ)
-    (pair : Link-at n bs j a b) (lower : a < b) (radio : b < n) (fits : n ≤ length start) where
+module _ (rs : List ℕ) (s a b : ℕ) (counts : List ℕ) (lower : a < b) (there : b < length counts) where
   abbrev once : List ℕ
   once = set counts a (getD counts a 0 + cond (below rs s a b) 1 0)
 
   abbrev twice : List ℕ
   twice = set once b (getD once b 0 + cond (below rs s b a) 1 0)
 
-  link-is : image-link n bs j ≡ record { low = a; high = b }
-  link-is = link-eq (image-link n bs j) (record { low = a; high = b }) (sym (pair .low)) (sym (pair .high))
-
-  more : (v : ℕ) → tallied rs s (links-up-to n bs (j + 1)) v
-      ≡ tallied rs s (links-up-to n bs j) v + count (below rs s v) (other-ends v (record { low = a; high = b } ∷ []))
-  more v = tallied-more rs s n bs j v ∙ ap (λ (l : Link). tallied rs s (links-up-to n bs j) v + count (below rs s v) (other-ends v (l ∷ []))) link-is
-
   once-other : (v : ℕ) → (v ≡ a → ⊥) → getD once v 0 ≡ getD counts v 0
   once-other v d = getD-set-other counts a v (getD counts a 0 + cond (below rs s a b) 1 0) 0 d
 
-  twice-low : getD twice a 0 ≡ tallied rs s (links-up-to n bs (j + 1)) a
+  twice-low : getD twice a 0 ≡ getD counts a 0 + tallied rs s (link-of a b ∷ []) a
   twice-low =
       omega (
         arith,
         getD-set-other once b a (getD once b 0 + cond (below rs s b a) 1 0) 0 (λ z. omega arith),
-        getD-set-same counts a (getD counts a 0 + cond (below rs s a b) 1 0) 0 (omega (arith, t .long)),
-        t .at a (omega arith),
-        more a,
-        ends-low rs s a b a refl,
+        getD-set-same counts a (getD counts a 0 + cond (below rs s a b) 1 0) 0 (omega arith),
+        tallied-low rs s a b a refl,
       )
 
-  twice-high : getD twice b 0 ≡ tallied rs s (links-up-to n bs (j + 1)) b
+  twice-high : getD twice b 0 ≡ getD counts b 0 + tallied rs s (link-of a b ∷ []) b
   twice-high =
       omega (
         arith,
-        getD-set-same once b (getD once b 0 + cond (below rs s b a) 1 0) 0 (omega (arith, t .long, length-set counts a (getD counts a 0 + cond (below rs s a b) 1 0))),
+        getD-set-same once b (getD once b 0 + cond (below rs s b a) 1 0) 0 (omega (arith, length-set counts a (getD counts a 0 + cond (below rs s a b) 1 0))),
         once-other b (λ z. omega arith),
-        t .at b radio,
-        more b,
-        ends-high rs s a b b (λ z. omega arith) refl,
+        tallied-high rs s a b b (λ z. omega arith) refl,
       )
 
-  twice-at : (v : ℕ) → v < n → (v ≡ a) ⊎ (v ≡ a → ⊥) → (v ≡ b) ⊎ (v ≡ b → ⊥) → getD twice v 0 ≡ tallied rs s (links-up-to n bs (j + 1)) v
-  twice-at v l (inl e) q = subst (λ (x : ℕ). getD twice x 0 ≡ tallied rs s (links-up-to n bs (j + 1)) x) (sym e) twice-low
-  twice-at v l (inr d) (inl e) = subst (λ (x : ℕ). getD twice x 0 ≡ tallied rs s (links-up-to n bs (j + 1)) x) (sym e) twice-high
-  twice-at v l (inr d) (inr e) =
+  twice-at : (v : ℕ) → (v ≡ a) ⊎ (v ≡ a → ⊥) → (v ≡ b) ⊎ (v ≡ b → ⊥) → getD twice v 0 ≡ getD counts v 0 + tallied rs s (link-of a b ∷ []) v
+  twice-at v (inl e) q = subst (λ (x : ℕ). getD twice x 0 ≡ getD counts x 0 + tallied rs s (link-of a b ∷ []) x) (sym e) twice-low
+  twice-at v (inr d) (inl e) = subst (λ (x : ℕ). getD twice x 0 ≡ getD counts x 0 + tallied rs s (link-of a b ∷ []) x) (sym e) twice-high
+  twice-at v (inr d) (inr e) =
       omega (
         arith,
         getD-set-other once b v (getD once b 0 + cond (below rs s b a) 1 0) 0 e,
         once-other v d,
-        t .at v l,
-        more v,
-        ends-none rs s a b v (λ z. d (sym z)) (λ z. e (sym z)),
+        tallied-other rs s a b v (λ z. d (sym z)) (λ z. e (sym z)),
       )
 
-  tallying-turn : Tallying n rs s bs start twice (j + 1)
-  tallying-turn =
-      record {
-        long = length-set once b (getD once b 0 + cond (below rs s b a) 1 0) ∙ length-set counts a (getD counts a 0 + cond (below rs s a b) 1 0) ∙ t .long;
-        at = λ v l. twice-at v l (same-or v a) (same-or v b);
-      }
+  getD-count-link : (v : ℕ) → getD (count-link rs s a b counts) v 0 ≡ getD counts v 0 + tallied rs s (link-of a b ∷ []) v
+  unfolding count-link
+  getD-count-link v = twice-at v (same-or v a) (same-or v b)
     where
       same-or : (x y : ℕ) → (x ≡ y) ⊎ (x ≡ y → ⊥)
       same-or x y = go (bool-cases (eqb x y))
@@ -189,19 +179,102 @@ module _ (n : ℕ) (rs : List ℕ) (s : ℕ) (bs start counts : List ℕ) (j : �
           go (inl e) = inl (eqb-true x y e)
           go (inr e) = inr (eqb-false x y e)
 
-  -- there is room to count the link
-  pub link-fits : j < 65535 → Link-fits a b counts
-  link-fits h = record {
-    lower = lower;
-    there = omega (arith, t .long);
-    low-fits = omega (arith, t .at a (omega arith), tallied-le rs s n bs j a);
-    high-fits = omega (arith, t .at b radio, tallied-le rs s n bs j b);
-  }
-
-  -- the same of the list that the code leaves
-  pub tallying-link : (after : List ℕ) → after ≡ count-link rs s a b counts → Tallying n rs s bs start after (j + 1)
+  length-count-link : length (count-link rs s a b counts) ≡ length counts
   unfolding count-link
-  tallying-link after e = subst (λ (xs : List ℕ). Tallying n rs s bs start xs (j + 1)) (sym e) tallying-turn
+  length-count-link =
+      length-set once b (getD once b 0 + cond (below rs s b a) 1 0) ∙ length-set counts a (getD counts a 0 + cond (below rs s a b) 1 0)
+
+-- ---- the loop: the first j links are counted, and i links from link k on
+
+pub record Tallying (n : ℕ) (rs : List ℕ) (s : ℕ) (bs start counts : List ℕ) (j k i : ℕ) : Type 0 where
+  pub long : length counts ≡ length start
+  pub at : (v : ℕ) → v < n → getD counts v 0 ≡ tallied rs s (links-of n bs 0 j) v + tallied rs s (links-of n bs k i) v
+
+pub tallied-none : (n : ℕ) (rs : List ℕ) (s : ℕ) (bs counts : List ℕ) (long j : ℕ) → n ≤ long → counts ≡ replicate long 0 → j ≡ 0
+    → Tallied n rs s (links-up-to n bs j) counts
+unfolding tallied links-up-to range other-ends count
+tallied-none n rs s bs counts long j h e z =
+    record { at = λ v l. ap (λ (xs : List ℕ). getD xs v 0) e ∙ getD-replicate long v 0 0 (omega arith) ∙ rw z }
+
+-- a link of the image, as it is read
+pub record Listed-link (n : ℕ) (bs : List ℕ) (j a b : ℕ) : Type 0 where
+  pub pair : Link-at n bs j a b
+  pub lower : a < b
+  pub radio : b < n
+
+pub listed-link : (n : ℕ) (bs : List ℕ) (m j a b : ℕ) → proper n (links-up-to n bs m) ≡ true → j < m → Link-at n bs j a b → Listed-link n bs j a b
+listed-link n bs m j a b h l pair = let good = proper-pair n bs m j a b h l pair in record { pair = pair; lower = good .0; radio = good .1 }
+
+module _ (n : ℕ) (rs : List ℕ) (s : ℕ) (bs start counts : List ℕ) (j k i : ℕ) (t : Tallying n rs s bs start counts j k i) (x a b : ℕ)
+    (link : Listed-link n bs x a b) (fits : n ≤ length start) where
+  one-link : (v : ℕ) → tallied rs s (links-of n bs x 1) v ≡ tallied rs s (link-of a b ∷ []) v
+  unfolding links-of range
+  one-link v =
+      ap (λ (l : Link). tallied rs s (l ∷ []) v) (link-eq (image-link n bs x) (link-of a b) (sym (link .pair .low)) (sym (link .pair .high)))
+
+  -- there is room to count the link
+  pub link-fits : j + i < 65535 → Link-fits a b counts
+  link-fits h =
+      record {
+        lower = link .lower;
+        there = omega (arith, t .long, link .radio);
+        low-fits = small a (omega (arith, link .lower, link .radio));
+        high-fits = small b (link .radio);
+      }
+    where
+      small : (v : ℕ) → v < n → getD counts v 0 < 65535
+      small v l =
+          omega (
+            arith,
+            t .at v l,
+            tallied-le rs s (links-of n bs 0 j) v,
+            tallied-le rs s (links-of n bs k i) v,
+            length-links-of n bs 0 j,
+            length-links-of n bs k i,
+          )
+
+  counted : (after : List ℕ) → after ≡ count-link rs s a b counts → (y : ℕ) → x ≡ y → (v : ℕ) → v < n
+      → getD after v 0 ≡ tallied rs s (links-of n bs 0 j) v + tallied rs s (links-of n bs k i) v + tallied rs s (links-of n bs y 1) v
+  counted after e y z v l =
+      omega (
+        arith,
+        ap (λ (xs : List ℕ). getD xs v 0) e,
+        getD-count-link rs s a b counts (link .lower) (omega (arith, t .long, link .radio)) v,
+        t .at v l,
+        one-link v,
+        ap (λ (h : ℕ). tallied rs s (links-of n bs h 1) v) z,
+      )
+
+  counted-long : (after : List ℕ) → after ≡ count-link rs s a b counts → length after ≡ length start
+  counted-long after e = ap length e ∙ length-count-link rs s a b counts (link .lower) (omega (arith, t .long, link .radio)) ∙ t .long
+
+  -- the link after the first j
+  pub tallying-first : (after : List ℕ) → after ≡ count-link rs s a b counts → x ≡ 0 + j → (next : ℕ) → j + 1 ≡ next → Tallying n rs s bs start after next k i
+  tallying-first after e z next f =
+      record {
+        long = counted-long after e;
+        at = λ v l.
+            omega (
+              arith,
+              counted after e (0 + j) z v l,
+              tallied-row rs s n bs 0 j 1 v,
+              ap (λ (h : ℕ). tallied rs s (links-of n bs 0 h) v) f,
+            );
+      }
+
+  -- the link after the i from link k on
+  pub tallying-second : (after : List ℕ) → after ≡ count-link rs s a b counts → x ≡ k + i → (next : ℕ) → i + 1 ≡ next → Tallying n rs s bs start after j k next
+  tallying-second after e z next f =
+      record {
+        long = counted-long after e;
+        at = λ v l.
+            omega (
+              arith,
+              counted after e (k + i) z v l,
+              tallied-row rs s n bs k i 1 v,
+              ap (λ (h : ℕ). tallied rs s (links-of n bs k h) v) f,
+            );
+      }
 
 -- ---- one link, end by end
 
@@ -219,19 +292,52 @@ link-counted rs s a b counts one two p q p-is q-is one-is two-is =
     two-is ∙ ap₂ {C = List ℕ} (λ (xs : List ℕ) (x : Bool). set xs b (getD xs b 0 + cond x 1 0)) e q-is
 
 -- counts taken over at j links, and handed on
-pub tallying-from : (n : ℕ) (rs : List ℕ) (s : ℕ) (bs counts : List ℕ) (i j : ℕ) → Tallied n rs s (links-up-to n bs i) counts → i ≡ j
-    → Tallying n rs s bs counts counts j
-tallying-from n rs s bs counts i j t e = record { long = refl; at = λ v l. t .at v l ∙ ap (λ (k : ℕ). tallied rs s (links-up-to n bs k) v) e }
+pub tallying-from : (n : ℕ) (rs : List ℕ) (s : ℕ) (bs counts : List ℕ) (i j k : ℕ) → Tallied n rs s (links-up-to n bs i) counts → i ≡ j
+    → Tallying n rs s bs counts counts j k 0
+tallying-from n rs s bs counts i j k t e =
+    record {
+      long = refl;
+      at = λ v l.
+          omega (
+            arith,
+            t .at v l,
+            ap (λ (ls : List Link). tallied rs s ls v) (up-to n bs i),
+            ap (λ (h : ℕ). tallied rs s (links-of n bs 0 h) v) e,
+            tallied-no-links rs s n bs k v,
+          );
+    }
+
+-- the second run starts where the first ends
+pub tallying-join : (n : ℕ) (rs : List ℕ) (s : ℕ) (bs start counts : List ℕ) (j k i h l : ℕ) → Tallying n rs s bs start counts j k i → k ≡ 0 + j → j + i ≡ h
+    → Tallying n rs s bs start counts h l 0
+tallying-join n rs s bs start counts j k i h l t d e =
+    record {
+      long = t .long;
+      at = λ v o.
+          omega (
+            arith,
+            t .at v o,
+            ap (λ (x : ℕ). tallied rs s (links-of n bs x i) v) d,
+            tallied-row rs s n bs 0 j i v,
+            ap (λ (x : ℕ). tallied rs s (links-of n bs 0 x) v) e,
+            tallied-no-links rs s n bs l v,
+          );
+    }
+
+pub tallying-to : (n : ℕ) (rs : List ℕ) (s : ℕ) (bs start counts : List ℕ) (i k j : ℕ) → Tallying n rs s bs start counts i k 0 → i ≡ j
+    → Tallied n rs s (links-up-to n bs j) counts
+tallying-to n rs s bs start counts i k j t e =
+    record {
+      at = λ v l.
+          omega (
+            arith,
+            t .at v l,
+            ap (λ (ls : List Link). tallied rs s ls v) (up-to n bs j),
+            ap (λ (h : ℕ). tallied rs s (links-of n bs 0 h) v) e,
+            tallied-no-links rs s n bs k v,
+          );
+    }
 
 pub tallied-at : (n : ℕ) (rs : List ℕ) (s : ℕ) (bs counts : List ℕ) (i j : ℕ) → Tallied n rs s (links-up-to n bs i) counts → i ≡ j
     → Tallied n rs s (links-up-to n bs j) counts
 tallied-at n rs s bs counts i j t e = subst (λ (k : ℕ). Tallied n rs s (links-up-to n bs k) counts) e t
-
-pub tallying-to : (n : ℕ) (rs : List ℕ) (s : ℕ) (bs start counts : List ℕ) (j k : ℕ) → Tallying n rs s bs start counts j → j ≡ k
-    → Tallied n rs s (links-up-to n bs k) counts
-tallying-to n rs s bs start counts j k t e = record { at = λ v l. t .at v l ∙ ap (λ (i : ℕ). tallied rs s (links-up-to n bs i) v) e }
-
--- the pair that is read
-pub proper-pair : (n : ℕ) (bs : List ℕ) (m j a b : ℕ) → proper n (links-up-to n bs m) ≡ true → j < m → Link-at n bs j a b → (a < b) × (b < n)
-unfolding links-up-to
-proper-pair n bs m j a b h l pair = omega (arith, proper-at n (image-link n bs) 0 m j h (omega arith) (omega arith), pair .low, pair .high)

@@ -12,6 +12,8 @@
 --   Tallied                      these counts for each radio below n
 --   count-link rs s a b cs       the counts cs with the link a-b counted at each end whose rank is below that of the other and the slack s
 --   Link-fits                    what counting a link wants
+--   count-at rs s bs at cs       the same with the link that stands at a place of the image bs
+--   Link-there                   what counting the link at that place wants
 --   few-ends most n ls           no radio below n has more than `most` links in ls
 --   running-maxima-of value m xs the running maxima of the values along xs, and at least m
 --   Links-room                   what going through the first m links wants
@@ -88,6 +90,15 @@ pub record Link-fits (a b : ℕ) (counts : List ℕ) : Type 0 where
   pub there : b < length counts
   pub low-fits : getD counts a 0 < 65535
   pub high-fits : getD counts b 0 < 65535
+
+abbrev pub count-at : (ranks : List ℕ) → (slack : ℕ) → (image : List ℕ) → (at : ℕ) → (counts : List ℕ) → List ℕ
+count-at rs s bs at cs = count-link rs s (word-at bs at) (word-at bs (at + 2)) cs
+
+-- its four bytes are there, and its radios have ranks
+pub record Link-there (image : List ℕ) (at ranks : ℕ) (counts : List ℕ) : Type 0 where
+  pub whole : at + 4 ≤ length image
+  pub ranked : word-at image (at + 2) < ranks
+  pub fits : Link-fits (word-at image at) (word-at image (at + 2)) counts
 
 unfoldable pub few-ends : (most n : ℕ) → List Link → Bool
 few-ends most n ls = all (λ v. leb (length (other-ends v ls)) most) (range 0 n)

@@ -8,7 +8,7 @@ ghost use lib.ListN.{length, getD, set};
 ghost use Rattle.mesh.specs.Limits.{max-radios};
 ghost use Rattle.mesh.specs.Image.{block-bytes, block-entries, block-links, word-at};
 ghost use Rattle.image_site.specs.Site.{links-up-to, passed, key-of, next-key, Listed, Tallied, count-link, Order-read};
-ghost use Rattle.image_site.specs.Site.{Link-fits, Links-room, Tally-room, Part-is};
+ghost use Rattle.image_site.specs.Site.{Link-fits, Link-there, count-at, Links-room, Tally-room, Part-is};
 use image::bytes;
 use image::layout;
 
@@ -138,7 +138,30 @@ fn count_below(counts: &mut [u16], ranks: &[u16], slack: u16, a: u32, b: u32)
     bump(counts, b, is_below(ranks, b, a, slack));
 }
 
-// Counts on over the links of block q, as `site::count_links` says.
+// Counts the link that stands at `at`: at both ends, and in `later` at the end that comes first.
+fn count_at(image: &[u8], at: usize, places: &[u16], counts: &mut [u16], later: &mut [u16])
+    requires { ⌜ Link-there (now image) at (length (now places)) (now counts) × Link-there (now image) at (length (now places)) (now later) ⌝ }
+    ensures { λ _. ⌜ (now (counts .exit) ≡ count-at [] 1 (now (image .entry)) at (now (counts .entry))) ×
+        (now (later .exit) ≡ count-at (now (places .entry)) 0 (now (image .entry)) at (now (later .entry))) ⌝ }
+{
+    let a = word_in(image, at);
+    let b = word_in(image, at + 2);
+    count_ends(counts, a, b);
+    count_below(later, places, 0, a, b);
+}
+
+// Counts the link that stands at `at`, at each end whose rank is below that of the other with the slack added.
+fn tally_at(image: &[u8], at: usize, ranks: &[u16], slack: u16, counts: &mut [u16])
+    requires { ⌜ Link-there (now image) at (length (now ranks)) (now counts) ⌝ }
+    ensures { λ _. ⌜ now (counts .exit) ≡ count-at (now (ranks .entry)) slack (now (image .entry)) at (now (counts .entry)) ⌝ }
+{
+    let a = word_in(image, at);
+    let b = word_in(image, at + 2);
+    count_below(counts, ranks, slack, a, b);
+}
+
+// Counts on over the links of block q, as `site::count_links` says. The links of a radio stand together, so that each waits for the count
+// that the last one stored: the two halves of the block go side by side, and neither waits for the other.
 pub(crate) fn count_block(
     image: &[u8],
     n: u32,
@@ -155,18 +178,20 @@ pub(crate) fn count_block(
         Tallied n (now (places .entry)) 0 (links-up-to n (now (image .entry)) (passed m (q + 1))) (now (later .exit)) ⌝ }
 {
     let part = part_of(n, m, q);
+    let half = part.count / 2;
     let mut i: usize = 0;
-    while i < part.count {
-        let at = part.at + 4 * i;
-        let a = word_in(image, at);
-        let b = word_in(image, at + 2);
-        count_ends(counts, a, b);
-        count_below(later, places, 0, a, b);
+    while i < half {
+        count_at(image, part.at + 4 * i, places, counts, later);
+        count_at(image, part.at + 4 * (half + i), places, counts, later);
         i += 1;
     }
+    if part.count <= half + half {
+        return;
+    }
+    count_at(image, part.at + 4 * (half + half), places, counts, later);
 }
 
-// Counts on over the links of block q, as `site::tally` says.
+// Counts on over the links of block q, as `site::tally` says; its two halves side by side, as in `count_block`.
 pub(crate) fn tally_block(
     image: &[u8],
     n: u32,
@@ -181,14 +206,17 @@ pub(crate) fn tally_block(
     ensures { λ _. ⌜ Tallied n (now (ranks .entry)) slack (links-up-to n (now (image .entry)) (passed m (q + 1))) (now (counts .exit)) ⌝ }
 {
     let part = part_of(n, m, q);
+    let half = part.count / 2;
     let mut i: usize = 0;
-    while i < part.count {
-        let at = part.at + 4 * i;
-        let a = word_in(image, at);
-        let b = word_in(image, at + 2);
-        count_below(counts, ranks, slack, a, b);
+    while i < half {
+        tally_at(image, part.at + 4 * i, ranks, slack, counts);
+        tally_at(image, part.at + 4 * (half + i), ranks, slack, counts);
         i += 1;
     }
+    if part.count <= half + half {
+        return;
+    }
+    tally_at(image, part.at + 4 * (half + half), ranks, slack, counts);
 }
 
 // Reads the entries of block q of the order's blocks.

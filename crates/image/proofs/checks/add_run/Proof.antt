@@ -1,47 +1,68 @@
--- `checks::add_run` meets its contract: the columns passed have the run. The measure is the columns left.
-use mathlib.Core.Path.{sym, _∙_}
-use Prim.Native.Nat.{_-_}
+-- `checks::add_run` meets its contract: the columns passed in each third have the run. The measure is what is left of a third.
+use mathlib.Core.Path.{refl, sym, _∙_}
+use Prim.Native.Nat.{_*_, _-_, _≤_}
 use native.Mathlib.Omega.{arith}
 use borrow.Author.Needs.{needs}
-use Rattle.image.proofs.ColumnLaws.{Adding, adding-none, adding-turn, adding-end, sum-small, twice-small}
+use Rattle.image.proofs.ColumnLaws.{Summed, runs-at, adding-none, next-fits, next-added, adding-end}
 use Rattle.image.proofs.checks.add_run.Statement.{statement}
 use Rattle.image.proofs.checks.add_run.Tie as tie
 
 abbrev Inv-loop : tie.InvT-loop
-Inv-loop block r sums₀ twice₀ p₀ sums twice p = Adding block r p sums twice
+Inv-loop block r sums₀ twice₀ p₀ sums twice p = (p ≤ 8) × Summed block (runs-at r (3 * p)) sums twice
 
 abbrev μ-loop : tie.MeasureT-loop
-μ-loop block r sums₀ twice₀ p₀ sums twice p = 16 - p
+μ-loop block r sums₀ twice₀ p₀ sums twice p = 8 - p
 
-add-sum : tie.Need-add-sum Inv-loop μ-loop
-add-sum c =
-    let at-loop = c .before .before .before .before in
-    let start = at-loop .before .before .before .before in
-    omega (arith, sum-small _ _ _ _ _ (at-loop .loop .inv) (omega arith) _ (c .wide .ensures .0) (λ j. c .before .shared-slice-known2 .given j .fits) (start .pre .0))
+loop-holds : tie.Need-loop-holds Inv-loop μ-loop
+loop-holds c = (omega arith, adding-none _ _ _ _ (c .before .before .before .pre .2))
 
-add-twice : tie.Need-add-twice Inv-loop μ-loop
-add-twice c =
-    let at-loop = c .before .before .before .before .before in
-    let start = at-loop .before .before .before .before in
-    omega (arith, twice-small _ _ _ _ _ (at-loop .loop .inv) (omega arith) _ (c .before .wide .ensures .0) (λ j. c .before .before .shared-slice-known2 .given j .fits) (start .pre .0))
+add-byte-requires : tie.Need-add-byte-requires Inv-loop μ-loop
+add-byte-requires c κs =
+    let at-loop = c .before .before .before in
+    let known = at-loop .before .before .before in
+    let pre = known .before .pre in
+    next-fits _ _ _ _ _ (at-loop .loop .inv .1) _ (omega arith) (omega arith) (λ j. known .shared-slice-known .given j .fits) (pre .0) (pre .1)
+
+add-byte-requires-2 : tie.Need-add-byte-requires-2 Inv-loop μ-loop
+add-byte-requires-2 c κs =
+    let first = c .before .before .before .before .before .before in
+    let at-loop = first .before .before .before .before in
+    let known = at-loop .before .before .before in
+    let pre = known .before .pre in
+    let one = next-added _ _ _ _ _ (at-loop .loop .inv .1) _ (omega arith) (omega arith) _ _ (first .add-byte .ensures) _ refl in
+    next-fits _ _ _ _ _ one _ (omega arith) (omega arith) (λ j. known .shared-slice-known .given j .fits) (pre .0) (pre .1)
+
+add-byte-requires-3 : tie.Need-add-byte-requires-3 Inv-loop μ-loop
+add-byte-requires-3 c κs =
+    let second = c .before .before .before .before .before .before in
+    let first = second .before .before .before .before .before .before .before in
+    let at-loop = first .before .before .before .before in
+    let known = at-loop .before .before .before in
+    let pre = known .before .pre in
+    let one = next-added _ _ _ _ _ (at-loop .loop .inv .1) _ (omega arith) (omega arith) _ _ (first .add-byte .ensures) _ refl in
+    let two = next-added _ _ _ _ _ one _ (omega arith) (omega arith) _ _ (second .add-byte2 .ensures) _ refl in
+    next-fits _ _ _ _ _ two _ (omega arith) (omega arith) (λ j. known .shared-slice-known .given j .fits) (pre .0) (pre .1)
 
 loop-again : tie.Need-loop-again Inv-loop μ-loop
 loop-again c =
-    let at-loop = c .before .before .before .before .before in
-    adding-turn _ _ _ _ _ (at-loop .loop .inv) (omega arith) _ (c .before .wide .ensures .0)
+    let third = c .before .before .before .before in
+    let second = third .before .before .before .before .before .before .before in
+    let first = second .before .before .before .before .before .before .before in
+    let at-loop = first .before .before .before .before in
+    let one = next-added _ _ _ _ _ (at-loop .loop .inv .1) _ (omega arith) (omega arith) _ _ (first .add-byte .ensures) _ refl in
+    let two = next-added _ _ _ _ _ one _ (omega arith) (omega arith) _ _ (second .add-byte2 .ensures) _ refl in
+    (omega arith, next-added _ _ _ _ _ two _ (omega arith) (omega arith) _ _ (third .add-byte3 .ensures) _ (omega arith))
 
 same-length : tie.Need-same-length Inv-loop μ-loop
-same-length c = c .before .loop .inv .sums-long ∙ sym (c .before .before .before .before .before .pre .2 .sums-long)
+same-length c = c .before .loop .inv .1 .sums-long ∙ sym (c .before .before .before .before .before .pre .2 .sums-long)
 
 same-length-2 : tie.Need-same-length-2 Inv-loop μ-loop
-same-length-2 c = c .before .loop .inv .twice-long ∙ sym (c .before .before .before .before .before .pre .2 .twice-long)
-
-returns : tie.Need-returns Inv-loop μ-loop
-returns c = adding-end _ _ _ _ _ (c .before .loop .inv) (c .loop-test .left)
+same-length-2 c = c .before .loop .inv .1 .twice-long ∙ sym (c .before .before .before .before .before .pre .2 .twice-long)
 
 pub add-run-spec : {M : Type 1} → statement M
 add-run-spec =
     tie.close (
-    tie.spec Inv-loop μ-loop (λ c. adding-none _ _ _ _ (c .before .before .before .pre .2)) (λ c. search needs) (λ c. search needs) (λ c. search needs) (λ c. search needs) (λ c. search needs)
-    (λ c κs. search needs) add-sum (λ c. search needs) (λ c. search needs) (λ c. search needs) (λ c. search needs) add-twice (λ c. search needs)
-    (λ c. search needs) (λ c. search needs) (λ c. search needs) loop-again same-length same-length-2 returns)
+    tie.spec Inv-loop μ-loop loop-holds (λ c. search needs) (λ c. search needs) add-byte-requires (λ c. search needs) (λ c. search needs)
+    (λ c. search needs) (λ c. search needs) add-byte-requires-2 (λ c. search needs) (λ c. search needs) (λ c. search needs) (λ c. search needs)
+    (λ c. search needs) (λ c. search needs) add-byte-requires-3 (λ c. search needs) (λ c. search needs) loop-again same-length same-length-2
+    (λ c. adding-end _ _ _ _ _ (c .before .loop .inv .1) (omega arith)))

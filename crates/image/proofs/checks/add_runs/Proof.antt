@@ -9,10 +9,10 @@ use Rattle.image.proofs.checks.add_runs.Statement.{statement}
 use Rattle.image.proofs.checks.add_runs.Tie as tie
 
 abbrev Inv-loop : tie.InvT-loop
-Inv-loop block sums₀ twice₀ r₀ sums twice r = (r ≤ 31) × Columns block r sums twice
+Inv-loop block sums₀ twice₀ r₀ sums twice r = (r ≤ 21) × Columns block r sums twice
 
 abbrev μ-loop : tie.MeasureT-loop
-μ-loop block sums₀ twice₀ r₀ sums twice r = 31 - r
+μ-loop block sums₀ twice₀ r₀ sums twice r = 21 - r
 
 loop-holds : tie.Need-loop-holds Inv-loop μ-loop
 loop-holds c = (omega arith, c .before .before .before .pre .1)

@@ -10,7 +10,7 @@ abbrev Inv-loop : tie.InvT-loop
 Inv-loop sums twice sum₀ p₀ sum p = Totalling sums twice sum p
 
 abbrev μ-loop : tie.MeasureT-loop
-μ-loop sums twice sum₀ p₀ sum p = 16 - p
+μ-loop sums twice sum₀ p₀ sum p = 24 - p
 
 mul-sum-2 : tie.Need-mul-sum-2 Inv-loop μ-loop
 mul-sum-2 c =
@@ -46,6 +46,7 @@ loop-again c = let at-loop = c .before .before .before in totalling-turn _ _ (at
 pub columns-total-spec : {M : Type 1} → statement M
 columns-total-spec =
     tie.close (
-    tie.spec Inv-loop μ-loop (λ c. totalling-none _ _) (λ c. search needs) (λ c. search needs) (λ c. search needs) (λ c. search needs) mul-sum-2
-    (λ c. search needs) (λ c. search needs) mul-sum-4 sub-sum add-sum-2 (λ c. search needs) (λ c. search needs) loop-again
-    (λ c. totalling-end _ _ _ _ (c .before .loop .inv) (omega arith)))
+    tie.spec Inv-loop μ-loop (λ c. totalling-none _ _) (λ c. search needs) (λ c. search needs) (λ c. search needs) (λ c. search needs)
+    (λ c. omega (arith, c .shared-slice-known .given (c .before .before .loop .p))) mul-sum-2 (λ c. search needs) (λ c. search needs)
+    (λ c. omega (arith, c .shared-slice-known2 .given (c .before .before .before .loop .p))) mul-sum-4 sub-sum add-sum-2 (λ c. search needs)
+    (λ c. search needs) loop-again (λ c. totalling-end _ _ _ _ (c .before .loop .inv) (omega arith)))

@@ -1,97 +1,110 @@
--- `blocks::count_block` meets its contract: the block's links passed are counted in both tables. The measure is its links left.
-use mathlib.Core.Path.{_≡_}
+-- `blocks::count_block` meets its contract: the links passed in both halves of the block are counted in both tables. The measure is what is
+-- left of a half.
+use mathlib.Core.Path.{_∙_}
 use mathlib.Core.List.{[]}
 use Prim.Native.Nat.{_+_, _*_, _-_, _≤_}
 use native.Mathlib.Omega.{arith}
+use lib.ListN.{length}
 use borrow.Author.Needs.{needs}
 use Rattle.mesh.specs.Image.{block-links}
-use Rattle.image_site.proofs.BlockLaws.{link-in, link-inside, link-index, block-passed}
-use Rattle.image_site.proofs.TallyLaws.{Tallying, tallying-from, tallying-to, tallying-link, link-fits, proper-pair}
+use Rattle.image_site.proofs.TallyLaws.{Tallying, tallying-from}
+use Rattle.image_site.proofs.HalvesLaws.{Block, link-there, first-turn, second-turn, both-halves, block-end}
 use Rattle.image_site.proofs.blocks.count_block.Statement.{statement}
 use Rattle.image_site.proofs.blocks.count_block.Tie as tie
 
 abbrev Inv-loop : tie.InvT-loop
-Inv-loop image n m q places counts₀ later₀ part i₀ counts later i =
-    (i ≤ part .count) × Tallying n [] 1 image counts₀ counts (block-links * q + i) × Tallying n places 0 image later₀ later (block-links * q + i)
+Inv-loop image n m q places counts₀ later₀ part half i₀ counts later i =
+    (i ≤ half) × Block n m q (part .at) (part .count) image (length places) counts₀
+    × Tallying n [] 1 image counts₀ counts (block-links * q + i) (block-links * q + half) i
+    × Block n m q (part .at) (part .count) image (length places) later₀
+    × Tallying n places 0 image later₀ later (block-links * q + i) (block-links * q + half) i
 
 abbrev μ-loop : tie.MeasureT-loop
-μ-loop image n m q places counts₀ later₀ part i₀ counts later i = part .count - i
+μ-loop image n m q places counts₀ later₀ part half i₀ counts later i = half - i
 
 loop-holds : tie.Need-loop-holds Inv-loop μ-loop
 loop-holds c =
-    let start = c .before .before .before .before .before in (
+    let start = c .before .before .before .before .before .before in
+    let room = start .pre .0 .0 in
+    let there = start .pre .0 .2 in
+    let part = c .before .part-of .ensures in (
       omega arith,
-      tallying-from _ _ _ _ _ _ _ (start .pre .1 .0) (omega (arith, start .pre .0 .2)),
-      tallying-from _ _ _ _ _ _ _ (start .pre .1 .1) (omega (arith, start .pre .0 .2)),
+      record { part = part; there = there; room = room },
+      tallying-from _ _ _ _ _ _ _ _ (start .pre .1 .0) (omega arith),
+      record {
+        part = part;
+        there = there;
+        room =
+            record { most = room .most; few = room .few; whole = room .whole; ranked = room .ranked; counted = start .pre .0 .1; is-proper = room .is-proper };
+      },
+      tallying-from _ _ _ _ _ _ _ _ (start .pre .1 .1) (omega arith),
     )
 
-word-in-requires : tie.Need-word-in-requires Inv-loop μ-loop
-word-in-requires c κs =
-    let at-loop = c .before .before .before in
-    let start = at-loop .before .before .before .before .before .before in
-    omega (arith, link-inside _ _ _ _ _ (at-loop .before .part-of .ensures) _ _ (start .pre .0 .0 .whole) (start .pre .0 .2) (c .before .if1 .taken))
+count-at-requires : tie.Need-count-at-requires Inv-loop μ-loop
+count-at-requires c κs =
+    let inv = c .before .before .before .before .loop .inv in
+    (link-there (inv .1) (inv .2) _ (omega arith) (omega arith), link-there (inv .3) (inv .4) _ (omega arith) (omega arith))
 
-word-in-requires-2 : tie.Need-word-in-requires-2 Inv-loop μ-loop
-word-in-requires-2 c κs =
-    let at-loop = c .before .before .before .before in
-    let start = at-loop .before .before .before .before .before .before in
-    omega (arith, link-inside _ _ _ _ _ (at-loop .before .part-of .ensures) _ _ (start .pre .0 .0 .whole) (start .pre .0 .2) (c .before .before .if1 .taken))
-
-count-ends-requires : tie.Need-count-ends-requires Inv-loop μ-loop
-count-ends-requires c κs =
-    let read = c .before in
-    let then1 = read .before .before .before in
-    let at-loop = then1 .before .before in
-    let part = at-loop .before .part-of .ensures in
-    let room = at-loop .before .before .before .before .before .before .pre .0 .0 in
-    let pair = link-in _ _ _ _ _ part _ _ _ _ (then1 .if1 .taken) (read .before .word-in .ensures .0) (read .word-in2 .ensures .0) in
-    let index = link-index _ _ _ _ _ part _ (then1 .if1 .taken) in
-    let good = proper-pair _ _ _ _ _ _ (room .is-proper) index pair in
-    link-fits _ _ _ _ _ _ _ (at-loop .loop .inv .1) _ _ pair (good .0) (good .1) (omega (arith, room .counted)) (omega (arith, room .few))
-
-count-below-requires : tie.Need-count-below-requires Inv-loop μ-loop
-count-below-requires c κs =
-    let read = c .before .before .before .before .before in
-    let then1 = read .before .before .before in
-    let at-loop = then1 .before .before in
-    let part = at-loop .before .part-of .ensures in
-    let start = at-loop .before .before .before .before .before .before in
-    let room = start .pre .0 .0 in
-    let pair = link-in _ _ _ _ _ part _ _ _ _ (then1 .if1 .taken) (read .before .word-in .ensures .0) (read .word-in2 .ensures .0) in
-    let index = link-index _ _ _ _ _ part _ (then1 .if1 .taken) in
-    let good = proper-pair _ _ _ _ _ _ (room .is-proper) index pair in (
-      link-fits _ _ _ _ _ _ _ (at-loop .loop .inv .2) _ _ pair (good .0) (good .1) (omega (arith, start .pre .0 .1)) (omega (arith, room .few)),
-      omega (arith, room .ranked),
+count-at-requires-2 : tie.Need-count-at-requires-2 Inv-loop μ-loop
+count-at-requires-2 c κs =
+    let first = c .before .before .before .before .before .before .before in
+    let inv = first .before .before .before .before .before .loop .inv in (
+      link-there (inv .1) (first-turn (inv .1) _ (inv .2) (omega arith) (first .count-at .ensures .0)) _ (omega arith) (omega arith),
+      link-there (inv .3) (first-turn (inv .3) _ (inv .4) (omega arith) (first .count-at .ensures .1)) _ (omega arith) (omega arith),
     )
 
 loop-again : tie.Need-loop-again Inv-loop μ-loop
 loop-again c =
-    let below = c .before .before in
-    let ends = below .before .before .before .before in
-    let read = ends .before .before in
-    let then1 = read .before .before .before in
-    let at-loop = then1 .before .before in
-    let part = at-loop .before .part-of .ensures in
-    let start = at-loop .before .before .before .before .before .before in
-    let room = start .pre .0 .0 in
-    let pair = link-in _ _ _ _ _ part _ _ _ _ (then1 .if1 .taken) (read .before .word-in .ensures .0) (read .word-in2 .ensures .0) in
-    let good = proper-pair _ _ _ _ _ _ (room .is-proper) (link-index _ _ _ _ _ part _ (then1 .if1 .taken)) pair in
-    let e : block-links * (start .args .q) + at-loop .loop .i + 1 ≡ block-links * (start .args .q) + (at-loop .loop .i + 1) = omega arith in (
+    let second = c .before .before .before .before in
+    let first = second .before .before .before .before .before .before .before .before in
+    let inv = first .before .before .before .before .before .loop .inv in (
       omega arith,
-      rw e at (tallying-link _ _ _ _ _ _ _ (at-loop .loop .inv .1) _ _ pair (good .0) (good .1) (omega (arith, room .counted)) _ (ends .count-ends .ensures)),
-      rw e at (tallying-link _ _ _ _ _ _ _ (at-loop .loop .inv .2) _ _ pair (good .0) (good .1) (omega (arith, start .pre .0 .1)) _ (below .count-below .ensures)),
+      inv .1,
+      second-turn (inv .1) _ _ (first-turn (inv .1) _ (inv .2) (omega arith) (first .count-at .ensures .0)) (omega arith) (second .count-at2 .ensures .0),
+      inv .3,
+      second-turn (inv .3) _ _ (first-turn (inv .3) _ (inv .4) (omega arith) (first .count-at .ensures .1)) (omega arith) (second .count-at2 .ensures .1),
     )
 
 returns : tie.Need-returns Inv-loop μ-loop
 returns c =
-    let at-loop = c .before .before in
-    let start = at-loop .before .before .before .before .before .before in
-    let e = block-passed _ _ _ _ _ (at-loop .before .part-of .ensures) (start .pre .0 .2) _ (at-loop .loop .inv .0) (c .if1 .left) in
-    (tallying-to _ _ _ _ _ _ _ _ (at-loop .loop .inv .1) e, tallying-to _ _ _ _ _ _ _ _ (at-loop .loop .inv .2) e)
+    let inv = c .before .before .before .loop .inv in (
+      block-end (inv .1) _ (both-halves (inv .1) _ _ (inv .2) (inv .0) (omega arith)) (omega arith) (omega arith),
+      block-end (inv .3) _ (both-halves (inv .3) _ _ (inv .4) (inv .0) (omega arith)) (omega arith) (omega arith),
+    )
+
+count-at-requires-3 : tie.Need-count-at-requires-3 Inv-loop μ-loop
+count-at-requires-3 c κs =
+    let inv = c .before .before .before .before .before .before .loop .inv in (
+      link-there (inv .1) (both-halves (inv .1) _ _ (inv .2) (inv .0) (omega arith)) _ (omega arith) (omega arith),
+      link-there (inv .3) (both-halves (inv .3) _ _ (inv .4) (inv .0) (omega arith)) _ (omega arith) (omega arith),
+    )
+
+same-length-3 : tie.Need-same-length-3 Inv-loop μ-loop
+same-length-3 c =
+    let last = c .before .before .before .before in
+    last .count-at3 .kept .1 .1 .1 .0 ∙ last .before .before .before .before .before .before .before .loop .inv .2 .long
+
+same-length-4 : tie.Need-same-length-4 Inv-loop μ-loop
+same-length-4 c =
+    let last = c .before .before .before .before in
+    last .count-at3 .kept .1 .1 .1 .1 .0 ∙ last .before .before .before .before .before .before .before .loop .inv .4 .long
+
+returns-2 : tie.Need-returns-2 Inv-loop μ-loop
+returns-2 c =
+    let last = c .before .before .before .before in
+    let inv = last .before .before .before .before .before .before .before .loop .inv in (
+      block-end (inv .1) _
+          (first-turn (inv .1) _ (both-halves (inv .1) _ _ (inv .2) (inv .0) (omega arith)) (omega arith) (last .count-at3 .ensures .0)) (omega arith)
+          (omega arith),
+      block-end (inv .3) _
+          (first-turn (inv .3) _ (both-halves (inv .3) _ _ (inv .4) (inv .0) (omega arith)) (omega arith) (last .count-at3 .ensures .1)) (omega arith)
+          (omega arith),
+    )
 
 pub count-block-spec : {M : Type 1} → statement M
 count-block-spec =
     tie.close (
-    tie.spec Inv-loop μ-loop (λ c κs. search needs) loop-holds (λ c. search needs) (λ c. search needs) word-in-requires (λ c. search needs) word-in-requires-2
-    count-ends-requires count-below-requires (λ c. search needs) (λ c. search needs) loop-again (λ c. c .before .before .loop .inv .1 .long)
-    (λ c. c .before .before .loop .inv .2 .long) returns)
+    tie.spec Inv-loop μ-loop (λ c κs. search needs) loop-holds (λ c. search needs) (λ c. search needs) count-at-requires (λ c. search needs)
+    (λ c. search needs) (λ c. search needs) count-at-requires-2 (λ c. search needs) (λ c. search needs) loop-again (λ c. search needs)
+    (λ c. c .before .before .before .loop .inv .2 .long) (λ c. c .before .before .before .loop .inv .4 .long) returns (λ c. search needs)
+    (λ c. search needs) (λ c. search needs) count-at-requires-3 same-length-3 same-length-4 returns-2)
