@@ -1,56 +1,48 @@
--- `take_level` meets its contract: the rows from v on give, from what is so far, what all of them give (`Level-taking`). The measure is the
--- radios left.
-use mathlib.Core.Path.{_∙_}
-use Prim.Native.Nat.{_-_}
+-- `take_level` meets its contract: the links of the listed rows are the links of the level's weight.
+use mathlib.Core.Path.{refl, sym}
 use native.Mathlib.Omega.{arith}
-use lib.ListN.{length}
+use lib.Seq.{length-take-le}
 use borrow.Author.Needs.{needs}
-use Rattle.staircase.specs.Growing.{growing}
-use Rattle.staircase.proofs.LoopLaws.{Level-taking, level-taking-none, level-taking-turn, level-taking-end}
+use Rattle.staircase.proofs.LevelRows.{level-links, level-whole}
 use Rattle.staircase.proofs.take_level.Statement.{statement}
 use Rattle.staircase.proofs.take_level.Tie as tie
 
-abbrev Inv-loop : tie.InvT-loop
-Inv-loop links numbers level labels₀ table₀ count c₀ v₀ labels table c v =
-    Level-taking links numbers level (growing labels₀ table₀ count) v (growing labels table c)
+own-radios-requires : tie.Need-own-radios-requires
+own-radios-requires c κs = (c .before .before .before .before .before .pre .2, refl, c .before .before .before .before .before .pre .0 .most)
 
-abbrev μ-loop : tie.MeasureT-loop
-μ-loop links numbers level labels₀ table₀ count c₀ v₀ labels table c v = length numbers - v
+list-rows-requires : tie.Need-list-rows-requires
+list-rows-requires c κs = (c .before .before .before .before .before .before .own2 .given, c .before .before .before .reach2 .given, refl)
 
-cast-take-radio : tie.Need-cast-take-radio Inv-loop μ-loop
-cast-take-radio c = omega (arith, c .loop-test .taken, c .before .before .before .before .before .before .pre .2 .most)
+array-share-prefix-list : tie.Need-array-share-prefix-list
+array-share-prefix-list c = omega (arith, c .before .before .before .list-rows .ensures .fits, c .before .before .list2 .given)
 
-take-radio-requires : tie.Need-take-radio-requires Inv-loop μ-loop
-take-radio-requires c κs =
-    let test = c .before .before in
-    let at-loop = test .before in
-    let start = at-loop .before .before .before .before .before in
-    let less = test .loop-test .taken in (
-      less,
-      at-loop .loop .inv .labels-long ∙ start .pre .0,
-      start .pre .1,
-      start .pre .2,
-      omega (arith, at-loop .loop .inv .few, less, start .pre .2 .most, start .pre .3),
+slice-aggregate-take-rows-3 : tie.Need-slice-aggregate-take-rows-3
+slice-aggregate-take-rows-3 c = sym (length-take-le _ _ (c .before .before .before .before .list-rows .ensures .fits))
+
+take-rows-requires : tie.Need-take-rows-requires
+take-rows-requires c κs =
+    let start = c .before .before .before .before .before .before .before .before .before .before .before .before .before .before .before .before .before .before .before .before in
+    let call = start .args in
+    let owns = c .before .before .before .before .before .before .before .before .before .before .before .before .before .before .own-radios .ensures in
+    let level = c .before .before .before .before .before .before .before .before .before .before .before .at-least .ensures .radios refl in
+    let found = c .before .before .before .before .before .before .list-rows .ensures in (
+      level-whole (call .links .now) (call .numbers .now) (call .level) (start .pre .1) (start .pre .0) _ _ owns level _ _ found,
+      c .before .before .before .before .before .before .before .before .before .before .before .before .before .own2 .given,
+      c .before .before .before .before .before .before .before .before .before .before .reach2 .given,
+      start .pre .3,
+      rw (level-links (call .links .now) (call .numbers .now) (call .level) (start .pre .1) (start .pre .0) _ _ owns level _ _ found) (start .pre .4),
     )
 
-loop-again : tie.Need-loop-again Inv-loop μ-loop
-loop-again c =
-    let taken = c .before .before .before .before in
-    let test = taken .before .before .before in
-    let at-loop = test .before in
-    level-taking-turn _ _ _ _ (at-loop .loop .v) (growing (at-loop .loop .labels) (at-loop .loop .table) (at-loop .loop .c)) _ (test .loop-test .taken)
-    (search needs) (search needs) (taken .take-radio .ensures .0) (taken .take-radio .ensures .1) (at-loop .loop .inv)
-
-returns : tie.Need-returns Inv-loop μ-loop
+returns : tie.Need-returns
 returns c =
-    let at-loop = c .before in
-    let start = at-loop .before .before .before .before .before in (
-      omega (arith, at-loop .loop .inv .few, at-loop .loop .inv .low, start .pre .2 .most),
-      level-taking-end _ _ _ _ (at-loop .loop .v) _ (c .loop-test .left) (at-loop .loop .inv),
-    )
+    let start = c .before .before .before .before .before .before .before .before .before .before .before .before .before .before .before .before .before .before .before .before .before .before .before .before .before in
+    let call = start .args in
+    rw (level-links (call .links .now) (call .numbers .now) (call .level) (start .pre .1) (start .pre .0) _ _ (c .before .before .before .before .before .before .before .before .before .before .before .before .before .before .before .before .before .before .before .own-radios .ensures)
+    (c .before .before .before .before .before .before .before .before .before .before .before .before .before .before .before .before .at-least .ensures .radios refl) _ _ (c .before .before .before .before .before .before .before .before .before .before .before .list-rows .ensures)) at (c .before .before .before .before .take-rows .ensures)
 
 pub take-level-spec : {M : Type 1} → statement M
 take-level-spec =
     tie.close (
-    tie.spec Inv-loop μ-loop (λ c. level-taking-none _ _ _ _) cast-take-radio take-radio-requires (λ c. search needs) (λ c. search needs) loop-again
-    (λ c. c .before .loop .inv .labels-long) (λ c. c .before .loop .inv .table-long) returns)
+    tie.spec (λ c. search needs) own-radios-requires (λ c. search needs) (λ c κs. search needs) (λ c. search needs) (λ c. search needs)
+    (λ c. search needs) list-rows-requires (λ c. search needs) (λ c. search needs) array-share-prefix-list slice-aggregate-take-rows-3
+    take-rows-requires (λ c. search needs) (λ c. search needs) returns)
