@@ -1,50 +1,86 @@
 -- The rows of a level have all links of its weight.
---   own-taken         the radios with a level's number as a set
+--   above-..          the radios of higher levels as a set
+--   level-sets        the radios of a level as sets
 --   rows-putting-..   listed radios and their neighbours put into a set
 --   level-rows        the rows listed
 --   level-links       the links of the listed rows are the links of the level's weight
 use mathlib.Core.Path.{_≡_, refl, sym, ap, ap₂, _∙_}
 use mathlib.Core.Logic.{_⊎_, inl, inr}
-use mathlib.Core.Bool.{Bool, true, false, _&&_, _||_, not, cond}
-use mathlib.Core.List.{List, [], _∷_, _++_, map, flatMap, append-nil}
-use Prim.Native.Nat.{ℕ, zero, suc, _+_, _*_, _-_, _/_, _%_, _≤_, _<_, min}
+use mathlib.Core.Bool.{Bool, true, false, _&&_, not, cond}
+use mathlib.Core.List.{List, [], _∷_, _++_, flatMap, append-nil}
+use Prim.Native.Nat.{ℕ, _+_, _*_, _-_, _/_, _%_, _≤_, _<_, min}
 use native.Mathlib.Omega.{arith}
 use lib.Dec.{ltb, leb, eqb}
 use lib.ListN.{length, getD, take, replicate, length-take, List·getD-eq-default}
-use lib.Seq.{take-all, getD-take}
-use borrow.Author.Tests.{ltb-true, ltb-false, lt-ltb, le-ltb, leb-true, leb-false, le-leb, lt-leb, eqb-true, eqb-false, eq-eqb, ne-eqb}
+use lib.Seq.{take-all}
+use borrow.Author.Tests.{ltb-true, ltb-false, lt-ltb, leb-true, leb-false, le-leb, lt-leb, eqb-true, eqb-false, eq-eqb, ne-eqb}
 use Rattle.mesh.specs.Limits.{max-radios, row-bytes}
 use Rattle.lists.specs.Lists.{range, filter, member, overwrite, In, Entries-below}
-use Rattle.mesh.specs.Graph.{Link, In-links, link-of}
+use Rattle.mesh.specs.Connected.{greatest}
+use Rattle.mesh.specs.Graph.{Link, link-of}
 use Rattle.mesh.specs.Tables.{digit, marked}
 use Rattle.mesh.specs.Staircase.{filter-links, of-weight}
 use Rattle.lists.proofs.Tests.{bool-cases, never, and-left, and-right, and-both, or-left, or-right, iff-eq}
 use Rattle.lists.proofs.Range.{range-in, in-range, range-append, length-range}
 use Rattle.lists.proofs.Filter.{in-filter, filter-in, filter-none, filter-ext, filter-le}
-use Rattle.lists.proofs.Member.{in-getD, getD-of-in, in-member}
+use Rattle.lists.proofs.Member.{in-getD, getD-of-in}
 use Rattle.lists.proofs.Map.{flatMap-none, flatMap-append}
 use Rattle.lists.proofs.Parts.{getD-zeros}
 use Rattle.lists.proofs.Overwrite.{take-overwrite}
 use Rattle.mesh.proofs.Tables.Digits.{digit-nothing}
-use Rattle.rows.specs.Rows.{neighbours-of, row-listed, neighbours-above}
+use Rattle.mesh.proofs.Trees.Listed.{getD-le-greatest}
+use Rattle.rows.specs.Rows.{row-listed, neighbours-above}
 use Rattle.rows.proofs.RowListLaws.{in-neighbours-of, member-neighbours-of}
 use Rattle.rows.proofs.RowWords.{row-listed-whole, row-listed-short}
 use Rattle.sets.specs.Sets.{in-set, put-in, Row-joined, common, Common-taken, Set-taken, in-one, gone, Gone-listed}
 use Rattle.sets.proofs.SetLaws.{in-set-radio, in-put-in, length-put-in, common-filter}
 use Rattle.link_list.specs.Links.{links-to, links-above, links-from}
 use Rattle.floods.specs.Floods.{of-level, Level-set}
-use Rattle.forests.proofs.Forests.{filter-links-append, filter-links-none}
-use Rattle.staircase.specs.Growing.{table-weight}
-use Rattle.staircase.specs.Rows.{row-among, level-row, Rows-whole, Rows-put, Own-set, Level-rows, Mutual}
+use Rattle.forests.proofs.Forests.{filter-links-append}
+use Rattle.staircase.specs.Growing.{table-weight, greatest-below}
+use Rattle.staircase.proofs.SkipLaws.{number-radio, number-below}
+use Rattle.staircase.specs.Rows.{row-among, level-row, Rows-whole, Rows-put, Level-sets, Level-rows, Mutual}
 
 -- ---- the radios of a level
 
--- s has the radios with number k or more, x the ones with more
-pub own-taken : (ns : List ℕ) (k : ℕ) (old x set s t : List ℕ) → length old ≡ 8 → length x ≡ 8 → length set ≡ 8 → length s ≡ 8 → Level-set ns (k + 1) old x
-    → Level-set ns k set s → Set-taken x s t → Own-set ns k t
+-- the radios of levels above k
+abbrev pub Above-set : (ns : List ℕ) → (k : ℕ) → (set : List ℕ) → Type 0
+Above-set ns k s = (x : ℕ) → x < max-radios → in-set s x ≡ of-level ns (k + 1) x
+
+none-in : (v : ℕ) → in-set (replicate 8 0) v ≡ false
+unfolding in-set
+none-in v = ap (λ (w : ℕ). digit w (v % 64)) (getD-zeros 8 (v / 64)) ∙ digit-nothing (v % 64)
+
+pub above-none : (ns : List ℕ) (k : ℕ) → k ≡ greatest ns → Above-set ns k (replicate 8 0)
 unfolding of-level
-own-taken ns k old x set s t lo lx ls lt higher level taken =
-    record { radios = λ v l. taken .bits lx lt v ∙ ap₂ (λ (a b : Bool). a && not b) (level .radios ls v l) (higher .radios lo v l) ∙ rest v (ltb v (length ns)) (bool-cases (eqb (getD ns v 0) k)) }
+above-none ns k e x l = none-in x ∙ sym (go (bool-cases (ltb x (length ns))))
+  where
+    go : (ltb x (length ns) ≡ true) ⊎ (ltb x (length ns) ≡ false) → (ltb x (length ns) && leb (k + 1) (getD ns x 0)) ≡ false
+    go (inl q) = rw q (lt-leb (k + 1) (getD ns x 0) (omega (arith, e, getD-le-greatest ns x (ltb-true x (length ns) q))))
+    go (inr q) = rw q
+
+-- no radio is between a level and the next
+pub above-next : (ns : List ℕ) (k next : ℕ) (reach : List ℕ) → next ≡ greatest-below k ns → next < k → ((x : ℕ) → x < max-radios → in-set reach x ≡ of-level ns k x)
+    → Above-set ns next reach
+unfolding of-level
+above-next ns k next reach e less h x l = h x l ∙ ap (λ (b : Bool). ltb x (length ns) && b) (iff-eq (leb k (getD ns x 0)) (leb (next + 1) (getD ns x 0))
+    (λ q. le-leb (next + 1) (getD ns x 0) (omega (arith, leb-true k (getD ns x 0) q))) (λ q. le-leb k (getD ns x 0) (high (number-below k ns x) (leb-true (next + 1) (getD ns x 0) q))))
+  where
+    high : (getD ns x 0 ≤ greatest-below k ns) ⊎ (k ≤ getD ns x 0) → next + 1 ≤ getD ns x 0 → k ≤ getD ns x 0
+    high (inl a) b = absurd (omega (arith, e))
+    high (inr a) b = a
+
+-- the radios of higher levels taken out
+pub level-sets : (ns : List ℕ) (k : ℕ) (higher old reach own : List ℕ) → length higher ≡ 8 → length old ≡ 8 → length reach ≡ 8 → length own ≡ 8
+    → Above-set ns k higher → Level-set ns k old reach → Set-taken higher reach own → Level-sets ns k own reach
+unfolding of-level
+level-sets ns k higher old reach own lh lo lr lw above level taken = record {
+  own-long = lw;
+  reach-long = lr;
+  own-radios = λ v l. taken .bits lh lr v ∙ ap₂ (λ (a b : Bool). a && not b) (level .radios lo v l) (above v l)
+      ∙ rest v (ltb v (length ns)) (bool-cases (eqb (getD ns v 0) k));
+  reach-radios = λ v l. level .radios lo v l;
+}
   where
     rest : (v : ℕ) (a : Bool) → (eqb (getD ns v 0) k ≡ true) ⊎ (eqb (getD ns v 0) k ≡ false)
         → ((a && leb k (getD ns v 0)) && not (a && leb (k + 1) (getD ns v 0))) ≡ (a && eqb (getD ns v 0) k)
@@ -128,10 +164,6 @@ listed-front xs old list r fits counted listed =
 few-radios : (f : ℕ → Bool) → length (filter f (range 0 max-radios)) ≤ max-radios
 few-radios f = filter-le f (range 0 max-radios) max-radios (length-range 0 max-radios)
 
-none-in : (v : ℕ) → in-set (replicate 8 0) v ≡ false
-unfolding in-set
-none-in v = ap (λ (w : ℕ). digit w (v % 64)) (getD-zeros 8 (v / 64)) ∙ digit-nothing (v % 64)
-
 -- the radios of a set, listed against a set without any
 gone-own : (own : List ℕ) → length own ≡ 8 → gone own (replicate 8 0) ≡ filter (in-set own) (range 0 max-radios)
 unfolding gone in-one
@@ -163,6 +195,20 @@ module _ (ts own : List ℕ) (long : length own ≡ 8) (old list : List ℕ) (r 
       below v xs e i =
           let m : In v (filter (in-set own) (range 0 max-radios)) = rw e at i in
           omega (arith, range-in 0 max-radios v (in-filter (in-set own) (range 0 max-radios) v m .0) .1)
+
+  -- all of a set listed
+  pub all-rows : (less : List ℕ) → length list ≡ length old → Level-rows ts less own r list
+  all-rows less same = record {
+    rows = λ a. true;
+    fits = own-fits same;
+    listed = own-listed ∙ filter-ext (in-set own) (λ a. in-set own a && true) (range 0 max-radios) (λ a i. and-yes (in-set own a));
+    own-row = λ a e. refl;
+    near-row = λ a b e i. refl;
+  }
+    where
+      and-yes : (b : Bool) → b ≡ (b && true)
+      and-yes true = refl
+      and-yes false = refl
 
   -- the rows that the set has of reach
   pub level-rows : (reach set after end : List ℕ) (m : ℕ) → length reach ≡ 8 → length set ≡ 8 → length list ≡ max-radios → Rows-put ts (take r list) set
@@ -226,21 +272,15 @@ flatMap-filter g h k (x ∷ xs) none same = go (bool-cases (g x)) (flatMap-filte
     go (inl e) rec = rw e (ap₂ {C = List Link} (λ ls ms. ls ++ ms) (same x (inl refl) e) rec)
     go (inr e) rec = rw (e, none x (inl refl) e) rec
 
-module _ (ts ns : List ℕ) (k : ℕ) (some : 1 ≤ k) (rows : Mutual (length ns) ts) (own reach : List ℕ) (owns : Own-set ns k own)
-    (level : (x : ℕ) → x < max-radios → in-set reach x ≡ of-level ns k x) where
+module _ (ts ns : List ℕ) (k : ℕ) (some : 1 ≤ k) (rows : Mutual (length ns) ts) (own reach : List ℕ) (sets : Level-sets ns k own reach) where
   abbrev heavy : ℕ → List Link
   heavy a = of-weight (table-weight ns) k (links-above ts a)
 
   abbrev n : ℕ
   n = length ns
 
-  -- past the radios numbers read as 0
   radio : (v : ℕ) → 1 ≤ getD ns v 0 → v < n
-  radio v h = go (bool-cases (ltb v n))
-    where
-      go : (ltb v n ≡ true) ⊎ (ltb v n ≡ false) → v < n
-      go (inl e) = ltb-true v n e
-      go (inr e) = absurd (omega (arith, List·getD-eq-default ns 0 {n = v} (ltb-false v n e)))
+  radio v h = number-radio ns v h
 
   heavy-row : (a : ℕ) → heavy a ≡ links-to a (filter (λ b. eqb (min (getD ns a 0) (getD ns b 0)) k) (neighbours-above ts a))
   unfolding links-above
@@ -252,12 +292,12 @@ module _ (ts ns : List ℕ) (k : ℕ) (some : 1 ≤ k) (rows : Mutual (length ns
   row-heavy a s tells = ap (links-to a) (filter-ext (in-set s) (λ b. eqb (min (getD ns a 0) (getD ns b 0)) k) (neighbours-above ts a) (λ b i. tells b (in-above ts a b i .0))) ∙ sym (heavy-row a)
 
   of-own : (x : ℕ) → x < max-radios → in-set own x ≡ eqb (getD ns x 0) k
-  of-own x l = owns .radios x l ∙ iff-eq (ltb x n && eqb (getD ns x 0) k) (eqb (getD ns x 0) k) (λ e. and-right (ltb x n) (eqb (getD ns x 0) k) e)
+  of-own x l = sets .own-radios x l ∙ iff-eq (ltb x n && eqb (getD ns x 0) k) (eqb (getD ns x 0) k) (λ e. and-right (ltb x n) (eqb (getD ns x 0) k) e)
       (λ e. and-both (ltb x n) (eqb (getD ns x 0) k) (lt-ltb x n (radio x (omega (arith, eqb-true (getD ns x 0) k e)))) e)
 
   of-reach : (x : ℕ) → x < max-radios → in-set reach x ≡ leb k (getD ns x 0)
   unfolding of-level
-  of-reach x l = level x l ∙ iff-eq (ltb x n && leb k (getD ns x 0)) (leb k (getD ns x 0)) (λ e. and-right (ltb x n) (leb k (getD ns x 0)) e)
+  of-reach x l = sets .reach-radios x l ∙ iff-eq (ltb x n && leb k (getD ns x 0)) (leb k (getD ns x 0)) (λ e. and-right (ltb x n) (leb k (getD ns x 0)) e)
       (λ e. and-both (ltb x n) (leb k (getD ns x 0)) (lt-ltb x n (radio x (omega (arith, leb-true k (getD ns x 0) e)))) e)
 
   level-row-heavy : (a : ℕ) → a < max-radios → in-set reach a ≡ true → level-row ts own reach a ≡ heavy a

@@ -8,16 +8,14 @@ use mathlib.Core.Bool.{Bool, true, false, cond}
 use mathlib.Core.List.{List, [], _∷_, _++_, flatMap}
 use Prim.Native.Nat.{ℕ, zero, suc, _+_, _*_, _-_, _≤_, _<_}
 use native.Mathlib.Omega.{arith}
-use lib.Dec.{ltb, leb, eqb}
-use lib.ListN.{length, getD, length-append, List·getD-eq-default}
-use borrow.Author.Tests.{ltb-true, ltb-false}
-use Rattle.mesh.specs.Limits.{max-radios, max-neighbours, row-bytes}
-use Rattle.lists.specs.Lists.{range, filter}
+use lib.Dec.{eqb}
+use lib.ListN.{length, length-append}
+use Rattle.mesh.specs.Limits.{max-radios, max-neighbours}
+use Rattle.lists.specs.Lists.{range}
 use Rattle.mesh.specs.Graph.{Link, In-links, link-of}
 use Rattle.mesh.specs.Connected.{greatest}
 use Rattle.mesh.specs.Staircase.{filter-links, of-weight}
 use Rattle.tables.specs.Widths.{values}
-use Rattle.lists.proofs.Tests.{bool-cases}
 use Rattle.lists.proofs.Map.{length-map}
 use Rattle.mesh.proofs.Tables.AscendingLinks.{in-links-cases}
 use Rattle.tables.proofs.WidthLaws.{values-index}
@@ -27,7 +25,7 @@ use Rattle.forests.proofs.Keeping.{in-of-weight}
 use Rattle.staircase.specs.Growing.{Growing, growing, grown-all, table-weight, levels-falling, greatest-below, Takeable}
 use Rattle.staircase.specs.Parts.{Parents, roots}
 use Rattle.staircase.proofs.PartLaws.{parents-own, roots-own}
-use Rattle.staircase.proofs.SkipLaws.{levels-skip}
+use Rattle.staircase.proofs.SkipLaws.{number-radio, levels-skip}
 
 pub levels-next : (ns : List ℕ) (ls : List Link) (w : ℕ) → 0 < w
     → levels-falling (table-weight ns) w ls ≡ of-weight (table-weight ns) w ls ++ levels-falling (table-weight ns) (greatest-below w ns) ls
@@ -44,14 +42,7 @@ levels-none wt ls (suc w) h = absurd (omega arith)
 
 -- both ends of a link that weighs something are radios
 weighty-inside : (ns : List ℕ) (l : Link) → 1 ≤ table-weight ns l → (l .low < length ns) × (l .high < length ns)
-weighty-inside ns l h = (radio (l .low) (omega arith), radio (l .high) (omega arith))
-  where
-    radio : (v : ℕ) → 1 ≤ getD ns v 0 → v < length ns
-    radio v p = go (bool-cases (ltb v (length ns)))
-      where
-        go : (ltb v (length ns) ≡ true) ⊎ (ltb v (length ns) ≡ false) → v < length ns
-        go (inl e) = ltb-true v (length ns) e
-        go (inr e) = absurd (omega (arith, List·getD-eq-default ns 0 {n = v} (ltb-false v (length ns) e)))
+weighty-inside ns l h = (number-radio ns (l .low) (omega arith), number-radio ns (l .high) (omega arith))
 
 levels-weigh : (wt : Link → ℕ) (ls : List Link) (w : ℕ) (m : Link) → In-links m (levels-falling wt w ls) → 1 ≤ wt m
 unfolding levels-falling

@@ -7,7 +7,7 @@ use mathlib.Core.Path.{_≡_, refl, sym, ap, _∙_}
 use mathlib.Core.Logic.{_⊎_, inl, inr}
 use mathlib.Core.Bool.{true, false}
 use mathlib.Core.List.{List, map, map-map}
-use Prim.Native.Nat.{ℕ, zero, suc, _+_, _≤_, _<_}
+use Prim.Native.Nat.{ℕ, zero, suc, _≤_, _<_}
 use native.Mathlib.Omega.{arith}
 use lib.Dec.{eqb, ltb}
 use lib.ListN.{length, getD, set, length-set, List·getD-eq-default}
@@ -15,7 +15,7 @@ use lib.Seq.{getD-set-same, getD-set-other}
 use borrow.Author.Tests.{ltb-true, ltb-false, eqb-true, eqb-false, eq-eqb, ne-eqb}
 use Rattle.lists.specs.Lists.{range}
 use Rattle.lists.proofs.Tests.{bool-cases}
-use Rattle.lists.proofs.Map.{getD-map-range, map-range-ext, map-range-id, length-map}
+use Rattle.lists.proofs.Map.{getD-map-range, map-range-ext, map-range-id}
 use Rattle.lists.proofs.Range.{length-range, getD-range}
 use Rattle.staircase.specs.Growing.{relabelled}
 use Rattle.staircase.specs.Parts.{Parents, root, roots, Rooted}
@@ -84,11 +84,7 @@ module _ (ps : List ℕ) (up : Parents ps) where
 abbrev label : (ps : List ℕ) → (v : ℕ) → ℕ
 label ps v = root (length ps) ps v
 
-pub length-roots : (ps : List ℕ) → length (roots ps) ≡ length ps
-unfolding roots
-length-roots ps = length-map (label ps) (range 0 (length ps)) ∙ length-range 0 (length ps)
-
-pub label-entry : (ps : List ℕ) (v : ℕ) → v < length ps → getD (roots ps) v 0 ≡ label ps v
+label-entry : (ps : List ℕ) (v : ℕ) → v < length ps → getD (roots ps) v 0 ≡ label ps v
 unfolding roots
 label-entry ps v l = getD-map-range 0 (label ps) 0 (length ps) v l ∙ ap (label ps) (omega arith)
 

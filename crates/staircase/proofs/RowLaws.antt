@@ -4,7 +4,7 @@
 --   row-words       the links to radios above the row's own
 --   level-row-..    which set counts for a radio
 --   rows-..         rows in turn
-use mathlib.Core.Path.{_≡_, refl, sym, ap, ap₂, _∙_}
+use mathlib.Core.Path.{_≡_, refl, sym, ap, _∙_}
 use mathlib.Core.Logic.{_⊎_, inl, inr}
 use mathlib.Core.Bool.{Bool, true, false, cond}
 use mathlib.Core.List.{List, [], _∷_, _++_, flatMap}
@@ -18,7 +18,7 @@ use lib.Dec.{ltb, eqb}
 use lib.ListN.{length, getD, take, drop, drop-of-length-le}
 use lib.Pow.{pow-mono, shr-shr, shr-lt}
 use lib.Seq.{drop-cons}
-use borrow.Author.Tests.{ltb-true, ltb-false, eqb-true, eqb-false, eq-eqb, ne-eqb}
+use borrow.Author.Tests.{ltb-true, ltb-false, eqb-true, eqb-false, ne-eqb}
 use Rattle.mesh.specs.Limits.{max-radios, row-bytes}
 use Rattle.lists.specs.Lists.{filter}
 use Rattle.mesh.specs.Graph.{Link, link-of}
@@ -27,7 +27,7 @@ use Rattle.lists.proofs.Tests.{bool-cases, never}
 use Rattle.lists.proofs.Filter.{filter-append}
 use Rattle.lists.proofs.Map.{map-append}
 use Rattle.mesh.proofs.Tables.Digits.{digit-zero, digit-suc}
-use Rattle.rows.specs.Rows.{neighbours-above, row-from, set-bits, word-of}
+use Rattle.rows.specs.Rows.{row-from, set-bits, word-of}
 use Rattle.rows.proofs.WordLaws.{set-bits-lowest, word-at-less}
 use Rattle.rows.proofs.RowWords.{row-from-word, row-from-end, word-of-row}
 use Rattle.rows.proofs.AboveWords.{above-words}

@@ -6,17 +6,17 @@ use mathlib.Core.Path.{_≡_, refl, sym, ap, _∙_}
 use mathlib.Core.Logic.{_⊎_, inl, inr}
 use mathlib.Core.Bool.{Bool, true, false, cond}
 use mathlib.Core.List.{List, [], _∷_, _++_, map}
-use Prim.Native.Nat.{ℕ, zero, suc, _+_, _*_, _≤_, _<_, min, max}
+use Prim.Native.Nat.{ℕ, _+_, _*_, _≤_, _<_, min, max}
 use native.Mathlib.Omega.{arith}
 use lib.Dec.{eqb}
 use lib.ListN.{length, getD, set, length-append}
 use borrow.Author.Tests.{eq-eqb, ne-eqb}
-use Rattle.mesh.specs.Graph.{Link, In-links, link-of}
+use Rattle.mesh.specs.Graph.{Link, link-of}
 use Rattle.lists.proofs.Tests.{trichotomy}
 use Rattle.mesh.proofs.Tables.AscendingLinks.{in-links-left, in-links-right}
 use Rattle.staircase.specs.Growing.{Growing, growing, relabelled, joined-up, grown-one, grown-all, Takeable}
 use Rattle.staircase.specs.Parts.{Parents, roots, Rooted, Taken}
-use Rattle.staircase.proofs.PartLaws.{length-roots, label-entry, label-le, label-settled, label-parent, parents-set, roots-joined}
+use Rattle.staircase.proofs.PartLaws.{label-le, label-settled, label-parent, parents-set, roots-joined}
 
 -- ---- what grows
 

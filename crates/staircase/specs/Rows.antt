@@ -3,7 +3,7 @@
 --   level-row ts o s a     the same of the set s where a is in the set o, else of o
 --   Rows-whole             listed rows that are rows of the table
 --   Rows-put               listed radios and their neighbours put into a set
---   Own-set                the radios with number k as a set
+--   Level-sets             the radios of a level, and these and the ones of higher levels, as sets
 --   Level-rows             the rows of a level listed
 --   Mutual n ts            n rows that are whole and mark each other
 -- Definitions only.
@@ -20,6 +20,7 @@ use Rattle.mesh.specs.Tables.{marked}
 use Rattle.rows.specs.Rows.{row-listed, neighbours-above}
 use Rattle.sets.specs.Sets.{in-set}
 use Rattle.link_list.specs.Links.{links-to}
+use Rattle.floods.specs.Floods.{of-level}
 
 unfoldable pub row-among : (links set : List ℕ) → (a : ℕ) → List Link
 row-among ts s a = links-to a (filter (in-set s) (neighbours-above ts a))
@@ -38,9 +39,12 @@ pub record Rows-put (ts list set : List ℕ) : Type 0 where
   pub own : (j : ℕ) → j < length list → in-set set (getD list j 0) ≡ true
   pub near : (j x : ℕ) → j < length list → member x (row-listed ts (getD list j 0)) ≡ true → in-set set x ≡ true
 
--- the set has the radios with number k
-pub record Own-set (ns : List ℕ) (k : ℕ) (set : List ℕ) : Type 0 where
-  pub radios : (x : ℕ) → x < max-radios → in-set set x ≡ (ltb x (length ns) && eqb (getD ns x 0) k)
+-- own are the radios with number k, reach the ones with number k or more
+pub record Level-sets (ns : List ℕ) (k : ℕ) (own reach : List ℕ) : Type 0 where
+  pub own-long : length own ≡ 8
+  pub reach-long : length reach ≡ 8
+  pub own-radios : (x : ℕ) → x < max-radios → in-set own x ≡ (ltb x (length ns) && eqb (getD ns x 0) k)
+  pub reach-radios : (x : ℕ) → x < max-radios → in-set reach x ≡ of-level ns k x
 
 -- the first r entries of the list are the radios of reach that `rows` has: all of the level and all that are linked to one of them
 pub record Level-rows (ts own reach : List ℕ) (r : ℕ) (list : List ℕ) : Type 0 where

@@ -17,7 +17,7 @@ ghost use Rattle.sets.specs.Sets.{in-set};
 ghost use Rattle.link_list.specs.Links.{links-to, links-from, Rows-listed};
 ghost use Rattle.staircase.specs.Growing.{growing, table-weight, grown-all, levels-falling, Takeable};
 ghost use Rattle.staircase.specs.Parts.{Parents, roots, Rooted, Taken};
-ghost use Rattle.staircase.specs.Rows.{row-among, level-row, Rows-whole, Rows-put, Level-rows, Own-set, Mutual};
+ghost use Rattle.staircase.specs.Rows.{row-among, level-row, Rows-whole, Rows-put, Level-sets, Level-rows, Mutual};
 use calls::Value;
 use mesh::Site;
 
@@ -193,50 +193,46 @@ fn put_rows<'a>(links: &'a [u8], list: &'a [u16], set: &mut [u64])
 }
 
 // Lists the rows that may have a link of the level: the radios of the level, and of `reach` their neighbours. Comes back with how many
-// these are.
-fn list_rows<'a>(links: &'a [u8], own: &'a [u64], reach: &'a [u64], list: &mut [u16]) -> usize
+// these are. At the first level reach has the radios of the level alone, and no rows need be joined.
+fn list_rows<'a>(
+    links: &'a [u8],
+    own: &'a [u64],
+    reach: &'a [u64],
+    first: bool,
+    list: &mut [u16],
+) -> usize
     requires { ⌜ (length (now own) ≡ 8) × (length (now reach) ≡ 8) × (length (now list) ≡ max-radios) ⌝ }
     ensures { λ r. ⌜ Level-rows (now (links .entry)) (now (own .entry)) (now (reach .entry)) r (now (list .exit)) ⌝ }
 {
     let none = [0u64; WORDS];
+    if first {
+        return sets::list_gone(reach, &none, list) as usize;
+    }
     let many = sets::list_gone(own, &none, list) as usize;
     let mut set = [0u64; WORDS];
     put_rows(links, &list[..many], &mut set);
     sets::take_common(reach, &mut set, list)
 }
 
-// The set holds the radios whose number is the level after.
-fn own_radios(numbers: &[u8], level: u8, set: &mut [u64])
-    requires { ⌜ (level ≤ max-neighbours) × (length (now set) ≡ 8) × (length (now numbers) ≤ max-radios) ⌝ }
-    ensures { λ _. ⌜ Own-set (now (numbers .entry)) level (now (set .exit)) ⌝ }
-{
-    let mut higher = [0u64; WORDS];
-    floods::level::at_least(numbers, level + 1, &mut higher);
-    floods::level::at_least(numbers, level, set);
-    sets::take_set(&higher, set);
-}
-
-// One level: the rows that have a link of it, in turn.
+// One level: the rows that have a link of it, in turn. `own` are the radios of the level, `reach` these and the ones of higher levels.
 fn take_level<'a>(
     links: &'a [u8],
     numbers: &'a [u8],
     level: u8,
+    own: &'a [u64],
+    reach: &'a [u64],
     parents: &mut [u16],
     table: &mut [u16],
     count: u32,
 ) -> u32
-    requires { ⌜ Mutual (length (now numbers)) (now links) × (1 ≤ level) × (level ≤ max-neighbours) × Parents (now parents) ×
+    requires { ⌜ Mutual (length (now numbers)) (now links) × (1 ≤ level) × Level-sets (now numbers) level (now own) (now reach) × Parents (now parents) ×
         Takeable (length (now parents)) (of-weight (table-weight (now numbers)) level (links-from (length (now numbers)) (now links) 0 0)) count ⌝ }
     ensures { λ r. ⌜ Taken (of-weight (table-weight (now (numbers .entry))) level (links-from (length (now (numbers .entry))) (now (links .entry)) 0 0))
         (now (parents .entry)) (now (table .entry)) count (now (parents .exit)) (now (table .exit)) r ⌝ }
 {
-    let mut own = [0u64; WORDS];
-    own_radios(numbers, level, &mut own);
-    let mut reach = [0u64; WORDS];
-    floods::level::at_least(numbers, level, &mut reach);
     let mut list = [0u16; Site::RADIOS as usize];
-    let many = list_rows(links, &own, &reach, &mut list);
-    take_rows(links, &own, &reach, &list[..many], parents, table, count)
+    let many = list_rows(links, own, reach, count == 0, &mut list);
+    take_rows(links, own, reach, &list[..many], parents, table, count)
 }
 
 // All levels, from the greatest number down; levels that no radio has are skipped. The kept links stand in front of the table after;
@@ -256,9 +252,15 @@ fn take_levels<'a>(
 {
     tables::fill::index16(parents);
     let mut level = tables::numbers::greatest(numbers);
+    let mut higher = [0u64; WORDS];
     let mut count: u32 = 0;
     while level > 0 {
-        count = take_level(links, numbers, level, parents, table, count);
+        let mut reach = [0u64; WORDS];
+        floods::level::at_least(numbers, level, &mut reach);
+        let mut own = reach;
+        sets::take_set(&higher, &mut own);
+        count = take_level(links, numbers, level, &own, &reach, parents, table, count);
+        higher = reach;
         level = levels::level_below(numbers, level);
     }
     count

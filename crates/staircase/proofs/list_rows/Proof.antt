@@ -1,30 +1,48 @@
--- `list_rows` meets its contract: the radios of the level are listed, they and their neighbours put into a set, and what reach has of it
--- is listed in their place.
+-- `list_rows` meets its contract: at the first level reach is listed whole; else the radios of the level are listed, they and their
+-- neighbours put into a set, and what reach has of it is listed in their place.
 use mathlib.Core.Path.{refl, sym, _∙_}
-use native.Mathlib.Omega.{arith}
 use lib.Seq.{length-take-le}
 use borrow.Author.Needs.{needs}
-use Rattle.staircase.proofs.LevelRows.{own-entries, own-fits, level-rows}
+use Rattle.staircase.proofs.LevelRows.{own-entries, own-fits, all-rows, level-rows}
 use Rattle.staircase.proofs.list_rows.Statement.{statement}
 use Rattle.staircase.proofs.list_rows.Tie as tie
 
+returns : tie.Need-returns
+returns c =
+    let list-at = c .before in
+    let list-gone-at = list-at .before in
+    let start = list-gone-at .before .before .before .before .before .before .before .before in
+    all-rows (start .args .links .now) (start .args .reach .now) (start .pre .1) _ _ _ (start .pre .2) (list-gone-at .list-gone .ensures) _
+    (list-at .list .given)
+
 slice-aggregate-put-rows : tie.Need-slice-aggregate-put-rows
-slice-aggregate-put-rows c = sym (length-take-le _ _ (own-fits (c .before .before .before .before .before .before .before .before .before .before .args .links .now) _ (c .before .before .before .before .before .before .before .before .before .before .pre .0) _ _ _ (c .before .before .before .before .before .before .before .before .before .before .pre .2) (c .before .before .before .list-gone .ensures) (c .before .before .list .given)))
+slice-aggregate-put-rows c =
+    let list2-at = c .before .before in
+    let list-gone2-at = list2-at .before in
+    let start = list-gone2-at .before .before .before .before .before .before .before .before in
+    sym (length-take-le _ _ (own-fits (start .args .links .now) _ (start .pre .0) _ _ _ (start .pre .2) (list-gone2-at .list-gone2 .ensures) (list2-at .list2 .given)))
 
 put-rows-requires : tie.Need-put-rows-requires
 put-rows-requires c κs =
-    let start = c .before .before .before .before .before .before .before .before .before .before .before in
-    (refl, own-entries (start .args .links .now) (start .args .own .now) (start .pre .0) _ _ _ (start .pre .2) (c .before .before .before .before .list-gone .ensures))
+    let list-gone2-at = c .before .before .before .before in
+    let start = list-gone2-at .before .before .before .before .before .before .before .before in
+    (refl, own-entries (start .args .links .now) (start .args .own .now) (start .pre .0) _ _ _ (start .pre .2) (list-gone2-at .list-gone2 .ensures))
 
-returns : tie.Need-returns
-returns c =
-    let start = c .before .before .before .before .before .before .before .before .before .before .before .before .before .before .before .before .before .before .before in
-    level-rows (start .args .links .now) (start .args .own .now) (start .pre .0) _ _ _ (start .pre .2) (c .before .before .before .before .before .before .before .before .before .before .before .before .list-gone .ensures)
-    (start .args .reach .now) _ _ _ _ (start .pre .1) (c .before .before .before .before .before .before .set2 .given) (c .before .before .before .before .before .before .before .before .before .before .before .list .given ∙ start .pre .2) (c .before .before .before .before .before .before .before .put-rows .ensures)
-    (c .before .before .before .take-common .ensures)
+returns-2 : tie.Need-returns-2
+returns-2 c =
+    let take-common-at = c .before .before .before in
+    let set2-at = take-common-at .before .before .before in
+    let put-rows-at = set2-at .before in
+    let list2-at = put-rows-at .before .before .before .before in
+    let list-gone2-at = list2-at .before in
+    let start = list-gone2-at .before .before .before .before .before .before .before .before in
+    level-rows (start .args .links .now) (start .args .own .now) (start .pre .0) _ _ _ (start .pre .2) (list-gone2-at .list-gone2 .ensures)
+    (start .args .reach .now) _ _ _ _ (start .pre .1) (set2-at .set2 .given) (list2-at .list2 .given ∙ start .pre .2)
+    (put-rows-at .put-rows .ensures) (take-common-at .take-common .ensures)
 
 pub list-rows-spec : {M : Type 1} → statement M
 list-rows-spec =
     tie.close (
-    tie.spec (λ c. search needs) (λ c κs. search needs) (λ c. search needs) (λ c. search needs) slice-aggregate-put-rows (λ c. search needs)
-    put-rows-requires (λ c. search needs) (λ c κs. search needs) (λ c. search needs) returns)
+    tie.spec (λ c. search needs) (λ c κs. search needs) (λ c. search needs) (λ c. search needs) returns (λ c. search needs) (λ c κs. search needs)
+    (λ c. search needs) (λ c. search needs) slice-aggregate-put-rows (λ c. search needs) put-rows-requires (λ c. search needs) (λ c κs. search needs)
+    (λ c. search needs) returns-2)

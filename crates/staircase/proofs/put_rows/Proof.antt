@@ -22,27 +22,46 @@ shared-slice-read-put-in : tie.Need-shared-slice-read-put-in Inv-loop μ-loop
 shared-slice-read-put-in c = c .before .before .loop-test .taken
 
 cast-put-in : tie.Need-cast-put-in Inv-loop μ-loop
-cast-put-in c = omega (arith, c .before .before .before .before .before .before .before .pre .1 (c .before .before .before .loop .i) (c .before .before .loop-test .taken))
+cast-put-in c =
+    let turn = c .before .before in
+    let at-loop = turn .before in
+    let start = at-loop .before .before .before .before in
+    omega (arith, start .pre .1 (at-loop .loop .i) (turn .loop-test .taken))
 
 shared-slice-read-join-row : tie.Need-shared-slice-read-join-row Inv-loop μ-loop
-shared-slice-read-join-row c = c .before .before .before .before .before .before .loop-test .taken
+shared-slice-read-join-row c =
+    let turn = c .before .before .before .before .before .before in
+    turn .loop-test .taken
 
 cast-join-row : tie.Need-cast-join-row Inv-loop μ-loop
-cast-join-row c = omega (arith, c .before .before .before .before .before .before .before .before .before .before .before .pre .1 (c .before .before .before .before .before .before .before .loop .i) (c .before .before .before .before .before .before .loop-test .taken))
+cast-join-row c =
+    let turn = c .before .before .before .before .before .before in
+    let at-loop = turn .before in
+    let start = at-loop .before .before .before .before in
+    omega (arith, start .pre .1 (at-loop .loop .i) (turn .loop-test .taken))
 
 loop-again : tie.Need-loop-again Inv-loop μ-loop
 loop-again c =
-    let at-loop = c .before .before .before .before .before .before .before .before .before .before .before in
-    let start = c .before .before .before .before .before .before .before .before .before .before .before .before .before .before .before in
-    let less = c .before .before .before .before .before .before .before .before .before .before .loop-test .taken in
+    let set2-at = c .before in
+    let join-row-at = set2-at .before in
+    let put-in-at = join-row-at .before .before .before .before .before in
+    let turn = put-in-at .before .before .before in
+    let at-loop = turn .before in
+    let start = at-loop .before .before .before .before in
+    let less = turn .loop-test .taken in
     rows-putting-turn (start .args .links .now) (start .args .list .now) (at-loop .loop .i) (at-loop .loop .set) _ _ less (start .pre .1 (at-loop .loop .i) less)
-    (c .before .set2 .given) (c .before .before .before .before .before .before .before .put-in .ensures) (c .before .before .join-row .ensures) (at-loop .loop .inv)
+    (set2-at .set2 .given) (put-in-at .put-in .ensures) (join-row-at .join-row .ensures) (at-loop .loop .inv)
 
 same-length : tie.Need-same-length Inv-loop μ-loop
-same-length c = c .before .loop .inv .long ∙ sym (c .before .before .before .before .before .pre .0)
+same-length c =
+    let at-loop = c .before in
+    let start = at-loop .before .before .before .before in
+    at-loop .loop .inv .long ∙ sym (start .pre .0)
 
 returns : tie.Need-returns Inv-loop μ-loop
-returns c = rows-putting-end _ _ (c .before .loop .i) _ (c .loop-test .left) (c .before .loop .inv)
+returns c =
+    let at-loop = c .before in
+    rows-putting-end _ _ (at-loop .loop .i) _ (c .loop-test .left) (at-loop .loop .inv)
 
 pub put-rows-spec : {M : Type 1} → statement M
 put-rows-spec =

@@ -25,40 +25,59 @@ abbrev μ-loop : tie.MeasureT-loop
 μ-loop a first word parents₀ table₀ count c₀ rest₀ parents table c rest = rest
 
 loop-holds : tie.Need-loop-holds Inv-loop μ-loop
-loop-holds c = (search needs, taking-none _ _ _ _ _ refl (c .before .before .pre .1) (c .before .before .pre .2))
+loop-holds c =
+    let start = c .before .before in
+    (search needs, taking-none _ _ _ _ _ refl (start .pre .1) (start .pre .2))
 
 add-b : tie.Need-add-b Inv-loop μ-loop
-add-b c = omega (arith, trailing-le 64 (c .before .loop .rest), c .before .before .before .before .pre .0)
+add-b c =
+    let at-loop = c .before in
+    let start = at-loop .before .before .before in
+    omega (arith, trailing-le 64 (at-loop .loop .rest), start .pre .0)
 
 cast-b : tie.Need-cast-b Inv-loop μ-loop
-cast-b c = omega (arith, trailing-le 64 (c .before .loop .rest), c .before .before .before .before .pre .0)
+cast-b c =
+    let at-loop = c .before in
+    let start = at-loop .before .before .before in
+    omega (arith, trailing-le 64 (at-loop .loop .rest), start .pre .0)
 
 take-link-requires : tie.Need-take-link-requires Inv-loop μ-loop
 take-link-requires c κs =
-    let at-loop = c .before .before .before in
-    let call = c .before .before .before .before .before .before .args in
+    let turn = c .before .before in
+    let at-loop = turn .before in
+    let start = at-loop .before .before .before in
+    let call = start .args in
     let rest = at-loop .loop .rest in
-    let lowest = bits-lowest (call .a) (call .first) rest (c .before .before .loop-test .taken) (at-loop .loop .inv .0) in (
+    let lowest = bits-lowest (call .a) (call .first) rest (turn .loop-test .taken) (at-loop .loop .inv .0) in (
       at-loop .loop .inv .1 .parents,
       taking-front _ _ _ _ (link-of (call .a) (call .first + trailingZeros 64 rest) ∷ []) (links-to (call .a) (set-bits 64 (call .first) (bitAnd rest (rest - 1)))) _ _ _
           (rw lowest at (at-loop .loop .inv .1)),
     )
 
 sub-rest : tie.Need-sub-rest Inv-loop μ-loop
-sub-rest c = omega (arith, c .before .before .before .before .before .before .before .loop-test .taken)
+sub-rest c =
+    let turn = c .before .before .before .before .before .before .before in
+    omega (arith, turn .loop-test .taken)
 
 loop-less : tie.Need-loop-less Inv-loop μ-loop
-loop-less c = omega (arith, and-le-r (c .before .before .before .before .before .before .before .before .loop .rest) (c .before .before .before .before .before .before .before .before .loop .rest - 1), c .before .before .before .before .before .before .before .loop-test .taken)
+loop-less c =
+    let turn = c .before .before .before .before .before .before .before in
+    let at-loop = turn .before in
+    omega (arith, and-le-r (at-loop .loop .rest) (at-loop .loop .rest - 1), turn .loop-test .taken)
 
 loop-again : tie.Need-loop-again Inv-loop μ-loop
 loop-again c =
-    let at-loop = c .before .before .before .before .before .before .before .before in
-    let call = c .before .before .before .before .before .before .before .before .before .before .before .args in
+    let parents-at = c .before .before .before in
+    let take-link-at = parents-at .before in
+    let turn = take-link-at .before .before .before in
+    let at-loop = turn .before in
+    let start = at-loop .before .before .before in
+    let call = start .args in
     let rest = at-loop .loop .rest in
-    let lowest = bits-lowest (call .a) (call .first) rest (c .before .before .before .before .before .before .before .loop-test .taken) (at-loop .loop .inv .0) in (
+    let lowest = bits-lowest (call .a) (call .first) rest (turn .loop-test .taken) (at-loop .loop .inv .0) in (
       omega (arith, and-le-l rest (rest - 1), at-loop .loop .inv .0),
       taking-part _ _ _ _ (link-of (call .a) (call .first + trailingZeros 64 rest) ∷ []) (links-to (call .a) (set-bits 64 (call .first) (bitAnd rest (rest - 1)))) _ _ _ _ _ _
-          (rw lowest at (at-loop .loop .inv .1)) (c .before .before .before .before .take-link .ensures) (c .before .before .before .parents .given) (c .before .table .given),
+          (rw lowest at (at-loop .loop .inv .1)) (take-link-at .take-link .ensures) (parents-at .parents .given) (c .before .table .given),
     )
 
 same-length : tie.Need-same-length Inv-loop μ-loop
@@ -69,10 +88,12 @@ same-length-2 c = c .before .loop .inv .1 .table
 
 returns : tie.Need-returns Inv-loop μ-loop
 returns c =
-    let call = c .before .before .before .before .args in
+    let at-loop = c .before in
+    let start = at-loop .before .before .before in
+    let call = start .args in
     taking-end _ _ _ _ _ _ _ _
     (ap (λ (r : ℕ). links-to (call .a) (set-bits 64 (call .first) r)) (c .loop-test .left) ∙ ap (links-to (call .a)) (set-bits-nothing 64 (call .first)))
-    (c .before .loop .inv .1)
+    (at-loop .loop .inv .1)
 
 pub take-bits-spec : {M : Type 1} → statement M
 take-bits-spec =

@@ -7,42 +7,45 @@ use Rattle.staircase.proofs.LevelRows.{level-links, level-whole}
 use Rattle.staircase.proofs.take_level.Statement.{statement}
 use Rattle.staircase.proofs.take_level.Tie as tie
 
-own-radios-requires : tie.Need-own-radios-requires
-own-radios-requires c κs = (c .before .before .before .before .before .pre .2, refl, c .before .before .before .before .before .pre .0 .most)
-
 list-rows-requires : tie.Need-list-rows-requires
-list-rows-requires c κs = (c .before .before .before .before .before .before .own2 .given, c .before .before .before .reach2 .given, refl)
+list-rows-requires c κs =
+    let start = c .before .before .before .before .before .before .before in
+    (start .pre .2 .own-long, start .pre .2 .reach-long, refl)
 
 array-share-prefix-list : tie.Need-array-share-prefix-list
-array-share-prefix-list c = omega (arith, c .before .before .before .list-rows .ensures .fits, c .before .before .list2 .given)
+array-share-prefix-list c =
+    let list-rows-at = c .before in
+    omega (arith, list-rows-at .list-rows .ensures .fits, c .list2 .given)
 
-slice-aggregate-take-rows-3 : tie.Need-slice-aggregate-take-rows-3
-slice-aggregate-take-rows-3 c = sym (length-take-le _ _ (c .before .before .before .before .list-rows .ensures .fits))
+slice-aggregate-take-rows : tie.Need-slice-aggregate-take-rows
+slice-aggregate-take-rows c = sym (length-take-le _ _ (c .before .before .list-rows .ensures .fits))
 
 take-rows-requires : tie.Need-take-rows-requires
 take-rows-requires c κs =
-    let start = c .before .before .before .before .before .before .before .before .before .before .before .before .before .before .before .before .before .before .before .before in
+    let list-rows-at = c .before .before .before .before in
+    let start = list-rows-at .before .before .before .before .before .before .before .before in
     let call = start .args in
-    let owns = c .before .before .before .before .before .before .before .before .before .before .before .before .before .before .own-radios .ensures in
-    let level = c .before .before .before .before .before .before .before .before .before .before .before .at-least .ensures .radios refl in
-    let found = c .before .before .before .before .before .before .list-rows .ensures in (
-      level-whole (call .links .now) (call .numbers .now) (call .level) (start .pre .1) (start .pre .0) _ _ owns level _ _ found,
-      c .before .before .before .before .before .before .before .before .before .before .before .before .before .own2 .given,
-      c .before .before .before .before .before .before .before .before .before .before .reach2 .given,
-      start .pre .3,
-      rw (level-links (call .links .now) (call .numbers .now) (call .level) (start .pre .1) (start .pre .0) _ _ owns level _ _ found) (start .pre .4),
+    let pre = start .pre in
+    let found = list-rows-at .list-rows .ensures in (
+      level-whole (call .links .now) (call .numbers .now) (call .level) (pre .1) (pre .0) _ _ (pre .2) _ _ found,
+      pre .2 .own-long,
+      pre .2 .reach-long,
+      pre .3,
+      rw (level-links (call .links .now) (call .numbers .now) (call .level) (pre .1) (pre .0) _ _ (pre .2) _ _ found) (pre .4),
     )
 
 returns : tie.Need-returns
 returns c =
-    let start = c .before .before .before .before .before .before .before .before .before .before .before .before .before .before .before .before .before .before .before .before .before .before .before .before .before in
+    let take-rows-at = c .before .before .before .before in
+    let list-rows-at = take-rows-at .before .before .before .before .before in
+    let start = list-rows-at .before .before .before .before .before .before .before .before in
     let call = start .args in
-    rw (level-links (call .links .now) (call .numbers .now) (call .level) (start .pre .1) (start .pre .0) _ _ (c .before .before .before .before .before .before .before .before .before .before .before .before .before .before .before .before .before .before .before .own-radios .ensures)
-    (c .before .before .before .before .before .before .before .before .before .before .before .before .before .before .before .before .at-least .ensures .radios refl) _ _ (c .before .before .before .before .before .before .before .before .before .before .before .list-rows .ensures)) at (c .before .before .before .before .take-rows .ensures)
+    let pre = start .pre in
+    rw (level-links (call .links .now) (call .numbers .now) (call .level) (pre .1) (pre .0) _ _ (pre .2) _ _ (list-rows-at .list-rows .ensures))
+    at (take-rows-at .take-rows .ensures)
 
 pub take-level-spec : {M : Type 1} → statement M
 take-level-spec =
     tie.close (
-    tie.spec (λ c. search needs) own-radios-requires (λ c. search needs) (λ c κs. search needs) (λ c. search needs) (λ c. search needs)
-    (λ c. search needs) list-rows-requires (λ c. search needs) (λ c. search needs) array-share-prefix-list slice-aggregate-take-rows-3
-    take-rows-requires (λ c. search needs) (λ c. search needs) returns)
+    tie.spec (λ c. search needs) list-rows-requires array-share-prefix-list slice-aggregate-take-rows take-rows-requires (λ c. search needs)
+    (λ c. search needs) returns)

@@ -12,11 +12,13 @@ use Rattle.staircase.proofs.take_link.Tie as tie
 
 slice-read-if1 : tie.Need-slice-read-if1
 slice-read-if1 c =
-    let start = c .before .before .before in start .pre .1 .inside (link-of (start .args .a) (start .args .b)) (inl refl) .0
+    let start = c .before .before .before in
+    let start = start in start .pre .1 .inside (link-of (start .args .a) (start .args .b)) (inl refl) .0
 
 slice-read-if1-2 : tie.Need-slice-read-if1-2
 slice-read-if1-2 c =
-    let start = c .before .before .before .before in start .pre .1 .inside (link-of (start .args .a) (start .args .b)) (inl refl) .1
+    let start = c .before .before .before .before in
+    let start = start in start .pre .1 .inside (link-of (start .args .a) (start .args .b)) (inl refl) .1
 
 returns : tie.Need-returns
 returns c =
@@ -26,39 +28,58 @@ returns c =
 
 root-requires : tie.Need-root-requires
 root-requires c κs =
-    let start = c .before .before .before .before .before .before in (start .pre .0, start .pre .1 .inside (link-of (start .args .a) (start .args .b)) (inl refl) .0)
+    let start = c .before .before .before .before .before .before in
+    let start = start in (start .pre .0, start .pre .1 .inside (link-of (start .args .a) (start .args .b)) (inl refl) .0)
 
 root-requires-2 : tie.Need-root-requires-2
 root-requires-2 c κs =
-    let start = c .before .before .before .before .before .before .before .before .before .before in
+    let parents-at = c .before .before in
+    let root-at = parents-at .before in
+    let start = root-at .before .before .before .before .before .before .before in
     let ends = start .pre .1 .inside (link-of (start .args .a) (start .args .b)) (inl refl) in
-    (c .before .before .before .root .ensures .parents, omega (arith, ends .1, c .before .before .parents .given))
+    (root-at .root .ensures .parents, omega (arith, ends .1, parents-at .parents .given))
 
 returns-2 : tie.Need-returns-2
 returns-2 c =
-    taken-same _ _ _ _ _ _ _ _ _ (c .before .before .before .before .before .before .before .root .ensures) (c .before .before .before .root2 .ensures) (c .if2 .taken)
+    let root2-at = c .before .before .before in
+    let root-at = root2-at .before .before .before .before in
+    taken-same _ _ _ _ _ _ _ _ _ (root-at .root .ensures) (root2-at .root2 .ensures) (c .if2 .taken)
 
 slice-write-parents : tie.Need-slice-write-parents
 slice-write-parents c =
-    let start = c .before .before .before .before .before .before .before .before .before .before .before .before .before .before .before .before .before .before .before .before .before .before .before .before in
+    let parents2-at = c .before .before .before .before .before .before .before .before .before .before .before .before in
+    let root2-at = parents2-at .before in
+    let parents-at = root2-at .before .before .before in
+    let root-at = parents-at .before in
+    let start = root-at .before .before .before .before .before .before .before in
     let ends = start .pre .1 .inside (link-of (start .args .a) (start .args .b)) (inl refl) in
     omega (
       arith,
-      higher-radio _ _ _ (start .args .table .now) (start .args .count) _ _ _ _ (c .before .before .before .before .before .before .before .before .before .before .before .before .before .before .before .before .before .root .ensures) (c .before .before .before .before .before .before .before .before .before .before .before .before .before .root2 .ensures)
-          (c .before .before .before .before .before .before .before .before .before .before .before .before .parents2 .given ∙ c .before .before .before .before .before .before .before .before .before .before .before .before .before .before .before .before .parents .given) (ends .0) (ends .1),
+      higher-radio _ _ _ (start .args .table .now) (start .args .count) _ _ _ _ (root-at .root .ensures) (root2-at .root2 .ensures)
+          (parents2-at .parents2 .given ∙ parents-at .parents .given) (ends .0) (ends .1),
       c .higher .ensures,
     )
 
 same-length-2 : tie.Need-same-length-2
-same-length-2 c = simp length-set (c .before .before .before .before .before .before .before .before .before .before .before .before .parents2 .given ∙ c .before .before .before .before .before .before .before .before .before .before .before .before .before .before .before .before .parents .given)
+same-length-2 c =
+    let parents2-at = c .before .before .before .before .before .before .before .before .before .before .before .before in
+    let parents-at = parents2-at .before .before .before .before in
+    simp length-set (parents2-at .parents2 .given ∙ parents-at .parents .given)
 
 returns-3 : tie.Need-returns-3
 returns-3 c =
-    let start = c .before .before .before .before .before .before .before .before .before .before .before .before .before .before .before .before .before .before .before .before .before .before .before .before in
+    let put162-at = c .before .before .before .before in
+    let put16-at = put162-at .before .before .before .before in
+    let no = put16-at .before .before in
+    let parents2-at = no .before .before in
+    let root2-at = parents2-at .before in
+    let parents-at = root2-at .before .before .before in
+    let root-at = parents-at .before in
+    let start = root-at .before .before .before .before .before .before .before in
     let ends = start .pre .1 .inside (link-of (start .args .a) (start .args .b)) (inl refl) in
-    taken-new _ _ _ _ _ _ _ _ _ (c .before .before .before .before .before .before .before .before .before .before .before .before .before .before .before .before .before .root .ensures) (c .before .before .before .before .before .before .before .before .before .before .before .before .before .root2 .ensures)
-    (c .before .before .before .before .before .before .before .before .before .before .before .before .parents2 .given ∙ c .before .before .before .before .before .before .before .before .before .before .before .before .before .before .before .before .parents .given) (ends .0) (ends .1) _ _ _ _ (c .before .before .before .before .before .before .before .before .before .before .if2 .left) (c .before .lower .ensures)
-    (c .higher .ensures) (c .before .before .before .before .before .before .before .before .put16 .ensures) (c .before .before .before .before .put162 .ensures)
+    taken-new _ _ _ _ _ _ _ _ _ (root-at .root .ensures) (root2-at .root2 .ensures)
+    (parents2-at .parents2 .given ∙ parents-at .parents .given) (ends .0) (ends .1) _ _ _ _ (no .if2 .left) (c .before .lower .ensures)
+    (c .higher .ensures) (put16-at .put16 .ensures) (put162-at .put162 .ensures)
 
 pub take-link-spec : {M : Type 1} → statement M
 take-link-spec =

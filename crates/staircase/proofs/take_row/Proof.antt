@@ -17,12 +17,14 @@ use Rattle.staircase.proofs.take_row.Tie as tie
 
 take-bits-requires : tie.Need-take-bits-requires
 take-bits-requires c κs =
-    let start = c .before .before .before .before .before .before .before .before .before in
+    let word-of-at = c .before .before .before in
+    let given = word-of-at .before .before .before .before .before in
+    let start = given .before in
     let call = start .args in
-    let x = bitAnd (c .before .before .before .word-of .result) (getD (call .set .now) (call .a / 64) 0) / 2 ^ (call .a % 64) / 2 ^ 1 in
+    let x = bitAnd (word-of-at .word-of .result) (getD (call .set .now) (call .a / 64) 0) / 2 ^ (call .a % 64) / 2 ^ 1 in
     let words =
-    row-words (call .links .now) (λ j. c .before .before .before .before .before .before .before .before .shared-slice-known .given j .fits) (call .set .now) (call .a) _ x
-    (row-bytes * call .a + row-bytes - row-bytes * call .a) (start .pre .0) (start .pre .1) (omega arith) (c .before .before .before .word-of .ensures) refl in
+    row-words (call .links .now) (λ j. given .shared-slice-known .given j .fits) (call .set .now) (call .a) _ x
+    (row-bytes * call .a + row-bytes - row-bytes * call .a) (start .pre .0) (start .pre .1) (omega arith) (word-of-at .word-of .ensures) refl in
     let rest = links-to (call .a) (filter (in-set (call .set .now)) (row-from (call .links .now) (call .a) (call .a / 64 + 1))) in (
       omega (arith, start .pre .0),
       start .pre .3,
@@ -31,31 +33,42 @@ take-bits-requires c κs =
 
 take-words-requires : tie.Need-take-words-requires
 take-words-requires c κs =
-    let start = c .before .before .before .before .before .before .before .before .before .before .before .before .before .before .before .before in
+    let table-at = c .before .before .before in
+    let parents-at = table-at .before .before in
+    let take-bits-at = parents-at .before in
+    let word-of-at = take-bits-at .before .before .before .before in
+    let given = word-of-at .before .before .before .before .before in
+    let start = given .before in
     let call = start .args in
-    let x = bitAnd (c .before .before .before .before .before .before .before .before .before .before .word-of .result) (getD (call .set .now) (call .a / 64) 0) / 2 ^ (call .a % 64) / 2 ^ 1 in
+    let x = bitAnd (word-of-at .word-of .result) (getD (call .set .now) (call .a / 64) 0) / 2 ^ (call .a % 64) / 2 ^ 1 in
     let words =
-    row-words (call .links .now) (λ j. c .before .before .before .before .before .before .before .before .before .before .before .before .before .before .before .shared-slice-known .given j .fits) (call .set .now) (call .a) _ x
-    (row-bytes * call .a + row-bytes - row-bytes * call .a) (start .pre .0) (start .pre .1) (omega arith) (c .before .before .before .before .before .before .before .before .before .before .word-of .ensures) refl in
+    row-words (call .links .now) (λ j. given .shared-slice-known .given j .fits) (call .set .now) (call .a) _ x
+    (row-bytes * call .a + row-bytes - row-bytes * call .a) (start .pre .0) (start .pre .1) (omega arith) (word-of-at .word-of .ensures) refl in
     let rest = links-to (call .a) (filter (in-set (call .set .now)) (row-from (call .links .now) (call .a) (call .a / 64 + 1))) in
     let left = taking-part _ _ _ _ (links-to (call .a) (set-bits 64 (call .a + 1) x)) rest _ _ _ _ _ _
-    (taking-none _ (call .parents .now) (call .table .now) (call .count) _ (sym words) (start .pre .3) (start .pre .4)) (c .before .before .before .before .before .before .take-bits .ensures) (c .before .before .before .before .before .parents .given)
-    (c .before .before .before .table .given) in
+    (taking-none _ (call .parents .now) (call .table .now) (call .count) _ (sym words) (start .pre .3) (start .pre .4)) (take-bits-at .take-bits .ensures) (parents-at .parents .given)
+    (table-at .table .given) in
     (start .pre .0, omega (arith, start .pre .0), start .pre .1, start .pre .2, left .parents, left .ready)
 
 returns : tie.Need-returns
 returns c =
-    let start = c .before .before .before .before .before .before .before .before .before .before .before .before .before .before .before .before .before .before .before .before .before in
+    let take-words-at = c .before .before .before .before in
+    let table-at = take-words-at .before .before .before .before in
+    let parents-at = table-at .before .before in
+    let take-bits-at = parents-at .before in
+    let word-of-at = take-bits-at .before .before .before .before in
+    let given = word-of-at .before .before .before .before .before in
+    let start = given .before in
     let call = start .args in
-    let x = bitAnd (c .before .before .before .before .before .before .before .before .before .before .before .before .before .before .before .word-of .result) (getD (call .set .now) (call .a / 64) 0) / 2 ^ (call .a % 64) / 2 ^ 1 in
+    let x = bitAnd (word-of-at .word-of .result) (getD (call .set .now) (call .a / 64) 0) / 2 ^ (call .a % 64) / 2 ^ 1 in
     let words =
-    row-words (call .links .now) (λ j. c .before .before .before .before .before .before .before .before .before .before .before .before .before .before .before .before .before .before .before .before .shared-slice-known .given j .fits) (call .set .now) (call .a) _ x
-    (row-bytes * call .a + row-bytes - row-bytes * call .a) (start .pre .0) (start .pre .1) (omega arith) (c .before .before .before .before .before .before .before .before .before .before .before .before .before .before .before .word-of .ensures) refl in
+    row-words (call .links .now) (λ j. given .shared-slice-known .given j .fits) (call .set .now) (call .a) _ x
+    (row-bytes * call .a + row-bytes - row-bytes * call .a) (start .pre .0) (start .pre .1) (omega arith) (word-of-at .word-of .ensures) refl in
     let rest = links-to (call .a) (filter (in-set (call .set .now)) (row-from (call .links .now) (call .a) (call .a / 64 + 1))) in
     let left = taking-part _ _ _ _ (links-to (call .a) (set-bits 64 (call .a + 1) x)) rest _ _ _ _ _ _
-    (taking-none _ (call .parents .now) (call .table .now) (call .count) _ (sym words) (start .pre .3) (start .pre .4)) (c .before .before .before .before .before .before .before .before .before .before .before .take-bits .ensures) (c .before .before .before .before .before .before .before .before .before .before .parents .given)
-    (c .before .before .before .before .before .before .before .before .table .given) in
-    taking-last _ _ _ _ _ _ _ _ _ _ _ left (c .before .before .before .before .take-words .ensures)
+    (taking-none _ (call .parents .now) (call .table .now) (call .count) _ (sym words) (start .pre .3) (start .pre .4)) (take-bits-at .take-bits .ensures) (parents-at .parents .given)
+    (table-at .table .given) in
+    taking-last _ _ _ _ _ _ _ _ _ _ _ left (take-words-at .take-words .ensures)
 
 pub take-row-spec : {M : Type 1} → statement M
 take-row-spec =

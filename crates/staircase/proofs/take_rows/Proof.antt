@@ -20,18 +20,21 @@ abbrev μ-loop : tie.MeasureT-loop
 μ-loop links own reach list parents₀ table₀ count c₀ i₀ parents table c i = length list - i
 
 loop-holds : tie.Need-loop-holds Inv-loop μ-loop
-loop-holds c = (omega arith, taking-none _ _ _ _ _ refl (c .before .before .before .before .before .before .pre .3) (c .before .before .before .before .before .before .pre .4))
+loop-holds c =
+    let start = c .before .before .before .before .before .before in
+    (omega arith, taking-none _ _ _ _ _ refl (start .pre .3) (start .pre .4))
 
 shared-slice-read-take-radio : tie.Need-shared-slice-read-take-radio Inv-loop μ-loop
 shared-slice-read-take-radio c = c .before .loop-test .taken
 
 take-radio-requires : tie.Need-take-radio-requires Inv-loop μ-loop
 take-radio-requires c κs =
-    let at-loop = c .before .before .before .before in
-    let start = c .before .before .before .before .before .before .before .before .before .before .before in
+    let turn = c .before .before .before in
+    let at-loop = turn .before in
+    let start = at-loop .before .before .before .before .before .before .before in
     let call = start .args in
     let i = at-loop .loop .i in
-    let less = c .before .before .before .loop-test .taken in
+    let less = turn .loop-test .taken in
     let row = level-row (call .links .now) (call .own .now) (call .reach .now) in
     let whole = start .pre .0 i less in (
       whole .0,
@@ -44,14 +47,19 @@ take-radio-requires c κs =
 
 loop-again : tie.Need-loop-again Inv-loop μ-loop
 loop-again c =
-    let at-loop = c .before .before .before .before .before .before .before .before .before in
-    let call = c .before .before .before .before .before .before .before .before .before .before .before .before .before .before .before .before .args in
+    let table-at = c .before in
+    let parents-at = table-at .before .before in
+    let take-radio-at = parents-at .before in
+    let turn = take-radio-at .before .before .before .before in
+    let at-loop = turn .before in
+    let start = at-loop .before .before .before .before .before .before .before in
+    let call = start .args in
     let i = at-loop .loop .i in
-    let less = c .before .before .before .before .before .before .before .before .loop-test .taken in
+    let less = turn .loop-test .taken in
     let row = level-row (call .links .now) (call .own .now) (call .reach .now) in (
       omega (arith, less),
       taking-part _ _ _ _ (row (getD (call .list .now) i 0)) (flatMap row (drop (i + 1) (call .list .now))) _ _ _ _ _ _
-          (rw (rows-next row (call .list .now) i less) at (at-loop .loop .inv .1)) (c .before .before .before .before .take-radio .ensures) (c .before .before .before .parents .given) (c .before .table .given),
+          (rw (rows-next row (call .list .now) i less) at (at-loop .loop .inv .1)) (take-radio-at .take-radio .ensures) (parents-at .parents .given) (table-at .table .given),
     )
 
 same-length : tie.Need-same-length Inv-loop μ-loop
@@ -62,9 +70,11 @@ same-length-2 c = c .before .loop .inv .1 .table
 
 returns : tie.Need-returns Inv-loop μ-loop
 returns c =
-    let call = c .before .before .before .before .before .before .before .before .args in
-    taking-end _ _ _ _ _ _ _ _ (rows-end (level-row (call .links .now) (call .own .now) (call .reach .now)) (call .list .now) (c .before .loop .i) (c .loop-test .left))
-    (c .before .loop .inv .1)
+    let at-loop = c .before in
+    let start = at-loop .before .before .before .before .before .before .before in
+    let call = start .args in
+    taking-end _ _ _ _ _ _ _ _ (rows-end (level-row (call .links .now) (call .own .now) (call .reach .now)) (call .list .now) (at-loop .loop .i) (c .loop-test .left))
+    (at-loop .loop .inv .1)
 
 pub take-rows-spec : {M : Type 1} → statement M
 take-rows-spec =

@@ -39,7 +39,9 @@ part-row-end : tie.Need-part-row-end Inv-loop μ-loop
 part-row-end c = omega (arith, c .before .before .before .before .pre .2)
 
 loop-holds : tie.Need-loop-holds Inv-loop μ-loop
-loop-holds c = (c .before .before .before .before .before .pre .1, taking-none _ _ _ _ _ refl (c .before .before .before .before .before .pre .4) (c .before .before .before .before .before .pre .5))
+loop-holds c =
+    let start = c .before .before .before .before .before in
+    (start .pre .1, taking-none _ _ _ _ _ refl (start .pre .4) (start .pre .5))
 
 cast-word : tie.Need-cast-word Inv-loop μ-loop
 cast-word c = omega (arith, c .before .loop-test .taken)
@@ -48,21 +50,27 @@ mul-word : tie.Need-mul-word Inv-loop μ-loop
 mul-word c = omega (arith, c .before .loop-test .taken)
 
 shared-slice-read-word : tie.Need-shared-slice-read-word Inv-loop μ-loop
-shared-slice-read-word c = omega (arith, c .before .before .loop-test .taken, c .before .before .before .before .before .before .before .before .before .pre .3)
+shared-slice-read-word c =
+    let turn = c .before .before in
+    let start = turn .before .before .before .before .before .before .before in
+    omega (arith, turn .loop-test .taken, start .pre .3)
 
 mul-take-bits : tie.Need-mul-take-bits Inv-loop μ-loop
 mul-take-bits c = omega (arith, c .before .before .loop-test .taken)
 
 take-bits-requires : tie.Need-take-bits-requires Inv-loop μ-loop
 take-bits-requires c κs =
-    let at-loop = c .before .before .before .before .before in
-    let start = c .before .before .before .before .before .before .before .before .before .before .before in
+    let word-of-at = c .before .before .before in
+    let turn = word-of-at .before in
+    let at-loop = turn .before in
+    let given = at-loop .before .before .before .before .before in
+    let start = given .before in
     let call = start .args in
     let k = at-loop .loop .k in
-    let less = c .before .before .before .before .loop-test .taken in
-    let w = c .before .before .before .word-of .result in
-    let word = words-among (call .links .now) (λ j. c .before .before .before .before .before .before .before .before .before .before .shared-slice-known .given j .fits) (call .set .now) (call .a) k w
-    (row-bytes * call .a + row-bytes - row-bytes * call .a) less (start .pre .2) (omega arith) (c .before .before .before .word-of .ensures) in (
+    let less = turn .loop-test .taken in
+    let w = word-of-at .word-of .result in
+    let word = words-among (call .links .now) (λ j. given .shared-slice-known .given j .fits) (call .set .now) (call .a) k w
+    (row-bytes * call .a + row-bytes - row-bytes * call .a) less (start .pre .2) (omega arith) (word-of-at .word-of .ensures) in (
       omega (arith, less),
       at-loop .loop .inv .1 .parents,
       taking-front _ _ _ _ (links-to (call .a) (set-bits 64 (64 * k) (bitAnd w (getD (call .set .now) k 0))))
@@ -70,22 +78,30 @@ take-bits-requires c κs =
     )
 
 loop-less : tie.Need-loop-less Inv-loop μ-loop
-loop-less c = omega (arith, c .before .before .before .before .before .before .before .before .before .loop-test .taken)
+loop-less c =
+    let turn = c .before .before .before .before .before .before .before .before .before in
+    omega (arith, turn .loop-test .taken)
 
 loop-again : tie.Need-loop-again Inv-loop μ-loop
 loop-again c =
-    let at-loop = c .before .before .before .before .before .before .before .before .before .before in
-    let start = c .before .before .before .before .before .before .before .before .before .before .before .before .before .before .before .before in
+    let table-at = c .before in
+    let parents-at = table-at .before .before in
+    let take-bits-at = parents-at .before in
+    let word-of-at = take-bits-at .before .before .before .before in
+    let turn = word-of-at .before in
+    let at-loop = turn .before in
+    let given = at-loop .before .before .before .before .before in
+    let start = given .before in
     let call = start .args in
     let k = at-loop .loop .k in
-    let less = c .before .before .before .before .before .before .before .before .before .loop-test .taken in
-    let w = c .before .before .before .before .before .before .before .before .word-of .result in
-    let word = words-among (call .links .now) (λ j. c .before .before .before .before .before .before .before .before .before .before .before .before .before .before .before .shared-slice-known .given j .fits) (call .set .now) (call .a) k w
-    (row-bytes * call .a + row-bytes - row-bytes * call .a) less (start .pre .2) (omega arith) (c .before .before .before .before .before .before .before .before .word-of .ensures) in (
+    let less = turn .loop-test .taken in
+    let w = word-of-at .word-of .result in
+    let word = words-among (call .links .now) (λ j. given .shared-slice-known .given j .fits) (call .set .now) (call .a) k w
+    (row-bytes * call .a + row-bytes - row-bytes * call .a) less (start .pre .2) (omega arith) (word-of-at .word-of .ensures) in (
       omega (arith, less),
       taking-part _ _ _ _ (links-to (call .a) (set-bits 64 (64 * k) (bitAnd w (getD (call .set .now) k 0))))
           (links-to (call .a) (filter (in-set (call .set .now)) (row-from (call .links .now) (call .a) (k + 1)))) _ _ _ _ _ _ (rw word at (at-loop .loop .inv .1))
-          (c .before .before .before .before .take-bits .ensures) (c .before .before .before .parents .given) (c .before .table .given),
+          (take-bits-at .take-bits .ensures) (parents-at .parents .given) (table-at .table .given),
     )
 
 same-length : tie.Need-same-length Inv-loop μ-loop
@@ -96,9 +112,12 @@ same-length-2 c = c .before .loop .inv .1 .table
 
 returns : tie.Need-returns Inv-loop μ-loop
 returns c =
-    let call = c .before .before .before .before .before .before .before .args in
-    taking-end _ _ _ _ _ _ _ _ (words-none (call .links .now) (λ j. c .before .before .before .before .before .before .shared-slice-known .given j .fits) (call .set .now) (call .a) (c .before .loop .k) (c .loop-test .left))
-    (c .before .loop .inv .1)
+    let at-loop = c .before in
+    let given = at-loop .before .before .before .before .before in
+    let start = given .before in
+    let call = start .args in
+    taking-end _ _ _ _ _ _ _ _ (words-none (call .links .now) (λ j. given .shared-slice-known .given j .fits) (call .set .now) (call .a) (at-loop .loop .k) (c .loop-test .left))
+    (at-loop .loop .inv .1)
 
 pub take-words-spec : {M : Type 1} → statement M
 take-words-spec =
