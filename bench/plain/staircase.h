@@ -39,35 +39,38 @@ static unsigned c_take_row(const uint8_t *links, const uint64_t *set, unsigned a
     return count;
 }
 
-/* The rows that may have a link of the level: its radios, and of `reach` their neighbours. */
-static unsigned c_list_rows(const uint8_t *links, const uint64_t *own, const uint64_t *reach, uint16_t *list) {
+/* The rows that may have a link of the level: its radios, and of `reach` their neighbours. At the first level reach is the level. */
+static unsigned c_list_rows(const uint8_t *links, const uint64_t *own, const uint64_t *reach, int first, uint16_t *list) {
     uint64_t rows[WORDS] = {0};
+    const uint64_t *whole = first ? reach : own;
     unsigned many = 0;
-    for (unsigned k = 0; k < WORDS; k++) many += c_list_word(own[k], 64 * k, list + many);
+    for (unsigned k = 0; k < WORDS; k++) many += c_list_word(whole[k], 64 * k, list + many);
+    if (first) return many;
     for (unsigned i = 0; i < many; i++) rows[list[i] / 64] |= 1ull << list[i] % 64;
     c_join_rows(links, list, 0, many, rows);
     return c_take_common(reach, rows, list);
 }
 
-static unsigned c_take_weight(const struct lent *t, unsigned level, uint16_t *parents, uint16_t *table, unsigned count) {
-    uint64_t own[WORDS], reach[WORDS], higher[WORDS];
+static unsigned c_take_weight(const uint8_t *links, const uint64_t *own, const uint64_t *reach, uint16_t *parents, uint16_t *table, unsigned count) {
     uint16_t list[RADIOS];
-    c_at_least(t, level + 1, higher);
-    c_at_least(t, level, reach);
-    for (unsigned k = 0; k < WORDS; k++) own[k] = reach[k] ^ (higher[k] & reach[k]);
-    unsigned many = c_list_rows(t->links, own, reach, list);
+    unsigned many = c_list_rows(links, own, reach, !count, list);
     for (unsigned i = 0; i < many; i++)
-        count = is_in(own, list[i]) ? c_take_row(t->links, reach, list[i], parents, table, count)
-                                    : c_take_row(t->links, own, list[i], parents, table, count);
+        count = is_in(own, list[i]) ? c_take_row(links, reach, list[i], parents, table, count) : c_take_row(links, own, list[i], parents, table, count);
     return count;
 }
 
 static struct c_value c_staircase(const struct lent *t, uint16_t *table, size_t room) {
+    uint64_t own[WORDS], reach[WORDS], higher[WORDS] = {0};
     uint16_t parents[RADIOS];
     unsigned number = c_refusal(t, room >= 2 * (size_t)t->n), count = 0;
     if (number) return (struct c_value){number, 0};
     for (unsigned v = 0; v < t->n; v++) parents[v] = v;
-    for (unsigned level = c_level_below(t, 256); level; level = c_level_below(t, level)) count = c_take_weight(t, level, parents, table, count);
+    for (unsigned level = c_level_below(t, 256); level; level = c_level_below(t, level)) {
+        c_at_least(t, level, reach);
+        for (unsigned k = 0; k < WORDS; k++) own[k] = reach[k] ^ (higher[k] & reach[k]);
+        count = c_take_weight(t->links, own, reach, parents, table, count);
+        memcpy(higher, reach, sizeof higher);
+    }
     return (struct c_value){0, count};
 }
 #endif

@@ -13,7 +13,7 @@ use native.Mathlib.Omega.{arith}
 use lib.Dec.{ltb, leb, eqb}
 use lib.ListN.{length, getD, take, replicate, length-take, List·getD-eq-default}
 use lib.Seq.{take-all}
-use borrow.Author.Tests.{ltb-true, ltb-false, lt-ltb, leb-true, leb-false, le-leb, lt-leb, eqb-true, eqb-false, eq-eqb, ne-eqb}
+use borrow.Author.Tests.{ltb-true, lt-ltb, leb-true, leb-false, le-leb, lt-leb, eqb-true, eqb-false, eq-eqb, ne-eqb}
 use Rattle.mesh.specs.Limits.{max-radios, row-bytes}
 use Rattle.lists.specs.Lists.{range, filter, member, overwrite, In, Entries-below}
 use Rattle.mesh.specs.Connected.{greatest}
@@ -60,11 +60,12 @@ above-none ns k e x l = none-in x ∙ sym (go (bool-cases (ltb x (length ns))))
     go (inr q) = rw q
 
 -- no radio is between a level and the next
-pub above-next : (ns : List ℕ) (k next : ℕ) (reach : List ℕ) → next ≡ greatest-below k ns → next < k → ((x : ℕ) → x < max-radios → in-set reach x ≡ of-level ns k x)
-    → Above-set ns next reach
+pub above-next : (ns : List ℕ) (k next : ℕ) (reach : List ℕ) → next ≡ greatest-below k ns → next < k
+    → ((x : ℕ) → x < max-radios → in-set reach x ≡ of-level ns k x) → Above-set ns next reach
 unfolding of-level
 above-next ns k next reach e less h x l = h x l ∙ ap (λ (b : Bool). ltb x (length ns) && b) (iff-eq (leb k (getD ns x 0)) (leb (next + 1) (getD ns x 0))
-    (λ q. le-leb (next + 1) (getD ns x 0) (omega (arith, leb-true k (getD ns x 0) q))) (λ q. le-leb k (getD ns x 0) (high (number-below k ns x) (leb-true (next + 1) (getD ns x 0) q))))
+    (λ q. le-leb (next + 1) (getD ns x 0) (omega (arith, leb-true k (getD ns x 0) q)))
+    (λ q. le-leb k (getD ns x 0) (high (number-below k ns x) (leb-true (next + 1) (getD ns x 0) q))))
   where
     high : (getD ns x 0 ≤ greatest-below k ns) ⊎ (k ≤ getD ns x 0) → next + 1 ≤ getD ns x 0 → k ≤ getD ns x 0
     high (inl a) b = absurd (omega (arith, e))
@@ -156,7 +157,8 @@ rows-putting-end ts list i set l h = record { own = λ j r. h .own j (omega arit
 -- ---- the rows listed
 
 -- entries written in front, where all fit
-listed-front : (xs old list : List ℕ) (r : ℕ) → length xs ≤ length old → r ≡ min (length old) (length xs) → list ≡ overwrite (take (length old) xs) old → take r list ≡ xs
+listed-front : (xs old list : List ℕ) (r : ℕ) → length xs ≤ length old → r ≡ min (length old) (length xs) → list ≡ overwrite (take (length old) xs) old
+    → take r list ≡ xs
 listed-front xs old list r fits counted listed =
     let all : r ≡ length xs = omega arith in
     ap (λ (k : ℕ). take k list) all ∙ ap (take (length xs)) (listed ∙ ap (λ (ys : List ℕ). overwrite ys old) (take-all (length old) xs fits)) ∙ take-overwrite xs old
@@ -213,7 +215,7 @@ module _ (ts own : List ℕ) (long : length own ≡ 8) (old list : List ℕ) (r 
   -- the rows that the set has of reach
   pub level-rows : (reach set after end : List ℕ) (m : ℕ) → length reach ≡ 8 → length set ≡ 8 → length list ≡ max-radios → Rows-put ts (take r list) set
       → Common-taken reach set list m after end → Level-rows ts own reach m end
-  level-rows reach set after end m lr ls room2 put taken =
+  level-rows reach set after end m lr ls list-room put taken =
       let all = common-filter reach set lr ls in
       let few = few-radios (λ v. in-set reach v && in-set set v) in
       let front = listed-front (common reach set) list end m (omega (arith, ap length all)) (taken .counted) (taken .listed) in
@@ -226,7 +228,16 @@ module _ (ts own : List ℕ) (long : length own ≡ 8) (old list : List ℕ) (r 
       }
     where
       fits : (xs : List ℕ) → take m xs ≡ common reach set → m ≤ length xs
-      fits xs e = omega (arith, length-take m xs, ap length e, taken .counted, ap length (common-filter reach set lr ls), few-radios (λ v. in-set reach v && in-set set v), room2)
+      fits xs e =
+          omega (
+            arith,
+            length-take m xs,
+            ap length e,
+            taken .counted,
+            ap length (common-filter reach set lr ls),
+            few-radios (λ v. in-set reach v && in-set set v),
+            list-room,
+          )
 
       place : (a : ℕ) → in-set own a ≡ true → (j : ℕ) × (j < length (take r list)) × (getD (take r list) j 0 ≡ a) → in-set set a ≡ true
       place a e h = ap (in-set set) (sym (h .2)) ∙ put .own (h .0) (h .1)
@@ -289,7 +300,9 @@ module _ (ts ns : List ℕ) (k : ℕ) (some : 1 ≤ k) (rows : Mutual (length ns
   -- a set that has the radios to which a link of a weighs k
   row-heavy : (a : ℕ) (s : List ℕ) → ((b : ℕ) → b < max-radios → in-set s b ≡ eqb (min (getD ns a 0) (getD ns b 0)) k) → row-among ts s a ≡ heavy a
   unfolding row-among
-  row-heavy a s tells = ap (links-to a) (filter-ext (in-set s) (λ b. eqb (min (getD ns a 0) (getD ns b 0)) k) (neighbours-above ts a) (λ b i. tells b (in-above ts a b i .0))) ∙ sym (heavy-row a)
+  row-heavy a s tells =
+      ap (links-to a) (filter-ext (in-set s) (λ b. eqb (min (getD ns a 0) (getD ns b 0)) k) (neighbours-above ts a) (λ b i. tells b (in-above ts a b i .0)))
+      ∙ sym (heavy-row a)
 
   of-own : (x : ℕ) → x < max-radios → in-set own x ≡ eqb (getD ns x 0) k
   of-own x l = sets .own-radios x l ∙ iff-eq (ltb x n && eqb (getD ns x 0) k) (eqb (getD ns x 0) k) (λ e. and-right (ltb x n) (eqb (getD ns x 0) k) e)
@@ -322,7 +335,8 @@ module _ (ts ns : List ℕ) (k : ℕ) (some : 1 ≤ k) (rows : Mutual (length ns
   heavy-low : (a : ℕ) → getD ns a 0 < k → heavy a ≡ []
   unfolding filter
   heavy-low a h =
-      heavy-row a ∙ ap (links-to a) (filter-none (λ b. eqb (min (getD ns a 0) (getD ns b 0)) k) (neighbours-above ts a) (λ b i. ne-eqb (min (getD ns a 0) (getD ns b 0)) k (λ q. omega arith)))
+      heavy-row a ∙ ap (links-to a) (filter-none (λ b. eqb (min (getD ns a 0) (getD ns b 0)) k) (neighbours-above ts a)
+      (λ b i. ne-eqb (min (getD ns a 0) (getD ns b 0)) k (λ q. omega arith)))
 
   -- past the radios no row has a link of the level
   heavy-radios : flatMap heavy (range 0 max-radios) ≡ flatMap heavy (range 0 n)
@@ -330,7 +344,8 @@ module _ (ts ns : List ℕ) (k : ℕ) (some : 1 ≤ k) (rows : Mutual (length ns
       let parts : max-radios ≡ n + (max-radios - n) = omega (arith, rows .most) in
       ap (λ (m : ℕ). flatMap heavy (range 0 m)) parts ∙ ap (flatMap heavy) (range-append 0 n (max-radios - n))
       ∙ flatMap-append heavy (range 0 n) (range (0 + n) (max-radios - n))
-      ∙ ap {B = List Link} (λ ls. flatMap heavy (range 0 n) ++ ls) (flatMap-none heavy (range (0 + n) (max-radios - n)) (λ a i. heavy-low a (past a (range-in (0 + n) (max-radios - n) a i .0))))
+      ∙ ap {B = List Link} (λ ls. flatMap heavy (range 0 n) ++ ls)
+      (flatMap-none heavy (range (0 + n) (max-radios - n)) (λ a i. heavy-low a (past a (range-in (0 + n) (max-radios - n) a i .0))))
       ∙ append-nil (flatMap heavy (range 0 n))
     where
       past : (a : ℕ) → 0 + n ≤ a → getD ns a 0 < k

@@ -140,7 +140,8 @@ module _ (ps : List ℕ) (up : Parents ps) (x y : ℕ) (l : x < length ps) (low 
   unfolding roots
   roots-set f own same owns steps =
       rw (length-set ps x y) (map-range-ext (root (length ps) (set ps x y)) f 0 (length ps)
-      (λ w h r. root-unique (set ps x y) parents-set f (length ps) (λ v. at-own v (bool-cases (eqb v x))) (λ v. at-step v (bool-cases (eqb v x))) (length ps) w (omega arith) (omega arith)))
+      (λ w h r. root-unique (set ps x y) parents-set f (length ps) (λ v. at-own v (bool-cases (eqb v x))) (λ v. at-step v (bool-cases (eqb v x)))
+      (length ps) w (omega arith) (omega arith)))
     where
       at-own : (v : ℕ) → (eqb v x ≡ true) ⊎ (eqb v x ≡ false) → v < length ps → getD (set ps x y) v 0 ≡ v → f v ≡ v
       at-own v (inl q) r e = let z = eqb-true v x q in rw z (own (sym parent-same ∙ ap (λ (u : ℕ). getD (set ps x y) u 0) (sym z) ∙ e ∙ z))

@@ -1,6 +1,6 @@
 -- The links of a row to the radios of a set, by words.
 --   bits-lowest     the lowest set bit first
---   words-among     the links from word k on
+--   words-..        the links from word k on
 --   row-words       the links to radios above the row's own
 --   level-row-..    which set counts for a radio
 --   rows-..         rows in turn
@@ -20,11 +20,12 @@ use lib.Pow.{pow-mono, shr-shr, shr-lt}
 use lib.Seq.{drop-cons}
 use borrow.Author.Tests.{ltb-true, ltb-false, eqb-true, eqb-false, ne-eqb}
 use Rattle.mesh.specs.Limits.{max-radios, row-bytes}
-use Rattle.lists.specs.Lists.{filter}
-use Rattle.mesh.specs.Graph.{Link, link-of}
-use Rattle.mesh.specs.Tables.{digit}
+use Rattle.lists.specs.Lists.{range, filter, In}
+use Rattle.mesh.specs.Graph.{Link, In-links, link-of}
+use Rattle.mesh.specs.Tables.{digit, marked}
 use Rattle.lists.proofs.Tests.{bool-cases, never}
-use Rattle.lists.proofs.Filter.{filter-append}
+use Rattle.lists.proofs.Filter.{in-filter, filter-append}
+use Rattle.lists.proofs.Range.{range-in}
 use Rattle.lists.proofs.Map.{map-append}
 use Rattle.mesh.proofs.Tables.Digits.{digit-zero, digit-suc}
 use Rattle.rows.specs.Rows.{row-from, set-bits, word-of}
@@ -33,6 +34,7 @@ use Rattle.rows.proofs.RowWords.{row-from-word, row-from-end, word-of-row}
 use Rattle.rows.proofs.AboveWords.{above-words}
 use Rattle.sets.specs.Sets.{in-set}
 use Rattle.link_list.specs.Links.{links-to}
+use Rattle.staircase.specs.Growing.{Takeable}
 use Rattle.staircase.specs.Rows.{row-among, level-row}
 
 -- ---- set bits of two words
@@ -71,6 +73,16 @@ pub bits-lowest : (a first rest : ℕ) → (rest ≡ 0 → ⊥) → rest < 2 ^ 6
     → links-to a (set-bits 64 first rest) ≡ (link-of a (first + trailingZeros 64 rest) ∷ []) ++ links-to a (set-bits 64 first (bitAnd rest (rest - 1)))
 bits-lowest a first rest some low = let pos : 0 < rest = omega arith in ap (links-to a) (set-bits-lowest 64 first rest pos low)
 
+-- ---- the links of a radio
+
+in-links-to : (a x : ℕ) (xs : List ℕ) → In x xs → In-links (link-of a x) (links-to a xs)
+in-links-to a x (y ∷ ys) (inl e) = inl (ap (link-of a) e)
+in-links-to a x (y ∷ ys) (inr i) = inr (in-links-to a x ys i)
+
+no-links : (a : ℕ) (xs : List ℕ) → ((x : ℕ) → In x xs → ⊥) → links-to a xs ≡ []
+no-links a [] h = refl
+no-links a (x ∷ xs) h = absurd (h x (inl refl))
+
 -- ---- the words of a row
 
 set-word : (s : List ℕ) (k m : ℕ) → m < 64 → in-set s (64 * k + m) ≡ digit (getD s k 0) m
@@ -103,9 +115,25 @@ module _ (ts : List ℕ) (bytes : (j : ℕ) → getD ts j 0 < 256) (s : List ℕ
       ∙ ap (λ (xs : List ℕ). xs ++ filter (in-set s) (row-from ts a (k + 1))) (filter-bits 64 (64 * k) w (getD s k 0) (in-set s) (λ m l d. set-word s k m l)))
       ∙ map-append (link-of a) (set-bits 64 (64 * k) (bitAnd w (getD s k 0))) (filter (in-set s) (row-from ts a (k + 1)))
 
-  pub words-none : (k : ℕ) → 8 ≤ k → links-to a (filter (in-set s) (row-from ts a k)) ≡ []
+  words-none : (k : ℕ) → 8 ≤ k → links-to a (filter (in-set s) (row-from ts a k)) ≡ []
   unfolding filter
   words-none k h = rw (row-from-end ts a k h)
+
+  -- words that no radio of n has
+  pub words-past : (n k c : ℕ) → min 8 (n / 64 + 1) ≤ k → Takeable n (links-to a (filter (in-set s) (row-from ts a k))) c
+      → links-to a (filter (in-set s) (row-from ts a k)) ≡ []
+  unfolding row-from
+  words-past n k c h t = go (bool-cases (ltb k 8))
+    where
+      past : n < 64 * k → (x : ℕ) → In x (filter (in-set s) (row-from ts a k)) → ⊥
+      past l x i =
+          let row = in-filter (in-set s) (row-from ts a k) x i .0 in
+          let place = in-filter (λ b. marked ts a b) (range (64 * k) (max-radios - 64 * k)) x row .0 in
+          omega (arith, range-in (64 * k) (max-radios - 64 * k) x place .0, t .inside (link-of a x) (in-links-to a x (filter (in-set s) (row-from ts a k)) i) .1)
+
+      go : (ltb k 8 ≡ true) ⊎ (ltb k 8 ≡ false) → links-to a (filter (in-set s) (row-from ts a k)) ≡ []
+      go (inl e) = let l = ltb-true k 8 e in no-links a (filter (in-set s) (row-from ts a k)) (past (omega arith))
+      go (inr e) = words-none k (ltb-false k 8 e)
 
   -- w is the row's own word, read from the m bytes of the row; x is what is left of it above a, of radios of the set
   pub row-words : (w x m : ℕ) → a < max-radios → row-bytes * a + row-bytes ≤ length ts → m ≡ row-bytes
@@ -120,10 +148,12 @@ module _ (ts : List ℕ) (bytes : (j : ℕ) → getD ts j 0 < 256) (s : List ℕ
       let v = w / 2 ^ (a % 64) / 2 ^ 1 in
       let is : x ≡ bitAnd v (o / 2 ^ (a % 64) / 2 ^ 1) =
       f ∙ ap (λ (z : ℕ). z / 2 ^ 1) (and-shr w o (a % 64)) ∙ and-shr (w / 2 ^ (a % 64)) (o / 2 ^ (a % 64)) 1 in
-      let tells : (m : ℕ) → m < 64 → digit v m ≡ true → in-set s (a + 1 + m) ≡ digit (o / 2 ^ (a % 64) / 2 ^ 1) m = λ m l d. above m (bool-cases (ltb (p + m) 64)) d in
+      let tells : (m : ℕ) → m < 64 → digit v m ≡ true → in-set s (a + 1 + m) ≡ digit (o / 2 ^ (a % 64) / 2 ^ 1) m =
+      λ m l d. above m (bool-cases (ltb (p + m) 64)) d in
       ap (links-to a) (ap (filter (in-set s)) (above-words ts a small whole bytes w v e refl)
       ∙ filter-append (in-set s) (set-bits 64 (a + 1) v) (row-from ts a (k + 1))
-      ∙ ap (λ (xs : List ℕ). xs ++ filter (in-set s) (row-from ts a (k + 1))) (filter-bits 64 (a + 1) v (o / 2 ^ (a % 64) / 2 ^ 1) (in-set s) tells ∙ ap (set-bits 64 (a + 1)) (sym is)))
+      ∙ ap (λ (xs : List ℕ). xs ++ filter (in-set s) (row-from ts a (k + 1)))
+      (filter-bits 64 (a + 1) v (o / 2 ^ (a % 64) / 2 ^ 1) (in-set s) tells ∙ ap (set-bits 64 (a + 1)) (sym is)))
       ∙ map-append (link-of a) (set-bits 64 (a + 1) x) (filter (in-set s) (row-from ts a (k + 1)))
     where
       less : w < 2 ^ 64

@@ -85,7 +85,7 @@ fn take_bits(
     c
 }
 
-// Takes the links of a to the radios of the set that its row marks from word `from` on.
+// Takes the links of a to the radios of the set that its row marks from word `from` on. Past the words that have radios there are none.
 fn take_words<'a>(
     links: &'a [u8],
     set: &'a [u64],
@@ -102,9 +102,10 @@ fn take_words<'a>(
 {
     let start = Site::ROW_BYTES * a as usize;
     let row = &links[start..start + Site::ROW_BYTES];
+    let words = tables::fill::least(WORDS, parents.len() / rows::WORD_BITS as usize + 1) as u32;
     let mut c = count;
     let mut k = from;
-    while k < rows::ROW_WORDS {
+    while k < words {
         let word = rows::word_of(row, k) & set[k as usize];
         c = take_bits(a, rows::WORD_BITS * k, word, parents, table, c);
         k += 1;

@@ -1,6 +1,5 @@
 -- `staircase` meets its contract: refused, the table is untouched; else the tables are sound, and what grows is the staircase tree.
 use mathlib.Core.Path.{sym}
-use native.Mathlib.Omega.{arith}
 use lib.ListN.{length}
 use lib.Seq.{length-take-le}
 use borrow.Author.Needs.{needs}

@@ -28,7 +28,8 @@ take-bits-requires c κs =
     let rest = links-to (call .a) (filter (in-set (call .set .now)) (row-from (call .links .now) (call .a) (call .a / 64 + 1))) in (
       omega (arith, start .pre .0),
       start .pre .3,
-      taking-front _ _ _ _ (links-to (call .a) (set-bits 64 (call .a + 1) x)) rest _ _ _ (taking-none _ (call .parents .now) (call .table .now) (call .count) _ (sym words) (start .pre .3) (start .pre .4)),
+      taking-front _ _ _ _ (links-to (call .a) (set-bits 64 (call .a + 1) x)) rest _ _ _
+          (taking-none _ (call .parents .now) (call .table .now) (call .count) _ (sym words) (start .pre .3) (start .pre .4)),
     )
 
 take-words-requires : tie.Need-take-words-requires
@@ -46,8 +47,8 @@ take-words-requires c κs =
     (row-bytes * call .a + row-bytes - row-bytes * call .a) (start .pre .0) (start .pre .1) (omega arith) (word-of-at .word-of .ensures) refl in
     let rest = links-to (call .a) (filter (in-set (call .set .now)) (row-from (call .links .now) (call .a) (call .a / 64 + 1))) in
     let left = taking-part _ _ _ _ (links-to (call .a) (set-bits 64 (call .a + 1) x)) rest _ _ _ _ _ _
-    (taking-none _ (call .parents .now) (call .table .now) (call .count) _ (sym words) (start .pre .3) (start .pre .4)) (take-bits-at .take-bits .ensures) (parents-at .parents .given)
-    (table-at .table .given) in
+    (taking-none _ (call .parents .now) (call .table .now) (call .count) _ (sym words) (start .pre .3) (start .pre .4))
+    (take-bits-at .take-bits .ensures) (parents-at .parents .given) (table-at .table .given) in
     (start .pre .0, omega (arith, start .pre .0), start .pre .1, start .pre .2, left .parents, left .ready)
 
 returns : tie.Need-returns
@@ -66,8 +67,8 @@ returns c =
     (row-bytes * call .a + row-bytes - row-bytes * call .a) (start .pre .0) (start .pre .1) (omega arith) (word-of-at .word-of .ensures) refl in
     let rest = links-to (call .a) (filter (in-set (call .set .now)) (row-from (call .links .now) (call .a) (call .a / 64 + 1))) in
     let left = taking-part _ _ _ _ (links-to (call .a) (set-bits 64 (call .a + 1) x)) rest _ _ _ _ _ _
-    (taking-none _ (call .parents .now) (call .table .now) (call .count) _ (sym words) (start .pre .3) (start .pre .4)) (take-bits-at .take-bits .ensures) (parents-at .parents .given)
-    (table-at .table .given) in
+    (taking-none _ (call .parents .now) (call .table .now) (call .count) _ (sym words) (start .pre .3) (start .pre .4))
+    (take-bits-at .take-bits .ensures) (parents-at .parents .given) (table-at .table .given) in
     taking-last _ _ _ _ _ _ _ _ _ _ _ left (take-words-at .take-words .ensures)
 
 pub take-row-spec : {M : Type 1} → statement M

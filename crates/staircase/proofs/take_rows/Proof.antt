@@ -42,7 +42,8 @@ take-radio-requires c κs =
       start .pre .1,
       start .pre .2,
       at-loop .loop .inv .1 .parents,
-      taking-front _ _ _ _ (row (getD (call .list .now) i 0)) (flatMap row (drop (i + 1) (call .list .now))) _ _ _ (rw (rows-next row (call .list .now) i less) at (at-loop .loop .inv .1)),
+      taking-front _ _ _ _ (row (getD (call .list .now) i 0)) (flatMap row (drop (i + 1) (call .list .now))) _ _ _
+          (rw (rows-next row (call .list .now) i less) at (at-loop .loop .inv .1)),
     )
 
 loop-again : tie.Need-loop-again Inv-loop μ-loop
