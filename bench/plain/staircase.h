@@ -32,10 +32,10 @@ static inline unsigned c_take_bits(unsigned a, unsigned first, uint64_t word, ui
 }
 
 /* Takes the links of a to the radios of the set above it. */
-static unsigned c_take_row(const uint8_t *links, const uint64_t *set, unsigned a, uint16_t *parents, uint16_t *table, unsigned count) {
-    unsigned k = a / 64;
-    count = c_take_bits(a, a + 1, (row_word(links, a, k) & set[k]) >> a % 64 >> 1, parents, table, count);
-    for (k++; k < WORDS; k++) count = c_take_bits(a, 64 * k, row_word(links, a, k) & set[k], parents, table, count);
+static unsigned c_take_row(const struct lent *t, const uint64_t *set, unsigned a, uint16_t *parents, uint16_t *table, unsigned count) {
+    unsigned k = a / 64, words = t->n / 64 + 1 < WORDS ? t->n / 64 + 1 : WORDS;
+    count = c_take_bits(a, a + 1, (row_word(t->links, a, k) & set[k]) >> a % 64 >> 1, parents, table, count);
+    for (k++; k < words; k++) count = c_take_bits(a, 64 * k, row_word(t->links, a, k) & set[k], parents, table, count);
     return count;
 }
 
@@ -51,11 +51,11 @@ static unsigned c_list_rows(const uint8_t *links, const uint64_t *own, const uin
     return c_take_common(reach, rows, list);
 }
 
-static unsigned c_take_weight(const uint8_t *links, const uint64_t *own, const uint64_t *reach, uint16_t *parents, uint16_t *table, unsigned count) {
+static unsigned c_take_weight(const struct lent *t, const uint64_t *own, const uint64_t *reach, uint16_t *parents, uint16_t *table, unsigned count) {
     uint16_t list[RADIOS];
-    unsigned many = c_list_rows(links, own, reach, !count, list);
+    unsigned many = c_list_rows(t->links, own, reach, !count, list);
     for (unsigned i = 0; i < many; i++)
-        count = is_in(own, list[i]) ? c_take_row(links, reach, list[i], parents, table, count) : c_take_row(links, own, list[i], parents, table, count);
+        count = is_in(own, list[i]) ? c_take_row(t, reach, list[i], parents, table, count) : c_take_row(t, own, list[i], parents, table, count);
     return count;
 }
 
@@ -68,7 +68,7 @@ static struct c_value c_staircase(const struct lent *t, uint16_t *table, size_t 
     for (unsigned level = c_level_below(t, 256); level; level = c_level_below(t, level)) {
         c_at_least(t, level, reach);
         for (unsigned k = 0; k < WORDS; k++) own[k] = reach[k] ^ (higher[k] & reach[k]);
-        count = c_take_weight(t->links, own, reach, parents, table, count);
+        count = c_take_weight(t, own, reach, parents, table, count);
         memcpy(higher, reach, sizeof higher);
     }
     return (struct c_value){0, count};
