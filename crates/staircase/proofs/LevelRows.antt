@@ -1,7 +1,7 @@
 -- The rows of a level have all links of its weight.
 --   above-..          the radios of higher levels as a set
 --   level-sets        the radios of a level as sets
---   rows-putting-..   listed radios and their neighbours put into a set
+--   radios-putting-.., neighbours-putting-..   listed radios, and their neighbours, put into a set
 --   level-rows        the rows listed
 --   level-links       the links of the listed rows are the links of the level's weight
 use mathlib.Core.Path.{_≡_, refl, sym, ap, ap₂, _∙_}
@@ -39,7 +39,7 @@ use Rattle.floods.specs.Floods.{of-level, Level-set}
 use Rattle.forests.proofs.Forests.{filter-links-append}
 use Rattle.staircase.specs.Growing.{table-weight, greatest-below}
 use Rattle.staircase.proofs.SkipLaws.{number-radio, number-below}
-use Rattle.staircase.specs.Rows.{row-among, level-row, Rows-whole, Rows-put, Level-sets, Level-rows, Mutual}
+use Rattle.staircase.specs.Rows.{row-among, level-row, Rows-whole, Radios-put, Neighbours-put, Level-sets, Level-rows, Mutual}
 
 -- ---- the radios of a level
 
@@ -105,54 +105,66 @@ level-sets ns k higher old reach own lh lo lr lw above level taken = record {
 
 -- ---- listed radios and their neighbours put into a set
 
-pub record Rows-putting (ts list : List ℕ) (i : ℕ) (set : List ℕ) : Type 0 where
+pub record Radios-putting (list : List ℕ) (i : ℕ) (set : List ℕ) : Type 0 where
   pub low : i ≤ length list
   pub long : length set ≡ 8
   pub own : (j : ℕ) → j < i → in-set set (getD list j 0) ≡ true
-  pub near : (j x : ℕ) → j < i → member x (row-listed ts (getD list j 0)) ≡ true → in-set set x ≡ true
 
-pub rows-putting-none : (ts list set : List ℕ) → length set ≡ 8 → Rows-putting ts list 0 set
-rows-putting-none ts list set l = record { low = omega arith; long = l; own = λ j h. absurd (omega arith); near = λ j x h m. absurd (omega arith) }
+pub radios-putting-none : (list set : List ℕ) → length set ≡ 8 → Radios-putting list 0 set
+radios-putting-none list set l = record { low = omega arith; long = l; own = λ j h. absurd (omega arith) }
 
-pub rows-putting-turn : (ts list : List ℕ) (i : ℕ) (set put after : List ℕ) → i < length list → getD list i 0 < max-radios → length after ≡ length put
-    → put ≡ put-in (getD list i 0) set → Row-joined ts (getD list i 0) put after → Rows-putting ts list i set → Rows-putting ts list (i + 1) after
-rows-putting-turn ts list i set put after l small same e joined h = record {
+pub radios-putting-turn : (list : List ℕ) (i : ℕ) (set put : List ℕ) → i < length list → getD list i 0 < max-radios → put ≡ put-in (getD list i 0) set
+    → Radios-putting list i set → Radios-putting list (i + 1) put
+radios-putting-turn list i set put l small e h = record {
   low = omega arith;
-  long = same ∙ long;
-  own = λ j r. at-own j (bool-cases (eqb j i)) r;
-  near = λ j x r m. at-near j x (bool-cases (eqb j i)) r m;
+  long = ap length e ∙ length-put-in (getD list i 0) set ∙ h .long;
+  own = λ j r. put-has (getD list j 0) ∙ go j (bool-cases (eqb j i)) r;
 }
   where
-    v : ℕ
-    v = getD list i 0
+    put-has : (x : ℕ) → in-set put x ≡ cond (eqb (getD list i 0) x) true (in-set set x)
+    put-has x = ap (λ (ws : List ℕ). in-set ws x) e ∙ in-put-in (getD list i 0) x set (omega (arith, h .long))
 
-    long : length put ≡ 8
-    long = ap length e ∙ length-put-in v set ∙ h .long
+    always : (b : Bool) → cond b true true ≡ true
+    always true = refl
+    always false = refl
 
-    put-has : (x : ℕ) → in-set put x ≡ cond (eqb v x) true (in-set set x)
-    put-has x = ap (λ (ws : List ℕ). in-set ws x) e ∙ in-put-in v x set (omega (arith, h .long))
+    go : (j : ℕ) → (eqb j i ≡ true) ⊎ (eqb j i ≡ false) → j < i + 1 → cond (eqb (getD list i 0) (getD list j 0)) true (in-set set (getD list j 0)) ≡ true
+    go j (inl q) r = let z = eqb-true j i q in rw (z, eq-eqb (getD list i 0) (getD list i 0) refl)
+    go j (inr q) r = let d = eqb-false j i q in rw (h .own j (omega (arith, d))) (always (eqb (getD list i 0) (getD list j 0)))
 
-    kept : (x : ℕ) → in-set set x ≡ true → in-set after x ≡ true
-    kept x m = joined .bits long x ∙ or-left (in-set put x) (member x (row-listed ts v)) (put-has x ∙ rw m (always (eqb v x)))
-      where
-        always : (b : Bool) → cond b true true ≡ true
-        always true = refl
-        always false = refl
+pub radios-putting-end : (list : List ℕ) (i : ℕ) (set : List ℕ) → length list ≤ i → Radios-putting list i set → Radios-put list set
+radios-putting-end list i set l h = record { own = λ j r. h .own j (omega arith) }
 
-    at-own : (j : ℕ) → (eqb j i ≡ true) ⊎ (eqb j i ≡ false) → j < i + 1 → in-set after (getD list j 0) ≡ true
-    at-own j (inl q) r =
+pub record Neighbours-putting (ts list old : List ℕ) (i : ℕ) (set : List ℕ) : Type 0 where
+  pub low : i ≤ length list
+  pub long : length set ≡ 8
+  pub kept : (x : ℕ) → in-set old x ≡ true → in-set set x ≡ true
+  pub near : (j x : ℕ) → j < i → member x (row-listed ts (getD list j 0)) ≡ true → in-set set x ≡ true
+
+pub neighbours-putting-none : (ts list old : List ℕ) → length old ≡ 8 → Neighbours-putting ts list old 0 old
+neighbours-putting-none ts list old l = record { low = omega arith; long = l; kept = λ x m. m; near = λ j x h m. absurd (omega arith) }
+
+pub neighbours-putting-turn : (ts list old : List ℕ) (i : ℕ) (set after : List ℕ) → i < length list → length after ≡ length set
+    → Row-joined ts (getD list i 0) set after → Neighbours-putting ts list old i set → Neighbours-putting ts list old (i + 1) after
+neighbours-putting-turn ts list old i set after l same joined h = record {
+  low = omega arith;
+  long = same ∙ h .long;
+  kept = λ x m. stays x (h .kept x m);
+  near = λ j x r m. go j x (bool-cases (eqb j i)) r m;
+}
+  where
+    stays : (x : ℕ) → in-set set x ≡ true → in-set after x ≡ true
+    stays x m = joined .bits (h .long) x ∙ or-left (in-set set x) (member x (row-listed ts (getD list i 0))) m
+
+    go : (j x : ℕ) → (eqb j i ≡ true) ⊎ (eqb j i ≡ false) → j < i + 1 → member x (row-listed ts (getD list j 0)) ≡ true → in-set after x ≡ true
+    go j x (inl q) r m =
         let z = eqb-true j i q in
-        rw z (joined .bits long v ∙ or-left (in-set put v) (member v (row-listed ts v)) (put-has v ∙ rw (eq-eqb v v refl)))
-    at-own j (inr q) r = let d = eqb-false j i q in kept (getD list j 0) (h .own j (omega (arith, d)))
+        joined .bits (h .long) x
+        ∙ or-right (in-set set x) (member x (row-listed ts (getD list i 0))) (ap (λ (u : ℕ). member x (row-listed ts (getD list u 0))) (sym z) ∙ m)
+    go j x (inr q) r m = let d = eqb-false j i q in stays x (h .near j x (omega (arith, d)) m)
 
-    at-near : (j x : ℕ) → (eqb j i ≡ true) ⊎ (eqb j i ≡ false) → j < i + 1 → member x (row-listed ts (getD list j 0)) ≡ true → in-set after x ≡ true
-    at-near j x (inl q) r m =
-        let z = eqb-true j i q in
-        joined .bits long x ∙ or-right (in-set put x) (member x (row-listed ts v)) (ap (λ (u : ℕ). member x (row-listed ts (getD list u 0))) (sym z) ∙ m)
-    at-near j x (inr q) r m = let d = eqb-false j i q in kept x (h .near j x (omega (arith, d)) m)
-
-pub rows-putting-end : (ts list : List ℕ) (i : ℕ) (set : List ℕ) → length list ≤ i → Rows-putting ts list i set → Rows-put ts list set
-rows-putting-end ts list i set l h = record { own = λ j r. h .own j (omega arith); near = λ j x r m. h .near j x (omega arith) m }
+pub neighbours-putting-end : (ts list old : List ℕ) (i : ℕ) (set : List ℕ) → length list ≤ i → Neighbours-putting ts list old i set → Neighbours-put ts list old set
+neighbours-putting-end ts list old i set l h = record { kept = h .kept; near = λ j x r m. h .near j x (omega arith) m }
 
 -- ---- the rows listed
 
@@ -213,9 +225,10 @@ module _ (ts own : List ℕ) (long : length own ≡ 8) (old list : List ℕ) (r 
       and-yes false = refl
 
   -- the rows that the set has of reach
-  pub level-rows : (reach set after end : List ℕ) (m : ℕ) → length reach ≡ 8 → length set ≡ 8 → length list ≡ max-radios → Rows-put ts (take r list) set
+  pub level-rows : (reach put set after end : List ℕ) (m : ℕ) → length reach ≡ 8 → length set ≡ 8 → length list ≡ max-radios
+      → Radios-put (take r list) put → Neighbours-put ts (take r list) put set
       → Common-taken reach set list m after end → Level-rows ts own reach m end
-  level-rows reach set after end m lr ls list-room put taken =
+  level-rows reach put set after end m lr ls list-room owns nears taken =
       let all = common-filter reach set lr ls in
       let few = few-radios (λ v. in-set reach v && in-set set v) in
       let front = listed-front (common reach set) list end m (omega (arith, ap length all)) (taken .counted) (taken .listed) in
@@ -240,10 +253,10 @@ module _ (ts own : List ℕ) (long : length own ≡ 8) (old list : List ℕ) (r 
           )
 
       place : (a : ℕ) → in-set own a ≡ true → (j : ℕ) × (j < length (take r list)) × (getD (take r list) j 0 ≡ a) → in-set set a ≡ true
-      place a e h = ap (in-set set) (sym (h .2)) ∙ put .own (h .0) (h .1)
+      place a e h = ap (in-set set) (sym (h .2)) ∙ nears .kept (getD (take r list) (h .0) 0) (owns .own (h .0) (h .1))
 
       near : (a b : ℕ) → member a (row-listed ts b) ≡ true → (j : ℕ) × (j < length (take r list)) × (getD (take r list) j 0 ≡ b) → in-set set a ≡ true
-      near a b i h = put .near (h .0) a (h .1) (ap (λ (v : ℕ). member a (row-listed ts v)) (h .2) ∙ i)
+      near a b i h = nears .near (h .0) a (h .1) (ap (λ (v : ℕ). member a (row-listed ts v)) (h .2) ∙ i)
 
 -- ---- the links of the level
 

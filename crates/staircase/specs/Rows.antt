@@ -2,7 +2,7 @@
 --   row-among ts s a       the links of a to radios above it that the set s has
 --   level-row ts o s a     the same of the set s where a is in the set o, else of o
 --   Rows-whole             listed rows that are rows of the table
---   Rows-put               listed radios and their neighbours put into a set
+--   Radios-put, Neighbours-put   listed radios, and their neighbours, put into a set
 --   Level-sets             the radios of a level, and these and the ones of higher levels, as sets
 --   Level-rows             the rows of a level listed
 --   Mutual n ts            n rows that are whole and mark each other
@@ -34,9 +34,13 @@ level-row ts own reach a = row-among ts (cond (in-set own a) reach own) a
 abbrev pub Rows-whole : (links list : List ℕ) → Type 0
 Rows-whole ts list = (i : ℕ) → i < length list → (getD list i 0 < max-radios) × (row-bytes * getD list i 0 + row-bytes ≤ length ts)
 
--- the set has the listed radios and their neighbours
-pub record Rows-put (ts list set : List ℕ) : Type 0 where
+-- the set has the listed radios
+pub record Radios-put (list set : List ℕ) : Type 0 where
   pub own : (j : ℕ) → j < length list → in-set set (getD list j 0) ≡ true
+
+-- old is the set before
+pub record Neighbours-put (ts list old set : List ℕ) : Type 0 where
+  pub kept : (x : ℕ) → in-set old x ≡ true → in-set set x ≡ true
   pub near : (j x : ℕ) → j < length list → member x (row-listed ts (getD list j 0)) ≡ true → in-set set x ≡ true
 
 -- own are the radios with number k, reach the ones with number k or more

@@ -17,7 +17,7 @@ ghost use Rattle.sets.specs.Sets.{in-set};
 ghost use Rattle.link_list.specs.Links.{links-to, links-from, Rows-listed};
 ghost use Rattle.staircase.specs.Growing.{growing, table-weight, grown-all, levels-falling, Takeable};
 ghost use Rattle.staircase.specs.Parts.{Parents, roots, Rooted, Taken};
-ghost use Rattle.staircase.specs.Rows.{row-among, level-row, Rows-whole, Rows-put, Level-sets, Level-rows, Mutual};
+ghost use Rattle.staircase.specs.Rows.{row-among, level-row, Rows-whole, Radios-put, Neighbours-put, Level-sets, Level-rows, Mutual};
 use calls::Value;
 use mesh::Site;
 
@@ -180,14 +180,26 @@ fn take_rows<'a>(
     c
 }
 
-// Puts the listed radios and their neighbours into the set.
-fn put_rows<'a>(links: &'a [u8], list: &'a [u16], set: &mut [u64])
+// Puts the listed radios into the set.
+fn put_radios(list: &[u16], set: &mut [u64])
     requires { ⌜ (length (now set) ≡ 8) × Entries-below max-radios (now list) ⌝ }
-    ensures { λ _. ⌜ Rows-put (now (links .entry)) (now (list .entry)) (now (set .exit)) ⌝ }
+    ensures { λ _. ⌜ Radios-put (now (list .entry)) (now (set .exit)) ⌝ }
 {
     let mut i: usize = 0;
     while i < list.len() {
         sets::put_in(set, list[i] as u32);
+        i += 1;
+    }
+}
+
+// Puts the neighbours of the listed radios into the set. A loop of its own: a word written by `put_radios` would hold up the pairs of
+// words that are read here.
+fn put_neighbours<'a>(links: &'a [u8], list: &'a [u16], set: &mut [u64])
+    requires { ⌜ length (now set) ≡ 8 ⌝ }
+    ensures { λ _. ⌜ Neighbours-put (now (links .entry)) (now (list .entry)) (now (set .entry)) (now (set .exit)) ⌝ }
+{
+    let mut i: usize = 0;
+    while i < list.len() {
         sets::join_row(links, list[i] as u32, set);
         i += 1;
     }
@@ -211,28 +223,31 @@ fn list_rows<'a>(
     }
     let many = sets::list_gone(own, &none, list) as usize;
     let mut set = [0u64; WORDS];
-    put_rows(links, &list[..many], &mut set);
+    put_radios(&list[..many], &mut set);
+    put_neighbours(links, &list[..many], &mut set);
     sets::take_common(reach, &mut set, list)
 }
 
 // One level: the rows that have a link of it, in turn. `own` are the radios of the level, `reach` these and the ones of higher levels.
+// The list holds anything after.
 fn take_level<'a>(
     links: &'a [u8],
     numbers: &'a [u8],
     level: u8,
     own: &'a [u64],
     reach: &'a [u64],
+    list: &mut [u16],
     parents: &mut [u16],
     table: &mut [u16],
     count: u32,
 ) -> u32
-    requires { ⌜ Mutual (length (now numbers)) (now links) × (1 ≤ level) × Level-sets (now numbers) level (now own) (now reach) × Parents (now parents) ×
+    requires { ⌜ Mutual (length (now numbers)) (now links) × (1 ≤ level) × Level-sets (now numbers) level (now own) (now reach) ×
+        (length (now list) ≡ max-radios) × Parents (now parents) ×
         Takeable (length (now parents)) (of-weight (table-weight (now numbers)) level (links-from (length (now numbers)) (now links) 0 0)) count ⌝ }
     ensures { λ r. ⌜ Taken (of-weight (table-weight (now (numbers .entry))) level (links-from (length (now (numbers .entry))) (now (links .entry)) 0 0))
         (now (parents .entry)) (now (table .entry)) count (now (parents .exit)) (now (table .exit)) r ⌝ }
 {
-    let mut list = [0u16; Site::RADIOS as usize];
-    let many = list_rows(links, own, reach, count == 0, &mut list);
+    let many = list_rows(links, own, reach, count == 0, list);
     take_rows(links, own, reach, &list[..many], parents, table, count)
 }
 
@@ -253,6 +268,7 @@ fn take_levels<'a>(
 {
     tables::fill::index16(parents);
     let mut level = tables::numbers::greatest(numbers);
+    let mut list = [0u16; Site::RADIOS as usize];
     let mut higher = [0u64; WORDS];
     let mut count: u32 = 0;
     while level > 0 {
@@ -260,7 +276,17 @@ fn take_levels<'a>(
         floods::level::at_least(numbers, level, &mut reach);
         let mut own = reach;
         sets::take_set(&higher, &mut own);
-        count = take_level(links, numbers, level, &own, &reach, parents, table, count);
+        count = take_level(
+            links,
+            numbers,
+            level,
+            &own,
+            &reach,
+            &mut list,
+            parents,
+            table,
+            count,
+        );
         higher = reach;
         level = levels::level_below(numbers, level);
     }

@@ -15,34 +15,46 @@ returns c =
     all-rows (start .args .links .now) (start .args .reach .now) (start .pre .1) _ _ _ (start .pre .2) (list-gone-at .list-gone .ensures) _
     (list-at .list .given)
 
-slice-aggregate-put-rows : tie.Need-slice-aggregate-put-rows
-slice-aggregate-put-rows c =
+slice-aggregate-put-radios : tie.Need-slice-aggregate-put-radios
+slice-aggregate-put-radios c =
     let list2-at = c .before .before in
     let list-gone2-at = list2-at .before in
     let start = list-gone2-at .before .before .before .before .before .before .before .before in
     sym (length-take-le _ _ (own-fits (start .args .links .now) _ (start .pre .0) _ _ _ (start .pre .2) (list-gone2-at .list-gone2 .ensures) (list2-at .list2 .given)))
 
-put-rows-requires : tie.Need-put-rows-requires
-put-rows-requires c κs =
+put-radios-requires : tie.Need-put-radios-requires
+put-radios-requires c κs =
     let list-gone2-at = c .before .before .before .before in
     let start = list-gone2-at .before .before .before .before .before .before .before .before in
     (refl, own-entries (start .args .links .now) (start .args .own .now) (start .pre .0) _ _ _ (start .pre .2) (list-gone2-at .list-gone2 .ensures))
 
+slice-aggregate-put-neighbours : tie.Need-slice-aggregate-put-neighbours
+slice-aggregate-put-neighbours c =
+    let list2-at = c .before .before .before .before .before .before in
+    let list-gone2-at = list2-at .before in
+    let start = list-gone2-at .before .before .before .before .before .before .before .before in
+    sym (length-take-le _ _ (own-fits (start .args .links .now) _ (start .pre .0) _ _ _ (start .pre .2) (list-gone2-at .list-gone2 .ensures) (list2-at .list2 .given)))
+
+put-neighbours-requires : tie.Need-put-neighbours-requires
+put-neighbours-requires c κs = c .before .before .set2 .given
+
 returns-2 : tie.Need-returns-2
 returns-2 c =
     let take-common-at = c .before .before .before in
-    let set2-at = take-common-at .before .before .before in
-    let put-rows-at = set2-at .before in
-    let list2-at = put-rows-at .before .before .before .before in
+    let set4-at = take-common-at .before .before .before in
+    let put-neighbours-at = set4-at .before in
+    let put-radios-at = put-neighbours-at .before .before .before .before in
+    let list2-at = put-radios-at .before .before .before .before in
     let list-gone2-at = list2-at .before in
     let start = list-gone2-at .before .before .before .before .before .before .before .before in
     level-rows (start .args .links .now) (start .args .own .now) (start .pre .0) _ _ _ (start .pre .2) (list-gone2-at .list-gone2 .ensures)
-    (start .args .reach .now) _ _ _ _ (start .pre .1) (set2-at .set2 .given) (list2-at .list2 .given ∙ start .pre .2)
-    (put-rows-at .put-rows .ensures) (take-common-at .take-common .ensures)
+    (start .args .reach .now) _ _ _ _ _ (start .pre .1) (set4-at .set4 .given) (list2-at .list2 .given ∙ start .pre .2)
+    (put-radios-at .put-radios .ensures) (put-neighbours-at .put-neighbours .ensures) (take-common-at .take-common .ensures)
 
 pub list-rows-spec : {M : Type 1} → statement M
 list-rows-spec =
     tie.close (
     tie.spec (λ c. search needs) (λ c κs. search needs) (λ c. search needs) (λ c. search needs) returns (λ c. search needs) (λ c κs. search needs)
-    (λ c. search needs) (λ c. search needs) slice-aggregate-put-rows (λ c. search needs) put-rows-requires (λ c. search needs) (λ c κs. search needs)
-    (λ c. search needs) returns-2)
+    (λ c. search needs) (λ c. search needs) slice-aggregate-put-radios (λ c. search needs) put-radios-requires (λ c. search needs)
+    slice-aggregate-put-neighbours (λ c. search needs) put-neighbours-requires (λ c. search needs) (λ c κs. search needs) (λ c. search needs)
+    returns-2)

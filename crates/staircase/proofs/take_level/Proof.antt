@@ -1,6 +1,5 @@
 -- `take_level` meets its contract: the links of the listed rows are the links of the level's weight.
-use mathlib.Core.Path.{refl, sym}
-use native.Mathlib.Omega.{arith}
+use mathlib.Core.Path.{sym}
 use lib.Seq.{length-take-le}
 use borrow.Author.Needs.{needs}
 use Rattle.staircase.proofs.LevelRows.{level-links, level-whole}
@@ -9,36 +8,34 @@ use Rattle.staircase.proofs.take_level.Tie as tie
 
 list-rows-requires : tie.Need-list-rows-requires
 list-rows-requires c κs =
-    let start = c .before .before .before .before .before .before .before in
-    (start .pre .2 .own-long, start .pre .2 .reach-long, refl)
+    let start = c .before .before .before .before .before .before .before .before in
+    (start .pre .2 .own-long, start .pre .2 .reach-long, start .pre .3)
 
-array-share-prefix-list : tie.Need-array-share-prefix-list
-array-share-prefix-list c =
-    let list-rows-at = c .before in
-    omega (arith, list-rows-at .list-rows .ensures .fits, c .list2 .given)
+slice-reshare-prefix-take-rows : tie.Need-slice-reshare-prefix-take-rows
+slice-reshare-prefix-take-rows c = c .before .before .list-rows .ensures .fits
 
 slice-aggregate-take-rows : tie.Need-slice-aggregate-take-rows
-slice-aggregate-take-rows c = sym (length-take-le _ _ (c .before .before .list-rows .ensures .fits))
+slice-aggregate-take-rows c = sym (length-take-le _ _ (c .before .before .before .list-rows .ensures .fits))
 
 take-rows-requires : tie.Need-take-rows-requires
 take-rows-requires c κs =
-    let list-rows-at = c .before .before .before .before in
-    let start = list-rows-at .before .before .before .before .before .before .before .before in
+    let list-rows-at = c .before .before .before .before .before in
+    let start = list-rows-at .before .before .before .before .before .before .before .before .before in
     let call = start .args in
     let pre = start .pre in
     let found = list-rows-at .list-rows .ensures in (
       level-whole (call .links .now) (call .numbers .now) (call .level) (pre .1) (pre .0) _ _ (pre .2) _ _ found,
       pre .2 .own-long,
       pre .2 .reach-long,
-      pre .3,
-      rw (level-links (call .links .now) (call .numbers .now) (call .level) (pre .1) (pre .0) _ _ (pre .2) _ _ found) (pre .4),
+      pre .4,
+      rw (level-links (call .links .now) (call .numbers .now) (call .level) (pre .1) (pre .0) _ _ (pre .2) _ _ found) (pre .5),
     )
 
 returns : tie.Need-returns
 returns c =
     let take-rows-at = c .before .before .before .before in
-    let list-rows-at = take-rows-at .before .before .before .before .before in
-    let start = list-rows-at .before .before .before .before .before .before .before .before in
+    let list-rows-at = take-rows-at .before .before .before .before .before .before in
+    let start = list-rows-at .before .before .before .before .before .before .before .before .before in
     let call = start .args in
     let pre = start .pre in
     rw (level-links (call .links .now) (call .numbers .now) (call .level) (pre .1) (pre .0) _ _ (pre .2) _ _ (list-rows-at .list-rows .ensures))
@@ -47,5 +44,5 @@ returns c =
 pub take-level-spec : {M : Type 1} → statement M
 take-level-spec =
     tie.close (
-    tie.spec (λ c. search needs) list-rows-requires array-share-prefix-list slice-aggregate-take-rows take-rows-requires (λ c. search needs)
+    tie.spec list-rows-requires slice-reshare-prefix-take-rows slice-aggregate-take-rows take-rows-requires (λ c. search needs) (λ c. search needs)
     (λ c. search needs) returns)

@@ -5,7 +5,7 @@ use Prim.Native.Nat.{_≤_}
 use native.Mathlib.Omega.{arith}
 use lib.ListN.{length}
 use borrow.Author.Needs.{needs}
-use Rattle.mesh.specs.Limits.{max-neighbours}
+use Rattle.mesh.specs.Limits.{max-radios, max-neighbours}
 use Rattle.mesh.specs.Staircase.{of-weight}
 use Rattle.link_list.specs.Links.{links-from}
 use Rattle.staircase.specs.Growing.{table-weight, levels-falling, greatest-below}
@@ -17,16 +17,17 @@ use Rattle.staircase.proofs.take_levels.Statement.{statement}
 use Rattle.staircase.proofs.take_levels.Tie as tie
 
 abbrev Inv-loop : tie.InvT-loop
-Inv-loop links numbers parents₀ table₀ level₀ higher₀ count₀ parents table level higher count =
+Inv-loop links numbers parents₀ table₀ level₀ list₀ higher₀ count₀ parents table level list higher count =
     (level ≤ max-neighbours)
     × (count₀ ≡ 0)
     × (length higher ≡ 8)
     × Above-set numbers level higher
+    × (length list ≡ max-radios)
     × Taking (levels-falling (table-weight numbers) level₀ (links-from (length numbers) links 0 0)) parents₀ table₀ count₀
     (levels-falling (table-weight numbers) level (links-from (length numbers) links 0 0)) parents table count
 
 abbrev μ-loop : tie.MeasureT-loop
-μ-loop links numbers parents₀ table₀ level₀ higher₀ count₀ parents table level higher count = level
+μ-loop links numbers parents₀ table₀ level₀ list₀ higher₀ count₀ parents table level list higher count = level
 
 loop-holds : tie.Need-loop-holds Inv-loop μ-loop
 loop-holds c =
@@ -39,13 +40,14 @@ loop-holds c =
       refl,
       refl,
       above-none (call .numbers .now) _ (c .greatest .ensures),
+      refl,
       taking-none _ _ _ _ _ refl (first-parents (call .numbers .now) _ _ (index16-at .index16 .ensures) (start .pre .0) (start .pre .1 .most))
           (levels-takeable (call .numbers .now) (call .links .now) _ _ (parents-at .parents .given ∙ start .pre .0) (start .pre .2) low),
     )
 
 take-level-requires : tie.Need-take-level-requires Inv-loop μ-loop
 take-level-requires c κs =
-    let own2-at = c .before .before .before .before in
+    let own2-at = c .before .before .before .before .before in
     let take-set-at = own2-at .before in
     let reach2-at = take-set-at .before .before .before in
     let at-least-at = reach2-at .before in
@@ -60,14 +62,15 @@ take-level-requires c κs =
       omega (arith, some),
       level-sets (call .numbers .now) k _ _ _ _ (at-loop .loop .inv .2) refl (reach2-at .reach2 .given) (own2-at .own2 .given) (at-loop .loop .inv .3)
           (at-least-at .at-least .ensures) (take-set-at .take-set .ensures),
-      at-loop .loop .inv .4 .parents,
+      at-loop .loop .inv .4,
+      at-loop .loop .inv .5 .parents,
       taking-front _ _ _ _ (of-weight (table-weight (call .numbers .now)) k ls) (levels-falling (table-weight (call .numbers .now)) (greatest-below k (call .numbers .now)) ls) _ _ _
-          (rw (levels-next (call .numbers .now) ls k some) at (at-loop .loop .inv .4)),
+          (rw (levels-next (call .numbers .now) ls k some) at (at-loop .loop .inv .5)),
     )
 
 loop-less : tie.Need-loop-less Inv-loop μ-loop
 loop-less c =
-    let turn = c .before .before .before .before .before .before .before .before .before .before .before .before .before .before .before .before .before in
+    let turn = c .before .before .before .before .before .before .before .before .before .before .before .before .before .before .before .before .before .before .before in
     let at-loop = turn .before in
     let start = at-loop .before .before .before .before .before .before .before .before .before .before in
     omega (arith, c .level-below .ensures, greatest-below-lt (at-loop .loop .level) (start .args .numbers .now) (turn .loop-test .taken))
@@ -76,8 +79,9 @@ loop-again : tie.Need-loop-again Inv-loop μ-loop
 loop-again c =
     let table-at = c .before .before in
     let parents2-at = table-at .before .before in
-    let take-level-at = parents2-at .before in
-    let reach2-at = take-level-at .before .before .before .before .before .before .before .before .before in
+    let list2-at = parents2-at .before in
+    let take-level-at = list2-at .before in
+    let reach2-at = take-level-at .before .before .before .before .before .before .before .before .before .before in
     let at-least-at = reach2-at .before in
     let turn = at-least-at .before .before in
     let at-loop = turn .before in
@@ -91,9 +95,10 @@ loop-again c =
       reach2-at .reach2 .given,
       above-next (call .numbers .now) k _ _ (c .level-below .ensures) (omega (arith, c .level-below .ensures, greatest-below-lt k (call .numbers .now) some))
           (at-least-at .at-least .ensures .radios refl),
+      list2-at .list2 .given,
       rw (c .level-below .ensures)
           (taking-part _ _ _ _ (of-weight (table-weight (call .numbers .now)) k ls) (levels-falling (table-weight (call .numbers .now)) (greatest-below k (call .numbers .now)) ls)
-          _ _ _ _ _ _ (rw (levels-next (call .numbers .now) ls k some) at (at-loop .loop .inv .4)) (take-level-at .take-level .ensures) (parents2-at .parents2 .given)
+          _ _ _ _ _ _ (rw (levels-next (call .numbers .now) ls k some) at (at-loop .loop .inv .5)) (take-level-at .take-level .ensures) (parents2-at .parents2 .given)
           (table-at .table .given)),
     )
 
@@ -101,10 +106,10 @@ same-length : tie.Need-same-length Inv-loop μ-loop
 same-length c =
     let at-loop = c .before in
     let parents-at = at-loop .before .before .before in
-    at-loop .loop .inv .4 .long ∙ parents-at .parents .given
+    at-loop .loop .inv .5 .long ∙ parents-at .parents .given
 
 same-length-2 : tie.Need-same-length-2 Inv-loop μ-loop
-same-length-2 c = c .before .loop .inv .4 .table
+same-length-2 c = c .before .loop .inv .5 .table
 
 returns : tie.Need-returns Inv-loop μ-loop
 returns c =
@@ -116,11 +121,11 @@ returns c =
     let ls = links-from (length (call .numbers .now)) (call .links .now) 0 0 in
     levels-all (call .numbers .now) _ _ (index16-at .index16 .ensures) (start .pre .0) (start .pre .1 .most) ls (call .table .now) _ _
     (greatest-at .greatest .ensures)
-    (taking-end _ _ _ _ _ _ _ _ (levels-none (table-weight (call .numbers .now)) ls (at-loop .loop .level) (omega (arith, c .loop-test .left))) (at-loop .loop .inv .4) .is)
+    (taking-end _ _ _ _ _ _ _ _ (levels-none (table-weight (call .numbers .now)) ls (at-loop .loop .level) (omega (arith, c .loop-test .left))) (at-loop .loop .inv .5) .is)
 
 pub take-levels-spec : {M : Type 1} → statement M
 take-levels-spec =
     tie.close (
     tie.spec Inv-loop μ-loop (λ c κs. search needs) (λ c κs. search needs) loop-holds (λ c. search needs) (λ c κs. search needs) (λ c. search needs)
-    (λ c. search needs) (λ c κs. search needs) (λ c. search needs) (λ c. search needs) take-level-requires (λ c κs. search needs) loop-less loop-again
-    same-length same-length-2 returns)
+    (λ c. search needs) (λ c κs. search needs) (λ c. search needs) (λ c. search needs) (λ c. search needs) take-level-requires (λ c κs. search needs)
+    loop-less loop-again same-length same-length-2 returns)
