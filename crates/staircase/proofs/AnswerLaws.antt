@@ -14,11 +14,15 @@ use Rattle.mesh.specs.Sound.{sound}
 use Rattle.calls.specs.Questions.{lengths-of, site-refusal, staircase-length, staircase-refusal}
 use Rattle.calls.specs.Contracts.Staircase.{Staircase-contract}
 use Rattle.link_list.specs.Links.{links-from, Rows-listed}
+use Rattle.mesh.proofs.Tables.Rows.{symmetric-of}
+use Rattle.mesh.proofs.Trees.Listed.{greatest-le}
+use Rattle.calls.proofs.SheetLaws.{numbers-two-digits}
 use Rattle.calls.proofs.ChainLaws.{Site-good, site-zero}
 use Rattle.calls.proofs.ContractLaws.{answer, listing-refused, listing-answered}
 use Rattle.soundness.proofs.SoundSite.{Sound-site, site-good-sound}
 use Rattle.link_list.proofs.GraphLinks.{rows-listed-few}
 use Rattle.staircase.specs.Growing.{growing, grown-all, table-weight, levels-falling}
+use Rattle.staircase.specs.Rows.{Mutual}
 use Rattle.staircase.proofs.LevelLaws.{staircase-count, staircase-table}
 
 module _ (n : ℕ) (t : Tables) (old : List ℕ) (q : ℕ) (asked : q ≡ site-refusal n (lengths-of t) (leb (2 * n) (length old)) (sound n t) 0) where
@@ -38,6 +42,14 @@ module _ (n : ℕ) (t : Tables) (old : List ℕ) (q : ℕ) (asked : q ≡ site-r
 
     pub staircase-rows : Rows-listed (length (t .numbers)) (t .links) max-neighbours
     staircase-rows = rw (site .numbers-long) (rows-listed-few n (t .links) (site .small) (site .links-long) max-neighbours (site .few))
+
+    pub staircase-mutual : Mutual (length (t .numbers)) (t .links)
+    staircase-mutual = rw (site .numbers-long)
+        (record { most = site .small; whole = omega (arith, site .links-long); both = λ a b la lb. symmetric-of n (t .links) (site .symmetric) a b la lb })
+
+    pub staircase-low : greatest (t .numbers) ≤ max-neighbours
+    staircase-low = greatest-le (t .numbers) max-neighbours
+        (λ v l. numbers-two-digits n t (site .numbers-long) (good .is-sound) (site .small) v (omega (arith, site .numbers-long)))
 
     pub staircase-answered : (labels table : List ℕ) (count : ℕ)
         → growing labels table count ≡ grown-all

@@ -1,7 +1,11 @@
--- For the proofs of the functions: one link taken, levels skipped, the loops; what is shown; levels on sound tables; the contract met.
-pub mod LinkLaws
+-- For the proofs of the functions: parts as parents, links taken, rows by words, the rows of a level, levels skipped, what is shown,
+-- levels on sound tables, the contract met.
+pub mod PartLaws
+pub mod TakingLaws
+pub mod RowLaws
+pub mod LevelRows
 pub mod SkipLaws
-pub mod LoopLaws
 pub mod Shows
+pub mod LevelsTaken
 pub mod LevelLaws
 pub mod AnswerLaws

@@ -9,7 +9,7 @@ use Prim.Native.Nat.{ℕ, zero, suc, _+_, _-_, _≤_, _<_, max}
 use native.Mathlib.Omega.{arith}
 use lib.Dec.{ltb, eqb}
 use native.Mathlib.Numerals.{add-one}
-use lib.ListN.{length, getD, drop, drop-of-length-le}
+use lib.ListN.{length, getD, drop, drop-of-length-le, List·getD-eq-default}
 use lib.Seq.{drop-cons}
 use borrow.Author.Tests.{ltb-true, ltb-false, lt-ltb, le-ltb, ne-eqb}
 use Rattle.mesh.specs.Graph.{Link}
@@ -18,6 +18,16 @@ use Rattle.lists.proofs.Tests.{bool-cases}
 use Rattle.mesh.proofs.Trees.Listed.{greatest-map-le}
 use Rattle.forests.proofs.Forests.{filter-links-none}
 use Rattle.staircase.specs.Growing.{table-weight, levels-falling, below, greatest-below}
+
+-- ---- numbers
+
+-- past the radios numbers read as 0
+pub number-radio : (ns : List ℕ) (v : ℕ) → 1 ≤ getD ns v 0 → v < length ns
+number-radio ns v h = go (bool-cases (ltb v (length ns)))
+  where
+    go : (ltb v (length ns) ≡ true) ⊎ (ltb v (length ns) ≡ false) → v < length ns
+    go (inl e) = ltb-true v (length ns) e
+    go (inr e) = absurd (omega (arith, List·getD-eq-default ns 0 {n = v} (ltb-false v (length ns) e)))
 
 -- ---- the greatest number below a level
 
@@ -44,7 +54,7 @@ greatest-below-lt zero ns h = absurd (omega arith)
 greatest-below-lt (suc w) ns h = omega (arith, greatest-below-less w ns)
 
 -- a number is at most that, or not below the level
-number-below : (w : ℕ) (ns : List ℕ) (v : ℕ) → (getD ns v 0 ≤ greatest-below w ns) ⊎ (w ≤ getD ns v 0)
+pub number-below : (w : ℕ) (ns : List ℕ) (v : ℕ) → (getD ns v 0 ≤ greatest-below w ns) ⊎ (w ≤ getD ns v 0)
 unfolding greatest
 number-below w [] v = inl (omega arith)
 number-below w (x ∷ xs) zero = go (bool-cases (ltb x w))

@@ -6,14 +6,15 @@
 --   levels-falling       the links by weight falling down to 1: every link of a sound site weighs something
 --   greatest-below w ns  the greatest number below w, 0 where there is none
 --   most-taken           more than are taken on all levels together, whatever the tables hold
+--   Takeable             what taking links wants of them and of the count
 -- That on sound tables what grows is the staircase tree is `staircase-table` in proofs/LevelLaws.antt. Definitions only.
 use mathlib.Core.Bool.{cond}
 use mathlib.Core.List.{List, [], _∷_, _++_, map}
-use Prim.Native.Nat.{ℕ, zero, suc, _+_, _*_, min, max}
+use Prim.Native.Nat.{ℕ, zero, suc, _+_, _*_, _≤_, _<_, min, max}
 use lib.Dec.{eqb, ltb}
-use lib.ListN.{getD, set}
-use Rattle.mesh.specs.Limits.{max-radios, max-neighbours}
-use Rattle.mesh.specs.Graph.{Link}
+use lib.ListN.{length, getD, set}
+use Rattle.mesh.specs.Limits.{max-radios}
+use Rattle.mesh.specs.Graph.{Link, In-links}
 use Rattle.mesh.specs.Connected.{greatest}
 use Rattle.mesh.specs.Sound.{number-in}
 use Rattle.mesh.specs.Staircase.{of-weight}
@@ -61,6 +62,13 @@ below w x = cond (ltb x w) x 0
 abbrev pub greatest-below : (w : ℕ) → (numbers : List ℕ) → ℕ
 greatest-below w ns = greatest (map (below w) ns)
 
--- a number is a byte, and a level has at most as many links as all rows have places
+-- a number is a byte, and a row has at most as many links as there are radios
 abbrev pub most-taken : ℕ
-most-taken = 256 * (max-neighbours * max-radios)
+most-taken = 256 * (max-radios * max-radios)
+
+-- ---- what is required
+
+-- both ends are of n radios, and all of them may still be counted
+pub record Takeable (n : ℕ) (ls : List Link) (count : ℕ) : Type 0 where
+  pub inside : (l : Link) → In-links l ls → (l .low < n) × (l .high < n)
+  pub few : count + length ls ≤ most-taken

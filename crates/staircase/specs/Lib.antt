@@ -1,2 +1,4 @@
--- What grows while links are taken; for the contracts of private functions.
+-- For the contracts of private functions: what grows while links are taken, the parts that kept links join, the rows of a level.
 pub mod Growing
+pub mod Parts
+pub mod Rows

@@ -1,14 +1,6 @@
 // Levels: a link's weight is the smaller of its ends' numbers, so only levels that some radio has hold links. Nothing is refused.
 ghost use mathlib.Core.Path.{_≡_};
-ghost use Prim.Native.Nat.{min};
 ghost use Rattle.staircase.specs.Growing.{below, greatest-below};
-
-// The smaller of two numbers.
-pub fn smaller(x: u8, y: u8) -> u8
-    ensures { λ r. ⌜ r ≡ min x y ⌝ }
-{
-    if x < y { x } else { y }
-}
 
 // The number x where it is below the level; else 0.
 fn number_below(x: u8, level: u8) -> u8

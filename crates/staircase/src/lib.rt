@@ -1,159 +1,293 @@
 // The staircase tree: links are taken by weight falling, then lower radio, then higher radio, and one is kept when the kept ones do
-// not yet join its ends. Level by level, row by row; a label for each radio tells which are joined.
+// not yet join its ends. Level by level, by words: only the rows that have a link of the level are gone over, and of these only the
+// links of the level. Parents tell which radios are joined.
 ghost use mathlib.Core.Path.{_≡_};
-ghost use mathlib.Core.List.{[], _∷_};
+ghost use mathlib.Core.List.{[], _∷_, flatMap};
 ghost use Prim.Native.Nat.{_+_, _*_, _≤_, _<_};
 ghost use lib.ListN.{length};
-ghost use Rattle.lists.specs.Lists.{range};
-ghost use Rattle.mesh.specs.Limits.{max-radios, max-neighbours};
+ghost use Rattle.lists.specs.Lists.{range, filter, Entries-below};
+ghost use Rattle.mesh.specs.Limits.{max-radios, max-neighbours, row-bytes};
 ghost use Rattle.mesh.specs.Graph.{link-of};
 ghost use Rattle.mesh.specs.Tables.{lent};
 ghost use Rattle.mesh.specs.Connected.{greatest};
 ghost use Rattle.mesh.specs.Staircase.{of-weight};
 ghost use Rattle.calls.specs.Contracts.Staircase.{Staircase-contract};
-ghost use Rattle.link_list.specs.Links.{links-to, links-above, links-from, Rows-listed};
-ghost use Rattle.staircase.specs.Growing.{growing, table-weight, grown-one, grown-all, levels-falling, most-taken};
+ghost use Rattle.rows.specs.Rows.{row-from, set-bits};
+ghost use Rattle.sets.specs.Sets.{in-set};
+ghost use Rattle.link_list.specs.Links.{links-to, links-from, Rows-listed};
+ghost use Rattle.staircase.specs.Growing.{growing, table-weight, grown-all, levels-falling, Takeable};
+ghost use Rattle.staircase.specs.Parts.{Parents, roots, Rooted, Taken};
+ghost use Rattle.staircase.specs.Rows.{row-among, level-row, Rows-whole, Radios-put, Neighbours-put, Level-sets, Level-rows, Mutual};
 use calls::Value;
 use mesh::Site;
 
 mod labels;
 mod levels;
 
-// Takes the link a-b: where the labels of its ends differ it comes behind the first `count` links of the table, and both parts get
-// the lower label. Comes back with the count after.
-fn take_link(a: u16, b: u16, labels: &mut [u16], table: &mut [u16], count: u32) -> u32
-    requires { ⌜ (a < length (now labels)) × (b < length (now labels)) × (count < most-taken) ⌝ }
-    ensures few { λ r. ⌜ r ≤ count + 1 ⌝ }
-    ensures taken { λ r. ⌜ growing (now (labels .exit)) (now (table .exit)) r
-        ≡ grown-one (link-of a b) (growing (now (labels .entry)) (now (table .entry)) count) ⌝ }
+// The words of a set.
+const WORDS: usize = rows::ROW_WORDS as usize;
+
+// The lowest radio of v's part. On the way radios get their parent's parent as parent, which makes later ways shorter.
+fn root(parents: &mut [u16], v: u16) -> u16
+    requires { ⌜ Parents (now parents) × (v < length (now parents)) ⌝ }
+    ensures { λ r. ⌜ Rooted (now (parents .entry)) v (now (parents .exit)) r ⌝ }
 {
-    let x = labels[a as usize];
-    let y = labels[b as usize];
+    let mut x = v;
+    while parents[x as usize] != x {
+        let up = parents[parents[x as usize] as usize];
+        parents[x as usize] = up;
+        x = up;
+    }
+    x
+}
+
+// Takes the link a-b: where its ends are of different parts it comes behind the first `count` links of the table, and the parts are
+// one. Comes back with the count after. Ends with one parent are of one part, as most are on a dense site.
+fn take_link(a: u16, b: u16, parents: &mut [u16], table: &mut [u16], count: u32) -> u32
+    requires { ⌜ Parents (now parents) × Takeable (length (now parents)) (link-of a b ∷ []) count ⌝ }
+    ensures { λ r. ⌜ Taken (link-of a b ∷ []) (now (parents .entry)) (now (table .entry)) count (now (parents .exit)) (now (table .exit)) r ⌝ }
+{
+    if parents[a as usize] == parents[b as usize] {
+        return count;
+    }
+    let x = root(parents, a);
+    let y = root(parents, b);
     if x == y {
         return count;
     }
     let at = 2 * count as usize;
     tables::fill::put16(table, at, a);
     tables::fill::put16(table, at + 1, b);
-    labels::relabel(labels, labels::lower(x, y), labels::higher(x, y));
+    parents[labels::higher(x, y) as usize] = labels::lower(x, y);
     count + 1
 }
 
-// Takes the link a-b where its weight is the level.
-fn take_end(
-    numbers: &[u8],
-    level: u8,
+// Takes the links of a to the radios that a word marks, from radio `first` on.
+fn take_bits(
     a: u16,
-    b: u16,
-    labels: &mut [u16],
+    first: u32,
+    word: u64,
+    parents: &mut [u16],
     table: &mut [u16],
     count: u32,
 ) -> u32
-    requires { ⌜ (a < length (now numbers)) × (length (now labels) ≡ length (now numbers)) × (1 ≤ level) × (count < most-taken) ⌝ }
-    ensures few { λ r. ⌜ r ≤ count + 1 ⌝ }
-    ensures taken { λ r. ⌜ growing (now (labels .exit)) (now (table .exit)) r
-        ≡ grown-all (of-weight (table-weight (now (numbers .entry))) level (link-of a b ∷ []))
-        (growing (now (labels .entry)) (now (table .entry)) count) ⌝ }
+    requires { ⌜ (first ≤ max-radios) × Parents (now parents) × Takeable (length (now parents)) (links-to a (set-bits 64 first word)) count ⌝ }
+    ensures { λ r. ⌜ Taken (links-to a (set-bits 64 first word)) (now (parents .entry)) (now (table .entry)) count
+        (now (parents .exit)) (now (table .exit)) r ⌝ }
 {
-    if numbers.len() <= b as usize {
-        return count;
+    let mut c = count;
+    let mut rest = word;
+    while rest != 0 {
+        let b = (first + u64::trailing_zeros(rest)) as u16;
+        c = take_link(a, b, parents, table, c);
+        rest = rest & (rest - 1);
     }
-    if levels::smaller(numbers[a as usize], numbers[b as usize]) != level {
-        return count;
-    }
-    take_link(a, b, labels, table, count)
+    c
 }
 
-// Does so with the links of a to the listed radios, in turn.
-fn take_row<'a>(
-    numbers: &'a [u8],
-    level: u8,
+// Takes the links of a to the radios of the set that its row marks from word `from` on. Past the words that have radios there are none.
+fn take_words<'a>(
+    links: &'a [u8],
+    set: &'a [u64],
     a: u16,
-    ends: &'a [u16],
-    labels: &mut [u16],
+    from: u32,
+    parents: &mut [u16],
     table: &mut [u16],
     count: u32,
 ) -> u32
-    requires { ⌜ (a < length (now numbers)) × (length (now labels) ≡ length (now numbers)) × (1 ≤ level) ×
-        (count + length (now ends) ≤ most-taken) ⌝ }
-    ensures few { λ r. ⌜ r ≤ count + length (now (ends .entry)) ⌝ }
-    ensures taken { λ r. ⌜ growing (now (labels .exit)) (now (table .exit)) r
-        ≡ grown-all (of-weight (table-weight (now (numbers .entry))) level (links-to a (now (ends .entry))))
-        (growing (now (labels .entry)) (now (table .entry)) count) ⌝ }
+    requires { ⌜ (a < max-radios) × (from ≤ 8) × (row-bytes * a + row-bytes ≤ length (now links)) × (length (now set) ≡ 8) × Parents (now parents) ×
+        Takeable (length (now parents)) (links-to a (filter (in-set (now set)) (row-from (now links) a from))) count ⌝ }
+    ensures { λ r. ⌜ Taken (links-to a (filter (in-set (now (set .entry))) (row-from (now (links .entry)) a from)))
+        (now (parents .entry)) (now (table .entry)) count (now (parents .exit)) (now (table .exit)) r ⌝ }
+{
+    let start = Site::ROW_BYTES * a as usize;
+    let row = &links[start..start + Site::ROW_BYTES];
+    let words = tables::fill::least(WORDS, parents.len() / rows::WORD_BITS as usize + 1) as u32;
+    let mut c = count;
+    let mut k = from;
+    while k < words {
+        let word = rows::word_of(row, k) & set[k as usize];
+        c = take_bits(a, rows::WORD_BITS * k, word, parents, table, c);
+        k += 1;
+    }
+    c
+}
+
+// Takes the links of a to the radios of the set above it: the bits up to its own are shifted out of its word.
+fn take_row<'a>(
+    links: &'a [u8],
+    set: &'a [u64],
+    a: u16,
+    parents: &mut [u16],
+    table: &mut [u16],
+    count: u32,
+) -> u32
+    requires { ⌜ (a < max-radios) × (row-bytes * a + row-bytes ≤ length (now links)) × (length (now set) ≡ 8) × Parents (now parents) ×
+        Takeable (length (now parents)) (row-among (now links) (now set) a) count ⌝ }
+    ensures { λ r. ⌜ Taken (row-among (now (links .entry)) (now (set .entry)) a) (now (parents .entry)) (now (table .entry)) count
+        (now (parents .exit)) (now (table .exit)) r ⌝ }
+{
+    let start = Site::ROW_BYTES * a as usize;
+    let row = &links[start..start + Site::ROW_BYTES];
+    let k = a as u32 / rows::WORD_BITS;
+    let word = (rows::word_of(row, k) & set[k as usize]) >> (a as u32 % rows::WORD_BITS) >> 1;
+    let c = take_bits(a, a as u32 + 1, word, parents, table, count);
+    take_words(links, set, a, k + 1, parents, table, c)
+}
+
+// Takes the links of the level of a to radios above it. `own` are the radios of the level, `reach` these and the ones of higher levels.
+fn take_radio<'a>(
+    links: &'a [u8],
+    own: &'a [u64],
+    reach: &'a [u64],
+    a: u16,
+    parents: &mut [u16],
+    table: &mut [u16],
+    count: u32,
+) -> u32
+    requires { ⌜ (a < max-radios) × (row-bytes * a + row-bytes ≤ length (now links)) × (length (now own) ≡ 8) × (length (now reach) ≡ 8) ×
+        Parents (now parents) × Takeable (length (now parents)) (level-row (now links) (now own) (now reach) a) count ⌝ }
+    ensures { λ r. ⌜ Taken (level-row (now (links .entry)) (now (own .entry)) (now (reach .entry)) a) (now (parents .entry)) (now (table .entry)) count
+        (now (parents .exit)) (now (table .exit)) r ⌝ }
+{
+    if sets::is_in(own, a as u32) {
+        return take_row(links, reach, a, parents, table, count);
+    }
+    take_row(links, own, a, parents, table, count)
+}
+
+// Does so with the listed radios, in turn.
+fn take_rows<'a>(
+    links: &'a [u8],
+    own: &'a [u64],
+    reach: &'a [u64],
+    list: &'a [u16],
+    parents: &mut [u16],
+    table: &mut [u16],
+    count: u32,
+) -> u32
+    requires { ⌜ Rows-whole (now links) (now list) × (length (now own) ≡ 8) × (length (now reach) ≡ 8) × Parents (now parents) ×
+        Takeable (length (now parents)) (flatMap (level-row (now links) (now own) (now reach)) (now list)) count ⌝ }
+    ensures { λ r. ⌜ Taken (flatMap (level-row (now (links .entry)) (now (own .entry)) (now (reach .entry))) (now (list .entry)))
+        (now (parents .entry)) (now (table .entry)) count (now (parents .exit)) (now (table .exit)) r ⌝ }
 {
     let mut c = count;
     let mut i: usize = 0;
-    while i < ends.len() {
-        c = take_end(numbers, level, a, ends[i], labels, table, c);
+    while i < list.len() {
+        c = take_radio(links, own, reach, list[i], parents, table, c);
         i += 1;
     }
     c
 }
 
-// Does so with the links of a to radios above it. A radio below the level has none of its weight.
-fn take_radio<'a>(
-    links: &'a [u8],
-    numbers: &'a [u8],
-    level: u8,
-    a: u16,
-    labels: &mut [u16],
-    table: &mut [u16],
-    count: u32,
-) -> u32
-    requires { ⌜ (a < length (now numbers)) × (length (now labels) ≡ length (now numbers)) × (1 ≤ level) ×
-        Rows-listed (length (now numbers)) (now links) max-neighbours × (count + max-neighbours ≤ most-taken) ⌝ }
-    ensures few { λ r. ⌜ r ≤ count + max-neighbours ⌝ }
-    ensures taken { λ r. ⌜ growing (now (labels .exit)) (now (table .exit)) r
-        ≡ grown-all (of-weight (table-weight (now (numbers .entry))) level (links-above (now (links .entry)) a))
-        (growing (now (labels .entry)) (now (table .entry)) count) ⌝ }
+// Puts the listed radios into the set.
+fn put_radios(list: &[u16], set: &mut [u64])
+    requires { ⌜ (length (now set) ≡ 8) × Entries-below max-radios (now list) ⌝ }
+    ensures { λ _. ⌜ Radios-put (now (list .entry)) (now (set .exit)) ⌝ }
 {
-    if numbers[a as usize] < level {
-        return count;
+    let mut i: usize = 0;
+    while i < list.len() {
+        sets::put_in(set, list[i] as u32);
+        i += 1;
     }
-    let mut near = [0u16; Site::NEIGHBOURS as usize];
-    let k = rows::row_above(links, a as u32, &mut near) as usize;
-    take_row(numbers, level, a, &near[..k], labels, table, count)
 }
 
-// One level: each radio in turn.
+// Puts the neighbours of the listed radios into the set. A loop of its own: a word written by `put_radios` would hold up the pairs of
+// words that are read here.
+fn put_neighbours<'a>(links: &'a [u8], list: &'a [u16], set: &mut [u64])
+    requires { ⌜ length (now set) ≡ 8 ⌝ }
+    ensures { λ _. ⌜ Neighbours-put (now (links .entry)) (now (list .entry)) (now (set .entry)) (now (set .exit)) ⌝ }
+{
+    let mut i: usize = 0;
+    while i < list.len() {
+        sets::join_row(links, list[i] as u32, set);
+        i += 1;
+    }
+}
+
+// Lists the rows that may have a link of the level: the radios of the level, and of `reach` their neighbours. Comes back with how many
+// these are. At the first level reach has the radios of the level alone, and no rows need be joined.
+fn list_rows<'a>(
+    links: &'a [u8],
+    own: &'a [u64],
+    reach: &'a [u64],
+    first: bool,
+    list: &mut [u16],
+) -> usize
+    requires { ⌜ (length (now own) ≡ 8) × (length (now reach) ≡ 8) × (length (now list) ≡ max-radios) ⌝ }
+    ensures { λ r. ⌜ Level-rows (now (links .entry)) (now (own .entry)) (now (reach .entry)) r (now (list .exit)) ⌝ }
+{
+    let none = [0u64; WORDS];
+    if first {
+        return sets::list_gone(reach, &none, list) as usize;
+    }
+    let many = sets::list_gone(own, &none, list) as usize;
+    let mut set = [0u64; WORDS];
+    put_radios(&list[..many], &mut set);
+    put_neighbours(links, &list[..many], &mut set);
+    sets::take_common(reach, &mut set, list)
+}
+
+// One level: the rows that have a link of it, in turn. `own` are the radios of the level, `reach` these and the ones of higher levels.
+// The list holds anything after.
 fn take_level<'a>(
     links: &'a [u8],
     numbers: &'a [u8],
     level: u8,
-    labels: &mut [u16],
+    own: &'a [u64],
+    reach: &'a [u64],
+    list: &mut [u16],
+    parents: &mut [u16],
     table: &mut [u16],
     count: u32,
 ) -> u32
-    requires { ⌜ (length (now labels) ≡ length (now numbers)) × (1 ≤ level) ×
-        Rows-listed (length (now numbers)) (now links) max-neighbours × (count + max-neighbours * max-radios ≤ most-taken) ⌝ }
-    ensures few { λ r. ⌜ r ≤ count + max-neighbours * max-radios ⌝ }
-    ensures taken { λ r. ⌜ growing (now (labels .exit)) (now (table .exit)) r
-        ≡ grown-all (of-weight (table-weight (now (numbers .entry))) level (links-from (length (now (numbers .entry))) (now (links .entry)) 0 0))
-        (growing (now (labels .entry)) (now (table .entry)) count) ⌝ }
+    requires { ⌜ Mutual (length (now numbers)) (now links) × (1 ≤ level) × Level-sets (now numbers) level (now own) (now reach) ×
+        (length (now list) ≡ max-radios) × Parents (now parents) ×
+        Takeable (length (now parents)) (of-weight (table-weight (now numbers)) level (links-from (length (now numbers)) (now links) 0 0)) count ⌝ }
+    ensures { λ r. ⌜ Taken (of-weight (table-weight (now (numbers .entry))) level (links-from (length (now (numbers .entry))) (now (links .entry)) 0 0))
+        (now (parents .entry)) (now (table .entry)) count (now (parents .exit)) (now (table .exit)) r ⌝ }
 {
-    let mut c = count;
-    let mut v: usize = 0;
-    while v < numbers.len() {
-        c = take_radio(links, numbers, level, v as u16, labels, table, c);
-        v += 1;
-    }
-    c
+    let many = list_rows(links, own, reach, count == 0, list);
+    take_rows(links, own, reach, &list[..many], parents, table, count)
 }
 
 // All levels, from the greatest number down; levels that no radio has are skipped. The kept links stand in front of the table after;
-// comes back with their count. `labels` holds anything.
-fn take_levels<'a>(links: &'a [u8], numbers: &'a [u8], labels: &mut [u16], table: &mut [u16]) -> u32
-    requires { ⌜ (length (now labels) ≡ length (now numbers)) × Rows-listed (length (now numbers)) (now links) max-neighbours ⌝ }
-    ensures { λ r. ⌜ growing (now (labels .exit)) (now (table .exit)) r
+// comes back with their count. `parents` holds anything.
+fn take_levels<'a>(
+    links: &'a [u8],
+    numbers: &'a [u8],
+    parents: &mut [u16],
+    table: &mut [u16],
+) -> u32
+    requires { ⌜ (length (now parents) ≡ length (now numbers)) × Mutual (length (now numbers)) (now links) ×
+        Rows-listed (length (now numbers)) (now links) max-neighbours × (greatest (now numbers) ≤ max-neighbours) ⌝ }
+    ensures { λ r. ⌜ growing (roots (now (parents .exit))) (now (table .exit)) r
         ≡ grown-all (levels-falling (table-weight (now (numbers .entry))) (greatest (now (numbers .entry)))
         (links-from (length (now (numbers .entry))) (now (links .entry)) 0 0))
         (growing (range 0 (length (now (numbers .entry)))) (now (table .entry)) 0) ⌝ }
 {
-    tables::fill::index16(labels);
+    tables::fill::index16(parents);
     let mut level = tables::numbers::greatest(numbers);
+    let mut list = [0u16; Site::RADIOS as usize];
+    let mut higher = [0u64; WORDS];
     let mut count: u32 = 0;
     while level > 0 {
-        count = take_level(links, numbers, level, labels, table, count);
+        let mut reach = [0u64; WORDS];
+        floods::level::at_least(numbers, level, &mut reach);
+        let mut own = reach;
+        sets::take_set(&higher, &mut own);
+        count = take_level(
+            links,
+            numbers,
+            level,
+            &own,
+            &reach,
+            &mut list,
+            parents,
+            table,
+            count,
+        );
+        higher = reach;
         level = levels::level_below(numbers, level);
     }
     count
@@ -177,10 +311,10 @@ pub fn staircase<'a>(
             value: 0,
         };
     }
-    let mut labels = [0u16; Site::RADIOS as usize];
+    let mut parents = [0u16; Site::RADIOS as usize];
     let k = numbers.len();
     Value {
         number: 0,
-        value: take_levels(links, numbers, &mut labels[..k], table),
+        value: take_levels(links, numbers, &mut parents[..k], table),
     }
 }

@@ -1,11 +1,10 @@
 -- `staircase` meets its contract: refused, the table is untouched; else the tables are sound, and what grows is the staircase tree.
 use mathlib.Core.Path.{sym}
-use native.Mathlib.Omega.{arith}
 use lib.ListN.{length}
 use lib.Seq.{length-take-le}
 use borrow.Author.Needs.{needs}
 use Rattle.mesh.specs.Tables.{tables}
-use Rattle.staircase.proofs.AnswerLaws.{staircase-refused, staircase-small, staircase-rows, staircase-answered}
+use Rattle.staircase.proofs.AnswerLaws.{staircase-refused, staircase-small, staircase-mutual, staircase-rows, staircase-low, staircase-answered}
 use Rattle.staircase.proofs.staircase.Statement.{statement}
 use Rattle.staircase.proofs.staircase.Tie as tie
 
@@ -15,7 +14,7 @@ returns c =
     let t = tables (call .links .now) (call .numbers .now) (call .order .now) in
     staircase-refused (call .n) t (call .table .now) _ (c .before .refusal .ensures) (c .if1 .taken)
 
-prefix : tie.Need-array-borrow-prefix-labels
+prefix : tie.Need-array-borrow-prefix-parents
 prefix c =
     let call = c .before .before .before .before .before .before .args in
     let t = tables (call .links .now) (call .numbers .now) (call .order .now) in
@@ -36,7 +35,9 @@ take-levels-requires c κs =
     let t = tables (call .links .now) (call .numbers .now) (call .order .now) in
     let small = staircase-small (call .n) t (call .table .now) _ (asked .before .refusal .ensures) (asked .if1 .left) in (
       length-take-le (length (call .numbers .now)) _ small,
+      staircase-mutual (call .n) t (call .table .now) _ (asked .before .refusal .ensures) (asked .if1 .left),
       staircase-rows (call .n) t (call .table .now) _ (asked .before .refusal .ensures) (asked .if1 .left),
+      staircase-low (call .n) t (call .table .now) _ (asked .before .refusal .ensures) (asked .if1 .left),
     )
 
 returns-2 : tie.Need-returns-2

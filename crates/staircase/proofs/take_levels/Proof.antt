@@ -1,72 +1,131 @@
--- `take_levels` meets its contract: the levels from this one down give, from what is so far, what all of them give (`Levels-taking`); the
--- next one is the greatest number below. The measure is the level.
+-- `take_levels` meets its contract: the levels from this one down give what all of them give (`Taking`), and the radios of the levels
+-- above are in a set; the next level is the greatest number below. The measure is the level.
 use mathlib.Core.Path.{_≡_, refl, _∙_}
-use Prim.Native.Nat.{_<_}
+use Prim.Native.Nat.{_≤_}
 use native.Mathlib.Omega.{arith}
 use lib.ListN.{length}
 use borrow.Author.Needs.{needs}
+use Rattle.mesh.specs.Limits.{max-radios, max-neighbours}
+use Rattle.mesh.specs.Staircase.{of-weight}
 use Rattle.link_list.specs.Links.{links-from}
-use Rattle.staircase.specs.Growing.{growing}
+use Rattle.staircase.specs.Growing.{table-weight, levels-falling, greatest-below}
 use Rattle.staircase.proofs.SkipLaws.{greatest-below-lt}
-use Rattle.staircase.proofs.LoopLaws.{Levels-taking, levels-taking-none, levels-taking-turn, levels-taking-end, levels-taking-all}
+use Rattle.staircase.proofs.LevelRows.{Above-set, above-none, above-next, level-sets}
+use Rattle.staircase.proofs.TakingLaws.{Taking, taking-none, taking-front, taking-part, taking-end}
+use Rattle.staircase.proofs.LevelsTaken.{levels-next, levels-none, levels-takeable, first-parents, levels-all}
 use Rattle.staircase.proofs.take_levels.Statement.{statement}
 use Rattle.staircase.proofs.take_levels.Tie as tie
 
 abbrev Inv-loop : tie.InvT-loop
-Inv-loop links numbers labels₀ table₀ level₀ count₀ labels table level count =
-    Levels-taking numbers (links-from (length numbers) links 0 0) level₀ (growing labels₀ table₀ count₀) level (growing labels table count)
-    × (level₀ < 256) × (count₀ ≡ 0)
+Inv-loop links numbers parents₀ table₀ level₀ list₀ higher₀ count₀ parents table level list higher count =
+    (level ≤ max-neighbours)
+    × (count₀ ≡ 0)
+    × (length higher ≡ 8)
+    × Above-set numbers level higher
+    × (length list ≡ max-radios)
+    × Taking (levels-falling (table-weight numbers) level₀ (links-from (length numbers) links 0 0)) parents₀ table₀ count₀
+    (levels-falling (table-weight numbers) level (links-from (length numbers) links 0 0)) parents table count
 
 abbrev μ-loop : tie.MeasureT-loop
-μ-loop links numbers labels₀ table₀ level₀ count₀ labels table level count = level
+μ-loop links numbers parents₀ table₀ level₀ list₀ higher₀ count₀ parents table level list higher count = level
+
+loop-holds : tie.Need-loop-holds Inv-loop μ-loop
+loop-holds c =
+    let parents-at = c .before .before in
+    let index16-at = parents-at .before in
+    let start = index16-at .before .before .before .before .before .before in
+    let call = start .args in
+    let low : c .greatest .result ≤ max-neighbours = omega (arith, c .greatest .ensures, start .pre .3) in (
+      low,
+      refl,
+      refl,
+      above-none (call .numbers .now) _ (c .greatest .ensures),
+      refl,
+      taking-none _ _ _ _ _ refl (first-parents (call .numbers .now) _ _ (index16-at .index16 .ensures) (start .pre .0) (start .pre .1 .most))
+          (levels-takeable (call .numbers .now) (call .links .now) _ _ (parents-at .parents .given ∙ start .pre .0) (start .pre .2) low),
+    )
 
 take-level-requires : tie.Need-take-level-requires Inv-loop μ-loop
 take-level-requires c κs =
-    let test = c .before .before in
-    let at-loop = test .before in
-    let labelled = at-loop .before .before .before in
-    let start = labelled .before .before .before .before .before .before .before in
-    let inv = at-loop .loop .inv in (
-      inv .0 .labels-long ∙ labelled .labels .given ∙ start .pre .0,
-      omega (arith, test .loop-test .taken),
+    let own2-at = c .before .before .before .before .before in
+    let take-set-at = own2-at .before in
+    let reach2-at = take-set-at .before .before .before in
+    let at-least-at = reach2-at .before in
+    let turn = at-least-at .before .before in
+    let at-loop = turn .before in
+    let start = at-loop .before .before .before .before .before .before .before .before .before .before in
+    let call = start .args in
+    let k = at-loop .loop .level in
+    let ls = links-from (length (call .numbers .now)) (call .links .now) 0 0 in
+    let some = turn .loop-test .taken in (
       start .pre .1,
-      omega (arith, inv .0 .few, inv .0 .low, inv .1, inv .2, test .loop-test .taken),
+      omega (arith, some),
+      level-sets (call .numbers .now) k _ _ _ _ (at-loop .loop .inv .2) refl (reach2-at .reach2 .given) (own2-at .own2 .given) (at-loop .loop .inv .3)
+          (at-least-at .at-least .ensures) (take-set-at .take-set .ensures),
+      at-loop .loop .inv .4,
+      at-loop .loop .inv .5 .parents,
+      taking-front _ _ _ _ (of-weight (table-weight (call .numbers .now)) k ls) (levels-falling (table-weight (call .numbers .now)) (greatest-below k (call .numbers .now)) ls) _ _ _
+          (rw (levels-next (call .numbers .now) ls k some) at (at-loop .loop .inv .5)),
     )
 
 loop-less : tie.Need-loop-less Inv-loop μ-loop
 loop-less c =
-    let test = c .before .before .before .before .before .before .before .before in
-    let at-loop = test .before in
-    let call = at-loop .before .before .before .before .before .before .before .before .before .before .args in
-    omega (arith, c .level-below .ensures, greatest-below-lt (at-loop .loop .level) (call .numbers .now) (test .loop-test .taken))
+    let turn = c .before .before .before .before .before .before .before .before .before .before .before .before .before .before .before .before .before .before .before in
+    let at-loop = turn .before in
+    let start = at-loop .before .before .before .before .before .before .before .before .before .before in
+    omega (arith, c .level-below .ensures, greatest-below-lt (at-loop .loop .level) (start .args .numbers .now) (turn .loop-test .taken))
 
 loop-again : tie.Need-loop-again Inv-loop μ-loop
 loop-again c =
-    let taken = c .before .before .before .before .before in
-    let test = taken .before .before .before in
-    let at-loop = test .before in
-    let inv = at-loop .loop .inv in (
-      levels-taking-turn _ _ _ _ (at-loop .loop .level) _ (growing (at-loop .loop .labels) (at-loop .loop .table) (at-loop .loop .count)) _
-          (test .loop-test .taken) (c .level-below .ensures) (search needs) (search needs) (taken .take-level .ensures .0) (taken .take-level .ensures .1)
-          (inv .0),
-      inv .1,
-      inv .2,
+    let table-at = c .before .before in
+    let parents2-at = table-at .before .before in
+    let list2-at = parents2-at .before in
+    let take-level-at = list2-at .before in
+    let reach2-at = take-level-at .before .before .before .before .before .before .before .before .before .before in
+    let at-least-at = reach2-at .before in
+    let turn = at-least-at .before .before in
+    let at-loop = turn .before in
+    let start = at-loop .before .before .before .before .before .before .before .before .before .before in
+    let call = start .args in
+    let k = at-loop .loop .level in
+    let ls = links-from (length (call .numbers .now)) (call .links .now) 0 0 in
+    let some = turn .loop-test .taken in (
+      omega (arith, c .level-below .ensures, greatest-below-lt k (call .numbers .now) some, at-loop .loop .inv .0),
+      at-loop .loop .inv .1,
+      reach2-at .reach2 .given,
+      above-next (call .numbers .now) k _ _ (c .level-below .ensures) (omega (arith, c .level-below .ensures, greatest-below-lt k (call .numbers .now) some))
+          (at-least-at .at-least .ensures .radios refl),
+      list2-at .list2 .given,
+      rw (c .level-below .ensures)
+          (taking-part _ _ _ _ (of-weight (table-weight (call .numbers .now)) k ls) (levels-falling (table-weight (call .numbers .now)) (greatest-below k (call .numbers .now)) ls)
+          _ _ _ _ _ _ (rw (levels-next (call .numbers .now) ls k some) at (at-loop .loop .inv .5)) (take-level-at .take-level .ensures) (parents2-at .parents2 .given)
+          (table-at .table .given)),
     )
+
+same-length : tie.Need-same-length Inv-loop μ-loop
+same-length c =
+    let at-loop = c .before in
+    let parents-at = at-loop .before .before .before in
+    at-loop .loop .inv .5 .long ∙ parents-at .parents .given
+
+same-length-2 : tie.Need-same-length-2 Inv-loop μ-loop
+same-length-2 c = c .before .loop .inv .5 .table
 
 returns : tie.Need-returns Inv-loop μ-loop
 returns c =
     let at-loop = c .before in
-    let asked = at-loop .before in
-    let filled = asked .before .before .before in
-    let start = filled .before .before .before .before .before .before in
+    let greatest-at = at-loop .before in
+    let index16-at = greatest-at .before .before .before in
+    let start = index16-at .before .before .before .before .before .before in
     let call = start .args in
-    levels-taking-all (call .numbers .now) _ _ (call .table .now) _ _ _ (filled .index16 .ensures) (start .pre .0) (start .pre .1 .most)
-    (asked .greatest .ensures)
-    (levels-taking-end (call .numbers .now) _ _ _ (at-loop .loop .level) _ (omega (arith, c .loop-test .left)) (at-loop .loop .inv .0))
+    let ls = links-from (length (call .numbers .now)) (call .links .now) 0 0 in
+    levels-all (call .numbers .now) _ _ (index16-at .index16 .ensures) (start .pre .0) (start .pre .1 .most) ls (call .table .now) _ _
+    (greatest-at .greatest .ensures)
+    (taking-end _ _ _ _ _ _ _ _ (levels-none (table-weight (call .numbers .now)) ls (at-loop .loop .level) (omega (arith, c .loop-test .left))) (at-loop .loop .inv .5) .is)
 
 pub take-levels-spec : {M : Type 1} → statement M
 take-levels-spec =
     tie.close (
-    tie.spec Inv-loop μ-loop (λ c κs. search needs) (λ c κs. search needs) (λ c. (levels-taking-none _ _ _ _, search needs, refl)) take-level-requires
-    (λ c κs. search needs) loop-less loop-again (λ c. c .before .loop .inv .0 .labels-long ∙ c .before .before .before .before .labels .given)
-    (λ c. c .before .loop .inv .0 .table-long) returns)
+    tie.spec Inv-loop μ-loop (λ c κs. search needs) (λ c κs. search needs) loop-holds (λ c. search needs) (λ c κs. search needs) (λ c. search needs)
+    (λ c. search needs) (λ c κs. search needs) (λ c. search needs) (λ c. search needs) (λ c. search needs) take-level-requires (λ c κs. search needs)
+    loop-less loop-again same-length same-length-2 returns)

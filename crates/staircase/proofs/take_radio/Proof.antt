@@ -1,57 +1,50 @@
--- `take_radio` meets its contract: what is listed are the neighbours above the radio, all of them, since the row fits the list.
-use mathlib.Core.Path.{sym, ap, _∙_}
-use mathlib.Core.List.{List}
-use Prim.Native.Nat.{ℕ}
-use native.Mathlib.Omega.{arith}
-use lib.ListN.{length, replicate, length-take}
-use lib.Seq.{length-take-le}
+-- `take_radio` meets its contract: whether the radio is of the level says which set counts.
+use mathlib.Core.Path.{sym, _∙_}
 use borrow.Author.Needs.{needs}
-use Rattle.mesh.specs.Limits.{max-neighbours}
-use Rattle.mesh.specs.Staircase.{of-weight}
-use Rattle.rows.specs.Rows.{neighbours-above}
-use Rattle.link_list.specs.Links.{links-to, links-above}
-use Rattle.link_list.proofs.AboveLaws.{above-front}
-use Rattle.staircase.specs.Growing.{growing, grown-all, table-weight}
-use Rattle.staircase.proofs.LoopLaws.{level-low}
+use Rattle.staircase.proofs.RowLaws.{level-row-own, level-row-other}
 use Rattle.staircase.proofs.take_radio.Statement.{statement}
 use Rattle.staircase.proofs.take_radio.Tie as tie
 
-returns : tie.Need-returns
-unfolding links-above
-returns c =
-    let call = c .before .before .before .before .before .before .args in
-    let s = growing (call .labels .now) (call .table .now) (call .count) in
-    (omega arith, level-low (call .numbers .now) (call .level) (call .a) (neighbours-above (call .links .now) (call .a)) s (c .if1 .taken))
-
-returns-2 : tie.Need-returns-2
-unfolding links-above
-returns-2 c =
-    let taken = c .before .before .before .before in
-    let listed = taken .before .before .before .before .before in
-    let start = listed .before .before .before .before .before .before .before .before in
-    let call = start .args in
-    let s = growing (call .labels .now) (call .table .now) (call .count) in
-    let few = start .pre .3 .few (call .a) (start .pre .0) in
-    let is = above-front (call .links .now) (call .a) (replicate max-neighbours 0) _ _ (listed .row-above .ensures .0) (listed .row-above .ensures .1) few in (
-      omega (arith, taken .take-row .ensures .0, ap length is, few),
-      taken .take-row .ensures .1
-          ∙ ap (λ (bs : List ℕ). grown-all (of-weight (table-weight (call .numbers .now)) (call .level) (links-to (call .a) bs)) s) is,
-    )
-
-aggregate : tie.Need-slice-aggregate-take-row
-aggregate c =
-    let listed = c .before .before in
-    sym (length-take-le _ _ (omega (arith, listed .row-above .ensures .0, listed .row-above .kept .1 .1 .0)))
-
 take-row-requires : tie.Need-take-row-requires
 take-row-requires c κs =
-    let listed = c .before .before .before .before in
-    let start = listed .before .before .before .before .before .before .before .before in
-    let long = length-take (listed .row-above .result) (listed .row-above .last .1 .1 .0) in
-    (start .pre .0, start .pre .1, start .pre .2, omega (arith, start .pre .4, long, listed .row-above .ensures .0))
+    let yes = c .before .before in
+    let is-in-at = yes .before in
+    let start = is-in-at .before .before .before .before .before .before in
+    let call = start .args in
+    let row = level-row-own (call .links .now) (call .own .now) (call .reach .now) (call .a) (sym (is-in-at .is-in .ensures) ∙ yes .if1 .taken) in
+    (start .pre .0, start .pre .1, start .pre .3, start .pre .4, rw row at (start .pre .5))
+
+returns : tie.Need-returns
+returns c =
+    let take-row-at = c .before .before .before .before in
+    let yes = take-row-at .before .before .before in
+    let is-in-at = yes .before in
+    let start = is-in-at .before .before .before .before .before .before in
+    let call = start .args in
+    rw (level-row-own (call .links .now) (call .own .now) (call .reach .now) (call .a) (sym (is-in-at .is-in .ensures) ∙ yes .if1 .taken))
+    (take-row-at .take-row .ensures)
+
+take-row-requires-2 : tie.Need-take-row-requires-2
+take-row-requires-2 c κs =
+    let no = c .before .before in
+    let is-in-at = no .before in
+    let start = is-in-at .before .before .before .before .before .before in
+    let call = start .args in
+    let row = level-row-other (call .links .now) (call .own .now) (call .reach .now) (call .a) (sym (is-in-at .is-in .ensures) ∙ no .if1 .left) in
+    (start .pre .0, start .pre .1, start .pre .2, start .pre .4, rw row at (start .pre .5))
+
+returns-2 : tie.Need-returns-2
+returns-2 c =
+    let take-row2-at = c .before .before .before .before in
+    let no = take-row2-at .before .before .before in
+    let is-in-at = no .before in
+    let start = is-in-at .before .before .before .before .before .before in
+    let call = start .args in
+    rw (level-row-other (call .links .now) (call .own .now) (call .reach .now) (call .a) (sym (is-in-at .is-in .ensures) ∙ no .if1 .left))
+    (take-row2-at .take-row2 .ensures)
 
 pub take-radio-spec : {M : Type 1} → statement M
 take-radio-spec =
     tie.close (
-    tie.spec (λ c. search needs) returns (λ c. search needs) (λ c κs. search needs) (λ c. search needs) (λ c. search needs) aggregate
-    take-row-requires (λ c. search needs) (λ c. search needs) returns-2)
+    tie.spec (λ c κs. search needs) take-row-requires (λ c. search needs) (λ c. search needs) returns take-row-requires-2 (λ c. search needs)
+    (λ c. search needs) returns-2)

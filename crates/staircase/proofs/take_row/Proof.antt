@@ -1,50 +1,79 @@
--- `take_row` meets its contract: the ends from place i on give, from what is so far, what all of them give (`Row-taking`). The measure is
--- the ends left.
-use mathlib.Core.Path.{_∙_}
-use Prim.Native.Nat.{_-_}
+-- `take_row` meets its contract: the links of what is left of the row's own word, and then of the words after it.
+use mathlib.Core.Path.{refl, sym}
+use Prim.Native.Nat.{_+_, _*_, _-_, _/_, _%_, _^_}
 use native.Mathlib.Omega.{arith}
-use lib.ListN.{length}
+use lib.Bits.{bitAnd}
+use lib.ListN.{getD}
 use borrow.Author.Needs.{needs}
-use Rattle.staircase.specs.Growing.{growing}
-use Rattle.staircase.proofs.LoopLaws.{Row-taking, row-taking-none, row-taking-turn, row-taking-end}
+use Rattle.mesh.specs.Limits.{row-bytes}
+use Rattle.lists.specs.Lists.{filter}
+use Rattle.rows.specs.Rows.{row-from, set-bits}
+use Rattle.sets.specs.Sets.{in-set}
+use Rattle.link_list.specs.Links.{links-to}
+use Rattle.staircase.proofs.TakingLaws.{taking-none, taking-front, taking-part, taking-last}
+use Rattle.staircase.proofs.RowLaws.{row-words}
 use Rattle.staircase.proofs.take_row.Statement.{statement}
 use Rattle.staircase.proofs.take_row.Tie as tie
 
-abbrev Inv-loop : tie.InvT-loop
-Inv-loop numbers level a ends labels₀ table₀ count c₀ i₀ labels table c i =
-    Row-taking numbers level a ends (growing labels₀ table₀ count) i (growing labels table c)
-
-abbrev μ-loop : tie.MeasureT-loop
-μ-loop numbers level a ends labels₀ table₀ count c₀ i₀ labels table c i = length ends - i
-
-take-end-requires : tie.Need-take-end-requires Inv-loop μ-loop
-take-end-requires c κs =
-    let test = c .before .before .before in
-    let at-loop = test .before in
-    let start = at-loop .before .before .before .before .before in
-    (start .pre .0, at-loop .loop .inv .labels-long ∙ start .pre .1, start .pre .2, omega (arith, at-loop .loop .inv .few, test .loop-test .taken, start .pre .3))
-
-loop-again : tie.Need-loop-again Inv-loop μ-loop
-loop-again c =
-    let taken = c .before .before .before .before in
-    let test = taken .before .before .before .before in
-    let at-loop = test .before in
-    let call = at-loop .before .before .before .before .before .args in
-    row-taking-turn (call .numbers .now) (call .level) (call .a) (call .ends .now) (growing (call .labels .now) (call .table .now) (call .count))
-    (at-loop .loop .i) (growing (at-loop .loop .labels) (at-loop .loop .table) (at-loop .loop .c)) _ (test .loop-test .taken) (search needs) (search needs)
-    (taken .take-end .ensures .0) (taken .take-end .ensures .1) (at-loop .loop .inv)
-
-returns : tie.Need-returns Inv-loop μ-loop
-returns c =
-    let at-loop = c .before in
-    let call = at-loop .before .before .before .before .before .args in (
-      omega (arith, at-loop .loop .inv .few, at-loop .loop .inv .low),
-      row-taking-end (call .numbers .now) (call .level) (call .a) (call .ends .now) (growing (call .labels .now) (call .table .now) (call .count))
-          (at-loop .loop .i) _ (c .loop-test .left) (at-loop .loop .inv),
+take-bits-requires : tie.Need-take-bits-requires
+take-bits-requires c κs =
+    let word-of-at = c .before .before .before in
+    let given = word-of-at .before .before .before .before .before in
+    let start = given .before in
+    let call = start .args in
+    let x = bitAnd (word-of-at .word-of .result) (getD (call .set .now) (call .a / 64) 0) / 2 ^ (call .a % 64) / 2 ^ 1 in
+    let words =
+    row-words (call .links .now) (λ j. given .shared-slice-known .given j .fits) (call .set .now) (call .a) _ x
+    (row-bytes * call .a + row-bytes - row-bytes * call .a) (start .pre .0) (start .pre .1) (omega arith) (word-of-at .word-of .ensures) refl in
+    let rest = links-to (call .a) (filter (in-set (call .set .now)) (row-from (call .links .now) (call .a) (call .a / 64 + 1))) in (
+      omega (arith, start .pre .0),
+      start .pre .3,
+      taking-front _ _ _ _ (links-to (call .a) (set-bits 64 (call .a + 1) x)) rest _ _ _
+          (taking-none _ (call .parents .now) (call .table .now) (call .count) _ (sym words) (start .pre .3) (start .pre .4)),
     )
+
+take-words-requires : tie.Need-take-words-requires
+take-words-requires c κs =
+    let table-at = c .before .before .before in
+    let parents-at = table-at .before .before in
+    let take-bits-at = parents-at .before in
+    let word-of-at = take-bits-at .before .before .before .before in
+    let given = word-of-at .before .before .before .before .before in
+    let start = given .before in
+    let call = start .args in
+    let x = bitAnd (word-of-at .word-of .result) (getD (call .set .now) (call .a / 64) 0) / 2 ^ (call .a % 64) / 2 ^ 1 in
+    let words =
+    row-words (call .links .now) (λ j. given .shared-slice-known .given j .fits) (call .set .now) (call .a) _ x
+    (row-bytes * call .a + row-bytes - row-bytes * call .a) (start .pre .0) (start .pre .1) (omega arith) (word-of-at .word-of .ensures) refl in
+    let rest = links-to (call .a) (filter (in-set (call .set .now)) (row-from (call .links .now) (call .a) (call .a / 64 + 1))) in
+    let left = taking-part _ _ _ _ (links-to (call .a) (set-bits 64 (call .a + 1) x)) rest _ _ _ _ _ _
+    (taking-none _ (call .parents .now) (call .table .now) (call .count) _ (sym words) (start .pre .3) (start .pre .4))
+    (take-bits-at .take-bits .ensures) (parents-at .parents .given) (table-at .table .given) in
+    (start .pre .0, omega (arith, start .pre .0), start .pre .1, start .pre .2, left .parents, left .ready)
+
+returns : tie.Need-returns
+returns c =
+    let take-words-at = c .before .before .before .before in
+    let table-at = take-words-at .before .before .before .before in
+    let parents-at = table-at .before .before in
+    let take-bits-at = parents-at .before in
+    let word-of-at = take-bits-at .before .before .before .before in
+    let given = word-of-at .before .before .before .before .before in
+    let start = given .before in
+    let call = start .args in
+    let x = bitAnd (word-of-at .word-of .result) (getD (call .set .now) (call .a / 64) 0) / 2 ^ (call .a % 64) / 2 ^ 1 in
+    let words =
+    row-words (call .links .now) (λ j. given .shared-slice-known .given j .fits) (call .set .now) (call .a) _ x
+    (row-bytes * call .a + row-bytes - row-bytes * call .a) (start .pre .0) (start .pre .1) (omega arith) (word-of-at .word-of .ensures) refl in
+    let rest = links-to (call .a) (filter (in-set (call .set .now)) (row-from (call .links .now) (call .a) (call .a / 64 + 1))) in
+    let left = taking-part _ _ _ _ (links-to (call .a) (set-bits 64 (call .a + 1) x)) rest _ _ _ _ _ _
+    (taking-none _ (call .parents .now) (call .table .now) (call .count) _ (sym words) (start .pre .3) (start .pre .4))
+    (take-bits-at .take-bits .ensures) (parents-at .parents .given) (table-at .table .given) in
+    taking-last _ _ _ _ _ _ _ _ _ _ _ left (take-words-at .take-words .ensures)
 
 pub take-row-spec : {M : Type 1} → statement M
 take-row-spec =
     tie.close (
-    tie.spec Inv-loop μ-loop (λ c. row-taking-none _ _ _ _ _) (λ c. search needs) (λ c. search needs) take-end-requires (λ c. search needs)
-    (λ c. search needs) loop-again (λ c. c .before .loop .inv .labels-long) (λ c. c .before .loop .inv .table-long) returns)
+    tie.spec (λ c. search needs) (λ c. search needs) (λ c. search needs) (λ c. search needs) (λ c. search needs) (λ c κs. search needs)
+    (λ c. search needs) (λ c. search needs) (λ c. search needs) (λ c. search needs) (λ c. search needs) (λ c. search needs) take-bits-requires
+    (λ c. search needs) take-words-requires (λ c. search needs) (λ c. search needs) returns)
