@@ -1,13 +1,13 @@
--- `nodes::fill_front` meets its contract: 16-bit entries being written, each the same value. The measure is what is left.
+-- `fill_front` meets its contract: 16-bit entries being written, each the same value. The measure is what is left.
 use mathlib.Core.Path.{sym}
 use Prim.Native.Nat.{ℕ, _-_, _≤_}
 use native.Mathlib.Omega.{arith}
 use native.Mathlib.Nat.{mod-eq-of-lt}
 use borrow.Author.Needs.{needs}
 use Rattle.tables.proofs.WidthLaws.{Writing, writing-none, writing-turn}
-use Rattle.tree.proofs.NodeWrites.{filling-end}
-use Rattle.tree.proofs.nodes.fill_front.Statement.{statement}
-use Rattle.tree.proofs.nodes.fill_front.Tie as tie
+use Rattle.tree_parts.proofs.FrontFilled.{filling-end}
+use Rattle.tree_parts.proofs.fill_front.Statement.{statement}
+use Rattle.tree_parts.proofs.fill_front.Tie as tie
 
 abbrev Inv-loop : tie.InvT-loop
 Inv-loop table₀ k x m i₀ table i = Writing 16 (λ (j : ℕ). x) table₀ table i × (i ≤ m)
