@@ -25,7 +25,7 @@ use Rattle.lists.proofs.Count.{count-le-length}
 use Rattle.lists.proofs.Filter.{length-filter}
 use Rattle.lists.proofs.Range.{length-range}
 use Rattle.lists.proofs.Overwrite.{overwrite-take}
-use Rattle.link_parts.specs.Changes.{changed-part, in-order, counted-step, plan-fits, Reported, Plan-put, Write-contract, Applied, Apply-contract}
+use Rattle.link_parts.specs.Changes.{changed-part, in-order, counted-step, plan-fits, Plan-put, Write-contract, Applied, Apply-contract}
 use Rattle.lists.proofs.Parts.{take-min, drop-take}
 
 -- ---- the changed radios of a plan
