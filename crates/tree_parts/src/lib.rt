@@ -1,5 +1,5 @@
-// Parts of the shell tree that stand by themselves: whether the lists have room, whether a radio brings a node, the radios sorted by their
-// numbers, the front of a table filled. On plain numbers and tables of any content: no public function has a `requires`.
+// Parts of the shell tree that stand by themselves: whether the lists have room, whether a radio brings a node, a node's record, the radios
+// sorted by their numbers, the front of a table filled. On plain numbers and tables of any content: no public function has a `requires`.
 ghost use mathlib.Core.Path.{_≡_};
 ghost use mathlib.Core.Bool.{_&&_};
 ghost use Prim.Native.Nat.{_≤_, min};
@@ -7,9 +7,11 @@ ghost use lib.Dec.{eqb};
 ghost use lib.ListN.{length, replicate};
 ghost use Rattle.mesh.specs.Limits.{max-radios};
 ghost use Rattle.lists.specs.Lists.{overwrite};
+ghost use Rattle.mesh.specs.Tree.{node};
 ghost use Rattle.calls.specs.Questions.{nodes-length, answer-length};
 ghost use Rattle.sets.specs.Sets.{in-set};
 ghost use Rattle.tree_parts.specs.Shells.{Shells-put};
+use mesh::Node;
 use mesh::Site;
 use tables::fill;
 
@@ -31,6 +33,17 @@ pub fn takes_node(number: u8, level: u8, set: &[u64], v: u16) -> bool
         return false;
     }
     sets::is_in(set, v as u32)
+}
+
+// The record of a node.
+pub fn record_of(name: u16, level: u16, parent: u16) -> Node
+    ensures { λ r. ⌜ r ≡ node name level parent ⌝ }
+{
+    Node {
+        name,
+        level,
+        parent,
+    }
 }
 
 // Puts each radio into the set of its number: the radios with number k are the eight words from word 8 * k on. A number past the words
