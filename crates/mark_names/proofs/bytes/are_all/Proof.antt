@@ -7,11 +7,11 @@ use lib.ListN.{length, drop}
 use borrow.Author.Tests.{eq-eqb, ne-eqb}
 use Rattle.lists.specs.Lists.{all}
 use borrow.Author.Needs.{needs}
-use Rattle.mark_store.proofs.Left.{all-pass, all-stop, all-end}
-use Rattle.mark_store.proofs.bytes.are_all.Statement.{statement}
-use Rattle.mark_store.proofs.bytes.are_all.Tie as tie
-use Rattle.mark_store.proofs.bytes.are_all.Reads as reads
-use Rattle.mark_store.proofs.bytes.are_all.Lts as lts
+use Rattle.mark_names.proofs.Left.{all-pass, all-stop, all-end}
+use Rattle.mark_names.proofs.bytes.are_all.Statement.{statement}
+use Rattle.mark_names.proofs.bytes.are_all.Tie as tie
+use Rattle.mark_names.proofs.bytes.are_all.Reads as reads
+use Rattle.mark_names.proofs.bytes.are_all.Lts as lts
 
 abbrev Inv-loop : tie.InvT-loop
 Inv-loop bytes x i₀ i = all (λ (d : ℕ). eqb d x) bytes ≡ all (λ (d : ℕ). eqb d x) (drop i bytes)

@@ -5,9 +5,9 @@ use Prim.Native.Nat.{ℕ, _-_}
 use native.Mathlib.Omega.{arith}
 use lib.ListN.{length}
 use borrow.Author.Needs.{needs}
-use Rattle.mark_store.proofs.Left.{Joining, joining-none, joining-turn, joining-end}
-use Rattle.mark_store.proofs.bytes.join_zeros.Statement.{statement}
-use Rattle.mark_store.proofs.bytes.join_zeros.Tie as tie
+use Rattle.mark_names.proofs.Left.{Joining, joining-none, joining-turn, joining-end}
+use Rattle.mark_names.proofs.bytes.join_zeros.Statement.{statement}
+use Rattle.mark_names.proofs.bytes.join_zeros.Tie as tie
 
 abbrev Inv-loop : tie.InvT-loop
 Inv-loop bytes joined₀ i₀ joined i = Joining bytes joined i

@@ -5,11 +5,11 @@ use native.Mathlib.Omega.{arith}
 use lib.ListN.{length, drop}
 use Rattle.mesh.specs.Marks.{before}
 use borrow.Author.Needs.{needs}
-use Rattle.mark_store.proofs.Left.{before-short, before-less, before-more, before-pass, before-end}
-use Rattle.mark_store.proofs.names.is_before.Statement.{statement}
-use Rattle.mark_store.proofs.names.is_before.Tie as tie
-use Rattle.mark_store.proofs.names.is_before.Reads as reads
-use Rattle.mark_store.proofs.names.is_before.Lts as lts
+use Rattle.mark_names.proofs.Left.{before-short, before-less, before-more, before-pass, before-end}
+use Rattle.mark_names.proofs.names.is_before.Statement.{statement}
+use Rattle.mark_names.proofs.names.is_before.Tie as tie
+use Rattle.mark_names.proofs.names.is_before.Reads as reads
+use Rattle.mark_names.proofs.names.is_before.Lts as lts
 
 abbrev Inv-loop : tie.InvT-loop
 Inv-loop a b i₀ i = before a b ≡ before (drop i a) (drop i b)

@@ -34,7 +34,7 @@ fn is_padded(name: &[u8]) -> bool
 }
 
 // Whether the bytes are a name.
-pub(crate) fn is_name(name: &[u8]) -> bool
+pub fn is_name(name: &[u8]) -> bool
     ensures { λ r. ⌜ r ≡ is-name (now (name .entry)) ⌝ }
 {
     if name.len() != 8 {
@@ -47,7 +47,7 @@ pub(crate) fn is_name(name: &[u8]) -> bool
 }
 
 // Whether a stands before b, by bytes.
-pub(crate) fn is_before(a: &[u8], b: &[u8]) -> bool
+pub fn is_before(a: &[u8], b: &[u8]) -> bool
     ensures { λ r. ⌜ r ≡ before (now (a .entry)) (now (b .entry)) ⌝ }
 {
     let mut i: usize = 0;

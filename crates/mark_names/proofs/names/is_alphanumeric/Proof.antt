@@ -1,11 +1,11 @@
 -- `names::is_alphanumeric` meets its contract: by the bounds of 0 to 9 and A to Z.
 use mathlib.Core.Path.{sym}
 use borrow.Author.Needs.{needs}
-use Rattle.mark_store.proofs.Left.{alphanumeric-low, alphanumeric-digit, alphanumeric-gap, alphanumeric-high}
-use Rattle.mark_store.proofs.names.is_alphanumeric.Statement.{statement}
-use Rattle.mark_store.proofs.names.is_alphanumeric.Tie as tie
-use Rattle.mark_store.proofs.names.is_alphanumeric.Reads as reads
-use Rattle.mark_store.proofs.names.is_alphanumeric.Lts as lts
+use Rattle.mark_names.proofs.Left.{alphanumeric-low, alphanumeric-digit, alphanumeric-gap, alphanumeric-high}
+use Rattle.mark_names.proofs.names.is_alphanumeric.Statement.{statement}
+use Rattle.mark_names.proofs.names.is_alphanumeric.Tie as tie
+use Rattle.mark_names.proofs.names.is_alphanumeric.Reads as reads
+use Rattle.mark_names.proofs.names.is_alphanumeric.Lts as lts
 
 -- src/names.rt:11:9
 returns : tie.Need-returns

@@ -6,7 +6,7 @@ ghost use Rattle.lists.specs.Lists.{all};
 ghost use Rattle.mesh.specs.Marks.{is-zeros};
 
 // Whether every byte is x.
-pub(crate) fn are_all(bytes: &[u8], x: u8) -> bool
+pub fn are_all(bytes: &[u8], x: u8) -> bool
     ensures { λ r. ⌜ r ≡ all (λ (d : ℕ). eqb d x) (now (bytes .entry)) ⌝ }
 {
     let mut i: usize = 0;
@@ -33,7 +33,7 @@ fn join_zeros(bytes: &[u8]) -> bool
 }
 
 // The same; it stops at a first byte that is not zero.
-pub(crate) fn are_zeros(bytes: &[u8]) -> bool
+pub fn are_zeros(bytes: &[u8]) -> bool
     ensures { λ r. ⌜ r ≡ is-zeros (now (bytes .entry)) ⌝ }
 {
     if bytes.len() != 0 {

@@ -4,12 +4,12 @@ use mathlib.Core.Bool.{false}
 use borrow.Author.Tests.{eq-eqb, ne-eqb, not-true, not-false}
 use Rattle.mesh.specs.Marks.{is-name}
 use borrow.Author.Needs.{needs}
-use Rattle.mark_store.proofs.names.is_name.Statement.{statement}
-use Rattle.mark_store.proofs.names.is_name.Tie as tie
-use Rattle.mark_store.proofs.names.is_name.Reads as reads
-use Rattle.mark_store.proofs.names.is_name.Lts as lts
-use Rattle.mark_store.proofs.names.is_padded.Reads as is-padded-reads
-use Rattle.mark_store.proofs.names.is_alphanumeric.Reads as is-alphanumeric-reads
+use Rattle.mark_names.proofs.names.is_name.Statement.{statement}
+use Rattle.mark_names.proofs.names.is_name.Tie as tie
+use Rattle.mark_names.proofs.names.is_name.Reads as reads
+use Rattle.mark_names.proofs.names.is_name.Lts as lts
+use Rattle.mark_names.proofs.names.is_padded.Reads as is-padded-reads
+use Rattle.mark_names.proofs.names.is_alphanumeric.Reads as is-alphanumeric-reads
 
 -- src/names.rt:41:9
 returns : tie.Need-returns

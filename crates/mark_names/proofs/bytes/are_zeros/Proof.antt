@@ -2,9 +2,9 @@
 use mathlib.Core.Path.{sym}
 use native.Mathlib.Omega.{arith}
 use borrow.Author.Needs.{needs}
-use Rattle.mark_store.proofs.Left.{first-nonzero}
-use Rattle.mark_store.proofs.bytes.are_zeros.Statement.{statement}
-use Rattle.mark_store.proofs.bytes.are_zeros.Tie as tie
+use Rattle.mark_names.proofs.Left.{first-nonzero}
+use Rattle.mark_names.proofs.bytes.are_zeros.Statement.{statement}
+use Rattle.mark_names.proofs.bytes.are_zeros.Tie as tie
 
 returns : tie.Need-returns
 returns c = sym (first-nonzero _ (omega arith) (c .if2 .taken))

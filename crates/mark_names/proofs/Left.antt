@@ -1,19 +1,18 @@
 -- What is left of a list decides as the whole does: laws of one step for each loop that passes over a list.
 use mathlib.Core.Path.{_≡_, refl, sym, ap, ap₂, _∙_}
 use mathlib.Core.Logic.{_⊎_, inl, inr}
-use mathlib.Core.Bool.{Bool, true, false, _&&_, _||_, cond, or-false, and-true, and-assoc}
+use mathlib.Core.Bool.{Bool, true, false, _&&_, _||_, or-false, and-true, and-assoc}
 use mathlib.Core.List.{List, [], _∷_}
-use Prim.Native.Nat.{ℕ, zero, suc, _+_, _*_, _-_, _^_, _≤_, _<_}
+use Prim.Native.Nat.{ℕ, zero, suc, _+_, _-_, _≤_, _<_}
 use native.Mathlib.Omega.{arith}
 use lib.Dec.{ltb, leb, eqb}
 use lib.ListN.{length, getD, take, drop, length-drop, drop-of-length-le}
-use lib.Seq.{drop-cons, getD-drop, take-all}
+use lib.Seq.{drop-cons, take-all}
 use lib.Bits.{bitOr, or-zero-l, or-add-and, and-le-r}
 use borrow.Author.Tests.{eqb-true, eqb-false, ltb-true, lt-ltb, le-ltb, eq-eqb, ne-eqb, le-leb, lt-leb}
 use Rattle.lists.specs.Lists.{all}
 use Rattle.lists.proofs.Tests.{iff-eq, or-right, bool-cases, and-both}
-use Rattle.mesh.specs.Image.{block-bytes, block-count, order-blocks, blocks-for, word-at}
-use Rattle.mesh.specs.Marks.{name-bytes, is-alphanumeric, alphanumerics-then-spaces, is-zeros, before, image-size}
+use Rattle.mesh.specs.Marks.{is-alphanumeric, alphanumerics-then-spaces, is-zeros, before}
 
 next : (i : ℕ) → suc i ≡ i + 1
 next i = omega arith
@@ -115,17 +114,6 @@ alphanumeric-gap c h k = rw (lt-leb 65 c k, lt-leb c 57 h, le-leb 48 c (omega ar
 pub alphanumeric-high : (c : ℕ) → 57 < c → 65 ≤ c → leb c 90 ≡ is-alphanumeric c
 unfolding is-alphanumeric
 alphanumeric-high c h k = rw (le-leb 65 c k, lt-leb c 57 h, le-leb 48 c (omega arith)) (sym (or-false (leb c 90)))
-
--- ---- the size of a place's image
-
-pub image-size-at : (n m b : ℕ) (p : List ℕ) → m ≡ word-at p 14 → b ≡ block-count n m → block-bytes * b ≡ image-size n (drop name-bytes p)
-unfolding image-size word-at
-image-size-at n m b p e f =
-    ap (λ (k : ℕ). block-bytes * k) (f ∙ ap (block-count n) (e ∙ ap₂ {C = ℕ} (λ x y. x + 256 * y) (sym (getD-drop name-bytes p 6 0)) (sym (getD-drop name-bytes p 7 0))))
-
-pub image-size-less : (n m b : ℕ) → n < 2 ^ 32 → m < 65536 → b ≡ block-count n m → block-bytes * b < 2 ^ 42
-unfolding block-count order-blocks blocks-for
-image-size-less n m b small few e = omega (arith, e)
 
 -- ---- bytes joined by `|`
 

@@ -8,13 +8,13 @@ use borrow.Author.Needs.{needs}
 use borrow.Author.Tests.{not-true, not-false}
 use Rattle.lists.specs.Lists.{all}
 use Rattle.mesh.specs.Marks.{alphanumerics-then-spaces}
-use Rattle.mark_store.proofs.Left.{padded-pass, padded-stop, padded-end, rest-part}
-use Rattle.mark_store.proofs.names.is_padded.Statement.{statement}
-use Rattle.mark_store.proofs.names.is_padded.Tie as tie
-use Rattle.mark_store.proofs.names.is_padded.Reads as reads
-use Rattle.mark_store.proofs.names.is_padded.Lts as lts
-use Rattle.mark_store.proofs.bytes.are_all.Reads as are-all-reads
-use Rattle.mark_store.proofs.names.is_alphanumeric.Reads as is-alphanumeric-reads
+use Rattle.mark_names.proofs.Left.{padded-pass, padded-stop, padded-end, rest-part}
+use Rattle.mark_names.proofs.names.is_padded.Statement.{statement}
+use Rattle.mark_names.proofs.names.is_padded.Tie as tie
+use Rattle.mark_names.proofs.names.is_padded.Reads as reads
+use Rattle.mark_names.proofs.names.is_padded.Lts as lts
+use Rattle.mark_names.proofs.bytes.are_all.Reads as are-all-reads
+use Rattle.mark_names.proofs.names.is_alphanumeric.Reads as is-alphanumeric-reads
 
 abbrev Inv-loop : tie.InvT-loop
 Inv-loop name i₀ i = alphanumerics-then-spaces name ≡ alphanumerics-then-spaces (drop i name)
