@@ -66,16 +66,5 @@ pub fn lift<'a>(n: u32, v: u32, links: &'a [u8], numbers: &'a [u8], order: &'a [
         };
     }
     let pair = search::first_pair(links, numbers, &highs, v);
-    if Site::RADIOS <= pair.low {
-        return Pair {
-            number: Refusal::NO_LIFT,
-            low: 0,
-            high: 0,
-        };
-    }
-    Pair {
-        number: 0,
-        low: pair.low,
-        high: pair.high,
-    }
+    lift_parts::answer(pair.low, pair.high)
 }

@@ -1,7 +1,7 @@
 -- Laws of what applying a plan writes. In order: the changed radios, a plan that fits, the stretch in the order, the step, the calls.
 use mathlib.Core.Path.{_≡_, refl, sym, ap, ap₂, _∙_}
 use mathlib.Core.Logic.{_⊎_, inl, inr}
-use mathlib.Core.Bool.{Bool, true, false, _&&_}
+use mathlib.Core.Bool.{Bool, true, false, _&&_, cond}
 use mathlib.Core.List.{List, [], _∷_, _++_, append-assoc}
 use Prim.Native.Nat.{ℕ, zero, suc, _+_, _-_, _≤_, _<_, min}
 use native.Mathlib.Omega.{arith}
@@ -25,7 +25,7 @@ use Rattle.lists.proofs.Count.{count-le-length}
 use Rattle.lists.proofs.Filter.{length-filter}
 use Rattle.lists.proofs.Range.{length-range}
 use Rattle.lists.proofs.Overwrite.{overwrite-take}
-use Rattle.link_parts.specs.Changes.{changed-part, in-order, counted-step, plan-fits, Reported, Plan-put, Write-contract, Applied, Apply-contract}
+use Rattle.link_parts.specs.Changes.{changed-part, in-order, counted-step, plan-fits, Plan-put, Write-contract, Applied, Apply-contract}
 use Rattle.lists.proofs.Parts.{take-min, drop-take}
 
 -- ---- the changed radios of a plan
@@ -36,18 +36,27 @@ drop-min zero xs = let e : min 0 (length xs) ≡ 0 = omega arith in rw e
 drop-min (suc k) [] = let e : min (suc k) 0 ≡ 0 = omega arith in rw e
 drop-min (suc k) (x ∷ xs) = let e : min (suc k) (suc (length xs)) ≡ suc (min k (length xs)) = omega arith in rw e (drop-min k xs)
 
-pub changed-part-up :
-    (up : Bool) (k m i j : ℕ) (xs : List ℕ) → up ≡ true → j ≡ min m (length xs) → i ≡ min k j → changed-part up k m xs ≡ take (j - i) (drop i xs)
-unfolding changed-part
-changed-part-up up k m i j xs e ej ei =
+part-up : (k m i j : ℕ) (xs : List ℕ) → j ≡ min m (length xs) → i ≡ min k j → drop k (take m xs) ≡ take (j - i) (drop i xs)
+part-up k m i j xs ej ei =
     let long : length (take j xs) ≡ j = length-take-le j xs (omega arith) in
     let at : min k (length (take j xs)) ≡ i = omega arith in
     let cut : take m xs ≡ take j xs = sym (take-min m xs) ∙ ap (λ (l : ℕ). take l xs) (sym ej) in
-    rw e (ap (drop k) cut ∙ sym (drop-min k (take j xs)) ∙ ap (λ (l : ℕ). drop l (take j xs)) at ∙ drop-take i j xs)
+    ap (drop k) cut ∙ sym (drop-min k (take j xs)) ∙ ap (λ (l : ℕ). drop l (take j xs)) at ∙ drop-take i j xs
 
-pub changed-part-down : (up : Bool) (k m i : ℕ) (xs : List ℕ) → up ≡ false → i ≡ min k (length xs) → changed-part up k m xs ≡ take i xs
+part-down : (k i j : ℕ) (xs : List ℕ) → j ≡ min k (length xs) → i ≡ min 0 j → take k xs ≡ take (j - i) (drop i xs)
+part-down k i j xs ej ei =
+    let none : i ≡ 0 = omega arith in
+    let all : min k (length xs) ≡ j - 0 = omega arith in
+    rw none (sym (take-min k xs) ∙ ap (λ (l : ℕ). take l xs) all)
+
+-- s and e are where it starts and ends, whatever the stretch has
+pub changed-part-cut : (up : Bool) (k m i j s e : ℕ) (xs : List ℕ) → e ≡ cond up m k → s ≡ cond up k 0 → j ≡ min e (length xs) → i ≡ min s j
+    → changed-part up k m xs ≡ take (j - i) (drop i xs)
 unfolding changed-part
-changed-part-down up k m i xs e ei = rw e (sym (take-min k xs) ∙ ap (λ (l : ℕ). take l xs) (sym ei))
+changed-part-cut true k m i j s e xs pe ps pj pi =
+    part-up k m i j xs (pj ∙ ap (λ (l : ℕ). min l (length xs)) pe) (pi ∙ ap (λ (l : ℕ). min l j) ps)
+changed-part-cut false k m i j s e xs pe ps pj pi =
+    part-down k i j xs (pj ∙ ap (λ (l : ℕ). min l (length xs)) pe) (pi ∙ ap (λ (l : ℕ). min l j) ps)
 
 -- a set has no more radios than a site may have
 pub length-in-order : (xs : List ℕ) → length (in-order xs) ≤ max-radios

@@ -100,13 +100,9 @@ fn list_changed(up: bool, taken: usize, size: usize, stretch: &[u16], answer: &m
         ≡ overwrite (take (length (now (answer .entry))) (in-order (changed-part up taken size (now (stretch .entry)))))
         (now (answer .entry)) ⌝ }
 {
-    if up {
-        let end = fill::least(size, stretch.len());
-        let start = fill::least(taken, end);
-        return list_ascending(&stretch[start..end], answer);
-    }
-    let end = fill::least(taken, stretch.len());
-    list_ascending(&stretch[..end], answer)
+    let end = fill::least(change_parts::changed_end(up, taken, size), stretch.len());
+    let start = fill::least(change_parts::changed_start(up, taken), end);
+    list_ascending(&stretch[start..end], answer)
 }
 
 // What a plan would change: the changed radios stand in front of the answer table, ascending, and the reply tells their count and
@@ -115,12 +111,7 @@ pub fn report(up: bool, plan: Plan, stretch: &[u16], answer: &mut [u16]) -> Repl
     ensures { λ r. ⌜ Reported up (plan .size) (plan .taken) (now (stretch .entry)) (now (answer .entry)) r (now (answer .exit)) ⌝ }
 {
     let count = list_changed(up, plan.taken, plan.size, stretch, answer);
-    let step = step_of(up, count);
-    Reply {
-        number: 0,
-        step,
-        count,
-    }
+    change_parts::reply_of(step_of(up, count), count)
 }
 
 // Writes a plan that fits: the link, the numbers of the first k listed radios, the stretch.

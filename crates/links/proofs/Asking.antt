@@ -31,7 +31,7 @@ use Rattle.soundness.proofs.HighCounts.{examined-high}
 use Rattle.links.specs.Plans.{Ready}
 use Rattle.links.specs.Asked.{Asked}
 use Rattle.links.specs.Plans.{Applicable}
-use Rattle.link_parts.proofs.EndsLaws.{proper-rows}
+use Rattle.end_questions.proofs.EndsLaws.{proper-rows}
 
 -- ---- sound tables
 

@@ -22,7 +22,7 @@ use Rattle.calls.proofs.SoundSwitches.{Good}
 use Rattle.calls.proofs.HearingLaws.{good-marked, rows-first, downs-end, ups-end}
 use Rattle.soundness.specs.Checks.{Examined}
 use Rattle.soundness.proofs.ExamineLaws.{site-refused, site-lent, fits-sound-lent, examinable-room}
-use Rattle.heard.specs.Hearing.{Of-size, rows-refusal, One-sided-marked}
+use Rattle.heard_rows.specs.Hearing.{Of-size, rows-refusal, One-sided-marked}
 use Rattle.links.specs.Steps.{Prepared}
 use Rattle.links.specs.Hearings.{Phase-by, Marked-hearing, Rows-switched, Brought, Hear-asked}
 use Rattle.links.proofs.StepLaws.{fits-good}

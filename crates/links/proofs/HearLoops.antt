@@ -27,7 +27,7 @@ use Rattle.calls.specs.Heard.{agreed, agreed-degree, agreed-few}
 use Rattle.calls.specs.Hearing.{Phase, Rows-left, Row-left}
 use Rattle.calls.proofs.SoundSwitches.{Good}
 use Rattle.calls.proofs.HearingLaws.{row-first, row-next, row-end}
-use Rattle.heard.specs.Hearing.{Of-size, Is-prefix, wanted, Wanted-listed}
+use Rattle.heard_rows.specs.Hearing.{Of-size, Is-prefix, wanted, Wanted-listed}
 use Rattle.links.specs.Steps.{Prepared, Stepped}
 use Rattle.links.specs.Hearings.{Phase-by, Marked-hearing, Row-switched, Rows-switched}
 use Rattle.links.proofs.StepLaws.{fits-good}

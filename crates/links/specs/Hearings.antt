@@ -16,7 +16,7 @@ use Rattle.mesh.specs.Sound.{sound}
 use Rattle.calls.specs.Questions.{lengths-of}
 use Rattle.calls.specs.Heard.{agreed, agreed-few, one-sided, hear-refusal}
 use Rattle.calls.specs.Hearing.{Phase, Rows-left, Row-left}
-use Rattle.heard.specs.Hearing.{Of-size}
+use Rattle.heard_rows.specs.Hearing.{Of-size}
 use Rattle.links.specs.Steps.{Prepared}
 
 unfoldable pub Phase-by : (n : ℕ) → (heard : List ℕ) → Phase → Type 0

@@ -65,7 +65,7 @@ fn switch_rows<'a>(
     let mut list = [0u16; Site::NEIGHBOURS as usize + 1];
     let mut a: u32 = 0;
     while a < n {
-        let k = heard::wanted::list(up, heard, further, links, a, &mut list);
+        let k = wanted_links::list(up, heard, further, links, a, &mut list);
         switch_row(up, n, a, &list[..k], links, numbers, order, places, highs);
         a += 1;
     }
@@ -138,7 +138,7 @@ fn refusal(
     if !soundness::examine(n, links, numbers, order, places, highs) {
         return Refusal::UNSOUND;
     }
-    heard::questions::refusal(n, heard)
+    heard_questions::refusal(n, heard)
 }
 
 // Marks the one-sided pairs of the heard table in the further table, all its other bits zero, and brings the site to the agreed links: links
@@ -170,7 +170,7 @@ pub fn hear(
     if number != 0 {
         return Value { number, value: 0 };
     }
-    let count = heard::one_sided::mark(n, heard, further);
+    let count = one_sided::mark(n, heard, further);
     bring(
         n,
         heard,

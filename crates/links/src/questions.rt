@@ -5,7 +5,6 @@ ghost use Rattle.mesh.specs.Limits.{max-radios};
 ghost use Rattle.mesh.specs.Tables.{lent};
 ghost use Rattle.links.specs.Asked.{Asked};
 use calls::Refusal;
-use link_parts::ends;
 use mesh::Site;
 use tables::sizes;
 
@@ -39,5 +38,5 @@ pub(crate) fn refusal(
     if !soundness::examine(n, links, numbers, order, places, highs) {
         return Refusal::UNSOUND;
     }
-    ends::ends_refusal(up, n, a, b, links)
+    end_questions::ends_refusal(up, n, a, b, links)
 }

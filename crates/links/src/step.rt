@@ -10,7 +10,6 @@ ghost use Rattle.links.specs.Steps.{Prepared, Step-ready, Changed-by, Ca
 use super::counts;
 use super::plan;
 use link_parts::apply;
-use link_parts::ends;
 use mesh::Site;
 use tables::fill;
 
@@ -112,7 +111,7 @@ pub(crate) fn step(
     ensures { λ r. ⌜ Stepped up n a b (lent (links .entry) (numbers .entry) (order .entry)) r
         (lent (links .exit) (numbers .exit) (order .exit)) (now (places .exit)) (now (highs .exit)) ⌝ }
 {
-    let number = ends::ends_refusal(up, n, a, b, links);
+    let number = end_questions::ends_refusal(up, n, a, b, links);
     if number != 0 {
         return number;
     }

@@ -1,4 +1,3 @@
--- What is left of a list decides as the whole does; a place tested part by part; loops over the store.
-pub mod Left
+-- A place tested part by part; loops over the store.
 pub mod MarkTests
 pub mod StoreLoops

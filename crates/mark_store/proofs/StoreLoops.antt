@@ -1,6 +1,6 @@
 -- Laws of one step of each loop over the store.
 use mathlib.Core.Path.{_≡_, refl, sym, ap, ap₂, _∙_}
-use mathlib.Core.Bool.{Bool, true, false, _&&_, _||_, cond}
+use mathlib.Core.Bool.{Bool, true, false, _&&_, cond}
 use mathlib.Core.List.{List, [], _∷_}
 use Prim.Native.Nat.{ℕ, zero, suc, _+_, _*_, _-_, _≤_, _<_}
 use native.Mathlib.Omega.{arith}
@@ -17,7 +17,7 @@ use Rattle.calls.specs.Marks.{store-length, marks-good, mark-refusal}
 use Rattle.calls.proofs.QuestionLaws.{true-size-good}
 use Rattle.calls.proofs.ChainLaws.{Site-good, site-zero, site-yes, site-stops}
 use Rattle.mark_store.specs.Store.{last-name, Located}
-use Rattle.mark_store.proofs.Left.{rest-part}
+use Rattle.mark_names.proofs.Left.{rest-part}
 
 -- ---- counting used places
 

@@ -5,10 +5,10 @@ ghost use Prim.Native.Nat.{_<_, _^_};
 ghost use lib.ListN.{length, drop};
 ghost use Rattle.mesh.specs.Limits.{size-good};
 ghost use Rattle.mesh.specs.Marks.{name-bytes, place-bytes, image-size, is-mark};
-use super::bytes;
-use super::names;
 use image::layout;
 use image_reader::reader;
+use mark_names::bytes;
+use mark_names::names;
 
 pub const NAME: usize = 8;
 

@@ -10,12 +10,12 @@ ghost use Rattle.mesh.specs.Marks.{places, store-bytes, before, name-at, marks-
 ghost use Rattle.calls.specs.Questions.{lengths-of};
 ghost use Rattle.calls.specs.Marks.{mark-refusal};
 ghost use Rattle.mark_store.specs.Store.{last-name, Located};
-use super::bytes;
-use super::names;
 use super::places;
 use super::places::NAME;
 use super::places::PLACE;
 use calls::Refusal;
+use mark_names::bytes;
+use mark_names::names;
 use tables::fill;
 
 pub const PLACES: usize = 8;

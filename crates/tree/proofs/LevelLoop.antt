@@ -18,7 +18,7 @@ use Rattle.tree.specs.Trees.{Lists, Room, takes-node, Visited, Shell-set
 use Rattle.floods.specs.Floods.{Level-set}
 use Rattle.tree.proofs.GrowLaws.{visited-next, marks-start, growing-end}
 use Rattle.tree.proofs.ShellSets.{takes-none, later}
-use Rattle.tree.proofs.VisitSteps.{takes-node-false}
+use Rattle.tree.proofs.VisitSteps.{visited-none}
 
 -- the count grows by one at most
 pub visited-count : (ts ns : List ℕ) (k v : ℕ) (s q : List ℕ) (before : Lists) (c : ℕ) (t : List ℕ) (after : Lists) (r : ℕ)
@@ -92,7 +92,7 @@ levelling-over ts ns k s₀ q₀ before c₀ v (suc m) s q now c positive space 
     let so-far = levelling-over ts ns k s₀ q₀ before c₀ v m s q now c positive space (omega arith) (λ u h b. none u h (omega arith)) a in
     rw e at (levelling-turn ts ns k s₀ q₀ before c₀ w s q now c s q now c positive space (omega arith) refl refl
     (record { names = refl; levels = refl; parents = refl; answer = refl })
-    (takes-node-false ts ns k w s q now c (none w (omega arith) (omega arith))) so-far)
+    (visited-none ts ns k w s q now c (none w (omega arith) (omega arith))) so-far)
 
 -- as far as the lowest radio of the level that the set still has
 pub levelling-to : (ts ns : List ℕ) (k : ℕ) (s₀ q₀ : List ℕ) (before : Lists) (c₀ v w : ℕ) (s q : List ℕ) (now : Lists) (c : ℕ) → 1 ≤ k → max-radios ≤ length q₀

@@ -1,12 +1,10 @@
 -- The shell tree's answer: refused, and accepted.
 use mathlib.Core.Path.{_≡_, refl, sym, ap, _∙_}
-use mathlib.Core.Bool.{Bool, true, false, _&&_}
+use mathlib.Core.Bool.{Bool, true, _&&_}
 use mathlib.Core.List.{List}
-use Prim.Native.Nat.{ℕ, _+_, _≤_, _<_, min}
+use Prim.Native.Nat.{ℕ, _+_, _≤_, min}
 use native.Mathlib.Omega.{arith}
-use lib.Dec.{leb}
 use lib.ListN.{length}
-use borrow.Author.Tests.{lt-leb, le-leb}
 use Rattle.mesh.specs.Limits.{max-radios}
 use Rattle.mesh.specs.Tables.{tables, graph-in}
 use Rattle.mesh.specs.Sound.{sound}
@@ -20,14 +18,6 @@ use Rattle.soundness.proofs.SoundSite.{site-good-fits}
 use Rattle.tree.specs.Trees.{Lists, Room, Grown, Tables-accepted, Lists-refused, places, Tables-contract}
 
 -- ---- room
-
-pub room-short : (n nodes answer : ℕ) → nodes ≤ n → false ≡ (nodes-length n nodes && answer-length n answer)
-unfolding nodes-length
-room-short n nodes answer h = rw (lt-leb (n + 1) nodes (omega arith))
-
-pub room-long : (n nodes answer : ℕ) → n < nodes → leb n answer ≡ (nodes-length n nodes && answer-length n answer)
-unfolding nodes-length answer-length
-room-long n nodes answer h = rw (le-leb (n + 1) nodes (omega arith))
 
 -- the shortest of four
 pub places-least : (room : ℕ) (s : Lists) (a b c : ℕ) → a ≡ min (length (s .names)) (length (s .levels)) → b ≡ min a (length (s .parents)) → c ≡ min room b

@@ -4,8 +4,7 @@
 --   entries-set x ws t      the table t with x at each place that ws lists
 --   Core-named              a flood from v, and v written for each radio that came in
 --   takes-node, Visited     radio v at level k: a node where it has number k and is in the set, else nothing
---   has-number ns k x       x is a radio with number k
---   Shells-put, Shell-set   all radios sorted by their numbers, and the radios with number k as a set
+--   Shell-set               the radios with number k as a set
 --   Level-ready, Levels-ready  what one level, and all of them, want of tables, sets and lengths
 --   own g k v               v has number k and names its own node
 --   covered g k v w         the connected core of w at level k has a radio of number k below v
@@ -17,7 +16,7 @@
 --   Tables-contract         document 01: the shell tree, its nodes as three tables
 -- Definitions only.
 use mathlib.Core.Path.{_≡_}
-use mathlib.Core.Bool.{Bool, true, false, _&&_, _||_, not, cond}
+use mathlib.Core.Bool.{Bool, true, false, _&&_, not, cond}
 use mathlib.Core.List.{List, [], _∷_, _++_, map, flatMap}
 use Prim.Native.Nat.{ℕ, zero, suc, _+_, _*_, _/_, _%_, _≤_, _<_, min}
 use lib.Dec.{ltb, leb, eqb}
@@ -35,6 +34,7 @@ use Rattle.calls.specs.declared.Value.{Value}
 use Rattle.sets.specs.Sets.{in-set}
 use Rattle.soundness.specs.Checks.{fits-sound}
 use Rattle.floods.specs.Floods.{Level-set, Flooded}
+use Rattle.tree_parts.specs.Shells.{has-number}
 
 pub record Lists : Type 0 where
   pub names : List ℕ
@@ -94,13 +94,6 @@ pub record Visited (ts ns : List ℕ) (k v : ℕ) (s q : List ℕ) (old : Lists)
   pub passed : takes-node ns k s v ≡ false → Nothing-taken s old c t new r
 
 -- ---- the radios of a level
-
-unfoldable pub has-number : (numbers : List ℕ) → (k x : ℕ) → Bool
-has-number ns k x = ltb x (length ns) && eqb (getD ns x 0) k
-
--- ws before, us after: of 512 bits for each number, bit x of number k
-pub record Shells-put (ns ws us : List ℕ) : Type 0 where
-  pub bits : (u : ℕ) → u / 64 < length ws → in-set us u ≡ (in-set ws u || has-number ns (u / max-radios) (u % max-radios))
 
 pub record Shell-set (ns : List ℕ) (k : ℕ) (ws : List ℕ) : Type 0 where
   pub long : length ws ≡ 8

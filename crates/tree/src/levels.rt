@@ -1,12 +1,9 @@
 // The shell tree in document 01's order: level by level, and in a level radio by radio.
-ghost use mathlib.Core.Path.{_≡_};
-ghost use mathlib.Core.Bool.{_&&_};
 ghost use Prim.Native.Nat.{_+_, _*_, _≤_, _<_};
 ghost use lib.ListN.{length};
 ghost use Rattle.mesh.specs.Limits.{max-radios};
 ghost use Rattle.mesh.specs.Tables.{lent};
-ghost use Rattle.calls.specs.Questions.{nodes-length, answer-length};
-ghost use Rattle.tree.specs.Trees.{lists, Visited, Shells-put, Level-ready, Levels-ready, Levelled, Treed, Grown, Tables-contract};
+ghost use Rattle.tree.specs.Trees.{lists, Visited, Level-ready, Levels-ready, Levelled, Treed, Grown, Tables-contract};
 use calls::Value;
 use mesh::Site;
 
@@ -37,10 +34,7 @@ fn visit<'a>(
         (lists (now (names .entry)) (now (levels .entry)) (now (parents .entry)) (now (answer .entry))) count
         (now (set .exit)) (lists (now (names .exit)) (now (levels .exit)) (now (parents .exit)) (now (answer .exit))) r ⌝ }
 {
-    if numbers[v as usize] != level {
-        return count;
-    }
-    if !sets::is_in(set, v as u32) {
+    if !tree_parts::takes_node(numbers[v as usize], level, set, v) {
         return count;
     }
     crate::nodes::put_node(
@@ -54,19 +48,6 @@ fn visit<'a>(
     );
     crate::nodes::name_core(links, v, set, queue, answer);
     count + 1
-}
-
-// Puts each radio into the set of its number: the radios with number k are the eight words from word 8 * k on. A number past the words
-// changes nothing.
-fn put_shells(numbers: &[u8], shells: &mut [u64])
-    requires { ⌜ length (now numbers) ≤ max-radios ⌝ }
-    ensures { λ _. ⌜ Shells-put (now (numbers .entry)) (now (shells .entry)) (now (shells .exit)) ⌝ }
-{
-    let mut v: usize = 0;
-    while v < numbers.len() {
-        sets::put_in(shells, Site::RADIOS * numbers[v] as u32 + v as u32);
-        v += 1;
-    }
 }
 
 // One level: each of its radios in turn that is still in the set, which starts as the radios of the level and of higher ones; `shell`
@@ -173,24 +154,14 @@ fn grow<'a>(
         (lists (now (names .exit)) (now (levels .exit)) (now (parents .exit)) (now (answer .exit))) ⌝ }
 {
     let mut shells = [0u64; SHELL * (Site::NEIGHBOURS as usize + 1)];
-    put_shells(numbers, &mut shells);
-    crate::nodes::fill_front(answer, numbers.len(), ROOT);
+    tree_parts::put_shells(numbers, &mut shells);
+    tree_parts::fill_front(answer, numbers.len(), ROOT);
     crate::nodes::put_node(names, levels, parents, 0, ROOT, 0, ROOT);
     let top = tables::fill::least(
         tables::numbers::greatest(numbers) as usize,
         Site::NEIGHBOURS as usize,
     );
     take_levels(links, numbers, top, &shells, names, levels, parents, answer)
-}
-
-// Whether there are n + 1 places for nodes, and n for the radios' names.
-fn has_room(n: u32, nodes: usize, answer: usize) -> bool
-    ensures { λ r. ⌜ r ≡ (nodes-length n nodes && answer-length n answer) ⌝ }
-{
-    if nodes <= n as usize {
-        return false;
-    }
-    n as usize <= answer
 }
 
 // The shell tree. `room` is how many places the caller has for nodes beside the three tables: the shortest of the four must have
@@ -218,7 +189,8 @@ pub fn shell_tree<'a>(
             parents.len(),
         ),
     );
-    let number = soundness::refusal(n, links, numbers, order, has_room(n, nodes, answer.len()));
+    let others = tree_parts::has_room(n, nodes, answer.len());
+    let number = soundness::refusal(n, links, numbers, order, others);
     if number != 0 {
         return Value { number, value: 0 };
     }

@@ -1,8 +1,7 @@
-// Single writes of the shell tree: a node in three tables, a name for each radio of a core, one name for the first entries.
+// Single writes of the shell tree: a node in three tables, a name for each radio of a core.
 ghost use mathlib.Core.Path.{_≡_};
-ghost use Prim.Native.Nat.{_≤_, min};
-ghost use lib.ListN.{length, take, set, replicate};
-ghost use Rattle.lists.specs.Lists.{overwrite};
+ghost use Prim.Native.Nat.{_≤_};
+ghost use lib.ListN.{length, take, set};
 ghost use Rattle.tree.specs.Trees.{entries-set, Core-named};
 
 // Writes a node at a place of three tables; past a table nothing changes.
@@ -45,16 +44,4 @@ pub fn name_core(links: &[u8], v: u16, set: &mut [u64], queue: &mut [u16], answe
     let k = floods::flood::flood(links, v as u32, set, queue);
     let m = tables::fill::least(k, queue.len());
     name_all(queue, m, v, answer);
-}
-
-// The first k entries of the table are x after, or all where there are fewer; later entries keep their content.
-pub fn fill_front(table: &mut [u16], k: usize, x: u16)
-    ensures { λ _. ⌜ now (table .exit) ≡ overwrite (replicate (min k (length (now (table .entry)))) x) (now (table .entry)) ⌝ }
-{
-    let m = tables::fill::least(k, table.len());
-    let mut i: usize = 0;
-    while i < m {
-        table[i] = x;
-        i += 1;
-    }
 }

@@ -1,5 +1,4 @@
 -- `apply::fits` meets its contract: each test settles one part of `plan-fits`.
-use mathlib.Core.Path.{_≡_, sym, _∙_}
 use native.Mathlib.Omega.{arith}
 use Rattle.link_parts.proofs.ChangeLaws.{fits-taken, fits-stretch, fits-none, fits-order}
 use Rattle.link_parts.proofs.apply.fits.Statement.{statement}

@@ -1,6 +1,6 @@
 -- `places::image_size` meets its contract: the count of links stands 6 bytes after the name.
 use borrow.Author.Needs.{needs}
-use Rattle.mark_store.proofs.Left.{image-size-at, image-size-less}
+use Rattle.mark_store.proofs.MarkTests.{image-size-at, image-size-less}
 use Rattle.mark_store.proofs.places.image_size.Statement.{statement}
 use Rattle.mark_store.proofs.places.image_size.Tie as tie
 

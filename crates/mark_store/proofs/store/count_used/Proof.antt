@@ -9,7 +9,7 @@ use Rattle.mark_store.proofs.store.count_used.Statement.{statement}
 use Rattle.mark_store.proofs.store.count_used.Tie as tie
 use Rattle.mark_store.proofs.store.count_used.Reads as reads
 use Rattle.mark_store.proofs.store.count_used.Lts as lts
-use Rattle.mark_store.proofs.bytes.are_zeros.Reads as are-zeros-reads
+use Rattle.mark_names.proofs.bytes.are_zeros.Reads as are-zeros-reads
 
 abbrev Inv-loop : tie.InvT-loop
 Inv-loop store i₀ i = Counting store i

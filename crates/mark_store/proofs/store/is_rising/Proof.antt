@@ -5,7 +5,7 @@ use Rattle.mark_store.proofs.store.is_rising.Statement.{statement}
 use Rattle.mark_store.proofs.store.is_rising.Tie as tie
 use Rattle.mark_store.proofs.store.is_rising.Reads as reads
 use Rattle.mark_store.proofs.store.is_rising.Lts as lts
-use Rattle.mark_store.proofs.names.is_before.Reads as is-before-reads
+use Rattle.mark_names.proofs.names.is_before.Reads as is-before-reads
 
 -- src/store.rt:38:14
 mul-at : tie.Need-mul-at

@@ -10,7 +10,7 @@ use Rattle.mark_store.proofs.store.is_store.Statement.{statement}
 use Rattle.mark_store.proofs.store.is_store.Tie as tie
 use Rattle.mark_store.proofs.store.is_store.Reads as reads
 use Rattle.mark_store.proofs.store.is_store.Lts as lts
-use Rattle.mark_store.proofs.bytes.are_zeros.Reads as are-zeros-reads
+use Rattle.mark_names.proofs.bytes.are_zeros.Reads as are-zeros-reads
 use Rattle.mark_store.proofs.places.is_mark.Reads as is-mark-reads
 use Rattle.mark_store.proofs.store.count_used.Reads as count-used-reads
 use Rattle.mark_store.proofs.store.is_rising.Reads as is-rising-reads

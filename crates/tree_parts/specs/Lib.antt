@@ -1,0 +1,2 @@
+-- Radios sorted by their numbers.
+pub mod Shells
