@@ -39,7 +39,13 @@ fn high_of(v: u32, links: &[u8], numbers: &[u8]) -> u8
 }
 
 // Counts the first k listed radios anew.
-fn recount(list: &[u16], k: usize, links: &[u8], numbers: &[u8], highs: &mut [u8])
+fn recount(
+    list: &[u16],
+    k: usize,
+    links: &[u8],
+    numbers: &[u8],
+    highs: &mut [u8; Site::RADIOS as usize],
+)
     requires { ⌜ Rows-known (length (now numbers)) (now links) (now numbers) × (length (now numbers) ≤ length (now highs)) ×
         (k ≤ length (now list)) × ((i : ℕ) → i < k → getD (now list) i 0 < length (now numbers)) ⌝ }
     ensures { λ _. ⌜ now (highs .exit)
@@ -54,7 +60,7 @@ fn recount(list: &[u16], k: usize, links: &[u8], numbers: &[u8], highs: &mut [u8
 }
 
 // Marks v and its neighbours in the set.
-fn mark_around(v: u32, links: &[u8], set: &mut [u8])
+fn mark_around(v: u32, links: &[u8], set: &mut [u8; Site::ROW_BYTES])
     requires { ⌜ (row-bytes * v + row-bytes ≤ length (now links)) ×
         (length (neighbours-of (now links) v) ≤ max-neighbours) ⌝ }
     ensures { λ _. ⌜ now (set .exit) ≡ all-marked (around (now (links .entry)) v) (now (set .entry)) ⌝ }
@@ -66,7 +72,7 @@ fn mark_around(v: u32, links: &[u8], set: &mut [u8])
 }
 
 // Marks each listed radio and its neighbours in the set.
-fn mark_all_around(list: &[u16], links: &[u8], set: &mut [u8])
+fn mark_all_around(list: &[u16], links: &[u8], set: &mut [u8; Site::ROW_BYTES])
     requires { ⌜ ((i : ℕ) → i < length (now list) →
         (row-bytes * getD (now list) i 0 + row-bytes ≤ length (now links)) ×
         (length (neighbours-of (now links) (getD (now list) i 0)) ≤ max-neighbours)) ⌝ }
@@ -80,7 +86,14 @@ fn mark_all_around(list: &[u16], links: &[u8], set: &mut [u8])
 }
 
 // After the link a-b changed the listed radios: both ends, these and their neighbours are counted anew.
-pub(crate) fn renew(a: u32, b: u32, changed: &[u16], links: &[u8], numbers: &[u8], highs: &mut [u8])
+pub(crate) fn renew(
+    a: u32,
+    b: u32,
+    changed: &[u16],
+    links: &[u8],
+    numbers: &[u8],
+    highs: &mut [u8; Site::RADIOS as usize],
+)
     requires { ⌜ Rows-known (length (now numbers)) (now links) (now numbers) × (length (now numbers) ≤ length (now highs)) ×
         (a < length (now numbers)) × (b < length (now numbers)) ×
         ((i : ℕ) → i < length (now changed) → getD (now changed) i 0 < length (now numbers)) ⌝ }
@@ -89,8 +102,8 @@ pub(crate) fn renew(a: u32, b: u32, changed: &[u16], links: &[u8], numbers: &[u8
 {
     let mut set = [0u8; Site::ROW_BYTES];
     mark_all_around(changed, links, &mut set);
-    rows::put_bit(&mut set, true, 0, a);
-    rows::put_bit(&mut set, true, 0, b);
+    walk_parts::places::put(&mut set, true, a);
+    walk_parts::places::put(&mut set, true, b);
     let mut list = [0u16; Site::RADIOS as usize];
     let k = rows::list_set(&set, &mut list);
     recount(&list, k as usize, links, numbers, highs);

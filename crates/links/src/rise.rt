@@ -1,8 +1,8 @@
 // The plan of a link going up: nothing, a walk from the beginning end on, or the peel of its whole level.
 ghost use mathlib.Core.Path.{_≡_};
 ghost use mathlib.Core.Bool.{true};
-ghost use Prim.Native.Nat.{_≤_};
 ghost use lib.ListN.{length};
+ghost use Rattle.mesh.specs.Limits.{max-radios};
 ghost use Rattle.mesh.specs.Tables.{tables, graph-in};
 ghost use Rattle.links.specs.Plans.{Ready, Planned};
 ghost use Rattle.links.specs.Walks.{Begins};
@@ -11,6 +11,7 @@ use super::walk;
 use super::walk::Part;
 use super::walk::Rise;
 use link_parts::apply::Plan;
+use mesh::Site;
 use walk_parts::ends;
 use walk_parts::stretch;
 
@@ -37,11 +38,11 @@ fn plan_on(
     numbers: &[u8],
     order: &[u16],
     places: &[u16],
-    highs: &mut [u8],
-    stretch: &mut [u16],
+    highs: &mut [u8; Site::RADIOS as usize],
+    stretch: &mut [u16; Site::RADIOS as usize],
 ) -> Plan
     requires ready { ⌜ Ready true (length (now order)) (rise .a) (rise .b) (tables (now links) (now numbers) (now order)) (now places) (now highs) ⌝ }
-    requires room { ⌜ length (now order) ≤ length (now stretch) ⌝ }
+    requires room { ⌜ length (now stretch) ≡ max-radios ⌝ }
     requires begins { ⌜ Begins (rise .a) (rise .b) (rise .most) first (now numbers) (now places) ⌝ }
     ensures { λ r. ⌜ Planned true (rise .a) (rise .b) (graph-in (length (now (order .entry))) (now (links .entry))) (now (order .entry)) (r .start)
         (r .size) (r .taken) (now (stretch .exit)) ⌝ }
@@ -78,11 +79,11 @@ pub(crate) fn plan_up(
     numbers: &[u8],
     order: &[u16],
     places: &[u16],
-    highs: &mut [u8],
-    stretch: &mut [u16],
+    highs: &mut [u8; Site::RADIOS as usize],
+    stretch: &mut [u16; Site::RADIOS as usize],
 ) -> Plan
     requires ready { ⌜ Ready true (length (now order)) a b (tables (now links) (now numbers) (now order)) (now places) (now highs) ⌝ }
-    requires room { ⌜ length (now order) ≤ length (now stretch) ⌝ }
+    requires room { ⌜ length (now stretch) ≡ max-radios ⌝ }
     ensures { λ r. ⌜ Planned true a b (graph-in (length (now (order .entry))) (now (links .entry))) (now (order .entry)) (r .start)
         (r .size) (r .taken) (now (stretch .exit)) ⌝ }
 {

@@ -23,15 +23,12 @@ cast-mark-around c = omega (arith, c .shared-slice-known3 .given (c .before .bef
 mark-around-requires : tie.Need-mark-around-requires Inv-loop μ-loop
 mark-around-requires c κs =
     let at-loop = c .before .before .before in
-    at-loop .before .before .before .before .pre (at-loop .loop .i) (c .before .before .loop-test .taken)
+    at-loop .before .before .before .pre (at-loop .loop .i) (c .before .before .loop-test .taken)
 
 loop-again : tie.Need-loop-again Inv-loop μ-loop
 loop-again c =
-    let at-loop = c .before .before .before .before .before .before in
-    folding-turn _ _ _ (at-loop .loop .set) _ (at-loop .loop .i) (at-loop .loop .inv) (c .before .before .before .before .before .loop-test .taken) (c .before .before .mark-around .ensures)
-
-same-length : tie.Need-same-length Inv-loop μ-loop
-same-length c = folding-long _ (λ v now. length-all-marked (around _ v) now) _ _ _ _ (c .before .loop .inv)
+    let at-loop = c .before .before .before .before in
+    folding-turn _ _ _ (at-loop .loop .set) _ (at-loop .loop .i) (at-loop .loop .inv) (c .before .before .before .loop-test .taken) (c .mark-around .ensures)
 
 returns : tie.Need-returns Inv-loop μ-loop
 unfolding all-around
@@ -40,5 +37,4 @@ returns c = folding-end _ _ _ _ _ (c .before .loop .inv) (c .loop-test .left)
 pub mark-all-around-spec : {M : Type 1} → statement M
 mark-all-around-spec =
     tie.close (
-    tie.spec Inv-loop μ-loop (λ c. folding-none _ _ _) (λ c. search needs) (λ c. search needs) cast-mark-around mark-around-requires (λ c. search needs)
-    (λ c. search needs) loop-again same-length returns)
+    tie.spec Inv-loop μ-loop (λ c. folding-none _ _ _) (λ c. search needs) (λ c. search needs) cast-mark-around mark-around-requires (λ c. search needs) (λ c. search needs) loop-again returns)
