@@ -9,6 +9,7 @@ use super::plan;
 use super::turn;
 use link_parts::apply::Plan;
 use mesh::Site;
+use walk_parts::ends;
 use walk_parts::stretch;
 
 // Plans the link a-b going down. Before the call each radio of the level has K neighbours or more that are not lower, so that only an end can
@@ -30,7 +31,7 @@ pub(crate) fn plan_down(
 {
     let call = plan::call_at(false, a, b, numbers);
     let mut fits = [0u8; Site::ROW_BYTES];
-    let ends = [a as u16, b as u16];
+    let ends = ends::both(a as u16, b as u16);
     turn::release(
         &ends,
         2,

@@ -17,6 +17,7 @@ use super::turn::Call;
 use link_parts::apply::Plan;
 use mesh::Site;
 use tables::fill;
+use walk_parts::ends;
 use walk_parts::stretch;
 
 // The call at the lower end's level K: the peel takes radios with at most K neighbours going up, K - 1 going down.
@@ -27,7 +28,7 @@ pub(crate) fn call_at(up: bool, a: u32, b: u32, numbers: &[u8]) -> Call
         (r .level ≡ min (getD (now (numbers .entry)) a 0) (getD (now (numbers .entry)) b 0)) ×
         (r .most ≡ bound up (min (getD (now (numbers .entry)) a 0) (getD (now (numbers .entry)) b 0))) ⌝ }
 {
-    let level = lower(numbers[a as usize], numbers[b as usize]);
+    let level = ends::lower(numbers[a as usize], numbers[b as usize]);
     if up {
         return Call {
             up,
@@ -44,13 +45,6 @@ pub(crate) fn call_at(up: bool, a: u32, b: u32, numbers: &[u8]) -> Call
         level,
         most: level - 1,
     }
-}
-
-// The smaller of two numbers.
-pub(crate) fn lower(x: u8, y: u8) -> u8
-    ensures { λ r. ⌜ r ≡ min x y ⌝ }
-{
-    if x < y { x } else { y }
 }
 
 // The counters of both ends are brought to the graph after the call, and the places that fit before the first turn are marked.

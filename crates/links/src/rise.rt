@@ -10,6 +10,7 @@ use super::plan;
 use super::walk;
 use super::walk::Part;
 use super::walk::Rise;
+use link_parts::apply;
 use link_parts::apply::Plan;
 use mesh::Site;
 use walk_parts::ends;
@@ -17,17 +18,6 @@ use walk_parts::stretch;
 
 // A level of so many radios or fewer is peeled: the walk reads the rows of all who rise, the peel the rows of the others.
 const SMALL: usize = 16;
-
-// A plan that moves nothing.
-fn unmoved(first: usize) -> Plan
-    ensures { λ r. ⌜ (r .start ≡ first) × (r .size ≡ 0) × (r .taken ≡ 0) ⌝ }
-{
-    Plan {
-        start: first,
-        size: 0,
-        taken: 0,
-    }
-}
 
 // Plans the link from the beginning end, at place `first`, on. Where that end has at most K later neighbours with the link, nothing moves
 // and nothing rises. A small level is peeled; elsewhere the walk goes from that end on.
@@ -49,7 +39,7 @@ fn plan_on(
 {
     let tail = &order[first..];
     if walk::settled(rise, first, links, numbers, tail, places) {
-        return unmoved(first);
+        return apply::unmoved(first);
     }
     let at = stretch::stretch_of(numbers, rise.most);
     if at.size <= SMALL {
@@ -87,7 +77,7 @@ pub(crate) fn plan_up(
     ensures { λ r. ⌜ Planned true a b (graph-in (length (now (order .entry))) (now (links .entry))) (now (order .entry)) (r .start)
         (r .size) (r .taken) (now (stretch .exit)) ⌝ }
 {
-    let most = plan::lower(numbers[a as usize], numbers[b as usize]);
+    let most = ends::lower(numbers[a as usize], numbers[b as usize]);
     let e = ends::beginning(a as usize, b as usize, numbers, places);
     let first = places[e] as usize;
     let rise = Rise { a, b, most };

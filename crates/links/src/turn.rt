@@ -8,8 +8,10 @@ ghost use Rattle.lists.specs.Lists.{range};
 ghost use Rattle.mesh.specs.Tables.{put-bit, put-link};
 ghost use Rattle.rows.specs.Rows.{neighbours-of, set-bits};
 ghost use Rattle.links.specs.Turns.{end-counted, counter-less, released, place-marked, places-released, places-fitting, Releasable};
-ghost use Rattle.links.specs.Turns.{Row-ready, Near-ready, Lists-neighbours, other-end};
+ghost use Rattle.links.specs.Turns.{Row-ready, Near-ready, Lists-neighbours};
 use mesh::Site;
+use walk_parts::ends;
+use walk_parts::places;
 
 // The counter of v is one more going up and one less going down after, where v is of the level; the others keep theirs.
 pub(crate) fn count_end(
@@ -51,7 +53,7 @@ pub(crate) fn mark_fitting(
     while p < start + size {
         let v = order[p] as usize;
         if counters[v] <= most {
-            walk_parts::places::put(fits, true, p as u32);
+            places::put(fits, true, p as u32);
         }
         p += 1;
     }
@@ -76,7 +78,7 @@ fn release_one(
     if numbers[v] == level {
         counters[v] -= 1;
         if counters[v] == most {
-            walk_parts::places::put(fits, true, places[v] as u32);
+            places::put(fits, true, places[v] as u32);
         }
     }
 }
@@ -194,19 +196,6 @@ fn end_neighbours(up: bool, v: u32, w: u32, links: &[u8], near: &mut [u16]) -> u
     rows::row_neighbours(&row, 0, near)
 }
 
-// The other end of the link a-b, where v is an end; else v itself.
-fn other_end(a: u32, b: u32, v: u32) -> u32
-    ensures { λ r. ⌜ r ≡ other-end a b v ⌝ }
-{
-    if v == a {
-        return b;
-    }
-    if v == b {
-        return a;
-    }
-    v
-}
-
 // Writes the neighbours that v has after the link a-b went up or down into the list, ascending, and comes back with their count.
 pub(crate) fn neighbours_after(
     up: bool,
@@ -219,7 +208,7 @@ pub(crate) fn neighbours_after(
     requires { ⌜ Near-ready up a b v (now links) (length (now near)) ⌝ }
     ensures { λ r. ⌜ Lists-neighbours (put-link up a b (now (links .entry))) v r (now (near .exit)) ⌝ }
 {
-    let w = other_end(a, b, v);
+    let w = ends::other_end(a, b, v);
     if w != v {
         return end_neighbours(up, v, w, links, near);
     }
@@ -278,8 +267,8 @@ pub(crate) fn take_radio(
         (neighbours-of (put-link (call .up) (call .a) (call .b) (now (links .entry))) v) (now (counters .entry))
         (put-bit false 0 p (now (fits .entry))) ⌝ }
 {
-    walk_parts::places::put(fits, false, p);
-    let w = other_end(call.a, call.b, v);
+    places::put(fits, false, p);
+    let w = ends::other_end(call.a, call.b, v);
     if w != v {
         release_end(call, v, w, links, numbers, places, counters, fits);
         return;
