@@ -7,7 +7,7 @@ use mathlib.Core.List.{List}
 use Prim.Native.Nat.{ℕ, _+_, _*_, _≤_, _<_}
 use native.Mathlib.Omega.{arith}
 use lib.Dec.{ltb, leb}
-use lib.ListN.{length, getD, take, length-take, replicate}
+use lib.ListN.{length, getD, take, replicate}
 use borrow.Author.Tests.{ltb-true, ltb-false}
 use Rattle.mesh.specs.Limits.{max-radios, max-neighbours, row-bytes}
 use Rattle.lists.specs.Lists.{range, count, member, In, Each-once}
@@ -224,11 +224,8 @@ module _ {up : Bool} {n a b : ℕ} {t : Tables} {places highs : List ℕ} (k : S
     list-is : take many list ≡ cs
     list-is = d .listed
 
-    pub changed-long : length (take many list) ≡ many
+    changed-long : length (take many list) ≡ many
     changed-long = ap length list-is ∙ sym (d .counted)
-
-    pub changed-fits : many ≤ length list
-    changed-fits = omega (arith, changed-long, length-take many list)
 
     changed-radios : (i : ℕ) → i < length (take many list) → getD (take many list) i 0 < n
     unfolding graph-in
@@ -239,7 +236,7 @@ module _ {up : Bool} {n a b : ℕ} {t : Tables} {places highs : List ℕ} (k : S
 
     -- what counting anew wants
     pub renew-ready : Rows-known (length (v .numbers)) (v .links) (v .numbers) × (length (v .numbers) ≤ length highs) × (a < length (v .numbers)) × (b < length (v .numbers))
-        × ((i : ℕ) → i < length (take many list) → getD (take many list) i 0 < length (v .numbers))
+        × (length (take many list) ≡ many) × ((i : ℕ) → i < length (take many list) → getD (take many list) i 0 < length (v .numbers))
     unfolding graph-in
     renew-ready =
         let rows : Rows-known n (v .links) (v .numbers) = subst (λ (o : Tables). Rows-known n (o .links) (o .numbers)) (sym (d .tables)) (rows-known n after site-after) in (
@@ -247,6 +244,7 @@ module _ {up : Bool} {n a b : ℕ} {t : Tables} {places highs : List ℕ} (k : S
           omega (arith, numbers-length, k .prepared .highs-length, site .small),
           omega (arith, numbers-length, allowed .a-radio),
           omega (arith, numbers-length, allowed .b-radio),
+          changed-long,
           λ i l. omega (arith, numbers-length, changed-radios i l),
         )
 

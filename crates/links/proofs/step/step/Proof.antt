@@ -1,8 +1,8 @@
 -- `step::step` meets its contract: a refusal touches nothing. Of the tables after the change the places are put where the order may be
 -- another, and the not-lower counts are found anew of the radios that the change touched.
-use mathlib.Core.Path.{refl, sym}
+use mathlib.Core.Path.{refl}
 use borrow.Author.Needs.{needs}
-use Rattle.links.proofs.StepLaws.{step-asked, step-refused, step-ready, step-done, changed-fits, changed-long, put-ready, renew-ready, step-carried}
+use Rattle.links.proofs.StepLaws.{step-asked, step-refused, step-ready, step-done, put-ready, renew-ready, step-carried}
 use Rattle.links.proofs.step.step.Statement.{statement}
 use Rattle.links.proofs.step.step.Tie as tie
 
@@ -32,24 +32,6 @@ put-places-requires c κs =
     let ready = step-ready (x .up) (x .n) (x .a) (x .b) _ _ _ (start .pre) (asked .result) (asked .ensures (s .0) (s .1) (s .2)) (c .before .before .before .before .before .before .before .before .before .before .before .before .before .before .before .if1 .left) in
     put-ready ready _ _ _ _ _ (c .before .before .before .before .before .before .before .before .change .ensures)
 
-array-share-prefix-changed : tie.Need-array-share-prefix-changed
-array-share-prefix-changed c =
-    let start = c .before .before .before .before .before .before .before .before .before .before .before .before .before .before .before .before .before .before .before .before .before .before .before in
-    let x = start .args in
-    let s = step-asked (start .pre) in
-    let asked = c .before .before .before .before .before .before .before .before .before .before .before .before .before .before .before .before .before .before .ends-refusal in
-    let ready = step-ready (x .up) (x .n) (x .a) (x .b) _ _ _ (start .pre) (asked .result) (asked .ensures (s .0) (s .1) (s .2)) (c .before .before .before .before .before .before .before .before .before .before .before .before .before .before .before .before .before .if1 .left) in
-    changed-fits ready _ _ _ _ _ (c .before .before .before .before .before .before .before .before .before .before .change .ensures)
-
-slice-aggregate-renew : tie.Need-slice-aggregate-renew
-slice-aggregate-renew c =
-    let start = c .before .before .before .before .before .before .before .before .before .before .before .before .before .before .before .before .before .before .before .before .before .before .before .before in
-    let x = start .args in
-    let s = step-asked (start .pre) in
-    let asked = c .before .before .before .before .before .before .before .before .before .before .before .before .before .before .before .before .before .before .before .ends-refusal in
-    let ready = step-ready (x .up) (x .n) (x .a) (x .b) _ _ _ (start .pre) (asked .result) (asked .ensures (s .0) (s .1) (s .2)) (c .before .before .before .before .before .before .before .before .before .before .before .before .before .before .before .before .before .before .if1 .left) in
-    sym (changed-long ready _ _ _ _ _ (c .before .before .before .before .before .before .before .before .before .before .before .change .ensures))
-
 renew-requires : tie.Need-renew-requires
 renew-requires c κs =
     let start = c .before .before .before .before .before .before .before .before .before .before .before .before .before .before .before .before .before .before .before .before .before .before .before .before .before .before .before in
@@ -71,4 +53,4 @@ returns-2 c =
 
 pub step-spec : {M : Type 1} → statement M
 step-spec =
-    tie.close (tie.spec (λ c κs. search needs) (λ c. search needs) returns change-requires put-places-requires (λ c. search needs) array-share-prefix-changed slice-aggregate-renew renew-requires (λ c. search needs) (λ c. search needs) (λ c. search needs) returns-2)
+    tie.close (tie.spec (λ c κs. search needs) (λ c. search needs) returns change-requires put-places-requires (λ c. search needs) renew-requires (λ c. search needs) (λ c. search needs) (λ c. search needs) returns-2)
