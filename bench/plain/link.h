@@ -103,13 +103,13 @@ static struct c_reply c_commit(int up, const struct lent *t, uint32_t a, uint32_
     return r;
 }
 
-/* Both ends, the changed radios and their neighbours counted anew. */
-static void c_renew(const struct lent *t, uint32_t a, uint32_t b, const uint16_t *changed, unsigned count, uint8_t *highs) {
+/* Both ends, the changed radios, which are listed, and their neighbours counted anew. */
+static void c_renew(const struct lent *t, uint32_t a, uint32_t b, uint16_t *list, unsigned count, uint8_t *highs) {
     uint64_t set[8] = {0};
-    uint16_t list[RADIOS], near[NEIGHBOURS];
+    uint16_t near[NEIGHBOURS];
     for (unsigned i = 0; i < count; i++) {
-        unsigned m = row_list(t->links, changed[i], near, NEIGHBOURS);
-        set[changed[i] / 64] |= 1ull << changed[i] % 64;
+        unsigned m = row_list(t->links, list[i], near, NEIGHBOURS);
+        set[list[i] / 64] |= 1ull << list[i] % 64;
         for (unsigned j = 0; j < m; j++) set[near[j] / 64] |= 1ull << near[j] % 64;
     }
     set[a / 64] |= 1ull << a % 64, set[b / 64] |= 1ull << b % 64;

@@ -20,6 +20,17 @@ pub struct Plan {
     pub taken: usize,
 }
 
+// A plan that moves nothing.
+pub fn unmoved(start: usize) -> Plan
+    ensures { λ r. ⌜ (r .start ≡ start) × (r .size ≡ 0) × (r .taken ≡ 0) ⌝ }
+{
+    Plan {
+        start,
+        size: 0,
+        taken: 0,
+    }
+}
+
 // Whether the taken are no more than the stretch has, and the lent stretch and the order, of these lengths, have room for it.
 fn fits(plan: Plan, stretch: usize, order: usize) -> bool
     ensures { λ r. ⌜ r ≡ plan-fits (plan .start) (plan .size) (plan .taken) stretch order ⌝ }

@@ -44,17 +44,17 @@ module _ (u : Bool) (k : ℕ) (ns : List ℕ) (v : ℕ) (cs : List ℕ) where
   getD-end-same l e = rw (eq-eqb (getD ns v 0) k e) (getD-set-same cs v (cond u (getD cs v 0 + 1) (getD cs v 0 - 1)) 0 l)
 
 module _ {u : Bool} {a b k start size : ℕ} {ns os cs : List ℕ} (h : Begin-ready u a b k start size ns os cs) where
-  pub begin-a : (a < length ns) × (a < length cs) × (u ≡ false → getD ns a 0 ≡ k → 1 ≤ getD cs a 0) × (getD ns a 0 ≡ k → getD cs a 0 < 255)
+  pub begin-a : (a < length ns) × (a < max-radios) × (u ≡ false → getD ns a 0 ≡ k → 1 ≤ getD cs a 0) × (getD ns a 0 ≡ k → getD cs a 0 < 255)
   begin-a = (h .known-a .0, h .known-a .1, h .above-zero a (inl refl), h .small a (h .known-a .0))
 
   module _ (cs1 : List ℕ) (e : cs1 ≡ end-counted u k ns a cs) where
     kept : getD cs1 b 0 ≡ getD cs b 0
     kept = ap (λ (xs : List ℕ). getD xs b 0) e ∙ getD-end-other u k ns a cs b (λ q. h .differ (sym q))
 
-    pub begin-b : (b < length ns) × (b < length cs1) × (u ≡ false → getD ns b 0 ≡ k → 1 ≤ getD cs1 b 0) × (getD ns b 0 ≡ k → getD cs1 b 0 < 255)
+    pub begin-b : (b < length ns) × (b < max-radios) × (u ≡ false → getD ns b 0 ≡ k → 1 ≤ getD cs1 b 0) × (getD ns b 0 ≡ k → getD cs1 b 0 < 255)
     begin-b = (
       h .known-b .0,
-      omega (arith, h .known-b .1, ap length e, length-end-counted u k ns a cs),
+      h .known-b .1,
       λ d q. omega (arith, h .above-zero b (inr refl) d q, kept),
       λ q. omega (arith, h .small b (h .known-b .0) q, kept),
     )
@@ -65,14 +65,6 @@ module _ {u : Bool} {a b k start size : ℕ} {ns os cs : List ℕ} (h : Begin-re
     begin-done cs2 fs2 m ps fs f g =
         let both : cs2 ≡ ends-counted u a b k ns cs = f ∙ ap (end-counted u k ns b) e in
         (both, g ∙ ap (λ (xs : List ℕ). places-fitting os xs m ps fs) both)
-
-    pub begin-places : (cs2 : List ℕ) → cs2 ≡ end-counted u k ns b cs1
-        → (start + size ≤ length os) × (start + size ≤ max-radios) × ((p : ℕ) → p < length os → getD os p 0 < length cs2)
-    begin-places cs2 f = (
-      h .fits .0,
-      h .fits .1,
-      λ p l. omega (arith, h .radios p l, ap length f, length-end-counted u k ns b cs1, ap length e, length-end-counted u k ns a cs),
-    )
 
 -- ---- the places that fit
 

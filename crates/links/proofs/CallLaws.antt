@@ -13,7 +13,6 @@ use Rattle.mesh.specs.Sound.{sound}
 use Rattle.calls.specs.Questions.{answer-length, lengths-of, ends-refusal, link-refusal}
 use Rattle.calls.specs.Contracts.Links.{Link-accepted, Link-refused, Link-contract}
 use Rattle.calls.specs.declared.Reply.{Reply}
-use Rattle.calls.proofs.QuestionLaws.{answer-length-true}
 use Rattle.calls.proofs.ContractLaws.{by-accepted, by-refused}
 use Rattle.calls.proofs.ChainLaws.{site-zero}
 use Rattle.link_parts.specs.Changes.{plan-fits, Applied, Apply-contract}
@@ -32,12 +31,6 @@ module _ (up : Bool) (n a b : ℕ) (t : Tables) (w : ℕ) (lent : List ℕ) (roo
   -- the order is as long as the site has radios
   pub plan-ready : Ready up (length (t .order)) a b t places highs
   plan-ready = subst (λ (k : ℕ). Ready up k a b t places highs) (sym (ready .order-length)) ready
-
-  pub stretch-room : length (t .order) ≤ length lent
-  unfolding link-refusal
-  stretch-room =
-      let good = site-zero n (lengths-of t) (answer-length n room) (sound n t) (ends-refusal max-neighbours up n a b (graph-in n (t .links))) (sym (asked .number) ∙ yes) .0 in
-      omega (arith, ready .order-length, answer-length-true n room (good .lent .further))
 
   pub plan-made : (start size taken : ℕ) (stretch : List ℕ) → Planned up a b (graph-in (length (t .order)) (t .links)) (t .order) start size taken stretch
       → Plan-contract up n a b t w lent q start size taken stretch

@@ -122,6 +122,13 @@ module _ (ts : List ℕ) (w : ℕ) (l : w < max-radios) where
       go (inl m) = near (or-cases (member w (around ts v)) (marked s 0 w) (sym (marked-all-marked (around ts v) s w e l) ∙ m))
       go (inr m) = inr (m .0, inr (m .1), m .2)
 
+-- the set as the code makes it, in three steps
+pub set-long : (a b : ℕ) (cs ts s0 s1 s2 : List ℕ) → s0 ≡ all-around ts cs (replicate row-bytes 0) → s1 ≡ put-bit true 0 a s0
+    → s2 ≡ put-bit true 0 b s1 → length s2 ≡ row-bytes
+set-long a b cs ts s0 s1 s2 e f g =
+    ap length g ∙ length-put-bit true 0 b s1 ∙ ap length f ∙ length-put-bit true 0 a s0 ∙ ap length e ∙ length-all-around ts cs (replicate row-bytes 0)
+    ∙ length-replicate {A = ℕ} row-bytes 0
+
 module _ (a b : ℕ) (cs ts : List ℕ) (la : a < max-radios) (lb : b < max-radios) where
   abbrev empty : List ℕ
   empty = replicate row-bytes 0

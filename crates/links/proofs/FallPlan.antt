@@ -58,9 +58,9 @@ module _ {a b : ℕ} {ts ns os ps cs : List ℕ} (r : Ready false (length os) a 
         apart (inl e) = r .allowed .differ (sym e)
         apart (inr e) = e
 
-        known : (v : ℕ) → In v near → (v < length ns) × (v < length ps) × (v < length cs)
-        known v (inl e) = (omega (arith, a-below r, r .numbers-length), omega (arith, a-below r, r .places-length), omega (arith, a-below r, r .highs-length))
-        known v (inr (inl e)) = (omega (arith, b-below r, r .numbers-length), omega (arith, b-below r, r .places-length), omega (arith, b-below r, r .highs-length))
+        known : (v : ℕ) → In v near → (v < length ns) × (v < length ps) × (v < length cs) × (v < max-radios)
+        known v (inl e) = (omega (arith, a-below r, r .numbers-length), omega (arith, a-below r, r .places-length), omega (arith, a-below r, r .highs-length), omega (arith, a-below r, r .small))
+        known v (inr (inl e)) = (omega (arith, b-below r, r .numbers-length), omega (arith, b-below r, r .places-length), omega (arith, b-below r, r .highs-length), omega (arith, b-below r, r .small))
         known v (inr (inr e)) = absurd e
 
         above : (v : ℕ) → In v near → getD ns v 0 ≡ k → 1 ≤ getD cs v 0
@@ -131,7 +131,7 @@ module _ {a b : ℕ} {ts ns os ps cs : List ℕ} (r : Ready false (length os) a 
         (turning-ready r k (call .3) m _ _ (turning k (call .3) m (call .4 ∙ ap (λ (z : ℕ). z - 1) (sym (call .3))) (replicate row-bytes 0)
         (length-replicate {A = ℕ} row-bytes 0) (λ q lq. marked-replicate row-bytes 0 q (omega arith))) room l)
 
-    pub fall-unmoved : (taken : ℕ) (cs2 list1 : List ℕ) → Peel-done w x y k m ts ns os taken cs2 list1 → length os ≤ length list1 → taken ≡ 0
+    pub fall-unmoved : (taken : ℕ) (cs2 list1 : List ℕ) → Peel-done w x y k m ts ns os taken cs2 list1 → length list1 ≡ max-radios → taken ≡ 0
         → Planned false a b g os 0 0 taken list1
     fall-unmoved taken cs2 list1 done room z =
         plan-unmoved r w x y k m taken cs2 list1 (call .0) (call .1) (call .2) (call .3 ∙ level-is r) (call .4 ∙ ap (bound false) (level-is r)) done room z refl

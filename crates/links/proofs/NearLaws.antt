@@ -21,7 +21,8 @@ use Rattle.mesh.proofs.Tables.Laws.{length-put-bit, marked-put-bit}
 use Rattle.rows.specs.Rows.{neighbours-of, row-listed, row-count}
 use Rattle.rows.proofs.RowListLaws.{row-listed-fits}
 use Rattle.rows.proofs.RowWords.{row-listed-whole}
-use Rattle.links.specs.Turns.{released, places-released, Releasable, other-end, Row-ready, Near-ready, Lists-neighbours}
+use Rattle.walk_parts.specs.Places.{other-end}
+use Rattle.links.specs.Turns.{released, places-released, Releasable, Row-ready, Near-ready, Lists-neighbours}
 
 -- rows that mark alike list alike
 pub neighbours-of-ext : (ts us : List ℕ) (v w : ℕ) → ((x : ℕ) → x < max-radios → marked ts v x ≡ marked us w x) → neighbours-of ts v ≡ neighbours-of us w

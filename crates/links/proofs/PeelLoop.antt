@@ -57,7 +57,10 @@ module _ {up : Bool} {a b k m : ℕ} {links ns os ps cs0 fs0 list0 : List ℕ}
       pub peel-room : taken < level-size ns k
       peel-room = omega (arith, taken-room (ready .level) m (h .turning) p (h .next) some, long-taken)
 
-      pub peel-write : taken < length list
+      pub peel-few : taken < max-radios
+      peel-few = omega (arith, peel-room, ready .level .fits, ready .level .small)
+
+      peel-write : taken < length list
       peel-write = omega (arith, peel-room, ready .list-long, h .long-list)
 
       v-below : v < length os

@@ -139,7 +139,7 @@ module _ {f : ℕ → ℕ → Bool} {ns os ps : List ℕ} {k start size : ℕ} (
         taken-releasable = record {
           once = distinct-neighbours-of us v;
           known = λ w i. (let l = lv .within v w (near-linked w i) in
-              (omega (arith, lv .numbers-length), omega (arith, lv .places-length), omega (arith, h .counters-long)));
+              (omega (arith, lv .numbers-length), omega (arith, lv .places-length), omega (arith, h .counters-long), omega (arith, lv .small)));
           above-zero = λ w i e. (let l = lv .within v w (near-linked w i) in
               omega (arith, h .counted w (level-stretch lv w l e), count-pos (f w) v left taken-left (lv .symmetric w v ∙ near-linked w i)));
         }

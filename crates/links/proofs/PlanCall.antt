@@ -57,17 +57,17 @@ module _ {u : Bool} {a b : ℕ} {ts ns os ps cs : List ℕ} (r : Ready u (length
         (peel-ready r k (call .3) m (replicate row-bytes 0) (length-replicate {A = ℕ} row-bytes 0) (λ q lq. marked-replicate row-bytes 0 q (omega arith))
         room l)
 
-    pub plan-stuck : (taken : ℕ) (cs2 list1 : List ℕ) → length cs2 ≡ length cs → Peel-done w x y k m ts ns os taken cs2 list1
-        → (from + many ≤ length os) × (from + many ≤ max-radios) × (taken ≤ max-radios) × ((p : ℕ) → p < length os → getD os p 0 < length cs2)
-    plan-stuck taken cs2 list1 e done =
+    pub plan-stuck : (taken : ℕ) (cs2 list1 : List ℕ) → Peel-done w x y k m ts ns os taken cs2 list1
+        → (from + many ≤ length os) × (from + many ≤ max-radios) × (taken ≤ max-radios) × ((p : ℕ) → p < length os → getD os p 0 < max-radios)
+    plan-stuck taken cs2 list1 done =
         let fits : from + many ≤ length os = omega (arith, at .0, at .1, stretch-fits r k) in (
           fits,
           omega (arith, fits, r .small),
           omega (arith, done .fits, stretch-fits r k, r .small),
-          λ p l. omega (arith, order-radios r p l, r .highs-length),
+          λ p l. omega (arith, order-radios r p l, r .small),
         )
 
-    pub plan-done : (taken : ℕ) (cs2 list1 list2 : List ℕ) → Peel-done w x y k m ts ns os taken cs2 list1 → length os ≤ length list1
+    pub plan-done : (taken : ℕ) (cs2 list1 list2 : List ℕ) → Peel-done w x y k m ts ns os taken cs2 list1 → length list1 ≡ max-radios
         → list2 ≡ sets list1 taken (filter (λ v. ltb m (getD cs2 v 0)) (stretch os from many)) → Planned u a b (graph-in (length os) ts) os from many taken list2
     plan-done taken cs2 list1 list2 done room written =
         plan-end r w x y k m from many taken cs2 list1 list2 (call .0) (call .1) (call .2) (call .3 ∙ level-is r) (call .4 ∙ ap (bound u) (level-is r)) (at .0) (at .1)

@@ -8,7 +8,7 @@ use native.Mathlib.Omega.{arith}
 use lib.Dec.{ltb}
 use lib.ListN.{length, getD, take, drop, length-append, take-append-drop}
 use lib.Seq.{paste, paste-zero, drop-drop, sets, sets-eq, length-sets, take-at, drop-at, take-take, getD-take, length-take-le}
-use Rattle.mesh.specs.Limits.{max-neighbours}
+use Rattle.mesh.specs.Limits.{max-neighbours, max-radios}
 use Rattle.lists.specs.Lists.{filter, member, In}
 use Rattle.mesh.specs.Graph.{Graph, linked, relinked}
 use Rattle.mesh.specs.Cores.{number}
@@ -49,7 +49,7 @@ module _ {u : Bool} {a b : ℕ} {ts ns os ps cs : List ℕ} (r : Ready u (length
   abbrev level : List ℕ
   level = stretch os start size
 
-  module _ (taken : ℕ) (cs1 list1 list2 : List ℕ) (done : Peel-done u a b K (bound u K) ts ns os taken cs1 list1) (room : n ≤ length list1)
+  module _ (taken : ℕ) (cs1 list1 list2 : List ℕ) (done : Peel-done u a b K (bound u K) ts ns os taken cs1 list1) (room : length list1 ≡ max-radios)
       (written : list2 ≡ sets list1 taken (filter (λ v. ltb (bound u K) (getD cs1 v 0)) level)) where
     abbrev first : List ℕ
     first = take taken list1
@@ -100,8 +100,11 @@ module _ {u : Bool} {a b : ℕ} {ts ns os ps cs : List ℕ} (r : Ready u (length
         go (inl m) = stretch-number r K v (takes-taken-in (linked after) (bound u K) (above os start size) (done .peels .takes) v m) .0
         go (inr m) = stretch-number r K v (takes-now-in (linked after) (bound u K) (above os start size) (done .peels .takes) v m) .0
 
+    room-after : length list2 ≡ max-radios
+    room-after = ap length written ∙ length-sets list1 taken stuck ∙ room
+
     long-list : n ≤ length list2
-    long-list = omega (arith, room, ap length written, length-sets list1 taken stuck)
+    long-list = omega (arith, room-after, r .small)
 
     stretch-laid : take size list2 ≡ new-stretch u after K (changed u a b g) level (above os start size)
     unfolding peel
@@ -114,6 +117,7 @@ module _ {u : Bool} {a b : ℕ} {ts ns os ps cs : List ℕ} (r : Ready u (length
     unfolding changed-part graph-in peel new-order with-stretch
     plan-at = record {
       fits = stretch-fits r K;
+      room = room-after;
       long = omega (arith, stretch-fits r K, long-list);
       taken-fits = done .fits;
       laid = rw (← start-is r K, ← size-is r K, ← stretch-laid) (append-assoc (take start os) (take size list2) (drop (start + size) os));
@@ -141,6 +145,7 @@ module _ {u : Bool} {a b : ℕ} {ts ns os ps cs : List ℕ} (r : Ready u (length
     unfolding changed-part
     unmoved-at z d = record {
       fits = omega arith;
+      room = room;
       long = omega arith;
       taken-fits = omega (arith, z);
       laid = sym (paste-zero os 0 list1) ∙ sym (laid-unmoved z) ∙ plan-at .laid;
@@ -153,7 +158,7 @@ module _ {u : Bool} {a b : ℕ} {ts ns os ps cs : List ℕ} (r : Ready u (length
 
   -- as the code names its values
   pub plan-end : (w : Bool) (x y k m from many taken : ℕ) (cs1 list1 list2 : List ℕ) → w ≡ u → x ≡ a → y ≡ b → k ≡ K → m ≡ bound u K
-      → from ≡ level-start ns k → many ≡ level-size ns k → Peel-done w x y k m ts ns os taken cs1 list1 → n ≤ length list1
+      → from ≡ level-start ns k → many ≡ level-size ns k → Peel-done w x y k m ts ns os taken cs1 list1 → length list1 ≡ max-radios
       → list2 ≡ sets list1 taken (filter (λ v. ltb m (getD cs1 v 0)) (stretch os from many)) → Planned u a b g os from many taken list2
   plan-end w x y k m from many taken cs1 list1 list2 ew ex ey ek em es ez done room written =
       let fs : from ≡ start = es ∙ ap (level-start ns) ek in
@@ -161,6 +166,6 @@ module _ {u : Bool} {a b : ℕ} {ts ns os ps cs : List ℕ} (r : Ready u (length
       rw (fs, fz) (plan-at taken cs1 list1 list2 (rw (ew, ex, ey, em, ek) at done) room (rw (fs, fz, em) at written))
 
   pub plan-unmoved : (w : Bool) (x y k m taken : ℕ) (cs1 list1 : List ℕ) → w ≡ u → x ≡ a → y ≡ b → k ≡ K → m ≡ bound u K
-      → Peel-done w x y k m ts ns os taken cs1 list1 → n ≤ length list1 → taken ≡ 0 → u ≡ false → Planned u a b g os 0 0 taken list1
+      → Peel-done w x y k m ts ns os taken cs1 list1 → length list1 ≡ max-radios → taken ≡ 0 → u ≡ false → Planned u a b g os 0 0 taken list1
   plan-unmoved w x y k m taken cs1 list1 ew ex ey ek em done room z d =
       unmoved-at taken cs1 list1 (sets list1 taken (filter (λ v. ltb (bound u K) (getD cs1 v 0)) level)) (rw (ew, ex, ey, em, ek) at done) room refl z d

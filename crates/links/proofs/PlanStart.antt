@@ -232,12 +232,12 @@ module _ {u : Bool} {a b : ℕ} {ts ns os ps cs : List ℕ} (r : Ready u (length
   pub begin-ready : Begin-ready u a b k start size ns os cs
   begin-ready = record {
     differ = r .allowed .differ;
-    known-a = (omega (arith, a-below r, r .numbers-length), omega (arith, a-below r, r .highs-length));
-    known-b = (omega (arith, b-below r, r .numbers-length), omega (arith, b-below r, r .highs-length));
+    known-a = (omega (arith, a-below r, r .numbers-length), omega (arith, a-below r, r .small));
+    known-b = (omega (arith, b-below r, r .numbers-length), omega (arith, b-below r, r .small));
     above-zero = positive;
     small = λ v l e. (let h : v < n = omega (arith, r .numbers-length) in omega (arith, few-high v h (sym (number-is r v h) ∙ e)));
     fits = (stretch-fits r k, omega (arith, stretch-fits r k, r .small));
-    radios = λ p l. omega (arith, order-radios r p l, r .highs-length);
+    radios = λ p l. omega (arith, order-radios r p l, r .small);
   }
     where
       positive : (v : ℕ) → (v ≡ a) ⊎ (v ≡ b) → u ≡ false → getD ns v 0 ≡ k → 1 ≤ getD cs v 0

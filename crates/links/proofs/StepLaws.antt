@@ -7,15 +7,15 @@ use mathlib.Core.List.{List}
 use Prim.Native.Nat.{ℕ, _+_, _*_, _≤_, _<_}
 use native.Mathlib.Omega.{arith}
 use lib.Dec.{ltb, leb}
-use lib.ListN.{length, getD, take, replicate, length-replicate}
+use lib.ListN.{length, getD, take, replicate}
 use borrow.Author.Tests.{ltb-true, ltb-false}
 use Rattle.mesh.specs.Limits.{max-radios, max-neighbours, row-bytes}
-use Rattle.lists.specs.Lists.{range, count, member, overwrite, In, Each-once}
+use Rattle.lists.specs.Lists.{range, count, member, In, Each-once}
 use Rattle.lists.proofs.Tests.{bool-cases, never, and-left, and-right}
 use Rattle.lists.proofs.Member.{in-getD, in-member, not-member, member-in}
 use Rattle.lists.proofs.Count.{count-ext}
 use Rattle.lists.proofs.Range.{once-below, once-distinct}
-use Rattle.lists.proofs.Overwrite.{overwrite-take, take-overwrite}
+use Rattle.lists.proofs.Overwrite.{take-overwrite}
 use Rattle.mesh.specs.Graph.{Graph, relinked}
 use Rattle.mesh.specs.Cores.{number, numbers}
 use Rattle.mesh.specs.Levels.{changed}
@@ -95,31 +95,22 @@ module _ {up : Bool} {n a b : ℕ} {t : Tables} {places highs : List ℕ} (k : S
 
   -- ---- the plan
 
-  pub step-plan : (counters : List ℕ) → length counters ≡ max-radios → (copied : List ℕ) → copied ≡ overwrite (take (length counters) highs) counters
-      → Ready up n a b t places copied
+  pub step-plan : Ready up n a b t places highs
   unfolding lengths-of graph-in
-  step-plan zeros long copied e =
-      let is : copied ≡ highs = e ∙ overwrite-take highs zeros (k .prepared .highs-length ∙ sym long) in
-      record {
-        small = good .lent .most;
-        links-length = good .lent .lengths .links;
-        numbers-length = good .lent .lengths .numbers;
-        order-length = good .lent .lengths .order;
-        is-sound = good .is-sound;
-        allowed = allowed;
-        places-length = omega (arith, good .lent .most, k .prepared .places-length);
-        highs-length = omega (arith, good .lent .most, ap length is, k .prepared .highs-length);
-        placed = λ i l low high. k .prepared .placed .at i l;
-        counted = λ v l level. ap (λ (hs : List ℕ). getD hs v 0) is
-            ∙ k .prepared .counted .at v l
-            ∙ high-count-neighbours-in n t (good .is-sound) (good .lent .most) v l
-            ∙ high-numbers g (t .numbers) (site .numbers) v l;
-      }
-
-  -- a stretch for as many radios as a site may have has room
-  pub step-room : length (t .order) ≤ length (replicate {A = ℕ} max-radios 0)
-  unfolding lengths-of
-  step-room = omega (arith, good .lent .lengths .order, good .lent .most, length-replicate {A = ℕ} max-radios 0)
+  step-plan = record {
+    small = good .lent .most;
+    links-length = good .lent .lengths .links;
+    numbers-length = good .lent .lengths .numbers;
+    order-length = good .lent .lengths .order;
+    is-sound = good .is-sound;
+    allowed = allowed;
+    places-length = omega (arith, good .lent .most, k .prepared .places-length);
+    highs-length = omega (arith, good .lent .most, k .prepared .highs-length);
+    placed = λ i l low high. k .prepared .placed .at i l;
+    counted = λ v l level. k .prepared .counted .at v l
+        ∙ high-count-neighbours-in n t (good .is-sound) (good .lent .most) v l
+        ∙ high-numbers g (t .numbers) (site .numbers) v l;
+  }
 
   -- ---- what it is applied to
 
@@ -233,9 +224,8 @@ module _ {up : Bool} {n a b : ℕ} {t : Tables} {places highs : List ℕ} (k : S
     list-is : take many list ≡ cs
     list-is = d .listed
 
-    pub changed-fits : length list ≡ max-radios → many ≤ length list
-    unfolding graph-in
-    changed-fits long = omega (arith, d .counted, length-changed up a b g, site .small)
+    changed-long : length (take many list) ≡ many
+    changed-long = ap length list-is ∙ sym (d .counted)
 
     changed-radios : (i : ℕ) → i < length (take many list) → getD (take many list) i 0 < n
     unfolding graph-in
@@ -246,7 +236,7 @@ module _ {up : Bool} {n a b : ℕ} {t : Tables} {places highs : List ℕ} (k : S
 
     -- what counting anew wants
     pub renew-ready : Rows-known (length (v .numbers)) (v .links) (v .numbers) × (length (v .numbers) ≤ length highs) × (a < length (v .numbers)) × (b < length (v .numbers))
-        × ((i : ℕ) → i < length (take many list) → getD (take many list) i 0 < length (v .numbers))
+        × (length (take many list) ≡ many) × ((i : ℕ) → i < length (take many list) → getD (take many list) i 0 < length (v .numbers))
     unfolding graph-in
     renew-ready =
         let rows : Rows-known n (v .links) (v .numbers) = subst (λ (o : Tables). Rows-known n (o .links) (o .numbers)) (sym (d .tables)) (rows-known n after site-after) in (
@@ -254,6 +244,7 @@ module _ {up : Bool} {n a b : ℕ} {t : Tables} {places highs : List ℕ} (k : S
           omega (arith, numbers-length, k .prepared .highs-length, site .small),
           omega (arith, numbers-length, allowed .a-radio),
           omega (arith, numbers-length, allowed .b-radio),
+          changed-long,
           λ i l. omega (arith, numbers-length, changed-radios i l),
         )
 
@@ -266,12 +257,12 @@ module _ {up : Bool} {n a b : ℕ} {t : Tables} {places highs : List ℕ} (k : S
     unfolding lengths-of
     order-length = ap (λ (o : Tables). length (o .order)) (d .tables) ∙ good-after .lent .lengths .order
 
-    order-known : (p : ℕ) → p < n → getD (v .order) p 0 < length places
+    order-known : (p : ℕ) → p < n → getD (v .order) p 0 < max-radios
     order-known p l =
-        omega (arith, once-below n (v .order) order-once (getD (v .order) p 0) (in-getD (v .order) p (omega (arith, order-length))), k .prepared .places-length, site .small)
+        omega (arith, once-below n (v .order) order-once (getD (v .order) p 0) (in-getD (v .order) p (omega (arith, order-length))), site .small)
 
     -- what putting places wants
-    pub put-ready : (start + size ≤ length (v .order)) × (length (v .order) ≤ max-radios) × ((p : ℕ) → p < length (v .order) → getD (v .order) p 0 < length places)
+    pub put-ready : (start + size ≤ length (v .order)) × (length (v .order) ≤ max-radios) × ((p : ℕ) → p < length (v .order) → getD (v .order) p 0 < max-radios)
     put-ready = (omega (arith, d .part-fits, order-length), omega (arith, order-length, site .small), λ p l. order-known p (omega (arith, order-length)))
 
     -- the tables after, prepared again
@@ -279,7 +270,7 @@ module _ {up : Bool} {n a b : ℕ} {t : Tables} {places highs : List ℕ} (k : S
         → (h : List ℕ) → h ≡ recounted (v .links) (v .numbers) (neighbours-of (touched a b (take many list) (v .links)) 0) highs → Carried up n a b t v p h
     step-carried p f h e =
         let again : Placed n (v .order) p =
-        rw f (placed-again n (t .order) (v .order) places start size (once-distinct n (v .order) order-once) order-length (d .part-fits) order-known (d .unmoved) (k .prepared .placed)) in
+        rw f (placed-again n (t .order) (v .order) places start size (once-distinct n (v .order) order-once) order-length (d .part-fits) (λ q l. omega (arith, order-known q l, k .prepared .places-length)) (d .unmoved) (k .prepared .placed)) in
         let is : h ≡ recounted (after .links) (after .numbers) (neighbours-of (touched a b cs (after .links)) 0) highs =
         e ∙ rw (list-is, d .tables) in
         record {

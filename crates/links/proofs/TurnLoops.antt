@@ -13,7 +13,7 @@ use lib.Dec.{leb, eqb}
 use lib.ListN.{length, getD, set, drop, length-set}
 use lib.Seq.{drop-cons, getD-set-other, drop-length}
 use borrow.Author.Tests.{eq-eqb, ne-eqb}
-use Rattle.mesh.specs.Limits.{row-bytes}
+use Rattle.mesh.specs.Limits.{max-radios, row-bytes}
 use Rattle.lists.specs.Lists.{range}
 use Rattle.mesh.specs.Tables.{put-bit}
 use Rattle.lists.proofs.Tests.{bool-cases}
@@ -123,7 +123,7 @@ pub releasable-tail : (ns ps : List ℕ) (k v : ℕ) (vs cs : List ℕ) → Rele
 unfolding counter-less
 releasable-tail ns ps k v vs cs h = record {
   once = h .once .1;
-  known = λ w m. let r = h .known w (inr m) in (r .0, r .1, omega (arith, r .2, length-counter-less ns k v cs));
+  known = λ w m. let r = h .known w (inr m) in (r .0, r .1, omega (arith, r .2, length-counter-less ns k v cs), r .3);
   above-zero = λ w m e. omega (arith, h .above-zero w (inr m) e, same w (λ q. h .once .0 (rw q at m)) (bool-cases (eqb (getD ns v 0) k)));
 }
   where
@@ -146,8 +146,8 @@ length-places-released ns ps k m (v ∷ vs) cs fs =
 
 -- what `release_one` asks of the first radio
 pub releasable-head : (ns ps : List ℕ) (k v : ℕ) (vs cs : List ℕ) → Releasable ns ps k (v ∷ vs) cs
-    → (v < length ns) × (v < length ps) × (v < length cs) × (getD ns v 0 ≡ k → 1 ≤ getD cs v 0)
-releasable-head ns ps k v vs cs h = let r = h .known v (inl refl) in (r .0, r .1, r .2, h .above-zero v (inl refl))
+    → (v < length ns) × (v < length ps) × (v < max-radios) × (getD ns v 0 ≡ k → 1 ≤ getD cs v 0)
+releasable-head ns ps k v vs cs h = let r = h .known v (inl refl) in (r .0, r .1, r .3, h .above-zero v (inl refl))
 
 releasable-part : (ns ps : List ℕ) (k : ℕ) (xs rest cs : List ℕ) → Releasable ns ps k (xs ++ rest) cs → Releasable ns ps k xs cs
 releasable-part ns ps k xs rest cs h = record {
@@ -203,7 +203,7 @@ module _ (ns ps : List ℕ) (k m : ℕ) (near old fold : List ℕ) where
     next : Releasing ns ps k m near old fold (v ∷ drop (i + 1) near) cs fs
     next = let cut : drop i near ≡ v ∷ drop (i + 1) near = drop-cons near i 0 l ∙ rw (e, add-one i) in rw cut at (h .1)
 
-    pub list-next : (v < length ns) × (v < length ps) × (v < length cs) × (getD ns v 0 ≡ k → 1 ≤ getD cs v 0)
+    pub list-next : (v < length ns) × (v < length ps) × (v < max-radios) × (getD ns v 0 ≡ k → 1 ≤ getD cs v 0)
     list-next = releasable-head ns ps k v (drop (i + 1) near) cs (next .ready)
 
     pub list-turn : (cs1 fs1 : List ℕ) → cs1 ≡ counter-less ns k v cs → fs1 ≡ place-marked ns ps k m v (counter-less ns k v cs) fs
@@ -232,7 +232,7 @@ module _ (ns ps : List ℕ) (k m first word : ℕ) (old fold : List ℕ) where
     bits-next : Releasing ns ps k m (set-bits 64 first word) old fold (lowest ∷ set-bits 64 first others) cs fs
     bits-next = rw (set-bits-lowest 64 first rest (omega arith) (h .0)) at (h .1)
 
-    pub word-next : (lowest < length ns) × (lowest < length ps) × (lowest < length cs) × (getD ns lowest 0 ≡ k → 1 ≤ getD cs lowest 0)
+    pub word-next : (lowest < length ns) × (lowest < length ps) × (lowest < max-radios) × (getD ns lowest 0 ≡ k → 1 ≤ getD cs lowest 0)
     word-next = releasable-head ns ps k lowest (set-bits 64 first others) cs (bits-next .ready)
 
     pub word-turn : (cs1 fs1 : List ℕ) → cs1 ≡ counter-less ns k lowest cs → fs1 ≡ place-marked ns ps k m lowest (counter-less ns k lowest cs) fs

@@ -18,11 +18,11 @@ module _ {a b k first size : ℕ} {ts ns tail ps : List ℕ} (s : Walk-site a b 
   us = put-link true a b ts
 
   -- listed neighbours of a radio are known
-  pub listed-known : (v r : ℕ) (near hs : List ℕ) → v < radios-of first tail → radios-of first tail ≤ length hs → Lists-neighbours us v r near
-      → length near ≡ max-neighbours → (r ≤ length near) × (r ≤ max-neighbours) × Known (length ns) (length ps) (length hs) (take r near)
-  listed-known v r near hs l long e room =
+  pub listed-known : (v r : ℕ) (near : List ℕ) (h : ℕ) → v < radios-of first tail → radios-of first tail ≤ h → Lists-neighbours us v r near
+      → length near ≡ max-neighbours → (r ≤ length near) × (r ≤ max-neighbours) × Known (length ns) (length ps) h (take r near)
+  listed-known v r near h l long e room =
       let few : r ≤ max-neighbours = omega (arith, e .counted, s .row-few v l) in
-      (omega (arith, few), few, rw (e .listed) (turned.near-radios s v l hs long))
+      (omega (arith, few), few, rw (e .listed) (turned.near-radios s v l h long))
 
   module _ {front taken : ℕ} {hs cs ds list : List ℕ} (st : Walk-state a b k first size ts tail ps front taken hs cs ds list) where
     -- ---- the front is looked at
@@ -36,9 +36,6 @@ module _ {a b k first size : ℕ} {ts ns tail ps : List ℕ} (s : Walk-site a b 
 
       pub look-below : v < radios-of first tail
       look-below = turned.front-below s st v v-is (free .0) (free .1)
-
-      pub look-room : taken < length list
-      look-room = omega (arith, free .0, st .passed, st .room)
 
       module _ (r : ℕ) (near : List ℕ) (listed : Lists-neighbours us v r near) (ds0 : List ℕ) (cleared : ds0 ≡ put-bit false 0 (first + front) ds) where
         pub look-release : length near ≡ max-neighbours → (r ≤ length near) × Releasable hs ps 1 (take r near) cs
@@ -84,10 +81,6 @@ module _ {a b k first size : ℕ} {ts ns tail ps : List ℕ} (s : Walk-site a b 
 
       pub back-below : y < radios-of first tail
       back-below = turned.back-below s st p (fallen .0) (fallen .1) y y-is
-
-      pub back-room : taken < length list
-      back-room =
-          omega (arith, turned.back-room s st p (fallen .0) (fallen .1) y y-is, st .walking .room, turned.part-length s, st .room)
 
       pub back-fits : taken < max-radios
       back-fits =

@@ -300,7 +300,7 @@ module _ {a b : ℕ} {ts ns os ps cs : List ℕ} (r : Ready true (length os) a b
       listed = sym (take-append-drop taken (take front list)) ∙ ap (λ (z : List ℕ). z ++ stuck) (take-take taken front list (done .passed))
 
       front-long : length (take front list) ≡ front
-      front-long = length-take-le front list (omega (arith, done .fits, done .room))
+      front-long = length-take-le front list (omega (arith, done .fits, done .room, part-room, r .small))
 
       behind : drop (first + front) os ≡ old ++ high
       behind =
@@ -343,7 +343,8 @@ module _ {a b : ℕ} {ts ns os ps cs : List ℕ} (r : Ready true (length os) a b
       unfolding changed-part graph-in
       walked-plan = record {
         fits = omega (arith, done .fits, sizes, stretch-fits r k);
-        long = omega (arith, done .fits, done .room);
+        room = done .room;
+        long = omega (arith, done .fits, done .room, part-room, r .small);
         taken-fits = done .passed;
         laid = laid;
         changed-is = λ v l.
@@ -357,10 +358,11 @@ module _ {a b : ℕ} {ts ns os ps cs : List ℕ} (r : Ready true (length os) a b
     abbrev Few-later : Type 0
     Few-later = count (linked after e) (drop 1 part) + count (linked after e) high ≤ k
 
-    unmoved-plan : Few-later → (list : List ℕ) → Planned true a b g os first 0 0 list
+    unmoved-plan : Few-later → (list : List ℕ) → length list ≡ max-radios → Planned true a b g os first 0 0 list
     unfolding changed-part graph-in member
-    unmoved-plan h list = record {
+    unmoved-plan h list room = record {
       fits = omega (arith, inside);
+      room = room;
       long = omega arith;
       taken-fits = omega arith;
       laid = sym (paste-zero os first list)
@@ -374,7 +376,8 @@ module _ {a b : ℕ} {ts ns os ps cs : List ℕ} (r : Ready true (length os) a b
         small = rw (← eK, part-rest, highs-high) h
 
     -- as a row tells it
-    pub settled-plan : leb (count (joined a b first ts tail (getD tail 0 0)) (drop 1 tail)) k ≡ true → (list : List ℕ) → Planned true a b g os first 0 0 list
+    pub settled-plan : leb (count (joined a b first ts tail (getD tail 0 0)) (drop 1 tail)) k ≡ true → (list : List ℕ) → length list ≡ max-radios
+        → Planned true a b g os first 0 0 list
     settled-plan h =
         unmoved-plan (omega (arith, few-later, ap (count (linked after e)) behind, count-append (linked after e) (drop 1 part) high))
       where
@@ -400,8 +403,8 @@ module _ {a b : ℕ} {ts ns os ps cs : List ℕ} (r : Ready true (length os) a b
       site-lent = rw (lent-is, ef) site
 
       pub settled-lent : (t : Bool) (list : List ℕ) → t ≡ leb (count (joined a b from ts lent (getD lent 0 0)) (drop 1 lent)) k → t ≡ true
-          → Planned true a b g os from 0 0 list
-      settled-lent t list e h = rw ef (settled-plan (rw (lent-is, ef) at (sym e ∙ h)) list)
+          → length list ≡ max-radios → Planned true a b g os from 0 0 list
+      settled-lent t list e h room = rw ef (settled-plan (rw (lent-is, ef) at (sym e ∙ h)) list room)
 
       pub walked-lent : (at front taken : ℕ) (list : List ℕ) → at ≡ from → Walk-done a b k from size ts lent front taken list
           → Planned true a b g os at front taken list

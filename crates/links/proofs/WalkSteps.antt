@@ -88,11 +88,7 @@ lowest-small [] h = omega arith
 lowest-small (x ∷ xs) h = omega (arith, h x (inl refl))
 
 -- the loop's invariant: so far a state of the walk, and p is where its next turn is
-pub record Walk-from (a b k first size : ℕ) (ts tail ps : List ℕ) (room : ℕ) (hs cs ds list : List ℕ) (taken front p : ℕ) : Type 0 where
-  pub long-held : length hs ≡ max-radios
-  pub long-counters : length cs ≡ max-radios
-  pub long-due : length ds ≡ row-bytes
-  pub long-list : length list ≡ room
+pub record Walk-from (a b k first size : ℕ) (ts tail ps hs cs ds list : List ℕ) (taken front p : ℕ) : Type 0 where
   pub some : 1 ≤ front
   pub next : p ≡ next-place first size front taken ds
   pub state : Walk-state a b k first size ts tail ps front taken hs cs ds list
@@ -115,7 +111,7 @@ module _ {a b k first size : ℕ} {ts ns tail ps : List ℕ} (s : Walk-site a b 
 
   -- ---- before the first turn
 
-  pub start-state : (list : List ℕ) → size ≤ length list
+  pub start-state : (list : List ℕ) → length list ≡ max-radios
       → Walk-state a b k first size ts tail ps 0 0 (replicate max-radios 0) (replicate max-radios 0) (replicate row-bytes 0) list
   start-state list room = record {
     held-long = omega (arith, s .small, length-replicate {A = ℕ} max-radios 0);
@@ -141,7 +137,7 @@ module _ {a b k first size : ℕ} {ts ns tail ps : List ℕ} (s : Walk-site a b 
   first-is = sym (turned.part-at s 0 (s .some))
 
   pub first-below : e < radios-of first tail
-  first-below = turned.front-below s (start-state tail (s .fits)) e first-is (s .some) (start-free .1)
+  first-below = turned.front-below s (start-state (replicate max-radios 0) (length-replicate {A = ℕ} max-radios 0)) e first-is (s .some) (start-free .1)
 
   tail-cut : drop 1 tail ≡ drop 1 part ++ above
   tail-cut =
@@ -153,18 +149,18 @@ module _ {a b k first size : ℕ} {ts ns tail ps : List ℕ} (s : Walk-site a b 
   settled-is r c near listed counted = ap (λ (x : ℕ). leb x k) is
     where
       none : List ℕ
-      none = start-state tail (s .fits) .walking .held
+      none = start-state (replicate max-radios 0) (length-replicate {A = ℕ} max-radios 0) .walking .held
 
       empty : (zs : List ℕ) → length zs ≡ 0 → zs ≡ []
       empty [] q = refl
       empty (z ∷ zs) q = absurd (omega arith)
 
       none-held : none ≡ []
-      none-held = empty none (omega (arith, turns.length-held f k above part pos (turned.is-part s) (start-state tail (s .fits) .walking)))
+      none-held = empty none (omega (arith, turns.length-held f k above part pos (turned.is-part s) (start-state (replicate max-radios 0) (length-replicate {A = ℕ} max-radios 0) .walking)))
 
       left : count (is-left k (first + 0) ns ps (replicate max-radios 0)) (neighbours-of us e) ≡ count (f e) (drop 1 part) + count (f e) above
       left =
-          turned.look-count s (start-state tail (s .fits)) e first-is (s .some) (start-free .1)
+          turned.look-count s (start-state (replicate max-radios 0) (length-replicate {A = ℕ} max-radios 0)) e first-is (s .some) (start-free .1)
           ∙ ap (λ (z : List ℕ). count (f e) (z ++ drop 1 part) + count (f e) above) none-held
 
       is : c ≡ count (f e) (drop 1 tail)
@@ -178,12 +174,12 @@ module _ {a b k first size : ℕ} {ts ns tail ps : List ℕ} (s : Walk-site a b 
     front-fits = (omega (arith, st .walking .room, turned.part-length s), omega (arith, st .walking .room, turned.part-length s, s .fits, s .small))
 
     -- what `list_stuck` asks
-    pub walk-radios : (0 + front ≤ length tail) × (0 + front ≤ max-radios) × (taken ≤ max-radios) × ((p : ℕ) → p < length tail → getD tail p 0 < length cs)
+    pub walk-radios : (0 + front ≤ length tail) × (0 + front ≤ max-radios) × (taken ≤ max-radios) × ((p : ℕ) → p < length tail → getD tail p 0 < max-radios)
     walk-radios = (
       omega (arith, front-fits .0, s .fits),
       omega (arith, front-fits .1),
       omega (arith, st .passed, front-fits .1),
-      λ p l. omega (arith, s .radios (getD tail p 0) (in-getD tail p l), st .counters-long),
+      λ p l. omega (arith, s .radios (getD tail p 0) (in-getD tail p l), s .small),
     )
 
     module _ (p : ℕ) (turn : (p ≡ next-place first size front taken ds) × (p ≤ max-radios)) where
@@ -215,7 +211,7 @@ module _ {a b k first size : ℕ} {ts ns tail ps : List ℕ} (s : Walk-site a b 
             let h = step-ahead l in
             let ahead : front < until = omega (arith, ne) in
             let inside : until ≤ size = omega arith in
-            (ahead, inside, omega (arith, s .fits), omega (arith, st .passed, st .room))
+            (ahead, inside, omega (arith, s .fits), omega (arith, st .passed, st .room, s .fits, s .small))
 
         pub step-pass : (list1 : List ℕ) → list1 ≡ paste list taken (drop front tail) (until - front)
             → Walk-state a b k first size ts tail ps until (taken + (until - front)) hs cs ds list1
@@ -234,7 +230,7 @@ module _ {a b k first size : ℕ} {ts ns tail ps : List ℕ} (s : Walk-site a b 
     walked = sym (take-take front size tail (front-fits st .0))
 
     taken-length : length (take taken list) ≡ taken
-    taken-length = length-take-le taken list (omega (arith, st .passed, front-fits st .0, st .room))
+    taken-length = length-take-le taken list (omega (arith, st .passed, front-fits st .1, st .room))
 
     held-length : taken + length (st .walking .held) ≡ front
     held-length = omega (arith, turns.length-held f k above part pos (turned.is-part s) (st .walking), taken-length)
@@ -243,7 +239,7 @@ module _ {a b k first size : ℕ} {ts ns tail ps : List ℕ} (s : Walk-site a b 
     module _ (list1 : List ℕ) (made : list1 ≡ sets list taken stuck) (many : taken + length stuck ≡ front) where
       listed : take front list1 ≡ take taken list ++ stuck
       listed =
-          ap (take front) (made ∙ sets-eq stuck list taken (omega (arith, many, front-fits st .0, st .room)))
+          ap (take front) (made ∙ sets-eq stuck list taken (omega (arith, many, front-fits st .1, st .room)))
           ∙ take-at (take taken list ++ stuck) (drop (taken + length stuck) list) front (length-append (take taken list) stuck ∙ omega (arith, taken-length, many))
 
       listed-taken : take taken list1 ≡ take taken list
@@ -306,8 +302,3 @@ module _ {a b k first size : ℕ} {ts ns tail ps : List ℕ} (s : Walk-site a b 
         go : (front ≤ taken) ⊎ ((first + front ≤ head-or max-radios (neighbours-of ds 0)) × (size ≤ front)) → Walk-done a b k first size ts tail front taken list1
         go (inl l) = none-left l list1 made
         go (inr h) = all-walked h list1 made
-
--- as the code names its values
-pub done-as : {a b k first size front taken at many : ℕ} {ts tail list : List ℕ} → at ≡ front → many ≡ taken → Walk-done a b k first size ts tail front taken list
-    → Walk-done a b k first size ts tail at many list
-done-as e f d = rw (e, f) d

@@ -163,9 +163,9 @@ module _ {a b k first size : ℕ} {ts ns tail ps : List ℕ} (s : Walk-site a b 
     joined-near : (w : ℕ) → f x w ≡ true → In w (neighbours-of us x)
     joined-near w e = member-in w (neighbours-of us x) (member-neighbours-of us x w (joined-small w e) ∙ row-marks w (joined-small w e) ∙ e)
 
-    pub near-radios : (hs : List ℕ) → n ≤ length hs → Known (length ns) (length ps) (length hs) (neighbours-of us x)
-    near-radios hs l w m =
-        let h = s .within x w (near-joined w m) in (omega (arith, s .numbers-length), omega (arith, s .places-length), omega arith)
+    pub near-radios : (h : ℕ) → n ≤ h → Known (length ns) (length ps) h (neighbours-of us x)
+    near-radios h l w m =
+        let e = s .within x w (near-joined w m) in (omega (arith, s .numbers-length), omega (arith, s .places-length), omega arith)
 
     pub row-ready : Row-ready a b x ts
     row-ready = record {
@@ -207,7 +207,7 @@ module _ {a b k first size : ℕ} {ts ns tail ps : List ℕ} (s : Walk-site a b 
         releasable : Releasable hs1 ps 1 (neighbours-of us x) cs
         releasable = record {
           once = distinct-neighbours-of us x;
-          known = λ w m. (let h = s .within x w (near-joined x lx w m) in (omega arith, omega (arith, s .places-length), omega (arith, st .counters-long)));
+          known = λ w m. (let h = s .within x w (near-joined x lx w m) in (omega arith, omega (arith, s .places-length), omega (arith, st .counters-long), omega (arith, s .small)));
           above-zero = λ w m e. omega (
             arith,
             st .walking .exact w (fewer w e),
@@ -404,7 +404,7 @@ module _ {a b k first size : ℕ} {ts ns tail ps : List ℕ} (s : Walk-site a b 
       }
         where
           listed : take (taken + 1) (set list taken v) ≡ take taken list ++ (v ∷ [])
-          listed = ap (λ (x : ℕ). take x (set list taken v)) (add-one taken) ∙ take-suc-set list taken v (omega (arith, st .passed, st .room))
+          listed = ap (λ (x : ℕ). take x (set list taken v)) (add-one taken) ∙ take-suc-set list taken v (omega (arith, st .passed, st .room, s .fits, s .small))
 
           written : turns.Released f k above part pos v front (λ w. eqb (getD hs w 0) 1) (λ w. getD cs w 0) (λ w. getD (released hs 1 (neighbours-of us v) cs) w 0)
               (λ q. marked ds 0 (first + q)) (λ q. marked freed 0 (first + q))
@@ -483,7 +483,7 @@ module _ {a b k first size : ℕ} {ts ns tail ps : List ℕ} (s : Walk-site a b 
             omega (
               arith,
               turns.length-held f k above part pos is-part (st .walking),
-              length-take-le taken list (omega (arith, st .passed, st .walking .room, part-length, st .room)),
+              length-take-le taken list (omega (arith, st .passed, st .walking .room, part-length, st .room, s .fits, s .small)),
               in-length v held v-held,
             )
           where
@@ -507,7 +507,7 @@ module _ {a b k first size : ℕ} {ts ns tail ps : List ℕ} (s : Walk-site a b 
             listed : take (taken + 1) (set list taken v) ≡ take taken list ++ (v ∷ [])
             listed =
                 ap (λ (x : ℕ). take x (set list taken v)) (add-one taken)
-                ∙ take-suc-set list taken v (omega (arith, back-room, st .walking .room, part-length, st .room))
+                ∙ take-suc-set list taken v (omega (arith, back-room, st .walking .room, part-length, st .room, s .fits, s .small))
 
             written : turns.Released f k above part pos v j (λ w. eqb (getD hs1 w 0) 1) (λ w. getD cs w 0) (λ w. getD (released hs1 1 (neighbours-of us v) cs) w 0)
                 (λ q. marked ds 0 (first + q)) (λ q. marked freed-back 0 (first + q))
@@ -530,7 +530,7 @@ module _ {a b k first size : ℕ} {ts ns tail ps : List ℕ} (s : Walk-site a b 
       few-from i l h = few-front-head f k above part i h (few-from-one f k above part i (omega arith) (s .few))
 
       pub pass-room : taken + m ≤ length list
-      pass-room = omega (arith, st .passed, st .room, ends)
+      pass-room = omega (arith, st .passed, st .room, ends, s .fits, s .small)
 
       pub pass-done : (list1 : List ℕ) → list1 ≡ paste list taken (drop front tail) m → Walk-state a b k first size ts tail ps until (taken + m) hs cs ds list1
       pass-done list1 e = record {

@@ -45,6 +45,7 @@ pub record Ready (up : Bool) (n a b : ℕ) (t : Tables) (places highs : List ℕ
 -- are the whole stretch of the lower end's level, or as much of it as a walk went through
 pub record Planned (up : Bool) (a b : ℕ) (g : Graph) (order : List ℕ) (start size taken : ℕ) (stretch : List ℕ) : Type 0 where
   pub fits : start + size ≤ g .n
+  pub room : length stretch ≡ max-radios
   pub long : size ≤ length stretch
   pub taken-fits : taken ≤ size
   pub laid : paste order start stretch size ≡ new-order up a b g order

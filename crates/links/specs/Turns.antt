@@ -8,7 +8,6 @@
 --   places-fitting os cs m is fs  the fitting places fs with each of the places `is` whose radio has a counter of at most m
 --   Releasable                    listed radios that can lose a neighbour: no repeats, and counters of the level above 0
 --   Begin-ready                   ends and places for the first turn
---   other-end a b v               the other end of the link a-b, where v is an end; else v itself
 --   Row-ready                     ends of the link a-b and their rows, and the row of v
 --   Near-ready                    the same, and room for the neighbours of v after the link a-b went up or down
 --   Lists-neighbours ts v r xs    the first r entries of xs are the radios that row v of ts marks
@@ -53,20 +52,17 @@ places-fitting os cs m (i ∷ is) fs =
 
 pub record Releasable (numbers places : List ℕ) (k : ℕ) (near counters : List ℕ) : Type 0 where
   pub once : Distinct near
-  pub known : (v : ℕ) → In v near → (v < length numbers) × (v < length places) × (v < length counters)
+  pub known : (v : ℕ) → In v near → (v < length numbers) × (v < length places) × (v < length counters) × (v < max-radios)
   pub above-zero : (v : ℕ) → In v near → getD numbers v 0 ≡ k → 1 ≤ getD counters v 0
 
 pub record Begin-ready (up : Bool) (a b k start size : ℕ) (numbers order counters : List ℕ) : Type 0 where
   pub differ : a ≡ b → ⊥
-  pub known-a : (a < length numbers) × (a < length counters)
-  pub known-b : (b < length numbers) × (b < length counters)
+  pub known-a : (a < length numbers) × (a < max-radios)
+  pub known-b : (b < length numbers) × (b < max-radios)
   pub above-zero : (v : ℕ) → (v ≡ a) ⊎ (v ≡ b) → up ≡ false → getD numbers v 0 ≡ k → 1 ≤ getD counters v 0
   pub small : (v : ℕ) → v < length numbers → getD numbers v 0 ≡ k → getD counters v 0 < 255
   pub fits : (start + size ≤ length order) × (start + size ≤ max-radios)
-  pub radios : (p : ℕ) → p < length order → getD order p 0 < length counters
-
-unfoldable pub other-end : (a b v : ℕ) → ℕ
-other-end a b v = cond (eqb v a) b (cond (eqb v b) a v)
+  pub radios : (p : ℕ) → p < length order → getD order p 0 < max-radios
 
 pub record Row-ready (a b v : ℕ) (links : List ℕ) : Type 0 where
   pub differ : a ≡ b → ⊥

@@ -82,7 +82,7 @@ pub record Walk-state (a b k first size : ℕ) (links tail places : List ℕ) (f
   pub held-long : radios-of first tail ≤ length held
   pub counters-long : radios-of first tail ≤ length counters
   pub due-long : length due ≡ row-bytes
-  pub room : size ≤ length list
+  pub room : length list ≡ max-radios
   pub passed : taken ≤ front
   pub low : (p : ℕ) → marked due 0 p ≡ true → first ≤ p
   pub walking :
@@ -91,7 +91,7 @@ pub record Walk-state (a b k first size : ℕ) (links tail places : List ℕ) (f
 
 -- the first `front` entries of the list are the part's, laid out anew; the first `taken` of them were taken, the others rise
 pub record Walk-done (a b k first size : ℕ) (links tail : List ℕ) (front taken : ℕ) (list : List ℕ) : Type 0 where
-  pub room : size ≤ length list
+  pub room : length list ≡ max-radios
   pub passed : taken ≤ front
   pub fits : front ≤ size
   pub either : (taken ≡ front) ⊎ (front ≡ size)

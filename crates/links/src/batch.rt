@@ -21,8 +21,8 @@ fn take_links(
     links: &mut [u8],
     numbers: &mut [u8],
     order: &mut [u16],
-    places: &mut [u16],
-    highs: &mut [u8],
+    places: &mut [u16; Site::RADIOS as usize],
+    highs: &mut [u8; Site::RADIOS as usize],
 ) -> Value
     requires { ⌜ Prepared n (lent links numbers order) (now places) (now highs) × (list-length (length (now list)) ≡ true) ⌝ }
     ensures { λ r. ⌜ Batch-done n (now (list .entry)) (graph-in n (now (links .entry)) .links)
@@ -65,8 +65,8 @@ fn refusal(
     links: &[u8],
     numbers: &[u8],
     order: &[u16],
-    places: &mut [u16],
-    highs: &mut [u8],
+    places: &mut [u16; Site::RADIOS as usize],
+    highs: &mut [u8; Site::RADIOS as usize],
 ) -> u32
     ensures { λ r. ⌜ Batch-asked n list (lent (links .entry) (numbers .entry) (order .entry)) (length (now (places .entry)))
         (length (now (highs .entry))) (now (places .exit)) (now (highs .exit)) r ⌝ }

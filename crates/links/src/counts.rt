@@ -5,7 +5,7 @@ ghost use Prim.Native.Nat.{ℕ, _+_, _*_, _≤_, _<_};
 ghost use lib.Dec.{leb};
 ghost use lib.ListN.{length, getD, take};
 ghost use Rattle.lists.specs.Lists.{count, In};
-ghost use Rattle.mesh.specs.Limits.{max-neighbours, max-radios, row-bytes};
+ghost use Rattle.mesh.specs.Limits.{max-neighbours, row-bytes};
 ghost use Rattle.rows.specs.Rows.{neighbours-of, row-listed};
 ghost use Rattle.row_conditions.specs.Conditions.{high-count};
 ghost use Rattle.link_parts.specs.Changes.{all-marked};
@@ -39,7 +39,13 @@ fn high_of(v: u32, links: &[u8], numbers: &[u8]) -> u8
 }
 
 // Counts the first k listed radios anew.
-fn recount(list: &[u16], k: usize, links: &[u8], numbers: &[u8], highs: &mut [u8])
+fn recount(
+    list: &[u16],
+    k: usize,
+    links: &[u8],
+    numbers: &[u8],
+    highs: &mut [u8; Site::RADIOS as usize],
+)
     requires { ⌜ Rows-known (length (now numbers)) (now links) (now numbers) × (length (now numbers) ≤ length (now highs)) ×
         (k ≤ length (now list)) × ((i : ℕ) → i < k → getD (now list) i 0 < length (now numbers)) ⌝ }
     ensures { λ _. ⌜ now (highs .exit)
@@ -54,7 +60,7 @@ fn recount(list: &[u16], k: usize, links: &[u8], numbers: &[u8], highs: &mut [u8
 }
 
 // Marks v and its neighbours in the set.
-fn mark_around(v: u32, links: &[u8], set: &mut [u8])
+fn mark_around(v: u32, links: &[u8], set: &mut [u8; Site::ROW_BYTES])
     requires { ⌜ (row-bytes * v + row-bytes ≤ length (now links)) ×
         (length (neighbours-of (now links) v) ≤ max-neighbours) ⌝ }
     ensures { λ _. ⌜ now (set .exit) ≡ all-marked (around (now (links .entry)) v) (now (set .entry)) ⌝ }
@@ -65,33 +71,41 @@ fn mark_around(v: u32, links: &[u8], set: &mut [u8])
     apply::mark_all(set, &near[..k]);
 }
 
-// Marks each listed radio and its neighbours in the set.
-fn mark_all_around(list: &[u16], links: &[u8], set: &mut [u8])
-    requires { ⌜ ((i : ℕ) → i < length (now list) →
+// Marks each of the first k listed radios and its neighbours in the set.
+fn mark_all_around(list: &[u16], k: usize, links: &[u8], set: &mut [u8; Site::ROW_BYTES])
+    requires { ⌜ (k ≤ length (now list)) × ((i : ℕ) → i < k →
         (row-bytes * getD (now list) i 0 + row-bytes ≤ length (now links)) ×
         (length (neighbours-of (now links) (getD (now list) i 0)) ≤ max-neighbours)) ⌝ }
-    ensures { λ _. ⌜ now (set .exit) ≡ all-around (now (links .entry)) (now (list .entry)) (now (set .entry)) ⌝ }
+    ensures { λ _. ⌜ now (set .exit) ≡ all-around (now (links .entry)) (take k (now (list .entry))) (now (set .entry)) ⌝ }
 {
     let mut i: usize = 0;
-    while i < list.len() {
+    while i < k {
         mark_around(list[i] as u32, links, set);
         i += 1;
     }
 }
 
-// After the link a-b changed the listed radios: both ends, these and their neighbours are counted anew.
-pub(crate) fn renew(a: u32, b: u32, changed: &[u16], links: &[u8], numbers: &[u8], highs: &mut [u8])
+// After the link a-b changed the first k radios of `list`: both ends, these and their neighbours are counted anew. The list holds anything
+// then.
+pub(crate) fn renew(
+    a: u32,
+    b: u32,
+    k: usize,
+    list: &mut [u16; Site::RADIOS as usize],
+    links: &[u8],
+    numbers: &[u8],
+    highs: &mut [u8; Site::RADIOS as usize],
+)
     requires { ⌜ Rows-known (length (now numbers)) (now links) (now numbers) × (length (now numbers) ≤ length (now highs)) ×
-        (a < length (now numbers)) × (b < length (now numbers)) ×
-        ((i : ℕ) → i < length (now changed) → getD (now changed) i 0 < length (now numbers)) ⌝ }
+        (a < length (now numbers)) × (b < length (now numbers)) × (length (take k (now list)) ≡ k) ×
+        ((i : ℕ) → i < length (take k (now list)) → getD (take k (now list)) i 0 < length (now numbers)) ⌝ }
     ensures { λ _. ⌜ now (highs .exit) ≡ recounted (now (links .entry)) (now (numbers .entry))
-        (neighbours-of (touched a b (now (changed .entry)) (now (links .entry))) 0) (now (highs .entry)) ⌝ }
+        (neighbours-of (touched a b (take k (now (list .entry))) (now (links .entry))) 0) (now (highs .entry)) ⌝ }
 {
     let mut set = [0u8; Site::ROW_BYTES];
-    mark_all_around(changed, links, &mut set);
-    rows::put_bit(&mut set, true, 0, a);
-    rows::put_bit(&mut set, true, 0, b);
-    let mut list = [0u16; Site::RADIOS as usize];
-    let k = rows::list_set(&set, &mut list);
-    recount(&list, k as usize, links, numbers, highs);
+    mark_all_around(list, k, links, &mut set);
+    walk_parts::places::put(&mut set, true, a);
+    walk_parts::places::put(&mut set, true, b);
+    let many = rows::list_set(&set, list);
+    recount(list, many as usize, links, numbers, highs);
 }

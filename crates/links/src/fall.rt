@@ -1,13 +1,15 @@
 // The plan of a link going down: both ends lose a neighbour, and where one of them then falls short its level is peeled.
+ghost use mathlib.Core.Path.{_≡_};
 ghost use mathlib.Core.Bool.{false};
-ghost use Prim.Native.Nat.{_≤_};
 ghost use lib.ListN.{length};
+ghost use Rattle.mesh.specs.Limits.{max-radios};
 ghost use Rattle.mesh.specs.Tables.{tables, graph-in};
 ghost use Rattle.links.specs.Plans.{Ready, Planned};
 use super::plan;
 use super::turn;
 use link_parts::apply::Plan;
 use mesh::Site;
+use walk_parts::ends;
 use walk_parts::stretch;
 
 // Plans the link a-b going down. Before the call each radio of the level has K neighbours or more that are not lower, so that only an end can
@@ -19,17 +21,17 @@ pub(crate) fn plan_down(
     numbers: &[u8],
     order: &[u16],
     places: &[u16],
-    highs: &mut [u8],
-    stretch: &mut [u16],
+    highs: &mut [u8; Site::RADIOS as usize],
+    stretch: &mut [u16; Site::RADIOS as usize],
 ) -> Plan
     requires ready { ⌜ Ready false (length (now order)) a b (tables (now links) (now numbers) (now order)) (now places) (now highs) ⌝ }
-    requires room { ⌜ length (now order) ≤ length (now stretch) ⌝ }
+    requires room { ⌜ length (now stretch) ≡ max-radios ⌝ }
     ensures { λ r. ⌜ Planned false a b (graph-in (length (now (order .entry))) (now (links .entry))) (now (order .entry)) (r .start)
         (r .size) (r .taken) (now (stretch .exit)) ⌝ }
 {
     let call = plan::call_at(false, a, b, numbers);
     let mut fits = [0u8; Site::ROW_BYTES];
-    let ends = [a as u16, b as u16];
+    let ends = ends::both(a as u16, b as u16);
     turn::release(
         &ends,
         2,

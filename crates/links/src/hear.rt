@@ -21,8 +21,8 @@ fn switch_row(
     links: &mut [u8],
     numbers: &mut [u8],
     order: &mut [u16],
-    places: &mut [u16],
-    highs: &mut [u8],
+    places: &mut [u16; Site::RADIOS as usize],
+    highs: &mut [u8; Site::RADIOS as usize],
 )
     requires { ⌜ Prepared n (lent links numbers order) (now places) (now highs) × (length (now list) ≤ max-radios) ⌝ }
     ensures { λ _. ⌜ Row-switched up n a (now (list .entry)) (lent (links .entry) (numbers .entry) (order .entry))
@@ -55,8 +55,8 @@ fn switch_rows<'a>(
     links: &mut [u8],
     numbers: &mut [u8],
     order: &mut [u16],
-    places: &mut [u16],
-    highs: &mut [u8],
+    places: &mut [u16; Site::RADIOS as usize],
+    highs: &mut [u8; Site::RADIOS as usize],
 )
     requires { ⌜ Prepared n (lent links numbers order) (now places) (now highs) × Marked-hearing n (now heard) (now further) ⌝ }
     ensures { λ _. ⌜ Rows-switched up n (now (heard .entry)) (lent (links .entry) (numbers .entry) (order .entry))
@@ -79,8 +79,8 @@ fn bring<'a>(
     links: &mut [u8],
     numbers: &mut [u8],
     order: &mut [u16],
-    places: &mut [u16],
-    highs: &mut [u8],
+    places: &mut [u16; Site::RADIOS as usize],
+    highs: &mut [u8; Site::RADIOS as usize],
 )
     requires { ⌜ Prepared n (lent links numbers order) (now places) (now highs) × Marked-hearing n (now heard) (now further) ⌝ }
     ensures { λ _. ⌜ Brought n (now (heard .entry)) (lent (links .entry) (numbers .entry) (order .entry))
@@ -119,8 +119,8 @@ fn refusal(
     links: &[u8],
     numbers: &[u8],
     order: &[u16],
-    places: &mut [u16],
-    highs: &mut [u8],
+    places: &mut [u16; Site::RADIOS as usize],
+    highs: &mut [u8; Site::RADIOS as usize],
 ) -> u32
     ensures { λ r. ⌜ Hear-asked n (now (heard .entry)) further (lent (links .entry) (numbers .entry) (order .entry)) (length (now (places .entry)))
         (length (now (highs .entry))) (now (places .exit)) (now (highs .exit)) r ⌝ }

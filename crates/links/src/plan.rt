@@ -5,6 +5,7 @@ ghost use mathlib.Core.Bool.{true, false};
 ghost use Prim.Native.Nat.{_≤_, _<_, _+_, min};
 ghost use lib.ListN.{length, getD};
 ghost use Rattle.lists.specs.Lists.{range};
+ghost use Rattle.mesh.specs.Limits.{max-radios};
 ghost use Rattle.mesh.specs.Tables.{tables, graph-in, lent};
 ghost use Rattle.mesh.specs.Peel.{bound};
 ghost use Rattle.links.specs.Turns.{places-fitting, ends-counted, Begin-ready};
@@ -16,6 +17,7 @@ use super::turn::Call;
 use link_parts::apply::Plan;
 use mesh::Site;
 use tables::fill;
+use walk_parts::ends;
 use walk_parts::stretch;
 
 // The call at the lower end's level K: the peel takes radios with at most K neighbours going up, K - 1 going down.
@@ -26,7 +28,7 @@ pub(crate) fn call_at(up: bool, a: u32, b: u32, numbers: &[u8]) -> Call
         (r .level ≡ min (getD (now (numbers .entry)) a 0) (getD (now (numbers .entry)) b 0)) ×
         (r .most ≡ bound up (min (getD (now (numbers .entry)) a 0) (getD (now (numbers .entry)) b 0))) ⌝ }
 {
-    let level = lower(numbers[a as usize], numbers[b as usize]);
+    let level = ends::lower(numbers[a as usize], numbers[b as usize]);
     if up {
         return Call {
             up,
@@ -45,13 +47,6 @@ pub(crate) fn call_at(up: bool, a: u32, b: u32, numbers: &[u8]) -> Call
     }
 }
 
-// The smaller of two numbers.
-pub(crate) fn lower(x: u8, y: u8) -> u8
-    ensures { λ r. ⌜ r ≡ min x y ⌝ }
-{
-    if x < y { x } else { y }
-}
-
 // The counters of both ends are brought to the graph after the call, and the places that fit before the first turn are marked.
 fn begin(
     call: Call,
@@ -59,8 +54,8 @@ fn begin(
     size: usize,
     numbers: &[u8],
     order: &[u16],
-    counters: &mut [u8],
-    fits: &mut [u8],
+    counters: &mut [u8; Site::RADIOS as usize],
+    fits: &mut [u8; Site::ROW_BYTES],
 )
     requires { ⌜ Begin-ready (call .up) (call .a) (call .b) (call .level) start size (now numbers) (now order) (now counters) ⌝ }
     ensures counted { λ _. ⌜ now (counters .exit)
@@ -83,14 +78,15 @@ pub(crate) fn peel(
     numbers: &[u8],
     order: &[u16],
     places: &[u16],
-    counters: &mut [u8],
-    fits: &mut [u8],
-    list: &mut [u16],
+    counters: &mut [u8; Site::RADIOS as usize],
+    fits: &mut [u8; Site::ROW_BYTES],
+    list: &mut [u16; Site::RADIOS as usize],
 ) -> usize
     requires { ⌜ Peel-ready (call .up) (call .a) (call .b) (call .level) (call .most) (now links) (now numbers) (now order)
         (now places) (now counters) (now fits) (length (now list)) ⌝ }
-    ensures { λ r. ⌜ Peel-done (call .up) (call .a) (call .b) (call .level) (call .most) (now (links .entry)) (now (numbers .entry))
+    ensures done { λ r. ⌜ Peel-done (call .up) (call .a) (call .b) (call .level) (call .most) (now (links .entry)) (now (numbers .entry))
         (now (order .entry)) r (now (counters .exit)) (now (list .exit)) ⌝ }
+    ensures long { λ r. ⌜ length (now (list .exit)) ≡ length (now (list .entry)) ⌝ }
 {
     let mut taken: usize = 0;
     let mut p = rows::first_marked(fits, 0);
@@ -113,11 +109,11 @@ pub(crate) fn plan_peel(
     numbers: &[u8],
     order: &[u16],
     places: &[u16],
-    highs: &mut [u8],
-    stretch: &mut [u16],
+    highs: &mut [u8; Site::RADIOS as usize],
+    stretch: &mut [u16; Site::RADIOS as usize],
 ) -> Plan
     requires ready { ⌜ Ready true (length (now order)) a b (tables (now links) (now numbers) (now order)) (now places) (now highs) ⌝ }
-    requires room { ⌜ length (now order) ≤ length (now stretch) ⌝ }
+    requires room { ⌜ length (now stretch) ≡ max-radios ⌝ }
     ensures { λ r. ⌜ Planned true a b (graph-in (length (now (order .entry))) (now (links .entry))) (now (order .entry)) (r .start)
         (r .size) (r .taken) (now (stretch .exit)) ⌝ }
 {
@@ -152,12 +148,12 @@ pub(crate) fn plan_link(
     links: &[u8],
     numbers: &[u8],
     order: &[u16],
-    places: &[u16],
-    highs: &mut [u8],
-    stretch: &mut [u16],
+    places: &[u16; Site::RADIOS as usize],
+    highs: &mut [u8; Site::RADIOS as usize],
+    stretch: &mut [u16; Site::RADIOS as usize],
 ) -> Plan
     requires ready { ⌜ Ready up (length (now order)) a b (tables (now links) (now numbers) (now order)) (now places) (now highs) ⌝ }
-    requires room { ⌜ length (now order) ≤ length (now stretch) ⌝ }
+    requires room { ⌜ length (now stretch) ≡ max-radios ⌝ }
     ensures { λ r. ⌜ Planned up a b (graph-in (length (now (order .entry))) (now (links .entry))) (now (order .entry)) (r .start)
         (r .size) (r .taken) (now (stretch .exit)) ⌝ }
 {
@@ -185,14 +181,15 @@ pub fn plan(
     numbers: &[u8],
     order: &[u16],
     answer: usize,
-    stretch: &mut [u16],
+    stretch: &mut [u16; Site::RADIOS as usize],
 ) -> Decision
     ensures { λ r. ⌜ Plan-contract up n a b (lent (links .entry) (numbers .entry) (order .entry)) answer (now (stretch .entry))
         (r .number) (r .plan .start) (r .plan .size) (r .plan .taken) (now (stretch .exit)) ⌝ }
 {
     let mut places = [0u16; Site::RADIOS as usize];
     let mut highs = [0u8; Site::RADIOS as usize];
-    let room = fill::least(answer, stretch.len());
+    let lent: &[u16] = stretch;
+    let room = fill::least(answer, lent.len());
     let number = questions::refusal(
         up,
         n,

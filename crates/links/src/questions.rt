@@ -19,8 +19,8 @@ pub(crate) fn refusal(
     numbers: &[u8],
     order: &[u16],
     answer: usize,
-    places: &mut [u16],
-    highs: &mut [u8],
+    places: &mut [u16; Site::RADIOS as usize],
+    highs: &mut [u8; Site::RADIOS as usize],
 ) -> u32
     requires { ⌜ (max-radios ≤ length (now places)) × (max-radios ≤ length (now highs)) ⌝ }
     ensures { λ r. ⌜ Asked up n a b (lent (links .entry) (numbers .entry) (order .entry)) answer (now (places .exit)) (now (highs .exit)) r ⌝ }

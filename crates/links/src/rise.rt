@@ -1,8 +1,8 @@
 // The plan of a link going up: nothing, a walk from the beginning end on, or the peel of its whole level.
 ghost use mathlib.Core.Path.{_≡_};
 ghost use mathlib.Core.Bool.{true};
-ghost use Prim.Native.Nat.{_≤_};
 ghost use lib.ListN.{length};
+ghost use Rattle.mesh.specs.Limits.{max-radios};
 ghost use Rattle.mesh.specs.Tables.{tables, graph-in};
 ghost use Rattle.links.specs.Plans.{Ready, Planned};
 ghost use Rattle.links.specs.Walks.{Begins};
@@ -10,23 +10,14 @@ use super::plan;
 use super::walk;
 use super::walk::Part;
 use super::walk::Rise;
+use link_parts::apply;
 use link_parts::apply::Plan;
+use mesh::Site;
 use walk_parts::ends;
 use walk_parts::stretch;
 
 // A level of so many radios or fewer is peeled: the walk reads the rows of all who rise, the peel the rows of the others.
 const SMALL: usize = 16;
-
-// A plan that moves nothing.
-fn unmoved(first: usize) -> Plan
-    ensures { λ r. ⌜ (r .start ≡ first) × (r .size ≡ 0) × (r .taken ≡ 0) ⌝ }
-{
-    Plan {
-        start: first,
-        size: 0,
-        taken: 0,
-    }
-}
 
 // Plans the link from the beginning end, at place `first`, on. Where that end has at most K later neighbours with the link, nothing moves
 // and nothing rises. A small level is peeled; elsewhere the walk goes from that end on.
@@ -37,18 +28,18 @@ fn plan_on(
     numbers: &[u8],
     order: &[u16],
     places: &[u16],
-    highs: &mut [u8],
-    stretch: &mut [u16],
+    highs: &mut [u8; Site::RADIOS as usize],
+    stretch: &mut [u16; Site::RADIOS as usize],
 ) -> Plan
     requires ready { ⌜ Ready true (length (now order)) (rise .a) (rise .b) (tables (now links) (now numbers) (now order)) (now places) (now highs) ⌝ }
-    requires room { ⌜ length (now order) ≤ length (now stretch) ⌝ }
+    requires room { ⌜ length (now stretch) ≡ max-radios ⌝ }
     requires begins { ⌜ Begins (rise .a) (rise .b) (rise .most) first (now numbers) (now places) ⌝ }
     ensures { λ r. ⌜ Planned true (rise .a) (rise .b) (graph-in (length (now (order .entry))) (now (links .entry))) (now (order .entry)) (r .start)
         (r .size) (r .taken) (now (stretch .exit)) ⌝ }
 {
     let tail = &order[first..];
     if walk::settled(rise, first, links, numbers, tail, places) {
-        return unmoved(first);
+        return apply::unmoved(first);
     }
     let at = stretch::stretch_of(numbers, rise.most);
     if at.size <= SMALL {
@@ -78,15 +69,15 @@ pub(crate) fn plan_up(
     numbers: &[u8],
     order: &[u16],
     places: &[u16],
-    highs: &mut [u8],
-    stretch: &mut [u16],
+    highs: &mut [u8; Site::RADIOS as usize],
+    stretch: &mut [u16; Site::RADIOS as usize],
 ) -> Plan
     requires ready { ⌜ Ready true (length (now order)) a b (tables (now links) (now numbers) (now order)) (now places) (now highs) ⌝ }
-    requires room { ⌜ length (now order) ≤ length (now stretch) ⌝ }
+    requires room { ⌜ length (now stretch) ≡ max-radios ⌝ }
     ensures { λ r. ⌜ Planned true a b (graph-in (length (now (order .entry))) (now (links .entry))) (now (order .entry)) (r .start)
         (r .size) (r .taken) (now (stretch .exit)) ⌝ }
 {
-    let most = plan::lower(numbers[a as usize], numbers[b as usize]);
+    let most = ends::lower(numbers[a as usize], numbers[b as usize]);
     let e = ends::beginning(a as usize, b as usize, numbers, places);
     let first = places[e] as usize;
     let rise = Rise { a, b, most };

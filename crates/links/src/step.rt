@@ -11,7 +11,6 @@ use super::counts;
 use super::plan;
 use link_parts::apply;
 use mesh::Site;
-use tables::fill;
 
 // What a link changed: so many numbers, and of the order at most `size` entries from `start` on.
 struct Outcome {
@@ -29,17 +28,16 @@ fn change(
     links: &mut [u8],
     numbers: &mut [u8],
     order: &mut [u16],
-    places: &[u16],
-    highs: &[u8],
-    changed: &mut [u16],
+    places: &[u16; Site::RADIOS as usize],
+    highs: &[u8; Site::RADIOS as usize],
+    changed: &mut [u16; Site::RADIOS as usize],
 ) -> Outcome
     requires ready { ⌜ Step-ready up (length (now order)) a b (lent links numbers order) (now places) (now highs) ⌝ }
     requires room { ⌜ length (now changed) ≡ max-radios ⌝ }
     ensures { λ r. ⌜ Changed-by up (length (now (order .entry))) a b (lent (links .entry) (numbers .entry) (order .entry))
         (lent (links .exit) (numbers .exit) (order .exit)) (r .count) (now (changed .exit)) (r .start) (r .size) ⌝ }
 {
-    let mut counters = [0u8; Site::RADIOS as usize];
-    fill::copy8(&mut counters, highs);
+    let mut counters = *highs;
     let mut stretch = [0u16; Site::RADIOS as usize];
     let plan = plan::plan_link(
         up,
@@ -61,9 +59,9 @@ fn change(
 }
 
 // Each radio that stands at one of `size` places of the order from `start` on has that place after; the others keep theirs.
-fn put_places(order: &[u16], start: usize, size: usize, places: &mut [u16])
+fn put_places(order: &[u16], start: usize, size: usize, places: &mut [u16; Site::RADIOS as usize])
     requires { ⌜ (start + size ≤ length (now order)) × (length (now order) ≤ max-radios) ×
-        ((p : ℕ) → p < length (now order) → getD (now order) p 0 < length (now places)) ⌝ }
+        ((p : ℕ) → p < length (now order) → getD (now order) p 0 < max-radios) ⌝ }
     ensures { λ _. ⌜ now (places .exit) ≡ places-put (now (order .entry)) (range start size) (now (places .entry)) ⌝ }
 {
     let mut i: usize = 0;
@@ -74,28 +72,8 @@ fn put_places(order: &[u16], start: usize, size: usize, places: &mut [u16])
     }
 }
 
-// The same, and places and not-lower counts are the later tables'.
-fn carry_out(
-    up: bool,
-    a: u32,
-    b: u32,
-    links: &mut [u8],
-    numbers: &mut [u8],
-    order: &mut [u16],
-    places: &mut [u16],
-    highs: &mut [u8],
-)
-    requires { ⌜ Step-ready up (length (now order)) a b (lent links numbers order) (now places) (now highs) ⌝ }
-    ensures { λ _. ⌜ Carried up (length (now (order .entry))) a b (lent (links .entry) (numbers .entry) (order .entry))
-        (lent (links .exit) (numbers .exit) (order .exit)) (now (places .exit)) (now (highs .exit)) ⌝ }
-{
-    let mut changed = [0u16; Site::RADIOS as usize];
-    let made = change(up, a, b, links, numbers, order, places, highs, &mut changed);
-    put_places(order, made.start, made.size, places);
-    counts::renew(a, b, &changed[..made.count as usize], links, numbers, highs);
-}
-
-// Takes the link a-b up, by questions 4 to 7, or down, by 4 to 6, and comes back with their number. Refused, every table keeps its content.
+// Takes the link a-b up, by questions 4 to 7, or down, by 4 to 6, and comes back with their number. Places and not-lower counts are the later
+// tables' then. Refused, every table keeps its content.
 pub(crate) fn step(
     up: bool,
     n: u32,
@@ -104,8 +82,8 @@ pub(crate) fn step(
     links: &mut [u8],
     numbers: &mut [u8],
     order: &mut [u16],
-    places: &mut [u16],
-    highs: &mut [u8],
+    places: &mut [u16; Site::RADIOS as usize],
+    highs: &mut [u8; Site::RADIOS as usize],
 ) -> u32
     requires { ⌜ Prepared n (lent links numbers order) (now places) (now highs) ⌝ }
     ensures { λ r. ⌜ Stepped up n a b (lent (links .entry) (numbers .entry) (order .entry)) r
@@ -115,6 +93,17 @@ pub(crate) fn step(
     if number != 0 {
         return number;
     }
-    carry_out(up, a, b, links, numbers, order, places, highs);
+    let mut changed = [0u16; Site::RADIOS as usize];
+    let made = change(up, a, b, links, numbers, order, places, highs, &mut changed);
+    put_places(order, made.start, made.size, places);
+    counts::renew(
+        a,
+        b,
+        made.count as usize,
+        &mut changed,
+        links,
+        numbers,
+        highs,
+    );
     0
 }

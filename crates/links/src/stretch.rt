@@ -7,6 +7,7 @@ ghost use lib.Seq.{sets};
 ghost use Rattle.mesh.specs.Limits.{max-radios};
 ghost use Rattle.lists.specs.Lists.{filter};
 ghost use Rattle.links.specs.Peels.{stretch};
+use mesh::Site;
 
 // Writes the radios of the stretch whose counter is above `most`, in their order, into the list from place `taken` on.
 pub(crate) fn list_stuck(
@@ -15,11 +16,11 @@ pub(crate) fn list_stuck(
     most: u8,
     taken: usize,
     order: &[u16],
-    counters: &[u8],
-    list: &mut [u16],
+    counters: &[u8; Site::RADIOS as usize],
+    list: &mut [u16; Site::RADIOS as usize],
 )
     requires { ⌜ (start + size ≤ length (now order)) × (start + size ≤ max-radios) × (taken ≤ max-radios) ×
-        ((p : ℕ) → p < length (now order) → getD (now order) p 0 < length (now counters)) ⌝ }
+        ((p : ℕ) → p < length (now order) → getD (now order) p 0 < max-radios) ⌝ }
     ensures { λ _. ⌜ now (list .exit) ≡ sets (now (list .entry)) taken
         (filter (λ (v : ℕ). ltb most (getD (now (counters .entry)) v 0)) (stretch (now (order .entry)) start size)) ⌝ }
 {

@@ -8,12 +8,20 @@ ghost use Rattle.lists.specs.Lists.{range};
 ghost use Rattle.mesh.specs.Tables.{put-bit, put-link};
 ghost use Rattle.rows.specs.Rows.{neighbours-of, set-bits};
 ghost use Rattle.links.specs.Turns.{end-counted, counter-less, released, place-marked, places-released, places-fitting, Releasable};
-ghost use Rattle.links.specs.Turns.{Row-ready, Near-ready, Lists-neighbours, other-end};
+ghost use Rattle.links.specs.Turns.{Row-ready, Near-ready, Lists-neighbours};
 use mesh::Site;
+use walk_parts::ends;
+use walk_parts::places;
 
 // The counter of v is one more going up and one less going down after, where v is of the level; the others keep theirs.
-pub(crate) fn count_end(up: bool, level: u8, v: usize, numbers: &[u8], counters: &mut [u8])
-    requires { ⌜ (v < length (now numbers)) × (v < length (now counters)) ×
+pub(crate) fn count_end(
+    up: bool,
+    level: u8,
+    v: usize,
+    numbers: &[u8],
+    counters: &mut [u8; Site::RADIOS as usize],
+)
+    requires { ⌜ (v < length (now numbers)) × (v < max-radios) ×
         (up ≡ false → getD (now numbers) v 0 ≡ level → 1 ≤ getD (now counters) v 0) ×
         (getD (now numbers) v 0 ≡ level → getD (now counters) v 0 < 255) ⌝ }
     ensures { λ _. ⌜ now (counters .exit) ≡ end-counted up level (now (numbers .entry)) v (now (counters .entry)) ⌝ }
@@ -33,11 +41,11 @@ pub(crate) fn mark_fitting(
     size: usize,
     most: u8,
     order: &[u16],
-    counters: &[u8],
-    fits: &mut [u8],
+    counters: &[u8; Site::RADIOS as usize],
+    fits: &mut [u8; Site::ROW_BYTES],
 )
     requires { ⌜ (start + size ≤ length (now order)) × (start + size ≤ max-radios) ×
-        ((p : ℕ) → p < length (now order) → getD (now order) p 0 < length (now counters)) ⌝ }
+        ((p : ℕ) → p < length (now order) → getD (now order) p 0 < max-radios) ⌝ }
     ensures { λ _. ⌜ now (fits .exit)
         ≡ places-fitting (now (order .entry)) (now (counters .entry)) most (range start size) (now (fits .entry)) ⌝ }
 {
@@ -45,7 +53,7 @@ pub(crate) fn mark_fitting(
     while p < start + size {
         let v = order[p] as usize;
         if counters[v] <= most {
-            rows::put_bit(fits, true, 0, p as u32);
+            places::put(fits, true, p as u32);
         }
         p += 1;
     }
@@ -58,10 +66,10 @@ fn release_one(
     most: u8,
     numbers: &[u8],
     places: &[u16],
-    counters: &mut [u8],
-    fits: &mut [u8],
+    counters: &mut [u8; Site::RADIOS as usize],
+    fits: &mut [u8; Site::ROW_BYTES],
 )
-    requires { ⌜ (v < length (now numbers)) × (v < length (now places)) × (v < length (now counters)) ×
+    requires { ⌜ (v < length (now numbers)) × (v < length (now places)) × (v < max-radios) ×
         (getD (now numbers) v 0 ≡ level → 1 ≤ getD (now counters) v 0) ⌝ }
     ensures counted { λ _. ⌜ now (counters .exit) ≡ counter-less (now (numbers .entry)) level v (now (counters .entry)) ⌝ }
     ensures marked { λ _. ⌜ now (fits .exit) ≡ place-marked (now (numbers .entry)) (now (places .entry)) level most v
@@ -70,7 +78,7 @@ fn release_one(
     if numbers[v] == level {
         counters[v] -= 1;
         if counters[v] == most {
-            rows::put_bit(fits, true, 0, places[v] as u32);
+            places::put(fits, true, places[v] as u32);
         }
     }
 }
@@ -83,8 +91,8 @@ pub(crate) fn release(
     most: u8,
     numbers: &[u8],
     places: &[u16],
-    counters: &mut [u8],
-    fits: &mut [u8],
+    counters: &mut [u8; Site::RADIOS as usize],
+    fits: &mut [u8; Site::ROW_BYTES],
 )
     requires { ⌜ (k ≤ length (now near)) × Releasable (now numbers) (now places) level (take k (now near)) (now counters) ⌝ }
     ensures counted { λ _. ⌜ now (counters .exit) ≡ released (now (numbers .entry)) level (take k (now (near .entry))) (now (counters .entry)) ⌝ }
@@ -115,8 +123,8 @@ fn release_word(
     most: u8,
     numbers: &[u8],
     places: &[u16],
-    counters: &mut [u8],
-    fits: &mut [u8],
+    counters: &mut [u8; Site::RADIOS as usize],
+    fits: &mut [u8; Site::ROW_BYTES],
 )
     requires { ⌜ (first ≤ max-radios) × Releasable (now numbers) (now places) level (set-bits 64 first word) (now counters) ⌝ }
     ensures counted { λ _. ⌜ now (counters .exit) ≡ released (now (numbers .entry)) level (set-bits 64 first word) (now (counters .entry)) ⌝ }
@@ -139,8 +147,8 @@ fn release_row(
     most: u8,
     numbers: &[u8],
     places: &[u16],
-    counters: &mut [u8],
-    fits: &mut [u8],
+    counters: &mut [u8; Site::RADIOS as usize],
+    fits: &mut [u8; Site::ROW_BYTES],
 )
     requires { ⌜ (length (now row) ≡ row-bytes) × Releasable (now numbers) (now places) level (neighbours-of (now row) 0) (now counters) ⌝ }
     ensures counted { λ _. ⌜ now (counters .exit)
@@ -188,19 +196,6 @@ fn end_neighbours(up: bool, v: u32, w: u32, links: &[u8], near: &mut [u16]) -> u
     rows::row_neighbours(&row, 0, near)
 }
 
-// The other end of the link a-b, where v is an end; else v itself.
-fn other_end(a: u32, b: u32, v: u32) -> u32
-    ensures { λ r. ⌜ r ≡ other-end a b v ⌝ }
-{
-    if v == a {
-        return b;
-    }
-    if v == b {
-        return a;
-    }
-    v
-}
-
 // Writes the neighbours that v has after the link a-b went up or down into the list, ascending, and comes back with their count.
 pub(crate) fn neighbours_after(
     up: bool,
@@ -213,7 +208,7 @@ pub(crate) fn neighbours_after(
     requires { ⌜ Near-ready up a b v (now links) (length (now near)) ⌝ }
     ensures { λ r. ⌜ Lists-neighbours (put-link up a b (now (links .entry))) v r (now (near .exit)) ⌝ }
 {
-    let w = other_end(a, b, v);
+    let w = ends::other_end(a, b, v);
     if w != v {
         return end_neighbours(up, v, w, links, near);
     }
@@ -237,8 +232,8 @@ fn release_end(
     links: &[u8],
     numbers: &[u8],
     places: &[u16],
-    counters: &mut [u8],
-    fits: &mut [u8],
+    counters: &mut [u8; Site::RADIOS as usize],
+    fits: &mut [u8; Site::ROW_BYTES],
 )
     requires { ⌜ (row-bytes * v + row-bytes ≤ length (now links)) × (w < max-radios) ×
         Releasable (now numbers) (now places) (call .level) (neighbours-of (put-bit (call .up) v w (now links)) v) (now counters) ⌝ }
@@ -260,8 +255,8 @@ pub(crate) fn take_radio(
     links: &[u8],
     numbers: &[u8],
     places: &[u16],
-    counters: &mut [u8],
-    fits: &mut [u8],
+    counters: &mut [u8; Site::RADIOS as usize],
+    fits: &mut [u8; Site::ROW_BYTES],
 )
     requires { ⌜ Row-ready (call .a) (call .b) v (now links) ×
         Releasable (now numbers) (now places) (call .level)
@@ -272,8 +267,8 @@ pub(crate) fn take_radio(
         (neighbours-of (put-link (call .up) (call .a) (call .b) (now (links .entry))) v) (now (counters .entry))
         (put-bit false 0 p (now (fits .entry))) ⌝ }
 {
-    rows::put_bit(fits, false, 0, p);
-    let w = other_end(call.a, call.b, v);
+    places::put(fits, false, p);
+    let w = ends::other_end(call.a, call.b, v);
     if w != v {
         release_end(call, v, w, links, numbers, places, counters, fits);
         return;

@@ -20,6 +20,7 @@ use super::turn::Call;
 use link_parts::apply::Plan;
 use mesh::Site;
 use tables::fill;
+use walk_parts::places;
 use walk_parts::places::STOP;
 
 // How a candidate is marked in the table of candidates.
@@ -45,8 +46,15 @@ struct Reached {
 }
 
 // Whether w counts for a radio at place p of the level: it is above, stands later in the level, or is a candidate.
-fn is_left(w: usize, level: u8, p: u16, numbers: &[u8], places: &[u16], held: &[u8]) -> bool
-    requires { ⌜ (w < length (now numbers)) × (w < length (now places)) × (w < length (now held)) ⌝ }
+fn is_left(
+    w: usize,
+    level: u8,
+    p: u16,
+    numbers: &[u8],
+    places: &[u16],
+    held: &[u8; Site::RADIOS as usize],
+) -> bool
+    requires { ⌜ (w < length (now numbers)) × (w < length (now places)) × (w < max-radios) ⌝ }
     ensures { λ r. ⌜ r ≡ is-left level p (now (numbers .entry)) (now (places .entry)) (now (held .entry)) w ⌝ }
 {
     if numbers[w] != level {
@@ -66,10 +74,10 @@ fn count_left(
     p: u16,
     numbers: &[u8],
     places: &[u16],
-    held: &[u8],
+    held: &[u8; Site::RADIOS as usize],
 ) -> u8
     requires { ⌜ (k ≤ length (now near)) × (k ≤ max-neighbours) ×
-        Known (length (now numbers)) (length (now places)) (length (now held)) (take k (now near)) ⌝ }
+        Known (length (now numbers)) (length (now places)) max-radios (take k (now near)) ⌝ }
     ensures { λ r. ⌜ r ≡ count (is-left level p (now (numbers .entry)) (now (places .entry)) (now (held .entry))) (take k (now (near .entry))) ⌝ }
 {
     let mut n: u8 = 0;
@@ -82,19 +90,34 @@ fn count_left(
 }
 
 // Makes the place of w due, where w stands in the level later than place p.
-fn touch_one(w: usize, level: u8, p: u16, numbers: &[u8], places: &[u16], due: &mut [u8])
+fn touch_one(
+    w: usize,
+    level: u8,
+    p: u16,
+    numbers: &[u8],
+    places: &[u16],
+    due: &mut [u8; Site::ROW_BYTES],
+)
     requires { ⌜ (w < length (now numbers)) × (w < length (now places)) ⌝ }
     ensures { λ _. ⌜ now (due .exit) ≡ place-touched level p (now (numbers .entry)) (now (places .entry)) w (now (due .entry)) ⌝ }
 {
     if numbers[w] == level {
         if p < places[w] {
-            rows::put_bit(due, true, 0, places[w] as u32);
+            places::put(due, true, places[w] as u32);
         }
     }
 }
 
 // Does so for the first k listed radios.
-fn touch(near: &[u16], k: usize, level: u8, p: u16, numbers: &[u8], places: &[u16], due: &mut [u8])
+fn touch(
+    near: &[u16],
+    k: usize,
+    level: u8,
+    p: u16,
+    numbers: &[u8],
+    places: &[u16],
+    due: &mut [u8; Site::ROW_BYTES],
+)
     requires { ⌜ (k ≤ length (now near)) × Known (length (now numbers)) (length (now places)) (length (now numbers)) (take k (now near)) ⌝ }
     ensures { λ _. ⌜ now (due .exit)
         ≡ places-touched level p (now (numbers .entry)) (now (places .entry)) (take k (now (near .entry))) (now (due .entry)) ⌝ }
@@ -116,10 +139,10 @@ fn look(
     numbers: &[u8],
     tail: &[u16],
     places: &[u16],
-    held: &mut [u8],
-    counters: &mut [u8],
-    due: &mut [u8],
-    list: &mut [u16],
+    held: &mut [u8; Site::RADIOS as usize],
+    counters: &mut [u8; Site::RADIOS as usize],
+    due: &mut [u8; Site::ROW_BYTES],
+    list: &mut [u16; Site::RADIOS as usize],
 ) -> Reached
     requires { ⌜ Walk-site (rise .a) (rise .b) (rise .most) (part .first) (part .size) (now links) (now numbers) (now tail) (now places) ×
         Walk-state (rise .a) (rise .b) (rise .most) (part .first) (part .size) (now links) (now tail) (now places) (at .front) (at .taken)
@@ -134,7 +157,7 @@ fn look(
     let taken = at.taken;
     let v = tail[front];
     let p = part.first + front;
-    rows::put_bit(due, false, 0, p as u32);
+    places::put(due, false, p as u32);
     let k = turn::neighbours_after(true, rise.a, rise.b, v as u32, links, &mut near) as usize;
     let c = count_left(&near, k, rise.most, p as u16, numbers, places, held);
     if rise.most < c {
@@ -164,10 +187,10 @@ fn back(
     numbers: &[u8],
     tail: &[u16],
     places: &[u16],
-    held: &mut [u8],
-    counters: &mut [u8],
-    due: &mut [u8],
-    list: &mut [u16],
+    held: &mut [u8; Site::RADIOS as usize],
+    counters: &mut [u8; Site::RADIOS as usize],
+    due: &mut [u8; Site::ROW_BYTES],
+    list: &mut [u16; Site::RADIOS as usize],
 ) -> Reached
     requires { ⌜ Walk-site (rise .a) (rise .b) (rise .most) (part .first) (part .size) (now links) (now numbers) (now tail) (now places) ×
         Walk-state (rise .a) (rise .b) (rise .most) (part .first) (part .size) (now links) (now tail) (now places) (at .front) (at .taken)
@@ -214,10 +237,10 @@ fn step(
     numbers: &[u8],
     tail: &[u16],
     places: &[u16],
-    held: &mut [u8],
-    counters: &mut [u8],
-    due: &mut [u8],
-    list: &mut [u16],
+    held: &mut [u8; Site::RADIOS as usize],
+    counters: &mut [u8; Site::RADIOS as usize],
+    due: &mut [u8; Site::ROW_BYTES],
+    list: &mut [u16; Site::RADIOS as usize],
 ) -> Reached
     requires { ⌜ Walk-site (rise .a) (rise .b) (rise .most) (part .first) (part .size) (now links) (now numbers) (now tail) (now places) ×
         Walk-state (rise .a) (rise .b) (rise .most) (part .first) (part .size) (now links) (now tail) (now places) (at .front) (at .taken)
@@ -266,17 +289,6 @@ fn step(
     }
 }
 
-// What a walk that came so far plans.
-fn plan_of(part: Part, at: Reached) -> Plan
-    ensures { λ r. ⌜ (r .start ≡ part .first) × (r .size ≡ at .front) × (r .taken ≡ at .taken) ⌝ }
-{
-    Plan {
-        start: part.first,
-        size: at.front,
-        taken: at.taken,
-    }
-}
-
 // Walks the part, whose entries stand in front of `tail`, the order from its first place on. Writes what it went through, laid out anew, in
 // front of the list; later entries hold anything.
 pub(crate) fn walk(
@@ -286,10 +298,10 @@ pub(crate) fn walk(
     numbers: &[u8],
     tail: &[u16],
     places: &[u16],
-    list: &mut [u16],
+    list: &mut [u16; Site::RADIOS as usize],
 ) -> Plan
     requires site { ⌜ Walk-site (rise .a) (rise .b) (rise .most) (part .first) (part .size) (now links) (now numbers) (now tail) (now places) ⌝ }
-    requires room { ⌜ part .size ≤ length (now list) ⌝ }
+    requires room { ⌜ length (now list) ≡ max-radios ⌝ }
     ensures start { λ r. ⌜ r .start ≡ part .first ⌝ }
     ensures walked { λ r. ⌜ Walk-done (rise .a) (rise .b) (rise .most) (part .first) (part .size) (now (links .entry)) (now (tail .entry)) (r .size)
         (r .taken) (now (list .exit)) ⌝ }
@@ -311,7 +323,7 @@ pub(crate) fn walk(
         &mut due,
         list,
     );
-    let mut p = walk_parts::places::next(part.first, part.size, at.front, at.taken, &due);
+    let mut p = places::next(part.first, part.size, at.front, at.taken, &due);
     while p < STOP {
         at = step(
             rise,
@@ -327,10 +339,14 @@ pub(crate) fn walk(
             &mut due,
             list,
         );
-        p = walk_parts::places::next(part.first, part.size, at.front, at.taken, &due);
+        p = places::next(part.first, part.size, at.front, at.taken, &due);
     }
     super::stretch::list_stuck(0, at.front, rise.most, at.taken, tail, &counters, list);
-    plan_of(part, at)
+    Plan {
+        start: part.first,
+        size: at.front,
+        taken: at.taken,
+    }
 }
 
 // Whether the beginning end, which stands at place `first`, has at most `most` later neighbours with the link: then nothing moves or rises.

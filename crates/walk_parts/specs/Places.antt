@@ -1,6 +1,7 @@
 -- Places of the walk of a link going up, in the order and in its level.
 --   level-start ns k           how many numbers are below k: where the stretch of level k starts
 --   level-size ns k            how many numbers are k: how long that stretch is
+--   other-end a b v            the other end of the link a-b, where v is an end; else v itself
 --   beginning-end              the lower end, with equal numbers the earlier
 --   stands-first first k ns os   the radio at place `first` stands first in level k
 --   next-place                 where the next turn is, `stop-place` when the walk is at its end
@@ -19,6 +20,9 @@ level-start ns k = count (λ x. ltb x k) ns
 
 abbrev pub level-size : (numbers : List ℕ) → (k : ℕ) → ℕ
 level-size ns k = count (λ x. eqb x k) ns
+
+unfoldable pub other-end : (a b v : ℕ) → ℕ
+other-end a b v = cond (eqb v a) b (cond (eqb v b) a v)
 
 unfoldable pub beginning-end : (a b : ℕ) → (numbers places : List ℕ) → ℕ
 beginning-end a b ns ps =

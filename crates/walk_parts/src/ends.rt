@@ -1,7 +1,9 @@
-// The beginning end of a link, and whether a radio leads its level.
+// The ends of a link, which of them the walk begins at, and whether a radio leads its level.
 ghost use mathlib.Core.Path.{_≡_};
+ghost use mathlib.Core.List.{[], _∷_};
+ghost use Prim.Native.Nat.{min};
 ghost use lib.ListN.{getD};
-ghost use Rattle.walk_parts.specs.Places.{beginning-end, stands-first};
+ghost use Rattle.walk_parts.specs.Places.{other-end, beginning-end, stands-first};
 
 // The number of radio v.
 fn number_of(numbers: &[u8], v: usize) -> u8
@@ -21,6 +23,33 @@ fn entry_of(list: &[u16], p: usize) -> u16
         return list[p];
     }
     0
+}
+
+// The smaller of two numbers.
+pub fn lower(x: u8, y: u8) -> u8
+    ensures { λ r. ⌜ r ≡ min x y ⌝ }
+{
+    if x < y { x } else { y }
+}
+
+// Both ends of the link a-b, listed.
+pub fn both(a: u16, b: u16) -> [u16; 2]
+    ensures { λ r. ⌜ r ≡ a ∷ b ∷ [] ⌝ }
+{
+    [a, b]
+}
+
+// The other end of the link a-b, where v is an end; else v itself.
+pub fn other_end(a: u32, b: u32, v: u32) -> u32
+    ensures { λ r. ⌜ r ≡ other-end a b v ⌝ }
+{
+    if v == a {
+        return b;
+    }
+    if v == b {
+        return a;
+    }
+    v
 }
 
 // The beginning end: the lower end, with equal numbers the earlier.

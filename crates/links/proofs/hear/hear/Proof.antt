@@ -8,7 +8,7 @@ use Rattle.links.proofs.hear.hear.Tie as tie
 
 returns : tie.Need-returns
 returns c =
-    let asked = c .before .before .before in
+    let asked = c .before in
     let x = asked .before .before .before .before .before .before .before .before .before .before .before .args in
     hear-refused (x .n) (x .heard .now) (x .further .now) (tables (x .links .now) (x .numbers .now) (x .order .now)) _ _ refl refl _ _ (asked .refusal .result)
     (asked .refusal .ensures) (c .if1 .taken)
@@ -16,7 +16,7 @@ returns c =
 bring-requires : tie.Need-bring-requires
 bring-requires c κs =
     let marked = c .before .before .before .before .before .before .before .before in
-    let asked = marked .before .before .before .before .before in
+    let asked = marked .before .before .before in
     let x = asked .before .before .before .before .before .before .before .before .before .before .before .args in
     let yes = marked .before .before .if1 .left in (
       hear-prepared (x .n) (x .heard .now) (x .further .now) (tables (x .links .now) (x .numbers .now) (x .order .now)) _ _ refl refl _ _ (asked .refusal .result)
@@ -27,9 +27,9 @@ bring-requires c κs =
 
 returns-2 : tie.Need-returns-2
 returns-2 c =
-    let brought = c .before .before .before .before .before .before .before .before in
+    let brought = c .before .before .before .before .before .before in
     let marked = brought .before .before .before .before .before .before .before .before .before in
-    let asked = marked .before .before .before .before .before in
+    let asked = marked .before .before .before in
     let x = asked .before .before .before .before .before .before .before .before .before .before .before .args in
     hear-done (x .n) (x .heard .now) (x .further .now) (tables (x .links .now) (x .numbers .now) (x .order .now)) _ _ refl refl _ _ (asked .refusal .result)
     (asked .refusal .ensures) (marked .before .before .if1 .left) (marked .mark .result) _ (marked .mark .ensures) _ (brought .bring .ensures)
@@ -37,6 +37,4 @@ returns-2 c =
 pub hear-spec : {M : Type 1} → statement M
 hear-spec =
     tie.close (
-    tie.spec (λ c. search needs) (λ c. search needs) (λ c κs. search needs) (λ c. search needs) (λ c. search needs) (λ c. search needs) returns
-    (λ c κs. search needs) (λ c. search needs) (λ c. search needs) bring-requires (λ c. search needs) (λ c. search needs)
-    (λ c. search needs) (λ c. search needs) returns-2)
+    tie.spec (λ c κs. search needs) (λ c. search needs) (λ c. search needs) (λ c. search needs) returns (λ c κs. search needs) bring-requires (λ c. search needs) (λ c. search needs) (λ c. search needs) (λ c. search needs) returns-2)

@@ -12,7 +12,7 @@ returns : tie.Need-returns
 unfolding lengths-of
 returns c =
     let asked = c .before in
-    let x = asked .before .before .before .before .before .before .before .args in
+    let x = asked .before .before .before .before .before .args in
     hear-lengths (x .n) (x .heard .now) (x .further) (tables (x .links .now) (x .numbers .now) (x .order .now)) _ _ (asked .of-tables .result)
     (asked .of-tables .ensures) (c .if1 .taken) _ _
 
@@ -20,7 +20,7 @@ returns-2 : tie.Need-returns-2
 unfolding lengths-of
 returns-2 c =
     let asked = c .before .before in
-    let x = asked .before .before .before .before .before .before .before .args in
+    let x = asked .before .before .before .before .before .args in
     heard-other (x .n) (x .heard .now) (x .further) (tables (x .links .now) (x .numbers .now) (x .order .now)) _ _ (asked .of-tables .result)
     (asked .of-tables .ensures) (c .before .if1 .left) (c .if2 .taken) _ _
 
@@ -28,17 +28,17 @@ returns-3 : tie.Need-returns-3
 unfolding lengths-of
 returns-3 c =
     let asked = c .before .before .before in
-    let x = asked .before .before .before .before .before .before .before .args in
+    let x = asked .before .before .before .before .before .args in
     further-other (x .n) (x .heard .now) (x .further) (tables (x .links .now) (x .numbers .now) (x .order .now)) _ _ (asked .of-tables .result)
     (asked .of-tables .ensures) (c .before .before .if1 .left) (c .before .if2 .left) (c .if3 .taken) _ _
 
 returns-4 : tie.Need-returns-4
 unfolding lengths-of
 returns-4 c =
-    let examined = c .before .before .before .before .before in
+    let examined = c .before in
     let tested = examined .before .before .before in
     let asked = tested .before .before .before in
-    let x = asked .before .before .before .before .before .before .before .args in
+    let x = asked .before .before .before .before .before .args in
     hear-unsound (x .n) (x .heard .now) (x .further) (tables (x .links .now) (x .numbers .now) (x .order .now)) _ _ (asked .of-tables .result)
     (asked .of-tables .ensures) (tested .before .before .if1 .left) (tested .before .if2 .left) (tested .if3 .left)
     (x .places .now) _ (x .highs .now) _ refl refl (examined .examine .result) (examined .examine .ensures)
@@ -47,10 +47,10 @@ returns-4 c =
 returns-5 : tie.Need-returns-5
 unfolding lengths-of
 returns-5 c =
-    let examined = c .before .before .before .before .before .before in
+    let examined = c .before .before in
     let tested = examined .before .before .before in
     let asked = tested .before .before .before in
-    let x = asked .before .before .before .before .before .before .before .args in
+    let x = asked .before .before .before .before .before .args in
     hear-sound (x .n) (x .heard .now) (x .further) (tables (x .links .now) (x .numbers .now) (x .order .now)) _ _ (asked .of-tables .result)
     (asked .of-tables .ensures) (tested .before .before .if1 .left) (tested .before .if2 .left) (tested .if3 .left)
     (x .places .now) _ (x .highs .now) _ refl refl (examined .examine .result) (examined .examine .ensures)
@@ -59,5 +59,4 @@ returns-5 c =
 pub refusal-spec : {M : Type 1} → statement M
 refusal-spec =
     tie.close (
-    tie.spec (λ c κs. search needs) returns returns-2 returns-3 (λ c κs. search needs) (λ c. search needs) (λ c. search needs) returns-4
-    (λ c κs. search needs) (λ c. search needs) (λ c. search needs) returns-5)
+    tie.spec (λ c κs. search needs) returns returns-2 returns-3 (λ c κs. search needs) returns-4 (λ c κs. search needs) returns-5)

@@ -18,20 +18,20 @@ abbrev μ-loop : tie.MeasureT-loop
 μ-loop up n a list links₀ numbers₀ order₀ places₀ highs₀ i₀ links numbers order places highs i = length list - i
 
 loop-holds : tie.Need-loop-holds Inv-loop μ-loop
-loop-holds c = switching-none _ _ _ _ (c .before .before .before .before .before .before .pre .0)
+loop-holds c = switching-none _ _ _ _ (c .before .before .before .before .pre .0)
 
 cast-step : tie.Need-cast-step Inv-loop μ-loop
 cast-step c = omega (arith, c .shared-slice-known2 .given (c .before .before .loop .i))
 
 add-i : tie.Need-add-i Inv-loop μ-loop
 add-i c =
-    let in-loop = c .before .before .before .before .before .before .before .before .before .before .before .before .before .before .before .before .before in
-    let start = in-loop .before .before .before .before .before .before .before .before in
+    let in-loop = c .before .before .before .before .before .before .before .before .before .before .before .before .before in
+    let start = in-loop .before .before .before .before .before .before in
     record { fits = omega (arith, start .pre .1, in-loop .loop-test .taken) }
 
 loop-again : tie.Need-loop-again Inv-loop μ-loop
 loop-again c =
-    let stepped = c .before .before .before .before .before .before .before .before .before .before in
+    let stepped = c .before .before .before .before .before .before in
     let at-loop = stepped .before .before .before .before .before .before .before .before in
     switching-turn (at-loop .loop .inv) (stepped .before .before .before .before .before .before .before .loop-test .taken) (stepped .step .result) _ _ _
     (stepped .step .ensures)
@@ -39,11 +39,4 @@ loop-again c =
 pub switch-row-spec : {M : Type 1} → statement M
 switch-row-spec =
     tie.close (
-    tie.spec Inv-loop μ-loop loop-holds (λ c. search needs) (λ c. search needs) cast-step
-    (λ c κs. c .before .before .before .before .before .before .before .loop .inv .prepared) add-i (λ c. search needs) loop-again
-    (λ c. same-lengths (c .before .before .before .before .before .before .before .before .pre .0) (c .before .loop .inv .prepared) .links)
-    (λ c. same-lengths (c .before .before .before .before .before .before .before .before .pre .0) (c .before .loop .inv .prepared) .numbers)
-    (λ c. same-lengths (c .before .before .before .before .before .before .before .before .pre .0) (c .before .loop .inv .prepared) .order)
-    (λ c. same-lengths (c .before .before .before .before .before .before .before .before .pre .0) (c .before .loop .inv .prepared) .places)
-    (λ c. same-lengths (c .before .before .before .before .before .before .before .before .pre .0) (c .before .loop .inv .prepared) .highs)
-    (λ c. switching-end (c .before .loop .inv) (c .loop-test .left)))
+    tie.spec Inv-loop μ-loop loop-holds (λ c. search needs) (λ c. search needs) cast-step (λ c κs. c .before .before .before .before .before .before .before .loop .inv .prepared) add-i (λ c. search needs) loop-again (λ c. same-lengths (c .before .before .before .before .before .before .pre .0) (c .before .loop .inv .prepared) .links) (λ c. same-lengths (c .before .before .before .before .before .before .pre .0) (c .before .loop .inv .prepared) .numbers) (λ c. same-lengths (c .before .before .before .before .before .before .pre .0) (c .before .loop .inv .prepared) .order) (λ c. switching-end (c .before .loop .inv) (c .loop-test .left)))

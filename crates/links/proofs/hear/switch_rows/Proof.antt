@@ -20,7 +20,7 @@ abbrev μ-loop : tie.MeasureT-loop
 
 loop-holds : tie.Need-loop-holds Inv-loop μ-loop
 loop-holds c =
-    let start = c .before .before .before .before .before .before .before in
+    let start = c .before .before .before .before .before in
     (refl, rows-none _ _ _ _ (start .pre .0) (start .pre .1))
 
 slice-aggregate-list : tie.Need-slice-aggregate-list Inv-loop μ-loop
@@ -50,7 +50,7 @@ switch-row-requires c κs =
 
 loop-again : tie.Need-loop-again Inv-loop μ-loop
 loop-again c =
-    let switched = c .before .before .before .before .before .before .before .before .before .before in
+    let switched = c .before .before .before .before .before .before in
     let listed = switched .before .before .before .before .before .before .before .before in
     let at-loop = listed .before .before .before .before in (
       listed .list2 .kept .1 .1 .1 .1 .1 .0 ∙ at-loop .loop .inv .0,
@@ -61,11 +61,4 @@ loop-again c =
 pub switch-rows-spec : {M : Type 1} → statement M
 switch-rows-spec =
     tie.close (
-    tie.spec Inv-loop μ-loop loop-holds slice-aggregate-list (λ c κs. search needs) array-share-prefix-list slice-aggregate-switch-row
-    switch-row-requires (λ c. search needs) (λ c. search needs) loop-again
-    (λ c. same-lengths (c .before .before .before .before .before .before .before .before .before .pre .0) (c .before .loop .inv .1 .ready) .links)
-    (λ c. same-lengths (c .before .before .before .before .before .before .before .before .before .pre .0) (c .before .loop .inv .1 .ready) .numbers)
-    (λ c. same-lengths (c .before .before .before .before .before .before .before .before .before .pre .0) (c .before .loop .inv .1 .ready) .order)
-    (λ c. same-lengths (c .before .before .before .before .before .before .before .before .before .pre .0) (c .before .loop .inv .1 .ready) .places)
-    (λ c. same-lengths (c .before .before .before .before .before .before .before .before .before .pre .0) (c .before .loop .inv .1 .ready) .highs)
-    (λ c. rows-done (c .before .loop .inv .1) (c .loop-test .left)))
+    tie.spec Inv-loop μ-loop loop-holds slice-aggregate-list (λ c κs. search needs) array-share-prefix-list slice-aggregate-switch-row switch-row-requires (λ c. search needs) (λ c. search needs) loop-again (λ c. same-lengths (c .before .before .before .before .before .before .before .pre .0) (c .before .loop .inv .1 .ready) .links) (λ c. same-lengths (c .before .before .before .before .before .before .before .pre .0) (c .before .loop .inv .1 .ready) .numbers) (λ c. same-lengths (c .before .before .before .before .before .before .before .pre .0) (c .before .loop .inv .1 .ready) .order) (λ c. rows-done (c .before .loop .inv .1) (c .loop-test .left)))

@@ -4,7 +4,7 @@ use Prim.Native.Nat.{_-_}
 use native.Mathlib.Omega.{arith}
 use borrow.Author.Needs.{needs}
 use Rattle.walk_parts.specs.Places.{level-size}
-use Rattle.links.proofs.PeelLoop.{Peel-from, peel-none, peel-below, peel-room, peel-write, peel-row, peel-releasable, peel-turn, peel-end}
+use Rattle.links.proofs.PeelLoop.{Peel-from, peel-none, peel-below, peel-room, peel-few, peel-row, peel-releasable, peel-turn, peel-end}
 use Rattle.links.proofs.plan.peel.Statement.{statement}
 use Rattle.links.proofs.plan.peel.Tie as tie
 
@@ -17,16 +17,16 @@ abbrev μ-loop : tie.MeasureT-loop
     level-size numbers (call .level) - taken
 
 loop-holds : tie.Need-loop-holds Inv-loop μ-loop
-loop-holds c = peel-none (c .before .before .before .before .before .before .before .before .before .pre) _ (c .first-marked .ensures)
+loop-holds c = peel-none (c .before .before .before .before .before .before .before .pre) _ (c .first-marked .ensures)
 
 shared-slice-read-v : tie.Need-shared-slice-read-v Inv-loop μ-loop
-shared-slice-read-v c = peel-below (c .before .before .before .before .before .before .before .before .before .before .before .before .pre) (c .before .before .loop .inv) (c .before .loop-test .taken)
+shared-slice-read-v c = peel-below (c .before .before .before .before .before .before .before .before .before .before .pre) (c .before .before .loop .inv) (c .before .loop-test .taken)
 
-slice-write-list : tie.Need-slice-write-list Inv-loop μ-loop
-slice-write-list c = peel-write (c .before .before .before .before .before .before .before .before .before .before .before .before .pre) (c .before .before .loop .inv) (c .before .loop-test .taken)
+element-write-list : tie.Need-element-write-list Inv-loop μ-loop
+element-write-list c = omega (arith, peel-few (c .before .before .before .before .before .before .before .before .before .before .pre) (c .before .before .loop .inv) (c .before .loop-test .taken))
 
 add-taken : tie.Need-add-taken Inv-loop μ-loop
-add-taken c = omega (arith, peel-write (c .before .before .before .before .before .before .before .before .before .before .before .before .pre) (c .before .before .loop .inv) (c .before .loop-test .taken))
+add-taken c = omega (arith, peel-few (c .before .before .before .before .before .before .before .before .before .before .pre) (c .before .before .loop .inv) (c .before .loop-test .taken))
 
 cast-take-radio : tie.Need-cast-take-radio Inv-loop μ-loop
 cast-take-radio c = omega (arith, c .shared-slice-known5 .given (c .before .before .loop .p))
@@ -34,25 +34,22 @@ cast-take-radio c = omega (arith, c .shared-slice-known5 .given (c .before .befo
 take-radio-requires : tie.Need-take-radio-requires Inv-loop μ-loop
 take-radio-requires c κs =
     let at-loop = c .before .before .before .before in
-    let start = c .before .before .before .before .before .before .before .before .before .before .before .before .before .before in
+    let start = c .before .before .before .before .before .before .before .before .before .before .before .before in
     (peel-row (start .pre) (at-loop .loop .inv) (c .before .before .before .loop-test .taken), peel-releasable (start .pre) (at-loop .loop .inv) (c .before .before .before .loop-test .taken))
 
 loop-less : tie.Need-loop-less Inv-loop μ-loop
-loop-less c = omega (arith, peel-room (c .before .before .before .before .before .before .before .before .before .before .before .before .before .before .before .before .before .before .before .before .before .pre) (c .before .before .before .before .before .before .before .before .before .before .before .loop .inv) (c .before .before .before .before .before .before .before .before .before .before .loop-test .taken))
+loop-less c = omega (arith, peel-room (c .before .before .before .before .before .before .before .before .before .before .before .before .before .before .before .before .pre) (c .before .before .before .before .before .before .before .before .loop .inv) (c .before .before .before .before .before .before .before .loop-test .taken))
 
 loop-again : tie.Need-loop-again Inv-loop μ-loop
 loop-again c =
-    let made = c .before .before .before .before .before .before in
-    peel-turn (c .before .before .before .before .before .before .before .before .before .before .before .before .before .before .before .before .before .before .before .before .before .pre) (c .before .before .before .before .before .before .before .before .before .before .before .loop .inv) (c .before .before .before .before .before .before .before .before .before .before .loop-test .taken) _ _ _
+    let made = c .before .before .before in
+    peel-turn (c .before .before .before .before .before .before .before .before .before .before .before .before .before .before .before .before .pre) (c .before .before .before .before .before .before .before .before .loop .inv) (c .before .before .before .before .before .before .before .loop-test .taken) _ _ _
     (made .take-radio .ensures .0) (made .take-radio .ensures .1) (c .first-marked2 .ensures)
 
 returns : tie.Need-returns Inv-loop μ-loop
-returns c = peel-end (c .before .before .before .before .before .before .before .before .before .before .before .pre) (c .before .loop .inv) (c .loop-test .left)
+returns c = (peel-end (c .before .before .before .before .before .before .before .before .before .pre) (c .before .loop .inv) (c .loop-test .left), c .before .loop .inv .long-list)
 
 pub peel-spec : {M : Type 1} → statement M
 peel-spec =
     tie.close (
-    tie.spec Inv-loop μ-loop (λ c κs. search needs) loop-holds (λ c. search needs) (λ c. search needs) shared-slice-read-v (λ c. search needs)
-    slice-write-list add-taken cast-take-radio take-radio-requires (λ c κs. search needs) loop-less loop-again (λ c. c .before .loop .inv .long-counters)
-    (λ c. c .before .loop .inv .long-fits) (λ c. c .before .loop .inv .long-list)
-    returns)
+    tie.spec Inv-loop μ-loop (λ c κs. search needs) loop-holds (λ c. search needs) (λ c. search needs) shared-slice-read-v (λ c. search needs) element-write-list add-taken cast-take-radio take-radio-requires (λ c κs. search needs) loop-less loop-again returns)

@@ -11,7 +11,7 @@ use Rattle.links.proofs.questions.refusal.Tie as tie
 returns : tie.Need-returns
 unfolding lengths-of
 returns c =
-    let s = c .before .before .before .before .before .before .before in
+    let s = c .before .before .before .before .before in
     let x = s .args in
     let t = tables (x .links .now) (x .numbers .now) (x .order .now) in
     refused-lengths (x .up) (x .n) (x .a) (x .b) t (x .answer) (c .before .with-answer .result) (x .places .now) (x .highs .now) (c .before .with-answer .ensures) (c .if1 .taken)
@@ -19,9 +19,9 @@ returns c =
 returns-2 : tie.Need-returns-2
 unfolding lengths-of
 returns-2 c =
-    let checked = c .before .before .before .before .before in
+    let checked = c .before in
     let sized = checked .before .before .before .before in
-    let s = sized .before .before .before .before .before .before in
+    let s = sized .before .before .before .before in
     let x = s .args in
     let t = tables (x .links .now) (x .numbers .now) (x .order .now) in
     let good = lent-asked (x .up) (x .n) (x .a) (x .b) t (x .answer) (sized .with-answer .result) (sized .with-answer .ensures) (checked .before .before .before .if1 .left) in
@@ -31,9 +31,9 @@ returns-2 c =
 returns-3 : tie.Need-returns-3
 unfolding lengths-of
 returns-3 c =
-    let checked = c .before .before .before .before .before .before in
+    let checked = c .before .before in
     let sized = checked .before .before .before .before in
-    let s = sized .before .before .before .before .before .before in
+    let s = sized .before .before .before .before in
     let x = s .args in
     let t = tables (x .links .now) (x .numbers .now) (x .order .now) in
     let good = lent-asked (x .up) (x .n) (x .a) (x .b) t (x .answer) (sized .with-answer .result) (sized .with-answer .ensures) (checked .before .before .before .if1 .left) in
@@ -43,5 +43,4 @@ returns-3 c =
 pub refusal-spec : {M : Type 1} → statement M
 refusal-spec =
     tie.close (
-    tie.spec (λ c κs. search needs) returns (λ c κs. search needs) (λ c. search needs) (λ c. search needs) returns-2 (λ c κs. search needs) (λ c. search needs)
-    (λ c. search needs) returns-3)
+    tie.spec (λ c κs. search needs) returns (λ c κs. search needs) returns-2 (λ c κs. search needs) returns-3)

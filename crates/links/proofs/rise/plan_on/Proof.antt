@@ -3,69 +3,70 @@
 use mathlib.Core.Path.{refl}
 use native.Mathlib.Omega.{arith}
 use borrow.Author.Needs.{needs}
-use Rattle.links.proofs.WalkPlan.{begins-inside, part-room, site-lent, settled-lent, walked-lent, planned-as}
+use Rattle.links.proofs.WalkPlan.{begins-inside, site-lent, settled-lent, walked-lent, planned-as}
 use Rattle.links.proofs.rise.plan_on.Statement.{statement}
 use Rattle.links.proofs.rise.plan_on.Tie as tie
 
 mul-tail : tie.Need-mul-tail
 mul-tail c =
-    let start = c .before .before .before .before .before .before in
+    let start = c .before .before .before .before in
     let at = start .pre .1 .1 in
     let inside = begins-inside (start .pre .0) _ (at .level) _ refl in omega (arith, inside .1, inside .2, at .place, start .pre .0 .small)
 
 sub-tail : tie.Need-sub-tail
 sub-tail c =
-    let start = c .before .before .before .before .before .before in
+    let start = c .before .before .before .before in
     let at = start .pre .1 .1 in
     let inside = begins-inside (start .pre .0) _ (at .level) _ refl in omega (arith, inside .1, inside .2, at .place)
 
 part-tail-start : tie.Need-part-tail-start
 part-tail-start c =
-    let start = c .before .before .before .before .before .before in
+    let start = c .before .before .before .before in
     let at = start .pre .1 .1 in
     let inside = begins-inside (start .pre .0) _ (at .level) _ refl in omega (arith, inside .1, inside .2, at .place)
 
 settled-requires : tie.Need-settled-requires
 settled-requires c κs =
-    let start = c .before .before .before .before .before .before .before in
+    let start = c .before .before .before .before .before in
     let at = start .pre .1 .1 in (_, site-lent (start .pre .0) _ (at .level) _ refl _ refl _ (at .place) _ refl)
 
 returns : tie.Need-returns
 returns c =
     let asked = c .before .before in
-    let start = c .before .before .before .before .before .before .before .before .before .before in
+    let start = c .before .before .before .before .before .before .before .before in
     let at = start .pre .1 .1 in
     planned-as (c .unmoved .ensures)
-    (settled-lent (start .pre .0) _ (at .level) _ refl _ refl _ (at .place) _ refl (asked .settled .result) _ (asked .settled .ensures) (c .before .if1 .taken))
+    (settled-lent (start .pre .0) _ (at .level) _ refl _ refl _ (at .place) _ refl (asked .settled .result) _ (asked .settled .ensures) (c .before .if1 .taken)
+    (start .pre .1 .0))
 
 add-size : tie.Need-add-size
 add-size c =
     let sized = c .before .before .before in
-    let start = c .before .before .before .before .before .before .before .before .before .before .before .before .before in
+    let start = c .before .before .before .before .before .before .before .before .before .before .before in
     let at = start .pre .1 .1 in
     let inside = begins-inside (start .pre .0) _ (at .level) _ refl in omega (arith, inside .2, sized .stretch-of .ensures .0, sized .stretch-of .ensures .1, start .pre .0 .small)
 
 sub-size : tie.Need-sub-size
 sub-size c =
     let sized = c .before .before .before in
-    let start = c .before .before .before .before .before .before .before .before .before .before .before .before .before in
+    let start = c .before .before .before .before .before .before .before .before .before .before .before in
     let at = start .pre .1 .1 in
     let inside = begins-inside (start .pre .0) _ (at .level) _ refl in omega (arith, inside .1, at .place, sized .stretch-of .ensures .0, sized .stretch-of .ensures .1)
 
 walk-requires : tie.Need-walk-requires
 walk-requires c κs =
     let sized = c .before .before .before .before in
-    let start = c .before .before .before .before .before .before .before .before .before .before .before .before .before .before in
+    let start = c .before .before .before .before .before .before .before .before .before .before .before .before in
     let at = start .pre .1 .1 in (
       site-lent (start .pre .0) _ (at .level) _ refl _ (omega (arith, sized .stretch-of .ensures .0, sized .stretch-of .ensures .1, at .place)) _ (at .place) _ refl,
-      omega (arith, start .pre .1 .0, part-room (start .pre .0) _ (at .level) _ refl _ refl, at .place, sized .stretch-of .ensures .0, sized .stretch-of .ensures .1),
+      start .pre .1 .0,
     )
 
 returns-3 : tie.Need-returns-3
 returns-3 c =
-    let made = c .before .before in
-    let sized = c .before .before .before .before .before .before .before in
-    let start = c .before .before .before .before .before .before .before .before .before .before .before .before .before .before .before .before .before in
+    let made = c in
+    let sized = c .before .before .before .before .before in
+    let start = c .before .before .before .before .before .before .before .before .before .before .before .before .before in
     let at = start .pre .1 .1 in
     walked-lent (start .pre .0) _ (at .level) _ refl _ (omega (arith, sized .stretch-of .ensures .0, sized .stretch-of .ensures .1, at .place)) _ (at .place) _ refl _ _ _ _
     (made .walk .ensures .0) (made .walk .ensures .1)
@@ -73,5 +74,4 @@ returns-3 c =
 pub plan-on-spec : {M : Type 1} → statement M
 plan-on-spec =
     tie.close (
-    tie.spec mul-tail sub-tail part-tail-start (λ c. search needs) settled-requires (λ c κs. search needs) returns (λ c κs. search needs) (λ c κs. search needs) (λ c. search needs) (λ c. search needs)
-    (λ c. search needs) add-size sub-size walk-requires (λ c. search needs) returns-3)
+    tie.spec mul-tail sub-tail part-tail-start (λ c. search needs) settled-requires (λ c κs. search needs) returns (λ c κs. search needs) (λ c κs. search needs) (λ c. search needs) add-size sub-size walk-requires returns-3)

@@ -11,23 +11,23 @@ use Rattle.links.proofs.rise.plan_up.Tie as tie
 
 shared-slice-read-lower : tie.Need-shared-slice-read-lower
 shared-slice-read-lower c =
-    ends-known (c .before .before .before .before .before .before .before .pre .0) .0
+    ends-known (c .before .before .before .before .before .pre .0) .0
 
 shared-slice-read-lower-2 : tie.Need-shared-slice-read-lower-2
 shared-slice-read-lower-2 c =
-    ends-known (c .before .before .before .before .before .before .before .before .pre .0) .1
+    ends-known (c .before .before .before .before .before .before .pre .0) .1
 
 mul-first : tie.Need-mul-first
 mul-first c =
     let chosen = c in
     let most = chosen .before in
-    let start = c .before .before .before .before .before .before .before .before .before .before in omega (arith, begins-below (start .pre .0) (most .lower .result) (most .lower .ensures) (chosen .beginning .result) (chosen .beginning .ensures), start .pre .0 .small)
+    let start = c .before .before .before .before .before .before .before .before in omega (arith, begins-below (start .pre .0) (most .lower .result) (most .lower .ensures) (chosen .beginning .result) (chosen .beginning .ensures), start .pre .0 .small)
 
 shared-slice-read-first : tie.Need-shared-slice-read-first
 shared-slice-read-first c =
     let chosen = c .before in
     let most = chosen .before in
-    let start = c .before .before .before .before .before .before .before .before .before .before .before in omega (arith, begins-below (start .pre .0) (most .lower .result) (most .lower .ensures) (chosen .beginning .result) (chosen .beginning .ensures), start .pre .0 .places-length)
+    let start = c .before .before .before .before .before .before .before .before .before in omega (arith, begins-below (start .pre .0) (most .lower .result) (most .lower .ensures) (chosen .beginning .result) (chosen .beginning .ensures), start .pre .0 .places-length)
 
 cast-first : tie.Need-cast-first
 cast-first c =
@@ -37,7 +37,7 @@ plan-on-requires : tie.Need-plan-on-requires
 plan-on-requires c κs =
     let chosen = c .before .before .before .before in
     let most = chosen .before in
-    let start = c .before .before .before .before .before .before .before .before .before .before .before .before .before .before in (
+    let start = c .before .before .before .before .before .before .before .before .before .before .before .before in (
       start .pre .0,
       (
         start .pre .1,
@@ -51,5 +51,4 @@ plan-on-requires c κs =
 pub plan-up-spec : {M : Type 1} → statement M
 plan-up-spec =
     tie.close (
-    tie.spec shared-slice-read-lower shared-slice-read-lower-2 (λ c κs. search needs) (λ c κs. search needs) mul-first shared-slice-read-first cast-first
-    (λ c κs. search needs) (λ c κs. search needs) (λ c. search needs) (λ c. search needs) (λ c. search needs) plan-on-requires (λ c. search needs) (λ c. search needs) (λ c. search needs))
+    tie.spec shared-slice-read-lower shared-slice-read-lower-2 (λ c κs. search needs) (λ c κs. search needs) mul-first shared-slice-read-first cast-first (λ c κs. search needs) (λ c κs. search needs) (λ c. search needs) plan-on-requires (λ c. search needs))

@@ -36,8 +36,8 @@ cast-places-2 c = omega (arith, c .shared-slice-known .given (c .before .before 
 mul-places-2 : tie.Need-mul-places-2 Inv-loop μ-loop
 mul-places-2 c = omega (arith, c .shared-slice-known .given (c .before .before .before .args .start + c .before .before .loop .i))
 
-slice-write-places : tie.Need-slice-write-places Inv-loop μ-loop
-slice-write-places c =
+element-write-places : tie.Need-element-write-places Inv-loop μ-loop
+element-write-places c =
     let at-loop = c .before .before in
     let start = at-loop .before in
     omega (
@@ -56,9 +56,6 @@ loop-again c =
     folding-turn _ _ _ (at-loop .loop .places) _ i (at-loop .loop .inv) (omega (arith, length-range (x .start) (x .size)))
     (ap (λ (p : ℕ). set (at-loop .loop .places) (getD (x .order .now) p 0) p) (sym (getD-range (x .start) (x .size) i l)))
 
-same-length : tie.Need-same-length Inv-loop μ-loop
-same-length c = folding-long _ (λ p now. length-set now _ p) _ _ _ _ (c .before .loop .inv)
-
 returns : tie.Need-returns Inv-loop μ-loop
 unfolding places-put
 returns c =
@@ -67,5 +64,4 @@ returns c =
 pub put-places-spec : {M : Type 1} → statement M
 put-places-spec =
     tie.close (
-    tie.spec Inv-loop μ-loop (λ c. folding-none _ _ _) add-p cast-places mul-places shared-slice-read-places cast-places-2 mul-places-2
-    slice-write-places (λ c. search needs) (λ c. search needs) loop-again same-length returns)
+    tie.spec Inv-loop μ-loop (λ c. folding-none _ _ _) add-p cast-places mul-places shared-slice-read-places cast-places-2 mul-places-2 element-write-places (λ c. search needs) (λ c. search needs) loop-again returns)

@@ -27,5 +27,4 @@ returns-3 c = rw (ne-eqb _ _ (c .if1 .left))
 pub count-end-spec : {M : Type 1} → statement M
 count-end-spec =
     tie.close (
-    tie.spec (λ c. search needs) (λ c. search needs) add-counters (λ c. search needs) (λ c. search needs) sub-counters (λ c. search needs)
-    (λ c. search needs) returns (λ c. search needs) returns-2 returns-3)
+    tie.spec (λ c. search needs) (λ c. search needs) add-counters (λ c. search needs) (λ c. search needs) sub-counters (λ c. search needs) returns returns-2 returns-3)

@@ -14,13 +14,13 @@ abbrev μ-loop : tie.MeasureT-loop
 μ-loop row level most numbers places counters₀ fits₀ k₀ counters fits k = 8 - k
 
 loop-holds : tie.Need-loop-holds Inv-loop μ-loop
-loop-holds c = row-none _ _ _ _ _ _ _ (c .before .before .before .before .before .pre .1)
+loop-holds c = row-none _ _ _ _ _ _ _ (c .before .before .before .pre .1)
 
 release-word-requires : tie.Need-release-word-requires Inv-loop μ-loop
 release-word-requires c κs =
     let read = c .before .before in
     let at-loop = read .before .before in
-    let given = at-loop .before .before .before .before .before in (
+    let given = at-loop .before .before .before in (
       omega arith,
       row-ready _ _ _ _ _ _ _ (given .before .pre .0) (λ j. given .shared-slice-known .given j .fits) (at-loop .loop .k) _ _ _ (omega arith)
           (read .word-of .ensures) (at-loop .loop .inv),
@@ -28,10 +28,10 @@ release-word-requires c κs =
 
 loop-again : tie.Need-loop-again Inv-loop μ-loop
 loop-again c =
-    let made = c .before .before .before .before in
+    let made = c in
     let read = made .before .before .before in
     let at-loop = read .before .before in
-    let given = at-loop .before .before .before .before .before in
+    let given = at-loop .before .before .before in
     row-turn _ _ _ _ _ _ _ (given .before .pre .0) (λ j. given .shared-slice-known .given j .fits) (at-loop .loop .k) _ _ _ (omega arith)
     (read .word-of .ensures) (at-loop .loop .inv) _ _ (made .release-word .ensures .0) (made .release-word .ensures .1)
 
@@ -41,5 +41,4 @@ returns c = row-end _ _ _ _ _ _ _ _ _ _ (c .loop-test .left) (c .before .loop .i
 pub release-row-spec : {M : Type 1} → statement M
 release-row-spec =
     tie.close (
-    tie.spec Inv-loop μ-loop loop-holds (λ c κs. search needs) (λ c. search needs) release-word-requires (λ c. search needs) (λ c. search needs)
-    loop-again (λ c. c .before .loop .inv .1 .long) (λ c. c .before .loop .inv .1 .long-fits) returns)
+    tie.spec Inv-loop μ-loop loop-holds (λ c κs. search needs) (λ c. search needs) release-word-requires (λ c. search needs) (λ c. search needs) loop-again returns)

@@ -11,30 +11,30 @@ release-end-requires : tie.Need-release-end-requires
 release-end-requires c κs =
     let branch = c .before .before in
     let asked = branch .before in
-    let start = asked .before .before .before .before .before .before .before .before .before .before in
+    let start = asked .before .before .before .before .before .before in
     let same = neighbours-of-end _ _ _ _ _ _ (asked .other-end .ensures) (branch .if1 .taken) (start .pre .0) in
     (start .pre .0 .row, same .0, releasable-same _ _ _ _ (same .1) (start .pre .1))
 
 returns : tie.Need-returns
 returns c =
-    let made = c .before .before .before .before in
+    let made = c in
     let branch = made .before .before .before in
     let asked = branch .before in
-    let put = asked .before .before .before in
-    let start = put .before .before .before .before .before .before .before in
-    released-same _ _ _ _ _ _ _ _ _ (neighbours-of-end _ _ _ _ _ _ (asked .other-end .ensures) (branch .if1 .taken) (start .pre .0) .1) (put .put-bit .ensures)
+    let put = asked .before in
+    let start = put .before .before .before .before .before in
+    released-same _ _ _ _ _ _ _ _ _ (neighbours-of-end _ _ _ _ _ _ (asked .other-end .ensures) (branch .if1 .taken) (start .pre .0) .1) (put .put .ensures)
     (made .release-end .ensures .0) (made .release-end .ensures .1)
 
 part-release-row-end : tie.Need-part-release-row-end
 part-release-row-end c =
-    let start = c .before .before .before .before .before .before .before .before .before .before .before in
+    let start = c .before .before .before .before .before .before .before in
     omega (arith, start .pre .0 .row)
 
 release-row-requires : tie.Need-release-row-requires
 release-row-requires c κs =
     let branch = c .before .before .before in
     let asked = branch .before in
-    let start = asked .before .before .before .before .before .before .before .before .before .before in
+    let start = asked .before .before .before .before .before .before in
     let v = start .args .v in
     let long = row-bytes * v + row-bytes - row-bytes * v in (
       length-part _ v long (omega arith) (start .pre .0 .row),
@@ -43,18 +43,17 @@ release-row-requires c κs =
 
 returns-2 : tie.Need-returns-2
 returns-2 c =
-    let made = c .before .before .before .before in
+    let made = c in
     let branch = made .before .before .before .before in
     let asked = branch .before in
-    let put = asked .before .before .before in
-    let start = put .before .before .before .before .before .before .before in
+    let put = asked .before in
+    let start = put .before .before .before .before .before in
     let v = start .args .v in
     let long = row-bytes * v + row-bytes - row-bytes * v in
     released-same _ _ _ _ _ _ _ _ _ (neighbours-of-lent _ _ _ _ _ _ (asked .other-end .ensures) long (omega arith) (branch .if1 .left) (start .pre .0))
-    (put .put-bit .ensures) (made .release-row .ensures .0) (made .release-row .ensures .1)
+    (put .put .ensures) (made .release-row .ensures .0) (made .release-row .ensures .1)
 
 pub take-radio-spec : {M : Type 1} → statement M
 take-radio-spec =
     tie.close (
-    tie.spec (λ c κs. search needs) (λ c κs. search needs) release-end-requires (λ c. search needs) (λ c. search needs) returns (λ c. search needs) (λ c. search needs)
-    (λ c. search needs) (λ c. search needs) part-release-row-end release-row-requires (λ c. search needs) (λ c. search needs) returns-2)
+    tie.spec (λ c κs. search needs) (λ c κs. search needs) release-end-requires returns (λ c. search needs) (λ c. search needs) (λ c. search needs) (λ c. search needs) part-release-row-end release-row-requires returns-2)

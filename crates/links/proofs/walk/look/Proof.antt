@@ -3,99 +3,98 @@
 use mathlib.Core.Path.{refl}
 use native.Mathlib.Omega.{arith}
 use borrow.Author.Needs.{needs}
-use Rattle.mesh.specs.Limits.{max-neighbours}
+use lib.ListN.{length}
+use Rattle.mesh.specs.Limits.{max-neighbours, max-radios}
 use Rattle.links.proofs.WalkTurns.{near-ready}
-use Rattle.links.proofs.WalkMade.{listed-known, look-below, look-room, look-release, look-holds, look-takes}
+use Rattle.links.proofs.WalkMade.{listed-known, look-below, look-release, look-holds, look-takes}
 use Rattle.links.proofs.walk.look.Statement.{statement}
 use Rattle.links.proofs.walk.look.Tie as tie
 
 cast-neighbours-after : tie.Need-cast-neighbours-after
 cast-neighbours-after c =
-    omega (arith, c .before .before .before .before .before .shared-slice-known5 .given (c .before .before .before .before .before .before .before .before .before .before .before .before .before .before .args .at .front))
+    omega (arith, c .before .before .before .shared-slice-known5 .given (c .before .before .before .before .before .before .before .before .args .at .front))
 
 neighbours-after-requires : tie.Need-neighbours-after-requires
 neighbours-after-requires c κs =
-    let start = c .before .before .before .before .before .before .before .before .before .before .before .before .before .before .before in near-ready (start .pre .0) _ (look-below (start .pre .0) (start .pre .1) (start .pre .2)) max-neighbours refl
+    let start = c .before .before .before .before .before .before .before .before .before in near-ready (start .pre .0) _ (look-below (start .pre .0) (start .pre .1) (start .pre .2)) max-neighbours refl
 
 count-left-requires : tie.Need-count-left-requires
 count-left-requires c κs =
     let made = c .before .before .before in
-    let start = c .before .before .before .before .before .before .before .before .before .before .before .before .before .before .before .before .before .before .before in
-    listed-known (start .pre .0) _ _ _ (start .args .held .now) (look-below (start .pre .0) (start .pre .1) (start .pre .2)) (start .pre .1 .held-long) (made .neighbours-after .ensures) (made .neighbours-after .kept .1 .1 .1 .1 .1 .0)
+    let start = c .before .before .before .before .before .before .before .before .before .before .before .before .before in
+    listed-known (start .pre .0) _ _ _ max-radios (look-below (start .pre .0) (start .pre .1) (start .pre .2)) (start .pre .0 .small) (made .neighbours-after .ensures) (made .neighbours-after .kept .1 .1 .1 .1 .1 .0)
 
 cast-held : tie.Need-cast-held
 cast-held c =
-    omega (arith, c .before .before .before .before .before .before .before .before .before .before .before .before .before .shared-slice-known5 .given (c .before .before .before .before .before .before .before .before .before .before .before .before .before .before .before .before .before .before .before .before .before .before .args .at .front))
+    omega (arith, c .before .before .before .before .before .before .before .before .before .before .before .shared-slice-known5 .given (c .before .before .before .before .before .before .before .before .before .before .before .before .before .before .before .before .args .at .front))
 
-slice-write-held : tie.Need-slice-write-held
-slice-write-held c =
-    let start = c .before .before .before .before .before .before .before .before .before .before .before .before .before .before .before .before .before .before .before .before .before .before in omega (arith, look-below (start .pre .0) (start .pre .1) (start .pre .2), start .pre .1 .held-long)
+element-write-held : tie.Need-element-write-held
+element-write-held c =
+    let start = c .before .before .before .before .before .before .before .before .before .before .before .before .before .before .before .before in omega (arith, look-below (start .pre .0) (start .pre .1) (start .pre .2), start .pre .0 .small)
 
 cast-counters : tie.Need-cast-counters
 cast-counters c =
-    omega (arith, c .before .before .before .before .before .before .before .before .before .before .before .before .before .shared-slice-known5 .given (c .before .before .before .before .before .before .before .before .before .before .before .before .before .before .before .before .before .before .before .before .before .before .args .at .front))
+    omega (arith, c .before .before .before .before .before .before .before .before .before .before .before .shared-slice-known5 .given (c .before .before .before .before .before .before .before .before .before .before .before .before .before .before .before .before .args .at .front))
 
-slice-write-counters : tie.Need-slice-write-counters
-slice-write-counters c =
-    let start = c .before .before .before .before .before .before .before .before .before .before .before .before .before .before .before .before .before .before .before .before .before .before in omega (arith, look-below (start .pre .0) (start .pre .1) (start .pre .2), start .pre .1 .counters-long)
+element-write-counters : tie.Need-element-write-counters
+element-write-counters c =
+    let start = c .before .before .before .before .before .before .before .before .before .before .before .before .before .before .before .before in omega (arith, look-below (start .pre .0) (start .pre .1) (start .pre .2), start .pre .0 .small)
 
 cast-touch : tie.Need-cast-touch
 cast-touch c =
-    let start = c .before .before .before .before .before .before .before .before .before .before .before .before .before .before .before .before .before .before .before .before .before .before .before in omega (arith, start .pre .2 .0, start .pre .0 .fits, start .pre .0 .small)
+    let start = c .before .before .before .before .before .before .before .before .before .before .before .before .before .before .before .before .before in omega (arith, start .pre .2 .0, start .pre .0 .fits, start .pre .0 .small)
 
 touch-requires : tie.Need-touch-requires
 touch-requires c κs =
     let made = c .before .before .before .before .before .before .before .before in
-    let start = c .before .before .before .before .before .before .before .before .before .before .before .before .before .before .before .before .before .before .before .before .before .before .before .before in
-    let known = listed-known (start .pre .0) _ _ _ (start .args .numbers .now) (look-below (start .pre .0) (start .pre .1) (start .pre .2)) (omega (arith, start .pre .0 .numbers-length)) (made .neighbours-after .ensures) (made .neighbours-after .kept .1 .1 .1 .1 .1 .0) in (known .0, known .2)
+    let start = c .before .before .before .before .before .before .before .before .before .before .before .before .before .before .before .before .before .before in
+    let known = listed-known (start .pre .0) _ _ _ (length (start .args .numbers .now)) (look-below (start .pre .0) (start .pre .1) (start .pre .2)) (omega (arith, start .pre .0 .numbers-length)) (made .neighbours-after .ensures) (made .neighbours-after .kept .1 .1 .1 .1 .1 .0) in (known .0, known .2)
 
 returns : tie.Need-returns
 returns c =
-    let touched = c .before .before in
-    let counted = c .before .before .before .before .before .before .before in
-    let made = c .before .before .before .before .before .before .before .before .before .before .before in
-    let put = c .before .before .before .before .before .before .before .before .before .before .before .before .before .before .before in
-    let start = c .before .before .before .before .before .before .before .before .before .before .before .before .before .before .before .before .before .before .before .before .before .before .before .before .before .before .before in
-    (look-holds (start .pre .0) (start .pre .1) (start .pre .2) _ _ (made .neighbours-after .ensures) _ (put .put-bit .ensures) _ _ (counted .count-left .ensures) (c .before .before .before .before .before .if1 .taken) (touched .touch .ensures), (refl, omega arith))
+    let touched = c in
+    let counted = c .before .before .before .before .before in
+    let made = c .before .before .before .before .before .before .before .before .before in
+    let put = c .before .before .before .before .before .before .before .before .before .before .before in
+    let start = c .before .before .before .before .before .before .before .before .before .before .before .before .before .before .before .before .before .before .before in
+    (look-holds (start .pre .0) (start .pre .1) (start .pre .2) _ _ (made .neighbours-after .ensures) _ (put .put .ensures) _ _ (counted .count-left .ensures) (c .before .before .before .if1 .taken) (touched .touch .ensures), (refl, omega arith))
 
 mul-list : tie.Need-mul-list
 mul-list c =
-    let start = c .before .before .before .before .before .before .before .before .before .before .before .before .before .before .before .before .before .before .before .before .before .before in omega (arith, start .pre .2 .0, start .pre .1 .passed, start .pre .0 .fits, start .pre .0 .small)
+    let start = c .before .before .before .before .before .before .before .before .before .before .before .before .before .before .before .before in omega (arith, start .pre .2 .0, start .pre .1 .passed, start .pre .0 .fits, start .pre .0 .small)
 
-slice-write-list : tie.Need-slice-write-list
-slice-write-list c =
-    let start = c .before .before .before .before .before .before .before .before .before .before .before .before .before .before .before .before .before .before .before .before .before .before in look-room (start .pre .0) (start .pre .1) (start .pre .2)
+element-write-list : tie.Need-element-write-list
+element-write-list c =
+    let start = c .before .before .before .before .before .before .before .before .before .before .before .before .before .before .before .before in omega (arith, start .pre .2 .0, start .pre .1 .passed, start .pre .0 .fits, start .pre .0 .small)
 
 release-requires : tie.Need-release-requires
 release-requires c κs =
-    let made = c .before .before .before .before .before .before .before .before .before .before in
-    let put = c .before .before .before .before .before .before .before .before .before .before .before .before .before .before in
-    let start = c .before .before .before .before .before .before .before .before .before .before .before .before .before .before .before .before .before .before .before .before .before .before .before .before .before .before in look-release (start .pre .0) (start .pre .1) (start .pre .2) _ _ (made .neighbours-after .ensures) _ (put .put-bit .ensures) (made .neighbours-after .kept .1 .1 .1 .1 .1 .0)
+    let made = c .before .before .before .before .before .before .before .before .before .before .before in
+    let put = c .before .before .before .before .before .before .before .before .before .before .before .before .before in
+    let start = c .before .before .before .before .before .before .before .before .before .before .before .before .before .before .before .before .before .before .before .before .before in look-release (start .pre .0) (start .pre .1) (start .pre .2) _ _ (made .neighbours-after .ensures) _ (put .put .ensures) (made .neighbours-after .kept .1 .1 .1 .1 .1 .0)
 
-add-t34 : tie.Need-add-t34
-add-t34 c =
-    let start = c .before .before .before .before .before .before .before .before .before .before .before .before .before .before .before .before .before .before .before .before .before .before .before .before .before .before .before in omega (arith, start .pre .2 .0, start .pre .1 .passed, start .pre .0 .fits, start .pre .0 .small)
+add-t32 : tie.Need-add-t32
+add-t32 c =
+    let start = c .before .before .before .before .before .before .before .before .before .before .before .before .before .before .before .before .before .before .before in omega (arith, start .pre .2 .0, start .pre .1 .passed, start .pre .0 .fits, start .pre .0 .small)
 
 add-t19 : tie.Need-add-t19
 add-t19 c =
-    let start = c .before .before .before .before .before .before .before .before .before .before .before .before .before .before .before .before .before .before .before .before .before .before .before .before .before .before .before .before .before .before .before in omega (arith, start .pre .2 .0, start .pre .1 .passed, start .pre .0 .fits, start .pre .0 .small)
+    let start = c .before .before .before .before .before .before .before .before .before .before .before .before .before .before .before .before .before .before .before .before .before .before in omega (arith, start .pre .2 .0, start .pre .1 .passed, start .pre .0 .fits, start .pre .0 .small)
 
-add-t52 : tie.Need-add-t52
-add-t52 c =
-    let start = c .before .before .before .before .before .before .before .before .before .before .before .before .before .before .before .before .before .before .before .before .before .before .before .before .before .before .before .before .before .before .before in omega (arith, start .pre .2 .0, start .pre .1 .passed, start .pre .0 .fits, start .pre .0 .small)
+add-t50 : tie.Need-add-t50
+add-t50 c =
+    let start = c .before .before .before .before .before .before .before .before .before .before .before .before .before .before .before .before .before .before .before .before .before .before in omega (arith, start .pre .2 .0, start .pre .1 .passed, start .pre .0 .fits, start .pre .0 .small)
 
 returns-2 : tie.Need-returns-2
 returns-2 c =
-    let freed = c .before .before .before .before in
-    let counted = c .before .before .before .before .before .before .before .before .before .before .before in
-    let made = c .before .before .before .before .before .before .before .before .before .before .before .before .before .before .before in
-    let put = c .before .before .before .before .before .before .before .before .before .before .before .before .before .before .before .before .before .before .before in
-    let start = c .before .before .before .before .before .before .before .before .before .before .before .before .before .before .before .before .before .before .before .before .before .before .before .before .before .before .before .before .before .before .before in
-    (look-takes (start .pre .0) (start .pre .1) (start .pre .2) _ _ (made .neighbours-after .ensures) _ (put .put-bit .ensures) _ _ _ (counted .count-left .ensures) (c .before .before .before .before .before .before .before .before .before .if1 .left) (freed .release .ensures .0) (freed .release .ensures .1), (refl, omega arith))
+    let freed = c in
+    let counted = c .before .before .before .before .before .before .before .before in
+    let made = c .before .before .before .before .before .before .before .before .before .before .before .before in
+    let put = c .before .before .before .before .before .before .before .before .before .before .before .before .before .before in
+    let start = c .before .before .before .before .before .before .before .before .before .before .before .before .before .before .before .before .before .before .before .before .before .before in
+    (look-takes (start .pre .0) (start .pre .1) (start .pre .2) _ _ (made .neighbours-after .ensures) _ (put .put .ensures) _ _ _ (counted .count-left .ensures) (c .before .before .before .before .before .before .if1 .left) (freed .release .ensures .0) (freed .release .ensures .1), (refl, omega arith))
 
 pub look-spec : {M : Type 1} → statement M
 look-spec =
     tie.close (
-    tie.spec (λ c. search needs) (λ c. search needs) (λ c. search needs) (λ c. search needs) (λ c κs. search needs) cast-neighbours-after (λ c. search needs) neighbours-after-requires (λ c. search needs) (λ c. search needs) (λ c. search needs) count-left-requires cast-held
-    slice-write-held cast-counters slice-write-counters (λ c. search needs) cast-touch touch-requires add-t34 (λ c. search needs) (λ c. search needs) (λ c. search needs) returns mul-list slice-write-list (λ c. search needs)
-    release-requires add-t19 add-t52 (λ c. search needs) (λ c. search needs) (λ c. search needs) (λ c. search needs) returns-2)
+    tie.spec (λ c. search needs) (λ c. search needs) (λ c. search needs) (λ c. search needs) (λ c κs. search needs) cast-neighbours-after (λ c. search needs) neighbours-after-requires (λ c. search needs) (λ c. search needs) (λ c. search needs) count-left-requires cast-held element-write-held cast-counters element-write-counters (λ c. search needs) cast-touch touch-requires add-t32 returns mul-list element-write-list (λ c. search needs) release-requires add-t19 add-t50 returns-2)

@@ -1,8 +1,6 @@
 -- `walk::settled` meets its contract: where nothing is held, what counts for the first of the part are its later neighbours.
 use mathlib.Core.Path.{refl}
 use native.Mathlib.Omega.{arith}
-use lib.ListN.{replicate, length-replicate}
-use Prim.Native.Nat.{ℕ}
 use borrow.Author.Needs.{needs}
 use Rattle.mesh.specs.Limits.{max-radios, max-neighbours}
 use Rattle.links.proofs.WalkTurns.{near-ready}
@@ -23,7 +21,7 @@ count-left-requires : tie.Need-count-left-requires
 count-left-requires c κs =
     let made = c .before .before .before in
     let start = c .before .before .before .before .before .before .before .before .before .before in
-    listed-known (start .pre .1) _ _ _ (replicate max-radios 0) (first-below (start .pre .1)) (omega (arith, start .pre .1 .small, length-replicate {A = ℕ} max-radios 0)) (made .neighbours-after .ensures)
+    listed-known (start .pre .1) _ _ _ max-radios (first-below (start .pre .1)) (start .pre .1 .small) (made .neighbours-after .ensures)
     (made .neighbours-after .kept .1 .1 .1 .1 .1 .0)
 
 returns : tie.Need-returns
@@ -33,4 +31,4 @@ returns c =
 pub settled-spec : {M : Type 1} → statement M
 settled-spec =
     tie.close (
-    tie.spec (λ c. search needs) cast-neighbours-after (λ c. search needs) neighbours-after-requires (λ c. search needs) (λ c. search needs) (λ c. search needs) (λ c. search needs) count-left-requires returns)
+    tie.spec (λ c. search needs) cast-neighbours-after (λ c. search needs) neighbours-after-requires (λ c. search needs) (λ c. search needs) (λ c. search needs) count-left-requires returns)

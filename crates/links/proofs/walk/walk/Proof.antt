@@ -5,29 +5,25 @@ use Prim.Native.Nat.{_+_, _*_, _-_}
 use native.Mathlib.Omega.{arith}
 use lib.ListN.{length}
 use borrow.Author.Needs.{needs}
-use Rattle.links.proofs.WalkSteps.{start-state, start-free, front-fits, Walk-from, walk-end, walk-radios, done-as}
+use Rattle.links.proofs.WalkSteps.{start-state, start-free, front-fits, Walk-from, walk-end, walk-radios}
 use Rattle.links.proofs.walk.walk.Statement.{statement}
 use Rattle.links.proofs.walk.walk.Tie as tie
 
 abbrev Inv-loop : tie.InvT-loop
 Inv-loop rise part links numbers tail places list₀ held₀ counters₀ due₀ at₀ p₀ list held counters due at p =
-    Walk-from (rise .a) (rise .b) (rise .most) (part .first) (part .size) links tail places (length list₀) held counters due list (at .taken) (at .front) p
+    Walk-from (rise .a) (rise .b) (rise .most) (part .first) (part .size) links tail places held counters due list (at .taken) (at .front) p
 
 abbrev μ-loop : tie.MeasureT-loop
 μ-loop rise part links numbers tail places list₀ held₀ counters₀ due₀ at₀ p₀ list held counters due at p = 2 * part .size - (at .front + at .taken)
 
 look-requires : tie.Need-look-requires Inv-loop μ-loop
 look-requires c κs =
-    let start = c .before .before .before .before .before .before .before .before .before in (start .pre .0, start-state (start .pre .0) _ (start .pre .1), start-free (start .pre .0))
+    let start = c .before .before .before .before .before .before .before .before in (start .pre .0, start-state (start .pre .0) _ (start .pre .1), start-free (start .pre .0))
 
 loop-holds : tie.Need-loop-holds Inv-loop μ-loop
 loop-holds c =
-    let made = c .before .before .before .before .before .before .before in
+    let made = c .before .before in
     record {
-      long-held = made .look .kept .1 .1 .1 .1 .1 .1 .1 .0;
-      long-counters = made .look .kept .1 .1 .1 .1 .1 .1 .1 .1 .0;
-      long-due = made .look .ensures .0 .due-long;
-      long-list = refl;
       some = omega arith;
       next = c .next .ensures;
       state = made .look .ensures .0;
@@ -36,22 +32,18 @@ loop-holds c =
 step-requires : tie.Need-step-requires Inv-loop μ-loop
 step-requires c κs =
     let at-loop = c .before .before .before .before .before in
-    let start = c .before .before .before .before .before .before .before .before .before .before .before .before .before .before .before .before .before .before .before .before .before .before .before in (start .pre .0, at-loop .loop .inv .state, (at-loop .loop .inv .next, omega (arith, c .before .before .before .before .loop-test .taken)))
+    let start = c .before .before .before .before .before .before .before .before .before .before .before .before .before .before .before .before .before in (start .pre .0, at-loop .loop .inv .state, (at-loop .loop .inv .next, omega (arith, c .before .before .before .before .loop-test .taken)))
 
 loop-less : tie.Need-loop-less Inv-loop μ-loop
 loop-less c =
-    let made = c .before .before .before .before .before .before .before in
-    let start = c .before .before .before .before .before .before .before .before .before .before .before .before .before .before .before .before .before .before .before .before .before .before .before .before .before .before .before .before .before .before .before in omega (arith, made .step .ensures .1 .1, made .step .ensures .0 .passed, front-fits (start .pre .0) (made .step .ensures .0) .0)
+    let made = c .before .before in
+    let start = c .before .before .before .before .before .before .before .before .before .before .before .before .before .before .before .before .before .before .before .before in omega (arith, made .step .ensures .1 .1, made .step .ensures .0 .passed, front-fits (start .pre .0) (made .step .ensures .0) .0)
 
 loop-again : tie.Need-loop-again Inv-loop μ-loop
 loop-again c =
-    let made = c .before .before .before .before .before .before .before in
-    let at-loop = c .before .before .before .before .before .before .before .before .before .before .before .before .before in
+    let made = c .before .before in
+    let at-loop = c .before .before .before .before .before .before .before .before in
     record {
-      long-held = made .step .kept .1 .1 .1 .1 .1 .1 .1 .1 .0 ∙ at-loop .loop .inv .long-held;
-      long-counters = made .step .kept .1 .1 .1 .1 .1 .1 .1 .1 .1 .0 ∙ at-loop .loop .inv .long-counters;
-      long-due = made .step .ensures .0 .due-long;
-      long-list = made .step .kept .1 .1 .1 .1 .1 .1 .1 .1 .1 .1 .1 .0 ∙ at-loop .loop .inv .long-list;
       some = made .step .ensures .1 .0;
       next = c .next2 .ensures;
       state = made .step .ensures .0;
@@ -60,22 +52,16 @@ loop-again c =
 list-stuck-requires : tie.Need-list-stuck-requires Inv-loop μ-loop
 list-stuck-requires c κs =
     let at-loop = c .before .before .before in
-    let start = c .before .before .before .before .before .before .before .before .before .before .before .before .before .before .before .before .before .before .before .before .before in walk-radios (start .pre .0) (at-loop .loop .inv .state)
-
-same-length : tie.Need-same-length Inv-loop μ-loop
-same-length c =
-    let at-loop = c .before .before .before .before .before .before .before in
-    c .before .before .before .list-stuck .kept .1 .1 .1 .1 .1 .1 .0 ∙ at-loop .loop .inv .long-list ∙ c .before .before .before .before .before .before .before .before .before .before .before .before .before .before .before .look .kept .1 .1 .1 .1 .1 .1 .1 .1 .1 .1 .0
+    let start = c .before .before .before .before .before .before .before .before .before .before .before .before .before .before .before in walk-radios (start .pre .0) (at-loop .loop .inv .state)
 
 returns : tie.Need-returns Inv-loop μ-loop
 returns c =
-    let made = c .before .before .before in
-    let at-loop = c .before .before .before .before .before .before .before in
-    let start = c .before .before .before .before .before .before .before .before .before .before .before .before .before .before .before .before .before .before .before .before .before .before .before .before .before in
-    (c .plan-of .ensures .0, done-as (c .plan-of .ensures .1) (c .plan-of .ensures .2) (walk-end (start .pre .0) (at-loop .loop .inv .state) (at-loop .loop .inv .some) (at-loop .loop .p) (c .before .before .before .before .before .before .loop-test .left) (at-loop .loop .inv .next) _ (made .list-stuck .ensures)))
+    let made = c in
+    let at-loop = c .before .before .before .before in
+    let start = c .before .before .before .before .before .before .before .before .before .before .before .before .before .before .before .before in
+    (refl, walk-end (start .pre .0) (at-loop .loop .inv .state) (at-loop .loop .inv .some) (at-loop .loop .p) (c .before .before .before .loop-test .left) (at-loop .loop .inv .next) _ (made .list-stuck .ensures))
 
 pub walk-spec : {M : Type 1} → statement M
 walk-spec =
     tie.close (
-    tie.spec Inv-loop μ-loop (λ c. search needs) (λ c. search needs) (λ c. search needs) look-requires (λ c κs. search needs) loop-holds (λ c. search needs) (λ c. search needs) (λ c. search needs) step-requires (λ c κs. search needs) loop-less loop-again (λ c. search needs)
-    list-stuck-requires (λ c κs. search needs) same-length returns)
+    tie.spec Inv-loop μ-loop look-requires (λ c κs. search needs) loop-holds step-requires (λ c κs. search needs) loop-less loop-again list-stuck-requires returns)

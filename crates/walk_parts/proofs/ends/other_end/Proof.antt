@@ -1,8 +1,8 @@
--- `turn::other_end` meets its contract: each branch answers what `other-end` names.
+-- `ends::other_end` meets its contract: each branch answers what `other-end` names.
 use borrow.Author.Tests.{eq-eqb, ne-eqb}
-use Rattle.links.specs.Turns.{other-end}
-use Rattle.links.proofs.turn.other_end.Statement.{statement}
-use Rattle.links.proofs.turn.other_end.Tie as tie
+use Rattle.walk_parts.specs.Places.{other-end}
+use Rattle.walk_parts.proofs.ends.other_end.Statement.{statement}
+use Rattle.walk_parts.proofs.ends.other_end.Tie as tie
 
 returns : tie.Need-returns
 unfolding other-end
