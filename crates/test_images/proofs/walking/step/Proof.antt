@@ -1,9 +1,9 @@
--- `reading::step` meets its contract: the payload that the answer names lies in the image.
+-- `walking::step` meets its contract: the payload that the answer names lies in the image.
 use native.Mathlib.Omega.{arith}
 use borrow.Author.Needs.{needs}
 use Rattle.block_reader.proofs.StepLaws.{block-inside}
-use Rattle.test_images.proofs.reading.step.Statement.{statement}
-use Rattle.test_images.proofs.reading.step.Tie as tie
+use Rattle.test_images.proofs.walking.step.Statement.{statement}
+use Rattle.test_images.proofs.walking.step.Tie as tie
 
 add-end : tie.Need-add-end
 add-end c =

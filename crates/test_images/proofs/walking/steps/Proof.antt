@@ -1,8 +1,8 @@
--- `reading::steps` is safe and ends: the measure is what is left of the count.
+-- `walking::steps` is safe and ends: the measure is what is left of the count.
 use Prim.Native.Nat.{_-_}
 use borrow.Author.Needs.{needs}
-use Rattle.test_images.proofs.reading.steps.Statement.{statement}
-use Rattle.test_images.proofs.reading.steps.Tie as tie
+use Rattle.test_images.proofs.walking.steps.Statement.{statement}
+use Rattle.test_images.proofs.walking.steps.Tie as tie
 
 abbrev Inv-loop : tie.InvT-loop
 Inv-loop image count walk₀ i₀ walk i = Unit {0}
