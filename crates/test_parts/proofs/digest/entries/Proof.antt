@@ -3,8 +3,8 @@ use mathlib.Core.Path.{_≡_}
 use Prim.Native.Nat.{_-_}
 use lib.ListN.{length}
 use borrow.Author.Needs.{needs}
-use Rattle.test_marks.proofs.digest.entries.Statement.{statement}
-use Rattle.test_marks.proofs.digest.entries.Tie as tie
+use Rattle.test_parts.proofs.digest.entries.Statement.{statement}
+use Rattle.test_parts.proofs.digest.entries.Tie as tie
 
 abbrev Inv-loop : tie.InvT-loop
 Inv-loop h s d₀ i₀ i-end d i = i-end ≡ length s
