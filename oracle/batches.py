@@ -2,13 +2,14 @@
 oracle/many_links.py writes and checks them.
 
 A batch is so many single calls, each worked out by oracle/peeled.py, until one is refused. The file has words of 32 bits, lowest byte
-first: the count of calls, and for each six words and its list.
+first: the count of calls, and for each its name, of 16 bytes, six words and its list.
 """
 
 import random
 
 import peeled
 import reference
+import words
 from questions import NEIGHBOURS, RADIOS
 
 ENTRIES, LIST = 514, 1200  # the program's tables: radios, entries of a list
@@ -37,7 +38,7 @@ class Host:
         """Lengths that are not given are the right ones."""
         many = min(n, ENTRIES)
         lengths = [y if x is None else x for x, y in zip((links, numbers, order), (64 * many, many, many))]
-        self.words += [kind, n, *lengths, len(entries), *entries]
+        self.words.append([kind, n, *lengths, len(entries), *entries])
         self.list[:len(entries)] = entries
         said = (self.clear, self.batch, self.spoil)[kind](n, entries, lengths)
         h = 0
@@ -148,5 +149,5 @@ def made():
     worked(host)
     limits(host)
     sites(host)
-    words = [len(host.lines), *host.words]
-    return b"".join(x.to_bytes(4, "little") for x in words), "".join(host.lines) + f"canaries {host.canaries}\n"
+    calls = [words.little(words.name(line) + call) for line, call in zip(host.lines, host.words, strict=True)]
+    return words.little([len(calls)]) + b"".join(calls), "".join(host.lines) + f"canaries {host.canaries}\n"

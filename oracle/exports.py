@@ -3,7 +3,8 @@
   python3 oracle/exports.py           write crates/test_exports/data and crates/test_exports/stdout
   python3 oracle/exports.py --check   say whether the stored files are what would be written
 
-The program counts how many of the tables that it spoils its digest shows; all must be. The file has words of 32 bits, lowest byte first: the count of calls, and nine words a call. Tables stand in lists as long as the
+The program counts how many of the tables that it spoils its digest shows; all must be. The file has words of 32 bits, lowest byte first: the count
+of calls, and for each its name, of 16 bytes, and nine words. Tables stand in lists as long as the
 program's; a call is answered from their lent parts and nothing else. Link calls are oracle/peeled.py's, the rest is
 oracle/reference.py's.
 """
@@ -14,6 +15,7 @@ from pathlib import Path
 import kruskal
 import peeled
 import reference
+import words
 from questions import RADIOS
 
 ENTRIES, PLACES, BUFFER = 514, 515, 4608  # the program's tables: radios, nodes, bytes for an image or a page
@@ -541,9 +543,9 @@ def play(host):
 def main():
     host = Host()
     play(host)
-    words = [len(host.words)] + [x for call in host.words for x in call]
+    calls = [words.little(words.name(line) + call) for line, call in zip(host.lines, host.words, strict=True)]
     spoiled = sum(line.startswith("spoil ") for line in host.lines)
-    files = {CRATE / "data/calls": b"".join(x.to_bytes(4, "little") for x in words),
+    files = {CRATE / "data/calls": words.little([len(calls)]) + b"".join(calls),
              CRATE / "stdout": ("".join(host.lines) + f"canaries {spoiled}\n").encode()}
     if "--check" in sys.argv:
         same = all(path.read_bytes() == content for path, content in files.items())

@@ -2,14 +2,15 @@
 oracle/many_links.py writes and checks them.
 
 A heard table is a set of ordered pairs here: (a, b) where a hears b. A hearing is so many single calls, each worked out by
-oracle/peeled.py; none of them may be refused. The file has words of 32 bits, lowest byte first: the count of calls, and for each eight words
-and the bytes of the heard table that change before it, each a place and the bits that are flipped there.
+oracle/peeled.py; none of them may be refused. The file has words of 32 bits, lowest byte first: the count of calls, and for each its
+name, of 16 bytes, eight words and the bytes of the heard table that change before it, each a place and the bits that are flipped there.
 """
 
 import random
 
 import peeled
 import reference
+import words
 from questions import NEIGHBOURS, RADIOS
 
 ENTRIES = 514  # the radios that the program's tables have room for
@@ -57,7 +58,7 @@ class Host:
         shown = table(self.heard, ENTRIES)
         changes = [256 * at + (x ^ y) for at, (x, y) in enumerate(zip(self.shown, shown)) if x != y]
         self.shown = shown
-        self.words += [kind, n, *lengths.values(), len(changes), *changes]
+        self.words.append([kind, n, *lengths.values(), len(changes), *changes])
         said = (self.clear, self.hear, self.spoil)[kind](n, lengths, right)
         h = 0
         for content in (self.links, self.numbers, self.order, self.shown, self.further):
@@ -191,5 +192,5 @@ def made():
     worked(host)
     limits(host)
     sites(host)
-    words = [len(host.lines), *host.words]
-    return b"".join(x.to_bytes(4, "little") for x in words), "".join(host.lines) + f"canaries {host.canaries}\n"
+    calls = [words.little(words.name(line) + call) for line, call in zip(host.lines, host.words, strict=True)]
+    return words.little([len(calls)]) + b"".join(calls), "".join(host.lines) + f"canaries {host.canaries}\n"

@@ -5,8 +5,8 @@
 
 A store keeps the rules when what is read out of it, name by name and site by site, written again gives the same bytes; the program goes
 by the rules one by one. Link calls are oracle/peeled.py's, images oracle/images.py's. The file has words of 32 bits,
-lowest byte first: the count of calls, and eight words a call. The program counts the changes of other hands that its digest shows; all
-must be.
+lowest byte first: the count of calls, and for each its name, of 16 bytes, a mark's name, of 8, and six words. The program counts the
+changes of other hands that its digest shows; all must be.
 """
 
 import random
@@ -15,6 +15,7 @@ from pathlib import Path
 
 import images
 import peeled
+import words
 
 ENTRIES, PLACE, PLACES = 64, 44040, 8  # the program's tables; the bytes of a place, the places of a store
 STORE = PLACE * PLACES
@@ -97,7 +98,7 @@ class Host:
         n = self.site.n if n is None else n
         letters = name[:8].ljust(8, b"\0")
         length = len(name) if length is None else length
-        self.words.append([KINDS.index(kind), n, a, b, int.from_bytes(letters[:4], "little"), int.from_bytes(letters[4:], "little"),
+        self.words.append([int.from_bytes(letters[:4], "little"), int.from_bytes(letters[4:], "little"), KINDS.index(kind), n, a, b,
                            length, room])
         number = getattr(self, kind)(n, a, b, (letters + b"X")[:length], room)
         h = digest(digest(digest(0, self.links), self.numbers), self.order)
@@ -337,9 +338,9 @@ def work_out():
     host = Host()
     for part in (worked, full, damage, sizes):
         part(host)
-    words = [len(host.words)] + [x for call in host.words for x in call]
+    calls = [words.little(words.name(line) + call) for line, call in zip(host.lines, host.words, strict=True)]
     lines = host.lines + [f"canaries {host.seen}\n"]
-    return {CRATE / "data/calls": b"".join(x.to_bytes(4, "little") for x in words), CRATE / "stdout": "".join(lines).encode()}
+    return {CRATE / "data/calls": words.little([len(calls)]) + b"".join(calls), CRATE / "stdout": "".join(lines).encode()}
 
 
 def main():

@@ -258,8 +258,8 @@ def files():
 
 # ---- the run
 
-def cases(data):
-    """Words and inputs in the program's order."""
+def cases():
+    """Inputs and words, in the order of data/cases."""
     for name in ("script-7", "image-7", "image-1", "image-300", "image-512"):
         yield from ((name, verb, [], ("", "")) for verb in VERBS)
     yield "script-7", "help", [], ("", "")
@@ -302,7 +302,7 @@ def long_texts():
 
 def text(data):
     out = []
-    for name, verb, words, shown in cases(data):
+    for name, verb, words, shown in cases():
         out.append(" ".join([name, verb, *shown]) + "\n" + run(data[name], verb, words))
     for name, image in (("script-7", "image-7"), ("image-512", "image-512")):
         assert SAYS["image"](found(data[name])).encode("latin-1") == data[image]
@@ -315,6 +315,7 @@ def stored_files():
     towers = (CRATES.parent / "examples/towers.txt").read_bytes()
     site = {"stdin": towers, "args": b"sheet\n", "stdout": run(towers, "sheet").removesuffix("status 0\n").encode()}
     out = {CRATES / "test_site/data" / name: content for name, content in data.items()}
+    out[CRATES / "test_site/data/cases"] = "".join(f"{name}|{verb}|{len(words)}|{'|'.join(shown)}\n" for name, verb, words, shown in cases()).encode()
     out |= {CRATES / "site" / name: content for name, content in site.items()}
     return out | {CRATES / "test_site/stdout": text(data)}
 

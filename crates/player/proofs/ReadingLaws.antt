@@ -24,10 +24,11 @@ use Rattle.calls.specs.Contracts.Sites.{Clear-accepted, Clear-contract}
 use Rattle.calls.proofs.ChainLaws.{lent-yes}
 use Rattle.calls.proofs.RecordLaws.{tables-ext}
 use Rattle.text.specs.Print.{Buffer, buffer-at, put, Puts, max-place}
+use Rattle.reads.specs.Reads.{most-reads}
 use Rattle.text.proofs.PrintLaws.{put-fits}
 use Rattle.player.specs.Lines.{Prints}
 use Rattle.player.specs.Machine.{Spot, spot, Takes, Takes-all, full, line-room, closing, ending}
-use Rattle.player.specs.Reading.{chunk-room, most-reads, waiting, Writes, room-made, Ready, Site-lent, Site-cleared, Site-sized, Takes-chunk, Ended}
+use Rattle.player.specs.Reading.{chunk-room, waiting, Writes, room-made, Ready, Site-lent, Site-cleared, Site-sized, Takes-chunk, Ended}
 use Rattle.player.specs.Reading.{Takes-read, Reads-once, Reads-all}
 use Rattle.player.specs.Whole.{lines-of, Lines-print, cleared, Run-from}
 use Rattle.player.specs.declared.machine.Progress.{Progress}
@@ -177,16 +178,16 @@ pub record Read-to (n k : ℕ) (t : Tables) (w : List ℕ) (b : Buffer) (q : Spo
   pub ready : s .live ≡ true → Ready (chunk-room * k) s out
   pub over : s .live ≡ false → Lines-print n (lines-of bytes) 2 t w text
 
-pub read-none : (n : ℕ) (t : Tables) (w out : List ℕ) (s : Progress) → s .live ≡ true → Ready (chunk-room * most-reads) s out
-    → Read-to n most-reads t w (buffer-at out (s .at)) (begin t w) s out
+pub read-none : (n k : ℕ) (t : Tables) (w out : List ℕ) (s : Progress) → k ≡ most-reads → s .live ≡ true → Ready (chunk-room * k) s out
+    → Read-to n k t w (buffer-at out (s .at)) (begin t w) s out
 unfolding Takes-all
-read-none n t w out s live h =
+read-none n k t w out s all live h =
     record {
       bytes = [];
       text = [];
       writes = writes-none (buffer-at out (s .at));
       takes = λ l. record { says = refl; same = refl };
-      many = λ l. omega arith;
+      many = λ l. omega (arith, all);
       ready = λ l. h;
       over = λ l. absurd (true≢false (sym live ∙ l));
     }

@@ -1,5 +1,5 @@
 -- The bytes after the first line: read by chunks, taken, and written through the printing buffer.
---   chunk-room, most-reads   the bytes that one read can bring, and the reads that a run has
+--   chunk-room               the bytes that one read can bring
 --   out-room                 the bytes of the printing buffer
 --   waiting b                what waits in the printing buffer
 --   Writes b text c          what waited in b and then the text: written, but for what waits in c
@@ -22,6 +22,7 @@ use lib.ListN.{length, take, replicate}
 use Rattle.mesh.specs.Limits.{max-radios, row-bytes}
 use Rattle.mesh.specs.Tables.{Tables}
 use Rattle.text.specs.Print.{Buffer, max-place}
+use Rattle.reads.specs.Reads.{most-reads}
 use Rattle.player.specs.Machine.{Spot, Takes-all, ending, full}
 use Rattle.player.specs.Whole.{cleared, Run-from}
 use Rattle.player.specs.declared.machine.Progress.{Progress}
@@ -29,10 +30,6 @@ use Rattle.player.specs.declared.machine.Progress.{Progress}
 -- the bytes that one read can bring
 abbrev pub chunk-room : ℕ
 chunk-room = 4096
-
--- the reads that a run has: 2^51, each of a byte at least, so that no input of fewer bytes is cut and no line's number passes 64 bits
-abbrev pub most-reads : ℕ
-most-reads = 2251799813685248
 
 -- ---- the printing buffer
 

@@ -20,9 +20,6 @@ const LINE_BYTES: usize = 17;
 // The printing buffer: once it is full, a line more or the closing lines still fit.
 const OUT_BYTES: usize = 16384;
 
-// The reads that a run has: more than any input uses up, and few enough that no line's number passes 64 bits.
-const READS: u64 = 1 << 51;
-
 // Writes what waits in the printing buffer.
 fn flush(out: &[u8], at: usize) {
     if at < out.len() {
@@ -110,7 +107,7 @@ fn take_read(
         (spot (lent (links .exit) (numbers .exit) (order .exit)) (now (answer .exit)) (now (line .exit)) r)
         (buffer-at (now (out .exit)) (r .at)) ⌝ }
 {
-    if chunk.len() == 0 {
+    if reads::is_end(chunk.len()) {
         return machine::end(s, line, numbers, order, out);
     }
     take_chunk(s, chunk, n, line, links, numbers, order, answer, out)
@@ -178,12 +175,12 @@ fn read_turns(
         at: 0,
         live: true,
     };
-    let mut reads = READS;
-    while reads > 0 {
+    let mut left = reads::most();
+    while left > 0 {
         if !s.live {
             break;
         }
-        reads -= 1;
+        left -= 1;
         s = turn(fd, most, s, n, line, links, numbers, order, answer, out);
     }
     s.at

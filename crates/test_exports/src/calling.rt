@@ -1,4 +1,4 @@
-// Each exported call, by the number that the file gives it, with its name and its answer printed.
+// Each exported call, by the number that the file gives it, with its answer printed.
 use crate::asking;
 use crate::reading::Call;
 use crate::say;
@@ -23,9 +23,9 @@ const CORE: u32 = 8;
 
 const BACKBONE: u32 = 9;
 
-pub const TREE: u32 = 10;
+const TREE: u32 = 10;
 
-pub const IMAGE_WRITE: u32 = 11;
+const IMAGE_WRITE: u32 = 11;
 
 const IMAGE_READ: u32 = 12;
 
@@ -33,17 +33,27 @@ const IMAGE_BLOCK: u32 = 13;
 
 const LATER_OF: u32 = 14;
 
-pub const SHEET: u32 = 15;
+const SHEET: u32 = 15;
 
 const STAIRCASE: u32 = 16;
 
-pub const ASK_UP: u32 = 17;
+const ASK_UP: u32 = 17;
 
-pub const ASK_DOWN: u32 = 18;
+const ASK_DOWN: u32 = 18;
 
 const COMMIT_UP: u32 = 19;
 
 const COMMIT_DOWN: u32 = 20;
+
+// Whether the call writes the fields of nodes, from the first on: a tree or a proposal.
+pub fn lists(kind: u32) -> bool {
+    kind == TREE || kind == ASK_UP || kind == ASK_DOWN
+}
+
+// Whether the call writes an image or a page.
+pub fn prints(kind: u32) -> bool {
+    kind == IMAGE_WRITE || kind == SHEET
+}
 
 // A question about a site, which writes no table.
 fn ask<'a>(call: Call, links: &'a [u8], numbers: &'a [u8], order: &'a [u16]) {
@@ -52,27 +62,12 @@ fn ask<'a>(call: Call, links: &'a [u8], numbers: &'a [u8], order: &'a [u16]) {
     let b = call.b;
     let kind = call.kind;
     match kind {
-        CHECK => say::value(b"check", summerbugle::sb_check(n, links, numbers, order)),
-        NUMBER => say::value(
-            b"number",
-            summerbugle::sb_number(n, a, links, numbers, order),
-        ),
-        NEIGHBOURS => say::value(
-            b"neighbours",
-            summerbugle::sb_neighbours(n, a, links, numbers, order),
-        ),
-        LINKED => say::value(
-            b"linked",
-            summerbugle::sb_linked(n, a, b, links, numbers, order),
-        ),
-        FIRST => say::value(
-            b"first",
-            summerbugle::sb_first(n, a, b, links, numbers, order),
-        ),
-        LATER_OF => say::later(
-            b"later-of",
-            summerbugle::sb_later_of(n, a, links, numbers, order),
-        ),
+        CHECK => say::value(summerbugle::sb_check(n, links, numbers, order)),
+        NUMBER => say::value(summerbugle::sb_number(n, a, links, numbers, order)),
+        NEIGHBOURS => say::value(summerbugle::sb_neighbours(n, a, links, numbers, order)),
+        LINKED => say::value(summerbugle::sb_linked(n, a, b, links, numbers, order)),
+        FIRST => say::value(summerbugle::sb_first(n, a, b, links, numbers, order)),
+        LATER_OF => say::later(summerbugle::sb_later_of(n, a, links, numbers, order)),
         _ => {}
     }
 }
@@ -90,17 +85,17 @@ fn list<'a>(
     let n = call.n;
     if call.kind == CORE {
         let core = summerbugle::sb_core(n, call.a, call.b, links, numbers, order, answer);
-        say::value(b"core", core);
+        say::value(core);
         return;
     }
     if call.kind == BACKBONE {
         let backbone = summerbugle::sb_backbone(n, links, numbers, order, answer);
-        say::value(b"backbone", backbone);
+        say::value(backbone);
         return;
     }
     if call.kind == TREE {
         let tree = asking::ask_within(n, links, numbers, order, call.room, answer, fields);
-        say::value(b"tree", tree);
+        say::value(tree);
     }
 }
 
@@ -108,8 +103,8 @@ fn list<'a>(
 fn stair<'a>(call: Call, links: &'a [u8], numbers: &'a [u8], order: &'a [u16], fields: &mut [u16]) {
     if call.kind == STAIRCASE {
         let k = tables::fill::least(call.room, fields.len());
-        let kept = summerbugle::sb_staircase(call.n, links, numbers, order, &mut fields[..k]);
-        say::value(b"staircase", kept);
+        let kept = summerbugle::sb_staircase(call.n, links, numbers, order, &mut fields[0..k]);
+        say::value(kept);
     }
 }
 
@@ -117,12 +112,12 @@ fn stair<'a>(call: Call, links: &'a [u8], numbers: &'a [u8], order: &'a [u16], f
 fn propose<'a>(call: Call, links: &'a [u8], numbers: &'a [u8], order: &'a [u16], list: &mut [u16]) {
     if call.kind == ASK_UP {
         let up = summerbugle::sb_ask_up(call.n, call.a, call.b, links, numbers, order, list);
-        say::reply(b"ask-up", up);
+        say::reply(up);
         return;
     }
     if call.kind == ASK_DOWN {
         let down = summerbugle::sb_ask_down(call.n, call.a, call.b, links, numbers, order, list);
-        say::reply(b"ask-down", down);
+        say::reply(down);
     }
 }
 
@@ -135,7 +130,7 @@ fn propose_in<'a>(
     fields: &mut [u16],
 ) {
     let k = tables::fill::least(call.answer, fields.len());
-    propose(call, links, numbers, order, &mut fields[..k]);
+    propose(call, links, numbers, order, &mut fields[0..k]);
 }
 
 // The step that a word says: below 128 itself, 128 stands for -128, and what is above it for -1.
@@ -163,7 +158,7 @@ fn commit(call: Call, links: &mut [u8], numbers: &mut [u8], order: &mut [u16], l
             order,
             list,
         );
-        say::reply(b"commit-up", up);
+        say::reply(up);
         return;
     }
     if call.kind == COMMIT_DOWN {
@@ -177,7 +172,7 @@ fn commit(call: Call, links: &mut [u8], numbers: &mut [u8], order: &mut [u16], l
             order,
             list,
         );
-        say::reply(b"commit-down", down);
+        say::reply(down);
     }
 }
 
@@ -190,19 +185,19 @@ fn commit_from(
     fields: &[u16],
 ) {
     let k = tables::fill::least(call.answer, fields.len());
-    commit(call, links, numbers, order, &fields[..k]);
+    commit(call, links, numbers, order, &fields[0..k]);
 }
 
 // A call that takes a link up or down.
 fn link(call: Call, links: &mut [u8], numbers: &mut [u8], order: &mut [u16], answer: &mut [u16]) {
     if call.kind == LINK_UP {
         let up = summerbugle::sb_link_up(call.n, call.a, call.b, links, numbers, order, answer);
-        say::reply(b"link-up", up);
+        say::reply(up);
         return;
     }
     if call.kind == LINK_DOWN {
         let down = summerbugle::sb_link_down(call.n, call.a, call.b, links, numbers, order, answer);
-        say::reply(b"link-down", down);
+        say::reply(down);
     }
 }
 
@@ -210,12 +205,12 @@ fn link(call: Call, links: &mut [u8], numbers: &mut [u8], order: &mut [u16], ans
 fn set(call: Call, links: &mut [u8], numbers: &mut [u8], order: &mut [u16], image: &[u8]) {
     if call.kind == CLEAR {
         let cleared = summerbugle::sb_clear(call.n, links, numbers, order);
-        say::number(b"clear", cleared);
+        say::number(cleared);
         return;
     }
     if call.kind == IMAGE_READ {
         let read = summerbugle::sb_image_read(call.n, links, numbers, order, image);
-        say::number(b"image-read", read);
+        say::number(read);
     }
 }
 
@@ -223,17 +218,17 @@ fn set(call: Call, links: &mut [u8], numbers: &mut [u8], order: &mut [u16], imag
 fn store(call: Call, links: &[u8], numbers: &[u8], order: &[u16], buffer: &mut [u8]) {
     if call.kind == IMAGE_WRITE {
         let written = summerbugle::sb_image_write(call.n, links, numbers, order, buffer);
-        say::value(b"image-write", written);
+        say::value(written);
         return;
     }
     if call.kind == SHEET {
         let printed = summerbugle::sb_sheet(call.n, links, numbers, order, buffer);
-        say::value(b"sheet", printed);
+        say::value(printed);
         return;
     }
     if call.kind == IMAGE_BLOCK {
         let next = call.a as usize * 4294967296 + call.b as usize;
-        say::block(b"image-block", summerbugle::sb_image_block(buffer, next));
+        say::block(summerbugle::sb_image_block(buffer, next));
     }
 }
 

@@ -1,11 +1,11 @@
 // The host: its tables, the calls on them, and what it prints after each.
 use crate::asking;
 use crate::calling;
-use crate::changing;
-use crate::digest;
 use crate::reading;
 use crate::reading::Call;
-use crate::say;
+use test_parts::digest;
+use test_parts::say;
+use test_parts::words;
 
 // Room for two radios more than a site may have.
 const ENTRIES: usize = 514;
@@ -28,8 +28,8 @@ pub type Fields = [u16; asking::FIELDS];
 
 pub type Buffer = [u8; BUFFER];
 
-// What the answer table holds before each call, the nodes before a tree or a proposal is, and the buffer before an image or a page is written: no
-// radio, level or name.
+// What the answer table holds before each call, the nodes before a tree or a proposal is, and the buffer before an image or a page is
+// written: no radio, level or name.
 pub const KEPT: u16 = 600;
 
 const BYTE: u8 = 165;
@@ -50,7 +50,7 @@ const SPOIL_BUFFER: u32 = 26;
 // The bits to flip in a table: none where another one is spoiled.
 fn bits(call: Call, kind: u32) -> u32 {
     if call.kind == kind {
-        say::number(b"spoil", kind);
+        say::field(kind as u64);
         return call.b;
     }
     0
@@ -67,12 +67,12 @@ fn spoil(
     buffer: &mut Buffer,
 ) {
     let at = call.a as usize;
-    changing::flip8(links, at, bits(call, SPOIL_LINKS));
-    changing::flip8(numbers, at, bits(call, SPOIL_NUMBERS));
-    changing::flip16(order, at, bits(call, SPOIL_ORDER));
-    changing::flip16(answer, at, bits(call, SPOIL_ANSWER));
-    changing::flip16(fields, at, bits(call, SPOIL_FIELDS));
-    changing::flip8(buffer, at, bits(call, SPOIL_BUFFER));
+    words::flip8(links, at, bits(call, SPOIL_LINKS));
+    words::flip8(numbers, at, bits(call, SPOIL_NUMBERS));
+    words::flip16(order, at, bits(call, SPOIL_ORDER));
+    words::flip16(answer, at, bits(call, SPOIL_ANSWER));
+    words::flip16(fields, at, bits(call, SPOIL_FIELDS));
+    words::flip8(buffer, at, bits(call, SPOIL_BUFFER));
 }
 
 // Lends the front of each table.
@@ -115,56 +115,47 @@ fn change(
     spoil(call, links, numbers, order, answer, fields, buffer);
 }
 
-// The digest after the call ends its line.
-fn end_line(h: u64) {
-    say::field(h);
-    say::word(b"\n");
-}
-
 // Fills what a call is to write.
-fn refill(call: Call, answer: &mut Answer, fields: &mut Fields, buffer: &mut Buffer) {
-    tables::fill::fill16(answer, KEPT);
-    if call.kind == calling::TREE
-        || call.kind == calling::ASK_UP
-        || call.kind == calling::ASK_DOWN
-    {
+fn refill(call: Call, fields: &mut Fields, buffer: &mut Buffer) {
+    if calling::lists(call.kind) {
         tables::fill::fill16(fields, KEPT);
     }
-    if call.kind == calling::IMAGE_WRITE || call.kind == calling::SHEET {
+    if calling::prints(call.kind) {
         tables::fill::fill8(buffer, BYTE);
     }
 }
 
-// Whether the host spoils a table.
-fn is_spoil(call: Call) -> bool {
-    SPOIL_LINKS <= call.kind
+// The digest of all tables.
+fn digest_of(
+    links: &Links,
+    numbers: &Numbers,
+    order: &Order,
+    answer: &Answer,
+    fields: &Fields,
+    buffer: &Buffer,
+) -> u64 {
+    let site = digest::site(links, numbers, order);
+    digest::bytes(
+        digest::entries(digest::entries(site, answer), fields),
+        buffer,
+    )
 }
 
-// 1 for a spoiled table that the digest shows: it was h, and is not.
-fn canary(call: Call, h: u64, after: u64) -> u32 {
-    if is_spoil(call) {
-        if h != after {
-            return 1;
-        }
-    }
-    0
-}
-
-// Makes the call and prints its line. Comes back with 1 for a canary.
+// Makes the call or spoils a table, and ends the line. Comes back with 1 for a canary.
 fn line(
     call: Call,
     links: &mut Links,
     numbers: &mut Numbers,
     order: &mut Order,
-    answer: &mut Answer,
     fields: &mut Fields,
     buffer: &mut Buffer,
 ) -> u32 {
-    let h = digest::all(links, numbers, order, answer, fields, buffer);
-    change(call, links, numbers, order, answer, fields, buffer);
-    let after = digest::all(links, numbers, order, answer, fields, buffer);
-    end_line(after);
-    canary(call, h, after)
+    let mut answer = [KEPT; asking::PLACES];
+    let h = digest_of(links, numbers, order, &answer, fields, buffer);
+    change(call, links, numbers, order, &mut answer, fields, buffer);
+    let after = digest_of(links, numbers, order, &answer, fields, buffer);
+    say::end_line(after);
+    say::canary(SPOIL_LINKS <= call.kind, h, after)
 }
 
 // The next call of the file.
@@ -173,13 +164,12 @@ fn one(
     links: &mut Links,
     numbers: &mut Numbers,
     order: &mut Order,
-    answer: &mut Answer,
     fields: &mut Fields,
     buffer: &mut Buffer,
 ) -> u32 {
     let call = reading::next_call(fd);
-    refill(call, answer, fields, buffer);
-    line(call, links, numbers, order, answer, fields, buffer)
+    refill(call, fields, buffer);
+    line(call, links, numbers, order, fields, buffer)
 }
 
 // All calls of the file, after their count. Comes back with the count of canaries.
@@ -188,14 +178,13 @@ fn all(
     links: &mut Links,
     numbers: &mut Numbers,
     order: &mut Order,
-    answer: &mut Answer,
     fields: &mut Fields,
     buffer: &mut Buffer,
 ) -> u32 {
-    let count = reading::word(fd);
+    let count = words::word(fd);
     let mut seen: u32 = 0;
     for i in 0..count {
-        let more = one(fd, links, numbers, order, answer, fields, buffer);
+        let more = one(fd, links, numbers, order, fields, buffer);
         seen = std::num::wrapping_add_u32(seen, more);
     }
     seen
@@ -206,7 +195,6 @@ pub fn play(fd: i32) {
     let mut links = [BYTE; LINKS];
     let mut numbers = [BYTE; ENTRIES];
     let mut order = [KEPT; ENTRIES];
-    let mut answer = [KEPT; asking::PLACES];
     let mut fields = [KEPT; asking::FIELDS];
     let mut buffer = [BYTE; BUFFER];
     let seen = all(
@@ -214,10 +202,8 @@ pub fn play(fd: i32) {
         &mut links,
         &mut numbers,
         &mut order,
-        &mut answer,
         &mut fields,
         &mut buffer,
     );
-    say::number(b"canaries", seen);
-    say::word(b"\n");
+    say::line(b"canaries", seen as u64);
 }

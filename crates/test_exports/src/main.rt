@@ -4,8 +4,6 @@
 // worked out by oracle/exports.py.
 mod asking;
 mod calling;
-mod changing;
-mod digest;
 mod host;
 mod reading;
 mod say;

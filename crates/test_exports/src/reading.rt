@@ -1,4 +1,6 @@
-// The file's calls: words of 32 bits, lowest byte first; past the file's end they are 0.
+// The file's calls: a name, and words.
+use test_parts::say;
+use test_parts::words::word;
 
 // A call: which one, n, two radios or a radio and a level, and how much of each table is lent. `room` is the count of places for
 // nodes, or of bytes for an image, or the step of a proposal.
@@ -14,20 +16,9 @@ pub struct Call {
     pub room: usize,
 }
 
-// A byte as a word.
-fn wide(x: u8) -> u32 {
-    x as u32
-}
-
-// The next word.
-pub fn word(fd: i32) -> u32 {
-    let mut four = [0u8; 4];
-    io::read_full(fd, &mut four);
-    wide(four[0]) | (wide(four[1]) << 8) | (wide(four[2]) << 16) | (wide(four[3]) << 24)
-}
-
-// The next call.
+// The next call, whose name begins its line.
 pub fn next_call(fd: i32) -> Call {
+    say::next_name(fd);
     Call {
         kind: word(fd),
         n: word(fd),

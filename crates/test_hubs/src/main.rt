@@ -16,11 +16,8 @@ fn say(word: &[u8], x: u64) {
     io::print_decimal(STDOUT_FILENO, x);
 }
 
-// A hub's line.
-fn line(path: &[u8], h: Hub) {
-    io::write_all(STDOUT_FILENO, path);
-    say(b" calls ", h.calls);
-    say(b" refusals ", h.refusals);
+// What is held, at the end of a line.
+fn say_held(h: Hub) {
     say(b" links ", h.links);
     say(b" numbers ", h.numbers);
     say(b" tree ", h.tree);
@@ -28,6 +25,14 @@ fn line(path: &[u8], h: Hub) {
     say(b" staircase ", h.staircase);
     say(b" order ", h.order);
     io::write_all(STDOUT_FILENO, b"\n");
+}
+
+// A hub's line.
+fn line(path: &[u8], h: Hub) {
+    io::write_all(STDOUT_FILENO, path);
+    say(b" calls ", h.calls);
+    say(b" refusals ", h.refusals);
+    say_held(h);
 }
 
 // 1 when they are equal, 0 when not.
@@ -38,16 +43,25 @@ fn equal(x: u64, y: u64) -> u64 {
     0
 }
 
+// Which counts and digests of two hubs are equal.
+fn equals(one: Hub, other: Hub) -> Hub {
+    Hub {
+        calls: equal(one.calls, other.calls),
+        refusals: equal(one.refusals, other.refusals),
+        links: equal(one.links, other.links),
+        numbers: equal(one.numbers, other.numbers),
+        tree: equal(one.tree, other.tree),
+        backbone: equal(one.backbone, other.backbone),
+        staircase: equal(one.staircase, other.staircase),
+        order: equal(one.order, other.order),
+    }
+}
+
 // Which digests of two hubs are equal.
 fn compared(path: &[u8], one: Hub, other: Hub) {
     io::write_all(STDOUT_FILENO, path);
-    say(b" equal: links ", equal(one.links, other.links));
-    say(b" numbers ", equal(one.numbers, other.numbers));
-    say(b" tree ", equal(one.tree, other.tree));
-    say(b" backbone ", equal(one.backbone, other.backbone));
-    say(b" staircase ", equal(one.staircase, other.staircase));
-    say(b" order ", equal(one.order, other.order));
-    io::write_all(STDOUT_FILENO, b"\n");
+    io::write_all(STDOUT_FILENO, b" equal:");
+    say_held(equals(one, other));
 }
 
 // Two hubs, and their lines.

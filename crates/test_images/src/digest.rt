@@ -22,10 +22,8 @@ fn mixed16(h: u64, x: u16) -> u64 {
 // The digest h with all bytes of s.
 pub(crate) fn bytes(h: u64, s: &[u8]) -> u64 {
     let mut d = h;
-    let mut i: usize = 0;
-    while i < s.len() {
+    for i in 0..s.len() {
         d = mixed8(d, s[i]);
-        i += 1;
     }
     d
 }
@@ -33,15 +31,27 @@ pub(crate) fn bytes(h: u64, s: &[u8]) -> u64 {
 // The digest h with all entries of s.
 fn entries(h: u64, s: &[u16]) -> u64 {
     let mut d = h;
-    let mut i: usize = 0;
-    while i < s.len() {
+    for i in 0..s.len() {
         d = mixed16(d, s[i]);
-        i += 1;
     }
     d
 }
 
-// The digest h with three tables.
-pub(crate) fn tables(h: u64, links: &[u8], numbers: &[u8], order: &[u16]) -> u64 {
-    entries(bytes(bytes(h, links), numbers), order)
+// The digest of three tables.
+pub(crate) fn tables(links: &[u8], numbers: &[u8], order: &[u16]) -> u64 {
+    entries(bytes(bytes(0, links), numbers), order)
+}
+
+// The sum h one place on.
+fn moved(h: u64) -> u64 {
+    h % MODULUS * BASE % MODULUS
+}
+
+// The digest h with `count` values whose own digest is d.
+pub(crate) fn joined(h: u64, count: usize, d: u64) -> u64 {
+    let mut x = h;
+    for i in 0..count {
+        x = moved(x);
+    }
+    (x % MODULUS + d % MODULUS) % MODULUS
 }

@@ -7,20 +7,29 @@ fn print_value(x: u64) {
     io::print_decimal(STDOUT_FILENO, x);
 }
 
-// The values of the line.
+// More values of the line.
 fn print_values(values: &[u64]) {
-    let mut i: usize = 0;
-    while i < values.len() {
+    for i in 0..values.len() {
         print_value(values[i]);
-        i += 1;
     }
 }
 
-// Prints a line.
-pub(crate) fn print(name: &[u8], values: &[u64]) {
+// Begins a line.
+pub(crate) fn begin(name: &[u8], values: &[u64]) {
     io::write_all(STDOUT_FILENO, name);
     print_values(values);
+}
+
+// Ends it.
+pub(crate) fn end(values: &[u64]) {
+    print_values(values);
     io::write_all(STDOUT_FILENO, b"\n");
+}
+
+// Prints a line with one value.
+pub(crate) fn one(name: &[u8], x: u64) {
+    begin(name, &[]);
+    end(&[x]);
 }
 
 // 1 for yes, 0 for no.

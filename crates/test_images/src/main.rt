@@ -1,10 +1,8 @@
 // Images written, read and walked at the sizes where their form changes; refusals, also where several questions get "no"; and every
 // byte of a small image changed in turn. At the end stands how many comparisons differed that must. The expected lines are worked
 // out by oracle/images.py.
-ghost use Prim.Native.Nat.{_≤_};
-ghost use Rattle.mesh.specs.Limits.{max-radios};
-
 mod canaries;
+mod changed;
 mod changes;
 mod digest;
 mod full;
@@ -15,76 +13,60 @@ mod pattern;
 mod reading;
 mod sites;
 mod sizes;
+mod tally;
+mod walking;
 mod writing;
 
 use mesh::Site;
+use sites::Links;
+use sites::Numbers;
+use sites::Order;
 use sites::Shape;
 
-// The bytes of a site's largest links table.
-const LINKS_BYTES: usize = Site::ROW_BYTES * Site::RADIOS as usize;
-
-// The bytes of the largest image, of 86 blocks, and two blocks more.
-const BUFFER: usize = 45056;
-
-// Prints whether the tables give what the buffer holds, an image and zeros after it, byte for byte.
-fn try_again(n: u32, links: &[u8], numbers: &[u8], order: &[u16], buffer: &[u8]) {
-    let mut again = [0u8; BUFFER];
-    image_writer::writer::write(n, links, numbers, order, &mut again);
-    lines::print(b"again", &[lines::yes(tables::fill::same8(buffer, &again))]);
-}
-
-// Prints the site, writes its image and reads it with each length and size and last as it is, then with the n around. Comes back with
-// the image's length.
-fn try_image(
-    shape: Shape,
-    links: &[u8],
-    numbers: &[u8],
-    order: &[u16],
-    buffer: &mut [u8],
-) -> usize {
-    let n = shape.radios;
-    let count = shape.links;
-    let digest = digest::tables(0, links, numbers, order);
-    lines::print(b"site", &[n as u64, count as u64, digest]);
-    let exact = writing::try_writes(n, links, numbers, order, buffer);
+// Reads the image that the buffer begins with, of n radios, with each length and size and last as it is, then with the n around; writes
+// it again from the tables read, and walks its blocks.
+fn try_image(n: u32, buffer: &[u8], exact: usize) {
+    let image = parts::front(buffer, exact);
     reading::try_cases(n, buffer, exact);
-    sizes::try_around(n, parts::front(buffer, exact));
-    exact
+    sizes::try_around(n, image);
+    reading::try_again(n, image);
+    walking::try_blocks(image);
 }
 
-// Makes the site and tries its image, writes it again from the tables read, and walks its blocks.
-fn try_site(shape: Shape, links: &mut [u8], numbers: &mut [u8], order: &mut [u16]) {
-    let mut buffer = [0u8; BUFFER];
-    sites::put_site(shape, links, numbers, order);
-    let exact = try_image(shape, links, numbers, order, &mut buffer);
-    let image = parts::front(&buffer, exact);
-    reading::read_fresh(shape.radios, links, numbers, order, image);
-    try_again(shape.radios, links, numbers, order, &buffer);
-    reading::try_blocks(image);
+// Prints the site of these tables, writes its image with each length of the buffer, and tries it.
+fn try_tables(shape: Shape, links: &[u8], numbers: &[u8], order: &[u16]) {
+    let n = shape.radios;
+    lines::begin(b"site", &[n as u64, shape.links as u64]);
+    lines::end(&[digest::tables(links, numbers, order)]);
+    let exact = writing::try_writes(n, links, numbers, order);
+    try_image(n, &writing::image_of(n, links, numbers, order), exact);
 }
 
-// Tries a site whose tables are parts of the largest ones.
-fn run_site(shape: Shape)
-    requires { ⌜ shape .radios ≤ max-radios ⌝ }
-{
+// The same, with tables that are parts of the largest ones.
+fn try_parts(shape: Shape, links: &Links, numbers: &Numbers, order: &Order) {
     let many = shape.radios as usize;
-    let bytes = Site::ROW_BYTES * many;
-    let mut links = [0u8; LINKS_BYTES];
-    let mut numbers = [0u8; Site::RADIOS as usize];
-    let mut order = [0u16; Site::RADIOS as usize];
-    try_site(
+    try_tables(
         shape,
-        &mut links[0..bytes],
-        &mut numbers[0..many],
-        &mut order[0..many],
+        parts::front(links, Site::ROW_BYTES * many),
+        parts::front(numbers, many),
+        parts::front16(order, many),
     );
 }
 
-// Tries a site; one of more than 512 radios is passed over.
+// Makes the site and tries it.
 fn site(shape: Shape) {
-    if shape.radios <= Site::RADIOS {
-        run_site(shape);
-    }
+    let mut links = [0u8; reading::LINKS];
+    let mut numbers = [0u8; reading::RADIOS];
+    let mut order = [0u16; reading::RADIOS];
+    sites::put_links(&mut links, shape.radios, shape.links);
+    sites::put_numbers(&mut numbers, shape.members, shape.number);
+    sites::put_order(
+        &mut order,
+        shape.spread,
+        shape.members,
+        shape.radios as usize,
+    );
+    try_parts(shape, &links, &numbers, &order);
 }
 
 // The sizes where the order or the links take one block more; and 200 radios, which a site of 120 does not take.
@@ -100,19 +82,15 @@ fn try_sites() {
     site(sites::path(200, 199));
 }
 
-// A radio with 40 neighbours is taken, one with 41 is not.
-fn try_full() {
-    full::try_neighbours(39, &mut [0u8; 2688], &[1u8; 42], &mut [0u16; 42]);
-    full::try_neighbours(40, &mut [0u8; 2752], &[1u8; 43], &mut [0u16; 43]);
-}
-
-// A small site: a triangle 0 1 2, and 2 linked to 3, 3 to 4. The links table holds zeros before.
-fn put_small(links: &mut [u8]) {
-    rows::put_link(links, true, 0, 1);
-    rows::put_link(links, true, 0, 2);
-    rows::put_link(links, true, 1, 2);
-    rows::put_link(links, true, 2, 3);
-    rows::put_link(links, true, 3, 4);
+// A small site: a triangle 0 1 2, and 2 linked to 3, 3 to 4. The first byte of each row has all its links.
+fn small_links() -> [u8; 320] {
+    let mut links = [0u8; 320];
+    links[0] = 6;
+    links[64] = 5;
+    links[128] = 11;
+    links[192] = 20;
+    links[256] = 8;
+    links
 }
 
 // Its numbers and its order.
@@ -131,23 +109,28 @@ fn try_small_reads(image: &[u8]) {
     reading::try_read(5, 320, 6, 5, image);
     reading::try_read(5, 320, 5, 4, image);
     reading::try_read(5, 320, 5, 6, image);
-    reading::try_blocks(image);
-    reading::try_blocks(parts::front(image, 1535));
+    walking::try_blocks(image);
+    walking::try_blocks(parts::front(image, 1535));
 }
 
-// Writes the small site with other tables.
-fn try_small_write(links: &[u8], numbers: [u8; 5], order: [u16; 5]) {
-    writing::try_refused(5, links, &numbers, &order);
+// Writes tables of the small site that are refused, the numbers with this last entry, the order with its own: unsound ones by 3, before 9
+// is asked.
+fn try_unsound(links: &[u8], number: u8, last: u16) {
+    writing::try_refused(5, links, &[2, 2, 2, 1, number], &[4, 3, 2, 0, last]);
 }
 
-// Writes tables of the small site that are refused: unsound ones by 3, before 9 is asked; 2 before 3, and 1 before 2.
+// Writes tables of the small site that are refused by 2 before 3, and by 1 before 2.
+fn try_short(n: u32, links: &[u8]) {
+    writing::try_refused(n, links, &[2, 2, 2, 1], &ORDER);
+}
+
+// Writes tables of the small site that are refused.
 fn try_small_writes(links: &[u8]) {
-    try_small_write(links, [2, 2, 2, 1, 2], ORDER);
-    try_small_write(links, NUMBERS, [4, 3, 2, 0, 0]);
-    try_small_write(&[1u8; 320], NUMBERS, ORDER);
-    let short = [2, 2, 2, 1];
-    writing::try_refused(5, links, &short, &ORDER);
-    writing::try_refused(0, links, &short, &ORDER);
+    try_unsound(links, 2, 1);
+    try_unsound(links, 1, 0);
+    try_unsound(&[1u8; 320], 1, 1);
+    try_short(5, links);
+    try_short(0, links);
 }
 
 // Reads and walks an image that is refused, last with this n.
@@ -156,14 +139,12 @@ fn try_refused(image: &[u8], last: u32) {
     reading::try_read(4, 256, 4, 4, image);
     reading::try_read(5, 319, 5, 5, image);
     reading::try_read(last, 319, 5, 5, image);
-    reading::try_blocks(image);
+    walking::try_blocks(image);
 }
 
 // The small image with a block that fails its check: 1, 2 and 9 are asked before 10, and 10 before 15 and 11.
 fn try_small_refusals(good: &[u8]) {
-    let mut image = [0u8; 1536];
-    tables::fill::copy8(&mut image, good);
-    parts::put_byte(&mut image, 600, 77);
+    let image = changed::with(good, 600, 77, 600, 77, false);
     try_refused(&image, 0);
     try_refused(parts::front(&image, 1535), 513);
 }
@@ -178,22 +159,27 @@ fn try_small_changes(good: &[u8]) {
     changes::try_change(changes::SWAPPED, good);
 }
 
+// Tries the small site, of these links, and its image.
+fn try_small_image(links: &[u8], good: &[u8]) {
+    try_small_reads(good);
+    try_small_writes(links);
+    try_small_refusals(good);
+    try_small_changes(good);
+    sizes::try_small(good);
+}
+
 // Tries the small site.
 fn try_small() {
-    let mut links = [0u8; 320];
-    let mut good = [0u8; 1536];
-    put_small(&mut links);
-    image_writer::writer::write(5, &links, &NUMBERS, &ORDER, &mut good);
-    try_small_reads(&good);
-    try_small_writes(&links);
-    try_small_refusals(&good);
-    try_small_changes(&good);
-    sizes::try_small(&good);
+    let links = small_links();
+    let buffer = writing::image_of(5, &links, &NUMBERS, &ORDER);
+    try_small_image(&links, parts::front(&buffer, 1536));
 }
 
 fn main() {
     try_sites();
-    try_full();
+    // A radio with 40 neighbours is taken, one with 41 is not.
+    full::try_neighbours(39);
+    full::try_neighbours(40);
     try_small();
-    lines::print(b"canaries", &[canaries::count() as u64]);
+    lines::one(b"canaries", canaries::count() as u64);
 }

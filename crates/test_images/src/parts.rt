@@ -1,7 +1,13 @@
-// Parts and bytes of an image, there for every number.
+// Parts and bytes, there for every number.
 
 // The first k bytes; all of them where there are fewer.
 pub(crate) fn front(s: &[u8], k: usize) -> &[u8] {
+    let end = tables::fill::least(k, s.len());
+    &s[0..end]
+}
+
+// The first k entries; all of them where there are fewer.
+pub(crate) fn front16(s: &[u16], k: usize) -> &[u16] {
     let end = tables::fill::least(k, s.len());
     &s[0..end]
 }
@@ -18,11 +24,4 @@ pub(crate) fn byte_at(s: &[u8], at: usize) -> u8 {
         return 0;
     }
     s[at]
-}
-
-// Writes a byte; past the end nothing changes.
-pub(crate) fn put_byte(s: &mut [u8], at: usize, x: u8) {
-    if at < s.len() {
-        s[at] = x;
-    }
 }

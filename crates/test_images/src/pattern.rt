@@ -4,31 +4,22 @@ pub(crate) const BYTE: u8 = 165;
 
 pub(crate) const ENTRY: u16 = 42405;
 
-// Every byte is the pattern's after.
-pub(crate) fn fill(buffer: &mut [u8]) {
-    tables::fill::fill8(buffer, BYTE);
-}
-
 // Whether every byte is the pattern's.
 pub(crate) fn is_kept(s: &[u8]) -> bool {
-    let mut i: usize = 0;
-    while i < s.len() {
+    for i in 0..s.len() {
         if s[i] != BYTE {
             return false;
         }
-        i += 1;
     }
     true
 }
 
 // Whether every entry is the pattern's.
 fn is_kept16(s: &[u16]) -> bool {
-    let mut i: usize = 0;
-    while i < s.len() {
+    for i in 0..s.len() {
         if s[i] != ENTRY {
             return false;
         }
-        i += 1;
     }
     true
 }

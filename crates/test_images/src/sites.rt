@@ -1,4 +1,5 @@
 // The sites tried: links step by step round the radios, so that numbers and a k-order are known.
+use super::reading;
 
 // A site: its radios and links; the radios below `members` have this number, the others 0. Without `spread` the order is the
 // others and then the members, both ascending.
@@ -6,9 +7,16 @@ pub(crate) struct Shape {
     pub(crate) radios: u32,
     pub(crate) links: u32,
     pub(crate) members: u32,
-    pub(crate) number: i8,
+    pub(crate) number: u8,
     pub(crate) spread: bool,
 }
+
+// The largest tables.
+pub(crate) type Links = [u8; reading::LINKS];
+
+pub(crate) type Numbers = [u8; reading::RADIOS];
+
+pub(crate) type Order = [u16; reading::RADIOS];
 
 // No links: every order is a k-order.
 pub(crate) fn alone(radios: u32) -> Shape {
@@ -33,7 +41,7 @@ pub(crate) fn path(radios: u32, links: u32) -> Shape {
 }
 
 // Each radio linked to the nearest ones on both sides, half of the number on each: every order is a k-order.
-pub(crate) fn ring(radios: u32, links: u32, number: i8) -> Shape {
+pub(crate) fn ring(radios: u32, links: u32, number: u8) -> Shape {
     Shape {
         radios,
         links,
@@ -60,21 +68,34 @@ fn far_end(n: u32, j: u32) -> u32 {
     std::num::wrapping_add_u32(j % n, steps) % n
 }
 
+// Takes a link up.
+pub(crate) fn put_link(links: &mut Links, a: u32, b: u32) {
+    rows::put_link(links, true, a, b);
+}
+
 // Takes links 0 to count - 1 up.
-fn put_links(links: &mut [u8], n: u32, count: u32) {
-    let mut j: u32 = 0;
-    while j < count {
-        rows::put_link(links, true, near_end(n, j), far_end(n, j));
-        j += 1;
+pub(crate) fn put_links(links: &mut Links, n: u32, count: u32) {
+    for j in 0..count {
+        put_link(links, near_end(n, j), far_end(n, j));
     }
 }
 
 // Links radio `centre` to the radios below k.
-pub(crate) fn put_star(links: &mut [u8], k: u32, centre: u32) {
-    let mut v: u32 = 0;
-    while v < k {
-        rows::put_link(links, true, v, centre);
-        v += 1;
+pub(crate) fn put_star(links: &mut Links, k: u32, centre: u32) {
+    for v in 0..k {
+        put_link(links, v, centre);
+    }
+}
+
+// The number of radio v.
+fn number_of(v: usize, members: u32, number: u8) -> u8 {
+    if v < members as usize { number } else { 0 }
+}
+
+// Gives the radios below `members` this number.
+pub(crate) fn put_numbers(numbers: &mut Numbers, members: u32, number: u8) {
+    for v in 0..reading::RADIOS {
+        numbers[v] = number_of(v, members, number);
     }
 }
 
@@ -90,19 +111,9 @@ fn entry(i: usize, spread: bool, first: u32, n: usize) -> u16 {
     ((at + first as usize) % n % 65536) as u16
 }
 
-// Fills the order.
-pub(crate) fn put_order(order: &mut [u16], spread: bool, first: u32) {
-    let mut i: usize = 0;
-    while i < order.len() {
-        order[i] = entry(i, spread, first, order.len());
-        i += 1;
+// Fills the order of n radios.
+pub(crate) fn put_order(order: &mut Order, spread: bool, first: u32, n: usize) {
+    for i in 0..reading::RADIOS {
+        order[i] = entry(i, spread, first, n);
     }
-}
-
-// Fills the tables of the site.
-pub(crate) fn put_site(shape: Shape, links: &mut [u8], numbers: &mut [u8], order: &mut [u16]) {
-    tables::clear::clear(shape.radios, links, numbers, order);
-    put_links(links, shape.radios, shape.links);
-    tables::steps::step_numbers(numbers, order, shape.members, shape.number);
-    put_order(order, shape.spread, shape.members);
 }

@@ -3,6 +3,7 @@ use crate::reading;
 use crate::reading::Site;
 use crate::tally;
 use crate::tally::Tally;
+use test_parts::words;
 
 // Room for two radios more than a site may have, and for 600 links at a time.
 const ENTRIES: usize = 514;
@@ -112,7 +113,7 @@ fn all(
     order: &mut Order,
     list: &mut List,
 ) -> Tally {
-    let count = reading::word(fd);
+    let count = words::word(fd);
     let mut t = tally::nothing();
     for i in 0..count {
         t = one(fd, links, numbers, order, list, t);

@@ -6,6 +6,7 @@ mod reading;
 mod tally;
 
 use libc::STDOUT_FILENO;
+use tally::Tally;
 
 // Prints a word and a number.
 fn say(word: &[u8], x: u64) {
@@ -13,15 +14,8 @@ fn say(word: &[u8], x: u64) {
     io::print_decimal(STDOUT_FILENO, x);
 }
 
-// One file, and its line.
-fn case(path: &[u8]) {
-    let fd = os::open_read(path);
-    if fd < 0 {
-        os::fail(path);
-        return;
-    }
-    let t = asking::file(fd);
-    libc::close(fd);
+// A file's line.
+fn line(path: &[u8], t: Tally) {
     io::write_all(STDOUT_FILENO, path);
     say(b" sites ", t.sites);
     say(b" asked ", t.asked);
@@ -31,15 +25,39 @@ fn case(path: &[u8]) {
     io::write_all(STDOUT_FILENO, b"\n");
 }
 
-fn main() {
+// One file.
+fn case(path: &[u8]) {
+    let fd = os::open_read(path);
+    if fd < 0 {
+        os::fail(path);
+        return;
+    }
+    let t = asking::file(fd);
+    libc::close(fd);
+    line(path, t);
+}
+
+fn documents() {
     case(b"worked");
     case(b"questions");
-    // every graph of so many radios
+}
+
+// Every graph of so many radios.
+fn graphs() {
     case(b"all-4");
     case(b"all-5");
+}
+
+fn random() {
     case(b"small");
     case(b"middle");
     case(b"regular");
+}
+
+fn main() {
+    documents();
+    graphs();
+    random();
     // radios with 39 and 40 neighbours
     case(b"full");
     case(b"large");

@@ -1,4 +1,5 @@
 // A file's sites: words of 32 bits, lowest byte first; past the file's end they are 0.
+use test_parts::words::word;
 
 // A site: 1 where it begins anew, n, how much of each table is lent, one more than the byte of the links that is spoiled, or 0; the first radio asked
 // for, how far the next one is, how many; and how many entries its list of links has.
@@ -13,18 +14,6 @@ pub struct Site {
     pub step: u32,
     pub asked: u32,
     pub list: usize,
-}
-
-// A byte as a word.
-fn wide(x: u8) -> u32 {
-    x as u32
-}
-
-// The next word.
-pub fn word(fd: i32) -> u32 {
-    let mut four = [0u8; 4];
-    io::read_full(fd, &mut four);
-    wide(four[0]) | (wide(four[1]) << 8) | (wide(four[2]) << 16) | (wide(four[3]) << 24)
 }
 
 // The next site.

@@ -1,8 +1,8 @@
 // Batches: the host's tables, the calls on them, and what it prints after each.
-use crate::digest;
-use crate::say;
-use crate::words;
-use calls::Value;
+use crate::answer;
+use test_parts::digest;
+use test_parts::say;
+use test_parts::words;
 
 // Room for two radios more than a site may have, and for 600 links.
 const ENTRIES: usize = 514;
@@ -42,8 +42,9 @@ pub struct Call {
     pub list: usize,
 }
 
-// The next call.
+// The next call, whose name begins its line.
 fn next_call(fd: i32) -> Call {
+    say::next_name(fd);
     Call {
         kind: words::word(fd),
         n: words::word(fd),
@@ -62,30 +63,18 @@ fn next_list(fd: i32, count: usize, list: &mut [u16]) {
     }
 }
 
-// Clears the lent tables.
-fn clear(n: u32, links: &mut [u8], numbers: &mut [u8], order: &mut [u16]) -> Value {
-    Value {
-        number: summerbugle::sb_clear(n, links, numbers, order),
-        value: 0,
-    }
-}
-
 // Makes the call on the lent tables.
 fn put(call: Call, links: &mut [u8], numbers: &mut [u8], order: &mut [u16], list: &[u16]) {
     if call.kind == CLEAR {
-        say::value(b"clear", clear(call.n, links, numbers, order));
+        answer::cleared(summerbugle::sb_clear(call.n, links, numbers, order));
         return;
     }
     if call.kind == BATCH {
-        say::value(
-            b"batch",
-            summerbugle::sb_link_batch(call.n, links, numbers, order, list),
-        );
+        answer::value(summerbugle::sb_link_batch(call.n, links, numbers, order, list));
         return;
     }
     if call.kind == SPOIL {
-        words::flip(links, call.n as usize, 1);
-        say::text(b"spoil");
+        words::flip8(links, call.n as usize, 1);
     }
 }
 
@@ -106,7 +95,7 @@ fn lend(call: Call, links: &mut [u8], numbers: &mut [u8], order: &mut [u16], lis
 
 // The digest of the host's tables.
 fn all_tables(links: &Links, numbers: &Numbers, order: &Order, list: &List) -> u64 {
-    let site = digest::entries(digest::bytes(digest::bytes(0, links), numbers), order);
+    let site = digest::site(links, numbers, order);
     digest::entries(site, list)
 }
 
@@ -162,5 +151,5 @@ pub fn play(fd: i32) {
     let mut order = [KEPT; ENTRIES];
     let mut list = [KEPT; LIST];
     let seen = all(fd, &mut links, &mut numbers, &mut order, &mut list);
-    say::canaries(seen);
+    say::line(b"canaries", seen as u64);
 }

@@ -1,8 +1,8 @@
 // Hearings: the host's tables, the calls on them, and what it prints after each.
-use crate::digest;
-use crate::say;
-use crate::words;
-use calls::Value;
+use crate::answer;
+use test_parts::digest;
+use test_parts::say;
+use test_parts::words;
 
 // Room for two radios more than a site may have.
 const ENTRIES: usize = 514;
@@ -41,8 +41,9 @@ pub struct Call {
     pub changes: usize,
 }
 
-// The next call.
+// The next call, whose name begins its line.
 fn next_call(fd: i32) -> Call {
+    say::next_name(fd);
     Call {
         kind: words::word(fd),
         n: words::word(fd),
@@ -59,15 +60,7 @@ fn next_call(fd: i32) -> Call {
 fn flips(fd: i32, count: usize, heard: &mut [u8]) {
     for i in 0..count {
         let change = words::word(fd);
-        words::flip(heard, (change / 256) as usize, (change % 256) as u8);
-    }
-}
-
-// Clears the lent tables.
-fn clear(n: u32, links: &mut [u8], numbers: &mut [u8], order: &mut [u16]) -> Value {
-    Value {
-        number: summerbugle::sb_clear(n, links, numbers, order),
-        value: 0,
+        words::flip8(heard, (change / 256) as usize, change % 256);
     }
 }
 
@@ -81,19 +74,15 @@ fn put(
     further: &mut [u8],
 ) {
     if call.kind == CLEAR {
-        say::value(b"clear", clear(call.n, links, numbers, order));
+        answer::cleared(summerbugle::sb_clear(call.n, links, numbers, order));
         return;
     }
     if call.kind == HEAR {
-        say::value(
-            b"hear",
-            summerbugle::sb_hear(call.n, links, numbers, order, heard, further),
-        );
+        answer::value(summerbugle::sb_hear(call.n, links, numbers, order, heard, further));
         return;
     }
     if call.kind == SPOIL {
-        words::flip(links, call.n as usize, 1);
-        say::text(b"spoil");
+        words::flip8(links, call.n as usize, 1);
     }
 }
 
@@ -129,7 +118,7 @@ fn all_tables(
     heard: &Links,
     further: &Links,
 ) -> u64 {
-    let site = digest::entries(digest::bytes(digest::bytes(0, links), numbers), order);
+    let site = digest::site(links, numbers, order);
     digest::bytes(digest::bytes(site, heard), further)
 }
 
@@ -196,5 +185,5 @@ pub fn play(fd: i32) {
         &mut heard,
         &mut further,
     );
-    say::canaries(seen);
+    say::line(b"canaries", seen as u64);
 }

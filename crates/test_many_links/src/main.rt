@@ -2,11 +2,9 @@
 // host's own. Of each its answer is printed, and a digest of the tables: entries past a lent part, the list and the heard table are in it
 // too. Where the file says so, the host spoils a bit of the links, and counts how often the digest shows it. Calls and expected lines are
 // worked out by oracle/many_links.py.
+mod answer;
 mod batches;
-mod digest;
 mod hearings;
-mod say;
-mod words;
 
 fn play_batches() {
     let path = b"batches";

@@ -1,10 +1,12 @@
 // The host: its tables and its store, the calls on them, and what it prints after each.
 ghost use Prim.Native.Nat.{_≤_};
 use crate::changing;
-use crate::digest;
 use crate::reading;
 use crate::reading::Call;
-use crate::say;
+use crate::reading::Name;
+use test_parts::digest;
+use test_parts::say;
+use test_parts::words;
 
 const ENTRIES: usize = 64;
 
@@ -42,22 +44,23 @@ const FLIP_NUMBERS: u32 = 7;
 
 const COPY_PLACE: u32 = 8;
 
-// A link goes up.
-fn up(call: Call, links: &mut [u8], numbers: &mut [u8], order: &mut [u16]) {
+// A link goes up or down.
+fn link(call: Call, links: &mut [u8], numbers: &mut [u8], order: &mut [u16]) {
     let mut answer = [0u16; ENTRIES];
-    let r = summerbugle::sb_link_up(call.n, call.a, call.b, links, numbers, order, &mut answer);
-    say::number(b"up", r.number);
-}
-
-// A link goes down.
-fn down(call: Call, links: &mut [u8], numbers: &mut [u8], order: &mut [u16]) {
-    let mut answer = [0u16; ENTRIES];
+    if call.kind == UP {
+        let r = summerbugle::sb_link_up(call.n, call.a, call.b, links, numbers, order, &mut answer);
+        say::field(r.number as u64);
+        return;
+    }
+    if call.kind != DOWN {
+        return;
+    }
     let r = summerbugle::sb_link_down(call.n, call.a, call.b, links, numbers, order, &mut answer);
-    say::number(b"down", r.number);
+    say::field(r.number as u64);
 }
 
-// A call that writes the tables.
-fn write(
+// A call that sets the tables.
+fn set(
     call: Call,
     links: &mut [u8],
     numbers: &mut [u8],
@@ -66,62 +69,59 @@ fn write(
     store: &[u8],
 ) {
     if call.kind == CLEAR {
-        say::number(
-            b"clear",
-            summerbugle::sb_clear(call.n, links, numbers, order),
-        );
-        return;
-    }
-    if call.kind == UP {
-        up(call, links, numbers, order);
-        return;
-    }
-    if call.kind == DOWN {
-        down(call, links, numbers, order);
+        say::field(summerbugle::sb_clear(call.n, links, numbers, order) as u64);
         return;
     }
     if call.kind != RETURN {
         return;
     }
     let number = summerbugle::sb_mark_return(call.n, links, numbers, order, name, store);
-    say::number(b"return", number);
+    say::field(number as u64);
 }
 
 // A call that writes the store.
 fn mark(call: Call, links: &[u8], numbers: &[u8], order: &[u16], name: &[u8], store: &mut [u8]) {
     if call.kind == SET {
         let number = summerbugle::sb_mark_set(call.n, links, numbers, order, name, store);
-        say::number(b"set", number);
+        say::field(number as u64);
         return;
     }
     if call.kind != REMOVE {
         return;
     }
     let number = summerbugle::sb_mark_remove(call.n, links, numbers, order, name, store);
-    say::number(b"remove", number);
+    say::field(number as u64);
 }
 
-// Other hands change the store.
-fn change(call: Call, store: &mut Store) {
+// Other hands change the store or the numbers.
+fn change(call: Call, numbers: &mut Numbers, store: &mut Store) {
+    if call.kind < FLIP_STORE {
+        return;
+    }
+    say::field(call.b as u64);
     if call.kind == FLIP_STORE {
-        changing::flip8(store, call.a as usize, call.b);
-        say::number(b"flip", call.b);
-        return;
+        words::flip8(store, call.a as usize, call.b);
     }
-    if call.kind != COPY_PLACE {
-        return;
+    if call.kind == FLIP_NUMBERS {
+        words::flip8(numbers, call.a as usize, call.b);
     }
-    changing::copy_place(store, call.a, call.b);
-    say::number(b"copy", call.b);
+    if call.kind == COPY_PLACE {
+        changing::copy_place(store, call.a, call.b);
+    }
 }
 
-// Other hands change the numbers.
-fn spoil(call: Call, numbers: &mut [u8]) {
-    if call.kind != FLIP_NUMBERS {
-        return;
-    }
-    changing::flip8(numbers, call.a as usize, call.b);
-    say::number(b"spoil", call.b);
+// Makes the call on the lent parts: of these functions one has its kind.
+fn put(
+    call: Call,
+    links: &mut [u8],
+    numbers: &mut [u8],
+    order: &mut [u16],
+    name: &[u8],
+    store: &mut [u8],
+) {
+    link(call, links, numbers, order);
+    set(call, links, numbers, order, name, store);
+    mark(call, links, numbers, order, name, store);
 }
 
 // How many radios the tables are lent for.
@@ -131,36 +131,12 @@ fn radios(call: Call) -> usize
     tables::fill::least(call.n as usize, ENTRIES)
 }
 
-// Lends the front of each table to be written, and of the name and of the store.
-fn lend_tables(
+// Lends the front of each table, of the name and of the store.
+fn lend(
     call: Call,
     links: &mut [u8],
     numbers: &mut [u8],
     order: &mut [u16],
-    name: &[u8],
-    store: &[u8],
-) {
-    let i = tables::fill::least(64 * radios(call), links.len());
-    let j = tables::fill::least(radios(call), numbers.len());
-    let k = tables::fill::least(radios(call), order.len());
-    let l = tables::fill::least(call.name, name.len());
-    let m = tables::fill::least(call.store, store.len());
-    write(
-        call,
-        &mut links[..i],
-        &mut numbers[..j],
-        &mut order[..k],
-        &name[..l],
-        &store[..m],
-    );
-}
-
-// Lends the front of the store to be written, and of the name and of each table.
-fn lend_store(
-    call: Call,
-    links: &[u8],
-    numbers: &[u8],
-    order: &[u16],
     name: &[u8],
     store: &mut [u8],
 ) {
@@ -169,11 +145,11 @@ fn lend_store(
     let k = tables::fill::least(radios(call), order.len());
     let l = tables::fill::least(call.name, name.len());
     let m = tables::fill::least(call.store, store.len());
-    mark(
+    put(
         call,
-        &links[..i],
-        &numbers[..j],
-        &order[..k],
+        &mut links[..i],
+        &mut numbers[..j],
+        &mut order[..k],
         &name[..l],
         &mut store[..m],
     );
@@ -181,40 +157,27 @@ fn lend_store(
 
 // The digest of the tables, and of the store where it was lent or changed.
 fn digest_after(kind: u32, links: &Links, numbers: &Numbers, order: &Order, store: &Store) -> u64 {
+    let h = digest::site(links, numbers, order);
     if kind < SET {
-        return digest::tables(links, numbers, order);
+        return h;
     }
-    digest::all(links, numbers, order, store)
+    digest::bytes(h, store)
 }
 
-// Makes the call and prints its line. Comes back with the digest.
+// Makes the call and ends its line. Comes back with the digest.
 fn line(
     call: Call,
     links: &mut Links,
     numbers: &mut Numbers,
     order: &mut Order,
+    name: &Name,
     store: &mut Store,
 ) -> u64 {
-    let name = changing::name_of(call.low, call.high);
-    lend_tables(call, links, numbers, order, &name, store);
-    lend_store(call, links, numbers, order, &name, store);
-    change(call, store);
-    spoil(call, numbers);
+    lend(call, links, numbers, order, name, store);
+    change(call, numbers, store);
     let h = digest_after(call.kind, links, numbers, order, store);
-    say::field(h);
-    say::word(b"\n");
+    say::end_line(h);
     h
-}
-
-// 1 for a change of other hands that the digest shows: it was h, and is not.
-fn canary(kind: u32, h: u64, after: u64) -> u32 {
-    if kind < FLIP_STORE {
-        return 0;
-    }
-    if h == after {
-        return 0;
-    }
-    1
 }
 
 // All calls of the file, after their count. Comes back with the count of changes seen.
@@ -225,13 +188,15 @@ fn all(
     order: &mut Order,
     store: &mut Store,
 ) -> u32 {
-    let count = reading::word(fd);
+    let count = words::word(fd);
     let mut seen: u32 = 0;
     let mut h: u64 = 0;
     for i in 0..count {
+        say::next_name(fd);
+        let name = reading::next_mark(fd);
         let call = reading::next_call(fd);
-        let after = line(call, links, numbers, order, store);
-        seen = std::num::wrapping_add_u32(seen, canary(call.kind, h, after));
+        let after = line(call, links, numbers, order, &name, store);
+        seen = std::num::wrapping_add_u32(seen, say::canary(FLIP_STORE <= call.kind, h, after));
         h = after;
     }
     seen
@@ -244,6 +209,5 @@ pub fn play(fd: i32) {
     let mut order = [600u16; ENTRIES];
     let mut store = [0u8; STORE];
     let seen = all(fd, &mut links, &mut numbers, &mut order, &mut store);
-    say::number(b"canaries", seen);
-    say::word(b"\n");
+    say::line(b"canaries", seen as u64);
 }

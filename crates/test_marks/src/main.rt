@@ -3,10 +3,8 @@
 // store: bytes past a lent part and what the call only reads are in it too. Between the calls other hands change the store and the
 // tables where the file says so. Calls and expected lines are worked out by oracle/marks.py.
 mod changing;
-mod digest;
 mod host;
 mod reading;
-mod say;
 
 fn main() {
     let path = b"calls";

@@ -16,7 +16,7 @@ fn ask(n: u32, links: &[u8], numbers: &[u8], order: &[u16], text: &mut [u8]) {
 }
 
 // Three radios, of which 0 and 1 are linked.
-fn link_two(links: &mut [u8], numbers: &mut [u8], order: &mut [u16]) {
+pub fn link_two(links: &mut [u8], numbers: &mut [u8], order: &mut [u16]) {
     let mut answer = [0u16; 3];
     tables::clear::clear(3, links, numbers, order);
     links::link::link(true, 3, 0, 1, links, numbers, order, &mut answer);

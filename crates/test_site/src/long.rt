@@ -71,20 +71,13 @@ fn write_lines(fd: i32, chunks: u32) {
     }
 }
 
-// Runs a verb on the file from its beginning, and closes it.
-fn check(fd: i32, verb: &[u8]) {
-    libc::lseek(fd, 0, libc::SEEK_SET);
-    run::status(site_program::run(run::ends(fd), verb, 0, b"", b""));
-    libc::close(fd);
-}
-
 // 10 MB of noise behind a beginning.
 pub fn noise(front: &[u8]) {
     let fd = run::new_file();
     run::text(b"noise\n");
     io::write_all(fd, front);
     write_noise(fd, CHUNKS);
-    check(fd, b"check");
+    run::last(fd, b"check");
 }
 
 // 32,768 lines that take a link up and down, and then the given ones.
@@ -94,5 +87,5 @@ pub fn script(end: &[u8]) {
     io::write_all(fd, b"radios 3\n");
     write_lines(fd, LINE_CHUNKS);
     io::write_all(fd, end);
-    check(fd, b"numbers");
+    run::last(fd, b"numbers");
 }

@@ -9,20 +9,51 @@ pub(crate) fn text(bytes: &[u8]) {
     io::write_all(STDOUT_FILENO, bytes);
 }
 
-// Prints the status of a run.
-pub(crate) fn status(x: u32) {
-    text(b"status ");
-    io::print_decimal(STDOUT_FILENO, x as u64);
+// Prints a word and what ends it.
+fn word(bytes: &[u8], end: &[u8]) {
+    text(bytes);
+    text(end);
+}
+
+// Prints a word and a number, in a line.
+fn line(bytes: &[u8], x: u64) {
+    text(bytes);
+    io::print_decimal(STDOUT_FILENO, x);
     text(b"\n");
 }
 
-// A run whose output and errors are printed.
-pub(crate) fn ends(input: i32) -> Ends {
-    Ends {
+// Runs a verb, with its output to `output`, and prints the errors and the status.
+fn run(input: i32, output: i32, verb: &[u8], count: usize, v: &[u8], k: &[u8]) {
+    let ends = Ends {
         input,
-        output: STDOUT_FILENO,
+        output,
         errors: STDOUT_FILENO,
-    }
+    };
+    line(
+        b"status ",
+        site_program::run(ends, verb, count, v, k) as u64,
+    );
+}
+
+// Runs a verb without numbers on a file from its beginning.
+fn again(fd: i32, output: i32, verb: &[u8]) {
+    libc::lseek(fd, 0, libc::SEEK_SET);
+    run(fd, output, verb, 0, b"", b"");
+}
+
+// The same, with its output printed, and the file closed.
+pub(crate) fn last(fd: i32, verb: &[u8]) {
+    again(fd, STDOUT_FILENO, verb);
+    libc::close(fd);
+}
+
+// Prints the words of a case.
+fn print_words(path: &[u8], verb: &[u8], v: &[u8], k: &[u8]) {
+    let space = b" ";
+    word(path, space);
+    word(verb, space);
+    word(v, space);
+    word(k, b"\n");
 }
 
 // A verb with `count` words after it, of which v and k are the first, on a file.
@@ -32,31 +63,9 @@ pub fn words(path: &[u8], verb: &[u8], count: usize, v: &[u8], k: &[u8]) {
         os::fail(path);
         return;
     }
-    text(path);
-    text(b" ");
-    text(verb);
-    text(b" ");
-    text(v);
-    text(b" ");
-    text(k);
-    text(b"\n");
-    status(site_program::run(ends(fd), verb, count, v, k));
+    print_words(path, verb, v, k);
+    run(fd, STDOUT_FILENO, verb, count, v, k);
     libc::close(fd);
-}
-
-// A verb without numbers.
-pub fn case(path: &[u8], verb: &[u8]) {
-    words(path, verb, 0, b"", b"");
-}
-
-// A connected core.
-pub fn core(path: &[u8], v: &[u8], k: &[u8]) {
-    words(path, b"core", 2, v, k);
-}
-
-// A link that lifts a radio.
-pub fn lift(path: &[u8], v: &[u8]) {
-    words(path, b"lift", 1, v, b"");
 }
 
 // A new file without a name, open for reading and writing; negative where there is none.
@@ -71,7 +80,7 @@ pub(crate) fn new_file() -> i32 {
     fd
 }
 
-// Whether two files begin with the same bytes, as many as the longest image has.
+// Whether two files go on with the same bytes, as many as the longest image has.
 fn is_same(one: i32, other: i32) -> bool {
     let mut first = [0u8; BYTES];
     let mut second = [0u8; BYTES];
@@ -83,27 +92,17 @@ fn is_same(one: i32, other: i32) -> bool {
 // Writes the image of the site of `input` into a new file, and compares it with the expected image.
 fn compare(input: i32, expected: i32) {
     let fd = new_file();
-    let to_file = Ends {
-        input,
-        output: fd,
-        errors: STDOUT_FILENO,
-    };
-    status(site_program::run(to_file, b"image", 0, b"", b""));
+    again(input, fd, b"image");
     libc::lseek(fd, 0, libc::SEEK_SET);
-    text(b"same ");
-    io::print_decimal(STDOUT_FILENO, is_same(fd, expected) as u64);
-    text(b"\n");
-    libc::lseek(fd, 0, libc::SEEK_SET);
-    status(site_program::run(ends(fd), b"check", 0, b"", b""));
-    libc::close(fd);
+    line(b"same ", is_same(fd, expected) as u64);
+    last(fd, b"check");
 }
 
 // The verb `image` on a file, whose output is compared with another file, and checked.
 pub fn round_trip(path: &[u8], image: &[u8]) {
     let input = os::open_read(path);
     let expected = os::open_read(image);
-    text(path);
-    text(b" image\n");
+    word(path, b" image\n");
     compare(input, expected);
     libc::close(input);
     libc::close(expected);

@@ -13,27 +13,29 @@ use Rattle.player.proofs.reading.read_turns.Statement.{statement}
 use Rattle.player.proofs.reading.read_turns.Tie as tie
 
 abbrev Inv-loop : tie.InvT-loop
-Inv-loop fd most n line₀ links₀ numbers₀ order₀ answer₀ out₀ s₀ reads₀ line links numbers order answer out s reads =
+Inv-loop fd most n line₀ links₀ numbers₀ order₀ answer₀ out₀ s₀ left₀ line links numbers order answer out s left =
     (length line ≡ length line₀) × (length links ≡ length links₀) × (length numbers ≡ length numbers₀) × (length order ≡ length order₀)
     × (length answer ≡ length answer₀) × (length out ≡ length out₀)
-    × Read-to n reads (tables links₀ numbers₀ order₀) answer₀ (buffer-at out₀ 0) (spot (tables links numbers order) answer line s) s out
+    × Read-to n left (tables links₀ numbers₀ order₀) answer₀ (buffer-at out₀ 0) (spot (tables links numbers order) answer line s) s out
 
 abbrev μ-loop : tie.MeasureT-loop
-μ-loop fd most n line₀ links₀ numbers₀ order₀ answer₀ out₀ s₀ reads₀ line links numbers order answer out s reads =
-    reads
+μ-loop fd most n line₀ links₀ numbers₀ order₀ answer₀ out₀ s₀ left₀ line links numbers order answer out s left =
+    left
 
 loop-holds : tie.Need-loop-holds Inv-loop μ-loop
 unfolding spot
 loop-holds c =
-    let start = c .before .before .before .before .before .before in
-    (refl, refl, refl, refl, refl, refl, read-none _ _ _ _ _ refl (record { at = omega arith; number = omega arith; room = start .pre .1 .0 }))
+    let counted = c in
+    let start = counted .before .before .before .before .before .before .before in
+    let all = counted .most .ensures in
+    (refl, refl, refl, refl, refl, refl, read-none _ _ _ _ _ _ all refl (record { at = omega arith; number = omega (arith, all); room = start .pre .1 .0 }))
 
 turn-requires : tie.Need-turn-requires Inv-loop μ-loop
 turn-requires c κs =
     let goes-on = c .before .before .before .before .before .before in
     let at-loop = goes-on .before .before .before in
     let inv = at-loop .loop .inv in
-    let start = at-loop .before .before .before .before .before .before .before in
+    let start = at-loop .before .before .before .before .before .before .before .before in
     let live = not-false (at-loop .loop .s .live) (goes-on .if1 .left) in
     let sized = sized-as (inv .2) (inv .3) (sized-cleared _ _ _ (start .pre .1 .1)) in
     (live, (ready-turn _ _ _ (goes-on .before .before .loop-test .taken) (inv .6 .ready live), sized))
@@ -45,7 +47,7 @@ loop-again c =
     let goes-on = turned .before .before .before .before .before .before .before in
     let at-loop = goes-on .before .before .before in
     let inv = at-loop .loop .inv in
-    let start = at-loop .before .before .before .before .before .before .before in
+    let start = at-loop .before .before .before .before .before .before .before .before in
     let live = not-false (at-loop .loop .s .live) (goes-on .if1 .left) in (
       omega (arith, turned .turn .kept, inv .0),
       omega (arith, turned .turn .kept, inv .1),
@@ -59,18 +61,18 @@ loop-again c =
 
 returns : tie.Need-returns Inv-loop μ-loop
 returns c =
-    let start = c .before .before .before .before .before .before .before .before in
+    let start = c .before .before .before .before .before .before .before .before .before in
     read-end _ _ _ _ _ _ _ _ (start .pre .1 .1) (λ l. omega (arith, c .loop-test .left)) (c .before .loop .inv .6)
 
 returns-2 : tie.Need-returns-2 Inv-loop μ-loop
 returns-2 c =
     let at-loop = c .before .before .before in
-    let start = at-loop .before .before .before .before .before .before .before in
+    let start = at-loop .before .before .before .before .before .before .before .before in
     read-end _ _ _ _ _ _ _ _ (start .pre .1 .1) (λ l. absurd (true≢false (sym l ∙ not-true (at-loop .loop .s .live) (c .if1 .taken)))) (at-loop .loop .inv .6)
 
 pub read-turns-spec : {M : Type 1} → statement M
 read-turns-spec =
     tie.close (
-    tie.spec Inv-loop μ-loop loop-holds (λ c. search needs) turn-requires (λ c. search needs) loop-again (λ c. search needs) (λ c. search needs)
+    tie.spec Inv-loop μ-loop (λ c κs. search needs) loop-holds (λ c. search needs) turn-requires (λ c. search needs) loop-again (λ c. search needs) (λ c. search needs)
     (λ c. search needs) (λ c. search needs) (λ c. search needs) (λ c. search needs) returns (λ c. search needs) (λ c. search needs) (λ c. search needs)
     (λ c. search needs) (λ c. search needs) (λ c. search needs) returns-2)

@@ -5,10 +5,10 @@ use Rattle.test_exports.proofs.host.all.Statement.{statement}
 use Rattle.test_exports.proofs.host.all.Tie as tie
 
 abbrev Inv-loop : tie.InvT-loop
-Inv-loop fd links₀ numbers₀ order₀ answer₀ fields₀ buffer₀ count seen₀ i₀ links numbers order answer fields buffer seen i = Unit
+Inv-loop fd links₀ numbers₀ order₀ fields₀ buffer₀ count seen₀ i₀ links numbers order fields buffer seen i = Unit
 
 abbrev μ-loop : tie.MeasureT-loop
-μ-loop fd links₀ numbers₀ order₀ answer₀ fields₀ buffer₀ count seen₀ i₀ links numbers order answer fields buffer seen i = count - i
+μ-loop fd links₀ numbers₀ order₀ fields₀ buffer₀ count seen₀ i₀ links numbers order fields buffer seen i = count - i
 
 pub all-spec : {M : Type 1} → statement M
 all-spec =

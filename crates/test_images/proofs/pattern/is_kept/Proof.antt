@@ -1,4 +1,5 @@
 -- `pattern::is_kept` is safe and ends: the measure is what is left of s.
+use mathlib.Core.Path.{_≡_}
 use Prim.Native.Nat.{_-_}
 use lib.ListN.{length}
 use borrow.Author.Needs.{needs}
@@ -6,13 +7,12 @@ use Rattle.test_images.proofs.pattern.is_kept.Statement.{statement}
 use Rattle.test_images.proofs.pattern.is_kept.Tie as tie
 
 abbrev Inv-loop : tie.InvT-loop
-Inv-loop s i₀ i = Unit {0}
+Inv-loop s i₀ i-end i = i-end ≡ length s
 
 abbrev μ-loop : tie.MeasureT-loop
-μ-loop s i₀ i = length s - i
+μ-loop s i₀ i-end i = length s - i
 
 pub is-kept-spec : {M : Type 1} → statement M
 is-kept-spec =
     tie.close (
-    tie.spec Inv-loop μ-loop (λ c. search needs) (λ c. search needs) (λ c. search needs) (λ c. search needs) (λ c. search needs) (λ c. search needs)
-    (λ c. search needs))
+    tie.spec Inv-loop μ-loop (λ c. search needs) (λ c. search needs) (λ c. search needs) (λ c. search needs) (λ c. search needs) (λ c. search needs) (λ c. search needs))

@@ -18,5 +18,5 @@ loop-again c = search needs
 pub flips-spec : {M : Type 1} → statement M
 flips-spec =
     tie.close (
-    tie.spec Inv-loop μ-loop (λ c. refl) (λ c κs. search needs) (λ c. search needs) (λ c. search needs) (λ c κs. search needs) (λ c. search needs)
+    tie.spec Inv-loop μ-loop (λ c. refl) (λ c κs. search needs) (λ c. search needs) (λ c κs. search needs) (λ c. search needs)
     (λ c. search needs) loop-again (λ c. c .before .loop .inv) (λ c. search needs))

@@ -1,0 +1,2 @@
+-- The reads of a run.
+pub mod Reads

@@ -1,0 +1,19 @@
+-- `host::lend` is safe: each part lies within its table.
+use mathlib.Core.Path.{sym}
+use native.Mathlib.Omega.{arith}
+use lib.Seq.{length-take-le}
+use borrow.Author.Needs.{needs}
+use Rattle.test_marks.proofs.host.lend.Statement.{statement}
+use Rattle.test_marks.proofs.host.lend.Tie as tie
+
+mul-least : tie.Need-mul-least
+mul-least c = record { fits = omega (arith, c .radios .ensures) }
+
+pub lend-spec : {M : Type 1} → statement M
+lend-spec =
+    tie.close (
+    tie.spec (λ c κs. search needs) mul-least (λ c κs. search needs) (λ c κs. search needs) (λ c κs. search needs) (λ c κs. search needs)
+    (λ c κs. search needs) (λ c κs. search needs) (λ c κs. search needs) (λ c. search needs) (λ c. sym (length-take-le _ _ (search needs)))
+    (λ c. search needs) (λ c. sym (length-take-le _ _ (search needs))) (λ c. search needs) (λ c. sym (length-take-le _ _ (search needs)))
+    (λ c. sym (length-take-le _ _ (search needs))) (λ c. search needs) (λ c. sym (length-take-le _ _ (search needs))) (λ c κs. search needs) (λ c. search needs)
+    (λ c. search needs) (λ c. search needs) (λ c. search needs) (λ c. search needs))
