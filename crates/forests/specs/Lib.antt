@@ -1,2 +1,3 @@
--- The worked cases of the staircase tree.
+-- The staircase tree as it grows, and its worked cases.
+pub mod Growing
 pub mod Cases

@@ -21,7 +21,7 @@ use Rattle.calls.proofs.ChainLaws.{Site-good, site-zero}
 use Rattle.calls.proofs.ContractLaws.{answer, listing-refused, listing-answered}
 use Rattle.soundness.proofs.SoundSite.{Sound-site, site-good-sound}
 use Rattle.link_list.proofs.GraphLinks.{rows-listed-few}
-use Rattle.staircase.specs.Growing.{growing, grown-all, table-weight, levels-falling}
+use Rattle.forests.specs.Growing.{growing, grown-all, table-weight, levels-falling}
 use Rattle.staircase.specs.Rows.{Mutual}
 use Rattle.staircase.proofs.LevelLaws.{staircase-count, staircase-table}
 

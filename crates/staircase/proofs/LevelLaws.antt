@@ -1,20 +1,18 @@
 -- On sound tables the links of the rows, by weight falling, are the graph's; so what grows is the staircase tree.
 --   levels-graph       the links taken are the graph's links by weight falling
 --   staircase-count, staircase-table   what the call answers, and what the lent table holds
-use mathlib.Core.Path.{_≡_, refl, sym, ap, ap₂, _∙_}
-use mathlib.Core.List.{List, [], _++_}
-use Prim.Native.Nat.{ℕ, zero, suc, _*_, _≤_, _<_, min}
+use mathlib.Core.Path.{_≡_, ap, ap₂, _∙_}
+use mathlib.Core.List.{List, []}
+use Prim.Native.Nat.{ℕ, _*_, _≤_, _<_, min}
 use native.Mathlib.Omega.{arith}
-use lib.Dec.{eqb}
 use lib.ListN.{length}
 use lib.Seq.{take-all}
-use borrow.Author.Tests.{ne-eqb}
 use Rattle.lists.specs.Lists.{range, overwrite}
 use Rattle.mesh.specs.Graph.{Link, Graph, In-links}
 use Rattle.mesh.specs.Cores.{number, numbers}
 use Rattle.mesh.specs.Connected.{greatest}
 use Rattle.mesh.specs.Tables.{Tables, graph-in}
-use Rattle.mesh.specs.Staircase.{weight, of-weight, falling, staircase, link-entries}
+use Rattle.mesh.specs.Staircase.{weight, falling, staircase, link-entries}
 use Rattle.link_list.specs.Links.{links-from}
 use Rattle.lists.proofs.Overwrite.{sets-front}
 use Rattle.mesh.proofs.GraphLaws.{linked-sym}
@@ -23,25 +21,12 @@ use Rattle.mesh.proofs.Tables.ReadBack.{Marks, in-graph-in, proper-graph-in}
 use Rattle.soundness.proofs.SoundSite.{Sound-site, linked-marked, number-entry}
 use Rattle.link_list.proofs.GraphLinks.{links-graph-in}
 use Rattle.forests.proofs.JoinedLaws.{Inside}
-use Rattle.forests.proofs.Forests.{filter-links-none, filter-links-ext}
 use Rattle.forests.proofs.Keeping.{in-falling}
 use Rattle.forests.proofs.Heaviest.{links-inside, staircase-fewer}
 use Rattle.forests.proofs.Tree.{length-link-entries}
-use Rattle.staircase.specs.Growing.{Growing, growing, grown-all, table-weight, levels-falling}
-use Rattle.staircase.proofs.Shows.{Shows, shows-none, shows-all}
-
-levels-ext : (wt vt : Link → ℕ) (ls : List Link) → ((m : Link) → In-links m ls → wt m ≡ vt m) → (w : ℕ) → levels-falling wt w ls ≡ levels-falling vt w ls
-unfolding levels-falling
-levels-ext wt vt ls h zero = refl
-levels-ext wt vt ls h (suc w) =
-    ap₂ {C = List Link} (λ xs ys. xs ++ ys)
-    (filter-links-ext (λ l. eqb (wt l) (suc w)) (λ l. eqb (vt l) (suc w)) ls (λ m i. ap (λ (k : ℕ). eqb k (suc w)) (h m i))) (levels-ext wt vt ls h w)
-
--- where every link weighs something, nothing is left for weight 0
-levels-all : (wt : Link → ℕ) (ls : List Link) → ((m : Link) → In-links m ls → 1 ≤ wt m) → (w : ℕ) → levels-falling wt w ls ≡ falling wt w ls
-unfolding levels-falling falling
-levels-all wt ls h zero = sym (filter-links-none (λ l. eqb (wt l) 0) ls (λ m i. ne-eqb (wt m) 0 (λ e. omega (arith, h m i))))
-levels-all wt ls h (suc w) = ap {B = List Link} (λ xs. of-weight wt (suc w) ls ++ xs) (levels-all wt ls h w)
+use Rattle.forests.proofs.Levels.{levels-ext, levels-all}
+use Rattle.forests.proofs.Shows.{Shows, shows-none, shows-all}
+use Rattle.forests.specs.Growing.{Growing, growing, grown-all, table-weight, levels-falling}
 
 module _ (n : ℕ) (t : Tables) (s : Sound-site n t) where
   abbrev site : Graph

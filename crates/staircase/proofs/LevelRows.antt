@@ -37,7 +37,8 @@ use Rattle.sets.proofs.SetLaws.{in-set-radio, in-put-in, length-put-in, common-
 use Rattle.link_list.specs.Links.{links-to, links-above, links-from}
 use Rattle.floods.specs.Floods.{of-level, Level-set}
 use Rattle.forests.proofs.Forests.{filter-links-append}
-use Rattle.staircase.specs.Growing.{table-weight, greatest-below}
+use Rattle.forests.specs.Growing.{table-weight}
+use Rattle.staircase.specs.Taking.{greatest-below}
 use Rattle.staircase.proofs.SkipLaws.{number-radio, number-below}
 use Rattle.staircase.specs.Rows.{row-among, level-row, Rows-whole, Radios-put, Neighbours-put, Level-sets, Level-rows, Mutual}
 

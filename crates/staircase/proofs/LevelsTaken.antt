@@ -22,7 +22,8 @@ use Rattle.tables.proofs.WidthLaws.{values-index}
 use Rattle.rows.specs.Rows.{neighbours-above}
 use Rattle.link_list.specs.Links.{links-above, links-from, Rows-listed}
 use Rattle.forests.proofs.Keeping.{in-of-weight}
-use Rattle.staircase.specs.Growing.{Growing, growing, grown-all, table-weight, levels-falling, greatest-below, Takeable}
+use Rattle.forests.specs.Growing.{Growing, growing, grown-all, table-weight, levels-falling}
+use Rattle.staircase.specs.Taking.{greatest-below, Takeable}
 use Rattle.staircase.specs.Parts.{Parents, roots}
 use Rattle.staircase.proofs.PartLaws.{parents-own, roots-own}
 use Rattle.staircase.proofs.SkipLaws.{number-radio, levels-skip}

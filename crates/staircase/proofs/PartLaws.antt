@@ -17,7 +17,7 @@ use Rattle.lists.specs.Lists.{range}
 use Rattle.lists.proofs.Tests.{bool-cases}
 use Rattle.lists.proofs.Map.{getD-map-range, map-range-ext, map-range-id}
 use Rattle.lists.proofs.Range.{length-range, getD-range}
-use Rattle.staircase.specs.Growing.{relabelled}
+use Rattle.forests.specs.Growing.{relabelled}
 use Rattle.staircase.specs.Parts.{Parents, root, roots, Rooted}
 
 -- ---- labels replaced

@@ -34,7 +34,7 @@ use Rattle.rows.proofs.RowWords.{row-from-word, row-from-end, word-of-row}
 use Rattle.rows.proofs.AboveWords.{above-words}
 use Rattle.sets.specs.Sets.{in-set}
 use Rattle.link_list.specs.Links.{links-to}
-use Rattle.staircase.specs.Growing.{Takeable}
+use Rattle.staircase.specs.Taking.{Takeable}
 use Rattle.staircase.specs.Rows.{row-among, level-row}
 
 -- ---- set bits of two words

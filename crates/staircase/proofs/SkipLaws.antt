@@ -17,7 +17,8 @@ use Rattle.mesh.specs.Connected.{greatest}
 use Rattle.lists.proofs.Tests.{bool-cases}
 use Rattle.mesh.proofs.Trees.Listed.{greatest-map-le}
 use Rattle.forests.proofs.Forests.{filter-links-none}
-use Rattle.staircase.specs.Growing.{table-weight, levels-falling, below, greatest-below}
+use Rattle.forests.specs.Growing.{table-weight, levels-falling}
+use Rattle.staircase.specs.Taking.{below, greatest-below}
 
 -- ---- numbers
 

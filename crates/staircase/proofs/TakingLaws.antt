@@ -14,7 +14,8 @@ use borrow.Author.Tests.{eq-eqb, ne-eqb}
 use Rattle.mesh.specs.Graph.{Link, link-of}
 use Rattle.lists.proofs.Tests.{trichotomy}
 use Rattle.mesh.proofs.Tables.AscendingLinks.{in-links-left, in-links-right}
-use Rattle.staircase.specs.Growing.{Growing, growing, relabelled, joined-up, grown-one, grown-all, Takeable}
+use Rattle.forests.specs.Growing.{Growing, growing, relabelled, joined-up, grown-one, grown-all}
+use Rattle.staircase.specs.Taking.{Takeable}
 use Rattle.staircase.specs.Parts.{Parents, roots, Rooted, Taken}
 use Rattle.staircase.proofs.PartLaws.{label-le, label-settled, label-parent, parents-set, roots-joined}
 

@@ -1,4 +1,4 @@
--- For the contracts of private functions: what grows while links are taken, the parts that kept links join, the rows of a level.
-pub mod Growing
+-- For the contracts of private functions: what taking links asks, the parts that kept links join, the rows of a level.
+pub mod Taking
 pub mod Parts
 pub mod Rows

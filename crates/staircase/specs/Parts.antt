@@ -11,7 +11,7 @@ use Prim.Native.Nat.{ℕ, zero, suc, _≤_}
 use lib.ListN.{length, getD}
 use Rattle.lists.specs.Lists.{range}
 use Rattle.mesh.specs.Graph.{Link}
-use Rattle.staircase.specs.Growing.{growing, grown-all}
+use Rattle.forests.specs.Growing.{growing, grown-all}
 
 abbrev pub Parents : List ℕ → Type 0
 Parents ps = (v : ℕ) → getD ps v 0 ≤ v

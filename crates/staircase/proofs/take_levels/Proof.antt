@@ -8,7 +8,8 @@ use borrow.Author.Needs.{needs}
 use Rattle.mesh.specs.Limits.{max-radios, max-neighbours}
 use Rattle.mesh.specs.Staircase.{of-weight}
 use Rattle.link_list.specs.Links.{links-from}
-use Rattle.staircase.specs.Growing.{table-weight, levels-falling, greatest-below}
+use Rattle.forests.specs.Growing.{table-weight, levels-falling}
+use Rattle.staircase.specs.Taking.{greatest-below}
 use Rattle.staircase.proofs.SkipLaws.{greatest-below-lt}
 use Rattle.staircase.proofs.LevelRows.{Above-set, above-none, above-next, level-sets}
 use Rattle.staircase.proofs.TakingLaws.{Taking, taking-none, taking-front, taking-part, taking-end}

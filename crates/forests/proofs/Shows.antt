@@ -19,12 +19,12 @@ use Rattle.lists.proofs.Tests.{bool-cases, never, iff-eq, trichotomy}
 use Rattle.lists.proofs.Range.{length-range, getD-range}
 use Rattle.lists.proofs.Map.{length-map}
 use Rattle.lists.proofs.Overwrite.{sets-append}
 use Rattle.forests.proofs.JoinedLaws.{Inside, joined-iff}
 use Rattle.forests.proofs.Labels.{Labels, relabel, labels-none, labels-new, relabel-miss}
 use Rattle.forests.proofs.Forests.{same-label}
 use Rattle.forests.proofs.Keeping.{now, now-inside, more-end, inside-end}
 use Rattle.forests.proofs.Tree.{length-link-entries}
-use Rattle.staircase.specs.Growing.{Growing, growing, relabelled, joined-up, grown-one, grown-all}
+use Rattle.forests.specs.Growing.{Growing, growing, relabelled, joined-up, grown-one, grown-all}
 
 -- ---- entries of a list
 

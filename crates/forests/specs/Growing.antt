@@ -1,21 +1,17 @@
--- The staircase tree as it grows in three places: a table of labels, the lent table, a count.
+-- The staircase tree as it grows in three places: a label for each radio, the lent table, a count.
 --   relabelled lo hi x   the label x, or lo where it is hi
 --   grown-one l s        the link l taken: kept where the labels of its ends differ
 --   grown-all ls s       the links ls taken in turn
 --   table-weight ns l    the weight of a link by the numbers table
 --   levels-falling       the links by weight falling down to 1: every link of a sound site weighs something
---   greatest-below w ns  the greatest number below w, 0 where there is none
---   most-taken           more than are taken on all levels together, whatever the tables hold
---   Takeable             what taking links wants of them and of the count
--- That on sound tables what grows is the staircase tree is `staircase-table` in proofs/LevelLaws.antt. Definitions only.
+-- That the links kept are those of the definition is `shows-all` (proofs/Shows.antt), that the links are taken by its turns `levels-all`
+-- (proofs/Levels.antt). Definitions only.
 use mathlib.Core.Bool.{cond}
 use mathlib.Core.List.{List, [], _∷_, _++_, map}
-use Prim.Native.Nat.{ℕ, zero, suc, _+_, _*_, _≤_, _<_, min, max}
-use lib.Dec.{eqb, ltb}
-use lib.ListN.{length, getD, set}
-use Rattle.mesh.specs.Limits.{max-radios}
-use Rattle.mesh.specs.Graph.{Link, In-links}
-use Rattle.mesh.specs.Connected.{greatest}
+use Prim.Native.Nat.{ℕ, zero, suc, _+_, _*_, min, max}
+use lib.Dec.{eqb}
+use lib.ListN.{getD, set}
+use Rattle.mesh.specs.Graph.{Link}
 use Rattle.mesh.specs.Sound.{number-in}
 use Rattle.mesh.specs.Staircase.{of-weight}
 
@@ -54,21 +50,3 @@ table-weight ns l = min (number-in ns (l .low)) (number-in ns (l .high))
 unfoldable pub levels-falling : (weight : Link → ℕ) → (top : ℕ) → List Link → List Link
 levels-falling wt zero ls = []
 levels-falling wt (suc w) ls = of-weight wt (suc w) ls ++ levels-falling wt w ls
-
--- x where it is below w, else 0
-unfoldable pub below : (w x : ℕ) → ℕ
-below w x = cond (ltb x w) x 0
-
-abbrev pub greatest-below : (w : ℕ) → (numbers : List ℕ) → ℕ
-greatest-below w ns = greatest (map (below w) ns)
-
--- a number is a byte, and a row has at most as many links as there are radios
-abbrev pub most-taken : ℕ
-most-taken = 256 * (max-radios * max-radios)
-
--- ---- what is required
-
--- both ends are of n radios, and all of them may still be counted
-pub record Takeable (n : ℕ) (ls : List Link) (count : ℕ) : Type 0 where
-  pub inside : (l : Link) → In-links l ls → (l .low < n) × (l .high < n)
-  pub few : count + length ls ≤ most-taken
