@@ -95,18 +95,23 @@ fn site(n: u32, calls: u32, m: u32, pairs: u32, sums: &mut play::Counts) {
     history(b"clique", clique, sums);
 }
 
+// The sites, with how many calls are made, of how many radios the clique is, and how many pairs are asked for.
+fn sites(sums: &mut play::Counts) {
+    site(1, 500, 1, 1, sums);
+    site(2, 1000, 2, 4, sums);
+    site(41, 1800, 41, 1681, sums);
+    site(42, 1800, 42, 1764, sums);
+    site(64, 1800, 42, 1764, sums);
+    site(253, 800, 16, 256, sums);
+    site(512, 800, 16, 256, sums);
+}
+
 fn main() {
-    let sizes: [u32; 7] = [1, 2, 41, 42, 64, 253, 512];
-    let calls: [u32; 7] = [500, 1000, 1800, 1800, 1800, 800, 800];
-    let cliques: [u32; 7] = [1, 2, 41, 42, 42, 16, 16];
-    let pairs: [u32; 7] = [1, 4, 1681, 1764, 1764, 256, 256];
     let mut sums = [0u64; play::KINDS];
     io::write_all(
         STDOUT_FILENO,
         b"history radios: accepted, refused by 1 to 7, changed radios, calls, differences, canaries\n",
     );
-    for i in 0..7 {
-        site(sizes[i], calls[i], cliques[i], pairs[i], &mut sums);
-    }
+    sites(&mut sums);
     say(b"all", 0, &sums);
 }

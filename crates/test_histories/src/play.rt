@@ -73,7 +73,7 @@ fn spoil(
     verdicts_agree(n, false, links, numbers, order)
 }
 
-// The engine's reply, and whether spoiled tables were found out.
+// The engine's reply, and whether spoiled tables were found out; of a compared call, whether all is as expected.
 struct Answer {
     reply: Reply,
     fine: bool,
@@ -131,14 +131,26 @@ pub fn is_expected(
 }
 
 // Counts a call.
-fn tally(counts: &mut Counts, reply: Reply, fine: bool) {
+fn tally(counts: &mut Counts, told: Answer) {
+    let reply = told.reply;
     count(counts, reply.number as usize % CHANGED, 1);
     count(counts, CHANGED, reply.count);
     count(counts, CALLS, 1);
-    count(counts, DIFFERENT, !fine as u32);
+    count(counts, DIFFERENT, !told.fine as u32);
 }
 
-// Puts the call to the engine and to the expected site, compares and counts.
+// Whether the reply is what is owed, with tables that are the expected ones, and spoiled ones were found out.
+fn is_fine(given: Answer, owed: Owed, expected: bool) -> bool {
+    if !expected {
+        return false;
+    }
+    if !given.fine {
+        return false;
+    }
+    is_owed(given.reply, owed)
+}
+
+// Puts the call to the engine and to the expected site, and compares. Comes back with the reply.
 fn put_call(
     call: Call,
     n: u32,
@@ -148,13 +160,15 @@ fn put_call(
     order: &mut Radios,
     answer: &mut Radios,
     model: &mut Model,
-    counts: &mut Counts,
-) {
+) -> Answer {
     let given = answer_of(call, n, wrong, links, numbers, order, answer);
     let owed = expected::expect(call, model);
+    let same = is_expected(n, links, numbers, order, answer, model);
     let reply = given.reply;
-    let fine = is_expected(n, links, numbers, order, answer, model);
-    tally(counts, reply, fine && given.fine && is_owed(reply, owed));
+    Answer {
+        reply,
+        fine: is_fine(given, owed, same),
+    }
 }
 
 // Call i of the history. The random number to go on from.
@@ -173,17 +187,8 @@ fn one_call(
     let wrong = trouble::draw(plan.n, picked.x);
     let plain = expected::plain(plan.n, picked.up, picked.a, picked.b);
     let call = trouble::troubled(plain, wrong.kind);
-    put_call(
-        call,
-        plan.n,
-        wrong,
-        links,
-        numbers,
-        order,
-        answer,
-        model,
-        counts,
-    );
+    let told = put_call(call, plan.n, wrong, links, numbers, order, answer, model);
+    tally(counts, told);
     wrong.x
 }
 
