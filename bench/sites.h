@@ -104,7 +104,7 @@ static unsigned some_links(const struct site *s, struct ends *list, unsigned roo
 }
 
 /* Two radios that are not linked and have room for it; where none are found, one radio twice, which is refused. */
-static struct ends some_pair(const struct site *s) {
+static inline struct ends some_pair(const struct site *s) {
     for (unsigned tries = 0; tries < 1000; tries++) {
         unsigned a = rand() % s->n, b = rand() % s->n;
         if (a == b || marked(s->links, a, b) || row_count(s->links, a) >= NEIGHBOURS || row_count(s->links, b) >= NEIGHBOURS) continue;
