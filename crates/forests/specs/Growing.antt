@@ -4,7 +4,7 @@
 --   grown-all ls s       the links ls taken in turn
 --   table-weight ns l    the weight of a link by the numbers table
 --   levels-falling       the links by weight falling down to 1: every link of a sound site weighs something
--- That the links kept are those of the definition is `shows-all` (proofs/Shows.antt), that the links are taken by its turns `levels-all`
+-- That the definition keeps the same links is `shows-all` (proofs/Shows.antt), that it takes links in the same turn is `levels-all`
 -- (proofs/Levels.antt). Definitions only.
 use mathlib.Core.Bool.{cond}
 use mathlib.Core.List.{List, [], _∷_, _++_, map}

@@ -41,7 +41,7 @@ module _ {n m q at count : ℕ} {bs : List ℕ} {ranks : ℕ} {start : List ℕ}
       → p < count → after ≡ count-at rs s bs (at + 4 * p) counts → Tallying n rs s bs start after (block-links * q + (p + 1)) k i
   first-turn p t l e = tallying-first _ _ _ _ _ _ _ _ _ t _ _ _ (block-link p l) enough _ e (omega arith) (block-links * q + (p + 1)) (omega arith)
 
-  -- the link at place i of the second half, after those of this half before it
+  -- the link at place i of the second half, after the links of this half before it
   pub second-turn : {rs : List ℕ} {s : ℕ} {counts after : List ℕ} (half i : ℕ) {j : ℕ} → Tallying n rs s bs start counts j (block-links * q + half) i
       → half + i < count → after ≡ count-at rs s bs (at + 4 * (half + i)) counts → Tallying n rs s bs start after j (block-links * q + half) (i + 1)
   second-turn half i t l e = tallying-second _ _ _ _ _ _ _ _ _ t _ _ _ (block-link (half + i) l) enough _ e (omega arith) (i + 1) refl

@@ -73,7 +73,7 @@ proper-pair n bs m j a b h l pair = omega (arith, proper-at n (image-link n bs) 
 
 -- ---- links in a row
 
--- the k links from link j on; `links-up-to` has those from the first one on
+-- the k links from link j on; `links-up-to` has the links from the first one on
 unfoldable pub links-of : (n : ℕ) → (image : List ℕ) → (j k : ℕ) → List Link
 links-of n bs j k = map (image-link n bs) (range j k)
 

@@ -96,8 +96,8 @@ fn take_words<'a>(
     table: &mut [u16],
     count: u32,
 ) -> u32
-    requires { ⌜ (a < max-radios) × (from ≤ 8) × (row-bytes * a + row-bytes ≤ length (now links)) × (length (now set) ≡ 8) × Parents (now parents) ×
-        Takeable (length (now parents)) (links-to a (filter (in-set (now set)) (row-from (now links) a from))) count ⌝ }
+    requires { ⌜ (a < max-radios) × (from ≤ 8) × (row-bytes * a + row-bytes ≤ length (now links)) × (length (now set) ≡ 8) ×
+        Parents (now parents) × Takeable (length (now parents)) (links-to a (filter (in-set (now set)) (row-from (now links) a from))) count ⌝ }
     ensures { λ r. ⌜ Taken (links-to a (filter (in-set (now (set .entry))) (row-from (now (links .entry)) a from)))
         (now (parents .entry)) (now (table .entry)) count (now (parents .exit)) (now (table .exit)) r ⌝ }
 {
