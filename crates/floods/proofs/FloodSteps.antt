@@ -3,22 +3,20 @@ use mathlib.Core.Path.{_≡_, refl, sym, ap, _∙_}
 use mathlib.Core.Logic.{_⊎_, inl, inr}
 use mathlib.Core.Bool.{true, false, _&&_}
 use mathlib.Core.List.{List}
-use Prim.Native.Nat.{ℕ, _+_, _-_, _/_, _%_, _≤_, _<_}
+use Prim.Native.Nat.{ℕ, _+_, _-_, _≤_, _<_}
 use native.Mathlib.Omega.{arith}
 use lib.Dec.{ltb, leb, eqb}
 use lib.ListN.{length, getD, replicate}
 use borrow.Author.Tests.{ltb-true, leb-true, eqb-true, eqb-false, lt-ltb, le-ltb, le-leb, eq-eqb, ne-eqb}
 use borrow.Rule.Slice.PartMut.{midOf, putMid, mid-len}
 use Rattle.mesh.specs.Limits.{max-radios}
-use Rattle.mesh.specs.Tables.{digit}
 use Rattle.lists.specs.Lists.{member}
-use Rattle.mesh.proofs.Tables.Digits.{digit-nothing}
 use Rattle.lists.proofs.Overwrite.{sets-front}
-use Rattle.lists.proofs.Parts.{getD-zeros}
 use Rattle.lists.proofs.Tests.{bool-cases, never, and-left, and-right, or-cases, or-left, or-right}
 use Rattle.rows.specs.Rows.{row-listed}
 use Rattle.sets.specs.Sets.{in-set, Row-joined, common, Common-taken}
 use Rattle.rows.proofs.Listing.{put-rest}
+use Rattle.sets.proofs.SetLaws.{in-set-zeros}
 use Rattle.floods.specs.Floods.{flood-at, Marked-by, Rows-joined, Layer-taken, floodable, Flooded}
 
 -- ---- rows joined, one by one
@@ -51,10 +49,6 @@ rows-joined-end ts list from to i r s l g h = let e : i ≡ to = omega arith in 
 
 -- ---- a layer: the neighbours of the radios that came in last, written into the rest of the queue
 
-in-none : (x : ℕ) → in-set (replicate 8 0) x ≡ false
-unfolding in-set
-in-none x = ap (λ (w : ℕ). digit w (x % 64)) (getD-zeros 8 (x / 64)) ∙ digit-nothing (x % 64)
-
 pub layer-taken : (ts : List ℕ) (from : ℕ) (s q : List ℕ) (c r : ℕ) (reach t new : List ℕ) → c ≤ length q → length reach ≡ 8
     → Rows-joined ts q from c (replicate 8 0) reach → Common-taken reach s (midOf c (length q - c) q) r t new
     → Layer-taken ts from (flood-at s q c) (flood-at t (putMid c (length q - c) q new) (c + r))
@@ -71,7 +65,7 @@ layer-taken ts from s q c r reach t new room long joined h =
     }
   where
     some : (x : ℕ) → (in-set (replicate 8 0) x ≡ true) ⊎ Marked-by ts q from c x → Marked-by ts q from c x
-    some x (inl e) = never _ e (in-none x)
+    some x (inl e) = never _ e (in-set-zeros 8 x)
     some x (inr m) = m
 
 -- ---- whether the flood can be carried out

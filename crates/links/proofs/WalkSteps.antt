@@ -302,3 +302,8 @@ module _ {a b k first size : ℕ} {ts ns tail ps : List ℕ} (s : Walk-site a b 
         go : (front ≤ taken) ⊎ ((first + front ≤ head-or max-radios (neighbours-of ds 0)) × (size ≤ front)) → Walk-done a b k first size ts tail front taken list1
         go (inl l) = none-left l list1 made
         go (inr h) = all-walked h list1 made
+
+-- as the code names its values
+pub done-as : {a b k first size front taken at many : ℕ} {ts tail list : List ℕ} → at ≡ front → many ≡ taken → Walk-done a b k first size ts tail front taken list
+    → Walk-done a b k first size ts tail at many list
+done-as e f d = rw (e, f) d

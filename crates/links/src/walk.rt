@@ -289,6 +289,17 @@ fn step(
     }
 }
 
+// What a walk that came so far plans.
+fn plan_of(part: Part, at: Reached) -> Plan
+    ensures { λ r. ⌜ (r .start ≡ part .first) × (r .size ≡ at .front) × (r .taken ≡ at .taken) ⌝ }
+{
+    Plan {
+        start: part.first,
+        size: at.front,
+        taken: at.taken,
+    }
+}
+
 // Walks the part, whose entries stand in front of `tail`, the order from its first place on. Writes what it went through, laid out anew, in
 // front of the list; later entries hold anything.
 pub(crate) fn walk(
@@ -342,11 +353,7 @@ pub(crate) fn walk(
         p = places::next(part.first, part.size, at.front, at.taken, &due);
     }
     super::stretch::list_stuck(0, at.front, rise.most, at.taken, tail, &counters, list);
-    Plan {
-        start: part.first,
-        size: at.front,
-        taken: at.taken,
-    }
+    plan_of(part, at)
 }
 
 // Whether the beginning end, which stands at place `first`, has at most `most` later neighbours with the link: then nothing moves or rises.

@@ -11,7 +11,7 @@ use native.Mathlib.Nat.{mod-lt, zero-lt-suc, one-mul, mod-eq-of-lt}
 use lib.Bits.{differ, bitAnd, bitOr, bitXor, and-step, or-step, xor-step, and-shr, or-shr, xor-shr, xor-zero-r, and-mask, and-lt}
 use lib.Count.{trailingZeros}
 use lib.Dec.{ltb, eqb}
-use lib.ListN.{length, getD, take, set, length-set, List·getD-eq-default}
+use lib.ListN.{length, getD, take, set, replicate, length-set, List·getD-eq-default}
 use lib.Pow.{pow-lt}
 use lib.Seq.{sets, set-out, set-getD, getD-set-same, getD-set-other}
 use borrow.Author.Tests.{ltb-true, ltb-false, eqb-true, eqb-false, eq-eqb, ne-eqb}
@@ -20,6 +20,7 @@ use Rattle.lists.specs.Lists.{range, filter, member, head-or, overwrite}
 use Rattle.mesh.specs.Tables.{digit, marked, put-digit}
 use Rattle.lists.proofs.Filter.{member-filter}
 use Rattle.lists.proofs.Overwrite.{sets-front}
+use Rattle.lists.proofs.Parts.{getD-zeros}
 use Rattle.lists.proofs.Member.{not-member}
 use Rattle.lists.proofs.Range.{in-range}
 use Rattle.lists.proofs.Tests.{bool-cases, iff-eq}
@@ -107,6 +108,11 @@ digit-left row w m = digit-xor w (bitAnd row w) m ∙ rw (digit-and row w m) (go
 pub in-set-shift : (ws : List ℕ) (v : ℕ) → eqb (bitAnd (getD ws (v / 64) 0 / 2 ^ (v % 64)) 1) 1 ≡ in-set ws v
 unfolding in-set digit
 in-set-shift ws v = ap (λ (x : ℕ). eqb x 1) (and-mask (getD ws (v / 64) 0 / 2 ^ (v % 64)) 1)
+
+-- words that are all zero have no radio
+pub in-set-zeros : (k v : ℕ) → in-set (replicate k 0) v ≡ false
+unfolding in-set
+in-set-zeros k v = ap (λ (w : ℕ). digit w (v % 64)) (getD-zeros k (v / 64)) ∙ digit-nothing (v % 64)
 
 pub in-set-past : (ws : List ℕ) (v : ℕ) → length ws ≤ v / 64 → in-set ws v ≡ false
 unfolding in-set

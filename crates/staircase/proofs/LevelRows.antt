@@ -18,22 +18,20 @@ use Rattle.mesh.specs.Limits.{max-radios, row-bytes}
 use Rattle.lists.specs.Lists.{range, filter, member, overwrite, In, Entries-below}
 use Rattle.mesh.specs.Connected.{greatest}
 use Rattle.mesh.specs.Graph.{Link, link-of}
-use Rattle.mesh.specs.Tables.{digit, marked}
+use Rattle.mesh.specs.Tables.{marked}
 use Rattle.mesh.specs.Staircase.{filter-links, of-weight}
 use Rattle.lists.proofs.Tests.{bool-cases, never, and-left, and-right, and-both, or-left, or-right, iff-eq}
 use Rattle.lists.proofs.Range.{range-in, in-range, range-append, length-range}
 use Rattle.lists.proofs.Filter.{in-filter, filter-in, filter-none, filter-ext, filter-le}
 use Rattle.lists.proofs.Member.{in-getD, getD-of-in}
 use Rattle.lists.proofs.Map.{flatMap-none, flatMap-append}
-use Rattle.lists.proofs.Parts.{getD-zeros}
 use Rattle.lists.proofs.Overwrite.{take-overwrite}
-use Rattle.mesh.proofs.Tables.Digits.{digit-nothing}
 use Rattle.mesh.proofs.Trees.Listed.{getD-le-greatest}
 use Rattle.rows.specs.Rows.{row-listed, neighbours-above}
 use Rattle.rows.proofs.RowListLaws.{in-neighbours-of, member-neighbours-of}
 use Rattle.rows.proofs.RowWords.{row-listed-whole, row-listed-short}
 use Rattle.sets.specs.Sets.{in-set, put-in, Row-joined, common, Common-taken, Set-taken, in-one, gone, Gone-listed}
-use Rattle.sets.proofs.SetLaws.{in-set-radio, in-put-in, length-put-in, common-filter}
+use Rattle.sets.proofs.SetLaws.{in-set-zeros, in-set-radio, in-put-in, length-put-in, common-filter}
 use Rattle.link_list.specs.Links.{links-to, links-above, links-from}
 use Rattle.floods.specs.Floods.{of-level, Level-set}
 use Rattle.forests.proofs.Forests.{filter-links-append}
@@ -48,13 +46,9 @@ use Rattle.staircase.specs.Rows.{row-among, level-row, Rows-whole, Radio
 abbrev pub Above-set : (ns : List ℕ) → (k : ℕ) → (set : List ℕ) → Type 0
 Above-set ns k s = (x : ℕ) → x < max-radios → in-set s x ≡ of-level ns (k + 1) x
 
-none-in : (v : ℕ) → in-set (replicate 8 0) v ≡ false
-unfolding in-set
-none-in v = ap (λ (w : ℕ). digit w (v % 64)) (getD-zeros 8 (v / 64)) ∙ digit-nothing (v % 64)
-
 pub above-none : (ns : List ℕ) (k : ℕ) → k ≡ greatest ns → Above-set ns k (replicate 8 0)
 unfolding of-level
-above-none ns k e x l = none-in x ∙ sym (go (bool-cases (ltb x (length ns))))
+above-none ns k e x l = in-set-zeros 8 x ∙ sym (go (bool-cases (ltb x (length ns))))
   where
     go : (ltb x (length ns) ≡ true) ⊎ (ltb x (length ns) ≡ false) → (ltb x (length ns) && leb (k + 1) (getD ns x 0)) ≡ false
     go (inl q) = rw q (lt-leb (k + 1) (getD ns x 0) (omega (arith, e, getD-le-greatest ns x (ltb-true x (length ns) q))))
@@ -182,7 +176,7 @@ few-radios f = filter-le f (range 0 max-radios) max-radios (length-range 0 max-r
 -- the radios of a set, listed against a set without any
 gone-own : (own : List ℕ) → length own ≡ 8 → gone own (replicate 8 0) ≡ filter (in-set own) (range 0 max-radios)
 unfolding gone in-one
-gone-own own long = rw (eq-eqb (length own) 8 long) (filter-ext (in-one own (replicate 8 0)) (in-set own) (range 0 max-radios) (λ v i. rw (none-in v) (same (in-set own v))))
+gone-own own long = rw (eq-eqb (length own) 8 long) (filter-ext (in-one own (replicate 8 0)) (in-set own) (range 0 max-radios) (λ v i. rw (in-set-zeros 8 v) (same (in-set own v))))
   where
     same : (b : Bool) → cond b true false ≡ b
     same true = refl

@@ -64,8 +64,14 @@ shells-putting-turn ns ws v p us vs small l e f h = record {
         (λ z. lt-ltb (u % max-radios) v (omega (arith, ltb-true (u % max-radios) (v + 1) z))) in
         rw (other, same)
 
--- `n` is how many radios the loop goes over
-pub shells-putting-end : (ns ws : List ℕ) (n v : ℕ) (us : List ℕ) → n ≡ min (length ns) max-radios → n ≤ v → Shells-putting ns ws v us → length ns ≤ max-radios
-    → Shells-put ns ws us
+-- `n` is how many radios the loop goes over: entries past the last radio have no bit
+pub shells-putting-end : (ns ws : List ℕ) (n v : ℕ) (us : List ℕ) → n ≡ min (length ns) max-radios → n ≤ v → Shells-putting ns ws v us → Shells-put ns ws us
 unfolding has-number
-shells-putting-end ns ws n v us m l h small = let e : v ≡ length ns = omega (arith, h .low) in record { bits = rw e at (h .bits) }
+shells-putting-end ns ws n v us m l h =
+    record { bits = λ u k. h .bits u k ∙ ap (λ (t : Bool). in-set ws u || (t && eqb (getD ns (u % max-radios) 0) (u / max-radios))) (same u) }
+  where
+    same : (u : ℕ) → ltb (u % max-radios) v ≡ ltb (u % max-radios) (length ns)
+    same u =
+        iff-eq (ltb (u % max-radios) v) (ltb (u % max-radios) (length ns))
+        (λ z. lt-ltb (u % max-radios) (length ns) (omega (arith, h .low, ltb-true (u % max-radios) v z)))
+        (λ z. lt-ltb (u % max-radios) v (omega (arith, m, l, ltb-true (u % max-radios) (length ns) z)))

@@ -2,10 +2,9 @@
 // sorted by their numbers, the front of a table filled. On plain numbers and tables of any content: no public function has a `requires`.
 ghost use mathlib.Core.Path.{_≡_};
 ghost use mathlib.Core.Bool.{_&&_};
-ghost use Prim.Native.Nat.{_≤_, min};
+ghost use Prim.Native.Nat.{min};
 ghost use lib.Dec.{eqb};
 ghost use lib.ListN.{length, replicate};
-ghost use Rattle.mesh.specs.Limits.{max-radios};
 ghost use Rattle.lists.specs.Lists.{overwrite};
 ghost use Rattle.mesh.specs.Tree.{node};
 ghost use Rattle.calls.specs.Questions.{nodes-length, answer-length};
@@ -47,9 +46,9 @@ pub fn record_of(name: u16, level: u16, parent: u16) -> Node
 }
 
 // Puts each radio into the set of its number: the radios with number k are the eight words from word 8 * k on. A number past the words
-// changes nothing.
+// changes nothing, nor does an entry past the last radio that a site may have.
 pub fn put_shells(numbers: &[u8], shells: &mut [u64])
-    ensures { λ _. ⌜ (length (now (numbers .entry)) ≤ max-radios → Shells-put (now (numbers .entry)) (now (shells .entry)) (now (shells .exit))) ⌝ }
+    ensures { λ _. ⌜ Shells-put (now (numbers .entry)) (now (shells .entry)) (now (shells .exit)) ⌝ }
 {
     let n = fill::least(numbers.len(), Site::RADIOS as usize);
     let mut v: usize = 0;

@@ -1,11 +1,10 @@
 -- `walk::walk` meets its contract: each turn leaves a state of the walk, and p is where the next one is (`Walk-from`). The measure is how
 -- far front and taken are from the end of the part.
-use mathlib.Core.Path.{refl, _∙_}
 use Prim.Native.Nat.{_+_, _*_, _-_}
 use native.Mathlib.Omega.{arith}
 use lib.ListN.{length}
 use borrow.Author.Needs.{needs}
-use Rattle.links.proofs.WalkSteps.{start-state, start-free, front-fits, Walk-from, walk-end, walk-radios}
+use Rattle.links.proofs.WalkSteps.{start-state, start-free, front-fits, Walk-from, walk-end, walk-radios, done-as}
 use Rattle.links.proofs.walk.walk.Statement.{statement}
 use Rattle.links.proofs.walk.walk.Tie as tie
 
@@ -56,12 +55,12 @@ list-stuck-requires c κs =
 
 returns : tie.Need-returns Inv-loop μ-loop
 returns c =
-    let made = c in
-    let at-loop = c .before .before .before .before in
-    let start = c .before .before .before .before .before .before .before .before .before .before .before .before .before .before .before .before in
-    (refl, walk-end (start .pre .0) (at-loop .loop .inv .state) (at-loop .loop .inv .some) (at-loop .loop .p) (c .before .before .before .loop-test .left) (at-loop .loop .inv .next) _ (made .list-stuck .ensures))
+    let made = c .before in
+    let at-loop = made .before .before .before .before in
+    let start = made .before .before .before .before .before .before .before .before .before .before .before .before .before .before .before .before in
+    (c .plan-of .ensures .0, done-as (c .plan-of .ensures .1) (c .plan-of .ensures .2) (walk-end (start .pre .0) (at-loop .loop .inv .state) (at-loop .loop .inv .some) (at-loop .loop .p) (made .before .before .before .loop-test .left) (at-loop .loop .inv .next) _ (made .list-stuck .ensures)))
 
 pub walk-spec : {M : Type 1} → statement M
 walk-spec =
     tie.close (
-    tie.spec Inv-loop μ-loop look-requires (λ c κs. search needs) loop-holds step-requires (λ c κs. search needs) loop-less loop-again list-stuck-requires returns)
+    tie.spec Inv-loop μ-loop look-requires (λ c κs. search needs) loop-holds step-requires (λ c κs. search needs) loop-less loop-again list-stuck-requires (λ c κs. search needs) returns)

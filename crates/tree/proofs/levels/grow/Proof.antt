@@ -12,7 +12,7 @@ take-levels-requires c κs =
     let put = c .before .before .before .before .before .before .before .before .before .before .before .before .before .before .before .before .before .before .before .before .before .before in
     let start = put .before .before .before .before .before .before .before .before in
     shells-ready (start .args .numbers .now) _ _ _ (start .pre .0) (omega (arith, start .pre .1, c .before .before .before .before .before .before .before .before .before .before .before .before .before .before .before .before .before .before .answer .given)) (omega (arith, c .before .before .before .before .before .least .ensures))
-    (c .before .before .before .before .before .before .before .before .before .before .before .before .before .before .before .before .before .before .before .before .before .shells2 .given) (put .put-shells .ensures (start .pre .0))
+    (c .before .before .before .before .before .before .before .before .before .before .before .before .before .before .before .before .before .before .before .before .before .shells2 .given) (put .put-shells .ensures)
 
 returns : tie.Need-returns
 returns c =
