@@ -29,7 +29,7 @@ use Rattle.mesh.proofs.Trees.Reach.{core-of-iff}
 use Rattle.mesh.proofs.Trees.CoreLevels.{in-core-here, in-core-below, in-core-sym, in-core-trans, core-of-same}
 use Rattle.mesh.proofs.Trees.Listed.{number-le-greatest, greatest-map-le, part-top, tops-part, number-le-part-top, part-top-le}
 use Rattle.calls.specs.Questions.{lengths-of, answer-length, site-refusal, backbone-refusal}
-use Rattle.calls.specs.Contracts.Cores.{Backbone-contract}
+use Rattle.calls.specs.Contracts.{Backbone-contract}
 use Rattle.calls.proofs.ChainLaws.{Site-good, site-zero}
 use Rattle.rows.specs.Rows.{row-listed}
 use Rattle.rows.proofs.RowListLaws.{neighbours-of-filter}
@@ -42,6 +42,7 @@ use Rattle.floods.proofs.FloodSteps.{true-floodable}
 use Rattle.floods.proofs.FloodCore.{level-radios, member-flood}
 use Rattle.backbone.specs.Parts.{part-greatest, top-put, tops-put, part-put, Part-taken, Part-visited, Backbone-put}
 use Rattle.soundness.proofs.SoundSite.{site-good-sound}
+use Rattle.calls.specs.Outcomes.{backbone-outcome}
 use Rattle.calls.proofs.ContractLaws.{answer, listing-refused, listing-answered}
 
 -- ---- the greatest number of listed radios, as a loop
@@ -422,7 +423,7 @@ module _ (ts ns : List ℕ) (v : ℕ) (rest queue set : List ℕ) where
 
 module _ (n : ℕ) (t : Tables) (old : List ℕ) (q : ℕ) (asked : q ≡ site-refusal n (lengths-of t) (leb n (length old)) (sound n t) 0) where
   pub backbone-refused : (q ≡ 0 → ⊥) → Backbone-contract n t old (answer q 0) old
-  unfolding Backbone-contract backbone-refusal answer-length
+  unfolding Backbone-contract backbone-outcome sound backbone-refusal answer-length
   backbone-refused h = listing-refused _ _ _ old q asked h
 
   module _ (e : q ≡ 0) where
@@ -441,7 +442,7 @@ module _ (n : ℕ) (t : Tables) (old : List ℕ) (q : ℕ) (asked : q ≡ site-r
 
     pub backbone-listed : (set : List ℕ) (c : ℕ) (now : List ℕ) → Backbone-put (t .links) (t .numbers) set → c ≡ length (row-listed set 0)
         → now ≡ overwrite (take (length old) (row-listed set 0)) old → Backbone-contract n t old (answer 0 c) now
-    unfolding Backbone-contract backbone-refusal answer-length Backbone-put
+    unfolding Backbone-contract backbone-outcome sound backbone-refusal answer-length Backbone-put
     backbone-listed set c now h counted listed =
         let long = site .numbers-long in
         let is : row-listed set 0 ≡ backbone (graph-in n (t .links)) =

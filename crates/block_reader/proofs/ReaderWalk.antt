@@ -37,7 +37,7 @@ use lib.ListN.{length}
 use base.Logic.{SProp, ent, sep, snd∗, exE}
 use base.Fml.{Lft, Share, Fml, ftrue, flft}
 use ghost.Atoms.{Atoms, sem}
-use Rattle.calls.specs.Contracts.Images.{Block-contract}
+use Rattle.calls.specs.Contracts.{Block-contract}
 use Rattle.calls.specs.declared.Block.{Block}
 use Rattle.block_reader.specs.declared.blocks.BlockReader.{BlockReader}
 use denote.Struct.Laws as LL

@@ -13,9 +13,11 @@ use lib.Dec.{ltb}
 use lib.ListN.{length, take, drop}
 use borrow.Author.Tests.{ltb-true, lt-ltb, le-ltb}
 use Rattle.mesh.specs.Image.{block-bytes, payload-at}
-use Rattle.calls.specs.Questions.{By-number, block-refusal}
-use Rattle.calls.specs.Contracts.Images.{Block-contract, Block-accepted, Block-given, Block-none}
+use Rattle.calls.specs.Questions.{block-refusal}
+use Rattle.calls.specs.Fields.{By-number, Block-accepted, Block-given, Block-none}
+use Rattle.calls.specs.Contracts.{Block-contract}
 use Rattle.calls.specs.declared.Block.{Block}
+use Rattle.calls.proofs.FieldLaws.{block-fields}
 use Rattle.calls.proofs.ContractLaws.{by-zero, by-cases}
 use Rattle.block_reader.specs.Reader.{Stepped}
 use Rattle.block_reader.specs.declared.blocks.BlockReader.{BlockReader}
@@ -37,8 +39,7 @@ module _ (bs : List ℕ) (i : ℕ) (r : Block) where
 
   -- what the answer names lies in the image
   pub block-inside : Block-contract bs i r → r .offset + r .length ≤ length bs
-  unfolding Block-contract
-  block-inside h = inside-by (block-refusal bs) h
+  block-inside h = inside-by (block-refusal bs) (block-fields bs i r .0 h)
 
 -- a part of no bytes
 part-empty : (bs : List ℕ) (at k : ℕ) → k ≡ 0 → take k (drop at bs) ≡ []
@@ -52,8 +53,7 @@ module _ (r : BlockReader) (s : BlockStep) (h : Stepped r s) where
   none-empty q e d = h .part .is ∙ part-empty bs (h .answer .offset) (h .answer .length) (d .length)
 
   accepted : block-refusal bs ≡ 0 → Block-accepted (ltb (r .next) (length bs / block-bytes)) (r .next) (h .answer)
-  unfolding Block-contract
-  accepted e = by-zero (block-refusal bs) _ (λ q. Block-none q 0 (r .next) (h .answer)) e (h .answered)
+  accepted e = by-zero (block-refusal bs) _ (λ q. Block-none q 0 (r .next) (h .answer)) e (block-fields bs (r .next) (h .answer) .0 (h .answered))
 
   pub step-payload : block-refusal bs ≡ 0 → r .next < length bs / block-bytes → now (s .part) ≡ payload-at bs (r .next)
   unfolding Block-accepted payload-at
@@ -66,8 +66,7 @@ module _ (r : BlockReader) (s : BlockStep) (h : Stepped r s) where
   step-end e l = none-empty 0 1 (rw (le-ltb (r .next) (length bs / block-bytes) l) at (accepted e))
 
   pub step-refused : (block-refusal bs ≡ 0 → ⊥) → now (s .part) ≡ []
-  unfolding Block-contract
-  step-refused e = go (by-cases (block-refusal bs) _ (λ q. Block-none q 0 (r .next) (h .answer)) (h .answered))
+  step-refused e = go (by-cases (block-refusal bs) _ (λ q. Block-none q 0 (r .next) (h .answer)) (block-fields bs (r .next) (h .answer) .0 (h .answered)))
     where
       go : ((block-refusal bs ≡ 0) × Block-accepted (ltb (r .next) (length bs / block-bytes)) (r .next) (h .answer))
           ⊎ ((block-refusal bs ≡ 0 → ⊥) × Block-none (block-refusal bs) 0 (r .next) (h .answer)) → now (s .part) ≡ []

@@ -8,7 +8,7 @@ use mathlib.Core.List.{List}
 use Prim.Native.Nat.{ℕ, _+_}
 use denote.Ref.{RefT, now}
 use lib.ListN.{take, drop}
-use Rattle.calls.specs.Contracts.Images.{Block-contract}
+use Rattle.calls.specs.Contracts.{Block-contract}
 use Rattle.calls.specs.declared.Block.{Block}
 use Rattle.block_reader.specs.declared.blocks.BlockReader.{BlockReader}
 use Rattle.block_reader.specs.declared.blocks.BlockStep.{BlockStep}

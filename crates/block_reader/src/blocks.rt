@@ -3,7 +3,7 @@
 ghost use mathlib.Core.Path.{_≡_};
 ghost use Prim.Native.Nat.{_≤_, _+_};
 ghost use lib.ListN.{length};
-ghost use Rattle.calls.specs.Contracts.Images.{Block-contract};
+ghost use Rattle.calls.specs.Contracts.{Block-contract};
 ghost use Rattle.block_reader.specs.Reader.{Part-of, Stepped, Moved};
 use calls::Block;
 use image::checks;

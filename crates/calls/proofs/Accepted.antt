@@ -56,21 +56,16 @@ use Rattle.mesh.proofs.Images.Of.{length-image-of, whole-blocks-image-of, check
 use Rattle.mesh.proofs.Images.Sites.{written-read}
 use Rattle.mesh.proofs.Images.Tables.{valid-graph-in, is-image-sound, is-image-tables, tables-read-written}
 use Rattle.mesh.specs.Valid.{Valid, Allowed}
-use Rattle.calls.specs.Questions.{By-number, lengths-of, image-length, tables-refusal, link-refusal, commit-refusal}
+use Rattle.calls.specs.Questions.{lengths-of, image-length, tables-refusal, link-refusal, commit-refusal}
+use Rattle.calls.specs.Fields.{By-number, Tables-refused, Value-accepted, Value-refused, Listing-accepted, Listing-refused, Link-accepted, Link-refused}
+use Rattle.calls.specs.Fields.{Ask-accepted, Ask-refused, Commit-accepted, Commit-refused, Read-accepted, Block-none, Block-accepted, Later-accepted}
+use Rattle.calls.specs.Fields.{Later-refused, Tree-accepted, Tree-refused}
 use Rattle.calls.specs.Questions.{radio-refusal, core-refusal, backbone-refusal, tree-refusal, write-refusal, read-refusal}
 use Rattle.calls.specs.Questions.{block-refusal, sheet-refusal}
 use Rattle.calls.specs.Sheet.{sheet, sheet-length}
-use Rattle.calls.specs.Contracts.Forms.{Tables-refused, Value-accepted, Value-refused, Listing-accepted, Listing-refused}
-use Rattle.calls.specs.Contracts.Links.{Link-accepted, Link-refused, Link-contract}
-use Rattle.calls.specs.Contracts.Proposals.{Ask-accepted, Ask-refused, Ask-contract, Commit-accepted, Commit-refused, Commit-contract}
-use Rattle.calls.specs.Contracts.Images.{Read-accepted, Read-contract, Write-contract, Block-none, Block-accepted, Block-contract}
-use Rattle.calls.specs.Contracts.Sites.{Check-contract}
+use Rattle.calls.specs.Contracts.{Link-contract, Ask-contract, Commit-contract, Read-contract, Write-contract, Block-contract, Check-contract, Number-contract}
+use Rattle.calls.specs.Contracts.{Later-contract, Core-contract, Backbone-contract, Tree-contract, Sheet-contract}
 use Rattle.calls.specs.Switches.{switched}
-use Rattle.calls.specs.Contracts.Radios.{Number-contract}
-use Rattle.calls.specs.Contracts.Wake.{Later-accepted, Later-refused, Later-contract}
-use Rattle.calls.specs.Contracts.Cores.{Core-contract, Backbone-contract}
-use Rattle.calls.specs.Contracts.Trees.{Tree-accepted, Tree-refused, Tree-contract}
-use Rattle.calls.specs.Contracts.Pages.{Sheet-contract}
 use Rattle.calls.specs.Results.{Numbers-right, Site-right, Listed, Link-right, Core-listed, Backbone-listed, Tree-listed, Written-right, Read-right}
 use Rattle.calls.specs.Results.{Ask-right, Commit-right, Block-part, Block-end, Later-right, Sheet-right}
 use Rattle.calls.specs.declared.Reply.{Reply}
@@ -78,6 +73,8 @@ use Rattle.calls.specs.declared.Value.{Value}
 use Rattle.calls.specs.declared.Later.{Later}
 use Rattle.calls.specs.declared.Block.{Block}
 use Rattle.calls.proofs.ContractLaws.{by-cases, by-zero}
+use Rattle.calls.proofs.FieldLaws.{link-fields, ask-fields, commit-fields, check-fields, number-fields, later-fields, core-fields, backbone-fields, tree-fields}
+use Rattle.calls.proofs.FieldLaws.{sheet-fields, write-fields, read-fields, none-fields, block-fields}
 use Rattle.calls.proofs.ChainLaws.{lent-zero, Site-good, link-zero, commit-zero, radio-zero, core-zero, write-zero, read-zero, read-yes, sheet-zero}
 use Rattle.calls.proofs.SheetLaws.{sheet-fits, length-sheet, columns-front, columns-by}
 use Rattle.calls.proofs.RecordLaws.{tables-ext}
@@ -129,11 +126,11 @@ switched-right up n a b t v others good ok links numbers order =
 
 pub link-right : (up : Bool) (n a b : ℕ) (t : Tables) (w : List ℕ) (r : Reply) (v : Tables) (x : List ℕ) → Link-contract up n a b t w r v x
     → r .number ≡ 0 → Link-right up n a b t v (r .count) w x
-unfolding Link-contract graph-in
+unfolding graph-in
 link-right up n a b t w r v x d z =
     let g = graph-in n (t .links) in
     let c = accepted (link-refusal up n a b (lengths-of t) (length w) (sound n t) g) (Link-accepted up a b g t w r v x)
-    (λ q. Link-refused q t w r v x) (r .number) (λ q e. e .number) d z in
+    (λ q. Link-refused q t w r v x) (r .number) (λ q e. e .number) (link-fields up n a b t w r v x .0 d) z in
     let good = link-zero up a b (lengths-of t) (length w) (sound n t) g (c .0) in
     let s = switched-right up n a b t v _ (good .0) (good .1) (c .1 .links) (c .1 .numbers) (c .1 .order) in
     record {
@@ -158,11 +155,10 @@ changed-exactly up a b g v j k l p q =
 
 pub ask-right : (up : Bool) (n a b : ℕ) (t : Tables) (w : List ℕ) (r : Reply) (x : List ℕ) → Ask-contract up n a b t w r x → r .number ≡ 0
     → Ask-right up a b (graph-in n (t .links)) (r .count) w x
-unfolding Ask-contract
 ask-right up n a b t w r x d z =
     let g = graph-in n (t .links) in
     let c = accepted (link-refusal up n a b (lengths-of t) (length w) (sound n t) g) (Ask-accepted up a b g w r x)
-    (λ q. Ask-refused q w r x) (r .number) (λ q e. e .number) d z in
+    (λ q. Ask-refused q w r x) (r .number) (λ q e. e .number) (ask-fields up n a b t w r x .0 d) z in
     record {
       exactly = λ v j k l p q. rw (front (changed up a b g) w (r .count) x (c .1 .count) (c .1 .answer)) (changed-exactly up a b g v j k l p q);
       listed = listed-front (changed up a b g) w (r .count) x (c .1 .count) (c .1 .answer) (changed-ascending up a b g);
@@ -171,11 +167,11 @@ ask-right up n a b t w r x d z =
 pub commit-right :
     (up : Bool) (n a b : ℕ) (z : ℤ) (xs : List ℕ) (t : Tables) (r : Reply) (v : Tables) → Commit-contract up n a b z xs t r v → r .number ≡ 0 →
     Commit-right up n a b t v
-unfolding Commit-contract graph-in switched
+unfolding graph-in switched
 commit-right up n a b z xs t r v d y =
     let g = graph-in n (t .links) in
     let c = accepted (commit-refusal up n a b z xs (lengths-of t) (sound n t) g) (Commit-accepted up n a b t r v)
-    (λ q. Commit-refused q t r v) (r .number) (λ q e. e .number) d y in
+    (λ q. Commit-refused q t r v) (r .number) (λ q e. e .number) (commit-fields up n a b z xs t r v .0 d) y in
     let good = commit-zero up a b z xs (lengths-of t) (sound n t) g (c .0) in
     switched-right up n a b t v true (good .0) (good .1) (ap (λ (o : Tables). o .links) (c .1 .tables)) (ap (λ (o : Tables). o .numbers) (c .1 .tables))
     (ap (λ (o : Tables). o .order) (c .1 .tables))
@@ -197,9 +193,9 @@ site-right n t long =
     )
 
 pub check-right : (n : ℕ) (t : Tables) (r : Value) → Check-contract n t r → r .number ≡ 0 → (r .value ≡ 1) ↔ Site-right n t
-unfolding Check-contract tables-refusal lengths-of
+unfolding tables-refusal lengths-of
 check-right n t r d z =
-    let c = accepted (tables-refusal n (lengths-of t)) (Value-accepted (cond (sound n t) 1 0) r) (λ q. Value-refused q r) (r .number) (λ q e. e .number) d z in
+    let c = accepted (tables-refusal n (lengths-of t)) (Value-accepted (cond (sound n t) 1 0) r) (λ q. Value-refused q r) (r .number) (λ q e. e .number) (check-fields n t r .0 d) z in
     let good = lent-zero n (lengths-of t) true 0 (c .0) .0 in
     let iff = site-right n t (good .lengths .numbers) in
     (λ e. iff .0 (yes (sound n t) (sym (c .1 .value) ∙ e)), λ s. c .1 .value ∙ rw (iff .1 s))
@@ -209,21 +205,21 @@ check-right n t r d z =
     yes false e = absurd (omega arith)
 
 pub number-right : (n v : ℕ) (t : Tables) (r : Value) → Number-contract n v t r → r .number ≡ 0 → Core (graph-in n (t .links)) v (r .value)
-unfolding Number-contract graph-in
+unfolding graph-in
 number-right n v t r d z =
     let g = graph-in n (t .links) in
     let c = accepted (radio-refusal n v (lengths-of t) (sound n t)) (Value-accepted (number g v) r)
-    (λ q. Value-refused q r) (r .number) (λ q e. e .number) d z in
+    (λ q. Value-refused q r) (r .number) (λ q e. e .number) (number-fields n v t r .0 d) z in
     rw (c .1 .value) (number-core g v (radio-zero n v (lengths-of t) (sound n t) (c .0) .1))
 
 pub later-right : (n v : ℕ) (t : Tables) (r : Later) → Later-contract n v t r → r .number ≡ 0
     → Later-right (graph-in n (t .links)) v (t .order) (r .count) (r .first)
-unfolding Later-contract sound graph-in
+unfolding sound graph-in
 later-right n v t r d z =
     let f = linked (graph-in n (t .links)) in
     let vs = later-in f v (t .order) in
     let c = accepted (radio-refusal n v (lengths-of t) (sound n t)) (Later-accepted (length vs) (head-or nobody vs) r)
-    (λ q. Later-refused q r) (r .number) (λ q e. e .number) d z in
+    (λ q. Later-refused q r) (r .number) (λ q e. e .number) (later-fields n v t r .0 d) z in
     let good = radio-zero n v (lengths-of t) (sound n t) (c .0) .0 in
     let valid = valid-graph-in max-neighbours n t (good .lent .most) (good .is-sound) in
     let once = k-order-certificate (graph-in n (t .links)) (t .order) (valid .k-order) .once in
@@ -234,12 +230,12 @@ later-right n v t r d z =
 
 pub core-right : (n v k : ℕ) (t : Tables) (w : List ℕ) (r : Value) (x : List ℕ) → Core-contract n v k t w r x → r .number ≡ 0
     → Core-listed (graph-in n (t .links)) v k (r .value) w x
-unfolding Core-contract graph-in
+unfolding graph-in
 core-right n v k t w r x d z =
     let g = graph-in n (t .links) in
     let new = core-of g v k in
     let c = accepted (core-refusal n v k (lengths-of t) (length w) (sound n t) g) (Listing-accepted (length new) new w r x)
-    (λ q. Listing-refused q w r x) (r .number) (λ q e. e .number) d z in
+    (λ q. Listing-refused q w r x) (r .number) (λ q e. e .number) (core-fields n v k t w r x .0 d) z in
     let good = core-zero n v k (lengths-of t) (length w) (sound n t) g (c .0) in
     record {
       exactly = rw (front new w (r .value) x (c .1 .value) (c .1 .lent)) (core-of-iff g v k (good .1));
@@ -248,12 +244,11 @@ core-right n v k t w r x d z =
 
 pub backbone-right : (n : ℕ) (t : Tables) (w : List ℕ) (r : Value) (x : List ℕ) → Backbone-contract n t w r x → r .number ≡ 0
     → Backbone-listed (graph-in n (t .links)) (r .value) w x
-unfolding Backbone-contract
 backbone-right n t w r x d z =
     let g = graph-in n (t .links) in
     let new = backbone g in
     let c = accepted (backbone-refusal n (lengths-of t) (length w) (sound n t)) (Listing-accepted (length new) new w r x)
-    (λ q. Listing-refused q w r x) (r .number) (λ q e. e .number) d z in
+    (λ q. Listing-refused q w r x) (r .number) (λ q e. e .number) (backbone-fields n t w r x .0 d) z in
     record {
       exactly = rw (front new w (r .value) x (c .1 .value) (c .1 .lent)) (backbone-iff g);
       listed = listed-front new w (r .value) x (c .1 .value) (c .1 .lent) (backbone-ascending g);
@@ -284,22 +279,21 @@ listed-tree g count m p w x e f h = record {
 
 pub tree-right-listed : (n : ℕ) (t : Tables) (m : List Node) (w : List ℕ) (r : Value) (p : List Node) (x : List ℕ) → Tree-contract n t m w r p x
     → r .number ≡ 0 → Tree-listed (graph-in n (t .links)) (r .value) m p w x
-unfolding Tree-contract
 tree-right-listed n t m w r p x d z =
     let g = graph-in n (t .links) in
     let c = accepted (tree-refusal n (lengths-of t) (length m) (length w) (sound n t)) (Tree-accepted g m w r p x)
-    (λ q. Tree-refused q m w r p x) (r .number) (λ q e. e .number) d z in
+    (λ q. Tree-refused q m w r p x) (r .number) (λ q e. e .number) (tree-fields n t m w r p x .0 d) z in
     listed-tree g (r .value) m p w x (c .1 .value) (c .1 .nodes) (c .1 .answer)
 
 -- ---- the site sheet
 
 pub sheet-right : (n : ℕ) (t : Tables) (w : List ℕ) (r : Value) (x : List ℕ) → Sheet-contract n t w r x → r .number ≡ 0
     → Sheet-right n t (r .value) w x
-unfolding Sheet-contract sheet-length lengths-of
+unfolding sheet-length lengths-of
 sheet-right n t w r x d z =
     let new = sheet (t .numbers) in
     let c = accepted (sheet-refusal n (lengths-of t) (length w) (sound n t)) (Listing-accepted (sheet-length n) new w r x)
-    (λ q. Listing-refused q w r x) (r .number) (λ q e. e .number) d z in
+    (λ q. Listing-refused q w r x) (r .number) (λ q e. e .number) (sheet-fields n t w r x .0 d) z in
     let good = sheet-zero n (lengths-of t) (length w) (sound n t) (c .0) .0 in
     let long = good .lent .lengths .numbers in
     let fit = sheet-fits n t long (good .is-sound) (good .lent .most) in
@@ -322,9 +316,8 @@ module _ (n : ℕ) (t : Tables) (w : List ℕ) (r : Value) (x : List ℕ) (d : W
   written = image-of g (t .order)
 
   given : (write-refusal n (lengths-of t) (length w) (sound n t) g ≡ 0) × Listing-accepted (image-length g) written w r x
-  unfolding Write-contract
   given = accepted (write-refusal n (lengths-of t) (length w) (sound n t) g) (Listing-accepted (image-length g) written w r x)
-      (λ q. Listing-refused q w r x) (r .number) (λ q e. e .number) d z
+      (λ q. Listing-refused q w r x) (r .number) (λ q e. e .number) (write-fields n t w r x .0 d) z
 
   good : Site-good n (lengths-of t) true (sound n t)
   good = write-zero n (lengths-of t) (length w) (sound n t) g (given .0) .0
@@ -363,10 +356,10 @@ module _ (n : ℕ) (t : Tables) (w : List ℕ) (r : Value) (x : List ℕ) (d : W
   -- the same tables come back
   pub read-what-was-written : Entries-below 256 (t .links) → (u : Tables) (q : ℕ) (v : Tables) → lengths-of u ≡ lengths-of t
       → Read-contract n (take (r .value) x) u q v → (q ≡ 0) × (v ≡ t)
-  unfolding Read-contract tables-of
+  unfolding tables-of
   read-what-was-written bytes u q v e f =
       let bs = take (r .value) x in
-      let c = by-zero (read-refusal n (lengths-of u) bs) (Read-accepted n bs q v) (λ k. Tables-refused k q u v) (read-accepts u e) f in (
+      let c = by-zero (read-refusal n (lengths-of u) bs) (Read-accepted n bs q v) (λ k. Tables-refused k q u v) (read-accepts u e) (read-fields n bs u q v .0 f) in (
         c .number,
         tables-ext v (tables-of (image-graph n bs) (image-order n bs)) (c .links) (c .numbers) (c .order)
             ∙ ap (λ (ys : List ℕ). tables-of (image-graph n ys) (image-order n ys)) bytes-written
@@ -374,9 +367,9 @@ module _ (n : ℕ) (t : Tables) (w : List ℕ) (r : Value) (x : List ℕ) (d : W
       )
 
 pub read-right : (n : ℕ) (bs : List ℕ) (t : Tables) (r : ℕ) (v : Tables) → Read-contract n bs t r v → r ≡ 0 → Read-right n bs v
-unfolding Read-contract image-graph tables-of sound
+unfolding image-graph tables-of sound
 read-right n bs t r v d z =
-    let c = accepted (read-refusal n (lengths-of t) bs) (Read-accepted n bs r v) (λ q. Tables-refused q r t v) r (λ q e. e .number) d z in
+    let c = accepted (read-refusal n (lengths-of t) bs) (Read-accepted n bs r v) (λ q. Tables-refused q r t v) r (λ q e. e .number) (read-fields n bs t r v .0 d) z in
     let a = read-zero n (lengths-of t) bs (c .0) in
     let g = image-graph n bs in
     let xs = image-order n bs in
@@ -392,10 +385,10 @@ read-right n bs t r v d z =
 -- ---- the block reader
 
 pub block-right : (bs : List ℕ) (i : ℕ) (r : Block) → Block-contract bs i r → r .number ≡ 0 → Block-part bs i r ⊎ Block-end bs i r
-unfolding Block-contract Block-accepted payload-at
+unfolding Block-accepted payload-at
 block-right bs i r d z =
     let there = ltb i (length bs / block-bytes) in
-    let c = accepted (block-refusal bs) (Block-accepted there i r) (λ q. Block-none q 0 i r) (r .number) (λ q e. e .number) d z in
+    let c = accepted (block-refusal bs) (Block-accepted there i r) (λ q. Block-none q 0 i r) (r .number) (λ q e. e .number) (block-fields bs i r .0 d) z in
     go there refl (c .1)
   where
     go : (b : Bool) → ltb i (length bs / block-bytes) ≡ b → Block-accepted b i r → Block-part bs i r ⊎ Block-end bs i r
@@ -410,4 +403,4 @@ block-right bs i r d z =
           payload = rw (c .offset, c .length);
           moves = c .next;
         })
-    go false e c = inr (record { past = ltb-false i (length bs / block-bytes) e; none = c })
+    go false e c = inr (record { past = ltb-false i (length bs / block-bytes) e; none = none-fields 0 1 i r .1 c })

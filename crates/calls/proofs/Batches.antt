@@ -20,16 +20,17 @@ use Rattle.mesh.specs.Tables.{Tables, graph-in}
 use Rattle.mesh.specs.Sound.{sound}
 use Rattle.mesh.specs.Valid.{Allowed}
 use Rattle.mesh.proofs.Tables.DegreeSum.{links-most}
-use Rattle.calls.specs.Questions.{By-number, lengths-of, site-refusal, ends-refusal, link-refusal}
+use Rattle.calls.specs.Questions.{lengths-of, site-refusal, ends-refusal, link-refusal}
+use Rattle.calls.specs.Fields.{By-number, Link-accepted, Link-refused, Batch-done, Batch-refused}
 use Rattle.calls.specs.Switches.{Switch, switch, pairs-after, switched, tables-after, All-allowed}
 use Rattle.calls.specs.Batches.{list-length, batch-refusal, up-refusal, unless, then, batch-switches, batch-stop, ups}
-use Rattle.calls.specs.Contracts.Links.{Link-accepted, Link-refused, Link-contract}
-use Rattle.calls.specs.Contracts.Batches.{Batch-done, Batch-refused, Batch-contract, Batch-stopped, Batch-single}
-use Rattle.calls.specs.Results.{Batch-right}
+use Rattle.calls.specs.Contracts.{Link-contract, Batch-contract}
+use Rattle.calls.specs.Results.{Batch-stopped, Batch-single, Batch-right}
 use Rattle.calls.specs.declared.Reply.{Reply}
 use Rattle.calls.specs.declared.Value.{Value}
 use Rattle.calls.proofs.QuestionLaws.{true-answer-length}
 use Rattle.calls.proofs.ChainLaws.{site-zero, site-yes, site-stops, ends-zero}
+use Rattle.calls.proofs.FieldLaws.{link-fields, batch-fields}
 use Rattle.calls.proofs.ContractLaws.{answer, by-zero, by-cases}
 use Rattle.calls.proofs.RecordLaws.{tables-ext}
 use Rattle.calls.proofs.SoundSwitches.{Good, good-valid, good-right, switched-good, switched-graph, all-good}
@@ -220,13 +221,11 @@ module _ (n : ℕ) (xs : List ℕ) (t : Tables) (r : Value) (v : Tables) where
         }
 
   pub batch-right : Batch-contract n xs t r v → R ≡ 0 → Batch-right n xs t v r
-  unfolding Batch-contract
-  batch-right c z = done-right z (by-zero R Done (λ q. Batch-refused q t r v) z c)
+  batch-right c z = done-right z (by-zero R Done (λ q. Batch-refused q t r v) z (batch-fields n xs t r v .0 c))
 
   -- a number beside which a change may stand is that of a link
   pub batch-keeps : Batch-contract n xs t r v → (r .number ≡ 0 → ⊥) → Batch-refused (r .number) t r v ⊎ Batch-stopped n xs t r v
-  unfolding Batch-contract
-  batch-keeps c h = go (by-cases R Done (λ q. Batch-refused q t r v) c)
+  batch-keeps c h = go (by-cases R Done (λ q. Batch-refused q t r v) (batch-fields n xs t r v .0 c))
     where
       go : ((R ≡ 0) × Done) ⊎ ((R ≡ 0 → ⊥) × Batch-refused R t r v) → Batch-refused (r .number) t r v ⊎ Batch-stopped n xs t r v
       go (inl p) = inr (done-stopped (p .0) (p .1) h)
@@ -271,18 +270,19 @@ module _ (n a b : ℕ) (t : Tables) (w : List ℕ) (q : Reply) (u : Tables) (x :
       pick (inr z) = subst (λ (m : ℕ). Link-refused m t w q u x) e (z .1)
 
   pub batch-single : Link-contract true n a b t w q u x → Batch-contract n (a ∷ b ∷ []) t r v → Batch-single q u r v
-  unfolding Link-contract Batch-contract batch-refusal list-length
-  batch-single c d = go (by-cases S (Batch-done n (a ∷ b ∷ []) (pairs n t) t r v) (λ p. Batch-refused p t r v) d)
+  unfolding batch-refusal list-length
+  batch-single c d =
+      go (by-cases S (Batch-done n (a ∷ b ∷ []) (pairs n t) t r v) (λ p. Batch-refused p t r v) (batch-fields n (a ∷ b ∷ []) t r v .0 d))
     where
       go : ((S ≡ 0) × Batch-done n (a ∷ b ∷ []) (pairs n t) t r v) ⊎ ((S ≡ 0 → ⊥) × Batch-refused S t r v) → Batch-single q u r v
       go (inl p) =
           let k = site-zero n (lengths-of t) true (sound n t) 0 (p .0) .0 in
           let e : L ≡ ends-refusal max-neighbours true n a b g = link-is ∙ site-yes n (lengths-of t) true (sound n t) _ k in
           single (ends-refusal max-neighbours true n a b g) refl
-          (subst (λ (i : ℕ). By-number i (Link-accepted true a b g t w q u x) (λ p. Link-refused p t w q u x)) e c) (p .1)
+          (subst (λ (i : ℕ). By-number i (Link-accepted true a b g t w q u x) (λ p. Link-refused p t w q u x)) e (link-fields true n a b t w q u x .0 c)) (p .1)
       go (inr p) =
           let e : L ≡ S = link-is ∙ site-stops n (lengths-of t) true (sound n t) _ (p .0) in
-          let l = stopped-at L S e (p .0) c in
+          let l = stopped-at L S e (p .0) (link-fields true n a b t w q u x .0 c) in
           record {
             number = p .1 .number ∙ sym (l .number);
             value = p .1 .value ∙ rw (l .number, ne-eqb S 0 (p .0));

@@ -22,7 +22,7 @@ use Rattle.mesh.proofs.Images.Sites.{length-order}
 use Rattle.calls.specs.Questions.{lengths-of, answer-length, nodes-length, image-length, holds-image, ask, ends-refusal, level-refusal, site-refusal}
 use Rattle.calls.specs.Questions.{link-refusal, core-refusal, backbone-refusal, tree-refusal, write-refusal}
 use Rattle.calls.specs.Switches.{switch, switched}
-use Rattle.calls.specs.Outcomes.{by-number, reply, value, link-outcome, listing-outcome, core-outcome, backbone-outcome, write-outcome, tree-outcome}
+use Rattle.calls.specs.Outcomes.{by-number, linked-with, reply, value, link-outcome, listing-outcome, core-outcome, backbone-outcome, write-outcome, tree-outcome}
 use Rattle.calls.proofs.QuestionLaws.{Site-lengths, ask-yes, true-answer-length, true-nodes-length, true-holds-image}
 use Rattle.calls.proofs.ChainLaws.{site-yes}
 use Rattle.calls.proofs.Holds.{Holds, read-back, is-sound}
@@ -53,8 +53,8 @@ module _ (n : ℕ) (ps : List Link) (t : Tables) (k : Holds n ps t) (least : 1 �
       link-outcome up n a b t w
       ≡ by-number
       (ends-refusal max-neighbours up n a b g)
-      (reply 0 (step-of up cs) (length cs), switched n (switch up a b) t, overwrite cs w)
-      (λ q. (reply q (pos 0) 0, t, w))
+      (linked-with (reply 0 (step-of up cs) (length cs)) (switched n (switch up a b) t) (overwrite cs w))
+      (λ q. linked-with (reply q (pos 0) 0) t w)
   unfolding sound link-outcome link-refusal
   link-by-pairs up a b w l =
       rw (later-asked (answer-length n (length w)) (λ h. ends-refusal max-neighbours up n a b h) (true-answer-length n (length w) l), read-back n ps t k)

@@ -11,9 +11,10 @@ use mathlib.Core.List.{List}
 use Prim.Native.Nat.{ℕ, zero, suc}
 use native.Mathlib.Omega.{arith}
 use Rattle.lists.specs.Lists.{overwrite}
-use Rattle.calls.specs.Questions.{By-number}
-use Rattle.calls.specs.Contracts.Forms.{Value-accepted, Value-refused, Value-by, Listing-accepted, Listing-refused, Listing-by}
+use Rattle.calls.specs.Fields.{By-number, Value-accepted, Value-refused, Value-by, Listing-accepted, Listing-refused, Listing-by}
+use Rattle.calls.specs.Outcomes.{value-outcome, listing-outcome}
 use Rattle.calls.specs.declared.Value.{Value}
+use Rattle.calls.proofs.FieldLaws.{value-fields, listing-fields}
 
 pub by-accepted : (R : ℕ) {A : Type 0} (B : ℕ → Type 0) → R ≡ 0 → A → By-number R A B
 unfolding By-number
@@ -38,20 +39,22 @@ by-cases (suc q) A B d = inr (λ e. omega arith, d)
 abbrev pub answer : (number value : ℕ) → Value
 answer q x = record { number = q; value = x }
 
-pub value-refused : (R x q : ℕ) → q ≡ R → (q ≡ 0 → ⊥) → Value-by R x (answer q 0)
+pub value-refused : (R x q : ℕ) → q ≡ R → (q ≡ 0 → ⊥) → answer q 0 ≡ value-outcome R x
 value-refused R x q e h =
-    by-refused R (Value-accepted x (answer q 0)) (λ p. Value-refused p (answer q 0)) (λ z. h (e ∙ z)) (record { number = e; value = refl })
+    value-fields R x (answer q 0) .1
+    (by-refused R (Value-accepted x (answer q 0)) (λ p. Value-refused p (answer q 0)) (λ z. h (e ∙ z)) (record { number = e; value = refl }))
 
-pub value-answered : (R x y : ℕ) → R ≡ 0 → y ≡ x → Value-by R x (answer 0 y)
-value-answered R x y e h = by-accepted R (λ p. Value-refused p (answer 0 y)) e (record { number = refl; value = h })
+pub value-answered : (R x y : ℕ) → R ≡ 0 → y ≡ x → answer 0 y ≡ value-outcome R x
+value-answered R x y e h = value-fields R x (answer 0 y) .1 (by-accepted R (λ p. Value-refused p (answer 0 y)) e (record { number = refl; value = h }))
 
 -- ---- any listing
 
-pub listing-refused : (R x : ℕ) (new old : List ℕ) (q : ℕ) → q ≡ R → (q ≡ 0 → ⊥) → Listing-by R x new old (answer q 0) old
+pub listing-refused : (R x : ℕ) (new old : List ℕ) (q : ℕ) → q ≡ R → (q ≡ 0 → ⊥) → (answer q 0, old) ≡ listing-outcome R x new old
 listing-refused R x new old q e h =
-    by-refused R (Listing-accepted x new old (answer q 0) old) (λ p. Listing-refused p old (answer q 0) old) (λ z. h (e ∙ z))
-    (record { number = e; value = refl; lent = refl })
+    listing-fields R x new old (answer q 0) old .1
+    (by-refused R (Listing-accepted x new old (answer q 0) old) (λ p. Listing-refused p old (answer q 0) old) (λ z. h (e ∙ z))
+    (record { number = e; value = refl; lent = refl }))
 
-pub listing-answered : (R x : ℕ) (new old : List ℕ) (y : ℕ) (now : List ℕ) → R ≡ 0 → y ≡ x → now ≡ overwrite new old → Listing-by R x new old (answer 0 y) now
+pub listing-answered : (R x : ℕ) (new old : List ℕ) (y : ℕ) (now : List ℕ) → R ≡ 0 → y ≡ x → now ≡ overwrite new old → (answer 0 y, now) ≡ listing-outcome R x new old
 listing-answered R x new old y now e h l =
-    by-accepted R (λ p. Listing-refused p old (answer 0 y) now) e (record { number = refl; value = h; lent = l })
+    listing-fields R x new old (answer 0 y) now .1 (by-accepted R (λ p. Listing-refused p old (answer 0 y) now) e (record { number = refl; value = h; lent = l }))

@@ -1,11 +1,12 @@
 -- In any run, an accepted link call lists exactly the radios whose core number by the largest group differs between the book's pairs
 -- before and after. From `demand-3`; the number by peeling is not in the statement.
-use mathlib.Core.Path.{_≡_, refl, sym, _∙_}
+use mathlib.Core.Path.{_≡_, refl, sym, subst, _∙_}
 use mathlib.Core.Logic.{_↔_, _⊎_, inl, inr}
 use mathlib.Core.Bool.{Bool, true, false}
 use mathlib.Core.List.{List, [], _∷_, _++_}
 use Prim.Native.Nat.{ℕ, _<_}
 use native.Mathlib.Omega.{arith}
+use lib.ListN.{length, take}
 use Rattle.lists.specs.Lists.{member}
 use Rattle.mesh.specs.Graph.{Link, graph}
 use Rattle.mesh.specs.Cores.{Core}
@@ -14,9 +15,11 @@ use Rattle.mesh.specs.Sound.{number-in}
 use Rattle.lists.proofs.Tests.{bool-cases}
 use Rattle.mesh.proofs.Cores.Certificate.{core-unique}
 use Rattle.calls.specs.Book.{Call, linking, Answer, book-after}
-use Rattle.calls.specs.Runs.{Does, Event, event, Run, ended, next, givens}
+use Rattle.calls.specs.Outcomes.{link-outcome}
+use Rattle.calls.specs.Runs.{did, answer-of, done, Event, event, events, after, givens}
 use Rattle.calls.specs.Demand.{By-one, Link-kept, Start, beginning, Kept, Demand-3}
-use Rattle.calls.proofs.WholeList.{demand-3}
+use Rattle.calls.proofs.Runs.{Does, Run, ended, next, run, events-append, link-done}
+use Rattle.calls.proofs.WholeList.{run-kept}
 
 -- a run with one call more
 run-further :
@@ -29,11 +32,6 @@ unfolding By-one
 differ true j k e p = omega arith
 differ false j k e p = omega arith
 
-kept : (n : ℕ) (ps : List Link) (t v : Tables) (es : List Event) (s : Start n ps t) → Run t es v →
-    Kept n ps (beginning s) es (graph n (book-after (givens es) ps)) v
-unfolding Demand-3
-kept = demand-3
-
 pub exactly-changed :
     (n : ℕ) (ps : List Link) (s t u : Tables) (es : List Event) (up : Bool) (m a b w : ℕ) (h : Answer) → Start n ps s → Run s es t →
     Does (linking up m a b w) t (h ∷ []) u → h .number ≡ 0 → (x j k : ℕ) → x < n → Core (graph n (book-after (givens es) ps)) x j →
@@ -41,8 +39,8 @@ pub exactly-changed :
     (member x (h .listed) ≡ true) ↔ (j ≡ k → ⊥)
 unfolding Link-kept
 exactly-changed n ps s t u es up m a b w h start run d z x j k l p q =
-    let before = kept n ps s t es start run in
-    let after = kept n ps s u _ start (run-further (linking up m a b w) u (h ∷ []) run d) in
+    let before = run-kept n ps s t es start run in
+    let after = run-kept n ps s u _ start (run-further (linking up m a b w) u (h ∷ []) run d) in
     let link = after .link-calls es [] up m a b w t u h refl z in
     let was : j ≡ number-in (t .numbers) x = core-unique _ x j _ p (before .cores x l) in
     let is : k ≡ number-in (u .numbers) x = core-unique _ x k _ q (after .cores x l) in (
@@ -53,3 +51,23 @@ exactly-changed n ps s t u es up m a b w h start run d z x j k l p q =
     go : (member x (h .listed) ≡ true) ⊎ (member x (h .listed) ≡ false) → (member x (h .listed) ≡ false → ⊥) → member x (h .listed) ≡ true
     go (inl y) f = y
     go (inr y) f = absurd (f y)
+
+-- the same of a list of calls and one link call more, whatever its answer table w holds
+pub exactly-listed :
+    (n : ℕ) (ps : List Link) (s : Tables) → Start n ps s → (cs : List Call) (up : Bool) (m a b : ℕ) (w : List ℕ) →
+    let o = link-outcome up m a b (after cs s) w in o .reply .number ≡ 0 → (x j k : ℕ) → x < n →
+    Core (graph n (book-after (givens (events cs s)) ps)) x j →
+    Core (graph n (book-after (givens (events (cs ++ (linking up m a b (length w) ∷ [])) s)) ps)) x k →
+    (member x (take (o .reply .count) (o .answer)) ≡ true) ↔ (j ≡ k → ⊥)
+unfolding Does answer-of events
+exactly-listed n ps s start cs up m a b w z x j k l p q =
+    let t = after cs s in
+    let o = link-outcome up m a b t w in
+    let h = answer-of (o .reply) (o .answer) in
+    let d = link-done up m a b t w in
+    exactly-changed n ps s t (o .tables) (events cs s) up m a b (length w) h start (run cs s) d z x j k l p
+    (subst (λ (es : List Event). Core (graph n (book-after (givens es) ps)) x k) (events-append cs (linking up m a b (length w) ∷ []) s ∙ last t (linking up m a b (length w)) (o .tables) h d) q)
+  where
+    last : (t : Tables) (c : Call) (u : Tables) (h : Answer) → did (h ∷ []) u ≡ done c t →
+        events cs s ++ events (c ∷ []) t ≡ events cs s ++ (event c t (h ∷ []) u ∷ [])
+    last t c u h d = rw (← d)

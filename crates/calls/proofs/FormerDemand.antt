@@ -8,15 +8,14 @@ use mathlib.Core.List.{List, [], _∷_}
 use Prim.Native.Nat.{ℕ}
 use Rattle.mesh.specs.Tables.{Tables}
 use Rattle.calls.specs.Book.{linking, Answer}
-use Rattle.calls.specs.Runs.{answer-of, Does}
 use Rattle.calls.specs.Demand.{Demand-3}
 use Rattle.calls.specs.FormerDemand.{Former-demand-3}
 use Rattle.calls.proofs.WholeList.{demand-3}
 
 pub former : Demand-3 → Former-demand-3
 unfolding Demand-3 Former-demand-3
-former d n ps t v es s r =
-    let k = d n ps t v es s r in
+former d n ps t s cs =
+    let k = d n ps t s cs in
     record {
       links = k .links;
       numbers = k .numbers;
@@ -29,9 +28,3 @@ former d n ps t v es s r =
 
 pub former-demand-3 : Former-demand-3
 former-demand-3 = former demand-3
-
-pub one-answer :
-    (up : Bool) (n a b w : ℕ) (t : Tables) (hs : List Answer) (v : Tables) → Does (linking up n a b w) t hs v →
-    (h : Answer) × (hs ≡ h ∷ [])
-unfolding Does
-one-answer up n a b w t hs v d = (answer-of (d .result) (d .table), d .answer)

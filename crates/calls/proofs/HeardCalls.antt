@@ -33,11 +33,13 @@ use Rattle.calls.specs.Questions.{lengths-of}
 use Rattle.calls.specs.Switches.{Switch, switch, tables-after, All-allowed}
 use Rattle.calls.specs.Heard.{agreed, heard-alone, one-sided, one-sided-count, heard-lengths, heard-proper, agreed-few, hear-refusal}
 use Rattle.calls.specs.Heard.{row-switches, switches-where, goes-down, comes-up, heard-switches}
-use Rattle.calls.specs.Contracts.Heard.{Hear-accepted, Hear-refused, Hear-contract}
+use Rattle.calls.specs.Fields.{Hear-accepted, Hear-refused}
+use Rattle.calls.specs.Contracts.{Hear-contract}
 use Rattle.calls.specs.Results.{Hear-right}
 use Rattle.calls.specs.declared.Value.{Value}
 use Rattle.calls.proofs.QuestionLaws.{ask-zero}
 use Rattle.calls.proofs.ChainLaws.{site-zero}
+use Rattle.calls.proofs.FieldLaws.{hear-fields}
 use Rattle.calls.proofs.ContractLaws.{by-zero}
 use Rattle.calls.proofs.SoundSwitches.{Good, good-right, all-good}
 use Rattle.calls.proofs.HeardLaws.{agreed-links, agreed-linked, hear-allowed, hear-pairs}
@@ -152,9 +154,8 @@ module _ (n : ℕ) (hs : List ℕ) (t : Tables) (w : ℕ) (q : Heard-good n hs w
 pub hear-right :
     (n : ℕ) (hs : List ℕ) (t : Tables) (w : List ℕ) (r : Value) (v : Tables) (x : List ℕ) → Hear-contract n hs t w r v x →
     hear-refusal n (lengths-of t) hs (length w) (sound n t) ≡ 0 → Hear-right n hs t v r x
-unfolding Hear-contract
 hear-right n hs t w r v x c z =
-    accepted-right n hs t (length w) (hear-zero n hs (length w) t z) r v x (by-zero _ (Hear-accepted n hs t r v x) (λ q. Hear-refused q t w r v x) z c)
+    accepted-right n hs t (length w) (hear-zero n hs (length w) t z) r v x (by-zero _ (Hear-accepted n hs t r v x) (λ q. Hear-refused q t w r v x) z (hear-fields n hs t w r v x .0 c))
 
 -- ---- a heard table that marks the links
 

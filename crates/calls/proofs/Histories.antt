@@ -20,7 +20,8 @@ use Rattle.calls.specs.Questions.{Lengths, lengths-of}
 use Rattle.calls.specs.Switches.{Switch, pairs-after, tables-after}
 use Rattle.calls.specs.Book.{Beginning, from-clearing, from-image, Marking, no-mark, sets, removes, returns, Outcome, Given, given, Answer, outcome, booked, first-pairs, pairs-of}
 use Rattle.calls.specs.Book.{book-after, beginning-pairs, radios, beginning-tables, History, fresh, history-by, image-at, Marked, Past, past, unmarked, recalled, marked-by, past-by, past-after}
-use Rattle.calls.specs.Runs.{Event, event, Run, ended, next, givens}
+use Rattle.calls.specs.Runs.{Event, event, givens}
+use Rattle.calls.proofs.Runs.{Run, ended, next}
 use Rattle.calls.specs.Demand.{By-history, Call-kept}
 use Rattle.calls.proofs.Holds.{Holds, read-back, pairs-after-append, tables-after-append}
 use Rattle.calls.proofs.Steps.{Stepped, step}

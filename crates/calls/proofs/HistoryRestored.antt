@@ -21,10 +21,12 @@ use Rattle.mesh.proofs.Images.Sites.{written-read}
 use Rattle.calls.specs.Questions.{Lengths, lengths-of}
 use Rattle.calls.specs.Marks.{store-length, set-refusal, named-refusal, mark-image}
 use Rattle.calls.specs.Switches.{pairs-after, tables-after}
-use Rattle.calls.specs.Book.{from-image, Marking, no-mark, sets, removes, returns, Outcome, outcome-with, unless-refused, outcome, setting, returning, Answer, plain}
+use Rattle.calls.specs.Book.{Call, from-image, Marking, no-mark, sets, removes, returns, Outcome, outcome-with, unless-refused, outcome, setting, returning, Answer, plain}
 use Rattle.calls.specs.Book.{Given, given, booked, first-pairs, pairs-of, book-after, radios, beginning-tables, History, fresh, history-by, image-at, Marked, Past, past}
 use Rattle.calls.specs.Book.{unmarked, recalled, marked-by, past-by, past-after, leaves, all-leave, history}
-use Rattle.calls.specs.Runs.{Event, event, Run, Does, givens}
+use Rattle.calls.specs.MarkOutcomes.{set-outcome, return-outcome}
+use Rattle.calls.specs.Runs.{done, Event, event, events, after, givens}
+use Rattle.calls.proofs.Runs.{Run, Does, run, events-append}
 use Rattle.calls.specs.Demand.{Start, beginning}
 use Rattle.calls.proofs.Holds.{Holds, same-n, read-back}
 use Rattle.calls.proofs.MarkCalls.{named-zero, mark-is-image}
@@ -204,3 +206,29 @@ history-restored n ps t₀ t u v s before between m j x bs ds r₁ d₁ r₂ d�
     ap (λ (o : Past). o .history)
     (ap (λ (cs : List Given). past-after cs ps p₀) (givens-append before rest) ∙ past-append (givens before) (givens rest) ps p₀)
     ∙ restored n (book-after (givens before) ps) (past-after (givens before) ps p₀) t (past-kept n ps p₀ (start-past s) r₁) m x bs d₁ between u v j ds r₂ d₂ free still
+
+-- ---- the same of lists of calls
+
+marked-events :
+    (between : List Call) (t : Tables) (m j : ℕ) (x bs ds : List ℕ) → let u = after between t in
+    set-outcome m x t bs .0 ≡ 0 → return-outcome j x ds u .0 ≡ 0 →
+    events (setting m x bs ∷ (between ++ (returning j x ds ∷ []))) t
+    ≡ event (setting m x bs) t (plain 0 ∷ []) t ∷ (events between t ++ (event (returning j x ds) u (plain 0 ∷ []) (return-outcome j x ds u .1) ∷ []))
+unfolding events done
+marked-events between t m j x bs ds z y = rw (z, events-append between (returning j x ds ∷ []) t, y)
+
+pub restored-list :
+    (n : ℕ) (ps : List Link) (t₀ : Tables) (s : Start n ps t₀) (before between : List Call) (m j : ℕ) (x bs ds : List ℕ) →
+    let t = after before t₀ in let u = after between t in set-outcome m x t bs .0 ≡ 0 → return-outcome j x ds u .0 ≡ 0 →
+    all-leave x (givens (events between t)) (book-after (givens (events before t₀)) ps) ≡ true →
+    mark-image j x ds ≡ image-of (graph-in n (t .links)) (t .order) →
+    history (givens (events (before ++ (setting m x bs ∷ (between ++ (returning j x ds ∷ [])))) t₀)) ps (beginning s)
+    ≡ history (givens (events before t₀)) ps (beginning s)
+unfolding Does done
+restored-list n ps t₀ s before between m j x bs ds z y free still =
+    let t = after before t₀ in
+    let u = after between t in
+    ap (λ (es : List Event). history (givens es) ps (beginning s))
+    (events-append before _ t₀ ∙ ap (λ (es : List Event). events before t₀ ++ es) (marked-events between t m j x bs ds z y))
+    ∙ history-restored n ps t₀ t u (return-outcome j x ds u .1) s (events before t₀) (events between t) m j x bs ds (run before t₀) (rw z) (run between t) (rw y)
+    free still

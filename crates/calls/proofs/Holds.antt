@@ -24,8 +24,7 @@ use Rattle.mesh.proofs.Links.Laws.{link-valid, link-table}
 use Rattle.mesh.specs.Valid.{Valid, Allowed}
 use Rattle.calls.specs.Questions.{lengths-of, site-refusal, tables-refusal, read-refusal}
 use Rattle.calls.specs.Switches.{Switch, pairs-after, switched, tables-after, All-allowed}
-use Rattle.calls.specs.Contracts.Sites.{Clear-accepted}
-use Rattle.calls.specs.Contracts.Images.{Read-accepted}
+use Rattle.calls.specs.Fields.{Clear-accepted, Read-accepted}
 use Rattle.calls.specs.Book.{reported, from-clearing, from-image, beginning-tables}
 use Rattle.calls.specs.Demand.{Link-kept, Switching, ended, next}
 use Rattle.calls.proofs.ChainLaws.{Lent-good, lent-zero, lent-later, read-zero}

@@ -16,10 +16,11 @@ use Rattle.lists.proofs.Tests.{bool-cases, never}
 use Rattle.mesh.proofs.Images.Tables.{is-image-tables}
 use Rattle.mesh.proofs.Images.OtherSize.{other-size-iff, is-image-not-other}
 use Rattle.calls.specs.Questions.{ask, lengths-of, size-good, site-lengths, lent-refusal, blocks-refusal, image-refusal, read-refusal}
-use Rattle.calls.specs.Contracts.Images.{Read-accepted, Read-contract}
-use Rattle.calls.specs.Contracts.Forms.{Tables-refused}
+use Rattle.calls.specs.Fields.{Read-accepted, Tables-refused}
+use Rattle.calls.specs.Contracts.{Read-contract}
 use Rattle.calls.specs.Results.{Image-answered}
 use Rattle.calls.proofs.QuestionLaws.{size-good-true}
+use Rattle.calls.proofs.FieldLaws.{read-fields}
 use Rattle.calls.proofs.ContractLaws.{by-cases}
 
 module _ (n : ℕ) (bs : List ℕ) (one : size-good n ≡ true) where
@@ -64,8 +65,7 @@ module _ (n : ℕ) (bs : List ℕ) (one : size-good n ≡ true) where
 
 -- the number that reading answers
 read-number : (n : ℕ) (bs : List ℕ) (t : Tables) (r : ℕ) (v : Tables) → Read-contract n bs t r v → r ≡ read-refusal n (lengths-of t) bs
-unfolding Read-contract
-read-number n bs t r v d = go (by-cases R (Read-accepted n bs r v) (λ q. Tables-refused q r t v) d)
+read-number n bs t r v d = go (by-cases R (Read-accepted n bs r v) (λ q. Tables-refused q r t v) (read-fields n bs t r v .0 d))
   where
     R : ℕ
     R = read-refusal n (lengths-of t) bs

@@ -9,13 +9,12 @@
 -- the worked sheets do, `LiftOutcome` the question for one link that lifts a radio, `ScriptLaws` and `Rebuilt` the script that rebuilds a site, the others for demand 3.
 pub mod QuestionLaws
 pub mod ChainLaws
+pub mod FieldLaws
 pub mod ContractLaws
 pub mod RecordLaws
 pub mod SheetLaws
-pub mod Outcomes
 pub mod Refusals
 pub mod MarkCalls
-pub mod MarkOutcomes
 pub mod LiftOutcome
 pub mod LinkKept
 pub mod Holds
@@ -26,11 +25,11 @@ pub mod HearingLaws
 pub mod HeardCalls
 pub mod Batches
 pub mod BatchCases
+pub mod Runs
 pub mod Steps
 pub mod Histories
 pub mod WholeList
 pub mod HistoryRestored
-pub mod Total
 pub mod Exactly
 pub mod Proposals
 pub mod FormerDemand

@@ -1,6 +1,4 @@
--- The question for one link that lifts a radio: its contract has exactly one outcome, what a refusal gives, and how the contract is met.
---   lift-decided, lift-inhabited   two answers that meet the contract are equal, and the one worked out meets it
---   lift-keeps                     a refusal gives its number and zeros
+-- The question for one link that lifts a radio: how its contract is met.
 --   lift-zero, lift-twenty         when the chain gives 0, and when 20
 --   lift-refused, lift-unanswered, lift-answered   refused by 1 to 4; by 20; the first pair
 use mathlib.Core.Path.{_≡_, refl, sym, ap, _∙_}
@@ -14,32 +12,13 @@ use Rattle.mesh.specs.Sound.{sound}
 use Rattle.calls.specs.Questions.{Lengths, lengths-of, ask, is-radio, size-good, site-lengths, lent-refusal, site-refusal, radio-refusal}
 use Rattle.calls.specs.Lift.{lifting, first-pair, is-lifted, lift-refusal}
 use Rattle.calls.specs.LiftOutcome.{pair, lift-outcome}
-use Rattle.calls.specs.Contracts.Lift.{Pair-accepted, Pair-refused, Lift-contract}
+use Rattle.calls.specs.Fields.{Pair-accepted, Pair-refused}
+use Rattle.calls.specs.Contracts.{Lift-contract}
 use Rattle.calls.specs.declared.Pair.{Pair}
 use Rattle.calls.proofs.QuestionLaws.{ask-zero, ask-yes, ask-no, is-radio-true}
 use Rattle.calls.proofs.ContractLaws.{by-accepted, by-refused}
 use Rattle.calls.proofs.ChainLaws.{Site-good, site-zero, site-yes}
-use Rattle.calls.proofs.Outcomes.{Decides, by-decides, by-meets}
-use Rattle.calls.proofs.Refusals.{by-refusal}
-
--- ---- one outcome
-
-answer-ext : (r s : Pair) → r .number ≡ s .number → r .low ≡ s .low → r .high ≡ s .high → r ≡ s
-answer-ext r s p q t = rw (← p, ← q, ← t)
-
-pub lift-decided : (n v : ℕ) (t : Tables) → Decides (Lift-contract n v t)
-unfolding Lift-contract
-lift-decided n v t =
-    by-decides _ (Pair-accepted _) Pair-refused (λ o s p q. answer-ext o s (cc) (cc) (cc)) (λ y o s p q. answer-ext o s (cc) (cc) (cc))
-
-pub lift-inhabited : (n v : ℕ) (t : Tables) → Lift-contract n v t (lift-outcome n v t)
-unfolding Lift-contract lift-outcome
-lift-inhabited n v t =
-    by-meets _ (Pair-accepted _) Pair-refused _ _ (record { number = refl; low = refl; high = refl }) (λ q. record { number = refl; low = refl; high = refl })
-
-pub lift-keeps : (n v : ℕ) (t : Tables) (r : Pair) → Lift-contract n v t r → (r .number ≡ 0 → ⊥) → Pair-refused (r .number) r
-unfolding Lift-contract
-lift-keeps n v t r = by-refusal _ (r .number) (Pair-accepted _ r) (λ q. Pair-refused q r) (λ d. d .number) (λ q d. d .number)
+use Rattle.calls.proofs.FieldLaws.{lift-fields}
 
 -- ---- the chain
 
@@ -95,24 +74,25 @@ module _ (n v : ℕ) (t : Tables) where
   g = graph-in n (t .links)
 
   pub lift-refused : (q : ℕ) → q ≡ radio-refusal n v (lengths-of t) (sound n t) → (q ≡ 0 → ⊥) → Lift-contract n v t (pair q 0 0)
-  unfolding Lift-contract
   lift-refused q e h =
       let same = lift-stops n v (lengths-of t) (sound n t) g (λ z. h (e ∙ z)) in
-      by-refused _ (Pair-accepted _ (pair q 0 0)) (λ p. Pair-refused p (pair q 0 0)) (λ z. h (e ∙ (sym same ∙ z)))
-      (record { number = e ∙ sym same; low = refl; high = refl })
+      lift-fields n v t (pair q 0 0) .1
+      (by-refused _ (Pair-accepted _ (pair q 0 0)) (λ p. Pair-refused p (pair q 0 0)) (λ z. h (e ∙ (sym same ∙ z)))
+      (record { number = e ∙ sym same; low = refl; high = refl }))
 
   module _ (e : radio-refusal n v (lengths-of t) (sound n t) ≡ 0) where
     pub lift-unanswered : lifting g v ≡ [] → Lift-contract n v t (pair 20 0 0)
-    unfolding Lift-contract is-lifted
+    unfolding is-lifted
     lift-unanswered none =
         let no-pair : is-lifted (lifting g v) ≡ false = ap is-lifted none in
         let last = lift-asks n v (lengths-of t) (sound n t) g e ∙ ask-no 20 (is-lifted (lifting g v)) 0 no-pair in
-        by-refused _ (Pair-accepted _ (pair 20 0 0)) (λ p. Pair-refused p (pair 20 0 0)) (λ z. omega (arith, sym last ∙ z))
-        (record { number = sym last; low = refl; high = refl })
+        lift-fields n v t (pair 20 0 0) .1
+        (by-refused _ (Pair-accepted _ (pair 20 0 0)) (λ p. Pair-refused p (pair 20 0 0)) (λ z. omega (arith, sym last ∙ z))
+        (record { number = sym last; low = refl; high = refl }))
 
     pub lift-answered : (a b : ℕ) → (is-lifted (lifting g v) ≡ true) × (first-pair (lifting g v) ≡ link-of a b) → Lift-contract n v t (pair 0 a b)
-    unfolding Lift-contract
     lift-answered a b (some, first) =
-        by-accepted _ (λ p. Pair-refused p (pair 0 a b))
+        lift-fields n v t (pair 0 a b) .1
+        (by-accepted _ (λ p. Pair-refused p (pair 0 a b))
         (lift-asks n v (lengths-of t) (sound n t) g e ∙ ask-yes 20 (is-lifted (lifting g v)) 0 some)
-        (record { number = refl; low = ap (λ (l : Link). l .low) (sym first); high = ap (λ (l : Link). l .high) (sym first) })
+        (record { number = refl; low = ap (λ (l : Link). l .low) (sym first); high = ap (λ (l : Link). l .high) (sym first) }))

@@ -31,15 +31,15 @@ use Rattle.mesh.proofs.Images.Tables.{is-image-sound, tables-read-written}
 use Rattle.mesh.proofs.Marks.Lists.{rising-with, has-mark-with-same, found-with-same, found-with-other, has-mark-with-other, length-with, rising-without, has-mark-without-same, found-without-other, has-mark-without-other, length-without, found-mark}
 use Rattle.mesh.proofs.Marks.Rules.{store-good-iff}
 use Rattle.mesh.proofs.Marks.Laws.{Marks, marks-store-of, length-store-of, is-store-of, Store-marks, store-marks, Place-mark, place-mark, mark-place}
-use Rattle.calls.specs.Questions.{ask, By-number, Lengths, lengths-of, read-refusal}
-use Rattle.calls.specs.Contracts.Forms.{Tables-refused}
-use Rattle.calls.specs.Contracts.Images.{Read-accepted, Read-contract}
+use Rattle.calls.specs.Questions.{ask, Lengths, lengths-of, read-refusal}
+use Rattle.calls.specs.Fields.{By-number, Tables-refused, Read-accepted, Store-accepted, Store-refused}
+use Rattle.calls.specs.Contracts.{Read-contract, Set-contract, Remove-contract, Return-contract}
 use Rattle.calls.specs.Results.{Read-right}
 use Rattle.calls.specs.MarkResults.{Store-right, Set-right, Removed-right, Same-mark}
 use Rattle.calls.specs.Marks.{store-length, marks-good, is-marked, has-place, mark-refusal, set-refusal, named-refusal, set-store, removed-store, mark-image}
-use Rattle.calls.specs.Contracts.Marks.{Store-accepted, Store-refused, Set-contract, Remove-contract, Return-contract}
 use Rattle.calls.proofs.QuestionLaws.{ask-yes, ask-zero, ask-later}
 use Rattle.calls.proofs.ChainLaws.{Site-good, site-zero, Lent-good, Blocks-good, read-yes}
+use Rattle.calls.proofs.FieldLaws.{set-fields, remove-fields, return-fields, read-fields}
 use Rattle.calls.proofs.ContractLaws.{by-accepted}
 use Rattle.calls.proofs.Accepted.{read-right}
 use Rattle.calls.proofs.RecordLaws.{tables-ext}
@@ -110,9 +110,9 @@ set-marks n x image ps m k name room =
     go (inr h) l f = omega (arith, ltb-true (length ps) places h)
 
 pub set-right : (n : ℕ) (x : List ℕ) (t : Tables) (bs cs : List ℕ) → Set-contract n x t bs 0 cs → Set-right n x t bs cs
-unfolding Set-contract set-store has-place is-marked mark-image
+unfolding set-store has-place is-marked mark-image
 set-right n x t bs cs d =
-    let a = accepted-zero (set-refusal n (lengths-of t) (sound n t) x bs) (Store-accepted (set-store n x t bs) 0 cs) (λ q. Store-refused q bs 0 cs) (λ q e. omega (arith, e .number)) d in
+    let a = accepted-zero (set-refusal n (lengths-of t) (sound n t) x bs) (Store-accepted (set-store n x t bs) 0 cs) (λ q. Store-refused q bs 0 cs) (λ q e. omega (arith, e .number)) (set-fields n x t bs 0 cs .0 d) in
     let q = set-zero n (lengths-of t) (sound n t) x bs (a .0) in
     let image = image-of (graph-in n (t .links)) (t .order) in
     let small = q .0 .site .lent .most in
@@ -132,9 +132,9 @@ set-right n x t bs cs d =
 -- ---- removing
 
 pub removed-right : (n : ℕ) (x : List ℕ) (t : Tables) (bs cs : List ℕ) → Remove-contract n x t bs 0 cs → Removed-right n x bs cs
-unfolding Remove-contract removed-store is-marked
+unfolding removed-store is-marked
 removed-right n x t bs cs d =
-    let a = accepted-zero (named-refusal n (lengths-of t) (sound n t) x bs) (Store-accepted (removed-store x bs) 0 cs) (λ q. Store-refused q bs 0 cs) (λ q e. omega (arith, e .number)) d in
+    let a = accepted-zero (named-refusal n (lengths-of t) (sound n t) x bs) (Store-accepted (removed-store x bs) 0 cs) (λ q. Store-refused q bs 0 cs) (λ q e. omega (arith, e .number)) (remove-fields n x t bs 0 cs .0 d) in
     let q = named-zero n (lengths-of t) (sound n t) x bs (a .0) in
     let ps = marks-in bs in
     let m = q .0 .store .marks in
@@ -155,8 +155,8 @@ same-mark : (y bs cs : List ℕ) → cs ≡ bs → Same-mark y bs cs
 same-mark y bs cs e = record { there = ap (is-marked y) e; place = ap (λ (o : List ℕ). found y (marks-in o)) e }
 
 pub set-others : (n : ℕ) (x : List ℕ) (t : Tables) (bs : List ℕ) (r : ℕ) (cs y : List ℕ) → Set-contract n x t bs r cs → same x y ≡ false → Same-mark y bs cs
-unfolding Set-contract By-number set-store is-marked has-place
-set-others n x t bs r cs y d h = go (set-refusal n (lengths-of t) (sound n t) x bs) refl d
+unfolding By-number set-store is-marked has-place
+set-others n x t bs r cs y d h = go (set-refusal n (lengths-of t) (sound n t) x bs) refl (set-fields n x t bs r cs .0 d)
   where
     go : (R : ℕ) → set-refusal n (lengths-of t) (sound n t) x bs ≡ R → By-number R (Store-accepted (set-store n x t bs) r cs) (λ q. Store-refused q bs r cs) → Same-mark y bs cs
     go zero e a =
@@ -172,8 +172,8 @@ set-others n x t bs r cs y d h = go (set-refusal n (lengths-of t) (sound n t) x 
     go (suc z) e a = same-mark y bs cs (a .store)
 
 pub removed-others : (n : ℕ) (x : List ℕ) (t : Tables) (bs : List ℕ) (r : ℕ) (cs y : List ℕ) → Remove-contract n x t bs r cs → same x y ≡ false → Same-mark y bs cs
-unfolding Remove-contract By-number removed-store is-marked
-removed-others n x t bs r cs y d h = go (named-refusal n (lengths-of t) (sound n t) x bs) refl d
+unfolding By-number removed-store is-marked
+removed-others n x t bs r cs y d h = go (named-refusal n (lengths-of t) (sound n t) x bs) refl (remove-fields n x t bs r cs .0 d)
   where
     go : (R : ℕ) → named-refusal n (lengths-of t) (sound n t) x bs ≡ R → By-number R (Store-accepted (removed-store x bs) r cs) (λ q. Store-refused q bs r cs) → Same-mark y bs cs
     go zero e a =
@@ -214,9 +214,8 @@ mark-is-image n x bs m h =
 pub return-accepted :
     (n : ℕ) (x bs : List ℕ) (t v : Tables) → Return-contract n x bs t 0 v →
     (named-refusal n (lengths-of t) (sound n t) x bs ≡ 0) × Read-accepted n (mark-image n x bs) 0 v
-unfolding Return-contract
 return-accepted n x bs t v d =
-    accepted-zero (named-refusal n (lengths-of t) (sound n t) x bs) (Read-accepted n (mark-image n x bs) 0 v) (λ q. Tables-refused q 0 t v) (λ q e. omega (arith, e .number)) d
+    accepted-zero (named-refusal n (lengths-of t) (sound n t) x bs) (Read-accepted n (mark-image n x bs) 0 v) (λ q. Tables-refused q 0 t v) (λ q e. omega (arith, e .number)) (return-fields n x bs t 0 v .0 d)
 
 -- reading takes it
 pub mark-read :
@@ -228,11 +227,11 @@ mark-read n l sound x bs a h =
 
 -- accepted: what reading the mark's image leaves
 pub return-right : (n : ℕ) (x bs : List ℕ) (t v : Tables) → Return-contract n x bs t 0 v → Read-contract n (mark-image n x bs) t 0 v × Read-right n (mark-image n x bs) v
-unfolding Read-contract
 return-right n x bs t v d =
     let a = return-accepted n x bs t v d in
     let q = named-zero n (lengths-of t) (sound n t) x bs (a .0) in
-    let c = by-accepted (read-refusal n (lengths-of t) (mark-image n x bs)) (λ q. Tables-refused q 0 t v) (mark-read n (lengths-of t) (sound n t) x bs (q .0) (q .1)) (a .1) in
+    let c = read-fields n (mark-image n x bs) t 0 v .1
+    (by-accepted (read-refusal n (lengths-of t) (mark-image n x bs)) (λ q. Tables-refused q 0 t v) (mark-read n (lengths-of t) (sound n t) x bs (q .0) (q .1)) (a .1)) in
     (c, read-right n (mark-image n x bs) t 0 v c refl)
 
 -- set with the tables t, later the store has the same place under that name: coming back restores t. That their links are bytes is all that
@@ -240,10 +239,10 @@ return-right n x bs t v d =
 pub return-restores :
     (n : ℕ) (x : List ℕ) (t u v : Tables) (bs cs ds : List ℕ) → Entries-below 256 (t .links) → Set-contract n x t bs 0 cs → Same-mark x cs ds →
     Return-contract n x ds u 0 v → v ≡ t
-unfolding mark-image tables-of Set-contract lengths-of
+unfolding mark-image tables-of lengths-of
 return-restores n x t u v bs cs ds bytes d s c =
     let k = set-right n x t bs cs d in
-    let a = accepted-zero (set-refusal n (lengths-of t) (sound n t) x bs) (Store-accepted (set-store n x t bs) 0 cs) (λ q. Store-refused q bs 0 cs) (λ q e. omega (arith, e .number)) d in
+    let a = accepted-zero (set-refusal n (lengths-of t) (sound n t) x bs) (Store-accepted (set-store n x t bs) 0 cs) (λ q. Store-refused q bs 0 cs) (λ q e. omega (arith, e .number)) (set-fields n x t bs 0 cs .0 d) in
     let site = set-zero n (lengths-of t) (sound n t) x bs (a .0) .0 .site in
     let l = site .lent .lengths in
     let z : Tables-of-size n t = record { links-length = l .links; numbers-length = l .numbers; order-length = l .order; links-bytes = bytes } in

@@ -20,12 +20,12 @@ use Rattle.mesh.proofs.Images.Tables.{valid-graph-in, is-image-within-sound, is
 use Rattle.mesh.proofs.Images.OtherSize.{other-size-iff, is-image-not-other}
 use Rattle.calls.specs.Questions.{ask, Lengths, lengths-of, size-good, are-radios, has-room, lent-refusal, site-refusal, ends-refusal}
 use Rattle.calls.specs.Questions.{link-refusal-within, blocks-refusal, source-refusal, image-refusal, read-refusal}
-use Rattle.calls.specs.Outcomes.{by-number, read-outcome, link-outcome-within, link-outcome, check-outcome, number-outcome, neighbours-outcome}
+use Rattle.calls.specs.Outcomes.{by-number, Linked, read-outcome, link-outcome-within, link-outcome, check-outcome, number-outcome, neighbours-outcome}
 use Rattle.calls.specs.Outcomes.{linked-outcome, first-outcome, core-outcome, backbone-outcome, write-outcome, tree-outcome, later-outcome, sheet-outcome, staircase-outcome}
 use Rattle.calls.specs.Outcomes.{script-length-outcome, script-outcome}
 use Rattle.calls.specs.Older.{Was-sound, former-read-refusal, former-read-outcome, Older}
 use Rattle.calls.specs.declared.Reply.{Reply}
-use Rattle.calls.proofs.Outcomes.{number-by}
+use Rattle.calls.proofs.FieldLaws.{number-by}
 use Rattle.calls.proofs.QuestionLaws.{size-good-true, are-radios-true, has-room-true, true-has-room}
 
 -- ---- a chain whose last question gets another answer
@@ -91,17 +91,17 @@ module _ (up : Bool) (n a b : ℕ) (t : Tables) (w : List ℕ) (were : Was-sound
       true-has-room max-neighbours up g a b (λ z. (omega (arith, v .degrees a (ends .0)), omega (arith, v .degrees b (ends .1)))) in
       rw (one .0, two .0, four .0, five .0, six .0, room) all-yes
 
-  number-then : link-outcome-within former-neighbours up n a b t w .0 .number ≡ asked former-neighbours
-  number-then = rw were (number-by (λ (o : Reply × Tables × List ℕ). o .0 .number) (asked former-neighbours) _ _ refl (λ q. refl))
+  number-then : link-outcome-within former-neighbours up n a b t w .reply .number ≡ asked former-neighbours
+  number-then = rw were (number-by (λ (o : Linked). o .reply .number) (asked former-neighbours) _ _ refl (λ q. refl))
 
-  number-now : link-outcome up n a b t w .0 .number ≡ asked max-neighbours
+  number-now : link-outcome up n a b t w .reply .number ≡ asked max-neighbours
   unfolding link-outcome
-  number-now = rw (now-sound n t were) (number-by (λ (o : Reply × Tables × List ℕ). o .0 .number) (asked max-neighbours) _ _ refl (λ q. refl))
+  number-now = rw (now-sound n t were) (number-by (λ (o : Linked). o .reply .number) (asked max-neighbours) _ _ refl (λ q. refl))
 
   pub older-call :
-      ((link-outcome-within former-neighbours up n a b t w .0 .number ≡ 7 → ⊥) →
+      ((link-outcome-within former-neighbours up n a b t w .reply .number ≡ 7 → ⊥) →
       link-outcome up n a b t w ≡ link-outcome-within former-neighbours up n a b t w)
-      × (link-outcome-within former-neighbours up n a b t w .0 .number ≡ 7 → link-outcome up n a b t w .0 .number ≡ 0)
+      × (link-outcome-within former-neighbours up n a b t w .reply .number ≡ 7 → link-outcome up n a b t w .reply .number ≡ 0)
   unfolding link-outcome
   older-call = (
     λ h. rw (were, now-sound n t were, same-unless-seven (λ e. h (number-then ∙ e))),

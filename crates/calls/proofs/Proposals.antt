@@ -25,17 +25,18 @@ use Rattle.mesh.specs.Sound.{sound}
 use Rattle.lists.proofs.All.{same-refl, same-eq}
 use Rattle.lists.proofs.Overwrite.{take-overwrite}
 use Rattle.lists.proofs.Tests.{bool-cases, never, and-left, and-right, and-both}
-use Rattle.calls.specs.Questions.{By-number, ask, lengths-of, answer-length, site-lengths, size-good, same-step, is-proposal, lent-refusal, site-refusal}
+use Rattle.calls.specs.Questions.{ask, lengths-of, answer-length, site-lengths, size-good, same-step, is-proposal, lent-refusal, site-refusal}
+use Rattle.calls.specs.Fields.{By-number, Link-accepted, Link-refused, Ask-accepted, Ask-refused, Commit-accepted, Commit-refused}
 use Rattle.calls.specs.Questions.{ends-then, ends-refusal, link-refusal, commit-refusal}
 use Rattle.calls.specs.Switches.{switched}
-use Rattle.calls.specs.Contracts.Links.{Link-accepted, Link-refused, Link-contract}
-use Rattle.calls.specs.Contracts.Proposals.{Ask-accepted, Ask-refused, Ask-contract, Commit-accepted, Commit-refused, Commit-contract}
+use Rattle.calls.specs.Outcomes.{linked-with}
+use Rattle.calls.specs.Contracts.{Link-contract, Ask-contract, Commit-contract}
 use Rattle.calls.specs.declared.Reply.{Reply}
 use Rattle.calls.proofs.QuestionLaws.{ask-yes, ask-no, ask-zero, ask-later, size-good-true, true-answer-length}
 use Rattle.calls.proofs.ChainLaws.{site-zero, site-yes, ends-then-zero, ends-then-yes, ends-then-no}
 use Rattle.calls.proofs.ContractLaws.{by-cases, by-accepted, by-refused}
 use Rattle.calls.proofs.RecordLaws.{reply-ext}
-use Rattle.calls.proofs.Outcomes.{link-decided}
+use Rattle.calls.proofs.FieldLaws.{link-fields, ask-fields, commit-fields}
 
 -- ---- question 16
 
@@ -126,8 +127,7 @@ module _ (up : Bool) (n a b : ℕ) (t : Tables) where
   committed-cases :
       (z : ℤ) (xs : List ℕ) (r : Reply) (v : Tables) → Commit-contract up n a b z xs t r v →
       ((committing z xs ≡ 0) × Commit-accepted up n a b t r v) ⊎ ((committing z xs ≡ 0 → ⊥) × Commit-refused (committing z xs) t r v)
-  unfolding Commit-contract
-  committed-cases z xs r v d = by-cases _ (Commit-accepted up n a b t r v) (λ q. Commit-refused q t r v) d
+  committed-cases z xs r v d = by-cases _ (Commit-accepted up n a b t r v) (λ q. Commit-refused q t r v) (commit-fields up n a b z xs t r v .0 d)
 
   -- the number of a committing is the one that its questions give
   committed-number : (z : ℤ) (xs : List ℕ) (r : Reply) (v : Tables) → Commit-contract up n a b z xs t r v → r .number ≡ committing z xs
@@ -144,8 +144,7 @@ module _ (up : Bool) (n a b : ℕ) (t : Tables) where
     R = link-refusal up n a b (lengths-of t) (length w) (sound n t) g
 
     asked-cases : ((R ≡ 0) × Ask-accepted up a b g w q x) ⊎ ((R ≡ 0 → ⊥) × Ask-refused R w q x)
-    unfolding Ask-contract
-    asked-cases = by-cases R (Ask-accepted up a b g w q x) (λ p. Ask-refused p w q x) asked
+    asked-cases = by-cases R (Ask-accepted up a b g w q x) (λ p. Ask-refused p w q x) (ask-fields up n a b t w q x .0 asked)
 
     asked-number : q .number ≡ R
     asked-number = go asked-cases
@@ -180,7 +179,7 @@ module _ (up : Bool) (n a b : ℕ) (t : Tables) where
     pub two-steps :
         q .number ≡ 0 → (r : Reply) (v : Tables) → Commit-contract up n a b (q .step) (take (q .count) x) t r v →
         (r ≡ q) × Link-contract up n a b t w r v x
-    unfolding Link-contract switched
+    unfolding switched
     two-steps z r v d = go (committed-cases (q .step) (take (q .count) x) r v d)
       where
         p : Ask-accepted up a b g w q x
@@ -191,10 +190,10 @@ module _ (up : Bool) (n a b : ℕ) (t : Tables) where
             commit-asked (q .step) (take (q .count) x) (asking-zero z)
             ∙ ask-yes 16 _ 0 (proposed z (q .step) (take (q .count) x) .1 (refl, refl))
 
-        both : Commit-accepted up n a b t r v → (r ≡ q) × By-number R (Link-accepted up a b g t w r v x) (λ j. Link-refused j t w r v x)
+        both : Commit-accepted up n a b t r v → (r ≡ q) × Link-contract up n a b t w r v x
         both c = (
           reply-ext r q (c .number ∙ sym (p .number)) (c .step ∙ sym (p .step)) (c .count ∙ sym (p .count)),
-          by-accepted R (λ j. Link-refused j t w r v x) (sym asked-number ∙ z) (
+          link-fields up n a b t w r v x .1 (by-accepted R (λ j. Link-refused j t w r v x) (sym asked-number ∙ z) (
               record {
                 number = c .number;
                 step = c .step;
@@ -203,31 +202,31 @@ module _ (up : Bool) (n a b : ℕ) (t : Tables) where
                 numbers = ap (λ (o : Tables). o .numbers) (c .tables);
                 order = ap (λ (o : Tables). o .order) (c .tables);
                 answer = p .answer;
-              }),
+              })),
         )
 
         go : ((committing (q .step) (take (q .count) x) ≡ 0) × Commit-accepted up n a b t r v)
             ⊎ ((committing (q .step) (take (q .count) x) ≡ 0 → ⊥) × Commit-refused (committing (q .step) (take (q .count) x)) t r v) →
-            (r ≡ q) × By-number R (Link-accepted up a b g t w r v x) (λ j. Link-refused j t w r v x)
+            (r ≡ q) × Link-contract up n a b t w r v x
         go (inl c) = both (c .1)
         go (inr c) = absurd (c .0 yes)
 
     pub refused-step : (q .number ≡ 0 → ⊥) → Link-contract up n a b t w q t x
-    unfolding Link-contract
     refused-step h = go asked-cases
       where
         go : ((R ≡ 0) × Ask-accepted up a b g w q x) ⊎ ((R ≡ 0 → ⊥) × Ask-refused R w q x) →
-            By-number R (Link-accepted up a b g t w q t x) (λ j. Link-refused j t w q t x)
+            Link-contract up n a b t w q t x
         go (inl p) = absurd (h (p .1 .number))
         go (inr p) =
-            by-refused R (Link-accepted up a b g t w q t x) (λ j. Link-refused j t w q t x) (p .0) (
-            record { number = p .1 .number; step = p .1 .step; count = p .1 .count; links = refl; numbers = refl; order = refl; answer = p .1 .answer })
+            link-fields up n a b t w q t x .1 (by-refused R (Link-accepted up a b g t w q t x) (λ j. Link-refused j t w q t x) (p .0) (
+            record { number = p .1 .number; step = p .1 .step; count = p .1 .count; links = refl; numbers = refl; order = refl; answer = p .1 .answer }))
 
     -- s, u and y are what a single call leaves
     pub single-call :
         q .number ≡ 0 → (r s : Reply) (v u : Tables) (y : List ℕ) → Commit-contract up n a b (q .step) (take (q .count) x) t r v →
-        Link-contract up n a b t w s u y → _≡_ {A = Reply × Tables × List ℕ} (s, u, y) (r, v, x)
-    single-call z r s v u y d e = link-decided up n a b t w (s, u, y) (r, v, x) e (two-steps z r v d .1)
+        Link-contract up n a b t w s u y → linked-with s u y ≡ linked-with r v x
+    unfolding Link-contract
+    single-call z r s v u y d e = e ∙ sym (two-steps z r v d .1)
 
     -- ---- committing any proposal, where the answer table of asking is long enough
 

@@ -2,7 +2,7 @@
 use mathlib.Core.Path.{_≡_}
 use Prim.Native.Nat.{ℕ}
 use Rattle.mesh.specs.Tables.{Tables}
-use Rattle.calls.specs.Contracts.Forms.{Tables-refused}
+use Rattle.calls.specs.Fields.{Tables-refused}
 use Rattle.calls.specs.declared.Reply.{Reply}
 use Rattle.calls.specs.declared.Value.{Value}
 use Rattle.calls.specs.declared.Later.{Later}

@@ -1,193 +1,171 @@
--- Property 1 by the number that the host sees: a call whose number is not 0 has zeros beside it, and every lent table keeps its content.
--- `..-refused` of specs/Contracts/ say that of each call, here for the number in its own result.
---   by-refusal        a contract by its number, and a number that is not 0: it was refused by that number
+-- Property 1 by the number that the host sees: an outcome whose number is not 0 has zeros beside it, and everything lent is as it was.
+-- What a batch keeps is in Batches.antt.
+--   by-refusal        an outcome by the number, where that is not 0: it is the refusal by that number
 --   ..-keeps          so it is of each call
-use mathlib.Core.Path.{_≡_, sym, subst}
+use mathlib.Core.Path.{_≡_, refl, sym, ap, _∙_}
 use mathlib.Core.Bool.{Bool, true, false}
 use mathlib.Core.List.{List}
-use Prim.Native.Nat.{ℕ, zero, suc, _/_}
+use Prim.Native.Nat.{ℕ, zero, suc}
+use lib.IntN.{ℤ, pos}
 use lib.Dec.{ltb}
-use lib.IntN.{ℤ}
-use lib.ListN.{length}
-use Rattle.mesh.specs.Tables.{Tables, graph-in}
-use Rattle.mesh.specs.Image.{block-bytes}
+use Rattle.mesh.specs.Tables.{Tables}
 use Rattle.mesh.specs.declared.Node.{Node}
-use Rattle.calls.specs.Questions.{By-number}
-use Rattle.calls.specs.Contracts.Forms.{Tables-refused, Value-accepted, Value-refused, Value-by, Listing-accepted, Listing-refused, Listing-by}
-use Rattle.calls.specs.Contracts.Sites.{Clear-accepted, Clear-contract, Check-contract}
-use Rattle.calls.specs.Contracts.Links.{Link-accepted, Link-refused, Link-contract}
-use Rattle.calls.specs.Contracts.Proposals.{Ask-accepted, Ask-refused, Ask-contract, Commit-accepted, Commit-refused, Commit-contract}
-use Rattle.calls.specs.Contracts.Heard.{Hear-accepted, Hear-refused, Hear-contract}
-use Rattle.calls.specs.Contracts.Images.{Read-accepted, Read-contract, Write-contract, Block-none, Block-accepted, Block-contract}
-use Rattle.calls.specs.Contracts.Radios.{Number-contract, Neighbours-contract, Linked-contract, First-contract}
-use Rattle.calls.specs.Contracts.Wake.{Later-accepted, Later-refused, Later-contract}
-use Rattle.calls.specs.Contracts.Cores.{Core-contract, Backbone-contract}
-use Rattle.calls.specs.Contracts.Trees.{Tree-accepted, Tree-refused, Tree-contract}
-use Rattle.calls.specs.Contracts.Pages.{Sheet-contract}
-use Rattle.calls.specs.Contracts.Scripts.{Script-length-contract, Script-contract}
-use Rattle.calls.specs.Contracts.Staircase.{Staircase-contract}
+use Rattle.calls.specs.Outcomes.{by-number, Linked, linked-with, reply, value, later, clear-outcome, read-outcome, link-outcome, ask-outcome, commit-outcome, hear-outcome, value-outcome}
+use Rattle.calls.specs.Outcomes.{check-outcome, number-outcome, neighbours-outcome, linked-outcome, first-outcome, later-outcome, listing-outcome}
+use Rattle.calls.specs.Outcomes.{core-outcome, backbone-outcome, staircase-outcome, write-outcome, sheet-outcome, script-length-outcome, script-outcome, tree-outcome}
+use Rattle.calls.specs.Outcomes.{no-block, block-or-end, block-outcome}
+use Rattle.calls.specs.MarkOutcomes.{store-outcome, set-outcome, remove-outcome, return-outcome}
+use Rattle.calls.specs.LiftOutcome.{pair, lift-outcome}
 use Rattle.calls.specs.declared.Reply.{Reply}
 use Rattle.calls.specs.declared.Value.{Value}
 use Rattle.calls.specs.declared.Later.{Later}
 use Rattle.calls.specs.declared.Block.{Block}
+use Rattle.calls.specs.declared.Pair.{Pair}
 
--- ---- by the refusal number
+-- ---- by the number
 
 pub by-refusal :
-    (R number : ℕ) (A : Type 0) (B : ℕ → Type 0) → (A → number ≡ 0) → ((q : ℕ) → B q → number ≡ q) → By-number R A B →
-    (number ≡ 0 → ⊥) → B number
-unfolding By-number
-by-refusal zero r A B accepted refused d h = absurd (h (accepted d))
-by-refusal (suc q) r A B accepted refused d h = subst B (sym (refused (suc q) d)) d
+    {A : Type 0} (number : A → ℕ) (R : ℕ) (a : A) (r : ℕ → A) → number a ≡ 0 → ((q : ℕ) → number (r q) ≡ q) →
+    (number (by-number R a r) ≡ 0 → ⊥) → by-number R a r ≡ r (number (by-number R a r))
+unfolding by-number
+by-refusal number zero a r e f h = absurd (h e)
+by-refusal number (suc q) a r e f h = ap r (sym (f (suc q)))
 
-value-by : (R x : ℕ) (r : Value) → Value-by R x r → (r .number ≡ 0 → ⊥) → Value-refused (r .number) r
-value-by R x r = by-refusal R (r .number) (Value-accepted x r) (λ q. Value-refused q r) (λ d. d .number) (λ q d. d .number)
+pub value-keeps : (R x : ℕ) → let o = value-outcome R x in (o .number ≡ 0 → ⊥) → o ≡ value (o .number) 0
+unfolding value-outcome
+value-keeps R x = by-refusal (λ (o : Value). o .number) R _ _ refl (λ q. refl)
 
-listing-by :
-    (R x : ℕ) (new old : List ℕ) (r : Value) (now : List ℕ) → Listing-by R x new old r now → (r .number ≡ 0 → ⊥) →
-    Listing-refused (r .number) old r now
-listing-by R x new old r now =
-    by-refusal R (r .number) (Listing-accepted x new old r now) (λ q. Listing-refused q old r now) (λ d. d .number) (λ q d. d .number)
+pub listing-keeps : (R x : ℕ) (new old : List ℕ) → let o = listing-outcome R x new old in (o .0 .number ≡ 0 → ⊥) → o ≡ (value (o .0 .number) 0, old)
+unfolding listing-outcome
+listing-keeps R x new old = by-refusal (λ (o : Value × List ℕ). o .0 .number) R _ _ refl (λ q. refl)
 
-accepted-number : (there : Bool) (i : ℕ) (r : Block) → Block-accepted there i r → r .number ≡ 0
-unfolding Block-accepted
-accepted-number true i r d = d .number
-accepted-number false i r d = d .number
+pub store-keeps : (R : ℕ) (new old : List ℕ) → let o = store-outcome R new old in (o .0 ≡ 0 → ⊥) → o ≡ (o .0, old)
+unfolding store-outcome
+store-keeps R new old = by-refusal (λ (o : ℕ × List ℕ). o .0) R _ _ refl (λ q. refl)
 
--- ---- each call
+-- ---- calls that write links, numbers and order
 
-pub clear-keeps : (n : ℕ) (t : Tables) (r : ℕ) (v : Tables) → Clear-contract n t r v → (r ≡ 0 → ⊥) → Tables-refused r r t v
-unfolding Clear-contract
-clear-keeps n t r v =
-    by-refusal _ r (Clear-accepted n r v) (λ q. Tables-refused q r t v) (λ d. d .number) (λ q d. d .number)
+pub clear-keeps : (n : ℕ) (t : Tables) → let o = clear-outcome n t in (o .0 ≡ 0 → ⊥) → o ≡ (o .0, t)
+unfolding clear-outcome
+clear-keeps n t = by-refusal (λ (o : ℕ × Tables). o .0) _ _ _ refl (λ q. refl)
 
-pub read-keeps :
-    (n : ℕ) (bs : List ℕ) (t : Tables) (r : ℕ) (v : Tables) → Read-contract n bs t r v → (r ≡ 0 → ⊥) → Tables-refused r r t v
-unfolding Read-contract
-read-keeps n bs t r v =
-    by-refusal _ r (Read-accepted n bs r v) (λ q. Tables-refused q r t v) (λ d. d .number) (λ q d. d .number)
+pub read-keeps : (n : ℕ) (bs : List ℕ) (t : Tables) → let o = read-outcome n bs t in (o .0 ≡ 0 → ⊥) → o ≡ (o .0, t)
+unfolding read-outcome
+read-keeps n bs t = by-refusal (λ (o : ℕ × Tables). o .0) _ _ _ refl (λ q. refl)
+
+pub return-keeps : (n : ℕ) (x bs : List ℕ) (t : Tables) → let o = return-outcome n x bs t in (o .0 ≡ 0 → ⊥) → o ≡ (o .0, t)
+unfolding return-outcome
+return-keeps n x bs t = by-refusal (λ (o : ℕ × Tables). o .0) _ _ _ refl (λ q. refl)
 
 pub link-keeps :
-    (up : Bool) (n a b : ℕ) (t : Tables) (w : List ℕ) (r : Reply) (v : Tables) (x : List ℕ) → Link-contract up n a b t w r v x →
-    (r .number ≡ 0 → ⊥) → Link-refused (r .number) t w r v x
-unfolding Link-contract
-link-keeps up n a b t w r v x =
-    by-refusal
-    _
-    (r .number)
-    (Link-accepted up a b (graph-in n (t .links)) t w r v x)
-    (λ q. Link-refused q t w r v x)
-    (λ d. d .number)
-    (λ q d. d .number)
-
-pub ask-keeps :
-    (up : Bool) (n a b : ℕ) (t : Tables) (w : List ℕ) (r : Reply) (x : List ℕ) → Ask-contract up n a b t w r x → (r .number ≡ 0 → ⊥) →
-    Ask-refused (r .number) w r x
-unfolding Ask-contract
-ask-keeps up n a b t w r x =
-    by-refusal _ (r .number) (Ask-accepted up a b (graph-in n (t .links)) w r x) (λ q. Ask-refused q w r x) (λ d. d .number) (λ q d. d .number)
+    (up : Bool) (n a b : ℕ) (t : Tables) (w : List ℕ) → let o = link-outcome up n a b t w in
+    (o .reply .number ≡ 0 → ⊥) → o ≡ linked-with (reply (o .reply .number) (pos 0) 0) t w
+unfolding link-outcome
+link-keeps up n a b t w = by-refusal (λ (o : Linked). o .reply .number) _ _ _ refl (λ q. refl)
 
 pub commit-keeps :
-    (up : Bool) (n a b : ℕ) (z : ℤ) (xs : List ℕ) (t : Tables) (r : Reply) (v : Tables) → Commit-contract up n a b z xs t r v →
-    (r .number ≡ 0 → ⊥) → Commit-refused (r .number) t r v
-unfolding Commit-contract
-commit-keeps up n a b z xs t r v =
-    by-refusal _ (r .number) (Commit-accepted up n a b t r v) (λ q. Commit-refused q t r v) (λ d. d .number) (λ q d. d .number)
-
-pub check-keeps : (n : ℕ) (t : Tables) (r : Value) → Check-contract n t r → (r .number ≡ 0 → ⊥) → Value-refused (r .number) r
-unfolding Check-contract
-check-keeps n t r = value-by _ _ r
-
-pub number-keeps : (n v : ℕ) (t : Tables) (r : Value) → Number-contract n v t r → (r .number ≡ 0 → ⊥) → Value-refused (r .number) r
-unfolding Number-contract
-number-keeps n v t r = value-by _ _ r
-
-pub neighbours-keeps :
-    (n v : ℕ) (t : Tables) (r : Value) → Neighbours-contract n v t r → (r .number ≡ 0 → ⊥) → Value-refused (r .number) r
-unfolding Neighbours-contract
-neighbours-keeps n v t r = value-by _ _ r
-
-pub later-keeps : (n v : ℕ) (t : Tables) (r : Later) → Later-contract n v t r → (r .number ≡ 0 → ⊥) → Later-refused (r .number) r
-unfolding Later-contract
-later-keeps n v t r = by-refusal _ (r .number) (Later-accepted _ _ r) (λ q. Later-refused q r) (λ d. d .number) (λ q d. d .number)
+    (up : Bool) (n a b : ℕ) (z : ℤ) (xs : List ℕ) (t : Tables) → let o = commit-outcome up n a b z xs t in
+    (o .0 .number ≡ 0 → ⊥) → o ≡ (reply (o .0 .number) (pos 0) 0, t)
+unfolding commit-outcome
+commit-keeps up n a b z xs t = by-refusal (λ (o : Reply × Tables). o .0 .number) _ _ _ refl (λ q. refl)
 
 pub hear-keeps :
-    (n : ℕ) (hs : List ℕ) (t : Tables) (w : List ℕ) (r : Value) (v : Tables) (x : List ℕ) → Hear-contract n hs t w r v x →
-    (r .number ≡ 0 → ⊥) → Hear-refused (r .number) t w r v x
-unfolding Hear-contract
-hear-keeps n hs t w r v x =
-    by-refusal _ (r .number) (Hear-accepted n hs t r v x) (λ q. Hear-refused q t w r v x) (λ d. d .number) (λ q d. d .number)
+    (n : ℕ) (hs : List ℕ) (t : Tables) (w : List ℕ) → let o = hear-outcome n hs t w in
+    (o .0 .number ≡ 0 → ⊥) → o ≡ (value (o .0 .number) 0, t, w)
+unfolding hear-outcome
+hear-keeps n hs t w = by-refusal (λ (o : Value × Tables × List ℕ). o .0 .number) _ _ _ refl (λ q. refl)
 
-pub linked-keeps : (n a b : ℕ) (t : Tables) (r : Value) → Linked-contract n a b t r → (r .number ≡ 0 → ⊥) → Value-refused (r .number) r
-unfolding Linked-contract
-linked-keeps n a b t r = value-by _ _ r
+-- ---- calls that only read them
 
-pub first-keeps : (n a b : ℕ) (t : Tables) (r : Value) → First-contract n a b t r → (r .number ≡ 0 → ⊥) → Value-refused (r .number) r
-unfolding First-contract
-first-keeps n a b t r = value-by _ _ r
+pub check-keeps : (n : ℕ) (t : Tables) → let o = check-outcome n t in (o .number ≡ 0 → ⊥) → o ≡ value (o .number) 0
+unfolding check-outcome
+check-keeps n t = value-keeps _ _
+
+pub number-keeps : (n v : ℕ) (t : Tables) → let o = number-outcome n v t in (o .number ≡ 0 → ⊥) → o ≡ value (o .number) 0
+unfolding number-outcome
+number-keeps n v t = value-keeps _ _
+
+pub neighbours-keeps : (n v : ℕ) (t : Tables) → let o = neighbours-outcome n v t in (o .number ≡ 0 → ⊥) → o ≡ value (o .number) 0
+unfolding neighbours-outcome
+neighbours-keeps n v t = value-keeps _ _
+
+pub linked-keeps : (n a b : ℕ) (t : Tables) → let o = linked-outcome n a b t in (o .number ≡ 0 → ⊥) → o ≡ value (o .number) 0
+unfolding linked-outcome
+linked-keeps n a b t = value-keeps _ _
+
+pub first-keeps : (n a b : ℕ) (t : Tables) → let o = first-outcome n a b t in (o .number ≡ 0 → ⊥) → o ≡ value (o .number) 0
+unfolding first-outcome
+first-keeps n a b t = value-keeps _ _
+
+pub later-keeps : (n v : ℕ) (t : Tables) → let o = later-outcome n v t in (o .number ≡ 0 → ⊥) → o ≡ later (o .number) 0 0
+unfolding later-outcome
+later-keeps n v t = by-refusal (λ (o : Later). o .number) _ _ _ refl (λ q. refl)
+
+pub lift-keeps : (n v : ℕ) (t : Tables) → let o = lift-outcome n v t in (o .number ≡ 0 → ⊥) → o ≡ pair (o .number) 0 0
+unfolding lift-outcome
+lift-keeps n v t = by-refusal (λ (o : Pair). o .number) _ _ _ refl (λ q. refl)
+
+pub ask-keeps :
+    (up : Bool) (n a b : ℕ) (t : Tables) (w : List ℕ) → let o = ask-outcome up n a b t w in
+    (o .0 .number ≡ 0 → ⊥) → o ≡ (reply (o .0 .number) (pos 0) 0, w)
+unfolding ask-outcome
+ask-keeps up n a b t w = by-refusal (λ (o : Reply × List ℕ). o .0 .number) _ _ _ refl (λ q. refl)
 
 pub core-keeps :
-    (n v k : ℕ) (t : Tables) (w : List ℕ) (r : Value) (x : List ℕ) → Core-contract n v k t w r x → (r .number ≡ 0 → ⊥) →
-    Listing-refused (r .number) w r x
-unfolding Core-contract
-core-keeps n v k t w r x = listing-by _ _ _ w r x
+    (n v k : ℕ) (t : Tables) (w : List ℕ) → let o = core-outcome n v k t w in (o .0 .number ≡ 0 → ⊥) → o ≡ (value (o .0 .number) 0, w)
+unfolding core-outcome
+core-keeps n v k t w = listing-keeps _ _ _ w
 
 pub backbone-keeps :
-    (n : ℕ) (t : Tables) (w : List ℕ) (r : Value) (x : List ℕ) → Backbone-contract n t w r x → (r .number ≡ 0 → ⊥) →
-    Listing-refused (r .number) w r x
-unfolding Backbone-contract
-backbone-keeps n t w r x = listing-by _ _ _ w r x
+    (n : ℕ) (t : Tables) (w : List ℕ) → let o = backbone-outcome n t w in (o .0 .number ≡ 0 → ⊥) → o ≡ (value (o .0 .number) 0, w)
+unfolding backbone-outcome
+backbone-keeps n t w = listing-keeps _ _ _ w
 
 pub staircase-keeps :
-    (n : ℕ) (t : Tables) (w : List ℕ) (r : Value) (x : List ℕ) → Staircase-contract n t w r x → (r .number ≡ 0 → ⊥) →
-    Listing-refused (r .number) w r x
-unfolding Staircase-contract
-staircase-keeps n t w r x = listing-by _ _ _ w r x
+    (n : ℕ) (t : Tables) (w : List ℕ) → let o = staircase-outcome n t w in (o .0 .number ≡ 0 → ⊥) → o ≡ (value (o .0 .number) 0, w)
+unfolding staircase-outcome
+staircase-keeps n t w = listing-keeps _ _ _ w
 
 pub write-keeps :
-    (n : ℕ) (t : Tables) (w : List ℕ) (r : Value) (x : List ℕ) → Write-contract n t w r x → (r .number ≡ 0 → ⊥) →
-    Listing-refused (r .number) w r x
-unfolding Write-contract
-write-keeps n t w r x = listing-by _ _ _ w r x
+    (n : ℕ) (t : Tables) (w : List ℕ) → let o = write-outcome n t w in (o .0 .number ≡ 0 → ⊥) → o ≡ (value (o .0 .number) 0, w)
+unfolding write-outcome
+write-keeps n t w = listing-keeps _ _ _ w
 
 pub sheet-keeps :
-    (n : ℕ) (t : Tables) (w : List ℕ) (r : Value) (x : List ℕ) → Sheet-contract n t w r x → (r .number ≡ 0 → ⊥) →
-    Listing-refused (r .number) w r x
-unfolding Sheet-contract
-sheet-keeps n t w r x = listing-by _ _ _ w r x
+    (n : ℕ) (t : Tables) (w : List ℕ) → let o = sheet-outcome n t w in (o .0 .number ≡ 0 → ⊥) → o ≡ (value (o .0 .number) 0, w)
+unfolding sheet-outcome
+sheet-keeps n t w = listing-keeps _ _ _ w
 
-pub script-length-keeps : (n : ℕ) (t : Tables) (r : Value) → Script-length-contract n t r → (r .number ≡ 0 → ⊥) → Value-refused (r .number) r
-unfolding Script-length-contract
-script-length-keeps n t r = value-by _ _ r
+pub script-length-keeps : (n : ℕ) (t : Tables) → let o = script-length-outcome n t in (o .number ≡ 0 → ⊥) → o ≡ value (o .number) 0
+unfolding script-length-outcome
+script-length-keeps n t = value-keeps _ _
 
 pub script-keeps :
-    (n : ℕ) (t : Tables) (w : List ℕ) (r : Value) (x : List ℕ) → Script-contract n t w r x → (r .number ≡ 0 → ⊥) →
-    Listing-refused (r .number) w r x
-unfolding Script-contract
-script-keeps n t w r x = listing-by _ _ _ w r x
+    (n : ℕ) (t : Tables) (w : List ℕ) → let o = script-outcome n t w in (o .0 .number ≡ 0 → ⊥) → o ≡ (value (o .0 .number) 0, w)
+unfolding script-outcome
+script-keeps n t w = listing-keeps _ _ _ w
 
 pub tree-keeps :
-    (n : ℕ) (t : Tables) (m : List Node) (w : List ℕ) (r : Value) (p : List Node) (x : List ℕ) → Tree-contract n t m w r p x →
-    (r .number ≡ 0 → ⊥) → Tree-refused (r .number) m w r p x
-unfolding Tree-contract
-tree-keeps n t m w r p x =
-    by-refusal
-    _
-    (r .number)
-    (Tree-accepted (graph-in n (t .links)) m w r p x)
-    (λ q. Tree-refused q m w r p x)
-    (λ d. d .number)
-    (λ q d. d .number)
+    (n : ℕ) (t : Tables) (m : List Node) (w : List ℕ) → let o = tree-outcome n t m w in
+    (o .0 .number ≡ 0 → ⊥) → o ≡ (value (o .0 .number) 0, m, w)
+unfolding tree-outcome
+tree-keeps n t m w = by-refusal (λ (o : Value × List Node × List ℕ). o .0 .number) _ _ _ refl (λ q. refl)
 
--- the reader keeps its number
-pub block-keeps :
-    (bs : List ℕ) (i : ℕ) (r : Block) → Block-contract bs i r → (r .number ≡ 0 → ⊥) → Block-none (r .number) 0 i r
-unfolding Block-contract
-block-keeps bs i r =
-    by-refusal
-    _
-    (r .number)
-    (Block-accepted (ltb i (length bs / block-bytes)) i r)
-    (λ q. Block-none q 0 i r)
-    (accepted-number (ltb i (length bs / block-bytes)) i r)
-    (λ q d. d .number)
+pub set-keeps : (n : ℕ) (x : List ℕ) (t : Tables) (bs : List ℕ) → let o = set-outcome n x t bs in (o .0 ≡ 0 → ⊥) → o ≡ (o .0, bs)
+unfolding set-outcome
+set-keeps n x t bs = store-keeps _ _ bs
+
+pub remove-keeps : (n : ℕ) (x : List ℕ) (t : Tables) (bs : List ℕ) → let o = remove-outcome n x t bs in (o .0 ≡ 0 → ⊥) → o ≡ (o .0, bs)
+unfolding remove-outcome
+remove-keeps n x t bs = store-keeps _ _ bs
+
+-- ---- a step of the block reader, which keeps its number
+
+given-number : (there : Bool) (i : ℕ) → block-or-end there i .number ≡ 0
+unfolding block-or-end no-block
+given-number true i = refl
+given-number false i = refl
+
+pub block-keeps : (bs : List ℕ) (i : ℕ) → let o = block-outcome bs i in (o .number ≡ 0 → ⊥) → o ≡ no-block (o .number) 0 i
+unfolding block-outcome no-block
+block-keeps bs i = by-refusal (λ (o : Block). o .number) _ _ _ (given-number _ i) (λ q. refl)

@@ -25,14 +25,15 @@ use Rattle.mesh.proofs.Tables.DegreeSum.{links-most}
 use Rattle.text.specs.Text.{bytes-of, decimal, further-fields, printed-line}
 use Rattle.text.proofs.DecimalLaws.{length-decimal-le}
 use Rattle.calls.specs.Script.{radios-text, up-line, script-of, script-length}
-use Rattle.calls.specs.Questions.{ask, By-number, Lengths, lengths-of, holds-script, script-length-refusal, script-refusal}
-use Rattle.calls.specs.Contracts.Forms.{Value-accepted, Value-refused, Listing-accepted, Listing-refused}
-use Rattle.calls.specs.Contracts.Scripts.{Script-length-contract, Script-contract}
+use Rattle.calls.specs.Questions.{ask, Lengths, lengths-of, holds-script, script-length-refusal, script-refusal}
+use Rattle.calls.specs.Fields.{By-number, Value-accepted, Value-refused, Listing-accepted, Listing-refused}
+use Rattle.calls.specs.Contracts.{Script-length-contract, Script-contract}
 use Rattle.calls.specs.Results.{Script-right, Script-beforehand}
 use Rattle.calls.specs.declared.Value.{Value}
 use Rattle.calls.proofs.QuestionLaws.{ask-yes, ask-no, ask-zero}
 use Rattle.calls.proofs.ContractLaws.{by-zero, by-cases}
 use Rattle.calls.proofs.ChainLaws.{Site-good, site-zero, site-yes}
+use Rattle.calls.proofs.FieldLaws.{script-fields, script-length-fields}
 use Rattle.calls.proofs.Accepted.{accepted}
 
 -- ---- the chain: 1 to 3 and 13
@@ -104,12 +105,12 @@ script-most g xs small v =
 
 pub script-right : (n : ℕ) (t : Tables) (w : List ℕ) (r : Value) (x : List ℕ) → Script-contract n t w r x → r .number ≡ 0
     → Script-right n t (r .value) w x
-unfolding Script-contract script-length
+unfolding script-length
 script-right n t w r x d z =
     let g = graph-in n (t .links) in
     let new = script-of g in
     let c = accepted (script-refusal n (lengths-of t) (length w) (sound n t) g) (Listing-accepted (length new) new w r x)
-    (λ q. Listing-refused q w r x) (r .number) (λ q e. e .number) d z in
+    (λ q. Listing-refused q w r x) (r .number) (λ q e. e .number) (script-fields n t w r x .0 d) z in
     record {
       long = c .1 .value;
       text = ap₂ (λ (i : ℕ) (ys : List ℕ). take i ys) (c .1 .value) (c .1 .lent) ∙ take-overwrite new w;
@@ -119,20 +120,20 @@ script-right n t w r x d z =
 pub script-beforehand :
     (n : ℕ) (t : Tables) (s : Value) (w : List ℕ) (r : Value) (x : List ℕ) → Script-length-contract n t s → s .number ≡ 0 → Script-contract n t w r x →
     Script-beforehand (s .value) (length w) (r .number) (r .value)
-unfolding Script-length-contract Script-contract script-length-refusal
+unfolding script-length-refusal
 script-beforehand n t s w r x d z e =
     let g = graph-in n (t .links) in
     let c = accepted (script-length-refusal n (lengths-of t) (sound n t)) (Value-accepted (script-length g) s)
-    (λ q. Value-refused q s) (s .number) (λ q e. e .number) d z in
+    (λ q. Value-refused q s) (s .number) (λ q e. e .number) (script-length-fields n t s .0 d) z in
     let good = site-zero n (lengths-of t) true (sound n t) 0 (c .0) .0 in
     record {
       written = λ h.
           let a = by-zero (script-refusal n (lengths-of t) (length w) (sound n t) g) (Listing-accepted (script-length g) (script-of g) w r x)
-          (λ q. Listing-refused q w r x) (script-yes n (lengths-of t) (length w) (sound n t) g good (omega (arith, c .1 .value))) e in
+          (λ q. Listing-refused q w r x) (script-yes n (lengths-of t) (length w) (sound n t) g good (omega (arith, c .1 .value))) (script-fields n t w r x .0 e) in
           (a .number, a .value ∙ sym (c .1 .value));
       refused = λ h.
           let q = script-no n (lengths-of t) (length w) (sound n t) g good (omega (arith, c .1 .value)) in
-          let a = by-other (script-refusal n (lengths-of t) (length w) (sound n t) g) (Listing-accepted (script-length g) (script-of g) w r x) q e in
+          let a = by-other (script-refusal n (lengths-of t) (length w) (sound n t) g) (Listing-accepted (script-length g) (script-of g) w r x) q (script-fields n t w r x .0 e) in
           (a .number ∙ q, a .value);
     }
   where

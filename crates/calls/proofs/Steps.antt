@@ -8,7 +8,7 @@ use mathlib.Core.Bool.{Bool, true}
 use mathlib.Core.List.{List, [], _∷_}
 use mathlib.Core.Option.{Option, none, some}
 use Prim.Native.Nat.{ℕ, zero, suc}
-use lib.ListN.{length}
+use lib.ListN.{length, replicate, length-replicate}
 use lib.IntN.{ℤ, pos}
 use Rattle.mesh.specs.Limits.{max-neighbours}
 use Rattle.lists.specs.Lists.{overwrite}
@@ -18,29 +18,29 @@ use Rattle.mesh.specs.Tables.{Tables, graph-in}
 use Rattle.mesh.specs.Sound.{sound}
 use Rattle.mesh.specs.Image.{image-links, image-graph}
 use Rattle.lists.proofs.Overwrite.{take-overwrite}
-use Rattle.calls.specs.Questions.{By-number, lengths-of, answer-length, ask, ends-then, ends-refusal, is-proposal, tables-refusal, link-refusal}
+use Rattle.calls.specs.Questions.{lengths-of, answer-length, ask, ends-then, ends-refusal, is-proposal, tables-refusal, link-refusal}
+use Rattle.calls.specs.Fields.{By-number, Tables-refused, Clear-accepted, Link-accepted, Link-refused, Commit-accepted, Commit-refused, Batch-done}
+use Rattle.calls.specs.Fields.{Batch-refused, Hear-accepted, Hear-refused, Read-accepted, Store-accepted, Store-refused, Store-by}
 use Rattle.calls.specs.Questions.{commit-refusal, read-refusal}
 use Rattle.calls.specs.Switches.{Switch, switch, pairs-after, switched, tables-after, All-allowed}
-use Rattle.calls.specs.Contracts.Forms.{Tables-refused}
-use Rattle.calls.specs.Contracts.Sites.{Clear-accepted, Clear-contract}
-use Rattle.calls.specs.Contracts.Links.{Link-accepted, Link-refused, Link-contract}
-use Rattle.calls.specs.Contracts.Proposals.{Commit-accepted, Commit-refused, Commit-contract}
+use Rattle.calls.specs.Contracts.{Clear-contract, Link-contract, Commit-contract, Batch-contract, Hear-contract, Read-contract, Set-contract, Remove-contract}
+use Rattle.calls.specs.Contracts.{Return-contract}
 use Rattle.calls.specs.Batches.{list-length, batch-refusal, batch-switches, batch-stop}
-use Rattle.calls.specs.Contracts.Batches.{Batch-done, Batch-refused, Batch-contract}
 use Rattle.calls.specs.Heard.{heard-lengths, heard-proper, agreed-few, hear-refusal, one-sided-count, heard-switches}
-use Rattle.calls.specs.Contracts.Heard.{Hear-accepted, Hear-refused, Hear-contract}
-use Rattle.calls.specs.Contracts.Images.{Read-accepted, Read-contract}
 use Rattle.calls.specs.Marks.{store-length, marks-good, is-marked, has-place, mark-refusal, set-refusal, named-refusal, mark-image}
-use Rattle.calls.specs.Contracts.Marks.{Store-accepted, Store-refused, Store-by, Set-contract, Remove-contract, Return-contract}
 use Rattle.calls.specs.Book.{Call, clearing, reading, linking, committing, batching, hearing, setting, removing, returning, other, Outcome}
 use Rattle.calls.specs.Book.{Answer, plain, reported, committed, counted}
 use Rattle.calls.specs.Book.{Beginning, from-clearing, from-image, Marking, no-mark, sets, removes, returns, outcome-of, outcome-with, unless-refused, outcome}
 use Rattle.calls.specs.Book.{beginning-pairs, first-pairs, pairs-of, radios, beginning-tables}
-use Rattle.calls.specs.Runs.{answer-of, replied, Does}
+use Rattle.calls.specs.Outcomes.{clear-outcome, read-outcome, link-outcome, commit-outcome, batch-outcome, hear-outcome}
+use Rattle.calls.specs.MarkOutcomes.{set-outcome, remove-outcome, return-outcome}
+use Rattle.calls.specs.Runs.{answer-of, replied, Done, done}
 use Rattle.calls.specs.Demand.{ended, Call-kept, Start, cleared, read, By-history}
 use Rattle.calls.specs.declared.Reply.{Reply}
 use Rattle.calls.specs.declared.Value.{Value}
 use Rattle.calls.proofs.ChainLaws.{lent-zero, site-zero, link-zero, commit-zero, read-zero}
+use Rattle.calls.proofs.FieldLaws.{clear-fields, read-fields, clear-of, read-outcome-of, link-of, commit-of, batch-of, hear-of, set-of, remove-of, return-of}
+use Rattle.calls.proofs.Runs.{Does}
 use Rattle.calls.proofs.ContractLaws.{by-accepted}
 use Rattle.calls.proofs.RecordLaws.{tables-ext, refused-same}
 use Rattle.calls.proofs.MarkCalls.{named-zero, mark-read}
@@ -137,16 +137,15 @@ module _ (n : ℕ) (ps : List Link) (t : Tables) (k : Holds n ps t) where
   -- ---- clearing and reading
 
   clear-start : (m r : ℕ) (v : Tables) → tables-refusal m (lengths-of t) ≡ 0 → Clear-accepted m r v → Start n [] v
-  unfolding Clear-contract tables-refusal
+  unfolding tables-refusal
   clear-start m r v p d =
       subst (λ (j : ℕ). Start j [] v) (same-n n ps t k m true (lent-zero m (lengths-of t) true 0 p .0))
-      (cleared m t v (by-accepted _ (λ q. Tables-refused q 0 t v) p (rw (d .number) at d)))
+      (cleared m t v (clear-fields m t 0 v .1 (by-accepted _ (λ q. Tables-refused q 0 t v) p (rw (d .number) at d))))
 
   read-start : (m r : ℕ) (bs : List ℕ) (v : Tables) → read-refusal m (lengths-of t) bs ≡ 0 → Read-accepted m bs r v → Start n (image-links m bs) v
-  unfolding Read-contract
   read-start m r bs v p d =
       subst (λ (j : ℕ). Start j (image-links m bs) v) (same-n n ps t k m true (read-zero m (lengths-of t) bs p .0))
-      (read m bs t v (by-accepted _ (λ q. Tables-refused q 0 t v) p (rw (d .number) at d)))
+      (read m bs t v (read-fields m bs t 0 v .1 (by-accepted _ (λ q. Tables-refused q 0 t v) p (rw (d .number) at d))))
 
   clear-step :
       (R m r : ℕ) (v : Tables) (hs : List Answer) → tables-refusal m (lengths-of t) ≡ R →
@@ -277,34 +276,45 @@ module _ (n : ℕ) (ps : List Link) (t : Tables) (k : Holds n ps t) where
     holds = unchanged-holds n ps t k e;
   }
 
+  -- what the call comes to
+  came : (c : Call) → Stepped n ps (outcome c (lengths-of t) ps) t (done c t .answers) (done c t .tables)
+  unfolding done outcome link-refusal commit-refusal batch-refusal hear-refusal set-refusal named-refusal
+  came (clearing m) = clear-step _ m _ _ _ refl (clear-of m t (clear-outcome m t) .0 refl) refl
+  came (reading m bs) = read-step _ m _ bs _ _ refl (read-outcome-of m bs t (read-outcome m bs t) .0 refl) refl
+  came (linking u m a b w) =
+      let y : List ℕ = replicate w 0 in
+      let o = link-outcome u m a b t y in
+      let f = asked (Link-accepted u a b (graph-in m (t .links)) t y (o .reply) (o .tables) (o .answer)) (λ q. Link-refused q t y (o .reply) (o .tables) (o .answer))
+      (site-asked n ps t k m (answer-length m (length y)) (λ g. ends-refusal max-neighbours u m a b g)) (link-of u m a b t y o .0 refl) in
+      rw length-replicate at (link-step _ u m a b (o .reply) y (o .answer) (o .tables) _ refl f refl)
+  came (committing u m a b z xs) =
+      let o = commit-outcome u m a b z xs t in
+      let f = asked (Commit-accepted u m a b t (o .0) (o .1)) (λ q. Commit-refused q t (o .0) (o .1))
+      (site-asked n ps t k m true (λ g. ends-then max-neighbours u m a b g (ask 16 (is-proposal u a b z xs g) 0))) (commit-of u m a b z xs t o .0 refl) in
+      commit-step _ u m a b z xs (o .0) (o .1) _ refl f refl
+  came (batching m xs) =
+      let o = batch-outcome m xs t in
+      let f = asked (Batch-done m xs (graph-in m (t .links) .links) t (o .0) (o .1)) (λ q. Batch-refused q t (o .0) (o .1))
+      (site-asked n ps t k m (list-length (length xs)) (λ g. 0)) (batch-of m xs t o .0 refl) in
+      batch-step _ m xs (o .0) (o .1) _ refl f refl
+  came (hearing m xs w) =
+      let y : List ℕ = replicate w 0 in
+      let o = hear-outcome m xs t y in
+      let f = asked (Hear-accepted m xs t (o .0) (o .1) (o .2)) (λ q. Hear-refused q t y (o .0) (o .1) (o .2))
+      (site-asked n ps t k m (heard-lengths m (length xs) (length y)) (λ g. ask 14 (heard-proper m xs) (ask 7 (agreed-few max-neighbours m xs) 0)))
+      (hear-of m xs t y o .0 refl) in
+      rw length-replicate at (hear-step _ m xs y (o .0) (o .1) (o .2) _ refl f refl)
+  came (setting m x bs) =
+      let o = set-outcome m x t bs in
+      store-step _ (o .0) _ _ (o .1) (sets x) t _ (asked _ _ (mark-asked m x bs (ask 19 (has-place x bs) 0)) (set-of m x t bs o .0 refl)) refl refl
+  came (removing m x bs) =
+      let o = remove-outcome m x t bs in
+      store-step _ (o .0) _ _ (o .1) (removes x) t _ (asked _ _ (mark-asked m x bs (ask 18 (is-marked x bs) 0)) (remove-of m x t bs o .0 refl)) refl refl
+  came (returning m x bs) =
+      let o = return-outcome m x bs t in
+      return-step _ m (o .0) x bs (o .1) _ refl (asked _ _ (mark-asked m x bs (ask 18 (is-marked x bs) 0)) (return-of m x bs t o .0 refl)) refl
+  came other = other-step [] t refl refl
+
   pub step : (c : Call) (hs : List Answer) (v : Tables) → Does c t hs v → Stepped n ps (outcome c (lengths-of t) ps) t hs v
-  unfolding Does Clear-contract Read-contract Link-contract Commit-contract Batch-contract Hear-contract Set-contract Remove-contract Return-contract outcome link-refusal commit-refusal batch-refusal hear-refusal set-refusal named-refusal
-  step (clearing m) hs v d = clear-step _ m (d .result) v hs refl (d .contract) (d .answer)
-  step (reading m bs) hs v d = read-step _ m (d .result) bs v hs refl (d .contract) (d .answer)
-  step (linking u m a b w) hs v d =
-      let f = asked (Link-accepted u a b (graph-in m (t .links)) t (d .lent) (d .result) v (d .table)) (λ q. Link-refused q t (d .lent) (d .result) v (d .table))
-      (site-asked n ps t k m (answer-length m (length (d .lent))) (λ g. ends-refusal max-neighbours u m a b g)) (d .contract) in
-      rw (d .long) (link-step _ u m a b (d .result) (d .lent) (d .table) v hs refl f (d .answer))
-  step (committing u m a b z xs) hs v d =
-      let f = asked (Commit-accepted u m a b t (d .result) v) (λ q. Commit-refused q t (d .result) v)
-      (site-asked n ps t k m true (λ g. ends-then max-neighbours u m a b g (ask 16 (is-proposal u a b z xs g) 0))) (d .contract) in
-      commit-step _ u m a b z xs (d .result) v hs refl f (d .answer)
-  step (batching m xs) hs v d =
-      let f = asked (Batch-done m xs (graph-in m (t .links) .links) t (d .result) v) (λ q. Batch-refused q t (d .result) v)
-      (site-asked n ps t k m (list-length (length xs)) (λ g. 0)) (d .contract) in
-      batch-step _ m xs (d .result) v hs refl f (d .answer)
-  step (hearing m xs w) hs v d =
-      let f = asked (Hear-accepted m xs t (d .result) v (d .marks)) (λ q. Hear-refused q t (d .lent) (d .result) v (d .marks))
-      (site-asked n ps t k m (heard-lengths m (length xs) (length (d .lent))) (λ g. ask 14 (heard-proper m xs) (ask 7 (agreed-few max-neighbours m xs) 0)))
-      (d .contract) in
-      rw (d .long) (hear-step _ m xs (d .lent) (d .result) v (d .marks) hs refl f (d .answer))
-  step (setting m x bs) hs v d =
-      store-step _ (d .result) _ _ (d .after) (sets x) v hs
-      (asked _ _ (mark-asked m x bs (ask 19 (has-place x bs) 0)) (d .contract)) (d .left) (d .answer)
-  step (removing m x bs) hs v d =
-      store-step _ (d .result) _ _ (d .after) (removes x) v hs
-      (asked _ _ (mark-asked m x bs (ask 18 (is-marked x bs) 0)) (d .contract)) (d .left) (d .answer)
-  step (returning m x bs) hs v d =
-      return-step _ m (d .result) x bs v hs refl
-      (asked _ _ (mark-asked m x bs (ask 18 (is-marked x bs) 0)) (d .contract)) (d .answer)
-  step other hs v d = other-step hs v (d .0) (d .1)
+  unfolding Does
+  step c hs v d = subst (λ (o : Done). Stepped n ps (outcome c (lengths-of t) ps) t (o .answers) (o .tables)) (sym d) (came c)

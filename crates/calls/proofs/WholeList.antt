@@ -13,17 +13,18 @@ use Rattle.mesh.specs.Sound.{number-in}
 use Rattle.mesh.specs.Levels.{changed}
 use Rattle.mesh.specs.Image.{image-links}
 use Rattle.mesh.proofs.Cores.Peeling.{number-core, getD-numbers}
-use Rattle.calls.specs.Questions.{By-number, lengths-of, answer-length, tables-refusal, read-refusal, link-refusal}
+use Rattle.calls.specs.Questions.{lengths-of, answer-length, tables-refusal, read-refusal, link-refusal}
+use Rattle.calls.specs.Fields.{By-number, Tables-refused, Clear-accepted, Read-accepted}
 use Rattle.calls.specs.Switches.{Switch, switch, pairs-after, tables-after}
-use Rattle.calls.specs.Contracts.Forms.{Tables-refused}
-use Rattle.calls.specs.Contracts.Sites.{Clear-accepted, Clear-contract}
-use Rattle.calls.specs.Contracts.Images.{Read-accepted, Read-contract}
+use Rattle.calls.specs.Contracts.{Clear-contract, Read-contract}
 use Rattle.calls.specs.Book.{Call, linking, given, Answer, plain, reported, outcome-of, unless-refused, outcome, pairs-of}
 use Rattle.calls.specs.Book.{booked, book-answers, book-after, beginning-pairs, radios, beginning-tables, fresh, past, history}
-use Rattle.calls.specs.Runs.{Event, event, Run, ended, next, givens, answers}
-use Rattle.calls.specs.Demand.{Link-kept, Switching, Start, cleared, read, beginning, Demand-3}
+use Rattle.calls.specs.Runs.{Event, event, events, after, givens, answers}
+use Rattle.calls.proofs.Runs.{Run, ended, next, run}
+use Rattle.calls.specs.Demand.{Kept, Link-kept, Switching, Start, cleared, read, beginning, Demand-3}
 use Rattle.calls.proofs.ChainLaws.{link-zero}
 use Rattle.calls.proofs.Holds.{Holds, clear-holds, read-holds, clear-is, read-is, same-n, is-sound, read-back}
+use Rattle.calls.proofs.FieldLaws.{clear-fields, read-fields}
 use Rattle.calls.proofs.Steps.{Stepped, step}
 use Rattle.calls.proofs.Histories.{Traced, Past-holds, past-kept}
 
@@ -110,25 +111,24 @@ start-with zero A t v d = (refl, d)
 start-with (suc q) A t v d = absurd (omega (arith, d .number))
 
 pub start : {n : ℕ} {ps : List Link} {t : Tables} → Start n ps t → Holds n ps t
-unfolding Clear-contract Read-contract
 start (cleared n t v d) =
-    let a = start-with (tables-refusal n (lengths-of t)) (Clear-accepted n 0 v) t v d in
+    let a = start-with (tables-refusal n (lengths-of t)) (Clear-accepted n 0 v) t v (clear-fields n t 0 v .0 d) in
     clear-holds n 0 t v (a .0) (a .1)
 start (read n bs t v d) =
-    let a = start-with (read-refusal n (lengths-of t) bs) (Read-accepted n bs 0 v) t v d in
+    let a = start-with (read-refusal n (lengths-of t) bs) (Read-accepted n bs 0 v) t v (read-fields n bs t 0 v .0 d) in
     read-holds n bs 0 t v (a .0) (a .1)
 
 -- ---- the link history
 
 -- what a list began from makes the tables that it started with
 start-traced : {n : ℕ} {ps : List Link} {t : Tables} → (s : Start n ps t) → Traced n (fresh (beginning s)) ps t
-unfolding Clear-contract Read-contract beginning fresh radios beginning-pairs pairs-after tables-after
+unfolding beginning fresh radios beginning-pairs pairs-after tables-after
 start-traced (cleared n t v d) =
-    let a = start-with (tables-refusal n (lengths-of t)) (Clear-accepted n 0 v) t v d in
+    let a = start-with (tables-refusal n (lengths-of t)) (Clear-accepted n 0 v) t v (clear-fields n t 0 v .0 d) in
     let e = clear-is n 0 v (a .1) in
     record { holds = start (cleared n t v d); by = record { size = refl; start = subst (Start n []) e (cleared n t v d); tables = e }; pairs = refl }
 start-traced (read n bs t v d) =
-    let a = start-with (read-refusal n (lengths-of t) bs) (Read-accepted n bs 0 v) t v d in
+    let a = start-with (read-refusal n (lengths-of t) bs) (Read-accepted n bs 0 v) t v (read-fields n bs t 0 v .0 d) in
     let e = read-is n bs 0 v (a .1) in
     record { holds = start (read n bs t v d); by = record { size = refl; start = subst (Start n (image-links n bs)) e (read n bs t v d); tables = e }; pairs = refl }
 
@@ -144,9 +144,10 @@ history-traced n ps t v es s r = past-kept n ps (past (fresh (beginning s)) []) 
 
 -- ---- demand 3
 
-pub demand-3 : Demand-3
-unfolding Demand-3 tables-of
-demand-3 n ps t v es s r =
+pub run-kept : (n : ℕ) (ps : List Link) (t v : Tables) (es : List Event) (s : Start n ps t) → Run t es v →
+    Kept n ps (beginning s) es (graph n (book-after (givens es) ps)) v
+unfolding tables-of
+run-kept n ps t v es s r =
     let i = list-kept n ps (start s) r in
     let k = i .holds in
     record {
@@ -164,3 +165,7 @@ demand-3 n ps t v es s r =
           link-called n (book-after (givens before) ps) up m a b w t u h
           (call-at n ps before after (linking up m a b w) t u (h ∷ []) (subst (Each n ps) e (i .each))) z;
     }
+
+pub demand-3 : Demand-3
+unfolding Demand-3
+demand-3 n ps t s cs = run-kept n ps t (after cs t) (events cs t) s (run cs t)

@@ -27,13 +27,13 @@ use Rattle.lists.proofs.Overwrite.{take-overwrite}
 use Rattle.mesh.proofs.Images.Of.{length-image-of}
 use Rattle.calls.specs.Questions.{lengths-of, size-good, level-refusal, image-length, tables-refusal, ends-refusal, read-refusal}
 use Rattle.calls.specs.Switches.{Switch, switched}
-use Rattle.calls.specs.Outcomes.{by-number, reply, value, listing-outcome, clear-outcome, read-outcome, write-outcome, tree-outcome}
+use Rattle.calls.specs.Outcomes.{by-number, Linked, linked-with, reply, value, listing-outcome, clear-outcome, read-outcome, write-outcome, tree-outcome}
 use Rattle.calls.specs.Worked.{entries, lent-tables, lent-nodes, Left, left, left-by, played, after, Want, last-answers, all-numbers, whole-order}
 use Rattle.calls.specs.Worked.{shell-tree, connected-core, backbone-radios, image-checks, printed, soundness, image-reading, same-nodes, block-checks}
 use Rattle.calls.specs.Worked.{is-value, is-listing, image-written, meets, meets-all, Row, right, Right, All-right}
 use Rattle.calls.specs.declared.Reply.{Reply}
 use Rattle.calls.specs.declared.Value.{Value}
-use Rattle.calls.proofs.Outcomes.{number-by}
+use Rattle.calls.proofs.FieldLaws.{number-by}
 use Rattle.calls.proofs.QuestionLaws.{size-good-true}
 use Rattle.calls.proofs.ChainLaws.{lent-yes, ends-zero}
 use Rattle.calls.proofs.Holds.{Holds, clear-holds, read-back, switched-holds}
@@ -148,10 +148,10 @@ module _ (f : ℕ → ℕ) (n : ℕ) (size : size-good n ≡ true) where
     abbrev changes : List ℕ
     changes = changed (c .up) (c .a) (c .b) g
 
-    abbrev outcome-by : ℕ → Reply × Tables × List ℕ
+    abbrev outcome-by : ℕ → Linked
     outcome-by R =
-        by-number R (reply 0 (step-of (c .up) changes) (length changes), switched n c (s .tables), overwrite changes (entries f n)) (
-        λ x. (reply x (pos 0) 0, s .tables, entries f n))
+        by-number R (linked-with (reply 0 (step-of (c .up) changes) (length changes)) (switched n c (s .tables)) (overwrite changes (entries f n))) (
+        λ x. linked-with (reply x (pos 0) 0) (s .tables) (entries f n))
 
     alike-by : (R : ℕ) → ends-refusal max-neighbours (c .up) n (c .a) (c .b) g ≡ R → Alike n (carried-out R n c q) (left-by s (outcome-by R))
     unfolding carried-out left-by by-number switched

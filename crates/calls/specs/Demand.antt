@@ -22,13 +22,12 @@ use Rattle.mesh.specs.Tables.{Tables, put-link, links-table, graph-in}
 use Rattle.mesh.specs.Sound.{sound, number-in}
 use Rattle.mesh.specs.Connected.{Reachable}
 use Rattle.mesh.specs.Image.{image-links}
-use Rattle.calls.specs.Contracts.Sites.{Clear-contract}
-use Rattle.calls.specs.Contracts.Images.{Read-contract}
+use Rattle.calls.specs.Contracts.{Clear-contract, Read-contract}
 use Rattle.calls.specs.Switches.{Switch, pairs-after, tables-after}
 use Rattle.calls.specs.Book.{Call, linking, Answer, reported, Outcome, given, booked, book-answers, book-after, Beginning, from-clearing, from-image}
 use Rattle.calls.specs.Book.{beginning-pairs, radios, beginning-tables, History, history}
 use Rattle.calls.specs.Questions.{lengths-of}
-use Rattle.calls.specs.Runs.{Event, event, Run, givens, answers}
+use Rattle.calls.specs.Runs.{Event, event, events, after, givens, answers}
 
 -- ---- an accepted link call
 
@@ -141,8 +140,8 @@ pub record Kept (n : ℕ) (ps : List Link) (b : Beginning) (es : List Event) (g 
       es ≡ before ++ (event (linking up m a b w) t (h ∷ []) u ∷ after) → h .number ≡ 0 →
       Link-kept up a b (graph n (book-after (givens before) ps)) t h u
 
--- every run from a start keeps it
+-- every list of calls from a start keeps it
 unfoldable pub Demand-3 : Type 0
 Demand-3 =
-    (n : ℕ) (ps : List Link) (t v : Tables) (es : List Event) (s : Start n ps t) → Run t es v →
-    Kept n ps (beginning s) es (graph n (book-after (givens es) ps)) v
+    (n : ℕ) (ps : List Link) (t : Tables) (s : Start n ps t) (cs : List Call) → let es = events cs t in
+    Kept n ps (beginning s) es (graph n (book-after (givens es) ps)) (after cs t)

@@ -13,8 +13,8 @@ use Rattle.mesh.specs.Cores.{Core, numbers}
 use Rattle.mesh.specs.Orders.{is-k-order}
 use Rattle.mesh.specs.Tables.{Tables, links-table}
 use Rattle.mesh.specs.Sound.{sound, number-in}
-use Rattle.calls.specs.Book.{linking, Answer, book-answers, book-after}
-use Rattle.calls.specs.Runs.{Event, event, Run, givens, answers}
+use Rattle.calls.specs.Book.{Call, linking, Answer, book-answers, book-after}
+use Rattle.calls.specs.Runs.{Event, event, events, after, givens, answers}
 use Rattle.calls.specs.Demand.{Link-kept, Start}
 
 -- g is the graph of the book's pairs after the list, v are the tables that the list leaves
@@ -36,5 +36,5 @@ pub record Former-kept (n : ℕ) (ps : List Link) (es : List Event) (g : Graph) 
 -- every run from a start keeps it
 unfoldable pub Former-demand-3 : Type 0
 Former-demand-3 =
-    (n : ℕ) (ps : List Link) (t v : Tables) (es : List Event) → Start n ps t → Run t es v →
-    Former-kept n ps es (graph n (book-after (givens es) ps)) v
+    (n : ℕ) (ps : List Link) (t : Tables) → Start n ps t → (cs : List Call) → let es = events cs t in
+    Former-kept n ps es (graph n (book-after (givens es) ps)) (after cs t)

@@ -13,10 +13,11 @@ pub mod Heard
 pub mod Hearing
 pub mod Lift
 pub mod Marks
-pub mod Contracts
 pub mod Outcomes
 pub mod MarkOutcomes
 pub mod LiftOutcome
+pub mod Contracts
+pub mod Fields
 pub mod Results
 pub mod MarkResults
 pub mod Older

@@ -37,12 +37,12 @@ pub record Older : Type 0 where
   -- accepted then, or refused by another question than 7: as it was, result and every lent table
   pub link :
       (up : Bool) (n a b : ℕ) (t : Tables) (w : List ℕ) → Was-sound n t →
-      (link-outcome-within former-neighbours up n a b t w .0 .number ≡ 7 → ⊥) →
+      (link-outcome-within former-neighbours up n a b t w .reply .number ≡ 7 → ⊥) →
       link-outcome up n a b t w ≡ link-outcome-within former-neighbours up n a b t w
   -- refused by 7 then: taken
   pub seven :
       (up : Bool) (n a b : ℕ) (t : Tables) (w : List ℕ) → Was-sound n t →
-      link-outcome-within former-neighbours up n a b t w .0 .number ≡ 7 → link-outcome up n a b t w .0 .number ≡ 0
+      link-outcome-within former-neighbours up n a b t w .reply .number ≡ 7 → link-outcome up n a b t w .reply .number ≡ 0
   -- calls that only read: as it was (the backbone is W-202's on both sides)
   pub check : (n : ℕ) (t : Tables) → Was-sound n t → check-outcome n t ≡ check-outcome-within former-neighbours n t
   pub number : (n v : ℕ) (t : Tables) → Was-sound n t → number-outcome n v t ≡ number-outcome-within former-neighbours n v t

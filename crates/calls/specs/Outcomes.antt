@@ -2,12 +2,12 @@
 --   by-number refusal accepted refused   the outcome by the number that the call's questions give
 --   clear-outcome .. block-outcome       the outcome of each contract, from what the call is given
 --   ..-outcome-within most               the same with that bound on neighbours in questions 3 and 7
--- That each meets its contract, and no other outcome does, is `..-inhabited` and `..-decided` in proofs/Outcomes.antt.
+-- The contract of a call (Contracts.antt) is that its result and lent tables are this outcome.
 -- Definitions only.
 use mathlib.Core.Bool.{Bool, true, false, cond}
-use mathlib.Core.List.{List}
+use mathlib.Core.List.{List, [], _∷_}
 use Prim.Native.Nat.{ℕ, zero, suc, _+_, _*_, _/_}
-use lib.Dec.{ltb}
+use lib.Dec.{ltb, eqb}
 use lib.IntN.{ℤ, pos}
 use lib.ListN.{length, replicate}
 use Rattle.mesh.specs.Limits.{max-neighbours, row-bytes}
@@ -31,7 +31,6 @@ use Rattle.calls.specs.Script.{script-of, script-length}
 use Rattle.calls.specs.Switches.{switch, switched, tables-after}
 use Rattle.calls.specs.Batches.{batch-refusal, batch-switches, batch-stop}
 use Rattle.calls.specs.Heard.{hear-refusal, one-sided, one-sided-count, heard-switches}
-use Rattle.calls.specs.Contracts.Radios.{first-of-two}
 use Rattle.calls.specs.declared.Reply.{Reply}
 use Rattle.calls.specs.declared.Value.{Value}
 use Rattle.calls.specs.declared.Later.{Later}
@@ -63,17 +62,26 @@ unfoldable pub read-outcome : (n : ℕ) → (image : List ℕ) → Tables → �
 read-outcome n bs t =
     by-number (read-refusal n (lengths-of t) bs) (0, tables-of (image-graph n bs) (image-order n bs)) (λ q. (q, t))
 
+-- what a link call comes to: the reply, and the tables and the answer table after it
+pub record Linked : Type 0 where
+  pub reply : Reply
+  pub tables : Tables
+  pub answer : List ℕ
+
+abbrev pub linked-with : Reply → Tables → (answer : List ℕ) → Linked
+linked-with r t w = record { reply = r; tables = t; answer = w }
+
 -- the reply, the tables with the link switched, and the changed radios in front of the answer table
-abbrev pub link-outcome-within : (most : ℕ) → (up : Bool) → (n a b : ℕ) → Tables → (answer : List ℕ) → Reply × Tables × List ℕ
+abbrev pub link-outcome-within : (most : ℕ) → (up : Bool) → (n a b : ℕ) → Tables → (answer : List ℕ) → Linked
 link-outcome-within most up n a b t w =
     let g = graph-in n (t .links) in
     let cs = changed up a b g in
     by-number
     (link-refusal-within most up n a b (lengths-of t) (length w) (sound-within most n t) g)
-    (reply 0 (step-of up cs) (length cs), switched n (switch up a b) t, overwrite cs w)
-    (λ q. (reply q (pos 0) 0, t, w))
+    (linked-with (reply 0 (step-of up cs) (length cs)) (switched n (switch up a b) t) (overwrite cs w))
+    (λ q. linked-with (reply q (pos 0) 0) t w)
 
-unfoldable pub link-outcome : (up : Bool) → (n a b : ℕ) → Tables → (answer : List ℕ) → Reply × Tables × List ℕ
+unfoldable pub link-outcome : (up : Bool) → (n a b : ℕ) → Tables → (answer : List ℕ) → Linked
 link-outcome up n a b t w = link-outcome-within max-neighbours up n a b t w
 
 -- ---- a link call in two steps
@@ -151,6 +159,11 @@ linked-outcome-within most n a b t =
 
 unfoldable pub linked-outcome : (n a b : ℕ) → Tables → Value
 linked-outcome n a b t = linked-outcome-within max-neighbours n a b t
+
+-- which of a and b stands first in the list; the same radio twice: that radio; neither of them there: a
+unfoldable pub first-of-two : (a b : ℕ) → List ℕ → ℕ
+first-of-two a b [] = a
+first-of-two a b (x ∷ xs) = let rest = first-of-two a b xs in cond (eqb x a) a (cond (eqb x b) b rest)
 
 abbrev pub first-outcome-within : (most n a b : ℕ) → Tables → Value
 first-outcome-within most n a b t =

@@ -1,6 +1,5 @@
 -- Document 01's questions, each a definition of its own, and the chains in which calls put them.
 --   ask r yes later        question r: a "no" gives its number, a "yes" goes on
---   By-number              a contract by the number that its chain gives
 --   Lengths                the lengths of links, numbers and order
 --   size-good .. is-image  questions 1 to 13, 15 and 16 (1 is `size-good`, 3 `sound`, 10 `checks-good`, 15 `other-size`, 11 `is-image` of mesh)
 --   tables-refusal .. block-refusal   the first "no" of a call's questions, or 0
@@ -28,11 +27,6 @@ unfoldable pub use Rattle.mesh.specs.Limits.{size-good}
 unfoldable pub ask : (number : ℕ) → (yes : Bool) → (later : ℕ) → ℕ
 ask r true later = later
 ask r false later = r
-
--- a contract by the number that the call's questions give: what holds when no question got "no", and what holds of a refusal
-unfoldable pub By-number : (refusal : ℕ) → (accepted : Type 0) → (refused : ℕ → Type 0) → Type 0
-By-number zero accepted refused = accepted
-By-number (suc q) accepted refused = refused (suc q)
 
 -- ---- questions 1 and 2: sizes and lengths
 

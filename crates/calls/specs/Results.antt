@@ -21,8 +21,9 @@
 -- Definitions only.
 use mathlib.Core.Path.{_≡_}
 use mathlib.Core.Logic.{_↔_}
-use mathlib.Core.Bool.{Bool, true, _&&_, not}
+use mathlib.Core.Bool.{Bool, true, _&&_, not, cond}
 use mathlib.Core.List.{List}
+use lib.Dec.{eqb}
 use Prim.Native.Nat.{ℕ, _+_, _*_, _/_, _≤_, _<_}
 use lib.ListN.{length, getD, take, drop}
 use Rattle.mesh.specs.Limits.{max-radios, max-neighbours}
@@ -39,10 +40,12 @@ use Rattle.mesh.specs.Image.{block-bytes, payload-bytes, payload-at, image-of, 
 use Rattle.mesh.specs.declared.Node.{Node}
 use Rattle.calls.specs.Sheet.{line-bytes, sheet, sheet-lines, Columns}
 use Rattle.calls.specs.Script.{script-of}
-use Rattle.calls.specs.Contracts.Images.{Block-none}
-use Rattle.calls.specs.Switches.{pairs-after, All-allowed}
+use Rattle.calls.specs.Outcomes.{no-block}
+use Rattle.calls.specs.Switches.{pairs-after, tables-after, All-allowed}
+use Rattle.calls.specs.Questions.{ends-refusal}
 use Rattle.calls.specs.Batches.{ups}
 use Rattle.calls.specs.Heard.{heard-switches}
+use Rattle.calls.specs.declared.Reply.{Reply}
 use Rattle.calls.specs.declared.Value.{Value}
 use Rattle.calls.specs.declared.Block.{Block}
 
@@ -85,6 +88,20 @@ pub record Batch-right (n : ℕ) (list : List ℕ) (t v : Tables) (r : Value) : 
   pub graph : graph-in n (v .links) ≡ graph n (pairs-after (ups (take (2 * r .value) list)) (graph-in n (t .links) .links))
   pub right : Site-right n v
   pub all : r .number ≡ 0 → 2 * r .value ≡ length list
+
+-- the links before place `value` of the list are up, as single calls leave them, and the link at that place is refused by that number
+-- of the tables as they are left
+pub record Batch-stopped (n : ℕ) (xs : List ℕ) (t : Tables) (r : Value) (v : Tables) : Type 0 where
+  pub there : 2 * r .value + 1 < length xs
+  pub done : v ≡ tables-after n (ups (take (2 * r .value) xs)) t
+  pub refused :
+      r .number ≡ ends-refusal max-neighbours true n (getD xs (2 * r .value) 0) (getD xs (2 * r .value + 1) 0) (graph-in n (v .links))
+
+-- the reply and the tables of a single call, the value and the tables of a batch
+pub record Batch-single (q : Reply) (u : Tables) (r : Value) (v : Tables) : Type 0 where
+  pub number : r .number ≡ q .number
+  pub value : r .value ≡ cond (eqb (q .number) 0) 1 0
+  pub tables : v ≡ u
 
 -- ---- a hearing
 
@@ -190,4 +207,4 @@ pub record Block-part (image : List ℕ) (i : ℕ) (r : Block) : Type 0 where
 -- after the last block: the end, with an empty part, and the reader keeps its number
 pub record Block-end (image : List ℕ) (i : ℕ) (r : Block) : Type 0 where
   pub past : length image / block-bytes ≤ i
-  pub none : Block-none 0 1 i r
+  pub none : r ≡ no-block 0 1 i

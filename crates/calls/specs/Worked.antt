@@ -23,7 +23,7 @@ use Rattle.mesh.specs.Image.{block-bytes, long}
 use Rattle.mesh.specs.declared.Node.{Node}
 use Rattle.calls.specs.Questions.{image-length, same-step}
 use Rattle.calls.specs.Switches.{Switch, switch}
-use Rattle.calls.specs.Outcomes.{clear-outcome, read-outcome, link-outcome, check-outcome, core-outcome, backbone-outcome, write-outcome, tree-outcome}
+use Rattle.calls.specs.Outcomes.{Linked, clear-outcome, read-outcome, link-outcome, check-outcome, core-outcome, backbone-outcome, write-outcome, tree-outcome}
 use Rattle.calls.specs.Book.{Answer, plain, reported}
 use Rattle.calls.specs.Runs.{answer-of}
 use Rattle.text.specs.Text.{bytes-of}
@@ -74,8 +74,8 @@ abbrev pub left : Tables → List Answer → Left
 left t hs = record { tables = t; answers = hs }
 
 -- one outcome more
-unfoldable pub left-by : Left → Reply × Tables × List ℕ → Left
-left-by s o = left (o .1) (s .answers ++ (answer-of (o .0) (o .2) ∷ []))
+unfoldable pub left-by : Left → Linked → Left
+left-by s o = left (o .tables) (s .answers ++ (answer-of (o .reply) (o .answer) ∷ []))
 
 -- a link call, lent an answer table of n entries
 unfoldable pub played : (ℕ → ℕ) → (n : ℕ) → Switch → Left → Left

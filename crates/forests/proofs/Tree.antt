@@ -12,13 +12,14 @@ use Rattle.mesh.specs.Tables.{Tables, graph-in}
 use Rattle.mesh.specs.Sound.{sound}
 use Rattle.mesh.specs.Staircase.{staircase, link-entries, Staircase-tree}
 use Rattle.calls.specs.Questions.{lengths-of, staircase-length, staircase-refusal}
-use Rattle.calls.specs.Contracts.Forms.{Listing-accepted, Listing-refused}
-use Rattle.calls.specs.Contracts.Staircase.{Staircase-contract}
+use Rattle.calls.specs.Fields.{Listing-accepted, Listing-refused}
+use Rattle.calls.specs.Contracts.{Staircase-contract}
 use Rattle.calls.specs.Results.{Staircase-listed}
 use Rattle.calls.specs.declared.Value.{Value}
 use Rattle.lists.proofs.Overwrite.{take-overwrite, drop-overwrite}
 use Rattle.mesh.proofs.Tables.ReadBack.{proper-graph-in, ascending-graph-in}
 use Rattle.calls.proofs.ChainLaws.{site-zero}
+use Rattle.calls.proofs.FieldLaws.{staircase-fields}
 use Rattle.calls.proofs.Accepted.{accepted}
 use Rattle.forests.proofs.Heaviest.{staircase-spanning, staircase-heaviest, staircase-fewer}
 use Rattle.forests.proofs.Widest.{staircase-way, staircase-widest, staircase-core}
@@ -42,12 +43,12 @@ length-link-entries (l ∷ ls) = omega (arith, length-link-entries ls)
 
 pub staircase-right : (n : ℕ) (t : Tables) (w : List ℕ) (r : Value) (x : List ℕ) → Staircase-contract n t w r x → r .number ≡ 0
     → Staircase-listed (graph-in n (t .links)) (r .value) w x
-unfolding Staircase-contract staircase-refusal graph-in
+unfolding staircase-refusal graph-in
 staircase-right n t w r x d z =
     let g = graph-in n (t .links) in
     let new = link-entries (staircase g) in
     let c = accepted (staircase-refusal n (lengths-of t) (length w) (sound n t)) (Listing-accepted (length (staircase g)) new w r x)
-    (λ q. Listing-refused q w r x) (r .number) (λ q e. e .number) d z in
+    (λ q. Listing-refused q w r x) (r .number) (λ q e. e .number) (staircase-fields n t w r x .0 d) z in
     let good = site-zero n (lengths-of t) (staircase-length n (length w)) (sound n t) 0 (c .0) .0 in
     let k : 2 * r .value ≡ length new = omega (arith, c .1 .value, length-link-entries (staircase g)) in
     record {

@@ -21,15 +21,13 @@ use Rattle.mesh.proofs.Images.Sites.{length-order, read-written-order}
 use Rattle.calls.specs.Questions.{Lengths, lengths-of, answer-length, nodes-length, staircase-length, site-refusal, link-refusal}
 use Rattle.calls.specs.Questions.{tree-refusal, backbone-refusal, staircase-refusal}
 use Rattle.calls.specs.Switches.{Switch, switch, pairs-after, All-allowed}
-use Rattle.calls.specs.Contracts.Cores.{Backbone-contract}
-use Rattle.calls.specs.Contracts.Trees.{Tree-contract}
-use Rattle.calls.specs.Contracts.Staircase.{Staircase-contract}
+use Rattle.calls.specs.Outcomes.{backbone-outcome, tree-outcome, staircase-outcome}
 use Rattle.calls.specs.Book.{linking, other, Answer, plain, reported, outcome-of, unless-refused, outcome, first-pairs, pairs-of}
-use Rattle.calls.specs.Runs.{Event, Run, next}
-use Rattle.calls.specs.Runs as runs
+use Rattle.calls.specs.Runs.{Event, after}
+use Rattle.calls.proofs.Runs.{Run, next, run}
+use Rattle.calls.proofs.Runs as runs
 use Rattle.calls.specs.Demand.{cleared}
 use Rattle.calls.proofs.ChainLaws.{link-zero}
-use Rattle.calls.proofs.Outcomes.{tree-decided, backbone-decided, staircase-decided}
 use Rattle.calls.proofs.Holds.{Holds, read-back, site-asked}
 use Rattle.calls.proofs.Steps.{Stepped, step}
 use Rattle.calls.proofs.WholeList.{start}
@@ -79,13 +77,13 @@ cleared-holds n t c = start (cleared n (c .before) t (c .contract))
 
 both : Two-hubs Both
 unfolding Two-hubs
-both n t u v w es fs ss rs c d r q a b same =
+both n t u cs ds ss rs c d a b same =
     let k = cleared-holds n t c in
     let l = cleared-holds n u d in
-    let x = taken n [] k r a in
-    let y = taken n [] l q b in
+    let x = taken n [] k (run cs t) a in
+    let y = taken n [] l (run ds u) b in
     let e = pairs-agree n [] t u ss rs k l (x .allowed) (y .allowed) same in
-    record { pairs = pairs-after ss []; first = x .holds; second = subst (λ (ps : List Link). Holds n ps w) (sym e) (y .holds) }
+    record { pairs = pairs-after ss []; first = x .holds; second = subst (λ (ps : List Link). Holds n ps (after ds u)) (sym e) (y .holds) }
 
 module _ (n : ℕ) (v w : Tables) (k : Both n v w) where
   same-links : v .links ≡ w .links
@@ -135,23 +133,23 @@ module _ (n : ℕ) (v w : Tables) (k : Both n v w) where
       ∙ sym (site-asked n (k .pairs) w (k .second) m others (λ g. 0))
 
   equal-answers : Equal-answers v w
-  unfolding Tree-contract Backbone-contract Staircase-contract tree-refusal backbone-refusal staircase-refusal
+  unfolding tree-outcome backbone-outcome staircase-outcome tree-refusal backbone-refusal staircase-refusal sound
   equal-answers = record {
-    tree = λ m ns xs o s p q. tree-decided m w ns xs o s (rw (same-refusal m (nodes-length m (length ns) && answer-length m (length xs)), same-links) at p) q;
-    backbone = λ m xs o s p q. backbone-decided m w xs o s (rw (same-refusal m (answer-length m (length xs)), same-links) at p) q;
-    staircase = λ m xs o s p q. staircase-decided m w xs o s (rw (same-refusal m (staircase-length m (length xs)), same-links) at p) q;
+    tree = λ m ns xs. rw (same-refusal m (nodes-length m (length ns) && answer-length m (length xs)), same-links);
+    backbone = λ m xs. rw (same-refusal m (answer-length m (length xs)), same-links);
+    staircase = λ m xs. rw (same-refusal m (staircase-length m (length xs)), same-links);
   }
 
 pub confluence : Confluence
 unfolding Confluence Two-hubs
-confluence n t u v w es fs ss rs c d r q a b same = equal-sites n v w (both n t u v w es fs ss rs c d r q a b same)
+confluence n t u cs ds ss rs c d a b same = equal-sites n (after cs t) (after ds u) (both n t u cs ds ss rs c d a b same)
 
 pub calls-agree : Calls-agree
 unfolding Calls-agree Two-hubs
-calls-agree n t u v w es fs ss rs c d r q a b same = equal-answers n v w (both n t u v w es fs ss rs c d r q a b same)
+calls-agree n t u cs ds ss rs c d a b same = equal-answers n (after cs t) (after ds u) (both n t u cs ds ss rs c d a b same)
 
 -- hubs that always wrote the same image would always have the same order
 pub orders-by-images : Equal-images → Equal-orders
 unfolding Equal-images Equal-orders Two-hubs
-orders-by-images claim n t u v w es fs ss rs c d r q a b same =
-    order-by-image n v w (both n t u v w es fs ss rs c d r q a b same) (claim n t u v w es fs ss rs c d r q a b same)
+orders-by-images claim n t u cs ds ss rs c d a b same =
+    order-by-image n (after cs t) (after ds u) (both n t u cs ds ss rs c d a b same) (claim n t u cs ds ss rs c d a b same)

@@ -2,7 +2,7 @@
 --   run, singles       link calls played one after the other are a run; where none is refused, of single calls
 --   played-one, played-other   what the rows of the pair say of them
 --   orders-differ, images-differ   so neither can be claimed equal
-use mathlib.Core.Path.{_≡_, sym, ap, _∙_}
+use mathlib.Core.Path.{_≡_, sym, ap, subst, _∙_}
 use mathlib.Core.Bool.{true, _&&_}
 use mathlib.Core.List.{List, [], _∷_}
 use Prim.Native.Nat.{ℕ}
@@ -17,12 +17,13 @@ use Rattle.mesh.specs.Tables.{Tables}
 use Rattle.calls.specs.Switches.{Switch}
 use Rattle.calls.specs.Outcomes.{clear-outcome, link-outcome}
 use Rattle.calls.specs.Book.{Answer, linking, reported}
-use Rattle.calls.specs.Runs.{answer-of, Does, Event, event, Run, ended, next}
+use Rattle.calls.specs.Runs.{answer-of, Event, event}
+use Rattle.calls.specs.Runs as runs
+use Rattle.calls.proofs.Runs.{Does, Run, ended, next, called, run-is, link-done}
 use Rattle.calls.specs.Questions.{same-step}
 use Rattle.calls.specs.Worked.{entries, lent-tables, Left, left, left-by, played, after, up, risen, Want, last-answers, all-numbers, whole-order}
 use Rattle.calls.specs.Worked.{row, same-answers, meets, meets-all, right, All-right}
-use Rattle.calls.proofs.Outcomes.{clear-inhabited}
-use Rattle.calls.proofs.Total.{link-done}
+use Rattle.calls.specs.Contracts.{Clear-contract}
 use Rattle.hubs.specs.Hubs.{Cleared, Singles, single, Two-hubs, Equal-orders, Equal-images}
 use Rattle.hubs.specs.Hubs as hubs
 use Rattle.hubs.specs.Cases.{one-hub, other-hub, cases}
@@ -37,7 +38,7 @@ zeros i = 0
 abbrev made : (n : ℕ) → Switch → Left → Event
 made n c s =
     let o = link-outcome (c .up) n (c .a) (c .b) (s .tables) (entries zeros n) in
-    event (linking (c .up) n (c .a) (c .b) (length (entries zeros n))) (s .tables) (answer-of (o .0) (o .2) ∷ []) (o .1)
+    event (linking (c .up) n (c .a) (c .b) (length (entries zeros n))) (s .tables) (answer-of (o .reply) (o .answer) ∷ []) (o .tables)
 
 events : (n : ℕ) → List Switch → Left → List Event
 events n [] s = []
@@ -51,7 +52,7 @@ run n (c ∷ cs) s = next (link-done (c .up) n (c .a) (c .b) (s .tables) (entrie
 -- none refused
 All-taken : (n : ℕ) → List Switch → Left → Type 0
 All-taken n [] s = Unit {0}
-All-taken n (c ∷ cs) s = (link-outcome (c .up) n (c .a) (c .b) (s .tables) (entries zeros n) .0 .number ≡ 0) × All-taken n cs (played zeros n c s)
+All-taken n (c ∷ cs) s = (link-outcome (c .up) n (c .a) (c .b) (s .tables) (entries zeros n) .reply .number ≡ 0) × All-taken n cs (played zeros n c s)
 
 singles : (n : ℕ) (cs : List Switch) (s : Left) → All-taken n cs s → Singles n (events n cs s) cs
 unfolding events All-taken answer-of
@@ -82,10 +83,13 @@ first-same x y xs ys p =
     let f = same-answers xs ys in
     (eqb-true (x .number) (y .number) (and-left a b (and-left (a && b) (e && f) p)), and-right e f (and-right (a && b) (e && f) p))
 
+zero-first : (o : ℕ × Tables) → o .0 ≡ 0 → (0, o .1) ≡ o
+zero-first o e = rw e
+
 by-row :
     (c d : Switch) (cs ds ns xs : List ℕ) (ws : List Want) →
     right zeros (row 4 (c ∷ d ∷ []) (last-answers (risen cs ∷ risen ds ∷ []) ∷ all-numbers ns ∷ whole-order xs ∷ ws)) ≡ true → Played c d xs
-unfolding right meets-all meets All-taken after played left-by risen reported answer-of
+unfolding Clear-contract right meets-all meets All-taken after played left-by risen reported answer-of
 by-row c d cs ds ns xs ws p =
     let s = after zeros 4 (c ∷ d ∷ []) first in
     let z = eqb (clear-outcome 4 lent .0) 0 in
@@ -98,7 +102,7 @@ by-row c d cs ds ns xs ws p =
     let o = and-right (same (s .tables .numbers) ns) rest (and-right answered later q) in
     let nought : clear-outcome 4 lent .0 ≡ 0 = eqb-true (clear-outcome 4 lent .0) 0 (and-left z (answered && later) p) in
     record {
-      cleared = record { before = lent; contract = rw nought at (clear-inhabited 4 lent) };
+      cleared = record { before = lent; contract = zero-first (clear-outcome 4 lent) nought };
       taken = (one .0, (two .0, tt));
       order = same-eq (s .tables .order) xs (and-left (same (s .tables .order) xs) (meets-all zeros 4 s ws) o);
     }
@@ -124,9 +128,13 @@ orders-differ claim =
     let ds = up 2 3 ∷ up 0 1 ∷ [] in
     let v = after zeros 4 cs first .tables in
     let w = after zeros 4 ds first .tables in
-    let e = claim 4 (first .tables) (first .tables) v w (events 4 cs first) (events 4 ds first) cs ds (played-one .cleared) (played-other .cleared)
-    (run 4 cs first) (run 4 ds first) (singles 4 cs first (played-one .taken)) (singles 4 ds first (played-other .taken)) cases-same in
-    absurd (omega (arith, ap head (sym (played-one .order) ∙ e ∙ played-other .order)))
+    let p = run-is (run 4 cs first) in
+    let q = run-is (run 4 ds first) in
+    let e = claim 4 (first .tables) (first .tables) (called (events 4 cs first)) (called (events 4 ds first)) cs ds (played-one .cleared) (played-other .cleared)
+    (subst (λ (es : List Event). Singles 4 es cs) (p .0) (singles 4 cs first (played-one .taken)))
+    (subst (λ (es : List Event). Singles 4 es ds) (q .0) (singles 4 ds first (played-other .taken))) cases-same in
+    let same : v .order ≡ w .order = ap (λ (o : Tables). o .order) (p .1) ∙ e ∙ sym (ap (λ (o : Tables). o .order) (q .1)) in
+    absurd (omega (arith, ap head (sym (played-one .order) ∙ same ∙ played-other .order)))
 
 pub images-differ : Equal-images → ⊥
 images-differ claim = orders-differ (orders-by-images claim)

@@ -20,12 +20,10 @@ use Rattle.mesh.specs.Staircase.{staircase}
 use Rattle.mesh.specs.Image.{image-of}
 use Rattle.mesh.specs.declared.Node.{Node}
 use Rattle.calls.specs.Switches.{Switch, switch}
-use Rattle.calls.specs.Contracts.Sites.{Clear-contract}
-use Rattle.calls.specs.Contracts.Cores.{Backbone-contract}
-use Rattle.calls.specs.Contracts.Trees.{Tree-contract}
-use Rattle.calls.specs.Contracts.Staircase.{Staircase-contract}
-use Rattle.calls.specs.Book.{Answer, linking, other}
-use Rattle.calls.specs.Runs.{Event, event, Run}
+use Rattle.calls.specs.Outcomes.{backbone-outcome, tree-outcome, staircase-outcome}
+use Rattle.calls.specs.Contracts.{Clear-contract}
+use Rattle.calls.specs.Book.{Answer, Call, linking, other}
+use Rattle.calls.specs.Runs.{Event, event, events, after}
 use Rattle.calls.specs.declared.Value.{Value}
 
 -- ---- the same calls
@@ -64,8 +62,8 @@ pub data Singles (n : ℕ) : List Event → List Switch → Type 0 where
 -- v and w are what the hubs hold in the end. In a run each call gets the tables that the one before it left: nobody else writes them
 unfoldable pub Two-hubs : ((n : ℕ) → (v w : Tables) → Type 0) → Type 0
 Two-hubs C =
-    (n : ℕ) (t u v w : Tables) (es fs : List Event) (ss rs : List Switch) → Cleared n t → Cleared n u → Run t es v → Run u fs w →
-    Singles n es ss → Singles n fs rs → Same-calls ss rs → C n v w
+    (n : ℕ) (t u : Tables) (cs ds : List Call) (ss rs : List Switch) → Cleared n t → Cleared n u →
+    Singles n (events cs t) ss → Singles n (events ds u) rs → Same-calls ss rs → C n (after cs t) (after ds u)
 
 -- orders and images may differ
 pub record Equal-sites (n : ℕ) (v w : Tables) : Type 0 where
@@ -78,13 +76,9 @@ pub record Equal-sites (n : ℕ) (v w : Tables) : Type 0 where
 
 -- what the two calls come back with and leave of what is lent; m is the n that both are given, right or wrong
 pub record Equal-answers (v w : Tables) : Type 0 where
-  pub tree :
-      (m : ℕ) (ns : List Node) (xs : List ℕ) (o s : Value × List Node × List ℕ) → Tree-contract m v ns xs (o .0) (o .1) (o .2) →
-      Tree-contract m w ns xs (s .0) (s .1) (s .2) → o ≡ s
-  pub backbone :
-      (m : ℕ) (xs : List ℕ) (o s : Value × List ℕ) → Backbone-contract m v xs (o .0) (o .1) → Backbone-contract m w xs (s .0) (s .1) → o ≡ s
-  pub staircase :
-      (m : ℕ) (xs : List ℕ) (o s : Value × List ℕ) → Staircase-contract m v xs (o .0) (o .1) → Staircase-contract m w xs (s .0) (s .1) → o ≡ s
+  pub tree : (m : ℕ) (ns : List Node) (xs : List ℕ) → tree-outcome m v ns xs ≡ tree-outcome m w ns xs
+  pub backbone : (m : ℕ) (xs : List ℕ) → backbone-outcome m v xs ≡ backbone-outcome m w xs
+  pub staircase : (m : ℕ) (xs : List ℕ) → staircase-outcome m v xs ≡ staircase-outcome m w xs
 
 unfoldable pub Confluence : Type 0
 Confluence = Two-hubs Equal-sites

@@ -23,7 +23,7 @@ use Rattle.mesh.proofs.Tables.Sites.{image-valid}
 use Rattle.mesh.proofs.Images.Tables.{number-most}
 use Rattle.mesh.proofs.Images.Canonical.{length-image-order}
 use Rattle.mesh.specs.Valid.{Valid}
-use Rattle.calls.specs.Contracts.Images.{Read-accepted}
+use Rattle.calls.specs.Fields.{Read-accepted}
 use Rattle.tables.specs.Widths.{values}
 use Rattle.tables.proofs.WidthLaws.{length-values, values-below}
 use Rattle.lists.proofs.Overwrite.{overwrite-take}

@@ -20,8 +20,7 @@ use Rattle.lists.proofs.Tests.{bool-cases, never, and-both}
 use Rattle.mesh.proofs.Sizes.{size-good-true}
 use Rattle.mesh.proofs.Images.Sites.{is-image-radios}
 use Rattle.calls.specs.Questions.{ask, blocks-refusal, block-refusal, source-refusal, image-refusal}
-use Rattle.calls.specs.Contracts.Images.{Read-accepted}
-use Rattle.calls.specs.Contracts.Forms.{Tables-refused}
+use Rattle.calls.specs.Fields.{Read-accepted, Tables-refused}
 use Rattle.calls.proofs.QuestionLaws.{ask-zero}
 use Rattle.calls.proofs.ContractLaws.{by-accepted, by-refused}
 use Rattle.calls.proofs.ChainLaws.{Blocks-good, blocks-zero, blocks-yes}

@@ -16,9 +16,8 @@ use Rattle.mesh.specs.Limits.{max-radios, size-good}
 use Rattle.mesh.specs.Cores.{number}
 use Rattle.mesh.specs.Tables.{Tables}
 use Rattle.mesh.specs.Image.{word-at, image-order, image-graph, checks-good, is-image}
-use Rattle.calls.specs.Questions.{ask, By-number, blocks-refusal, source-refusal}
-use Rattle.calls.specs.Contracts.Images.{Read-accepted}
-use Rattle.calls.specs.Contracts.Forms.{Tables-refused}
+use Rattle.calls.specs.Questions.{ask, blocks-refusal, source-refusal}
+use Rattle.calls.specs.Fields.{By-number, Read-accepted, Tables-refused}
 
 unfoldable pub header-refusal : (image : List ℕ) → ℕ
 header-refusal bs = blocks-refusal bs (ask 11 (size-good (word-at bs 4)) 0)

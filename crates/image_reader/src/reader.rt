@@ -5,7 +5,7 @@ ghost use lib.ListN.{length, getD};
 ghost use Rattle.mesh.specs.Limits.{row-bytes};
 ghost use Rattle.mesh.specs.Tables.{lent};
 ghost use Rattle.calls.specs.Questions.{alone-refusal};
-ghost use Rattle.calls.specs.Contracts.Images.{Read-contract};
+ghost use Rattle.calls.specs.Contracts.{Read-contract};
 ghost use Rattle.tables.specs.Widths.{values};
 ghost use Rattle.image_reader.specs.Reading.{Source-room, Site-read};
 use super::source;

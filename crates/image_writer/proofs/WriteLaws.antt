@@ -17,9 +17,9 @@ use Rattle.mesh.proofs.Images.Of.{length-image-of}
 use Rattle.mesh.proofs.Images.Tables.{valid-graph-in}
 use Rattle.mesh.proofs.Tables.DegreeSum.{links-few}
 use Rattle.calls.specs.Questions.{ask, lengths-of, site-refusal, write-refusal, image-length, holds-image}
-use Rattle.calls.specs.Contracts.Images.{Write-contract}
-use Rattle.calls.specs.Contracts.Forms.{Listing-refused}
-use Rattle.calls.proofs.ContractLaws.{by-accepted, by-refused}
+use Rattle.calls.specs.Contracts.{Write-contract}
+use Rattle.calls.specs.Outcomes.{write-outcome}
+use Rattle.calls.proofs.ContractLaws.{listing-refused, listing-answered}
 use Rattle.calls.proofs.QuestionLaws.{ask-no}
 use Rattle.calls.proofs.ChainLaws.{Site-good, site-zero, site-yes, write-yes, site-stops}
 use Rattle.soundness.proofs.SoundSite.{Sound-site, sound-site}
@@ -42,11 +42,10 @@ module _ (n : ℕ) (t : Tables) (w : List ℕ) where
   refusal = write-refusal n (lengths-of t) (length w) (sound n t) g
 
   pub write-refused : (q : ℕ) → q ≡ questions → (q ≡ 0 → ⊥) → Write-contract n t w (record { number = q; value = 0 }) w
-  unfolding Write-contract write-refusal
+  unfolding Write-contract write-outcome sound write-refusal
   write-refused q e h =
       let same : refusal ≡ q = site-stops n (lengths-of t) true (sound n t) (ask 9 (holds-image g (length w)) 0) (λ z. h (e ∙ z)) ∙ sym e in
-      by-refused refusal _ (λ r. Listing-refused r w (record { number = q; value = 0 }) w) (λ z. h (sym same ∙ z))
-      (record { number = sym same; value = refl; lent = refl })
+      listing-refused refusal _ _ w q (sym same) h
 
   module _ (good : questions ≡ 0) where
     passed : Site-good n (lengths-of t) true (sound n t)
@@ -96,25 +95,23 @@ module _ (n : ℕ) (t : Tables) (w : List ℕ) where
       length-is = ap (λ (k : ℕ). block-bytes * k) (sym blocks-are ∙ sym counted)
 
       pub write-no-room : length w < block-bytes * blocks → Write-contract n t w (record { number = 9; value = 0 }) w
-      unfolding Write-contract write-refusal holds-image
+      unfolding Write-contract write-outcome sound write-refusal holds-image
       write-no-room h =
           let nine : refusal ≡ 9 =
           site-yes n (lengths-of t) true (sound n t) (ask 9 (holds-image g (length w)) 0) passed
           ∙ ask-no 9 (holds-image g (length w)) 0 (lt-leb (image-length g) (length w) (omega (arith, length-is))) in
-          by-refused refusal _ (λ r. Listing-refused r w (record { number = 9; value = 0 }) w) (λ z. omega (arith, nine, z))
-          (record { number = sym nine; value = refl; lent = refl })
+          listing-refused refusal _ _ w 9 (sym nine) (λ z. omega (arith, z))
 
       pub write-accepted : (x : List ℕ) → block-bytes * blocks ≤ length w
           → x ≡ flatMap (block-at (marked-graph n (t .links)) (t .order)) (range 0 blocks) ++ drop (block-bytes * blocks) w
           → Write-contract n t w (record { number = 0; value = block-bytes * blocks }) x
-      unfolding Write-contract image-of overwrite
+      unfolding Write-contract write-outcome sound image-of overwrite
       write-accepted x h e =
           let zero-is : refusal ≡ 0 = write-yes n (lengths-of t) (length w) (sound n t) g passed (omega (arith, length-is)) in
           let front : flatMap (block-at (marked-graph n (t .links)) (t .order)) (range 0 blocks) ≡ image-of g (t .order) =
           ap₂ {C = List ℕ} (λ (m : Graph) (k : ℕ). flatMap (block-at m (t .order)) (range 0 k)) whole (counted ∙ blocks-are) in
           let long : length (image-of g (t .order)) ≡ block-bytes * blocks = length-image-of g (t .order) ∙ ap (λ (k : ℕ). block-bytes * k) (sym (counted ∙ blocks-are)) in
-          by-accepted refusal (λ q. Listing-refused q w (record { number = 0; value = block-bytes * blocks }) x) zero-is
-          (record { number = refl; value = sym length-is; lent = e ∙ ap₂ {C = List ℕ} (λ (xs : List ℕ) (k : ℕ). xs ++ drop k w) front (sym long) })
+          listing-answered refusal _ _ w _ x zero-is (sym length-is) (e ∙ ap₂ {C = List ℕ} (λ (xs : List ℕ) (k : ℕ). xs ++ drop k w) front (sym long))
 
     -- ---- the links written from block `first` on, and the blocks filled in
 

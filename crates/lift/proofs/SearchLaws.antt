@@ -20,7 +20,7 @@ use Rattle.calls.specs.Lift.{lifting, first-pair, is-lifted}
 use Rattle.calls.specs.LiftOutcome.{pair}
 use Rattle.calls.specs.declared.Pair.{Pair}
 use Rattle.lists.proofs.Tests.{bool-cases}
-use Rattle.calls.specs.Contracts.Lift.{Lift-contract}
+use Rattle.calls.specs.Contracts.{Lift-contract}
 use Rattle.calls.proofs.ChainLaws.{Site-good, site-zero}
 use Rattle.calls.proofs.LiftOutcome.{lift-refused, lift-unanswered, lift-answered}
 use Rattle.rows.specs.Rows.{row-count}

@@ -25,14 +25,15 @@ use Rattle.mesh.proofs.Cores.Peeling.{number-core, number-unique}
 use Rattle.mesh.proofs.Links.Call.{unchanged-number}
 use Rattle.calls.specs.Questions.{lengths-of, answer-length, ends-refusal, link-refusal, radio-refusal}
 use Rattle.calls.specs.Lift.{lifts, lifting, first-pair, is-lifted, lift-refusal}
-use Rattle.calls.specs.Contracts.Lift.{Pair-accepted, Pair-refused, Lift-contract}
-use Rattle.calls.specs.Contracts.Links.{Link-accepted, Link-refused, Link-contract}
+use Rattle.calls.specs.Fields.{Pair-accepted, Pair-refused, Link-accepted, Link-refused}
+use Rattle.calls.specs.Contracts.{Lift-contract, Link-contract}
 use Rattle.calls.specs.declared.Pair.{Pair}
 use Rattle.calls.proofs.QuestionLaws.{true-answer-length}
 use Rattle.calls.proofs.ChainLaws.{Site-good, site-yes, ends-yes}
+use Rattle.calls.proofs.FieldLaws.{lift-fields, link-fields}
 use Rattle.calls.proofs.ContractLaws.{by-cases, by-zero}
 use Rattle.calls.proofs.Accepted.{accepted}
-use Rattle.calls.proofs.LiftOutcome.{lift-zero, lift-twenty, lift-unanswered, lift-decided}
+use Rattle.calls.proofs.LiftOutcome.{lift-zero, lift-twenty, lift-unanswered}
 use Rattle.lifting.specs.Search.{First-lift, No-lift}
 use Rattle.lifting.specs.Results.{Raises, Listed-up, Lift-right}
 use Rattle.lifting.proofs.Pairs.{lifts-lifted, lifted-lifts}
@@ -76,9 +77,8 @@ module _ (n v : ℕ) (t : Tables) (r : Pair) (d : Lift-contract n v t r) where
 
   module _ (z : r .number ≡ 0) where
     answer : (lift-refusal n v (lengths-of t) (sound n t) g ≡ 0) × Pair-accepted (first-pair (lifting g v)) r
-    unfolding Lift-contract
     answer = accepted (lift-refusal n v (lengths-of t) (sound n t) g) (Pair-accepted (first-pair (lifting g v)) r)
-        (λ q. Pair-refused q r) (r .number) (λ q e. e .number) d z
+        (λ q. Pair-refused q r) (r .number) (λ q e. e .number) (lift-fields n v t r .0 d) z
 
     asked : Site-good n (lengths-of t) true (sound n t) × (v < n) × (is-lifted (lifting g v) ≡ true)
     asked = lift-zero n v (lengths-of t) (sound n t) g (answer .0)
@@ -94,7 +94,7 @@ module _ (n v : ℕ) (t : Tables) (r : Pair) (d : Lift-contract n v t r) where
     raises = lift-core g v given (asked .1) .0 (lift-first .does)
 
     pub lift-accepted : Listed-up n v t given
-    unfolding Link-contract link-refusal graph-in
+    unfolding link-refusal graph-in
     lift-accepted w s u x long c = (yes .number, listed)
       where
         a : ℕ
@@ -118,7 +118,7 @@ module _ (n v : ℕ) (t : Tables) (r : Pair) (d : Lift-contract n v t r) where
 
         yes : Link-accepted true a b g t w s u x
         yes = by-zero (link-refusal true n a b (lengths-of t) (length w) (sound n t) g) (Link-accepted true a b g t w s u x)
-            (λ q. Link-refused q t w s u x) zero-refusal c
+            (λ q. Link-refused q t w s u x) zero-refusal (link-fields true n a b t w s u x .0 c)
 
         moved : In v (changed true a b g)
         moved = go (bool-cases (member v (changed true a b g)))
@@ -143,14 +143,14 @@ module _ (n v : ℕ) (t : Tables) (r : Pair) (d : Lift-contract n v t r) where
       from : (radio-refusal n v (lengths-of t) (sound n t) ≡ 0) × No-lift g v → r .number ≡ 20
       from (e, h) =
           let none : lifting g v ≡ [] = empty (lifting g v) (none-lifted g v h) in
-          ap (λ (p : Pair). p .number) (lift-decided n v t r _ d (lift-unanswered n v t e none))
+          ap (λ (p : Pair). p .number) (d ∙ sym (lift-unanswered n v t e none))
         where
           empty : (ls : List Link) → is-lifted ls ≡ false → ls ≡ []
           empty [] q = refl
           empty (l ∷ ls) q = never true refl q
 
       to : r .number ≡ 20 → (radio-refusal n v (lengths-of t) (sound n t) ≡ 0) × No-lift g v
-      to e = go (by-cases (lift-refusal n v (lengths-of t) (sound n t) g) (Pair-accepted (first-pair (lifting g v)) r) (λ q. Pair-refused q r) d)
+      to e = go (by-cases (lift-refusal n v (lengths-of t) (sound n t) g) (Pair-accepted (first-pair (lifting g v)) r) (λ q. Pair-refused q r) (lift-fields n v t r .0 d))
         where
           go : ((lift-refusal n v (lengths-of t) (sound n t) g ≡ 0) × Pair-accepted (first-pair (lifting g v)) r)
               ⊎ ((lift-refusal n v (lengths-of t) (sound n t) g ≡ 0 → ⊥) × Pair-refused (lift-refusal n v (lengths-of t) (sound n t) g) r)

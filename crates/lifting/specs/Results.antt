@@ -14,7 +14,7 @@ use Rattle.mesh.specs.Graph.{Link, Graph, relinked}
 use Rattle.mesh.specs.Cores.{Core}
 use Rattle.mesh.specs.Tables.{Tables, graph-in}
 use Rattle.mesh.specs.Valid.{Allowed}
-use Rattle.calls.specs.Contracts.Links.{Link-contract}
+use Rattle.calls.specs.Contracts.{Link-contract}
 use Rattle.calls.specs.declared.Reply.{Reply}
 use Rattle.lifting.specs.Search.{First-lift}
 

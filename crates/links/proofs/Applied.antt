@@ -28,7 +28,7 @@ use Rattle.mesh.proofs.Cores.Peeling.{number-core, length-numbers, getD-numbers
 use Rattle.mesh.proofs.Links.Call.{unchanged-number}
 use Rattle.mesh.proofs.Links.Laws.{link-by-one, link-valid}
 use Rattle.mesh.specs.Valid.{Valid, Allowed, smaller, larger}
-use Rattle.calls.specs.Contracts.Links.{Link-accepted}
+use Rattle.calls.specs.Fields.{Link-accepted}
 use Rattle.calls.specs.declared.Reply.{Reply}
 use Rattle.tables.specs.Steps.{stepped, all-stepped}
 use Rattle.tables.proofs.StepLaws.{length-all-stepped, getD-all-stepped-other, getD-all-stepped-listed}

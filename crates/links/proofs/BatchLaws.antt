@@ -16,9 +16,11 @@ use Rattle.mesh.specs.Tables.{Tables, graph-in}
 use Rattle.mesh.specs.Sound.{sound}
 use Rattle.calls.specs.Questions.{ask, lengths-of, tables-refusal, ends-refusal}
 use Rattle.calls.specs.Batches.{list-length, batch-refusal}
-use Rattle.calls.specs.Contracts.Batches.{Batch-done, Batch-refused, Batch-contract}
+use Rattle.calls.specs.Fields.{Batch-done, Batch-refused}
+use Rattle.calls.specs.Contracts.{Batch-contract}
 use Rattle.calls.specs.declared.Value.{Value}
 use Rattle.calls.proofs.ChainLaws.{site-zero}
+use Rattle.calls.proofs.FieldLaws.{batch-fields}
 use Rattle.calls.proofs.ContractLaws.{answer, by-accepted, by-refused}
 use Rattle.calls.proofs.Batches.{pairs, Batch-left, batch-first, batch-next, batch-ended, batch-halted, batch-few}
 use Rattle.soundness.specs.Checks.{examinable, Examined, fits-sound}
@@ -153,10 +155,10 @@ module _ (n : ℕ) (xs : List ℕ) (t : Tables) (p h : ℕ) (ep : p ≡ max-radi
   R = batch-refusal n (lengths-of t) (length xs) (sound n t)
 
   pub batch-refused : (q ≡ 0 → ⊥) → Batch-contract n xs t (answer q 0) t
-  unfolding Batch-contract
   batch-refused h0 =
-      by-refused R (Batch-done n xs (pairs n t) t (answer q 0) t) (λ x. Batch-refused x t (answer q 0) t) (λ z. h0 (d .number ep eh ∙ z))
-      (record { number = d .number ep eh; value = refl; tables = refl })
+      batch-fields n xs t (answer q 0) t .1
+      (by-refused R (Batch-done n xs (pairs n t) t (answer q 0) t) (λ x. Batch-refused x t (answer q 0) t) (λ z. h0 (d .number ep eh ∙ z))
+      (record { number = d .number ep eh; value = refl; tables = refl }))
 
   module _ (yes : q ≡ 0) where
     pub batch-ready : Prepared n t places highs × (list-length (length xs) ≡ true)
@@ -167,5 +169,4 @@ module _ (n : ℕ) (xs : List ℕ) (t : Tables) (p h : ℕ) (ep : p ≡ max-radi
     )
 
     pub batch-carried : (r : Value) (v : Tables) → Batch-done n xs (pairs n t) t r v → Batch-contract n xs t r v
-    unfolding Batch-contract
-    batch-carried r v c = by-accepted R (λ x. Batch-refused x t r v) (sym (d .number ep eh) ∙ yes) c
+    batch-carried r v c = batch-fields n xs t r v .1 (by-accepted R (λ x. Batch-refused x t r v) (sym (d .number ep eh) ∙ yes) c)

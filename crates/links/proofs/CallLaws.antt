@@ -11,8 +11,10 @@ use Rattle.mesh.specs.Graph.{Graph}
 use Rattle.mesh.specs.Tables.{Tables, graph-in}
 use Rattle.mesh.specs.Sound.{sound}
 use Rattle.calls.specs.Questions.{answer-length, lengths-of, ends-refusal, link-refusal}
-use Rattle.calls.specs.Contracts.Links.{Link-accepted, Link-refused, Link-contract}
+use Rattle.calls.specs.Fields.{Link-accepted, Link-refused}
+use Rattle.calls.specs.Contracts.{Link-contract}
 use Rattle.calls.specs.declared.Reply.{Reply}
+use Rattle.calls.proofs.FieldLaws.{link-fields}
 use Rattle.calls.proofs.ContractLaws.{by-accepted, by-refused}
 use Rattle.calls.proofs.ChainLaws.{site-zero}
 use Rattle.link_parts.specs.Changes.{plan-fits, Applied, Apply-contract}
@@ -57,10 +59,10 @@ module _ (up : Bool) (n a b : ℕ) (t : Tables) (w lent : List ℕ) (q start siz
 
   -- the tables and the answer table are as they were
   pub link-refused : (q ≡ 0 → ⊥) → (r : Reply) → r .number ≡ q → r .step ≡ pos 0 → r .count ≡ 0 → Link-contract up n a b t w r t w
-  unfolding Link-contract
   link-refused h r e s c =
-      by-refused R (Link-accepted up a b (graph-in n (t .links)) t w r t w) (λ p. Link-refused p t w r t w) (λ z. h (number-decided ∙ z))
-      (record { number = e ∙ number-decided; step = s; count = c; links = refl; numbers = refl; order = refl; answer = refl })
+      link-fields up n a b t w r t w .1
+      (by-refused R (Link-accepted up a b (graph-in n (t .links)) t w r t w) (λ p. Link-refused p t w r t w) (λ z. h (number-decided ∙ z))
+      (record { number = e ∙ number-decided; step = s; count = c; links = refl; numbers = refl; order = refl; answer = refl }))
 
   pub fits-decided : q ≡ 0 → plan-fits start size taken (length stretch) (length (t .order)) ≡ true
   unfolding link-refusal lengths-of
@@ -76,8 +78,9 @@ module _ (up : Bool) (n a b : ℕ) (t : Tables) (w lent : List ℕ) (q start siz
 
   pub link-accepted : q ≡ 0 → (r : Reply) (v : Tables) (x : List ℕ) → Apply-contract up a b start size taken stretch t w r v x
       → Link-contract up n a b t w r v x
-  unfolding Link-contract
-  link-accepted z r v x d = by-accepted R (λ p. Link-refused p t w r v x) (sym number-decided ∙ z) (link-applied z r v x (d .fitting (fits-decided z)))
+  link-accepted z r v x d =
+      link-fields up n a b t w r v x .1
+      (by-accepted R (λ p. Link-refused p t w r v x) (sym number-decided ∙ z) (link-applied z r v x (d .fitting (fits-decided z))))
 
 -- ---- going up or down
 

@@ -1,6 +1,6 @@
 // Link up and link down: asked, planned, applied.
 ghost use Rattle.mesh.specs.Tables.{lent};
-ghost use Rattle.calls.specs.Contracts.Links.{Link-contract};
+ghost use Rattle.calls.specs.Contracts.{Link-contract};
 use super::plan;
 use calls::Reply;
 use link_parts::apply;

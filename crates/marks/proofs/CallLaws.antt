@@ -30,13 +30,13 @@ use Rattle.mesh.proofs.Marks.Laws.{Sized, rising-sized, Place-mark, place-mark,
 use Rattle.mesh.proofs.Marks.Ranks.{rank-most, ranked, found-at, with-at, with-new, without-at}
 use Rattle.mesh.proofs.Marks.Rules.{mark-at}
 use Rattle.mesh.proofs.Marks.Bytes.{replaced, inserted, taken-out}
-use Rattle.calls.specs.Questions.{ask, By-number, Lengths, lengths-of, site-lengths, site-refusal, lent-refusal, image-length, write-refusal, read-refusal}
+use Rattle.calls.specs.Questions.{ask, Lengths, lengths-of, site-lengths, site-refusal, lent-refusal, image-length, write-refusal, read-refusal}
+use Rattle.calls.specs.Fields.{By-number, Tables-refused, Read-accepted, Store-accepted, Store-refused}
 use Rattle.calls.specs.Marks.{store-length, marks-good, is-marked, has-place, mark-refusal, set-refusal, named-refusal, set-store, removed-store, mark-image}
-use Rattle.calls.specs.Contracts.Forms.{Tables-refused}
-use Rattle.calls.specs.Contracts.Images.{Read-accepted, Read-contract}
-use Rattle.calls.specs.Contracts.Marks.{Store-accepted, Store-refused, Set-contract, Remove-contract, Return-contract}
+use Rattle.calls.specs.Contracts.{Read-contract, Set-contract, Remove-contract, Return-contract}
 use Rattle.calls.proofs.QuestionLaws.{ask-yes, ask-no, ask-zero}
 use Rattle.calls.proofs.ChainLaws.{site-zero, site-yes, write-yes, Site-good, Lent-good}
+use Rattle.calls.proofs.FieldLaws.{set-fields, remove-fields, return-fields, read-fields}
 use Rattle.calls.proofs.ContractLaws.{by-accepted, by-refused, by-zero}
 use Rattle.calls.proofs.MarkCalls.{Mark-asked, mark-zero, mark-is-image, mark-read}
 use Rattle.mark_store.specs.Store.{Located}
@@ -60,22 +60,25 @@ module _ (n : ℕ) (x : List ℕ) (t : Tables) (bs : List ℕ) (q : ℕ) (e : q 
   same-number later = e ∙ sym (stopped n (lengths-of t) (sound n t) x bs later (λ z. h (e ∙ z)))
 
   pub set-refused : Set-contract n x t bs q bs
-  unfolding Set-contract set-refusal
+  unfolding set-refusal
   set-refused =
       let f = same-number (ask 19 (has-place x bs) 0) in
-      by-refused _ (Store-accepted (set-store n x t bs) q bs) (λ y. Store-refused y bs q bs) (λ z. h (f ∙ z)) (record { number = f; store = refl })
+      set-fields n x t bs q bs .1
+      (by-refused _ (Store-accepted (set-store n x t bs) q bs) (λ y. Store-refused y bs q bs) (λ z. h (f ∙ z)) (record { number = f; store = refl }))
 
   pub remove-refused : Remove-contract n x t bs q bs
-  unfolding Remove-contract named-refusal
+  unfolding named-refusal
   remove-refused =
       let f = same-number (ask 18 (is-marked x bs) 0) in
-      by-refused _ (Store-accepted (removed-store x bs) q bs) (λ y. Store-refused y bs q bs) (λ z. h (f ∙ z)) (record { number = f; store = refl })
+      remove-fields n x t bs q bs .1
+      (by-refused _ (Store-accepted (removed-store x bs) q bs) (λ y. Store-refused y bs q bs) (λ z. h (f ∙ z)) (record { number = f; store = refl }))
 
   pub return-refused : Return-contract n x bs t q t
-  unfolding Return-contract named-refusal
+  unfolding named-refusal
   return-refused =
       let f = same-number (ask 18 (is-marked x bs) 0) in
-      by-refused _ (Read-accepted n (mark-image n x bs) q t) (λ y. Tables-refused y q t t) (λ z. h (f ∙ z)) (record { number = f; links = refl; numbers = refl; order = refl })
+      return-fields n x bs t q t .1
+      (by-refused _ (Read-accepted n (mark-image n x bs) q t) (λ y. Tables-refused y q t t) (λ z. h (f ∙ z)) (record { number = f; links = refl; numbers = refl; order = refl }))
 
 -- ---- all four got yes
 
@@ -185,10 +188,11 @@ module _ (n : ℕ) (x : List ℕ) (t : Tables) (bs : List ℕ) (q : ℕ) (e : q 
     -- ---- setting
 
     set-by : has-place x bs ≡ true → (cs : List ℕ) → cs ≡ set-store n x t bs → Set-contract n x t bs 0 cs
-    unfolding Set-contract set-refusal
+    unfolding set-refusal
     set-by h cs f =
-        by-accepted _ (λ y. Store-refused y bs 0 cs) (further (ask 19 (has-place x bs) 0) ∙ ask-yes 19 (has-place x bs) 0 h)
-        (record { number = refl; store = f })
+        set-fields n x t bs 0 cs .1
+        (by-accepted _ (λ y. Store-refused y bs 0 cs) (further (ask 19 (has-place x bs) 0) ∙ ask-yes 19 (has-place x bs) 0 h)
+        (record { number = refl; store = f }))
 
     pub set-again : there ≡ true → (cs : List ℕ) → cs ≡ put-place bs first (mark-place n t x) → Set-contract n x t bs 0 cs
     unfolding put-place mark-place set-store has-place is-marked
@@ -208,12 +212,13 @@ module _ (n : ℕ) (x : List ℕ) (t : Tables) (bs : List ℕ) (q : ℕ) (e : q 
             (mark-kept .name) (with-at n (place-of x image) [] marks (asked .store .marks .rising)) h
 
     pub set-full : there ≡ false → used ≡ places → Set-contract n x t bs 19 bs
-    unfolding Set-contract set-refusal has-place is-marked
+    unfolding set-refusal has-place is-marked
     set-full h f =
         let none : has-place x bs ≡ false =
         ap₂ {C = Bool} (λ a b. a || b) (sym there-is ∙ h) (le-ltb (length marks) places (omega (arith, counted))) in
         let r = further (ask 19 (has-place x bs) 0) ∙ ask-no 19 (has-place x bs) 0 none in
-        by-refused _ (Store-accepted (set-store n x t bs) 19 bs) (λ y. Store-refused y bs 19 bs) (λ z. omega (arith, r)) (record { number = sym r; store = refl })
+        set-fields n x t bs 19 bs .1
+        (by-refused _ (Store-accepted (set-store n x t bs) 19 bs) (λ y. Store-refused y bs 19 bs) (λ z. omega (arith, r)) (record { number = sym r; store = refl }))
 
     pub set-new : there ≡ false → (used ≡ places → ⊥) → (cs : List ℕ) →
         cs ≡ put-place (moved-up bs (place-bytes * first) (place-bytes * used)) first (mark-place n t x) → Set-contract n x t bs 0 cs
@@ -245,28 +250,29 @@ module _ (n : ℕ) (x : List ℕ) (t : Tables) (bs : List ℕ) (q : ℕ) (e : q 
     a-mark h = further (ask 18 (has-mark x marks) 0) ∙ ask-yes 18 (has-mark x marks) 0 (sym there-is ∙ h)
 
     pub remove-absent : there ≡ false → Remove-contract n x t bs 18 bs
-    unfolding Remove-contract
     remove-absent h =
         let r = no-mark h in
-        by-refused _ (Store-accepted (removed-store x bs) 18 bs) (λ y. Store-refused y bs 18 bs) (λ z. omega (arith, r)) (record { number = sym r; store = refl })
+        remove-fields n x t bs 18 bs .1
+        (by-refused _ (Store-accepted (removed-store x bs) 18 bs) (λ y. Store-refused y bs 18 bs) (λ z. omega (arith, r)) (record { number = sym r; store = refl }))
 
     pub return-absent : there ≡ false → Return-contract n x bs t 18 t
-    unfolding Return-contract
     return-absent h =
         let r = no-mark h in
-        by-refused _ (Read-accepted n (mark-image n x bs) 18 t) (λ y. Tables-refused y 18 t t) (λ z. omega (arith, r))
-        (record { number = sym r; links = refl; numbers = refl; order = refl })
+        return-fields n x bs t 18 t .1
+        (by-refused _ (Read-accepted n (mark-image n x bs) 18 t) (λ y. Tables-refused y 18 t t) (λ z. omega (arith, r))
+        (record { number = sym r; links = refl; numbers = refl; order = refl }))
 
     -- ---- removing: w is the length of the place zeroed
 
     pub removed : there ≡ true → (w : ℕ) (cs : List ℕ) → w ≡ place-bytes →
         cs ≡ put-place (moved-down bs (place-bytes * (first + 1)) (place-bytes * used)) (used - 1) (replicate w 0) → Remove-contract n x t bs 0 cs
-    unfolding Remove-contract removed-store put-place
+    unfolding removed-store put-place
     removed h w cs g f =
         let l : rank x marks < length marks = omega (arith, below h, counted, first-is) in
         let k : length marks ≡ suc (used - 1) = omega (arith, below h, counted) in
         let i : first + 1 ≡ suc (rank x marks) = omega (arith, first-is) in
-        by-accepted _ (λ y. Store-refused y bs 0 cs) (a-mark h)
+        remove-fields n x t bs 0 cs .1
+        (by-accepted _ (λ y. Store-refused y bs 0 cs) (a-mark h)
         (record {
           number = refl;
           store =
@@ -277,7 +283,7 @@ module _ (n : ℕ) (x : List ℕ) (t : Tables) (bs : List ℕ) (q : ℕ) (e : q 
               ++ (replicate w 0 ++ drop (place-bytes * (used - 1) + place-bytes) (moved-down os (place-bytes * suc (rank x marks)) (place-bytes * length marks)))) (asked .store .whole)
               ∙ taken-out marks are-sized (asked .store .marks .few) (rank x marks) (used - 1) w l k g
               ∙ ap store-of (sym (without-at n x [] marks (asked .store .marks .rising) (sym there-is ∙ h)));
-        })
+        }))
 
     -- ---- coming back
 
@@ -335,8 +341,9 @@ module _ (n : ℕ) (x : List ℕ) (t : Tables) (bs : List ℕ) (q : ℕ) (e : q 
       pub returned : (r : ℕ) (v : Tables) →
           Read-contract n (take (place-bytes * first + name-bytes + s - (place-bytes * first + name-bytes)) (drop (place-bytes * first + name-bytes) bs)) t r v →
           Return-contract n x bs t r v
-      unfolding Return-contract Read-contract is-marked
+      unfolding is-marked
       returned r v d =
-          let c = subst (λ (image : List ℕ). By-number (read-refusal n (lengths-of t) image) (Read-accepted n image r v) (λ q. Tables-refused q r t v)) part-is d in
+          let c = read-fields n (mark-image n x bs) t r v .0 (subst (λ (image : List ℕ). Read-contract n image t r v) part-is d) in
           let z = mark-read n (lengths-of t) (sound n t) x bs asked (sym there-is ∙ h) in
-          by-accepted _ (λ q. Tables-refused q r t v) (a-mark h) (by-zero _ (Read-accepted n (mark-image n x bs) r v) (λ q. Tables-refused q r t v) z c)
+          return-fields n x bs t r v .1
+          (by-accepted _ (λ q. Tables-refused q r t v) (a-mark h) (by-zero _ (Read-accepted n (mark-image n x bs) r v) (λ q. Tables-refused q r t v) z c))

@@ -24,10 +24,9 @@ use Rattle.mesh.proofs.Images.Tables.{valid-graph-in, tables-of-graph-in}
 use Rattle.calls.specs.Script.{radios-text, up-line, script-of}
 use Rattle.calls.specs.Questions.{lengths-of, script-refusal}
 use Rattle.calls.specs.Switches.{Switch, switch, pairs-after, switched, tables-after, All-allowed}
-use Rattle.calls.specs.Outcomes.{by-number, reply, link-outcome}
-use Rattle.calls.specs.Contracts.Forms.{Listing-accepted, Listing-refused}
-use Rattle.calls.specs.Contracts.Links.{Link-contract}
-use Rattle.calls.specs.Contracts.Scripts.{Script-contract}
+use Rattle.calls.specs.Outcomes.{by-number, Linked, linked-with, reply, link-outcome}
+use Rattle.calls.specs.Fields.{Listing-accepted, Listing-refused}
+use Rattle.calls.specs.Contracts.{Link-contract, Script-contract}
 use Rattle.calls.specs.Book.{Answer}
 use Rattle.calls.specs.Runs.{answer-of}
 use Rattle.calls.specs.Worked.{lines}
@@ -35,7 +34,7 @@ use Rattle.calls.specs.declared.Reply.{Reply}
 use Rattle.calls.specs.declared.Value.{Value}
 use Rattle.calls.proofs.ChainLaws.{ends-yes}
 use Rattle.calls.proofs.RecordLaws.{tables-ext}
-use Rattle.calls.proofs.Outcomes.{link-decided, link-inhabited}
+use Rattle.calls.proofs.FieldLaws.{script-fields}
 use Rattle.calls.proofs.Accepted.{accepted}
 use Rattle.calls.proofs.Holds.{Holds, switched-holds, all-holds}
 use Rattle.calls.proofs.ByPairs.{link-by-pairs}
@@ -78,7 +77,7 @@ module _ (n : ℕ) (least : 1 ≤ n) (ps : List Link) (u : Tables) (k : Holds n 
   abbrev after : Tables
   after = switched n (switch true (l .low) (l .high)) u
 
-  outcome-up : link-outcome true n (l .low) (l .high) u w ≡ (reply 0 (step-of true cs) (length cs), after, overwrite cs w)
+  outcome-up : link-outcome true n (l .low) (l .high) u w ≡ linked-with (reply 0 (step-of true cs) (length cs)) after (overwrite cs w)
   unfolding by-number
   outcome-up = link-by-pairs n ps u k least true (l .low) (l .high) w room ∙ rw (ends-yes max-neighbours true (l .low) (l .high) (graph n ps) ok)
 
@@ -88,19 +87,17 @@ module _ (n : ℕ) (least : 1 ≤ n) (ps : List Link) (u : Tables) (k : Holds n 
 
   up-only : (r : Reply) (v : Tables) (x : List ℕ) → Link-contract true n (l .low) (l .high) u w r v x →
       (r .number ≡ 0) × (v ≡ after) × (x ≡ overwrite cs w)
+  unfolding Link-contract
   up-only r v x d =
-      let o : Reply × Tables × List ℕ = (r, v, x) in
-      let same : o ≡ (reply 0 (step-of true cs) (length cs), after, overwrite cs w) =
-      link-decided true n (l .low) (l .high) u w o (link-outcome true n (l .low) (l .high) u w) d (link-inhabited true n (l .low) (l .high) u w) ∙ outcome-up in (
-        ap (λ (z : Reply × Tables × List ℕ). z .0 .number) same,
-        ap (λ (z : Reply × Tables × List ℕ). z .1) same,
-        ap (λ (z : Reply × Tables × List ℕ). z .2) same,
+      let same = d ∙ outcome-up in (
+        ap (λ (z : Linked). z .reply .number) same,
+        ap (λ (z : Linked). z .tables) same,
+        ap (λ (z : Linked). z .answer) same,
       )
 
   up-does : Link-contract true n (l .low) (l .high) u w (reply 0 (step-of true cs) (length cs)) after (overwrite cs w)
-  up-does =
-      subst (λ (o : Reply × Tables × List ℕ). Link-contract true n (l .low) (l .high) u w (o .0) (o .1) (o .2)) outcome-up
-      (link-inhabited true n (l .low) (l .high) u w)
+  unfolding Link-contract
+  up-does = sym outcome-up
 
 -- ---- links in turn
 
@@ -281,10 +278,10 @@ script-plays n t least small size is-sound = record {
 pub written-plays :
     (n : ℕ) (t : Tables) (w : List ℕ) (r : Value) (x : List ℕ) → Script-contract n t w r x → r .number ≡ 0 → Entries-below 256 (t .links) →
     Plays-back n t (take (r .value) x)
-unfolding Script-contract lengths-of
+unfolding lengths-of
 written-plays n t w r x d z bytes =
     let c = accepted (script-refusal n (lengths-of t) (length w) (sound n t) (graph-in n (t .links))) _
-    (λ q. Listing-refused q w r x) (r .number) (λ q e. e .number) d z in
+    (λ q. Listing-refused q w r x) (r .number) (λ q e. e .number) (script-fields n t w r x .0 d) z in
     let good = script-zero n (lengths-of t) (length w) (sound n t) (graph-in n (t .links)) (c .0) .0 in
     subst (λ (bs : List ℕ). Plays-back n t bs) (sym (script-right n t w r x d z .text))
     (script-plays n t (good .lent .least) (good .lent .most)

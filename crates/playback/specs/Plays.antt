@@ -10,7 +10,7 @@ use mathlib.Core.List.{List, [], _∷_}
 use Prim.Native.Nat.{ℕ, zero, suc}
 use lib.ListN.{replicate}
 use Rattle.mesh.specs.Tables.{Tables}
-use Rattle.calls.specs.Contracts.Links.{Link-contract}
+use Rattle.calls.specs.Contracts.{Link-contract}
 use Rattle.calls.specs.Book.{Answer}
 use Rattle.calls.specs.Runs.{answer-of}
 use Rattle.calls.specs.declared.Reply.{Reply}

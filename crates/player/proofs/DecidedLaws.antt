@@ -7,7 +7,8 @@ use lib.ListN.{take}
 use Rattle.mesh.specs.Tables.{Tables}
 use Rattle.calls.specs.Replay.{link-line}
 use Rattle.calls.specs.declared.Reply.{Reply}
-use Rattle.calls.proofs.Outcomes.{link-decided}
+use Rattle.calls.specs.Outcomes.{Linked}
+use Rattle.calls.specs.Contracts.{Link-contract}
 use Rattle.script.specs.Lines.{line-of}
 use Rattle.script.specs.declared.lines.Line.{Line}
 use Rattle.script.specs.declared.lines.Line.the-variants.{Radios, Up, Down, Bad}
@@ -23,14 +24,13 @@ pub record Same-line (text said : List ℕ) (v u : Tables) (x y : List ℕ) : Ty
 
 called-decided : (up : Bool) (n a b : ℕ) (t v u : Tables) (w x y text said : List ℕ) → Called up n a b t w text v x → Called up n a b t w said u y
     → Same-line text said v u x y
+unfolding Link-contract
 called-decided up n a b t v u w x y text said h k =
-    let o : Reply × Tables × List ℕ = (h .reply, v, x) in
-    let s : Reply × Tables × List ℕ = (k .reply, u, y) in
-    let same = link-decided up n a b t w o s (h .does) (k .does) in
+    let same = h .does ∙ sym (k .does) in
     record {
-      text-same = h .says ∙ ap (λ (z : Reply × Tables × List ℕ). link-line (z .0 .number) (z .0 .step) (take (z .0 .count) (z .2))) same ∙ sym (k .says);
-      tables = ap (λ (z : Reply × Tables × List ℕ). z .1) same;
-      answer = ap (λ (z : Reply × Tables × List ℕ). z .2) same;
+      text-same = h .says ∙ ap (λ (z : Linked). link-line (z .reply .number) (z .reply .step) (take (z .reply .count) (z .answer))) same ∙ sym (k .says);
+      tables = ap (λ (z : Linked). z .tables) same;
+      answer = ap (λ (z : Linked). z .answer) same;
     }
 
 played-decided : (n : ℕ) (l : Line) (t v u : Tables) (w x y text said : List ℕ) → Played n l t w text v x → Played n l t w said u y

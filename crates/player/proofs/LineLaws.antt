@@ -7,7 +7,7 @@ use lib.IntN.{ℤ}
 use lib.ListN.{take}
 use Rattle.mesh.specs.Tables.{Tables}
 use Rattle.calls.specs.Replay.{link-line}
-use Rattle.calls.specs.Contracts.Links.{Link-contract}
+use Rattle.calls.specs.Contracts.{Link-contract}
 use Rattle.calls.specs.declared.Reply.{Reply}
 use Rattle.script.specs.Lines.{line-of}
 use Rattle.text.specs.Print.{Buffer, Puts, put}

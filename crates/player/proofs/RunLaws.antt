@@ -8,7 +8,7 @@ use Prim.Native.Nat.{ℕ, zero, suc, _+_}
 use lib.ListN.{replicate}
 use Rattle.mesh.specs.Tables.{Tables}
 use Rattle.calls.specs.Outcomes.{link-outcome}
-use Rattle.calls.proofs.Outcomes.{link-inhabited}
+use Rattle.calls.specs.Contracts.{Link-contract}
 use Rattle.script.specs.Lines.{line-of}
 use Rattle.script.specs.declared.lines.Line.{Line}
 use Rattle.script.specs.declared.lines.Line.the-variants.{Radios, Up, Down, Bad}
@@ -25,17 +25,17 @@ module _ (R : Tables → List ℕ → List ℕ → Type 0) (later : Tables → L
   called : (up : Bool) (x : Line) (n a b : ℕ) (l : List ℕ) (t : Tables) (w : List ℕ) → line-of l ≡ x
       → ((text : List ℕ) (v : Tables) (y : List ℕ) → Called up n a b t w text v y → Played n x t w text v y)
       → Line-then n l t w (call-text (link-outcome up n a b t w) later) R
-  unfolding call-text call-line
+  unfolding call-text call-line Link-contract
   called up x n a b l t w e plays =
       let o = link-outcome up n a b t w in
       record {
-        after = o .1;
-        answer = o .2;
+        after = o .tables;
+        answer = o .answer;
         first = call-line o;
-        more = later (o .1) (o .2);
-        played = subst (λ (z : Line). Played n z t w (call-line o) (o .1) (o .2)) (sym e)
-            (plays (call-line o) (o .1) (o .2) (record { reply = o .0; does = link-inhabited up n a b t w; says = refl }));
-        later = follows (o .1) (o .2);
+        more = later (o .tables) (o .answer);
+        played = subst (λ (z : Line). Played n z t w (call-line o) (o .tables) (o .answer)) (sym e)
+            (plays (call-line o) (o .tables) (o .answer) (record { reply = o .reply; does = refl; says = refl }));
+        later = follows (o .tables) (o .answer);
         whole = refl;
       }
 

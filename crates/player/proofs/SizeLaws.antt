@@ -18,10 +18,12 @@ use Rattle.lists.proofs.Range.{length-range, range-in}
 use Rattle.lists.proofs.Overwrite.{take-overwrite}
 use Rattle.text.specs.Text.{bytes-of, decimal, printed-line}
 use Rattle.calls.specs.Replay.{link-line, bad-line, numbers-line, order-line, closing-lines}
-use Rattle.calls.specs.Questions.{ask, By-number, Lengths, lengths-of, link-refusal, site-refusal, lent-refusal, ends-refusal}
-use Rattle.calls.specs.Contracts.Links.{Link-accepted, Link-refused, Link-contract}
+use Rattle.calls.specs.Questions.{ask, Lengths, lengths-of, link-refusal, site-refusal, lent-refusal, ends-refusal}
+use Rattle.calls.specs.Fields.{By-number, Link-accepted, Link-refused}
+use Rattle.calls.specs.Contracts.{Link-contract}
 use Rattle.calls.specs.declared.Reply.{Reply}
 use Rattle.calls.proofs.ChainLaws.{link-zero}
+use Rattle.calls.proofs.FieldLaws.{link-fields}
 use Rattle.script.specs.Lines.{line-of}
 use Rattle.text.specs.Print.{max-place}
 use Rattle.script.specs.declared.lines.Line.{Line}
@@ -88,7 +90,6 @@ unfolding graph-in
 radios-most up n a b l k s links z = link-zero up a b l k s (graph-in n links) z .0 .lent .most
 
 pub called-length : (up : Bool) (n a b : ℕ) (t v : Tables) (w x text : List ℕ) → Called up n a b t w text v x → length text ≤ longest
-unfolding Link-contract
 called-length up n a b t v w x text h =
     let g = graph-in n (t .links) in
     let R = link-refusal up n a b (lengths-of t) (length w) (sound n t) g in
@@ -96,7 +97,7 @@ called-length up n a b t v w x text h =
     = by-number _ R
     (λ z d. accepted-length up n a b t v w x (h .reply) (radios-most up n a b (lengths-of t) (length w) (sound n t) (t .links) z) d)
     (λ q e d. refused-length q t v w x (h .reply) (omega (arith, e, link-refusal-le up n a b (lengths-of t) (length w) (sound n t) g)) d)
-    (h .does) in
+    (link-fields up n a b t w (h .reply) v x .0 (h .does)) in
     omega (arith, ap length (h .says), line)
 
 -- ---- one byte

@@ -12,7 +12,7 @@ use Prim.Native.Nat.{ℕ}
 use lib.ListN.{take}
 use Rattle.mesh.specs.Tables.{Tables}
 use Rattle.calls.specs.Replay.{link-line}
-use Rattle.calls.specs.Contracts.Links.{Link-contract}
+use Rattle.calls.specs.Contracts.{Link-contract}
 use Rattle.calls.specs.declared.Reply.{Reply}
 use Rattle.text.specs.Print.{Buffer, Puts}
 use Rattle.script.specs.declared.lines.Line.{Line}

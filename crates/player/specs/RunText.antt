@@ -9,7 +9,7 @@ use mathlib.Core.List.{List, [], _∷_, _++_}
 use Prim.Native.Nat.{ℕ, zero, suc, _+_}
 use lib.ListN.{take, replicate}
 use Rattle.mesh.specs.Tables.{Tables}
-use Rattle.calls.specs.Outcomes.{link-outcome}
+use Rattle.calls.specs.Outcomes.{Linked, link-outcome}
 use Rattle.calls.specs.Replay.{link-line, closing-lines, bad-line}
 use Rattle.calls.specs.declared.Reply.{Reply}
 use Rattle.script.specs.Lines.{line-of}
@@ -19,12 +19,12 @@ use Rattle.player.specs.Play.{radios-of}
 use Rattle.player.specs.Whole.{lines-of, front, rest, cleared}
 
 -- refusal number, step, changed radios
-unfoldable pub call-line : Reply × Tables × List ℕ → List ℕ
-call-line o = link-line (o .0 .number) (o .0 .step) (take (o .0 .count) (o .2))
+unfoldable pub call-line : Linked → List ℕ
+call-line o = link-line (o .reply .number) (o .reply .step) (take (o .reply .count) (o .answer))
 
 -- a link call's line, and what later lines print on its tables
-unfoldable pub call-text : Reply × Tables × List ℕ → (later : Tables → List ℕ → List ℕ) → List ℕ
-call-text o later = call-line o ++ later (o .1) (o .2)
+unfoldable pub call-text : Linked → (later : Tables → List ℕ → List ℕ) → List ℕ
+call-text o later = call-line o ++ later (o .tables) (o .answer)
 
 -- a line by what it says: another form ends the run with its number
 unfoldable pub line-text : Line → (n k : ℕ) → Tables → (w : List ℕ) → (later : Tables → List ℕ → List ℕ) → List ℕ

@@ -1,6 +1,6 @@
 // Asking: what a link call would change.
 ghost use Rattle.mesh.specs.Tables.{lent};
-ghost use Rattle.calls.specs.Contracts.Proposals.{Ask-contract};
+ghost use Rattle.calls.specs.Contracts.{Ask-contract};
 use calls::Reply;
 use link_parts::apply;
 use links::plan;

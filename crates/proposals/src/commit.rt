@@ -2,7 +2,7 @@
 ghost use mathlib.Core.Path.{_≡_};
 ghost use lib.IntN.{pos};
 ghost use Rattle.mesh.specs.Tables.{lent};
-ghost use Rattle.calls.specs.Contracts.Proposals.{Commit-contract};
+ghost use Rattle.calls.specs.Contracts.{Commit-contract};
 ghost use Rattle.proposals.specs.Proposed.{plan-proposes};
 use calls::Refusal;
 use calls::Reply;

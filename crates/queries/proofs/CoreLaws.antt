@@ -23,7 +23,7 @@ use Rattle.lists.proofs.Range.{length-range}
 use Rattle.mesh.proofs.Trees.Reach.{core-of-iff, core-of-ascending}
 use Rattle.mesh.proofs.Trees.CoreLevels.{in-core-below, in-core-level}
 use Rattle.calls.specs.Questions.{lengths-of, core-refusal}
-use Rattle.calls.specs.Contracts.Cores.{Core-contract}
+use Rattle.calls.specs.Contracts.{Core-contract}
 use Rattle.calls.proofs.ChainLaws.{core-zero}
 use Rattle.calls.proofs.QuestionLaws.{answer-length-true}
 use Rattle.sets.specs.Sets.{in-set, in-one, gone, Gone-listed}
@@ -32,6 +32,7 @@ use Rattle.soundness.proofs.SoundSite.{Sound-site, number-entry}
 use Rattle.floods.proofs.FloodSteps.{true-floodable}
 use Rattle.floods.proofs.FloodCore.{level-radios, left-flood}
 use Rattle.soundness.proofs.SoundSite.{site-good-sound}
+use Rattle.calls.specs.Outcomes.{core-outcome}
 use Rattle.calls.proofs.ContractLaws.{answer, listing-refused, listing-answered}
 
 module _ (n : ℕ) (t : Tables) (s : Sound-site n t) (k v : ℕ) (radio : v < n) (level : k ≤ number (graph-in n (t .links)) v) where
@@ -104,7 +105,7 @@ module _ (n v k : ℕ) (t : Tables) (old : List ℕ) where
   refusal = core-refusal n v k (lengths-of t) (length old) (sound n t) (graph-in n (t .links))
 
   pub core-refused : (q : ℕ) → q ≡ refusal → (q ≡ 0 → ⊥) → Core-contract n v k t old (answer q 0) old
-  unfolding Core-contract
+  unfolding Core-contract core-outcome sound
   core-refused q e h = listing-refused _ _ _ old q e h
 
   module _ (e : refusal ≡ 0) where
@@ -131,7 +132,7 @@ module _ (n v k : ℕ) (t : Tables) (old : List ℕ) where
     pub core-listed : (none set rest queue : List ℕ) (r : ℕ) (after : List ℕ) (c : ℕ) (now : List ℕ) → length none ≡ 8 → length set ≡ 8 → length rest ≡ 8
         → length queue ≡ max-radios → Level-set (t .numbers) k none set → Flooded (t .links) v set queue r rest after → Gone-listed set rest old c now
         → Core-contract n v k t old (answer 0 c) now
-    unfolding Core-contract
+    unfolding Core-contract core-outcome sound
     core-listed none set rest queue r after c now zero words left room level f h =
         let s = core-tables in
         let can = true-floodable v (length set) (length queue) (record { radio = omega (arith, core-radio, s .small); words = words; room = omega arith }) in

@@ -3,7 +3,7 @@ ghost use mathlib.Core.Path.{_≡_};
 ghost use Rattle.mesh.specs.Tables.{graph-in, lent};
 ghost use Rattle.mesh.specs.Sound.{sound};
 ghost use Rattle.calls.specs.Questions.{lengths-of, core-refusal};
-ghost use Rattle.calls.specs.Contracts.Cores.{Core-contract};
+ghost use Rattle.calls.specs.Contracts.{Core-contract};
 use calls::Refusal;
 use calls::Value;
 use mesh::Site;

@@ -4,7 +4,8 @@ ghost use mathlib.Core.Path.{_≡_};
 ghost use Rattle.mesh.specs.Tables.{lent};
 ghost use Rattle.mesh.specs.Sound.{sound};
 ghost use Rattle.calls.specs.Questions.{lengths-of, pair-refusal};
-ghost use Rattle.calls.specs.Contracts.Radios.{first-of-two, Number-contract, Neighbours-contract, Linked-contract, First-contract};
+ghost use Rattle.calls.specs.Outcomes.{first-of-two};
+ghost use Rattle.calls.specs.Contracts.{Number-contract, Neighbours-contract, Linked-contract, First-contract};
 use calls::Refusal;
 use calls::Value;
 

@@ -16,7 +16,8 @@ use Rattle.text.specs.Print.{Buffer, buffer-at, max-place, put, Puts}
 use Rattle.text.proofs.PrintLaws.{put-fits}
 use Rattle.calls.specs.Script.{script-of, script-length}
 use Rattle.calls.specs.Questions.{ask, lengths-of, site-refusal, holds-script, script-length-refusal, script-refusal}
-use Rattle.calls.specs.Contracts.Scripts.{Script-length-contract, Script-contract}
+use Rattle.calls.specs.Contracts.{Script-length-contract, Script-contract}
+use Rattle.calls.specs.Outcomes.{script-length-outcome, script-outcome}
 use Rattle.calls.proofs.ContractLaws.{answer, value-refused, value-answered, listing-refused, listing-answered}
 use Rattle.calls.proofs.ChainLaws.{Site-good, site-zero, site-stops}
 use Rattle.calls.proofs.ScriptLaws.{script-yes, script-no, script-most}
@@ -39,11 +40,11 @@ module _ (n : ℕ) (t : Tables) where
   refusal w = script-refusal n (lengths-of t) (length w) (sound n t) g
 
   pub length-refused : (q : ℕ) → q ≡ questions → (q ≡ 0 → ⊥) → Script-length-contract n t (answer q 0)
-  unfolding Script-length-contract script-length-refusal
+  unfolding Script-length-contract script-length-outcome sound script-length-refusal
   length-refused q e h = value-refused _ _ q e h
 
   pub write-refused : (w : List ℕ) (q : ℕ) → q ≡ questions → (q ≡ 0 → ⊥) → Script-contract n t w (answer q 0) w
-  unfolding Script-contract script-refusal
+  unfolding Script-contract script-outcome sound script-refusal
   write-refused w q e h =
       listing-refused (refusal w) _ _ w q
       (e ∙ sym (site-stops n (lengths-of t) true (sound n t) (ask 13 (holds-script g (length w)) 0) (λ z. h (e ∙ z)))) h
@@ -76,19 +77,19 @@ module _ (n : ℕ) (t : Tables) where
       size-is = sized ∙ ap script-length marks-all
 
       pub length-answered : Script-length-contract n t (answer 0 size)
-      unfolding Script-length-contract script-length-refusal
+      unfolding Script-length-contract script-length-outcome sound script-length-refusal
       length-answered = value-answered _ _ size (sym asked ∙ none) size-is
 
       module _ (w : List ℕ) where
         pub write-no-room : length w < size → Script-contract n t w (answer 13 0) w
-        unfolding Script-contract
+        unfolding Script-contract script-outcome sound
         write-no-room h =
             listing-refused (refusal w) _ _ w 13 (sym (script-no n (lengths-of t) (length w) (sound n t) g passed (omega (arith, size-is))))
             (λ z. omega (arith, z))
 
         pub write-accepted : (x : List ℕ) (r : ℕ) → size ≤ length w → length w ≤ max-place → Puts (buffer-at w 0) (script-of marks) (buffer-at x r)
             → Script-contract n t w (answer 0 size) x
-        unfolding Script-contract script-length overwrite
+        unfolding Script-contract script-outcome sound script-length overwrite
         write-accepted x r room short p =
             let text = script-of g in
             let all : 0 + length text ≡ length text = omega arith in

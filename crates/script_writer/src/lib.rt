@@ -13,7 +13,7 @@ ghost use Rattle.rows.specs.Rows.{neighbours-above};
 ghost use Rattle.text.specs.Text.{digit-byte, decimal};
 ghost use Rattle.text.specs.Print.{buffer-at, Puts};
 ghost use Rattle.calls.specs.Script.{radios-text, up-text, up-line, script-of, script-length};
-ghost use Rattle.calls.specs.Contracts.Scripts.{Script-length-contract, Script-contract};
+ghost use Rattle.calls.specs.Contracts.{Script-length-contract, Script-contract};
 ghost use Rattle.link_list.specs.Links.{links-to, links-above, links-from, Rows-listed};
 use calls::Refusal;
 use calls::Value;

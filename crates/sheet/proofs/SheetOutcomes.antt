@@ -14,8 +14,9 @@ use Rattle.text.specs.Print.{Buffer, buffer-at, max-place, put}
 use Rattle.text.proofs.PrintLaws.{put-fits}
 use Rattle.calls.specs.Sheet.{line-bytes, sheet, sheet-lines, sheet-length, Cells-fit}
 use Rattle.calls.specs.Questions.{ask, lengths-of, site-refusal, sheet-refusal, holds-sheet}
-use Rattle.calls.specs.Contracts.Pages.{Sheet-contract}
+use Rattle.calls.specs.Contracts.{Sheet-contract}
 use Rattle.calls.proofs.QuestionLaws.{ask-no}
+use Rattle.calls.specs.Outcomes.{sheet-outcome}
 use Rattle.calls.proofs.ContractLaws.{listing-refused, listing-answered}
 use Rattle.calls.proofs.ChainLaws.{Site-good, site-zero, site-yes, sheet-yes, site-stops}
 use Rattle.calls.proofs.SheetLaws.{length-sheet, sheet-fits}
@@ -28,7 +29,7 @@ module _ (n : ℕ) (t : Tables) (w : List ℕ) where
   refusal = sheet-refusal n (lengths-of t) (length w) (sound n t)
 
   pub sheet-refused : (q : ℕ) → q ≡ questions → (q ≡ 0 → ⊥) → Sheet-contract n t w (record { number = q; value = 0 }) w
-  unfolding Sheet-contract sheet-refusal
+  unfolding Sheet-contract sheet-outcome sound sheet-refusal
   sheet-refused q e h =
       listing-refused refusal _ _ w q (e ∙ sym (site-stops n (lengths-of t) true (sound n t) (ask 12 (holds-sheet n (length w)) 0) (λ z. h (e ∙ z)))) h
 
@@ -51,7 +52,7 @@ module _ (n : ℕ) (t : Tables) (w : List ℕ) where
       sheet-room room = omega (arith, ap sheet-lines numbers-long)
 
       pub sheet-no-room : length w < size → Sheet-contract n t w (record { number = 12; value = 0 }) w
-      unfolding Sheet-contract sheet-refusal sheet-length holds-sheet
+      unfolding Sheet-contract sheet-outcome sound sheet-refusal sheet-length holds-sheet
       sheet-no-room h =
           let twelve : refusal ≡ 12 =
           site-yes n (lengths-of t) true (sound n t) (ask 12 (holds-sheet n (length w)) 0) passed
@@ -60,7 +61,7 @@ module _ (n : ℕ) (t : Tables) (w : List ℕ) where
 
       pub sheet-accepted : (x : List ℕ) → size ≤ length w → length w ≤ max-place → x ≡ put (buffer-at w 0) (sheet (t .numbers)) .bytes
           → Sheet-contract n t w (record { number = 0; value = size }) x
-      unfolding Sheet-contract sheet-length overwrite
+      unfolding Sheet-contract sheet-outcome sound sheet-length overwrite
       sheet-accepted x room short e =
           let long : length (sheet (t .numbers)) ≡ size = length-sheet (t .numbers) sheet-cells-fit ∙ ap sheet-length numbers-long ∙ sym sized in
           let zero-is : refusal ≡ 0 = sheet-yes n (lengths-of t) (length w) (sound n t) passed (omega arith) in

@@ -8,7 +8,7 @@ ghost use Rattle.text.specs.Text.{space, digit-byte};
 ghost use Rattle.text.specs.Print.{buffer-at, put, Puts};
 ghost use Rattle.calls.specs.Sheet.{digit-column, cell, cells, sheet-line, sheet-lines, sheet};
 ghost use Rattle.calls.specs.Sheet.{cell-width, line-cells, line-bytes, Cells-fit};
-ghost use Rattle.calls.specs.Contracts.Pages.{Sheet-contract};
+ghost use Rattle.calls.specs.Contracts.{Sheet-contract};
 use calls::Refusal;
 use calls::Value;
 

@@ -17,9 +17,9 @@ use Rattle.lists.proofs.Tests.{bool-cases, never, and-left, and-right, byte-bit
 use Rattle.lists.proofs.Range.{once-below}
 use Rattle.mesh.proofs.Cores.Orders.{each-once-of}
 use Rattle.calls.specs.Questions.{ask, Lengths, lengths-of, size-good, site-lengths, answer-length, lent-refusal, site-refusal, tables-refusal}
-use Rattle.calls.specs.Contracts.Sites.{Check-contract}
-use Rattle.calls.specs.Contracts.Forms.{Value-accepted, Value-refused}
-use Rattle.calls.proofs.ContractLaws.{by-accepted, by-refused}
+use Rattle.calls.specs.Contracts.{Check-contract}
+use Rattle.calls.specs.Outcomes.{check-outcome}
+use Rattle.calls.proofs.ContractLaws.{value-refused, value-answered}
 use Rattle.calls.proofs.ChainLaws.{lent-zero}
 use Rattle.calls.proofs.QuestionLaws.{true-size-good, true-site-lengths, true-answer-length, size-good-true, Site-lengths, site-lengths-true}
 use Rattle.calls.proofs.QuestionLaws.{answer-length-true}
@@ -182,14 +182,12 @@ site-lent n l others sound later e =
 
 pub check-refused : (n : ℕ) (t : Tables) (q : ℕ) → q ≡ tables-refusal n (lengths-of t) → (q ≡ 0 → ⊥)
     → Check-contract n t (record { number = q; value = 0 })
-unfolding Check-contract
+unfolding Check-contract check-outcome sound
 check-refused n t q e h =
-    by-refused (tables-refusal n (lengths-of t)) (Value-accepted (cond (sound n t) 1 0) (record { number = q; value = 0 }))
-    (λ x. Value-refused x (record { number = q; value = 0 })) (λ z. h (e ∙ z)) (record { number = e; value = refl })
+    value-refused _ _ q e h
 
 pub check-answered : (n : ℕ) (t : Tables) (b : Bool) → tables-refusal n (lengths-of t) ≡ 0 → b ≡ fits-sound n t
     → Check-contract n t (record { number = 0; value = boolByte b })
-unfolding Check-contract
+unfolding Check-contract check-outcome sound
 check-answered n t b e h =
-    by-accepted (tables-refusal n (lengths-of t)) (λ x. Value-refused x (record { number = 0; value = boolByte b })) e
-    (record { number = refl; value = byte-bit b ∙ ap (λ (x : Bool). cond {A = ℕ} x 1 0) (h ∙ fits-sound-lent n t e) })
+    value-answered _ _ _ e (byte-bit b ∙ ap (λ (x : Bool). cond {A = ℕ} x 1 0) (h ∙ fits-sound-lent n t e))

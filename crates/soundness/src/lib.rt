@@ -9,7 +9,7 @@ ghost use Rattle.mesh.specs.Orders.{rising};
 ghost use Rattle.mesh.specs.Sound.{number-in, sound};
 ghost use Rattle.mesh.specs.Tables.{lent, marked};
 ghost use Rattle.calls.specs.Questions.{lengths-of, site-refusal};
-ghost use Rattle.calls.specs.Contracts.Sites.{Check-contract};
+ghost use Rattle.calls.specs.Contracts.{Check-contract};
 ghost use Rattle.tables.specs.Sizes.{lengths};
 ghost use Rattle.lists.specs.Lists.{Entries-below};
 ghost use Rattle.rows.specs.Rows.{set-bits};

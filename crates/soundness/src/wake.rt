@@ -5,7 +5,7 @@ ghost use lib.ListN.{length};
 ghost use Rattle.mesh.specs.Tables.{lent, tables};
 ghost use Rattle.mesh.specs.Sound.{sound};
 ghost use Rattle.calls.specs.Questions.{lengths-of, radio-refusal};
-ghost use Rattle.calls.specs.Contracts.Wake.{Later-contract};
+ghost use Rattle.calls.specs.Contracts.{Later-contract};
 ghost use Rattle.soundness.specs.Checks.{Sound-radio, Later-counted};
 use crate::Ends;
 use calls::Later;

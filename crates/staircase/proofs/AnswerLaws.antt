@@ -12,12 +12,13 @@ use Rattle.mesh.specs.Connected.{greatest}
 use Rattle.mesh.specs.Tables.{Tables}
 use Rattle.mesh.specs.Sound.{sound}
 use Rattle.calls.specs.Questions.{lengths-of, site-refusal, staircase-length, staircase-refusal}
-use Rattle.calls.specs.Contracts.Staircase.{Staircase-contract}
+use Rattle.calls.specs.Contracts.{Staircase-contract}
 use Rattle.link_list.specs.Links.{links-from, Rows-listed}
 use Rattle.mesh.proofs.Tables.Rows.{symmetric-of}
 use Rattle.mesh.proofs.Trees.Listed.{greatest-le}
 use Rattle.calls.proofs.SheetLaws.{numbers-two-digits}
 use Rattle.calls.proofs.ChainLaws.{Site-good, site-zero}
+use Rattle.calls.specs.Outcomes.{staircase-outcome}
 use Rattle.calls.proofs.ContractLaws.{answer, listing-refused, listing-answered}
 use Rattle.soundness.proofs.SoundSite.{Sound-site, site-good-sound}
 use Rattle.link_list.proofs.GraphLinks.{rows-listed-few}
@@ -27,7 +28,7 @@ use Rattle.staircase.proofs.LevelLaws.{staircase-count, staircase-table
 
 module _ (n : ℕ) (t : Tables) (old : List ℕ) (q : ℕ) (asked : q ≡ site-refusal n (lengths-of t) (leb (2 * n) (length old)) (sound n t) 0) where
   pub staircase-refused : (q ≡ 0 → ⊥) → Staircase-contract n t old (answer q 0) old
-  unfolding Staircase-contract staircase-refusal staircase-length
+  unfolding Staircase-contract staircase-outcome sound staircase-refusal staircase-length
   staircase-refused h = listing-refused _ _ _ old q asked h
 
   module _ (e : q ≡ 0) where
@@ -56,7 +57,7 @@ module _ (n : ℕ) (t : Tables) (old : List ℕ) (q : ℕ) (asked : q ≡ site-r
         (levels-falling (table-weight (t .numbers)) (greatest (t .numbers)) (links-from (length (t .numbers)) (t .links) 0 0))
         (growing (range 0 (length (t .numbers))) old 0)
         → Staircase-contract n t old (answer 0 count) table
-    unfolding Staircase-contract staircase-refusal staircase-length
+    unfolding Staircase-contract staircase-outcome sound staircase-refusal staircase-length
     staircase-answered labels table count h =
         let room = leb-true (2 * n) (length old) (good .lent .further) in
         listing-answered _ _ _ old count table (sym asked ∙ e)

@@ -11,7 +11,7 @@ ghost use Rattle.mesh.specs.Graph.{link-of};
 ghost use Rattle.mesh.specs.Tables.{lent};
 ghost use Rattle.mesh.specs.Connected.{greatest};
 ghost use Rattle.mesh.specs.Staircase.{of-weight};
-ghost use Rattle.calls.specs.Contracts.Staircase.{Staircase-contract};
+ghost use Rattle.calls.specs.Contracts.{Staircase-contract};
 ghost use Rattle.rows.specs.Rows.{row-from, set-bits};
 ghost use Rattle.sets.specs.Sets.{in-set};
 ghost use Rattle.link_list.specs.Links.{links-to, links-from, Rows-listed};

@@ -2,21 +2,10 @@
 -- values at exit. That each meets its contract is in `Promises`.
 use mathlib.Core.Path.{_≡_}
 use mathlib.Core.Bool.{true, false}
-use Rattle.calls.specs.Contracts.Sites.{Clear-contract, Check-contract}
-use Rattle.calls.specs.Contracts.Links.{Link-contract}
-use Rattle.calls.specs.Contracts.Proposals.{Ask-contract, Commit-contract}
-use Rattle.calls.specs.Contracts.Batches.{Batch-contract}
-use Rattle.calls.specs.Contracts.Heard.{Hear-contract}
-use Rattle.calls.specs.Contracts.Images.{Read-contract, Write-contract, Block-contract}
-use Rattle.calls.specs.Contracts.Radios.{Number-contract, Neighbours-contract, Linked-contract, First-contract}
-use Rattle.calls.specs.Contracts.Wake.{Later-contract}
-use Rattle.calls.specs.Contracts.Lift.{Lift-contract}
-use Rattle.calls.specs.Contracts.Cores.{Core-contract, Backbone-contract}
-use Rattle.calls.specs.Contracts.Trees.{Tree-contract}
-use Rattle.calls.specs.Contracts.Pages.{Sheet-contract}
-use Rattle.calls.specs.Contracts.Scripts.{Script-length-contract, Script-contract}
-use Rattle.calls.specs.Contracts.Staircase.{Staircase-contract}
-use Rattle.calls.specs.Contracts.Marks.{Set-contract, Remove-contract, Return-contract}
+use Rattle.calls.specs.Contracts.{Clear-contract, Check-contract, Link-contract, Ask-contract, Commit-contract, Batch-contract, Hear-contract, Read-contract}
+use Rattle.calls.specs.Contracts.{Write-contract, Block-contract, Number-contract, Neighbours-contract, Linked-contract, First-contract, Later-contract}
+use Rattle.calls.specs.Contracts.{Lift-contract, Core-contract, Backbone-contract, Tree-contract, Sheet-contract, Script-length-contract, Script-contract}
+use Rattle.calls.specs.Contracts.{Staircase-contract, Set-contract, Remove-contract, Return-contract}
 use Rattle.block_reader.specs.Reader.{Stepped, Moved}
 use Rattle.summerbugle.specs.Functions.{Function, number-0, number-1, number-2, step-3, tables-1, tables-2, tables-3, tables-4, lent-0, lent-4, lent-5, lent-6}
 use Rattle.summerbugle.specs.Functions.{lent-7}

@@ -6,7 +6,7 @@ use Prim.Native.Nat.{ℕ}
 use lib.IntN.{ℤ}
 use Rattle.mesh.specs.Tables.{Tables}
 use Rattle.calls.specs.declared.Reply.{Reply}
-use Rattle.calls.specs.Contracts.Proposals.{Commit-contract}
+use Rattle.calls.specs.Contracts.{Commit-contract}
 
 pub commit-step : (up : Bool) (n a b : ℕ) (xs : List ℕ) (t v : Tables) (r : Reply) (y z : ℤ) → y ≡ z → Commit-contract up n a b y xs t r v
     → Commit-contract up n a b z xs t r v

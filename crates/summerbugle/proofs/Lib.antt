@@ -3,7 +3,8 @@
 pub mod Calls
 -- a call that meets its triple returns at the machine
 pub mod Returns
--- all promises
+-- all promises, and their proof
+pub mod Stated
 pub mod Promises
 -- the step that a host lends, handed on
 mod CommitStep

@@ -23,8 +23,10 @@ use Rattle.mesh.specs.declared.Node.{Node}
 use Rattle.lists.proofs.Tests.{bool-cases, and-left}
 use Rattle.mesh.proofs.Trees.Laws.{number-le-n}
 use Rattle.calls.specs.Questions.{ask, Lengths, lengths-of, size-good, site-lengths, nodes-length, answer-length, lent-refusal, site-refusal, tree-refusal}
-use Rattle.calls.specs.Contracts.Trees.{Tree-accepted, Tree-refused, Tree-contract}
+use Rattle.calls.specs.Fields.{Tree-accepted, Tree-refused}
+use Rattle.calls.specs.Contracts.{Tree-contract}
 use Rattle.calls.specs.declared.Value.{Value}
+use Rattle.calls.proofs.FieldLaws.{tree-fields}
 use Rattle.calls.proofs.ContractLaws.{by-accepted, by-refused, by-cases}
 use Rattle.calls.proofs.QuestionLaws.{ask-later, size-good-true, nodes-length-true}
 use Rattle.calls.proofs.ChainLaws.{site-zero}
@@ -138,13 +140,15 @@ module _ (n k : ℕ) (enough : max-radios + 1 ≤ k) (t : Tables) (ys : List Nod
   filled-none a = rw (a .value)
 
   to-tree : Outcome → Tree-contract n t ys w r filled (u .answer)
-  unfolding Tree-contract with-front
+  unfolding with-front
   to-tree (inl (e, a)) =
-      by-accepted refusal (λ q. Tree-refused q ys w r filled (u .answer)) e
-      (record { number = a .number; value = a .value; nodes = filled-tree a; answer = ap (λ (s : Lists). s .answer) (a .front) })
+      tree-fields n t ys w r filled (u .answer) .1
+      (by-accepted refusal (λ q. Tree-refused q ys w r filled (u .answer)) e
+      (record { number = a .number; value = a .value; nodes = filled-tree a; answer = ap (λ (s : Lists). s .answer) (a .front) }))
   to-tree (inr (e, a)) =
-      by-refused refusal (Tree-accepted g ys w r filled (u .answer)) (λ q. Tree-refused q ys w r filled (u .answer)) e
-      (record { number = a .number; value = a .value; nodes = filled-none a; answer = ap (λ (s : Lists). s .answer) (a .kept) })
+      tree-fields n t ys w r filled (u .answer) .1
+      (by-refused refusal (Tree-accepted g ys w r filled (u .answer)) (λ q. Tree-refused q ys w r filled (u .answer)) e
+      (record { number = a .number; value = a .value; nodes = filled-none a; answer = ap (λ (s : Lists). s .answer) (a .kept) }))
 
   pub lent-tree : Tables-contract n (length ys) t blank r u → Tree-contract n t ys w r filled (u .answer)
   lent-tree h = to-tree (outcome h)

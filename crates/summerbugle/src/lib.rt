@@ -2,21 +2,10 @@
 // it, under the same contract. No call has a `requires`.
 ghost use mathlib.Core.Bool.{true, false};
 ghost use Rattle.mesh.specs.Tables.{lent};
-ghost use Rattle.calls.specs.Contracts.Sites.{Clear-contract, Check-contract};
-ghost use Rattle.calls.specs.Contracts.Links.{Link-contract};
-ghost use Rattle.calls.specs.Contracts.Proposals.{Ask-contract, Commit-contract};
-ghost use Rattle.calls.specs.Contracts.Batches.{Batch-contract};
-ghost use Rattle.calls.specs.Contracts.Heard.{Hear-contract};
-ghost use Rattle.calls.specs.Contracts.Images.{Read-contract, Write-contract, Block-contract};
-ghost use Rattle.calls.specs.Contracts.Radios.{Number-contract, Neighbours-contract, Linked-contract, First-contract};
-ghost use Rattle.calls.specs.Contracts.Wake.{Later-contract};
-ghost use Rattle.calls.specs.Contracts.Lift.{Lift-contract};
-ghost use Rattle.calls.specs.Contracts.Cores.{Core-contract, Backbone-contract};
-ghost use Rattle.calls.specs.Contracts.Trees.{Tree-contract};
-ghost use Rattle.calls.specs.Contracts.Pages.{Sheet-contract};
-ghost use Rattle.calls.specs.Contracts.Scripts.{Script-length-contract, Script-contract};
-ghost use Rattle.calls.specs.Contracts.Staircase.{Staircase-contract};
-ghost use Rattle.calls.specs.Contracts.Marks.{Set-contract, Remove-contract, Return-contract};
+ghost use Rattle.calls.specs.Contracts.{Clear-contract, Check-contract, Link-contract, Ask-contract, Commit-contract, Batch-contract, Hear-contract, Read-contract};
+ghost use Rattle.calls.specs.Contracts.{Write-contract, Block-contract, Number-contract, Neighbours-contract, Linked-contract, First-contract, Later-contract};
+ghost use Rattle.calls.specs.Contracts.{Lift-contract, Core-contract, Backbone-contract, Tree-contract, Sheet-contract, Script-length-contract, Script-contract};
+ghost use Rattle.calls.specs.Contracts.{Staircase-contract, Set-contract, Remove-contract, Return-contract};
 use calls::Block;
 use calls::Later;
 use calls::Pair;

@@ -6,8 +6,9 @@ use native.Mathlib.Omega.{arith}
 use lib.ListN.{length, replicate}
 use Rattle.mesh.specs.Tables.{Tables}
 use Rattle.calls.specs.Questions.{lengths-of, tables-refusal}
-use Rattle.calls.specs.Contracts.Sites.{Clear-contract, Clear-accepted}
-use Rattle.calls.specs.Contracts.Forms.{Tables-refused}
+use Rattle.calls.specs.Contracts.{Clear-contract}
+use Rattle.calls.specs.Fields.{Clear-accepted, Tables-refused}
+use Rattle.calls.proofs.FieldLaws.{clear-fields}
 use Rattle.calls.proofs.ContractLaws.{by-accepted, by-refused}
 use Rattle.calls.proofs.ChainLaws.{Lent-good, lent-zero}
 use Rattle.tables.specs.Widths.{values}
@@ -15,22 +16,23 @@ use Rattle.tables.proofs.WidthLaws.{values-index}
 
 -- the tables are as they were
 pub clear-refused : (n r : ℕ) (t : Tables) → r ≡ tables-refusal n (lengths-of t) → (r ≡ 0 → ⊥) → Clear-contract n t r t
-unfolding Clear-contract
 clear-refused n r t e h =
-    by-refused (tables-refusal n (lengths-of t)) (Clear-accepted n r t) (λ q. Tables-refused q r t t) (λ p. h (e ∙ p))
-    (record { number = e; links = refl; numbers = refl; order = refl })
+    clear-fields n t r t .1
+    (by-refused (tables-refusal n (lengths-of t)) (Clear-accepted n r t) (λ q. Tables-refused q r t t) (λ p. h (e ∙ p))
+    (record { number = e; links = refl; numbers = refl; order = refl }))
 
 -- zeros to the length of links and of numbers, and the indexes to that of the order
 pub clear-accepted :
     (n : ℕ) (t v : Tables) → tables-refusal n (lengths-of t) ≡ 0 → v .links ≡ replicate (length (t .links)) 0 →
     v .numbers ≡ replicate (length (t .numbers)) 0 → v .order ≡ values 16 (λ i. i) (length (t .order)) → Clear-contract n t 0 v
-unfolding Clear-contract tables-refusal lengths-of
+unfolding tables-refusal lengths-of
 clear-accepted n t v e l k o =
     let good : Lent-good n (lengths-of t) true = lent-zero n (lengths-of t) true 0 e .0 in
-    by-accepted (tables-refusal n (lengths-of t)) (λ q. Tables-refused q 0 t v) e
+    clear-fields n t 0 v .1
+    (by-accepted (tables-refusal n (lengths-of t)) (λ q. Tables-refused q 0 t v) e
     (record {
       number = refl;
       links = l ∙ ap (λ i. replicate i 0) (good .lengths .links);
       numbers = k ∙ ap (λ i. replicate i 0) (good .lengths .numbers);
       order = o ∙ ap (values 16 (λ i. i)) (good .lengths .order) ∙ values-index 16 n (omega (arith, good .most));
-    })
+    }))

@@ -1,6 +1,6 @@
 // Clearing a site.
 ghost use Rattle.mesh.specs.Tables.{lent};
-ghost use Rattle.calls.specs.Contracts.Sites.{Clear-contract};
+ghost use Rattle.calls.specs.Contracts.{Clear-contract};
 use super::fill;
 use super::sizes;
 use mesh::Site;

@@ -29,7 +29,8 @@ use Rattle.mesh.specs.Tables.{Tables, tables, graph-in}
 use Rattle.mesh.specs.Sound.{sound}
 use Rattle.mesh.specs.Tree.{root-name, root, node, shell, node-name, parent-name, nodes-at, tree, node-names}
 use Rattle.mesh.specs.declared.Node.{Node}
-use Rattle.calls.specs.Questions.{By-number, lengths-of, tree-refusal}
+use Rattle.calls.specs.Questions.{lengths-of, tree-refusal}
+use Rattle.calls.specs.Fields.{By-number}
 use Rattle.calls.specs.declared.Value.{Value}
 use Rattle.sets.specs.Sets.{in-set}
 use Rattle.soundness.specs.Checks.{fits-sound}

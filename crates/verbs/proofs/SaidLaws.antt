@@ -3,9 +3,7 @@ use mathlib.Core.Path.{_≡_, sym, subst}
 use mathlib.Core.List.{List}
 use Prim.Native.Nat.{ℕ}
 use Rattle.mesh.specs.Tables.{Tables}
-use Rattle.calls.specs.Contracts.Pages.{Sheet-contract}
-use Rattle.calls.specs.Contracts.Scripts.{Script-contract}
-use Rattle.calls.specs.Contracts.Images.{Write-contract}
+use Rattle.calls.specs.Contracts.{Sheet-contract, Script-contract, Write-contract}
 use Rattle.calls.specs.declared.Value.{Value}
 use Rattle.verbs.specs.declared.Text.{Text}
 use Rattle.verbs.specs.declared.names.Verb.{Verb}

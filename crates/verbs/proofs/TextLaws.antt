@@ -8,9 +8,7 @@ use Rattle.lists.proofs.Overwrite.{take-overwrite}
 use Rattle.lists.proofs.Parts.{take-min}
 use Rattle.text.specs.Print.{buffer-at, Puts}
 use Rattle.mesh.specs.Graph.{Link}
-use Rattle.calls.specs.Questions.{By-number}
-use Rattle.calls.specs.Contracts.Forms.{Listing-by}
-use Rattle.calls.specs.Contracts.Lift.{Pair-accepted, Pair-refused}
+use Rattle.calls.specs.Fields.{By-number, Listing-by, Pair-accepted, Pair-refused}
 use Rattle.calls.specs.declared.Pair.{Pair}
 use Rattle.calls.specs.declared.Value.{Value}
 use Rattle.verbs.specs.declared.Text.{Text}

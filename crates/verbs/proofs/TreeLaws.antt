@@ -15,7 +15,8 @@ use Rattle.mesh.specs.Tables.{Tables, graph-in}
 use Rattle.mesh.specs.Sound.{sound}
 use Rattle.mesh.specs.Tree.{tree, node-name, node-names}
 use Rattle.mesh.specs.declared.Node.{Node}
-use Rattle.calls.specs.Questions.{By-number, lengths-of, nodes-length, answer-length, tree-refusal}
+use Rattle.calls.specs.Questions.{lengths-of, nodes-length, answer-length, tree-refusal}
+use Rattle.calls.specs.Fields.{By-number}
 use Rattle.calls.specs.declared.Value.{Value}
 use Rattle.calls.proofs.ChainLaws.{site-zero}
 use Rattle.tree.specs.Trees.{Lists, with-front, places, Tables-accepted, Lists-refused, Tables-contract}

@@ -14,9 +14,7 @@ use Rattle.mesh.specs.Staircase.{staircase, link-entries}
 use Rattle.calls.specs.Questions.{lengths-of, core-refusal, backbone-refusal, staircase-refusal, tree-refusal}
 use Rattle.calls.specs.Lift.{lifting, first-pair, lift-refusal}
 use Rattle.calls.specs.Replay.{numbers-line}
-use Rattle.calls.specs.Contracts.Pages.{Sheet-contract}
-use Rattle.calls.specs.Contracts.Scripts.{Script-contract}
-use Rattle.calls.specs.Contracts.Images.{Write-contract}
+use Rattle.calls.specs.Contracts.{Sheet-contract, Script-contract, Write-contract}
 use Rattle.calls.specs.declared.Value.{Value}
 use Rattle.verbs.specs.declared.Text.{Text}
 use Rattle.verbs.specs.declared.names.Verb.{Verb}

@@ -17,7 +17,7 @@ use Rattle.mesh.specs.Graph.{Graph}
 use Rattle.mesh.specs.Cores.{number}
 use Rattle.mesh.specs.Tree.{tree, node-names}
 use Rattle.mesh.specs.declared.Node.{Node}
-use Rattle.calls.specs.Questions.{By-number}
+use Rattle.calls.specs.Fields.{By-number}
 use Rattle.verbs.specs.declared.Text.{Text}
 
 -- a word, then the radios

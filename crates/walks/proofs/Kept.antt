@@ -26,10 +26,11 @@ use Rattle.mesh.proofs.Cores.KOrders.{k-order-certificate}
 use Rattle.mesh.proofs.Images.Tables.{valid-graph-in}
 use Rattle.calls.specs.Questions.{lengths-of, link-refusal, commit-refusal}
 use Rattle.calls.specs.Switches.{switched}
-use Rattle.calls.specs.Contracts.Links.{Link-accepted, Link-refused, Link-contract}
-use Rattle.calls.specs.Contracts.Proposals.{Commit-accepted, Commit-refused, Commit-contract}
+use Rattle.calls.specs.Fields.{Link-accepted, Link-refused, Commit-accepted, Commit-refused}
+use Rattle.calls.specs.Contracts.{Link-contract, Commit-contract}
 use Rattle.calls.specs.declared.Reply.{Reply}
 use Rattle.calls.proofs.ChainLaws.{link-zero, commit-zero}
+use Rattle.calls.proofs.FieldLaws.{link-fields, commit-fields}
 use Rattle.calls.proofs.Accepted.{accepted}
 use Rattle.walks.specs.Results.{before-ends, Beginning-kept}
 use Rattle.walks.proofs.Beginning as beginning
@@ -83,21 +84,21 @@ beginning-kept a b g xs valid ok = at (cut-at a b xs (once-in (g .n) xs (k-order
 
 pub link-begins : (n a b : ℕ) (t : Tables) (w : List ℕ) (r : Reply) (v : Tables) (x : List ℕ) → Link-contract true n a b t w r v x → r .number ≡ 0
     → Beginning-kept a b (graph-in n (t .links)) (t .order) (v .order)
-unfolding Link-contract graph-in sound
+unfolding graph-in sound
 link-begins n a b t w r v x d z =
     let g = graph-in n (t .links) in
     let c = accepted (link-refusal true n a b (lengths-of t) (length w) (sound n t) g) (Link-accepted true a b g t w r v x)
-    (λ q. Link-refused q t w r v x) (r .number) (λ q e. e .number) d z in
+    (λ q. Link-refused q t w r v x) (r .number) (λ q e. e .number) (link-fields true n a b t w r v x .0 d) z in
     let good = link-zero true a b (lengths-of t) (length w) (sound n t) g (c .0) in
     rw (c .1 .order) (beginning-kept a b g (t .order) (valid-graph-in max-neighbours n t (good .0 .lent .most) (good .0 .is-sound)) (good .1))
 
 pub commit-begins : (n a b : ℕ) (z : ℤ) (xs : List ℕ) (t : Tables) (r : Reply) (v : Tables) → Commit-contract true n a b z xs t r v → r .number ≡ 0
     → Beginning-kept a b (graph-in n (t .links)) (t .order) (v .order)
-unfolding Commit-contract graph-in switched sound
+unfolding graph-in switched sound
 commit-begins n a b z xs t r v d y =
     let g = graph-in n (t .links) in
     let c = accepted (commit-refusal true n a b z xs (lengths-of t) (sound n t) g) (Commit-accepted true n a b t r v)
-    (λ q. Commit-refused q t r v) (r .number) (λ q e. e .number) d y in
+    (λ q. Commit-refused q t r v) (r .number) (λ q e. e .number) (commit-fields true n a b z xs t r v .0 d) y in
     let good = commit-zero true a b z xs (lengths-of t) (sound n t) g (c .0) in
     let order : v .order ≡ new-order true a b g (t .order) = ap (λ (o : Tables). o .order) (c .1 .tables) in
     rw order (beginning-kept a b g (t .order) (valid-graph-in max-neighbours n t (good .0 .lent .most) (good .0 .is-sound)) (good .1))

@@ -53,7 +53,7 @@ use sound.WpLaws.{fmOf, WpFn-mono}
 use Rattle.lists.specs.Lists.{overwrite}
 use Rattle.mesh.specs.Tables.{tables}
 use Rattle.mesh.specs.declared.Node.{Node}
-use Rattle.calls.specs.Contracts.Trees.{Tree-contract}
+use Rattle.calls.specs.Contracts.{Tree-contract}
 use Rattle.calls.specs.declared.Value.{Value}
 use Rattle.summerbugle.specs.Nodes.{nodes-in}
 use Rattle.tree.specs.Trees.{Lists, lists, Tables-contract}

@@ -51,7 +51,7 @@ use sound.WpLaws.{fmOf, WpFn-mono}
 use Rattle.mesh.specs.Tables.{tables}
 use Rattle.mesh.specs.Tree.{node}
 use Rattle.mesh.specs.declared.Node.{Node}
-use Rattle.calls.specs.Contracts.Trees.{Tree-contract}
+use Rattle.calls.specs.Contracts.{Tree-contract}
 use Rattle.calls.specs.declared.Value.{Value}
 use Rattle.summerbugle.proofs.LocalArray.{Lies, arrTy, typed, made, lends, back, read, Others, apart, joined}
 use Rattle.summerbugle.proofs.sb_tree.Symbol.{name as #sb-tree}

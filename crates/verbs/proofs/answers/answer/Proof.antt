@@ -2,7 +2,7 @@
 use mathlib.Core.Path.{refl}
 use borrow.Author.Needs.{needs}
 use Rattle.text.specs.Print.{put}
-use Rattle.calls.specs.Questions.{By-number}
+use Rattle.calls.specs.Fields.{By-number}
 use Rattle.verbs.specs.Said.{Said}
 use Rattle.verbs.proofs.SaidLaws.{as-verb, as-sheet, as-script, as-image}
 use Rattle.verbs.proofs.answers.answer.Statement.{statement}

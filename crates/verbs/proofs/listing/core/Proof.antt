@@ -4,7 +4,7 @@ use mathlib.Core.List.{List}
 use Prim.Native.Nat.{ℕ}
 use borrow.Author.Needs.{needs}
 use Rattle.text.specs.Text.{bytes-of}
-use Rattle.calls.specs.Contracts.Cores.{Core-contract}
+use Rattle.calls.proofs.FieldLaws.{core-fields}
 use Rattle.verbs.specs.Texts.{radios-line}
 use Rattle.verbs.specs.Said.{Core-said}
 use Rattle.verbs.proofs.TextLaws.{by-listed}
@@ -12,11 +12,11 @@ use Rattle.verbs.proofs.listing.core.Statement.{statement}
 use Rattle.verbs.proofs.listing.core.Tie as tie
 
 returns : tie.Need-returns
-unfolding Core-said Core-contract
+unfolding Core-said
 returns c =
     let put = c .before .before in
     let asked = put .before .before .before .before .before in
-    by-listed (λ (rs : List ℕ). radios-line (bytes-of "core") rs) (λ (k : ℕ). k) _ _ _ _ _ _ _ _ _ refl (asked .core .ensures) (put .put-list .ensures)
+    by-listed (λ (rs : List ℕ). radios-line (bytes-of "core") rs) (λ (k : ℕ). k) _ _ _ _ _ _ _ _ _ refl (core-fields _ _ _ _ _ _ _ .0 (asked .core .ensures)) (put .put-list .ensures)
 
 pub core-spec : {M : Type 1} → statement M
 core-spec =

@@ -1,0 +1,96 @@
+-- Lists of calls as relations, for proofs by recursion over what was carried out.
+--   Does, Run     a call, a list of calls carried out: as `done` and `events` say
+--   run           every list of calls is a run
+--   run-is        and a run is the list of its calls carried out
+--   link-done, hear-done   a link call and a hearing, whatever the answer table and the further table hold
+use mathlib.Core.Path.{_≡_, refl, sym, ap, subst, _∙_}
+use mathlib.Core.Bool.{Bool}
+use mathlib.Core.List.{List, [], _∷_, _++_}
+use Prim.Native.Nat.{ℕ, zero, suc}
+use lib.IntN.{ℤ, pos}
+use lib.ListN.{length, replicate, length-replicate}
+use Rattle.lists.specs.Lists.{overwrite}
+use Rattle.lists.proofs.Overwrite.{take-overwrite}
+use Rattle.mesh.specs.Levels.{changed}
+use Rattle.mesh.specs.Tables.{Tables, graph-in}
+use Rattle.calls.specs.Switches.{switch, switched}
+use Rattle.calls.specs.Outcomes.{by-number, Linked, linked-with, reply, value, link-outcome, hear-outcome}
+use Rattle.calls.specs.Book.{Call, linking, hearing, Answer, counted}
+use Rattle.calls.specs.declared.Reply.{Reply}
+use Rattle.calls.specs.declared.Value.{Value}
+use Rattle.calls.specs.Runs.{Done, did, answer-of, done, Event, event, events, after}
+
+unfoldable pub Does : Call → (t : Tables) → (answers : List Answer) → (v : Tables) → Type 0
+Does c t hs v = did hs v ≡ done c t
+
+pub data Run : Tables → List Event → Tables → Type 0 where
+  ended : {t : Tables} → Run t [] t
+  next : {c : Call} {t u v : Tables} {hs : List Answer} {es : List Event} → Does c t hs u → Run u es v → Run t (event c t hs u ∷ es) v
+
+pub run : (cs : List Call) (t : Tables) → Run t (events cs t) (after cs t)
+unfolding events after Does
+run [] t = ended
+run (c ∷ cs) t = next refl (run cs (done c t .tables))
+
+-- the calls of what was carried out
+pub called : List Event → List Call
+called [] = []
+called (event c t hs v ∷ es) = c ∷ called es
+
+pub run-is : {t v : Tables} {es : List Event} → Run t es v → (es ≡ events (called es) t) × (v ≡ after (called es) t)
+unfolding called events after Does
+run-is ended = (refl, refl)
+run-is (next {c = c} {t = t} {u = u} {v = v} {hs = hs} {es = es} d r) =
+    let i = run-is r in (
+      subst (λ (o : Done). event c t hs u ∷ es ≡ event c t (o .answers) (o .tables) ∷ events (called es) (o .tables)) d
+          (ap (λ (fs : List Event). event c t hs u ∷ fs) (i .0)),
+      subst (λ (o : Done). v ≡ after (called es) (o .tables)) d (i .1),
+    )
+
+-- ---- one list after another
+
+pub after-append : (cs ds : List Call) (t : Tables) → after (cs ++ ds) t ≡ after ds (after cs t)
+unfolding after
+after-append [] ds t = refl
+after-append (c ∷ cs) ds t = after-append cs ds (done c t .tables)
+
+pub events-append : (cs ds : List Call) (t : Tables) → events (cs ++ ds) t ≡ events cs t ++ events ds (after cs t)
+unfolding events after
+events-append [] ds t = refl
+events-append (c ∷ cs) ds t =
+    ap (λ (es : List Event). event c t (done c t .answers) (done c t .tables) ∷ es) (events-append cs ds (done c t .tables))
+
+-- ---- whatever the lent table holds
+
+abbrev linked-answer : Linked → Done
+linked-answer o = did (answer-of (o .reply) (o .answer) ∷ []) (o .tables)
+
+link-alike :
+    (R : ℕ) (s : ℤ) (cs : List ℕ) (v t : Tables) (w x : List ℕ) →
+    linked-answer (by-number R (linked-with (reply 0 s (length cs)) v (overwrite cs w)) (λ q. linked-with (reply q (pos 0) 0) t w))
+    ≡ linked-answer (by-number R (linked-with (reply 0 s (length cs)) v (overwrite cs x)) (λ q. linked-with (reply q (pos 0) 0) t x))
+unfolding by-number answer-of
+link-alike zero s cs v t w x = rw (take-overwrite cs w, take-overwrite cs x)
+link-alike (suc q) s cs v t w x = refl
+
+abbrev heard-answer : Value × Tables × List ℕ → Done
+heard-answer o = did (counted (o .0 .number) (o .0 .value) ∷ []) (o .1)
+
+hear-alike :
+    (R : ℕ) (r : Value) (y : List ℕ) (v t : Tables) (w x : List ℕ) →
+    heard-answer (by-number R (r, v, y) (λ q. (value q 0, t, w))) ≡ heard-answer (by-number R (r, v, y) (λ q. (value q 0, t, x)))
+unfolding by-number
+hear-alike zero r y v t w x = refl
+hear-alike (suc q) r y v t w x = refl
+
+pub link-done :
+    (up : Bool) (n a b : ℕ) (t : Tables) (w : List ℕ) → let o = link-outcome up n a b t w in
+    did (answer-of (o .reply) (o .answer) ∷ []) (o .tables) ≡ done (linking up n a b (length w)) t
+unfolding done link-outcome
+link-done up n a b t w = rw length-replicate (link-alike _ _ (changed up a b (graph-in n (t .links))) (switched n (switch up a b) t) t w (replicate (length w) 0))
+
+pub hear-done :
+    (n : ℕ) (hs : List ℕ) (t : Tables) (w : List ℕ) → let o = hear-outcome n hs t w in
+    did (counted (o .0 .number) (o .0 .value) ∷ []) (o .1) ≡ done (hearing n hs (length w)) t
+unfolding done hear-outcome
+hear-done n hs t w = rw length-replicate (hear-alike _ _ _ _ t w (replicate (length w) 0))
