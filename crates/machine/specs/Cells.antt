@@ -1,0 +1,240 @@
+-- A call at the machine, in cells of its memory: nothing of the program logic is cited here.
+--   Form              how the values of a type are passed and stored: the machine's type, the machine's value of each, and which it can hold
+--   unsigned, signed  the forms of the unsigned and the signed integers
+--   Param             a parameter: a value, a list that is lent to be read, a list that is lent to be written
+--   Inputs, Outputs   what is passed, a place and a list for each lent one; and the lists on return, for each that is lent to be written
+--   passed            the machine's values for what is passed: a lent list as its pointer and its length
+--   cells-of          a list as cells, by the machine's own encoding of an array
+--   Span              cells side by side: block, offset, cells;   reads, writes: those of what is lent, to be read and to be written;
+--                     written: those at the same places on return
+--   Ready             a memory from which a call may be made: each span stands in it; no span that is lent to be written has a cell in
+--                     common with another; each list is aligned as its entries are; each entry and each number is one that its type
+--                     holds; no list is longer than an address can say
+--   Ran               after so many steps the routine is done; the value stands for the result, and the contract holds; each span that
+--                     was lent to be written stands with its new cells, as many entries as there were, each one that its type holds;
+--                     every other cell of the memory, and each block's length and alignment, is as it was
+--   Runs              from every memory that is ready the routine runs so
+-- Definitions only.
+use mathlib.Core.Path.{_≡_}
+use mathlib.Core.Option.{Option, some}
+use mathlib.Core.List.{List, [], _∷_, map}
+use Prim.Native.Nat.{ℕ, suc, _+_, _*_, _<_, _≤_, _^_}
+use lib.ListN.{length, getElem?}
+use lib.IntN.{ℤ}
+use lib.Signed.{mag}
+use lib.Dec.{T}
+use mir.Mem.{Cell}
+use mir.Syntax.{Width, w64, Ty, tyInt, tyArray}
+use mir.Val.{Val, vint, vptr, vstruct, vnil, vcons, ofList, bits, hbits, ofZ}
+use prog.Memory.{Memory, Block, entryAt, align, aligned, size, enc, bind}
+use prog.Machine.{done}
+use prog.Routine.{Routine}
+
+-- ---- types, as the machine holds their values
+
+pub record Form : Type 1 where
+  pub Value : Type 0
+  pub ty : Ty
+  pub machine : Value → Val
+  pub Holds : Value → Type 0
+
+abbrev pub unsigned : Width → Form
+unsigned w = record { Value = ℕ; ty = tyInt w; machine = vint w; Holds = λ n. n < 2 ^ bits w }
+
+abbrev pub signed : Width → Form
+signed w = record { Value = ℤ; ty = tyInt w; machine = λ z. vint w (ofZ w z); Holds = λ z. mag z < 2 ^ hbits w }
+
+-- ---- parameters
+
+pub data Param : Type 1 where
+  by-value : Form → Param
+  to-read : Form → Param
+  to-write : Form → Param
+
+-- a block and an offset in it
+abbrev pub Place : Type 0
+Place = ℕ × ℕ
+
+abbrev pub Input : Param → Type 0
+Input (by-value F) = F .Value
+Input (to-read F) = Place × List (F .Value)
+Input (to-write F) = Place × List (F .Value)
+
+abbrev pub Inputs : List Param → Type 0
+Inputs [] = Unit {0}
+Inputs (p ∷ ps) = Input p × Inputs ps
+
+abbrev pub Output : Param → Type 0
+Output (by-value F) = Unit {0}
+Output (to-read F) = Unit {0}
+Output (to-write F) = List (F .Value)
+
+abbrev pub Outputs : List Param → Type 0
+Outputs [] = Unit {0}
+Outputs (p ∷ ps) = Output p × Outputs ps
+
+-- a lent list: the pointer and the length
+abbrev pub pointer : Place → ℕ → Val
+pointer p n = vstruct (vcons (vptr (p .0) (p .1)) (vcons (vint w64 n) vnil))
+
+abbrev pub passes : (p : Param) → Input p → Val
+passes (by-value F) x = F .machine x
+passes (to-read F) x = pointer (x .0) (length (x .1))
+passes (to-write F) x = pointer (x .0) (length (x .1))
+
+abbrev pub passed : (ps : List Param) → Inputs ps → List Val
+passed [] i = []
+passed (p ∷ ps) i = passes p (i .0) ∷ passed ps (i .1)
+
+-- ---- cells
+
+-- cell i of block b, where the block is live and has it
+abbrev pub cell-at : Memory → ℕ → ℕ → Option Cell
+cell-at σ b i = bind (entryAt σ b) (λ e. getElem? (e .1) i)
+
+-- the cells of a list, as the machine stores an array
+abbrev pub cells-of : (F : Form) → List (F .Value) → List Cell
+cells-of F xs = enc (tyArray (F .ty) (length xs)) (vstruct (ofList (map (F .machine) xs)))
+
+-- block, offset, cells
+abbrev pub Span : Type 0
+Span = ℕ × ℕ × List Cell
+
+abbrev pub Run-at : Memory → ℕ → ℕ → List Cell → Type 0
+Run-at σ b o [] = Unit {0}
+Run-at σ b o (c ∷ cs) = (cell-at σ b o ≡ some c) × Run-at σ b (suc o) cs
+
+abbrev pub Stands : Memory → Span → Type 0
+Stands σ s = Run-at σ (s .0) (s .1) (s .2)
+
+-- cell i of block b is one of these
+abbrev pub Has : Span → ℕ → ℕ → Type 0
+Has s b i = (s .0 ≡ b) × (s .1 ≤ i) × (i < s .1 + length (s .2))
+
+abbrev pub Apart : Span → Span → Type 0
+Apart s t = (b i : ℕ) → Has s b i → Has t b i → ⊥
+
+abbrev pub All : (Span → Type 0) → List Span → Type 0
+All P [] = Unit {0}
+All P (s ∷ ss) = P s × All P ss
+
+abbrev pub All-apart : List Span → Type 0
+All-apart [] = Unit {0}
+All-apart (s ∷ ss) = All (Apart s) ss × All-apart ss
+
+-- ---- what is lent, as cells
+
+abbrev pub span : (F : Form) → Place → List (F .Value) → Span
+span F p xs = (p .0, p .1, cells-of F xs)
+
+abbrev pub reads : (ps : List Param) → Inputs ps → List Span
+reads [] i = []
+reads (by-value F ∷ ps) i = reads ps (i .1)
+reads (to-read F ∷ ps) i = span F (i .0 .0) (i .0 .1) ∷ reads ps (i .1)
+reads (to-write F ∷ ps) i = reads ps (i .1)
+
+abbrev pub writes : (ps : List Param) → Inputs ps → List Span
+writes [] i = []
+writes (by-value F ∷ ps) i = writes ps (i .1)
+writes (to-read F ∷ ps) i = writes ps (i .1)
+writes (to-write F ∷ ps) i = span F (i .0 .0) (i .0 .1) ∷ writes ps (i .1)
+
+-- at the same places, with the new entries
+abbrev pub written : (ps : List Param) → Inputs ps → Outputs ps → List Span
+written [] i o = []
+written (by-value F ∷ ps) i o = written ps (i .1) (o .1)
+written (to-read F ∷ ps) i o = written ps (i .1) (o .1)
+written (to-write F ∷ ps) i o = span F (i .0 .0) (o .0) ∷ written ps (i .1) (o .1)
+
+-- what is passed, with the lists on return for those that were lent to be written
+abbrev pub renewed : (ps : List Param) → Inputs ps → Outputs ps → Inputs ps
+renewed [] i o = tt
+renewed (by-value F ∷ ps) i o = (i .0, renewed ps (i .1) (o .1))
+renewed (to-read F ∷ ps) i o = (i .0, renewed ps (i .1) (o .1))
+renewed (to-write F ∷ ps) i o = ((i .0 .0, o .0), renewed ps (i .1) (o .1))
+
+-- as many entries as were lent
+abbrev pub Same-lengths : (ps : List Param) → Inputs ps → Outputs ps → Type 0
+Same-lengths [] i o = Unit {0}
+Same-lengths (by-value F ∷ ps) i o = Same-lengths ps (i .1) (o .1)
+Same-lengths (to-read F ∷ ps) i o = Same-lengths ps (i .1) (o .1)
+Same-lengths (to-write F ∷ ps) i o = (length (o .0) ≡ length (i .0 .1)) × Same-lengths ps (i .1) (o .1)
+
+-- each entry is one that its type holds
+abbrev pub All-held : (F : Form) → List (F .Value) → Type 0
+All-held F [] = Unit {0}
+All-held F (x ∷ xs) = F .Holds x × All-held F xs
+
+abbrev pub Left-held : (ps : List Param) → Outputs ps → Type 0
+Left-held [] o = Unit {0}
+Left-held (by-value F ∷ ps) o = Left-held ps (o .1)
+Left-held (to-read F ∷ ps) o = Left-held ps (o .1)
+Left-held (to-write F ∷ ps) o = All-held F (o .0) × Left-held ps (o .1)
+
+-- ---- before the call
+
+-- a list that has an entry begins in a live block, aligned as its entries are
+abbrev pub Aligned : Memory → Ty → Place → {X : Type 0} → List X → Type 0
+Aligned σ τ p [] = Unit {0}
+Aligned σ τ p (x ∷ xs) = (e : Block) × (entryAt σ (p .0) ≡ some e) × T (aligned (align τ) (e .0) (p .1))
+
+-- the length is one that a pointer's length can say, and the bytes are at most as many as an address can count
+abbrev pub Sized : Ty → ℕ → Type 0
+Sized τ n = (n < 2 ^ 64) × (n * size τ < 2 ^ 63)
+
+abbrev pub Good-list : Memory → (F : Form) → Place → List (F .Value) → Type 0
+Good-list σ F p xs = All-held F xs × Aligned σ (F .ty) p xs × Sized (F .ty) (length xs)
+
+abbrev pub Good : Memory → (p : Param) → Input p → Type 0
+Good σ (by-value F) x = F .Holds x
+Good σ (to-read F) x = Good-list σ F (x .0) (x .1)
+Good σ (to-write F) x = Good-list σ F (x .0) (x .1)
+
+abbrev pub All-good : Memory → (ps : List Param) → Inputs ps → Type 0
+All-good σ [] i = Unit {0}
+All-good σ (p ∷ ps) i = Good σ p (i .0) × All-good σ ps (i .1)
+
+pub record Ready (σ : Memory) (ps : List Param) (i : Inputs ps) : Type 0 where
+  pub reads-stand : All (Stands σ) (reads ps i)
+  pub writes-stand : All (Stands σ) (writes ps i)
+  pub reads-apart : All (λ s. All (Apart s) (writes ps i)) (reads ps i)
+  pub writes-apart : All-apart (writes ps i)
+  pub good : All-good σ ps i
+
+-- ---- after it
+
+-- a block is as long and as aligned as it was
+abbrev pub Block-kept : Memory → Memory → Type 0
+Block-kept σ σ′ =
+    (b : ℕ) (e : Block) → entryAt σ b ≡ some e →
+    (e′ : Block) × (entryAt σ′ b ≡ some e′) × (e′ .0 ≡ e .0) × (length (e′ .1) ≡ length (e .1))
+
+-- a cell that is none of these is as it was
+abbrev pub Else-kept : Memory → Memory → List Span → Type 0
+Else-kept σ σ′ ss =
+    (b i : ℕ) (c : Cell) → All (λ s. ¬ Has s b i) ss → cell-at σ b i ≡ some c → cell-at σ′ b i ≡ some c
+
+-- a call: its parameters, its results and the machine's value of each, its routine, and its contract on what is passed, the result and
+-- the lists on return
+pub record Call : Type 1 where
+  pub params : List Param
+  pub Result : Type 0
+  pub value : Result → Val
+  pub routine : Routine
+  pub contract : Inputs params → Result → Outputs params → Type 0
+
+pub record Ran (C : Call) (σ : Memory) (i : Inputs (C .params)) : Type 0 where
+  pub steps : ℕ
+  pub memory : Memory
+  pub result : C .Result
+  pub last : Outputs (C .params)
+  pub returns : C .routine .step steps (passed (C .params) i) σ ≡ done (C .value result, memory)
+  pub meets : C .contract i result last
+  pub lengths : Same-lengths (C .params) i last
+  pub held : Left-held (C .params) last
+  pub stand : All (Stands memory) (written (C .params) i last)
+  pub else-kept : Else-kept σ memory (writes (C .params) i)
+  pub blocks-kept : Block-kept σ memory
+
+abbrev pub Runs : Call → Type 0
+Runs C = (σ : Memory) (i : Inputs (C .params)) → Ready σ (C .params) i → ∥ Ran C σ i ∥₁
