@@ -30,7 +30,7 @@ use denote.Triple.End.{all, Fins, outs, lastsOf}
 use denote.Triple.Spec.{Spec, Back, Meets, tripleOf, exits}
 use denote.Triple.Adequate.{adequate}
 use denote.Steps.{only}
-use Rattle.machine.specs.Cells.{Param, Inputs, Outputs, Ready, Call, Ran, Runs, Stands, Span, All, All-held, Left-held, Same-lengths, writes, written, passed}
+use Rattle.machine.specs.Cells.{Param, Inputs, Outputs, Of-inputs, of-inputs, Ready, Runs, Else-kept, Block-kept, Stands, Span, All, All-held, Left-held, Same-lengths, writes, written, passed}
 use Rattle.machine.proofs.Whole.{𝓥, own-all, whole, run-of, else-of, blocks-of}
 use Rattle.machine.proofs.Heap.{owned, shared, lie, parts-of, rest}
 use Rattle.machine.proofs.Rows.{form, A₀, W₀, ⟦_⟧, both-facts, row-cells, cells-out, cells-held}
@@ -46,15 +46,15 @@ pub record Answer : Type 2 where
 
 stoods-lie : {n : ℕ} (ps : List (Lending n)) (i : Inputs (params ps)) (o : Outputs (params ps)) → ent 𝓥 (stoods ps i o) (lie 𝓥 Closed.ι (written (params ps) i o))
 stoods-lie [] i o = id⊢ 𝓥 (emp 𝓥)
-stoods-lie (by-value R ∷ ps) i o = via 𝓥 (stoods ps (i .1) (o .1)) (snd∗ 𝓥 (emp 𝓥) (stoods ps (i .1) (o .1))) (stoods-lie ps (i .1) (o .1))
-stoods-lie (to-read j ok R ∷ ps) i o = via 𝓥 (stoods ps (i .1) (o .1)) (snd∗ 𝓥 (emp 𝓥) (stoods ps (i .1) (o .1))) (stoods-lie ps (i .1) (o .1))
+stoods-lie (by-value R ∷ ps) i o = stoods-lie ps (i .1) o
+stoods-lie (to-read j ok R ∷ ps) i o = stoods-lie ps (i .1) o
 stoods-lie (to-write j ok R ∷ ps) i o =
     mono∗ 𝓥 (via 𝓥 (row-cells R (o .0) (i .0 .0)) (snd∗ 𝓥 (fact 𝓥 (length (o .0) ≡ length (i .0 .1))) (row-cells R (o .0) (i .0 .0))) (cells-out R (o .0) (i .0 .0))) (stoods-lie ps (i .1) (o .1))
 
 stoods-long : {n : ℕ} (ps : List (Lending n)) (i : Inputs (params ps)) (o : Outputs (params ps)) → ent 𝓥 (stoods ps i o) (fact 𝓥 (Same-lengths (params ps) i o))
 stoods-long [] i o = factI 𝓥 (Unit {0}) (emp 𝓥) tt
-stoods-long (by-value R ∷ ps) i o = via 𝓥 (stoods ps (i .1) (o .1)) (snd∗ 𝓥 (emp 𝓥) (stoods ps (i .1) (o .1))) (stoods-long ps (i .1) (o .1))
-stoods-long (to-read j ok R ∷ ps) i o = via 𝓥 (stoods ps (i .1) (o .1)) (snd∗ 𝓥 (emp 𝓥) (stoods ps (i .1) (o .1))) (stoods-long ps (i .1) (o .1))
+stoods-long (by-value R ∷ ps) i o = stoods-long ps (i .1) o
+stoods-long (to-read j ok R ∷ ps) i o = stoods-long ps (i .1) o
 stoods-long (to-write j ok R ∷ ps) i o =
     via 𝓥 (sep 𝓥 (fact 𝓥 (length (o .0) ≡ length (i .0 .1))) (fact 𝓥 (Same-lengths (params ps) (i .1) (o .1))))
     (mono∗ 𝓥 (fst∗ 𝓥 (fact 𝓥 (length (o .0) ≡ length (i .0 .1))) (row-cells R (o .0) (i .0 .0))) (stoods-long ps (i .1) (o .1)))
@@ -62,8 +62,8 @@ stoods-long (to-write j ok R ∷ ps) i o =
 
 stoods-held : {n : ℕ} (ps : List (Lending n)) (i : Inputs (params ps)) (o : Outputs (params ps)) → ent 𝓥 (stoods ps i o) (fact 𝓥 (Left-held (params ps) o))
 stoods-held [] i o = factI 𝓥 (Unit {0}) (emp 𝓥) tt
-stoods-held (by-value R ∷ ps) i o = via 𝓥 (stoods ps (i .1) (o .1)) (snd∗ 𝓥 (emp 𝓥) (stoods ps (i .1) (o .1))) (stoods-held ps (i .1) (o .1))
-stoods-held (to-read j ok R ∷ ps) i o = via 𝓥 (stoods ps (i .1) (o .1)) (snd∗ 𝓥 (emp 𝓥) (stoods ps (i .1) (o .1))) (stoods-held ps (i .1) (o .1))
+stoods-held (by-value R ∷ ps) i o = stoods-held ps (i .1) o
+stoods-held (to-read j ok R ∷ ps) i o = stoods-held ps (i .1) o
 stoods-held (to-write j ok R ∷ ps) i o =
     via 𝓥 (sep 𝓥 (fact 𝓥 (All-held (form R) (o .0))) (fact 𝓥 (Left-held (params ps) (o .1))))
     (mono∗ 𝓥 (via 𝓥 (row-cells R (o .0) (i .0 .0)) (snd∗ 𝓥 (fact 𝓥 (length (o .0) ≡ length (i .0 .1))) (row-cells R (o .0) (i .0 .0))) (cells-held R (o .0) (i .0 .0))) (stoods-held ps (i .1) (o .1)))
@@ -82,8 +82,19 @@ module _ (n : ℕ) (ps : List (Lending n)) (R : Answer) (routine : Routine) (con
   abbrev pub signature : Signature
   signature = record { lifetimes = n; outlives = []; params = slots ps; result = plain (λ _. R .row) }
 
-  abbrev pub call : Call
-  call = record { params = params ps; Result = R .row .Denot; value = R .machine; routine = routine; contract = contract }
+  -- the run, with a result and last lists that meet the contract
+  record Came (σ : Memory) (i : Inputs (params ps)) : Type 0 where
+    steps : ℕ
+    memory : Memory
+    result : R .row .Denot
+    last : Outputs (params ps)
+    returns : routine .step steps (passed (params ps) i) σ ≡ done (R .machine result, memory)
+    meets : contract i result last
+    lengths : Same-lengths (params ps) i last
+    held : Left-held (params ps) last
+    stand : All (Stands memory) (written (params ps) i last)
+    else-kept : Else-kept σ memory (writes (params ps) i)
+    blocks-kept : Block-kept σ memory
 
   -- nothing is required, and the contract is ensured
   abbrev pub spec : {M : Type 1} (𝓤 : URA M) (H : Heap 𝓤) (A : Atoms 𝓤) → Spec 𝓤 signature
@@ -156,7 +167,7 @@ module _ (n : ℕ) (ps : List (Lending n)) (R : Answer) (routine : Routine) (con
       -- the run is over: read what it left
       finish : (steps : ℕ) (v : Val) (σ′ : Memory) (r : R .row .Denot) (ws : Fins κs (slots ps) (all yes (slots ps)) a)
           → routine .step steps (passed (params ps) i) σ ≡ done (v, σ′) → Says r ws
-          → Sat σ′ (sep 𝓥 (stoods ps i (wrotes κs ps a ws)) (sep 𝓥 (Shown v r) Kept-back)) → ∥ Ran call σ i ∥₁
+          → Sat σ′ (sep 𝓥 (stoods ps i (wrotes κs ps a ws)) (sep 𝓥 (Shown v r) Kept-back)) → ∥ Came σ i ∥₁
       finish steps v σ′ r ws run says s =
           let o : Outputs (params ps) = wrotes κs ps a ws in
           let B : SProp 𝓥 = stoods ps i o in
@@ -185,14 +196,14 @@ module _ (n : ℕ) (ps : List (Lending n)) (R : Answer) (routine : Routine) (con
       -- the lifetimes are over
       after : (steps : ℕ) (v : Val) (σ′ : Memory) (r : R .row .Denot) (ws : Fins κs (slots ps) (all yes (slots ps)) a)
           → routine .step steps (passed (params ps) i) σ ≡ done (v, σ′) → Says r ws
-          → Sat σ′ (sep 𝓥 (Ends r ws) (sep 𝓥 (sep 𝓥 (alive n αs) (Shown v r)) (sep 𝓥 Asides Kept-back))) → ∥ Ran call σ i ∥₁
+          → Sat σ′ (sep 𝓥 (Ends r ws) (sep 𝓥 (sep 𝓥 (alive n αs) (Shown v r)) (sep 𝓥 Asides Kept-back))) → ∥ Came σ i ∥₁
       after steps v σ′ r ws run says s =
           finish steps v σ′ r ws run says (sat-⇛ 𝓥 Closed.H Closed.model σ′ (stoods ps i (wrotes κs ps a ws)) (sep 𝓥 (Shown v r) Kept-back)
           (sat-weaken 𝓥 Closed.H Closed.model σ′
           (qed W₀ ((raw (Lasts ws) ⊛ raw (fact 𝓥 (Says r ws))) ∷ (raw (alive n αs) ⊛ raw (Shown v r)) ∷ raw Asides ∷ raw Kept-back ∷ []) ∵ split ! $ move ! (2 ∷ []) $ split ! $ move ! (0 ∷ 2 ∷ 4 ∷ []) $
           use3 W₀ (later (raw (stoods ps i (wrotes κs ps a ws)))) (leave i αs γs ws) $ frame ! $ keep ! (0 ∷ 2 ∷ []) $ finished !) s))
 
-      ran : Sat σ (sep 𝓥 (Entered i αs γs) Kept-back) → ∥ Ran call σ i ∥₁
+      ran : Sat σ (sep 𝓥 (Entered i αs γs) Kept-back) → ∥ Came σ i ∥₁
       ran s =
           let Pre : SProp 𝓥 = sep 𝓥 (sep 𝓥 (alive n αs) ⟦ owns (typesAt (slots ps) κs) a (values κs ps i) ⟧) (emp 𝓥) in
           ∥∥₁-elim (adequate 𝓥 Closed.H Closed.model (tables 𝓥 Closed.H Closed.model (real 𝓥 Closed.H Closed.model) (λ _. routine)) anyName
@@ -209,7 +220,7 @@ module _ (n : ℕ) (ps : List (Lending n)) (R : Answer) (routine : Routine) (con
           (via 𝓥 All-of-it (snd∗ 𝓥 (Closed.model .mem (d .2)) All-of-it) (via 𝓥 (Ends (r .0) (w .0)) (fst∗ 𝓥 (Ends (r .0) (w .0)) (sep 𝓥 B F)) (snd∗ 𝓥 (Lasts (w .0)) (fact 𝓥 (Says (r .0) (w .0)))))) (w .1)) ∥∥₁-prop (λ says.
           after (d .0) (d .1) (d .2) (r .0) (w .0) (subst (λ (vs : List Val). routine .step (d .0) vs σ ≡ done (d .1, d .2)) (passed-are κs ps i) (d .3)) says (w .1)))))
 
-  pub law : Promised → Runs call
+  law : Promised → (σ : Memory) (i : Inputs (params ps)) → Ready σ (params ps) i → ∥ Came σ i ∥₁
   law met σ i ready =
       ∥∥₁-elim (sat-ex∗ 𝓥 Closed.H Closed.model σ (λ (αs : Nums n). ex 𝓥 (Entered i αs)) (Kept-back met σ i ready)
       (sat-⇛ 𝓥 Closed.H Closed.model σ (ex 𝓥 (λ (αs : Nums n). ex 𝓥 (Entered i αs))) (Kept-back met σ i ready)
@@ -217,20 +228,20 @@ module _ (n : ℕ) (ps : List (Lending n)) (R : Answer) (routine : Routine) (con
       ∥∥₁-elim (sat-ex∗ 𝓥 Closed.H Closed.model σ (Entered i (αs .0)) (Kept-back met σ i ready) (αs .1)) ∥∥₁-prop (λ γs.
       ran met σ i ready (αs .0) (γs .0) (γs .1)))
 
--- the same with another contract that follows
-pub in-cells : (n : ℕ) (ps : List (Lending n)) (R : Answer) (routine : Routine) (contract contract′ : Inputs (params ps) → R .row .Denot → Outputs (params ps) → Type 0)
-    → ((i : Inputs (params ps)) (r : R .row .Denot) (o : Outputs (params ps)) → contract i r o → contract′ i r o)
-    → Promised n ps R routine contract → Runs (call n ps R routine contract′)
-in-cells n ps R routine contract contract′ so met σ i ready = ∥∥₁-map (law n ps R routine contract met σ i ready) (λ h. record {
-  steps = h .steps;
-  memory = h .memory;
-  result = h .result;
-  last = h .last;
-  returns = h .returns;
-  meets = so i (h .result) (h .last) (h .meets);
-  lengths = h .lengths;
-  held = h .held;
-  stand = h .stand;
-  else-kept = h .else-kept;
-  blocks-kept = h .blocks-kept;
-})
+-- where the contract says that result and last lists are the outcome, the routine runs so
+pub in-cells : (n : ℕ) (ps : List (Lending n)) (R : Answer) (routine : Routine) (contract : Inputs (params ps) → R .row .Denot → Outputs (params ps) → Type 0)
+    (outcome : Of-inputs (params ps) (R .row .Denot × Outputs (params ps)))
+    → ((i : Inputs (params ps)) (r : R .row .Denot) (o : Outputs (params ps)) → contract i r o → (r, o) ≡ of-inputs (params ps) outcome i)
+    → Promised n ps R routine contract → Runs routine (record { params = params ps; Result = R .row .Denot; value = R .machine; outcome = outcome })
+in-cells n ps R routine contract outcome is met σ i ready = ∥∥₁-map (law n ps R routine contract met σ i ready) (λ h.
+    let e = is i (h .result) (h .last) (h .meets) in
+    record {
+      steps = h .steps;
+      memory = h .memory;
+      returns = subst (λ (y : R .row .Denot × Outputs (params ps)). routine .step (h .steps) (passed (params ps) i) σ ≡ done (R .machine (y .0), h .memory)) e (h .returns);
+      lengths = subst (λ (y : R .row .Denot × Outputs (params ps)). Same-lengths (params ps) i (y .1)) e (h .lengths);
+      held = subst (λ (y : R .row .Denot × Outputs (params ps)). Left-held (params ps) (y .1)) e (h .held);
+      stand = subst (λ (y : R .row .Denot × Outputs (params ps)). All (Stands (h .memory)) (written (params ps) i (y .1))) e (h .stand);
+      else-kept = h .else-kept;
+      blocks-kept = h .blocks-kept;
+    })

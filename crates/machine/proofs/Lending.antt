@@ -27,7 +27,7 @@ use denote.Ref.{RefT, ptr, name, now}
 use denote.Slice.{sliceVal, MutSlice, ShrSlice, Room, finally}
 use denote.Lend.{Held, lends-slice, slice-back, lends-shr-slice}
 use denote.Triple.End.{Kepts, all, Fins, Outs, outs, lastsOf}
-use Rattle.machine.specs.Cells.{Form, Param, Input, Inputs, Output, Outputs, Good, All-good, Sized, reads, writes, cells-of, passes, passed, Span, Stands, All, Apart}
+use Rattle.machine.specs.Cells.{Form, Param, Input, Inputs, Outputs, Good, All-good, Sized, reads, writes, cells-of, passes, passed, Span, Stands, All, Apart}
 use Rattle.machine.specs.Cells as machine
 use Rattle.machine.proofs.Whole.{𝓥}
 use Rattle.machine.proofs.Heap.{shared, lie}
@@ -141,25 +141,18 @@ module _ {n : ℕ} (κs : Lfts n) where
   abbrev pub Final : (p : Lending n) → slot p .row κs .Denot → Type 0
   Final p a = Last (slot p .row κs .exit yes) a
 
-  abbrev pub wrote : (p : Lending n) (a : slot p .row κs .Denot) → Final p a → Output (param p)
-  wrote (by-value R) a w = tt
-  wrote (to-read j ok R) a w = tt
-  wrote (to-write j ok R) a w = w
-
-abbrev pub stood : {n : ℕ} (p : Lending n) → Input (param p) → Output (param p) → SProp 𝓥
-stood (by-value R) x y = emp 𝓥
-stood (to-read j ok R) x y = emp 𝓥
-stood (to-write j ok R) x y = sep 𝓥 (fact 𝓥 (length y ≡ length (x .1))) (row-cells R y (x .0))
+-- a list that was lent to be written, back, as long as it was
+abbrev stood : (R : Row) → machine.Lent (R .row .Denot) → List (R .row .Denot) → SProp 𝓥
+stood R x ys = sep 𝓥 (fact 𝓥 (length ys ≡ length (x .1))) (row-cells R ys (x .0))
 
 module _ (n : ℕ) (αs : Nums n) where
   abbrev κs : Lfts n
   κs = made n αs
 
-  back-one : (p : Lending n) (x : Input (param p)) (γ : GName) (w : Final κs p (arg κs p x γ))
-      → ent 𝓥 (sep 𝓥 ⟦ left (slot p .row κs .exit yes) (arg κs p x γ) w ⟧ (sep 𝓥 (aside κs p x γ) (over n αs))) (Closed.H .⇛ (stood p x (wrote κs p (arg κs p x γ) w)))
-  back-one (by-value R) x γ w = via 𝓥 (emp 𝓥) (nothing (sep 𝓥 ⟦ left (R .row .exit yes) x w ⟧ (sep 𝓥 (emp 𝓥) (over n αs)))) (W₀ .laws .⇛-intro (emp 𝓥))
-  back-one (to-read j ok R) x γ w = via 𝓥 (emp 𝓥) (nothing (sep 𝓥 (emp 𝓥) (sep 𝓥 (emp 𝓥) (over n αs)))) (W₀ .laws .⇛-intro (emp 𝓥))
-  back-one (to-write j ok R) x γ w =
+  back-one : (j : ℕ) (ok : Within n j) (R : Row) (x : machine.Lent (R .row .Denot)) (γ : GName) (w : List (R .row .Denot))
+      → ent 𝓥 (sep 𝓥 ⟦ fsep (finally (R .row) γ w) (feq ℕ (length w) (length (x .1))) ⟧
+      (sep 𝓥 (A₀ .lent (lftAt n j ok κs) (Held (R .row) (length (x .1)) (x .0 .0) (x .0 .1) γ)) (over n αs))) (Closed.H .⇛ (stood R x w))
+  back-one j ok R x γ w =
       qed W₀ (‵ (fsep (finally (R .row) γ w) (feq ℕ (length w) (length (x .1)))) ∷ ‵ (flent (lftAt n j ok κs) (Held (R .row) (length (x .1)) (x .0 .0) (x .0 .1) γ)) ∷ raw (over n αs) ∷ []) ∵ updating ! $
       move ! (2 ∷ []) $ use1 W₀ (‵ (fdead (lftAt n j ok κs))) (over-at n j ok αs) $ move ! (1 ∷ []) $ fsplit ! $ move ! (2 ∷ 3 ∷ 0 ∷ []) $
       use3 W₀ (later (‵ (sem-types.Arr (mem (R .row)) (length (x .1)) .lies w (x .0 .0) (x .0 .1)))) (slice-back 𝓥 Closed.H A₀ W₀ (R .row) (lftAt n j ok κs) γ w (length (x .1)) (x .0 .0) (x .0 .1)) $ await ! tt $ at-once ! $
@@ -177,7 +170,9 @@ lents (p ∷ ps) i = sep 𝓥 (lent p (i .0)) (lents ps (i .1))
 
 abbrev pub stoods : {n : ℕ} (ps : List (Lending n)) → Inputs (params ps) → Outputs (params ps) → SProp 𝓥
 stoods [] i o = emp 𝓥
-stoods (p ∷ ps) i o = sep 𝓥 (stood p (i .0) (o .0)) (stoods ps (i .1) (o .1))
+stoods (by-value R ∷ ps) i o = stoods ps (i .1) o
+stoods (to-read j ok R ∷ ps) i o = stoods ps (i .1) o
+stoods (to-write j ok R ∷ ps) i o = sep 𝓥 (stood R (i .0) (o .0)) (stoods ps (i .1) (o .1))
 
 module _ {n : ℕ} (κs : Lfts n) where
   abbrev pub args : (ps : List (Lending n)) → Inputs (params ps) → Names ps → Denots (typesAt (slots ps) κs)
@@ -200,13 +195,15 @@ module _ {n : ℕ} (κs : Lfts n) where
 
   abbrev pub outputs : (ps : List (Lending n)) → Outs κs (slots ps) (all yes (slots ps)) → Outputs (params ps)
   outputs [] e = tt
-  outputs (by-value R ∷ ps) e = (tt, outputs ps (e .1))
-  outputs (to-read j ok R ∷ ps) e = (tt, outputs ps (e .1))
+  outputs (by-value R ∷ ps) e = outputs ps (e .1)
+  outputs (to-read j ok R ∷ ps) e = outputs ps (e .1)
   outputs (to-write j ok R ∷ ps) e = (now (e .0), outputs ps (e .1))
 
   abbrev pub wrotes : (ps : List (Lending n)) (a : Denots (typesAt (slots ps) κs)) → Fins κs (slots ps) (all yes (slots ps)) a → Outputs (params ps)
   wrotes [] a ws = tt
-  wrotes (p ∷ ps) a ws = (wrote κs p (a .0) (ws .0), wrotes ps (a .1) (ws .1))
+  wrotes (by-value R ∷ ps) a ws = wrotes ps (a .1) (ws .1)
+  wrotes (to-read j ok R ∷ ps) a ws = wrotes ps (a .1) (ws .1)
+  wrotes (to-write j ok R ∷ ps) a ws = (ws .0, wrotes ps (a .1) (ws .1))
 
   pub inputs-are : (ps : List (Lending n)) (i : Inputs (params ps)) (γs : Names ps) → inputs ps (args ps i γs) ≡ i
   inputs-are [] i γs = refl
@@ -216,8 +213,8 @@ module _ {n : ℕ} (κs : Lfts n) where
 
   pub outputs-are : (ps : List (Lending n)) (a : Denots (typesAt (slots ps) κs)) (ws : Fins κs (slots ps) (all yes (slots ps)) a) → outputs ps (outs κs (slots ps) (all yes (slots ps)) a ws) ≡ wrotes ps a ws
   outputs-are [] a ws = refl
-  outputs-are (by-value R ∷ ps) a ws = λ k. (tt, outputs-are ps (a .1) (ws .1) k)
-  outputs-are (to-read j ok R ∷ ps) a ws = λ k. (tt, outputs-are ps (a .1) (ws .1) k)
+  outputs-are (by-value R ∷ ps) a ws = outputs-are ps (a .1) (ws .1)
+  outputs-are (to-read j ok R ∷ ps) a ws = outputs-are ps (a .1) (ws .1)
   outputs-are (to-write j ok R ∷ ps) a ws = λ k. (ws .0, outputs-are ps (a .1) (ws .1) k)
 
   pub passed-are : (ps : List (Lending n)) (i : Inputs (params ps)) → flat (typesAt (slots ps) κs) (values ps i) ≡ passed (params ps) i
@@ -235,15 +232,29 @@ module _ {n : ℕ} (κs : Lfts n) where
       show ! (Owneds (p ∷ ps) i) (γ, γs) $ move ! (2 ∷ 0 ∷ []) $ fjoin ! $ frame ! $ move ! (1 ∷ 0 ∷ []) $ done !))
 
 module _ (n : ℕ) (αs : Nums n) where
+  -- of a parameter that is not written nothing comes back
+  back-rest : (p : Lending n) (ps : List (Lending n)) (i : Inputs (params (p ∷ ps))) (γs : Names (p ∷ ps)) (ws : Fins (made n αs) (slots (p ∷ ps)) (all yes (slots (p ∷ ps))) (args (made n αs) (p ∷ ps) i γs))
+      → ent 𝓥 (sep 𝓥 ⟦ lastsOf (made n αs) (slots ps) (all yes (slots ps)) (args (made n αs) ps (i .1) (γs .1)) (ws .1) ⟧ (sep 𝓥 (asides (made n αs) ps (i .1) (γs .1)) (over n αs)))
+      (Closed.H .⇛ (stoods ps (i .1) (wrotes (made n αs) ps (args (made n αs) ps (i .1) (γs .1)) (ws .1))))
+      → ent 𝓥 (sep 𝓥 ⟦ lastsOf (made n αs) (slots (p ∷ ps)) (all yes (slots (p ∷ ps))) (args (made n αs) (p ∷ ps) i γs) ws ⟧ (sep 𝓥 (asides (made n αs) (p ∷ ps) i γs) (over n αs)))
+      (Closed.H .⇛ (stoods ps (i .1) (wrotes (made n αs) ps (args (made n αs) ps (i .1) (γs .1)) (ws .1))))
+  back-rest p ps i γs ws rest =
+      qed W₀ (‵ (fsep (left (slot p .row (made n αs) .exit yes) (arg (made n αs) p (i .0) (γs .0)) (ws .0)) (lastsOf (made n αs) (slots ps) (all yes (slots ps)) (args (made n αs) ps (i .1) (γs .1)) (ws .1)))
+      ∷ (raw (aside (made n αs) p (i .0) (γs .0)) ⊛ raw (asides (made n αs) ps (i .1) (γs .1))) ∷ raw (over n αs) ∷ []) ∵ updating ! $ fsplit ! $ move ! (2 ∷ []) $ split ! $ move ! (3 ∷ 1 ∷ 4 ∷ []) $
+      use3 W₀ (later (raw (stoods ps (i .1) (wrotes (made n αs) ps (args (made n αs) ps (i .1) (γs .1)) (ws .1))))) rest $ await ! tt $ at-once ! $ keep ! (0 ∷ []) $ done !
+
   pub back : (ps : List (Lending n)) (i : Inputs (params ps)) (γs : Names ps) (ws : Fins (made n αs) (slots ps) (all yes (slots ps)) (args (made n αs) ps i γs))
       → ent 𝓥 (sep 𝓥 ⟦ lastsOf (made n αs) (slots ps) (all yes (slots ps)) (args (made n αs) ps i γs) ws ⟧ (sep 𝓥 (asides (made n αs) ps i γs) (over n αs)))
       (Closed.H .⇛ (stoods ps i (wrotes (made n αs) ps (args (made n αs) ps i γs) ws)))
   back [] i γs ws = via 𝓥 (emp 𝓥) (nothing (sep 𝓥 (emp 𝓥) (sep 𝓥 (emp 𝓥) (over n αs)))) (W₀ .laws .⇛-intro (emp 𝓥))
-  back (p ∷ ps) i γs ws =
+  back (by-value R ∷ ps) i γs ws = back-rest (by-value R) ps i γs ws (back ps (i .1) (γs .1) (ws .1))
+  back (to-read j ok R ∷ ps) i γs ws = back-rest (to-read j ok R) ps i γs ws (back ps (i .1) (γs .1) (ws .1))
+  back (to-write j ok R ∷ ps) i γs ws =
+      let p : Lending n = to-write j ok R in
       qed W₀ (‵ (fsep (left (slot p .row (made n αs) .exit yes) (arg (made n αs) p (i .0) (γs .0)) (ws .0)) (lastsOf (made n αs) (slots ps) (all yes (slots ps)) (args (made n αs) ps (i .1) (γs .1)) (ws .1)))
       ∷ (raw (aside (made n αs) p (i .0) (γs .0)) ⊛ raw (asides (made n αs) ps (i .1) (γs .1))) ∷ raw (over n αs) ∷ []) ∵ updating ! $ fsplit ! $ move ! (2 ∷ []) $ split ! $ move ! (4 ∷ []) $
       use1 W₀ (raw (over n αs) ⊛ raw (over n αs)) (over-dup n αs) $ split ! $ move ! (4 ∷ 2 ∷ 0 ∷ []) $
-      use3 W₀ (later (raw (stood p (i .0) (wrote (made n αs) p (arg (made n αs) p (i .0) (γs .0)) (ws .0))))) (back-one n αs p (i .0) (γs .0) (ws .0)) $ await ! tt $ move ! (3 ∷ 2 ∷ 1 ∷ []) $
+      use3 W₀ (later (raw (stood R (i .0) (ws .0)))) (back-one n αs j ok R (i .0) (γs .0) (ws .0)) $ await ! tt $ move ! (3 ∷ 2 ∷ 1 ∷ []) $
       use3 W₀ (later (raw (stoods ps (i .1) (wrotes (made n αs) ps (args (made n αs) ps (i .1) (γs .1)) (ws .1))))) (back ps (i .1) (γs .1) (ws .1)) $ await ! tt $ at-once ! $ move ! (1 ∷ 0 ∷ []) $ done !
 
 -- ---- cells

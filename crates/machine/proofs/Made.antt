@@ -11,10 +11,10 @@ use mir.Mem.{Cell}
 use prog.Memory.{Memory, Block, entryAt, bind, align, aligned, divides}
 use prog.Align.{dv-self, dv-zero}
 use prog.Machine.{done}
-use prog.Routine.{ends-one}
+use prog.Routine.{Routine, ends-one}
 use mir.Val.{Val}
 use store.Seg.{seg, seg-nth}
-use Rattle.machine.specs.Cells.{Form, Param, by-value, to-read, to-write, Place, Inputs, Span, Run-at, Stands, Has, Apart, All, All-apart, All-good, Aligned, reads, writes, cells-of, span, Ready, Call, Ran, Runs, passed}
+use Rattle.machine.specs.Cells.{Form, Param, by-value, to-read, to-write, Place, Inputs, Span, Run-at, Stands, Has, Apart, All, All-apart, All-good, Aligned, reads, writes, cells-of, span, Ready, Call, Ran, Runs, passed, outcome-of}
 use Rattle.machine.specs.Made.{Givens, Fitting, blocks, placed}
 use Rattle.machine.proofs.Heap.{run-out}
 
@@ -126,10 +126,10 @@ made-ready ps g f = record {
 }
 
 -- so a call that runs from every ready memory runs from the one that is made for it
-pub made-runs : (C : Call) → Runs C → (g : Givens (C .params)) → Fitting (C .params) g → ∥ Ran C (blocks (C .params) g) (placed 0 (C .params) g) ∥₁
-made-runs C runs g f = runs (blocks (C .params) g) (placed 0 (C .params) g) (made-ready (C .params) g f)
+pub made-runs : (ρ : Routine) (C : Call) → Runs ρ C → (g : Givens (C .params)) → Fitting (C .params) g → ∥ Ran ρ C (blocks (C .params) g) (placed 0 (C .params) g) ∥₁
+made-runs ρ C runs g f = runs (blocks (C .params) g) (placed 0 (C .params) g) (made-ready (C .params) g f)
 
 -- the run is the only one: whatever the routine is done with, at any count of steps, is that value and that memory
-pub ran-one : (C : Call) (σ : Memory) (i : Inputs (C .params)) (h : Ran C σ i) (steps : ℕ) (end : Val × Memory)
-    → C .routine .step steps (passed (C .params) i) σ ≡ done end → _≡_ {A = Val × Memory} (C .value (h .result), h .memory) end
-ran-one C σ i h steps end e = ends-one (C .routine) (passed (C .params) i) σ (C .value (h .result), h .memory) end (h .steps, h .returns) (steps, e)
+pub ran-one : (ρ : Routine) (C : Call) (σ : Memory) (i : Inputs (C .params)) (h : Ran ρ C σ i) (steps : ℕ) (end : Val × Memory)
+    → ρ .step steps (passed (C .params) i) σ ≡ done end → _≡_ {A = Val × Memory} (C .value (outcome-of C i .0), h .memory) end
+ran-one ρ C σ i h steps end e = ends-one ρ (passed (C .params) i) σ (C .value (outcome-of C i .0), h .memory) end (h .steps, h .returns) (steps, e)

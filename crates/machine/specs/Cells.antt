@@ -3,6 +3,7 @@
 --   unsigned, signed  the forms of the unsigned and the signed integers
 --   Param             a parameter: a value, a list that is lent to be read, a list that is lent to be written
 --   Inputs, Outputs   what is passed, a place and a list for each lent one; and the lists on return, for each that is lent to be written
+--   Of-inputs         a function of what is passed that takes the parameters one by one, by name;   of-inputs: its value
 --   passed            the machine's values for what is passed: a lent list as its pointer and its length
 --   cells-of          a list as cells, by the machine's own encoding of an array
 --   Span              cells side by side: block, offset, cells;   reads, writes: those of what is lent, to be read and to be written;
@@ -10,9 +11,10 @@
 --   Ready             a memory from which a call may be made: each span stands in it; no span that is lent to be written has a cell in
 --                     common with another; each list is aligned as its entries are; each entry and each number is one that its type
 --                     holds; no list is longer than an address can say
---   Ran               after so many steps the routine is done; the value stands for the result, and the contract holds; each span that
---                     was lent to be written stands with its new cells, as many entries as there were, each one that its type holds;
---                     every other cell of the memory, and each block's length and alignment, is as it was
+--   Call              a call: its parameters, its results as machine values, and its outcome, worked out from what is passed
+--   Ran               after so many steps the routine is done; its value is the outcome's; each span that was lent to be written stands
+--                     with the outcome's cells, as many entries as there were, each one that its type holds; every other cell of the
+--                     memory, and each block's length and alignment, is as it was
 --   Runs              from every memory that is ready the routine runs so
 -- Definitions only.
 use mathlib.Core.Path.{_≡_}
@@ -55,25 +57,41 @@ pub data Param : Type 1 where
 abbrev pub Place : Type 0
 Place = ℕ × ℕ
 
+-- a lent list: where it is, and its entries
+abbrev pub Lent : Type 0 → Type 0
+Lent A = Place × List A
+
+abbrev pub place : {A : Type 0} → Lent A → Place
+place x = x .0
+
+abbrev pub entries : {A : Type 0} → Lent A → List A
+entries x = x .1
+
 abbrev pub Input : Param → Type 0
 Input (by-value F) = F .Value
-Input (to-read F) = Place × List (F .Value)
-Input (to-write F) = Place × List (F .Value)
+Input (to-read F) = Lent (F .Value)
+Input (to-write F) = Lent (F .Value)
 
 abbrev pub Inputs : List Param → Type 0
 Inputs [] = Unit {0}
 Inputs (p ∷ ps) = Input p × Inputs ps
 
-abbrev pub Output : Param → Type 0
-Output (by-value F) = Unit {0}
-Output (to-read F) = Unit {0}
-Output (to-write F) = List (F .Value)
-
 abbrev pub Outputs : List Param → Type 0
 Outputs [] = Unit {0}
-Outputs (p ∷ ps) = Output p × Outputs ps
+Outputs (by-value F ∷ ps) = Outputs ps
+Outputs (to-read F ∷ ps) = Outputs ps
+Outputs (to-write F ∷ ps) = List (F .Value) × Outputs ps
 
--- a lent list: the pointer and the length
+-- a function of what is passed, and its value
+abbrev pub Of-inputs : List Param → Type 0 → Type 0
+Of-inputs [] A = A
+Of-inputs (p ∷ ps) A = Input p → Of-inputs ps A
+
+abbrev pub of-inputs : (ps : List Param) → {A : Type 0} → Of-inputs ps A → Inputs ps → A
+of-inputs [] f i = f
+of-inputs (p ∷ ps) f i = of-inputs ps (f (i .0)) (i .1)
+
+-- the pointer and the length
 abbrev pub pointer : Place → ℕ → Val
 pointer p n = vstruct (vcons (vptr (p .0) (p .1)) (vcons (vint w64 n) vnil))
 
@@ -142,22 +160,15 @@ writes (to-write F ∷ ps) i = span F (i .0 .0) (i .0 .1) ∷ writes ps (i .1)
 -- at the same places, with the new entries
 abbrev pub written : (ps : List Param) → Inputs ps → Outputs ps → List Span
 written [] i o = []
-written (by-value F ∷ ps) i o = written ps (i .1) (o .1)
-written (to-read F ∷ ps) i o = written ps (i .1) (o .1)
+written (by-value F ∷ ps) i o = written ps (i .1) o
+written (to-read F ∷ ps) i o = written ps (i .1) o
 written (to-write F ∷ ps) i o = span F (i .0 .0) (o .0) ∷ written ps (i .1) (o .1)
-
--- what is passed, with the lists on return for those that were lent to be written
-abbrev pub renewed : (ps : List Param) → Inputs ps → Outputs ps → Inputs ps
-renewed [] i o = tt
-renewed (by-value F ∷ ps) i o = (i .0, renewed ps (i .1) (o .1))
-renewed (to-read F ∷ ps) i o = (i .0, renewed ps (i .1) (o .1))
-renewed (to-write F ∷ ps) i o = ((i .0 .0, o .0), renewed ps (i .1) (o .1))
 
 -- as many entries as were lent
 abbrev pub Same-lengths : (ps : List Param) → Inputs ps → Outputs ps → Type 0
 Same-lengths [] i o = Unit {0}
-Same-lengths (by-value F ∷ ps) i o = Same-lengths ps (i .1) (o .1)
-Same-lengths (to-read F ∷ ps) i o = Same-lengths ps (i .1) (o .1)
+Same-lengths (by-value F ∷ ps) i o = Same-lengths ps (i .1) o
+Same-lengths (to-read F ∷ ps) i o = Same-lengths ps (i .1) o
 Same-lengths (to-write F ∷ ps) i o = (length (o .0) ≡ length (i .0 .1)) × Same-lengths ps (i .1) (o .1)
 
 -- each entry is one that its type holds
@@ -167,8 +178,8 @@ All-held F (x ∷ xs) = F .Holds x × All-held F xs
 
 abbrev pub Left-held : (ps : List Param) → Outputs ps → Type 0
 Left-held [] o = Unit {0}
-Left-held (by-value F ∷ ps) o = Left-held ps (o .1)
-Left-held (to-read F ∷ ps) o = Left-held ps (o .1)
+Left-held (by-value F ∷ ps) o = Left-held ps o
+Left-held (to-read F ∷ ps) o = Left-held ps o
 Left-held (to-write F ∷ ps) o = All-held F (o .0) × Left-held ps (o .1)
 
 -- ---- before the call
@@ -214,27 +225,25 @@ abbrev pub Else-kept : Memory → Memory → List Span → Type 0
 Else-kept σ σ′ ss =
     (b i : ℕ) (c : Cell) → All (λ s. ¬ Has s b i) ss → cell-at σ b i ≡ some c → cell-at σ′ b i ≡ some c
 
--- a call: its parameters, its results and the machine's value of each, its routine, and its contract on what is passed, the result and
--- the lists on return
 pub record Call : Type 1 where
   pub params : List Param
   pub Result : Type 0
   pub value : Result → Val
-  pub routine : Routine
-  pub contract : Inputs params → Result → Outputs params → Type 0
+  pub outcome : Of-inputs params (Result × Outputs params)
 
-pub record Ran (C : Call) (σ : Memory) (i : Inputs (C .params)) : Type 0 where
+-- the result, and the lists on return, for what is passed
+abbrev pub outcome-of : (C : Call) → Inputs (C .params) → C .Result × Outputs (C .params)
+outcome-of C i = of-inputs (C .params) (C .outcome) i
+
+pub record Ran (ρ : Routine) (C : Call) (σ : Memory) (i : Inputs (C .params)) : Type 0 where
   pub steps : ℕ
   pub memory : Memory
-  pub result : C .Result
-  pub last : Outputs (C .params)
-  pub returns : C .routine .step steps (passed (C .params) i) σ ≡ done (C .value result, memory)
-  pub meets : C .contract i result last
-  pub lengths : Same-lengths (C .params) i last
-  pub held : Left-held (C .params) last
-  pub stand : All (Stands memory) (written (C .params) i last)
+  pub returns : ρ .step steps (passed (C .params) i) σ ≡ done (C .value (outcome-of C i .0), memory)
+  pub lengths : Same-lengths (C .params) i (outcome-of C i .1)
+  pub held : Left-held (C .params) (outcome-of C i .1)
+  pub stand : All (Stands memory) (written (C .params) i (outcome-of C i .1))
   pub else-kept : Else-kept σ memory (writes (C .params) i)
   pub blocks-kept : Block-kept σ memory
 
-abbrev pub Runs : Call → Type 0
-Runs C = (σ : Memory) (i : Inputs (C .params)) → Ready σ (C .params) i → ∥ Ran C σ i ∥₁
+abbrev pub Runs : Routine → Call → Type 0
+Runs ρ C = (σ : Memory) (i : Inputs (C .params)) → Ready σ (C .params) i → ∥ Ran ρ C σ i ∥₁
