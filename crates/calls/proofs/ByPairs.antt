@@ -22,7 +22,7 @@ use Rattle.mesh.proofs.Images.Sites.{length-order}
 use Rattle.calls.specs.Questions.{lengths-of, answer-length, nodes-length, image-length, holds-image, ask, ends-refusal, level-refusal, site-refusal}
 use Rattle.calls.specs.Questions.{link-refusal, core-refusal, backbone-refusal, tree-refusal, write-refusal}
 use Rattle.calls.specs.Switches.{switch, switched}
-use Rattle.calls.specs.Outcomes.{by-number, linked-with, reply, value, link-outcome, listing-outcome, core-outcome, backbone-outcome, write-outcome, tree-outcome}
+use Rattle.calls.specs.Outcomes.{by-number, linked-with, listing, treed, reply, value, link-outcome, listing-outcome, core-outcome, backbone-outcome, write-outcome, tree-outcome}
 use Rattle.calls.proofs.QuestionLaws.{Site-lengths, ask-yes, true-answer-length, true-nodes-length, true-holds-image}
 use Rattle.calls.proofs.ChainLaws.{site-yes}
 use Rattle.calls.proofs.Holds.{Holds, read-back, is-sound}
@@ -74,7 +74,7 @@ module _ (n : ℕ) (ps : List Link) (t : Tables) (k : Holds n ps t) (least : 1 �
 
   pub write-by-pairs :
       (w : List ℕ) → image-length g ≤ length w →
-      write-outcome n t w ≡ (value 0 (image-length g), overwrite (image-of g (t .order)) w)
+      write-outcome n t w ≡ listing (value 0 (image-length g)) (overwrite (image-of g (t .order)) w)
   unfolding sound write-outcome write-refusal listing-outcome by-number
   write-by-pairs w l =
       rw (
@@ -85,7 +85,7 @@ module _ (n : ℕ) (ps : List Link) (t : Tables) (k : Holds n ps t) (least : 1 �
 
   pub tree-by-pairs :
       (m : List Node) (w : List ℕ) → n + 1 ≤ length m → n ≤ length w →
-      tree-outcome n t m w ≡ (value 0 (length (tree g)), overwrite (tree g) m, overwrite (node-names g) w)
+      tree-outcome n t m w ≡ treed (value 0 (length (tree g))) (overwrite (tree g) m) (overwrite (node-names g) w)
   unfolding sound tree-outcome tree-refusal by-number
   tree-by-pairs m w p q =
       let e : (nodes-length n (length m) && answer-length n (length w)) ≡ true =

@@ -12,7 +12,7 @@ use Prim.Native.Nat.{ℕ, zero, suc}
 use native.Mathlib.Omega.{arith}
 use Rattle.lists.specs.Lists.{overwrite}
 use Rattle.calls.specs.Fields.{By-number, Value-accepted, Value-refused, Value-by, Listing-accepted, Listing-refused, Listing-by}
-use Rattle.calls.specs.Outcomes.{value-outcome, listing-outcome}
+use Rattle.calls.specs.Outcomes.{listing, value-outcome, listing-outcome}
 use Rattle.calls.specs.declared.Value.{Value}
 use Rattle.calls.proofs.FieldLaws.{value-fields, listing-fields}
 
@@ -49,12 +49,12 @@ value-answered R x y e h = value-fields R x (answer 0 y) .1 (by-accepted R (λ p
 
 -- ---- any listing
 
-pub listing-refused : (R x : ℕ) (new old : List ℕ) (q : ℕ) → q ≡ R → (q ≡ 0 → ⊥) → (answer q 0, old) ≡ listing-outcome R x new old
+pub listing-refused : (R x : ℕ) (new old : List ℕ) (q : ℕ) → q ≡ R → (q ≡ 0 → ⊥) → listing (answer q 0) old ≡ listing-outcome R x new old
 listing-refused R x new old q e h =
     listing-fields R x new old (answer q 0) old .1
     (by-refused R (Listing-accepted x new old (answer q 0) old) (λ p. Listing-refused p old (answer q 0) old) (λ z. h (e ∙ z))
     (record { number = e; value = refl; lent = refl }))
 
-pub listing-answered : (R x : ℕ) (new old : List ℕ) (y : ℕ) (now : List ℕ) → R ≡ 0 → y ≡ x → now ≡ overwrite new old → (answer 0 y, now) ≡ listing-outcome R x new old
+pub listing-answered : (R x : ℕ) (new old : List ℕ) (y : ℕ) (now : List ℕ) → R ≡ 0 → y ≡ x → now ≡ overwrite new old → listing (answer 0 y) now ≡ listing-outcome R x new old
 listing-answered R x new old y now e h l =
     listing-fields R x new old (answer 0 y) now .1 (by-accepted R (λ p. Listing-refused p old (answer 0 y) now) e (record { number = refl; value = h; lent = l }))

@@ -30,11 +30,12 @@ use Rattle.calls.specs.Lift.{lifting, first-pair, lift-refusal}
 use Rattle.calls.specs.Sheet.{sheet, sheet-length}
 use Rattle.calls.specs.Script.{script-of, script-length}
 use Rattle.calls.specs.Switches.{switched}
-use Rattle.calls.specs.Outcomes.{by-number, Linked, linked-with, clear-outcome, read-outcome, link-outcome, ask-outcome, commit-outcome, batch-outcome, hear-outcome, value-outcome}
+use Rattle.calls.specs.Outcomes.{by-number, Numbered, numbered, Linked, linked-with, Asked, asked, Committed, committed-with, Batched, batched, Heard, heard-with, Listing, listing, Treed, treed}
+use Rattle.calls.specs.Outcomes.{clear-outcome, read-outcome, link-outcome, ask-outcome, commit-outcome, batch-outcome, hear-outcome, value-outcome}
 use Rattle.calls.specs.Outcomes.{check-outcome, number-outcome, neighbours-outcome, linked-outcome, first-of-two, first-outcome, later-outcome, listing-outcome}
 use Rattle.calls.specs.Outcomes.{core-outcome, backbone-outcome, staircase-outcome, write-outcome, sheet-outcome, script-length-outcome, script-outcome, tree-outcome}
 use Rattle.calls.specs.Outcomes.{no-block, block-or-end, block-outcome}
-use Rattle.calls.specs.MarkOutcomes.{store-outcome, set-outcome, remove-outcome, return-outcome}
+use Rattle.calls.specs.MarkOutcomes.{Stored, stored, store-outcome, set-outcome, remove-outcome, return-outcome}
 use Rattle.calls.specs.LiftOutcome.{lift-outcome}
 use Rattle.calls.specs.Contracts.{Clear-contract, Read-contract, Return-contract, Link-contract, Ask-contract, Commit-contract, Batch-contract, Hear-contract}
 use Rattle.calls.specs.Contracts.{Check-contract, Number-contract, Neighbours-contract, Linked-contract, First-contract, Later-contract, Lift-contract}
@@ -73,37 +74,37 @@ value-fields R x r =
     by-fields R (λ e. rw e (record { number = refl; value = refl }), λ d. rw (d .number, d .value))
     (λ q. (λ e. rw e (record { number = refl; value = refl }), λ d. rw (d .number, d .value)))
 
-listing-of : (R x : ℕ) (new old : List ℕ) (o : Value × List ℕ) → (o ≡ listing-outcome R x new old) ↔ Listing-by R x new old (o .0) (o .1)
+listing-of : (R x : ℕ) (new old : List ℕ) (o : Listing) → (o ≡ listing-outcome R x new old) ↔ Listing-by R x new old (o .reply) (o .lent)
 unfolding listing-outcome
 listing-of R x new old o =
     by-fields R (λ e. rw e (record { number = refl; value = refl; lent = refl }), λ d. rw (d .number, d .value, d .lent))
     (λ q. (λ e. rw e (record { number = refl; value = refl; lent = refl }), λ d. rw (d .number, d .value, d .lent)))
 
 pub listing-fields :
-    (R x : ℕ) (new old : List ℕ) (r : Value) (now : List ℕ) → ((r, now) ≡ listing-outcome R x new old) ↔ Listing-by R x new old r now
-listing-fields R x new old r now = listing-of R x new old (r, now)
+    (R x : ℕ) (new old : List ℕ) (r : Value) (now : List ℕ) → (listing r now ≡ listing-outcome R x new old) ↔ Listing-by R x new old r now
+listing-fields R x new old r now = listing-of R x new old (listing r now)
 
 -- a number, and a store
-store-of-fields : (R : ℕ) (new old : List ℕ) (o : ℕ × List ℕ) → (o ≡ store-outcome R new old) ↔ Store-by R new old (o .0) (o .1)
+store-of-fields : (R : ℕ) (new old : List ℕ) (o : Stored) → (o ≡ store-outcome R new old) ↔ Store-by R new old (o .reply) (o .store)
 unfolding store-outcome
 store-of-fields R new old o =
     by-fields R (λ e. rw e (record { number = refl; store = refl }), λ d. rw (d .number, d .store))
     (λ q. (λ e. rw e (record { number = refl; store = refl }), λ d. rw (d .number, d .store)))
 
 -- a number, and tables: refused, and those of an image
-refused-of : (q : ℕ) (t : Tables) (o : ℕ × Tables) → (o ≡ (q, t)) ↔ Tables-refused q (o .0) t (o .1)
+refused-of : (q : ℕ) (t : Tables) (o : Numbered) → (o ≡ numbered q t) ↔ Tables-refused q (o .reply) t (o .tables)
 refused-of q t o =
     (λ e. rw e (record { number = refl; links = refl; numbers = refl; order = refl }), λ d. rw (d .number, d .links, d .numbers, d .order))
 
-read-of : (n : ℕ) (bs : List ℕ) (o : ℕ × Tables) → (o ≡ (0, tables-of (image-graph n bs) (image-order n bs))) ↔ Read-accepted n bs (o .0) (o .1)
+read-of : (n : ℕ) (bs : List ℕ) (o : Numbered) → (o ≡ numbered 0 (tables-of (image-graph n bs) (image-order n bs))) ↔ Read-accepted n bs (o .reply) (o .tables)
 unfolding tables-of
 read-of n bs o =
     (λ e. rw e (record { number = refl; links = refl; numbers = refl; order = refl }), λ d. rw (d .number, d .links, d .numbers, d .order))
 
 -- ---- calls that write links, numbers and order
 
-pub clear-of : (n : ℕ) (t : Tables) (o : ℕ × Tables) →
-    (o ≡ clear-outcome n t) ↔ By-number (tables-refusal n (lengths-of t)) (Clear-accepted n (o .0) (o .1)) (λ q. Tables-refused q (o .0) t (o .1))
+pub clear-of : (n : ℕ) (t : Tables) (o : Numbered) →
+    (o ≡ clear-outcome n t) ↔ By-number (tables-refusal n (lengths-of t)) (Clear-accepted n (o .reply) (o .tables)) (λ q. Tables-refused q (o .reply) t (o .tables))
 unfolding clear-outcome
 clear-of n t o =
     by-fields _
@@ -114,11 +115,11 @@ pub clear-fields :
     (n : ℕ) (t : Tables) (r : ℕ) (v : Tables) →
     Clear-contract n t r v ↔ By-number (tables-refusal n (lengths-of t)) (Clear-accepted n r v) (λ q. Tables-refused q r t v)
 unfolding Clear-contract
-clear-fields n t r v = clear-of n t (r, v)
+clear-fields n t r v = clear-of n t (numbered r v)
 
 pub read-outcome-of :
-    (n : ℕ) (bs : List ℕ) (t : Tables) (o : ℕ × Tables) →
-    (o ≡ read-outcome n bs t) ↔ By-number (read-refusal n (lengths-of t) bs) (Read-accepted n bs (o .0) (o .1)) (λ q. Tables-refused q (o .0) t (o .1))
+    (n : ℕ) (bs : List ℕ) (t : Tables) (o : Numbered) →
+    (o ≡ read-outcome n bs t) ↔ By-number (read-refusal n (lengths-of t) bs) (Read-accepted n bs (o .reply) (o .tables)) (λ q. Tables-refused q (o .reply) t (o .tables))
 unfolding read-outcome
 read-outcome-of n bs t o = by-fields _ (read-of n bs o) (λ q. refused-of q t o)
 
@@ -126,13 +127,13 @@ pub read-fields :
     (n : ℕ) (bs : List ℕ) (t : Tables) (r : ℕ) (v : Tables) →
     Read-contract n bs t r v ↔ By-number (read-refusal n (lengths-of t) bs) (Read-accepted n bs r v) (λ q. Tables-refused q r t v)
 unfolding Read-contract
-read-fields n bs t r v = read-outcome-of n bs t (r, v)
+read-fields n bs t r v = read-outcome-of n bs t (numbered r v)
 
 pub return-of :
-    (n : ℕ) (x bs : List ℕ) (t : Tables) (o : ℕ × Tables) →
+    (n : ℕ) (x bs : List ℕ) (t : Tables) (o : Numbered) →
     (o ≡ return-outcome n x bs t)
-    ↔ By-number (named-refusal n (lengths-of t) (sound n t) x bs) (Read-accepted n (mark-image n x bs) (o .0) (o .1))
-    (λ q. Tables-refused q (o .0) t (o .1))
+    ↔ By-number (named-refusal n (lengths-of t) (sound n t) x bs) (Read-accepted n (mark-image n x bs) (o .reply) (o .tables))
+    (λ q. Tables-refused q (o .reply) t (o .tables))
 unfolding return-outcome
 return-of n x bs t o = by-fields _ (read-of n (mark-image n x bs) o) (λ q. refused-of q t o)
 
@@ -141,7 +142,7 @@ pub return-fields :
     Return-contract n x bs t r v
     ↔ By-number (named-refusal n (lengths-of t) (sound n t) x bs) (Read-accepted n (mark-image n x bs) r v) (λ q. Tables-refused q r t v)
 unfolding Return-contract
-return-fields n x bs t r v = return-of n x bs t (r, v)
+return-fields n x bs t r v = return-of n x bs t (numbered r v)
 
 pub link-of :
     (up : Bool) (n a b : ℕ) (t : Tables) (w : List ℕ) (o : Linked) → let g = graph-in n (t .links) in
@@ -167,10 +168,10 @@ unfolding Link-contract
 link-fields up n a b t w r v x = link-of up n a b t w (linked-with r v x)
 
 pub commit-of :
-    (up : Bool) (n a b : ℕ) (z : ℤ) (xs : List ℕ) (t : Tables) (o : Reply × Tables) →
+    (up : Bool) (n a b : ℕ) (z : ℤ) (xs : List ℕ) (t : Tables) (o : Committed) →
     (o ≡ commit-outcome up n a b z xs t)
-    ↔ By-number (commit-refusal up n a b z xs (lengths-of t) (sound n t) (graph-in n (t .links))) (Commit-accepted up n a b t (o .0) (o .1))
-    (λ q. Commit-refused q t (o .0) (o .1))
+    ↔ By-number (commit-refusal up n a b z xs (lengths-of t) (sound n t) (graph-in n (t .links))) (Commit-accepted up n a b t (o .reply) (o .tables))
+    (λ q. Commit-refused q t (o .reply) (o .tables))
 unfolding commit-outcome
 commit-of up n a b z xs t o =
     by-fields _
@@ -183,13 +184,13 @@ pub commit-fields :
     ↔ By-number (commit-refusal up n a b z xs (lengths-of t) (sound n t) (graph-in n (t .links))) (Commit-accepted up n a b t r v)
     (λ q. Commit-refused q t r v)
 unfolding Commit-contract
-commit-fields up n a b z xs t r v = commit-of up n a b z xs t (r, v)
+commit-fields up n a b z xs t r v = commit-of up n a b z xs t (committed-with r v)
 
 pub batch-of :
-    (n : ℕ) (xs : List ℕ) (t : Tables) (o : Value × Tables) →
+    (n : ℕ) (xs : List ℕ) (t : Tables) (o : Batched) →
     (o ≡ batch-outcome n xs t)
-    ↔ By-number (batch-refusal n (lengths-of t) (length xs) (sound n t)) (Batch-done n xs (graph-in n (t .links) .links) t (o .0) (o .1))
-    (λ q. Batch-refused q t (o .0) (o .1))
+    ↔ By-number (batch-refusal n (lengths-of t) (length xs) (sound n t)) (Batch-done n xs (graph-in n (t .links) .links) t (o .reply) (o .tables))
+    (λ q. Batch-refused q t (o .reply) (o .tables))
 unfolding batch-outcome
 batch-of n xs t o =
     by-fields _ (λ e. rw e (record { number = refl; value = refl; tables = refl }), λ d. rw (d .number, d .value, d .tables))
@@ -201,13 +202,13 @@ pub batch-fields :
     ↔ By-number (batch-refusal n (lengths-of t) (length xs) (sound n t)) (Batch-done n xs (graph-in n (t .links) .links) t r v)
     (λ q. Batch-refused q t r v)
 unfolding Batch-contract
-batch-fields n xs t r v = batch-of n xs t (r, v)
+batch-fields n xs t r v = batch-of n xs t (batched r v)
 
 pub hear-of :
-    (n : ℕ) (hs : List ℕ) (t : Tables) (w : List ℕ) (o : Value × Tables × List ℕ) →
+    (n : ℕ) (hs : List ℕ) (t : Tables) (w : List ℕ) (o : Heard) →
     (o ≡ hear-outcome n hs t w)
-    ↔ By-number (hear-refusal n (lengths-of t) hs (length w) (sound n t)) (Hear-accepted n hs t (o .0) (o .1) (o .2))
-    (λ q. Hear-refused q t w (o .0) (o .1) (o .2))
+    ↔ By-number (hear-refusal n (lengths-of t) hs (length w) (sound n t)) (Hear-accepted n hs t (o .reply) (o .tables) (o .one-sided))
+    (λ q. Hear-refused q t w (o .reply) (o .tables) (o .one-sided))
 unfolding hear-outcome
 hear-of n hs t w o =
     by-fields _
@@ -219,7 +220,7 @@ pub hear-fields :
     Hear-contract n hs t w r v x
     ↔ By-number (hear-refusal n (lengths-of t) hs (length w) (sound n t)) (Hear-accepted n hs t r v x) (λ q. Hear-refused q t w r v x)
 unfolding Hear-contract
-hear-fields n hs t w r v x = hear-of n hs t w (r, v, x)
+hear-fields n hs t w r v x = hear-of n hs t w (heard-with r v x)
 
 -- ---- calls that only read them
 
@@ -270,10 +271,10 @@ lift-fields n v t r =
     (λ q. (λ e. rw e (record { number = refl; low = refl; high = refl }), λ d. rw (d .number, d .low, d .high)))
 
 pub ask-of :
-    (up : Bool) (n a b : ℕ) (t : Tables) (w : List ℕ) (o : Reply × List ℕ) → let g = graph-in n (t .links) in
+    (up : Bool) (n a b : ℕ) (t : Tables) (w : List ℕ) (o : Asked) → let g = graph-in n (t .links) in
     (o ≡ ask-outcome up n a b t w)
-    ↔ By-number (link-refusal up n a b (lengths-of t) (length w) (sound n t) g) (Ask-accepted up a b g w (o .0) (o .1))
-    (λ q. Ask-refused q w (o .0) (o .1))
+    ↔ By-number (link-refusal up n a b (lengths-of t) (length w) (sound n t) g) (Ask-accepted up a b g w (o .reply) (o .answer))
+    (λ q. Ask-refused q w (o .reply) (o .answer))
 unfolding ask-outcome
 ask-of up n a b t w o =
     by-fields _
@@ -285,7 +286,7 @@ pub ask-fields :
     Ask-contract up n a b t w r x
     ↔ By-number (link-refusal up n a b (lengths-of t) (length w) (sound n t) g) (Ask-accepted up a b g w r x) (λ q. Ask-refused q w r x)
 unfolding Ask-contract
-ask-fields up n a b t w r x = ask-of up n a b t w (r, x)
+ask-fields up n a b t w r x = ask-of up n a b t w (asked r x)
 
 pub core-fields :
     (n v k : ℕ) (t : Tables) (w : List ℕ) (r : Value) (x : List ℕ) → let g = graph-in n (t .links) in
@@ -332,10 +333,10 @@ unfolding Script-contract script-outcome sound
 script-fields n t w r x = listing-fields _ _ _ w r x
 
 pub tree-of :
-    (n : ℕ) (t : Tables) (m : List Node) (w : List ℕ) (o : Value × List Node × List ℕ) → let g = graph-in n (t .links) in
+    (n : ℕ) (t : Tables) (m : List Node) (w : List ℕ) (o : Treed) → let g = graph-in n (t .links) in
     (o ≡ tree-outcome n t m w)
-    ↔ By-number (tree-refusal n (lengths-of t) (length m) (length w) (sound n t)) (Tree-accepted g m w (o .0) (o .1) (o .2))
-    (λ q. Tree-refused q m w (o .0) (o .1) (o .2))
+    ↔ By-number (tree-refusal n (lengths-of t) (length m) (length w) (sound n t)) (Tree-accepted g m w (o .reply) (o .nodes) (o .answer))
+    (λ q. Tree-refused q m w (o .reply) (o .nodes) (o .answer))
 unfolding tree-outcome sound
 tree-of n t m w o =
     by-fields _
@@ -347,13 +348,13 @@ pub tree-fields :
     Tree-contract n t m w r p x
     ↔ By-number (tree-refusal n (lengths-of t) (length m) (length w) (sound n t)) (Tree-accepted g m w r p x) (λ q. Tree-refused q m w r p x)
 unfolding Tree-contract
-tree-fields n t m w r p x = tree-of n t m w (r, p, x)
+tree-fields n t m w r p x = tree-of n t m w (treed r p x)
 
 -- ---- marks
 
 pub set-of :
-    (n : ℕ) (x : List ℕ) (t : Tables) (bs : List ℕ) (o : ℕ × List ℕ) →
-    (o ≡ set-outcome n x t bs) ↔ Store-by (set-refusal n (lengths-of t) (sound n t) x bs) (set-store n x t bs) bs (o .0) (o .1)
+    (n : ℕ) (x : List ℕ) (t : Tables) (bs : List ℕ) (o : Stored) →
+    (o ≡ set-outcome n x t bs) ↔ Store-by (set-refusal n (lengths-of t) (sound n t) x bs) (set-store n x t bs) bs (o .reply) (o .store)
 unfolding set-outcome
 set-of n x t bs o = store-of-fields _ _ bs o
 
@@ -361,11 +362,11 @@ pub set-fields :
     (n : ℕ) (x : List ℕ) (t : Tables) (bs : List ℕ) (r : ℕ) (cs : List ℕ) →
     Set-contract n x t bs r cs ↔ Store-by (set-refusal n (lengths-of t) (sound n t) x bs) (set-store n x t bs) bs r cs
 unfolding Set-contract
-set-fields n x t bs r cs = set-of n x t bs (r, cs)
+set-fields n x t bs r cs = set-of n x t bs (stored r cs)
 
 pub remove-of :
-    (n : ℕ) (x : List ℕ) (t : Tables) (bs : List ℕ) (o : ℕ × List ℕ) →
-    (o ≡ remove-outcome n x t bs) ↔ Store-by (named-refusal n (lengths-of t) (sound n t) x bs) (removed-store x bs) bs (o .0) (o .1)
+    (n : ℕ) (x : List ℕ) (t : Tables) (bs : List ℕ) (o : Stored) →
+    (o ≡ remove-outcome n x t bs) ↔ Store-by (named-refusal n (lengths-of t) (sound n t) x bs) (removed-store x bs) bs (o .reply) (o .store)
 unfolding remove-outcome
 remove-of n x t bs o = store-of-fields _ _ bs o
 
@@ -373,7 +374,7 @@ pub remove-fields :
     (n : ℕ) (x : List ℕ) (t : Tables) (bs : List ℕ) (r : ℕ) (cs : List ℕ) →
     Remove-contract n x t bs r cs ↔ Store-by (named-refusal n (lengths-of t) (sound n t) x bs) (removed-store x bs) bs r cs
 unfolding Remove-contract
-remove-fields n x t bs r cs = remove-of n x t bs (r, cs)
+remove-fields n x t bs r cs = remove-of n x t bs (stored r cs)
 
 -- ---- a step of the block reader
 

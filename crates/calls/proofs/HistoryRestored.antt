@@ -211,15 +211,15 @@ history-restored n ps t₀ t u v s before between m j x bs ds r₁ d₁ r₂ d�
 
 marked-events :
     (between : List Call) (t : Tables) (m j : ℕ) (x bs ds : List ℕ) → let u = after between t in
-    set-outcome m x t bs .0 ≡ 0 → return-outcome j x ds u .0 ≡ 0 →
+    set-outcome m x t bs .reply ≡ 0 → return-outcome j x ds u .reply ≡ 0 →
     events (setting m x bs ∷ (between ++ (returning j x ds ∷ []))) t
-    ≡ event (setting m x bs) t (plain 0 ∷ []) t ∷ (events between t ++ (event (returning j x ds) u (plain 0 ∷ []) (return-outcome j x ds u .1) ∷ []))
+    ≡ event (setting m x bs) t (plain 0 ∷ []) t ∷ (events between t ++ (event (returning j x ds) u (plain 0 ∷ []) (return-outcome j x ds u .tables) ∷ []))
 unfolding events done
 marked-events between t m j x bs ds z y = rw (z, events-append between (returning j x ds ∷ []) t, y)
 
 pub restored-list :
     (n : ℕ) (ps : List Link) (t₀ : Tables) (s : Start n ps t₀) (before between : List Call) (m j : ℕ) (x bs ds : List ℕ) →
-    let t = after before t₀ in let u = after between t in set-outcome m x t bs .0 ≡ 0 → return-outcome j x ds u .0 ≡ 0 →
+    let t = after before t₀ in let u = after between t in set-outcome m x t bs .reply ≡ 0 → return-outcome j x ds u .reply ≡ 0 →
     all-leave x (givens (events between t)) (book-after (givens (events before t₀)) ps) ≡ true →
     mark-image j x ds ≡ image-of (graph-in n (t .links)) (t .order) →
     history (givens (events (before ++ (setting m x bs ∷ (between ++ (returning j x ds ∷ [])))) t₀)) ps (beginning s)
@@ -230,5 +230,5 @@ restored-list n ps t₀ s before between m j x bs ds z y free still =
     let u = after between t in
     ap (λ (es : List Event). history (givens es) ps (beginning s))
     (events-append before _ t₀ ∙ ap (λ (es : List Event). events before t₀ ++ es) (marked-events between t m j x bs ds z y))
-    ∙ history-restored n ps t₀ t u (return-outcome j x ds u .1) s (events before t₀) (events between t) m j x bs ds (run before t₀) (rw z) (run between t) (rw y)
+    ∙ history-restored n ps t₀ t u (return-outcome j x ds u .tables) s (events before t₀) (events between t) m j x bs ds (run before t₀) (rw z) (run between t) (rw y)
     free still

@@ -20,7 +20,7 @@ use Rattle.mesh.proofs.Images.Tables.{valid-graph-in, is-image-within-sound, is
 use Rattle.mesh.proofs.Images.OtherSize.{other-size-iff, is-image-not-other}
 use Rattle.calls.specs.Questions.{ask, Lengths, lengths-of, size-good, are-radios, has-room, lent-refusal, site-refusal, ends-refusal}
 use Rattle.calls.specs.Questions.{link-refusal-within, blocks-refusal, source-refusal, image-refusal, read-refusal}
-use Rattle.calls.specs.Outcomes.{by-number, Linked, read-outcome, link-outcome-within, link-outcome, check-outcome, number-outcome, neighbours-outcome}
+use Rattle.calls.specs.Outcomes.{by-number, Numbered, numbered, Linked, read-outcome, link-outcome-within, link-outcome, check-outcome, number-outcome, neighbours-outcome}
 use Rattle.calls.specs.Outcomes.{linked-outcome, first-outcome, core-outcome, backbone-outcome, write-outcome, tree-outcome, later-outcome, sheet-outcome, staircase-outcome}
 use Rattle.calls.specs.Outcomes.{script-length-outcome, script-outcome}
 use Rattle.calls.specs.Older.{Was-sound, former-read-refusal, former-read-outcome, Older}
@@ -128,12 +128,12 @@ unfolding former-read-refusal read-refusal image-refusal lent-refusal blocks-ref
 same-unless-eleven n bs l =
     ask-unless 1 _ 11 _ _ (λ s. ask-unless 2 _ 11 _ _ (λ e2. ask-unless 9 _ 11 _ _ (λ e9. ask-unless 10 _ 11 _ _ (λ e10. same-last n bs s))))
 
-number-former : (n : ℕ) (bs : List ℕ) (t : Tables) → former-read-outcome n bs t .0 ≡ former-read-refusal n (lengths-of t) bs
+number-former : (n : ℕ) (bs : List ℕ) (t : Tables) → former-read-outcome n bs t .reply ≡ former-read-refusal n (lengths-of t) bs
 unfolding former-read-outcome
-number-former n bs t = number-by (λ (o : ℕ × Tables). o .0) (former-read-refusal n (lengths-of t) bs) _ _ refl (λ q. refl)
+number-former n bs t = number-by (λ (o : Numbered). o .reply) (former-read-refusal n (lengths-of t) bs) _ _ refl (λ q. refl)
 
 pub older-read :
-    (n : ℕ) (bs : List ℕ) (t : Tables) → (former-read-outcome n bs t .0 ≡ 11 → ⊥) → read-outcome n bs t ≡ former-read-outcome n bs t
+    (n : ℕ) (bs : List ℕ) (t : Tables) → (former-read-outcome n bs t .reply ≡ 11 → ⊥) → read-outcome n bs t ≡ former-read-outcome n bs t
 unfolding read-outcome former-read-outcome
 older-read n bs t h = rw (same-unless-eleven n bs (lengths-of t) (λ e. h (number-former n bs t ∙ e)))
 
@@ -153,7 +153,7 @@ fifteen-for-eleven n bs l o e =
 
 pub older-other :
     (m n : ℕ) (bs : List ℕ) (t : Tables) → size-good m ≡ true → (m ≡ n → ⊥) → is-image-within former-neighbours m bs ≡ true →
-    former-read-outcome n bs t .0 ≡ 11 → read-outcome n bs t ≡ (15, t)
+    former-read-outcome n bs t .reply ≡ 11 → read-outcome n bs t ≡ numbered 15 t
 unfolding read-outcome by-number
 older-other m n bs t s d i e =
     let small = size-good-true m s .1 in

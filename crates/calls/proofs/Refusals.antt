@@ -10,11 +10,12 @@ use lib.IntN.{ℤ, pos}
 use lib.Dec.{ltb}
 use Rattle.mesh.specs.Tables.{Tables}
 use Rattle.mesh.specs.declared.Node.{Node}
-use Rattle.calls.specs.Outcomes.{by-number, Linked, linked-with, reply, value, later, clear-outcome, read-outcome, link-outcome, ask-outcome, commit-outcome, hear-outcome, value-outcome}
+use Rattle.calls.specs.Outcomes.{by-number, Numbered, numbered, Linked, linked-with, Asked, asked, Committed, committed-with, Heard, heard-with, Listing, listing, Treed, treed}
+use Rattle.calls.specs.Outcomes.{reply, value, later, clear-outcome, read-outcome, link-outcome, ask-outcome, commit-outcome, hear-outcome, value-outcome}
 use Rattle.calls.specs.Outcomes.{check-outcome, number-outcome, neighbours-outcome, linked-outcome, first-outcome, later-outcome, listing-outcome}
 use Rattle.calls.specs.Outcomes.{core-outcome, backbone-outcome, staircase-outcome, write-outcome, sheet-outcome, script-length-outcome, script-outcome, tree-outcome}
 use Rattle.calls.specs.Outcomes.{no-block, block-or-end, block-outcome}
-use Rattle.calls.specs.MarkOutcomes.{store-outcome, set-outcome, remove-outcome, return-outcome}
+use Rattle.calls.specs.MarkOutcomes.{Stored, stored, store-outcome, set-outcome, remove-outcome, return-outcome}
 use Rattle.calls.specs.LiftOutcome.{pair, lift-outcome}
 use Rattle.calls.specs.declared.Reply.{Reply}
 use Rattle.calls.specs.declared.Value.{Value}
@@ -35,27 +36,27 @@ pub value-keeps : (R x : ℕ) → let o = value-outcome R x in (o .number ≡ 0 
 unfolding value-outcome
 value-keeps R x = by-refusal (λ (o : Value). o .number) R _ _ refl (λ q. refl)
 
-pub listing-keeps : (R x : ℕ) (new old : List ℕ) → let o = listing-outcome R x new old in (o .0 .number ≡ 0 → ⊥) → o ≡ (value (o .0 .number) 0, old)
+pub listing-keeps : (R x : ℕ) (new old : List ℕ) → let o = listing-outcome R x new old in (o .reply .number ≡ 0 → ⊥) → o ≡ listing (value (o .reply .number) 0) old
 unfolding listing-outcome
-listing-keeps R x new old = by-refusal (λ (o : Value × List ℕ). o .0 .number) R _ _ refl (λ q. refl)
+listing-keeps R x new old = by-refusal (λ (o : Listing). o .reply .number) R _ _ refl (λ q. refl)
 
-pub store-keeps : (R : ℕ) (new old : List ℕ) → let o = store-outcome R new old in (o .0 ≡ 0 → ⊥) → o ≡ (o .0, old)
+pub store-keeps : (R : ℕ) (new old : List ℕ) → let o = store-outcome R new old in (o .reply ≡ 0 → ⊥) → o ≡ stored (o .reply) old
 unfolding store-outcome
-store-keeps R new old = by-refusal (λ (o : ℕ × List ℕ). o .0) R _ _ refl (λ q. refl)
+store-keeps R new old = by-refusal (λ (o : Stored). o .reply) R _ _ refl (λ q. refl)
 
 -- ---- calls that write links, numbers and order
 
-pub clear-keeps : (n : ℕ) (t : Tables) → let o = clear-outcome n t in (o .0 ≡ 0 → ⊥) → o ≡ (o .0, t)
+pub clear-keeps : (n : ℕ) (t : Tables) → let o = clear-outcome n t in (o .reply ≡ 0 → ⊥) → o ≡ numbered (o .reply) t
 unfolding clear-outcome
-clear-keeps n t = by-refusal (λ (o : ℕ × Tables). o .0) _ _ _ refl (λ q. refl)
+clear-keeps n t = by-refusal (λ (o : Numbered). o .reply) _ _ _ refl (λ q. refl)
 
-pub read-keeps : (n : ℕ) (bs : List ℕ) (t : Tables) → let o = read-outcome n bs t in (o .0 ≡ 0 → ⊥) → o ≡ (o .0, t)
+pub read-keeps : (n : ℕ) (bs : List ℕ) (t : Tables) → let o = read-outcome n bs t in (o .reply ≡ 0 → ⊥) → o ≡ numbered (o .reply) t
 unfolding read-outcome
-read-keeps n bs t = by-refusal (λ (o : ℕ × Tables). o .0) _ _ _ refl (λ q. refl)
+read-keeps n bs t = by-refusal (λ (o : Numbered). o .reply) _ _ _ refl (λ q. refl)
 
-pub return-keeps : (n : ℕ) (x bs : List ℕ) (t : Tables) → let o = return-outcome n x bs t in (o .0 ≡ 0 → ⊥) → o ≡ (o .0, t)
+pub return-keeps : (n : ℕ) (x bs : List ℕ) (t : Tables) → let o = return-outcome n x bs t in (o .reply ≡ 0 → ⊥) → o ≡ numbered (o .reply) t
 unfolding return-outcome
-return-keeps n x bs t = by-refusal (λ (o : ℕ × Tables). o .0) _ _ _ refl (λ q. refl)
+return-keeps n x bs t = by-refusal (λ (o : Numbered). o .reply) _ _ _ refl (λ q. refl)
 
 pub link-keeps :
     (up : Bool) (n a b : ℕ) (t : Tables) (w : List ℕ) → let o = link-outcome up n a b t w in
@@ -65,15 +66,15 @@ link-keeps up n a b t w = by-refusal (λ (o : Linked). o .reply .number) _ _ _ r
 
 pub commit-keeps :
     (up : Bool) (n a b : ℕ) (z : ℤ) (xs : List ℕ) (t : Tables) → let o = commit-outcome up n a b z xs t in
-    (o .0 .number ≡ 0 → ⊥) → o ≡ (reply (o .0 .number) (pos 0) 0, t)
+    (o .reply .number ≡ 0 → ⊥) → o ≡ committed-with (reply (o .reply .number) (pos 0) 0) t
 unfolding commit-outcome
-commit-keeps up n a b z xs t = by-refusal (λ (o : Reply × Tables). o .0 .number) _ _ _ refl (λ q. refl)
+commit-keeps up n a b z xs t = by-refusal (λ (o : Committed). o .reply .number) _ _ _ refl (λ q. refl)
 
 pub hear-keeps :
     (n : ℕ) (hs : List ℕ) (t : Tables) (w : List ℕ) → let o = hear-outcome n hs t w in
-    (o .0 .number ≡ 0 → ⊥) → o ≡ (value (o .0 .number) 0, t, w)
+    (o .reply .number ≡ 0 → ⊥) → o ≡ heard-with (value (o .reply .number) 0) t w
 unfolding hear-outcome
-hear-keeps n hs t w = by-refusal (λ (o : Value × Tables × List ℕ). o .0 .number) _ _ _ refl (λ q. refl)
+hear-keeps n hs t w = by-refusal (λ (o : Heard). o .reply .number) _ _ _ refl (λ q. refl)
 
 -- ---- calls that only read them
 
@@ -107,32 +108,32 @@ lift-keeps n v t = by-refusal (λ (o : Pair). o .number) _ _ _ refl (λ q. refl)
 
 pub ask-keeps :
     (up : Bool) (n a b : ℕ) (t : Tables) (w : List ℕ) → let o = ask-outcome up n a b t w in
-    (o .0 .number ≡ 0 → ⊥) → o ≡ (reply (o .0 .number) (pos 0) 0, w)
+    (o .reply .number ≡ 0 → ⊥) → o ≡ asked (reply (o .reply .number) (pos 0) 0) w
 unfolding ask-outcome
-ask-keeps up n a b t w = by-refusal (λ (o : Reply × List ℕ). o .0 .number) _ _ _ refl (λ q. refl)
+ask-keeps up n a b t w = by-refusal (λ (o : Asked). o .reply .number) _ _ _ refl (λ q. refl)
 
 pub core-keeps :
-    (n v k : ℕ) (t : Tables) (w : List ℕ) → let o = core-outcome n v k t w in (o .0 .number ≡ 0 → ⊥) → o ≡ (value (o .0 .number) 0, w)
+    (n v k : ℕ) (t : Tables) (w : List ℕ) → let o = core-outcome n v k t w in (o .reply .number ≡ 0 → ⊥) → o ≡ listing (value (o .reply .number) 0) w
 unfolding core-outcome
 core-keeps n v k t w = listing-keeps _ _ _ w
 
 pub backbone-keeps :
-    (n : ℕ) (t : Tables) (w : List ℕ) → let o = backbone-outcome n t w in (o .0 .number ≡ 0 → ⊥) → o ≡ (value (o .0 .number) 0, w)
+    (n : ℕ) (t : Tables) (w : List ℕ) → let o = backbone-outcome n t w in (o .reply .number ≡ 0 → ⊥) → o ≡ listing (value (o .reply .number) 0) w
 unfolding backbone-outcome
 backbone-keeps n t w = listing-keeps _ _ _ w
 
 pub staircase-keeps :
-    (n : ℕ) (t : Tables) (w : List ℕ) → let o = staircase-outcome n t w in (o .0 .number ≡ 0 → ⊥) → o ≡ (value (o .0 .number) 0, w)
+    (n : ℕ) (t : Tables) (w : List ℕ) → let o = staircase-outcome n t w in (o .reply .number ≡ 0 → ⊥) → o ≡ listing (value (o .reply .number) 0) w
 unfolding staircase-outcome
 staircase-keeps n t w = listing-keeps _ _ _ w
 
 pub write-keeps :
-    (n : ℕ) (t : Tables) (w : List ℕ) → let o = write-outcome n t w in (o .0 .number ≡ 0 → ⊥) → o ≡ (value (o .0 .number) 0, w)
+    (n : ℕ) (t : Tables) (w : List ℕ) → let o = write-outcome n t w in (o .reply .number ≡ 0 → ⊥) → o ≡ listing (value (o .reply .number) 0) w
 unfolding write-outcome
 write-keeps n t w = listing-keeps _ _ _ w
 
 pub sheet-keeps :
-    (n : ℕ) (t : Tables) (w : List ℕ) → let o = sheet-outcome n t w in (o .0 .number ≡ 0 → ⊥) → o ≡ (value (o .0 .number) 0, w)
+    (n : ℕ) (t : Tables) (w : List ℕ) → let o = sheet-outcome n t w in (o .reply .number ≡ 0 → ⊥) → o ≡ listing (value (o .reply .number) 0) w
 unfolding sheet-outcome
 sheet-keeps n t w = listing-keeps _ _ _ w
 
@@ -141,21 +142,21 @@ unfolding script-length-outcome
 script-length-keeps n t = value-keeps _ _
 
 pub script-keeps :
-    (n : ℕ) (t : Tables) (w : List ℕ) → let o = script-outcome n t w in (o .0 .number ≡ 0 → ⊥) → o ≡ (value (o .0 .number) 0, w)
+    (n : ℕ) (t : Tables) (w : List ℕ) → let o = script-outcome n t w in (o .reply .number ≡ 0 → ⊥) → o ≡ listing (value (o .reply .number) 0) w
 unfolding script-outcome
 script-keeps n t w = listing-keeps _ _ _ w
 
 pub tree-keeps :
     (n : ℕ) (t : Tables) (m : List Node) (w : List ℕ) → let o = tree-outcome n t m w in
-    (o .0 .number ≡ 0 → ⊥) → o ≡ (value (o .0 .number) 0, m, w)
+    (o .reply .number ≡ 0 → ⊥) → o ≡ treed (value (o .reply .number) 0) m w
 unfolding tree-outcome
-tree-keeps n t m w = by-refusal (λ (o : Value × List Node × List ℕ). o .0 .number) _ _ _ refl (λ q. refl)
+tree-keeps n t m w = by-refusal (λ (o : Treed). o .reply .number) _ _ _ refl (λ q. refl)
 
-pub set-keeps : (n : ℕ) (x : List ℕ) (t : Tables) (bs : List ℕ) → let o = set-outcome n x t bs in (o .0 ≡ 0 → ⊥) → o ≡ (o .0, bs)
+pub set-keeps : (n : ℕ) (x : List ℕ) (t : Tables) (bs : List ℕ) → let o = set-outcome n x t bs in (o .reply ≡ 0 → ⊥) → o ≡ stored (o .reply) bs
 unfolding set-outcome
 set-keeps n x t bs = store-keeps _ _ bs
 
-pub remove-keeps : (n : ℕ) (x : List ℕ) (t : Tables) (bs : List ℕ) → let o = remove-outcome n x t bs in (o .0 ≡ 0 → ⊥) → o ≡ (o .0, bs)
+pub remove-keeps : (n : ℕ) (x : List ℕ) (t : Tables) (bs : List ℕ) → let o = remove-outcome n x t bs in (o .reply ≡ 0 → ⊥) → o ≡ stored (o .reply) bs
 unfolding remove-outcome
 remove-keeps n x t bs = store-keeps _ _ bs
 

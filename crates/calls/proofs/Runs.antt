@@ -14,7 +14,7 @@ use Rattle.lists.proofs.Overwrite.{take-overwrite}
 use Rattle.mesh.specs.Levels.{changed}
 use Rattle.mesh.specs.Tables.{Tables, graph-in}
 use Rattle.calls.specs.Switches.{switch, switched}
-use Rattle.calls.specs.Outcomes.{by-number, Linked, linked-with, reply, value, link-outcome, hear-outcome}
+use Rattle.calls.specs.Outcomes.{by-number, Linked, linked-with, Heard, heard-with, reply, value, link-outcome, hear-outcome}
 use Rattle.calls.specs.Book.{Call, linking, hearing, Answer, counted}
 use Rattle.calls.specs.declared.Reply.{Reply}
 use Rattle.calls.specs.declared.Value.{Value}
@@ -73,12 +73,12 @@ unfolding by-number answer-of
 link-alike zero s cs v t w x = rw (take-overwrite cs w, take-overwrite cs x)
 link-alike (suc q) s cs v t w x = refl
 
-abbrev heard-answer : Value × Tables × List ℕ → Done
-heard-answer o = did (counted (o .0 .number) (o .0 .value) ∷ []) (o .1)
+abbrev heard-answer : Heard → Done
+heard-answer o = did (counted (o .reply .number) (o .reply .value) ∷ []) (o .tables)
 
 hear-alike :
     (R : ℕ) (r : Value) (y : List ℕ) (v t : Tables) (w x : List ℕ) →
-    heard-answer (by-number R (r, v, y) (λ q. (value q 0, t, w))) ≡ heard-answer (by-number R (r, v, y) (λ q. (value q 0, t, x)))
+    heard-answer (by-number R (heard-with r v y) (λ q. heard-with (value q 0) t w)) ≡ heard-answer (by-number R (heard-with r v y) (λ q. heard-with (value q 0) t x))
 unfolding by-number
 hear-alike zero r y v t w x = refl
 hear-alike (suc q) r y v t w x = refl
@@ -91,6 +91,6 @@ link-done up n a b t w = rw length-replicate (link-alike _ _ (changed up a b (gr
 
 pub hear-done :
     (n : ℕ) (hs : List ℕ) (t : Tables) (w : List ℕ) → let o = hear-outcome n hs t w in
-    did (counted (o .0 .number) (o .0 .value) ∷ []) (o .1) ≡ done (hearing n hs (length w)) t
+    did (counted (o .reply .number) (o .reply .value) ∷ []) (o .tables) ≡ done (hearing n hs (length w)) t
 unfolding done hear-outcome
 hear-done n hs t w = rw length-replicate (hear-alike _ _ _ _ t w (replicate (length w) 0))

@@ -289,30 +289,30 @@ module _ (n : ℕ) (ps : List Link) (t : Tables) (k : Holds n ps t) where
       rw length-replicate at (link-step _ u m a b (o .reply) y (o .answer) (o .tables) _ refl f refl)
   came (committing u m a b z xs) =
       let o = commit-outcome u m a b z xs t in
-      let f = asked (Commit-accepted u m a b t (o .0) (o .1)) (λ q. Commit-refused q t (o .0) (o .1))
+      let f = asked (Commit-accepted u m a b t (o .reply) (o .tables)) (λ q. Commit-refused q t (o .reply) (o .tables))
       (site-asked n ps t k m true (λ g. ends-then max-neighbours u m a b g (ask 16 (is-proposal u a b z xs g) 0))) (commit-of u m a b z xs t o .0 refl) in
-      commit-step _ u m a b z xs (o .0) (o .1) _ refl f refl
+      commit-step _ u m a b z xs (o .reply) (o .tables) _ refl f refl
   came (batching m xs) =
       let o = batch-outcome m xs t in
-      let f = asked (Batch-done m xs (graph-in m (t .links) .links) t (o .0) (o .1)) (λ q. Batch-refused q t (o .0) (o .1))
+      let f = asked (Batch-done m xs (graph-in m (t .links) .links) t (o .reply) (o .tables)) (λ q. Batch-refused q t (o .reply) (o .tables))
       (site-asked n ps t k m (list-length (length xs)) (λ g. 0)) (batch-of m xs t o .0 refl) in
-      batch-step _ m xs (o .0) (o .1) _ refl f refl
+      batch-step _ m xs (o .reply) (o .tables) _ refl f refl
   came (hearing m xs w) =
       let y : List ℕ = replicate w 0 in
       let o = hear-outcome m xs t y in
-      let f = asked (Hear-accepted m xs t (o .0) (o .1) (o .2)) (λ q. Hear-refused q t y (o .0) (o .1) (o .2))
+      let f = asked (Hear-accepted m xs t (o .reply) (o .tables) (o .one-sided)) (λ q. Hear-refused q t y (o .reply) (o .tables) (o .one-sided))
       (site-asked n ps t k m (heard-lengths m (length xs) (length y)) (λ g. ask 14 (heard-proper m xs) (ask 7 (agreed-few max-neighbours m xs) 0)))
       (hear-of m xs t y o .0 refl) in
-      rw length-replicate at (hear-step _ m xs y (o .0) (o .1) (o .2) _ refl f refl)
+      rw length-replicate at (hear-step _ m xs y (o .reply) (o .tables) (o .one-sided) _ refl f refl)
   came (setting m x bs) =
       let o = set-outcome m x t bs in
-      store-step _ (o .0) _ _ (o .1) (sets x) t _ (asked _ _ (mark-asked m x bs (ask 19 (has-place x bs) 0)) (set-of m x t bs o .0 refl)) refl refl
+      store-step _ (o .reply) _ _ (o .store) (sets x) t _ (asked _ _ (mark-asked m x bs (ask 19 (has-place x bs) 0)) (set-of m x t bs o .0 refl)) refl refl
   came (removing m x bs) =
       let o = remove-outcome m x t bs in
-      store-step _ (o .0) _ _ (o .1) (removes x) t _ (asked _ _ (mark-asked m x bs (ask 18 (is-marked x bs) 0)) (remove-of m x t bs o .0 refl)) refl refl
+      store-step _ (o .reply) _ _ (o .store) (removes x) t _ (asked _ _ (mark-asked m x bs (ask 18 (is-marked x bs) 0)) (remove-of m x t bs o .0 refl)) refl refl
   came (returning m x bs) =
       let o = return-outcome m x bs t in
-      return-step _ m (o .0) x bs (o .1) _ refl (asked _ _ (mark-asked m x bs (ask 18 (is-marked x bs) 0)) (return-of m x bs t o .0 refl)) refl
+      return-step _ m (o .reply) x bs (o .tables) _ refl (asked _ _ (mark-asked m x bs (ask 18 (is-marked x bs) 0)) (return-of m x bs t o .0 refl)) refl
   came other = other-step [] t refl refl
 
   pub step : (c : Call) (hs : List Answer) (v : Tables) → Does c t hs v → Stepped n ps (outcome c (lengths-of t) ps) t hs v

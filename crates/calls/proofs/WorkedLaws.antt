@@ -27,7 +27,7 @@ use Rattle.lists.proofs.Overwrite.{take-overwrite}
 use Rattle.mesh.proofs.Images.Of.{length-image-of}
 use Rattle.calls.specs.Questions.{lengths-of, size-good, level-refusal, image-length, tables-refusal, ends-refusal, read-refusal}
 use Rattle.calls.specs.Switches.{Switch, switched}
-use Rattle.calls.specs.Outcomes.{by-number, Linked, linked-with, reply, value, listing-outcome, clear-outcome, read-outcome, write-outcome, tree-outcome}
+use Rattle.calls.specs.Outcomes.{by-number, Numbered, Listing, Linked, linked-with, reply, value, listing-outcome, clear-outcome, read-outcome, write-outcome, tree-outcome}
 use Rattle.calls.specs.Worked.{entries, lent-tables, lent-nodes, Left, left, left-by, played, after, Want, last-answers, all-numbers, whole-order}
 use Rattle.calls.specs.Worked.{shell-tree, connected-core, backbone-radios, image-checks, printed, soundness, image-reading, same-nodes, block-checks}
 use Rattle.calls.specs.Worked.{is-value, is-listing, image-written, meets, meets-all, Row, right, Right, All-right}
@@ -99,9 +99,9 @@ listing-right (suc y) r new old xs p =
     let d : [] ≡ xs = same-eq [] xs (and-right (eqb (suc y) r) (same [] xs) p) in
     rw (← e, ← d, is-value-refl (suc y) 0)
 
-number-read : (n : ℕ) (bs : List ℕ) (t : Tables) → read-outcome n bs t .0 ≡ read-refusal n (lengths-of t) bs
+number-read : (n : ℕ) (bs : List ℕ) (t : Tables) → read-outcome n bs t .reply ≡ read-refusal n (lengths-of t) bs
 unfolding read-outcome
-number-read n bs t = number-by (λ (o : ℕ × Tables). o .0) (read-refusal n (lengths-of t) bs) _ _ refl (λ q. refl)
+number-read n bs t = number-by (λ (o : Numbered). o .reply) (read-refusal n (lengths-of t) bs) _ _ refl (λ q. refl)
 
 -- ---- a state
 
@@ -127,7 +127,7 @@ module _ (f : ℕ → ℕ) (n : ℕ) (size : size-good n ≡ true) where
         further = refl;
       }))
 
-  alike-cleared : (eqb (clear-outcome n (lent-tables f n) .0) 0 ≡ true) × Alike n (state [] (range 0 n) []) (left (clear-outcome n (lent-tables f n) .1) [])
+  alike-cleared : (eqb (clear-outcome n (lent-tables f n) .reply) 0 ≡ true) × Alike n (state [] (range 0 n) []) (left (clear-outcome n (lent-tables f n) .tables) [])
   unfolding clear-outcome by-number
   alike-cleared =
       rw cleared (
@@ -186,12 +186,12 @@ module _ (f : ℕ → ℕ) (n : ℕ) (size : size-good n ≡ true) where
     -- the image is written whole into a buffer that holds it
     image-taken :
         (w : List ℕ) → image-length site ≤ length w → let o = write-outcome n (s .tables) w in
-        (o .0 ≡ value 0 (image-length site)) × (take (image-length site) (o .1) ≡ image-of site (q .order))
+        (o .reply ≡ value 0 (image-length site)) × (take (image-length site) (o .lent) ≡ image-of site (q .order))
     unfolding image-length
     image-taken w l =
         let e = write-by-pairs n (q .pairs) (s .tables) (k .holds) least w l in (
-          ap (λ (o : Value × List ℕ). o .0) e,
-          ap (λ (o : Value × List ℕ). take (image-length site) (o .1)) e
+          ap (λ (o : Listing). o .reply) e,
+          ap (λ (o : Listing). take (image-length site) (o .lent)) e
               ∙ rw (k .order, ← length-image-of site (q .order), take-overwrite (image-of site (q .order)) w),
         )
 
@@ -205,7 +205,7 @@ module _ (f : ℕ → ℕ) (n : ℕ) (size : size-good n ≡ true) where
     checks-right :
         (cs w : List ℕ) → image-length site ≤ length w →
         same (block-checks (length cs) (image-of site (q .order))) (flatMap long cs) ≡ true → let o = write-outcome n (s .tables) w in
-        (is-value (o .0) 0 (image-length site) && same (block-checks (length cs) (take (image-length site) (o .1))) (flatMap long cs)) ≡ true
+        (is-value (o .reply) 0 (image-length site) && same (block-checks (length cs) (take (image-length site) (o .lent))) (flatMap long cs)) ≡ true
     checks-right cs w l p =
         let o = image-taken w l in rw (o .0, o .1, is-value-refl 0 (image-length site)) p
 
@@ -218,7 +218,7 @@ module _ (f : ℕ → ℕ) (n : ℕ) (size : size-good n ≡ true) where
     tree-right :
         (ns : List Node) (vs : List ℕ) → same-nodes (tree site) ns ≡ true → same (node-names site) vs ≡ true →
         let o = tree-outcome n (s .tables) (lent-nodes f n) (entries f n) in
-        (is-value (o .0) 0 (length ns) && (same-nodes (take (length ns) (o .1)) ns && same (take n (o .2)) vs)) ≡ true
+        (is-value (o .reply) 0 (length ns) && (same-nodes (take (length ns) (o .nodes)) ns && same (take n (o .answer)) vs)) ≡ true
     tree-right ns vs p r =
         let e = tree-by-pairs n (q .pairs) (s .tables) (k .holds) least (lent-nodes f n) (entries f n) (omega (arith, length-lent-nodes f n)) enough-entries in
         rw (

@@ -1,7 +1,7 @@
 -- The outcome of the question for one link that lifts a radio, as an executable definition.
 --   pair           an answer
 --   lift-outcome   the first pair that lifts v, by lower radio and then higher; or the refusal
--- That it meets `Lift-contract`, and no other outcome does, is `lift-inhabited` and `lift-decided` in proofs/LiftOutcome.antt.
+-- The contract of the call (Contracts.antt) is that its result is this outcome.
 -- Definitions only.
 use Prim.Native.Nat.{ℕ}
 use Rattle.mesh.specs.Tables.{Tables, graph-in}

@@ -14,7 +14,7 @@ use Rattle.mesh.specs.Sound.{sound-within}
 use Rattle.mesh.specs.Image.{image-of, image-graph, image-order, is-image-within, is-image}
 use Rattle.mesh.specs.declared.Node.{Node}
 use Rattle.calls.specs.Questions.{ask, Lengths, lengths-of, lent-refusal, blocks-refusal}
-use Rattle.calls.specs.Outcomes.{by-number, read-outcome, link-outcome-within, link-outcome, check-outcome-within, check-outcome}
+use Rattle.calls.specs.Outcomes.{by-number, Numbered, numbered, read-outcome, link-outcome-within, link-outcome, check-outcome-within, check-outcome}
 use Rattle.calls.specs.Outcomes.{number-outcome-within, number-outcome, neighbours-outcome-within, neighbours-outcome, linked-outcome-within}
 use Rattle.calls.specs.Outcomes.{linked-outcome, first-outcome-within, first-outcome, core-outcome-within, core-outcome, backbone-outcome-within}
 use Rattle.calls.specs.Outcomes.{backbone-outcome, write-outcome-within, write-outcome, tree-outcome-within, tree-outcome, later-outcome-within, later-outcome}
@@ -29,9 +29,9 @@ Was-sound n t = sound-within former-neighbours n t ≡ true
 unfoldable pub former-read-refusal : (n : ℕ) → Lengths → (image : List ℕ) → ℕ
 former-read-refusal n l bs = lent-refusal n l true (blocks-refusal bs (ask 11 (is-image-within former-neighbours n bs) 0))
 
-unfoldable pub former-read-outcome : (n : ℕ) → (image : List ℕ) → Tables → ℕ × Tables
+unfoldable pub former-read-outcome : (n : ℕ) → (image : List ℕ) → Tables → Numbered
 former-read-outcome n bs t =
-    by-number (former-read-refusal n (lengths-of t) bs) (0, tables-of (image-graph n bs) (image-order n bs)) (λ q. (q, t))
+    by-number (former-read-refusal n (lengths-of t) bs) (numbered 0 (tables-of (image-graph n bs) (image-order n bs))) (λ q. numbered q t)
 
 pub record Older : Type 0 where
   -- accepted then, or refused by another question than 7: as it was, result and every lent table
@@ -77,9 +77,9 @@ pub record Older : Type 0 where
   pub image : (n : ℕ) (bs : List ℕ) → is-image-within former-neighbours n bs ≡ true → is-image n bs ≡ true
   -- and reads as it did: accepted then, or refused by another question than 11
   pub image-read :
-      (n : ℕ) (bs : List ℕ) (t : Tables) → (former-read-outcome n bs t .0 ≡ 11 → ⊥) →
+      (n : ℕ) (bs : List ℕ) (t : Tables) → (former-read-outcome n bs t .reply ≡ 11 → ⊥) →
       read-outcome n bs t ≡ former-read-outcome n bs t
   -- one with another n, refused by 11 then, is refused by 15
   pub image-other-size :
       (m n : ℕ) (bs : List ℕ) (t : Tables) → size-good m ≡ true → (m ≡ n → ⊥) → is-image-within former-neighbours m bs ≡ true →
-      former-read-outcome n bs t .0 ≡ 11 → read-outcome n bs t ≡ (15, t)
+      former-read-outcome n bs t .reply ≡ 11 → read-outcome n bs t ≡ numbered 15 t

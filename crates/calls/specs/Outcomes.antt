@@ -1,5 +1,6 @@
 -- The outcome of each call as an executable definition: its result with the lent tables after it.
 --   by-number refusal accepted refused   the outcome by the number that the call's questions give
+--   Numbered .. Treed                    what a call comes to, a struct for each shape
 --   clear-outcome .. block-outcome       the outcome of each contract, from what the call is given
 --   ..-outcome-within most               the same with that bound on neighbours in questions 3 and 7
 -- The contract of a call (Contracts.antt) is that its result and lent tables are this outcome.
@@ -47,22 +48,17 @@ reply r s c = record { number = r; step = s; count = c }
 abbrev pub value : (number value : ℕ) → Value
 value r x = record { number = r; value = x }
 
--- ---- calls that write links, numbers and order
+-- ---- what a call comes to: its reply, and what is lent to be written as it is after the call
 
--- zero links, zero numbers and the order 0 to n - 1
-unfoldable pub clear-outcome : (n : ℕ) → Tables → ℕ × Tables
-clear-outcome n t =
-    by-number
-    (tables-refusal n (lengths-of t))
-    (0, tables (replicate (row-bytes * n) 0) (replicate n 0) (range 0 n))
-    (λ q. (q, t))
+-- a number, and the tables: clearing, reading, coming back to a mark
+pub record Numbered : Type 0 where
+  pub reply : ℕ
+  pub tables : Tables
 
--- the tables of the image
-unfoldable pub read-outcome : (n : ℕ) → (image : List ℕ) → Tables → ℕ × Tables
-read-outcome n bs t =
-    by-number (read-refusal n (lengths-of t) bs) (0, tables-of (image-graph n bs) (image-order n bs)) (λ q. (q, t))
+abbrev pub numbered : (number : ℕ) → Tables → Numbered
+numbered r t = record { reply = r; tables = t }
 
--- what a link call comes to: the reply, and the tables and the answer table after it
+-- a link call
 pub record Linked : Type 0 where
   pub reply : Reply
   pub tables : Tables
@@ -70,6 +66,71 @@ pub record Linked : Type 0 where
 
 abbrev pub linked-with : Reply → Tables → (answer : List ℕ) → Linked
 linked-with r t w = record { reply = r; tables = t; answer = w }
+
+-- asking
+pub record Asked : Type 0 where
+  pub reply : Reply
+  pub answer : List ℕ
+
+abbrev pub asked : Reply → (answer : List ℕ) → Asked
+asked r w = record { reply = r; answer = w }
+
+-- committing
+pub record Committed : Type 0 where
+  pub reply : Reply
+  pub tables : Tables
+
+abbrev pub committed-with : Reply → Tables → Committed
+committed-with r t = record { reply = r; tables = t }
+
+-- a batch
+pub record Batched : Type 0 where
+  pub reply : Value
+  pub tables : Tables
+
+abbrev pub batched : Value → Tables → Batched
+batched r t = record { reply = r; tables = t }
+
+-- a hearing; `one-sided` is the further table
+pub record Heard : Type 0 where
+  pub reply : Value
+  pub tables : Tables
+  pub one-sided : List ℕ
+
+abbrev pub heard-with : Value → Tables → (one-sided : List ℕ) → Heard
+heard-with r t x = record { reply = r; tables = t; one-sided = x }
+
+-- a value, and a lent list
+pub record Listing : Type 0 where
+  pub reply : Value
+  pub lent : List ℕ
+
+abbrev pub listing : Value → (lent : List ℕ) → Listing
+listing r x = record { reply = r; lent = x }
+
+-- the shell tree
+pub record Treed : Type 0 where
+  pub reply : Value
+  pub nodes : List Node
+  pub answer : List ℕ
+
+abbrev pub treed : Value → (nodes : List Node) → (answer : List ℕ) → Treed
+treed r m w = record { reply = r; nodes = m; answer = w }
+
+-- ---- calls that write links, numbers and order
+
+-- zero links, zero numbers and the order 0 to n - 1
+unfoldable pub clear-outcome : (n : ℕ) → Tables → Numbered
+clear-outcome n t =
+    by-number
+    (tables-refusal n (lengths-of t))
+    (numbered 0 (tables (replicate (row-bytes * n) 0) (replicate n 0) (range 0 n)))
+    (λ q. numbered q t)
+
+-- the tables of the image
+unfoldable pub read-outcome : (n : ℕ) → (image : List ℕ) → Tables → Numbered
+read-outcome n bs t =
+    by-number (read-refusal n (lengths-of t) bs) (numbered 0 (tables-of (image-graph n bs) (image-order n bs))) (λ q. numbered q t)
 
 -- the reply, the tables with the link switched, and the changed radios in front of the answer table
 abbrev pub link-outcome-within : (most : ℕ) → (up : Bool) → (n a b : ℕ) → Tables → (answer : List ℕ) → Linked
@@ -87,45 +148,45 @@ link-outcome up n a b t w = link-outcome-within max-neighbours up n a b t w
 -- ---- a link call in two steps
 
 -- the reply, and the changed radios in front of the answer table
-unfoldable pub ask-outcome : (up : Bool) → (n a b : ℕ) → Tables → (answer : List ℕ) → Reply × List ℕ
+unfoldable pub ask-outcome : (up : Bool) → (n a b : ℕ) → Tables → (answer : List ℕ) → Asked
 ask-outcome up n a b t w =
     let g = graph-in n (t .links) in
     let cs = changed up a b g in
     by-number
     (link-refusal up n a b (lengths-of t) (length w) (sound n t) g)
-    (reply 0 (step-of up cs) (length cs), overwrite cs w)
-    (λ q. (reply q (pos 0) 0, w))
+    (asked (reply 0 (step-of up cs) (length cs)) (overwrite cs w))
+    (λ q. asked (reply q (pos 0) 0) w)
 
 -- the reply, and the tables with the link switched
-unfoldable pub commit-outcome : (up : Bool) → (n a b : ℕ) → (step : ℤ) → (list : List ℕ) → Tables → Reply × Tables
+unfoldable pub commit-outcome : (up : Bool) → (n a b : ℕ) → (step : ℤ) → (list : List ℕ) → Tables → Committed
 commit-outcome up n a b z xs t =
     let g = graph-in n (t .links) in
     let cs = changed up a b g in
     by-number
     (commit-refusal up n a b z xs (lengths-of t) (sound n t) g)
-    (reply 0 (step-of up cs) (length cs), switched n (switch up a b) t)
-    (λ q. (reply q (pos 0) 0, t))
+    (committed-with (reply 0 (step-of up cs) (length cs)) (switched n (switch up a b) t))
+    (λ q. committed-with (reply q (pos 0) 0) t)
 
 -- ---- a batch
 
 -- the number of the link refused, or 0, the count of links done, and the tables with these up
-unfoldable pub batch-outcome : (n : ℕ) → (list : List ℕ) → Tables → Value × Tables
+unfoldable pub batch-outcome : (n : ℕ) → (list : List ℕ) → Tables → Batched
 batch-outcome n xs t =
     let ps = graph-in n (t .links) .links in
     by-number
     (batch-refusal n (lengths-of t) (length xs) (sound n t))
-    (value (batch-stop n xs ps) (length (batch-switches n xs ps)), tables-after n (batch-switches n xs ps) t)
-    (λ q. (value q 0, t))
+    (batched (value (batch-stop n xs ps) (length (batch-switches n xs ps))) (tables-after n (batch-switches n xs ps) t))
+    (λ q. batched (value q 0) t)
 
 -- ---- a hearing
 
 -- the count of one-sided pairs, the tables with the agreed links, and the further table, where w is what it holds before
-unfoldable pub hear-outcome : (n : ℕ) → (heard : List ℕ) → Tables → (further : List ℕ) → Value × Tables × List ℕ
+unfoldable pub hear-outcome : (n : ℕ) → (heard : List ℕ) → Tables → (further : List ℕ) → Heard
 hear-outcome n hs t w =
     by-number
     (hear-refusal n (lengths-of t) hs (length w) (sound n t))
-    (value 0 (one-sided-count n hs), tables-after n (heard-switches (graph-in n (t .links)) hs) t, one-sided n hs)
-    (λ q. (value q 0, t, w))
+    (heard-with (value 0 (one-sided-count n hs)) (tables-after n (heard-switches (graph-in n (t .links)) hs) t) (one-sided n hs))
+    (λ q. heard-with (value q 0) t w)
 
 -- ---- a value
 
@@ -188,48 +249,48 @@ later-outcome n v t = later-outcome-within max-neighbours n v t
 -- ---- a value, and entries in front of a lent list
 
 -- the value x and the list `new`, or the refusal
-unfoldable pub listing-outcome : (refusal x : ℕ) → (new old : List ℕ) → Value × List ℕ
-listing-outcome R x new old = by-number R (value 0 x, overwrite new old) (λ q. (value q 0, old))
+unfoldable pub listing-outcome : (refusal x : ℕ) → (new old : List ℕ) → Listing
+listing-outcome R x new old = by-number R (listing (value 0 x) (overwrite new old)) (λ q. listing (value q 0) old)
 
-abbrev pub core-outcome-within : (most n v k : ℕ) → Tables → (answer : List ℕ) → Value × List ℕ
+abbrev pub core-outcome-within : (most n v k : ℕ) → Tables → (answer : List ℕ) → Listing
 core-outcome-within most n v k t w =
     let g = graph-in n (t .links) in
     let radios = core-of g v k in
     listing-outcome (core-refusal n v k (lengths-of t) (length w) (sound-within most n t) g) (length radios) radios w
 
-unfoldable pub core-outcome : (n v k : ℕ) → Tables → (answer : List ℕ) → Value × List ℕ
+unfoldable pub core-outcome : (n v k : ℕ) → Tables → (answer : List ℕ) → Listing
 core-outcome n v k t w = core-outcome-within max-neighbours n v k t w
 
-abbrev pub backbone-outcome-within : (most n : ℕ) → Tables → (answer : List ℕ) → Value × List ℕ
+abbrev pub backbone-outcome-within : (most n : ℕ) → Tables → (answer : List ℕ) → Listing
 backbone-outcome-within most n t w =
     let radios = backbone (graph-in n (t .links)) in
     listing-outcome (backbone-refusal n (lengths-of t) (length w) (sound-within most n t)) (length radios) radios w
 
-unfoldable pub backbone-outcome : (n : ℕ) → Tables → (answer : List ℕ) → Value × List ℕ
+unfoldable pub backbone-outcome : (n : ℕ) → Tables → (answer : List ℕ) → Listing
 backbone-outcome n t w = backbone-outcome-within max-neighbours n t w
 
 -- the kept links, two entries each
-abbrev pub staircase-outcome-within : (most n : ℕ) → Tables → (table : List ℕ) → Value × List ℕ
+abbrev pub staircase-outcome-within : (most n : ℕ) → Tables → (table : List ℕ) → Listing
 staircase-outcome-within most n t w =
     let kept = staircase (graph-in n (t .links)) in
     listing-outcome (staircase-refusal n (lengths-of t) (length w) (sound-within most n t)) (length kept) (link-entries kept) w
 
-unfoldable pub staircase-outcome : (n : ℕ) → Tables → (table : List ℕ) → Value × List ℕ
+unfoldable pub staircase-outcome : (n : ℕ) → Tables → (table : List ℕ) → Listing
 staircase-outcome n t w = staircase-outcome-within max-neighbours n t w
 
-abbrev pub write-outcome-within : (most n : ℕ) → Tables → (buffer : List ℕ) → Value × List ℕ
+abbrev pub write-outcome-within : (most n : ℕ) → Tables → (buffer : List ℕ) → Listing
 write-outcome-within most n t w =
     let g = graph-in n (t .links) in
     listing-outcome (write-refusal n (lengths-of t) (length w) (sound-within most n t) g) (image-length g) (image-of g (t .order)) w
 
-unfoldable pub write-outcome : (n : ℕ) → Tables → (buffer : List ℕ) → Value × List ℕ
+unfoldable pub write-outcome : (n : ℕ) → Tables → (buffer : List ℕ) → Listing
 write-outcome n t w = write-outcome-within max-neighbours n t w
 
-abbrev pub sheet-outcome-within : (most n : ℕ) → Tables → (page : List ℕ) → Value × List ℕ
+abbrev pub sheet-outcome-within : (most n : ℕ) → Tables → (page : List ℕ) → Listing
 sheet-outcome-within most n t w =
     listing-outcome (sheet-refusal n (lengths-of t) (length w) (sound-within most n t)) (sheet-length n) (sheet (t .numbers)) w
 
-unfoldable pub sheet-outcome : (n : ℕ) → Tables → (page : List ℕ) → Value × List ℕ
+unfoldable pub sheet-outcome : (n : ℕ) → Tables → (page : List ℕ) → Listing
 sheet-outcome n t w = sheet-outcome-within max-neighbours n t w
 
 -- ---- the script: its length, and the script itself
@@ -241,26 +302,26 @@ script-length-outcome-within most n t =
 unfoldable pub script-length-outcome : (n : ℕ) → Tables → Value
 script-length-outcome n t = script-length-outcome-within max-neighbours n t
 
-abbrev pub script-outcome-within : (most n : ℕ) → Tables → (text : List ℕ) → Value × List ℕ
+abbrev pub script-outcome-within : (most n : ℕ) → Tables → (text : List ℕ) → Listing
 script-outcome-within most n t w =
     let g = graph-in n (t .links) in
     listing-outcome (script-refusal n (lengths-of t) (length w) (sound-within most n t) g) (script-length g) (script-of g) w
 
-unfoldable pub script-outcome : (n : ℕ) → Tables → (text : List ℕ) → Value × List ℕ
+unfoldable pub script-outcome : (n : ℕ) → Tables → (text : List ℕ) → Listing
 script-outcome n t w = script-outcome-within max-neighbours n t w
 
 -- ---- the shell tree
 
 -- the count with the root, the nodes in front of their list, each radio's node name in front of the answer table
-abbrev pub tree-outcome-within : (most n : ℕ) → Tables → (nodes : List Node) → (answer : List ℕ) → Value × List Node × List ℕ
+abbrev pub tree-outcome-within : (most n : ℕ) → Tables → (nodes : List Node) → (answer : List ℕ) → Treed
 tree-outcome-within most n t m w =
     let g = graph-in n (t .links) in
     by-number
     (tree-refusal n (lengths-of t) (length m) (length w) (sound-within most n t))
-    (value 0 (length (tree g)), overwrite (tree g) m, overwrite (node-names g) w)
-    (λ q. (value q 0, m, w))
+    (treed (value 0 (length (tree g))) (overwrite (tree g) m) (overwrite (node-names g) w))
+    (λ q. treed (value q 0) m w)
 
-unfoldable pub tree-outcome : (n : ℕ) → Tables → (nodes : List Node) → (answer : List ℕ) → Value × List Node × List ℕ
+unfoldable pub tree-outcome : (n : ℕ) → Tables → (nodes : List Node) → (answer : List ℕ) → Treed
 tree-outcome n t m w = tree-outcome-within max-neighbours n t m w
 
 -- ---- a step of the block reader

@@ -23,7 +23,7 @@ use Rattle.mesh.specs.Image.{block-bytes, long}
 use Rattle.mesh.specs.declared.Node.{Node}
 use Rattle.calls.specs.Questions.{image-length, same-step}
 use Rattle.calls.specs.Switches.{Switch, switch}
-use Rattle.calls.specs.Outcomes.{Linked, clear-outcome, read-outcome, link-outcome, check-outcome, core-outcome, backbone-outcome, write-outcome, tree-outcome}
+use Rattle.calls.specs.Outcomes.{Linked, Listing, clear-outcome, read-outcome, link-outcome, check-outcome, core-outcome, backbone-outcome, write-outcome, tree-outcome}
 use Rattle.calls.specs.Book.{Answer, plain, reported}
 use Rattle.calls.specs.Runs.{answer-of}
 use Rattle.text.specs.Text.{bytes-of}
@@ -151,13 +151,13 @@ unfoldable pub is-value : Value → (number value : ℕ) → Bool
 is-value r q x = eqb (r .number) q && eqb (r .value) x
 
 -- the number, the count of xs, and xs in front of the lent list
-unfoldable pub is-listing : Value × List ℕ → (number : ℕ) → (xs : List ℕ) → Bool
-is-listing o q xs = is-value (o .0) q (length xs) && same (take (length xs) (o .1)) xs
+unfoldable pub is-listing : Listing → (number : ℕ) → (xs : List ℕ) → Bool
+is-listing o q xs = is-value (o .reply) q (length xs) && same (take (length xs) (o .lent)) xs
 
 -- the image, written into a buffer that just holds it
 unfoldable pub image-written : (ℕ → ℕ) → (n : ℕ) → Tables → List ℕ
 image-written f n t =
-    let o = write-outcome n t (entries f (image-length (graph-in n (t .links)))) in take (o .0 .value) (o .1)
+    let o = write-outcome n t (entries f (image-length (graph-in n (t .links)))) in take (o .reply .value) (o .lent)
 
 unfoldable pub meets : (ℕ → ℕ) → (n : ℕ) → Left → Want → Bool
 meets f n s (last-answers hs) = same-answers (drop (length (s .answers) - length hs) (s .answers)) hs
@@ -165,17 +165,17 @@ meets f n s (all-numbers ns) = same (s .tables .numbers) ns
 meets f n s (whole-order xs) = same (s .tables .order) xs
 meets f n s (shell-tree ns vs) =
     let o = tree-outcome n (s .tables) (lent-nodes f n) (entries f n) in
-    is-value (o .0) 0 (length ns) && (same-nodes (take (length ns) (o .1)) ns && same (take n (o .2)) vs)
+    is-value (o .reply) 0 (length ns) && (same-nodes (take (length ns) (o .nodes)) ns && same (take n (o .answer)) vs)
 meets f n s (connected-core v k r xs) = is-listing (core-outcome n v k (s .tables) (entries f n)) r xs
 meets f n s (backbone-radios xs) = is-listing (backbone-outcome n (s .tables) (entries f n)) 0 xs
 meets f n s (image-checks m cs) =
     let o = write-outcome n (s .tables) (entries f m) in
-    is-value (o .0) 0 m && same (block-checks (length cs) (take m (o .1))) (flatMap long cs)
+    is-value (o .reply) 0 m && same (block-checks (length cs) (take m (o .lent))) (flatMap long cs)
 meets f n s (printed ls) = same (lines (s .answers) (s .tables .numbers) (s .tables .order)) (flatMap bytes-of ls)
 meets f n s (soundness ps ns xs b) =
     is-value (check-outcome n (tables (put-in ps (s .tables .links)) ns xs)) 0 (cond b 1 0)
 meets f n s (image-reading m k ps r) =
-    eqb (read-outcome m (take k (put-in ps (image-written f n (s .tables)))) (lent-tables f m) .0) r
+    eqb (read-outcome m (take k (put-in ps (image-written f n (s .tables)))) (lent-tables f m) .reply) r
 
 unfoldable pub meets-all : (ℕ → ℕ) → (n : ℕ) → Left → List Want → Bool
 meets-all f n s [] = true
@@ -196,7 +196,7 @@ row n cs ws = record { n = n; calls = cs; wants = ws }
 unfoldable pub right : (ℕ → ℕ) → Row → Bool
 right f r =
     let o = clear-outcome (r .n) (lent-tables f (r .n)) in
-    eqb (o .0) 0 && meets-all f (r .n) (after f (r .n) (r .calls) (left (o .1) [])) (r .wants)
+    eqb (o .reply) 0 && meets-all f (r .n) (after f (r .n) (r .calls) (left (o .tables) [])) (r .wants)
 
 -- whatever they held
 abbrev pub Right : Row → Type 0
