@@ -246,14 +246,14 @@ module _ (s : Site) (σ : Memory) (t : Tables) (lie : Lie s σ t) (free : Lendab
 
 -- ---- after a call the tables can be lent again
 
-pub begun-still : (σ τ : Memory) → Block-kept σ τ → (υ : Ty) (p : Place) → Room-at σ υ p → Room-at τ υ p
-begun-still σ τ kept υ p h = let k = kept (p .0) (h .0) (h .1) in (k .0, k .1, subst (λ (a : ℕ). T (aligned (align υ) a (p .1))) (sym (k .2)) (h .2))
+pub room-still : (σ τ : Memory) → Block-kept σ τ → (υ : Ty) (p : Place) → Room-at σ υ p → Room-at τ υ p
+room-still σ τ kept υ p h = let k = kept (p .0) (h .0) (h .1) in (k .0, k .1, subst (λ (a : ℕ). T (aligned (align υ) a (p .1))) (sym (k .2)) (h .2))
 
 pub free-still : (s : Site) (σ τ : Memory) → Block-kept σ τ → Lendable s σ → Lendable s τ
 free-still s σ τ kept free = record {
-  links = begun-still σ τ kept (tyInt w8) (s .links) (free .links);
-  numbers = begun-still σ τ kept (tyInt w8) (s .numbers) (free .numbers);
-  order = begun-still σ τ kept (tyInt w16) (s .order) (free .order);
+  links = room-still σ τ kept (tyInt w8) (s .links) (free .links);
+  numbers = room-still σ τ kept (tyInt w8) (s .numbers) (free .numbers);
+  order = room-still σ τ kept (tyInt w16) (s .order) (free .order);
   links-sized = free .links-sized;
   numbers-sized = free .numbers-sized;
   order-sized = free .order-sized;
