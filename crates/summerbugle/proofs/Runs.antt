@@ -1,0 +1,393 @@
+-- The exported calls run, in cells: `runs`, of each the routine that the crate's code is, from the triple that is proved of it.
+--   routines    the routines of the exported calls
+--   runs        each runs as crate hosts says of it
+use mathlib.Core.Path.{_≡_, ap}
+use mathlib.Core.Bool.{Bool, true, false}
+use mathlib.Core.List.{List, [], _∷_}
+use Prim.Native.Nat.{ℕ}
+use mir.Syntax.{w8, w16, w32, w64}
+use contract.Running.{Running, real}
+use contract.BorrowModel.{ghost₀}
+use prog.Routine.{Routine}
+use ghost.Model as Closed
+use Rattle.machine.specs.Cells.{Inputs, Outputs, Lent, entries, Runs}
+use Rattle.machine.proofs.Whole.{𝓥}
+use Rattle.machine.proofs.Rows.{Row}
+use Rattle.machine.proofs.Lending.{Lending, by-value, to-read, to-write, params}
+use Rattle.machine.proofs.Law.{Answer, Promised, in-cells}
+use Rattle.machine.proofs.Numbers.{number-row, signed-row, number-answer, declared-answer}
+use Rattle.mesh.specs.Tables.{Tables, tables}
+use Rattle.calls.specs.Outcomes.{Numbered, Linked, Asked, Committed, Batched, Heard, Listing, Treed}
+use Rattle.calls.specs.MarkOutcomes.{Stored}
+use Rattle.calls.specs.declared.Value.{Value}
+use Rattle.calls.specs.declared.Later.{Later}
+use Rattle.calls.specs.declared.Pair.{Pair}
+use Rattle.calls.specs.declared.Block.{Block}
+use Rattle.calls.specs.Contracts.{Clear-contract, Read-contract, Return-contract, Link-contract, Ask-contract, Commit-contract, Batch-contract, Hear-contract}
+use Rattle.calls.specs.Contracts.{Check-contract, Number-contract, Neighbours-contract, Linked-contract, First-contract, Later-contract, Lift-contract}
+use Rattle.calls.specs.Contracts.{Core-contract, Backbone-contract, Staircase-contract, Write-contract, Sheet-contract, Script-length-contract, Script-contract}
+use Rattle.calls.specs.Contracts.{Tree-contract, Set-contract, Remove-contract, Block-contract}
+use Rattle.calls.proofs.Reply as reply
+use Rattle.calls.proofs.Reply.Laws as reply-laws
+use Rattle.calls.proofs.Value as value
+use Rattle.calls.proofs.Value.Laws as value-laws
+use Rattle.calls.proofs.Later as later
+use Rattle.calls.proofs.Later.Laws as later-laws
+use Rattle.calls.proofs.Pair as pair
+use Rattle.calls.proofs.Pair.Laws as pair-laws
+use Rattle.calls.proofs.Block as block
+use Rattle.calls.proofs.Block.Laws as block-laws
+use Rattle.summerbugle.proofs.sb_clear.Symbol as clear-symbol
+use Rattle.summerbugle.proofs.sb_clear.Met as clear-proof
+use Rattle.summerbugle.proofs.sb_link_up.Symbol as link-up-symbol
+use Rattle.summerbugle.proofs.sb_link_up.Met as link-up-proof
+use Rattle.summerbugle.proofs.sb_link_down.Symbol as link-down-symbol
+use Rattle.summerbugle.proofs.sb_link_down.Met as link-down-proof
+use Rattle.summerbugle.proofs.sb_ask_up.Symbol as ask-up-symbol
+use Rattle.summerbugle.proofs.sb_ask_up.Met as ask-up-proof
+use Rattle.summerbugle.proofs.sb_ask_down.Symbol as ask-down-symbol
+use Rattle.summerbugle.proofs.sb_ask_down.Met as ask-down-proof
+use Rattle.summerbugle.proofs.sb_commit_up.Symbol as commit-up-symbol
+use Rattle.summerbugle.proofs.sb_commit_up.Met as commit-up-proof
+use Rattle.summerbugle.proofs.sb_commit_down.Symbol as commit-down-symbol
+use Rattle.summerbugle.proofs.sb_commit_down.Met as commit-down-proof
+use Rattle.summerbugle.proofs.sb_link_batch.Symbol as link-batch-symbol
+use Rattle.summerbugle.proofs.sb_link_batch.Met as link-batch-proof
+use Rattle.summerbugle.proofs.sb_hear.Symbol as hear-symbol
+use Rattle.summerbugle.proofs.sb_hear.Met as hear-proof
+use Rattle.summerbugle.proofs.sb_image_read.Symbol as image-read-symbol
+use Rattle.summerbugle.proofs.sb_image_read.Met as image-read-proof
+use Rattle.summerbugle.proofs.sb_check.Symbol as check-symbol
+use Rattle.summerbugle.proofs.sb_check.Met as check-proof
+use Rattle.summerbugle.proofs.sb_number.Symbol as number-symbol
+use Rattle.summerbugle.proofs.sb_number.Met as number-proof
+use Rattle.summerbugle.proofs.sb_neighbours.Symbol as neighbours-symbol
+use Rattle.summerbugle.proofs.sb_neighbours.Met as neighbours-proof
+use Rattle.summerbugle.proofs.sb_linked.Symbol as linked-symbol
+use Rattle.summerbugle.proofs.sb_linked.Met as linked-proof
+use Rattle.summerbugle.proofs.sb_first.Symbol as first-symbol
+use Rattle.summerbugle.proofs.sb_first.Met as first-proof
+use Rattle.summerbugle.proofs.sb_later_of.Symbol as later-of-symbol
+use Rattle.summerbugle.proofs.sb_later_of.Met as later-of-proof
+use Rattle.summerbugle.proofs.sb_lift.Symbol as lift-symbol
+use Rattle.summerbugle.proofs.sb_lift.Met as lift-proof
+use Rattle.summerbugle.proofs.sb_core.Symbol as core-symbol
+use Rattle.summerbugle.proofs.sb_core.Met as core-proof
+use Rattle.summerbugle.proofs.sb_backbone.Symbol as backbone-symbol
+use Rattle.summerbugle.proofs.sb_backbone.Met as backbone-proof
+use Rattle.summerbugle.proofs.sb_tree.Symbol as tree-symbol
+use Rattle.summerbugle.proofs.sb_tree.Met as tree-proof
+use Rattle.summerbugle.proofs.sb_staircase.Symbol as staircase-symbol
+use Rattle.summerbugle.proofs.sb_staircase.Met as staircase-proof
+use Rattle.summerbugle.proofs.sb_image_write.Symbol as image-write-symbol
+use Rattle.summerbugle.proofs.sb_image_write.Met as image-write-proof
+use Rattle.summerbugle.proofs.sb_sheet.Symbol as sheet-symbol
+use Rattle.summerbugle.proofs.sb_sheet.Met as sheet-proof
+use Rattle.summerbugle.proofs.sb_script_length.Symbol as script-length-symbol
+use Rattle.summerbugle.proofs.sb_script_length.Met as script-length-proof
+use Rattle.summerbugle.proofs.sb_script_write.Symbol as script-write-symbol
+use Rattle.summerbugle.proofs.sb_script_write.Met as script-write-proof
+use Rattle.summerbugle.proofs.sb_mark_set.Symbol as mark-set-symbol
+use Rattle.summerbugle.proofs.sb_mark_set.Met as mark-set-proof
+use Rattle.summerbugle.proofs.sb_mark_remove.Symbol as mark-remove-symbol
+use Rattle.summerbugle.proofs.sb_mark_remove.Met as mark-remove-proof
+use Rattle.summerbugle.proofs.sb_mark_return.Symbol as mark-return-symbol
+use Rattle.summerbugle.proofs.sb_mark_return.Met as mark-return-proof
+use Rattle.summerbugle.proofs.sb_image_block.Symbol as image-block-symbol
+use Rattle.summerbugle.proofs.sb_image_block.Met as image-block-proof
+use Rattle.hosts.specs.Exported.{Exported, of-book, any-other, call, the-tables, tables-then}
+use Rattle.hosts.specs.Exported.Known.{clear, image-read, link, commit, link-batch, hear, mark-set, mark-remove, mark-return}
+use Rattle.hosts.specs.Exported.Other.{ask, check, number, neighbours, linked, first, later-of, lift, core, backbone, tree, staircase}
+use Rattle.hosts.specs.Exported.Other.{image-write, sheet, script-length, script-write, image-block}
+use Rattle.summerbugle.proofs.NodeRow.{node-row}
+
+abbrev pub routines : Exported → Routine
+routines (of-book clear) = clear-symbol.routine
+routines (of-book image-read) = image-read-symbol.routine
+routines (of-book (link true)) = link-up-symbol.routine
+routines (of-book (link false)) = link-down-symbol.routine
+routines (of-book (commit true)) = commit-up-symbol.routine
+routines (of-book (commit false)) = commit-down-symbol.routine
+routines (of-book link-batch) = link-batch-symbol.routine
+routines (of-book hear) = hear-symbol.routine
+routines (of-book mark-set) = mark-set-symbol.routine
+routines (of-book mark-remove) = mark-remove-symbol.routine
+routines (of-book mark-return) = mark-return-symbol.routine
+routines (any-other (ask true)) = ask-up-symbol.routine
+routines (any-other (ask false)) = ask-down-symbol.routine
+routines (any-other check) = check-symbol.routine
+routines (any-other number) = number-symbol.routine
+routines (any-other neighbours) = neighbours-symbol.routine
+routines (any-other linked) = linked-symbol.routine
+routines (any-other first) = first-symbol.routine
+routines (any-other later-of) = later-of-symbol.routine
+routines (any-other lift) = lift-symbol.routine
+routines (any-other core) = core-symbol.routine
+routines (any-other backbone) = backbone-symbol.routine
+routines (any-other tree) = tree-symbol.routine
+routines (any-other staircase) = staircase-symbol.routine
+routines (any-other image-write) = image-write-symbol.routine
+routines (any-other sheet) = sheet-symbol.routine
+routines (any-other script-length) = script-length-symbol.routine
+routines (any-other script-write) = script-write-symbol.routine
+routines (any-other image-block) = image-block-symbol.routine
+
+-- ---- parameters and results, as the logic has them
+
+abbrev 𝓡 : Running 𝓥 Closed.H Closed.model
+𝓡 = real 𝓥 Closed.H Closed.model
+
+abbrev u8 : Row
+u8 = number-row w8
+
+abbrev u16 : Row
+u16 = number-row w16
+
+-- a radio, a count of radios, a level
+abbrev n32 : {k : ℕ} → Lending k
+n32 = by-value (number-row w32)
+
+abbrev a-number : Answer
+a-number = number-answer w32
+
+abbrev a-reply : Answer
+a-reply = declared-answer reply.the-row reply-laws.lowers
+
+abbrev a-value : Answer
+a-value = declared-answer value.the-row value-laws.lowers
+
+abbrev a-later : Answer
+a-later = declared-answer later.the-row later-laws.lowers
+
+abbrev a-pair : Answer
+a-pair = declared-answer pair.the-row pair-laws.lowers
+
+abbrev a-block : Answer
+a-block = declared-answer block.the-row block-laws.lowers
+
+-- links, numbers and order on return
+abbrev left : {X : Type 0} → List ℕ × (List ℕ × (List ℕ × X)) → Tables
+left o = tables (o .0) (o .1 .0) (o .1 .1 .0)
+
+-- ---- calls that write links, numbers and order
+
+clear-runs : Runs (routines (of-book clear)) (call (of-book clear))
+unfolding Clear-contract
+clear-runs =
+    in-cells 3 (n32 ∷ to-write 0 tt u8 ∷ to-write 1 tt u8 ∷ to-write 2 tt u16 ∷ []) a-number _ (λ i r o. Clear-contract (i .0) (the-tables (i .1 .0) (i .1 .1 .0) (i .1 .1 .1 .0)) r (left o)) _
+    (λ i r o e. ap (λ (y : Numbered). (y .reply, tables-then (y .tables) tt)) e)
+    (clear-proof.met 𝓥 Closed.H Closed.model ghost₀ 𝓡)
+
+image-read-runs : Runs (routines (of-book image-read)) (call (of-book image-read))
+unfolding Read-contract
+image-read-runs =
+    in-cells 4 (n32 ∷ to-write 0 tt u8 ∷ to-write 1 tt u8 ∷ to-write 2 tt u16 ∷ to-read 3 tt u8 ∷ []) a-number _ (λ i r o. Read-contract (i .0) (entries (i .1 .1 .1 .1 .0)) (the-tables (i .1 .0) (i .1 .1 .0) (i .1 .1 .1 .0)) r (left o)) _
+    (λ i r o e. ap (λ (y : Numbered). (y .reply, tables-then (y .tables) tt)) e)
+    (image-read-proof.met 𝓥 Closed.H Closed.model ghost₀ 𝓡)
+
+abbrev link-runs-params : List (Lending 4)
+link-runs-params = n32 ∷ n32 ∷ n32 ∷ to-write 0 tt u8 ∷ to-write 1 tt u8 ∷ to-write 2 tt u16 ∷ to-write 3 tt u16 ∷ []
+
+link-runs : (up : Bool) (ρ : Routine) →
+    Promised 4 link-runs-params a-reply ρ (λ i r o. Link-contract up (i .0) (i .1 .0) (i .1 .1 .0) (the-tables (i .1 .1 .1 .0) (i .1 .1 .1 .1 .0) (i .1 .1 .1 .1 .1 .0)) (entries (i .1 .1 .1 .1 .1 .1 .0)) r (left o) (o .1 .1 .1 .0)) →
+    Runs ρ (call (of-book (link up)))
+unfolding Link-contract
+link-runs up ρ met = in-cells 4 link-runs-params a-reply ρ _ _ (λ i r o e. ap (λ (y : Linked). (y .reply, tables-then (y .tables) (y .answer, tt))) e) met
+
+abbrev commit-runs-params : List (Lending 4)
+commit-runs-params = n32 ∷ n32 ∷ n32 ∷ by-value (signed-row w8) ∷ to-write 0 tt u8 ∷ to-write 1 tt u8 ∷ to-write 2 tt u16 ∷ to-read 3 tt u16 ∷ []
+
+commit-runs : (up : Bool) (ρ : Routine) →
+    Promised 4 commit-runs-params a-reply ρ (λ i r o. Commit-contract up (i .0) (i .1 .0) (i .1 .1 .0) (i .1 .1 .1 .0) (entries (i .1 .1 .1 .1 .1 .1 .1 .0)) (the-tables (i .1 .1 .1 .1 .0) (i .1 .1 .1 .1 .1 .0) (i .1 .1 .1 .1 .1 .1 .0)) r (left o)) →
+    Runs ρ (call (of-book (commit up)))
+unfolding Commit-contract
+commit-runs up ρ met = in-cells 4 commit-runs-params a-reply ρ _ _ (λ i r o e. ap (λ (y : Committed). (y .reply, tables-then (y .tables) tt)) e) met
+
+batch-runs : Runs (routines (of-book link-batch)) (call (of-book link-batch))
+unfolding Batch-contract
+batch-runs =
+    in-cells 4 (n32 ∷ to-write 0 tt u8 ∷ to-write 1 tt u8 ∷ to-write 2 tt u16 ∷ to-read 3 tt u16 ∷ []) a-value _ (λ i r o. Batch-contract (i .0) (entries (i .1 .1 .1 .1 .0)) (the-tables (i .1 .0) (i .1 .1 .0) (i .1 .1 .1 .0)) r (left o)) _
+    (λ i r o e. ap (λ (y : Batched). (y .reply, tables-then (y .tables) tt)) e)
+    (link-batch-proof.met 𝓥 Closed.H Closed.model ghost₀ 𝓡)
+
+hear-runs : Runs (routines (of-book hear)) (call (of-book hear))
+unfolding Hear-contract
+hear-runs =
+    in-cells 5 (n32 ∷ to-write 0 tt u8 ∷ to-write 1 tt u8 ∷ to-write 2 tt u16 ∷ to-read 3 tt u8 ∷ to-write 4 tt u8 ∷ []) a-value _ (λ i r o. Hear-contract (i .0) (entries (i .1 .1 .1 .1 .0)) (the-tables (i .1 .0) (i .1 .1 .0) (i .1 .1 .1 .0)) (entries (i .1 .1 .1 .1 .1 .0)) r (left o) (o .1 .1 .1 .0)) _
+    (λ i r o e. ap (λ (y : Heard). (y .reply, tables-then (y .tables) (y .one-sided, tt))) e)
+    (hear-proof.met 𝓥 Closed.H Closed.model ghost₀ 𝓡)
+
+set-runs : Runs (routines (of-book mark-set)) (call (of-book mark-set))
+unfolding Set-contract
+set-runs =
+    in-cells 5 (n32 ∷ to-read 0 tt u8 ∷ to-read 1 tt u8 ∷ to-read 2 tt u16 ∷ to-read 3 tt u8 ∷ to-write 4 tt u8 ∷ []) a-number _ (λ i r o. Set-contract (i .0) (entries (i .1 .1 .1 .1 .0)) (the-tables (i .1 .0) (i .1 .1 .0) (i .1 .1 .1 .0)) (entries (i .1 .1 .1 .1 .1 .0)) r (o .0)) _
+    (λ i r o e. ap (λ (y : Stored). (y .reply, (y .store, tt))) e)
+    (mark-set-proof.met 𝓥 Closed.H Closed.model ghost₀ 𝓡)
+
+remove-runs : Runs (routines (of-book mark-remove)) (call (of-book mark-remove))
+unfolding Remove-contract
+remove-runs =
+    in-cells 5 (n32 ∷ to-read 0 tt u8 ∷ to-read 1 tt u8 ∷ to-read 2 tt u16 ∷ to-read 3 tt u8 ∷ to-write 4 tt u8 ∷ []) a-number _ (λ i r o. Remove-contract (i .0) (entries (i .1 .1 .1 .1 .0)) (the-tables (i .1 .0) (i .1 .1 .0) (i .1 .1 .1 .0)) (entries (i .1 .1 .1 .1 .1 .0)) r (o .0)) _
+    (λ i r o e. ap (λ (y : Stored). (y .reply, (y .store, tt))) e)
+    (mark-remove-proof.met 𝓥 Closed.H Closed.model ghost₀ 𝓡)
+
+return-runs : Runs (routines (of-book mark-return)) (call (of-book mark-return))
+unfolding Return-contract
+return-runs =
+    in-cells 5 (n32 ∷ to-write 0 tt u8 ∷ to-write 1 tt u8 ∷ to-write 2 tt u16 ∷ to-read 3 tt u8 ∷ to-read 4 tt u8 ∷ []) a-number _ (λ i r o. Return-contract (i .0) (entries (i .1 .1 .1 .1 .0)) (entries (i .1 .1 .1 .1 .1 .0)) (the-tables (i .1 .0) (i .1 .1 .0) (i .1 .1 .1 .0)) r (left o)) _
+    (λ i r o e. ap (λ (y : Numbered). (y .reply, tables-then (y .tables) tt)) e)
+    (mark-return-proof.met 𝓥 Closed.H Closed.model ghost₀ 𝓡)
+
+-- ---- calls that only read them
+
+abbrev ask-runs-params : List (Lending 2)
+ask-runs-params = n32 ∷ n32 ∷ n32 ∷ to-read 0 tt u8 ∷ to-read 0 tt u8 ∷ to-read 0 tt u16 ∷ to-write 1 tt u16 ∷ []
+
+ask-runs : (up : Bool) (ρ : Routine) →
+    Promised 2 ask-runs-params a-reply ρ (λ i r o. Ask-contract up (i .0) (i .1 .0) (i .1 .1 .0) (the-tables (i .1 .1 .1 .0) (i .1 .1 .1 .1 .0) (i .1 .1 .1 .1 .1 .0)) (entries (i .1 .1 .1 .1 .1 .1 .0)) r (o .0)) →
+    Runs ρ (call (any-other (ask up)))
+unfolding Ask-contract
+ask-runs up ρ met = in-cells 2 ask-runs-params a-reply ρ _ _ (λ i r o e. ap (λ (y : Asked). (y .reply, (y .answer, tt))) e) met
+
+check-runs : Runs (routines (any-other check)) (call (any-other check))
+unfolding Check-contract
+check-runs =
+    in-cells 1 (n32 ∷ to-read 0 tt u8 ∷ to-read 0 tt u8 ∷ to-read 0 tt u16 ∷ []) a-value _ (λ i r o. Check-contract (i .0) (the-tables (i .1 .0) (i .1 .1 .0) (i .1 .1 .1 .0)) r) _
+    (λ i r o e. ap (λ (y : Value). (y, tt)) e)
+    (check-proof.met 𝓥 Closed.H Closed.model ghost₀ 𝓡)
+
+number-runs : Runs (routines (any-other number)) (call (any-other number))
+unfolding Number-contract
+number-runs =
+    in-cells 1 (n32 ∷ n32 ∷ to-read 0 tt u8 ∷ to-read 0 tt u8 ∷ to-read 0 tt u16 ∷ []) a-value _ (λ i r o. Number-contract (i .0) (i .1 .0) (the-tables (i .1 .1 .0) (i .1 .1 .1 .0) (i .1 .1 .1 .1 .0)) r) _
+    (λ i r o e. ap (λ (y : Value). (y, tt)) e)
+    (number-proof.met 𝓥 Closed.H Closed.model ghost₀ 𝓡)
+
+neighbours-runs : Runs (routines (any-other neighbours)) (call (any-other neighbours))
+unfolding Neighbours-contract
+neighbours-runs =
+    in-cells 1 (n32 ∷ n32 ∷ to-read 0 tt u8 ∷ to-read 0 tt u8 ∷ to-read 0 tt u16 ∷ []) a-value _ (λ i r o. Neighbours-contract (i .0) (i .1 .0) (the-tables (i .1 .1 .0) (i .1 .1 .1 .0) (i .1 .1 .1 .1 .0)) r) _
+    (λ i r o e. ap (λ (y : Value). (y, tt)) e)
+    (neighbours-proof.met 𝓥 Closed.H Closed.model ghost₀ 𝓡)
+
+linked-runs : Runs (routines (any-other linked)) (call (any-other linked))
+unfolding Linked-contract
+linked-runs =
+    in-cells 1 (n32 ∷ n32 ∷ n32 ∷ to-read 0 tt u8 ∷ to-read 0 tt u8 ∷ to-read 0 tt u16 ∷ []) a-value _ (λ i r o. Linked-contract (i .0) (i .1 .0) (i .1 .1 .0) (the-tables (i .1 .1 .1 .0) (i .1 .1 .1 .1 .0) (i .1 .1 .1 .1 .1 .0)) r) _
+    (λ i r o e. ap (λ (y : Value). (y, tt)) e)
+    (linked-proof.met 𝓥 Closed.H Closed.model ghost₀ 𝓡)
+
+first-runs : Runs (routines (any-other first)) (call (any-other first))
+unfolding First-contract
+first-runs =
+    in-cells 1 (n32 ∷ n32 ∷ n32 ∷ to-read 0 tt u8 ∷ to-read 0 tt u8 ∷ to-read 0 tt u16 ∷ []) a-value _ (λ i r o. First-contract (i .0) (i .1 .0) (i .1 .1 .0) (the-tables (i .1 .1 .1 .0) (i .1 .1 .1 .1 .0) (i .1 .1 .1 .1 .1 .0)) r) _
+    (λ i r o e. ap (λ (y : Value). (y, tt)) e)
+    (first-proof.met 𝓥 Closed.H Closed.model ghost₀ 𝓡)
+
+later-runs : Runs (routines (any-other later-of)) (call (any-other later-of))
+unfolding Later-contract
+later-runs =
+    in-cells 1 (n32 ∷ n32 ∷ to-read 0 tt u8 ∷ to-read 0 tt u8 ∷ to-read 0 tt u16 ∷ []) a-later _ (λ i r o. Later-contract (i .0) (i .1 .0) (the-tables (i .1 .1 .0) (i .1 .1 .1 .0) (i .1 .1 .1 .1 .0)) r) _
+    (λ i r o e. ap (λ (y : Later). (y, tt)) e)
+    (later-of-proof.met 𝓥 Closed.H Closed.model ghost₀ 𝓡)
+
+lift-runs : Runs (routines (any-other lift)) (call (any-other lift))
+unfolding Lift-contract
+lift-runs =
+    in-cells 1 (n32 ∷ n32 ∷ to-read 0 tt u8 ∷ to-read 0 tt u8 ∷ to-read 0 tt u16 ∷ []) a-pair _ (λ i r o. Lift-contract (i .0) (i .1 .0) (the-tables (i .1 .1 .0) (i .1 .1 .1 .0) (i .1 .1 .1 .1 .0)) r) _
+    (λ i r o e. ap (λ (y : Pair). (y, tt)) e)
+    (lift-proof.met 𝓥 Closed.H Closed.model ghost₀ 𝓡)
+
+length-runs : Runs (routines (any-other script-length)) (call (any-other script-length))
+unfolding Script-length-contract
+length-runs =
+    in-cells 3 (n32 ∷ to-read 0 tt u8 ∷ to-read 1 tt u8 ∷ to-read 2 tt u16 ∷ []) a-value _ (λ i r o. Script-length-contract (i .0) (the-tables (i .1 .0) (i .1 .1 .0) (i .1 .1 .1 .0)) r) _
+    (λ i r o e. ap (λ (y : Value). (y, tt)) e)
+    (script-length-proof.met 𝓥 Closed.H Closed.model ghost₀ 𝓡)
+
+core-runs : Runs (routines (any-other core)) (call (any-other core))
+unfolding Core-contract
+core-runs =
+    in-cells 2 (n32 ∷ n32 ∷ n32 ∷ to-read 0 tt u8 ∷ to-read 0 tt u8 ∷ to-read 0 tt u16 ∷ to-write 1 tt u16 ∷ []) a-value _ (λ i r o. Core-contract (i .0) (i .1 .0) (i .1 .1 .0) (the-tables (i .1 .1 .1 .0) (i .1 .1 .1 .1 .0) (i .1 .1 .1 .1 .1 .0)) (entries (i .1 .1 .1 .1 .1 .1 .0)) r (o .0)) _
+    (λ i r o e. ap (λ (y : Listing). (y .reply, (y .lent, tt))) e)
+    (core-proof.met 𝓥 Closed.H Closed.model ghost₀ 𝓡)
+
+backbone-runs : Runs (routines (any-other backbone)) (call (any-other backbone))
+unfolding Backbone-contract
+backbone-runs =
+    in-cells 2 (n32 ∷ to-read 0 tt u8 ∷ to-read 0 tt u8 ∷ to-read 0 tt u16 ∷ to-write 1 tt u16 ∷ []) a-value _ (λ i r o. Backbone-contract (i .0) (the-tables (i .1 .0) (i .1 .1 .0) (i .1 .1 .1 .0)) (entries (i .1 .1 .1 .1 .0)) r (o .0)) _
+    (λ i r o e. ap (λ (y : Listing). (y .reply, (y .lent, tt))) e)
+    (backbone-proof.met 𝓥 Closed.H Closed.model ghost₀ 𝓡)
+
+staircase-runs : Runs (routines (any-other staircase)) (call (any-other staircase))
+unfolding Staircase-contract
+staircase-runs =
+    in-cells 2 (n32 ∷ to-read 0 tt u8 ∷ to-read 0 tt u8 ∷ to-read 0 tt u16 ∷ to-write 1 tt u16 ∷ []) a-value _ (λ i r o. Staircase-contract (i .0) (the-tables (i .1 .0) (i .1 .1 .0) (i .1 .1 .1 .0)) (entries (i .1 .1 .1 .1 .0)) r (o .0)) _
+    (λ i r o e. ap (λ (y : Listing). (y .reply, (y .lent, tt))) e)
+    (staircase-proof.met 𝓥 Closed.H Closed.model ghost₀ 𝓡)
+
+write-runs : Runs (routines (any-other image-write)) (call (any-other image-write))
+unfolding Write-contract
+write-runs =
+    in-cells 4 (n32 ∷ to-read 0 tt u8 ∷ to-read 1 tt u8 ∷ to-read 2 tt u16 ∷ to-write 3 tt u8 ∷ []) a-value _ (λ i r o. Write-contract (i .0) (the-tables (i .1 .0) (i .1 .1 .0) (i .1 .1 .1 .0)) (entries (i .1 .1 .1 .1 .0)) r (o .0)) _
+    (λ i r o e. ap (λ (y : Listing). (y .reply, (y .lent, tt))) e)
+    (image-write-proof.met 𝓥 Closed.H Closed.model ghost₀ 𝓡)
+
+sheet-runs : Runs (routines (any-other sheet)) (call (any-other sheet))
+unfolding Sheet-contract
+sheet-runs =
+    in-cells 4 (n32 ∷ to-read 0 tt u8 ∷ to-read 1 tt u8 ∷ to-read 2 tt u16 ∷ to-write 3 tt u8 ∷ []) a-value _ (λ i r o. Sheet-contract (i .0) (the-tables (i .1 .0) (i .1 .1 .0) (i .1 .1 .1 .0)) (entries (i .1 .1 .1 .1 .0)) r (o .0)) _
+    (λ i r o e. ap (λ (y : Listing). (y .reply, (y .lent, tt))) e)
+    (sheet-proof.met 𝓥 Closed.H Closed.model ghost₀ 𝓡)
+
+script-runs : Runs (routines (any-other script-write)) (call (any-other script-write))
+unfolding Script-contract
+script-runs =
+    in-cells 4 (n32 ∷ to-read 0 tt u8 ∷ to-read 1 tt u8 ∷ to-read 2 tt u16 ∷ to-write 3 tt u8 ∷ []) a-value _ (λ i r o. Script-contract (i .0) (the-tables (i .1 .0) (i .1 .1 .0) (i .1 .1 .1 .0)) (entries (i .1 .1 .1 .1 .0)) r (o .0)) _
+    (λ i r o e. ap (λ (y : Listing). (y .reply, (y .lent, tt))) e)
+    (script-write-proof.met 𝓥 Closed.H Closed.model ghost₀ 𝓡)
+
+tree-runs : Runs (routines (any-other tree)) (call (any-other tree))
+unfolding Tree-contract
+tree-runs =
+    in-cells 3 (n32 ∷ to-read 0 tt u8 ∷ to-read 0 tt u8 ∷ to-read 0 tt u16 ∷ to-write 1 tt node-row ∷ to-write 2 tt u16 ∷ []) a-value _ (λ i r o. Tree-contract (i .0) (the-tables (i .1 .0) (i .1 .1 .0) (i .1 .1 .1 .0)) (entries (i .1 .1 .1 .1 .0)) (entries (i .1 .1 .1 .1 .1 .0)) r (o .0) (o .1 .0)) _
+    (λ i r o e. ap (λ (y : Treed). (y .reply, (y .nodes, (y .answer, tt)))) e)
+    (tree-proof.met 𝓥 Closed.H Closed.model ghost₀ 𝓡)
+
+block-runs : Runs (routines (any-other image-block)) (call (any-other image-block))
+unfolding Block-contract
+block-runs =
+    in-cells 1 (to-read 0 tt u8 ∷ by-value (number-row w64) ∷ []) a-block _ (λ i r o. Block-contract (entries (i .0)) (i .1 .0) r) _
+    (λ i r o e. ap (λ (y : Block). (y, tt)) e)
+    (image-block-proof.met 𝓥 Closed.H Closed.model ghost₀ 𝓡)
+
+pub runs : (x : Exported) → Runs (routines x) (call x)
+runs (of-book clear) = clear-runs
+runs (of-book image-read) = image-read-runs
+runs (of-book (link true)) = link-runs true _ (link-up-proof.met 𝓥 Closed.H Closed.model ghost₀ 𝓡)
+runs (of-book (link false)) = link-runs false _ (link-down-proof.met 𝓥 Closed.H Closed.model ghost₀ 𝓡)
+runs (of-book (commit true)) = commit-runs true _ (commit-up-proof.met 𝓥 Closed.H Closed.model ghost₀ 𝓡)
+runs (of-book (commit false)) = commit-runs false _ (commit-down-proof.met 𝓥 Closed.H Closed.model ghost₀ 𝓡)
+runs (of-book link-batch) = batch-runs
+runs (of-book hear) = hear-runs
+runs (of-book mark-set) = set-runs
+runs (of-book mark-remove) = remove-runs
+runs (of-book mark-return) = return-runs
+runs (any-other (ask true)) = ask-runs true _ (ask-up-proof.met 𝓥 Closed.H Closed.model ghost₀ 𝓡)
+runs (any-other (ask false)) = ask-runs false _ (ask-down-proof.met 𝓥 Closed.H Closed.model ghost₀ 𝓡)
+runs (any-other check) = check-runs
+runs (any-other number) = number-runs
+runs (any-other neighbours) = neighbours-runs
+runs (any-other linked) = linked-runs
+runs (any-other first) = first-runs
+runs (any-other later-of) = later-runs
+runs (any-other lift) = lift-runs
+runs (any-other core) = core-runs
+runs (any-other backbone) = backbone-runs
+runs (any-other tree) = tree-runs
+runs (any-other staircase) = staircase-runs
+runs (any-other image-write) = write-runs
+runs (any-other sheet) = sheet-runs
+runs (any-other script-length) = length-runs
+runs (any-other script-write) = script-runs
+runs (any-other image-block) = block-runs
