@@ -1,5 +1,4 @@
--- Property 2 in terms of the contracts: what a caller has after an accepted call. The definitions are in specs/Results.antt.
---   accepted             a contract whose number is 0 is met as accepted
+-- Property 2, of the outcomes: what a caller has after an accepted call. The definitions are in specs/Results.antt.
 --   check-right          the check answers 1 exactly for proper rows, core numbers and a k-order
 --   link-right           numbers and order are right after a link call, for the graph in the new links table
 --   ask-right            asking lists exactly the radios whose core number would differ
@@ -13,7 +12,7 @@
 --   read-right           the tables of an accepted image are sound, and written again they give the same bytes
 --   read-what-was-written   sound tables, written and read, are the same tables
 --   block-right          what a step of the block reader gives
-use mathlib.Core.Path.{_≡_, refl, sym, ap, ap₂, subst, _∙_}
+use mathlib.Core.Path.{_≡_, refl, sym, ap, subst, _∙_}
 use mathlib.Core.Logic.{_⊎_, inl, inr, _↔_}
 use mathlib.Core.Bool.{Bool, true, false, not, cond}
 use mathlib.Core.List.{List}
@@ -25,12 +24,12 @@ use lib.ListN.{length, getD, take, drop, List·getD-append}
 use lib.Seq.{ext-getD}
 use borrow.Author.Tests.{ltb-true, ltb-false, eq-eqb, ne-eqb, not-true}
 use Rattle.mesh.specs.Limits.{max-neighbours}
-use Rattle.lists.specs.Lists.{range, filter, member, head-or, overwrite, In, Ascending, Entries-below}
+use Rattle.lists.specs.Lists.{range, filter, member, overwrite, In, Ascending, Entries-below}
 use Rattle.mesh.specs.Graph.{Graph, linked, radios, relinked}
 use Rattle.mesh.specs.Cores.{Core, number, numbers}
-use Rattle.mesh.specs.Orders.{is-k-order, later-in, nobody}
-use Rattle.mesh.specs.Levels.{changed, new-order}
-use Rattle.mesh.specs.Tables.{Tables, put-link, graph-in, tables-of, Tables-of-size}
+use Rattle.mesh.specs.Orders.{is-k-order, nobody}
+use Rattle.mesh.specs.Levels.{changed}
+use Rattle.mesh.specs.Tables.{Tables, graph-in, tables-of, Tables-of-size}
 use Rattle.mesh.specs.Sound.{sound}
 use Rattle.mesh.specs.Connected.{core-of, backbone}
 use Rattle.mesh.specs.Tree.{tree, node-name, node-names}
@@ -56,48 +55,27 @@ use Rattle.mesh.proofs.Images.Of.{length-image-of, whole-blocks-image-of, check
 use Rattle.mesh.proofs.Images.Sites.{written-read}
 use Rattle.mesh.proofs.Images.Tables.{valid-graph-in, is-image-sound, is-image-tables, tables-read-written}
 use Rattle.mesh.specs.Valid.{Valid, Allowed}
-use Rattle.calls.specs.Questions.{lengths-of, image-length, tables-refusal, link-refusal, commit-refusal}
-use Rattle.calls.specs.Fields.{By-number, Tables-refused, Value-accepted, Value-refused, Listing-accepted, Listing-refused, Link-accepted, Link-refused}
-use Rattle.calls.specs.Fields.{Ask-accepted, Ask-refused, Commit-accepted, Commit-refused, Read-accepted, Block-none, Block-accepted, Later-accepted}
-use Rattle.calls.specs.Fields.{Later-refused, Tree-accepted, Tree-refused}
-use Rattle.calls.specs.Questions.{radio-refusal, core-refusal, backbone-refusal, tree-refusal, write-refusal, read-refusal}
-use Rattle.calls.specs.Questions.{block-refusal, sheet-refusal}
+use Rattle.calls.specs.Questions.{lengths-of, image-length, tables-refusal, link-refusal}
+use Rattle.calls.specs.Questions.{radio-refusal, core-refusal, backbone-refusal, write-refusal, read-refusal}
+use Rattle.calls.specs.Questions.{sheet-refusal}
 use Rattle.calls.specs.Sheet.{sheet, sheet-length}
-use Rattle.calls.specs.Contracts.{Link-contract, Ask-contract, Commit-contract, Read-contract, Write-contract, Block-contract, Check-contract, Number-contract}
-use Rattle.calls.specs.Contracts.{Later-contract, Core-contract, Backbone-contract, Tree-contract, Sheet-contract}
-use Rattle.calls.specs.Switches.{switched}
+use Rattle.calls.specs.Switches.{switch, switched}
+use Rattle.calls.specs.Outcomes.{Numbered, numbered, Linked, Asked, Committed, Listing, listing, Treed, value, link-outcome, ask-outcome, commit-outcome, read-outcome}
+use Rattle.calls.specs.Outcomes.{value-outcome, check-outcome, number-outcome, later-outcome, listing-outcome, core-outcome, backbone-outcome, tree-outcome, sheet-outcome}
+use Rattle.calls.specs.Outcomes.{write-outcome, no-block, block-or-end, block-outcome}
 use Rattle.calls.specs.Results.{Numbers-right, Site-right, Listed, Link-right, Core-listed, Backbone-listed, Tree-listed, Written-right, Read-right}
 use Rattle.calls.specs.Results.{Ask-right, Commit-right, Block-part, Block-end, Later-right, Sheet-right}
-use Rattle.calls.specs.declared.Reply.{Reply}
 use Rattle.calls.specs.declared.Value.{Value}
 use Rattle.calls.specs.declared.Later.{Later}
 use Rattle.calls.specs.declared.Block.{Block}
-use Rattle.calls.proofs.ContractLaws.{by-cases, by-zero}
-use Rattle.calls.proofs.FieldLaws.{link-fields, ask-fields, commit-fields, check-fields, number-fields, later-fields, core-fields, backbone-fields, tree-fields}
-use Rattle.calls.proofs.FieldLaws.{sheet-fields, write-fields, read-fields, none-fields, block-fields}
+use Rattle.calls.proofs.ContractLaws.{accepted-is, by-zero}
 use Rattle.calls.proofs.ChainLaws.{lent-zero, Site-good, link-zero, commit-zero, radio-zero, core-zero, write-zero, read-zero, read-yes, sheet-zero}
 use Rattle.calls.proofs.SheetLaws.{sheet-fits, length-sheet, columns-front, columns-by}
-use Rattle.calls.proofs.RecordLaws.{tables-ext}
-
--- ---- the number 0 is no refusal
-
-pub accepted : (R : ℕ) (A : Type 0) (B : ℕ → Type 0) (number : ℕ) → ((q : ℕ) → B q → number ≡ q) → By-number R A B → number ≡ 0 → (R ≡ 0) × A
-accepted R A B r says d z = go (by-cases R A B d)
-  where
-    go : ((R ≡ 0) × A) ⊎ ((R ≡ 0 → ⊥) × B R) → (R ≡ 0) × A
-    go (inl p) = p
-    go (inr p) = absurd (p .0 (sym (says R (p .1)) ∙ z))
 
 -- ---- a list in front of a lent list
 
-front : (new old : List ℕ) (k : ℕ) (x : List ℕ) → k ≡ length new → x ≡ overwrite new old → take k x ≡ new
-front new old k x e f = ap₂ (λ (i : ℕ) (ys : List ℕ). take i ys) e f ∙ take-overwrite new old
-
-later : (new old : List ℕ) (k : ℕ) (x : List ℕ) → k ≡ length new → x ≡ overwrite new old → drop k x ≡ drop k old
-later new old k x e f = rw (e, f) (drop-overwrite new old)
-
-listed-front : (new old : List ℕ) (k : ℕ) (x : List ℕ) → k ≡ length new → x ≡ overwrite new old → Ascending new → Listed k old x
-listed-front new old k x e f a = record { ascending = rw (front new old k x e f) a; later-entries = later new old k x e f }
+listed-front : (new old : List ℕ) → Ascending new → Listed (length new) old (overwrite new old)
+listed-front new old a = record { ascending = rw (take-overwrite new old) a; later-entries = drop-overwrite new old }
 
 -- ---- link calls
 
@@ -106,38 +84,33 @@ numbers-right g t e k = record { cores = λ x l. rw (e, getD-numbers g x l) (num
 
 -- the graph in the new links table is the graph with the link changed
 pub switched-right :
-    (up : Bool) (n a b : ℕ) (t v : Tables) (others : Bool) → Site-good n (lengths-of t) others (sound n t) →
-    Allowed max-neighbours up a b (graph-in n (t .links)) → v .links ≡ put-link up a b (t .links) →
-    v .numbers ≡ numbers (relinked up a b (graph-in n (t .links))) → v .order ≡ new-order up a b (graph-in n (t .links)) (t .order) →
-    Commit-right up n a b t v
-unfolding graph-in sound lengths-of
-switched-right up n a b t v others good ok links numbers order =
+    (up : Bool) (n a b : ℕ) (t : Tables) (others : Bool) → Site-good n (lengths-of t) others (sound n t) →
+    Allowed max-neighbours up a b (graph-in n (t .links)) → Commit-right up n a b t (switched n (switch up a b) t)
+unfolding graph-in sound lengths-of switched
+switched-right up n a b t others good ok =
     let g = graph-in n (t .links) in
+    let v = switched n (switch up a b) t in
     let valid = link-valid max-neighbours up a b g (t .order) (valid-graph-in max-neighbours n t (good .lent .most) (good .is-sound)) ok in
     let after : graph-in n (v .links) ≡ relinked up a b g =
-    ap (graph-in n) links ∙ graph-in-put-link up n a b t (good .lent .most) (good .lent .lengths .links) (good .is-sound) ok in
+    graph-in-put-link up n a b t (good .lent .most) (good .lent .lengths .links) (good .is-sound) ok in
     record {
       graph = after;
       right = record {
-        rows = rw links (rows-put-link up n a b t (good .lent .most) (good .lent .lengths .links) (good .is-sound) ok);
-        right = rw after (numbers-right (relinked up a b g) v numbers (ap (is-k-order (relinked up a b g)) order ∙ valid .k-order));
+        rows = rows-put-link up n a b t (good .lent .most) (good .lent .lengths .links) (good .is-sound) ok;
+        right = rw after (numbers-right (relinked up a b g) v refl (valid .k-order));
       };
     }
 
-pub link-right : (up : Bool) (n a b : ℕ) (t : Tables) (w : List ℕ) (r : Reply) (v : Tables) (x : List ℕ) → Link-contract up n a b t w r v x
-    → r .number ≡ 0 → Link-right up n a b t v (r .count) w x
-unfolding graph-in
-link-right up n a b t w r v x d z =
+pub link-right :
+    (up : Bool) (n a b : ℕ) (t : Tables) (w : List ℕ) → let o = link-outcome up n a b t w in
+    o .reply .number ≡ 0 → Link-right up n a b t (o .tables) (o .reply .count) w (o .answer)
+unfolding link-outcome link-refusal sound graph-in
+link-right up n a b t w z =
     let g = graph-in n (t .links) in
-    let c = accepted (link-refusal up n a b (lengths-of t) (length w) (sound n t) g) (Link-accepted up a b g t w r v x)
-    (λ q. Link-refused q t w r v x) (r .number) (λ q e. e .number) (link-fields up n a b t w r v x .0 d) z in
+    let c = accepted-is (λ (o : Linked). o .reply .number) (link-outcome up n a b t w) _ _ _ (λ q. refl) refl z in
     let good = link-zero up a b (lengths-of t) (length w) (sound n t) g (c .0) in
-    let s = switched-right up n a b t v _ (good .0) (good .1) (c .1 .links) (c .1 .numbers) (c .1 .order) in
-    record {
-      graph = s .graph;
-      right = s .right;
-      listed = listed-front (changed up a b g) w (r .count) x (c .1 .count) (c .1 .answer) (changed-ascending up a b g);
-    }
+    let s = switched-right up n a b t _ (good .0) (good .1) in
+    rw (c .1) (record { graph = s .graph; right = s .right; listed = listed-front (changed up a b g) w (changed-ascending up a b g) })
 
 -- ---- a link call in two steps
 
@@ -153,28 +126,27 @@ changed-exactly up a b g v j k l p q =
     ∙ rw (number-unique g v j l p, number-unique (relinked up a b g) v k l q) refl in
     (λ h e. never (eqb j k) (eq-eqb j k e) (not-true (eqb j k) (sym is ∙ h)), λ h. is ∙ ap not (ne-eqb j k h))
 
-pub ask-right : (up : Bool) (n a b : ℕ) (t : Tables) (w : List ℕ) (r : Reply) (x : List ℕ) → Ask-contract up n a b t w r x → r .number ≡ 0
-    → Ask-right up a b (graph-in n (t .links)) (r .count) w x
-ask-right up n a b t w r x d z =
+pub ask-right :
+    (up : Bool) (n a b : ℕ) (t : Tables) (w : List ℕ) → let o = ask-outcome up n a b t w in
+    o .reply .number ≡ 0 → Ask-right up a b (graph-in n (t .links)) (o .reply .count) w (o .answer)
+unfolding ask-outcome
+ask-right up n a b t w z =
     let g = graph-in n (t .links) in
-    let c = accepted (link-refusal up n a b (lengths-of t) (length w) (sound n t) g) (Ask-accepted up a b g w r x)
-    (λ q. Ask-refused q w r x) (r .number) (λ q e. e .number) (ask-fields up n a b t w r x .0 d) z in
-    record {
-      exactly = λ v j k l p q. rw (front (changed up a b g) w (r .count) x (c .1 .count) (c .1 .answer)) (changed-exactly up a b g v j k l p q);
-      listed = listed-front (changed up a b g) w (r .count) x (c .1 .count) (c .1 .answer) (changed-ascending up a b g);
-    }
+    let cs = changed up a b g in
+    let c = accepted-is (λ (o : Asked). o .reply .number) (ask-outcome up n a b t w) _ _ _ (λ q. refl) refl z in
+    rw (c .1) (record {
+      exactly = λ v j k l p q. rw (take-overwrite cs w) (changed-exactly up a b g v j k l p q);
+      listed = listed-front cs w (changed-ascending up a b g);
+    })
 
 pub commit-right :
-    (up : Bool) (n a b : ℕ) (z : ℤ) (xs : List ℕ) (t : Tables) (r : Reply) (v : Tables) → Commit-contract up n a b z xs t r v → r .number ≡ 0 →
-    Commit-right up n a b t v
-unfolding graph-in switched
-commit-right up n a b z xs t r v d y =
-    let g = graph-in n (t .links) in
-    let c = accepted (commit-refusal up n a b z xs (lengths-of t) (sound n t) g) (Commit-accepted up n a b t r v)
-    (λ q. Commit-refused q t r v) (r .number) (λ q e. e .number) (commit-fields up n a b z xs t r v .0 d) y in
-    let good = commit-zero up a b z xs (lengths-of t) (sound n t) g (c .0) in
-    switched-right up n a b t v true (good .0) (good .1) (ap (λ (o : Tables). o .links) (c .1 .tables)) (ap (λ (o : Tables). o .numbers) (c .1 .tables))
-    (ap (λ (o : Tables). o .order) (c .1 .tables))
+    (up : Bool) (n a b : ℕ) (z : ℤ) (xs : List ℕ) (t : Tables) → let o = commit-outcome up n a b z xs t in
+    o .reply .number ≡ 0 → Commit-right up n a b t (o .tables)
+unfolding commit-outcome graph-in
+commit-right up n a b z xs t y =
+    let c = accepted-is (λ (o : Committed). o .reply .number) (commit-outcome up n a b z xs t) _ _ _ (λ q. refl) refl y in
+    let good = commit-zero up a b z xs (lengths-of t) (sound n t) (graph-in n (t .links)) (c .0) in
+    rw (c .1) (switched-right up n a b t true (good .0) (good .1))
 
 -- ---- the soundness check, and a radio's number
 
@@ -192,67 +164,71 @@ site-right n t long =
       }),
     )
 
-pub check-right : (n : ℕ) (t : Tables) (r : Value) → Check-contract n t r → r .number ≡ 0 → (r .value ≡ 1) ↔ Site-right n t
-unfolding tables-refusal lengths-of
-check-right n t r d z =
-    let c = accepted (tables-refusal n (lengths-of t)) (Value-accepted (cond (sound n t) 1 0) r) (λ q. Value-refused q r) (r .number) (λ q e. e .number) (check-fields n t r .0 d) z in
-    let good = lent-zero n (lengths-of t) true 0 (c .0) .0 in
-    let iff = site-right n t (good .lengths .numbers) in
-    (λ e. iff .0 (yes (sound n t) (sym (c .1 .value) ∙ e)), λ s. c .1 .value ∙ rw (iff .1 s))
+-- a call that answers a value, accepted
+pub value-is : (R x : ℕ) → value-outcome R x .number ≡ 0 → (R ≡ 0) × (value-outcome R x ≡ value 0 x)
+unfolding value-outcome
+value-is R x z = accepted-is (λ (o : Value). o .number) (value-outcome R x) R _ _ (λ q. refl) refl z
+
+pub check-right : (n : ℕ) (t : Tables) → let o = check-outcome n t in o .number ≡ 0 → (o .value ≡ 1) ↔ Site-right n t
+unfolding check-outcome tables-refusal lengths-of sound
+check-right n t z =
+    let c = value-is (tables-refusal n (lengths-of t)) (cond (sound n t) 1 0) z in
+    let iff = site-right n t (lent-zero n (lengths-of t) true 0 (c .0) .0 .lengths .numbers) in
+    rw (c .1) (λ e. iff .0 (yes (sound n t) e), λ s. rw (iff .1 s) refl)
   where
     yes : (b : Bool) → cond {A = ℕ} b 1 0 ≡ 1 → b ≡ true
     yes true e = refl
     yes false e = absurd (omega arith)
 
-pub number-right : (n v : ℕ) (t : Tables) (r : Value) → Number-contract n v t r → r .number ≡ 0 → Core (graph-in n (t .links)) v (r .value)
-unfolding graph-in
-number-right n v t r d z =
+pub number-right : (n v : ℕ) (t : Tables) → let o = number-outcome n v t in o .number ≡ 0 → Core (graph-in n (t .links)) v (o .value)
+unfolding number-outcome sound graph-in
+number-right n v t z =
     let g = graph-in n (t .links) in
-    let c = accepted (radio-refusal n v (lengths-of t) (sound n t)) (Value-accepted (number g v) r)
-    (λ q. Value-refused q r) (r .number) (λ q e. e .number) (number-fields n v t r .0 d) z in
-    rw (c .1 .value) (number-core g v (radio-zero n v (lengths-of t) (sound n t) (c .0) .1))
+    let c = value-is (radio-refusal n v (lengths-of t) (sound n t)) (number g v) z in
+    rw (c .1) (number-core g v (radio-zero n v (lengths-of t) (sound n t) (c .0) .1))
 
-pub later-right : (n v : ℕ) (t : Tables) (r : Later) → Later-contract n v t r → r .number ≡ 0
-    → Later-right (graph-in n (t .links)) v (t .order) (r .count) (r .first)
-unfolding sound graph-in
-later-right n v t r d z =
+pub later-right :
+    (n v : ℕ) (t : Tables) → let o = later-outcome n v t in
+    o .number ≡ 0 → Later-right (graph-in n (t .links)) v (t .order) (o .count) (o .first)
+unfolding later-outcome sound graph-in
+later-right n v t z =
     let f = linked (graph-in n (t .links)) in
-    let vs = later-in f v (t .order) in
-    let c = accepted (radio-refusal n v (lengths-of t) (sound n t)) (Later-accepted (length vs) (head-or nobody vs) r)
-    (λ q. Later-refused q r) (r .number) (λ q e. e .number) (later-fields n v t r .0 d) z in
+    let c = accepted-is (λ (o : Later). o .number) (later-outcome n v t) _ _ _ (λ q. refl) refl z in
     let good = radio-zero n v (lengths-of t) (sound n t) (c .0) .0 in
     let valid = valid-graph-in max-neighbours n t (good .lent .most) (good .is-sound) in
     let once = k-order-certificate (graph-in n (t .links)) (t .order) (valid .k-order) .once in
     let small : (u : ℕ) → In u (t .order) → u < nobody = λ u m. omega (arith, once-below n (t .order) once u m, good .lent .most) in
-    rw (c .1 .count, c .1 .first) (record { counted = refl; some = first-is-first f v (t .order); none = nobody-none f v (t .order) small })
+    rw (c .1) (record { counted = refl; some = first-is-first f v (t .order); none = nobody-none f v (t .order) small })
 
 -- ---- connected cores and the backbone
 
-pub core-right : (n v k : ℕ) (t : Tables) (w : List ℕ) (r : Value) (x : List ℕ) → Core-contract n v k t w r x → r .number ≡ 0
-    → Core-listed (graph-in n (t .links)) v k (r .value) w x
-unfolding graph-in
-core-right n v k t w r x d z =
+-- a call that lists, accepted
+pub listing-is :
+    (R x : ℕ) (new old : List ℕ) → listing-outcome R x new old .reply .number ≡ 0 →
+    (R ≡ 0) × (listing-outcome R x new old ≡ listing (value 0 x) (overwrite new old))
+unfolding listing-outcome
+listing-is R x new old z = accepted-is (λ (o : Listing). o .reply .number) (listing-outcome R x new old) R _ _ (λ q. refl) refl z
+
+pub core-right :
+    (n v k : ℕ) (t : Tables) (w : List ℕ) → let o = core-outcome n v k t w in
+    o .reply .number ≡ 0 → Core-listed (graph-in n (t .links)) v k (o .reply .value) w (o .lent)
+unfolding core-outcome sound graph-in
+core-right n v k t w z =
     let g = graph-in n (t .links) in
     let new = core-of g v k in
-    let c = accepted (core-refusal n v k (lengths-of t) (length w) (sound n t) g) (Listing-accepted (length new) new w r x)
-    (λ q. Listing-refused q w r x) (r .number) (λ q e. e .number) (core-fields n v k t w r x .0 d) z in
+    let c = listing-is (core-refusal n v k (lengths-of t) (length w) (sound n t) g) (length new) new w z in
     let good = core-zero n v k (lengths-of t) (length w) (sound n t) g (c .0) in
-    record {
-      exactly = rw (front new w (r .value) x (c .1 .value) (c .1 .lent)) (core-of-iff g v k (good .1));
-      listed = listed-front new w (r .value) x (c .1 .value) (c .1 .lent) (core-ascending g v k (good .1));
-    }
+    rw (c .1) (record { exactly = rw (take-overwrite new w) (core-of-iff g v k (good .1)); listed = listed-front new w (core-ascending g v k (good .1)) })
 
-pub backbone-right : (n : ℕ) (t : Tables) (w : List ℕ) (r : Value) (x : List ℕ) → Backbone-contract n t w r x → r .number ≡ 0
-    → Backbone-listed (graph-in n (t .links)) (r .value) w x
-backbone-right n t w r x d z =
+pub backbone-right :
+    (n : ℕ) (t : Tables) (w : List ℕ) → let o = backbone-outcome n t w in
+    o .reply .number ≡ 0 → Backbone-listed (graph-in n (t .links)) (o .reply .value) w (o .lent)
+unfolding backbone-outcome sound
+backbone-right n t w z =
     let g = graph-in n (t .links) in
     let new = backbone g in
-    let c = accepted (backbone-refusal n (lengths-of t) (length w) (sound n t)) (Listing-accepted (length new) new w r x)
-    (λ q. Listing-refused q w r x) (r .number) (λ q e. e .number) (backbone-fields n t w r x .0 d) z in
-    record {
-      exactly = rw (front new w (r .value) x (c .1 .value) (c .1 .lent)) (backbone-iff g);
-      listed = listed-front new w (r .value) x (c .1 .value) (c .1 .lent) (backbone-ascending g);
-    }
+    let c = listing-is (backbone-refusal n (lengths-of t) (length w) (sound n t)) (length new) new w z in
+    rw (c .1) (record { exactly = rw (take-overwrite new w) (backbone-iff g); listed = listed-front new w (backbone-ascending g) })
 
 -- ---- the shell tree
 
@@ -266,81 +242,80 @@ getD-node-names g w v l =
     List·getD-append (node-names g) (drop (length (node-names g)) w) 0 v (omega (arith, length-node-names g))
     ∙ getD-map-range 0 (node-name g) 0 (g .n) v l ∙ ap (node-name g) (omega arith)
 
-listed-tree : (g : Graph) (count : ℕ) (m p : List Node) (w x : List ℕ) → count ≡ length (tree g) → p ≡ overwrite (tree g) m
-    → x ≡ overwrite (node-names g) w → Tree-listed g count m p w x
-listed-tree g count m p w x e f h = record {
-  nodes = λ xs. rw (e, f, take-overwrite (tree g) m) (tree-iff g xs);
-  later-nodes = rw (e, f) (drop-overwrite (tree g) m);
-  names = λ v l y. rw (h, getD-node-names g w v l) (node-name-iff g v l y);
+listed-tree : (g : Graph) (m : List Node) (w : List ℕ) → Tree-listed g (length (tree g)) m (overwrite (tree g) m) w (overwrite (node-names g) w)
+listed-tree g m w = record {
+  nodes = λ xs. rw (take-overwrite (tree g) m) (tree-iff g xs);
+  later-nodes = drop-overwrite (tree g) m;
+  names = λ v l y. rw (getD-node-names g w v l) (node-name-iff g v l y);
   later-entries =
       let e : length (node-names g) ≡ g .n = length-node-names g in
-      subst (λ (k : ℕ). drop k x ≡ drop k w) e (rw h (drop-overwrite (node-names g) w));
+      subst (λ (k : ℕ). drop k (overwrite (node-names g) w) ≡ drop k w) e (drop-overwrite (node-names g) w);
 }
 
-pub tree-right-listed : (n : ℕ) (t : Tables) (m : List Node) (w : List ℕ) (r : Value) (p : List Node) (x : List ℕ) → Tree-contract n t m w r p x
-    → r .number ≡ 0 → Tree-listed (graph-in n (t .links)) (r .value) m p w x
-tree-right-listed n t m w r p x d z =
-    let g = graph-in n (t .links) in
-    let c = accepted (tree-refusal n (lengths-of t) (length m) (length w) (sound n t)) (Tree-accepted g m w r p x)
-    (λ q. Tree-refused q m w r p x) (r .number) (λ q e. e .number) (tree-fields n t m w r p x .0 d) z in
-    listed-tree g (r .value) m p w x (c .1 .value) (c .1 .nodes) (c .1 .answer)
+pub tree-right-listed :
+    (n : ℕ) (t : Tables) (m : List Node) (w : List ℕ) → let o = tree-outcome n t m w in
+    o .reply .number ≡ 0 → Tree-listed (graph-in n (t .links)) (o .reply .value) m (o .nodes) w (o .answer)
+unfolding tree-outcome
+tree-right-listed n t m w z =
+    let c = accepted-is (λ (o : Treed). o .reply .number) (tree-outcome n t m w) _ _ _ (λ q. refl) refl z in
+    rw (c .1) (listed-tree (graph-in n (t .links)) m w)
 
 -- ---- the site sheet
 
-pub sheet-right : (n : ℕ) (t : Tables) (w : List ℕ) (r : Value) (x : List ℕ) → Sheet-contract n t w r x → r .number ≡ 0
-    → Sheet-right n t (r .value) w x
-unfolding sheet-length lengths-of
-sheet-right n t w r x d z =
+pub sheet-right :
+    (n : ℕ) (t : Tables) (w : List ℕ) → let o = sheet-outcome n t w in o .reply .number ≡ 0 → Sheet-right n t (o .reply .value) w (o .lent)
+unfolding sheet-outcome sheet-length lengths-of sound
+sheet-right n t w z =
     let new = sheet (t .numbers) in
-    let c = accepted (sheet-refusal n (lengths-of t) (length w) (sound n t)) (Listing-accepted (sheet-length n) new w r x)
-    (λ q. Listing-refused q w r x) (r .number) (λ q e. e .number) (sheet-fields n t w r x .0 d) z in
+    let c = listing-is (sheet-refusal n (lengths-of t) (length w) (sound n t)) (sheet-length n) new w z in
     let good = sheet-zero n (lengths-of t) (length w) (sound n t) (c .0) .0 in
     let long = good .lent .lengths .numbers in
     let fit = sheet-fits n t long (good .is-sound) (good .lent .most) in
-    let size : r .value ≡ length new = c .1 .value ∙ ap sheet-length (sym long) ∙ sym (length-sheet (t .numbers) fit) in
-    record {
-      long = c .1 .value;
-      page = front new w (r .value) x size (c .1 .lent);
-      columns = columns-by n t long (good .is-sound) x (rw (c .1 .lent) (columns-front (t .numbers) fit w));
-      later-bytes = later new w (r .value) x size (c .1 .lent);
-    }
+    let size : sheet-length n ≡ length new = ap sheet-length (sym long) ∙ sym (length-sheet (t .numbers) fit) in
+    rw (c .1) (record {
+      long = refl;
+      page = ap (λ (i : ℕ). take i (overwrite new w)) size ∙ take-overwrite new w;
+      columns = columns-by n t long (good .is-sound) (overwrite new w) (columns-front (t .numbers) fit w);
+      later-bytes = rw size (drop-overwrite new w);
+    })
 
 -- ---- images
 
 -- the bytes written
-module _ (n : ℕ) (t : Tables) (w : List ℕ) (r : Value) (x : List ℕ) (d : Write-contract n t w r x) (z : r .number ≡ 0) where
+module _ (n : ℕ) (t : Tables) (w : List ℕ) (z : write-outcome n t w .reply .number ≡ 0) where
   abbrev g : Graph
   g = graph-in n (t .links)
 
   abbrev written : List ℕ
   written = image-of g (t .order)
 
-  given : (write-refusal n (lengths-of t) (length w) (sound n t) g ≡ 0) × Listing-accepted (image-length g) written w r x
-  given = accepted (write-refusal n (lengths-of t) (length w) (sound n t) g) (Listing-accepted (image-length g) written w r x)
-      (λ q. Listing-refused q w r x) (r .number) (λ q e. e .number) (write-fields n t w r x .0 d) z
+  given :
+      (write-refusal n (lengths-of t) (length w) (sound n t) g ≡ 0) × (write-outcome n t w ≡ listing (value 0 (image-length g)) (overwrite written w))
+  unfolding write-outcome sound
+  given = listing-is (write-refusal n (lengths-of t) (length w) (sound n t) g) (image-length g) written w z
 
   good : Site-good n (lengths-of t) true (sound n t)
   good = write-zero n (lengths-of t) (length w) (sound n t) g (given .0) .0
 
   -- the value is the image's length
-  size : r .value ≡ length written
+  size : image-length g ≡ length written
   unfolding image-length
-  size = given .1 .value ∙ sym (length-image-of g (t .order))
+  size = sym (length-image-of g (t .order))
 
-  bytes-written : take (r .value) x ≡ written
-  bytes-written = front written w (r .value) x size (given .1 .lent)
+  bytes-written : take (write-outcome n t w .reply .value) (write-outcome n t w .lent) ≡ written
+  bytes-written = rw (given .1, size) (take-overwrite written w)
 
-  read-accepts : (u : Tables) → lengths-of u ≡ lengths-of t → read-refusal n (lengths-of u) (take (r .value) x) ≡ 0
+  read-accepts : (u : Tables) → lengths-of u ≡ lengths-of t → read-refusal n (lengths-of u) written ≡ 0
   read-accepts u e =
-      rw (e, bytes-written) (read-yes n (lengths-of t) written (good .lent)
+      rw e (read-yes n (lengths-of t) written (good .lent)
       (record { whole = whole-blocks-image-of g (t .order); checks = checks-good-image-of g (t .order) })
       (is-image-sound n t (good .lent .most) (good .is-sound)))
 
-  pub write-right : Written-right n t (r .value) w x
+  pub write-right : Written-right n t (write-outcome n t w .reply .value) w (write-outcome n t w .lent)
   write-right = record {
     image = bytes-written;
     is-image = rw bytes-written (is-image-tables n written (good .lent .most) .0 (is-image-sound n t (good .lent .most) (good .is-sound)));
-    later-bytes = later written w (r .value) x size (given .1 .lent);
+    later-bytes = rw (given .1, size) (drop-overwrite written w);
   }
 
   -- tables of these lengths, as question 2 has them
@@ -354,53 +329,40 @@ module _ (n : ℕ) (t : Tables) (w : List ℕ) (r : Value) (x : List ℕ) (d : W
   }
 
   -- the same tables come back
-  pub read-what-was-written : Entries-below 256 (t .links) → (u : Tables) (q : ℕ) (v : Tables) → lengths-of u ≡ lengths-of t
-      → Read-contract n (take (r .value) x) u q v → (q ≡ 0) × (v ≡ t)
-  unfolding tables-of
-  read-what-was-written bytes u q v e f =
-      let bs = take (r .value) x in
-      let c = by-zero (read-refusal n (lengths-of u) bs) (Read-accepted n bs q v) (λ k. Tables-refused k q u v) (read-accepts u e) (read-fields n bs u q v .0 f) in (
-        c .number,
-        tables-ext v (tables-of (image-graph n bs) (image-order n bs)) (c .links) (c .numbers) (c .order)
-            ∙ ap (λ (ys : List ℕ). tables-of (image-graph n ys) (image-order n ys)) bytes-written
-            ∙ tables-read-written n t (good .lent .most) (sized bytes) (good .is-sound),
-      )
+  pub read-what-was-written :
+      Entries-below 256 (t .links) → (u : Tables) → lengths-of u ≡ lengths-of t →
+      read-outcome n (take (write-outcome n t w .reply .value) (write-outcome n t w .lent)) u ≡ numbered 0 t
+  unfolding read-outcome
+  read-what-was-written bytes u e =
+      rw bytes-written (by-zero _ _ _ (read-accepts u e) refl)
+      ∙ ap (numbered 0) (tables-read-written n t (good .lent .most) (sized bytes) (good .is-sound))
 
-pub read-right : (n : ℕ) (bs : List ℕ) (t : Tables) (r : ℕ) (v : Tables) → Read-contract n bs t r v → r ≡ 0 → Read-right n bs v
-unfolding image-graph tables-of sound
-read-right n bs t r v d z =
-    let c = accepted (read-refusal n (lengths-of t) bs) (Read-accepted n bs r v) (λ q. Tables-refused q r t v) r (λ q e. e .number) (read-fields n bs t r v .0 d) z in
+pub read-right : (n : ℕ) (bs : List ℕ) (t : Tables) → let o = read-outcome n bs t in o .reply ≡ 0 → Read-right n bs (o .tables)
+unfolding read-outcome image-graph tables-of sound
+read-right n bs t z =
+    let c = accepted-is (λ (o : Numbered). o .reply) (read-outcome n bs t) _ _ _ (λ q. refl) refl z in
     let a = read-zero n (lengths-of t) bs (c .0) in
     let g = image-graph n bs in
     let xs = image-order n bs in
     let valid : Valid max-neighbours g xs = image-valid n bs (a .0 .most) (a .2) in
-    let is : v ≡ tables-of g xs = tables-ext v (tables-of g xs) (c .1 .links) (c .1 .numbers) (c .1 .order) in
-    record {
-      is-sound = ap (sound n) is ∙ valid-sound max-neighbours g xs (a .0 .most) valid;
-      graph = ap (graph-in n) (c .1 .links) ∙ graph-in-links-table g (a .0 .most) (valid .links-proper) (valid .links-ascending);
-      right = numbers-right g v (c .1 .numbers) (ap (is-k-order g) (c .1 .order) ∙ valid .k-order);
-      same-bytes = ap (image-of g) (c .1 .order) ∙ written-read n bs (a .2);
-    }
+    rw (c .1) (record {
+      is-sound = valid-sound max-neighbours g xs (a .0 .most) valid;
+      graph = graph-in-links-table g (a .0 .most) (valid .links-proper) (valid .links-ascending);
+      right = numbers-right g (tables-of g xs) refl (valid .k-order);
+      same-bytes = written-read n bs (a .2);
+    })
 
 -- ---- the block reader
 
-pub block-right : (bs : List ℕ) (i : ℕ) (r : Block) → Block-contract bs i r → r .number ≡ 0 → Block-part bs i r ⊎ Block-end bs i r
-unfolding Block-accepted payload-at
-block-right bs i r d z =
-    let there = ltb i (length bs / block-bytes) in
-    let c = accepted (block-refusal bs) (Block-accepted there i r) (λ q. Block-none q 0 i r) (r .number) (λ q e. e .number) (block-fields bs i r .0 d) z in
-    go there refl (c .1)
-  where
-    go : (b : Bool) → ltb i (length bs / block-bytes) ≡ b → Block-accepted b i r → Block-part bs i r ⊎ Block-end bs i r
-    go true e c =
-        let l : i < length bs / block-bytes = ltb-true i (length bs / block-bytes) e in
-        inl (record {
-          is-block = l;
-          not-end = c .end;
-          starts = c .offset;
-          long = c .length;
-          inside = omega (arith, c .offset, c .length);
-          payload = rw (c .offset, c .length);
-          moves = c .next;
-        })
-    go false e c = inr (record { past = ltb-false i (length bs / block-bytes) e; none = none-fields 0 1 i r .1 c })
+block-given : (there : Bool) (bs : List ℕ) (i : ℕ) → ltb i (length bs / block-bytes) ≡ there → let o = block-or-end there i in Block-part bs i o ⊎ Block-end bs i o
+unfolding block-or-end payload-at
+block-given true bs i e =
+    let l : i < length bs / block-bytes = ltb-true i (length bs / block-bytes) e in
+    inl (record { is-block = l; not-end = refl; starts = refl; long = refl; inside = omega arith; payload = refl; moves = refl })
+block-given false bs i e = inr (record { past = ltb-false i (length bs / block-bytes) e; none = refl })
+
+pub block-right : (bs : List ℕ) (i : ℕ) → let o = block-outcome bs i in o .number ≡ 0 → Block-part bs i o ⊎ Block-end bs i o
+unfolding block-outcome no-block
+block-right bs i z =
+    let c = accepted-is (λ (o : Block). o .number) (block-outcome bs i) _ _ _ (λ q. refl) refl z in
+    rw (c .1) (block-given _ bs i refl)

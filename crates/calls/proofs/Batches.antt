@@ -18,22 +18,16 @@ use Rattle.mesh.specs.Limits.{max-neighbours}
 use Rattle.mesh.specs.Graph.{Link, Graph, graph, link-before, with-link, relinked, new-links}
 use Rattle.mesh.specs.Tables.{Tables, graph-in}
 use Rattle.mesh.specs.Sound.{sound}
-use Rattle.mesh.specs.Valid.{Allowed}
 use Rattle.mesh.proofs.Tables.DegreeSum.{links-most}
 use Rattle.calls.specs.Questions.{lengths-of, site-refusal, ends-refusal, link-refusal}
-use Rattle.calls.specs.Fields.{By-number, Link-accepted, Link-refused, Batch-done, Batch-refused}
 use Rattle.calls.specs.Switches.{Switch, switch, pairs-after, switched, tables-after, All-allowed}
 use Rattle.calls.specs.Batches.{list-length, batch-refusal, up-refusal, unless, then, batch-switches, batch-stop, ups}
-use Rattle.calls.specs.Contracts.{Link-contract, Batch-contract}
+use Rattle.calls.specs.Outcomes.{by-number, Batched, batched, value, link-outcome, links-taken, batch-outcome}
 use Rattle.calls.specs.Results.{Batch-stopped, Batch-single, Batch-right}
-use Rattle.calls.specs.declared.Reply.{Reply}
-use Rattle.calls.specs.declared.Value.{Value}
 use Rattle.calls.proofs.QuestionLaws.{true-answer-length}
 use Rattle.calls.proofs.ChainLaws.{site-zero, site-yes, site-stops, ends-zero}
-use Rattle.calls.proofs.FieldLaws.{link-fields, batch-fields}
-use Rattle.calls.proofs.ContractLaws.{answer, by-zero, by-cases}
-use Rattle.calls.proofs.RecordLaws.{tables-ext}
-use Rattle.calls.proofs.SoundSwitches.{Good, good-valid, good-right, switched-good, switched-graph, all-good}
+use Rattle.calls.proofs.ContractLaws.{by-zero, by-cases}
+use Rattle.calls.proofs.SoundSwitches.{Good, good-valid, good-right, switched-graph, all-good}
 
 -- ---- every link taken up is allowed
 
@@ -157,16 +151,19 @@ module _ {n : ℕ} {xs : List ℕ} {t : Tables} {k : ℕ} {u : Tables} where
         links = omega (arith, ap length f, length-new-links a b (pairs n u), w .links);
       }
 
-  pub batch-ended : Batch-left n xs t k [] u → Batch-done n xs (pairs n t) t (answer 0 k) u
-  unfolding batch-stop batch-switches tables-after
-  batch-ended w = record { number = sym (w .stop); value = sym (w .count ∙ omega arith); tables = sym (w .tables) }
+  pub batch-ended : Batch-left n xs t k [] u → batched (value 0 k) u ≡ links-taken n xs t
+  unfolding links-taken batch-stop batch-switches tables-after
+  batch-ended w =
+      let many : length (batch-switches n xs (pairs n t)) ≡ k = w .count ∙ omega arith in rw (w .stop, many, w .tables)
 
   pub batch-halted : (a b q : ℕ) (ys : List ℕ) → Batch-left n xs t k (a ∷ b ∷ ys) u → q ≡ ends-refusal max-neighbours true n a b (graph-in n (u .links)) → (q ≡ 0 → ⊥)
-      → Batch-done n xs (pairs n t) t (answer q k) u
-  unfolding batch-stop batch-switches then unless tables-after graph-in
+      → batched (value q k) u ≡ links-taken n xs t
+  unfolding links-taken batch-stop batch-switches then unless tables-after graph-in
   batch-halted a b zero ys w e h = absurd (h refl)
   batch-halted a b (suc q) ys w e h =
-      record { number = sym (w .stop ∙ rw (← e)); value = sym (w .count ∙ rw (← e) (omega arith)); tables = sym (w .tables ∙ rw (← e)) }
+      let stop : batch-stop n xs (pairs n t) ≡ suc q = w .stop ∙ rw (← e) in
+      let many : length (batch-switches n xs (pairs n t)) ≡ k = w .count ∙ rw (← e) (omega arith) in
+      let left : tables-after n (batch-switches n xs (pairs n t)) t ≡ u = w .tables ∙ rw (← e) in rw (stop, many, left)
 
   -- a site has at most 10,240 links
   pub batch-few : (ys : List ℕ) → Batch-left n xs t k ys u → Good n u → k ≤ 10240
@@ -175,65 +172,69 @@ module _ {n : ℕ} {xs : List ℕ} {t : Tables} {k : ℕ} {u : Tables} where
 
 -- ---- what a caller has after a batch
 
-module _ (n : ℕ) (xs : List ℕ) (t : Tables) (r : Value) (v : Tables) where
+module _ (n : ℕ) (xs : List ℕ) (t : Tables) where
   abbrev ps : List Link
   ps = pairs n t
 
   abbrev R : ℕ
   R = batch-refusal n (lengths-of t) (length xs) (sound n t)
 
-  abbrev Done : Type 0
-  Done = Batch-done n xs ps t r v
-
   -- 1 to 3 got yes
-  module _ (zero-is : R ≡ 0) (d : Done) where
+  module _ (zero-is : R ≡ 0) where
     asked : Good n t × (list-length (length xs) ≡ true)
     unfolding batch-refusal
     asked =
         let s = site-zero n (lengths-of t) (list-length (length xs)) (sound n t) 0 zero-is .0 in
         (record { lent = record { least = s .lent .least; most = s .lent .most; lengths = s .lent .lengths; further = refl }; is-sound = s .is-sound }, s .lent .further)
 
+    abbrev v : Tables
+    v = tables-after n (batch-switches n xs ps) t
+
     after : Good n v × (graph-in n (v .links) ≡ graph n (pairs-after (batch-switches n xs ps) ps))
     unfolding graph-in
-    after =
-        subst (λ (o : Tables). Good n o × (graph-in n (o .links) ≡ graph n (pairs-after (batch-switches n xs ps) ps))) (sym (d .tables))
-        (all-good n ps (batch-switches n xs ps) t (asked .0) refl (batch-allowed n xs ps))
+    after = all-good n ps (batch-switches n xs ps) t (asked .0) refl (batch-allowed n xs ps)
 
-    front : batch-switches n xs ps ≡ ups (take (2 * r .value) xs)
-    front = batch-front n xs ps ∙ ap (λ (k : ℕ). ups (take (2 * k) xs)) (sym (d .value))
-
-    done-right : Batch-right n xs t v r
-    unfolding list-length
-    done-right = record {
-      graph = after .1 ∙ ap (λ (ss : List Switch). graph n (pairs-after ss ps)) front;
+    taken-right : let o = links-taken n xs t in Batch-right n xs t (o .tables) (o .reply)
+    unfolding links-taken list-length
+    taken-right = record {
+      graph = after .1 ∙ ap (λ (ss : List Switch). graph n (pairs-after ss ps)) (batch-front n xs ps);
       right = good-right n v (after .0);
-      all = λ z. omega (arith, d .value, ap length (batch-all n xs ps (sym (d .number) ∙ z)), length-ups xs (eqb-true (length xs % 2) 0 (asked .1)));
+      all = λ z. omega (arith, ap length (batch-all n xs ps z), length-ups xs (eqb-true (length xs % 2) 0 (asked .1)));
     }
 
-    done-stopped : (r .number ≡ 0 → ⊥) → Batch-stopped n xs t r v
-    unfolding graph-in
-    done-stopped h =
-        let s = stop-at n xs ps (λ z. h (d .number ∙ z)) in
+    taken-stopped : let o = links-taken n xs t in (o .reply .number ≡ 0 → ⊥) → Batch-stopped n xs t (o .reply) (o .tables)
+    unfolding links-taken graph-in
+    taken-stopped h =
+        let s = stop-at n xs ps h in
         record {
-          there = omega (arith, d .value, s .there);
-          done = d .tables ∙ ap (λ (ss : List Switch). tables-after n ss t) front;
-          refused = d .number ∙ s .refused ∙ rw (after .1, d .value);
+          there = s .there;
+          done = ap (λ (ss : List Switch). tables-after n ss t) (batch-front n xs ps);
+          refused = s .refused ∙ rw (after .1);
         }
 
-  pub batch-right : Batch-contract n xs t r v → R ≡ 0 → Batch-right n xs t v r
-  batch-right c z = done-right z (by-zero R Done (λ q. Batch-refused q t r v) z (batch-fields n xs t r v .0 c))
+  pub batch-right : R ≡ 0 → let o = batch-outcome n xs t in Batch-right n xs t (o .tables) (o .reply)
+  unfolding batch-outcome
+  batch-right z = rw (by-zero {o = batch-outcome n xs t} _ _ _ z refl) (taken-right z)
 
   -- a number beside which a change may stand is that of a link
-  pub batch-keeps : Batch-contract n xs t r v → (r .number ≡ 0 → ⊥) → Batch-refused (r .number) t r v ⊎ Batch-stopped n xs t r v
-  batch-keeps c h = go (by-cases R Done (λ q. Batch-refused q t r v) (batch-fields n xs t r v .0 c))
+  pub batch-keeps :
+      let o = batch-outcome n xs t in
+      (o .reply .number ≡ 0 → ⊥) → (o ≡ batched (value (o .reply .number) 0) t) ⊎ Batch-stopped n xs t (o .reply) (o .tables)
+  unfolding batch-outcome
+  batch-keeps h = go (by-cases {o = batch-outcome n xs t} _ _ _ refl)
     where
-      go : ((R ≡ 0) × Done) ⊎ ((R ≡ 0 → ⊥) × Batch-refused R t r v) → Batch-refused (r .number) t r v ⊎ Batch-stopped n xs t r v
-      go (inl p) = inr (done-stopped (p .0) (p .1) h)
-      go (inr p) = inl (record { number = refl; value = p .1 .value; tables = p .1 .tables })
+      o : Batched
+      o = batch-outcome n xs t
+
+      go : ((R ≡ 0) × (o ≡ links-taken n xs t)) ⊎ ((R ≡ 0 → ⊥) × (o ≡ batched (value R 0) t)) →
+          (o ≡ batched (value (o .reply .number) 0) t) ⊎ Batch-stopped n xs t (o .reply) (o .tables)
+      go (inl (z, e)) =
+          inr (subst (λ (p : Batched). Batch-stopped n xs t (p .reply) (p .tables)) (sym e) (taken-stopped z (λ y. h (ap (λ (p : Batched). p .reply .number) e ∙ y))))
+      go (inr (z, e)) = inl (e ∙ ap (λ (q : ℕ). batched (value q 0) t) (sym (ap (λ (p : Batched). p .reply .number) e)))
 
 -- ---- a batch of one link
 
-module _ (n a b : ℕ) (t : Tables) (w : List ℕ) (q : Reply) (u : Tables) (x : List ℕ) (room : n ≤ length w) (r : Value) (v : Tables) where
+module _ (n a b : ℕ) (t : Tables) (w : List ℕ) (room : n ≤ length w) where
   abbrev g : Graph
   g = graph-in n (t .links)
 
@@ -247,44 +248,27 @@ module _ (n a b : ℕ) (t : Tables) (w : List ℕ) (q : Reply) (u : Tables) (x :
   unfolding link-refusal
   link-is = rw (true-answer-length n (length w) room)
 
+  abbrev Single : Type 0
+  Single =
+      let o = link-outcome true n a b t w in let s = batch-outcome n (a ∷ b ∷ []) t in
+      Batch-single (o .reply) (o .tables) (s .reply) (s .tables)
+
   -- the link was asked for: taken up, or refused
-  single : (R : ℕ) → ends-refusal max-neighbours true n a b g ≡ R → By-number R (Link-accepted true a b g t w q u x) (λ p. Link-refused p t w q u x)
-      → Batch-done n (a ∷ b ∷ []) (pairs n t) t r v → Batch-single q u r v
-  unfolding By-number batch-stop batch-switches then unless tables-after switched graph-in
-  single zero e c d = record {
-    number = d .number ∙ rw e (sym (c .number));
-    value = d .value ∙ rw (e, c .number);
-    tables = d .tables ∙ rw e (sym (tables-ext u _ (c .links) (c .numbers) (c .order)));
-  }
-  single (suc p) e c d = record {
-    number = d .number ∙ rw e (sym (c .number));
-    value = d .value ∙ rw (e, c .number, ne-eqb (suc p) 0 (λ z. omega arith)) refl;
-    tables = d .tables ∙ rw e (sym (tables-ext u t (c .links) (c .numbers) (c .order)));
-  }
+  taken : (E : ℕ) → ends-refusal max-neighbours true n a b g ≡ E → L ≡ E → S ≡ 0 → Single
+  unfolding link-outcome link-refusal batch-outcome batch-refusal list-length links-taken by-number batch-stop batch-switches then unless tables-after graph-in sound
+  taken zero e l s = rw (l, s, e) (record { number = refl; value = refl; tables = refl })
+  taken (suc q) e l s = rw (l, s, e) (record { number = refl; value = rw (ne-eqb (suc q) 0 (λ z. omega arith)) refl; tables = refl })
 
-  stopped-at : (i j : ℕ) → i ≡ j → (j ≡ 0 → ⊥) → By-number i (Link-accepted true a b g t w q u x) (λ p. Link-refused p t w q u x) → Link-refused j t w q u x
-  stopped-at i j e h c = pick (by-cases i (Link-accepted true a b g t w q u x) (λ p. Link-refused p t w q u x) c)
-    where
-      pick : ((i ≡ 0) × Link-accepted true a b g t w q u x) ⊎ ((i ≡ 0 → ⊥) × Link-refused i t w q u x) → Link-refused j t w q u x
-      pick (inl z) = absurd (h (sym e ∙ z .0))
-      pick (inr z) = subst (λ (m : ℕ). Link-refused m t w q u x) e (z .1)
+  -- neither was
+  refused : (q : ℕ) → L ≡ suc q → S ≡ suc q → Single
+  unfolding link-outcome link-refusal batch-outcome batch-refusal list-length by-number sound
+  refused q l s = rw (l, s) (record { number = refl; value = rw (ne-eqb (suc q) 0 (λ z. omega arith)) refl; tables = refl })
 
-  pub batch-single : Link-contract true n a b t w q u x → Batch-contract n (a ∷ b ∷ []) t r v → Batch-single q u r v
-  unfolding batch-refusal list-length
-  batch-single c d =
-      go (by-cases S (Batch-done n (a ∷ b ∷ []) (pairs n t) t r v) (λ p. Batch-refused p t r v) (batch-fields n (a ∷ b ∷ []) t r v .0 d))
+  pub batch-single : Single
+  batch-single = go S refl
     where
-      go : ((S ≡ 0) × Batch-done n (a ∷ b ∷ []) (pairs n t) t r v) ⊎ ((S ≡ 0 → ⊥) × Batch-refused S t r v) → Batch-single q u r v
-      go (inl p) =
-          let k = site-zero n (lengths-of t) true (sound n t) 0 (p .0) .0 in
-          let e : L ≡ ends-refusal max-neighbours true n a b g = link-is ∙ site-yes n (lengths-of t) true (sound n t) _ k in
-          single (ends-refusal max-neighbours true n a b g) refl
-          (subst (λ (i : ℕ). By-number i (Link-accepted true a b g t w q u x) (λ p. Link-refused p t w q u x)) e (link-fields true n a b t w q u x .0 c)) (p .1)
-      go (inr p) =
-          let e : L ≡ S = link-is ∙ site-stops n (lengths-of t) true (sound n t) _ (p .0) in
-          let l = stopped-at L S e (p .0) (link-fields true n a b t w q u x .0 c) in
-          record {
-            number = p .1 .number ∙ sym (l .number);
-            value = p .1 .value ∙ rw (l .number, ne-eqb S 0 (p .0));
-            tables = p .1 .tables ∙ sym (tables-ext u t (l .links) (l .numbers) (l .order));
-          }
+      go : (Q : ℕ) → S ≡ Q → Single
+      go zero s =
+          let k = site-zero n (lengths-of t) true (sound n t) 0 s .0 in
+          taken (ends-refusal max-neighbours true n a b g) refl (link-is ∙ site-yes n (lengths-of t) true (sound n t) _ k) s
+      go (suc q) s = refused q (link-is ∙ site-stops n (lengths-of t) true (sound n t) _ (λ z. omega (arith, s)) ∙ s) s

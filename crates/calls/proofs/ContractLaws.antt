@@ -1,60 +1,85 @@
--- Laws of the contracts, for the functions that meet them and for their callers. R is the number that the call's questions give.
---   by-accepted   R is 0: the accepted outcome meets the contract
---   by-refused    R is a refusal: the refused outcome meets it
---   by-zero       what a contract says where R is 0
---   by-cases      what a contract says: the call was accepted, or it was refused by R
+-- Laws of outcomes, for the functions that meet the contracts and for their callers. A contract is an equation with an outcome by the
+-- number R that the call's questions give: accepted where R is 0, else refused by R.
+--   number-by                 the number of an outcome is the one that the questions give
+--   by-accepted, by-refused   how a contract is met
+--   by-zero, by-other         what a contract says where R is 0, and where it is not
+--   by-cases                  what it says of any R
+--   accepted-is, refused-is   what it says where the result has the number 0, which is no refusal, and where it has another
 --   value-refused, value-answered       a contract that answers a value, met
 --   listing-refused, listing-answered   a contract that lists into a lent table, met
-use mathlib.Core.Path.{_≡_, refl, _∙_}
+use mathlib.Core.Path.{_≡_, refl, sym, ap, _∙_}
 use mathlib.Core.Logic.{_⊎_, inl, inr}
 use mathlib.Core.List.{List}
 use Prim.Native.Nat.{ℕ, zero, suc}
 use native.Mathlib.Omega.{arith}
 use Rattle.lists.specs.Lists.{overwrite}
-use Rattle.calls.specs.Fields.{By-number, Value-accepted, Value-refused, Value-by, Listing-accepted, Listing-refused, Listing-by}
-use Rattle.calls.specs.Outcomes.{listing, value-outcome, listing-outcome}
-use Rattle.calls.specs.declared.Value.{Value}
-use Rattle.calls.proofs.FieldLaws.{value-fields, listing-fields}
+use Rattle.calls.specs.Outcomes.{by-number, value, listing, value-outcome, listing-outcome}
 
-pub by-accepted : (R : ℕ) {A : Type 0} (B : ℕ → Type 0) → R ≡ 0 → A → By-number R A B
-unfolding By-number
-by-accepted R B e a = rw e a
+-- ---- by the number
 
-pub by-refused : (R : ℕ) (A : Type 0) (B : ℕ → Type 0) → (R ≡ 0 → ⊥) → B R → By-number R A B
-unfolding By-number
-by-refused zero A B h b = absurd (h refl)
-by-refused (suc q) A B h b = b
+pub number-by :
+    {A : Type 0} (number : A → ℕ) (R : ℕ) (a : A) (r : ℕ → A) → number a ≡ 0 → ((q : ℕ) → number (r q) ≡ q) → number (by-number R a r) ≡ R
+unfolding by-number
+number-by number zero a r e f = e
+number-by number (suc q) a r e f = f (suc q)
 
-pub by-zero : (R : ℕ) (A : Type 0) (B : ℕ → Type 0) → R ≡ 0 → By-number R A B → A
-unfolding By-number
-by-zero R A B e d = rw e at d
+-- how a contract is met
+pub by-accepted : {A : Type 0} {o a : A} (R : ℕ) (r : ℕ → A) → R ≡ 0 → o ≡ a → o ≡ by-number R a r
+unfolding by-number
+by-accepted R r e d = rw e d
 
-pub by-cases : (R : ℕ) (A : Type 0) (B : ℕ → Type 0) → By-number R A B → ((R ≡ 0) × A) ⊎ ((R ≡ 0 → ⊥) × B R)
-unfolding By-number
-by-cases zero A B d = inl (refl, d)
-by-cases (suc q) A B d = inr (λ e. omega arith, d)
+pub by-refused : {A : Type 0} {o : A} (R : ℕ) (a : A) (r : ℕ → A) → (R ≡ 0 → ⊥) → o ≡ r R → o ≡ by-number R a r
+unfolding by-number
+by-refused zero a r h d = absurd (h refl)
+by-refused (suc q) a r h d = d
+
+-- what a contract says
+pub by-zero : {A : Type 0} {o : A} (R : ℕ) (a : A) (r : ℕ → A) → R ≡ 0 → o ≡ by-number R a r → o ≡ a
+unfolding by-number
+by-zero R a r e d = rw e at d
+
+pub by-other : {A : Type 0} {o : A} (R : ℕ) (a : A) (r : ℕ → A) → (R ≡ 0 → ⊥) → o ≡ by-number R a r → o ≡ r R
+unfolding by-number
+by-other zero a r h d = absurd (h refl)
+by-other (suc q) a r h d = d
+
+pub by-cases : {A : Type 0} {o : A} (R : ℕ) (a : A) (r : ℕ → A) → o ≡ by-number R a r → ((R ≡ 0) × (o ≡ a)) ⊎ ((R ≡ 0 → ⊥) × (o ≡ r R))
+unfolding by-number
+by-cases zero a r d = inl (refl, d)
+by-cases (suc q) a r d = inr (λ e. omega arith, d)
+
+pub accepted-is :
+    {A : Type 0} (number : A → ℕ) (o : A) (R : ℕ) (a : A) (r : ℕ → A) → ((q : ℕ) → number (r q) ≡ q) → o ≡ by-number R a r →
+    number o ≡ 0 → (R ≡ 0) × (o ≡ a)
+unfolding by-number
+accepted-is number o zero a r f d z = (refl, d)
+accepted-is number o (suc q) a r f d z = absurd (omega (arith, sym (f (suc q)) ∙ sym (ap number d) ∙ z))
+
+pub refused-is :
+    {A : Type 0} (number : A → ℕ) (o : A) (R : ℕ) (a : A) (r : ℕ → A) → number a ≡ 0 → ((q : ℕ) → number (r q) ≡ q) →
+    o ≡ by-number R a r → (number o ≡ 0 → ⊥) → o ≡ r (number o)
+unfolding by-number
+refused-is number o zero a r e f d h = absurd (h (ap number d ∙ e))
+refused-is number o (suc q) a r e f d h = d ∙ ap r (sym (ap number d ∙ f (suc q)))
 
 -- ---- any value
 
-abbrev pub answer : (number value : ℕ) → Value
-answer q x = record { number = q; value = x }
+pub value-refused : (R x q : ℕ) → q ≡ R → (q ≡ 0 → ⊥) → value q 0 ≡ value-outcome R x
+unfolding value-outcome
+value-refused R x q e h = by-refused R _ _ (λ z. h (e ∙ z)) (rw e)
 
-pub value-refused : (R x q : ℕ) → q ≡ R → (q ≡ 0 → ⊥) → answer q 0 ≡ value-outcome R x
-value-refused R x q e h =
-    value-fields R x (answer q 0) .1
-    (by-refused R (Value-accepted x (answer q 0)) (λ p. Value-refused p (answer q 0)) (λ z. h (e ∙ z)) (record { number = e; value = refl }))
-
-pub value-answered : (R x y : ℕ) → R ≡ 0 → y ≡ x → answer 0 y ≡ value-outcome R x
-value-answered R x y e h = value-fields R x (answer 0 y) .1 (by-accepted R (λ p. Value-refused p (answer 0 y)) e (record { number = refl; value = h }))
+pub value-answered : (R x y : ℕ) → R ≡ 0 → y ≡ x → value 0 y ≡ value-outcome R x
+unfolding value-outcome
+value-answered R x y e h = by-accepted R _ e (rw h)
 
 -- ---- any listing
 
-pub listing-refused : (R x : ℕ) (new old : List ℕ) (q : ℕ) → q ≡ R → (q ≡ 0 → ⊥) → listing (answer q 0) old ≡ listing-outcome R x new old
-listing-refused R x new old q e h =
-    listing-fields R x new old (answer q 0) old .1
-    (by-refused R (Listing-accepted x new old (answer q 0) old) (λ p. Listing-refused p old (answer q 0) old) (λ z. h (e ∙ z))
-    (record { number = e; value = refl; lent = refl }))
+pub listing-refused : (R x : ℕ) (new old : List ℕ) (q : ℕ) → q ≡ R → (q ≡ 0 → ⊥) → listing (value q 0) old ≡ listing-outcome R x new old
+unfolding listing-outcome
+listing-refused R x new old q e h = by-refused R _ _ (λ z. h (e ∙ z)) (rw e)
 
-pub listing-answered : (R x : ℕ) (new old : List ℕ) (y : ℕ) (now : List ℕ) → R ≡ 0 → y ≡ x → now ≡ overwrite new old → listing (answer 0 y) now ≡ listing-outcome R x new old
-listing-answered R x new old y now e h l =
-    listing-fields R x new old (answer 0 y) now .1 (by-accepted R (λ p. Listing-refused p old (answer 0 y) now) e (record { number = refl; value = h; lent = l }))
+pub listing-answered :
+    (R x : ℕ) (new old : List ℕ) (y : ℕ) (now : List ℕ) → R ≡ 0 → y ≡ x → now ≡ overwrite new old →
+    listing (value 0 y) now ≡ listing-outcome R x new old
+unfolding listing-outcome
+listing-answered R x new old y now e h l = by-accepted R _ e (rw (h, l))

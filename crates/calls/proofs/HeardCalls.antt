@@ -5,7 +5,7 @@
 --   hear-links       afterwards the links are exactly the agreed ones
 --   hear-right       what a caller has after an accepted hearing (property 2)
 --   hear-same        a table that hears what is linked changes nothing
-use mathlib.Core.Path.{_≡_, refl, sym, ap, ap₂, subst, _∙_}
+use mathlib.Core.Path.{_≡_, refl, sym, ap, ap₂, _∙_}
 use mathlib.Core.Logic.{_⊎_, inl, inr}
 use mathlib.Core.Bool.{Bool, true, false, _&&_, not}
 use mathlib.Core.List.{List, [], _++_, map}
@@ -33,13 +33,10 @@ use Rattle.calls.specs.Questions.{lengths-of}
 use Rattle.calls.specs.Switches.{Switch, switch, tables-after, All-allowed}
 use Rattle.calls.specs.Heard.{agreed, heard-alone, one-sided, one-sided-count, heard-lengths, heard-proper, agreed-few, hear-refusal}
 use Rattle.calls.specs.Heard.{row-switches, switches-where, goes-down, comes-up, heard-switches}
-use Rattle.calls.specs.Fields.{Hear-accepted, Hear-refused}
-use Rattle.calls.specs.Contracts.{Hear-contract}
+use Rattle.calls.specs.Outcomes.{value, hear-outcome}
 use Rattle.calls.specs.Results.{Hear-right}
-use Rattle.calls.specs.declared.Value.{Value}
 use Rattle.calls.proofs.QuestionLaws.{ask-zero}
 use Rattle.calls.proofs.ChainLaws.{site-zero}
-use Rattle.calls.proofs.FieldLaws.{hear-fields}
 use Rattle.calls.proofs.ContractLaws.{by-zero}
 use Rattle.calls.proofs.SoundSwitches.{Good, good-right, all-good}
 use Rattle.calls.proofs.HeardLaws.{agreed-links, agreed-linked, hear-allowed, hear-pairs}
@@ -141,21 +138,20 @@ module _ (n : ℕ) (hs : List ℕ) (t : Tables) (w : ℕ) (q : Heard-good n hs w
           within-of n (end .links) end-within a b la nb lb
           ∙ sym (ap (λ (x : Bool). x && marked hs b a) (heard-none n hs (q .is-proper) a b la nb lb))
 
-  module _ (r : Value) (v : Tables) (x : List ℕ) (d : Hear-accepted n hs t r v x) where
-    accepted-right : Hear-right n hs t v r x
-    accepted-right = record {
-      allowed = allowed;
-      links = λ a b la lb. ap (λ (o : Tables). marked (o .links) a b) (d .tables) ∙ hear-links a b la lb;
-      right = good-right n v (subst (Good n) (sym (d .tables)) (after .0));
-      marks = λ a b la lb. ap (λ (y : List ℕ). marked y a b) (d .further) ∙ one-sided-marked n hs a b la lb;
-      counted = d .value ∙ one-sided-bits n hs small (q .is-proper) ∙ ap (λ (y : List ℕ). total (row-degree y) (range 0 n)) (sym (d .further));
-    }
+  accepted-right : Hear-right n hs t end (value 0 (one-sided-count n hs)) (one-sided n hs)
+  accepted-right = record {
+    allowed = allowed;
+    links = hear-links;
+    right = good-right n end (after .0);
+    marks = one-sided-marked n hs;
+    counted = one-sided-bits n hs small (q .is-proper);
+  }
 
 pub hear-right :
-    (n : ℕ) (hs : List ℕ) (t : Tables) (w : List ℕ) (r : Value) (v : Tables) (x : List ℕ) → Hear-contract n hs t w r v x →
-    hear-refusal n (lengths-of t) hs (length w) (sound n t) ≡ 0 → Hear-right n hs t v r x
-hear-right n hs t w r v x c z =
-    accepted-right n hs t (length w) (hear-zero n hs (length w) t z) r v x (by-zero _ (Hear-accepted n hs t r v x) (λ q. Hear-refused q t w r v x) z (hear-fields n hs t w r v x .0 c))
+    (n : ℕ) (hs : List ℕ) (t : Tables) (w : List ℕ) → hear-refusal n (lengths-of t) hs (length w) (sound n t) ≡ 0 →
+    let o = hear-outcome n hs t w in Hear-right n hs t (o .tables) (o .reply) (o .one-sided)
+unfolding hear-outcome
+hear-right n hs t w z = rw (by-zero {o = hear-outcome n hs t w} _ _ _ z refl) (accepted-right n hs t (length w) (hear-zero n hs (length w) t z))
 
 -- ---- a heard table that marks the links
 

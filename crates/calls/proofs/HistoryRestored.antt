@@ -3,7 +3,7 @@
 --                      set: the history, with the clearing or read image that it began from, is the one at the setting
 use mathlib.Core.Path.{_≡_, refl, sym, ap, ap₂, _∙_}
 use mathlib.Core.Logic.{_⊎_, inl, inr}
-use mathlib.Core.Bool.{Bool, true, false, _&&_, not, cond}
+use mathlib.Core.Bool.{Bool, true, false, not, cond}
 use mathlib.Core.List.{List, [], _∷_, _++_}
 use mathlib.Core.Option.{none, some}
 use Prim.Native.Nat.{ℕ, zero, suc, _≤_}
@@ -12,14 +12,14 @@ use Rattle.mesh.specs.Limits.{max-radios}
 use Rattle.lists.specs.Lists.{same}
 use Rattle.lists.proofs.All.{same-refl, same-eq}
 use Rattle.lists.proofs.Tests.{and-left, and-right, bool-cases, never}
-use Rattle.mesh.specs.Graph.{Link, Graph, graph}
+use Rattle.mesh.specs.Graph.{Link, Graph}
 use Rattle.mesh.specs.Tables.{Tables, tables-of, graph-in}
 use Rattle.mesh.specs.Image.{image-of, image-graph, image-order, is-image}
 use Rattle.mesh.proofs.Tables.ReadBack.{graph-in-links-table}
 use Rattle.mesh.proofs.Tables.Sites.{image-valid}
 use Rattle.mesh.proofs.Images.Sites.{written-read}
 use Rattle.calls.specs.Questions.{Lengths, lengths-of}
-use Rattle.calls.specs.Marks.{store-length, set-refusal, named-refusal, mark-image}
+use Rattle.calls.specs.Marks.{set-refusal, named-refusal, mark-image}
 use Rattle.calls.specs.Switches.{pairs-after, tables-after}
 use Rattle.calls.specs.Book.{Call, from-image, Marking, no-mark, sets, removes, returns, Outcome, outcome-with, unless-refused, outcome, setting, returning, Answer, plain}
 use Rattle.calls.specs.Book.{Given, given, booked, first-pairs, pairs-of, book-after, radios, beginning-tables, History, fresh, history-by, image-at, Marked, Past, past}
@@ -28,10 +28,10 @@ use Rattle.calls.specs.MarkOutcomes.{set-outcome, return-outcome}
 use Rattle.calls.specs.Runs.{done, Event, event, events, after, givens}
 use Rattle.calls.proofs.Runs.{Run, Does, run, events-append}
 use Rattle.calls.specs.Demand.{Start, beginning}
-use Rattle.calls.proofs.Holds.{Holds, same-n, read-back}
+use Rattle.calls.proofs.Holds.{read-back}
 use Rattle.calls.proofs.MarkCalls.{named-zero, mark-is-image}
 use Rattle.calls.proofs.Steps.{step}
-use Rattle.calls.proofs.Histories.{Traced, Past-holds, image-is, order-is, past-kept}
+use Rattle.calls.proofs.Histories.{Past-holds, image-is, order-is, past-kept}
 use Rattle.calls.proofs.WholeList.{start-past}
 
 -- ---- what is recalled

@@ -24,10 +24,11 @@ use Rattle.mesh.proofs.Links.Laws.{link-valid, link-table}
 use Rattle.mesh.specs.Valid.{Valid, Allowed}
 use Rattle.calls.specs.Questions.{lengths-of, site-refusal, tables-refusal, read-refusal}
 use Rattle.calls.specs.Switches.{Switch, pairs-after, switched, tables-after, All-allowed}
-use Rattle.calls.specs.Fields.{Clear-accepted, Read-accepted}
+use Rattle.calls.specs.Outcomes.{numbered, clear-outcome, read-outcome}
 use Rattle.calls.specs.Book.{reported, from-clearing, from-image, beginning-tables}
 use Rattle.calls.specs.Demand.{Link-kept, Switching, ended, next}
 use Rattle.calls.proofs.ChainLaws.{Lent-good, lent-zero, lent-later, read-zero}
+use Rattle.calls.proofs.ContractLaws.{by-zero}
 use Rattle.calls.proofs.RecordLaws.{tables-ext}
 use Rattle.calls.proofs.LinkKept.{link-kept}
 
@@ -40,30 +41,29 @@ pub record Holds (n : ℕ) (ps : List Link) (t : Tables) : Type 0 where
 -- ---- after an accepted clearing or reading
 
 -- the tables that it leaves
-pub clear-is : (m r : ℕ) (v : Tables) → Clear-accepted m r v → v ≡ beginning-tables (from-clearing m)
-unfolding beginning-tables tables-of
-clear-is m r v d = tables-ext v _ (d .links ∙ sym (links-table-cleared m)) (d .numbers ∙ sym (numbers-cleared m)) (d .order)
+pub clear-is : (m : ℕ) (t : Tables) → tables-refusal m (lengths-of t) ≡ 0 → clear-outcome m t ≡ numbered 0 (beginning-tables (from-clearing m))
+unfolding clear-outcome beginning-tables tables-of
+clear-is m t p = by-zero _ _ _ p refl ∙ rw (links-table-cleared m, numbers-cleared m)
 
-pub read-is : (m : ℕ) (bs : List ℕ) (r : ℕ) (v : Tables) → Read-accepted m bs r v → v ≡ beginning-tables (from-image m bs)
-unfolding beginning-tables tables-of
-read-is m bs r v d = tables-ext v _ (d .links) (d .numbers) (d .order)
+pub read-is :
+    (m : ℕ) (bs : List ℕ) (t : Tables) → read-refusal m (lengths-of t) bs ≡ 0 → read-outcome m bs t ≡ numbered 0 (beginning-tables (from-image m bs))
+unfolding read-outcome beginning-tables
+read-is m bs t p = by-zero _ _ _ p refl
 
-pub clear-holds : (m r : ℕ) (t v : Tables) → tables-refusal m (lengths-of t) ≡ 0 → Clear-accepted m r v → Holds m [] v
+pub clear-holds : (m : ℕ) (t : Tables) → tables-refusal m (lengths-of t) ≡ 0 → Holds m [] (beginning-tables (from-clearing m))
 unfolding tables-refusal beginning-tables
-clear-holds m r t v p d = record {
+clear-holds m t p = record {
   most = lent-zero m (lengths-of t) true 0 p .0 .most;
   xs = range 0 m;
   valid = valid-cleared m max-neighbours;
-  is = clear-is m r v d;
+  is = refl;
 }
 
-pub read-holds :
-    (m : ℕ) (bs : List ℕ) (r : ℕ) (t v : Tables) → read-refusal m (lengths-of t) bs ≡ 0 → Read-accepted m bs r v →
-    Holds m (image-links m bs) v
+pub read-holds : (m : ℕ) (bs : List ℕ) (t : Tables) → read-refusal m (lengths-of t) bs ≡ 0 → Holds m (image-links m bs) (beginning-tables (from-image m bs))
 unfolding read-refusal beginning-tables image-graph
-read-holds m bs r t v p d =
+read-holds m bs t p =
     let q = read-zero m (lengths-of t) bs p in
-    record { most = q .0 .most; xs = image-order m bs; valid = image-valid m bs (q .0 .most) (q .2); is = read-is m bs r v d }
+    record { most = q .0 .most; xs = image-order m bs; valid = image-valid m bs (q .0 .most) (q .2); is = refl }
 
 -- ---- tables that hold the pairs
 

@@ -2,7 +2,7 @@
 --   image-answered   the image of sound tables with this n, with another n, or of none
 --   eleven-iff       11 is the answer to bytes that are the image of no sound tables, and to no others
 --   read-eleven      so it is of the number that reading answers
-use mathlib.Core.Path.{_≡_, refl, sym, subst, _∙_}
+use mathlib.Core.Path.{_≡_, refl, subst, _∙_}
 use mathlib.Core.Logic.{_↔_, _⊎_, inl, inr}
 use mathlib.Core.Bool.{Bool, true, false, not}
 use mathlib.Core.List.{List}
@@ -16,12 +16,10 @@ use Rattle.lists.proofs.Tests.{bool-cases, never}
 use Rattle.mesh.proofs.Images.Tables.{is-image-tables}
 use Rattle.mesh.proofs.Images.OtherSize.{other-size-iff, is-image-not-other}
 use Rattle.calls.specs.Questions.{ask, lengths-of, size-good, site-lengths, lent-refusal, blocks-refusal, image-refusal, read-refusal}
-use Rattle.calls.specs.Fields.{Read-accepted, Tables-refused}
-use Rattle.calls.specs.Contracts.{Read-contract}
+use Rattle.calls.specs.Outcomes.{Numbered, read-outcome}
 use Rattle.calls.specs.Results.{Image-answered}
 use Rattle.calls.proofs.QuestionLaws.{size-good-true}
-use Rattle.calls.proofs.FieldLaws.{read-fields}
-use Rattle.calls.proofs.ContractLaws.{by-cases}
+use Rattle.calls.proofs.ContractLaws.{number-by}
 
 module _ (n : ℕ) (bs : List ℕ) (one : size-good n ≡ true) where
   of-this-size : (is-image n bs ≡ true) ↔ Tables-image n bs
@@ -63,20 +61,11 @@ module _ (n : ℕ) (bs : List ℕ) (one : size-good n ≡ true) where
   pub eleven-iff : whole-blocks bs ≡ true → checks-good bs ≡ true → (image-refusal n bs ≡ 11) ↔ Image-of-none bs
   eleven-iff nine ten = image-answered nine ten .none
 
--- the number that reading answers
-read-number : (n : ℕ) (bs : List ℕ) (t : Tables) (r : ℕ) (v : Tables) → Read-contract n bs t r v → r ≡ read-refusal n (lengths-of t) bs
-read-number n bs t r v d = go (by-cases R (Read-accepted n bs r v) (λ q. Tables-refused q r t v) (read-fields n bs t r v .0 d))
-  where
-    R : ℕ
-    R = read-refusal n (lengths-of t) bs
-
-    go : ((R ≡ 0) × Read-accepted n bs r v) ⊎ ((R ≡ 0 → ⊥) × Tables-refused R r t v) → r ≡ R
-    go (inl p) = p .1 .number ∙ sym (p .0)
-    go (inr p) = p .1 .number
-
--- where 1, 2, 9 and 10 get yes
-pub read-eleven : (n : ℕ) (bs : List ℕ) (t : Tables) (r : ℕ) (v : Tables) → Read-contract n bs t r v → size-good n ≡ true
-    → site-lengths n (lengths-of t) ≡ true → whole-blocks bs ≡ true → checks-good bs ≡ true → Image-answered n bs r
-unfolding read-refusal lent-refusal image-refusal blocks-refusal ask
-read-eleven n bs t r v d one two nine ten =
-    answered n bs one (other-size n bs) (is-image n bs) r refl refl (read-number n bs t r v d ∙ rw (one, two, nine, ten))
+-- of the number that reading answers, where 1, 2, 9 and 10 get yes
+pub read-eleven :
+    (n : ℕ) (bs : List ℕ) (t : Tables) → size-good n ≡ true → site-lengths n (lengths-of t) ≡ true → whole-blocks bs ≡ true → checks-good bs ≡ true →
+    Image-answered n bs (read-outcome n bs t .reply)
+unfolding read-outcome read-refusal lent-refusal image-refusal blocks-refusal ask
+read-eleven n bs t one two nine ten =
+    answered n bs one (other-size n bs) (is-image n bs) _ refl refl
+    (number-by (λ (o : Numbered). o .reply) (read-refusal n (lengths-of t) bs) _ _ refl (λ q. refl) ∙ rw (one, two, nine, ten))

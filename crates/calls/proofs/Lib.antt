@@ -9,7 +9,6 @@
 -- the worked sheets do, `LiftOutcome` the question for one link that lifts a radio, `ScriptLaws` and `Rebuilt` the script that rebuilds a site, the others for demand 3.
 pub mod QuestionLaws
 pub mod ChainLaws
-pub mod FieldLaws
 pub mod ContractLaws
 pub mod RecordLaws
 pub mod SheetLaws

@@ -6,19 +6,16 @@ use mathlib.Core.Bool.{Bool, true, false, _&&_}
 use mathlib.Core.List.{[]}
 use Prim.Native.Nat.{ℕ, _<_}
 use native.Mathlib.Omega.{arith}
-use Rattle.mesh.specs.Graph.{Link, link-of, Graph}
+use Rattle.mesh.specs.Graph.{link-of, Graph}
 use Rattle.mesh.specs.Tables.{Tables, graph-in}
 use Rattle.mesh.specs.Sound.{sound}
 use Rattle.calls.specs.Questions.{Lengths, lengths-of, ask, is-radio, size-good, site-lengths, lent-refusal, site-refusal, radio-refusal}
 use Rattle.calls.specs.Lift.{lifting, first-pair, is-lifted, lift-refusal}
 use Rattle.calls.specs.LiftOutcome.{pair, lift-outcome}
-use Rattle.calls.specs.Fields.{Pair-accepted, Pair-refused}
 use Rattle.calls.specs.Contracts.{Lift-contract}
-use Rattle.calls.specs.declared.Pair.{Pair}
 use Rattle.calls.proofs.QuestionLaws.{ask-zero, ask-yes, ask-no, is-radio-true}
 use Rattle.calls.proofs.ContractLaws.{by-accepted, by-refused}
 use Rattle.calls.proofs.ChainLaws.{Site-good, site-zero, site-yes}
-use Rattle.calls.proofs.FieldLaws.{lift-fields}
 
 -- ---- the chain
 
@@ -74,25 +71,19 @@ module _ (n v : ℕ) (t : Tables) where
   g = graph-in n (t .links)
 
   pub lift-refused : (q : ℕ) → q ≡ radio-refusal n v (lengths-of t) (sound n t) → (q ≡ 0 → ⊥) → Lift-contract n v t (pair q 0 0)
+  unfolding Lift-contract lift-outcome
   lift-refused q e h =
-      let same = lift-stops n v (lengths-of t) (sound n t) g (λ z. h (e ∙ z)) in
-      lift-fields n v t (pair q 0 0) .1
-      (by-refused _ (Pair-accepted _ (pair q 0 0)) (λ p. Pair-refused p (pair q 0 0)) (λ z. h (e ∙ (sym same ∙ z)))
-      (record { number = e ∙ sym same; low = refl; high = refl }))
+      let same = e ∙ sym (lift-stops n v (lengths-of t) (sound n t) g (λ z. h (e ∙ z))) in by-refused _ _ _ (λ z. h (same ∙ z)) (rw same)
 
   module _ (e : radio-refusal n v (lengths-of t) (sound n t) ≡ 0) where
     pub lift-unanswered : lifting g v ≡ [] → Lift-contract n v t (pair 20 0 0)
-    unfolding is-lifted
+    unfolding Lift-contract lift-outcome is-lifted
     lift-unanswered none =
         let no-pair : is-lifted (lifting g v) ≡ false = ap is-lifted none in
         let last = lift-asks n v (lengths-of t) (sound n t) g e ∙ ask-no 20 (is-lifted (lifting g v)) 0 no-pair in
-        lift-fields n v t (pair 20 0 0) .1
-        (by-refused _ (Pair-accepted _ (pair 20 0 0)) (λ p. Pair-refused p (pair 20 0 0)) (λ z. omega (arith, sym last ∙ z))
-        (record { number = sym last; low = refl; high = refl }))
+        by-refused _ _ _ (λ z. omega (arith, sym last ∙ z)) (rw last)
 
     pub lift-answered : (a b : ℕ) → (is-lifted (lifting g v) ≡ true) × (first-pair (lifting g v) ≡ link-of a b) → Lift-contract n v t (pair 0 a b)
+    unfolding Lift-contract lift-outcome
     lift-answered a b (some, first) =
-        lift-fields n v t (pair 0 a b) .1
-        (by-accepted _ (λ p. Pair-refused p (pair 0 a b))
-        (lift-asks n v (lengths-of t) (sound n t) g e ∙ ask-yes 20 (is-lifted (lifting g v)) 0 some)
-        (record { number = refl; low = ap (λ (l : Link). l .low) (sym first); high = ap (λ (l : Link). l .high) (sym first) }))
+        by-accepted _ _ (lift-asks n v (lengths-of t) (sound n t) g e ∙ ask-yes 20 (is-lifted (lifting g v)) 0 some) (rw first)

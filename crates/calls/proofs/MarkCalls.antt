@@ -6,18 +6,17 @@
 --   mark-is-image, mark-read   a mark that the store has holds an image of sound tables, which reading takes
 --   return-right      after an accepted coming back: what reading the mark's image leaves
 --   return-restores   coming back to a mark restores links, numbers and order as they were when it was set
-use mathlib.Core.Path.{_≡_, refl, sym, ap, ap₂, _∙_}
+use mathlib.Core.Path.{_≡_, refl, sym, ap, _∙_}
 use mathlib.Core.Logic.{_⊎_, inl, inr}
-use mathlib.Core.Bool.{Bool, true, false, _&&_, _||_, cond}
+use mathlib.Core.Bool.{Bool, true, false, _||_, cond}
 use mathlib.Core.List.{List, [], _∷_}
-use Prim.Native.Nat.{ℕ, zero, suc, _+_, _≤_, _<_}
+use Prim.Native.Nat.{ℕ, zero, suc, _+_, _≤_}
 use native.Mathlib.Omega.{arith}
 use lib.Dec.{ltb}
 use lib.ListN.{length}
 use borrow.Author.Tests.{eqb-true, ltb-true}
 use Rattle.mesh.specs.Limits.{max-radios}
 use Rattle.lists.specs.Lists.{same, Entries-below}
-use Rattle.mesh.specs.Graph.{Graph}
 use Rattle.mesh.specs.Cores.{numbers}
 use Rattle.mesh.specs.Tables.{Tables, tables-of, graph-in}
 use Rattle.mesh.specs.Sound.{sound}
@@ -32,17 +31,15 @@ use Rattle.mesh.proofs.Marks.Lists.{rising-with, has-mark-with-same, found-with
 use Rattle.mesh.proofs.Marks.Rules.{store-good-iff}
 use Rattle.mesh.proofs.Marks.Laws.{Marks, marks-store-of, length-store-of, is-store-of, Store-marks, store-marks, Place-mark, place-mark, mark-place}
 use Rattle.calls.specs.Questions.{ask, Lengths, lengths-of, read-refusal}
-use Rattle.calls.specs.Fields.{By-number, Tables-refused, Read-accepted, Store-accepted, Store-refused}
-use Rattle.calls.specs.Contracts.{Read-contract, Set-contract, Remove-contract, Return-contract}
+use Rattle.calls.specs.Outcomes.{by-number, Numbered, read-outcome}
+use Rattle.calls.specs.MarkOutcomes.{Stored, stored, store-outcome, set-outcome, remove-outcome, return-outcome}
 use Rattle.calls.specs.Results.{Read-right}
 use Rattle.calls.specs.MarkResults.{Store-right, Set-right, Removed-right, Same-mark}
 use Rattle.calls.specs.Marks.{store-length, marks-good, is-marked, has-place, mark-refusal, set-refusal, named-refusal, set-store, removed-store, mark-image}
-use Rattle.calls.proofs.QuestionLaws.{ask-yes, ask-zero, ask-later}
-use Rattle.calls.proofs.ChainLaws.{Site-good, site-zero, Lent-good, Blocks-good, read-yes}
-use Rattle.calls.proofs.FieldLaws.{set-fields, remove-fields, return-fields, read-fields}
-use Rattle.calls.proofs.ContractLaws.{by-accepted}
+use Rattle.calls.proofs.QuestionLaws.{ask-zero}
+use Rattle.calls.proofs.ChainLaws.{Site-good, site-zero, Blocks-good, read-yes}
+use Rattle.calls.proofs.ContractLaws.{accepted-is, by-zero}
 use Rattle.calls.proofs.Accepted.{read-right}
-use Rattle.calls.proofs.RecordLaws.{tables-ext}
 
 -- ---- questions
 
@@ -73,10 +70,9 @@ unfolding named-refusal
 named-zero n l sound x bs p = let q = mark-zero n l sound x bs _ p in (q .0, ask-zero 17 (is-marked x bs) 0 (q .1) .0)
 
 -- the number 0 is no refusal
-accepted-zero : (R : ℕ) (A : Type 0) (B : ℕ → Type 0) → ((q : ℕ) → B (suc q) → ⊥) → By-number R A B → (R ≡ 0) × A
-unfolding By-number
-accepted-zero zero A B f d = (refl, d)
-accepted-zero (suc q) A B f d = absurd (f q d)
+store-is : (R : ℕ) (new old : List ℕ) → store-outcome R new old .reply ≡ 0 → (R ≡ 0) × (store-outcome R new old ≡ stored 0 new)
+unfolding store-outcome
+store-is R new old z = accepted-is (λ (o : Stored). o .reply) (store-outcome R new old) R _ _ (λ q. refl) refl z
 
 -- ---- setting
 
@@ -109,10 +105,10 @@ set-marks n x image ps m k name room =
     go (inl h) l f = omega (arith, rw h at l)
     go (inr h) l f = omega (arith, ltb-true (length ps) places h)
 
-pub set-right : (n : ℕ) (x : List ℕ) (t : Tables) (bs cs : List ℕ) → Set-contract n x t bs 0 cs → Set-right n x t bs cs
-unfolding set-store has-place is-marked mark-image
-set-right n x t bs cs d =
-    let a = accepted-zero (set-refusal n (lengths-of t) (sound n t) x bs) (Store-accepted (set-store n x t bs) 0 cs) (λ q. Store-refused q bs 0 cs) (λ q e. omega (arith, e .number)) (set-fields n x t bs 0 cs .0 d) in
+pub set-right : (n : ℕ) (x : List ℕ) (t : Tables) (bs : List ℕ) → let o = set-outcome n x t bs in o .reply ≡ 0 → Set-right n x t bs (o .store)
+unfolding set-outcome set-store has-place is-marked mark-image
+set-right n x t bs z =
+    let a = store-is (set-refusal n (lengths-of t) (sound n t) x bs) (set-store n x t bs) bs z in
     let q = set-zero n (lengths-of t) (sound n t) x bs (a .0) in
     let image = image-of (graph-in n (t .links)) (t .order) in
     let small = q .0 .site .lent .most in
@@ -121,76 +117,75 @@ set-right n x t bs cs d =
     let ps = marks-in bs in
     let m = q .0 .store .marks in
     let b = set-marks n x image ps m k (q .0 .name) (q .1) in
-    let e = ap marks-in (a .1 .store) ∙ marks-store-of n (with-mark p ps) b in
-    record {
-      store = store-right n (with-mark p ps) cs small b (a .1 .store);
+    let e = marks-store-of n (with-mark p ps) b in
+    rw (a .1) (record {
+      store = store-right n (with-mark p ps) _ small b refl;
       there = rw e (ap (λ (y : List ℕ). has-mark y (with-mark p ps)) (sym (k .name)) ∙ has-mark-with-same p ps);
       image = rw e (ap (image-in n) (ap (λ (y : List ℕ). found y (with-mark p ps)) (sym (k .name)) ∙ found-with-same p ps) ∙ k .image);
       count = rw e (rw (k .name) at (length-with n [] p ps (m .rising)));
-    }
+    })
 
 -- ---- removing
 
-pub removed-right : (n : ℕ) (x : List ℕ) (t : Tables) (bs cs : List ℕ) → Remove-contract n x t bs 0 cs → Removed-right n x bs cs
-unfolding removed-store is-marked
-removed-right n x t bs cs d =
-    let a = accepted-zero (named-refusal n (lengths-of t) (sound n t) x bs) (Store-accepted (removed-store x bs) 0 cs) (λ q. Store-refused q bs 0 cs) (λ q e. omega (arith, e .number)) (remove-fields n x t bs 0 cs .0 d) in
+pub removed-right : (n : ℕ) (x : List ℕ) (t : Tables) (bs : List ℕ) → let o = remove-outcome n x t bs in o .reply ≡ 0 → Removed-right n x bs (o .store)
+unfolding remove-outcome removed-store is-marked
+removed-right n x t bs z =
+    let a = store-is (named-refusal n (lengths-of t) (sound n t) x bs) (removed-store x bs) bs z in
     let q = named-zero n (lengths-of t) (sound n t) x bs (a .0) in
     let ps = marks-in bs in
     let m = q .0 .store .marks in
     let few = m .few in
     let less = length-without x ps in
     let b : Marks n (without-mark x ps) = record { rising = rising-without n x [] ps (m .rising); few = omega arith } in
-    let e = ap marks-in (a .1 .store) ∙ marks-store-of n (without-mark x ps) b in
+    let e = marks-store-of n (without-mark x ps) b in
     let l : length (without-mark x ps) + 1 ≡ length ps = rw (q .1) at less in
-    record {
-      store = store-right n (without-mark x ps) cs (q .0 .site .lent .most) b (a .1 .store);
+    rw (a .1) (record {
+      store = store-right n (without-mark x ps) _ (q .0 .site .lent .most) b refl;
       gone = rw e (has-mark-without-same n x [] ps (m .rising));
       count = rw e (omega arith);
-    }
+    })
 
 -- ---- other marks are unaffected, whatever the call answers
 
-same-mark : (y bs cs : List ℕ) → cs ≡ bs → Same-mark y bs cs
-same-mark y bs cs e = record { there = ap (is-marked y) e; place = ap (λ (o : List ℕ). found y (marks-in o)) e }
+same-mark : (y bs : List ℕ) → Same-mark y bs bs
+same-mark y bs = record { there = refl; place = refl }
 
-pub set-others : (n : ℕ) (x : List ℕ) (t : Tables) (bs : List ℕ) (r : ℕ) (cs y : List ℕ) → Set-contract n x t bs r cs → same x y ≡ false → Same-mark y bs cs
-unfolding By-number set-store is-marked has-place
-set-others n x t bs r cs y d h = go (set-refusal n (lengths-of t) (sound n t) x bs) refl (set-fields n x t bs r cs .0 d)
+set-others : (n : ℕ) (x : List ℕ) (t : Tables) (bs y : List ℕ) → same x y ≡ false → Same-mark y bs (set-outcome n x t bs .store)
+unfolding set-outcome store-outcome by-number set-store is-marked has-place
+set-others n x t bs y h = go (set-refusal n (lengths-of t) (sound n t) x bs) refl
   where
-    go : (R : ℕ) → set-refusal n (lengths-of t) (sound n t) x bs ≡ R → By-number R (Store-accepted (set-store n x t bs) r cs) (λ q. Store-refused q bs r cs) → Same-mark y bs cs
-    go zero e a =
+    go : (R : ℕ) → set-refusal n (lengths-of t) (sound n t) x bs ≡ R → Same-mark y bs (store-outcome R (set-store n x t bs) bs .store)
+    go zero e =
         let q = set-zero n (lengths-of t) (sound n t) x bs e in
         let image = image-of (graph-in n (t .links)) (t .order) in
         let small = q .0 .site .lent .most in
         let k = place-mark n x image small (q .0 .name) (is-image-sound n t small (q .0 .site .is-sound)) in
         let p = place-of x image in
         let b = set-marks n x image (marks-in bs) (q .0 .store .marks) k (q .0 .name) (q .1) in
-        let f = ap marks-in (a .store) ∙ marks-store-of n (with-mark p (marks-in bs)) b in
+        let f = marks-store-of n (with-mark p (marks-in bs)) b in
         let o : same (name-in p) y ≡ false = ap (λ (z : List ℕ). same z y) (k .name) ∙ h in
         record { there = ap (has-mark y) f ∙ has-mark-with-other y p (marks-in bs) o; place = ap (found y) f ∙ found-with-other y p (marks-in bs) o }
-    go (suc z) e a = same-mark y bs cs (a .store)
+    go (suc z) e = same-mark y bs
 
-pub removed-others : (n : ℕ) (x : List ℕ) (t : Tables) (bs : List ℕ) (r : ℕ) (cs y : List ℕ) → Remove-contract n x t bs r cs → same x y ≡ false → Same-mark y bs cs
-unfolding By-number removed-store is-marked
-removed-others n x t bs r cs y d h = go (named-refusal n (lengths-of t) (sound n t) x bs) refl (remove-fields n x t bs r cs .0 d)
+removed-others : (n : ℕ) (x : List ℕ) (t : Tables) (bs y : List ℕ) → same x y ≡ false → Same-mark y bs (remove-outcome n x t bs .store)
+unfolding remove-outcome store-outcome by-number removed-store is-marked
+removed-others n x t bs y h = go (named-refusal n (lengths-of t) (sound n t) x bs) refl
   where
-    go : (R : ℕ) → named-refusal n (lengths-of t) (sound n t) x bs ≡ R → By-number R (Store-accepted (removed-store x bs) r cs) (λ q. Store-refused q bs r cs) → Same-mark y bs cs
-    go zero e a =
+    go : (R : ℕ) → named-refusal n (lengths-of t) (sound n t) x bs ≡ R → Same-mark y bs (store-outcome R (removed-store x bs) bs .store)
+    go zero e =
         let m = named-zero n (lengths-of t) (sound n t) x bs e .0 .store .marks in
         let few = m .few in
         let less = length-without x (marks-in bs) in
         let b : Marks n (without-mark x (marks-in bs)) = record { rising = rising-without n x [] (marks-in bs) (m .rising); few = omega arith } in
-        let f = ap marks-in (a .store) ∙ marks-store-of n (without-mark x (marks-in bs)) b in
+        let f = marks-store-of n (without-mark x (marks-in bs)) b in
         record { there = ap (has-mark y) f ∙ has-mark-without-other x y (marks-in bs) h; place = ap (found y) f ∙ found-without-other x y (marks-in bs) h }
-    go (suc z) e a = same-mark y bs cs (a .store)
+    go (suc z) e = same-mark y bs
 
 -- setting or removing another name
 pub other-marks :
-    (n : ℕ) (x : List ℕ) (t : Tables) (bs : List ℕ) (r : ℕ) (cs y : List ℕ) → Set-contract n x t bs r cs ⊎ Remove-contract n x t bs r cs →
-    same x y ≡ false → Same-mark y bs cs
-other-marks n x t bs r cs y (inl d) h = set-others n x t bs r cs y d h
-other-marks n x t bs r cs y (inr d) h = removed-others n x t bs r cs y d h
+    (n : ℕ) (x : List ℕ) (t : Tables) (bs y : List ℕ) → same x y ≡ false →
+    Same-mark y bs (set-outcome n x t bs .store) × Same-mark y bs (remove-outcome n x t bs .store)
+other-marks n x t bs y h = (set-others n x t bs y h, removed-others n x t bs y h)
 
 -- ---- coming back
 
@@ -210,13 +205,6 @@ unfolding is-marked mark-image
 mark-is-image n x bs m h =
     let f = found-mark n x [] (marks-in bs) (m .rising) h in mark-place n (found x (marks-in bs)) (f .0) (f .1) .1
 
--- accepted: the tables of the mark's image
-pub return-accepted :
-    (n : ℕ) (x bs : List ℕ) (t v : Tables) → Return-contract n x bs t 0 v →
-    (named-refusal n (lengths-of t) (sound n t) x bs ≡ 0) × Read-accepted n (mark-image n x bs) 0 v
-return-accepted n x bs t v d =
-    accepted-zero (named-refusal n (lengths-of t) (sound n t) x bs) (Read-accepted n (mark-image n x bs) 0 v) (λ q. Tables-refused q 0 t v) (λ q e. omega (arith, e .number)) (return-fields n x bs t 0 v .0 d)
-
 -- reading takes it
 pub mark-read :
     (n : ℕ) (l : Lengths) (sound : Bool) (x bs : List ℕ) → Mark-asked n l sound x bs → is-marked x bs ≡ true → read-refusal n l (mark-image n x bs) ≡ 0
@@ -225,30 +213,33 @@ mark-read n l sound x bs a h =
     let i = mark-is-image n x bs (a .store .marks) h in
     read-yes n l (mark-image n x bs) (record { least = g .least; most = g .most; lengths = g .lengths; further = refl }) (image-blocks n (mark-image n x bs) i) i
 
--- accepted: what reading the mark's image leaves
-pub return-right : (n : ℕ) (x bs : List ℕ) (t v : Tables) → Return-contract n x bs t 0 v → Read-contract n (mark-image n x bs) t 0 v × Read-right n (mark-image n x bs) v
-return-right n x bs t v d =
-    let a = return-accepted n x bs t v d in
+-- accepted: the tables of the mark's image, which are what reading it leaves
+pub return-right :
+    (n : ℕ) (x bs : List ℕ) (t : Tables) → let o = return-outcome n x bs t in o .reply ≡ 0 →
+    (o ≡ read-outcome n (mark-image n x bs) t) × Read-right n (mark-image n x bs) (o .tables)
+unfolding return-outcome read-outcome
+return-right n x bs t z =
+    let image = mark-image n x bs in
+    let a = accepted-is (λ (o : Numbered). o .reply) (return-outcome n x bs t) _ _ _ (λ q. refl) refl z in
     let q = named-zero n (lengths-of t) (sound n t) x bs (a .0) in
-    let c = read-fields n (mark-image n x bs) t 0 v .1
-    (by-accepted (read-refusal n (lengths-of t) (mark-image n x bs)) (λ q. Tables-refused q 0 t v) (mark-read n (lengths-of t) (sound n t) x bs (q .0) (q .1)) (a .1)) in
-    (c, read-right n (mark-image n x bs) t 0 v c refl)
+    let same : return-outcome n x bs t ≡ read-outcome n image t =
+    a .1 ∙ sym (by-zero _ _ _ (mark-read n (lengths-of t) (sound n t) x bs (q .0) (q .1)) refl) in
+    (same, rw same (read-right n image t (ap (λ (o : Numbered). o .reply) (sym same) ∙ z)))
 
 -- set with the tables t, later the store has the same place under that name: coming back restores t. That their links are bytes is all that
 -- is asked of them
 pub return-restores :
-    (n : ℕ) (x : List ℕ) (t u v : Tables) (bs cs ds : List ℕ) → Entries-below 256 (t .links) → Set-contract n x t bs 0 cs → Same-mark x cs ds →
-    Return-contract n x ds u 0 v → v ≡ t
-unfolding mark-image tables-of lengths-of
-return-restores n x t u v bs cs ds bytes d s c =
-    let k = set-right n x t bs cs d in
-    let a = accepted-zero (set-refusal n (lengths-of t) (sound n t) x bs) (Store-accepted (set-store n x t bs) 0 cs) (λ q. Store-refused q bs 0 cs) (λ q e. omega (arith, e .number)) (set-fields n x t bs 0 cs .0 d) in
+    (n : ℕ) (x : List ℕ) (t u : Tables) (bs ds : List ℕ) → Entries-below 256 (t .links) → let o = set-outcome n x t bs in o .reply ≡ 0 →
+    Same-mark x (o .store) ds → return-outcome n x ds u .reply ≡ 0 → return-outcome n x ds u .tables ≡ t
+unfolding mark-image return-outcome set-outcome lengths-of
+return-restores n x t u bs ds bytes z s y =
+    let k = set-right n x t bs z in
+    let a = store-is (set-refusal n (lengths-of t) (sound n t) x bs) (set-store n x t bs) bs z in
     let site = set-zero n (lengths-of t) (sound n t) x bs (a .0) .0 .site in
     let l = site .lent .lengths in
-    let z : Tables-of-size n t = record { links-length = l .links; numbers-length = l .numbers; order-length = l .order; links-bytes = bytes } in
-    let image = image-of (graph-in n (t .links)) (t .order) in
-    let e : mark-image n x ds ≡ image = ap (image-in n) (s .place) ∙ k .image in
-    let r = return-accepted n x ds u v c .1 in
-    tables-ext v (tables-of (image-graph n (mark-image n x ds)) (image-order n (mark-image n x ds))) (r .links) (r .numbers) (r .order)
+    let size : Tables-of-size n t = record { links-length = l .links; numbers-length = l .numbers; order-length = l .order; links-bytes = bytes } in
+    let e : mark-image n x ds ≡ image-of (graph-in n (t .links)) (t .order) = ap (image-in n) (s .place) ∙ k .image in
+    let r = accepted-is (λ (o : Numbered). o .reply) (return-outcome n x ds u) _ _ _ (λ q. refl) refl y in
+    ap (λ (o : Numbered). o .tables) (r .1)
     ∙ ap (λ (o : List ℕ). tables-of (image-graph n o) (image-order n o)) e
-    ∙ tables-read-written n t (site .lent .most) z (site .is-sound)
+    ∙ tables-read-written n t (site .lent .most) size (site .is-sound)

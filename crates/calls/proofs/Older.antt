@@ -24,8 +24,7 @@ use Rattle.calls.specs.Outcomes.{by-number, Numbered, numbered, Linked, 
 use Rattle.calls.specs.Outcomes.{linked-outcome, first-outcome, core-outcome, backbone-outcome, write-outcome, tree-outcome, later-outcome, sheet-outcome, staircase-outcome}
 use Rattle.calls.specs.Outcomes.{script-length-outcome, script-outcome}
 use Rattle.calls.specs.Older.{Was-sound, former-read-refusal, former-read-outcome, Older}
-use Rattle.calls.specs.declared.Reply.{Reply}
-use Rattle.calls.proofs.FieldLaws.{number-by}
+use Rattle.calls.proofs.ContractLaws.{number-by}
 use Rattle.calls.proofs.QuestionLaws.{size-good-true, are-radios-true, has-room-true, true-has-room}
 
 -- ---- a chain whose last question gets another answer

@@ -2,7 +2,6 @@
 --   proposal-iff       question 16 gets yes exactly where step and list are what asking gives
 --   two-steps          asking that is accepted, then committing its answer: the single call's reply, tables and answer table
 --   refused-step       asking that is refused: the single call's refusal
---   single-call        so a single call leaves what the two leave
 --   commit-iff         committing is accepted exactly if asking now would be, with this step and this list
 --   commit-number      what it is refused by: the number that asking would get, else 16
 -- Asking and committing see the tables as they now are, so a proposal made before other calls is good exactly if it is still true.
@@ -12,12 +11,11 @@ use mathlib.Core.Bool.{Bool, true, false, _&&_}
 use mathlib.Core.List.{List}
 use Prim.Native.Nat.{ℕ, _≤_}
 use native.Mathlib.Omega.{arith}
-use lib.Dec.{eqb}
 use lib.IntN.{ℤ, pos, negsuc}
 use lib.ListN.{length, take}
 use borrow.Author.Tests.{eqb-true, eq-eqb}
 use Rattle.mesh.specs.Limits.{max-radios, max-neighbours}
-use Rattle.lists.specs.Lists.{same}
+use Rattle.lists.specs.Lists.{same, overwrite}
 use Rattle.mesh.specs.Graph.{Graph}
 use Rattle.mesh.specs.Levels.{changed, step-of}
 use Rattle.mesh.specs.Tables.{Tables, graph-in}
@@ -26,17 +24,11 @@ use Rattle.lists.proofs.All.{same-refl, same-eq}
 use Rattle.lists.proofs.Overwrite.{take-overwrite}
 use Rattle.lists.proofs.Tests.{bool-cases, never, and-left, and-right, and-both}
 use Rattle.calls.specs.Questions.{ask, lengths-of, answer-length, site-lengths, size-good, same-step, is-proposal, lent-refusal, site-refusal}
-use Rattle.calls.specs.Fields.{By-number, Link-accepted, Link-refused, Ask-accepted, Ask-refused, Commit-accepted, Commit-refused}
 use Rattle.calls.specs.Questions.{ends-then, ends-refusal, link-refusal, commit-refusal}
-use Rattle.calls.specs.Switches.{switched}
-use Rattle.calls.specs.Outcomes.{linked-with}
-use Rattle.calls.specs.Contracts.{Link-contract, Ask-contract, Commit-contract}
-use Rattle.calls.specs.declared.Reply.{Reply}
+use Rattle.calls.specs.Outcomes.{reply, linked-with, Asked, asked, Committed, link-outcome, ask-outcome, commit-outcome}
 use Rattle.calls.proofs.QuestionLaws.{ask-yes, ask-no, ask-zero, ask-later, size-good-true, true-answer-length}
 use Rattle.calls.proofs.ChainLaws.{site-zero, site-yes, ends-then-zero, ends-then-yes, ends-then-no}
-use Rattle.calls.proofs.ContractLaws.{by-cases, by-accepted, by-refused}
-use Rattle.calls.proofs.RecordLaws.{reply-ext}
-use Rattle.calls.proofs.FieldLaws.{link-fields, ask-fields, commit-fields}
+use Rattle.calls.proofs.ContractLaws.{number-by, by-zero, by-other}
 
 -- ---- question 16
 
@@ -124,136 +116,88 @@ module _ (up : Bool) (n a b : ℕ) (t : Tables) where
   commit-numbered w l z xs =
       let e = link-any w l in (λ h. commit-stops z xs (λ y. h (e ∙ y)) ∙ sym e, λ y. commit-asked z xs (sym e ∙ y))
 
-  committed-cases :
-      (z : ℤ) (xs : List ℕ) (r : Reply) (v : Tables) → Commit-contract up n a b z xs t r v →
-      ((committing z xs ≡ 0) × Commit-accepted up n a b t r v) ⊎ ((committing z xs ≡ 0 → ⊥) × Commit-refused (committing z xs) t r v)
-  committed-cases z xs r v d = by-cases _ (Commit-accepted up n a b t r v) (λ q. Commit-refused q t r v) (commit-fields up n a b z xs t r v .0 d)
-
   -- the number of a committing is the one that its questions give
-  committed-number : (z : ℤ) (xs : List ℕ) (r : Reply) (v : Tables) → Commit-contract up n a b z xs t r v → r .number ≡ committing z xs
-  committed-number z xs r v d = go (committed-cases z xs r v d)
-    where
-      go : ((committing z xs ≡ 0) × Commit-accepted up n a b t r v) ⊎ ((committing z xs ≡ 0 → ⊥) × Commit-refused (committing z xs) t r v) →
-          r .number ≡ committing z xs
-      go (inl p) = p .1 .number ∙ sym (p .0)
-      go (inr p) = p .1 .number
+  committed-number : (z : ℤ) (xs : List ℕ) → commit-outcome up n a b z xs t .reply .number ≡ committing z xs
+  unfolding commit-outcome
+  committed-number z xs = number-by (λ (o : Committed). o .reply .number) (committing z xs) _ _ refl (λ q. refl)
 
-  -- w and x are the answer table before and after asking, q its reply
-  module _ (w : List ℕ) (q : Reply) (x : List ℕ) (asked : Ask-contract up n a b t w q x) where
+  -- committing what asking gives
+  same-proposal : asking ≡ 0 → committing (step-of up cs) cs ≡ 0
+  same-proposal e = commit-asked (step-of up cs) cs e ∙ ask-yes 16 _ 0 (proposal-iff up a b (step-of up cs) cs g .1 (refl, refl))
+
+  -- w is the answer table of asking
+  module _ (w : List ℕ) where
     abbrev R : ℕ
     R = link-refusal up n a b (lengths-of t) (length w) (sound n t) g
 
-    asked-cases : ((R ≡ 0) × Ask-accepted up a b g w q x) ⊎ ((R ≡ 0 → ⊥) × Ask-refused R w q x)
-    asked-cases = by-cases R (Ask-accepted up a b g w q x) (λ p. Ask-refused p w q x) (ask-fields up n a b t w q x .0 asked)
+    abbrev q : Asked
+    q = ask-outcome up n a b t w
 
-    asked-number : q .number ≡ R
-    asked-number = go asked-cases
-      where
-        go : ((R ≡ 0) × Ask-accepted up a b g w q x) ⊎ ((R ≡ 0 → ⊥) × Ask-refused R w q x) → q .number ≡ R
-        go (inl p) = p .1 .number ∙ sym (p .0)
-        go (inr p) = p .1 .number
+    asked-number : q .reply .number ≡ R
+    unfolding ask-outcome
+    asked-number = number-by (λ (o : Asked). o .reply .number) R _ _ refl (λ p. refl)
 
-    accepted : q .number ≡ 0 → Ask-accepted up a b g w q x
-    accepted z = go asked-cases
-      where
-        go : ((R ≡ 0) × Ask-accepted up a b g w q x) ⊎ ((R ≡ 0 → ⊥) × Ask-refused R w q x) → Ask-accepted up a b g w q x
-        go (inl p) = p .1
-        go (inr p) = absurd (p .0 (sym asked-number ∙ z))
+    asked-is : q .reply .number ≡ 0 → q ≡ asked (reply 0 (step-of up cs) (length cs)) (overwrite cs w)
+    unfolding ask-outcome
+    asked-is z = by-zero {o = q} R _ _ (sym asked-number ∙ z) refl
 
-    asking-zero : q .number ≡ 0 → asking ≡ 0
+    asking-zero : q .reply .number ≡ 0 → asking ≡ 0
     asking-zero z = let e : R ≡ 0 = sym asked-number ∙ z in sym (link-asking (length w) (link-long (length w) e)) ∙ e
 
-    -- what asking gives
-    given : q .number ≡ 0 → (q .step ≡ step-of up cs) × (take (q .count) x ≡ cs)
-    given z = let p = accepted z in (p .step, rw (p .count, p .answer) (take-overwrite cs w))
-
     -- step and list are what asking gives: 16 gets yes
-    proposed : q .number ≡ 0 → (z : ℤ) (xs : List ℕ) → (is-proposal up a b z xs g ≡ true) ↔ ((z ≡ q .step) × (xs ≡ take (q .count) x))
-    proposed e z xs =
-        let p = given e in
-        let iff = proposal-iff up a b z xs g in (
-          λ h. let k = iff .0 h in (k .0 ∙ sym (p .0), k .1 ∙ sym (p .1)),
-          λ h. iff .1 (h .0 ∙ p .0, h .1 ∙ p .1),
-        )
+    proposed :
+        q .reply .number ≡ 0 → (z : ℤ) (xs : List ℕ) →
+        (is-proposal up a b z xs g ≡ true) ↔ ((z ≡ q .reply .step) × (xs ≡ take (q .reply .count) (q .answer)))
+    proposed e z xs = rw (asked-is e, take-overwrite cs w) (proposal-iff up a b z xs g)
 
     pub two-steps :
-        q .number ≡ 0 → (r : Reply) (v : Tables) → Commit-contract up n a b (q .step) (take (q .count) x) t r v →
-        (r ≡ q) × Link-contract up n a b t w r v x
-    unfolding switched
-    two-steps z r v d = go (committed-cases (q .step) (take (q .count) x) r v d)
-      where
-        p : Ask-accepted up a b g w q x
-        p = accepted z
+        q .reply .number ≡ 0 → let r = commit-outcome up n a b (q .reply .step) (take (q .reply .count) (q .answer)) t in
+        (r .reply ≡ q .reply) × (linked-with (r .reply) (r .tables) (q .answer) ≡ link-outcome up n a b t w)
+    unfolding commit-outcome link-outcome link-refusal sound
+    two-steps z =
+        let c = by-zero {o = commit-outcome up n a b (step-of up cs) cs t} _ _ _ (same-proposal (asking-zero z)) refl in
+        let l = by-zero {o = link-outcome up n a b t w} _ _ _ (sym asked-number ∙ z) refl in
+        rw (asked-is z, take-overwrite cs w, c, l) (refl, refl)
 
-        yes : committing (q .step) (take (q .count) x) ≡ 0
-        yes =
-            commit-asked (q .step) (take (q .count) x) (asking-zero z)
-            ∙ ask-yes 16 _ 0 (proposed z (q .step) (take (q .count) x) .1 (refl, refl))
-
-        both : Commit-accepted up n a b t r v → (r ≡ q) × Link-contract up n a b t w r v x
-        both c = (
-          reply-ext r q (c .number ∙ sym (p .number)) (c .step ∙ sym (p .step)) (c .count ∙ sym (p .count)),
-          link-fields up n a b t w r v x .1 (by-accepted R (λ j. Link-refused j t w r v x) (sym asked-number ∙ z) (
-              record {
-                number = c .number;
-                step = c .step;
-                count = c .count;
-                links = ap (λ (o : Tables). o .links) (c .tables);
-                numbers = ap (λ (o : Tables). o .numbers) (c .tables);
-                order = ap (λ (o : Tables). o .order) (c .tables);
-                answer = p .answer;
-              })),
-        )
-
-        go : ((committing (q .step) (take (q .count) x) ≡ 0) × Commit-accepted up n a b t r v)
-            ⊎ ((committing (q .step) (take (q .count) x) ≡ 0 → ⊥) × Commit-refused (committing (q .step) (take (q .count) x)) t r v) →
-            (r ≡ q) × Link-contract up n a b t w r v x
-        go (inl c) = both (c .1)
-        go (inr c) = absurd (c .0 yes)
-
-    pub refused-step : (q .number ≡ 0 → ⊥) → Link-contract up n a b t w q t x
-    refused-step h = go asked-cases
-      where
-        go : ((R ≡ 0) × Ask-accepted up a b g w q x) ⊎ ((R ≡ 0 → ⊥) × Ask-refused R w q x) →
-            Link-contract up n a b t w q t x
-        go (inl p) = absurd (h (p .1 .number))
-        go (inr p) =
-            link-fields up n a b t w q t x .1 (by-refused R (Link-accepted up a b g t w q t x) (λ j. Link-refused j t w q t x) (p .0) (
-            record { number = p .1 .number; step = p .1 .step; count = p .1 .count; links = refl; numbers = refl; order = refl; answer = p .1 .answer }))
-
-    -- s, u and y are what a single call leaves
-    pub single-call :
-        q .number ≡ 0 → (r s : Reply) (v u : Tables) (y : List ℕ) → Commit-contract up n a b (q .step) (take (q .count) x) t r v →
-        Link-contract up n a b t w s u y → linked-with s u y ≡ linked-with r v x
-    unfolding Link-contract
-    single-call z r s v u y d e = e ∙ sym (two-steps z r v d .1)
+    pub refused-step : (q .reply .number ≡ 0 → ⊥) → linked-with (q .reply) t (q .answer) ≡ link-outcome up n a b t w
+    unfolding ask-outcome link-outcome link-refusal sound
+    refused-step h =
+        let k : R ≡ 0 → ⊥ = λ e. h (asked-number ∙ e) in
+        rw (by-other {o = q} R _ _ k refl) (sym (by-other {o = link-outcome up n a b t w} R _ _ k refl))
 
     -- ---- committing any proposal, where the answer table of asking is long enough
 
-    module _ (long : n ≤ length w) (z : ℤ) (xs : List ℕ) (r : Reply) (v : Tables) (done : Commit-contract up n a b z xs t r v) where
-      asked-asking : q .number ≡ asking
+    module _ (long : n ≤ length w) (z : ℤ) (xs : List ℕ) where
+      abbrev r : Committed
+      r = commit-outcome up n a b z xs t
+
+      asked-asking : q .reply .number ≡ asking
       asked-asking = asked-number ∙ link-asking (length w) (true-answer-length n (length w) long)
 
-      number-is : r .number ≡ committing z xs
-      number-is = committed-number z xs r v done
+      number-is : r .reply .number ≡ committing z xs
+      number-is = committed-number z xs
 
-      pub commit-iff : (r .number ≡ 0) ↔ ((q .number ≡ 0) × (z ≡ q .step) × (xs ≡ take (q .count) x))
+      pub commit-iff : (r .reply .number ≡ 0) ↔ ((q .reply .number ≡ 0) × (z ≡ q .reply .step) × (xs ≡ take (q .reply .count) (q .answer)))
       unfolding commit-refusal
       commit-iff = (there, λ h. number-is ∙ commit-asked z xs (sym asked-asking ∙ h .0) ∙ ask-yes 16 _ 0 (proposed (h .0) z xs .1 (h .1, h .2)))
         where
-          there : r .number ≡ 0 → (q .number ≡ 0) × (z ≡ q .step) × (xs ≡ take (q .count) x)
+          there : r .reply .number ≡ 0 → (q .reply .number ≡ 0) × (z ≡ q .reply .step) × (xs ≡ take (q .reply .count) (q .answer))
           there e =
               let s = site-zero n (lengths-of t) true (sound n t) _ (sym number-is ∙ e) in
               let k = ends-then-zero max-neighbours up n a b g (ask 16 (is-proposal up a b z xs g) 0) (s .1) in
-              let y : q .number ≡ 0 = asked-asking ∙ site-yes n (lengths-of t) true (sound n t) _ (s .0) ∙ k .0 in
+              let y : q .reply .number ≡ 0 = asked-asking ∙ site-yes n (lengths-of t) true (sound n t) _ (s .0) ∙ k .0 in
               let m = proposed y z xs .0 (ask-zero 15 (is-proposal up a b z xs g) 0 (k .1) .0) in (y, m .0, m .1)
 
-      pub commit-number : ((q .number ≡ 0 → ⊥) → r .number ≡ q .number) × (q .number ≡ 0 → (r .number ≡ 0 → ⊥) → r .number ≡ 16)
+      pub commit-number :
+          ((q .reply .number ≡ 0 → ⊥) → r .reply .number ≡ q .reply .number)
+          × (q .reply .number ≡ 0 → (r .reply .number ≡ 0 → ⊥) → r .reply .number ≡ 16)
       commit-number = (
         λ h. number-is ∙ commit-stops z xs (λ e. h (asked-asking ∙ e)) ∙ sym asked-asking,
         λ y h. sixteen y h (bool-cases (is-proposal up a b z xs g)),
       )
         where
-          sixteen : q .number ≡ 0 → (r .number ≡ 0 → ⊥) → (is-proposal up a b z xs g ≡ true) ⊎ (is-proposal up a b z xs g ≡ false) → r .number ≡ 16
+          sixteen :
+              q .reply .number ≡ 0 → (r .reply .number ≡ 0 → ⊥) → (is-proposal up a b z xs g ≡ true) ⊎ (is-proposal up a b z xs g ≡ false) →
+              r .reply .number ≡ 16
           sixteen y h (inl e) = absurd (h (number-is ∙ commit-asked z xs (sym asked-asking ∙ y) ∙ ask-yes 16 _ 0 e))
           sixteen y h (inr e) = number-is ∙ commit-asked z xs (sym asked-asking ∙ y) ∙ ask-no 16 _ 0 e

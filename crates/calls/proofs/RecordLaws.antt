@@ -1,8 +1,6 @@
 -- Tables and answers are equal when their parts are.
 use mathlib.Core.Path.{_≡_}
-use Prim.Native.Nat.{ℕ}
 use Rattle.mesh.specs.Tables.{Tables}
-use Rattle.calls.specs.Fields.{Tables-refused}
 use Rattle.calls.specs.declared.Reply.{Reply}
 use Rattle.calls.specs.declared.Value.{Value}
 use Rattle.calls.specs.declared.Later.{Later}
@@ -10,10 +8,6 @@ use Rattle.calls.specs.declared.Block.{Block}
 
 pub tables-ext : (t v : Tables) → t .links ≡ v .links → t .numbers ≡ v .numbers → t .order ≡ v .order → t ≡ v
 tables-ext t v p q r = rw (← p, ← q, ← r)
-
--- a refusal leaves the tables
-pub refused-same : (q r : ℕ) (t v : Tables) → Tables-refused q r t v → v ≡ t
-refused-same q r t v d = tables-ext v t (d .links) (d .numbers) (d .order)
 
 pub reply-ext : (r s : Reply) → r .number ≡ s .number → r .step ≡ s .step → r .count ≡ s .count → r ≡ s
 reply-ext r s p q t = rw (← p, ← q, ← t)

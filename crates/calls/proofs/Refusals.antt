@@ -1,80 +1,71 @@
 -- Property 1 by the number that the host sees: an outcome whose number is not 0 has zeros beside it, and everything lent is as it was.
 -- What a batch keeps is in Batches.antt.
---   by-refusal        an outcome by the number, where that is not 0: it is the refusal by that number
---   ..-keeps          so it is of each call
-use mathlib.Core.Path.{_≡_, refl, sym, ap, _∙_}
+--   ..-keeps          so it is of each call, by `refused-is`
+use mathlib.Core.Path.{_≡_, refl}
 use mathlib.Core.Bool.{Bool, true, false}
 use mathlib.Core.List.{List}
-use Prim.Native.Nat.{ℕ, zero, suc}
+use Prim.Native.Nat.{ℕ}
 use lib.IntN.{ℤ, pos}
-use lib.Dec.{ltb}
 use Rattle.mesh.specs.Tables.{Tables}
 use Rattle.mesh.specs.declared.Node.{Node}
-use Rattle.calls.specs.Outcomes.{by-number, Numbered, numbered, Linked, linked-with, Asked, asked, Committed, committed-with, Heard, heard-with, Listing, listing, Treed, treed}
+use Rattle.calls.specs.Outcomes.{Numbered, numbered, Linked, linked-with, Asked, asked, Committed, committed-with, Heard, heard-with, Listing, listing, Treed, treed}
 use Rattle.calls.specs.Outcomes.{reply, value, later, clear-outcome, read-outcome, link-outcome, ask-outcome, commit-outcome, hear-outcome, value-outcome}
 use Rattle.calls.specs.Outcomes.{check-outcome, number-outcome, neighbours-outcome, linked-outcome, first-outcome, later-outcome, listing-outcome}
 use Rattle.calls.specs.Outcomes.{core-outcome, backbone-outcome, staircase-outcome, write-outcome, sheet-outcome, script-length-outcome, script-outcome, tree-outcome}
 use Rattle.calls.specs.Outcomes.{no-block, block-or-end, block-outcome}
 use Rattle.calls.specs.MarkOutcomes.{Stored, stored, store-outcome, set-outcome, remove-outcome, return-outcome}
 use Rattle.calls.specs.LiftOutcome.{pair, lift-outcome}
-use Rattle.calls.specs.declared.Reply.{Reply}
 use Rattle.calls.specs.declared.Value.{Value}
 use Rattle.calls.specs.declared.Later.{Later}
 use Rattle.calls.specs.declared.Block.{Block}
 use Rattle.calls.specs.declared.Pair.{Pair}
+use Rattle.calls.proofs.ContractLaws.{refused-is}
 
--- ---- by the number
-
-pub by-refusal :
-    {A : Type 0} (number : A → ℕ) (R : ℕ) (a : A) (r : ℕ → A) → number a ≡ 0 → ((q : ℕ) → number (r q) ≡ q) →
-    (number (by-number R a r) ≡ 0 → ⊥) → by-number R a r ≡ r (number (by-number R a r))
-unfolding by-number
-by-refusal number zero a r e f h = absurd (h e)
-by-refusal number (suc q) a r e f h = ap r (sym (f (suc q)))
+-- ---- forms that several calls have
 
 pub value-keeps : (R x : ℕ) → let o = value-outcome R x in (o .number ≡ 0 → ⊥) → o ≡ value (o .number) 0
 unfolding value-outcome
-value-keeps R x = by-refusal (λ (o : Value). o .number) R _ _ refl (λ q. refl)
+value-keeps R x = refused-is (λ (o : Value). o .number) (value-outcome R x) _ _ _ refl (λ q. refl) refl
 
 pub listing-keeps : (R x : ℕ) (new old : List ℕ) → let o = listing-outcome R x new old in (o .reply .number ≡ 0 → ⊥) → o ≡ listing (value (o .reply .number) 0) old
 unfolding listing-outcome
-listing-keeps R x new old = by-refusal (λ (o : Listing). o .reply .number) R _ _ refl (λ q. refl)
+listing-keeps R x new old = refused-is (λ (o : Listing). o .reply .number) (listing-outcome R x new old) _ _ _ refl (λ q. refl) refl
 
 pub store-keeps : (R : ℕ) (new old : List ℕ) → let o = store-outcome R new old in (o .reply ≡ 0 → ⊥) → o ≡ stored (o .reply) old
 unfolding store-outcome
-store-keeps R new old = by-refusal (λ (o : Stored). o .reply) R _ _ refl (λ q. refl)
+store-keeps R new old = refused-is (λ (o : Stored). o .reply) (store-outcome R new old) _ _ _ refl (λ q. refl) refl
 
 -- ---- calls that write links, numbers and order
 
 pub clear-keeps : (n : ℕ) (t : Tables) → let o = clear-outcome n t in (o .reply ≡ 0 → ⊥) → o ≡ numbered (o .reply) t
 unfolding clear-outcome
-clear-keeps n t = by-refusal (λ (o : Numbered). o .reply) _ _ _ refl (λ q. refl)
+clear-keeps n t = refused-is (λ (o : Numbered). o .reply) (clear-outcome n t) _ _ _ refl (λ q. refl) refl
 
 pub read-keeps : (n : ℕ) (bs : List ℕ) (t : Tables) → let o = read-outcome n bs t in (o .reply ≡ 0 → ⊥) → o ≡ numbered (o .reply) t
 unfolding read-outcome
-read-keeps n bs t = by-refusal (λ (o : Numbered). o .reply) _ _ _ refl (λ q. refl)
+read-keeps n bs t = refused-is (λ (o : Numbered). o .reply) (read-outcome n bs t) _ _ _ refl (λ q. refl) refl
 
 pub return-keeps : (n : ℕ) (x bs : List ℕ) (t : Tables) → let o = return-outcome n x bs t in (o .reply ≡ 0 → ⊥) → o ≡ numbered (o .reply) t
 unfolding return-outcome
-return-keeps n x bs t = by-refusal (λ (o : Numbered). o .reply) _ _ _ refl (λ q. refl)
+return-keeps n x bs t = refused-is (λ (o : Numbered). o .reply) (return-outcome n x bs t) _ _ _ refl (λ q. refl) refl
 
 pub link-keeps :
     (up : Bool) (n a b : ℕ) (t : Tables) (w : List ℕ) → let o = link-outcome up n a b t w in
     (o .reply .number ≡ 0 → ⊥) → o ≡ linked-with (reply (o .reply .number) (pos 0) 0) t w
 unfolding link-outcome
-link-keeps up n a b t w = by-refusal (λ (o : Linked). o .reply .number) _ _ _ refl (λ q. refl)
+link-keeps up n a b t w = refused-is (λ (o : Linked). o .reply .number) (link-outcome up n a b t w) _ _ _ refl (λ q. refl) refl
 
 pub commit-keeps :
     (up : Bool) (n a b : ℕ) (z : ℤ) (xs : List ℕ) (t : Tables) → let o = commit-outcome up n a b z xs t in
     (o .reply .number ≡ 0 → ⊥) → o ≡ committed-with (reply (o .reply .number) (pos 0) 0) t
 unfolding commit-outcome
-commit-keeps up n a b z xs t = by-refusal (λ (o : Committed). o .reply .number) _ _ _ refl (λ q. refl)
+commit-keeps up n a b z xs t = refused-is (λ (o : Committed). o .reply .number) (commit-outcome up n a b z xs t) _ _ _ refl (λ q. refl) refl
 
 pub hear-keeps :
     (n : ℕ) (hs : List ℕ) (t : Tables) (w : List ℕ) → let o = hear-outcome n hs t w in
     (o .reply .number ≡ 0 → ⊥) → o ≡ heard-with (value (o .reply .number) 0) t w
 unfolding hear-outcome
-hear-keeps n hs t w = by-refusal (λ (o : Heard). o .reply .number) _ _ _ refl (λ q. refl)
+hear-keeps n hs t w = refused-is (λ (o : Heard). o .reply .number) (hear-outcome n hs t w) _ _ _ refl (λ q. refl) refl
 
 -- ---- calls that only read them
 
@@ -100,17 +91,17 @@ first-keeps n a b t = value-keeps _ _
 
 pub later-keeps : (n v : ℕ) (t : Tables) → let o = later-outcome n v t in (o .number ≡ 0 → ⊥) → o ≡ later (o .number) 0 0
 unfolding later-outcome
-later-keeps n v t = by-refusal (λ (o : Later). o .number) _ _ _ refl (λ q. refl)
+later-keeps n v t = refused-is (λ (o : Later). o .number) (later-outcome n v t) _ _ _ refl (λ q. refl) refl
 
 pub lift-keeps : (n v : ℕ) (t : Tables) → let o = lift-outcome n v t in (o .number ≡ 0 → ⊥) → o ≡ pair (o .number) 0 0
 unfolding lift-outcome
-lift-keeps n v t = by-refusal (λ (o : Pair). o .number) _ _ _ refl (λ q. refl)
+lift-keeps n v t = refused-is (λ (o : Pair). o .number) (lift-outcome n v t) _ _ _ refl (λ q. refl) refl
 
 pub ask-keeps :
     (up : Bool) (n a b : ℕ) (t : Tables) (w : List ℕ) → let o = ask-outcome up n a b t w in
     (o .reply .number ≡ 0 → ⊥) → o ≡ asked (reply (o .reply .number) (pos 0) 0) w
 unfolding ask-outcome
-ask-keeps up n a b t w = by-refusal (λ (o : Asked). o .reply .number) _ _ _ refl (λ q. refl)
+ask-keeps up n a b t w = refused-is (λ (o : Asked). o .reply .number) (ask-outcome up n a b t w) _ _ _ refl (λ q. refl) refl
 
 pub core-keeps :
     (n v k : ℕ) (t : Tables) (w : List ℕ) → let o = core-outcome n v k t w in (o .reply .number ≡ 0 → ⊥) → o ≡ listing (value (o .reply .number) 0) w
@@ -150,7 +141,7 @@ pub tree-keeps :
     (n : ℕ) (t : Tables) (m : List Node) (w : List ℕ) → let o = tree-outcome n t m w in
     (o .reply .number ≡ 0 → ⊥) → o ≡ treed (value (o .reply .number) 0) m w
 unfolding tree-outcome
-tree-keeps n t m w = by-refusal (λ (o : Treed). o .reply .number) _ _ _ refl (λ q. refl)
+tree-keeps n t m w = refused-is (λ (o : Treed). o .reply .number) (tree-outcome n t m w) _ _ _ refl (λ q. refl) refl
 
 pub set-keeps : (n : ℕ) (x : List ℕ) (t : Tables) (bs : List ℕ) → let o = set-outcome n x t bs in (o .reply ≡ 0 → ⊥) → o ≡ stored (o .reply) bs
 unfolding set-outcome
@@ -169,4 +160,4 @@ given-number false i = refl
 
 pub block-keeps : (bs : List ℕ) (i : ℕ) → let o = block-outcome bs i in (o .number ≡ 0 → ⊥) → o ≡ no-block (o .number) 0 i
 unfolding block-outcome no-block
-block-keeps bs i = by-refusal (λ (o : Block). o .number) _ _ _ (given-number _ i) (λ q. refl)
+block-keeps bs i = refused-is (λ (o : Block). o .number) (block-outcome bs i) _ _ _ (given-number _ i) (λ q. refl) refl

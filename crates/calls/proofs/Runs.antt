@@ -3,7 +3,7 @@
 --   run           every list of calls is a run
 --   run-is        and a run is the list of its calls carried out
 --   link-done, hear-done   a link call and a hearing, whatever the answer table and the further table hold
-use mathlib.Core.Path.{_≡_, refl, sym, ap, subst, _∙_}
+use mathlib.Core.Path.{_≡_, refl, ap, subst}
 use mathlib.Core.Bool.{Bool}
 use mathlib.Core.List.{List, [], _∷_, _++_}
 use Prim.Native.Nat.{ℕ, zero, suc}
@@ -16,7 +16,6 @@ use Rattle.mesh.specs.Tables.{Tables, graph-in}
 use Rattle.calls.specs.Switches.{switch, switched}
 use Rattle.calls.specs.Outcomes.{by-number, Linked, linked-with, Heard, heard-with, reply, value, link-outcome, hear-outcome}
 use Rattle.calls.specs.Book.{Call, linking, hearing, Answer, counted}
-use Rattle.calls.specs.declared.Reply.{Reply}
 use Rattle.calls.specs.declared.Value.{Value}
 use Rattle.calls.specs.Runs.{Done, did, answer-of, done, Event, event, events, after}
 

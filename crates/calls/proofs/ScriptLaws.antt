@@ -4,15 +4,14 @@
 --   script-right          what is written is the script, and later bytes keep their content
 --   script-beforehand     the length beforehand is the length written, and 13 compares with it
 -- That playing it rebuilds the site is in proofs/Rebuilt.antt, and over the replay language in crate playback.
-use mathlib.Core.Path.{_≡_, refl, sym, ap, ap₂, _∙_}
-use mathlib.Core.Logic.{_⊎_, inl, inr}
-use mathlib.Core.Bool.{Bool, true, false}
+use mathlib.Core.Path.{_≡_, refl, _∙_}
+use mathlib.Core.Logic.{inl, inr}
+use mathlib.Core.Bool.{Bool, true}
 use mathlib.Core.List.{List, [], _∷_, _++_, flatMap}
-use Prim.Native.Nat.{ℕ, suc, _+_, _*_, _≤_, _<_}
+use Prim.Native.Nat.{ℕ, _+_, _*_, _≤_, _<_}
 use native.Mathlib.Omega.{arith}
-use lib.ListN.{length, take, drop, length-append}
+use lib.ListN.{length, length-append}
 use borrow.Author.Tests.{leb-true, le-leb, lt-leb}
-use Rattle.lists.specs.Lists.{overwrite}
 use Rattle.lists.proofs.Overwrite.{take-overwrite, drop-overwrite}
 use Rattle.mesh.specs.Limits.{max-radios, max-neighbours}
 use Rattle.mesh.specs.Graph.{Link, Graph, In-links}
@@ -22,19 +21,15 @@ use Rattle.mesh.specs.Valid.{Valid}
 use Rattle.mesh.proofs.GraphLaws.{proper-of}
 use Rattle.mesh.proofs.Tables.AscendingLinks.{in-links-proper}
 use Rattle.mesh.proofs.Tables.DegreeSum.{links-most}
-use Rattle.text.specs.Text.{bytes-of, decimal, further-fields, printed-line}
+use Rattle.text.specs.Text.{decimal, further-fields, printed-line}
 use Rattle.text.proofs.DecimalLaws.{length-decimal-le}
 use Rattle.calls.specs.Script.{radios-text, up-line, script-of, script-length}
 use Rattle.calls.specs.Questions.{ask, Lengths, lengths-of, holds-script, script-length-refusal, script-refusal}
-use Rattle.calls.specs.Fields.{By-number, Value-accepted, Value-refused, Listing-accepted, Listing-refused}
-use Rattle.calls.specs.Contracts.{Script-length-contract, Script-contract}
+use Rattle.calls.specs.Outcomes.{by-number, listing-outcome, script-length-outcome, script-outcome}
 use Rattle.calls.specs.Results.{Script-right, Script-beforehand}
-use Rattle.calls.specs.declared.Value.{Value}
 use Rattle.calls.proofs.QuestionLaws.{ask-yes, ask-no, ask-zero}
-use Rattle.calls.proofs.ContractLaws.{by-zero, by-cases}
 use Rattle.calls.proofs.ChainLaws.{Site-good, site-zero, site-yes}
-use Rattle.calls.proofs.FieldLaws.{script-fields, script-length-fields}
-use Rattle.calls.proofs.Accepted.{accepted}
+use Rattle.calls.proofs.Accepted.{value-is, listing-is}
 
 -- ---- the chain: 1 to 3 and 13
 
@@ -103,43 +98,24 @@ script-most g xs small v =
 
 -- ---- an accepted call
 
-pub script-right : (n : ℕ) (t : Tables) (w : List ℕ) (r : Value) (x : List ℕ) → Script-contract n t w r x → r .number ≡ 0
-    → Script-right n t (r .value) w x
-unfolding script-length
-script-right n t w r x d z =
+pub script-right :
+    (n : ℕ) (t : Tables) (w : List ℕ) → let o = script-outcome n t w in o .reply .number ≡ 0 → Script-right n t (o .reply .value) w (o .lent)
+unfolding script-outcome script-length sound
+script-right n t w z =
     let g = graph-in n (t .links) in
     let new = script-of g in
-    let c = accepted (script-refusal n (lengths-of t) (length w) (sound n t) g) (Listing-accepted (length new) new w r x)
-    (λ q. Listing-refused q w r x) (r .number) (λ q e. e .number) (script-fields n t w r x .0 d) z in
-    record {
-      long = c .1 .value;
-      text = ap₂ (λ (i : ℕ) (ys : List ℕ). take i ys) (c .1 .value) (c .1 .lent) ∙ take-overwrite new w;
-      later-bytes = rw (c .1 .value, c .1 .lent) (drop-overwrite new w);
-    }
+    let c = listing-is (script-refusal n (lengths-of t) (length w) (sound n t) g) (length new) new w z in
+    rw (c .1) (record { long = refl; text = take-overwrite new w; later-bytes = drop-overwrite new w })
 
 pub script-beforehand :
-    (n : ℕ) (t : Tables) (s : Value) (w : List ℕ) (r : Value) (x : List ℕ) → Script-length-contract n t s → s .number ≡ 0 → Script-contract n t w r x →
-    Script-beforehand (s .value) (length w) (r .number) (r .value)
-unfolding script-length-refusal
-script-beforehand n t s w r x d z e =
+    (n : ℕ) (t : Tables) (w : List ℕ) → let s = script-length-outcome n t in let o = script-outcome n t w in
+    s .number ≡ 0 → Script-beforehand (s .value) (length w) (o .reply .number) (o .reply .value)
+unfolding script-length-outcome script-outcome script-length-refusal listing-outcome by-number sound
+script-beforehand n t w z =
     let g = graph-in n (t .links) in
-    let c = accepted (script-length-refusal n (lengths-of t) (sound n t)) (Value-accepted (script-length g) s)
-    (λ q. Value-refused q s) (s .number) (λ q e. e .number) (script-length-fields n t s .0 d) z in
+    let c = value-is (script-length-refusal n (lengths-of t) (sound n t)) (script-length g) z in
     let good = site-zero n (lengths-of t) true (sound n t) 0 (c .0) .0 in
-    record {
-      written = λ h.
-          let a = by-zero (script-refusal n (lengths-of t) (length w) (sound n t) g) (Listing-accepted (script-length g) (script-of g) w r x)
-          (λ q. Listing-refused q w r x) (script-yes n (lengths-of t) (length w) (sound n t) g good (omega (arith, c .1 .value))) (script-fields n t w r x .0 e) in
-          (a .number, a .value ∙ sym (c .1 .value));
-      refused = λ h.
-          let q = script-no n (lengths-of t) (length w) (sound n t) g good (omega (arith, c .1 .value)) in
-          let a = by-other (script-refusal n (lengths-of t) (length w) (sound n t) g) (Listing-accepted (script-length g) (script-of g) w r x) q (script-fields n t w r x .0 e) in
-          (a .number ∙ q, a .value);
-    }
-  where
-    by-other : (R : ℕ) (A : Type 0) → R ≡ 13 → By-number R A (λ q. Listing-refused q w r x) → Listing-refused R w r x
-    by-other R A q b = go (by-cases R A (λ p. Listing-refused p w r x) b)
-      where
-        go : ((R ≡ 0) × A) ⊎ ((R ≡ 0 → ⊥) × Listing-refused R w r x) → Listing-refused R w r x
-        go (inl p) = absurd (omega (arith, p .0))
-        go (inr p) = p .1
+    rw (c .1) (record {
+      written = λ h. rw (script-yes n (lengths-of t) (length w) (sound n t) g good h) (refl, refl);
+      refused = λ h. rw (script-no n (lengths-of t) (length w) (sound n t) g good h) (refl, refl);
+    })

@@ -5,15 +5,15 @@
 --   all-good, all-graph the same after a list of links
 --   good-right          numbers are core numbers and the order is a k-order
 use mathlib.Core.Path.{_≡_, refl, sym, ap, subst, _∙_}
-use mathlib.Core.Bool.{Bool, true}
+use mathlib.Core.Bool.{true}
 use mathlib.Core.List.{List, [], _∷_}
 use Prim.Native.Nat.{ℕ}
 use lib.ListN.{length}
-use Rattle.mesh.specs.Limits.{max-radios, max-neighbours}
+use Rattle.mesh.specs.Limits.{max-neighbours}
 use Rattle.mesh.specs.Graph.{Link, Graph, graph, relinked, new-links}
 use Rattle.mesh.specs.Cores.{numbers}
 use Rattle.mesh.specs.Levels.{new-order}
-use Rattle.mesh.specs.Tables.{Tables, put-link, graph-in}
+use Rattle.mesh.specs.Tables.{Tables, graph-in}
 use Rattle.mesh.specs.Sound.{sound}
 use Rattle.mesh.specs.Valid.{Valid, Allowed}
 use Rattle.lists.proofs.Range.{once-length}
@@ -49,8 +49,7 @@ module _ (n : ℕ) (t : Tables) (k : Good n t) (s : Switch) (ok : Allowed max-ne
   after = link-valid max-neighbours (s .up) (s .a) (s .b) g (t .order) (good-valid n t k) ok
 
   right : Commit-right (s .up) n (s .a) (s .b) t (switched n s t)
-  unfolding switched
-  right = switched-right (s .up) n (s .a) (s .b) t (switched n s t) true k ok refl refl refl
+  right = switched-right (s .up) n (s .a) (s .b) t true k ok
 
   pub switched-graph : graph-in n (switched n s t .links) ≡ relinked (s .up) (s .a) (s .b) g
   switched-graph = right .graph

@@ -16,15 +16,12 @@ use Rattle.mesh.specs.Graph.{Link, Graph, graph}
 use Rattle.mesh.specs.Levels.{changed, step-of}
 use Rattle.mesh.specs.Tables.{Tables, graph-in}
 use Rattle.mesh.specs.Sound.{sound}
-use Rattle.mesh.specs.Image.{image-links, image-graph}
+use Rattle.mesh.specs.Image.{image-links}
 use Rattle.lists.proofs.Overwrite.{take-overwrite}
 use Rattle.calls.specs.Questions.{lengths-of, answer-length, ask, ends-then, ends-refusal, is-proposal, tables-refusal, link-refusal}
-use Rattle.calls.specs.Fields.{By-number, Tables-refused, Clear-accepted, Link-accepted, Link-refused, Commit-accepted, Commit-refused, Batch-done}
-use Rattle.calls.specs.Fields.{Batch-refused, Hear-accepted, Hear-refused, Read-accepted, Store-accepted, Store-refused, Store-by}
 use Rattle.calls.specs.Questions.{commit-refusal, read-refusal}
-use Rattle.calls.specs.Switches.{Switch, switch, pairs-after, switched, tables-after, All-allowed}
-use Rattle.calls.specs.Contracts.{Clear-contract, Link-contract, Commit-contract, Batch-contract, Hear-contract, Read-contract, Set-contract, Remove-contract}
-use Rattle.calls.specs.Contracts.{Return-contract}
+use Rattle.calls.specs.Switches.{Switch, switch, pairs-after, tables-after, All-allowed}
+use Rattle.calls.specs.Contracts.{Clear-contract, Read-contract}
 use Rattle.calls.specs.Batches.{list-length, batch-refusal, batch-switches, batch-stop}
 use Rattle.calls.specs.Heard.{heard-lengths, heard-proper, agreed-few, hear-refusal, one-sided-count, heard-switches}
 use Rattle.calls.specs.Marks.{store-length, marks-good, is-marked, has-place, mark-refusal, set-refusal, named-refusal, mark-image}
@@ -32,17 +29,13 @@ use Rattle.calls.specs.Book.{Call, clearing, reading, linking, committin
 use Rattle.calls.specs.Book.{Answer, plain, reported, committed, counted}
 use Rattle.calls.specs.Book.{Beginning, from-clearing, from-image, Marking, no-mark, sets, removes, returns, outcome-of, outcome-with, unless-refused, outcome}
 use Rattle.calls.specs.Book.{beginning-pairs, first-pairs, pairs-of, radios, beginning-tables}
-use Rattle.calls.specs.Outcomes.{clear-outcome, read-outcome, link-outcome, commit-outcome, batch-outcome, hear-outcome}
-use Rattle.calls.specs.MarkOutcomes.{set-outcome, remove-outcome, return-outcome}
+use Rattle.calls.specs.Outcomes.{by-number, links-taken, clear-outcome, read-outcome, link-outcome, commit-outcome, batch-outcome, hear-outcome}
+use Rattle.calls.specs.MarkOutcomes.{store-outcome, set-outcome, remove-outcome, return-outcome}
 use Rattle.calls.specs.Runs.{answer-of, replied, Done, done}
 use Rattle.calls.specs.Demand.{ended, Call-kept, Start, cleared, read, By-history}
 use Rattle.calls.specs.declared.Reply.{Reply}
-use Rattle.calls.specs.declared.Value.{Value}
 use Rattle.calls.proofs.ChainLaws.{lent-zero, site-zero, link-zero, commit-zero, read-zero}
-use Rattle.calls.proofs.FieldLaws.{clear-fields, read-fields, clear-of, read-outcome-of, link-of, commit-of, batch-of, hear-of, set-of, remove-of, return-of}
 use Rattle.calls.proofs.Runs.{Does}
-use Rattle.calls.proofs.ContractLaws.{by-accepted}
-use Rattle.calls.proofs.RecordLaws.{tables-ext, refused-same}
 use Rattle.calls.proofs.MarkCalls.{named-zero, mark-read}
 use Rattle.calls.proofs.Holds.{clear-is, read-is}
 use Rattle.calls.proofs.Holds.{Holds, clear-holds, read-holds, unchanged-holds, same-n, read-back, site-asked, with-n, all-holds}
@@ -130,190 +123,164 @@ module _ (n : ℕ) (ps : List Link) (t : Tables) (k : Holds n ps t) where
     holds = rw f (all-holds n ps ss t k ok);
   }
 
-  -- the contract goes by the number that the book's questions give
-  asked : (A : Type 0) (B : ℕ → Type 0) {R S : ℕ} → R ≡ S → By-number R A B → By-number S A B
-  asked A B e d = subst (λ (x : ℕ). By-number x A B) e d
-
   -- ---- clearing and reading
 
-  clear-start : (m r : ℕ) (v : Tables) → tables-refusal m (lengths-of t) ≡ 0 → Clear-accepted m r v → Start n [] v
-  unfolding tables-refusal
-  clear-start m r v p d =
-      subst (λ (j : ℕ). Start j [] v) (same-n n ps t k m true (lent-zero m (lengths-of t) true 0 p .0))
-      (cleared m t v (clear-fields m t 0 v .1 (by-accepted _ (λ q. Tables-refused q 0 t v) p (rw (d .number) at d))))
+  clear-start : (m : ℕ) → tables-refusal m (lengths-of t) ≡ 0 → Start n [] (beginning-tables (from-clearing m))
+  unfolding tables-refusal Clear-contract
+  clear-start m p =
+      subst (λ (j : ℕ). Start j [] (beginning-tables (from-clearing m))) (same-n n ps t k m true (lent-zero m (lengths-of t) true 0 p .0))
+      (cleared m t _ (sym (clear-is m t p)))
 
-  read-start : (m r : ℕ) (bs : List ℕ) (v : Tables) → read-refusal m (lengths-of t) bs ≡ 0 → Read-accepted m bs r v → Start n (image-links m bs) v
-  read-start m r bs v p d =
-      subst (λ (j : ℕ). Start j (image-links m bs) v) (same-n n ps t k m true (read-zero m (lengths-of t) bs p .0))
-      (read m bs t v (read-fields m bs t 0 v .1 (by-accepted _ (λ q. Tables-refused q 0 t v) p (rw (d .number) at d))))
+  read-start : (m : ℕ) (bs : List ℕ) → read-refusal m (lengths-of t) bs ≡ 0 → Start n (image-links m bs) (beginning-tables (from-image m bs))
+  unfolding Read-contract
+  read-start m bs p =
+      subst (λ (j : ℕ). Start j (image-links m bs) (beginning-tables (from-image m bs))) (same-n n ps t k m true (read-zero m (lengths-of t) bs p .0))
+      (read m bs t _ (sym (read-is m bs t p)))
 
   clear-step :
-      (R m r : ℕ) (v : Tables) (hs : List Answer) → tables-refusal m (lengths-of t) ≡ R →
-      By-number R (Clear-accepted m r v) (λ q. Tables-refused q r t v) → hs ≡ one (plain r) →
-      Stepped n ps (unless-refused R (outcome-of (one (plain 0)) (some (from-clearing m)) [])) t hs v
-  unfolding By-number tables-refusal radios beginning-pairs
-  clear-step zero m r v hs p d q =
-      restarted hs _ (from-clearing m) no-mark v (q ∙ ap (λ (x : ℕ). one (plain x)) (d .number))
-      (same-n n ps t k m true (lent-zero m (lengths-of t) true 0 p .0)) (clear-is m r v d) (clear-start m r v p d) (with-n n ps t k m [] v true (lent-zero m (lengths-of t) true 0 p .0) (clear-holds m r t v p d))
-  clear-step (suc x) m r v hs p d q = refused x _ hs v (q ∙ ap (λ (x : ℕ). one (plain x)) (d .number)) (refused-same (suc x) r t v d)
+      (R m : ℕ) → tables-refusal m (lengths-of t) ≡ R → let o = clear-outcome m t in
+      Stepped n ps (unless-refused R (outcome-of (one (plain 0)) (some (from-clearing m)) [])) t (one (plain (o .reply))) (o .tables)
+  unfolding tables-refusal radios beginning-pairs clear-outcome by-number
+  clear-step zero m p =
+      let lent = lent-zero m (lengths-of t) true 0 p .0 in
+      rw (clear-is m t p) (restarted _ _ (from-clearing m) no-mark _ refl (same-n n ps t k m true lent) refl (clear-start m p)
+      (with-n n ps t k m [] _ true lent (clear-holds m t p)))
+  clear-step (suc x) m p = rw p (refused x _ _ t refl refl)
 
   -- of an image that reading takes
   image-step :
-      (m r : ℕ) (bs : List ℕ) (mark : Marking) (v : Tables) (hs : List Answer) → read-refusal m (lengths-of t) bs ≡ 0 → Read-accepted m bs r v →
-      hs ≡ one (plain r) → Stepped n ps (unless-refused 0 (outcome-with (one (plain 0)) (some (from-image m bs)) [] mark)) t hs v
+      (m : ℕ) (bs : List ℕ) (mark : Marking) → read-refusal m (lengths-of t) bs ≡ 0 →
+      Stepped n ps (unless-refused 0 (outcome-with (one (plain 0)) (some (from-image m bs)) [] mark)) t (one (plain 0)) (beginning-tables (from-image m bs))
   unfolding radios beginning-pairs
-  image-step m r bs mark v hs p d q =
-      restarted hs _ (from-image m bs) mark v (q ∙ ap (λ (x : ℕ). one (plain x)) (d .number))
-      (same-n n ps t k m true (read-zero m (lengths-of t) bs p .0)) (read-is m bs r v d) (read-start m r bs v p d)
-      (with-n n ps t k m (image-links m bs) v true (read-zero m (lengths-of t) bs p .0) (read-holds m bs r t v p d))
+  image-step m bs mark p =
+      let lent = read-zero m (lengths-of t) bs p .0 in
+      restarted _ _ (from-image m bs) mark _ refl (same-n n ps t k m true lent) refl (read-start m bs p)
+      (with-n n ps t k m (image-links m bs) _ true lent (read-holds m bs t p))
 
   read-step :
-      (R m r : ℕ) (bs : List ℕ) (v : Tables) (hs : List Answer) → read-refusal m (lengths-of t) bs ≡ R →
-      By-number R (Read-accepted m bs r v) (λ q. Tables-refused q r t v) → hs ≡ one (plain r) →
-      Stepped n ps (unless-refused R (outcome-of (one (plain 0)) (some (from-image m bs)) [])) t hs v
-  unfolding By-number read-refusal
-  read-step zero m r bs v hs p d q = image-step m r bs no-mark v hs p d q
-  read-step (suc x) m r bs v hs p d q = refused x _ hs v (q ∙ ap (λ (x : ℕ). one (plain x)) (d .number)) (refused-same (suc x) r t v d)
+      (R m : ℕ) (bs : List ℕ) → read-refusal m (lengths-of t) bs ≡ R → let o = read-outcome m bs t in
+      Stepped n ps (unless-refused R (outcome-of (one (plain 0)) (some (from-image m bs)) [])) t (one (plain (o .reply))) (o .tables)
+  unfolding read-outcome by-number
+  read-step zero m bs p = rw (read-is m bs t p) (image-step m bs no-mark p)
+  read-step (suc x) m bs p = rw p (refused x _ _ t refl refl)
 
   -- ---- a link call
 
   link-step :
-      (R : ℕ) (u : Bool) (m a b : ℕ) (r : Reply) (w x : List ℕ) (v : Tables) (hs : List Answer) →
-      link-refusal u m a b (lengths-of t) (length w) true (graph m ps) ≡ R →
-      By-number R (Link-accepted u a b (graph-in m (t .links)) t w r v x) (λ q. Link-refused q t w r v x) → hs ≡ one (answer-of r x) →
-      Stepped n ps (unless-refused R (outcome-of (one (reported u (changed u a b (graph m ps)))) none (switch u a b ∷ []))) t hs v
-  unfolding By-number All-allowed tables-after switched
-  link-step zero u m a b r w x v hs p d q =
+      (R : ℕ) (u : Bool) (m a b : ℕ) (w : List ℕ) → link-refusal u m a b (lengths-of t) (length w) true (graph m ps) ≡ R →
+      let o = link-outcome u m a b t w in
+      Stepped n ps (unless-refused R (outcome-of (one (reported u (changed u a b (graph m ps)))) none (switch u a b ∷ []))) t
+      (one (answer-of (o .reply) (o .answer))) (o .tables)
+  unfolding link-outcome link-refusal sound by-number All-allowed tables-after answer-of reported plain
+  link-step zero u m a b w p =
       let z = link-zero u a b (lengths-of t) (length w) true (graph m ps) p in
-      let e = same-n n ps t k m (answer-length m (length w)) (z .0 .lent) in
-      let f : graph-in m (t .links) ≡ graph m ps = rw e (read-back n ps t k) in
-      let i = answer-accepted u r (changed u a b (graph-in m (t .links))) w x (d .number) (d .step) (d .count) (d .answer) in
-      carried hs _ (switch u a b ∷ []) v (q ∙ ap one i ∙ ap (λ (g : Graph). one (reported u (changed u a b g))) f) (rw e at (z .1), tt)
-      (tables-ext v _ (d .links) (d .numbers ∙ rw e refl) (d .order ∙ rw e refl))
-  link-step (suc y) u m a b r w x v hs p d q =
-      refused y _ hs v (q ∙ ap one (answer-refused r (suc y) x (d .number) (d .step) (d .count))) (tables-ext v t (d .links) (d .numbers) (d .order))
+      let i = same-n n ps t k m (answer-length m (length w)) (z .0 .lent) in
+      let f : graph-in m (t .links) ≡ graph m ps = rw i (read-back n ps t k) in
+      rw (site-asked n ps t k m (answer-length m (length w)) (λ g. ends-refusal max-neighbours u m a b g) ∙ p)
+      (carried _ _ (switch u a b ∷ []) _ (rw (f, take-overwrite (changed u a b (graph m ps)) w)) (rw i at (z .1), tt) (rw i refl))
+  link-step (suc y) u m a b w p =
+      rw (site-asked n ps t k m (answer-length m (length w)) (λ g. ends-refusal max-neighbours u m a b g) ∙ p) (refused y _ _ t refl refl)
 
   -- ---- committing
 
   commit-step :
-      (R : ℕ) (u : Bool) (m a b : ℕ) (z : ℤ) (xs : List ℕ) (r : Reply) (v : Tables) (hs : List Answer) →
-      commit-refusal u m a b z xs (lengths-of t) true (graph m ps) ≡ R →
-      By-number R (Commit-accepted u m a b t r v) (λ q. Commit-refused q t r v) → hs ≡ one (replied r) →
-      Stepped n ps (unless-refused R (outcome-of (one (committed u (changed u a b (graph m ps)))) none (switch u a b ∷ []))) t hs v
-  unfolding By-number All-allowed tables-after committed replied plain
-  commit-step zero u m a b z xs r v hs p d q =
+      (R : ℕ) (u : Bool) (m a b : ℕ) (z : ℤ) (xs : List ℕ) → commit-refusal u m a b z xs (lengths-of t) true (graph m ps) ≡ R →
+      let o = commit-outcome u m a b z xs t in
+      Stepped n ps (unless-refused R (outcome-of (one (committed u (changed u a b (graph m ps)))) none (switch u a b ∷ []))) t
+      (one (replied (o .reply))) (o .tables)
+  unfolding commit-outcome commit-refusal by-number All-allowed tables-after committed replied plain
+  commit-step zero u m a b z xs p =
       let y = commit-zero u a b z xs (lengths-of t) true (graph m ps) p in
-      let e = same-n n ps t k m true (y .0 .lent) in
-      let f : graph-in m (t .links) ≡ graph m ps = rw e (read-back n ps t k) in
-      carried hs _ (switch u a b ∷ []) v (q ∙ rw (d .number, d .step, d .count, f)) (rw e at (y .1), tt) (rw e at (d .tables))
-  commit-step (suc y) u m a b z xs r v hs p d q = refused y _ hs v (q ∙ rw (d .number, d .step, d .count)) (d .tables)
+      let i = same-n n ps t k m true (y .0 .lent) in
+      let f : graph-in m (t .links) ≡ graph m ps = rw i (read-back n ps t k) in
+      rw (site-asked n ps t k m true (λ g. ends-then max-neighbours u m a b g (ask 16 (is-proposal u a b z xs g) 0)) ∙ p)
+      (carried _ _ (switch u a b ∷ []) _ (rw f) (rw i at (y .1), tt) (rw i refl))
+  commit-step (suc y) u m a b z xs p =
+      rw (site-asked n ps t k m true (λ g. ends-then max-neighbours u m a b g (ask 16 (is-proposal u a b z xs g) 0)) ∙ p) (refused y _ _ t refl refl)
 
   -- ---- a batch
 
   batch-step :
-      (R m : ℕ) (xs : List ℕ) (r : Value) (v : Tables) (hs : List Answer) → batch-refusal m (lengths-of t) (length xs) true ≡ R →
-      By-number R (Batch-done m xs (graph-in m (t .links) .links) t r v) (λ q. Batch-refused q t r v) → hs ≡ one (counted (r .number) (r .value)) →
-      Stepped n ps (unless-refused R (outcome-of (one (counted (batch-stop m xs ps) (length (batch-switches m xs ps)))) none (batch-switches m xs ps))) t hs v
-  unfolding By-number batch-refusal counted plain
-  batch-step zero m xs r v hs p d q =
-      let e = same-n n ps t k m (list-length (length xs)) (site-zero m (lengths-of t) (list-length (length xs)) true 0 p .0 .lent) in
-      let f : graph-in m (t .links) .links ≡ ps = rw e (ap (λ (g : Graph). g .links) (read-back n ps t k)) in
-      let c : Batch-done n xs ps t r v = rw (f, e) at d in
-      rw e (carried hs _ (batch-switches n xs ps) v (q ∙ rw (c .number, c .value)) (batch-allowed n xs ps) (c .tables))
-  batch-step (suc y) m xs r v hs p d q = refused y _ hs v (q ∙ rw (d .number, d .value)) (d .tables)
+      (R m : ℕ) (xs : List ℕ) → batch-refusal m (lengths-of t) (length xs) true ≡ R → let o = batch-outcome m xs t in
+      Stepped n ps (unless-refused R (outcome-of (one (counted (batch-stop m xs ps) (length (batch-switches m xs ps)))) none (batch-switches m xs ps))) t
+      (one (counted (o .reply .number) (o .reply .value))) (o .tables)
+  unfolding batch-outcome batch-refusal links-taken by-number counted plain
+  batch-step zero m xs p =
+      let i = same-n n ps t k m (list-length (length xs)) (site-zero m (lengths-of t) (list-length (length xs)) true 0 p .0 .lent) in
+      let f : graph-in m (t .links) .links ≡ ps = rw i (ap (λ (g : Graph). g .links) (read-back n ps t k)) in
+      rw (site-asked n ps t k m (list-length (length xs)) (λ g. 0) ∙ p, f, i) (carried _ _ (batch-switches n xs ps) _ refl (batch-allowed n xs ps) refl)
+  batch-step (suc y) m xs p = rw (site-asked n ps t k m (list-length (length xs)) (λ g. 0) ∙ p) (refused y _ _ t refl refl)
 
   -- ---- a hearing
 
+  -- question 3 gets yes
+  hear-asked : (m : ℕ) (xs w : List ℕ) → hear-refusal m (lengths-of t) xs (length w) (sound m t) ≡ hear-refusal m (lengths-of t) xs (length w) true
+  unfolding hear-refusal
+  hear-asked m xs w =
+      site-asked n ps t k m (heard-lengths m (length xs) (length w)) (λ g. ask 14 (heard-proper m xs) (ask 7 (agreed-few max-neighbours m xs) 0))
+
   hear-step :
-      (R m : ℕ) (xs w : List ℕ) (r : Value) (v : Tables) (x : List ℕ) (hs : List Answer) → hear-refusal m (lengths-of t) xs (length w) true ≡ R →
-      By-number R (Hear-accepted m xs t r v x) (λ q. Hear-refused q t w r v x) → hs ≡ one (counted (r .number) (r .value)) →
-      Stepped n ps (unless-refused R (outcome-of (one (counted 0 (one-sided-count m xs))) none (heard-switches (graph m ps) xs))) t hs v
-  unfolding By-number hear-refusal counted plain
-  hear-step zero m xs w r v x hs p d q =
+      (R m : ℕ) (xs w : List ℕ) → hear-refusal m (lengths-of t) xs (length w) true ≡ R → let o = hear-outcome m xs t w in
+      Stepped n ps (unless-refused R (outcome-of (one (counted 0 (one-sided-count m xs))) none (heard-switches (graph m ps) xs))) t
+      (one (counted (o .reply .number) (o .reply .value))) (o .tables)
+  unfolding hear-outcome hear-refusal by-number counted plain
+  hear-step zero m xs w p =
       let z = site-zero m (lengths-of t) (heard-lengths m (length xs) (length w)) true _ p in
       let y = ask-zero 13 (heard-proper m xs) _ (z .1) in
       let few = ask-zero 6 (agreed-few max-neighbours m xs) 0 (y .1) .0 in
-      let e = same-n n ps t k m (heard-lengths m (length xs) (length w)) (z .0 .lent) in
-      let f : graph-in m (t .links) ≡ graph m ps = rw e (read-back n ps t k) in
-      let c : v ≡ tables-after n (heard-switches (graph n ps) xs) t = rw (f, e) at (d .tables) in
-      rw e
-      (carried hs _ (heard-switches (graph n ps) xs) v (q ∙ rw (d .number, d .value, e))
-      (hear-allowed n xs ps (k .most) (record { is-proper = k .valid .links-proper; is-ascending = k .valid .links-ascending }) (rw e at (y .0)) (rw e at few))
-      c)
-  hear-step (suc y) m xs w r v x hs p d q = refused y _ hs v (q ∙ rw (d .number, d .value)) (d .tables)
+      let i = same-n n ps t k m (heard-lengths m (length xs) (length w)) (z .0 .lent) in
+      let f : graph-in m (t .links) ≡ graph m ps = rw i (read-back n ps t k) in
+      rw (hear-asked m xs w ∙ p, f, i)
+      (carried _ _ (heard-switches (graph n ps) xs) _ refl
+      (hear-allowed n xs ps (k .most) (record { is-proper = k .valid .links-proper; is-ascending = k .valid .links-ascending }) (rw i at (y .0)) (rw i at few))
+      refl)
+  hear-step (suc y) m xs w p = rw (hear-asked m xs w ∙ p) (refused y _ _ t refl refl)
 
   -- ---- marks (W-211)
 
-  -- setting and removing
-  store-step :
-      (R r : ℕ) (new old cs : List ℕ) (mark : Marking) (v : Tables) (hs : List Answer) → Store-by R new old r cs → v ≡ t → hs ≡ one (plain r) →
-      Stepped n ps (unless-refused R (outcome-with (one (plain 0)) none [] mark)) t hs v
-  unfolding By-number
-  store-step zero r new old cs mark v hs d e q = left-alone hs _ mark v (q ∙ ap (λ (x : ℕ). one (plain x)) (d .number)) e
-  store-step (suc y) r new old cs mark v hs d e q = refused y _ hs v (q ∙ ap (λ (x : ℕ). one (plain x)) (d .number)) e
-
-  return-step :
-      (R m r : ℕ) (x bs : List ℕ) (v : Tables) (hs : List Answer) → named-refusal m (lengths-of t) true x bs ≡ R →
-      By-number R (Read-accepted m (mark-image m x bs) r v) (λ q. Tables-refused q r t v) → hs ≡ one (plain r) →
-      Stepped n ps (unless-refused R (outcome-with (one (plain 0)) (some (from-image m (mark-image m x bs))) [] (returns x))) t hs v
-  unfolding By-number
-  return-step zero m r x bs v hs p d q =
-      let a = named-zero m (lengths-of t) true x bs p in
-      image-step m r (mark-image m x bs) (returns x) v hs (mark-read m (lengths-of t) true x bs (a .0) (a .1)) d q
-  return-step (suc y) m r x bs v hs p d q = refused y _ hs v (q ∙ ap (λ (x : ℕ). one (plain x)) (d .number)) (refused-same (suc y) r t v d)
-
-  -- question 3 gets yes
   mark-asked : (m : ℕ) (x bs : List ℕ) (later : ℕ) → mark-refusal m (lengths-of t) (sound m t) x bs later ≡ mark-refusal m (lengths-of t) true x bs later
   unfolding mark-refusal
   mark-asked m x bs later = site-asked n ps t k m (store-length bs) (λ g. ask 17 (marks-good m x bs) later)
 
+  -- setting and removing
+  store-step :
+      (R : ℕ) (new old : List ℕ) (mark : Marking) →
+      Stepped n ps (unless-refused R (outcome-with (one (plain 0)) none [] mark)) t (one (plain (store-outcome R new old .reply))) t
+  unfolding store-outcome by-number
+  store-step zero new old mark = left-alone _ _ mark t refl refl
+  store-step (suc y) new old mark = refused y _ _ t refl refl
+
+  return-step :
+      (R m : ℕ) (x bs : List ℕ) → named-refusal m (lengths-of t) true x bs ≡ R → let o = return-outcome m x bs t in
+      Stepped n ps (unless-refused R (outcome-with (one (plain 0)) (some (from-image m (mark-image m x bs))) [] (returns x))) t (one (plain (o .reply))) (o .tables)
+  unfolding return-outcome named-refusal by-number beginning-tables
+  return-step zero m x bs p =
+      let a = named-zero m (lengths-of t) true x bs p in
+      rw (mark-asked m x bs (ask 18 (is-marked x bs) 0) ∙ p) (image-step m (mark-image m x bs) (returns x) (mark-read m (lengths-of t) true x bs (a .0) (a .1)))
+  return-step (suc y) m x bs p = rw (mark-asked m x bs (ask 18 (is-marked x bs) 0) ∙ p) (refused y _ _ t refl refl)
+
   -- ---- any call
 
-  other-step : (hs : List Answer) (v : Tables) → v ≡ t → hs ≡ [] → Stepped n ps (outcome-of [] none []) t hs v
+  other-step : Stepped n ps (outcome-of [] none []) t [] t
   unfolding pairs-of first-pairs pairs-after tables-after
-  other-step hs v e f = record {
-    kept = record { answered = f; tables = λ j. e; switching = λ j. rw e ended; started = λ qs j. absurd (none-some j) };
-    holds = unchanged-holds n ps t k e;
+  other-step = record {
+    kept = record { answered = refl; tables = λ j. refl; switching = λ j. ended; started = λ qs j. absurd (none-some j) };
+    holds = k;
   }
 
   -- what the call comes to
   came : (c : Call) → Stepped n ps (outcome c (lengths-of t) ps) t (done c t .answers) (done c t .tables)
-  unfolding done outcome link-refusal commit-refusal batch-refusal hear-refusal set-refusal named-refusal
-  came (clearing m) = clear-step _ m _ _ _ refl (clear-of m t (clear-outcome m t) .0 refl) refl
-  came (reading m bs) = read-step _ m _ bs _ _ refl (read-outcome-of m bs t (read-outcome m bs t) .0 refl) refl
-  came (linking u m a b w) =
-      let y : List ℕ = replicate w 0 in
-      let o = link-outcome u m a b t y in
-      let f = asked (Link-accepted u a b (graph-in m (t .links)) t y (o .reply) (o .tables) (o .answer)) (λ q. Link-refused q t y (o .reply) (o .tables) (o .answer))
-      (site-asked n ps t k m (answer-length m (length y)) (λ g. ends-refusal max-neighbours u m a b g)) (link-of u m a b t y o .0 refl) in
-      rw length-replicate at (link-step _ u m a b (o .reply) y (o .answer) (o .tables) _ refl f refl)
-  came (committing u m a b z xs) =
-      let o = commit-outcome u m a b z xs t in
-      let f = asked (Commit-accepted u m a b t (o .reply) (o .tables)) (λ q. Commit-refused q t (o .reply) (o .tables))
-      (site-asked n ps t k m true (λ g. ends-then max-neighbours u m a b g (ask 16 (is-proposal u a b z xs g) 0))) (commit-of u m a b z xs t o .0 refl) in
-      commit-step _ u m a b z xs (o .reply) (o .tables) _ refl f refl
-  came (batching m xs) =
-      let o = batch-outcome m xs t in
-      let f = asked (Batch-done m xs (graph-in m (t .links) .links) t (o .reply) (o .tables)) (λ q. Batch-refused q t (o .reply) (o .tables))
-      (site-asked n ps t k m (list-length (length xs)) (λ g. 0)) (batch-of m xs t o .0 refl) in
-      batch-step _ m xs (o .reply) (o .tables) _ refl f refl
-  came (hearing m xs w) =
-      let y : List ℕ = replicate w 0 in
-      let o = hear-outcome m xs t y in
-      let f = asked (Hear-accepted m xs t (o .reply) (o .tables) (o .one-sided)) (λ q. Hear-refused q t y (o .reply) (o .tables) (o .one-sided))
-      (site-asked n ps t k m (heard-lengths m (length xs) (length y)) (λ g. ask 14 (heard-proper m xs) (ask 7 (agreed-few max-neighbours m xs) 0)))
-      (hear-of m xs t y o .0 refl) in
-      rw length-replicate at (hear-step _ m xs y (o .reply) (o .tables) (o .one-sided) _ refl f refl)
-  came (setting m x bs) =
-      let o = set-outcome m x t bs in
-      store-step _ (o .reply) _ _ (o .store) (sets x) t _ (asked _ _ (mark-asked m x bs (ask 19 (has-place x bs) 0)) (set-of m x t bs o .0 refl)) refl refl
-  came (removing m x bs) =
-      let o = remove-outcome m x t bs in
-      store-step _ (o .reply) _ _ (o .store) (removes x) t _ (asked _ _ (mark-asked m x bs (ask 18 (is-marked x bs) 0)) (remove-of m x t bs o .0 refl)) refl refl
-  came (returning m x bs) =
-      let o = return-outcome m x bs t in
-      return-step _ m (o .reply) x bs (o .tables) _ refl (asked _ _ (mark-asked m x bs (ask 18 (is-marked x bs) 0)) (return-of m x bs t o .0 refl)) refl
-  came other = other-step [] t refl refl
+  unfolding done outcome set-outcome remove-outcome set-refusal named-refusal
+  came (clearing m) = clear-step _ m refl
+  came (reading m bs) = read-step _ m bs refl
+  came (linking u m a b w) = rw length-replicate at (link-step _ u m a b (replicate w 0) refl)
+  came (committing u m a b z xs) = commit-step _ u m a b z xs refl
+  came (batching m xs) = batch-step _ m xs refl
+  came (hearing m xs w) = rw length-replicate at (hear-step _ m xs (replicate w 0) refl)
+  came (setting m x bs) = rw (mark-asked m x bs (ask 19 (has-place x bs) 0)) (store-step _ _ bs (sets x))
+  came (removing m x bs) = rw (mark-asked m x bs (ask 18 (is-marked x bs) 0)) (store-step _ _ bs (removes x))
+  came (returning m x bs) = return-step _ m x bs refl
+  came other = other-step
 
   pub step : (c : Call) (hs : List Answer) (v : Tables) → Does c t hs v → Stepped n ps (outcome c (lengths-of t) ps) t hs v
   unfolding Does

@@ -14,17 +14,17 @@ use Rattle.mesh.specs.Levels.{changed}
 use Rattle.mesh.specs.Image.{image-links}
 use Rattle.mesh.proofs.Cores.Peeling.{number-core, getD-numbers}
 use Rattle.calls.specs.Questions.{lengths-of, answer-length, tables-refusal, read-refusal, link-refusal}
-use Rattle.calls.specs.Fields.{By-number, Tables-refused, Clear-accepted, Read-accepted}
+use Rattle.calls.specs.Outcomes.{Numbered, numbered, clear-outcome, read-outcome}
 use Rattle.calls.specs.Switches.{Switch, switch, pairs-after, tables-after}
 use Rattle.calls.specs.Contracts.{Clear-contract, Read-contract}
 use Rattle.calls.specs.Book.{Call, linking, given, Answer, plain, reported, outcome-of, unless-refused, outcome, pairs-of}
-use Rattle.calls.specs.Book.{booked, book-answers, book-after, beginning-pairs, radios, beginning-tables, fresh, past, history}
+use Rattle.calls.specs.Book.{booked, book-answers, book-after, from-clearing, from-image, beginning-pairs, radios, beginning-tables, fresh, past, history}
 use Rattle.calls.specs.Runs.{Event, event, events, after, givens, answers}
 use Rattle.calls.proofs.Runs.{Run, ended, next, run}
 use Rattle.calls.specs.Demand.{Kept, Link-kept, Switching, Start, cleared, read, beginning, Demand-3}
 use Rattle.calls.proofs.ChainLaws.{link-zero}
 use Rattle.calls.proofs.Holds.{Holds, clear-holds, read-holds, clear-is, read-is, same-n, is-sound, read-back}
-use Rattle.calls.proofs.FieldLaws.{clear-fields, read-fields}
+use Rattle.calls.proofs.ContractLaws.{accepted-is}
 use Rattle.calls.proofs.Steps.{Stepped, step}
 use Rattle.calls.proofs.Histories.{Traced, Past-holds, past-kept}
 
@@ -103,20 +103,23 @@ k-order-at n ps v k = rw (k .is) (k .valid .k-order)
 
 -- ---- the start
 
--- the number 0 is no refusal
-start-with :
-    (R : ℕ) (A : Type 0) (t v : Tables) → By-number R A (λ q. Tables-refused q 0 t v) → (R ≡ 0) × A
-unfolding By-number
-start-with zero A t v d = (refl, d)
-start-with (suc q) A t v d = absurd (omega (arith, d .number))
+-- the number 0 is no refusal, and the tables are the ones that the list begins from
+cleared-is : (n : ℕ) (t v : Tables) → Clear-contract n t 0 v → (tables-refusal n (lengths-of t) ≡ 0) × (v ≡ beginning-tables (from-clearing n))
+unfolding Clear-contract clear-outcome
+cleared-is n t v d =
+    let p = accepted-is (λ (o : Numbered). o .reply) (numbered 0 v) (tables-refusal n (lengths-of t)) _ _ (λ q. refl) d refl .0 in
+    (p, ap (λ (o : Numbered). o .tables) (d ∙ clear-is n t p))
+
+read-in-is :
+    (n : ℕ) (bs : List ℕ) (t v : Tables) → Read-contract n bs t 0 v → (read-refusal n (lengths-of t) bs ≡ 0) × (v ≡ beginning-tables (from-image n bs))
+unfolding Read-contract read-outcome
+read-in-is n bs t v d =
+    let p = accepted-is (λ (o : Numbered). o .reply) (numbered 0 v) (read-refusal n (lengths-of t) bs) _ _ (λ q. refl) d refl .0 in
+    (p, ap (λ (o : Numbered). o .tables) (d ∙ read-is n bs t p))
 
 pub start : {n : ℕ} {ps : List Link} {t : Tables} → Start n ps t → Holds n ps t
-start (cleared n t v d) =
-    let a = start-with (tables-refusal n (lengths-of t)) (Clear-accepted n 0 v) t v (clear-fields n t 0 v .0 d) in
-    clear-holds n 0 t v (a .0) (a .1)
-start (read n bs t v d) =
-    let a = start-with (read-refusal n (lengths-of t) bs) (Read-accepted n bs 0 v) t v (read-fields n bs t 0 v .0 d) in
-    read-holds n bs 0 t v (a .0) (a .1)
+start (cleared n t v d) = let a = cleared-is n t v d in subst (Holds n []) (sym (a .1)) (clear-holds n t (a .0))
+start (read n bs t v d) = let a = read-in-is n bs t v d in subst (Holds n (image-links n bs)) (sym (a .1)) (read-holds n bs t (a .0))
 
 -- ---- the link history
 
@@ -124,12 +127,10 @@ start (read n bs t v d) =
 start-traced : {n : ℕ} {ps : List Link} {t : Tables} → (s : Start n ps t) → Traced n (fresh (beginning s)) ps t
 unfolding beginning fresh radios beginning-pairs pairs-after tables-after
 start-traced (cleared n t v d) =
-    let a = start-with (tables-refusal n (lengths-of t)) (Clear-accepted n 0 v) t v (clear-fields n t 0 v .0 d) in
-    let e = clear-is n 0 v (a .1) in
+    let e = cleared-is n t v d .1 in
     record { holds = start (cleared n t v d); by = record { size = refl; start = subst (Start n []) e (cleared n t v d); tables = e }; pairs = refl }
 start-traced (read n bs t v d) =
-    let a = start-with (read-refusal n (lengths-of t) bs) (Read-accepted n bs 0 v) t v (read-fields n bs t 0 v .0 d) in
-    let e = read-is n bs 0 v (a .1) in
+    let e = read-in-is n bs t v d .1 in
     record { holds = start (read n bs t v d); by = record { size = refl; start = subst (Start n (image-links n bs)) e (read n bs t v d); tables = e }; pairs = refl }
 
 -- with no mark set

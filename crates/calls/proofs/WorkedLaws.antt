@@ -28,15 +28,14 @@ use Rattle.mesh.proofs.Images.Of.{length-image-of}
 use Rattle.calls.specs.Questions.{lengths-of, size-good, level-refusal, image-length, tables-refusal, ends-refusal, read-refusal}
 use Rattle.calls.specs.Switches.{Switch, switched}
 use Rattle.calls.specs.Outcomes.{by-number, Numbered, Listing, Linked, linked-with, reply, value, listing-outcome, clear-outcome, read-outcome, write-outcome, tree-outcome}
+use Rattle.calls.specs.Book.{beginning-tables}
 use Rattle.calls.specs.Worked.{entries, lent-tables, lent-nodes, Left, left, left-by, played, after, Want, last-answers, all-numbers, whole-order}
 use Rattle.calls.specs.Worked.{shell-tree, connected-core, backbone-radios, image-checks, printed, soundness, image-reading, same-nodes, block-checks}
 use Rattle.calls.specs.Worked.{is-value, is-listing, image-written, meets, meets-all, Row, right, Right, All-right}
-use Rattle.calls.specs.declared.Reply.{Reply}
-use Rattle.calls.specs.declared.Value.{Value}
-use Rattle.calls.proofs.FieldLaws.{number-by}
+use Rattle.calls.proofs.ContractLaws.{number-by}
 use Rattle.calls.proofs.QuestionLaws.{size-good-true}
 use Rattle.calls.proofs.ChainLaws.{lent-yes, ends-zero}
-use Rattle.calls.proofs.Holds.{Holds, clear-holds, read-back, switched-holds}
+use Rattle.calls.proofs.Holds.{Holds, clear-is, clear-holds, read-back, switched-holds}
 use Rattle.calls.proofs.Steps.{answer-accepted, answer-refused}
 use Rattle.calls.proofs.ByPairs.{link-by-pairs, core-by-pairs, backbone-by-pairs, write-by-pairs, tree-by-pairs}
 use Rattle.calls.proofs.WorkedState.{State, state, carried-out, state-played, state-after, right-lengths, state-meets, state-meets-all, state-right}
@@ -128,16 +127,9 @@ module _ (f : ℕ → ℕ) (n : ℕ) (size : size-good n ≡ true) where
       }))
 
   alike-cleared : (eqb (clear-outcome n (lent-tables f n) .reply) 0 ≡ true) × Alike n (state [] (range 0 n) []) (left (clear-outcome n (lent-tables f n) .tables) [])
-  unfolding clear-outcome by-number
+  unfolding beginning-tables tables-of
   alike-cleared =
-      rw cleared (
-        refl,
-        record {
-          holds = clear-holds n 0 (lent-tables f n) _ cleared (record { number = refl; links = refl; numbers = refl; order = refl });
-          order = refl;
-          answers = refl;
-        },
-      )
+      rw (clear-is n (lent-tables f n) cleared) (refl, record { holds = clear-holds n (lent-tables f n) cleared; order = refl; answers = refl })
 
   -- ---- link calls
 

@@ -17,7 +17,6 @@ pub mod Outcomes
 pub mod MarkOutcomes
 pub mod LiftOutcome
 pub mod Contracts
-pub mod Fields
 pub mod Results
 pub mod MarkResults
 pub mod Older

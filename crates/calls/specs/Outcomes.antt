@@ -169,14 +169,15 @@ commit-outcome up n a b z xs t =
 
 -- ---- a batch
 
--- the number of the link refused, or 0, the count of links done, and the tables with these up
+-- links taken up one by one: the number of the link refused, or 0, the count of links done, and the tables with these up
+unfoldable pub links-taken : (n : ℕ) → (list : List ℕ) → Tables → Batched
+links-taken n xs t =
+    let ps = graph-in n (t .links) .links in
+    batched (value (batch-stop n xs ps) (length (batch-switches n xs ps))) (tables-after n (batch-switches n xs ps) t)
+
 unfoldable pub batch-outcome : (n : ℕ) → (list : List ℕ) → Tables → Batched
 batch-outcome n xs t =
-    let ps = graph-in n (t .links) .links in
-    by-number
-    (batch-refusal n (lengths-of t) (length xs) (sound n t))
-    (batched (value (batch-stop n xs ps) (length (batch-switches n xs ps))) (tables-after n (batch-switches n xs ps) t))
-    (λ q. batched (value q 0) t)
+    by-number (batch-refusal n (lengths-of t) (length xs) (sound n t)) (links-taken n xs t) (λ q. batched (value q 0) t)
 
 -- ---- a hearing
 

@@ -13,7 +13,6 @@ use mathlib.Core.List.{List, [], _∷_, _++_, map, flatMap}
 use Prim.Native.Nat.{ℕ, zero, suc, _+_, _*_, _-_}
 use Prim.Native.String.{String}
 use lib.Dec.{eqb}
-use lib.IntN.{pos, negsuc}
 use lib.ListN.{length, drop, take, set}
 use Rattle.mesh.specs.Limits.{row-bytes}
 use Rattle.lists.specs.Lists.{range, same}
@@ -28,7 +27,6 @@ use Rattle.calls.specs.Book.{Answer, plain, reported}
 use Rattle.calls.specs.Runs.{answer-of}
 use Rattle.text.specs.Text.{bytes-of}
 use Rattle.calls.specs.Replay.{link-line, closing-lines}
-use Rattle.calls.specs.declared.Reply.{Reply}
 use Rattle.calls.specs.declared.Value.{Value}
 
 -- ---- what is lent
