@@ -11,8 +11,10 @@ use Rattle.mesh.proofs.Cores.Peeling.{number-core, number-unique}
 use Rattle.mesh.proofs.Trees.Listed.{backbone-one-part}
 use Rattle.mesh.proofs.Images.OtherSize.{other-size-iff}
 use Rattle.mesh.proofs.Marks.Rules.{store-good-iff}
-use Rattle.calls.proofs.Refusals.{clear-keeps, read-keeps, return-keeps, link-keeps, ask-keeps, commit-keeps, hear-keeps, check-keeps, number-keeps, neighbours-keeps}
-use Rattle.calls.proofs.Refusals.{linked-keeps, first-keeps, later-keeps, lift-keeps, core-keeps, backbone-keeps, tree-keeps, staircase-keeps, write-keeps, sheet-keeps}
+use Rattle.calls.proofs.Refusals.{clear-keeps, read-keeps, return-keeps, link-keeps, ask-keeps, commit-keeps, hear-keeps, check-keeps, number-keeps}
+use Rattle.calls.proofs.Refusals.{neighbours-keeps}
+use Rattle.calls.proofs.Refusals.{linked-keeps, first-keeps, later-keeps, lift-keeps, core-keeps, backbone-keeps, tree-keeps, staircase-keeps, write-keeps}
+use Rattle.calls.proofs.Refusals.{sheet-keeps}
 use Rattle.calls.proofs.Refusals.{script-length-keeps, script-keeps, set-keeps, remove-keeps, block-keeps}
 use Rattle.calls.proofs.Accepted.{check-right, link-right, number-right, later-right, core-right, backbone-right, tree-right-listed, write-right}
 use Rattle.calls.proofs.Accepted.{ask-right, commit-right, read-what-was-written, read-right, block-right, sheet-right}
@@ -112,7 +114,14 @@ promises = record {
   w-207 = record { answered = read-eleven; other-size = other-size-iff; of-none = eleven-iff };
   w-208 = record { older = older; blocks-most = blocks-most };
   w-209 = record { staircase = staircase-right };
-  w-210 = record { ask = ask-right; commit = commit-right; two-steps = two-steps; refused-step = refused-step; commit-iff = commit-iff; commit-number = commit-number };
+  w-210 = record {
+    ask = ask-right;
+    commit = commit-right;
+    two-steps = two-steps;
+    refused-step = refused-step;
+    commit-iff = commit-iff;
+    commit-number = commit-number;
+  };
   w-211 = record {
     store-good = store-good-iff;
     mark-set = set-right;

@@ -41,8 +41,10 @@ use Rattle.calls.specs.Marks.{mark-image}
 use Rattle.calls.specs.Lift.{lifts}
 use Rattle.calls.specs.Outcomes.{reply, value, later, numbered, linked-with, asked, committed-with, batched, heard-with, listing, treed}
 use Rattle.calls.specs.Outcomes.{clear-outcome, read-outcome, link-outcome, ask-outcome, commit-outcome, batch-outcome, hear-outcome}
-use Rattle.calls.specs.Outcomes.{check-outcome, number-outcome, neighbours-outcome, linked-outcome, first-outcome, later-outcome, core-outcome, backbone-outcome}
-use Rattle.calls.specs.Outcomes.{staircase-outcome, write-outcome, sheet-outcome, script-length-outcome, script-outcome, tree-outcome, no-block, block-outcome}
+use Rattle.calls.specs.Outcomes.{check-outcome, number-outcome, neighbours-outcome, linked-outcome, first-outcome, later-outcome, core-outcome}
+use Rattle.calls.specs.Outcomes.{backbone-outcome}
+use Rattle.calls.specs.Outcomes.{staircase-outcome, write-outcome, sheet-outcome, script-length-outcome, script-outcome, tree-outcome, no-block}
+use Rattle.calls.specs.Outcomes.{block-outcome}
 use Rattle.calls.specs.MarkOutcomes.{stored, set-outcome, remove-outcome, return-outcome}
 use Rattle.calls.specs.LiftOutcome.{pair, lift-outcome}
 use Rattle.calls.specs.Results.{Batch-stopped, Batch-single, Site-right, Link-right, Later-right, Core-listed, Backbone-listed, Tree-listed, Written-right}
