@@ -5,13 +5,14 @@
 --   past-step          one call keeps it
 --   past-kept          so does every run
 use mathlib.Core.Path.{_≡_, refl, sym, ap, ap₂, subst, _∙_}
-use mathlib.Core.Bool.{Bool, true, false, cond}
+use mathlib.Core.Bool.{Bool, true, false, _&&_, cond}
 use mathlib.Core.List.{List, [], _∷_, _++_}
 use mathlib.Core.Option.{Option, none, some}
 use Prim.Native.Nat.{ℕ, zero, suc, _≤_}
 use Rattle.mesh.specs.Limits.{max-radios}
 use Rattle.lists.specs.Lists.{same}
 use Rattle.lists.proofs.All.{same-refl, same-eq}
+use Rattle.lists.proofs.Tests.{and-right}
 use Rattle.mesh.specs.Graph.{Link, Graph, graph}
 use Rattle.mesh.specs.Tables.{Tables, tables-of, graph-in}
 use Rattle.mesh.specs.Image.{image-of, image-graph, image-order, is-image}
@@ -19,7 +20,7 @@ use Rattle.mesh.proofs.Images.Sites.{read-written-graph, read-written-order}
 use Rattle.calls.specs.Questions.{Lengths, lengths-of}
 use Rattle.calls.specs.Switches.{Switch, pairs-after, tables-after}
 use Rattle.calls.specs.Book.{Beginning, from-clearing, from-image, Marking, no-mark, sets, removes, returns, Outcome, Given, given, Answer, outcome, booked, first-pairs, pairs-of}
-use Rattle.calls.specs.Book.{book-after, beginning-pairs, radios, beginning-tables, History, fresh, history-by, image-at, Marked, Past, past, unmarked, recalled, marked-by, past-by, past-after}
+use Rattle.calls.specs.Book.{book-after, beginning-pairs, radios, beginning-tables, History, fresh, history-by, image-at, Marked, Past, past, is-mark, struck, replacing, recalled, marked-by, past-by, past-after}
 use Rattle.calls.specs.Runs.{Event, event, givens}
 use Rattle.calls.proofs.Runs.{Run, ended, next}
 use Rattle.calls.specs.Demand.{By-history, Call-kept}
@@ -82,27 +83,34 @@ abbrev pub Marks-hold : (n : ℕ) → List Marked → Type 0
 Marks-hold n [] = Unit {0}
 Marks-hold n (m ∷ ms) = Marked-holds n m × Marks-hold n ms
 
-unmarked-hold : (n : ℕ) (x : List ℕ) (ms : List Marked) → Marks-hold n ms → Marks-hold n (unmarked x ms)
-unfolding unmarked
-unmarked-hold n x [] k = tt
-unmarked-hold n x (m ∷ ms) k = go (same (m .name) x) (unmarked-hold n x ms (k .1))
+struck-hold : (n : ℕ) (x i : List ℕ) (ms : List Marked) → Marks-hold n ms → Marks-hold n (struck x i ms)
+unfolding struck
+struck-hold n x i [] k = tt
+struck-hold n x i (m ∷ ms) k = go (is-mark x i m) (struck-hold n x i ms (k .1))
   where
-    go : (b : Bool) → Marks-hold n (unmarked x ms) → Marks-hold n (cond b (unmarked x ms) (m ∷ unmarked x ms))
-    go true r = r
+    go : (b : Bool) → Marks-hold n (struck x i ms) → Marks-hold n (cond b ms (m ∷ struck x i ms))
+    go true r = k .1
     go false r = (k .0, r)
+
+pub replacing-hold : (n : ℕ) (x : List ℕ) (r : Option (List ℕ)) (ms : List Marked) → Marks-hold n ms → Marks-hold n (replacing x r ms)
+unfolding replacing
+replacing-hold n x none ms k = k
+replacing-hold n x (some i) ms k = struck-hold n x i ms k
 
 -- the history recalled makes what the mark's image does
 recalled-traced :
     (n : ℕ) (x : List ℕ) (h : History) (ps : List Link) (t : Tables) (ms : List Marked) → Traced n h ps t → Marks-hold n ms → Traced n (recalled x h ms) ps t
-unfolding recalled
+unfolding recalled is-mark
 recalled-traced n x h ps t [] k l = k
 recalled-traced n x h ps t (m ∷ ms) k l =
-    go (same (m .name) x) (same (image-at (m .history)) (image-at h)) refl (recalled-traced n x h ps t ms k (l .1))
+    go (is-mark x (image-at h) m) refl (recalled-traced n x h ps t ms k (l .1))
   where
-    go : (a b : Bool) → same (image-at (m .history)) (image-at h) ≡ b → Traced n (recalled x h ms) ps t → Traced n (cond a (cond b (m .history) h) (recalled x h ms)) ps t
-    go true true e r = exchanged n (m .history) h (l .0 .pairs) ps (l .0 .tables) t (l .0 .traced) k (same-eq (image-at (m .history)) (image-at h) e)
-    go true false e r = k
-    go false b e r = r
+    go : (b : Bool) → same (m .name) x && same (image-at (m .history)) (image-at h) ≡ b → Traced n (recalled x h ms) ps t →
+        Traced n (cond b (m .history) (recalled x h ms)) ps t
+    go true e r =
+        exchanged n (m .history) h (l .0 .pairs) ps (l .0 .tables) t (l .0 .traced) k
+        (same-eq (image-at (m .history)) (image-at h) (and-right (same (m .name) x) (same (image-at (m .history)) (image-at h)) e))
+    go false e r = r
 
 -- ---- one call
 
@@ -135,8 +143,8 @@ marked-step :
     Past-holds n ps (marked-by m h ms) t
 unfolding marked-by
 marked-step n ps h ms t no-mark k l = record { traced = k; marks = l }
-marked-step n ps h ms t (sets x) k l = record { traced = k; marks = (record { pairs = ps; tables = t; traced = k }, l) }
-marked-step n ps h ms t (removes x) k l = record { traced = k; marks = unmarked-hold n x ms l }
+marked-step n ps h ms t (sets x r) k l = record { traced = k; marks = (record { pairs = ps; tables = t; traced = k }, replacing-hold n x r ms l) }
+marked-step n ps h ms t (removes x i) k l = record { traced = k; marks = struck-hold n x i ms l }
 marked-step n ps h ms t (returns x) k l = record { traced = recalled-traced n x h ps t ms k l; marks = l }
 
 past-step :

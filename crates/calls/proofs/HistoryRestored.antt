@@ -1,11 +1,11 @@
 -- Coming back to a mark gives back the link history at the moment when it was set (W-211).
 --   history-restored   an accepted set, calls none of which sets or removes that name, an accepted coming back to the image that was
 --                      set: the history, with the clearing or read image that it began from, is the one at the setting
-use mathlib.Core.Path.{_≡_, refl, sym, ap, ap₂, _∙_}
+use mathlib.Core.Path.{_≡_, refl, sym, ap, ap₂, subst, _∙_}
 use mathlib.Core.Logic.{_⊎_, inl, inr}
-use mathlib.Core.Bool.{Bool, true, false, not, cond}
+use mathlib.Core.Bool.{Bool, true, false, _&&_, _||_, not, cond}
 use mathlib.Core.List.{List, [], _∷_, _++_}
-use mathlib.Core.Option.{none, some}
+use mathlib.Core.Option.{Option, none, some}
 use Prim.Native.Nat.{ℕ, zero, suc, _≤_}
 use native.Mathlib.Omega.{arith}
 use Rattle.mesh.specs.Limits.{max-radios}
@@ -14,7 +14,8 @@ use Rattle.lists.proofs.All.{same-refl, same-eq}
 use Rattle.lists.proofs.Tests.{and-left, and-right, bool-cases, never}
 use Rattle.mesh.specs.Graph.{Link, Graph}
 use Rattle.mesh.specs.Tables.{Tables, tables-of, graph-in}
-use Rattle.mesh.specs.Image.{image-of, image-graph, image-order, is-image}
+use Rattle.mesh.specs.Image.{image-of, image-graph, image-order}
+use Rattle.mesh.specs.Image as images
 use Rattle.mesh.proofs.Tables.ReadBack.{graph-in-links-table}
 use Rattle.mesh.proofs.Tables.Sites.{image-valid}
 use Rattle.mesh.proofs.Images.Sites.{written-read}
@@ -23,7 +24,7 @@ use Rattle.calls.specs.Marks.{set-refusal, named-refusal, mark-image}
 use Rattle.calls.specs.Switches.{pairs-after, tables-after}
 use Rattle.calls.specs.Book.{Call, from-image, Marking, no-mark, sets, removes, returns, Outcome, outcome-with, unless-refused, outcome, setting, returning, Answer, plain}
 use Rattle.calls.specs.Book.{Given, given, booked, first-pairs, pairs-of, book-after, radios, beginning-tables, History, fresh, history-by, image-at, Marked, Past, past}
-use Rattle.calls.specs.Book.{unmarked, recalled, marked-by, past-by, past-after, leaves, all-leave, history}
+use Rattle.calls.specs.Book.{image-under, is-mark, struck, replacing, recalled, marked-by, past-by, past-after, past-of, is-image, leaves, all-leave, history}
 use Rattle.calls.specs.MarkOutcomes.{set-outcome, return-outcome}
 use Rattle.calls.specs.Runs.{done, Event, event, events, after, givens}
 use Rattle.calls.proofs.Runs.{Run, Does, run, events-append}
@@ -31,48 +32,83 @@ use Rattle.calls.specs.Demand.{Start, beginning}
 use Rattle.calls.proofs.Holds.{read-back}
 use Rattle.calls.proofs.MarkCalls.{named-zero, mark-is-image}
 use Rattle.calls.proofs.Steps.{step}
-use Rattle.calls.proofs.Histories.{Past-holds, image-is, order-is, past-kept}
+use Rattle.calls.proofs.Histories.{Past-holds, image-is, order-is, replacing-hold, past-kept}
 use Rattle.calls.proofs.WholeList.{start-past}
 
 -- ---- what is recalled
 
-differs : (x y : List ℕ) → not (same y x) ≡ true → same y x ≡ false
-differs x y h = go (bool-cases (same y x))
-  where
-    go : (same y x ≡ true) ⊎ (same y x ≡ false) → same y x ≡ false
-    go (inl e) = never (not (same y x)) h (ap not e)
-    go (inr e) = e
+-- a test that is not so
+not-so : (t : Bool) → not t ≡ true → t ≡ false
+not-so true h = never (not true) h refl
+not-so false h = refl
 
-recalled-unmarked : (x y : List ℕ) (h : History) (ms : List Marked) → same y x ≡ false → recalled x h (unmarked y ms) ≡ recalled x h ms
-unfolding recalled unmarked
-recalled-unmarked x y h [] e = refl
-recalled-unmarked x y h (m ∷ ms) e = go (same (m .name) y) refl (recalled-unmarked x y h ms e)
+-- a mark struck of which the name or the image is another
+recalled-struck :
+    (x y : List ℕ) (h : History) (j : List ℕ) (ms : List Marked) → same y x && same j (image-at h) ≡ false → recalled x h (struck y j ms) ≡ recalled x h ms
+unfolding recalled struck is-mark
+recalled-struck x y h j [] e = refl
+recalled-struck x y h j (m ∷ ms) e = go (is-mark y j m) refl (recalled-struck x y h j ms e)
   where
-    go : (t : Bool) → same (m .name) y ≡ t → recalled x h (unmarked y ms) ≡ recalled x h ms → recalled x h (cond t (unmarked y ms) (m ∷ unmarked y ms)) ≡ recalled x h (m ∷ ms)
+    go : (t : Bool) → same (m .name) y && same (image-at (m .history)) j ≡ t → recalled x h (struck y j ms) ≡ recalled x h ms →
+        recalled x h (cond t ms (m ∷ struck y j ms)) ≡ recalled x h (m ∷ ms)
     go true d rec =
-        let f : same (m .name) x ≡ false = ap (λ (z : List ℕ). same z x) (same-eq (m .name) y d) ∙ e in rw f rec
+        let a = same-eq (m .name) y (and-left (same (m .name) y) (same (image-at (m .history)) j) d) in
+        let b = same-eq (image-at (m .history)) j (and-right (same (m .name) y) (same (image-at (m .history)) j) d) in
+        let f : same (m .name) x && same (image-at (m .history)) (image-at h) ≡ false =
+        ap₂ (λ (z k : List ℕ). same z x && same k (image-at h)) a b ∙ e in
+        rw f refl
     go false d rec = rw rec
 
--- a call that neither sets nor removes x
-recalled-step : (x : List ℕ) (h i : History) (ms : List Marked) (m : Marking) → leaves x m ≡ true → recalled x h (marked-by m i ms .marks) ≡ recalled x h ms
-unfolding recalled marked-by leaves
+-- neither the image set nor the one replaced is the mark's
+recalled-set :
+    (x y : List ℕ) (h i : History) (r : Option (List ℕ)) (ms : List Marked) → same y x && (same (image-at i) (image-at h) || is-image r (image-at h)) ≡ false →
+    recalled x h (record { name = y; history = i } ∷ replacing y r ms) ≡ recalled x h ms
+unfolding recalled is-mark replacing is-image
+recalled-set x y h i none ms e = rw (own (same y x) (same (image-at i) (image-at h)) false e) refl
+  where
+    own : (a b c : Bool) → a && (b || c) ≡ false → a && b ≡ false
+    own true true c d = d
+    own true false c d = refl
+    own false b c d = refl
+recalled-set x y h i (some j) ms e = rw (own (same y x) (same (image-at i) (image-at h)) (same j (image-at h)) e)
+    (recalled-struck x y h j ms (other (same y x) (same (image-at i) (image-at h)) (same j (image-at h)) e))
+  where
+    own : (a b c : Bool) → a && (b || c) ≡ false → a && b ≡ false
+    own true true c d = d
+    own true false c d = refl
+    own false b c d = refl
+
+    other : (a b c : Bool) → a && (b || c) ≡ false → a && c ≡ false
+    other true true true d = d
+    other true true false d = refl
+    other true false c d = d
+    other false b c d = refl
+
+-- a call that leaves marks of the name x and of the image of h
+recalled-step :
+    (x : List ℕ) (h i : History) (ms : List Marked) (m : Marking) → leaves x (image-at h) m (marked-by m i ms .history) ≡ true →
+    recalled x h (marked-by m i ms .marks) ≡ recalled x h ms
+unfolding marked-by leaves
 recalled-step x h i ms no-mark e = refl
-recalled-step x h i ms (sets y) e = rw (differs x y e)
-recalled-step x h i ms (removes y) e = recalled-unmarked x y h ms (differs x y e)
+recalled-step x h i ms (sets y r) e = recalled-set x y h i r ms (not-so (same y x && (same (image-at i) (image-at h) || is-image r (image-at h))) e)
+recalled-step x h i ms (removes y j) e = recalled-struck x y h j ms (not-so (same y x && same j (image-at h)) e)
 recalled-step x h i ms (returns y) e = refl
 
-recalled-after : (x : List ℕ) (h : History) (cs : List Given) (ps : List Link) (p : Past) → all-leave x cs ps ≡ true → recalled x h (past-after cs ps p .marks) ≡ recalled x h (p .marks)
+recalled-after :
+    (x : List ℕ) (h : History) (cs : List Given) (ps : List Link) (p : Past) → all-leave x (image-at h) cs ps p ≡ true →
+    recalled x h (past-after cs ps p .marks) ≡ recalled x h (p .marks)
 unfolding all-leave past-after past-by
 recalled-after x h [] ps p e = refl
 recalled-after x h (c ∷ cs) ps p e =
     let o = booked c ps in
-    let l = leaves x (o .marking) in
-    let r = all-leave x cs (pairs-of o ps) in
-    recalled-after x h cs (pairs-of o ps) (past-by o p) (and-right l r e)
+    let q = past-by o p in
+    let l = leaves x (image-at h) (o .marking) (q .history) in
+    let r = all-leave x (image-at h) cs (pairs-of o ps) q in
+    recalled-after x h cs (pairs-of o ps) q (and-right l r e)
     ∙ recalled-step x h (history-by (o .begins) (o .switches) (p .history)) (p .marks) (o .marking) (and-left l r e)
 
 recalled-own : (x : List ℕ) (h i : History) (ms : List Marked) → image-at i ≡ image-at h → recalled x h (record { name = x; history = i } ∷ ms) ≡ i
-unfolding recalled
+unfolding recalled is-mark
 recalled-own x h i ms e = rw (same-refl x, e, same-refl (image-at h))
 
 -- ---- lists one after the other
@@ -108,10 +144,10 @@ accepted zero o e = refl
 accepted (suc q) o e = absurd (omega (arith, ap number-of e))
 
 accepted-set : (m : ℕ) (x bs : List ℕ) (l : Lengths) (ps : List Link) → plain 0 ∷ [] ≡ outcome (setting m x bs) l ps .answers →
-    outcome (setting m x bs) l ps ≡ outcome-with (plain 0 ∷ []) none [] (sets x)
+    outcome (setting m x bs) l ps ≡ outcome-with (plain 0 ∷ []) none [] (sets x (image-under m x bs))
 unfolding outcome unless-refused
 accepted-set m x bs l ps e =
-    let o = outcome-with (plain 0 ∷ []) none [] (sets x) in
+    let o = outcome-with (plain 0 ∷ []) none [] (sets x (image-under m x bs)) in
     ap (λ (R : ℕ). unless-refused R o) (accepted (set-refusal m l true x bs) o e)
 
 accepted-return : (j : ℕ) (x ds : List ℕ) (l : Lengths) (ps : List Link) → plain 0 ∷ [] ≡ outcome (returning j x ds) l ps .answers →
@@ -123,7 +159,7 @@ accepted-return j x ds l ps e =
     (z, ap (λ (R : ℕ). unless-refused R o) z)
 
 -- the image of what reading an image leaves is that image
-image-read : (j : ℕ) (bs : List ℕ) → j ≤ max-radios → is-image j bs ≡ true → image-at (fresh (from-image j bs)) ≡ bs
+image-read : (j : ℕ) (bs : List ℕ) → j ≤ max-radios → images.is-image j bs ≡ true → image-at (fresh (from-image j bs)) ≡ bs
 unfolding image-at fresh radios tables-after beginning-tables tables-of image-graph
 image-read j bs small i =
     let v = image-valid j bs small i in
@@ -133,19 +169,19 @@ image-read j bs small i =
 
 module _ (n : ℕ) (qs : List Link) (p : Past) (t : Tables) (k : Past-holds n qs p t) (m : ℕ) (x bs : List ℕ) (d : Does (setting m x bs) t (plain 0 ∷ []) t) where
   abbrev marked : Past
-  marked = past (p .history) (record { name = x; history = p .history } ∷ p .marks)
+  marked = past (p .history) (record { name = x; history = p .history } ∷ replacing x (image-under m x bs) (p .marks))
 
   marked-holds : Past-holds n qs marked t
-  marked-holds = record { traced = k .traced; marks = (record { pairs = qs; tables = t; traced = k .traced }, k .marks) }
+  marked-holds = record { traced = k .traced; marks = (record { pairs = qs; tables = t; traced = k .traced }, replacing-hold n x (image-under m x bs) (p .marks) (k .marks)) }
 
-  set-is : outcome (setting m x bs) (lengths-of t) qs ≡ outcome-with (plain 0 ∷ []) none [] (sets x)
+  set-is : outcome (setting m x bs) (lengths-of t) qs ≡ outcome-with (plain 0 ∷ []) none [] (sets x (image-under m x bs))
   set-is = accepted-set m x bs (lengths-of t) qs (step n qs t (k .traced .holds) (setting m x bs) (plain 0 ∷ []) t d .kept .answered)
 
   after-set : (cs : List Given) → past-after (given (setting m x bs) (lengths-of t) ∷ cs) qs p ≡ past-after cs qs marked
   unfolding past-after booked past-by marked-by pairs-of pairs-after first-pairs
   after-set cs =
       ap₂ (past-after cs) (ap (λ (o : Outcome). pairs-of o qs) set-is)
-      (ap (λ (o : Outcome). past-by o p) set-is ∙ ap (λ (h : History). past h (record { name = x; history = h } ∷ p .marks)) (same-calls (p .history)))
+      (ap (λ (o : Outcome). past-by o p) set-is ∙ ap (λ (h : History). past h (record { name = x; history = h } ∷ replacing x (image-under m x bs) (p .marks))) (same-calls (p .history)))
 
   -- the image that was set
   set-image : image-at (p .history) ≡ image-of (graph-in n (t .links)) (t .order)
@@ -154,7 +190,7 @@ module _ (n : ℕ) (qs : List Link) (p : Past) (t : Tables) (k : Past-holds n qs
       ∙ sym (ap₂ image-of (read-back n qs t (k .traced .holds)) (order-is n qs t (k .traced .holds)))
 
   module _ (between : List Event) (u v : Tables) (j : ℕ) (ds : List ℕ) (r : Run t between u) (b : Does (returning j x ds) u (plain 0 ∷ []) v)
-      (free : all-leave x (givens between) qs ≡ true) (still : mark-image j x ds ≡ image-of (graph-in n (t .links)) (t .order)) where
+      (free : all-leave x (image-of (graph-in n (t .links)) (t .order)) (givens between) qs marked ≡ true) (still : mark-image j x ds ≡ image-of (graph-in n (t .links)) (t .order)) where
     abbrev then : Past
     then = past-after (givens between) qs marked
 
@@ -180,8 +216,9 @@ module _ (n : ℕ) (qs : List Link) (p : Past) (t : Tables) (k : Past-holds n qs
     unfolding past-after booked past-by marked-by history-by fresh
     after-return =
         ap (λ (o : Outcome). past-by o then .history) (return-is .1)
-        ∙ recalled-after x (fresh (from-image j (mark-image j x ds))) (givens between) qs marked free
-        ∙ recalled-own x (fresh (from-image j (mark-image j x ds))) (p .history) (p .marks) back-image
+        ∙ recalled-after x (fresh (from-image j (mark-image j x ds))) (givens between) qs marked
+        (subst (λ (i : List ℕ). all-leave x i (givens between) qs marked ≡ true) (sym set-image ∙ back-image) free)
+        ∙ recalled-own x (fresh (from-image j (mark-image j x ds))) (p .history) (replacing x (image-under m x bs) (p .marks)) back-image
 
     restored : past-after (givens (event (setting m x bs) t (plain 0 ∷ []) t ∷ (between ++ (event (returning j x ds) u (plain 0 ∷ []) v ∷ [])))) qs p .history ≡ p .history
     unfolding givens
@@ -196,16 +233,26 @@ module _ (n : ℕ) (qs : List Link) (p : Past) (t : Tables) (k : Past-holds n qs
 pub history-restored :
     (n : ℕ) (ps : List Link) (t₀ t u v : Tables) (s : Start n ps t₀) (before between : List Event) (m j : ℕ) (x bs ds : List ℕ) →
     Run t₀ before t → Does (setting m x bs) t (plain 0 ∷ []) t → Run t between u → Does (returning j x ds) u (plain 0 ∷ []) v →
-    all-leave x (givens between) (book-after (givens before) ps) ≡ true → mark-image j x ds ≡ image-of (graph-in n (t .links)) (t .order) →
+    all-leave x (image-of (graph-in n (t .links)) (t .order)) (givens between) (book-after (givens before) ps)
+    (past-of (givens (before ++ (event (setting m x bs) t (plain 0 ∷ []) t ∷ []))) ps (beginning s)) ≡ true →
+    mark-image j x ds ≡ image-of (graph-in n (t .links)) (t .order) →
     history (givens (before ++ (event (setting m x bs) t (plain 0 ∷ []) t ∷ (between ++ (event (returning j x ds) u (plain 0 ∷ []) v ∷ []))))) ps (beginning s)
     ≡ history (givens before) ps (beginning s)
-unfolding history
+unfolding history past-of givens past-after
 history-restored n ps t₀ t u v s before between m j x bs ds r₁ d₁ r₂ d₂ free still =
     let p₀ = past (fresh (beginning s)) [] in
-    let rest = event (setting m x bs) t (plain 0 ∷ []) t ∷ (between ++ (event (returning j x ds) u (plain 0 ∷ []) v ∷ [])) in
+    let qs = book-after (givens before) ps in
+    let p = past-after (givens before) ps p₀ in
+    let k = past-kept n ps p₀ (start-past s) r₁ in
+    let set = event (setting m x bs) t (plain 0 ∷ []) t in
+    let rest = set ∷ (between ++ (event (returning j x ds) u (plain 0 ∷ []) v ∷ [])) in
+    let marked-then : past-after (givens (before ++ (set ∷ []))) ps p₀ ≡ marked n qs p t k m x bs d₁ =
+    ap (λ (cs : List Given). past-after cs ps p₀) (givens-append before (set ∷ [])) ∙ past-append (givens before) (givens (set ∷ [])) ps p₀
+    ∙ after-set n qs p t k m x bs d₁ [] in
     ap (λ (o : Past). o .history)
     (ap (λ (cs : List Given). past-after cs ps p₀) (givens-append before rest) ∙ past-append (givens before) (givens rest) ps p₀)
-    ∙ restored n (book-after (givens before) ps) (past-after (givens before) ps p₀) t (past-kept n ps p₀ (start-past s) r₁) m x bs d₁ between u v j ds r₂ d₂ free still
+    ∙ restored n qs p t k m x bs d₁ between u v j ds r₂ d₂
+    (subst (λ (q : Past). all-leave x (image-of (graph-in n (t .links)) (t .order)) (givens between) qs q ≡ true) marked-then free) still
 
 -- ---- the same of lists of calls
 
@@ -217,10 +264,15 @@ marked-events :
 unfolding events done
 marked-events between t m j x bs ds z y = rw (z, events-append between (returning j x ds ∷ []) t, y)
 
+set-event : (t : Tables) (m : ℕ) (x bs : List ℕ) → set-outcome m x t bs .reply ≡ 0 → events (setting m x bs ∷ []) t ≡ event (setting m x bs) t (plain 0 ∷ []) t ∷ []
+unfolding events done
+set-event t m x bs z = rw z
+
 pub restored-list :
     (n : ℕ) (ps : List Link) (t₀ : Tables) (s : Start n ps t₀) (before between : List Call) (m j : ℕ) (x bs ds : List ℕ) →
     let t = after before t₀ in let u = after between t in set-outcome m x t bs .reply ≡ 0 → return-outcome j x ds u .reply ≡ 0 →
-    all-leave x (givens (events between t)) (book-after (givens (events before t₀)) ps) ≡ true →
+    all-leave x (image-of (graph-in n (t .links)) (t .order)) (givens (events between t)) (book-after (givens (events before t₀)) ps)
+    (past-of (givens (events (before ++ (setting m x bs ∷ [])) t₀)) ps (beginning s)) ≡ true →
     mark-image j x ds ≡ image-of (graph-in n (t .links)) (t .order) →
     history (givens (events (before ++ (setting m x bs ∷ (between ++ (returning j x ds ∷ [])))) t₀)) ps (beginning s)
     ≡ history (givens (events before t₀)) ps (beginning s)
@@ -231,4 +283,5 @@ restored-list n ps t₀ s before between m j x bs ds z y free still =
     ap (λ (es : List Event). history (givens es) ps (beginning s))
     (events-append before _ t₀ ∙ ap (λ (es : List Event). events before t₀ ++ es) (marked-events between t m j x bs ds z y))
     ∙ history-restored n ps t₀ t u (return-outcome j x ds u .tables) s (events before t₀) (events between t) m j x bs ds (run before t₀) (rw z) (run between t) (rw y)
-    free still
+    (subst (λ (es : List Event). all-leave x (image-of (graph-in n (t .links)) (t .order)) (givens (events between t)) (book-after (givens (events before t₀)) ps)
+    (past-of (givens es) ps (beginning s)) ≡ true) (events-append before (setting m x bs ∷ []) t₀ ∙ ap (λ (es : List Event). events before t₀ ++ es) (set-event t m x bs z)) free) still

@@ -27,7 +27,7 @@ use Rattle.calls.specs.Heard.{heard-lengths, heard-proper, agreed-few, h
 use Rattle.calls.specs.Marks.{store-length, marks-good, is-marked, has-place, mark-refusal, set-refusal, named-refusal, mark-image}
 use Rattle.calls.specs.Book.{Call, clearing, reading, linking, committing, batching, hearing, setting, removing, returning, other, Outcome}
 use Rattle.calls.specs.Book.{Answer, plain, reported, committed, counted}
-use Rattle.calls.specs.Book.{Beginning, from-clearing, from-image, Marking, no-mark, sets, removes, returns, outcome-of, outcome-with, unless-refused, outcome}
+use Rattle.calls.specs.Book.{image-under, Beginning, from-clearing, from-image, Marking, no-mark, sets, removes, returns, outcome-of, outcome-with, unless-refused, outcome}
 use Rattle.calls.specs.Book.{beginning-pairs, first-pairs, pairs-of, radios, beginning-tables}
 use Rattle.calls.specs.Outcomes.{by-number, links-taken, clear-outcome, read-outcome, link-outcome, commit-outcome, batch-outcome, hear-outcome}
 use Rattle.calls.specs.MarkOutcomes.{store-outcome, set-outcome, remove-outcome, return-outcome}
@@ -277,8 +277,8 @@ module _ (n : ℕ) (ps : List Link) (t : Tables) (k : Holds n ps t) where
   came (committing u m a b z xs) = commit-step _ u m a b z xs refl
   came (batching m xs) = batch-step _ m xs refl
   came (hearing m xs w) = rw length-replicate at (hear-step _ m xs (replicate w 0) refl)
-  came (setting m x bs) = rw (mark-asked m x bs (ask 19 (has-place x bs) 0)) (store-step _ _ bs (sets x))
-  came (removing m x bs) = rw (mark-asked m x bs (ask 18 (is-marked x bs) 0)) (store-step _ _ bs (removes x))
+  came (setting m x bs) = rw (mark-asked m x bs (ask 19 (has-place x bs) 0)) (store-step _ _ bs (sets x (image-under m x bs)))
+  came (removing m x bs) = rw (mark-asked m x bs (ask 18 (is-marked x bs) 0)) (store-step _ _ bs (removes x (mark-image m x bs)))
   came (returning m x bs) = return-step _ m x bs refl
   came other = other-step
 

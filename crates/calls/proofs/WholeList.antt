@@ -18,7 +18,7 @@ use Rattle.calls.specs.Outcomes.{Numbered, numbered, clear-outcome, read
 use Rattle.calls.specs.Switches.{Switch, switch, pairs-after, tables-after}
 use Rattle.calls.specs.Contracts.{Clear-contract, Read-contract}
 use Rattle.calls.specs.Book.{Call, linking, given, Answer, plain, reported, outcome-of, unless-refused, outcome, pairs-of}
-use Rattle.calls.specs.Book.{booked, book-answers, book-after, from-clearing, from-image, beginning-pairs, radios, beginning-tables, fresh, past, history}
+use Rattle.calls.specs.Book.{booked, book-answers, book-after, from-clearing, from-image, beginning-pairs, radios, beginning-tables, fresh, past, history, past-of}
 use Rattle.calls.specs.Runs.{Event, event, events, after, givens, answers}
 use Rattle.calls.proofs.Runs.{Run, ended, next, run}
 use Rattle.calls.specs.Demand.{Kept, Link-kept, Switching, Start, cleared, read, beginning, Demand-3}
@@ -140,7 +140,7 @@ start-past s = record { traced = start-traced s; marks = tt }
 history-traced :
     (n : ℕ) (ps : List Link) (t v : Tables) (es : List Event) (s : Start n ps t) → Run t es v →
     Traced n (history (givens es) ps (beginning s)) (book-after (givens es) ps) v
-unfolding history
+unfolding history past-of
 history-traced n ps t v es s r = past-kept n ps (past (fresh (beginning s)) []) (start-past s) r .traced
 
 -- ---- demand 3

@@ -11,10 +11,10 @@
 --   Past              the link history, and for each mark set the history at that moment
 --   recalled          the history that coming back to a mark restores
 --   history           the link history after a list of calls
---   all-leave x       no accepted call of a list sets or removes the mark x
+--   all-leave x i     no accepted call of a list sets, replaces or removes a mark of the name x and the image i
 -- A further call is a constructor of `Call` and a clause of `outcome` here, and a clause of `Does` in specs/Runs.antt.
 -- Definitions only.
-use mathlib.Core.Bool.{Bool, true, _&&_, not, cond}
+use mathlib.Core.Bool.{Bool, true, false, _&&_, _||_, not, cond}
 use mathlib.Core.List.{List, [], _∷_, _++_}
 use mathlib.Core.Option.{Option, none, some}
 use Prim.Native.Nat.{ℕ, zero, suc}
@@ -29,7 +29,7 @@ use Rattle.calls.specs.Questions.{Lengths, tables-refusal, link-refusal,
 use Rattle.calls.specs.Switches.{Switch, switch, pairs-after, tables-after}
 use Rattle.calls.specs.Batches.{batch-refusal, batch-switches, batch-stop}
 use Rattle.calls.specs.Heard.{hear-refusal, one-sided-count, heard-switches}
-use Rattle.calls.specs.Marks.{set-refusal, named-refusal, mark-image}
+use Rattle.calls.specs.Marks.{set-refusal, named-refusal, is-marked, mark-image}
 
 -- what the book is given of a call, beside the lengths of links, numbers and order: `answer` is the answer table's length, `further` that of
 -- the table that marks one-sided pairs
@@ -75,11 +75,11 @@ pub data Beginning : Type 0 where
   from-clearing : (n : ℕ) → Beginning
   from-image : (n : ℕ) → (image : List ℕ) → Beginning
 
--- what a call does with the mark of a name (W-211)
+-- what a call does with the mark of a name (W-211): setting replaces the image that the store had under the name, if it had one
 pub data Marking : Type 0 where
   no-mark : Marking
-  sets : (name : List ℕ) → Marking
-  removes : (name : List ℕ) → Marking
+  sets : (name : List ℕ) → (replaced : Option (List ℕ)) → Marking
+  removes : (name image : List ℕ) → Marking
   returns : (name : List ℕ) → Marking
 
 -- the answers to be compared, what the call begins anew from, if it does, the links that it takes up or down in turn, and its mark
@@ -99,6 +99,10 @@ outcome-of hs b ss = outcome-with hs b ss no-mark
 unfoldable pub unless-refused : (refusal : ℕ) → Outcome → Outcome
 unless-refused zero o = o
 unless-refused (suc q) o = outcome-of (plain (suc q) ∷ []) none []
+
+-- the image that the store has under the name, if it has one (W-211)
+unfoldable pub image-under : (n : ℕ) → (name store : List ℕ) → Option (List ℕ)
+image-under n x bs = cond (is-marked x bs) (some (mark-image n x bs)) none
 
 -- each call is put its questions: 3 gets yes, 6 and 7 are asked of the pairs; any other call is passed over
 unfoldable pub outcome : Call → Lengths → (pairs : List Link) → Outcome
@@ -120,8 +124,10 @@ outcome (hearing n hs w) l ps =
     unless-refused
     (hear-refusal n l hs w true)
     (outcome-of (counted 0 (one-sided-count n hs) ∷ []) none (heard-switches (graph n ps) hs))
-outcome (setting n x bs) l ps = unless-refused (set-refusal n l true x bs) (outcome-with (plain 0 ∷ []) none [] (sets x))
-outcome (removing n x bs) l ps = unless-refused (named-refusal n l true x bs) (outcome-with (plain 0 ∷ []) none [] (removes x))
+outcome (setting n x bs) l ps =
+    unless-refused (set-refusal n l true x bs) (outcome-with (plain 0 ∷ []) none [] (sets x (image-under n x bs)))
+outcome (removing n x bs) l ps =
+    unless-refused (named-refusal n l true x bs) (outcome-with (plain 0 ∷ []) none [] (removes x (mark-image n x bs)))
 outcome (returning n x bs) l ps =
     unless-refused (named-refusal n l true x bs) (outcome-with (plain 0 ∷ []) (some (from-image n (mark-image n x bs))) [] (returns x))
 outcome other l ps = outcome-of [] none []
@@ -211,23 +217,30 @@ pub record Past : Type 0 where
 abbrev pub past : History → List Marked → Past
 past h ms = record { history = h; marks = ms }
 
-unfoldable pub unmarked : (name : List ℕ) → List Marked → List Marked
-unmarked x [] = []
-unmarked x (m ∷ ms) = let rest = unmarked x ms in cond (same (m .name) x) rest (m ∷ rest)
+-- a mark is known by its name and its image: with several stores, that is how the book tells them apart
+unfoldable pub is-mark : (name image : List ℕ) → Marked → Bool
+is-mark x i m = same (m .name) x && same (image-at (m .history)) i
 
--- coming back to the mark x, where h begins from the image that the store has: the history at which x was set, if that image is the
--- one that was set; else the mark was put there by other hands, and counts as a read image
+-- without the newest mark of that name and image
+unfoldable pub struck : (name image : List ℕ) → List Marked → List Marked
+struck x i [] = []
+struck x i (m ∷ ms) = let rest = struck x i ms in cond (is-mark x i m) ms (m ∷ rest)
+
+unfoldable pub replacing : (name : List ℕ) → (replaced : Option (List ℕ)) → List Marked → List Marked
+replacing x none ms = ms
+replacing x (some i) ms = struck x i ms
+
+-- coming back to the mark x, where h begins from the image that the store has: the history at which that image was set under that name,
+-- the newest; else the mark was put there by other hands, and counts as a read image
 unfoldable pub recalled : (name : List ℕ) → History → List Marked → History
 recalled x h [] = h
-recalled x h (m ∷ ms) =
-    let rest = recalled x h ms in
-    cond (same (m .name) x) (cond (same (image-at (m .history)) (image-at h)) (m .history) h) rest
+recalled x h (m ∷ ms) = let rest = recalled x h ms in cond (is-mark x (image-at h) m) (m .history) rest
 
 -- what a call's mark makes of the past, where h is the history after the call
 unfoldable pub marked-by : Marking → History → List Marked → Past
 marked-by no-mark h ms = past h ms
-marked-by (sets x) h ms = past h (record { name = x; history = h } ∷ ms)
-marked-by (removes x) h ms = past h (unmarked x ms)
+marked-by (sets x r) h ms = past h (record { name = x; history = h } ∷ replacing x r ms)
+marked-by (removes x i) h ms = past h (struck x i ms)
 marked-by (returns x) h ms = past (recalled x h ms) ms
 
 unfoldable pub past-by : Outcome → Past → Past
@@ -238,17 +251,26 @@ unfoldable pub past-after : List Given → (pairs : List Link) → Past → Past
 past-after [] ps p = p
 past-after (c ∷ cs) ps p = let o = booked c ps in past-after cs (pairs-of o ps) (past-by o p)
 
--- no accepted call of a list sets or removes the mark x
-unfoldable pub leaves : (name : List ℕ) → Marking → Bool
-leaves x no-mark = true
-leaves x (sets y) = not (same y x)
-leaves x (removes y) = not (same y x)
-leaves x (returns y) = true
-
-unfoldable pub all-leave : (name : List ℕ) → List Given → (pairs : List Link) → Bool
-all-leave x [] ps = true
-all-leave x (c ∷ cs) ps = let o = booked c ps in leaves x (o .marking) && all-leave x cs (pairs-of o ps)
-
 -- of a list that starts from b, with no mark set
+unfoldable pub past-of : List Given → (pairs : List Link) → Beginning → Past
+past-of cs ps b = past-after cs ps (past (fresh b) [])
+
 unfoldable pub history : List Given → (pairs : List Link) → Beginning → History
-history cs ps b = past-after cs ps (past (fresh b) []) .history
+history cs ps b = past-of cs ps b .history
+
+-- no accepted call of a list, where p is the past before it, sets, replaces or removes a mark of the name x and the image i
+unfoldable pub is-image : Option (List ℕ) → (image : List ℕ) → Bool
+is-image none i = false
+is-image (some j) i = same j i
+
+unfoldable pub leaves : (name image : List ℕ) → Marking → History → Bool
+leaves x i no-mark h = true
+leaves x i (sets y r) h = not (same y x && (same (image-at h) i || is-image r i))
+leaves x i (removes y j) h = not (same y x && same j i)
+leaves x i (returns y) h = true
+
+unfoldable pub all-leave : (name image : List ℕ) → List Given → (pairs : List Link) → Past → Bool
+all-leave x i [] ps p = true
+all-leave x i (c ∷ cs) ps p =
+    let o = booked c ps in
+    let q = past-by o p in leaves x i (o .marking) (q .history) && all-leave x i cs (pairs-of o ps) q

@@ -52,7 +52,7 @@ use Rattle.calls.specs.Results.{Read-right, Block-part, Block-end, Script-right
 use Rattle.calls.specs.Results.{Ask-right, Commit-right, Batch-right}
 use Rattle.calls.specs.MarkResults.{Set-right, Removed-right, Same-mark}
 use Rattle.calls.specs.Older.{Older}
-use Rattle.calls.specs.Book.{Call, linking, setting, returning, book-after, history, all-leave}
+use Rattle.calls.specs.Book.{Call, linking, setting, returning, book-after, past-of, history, all-leave}
 use Rattle.calls.specs.Runs.{events, after, givens}
 use Rattle.calls.specs.Demand.{Start, beginning, Demand-3}
 use Rattle.walks.specs.Results.{Beginning-kept}
@@ -309,13 +309,16 @@ pub record W-211 : Type 0 where
   pub return-restores :
       (n : ℕ) (x : List ℕ) (t u : Tables) (bs ds : List ℕ) → Entries-below 256 (t .links) → let o = set-outcome n x t bs in o .reply ≡ 0 →
       Same-mark x (o .store) ds → return-outcome n x ds u .reply ≡ 0 → return-outcome n x ds u .tables ≡ t
-  -- an accepted set, calls of which none is an accepted set or removal of that name, an accepted coming back to the image that was set:
-  -- the link history, with the clearing or read image that it began from, is the one at the setting
+  -- an accepted set; calls of which none sets, replaces or removes a mark of that name and that image, whatever other stores they are lent;
+  -- an accepted coming back to the image that was set: the link history, with the clearing or read image that it began from, is the one
+  -- at the setting
   pub restored :
       (n : ℕ) (ps : List Link) (t₀ : Tables) (s : Start n ps t₀) (before between : List Call) (m j : ℕ) (x bs ds : List ℕ) →
-      let t = after before t₀ in let u = after between t in set-outcome m x t bs .reply ≡ 0 → return-outcome j x ds u .reply ≡ 0 →
-      all-leave x (givens (events between t)) (book-after (givens (events before t₀)) ps) ≡ true →
-      mark-image j x ds ≡ images.image-of (graph-in n (t .links)) (t .order) →
+      let t = after before t₀ in let u = after between t in let i = images.image-of (graph-in n (t .links)) (t .order) in
+      set-outcome m x t bs .reply ≡ 0 → return-outcome j x ds u .reply ≡ 0 →
+      all-leave x i (givens (events between t)) (book-after (givens (events before t₀)) ps)
+      (past-of (givens (events (before ++ (setting m x bs ∷ [])) t₀)) ps (beginning s)) ≡ true →
+      mark-image j x ds ≡ i →
       history (givens (events (before ++ (setting m x bs ∷ (between ++ (returning j x ds ∷ [])))) t₀)) ps (beginning s)
       ≡ history (givens (events before t₀)) ps (beginning s)
 
