@@ -86,7 +86,7 @@ Marks-hold n (m ∷ ms) = Marked-holds n m × Marks-hold n ms
 struck-hold : (n : ℕ) (x i : List ℕ) (ms : List Marked) → Marks-hold n ms → Marks-hold n (struck x i ms)
 unfolding struck
 struck-hold n x i [] k = tt
-struck-hold n x i (m ∷ ms) k = go _ (struck-hold n x i ms (k .1))
+struck-hold n x i (m ∷ ms) k = go (is-mark x i m) (struck-hold n x i ms (k .1))
   where
     go : (b : Bool) → Marks-hold n (struck x i ms) → Marks-hold n (cond b ms (m ∷ struck x i ms))
     go true r = k .1
