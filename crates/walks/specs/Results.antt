@@ -1,10 +1,11 @@
 -- What a caller has of the order after a link came up (document 02, W-213): nothing before the beginning end moves.
 --   before-ends a b xs   the entries of xs before the first end of the link a-b
 --   Beginning-kept       these stand as they stood; the entry after them is the beginning end, the lower one, with equal numbers the earlier
+--   Each-begins          so it is of each link that goes up, of links taken up and down one after the other: of a batch, and of a hearing
 -- Definitions only.
 use mathlib.Core.Path.{_≡_}
 use mathlib.Core.Logic.{_⊎_}
-use mathlib.Core.Bool.{_||_, cond}
+use mathlib.Core.Bool.{true, _||_, cond}
 use mathlib.Core.List.{List, [], _∷_}
 use Prim.Native.Nat.{ℕ}
 use lib.Dec.{eqb}
@@ -12,6 +13,8 @@ use lib.ListN.{length, getD, take}
 use Rattle.mesh.specs.Graph.{Graph}
 use Rattle.mesh.specs.Cores.{number}
 use Rattle.mesh.specs.Levels.{lower-level}
+use Rattle.mesh.specs.Tables.{Tables, graph-in}
+use Rattle.calls.specs.Switches.{Switch, switched}
 
 unfoldable pub before-ends : (a b : ℕ) → List ℕ → List ℕ
 before-ends a b [] = []
@@ -22,3 +25,9 @@ pub record Beginning-kept (a b : ℕ) (g : Graph) (old new : List ℕ) : Type 0 
   pub kept : take (length (before-ends a b old)) new ≡ before-ends a b old
   pub end : (getD old (length (before-ends a b old)) 0 ≡ a) ⊎ (getD old (length (before-ends a b old)) 0 ≡ b)
   pub lower : number g (getD old (length (before-ends a b old)) 0) ≡ lower-level g a b
+
+-- t are the tables before the first
+unfoldable pub Each-begins : (n : ℕ) → List Switch → Tables → Type 0
+Each-begins n [] t = Unit {0}
+Each-begins n (s ∷ ss) t =
+    (s .up ≡ true → Beginning-kept (s .a) (s .b) (graph-in n (t .links)) (t .order) (switched n s t .order)) × Each-begins n ss (switched n s t)
