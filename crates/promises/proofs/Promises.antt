@@ -29,6 +29,7 @@ use Rattle.calls.proofs.WholeList.{demand-3}
 use Rattle.calls.proofs.Exactly.{exactly-listed}
 use Rattle.calls.proofs.HistoryRestored.{restored-list}
 use Rattle.walks.proofs.Kept.{link-begins, commit-begins}
+use Rattle.walks.proofs.Each.{batch-begins, hear-begins}
 use Rattle.forests.proofs.Tree.{staircase-right}
 use Rattle.lifting.proofs.Answers.{lift-core, lift-right, lift-none}
 use Rattle.hubs.proofs.Confluence.{confluence, calls-agree}
@@ -132,6 +133,6 @@ promises = record {
     restored = restored-list;
   };
   w-212 = record { lift = lift-right; lift-core = lift-core; lift-none = lift-none };
-  w-213 = record { link-begins = link-begins; commit-begins = commit-begins; link-batch = batch-right; batch-single = batch-single };
+  w-213 = record { link-begins = link-begins; commit-begins = commit-begins; batch-begins = batch-begins; hear-begins = hear-begins; link-batch = batch-right; batch-single = batch-single };
   w-214 = record { confluence = confluence; calls-agree = calls-agree; orders-differ = orders-differ; images-differ = images-differ };
 }

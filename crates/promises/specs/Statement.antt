@@ -35,8 +35,8 @@ use Rattle.mesh.specs.Marks.{store-bytes, is-store, Store-rules}
 use Rattle.mesh.specs.Sound.{sound}
 use Rattle.mesh.specs.declared.Node.{Node}
 use Rattle.calls.specs.Questions.{lengths-of, size-good, site-lengths, image-refusal, radio-refusal}
-use Rattle.calls.specs.Batches.{batch-refusal}
-use Rattle.calls.specs.Heard.{hear-refusal}
+use Rattle.calls.specs.Batches.{batch-refusal, batch-switches}
+use Rattle.calls.specs.Heard.{hear-refusal, heard-switches}
 use Rattle.calls.specs.Marks.{mark-image}
 use Rattle.calls.specs.Lift.{lifts}
 use Rattle.calls.specs.Outcomes.{reply, value, later, numbered, linked-with, asked, committed-with, batched, heard-with, listing, treed}
@@ -55,7 +55,7 @@ use Rattle.calls.specs.Older.{Older}
 use Rattle.calls.specs.Book.{Call, linking, setting, returning, book-after, past-of, history, all-leave}
 use Rattle.calls.specs.Runs.{events, after, givens}
 use Rattle.calls.specs.Demand.{Start, beginning, Demand-3}
-use Rattle.walks.specs.Results.{Beginning-kept}
+use Rattle.walks.specs.Results.{Beginning-kept, Each-begins}
 use Rattle.lifting.specs.Search.{No-lift}
 use Rattle.lifting.specs.Results.{Raises, Lift-right}
 use Rattle.hubs.specs.Hubs.{Confluence, Calls-agree, Equal-orders, Equal-images}
@@ -344,6 +344,13 @@ pub record W-213 : Type 0 where
   pub commit-begins :
       (n a b : ℕ) (z : ℤ) (xs : List ℕ) (t : Tables) → let o = commit-outcome true n a b z xs t in
       o .reply .number ≡ 0 → Beginning-kept a b (graph-in n (t .links)) (t .order) (o .tables .order)
+  -- nor before that of any link that a batch takes up, or a hearing
+  pub batch-begins :
+      (n : ℕ) (xs : List ℕ) (t : Tables) → batch-refusal n (lengths-of t) (length xs) (sound n t) ≡ 0 →
+      Each-begins n (batch-switches n xs (graph-in n (t .links) .links)) t
+  pub hear-begins :
+      (n : ℕ) (hs : List ℕ) (t : Tables) (w : List ℕ) → hear-refusal n (lengths-of t) hs (length w) (sound n t) ≡ 0 →
+      Each-begins n (heard-switches (graph-in n (t .links)) hs) t
   -- after a batch whose questions 1 to 3 got yes
   pub link-batch :
       (n : ℕ) (xs : List ℕ) (t : Tables) → batch-refusal n (lengths-of t) (length xs) (sound n t) ≡ 0 →
