@@ -34,7 +34,7 @@ use Rattle.machine.specs.Cells.{Param, Inputs, Outputs, Of-inputs, of-in
 use Rattle.machine.proofs.Whole.{𝓥, own-all, whole, run-of, else-of, blocks-of}
 use Rattle.machine.proofs.Heap.{owned, shared, lie, parts-of, rest}
 use Rattle.machine.proofs.Rows.{form, A₀, W₀, ⟦_⟧, both-facts, row-cells, cells-out, cells-held}
-use Rattle.machine.proofs.Lending.{Lending, by-value, to-read, to-write, params, slots, Nums, made, fulls, alive, over, begin, end, Names, lents, stoods, args, values, asides, inputs, outputs, wrotes, inputs-are, outputs-are, passed-are, Owneds, lend, back, lents-in}
+use Rattle.machine.proofs.Lending.{Lending, by-value, to-read, to-write, to-read-with, params, slots, Nums, made, fulls, alive, over, begin, end, Names, lents, stoods, args, values, asides, inputs, outputs, wrotes, inputs-are, outputs-are, passed-are, Owneds, lend, back, lents-in}
 
 -- a result of the logic, whose one machine value is this
 pub record Answer : Type 2 where
@@ -48,6 +48,7 @@ stoods-lie : {n : ℕ} (ps : List (Lending n)) (i : Inputs (params ps)) (o : Out
 stoods-lie [] i o = id⊢ 𝓥 (emp 𝓥)
 stoods-lie (by-value R ∷ ps) i o = stoods-lie ps (i .1) o
 stoods-lie (to-read j ok R ∷ ps) i o = stoods-lie ps (i .1) o
+stoods-lie (to-read-with j ok R S T ∷ ps) i o = stoods-lie ps (i .1) o
 stoods-lie (to-write j ok R ∷ ps) i o =
     mono∗ 𝓥 (via 𝓥 (row-cells R (o .0) (i .0 .0)) (snd∗ 𝓥 (fact 𝓥 (length (o .0) ≡ length (i .0 .1))) (row-cells R (o .0) (i .0 .0))) (cells-out R (o .0) (i .0 .0))) (stoods-lie ps (i .1) (o .1))
 
@@ -55,6 +56,7 @@ stoods-long : {n : ℕ} (ps : List (Lending n)) (i : Inputs (params ps)) (o : Ou
 stoods-long [] i o = factI 𝓥 (Unit {0}) (emp 𝓥) tt
 stoods-long (by-value R ∷ ps) i o = stoods-long ps (i .1) o
 stoods-long (to-read j ok R ∷ ps) i o = stoods-long ps (i .1) o
+stoods-long (to-read-with j ok R S T ∷ ps) i o = stoods-long ps (i .1) o
 stoods-long (to-write j ok R ∷ ps) i o =
     via 𝓥 (sep 𝓥 (fact 𝓥 (length (o .0) ≡ length (i .0 .1))) (fact 𝓥 (Same-lengths (params ps) (i .1) (o .1))))
     (mono∗ 𝓥 (fst∗ 𝓥 (fact 𝓥 (length (o .0) ≡ length (i .0 .1))) (row-cells R (o .0) (i .0 .0))) (stoods-long ps (i .1) (o .1)))
@@ -64,6 +66,7 @@ stoods-held : {n : ℕ} (ps : List (Lending n)) (i : Inputs (params ps)) (o : Ou
 stoods-held [] i o = factI 𝓥 (Unit {0}) (emp 𝓥) tt
 stoods-held (by-value R ∷ ps) i o = stoods-held ps (i .1) o
 stoods-held (to-read j ok R ∷ ps) i o = stoods-held ps (i .1) o
+stoods-held (to-read-with j ok R S T ∷ ps) i o = stoods-held ps (i .1) o
 stoods-held (to-write j ok R ∷ ps) i o =
     via 𝓥 (sep 𝓥 (fact 𝓥 (All-held (form R) (o .0))) (fact 𝓥 (Left-held (params ps) (o .1))))
     (mono∗ 𝓥 (via 𝓥 (row-cells R (o .0) (i .0 .0)) (snd∗ 𝓥 (fact 𝓥 (length (o .0) ≡ length (i .0 .1))) (row-cells R (o .0) (i .0 .0))) (cells-held R (o .0) (i .0 .0))) (stoods-held ps (i .1) (o .1)))
