@@ -14,21 +14,21 @@ use contract.BorrowModel.{ghost₀}
 use ghost.Model as Closed
 use types.Kit.{‵, _$_, _∵_, !, qed, by, move, fjoin}
 use denote.Builtin.{u8, usize}
-use denote.Ref.{RefT, NamedLft, ptr, now}
+use denote.Ref.{NamedLft, ptr, now}
 use denote.Signature.{namedLft}
 use denote.Slice.{ShrSlice, slice-vals}
 use denote.Steps.{nothing}
 use denote.Struct.Rest.{own-shut}
-use Rattle.machine.specs.Cells.{Place, Input, passes, Runs}
+use Rattle.machine.specs.Cells.{Input, passes, Runs}
 use Rattle.machine.proofs.Whole.{𝓥}
-use Rattle.machine.proofs.Rows.{Row, A₀, W₀}
+use Rattle.machine.proofs.Rows.{A₀, W₀}
 use Rattle.machine.proofs.Lending.{Holder, to-read, to-read-with}
 use Rattle.machine.proofs.Law.{Told, in-cells-at}
 use Rattle.machine.proofs.Numbers.{number-row, declared-told}
 use Rattle.calls.specs.Contracts.{Block-contract}
 use Rattle.calls.specs.Outcomes.{block-outcome}
 use Rattle.calls.specs.declared.Block.{Block}
-use Rattle.block_reader.specs.Reader.{Part-of, Stepped, Moved}
+use Rattle.block_reader.specs.Reader.{Stepped, Moved}
 use Rattle.block_reader.specs.Cells.{a-reader, Step-given, step-value, given-at, reader-open, reader-step, reader-moved}
 use Rattle.block_reader.specs.declared.blocks.BlockReader.{BlockReader}
 use Rattle.block_reader.specs.declared.blocks.BlockStep.{BlockStep}

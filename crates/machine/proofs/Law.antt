@@ -30,11 +30,14 @@ use denote.Triple.End.{all, Fins, Outs, outs, lastsOf}
 use denote.Triple.Spec.{Spec, Back, Meets, tripleOf, exits}
 use denote.Triple.Adequate.{adequate}
 use denote.Steps.{only}
-use Rattle.machine.specs.Cells.{Param, Inputs, Outputs, Of-inputs, of-inputs, outcome-of, Ready, Call, Ran, Runs, Else-kept, Block-kept, Stands, Span, All, All-held, Left-held, Same-lengths, writes, written, passed}
+use Rattle.machine.specs.Cells.{Inputs, Outputs, Of-inputs, of-inputs, outcome-of, Ready, Call, Ran, Runs, Stands, Span, All}
+use Rattle.machine.specs.Cells.{All-held, Left-held, Same-lengths, writes, written, passed}
 use Rattle.machine.proofs.Whole.{𝓥, own-all, whole, run-of, else-of, blocks-of}
 use Rattle.machine.proofs.Heap.{owned, shared, lie, parts-of, rest}
 use Rattle.machine.proofs.Rows.{form, A₀, W₀, ⟦_⟧, both-facts, row-cells, cells-out, cells-held}
-use Rattle.machine.proofs.Lending.{Lending, by-value, to-read, to-write, to-read-with, params, slots, Nums, made, fulls, alive, over, begin, end, Names, lents, stoods, args, values, asides, inputs, outputs, wrotes, inputs-are, outputs-are, passed-are, Owneds, lend, back, lents-in}
+use Rattle.machine.proofs.Lending.{Lending, by-value, to-read, to-write, to-read-with, params, slots, Nums, made, fulls, alive, over, begin, end}
+use Rattle.machine.proofs.Lending.{Names, lents, stoods, args, values, asides, inputs, outputs, wrotes, inputs-are, outputs-are, passed-are}
+use Rattle.machine.proofs.Lending.{lend, back, lents-in}
 
 -- a result of the logic, whose one machine value is this
 pub record Answer : Type 2 where
@@ -189,12 +192,13 @@ module _ (n : ℕ) (ps : List (Lending n)) (R : Told n) (routine : Routine) (con
             ∥∥₁-elim (sat-fact 𝓥 Closed.H Closed.model σ′ P (Left-held (params ps) o)
             (via 𝓥 P (snd∗ 𝓥 (Closed.model .mem σ′) P) (via 𝓥 B (fst∗ 𝓥 B (sep 𝓥 (Shown v r) Kept-back)) (stoods-held ps i o))) s) ∥∥₁-prop (λ held.
             ∥∥₁-map (sat-fact 𝓥 Closed.H Closed.model σ′ P (v ∷ [] ≡ R .machine (R .told κs r) ∷ [])
-            (via 𝓥 P (snd∗ 𝓥 (Closed.model .mem σ′) P) (via 𝓥 (sep 𝓥 (Shown v r) Kept-back) (snd∗ 𝓥 B (sep 𝓥 (Shown v r) Kept-back)) (via 𝓥 (Shown v r) (fst∗ 𝓥 (Shown v r) Kept-back) (R .shows κs r (v ∷ []))))) s) (λ e.
+            (via 𝓥 P (snd∗ 𝓥 (Closed.model .mem σ′) P) (via 𝓥 (sep 𝓥 (Shown v r) Kept-back) (snd∗ 𝓥 B (sep 𝓥 (Shown v r) Kept-back))
+            (via 𝓥 (Shown v r) (fst∗ 𝓥 (Shown v r) Kept-back) (R .shows κs r (v ∷ []))))) s) (λ e.
             let Out : Type 0 = R .Result × Outputs (params ps) in
+            let seen : Outs κs (slots ps) (all yes (slots ps)) = outs κs (slots ps) (all yes (slots ps)) a ws in
             let at-end : (R .told κs r, o) ≡ outcome-of the-call i =
             subst (λ (y : Outputs (params ps)). (R .told κs r, y) ≡ outcome-of the-call i) (outputs-are κs ps a ws)
-            (subst (λ (x : Inputs (params ps)). (R .told κs r, outputs κs ps (outs κs (slots ps) (all yes (slots ps)) a ws)) ≡ outcome-of the-call x) (inputs-are κs ps i γs)
-            (is κs a r (outs κs (slots ps) (all yes (slots ps)) a ws) says)) in
+            (subst (λ (x : Inputs (params ps)). (R .told κs r, outputs κs ps seen) ≡ outcome-of the-call x) (inputs-are κs ps i γs) (is κs a r seen says)) in
             record {
               steps = steps;
               memory = σ′;
@@ -215,7 +219,8 @@ module _ (n : ℕ) (ps : List (Lending n)) (R : Told n) (routine : Routine) (con
         after steps v σ′ r ws run says s =
             finish steps v σ′ r ws run says (sat-⇛ 𝓥 Closed.H Closed.model σ′ (stoods ps i (wrotes κs ps a ws)) (sep 𝓥 (Shown v r) Kept-back)
             (sat-weaken 𝓥 Closed.H Closed.model σ′
-            (qed W₀ ((raw (Lasts ws) ⊛ raw (fact 𝓥 (Says r ws))) ∷ (raw (alive n αs) ⊛ raw (Shown v r)) ∷ raw Asides ∷ raw Kept-back ∷ []) ∵ split ! $ move ! (2 ∷ []) $ split ! $ move ! (0 ∷ 2 ∷ 4 ∷ []) $
+            (qed W₀ ((raw (Lasts ws) ⊛ raw (fact 𝓥 (Says r ws))) ∷ (raw (alive n αs) ⊛ raw (Shown v r)) ∷ raw Asides ∷ raw Kept-back ∷ []) ∵
+            split ! $ move ! (2 ∷ []) $ split ! $ move ! (0 ∷ 2 ∷ 4 ∷ []) $
             use3 W₀ (later (raw (stoods ps i (wrotes κs ps a ws)))) (leave i αs γs ws) $ frame ! $ keep ! (0 ∷ 2 ∷ []) $ finished !) s))
 
         ran : Sat σ (sep 𝓥 (Entered i αs γs) Kept-back) → ∥ Ran routine the-call σ i ∥₁
@@ -225,15 +230,19 @@ module _ (n : ℕ) (ps : List (Lending n)) (R : Told n) (routine : Routine) (con
             (tripleOf 𝓥 Closed.H A₀ signature (spec 𝓥 Closed.H A₀)) met ((κs, fulls n, tt, a, values κs ps i), tt) σ (sep 𝓥 Asides Kept-back)
             (sat-weaken 𝓥 Closed.H Closed.model σ (assoc∗ 𝓥 Pre Asides Kept-back) s)) ∥∥₁-prop (λ d.
             let Post : R .row κs .Denot → SProp 𝓥 = λ r. sep 𝓥 (sep 𝓥 (alive n αs) (Shown (d .1) r)) (ex 𝓥 (Ends r)) in
-            ∥∥₁-elim (sat-ex∗ 𝓥 Closed.H Closed.model (d .2) Post (sep 𝓥 Asides Kept-back) (sat-⇛ 𝓥 Closed.H Closed.model (d .2) (ex 𝓥 Post) (sep 𝓥 Asides Kept-back) (d .4))) ∥∥₁-prop (λ r.
+            ∥∥₁-elim (sat-ex∗ 𝓥 Closed.H Closed.model (d .2) Post (sep 𝓥 Asides Kept-back)
+            (sat-⇛ 𝓥 Closed.H Closed.model (d .2) (ex 𝓥 Post) (sep 𝓥 Asides Kept-back) (d .4))) ∥∥₁-prop (λ r.
             let B : SProp 𝓥 = sep 𝓥 (alive n αs) (Shown (d .1) (r .0)) in
             let F : SProp 𝓥 = sep 𝓥 Asides Kept-back in
             ∥∥₁-elim (sat-ex∗ 𝓥 Closed.H Closed.model (d .2) (Ends (r .0)) (sep 𝓥 B F)
-            (sat-weaken 𝓥 Closed.H Closed.model (d .2) (via 𝓥 (sep 𝓥 (sep 𝓥 (ex 𝓥 (Ends (r .0))) B) F) (monoL 𝓥 F (comm∗ 𝓥 B (ex 𝓥 (Ends (r .0))))) (assoc∗ 𝓥 (ex 𝓥 (Ends (r .0))) B F)) (r .1))) ∥∥₁-prop (λ w.
+            (sat-weaken 𝓥 Closed.H Closed.model (d .2) (via 𝓥 (sep 𝓥 (sep 𝓥 (ex 𝓥 (Ends (r .0))) B) F)
+            (monoL 𝓥 F (comm∗ 𝓥 B (ex 𝓥 (Ends (r .0))))) (assoc∗ 𝓥 (ex 𝓥 (Ends (r .0))) B F)) (r .1))) ∥∥₁-prop (λ w.
             let All-of-it : SProp 𝓥 = sep 𝓥 (Ends (r .0) (w .0)) (sep 𝓥 B F) in
             ∥∥₁-elim (sat-fact 𝓥 Closed.H Closed.model (d .2) All-of-it (Says (r .0) (w .0))
-            (via 𝓥 All-of-it (snd∗ 𝓥 (Closed.model .mem (d .2)) All-of-it) (via 𝓥 (Ends (r .0) (w .0)) (fst∗ 𝓥 (Ends (r .0) (w .0)) (sep 𝓥 B F)) (snd∗ 𝓥 (Lasts (w .0)) (fact 𝓥 (Says (r .0) (w .0)))))) (w .1)) ∥∥₁-prop (λ says.
-            after (d .0) (d .1) (d .2) (r .0) (w .0) (subst (λ (vs : List Val). routine .step (d .0) vs σ ≡ done (d .1, d .2)) (passed-are κs ps i) (d .3)) says (w .1)))))
+            (via 𝓥 All-of-it (snd∗ 𝓥 (Closed.model .mem (d .2)) All-of-it) (via 𝓥 (Ends (r .0) (w .0)) (fst∗ 𝓥 (Ends (r .0) (w .0)) (sep 𝓥 B F))
+            (snd∗ 𝓥 (Lasts (w .0)) (fact 𝓥 (Says (r .0) (w .0)))))) (w .1)) ∥∥₁-prop (λ says.
+            after (d .0) (d .1) (d .2) (r .0) (w .0)
+            (subst (λ (vs : List Val). routine .step (d .0) vs σ ≡ done (d .1, d .2)) (passed-are κs ps i) (d .3)) says (w .1)))))
 
     pub in-cells-at : Promised-at → Runs routine the-call
     in-cells-at met σ i ready =
@@ -244,7 +253,8 @@ module _ (n : ℕ) (ps : List (Lending n)) (R : Told n) (routine : Routine) (con
         ran met σ i ready (αs .0) (γs .0) (γs .1)))
 
 -- the same for a result that holds no reference, and a contract in words of the call's
-abbrev in-words : (n : ℕ) (ps : List (Lending n)) (R : Answer) → (Inputs (params ps) → R .row .Denot → Outputs (params ps) → Type 0) → Contract n ps (plainly n R)
+abbrev in-words : (n : ℕ) (ps : List (Lending n)) (R : Answer)
+    → (Inputs (params ps) → R .row .Denot → Outputs (params ps) → Type 0) → Contract n ps (plainly n R)
 in-words n ps R contract κs a r e = contract (inputs κs ps a) r (outputs κs ps e)
 
 abbrev pub Promised : (n : ℕ) (ps : List (Lending n)) (R : Answer) → Routine → (Inputs (params ps) → R .row .Denot → Outputs (params ps) → Type 0) → Type 1

@@ -27,7 +27,8 @@ use denote.Ref.{RefT, NamedLft, ptr, name, now}
 use denote.Slice.{sliceVal, slice-vals, MutSlice, ShrSlice, Room, finally}
 use denote.Lend.{Held, lends-slice, slice-back, lends-shr-slice}
 use denote.Triple.End.{Kepts, all, Fins, Outs, outs, lastsOf}
-use Rattle.machine.specs.Cells.{Form, Param, Input, Inputs, Outputs, Good, All-good, All-held, Aligned, Sized, reads, writes, cells-of, passes, passed, Span, span, Stands, All, Apart}
+use Rattle.machine.specs.Cells.{Param, Input, Inputs, Outputs, Good, All-good, All-held, Aligned, Sized, reads, writes, cells-of, passes, passed}
+use Rattle.machine.specs.Cells.{Span, span, Stands, All, Apart}
 use Rattle.machine.specs.Cells as machine
 use Rattle.machine.proofs.Whole.{𝓥}
 use Rattle.machine.proofs.Heap.{shared, lie}
@@ -160,14 +161,16 @@ module _ {n : ℕ} (κs : Lfts n) where
   lend-one σ (to-write j ok R) x g = lends-slice 𝓥 Closed.H A₀ W₀ (R .row) (named j) (lftAt n j ok κs) (x .1) (x .0 .0) (x .0 .1) (room-of R (length (x .1)) (g .2))
   lend-one σ (to-read j ok R) x g =
       qed W₀ (raw (row-share R (x .1) (x .0)) ∷ []) ∵ updating ! $
-      use1 W₀ (later (some (λ (γ : GName). ‵ (Read j (lftAt n j ok κs) R x γ)))) (lend-read j (lftAt n j ok κs) R x (g .2)) $ await ! tt $ pick ! (λ γ. at-once ! $
+      use1 W₀ (later (some (λ (γ : GName). ‵ (Read j (lftAt n j ok κs) R x γ)))) (lend-read j (lftAt n j ok κs) R x (g .2)) $
+      await ! tt $ pick ! (λ γ. at-once ! $
       show ! (Owned (to-read j ok R) x) γ $ frame ! $ by ! (id⊢ 𝓥 (emp 𝓥)))
   lend-one σ (to-read-with j ok R S T) x g =
       let r : GName → RefT (List (R .row .Denot)) = λ γ. record { ptr = x .0 .0; name = γ; now = x .0 .1 } in
       let a : NamedLft = namedLft n j ok κs in
       let p : Lending n = to-read-with j ok R S T in
       qed W₀ (raw (row-share R (x .0 .1) (x .0 .0)) ∷ []) ∵ updating ! $
-      use1 W₀ (later (some (λ (γ : GName). ‵ (Read j (lftAt n j ok κs) R (x .0) γ)))) (lend-read j (lftAt n j ok κs) R (x .0) (g .0 .2)) $ await ! tt $ pick ! (λ γ. at-once ! $
+      use1 W₀ (later (some (λ (γ : GName). ‵ (Read j (lftAt n j ok κs) R (x .0) γ)))) (lend-read j (lftAt n j ok κs) R (x .0) (g .0 .2)) $
+      await ! tt $ pick ! (λ γ. at-once ! $
       show ! (Owned p x) γ $ use0 W₀ (‵ (S .row .own (x .1) (S .machine (x .1) ∷ []))) (S .makes (x .1) (g .1)) $ move ! (1 ∷ 0 ∷ []) $
       use2 W₀ (‵ (T .row a .own (T .make a (r γ) (x .1)) (passes (param p) x ∷ []))) (T .made-owns a (r γ) (x .1)) $
       frame ! $ by ! (id⊢ 𝓥 (emp 𝓥)))

@@ -14,7 +14,8 @@ use prog.Machine.{done}
 use prog.Routine.{Routine, ends-one}
 use mir.Val.{Val}
 use store.Seg.{seg, seg-nth}
-use Rattle.machine.specs.Cells.{Form, Param, by-value, to-read, to-write, to-read-with, Place, Inputs, Span, Run-at, Stands, Has, Apart, All, All-apart, All-good, Aligned, reads, writes, cells-of, span, Ready, Call, Ran, Runs, passed, outcome-of}
+use Rattle.machine.specs.Cells.{Form, Param, by-value, to-read, to-write, to-read-with, Inputs, Span, Stands, Apart, All, All-apart, All-good, Aligned}
+use Rattle.machine.specs.Cells.{reads, writes, cells-of, span, Ready, Call, Ran, Runs, passed, outcome-of}
 use Rattle.machine.specs.Made.{Givens, Fitting, blocks, placed}
 use Rattle.machine.proofs.Heap.{run-out}
 
