@@ -81,7 +81,10 @@ module _ (σ : Memory) (t : Tables) (w : List ℕ) (q : State σ t w) where
     reads-apart = tt;
     writes-apart = (
       (λ b i x y. absurd (omega (arith, x .0, y .0)), (λ b i x y. absurd (omega (arith, x .0, y .0)), (λ b i x y. absurd (omega (arith, x .0, y .0)), tt))),
-      ((λ b i x y. absurd (omega (arith, x .0, y .0)), (λ b i x y. absurd (omega (arith, x .0, y .0)), tt)), ((λ b i x y. absurd (omega (arith, x .0, y .0)), tt), (tt, tt))),
+      (
+        (λ b i x y. absurd (omega (arith, x .0, y .0)), (λ b i x y. absurd (omega (arith, x .0, y .0)), tt)),
+        ((λ b i x y. absurd (omega (arith, x .0, y .0)), tt), (tt, tt)),
+      ),
     );
     good = (
       lit< tt,
@@ -110,21 +113,37 @@ record Called (ρ : Routine) (vs : List Val) (v : Val) (σ : Memory) (t : Tables
   state : State memory t w
 
 module _ (ρ : Exported → Routine) (runs : (x : Exported) → Runs (ρ x) (call x)) (σ : Memory) (t : Tables) (w : List ℕ) (q : State σ t w) where
-  clear-called : (o : Numbered) → clear-outcome 2 t ≡ o → ∥ Called (ρ (of-book clear)) (passed (call (of-book clear) .params) (clear-inputs t)) (number-value (o .reply)) σ (o .tables) w ∥₁
+  clear-called : (o : Numbered) → clear-outcome 2 t ≡ o → ∥ Called (ρ (of-book clear)) (passed (call (of-book clear) .params) (clear-inputs t))
+      (number-value (o .reply)) σ (o .tables) w ∥₁
   clear-called o e =
       ∥∥₁-map (runs (of-book clear) σ (clear-inputs t) (clear-ready σ t w q)) (λ h.
       let still = room-still σ (h .memory) (h .blocks-kept) in
-      subst (λ (y : Numbered). Called (ρ (of-book clear)) (passed (call (of-book clear) .params) (clear-inputs t)) (number-value (y .reply)) σ (y .tables) w) e (record {
+      subst (λ (y : Numbered). Called (ρ (of-book clear)) (passed (call (of-book clear) .params) (clear-inputs t)) (number-value (y .reply)) σ
+      (y .tables) w) e (record {
         steps = h .steps;
         memory = h .memory;
         returns = h .returns;
         state = record {
           links = record { stands = h .stand .0; held = h .held .0; room = still (tyInt w8) (0, 0) (q .links .room); long = h .lengths .0 ∙ q .links .long };
-          numbers = record { stands = h .stand .1 .0; held = h .held .1 .0; room = still (tyInt w8) (1, 0) (q .numbers .room); long = h .lengths .1 .0 ∙ q .numbers .long };
-          order = record { stands = h .stand .1 .1 .0; held = h .held .1 .1 .0; room = still (tyInt w16) (2, 0) (q .order .room); long = h .lengths .1 .1 .0 ∙ q .order .long };
+          numbers = record {
+            stands = h .stand .1 .0;
+            held = h .held .1 .0;
+            room = still (tyInt w8) (1, 0) (q .numbers .room);
+            long = h .lengths .1 .0
+                ∙ q .numbers .long;
+          };
+          order = record {
+            stands = h .stand .1 .1 .0;
+            held = h .held .1 .1 .0;
+            room = still (tyInt w16) (2, 0) (q .order .room);
+            long = h .lengths .1 .1 .0
+                ∙ q .order .long;
+          };
           answer = record {
-            stands = stands-still σ (h .memory) (writes (call (of-book clear) .params) (clear-inputs t)) (h .else-kept) 3 0 (span words (3, 0) w .2)
-                (λ b i x y. absurd (omega (arith, x .0, y .0)), (λ b i x y. absurd (omega (arith, x .0, y .0)), (λ b i x y. absurd (omega (arith, x .0, y .0)), tt))) (q .answer .stands);
+            stands = stands-still σ (h .memory) (writes (call (of-book clear) .params) (clear-inputs t)) (h .else-kept) 3 0 (span words (3, 0) w .2) (
+              λ b i x y. absurd (omega (arith, x .0, y .0)),
+              (λ b i x y. absurd (omega (arith, x .0, y .0)), (λ b i x y. absurd (omega (arith, x .0, y .0)), tt)),
+            ) (q .answer .stands);
             held = q .answer .held;
             room = still (tyInt w16) (3, 0) (q .answer .room);
             long = q .answer .long;
@@ -137,14 +156,27 @@ module _ (ρ : Exported → Routine) (runs : (x : Exported) → Runs (ρ x) (cal
   link-called up o e =
       ∥∥₁-map (runs (of-book (link up)) σ (link-inputs up t w) (link-ready σ t w q up)) (λ h.
       let still = room-still σ (h .memory) (h .blocks-kept) in
-      subst (λ (y : Linked). Called (ρ (of-book (link up))) (passed (call (of-book (link up)) .params) (link-inputs up t w)) (reply-value (y .reply)) σ (y .tables) (y .answer)) e (record {
+      subst (λ (y : Linked). Called (ρ (of-book (link up))) (passed (call (of-book (link up)) .params) (link-inputs up t w)) (reply-value (y .reply)) σ
+      (y .tables) (y .answer)) e (record {
         steps = h .steps;
         memory = h .memory;
         returns = h .returns;
         state = record {
           links = record { stands = h .stand .0; held = h .held .0; room = still (tyInt w8) (0, 0) (q .links .room); long = h .lengths .0 ∙ q .links .long };
-          numbers = record { stands = h .stand .1 .0; held = h .held .1 .0; room = still (tyInt w8) (1, 0) (q .numbers .room); long = h .lengths .1 .0 ∙ q .numbers .long };
-          order = record { stands = h .stand .1 .1 .0; held = h .held .1 .1 .0; room = still (tyInt w16) (2, 0) (q .order .room); long = h .lengths .1 .1 .0 ∙ q .order .long };
+          numbers = record {
+            stands = h .stand .1 .0;
+            held = h .held .1 .0;
+            room = still (tyInt w8) (1, 0) (q .numbers .room);
+            long = h .lengths .1 .0
+                ∙ q .numbers .long;
+          };
+          order = record {
+            stands = h .stand .1 .1 .0;
+            held = h .held .1 .1 .0;
+            room = still (tyInt w16) (2, 0) (q .order .room);
+            long = h .lengths .1 .1 .0
+                ∙ q .order .long;
+          };
           answer = record {
             stands = h .stand .1 .1 .1 .0;
             held = h .held .1 .1 .1 .0;
@@ -171,11 +203,13 @@ clear-is : clear-outcome 2 anything ≡ numbered 0 (tables zeros (0 ∷ 0 ∷ []
 unfolding compute clear-outcome
 clear-is = refl
 
-up-is : link-outcome true 2 0 1 (tables zeros (0 ∷ 0 ∷ []) (0 ∷ 1 ∷ [])) (8 ∷ 8 ∷ []) ≡ linked-with (reply 0 (pos 1) 2) (tables linked (1 ∷ 1 ∷ []) (0 ∷ 1 ∷ [])) (0 ∷ 1 ∷ [])
+up-is : link-outcome true 2 0 1 (tables zeros (0 ∷ 0 ∷ []) (0 ∷ 1 ∷ [])) (8 ∷ 8 ∷ []) ≡ linked-with (reply 0 (pos 1) 2)
+    (tables linked (1 ∷ 1 ∷ []) (0 ∷ 1 ∷ [])) (0 ∷ 1 ∷ [])
 unfolding compute link-outcome site-refusal answer-length graph-in row-links switched overwrite put-link put-bit put-digit
 up-is = refl
 
-down-is : link-outcome false 2 0 1 (tables linked (1 ∷ 1 ∷ []) (0 ∷ 1 ∷ [])) (0 ∷ 1 ∷ []) ≡ linked-with (reply 0 (negsuc 0) 2) (tables zeros (0 ∷ 0 ∷ []) (0 ∷ 1 ∷ [])) (0 ∷ 1 ∷ [])
+down-is : link-outcome false 2 0 1 (tables linked (1 ∷ 1 ∷ []) (0 ∷ 1 ∷ [])) (0 ∷ 1 ∷ []) ≡ linked-with (reply 0 (negsuc 0) 2)
+    (tables zeros (0 ∷ 0 ∷ []) (0 ∷ 1 ∷ [])) (0 ∷ 1 ∷ [])
 unfolding compute link-outcome site-refusal answer-length graph-in row-links switched overwrite put-link put-bit put-digit
 down-is = refl
 
@@ -193,7 +227,16 @@ sevens-held (suc n) = (lit< tt, sevens-held n)
 fitting : Fitting (call (of-book (link true)) .params) at-first
 fitting = (
   lit< tt,
-  (lit< tt, (lit< tt, ((sevens-held 128, (lit< tt, lit< tt)), (((lit< tt, (lit< tt, tt)), (lit< tt, lit< tt)), (((lit< tt, (lit< tt, tt)), (lit< tt, lit< tt)), (((lit< tt, (lit< tt, tt)), (lit< tt, lit< tt)), tt)))))),
+  (
+    lit< tt,
+    (
+      lit< tt,
+      (
+        (sevens-held 128, (lit< tt, lit< tt)),
+        (((lit< tt, (lit< tt, tt)), (lit< tt, lit< tt)), (((lit< tt, (lit< tt, tt)), (lit< tt, lit< tt)), (((lit< tt, (lit< tt, tt)), (lit< tt, lit< tt)), tt))),
+      ),
+    ),
+  ),
 )
 
 first-state : State memory anything (8 ∷ 8 ∷ [])
@@ -251,9 +294,24 @@ module _ (ρ : Exported → Routine) (runs : (x : Exported) → Runs (ρ x) (cal
         τ₂ = b .memory;
         τ₃ = c .memory;
         clears = a .returns;
-        cleared = record { links = a .state .links .stands; numbers = a .state .numbers .stands; order = a .state .order .stands; answer = a .state .answer .stands };
+        cleared = record {
+          links = a .state .links .stands;
+          numbers = a .state .numbers .stands;
+          order = a .state .order .stands;
+          answer = a .state .answer .stands;
+        };
         goes-up = b .returns;
-        up = record { links = b .state .links .stands; numbers = b .state .numbers .stands; order = b .state .order .stands; answer = b .state .answer .stands };
+        up = record {
+          links = b .state .links .stands;
+          numbers = b .state .numbers .stands;
+          order = b .state .order .stands;
+          answer = b .state .answer .stands;
+        };
         goes-down = c .returns;
-        down = record { links = c .state .links .stands; numbers = c .state .numbers .stands; order = c .state .order .stands; answer = c .state .answer .stands };
+        down = record {
+          links = c .state .links .stands;
+          numbers = c .state .numbers .stands;
+          order = c .state .order .stands;
+          answer = c .state .answer .stands;
+        };
       })))

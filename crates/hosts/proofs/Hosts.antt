@@ -17,7 +17,8 @@ use mir.Syntax.{w8, w16}
 use mir.Val.{Val, Vals, vunit, vbool, vint, vfloat, vptr, vstruct, vnil, vcons}
 use prog.Memory.{Memory}
 use prog.Routine.{Routine}
-use Rattle.machine.specs.Cells.{Place, Lent, place, entries, Inputs, Span, Stands, Apart, All, All-held, Good-list, Ready, Ran, Runs, span, cells-of, cell-at, writes, outcome-of}
+use Rattle.machine.specs.Cells.{Place, Lent, place, entries, Inputs, Span, Stands, Apart, All, All-held, Good-list, Ready, Ran, Runs, span, cells-of, cell-at}
+use Rattle.machine.specs.Cells.{writes, outcome-of}
 use Rattle.machine.proofs.Chain.{list-one, cells-count, carried, first-entries}
 use Rattle.machine.proofs.Again.{stands-still}
 use Rattle.machine.proofs.Made.{ran-one}
@@ -28,16 +29,20 @@ use Rattle.calls.specs.Questions.{Lengths, lengths-of}
 use Rattle.calls.specs.Contracts.{Clear-contract, Read-contract}
 use Rattle.calls.specs.Outcomes.{Numbered, numbered, clear-outcome, read-outcome, link-outcome, commit-outcome, batch-outcome, hear-outcome}
 use Rattle.calls.specs.MarkOutcomes.{set-outcome, remove-outcome, return-outcome}
-use Rattle.calls.specs.Book.{Call, clearing, reading, linking, committing, batching, hearing, setting, removing, returning, other, Given, given, Answer, plain, counted, Outcome, outcome, booked, book-after, pairs-of, from-clearing, from-image}
+use Rattle.calls.specs.Book.{Call, clearing, reading, linking, committing, batching, hearing, setting, removing, returning, other, Given, given, Answer}
+use Rattle.calls.specs.Book.{plain, counted, Outcome, outcome, booked, book-after, pairs-of, from-clearing, from-image}
 use Rattle.calls.specs.Runs.{Done, answer-of, replied, done, events, after, givens}
 use Rattle.calls.specs.Demand.{cleared, read, beginning, Kept, Demand-3}
 use Rattle.calls.proofs.Runs.{link-done, hear-done, Does}
 use Rattle.calls.proofs.Holds.{Holds}
 use Rattle.calls.proofs.Steps.{step}
 use Rattle.calls.proofs.WholeList.{start, demand-3}
-use Rattle.hosts.specs.Exported.{Known, clear, image-read, link, commit, link-batch, hear, mark-set, mark-remove, mark-return, Exported, of-book, call, bytes, words, the-tables, number-value}
-use Rattle.hosts.specs.Hosts.{Site, Lie, Table-cell, of-links, of-numbers, of-order, Untouched, Spares, site-at, told-of, shown, Turn, on-site, elsewhere, made, Step, Placed}
-use Rattle.hosts.specs.Hosts.{book-call, call-of, fed, Said-so, Said, Agrees, Carried-out, Ends, clears, reads, Made, Hosted, Hosts-demand, Standing-demand}
+use Rattle.hosts.specs.Exported.{Known, clear, image-read, link, commit, link-batch, hear, mark-set, mark-remove, mark-return, Exported, of-book, call}
+use Rattle.hosts.specs.Exported.{bytes, words, the-tables, number-value}
+use Rattle.hosts.specs.Hosts.{Site, Lie, Table-cell, of-links, of-numbers, of-order, Untouched, Spares, site-at, told-of, shown, Turn, on-site}
+use Rattle.hosts.specs.Hosts.{elsewhere, made, Step, Placed}
+use Rattle.hosts.specs.Hosts.{book-call, call-of, fed, Said-so, Said, Agrees, Carried-out, Ends, clears, reads, Made, Hosted, Hosts-demand}
+use Rattle.hosts.specs.Hosts.{Standing-demand}
 use Rattle.hosts.specs.Hosts as hosts
 
 -- ---- the tables of a site
@@ -175,14 +180,16 @@ module _ (ρ : Exported → Routine) (s : Site) (m : ℕ) (t : Tables) where
   unfolding done plain
   clear-shows σ i ready at lie h =
       let o = clear-outcome (i .0) (the-tables (i .1 .0) (i .1 .1 .0) (i .1 .1 .1 .0)) in
-      let w = writer (i .1 .0) (i .1 .1 .0) (i .1 .1 .1 .0) at σ (h .memory) lie (o .tables) (ready .writes-stand) (ready .good .1) (h .stand) (h .lengths) (h .held) in
+      let w = writer (i .1 .0) (i .1 .1 .0) (i .1 .1 .1 .0) at σ (h .memory) lie (o .tables) (ready .writes-stand) (ready .good .1) (h .stand) (h .lengths)
+      (h .held) in
       subst (Shows s (step-of (on-site clear) σ i m (ran (of-book clear) σ i h))) (w .0) ((plain (o .reply), refl, refl, tt), w .1)
 
   image-read-shows : On image-read
   unfolding done plain
   image-read-shows σ i ready at lie h =
       let o = read-outcome (i .0) (entries (i .1 .1 .1 .1 .0)) (the-tables (i .1 .0) (i .1 .1 .0) (i .1 .1 .1 .0)) in
-      let w = writer (i .1 .0) (i .1 .1 .0) (i .1 .1 .1 .0) at σ (h .memory) lie (o .tables) (ready .writes-stand) (ready .good .1) (h .stand) (h .lengths) (h .held) in
+      let w = writer (i .1 .0) (i .1 .1 .0) (i .1 .1 .1 .0) at σ (h .memory) lie (o .tables) (ready .writes-stand) (ready .good .1) (h .stand) (h .lengths)
+      (h .held) in
       subst (Shows s (step-of (on-site image-read) σ i m (ran (of-book image-read) σ i h))) (w .0) ((plain (o .reply), refl, refl, tt), w .1)
 
   link-shows : (up : Bool) → On (link up)
@@ -193,16 +200,19 @@ module _ (ρ : Exported → Routine) (s : Site) (m : ℕ) (t : Tables) where
       let x = j .1 .1 .1 .0 in
       let k = step-of (on-site (link up)) σ i m (ran (of-book (link up)) σ i h) in
       let o = link-outcome up (i .0) (i .1 .0) (i .1 .1 .0) T (entries x) in
-      let w = writer (j .0) (j .1 .0) (j .1 .1 .0) at σ (h .memory) lie (o .tables) (ready .writes-stand) (ready .good .1 .1 .1) (h .stand) (h .lengths) (h .held) in
+      let w = writer (j .0) (j .1 .0) (j .1 .1 .0) at σ (h .memory) lie (o .tables) (ready .writes-stand) (ready .good .1 .1 .1) (h .stand) (h .lengths)
+      (h .held) in
       let listed = first-entries w16 (h .memory) (x .0 .0) (x .0 .1) (o .reply .count) (o .answer) (h .stand .1 .1 .1 .0) in
-      subst (Shows s k) (w .0) (subst (Came s k) (link-done up (i .0) (i .1 .0) (i .1 .1 .0) T (entries x)) ((answer-of (o .reply) (o .answer), refl, refl, (listed, tt)), w .1))
+      subst (Shows s k) (w .0) (subst (Came s k) (link-done up (i .0) (i .1 .0) (i .1 .1 .0) T (entries x))
+      ((answer-of (o .reply) (o .answer), refl, refl, (listed, tt)), w .1))
 
   commit-shows : (up : Bool) → On (commit up)
   unfolding done replied
   commit-shows up σ i ready at lie h =
       let j = i .1 .1 .1 .1 in
       let o = commit-outcome up (i .0) (i .1 .0) (i .1 .1 .0) (i .1 .1 .1 .0) (entries (j .1 .1 .1 .0)) (the-tables (j .0) (j .1 .0) (j .1 .1 .0)) in
-      let w = writer (j .0) (j .1 .0) (j .1 .1 .0) at σ (h .memory) lie (o .tables) (ready .writes-stand) (ready .good .1 .1 .1 .1) (h .stand) (h .lengths) (h .held) in
+      let w = writer (j .0) (j .1 .0) (j .1 .1 .0) at σ (h .memory) lie (o .tables) (ready .writes-stand) (ready .good .1 .1 .1 .1) (h .stand) (h .lengths)
+      (h .held) in
       subst (Shows s (step-of (on-site (commit up)) σ i m (ran (of-book (commit up)) σ i h))) (w .0) ((replied (o .reply), refl, refl, tt), w .1)
 
   batch-shows : On link-batch
@@ -210,8 +220,10 @@ module _ (ρ : Exported → Routine) (s : Site) (m : ℕ) (t : Tables) where
   batch-shows σ i ready at lie h =
       let j = i .1 in
       let o = batch-outcome (i .0) (entries (j .1 .1 .1 .0)) (the-tables (j .0) (j .1 .0) (j .1 .1 .0)) in
-      let w = writer (j .0) (j .1 .0) (j .1 .1 .0) at σ (h .memory) lie (o .tables) (ready .writes-stand) (ready .good .1) (h .stand) (h .lengths) (h .held) in
-      subst (Shows s (step-of (on-site link-batch) σ i m (ran (of-book link-batch) σ i h))) (w .0) ((counted (o .reply .number) (o .reply .value), refl, refl, tt), w .1)
+      let w = writer (j .0) (j .1 .0) (j .1 .1 .0) at σ (h .memory) lie (o .tables) (ready .writes-stand) (ready .good .1) (h .stand) (h .lengths)
+      (h .held) in
+      subst (Shows s (step-of (on-site link-batch) σ i m (ran (of-book link-batch) σ i h))) (w .0)
+      ((counted (o .reply .number) (o .reply .value), refl, refl, tt), w .1)
 
   hear-shows : On hear
   unfolding counted
@@ -220,15 +232,18 @@ module _ (ρ : Exported → Routine) (s : Site) (m : ℕ) (t : Tables) where
       let T = the-tables (j .0) (j .1 .0) (j .1 .1 .0) in
       let k = step-of (on-site hear) σ i m (ran (of-book hear) σ i h) in
       let o = hear-outcome (i .0) (entries (j .1 .1 .1 .0)) T (entries (j .1 .1 .1 .1 .0)) in
-      let w = writer (j .0) (j .1 .0) (j .1 .1 .0) at σ (h .memory) lie (o .tables) (ready .writes-stand) (ready .good .1) (h .stand) (h .lengths) (h .held) in
-      subst (Shows s k) (w .0) (subst (Came s k) (hear-done (i .0) (entries (j .1 .1 .1 .0)) T (entries (j .1 .1 .1 .1 .0))) ((counted (o .reply .number) (o .reply .value), refl, refl, tt), w .1))
+      let w = writer (j .0) (j .1 .0) (j .1 .1 .0) at σ (h .memory) lie (o .tables) (ready .writes-stand) (ready .good .1) (h .stand) (h .lengths)
+      (h .held) in
+      subst (Shows s k) (w .0) (subst (Came s k) (hear-done (i .0) (entries (j .1 .1 .1 .0)) T (entries (j .1 .1 .1 .1 .0)))
+      ((counted (o .reply .number) (o .reply .value), refl, refl, tt), w .1))
 
   return-shows : On mark-return
   unfolding done plain
   return-shows σ i ready at lie h =
       let j = i .1 in
       let o = return-outcome (i .0) (entries (j .1 .1 .1 .0)) (entries (j .1 .1 .1 .1 .0)) (the-tables (j .0) (j .1 .0) (j .1 .1 .0)) in
-      let w = writer (j .0) (j .1 .0) (j .1 .1 .0) at σ (h .memory) lie (o .tables) (ready .writes-stand) (ready .good .1) (h .stand) (h .lengths) (h .held) in
+      let w = writer (j .0) (j .1 .0) (j .1 .1 .0) at σ (h .memory) lie (o .tables) (ready .writes-stand) (ready .good .1) (h .stand) (h .lengths)
+      (h .held) in
       subst (Shows s (step-of (on-site mark-return) σ i m (ran (of-book mark-return) σ i h))) (w .0) ((plain (o .reply), refl, refl, tt), w .1)
 
   -- a call that is lent the tables to be read, and writes none of their cells
@@ -236,19 +251,22 @@ module _ (ρ : Exported → Routine) (s : Site) (m : ℕ) (t : Tables) where
       {X Y G : Type 0} (ls ns os : Lent ℕ) → site-at ls ns os ≡ s → (σ τ : Memory) → Lie s σ t → (ws : List Span) →
       ((z : Span) → All (Apart z) ws → Stands σ z → Stands τ z) →
       Stands σ (span bytes (place ls) (entries ls)) × (Stands σ (span bytes (place ns) (entries ns)) × (Stands σ (span words (place os) (entries os)) × X)) →
-      All (Apart (span bytes (place ls) (entries ls))) ws × (All (Apart (span bytes (place ns) (entries ns))) ws × (All (Apart (span words (place os) (entries os))) ws × Y)) →
+      All (Apart (span bytes (place ls) (entries ls))) ws × (All
+      (Apart (span bytes (place ns) (entries ns))) ws × (All (Apart (span words (place os) (entries os))) ws × Y)) →
       Goods σ ls ns os G → (the-tables ls ns os ≡ t) × Lie s τ t
   reader ls ns os at σ τ lie ws still q a g =
       let T = the-tables ls ns os in
-      let e = same-tables ls ns os at σ lie (three σ (place ls) (place ns) (place os) T q (g .0 .0, (g .1 .0 .0, (g .1 .1 .0 .0, g .0 .0)))) in
-      (e, subst (Lie s τ) e (lent-lie s ls ns os at τ T refl (record {
-        links = still (span bytes (place ls) (entries ls)) (a .0) (q .0);
-        numbers = still (span bytes (place ns) (entries ns)) (a .1 .0) (q .1 .0);
-        order = still (span words (place os) (entries os)) (a .1 .1 .0) (q .1 .1 .0);
-        links-held = g .0 .0;
-        numbers-held = g .1 .0 .0;
-        order-held = g .1 .1 .0 .0;
-      })))
+      let e = same-tables ls ns os at σ lie (three σ (place ls) (place ns) (place os) T q (g .0 .0, (g .1 .0 .0, (g .1 .1 .0 .0, g .0 .0)))) in (
+        e,
+        subst (Lie s τ) e (lent-lie s ls ns os at τ T refl (record {
+          links = still (span bytes (place ls) (entries ls)) (a .0) (q .0);
+          numbers = still (span bytes (place ns) (entries ns)) (a .1 .0) (q .1 .0);
+          order = still (span words (place os) (entries os)) (a .1 .1 .0) (q .1 .1 .0);
+          links-held = g .0 .0;
+          numbers-held = g .1 .0 .0;
+          order-held = g .1 .1 .0 .0;
+        })),
+      )
 
   set-shows : On mark-set
   unfolding done plain
@@ -258,8 +276,11 @@ module _ (ρ : Exported → Routine) (s : Site) (m : ℕ) (t : Tables) where
       let o = set-outcome (i .0) (entries (j .1 .1 .1 .0)) T (entries (j .1 .1 .1 .1 .0)) in
       let ws = writes (call (of-book mark-set) .params) i in
       let w = reader (j .0) (j .1 .0) (j .1 .1 .0) at σ (h .memory) lie ws (λ z. stands-still σ (h .memory) ws (h .else-kept) (z .0) (z .1) (z .2))
-      (ready .reads-stand) (ready .reads-apart) (ready .good .1) in
-      (subst (λ (u : Tables). Said (step-of (on-site mark-set) σ i m (ran (of-book mark-set) σ i h)) (done (call-of (step-of (on-site mark-set) σ i m (ran (of-book mark-set) σ i h))) u .answers)) (w .0) (plain (o .reply), refl, refl, tt), w .1)
+      (ready .reads-stand) (ready .reads-apart) (ready .good .1) in (
+        subst (λ (u : Tables). Said (step-of (on-site mark-set) σ i m (ran (of-book mark-set) σ i h))
+            (done (call-of (step-of (on-site mark-set) σ i m (ran (of-book mark-set) σ i h))) u .answers)) (w .0) (plain (o .reply), refl, refl, tt),
+        w .1,
+      )
 
   remove-shows : On mark-remove
   unfolding done plain
@@ -269,8 +290,11 @@ module _ (ρ : Exported → Routine) (s : Site) (m : ℕ) (t : Tables) where
       let o = remove-outcome (i .0) (entries (j .1 .1 .1 .0)) T (entries (j .1 .1 .1 .1 .0)) in
       let ws = writes (call (of-book mark-remove) .params) i in
       let w = reader (j .0) (j .1 .0) (j .1 .1 .0) at σ (h .memory) lie ws (λ z. stands-still σ (h .memory) ws (h .else-kept) (z .0) (z .1) (z .2))
-      (ready .reads-stand) (ready .reads-apart) (ready .good .1) in
-      (subst (λ (u : Tables). Said (step-of (on-site mark-remove) σ i m (ran (of-book mark-remove) σ i h)) (done (call-of (step-of (on-site mark-remove) σ i m (ran (of-book mark-remove) σ i h))) u .answers)) (w .0) (plain (o .reply), refl, refl, tt), w .1)
+      (ready .reads-stand) (ready .reads-apart) (ready .good .1) in (
+        subst (λ (u : Tables). Said (step-of (on-site mark-remove) σ i m (ran (of-book mark-remove) σ i h))
+            (done (call-of (step-of (on-site mark-remove) σ i m (ran (of-book mark-remove) σ i h))) u .answers)) (w .0) (plain (o .reply), refl, refl, tt),
+        w .1,
+      )
 
   on-shows : (x : Known) → On x
   on-shows clear = clear-shows
@@ -325,11 +349,13 @@ written-first s ls ns os at σ w g =
     (T, lent-lie s ls ns os at σ T refl (three σ (place ls) (place ns) (place os) T w (g .0 .0, (g .1 .0 .0, (g .1 .1 .0 .0, g .0 .0)))))
 
 -- the tables that a call on the site is lent stand there
-lent-first : (s : Site) (x : Known) (σ : Memory) (i : Inputs (call (of-book x) .params)) → Ready σ (call (of-book x) .params) i → told-of x i .site ≡ s → (t : Tables) × Lie s σ t
+lent-first : (s : Site) (x : Known) (σ : Memory) (i : Inputs (call (of-book x) .params)) → Ready σ (call (of-book x) .params) i → told-of x i .site ≡ s →
+    (t : Tables) × Lie s σ t
 lent-first s clear σ i r at = written-first s (i .1 .0) (i .1 .1 .0) (i .1 .1 .1 .0) at σ (r .writes-stand) (r .good .1)
 lent-first s image-read σ i r at = written-first s (i .1 .0) (i .1 .1 .0) (i .1 .1 .1 .0) at σ (r .writes-stand) (r .good .1)
 lent-first s (link up) σ i r at = written-first s (i .1 .1 .1 .0) (i .1 .1 .1 .1 .0) (i .1 .1 .1 .1 .1 .0) at σ (r .writes-stand) (r .good .1 .1 .1)
-lent-first s (commit up) σ i r at = written-first s (i .1 .1 .1 .1 .0) (i .1 .1 .1 .1 .1 .0) (i .1 .1 .1 .1 .1 .1 .0) at σ (r .writes-stand) (r .good .1 .1 .1 .1)
+lent-first s (commit up) σ i r at = written-first s (i .1 .1 .1 .1 .0) (i .1 .1 .1 .1 .1 .0) (i .1 .1 .1 .1 .1 .1 .0) at σ (r .writes-stand)
+    (r .good .1 .1 .1 .1)
 lent-first s link-batch σ i r at = written-first s (i .1 .0) (i .1 .1 .0) (i .1 .1 .1 .0) at σ (r .writes-stand) (r .good .1)
 lent-first s hear σ i r at = written-first s (i .1 .0) (i .1 .1 .0) (i .1 .1 .1 .0) at σ (r .writes-stand) (r .good .1)
 lent-first s mark-set σ i r at = written-first s (i .1 .0) (i .1 .1 .0) (i .1 .1 .1 .0) at σ (r .reads-stand) (r .good .1)
@@ -349,7 +375,8 @@ Known-call (removing n x bs) = Unit {0}
 Known-call (returning n x bs) = Unit {0}
 Known-call other = ⊥
 
-first-lie : (s : Site) (w : Turn) (σ : Memory) (i : Inputs (call (made w) .params)) → Ready σ (call (made w) .params) i → Placed s w i → Known-call (book-call w i) → (t : Tables) × Lie s σ t
+first-lie : (s : Site) (w : Turn) (σ : Memory) (i : Inputs (call (made w) .params)) → Ready σ (call (made w) .params) i → Placed s w i → Known-call
+    (book-call w i) → (t : Tables) × Lie s σ t
 unfolding Known-call
 first-lie s (on-site x) σ i r at k = lent-first s x σ i r at
 first-lie s (elsewhere x) σ i r at k = absurd k
@@ -399,7 +426,8 @@ first-number : List Answer → ℕ
 first-number [] = 0
 first-number (h ∷ hs) = h .number
 
-said-number : (w : Turn) (i : Inputs (call (made w) .params)) (v : Val) (τ : Memory) (hs : List Answer) → Said-so w i v τ hs → v ≡ number-value 0 → first-number hs ≡ 0 ⊎ (hs ≡ [])
+said-number : (w : Turn) (i : Inputs (call (made w) .params)) (v : Val) (τ : Memory) (hs : List Answer) → Said-so w i v τ hs → v ≡ number-value 0 →
+    first-number hs ≡ 0 ⊎ (hs ≡ [])
 unfolding first-number number-of
 said-number (on-site x) i v τ hs y z = inl (ap first-number (y .1) ∙ sym (number-shown x (y .0)) ∙ ap number-of (sym (y .2) ∙ z))
 said-number (elsewhere x) i v τ hs y z = inr y
@@ -429,7 +457,8 @@ module _ (ρ : Exported → Routine) (runs : (x : Exported) → Runs (ρ x) (cal
   standing-demand s n ps t b σ τ ks lie r =
       ∥∥₁-map (hosted-run s t σ τ ks lie r) (λ w.
       let cs = map call-of ks in
-      let kept = subst (λ (gs : List Given). Kept n ps (beginning b) (events cs t) (graph n (book-after gs ps)) (after cs t)) (w .given) (demand-3 n ps t b cs) in
+      let kept = subst (λ (gs : List Given). Kept n ps (beginning b) (events cs t) (graph n (book-after gs ps)) (after cs t)) (w .given)
+      (demand-3 n ps t b cs) in
       record {
         first = t;
         stood = lie;
@@ -454,12 +483,15 @@ module _ (ρ : Exported → Routine) (runs : (x : Exported) → Runs (ρ x) (cal
       let t = d .0 in
       let o = clear-outcome m t in
       let c = subst (λ (c : Call). Came s k (done c t)) e (d .1) in
-      let zero : o .reply ≡ 0 = elim (said-number (k .turn) (k .inputs) (k .returned) (k .after) (plain (o .reply) ∷ []) (c .0) z) [ inl q ↦ q | inr q ↦ absurd (cons-nil q) ] in
+      let zero : o .reply ≡ 0 = elim (said-number (k .turn) (k .inputs) (k .returned) (k .after) (plain (o .reply) ∷ [])
+      (c .0) z) [ inl q ↦ q | inr q ↦ absurd (cons-nil q) ] in
       standing-demand s m [] (o .tables) (cleared m t (o .tables) (subst (λ (q : ℕ). numbered q (o .tables) ≡ o) zero refl)) (k .after) τ ks (c .1) r)
   hosts-demand s n ps b k ks τ (reads m image e z) made r =
       ∥∥₁-elim (began s k made (subst Known-call (sym e) tt)) ∥∥₁-prop (λ d.
       let t = d .0 in
       let o = read-outcome m image t in
       let c = subst (λ (c : Call). Came s k (done c t)) e (d .1) in
-      let zero : o .reply ≡ 0 = elim (said-number (k .turn) (k .inputs) (k .returned) (k .after) (plain (o .reply) ∷ []) (c .0) z) [ inl q ↦ q | inr q ↦ absurd (cons-nil q) ] in
-      standing-demand s m (image-links m image) (o .tables) (read m image t (o .tables) (subst (λ (q : ℕ). numbered q (o .tables) ≡ o) zero refl)) (k .after) τ ks (c .1) r)
+      let zero : o .reply ≡ 0 = elim (said-number (k .turn) (k .inputs) (k .returned) (k .after) (plain (o .reply) ∷ [])
+      (c .0) z) [ inl q ↦ q | inr q ↦ absurd (cons-nil q) ] in
+      standing-demand s m (image-links m image) (o .tables) (read m image t (o .tables) (subst (λ (q : ℕ). numbered q (o .tables) ≡ o) zero refl))
+      (k .after) τ ks (c .1) r)

@@ -13,7 +13,8 @@ use mir.Syntax.{Width, Ty, w8, w16, w32, tyInt}
 use mir.Val.{bits}
 use prog.Memory.{Memory, align, aligned}
 use prog.Routine.{Routine}
-use Rattle.machine.specs.Cells.{Form, Param, by-value, to-read, to-write, Place, Inputs, Span, Has, All-held, Aligned, Sized, Ready, Runs, Block-kept, outcome-of, unsigned, signed, span, cells-of, cell-at, reads, writes}
+use Rattle.machine.specs.Cells.{Form, Param, by-value, to-read, to-write, Place, Inputs, Span, Has, All-held, Aligned, Sized, Ready, Runs, Block-kept}
+use Rattle.machine.specs.Cells.{outcome-of, unsigned, signed, span, cells-of, cell-at, reads, writes}
 use Rattle.machine.specs.Made.{Givens, Fitting, blocks, placed}
 use Rattle.machine.proofs.Made.{From, reads-stand, writes-stand, good, reads-above, writes-above, reads-apart, writes-apart}
 use Rattle.machine.proofs.Chain.{cells-count, run-cell, cell-kept, from-end, begun-kept, apart-beyond, apart-before}
@@ -21,8 +22,10 @@ use Rattle.mesh.specs.Tables.{Tables}
 use Rattle.calls.specs.Questions.{Lengths, lengths-of}
 use Rattle.calls.specs.Book.{Call, clearing, reading, linking, committing, batching, hearing, setting, removing, returning, other}
 use Rattle.calls.specs.Runs.{done}
-use Rattle.hosts.specs.Exported.{Known, clear, image-read, link, commit, link-batch, hear, mark-set, mark-remove, mark-return, check, Exported, of-book, any-other, call, bytes, words, tables-lent}
-use Rattle.hosts.specs.Hosts.{Site, Lie, Within, Table-cell, of-links, of-numbers, of-order, Untouched, told-of, Turn, on-site, elsewhere, made, Step, Placed, book-call, call-of, Made}
+use Rattle.hosts.specs.Exported.{Known, clear, image-read, link, commit, link-batch, hear, mark-set, mark-remove, mark-return, check, Exported, of-book}
+use Rattle.hosts.specs.Exported.{any-other, call, bytes, words, tables-lent}
+use Rattle.hosts.specs.Hosts.{Site, Lie, Within, Table-cell, of-links, of-numbers, of-order, Untouched, told-of, Turn, on-site, elsewhere, made, Step}
+use Rattle.hosts.specs.Hosts.{Placed, book-call, call-of, Made}
 use Rattle.hosts.specs.Hosts as hosts
 use Rattle.hosts.specs.Made.{Room-at, Lendable, Fits, Hosts-exist}
 use Rattle.hosts.proofs.Hosts.{step-of, Shows, turn-shows, moved}
@@ -35,20 +38,29 @@ aligned-of σ τ p h (x ∷ xs) = h
 
 -- a value more
 pub with-value : (F : Form) (x : F .Value) → F .Holds x → {σ : Memory} {ps : List Param} {i : Inputs ps} → Ready σ ps i → Ready σ (by-value F ∷ ps) (x, i)
-with-value F x h r = record { reads-stand = r .reads-stand; writes-stand = r .writes-stand; reads-apart = r .reads-apart; writes-apart = r .writes-apart; good = (h, r .good) }
+with-value F x h r = record {
+  reads-stand = r .reads-stand;
+  writes-stand = r .writes-stand;
+  reads-apart = r .reads-apart;
+  writes-apart = r .writes-apart;
+  good = (h, r .good);
+}
 
 module _ (s : Site) (σ : Memory) (t : Tables) (lie : Lie s σ t) (free : Lendable s σ) where
   links-long : length (cells-of bytes (t .links)) ≡ s .lengths .links
   unfolding lengths-of
-  links-long = let u : length (cells-of bytes (t .links)) ≡ 1 * length (t .links) = cells-count w8 (t .links) in omega (arith, u, ap (λ (x : Lengths). x .links) (lie .lengths))
+  links-long = let u : length (cells-of bytes (t .links)) ≡ 1 * length (t .links) =
+      cells-count w8 (t .links) in omega (arith, u, ap (λ (x : Lengths). x .links) (lie .lengths))
 
   numbers-long : length (cells-of bytes (t .numbers)) ≡ s .lengths .numbers
   unfolding lengths-of
-  numbers-long = let u : length (cells-of bytes (t .numbers)) ≡ 1 * length (t .numbers) = cells-count w8 (t .numbers) in omega (arith, u, ap (λ (x : Lengths). x .numbers) (lie .lengths))
+  numbers-long = let u : length (cells-of bytes (t .numbers)) ≡ 1 * length (t .numbers) =
+      cells-count w8 (t .numbers) in omega (arith, u, ap (λ (x : Lengths). x .numbers) (lie .lengths))
 
   order-long : length (cells-of words (t .order)) ≡ 2 * s .lengths .order
   unfolding lengths-of
-  order-long = let u : length (cells-of words (t .order)) ≡ 2 * length (t .order) = cells-count w16 (t .order) in omega (arith, u, ap (λ (x : Lengths). x .order) (lie .lengths))
+  order-long = let u : length (cells-of words (t .order)) ≡ 2 * length (t .order) =
+      cells-count w16 (t .order) in omega (arith, u, ap (λ (x : Lengths). x .order) (lie .lengths))
 
   abbrev L : Span
   L = span bytes (s .links) (t .links)
@@ -70,9 +82,15 @@ module _ (s : Site) (σ : Memory) (t : Tables) (lie : Lie s σ t) (free : Lendab
 
   -- the cells of the tables are there
   there : (b i : ℕ) → Table-cell s b i → (c : Cell) × (cell-at σ b i ≡ some c)
-  there b i (of-links w) = subst (λ (a : ℕ). (c : Cell) × (cell-at σ a i ≡ some c)) (w .0) (run-cell σ (s .links .0) (s .links .1) (cells-of bytes (t .links)) (lie .links) i (w .1) (subst (λ (k : ℕ). i < s .links .1 + k) (sym links-long) (w .2)))
-  there b i (of-numbers w) = subst (λ (a : ℕ). (c : Cell) × (cell-at σ a i ≡ some c)) (w .0) (run-cell σ (s .numbers .0) (s .numbers .1) (cells-of bytes (t .numbers)) (lie .numbers) i (w .1) (subst (λ (k : ℕ). i < s .numbers .1 + k) (sym numbers-long) (w .2)))
-  there b i (of-order w) = subst (λ (a : ℕ). (c : Cell) × (cell-at σ a i ≡ some c)) (w .0) (run-cell σ (s .order .0) (s .order .1) (cells-of words (t .order)) (lie .order) i (w .1) (subst (λ (k : ℕ). i < s .order .1 + k) (sym order-long) (w .2)))
+  there b i (of-links w) = subst (λ (a : ℕ). (c : Cell) × (cell-at σ a i ≡ some c)) (w .0)
+      (run-cell σ (s .links .0) (s .links .1) (cells-of bytes (t .links)) (lie .links) i (w .1)
+      (subst (λ (k : ℕ). i < s .links .1 + k) (sym links-long) (w .2)))
+  there b i (of-numbers w) = subst (λ (a : ℕ). (c : Cell) × (cell-at σ a i ≡ some c)) (w .0)
+      (run-cell σ (s .numbers .0) (s .numbers .1) (cells-of bytes (t .numbers)) (lie .numbers) i (w .1)
+      (subst (λ (k : ℕ). i < s .numbers .1 + k) (sym numbers-long) (w .2)))
+  there b i (of-order w) = subst (λ (a : ℕ). (c : Cell) × (cell-at σ a i ≡ some c)) (w .0)
+      (run-cell σ (s .order .0) (s .order .1) (cells-of words (t .order)) (lie .order) i (w .1)
+      (subst (λ (k : ℕ). i < s .order .1 + k) (sym order-long) (w .2)))
 
   grown : (μ : Memory) → Untouched s σ (σ ++ μ)
   grown μ b i k = let c = there b i k in cell-kept σ μ b i (c .0) (c .1) ∙ sym (c .1)
@@ -89,15 +107,30 @@ module _ (s : Site) (σ : Memory) (t : Tables) (lie : Lie s σ t) (free : Lendab
 
     links-good : All-held bytes (t .links) × Aligned more (tyInt w8) (s .links) (t .links) × Sized (tyInt w8) (length (t .links))
     unfolding lengths-of
-    links-good = (lie .links-held, aligned-of more (tyInt w8) (s .links) (begun-kept σ (blocks ps g) (align (tyInt w8)) (s .links) (free .links)) (t .links), subst (λ (l : Lengths). Sized (tyInt w8) (l .links)) (sym (lie .lengths)) (free .links-sized))
+    links-good = (
+      lie .links-held,
+      aligned-of more (tyInt w8) (s .links) (begun-kept σ (blocks ps g) (align (tyInt w8)) (s .links) (free .links))
+          (t .links),
+      subst (λ (l : Lengths). Sized (tyInt w8) (l .links)) (sym (lie .lengths)) (free .links-sized),
+    )
 
     numbers-good : All-held bytes (t .numbers) × Aligned more (tyInt w8) (s .numbers) (t .numbers) × Sized (tyInt w8) (length (t .numbers))
     unfolding lengths-of
-    numbers-good = (lie .numbers-held, aligned-of more (tyInt w8) (s .numbers) (begun-kept σ (blocks ps g) (align (tyInt w8)) (s .numbers) (free .numbers)) (t .numbers), subst (λ (l : Lengths). Sized (tyInt w8) (l .numbers)) (sym (lie .lengths)) (free .numbers-sized))
+    numbers-good = (
+      lie .numbers-held,
+      aligned-of more (tyInt w8) (s .numbers) (begun-kept σ (blocks ps g) (align (tyInt w8)) (s .numbers) (free .numbers))
+          (t .numbers),
+      subst (λ (l : Lengths). Sized (tyInt w8) (l .numbers)) (sym (lie .lengths)) (free .numbers-sized),
+    )
 
     order-good : All-held words (t .order) × Aligned more (tyInt w16) (s .order) (t .order) × Sized (tyInt w16) (length (t .order))
     unfolding lengths-of
-    order-good = (lie .order-held, aligned-of more (tyInt w16) (s .order) (begun-kept σ (blocks ps g) (align (tyInt w16)) (s .order) (free .order)) (t .order), subst (λ (l : Lengths). Sized (tyInt w16) (l .order)) (sym (lie .lengths)) (free .order-sized))
+    order-good = (
+      lie .order-held,
+      aligned-of more (tyInt w16) (s .order) (begun-kept σ (blocks ps g) (align (tyInt w16)) (s .order) (free .order))
+          (t .order),
+      subst (λ (l : Lengths). Sized (tyInt w16) (l .order)) (sym (lie .lengths)) (free .order-sized),
+    )
 
     abbrev WS : List Span
     WS = writes ps rest
@@ -119,7 +152,10 @@ module _ (s : Site) (σ : Memory) (t : Tables) (lie : Lie s σ t) (free : Lendab
           (apart-before σ N (lie .numbers) RS (O ∷ WS) (reads-above (length σ) ps g)
           (apart-before σ O (lie .order) RS WS (reads-above (length σ) ps g) (reads-apart (length σ) ps g)));
       writes-apart = (
-        (λ b i x y. free .links-numbers b i (links-in b i x) (numbers-in b i y), (λ b i x y. free .links-order b i (links-in b i x) (order-in b i y), apart-beyond σ L (lie .links) WS (writes-above (length σ) ps g))),
+        (
+          λ b i x y. free .links-numbers b i (links-in b i x) (numbers-in b i y),
+          (λ b i x y. free .links-order b i (links-in b i x) (order-in b i y), apart-beyond σ L (lie .links) WS (writes-above (length σ) ps g)),
+        ),
         (
           (λ b i x y. free .numbers-order b i (numbers-in b i x) (order-in b i y), apart-beyond σ N (lie .numbers) WS (writes-above (length σ) ps g)),
           (apart-beyond σ O (lie .order) WS (writes-above (length σ) ps g), writes-apart (length σ) ps g),
@@ -134,7 +170,10 @@ module _ (s : Site) (σ : Memory) (t : Tables) (lie : Lie s σ t) (free : Lendab
       writes-stand = writes-stand more (length σ) ps g end;
       reads-apart = (
         apart-beyond σ L (lie .links) WS (writes-above (length σ) ps g),
-        (apart-beyond σ N (lie .numbers) WS (writes-above (length σ) ps g), (apart-beyond σ O (lie .order) WS (writes-above (length σ) ps g), reads-apart (length σ) ps g)),
+        (
+          apart-beyond σ N (lie .numbers) WS (writes-above (length σ) ps g),
+          (apart-beyond σ O (lie .order) WS (writes-above (length σ) ps g), reads-apart (length σ) ps g),
+        ),
       );
       writes-apart = writes-apart (length σ) ps g;
       good = (links-good, (numbers-good, (order-good, good more (length σ) ps g f end)));
@@ -157,7 +196,8 @@ zeros-held : (w : Width) → 0 < 2 ^ bits w → (n : ℕ) → All-held (unsigned
 zeros-held w h zero = tt
 zeros-held w h (suc n) = (h, zeros-held w h n)
 
-zeros-fit : (w : Width) → 0 < 2 ^ bits w → (n : ℕ) → Sized (tyInt w) n → All-held (unsigned w) (replicate n 0) × Sized (tyInt w) (length {A = ℕ} (replicate n 0))
+zeros-fit : (w : Width) → 0 < 2 ^ bits w → (n : ℕ) → Sized (tyInt w) n → All-held (unsigned w) (replicate n 0) × Sized (tyInt w)
+    (length {A = ℕ} (replicate n 0))
 zeros-fit w h n f = (zeros-held w h n, subst (Sized (tyInt w)) (sym (length-replicate n 0)) f)
 
 module _ (s : Site) (σ : Memory) (t : Tables) (lie : Lie s σ t) (free : Lendable s σ) where
@@ -206,7 +246,8 @@ module _ (s : Site) (σ : Memory) (t : Tables) (lie : Lie s σ t) (free : Lendab
   asked : (c : Call) → Fits c → Asked s σ t c
   asked (clearing n) f = on-site-asked [] tt tt clear (with-value u32 n f (writing [] tt tt)) whole refl
   asked (reading n bs) f =
-      on-site-asked (to-read bytes ∷ []) (bs, tt) (f .1, tt) image-read (with-value u32 n (f .0) (writing (to-read bytes ∷ []) (bs, tt) (f .1, tt))) whole refl
+      on-site-asked (to-read bytes ∷ []) (bs, tt) (f .1, tt) image-read
+      (with-value u32 n (f .0) (writing (to-read bytes ∷ []) (bs, tt) (f .1, tt))) whole refl
   asked (linking up n a b w) f =
       let z : Fitting (to-write words ∷ []) (replicate w 0, tt) = (zeros-fit w16 (lit< tt) w (f .3), tt) in
       on-site-asked (to-write words ∷ []) (replicate w 0, tt) z (link up)
@@ -217,7 +258,8 @@ module _ (s : Site) (σ : Memory) (t : Tables) (lie : Lie s σ t) (free : Lendab
       (with-value u32 n (f .0) (with-value u32 a (f .1) (with-value u32 b (f .2) (with-value (signed w8) z (f .3)
       (writing (to-read words ∷ []) (xs, tt) (f .4, tt)))))) whole refl
   asked (batching n xs) f =
-      on-site-asked (to-read words ∷ []) (xs, tt) (f .1, tt) link-batch (with-value u32 n (f .0) (writing (to-read words ∷ []) (xs, tt) (f .1, tt))) whole refl
+      on-site-asked (to-read words ∷ []) (xs, tt) (f .1, tt) link-batch
+      (with-value u32 n (f .0) (writing (to-read words ∷ []) (xs, tt) (f .1, tt))) whole refl
   asked (hearing n hs w) f =
       let z : Fitting (to-read bytes ∷ to-write bytes ∷ []) (hs, (replicate w 0, tt)) = (f .1, (zeros-fit w8 (lit< tt) w (f .2), tt)) in
       on-site-asked (to-read bytes ∷ to-write bytes ∷ []) (hs, (replicate w 0, tt)) z hear
@@ -272,7 +314,8 @@ module _ (ρ : Exported → Routine) (runs : (x : Exported) → Runs (ρ x) (cal
       let k : Step = step-of (a .turn) (a .before) (a .inputs) (h .steps) (call x .value (outcome-of (call x) (a .inputs) .0), h .memory) in
       let d : Shows s k t = turn-shows ρ s (h .steps) t (a .turn) (a .before) (a .inputs) (a .ready) (a .placed) (a .lie) h in
       let m : Made ρ s k = record { ready = a .ready; returns = h .returns; placed = a .placed } in
-      ∥∥₁-map (hosts-exist s (done (call-of k) t .tables) (h .memory) (d .1) (free-still s (a .before) (h .memory) (h .blocks-kept) (a .free)) cs (f .1)) (λ r. record {
+      ∥∥₁-map (hosts-exist s (done (call-of k) t .tables) (h .memory) (d .1) (free-still s (a .before) (h .memory) (h .blocks-kept) (a .free)) cs (f .1))
+      (λ r. record {
         steps = k ∷ r .steps;
         last = r .last;
         hosted = hosts.next (a .untouched) m (r .hosted);

@@ -28,7 +28,8 @@ use mir.Val.{Val}
 use prog.Memory.{Memory}
 use prog.Machine.{done as returned}
 use prog.Routine.{Routine}
-use Rattle.machine.specs.Cells.{Place, Lent, place, entries, Inputs, of-inputs, Of-inputs, Span, Stands, Has, All, All-held, span, cell-at, Ready, passed, writes}
+use Rattle.machine.specs.Cells.{Place, Lent, place, entries, Inputs, of-inputs, Of-inputs, Span, Stands, Has, All, All-held, span, cell-at, Ready, passed}
+use Rattle.machine.specs.Cells.{writes}
 use Rattle.mesh.specs.Graph.{Link, graph}
 use Rattle.mesh.specs.Cores.{numbers}
 use Rattle.mesh.specs.Tables.{Tables, links-table}
@@ -39,7 +40,8 @@ use Rattle.calls.specs.Book.{Call, clearing, reading, linking, committing, batc
 use Rattle.calls.specs.Book.{Given, given, Answer, booked, pairs-of, book-after, Beginning, from-clearing, from-image}
 use Rattle.calls.specs.Runs.{done, events, after}
 use Rattle.calls.specs.Demand.{Start, beginning, Kept}
-use Rattle.hosts.specs.Exported.{Known, clear, image-read, link, commit, link-batch, hear, mark-set, mark-remove, mark-return, Exported, of-book, any-other, call}
+use Rattle.hosts.specs.Exported.{Known, clear, image-read, link, commit, link-batch, hear, mark-set, mark-remove, mark-return, Exported, of-book}
+use Rattle.hosts.specs.Exported.{any-other, call}
 use Rattle.hosts.specs.Exported.{bytes, words, the-tables, number-value, reply-value, value-value}
 
 -- ---- a site's tables

@@ -23,7 +23,8 @@ node-row = record {
   machine = nodes .machine;
   Holds = nodes .Holds;
   typed = λ d h. (tt, (record { fits = h .0 }, (record { fits = h .1 }, (record { fits = h .2 }, tt))));
-  makes = λ d h. makes node.the-type node-laws.the-plain 𝓥 Closed.H A₀ d (nodes .machine d ∷ []) (owes node.the-type node-laws.the-laws d ((refl, h .0), ((refl, h .1), ((refl, h .2), tt))));
+  makes = λ d h. makes node.the-type node-laws.the-plain 𝓥 Closed.H A₀ d (nodes .machine d ∷ [])
+      (owes node.the-type node-laws.the-laws d ((refl, h .0), ((refl, h .1), ((refl, h .2), tt))));
   shows = λ d vs.
       via 𝓥 (fact 𝓥 (Is node.the-row d vs)) (shows 𝓥 Closed.H A₀ node.the-row d vs)
       (fact-mono 𝓥 (Is node.the-row d vs) ((vs ≡ nodes .machine d ∷ []) × nodes .Holds d) (λ p.

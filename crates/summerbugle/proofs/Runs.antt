@@ -25,7 +25,8 @@ use Rattle.calls.specs.declared.Pair.{Pair}
 use Rattle.calls.specs.declared.Block.{Block}
 use Rattle.calls.specs.Contracts.{Clear-contract, Read-contract, Return-contract, Link-contract, Ask-contract, Commit-contract, Batch-contract, Hear-contract}
 use Rattle.calls.specs.Contracts.{Check-contract, Number-contract, Neighbours-contract, Linked-contract, First-contract, Later-contract, Lift-contract}
-use Rattle.calls.specs.Contracts.{Core-contract, Backbone-contract, Staircase-contract, Write-contract, Sheet-contract, Script-length-contract, Script-contract}
+use Rattle.calls.specs.Contracts.{Core-contract, Backbone-contract, Staircase-contract, Write-contract, Sheet-contract, Script-length-contract}
+use Rattle.calls.specs.Contracts.{Script-contract}
 use Rattle.calls.specs.Contracts.{Tree-contract, Set-contract, Remove-contract, Block-contract}
 use Rattle.calls.proofs.Reply as reply
 use Rattle.calls.proofs.Reply.Laws as reply-laws
@@ -174,14 +175,16 @@ left o = tables (o .0) (o .1 .0) (o .1 .1 .0)
 clear-runs : Runs (routines (of-book clear)) (call (of-book clear))
 unfolding Clear-contract
 clear-runs =
-    in-cells 3 (n32 ∷ to-write 0 tt u8 ∷ to-write 1 tt u8 ∷ to-write 2 tt u16 ∷ []) a-number _ (λ i r o. Clear-contract (i .0) (the-tables (i .1 .0) (i .1 .1 .0) (i .1 .1 .1 .0)) r (left o)) _
+    in-cells 3 (n32 ∷ to-write 0 tt u8 ∷ to-write 1 tt u8 ∷ to-write 2 tt u16 ∷ []) a-number _
+    (λ i r o. Clear-contract (i .0) (the-tables (i .1 .0) (i .1 .1 .0) (i .1 .1 .1 .0)) r (left o)) _
     (λ i r o e. ap (λ (y : Numbered). (y .reply, tables-then (y .tables) tt)) e)
     (clear-proof.met 𝓥 Closed.H Closed.model ghost₀ 𝓡)
 
 image-read-runs : Runs (routines (of-book image-read)) (call (of-book image-read))
 unfolding Read-contract
 image-read-runs =
-    in-cells 4 (n32 ∷ to-write 0 tt u8 ∷ to-write 1 tt u8 ∷ to-write 2 tt u16 ∷ to-read 3 tt u8 ∷ []) a-number _ (λ i r o. Read-contract (i .0) (entries (i .1 .1 .1 .1 .0)) (the-tables (i .1 .0) (i .1 .1 .0) (i .1 .1 .1 .0)) r (left o)) _
+    in-cells 4 (n32 ∷ to-write 0 tt u8 ∷ to-write 1 tt u8 ∷ to-write 2 tt u16 ∷ to-read 3 tt u8 ∷ []) a-number _
+    (λ i r o. Read-contract (i .0) (entries (i .1 .1 .1 .1 .0)) (the-tables (i .1 .0) (i .1 .1 .0) (i .1 .1 .1 .0)) r (left o)) _
     (λ i r o e. ap (λ (y : Numbered). (y .reply, tables-then (y .tables) tt)) e)
     (image-read-proof.met 𝓥 Closed.H Closed.model ghost₀ 𝓡)
 
@@ -189,7 +192,8 @@ abbrev link-runs-params : List (Lending 4)
 link-runs-params = n32 ∷ n32 ∷ n32 ∷ to-write 0 tt u8 ∷ to-write 1 tt u8 ∷ to-write 2 tt u16 ∷ to-write 3 tt u16 ∷ []
 
 link-runs : (up : Bool) (ρ : Routine) →
-    Promised 4 link-runs-params a-reply ρ (λ i r o. Link-contract up (i .0) (i .1 .0) (i .1 .1 .0) (the-tables (i .1 .1 .1 .0) (i .1 .1 .1 .1 .0) (i .1 .1 .1 .1 .1 .0)) (entries (i .1 .1 .1 .1 .1 .1 .0)) r (left o) (o .1 .1 .1 .0)) →
+    Promised 4 link-runs-params a-reply ρ (λ i r o. Link-contract up (i .0) (i .1 .0) (i .1 .1 .0)
+    (the-tables (i .1 .1 .1 .0) (i .1 .1 .1 .1 .0) (i .1 .1 .1 .1 .1 .0)) (entries (i .1 .1 .1 .1 .1 .1 .0)) r (left o) (o .1 .1 .1 .0)) →
     Runs ρ (call (of-book (link up)))
 unfolding Link-contract
 link-runs up ρ met = in-cells 4 link-runs-params a-reply ρ _ _ (λ i r o e. ap (λ (y : Linked). (y .reply, tables-then (y .tables) (y .answer, tt))) e) met
@@ -198,7 +202,8 @@ abbrev commit-runs-params : List (Lending 4)
 commit-runs-params = n32 ∷ n32 ∷ n32 ∷ by-value (signed-row w8) ∷ to-write 0 tt u8 ∷ to-write 1 tt u8 ∷ to-write 2 tt u16 ∷ to-read 3 tt u16 ∷ []
 
 commit-runs : (up : Bool) (ρ : Routine) →
-    Promised 4 commit-runs-params a-reply ρ (λ i r o. Commit-contract up (i .0) (i .1 .0) (i .1 .1 .0) (i .1 .1 .1 .0) (entries (i .1 .1 .1 .1 .1 .1 .1 .0)) (the-tables (i .1 .1 .1 .1 .0) (i .1 .1 .1 .1 .1 .0) (i .1 .1 .1 .1 .1 .1 .0)) r (left o)) →
+    Promised 4 commit-runs-params a-reply ρ (λ i r o. Commit-contract up (i .0) (i .1 .0) (i .1 .1 .0) (i .1 .1 .1 .0) (entries (i .1 .1 .1 .1 .1 .1 .1 .0))
+    (the-tables (i .1 .1 .1 .1 .0) (i .1 .1 .1 .1 .1 .0) (i .1 .1 .1 .1 .1 .1 .0)) r (left o)) →
     Runs ρ (call (of-book (commit up)))
 unfolding Commit-contract
 commit-runs up ρ met = in-cells 4 commit-runs-params a-reply ρ _ _ (λ i r o e. ap (λ (y : Committed). (y .reply, tables-then (y .tables) tt)) e) met
@@ -206,35 +211,44 @@ commit-runs up ρ met = in-cells 4 commit-runs-params a-reply ρ _ _ (λ i r o e
 batch-runs : Runs (routines (of-book link-batch)) (call (of-book link-batch))
 unfolding Batch-contract
 batch-runs =
-    in-cells 4 (n32 ∷ to-write 0 tt u8 ∷ to-write 1 tt u8 ∷ to-write 2 tt u16 ∷ to-read 3 tt u16 ∷ []) a-value _ (λ i r o. Batch-contract (i .0) (entries (i .1 .1 .1 .1 .0)) (the-tables (i .1 .0) (i .1 .1 .0) (i .1 .1 .1 .0)) r (left o)) _
+    in-cells 4 (n32 ∷ to-write 0 tt u8 ∷ to-write 1 tt u8 ∷ to-write 2 tt u16 ∷ to-read 3 tt u16 ∷ []) a-value _
+    (λ i r o. Batch-contract (i .0) (entries (i .1 .1 .1 .1 .0)) (the-tables (i .1 .0) (i .1 .1 .0) (i .1 .1 .1 .0)) r (left o)) _
     (λ i r o e. ap (λ (y : Batched). (y .reply, tables-then (y .tables) tt)) e)
     (link-batch-proof.met 𝓥 Closed.H Closed.model ghost₀ 𝓡)
 
 hear-runs : Runs (routines (of-book hear)) (call (of-book hear))
 unfolding Hear-contract
 hear-runs =
-    in-cells 5 (n32 ∷ to-write 0 tt u8 ∷ to-write 1 tt u8 ∷ to-write 2 tt u16 ∷ to-read 3 tt u8 ∷ to-write 4 tt u8 ∷ []) a-value _ (λ i r o. Hear-contract (i .0) (entries (i .1 .1 .1 .1 .0)) (the-tables (i .1 .0) (i .1 .1 .0) (i .1 .1 .1 .0)) (entries (i .1 .1 .1 .1 .1 .0)) r (left o) (o .1 .1 .1 .0)) _
+    in-cells 5 (n32 ∷ to-write 0 tt u8 ∷ to-write 1 tt u8 ∷ to-write 2 tt u16 ∷ to-read 3 tt u8 ∷ to-write 4 tt u8 ∷ []) a-value _
+    (λ i r o. Hear-contract (i .0) (entries (i .1 .1 .1 .1 .0)) (the-tables (i .1 .0) (i .1 .1 .0) (i .1 .1 .1 .0)) (entries (i .1 .1 .1 .1 .1 .0)) r
+    (left o) (o .1 .1 .1 .0)) _
     (λ i r o e. ap (λ (y : Heard). (y .reply, tables-then (y .tables) (y .one-sided, tt))) e)
     (hear-proof.met 𝓥 Closed.H Closed.model ghost₀ 𝓡)
 
 set-runs : Runs (routines (of-book mark-set)) (call (of-book mark-set))
 unfolding Set-contract
 set-runs =
-    in-cells 5 (n32 ∷ to-read 0 tt u8 ∷ to-read 1 tt u8 ∷ to-read 2 tt u16 ∷ to-read 3 tt u8 ∷ to-write 4 tt u8 ∷ []) a-number _ (λ i r o. Set-contract (i .0) (entries (i .1 .1 .1 .1 .0)) (the-tables (i .1 .0) (i .1 .1 .0) (i .1 .1 .1 .0)) (entries (i .1 .1 .1 .1 .1 .0)) r (o .0)) _
+    in-cells 5 (n32 ∷ to-read 0 tt u8 ∷ to-read 1 tt u8 ∷ to-read 2 tt u16 ∷ to-read 3 tt u8 ∷ to-write 4 tt u8 ∷ []) a-number _
+    (λ i r o. Set-contract (i .0) (entries (i .1 .1 .1 .1 .0)) (the-tables (i .1 .0) (i .1 .1 .0) (i .1 .1 .1 .0)) (entries (i .1 .1 .1 .1 .1 .0)) r
+    (o .0)) _
     (λ i r o e. ap (λ (y : Stored). (y .reply, (y .store, tt))) e)
     (mark-set-proof.met 𝓥 Closed.H Closed.model ghost₀ 𝓡)
 
 remove-runs : Runs (routines (of-book mark-remove)) (call (of-book mark-remove))
 unfolding Remove-contract
 remove-runs =
-    in-cells 5 (n32 ∷ to-read 0 tt u8 ∷ to-read 1 tt u8 ∷ to-read 2 tt u16 ∷ to-read 3 tt u8 ∷ to-write 4 tt u8 ∷ []) a-number _ (λ i r o. Remove-contract (i .0) (entries (i .1 .1 .1 .1 .0)) (the-tables (i .1 .0) (i .1 .1 .0) (i .1 .1 .1 .0)) (entries (i .1 .1 .1 .1 .1 .0)) r (o .0)) _
+    in-cells 5 (n32 ∷ to-read 0 tt u8 ∷ to-read 1 tt u8 ∷ to-read 2 tt u16 ∷ to-read 3 tt u8 ∷ to-write 4 tt u8 ∷ []) a-number _
+    (λ i r o. Remove-contract (i .0) (entries (i .1 .1 .1 .1 .0)) (the-tables (i .1 .0) (i .1 .1 .0) (i .1 .1 .1 .0)) (entries (i .1 .1 .1 .1 .1 .0)) r
+    (o .0)) _
     (λ i r o e. ap (λ (y : Stored). (y .reply, (y .store, tt))) e)
     (mark-remove-proof.met 𝓥 Closed.H Closed.model ghost₀ 𝓡)
 
 return-runs : Runs (routines (of-book mark-return)) (call (of-book mark-return))
 unfolding Return-contract
 return-runs =
-    in-cells 5 (n32 ∷ to-write 0 tt u8 ∷ to-write 1 tt u8 ∷ to-write 2 tt u16 ∷ to-read 3 tt u8 ∷ to-read 4 tt u8 ∷ []) a-number _ (λ i r o. Return-contract (i .0) (entries (i .1 .1 .1 .1 .0)) (entries (i .1 .1 .1 .1 .1 .0)) (the-tables (i .1 .0) (i .1 .1 .0) (i .1 .1 .1 .0)) r (left o)) _
+    in-cells 5 (n32 ∷ to-write 0 tt u8 ∷ to-write 1 tt u8 ∷ to-write 2 tt u16 ∷ to-read 3 tt u8 ∷ to-read 4 tt u8 ∷ []) a-number _
+    (λ i r o. Return-contract (i .0) (entries (i .1 .1 .1 .1 .0)) (entries (i .1 .1 .1 .1 .1 .0)) (the-tables (i .1 .0) (i .1 .1 .0) (i .1 .1 .1 .0)) r
+    (left o)) _
     (λ i r o e. ap (λ (y : Numbered). (y .reply, tables-then (y .tables) tt)) e)
     (mark-return-proof.met 𝓥 Closed.H Closed.model ghost₀ 𝓡)
 
@@ -244,7 +258,8 @@ abbrev ask-runs-params : List (Lending 2)
 ask-runs-params = n32 ∷ n32 ∷ n32 ∷ to-read 0 tt u8 ∷ to-read 0 tt u8 ∷ to-read 0 tt u16 ∷ to-write 1 tt u16 ∷ []
 
 ask-runs : (up : Bool) (ρ : Routine) →
-    Promised 2 ask-runs-params a-reply ρ (λ i r o. Ask-contract up (i .0) (i .1 .0) (i .1 .1 .0) (the-tables (i .1 .1 .1 .0) (i .1 .1 .1 .1 .0) (i .1 .1 .1 .1 .1 .0)) (entries (i .1 .1 .1 .1 .1 .1 .0)) r (o .0)) →
+    Promised 2 ask-runs-params a-reply ρ (λ i r o. Ask-contract up (i .0) (i .1 .0) (i .1 .1 .0)
+    (the-tables (i .1 .1 .1 .0) (i .1 .1 .1 .1 .0) (i .1 .1 .1 .1 .1 .0)) (entries (i .1 .1 .1 .1 .1 .1 .0)) r (o .0)) →
     Runs ρ (call (any-other (ask up)))
 unfolding Ask-contract
 ask-runs up ρ met = in-cells 2 ask-runs-params a-reply ρ _ _ (λ i r o e. ap (λ (y : Asked). (y .reply, (y .answer, tt))) e) met
@@ -252,105 +267,122 @@ ask-runs up ρ met = in-cells 2 ask-runs-params a-reply ρ _ _ (λ i r o e. ap (
 check-runs : Runs (routines (any-other check)) (call (any-other check))
 unfolding Check-contract
 check-runs =
-    in-cells 1 (n32 ∷ to-read 0 tt u8 ∷ to-read 0 tt u8 ∷ to-read 0 tt u16 ∷ []) a-value _ (λ i r o. Check-contract (i .0) (the-tables (i .1 .0) (i .1 .1 .0) (i .1 .1 .1 .0)) r) _
+    in-cells 1 (n32 ∷ to-read 0 tt u8 ∷ to-read 0 tt u8 ∷ to-read 0 tt u16 ∷ []) a-value _
+    (λ i r o. Check-contract (i .0) (the-tables (i .1 .0) (i .1 .1 .0) (i .1 .1 .1 .0)) r) _
     (λ i r o e. ap (λ (y : Value). (y, tt)) e)
     (check-proof.met 𝓥 Closed.H Closed.model ghost₀ 𝓡)
 
 number-runs : Runs (routines (any-other number)) (call (any-other number))
 unfolding Number-contract
 number-runs =
-    in-cells 1 (n32 ∷ n32 ∷ to-read 0 tt u8 ∷ to-read 0 tt u8 ∷ to-read 0 tt u16 ∷ []) a-value _ (λ i r o. Number-contract (i .0) (i .1 .0) (the-tables (i .1 .1 .0) (i .1 .1 .1 .0) (i .1 .1 .1 .1 .0)) r) _
+    in-cells 1 (n32 ∷ n32 ∷ to-read 0 tt u8 ∷ to-read 0 tt u8 ∷ to-read 0 tt u16 ∷ []) a-value _
+    (λ i r o. Number-contract (i .0) (i .1 .0) (the-tables (i .1 .1 .0) (i .1 .1 .1 .0) (i .1 .1 .1 .1 .0)) r) _
     (λ i r o e. ap (λ (y : Value). (y, tt)) e)
     (number-proof.met 𝓥 Closed.H Closed.model ghost₀ 𝓡)
 
 neighbours-runs : Runs (routines (any-other neighbours)) (call (any-other neighbours))
 unfolding Neighbours-contract
 neighbours-runs =
-    in-cells 1 (n32 ∷ n32 ∷ to-read 0 tt u8 ∷ to-read 0 tt u8 ∷ to-read 0 tt u16 ∷ []) a-value _ (λ i r o. Neighbours-contract (i .0) (i .1 .0) (the-tables (i .1 .1 .0) (i .1 .1 .1 .0) (i .1 .1 .1 .1 .0)) r) _
+    in-cells 1 (n32 ∷ n32 ∷ to-read 0 tt u8 ∷ to-read 0 tt u8 ∷ to-read 0 tt u16 ∷ []) a-value _
+    (λ i r o. Neighbours-contract (i .0) (i .1 .0) (the-tables (i .1 .1 .0) (i .1 .1 .1 .0) (i .1 .1 .1 .1 .0)) r) _
     (λ i r o e. ap (λ (y : Value). (y, tt)) e)
     (neighbours-proof.met 𝓥 Closed.H Closed.model ghost₀ 𝓡)
 
 linked-runs : Runs (routines (any-other linked)) (call (any-other linked))
 unfolding Linked-contract
 linked-runs =
-    in-cells 1 (n32 ∷ n32 ∷ n32 ∷ to-read 0 tt u8 ∷ to-read 0 tt u8 ∷ to-read 0 tt u16 ∷ []) a-value _ (λ i r o. Linked-contract (i .0) (i .1 .0) (i .1 .1 .0) (the-tables (i .1 .1 .1 .0) (i .1 .1 .1 .1 .0) (i .1 .1 .1 .1 .1 .0)) r) _
+    in-cells 1 (n32 ∷ n32 ∷ n32 ∷ to-read 0 tt u8 ∷ to-read 0 tt u8 ∷ to-read 0 tt u16 ∷ []) a-value _
+    (λ i r o. Linked-contract (i .0) (i .1 .0) (i .1 .1 .0) (the-tables (i .1 .1 .1 .0) (i .1 .1 .1 .1 .0) (i .1 .1 .1 .1 .1 .0)) r) _
     (λ i r o e. ap (λ (y : Value). (y, tt)) e)
     (linked-proof.met 𝓥 Closed.H Closed.model ghost₀ 𝓡)
 
 first-runs : Runs (routines (any-other first)) (call (any-other first))
 unfolding First-contract
 first-runs =
-    in-cells 1 (n32 ∷ n32 ∷ n32 ∷ to-read 0 tt u8 ∷ to-read 0 tt u8 ∷ to-read 0 tt u16 ∷ []) a-value _ (λ i r o. First-contract (i .0) (i .1 .0) (i .1 .1 .0) (the-tables (i .1 .1 .1 .0) (i .1 .1 .1 .1 .0) (i .1 .1 .1 .1 .1 .0)) r) _
+    in-cells 1 (n32 ∷ n32 ∷ n32 ∷ to-read 0 tt u8 ∷ to-read 0 tt u8 ∷ to-read 0 tt u16 ∷ []) a-value _
+    (λ i r o. First-contract (i .0) (i .1 .0) (i .1 .1 .0) (the-tables (i .1 .1 .1 .0) (i .1 .1 .1 .1 .0) (i .1 .1 .1 .1 .1 .0)) r) _
     (λ i r o e. ap (λ (y : Value). (y, tt)) e)
     (first-proof.met 𝓥 Closed.H Closed.model ghost₀ 𝓡)
 
 later-runs : Runs (routines (any-other later-of)) (call (any-other later-of))
 unfolding Later-contract
 later-runs =
-    in-cells 1 (n32 ∷ n32 ∷ to-read 0 tt u8 ∷ to-read 0 tt u8 ∷ to-read 0 tt u16 ∷ []) a-later _ (λ i r o. Later-contract (i .0) (i .1 .0) (the-tables (i .1 .1 .0) (i .1 .1 .1 .0) (i .1 .1 .1 .1 .0)) r) _
+    in-cells 1 (n32 ∷ n32 ∷ to-read 0 tt u8 ∷ to-read 0 tt u8 ∷ to-read 0 tt u16 ∷ []) a-later _
+    (λ i r o. Later-contract (i .0) (i .1 .0) (the-tables (i .1 .1 .0) (i .1 .1 .1 .0) (i .1 .1 .1 .1 .0)) r) _
     (λ i r o e. ap (λ (y : Later). (y, tt)) e)
     (later-of-proof.met 𝓥 Closed.H Closed.model ghost₀ 𝓡)
 
 lift-runs : Runs (routines (any-other lift)) (call (any-other lift))
 unfolding Lift-contract
 lift-runs =
-    in-cells 1 (n32 ∷ n32 ∷ to-read 0 tt u8 ∷ to-read 0 tt u8 ∷ to-read 0 tt u16 ∷ []) a-pair _ (λ i r o. Lift-contract (i .0) (i .1 .0) (the-tables (i .1 .1 .0) (i .1 .1 .1 .0) (i .1 .1 .1 .1 .0)) r) _
+    in-cells 1 (n32 ∷ n32 ∷ to-read 0 tt u8 ∷ to-read 0 tt u8 ∷ to-read 0 tt u16 ∷ []) a-pair _
+    (λ i r o. Lift-contract (i .0) (i .1 .0) (the-tables (i .1 .1 .0) (i .1 .1 .1 .0) (i .1 .1 .1 .1 .0)) r) _
     (λ i r o e. ap (λ (y : Pair). (y, tt)) e)
     (lift-proof.met 𝓥 Closed.H Closed.model ghost₀ 𝓡)
 
 length-runs : Runs (routines (any-other script-length)) (call (any-other script-length))
 unfolding Script-length-contract
 length-runs =
-    in-cells 3 (n32 ∷ to-read 0 tt u8 ∷ to-read 1 tt u8 ∷ to-read 2 tt u16 ∷ []) a-value _ (λ i r o. Script-length-contract (i .0) (the-tables (i .1 .0) (i .1 .1 .0) (i .1 .1 .1 .0)) r) _
+    in-cells 3 (n32 ∷ to-read 0 tt u8 ∷ to-read 1 tt u8 ∷ to-read 2 tt u16 ∷ []) a-value _
+    (λ i r o. Script-length-contract (i .0) (the-tables (i .1 .0) (i .1 .1 .0) (i .1 .1 .1 .0)) r) _
     (λ i r o e. ap (λ (y : Value). (y, tt)) e)
     (script-length-proof.met 𝓥 Closed.H Closed.model ghost₀ 𝓡)
 
 core-runs : Runs (routines (any-other core)) (call (any-other core))
 unfolding Core-contract
 core-runs =
-    in-cells 2 (n32 ∷ n32 ∷ n32 ∷ to-read 0 tt u8 ∷ to-read 0 tt u8 ∷ to-read 0 tt u16 ∷ to-write 1 tt u16 ∷ []) a-value _ (λ i r o. Core-contract (i .0) (i .1 .0) (i .1 .1 .0) (the-tables (i .1 .1 .1 .0) (i .1 .1 .1 .1 .0) (i .1 .1 .1 .1 .1 .0)) (entries (i .1 .1 .1 .1 .1 .1 .0)) r (o .0)) _
+    in-cells 2 (n32 ∷ n32 ∷ n32 ∷ to-read 0 tt u8 ∷ to-read 0 tt u8 ∷ to-read 0 tt u16 ∷ to-write 1 tt u16 ∷ []) a-value _
+    (λ i r o. Core-contract (i .0) (i .1 .0) (i .1 .1 .0) (the-tables (i .1 .1 .1 .0) (i .1 .1 .1 .1 .0) (i .1 .1 .1 .1 .1 .0))
+    (entries (i .1 .1 .1 .1 .1 .1 .0)) r (o .0)) _
     (λ i r o e. ap (λ (y : Listing). (y .reply, (y .lent, tt))) e)
     (core-proof.met 𝓥 Closed.H Closed.model ghost₀ 𝓡)
 
 backbone-runs : Runs (routines (any-other backbone)) (call (any-other backbone))
 unfolding Backbone-contract
 backbone-runs =
-    in-cells 2 (n32 ∷ to-read 0 tt u8 ∷ to-read 0 tt u8 ∷ to-read 0 tt u16 ∷ to-write 1 tt u16 ∷ []) a-value _ (λ i r o. Backbone-contract (i .0) (the-tables (i .1 .0) (i .1 .1 .0) (i .1 .1 .1 .0)) (entries (i .1 .1 .1 .1 .0)) r (o .0)) _
+    in-cells 2 (n32 ∷ to-read 0 tt u8 ∷ to-read 0 tt u8 ∷ to-read 0 tt u16 ∷ to-write 1 tt u16 ∷ []) a-value _
+    (λ i r o. Backbone-contract (i .0) (the-tables (i .1 .0) (i .1 .1 .0) (i .1 .1 .1 .0)) (entries (i .1 .1 .1 .1 .0)) r (o .0)) _
     (λ i r o e. ap (λ (y : Listing). (y .reply, (y .lent, tt))) e)
     (backbone-proof.met 𝓥 Closed.H Closed.model ghost₀ 𝓡)
 
 staircase-runs : Runs (routines (any-other staircase)) (call (any-other staircase))
 unfolding Staircase-contract
 staircase-runs =
-    in-cells 2 (n32 ∷ to-read 0 tt u8 ∷ to-read 0 tt u8 ∷ to-read 0 tt u16 ∷ to-write 1 tt u16 ∷ []) a-value _ (λ i r o. Staircase-contract (i .0) (the-tables (i .1 .0) (i .1 .1 .0) (i .1 .1 .1 .0)) (entries (i .1 .1 .1 .1 .0)) r (o .0)) _
+    in-cells 2 (n32 ∷ to-read 0 tt u8 ∷ to-read 0 tt u8 ∷ to-read 0 tt u16 ∷ to-write 1 tt u16 ∷ []) a-value _
+    (λ i r o. Staircase-contract (i .0) (the-tables (i .1 .0) (i .1 .1 .0) (i .1 .1 .1 .0)) (entries (i .1 .1 .1 .1 .0)) r (o .0)) _
     (λ i r o e. ap (λ (y : Listing). (y .reply, (y .lent, tt))) e)
     (staircase-proof.met 𝓥 Closed.H Closed.model ghost₀ 𝓡)
 
 write-runs : Runs (routines (any-other image-write)) (call (any-other image-write))
 unfolding Write-contract
 write-runs =
-    in-cells 4 (n32 ∷ to-read 0 tt u8 ∷ to-read 1 tt u8 ∷ to-read 2 tt u16 ∷ to-write 3 tt u8 ∷ []) a-value _ (λ i r o. Write-contract (i .0) (the-tables (i .1 .0) (i .1 .1 .0) (i .1 .1 .1 .0)) (entries (i .1 .1 .1 .1 .0)) r (o .0)) _
+    in-cells 4 (n32 ∷ to-read 0 tt u8 ∷ to-read 1 tt u8 ∷ to-read 2 tt u16 ∷ to-write 3 tt u8 ∷ []) a-value _
+    (λ i r o. Write-contract (i .0) (the-tables (i .1 .0) (i .1 .1 .0) (i .1 .1 .1 .0)) (entries (i .1 .1 .1 .1 .0)) r (o .0)) _
     (λ i r o e. ap (λ (y : Listing). (y .reply, (y .lent, tt))) e)
     (image-write-proof.met 𝓥 Closed.H Closed.model ghost₀ 𝓡)
 
 sheet-runs : Runs (routines (any-other sheet)) (call (any-other sheet))
 unfolding Sheet-contract
 sheet-runs =
-    in-cells 4 (n32 ∷ to-read 0 tt u8 ∷ to-read 1 tt u8 ∷ to-read 2 tt u16 ∷ to-write 3 tt u8 ∷ []) a-value _ (λ i r o. Sheet-contract (i .0) (the-tables (i .1 .0) (i .1 .1 .0) (i .1 .1 .1 .0)) (entries (i .1 .1 .1 .1 .0)) r (o .0)) _
+    in-cells 4 (n32 ∷ to-read 0 tt u8 ∷ to-read 1 tt u8 ∷ to-read 2 tt u16 ∷ to-write 3 tt u8 ∷ []) a-value _
+    (λ i r o. Sheet-contract (i .0) (the-tables (i .1 .0) (i .1 .1 .0) (i .1 .1 .1 .0)) (entries (i .1 .1 .1 .1 .0)) r (o .0)) _
     (λ i r o e. ap (λ (y : Listing). (y .reply, (y .lent, tt))) e)
     (sheet-proof.met 𝓥 Closed.H Closed.model ghost₀ 𝓡)
 
 script-runs : Runs (routines (any-other script-write)) (call (any-other script-write))
 unfolding Script-contract
 script-runs =
-    in-cells 4 (n32 ∷ to-read 0 tt u8 ∷ to-read 1 tt u8 ∷ to-read 2 tt u16 ∷ to-write 3 tt u8 ∷ []) a-value _ (λ i r o. Script-contract (i .0) (the-tables (i .1 .0) (i .1 .1 .0) (i .1 .1 .1 .0)) (entries (i .1 .1 .1 .1 .0)) r (o .0)) _
+    in-cells 4 (n32 ∷ to-read 0 tt u8 ∷ to-read 1 tt u8 ∷ to-read 2 tt u16 ∷ to-write 3 tt u8 ∷ []) a-value _
+    (λ i r o. Script-contract (i .0) (the-tables (i .1 .0) (i .1 .1 .0) (i .1 .1 .1 .0)) (entries (i .1 .1 .1 .1 .0)) r (o .0)) _
     (λ i r o e. ap (λ (y : Listing). (y .reply, (y .lent, tt))) e)
     (script-write-proof.met 𝓥 Closed.H Closed.model ghost₀ 𝓡)
 
 tree-runs : Runs (routines (any-other tree)) (call (any-other tree))
 unfolding Tree-contract
 tree-runs =
-    in-cells 3 (n32 ∷ to-read 0 tt u8 ∷ to-read 0 tt u8 ∷ to-read 0 tt u16 ∷ to-write 1 tt node-row ∷ to-write 2 tt u16 ∷ []) a-value _ (λ i r o. Tree-contract (i .0) (the-tables (i .1 .0) (i .1 .1 .0) (i .1 .1 .1 .0)) (entries (i .1 .1 .1 .1 .0)) (entries (i .1 .1 .1 .1 .1 .0)) r (o .0) (o .1 .0)) _
+    in-cells 3 (n32 ∷ to-read 0 tt u8 ∷ to-read 0 tt u8 ∷ to-read 0 tt u16 ∷ to-write 1 tt node-row ∷ to-write 2 tt u16 ∷ []) a-value _
+    (λ i r o. Tree-contract (i .0) (the-tables (i .1 .0) (i .1 .1 .0) (i .1 .1 .1 .0)) (entries (i .1 .1 .1 .1 .0)) (entries (i .1 .1 .1 .1 .1 .0)) r
+    (o .0) (o .1 .0)) _
     (λ i r o e. ap (λ (y : Treed). (y .reply, (y .nodes, (y .answer, tt)))) e)
     (tree-proof.met 𝓥 Closed.H Closed.model ghost₀ 𝓡)
 

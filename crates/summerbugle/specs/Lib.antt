@@ -1,3 +1,2 @@
--- How the statements about the exported calls are put; the lent list of nodes.
-pub mod Functions
+-- The lent list of nodes.
 pub mod Nodes

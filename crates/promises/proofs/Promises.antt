@@ -1,0 +1,137 @@
+-- The promises of the engine, proved: `promises`, the statement of specs/Statement.antt over the routines of the exported calls.
+use mathlib.Core.Path.{_≡_, sym, ap}
+use Prim.Native.Nat.{ℕ}
+use mir.Val.{Val}
+use prog.Memory.{Memory}
+use Rattle.machine.proofs.Made.{made-ready, ran-one}
+use Rattle.hosts.specs.Exported.{call}
+use Rattle.hosts.proofs.Hosts.{hosts-demand, standing-demand}
+use Rattle.hosts.proofs.Made.{hosts-exist}
+use Rattle.mesh.proofs.Cores.Peeling.{number-core, number-unique}
+use Rattle.mesh.proofs.Trees.Listed.{backbone-one-part}
+use Rattle.mesh.proofs.Images.OtherSize.{other-size-iff}
+use Rattle.mesh.proofs.Marks.Rules.{store-good-iff}
+use Rattle.calls.proofs.Refusals.{clear-keeps, read-keeps, return-keeps, link-keeps, ask-keeps, commit-keeps, hear-keeps, check-keeps, number-keeps}
+use Rattle.calls.proofs.Refusals.{neighbours-keeps}
+use Rattle.calls.proofs.Refusals.{linked-keeps, first-keeps, later-keeps, lift-keeps, core-keeps, backbone-keeps, tree-keeps, staircase-keeps, write-keeps}
+use Rattle.calls.proofs.Refusals.{sheet-keeps}
+use Rattle.calls.proofs.Refusals.{script-length-keeps, script-keeps, set-keeps, remove-keeps, block-keeps}
+use Rattle.calls.proofs.Accepted.{check-right, link-right, number-right, later-right, core-right, backbone-right, tree-right-listed, write-right}
+use Rattle.calls.proofs.Accepted.{ask-right, commit-right, read-what-was-written, read-right, block-right, sheet-right}
+use Rattle.calls.proofs.Batches.{batch-keeps, batch-right, batch-single}
+use Rattle.calls.proofs.HeardCalls.{hear-right}
+use Rattle.calls.proofs.ScriptLaws.{script-right, script-beforehand}
+use Rattle.calls.proofs.Proposals.{two-steps, refused-step, commit-iff, commit-number}
+use Rattle.calls.proofs.ImageNumbers.{eleven-iff, read-eleven}
+use Rattle.calls.proofs.MarkCalls.{set-right, removed-right, other-marks, return-right, return-restores}
+use Rattle.calls.proofs.Older.{older}
+use Rattle.calls.proofs.WholeList.{demand-3}
+use Rattle.calls.proofs.Exactly.{exactly-listed}
+use Rattle.calls.proofs.HistoryRestored.{restored-list}
+use Rattle.walks.proofs.Kept.{link-begins, commit-begins}
+use Rattle.forests.proofs.Tree.{staircase-right}
+use Rattle.lifting.proofs.Answers.{lift-core, lift-right, lift-none}
+use Rattle.hubs.proofs.Confluence.{confluence, calls-agree}
+use Rattle.hubs.proofs.Differ.{orders-differ, images-differ}
+use Rattle.playback.proofs.ScriptPlays.{written-plays}
+use Rattle.summerbugle.proofs.Runs.{routines, runs}
+use Rattle.promises.specs.Statement.{Refusals, Property-1, Property-2, Property-3, Statement}
+use Rattle.promises.specs.Statement as statement
+
+refusals : Refusals
+refusals = record {
+  clear = clear-keeps;
+  image-read = read-keeps;
+  link = link-keeps;
+  ask = ask-keeps;
+  commit = commit-keeps;
+  link-batch = batch-keeps;
+  hear = hear-keeps;
+  check = check-keeps;
+  number = number-keeps;
+  neighbours = neighbours-keeps;
+  linked = linked-keeps;
+  first = first-keeps;
+  later-of = later-keeps;
+  lift = lift-keeps;
+  core = core-keeps;
+  backbone = backbone-keeps;
+  tree = tree-keeps;
+  staircase = staircase-keeps;
+  image-write = write-keeps;
+  sheet = sheet-keeps;
+  script-length = script-length-keeps;
+  script-write = script-keeps;
+  mark-set = set-keeps;
+  mark-remove = remove-keeps;
+  mark-return = return-keeps;
+  image-block = block-keeps;
+}
+
+property-1 : Property-1 routines
+property-1 = record {
+  runs = runs;
+  only = λ x σ i h steps end e.
+      let one = ran-one (routines x) (call x) σ i h steps end e in
+      (sym (ap (λ (y : Val × Memory). y .0) one), sym (ap (λ (y : Val × Memory). y .1) one));
+  ready = made-ready;
+  refused = refusals;
+}
+
+property-2 : Property-2
+property-2 = record {
+  largest-group = λ g v k l. (λ c. number-unique g v k l c, λ e. rw (← e) (number-core g v l));
+  link = link-right;
+  check = check-right;
+  number = number-right;
+  core = core-right;
+  tree = tree-right-listed;
+  image-written = write-right;
+  image-read-back = read-what-was-written;
+  image-read = read-right;
+  block = block-right;
+}
+
+property-3 : Property-3 routines
+property-3 = record {
+  demand = demand-3;
+  hosts = hosts-demand routines runs;
+  hosts-standing = standing-demand routines runs;
+  hosts-exist = hosts-exist routines runs;
+  exactly = exactly-listed;
+}
+
+pub promises : Statement routines
+promises = record {
+  first = property-1;
+  second = property-2;
+  third = property-3;
+  w-201 = record { sheet = sheet-right };
+  w-202 = record { backbone = backbone-right; one-part = backbone-one-part };
+  w-203 = record { script = script-right; beforehand = script-beforehand; plays = written-plays };
+  w-205 = record { hear = hear-right };
+  w-206 = record { later-of = later-right };
+  w-207 = record { answered = read-eleven; other-size = other-size-iff; of-none = eleven-iff };
+  w-208 = record { older = older; blocks-most = blocks-most };
+  w-209 = record { staircase = staircase-right };
+  w-210 = record {
+    ask = ask-right;
+    commit = commit-right;
+    two-steps = two-steps;
+    refused-step = refused-step;
+    commit-iff = commit-iff;
+    commit-number = commit-number;
+  };
+  w-211 = record {
+    store-good = store-good-iff;
+    mark-set = set-right;
+    mark-remove = removed-right;
+    other-marks = other-marks;
+    mark-return = return-right;
+    return-restores = return-restores;
+    restored = restored-list;
+  };
+  w-212 = record { lift = lift-right; lift-core = lift-core; lift-none = lift-none };
+  w-213 = record { link-begins = link-begins; commit-begins = commit-begins; link-batch = batch-right; batch-single = batch-single };
+  w-214 = record { confluence = confluence; calls-agree = calls-agree; orders-differ = orders-differ; images-differ = images-differ };
+}

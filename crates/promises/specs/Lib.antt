@@ -1,0 +1,2 @@
+-- The promises of the engine, as one statement.
+pub mod Statement

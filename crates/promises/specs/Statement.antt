@@ -1,0 +1,381 @@
+-- The promises of the engine: one statement, over the routines of the exported calls. Whoever reads it and the definitions that it cites
+-- need read no proof; the proof is proofs/Promises.antt, and docs/PROMISES.md has the order in which to read. An outcome is a call's reply
+-- with what is lent to be written, as it is after the call.
+--   Property-1       every public call returns for every input, checks its tables itself, and refuses by number
+--   Property-2       what an accepted outcome is worth, in document 01's words
+--   Property-3       demand 3, undivided, over lists of calls and over a host's list of calls on one memory
+--   W-201 .. W-214   what each request of document 02 asks for
+-- Definitions only.
+use mathlib.Core.Path.{_≡_}
+use mathlib.Core.Logic.{_↔_, _⊎_}
+use mathlib.Core.Bool.{Bool, true, false}
+use mathlib.Core.List.{List, [], _∷_, _++_}
+use Prim.Native.Nat.{ℕ, _≤_, _<_}
+use lib.IntN.{ℤ, pos}
+use lib.ListN.{length, take}
+use mir.Val.{Val}
+use prog.Memory.{Memory}
+use prog.Machine.{done}
+use prog.Routine.{Routine}
+use Rattle.machine.specs.Cells.{Param, Inputs, Ready, Ran, Runs, passed, outcome-of}
+use Rattle.machine.specs.Made.{Givens, Fitting, blocks, placed}
+use Rattle.hosts.specs.Exported.{Exported, call}
+use Rattle.hosts.specs.Hosts.{Hosts-demand, Standing-demand}
+use Rattle.hosts.specs.Made.{Hosts-exist}
+use Rattle.lists.specs.Lists.{member, same, Entries-below}
+use Rattle.mesh.specs.Limits.{max-radios}
+use Rattle.mesh.specs.Graph.{Link, link-of, Graph, graph}
+use Rattle.mesh.specs.Cores.{Core, number}
+use Rattle.mesh.specs.Tables.{Tables, graph-in}
+use Rattle.mesh.specs.Connected.{In-core}
+use Rattle.mesh.specs.Connected as connected
+use Rattle.mesh.specs.Image.{whole-blocks, checks-good, Other-size, Image-of-none}
+use Rattle.mesh.specs.Image as images
+use Rattle.mesh.specs.Marks.{store-bytes, is-store, Store-rules}
+use Rattle.mesh.specs.Sound.{sound}
+use Rattle.mesh.specs.declared.Node.{Node}
+use Rattle.calls.specs.Questions.{lengths-of, size-good, site-lengths, image-refusal, radio-refusal}
+use Rattle.calls.specs.Batches.{batch-refusal}
+use Rattle.calls.specs.Heard.{hear-refusal}
+use Rattle.calls.specs.Marks.{mark-image}
+use Rattle.calls.specs.Lift.{lifts}
+use Rattle.calls.specs.Outcomes.{reply, value, later, numbered, linked-with, asked, committed-with, batched, heard-with, listing, treed}
+use Rattle.calls.specs.Outcomes.{clear-outcome, read-outcome, link-outcome, ask-outcome, commit-outcome, batch-outcome, hear-outcome}
+use Rattle.calls.specs.Outcomes.{check-outcome, number-outcome, neighbours-outcome, linked-outcome, first-outcome, later-outcome, core-outcome}
+use Rattle.calls.specs.Outcomes.{backbone-outcome}
+use Rattle.calls.specs.Outcomes.{staircase-outcome, write-outcome, sheet-outcome, script-length-outcome, script-outcome, tree-outcome, no-block}
+use Rattle.calls.specs.Outcomes.{block-outcome}
+use Rattle.calls.specs.MarkOutcomes.{stored, set-outcome, remove-outcome, return-outcome}
+use Rattle.calls.specs.LiftOutcome.{pair, lift-outcome}
+use Rattle.calls.specs.Results.{Batch-stopped, Batch-single, Site-right, Link-right, Later-right, Core-listed, Backbone-listed, Tree-listed, Written-right}
+use Rattle.calls.specs.Results.{Read-right, Block-part, Block-end, Script-right, Script-beforehand, Hear-right, Image-answered, Sheet-right, Staircase-listed}
+use Rattle.calls.specs.Results.{Ask-right, Commit-right, Batch-right}
+use Rattle.calls.specs.MarkResults.{Set-right, Removed-right, Same-mark}
+use Rattle.calls.specs.Older.{Older}
+use Rattle.calls.specs.Book.{Call, linking, setting, returning, book-after, history, all-leave}
+use Rattle.calls.specs.Runs.{events, after, givens}
+use Rattle.calls.specs.Demand.{Start, beginning, Demand-3}
+use Rattle.walks.specs.Results.{Beginning-kept}
+use Rattle.lifting.specs.Search.{No-lift}
+use Rattle.lifting.specs.Results.{Raises, Lift-right}
+use Rattle.hubs.specs.Hubs.{Confluence, Calls-agree, Equal-orders, Equal-images}
+use Rattle.playback.specs.Rebuild.{Plays-back}
+
+-- ---- property 1
+
+-- what a refusal keeps: the number and zeros, and everything lent as it was
+pub record Refusals : Type 0 where
+  pub clear : (n : ℕ) (t : Tables) → let o = clear-outcome n t in (o .reply ≡ 0 → ⊥) → o ≡ numbered (o .reply) t
+  pub image-read : (n : ℕ) (bs : List ℕ) (t : Tables) → let o = read-outcome n bs t in (o .reply ≡ 0 → ⊥) → o ≡ numbered (o .reply) t
+  pub link :
+      (up : Bool) (n a b : ℕ) (t : Tables) (w : List ℕ) → let o = link-outcome up n a b t w in
+      (o .reply .number ≡ 0 → ⊥) → o ≡ linked-with (reply (o .reply .number) (pos 0) 0) t w
+  pub ask :
+      (up : Bool) (n a b : ℕ) (t : Tables) (w : List ℕ) → let o = ask-outcome up n a b t w in
+      (o .reply .number ≡ 0 → ⊥) → o ≡ asked (reply (o .reply .number) (pos 0) 0) w
+  pub commit :
+      (up : Bool) (n a b : ℕ) (z : ℤ) (xs : List ℕ) (t : Tables) → let o = commit-outcome up n a b z xs t in
+      (o .reply .number ≡ 0 → ⊥) → o ≡ committed-with (reply (o .reply .number) (pos 0) 0) t
+  -- the only refusal beside which a change and a count stand
+  pub link-batch :
+      (n : ℕ) (xs : List ℕ) (t : Tables) → let o = batch-outcome n xs t in
+      (o .reply .number ≡ 0 → ⊥) → (o ≡ batched (value (o .reply .number) 0) t) ⊎ Batch-stopped n xs t (o .reply) (o .tables)
+  pub hear :
+      (n : ℕ) (hs : List ℕ) (t : Tables) (w : List ℕ) → let o = hear-outcome n hs t w in
+      (o .reply .number ≡ 0 → ⊥) → o ≡ heard-with (value (o .reply .number) 0) t w
+  pub check : (n : ℕ) (t : Tables) → let o = check-outcome n t in (o .number ≡ 0 → ⊥) → o ≡ value (o .number) 0
+  pub number : (n v : ℕ) (t : Tables) → let o = number-outcome n v t in (o .number ≡ 0 → ⊥) → o ≡ value (o .number) 0
+  pub neighbours : (n v : ℕ) (t : Tables) → let o = neighbours-outcome n v t in (o .number ≡ 0 → ⊥) → o ≡ value (o .number) 0
+  pub linked : (n a b : ℕ) (t : Tables) → let o = linked-outcome n a b t in (o .number ≡ 0 → ⊥) → o ≡ value (o .number) 0
+  pub first : (n a b : ℕ) (t : Tables) → let o = first-outcome n a b t in (o .number ≡ 0 → ⊥) → o ≡ value (o .number) 0
+  pub later-of : (n v : ℕ) (t : Tables) → let o = later-outcome n v t in (o .number ≡ 0 → ⊥) → o ≡ later (o .number) 0 0
+  pub lift : (n v : ℕ) (t : Tables) → let o = lift-outcome n v t in (o .number ≡ 0 → ⊥) → o ≡ pair (o .number) 0 0
+  pub core :
+      (n v k : ℕ) (t : Tables) (w : List ℕ) → let o = core-outcome n v k t w in
+      (o .reply .number ≡ 0 → ⊥) → o ≡ listing (value (o .reply .number) 0) w
+  pub backbone :
+      (n : ℕ) (t : Tables) (w : List ℕ) → let o = backbone-outcome n t w in
+      (o .reply .number ≡ 0 → ⊥) → o ≡ listing (value (o .reply .number) 0) w
+  pub tree :
+      (n : ℕ) (t : Tables) (m : List Node) (w : List ℕ) → let o = tree-outcome n t m w in
+      (o .reply .number ≡ 0 → ⊥) → o ≡ treed (value (o .reply .number) 0) m w
+  pub staircase :
+      (n : ℕ) (t : Tables) (w : List ℕ) → let o = staircase-outcome n t w in
+      (o .reply .number ≡ 0 → ⊥) → o ≡ listing (value (o .reply .number) 0) w
+  pub image-write :
+      (n : ℕ) (t : Tables) (w : List ℕ) → let o = write-outcome n t w in
+      (o .reply .number ≡ 0 → ⊥) → o ≡ listing (value (o .reply .number) 0) w
+  pub sheet :
+      (n : ℕ) (t : Tables) (w : List ℕ) → let o = sheet-outcome n t w in
+      (o .reply .number ≡ 0 → ⊥) → o ≡ listing (value (o .reply .number) 0) w
+  pub script-length : (n : ℕ) (t : Tables) → let o = script-length-outcome n t in (o .number ≡ 0 → ⊥) → o ≡ value (o .number) 0
+  pub script-write :
+      (n : ℕ) (t : Tables) (w : List ℕ) → let o = script-outcome n t w in
+      (o .reply .number ≡ 0 → ⊥) → o ≡ listing (value (o .reply .number) 0) w
+  pub mark-set :
+      (n : ℕ) (x : List ℕ) (t : Tables) (bs : List ℕ) → let o = set-outcome n x t bs in (o .reply ≡ 0 → ⊥) → o ≡ stored (o .reply) bs
+  pub mark-remove :
+      (n : ℕ) (x : List ℕ) (t : Tables) (bs : List ℕ) → let o = remove-outcome n x t bs in (o .reply ≡ 0 → ⊥) → o ≡ stored (o .reply) bs
+  pub mark-return : (n : ℕ) (x bs : List ℕ) (t : Tables) → let o = return-outcome n x bs t in (o .reply ≡ 0 → ⊥) → o ≡ numbered (o .reply) t
+  pub image-block : (bs : List ℕ) (i : ℕ) → let o = block-outcome bs i in (o .number ≡ 0 → ⊥) → o ≡ no-block (o .number) 0 i
+
+-- ρ are the routines of the exported calls
+pub record Property-1 (ρ : Exported → Routine) : Type 1 where
+  -- each call returns, from every memory that is ready; its value and every cell that it was lent to be written are those of its
+  -- outcome, and every other cell is as it was
+  pub runs : (x : Exported) → Runs (ρ x) (call x)
+  -- it returns nothing else, after any count of steps
+  pub only :
+      (x : Exported) (σ : Memory) (i : Inputs (call x .params)) (h : Ran (ρ x) (call x) σ i) (steps : ℕ) (end : Val × Memory) →
+      ρ x .step steps (passed (call x .params) i) σ ≡ done end → (end .0 ≡ call x .value (outcome-of (call x) i .0)) × (end .1 ≡ h .memory)
+  -- a memory is ready for whatever numbers and lists their types hold: the one that has a block for each lent list
+  pub ready : (ps : List Param) (g : Givens ps) → Fitting ps g → Ready (blocks ps g) ps (placed 0 ps g)
+  pub refused : Refusals
+
+-- ---- property 2
+
+pub record Property-2 : Type 0 where
+  -- the number that definitions cite is the core number by the largest group
+  pub largest-group : (g : Graph) (v k : ℕ) → v < g .n → Core g v k ↔ (number g v ≡ k)
+  -- after a link came up or went down
+  pub link :
+      (up : Bool) (n a b : ℕ) (t : Tables) (w : List ℕ) → let o = link-outcome up n a b t w in
+      o .reply .number ≡ 0 → Link-right up n a b t (o .tables) (o .reply .count) w (o .answer)
+  -- the check's value is 1 exactly for proper rows, core numbers and a k-order
+  pub check : (n : ℕ) (t : Tables) → let o = check-outcome n t in o .number ≡ 0 → (o .value ≡ 1) ↔ Site-right n t
+  pub number : (n v : ℕ) (t : Tables) → let o = number-outcome n v t in o .number ≡ 0 → Core (graph-in n (t .links)) v (o .value)
+  pub core :
+      (n v k : ℕ) (t : Tables) (w : List ℕ) → let o = core-outcome n v k t w in
+      o .reply .number ≡ 0 → Core-listed (graph-in n (t .links)) v k (o .reply .value) w (o .lent)
+  pub tree :
+      (n : ℕ) (t : Tables) (m : List Node) (w : List ℕ) → let o = tree-outcome n t m w in
+      o .reply .number ≡ 0 → Tree-listed (graph-in n (t .links)) (o .reply .value) m (o .nodes) w (o .answer)
+  -- what is written is the image of sound tables, and reading it gives the same tables. That their links are bytes is all that is asked:
+  -- a table of 8-bit entries is, but a list of numbers that an outcome speaks of need not be
+  pub image-written :
+      (n : ℕ) (t : Tables) (w : List ℕ) → let o = write-outcome n t w in
+      o .reply .number ≡ 0 → Written-right n t (o .reply .value) w (o .lent)
+  pub image-read-back :
+      (n : ℕ) (t : Tables) (w : List ℕ) → let o = write-outcome n t w in o .reply .number ≡ 0 → Entries-below 256 (t .links) →
+      (u : Tables) → lengths-of u ≡ lengths-of t → read-outcome n (take (o .reply .value) (o .lent)) u ≡ numbered 0 t
+  -- the tables of an accepted image
+  pub image-read : (n : ℕ) (bs : List ℕ) (t : Tables) → let o = read-outcome n bs t in o .reply ≡ 0 → Read-right n bs (o .tables)
+  -- a step of the block reader gives the 504 bytes of payload, or the end
+  pub block : (bs : List ℕ) (i : ℕ) → let o = block-outcome bs i in o .number ≡ 0 → Block-part bs i o ⊎ Block-end bs i o
+
+-- ---- property 3
+
+pub record Property-3 (ρ : Exported → Routine) : Type 0 where
+  -- every list of calls from a clearing or an image keeps what demand 3 says
+  pub demand : Demand-3
+  -- the same at the machine: a host's list of calls on one memory, between which it may do anything but change a cell of the three tables
+  pub hosts : Hosts-demand ρ
+  pub hosts-standing : Standing-demand ρ
+  -- and there is a host for every list of calls
+  pub hosts-exist : Hosts-exist ρ
+  -- one link call more, if it is accepted, lists exactly the radios whose core number by the largest group differs between the book's
+  -- pairs before and after
+  pub exactly :
+      (n : ℕ) (ps : List Link) (s : Tables) → Start n ps s → (cs : List Call) (up : Bool) (m a b : ℕ) (w : List ℕ) →
+      let o = link-outcome up m a b (after cs s) w in o .reply .number ≡ 0 → (x j k : ℕ) → x < n →
+      Core (graph n (book-after (givens (events cs s)) ps)) x j →
+      Core (graph n (book-after (givens (events (cs ++ (linking up m a b (length w) ∷ [])) s)) ps)) x k →
+      (member x (take (o .reply .count) (o .answer)) ≡ true) ↔ (j ≡ k → ⊥)
+
+-- ---- document 02, W-201: the page has the site sheet in front, column by column, with each radio's core number
+
+pub record W-201 : Type 0 where
+  pub sheet :
+      (n : ℕ) (t : Tables) (w : List ℕ) → let o = sheet-outcome n t w in o .reply .number ≡ 0 → Sheet-right n t (o .reply .value) w (o .lent)
+
+-- ---- document 02, W-202: the backbone of each part
+
+pub record W-202 : Type 0 where
+  pub backbone :
+      (n : ℕ) (t : Tables) (w : List ℕ) → let o = backbone-outcome n t w in
+      o .reply .number ≡ 0 → Backbone-listed (graph-in n (t .links)) (o .reply .value) w (o .lent)
+  -- in a site of one connected part it is document 01's, by the greatest number of the site
+  pub one-part :
+      (g : Graph) → ((v w : ℕ) → v < g .n → w < g .n → In-core g v 0 w) → connected.backbone g ≡ connected.site-backbone g
+
+-- ---- document 02, W-203: a script that rebuilds a site
+
+pub record W-203 : Type 0 where
+  -- the text has the script in front; its length beforehand is the length written, and 13 compares with it
+  pub script :
+      (n : ℕ) (t : Tables) (w : List ℕ) → let o = script-outcome n t w in
+      o .reply .number ≡ 0 → Script-right n t (o .reply .value) w (o .lent)
+  pub beforehand :
+      (n : ℕ) (t : Tables) (w : List ℕ) → let s = script-length-outcome n t in let o = script-outcome n t w in
+      s .number ≡ 0 → Script-beforehand (s .value) (length w) (o .reply .number) (o .reply .value)
+  -- played back, no line is refused, and links and numbers are those of the tables
+  pub plays :
+      (n : ℕ) (t : Tables) (w : List ℕ) → let o = script-outcome n t w in
+      o .reply .number ≡ 0 → Entries-below 256 (t .links) → Plays-back n t (take (o .reply .value) (o .lent))
+
+-- ---- document 02, W-205: after an accepted hearing the links are exactly the ones that both ends hear, no single call would have been
+-- refused, and the pairs of which one end hears the other are marked and counted
+
+pub record W-205 : Type 0 where
+  pub hear :
+      (n : ℕ) (hs : List ℕ) (t : Tables) (w : List ℕ) → hear-refusal n (lengths-of t) hs (length w) (sound n t) ≡ 0 →
+      let o = hear-outcome n hs t w in Hear-right n hs t (o .tables) (o .reply) (o .one-sided)
+
+-- ---- document 02, W-206: the first of the later neighbours is one, and there is none between; nobody exactly when there are none
+
+pub record W-206 : Type 0 where
+  pub later-of :
+      (n v : ℕ) (t : Tables) → let o = later-outcome n v t in
+      o .number ≡ 0 → Later-right (graph-in n (t .links)) v (t .order) (o .count) (o .first)
+
+-- ---- document 02, W-207: 1, 2, 9 and 10 answered yes: accepted is the image of some sound tables with this n, refused by 15 that of some
+-- with another n, and refused by 11 the image of none
+
+pub record W-207 : Type 0 where
+  pub answered :
+      (n : ℕ) (bs : List ℕ) (t : Tables) → size-good n ≡ true → site-lengths n (lengths-of t) ≡ true → whole-blocks bs ≡ true →
+      checks-good bs ≡ true → Image-answered n bs (read-outcome n bs t .reply)
+  -- the two questions as they are worked out, for bytes alone
+  pub other-size : (n : ℕ) (bs : List ℕ) → (images.other-size n bs ≡ true) ↔ Other-size n bs
+  pub of-none :
+      (n : ℕ) (bs : List ℕ) → size-good n ≡ true → whole-blocks bs ≡ true → checks-good bs ≡ true →
+      (image-refusal n bs ≡ 11) ↔ Image-of-none bs
+
+-- ---- document 02, W-208: tables and images from before the limit on neighbours was raised: calls give what they gave, and a link-up call
+-- refused by 7 is taken
+
+pub record W-208 : Type 0 where
+  pub older : Older
+  -- an image takes at most 86 blocks
+  pub blocks-most :
+      (n : ℕ) (t : Tables) (w : List ℕ) → let o = write-outcome n t w in o .reply .number ≡ 0 → o .reply .value ≤ 86 * images.block-bytes
+
+-- ---- document 02, W-209: the kept links are listed: a spanning forest, no other weighs more; the way over them between two joined radios
+-- has the greatest least weight; kept links of weight k or more join what shares a connected core at level k
+
+pub record W-209 : Type 0 where
+  pub staircase :
+      (n : ℕ) (t : Tables) (w : List ℕ) → let o = staircase-outcome n t w in
+      o .reply .number ≡ 0 → Staircase-listed (graph-in n (t .links)) (o .reply .value) w (o .lent)
+
+-- ---- document 02, W-210: look first, then switch
+
+pub record W-210 : Type 0 where
+  -- asking lists exactly the radios whose core number the link would change
+  pub ask :
+      (up : Bool) (n a b : ℕ) (t : Tables) (w : List ℕ) → let o = ask-outcome up n a b t w in
+      o .reply .number ≡ 0 → Ask-right up a b (graph-in n (t .links)) (o .reply .count) w (o .answer)
+  pub commit :
+      (up : Bool) (n a b : ℕ) (z : ℤ) (xs : List ℕ) (t : Tables) → let o = commit-outcome up n a b z xs t in
+      o .reply .number ≡ 0 → Commit-right up n a b t (o .tables)
+  -- a single link call is asking and then, when it is accepted, committing its answer: reply, tables and answer table
+  pub two-steps :
+      (up : Bool) (n a b : ℕ) (t : Tables) (w : List ℕ) → let q = ask-outcome up n a b t w in
+      let r = commit-outcome up n a b (q .reply .step) (take (q .reply .count) (q .answer)) t in
+      q .reply .number ≡ 0 → (r .reply ≡ q .reply) × (linked-with (r .reply) (r .tables) (q .answer) ≡ link-outcome up n a b t w)
+  pub refused-step :
+      (up : Bool) (n a b : ℕ) (t : Tables) (w : List ℕ) → let q = ask-outcome up n a b t w in
+      (q .reply .number ≡ 0 → ⊥) → linked-with (q .reply) t (q .answer) ≡ link-outcome up n a b t w
+  -- any proposal, whoever made it and when: committing is accepted exactly if asking now would be, with this step and this list; else
+  -- it is refused by asking's number, and by 16 where asking has none
+  pub commit-iff :
+      (up : Bool) (n a b : ℕ) (t : Tables) (w : List ℕ) → n ≤ length w → (z : ℤ) (xs : List ℕ) →
+      let q = ask-outcome up n a b t w in let r = commit-outcome up n a b z xs t in
+      (r .reply .number ≡ 0) ↔ ((q .reply .number ≡ 0) × (z ≡ q .reply .step) × (xs ≡ take (q .reply .count) (q .answer)))
+  pub commit-number :
+      (up : Bool) (n a b : ℕ) (t : Tables) (w : List ℕ) → n ≤ length w → (z : ℤ) (xs : List ℕ) →
+      let q = ask-outcome up n a b t w in let r = commit-outcome up n a b z xs t in
+      ((q .reply .number ≡ 0 → ⊥) → r .reply .number ≡ q .reply .number)
+      × (q .reply .number ≡ 0 → (r .reply .number ≡ 0 → ⊥) → r .reply .number ≡ 16)
+
+-- ---- document 02, W-211: named marks
+
+pub record W-211 : Type 0 where
+  -- question 17 of a store of full length gets yes exactly if every place keeps the rules
+  pub store-good : (n : ℕ) (bs : List ℕ) → n ≤ max-radios → length bs ≡ store-bytes → (is-store n bs ≡ true) ↔ Store-rules n bs
+  -- a mark set is the image of the tables, a mark removed is gone, and the store keeps the rules again;
+  -- every other mark is the same, byte for byte, whatever the call answers
+  pub mark-set :
+      (n : ℕ) (x : List ℕ) (t : Tables) (bs : List ℕ) → let o = set-outcome n x t bs in o .reply ≡ 0 → Set-right n x t bs (o .store)
+  pub mark-remove :
+      (n : ℕ) (x : List ℕ) (t : Tables) (bs : List ℕ) → let o = remove-outcome n x t bs in o .reply ≡ 0 → Removed-right n x bs (o .store)
+  pub other-marks :
+      (n : ℕ) (x : List ℕ) (t : Tables) (bs y : List ℕ) → same x y ≡ false →
+      Same-mark y bs (set-outcome n x t bs .store) × Same-mark y bs (remove-outcome n x t bs .store)
+  -- coming back is reading the mark's image; to a mark that is as it was set, it restores the tables of that moment
+  pub mark-return :
+      (n : ℕ) (x bs : List ℕ) (t : Tables) → let o = return-outcome n x bs t in o .reply ≡ 0 →
+      (o ≡ read-outcome n (mark-image n x bs) t) × Read-right n (mark-image n x bs) (o .tables)
+  pub return-restores :
+      (n : ℕ) (x : List ℕ) (t u : Tables) (bs ds : List ℕ) → Entries-below 256 (t .links) → let o = set-outcome n x t bs in o .reply ≡ 0 →
+      Same-mark x (o .store) ds → return-outcome n x ds u .reply ≡ 0 → return-outcome n x ds u .tables ≡ t
+  -- an accepted set, calls of which none is an accepted set or removal of that name, an accepted coming back to the image that was set:
+  -- the link history, with the clearing or read image that it began from, is the one at the setting
+  pub restored :
+      (n : ℕ) (ps : List Link) (t₀ : Tables) (s : Start n ps t₀) (before between : List Call) (m j : ℕ) (x bs ds : List ℕ) →
+      let t = after before t₀ in let u = after between t in set-outcome m x t bs .reply ≡ 0 → return-outcome j x ds u .reply ≡ 0 →
+      all-leave x (givens (events between t)) (book-after (givens (events before t₀)) ps) ≡ true →
+      mark-image j x ds ≡ images.image-of (graph-in n (t .links)) (t .order) →
+      history (givens (events (before ++ (setting m x bs ∷ (between ++ (returning j x ds ∷ [])))) t₀)) ps (beginning s)
+      ≡ history (givens (events before t₀)) ps (beginning s)
+
+-- ---- document 02, W-212: one link that lifts a radio
+
+pub record W-212 : Type 0 where
+  -- the pair is the first that lifts the radio; by the largest group the radio's core number is then greater; taking the link up is
+  -- accepted and lists the radio
+  pub lift : (n v : ℕ) (t : Tables) → let o = lift-outcome n v t in o .number ≡ 0 → Lift-right n v t (link-of (o .low) (o .high))
+  -- a pair lifts a radio exactly if the radio's core number is greater with its link; 20 exactly if no pair does
+  pub lift-core : (g : Graph) (v : ℕ) (l : Link) → v < g .n → (lifts g v l ≡ true) ↔ Raises g v l
+  pub lift-none :
+      (n v : ℕ) (t : Tables) → (lift-outcome n v t .number ≡ 20)
+      ↔ ((radio-refusal n v (lengths-of t) (sound n t) ≡ 0) × No-lift (graph-in n (t .links)) v)
+
+-- ---- document 02, W-213: work only from the earlier end; batches
+
+pub record W-213 : Type 0 where
+  -- after a link came up nothing before the beginning end's place has moved: the lower end's, with equal numbers the earlier's
+  pub link-begins :
+      (n a b : ℕ) (t : Tables) (w : List ℕ) → let o = link-outcome true n a b t w in
+      o .reply .number ≡ 0 → Beginning-kept a b (graph-in n (t .links)) (t .order) (o .tables .order)
+  pub commit-begins :
+      (n a b : ℕ) (z : ℤ) (xs : List ℕ) (t : Tables) → let o = commit-outcome true n a b z xs t in
+      o .reply .number ≡ 0 → Beginning-kept a b (graph-in n (t .links)) (t .order) (o .tables .order)
+  -- after a batch whose questions 1 to 3 got yes
+  pub link-batch :
+      (n : ℕ) (xs : List ℕ) (t : Tables) → batch-refusal n (lengths-of t) (length xs) (sound n t) ≡ 0 →
+      let o = batch-outcome n xs t in Batch-right n xs t (o .tables) (o .reply)
+  -- a batch of one link is the single call; the answer table has room, as the single call asks of it
+  pub batch-single :
+      (n a b : ℕ) (t : Tables) (w : List ℕ) → n ≤ length w → let o = link-outcome true n a b t w in
+      let s = batch-outcome n (a ∷ b ∷ []) t in Batch-single (o .reply) (o .tables) (s .reply) (s .tables)
+
+-- ---- document 02, W-214: two hubs, one mesh: both start cleared with the same n and take the same single link calls, none refused, in any
+-- arrangements. They hold equal links and numbers, and shell tree, backbone and staircase calls with equal lent lists answer equal
+
+pub record W-214 : Type 0 where
+  pub confluence : Confluence
+  pub calls-agree : Calls-agree
+  -- that their orders are always equal, or their images, is false
+  pub orders-differ : Equal-orders → ⊥
+  pub images-differ : Equal-images → ⊥
+
+-- ---- all of them
+
+pub record Statement (ρ : Exported → Routine) : Type 1 where
+  pub first : Property-1 ρ
+  pub second : Property-2
+  pub third : Property-3 ρ
+  pub w-201 : W-201
+  pub w-202 : W-202
+  pub w-203 : W-203
+  pub w-205 : W-205
+  pub w-206 : W-206
+  pub w-207 : W-207
+  pub w-208 : W-208
+  pub w-209 : W-209
+  pub w-210 : W-210
+  pub w-211 : W-211
+  pub w-212 : W-212
+  pub w-213 : W-213
+  pub w-214 : W-214
