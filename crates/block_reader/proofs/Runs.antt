@@ -1,13 +1,15 @@
 -- The functions of the block reader run, in cells: of each the routine that its code is, from the triple that is proved of it.
 --   reader-held                           the reader's struct, of an image and a number
 --   open-runs, step-runs, moved-runs      each runs as specs/Cells.antt says of it
-use mathlib.Core.Path.{_≡_, refl, _∙_, ap}
+--   part-stands                           after a step its part stands in the image's cells
+use mathlib.Core.Path.{_≡_, refl, _∙_, ap, subst}
 use mathlib.Core.List.{List, [], _∷_}
-use Prim.Native.Nat.{ℕ, _+_, _≤_}
+use Prim.Native.Nat.{ℕ, _+_, _*_, _≤_}
 use native.Mathlib.Omega.{arith}
 use lib.ListN.{length, take, drop, length-drop}
 use lib.Seq.{length-take-le}
 use mir.Syntax.{w8, w64}
+use prog.Memory.{Memory}
 use contract.Lifetimes.{Lfts}
 use contract.Running.{Running, real}
 use contract.BorrowModel.{ghost₀}
@@ -19,12 +21,14 @@ use denote.Signature.{namedLft}
 use denote.Slice.{ShrSlice, slice-vals}
 use denote.Steps.{nothing}
 use denote.Struct.Rest.{own-shut}
-use Rattle.machine.specs.Cells.{Input, passes, Runs}
+use Rattle.machine.specs.Cells.{unsigned, place, entries, Input, passes, cells-of, span, Run-at, Stands, Ready, Ran, Runs}
 use Rattle.machine.proofs.Whole.{𝓥}
 use Rattle.machine.proofs.Rows.{A₀, W₀}
 use Rattle.machine.proofs.Lending.{Holder, to-read, to-read-with}
 use Rattle.machine.proofs.Law.{Told, in-cells-at}
 use Rattle.machine.proofs.Numbers.{number-row, declared-told}
+use Rattle.machine.proofs.Again.{stands-still}
+use Rattle.machine.proofs.Chain.{first-entries, later-entries}
 use Rattle.calls.specs.Contracts.{Block-contract}
 use Rattle.calls.specs.Outcomes.{block-outcome}
 use Rattle.calls.specs.declared.Block.{Block}
@@ -112,3 +116,18 @@ moved-runs =
     in-cells-at 1 (to-read-with 0 tt (number-row w8) (number-row w64) reader-held ∷ []) a-reader-told moved-symbol.routine (λ κs a q e. Moved (a .0) q) _
     (λ κs a q e h k. (((ptr (h .image k), now (h .image k)), moved-is (a .0) q h k), tt))
     (moved-proof.met 𝓥 Closed.H Closed.model ghost₀ 𝓡)
+
+-- after a step, as before it, the bytes of its part stand in the image's cells where it says: they are not copied
+pub part-stands : (σ : Memory) (r : Input a-reader) → Ready σ (reader-step .params) (r, tt) → (h : Ran step-symbol.routine reader-step σ (r, tt))
+    → let o = block-outcome (entries (r .0)) (r .1) in
+    Stands (h .memory) (span (unsigned w8) (given-at (place (r .0)) o .place) (take (o .length) (drop (o .offset) (entries (r .0)))))
+part-stands σ r ready h =
+    let o = block-outcome (entries (r .0)) (r .1) in
+    let p = place (r .0) in
+    let xs = entries (r .0) in
+    let still : Run-at (h .memory) (p .0) (p .1) (cells-of (unsigned w8) xs) =
+    stands-still σ (h .memory) [] (h .else-kept) (p .0) (p .1) (cells-of (unsigned w8) xs) tt (ready .reads-stand .0) in
+    let e : p .1 + 1 * o .offset ≡ o .offset + p .1 = omega arith in
+    first-entries w8 (h .memory) (p .0) (o .offset + p .1) (o .length) (drop (o .offset) xs)
+    (subst (λ (j : ℕ). Run-at (h .memory) (p .0) j (cells-of (unsigned w8) (drop (o .offset) xs))) e
+    (later-entries w8 (h .memory) (p .0) (p .1) (o .offset) xs still))
