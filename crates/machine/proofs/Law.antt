@@ -1,4 +1,4 @@
--- The law: a routine that meets its triple, at a signature of values and lent lists, runs in cells.
+-- The law: a routine that meets its triple, at a signature of values, lent lists and structs of both, runs in cells; its result may hold references.
 use mathlib.Core.Path.{_≡_, refl, sym, _∙_, ap, subst}
 use mathlib.Core.Logic.{∥∥₁-prop, ∥∥₁-elim, ∥∥₁-map}
 use mathlib.Core.List.{List, [], _∷_}
