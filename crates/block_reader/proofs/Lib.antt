@@ -3,3 +3,5 @@
 pub mod StepLaws
 -- what the walks of the reader share
 pub mod ReaderWalk
+-- the functions in cells
+pub mod Runs

@@ -7,7 +7,7 @@ use mathlib.Core.List.{List, [], _∷_, _++_}
 use Prim.Native.Nat.{ℕ, zero, suc, _+_, _*_, _<_, _≤_}
 use native.Mathlib.Nat.{mul-zero, mul-suc, suc-ne-zero, add-comm, eq-or-lt-of-le}
 use native.Mathlib.Omega.{arith}
-use lib.ListN.{length, take, getElem?, length-append}
+use lib.ListN.{length, take, drop, getElem?, length-append}
 use lib.Dec.{T}
 use mir.Mem.{Cell}
 use mir.Syntax.{Width}
@@ -38,6 +38,19 @@ first-entries w σ b o (suc k) [] h = tt
 first-entries w σ b o (suc k) (x ∷ xs) h =
     run-both σ b o (le (bytes w) x) (cells-of (unsigned w) (take k xs)) (run-front σ b o (le (bytes w) x) (cells-of (unsigned w) xs) h)
     (first-entries w σ b (o + length (le (bytes w) x)) k xs (run-back σ b o (le (bytes w) x) (cells-of (unsigned w) xs) h))
+
+-- and the later ones
+pub later-entries : (w : Width) (σ : Memory) (b o : ℕ) (k : ℕ) (xs : List ℕ) → Run-at σ b o (cells-of (unsigned w) xs)
+    → Run-at σ b (o + bytes w * k) (cells-of (unsigned w) (drop k xs))
+later-entries w σ b o zero xs h =
+    let e : o ≡ o + bytes w * 0 = omega (arith, mul-zero (bytes w)) in
+    subst (λ (j : ℕ). Run-at σ b j (cells-of (unsigned w) xs)) e h
+later-entries w σ b o (suc k) [] h = tt
+later-entries w σ b o (suc k) (x ∷ xs) h =
+    let m = bytes w in
+    let e : o + m + m * k ≡ o + m * suc k = omega (arith, mul-suc m k) in
+    subst (λ (j : ℕ). Run-at σ b j (cells-of (unsigned w) (drop k xs))) e (later-entries w σ b (o + m) k xs
+    (subst (λ (j : ℕ). Run-at σ b (o + j) (cells-of (unsigned w) xs)) (length-le m x) (run-back σ b o (le m x) (cells-of (unsigned w) xs) h)))
 
 -- ---- one list of cells, one list of entries
 

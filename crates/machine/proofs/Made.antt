@@ -14,7 +14,8 @@ use prog.Machine.{done}
 use prog.Routine.{Routine, ends-one}
 use mir.Val.{Val}
 use store.Seg.{seg, seg-nth}
-use Rattle.machine.specs.Cells.{Form, Param, by-value, to-read, to-write, Place, Inputs, Span, Run-at, Stands, Has, Apart, All, All-apart, All-good, Aligned, reads, writes, cells-of, span, Ready, Call, Ran, Runs, passed, outcome-of}
+use Rattle.machine.specs.Cells.{Form, Param, by-value, to-read, to-write, to-read-with, Inputs, Span, Stands, Apart, All, All-apart, All-good, Aligned}
+use Rattle.machine.specs.Cells.{reads, writes, cells-of, span, Ready, Call, Ran, Runs, passed, outcome-of}
 use Rattle.machine.specs.Made.{Givens, Fitting, blocks, placed}
 use Rattle.machine.proofs.Heap.{run-out}
 
@@ -50,6 +51,7 @@ reads-stand σ k [] g h = tt
 reads-stand σ k (by-value F ∷ ps) g h = reads-stand σ k ps (g .1) h
 reads-stand σ k (to-read F ∷ ps) g h = (stands σ k (align (F .ty)) (cells-of F (g .0)) (h .0), reads-stand σ (suc k) ps (g .1) (h .1))
 reads-stand σ k (to-write F ∷ ps) g h = reads-stand σ (suc k) ps (g .1) (h .1)
+reads-stand σ k (to-read-with F G ∷ ps) g h = (stands σ k (align (F .ty)) (cells-of F (g .0 .0)) (h .0), reads-stand σ (suc k) ps (g .1) (h .1))
 
 pub writes-stand : (σ : Memory) (k : ℕ) (ps : List Param) (g : Givens ps) → From σ k (blocks ps g) → All (Stands σ) (writes ps (placed k ps g))
 unfolding From
@@ -57,6 +59,7 @@ writes-stand σ k [] g h = tt
 writes-stand σ k (by-value F ∷ ps) g h = writes-stand σ k ps (g .1) h
 writes-stand σ k (to-read F ∷ ps) g h = writes-stand σ (suc k) ps (g .1) (h .1)
 writes-stand σ k (to-write F ∷ ps) g h = (stands σ k (align (F .ty)) (cells-of F (g .0)) (h .0), writes-stand σ (suc k) ps (g .1) (h .1))
+writes-stand σ k (to-read-with F G ∷ ps) g h = writes-stand σ (suc k) ps (g .1) (h .1)
 
 pub good : (σ : Memory) (k : ℕ) (ps : List Param) (g : Givens ps) → Fitting ps g → From σ k (blocks ps g) → All-good σ ps (placed k ps g)
 unfolding From
@@ -64,6 +67,8 @@ good σ k [] g f h = tt
 good σ k (by-value F ∷ ps) g f h = (f .0, good σ k ps (g .1) (f .1) h)
 good σ k (to-read F ∷ ps) g f h = ((f .0 .0, begins σ F k (g .0) (h .0), f .0 .1), good σ (suc k) ps (g .1) (f .1) (h .1))
 good σ k (to-write F ∷ ps) g f h = ((f .0 .0, begins σ F k (g .0) (h .0), f .0 .1), good σ (suc k) ps (g .1) (f .1) (h .1))
+good σ k (to-read-with F G ∷ ps) g f h =
+    (((f .0 .0 .0, begins σ F k (g .0 .0) (h .0), f .0 .0 .1), f .0 .1), good σ (suc k) ps (g .1) (f .1) (h .1))
 
 -- ---- blocks are numbered upwards
 
@@ -81,6 +86,7 @@ reads-above k [] g = tt
 reads-above k (by-value F ∷ ps) g = reads-above k ps (g .1)
 reads-above k (to-read F ∷ ps) g = (omega arith, above-less k (reads ps (placed (suc k) ps (g .1))) (reads-above (suc k) ps (g .1)))
 reads-above k (to-write F ∷ ps) g = above-less k (reads ps (placed (suc k) ps (g .1))) (reads-above (suc k) ps (g .1))
+reads-above k (to-read-with F G ∷ ps) g = (omega arith, above-less k (reads ps (placed (suc k) ps (g .1))) (reads-above (suc k) ps (g .1)))
 
 pub writes-above : (k : ℕ) (ps : List Param) (g : Givens ps) → Above k (writes ps (placed k ps g))
 unfolding Above
@@ -88,6 +94,7 @@ writes-above k [] g = tt
 writes-above k (by-value F ∷ ps) g = writes-above k ps (g .1)
 writes-above k (to-read F ∷ ps) g = above-less k (writes ps (placed (suc k) ps (g .1))) (writes-above (suc k) ps (g .1))
 writes-above k (to-write F ∷ ps) g = (omega arith, above-less k (writes ps (placed (suc k) ps (g .1))) (writes-above (suc k) ps (g .1)))
+writes-above k (to-read-with F G ∷ ps) g = above-less k (writes ps (placed (suc k) ps (g .1))) (writes-above (suc k) ps (g .1))
 
 apart-of : (s t : Span) → suc (s .0) ≤ t .0 → Apart s t
 apart-of s t h b i x y = omega (arith, h, x .0, y .0)
@@ -109,12 +116,15 @@ reads-apart k (by-value F ∷ ps) g = reads-apart k ps (g .1)
 reads-apart k (to-read F ∷ ps) g = (apart-all (span F (k, 0) (g .0)) (writes ps (placed (suc k) ps (g .1))) (writes-above (suc k) ps (g .1)), reads-apart (suc k) ps (g .1))
 reads-apart k (to-write F ∷ ps) g =
     one-more (span F (k, 0) (g .0)) (reads ps (placed (suc k) ps (g .1))) (writes ps (placed (suc k) ps (g .1))) (reads-above (suc k) ps (g .1)) (reads-apart (suc k) ps (g .1))
+reads-apart k (to-read-with F G ∷ ps) g =
+    (apart-all (span F (k, 0) (g .0 .0)) (writes ps (placed (suc k) ps (g .1))) (writes-above (suc k) ps (g .1)), reads-apart (suc k) ps (g .1))
 
 pub writes-apart : (k : ℕ) (ps : List Param) (g : Givens ps) → All-apart (writes ps (placed k ps g))
 writes-apart k [] g = tt
 writes-apart k (by-value F ∷ ps) g = writes-apart k ps (g .1)
 writes-apart k (to-read F ∷ ps) g = writes-apart (suc k) ps (g .1)
 writes-apart k (to-write F ∷ ps) g = (apart-all (span F (k, 0) (g .0)) (writes ps (placed (suc k) ps (g .1))) (writes-above (suc k) ps (g .1)), writes-apart (suc k) ps (g .1))
+writes-apart k (to-read-with F G ∷ ps) g = writes-apart (suc k) ps (g .1)
 
 pub made-ready : (ps : List Param) (g : Givens ps) → Fitting ps g → Ready (blocks ps g) ps (placed 0 ps g)
 made-ready ps g f = record {

@@ -1,5 +1,5 @@
 -- The integers as rows, and as results.
-use mathlib.Core.Path.{_≡_, refl}
+use mathlib.Core.Path.{_≡_, refl, _∙_, ap}
 use mathlib.Core.List.{List, [], _∷_}
 use Prim.Native.Nat.{ℕ, _<_, _^_}
 use lib.IntN.{ℤ}
@@ -10,6 +10,7 @@ use mir.Val.{Val, vint, bits, hbits, bytes, ofZ}
 use mir.ValLaws.{ofZ-fits}
 use base.Logic.{via}
 use contract.Monad.{fact, fact-mono}
+use contract.Lifetimes.{Lfts}
 use denote.Plain.{UInt, uint-makes}
 use denote.Signed.{SInt, sint-makes}
 use denote.RattleType.{RattleType}
@@ -18,7 +19,7 @@ use denote.Laws.{Is, shows}
 use ghost.Model as Closed
 use Rattle.machine.proofs.Whole.{𝓥}
 use Rattle.machine.proofs.Rows.{Row, A₀, W₀}
-use Rattle.machine.proofs.Law.{Answer}
+use Rattle.machine.proofs.Law.{Answer, Told}
 
 abbrev pub number-row : Width → Row
 number-row w = record {
@@ -59,4 +60,18 @@ declared-answer R L = record {
   row = R;
   machine = L .lowered;
   shows = λ x vs. via 𝓥 (fact 𝓥 (Is R x vs)) (shows 𝓥 Closed.H A₀ R x vs) (fact-mono 𝓥 (Is R x vs) (vs ≡ L .lowered x ∷ []) (L .val-is x vs));
+}
+
+-- one at a call's lifetimes, which may hold references
+abbrev pub declared-told : (n : ℕ) (R : Lfts n → RattleType) (L : (κs : Lfts n) → Lowered (R κs)) (Result : Type 0)
+    (told : (κs : Lfts n) → R κs .Denot → Result) (machine : Result → Val)
+    → ((κs : Lfts n) (x : R κs .Denot) → L κs .lowered x ≡ machine (told κs x)) → Told n
+declared-told n R L Result told machine is = record {
+  row = R;
+  Result = Result;
+  told = told;
+  machine = machine;
+  shows = λ κs x vs.
+      via 𝓥 (fact 𝓥 (Is (R κs) x vs)) (shows 𝓥 Closed.H A₀ (R κs) x vs)
+      (fact-mono 𝓥 (Is (R κs) x vs) (vs ≡ machine (told κs x) ∷ []) (λ p. L κs .val-is x vs p ∙ ap (λ (v : Val). v ∷ []) (is κs x)));
 }

@@ -1,10 +1,12 @@
 -- A call at the machine, in cells of its memory: nothing of the program logic is cited here.
 --   Form              how the values of a type are passed and stored: the machine's type, the machine's value of each, and which it can hold
 --   unsigned, signed  the forms of the unsigned and the signed integers
---   Param             a parameter: a value, a list that is lent to be read, a list that is lent to be written
+--   Param             a parameter: a value, a list that is lent to be read, a list that is lent to be written, a struct of a list that is
+--                     lent to be read and a value
 --   Inputs, Outputs   what is passed, a place and a list for each lent one; and the lists on return, for each that is lent to be written
 --   Of-inputs         a function of what is passed that takes the parameters one by one, by name;   of-inputs: its value
---   passed            the machine's values for what is passed: a lent list as its pointer and its length
+--   passed            the machine's values for what is passed: a lent list as its pointer and its length, and these beside the value in a
+--                     struct that holds both
 --   cells-of          a list as cells, by the machine's own encoding of an array
 --   Span              cells side by side: block, offset, cells;   reads, writes: those of what is lent, to be read and to be written;
 --                     written: those at the same places on return
@@ -52,6 +54,7 @@ pub data Param : Type 1 where
   by-value : Form → Param
   to-read : Form → Param
   to-write : Form → Param
+  to-read-with : Form → Form → Param
 
 -- a block and an offset in it
 abbrev pub Place : Type 0
@@ -71,6 +74,7 @@ abbrev pub Input : Param → Type 0
 Input (by-value F) = F .Value
 Input (to-read F) = Lent (F .Value)
 Input (to-write F) = Lent (F .Value)
+Input (to-read-with F G) = Lent (F .Value) × G .Value
 
 abbrev pub Inputs : List Param → Type 0
 Inputs [] = Unit {0}
@@ -81,6 +85,7 @@ Outputs [] = Unit {0}
 Outputs (by-value F ∷ ps) = Outputs ps
 Outputs (to-read F ∷ ps) = Outputs ps
 Outputs (to-write F ∷ ps) = List (F .Value) × Outputs ps
+Outputs (to-read-with F G ∷ ps) = Outputs ps
 
 -- a function of what is passed, and its value
 abbrev pub Of-inputs : List Param → Type 0 → Type 0
@@ -99,6 +104,7 @@ abbrev pub passes : (p : Param) → Input p → Val
 passes (by-value F) x = F .machine x
 passes (to-read F) x = pointer (x .0) (length (x .1))
 passes (to-write F) x = pointer (x .0) (length (x .1))
+passes (to-read-with F G) x = vstruct (vcons (pointer (x .0 .0) (length (x .0 .1))) (vcons (G .machine (x .1)) vnil))
 
 abbrev pub passed : (ps : List Param) → Inputs ps → List Val
 passed [] i = []
@@ -150,12 +156,14 @@ reads [] i = []
 reads (by-value F ∷ ps) i = reads ps (i .1)
 reads (to-read F ∷ ps) i = span F (i .0 .0) (i .0 .1) ∷ reads ps (i .1)
 reads (to-write F ∷ ps) i = reads ps (i .1)
+reads (to-read-with F G ∷ ps) i = span F (i .0 .0 .0) (i .0 .0 .1) ∷ reads ps (i .1)
 
 abbrev pub writes : (ps : List Param) → Inputs ps → List Span
 writes [] i = []
 writes (by-value F ∷ ps) i = writes ps (i .1)
 writes (to-read F ∷ ps) i = writes ps (i .1)
 writes (to-write F ∷ ps) i = span F (i .0 .0) (i .0 .1) ∷ writes ps (i .1)
+writes (to-read-with F G ∷ ps) i = writes ps (i .1)
 
 -- at the same places, with the new entries
 abbrev pub written : (ps : List Param) → Inputs ps → Outputs ps → List Span
@@ -163,6 +171,7 @@ written [] i o = []
 written (by-value F ∷ ps) i o = written ps (i .1) o
 written (to-read F ∷ ps) i o = written ps (i .1) o
 written (to-write F ∷ ps) i o = span F (i .0 .0) (o .0) ∷ written ps (i .1) (o .1)
+written (to-read-with F G ∷ ps) i o = written ps (i .1) o
 
 -- as many entries as were lent
 abbrev pub Same-lengths : (ps : List Param) → Inputs ps → Outputs ps → Type 0
@@ -170,6 +179,7 @@ Same-lengths [] i o = Unit {0}
 Same-lengths (by-value F ∷ ps) i o = Same-lengths ps (i .1) o
 Same-lengths (to-read F ∷ ps) i o = Same-lengths ps (i .1) o
 Same-lengths (to-write F ∷ ps) i o = (length (o .0) ≡ length (i .0 .1)) × Same-lengths ps (i .1) (o .1)
+Same-lengths (to-read-with F G ∷ ps) i o = Same-lengths ps (i .1) o
 
 -- each entry is one that its type holds
 abbrev pub All-held : (F : Form) → List (F .Value) → Type 0
@@ -181,6 +191,7 @@ Left-held [] o = Unit {0}
 Left-held (by-value F ∷ ps) o = Left-held ps o
 Left-held (to-read F ∷ ps) o = Left-held ps o
 Left-held (to-write F ∷ ps) o = All-held F (o .0) × Left-held ps (o .1)
+Left-held (to-read-with F G ∷ ps) o = Left-held ps o
 
 -- ---- before the call
 
@@ -200,6 +211,7 @@ abbrev pub Good : Memory → (p : Param) → Input p → Type 0
 Good σ (by-value F) x = F .Holds x
 Good σ (to-read F) x = Good-list σ F (x .0) (x .1)
 Good σ (to-write F) x = Good-list σ F (x .0) (x .1)
+Good σ (to-read-with F G) x = Good-list σ F (x .0 .0) (x .0 .1) × G .Holds (x .1)
 
 abbrev pub All-good : Memory → (ps : List Param) → Inputs ps → Type 0
 All-good σ [] i = Unit {0}
