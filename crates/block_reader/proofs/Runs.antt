@@ -1,6 +1,6 @@
 -- The functions of the block reader run, in cells: of each the routine that its code is, from the triple that is proved of it.
 --   reader-held                           the reader's struct, of an image and a number
---   open-runs, step-runs, moved-runs      each runs as specs/Cells.antt says of it
+--   open-runs, step-runs, moved-runs      each runs as crate hosts says of it
 --   part-stands                           after a step its part stands in the image's cells
 use mathlib.Core.Path.{_≡_, refl, _∙_, ap, subst}
 use mathlib.Core.List.{List, [], _∷_}
@@ -33,7 +33,7 @@ use Rattle.calls.specs.Contracts.{Block-contract}
 use Rattle.calls.specs.Outcomes.{block-outcome}
 use Rattle.calls.specs.declared.Block.{Block}
 use Rattle.block_reader.specs.Reader.{Stepped, Moved}
-use Rattle.block_reader.specs.Cells.{a-reader, Step-given, step-value, given-at, reader-open, reader-step, reader-moved}
+use Rattle.hosts.specs.Public.{any-other, reader-open, reader-step, reader-moved, a-reader, Step-given, step-value, given-at, call}
 use Rattle.block_reader.specs.declared.blocks.BlockReader.{BlockReader}
 use Rattle.block_reader.specs.declared.blocks.BlockStep.{BlockStep}
 use Rattle.block_reader.proofs.StepLaws.{block-inside}
@@ -99,26 +99,26 @@ moved-is d q h = h .next ∙ ap (λ (o : Block). o .next) (h .answered)
 
 -- ---- the calls
 
-pub open-runs : Runs open-symbol.routine reader-open
+pub open-runs : Runs open-symbol.routine (call (any-other reader-open))
 open-runs =
     in-cells-at 1 (to-read 0 tt (number-row w8) ∷ []) a-reader-told open-symbol.routine (λ κs a r e. (r .image ≡ a .0) × (r .next ≡ 0)) _
     (λ κs a r e h k. (((ptr (h .0 k), now (h .0 k)), h .1 k), tt))
     (open-proof.met 𝓥 Closed.H Closed.model ghost₀ 𝓡)
 
-pub step-runs : Runs step-symbol.routine reader-step
+pub step-runs : Runs step-symbol.routine (call (any-other reader-step))
 step-runs =
     in-cells-at 1 (to-read-with 0 tt (number-row w8) (number-row w64) reader-held ∷ []) a-step-told step-symbol.routine (λ κs a s e. Stepped (a .0) s) _
     (λ κs a s e h k. (step-is (a .0) s h k, tt))
     (step-proof.met 𝓥 Closed.H Closed.model ghost₀ 𝓡)
 
-pub moved-runs : Runs moved-symbol.routine reader-moved
+pub moved-runs : Runs moved-symbol.routine (call (any-other reader-moved))
 moved-runs =
     in-cells-at 1 (to-read-with 0 tt (number-row w8) (number-row w64) reader-held ∷ []) a-reader-told moved-symbol.routine (λ κs a q e. Moved (a .0) q) _
     (λ κs a q e h k. (((ptr (h .image k), now (h .image k)), moved-is (a .0) q h k), tt))
     (moved-proof.met 𝓥 Closed.H Closed.model ghost₀ 𝓡)
 
 -- after a step, as before it, the bytes of its part stand in the image's cells where it says: they are not copied
-pub part-stands : (σ : Memory) (r : Input a-reader) → Ready σ (reader-step .params) (r, tt) → (h : Ran step-symbol.routine reader-step σ (r, tt))
+pub part-stands : (σ : Memory) (r : Input a-reader) → Ready σ (call (any-other reader-step) .params) (r, tt) → (h : Ran step-symbol.routine (call (any-other reader-step)) σ (r, tt))
     → let o = block-outcome (entries (r .0)) (r .1) in
     Stands (h .memory) (span (unsigned w8) (given-at (place (r .0)) o .place) (take (o .length) (drop (o .offset) (entries (r .0)))))
 part-stands σ r ready h =

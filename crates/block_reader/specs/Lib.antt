@@ -1,3 +1,2 @@
 -- What the contracts of the block reader cite beside the definitions of mesh and calls.
 pub mod Reader
-pub mod Cells

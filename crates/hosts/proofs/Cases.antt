@@ -27,7 +27,7 @@ use Rattle.calls.specs.Outcomes.{Numbered, numbered, Linked, linked-with, reply
 use Rattle.calls.specs.Switches.{switched}
 use Rattle.calls.specs.declared.Reply.{Reply}
 use Rattle.calls.proofs.WorkedState.{compute}
-use Rattle.hosts.specs.Exported.{clear, link, Exported, of-book, call, bytes, words, number-value, reply-value}
+use Rattle.hosts.specs.Public.{clear, link, Public, of-book, call, bytes, words, number-value, reply-value}
 use Rattle.hosts.specs.Made.{Room-at}
 use Rattle.hosts.proofs.Made.{aligned-of, room-still}
 
@@ -112,7 +112,7 @@ record Called (ρ : Routine) (vs : List Val) (v : Val) (σ : Memory) (t : Tables
   returns : ρ .step steps vs σ ≡ done (v, memory)
   state : State memory t w
 
-module _ (ρ : Exported → Routine) (runs : (x : Exported) → Runs (ρ x) (call x)) (σ : Memory) (t : Tables) (w : List ℕ) (q : State σ t w) where
+module _ (ρ : Public → Routine) (runs : (x : Public) → Runs (ρ x) (call x)) (σ : Memory) (t : Tables) (w : List ℕ) (q : State σ t w) where
   clear-called : (o : Numbered) → clear-outcome 2 t ≡ o → ∥ Called (ρ (of-book clear)) (passed (call (of-book clear) .params) (clear-inputs t))
       (number-value (o .reply)) σ (o .tables) w ∥₁
   clear-called o e =
@@ -266,7 +266,7 @@ pub record Cells (τ : Memory) (ls ns os ws : List ℕ) : Type 0 where
   pub order : Stands τ (2, 0, map byte os)
   pub answer : Stands τ (3, 0, map byte ws)
 
-pub record Three-calls (ρ : Exported → Routine) : Type 0 where
+pub record Three-calls (ρ : Public → Routine) : Type 0 where
   pub n₁ : ℕ
   pub n₂ : ℕ
   pub n₃ : ℕ
@@ -281,7 +281,7 @@ pub record Three-calls (ρ : Exported → Routine) : Type 0 where
   pub goes-down : ρ (of-book (link false)) .step n₃ link-passed τ₂ ≡ done (replied 0 255 2, τ₃)
   pub down : Cells τ₃ (replicate 128 0) (0 ∷ 0 ∷ []) (0 ∷ 0 ∷ 1 ∷ 0 ∷ []) (0 ∷ 0 ∷ 1 ∷ 0 ∷ [])
 
-module _ (ρ : Exported → Routine) (runs : (x : Exported) → Runs (ρ x) (call x)) where
+module _ (ρ : Public → Routine) (runs : (x : Public) → Runs (ρ x) (call x)) where
   pub three-calls : ∥ Three-calls ρ ∥₁
   three-calls =
       ∥∥₁-elim (clear-called ρ runs memory anything (8 ∷ 8 ∷ []) first-state _ clear-is) ∥∥₁-prop (λ a.

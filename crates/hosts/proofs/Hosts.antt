@@ -37,8 +37,8 @@ use Rattle.calls.proofs.Runs.{link-done, hear-done, Does}
 use Rattle.calls.proofs.Holds.{Holds}
 use Rattle.calls.proofs.Steps.{step}
 use Rattle.calls.proofs.WholeList.{start, demand-3}
-use Rattle.hosts.specs.Exported.{Known, clear, image-read, link, commit, link-batch, hear, mark-set, mark-remove, mark-return, Exported, of-book, call}
-use Rattle.hosts.specs.Exported.{bytes, words, the-tables, number-value}
+use Rattle.hosts.specs.Public.{Known, clear, image-read, link, commit, link-batch, hear, mark-set, mark-remove, mark-return, Public, of-book, call}
+use Rattle.hosts.specs.Public.{bytes, words, the-tables, number-value}
 use Rattle.hosts.specs.Hosts.{Site, Lie, Table-cell, of-links, of-numbers, of-order, Untouched, Spares, site-at, told-of, shown, Turn, on-site}
 use Rattle.hosts.specs.Hosts.{elsewhere, made, Step, Placed}
 use Rattle.hosts.specs.Hosts.{book-call, call-of, fed, Said-so, Said, Agrees, Carried-out, Ends, clears, reads, Made, Hosted, Hosts-demand}
@@ -145,9 +145,9 @@ Shows s k t = Came s k (done (call-of k) t)
 abbrev pub step-of : (w : Turn) → Memory → Inputs (call (made w) .params) → ℕ → Val × Memory → Step
 step-of w σ i m e = record { turn = w; inputs = i; before = σ; steps = m; returned = e .0; after = e .1 }
 
-module _ (ρ : Exported → Routine) (s : Site) (m : ℕ) (t : Tables) where
+module _ (ρ : Public → Routine) (s : Site) (m : ℕ) (t : Tables) where
   -- the run of x from σ
-  abbrev ran : (x : Exported) (σ : Memory) (i : Inputs (call x .params)) → Ran (ρ x) (call x) σ i → Val × Memory
+  abbrev ran : (x : Public) (σ : Memory) (i : Inputs (call x .params)) → Ran (ρ x) (call x) σ i → Val × Memory
   ran x σ i h = (call x .value (outcome-of (call x) i .0), h .memory)
 
   abbrev On : Known → Type 0
@@ -432,7 +432,7 @@ unfolding first-number number-of
 said-number (on-site x) i v τ hs y z = inl (ap first-number (y .1) ∙ sym (number-shown x (y .0)) ∙ ap number-of (sym (y .2) ∙ z))
 said-number (elsewhere x) i v τ hs y z = inr y
 
-module _ (ρ : Exported → Routine) (runs : (x : Exported) → Runs (ρ x) (call x)) where
+module _ (ρ : Public → Routine) (runs : (x : Public) → Runs (ρ x) (call x)) where
   -- the machine's run is the only one
   pub done-one : (s : Site) (k : Step) (t : Tables) → Made ρ s k → Lie s (k .before) t → ∥ Shows s k t ∥₁
   done-one s k t m lie =

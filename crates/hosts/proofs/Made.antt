@@ -22,8 +22,8 @@ use Rattle.mesh.specs.Tables.{Tables}
 use Rattle.calls.specs.Questions.{Lengths, lengths-of}
 use Rattle.calls.specs.Book.{Call, clearing, reading, linking, committing, batching, hearing, setting, removing, returning, other}
 use Rattle.calls.specs.Runs.{done}
-use Rattle.hosts.specs.Exported.{Known, clear, image-read, link, commit, link-batch, hear, mark-set, mark-remove, mark-return, check, Exported, of-book}
-use Rattle.hosts.specs.Exported.{any-other, call, bytes, words, tables-lent}
+use Rattle.hosts.specs.Public.{Known, clear, image-read, link, commit, link-batch, hear, mark-set, mark-remove, mark-return, check, Public, of-book}
+use Rattle.hosts.specs.Public.{any-other, call, bytes, words, tables-lent}
 use Rattle.hosts.specs.Hosts.{Site, Lie, Within, Table-cell, of-links, of-numbers, of-order, Untouched, told-of, Turn, on-site, elsewhere, made, Step}
 use Rattle.hosts.specs.Hosts.{Placed, book-call, call-of, Made}
 use Rattle.hosts.specs.Hosts as hosts
@@ -304,7 +304,7 @@ free-still s σ τ kept free = record {
   numbers-order = free .numbers-order;
 }
 
-module _ (ρ : Exported → Routine) (runs : (x : Exported) → Runs (ρ x) (call x)) where
+module _ (ρ : Public → Routine) (runs : (x : Public) → Runs (ρ x) (call x)) where
   pub hosts-exist : Hosts-exist ρ
   hosts-exist s t σ lie free [] f = ∣ record { steps = []; last = σ; hosted = hosts.ended (λ b i k. refl); calls = refl } ∣₁
   hosts-exist s t σ lie free (c ∷ cs) f =

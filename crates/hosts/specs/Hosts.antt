@@ -40,9 +40,9 @@ use Rattle.calls.specs.Book.{Call, clearing, reading, linking, committing, batc
 use Rattle.calls.specs.Book.{Given, given, Answer, booked, pairs-of, book-after, Beginning, from-clearing, from-image}
 use Rattle.calls.specs.Runs.{done, events, after}
 use Rattle.calls.specs.Demand.{Start, beginning, Kept}
-use Rattle.hosts.specs.Exported.{Known, clear, image-read, link, commit, link-batch, hear, mark-set, mark-remove, mark-return, Exported, of-book}
-use Rattle.hosts.specs.Exported.{any-other, call}
-use Rattle.hosts.specs.Exported.{bytes, words, the-tables, number-value, reply-value, value-value}
+use Rattle.hosts.specs.Public.{Known, clear, image-read, link, commit, link-batch, hear, mark-set, mark-remove, mark-return, Public, of-book}
+use Rattle.hosts.specs.Public.{any-other, call}
+use Rattle.hosts.specs.Public.{bytes, words, the-tables, number-value, reply-value, value-value}
 
 -- ---- a site's tables
 
@@ -122,9 +122,9 @@ shown mark-return h = number-value (h .number)
 
 pub data Turn : Type 0 where
   on-site : Known → Turn
-  elsewhere : Exported → Turn
+  elsewhere : Public → Turn
 
-abbrev pub made : Turn → Exported
+abbrev pub made : Turn → Public
 made (on-site x) = of-book x
 made (elsewhere x) = x
 
@@ -198,7 +198,7 @@ pub data Begins (k : Step) : (n : ℕ) → (pairs : List Link) → Beginning →
       Begins k n (image-links n image) (from-image n image)
 
 -- where ρ are the routines of the exported calls
-module _ (ρ : Exported → Routine) where
+module _ (ρ : Public → Routine) where
   pub record Made (s : Site) (k : Step) : Type 0 where
     pub ready : Ready (k .before) (call (made (k .turn)) .params) (k .inputs)
     pub returns :

@@ -18,7 +18,7 @@ use prog.Routine.{Routine}
 use Rattle.machine.specs.Cells.{Place, All-held, Sized, unsigned}
 use Rattle.mesh.specs.Tables.{Tables}
 use Rattle.calls.specs.Book.{Call, clearing, reading, linking, committing, batching, hearing, setting, removing, returning, other}
-use Rattle.hosts.specs.Exported.{Exported}
+use Rattle.hosts.specs.Public.{Public}
 use Rattle.hosts.specs.Hosts.{Site, Lie, Within, Step, Hosted, call-of}
 
 -- a list may begin there
@@ -61,11 +61,11 @@ abbrev pub All-fit : List Call → Type 0
 All-fit [] = Unit {0}
 All-fit (c ∷ cs) = Fits c × All-fit cs
 
-pub record A-host (ρ : Exported → Routine) (s : Site) (σ : Memory) (cs : List Call) : Type 0 where
+pub record A-host (ρ : Public → Routine) (s : Site) (σ : Memory) (cs : List Call) : Type 0 where
   pub steps : List Step
   pub last : Memory
   pub hosted : Hosted ρ s σ steps last
   pub calls : map call-of steps ≡ cs
 
-abbrev pub Hosts-exist : (Exported → Routine) → Type 0
+abbrev pub Hosts-exist : (Public → Routine) → Type 0
 Hosts-exist ρ = (s : Site) (t : Tables) (σ : Memory) → Lie s σ t → Lendable s σ → (cs : List Call) → All-fit cs → ∥ A-host ρ s σ cs ∥₁

@@ -4,7 +4,7 @@ use Prim.Native.Nat.{ℕ}
 use mir.Val.{Val}
 use prog.Memory.{Memory}
 use Rattle.machine.proofs.Made.{made-ready, ran-one}
-use Rattle.hosts.specs.Exported.{call}
+use Rattle.hosts.specs.Public.{given-at, call}
 use Rattle.hosts.proofs.Hosts.{hosts-demand, standing-demand}
 use Rattle.hosts.proofs.Made.{hosts-exist}
 use Rattle.mesh.proofs.Cores.Peeling.{number-core, number-unique}
@@ -35,6 +35,7 @@ use Rattle.lifting.proofs.Answers.{lift-core, lift-right, lift-none}
 use Rattle.hubs.proofs.Confluence.{confluence, calls-agree}
 use Rattle.hubs.proofs.Differ.{orders-differ, images-differ}
 use Rattle.playback.proofs.ScriptPlays.{written-plays}
+use Rattle.block_reader.proofs.Runs.{part-stands}
 use Rattle.summerbugle.proofs.Runs.{routines, runs}
 use Rattle.promises.specs.Statement.{Refusals, Property-1, Property-2, Property-3, Statement}
 use Rattle.promises.specs.Statement as statement
@@ -67,6 +68,7 @@ refusals = record {
   mark-remove = remove-keeps;
   mark-return = return-keeps;
   image-block = block-keeps;
+  reader-step = λ p bs i h. ap (given-at p) (block-keeps bs i h);
 }
 
 property-1 : Property-1 routines
@@ -77,6 +79,7 @@ property-1 = record {
       (sym (ap (λ (y : Val × Memory). y .0) one), sym (ap (λ (y : Val × Memory). y .1) one));
   ready = made-ready;
   refused = refusals;
+  reader-part = part-stands;
 }
 
 property-2 : Property-2

@@ -1,4 +1,4 @@
--- The promises of the engine: one statement, over the routines of the exported calls. Whoever reads it and the definitions that it cites
+-- The promises of the engine: one statement, over the routines of the public calls. Whoever reads it and the definitions that it cites
 -- need read no proof; the proof is proofs/Promises.antt, and docs/PROMISES.md has the order in which to read. An outcome is a call's reply
 -- with what is lent to be written, as it is after the call.
 --   Property-1       every public call returns for every input, checks its tables itself, and refuses by number
@@ -12,14 +12,14 @@ use mathlib.Core.Bool.{Bool, true, false}
 use mathlib.Core.List.{List, [], _∷_, _++_}
 use Prim.Native.Nat.{ℕ, _≤_, _<_}
 use lib.IntN.{ℤ, pos}
-use lib.ListN.{length, take}
+use lib.ListN.{length, take, drop}
 use mir.Val.{Val}
 use prog.Memory.{Memory}
 use prog.Machine.{done}
 use prog.Routine.{Routine}
-use Rattle.machine.specs.Cells.{Param, Inputs, Ready, Ran, Runs, passed, outcome-of}
+use Rattle.machine.specs.Cells.{Param, Place, place, entries, Input, Inputs, Stands, span, Ready, Ran, Runs, passed, outcome-of}
 use Rattle.machine.specs.Made.{Givens, Fitting, blocks, placed}
-use Rattle.hosts.specs.Exported.{Exported, call}
+use Rattle.hosts.specs.Public.{Public, any-other, reader-step, bytes, a-reader, given-at, call}
 use Rattle.hosts.specs.Hosts.{Hosts-demand, Standing-demand}
 use Rattle.hosts.specs.Made.{Hosts-exist}
 use Rattle.lists.specs.Lists.{member, same, Entries-below}
@@ -118,19 +118,27 @@ pub record Refusals : Type 0 where
       (n : ℕ) (x : List ℕ) (t : Tables) (bs : List ℕ) → let o = remove-outcome n x t bs in (o .reply ≡ 0 → ⊥) → o ≡ stored (o .reply) bs
   pub mark-return : (n : ℕ) (x bs : List ℕ) (t : Tables) → let o = return-outcome n x bs t in (o .reply ≡ 0 → ⊥) → o ≡ numbered (o .reply) t
   pub image-block : (bs : List ℕ) (i : ℕ) → let o = block-outcome bs i in (o .number ≡ 0 → ⊥) → o ≡ no-block (o .number) 0 i
+  pub reader-step :
+      (p : Place) (bs : List ℕ) (i : ℕ) → let s = given-at p (block-outcome bs i) in
+      (s .number ≡ 0 → ⊥) → s ≡ given-at p (no-block (s .number) 0 i)
 
--- ρ are the routines of the exported calls
-pub record Property-1 (ρ : Exported → Routine) : Type 1 where
+-- ρ are the routines of the public calls
+pub record Property-1 (ρ : Public → Routine) : Type 1 where
   -- each call returns, from every memory that is ready; its value and every cell that it was lent to be written are those of its
   -- outcome, and every other cell is as it was
-  pub runs : (x : Exported) → Runs (ρ x) (call x)
+  pub runs : (x : Public) → Runs (ρ x) (call x)
   -- it returns nothing else, after any count of steps
   pub only :
-      (x : Exported) (σ : Memory) (i : Inputs (call x .params)) (h : Ran (ρ x) (call x) σ i) (steps : ℕ) (end : Val × Memory) →
+      (x : Public) (σ : Memory) (i : Inputs (call x .params)) (h : Ran (ρ x) (call x) σ i) (steps : ℕ) (end : Val × Memory) →
       ρ x .step steps (passed (call x .params) i) σ ≡ done end → (end .0 ≡ call x .value (outcome-of (call x) i .0)) × (end .1 ≡ h .memory)
   -- a memory is ready for whatever numbers and lists their types hold: the one that has a block for each lent list
   pub ready : (ps : List Param) (g : Givens ps) → Fitting ps g → Ready (blocks ps g) ps (placed 0 ps g)
   pub refused : Refusals
+  -- the part that a step of the block reader gives is the image's own bytes: they stand in its cells, where the step says
+  pub reader-part :
+      (σ : Memory) (r : Input a-reader) → Ready σ (call (any-other reader-step) .params) (r, tt) →
+      (h : Ran (ρ (any-other reader-step)) (call (any-other reader-step)) σ (r, tt)) → let o = block-outcome (entries (r .0)) (r .1) in
+      Stands (h .memory) (span bytes (given-at (place (r .0)) o .place) (take (o .length) (drop (o .offset) (entries (r .0)))))
 
 -- ---- property 2
 
@@ -165,7 +173,7 @@ pub record Property-2 : Type 0 where
 
 -- ---- property 3
 
-pub record Property-3 (ρ : Exported → Routine) : Type 0 where
+pub record Property-3 (ρ : Public → Routine) : Type 0 where
   -- every list of calls from a clearing or an image keeps what demand 3 says
   pub demand : Demand-3
   -- the same at the machine: a host's list of calls on one memory, between which it may do anything but change a cell of the three tables
@@ -372,7 +380,7 @@ pub record W-214 : Type 0 where
 
 -- ---- all of them
 
-pub record Statement (ρ : Exported → Routine) : Type 1 where
+pub record Statement (ρ : Public → Routine) : Type 1 where
   pub first : Property-1 ρ
   pub second : Property-2
   pub third : Property-3 ρ

@@ -12,7 +12,7 @@ use Rattle.machine.proofs.Whole.{𝓥}
 use Rattle.machine.proofs.Rows.{Row, A₀}
 use Rattle.mesh.proofs.Node as node
 use Rattle.mesh.proofs.Node.Laws as node-laws
-use Rattle.hosts.specs.Exported.{nodes}
+use Rattle.hosts.specs.Public.{nodes}
 
 abbrev pub node-row : Row
 node-row = record {

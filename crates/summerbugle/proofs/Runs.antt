@@ -1,5 +1,5 @@
--- The exported calls run, in cells: `runs`, of each the routine that the crate's code is, from the triple that is proved of it.
---   routines    the routines of the exported calls
+-- The public calls run, in cells: `runs`, of each the routine that its code is, from the triple that is proved of it.
+--   routines    the routines of the public calls
 --   runs        each runs as crate hosts says of it
 use mathlib.Core.Path.{_≡_, ap}
 use mathlib.Core.Bool.{Bool, true, false}
@@ -96,13 +96,17 @@ use Rattle.summerbugle.proofs.sb_mark_return.Symbol as mark-return-symb
 use Rattle.summerbugle.proofs.sb_mark_return.Met as mark-return-proof
 use Rattle.summerbugle.proofs.sb_image_block.Symbol as image-block-symbol
 use Rattle.summerbugle.proofs.sb_image_block.Met as image-block-proof
-use Rattle.hosts.specs.Exported.{Exported, of-book, any-other, call, the-tables, tables-then}
-use Rattle.hosts.specs.Exported.Known.{clear, image-read, link, commit, link-batch, hear, mark-set, mark-remove, mark-return}
-use Rattle.hosts.specs.Exported.Other.{ask, check, number, neighbours, linked, first, later-of, lift, core, backbone, tree, staircase}
-use Rattle.hosts.specs.Exported.Other.{image-write, sheet, script-length, script-write, image-block}
+use Rattle.hosts.specs.Public.{Public, of-book, any-other, call, the-tables, tables-then}
+use Rattle.hosts.specs.Public.Known.{clear, image-read, link, commit, link-batch, hear, mark-set, mark-remove, mark-return}
+use Rattle.hosts.specs.Public.Other.{ask, check, number, neighbours, linked, first, later-of, lift, core, backbone, tree, staircase}
+use Rattle.hosts.specs.Public.Other.{image-write, sheet, script-length, script-write, image-block, reader-open, reader-step, reader-moved}
+use Rattle.block_reader.proofs.blocks.open.Symbol as open-symbol
+use Rattle.block_reader.proofs.blocks.step.Symbol as step-symbol
+use Rattle.block_reader.proofs.blocks.moved.Symbol as moved-symbol
+use Rattle.block_reader.proofs.Runs.{open-runs, step-runs, moved-runs}
 use Rattle.summerbugle.proofs.NodeRow.{node-row}
 
-abbrev pub routines : Exported → Routine
+abbrev pub routines : Public → Routine
 routines (of-book clear) = clear-symbol.routine
 routines (of-book image-read) = image-read-symbol.routine
 routines (of-book (link true)) = link-up-symbol.routine
@@ -132,6 +136,9 @@ routines (any-other sheet) = sheet-symbol.routine
 routines (any-other script-length) = script-length-symbol.routine
 routines (any-other script-write) = script-write-symbol.routine
 routines (any-other image-block) = image-block-symbol.routine
+routines (any-other reader-open) = open-symbol.routine
+routines (any-other reader-step) = step-symbol.routine
+routines (any-other reader-moved) = moved-symbol.routine
 
 -- ---- parameters and results, as the logic has them
 
@@ -393,7 +400,7 @@ block-runs =
     (λ i r o e. ap (λ (y : Block). (y, tt)) e)
     (image-block-proof.met 𝓥 Closed.H Closed.model ghost₀ 𝓡)
 
-pub runs : (x : Exported) → Runs (routines x) (call x)
+pub runs : (x : Public) → Runs (routines x) (call x)
 runs (of-book clear) = clear-runs
 runs (of-book image-read) = image-read-runs
 runs (of-book (link true)) = link-runs true _ (link-up-proof.met 𝓥 Closed.H Closed.model ghost₀ 𝓡)
@@ -423,3 +430,6 @@ runs (any-other sheet) = sheet-runs
 runs (any-other script-length) = length-runs
 runs (any-other script-write) = script-runs
 runs (any-other image-block) = block-runs
+runs (any-other reader-open) = open-runs
+runs (any-other reader-step) = step-runs
+runs (any-other reader-moved) = moved-runs

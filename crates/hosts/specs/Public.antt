@@ -1,16 +1,20 @@
--- The exported calls, listed once: of each its parameters, its result as a machine value, and its outcome.
+-- The public calls, listed once: the exported ones, and the block reader in document 01's own form, a struct that holds the image. Of each its
+-- parameters, its result as a machine value, and its outcome.
 --   Known, Other      the calls that document 01's book knows, and the others
---   Exported          all of them
+--   Public            all of them
 --   the-tables        links, numbers and order, as they are lent;   tables-then: the same on return, before what else is lent to be written
 --   ..-value          a result as the machine holds it
+--   a-reader          a reader as it is passed, and as it is given back: the image, lent to be read, and the number of the next block
+--   Step-given        what a step of the reader gives: where its part of the image begins, how long it is, and the numbers
+--   given-at          the step whose form for C is this answer, of an image at that place
 --   call              the call
 -- Definitions only.
 use mathlib.Core.Bool.{Bool}
 use mathlib.Core.List.{List, [], _∷_}
-use Prim.Native.Nat.{ℕ, _<_, _^_}
+use Prim.Native.Nat.{ℕ, _+_, _<_, _^_}
 use mir.Syntax.{w8, w16, w32, w64, tyInt, tyStruct, tcons, tnil}
 use mir.Val.{Val, vint, vstruct, vcons, vnil, ofZ}
-use Rattle.machine.specs.Cells.{Form, unsigned, signed, Param, by-value, to-read, to-write, Lent, entries, Outputs, Of-inputs, Call}
+use Rattle.machine.specs.Cells.{Form, unsigned, signed, Param, by-value, to-read, to-write, to-read-with, Place, Lent, place, entries, Outputs, Of-inputs, pointer, passes, Call}
 use Rattle.mesh.specs.Tables.{Tables, tables}
 use Rattle.mesh.specs.declared.Node.{Node}
 use Rattle.calls.specs.declared.Reply.{Reply}
@@ -55,10 +59,13 @@ pub data Other : Type 0 where
   script-length : Other
   script-write : Other
   image-block : Other
+  reader-open : Other
+  reader-step : Other
+  reader-moved : Other
 
-pub data Exported : Type 0 where
-  of-book : Known → Exported
-  any-other : Other → Exported
+pub data Public : Type 0 where
+  of-book : Known → Public
+  any-other : Other → Public
 
 -- ---- parameters
 
@@ -112,6 +119,25 @@ block-value r =
     vstruct (vcons (vint w32 (r .number)) (vcons (vint w32 (r .end))
     (vcons (vint w64 (r .offset)) (vcons (vint w64 (r .length)) (vcons (vint w64 (r .next)) vnil)))))
 
+-- ---- the block reader
+
+abbrev pub a-reader : Param
+a-reader = to-read-with bytes (unsigned w64)
+
+pub record Step-given : Type 0 where
+  pub place : Place
+  pub length : ℕ
+  pub number : ℕ
+  pub end : ℕ
+  pub next : ℕ
+
+abbrev pub step-value : Step-given → Val
+step-value s =
+    vstruct (vcons (pointer (s .place) (s .length)) (vcons (vint w32 (s .number)) (vcons (vint w32 (s .end)) (vcons (vint w64 (s .next)) vnil))))
+
+abbrev pub given-at : Place → Block → Step-given
+given-at p o = record { place = (p .0, o .offset + p .1); length = o .length; number = o .number; end = o .end; next = o .next }
+
 -- ---- calls
 
 abbrev a-call : (ps : List Param) → {R : Type 0} → (R → Val) → Of-inputs ps (R × Outputs ps) → Call
@@ -121,7 +147,7 @@ a-call ps {R} v o = record { params = ps; Result = R; value = v; outcome = o }
 abbrev listed : Listing → Value × (List ℕ × Unit {0})
 listed o = (o .reply, (o .lent, tt))
 
-abbrev pub call : Exported → Call
+abbrev pub call : Public → Call
 call (of-book clear) =
     a-call (a-number ∷ tables-lent to-write []) number-value
     (λ n ls ns os. let o = clear-outcome n (the-tables ls ns os) in (o .reply, tables-then (o .tables) tt))
@@ -192,3 +218,8 @@ call (any-other script-write) =
     (λ n ls ns os text. listed (script-outcome n (the-tables ls ns os) (entries text)))
 call (any-other image-block) =
     a-call (to-read bytes ∷ by-value (unsigned w64) ∷ []) block-value (λ image i. (block-outcome (entries image) i, tt))
+call (any-other reader-open) = a-call (to-read bytes ∷ []) (passes a-reader) (λ image. ((image, 0), tt))
+call (any-other reader-step) =
+    a-call (a-reader ∷ []) step-value (λ r. (given-at (place (r .0)) (block-outcome (entries (r .0)) (r .1)), tt))
+call (any-other reader-moved) =
+    a-call (a-reader ∷ []) (passes a-reader) (λ r. ((r .0, block-outcome (entries (r .0)) (r .1) .next), tt))
