@@ -230,5 +230,5 @@ restored-list n ps t₀ s before between m j x bs ds z y free still =
     let u = after between t in
     ap (λ (es : List Event). history (givens es) ps (beginning s))
     (events-append before _ t₀ ∙ ap (λ (es : List Event). events before t₀ ++ es) (marked-events between t m j x bs ds z y))
-    ∙ history-restored n ps t₀ t u (return-outcome j x ds u .tables) s (events before t₀) (events between t) m j x bs ds (run before t₀) (rw z) (run between t) (rw y)
-    free still
+    ∙ history-restored n ps t₀ t u (return-outcome j x ds u .tables) s (events before t₀) (events between t) m j x bs ds
+    (run before t₀) (rw z) (run between t) (rw y) free still

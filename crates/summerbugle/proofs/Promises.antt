@@ -1,26 +1,13 @@
 -- The promises of the engine, proved: `promises : Promises`. The statement is in Stated.antt.
-use mathlib.Core.Path.{_≡_, refl, sym, ap, _∙_}
-use mathlib.Core.Logic.{_⊎_, inl, inr}
-use mathlib.Core.Bool.{Bool, true, false}
-use mathlib.Core.List.{List, _∷_, []}
-use Prim.Native.Nat.{ℕ}
-use lib.ListN.{length}
-use Rattle.mesh.specs.Tables.{Tables}
-use Rattle.calls.specs.Outcomes.{value, Linked, clear-outcome, read-outcome, link-outcome, ask-outcome, commit-outcome, batch-outcome, hear-outcome}
-use Rattle.calls.specs.Outcomes.{check-outcome, number-outcome, later-outcome, core-outcome, backbone-outcome}
-use Rattle.calls.specs.Outcomes.{staircase-outcome, write-outcome, sheet-outcome, script-length-outcome, script-outcome, tree-outcome, block-outcome}
-use Rattle.calls.specs.MarkOutcomes.{set-outcome, remove-outcome, return-outcome}
-use Rattle.calls.specs.LiftOutcome.{lift-outcome}
-use Rattle.calls.specs.Contracts.{Clear-contract, Check-contract, Link-contract, Ask-contract, Commit-contract, Batch-contract, Hear-contract, Read-contract}
-use Rattle.calls.specs.Contracts.{Write-contract, Block-contract, Number-contract, Later-contract}
-use Rattle.calls.specs.Contracts.{Lift-contract, Core-contract, Backbone-contract, Tree-contract, Sheet-contract, Script-length-contract, Script-contract}
-use Rattle.calls.specs.Contracts.{Staircase-contract, Set-contract, Remove-contract, Return-contract}
-use Rattle.calls.specs.Fields.{Batch-refused}
-use Rattle.calls.specs.Results.{Batch-stopped}
+use mathlib.Core.Path.{refl, ap, _∙_}
+use mathlib.Core.Bool.{true, false}
+use mathlib.Core.List.{_∷_, []}
+use Rattle.calls.specs.Outcomes.{Numbered, Linked, Committed, Batched, Heard}
+use Rattle.calls.specs.MarkOutcomes.{Stored}
+use Rattle.calls.specs.Contracts.{Clear-contract, Link-contract, Commit-contract, Batch-contract, Hear-contract, Read-contract}
+use Rattle.calls.specs.Contracts.{Set-contract, Remove-contract, Return-contract}
 use Rattle.calls.specs.Book.{plain, counted}
 use Rattle.calls.specs.Runs.{did, answer-of, replied, done}
-use Rattle.calls.specs.declared.Reply.{Reply}
-use Rattle.calls.specs.declared.Value.{Value}
 use Rattle.summerbugle.specs.Functions.{number-0, number-1, number-2, tables-1, tables-3, lent-4, lent-5, lent-6}
 use Rattle.calls.proofs.Runs.{link-done, hear-done}
 use Rattle.calls.proofs.Exactly.{exactly-listed}
@@ -122,27 +109,13 @@ calls-promised = record {
 
 -- ---- what a refusal keeps
 
-refused-of : (t : Tables) (o : Value × Tables) → Batch-refused (o .0 .number) t (o .0) (o .1) → o ≡ (value (o .0 .number) 0, t)
-refused-of t o d = rw (d .value, d .tables)
-
-batch-refused :
-    (n : ℕ) (xs : List ℕ) (t : Tables) → let o = batch-outcome n xs t in
-    (o .0 .number ≡ 0 → ⊥) → (o ≡ (value (o .0 .number) 0, t)) ⊎ Batch-stopped n xs t (o .0) (o .1)
-unfolding Batch-contract
-batch-refused n xs t h = let o = batch-outcome n xs t in go o (batch-keeps n xs t (o .0) (o .1) refl h)
-  where
-    go : (o : Value × Tables) → Batch-refused (o .0 .number) t (o .0) (o .1) ⊎ Batch-stopped n xs t (o .0) (o .1) →
-        (o ≡ (value (o .0 .number) 0, t)) ⊎ Batch-stopped n xs t (o .0) (o .1)
-    go o (inl d) = inl (refused-of t o d)
-    go o (inr d) = inr d
-
 pub refusals : Refusals
 refusals = record {
   clear = clear-keeps;
   link = link-keeps;
   ask = ask-keeps;
   commit = commit-keeps;
-  link-batch = batch-refused;
+  link-batch = batch-keeps;
   hear = hear-keeps;
   image-read = read-keeps;
   check = check-keeps;
@@ -201,68 +174,48 @@ tables-left = record {
 
 -- ---- property 2: the laws, of the outcomes
 
-accepted-of : {A : Type 0} (o : ℕ × A) → o .0 ≡ 0 → (0, o .1) ≡ o
-accepted-of o e = rw e
-
-pair-is : {A B : Type 0} (o : A × B) (a : A) (b : B) → (o .0 ≡ a) × (o .1 ≡ b) → o ≡ (a, b)
-pair-is o a b e = rw (e .0, e .1)
-
 pub property-2 : Property-2
-unfolding Link-contract Commit-contract Ask-contract Batch-contract Hear-contract Check-contract Number-contract Later-contract Lift-contract Core-contract Backbone-contract Tree-contract Sheet-contract Script-contract Script-length-contract Staircase-contract Write-contract Read-contract Set-contract Remove-contract Return-contract Block-contract
 property-2 = record {
   largest-group = λ g v k l. (λ c. number-unique g v k l c, λ e. rw (← e) (number-core g v l));
-  link = λ up n a b t w. let o = link-outcome up n a b t w in link-right up n a b t w (o .reply) (o .tables) (o .answer) refl;
-  link-begins = λ n a b t w. let o = link-outcome true n a b t w in link-begins n a b t w (o .reply) (o .tables) (o .answer) refl;
-  commit-begins = λ n a b z xs t. let o = commit-outcome true n a b z xs t in commit-begins n a b z xs t (o .0) (o .1) refl;
-  ask = λ up n a b t w. let o = ask-outcome up n a b t w in ask-right up n a b t w (o .0) (o .1) refl;
-  commit = λ up n a b z xs t. let o = commit-outcome up n a b z xs t in commit-right up n a b z xs t (o .0) (o .1) refl;
-  two-steps = λ up n a b t w z. let q = ask-outcome up n a b t w in two-steps up n a b t w (q .0) (q .1) refl z _ _ refl;
-  refused-step = λ up n a b t w. let q = ask-outcome up n a b t w in refused-step up n a b t w (q .0) (q .1) refl;
-  commit-iff = λ up n a b t w l z xs.
-      let q = ask-outcome up n a b t w in let r = commit-outcome up n a b z xs t in
-      commit-iff up n a b t w (q .0) (q .1) refl l z xs (r .0) (r .1) refl;
-  commit-number = λ up n a b t w l z xs.
-      let q = ask-outcome up n a b t w in let r = commit-outcome up n a b z xs t in
-      commit-number up n a b t w (q .0) (q .1) refl l z xs (r .0) (r .1) refl;
-  link-batch = λ n xs t. let o = batch-outcome n xs t in batch-right n xs t (o .0) (o .1) refl;
-  batch-single = λ n a b t w l.
-      let o = link-outcome true n a b t w in let s = batch-outcome n (a ∷ b ∷ []) t in
-      batch-single n a b t w (o .reply) (o .tables) (o .answer) l (s .0) (s .1) refl refl;
-  hear = λ n hs t w. let o = hear-outcome n hs t w in hear-right n hs t w (o .0) (o .1) (o .2) refl;
-  check = λ n t. check-right n t (check-outcome n t) refl;
-  number = λ n v t. number-right n v t (number-outcome n v t) refl;
-  later-of = λ n v t. later-right n v t (later-outcome n v t) refl;
-  lift = λ n v t. lift-right n v t (lift-outcome n v t) refl;
+  link = link-right;
+  link-begins = link-begins;
+  commit-begins = commit-begins;
+  ask = ask-right;
+  commit = commit-right;
+  two-steps = two-steps;
+  refused-step = refused-step;
+  commit-iff = commit-iff;
+  commit-number = commit-number;
+  link-batch = batch-right;
+  batch-single = batch-single;
+  hear = hear-right;
+  check = check-right;
+  number = number-right;
+  later-of = later-right;
+  lift = lift-right;
   lift-core = lift-core;
-  lift-none = λ n v t. lift-none n v t (lift-outcome n v t) refl;
-  core = λ n v k t w. let o = core-outcome n v k t w in core-right n v k t w (o .0) (o .1) refl;
-  backbone = λ n t w. let o = backbone-outcome n t w in backbone-right n t w (o .0) (o .1) refl;
+  lift-none = lift-none;
+  core = core-right;
+  backbone = backbone-right;
   backbone-one-part = backbone-one-part;
-  tree = λ n t m w. let o = tree-outcome n t m w in tree-right-listed n t m w (o .0) (o .1) (o .2) refl;
-  sheet = λ n t w. let o = sheet-outcome n t w in sheet-right n t w (o .0) (o .1) refl;
-  script = λ n t w. let o = script-outcome n t w in script-right n t w (o .0) (o .1) refl;
-  script-beforehand = λ n t w z. let o = script-outcome n t w in script-beforehand n t (script-length-outcome n t) w (o .0) (o .1) refl z refl;
-  staircase = λ n t w. let o = staircase-outcome n t w in staircase-right n t w (o .0) (o .1) refl;
-  image-written = λ n t w. let o = write-outcome n t w in write-right n t w (o .0) (o .1) refl;
-  image-read-back = λ n t w z bytes u e.
-      let o = write-outcome n t w in pair-is _ 0 t (read-what-was-written n t w (o .0) (o .1) refl z bytes u _ _ e refl);
-  image-read = λ n bs t. let o = read-outcome n bs t in read-right n bs t (o .0) (o .1) refl;
-  eleven = λ n bs t. let o = read-outcome n bs t in read-eleven n bs t (o .0) (o .1) refl;
+  tree = tree-right-listed;
+  sheet = sheet-right;
+  script = script-right;
+  script-beforehand = script-beforehand;
+  staircase = staircase-right;
+  image-written = write-right;
+  image-read-back = read-what-was-written;
+  image-read = read-right;
+  eleven = read-eleven;
   other-size = other-size-iff;
   of-none = eleven-iff;
   store-good = store-good-iff;
-  mark-set = λ n x t bs z. let o = set-outcome n x t bs in set-right n x t bs (o .1) (accepted-of o z);
-  mark-remove = λ n x t bs z. let o = remove-outcome n x t bs in removed-right n x t bs (o .1) (accepted-of o z);
-  other-marks = λ n x t bs y h. (
-    other-marks n x t bs (set-outcome n x t bs .0) (set-outcome n x t bs .1) y (inl refl) h,
-    other-marks n x t bs (remove-outcome n x t bs .0) (remove-outcome n x t bs .1) y (inr refl) h,
-  );
-  mark-return = λ n x bs t z.
-      let o = return-outcome n x bs t in let r = return-right n x bs t (o .1) (accepted-of o z) in (sym (accepted-of o z) ∙ r .0, r .1);
-  return-restores = λ n x t u bs ds bytes z same y.
-      return-restores n x t u (return-outcome n x ds u .1) bs (set-outcome n x t bs .1) ds bytes (accepted-of (set-outcome n x t bs) z) same
-      (accepted-of (return-outcome n x ds u) y);
-  block = λ bs i. block-right bs i (block-outcome bs i) refl;
+  mark-set = set-right;
+  mark-remove = removed-right;
+  other-marks = other-marks;
+  mark-return = return-right;
+  return-restores = return-restores;
+  block = block-right;
   older = older;
 }
 
@@ -271,23 +224,23 @@ property-2 = record {
 pub steps : Steps
 unfolding done Clear-contract Read-contract Link-contract Commit-contract Batch-contract Hear-contract Set-contract Remove-contract Return-contract
 steps = record {
-  clear = λ κs a r e c. ap (λ (o : ℕ × Tables). did (plain (o .0) ∷ []) (o .1)) c;
-  image-read = λ κs a r e c. ap (λ (o : ℕ × Tables). did (plain (o .0) ∷ []) (o .1)) c;
+  clear = λ κs a r e c. ap (λ (o : Numbered). did (plain (o .reply) ∷ []) (o .tables)) c;
+  image-read = λ κs a r e c. ap (λ (o : Numbered). did (plain (o .reply) ∷ []) (o .tables)) c;
   link-up = λ κs a r e c.
       ap (λ (o : Linked). did (answer-of (o .reply) (o .answer) ∷ []) (o .tables)) c
       ∙ link-done true (number-0 a) (number-1 a) (number-2 a) (tables-3 a) (lent-6 a);
   link-down = λ κs a r e c.
       ap (λ (o : Linked). did (answer-of (o .reply) (o .answer) ∷ []) (o .tables)) c
       ∙ link-done false (number-0 a) (number-1 a) (number-2 a) (tables-3 a) (lent-6 a);
-  commit-up = λ κs a r e c. ap (λ (o : Reply × Tables). did (replied (o .0) ∷ []) (o .1)) c;
-  commit-down = λ κs a r e c. ap (λ (o : Reply × Tables). did (replied (o .0) ∷ []) (o .1)) c;
-  link-batch = λ κs a r e c. ap (λ (o : Value × Tables). did (counted (o .0 .number) (o .0 .value) ∷ []) (o .1)) c;
+  commit-up = λ κs a r e c. ap (λ (o : Committed). did (replied (o .reply) ∷ []) (o .tables)) c;
+  commit-down = λ κs a r e c. ap (λ (o : Committed). did (replied (o .reply) ∷ []) (o .tables)) c;
+  link-batch = λ κs a r e c. ap (λ (o : Batched). did (counted (o .reply .number) (o .reply .value) ∷ []) (o .tables)) c;
   hear = λ κs a r e c.
-      ap (λ (o : Value × Tables × List ℕ). did (counted (o .0 .number) (o .0 .value) ∷ []) (o .1)) c
+      ap (λ (o : Heard). did (counted (o .reply .number) (o .reply .value) ∷ []) (o .tables)) c
       ∙ hear-done (number-0 a) (lent-4 a) (tables-1 a) (lent-5 a);
-  mark-set = λ κs a r e c. ap (λ (o : ℕ × List ℕ). did (plain (o .0) ∷ []) (tables-1 a)) c;
-  mark-remove = λ κs a r e c. ap (λ (o : ℕ × List ℕ). did (plain (o .0) ∷ []) (tables-1 a)) c;
-  mark-return = λ κs a r e c. ap (λ (o : ℕ × Tables). did (plain (o .0) ∷ []) (o .1)) c;
+  mark-set = λ κs a r e c. ap (λ (o : Stored). did (plain (o .reply) ∷ []) (tables-1 a)) c;
+  mark-remove = λ κs a r e c. ap (λ (o : Stored). did (plain (o .reply) ∷ []) (tables-1 a)) c;
+  mark-return = λ κs a r e c. ap (λ (o : Numbered). did (plain (o .reply) ∷ []) (o .tables)) c;
 }
 
 pub property-3 : Property-3
