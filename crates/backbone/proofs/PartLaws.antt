@@ -42,8 +42,8 @@ use Rattle.floods.proofs.FloodSteps.{true-floodable}
 use Rattle.floods.proofs.FloodCore.{level-radios, member-flood}
 use Rattle.backbone.specs.Parts.{part-greatest, top-put, tops-put, part-put, Part-taken, Part-visited, Backbone-put}
 use Rattle.soundness.proofs.SoundSite.{site-good-sound}
-use Rattle.calls.specs.Outcomes.{backbone-outcome}
-use Rattle.calls.proofs.ContractLaws.{answer, listing-refused, listing-answered}
+use Rattle.calls.specs.Outcomes.{value, backbone-outcome}
+use Rattle.calls.proofs.ContractLaws.{listing-refused, listing-answered}
 
 -- ---- the greatest number of listed radios, as a loop
 
@@ -422,7 +422,7 @@ module _ (ts ns : List ℕ) (v : ℕ) (rest queue set : List ℕ) where
 -- ---- the backbone's contract, met
 
 module _ (n : ℕ) (t : Tables) (old : List ℕ) (q : ℕ) (asked : q ≡ site-refusal n (lengths-of t) (leb n (length old)) (sound n t) 0) where
-  pub backbone-refused : (q ≡ 0 → ⊥) → Backbone-contract n t old (answer q 0) old
+  pub backbone-refused : (q ≡ 0 → ⊥) → Backbone-contract n t old (value q 0) old
   unfolding Backbone-contract backbone-outcome sound backbone-refusal answer-length
   backbone-refused h = listing-refused _ _ _ old q asked h
 
@@ -441,7 +441,7 @@ module _ (n : ℕ) (t : Tables) (old : List ℕ) (q : ℕ) (asked : q ≡ site-r
     length-backbone = filter-le _ (range 0 n) n (length-range 0 n)
 
     pub backbone-listed : (set : List ℕ) (c : ℕ) (now : List ℕ) → Backbone-put (t .links) (t .numbers) set → c ≡ length (row-listed set 0)
-        → now ≡ overwrite (take (length old) (row-listed set 0)) old → Backbone-contract n t old (answer 0 c) now
+        → now ≡ overwrite (take (length old) (row-listed set 0)) old → Backbone-contract n t old (value 0 c) now
     unfolding Backbone-contract backbone-outcome sound backbone-refusal answer-length Backbone-put
     backbone-listed set c now h counted listed =
         let long = site .numbers-long in

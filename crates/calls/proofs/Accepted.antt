@@ -354,7 +354,9 @@ read-right n bs t z =
 
 -- ---- the block reader
 
-block-given : (there : Bool) (bs : List ℕ) (i : ℕ) → ltb i (length bs / block-bytes) ≡ there → let o = block-or-end there i in Block-part bs i o ⊎ Block-end bs i o
+block-given :
+    (there : Bool) (bs : List ℕ) (i : ℕ) → ltb i (length bs / block-bytes) ≡ there → let o = block-or-end there i in
+    Block-part bs i o ⊎ Block-end bs i o
 unfolding block-or-end payload-at
 block-given true bs i e =
     let l : i < length bs / block-bytes = ltb-true i (length bs / block-bytes) e in

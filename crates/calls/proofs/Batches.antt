@@ -229,7 +229,8 @@ module _ (n : ℕ) (xs : List ℕ) (t : Tables) where
       go : ((R ≡ 0) × (o ≡ links-taken n xs t)) ⊎ ((R ≡ 0 → ⊥) × (o ≡ batched (value R 0) t)) →
           (o ≡ batched (value (o .reply .number) 0) t) ⊎ Batch-stopped n xs t (o .reply) (o .tables)
       go (inl (z, e)) =
-          inr (subst (λ (p : Batched). Batch-stopped n xs t (p .reply) (p .tables)) (sym e) (taken-stopped z (λ y. h (ap (λ (p : Batched). p .reply .number) e ∙ y))))
+          inr (subst (λ (p : Batched). Batch-stopped n xs t (p .reply) (p .tables)) (sym e)
+          (taken-stopped z (λ y. h (ap (λ (p : Batched). p .reply .number) e ∙ y))))
       go (inr (z, e)) = inl (e ∙ ap (λ (q : ℕ). batched (value q 0) t) (sym (ap (λ (p : Batched). p .reply .number) e)))
 
 -- ---- a batch of one link
@@ -255,7 +256,8 @@ module _ (n a b : ℕ) (t : Tables) (w : List ℕ) (room : n ≤ length w) where
 
   -- the link was asked for: taken up, or refused
   taken : (E : ℕ) → ends-refusal max-neighbours true n a b g ≡ E → L ≡ E → S ≡ 0 → Single
-  unfolding link-outcome link-refusal batch-outcome batch-refusal list-length links-taken by-number batch-stop batch-switches then unless tables-after graph-in sound
+  unfolding link-outcome link-refusal batch-outcome batch-refusal list-length links-taken by-number batch-stop batch-switches then unless
+      tables-after graph-in sound
   taken zero e l s = rw (l, s, e) (record { number = refl; value = refl; tables = refl })
   taken (suc q) e l s = rw (l, s, e) (record { number = refl; value = rw (ne-eqb (suc q) 0 (λ z. omega arith)) refl; tables = refl })
 

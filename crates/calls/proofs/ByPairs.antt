@@ -1,15 +1,14 @@
 -- Outcomes on tables that hold the book's pairs: questions 1 to 3 get yes, and the rest is what the graph of the pairs gives.
---   link-by-pairs .. tree-by-pairs   the outcome of each call that a worked case makes
+--   link-asked                       what the questions of a link call come to
+--   core-by-pairs .. tree-by-pairs   the outcome of each other call that a worked case makes
 use mathlib.Core.Path.{_≡_, refl, ap, _∙_}
 use mathlib.Core.Bool.{Bool, true, _&&_}
 use mathlib.Core.List.{List}
 use Prim.Native.Nat.{ℕ, _+_, _≤_}
-use lib.IntN.{pos}
 use lib.ListN.{length}
 use Rattle.mesh.specs.Limits.{max-neighbours}
 use Rattle.lists.specs.Lists.{overwrite}
 use Rattle.mesh.specs.Graph.{Link, Graph, graph}
-use Rattle.mesh.specs.Levels.{changed, step-of}
 use Rattle.mesh.specs.Tables.{Tables, graph-in, tables-of}
 use Rattle.mesh.specs.Sound.{sound}
 use Rattle.mesh.specs.Connected.{core-of, backbone}
@@ -21,8 +20,7 @@ use Rattle.mesh.proofs.Tables.Laws.{length-links-table}
 use Rattle.mesh.proofs.Images.Sites.{length-order}
 use Rattle.calls.specs.Questions.{lengths-of, answer-length, nodes-length, image-length, holds-image, ask, ends-refusal, level-refusal, site-refusal}
 use Rattle.calls.specs.Questions.{link-refusal, core-refusal, backbone-refusal, tree-refusal, write-refusal}
-use Rattle.calls.specs.Switches.{switch, switched}
-use Rattle.calls.specs.Outcomes.{by-number, linked-with, listing, treed, reply, value, link-outcome, listing-outcome, core-outcome, backbone-outcome, write-outcome, tree-outcome}
+use Rattle.calls.specs.Outcomes.{by-number, listing, treed, value, listing-outcome, core-outcome, backbone-outcome, write-outcome, tree-outcome}
 use Rattle.calls.proofs.QuestionLaws.{Site-lengths, ask-yes, true-answer-length, true-nodes-length, true-holds-image}
 use Rattle.calls.proofs.ChainLaws.{site-yes}
 use Rattle.calls.proofs.Holds.{Holds, read-back, is-sound}
@@ -48,16 +46,12 @@ module _ (n : ℕ) (ps : List Link) (t : Tables) (k : Holds n ps t) (least : 1 �
       (record { lent = record { least = least; most = k .most; lengths = lengths; further = e }; is-sound = is-sound n ps t k })
       ∙ ap later (read-back n ps t k)
 
-  pub link-by-pairs :
-      (up : Bool) (a b : ℕ) (w : List ℕ) → n ≤ length w → let cs = changed up a b g in
-      link-outcome up n a b t w
-      ≡ by-number
-      (ends-refusal max-neighbours up n a b g)
-      (linked-with (reply 0 (step-of up cs) (length cs)) (switched n (switch up a b) t) (overwrite cs w))
-      (λ q. linked-with (reply q (pos 0) 0) t w)
-  unfolding sound link-outcome link-refusal
-  link-by-pairs up a b w l =
-      rw (later-asked (answer-length n (length w)) (λ h. ends-refusal max-neighbours up n a b h) (true-answer-length n (length w) l), read-back n ps t k)
+  -- the questions of a link call come to those of its ends
+  pub link-asked :
+      (up : Bool) (a b w : ℕ) → n ≤ w →
+      link-refusal up n a b (lengths-of t) w (sound n t) (graph-in n (t .links)) ≡ ends-refusal max-neighbours up n a b g
+  unfolding link-refusal
+  link-asked up a b w l = later-asked (answer-length n w) (λ h. ends-refusal max-neighbours up n a b h) (true-answer-length n w l)
 
   pub core-by-pairs :
       (v i : ℕ) (w : List ℕ) → n ≤ length w → let radios = core-of g v i in

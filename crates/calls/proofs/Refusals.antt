@@ -27,7 +27,8 @@ pub value-keeps : (R x : ℕ) → let o = value-outcome R x in (o .number ≡ 0 
 unfolding value-outcome
 value-keeps R x = refused-is (λ (o : Value). o .number) (value-outcome R x) _ _ _ refl (λ q. refl) refl
 
-pub listing-keeps : (R x : ℕ) (new old : List ℕ) → let o = listing-outcome R x new old in (o .reply .number ≡ 0 → ⊥) → o ≡ listing (value (o .reply .number) 0) old
+pub listing-keeps :
+    (R x : ℕ) (new old : List ℕ) → let o = listing-outcome R x new old in (o .reply .number ≡ 0 → ⊥) → o ≡ listing (value (o .reply .number) 0) old
 unfolding listing-outcome
 listing-keeps R x new old = refused-is (λ (o : Listing). o .reply .number) (listing-outcome R x new old) _ _ _ refl (λ q. refl) refl
 

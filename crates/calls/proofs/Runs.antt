@@ -7,16 +7,15 @@ use mathlib.Core.Path.{_≡_, refl, ap, subst}
 use mathlib.Core.Bool.{Bool}
 use mathlib.Core.List.{List, [], _∷_, _++_}
 use Prim.Native.Nat.{ℕ, zero, suc}
-use lib.IntN.{ℤ, pos}
 use lib.ListN.{length, replicate, length-replicate}
-use Rattle.lists.specs.Lists.{overwrite}
 use Rattle.lists.proofs.Overwrite.{take-overwrite}
 use Rattle.mesh.specs.Levels.{changed}
 use Rattle.mesh.specs.Tables.{Tables, graph-in}
-use Rattle.calls.specs.Switches.{switch, switched}
-use Rattle.calls.specs.Outcomes.{by-number, Linked, linked-with, Heard, heard-with, reply, value, link-outcome, hear-outcome}
+use Rattle.mesh.specs.Sound.{sound}
+use Rattle.calls.specs.Questions.{lengths-of, link-refusal}
+use Rattle.calls.specs.Heard.{hear-refusal}
+use Rattle.calls.specs.Outcomes.{by-number, link-outcome, hear-outcome}
 use Rattle.calls.specs.Book.{Call, linking, hearing, Answer, counted}
-use Rattle.calls.specs.declared.Value.{Value}
 use Rattle.calls.specs.Runs.{Done, did, answer-of, done, Event, event, events, after}
 
 unfoldable pub Does : Call → (t : Tables) → (answers : List Answer) → (v : Tables) → Type 0
@@ -61,35 +60,25 @@ events-append (c ∷ cs) ds t =
 
 -- ---- whatever the lent table holds
 
-abbrev linked-answer : Linked → Done
-linked-answer o = did (answer-of (o .reply) (o .answer) ∷ []) (o .tables)
-
-link-alike :
-    (R : ℕ) (s : ℤ) (cs : List ℕ) (v t : Tables) (w x : List ℕ) →
-    linked-answer (by-number R (linked-with (reply 0 s (length cs)) v (overwrite cs w)) (λ q. linked-with (reply q (pos 0) 0) t w))
-    ≡ linked-answer (by-number R (linked-with (reply 0 s (length cs)) v (overwrite cs x)) (λ q. linked-with (reply q (pos 0) 0) t x))
-unfolding by-number answer-of
-link-alike zero s cs v t w x = rw (take-overwrite cs w, take-overwrite cs x)
-link-alike (suc q) s cs v t w x = refl
-
-abbrev heard-answer : Heard → Done
-heard-answer o = did (counted (o .reply .number) (o .reply .value) ∷ []) (o .tables)
-
-hear-alike :
-    (R : ℕ) (r : Value) (y : List ℕ) (v t : Tables) (w x : List ℕ) →
-    heard-answer (by-number R (heard-with r v y) (λ q. heard-with (value q 0) t w)) ≡ heard-answer (by-number R (heard-with r v y) (λ q. heard-with (value q 0) t x))
-unfolding by-number
-hear-alike zero r y v t w x = refl
-hear-alike (suc q) r y v t w x = refl
-
 pub link-done :
     (up : Bool) (n a b : ℕ) (t : Tables) (w : List ℕ) → let o = link-outcome up n a b t w in
     did (answer-of (o .reply) (o .answer) ∷ []) (o .tables) ≡ done (linking up n a b (length w)) t
-unfolding done link-outcome
-link-done up n a b t w = rw length-replicate (link-alike _ _ (changed up a b (graph-in n (t .links))) (switched n (switch up a b) t) t w (replicate (length w) 0))
+unfolding done link-outcome link-refusal sound by-number answer-of
+link-done up n a b t w = go (link-refusal up n a b (lengths-of t) (length w) (sound n t) (graph-in n (t .links))) refl
+  where
+    go : (R : ℕ) → link-refusal up n a b (lengths-of t) (length w) (sound n t) (graph-in n (t .links)) ≡ R → let o = link-outcome up n a b t w in
+        did (answer-of (o .reply) (o .answer) ∷ []) (o .tables) ≡ done (linking up n a b (length w)) t
+    go zero e =
+        let cs = changed up a b (graph-in n (t .links)) in rw (length-replicate, e, take-overwrite cs w, take-overwrite cs (replicate (length w) 0))
+    go (suc q) e = rw (length-replicate, e)
 
 pub hear-done :
     (n : ℕ) (hs : List ℕ) (t : Tables) (w : List ℕ) → let o = hear-outcome n hs t w in
     did (counted (o .reply .number) (o .reply .value) ∷ []) (o .tables) ≡ done (hearing n hs (length w)) t
-unfolding done hear-outcome
-hear-done n hs t w = rw length-replicate (hear-alike _ _ _ _ t w (replicate (length w) 0))
+unfolding done hear-outcome by-number
+hear-done n hs t w = go (hear-refusal n (lengths-of t) hs (length w) (sound n t)) refl
+  where
+    go : (R : ℕ) → hear-refusal n (lengths-of t) hs (length w) (sound n t) ≡ R → let o = hear-outcome n hs t w in
+        did (counted (o .reply .number) (o .reply .value) ∷ []) (o .tables) ≡ done (hearing n hs (length w)) t
+    go zero e = rw (length-replicate, e)
+    go (suc q) e = rw (length-replicate, e)

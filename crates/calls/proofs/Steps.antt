@@ -21,7 +21,6 @@ use Rattle.lists.proofs.Overwrite.{take-overwrite}
 use Rattle.calls.specs.Questions.{lengths-of, answer-length, ask, ends-then, ends-refusal, is-proposal, tables-refusal, link-refusal}
 use Rattle.calls.specs.Questions.{commit-refusal, read-refusal}
 use Rattle.calls.specs.Switches.{Switch, switch, pairs-after, tables-after, All-allowed}
-use Rattle.calls.specs.Contracts.{Clear-contract, Read-contract}
 use Rattle.calls.specs.Batches.{list-length, batch-refusal, batch-switches, batch-stop}
 use Rattle.calls.specs.Heard.{heard-lengths, heard-proper, agreed-few, hear-refusal, one-sided-count, heard-switches}
 use Rattle.calls.specs.Marks.{store-length, marks-good, is-marked, has-place, mark-refusal, set-refusal, named-refusal, mark-image}
@@ -126,13 +125,12 @@ module _ (n : ℕ) (ps : List Link) (t : Tables) (k : Holds n ps t) where
   -- ---- clearing and reading
 
   clear-start : (m : ℕ) → tables-refusal m (lengths-of t) ≡ 0 → Start n [] (beginning-tables (from-clearing m))
-  unfolding tables-refusal Clear-contract
+  unfolding tables-refusal
   clear-start m p =
       subst (λ (j : ℕ). Start j [] (beginning-tables (from-clearing m))) (same-n n ps t k m true (lent-zero m (lengths-of t) true 0 p .0))
       (cleared m t _ (sym (clear-is m t p)))
 
   read-start : (m : ℕ) (bs : List ℕ) → read-refusal m (lengths-of t) bs ≡ 0 → Start n (image-links m bs) (beginning-tables (from-image m bs))
-  unfolding Read-contract
   read-start m bs p =
       subst (λ (j : ℕ). Start j (image-links m bs) (beginning-tables (from-image m bs))) (same-n n ps t k m true (read-zero m (lengths-of t) bs p .0))
       (read m bs t _ (sym (read-is m bs t p)))
@@ -252,7 +250,8 @@ module _ (n : ℕ) (ps : List Link) (t : Tables) (k : Holds n ps t) where
 
   return-step :
       (R m : ℕ) (x bs : List ℕ) → named-refusal m (lengths-of t) true x bs ≡ R → let o = return-outcome m x bs t in
-      Stepped n ps (unless-refused R (outcome-with (one (plain 0)) (some (from-image m (mark-image m x bs))) [] (returns x))) t (one (plain (o .reply))) (o .tables)
+      Stepped n ps (unless-refused R (outcome-with (one (plain 0)) (some (from-image m (mark-image m x bs))) [] (returns x))) t
+      (one (plain (o .reply))) (o .tables)
   unfolding return-outcome named-refusal by-number beginning-tables
   return-step zero m x bs p =
       let a = named-zero m (lengths-of t) true x bs p in

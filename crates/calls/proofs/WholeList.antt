@@ -16,7 +16,6 @@ use Rattle.mesh.proofs.Cores.Peeling.{number-core, getD-numbers}
 use Rattle.calls.specs.Questions.{lengths-of, answer-length, tables-refusal, read-refusal, link-refusal}
 use Rattle.calls.specs.Outcomes.{Numbered, numbered, clear-outcome, read-outcome}
 use Rattle.calls.specs.Switches.{Switch, switch, pairs-after, tables-after}
-use Rattle.calls.specs.Contracts.{Clear-contract, Read-contract}
 use Rattle.calls.specs.Book.{Call, linking, given, Answer, plain, reported, outcome-of, unless-refused, outcome, pairs-of}
 use Rattle.calls.specs.Book.{booked, book-answers, book-after, from-clearing, from-image, beginning-pairs, radios, beginning-tables, fresh, past, history, past-of}
 use Rattle.calls.specs.Runs.{Event, event, events, after, givens, answers}
@@ -104,15 +103,16 @@ k-order-at n ps v k = rw (k .is) (k .valid .k-order)
 -- ---- the start
 
 -- the number 0 is no refusal, and the tables are the ones that the list begins from
-cleared-is : (n : ℕ) (t v : Tables) → Clear-contract n t 0 v → (tables-refusal n (lengths-of t) ≡ 0) × (v ≡ beginning-tables (from-clearing n))
-unfolding Clear-contract clear-outcome
+cleared-is : (n : ℕ) (t v : Tables) → numbered 0 v ≡ clear-outcome n t → (tables-refusal n (lengths-of t) ≡ 0) × (v ≡ beginning-tables (from-clearing n))
+unfolding clear-outcome
 cleared-is n t v d =
     let p = accepted-is (λ (o : Numbered). o .reply) (numbered 0 v) (tables-refusal n (lengths-of t)) _ _ (λ q. refl) d refl .0 in
     (p, ap (λ (o : Numbered). o .tables) (d ∙ clear-is n t p))
 
 read-in-is :
-    (n : ℕ) (bs : List ℕ) (t v : Tables) → Read-contract n bs t 0 v → (read-refusal n (lengths-of t) bs ≡ 0) × (v ≡ beginning-tables (from-image n bs))
-unfolding Read-contract read-outcome
+    (n : ℕ) (bs : List ℕ) (t v : Tables) → numbered 0 v ≡ read-outcome n bs t →
+    (read-refusal n (lengths-of t) bs ≡ 0) × (v ≡ beginning-tables (from-image n bs))
+unfolding read-outcome
 read-in-is n bs t v d =
     let p = accepted-is (λ (o : Numbered). o .reply) (numbered 0 v) (read-refusal n (lengths-of t) bs) _ _ (λ q. refl) d refl .0 in
     (p, ap (λ (o : Numbered). o .tables) (d ∙ read-is n bs t p))

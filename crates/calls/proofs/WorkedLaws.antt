@@ -8,14 +8,14 @@ use mathlib.Core.List.{List, [], _∷_, _++_, flatMap}
 use Prim.Native.Nat.{ℕ, zero, suc, _+_, _*_, _≤_}
 use native.Mathlib.Omega.{arith}
 use lib.Dec.{eqb}
-use lib.IntN.{pos}
 use lib.ListN.{length, take, length-map}
 use borrow.Author.Tests.{eqb-true, eq-eqb}
 use Rattle.mesh.specs.Limits.{max-neighbours, row-bytes}
 use Rattle.lists.specs.Lists.{range, same, overwrite}
 use Rattle.mesh.specs.Graph.{Graph, graph, radios}
-use Rattle.mesh.specs.Levels.{changed, step-of}
+use Rattle.mesh.specs.Levels.{changed}
 use Rattle.mesh.specs.Tables.{Tables, graph-in, tables-of}
+use Rattle.mesh.specs.Sound.{sound}
 use Rattle.mesh.specs.Connected.{core-of, backbone}
 use Rattle.mesh.specs.Tree.{node, node-name, tree, node-names}
 use Rattle.mesh.specs.Image.{long, image-of}
@@ -25,9 +25,9 @@ use Rattle.lists.proofs.Range.{length-range}
 use Rattle.lists.proofs.All.{same-refl, same-eq}
 use Rattle.lists.proofs.Overwrite.{take-overwrite}
 use Rattle.mesh.proofs.Images.Of.{length-image-of}
-use Rattle.calls.specs.Questions.{lengths-of, size-good, level-refusal, image-length, tables-refusal, ends-refusal, read-refusal}
+use Rattle.calls.specs.Questions.{link-refusal, lengths-of, size-good, level-refusal, image-length, tables-refusal, ends-refusal, read-refusal}
 use Rattle.calls.specs.Switches.{Switch, switched}
-use Rattle.calls.specs.Outcomes.{by-number, Numbered, Listing, Linked, linked-with, reply, value, listing-outcome, clear-outcome, read-outcome, write-outcome, tree-outcome}
+use Rattle.calls.specs.Outcomes.{link-outcome, by-number, Numbered, Listing, reply, value, listing-outcome, clear-outcome, read-outcome, write-outcome, tree-outcome}
 use Rattle.calls.specs.Book.{beginning-tables}
 use Rattle.calls.specs.Worked.{entries, lent-tables, lent-nodes, Left, left, left-by, played, after, Want, last-answers, all-numbers, whole-order}
 use Rattle.calls.specs.Worked.{shell-tree, connected-core, backbone-radios, image-checks, printed, soundness, image-reading, same-nodes, block-checks}
@@ -37,7 +37,7 @@ use Rattle.calls.proofs.QuestionLaws.{size-good-true}
 use Rattle.calls.proofs.ChainLaws.{lent-yes, ends-zero}
 use Rattle.calls.proofs.Holds.{Holds, clear-is, clear-holds, read-back, switched-holds}
 use Rattle.calls.proofs.Steps.{answer-accepted, answer-refused}
-use Rattle.calls.proofs.ByPairs.{link-by-pairs, core-by-pairs, backbone-by-pairs, write-by-pairs, tree-by-pairs}
+use Rattle.calls.proofs.ByPairs.{link-asked, core-by-pairs, backbone-by-pairs, write-by-pairs, tree-by-pairs}
 use Rattle.calls.proofs.WorkedState.{State, state, carried-out, state-played, state-after, right-lengths, state-meets, state-meets-all, state-right}
 use Rattle.calls.proofs.WorkedState.{all-state-right}
 
@@ -126,7 +126,8 @@ module _ (f : ℕ → ℕ) (n : ℕ) (size : size-good n ≡ true) where
         further = refl;
       }))
 
-  alike-cleared : (eqb (clear-outcome n (lent-tables f n) .reply) 0 ≡ true) × Alike n (state [] (range 0 n) []) (left (clear-outcome n (lent-tables f n) .tables) [])
+  alike-cleared :
+      let o = clear-outcome n (lent-tables f n) in (eqb (o .reply) 0 ≡ true) × Alike n (state [] (range 0 n) []) (left (o .tables) [])
   unfolding beginning-tables tables-of
   alike-cleared =
       rw (clear-is n (lent-tables f n) cleared) (refl, record { holds = clear-holds n (lent-tables f n) cleared; order = refl; answers = refl })
@@ -140,24 +141,27 @@ module _ (f : ℕ → ℕ) (n : ℕ) (size : size-good n ≡ true) where
     abbrev changes : List ℕ
     changes = changed (c .up) (c .a) (c .b) g
 
-    abbrev outcome-by : ℕ → Linked
-    outcome-by R =
-        by-number R (linked-with (reply 0 (step-of (c .up) changes) (length changes)) (switched n c (s .tables)) (overwrite changes (entries f n))) (
-        λ x. linked-with (reply x (pos 0) 0) (s .tables) (entries f n))
+    abbrev asked :
+        link-refusal (c .up) n (c .a) (c .b) (lengths-of (s .tables)) (length (entries f n)) (sound n (s .tables)) (graph-in n (s .tables .links))
+        ≡ ends-refusal max-neighbours (c .up) n (c .a) (c .b) g
+    asked = link-asked n (q .pairs) (s .tables) (k .holds) least (c .up) (c .a) (c .b) (length (entries f n)) enough-entries
 
-    alike-by : (R : ℕ) → ends-refusal max-neighbours (c .up) n (c .a) (c .b) g ≡ R → Alike n (carried-out R n c q) (left-by s (outcome-by R))
-    unfolding carried-out left-by by-number switched
-    alike-by zero e = record {
-      holds = switched-holds n (q .pairs) (s .tables) (k .holds) c (ends-zero max-neighbours (c .up) (c .a) (c .b) g e);
-      order = rw (read-back n (q .pairs) (s .tables) (k .holds), k .order);
-      answers = rw (k .answers, answer-accepted (c .up) _ changes (entries f n) _ refl refl refl refl);
-    }
-    alike-by (suc x) e = record { holds = k .holds; order = k .order; answers = rw (k .answers, answer-refused _ (suc x) (entries f n) refl refl refl) }
+    alike-by : (R : ℕ) → ends-refusal max-neighbours (c .up) n (c .a) (c .b) g ≡ R → Alike n (carried-out R n c q) (played f n c s)
+    unfolding carried-out played left-by link-outcome link-refusal sound by-number switched
+    alike-by zero e =
+        let same : graph-in n (s .tables .links) ≡ g = read-back n (q .pairs) (s .tables) (k .holds) in
+        rw (asked ∙ e)
+        (record {
+          holds = switched-holds n (q .pairs) (s .tables) (k .holds) c (ends-zero max-neighbours (c .up) (c .a) (c .b) g e);
+          order = rw (same, k .order);
+          answers = rw (same, k .answers, answer-accepted (c .up) _ changes (entries f n) _ refl refl refl refl);
+        })
+    alike-by (suc x) e =
+        rw (asked ∙ e) (record { holds = k .holds; order = k .order; answers = rw (k .answers, answer-refused _ (suc x) (entries f n) refl refl refl) })
 
     alike-played : Alike n (state-played n c q) (played f n c s)
-    unfolding played state-played
-    alike-played =
-        rw (link-by-pairs n (q .pairs) (s .tables) (k .holds) least (c .up) (c .a) (c .b) (entries f n) enough-entries) (alike-by _ refl)
+    unfolding state-played
+    alike-played = alike-by _ refl
 
   alike-after : (cs : List Switch) (q : State) (s : Left) → Alike n q s → Alike n (state-after n cs q) (after f n cs s)
   unfolding after state-after

@@ -4,7 +4,7 @@
 --   Switching         links taken up or down one after the other, each keeping that
 --   Call-kept         what a call of the list keeps, by the book's outcome of it
 --   Kept              what the list keeps: tables, answers, each call, each accepted link call
---   Demand-3          every run from such a start keeps it
+--   Demand-3          every list of calls from such a start keeps it
 -- The proof is `demand-3` in proofs/WholeList.antt. Definitions only.
 use mathlib.Core.Path.{_≡_}
 use mathlib.Core.Logic.{_⊎_}
@@ -22,7 +22,7 @@ use Rattle.mesh.specs.Tables.{Tables, put-link, links-table, graph-in}
 use Rattle.mesh.specs.Sound.{sound, number-in}
 use Rattle.mesh.specs.Connected.{Reachable}
 use Rattle.mesh.specs.Image.{image-links}
-use Rattle.calls.specs.Contracts.{Clear-contract, Read-contract}
+use Rattle.calls.specs.Outcomes.{numbered, clear-outcome, read-outcome}
 use Rattle.calls.specs.Switches.{Switch, pairs-after, tables-after}
 use Rattle.calls.specs.Book.{Call, linking, Answer, reported, Outcome, given, booked, book-answers, book-after, Beginning, from-clearing, from-image}
 use Rattle.calls.specs.Book.{beginning-pairs, radios, beginning-tables, History, history}
@@ -86,8 +86,8 @@ pub data Switching (n : ℕ) : List Link → List Switch → Tables → Tables �
 
 -- left by an accepted clearing: no pairs; left by an accepted reading: the pairs that the image lists
 pub data Start : (n : ℕ) → (pairs : List Link) → Tables → Type 0 where
-  cleared : (n : ℕ) (t v : Tables) → Clear-contract n t 0 v → Start n [] v
-  read : (n : ℕ) (image : List ℕ) (t v : Tables) → Read-contract n image t 0 v → Start n (image-links n image) v
+  cleared : (n : ℕ) (t v : Tables) → numbered 0 v ≡ clear-outcome n t → Start n [] v
+  read : (n : ℕ) (image : List ℕ) (t v : Tables) → numbered 0 v ≡ read-outcome n image t → Start n (image-links n image) v
 
 -- what a list that starts there began from
 unfoldable pub beginning : {n : ℕ} {ps : List Link} {t : Tables} → Start n ps t → Beginning

@@ -1,9 +1,9 @@
 -- What calls promise, in the order in which a reader needs it. `Sheet` is the printed page, `Script` the script that rebuilds a site;
--- `Outcomes` are the outcomes worked out; `Results` is what a caller has after an accepted call (property 2); `Older` is what calls give of older tables and images; `FormerDemand` is the statement of a
--- corollary; `Replay` is what the replay program prints;
--- `Heard` and `Hearing` are W-205, links that both ends hear; `Lift` and `LiftOutcome` are what lifts a radio (W-212); `Marks`, `MarkOutcomes`
--- and `MarkResults` are the named marks of W-211;
--- `Worked` and `Cases` are the worked cases of document 01, `SheetCases` the site sheet's.
+-- `Outcomes`, `MarkOutcomes` and `LiftOutcome` are what each call comes to, worked out; `Contracts` names the equations with them;
+-- `Results` is what a caller has after an accepted call (property 2); `Older` is what calls give of older tables and images; `Replay` is
+-- what the replay program prints; `Heard` and `Hearing` are W-205, links that both ends hear; `Lift` is what lifts a radio (W-212);
+-- `Marks` and `MarkResults` are the named marks of W-211; `Worked` and `Cases` are the worked cases of document 01, `SheetCases` the
+-- site sheet's.
 pub mod Sheet
 pub mod Script
 pub mod Questions
@@ -23,7 +23,6 @@ pub mod Older
 pub mod Book
 pub mod Runs
 pub mod Demand
-pub mod FormerDemand
 pub mod Replay
 pub mod Worked
 pub mod Cases

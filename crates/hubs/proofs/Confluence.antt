@@ -73,7 +73,7 @@ record Both (n : ℕ) (v w : Tables) : Type 0 where
   second : Holds n pairs w
 
 cleared-holds : (n : ℕ) (t : Tables) → Cleared n t → Holds n [] t
-cleared-holds n t c = start (cleared n (c .before) t (c .contract))
+cleared-holds n t c = start (cleared n (c .before) t (c .cleared))
 
 both : Two-hubs Both
 unfolding Two-hubs

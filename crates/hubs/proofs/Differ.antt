@@ -15,7 +15,7 @@ use Rattle.lists.proofs.Tests.{and-left, and-right}
 use Rattle.lists.proofs.All.{same-eq}
 use Rattle.mesh.specs.Tables.{Tables}
 use Rattle.calls.specs.Switches.{Switch}
-use Rattle.calls.specs.Outcomes.{clear-outcome, link-outcome}
+use Rattle.calls.specs.Outcomes.{Numbered, numbered, clear-outcome, link-outcome}
 use Rattle.calls.specs.Book.{Answer, linking, reported}
 use Rattle.calls.specs.Runs.{answer-of, Event, event}
 use Rattle.calls.specs.Runs as runs
@@ -23,7 +23,6 @@ use Rattle.calls.proofs.Runs.{Does, Run, ended, next, called, run-is, link-done
 use Rattle.calls.specs.Questions.{same-step}
 use Rattle.calls.specs.Worked.{entries, lent-tables, Left, left, left-by, played, after, up, risen, Want, last-answers, all-numbers, whole-order}
 use Rattle.calls.specs.Worked.{row, same-answers, meets, meets-all, right, All-right}
-use Rattle.calls.specs.Contracts.{Clear-contract}
 use Rattle.hubs.specs.Hubs.{Cleared, Singles, single, Two-hubs, Equal-orders, Equal-images}
 use Rattle.hubs.specs.Hubs as hubs
 use Rattle.hubs.specs.Cases.{one-hub, other-hub, cases}
@@ -65,7 +64,7 @@ abbrev lent : Tables
 lent = lent-tables zeros 4
 
 abbrev first : Left
-first = left (clear-outcome 4 lent .1) []
+first = left (clear-outcome 4 lent .tables) []
 
 -- two calls, none refused, and the order that they leave
 record Played (c d : Switch) (xs : List ℕ) : Type 0 where
@@ -83,16 +82,16 @@ first-same x y xs ys p =
     let f = same-answers xs ys in
     (eqb-true (x .number) (y .number) (and-left a b (and-left (a && b) (e && f) p)), and-right e f (and-right (a && b) (e && f) p))
 
-zero-first : (o : ℕ × Tables) → o .0 ≡ 0 → (0, o .1) ≡ o
+zero-first : (o : Numbered) → o .reply ≡ 0 → numbered 0 (o .tables) ≡ o
 zero-first o e = rw e
 
 by-row :
     (c d : Switch) (cs ds ns xs : List ℕ) (ws : List Want) →
     right zeros (row 4 (c ∷ d ∷ []) (last-answers (risen cs ∷ risen ds ∷ []) ∷ all-numbers ns ∷ whole-order xs ∷ ws)) ≡ true → Played c d xs
-unfolding Clear-contract right meets-all meets All-taken after played left-by risen reported answer-of
+unfolding right meets-all meets All-taken after played left-by risen reported answer-of
 by-row c d cs ds ns xs ws p =
     let s = after zeros 4 (c ∷ d ∷ []) first in
-    let z = eqb (clear-outcome 4 lent .0) 0 in
+    let z = eqb (clear-outcome 4 lent .reply) 0 in
     let later = meets-all zeros 4 s (all-numbers ns ∷ whole-order xs ∷ ws) in
     let answered = meets zeros 4 s (last-answers (risen cs ∷ risen ds ∷ [])) in
     let q = and-right z (answered && later) p in
@@ -100,9 +99,9 @@ by-row c d cs ds ns xs ws p =
     let two = first-same _ _ _ _ (one .1) in
     let rest = meets-all zeros 4 s (whole-order xs ∷ ws) in
     let o = and-right (same (s .tables .numbers) ns) rest (and-right answered later q) in
-    let nought : clear-outcome 4 lent .0 ≡ 0 = eqb-true (clear-outcome 4 lent .0) 0 (and-left z (answered && later) p) in
+    let nought : clear-outcome 4 lent .reply ≡ 0 = eqb-true (clear-outcome 4 lent .reply) 0 (and-left z (answered && later) p) in
     record {
-      cleared = record { before = lent; contract = zero-first (clear-outcome 4 lent) nought };
+      cleared = record { before = lent; cleared = zero-first (clear-outcome 4 lent) nought };
       taken = (one .0, (two .0, tt));
       order = same-eq (s .tables .order) xs (and-left (same (s .tables .order) xs) (meets-all zeros 4 s ws) o);
     }

@@ -20,11 +20,9 @@ use Rattle.mesh.specs.Staircase.{staircase}
 use Rattle.mesh.specs.Image.{image-of}
 use Rattle.mesh.specs.declared.Node.{Node}
 use Rattle.calls.specs.Switches.{Switch, switch}
-use Rattle.calls.specs.Outcomes.{backbone-outcome, tree-outcome, staircase-outcome}
-use Rattle.calls.specs.Contracts.{Clear-contract}
+use Rattle.calls.specs.Outcomes.{numbered, clear-outcome, backbone-outcome, tree-outcome, staircase-outcome}
 use Rattle.calls.specs.Book.{Answer, Call, linking, other}
 use Rattle.calls.specs.Runs.{Event, event, events, after}
-use Rattle.calls.specs.declared.Value.{Value}
 
 -- ---- the same calls
 
@@ -46,7 +44,7 @@ Same-calls ss rs = (up : Bool) (a b : ℕ) → times up a b ss ≡ times up a b 
 -- whatever the tables held before
 pub record Cleared (n : ℕ) (t : Tables) : Type 0 where
   pub before : Tables
-  pub contract : Clear-contract n before 0 t
+  pub cleared : numbered 0 t ≡ clear-outcome n before
 
 -- single link calls only, none refused. A call that only reads is `other` to a run, and leaves the tables
 pub data Singles (n : ℕ) : List Event → List Switch → Type 0 where

@@ -1,5 +1,5 @@
 -- The outcomes of reading and of asking an image alone: the first question that gets no, or the tables of the image.
-use mathlib.Core.Path.{_≡_, refl, sym, ap, subst, _∙_}
+use mathlib.Core.Path.{_≡_, refl, sym, ap, _∙_}
 use mathlib.Core.Bool.{Bool, true, false, _&&_}
 use mathlib.Core.List.{List}
 use Prim.Native.Nat.{ℕ, _*_, _≤_}
@@ -9,10 +9,9 @@ use Rattle.mesh.specs.Tables.{Tables}
 use Rattle.mesh.specs.Image.{word-at}
 use Rattle.mesh.proofs.Sizes.{size-good-true, true-size-good}
 use Rattle.calls.specs.Questions.{ask, Lengths, lengths-of, site-lengths, lent-refusal, tables-refusal, source-refusal, image-refusal, alone-refusal}
-use Rattle.calls.specs.Fields.{By-number, Read-accepted, Tables-refused}
+use Rattle.calls.specs.Outcomes.{read-outcome}
 use Rattle.calls.specs.Questions.{read-refusal}
 use Rattle.calls.specs.Contracts.{Read-contract}
-use Rattle.calls.proofs.FieldLaws.{read-fields}
 use Rattle.calls.proofs.ContractLaws.{by-refused}
 use Rattle.calls.proofs.QuestionLaws.{ask-yes}
 use Rattle.calls.proofs.ChainLaws.{Lent-good, lent-zero, lent-yes, Blocks-good, blocks-yes}
@@ -65,10 +64,8 @@ module _ (n : ℕ) (bs : List ℕ) (t : Tables) where
   l = lengths-of t
 
   read-refused : (q : ℕ) → q ≡ read-refusal n l bs → (q ≡ 0 → ⊥) → Read-contract n bs t q t
-  read-refused q e h =
-      read-fields n bs t q t .1
-      (by-refused (read-refusal n l bs) (Read-accepted n bs q t) (λ p. Tables-refused p q t t) (λ z. h (e ∙ z))
-      (record { number = e; links = refl; numbers = refl; order = refl }))
+  unfolding Read-contract read-outcome
+  read-refused q e h = by-refused _ _ _ (λ z. h (e ∙ z)) (rw e)
 
   -- question 1 or 2 got no
   lent-no : (tables-refusal n l ≡ 0 → ⊥) → read-refusal n l bs ≡ tables-refusal n l
@@ -104,7 +101,5 @@ module _ (n : ℕ) (bs : List ℕ) (t : Tables) where
     read-sized = (lent .lengths .links, lent .lengths .numbers, lent .lengths .order)
 
     pub read-asked : (p : ℕ) → p ≡ header-refusal bs → p ≡ 0 → (r : ℕ) (v : Tables) → Site-read n bs t r v → Read-contract n bs t r v
-    unfolding Site-read
-    read-asked p e z r v s =
-        read-fields n bs t r v .1
-        (subst (λ (k : ℕ). By-number k (Read-accepted n bs r v) (λ x. Tables-refused x r t v)) (sym (asked ∙ asked-last n bs read-size p e z)) s)
+    unfolding Site-read Read-contract
+    read-asked p e z r v s = s (asked ∙ asked-last n bs read-size p e z)

@@ -3,7 +3,7 @@ use mathlib.Core.Path.{_≡_, refl, sym, ap, subst, _∙_}
 use mathlib.Core.Logic.{_⊎_, inl, inr}
 use mathlib.Core.Bool.{Bool, true, false, _&&_}
 use mathlib.Core.List.{List}
-use Prim.Native.Nat.{ℕ, _+_, _*_, _≤_, _<_}
+use Prim.Native.Nat.{ℕ, _*_, _≤_, _<_}
 use native.Mathlib.Omega.{arith}
 use lib.Dec.{leb, eqb}
 use lib.ListN.{length, getD, take}
@@ -14,7 +14,7 @@ use Rattle.lists.specs.Lists.{overwrite, Bytes}
 use Rattle.mesh.specs.Graph.{Link, Graph, graph, proper, ascending}
 use Rattle.mesh.specs.Cores.{number, numbers}
 use Rattle.mesh.specs.Orders.{is-k-order}
-use Rattle.mesh.specs.Tables.{Tables, tables, links-table}
+use Rattle.mesh.specs.Tables.{tables-of, Tables, tables, links-table}
 use Rattle.mesh.specs.Image.{block-bytes, block-count, word-at, image-order, image-links, image-graph, checks-good, is-image}
 use Rattle.lists.proofs.Tests.{bool-cases, never, iff-eq, and-left, and-right, and-both}
 use Rattle.lists.proofs.Map.{getD-map-range}
@@ -23,7 +23,6 @@ use Rattle.mesh.proofs.Tables.Sites.{image-valid}
 use Rattle.mesh.proofs.Images.Tables.{number-most}
 use Rattle.mesh.proofs.Images.Canonical.{length-image-order}
 use Rattle.mesh.specs.Valid.{Valid}
-use Rattle.calls.specs.Fields.{Read-accepted}
 use Rattle.tables.specs.Widths.{values}
 use Rattle.tables.proofs.WidthLaws.{length-values, values-below}
 use Rattle.lists.proofs.Overwrite.{overwrite-take}
@@ -157,11 +156,11 @@ module _ (n : ℕ) (bs : List ℕ) (small : n ≤ max-radios) (xs ns : List ℕ)
   -- what the writers of the three tables leave
   pub site-accepted : (m : ℕ) (t : Tables) (ls ks os : List ℕ) → m ≡ word-at bs 6 → length (t .numbers) ≡ n → length (t .order) ≡ n
       → ls ≡ links-table (graph n (links-up-to n bs m)) → ks ≡ values 8 (λ v. getD ns v 0) (length (t .numbers))
-      → os ≡ overwrite (take (length (t .order)) xs) (t .order) → Read-accepted n bs 0 (tables ls ks os)
-  unfolding image-graph image-links links-up-to
-  site-accepted m t ls ks os counted kn on le ke oe = record {
-    number = refl;
-    links = le ∙ ap (λ (k : ℕ). links-table (graph n (links-up-to n bs k))) counted;
-    numbers = ke ∙ ap (values 8 (λ v. getD ns v 0)) kn ∙ numbers-written;
-    order = oe ∙ overwrite-take xs (t .order) (ap length (d .order-is yes) ∙ length-image-order n bs ∙ sym on) ∙ d .order-is yes;
-  }
+      → os ≡ overwrite (take (length (t .order)) xs) (t .order) → tables ls ks os ≡ tables-of (image-graph n bs) (image-order n bs)
+  unfolding image-graph image-links links-up-to tables-of
+  site-accepted m t ls ks os counted kn on le ke oe =
+      rw (
+        le ∙ ap (λ (k : ℕ). links-table (graph n (links-up-to n bs k))) counted,
+        ke ∙ ap (values 8 (λ v. getD ns v 0)) kn ∙ numbers-written,
+        oe ∙ overwrite-take xs (t .order) (ap length (d .order-is yes) ∙ length-image-order n bs ∙ sym on) ∙ d .order-is yes,
+      )

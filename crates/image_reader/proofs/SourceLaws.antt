@@ -14,13 +14,13 @@ use native.Mathlib.Omega.{arith}
 use lib.Dec.{eqb}
 use borrow.Author.Tests.{eq-eqb, ne-eqb}
 use Rattle.mesh.specs.Limits.{size-good}
-use Rattle.mesh.specs.Tables.{Tables}
-use Rattle.mesh.specs.Image.{word-at, whole-blocks, checks-good, is-image, other-size}
+use Rattle.mesh.specs.Tables.{Tables, tables-of}
+use Rattle.mesh.specs.Image.{word-at, image-graph, image-order, whole-blocks, checks-good, is-image, other-size}
 use Rattle.lists.proofs.Tests.{bool-cases, never, and-both}
 use Rattle.mesh.proofs.Sizes.{size-good-true}
 use Rattle.mesh.proofs.Images.Sites.{is-image-radios}
 use Rattle.calls.specs.Questions.{ask, blocks-refusal, block-refusal, source-refusal, image-refusal}
-use Rattle.calls.specs.Fields.{Read-accepted, Tables-refused}
+use Rattle.calls.specs.Outcomes.{read-outcome}
 use Rattle.calls.proofs.QuestionLaws.{ask-zero}
 use Rattle.calls.proofs.ContractLaws.{by-accepted, by-refused}
 use Rattle.calls.proofs.ChainLaws.{Blocks-good, blocks-zero, blocks-yes}
@@ -122,15 +122,13 @@ module _ (n m : ℕ) (bs : List ℕ) (one : size-good n ≡ true) (m-is : m ≡ 
 -- ---- the tables
 
 pub source-refused : (n : ℕ) (bs : List ℕ) (t : Tables) (xs ns : List ℕ) (r : ℕ) → Source-decided n bs xs ns r → (r ≡ 0 → ⊥) → Site-read n bs t r t
-unfolding Site-read
-source-refused n bs t xs ns r d h =
-    by-refused (source-refusal n bs) (Read-accepted n bs r t) (λ q. Tables-refused q r t t) (λ z. h (d .answer ∙ z))
-    (record { number = d .answer; links = refl; numbers = refl; order = refl })
+unfolding Site-read read-outcome
+source-refused n bs t xs ns r d h same = by-refused _ _ _ (λ z. h (d .answer ∙ sym same ∙ z)) (rw (d .answer ∙ sym same))
 
-pub source-accepted : (n : ℕ) (bs : List ℕ) (t : Tables) (xs ns : List ℕ) (q r : ℕ) (v : Tables) → Source-decided n bs xs ns q → q ≡ 0
-    → Read-accepted n bs r v → Site-read n bs t r v
-unfolding Site-read
-source-accepted n bs t xs ns q r v d e a = by-accepted (source-refusal n bs) (λ k. Tables-refused k r t v) (sym (d .answer) ∙ e) a
+pub source-accepted : (n : ℕ) (bs : List ℕ) (t : Tables) (xs ns : List ℕ) (q : ℕ) (v : Tables) → Source-decided n bs xs ns q → q ≡ 0
+    → v ≡ tables-of (image-graph n bs) (image-order n bs) → Site-read n bs t 0 v
+unfolding Site-read read-outcome
+source-accepted n bs t xs ns q v d e a same = by-accepted _ _ (same ∙ sym (d .answer) ∙ e) (rw a)
 
 -- the bytes are then an image of n radios
 pub source-site : (n : ℕ) (bs xs ns : List ℕ) (r : ℕ) → Source-decided n bs xs ns r → r ≡ 0 → Image-decided n bs xs ns true

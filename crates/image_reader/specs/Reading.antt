@@ -16,8 +16,8 @@ use Rattle.mesh.specs.Limits.{max-radios, size-good}
 use Rattle.mesh.specs.Cores.{number}
 use Rattle.mesh.specs.Tables.{Tables}
 use Rattle.mesh.specs.Image.{word-at, image-order, image-graph, checks-good, is-image}
-use Rattle.calls.specs.Questions.{ask, blocks-refusal, source-refusal}
-use Rattle.calls.specs.Fields.{By-number, Read-accepted, Tables-refused}
+use Rattle.calls.specs.Questions.{ask, lengths-of, blocks-refusal, source-refusal, read-refusal}
+use Rattle.calls.specs.Outcomes.{numbered, read-outcome}
 
 unfoldable pub header-refusal : (image : List ℕ) → ℕ
 header-refusal bs = blocks-refusal bs (ask 11 (size-good (word-at bs 4)) 0)
@@ -46,6 +46,6 @@ pub record Source-decided (n : ℕ) (image order numbers : List ℕ) (r : ℕ) :
   pub order-is : r ≡ 0 → order ≡ image-order n image
   pub numbers-are : r ≡ 0 → (v : ℕ) → v < n → getD numbers v 0 ≡ number (image-graph n image) v
 
--- t and v are the tables before and after: the image's own, or refused by 15 or 11
+-- t and v are the tables before and after: what reading comes to, where only 15 and 11 decide
 unfoldable pub Site-read : (n : ℕ) → (image : List ℕ) → Tables → (r : ℕ) → (after : Tables) → Type 0
-Site-read n bs t r v = By-number (source-refusal n bs) (Read-accepted n bs r v) (λ q. Tables-refused q r t v)
+Site-read n bs t r v = read-refusal n (lengths-of t) bs ≡ source-refusal n bs → numbered r v ≡ read-outcome n bs t

@@ -1,4 +1,4 @@
--- What a caller has of the answer to the question for one link that lifts a radio, by its contract alone.
+-- What a caller has of the answer to the question for one link that lifts a radio, by its outcome alone.
 --   lift-core       a pair lifts a radio exactly if it raises its core number by the largest group
 --   lift-first      an accepted call gives a pair that lifts the radio, and no pair before it does
 --   lift-none       20 exactly if questions 1 to 4 get yes and no pair lifts it
@@ -10,7 +10,7 @@ use mathlib.Core.Bool.{true, false}
 use mathlib.Core.List.{List, [], _∷_}
 use Prim.Native.Nat.{ℕ, _<_}
 use native.Mathlib.Omega.{arith}
-use lib.ListN.{length, take}
+use lib.ListN.{length}
 use Rattle.lists.specs.Lists.{In, member}
 use Rattle.mesh.specs.Limits.{max-neighbours}
 use Rattle.mesh.specs.Graph.{Link, link-of, Graph, relinked}
@@ -25,14 +25,13 @@ use Rattle.mesh.proofs.Cores.Peeling.{number-core, number-unique}
 use Rattle.mesh.proofs.Links.Call.{unchanged-number}
 use Rattle.calls.specs.Questions.{lengths-of, answer-length, ends-refusal, link-refusal, radio-refusal}
 use Rattle.calls.specs.Lift.{lifts, lifting, first-pair, is-lifted, lift-refusal}
-use Rattle.calls.specs.Fields.{Pair-accepted, Pair-refused, Link-accepted, Link-refused}
-use Rattle.calls.specs.Contracts.{Lift-contract, Link-contract}
+use Rattle.calls.specs.Outcomes.{link-outcome}
+use Rattle.calls.specs.LiftOutcome.{lift-outcome}
+use Rattle.calls.specs.Contracts.{Lift-contract}
 use Rattle.calls.specs.declared.Pair.{Pair}
 use Rattle.calls.proofs.QuestionLaws.{true-answer-length}
 use Rattle.calls.proofs.ChainLaws.{Site-good, site-yes, ends-yes}
-use Rattle.calls.proofs.FieldLaws.{lift-fields, link-fields}
-use Rattle.calls.proofs.ContractLaws.{by-cases, by-zero}
-use Rattle.calls.proofs.Accepted.{accepted}
+use Rattle.calls.proofs.ContractLaws.{number-by, accepted-is, by-zero}
 use Rattle.calls.proofs.LiftOutcome.{lift-zero, lift-twenty, lift-unanswered}
 use Rattle.lifting.specs.Search.{First-lift, No-lift}
 use Rattle.lifting.specs.Results.{Raises, Listed-up, Lift-right}
@@ -68,34 +67,37 @@ lift-core g v l lv = (to, from)
 
 -- ---- the call
 
-module _ (n v : ℕ) (t : Tables) (r : Pair) (d : Lift-contract n v t r) where
+module _ (n v : ℕ) (t : Tables) where
   abbrev g : Graph
   g = graph-in n (t .links)
+
+  abbrev R : ℕ
+  R = lift-refusal n v (lengths-of t) (sound n t) g
+
+  abbrev r : Pair
+  r = lift-outcome n v t
 
   abbrev given : Link
   given = link-of (r .low) (r .high)
 
   module _ (z : r .number ≡ 0) where
-    answer : (lift-refusal n v (lengths-of t) (sound n t) g ≡ 0) × Pair-accepted (first-pair (lifting g v)) r
-    answer = accepted (lift-refusal n v (lengths-of t) (sound n t) g) (Pair-accepted (first-pair (lifting g v)) r)
-        (λ q. Pair-refused q r) (r .number) (λ q e. e .number) (lift-fields n v t r .0 d) z
+    answer : (R ≡ 0) × (given ≡ first-pair (lifting g v))
+    unfolding lift-outcome
+    answer = let c = accepted-is (λ (o : Pair). o .number) r R _ _ (λ q. refl) refl z in (c .0, ap (λ (o : Pair). link-of (o .low) (o .high)) (c .1))
 
     asked : Site-good n (lengths-of t) true (sound n t) × (v < n) × (is-lifted (lifting g v) ≡ true)
     asked = lift-zero n v (lengths-of t) (sound n t) g (answer .0)
 
-    same : given ≡ first-pair (lifting g v)
-    same = rw (answer .1 .low, answer .1 .high) refl
-
     pub lift-first : First-lift g v given
-    lift-first = rw same (lifted-first g v (asked .2))
+    lift-first = rw (answer .1) (lifted-first g v (asked .2))
 
     raises : Raises g v given
     unfolding graph-in
     raises = lift-core g v given (asked .1) .0 (lift-first .does)
 
     pub lift-accepted : Listed-up n v t given
-    unfolding link-refusal graph-in
-    lift-accepted w s u x long c = (yes .number, listed)
+    unfolding link-outcome link-refusal sound graph-in
+    lift-accepted w long = rw (by-zero {o = link-outcome true n a b t w} _ _ _ zero-refusal refl) (refl, rw (take-overwrite (changed true a b g) w) moved)
       where
         a : ℕ
         a = r .low
@@ -116,10 +118,6 @@ module _ (n v : ℕ) (t : Tables) (r : Pair) (d : Lift-contract n v t r) where
             site-yes n (lengths-of t) (answer-length n (length w)) (sound n t) (ends-refusal max-neighbours true n a b g) good
             ∙ ends-yes max-neighbours true a b g (raises .allowed)
 
-        yes : Link-accepted true a b g t w s u x
-        yes = by-zero (link-refusal true n a b (lengths-of t) (length w) (sound n t) g) (Link-accepted true a b g t w s u x)
-            (λ q. Link-refused q t w s u x) zero-refusal (link-fields true n a b t w s u x .0 c)
-
         moved : In v (changed true a b g)
         moved = go (bool-cases (member v (changed true a b g)))
           where
@@ -128,13 +126,14 @@ module _ (n v : ℕ) (t : Tables) (r : Pair) (d : Lift-contract n v t r) where
             go (inr e) =
                 absurd (omega (arith, lifts-lifted g v a b (lift-first .does) .greater, unchanged-number true a b g v (asked .1) e))
 
-        listed : In v (take (s .count) x)
-        listed = rw (yes .count, yes .answer, take-overwrite (changed true a b g) w) moved
-
     pub lift-right : Lift-right n v t given
     lift-right = record { first = lift-first; raises = raises; listed = lift-accepted }
 
   -- ---- 20
+
+  number-is : r .number ≡ R
+  unfolding lift-outcome
+  number-is = number-by (λ (o : Pair). o .number) R _ _ refl (λ q. refl)
 
   pub lift-none : (r .number ≡ 20) ↔ ((radio-refusal n v (lengths-of t) (sound n t) ≡ 0) × No-lift g v)
   unfolding is-lifted Lift-contract
@@ -143,19 +142,11 @@ module _ (n v : ℕ) (t : Tables) (r : Pair) (d : Lift-contract n v t r) where
       from : (radio-refusal n v (lengths-of t) (sound n t) ≡ 0) × No-lift g v → r .number ≡ 20
       from (e, h) =
           let none : lifting g v ≡ [] = empty (lifting g v) (none-lifted g v h) in
-          ap (λ (p : Pair). p .number) (d ∙ sym (lift-unanswered n v t e none))
+          ap (λ (p : Pair). p .number) (sym (lift-unanswered n v t e none))
         where
           empty : (ls : List Link) → is-lifted ls ≡ false → ls ≡ []
           empty [] q = refl
           empty (l ∷ ls) q = never true refl q
 
       to : r .number ≡ 20 → (radio-refusal n v (lengths-of t) (sound n t) ≡ 0) × No-lift g v
-      to e = go (by-cases (lift-refusal n v (lengths-of t) (sound n t) g) (Pair-accepted (first-pair (lifting g v)) r) (λ q. Pair-refused q r) (lift-fields n v t r .0 d))
-        where
-          go : ((lift-refusal n v (lengths-of t) (sound n t) g ≡ 0) × Pair-accepted (first-pair (lifting g v)) r)
-              ⊎ ((lift-refusal n v (lengths-of t) (sound n t) g ≡ 0 → ⊥) × Pair-refused (lift-refusal n v (lengths-of t) (sound n t) g) r)
-              → (radio-refusal n v (lengths-of t) (sound n t) ≡ 0) × No-lift g v
-          go (inl p) = absurd (omega (arith, p .1 .number, e))
-          go (inr p) =
-              let q = lift-twenty n v (lengths-of t) (sound n t) g (sym (p .1 .number) ∙ e) in
-              (q .0, lifted-none g v (q .1))
+      to e = let q = lift-twenty n v (lengths-of t) (sound n t) g (sym number-is ∙ e) in (q .0, lifted-none g v (q .1))

@@ -14,8 +14,7 @@ use Rattle.mesh.specs.Graph.{Link, Graph, relinked}
 use Rattle.mesh.specs.Cores.{Core}
 use Rattle.mesh.specs.Tables.{Tables, graph-in}
 use Rattle.mesh.specs.Valid.{Allowed}
-use Rattle.calls.specs.Contracts.{Link-contract}
-use Rattle.calls.specs.declared.Reply.{Reply}
+use Rattle.calls.specs.Outcomes.{link-outcome}
 use Rattle.lifting.specs.Search.{First-lift}
 
 pub record Raises (g : Graph) (v : ℕ) (l : Link) : Type 0 where
@@ -26,11 +25,11 @@ pub record Raises (g : Graph) (v : ℕ) (l : Link) : Type 0 where
   pub core-after : Core (relinked true (l .low) (l .high) g) v after
   pub greater : before < after
 
--- w and x are the answer table before and after, long enough; u are the tables after
+-- w is the answer table before, long enough
 abbrev pub Listed-up : (n v : ℕ) → Tables → Link → Type 0
 Listed-up n v t l =
-    (w : List ℕ) (s : Reply) (u : Tables) (x : List ℕ) → n ≤ length w → Link-contract true n (l .low) (l .high) t w s u x →
-    (s .number ≡ 0) × In v (take (s .count) x)
+    (w : List ℕ) → n ≤ length w → let o = link-outcome true n (l .low) (l .high) t w in
+    (o .reply .number ≡ 0) × In v (take (o .reply .count) (o .answer))
 
 pub record Lift-right (n v : ℕ) (t : Tables) (l : Link) : Type 0 where
   pub first : First-lift (graph-in n (t .links)) v l

@@ -1,4 +1,4 @@
--- A plan applied, on plain values: what is written is what Link-accepted says.
+-- A plan applied, on plain values: what is written is what an accepted link call comes to.
 -- In order: laws of lists, a bound on numbers, the changed radios, the numbers, the order, the call.
 use mathlib.Core.Path.{_≡_, sym, ap, ap₂, _∙_}
 use mathlib.Core.Logic.{_⊎_, inl, inr}
@@ -28,7 +28,8 @@ use Rattle.mesh.proofs.Cores.Peeling.{number-core, length-numbers, getD-numbers
 use Rattle.mesh.proofs.Links.Call.{unchanged-number}
 use Rattle.mesh.proofs.Links.Laws.{link-by-one, link-valid}
 use Rattle.mesh.specs.Valid.{Valid, Allowed, smaller, larger}
-use Rattle.calls.specs.Fields.{Link-accepted}
+use Rattle.calls.specs.Switches.{switch, switched}
+use Rattle.calls.specs.Outcomes.{reply, linked-with}
 use Rattle.calls.specs.declared.Reply.{Reply}
 use Rattle.tables.specs.Steps.{stepped, all-stepped}
 use Rattle.tables.proofs.StepLaws.{length-all-stepped, getD-all-stepped-other, getD-all-stepped-listed}
@@ -147,19 +148,14 @@ module _ (up : Bool) (n a b : ℕ) (t : Tables) (answer : List ℕ) (ok : Applic
 
   -- what is applied of the plan, r the reply, v the tables after, x the answer table after
   pub applied-accepted : (r : Reply) (v : Tables) (x : List ℕ) → Applied up a b start size taken stretch t answer r v x
-      → Link-accepted up a b g t answer r v x
+      → linked-with r v x ≡ linked-with (reply 0 (step-of up cs) (length cs)) (switched n (switch up a b) t) (overwrite cs answer)
+  unfolding switched
   applied-accepted r v x d =
       let many : r .count ≡ length cs = d .count ∙ ap length in-order-planned in
       let way : r .step ≡ step-of up cs = d .step ∙ ap (counted-step up) many ∙ counted-step-length up cs in
       let listed : x ≡ overwrite cs answer =
       d .answer-is ∙ ap (λ (ys : List ℕ). overwrite ys answer) (ap (take (length answer)) in-order-planned ∙ fits-answer) in
       let front : take (r .count) x ≡ cs = ap₂ take many listed ∙ take-overwrite cs answer in
-      record {
-        number = d .number;
-        step = way;
-        count = many;
-        links = d .links;
-        numbers = d .numbers ∙ rw (front, way, ok .numbered) (numbers-stepped up a b g (t .order) (ok .valid) (ok .allowed));
-        order = d .order ∙ plan .laid;
-        answer = listed;
-      }
+      let numbered : v .numbers ≡ numbers (relinked up a b g) =
+      d .numbers ∙ rw (front, way, ok .numbered) (numbers-stepped up a b g (t .order) (ok .valid) (ok .allowed)) in
+      rw (d .number, way, many, d .links, numbered, d .order ∙ plan .laid, listed)

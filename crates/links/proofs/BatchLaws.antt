@@ -2,28 +2,25 @@
 use mathlib.Core.Path.{_≡_, refl, sym, ap, subst, _∙_}
 use mathlib.Core.Bool.{Bool, true, false}
 use mathlib.Core.List.{List, _∷_}
-use Prim.Native.Nat.{ℕ, suc, _+_, _*_, _%_, _≤_, _<_, _^_}
+use Prim.Native.Nat.{ℕ, suc, _+_, _*_, _%_, _≤_, _<_}
 use native.Mathlib.Omega.{arith}
 use mir.Syntax.{w32, w64}
 use mir.Val.{Fits}
-use lib.Dec.{eqb}
 use lib.ListN.{length, getD, drop, drop-of-length-le}
 use lib.Seq.{drop-cons}
 use borrow.Author.Tests.{eqb-true, eq-eqb, ne-eqb}
-use Rattle.mesh.specs.Limits.{max-radios, max-neighbours}
-use Rattle.mesh.specs.Graph.{Link}
-use Rattle.mesh.specs.Tables.{Tables, graph-in}
+use Rattle.mesh.specs.Limits.{max-radios}
+use Rattle.mesh.specs.Tables.{Tables}
 use Rattle.mesh.specs.Sound.{sound}
-use Rattle.calls.specs.Questions.{ask, lengths-of, tables-refusal, ends-refusal}
+use Rattle.calls.specs.Questions.{ask, lengths-of, tables-refusal}
 use Rattle.calls.specs.Batches.{list-length, batch-refusal}
-use Rattle.calls.specs.Fields.{Batch-done, Batch-refused}
+use Rattle.calls.specs.Outcomes.{batched, value, links-taken, batch-outcome}
 use Rattle.calls.specs.Contracts.{Batch-contract}
 use Rattle.calls.specs.declared.Value.{Value}
 use Rattle.calls.proofs.ChainLaws.{site-zero}
-use Rattle.calls.proofs.FieldLaws.{batch-fields}
-use Rattle.calls.proofs.ContractLaws.{answer, by-accepted, by-refused}
-use Rattle.calls.proofs.Batches.{pairs, Batch-left, batch-first, batch-next, batch-ended, batch-halted, batch-few}
-use Rattle.soundness.specs.Checks.{examinable, Examined, fits-sound}
+use Rattle.calls.proofs.ContractLaws.{by-accepted, by-refused}
+use Rattle.calls.proofs.Batches.{Batch-left, batch-first, batch-next, batch-ended, batch-halted, batch-few}
+use Rattle.soundness.specs.Checks.{Examined}
 use Rattle.soundness.proofs.ExamineLaws.{site-refused, site-lent, fits-sound-lent, examinable-room}
 use Rattle.links.specs.Steps.{Prepared, Stepped}
 use Rattle.links.specs.Batched.{Batch-asked}
@@ -114,7 +111,7 @@ module _ {n : ℕ} {xs : List ℕ} {t u : Tables} {places highs : List ℕ} {don
   pub batching-place : Fits w64 (at + 2)
   batching-place = record { fits = omega (arith, b .place, batch-few (drop at xs) (b .left) (fits-good n u (b .prepared .good))) }
 
-  pub batching-end : length xs ≤ at → Batch-done n xs (pairs n t) t (answer 0 done) u
+  pub batching-end : length xs ≤ at → batched (value 0 done) u ≡ links-taken n xs t
   batching-end l = batch-ended (subst (λ (ys : List ℕ). Batch-left n xs t done ys u) (drop-of-length-le xs l) (b .left))
 
   module _ (even : list-length (length xs) ≡ true) (l : at < length xs) where
@@ -142,9 +139,9 @@ module _ {n : ℕ} {xs : List ℕ} {t u : Tables} {places highs : List ℕ} {don
         inside = omega (arith, batching-pair);
       }
 
-      pub batching-halt : (r ≡ 0 → ⊥) → Batch-done n xs (pairs n t) t (answer r done) v
+      pub batching-halt : (r ≡ 0 → ⊥) → batched (value r done) v ≡ links-taken n xs t
       batching-halt h =
-          subst (λ (o : Tables). Batch-done n xs (pairs n t) t (answer r done) o) (sym (d .refused h))
+          subst (λ (o : Tables). batched (value r done) o ≡ links-taken n xs t) (sym (d .refused h))
           (batch-halted (getD xs at 0) (getD xs (at + 1) 0) r (drop (at + 2) xs) next (d .number) h)
 
 -- ---- the call
@@ -154,11 +151,9 @@ module _ (n : ℕ) (xs : List ℕ) (t : Tables) (p h : ℕ) (ep : p ≡ max-radi
   abbrev R : ℕ
   R = batch-refusal n (lengths-of t) (length xs) (sound n t)
 
-  pub batch-refused : (q ≡ 0 → ⊥) → Batch-contract n xs t (answer q 0) t
-  batch-refused h0 =
-      batch-fields n xs t (answer q 0) t .1
-      (by-refused R (Batch-done n xs (pairs n t) t (answer q 0) t) (λ x. Batch-refused x t (answer q 0) t) (λ z. h0 (d .number ep eh ∙ z))
-      (record { number = d .number ep eh; value = refl; tables = refl }))
+  pub batch-refused : (q ≡ 0 → ⊥) → Batch-contract n xs t (value q 0) t
+  unfolding Batch-contract batch-outcome
+  batch-refused h0 = by-refused R _ _ (λ z. h0 (d .number ep eh ∙ z)) (rw (d .number ep eh))
 
   module _ (yes : q ≡ 0) where
     pub batch-ready : Prepared n t places highs × (list-length (length xs) ≡ true)
@@ -168,5 +163,6 @@ module _ (n : ℕ) (xs : List ℕ) (t : Tables) (p h : ℕ) (ep : p ≡ max-radi
       site-zero n (lengths-of t) (list-length (length xs)) (sound n t) 0 (sym (d .number ep eh) ∙ yes) .0 .lent .further,
     )
 
-    pub batch-carried : (r : Value) (v : Tables) → Batch-done n xs (pairs n t) t r v → Batch-contract n xs t r v
-    batch-carried r v c = batch-fields n xs t r v .1 (by-accepted R (λ x. Batch-refused x t r v) (sym (d .number ep eh) ∙ yes) c)
+    pub batch-carried : (r : Value) (v : Tables) → batched r v ≡ links-taken n xs t → Batch-contract n xs t r v
+    unfolding Batch-contract batch-outcome
+    batch-carried r v c = by-accepted R _ (sym (d .number ep eh) ∙ yes) c

@@ -7,14 +7,16 @@ use native.Mathlib.Omega.{arith}
 use lib.IntN.{pos}
 use lib.ListN.{length}
 use Rattle.mesh.specs.Limits.{max-radios, max-neighbours}
+use Rattle.lists.specs.Lists.{overwrite}
 use Rattle.mesh.specs.Graph.{Graph}
+use Rattle.mesh.specs.Levels.{changed, step-of}
 use Rattle.mesh.specs.Tables.{Tables, graph-in}
 use Rattle.mesh.specs.Sound.{sound}
 use Rattle.calls.specs.Questions.{answer-length, lengths-of, ends-refusal, link-refusal}
-use Rattle.calls.specs.Fields.{Link-accepted, Link-refused}
+use Rattle.calls.specs.Switches.{switch, switched}
+use Rattle.calls.specs.Outcomes.{reply, linked-with, link-outcome}
 use Rattle.calls.specs.Contracts.{Link-contract}
 use Rattle.calls.specs.declared.Reply.{Reply}
-use Rattle.calls.proofs.FieldLaws.{link-fields}
 use Rattle.calls.proofs.ContractLaws.{by-accepted, by-refused}
 use Rattle.calls.proofs.ChainLaws.{site-zero}
 use Rattle.link_parts.specs.Changes.{plan-fits, Applied, Apply-contract}
@@ -59,10 +61,8 @@ module _ (up : Bool) (n a b : ℕ) (t : Tables) (w lent : List ℕ) (q start siz
 
   -- the tables and the answer table are as they were
   pub link-refused : (q ≡ 0 → ⊥) → (r : Reply) → r .number ≡ q → r .step ≡ pos 0 → r .count ≡ 0 → Link-contract up n a b t w r t w
-  link-refused h r e s c =
-      link-fields up n a b t w r t w .1
-      (by-refused R (Link-accepted up a b (graph-in n (t .links)) t w r t w) (λ p. Link-refused p t w r t w) (λ z. h (number-decided ∙ z))
-      (record { number = e ∙ number-decided; step = s; count = c; links = refl; numbers = refl; order = refl; answer = refl }))
+  unfolding Link-contract link-outcome link-refusal sound
+  link-refused h r e s c = by-refused R _ _ (λ z. h (number-decided ∙ z)) (rw (e ∙ number-decided, s, c))
 
   pub fits-decided : q ≡ 0 → plan-fits start size taken (length stretch) (length (t .order)) ≡ true
   unfolding link-refusal lengths-of
@@ -73,14 +73,14 @@ module _ (up : Bool) (n a b : ℕ) (t : Tables) (w lent : List ℕ) (q start siz
       (omega (arith, good .lent .lengths .order))
 
   pub link-applied : q ≡ 0 → (r : Reply) (v : Tables) (x : List ℕ) → Applied up a b start size taken stretch t w r v x
-      → Link-accepted up a b (graph-in n (t .links)) t w r v x
+      → let cs = changed up a b (graph-in n (t .links)) in
+      linked-with r v x ≡ linked-with (reply 0 (step-of up cs) (length cs)) (switched n (switch up a b) t) (overwrite cs w)
   link-applied z = applied-accepted up n a b t w (asked-applicable up n a b t w (sym number-decided ∙ z)) start size taken stretch (decided .planned z)
 
   pub link-accepted : q ≡ 0 → (r : Reply) (v : Tables) (x : List ℕ) → Apply-contract up a b start size taken stretch t w r v x
       → Link-contract up n a b t w r v x
-  link-accepted z r v x d =
-      link-fields up n a b t w r v x .1
-      (by-accepted R (λ p. Link-refused p t w r v x) (sym number-decided ∙ z) (link-applied z r v x (d .fitting (fits-decided z))))
+  unfolding Link-contract link-outcome link-refusal sound
+  link-accepted z r v x d = by-accepted R _ (sym number-decided ∙ z) (link-applied z r v x (d .fitting (fits-decided z)))
 
 -- ---- going up or down
 

@@ -14,12 +14,11 @@ use Rattle.lists.proofs.Tests.{and-left, and-right}
 use Rattle.calls.specs.Questions.{ask, lengths-of, tables-refusal}
 use Rattle.calls.specs.Heard.{agreed, agreed-few, heard-proper, heard-lengths, hear-refusal, goes-down, comes-up}
 use Rattle.calls.specs.Hearing.{Rows-left, downs, ups}
-use Rattle.calls.specs.Fields.{Hear-accepted, Hear-refused}
+use Rattle.calls.specs.Outcomes.{value, hear-outcome}
 use Rattle.calls.specs.Contracts.{Hear-contract}
 use Rattle.calls.proofs.QuestionLaws.{ask-zero}
 use Rattle.calls.proofs.ChainLaws.{lent-zero, site-zero}
-use Rattle.calls.proofs.FieldLaws.{hear-fields}
-use Rattle.calls.proofs.ContractLaws.{answer, by-accepted, by-refused}
+use Rattle.calls.proofs.ContractLaws.{by-accepted, by-refused}
 use Rattle.calls.proofs.SoundSwitches.{Good}
 use Rattle.calls.proofs.HearingLaws.{good-marked, rows-first, downs-end, ups-end}
 use Rattle.soundness.specs.Checks.{Examined}
@@ -134,11 +133,9 @@ module _ (n : ℕ) (hs w : List ℕ) (t : Tables) (p h : ℕ) (ep : p ≡ max-ra
   abbrev R : ℕ
   R = hear-refusal n (lengths-of t) hs (length w) (sound n t)
 
-  pub hear-refused : (q ≡ 0 → ⊥) → Hear-contract n hs t w (answer q 0) t w
-  hear-refused h0 =
-      hear-fields n hs t w (answer q 0) t w .1
-      (by-refused R (Hear-accepted n hs t (answer q 0) t w) (λ x. Hear-refused x t w (answer q 0) t w) (λ z. h0 (d .number ep eh ∙ z))
-      (record { number = d .number ep eh; value = refl; tables = refl; further = refl }))
+  pub hear-refused : (q ≡ 0 → ⊥) → Hear-contract n hs t w (value q 0) t w
+  unfolding Hear-contract hear-outcome
+  hear-refused h0 = by-refused R _ _ (λ z. h0 (d .number ep eh ∙ z)) (rw (d .number ep eh))
 
   module _ (yes : q ≡ 0) where
     is-zero : R ≡ 0
@@ -183,11 +180,11 @@ module _ (n : ℕ) (hs w : List ℕ) (t : Tables) (p h : ℕ) (ep : p ≡ max-ra
         after-ups : Rows-left n (ups n hs t) t n v
         after-ups = b .up t (ups n hs t) (ups-up n hs t) (ups-by n hs t good) (downs-end n hs t good (answers .1) (answers .2) after-downs)
 
-        pub hear-done : Hear-contract n hs t w (answer 0 count) v x
+        pub hear-done : Hear-contract n hs t w (value 0 count) v x
+        unfolding Hear-contract hear-outcome
         hear-done =
-            hear-fields n hs t w (answer 0 count) v x .1 (by-accepted R (λ y. Hear-refused y t w (answer 0 count) v x) is-zero (record {
-              number = refl;
-              value = m .counted hear-size is-within;
-              tables = ups-end n hs t good (answers .1) (answers .2) after-ups;
-              further = m .table hear-size further-long;
-            }))
+            by-accepted R _ is-zero (rw (
+              m .counted hear-size is-within,
+              ups-end n hs t good (answers .1) (answers .2) after-ups,
+              m .table hear-size further-long,
+            ))

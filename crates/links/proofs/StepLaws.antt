@@ -7,10 +7,10 @@ use mathlib.Core.List.{List}
 use Prim.Native.Nat.{ℕ, _+_, _*_, _≤_, _<_}
 use native.Mathlib.Omega.{arith}
 use lib.Dec.{ltb, leb}
-use lib.ListN.{length, getD, take, replicate}
+use lib.ListN.{length, getD, take}
 use borrow.Author.Tests.{ltb-true, ltb-false}
 use Rattle.mesh.specs.Limits.{max-radios, max-neighbours, row-bytes}
-use Rattle.lists.specs.Lists.{range, count, member, In, Each-once}
+use Rattle.lists.specs.Lists.{range, count, In, Each-once}
 use Rattle.lists.proofs.Tests.{bool-cases, never, and-left, and-right}
 use Rattle.lists.proofs.Member.{in-getD, in-member, not-member, member-in}
 use Rattle.lists.proofs.Count.{count-ext}
@@ -19,7 +19,7 @@ use Rattle.lists.proofs.Overwrite.{take-overwrite}
 use Rattle.mesh.specs.Graph.{Graph, relinked}
 use Rattle.mesh.specs.Cores.{number, numbers}
 use Rattle.mesh.specs.Levels.{changed}
-use Rattle.mesh.specs.Tables.{Tables, tables, marked, put-link, graph-in}
+use Rattle.mesh.specs.Tables.{Tables, tables, marked, graph-in}
 use Rattle.mesh.specs.Sound.{number-in, rows-proper, sound}
 use Rattle.mesh.specs.Valid.{Allowed}
 use Rattle.mesh.proofs.Cores.Peeling.{getD-numbers}
@@ -31,7 +31,7 @@ use Rattle.calls.specs.Switches.{switch, switched}
 use Rattle.calls.specs.declared.Reply.{Reply}
 use Rattle.calls.proofs.QuestionLaws.{size-good-true, site-lengths-true}
 use Rattle.calls.proofs.ChainLaws.{ends-zero}
-use Rattle.calls.proofs.RecordLaws.{tables-ext}
+use Rattle.calls.specs.Outcomes.{Linked}
 use Rattle.calls.proofs.SoundSwitches.{Good, good-valid, switched-good}
 use Rattle.rows.specs.Rows.{neighbours-of}
 use Rattle.rows.proofs.RowListLaws.{in-neighbours-of, member-neighbours-of, length-neighbours-of}
@@ -44,7 +44,7 @@ use Rattle.links.specs.Plans.{Ready, Planned, Applicable}
 use Rattle.links.specs.Steps.{Prepared, Step-ready, Changed-by, Carried, Stepped, places-put, around, touched, recounted, Rows-known}
 use Rattle.links.proofs.Asking.{right-of, high-numbers}
 use Rattle.links.proofs.NearLaws.{neighbours-of-other}
-use Rattle.links.proofs.Applied.{length-changed, planned-fits, applied-accepted}
+use Rattle.links.proofs.Applied.{planned-fits, applied-accepted}
 use Rattle.links.proofs.PlacesLaws.{getD-paste-outside, length-places-put, placed-again}
 use Rattle.links.proofs.CountLaws.{touched-ends, touched-around, getD-recounted, length-recounted}
 
@@ -131,11 +131,11 @@ module _ {up : Bool} {n a b : ℕ} {t : Tables} {places highs : List ℕ} (k : S
       let fit = planned-fits up n a b t answer ok start size taken stretch plan (omega (arith, good .lent .lengths .order)) in
       let l = applied-accepted up n a b t answer ok start size taken stretch plan r v x (d .fitting fit) in
       record {
-        tables = tables-ext v _ (l .links) (l .numbers) (l .order);
-        counted = l .count;
-        listed = rw (l .count, l .answer) (take-overwrite (changed up a b g) answer);
+        tables = ap (λ (o : Linked). o .tables) l;
+        counted = ap (λ (o : Linked). o .reply .count) l;
+        listed = ap (λ (o : Linked). take (o .reply .count) (o .answer)) l ∙ take-overwrite (changed up a b g) answer;
         part-fits = plan .fits;
-        unmoved = λ p o. ap (λ (xs : List ℕ). getD xs p 0) (l .order ∙ sym (plan .laid))
+        unmoved = λ p o. ap (λ (xs : List ℕ). getD xs p 0) (ap (λ (o : Linked). o .tables .order) l ∙ sym (plan .laid))
             ∙ getD-paste-outside (t .order) start stretch size p (omega (arith, plan .fits, good .lent .lengths .order)) (plan .long) o;
       }
 

@@ -4,7 +4,7 @@ ghost use mathlib.Core.Bool.{true};
 ghost use lib.ListN.{length};
 ghost use Rattle.mesh.specs.Tables.{lent, graph-in};
 ghost use Rattle.calls.specs.Batches.{list-length, batch-refusal};
-ghost use Rattle.calls.specs.Fields.{Batch-done};
+ghost use Rattle.calls.specs.Outcomes.{batched, links-taken};
 ghost use Rattle.calls.specs.Contracts.{Batch-contract};
 ghost use Rattle.links.specs.Steps.{Prepared};
 ghost use Rattle.links.specs.Batched.{Batch-asked};
@@ -26,8 +26,8 @@ fn take_links(
     highs: &mut [u8; Site::RADIOS as usize],
 ) -> Value
     requires { ⌜ Prepared n (lent links numbers order) (now places) (now highs) × (list-length (length (now list)) ≡ true) ⌝ }
-    ensures { λ r. ⌜ Batch-done n (now (list .entry)) (graph-in n (now (links .entry)) .links)
-        (lent (links .entry) (numbers .entry) (order .entry)) r (lent (links .exit) (numbers .exit) (order .exit)) ⌝ }
+    ensures { λ r. ⌜ batched r (lent (links .exit) (numbers .exit) (order .exit))
+        ≡ links-taken n (now (list .entry)) (lent (links .entry) (numbers .entry) (order .entry)) ⌝ }
 {
     let mut done: u32 = 0;
     let mut at: usize = 0;

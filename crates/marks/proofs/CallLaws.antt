@@ -8,35 +8,33 @@ use mathlib.Core.Path.{_≡_, refl, sym, ap, ap₂, subst, _∙_}
 use mathlib.Core.Logic.{_⊎_, inl, inr}
 use mathlib.Core.Bool.{Bool, true, false, _&&_, _||_, cond}
 use mathlib.Core.List.{List, [], _∷_, _++_}
-use Prim.Native.Nat.{ℕ, zero, suc, _+_, _*_, _-_, _≤_, _<_}
+use Prim.Native.Nat.{ℕ, suc, _+_, _*_, _-_, _≤_, _<_}
 use native.Mathlib.Omega.{arith}
 use lib.Dec.{ltb, leb, eqb}
-use lib.ListN.{length, getD, take, drop, replicate, length-drop}
+use lib.ListN.{length, take, drop, replicate, length-drop}
 use lib.Seq.{drop-drop, take-all, length-take-le}
 use borrow.Author.Tests.{eqb-true, leb-true, leb-false, lt-ltb, le-ltb}
-use Rattle.lists.specs.Lists.{same}
 use Rattle.lists.proofs.Parts.{take-drop-take}
 use Rattle.lists.proofs.Tests.{never, bool-cases, trichotomy}
 use Rattle.mesh.specs.Limits.{size-good}
 use Rattle.mesh.specs.Tables.{Tables, graph-in}
 use Rattle.mesh.specs.Sound.{sound}
-use Rattle.mesh.specs.Image.{image-of, is-image, block-bytes, block-count}
-use Rattle.mesh.specs.Marks.{name-bytes, place-bytes, places, store-bytes, name-in, image-size, image-in, place-of, marks-in, store-of, has-mark, found}
-use Rattle.mesh.specs.Marks.{with-mark, without-mark, rank, heads, place-at, moved-up, moved-down}
+use Rattle.mesh.specs.Image.{image-of, is-image}
+use Rattle.mesh.specs.Marks.{name-bytes, place-bytes, places, store-bytes, image-size, image-in, place-of, marks-in, store-of, has-mark, found}
+use Rattle.mesh.specs.Marks.{with-mark, rank, heads, place-at, moved-up, moved-down}
 use Rattle.mesh.proofs.Images.Of.{length-image-of}
 use Rattle.mesh.proofs.Images.Tables.{is-image-sound}
-use Rattle.mesh.proofs.Marks.Lists.{found-mark}
 use Rattle.mesh.proofs.Marks.Laws.{Sized, rising-sized, Place-mark, place-mark, image-fits, length-is-image}
 use Rattle.mesh.proofs.Marks.Ranks.{rank-most, ranked, found-at, with-at, with-new, without-at}
 use Rattle.mesh.proofs.Marks.Rules.{mark-at}
 use Rattle.mesh.proofs.Marks.Bytes.{replaced, inserted, taken-out}
-use Rattle.calls.specs.Questions.{ask, Lengths, lengths-of, site-lengths, site-refusal, lent-refusal, image-length, write-refusal, read-refusal}
-use Rattle.calls.specs.Fields.{By-number, Tables-refused, Read-accepted, Store-accepted, Store-refused}
+use Rattle.calls.specs.Questions.{ask, Lengths, lengths-of, site-lengths, site-refusal, lent-refusal, image-length}
+use Rattle.calls.specs.Outcomes.{read-outcome}
+use Rattle.calls.specs.MarkOutcomes.{stored, store-outcome, set-outcome, remove-outcome, return-outcome}
 use Rattle.calls.specs.Marks.{store-length, marks-good, is-marked, has-place, mark-refusal, set-refusal, named-refusal, set-store, removed-store, mark-image}
 use Rattle.calls.specs.Contracts.{Read-contract, Set-contract, Remove-contract, Return-contract}
 use Rattle.calls.proofs.QuestionLaws.{ask-yes, ask-no, ask-zero}
-use Rattle.calls.proofs.ChainLaws.{site-zero, site-yes, write-yes, Site-good, Lent-good}
-use Rattle.calls.proofs.FieldLaws.{set-fields, remove-fields, return-fields, read-fields}
+use Rattle.calls.proofs.ChainLaws.{site-zero, site-yes, write-yes}
 use Rattle.calls.proofs.ContractLaws.{by-accepted, by-refused, by-zero}
 use Rattle.calls.proofs.MarkCalls.{Mark-asked, mark-zero, mark-is-image, mark-read}
 use Rattle.mark_store.specs.Store.{Located}
@@ -60,25 +58,16 @@ module _ (n : ℕ) (x : List ℕ) (t : Tables) (bs : List ℕ) (q : ℕ) (e : q 
   same-number later = e ∙ sym (stopped n (lengths-of t) (sound n t) x bs later (λ z. h (e ∙ z)))
 
   pub set-refused : Set-contract n x t bs q bs
-  unfolding set-refusal
-  set-refused =
-      let f = same-number (ask 19 (has-place x bs) 0) in
-      set-fields n x t bs q bs .1
-      (by-refused _ (Store-accepted (set-store n x t bs) q bs) (λ y. Store-refused y bs q bs) (λ z. h (f ∙ z)) (record { number = f; store = refl }))
+  unfolding Set-contract set-outcome store-outcome set-refusal
+  set-refused = let f = same-number (ask 19 (has-place x bs) 0) in by-refused _ _ _ (λ z. h (f ∙ z)) (rw f)
 
   pub remove-refused : Remove-contract n x t bs q bs
-  unfolding named-refusal
-  remove-refused =
-      let f = same-number (ask 18 (is-marked x bs) 0) in
-      remove-fields n x t bs q bs .1
-      (by-refused _ (Store-accepted (removed-store x bs) q bs) (λ y. Store-refused y bs q bs) (λ z. h (f ∙ z)) (record { number = f; store = refl }))
+  unfolding Remove-contract remove-outcome store-outcome named-refusal
+  remove-refused = let f = same-number (ask 18 (is-marked x bs) 0) in by-refused _ _ _ (λ z. h (f ∙ z)) (rw f)
 
   pub return-refused : Return-contract n x bs t q t
-  unfolding named-refusal
-  return-refused =
-      let f = same-number (ask 18 (is-marked x bs) 0) in
-      return-fields n x bs t q t .1
-      (by-refused _ (Read-accepted n (mark-image n x bs) q t) (λ y. Tables-refused y q t t) (λ z. h (f ∙ z)) (record { number = f; links = refl; numbers = refl; order = refl }))
+  unfolding Return-contract return-outcome named-refusal
+  return-refused = let f = same-number (ask 18 (is-marked x bs) 0) in by-refused _ _ _ (λ z. h (f ∙ z)) (rw f)
 
 -- ---- all four got yes
 
@@ -188,11 +177,8 @@ module _ (n : ℕ) (x : List ℕ) (t : Tables) (bs : List ℕ) (q : ℕ) (e : q 
     -- ---- setting
 
     set-by : has-place x bs ≡ true → (cs : List ℕ) → cs ≡ set-store n x t bs → Set-contract n x t bs 0 cs
-    unfolding set-refusal
-    set-by h cs f =
-        set-fields n x t bs 0 cs .1
-        (by-accepted _ (λ y. Store-refused y bs 0 cs) (further (ask 19 (has-place x bs) 0) ∙ ask-yes 19 (has-place x bs) 0 h)
-        (record { number = refl; store = f }))
+    unfolding Set-contract set-outcome store-outcome set-refusal
+    set-by h cs f = by-accepted _ _ (further (ask 19 (has-place x bs) 0) ∙ ask-yes 19 (has-place x bs) 0 h) (rw f)
 
     pub set-again : there ≡ true → (cs : List ℕ) → cs ≡ put-place bs first (mark-place n t x) → Set-contract n x t bs 0 cs
     unfolding put-place mark-place set-store has-place is-marked
@@ -212,13 +198,12 @@ module _ (n : ℕ) (x : List ℕ) (t : Tables) (bs : List ℕ) (q : ℕ) (e : q 
             (mark-kept .name) (with-at n (place-of x image) [] marks (asked .store .marks .rising)) h
 
     pub set-full : there ≡ false → used ≡ places → Set-contract n x t bs 19 bs
-    unfolding set-refusal has-place is-marked
+    unfolding Set-contract set-outcome store-outcome set-refusal has-place is-marked
     set-full h f =
         let none : has-place x bs ≡ false =
         ap₂ {C = Bool} (λ a b. a || b) (sym there-is ∙ h) (le-ltb (length marks) places (omega (arith, counted))) in
         let r = further (ask 19 (has-place x bs) 0) ∙ ask-no 19 (has-place x bs) 0 none in
-        set-fields n x t bs 19 bs .1
-        (by-refused _ (Store-accepted (set-store n x t bs) 19 bs) (λ y. Store-refused y bs 19 bs) (λ z. omega (arith, r)) (record { number = sym r; store = refl }))
+        by-refused _ _ _ (λ z. omega (arith, r)) (rw r)
 
     pub set-new : there ≡ false → (used ≡ places → ⊥) → (cs : List ℕ) →
         cs ≡ put-place (moved-up bs (place-bytes * first) (place-bytes * used)) first (mark-place n t x) → Set-contract n x t bs 0 cs
@@ -250,40 +235,31 @@ module _ (n : ℕ) (x : List ℕ) (t : Tables) (bs : List ℕ) (q : ℕ) (e : q 
     a-mark h = further (ask 18 (has-mark x marks) 0) ∙ ask-yes 18 (has-mark x marks) 0 (sym there-is ∙ h)
 
     pub remove-absent : there ≡ false → Remove-contract n x t bs 18 bs
-    remove-absent h =
-        let r = no-mark h in
-        remove-fields n x t bs 18 bs .1
-        (by-refused _ (Store-accepted (removed-store x bs) 18 bs) (λ y. Store-refused y bs 18 bs) (λ z. omega (arith, r)) (record { number = sym r; store = refl }))
+    unfolding Remove-contract remove-outcome store-outcome
+    remove-absent h = let r = no-mark h in by-refused _ _ _ (λ z. omega (arith, r)) (rw r)
 
     pub return-absent : there ≡ false → Return-contract n x bs t 18 t
-    return-absent h =
-        let r = no-mark h in
-        return-fields n x bs t 18 t .1
-        (by-refused _ (Read-accepted n (mark-image n x bs) 18 t) (λ y. Tables-refused y 18 t t) (λ z. omega (arith, r))
-        (record { number = sym r; links = refl; numbers = refl; order = refl }))
+    unfolding Return-contract return-outcome
+    return-absent h = let r = no-mark h in by-refused _ _ _ (λ z. omega (arith, r)) (rw r)
 
     -- ---- removing: w is the length of the place zeroed
 
     pub removed : there ≡ true → (w : ℕ) (cs : List ℕ) → w ≡ place-bytes →
         cs ≡ put-place (moved-down bs (place-bytes * (first + 1)) (place-bytes * used)) (used - 1) (replicate w 0) → Remove-contract n x t bs 0 cs
-    unfolding removed-store put-place
+    unfolding Remove-contract remove-outcome store-outcome removed-store put-place
     removed h w cs g f =
         let l : rank x marks < length marks = omega (arith, below h, counted, first-is) in
         let k : length marks ≡ suc (used - 1) = omega (arith, below h, counted) in
         let i : first + 1 ≡ suc (rank x marks) = omega (arith, first-is) in
-        remove-fields n x t bs 0 cs .1
-        (by-accepted _ (λ y. Store-refused y bs 0 cs) (a-mark h)
-        (record {
-          number = refl;
-          store =
-              f
-              ∙ ap₂ {C = List ℕ} (λ j u. take (place-bytes * (used - 1)) (moved-down bs (place-bytes * j) (place-bytes * u))
-              ++ (replicate w 0 ++ drop (place-bytes * (used - 1) + place-bytes) (moved-down bs (place-bytes * j) (place-bytes * u)))) i counted
-              ∙ ap (λ (os : List ℕ). take (place-bytes * (used - 1)) (moved-down os (place-bytes * suc (rank x marks)) (place-bytes * length marks))
-              ++ (replicate w 0 ++ drop (place-bytes * (used - 1) + place-bytes) (moved-down os (place-bytes * suc (rank x marks)) (place-bytes * length marks)))) (asked .store .whole)
-              ∙ taken-out marks are-sized (asked .store .marks .few) (rank x marks) (used - 1) w l k g
-              ∙ ap store-of (sym (without-at n x [] marks (asked .store .marks .rising) (sym there-is ∙ h)));
-        }))
+        by-accepted _ _ (a-mark h) (ap (stored 0)
+        (f
+        ∙ ap₂ {C = List ℕ} (λ j u. take (place-bytes * (used - 1)) (moved-down bs (place-bytes * j) (place-bytes * u))
+        ++ (replicate w 0 ++ drop (place-bytes * (used - 1) + place-bytes) (moved-down bs (place-bytes * j) (place-bytes * u)))) i counted
+        ∙ ap (λ (os : List ℕ). take (place-bytes * (used - 1)) (moved-down os (place-bytes * suc (rank x marks)) (place-bytes * length marks))
+        ++ (replicate w 0 ++ drop (place-bytes * (used - 1) + place-bytes) (moved-down os (place-bytes * suc (rank x marks)) (place-bytes * length marks))))
+        (asked .store .whole)
+        ∙ taken-out marks are-sized (asked .store .marks .few) (rank x marks) (used - 1) w l k g
+        ∙ ap store-of (sym (without-at n x [] marks (asked .store .marks .rising) (sym there-is ∙ h)))))
 
     -- ---- coming back
 
@@ -341,9 +317,7 @@ module _ (n : ℕ) (x : List ℕ) (t : Tables) (bs : List ℕ) (q : ℕ) (e : q 
       pub returned : (r : ℕ) (v : Tables) →
           Read-contract n (take (place-bytes * first + name-bytes + s - (place-bytes * first + name-bytes)) (drop (place-bytes * first + name-bytes) bs)) t r v →
           Return-contract n x bs t r v
-      unfolding is-marked
+      unfolding Return-contract return-outcome Read-contract read-outcome is-marked
       returned r v d =
-          let c = read-fields n (mark-image n x bs) t r v .0 (subst (λ (image : List ℕ). Read-contract n image t r v) part-is d) in
-          let z = mark-read n (lengths-of t) (sound n t) x bs asked (sym there-is ∙ h) in
-          return-fields n x bs t r v .1
-          (by-accepted _ (λ q. Tables-refused q r t v) (a-mark h) (by-zero _ (Read-accepted n (mark-image n x bs) r v) (λ q. Tables-refused q r t v) z c))
+          let c = subst (λ (image : List ℕ). Read-contract n image t r v) part-is d in
+          let z = mark-read n (lengths-of t) (sound n t) x bs asked (sym there-is ∙ h) in by-accepted _ _ (a-mark h) (by-zero _ _ _ z c)

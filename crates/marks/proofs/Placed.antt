@@ -1,9 +1,9 @@
 -- A mark put into its place: zeros, the name in front, then the image in front of the rest.
 --   placed       so the place is the mark of the name and the tables
 --   placed-at    put into place i of a store
-use mathlib.Core.Path.{_≡_, refl, sym, ap, ap₂, _∙_}
-use mathlib.Core.List.{List, [], _∷_, _++_, append-nil}
-use Prim.Native.Nat.{ℕ, _+_, _*_, _-_, _≤_, _<_}
+use mathlib.Core.Path.{_≡_, ap, ap₂, _∙_}
+use mathlib.Core.List.{List, [], _++_, append-nil}
+use Prim.Native.Nat.{ℕ, _+_, _*_, _-_, _≤_}
 use native.Mathlib.Omega.{arith}
 use lib.ListN.{length, take, drop, replicate, length-append, length-drop, length-replicate, drop-of-length-le}
 use lib.Seq.{take-at, drop-at, drop-drop, take-all}
@@ -15,11 +15,10 @@ use Rattle.mesh.specs.Sound.{sound}
 use Rattle.mesh.specs.Image.{image-of}
 use Rattle.mesh.specs.Marks.{name-bytes, place-bytes, place-of}
 use Rattle.mesh.proofs.Marks.Laws.{length-name}
-use Rattle.calls.specs.Questions.{lengths-of, write-refusal, image-length}
-use Rattle.calls.specs.Fields.{Listing-accepted, Listing-refused}
+use Rattle.calls.specs.Questions.{lengths-of, write-refusal}
+use Rattle.calls.specs.Outcomes.{Listing, listing-outcome, write-outcome}
 use Rattle.calls.specs.Contracts.{Write-contract}
 use Rattle.calls.specs.declared.Value.{Value}
-use Rattle.calls.proofs.FieldLaws.{write-fields}
 use Rattle.calls.proofs.ContractLaws.{by-zero}
 use Rattle.marks.specs.Placing.{Markable, mark-place, put-place}
 
@@ -49,15 +48,15 @@ module _ (n : ℕ) (t : Tables) (x : List ℕ) (k : Markable n t x) (len : ℕ) 
     image = image-of (graph-in n (t .links)) (t .order)
 
     accepted : w ≡ image ++ replicate (place-bytes - (name-bytes + length image)) 0
-    unfolding overwrite
+    unfolding Write-contract write-outcome listing-outcome sound overwrite
     accepted =
         let part = take (length y - name-bytes) (drop name-bytes y) in
         let e : length part ≡ place-bytes - name-bytes = ap length rest-zeros ∙ length-replicate (len - name-bytes) 0 ∙ ap (λ (j : ℕ). j - name-bytes) long in
         let z : write-refusal n (lengths-of t) (length part) (sound n t) (graph-in n (t .links)) ≡ 0 =
         ap (λ (j : ℕ). write-refusal n (lengths-of t) j (sound n t) (graph-in n (t .links))) e ∙ k .writable in
-        let a = by-zero _ (Listing-accepted (image-length (graph-in n (t .links))) image part r w) (λ q. Listing-refused q part r w) z (write-fields n t part r w .0 written) in
+        let a = by-zero _ _ _ z written in
         let f : len - name-bytes - length image ≡ place-bytes - (name-bytes + length image) = omega arith in
-        a .lent ∙ ap (λ (zs : List ℕ). image ++ drop (length image) zs) rest-zeros
+        ap (λ (o : Listing). o .lent) a ∙ ap (λ (zs : List ℕ). image ++ drop (length image) zs) rest-zeros
         ∙ ap (λ (zs : List ℕ). image ++ zs) (drop-replicate (length image) (len - name-bytes) 0 ∙ ap (λ (j : ℕ). replicate j 0) f)
 
     pub placed : putMid name-bytes (length y - name-bytes) y w ≡ mark-place n t x

@@ -5,13 +5,13 @@
 use mathlib.Core.Path.{_≡_, refl, sym, ap, subst, _∙_}
 use mathlib.Core.Logic.{inl, inr}
 use mathlib.Core.Bool.{true}
-use mathlib.Core.List.{List, [], _∷_, _++_, map, flatMap}
+use mathlib.Core.List.{List, [], _∷_, map, flatMap}
 use Prim.Native.Nat.{ℕ, zero, suc, _≤_, _<_}
 use native.Mathlib.Omega.{arith}
 use lib.ListN.{length, drop, take, replicate, length-append, length-drop, length-replicate}
 use Rattle.lists.specs.Lists.{range, overwrite, Entries-below}
 use Rattle.mesh.specs.Limits.{max-radios, max-neighbours}
-use Rattle.mesh.specs.Graph.{Link, Graph, graph, In-links}
+use Rattle.mesh.specs.Graph.{Link, graph, In-links}
 use Rattle.mesh.specs.Levels.{changed, step-of}
 use Rattle.mesh.specs.Tables.{Tables, graph-in, tables-of, Tables-of-size}
 use Rattle.mesh.specs.Sound.{sound}
@@ -22,32 +22,29 @@ use Rattle.mesh.proofs.Tables.Laws.{links-table-cleared}
 use Rattle.mesh.proofs.Tables.Sites.{valid-cleared, numbers-cleared}
 use Rattle.mesh.proofs.Images.Tables.{valid-graph-in, tables-of-graph-in}
 use Rattle.calls.specs.Script.{radios-text, up-line, script-of}
-use Rattle.calls.specs.Questions.{lengths-of, script-refusal}
-use Rattle.calls.specs.Switches.{Switch, switch, pairs-after, switched, tables-after, All-allowed}
-use Rattle.calls.specs.Outcomes.{by-number, Linked, linked-with, reply, link-outcome}
-use Rattle.calls.specs.Fields.{Listing-accepted, Listing-refused}
-use Rattle.calls.specs.Contracts.{Link-contract, Script-contract}
+use Rattle.calls.specs.Questions.{link-refusal, lengths-of, script-refusal}
+use Rattle.calls.specs.Switches.{switch, switched, tables-after, All-allowed}
+use Rattle.calls.specs.Outcomes.{by-number, Linked, linked-with, reply, link-outcome, script-outcome}
+use Rattle.calls.specs.Contracts.{Link-contract}
 use Rattle.calls.specs.Book.{Answer}
 use Rattle.calls.specs.Runs.{answer-of}
 use Rattle.calls.specs.Worked.{lines}
 use Rattle.calls.specs.declared.Reply.{Reply}
-use Rattle.calls.specs.declared.Value.{Value}
 use Rattle.calls.proofs.ChainLaws.{ends-yes}
 use Rattle.calls.proofs.RecordLaws.{tables-ext}
-use Rattle.calls.proofs.FieldLaws.{script-fields}
-use Rattle.calls.proofs.Accepted.{accepted}
-use Rattle.calls.proofs.Holds.{Holds, switched-holds, all-holds}
-use Rattle.calls.proofs.ByPairs.{link-by-pairs}
+use Rattle.calls.proofs.Accepted.{listing-is}
+use Rattle.calls.proofs.Holds.{Holds, read-back, switched-holds, all-holds}
+use Rattle.calls.proofs.ByPairs.{link-asked}
 use Rattle.calls.proofs.ScriptLaws.{script-zero, script-right}
 use Rattle.calls.proofs.Rebuilt.{ups, Rebuilt, rebuilt}
 use Rattle.script.specs.Lines.{text-of, Values, line-of}
 use Rattle.script.specs.declared.lines.Line.{Line}
-use Rattle.script.specs.declared.lines.Line.the-variants.{Radios, Up, Down, Bad}
+use Rattle.script.specs.declared.lines.Line.the-variants.{Radios, Up}
 use Rattle.script.proofs.Texts.{parse-text}
 use Rattle.player.specs.Play.{site-of, radios-of}
-use Rattle.player.specs.Whole.{lines-of, front, rest, cleared, Run-prints}
+use Rattle.player.specs.Whole.{lines-of, front, rest, cleared}
 use Rattle.player.proofs.PlayLaws.{site-of-radios}
-use Rattle.playback.specs.Plays.{Answered, Answers, Answers-then, Lines-play, Plays-from, Plays}
+use Rattle.playback.specs.Plays.{Answered, Answers, Lines-play, Plays-from, Plays}
 use Rattle.playback.specs.Back.{None-refused, Rebuilds, Plays-back}
 use Rattle.playback.proofs.LineLaws.{ended-radios, front-ended, rest-ended, lines-of-ups}
 use Rattle.playback.proofs.PlayLaws.{prints-plays}
@@ -78,8 +75,12 @@ module _ (n : ℕ) (least : 1 ≤ n) (ps : List Link) (u : Tables) (k : Holds n 
   after = switched n (switch true (l .low) (l .high)) u
 
   outcome-up : link-outcome true n (l .low) (l .high) u w ≡ linked-with (reply 0 (step-of true cs) (length cs)) after (overwrite cs w)
-  unfolding by-number
-  outcome-up = link-by-pairs n ps u k least true (l .low) (l .high) w room ∙ rw (ends-yes max-neighbours true (l .low) (l .high) (graph n ps) ok)
+  unfolding link-outcome link-refusal sound by-number
+  outcome-up =
+      rw (
+        link-asked n ps u k least true (l .low) (l .high) (length w) room ∙ ends-yes max-neighbours true (l .low) (l .high) (graph n ps) ok,
+        read-back n ps u k,
+      )
 
   room-after : n ≤ length (overwrite cs w)
   unfolding overwrite
@@ -276,14 +277,14 @@ script-plays n t least small size is-sound = record {
 
 -- the bytes that the call wrote; that the table's entries are bytes is all that is asked, as of an image that is read back
 pub written-plays :
-    (n : ℕ) (t : Tables) (w : List ℕ) (r : Value) (x : List ℕ) → Script-contract n t w r x → r .number ≡ 0 → Entries-below 256 (t .links) →
-    Plays-back n t (take (r .value) x)
-unfolding lengths-of
-written-plays n t w r x d z bytes =
-    let c = accepted (script-refusal n (lengths-of t) (length w) (sound n t) (graph-in n (t .links))) _
-    (λ q. Listing-refused q w r x) (r .number) (λ q e. e .number) (script-fields n t w r x .0 d) z in
-    let good = script-zero n (lengths-of t) (length w) (sound n t) (graph-in n (t .links)) (c .0) .0 in
-    subst (λ (bs : List ℕ). Plays-back n t bs) (sym (script-right n t w r x d z .text))
+    (n : ℕ) (t : Tables) (w : List ℕ) → let o = script-outcome n t w in
+    o .reply .number ≡ 0 → Entries-below 256 (t .links) → Plays-back n t (take (o .reply .value) (o .lent))
+unfolding script-outcome lengths-of sound
+written-plays n t w z bytes =
+    let g = graph-in n (t .links) in
+    let c = listing-is (script-refusal n (lengths-of t) (length w) (sound n t) g) _ (script-of g) w z in
+    let good = script-zero n (lengths-of t) (length w) (sound n t) g (c .0) .0 in
+    rw (script-right n t w z .text)
     (script-plays n t (good .lent .least) (good .lent .most)
     (record {
       links-length = good .lent .lengths .links;

@@ -19,11 +19,10 @@ use Rattle.mesh.specs.Tables.{Tables, tables}
 use Rattle.lists.specs.Lists.{In}
 use Rattle.lists.proofs.Range.{length-range}
 use Rattle.calls.specs.Questions.{lengths-of, lent-refusal, tables-refusal}
-use Rattle.calls.specs.Fields.{By-number, Tables-refused, Clear-accepted}
+use Rattle.calls.specs.Outcomes.{Numbered, clear-outcome}
 use Rattle.calls.specs.Contracts.{Clear-contract}
 use Rattle.calls.proofs.ChainLaws.{lent-yes}
-use Rattle.calls.proofs.FieldLaws.{clear-fields}
-use Rattle.calls.proofs.RecordLaws.{tables-ext}
+use Rattle.calls.proofs.ContractLaws.{by-zero}
 use Rattle.text.specs.Print.{Buffer, buffer-at, put, Puts, max-place}
 use Rattle.reads.specs.Reads.{most-reads}
 use Rattle.text.proofs.PrintLaws.{put-fits}
@@ -267,7 +266,7 @@ read-end n k t w b q s out site last so =
 
 -- clearing tables that have their lengths
 pub site-cleared : (n r : ℕ) (t v : Tables) (w : List ℕ) → Site-lent n t w → Clear-contract n t r v → Site-cleared n v w
-unfolding tables-refusal lengths-of cleared By-number
+unfolding Clear-contract clear-outcome tables-refusal lengths-of cleared
 site-cleared n r t v w site h =
     let yes : lent-refusal n (lengths-of t) true 0 ≡ 0 =
     lent-yes n (lengths-of t) true 0 (record {
@@ -276,11 +275,10 @@ site-cleared n r t v w site h =
       lengths = record { links = site .links-length; numbers = site .numbers-length; order = site .order-length };
       further = refl;
     }) in
-    let done : Clear-accepted n r v = subst (λ (x : ℕ). By-number x (Clear-accepted n r v) (λ q. Tables-refused q r t v)) yes (clear-fields n t r v .0 h) in
     record {
       some = site .some;
       few = site .few;
-      is-cleared = tables-ext v (cleared n) (done .links) (done .numbers) (done .order);
+      is-cleared = ap (λ (o : Numbered). o .tables) (by-zero _ _ _ yes h);
       answer-zero = site .answer-zero;
     }
 

@@ -1,11 +1,11 @@
 -- How much a byte of the input and its end print at most, and how far the line's number goes.
-use mathlib.Core.Path.{_≡_, refl, sym, ap, subst, _∙_}
+use mathlib.Core.Path.{_≡_, refl, sym, ap, subst}
 use mathlib.Core.Logic.{inl, inr}
 use mathlib.Core.Bool.{Bool, true, false}
 use mathlib.Core.List.{List, [], _∷_, map}
 use Prim.Native.Nat.{ℕ, zero, suc, _+_, _^_, _≤_, _<_}
 use native.Mathlib.Omega.{arith}
-use lib.IntN.{ℤ, natAbs}
+use lib.IntN.{pos, natAbs}
 use lib.ListN.{length, take, length-append}
 use Rattle.mesh.specs.Limits.{max-radios}
 use Rattle.lists.specs.Lists.{range, In}
@@ -19,11 +19,9 @@ use Rattle.lists.proofs.Overwrite.{take-overwrite}
 use Rattle.text.specs.Text.{bytes-of, decimal, printed-line}
 use Rattle.calls.specs.Replay.{link-line, bad-line, numbers-line, order-line, closing-lines}
 use Rattle.calls.specs.Questions.{ask, Lengths, lengths-of, link-refusal, site-refusal, lent-refusal, ends-refusal}
-use Rattle.calls.specs.Fields.{By-number, Link-accepted, Link-refused}
+use Rattle.calls.specs.Outcomes.{by-number, Linked, linked-with, link-outcome}
 use Rattle.calls.specs.Contracts.{Link-contract}
-use Rattle.calls.specs.declared.Reply.{Reply}
 use Rattle.calls.proofs.ChainLaws.{link-zero}
-use Rattle.calls.proofs.FieldLaws.{link-fields}
 use Rattle.script.specs.Lines.{line-of}
 use Rattle.text.specs.Print.{max-place}
 use Rattle.script.specs.declared.lines.Line.{Line}
@@ -59,45 +57,32 @@ length-changed-le : (up : Bool) (a b n : ℕ) (links : List ℕ) → length (cha
 unfolding changed radios graph-in
 length-changed-le up a b n links = filter-le _ (range 0 n) n (length-range 0 n)
 
--- a contract by its number
-by-number : {A : Type 0} {B : ℕ → Type 0} (C : Type 0) (R : ℕ) → (R ≡ 0 → A → C) → ((q : ℕ) → R ≡ q → B q → C) → By-number R A B → C
-unfolding By-number
-by-number C zero f g h = f refl h
-by-number C (suc q) f g h = g (suc q) refl h
-
-accepted-length : (up : Bool) (n a b : ℕ) (t v : Tables) (w x : List ℕ) (r : Reply) → n ≤ max-radios
-    → Link-accepted up a b (graph-in n (t .links)) t w r v x → length (link-line (r .number) (r .step) (take (r .count) x)) ≤ longest
-accepted-length up n a b t v w x r small h =
-    let cs = changed up a b (graph-in n (t .links)) in
-    let list : take (r .count) x ≡ cs = ap (λ (k : ℕ). take k x) (h .count) ∙ ap (take (length cs)) (h .answer) ∙ take-overwrite cs w in
-    let number : r .number < 100 = omega (arith, h .number) in
-    let step : natAbs (r .step) < 1000 = subst (λ (z : ℤ). natAbs z < 1000) (sym (h .step)) (step-small up cs) in
-    let below : (y : ℕ) → In y (take (r .count) x) → y < 100000
-    = λ y m. omega (arith, small, changed-small up a b n (t .links) y (subst (In y) list m)) in
-    omega (arith, small, ap length list, length-changed-le up a b n (t .links), length-link-line-le (r .number) (r .step) (take (r .count) x) number step below)
-
-refused-length : (q : ℕ) (t v : Tables) (w x : List ℕ) (r : Reply) → q ≤ 7 → Link-refused q t w r v x
-    → length (link-line (r .number) (r .step) (take (r .count) x)) ≤ longest
-refused-length q t v w x r small h =
-    let list : take (r .count) x ≡ [] = ap (λ (k : ℕ). take k x) (h .count) in
-    let number : r .number < 100 = omega (arith, h .number) in
-    let step : natAbs (r .step) < 1000 = subst (λ (z : ℤ). natAbs z < 1000) (sym (h .step)) (omega arith) in
-    let below : (y : ℕ) → In y (take (r .count) x) → y < 100000 = λ y m. absurd (subst (In y) list m) in
-    omega (arith, ap length list, length-link-line-le (r .number) (r .step) (take (r .count) x) number step below)
-
 radios-most : (up : Bool) (n a b : ℕ) (l : Lengths) (k : ℕ) (s : Bool) (links : List ℕ) → link-refusal up n a b l k s (graph-in n links) ≡ 0 → n ≤ max-radios
 unfolding graph-in
 radios-most up n a b l k s links z = link-zero up a b l k s (graph-in n links) z .0 .lent .most
 
+-- the line of a reply, and of the radios in front of the answer table
+abbrev reply-line : Linked → List ℕ
+reply-line o = link-line (o .reply .number) (o .reply .step) (take (o .reply .count) (o .answer))
+
+outcome-length : (up : Bool) (n a b : ℕ) (t : Tables) (w : List ℕ) (R : ℕ) →
+    link-refusal up n a b (lengths-of t) (length w) (sound n t) (graph-in n (t .links)) ≡ R → length (reply-line (link-outcome up n a b t w)) ≤ longest
+unfolding link-outcome link-refusal sound by-number
+outcome-length up n a b t w zero e =
+    let cs = changed up a b (graph-in n (t .links)) in
+    let small = radios-most up n a b (lengths-of t) (length w) (sound n t) (t .links) e in
+    let below : (y : ℕ) → In y cs → y < 100000 = λ y m. omega (arith, small, changed-small up a b n (t .links) y m) in
+    rw (e, take-overwrite cs w)
+    (omega (arith, small, length-changed-le up a b n (t .links), length-link-line-le 0 (step-of up cs) cs (omega arith) (step-small up cs) below))
+outcome-length up n a b t w (suc q) e =
+    let few : suc q < 100 = omega (arith, e, link-refusal-le up n a b (lengths-of t) (length w) (sound n t) (graph-in n (t .links))) in
+    rw e (omega (arith, length-link-line-le (suc q) (pos 0) [] few (omega arith) (λ y m. absurd m)))
+
 pub called-length : (up : Bool) (n a b : ℕ) (t v : Tables) (w x text : List ℕ) → Called up n a b t w text v x → length text ≤ longest
+unfolding Link-contract
 called-length up n a b t v w x text h =
-    let g = graph-in n (t .links) in
-    let R = link-refusal up n a b (lengths-of t) (length w) (sound n t) g in
-    let line : length (link-line (h .reply .number) (h .reply .step) (take (h .reply .count) x)) ≤ longest
-    = by-number _ R
-    (λ z d. accepted-length up n a b t v w x (h .reply) (radios-most up n a b (lengths-of t) (length w) (sound n t) (t .links) z) d)
-    (λ q e d. refused-length q t v w x (h .reply) (omega (arith, e, link-refusal-le up n a b (lengths-of t) (length w) (sound n t) g)) d)
-    (link-fields up n a b t w (h .reply) v x .0 (h .does)) in
+    let line : length (reply-line (linked-with (h .reply) v x)) ≤ longest
+    = subst (λ (o : Linked). length (reply-line o) ≤ longest) (sym (h .does)) (outcome-length up n a b t w _ refl) in
     omega (arith, ap length (h .says), line)
 
 -- ---- one byte

@@ -20,14 +20,11 @@ use Rattle.mesh.specs.Sound.{sound}
 use Rattle.lists.proofs.Parts.{take-min}
 use Rattle.lists.proofs.Overwrite.{take-overwrite}
 use Rattle.calls.specs.Questions.{ask, lengths-of, same-step, is-proposal, link-refusal, commit-refusal}
-use Rattle.calls.specs.Switches.{switched}
-use Rattle.calls.specs.Fields.{Ask-accepted, Ask-refused, Commit-accepted, Commit-refused}
+use Rattle.calls.specs.Outcomes.{Linked, committed-with, ask-outcome, commit-outcome}
 use Rattle.calls.specs.Contracts.{Ask-contract, Commit-contract}
 use Rattle.calls.specs.declared.Reply.{Reply}
 use Rattle.calls.proofs.QuestionLaws.{ask-yes, ask-no}
-use Rattle.calls.proofs.FieldLaws.{ask-fields, commit-fields}
 use Rattle.calls.proofs.ContractLaws.{by-accepted, by-refused}
-use Rattle.calls.proofs.RecordLaws.{tables-ext}
 use Rattle.calls.proofs.Proposals.{commit-numbered, proposal-iff, same-step-eq, same-step-refl}
 use Rattle.tables.specs.Steps.{all-stepped}
 use Rattle.link_parts.specs.Changes.{changed-part, in-order, counted-step, Reported, Plan-put, Write-contract, Applied}
@@ -64,22 +61,16 @@ module _ (up : Bool) (n a b : ℕ) (t : Tables) (w lent : List ℕ) (q start siz
   -- ---- asking
 
   pub ask-refused : (q ≡ 0 → ⊥) → (r : Reply) → r .number ≡ q → r .step ≡ pos 0 → r .count ≡ 0 → Ask-contract up n a b t w r w
-  ask-refused h r e s c =
-      ask-fields up n a b t w r w .1
-      (by-refused R (Ask-accepted up a b g w r w) (λ p. Ask-refused p w r w) (λ z. h (number-is ∙ z))
-      (record { number = e ∙ number-is; step = s; count = c; answer = refl }))
+  unfolding Ask-contract ask-outcome
+  ask-refused h r e s c = by-refused R _ _ (λ z. h (number-is ∙ z)) (rw (e ∙ number-is, s, c))
 
   pub ask-accepted : q ≡ 0 → (r : Reply) (x : List ℕ) → Reported up size taken stretch w r x → Ask-contract up n a b t w r x
+  unfolding Ask-contract ask-outcome
   ask-accepted z r x d =
       let many : r .count ≡ length cs = d .count ∙ ap length (listed-is z) in
-      ask-fields up n a b t w r x .1
-      (by-accepted R (λ p. Ask-refused p w r x) (sym number-is ∙ z)
-      (record {
-        number = d .number;
-        step = d .step ∙ ap (counted-step up) many ∙ counted-step-length up cs;
-        count = many;
-        answer = d .answer-is ∙ ap (λ (ys : List ℕ). overwrite ys w) (ap (take (length w)) (listed-is z) ∙ listed-fits z);
-      }))
+      let way : r .step ≡ step-of up cs = d .step ∙ ap (counted-step up) many ∙ counted-step-length up cs in
+      let listed : x ≡ overwrite cs w = d .answer-is ∙ ap (λ (ys : List ℕ). overwrite ys w) (ap (take (length w)) (listed-is z) ∙ listed-fits z) in
+      by-accepted R _ (sym number-is ∙ z) (rw (d .number, way, many, listed))
 
 -- ---- a proposal held against a plan: steps are compared as eight bits
 
@@ -152,11 +143,10 @@ module _ (up : Bool) (n a b : ℕ) (t : Tables) (k : ℕ) (is : k ≡ max-radios
   numbered = commit-numbered up n a b t (length scratch) (omega (arith, length-replicate {A = ℕ} max-radios 0)) z xs
 
   pub commit-refused : (q ≡ 0 → ⊥) → (r : Reply) → r .number ≡ q → r .step ≡ pos 0 → r .count ≡ 0 → Commit-contract up n a b z xs t r t
+  unfolding Commit-contract commit-outcome
   commit-refused h r e s c =
       let same : C ≡ q = numbered .0 (λ y. h (number-asked ∙ y)) ∙ sym number-asked in
-      commit-fields up n a b z xs t r t .1
-      (by-refused C (Commit-accepted up n a b t r t) (λ p. Commit-refused p t r t) (λ y. h (sym same ∙ y))
-      (record { number = e ∙ sym same; step = s; count = c; tables = refl }))
+      by-refused C _ _ (λ y. h (sym same ∙ y)) (rw (e ∙ sym same, s, c))
 
   module _ (zero : q ≡ 0) where
     held : plan-proposes up size taken stretch z xs ≡ is-proposal up a b z xs site
@@ -173,11 +163,10 @@ module _ (up : Bool) (n a b : ℕ) (t : Tables) (k : ℕ) (is : k ≡ max-radios
       told-is = p ∙ ap (λ (i : ℤ). plan-proposes up size taken stretch i xs) f ∙ held
 
       pub commit-not : o ≡ false → (r : Reply) → r .number ≡ 16 → r .step ≡ pos 0 → r .count ≡ 0 → Commit-contract up n a b z xs t r t
+      unfolding Commit-contract commit-outcome
       commit-not j r e s c =
           let same : C ≡ 16 = asked ∙ ask-no 16 _ 0 (sym told-is ∙ j) in
-          commit-fields up n a b z xs t r t .1
-          (by-refused C (Commit-accepted up n a b t r t) (λ p. Commit-refused p t r t) (λ y. omega (arith, same, y))
-          (record { number = e ∙ sym same; step = s; count = c; tables = refl }))
+          by-refused C _ _ (λ y. omega (arith, same, y)) (rw (e ∙ sym same, s, c))
 
       module _ (j : o ≡ true) where
         abbrev now-changed : List ℕ
@@ -214,11 +203,8 @@ module _ (up : Bool) (n a b : ℕ) (t : Tables) (k : ℕ) (is : k ≡ max-radios
 
         pub commit-accepted : (v : Tables) → Write-contract up a b start size taken stretch (take (length xs) xs) y t v
             → Commit-contract up n a b z xs t (record { number = 0; step = y; count = length xs }) v
-        unfolding switched
+        unfolding Commit-contract commit-outcome
         commit-accepted v d =
-            let r : Reply = record { number = 0; step = y; count = length xs } in
             let put = d .fitting (fits-decided up n a b t scratch lent q start size taken stretch decided long zero) in
-            let l = link-applied up n a b t scratch lent q start size taken stretch decided long zero r v _ (applied v put) in
-            commit-fields up n a b z xs t r v .1
-            (by-accepted C (λ o. Commit-refused o t r v) (asked ∙ ask-yes 16 _ 0 (sym told-is ∙ j))
-            (record { number = l .number; step = l .step; count = l .count; tables = tables-ext v _ (l .links) (l .numbers) (l .order) }))
+            let l = link-applied up n a b t scratch lent q start size taken stretch decided long zero _ v _ (applied v put) in
+            by-accepted C _ (asked ∙ ask-yes 16 _ 0 (sym told-is ∙ j)) (ap (λ (o : Linked). committed-with (o .reply) (o .tables)) l)

@@ -1,5 +1,5 @@
 -- Contracts of the questions, met: refused and answered. In order: number, neighbours, linked, first.
-use mathlib.Core.Path.{_≡_, refl, sym, ap, _∙_}
+use mathlib.Core.Path.{_≡_, sym, ap, _∙_}
 use mathlib.Core.Bool.{Bool, true, cond}
 use mathlib.Core.List.{List}
 use Prim.Native.Nat.{ℕ, _+_, _≤_, _<_}
@@ -8,18 +8,15 @@ use mir.Val.{boolByte}
 use lib.ListN.{length, getD, drop, drop-of-length-le}
 use lib.Seq.{drop-cons}
 use borrow.Author.Tests.{eq-eqb, ne-eqb}
-use Rattle.lists.specs.Lists.{overwrite}
 use Rattle.mesh.specs.Limits.{max-neighbours}
-use Rattle.mesh.specs.Cores.{number}
 use Rattle.mesh.specs.Tables.{Tables, marked}
 use Rattle.mesh.specs.Sound.{sound}
 use Rattle.calls.specs.Questions.{lengths-of, radio-refusal, pair-refusal}
 use Rattle.calls.specs.Outcomes.{first-of-two}
 use Rattle.calls.specs.Contracts.{Number-contract, Neighbours-contract, Linked-contract, First-contract}
-use Rattle.calls.specs.declared.Value.{Value}
 use Rattle.calls.proofs.ChainLaws.{radio-zero, pair-zero}
-use Rattle.calls.specs.Outcomes.{number-outcome, neighbours-outcome, linked-outcome, first-outcome}
-use Rattle.calls.proofs.ContractLaws.{answer, value-refused, value-answered}
+use Rattle.calls.specs.Outcomes.{value, number-outcome, neighbours-outcome, linked-outcome, first-outcome}
+use Rattle.calls.proofs.ContractLaws.{value-refused, value-answered}
 use Rattle.rows.specs.Rows.{row-count}
 use Rattle.lists.proofs.Tests.{byte-bit}
 use Rattle.soundness.proofs.SoundSite.{Sound-site, site-good-sound, linked-marked, number-entry, degree-counted}
@@ -27,11 +24,11 @@ use Rattle.soundness.proofs.SoundSite.{Sound-site, site-good-sound, linked-mark
 -- ---- one radio
 
 module _ (n v : ℕ) (t : Tables) where
-  pub number-refused : (q : ℕ) → q ≡ radio-refusal n v (lengths-of t) (sound n t) → (q ≡ 0 → ⊥) → Number-contract n v t (answer q 0)
+  pub number-refused : (q : ℕ) → q ≡ radio-refusal n v (lengths-of t) (sound n t) → (q ≡ 0 → ⊥) → Number-contract n v t (value q 0)
   unfolding Number-contract number-outcome sound
   number-refused q e h = value-refused _ _ q e h
 
-  pub neighbours-refused : (q : ℕ) → q ≡ radio-refusal n v (lengths-of t) (sound n t) → (q ≡ 0 → ⊥) → Neighbours-contract n v t (answer q 0)
+  pub neighbours-refused : (q : ℕ) → q ≡ radio-refusal n v (lengths-of t) (sound n t) → (q ≡ 0 → ⊥) → Neighbours-contract n v t (value q 0)
   unfolding Neighbours-contract neighbours-outcome sound
   neighbours-refused q e h = value-refused _ _ q e h
 
@@ -42,34 +39,34 @@ module _ (n v : ℕ) (t : Tables) where
     pub radio-below : v < n
     radio-below = radio-zero n v (lengths-of t) (sound n t) e .1
 
-    pub number-answered : Number-contract n v t (answer 0 (getD (t .numbers) v 0))
+    pub number-answered : Number-contract n v t (value 0 (getD (t .numbers) v 0))
     unfolding Number-contract number-outcome sound
     number-answered = value-answered _ _ _ e (number-entry n t radio-site v radio-below)
 
-    pub neighbours-answered : (x : ℕ) → x ≡ row-count max-neighbours (t .links) v → Neighbours-contract n v t (answer 0 x)
+    pub neighbours-answered : (x : ℕ) → x ≡ row-count max-neighbours (t .links) v → Neighbours-contract n v t (value 0 x)
     unfolding Neighbours-contract neighbours-outcome sound
     neighbours-answered x h = value-answered _ _ _ e (h ∙ degree-counted n t radio-site v radio-below)
 
 -- ---- two radios
 
 module _ (n a b : ℕ) (t : Tables) where
-  pub linked-refused : (q : ℕ) → q ≡ pair-refusal n a b (lengths-of t) (sound n t) → (q ≡ 0 → ⊥) → Linked-contract n a b t (answer q 0)
+  pub linked-refused : (q : ℕ) → q ≡ pair-refusal n a b (lengths-of t) (sound n t) → (q ≡ 0 → ⊥) → Linked-contract n a b t (value q 0)
   unfolding Linked-contract linked-outcome sound
   linked-refused q e h = value-refused _ _ q e h
 
-  pub first-refused : (q : ℕ) → q ≡ pair-refusal n a b (lengths-of t) (sound n t) → (q ≡ 0 → ⊥) → First-contract n a b t (answer q 0)
+  pub first-refused : (q : ℕ) → q ≡ pair-refusal n a b (lengths-of t) (sound n t) → (q ≡ 0 → ⊥) → First-contract n a b t (value q 0)
   unfolding First-contract first-outcome sound
   first-refused q e h = value-refused _ _ q e h
 
   module _ (e : pair-refusal n a b (lengths-of t) (sound n t) ≡ 0) where
-    pub linked-answered : (x : Bool) → x ≡ marked (t .links) a b → Linked-contract n a b t (answer 0 (boolByte x))
+    pub linked-answered : (x : Bool) → x ≡ marked (t .links) a b → Linked-contract n a b t (value 0 (boolByte x))
     unfolding Linked-contract linked-outcome sound
     linked-answered x h =
         let r = pair-zero n a b (lengths-of t) (sound n t) e in
         value-answered _ _ _ e
         (byte-bit x ∙ ap (λ (y : Bool). cond {A = ℕ} y 1 0) (h ∙ sym (linked-marked n t (site-good-sound n t true (r .0)) a b (r .1) (r .2))))
 
-    pub first-answered : (x : ℕ) → x ≡ first-of-two a b (t .order) → First-contract n a b t (answer 0 x)
+    pub first-answered : (x : ℕ) → x ≡ first-of-two a b (t .order) → First-contract n a b t (value 0 x)
     unfolding First-contract first-outcome sound
     first-answered x h = value-answered _ _ _ e h
 

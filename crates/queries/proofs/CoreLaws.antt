@@ -2,7 +2,7 @@
 use mathlib.Core.Path.{_≡_, refl, sym, ap, _∙_}
 use mathlib.Core.Bool.{Bool, true, false, _&&_, not, cond}
 use mathlib.Core.List.{List}
-use Prim.Native.Nat.{ℕ, _≤_, _<_, min}
+use Prim.Native.Nat.{ℕ, _≤_, _<_}
 use native.Mathlib.Omega.{arith}
 use lib.Dec.{ltb, leb}
 use lib.ListN.{length, getD, take}
@@ -32,8 +32,8 @@ use Rattle.soundness.proofs.SoundSite.{Sound-site, number-entry}
 use Rattle.floods.proofs.FloodSteps.{true-floodable}
 use Rattle.floods.proofs.FloodCore.{level-radios, left-flood}
 use Rattle.soundness.proofs.SoundSite.{site-good-sound}
-use Rattle.calls.specs.Outcomes.{core-outcome}
-use Rattle.calls.proofs.ContractLaws.{answer, listing-refused, listing-answered}
+use Rattle.calls.specs.Outcomes.{value, core-outcome}
+use Rattle.calls.proofs.ContractLaws.{listing-refused, listing-answered}
 
 module _ (n : ℕ) (t : Tables) (s : Sound-site n t) (k v : ℕ) (radio : v < n) (level : k ≤ number (graph-in n (t .links)) v) where
   abbrev g : Graph
@@ -104,7 +104,7 @@ module _ (n v k : ℕ) (t : Tables) (old : List ℕ) where
   abbrev refusal : ℕ
   refusal = core-refusal n v k (lengths-of t) (length old) (sound n t) (graph-in n (t .links))
 
-  pub core-refused : (q : ℕ) → q ≡ refusal → (q ≡ 0 → ⊥) → Core-contract n v k t old (answer q 0) old
+  pub core-refused : (q : ℕ) → q ≡ refusal → (q ≡ 0 → ⊥) → Core-contract n v k t old (value q 0) old
   unfolding Core-contract core-outcome sound
   core-refused q e h = listing-refused _ _ _ old q e h
 
@@ -131,7 +131,7 @@ module _ (n v k : ℕ) (t : Tables) (old : List ℕ) where
 
     pub core-listed : (none set rest queue : List ℕ) (r : ℕ) (after : List ℕ) (c : ℕ) (now : List ℕ) → length none ≡ 8 → length set ≡ 8 → length rest ≡ 8
         → length queue ≡ max-radios → Level-set (t .numbers) k none set → Flooded (t .links) v set queue r rest after → Gone-listed set rest old c now
-        → Core-contract n v k t old (answer 0 c) now
+        → Core-contract n v k t old (value 0 c) now
     unfolding Core-contract core-outcome sound
     core-listed none set rest queue r after c now zero words left room level f h =
         let s = core-tables in

@@ -17,8 +17,8 @@ use Rattle.text.proofs.PrintLaws.{put-fits}
 use Rattle.calls.specs.Script.{script-of, script-length}
 use Rattle.calls.specs.Questions.{ask, lengths-of, site-refusal, holds-script, script-length-refusal, script-refusal}
 use Rattle.calls.specs.Contracts.{Script-length-contract, Script-contract}
-use Rattle.calls.specs.Outcomes.{script-length-outcome, script-outcome}
-use Rattle.calls.proofs.ContractLaws.{answer, value-refused, value-answered, listing-refused, listing-answered}
+use Rattle.calls.specs.Outcomes.{value, script-length-outcome, script-outcome}
+use Rattle.calls.proofs.ContractLaws.{value-refused, value-answered, listing-refused, listing-answered}
 use Rattle.calls.proofs.ChainLaws.{Site-good, site-zero, site-stops}
 use Rattle.calls.proofs.ScriptLaws.{script-yes, script-no, script-most}
 use Rattle.soundness.proofs.SoundSite.{Sound-site, site-good-sound}
@@ -39,11 +39,11 @@ module _ (n : ℕ) (t : Tables) where
   abbrev refusal : (w : List ℕ) → ℕ
   refusal w = script-refusal n (lengths-of t) (length w) (sound n t) g
 
-  pub length-refused : (q : ℕ) → q ≡ questions → (q ≡ 0 → ⊥) → Script-length-contract n t (answer q 0)
+  pub length-refused : (q : ℕ) → q ≡ questions → (q ≡ 0 → ⊥) → Script-length-contract n t (value q 0)
   unfolding Script-length-contract script-length-outcome sound script-length-refusal
   length-refused q e h = value-refused _ _ q e h
 
-  pub write-refused : (w : List ℕ) (q : ℕ) → q ≡ questions → (q ≡ 0 → ⊥) → Script-contract n t w (answer q 0) w
+  pub write-refused : (w : List ℕ) (q : ℕ) → q ≡ questions → (q ≡ 0 → ⊥) → Script-contract n t w (value q 0) w
   unfolding Script-contract script-outcome sound script-refusal
   write-refused w q e h =
       listing-refused (refusal w) _ _ w q
@@ -76,19 +76,19 @@ module _ (n : ℕ) (t : Tables) where
       size-is : size ≡ script-length g
       size-is = sized ∙ ap script-length marks-all
 
-      pub length-answered : Script-length-contract n t (answer 0 size)
+      pub length-answered : Script-length-contract n t (value 0 size)
       unfolding Script-length-contract script-length-outcome sound script-length-refusal
       length-answered = value-answered _ _ size (sym asked ∙ none) size-is
 
       module _ (w : List ℕ) where
-        pub write-no-room : length w < size → Script-contract n t w (answer 13 0) w
+        pub write-no-room : length w < size → Script-contract n t w (value 13 0) w
         unfolding Script-contract script-outcome sound
         write-no-room h =
             listing-refused (refusal w) _ _ w 13 (sym (script-no n (lengths-of t) (length w) (sound n t) g passed (omega (arith, size-is))))
             (λ z. omega (arith, z))
 
         pub write-accepted : (x : List ℕ) (r : ℕ) → size ≤ length w → length w ≤ max-place → Puts (buffer-at w 0) (script-of marks) (buffer-at x r)
-            → Script-contract n t w (answer 0 size) x
+            → Script-contract n t w (value 0 size) x
         unfolding Script-contract script-outcome sound script-length overwrite
         write-accepted x r room short p =
             let text = script-of g in

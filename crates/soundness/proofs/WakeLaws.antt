@@ -1,6 +1,6 @@
 -- The later neighbours of a radio of sound tables: what the count of its row's ends gives is what the order says.
 -- In order: as the code counts them, the answer.
-use mathlib.Core.Path.{_≡_, refl, sym, subst, _∙_}
+use mathlib.Core.Path.{_≡_, sym, subst, _∙_}
 use mathlib.Core.Bool.{Bool, true, _&&_}
 use mathlib.Core.List.{List}
 use Prim.Native.Nat.{ℕ}
@@ -18,11 +18,9 @@ use Rattle.mesh.proofs.Cores.Orders.{of-each-once}
 use Rattle.mesh.proofs.Cores.KOrders.{k-order-certificate}
 use Rattle.mesh.proofs.Tables.Soundness.{sound-right}
 use Rattle.calls.specs.Questions.{lengths-of, size-good, site-lengths, radio-refusal}
-use Rattle.calls.specs.Outcomes.{later}
-use Rattle.calls.specs.Fields.{Later-accepted, Later-refused}
+use Rattle.calls.specs.Outcomes.{later, later-outcome}
 use Rattle.calls.specs.Contracts.{Later-contract}
 use Rattle.calls.proofs.ChainLaws.{radio-zero}
-use Rattle.calls.proofs.FieldLaws.{later-fields}
 use Rattle.calls.proofs.ContractLaws.{by-accepted, by-refused}
 use Rattle.rows.specs.Rows.{neighbours-of}
 use Rattle.row_conditions.specs.Conditions.{Placed, later-count, high-count, ends-good, row-good}
@@ -98,9 +96,8 @@ module _ (v : ℕ) (t : Tables) (h : Sound-radio (length (t .order)) v t) where
 
 module _ (n v : ℕ) (t : Tables) where
   pub later-refused : (q : ℕ) → q ≡ radio-refusal n v (lengths-of t) (sound n t) → (q ≡ 0 → ⊥) → Later-contract n v t (later q 0 0)
-  later-refused q e h =
-      later-fields n v t (later q 0 0) .1
-      (by-refused _ (Later-accepted _ _ (later q 0 0)) (λ p. Later-refused p (later q 0 0)) (λ z. h (e ∙ z)) (record { number = e; count = refl; first = refl }))
+  unfolding Later-contract later-outcome sound
+  later-refused q e h = by-refused _ _ _ (λ z. h (e ∙ z)) (rw e)
 
   module _ (e : radio-refusal n v (lengths-of t) (sound n t) ≡ 0) where
     order-long : length (t .order) ≡ n
@@ -113,7 +110,6 @@ module _ (n v : ℕ) (t : Tables) where
         record { is-sound = subst (λ (m : ℕ). fits-sound m t ≡ true) (sym order-long) (site-good-fits n t true (r .0)); radio = omega (arith, r .1, order-long) }
 
     pub later-answered : (k w : ℕ) → Later-counted (length (t .order)) v t k w → Later-contract n v t (later 0 k w)
+    unfolding Later-contract later-outcome sound
     later-answered k w c =
-        let found : Later-counted n v t k w = rw order-long at c in
-        later-fields n v t (later 0 k w) .1
-        (by-accepted _ (λ p. Later-refused p (later 0 k w)) e (record { number = refl; count = found .later-is; first = found .first-is }))
+        let found : Later-counted n v t k w = rw order-long at c in by-accepted _ _ e (rw (found .later-is, found .first-is))

@@ -18,8 +18,8 @@ use Rattle.mesh.proofs.Tables.Rows.{symmetric-of}
 use Rattle.mesh.proofs.Trees.Listed.{greatest-le}
 use Rattle.calls.proofs.SheetLaws.{numbers-two-digits}
 use Rattle.calls.proofs.ChainLaws.{Site-good, site-zero}
-use Rattle.calls.specs.Outcomes.{staircase-outcome}
-use Rattle.calls.proofs.ContractLaws.{answer, listing-refused, listing-answered}
+use Rattle.calls.specs.Outcomes.{value, staircase-outcome}
+use Rattle.calls.proofs.ContractLaws.{listing-refused, listing-answered}
 use Rattle.soundness.proofs.SoundSite.{Sound-site, site-good-sound}
 use Rattle.link_list.proofs.GraphLinks.{rows-listed-few}
 use Rattle.forests.specs.Growing.{growing, grown-all, table-weight, levels-falling}
@@ -27,7 +27,7 @@ use Rattle.staircase.specs.Rows.{Mutual}
 use Rattle.staircase.proofs.LevelLaws.{staircase-count, staircase-table}
 
 module _ (n : ℕ) (t : Tables) (old : List ℕ) (q : ℕ) (asked : q ≡ site-refusal n (lengths-of t) (leb (2 * n) (length old)) (sound n t) 0) where
-  pub staircase-refused : (q ≡ 0 → ⊥) → Staircase-contract n t old (answer q 0) old
+  pub staircase-refused : (q ≡ 0 → ⊥) → Staircase-contract n t old (value q 0) old
   unfolding Staircase-contract staircase-outcome sound staircase-refusal staircase-length
   staircase-refused h = listing-refused _ _ _ old q asked h
 
@@ -56,7 +56,7 @@ module _ (n : ℕ) (t : Tables) (old : List ℕ) (q : ℕ) (asked : q ≡ site-r
         → growing labels table count ≡ grown-all
         (levels-falling (table-weight (t .numbers)) (greatest (t .numbers)) (links-from (length (t .numbers)) (t .links) 0 0))
         (growing (range 0 (length (t .numbers))) old 0)
-        → Staircase-contract n t old (answer 0 count) table
+        → Staircase-contract n t old (value 0 count) table
     unfolding Staircase-contract staircase-outcome sound staircase-refusal staircase-length
     staircase-answered labels table count h =
         let room = leb-true (2 * n) (length old) (good .lent .further) in

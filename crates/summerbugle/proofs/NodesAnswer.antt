@@ -3,7 +3,7 @@
 --   length-tree      a tree has at most n + 1 nodes
 --   lent-count       the count fits the list and the tables
 --   lent-tree        Tables-contract of blank tables, and then Tree-contract
-use mathlib.Core.Path.{_≡_, refl, sym, ap, ap₂, _∙_}
+use mathlib.Core.Path.{_≡_, refl, sym, ap, ap₂, subst, _∙_}
 use mathlib.Core.Logic.{_⊎_, inl, inr}
 use mathlib.Core.Bool.{Bool, true, false, _&&_}
 use mathlib.Core.List.{List, [], _∷_, _++_, map}
@@ -18,20 +18,18 @@ use Rattle.lists.specs.Lists.{overwrite}
 use Rattle.mesh.specs.Graph.{Graph}
 use Rattle.mesh.specs.Tables.{Tables, graph-in}
 use Rattle.mesh.specs.Sound.{sound}
-use Rattle.mesh.specs.Tree.{node, tree}
+use Rattle.mesh.specs.Tree.{node, tree, node-names}
 use Rattle.mesh.specs.declared.Node.{Node}
 use Rattle.lists.proofs.Tests.{bool-cases, and-left}
 use Rattle.mesh.proofs.Trees.Laws.{number-le-n}
 use Rattle.calls.specs.Questions.{ask, Lengths, lengths-of, size-good, site-lengths, nodes-length, answer-length, lent-refusal, site-refusal, tree-refusal}
-use Rattle.calls.specs.Fields.{Tree-accepted, Tree-refused}
+use Rattle.calls.specs.Outcomes.{by-number, value, Treed, treed, tree-outcome}
 use Rattle.calls.specs.Contracts.{Tree-contract}
 use Rattle.calls.specs.declared.Value.{Value}
-use Rattle.calls.proofs.FieldLaws.{tree-fields}
-use Rattle.calls.proofs.ContractLaws.{by-accepted, by-refused, by-cases}
 use Rattle.calls.proofs.QuestionLaws.{ask-later, size-good-true, nodes-length-true}
 use Rattle.calls.proofs.ChainLaws.{site-zero}
 use Rattle.summerbugle.specs.Nodes.{nodes-in}
-use Rattle.tree.specs.Trees.{Lists, lists, with-front, places, Tables-accepted, Lists-refused, Tables-contract}
+use Rattle.tree.specs.Trees.{Lists, lists, with-front, places, Filled, filled, tables-outcome, Tables-contract}
 use Rattle.lists.proofs.Map.{length-map}
 use Rattle.tree.proofs.NodeLists.{nodes-before-tree, length-nodes-before}
 
@@ -88,7 +86,7 @@ tree-refusal-min n m w k l s h =
 
 -- ---- the answer
 
-module _ (n k : ℕ) (enough : max-radios + 1 ≤ k) (t : Tables) (ys : List Node) (w : List ℕ) (r : Value) (u : Lists) where
+module _ (n k : ℕ) (enough : max-radios + 1 ≤ k) (t : Tables) (ys : List Node) (w : List ℕ) where
   abbrev pub blank : Lists
   blank = lists (replicate k 0) (replicate k 0) (replicate k 0) w
 
@@ -106,13 +104,6 @@ module _ (n k : ℕ) (enough : max-radios + 1 ≤ k) (t : Tables) (ys : List Nod
   refusal-same = ap (λ (j : ℕ). tree-refusal n (lengths-of t) (min (length ys) j) (length w) (sound n t)) places-blank
       ∙ tree-refusal-min n (length ys) (length w) k (lengths-of t) (sound n t) enough
 
-  abbrev Outcome : Type 0
-  Outcome = ((refusal ≡ 0) × Tables-accepted g blank r u) ⊎ ((refusal ≡ 0 → ⊥) × Lists-refused refusal blank r u)
-
-  outcome : Tables-contract n (length ys) t blank r u → Outcome
-  unfolding Tables-contract
-  outcome h = by-cases refusal (Tables-accepted g blank r u) (λ q. Lists-refused q blank r u) (rw refusal-same at h)
-
   -- the nodes fit where the call is accepted
   tree-fits : refusal ≡ 0 → (length (tree g) ≤ length ys) × (length (tree g) ≤ k)
   unfolding tree-refusal graph-in
@@ -121,34 +112,32 @@ module _ (n k : ℕ) (enough : max-radios + 1 ≤ k) (t : Tables) (ys : List Nod
       let long = nodes-length-true n (length ys) (and-left (nodes-length n (length ys)) (answer-length n (length w)) (good .lent .further)) in
       (omega (arith, length-tree g), omega (arith, length-tree g, good .lent .most))
 
-  pub lent-count : Tables-contract n (length ys) t blank r u → (r .value ≤ length ys) × (r .value ≤ k)
-  lent-count h = by (outcome h)
-    where
-      by : Outcome → (r .value ≤ length ys) × (r .value ≤ k)
-      by (inl (e, a)) = (omega (arith, a .value, tree-fits e .0), omega (arith, a .value, tree-fits e .1))
-      by (inr (e, a)) = (omega (arith, a .value), omega (arith, a .value))
+  abbrev of-tables : Filled
+  of-tables = tables-outcome n (length ys) t blank
 
-  abbrev filled : List Node
-  filled = overwrite (nodes-in (u .names) (u .levels) (u .parents) (r .value)) ys
+  count-fits : (R : ℕ) → refusal ≡ R → (of-tables .reply .value ≤ length ys) × (of-tables .reply .value ≤ k)
+  unfolding tables-outcome by-number
+  count-fits zero e = rw (refusal-same ∙ e) (tree-fits e)
+  count-fits (suc q) e = rw (refusal-same ∙ e) (omega arith, omega arith)
 
-  filled-tree : Tables-accepted g blank r u → filled ≡ overwrite (tree g) ys
-  unfolding with-front
-  filled-tree a = rw (a .front, a .value) (ap (λ (xs : List Node). overwrite xs ys) (nodes-overwritten (tree g) (replicate k 0) (replicate k 0) (replicate k 0)))
+  -- what the lent list is filled with
+  abbrev pub lent-from : Filled → Treed
+  lent-from o =
+      treed (o .reply) (overwrite (nodes-in (o .lists .names) (o .lists .levels) (o .lists .parents) (o .reply .value)) ys) (o .lists .answer)
 
-  filled-none : Lists-refused refusal blank r u → filled ≡ ys
-  unfolding nodes-in overwrite
-  filled-none a = rw (a .value)
+  same-tree : (R : ℕ) → refusal ≡ R → lent-from of-tables ≡ tree-outcome n t ys w
+  unfolding tables-outcome tree-outcome by-number sound with-front nodes-in overwrite
+  same-tree zero e =
+      rw (refusal-same ∙ e, e)
+      (ap (λ (xs : List Node). treed (value 0 (length (tree g))) (overwrite xs ys) (overwrite (node-names g) w))
+      (nodes-overwritten (tree g) (replicate k 0) (replicate k 0) (replicate k 0)))
+  same-tree (suc q) e = rw (refusal-same ∙ e, e)
 
-  to-tree : Outcome → Tree-contract n t ys w r filled (u .answer)
-  unfolding with-front
-  to-tree (inl (e, a)) =
-      tree-fields n t ys w r filled (u .answer) .1
-      (by-accepted refusal (λ q. Tree-refused q ys w r filled (u .answer)) e
-      (record { number = a .number; value = a .value; nodes = filled-tree a; answer = ap (λ (s : Lists). s .answer) (a .front) }))
-  to-tree (inr (e, a)) =
-      tree-fields n t ys w r filled (u .answer) .1
-      (by-refused refusal (Tree-accepted g ys w r filled (u .answer)) (λ q. Tree-refused q ys w r filled (u .answer)) e
-      (record { number = a .number; value = a .value; nodes = filled-none a; answer = ap (λ (s : Lists). s .answer) (a .kept) }))
+  module _ (r : Value) (u : Lists) (h : Tables-contract n (length ys) t blank r u) where
+    pub lent-count : (r .value ≤ length ys) × (r .value ≤ k)
+    unfolding Tables-contract
+    lent-count = subst (λ (o : Filled). (o .reply .value ≤ length ys) × (o .reply .value ≤ k)) (sym h) (count-fits refusal refl)
 
-  pub lent-tree : Tables-contract n (length ys) t blank r u → Tree-contract n t ys w r filled (u .answer)
-  lent-tree h = to-tree (outcome h)
+    pub lent-tree : let o = lent-from (filled r u) in Tree-contract n t ys w (o .reply) (o .nodes) (o .answer)
+    unfolding Tables-contract Tree-contract
+    lent-tree = ap lent-from h ∙ same-tree refusal refl

@@ -1,5 +1,5 @@
 -- Clearing meets its contract, on plain values: refused, and accepted.
-use mathlib.Core.Path.{_≡_, refl, ap, _∙_}
+use mathlib.Core.Path.{_≡_, ap, _∙_}
 use mathlib.Core.Bool.{true}
 use Prim.Native.Nat.{ℕ}
 use native.Mathlib.Omega.{arith}
@@ -7,8 +7,7 @@ use lib.ListN.{length, replicate}
 use Rattle.mesh.specs.Tables.{Tables}
 use Rattle.calls.specs.Questions.{lengths-of, tables-refusal}
 use Rattle.calls.specs.Contracts.{Clear-contract}
-use Rattle.calls.specs.Fields.{Clear-accepted, Tables-refused}
-use Rattle.calls.proofs.FieldLaws.{clear-fields}
+use Rattle.calls.specs.Outcomes.{clear-outcome}
 use Rattle.calls.proofs.ContractLaws.{by-accepted, by-refused}
 use Rattle.calls.proofs.ChainLaws.{Lent-good, lent-zero}
 use Rattle.tables.specs.Widths.{values}
@@ -16,23 +15,18 @@ use Rattle.tables.proofs.WidthLaws.{values-index}
 
 -- the tables are as they were
 pub clear-refused : (n r : ℕ) (t : Tables) → r ≡ tables-refusal n (lengths-of t) → (r ≡ 0 → ⊥) → Clear-contract n t r t
-clear-refused n r t e h =
-    clear-fields n t r t .1
-    (by-refused (tables-refusal n (lengths-of t)) (Clear-accepted n r t) (λ q. Tables-refused q r t t) (λ p. h (e ∙ p))
-    (record { number = e; links = refl; numbers = refl; order = refl }))
+unfolding Clear-contract clear-outcome
+clear-refused n r t e h = by-refused _ _ _ (λ p. h (e ∙ p)) (rw e)
 
 -- zeros to the length of links and of numbers, and the indexes to that of the order
 pub clear-accepted :
     (n : ℕ) (t v : Tables) → tables-refusal n (lengths-of t) ≡ 0 → v .links ≡ replicate (length (t .links)) 0 →
     v .numbers ≡ replicate (length (t .numbers)) 0 → v .order ≡ values 16 (λ i. i) (length (t .order)) → Clear-contract n t 0 v
-unfolding tables-refusal lengths-of
+unfolding Clear-contract clear-outcome tables-refusal lengths-of
 clear-accepted n t v e l k o =
     let good : Lent-good n (lengths-of t) true = lent-zero n (lengths-of t) true 0 e .0 in
-    clear-fields n t 0 v .1
-    (by-accepted (tables-refusal n (lengths-of t)) (λ q. Tables-refused q 0 t v) e
-    (record {
-      number = refl;
-      links = l ∙ ap (λ i. replicate i 0) (good .lengths .links);
-      numbers = k ∙ ap (λ i. replicate i 0) (good .lengths .numbers);
-      order = o ∙ ap (values 16 (λ i. i)) (good .lengths .order) ∙ values-index 16 n (omega (arith, good .most));
-    }))
+    by-accepted _ _ e (rw (
+      l ∙ ap (λ i. replicate i 0) (good .lengths .links),
+      k ∙ ap (λ i. replicate i 0) (good .lengths .numbers),
+      o ∙ ap (values 16 (λ i. i)) (good .lengths .order) ∙ values-index 16 n (omega (arith, good .most)),
+    ))

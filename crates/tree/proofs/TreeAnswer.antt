@@ -1,12 +1,12 @@
 -- The shell tree's answer: refused, and accepted.
-use mathlib.Core.Path.{_≡_, refl, sym, ap, _∙_}
+use mathlib.Core.Path.{_≡_, sym, ap, _∙_}
 use mathlib.Core.Bool.{Bool, true, _&&_}
 use mathlib.Core.List.{List}
 use Prim.Native.Nat.{ℕ, _+_, _≤_, min}
 use native.Mathlib.Omega.{arith}
 use lib.ListN.{length}
 use Rattle.mesh.specs.Limits.{max-radios}
-use Rattle.mesh.specs.Tables.{tables, graph-in}
+use Rattle.mesh.specs.Tables.{tables}
 use Rattle.mesh.specs.Sound.{sound}
 use Rattle.lists.proofs.Tests.{and-left, and-right}
 use Rattle.calls.specs.Questions.{lengths-of, site-refusal, tree-refusal, nodes-length, answer-length}
@@ -15,7 +15,7 @@ use Rattle.calls.proofs.ContractLaws.{by-accepted, by-refused}
 use Rattle.calls.proofs.ChainLaws.{Site-good, site-zero}
 use Rattle.calls.proofs.QuestionLaws.{nodes-length-true, answer-length-true}
 use Rattle.soundness.proofs.SoundSite.{site-good-fits}
-use Rattle.tree.specs.Trees.{Lists, Room, Grown, Tables-accepted, Lists-refused, places, Tables-contract}
+use Rattle.tree.specs.Trees.{Lists, Room, Grown, places, tables-outcome, Tables-contract}
 
 -- ---- room
 
@@ -36,10 +36,8 @@ module _ (n room : ℕ) (ts ns xs : List ℕ) (s : Lists) (m q : ℕ) (others : 
       (asked ∙ ap (λ (j : ℕ). nodes-length n j && answer-length n (length (s .answer))) size)
 
   pub tree-refused : (r : Value) → (q ≡ 0 → ⊥) → r .number ≡ q → r .value ≡ 0 → Tables-contract n room (tables ts ns xs) s r s
-  unfolding Tables-contract
-  tree-refused r h e z =
-      by-refused _ (Tables-accepted (graph-in n ts) s r s) (λ p. Lists-refused p s r s) (λ p. h (number-is ∙ p))
-      (record { number = e ∙ number-is; value = z; kept = refl })
+  unfolding Tables-contract tables-outcome
+  tree-refused r h e z = by-refused _ _ _ (λ p. h (number-is ∙ p)) (rw (e ∙ number-is, z))
 
   module _ (zero : q ≡ 0) where
     good : Site-good n (lengths-of (tables ts ns xs)) others (sound n (tables ts ns xs))
@@ -71,7 +69,7 @@ module _ (n room : ℕ) (ts ns xs : List ℕ) (s : Lists) (m q : ℕ) (others : 
     tree-answer = omega (arith, tree-numbers, tree-room .answer)
 
     pub tree-accepted : (r : Value) (u : Lists) → r .number ≡ 0 → Grown ts ns s (r .value) u → Tables-contract n room (tables ts ns xs) s r u
-    unfolding Tables-contract Grown
+    unfolding Tables-contract tables-outcome Grown
     tree-accepted r u e h =
         let w = rw tree-numbers at (h xs (rw tree-numbers (site-good-fits n (tables ts ns xs) others good)) (rw tree-numbers tree-room)) in
-        by-accepted _ (λ p. Lists-refused p s r u) (sym number-is ∙ zero) (record { number = e; value = w .count; front = w .front })
+        by-accepted _ _ (sym number-is ∙ zero) (rw (e, w .count, w .front))

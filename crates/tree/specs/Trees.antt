@@ -13,7 +13,8 @@
 --   nodes-before g k v      the root and the nodes that come before v at level k
 --   Growing                 the lists hold these nodes and names in front
 --   Levelled, Treed, Grown  what one level, all of them, and these with the root leave for sound tables
---   Tables-contract         document 01: the shell tree, its nodes as three tables
+--   Filled, tables-outcome  what the call over the tables comes to
+--   Tables-contract         document 01: the shell tree, its nodes as three tables: result and lists are that outcome
 -- Definitions only.
 use mathlib.Core.Path.{_≡_}
 use mathlib.Core.Bool.{Bool, true, false, _&&_, not, cond}
@@ -30,7 +31,7 @@ use Rattle.mesh.specs.Sound.{sound}
 use Rattle.mesh.specs.Tree.{root-name, root, node, shell, node-name, parent-name, nodes-at, tree, node-names}
 use Rattle.mesh.specs.declared.Node.{Node}
 use Rattle.calls.specs.Questions.{lengths-of, tree-refusal}
-use Rattle.calls.specs.Fields.{By-number}
+use Rattle.calls.specs.Outcomes.{by-number, value}
 use Rattle.calls.specs.declared.Value.{Value}
 use Rattle.sets.specs.Sets.{in-set}
 use Rattle.soundness.specs.Checks.{fits-sound}
@@ -175,25 +176,26 @@ Grown ts ns s r t =
 
 -- ---- the shell tree
 
-pub record Tables-accepted (g : Graph) (before : Lists) (r : Value) (after : Lists) : Type 0 where
-  pub number : r .number ≡ 0
-  pub value : r .value ≡ length (tree g)
-  pub front : after ≡ with-front (tree g) (node-names g) before
-
--- refused by q: all four keep their content
-pub record Lists-refused (q : ℕ) (before : Lists) (r : Value) (after : Lists) : Type 0 where
-  pub number : r .number ≡ q
-  pub value : r .value ≡ 0
-  pub kept : after ≡ before
-
 -- how many nodes the three tables have place for
 unfoldable pub places : Lists → ℕ
 places s = min (min (length (s .names)) (length (s .levels))) (length (s .parents))
 
+-- what the call over the tables comes to: the reply, and the four tables after it
+pub record Filled : Type 0 where
+  pub reply : Value
+  pub lists : Lists
+
+abbrev pub filled : Value → Lists → Filled
+filled r u = record { reply = r; lists = u }
+
 -- `room` is how many places the caller has for nodes beside the three tables
-unfoldable pub Tables-contract : (n room : ℕ) → Tables → (before : Lists) → Value → (after : Lists) → Type 0
-Tables-contract n room t s r u =
-    By-number
+unfoldable pub tables-outcome : (n room : ℕ) → Tables → (before : Lists) → Filled
+tables-outcome n room t s =
+    let g = graph-in n (t .links) in
+    by-number
     (tree-refusal n (lengths-of t) (min room (places s)) (length (s .answer)) (sound n t))
-    (Tables-accepted (graph-in n (t .links)) s r u)
-    (λ q. Lists-refused q s r u)
+    (filled (value 0 (length (tree g))) (with-front (tree g) (node-names g) s))
+    (λ q. filled (value q 0) s)
+
+unfoldable pub Tables-contract : (n room : ℕ) → Tables → (before : Lists) → Value → (after : Lists) → Type 0
+Tables-contract n room t s r u = filled r u ≡ tables-outcome n room t s

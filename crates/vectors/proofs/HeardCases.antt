@@ -13,7 +13,7 @@ use Rattle.calls.specs.Questions.{lengths-of, site-refusal}
 use Rattle.calls.specs.Switches.{switch, switched, tables-after}
 use Rattle.calls.specs.Heard.{agreed, agreed-degree, heard-alone, one-sided, one-sided-count, heard-lengths, heard-proper, agreed-few, hear-refusal}
 use Rattle.calls.specs.Heard.{row-switches, switches-where, goes-down, comes-up, heard-switches}
-use Rattle.calls.specs.Outcomes.{value, by-number, hear-outcome}
+use Rattle.calls.specs.Outcomes.{heard-with, value, by-number, hear-outcome}
 use Rattle.calls.proofs.WorkedState.{compute}
 
 unfoldable compute-heard : Unit {0}
@@ -50,12 +50,14 @@ sound-before = refl
 -- the hearing of a table hs by these tables
 heard-by : (hs w : List ℕ) → hear-outcome 4 hs before w
     ≡ by-number (hear-refusal 4 (lengths-of before) hs (length w) true)
-    (value 0 (one-sided-count 4 hs), tables-after 4 (heard-switches (graph-in 4 (before .links)) hs) before, one-sided 4 hs) (λ q. (value q 0, before, w))
+    (heard-with (value 0 (one-sided-count 4 hs)) (tables-after 4 (heard-switches (graph-in 4 (before .links)) hs) before) (one-sided 4 hs))
+    (λ q. heard-with (value q 0) before w)
 unfolding hear-outcome
 heard-by hs w =
     ap (λ (t : Bool).
     by-number (hear-refusal 4 (lengths-of before) hs (length w) t)
-    (value 0 (one-sided-count 4 hs), tables-after 4 (heard-switches (graph-in 4 (before .links)) hs) before, one-sided 4 hs) (λ q. (value q 0, before, w))) sound-before
+    (heard-with (value 0 (one-sided-count 4 hs)) (tables-after 4 (heard-switches (graph-in 4 (before .links)) hs) before) (one-sided 4 hs))
+    (λ q. heard-with (value q 0) before w)) sound-before
 
 pub calls : heard-switches (graph 4 triangle) heard ≡ switch false 1 2 ∷ switch true 2 3 ∷ []
 unfolding compute-heard
@@ -64,16 +66,16 @@ calls = refl
 -- number 0 and one one-sided pair; the links 0-1, 0-2, 2-3; the pair 1, 2 marked
 pub taken :
     hear-outcome 4 heard before further
-    ≡ (value 0 1, tables (row 6 ++ (row 1 ++ (row 9 ++ row 4))) (1 ∷ 1 ∷ 1 ∷ 1 ∷ []) (3 ∷ 2 ∷ 0 ∷ 1 ∷ []), row 0 ++ (row 4 ++ (row 0 ++ row 0)))
+    ≡ heard-with (value 0 1) (tables (row 6 ++ (row 1 ++ (row 9 ++ row 4))) (1 ∷ 1 ∷ 1 ∷ 1 ∷ []) (3 ∷ 2 ∷ 0 ∷ 1 ∷ [])) (row 0 ++ (row 4 ++ (row 0 ++ row 0)))
 unfolding compute-heard
 taken = heard-by heard further
 
 -- a row that marks its own radio, or one at n: 14, and every table keeps its content
-pub own-radio : hear-outcome 4 (row 7 ++ (row 5 ++ (row 9 ++ row 4))) before further ≡ (value 14 0, before, further)
+pub own-radio : hear-outcome 4 (row 7 ++ (row 5 ++ (row 9 ++ row 4))) before further ≡ heard-with (value 14 0) before further
 unfolding compute-heard
 own-radio = heard-by (row 7 ++ (row 5 ++ (row 9 ++ row 4))) further
 
-pub radio-at-n : hear-outcome 4 (row 6 ++ (row 5 ++ (row 25 ++ row 4))) before further ≡ (value 14 0, before, further)
+pub radio-at-n : hear-outcome 4 (row 6 ++ (row 5 ++ (row 25 ++ row 4))) before further ≡ heard-with (value 14 0) before further
 unfolding compute-heard
 radio-at-n = heard-by (row 6 ++ (row 5 ++ (row 25 ++ row 4))) further
 
@@ -87,7 +89,7 @@ unfolding compute-heard
 long-further = refl
 
 -- what is heard is what is linked: nothing changes
-pub same-links : hear-outcome 4 (before .links) before further ≡ (value 0 0, before, replicate 256 0)
+pub same-links : hear-outcome 4 (before .links) before further ≡ heard-with (value 0 0) before (replicate 256 0)
 unfolding compute-heard
 same-links = heard-by (before .links) further
 

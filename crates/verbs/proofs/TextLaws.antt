@@ -4,11 +4,12 @@ use mathlib.Core.List.{List}
 use Prim.Native.Nat.{ℕ, zero, suc, _<_, min}
 use native.Mathlib.Omega.{arith}
 use lib.ListN.{length, take}
+use Rattle.lists.specs.Lists.{overwrite}
 use Rattle.lists.proofs.Overwrite.{take-overwrite}
 use Rattle.lists.proofs.Parts.{take-min}
 use Rattle.text.specs.Print.{buffer-at, Puts}
-use Rattle.mesh.specs.Graph.{Link}
-use Rattle.calls.specs.Fields.{By-number, Listing-by, Pair-accepted, Pair-refused}
+use Rattle.calls.specs.Outcomes.{by-number, Listing, listing, listing-outcome}
+use Rattle.calls.specs.LiftOutcome.{pair}
 use Rattle.calls.specs.declared.Pair.{Pair}
 use Rattle.calls.specs.declared.Value.{Value}
 use Rattle.verbs.specs.declared.Text.{Text}
@@ -17,13 +18,13 @@ use Rattle.verbs.specs.Texts.{link-line, Text-by}
 -- ---- Text-by
 
 pub by-refused : (q : ℕ) (text w : List ℕ) (r : Text) → 0 < q → r .number ≡ q → r .length ≡ 0 → Text-by q text w r w
-unfolding By-number
+unfolding Text-by
 by-refused zero text w r h a b = absurd (omega (arith, h))
 by-refused (suc q) text w r h a b = record { number = a; length = b; lent = refl }
 
 pub by-put : (q : ℕ) (text w : List ℕ) (r : Text) (x : List ℕ) → q ≡ 0 → r .number ≡ 0 → Puts (buffer-at w 0) text (buffer-at x (r .length))
     → Text-by q text w r x
-unfolding By-number
+unfolding Text-by
 by-put q text w r x e a p = subst (λ (k : ℕ). Text-by k text w r x) (sym e) (record { number = a; puts = p })
 
 -- the first entries of a list, no more than it has
@@ -32,25 +33,24 @@ take-least k m r xs e d = ap (λ (i : ℕ). take i xs) (d ∙ ap (λ (i : ℕ). 
 
 -- a text of what a call put in front of a table; `size` tells its entries from the reply's count
 pub by-listed : (F : List ℕ → List ℕ) (size : ℕ → ℕ) (R count : ℕ) (new old : List ℕ) (reply : Value) (now w : List ℕ) (r : Text) (x : List ℕ) →
-    length new ≡ size count → Listing-by R count new old reply now → Text-by (reply .number) (F (take (size (reply .value)) now)) w r x
-    → Text-by R (F new) w r x
-unfolding By-number
-by-listed F size zero count new old reply now w r x e l t =
-    let told : Text-by 0 (F (take (size (reply .value)) now)) w r x = subst (λ (k : ℕ). Text-by k (F (take (size (reply .value)) now)) w r x) (l .number) t in
-    let same : take (size (reply .value)) now ≡ new = rw (l .value, l .lent, sym e) (take-overwrite new old) in
-    subst (λ (k : List ℕ). Text-by 0 (F k) w r x) same told
-by-listed F size (suc q) count new old reply now w r x e l t =
-    let told : Text-by (suc q) (F (take (size (reply .value)) now)) w r x
-    = subst (λ (k : ℕ). Text-by k (F (take (size (reply .value)) now)) w r x) (l .number) t in
-    record { number = told .number; length = told .length; lent = told .lent }
+    length new ≡ size count → listing reply now ≡ listing-outcome R count new old →
+    Text-by (reply .number) (F (take (size (reply .value)) now)) w r x → Text-by R (F new) w r x
+unfolding listing-outcome by-number Text-by
+by-listed F size R count new old reply now w r x e d t =
+    go R (subst (λ (o : Listing). Text-by (o .reply .number) (F (take (size (o .reply .value)) (o .lent))) w r x) d t)
+  where
+    go : (Q : ℕ) → let o = listing-outcome Q count new old in
+        Text-by (o .reply .number) (F (take (size (o .reply .value)) (o .lent))) w r x → Text-by Q (F new) w r x
+    go zero s = let same : take (size count) (overwrite new old) ≡ new = rw (← e) (take-overwrite new old) in rw same at s
+    go (suc q) s = s
 
 -- the line of a pair that a call answered
-pub by-pair : (R : ℕ) (l : Link) (p : Pair) (w : List ℕ) (r : Text) (x : List ℕ) → By-number R (Pair-accepted l p) (λ q. Pair-refused q p)
-    → Text-by (p .number) (link-line (p .low) (p .high)) w r x → Text-by R (link-line (l .low) (l .high)) w r x
-unfolding By-number
-by-pair zero l p w r x a t =
-    let told : Text-by 0 (link-line (p .low) (p .high)) w r x = subst (λ (k : ℕ). Text-by k (link-line (p .low) (p .high)) w r x) (a .number) t in
-    rw (sym (a .low), sym (a .high)) told
-by-pair (suc q) l p w r x a t =
-    let told : Text-by (suc q) (link-line (p .low) (p .high)) w r x = subst (λ (k : ℕ). Text-by k (link-line (p .low) (p .high)) w r x) (a .number) t in
-    record { number = told .number; length = told .length; lent = told .lent }
+pub by-pair : (R a b : ℕ) (p : Pair) (w : List ℕ) (r : Text) (x : List ℕ) → p ≡ by-number R (pair 0 a b) (λ q. pair q 0 0) →
+    Text-by (p .number) (link-line (p .low) (p .high)) w r x → Text-by R (link-line a b) w r x
+unfolding by-number Text-by
+by-pair R a b p w r x d t = go R (subst (λ (o : Pair). Text-by (o .number) (link-line (o .low) (o .high)) w r x) d t)
+  where
+    go : (Q : ℕ) → let o = by-number Q (pair 0 a b) (λ q. pair q 0 0) in
+        Text-by (o .number) (link-line (o .low) (o .high)) w r x → Text-by Q (link-line a b) w r x
+    go zero s = s
+    go (suc q) s = s

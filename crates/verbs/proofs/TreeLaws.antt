@@ -16,10 +16,10 @@ use Rattle.mesh.specs.Sound.{sound}
 use Rattle.mesh.specs.Tree.{tree, node-name, node-names}
 use Rattle.mesh.specs.declared.Node.{Node}
 use Rattle.calls.specs.Questions.{lengths-of, nodes-length, answer-length, tree-refusal}
-use Rattle.calls.specs.Fields.{By-number}
+use Rattle.calls.specs.Outcomes.{by-number}
 use Rattle.calls.specs.declared.Value.{Value}
 use Rattle.calls.proofs.ChainLaws.{site-zero}
-use Rattle.tree.specs.Trees.{Lists, with-front, places, Tables-accepted, Lists-refused, Tables-contract}
+use Rattle.tree.specs.Trees.{Lists, with-front, places, Filled, tables-outcome, Tables-contract}
 use Rattle.verbs.specs.declared.Text.{Text}
 use Rattle.verbs.specs.Texts.{radios-line, node-lines, tree-text, Text-by}
 use Rattle.verbs.specs.Said.{Tree-said}
@@ -45,17 +45,6 @@ told-tree g s u k many d e h =
     let radios : take many (u .answer) ≡ node-names g = rw (e, ap (λ (l : Lists). l .answer) h) (take-overwrite (node-names g) (s .answer)) in
     rw (names, levels, parents, radios)
 
-by-tree : (R many : ℕ) (g : Graph) (s u : Lists) (reply : Value) (w : List ℕ) (r : Text) (x : List ℕ) → (R ≡ 0 → many ≡ length (node-names g))
-    → By-number R (Tables-accepted g s reply u) (λ q. Lists-refused q s reply u) → Text-by (reply .number) (told (reply .value) many u) w r x
-    → Text-by R (tree-text g) w r x
-unfolding By-number
-by-tree zero many g s u reply w r x e a t =
-    let put : Text-by 0 (told (reply .value) many u) w r x = subst (λ (k : ℕ). Text-by k (told (reply .value) many u) w r x) (a .number) t in
-    subst (λ (y : List ℕ). Text-by 0 y w r x) (told-tree g s u (reply .value) many (a .value) (e refl) (a .front)) put
-by-tree (suc q) many g s u reply w r x e a t =
-    let put : Text-by (suc q) (told (reply .value) many u) w r x = subst (λ (k : ℕ). Text-by k (told (reply .value) many u) w r x) (a .number) t in
-    record { number = put .number; length = put .length; lent = put .lent }
-
 -- where the call is not refused there are at most 512 radios
 named : (n many : ℕ) (t : Tables) → many ≡ min n 512 → tree-refusal n (lengths-of t) 513 512 (sound n t) ≡ 0
     → many ≡ length (node-names (graph-in n (t .links)))
@@ -69,10 +58,16 @@ named n many t d z =
 pub tree-told : (n : ℕ) (t : Tables) (s u : Lists) (reply : Value) (many : ℕ) (w : List ℕ) (r : Text) (x : List ℕ)
     → places s ≡ 513 → length (s .answer) ≡ 512 → many ≡ min n 512 → Tables-contract n 513 t s reply u
     → Text-by (reply .number) (told (reply .value) many u) w r x → Tree-said n t w r x
-unfolding Tables-contract Tree-said
-tree-told n t s u reply many w r x p a d h =
-    let same : tree-refusal n (lengths-of t) (min 513 (places s)) (length (s .answer)) (sound n t) ≡ tree-refusal n (lengths-of t) 513 512 (sound n t)
-    = rw (p, a) in
-    let g = graph-in n (t .links) in
-    by-tree _ many g s u reply w r x (named n many t d)
-    (subst (λ (k : ℕ). By-number k (Tables-accepted g s reply u) (λ q. Lists-refused q s reply u)) same h)
+unfolding Tables-contract tables-outcome by-number Tree-said Text-by
+tree-told n t s u reply many w r x p a d h text =
+    go _ refl (subst (λ (o : Filled). Text-by (o .reply .number) (told (o .reply .value) many (o .lists)) w r x) h text)
+  where
+    R : ℕ
+    R = tree-refusal n (lengths-of t) 513 512 (sound n t)
+
+    go : (Q : ℕ) → R ≡ Q → let o = tables-outcome n 513 t s in
+        Text-by (o .reply .number) (told (o .reply .value) many (o .lists)) w r x → Text-by Q (tree-text (graph-in n (t .links))) w r x
+    go zero e y =
+        let g = graph-in n (t .links) in
+        subst (λ (z : List ℕ). Text-by 0 z w r x) (told-tree g s _ (length (tree g)) many refl (named n many t d e) refl) (rw (p, a, e) at y)
+    go (suc q) e y = rw (p, a, e) at y

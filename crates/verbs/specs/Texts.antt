@@ -9,15 +9,13 @@
 -- Numbers, sheet, script and image are the replay program's line and what their calls write. Definitions only.
 use mathlib.Core.Path.{_≡_}
 use mathlib.Core.List.{List, [], _∷_, _++_, map}
-use Prim.Native.Nat.{ℕ}
-use Prim.Native.String.{String}
+use Prim.Native.Nat.{ℕ, zero, suc}
 use Rattle.text.specs.Text.{bytes-of, decimal, printed-line}
 use Rattle.text.specs.Print.{buffer-at, Puts}
 use Rattle.mesh.specs.Graph.{Graph}
 use Rattle.mesh.specs.Cores.{number}
 use Rattle.mesh.specs.Tree.{tree, node-names}
 use Rattle.mesh.specs.declared.Node.{Node}
-use Rattle.calls.specs.Fields.{By-number}
 use Rattle.verbs.specs.declared.Text.{Text}
 
 -- a word, then the radios
@@ -64,5 +62,6 @@ pub record Text-refused (q : ℕ) (old : List ℕ) (r : Text) (now : List ℕ) :
   pub lent : now ≡ old
 
 -- the text, or the refusal
-abbrev pub Text-by : (refusal : ℕ) → (text old : List ℕ) → Text → (now : List ℕ) → Type 0
-Text-by R text old r now = By-number R (Text-accepted text old r now) (λ q. Text-refused q old r now)
+unfoldable pub Text-by : (refusal : ℕ) → (text old : List ℕ) → Text → (now : List ℕ) → Type 0
+Text-by zero text old r now = Text-accepted text old r now
+Text-by (suc q) text old r now = Text-refused (suc q) old r now

@@ -1,12 +1,12 @@
--- Entries before the beginning end's place never move: of every order after a link came up, by the contracts of the public calls.
+-- Entries before the beginning end's place never move: of every order after a link came up, by the outcomes of the public calls.
 --   beginning-kept   the order of the definitions
 --   link-begins      after a link call
 --   commit-begins    after a committing
 use mathlib.Core.Path.{_≡_, refl, ap, _∙_}
 use mathlib.Core.Logic.{_⊎_, inl, inr}
-use mathlib.Core.Bool.{true, false, _||_}
+use mathlib.Core.Bool.{true, false}
 use mathlib.Core.List.{List, [], _∷_, _++_}
-use Prim.Native.Nat.{ℕ, _<_}
+use Prim.Native.Nat.{ℕ}
 use lib.Dec.{eqb}
 use lib.IntN.{ℤ}
 use lib.ListN.{length, getD, take}
@@ -24,14 +24,11 @@ use Rattle.lists.proofs.Tests.{bool-cases}
 use Rattle.lists.proofs.Range.{once-in}
 use Rattle.mesh.proofs.Cores.KOrders.{k-order-certificate}
 use Rattle.mesh.proofs.Images.Tables.{valid-graph-in}
-use Rattle.calls.specs.Questions.{lengths-of, link-refusal, commit-refusal}
+use Rattle.calls.specs.Questions.{lengths-of, link-refusal}
 use Rattle.calls.specs.Switches.{switched}
-use Rattle.calls.specs.Fields.{Link-accepted, Link-refused, Commit-accepted, Commit-refused}
-use Rattle.calls.specs.Contracts.{Link-contract, Commit-contract}
-use Rattle.calls.specs.declared.Reply.{Reply}
+use Rattle.calls.specs.Outcomes.{Linked, Committed, link-outcome, commit-outcome}
 use Rattle.calls.proofs.ChainLaws.{link-zero, commit-zero}
-use Rattle.calls.proofs.FieldLaws.{link-fields, commit-fields}
-use Rattle.calls.proofs.Accepted.{accepted}
+use Rattle.calls.proofs.ContractLaws.{accepted-is}
 use Rattle.walks.specs.Results.{before-ends, Beginning-kept}
 use Rattle.walks.proofs.Beginning as beginning
 
@@ -82,23 +79,22 @@ beginning-kept a b g xs valid ok = at (cut-at a b xs (once-in (g .n) xs (k-order
           lower = rw stands (beginning.begins-low max-neighbours a b g xs valid ok ps (c .end) (c .rest) (c .whole) (c .is-end) (c .no-end));
         }
 
-pub link-begins : (n a b : ℕ) (t : Tables) (w : List ℕ) (r : Reply) (v : Tables) (x : List ℕ) → Link-contract true n a b t w r v x → r .number ≡ 0
-    → Beginning-kept a b (graph-in n (t .links)) (t .order) (v .order)
-unfolding graph-in sound
-link-begins n a b t w r v x d z =
+pub link-begins :
+    (n a b : ℕ) (t : Tables) (w : List ℕ) → let o = link-outcome true n a b t w in
+    o .reply .number ≡ 0 → Beginning-kept a b (graph-in n (t .links)) (t .order) (o .tables .order)
+unfolding link-outcome link-refusal switched graph-in sound
+link-begins n a b t w z =
     let g = graph-in n (t .links) in
-    let c = accepted (link-refusal true n a b (lengths-of t) (length w) (sound n t) g) (Link-accepted true a b g t w r v x)
-    (λ q. Link-refused q t w r v x) (r .number) (λ q e. e .number) (link-fields true n a b t w r v x .0 d) z in
+    let c = accepted-is (λ (o : Linked). o .reply .number) (link-outcome true n a b t w) _ _ _ (λ q. refl) refl z in
     let good = link-zero true a b (lengths-of t) (length w) (sound n t) g (c .0) in
-    rw (c .1 .order) (beginning-kept a b g (t .order) (valid-graph-in max-neighbours n t (good .0 .lent .most) (good .0 .is-sound)) (good .1))
+    rw (c .1) (beginning-kept a b g (t .order) (valid-graph-in max-neighbours n t (good .0 .lent .most) (good .0 .is-sound)) (good .1))
 
-pub commit-begins : (n a b : ℕ) (z : ℤ) (xs : List ℕ) (t : Tables) (r : Reply) (v : Tables) → Commit-contract true n a b z xs t r v → r .number ≡ 0
-    → Beginning-kept a b (graph-in n (t .links)) (t .order) (v .order)
-unfolding graph-in switched sound
-commit-begins n a b z xs t r v d y =
+pub commit-begins :
+    (n a b : ℕ) (z : ℤ) (xs : List ℕ) (t : Tables) → let o = commit-outcome true n a b z xs t in
+    o .reply .number ≡ 0 → Beginning-kept a b (graph-in n (t .links)) (t .order) (o .tables .order)
+unfolding commit-outcome switched graph-in sound
+commit-begins n a b z xs t y =
     let g = graph-in n (t .links) in
-    let c = accepted (commit-refusal true n a b z xs (lengths-of t) (sound n t) g) (Commit-accepted true n a b t r v)
-    (λ q. Commit-refused q t r v) (r .number) (λ q e. e .number) (commit-fields true n a b z xs t r v .0 d) y in
+    let c = accepted-is (λ (o : Committed). o .reply .number) (commit-outcome true n a b z xs t) _ _ _ (λ q. refl) refl y in
     let good = commit-zero true a b z xs (lengths-of t) (sound n t) g (c .0) in
-    let order : v .order ≡ new-order true a b g (t .order) = ap (λ (o : Tables). o .order) (c .1 .tables) in
-    rw order (beginning-kept a b g (t .order) (valid-graph-in max-neighbours n t (good .0 .lent .most) (good .0 .is-sound)) (good .1))
+    rw (c .1) (beginning-kept a b g (t .order) (valid-graph-in max-neighbours n t (good .0 .lent .most) (good .0 .is-sound)) (good .1))

@@ -51,7 +51,7 @@ returns-2 c =
     let source = else1 .before .before .before .before .before in
     let start = source .before .before .before .before .before .before .before .before .before in
     let t = tables (start .args .links .now) (start .args .numbers .now) (start .args .order .now) in
-    source-accepted _ _ t _ _ _ _ _ (source .refusal .ensures) (else1 .if1 .left)
+    source-accepted _ _ t _ _ _ _ (source .refusal .ensures) (else1 .if1 .left)
     (site-accepted _ _ (size-good-true _ (start .pre .0 .this-size) .1) _ _ _ (source-site _ _ _ _ _ (source .refusal .ensures) (else1 .if1 .left)) refl
     _ t _ _ _ (word .word-at .ensures .0) (start .pre .1 .1) (start .pre .1 .2)
     (linked .put-links .ensures) (numbered .put-numbers .ensures) (copied .copy16 .ensures))

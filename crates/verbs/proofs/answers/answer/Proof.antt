@@ -2,22 +2,22 @@
 use mathlib.Core.Path.{refl}
 use borrow.Author.Needs.{needs}
 use Rattle.text.specs.Print.{put}
-use Rattle.calls.specs.Fields.{By-number}
+use Rattle.verbs.specs.Texts.{Text-by}
 use Rattle.verbs.specs.Said.{Said}
 use Rattle.verbs.proofs.SaidLaws.{as-verb, as-sheet, as-script, as-image}
 use Rattle.verbs.proofs.answers.answer.Statement.{statement}
 use Rattle.verbs.proofs.answers.answer.Tie as tie
 
 returns : tie.Need-returns
-unfolding Said By-number put
+unfolding Said Text-by put
 returns c = as-verb _ _ _ _ _ _ _ (c .enum-told .given .1) (record { number = refl; puts = record { is = refl } })
 
 returns-2 : tie.Need-returns-2
-unfolding Said By-number
+unfolding Said Text-by
 returns-2 c = as-verb _ _ _ _ _ _ _ (c .before .before .before .before .enum-told2 .given .1) (c .before .before .check .ensures)
 
 returns-3 : tie.Need-returns-3
-unfolding Said By-number
+unfolding Said Text-by
 returns-3 c = as-verb _ _ _ _ _ _ _ (c .before .before .before .before .enum-told3 .given .1) (c .before .before .numbers-of .ensures)
 
 returns-4 : tie.Need-returns-4
@@ -56,7 +56,7 @@ unfolding Said
 returns-11 c = as-verb _ _ _ _ _ _ _ (c .before .before .before .before .enum-told11 .given .1) (c .before .before .lift .ensures)
 
 returns-12 : tie.Need-returns-12
-unfolding Said By-number put
+unfolding Said Text-by put
 returns-12 c = as-verb _ _ _ _ _ _ _ (c .enum-told12 .given .1) (record { number = refl; puts = record { is = refl } })
 
 pub answer-spec : {M : Type 1} → statement M

@@ -4,7 +4,9 @@ use mathlib.Core.List.{List}
 use Prim.Native.Nat.{ℕ}
 use borrow.Author.Needs.{needs}
 use Rattle.text.specs.Text.{bytes-of}
-use Rattle.calls.proofs.FieldLaws.{backbone-fields}
+use Rattle.mesh.specs.Sound.{sound}
+use Rattle.calls.specs.Contracts.{Backbone-contract}
+use Rattle.calls.specs.Outcomes.{backbone-outcome}
 use Rattle.verbs.specs.Texts.{radios-line}
 use Rattle.verbs.specs.Said.{Backbone-said}
 use Rattle.verbs.proofs.TextLaws.{by-listed}
@@ -12,11 +14,11 @@ use Rattle.verbs.proofs.listing.backbone.Statement.{statement}
 use Rattle.verbs.proofs.listing.backbone.Tie as tie
 
 returns : tie.Need-returns
-unfolding Backbone-said
+unfolding Backbone-said Backbone-contract backbone-outcome sound
 returns c =
     let put = c .before .before in
     let asked = put .before .before .before .before .before in
-    by-listed (λ (rs : List ℕ). radios-line (bytes-of "backbone") rs) (λ (k : ℕ). k) _ _ _ _ _ _ _ _ _ refl (backbone-fields _ _ _ _ _ .0 (asked .backbone .ensures)) (put .put-list .ensures)
+    by-listed (λ (rs : List ℕ). radios-line (bytes-of "backbone") rs) (λ (k : ℕ). k) _ _ _ _ _ _ _ _ _ refl (asked .backbone .ensures) (put .put-list .ensures)
 
 pub backbone-spec : {M : Type 1} → statement M
 backbone-spec =

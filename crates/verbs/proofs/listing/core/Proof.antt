@@ -4,7 +4,9 @@ use mathlib.Core.List.{List}
 use Prim.Native.Nat.{ℕ}
 use borrow.Author.Needs.{needs}
 use Rattle.text.specs.Text.{bytes-of}
-use Rattle.calls.proofs.FieldLaws.{core-fields}
+use Rattle.mesh.specs.Sound.{sound}
+use Rattle.calls.specs.Contracts.{Core-contract}
+use Rattle.calls.specs.Outcomes.{core-outcome}
 use Rattle.verbs.specs.Texts.{radios-line}
 use Rattle.verbs.specs.Said.{Core-said}
 use Rattle.verbs.proofs.TextLaws.{by-listed}
@@ -12,11 +14,11 @@ use Rattle.verbs.proofs.listing.core.Statement.{statement}
 use Rattle.verbs.proofs.listing.core.Tie as tie
 
 returns : tie.Need-returns
-unfolding Core-said
+unfolding Core-said Core-contract core-outcome sound
 returns c =
     let put = c .before .before in
     let asked = put .before .before .before .before .before in
-    by-listed (λ (rs : List ℕ). radios-line (bytes-of "core") rs) (λ (k : ℕ). k) _ _ _ _ _ _ _ _ _ refl (core-fields _ _ _ _ _ _ _ .0 (asked .core .ensures)) (put .put-list .ensures)
+    by-listed (λ (rs : List ℕ). radios-line (bytes-of "core") rs) (λ (k : ℕ). k) _ _ _ _ _ _ _ _ _ refl (asked .core .ensures) (put .put-list .ensures)
 
 pub core-spec : {M : Type 1} → statement M
 core-spec =

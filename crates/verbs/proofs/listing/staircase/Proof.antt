@@ -2,7 +2,9 @@
 use mathlib.Core.List.{List}
 use Prim.Native.Nat.{ℕ, _*_}
 use borrow.Author.Needs.{needs}
-use Rattle.calls.proofs.FieldLaws.{staircase-fields}
+use Rattle.mesh.specs.Sound.{sound}
+use Rattle.calls.specs.Contracts.{Staircase-contract}
+use Rattle.calls.specs.Outcomes.{staircase-outcome}
 use Rattle.forests.proofs.Tree.{length-link-entries}
 use Rattle.verbs.specs.Texts.{pair-lines}
 use Rattle.verbs.specs.Said.{Staircase-said}
@@ -11,11 +13,11 @@ use Rattle.verbs.proofs.listing.staircase.Statement.{statement}
 use Rattle.verbs.proofs.listing.staircase.Tie as tie
 
 returns : tie.Need-returns
-unfolding Staircase-said
+unfolding Staircase-said Staircase-contract staircase-outcome sound
 returns c =
     let put = c .before .before in
     let asked = put .before .before .before .before in
-    by-listed (λ (xs : List ℕ). pair-lines xs) (λ (k : ℕ). 2 * k) _ _ _ _ _ _ _ _ _ (length-link-entries _) (staircase-fields _ _ _ _ _ .0 (asked .staircase .ensures)) (put .put-kept .ensures)
+    by-listed (λ (xs : List ℕ). pair-lines xs) (λ (k : ℕ). 2 * k) _ _ _ _ _ _ _ _ _ (length-link-entries _) (asked .staircase .ensures) (put .put-kept .ensures)
 
 pub staircase-spec : {M : Type 1} → statement M
 staircase-spec =
