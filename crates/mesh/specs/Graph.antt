@@ -7,13 +7,14 @@
 --   neighbours-in g v s      how many neighbours v has in the set s
 --   degree g v               how many neighbours v has
 --   relinked up a b g        the graph with the link between a and b taken up or down
+--   Allowed most up a b g    questions 4 to 7 of a link call got yes, where `most` bounds the neighbours of a radio
 --   proper, ascending        links as an image lists them: lower radio first, radios below n, by lower and then higher
 -- Laws are in proofs/GraphLaws.antt. Definitions only.
 use mathlib.Core.Path.{_≡_}
 use mathlib.Core.Logic.{_⊎_}
-use mathlib.Core.Bool.{Bool, true, _&&_, _||_, cond}
+use mathlib.Core.Bool.{Bool, true, not, _&&_, _||_, cond}
 use mathlib.Core.List.{List, [], _∷_}
-use Prim.Native.Nat.{ℕ}
+use Prim.Native.Nat.{ℕ, _<_}
 use lib.Dec.{ltb, eqb}
 use Rattle.lists.specs.Lists.{range, count, member}
 
@@ -82,6 +83,14 @@ new-links u a b ls = cond u (with-link (link a b) ls) (without-link (link a b) l
 
 unfoldable pub relinked : (up : Bool) → (a b : ℕ) → Graph → Graph
 relinked u a b g = graph (g .n) (new-links u a b (g .links))
+
+-- questions 4 to 7 of a link call got yes
+pub record Allowed (most : ℕ) (up : Bool) (a b : ℕ) (g : Graph) : Type 0 where
+  pub a-radio : a < g .n
+  pub b-radio : b < g .n
+  pub differ : a ≡ b → ⊥
+  pub state : linked g a b ≡ not up
+  pub room : up ≡ true → (degree g a < most) × (degree g b < most)
 
 -- ---- links as an image lists them
 

@@ -17,9 +17,6 @@
 --   has-mark x ps, found x ps   is there a place with the name x, and which
 --   with-mark p ps     the places with p at its name's place in the order, in place of a mark of that name
 --   without-mark x ps  the places without the one of the name x
---   rank x ps          how many places of the front have names that stand before x: where x stands or is to stand
---   heads x ps         the first of the places has the name x
---   moved-up, moved-down   bytes of a store moved one place up or down
 --   place-at bs i, name-at bs i   place i of the store bs, and its name
 --   Mark-rules, Store-rules   W-211's rules, place by place, as the request says them; `store-good-iff` has that `is-store` decides them
 -- Laws are in proofs/Marks/. Definitions only.
@@ -128,25 +125,6 @@ with-mark p (q ∷ qs) =
 unfoldable pub without-mark : (name : List ℕ) → List (List ℕ) → List (List ℕ)
 without-mark x [] = []
 without-mark x (p ∷ ps) = let rest = without-mark x ps in cond (same (name-in p) x) ps (p ∷ rest)
-
--- by their order: how many stand before x, as far as they do without a break
-unfoldable pub rank : (name : List ℕ) → List (List ℕ) → ℕ
-rank x [] = 0
-rank x (p ∷ ps) = let rest = rank x ps in cond (before (name-in p) x) (suc rest) 0
-
-unfoldable pub heads : (name : List ℕ) → List (List ℕ) → Bool
-heads x [] = false
-heads x (p ∷ ps) = same (name-in p) x
-
--- ---- bytes moved within the store
-
--- what stood from `from` on, to before `to`, stands one place higher; the place at `from` keeps its content
-unfoldable pub moved-up : (store : List ℕ) → (from to : ℕ) → List ℕ
-moved-up bs from to = take (from + place-bytes) bs ++ (take (to - from) (drop from bs) ++ drop (to + place-bytes) bs)
-
--- what stood from `from` on, to before `to`, stands one place lower; the place before `to` keeps its content
-unfoldable pub moved-down : (store : List ℕ) → (from to : ℕ) → List ℕ
-moved-down bs from to = take (from - place-bytes) bs ++ (take (to - from) (drop from bs) ++ drop (to - place-bytes) bs)
 
 -- ---- the rules, place by place
 

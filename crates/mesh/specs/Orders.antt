@@ -6,12 +6,11 @@
 --   later-in f v xs      the neighbours of v that stand after v in xs, in their order
 --   nobody               no radio
 --   First-later f v w xs   w is the first neighbour of v that stands after v in xs: there is none between
---   running-maxima f m xs  for each radio of xs, the greatest count of later neighbours up to it, and at least m
 -- Laws are in proofs/Cores/Orders.antt. Definitions only.
 use mathlib.Core.Path.{_≡_}
 use mathlib.Core.Bool.{Bool, true, false, _&&_, cond}
 use mathlib.Core.List.{List, [], _∷_, _++_}
-use Prim.Native.Nat.{ℕ, max}
+use Prim.Native.Nat.{ℕ}
 use lib.Dec.{leb, eqb}
 use lib.ListN.{length}
 use Rattle.lists.specs.Lists.{range, count, filter, all, In}
@@ -50,9 +49,3 @@ pub record First-later (f : ℕ → ℕ → Bool) (v w : ℕ) (xs : List ℕ) : 
 unfoldable pub is-k-order : Graph → List ℕ → Bool
 is-k-order g xs =
     let num = number g in each-once (g .n) xs && (rising num xs && few-later (linked g) num xs)
-
--- Along a k-order the core number is the running maximum of the later-neighbour counts: so a read image's numbers are
--- worked out. `top` is the maximum so far.
-unfoldable pub running-maxima : (neighbour : ℕ → ℕ → Bool) → (top : ℕ) → List ℕ → List ℕ
-running-maxima f m [] = []
-running-maxima f m (x ∷ xs) = let top = max m (neighbours-among f x xs) in top ∷ running-maxima f top xs

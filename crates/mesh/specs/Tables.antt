@@ -13,7 +13,6 @@ use mathlib.Core.Path.{_≡_}
 use mathlib.Core.Bool.{Bool, cond}
 use mathlib.Core.List.{List, map, flatMap}
 use Prim.Native.Nat.{ℕ, zero, suc, _+_, _*_, _-_, _/_, _%_, _^_}
-use denote.Ref.{RefT, now}
 use lib.Dec.{eqb}
 use lib.ListN.{length, getD, set}
 use Rattle.mesh.specs.Limits.{row-bytes}
@@ -28,10 +27,6 @@ pub record Tables : Type 0 where
 
 abbrev pub tables : (links numbers order : List ℕ) → Tables
 tables l k o = record { links = l; numbers = k; order = o }
-
--- links, numbers and order as a call is lent them
-abbrev pub lent : (links numbers order : RefT (List ℕ)) → Tables
-lent l k o = tables (now l) (now k) (now o)
 
 -- ---- bits of a row: value 2^(b mod 8) in byte b div 8
 
