@@ -26,7 +26,7 @@ use lib.Seq.{ext-getD}
 use borrow.Author.Tests.{ltb-true, ltb-false, eq-eqb, ne-eqb, not-true}
 use Rattle.mesh.specs.Limits.{max-neighbours}
 use Rattle.lists.specs.Lists.{range, filter, member, head-or, overwrite, In, Ascending, Entries-below}
-use Rattle.mesh.specs.Graph.{Graph, linked, radios, relinked}
+use Rattle.mesh.specs.Graph.{Graph, linked, radios, relinked, Allowed}
 use Rattle.mesh.specs.Cores.{Core, number, numbers}
 use Rattle.mesh.specs.Orders.{is-k-order, later-in, nobody}
 use Rattle.mesh.specs.Levels.{changed, new-order}
@@ -55,7 +55,7 @@ use Rattle.mesh.proofs.Links.Laws.{link-valid}
 use Rattle.mesh.proofs.Images.Of.{length-image-of, whole-blocks-image-of, checks-good-image-of}
 use Rattle.mesh.proofs.Images.Sites.{written-read}
 use Rattle.mesh.proofs.Images.Tables.{valid-graph-in, is-image-sound, is-image-tables, tables-read-written}
-use Rattle.mesh.specs.Valid.{Valid, Allowed}
+use Rattle.mesh.specs.Valid.{Valid}
 use Rattle.calls.specs.Questions.{lengths-of, image-length, tables-refusal, link-refusal, commit-refusal}
 use Rattle.calls.specs.Fields.{By-number, Tables-refused, Value-accepted, Value-refused, Listing-accepted, Listing-refused, Link-accepted, Link-refused}
 use Rattle.calls.specs.Fields.{Ask-accepted, Ask-refused, Commit-accepted, Commit-refused, Read-accepted, Block-none, Block-accepted, Later-accepted}

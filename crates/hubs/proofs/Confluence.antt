@@ -11,12 +11,11 @@ use Prim.Native.Nat.{ℕ, zero, suc}
 use native.Mathlib.Omega.{arith}
 use lib.ListN.{length}
 use Rattle.mesh.specs.Limits.{max-neighbours}
-use Rattle.mesh.specs.Graph.{Link, graph, new-links}
+use Rattle.mesh.specs.Graph.{Link, graph, new-links, Allowed}
 use Rattle.mesh.specs.Levels.{changed}
 use Rattle.mesh.specs.Tables.{Tables, graph-in, tables-of}
 use Rattle.mesh.specs.Sound.{sound}
 use Rattle.mesh.specs.Image.{image-of, image-order}
-use Rattle.mesh.specs.Valid.{Allowed}
 use Rattle.mesh.proofs.Images.Sites.{length-order, read-written-order}
 use Rattle.calls.specs.Questions.{Lengths, lengths-of, answer-length, nodes-length, staircase-length, site-refusal, link-refusal}
 use Rattle.calls.specs.Questions.{tree-refusal, backbone-refusal, staircase-refusal}

@@ -9,7 +9,8 @@ use mathlib.Core.List.{List, [], _∷_, map}
 use Prim.Native.Nat.{ℕ, _≤_, _<_, max}
 use native.Mathlib.Omega.{arith}
 use native.Mathlib.Nat.{le-trans}
-use Rattle.lists.specs.Lists.{range, count, In, Each-once, Rising}
+use Rattle.lists.specs.Lists.{range, count, In}
+use Rattle.lists.specs.Facts.{Each-once, Rising}
 use Rattle.mesh.specs.Graph.{Graph, radios, linked, neighbours-among, neighbours-in}
 use Rattle.mesh.specs.Cores.{Group, Core, number}
 use Rattle.mesh.specs.Orders.{is-k-order}

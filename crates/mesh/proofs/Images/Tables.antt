@@ -21,7 +21,7 @@ use Rattle.lists.proofs.Tests.{and-left, and-right}
 use Rattle.mesh.proofs.GraphLaws.{linked-self, neighbours-in-subset, degree-in}
 use Rattle.mesh.proofs.Cores.KOrders.{k-order-certificate, certificate-k-order}
 use Rattle.mesh.proofs.Cores.Peeling.{length-numbers, getD-numbers}
-use Rattle.lists.specs.Lists.{Bytes}
+use Rattle.lists.specs.Facts.{Bytes}
 use Rattle.mesh.proofs.Tables.Laws.{length-links-table, bytes-links-table}
 use Rattle.mesh.proofs.Tables.Rows.{few-of}
 use Rattle.mesh.proofs.Tables.ReadBack.{proper-graph-in, ascending-graph-in, graph-in-links-table, links-table-graph-in, degree-graph-in}
