@@ -104,7 +104,7 @@ is-image-tables n bs small = (there, back)
         let xs = image-order n bs in
         let v = image-valid n bs small h in
         record {
-          lent = tables-of g xs;
+          tables = tables-of g xs;
           size = record {
             links-length = length-links-table g;
             numbers-length = length-numbers g;
@@ -118,7 +118,7 @@ is-image-tables n bs small = (there, back)
         }
 
     back : Tables-image n bs → is-image n bs ≡ true
-    back t = ap (is-image n) (sym (t .written)) ∙ is-image-sound n (t .lent) small (t .is-sound)
+    back t = ap (is-image n) (sym (t .written)) ∙ is-image-sound n (t .tables) small (t .is-sound)
 
 -- sound tables, written and read, are the same tables
 pub tables-read-written : (n : ℕ) (t : Tables) → n ≤ max-radios → Tables-of-size n t → sound n t ≡ true
