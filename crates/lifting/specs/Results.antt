@@ -22,20 +22,23 @@ use Rattle.calls.specs.Lift.{lifts}
 
 -- ---- pairs that lift a radio
 
--- a pair: the lower radio first
+-- a pair: two radios, the lower one first
 abbrev pub Is-pair : Graph → Link → Type 0
 Is-pair g l = (l .low < l .high) × (l .high < g .n)
 
+-- "the first pair, by lower radio and then higher"
 pub record First-lift (g : Graph) (r : ℕ) (l : Link) : Type 0 where
   pub is-pair : Is-pair g l
   pub does : lifts g r l ≡ true
   pub none-before : (m : Link) → Is-pair g m → link-before m l ≡ true → lifts g r m ≡ false
 
+-- "no such pair exists"
 abbrev pub No-lift : Graph → (r : ℕ) → Type 0
 No-lift g r = (m : Link) → Is-pair g m → lifts g r m ≡ false
 
--- ---- what the pair given is worth
+-- ---- the pair that is given
 
+-- "whose link is down, would be accepted now, and would raise that radio's core number by the largest-group definition"
 pub record Raises (g : Graph) (v : ℕ) (l : Link) : Type 0 where
   pub allowed : Allowed max-neighbours true (l .low) (l .high) g
   pub before : ℕ
@@ -50,6 +53,7 @@ Listed-up n v t l =
     (w : List ℕ) (s : Reply) (u : Tables) (x : List ℕ) → n ≤ length w → Link-contract true n (l .low) (l .high) t w s u x →
     (s .number ≡ 0) × In v (take (s .count) x)
 
+-- what the pair given is worth
 pub record Lift-right (n v : ℕ) (t : Tables) (l : Link) : Type 0 where
   pub first : First-lift (graph-in n (t .links)) v l
   pub raises : Raises (graph-in n (t .links)) v l

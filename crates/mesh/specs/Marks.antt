@@ -167,9 +167,9 @@ pub record Mark-rules (n : ℕ) (place : List ℕ) : Type 0 where
 
 -- "keeps the marks in rising order of name by bytes, no name twice, used places first, unused ones all zero"
 pub record Store-rules (n : ℕ) (store : List ℕ) : Type 0 where
-  pub used : ℕ
-  pub few : used ≤ places
-  pub mark : (i : ℕ) → i < used → Mark-rules n (place-at store i)
-  pub rising : (i j : ℕ) → i < j → j < used → before (name-at store i) (name-at store j) ≡ true
-  pub differ : (i j : ℕ) → i < j → j < used → same (name-at store i) (name-at store j) ≡ false
-  pub unused : (i : ℕ) → used ≤ i → i < places → is-zeros (place-at store i) ≡ true
+  pub many : ℕ
+  pub few : many ≤ places
+  pub mark : (i : ℕ) → i < many → Mark-rules n (place-at store i)
+  pub rising : (i j : ℕ) → i < j → j < many → before (name-at store i) (name-at store j) ≡ true
+  pub differ : (i j : ℕ) → i < j → j < many → same (name-at store i) (name-at store j) ≡ false
+  pub unused : (i : ℕ) → many ≤ i → i < places → is-zeros (place-at store i) ≡ true
