@@ -12,7 +12,8 @@ use lib.ListN.{length, getD, take, replicate, length-replicate}
 use lib.Seq.{take-all}
 use borrow.Author.Tests.{leb-true, le-leb, ltb-true, eqb-true, eqb-false, lt-ltb, le-ltb, eq-eqb, ne-eqb}
 use Rattle.mesh.specs.Limits.{max-radios, row-bytes}
-use Rattle.lists.specs.Lists.{folded, range, member, In, overwrite}
+use Rattle.lists.specs.Facts.{folded}
+use Rattle.lists.specs.Lists.{range, member, In, overwrite}
 use Rattle.mesh.specs.Graph.{Graph, radios}
 use Rattle.mesh.specs.Cores.{number}
 use Rattle.mesh.specs.Connected.{at-least, In-core, core-of, greatest, backbone}

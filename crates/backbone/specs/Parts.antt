@@ -12,7 +12,7 @@ use mathlib.Core.List.{List, map}
 use Prim.Native.Nat.{ℕ}
 use lib.Dec.{eqb}
 use lib.ListN.{length, getD, take}
-use Rattle.lists.specs.Lists.{folded}
+use Rattle.lists.specs.Facts.{folded}
 use Rattle.mesh.specs.Tables.{put-bit, tables, graph-in}
 use Rattle.mesh.specs.Connected.{greatest, backbone}
 use Rattle.rows.specs.Rows.{row-listed}

@@ -4,7 +4,7 @@ ghost use mathlib.Core.Path.{_≡_};
 ghost use Prim.Native.Nat.{_≤_};
 ghost use lib.ListN.{length, getD, take, replicate};
 ghost use Rattle.mesh.specs.Limits.{max-radios, row-bytes};
-ghost use Rattle.mesh.specs.Tables.{lent};
+ghost use Rattle.mesh.specs.Lent.{lent};
 ghost use Rattle.calls.specs.Contracts.{Backbone-contract};
 ghost use Rattle.backbone.specs.Parts.{part-greatest, top-put, tops-put, Part-visited, Backbone-put};
 use calls::Value;

@@ -25,7 +25,7 @@ use lib.Seq.{ext-getD}
 use borrow.Author.Tests.{ltb-true, ltb-false, eq-eqb, ne-eqb, not-true}
 use Rattle.mesh.specs.Limits.{max-neighbours}
 use Rattle.lists.specs.Lists.{range, filter, member, overwrite, In, Ascending, Entries-below}
-use Rattle.mesh.specs.Graph.{Graph, linked, radios, relinked}
+use Rattle.mesh.specs.Graph.{Graph, linked, radios, relinked, Allowed}
 use Rattle.mesh.specs.Cores.{Core, number, numbers}
 use Rattle.mesh.specs.Orders.{is-k-order, nobody}
 use Rattle.mesh.specs.Levels.{changed}
@@ -54,7 +54,7 @@ use Rattle.mesh.proofs.Links.Laws.{link-valid}
 use Rattle.mesh.proofs.Images.Of.{length-image-of, whole-blocks-image-of, checks-good-image-of}
 use Rattle.mesh.proofs.Images.Sites.{written-read}
 use Rattle.mesh.proofs.Images.Tables.{valid-graph-in, is-image-sound, is-image-tables, tables-read-written}
-use Rattle.mesh.specs.Valid.{Valid, Allowed}
+use Rattle.mesh.specs.Valid.{Valid}
 use Rattle.calls.specs.Questions.{lengths-of, image-length, tables-refusal, link-refusal}
 use Rattle.calls.specs.Questions.{radio-refusal, core-refusal, backbone-refusal, write-refusal, read-refusal}
 use Rattle.calls.specs.Questions.{sheet-refusal}

@@ -15,7 +15,7 @@ use native.Mathlib.Omega.{arith}
 use lib.ListN.{length, getD, take}
 use borrow.Author.Tests.{eqb-true, ne-eqb}
 use Rattle.mesh.specs.Limits.{max-neighbours}
-use Rattle.mesh.specs.Graph.{Link, Graph, graph, link-before, with-link, relinked, new-links}
+use Rattle.mesh.specs.Graph.{Link, Graph, graph, link-before, with-link, relinked, new-links, Allowed}
 use Rattle.mesh.specs.Tables.{Tables, graph-in}
 use Rattle.mesh.specs.Sound.{sound}
 use Rattle.mesh.proofs.Tables.DegreeSum.{links-most}

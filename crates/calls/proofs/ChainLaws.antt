@@ -12,11 +12,10 @@ use Prim.Native.Nat.{ℕ, _≤_, _<_}
 use native.Mathlib.Omega.{arith}
 use lib.IntN.{ℤ}
 use Rattle.mesh.specs.Limits.{max-radios, max-neighbours}
-use Rattle.mesh.specs.Graph.{Graph}
+use Rattle.mesh.specs.Graph.{Graph, Allowed}
 use Rattle.mesh.specs.Cores.{number}
 use Rattle.mesh.specs.Image.{whole-blocks, checks-good, other-size, is-image}
 use Rattle.lists.proofs.Tests.{and-left, and-right}
-use Rattle.mesh.specs.Valid.{Allowed}
 use Rattle.mesh.proofs.Images.OtherSize.{is-image-not-other}
 use Rattle.calls.specs.Questions.{ask, Lengths, size-good, site-lengths, answer-length, are-radios, is-radio, ends-differ, can-switch, has-room}
 use Rattle.calls.specs.Questions.{has-level, image-length, holds-image, lent-refusal, site-refusal, ends-then, ends-refusal, link-refusal, radio-refusal}

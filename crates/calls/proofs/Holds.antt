@@ -10,7 +10,7 @@ use Prim.Native.Nat.{ℕ, _≤_}
 use lib.ListN.{length}
 use Rattle.mesh.specs.Limits.{max-radios, max-neighbours}
 use Rattle.lists.specs.Lists.{range}
-use Rattle.mesh.specs.Graph.{Link, Graph, graph, relinked, new-links}
+use Rattle.mesh.specs.Graph.{Link, Graph, graph, relinked, new-links, Allowed}
 use Rattle.mesh.specs.Levels.{changed, new-order}
 use Rattle.mesh.specs.Tables.{Tables, graph-in, tables-of}
 use Rattle.mesh.specs.Sound.{sound}
@@ -21,7 +21,7 @@ use Rattle.mesh.proofs.Tables.ReadBack.{graph-in-links-table}
 use Rattle.mesh.proofs.Tables.Soundness.{valid-sound}
 use Rattle.mesh.proofs.Tables.Sites.{valid-cleared, numbers-cleared, image-valid}
 use Rattle.mesh.proofs.Links.Laws.{link-valid, link-table}
-use Rattle.mesh.specs.Valid.{Valid, Allowed}
+use Rattle.mesh.specs.Valid.{Valid}
 use Rattle.calls.specs.Questions.{lengths-of, site-refusal, tables-refusal, read-refusal}
 use Rattle.calls.specs.Switches.{Switch, pairs-after, switched, tables-after, All-allowed}
 use Rattle.calls.specs.Outcomes.{numbered, clear-outcome, read-outcome}

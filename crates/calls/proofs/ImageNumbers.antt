@@ -32,7 +32,7 @@ module _ (n : ℕ) (bs : List ℕ) (one : size-good n ≡ true) where
       go : (eqb m n ≡ true) ⊎ (eqb m n ≡ false) → ⊥
       go (inl e) = never (is-image n bs) (of-this-size .1 (subst (λ (k : ℕ). Tables-image k bs) (eqb-true m n e) t)) i
       go (inr e) =
-          never (other-size n bs) (other-size-iff n bs .1 (record { radios = m; size = s; other = eqb-false m n e; is-image = t })) o
+          never (other-size n bs) (other-size-iff n bs .1 (record { another = m; size = s; other = eqb-false m n e; of-tables = t })) o
 
   -- the last two questions
   answered : (o i : Bool) (r : ℕ) → other-size n bs ≡ o → is-image n bs ≡ i → r ≡ ask 15 (not o) (ask 11 i 0) → Image-answered n bs r
@@ -41,7 +41,7 @@ module _ (n : ℕ) (bs : List ℕ) (one : size-good n ≡ true) where
   answered true false r eo ei e = record {
     accepted = (λ z. absurd (omega arith), λ t. never (is-image n bs) (of-this-size .1 t) ei);
     other-size = (λ z. other-size-iff n bs .0 eo, λ t. e);
-    none = (λ z. absurd (omega arith), λ h. let t = other-size-iff n bs .0 eo in absurd (h (t .radios) (t .size) (t .is-image)));
+    none = (λ z. absurd (omega arith), λ h. let t = other-size-iff n bs .0 eo in absurd (h (t .another) (t .size) (t .of-tables)));
   }
   answered false true r eo ei e = record {
     accepted = (λ z. of-this-size .0 ei, λ t. e);

@@ -10,14 +10,14 @@ use lib.ListN.{length, List·getD-eq-default}
 use borrow.Author.Tests.{ltb-true, ltb-false}
 use Rattle.mesh.specs.Limits.{max-radios, max-neighbours}
 use Rattle.lists.specs.Lists.{member}
-use Rattle.mesh.specs.Graph.{Graph, relinked}
+use Rattle.mesh.specs.Graph.{Graph, relinked, Allowed}
 use Rattle.mesh.specs.Cores.{number, numbers}
 use Rattle.mesh.specs.Levels.{changed, lower-level, new-order}
 use Rattle.mesh.specs.Tables.{tables-of}
 use Rattle.mesh.specs.Sound.{number-in}
 use Rattle.lists.proofs.Tests.{bool-cases}
 use Rattle.mesh.proofs.Cores.Peeling.{length-numbers, getD-numbers}
-use Rattle.mesh.specs.Valid.{Valid, Allowed, smaller, larger}
+use Rattle.mesh.specs.Valid.{Valid, smaller, larger}
 use Rattle.mesh.proofs.Links.Call.{changed-below, unchanged-number}
 use Rattle.mesh.proofs.Links.Laws.{link-level, link-by-one, link-connected, link-has-end, link-below, link-above, link-stretch, link-table}
 use Rattle.calls.specs.Book.{reported}

@@ -157,7 +157,7 @@ unfolding read-outcome by-number
 older-other m n bs t s d i e =
     let small = size-good-true m s .1 in
     let o = other-size-iff n bs .1
-    (record { radios = m; size = s; other = d; is-image = is-image-tables m bs small .0 (older-image m bs i) }) in
+    (record { another = m; size = s; other = d; of-tables = is-image-tables m bs small .0 (older-image m bs i) }) in
     rw (fifteen-for-eleven n bs (lengths-of t) o (sym (number-former n bs t) ∙ e))
 
 -- ---- all calls

@@ -16,7 +16,8 @@ use Rattle.lists.proofs.Count.{count-less}
 use Rattle.mesh.specs.Limits.{max-neighbours}
 use Rattle.mesh.specs.Graph.{Link, Graph, graph, In-links, radios, other-ends, linked, neighbours-among, degree, link, link-before, with-link, new-links, relinked}
 use Rattle.mesh.specs.Graph.{proper, ascending}
-use Rattle.mesh.specs.Valid.{Valid, Allowed}
+use Rattle.mesh.specs.Valid.{Valid}
+use Rattle.mesh.specs.Graph.{Allowed}
 use Rattle.mesh.proofs.GraphLaws.{ends, Ends, ends-of, linked-sym, proper-of, of-proper, proper-new-links}
 use Rattle.mesh.proofs.Tables.Relinked.{linked-relinked, ascending-new-links}
 use Rattle.mesh.proofs.Tables.AscendingLinks.{in-links-right, in-links-proper, Before, before-irreflexive, before-trans, before-of, link-eq, Sorted, sorted-of}

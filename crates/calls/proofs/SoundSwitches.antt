@@ -10,12 +10,12 @@ use mathlib.Core.List.{List, [], _∷_}
 use Prim.Native.Nat.{ℕ}
 use lib.ListN.{length}
 use Rattle.mesh.specs.Limits.{max-neighbours}
-use Rattle.mesh.specs.Graph.{Link, Graph, graph, relinked, new-links}
+use Rattle.mesh.specs.Graph.{Link, Graph, graph, relinked, new-links, Allowed}
 use Rattle.mesh.specs.Cores.{numbers}
 use Rattle.mesh.specs.Levels.{new-order}
 use Rattle.mesh.specs.Tables.{Tables, graph-in}
 use Rattle.mesh.specs.Sound.{sound}
-use Rattle.mesh.specs.Valid.{Valid, Allowed}
+use Rattle.mesh.specs.Valid.{Valid}
 use Rattle.lists.proofs.Range.{once-length}
 use Rattle.mesh.proofs.Cores.Peeling.{length-numbers}
 use Rattle.mesh.proofs.Cores.KOrders.{k-order-certificate}

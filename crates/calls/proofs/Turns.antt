@@ -13,7 +13,7 @@ use native.Mathlib.Omega.{arith}
 use Rattle.mesh.specs.Limits.{max-neighbours}
 use Rattle.lists.specs.Lists.{range, count, member}
 use Rattle.mesh.specs.Graph.{Link, Graph, graph, In-links, radios, other-ends, linked, neighbours-among, degree, relinked, new-links, proper, ascending}
-use Rattle.mesh.specs.Valid.{Allowed}
+use Rattle.mesh.specs.Graph.{Allowed}
 use Rattle.lists.proofs.Count.{count-less}
 use Rattle.lists.proofs.Range.{range-in, in-range}
 use Rattle.mesh.proofs.GraphLaws.{Ends, ends, ends-of, linked-by, linked-by-cons, linked-sym, joins, Proper, proper-of, of-proper, proper-new-links}

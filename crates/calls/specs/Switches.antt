@@ -9,11 +9,10 @@ use mathlib.Core.Bool.{Bool}
 use mathlib.Core.List.{List, [], _∷_}
 use Prim.Native.Nat.{ℕ}
 use Rattle.mesh.specs.Limits.{max-neighbours}
-use Rattle.mesh.specs.Graph.{Link, graph, relinked, new-links}
+use Rattle.mesh.specs.Graph.{Link, graph, relinked, new-links, Allowed}
 use Rattle.mesh.specs.Cores.{numbers}
 use Rattle.mesh.specs.Levels.{new-order}
 use Rattle.mesh.specs.Tables.{Tables, tables, put-link, graph-in}
-use Rattle.mesh.specs.Valid.{Allowed}
 
 -- the link between a and b goes up or down
 pub record Switch : Type 0 where

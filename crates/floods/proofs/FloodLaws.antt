@@ -11,7 +11,8 @@ use lib.ListN.{length, getD, take, drop, set, length-append, length-set, List·g
 use lib.Seq.{sets, sets-eq, length-sets, length-take-le, take-at, take-suc-set, getD-take}
 use borrow.Author.Tests.{ltb-true, ltb-false}
 use Rattle.mesh.specs.Limits.{max-radios}
-use Rattle.lists.specs.Lists.{range, count, filter, member, In, Distinct}
+use Rattle.lists.specs.Lists.{range, count, filter, member, In}
+use Rattle.lists.specs.Facts.{Distinct}
 use Rattle.lists.proofs.Tests.{bool-cases, never, and-left, and-right, and-both}
 use Rattle.lists.proofs.Member.{member-append, in-left, in-right, in-cases, member-in, in-member, in-getD, getD-of-in}
 use Rattle.lists.proofs.Range.{in-range, length-range, distinct-range}

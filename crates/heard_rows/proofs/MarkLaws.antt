@@ -17,7 +17,8 @@ use lib.Dec.{ltb, eqb}
 use lib.ListN.{length, getD, replicate, length-replicate}
 use borrow.Author.Tests.{eqb-true, eq-eqb, ne-eqb, lt-ltb, le-ltb}
 use Rattle.mesh.specs.Limits.{max-radios, row-bytes}
-use Rattle.lists.specs.Lists.{Bytes, In, range, count, total, member, folded}
+use Rattle.lists.specs.Facts.{Bytes, folded}
+use Rattle.lists.specs.Lists.{In, range, count, total, member}
 use Rattle.lists.proofs.Tests.{trichotomy}
 use Rattle.lists.proofs.Count.{count-le-length}
 use Rattle.lists.proofs.Range.{count-below}

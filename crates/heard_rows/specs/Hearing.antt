@@ -19,7 +19,8 @@ use Prim.Native.Nat.{ℕ, suc, _+_, _*_, _-_, _/_, _≤_, _<_}
 use lib.Dec.{ltb}
 use lib.ListN.{length, take}
 use Rattle.mesh.specs.Limits.{max-radios, max-neighbours, row-bytes}
-use Rattle.lists.specs.Lists.{range, count, filter, all, folded}
+use Rattle.lists.specs.Lists.{range, count, filter, all}
+use Rattle.lists.specs.Facts.{folded}
 use Rattle.mesh.specs.Tables.{marked, put-bit}
 use Rattle.mesh.specs.Sound.{within}
 use Rattle.calls.specs.Questions.{ask}

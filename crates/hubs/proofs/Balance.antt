@@ -9,9 +9,8 @@ use mathlib.Core.List.{List, [], _∷_}
 use Prim.Native.Nat.{ℕ, _+_}
 use native.Mathlib.Omega.{arith}
 use Rattle.mesh.specs.Limits.{max-neighbours}
-use Rattle.mesh.specs.Graph.{Link, graph, linked, relinked, new-links}
+use Rattle.mesh.specs.Graph.{Link, graph, linked, relinked, new-links, Allowed}
 use Rattle.mesh.specs.Tables.{Tables}
-use Rattle.mesh.specs.Valid.{Allowed}
 use Rattle.mesh.proofs.GraphLaws.{Ends, ends, ends-of, linked-sym}
 use Rattle.mesh.proofs.Tables.Relinked.{linked-relinked}
 use Rattle.calls.specs.Switches.{Switch, pairs-after, switched, tables-after, All-allowed}

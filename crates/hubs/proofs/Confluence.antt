@@ -11,12 +11,11 @@ use Prim.Native.Nat.{ℕ, zero, suc}
 use native.Mathlib.Omega.{arith}
 use lib.ListN.{length}
 use Rattle.mesh.specs.Limits.{max-neighbours}
-use Rattle.mesh.specs.Graph.{Link, graph, new-links}
+use Rattle.mesh.specs.Graph.{Link, graph, new-links, Allowed}
 use Rattle.mesh.specs.Levels.{changed}
 use Rattle.mesh.specs.Tables.{Tables, graph-in, tables-of}
 use Rattle.mesh.specs.Sound.{sound}
 use Rattle.mesh.specs.Image.{image-of, image-order}
-use Rattle.mesh.specs.Valid.{Allowed}
 use Rattle.mesh.proofs.Images.Sites.{length-order, read-written-order}
 use Rattle.calls.specs.Questions.{Lengths, lengths-of, answer-length, nodes-length, staircase-length, site-refusal, link-refusal}
 use Rattle.calls.specs.Questions.{tree-refusal, backbone-refusal, staircase-refusal}
@@ -31,7 +30,7 @@ use Rattle.calls.proofs.ChainLaws.{link-zero}
 use Rattle.calls.proofs.Holds.{Holds, read-back, site-asked}
 use Rattle.calls.proofs.Steps.{Stepped, step}
 use Rattle.calls.proofs.WholeList.{start}
-use Rattle.hubs.specs.Hubs.{Cleared, Singles, ended, single, only-reads, Two-hubs, Equal-sites, Equal-answers, Confluence, Calls-agree}
+use Rattle.hubs.specs.Hubs.{Cleared, Singles, no-more, single, only-reads, Two-hubs, Equal-sites, Equal-answers, Confluence, Calls-agree}
 use Rattle.hubs.specs.Hubs.{Equal-orders, Equal-images}
 use Rattle.hubs.proofs.Balance.{pairs-agree}
 
@@ -57,7 +56,7 @@ record Taken (n : ℕ) (ps : List Link) (ss : List Switch) (v : Tables) : Type 0
 
 taken : (n : ℕ) (ps : List Link) {t v : Tables} {es : List Event} {ss : List Switch} → Holds n ps t → Run t es v → Singles n es ss → Taken n ps ss v
 unfolding pairs-after All-allowed outcome pairs-of first-pairs
-taken n ps k runs.ended ended = record { holds = k; allowed = tt }
+taken n ps k runs.ended no-more = record { holds = k; allowed = tt }
 taken n ps k (next {t = t} {u = v} d r) (single {up = u} {a = a} {b = b} {w = w} {h = h} z s) =
     let x = one-taken n ps t k u a b w h v z _ refl (step n ps t k (linking u n a b w) (h ∷ []) v d) in
     let i = taken n (new-links u a b ps) (x .0) r s in

@@ -55,7 +55,7 @@ All-taken n (c ∷ cs) s = (link-outcome (c .up) n (c .a) (c .b) (s .tables) (en
 
 singles : (n : ℕ) (cs : List Switch) (s : Left) → All-taken n cs s → Singles n (events n cs s) cs
 unfolding events All-taken answer-of
-singles n [] s ok = hubs.ended
+singles n [] s ok = hubs.no-more
 singles n (c ∷ cs) s ok = single (ok .0) (singles n cs (played zeros n c s) (ok .1))
 
 -- ---- what a row of the worked pair says

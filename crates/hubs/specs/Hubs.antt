@@ -26,7 +26,7 @@ use Rattle.calls.specs.Runs.{Event, event, events, after}
 
 -- ---- the same calls
 
--- is s the call that takes the link between a and b up, or down, whichever end it names first?
+-- a single link call by its direction and its two radios, whichever it names first
 unfoldable pub same-call : (up : Bool) → (a b : ℕ) → Switch → Bool
 same-call up a b s = Bool·beq (s .up) up && ((eqb (s .a) a && eqb (s .b) b) || (eqb (s .a) b && eqb (s .b) a))
 
@@ -41,14 +41,14 @@ Same-calls ss rs = (up : Bool) (a b : ℕ) → times up a b ss ≡ times up a b 
 
 -- ---- a hub
 
--- whatever the tables held before
+-- "both start cleared with the same n": left by an accepted clearing, whatever the tables held before
 pub record Cleared (n : ℕ) (t : Tables) : Type 0 where
   pub before : Tables
   pub cleared : numbered 0 t ≡ clear-outcome n before
 
--- single link calls only, none refused. A call that only reads is `other` to a run, and leaves the tables
+-- "single link calls only", none refused. A call that only reads is `other` to a run, and leaves the tables
 pub data Singles (n : ℕ) : List Event → List Switch → Type 0 where
-  ended : Singles n [] []
+  no-more : Singles n [] []
   single :
       {up : Bool} {a b w : ℕ} {t v : Tables} {h : Answer} {es : List Event} {ss : List Switch} → h .number ≡ 0 → Singles n es ss →
       Singles n (event (linking up n a b w) t (h ∷ []) v ∷ es) (switch up a b ∷ ss)
@@ -63,7 +63,7 @@ Two-hubs C =
     (n : ℕ) (t u : Tables) (cs ds : List Call) (ss rs : List Switch) → Cleared n t → Cleared n u →
     Singles n (events cs t) ss → Singles n (events ds u) rs → Same-calls ss rs → C n (after cs t) (after ds u)
 
--- orders and images may differ
+-- "equal links and numbers, and equal shell trees, backbones and staircase trees"; orders and images may differ
 pub record Equal-sites (n : ℕ) (v w : Tables) : Type 0 where
   pub links : v .links ≡ w .links
   pub numbers : v .numbers ≡ w .numbers
@@ -78,9 +78,11 @@ pub record Equal-answers (v w : Tables) : Type 0 where
   pub backbone : (m : ℕ) (xs : List ℕ) → backbone-outcome m v xs ≡ backbone-outcome m w xs
   pub staircase : (m : ℕ) (xs : List ℕ) → staircase-outcome m v xs ≡ staircase-outcome m w xs
 
+-- what two hubs hold is equal
 unfoldable pub Confluence : Type 0
 Confluence = Two-hubs Equal-sites
 
+-- what they answer is equal
 unfoldable pub Calls-agree : Type 0
 Calls-agree = Two-hubs (λ n v w. Equal-answers v w)
 

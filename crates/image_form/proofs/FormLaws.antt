@@ -16,7 +16,7 @@ use Rattle.mesh.specs.Image.{block-bytes, payload-bytes, block-entries, block-l
 use Rattle.mesh.specs.Image.{image-order, image-links, image-graph, checks-good, is-image}
 use Rattle.lists.proofs.Tests.{and-left, and-right, and-both}
 use Rattle.lists.proofs.All.{all-below, below-all}
-use Rattle.lists.specs.Lists.{Bytes}
+use Rattle.lists.specs.Facts.{Bytes}
 use Rattle.mesh.proofs.Images.Blocks.{length-order-payload, length-links-payload}
 use Rattle.mesh.proofs.Images.Of.{kind-at, content-at}
 use Rattle.mesh.proofs.Images.Canonical.{Canonical, length-image-links, length-image-order, is-image-canonical}

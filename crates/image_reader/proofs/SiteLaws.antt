@@ -10,7 +10,8 @@ use lib.ListN.{length, getD, take}
 use lib.Seq.{ext-getD}
 use borrow.Author.Tests.{le-leb, eqb-true}
 use Rattle.mesh.specs.Limits.{max-radios, max-neighbours}
-use Rattle.lists.specs.Lists.{overwrite, Bytes}
+use Rattle.lists.specs.Lists.{overwrite}
+use Rattle.lists.specs.Facts.{Bytes}
 use Rattle.mesh.specs.Graph.{Link, Graph, graph, proper, ascending}
 use Rattle.mesh.specs.Cores.{number, numbers}
 use Rattle.mesh.specs.Orders.{is-k-order}

@@ -10,9 +10,11 @@ use lib.Dec.{ltb, leb}
 use lib.ListN.{length, getD, drop}
 use borrow.Author.Tests.{leb-true, le-leb}
 use Rattle.mesh.specs.Limits.{max-radios, max-neighbours}
-use Rattle.lists.specs.Lists.{range, count, all, Each-once}
+use Rattle.lists.specs.Lists.{range, count, all}
+use Rattle.lists.specs.Facts.{Each-once}
 use Rattle.mesh.specs.Graph.{Link, Graph, graph, radios, other-ends, linked, neighbours-in, degree, proper, ascending}
-use Rattle.mesh.specs.Orders.{each-once, is-k-order, running-maxima}
+use Rattle.mesh.specs.Orders.{each-once, is-k-order}
+use Rattle.mesh.proofs.Cores.RunningMaximum.{running-maxima}
 use Rattle.lists.proofs.Tests.{never, iff-eq, ltb-next}
 use Rattle.lists.proofs.Member.{in-getD}
 use Rattle.lists.proofs.Count.{count-all, count-cong}

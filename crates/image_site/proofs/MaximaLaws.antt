@@ -10,7 +10,8 @@ use lib.ListN.{length, getD, take, drop, set, length-set, take-append-drop}
 use lib.Seq.{take-suc, drop-cons, drop-length, getD-set-same, getD-set-other}
 use Rattle.lists.specs.Lists.{count, In}
 use Rattle.mesh.specs.Graph.{neighbours-among}
-use Rattle.mesh.specs.Orders.{each-once, running-maxima}
+use Rattle.mesh.specs.Orders.{each-once}
+use Rattle.mesh.proofs.Cores.RunningMaximum.{running-maxima}
 use Rattle.lists.proofs.Distinct.{distinct-apart}
 use Rattle.lists.proofs.Range.{once-distinct, once-below}
 use Rattle.mesh.proofs.Cores.Orders.{each-once-of}

@@ -10,7 +10,7 @@ ghost use Rattle.lists.specs.Lists.{range};
 ghost use Rattle.mesh.specs.Graph.{link-of};
 ghost use Rattle.mesh.specs.Image.{block-bytes, block-entries, block-links, block-count, word, link-bytes, block};
 ghost use Rattle.mesh.specs.Limits.{max-radios, max-neighbours, row-bytes};
-ghost use Rattle.mesh.specs.Tables.{lent};
+ghost use Rattle.mesh.specs.Lent.{lent};
 ghost use Rattle.calls.specs.Contracts.{Write-contract};
 ghost use Rattle.rows.specs.Rows.{neighbours-above, row-from, row-word, set-bits};
 ghost use Rattle.link_list.specs.Links.{links-to, links-above, links-from, Rows-listed};

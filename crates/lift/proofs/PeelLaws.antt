@@ -14,7 +14,8 @@ use lib.Dec.{ltb, eqb}
 use lib.ListN.{length, getD, set, drop, length-set, drop-of-length-le}
 use lib.Seq.{getD-set-same, getD-set-other, drop-cons}
 use borrow.Author.Tests.{eqb-true, eqb-false, eq-eqb, ne-eqb, le-leb, lt-leb, lt-ltb, le-ltb}
-use Rattle.lists.specs.Lists.{In, Distinct, member}
+use Rattle.lists.specs.Lists.{In, member}
+use Rattle.lists.specs.Facts.{Distinct}
 use Rattle.lists.proofs.Tests.{bool-cases, cond-false}
 use Rattle.lists.proofs.Member.{not-member}
 use Rattle.lists.proofs.Parts.{getD-any}

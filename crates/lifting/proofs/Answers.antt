@@ -33,8 +33,7 @@ use Rattle.calls.proofs.QuestionLaws.{true-answer-length}
 use Rattle.calls.proofs.ChainLaws.{Site-good, site-yes, ends-yes}
 use Rattle.calls.proofs.ContractLaws.{number-by, accepted-is, by-zero}
 use Rattle.calls.proofs.LiftOutcome.{lift-zero, lift-twenty, lift-unanswered}
-use Rattle.lifting.specs.Search.{First-lift, No-lift}
-use Rattle.lifting.specs.Results.{Raises, Listed-up, Lift-right}
+use Rattle.lifting.specs.Results.{First-lift, No-lift, Raises, Listed-up, Lift-right}
 use Rattle.lifting.proofs.Pairs.{lifts-lifted, lifted-lifts}
 use Rattle.lifting.proofs.Search.{lifted-first, lifted-none, none-lifted}
 

@@ -16,10 +16,10 @@ use lib.ListN.{getD}
 use borrow.Author.Tests.{ltb-true, lt-ltb, leb-true, le-leb, eqb-true, eqb-false, eq-eqb}
 use Rattle.lists.specs.Lists.{range, filter, member}
 use Rattle.mesh.specs.Limits.{max-neighbours}
-use Rattle.mesh.specs.Graph.{Graph, link-of, radios, linked, neighbours-in, relinked}
+use Rattle.mesh.specs.Graph.{Graph, link-of, radios, linked, neighbours-in, relinked, Allowed}
 use Rattle.mesh.specs.Cores.{Group, number}
 use Rattle.mesh.specs.Levels.{changed, lower-level}
-use Rattle.mesh.specs.Valid.{Valid, Allowed, smaller, larger}
+use Rattle.mesh.specs.Valid.{Valid, smaller, larger}
 use Rattle.lists.proofs.Tests.{bool-cases, never, and-left, and-right, and-both}
 use Rattle.lists.proofs.Range.{in-range, distinct-range}
 use Rattle.lists.proofs.Count.{count-less}

@@ -21,7 +21,8 @@ use Rattle.lists.proofs.Range.{range-append, range-in}
 use Rattle.lists.proofs.Filter.{filter-none, filter-append}
 use Rattle.lists.proofs.Map.{flatMap-none, flatMap-append}
 use Rattle.calls.specs.Lift.{lifts, lifting-from, lifting, first-pair, is-lifted}
-use Rattle.lifting.specs.Search.{candidate, None-below, Untried, Is-pair, First-lift, No-lift}
+use Rattle.lifting.specs.Search.{candidate, None-below, Untried}
+use Rattle.lifting.specs.Results.{Is-pair, First-lift, No-lift}
 use Rattle.lifting.proofs.Pairs.{candidate-refutes}
 
 -- ---- pairs with one lower radio

@@ -1,22 +1,43 @@
 -- What a caller has of the answer (document 02, W-212). g is the graph in the tables, l the pair given.
+--   Is-pair g l        two radios, the lower one first
+--   First-lift g r l   l lifts r, and no pair before it does
+--   No-lift g r        no pair lifts r
 --   Raises g v l       with the link l, which a link call would take up now, the core number of v by the largest group is greater
 --   Listed-up          a link call that takes l up on these tables is accepted, and lists v among the changed radios
 --   Lift-right         l is the first pair that lifts v; it raises v; taking it up is accepted and lists v
 -- That they hold is `lift-core`, `lift-accepted`, `lift-right` in proofs/Answers.antt. Definitions only.
 use mathlib.Core.Path.{_≡_}
-use mathlib.Core.Bool.{true}
+use mathlib.Core.Bool.{true, false}
 use mathlib.Core.List.{List}
 use Prim.Native.Nat.{ℕ, _≤_, _<_}
 use lib.ListN.{length, take}
 use Rattle.lists.specs.Lists.{In}
 use Rattle.mesh.specs.Limits.{max-neighbours}
-use Rattle.mesh.specs.Graph.{Link, Graph, relinked}
+use Rattle.mesh.specs.Graph.{Link, Graph, link-before, relinked, Allowed}
 use Rattle.mesh.specs.Cores.{Core}
 use Rattle.mesh.specs.Tables.{Tables, graph-in}
-use Rattle.mesh.specs.Valid.{Allowed}
 use Rattle.calls.specs.Outcomes.{link-outcome}
-use Rattle.lifting.specs.Search.{First-lift}
+use Rattle.calls.specs.Lift.{lifts}
 
+-- ---- pairs that lift a radio
+
+-- a pair: two radios, the lower one first
+abbrev pub Is-pair : Graph → Link → Type 0
+Is-pair g l = (l .low < l .high) × (l .high < g .n)
+
+-- "the first pair, by lower radio and then higher"
+pub record First-lift (g : Graph) (r : ℕ) (l : Link) : Type 0 where
+  pub is-pair : Is-pair g l
+  pub does : lifts g r l ≡ true
+  pub none-before : (m : Link) → Is-pair g m → link-before m l ≡ true → lifts g r m ≡ false
+
+-- "no such pair exists"
+abbrev pub No-lift : Graph → (r : ℕ) → Type 0
+No-lift g r = (m : Link) → Is-pair g m → lifts g r m ≡ false
+
+-- ---- the pair that is given
+
+-- "whose link is down, would be accepted now, and would raise that radio's core number by the largest-group definition"
 pub record Raises (g : Graph) (v : ℕ) (l : Link) : Type 0 where
   pub allowed : Allowed max-neighbours true (l .low) (l .high) g
   pub before : ℕ
@@ -31,6 +52,7 @@ Listed-up n v t l =
     (w : List ℕ) → n ≤ length w → let o = link-outcome true n (l .low) (l .high) t w in
     (o .reply .number ≡ 0) × In v (take (o .reply .count) (o .answer))
 
+-- what the pair given is worth
 pub record Lift-right (n v : ℕ) (t : Tables) (l : Link) : Type 0 where
   pub first : First-lift (graph-in n (t .links)) v l
   pub raises : Raises (graph-in n (t .links)) v l

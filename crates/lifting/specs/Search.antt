@@ -1,16 +1,14 @@
--- Pairs tried, by lower radio and then higher, and what a caller has of the answer.
+-- Pairs tried, by lower radio and then higher.
 --   candidate g K a b     a pair whose lower number is K, whose link is down and whose ends have room: only such a pair can lift a radio of number K
 --   None-below g r a      no pair whose lower radio is below a lifts r
 --   Untried g r a rest    of the pairs whose lower radio is a, only ones with a radio of `rest` can lift r
---   First-lift g r l      l lifts r, and no pair before it does
---   No-lift g r           no pair lifts r
 -- Laws are in proofs/Search.antt. Definitions only.
 use mathlib.Core.Path.{_≡_}
 use mathlib.Core.Bool.{Bool, true, false, _&&_}
 use Prim.Native.Nat.{ℕ, _<_}
 use lib.Dec.{eqb}
 use Rattle.mesh.specs.Limits.{max-neighbours}
-use Rattle.mesh.specs.Graph.{Link, link-of, Graph, link-before}
+use Rattle.mesh.specs.Graph.{link-of, Graph}
 use Rattle.mesh.specs.Levels.{lower-level}
 use Rattle.calls.specs.Questions.{can-switch, has-room}
 use Rattle.calls.specs.Lift.{lifts}
@@ -23,15 +21,3 @@ None-below g r a = (x y : ℕ) → x < a → x < y → y < g .n → lifts g r (l
 
 abbrev pub Untried : Graph → (r a : ℕ) → (rest : ℕ → Bool) → Type 0
 Untried g r a rest = (c : ℕ) → a < c → c < g .n → rest c ≡ false → lifts g r (link-of a c) ≡ false
-
--- a pair: the lower radio first
-abbrev pub Is-pair : Graph → Link → Type 0
-Is-pair g l = (l .low < l .high) × (l .high < g .n)
-
-pub record First-lift (g : Graph) (r : ℕ) (l : Link) : Type 0 where
-  pub is-pair : Is-pair g l
-  pub does : lifts g r l ≡ true
-  pub none-before : (m : Link) → Is-pair g m → link-before m l ≡ true → lifts g r m ≡ false
-
-abbrev pub No-lift : Graph → (r : ℕ) → Type 0
-No-lift g r = (m : Link) → Is-pair g m → lifts g r m ≡ false

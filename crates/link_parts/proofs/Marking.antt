@@ -12,7 +12,8 @@ use lib.Seq.{set-out}
 use borrow.Author.Tests.{eq-eqb, ne-eqb, ltb-true, ltb-false}
 use Rattle.mesh.specs.Limits.{max-radios, row-bytes}
 use Rattle.lists.proofs.Loops.{length-folded}
-use Rattle.lists.specs.Lists.{folded, range, member}
+use Rattle.lists.specs.Facts.{folded}
+use Rattle.lists.specs.Lists.{range, member}
 use Rattle.mesh.specs.Tables.{byte-at, marked, put-bit}
 use Rattle.lists.proofs.Tests.{bool-cases}
 use Rattle.lists.proofs.Range.{range-in}

@@ -20,7 +20,8 @@ use lib.IntN.{ℤ, pos, negsuc}
 use lib.ListN.{length, take, drop}
 use lib.Seq.{paste}
 use Rattle.mesh.specs.Limits.{max-radios}
-use Rattle.lists.specs.Lists.{folded, range, filter, member, overwrite}
+use Rattle.lists.specs.Facts.{folded}
+use Rattle.lists.specs.Lists.{range, filter, member, overwrite}
 use Rattle.mesh.specs.Tables.{Tables, put-bit, put-link}
 use Rattle.calls.specs.declared.Reply.{Reply}
 use Rattle.tables.specs.Steps.{all-stepped}

@@ -5,7 +5,7 @@ ghost use Prim.Native.Nat.{_+_, _-_, _≤_};
 ghost use lib.ListN.{length, take};
 ghost use lib.Seq.{paste};
 ghost use Rattle.lists.specs.Lists.{overwrite};
-ghost use Rattle.mesh.specs.Tables.{lent};
+ghost use Rattle.mesh.specs.Lent.{lent};
 ghost use Rattle.link_parts.specs.Changes.{changed-part, all-marked, in-order, counted-step, plan-fits};
 ghost use Rattle.link_parts.specs.Changes.{Reported, Plan-put, Write-contract, Apply-contract};
 use calls::Reply;

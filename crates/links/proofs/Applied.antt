@@ -13,8 +13,9 @@ use lib.IntN.{ℤ}
 use lib.ListN.{length, getD, take, drop, length-drop}
 use lib.Seq.{length-take-le, take-all, ext-getD, getD-take, getD-drop}
 use Rattle.mesh.specs.Limits.{max-radios, max-neighbours}
-use Rattle.lists.specs.Lists.{range, count, filter, member, overwrite, In, Distinct, Entries-below}
-use Rattle.mesh.specs.Graph.{Graph, radios, linked, degree, neighbours-among, neighbours-in, relinked}
+use Rattle.lists.specs.Lists.{range, count, filter, member, overwrite, In, Entries-below}
+use Rattle.lists.specs.Facts.{Distinct}
+use Rattle.mesh.specs.Graph.{Graph, radios, linked, degree, neighbours-among, neighbours-in, relinked, Allowed}
 use Rattle.mesh.specs.Cores.{Group, number, numbers}
 use Rattle.mesh.specs.Levels.{changed, step-of}
 use Rattle.mesh.specs.Tables.{Tables, graph-in}
@@ -27,7 +28,7 @@ use Rattle.lists.proofs.Overwrite.{take-overwrite}
 use Rattle.mesh.proofs.Cores.Peeling.{number-core, length-numbers, getD-numbers}
 use Rattle.mesh.proofs.Links.Call.{unchanged-number}
 use Rattle.mesh.proofs.Links.Laws.{link-by-one, link-valid}
-use Rattle.mesh.specs.Valid.{Valid, Allowed, smaller, larger}
+use Rattle.mesh.specs.Valid.{Valid, smaller, larger}
 use Rattle.calls.specs.Switches.{switch, switched}
 use Rattle.calls.specs.Outcomes.{reply, linked-with}
 use Rattle.calls.specs.declared.Reply.{Reply}

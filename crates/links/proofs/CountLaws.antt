@@ -12,7 +12,8 @@ use lib.ListN.{length, getD, set, take, replicate, length-replicate, length-set}
 use lib.Seq.{take-all, length-take-le, getD-take, getD-set-same, getD-set-other}
 use borrow.Author.Tests.{eqb-true, eqb-false, eq-eqb, ne-eqb}
 use Rattle.mesh.specs.Limits.{max-radios, max-neighbours, row-bytes}
-use Rattle.lists.specs.Lists.{folded, range, count, member, overwrite, In}
+use Rattle.lists.specs.Facts.{folded}
+use Rattle.lists.specs.Lists.{range, count, member, overwrite, In}
 use Rattle.lists.proofs.Tests.{bool-cases, never, or-cases, or-left, or-right}
 use Rattle.lists.proofs.Member.{in-getD, getD-of-in, member-in, in-member}
 use Rattle.lists.proofs.Filter.{filter-le}

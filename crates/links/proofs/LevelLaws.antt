@@ -8,7 +8,8 @@ use Prim.Native.Nat.{ℕ, suc, _+_, _-_, _≤_, _<_}
 use native.Mathlib.Omega.{arith}
 use lib.ListN.{length, getD}
 use Rattle.mesh.specs.Limits.{max-radios}
-use Rattle.lists.specs.Lists.{member, head-or, In, Distinct, Rising}
+use Rattle.lists.specs.Lists.{member, head-or, In}
+use Rattle.lists.specs.Facts.{Distinct, Rising}
 use Rattle.mesh.specs.Tables.{marked}
 use Rattle.lists.proofs.Tests.{bool-cases}
 use Rattle.lists.proofs.Member.{member-in, in-getD, getD-of-in, head-or-below}

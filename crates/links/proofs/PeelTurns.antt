@@ -11,7 +11,8 @@ use lib.Dec.{ltb, leb, eqb}
 use lib.ListN.{length, getD, length-append}
 use borrow.Author.Tests.{eqb-true, eqb-false, ne-eqb, leb-true, leb-false, lt-ltb, le-ltb}
 use Rattle.mesh.specs.Limits.{max-radios, row-bytes}
-use Rattle.lists.specs.Lists.{count, filter, member, head-or, In, Distinct, Rising}
+use Rattle.lists.specs.Lists.{count, filter, member, head-or, In}
+use Rattle.lists.specs.Facts.{Distinct, Rising}
 use Rattle.mesh.specs.Tables.{marked, put-bit}
 use Rattle.lists.proofs.Tests.{bool-cases, never, and-left, and-right, bit-false}
 use Rattle.lists.proofs.Member.{in-left, in-right, in-cases, in-drop, member-in, in-member, not-member, split-in}

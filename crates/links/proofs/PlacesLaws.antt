@@ -9,7 +9,8 @@ use lib.Dec.{ltb}
 use lib.ListN.{length, getD, set, take, drop, length-set}
 use lib.Seq.{paste, length-paste-head, length-take-le, take-at, getD-take, getD-drop, getD-append-add, getD-set-same, getD-set-other}
 use borrow.Author.Tests.{ltb-true, ltb-false}
-use Rattle.lists.specs.Lists.{folded, range, member, In, Distinct}
+use Rattle.lists.specs.Facts.{folded, Distinct}
+use Rattle.lists.specs.Lists.{range, member, In}
 use Rattle.lists.proofs.Tests.{bool-cases, never}
 use Rattle.lists.proofs.Member.{member-in, in-member}
 use Rattle.lists.proofs.Range.{in-range, range-in}

@@ -10,7 +10,8 @@ use lib.Dec.{ltb, eqb}
 use lib.ListN.{length, getD, length-append}
 use borrow.Author.Tests.{ltb-true, ltb-false, eqb-true, eq-eqb}
 use Rattle.mesh.specs.Limits.{max-radios, max-neighbours}
-use Rattle.lists.specs.Lists.{count, In, Each-once}
+use Rattle.lists.specs.Lists.{count, In}
+use Rattle.lists.specs.Facts.{Each-once}
 use Rattle.mesh.specs.Graph.{Graph, radios, linked, neighbours-among, degree, relinked, proper}
 use Rattle.mesh.specs.Cores.{number, numbers}
 use Rattle.mesh.specs.Levels.{lower-level, stretch-start, stretch-length}

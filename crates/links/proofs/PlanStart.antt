@@ -10,7 +10,8 @@ use lib.Dec.{ltb, leb, eqb}
 use lib.ListN.{length, getD}
 use borrow.Author.Tests.{ltb-true, eqb-true, eqb-false, le-leb, lt-leb}
 use Rattle.mesh.specs.Limits.{max-radios, max-neighbours, row-bytes}
-use Rattle.lists.specs.Lists.{range, count, member, In, Distinct}
+use Rattle.lists.specs.Lists.{range, count, member, In}
+use Rattle.lists.specs.Facts.{Distinct}
 use Rattle.mesh.specs.Graph.{Graph, radios, linked, neighbours-in, relinked}
 use Rattle.mesh.specs.Cores.{number}
 use Rattle.mesh.specs.Levels.{lower-level}

@@ -10,18 +10,18 @@ use lib.Dec.{ltb, leb}
 use lib.ListN.{length, getD, take}
 use borrow.Author.Tests.{ltb-true, ltb-false}
 use Rattle.mesh.specs.Limits.{max-radios, max-neighbours, row-bytes}
-use Rattle.lists.specs.Lists.{range, count, In, Each-once}
+use Rattle.lists.specs.Lists.{range, count, In}
+use Rattle.lists.specs.Facts.{Each-once}
 use Rattle.lists.proofs.Tests.{bool-cases, never, and-left, and-right}
 use Rattle.lists.proofs.Member.{in-getD, in-member, not-member, member-in}
 use Rattle.lists.proofs.Count.{count-ext}
 use Rattle.lists.proofs.Range.{once-below, once-distinct}
 use Rattle.lists.proofs.Overwrite.{take-overwrite}
-use Rattle.mesh.specs.Graph.{Graph, relinked}
+use Rattle.mesh.specs.Graph.{Graph, relinked, Allowed}
 use Rattle.mesh.specs.Cores.{number, numbers}
 use Rattle.mesh.specs.Levels.{changed}
 use Rattle.mesh.specs.Tables.{Tables, tables, marked, graph-in}
 use Rattle.mesh.specs.Sound.{number-in, rows-proper, sound}
-use Rattle.mesh.specs.Valid.{Allowed}
 use Rattle.mesh.proofs.Cores.Peeling.{getD-numbers}
 use Rattle.mesh.proofs.Cores.KOrders.{k-order-certificate}
 use Rattle.mesh.proofs.Links.Call.{changed-below, unchanged-number}

@@ -14,7 +14,8 @@ use lib.Seq.{length-take-le, getD-take, take-take, paste}
 use borrow.Rule.Slice.PartMut.{midOf, putMid, mid-len}
 use borrow.Author.Tests.{eqb-true, eq-eqb, ne-eqb, lt-ltb, le-ltb}
 use Rattle.mesh.specs.Limits.{max-radios, max-neighbours, row-bytes}
-use Rattle.lists.specs.Lists.{count, folded, overwrite, In}
+use Rattle.lists.specs.Lists.{count, overwrite, In}
+use Rattle.lists.specs.Facts.{folded}
 use Rattle.mesh.specs.Tables.{marked, put-bit}
 use Rattle.lists.proofs.Tests.{bool-cases, bit-one, byte-bit}
 use Rattle.lists.proofs.Member.{in-getD}

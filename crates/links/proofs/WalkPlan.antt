@@ -14,7 +14,8 @@ use lib.ListN.{length, getD, take, drop, length-drop, take-append-drop, drop-of-
 use lib.Seq.{length-take-le, getD-take, getD-drop, drop-cons, drop-drop, drop-append-le, take-take, take-all, paste, paste-zero}
 use borrow.Author.Tests.{ltb-true, ltb-false, lt-ltb, eq-eqb, ne-eqb, leb-true}
 use Rattle.mesh.specs.Limits.{max-radios, max-neighbours, row-bytes}
-use Rattle.lists.specs.Lists.{count, filter, member, In, Distinct}
+use Rattle.lists.specs.Lists.{count, filter, member, In}
+use Rattle.lists.specs.Facts.{Distinct}
 use Rattle.mesh.specs.Graph.{Graph, linked, relinked}
 use Rattle.mesh.specs.Cores.{number}
 use Rattle.mesh.specs.Levels.{changed, lower-level, new-order}

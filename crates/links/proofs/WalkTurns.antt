@@ -16,7 +16,8 @@ use lib.ListN.{length, getD, set, take, drop, length-set, length-drop, take-appe
 use lib.Seq.{length-take-le, getD-take, getD-drop, getD-set-same, getD-set-other, take-suc-set, drop-cons, paste, take-paste, length-paste}
 use borrow.Author.Tests.{eqb-true, eqb-false, eq-eqb, ne-eqb, lt-ltb, ltb-true}
 use Rattle.mesh.specs.Limits.{max-radios, max-neighbours, row-bytes}
-use Rattle.lists.specs.Lists.{count, head-or, In, Distinct}
+use Rattle.lists.specs.Lists.{count, head-or, In}
+use Rattle.lists.specs.Facts.{Distinct}
 use Rattle.mesh.specs.Tables.{marked, put-bit, put-link}
 use Rattle.lists.proofs.Tests.{bool-cases, never, and-left, and-right, or-cases}
 use Rattle.lists.proofs.Member.{in-left, in-right, in-cases, in-member, member-in, in-getD, getD-of-in}

@@ -12,12 +12,12 @@ use lib.ListN.{length, getD}
 use lib.Seq.{paste}
 use Rattle.mesh.specs.Limits.{max-radios, max-neighbours, row-bytes}
 use Rattle.lists.specs.Lists.{member}
-use Rattle.mesh.specs.Graph.{Graph, neighbours-in}
+use Rattle.mesh.specs.Graph.{Graph, neighbours-in, Allowed}
 use Rattle.mesh.specs.Cores.{number, numbers}
 use Rattle.mesh.specs.Levels.{changed, lower-level, stretch-start, stretch-length, new-order}
 use Rattle.mesh.specs.Tables.{Tables, graph-in}
 use Rattle.mesh.specs.Sound.{sound}
-use Rattle.mesh.specs.Valid.{Valid, Allowed}
+use Rattle.mesh.specs.Valid.{Valid}
 use Rattle.link_parts.specs.Changes.{changed-part}
 
 -- places and highs have where each radio of the lower end's level stands, and how many neighbours it has that are not below it; of

@@ -17,7 +17,8 @@ use mathlib.Core.List.{List, _∷_}
 use Prim.Native.Nat.{ℕ, _+_, _*_, _≤_, _<_}
 use lib.ListN.{length, getD, set, take, replicate}
 use Rattle.mesh.specs.Limits.{max-radios, max-neighbours, row-bytes}
-use Rattle.lists.specs.Lists.{folded, In}
+use Rattle.lists.specs.Facts.{folded}
+use Rattle.lists.specs.Lists.{In}
 use Rattle.mesh.specs.Levels.{changed}
 use Rattle.mesh.specs.Tables.{Tables, put-bit, graph-in}
 use Rattle.calls.specs.Questions.{ends-refusal}

@@ -21,7 +21,8 @@ use lib.Dec.{leb, eqb}
 use lib.ListN.{length, getD, set, take}
 use Rattle.mesh.specs.Limits.{max-radios, max-neighbours, row-bytes}
 use Rattle.mesh.specs.Tables.{put-bit, put-link}
-use Rattle.lists.specs.Lists.{In, Distinct}
+use Rattle.lists.specs.Lists.{In}
+use Rattle.lists.specs.Facts.{Distinct}
 use Rattle.rows.specs.Rows.{neighbours-of}
 
 unfoldable pub end-counted : (up : Bool) → (k : ℕ) → (numbers : List ℕ) → (v : ℕ) → (counters : List ℕ) → List ℕ

@@ -18,7 +18,8 @@ use Prim.Native.Nat.{ℕ, _+_, _*_, _-_, _≤_, _<_, min}
 use lib.Dec.{ltb, leb, eqb}
 use lib.ListN.{length, getD, take, drop}
 use Rattle.mesh.specs.Limits.{max-radios, max-neighbours, row-bytes}
-use Rattle.lists.specs.Lists.{folded, In, Distinct}
+use Rattle.lists.specs.Facts.{folded, Distinct}
+use Rattle.lists.specs.Lists.{In}
 use Rattle.mesh.specs.Tables.{marked, put-bit, put-link}
 use Rattle.mesh.specs.Peel.{Peels}
 use Rattle.rows.specs.Rows.{neighbours-of}

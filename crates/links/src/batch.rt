@@ -2,7 +2,8 @@
 ghost use mathlib.Core.Path.{_≡_};
 ghost use mathlib.Core.Bool.{true};
 ghost use lib.ListN.{length};
-ghost use Rattle.mesh.specs.Tables.{lent, graph-in};
+ghost use Rattle.mesh.specs.Lent.{lent};
+ghost use Rattle.mesh.specs.Tables.{graph-in};
 ghost use Rattle.calls.specs.Batches.{list-length, batch-refusal};
 ghost use Rattle.calls.specs.Outcomes.{batched, links-taken};
 ghost use Rattle.calls.specs.Contracts.{Batch-contract};

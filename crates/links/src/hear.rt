@@ -2,7 +2,7 @@
 ghost use Prim.Native.Nat.{_≤_};
 ghost use lib.ListN.{length};
 ghost use Rattle.mesh.specs.Limits.{max-radios};
-ghost use Rattle.mesh.specs.Tables.{lent};
+ghost use Rattle.mesh.specs.Lent.{lent};
 ghost use Rattle.calls.specs.Contracts.{Hear-contract};
 ghost use Rattle.links.specs.Steps.{Prepared};
 ghost use Rattle.links.specs.Hearings.{Marked-hearing, Row-switched, Rows-switched, Brought, Hear-asked};

@@ -1,5 +1,5 @@
 // Link up and link down: asked, planned, applied.
-ghost use Rattle.mesh.specs.Tables.{lent};
+ghost use Rattle.mesh.specs.Lent.{lent};
 ghost use Rattle.calls.specs.Contracts.{Link-contract};
 use super::plan;
 use calls::Reply;

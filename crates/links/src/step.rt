@@ -5,7 +5,7 @@ ghost use Prim.Native.Nat.{ℕ, _≤_, _<_, _+_};
 ghost use lib.ListN.{length, getD};
 ghost use Rattle.lists.specs.Lists.{range};
 ghost use Rattle.mesh.specs.Limits.{max-radios};
-ghost use Rattle.mesh.specs.Tables.{lent};
+ghost use Rattle.mesh.specs.Lent.{lent};
 ghost use Rattle.links.specs.Steps.{Prepared, Step-ready, Changed-by, Carried, Stepped, places-put};
 use super::counts;
 use super::plan;

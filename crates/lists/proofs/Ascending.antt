@@ -6,7 +6,8 @@ use mathlib.Core.List.{List, [], _∷_, _++_}
 use Prim.Native.Nat.{ℕ, _≤_, _<_, zero, suc, _+_}
 use native.Mathlib.Omega.{arith}
 use lib.ListN.{length, getD}
-use Rattle.lists.specs.Lists.{In, Rising, head-or, Ascending, range, filter, member, Ascending-below, Distinct}
+use Rattle.lists.specs.Lists.{In, head-or, Ascending, range, filter, member}
+use Rattle.lists.specs.Facts.{Rising, Ascending-below, Distinct}
 use Rattle.lists.proofs.Member.{in-cases, in-left, member-in, in-member, getD-of-in}
 use Rattle.lists.proofs.Filter.{member-filter, filter-ext, filter-one, distinct-filter, in-filter}
 use Rattle.lists.proofs.Range.{in-range, distinct-range, range-in}

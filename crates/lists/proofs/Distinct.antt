@@ -9,7 +9,8 @@ use native.Mathlib.Nat.{le-trans}
 use lib.ListN.{length, getD}
 use lib.Dec.{eqb}
 use borrow.Author.Tests.{eq-eqb, eqb-true}
-use Rattle.lists.specs.Lists.{In, Distinct, count, Permutation}
+use Rattle.lists.specs.Lists.{In, count}
+use Rattle.lists.specs.Facts.{Distinct, Permutation}
 use Rattle.lists.proofs.Member.{in-cases, getD-of-in, in-getD, in-left, in-right, split-in, in-drop}
 use Rattle.lists.proofs.Tests.{never, bool-cases, bit-true, bit-false}
 use Rattle.lists.proofs.Count.{count-all, count-mid, count-le-length, count-pos, count-some, count-ext}

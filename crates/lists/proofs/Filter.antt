@@ -6,7 +6,8 @@ use mathlib.Core.List.{List, [], _∷_, _++_, append-nil}
 use Prim.Native.Nat.{ℕ, _+_, _-_, _≤_}
 use native.Mathlib.Omega.{arith}
 use lib.ListN.{length}
-use Rattle.lists.specs.Lists.{filter, In, Distinct, member, count, range}
+use Rattle.lists.specs.Lists.{filter, In, member, count, range}
+use Rattle.lists.specs.Facts.{Distinct}
 use Rattle.lists.proofs.Tests.{bool-cases, never}
 use Rattle.lists.proofs.Member.{in-member, not-member}
 use Rattle.lists.proofs.Range.{range-in, range-append}

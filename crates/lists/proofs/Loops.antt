@@ -11,7 +11,8 @@ use mir.Syntax.{w64}
 use mir.Val.{boolByte, Fits}
 use lib.ListN.{length, getD, take, drop, drop-of-length-le}
 use lib.Seq.{length-take-le, getD-take, drop-cons, drop-length}
-use Rattle.lists.specs.Lists.{folded, count}
+use Rattle.lists.specs.Facts.{folded}
+use Rattle.lists.specs.Lists.{count}
 use Rattle.lists.proofs.Tests.{bit-one, byte-bit}
 
 -- ---- a state

@@ -12,7 +12,8 @@ use lib.ListN.{List·getD-eq-default}
 use lib.Seq.{getD-append-add, drop-append-add, take-at, drop-drop, take-take, getD-drop, take-nil, drop-cons}
 use lib.Dec.{ltb}
 use borrow.Author.Tests.{ltb-true, ltb-false}
-use Rattle.lists.specs.Lists.{Bytes, range}
+use Rattle.lists.specs.Facts.{Bytes}
+use Rattle.lists.specs.Lists.{range}
 use Rattle.lists.proofs.Tests.{bool-cases}
 
 -- an entry that is there is the same whatever stands for none

@@ -10,7 +10,8 @@ use native.Mathlib.Numerals.{add-one}
 use lib.Dec.{eqb}
 use lib.ListN.{getD, length}
 use borrow.Author.Tests.{eq-eqb}
-use Rattle.lists.specs.Lists.{range, count, In, Each-once, Distinct}
+use Rattle.lists.specs.Lists.{range, count, In}
+use Rattle.lists.specs.Facts.{Each-once, Distinct}
 use Rattle.lists.proofs.Count.{count-append, count-none, count-pos, count-not, count-all}
 use Rattle.lists.proofs.Distinct.{distinct-one, count-sub, permutation-in, permutation-distinct}
 

@@ -1,2 +1,3 @@
 -- Words for lists that the definitions and contracts use.
 pub mod Lists
+pub mod Facts

@@ -9,7 +9,8 @@ use lib.Seq.{drop-cons, drop-drop}
 use borrow.Author.Tests.{eqb-true, eq-eqb, ne-eqb}
 use Rattle.lists.specs.Lists.{same}
 use Rattle.mesh.specs.Limits.{size-good}
-use Rattle.mesh.specs.Marks.{name-bytes, place-bytes, places, store-bytes, before, is-name, is-zeros, name-in, is-mark, places-of, used, marks-in, are-marks, is-store, rank, heads}
+use Rattle.mesh.specs.Marks.{name-bytes, place-bytes, places, store-bytes, before, is-name, is-zeros, name-in, is-mark, places-of, used, marks-in, are-marks, is-store}
+use Rattle.mesh.specs.MarkPlaces.{rank, heads}
 use Rattle.mesh.specs.Marks.{place-at, name-at}
 use Rattle.mesh.proofs.Marks.Rules.{mark-at, name-of-place}
 use Rattle.calls.specs.Questions.{ask, Lengths, site-refusal}

@@ -8,7 +8,8 @@ use mathlib.Core.Bool.{Bool, _&&_, cond}
 use mathlib.Core.List.{List, []}
 use Prim.Native.Nat.{ℕ, zero, suc}
 use lib.ListN.{length, drop}
-use Rattle.mesh.specs.Marks.{name-at, marks-in, rank, heads}
+use Rattle.mesh.specs.Marks.{name-at, marks-in}
+use Rattle.mesh.specs.MarkPlaces.{rank, heads}
 use Rattle.calls.specs.Marks.{store-length}
 
 unfoldable pub last-name : (store : List ℕ) → (i : ℕ) → List ℕ

@@ -21,7 +21,8 @@ use Rattle.mesh.specs.Tables.{Tables, graph-in}
 use Rattle.mesh.specs.Sound.{sound}
 use Rattle.mesh.specs.Image.{image-of, is-image}
 use Rattle.mesh.specs.Marks.{name-bytes, place-bytes, places, store-bytes, image-size, image-in, place-of, marks-in, store-of, has-mark, found}
-use Rattle.mesh.specs.Marks.{with-mark, rank, heads, place-at, moved-up, moved-down}
+use Rattle.mesh.specs.Marks.{with-mark, place-at}
+use Rattle.mesh.specs.MarkPlaces.{rank, heads, moved-up, moved-down}
 use Rattle.mesh.proofs.Images.Of.{length-image-of}
 use Rattle.mesh.proofs.Images.Tables.{is-image-sound}
 use Rattle.mesh.proofs.Marks.Laws.{Sized, rising-sized, Place-mark, place-mark, image-fits, length-is-image}

@@ -7,7 +7,8 @@ use Prim.Native.Nat.{ℕ, zero, suc, _+_, _-_, _≤_, _<_}
 use native.Mathlib.Omega.{arith}
 use lib.ListN.{length, getD, take, drop, set, length-append, length-take, length-drop, length-set, take-append-drop}
 use lib.Seq.{take-suc, drop-cons, length-take-le, getD-take, getD-drop, set-at, paste, paste-zero, paste-suc, length-paste-head, getD-append-add}
-use Rattle.mesh.specs.Marks.{place-bytes, moved-up, moved-down}
+use Rattle.mesh.specs.Marks.{place-bytes}
+use Rattle.mesh.specs.MarkPlaces.{moved-up, moved-down}
 
 -- ---- up
 

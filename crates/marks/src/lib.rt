@@ -2,7 +2,7 @@
 ghost use mathlib.Core.Path.{_≡_};
 ghost use Prim.Native.Nat.{_≤_, _<_, _+_};
 ghost use lib.ListN.{length};
-ghost use Rattle.mesh.specs.Tables.{lent};
+ghost use Rattle.mesh.specs.Lent.{lent};
 ghost use Rattle.mesh.specs.Marks.{place-bytes, places, store-bytes};
 ghost use Rattle.calls.specs.Contracts.{Set-contract, Remove-contract, Return-contract};
 ghost use Rattle.marks.specs.Placing.{Markable, mark-place, put-place};

@@ -2,7 +2,8 @@
 ghost use mathlib.Core.Path.{_≡_};
 ghost use Prim.Native.Nat.{_≤_, _+_};
 ghost use lib.ListN.{length};
-ghost use Rattle.mesh.specs.Marks.{place-bytes, moved-up, moved-down};
+ghost use Rattle.mesh.specs.Marks.{place-bytes};
+ghost use Rattle.mesh.specs.MarkPlaces.{moved-up, moved-down};
 use mark_store::places::PLACE;
 
 // The bytes from `from` on, to before `to`, stand one place higher after; it begins with the last.

@@ -9,7 +9,8 @@ use native.Mathlib.Omega.{arith}
 use native.Mathlib.Nat.{le-antisymm}
 use lib.Dec.{ltb, eqb}
 use borrow.Author.Tests.{ltb-true, ltb-false, lt-ltb, eqb-true, eq-eqb}
-use Rattle.lists.specs.Lists.{range, count, filter, member, In, Distinct, Each-once}
+use Rattle.lists.specs.Lists.{range, count, filter, member, In}
+use Rattle.lists.specs.Facts.{Distinct, Each-once}
 use Rattle.mesh.specs.Graph.{Link, Graph, radios, other-ends, linked, neighbours-in, degree, neighbours-among, link, link-before, same-link, with-link}
 use Rattle.mesh.specs.Graph.{without-link, new-links, relinked, proper}
 use Rattle.lists.proofs.Tests.{bool-cases, never, and-left, and-right, and-both, or-cases, or-left, or-right, iff-eq, swap-or}

@@ -20,13 +20,16 @@ use Rattle.mesh.specs.Cores.{number, numbers}
 
 -- ---- connected cores
 
+-- links lead from v to a radio, over radios that pass the test
 pub data Reachable (g : Graph) (over : ℕ → Bool) (v : ℕ) : ℕ → Type 0 where
   here : Reachable g over v v
   onward : {w x : ℕ} → Reachable g over v w → linked g w x ≡ true → x < g .n → over x ≡ true → Reachable g over v x
 
+-- the radios with number k or more
 unfoldable pub at-least : Graph → (k v : ℕ) → Bool
 at-least g k = let num = number g in λ v. leb k (num v)
 
+-- document 01: connected core of v at level k. All radios reachable from v over radios with number k or more
 unfoldable pub In-core : Graph → (v k w : ℕ) → Type 0
 In-core g v k w = Reachable g (at-least g k) v w
 
@@ -36,11 +39,13 @@ reached zero g over xs = xs
 reached (suc r) g over xs =
     reached r g over (filter (λ w. member w xs || (over w && ltb 0 (neighbours-among (linked g) w xs))) (radios g))
 
+-- the same, worked out: ascending
 unfoldable pub core-of : Graph → (v k : ℕ) → List ℕ
 core-of g v k = reached (g .n) g (at-least g k) (v ∷ [])
 
 -- ---- backbone
 
+-- document 01: backbone, as W-202 has it. The number is the greatest in the radio's own connected part, and not 0
 pub record In-backbone (g : Graph) (v : ℕ) : Type 0 where
   pub is-radio : v < g .n
   pub positive : 1 ≤ number g v
@@ -50,11 +55,13 @@ unfoldable pub greatest : List ℕ → ℕ
 greatest [] = 0
 greatest (x ∷ xs) = max x (greatest xs)
 
+-- the same, worked out: ascending
 unfoldable pub backbone : Graph → List ℕ
 backbone g =
     let num = number g in
     filter (λ v. ltb 0 (num v) && eqb (num v) (greatest (map num (core-of g v 0)))) (radios g)
 
+-- document 01: backbone, before W-202. The radios whose number is the greatest at the site; none if that is 0
 unfoldable pub site-backbone : Graph → List ℕ
 site-backbone g =
     let num = number g in

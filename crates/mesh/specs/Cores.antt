@@ -49,15 +49,19 @@ cores-from (suc f) k g (x ∷ xs) =
     let core = peeled (length (x ∷ xs)) g k (x ∷ xs) in
     let rest = cores-from f (suc k) g core in core ∷ rest
 
+-- what peeling leaves for k = 1, 2, .., until nothing is left
 unfoldable pub cores : Graph → List (List ℕ)
 cores g = cores-from (g .n) 1 g (radios g)
 
+-- how many of these sets have v
 unfoldable pub depth : List (List ℕ) → (v : ℕ) → ℕ
 depth [] v = 0
 depth (c ∷ cs) v = cond (member v c) 1 0 + depth cs v
 
+-- document 01: the core number of v, worked out
 unfoldable pub number : Graph → (v : ℕ) → ℕ
 number g = let cs = cores g in λ v. depth cs v
 
+-- the core numbers by radio
 unfoldable pub numbers : Graph → List ℕ
 numbers g = let num = number g in map num (radios g)

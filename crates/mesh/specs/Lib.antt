@@ -4,8 +4,6 @@ pub mod Graph
 pub mod Cores
 pub mod Orders
 pub mod Levels
-pub mod Peel
-pub mod Valid
 pub mod Tables
 pub mod Sound
 pub mod Connected
@@ -13,3 +11,8 @@ pub mod Tree
 pub mod Staircase
 pub mod Image
 pub mod Marks
+-- what proofs and contracts cite beside them
+pub mod Peel
+pub mod Valid
+pub mod Lent
+pub mod MarkPlaces

@@ -9,9 +9,11 @@ use mathlib.Core.Bool.{Bool, _&&_}
 use Prim.Native.Nat.{ℕ}
 use lib.Dec.{leb}
 
+-- document 01: a site has 1 to 512 radios
 abbrev pub max-radios : ℕ
 max-radios = 512
 
+-- document 01: the most neighbours of a radio; 32 there, and 40 since W-208
 abbrev pub max-neighbours : ℕ
 max-neighbours = 40
 
@@ -19,8 +21,10 @@ max-neighbours = 40
 abbrev pub former-neighbours : ℕ
 former-neighbours = 32
 
+-- document 01: 64 bytes a radio
 abbrev pub row-bytes : ℕ
 row-bytes = 64
 
+-- document 01, question 1: is n from 1 to 512?
 unfoldable pub size-good : (n : ℕ) → Bool
 size-good n = leb 1 n && leb n max-radios

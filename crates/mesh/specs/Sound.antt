@@ -21,26 +21,33 @@ use Rattle.mesh.specs.Tables.{Tables, marked}
 
 -- ---- rows
 
+-- document 01: rows are symmetric
 unfoldable pub symmetric : (n : ℕ) → (links : List ℕ) → Bool
 symmetric n ts = all (λ a. all (λ b. Bool·beq (marked ts a b) (marked ts b a)) (range 0 n)) (range 0 n)
 
+-- document 01: with no radio its own neighbour
 unfoldable pub irreflexive : (n : ℕ) → (links : List ℕ) → Bool
 irreflexive n ts = all (λ a. not (marked ts a a)) (range 0 n)
 
+-- document 01: no bit at n or above
 unfoldable pub within : (n : ℕ) → (links : List ℕ) → Bool
 within n ts = all (λ a. all (λ b. not (marked ts a b)) (range n (max-radios - n))) (range 0 n)
 
+-- how many bits row a has
 unfoldable pub row-degree : (links : List ℕ) → (a : ℕ) → ℕ
 row-degree ts a = count (λ b. marked ts a b) (range 0 max-radios)
 
+-- document 01: at most so many bits a row
 unfoldable pub few : (most n : ℕ) → (links : List ℕ) → Bool
 few most n ts = all (λ a. leb (row-degree ts a) most) (range 0 n)
 
+-- document 01: proper rows
 unfoldable pub rows-proper : (most n : ℕ) → (links : List ℕ) → Bool
 rows-proper most n ts = (symmetric n ts && irreflexive n ts) && (within n ts && few most n ts)
 
 -- ---- numbers
 
+-- document 01: each radio has at least its number of neighbours whose number is not below its own
 unfoldable pub enough : (n : ℕ) → (neighbour : ℕ → ℕ → Bool) → (num : ℕ → ℕ) → Bool
 enough n f num = all (λ v. leb (num v) (count (λ b. f v b && leb (num v) (num b)) (range 0 n))) (range 0 n)
 
@@ -50,6 +57,7 @@ number-in ns v = getD ns v 0
 
 -- ---- all of them
 
+-- the conditions in document 01's order, where `most` bounds the bits of a row
 unfoldable pub sound-within : (most n : ℕ) → Tables → Bool
 sound-within most n t =
     rows-proper most n (t .links)
@@ -58,5 +66,6 @@ sound-within most n t =
     && (few-later (marked (t .links)) (number-in (t .numbers)) (t .order)
     && enough n (marked (t .links)) (number-in (t .numbers)))))
 
+-- document 01: sound tables
 unfoldable pub sound : (n : ℕ) → Tables → Bool
 sound n t = sound-within max-neighbours n t

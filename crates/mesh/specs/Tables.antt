@@ -13,7 +13,6 @@ use mathlib.Core.Path.{_≡_}
 use mathlib.Core.Bool.{Bool, cond}
 use mathlib.Core.List.{List, map, flatMap}
 use Prim.Native.Nat.{ℕ, zero, suc, _+_, _*_, _-_, _/_, _%_, _^_}
-use denote.Ref.{RefT, now}
 use lib.Dec.{eqb}
 use lib.ListN.{length, getD, set}
 use Rattle.mesh.specs.Limits.{row-bytes}
@@ -21,6 +20,7 @@ use Rattle.lists.specs.Lists.{Entries-below, range, filter}
 use Rattle.mesh.specs.Graph.{Link, Graph, graph, linked}
 use Rattle.mesh.specs.Cores.{numbers}
 
+-- document 01: links, 64 bytes a radio; numbers, one byte a radio; order, n radio numbers
 pub record Tables : Type 0 where
   pub links : List ℕ
   pub numbers : List ℕ
@@ -28,10 +28,6 @@ pub record Tables : Type 0 where
 
 abbrev pub tables : (links numbers order : List ℕ) → Tables
 tables l k o = record { links = l; numbers = k; order = o }
-
--- links, numbers and order as a call is lent them
-abbrev pub lent : (links numbers order : RefT (List ℕ)) → Tables
-lent l k o = tables (now l) (now k) (now o)
 
 -- ---- bits of a row: value 2^(b mod 8) in byte b div 8
 
@@ -43,6 +39,7 @@ digit x i = eqb (x / 2 ^ i % 2) 1
 unfoldable pub byte-at : (a b : ℕ) → ℕ
 byte-at a b = row-bytes * a + b / 8
 
+-- document 01: radio b is a neighbour of a when bit b of row a is set: value 2^(b mod 8) in byte b div 8
 unfoldable pub marked : (links : List ℕ) → (a b : ℕ) → Bool
 marked ts a b = digit (getD ts (byte-at a b) 0) (b % 8)
 
@@ -50,9 +47,11 @@ marked ts a b = digit (getD ts (byte-at a b) 0) (b % 8)
 unfoldable pub put-digit : (on : Bool) → (x i : ℕ) → ℕ
 put-digit on x i = cond (digit x i) (x - 2 ^ i) x + cond on (2 ^ i) 0
 
+-- bit b of row a set or cleared
 unfoldable pub put-bit : (on : Bool) → (a b : ℕ) → (links : List ℕ) → List ℕ
 put-bit on a b ts = set ts (byte-at a b) (put-digit on (getD ts (byte-at a b) 0) (b % 8))
 
+-- document 01: two link bits, b in row a and a in row b
 unfoldable pub put-link : (up : Bool) → (a b : ℕ) → (links : List ℕ) → List ℕ
 put-link u a b ts = put-bit u b a (put-bit u a b ts)
 
@@ -67,12 +66,15 @@ from-digits (suc k) f = cond (f 0) 1 0 + 2 * from-digits k (λ i. f (suc i))
 unfoldable pub bit-row : (ℕ → Bool) → List ℕ
 bit-row f = map (λ j. from-digits 8 (λ i. f (8 * j + i))) (range 0 row-bytes)
 
+-- a table of n such rows, row a by the test f a
 unfoldable pub bit-table : (n : ℕ) → (ℕ → ℕ → Bool) → List ℕ
 bit-table n f = flatMap (λ a. let near = f a in bit-row near) (range 0 n)
 
+-- document 01: the links table that marks exactly these pairs, each in both rows
 unfoldable pub links-table : Graph → List ℕ
 links-table g = bit-table (g .n) (linked g)
 
+-- the tables of a graph and an order: the numbers are core numbers
 unfoldable pub tables-of : Graph → (order : List ℕ) → Tables
 tables-of g xs = tables (links-table g) (numbers g) xs
 
@@ -82,12 +84,13 @@ tables-of g xs = tables (links-table g) (numbers g) xs
 unfoldable pub row-links : (n : ℕ) → (links : List ℕ) → (a : ℕ) → List Link
 row-links n ts a = map (λ b. record { low = a; high = b }) (filter (λ b. marked ts a b) (range (suc a) (n - suc a)))
 
+-- the graph that a links table marks
 unfoldable pub graph-in : (n : ℕ) → (links : List ℕ) → Graph
 graph-in n ts = graph n (flatMap (row-links n ts) (range 0 n))
 
 -- ---- tables as they are lent
 
--- tables of n radios: lengths, and rows of bytes
+-- document 01: tables of n radios. 64 bytes a radio, one number a radio, n entries
 pub record Tables-of-size (n : ℕ) (t : Tables) : Type 0 where
   pub links-length : length (t .links) ≡ row-bytes * n
   pub numbers-length : length (t .numbers) ≡ n

@@ -25,25 +25,30 @@ use Rattle.mesh.specs.declared.Node.{Node}
 abbrev pub root-name : ℕ
 root-name = 65535
 
+-- document 01: a node record
 abbrev pub node : (name level parent : ℕ) → Node
 node a b c = record { name = a; level = b; parent = c }
 
+-- document 01: the root, name 65,535, level 0, parent 65,535
 abbrev pub root : Node
 root = node root-name 0 root-name
 
 -- ---- by sets
 
+-- a set that is a connected core at level k
 pub record Core-set (g : Graph) (k : ℕ) (set : ℕ → Bool) : Type 0 where
   pub radio : ℕ
   pub is-radio : radio < g .n
   pub level : k ≤ number g radio
   pub reaches : (w : ℕ) → w < g .n → (set w ≡ true) ↔ In-core g radio k w
 
+-- document 01: one node stands for each different set, at the largest k where it occurs, for k from 1 up
 pub record Node-set (g : Graph) (k : ℕ) (set : ℕ → Bool) : Type 0 where
   pub positive : 1 ≤ k
   pub core : Core-set g k set
   pub largest : (j : ℕ) → Core-set g j set → j ≤ k
 
+-- document 01: its shell is its radios of that number, and its name is the lowest of them
 pub record Named (g : Graph) (k : ℕ) (set : ℕ → Bool) (name : ℕ) : Type 0 where
   pub is-radio : name < g .n
   pub in-set : set name ≡ true
@@ -69,20 +74,23 @@ pub record Parent-set (g : Graph) (s : ℕ → Bool) (name : ℕ) : Type 0 where
   pub smallest : (k : ℕ) (t : ℕ → Bool) → Node-set g k t → Strictly-contains g t s → Contains g t set
   pub named : Named g level set name
 
+-- no node set strictly contains s: the root
 pub record Root-parent (g : Graph) (s : ℕ → Bool) (name : ℕ) : Type 0 where
   pub is-root : name ≡ root-name
   pub none : (k : ℕ) (t : ℕ → Bool) → Node-set g k t → Strictly-contains g t s → ⊥
 
+-- document 01: a node's parent is the smallest node set strictly containing its own, else the root
 abbrev pub Parent : Graph → (s : ℕ → Bool) → (name : ℕ) → Type 0
 Parent g s p = Parent-set g s p ⊎ Root-parent g s p
 
+-- a node other than the root
 pub record Is-node (g : Graph) (x : Node) : Type 0 where
   pub set : ℕ → Bool
   pub is-node : Node-set g (x .level) set
   pub named : Named g (x .level) set (x .name)
   pub under : Parent g set (x .parent)
 
--- by level and then name
+-- document 01: by level and then name ascending
 abbrev pub Node-before : (x y : Node) → Type 0
 Node-before x y = (x .level < y .level) ⊎ ((x .level ≡ y .level) × (x .name < y .name))
 
@@ -90,13 +98,14 @@ abbrev pub Nodes-ascending : List Node → Type 0
 Nodes-ascending [] = Unit {0}
 Nodes-ascending (x ∷ xs) = ((y : Node) → List·Memᴰ y xs → Node-before x y) × Nodes-ascending xs
 
+-- document 01: the shell tree. The root, and each node once, by level and then name ascending
 pub record Is-tree (g : Graph) (xs : List Node) : Type 0 where
   pub others : List Node
   pub starts : xs ≡ root ∷ others
   pub ordered : Nodes-ascending others
   pub exactly : (x : Node) → List·Memᴰ x others ↔ Is-node g x
 
--- the root's shell is the radios with number 0
+-- document 01: a radio's node name. The root's shell is the radios with number 0
 pub record Node-name (g : Graph) (v name : ℕ) : Type 0 where
   pub at-root : number g v ≡ 0 → name ≡ root-name
   pub elsewhere :
@@ -104,10 +113,11 @@ pub record Node-name (g : Graph) (v name : ℕ) : Type 0 where
 
 -- ---- worked out
 
--- the shell of level k in the connected core of v at k
+-- document 01: shell. The radios of number k in the connected core of v at k
 unfoldable pub shell : Graph → (v k : ℕ) → List ℕ
 shell g v k = let num = number g in filter (λ x. eqb (num x) k) (core-of g v k)
 
+-- a radio's node name, worked out
 unfoldable pub node-name : Graph → (v : ℕ) → ℕ
 node-name g v = let k = number g v in cond (eqb k 0) root-name (head-or root-name (shell g v k))
 
@@ -123,8 +133,10 @@ nodes-at g k =
     let num = number g in
     map (λ v. node v k (parent-name g v k)) (filter (λ v. eqb (num v) k && eqb (node-name g v) v) (radios g))
 
+-- the shell tree, worked out
 unfoldable pub tree : Graph → List Node
 tree g = root ∷ flatMap (nodes-at g) (range 1 (g .n))
 
+-- each radio's node name, by radio
 unfoldable pub node-names : Graph → List ℕ
 node-names g = map (node-name g) (radios g)

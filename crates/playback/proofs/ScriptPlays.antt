@@ -11,11 +11,11 @@ use native.Mathlib.Omega.{arith}
 use lib.ListN.{length, drop, take, replicate, length-append, length-drop, length-replicate}
 use Rattle.lists.specs.Lists.{range, overwrite, Entries-below}
 use Rattle.mesh.specs.Limits.{max-radios, max-neighbours}
-use Rattle.mesh.specs.Graph.{Link, graph, In-links}
+use Rattle.mesh.specs.Graph.{Link, graph, In-links, Allowed}
 use Rattle.mesh.specs.Levels.{changed, step-of}
 use Rattle.mesh.specs.Tables.{Tables, graph-in, tables-of, Tables-of-size}
 use Rattle.mesh.specs.Sound.{sound}
-use Rattle.mesh.specs.Valid.{Valid, Allowed}
+use Rattle.mesh.specs.Valid.{Valid}
 use Rattle.mesh.proofs.GraphLaws.{proper-of}
 use Rattle.mesh.proofs.Tables.AscendingLinks.{in-links-proper}
 use Rattle.mesh.proofs.Tables.Laws.{links-table-cleared}

@@ -1,7 +1,7 @@
 // One line after the first, played on the site's tables.
 ghost use mathlib.Core.Path.{_≡_};
 ghost use Rattle.script.specs.Lines.{line-of};
-ghost use Rattle.mesh.specs.Tables.{lent};
+ghost use Rattle.mesh.specs.Lent.{lent};
 ghost use Rattle.text.specs.Print.{buffer-at};
 ghost use Rattle.player.specs.Lines.{is-call, Called, Played, Prints};
 use script::lines::Line;

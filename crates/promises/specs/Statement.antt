@@ -56,8 +56,7 @@ use Rattle.calls.specs.Book.{Call, linking, setting, returning, book-after, pas
 use Rattle.calls.specs.Runs.{events, after, givens}
 use Rattle.calls.specs.Demand.{Start, beginning, Demand-3}
 use Rattle.walks.specs.Results.{Beginning-kept, Each-begins}
-use Rattle.lifting.specs.Search.{No-lift}
-use Rattle.lifting.specs.Results.{Raises, Lift-right}
+use Rattle.lifting.specs.Results.{No-lift, Raises, Lift-right}
 use Rattle.hubs.specs.Hubs.{Confluence, Calls-agree, Equal-orders, Equal-images}
 use Rattle.playback.specs.Rebuild.{Plays-back}
 

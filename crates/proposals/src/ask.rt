@@ -1,5 +1,5 @@
 // Asking: what a link call would change.
-ghost use Rattle.mesh.specs.Tables.{lent};
+ghost use Rattle.mesh.specs.Lent.{lent};
 ghost use Rattle.calls.specs.Contracts.{Ask-contract};
 use calls::Reply;
 use link_parts::apply;

@@ -1,7 +1,7 @@
 // Committing: a link call that is carried out where a proposal is true.
 ghost use mathlib.Core.Path.{_≡_};
 ghost use lib.IntN.{pos};
-ghost use Rattle.mesh.specs.Tables.{lent};
+ghost use Rattle.mesh.specs.Lent.{lent};
 ghost use Rattle.calls.specs.Contracts.{Commit-contract};
 ghost use Rattle.proposals.specs.Proposed.{plan-proposes};
 use calls::Refusal;

@@ -11,7 +11,8 @@ use lib.ListN.{length, getD, drop, length-drop}
 use lib.Seq.{getD-drop}
 use borrow.Author.Tests.{ltb-true, ltb-false, lt-ltb, leb-true, leb-false}
 use Rattle.mesh.specs.Limits.{max-radios, max-neighbours}
-use Rattle.lists.specs.Lists.{range, filter, head-or, In, Each-once, Rising}
+use Rattle.lists.specs.Lists.{range, filter, head-or, In}
+use Rattle.lists.specs.Facts.{Each-once, Rising}
 use Rattle.mesh.specs.Graph.{linked}
 use Rattle.mesh.specs.Orders.{later-in, nobody}
 use Rattle.mesh.specs.Tables.{Tables, marked, graph-in}

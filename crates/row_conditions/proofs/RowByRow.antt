@@ -12,7 +12,8 @@ use lib.ListN.{length, getD, take, drop, take-append-drop, length-take, length-d
 use lib.Seq.{getD-take, getD-drop}
 use borrow.Author.Tests.{ltb-true, ltb-false, lt-ltb, leb-true, le-leb, lt-leb, eq-eqb, ne-eqb, not-true}
 use Rattle.mesh.specs.Limits.{max-radios}
-use Rattle.lists.specs.Lists.{range, count, all, In, Each-once}
+use Rattle.lists.specs.Lists.{range, count, all, In}
+use Rattle.lists.specs.Facts.{Each-once}
 use Rattle.mesh.specs.Orders.{each-once, rising, few-later}
 use Rattle.mesh.specs.Tables.{Tables, marked}
 use Rattle.mesh.specs.Sound.{symmetric, irreflexive, within, few, rows-proper, row-degree, enough, number-in, sound-within}

@@ -12,7 +12,8 @@ use lib.ListN.{length, take, length-take}
 use lib.Seq.{take-all}
 use borrow.Author.Tests.{leb-true, leb-false, le-leb, lt-leb}
 use Rattle.mesh.specs.Limits.{max-radios, row-bytes}
-use Rattle.lists.specs.Lists.{range, count, filter, member, overwrite, In, Distinct, Ascending}
+use Rattle.lists.specs.Lists.{range, count, filter, member, overwrite, In, Ascending}
+use Rattle.lists.specs.Facts.{Distinct}
 use Rattle.mesh.specs.Graph.{linked}
 use Rattle.mesh.specs.Tables.{marked, graph-in}
 use Rattle.mesh.specs.Sound.{symmetric, irreflexive, within, row-degree}

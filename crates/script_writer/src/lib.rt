@@ -8,7 +8,7 @@ ghost use lib.ListN.{length};
 ghost use Rattle.lists.specs.Lists.{Entries-below};
 ghost use Rattle.mesh.specs.Limits.{max-radios, max-neighbours};
 ghost use Rattle.mesh.specs.Graph.{graph};
-ghost use Rattle.mesh.specs.Tables.{lent};
+ghost use Rattle.mesh.specs.Lent.{lent};
 ghost use Rattle.rows.specs.Rows.{neighbours-above};
 ghost use Rattle.text.specs.Text.{digit-byte, decimal};
 ghost use Rattle.text.specs.Print.{buffer-at, Puts};

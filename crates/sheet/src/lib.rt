@@ -3,7 +3,7 @@
 ghost use mathlib.Core.Path.{_≡_};
 ghost use Prim.Native.Nat.{_+_, _*_, _%_, _<_, _≤_};
 ghost use lib.ListN.{length, replicate};
-ghost use Rattle.mesh.specs.Tables.{lent};
+ghost use Rattle.mesh.specs.Lent.{lent};
 ghost use Rattle.text.specs.Text.{space, digit-byte};
 ghost use Rattle.text.specs.Print.{buffer-at, put, Puts};
 ghost use Rattle.calls.specs.Sheet.{digit-column, cell, cells, sheet-line, sheet-lines, sheet};

@@ -14,7 +14,7 @@ use borrow.Author.Tests.{le-leb, lt-leb, eqb-true, eqb-false}
 use Rattle.mesh.specs.Limits.{max-radios}
 use Rattle.mesh.specs.Orders.{each-once, rising}
 use Rattle.lists.proofs.Tests.{bool-cases, never, trichotomy}
-use Rattle.lists.specs.Lists.{Each-once}
+use Rattle.lists.specs.Facts.{Each-once}
 use Rattle.lists.proofs.Range.{once-of, once-below, once-distinct}
 use Rattle.mesh.proofs.Cores.Orders.{each-once-of, of-each-once}
 use Rattle.row_conditions.specs.Conditions.{rising-from}

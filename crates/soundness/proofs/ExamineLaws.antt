@@ -9,7 +9,8 @@ use mir.Val.{boolByte}
 use lib.Dec.{eqb}
 use lib.ListN.{length, getD}
 use Rattle.mesh.specs.Limits.{max-radios, max-neighbours}
-use Rattle.lists.specs.Lists.{range, all, Each-once, Entries-below}
+use Rattle.lists.specs.Lists.{range, all, Entries-below}
+use Rattle.lists.specs.Facts.{Each-once}
 use Rattle.mesh.specs.Orders.{each-once, rising}
 use Rattle.mesh.specs.Tables.{Tables}
 use Rattle.mesh.specs.Sound.{rows-proper, number-in, sound, sound-within}

@@ -8,7 +8,8 @@ use native.Mathlib.Omega.{arith}
 use lib.Dec.{leb}
 use lib.ListN.{length}
 use Rattle.mesh.specs.Limits.{max-radios, max-neighbours}
-use Rattle.lists.specs.Lists.{range, all, Each-once}
+use Rattle.lists.specs.Lists.{range, all}
+use Rattle.lists.specs.Facts.{Each-once}
 use Rattle.mesh.specs.Orders.{rising}
 use Rattle.mesh.specs.Tables.{Tables, graph-in}
 use Rattle.mesh.specs.Sound.{number-in, rows-proper, sound, sound-within}

@@ -8,7 +8,7 @@ ghost use lib.ListN.{length};
 ghost use Rattle.lists.specs.Lists.{range, filter, Entries-below};
 ghost use Rattle.mesh.specs.Limits.{max-radios, max-neighbours, row-bytes};
 ghost use Rattle.mesh.specs.Graph.{link-of};
-ghost use Rattle.mesh.specs.Tables.{lent};
+ghost use Rattle.mesh.specs.Lent.{lent};
 ghost use Rattle.mesh.specs.Connected.{greatest};
 ghost use Rattle.mesh.specs.Staircase.{of-weight};
 ghost use Rattle.calls.specs.Contracts.{Staircase-contract};

@@ -16,7 +16,8 @@ use lib.ListN.{length, getD, length-set}
 use lib.Seq.{getD-set-same, getD-set-other}
 use borrow.Author.Tests.{ltb-true, ltb-false}
 use Rattle.lists.proofs.Loops.{length-folded}
-use Rattle.lists.specs.Lists.{folded, In, Distinct}
+use Rattle.lists.specs.Facts.{folded, Distinct}
+use Rattle.lists.specs.Lists.{In}
 use Rattle.lists.proofs.Tests.{never}
 use Rattle.tables.specs.Steps.{stepped, step-at, all-stepped}
 

@@ -7,7 +7,7 @@ use mathlib.Core.List.{List}
 use Prim.Native.Nat.{ℕ, suc, _+_, _-_, min}
 use lib.IntN.{ℤ, pos, negsuc}
 use lib.ListN.{getD, set}
-use Rattle.lists.specs.Lists.{folded}
+use Rattle.lists.specs.Facts.{folded}
 
 unfoldable pub stepped : (x : ℕ) → (step : ℤ) → ℕ
 stepped x (pos k) = min 255 (x + k)

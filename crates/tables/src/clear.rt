@@ -1,5 +1,5 @@
 // Clearing a site.
-ghost use Rattle.mesh.specs.Tables.{lent};
+ghost use Rattle.mesh.specs.Lent.{lent};
 ghost use Rattle.calls.specs.Contracts.{Clear-contract};
 use super::fill;
 use super::sizes;

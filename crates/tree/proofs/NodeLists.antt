@@ -10,7 +10,8 @@ use native.Mathlib.Nat.{zero-add}
 use lib.Dec.{leb, eqb}
 use lib.ListN.{length, length-append}
 use borrow.Author.Tests.{leb-true, le-leb, lt-leb, eqb-true, ne-eqb}
-use Rattle.lists.specs.Lists.{folded, range, count, filter, member, overwrite, In}
+use Rattle.lists.specs.Facts.{folded}
+use Rattle.lists.specs.Lists.{range, count, filter, member, overwrite, In}
 use Rattle.mesh.specs.Graph.{Graph, radios}
 use Rattle.mesh.specs.Cores.{number}
 use Rattle.mesh.specs.Tree.{root, node, node-name, parent-name, nodes-at, tree}

@@ -22,7 +22,8 @@ use mathlib.Core.List.{List, [], _∷_, _++_, map, flatMap}
 use Prim.Native.Nat.{ℕ, zero, suc, _+_, _*_, _/_, _%_, _≤_, _<_, min}
 use lib.Dec.{ltb, leb, eqb}
 use lib.ListN.{length, getD, take, set}
-use Rattle.lists.specs.Lists.{folded, range, filter, head-or, overwrite}
+use Rattle.lists.specs.Facts.{folded}
+use Rattle.lists.specs.Lists.{range, filter, head-or, overwrite}
 use Rattle.mesh.specs.Limits.{max-radios, max-neighbours}
 use Rattle.mesh.specs.Graph.{Graph, radios}
 use Rattle.mesh.specs.Cores.{number}

@@ -2,7 +2,7 @@
 ghost use Prim.Native.Nat.{_+_, _*_, _≤_, _<_};
 ghost use lib.ListN.{length};
 ghost use Rattle.mesh.specs.Limits.{max-radios};
-ghost use Rattle.mesh.specs.Tables.{lent};
+ghost use Rattle.mesh.specs.Lent.{lent};
 ghost use Rattle.tree.specs.Trees.{lists, Visited, Level-ready, Levels-ready, Levelled, Treed, Grown, Tables-contract};
 use calls::Value;
 use mesh::Site;

@@ -1,6 +1,6 @@
 // The text of each verb.
 ghost use mathlib.Core.Path.{_≡_};
-ghost use Rattle.mesh.specs.Tables.{lent};
+ghost use Rattle.mesh.specs.Lent.{lent};
 ghost use Rattle.calls.specs.Replay.{numbers-line};
 ghost use Rattle.verbs.specs.Texts.{accepted-line, Text-accepted};
 ghost use Rattle.verbs.specs.Said.{value-of, Said};

@@ -2,7 +2,7 @@
 ghost use mathlib.Core.Path.{_≡_};
 ghost use Prim.Native.Nat.{_*_};
 ghost use lib.ListN.{take};
-ghost use Rattle.mesh.specs.Tables.{lent};
+ghost use Rattle.mesh.specs.Lent.{lent};
 ghost use Rattle.text.specs.Print.{buffer-at, Puts};
 ghost use Rattle.verbs.specs.Texts.{radios-line, link-line, pair-lines, Text-by};
 ghost use Rattle.verbs.specs.Said.{Backbone-said, Core-said, Lift-said, Staircase-said};

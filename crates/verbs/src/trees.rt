@@ -2,7 +2,7 @@
 ghost use mathlib.Core.Path.{_≡_};
 ghost use mathlib.Core.List.{[], _∷_, _++_};
 ghost use lib.ListN.{length, take};
-ghost use Rattle.mesh.specs.Tables.{lent};
+ghost use Rattle.mesh.specs.Lent.{lent};
 ghost use Rattle.text.specs.Text.{bytes-of, decimal, printed-line};
 ghost use Rattle.text.specs.Print.{buffer-at, Puts};
 ghost use Rattle.verbs.specs.Texts.{radios-line, node-lines, Text-by};

@@ -14,8 +14,9 @@ use lib.Dec.{ltb, eqb}
 use lib.ListN.{length, take}
 use lib.Seq.{take-at}
 use borrow.Author.Tests.{eqb-true, eq-eqb, ltb-true, le-ltb}
-use Rattle.lists.specs.Lists.{count, filter, member, In, Rising}
-use Rattle.mesh.specs.Graph.{Graph, linked, relinked}
+use Rattle.lists.specs.Lists.{count, filter, member, In}
+use Rattle.lists.specs.Facts.{Rising}
+use Rattle.mesh.specs.Graph.{Graph, linked, relinked, Allowed}
 use Rattle.mesh.specs.Cores.{number}
 use Rattle.mesh.specs.Levels.{changed, lower-level, new-order}
 use Rattle.lists.proofs.Member.{in-left, in-cases}
@@ -32,7 +33,7 @@ use Rattle.mesh.proofs.Links.Peel.{Peeling, peeling}
 use Rattle.mesh.proofs.Links.Moves.{adds-elsewhere}
 use Rattle.mesh.proofs.Links.LevelCut.{lows, mids, highs, level-cut}
 use Rattle.mesh.proofs.Links.Call as link-call
-use Rattle.mesh.specs.Valid.{Valid, Allowed, smaller, larger}
+use Rattle.mesh.specs.Valid.{Valid, smaller, larger}
 use Rattle.walks.specs.Walk.{Few-front}
 use Rattle.walks.proofs.Front.{few-front-of, takes-front, peels-from}
 

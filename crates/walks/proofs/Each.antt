@@ -7,10 +7,9 @@ use mathlib.Core.List.{List, [], _∷_}
 use Prim.Native.Nat.{ℕ}
 use lib.ListN.{length}
 use Rattle.mesh.specs.Limits.{max-neighbours}
-use Rattle.mesh.specs.Graph.{Link, Graph, graph, relinked, new-links}
+use Rattle.mesh.specs.Graph.{Link, graph, relinked, new-links, Allowed}
 use Rattle.mesh.specs.Tables.{Tables, graph-in}
 use Rattle.mesh.specs.Sound.{sound}
-use Rattle.mesh.specs.Valid.{Allowed}
 use Rattle.calls.specs.Questions.{lengths-of, site-refusal}
 use Rattle.calls.specs.Switches.{Switch, switched, All-allowed}
 use Rattle.calls.specs.Batches.{list-length, batch-refusal, batch-switches}

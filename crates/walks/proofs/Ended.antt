@@ -9,11 +9,11 @@ use native.Mathlib.Omega.{arith}
 use lib.Dec.{ltb}
 use lib.ListN.{length, drop, take, take-append-drop}
 use Rattle.lists.specs.Lists.{filter, member, In}
-use Rattle.mesh.specs.Graph.{Graph, linked, relinked}
+use Rattle.mesh.specs.Graph.{Graph, linked, relinked, Allowed}
 use Rattle.mesh.specs.Cores.{number}
 use Rattle.mesh.specs.Levels.{changed, lower-level, new-order}
 use Rattle.mesh.proofs.Links.LevelCut.{mids, highs}
-use Rattle.mesh.specs.Valid.{Valid, Allowed}
+use Rattle.mesh.specs.Valid.{Valid}
 use Rattle.walks.specs.Walk.{Few-front, Part, Walking}
 use Rattle.walks.proofs.Front.{few-front-right}
 use Rattle.walks.proofs.Beginning as walk-call

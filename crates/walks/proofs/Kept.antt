@@ -14,12 +14,12 @@ use lib.Seq.{take-at, getD-at}
 use borrow.Author.Tests.{eqb-true, eqb-false}
 use Rattle.mesh.specs.Limits.{max-neighbours}
 use Rattle.lists.specs.Lists.{In}
-use Rattle.mesh.specs.Graph.{Graph}
+use Rattle.mesh.specs.Graph.{Graph, Allowed}
 use Rattle.mesh.specs.Cores.{number}
 use Rattle.mesh.specs.Levels.{new-order}
 use Rattle.mesh.specs.Tables.{Tables, graph-in}
 use Rattle.mesh.specs.Sound.{sound}
-use Rattle.mesh.specs.Valid.{Valid, Allowed}
+use Rattle.mesh.specs.Valid.{Valid}
 use Rattle.lists.proofs.Tests.{bool-cases}
 use Rattle.lists.proofs.Range.{once-in}
 use Rattle.mesh.proofs.Cores.KOrders.{k-order-certificate}

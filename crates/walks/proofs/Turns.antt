@@ -16,7 +16,8 @@ use lib.Dec.{ltb, leb, eqb}
 use lib.ListN.{length, getD, take, drop, length-drop, length-append, take-append-drop, drop-of-length-le}
 use lib.Seq.{drop-cons, getD-drop, take-at, take-all, take-suc}
 use borrow.Author.Tests.{leb-true, leb-false, le-leb, lt-leb, eqb-true, eqb-false, ltb-true, ltb-false, lt-ltb, le-ltb}
-use Rattle.lists.specs.Lists.{count, filter, member, In, Distinct, Rising}
+use Rattle.lists.specs.Lists.{count, filter, member, In}
+use Rattle.lists.specs.Facts.{Distinct, Rising}
 use Rattle.lists.proofs.Tests.{bool-cases, never, bit-true, bit-false}
 use Rattle.lists.proofs.Member.{in-left, in-right, in-cases, in-drop, split-in, member-in, in-member, not-member, getD-of-in, in-getD}
 use Rattle.lists.proofs.Count.{count-append, count-mid, count-none, count-all}

@@ -16,11 +16,13 @@ use Rattle.mesh.specs.Levels.{lower-level}
 use Rattle.mesh.specs.Tables.{Tables, graph-in}
 use Rattle.calls.specs.Switches.{Switch, switched}
 
+-- the entries before the first end of the link a-b
 unfoldable pub before-ends : (a b : ℕ) → List ℕ → List ℕ
 before-ends a b [] = []
 before-ends a b (x ∷ xs) = let rest = before-ends a b xs in cond (eqb x a || eqb x b) [] (x ∷ rest)
 
--- g is the graph before the call, old and new are the order before and after it
+-- "entries before the beginning end's place never move": the lower end's, with equal numbers the earlier one's. g is the graph before the
+-- call, old and new are the order before and after it
 pub record Beginning-kept (a b : ℕ) (g : Graph) (old new : List ℕ) : Type 0 where
   pub kept : take (length (before-ends a b old)) new ≡ before-ends a b old
   pub end : (getD old (length (before-ends a b old)) 0 ≡ a) ⊎ (getD old (length (before-ends a b old)) 0 ≡ b)

@@ -12,7 +12,8 @@ use mathlib.Core.List.{List, [], _∷_, _++_}
 use Prim.Native.Nat.{ℕ, _+_, _≤_, _<_}
 use lib.Dec.{leb}
 use lib.ListN.{length, getD, drop}
-use Rattle.lists.specs.Lists.{count, member, In, Distinct, Rising}
+use Rattle.lists.specs.Lists.{count, member, In}
+use Rattle.lists.specs.Facts.{Distinct, Rising}
 use Rattle.mesh.specs.Peel.{Takes}
 
 -- f tells neighbours after the call, pos where a radio stands in the part

@@ -10,7 +10,8 @@ use native.Mathlib.Omega.{arith}
 use native.Mathlib.Nat.{le-antisymm, le-trans, le-refl, le-of-eq}
 use lib.Dec.{leb}
 use borrow.Author.Tests.{leb-true, le-leb}
-use Rattle.lists.specs.Lists.{count, In, Each-once, Rising}
+use Rattle.lists.specs.Lists.{count, In}
+use Rattle.lists.specs.Facts.{Each-once, Rising}
 use Rattle.mesh.specs.Graph.{Graph, linked}
 use Rattle.mesh.specs.Cores.{Group, Core}
 use Rattle.lists.proofs.Tests.{bool-cases, never, bit-false, and-left}

@@ -9,7 +9,8 @@ use native.Mathlib.Nat.{le-trans}
 use lib.Dec.{leb, eqb}
 use lib.ListN.{length}
 use borrow.Author.Tests.{leb-true, le-leb, eqb-true, eq-eqb}
-use Rattle.lists.specs.Lists.{range, count, all, In, Distinct, Permutation, Each-once, Rising}
+use Rattle.lists.specs.Lists.{range, count, all, In}
+use Rattle.lists.specs.Facts.{Distinct, Permutation, Each-once, Rising}
 use Rattle.mesh.specs.Graph.{Graph, neighbours-among, neighbours-in}
 use Rattle.mesh.specs.Orders.{each-once, rising, few-later}
 use Rattle.lists.proofs.Tests.{and-left, and-right, and-both}

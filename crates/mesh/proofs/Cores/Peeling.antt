@@ -9,7 +9,8 @@ use native.Mathlib.Nat.{le-trans, le-refl, le-of-eq}
 use lib.Dec.{leb, eqb}
 use lib.ListN.{length, getD}
 use borrow.Author.Tests.{leb-true, leb-false, le-leb, eqb-true, eqb-false}
-use Rattle.lists.specs.Lists.{range, count, member, In, Distinct}
+use Rattle.lists.specs.Lists.{range, count, member, In}
+use Rattle.lists.specs.Facts.{Distinct}
 use Rattle.mesh.specs.Graph.{Graph, radios, linked, neighbours-among, neighbours-in}
 use Rattle.mesh.specs.Cores.{Group, Core, survivors, peeled, cores-from, cores, depth, number, numbers}
 use Rattle.lists.proofs.Tests.{bool-cases, never, bit-true, bit-false}

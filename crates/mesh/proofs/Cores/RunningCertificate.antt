@@ -10,10 +10,12 @@ use native.Mathlib.Omega.{arith}
 use native.Mathlib.Nat.{le-trans, le-of-eq}
 use lib.Dec.{leb}
 use borrow.Author.Tests.{leb-true, le-leb}
-use Rattle.lists.specs.Lists.{count, In, Each-once, Rising}
+use Rattle.lists.specs.Lists.{count, In}
+use Rattle.lists.specs.Facts.{Each-once, Rising}
 use Rattle.mesh.specs.Graph.{Graph, linked, neighbours-among}
 use Rattle.mesh.specs.Cores.{number}
-use Rattle.mesh.specs.Orders.{is-k-order, running-maxima}
+use Rattle.mesh.specs.Orders.{is-k-order}
+use Rattle.mesh.proofs.Cores.RunningMaximum.{running-maxima}
 use Rattle.lists.proofs.Range.{once-in}
 use Rattle.mesh.proofs.GraphLaws.{neighbours-in-subset}
 use Rattle.mesh.proofs.Cores.Orders.{Few-later, Enough}

@@ -4,21 +4,28 @@
 -- v's neighbours in it are later.
 use mathlib.Core.Path.{_≡_, refl, ap, ap₂, _∙_}
 use mathlib.Core.Logic.{_⊎_, inl, inr}
-use mathlib.Core.Bool.{true, false, _&&_}
+use mathlib.Core.Bool.{Bool, true, false, _&&_}
 use mathlib.Core.List.{List, [], _∷_, map}
 use Prim.Native.Nat.{ℕ, _≤_, _<_, max}
 use native.Mathlib.Omega.{arith}
 use native.Mathlib.Nat.{le-trans}
-use Rattle.lists.specs.Lists.{range, count, In, Each-once, Rising}
+use Rattle.lists.specs.Lists.{range, count, In}
+use Rattle.lists.specs.Facts.{Each-once, Rising}
 use Rattle.mesh.specs.Graph.{Graph, radios, linked, neighbours-among, neighbours-in}
 use Rattle.mesh.specs.Cores.{Group, Core, number}
-use Rattle.mesh.specs.Orders.{is-k-order, running-maxima}
+use Rattle.mesh.specs.Orders.{is-k-order}
 use Rattle.lists.proofs.Tests.{never, and-left, and-right, trichotomy}
 use Rattle.lists.proofs.Range.{range-in, distinct-range, once-in, once-below}
 use Rattle.lists.proofs.Distinct.{count-sub}
 use Rattle.mesh.proofs.Cores.Orders.{Few-later}
 use Rattle.mesh.proofs.Cores.Peeling.{number-core}
 use Rattle.mesh.proofs.Cores.KOrders.{k-order-certificate}
+
+-- for each radio of a list, the greatest count of later neighbours up to it, and at least `top`, the maximum so far: so a read image's
+-- numbers are worked out
+unfoldable pub running-maxima : (neighbour : ℕ → ℕ → Bool) → (top : ℕ) → List ℕ → List ℕ
+running-maxima f m [] = []
+running-maxima f m (x ∷ xs) = let top = max m (neighbours-among f x xs) in top ∷ running-maxima f top xs
 
 module _ (g : Graph) (num : ℕ → ℕ) (apart : (w : ℕ) → linked g w w ≡ false) (core : (v : ℕ) → v < g .n → Core g v (num v)) where
   -- x comes next, xs after it; whoever is in neither has at most the maximum so far

@@ -9,7 +9,7 @@ use lib.Seq.{getD-append-add, getD-take, getD-drop, take-at, drop-at}
 use Rattle.mesh.specs.Graph.{Link}
 use Rattle.mesh.specs.Image.{block-bytes, payload-bytes, block-entries, block-links, word, long, check-sum, block, link-bytes, order-payload}
 use Rattle.mesh.specs.Image.{links-payload}
-use Rattle.lists.specs.Lists.{Bytes}
+use Rattle.lists.specs.Facts.{Bytes}
 use Rattle.lists.proofs.Parts.{bytes-replicate, length-flatMap, getD-flatMap, bytes-cons, bytes-append, bytes-flatMap, getD-append-zeros}
 use Rattle.mesh.proofs.Images.Words.{length-word, bytes-word, getD-word-zero, length-long, bytes-long}
 

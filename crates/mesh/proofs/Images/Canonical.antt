@@ -14,7 +14,8 @@ use lib.ListN.{length, getD, take, drop, length-map, take-append-drop, List·get
 use lib.Seq.{getD-take, length-take-le, ext-getD}
 use borrow.Author.Tests.{ltb-true, ltb-false}
 use Rattle.mesh.specs.Limits.{max-radios, max-neighbours}
-use Rattle.lists.specs.Lists.{range, Bytes}
+use Rattle.lists.specs.Lists.{range}
+use Rattle.lists.specs.Facts.{Bytes}
 use Rattle.mesh.specs.Graph.{Graph}
 use Rattle.mesh.specs.Image.{block-bytes, payload-bytes, block-entries, block-links, word, long, check-sum, block, blocks-for, order-blocks, block-count}
 use Rattle.mesh.specs.Image.{link-bytes, order-payload, links-payload, block-at, image-of, word-at, entry-at, image-order, image-link, image-links}

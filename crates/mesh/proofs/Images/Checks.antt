@@ -10,7 +10,8 @@ use lib.Dec.{eqb}
 use lib.ListN.{length, getD, take, drop, length-take, length-drop}
 use lib.Seq.{getD-take, getD-drop, take-take, length-take-le, ext-getD}
 use borrow.Author.Tests.{eqb-true, eq-eqb}
-use Rattle.lists.specs.Lists.{same, Bytes}
+use Rattle.lists.specs.Lists.{same}
+use Rattle.lists.specs.Facts.{Bytes}
 use Rattle.mesh.specs.Image.{block-bytes, long, check-sum, block-check}
 use Rattle.lists.proofs.Tests.{iff-eq}
 use Rattle.lists.proofs.All.{same-refl, same-eq}

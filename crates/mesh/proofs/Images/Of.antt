@@ -8,7 +8,8 @@ use native.Mathlib.Omega.{arith}
 use lib.Dec.{ltb}
 use lib.ListN.{length, getD, take, drop}
 use borrow.Author.Tests.{eq-eqb, ne-eqb, lt-ltb, le-ltb}
-use Rattle.lists.specs.Lists.{range, same, Bytes}
+use Rattle.lists.specs.Lists.{range, same}
+use Rattle.lists.specs.Facts.{Bytes}
 use Rattle.mesh.specs.Graph.{Graph}
 use Rattle.mesh.specs.Image.{block-bytes, payload-bytes, word, long, check-sum, block, order-blocks, block-count, order-payload, links-payload, block-at}
 use Rattle.mesh.specs.Image.{image-of, whole-blocks, block-check, checks-good}

@@ -34,17 +34,17 @@ other-size-iff n bs = (there, back)
         let rest = and-right (not (eqb m n)) (size-good m && is-image m bs) h in
         let size = and-left (size-good m) (is-image m bs) rest in
         record {
-          radios = m;
+          another = m;
           size = size;
           other = eqb-false m n (not-true (eqb m n) (and-left (not (eqb m n)) (size-good m && is-image m bs) h));
-          is-image = is-image-tables m bs (size-good-true m size .1) .0 (and-right (size-good m) (is-image m bs) rest);
+          of-tables = is-image-tables m bs (size-good-true m size .1) .0 (and-right (size-good m) (is-image m bs) rest);
         }
 
     back : Other-size n bs → (not (eqb m n) && (size-good m && is-image m bs)) ≡ true
     back o =
-        let r = tables-image-radios (o .radios) bs (o .size) (o .is-image) in
-        rw (r .0) (and-both (not (eqb (o .radios) n)) (size-good (o .radios) && is-image (o .radios) bs)
-        (ap not (ne-eqb (o .radios) n (o .other))) (and-both (size-good (o .radios)) (is-image (o .radios) bs) (o .size) (r .1)))
+        let r = tables-image-radios (o .another) bs (o .size) (o .of-tables) in
+        rw (r .0) (and-both (not (eqb (o .another) n)) (size-good (o .another) && is-image (o .another) bs)
+        (ap not (ne-eqb (o .another) n (o .other))) (and-both (size-good (o .another)) (is-image (o .another) bs) (o .size) (r .1)))
 
 pub is-image-not-other : (n : ℕ) (bs : List ℕ) → n ≤ max-radios → is-image n bs ≡ true → other-size n bs ≡ false
 unfolding other-size

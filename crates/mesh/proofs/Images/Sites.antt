@@ -12,7 +12,8 @@ use Prim.Native.Nat.{ℕ, _≤_, _<_}
 use native.Mathlib.Omega.{arith}
 use lib.ListN.{length, getD}
 use Rattle.mesh.specs.Limits.{max-radios, max-neighbours}
-use Rattle.lists.specs.Lists.{same, Each-once}
+use Rattle.lists.specs.Lists.{same}
+use Rattle.lists.specs.Facts.{Each-once}
 use Rattle.mesh.specs.Graph.{Graph, proper, ascending}
 use Rattle.mesh.specs.Tables.{tables-of}
 use Rattle.mesh.specs.Sound.{sound, sound-within}

@@ -21,7 +21,7 @@ use Rattle.lists.proofs.Tests.{and-left, and-right}
 use Rattle.mesh.proofs.GraphLaws.{linked-self, neighbours-in-subset, degree-in}
 use Rattle.mesh.proofs.Cores.KOrders.{k-order-certificate, certificate-k-order}
 use Rattle.mesh.proofs.Cores.Peeling.{length-numbers, getD-numbers}
-use Rattle.lists.specs.Lists.{Bytes}
+use Rattle.lists.specs.Facts.{Bytes}
 use Rattle.mesh.proofs.Tables.Laws.{length-links-table, bytes-links-table}
 use Rattle.mesh.proofs.Tables.Rows.{few-of}
 use Rattle.mesh.proofs.Tables.ReadBack.{proper-graph-in, ascending-graph-in, graph-in-links-table, links-table-graph-in, degree-graph-in}
@@ -104,7 +104,7 @@ is-image-tables n bs small = (there, back)
         let xs = image-order n bs in
         let v = image-valid n bs small h in
         record {
-          lent = tables-of g xs;
+          tables = tables-of g xs;
           size = record {
             links-length = length-links-table g;
             numbers-length = length-numbers g;
@@ -118,7 +118,7 @@ is-image-tables n bs small = (there, back)
         }
 
     back : Tables-image n bs → is-image n bs ≡ true
-    back t = ap (is-image n) (sym (t .written)) ∙ is-image-sound n (t .lent) small (t .is-sound)
+    back t = ap (is-image n) (sym (t .written)) ∙ is-image-sound n (t .tables) small (t .is-sound)
 
 -- sound tables, written and read, are the same tables
 pub tables-read-written : (n : ℕ) (t : Tables) → n ≤ max-radios → Tables-of-size n t → sound n t ≡ true

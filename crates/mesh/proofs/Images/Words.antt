@@ -6,7 +6,7 @@ use native.Mathlib.Omega.{arith}
 use native.Mathlib.Nat.{mul-suc, mul-le-mul, div-div-eq-div-mul}
 use lib.ListN.{length, getD}
 use Rattle.mesh.specs.Image.{word, long, weighted-sum, check-sum, word-at}
-use Rattle.lists.specs.Lists.{Bytes}
+use Rattle.lists.specs.Facts.{Bytes}
 use Rattle.lists.proofs.Parts.{getD-bytes, bytes-cons}
 
 -- ---- word

@@ -9,8 +9,9 @@ use native.Mathlib.Omega.{arith}
 use lib.Dec.{ltb, eqb}
 use lib.ListN.{length}
 use borrow.Author.Tests.{ltb-true, eqb-true, eqb-false, eq-eqb, ne-eqb, not-true, not-false}
-use Rattle.lists.specs.Lists.{range, filter, member, In, Distinct}
-use Rattle.mesh.specs.Graph.{Graph, radios, linked, neighbours-in, relinked, proper, new-links}
+use Rattle.lists.specs.Lists.{range, filter, member, In}
+use Rattle.lists.specs.Facts.{Distinct}
+use Rattle.mesh.specs.Graph.{Graph, radios, linked, neighbours-in, relinked, proper, new-links, Allowed}
 use Rattle.mesh.specs.Cores.{Group, number}
 use Rattle.mesh.specs.Orders.{is-k-order}
 use Rattle.mesh.specs.Levels.{changed, lower-level, stretch-start, stretch-length, laid-out, stretch-up, stretch-down, new-stretch, with-stretch}
@@ -31,7 +32,7 @@ use Rattle.mesh.proofs.Links.PeelSound.{Moves, Peeled-level, new-list, 
 use Rattle.mesh.proofs.Links.PeelSound.{peel-certificate}
 use Rattle.mesh.proofs.Links.Moves.{link-moves}
 use Rattle.mesh.proofs.Links.LevelCut.{lows, mids, highs, level-cut, stretch-start-is, stretch-length-is, take-below, take-level, drop-above}
-use Rattle.mesh.specs.Valid.{Valid, Allowed, smaller, larger}
+use Rattle.mesh.specs.Valid.{Valid, smaller, larger}
 
 -- ---- both ends of a link have a number above 0
 

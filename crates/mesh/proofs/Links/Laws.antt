@@ -18,7 +18,7 @@ use lib.ListN.{length, take, drop}
 use borrow.Author.Tests.{eqb-true, eqb-false}
 use Rattle.mesh.specs.Limits.{max-radios}
 use Rattle.lists.specs.Lists.{range, member}
-use Rattle.mesh.specs.Graph.{Graph, radios, linked, neighbours-among, degree, relinked}
+use Rattle.mesh.specs.Graph.{Graph, radios, linked, neighbours-among, degree, relinked, Allowed}
 use Rattle.mesh.specs.Cores.{number}
 use Rattle.mesh.specs.Levels.{changed, lower-level, stretch-start, stretch-length, new-stretch, new-order}
 use Rattle.mesh.specs.Tables.{put-link, links-table}
@@ -35,7 +35,7 @@ use Rattle.mesh.proofs.Links.Call.{link-adds, cut, start-is, length-is,
 use Rattle.mesh.proofs.Links.Call.{unchanged-numbers, new-stretch-is, new-order-is, new-order-k-order}
 use Rattle.mesh.proofs.Links.Connectedness.{changed-connected, changed-has-end}
 use Rattle.mesh.proofs.Tables.Relinked.{ascending-new-links, links-table-relinked}
-use Rattle.mesh.specs.Valid.{Valid, Allowed, smaller, larger}
+use Rattle.mesh.specs.Valid.{Valid, smaller, larger}
 
 -- ---- degrees
 

@@ -7,7 +7,8 @@ use Prim.Native.Nat.{ℕ, suc, _-_, _≤_, _<_, min}
 use native.Mathlib.Omega.{arith}
 use lib.Dec.{eqb}
 use borrow.Author.Tests.{eq-eqb, ne-eqb}
-use Rattle.lists.specs.Lists.{count, Distinct}
+use Rattle.lists.specs.Lists.{count}
+use Rattle.lists.specs.Facts.{Distinct}
 use Rattle.mesh.specs.Graph.{Graph, linked, relinked}
 use Rattle.lists.proofs.Tests.{iff-eq}
 use Rattle.lists.proofs.Distinct.{count-one-more}

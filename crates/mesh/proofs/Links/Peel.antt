@@ -8,7 +8,8 @@ use native.Mathlib.Omega.{arith}
 use lib.Dec.{leb}
 use lib.ListN.{length, length-append}
 use borrow.Author.Tests.{leb-true, leb-false, le-leb, lt-leb, eq-eqb, ne-eqb}
-use Rattle.lists.specs.Lists.{count, filter, member, In, Distinct, Permutation}
+use Rattle.lists.specs.Lists.{count, filter, member, In}
+use Rattle.lists.specs.Facts.{Distinct, Permutation}
 use Rattle.mesh.specs.Graph.{neighbours-among}
 use Rattle.mesh.specs.Levels.{first-fitting, without, laid-out}
 use Rattle.lists.proofs.Tests.{bool-cases, bit-false}

@@ -9,7 +9,8 @@ use native.Mathlib.Omega.{arith}
 use native.Mathlib.Nat.{le-trans, le-of-eq}
 use lib.Dec.{leb}
 use borrow.Author.Tests.{leb-true, le-leb}
-use Rattle.lists.specs.Lists.{range, count, filter, member, In, Distinct, Permutation, Each-once, Rising}
+use Rattle.lists.specs.Lists.{range, count, filter, member, In}
+use Rattle.lists.specs.Facts.{Distinct, Permutation, Each-once, Rising}
 use Rattle.mesh.specs.Graph.{Graph, radios, linked, neighbours-in}
 use Rattle.lists.proofs.Tests.{bool-cases, and-both}
 use Rattle.lists.proofs.Member.{in-left, in-cases, member-in, in-member, not-member}

@@ -14,7 +14,7 @@ use lib.ListN.{length}
 use borrow.Author.Tests.{ltb-true, ltb-false}
 use Rattle.mesh.specs.Limits.{max-radios, max-neighbours, row-bytes}
 use Rattle.lists.specs.Lists.{range}
-use Rattle.mesh.specs.Graph.{Link, Graph, graph, linked, relinked}
+use Rattle.mesh.specs.Graph.{Link, Graph, graph, linked, relinked, Allowed}
 use Rattle.mesh.specs.Levels.{new-order}
 use Rattle.mesh.specs.Tables.{Tables, marked, put-link, links-table, graph-in}
 use Rattle.mesh.specs.Sound.{symmetric, irreflexive, within, row-degree, few, rows-proper, sound}
@@ -31,7 +31,7 @@ use Rattle.mesh.proofs.Tables.ReadBack.{Marks, in-graph-in, graph-in-in
 use Rattle.mesh.proofs.Tables.Soundness.{sound-certificate}
 use Rattle.mesh.proofs.Images.Tables.{valid-graph-in}
 use Rattle.mesh.proofs.Links.Laws.{link-valid}
-use Rattle.mesh.specs.Valid.{Valid, Allowed}
+use Rattle.mesh.specs.Valid.{Valid}
 
 marks-same : (n : ℕ) (ts us : List ℕ) (m : Link) → ((a b : ℕ) → a < b → b < n → marked ts a b ≡ marked us a b) → Marks n ts m → Marks n us m
 marks-same n ts us m e k = record {

@@ -9,7 +9,8 @@ use native.Mathlib.Omega.{arith}
 use lib.ListN.{length, take, drop, replicate, length-append, length-take, length-drop, length-replicate, take-append-drop, replicate-append-replicate}
 use lib.Seq.{take-at, drop-at, drop-drop, take-take, length-take-le, take-append-le}
 use Rattle.lists.proofs.Parts.{drop-replicate}
-use Rattle.mesh.specs.Marks.{place-bytes, places, store-bytes, name-in, store-of, moved-up, moved-down}
+use Rattle.mesh.specs.Marks.{place-bytes, places, store-bytes, name-in, store-of}
+use Rattle.mesh.specs.MarkPlaces.{moved-up, moved-down}
 use Rattle.mesh.proofs.Marks.Lists.{Rising-marks}
 use Rattle.mesh.proofs.Marks.Laws.{joined, Sized, rising-sized}
 

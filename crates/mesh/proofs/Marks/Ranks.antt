@@ -13,7 +13,8 @@ use lib.ListN.{length, getD, take, drop}
 use Rattle.lists.specs.Lists.{same}
 use Rattle.lists.proofs.Tests.{bool-cases, never}
 use Rattle.lists.proofs.All.{same-refl, same-eq}
-use Rattle.mesh.specs.Marks.{before, name-in, has-mark, found, with-mark, without-mark, rank, heads}
+use Rattle.mesh.specs.Marks.{before, name-in, has-mark, found, with-mark, without-mark}
+use Rattle.mesh.specs.MarkPlaces.{rank, heads}
 use Rattle.mesh.proofs.Marks.NameOrder.{before-trans, before-self, before-total}
 use Rattle.mesh.proofs.Marks.Lists.{Rising-marks, absent}
 

@@ -133,7 +133,7 @@ good-rules n bs len h =
     let up : (i j : ℕ) → i < j → j < length ps → before (name-at bs i) (name-at bs j) ≡ true = λ i j l m.
     ap₂ before (sym (name i (omega arith))) (sym (name j m)) ∙ rising-pair n [] ps r i j l m in
     record {
-      used = length ps;
+      many = length ps;
       few = s .marks .few;
       mark = λ i l.
           let m = rising-mark n [] ps r i l in
@@ -165,7 +165,7 @@ named n (c ∷ p) h = refl
 rules-good : (n : ℕ) (bs : List ℕ) → n ≤ max-radios → length bs ≡ store-bytes → Store-rules n bs → is-store n bs ≡ true
 unfolding is-store marks-in
 rules-good n bs small len s =
-    let u = s .used in
+    let u = s .many in
     let few = s .few in
     let ps = used (places-of places bs) in
     let c : length ps ≡ u = used-count places u bs few (λ i l. mark-nonzero n (place-at bs i) (good i l)) (λ l. s .unused u (omega arith) l) in
@@ -176,7 +176,7 @@ rules-good n bs small len s =
     (λ i l. ap₂ before (ap name-in (m i (omega arith)) ∙ name-of-place bs i) (ap name-in (m (suc i) l) ∙ name-of-place bs (suc i)) ∙ s .rising i (suc i) (omega arith) (omega arith)))
     (rw c (zeros-from bs len (places - u) u (omega arith) (λ j l k. s .unused j l k)))
   where
-    good : (i : ℕ) → i < s .used → is-mark n (place-at bs i) ≡ true
+    good : (i : ℕ) → i < s .many → is-mark n (place-at bs i) ≡ true
     good i l =
         let k = s .mark i l in
         ap (is-mark n) (k .is) ∙ place-mark n (k .name) (k .image) small (k .name-good) (k .image-good) .good

@@ -12,7 +12,8 @@ use lib.ListN.{length, getD, set, replicate, length-set, length-append, length-r
 use lib.Seq.{getD-append-add, getD-set-same, getD-set-other, ext-getD}
 use borrow.Author.Tests.{eqb-true, eqb-false, eq-eqb, ne-eqb}
 use Rattle.mesh.specs.Limits.{max-radios, row-bytes}
-use Rattle.lists.specs.Lists.{range, member, Bytes}
+use Rattle.lists.specs.Lists.{range, member}
+use Rattle.lists.specs.Facts.{Bytes}
 use Rattle.mesh.specs.Graph.{Graph, graph, other-ends, linked}
 use Rattle.mesh.specs.Tables.{digit, byte-at, marked, put-digit, put-bit, put-link, from-digits, bit-row, bit-table, links-table}
 use Rattle.lists.proofs.Tests.{bool-cases}

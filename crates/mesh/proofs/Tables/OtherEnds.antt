@@ -10,7 +10,8 @@ use native.Mathlib.Omega.{arith}
 use native.Mathlib.Nat.{le-antisymm}
 use lib.Dec.{eqb}
 use borrow.Author.Tests.{eqb-true}
-use Rattle.lists.specs.Lists.{range, count, In, Distinct}
+use Rattle.lists.specs.Lists.{range, count, In}
+use Rattle.lists.specs.Facts.{Distinct}
 use Rattle.mesh.specs.Graph.{Link, Graph, radios, linked, neighbours-in, other-ends, proper, ascending}
 use Rattle.lists.proofs.Tests.{bool-cases, and-left, and-right, and-both}
 use Rattle.lists.proofs.Member.{member-in, in-member}

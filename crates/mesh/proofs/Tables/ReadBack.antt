@@ -11,7 +11,8 @@ use lib.Dec.{ltb}
 use lib.ListN.{length}
 use borrow.Author.Tests.{ltb-true, ltb-false}
 use Rattle.mesh.specs.Limits.{max-radios, row-bytes}
-use Rattle.lists.specs.Lists.{range, filter, In, Bytes}
+use Rattle.lists.specs.Lists.{range, filter, In}
+use Rattle.lists.specs.Facts.{Bytes}
 use Rattle.mesh.specs.Graph.{Link, In-links, Graph, graph, radios, linked, degree, neighbours-among, proper, ascending}
 use Rattle.mesh.specs.Tables.{marked, links-table, row-links, graph-in}
 use Rattle.mesh.specs.Sound.{symmetric, irreflexive, within, row-degree}

@@ -8,7 +8,8 @@ use native.Mathlib.Omega.{arith}
 use native.Mathlib.Nat.{le-of-eq}
 use lib.ListN.{replicate}
 use Rattle.mesh.specs.Limits.{max-radios, max-neighbours}
-use Rattle.lists.specs.Lists.{range, count, member, same, In, Rising}
+use Rattle.lists.specs.Lists.{range, count, member, same, In}
+use Rattle.lists.specs.Facts.{Rising}
 use Rattle.mesh.specs.Graph.{graph, radios, other-ends, linked, neighbours-among, degree, proper, ascending}
 use Rattle.mesh.specs.Cores.{number, numbers}
 use Rattle.mesh.specs.Tables.{tables-of}

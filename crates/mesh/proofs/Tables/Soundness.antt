@@ -15,7 +15,8 @@ use lib.ListN.{length, getD}
 use lib.Seq.{ext-getD}
 use borrow.Author.Tests.{leb-true, le-leb}
 use Rattle.mesh.specs.Limits.{max-radios}
-use Rattle.lists.specs.Lists.{range, count, In, Each-once}
+use Rattle.lists.specs.Lists.{range, count, In}
+use Rattle.lists.specs.Facts.{Each-once}
 use Rattle.mesh.specs.Graph.{Graph, radios, linked, neighbours-in, proper, ascending}
 use Rattle.mesh.specs.Cores.{number, numbers}
 use Rattle.mesh.specs.Orders.{each-once, rising, few-later, is-k-order}

@@ -9,7 +9,8 @@ use native.Mathlib.Omega.{arith}
 use lib.Dec.{ltb}
 use lib.ListN.{length}
 use borrow.Author.Tests.{ltb-true, lt-ltb, not-true}
-use Rattle.lists.specs.Lists.{range, count, filter, member, In, Ascending-below}
+use Rattle.lists.specs.Lists.{range, count, filter, member, In}
+use Rattle.lists.specs.Facts.{Ascending-below}
 use Rattle.mesh.specs.Graph.{Graph, radios, linked, neighbours-among}
 use Rattle.mesh.specs.Connected.{Reachable, here, onward, at-least, In-core, reached, core-of}
 use Rattle.lists.proofs.Tests.{bool-cases, never, and-left, and-right, and-both, or-cases, or-left, or-right, iff-eq}

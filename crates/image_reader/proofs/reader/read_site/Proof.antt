@@ -2,7 +2,7 @@
 use mathlib.Core.Path.{refl}
 use native.Mathlib.Omega.{arith}
 use borrow.Author.Needs.{needs}
-use Rattle.lists.specs.Lists.{Bytes}
+use Rattle.lists.specs.Facts.{Bytes}
 use Rattle.mesh.specs.Tables.{tables}
 use Rattle.mesh.proofs.Sizes.{size-good-true}
 use Rattle.image_reader.proofs.SiteLaws.{site-accepted, links-room}

@@ -2,7 +2,7 @@
 use native.Mathlib.Omega.{arith}
 use borrow.Author.Tests.{not-true, not-false}
 use borrow.Author.Needs.{needs}
-use Rattle.lists.specs.Lists.{Bytes}
+use Rattle.lists.specs.Facts.{Bytes}
 use Rattle.image_reader.proofs.SiteLaws.{site-room, not-formed, image-decided}
 use Rattle.image_reader.proofs.source.is_image.Statement.{statement}
 use Rattle.image_reader.proofs.source.is_image.Tie as tie

@@ -4,7 +4,8 @@ use Prim.Native.Nat.{_+_}
 use native.Mathlib.Omega.{arith}
 use lib.ListN.{length, getD, replicate, length-set}
 use borrow.Author.Needs.{needs}
-use Rattle.lists.specs.Lists.{Distinct, Entries-below}
+use Rattle.lists.specs.Facts.{Distinct}
+use Rattle.lists.specs.Lists.{Entries-below}
 use Rattle.mesh.specs.Limits.{max-radios, max-neighbours}
 use Rattle.mesh.proofs.Tables.Laws.{length-put-bit}
 use Rattle.rows.proofs.RowListLaws.{distinct-neighbours-of}
