@@ -58,7 +58,7 @@ use Rattle.calls.specs.Demand.{Start, beginning, Demand-3}
 use Rattle.walks.specs.Results.{Beginning-kept, Each-begins}
 use Rattle.lifting.specs.Results.{No-lift, Raises, Lift-right}
 use Rattle.hubs.specs.Hubs.{Confluence, Calls-agree, Equal-orders, Equal-images}
-use Rattle.playback.specs.Rebuild.{Plays-back}
+use Rattle.playback.specs.Back.{Plays-back}
 
 -- ---- property 1
 
