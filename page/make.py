@@ -58,6 +58,8 @@ def write(page):
 
 def main():
     try:
+        if len(sys.argv) > 1:
+            raise Wrong("the input is standard input: python3 page/make.py <FILE >page.html")
         write(page_of(read()))
     except BadLine as bad:
         said("script, %s" % bad)

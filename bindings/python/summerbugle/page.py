@@ -6,12 +6,13 @@ import base64
 import json
 import sys
 from array import array
+from collections import Counter
 from typing import Any, Iterable, Union
 
 from .calls import ROOT, located
 from .refusals import MEANINGS, Refused
 from .script import Event, parsed
-from .site import Change, Site, row
+from .site import Change, Site
 
 STEPS = 5000  # how many steps a page has at the most: of a longer script several calls are one step
 FRAMES = 600  # how many steps have their backbone, shell tree and staircase tree: of more, some evenly spread and the last
@@ -63,15 +64,20 @@ def _step(site: Site, event: Event) -> list[Any]:
 
 def _steps(site: Site, events: list[Event]) -> list[Any]:
     """Several calls together: how many they are, and how many of them were refused."""
-    before, refusals = site.copy(), 0
+    turned: set[tuple[int, int]] = set()
+    moved: Counter[int] = Counter()
+    refusals = 0
     for event in events:
         try:
-            _played(site, event)
+            change = _played(site, event)
         except Refused:
             refusals += 1
-    turned = bytes(x ^ y for x, y in zip(before.links, site.links))
-    changes = {v: new - old for v, (old, new) in enumerate(zip(before.numbers, site.numbers)) if new != old}
-    return [[len(events), refusals], _flat((a, b) for a in range(site.n) for b in row(turned, a) if a < b), _packed(changes), [*changes.values()]]
+            continue
+        turned ^= {(min(event[1:]), max(event[1:]))}
+        for v in change.radios:
+            moved[v] += change.step
+    changes = {v: by for v, by in sorted(moved.items()) if by}
+    return [[len(events), refusals], _flat(sorted(turned)), _packed(changes), [*changes.values()]]
 
 
 def together(count: int) -> int:
@@ -79,11 +85,11 @@ def together(count: int) -> int:
     return max(1, -(-count // STEPS))
 
 
-def _page(site: Site, events: list[Event]) -> str:
+def _page(site: Site, events: list[Event], script: bool) -> str:
     """The page of a site and of the calls that are then made on it."""
-    data = {"n": site.n, "links": _flat(site.link_list()), "before": _text(bytes(site.numbers)), "calls": len(events),
-            "together": together(len(events)), "meanings": MEANINGS}
     several = together(len(events))
+    data = {"n": site.n, "links": _flat(site.link_list()), "before": _text(bytes(site.numbers)), "script": script, "calls": len(events),
+            "together": several, "meanings": MEANINGS}
     groups = [events[at:at + several] for at in range(0, len(events), several)]
     every = max(1, -(-len(groups) // FRAMES))
     steps, frames = [], {0: _frame(site)}
@@ -98,10 +104,10 @@ def _page(site: Site, events: list[Event]) -> str:
 
 def page_of_site(site: Site) -> str:
     """The page of a site as it is."""
-    return _page(site, [])
+    return _page(site, [], False)
 
 
 def page_of_script(text: Union[str, bytes]) -> str:
     """The page of a script, from the cleared site on. A refused call is shown as such; a line of another form raises a BadLine."""
     n, events = parsed(text)
-    return _page(Site(n), events)
+    return _page(Site(n), events, True)
