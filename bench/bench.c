@@ -6,7 +6,7 @@
  *   heard SITE LINKS CALL SINGLE  a hearing of the engine at 512 radios that takes all links down and others up, and the single calls
  *   change SITE TIME ..           time of a link call at 512 radios, over links all over the site
  *   stack CALL BYTES              the most stack that the engine's call took
- * --quick: two sizes, few batches. --once N: only the engine's calls, once each, on sparse sites of N radios, for counting.
+ * --quick: two sizes, few batches, no sites in turn, and programs compared on two sites of a kind. --once N: only the engine's calls, once each, on sparse sites of N radios, for counting.
  */
 #include "agree.h"
 #include "clock.h"
@@ -74,10 +74,13 @@ static int all_taken(uint32_t size, enum kind kind) {
     return 1;
 }
 
+static unsigned most_compared = TOGETHER;
+
 /* A program that answers has to answer as the engine does, on as many of the sites as have 512 radios together. */
 static int all_agree(uint32_t size, enum kind kind) {
+    const unsigned count = TOGETHER / size < most_compared ? TOGETHER / size : most_compared;
     for (unsigned p = 1; p < COUNT; p++)
-        for (unsigned j = 0; j < TOGETHER / size && programs[p]->has(CHECK); j++) {
+        for (unsigned j = 0; j < count && programs[p]->has(CHECK); j++) {
             const char *what = disagreement(programs[0], programs[p], &entries[j]);
             if (!what) continue;
             printf("engine and %s differ: %s, %u radios, %s\n", programs[p]->name, what, size, kinds[kind]);
@@ -202,13 +205,14 @@ int main(int argc, char **argv) {
     static const uint32_t sizes[] = {16, 64, 256, 512};
     static unsigned stack[CALLS];
     if (argc > 2) return once(atoi(argv[2]));
-    unsigned step = argc > 1 ? 3 : 1;
-    if (step == 3) turns = 3;
+    const int quick = argc > 1;
+    const unsigned step = quick ? 3 : 1, sites = quick ? ALONE : KINDS;
+    if (quick) turns = 3, most_compared = 2;
     printf("programs");
     for (unsigned p = 0; p < COUNT; p++) printf(" %s", programs[p]->name);
     printf("\n");
     for (unsigned i = 0; i < 4; i += step)
-        for (unsigned k = 0; k < KINDS; k++)
+        for (unsigned k = 0; k < sites; k++)
             if (!time_calls(sizes[i], k, stack)) return 1;
     for (unsigned k = 0; k < ALONE && programs[0]->has(HEARD); k++)
         if (!time_hearing(k)) return 1;

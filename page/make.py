@@ -1,111 +1,77 @@
-"""A page to look at: plays a script of the replay program through the engine and writes one HTML file that shows the mesh step by step.
+"""A page to look at: writes one HTML file that shows a site, or a script's mesh step by step.
 
     bindings/python/build && python3 page/make.py <examples/site.txt >page.html
 
-Everything shown is the engine's own output: answers, numbers, backbone, shell tree, connected cores, staircase tree. The page only draws it.
-A line that the replay program would call bad ends the run: nothing is written but a line on the error output, and the status is 1.
+The input is a script of the replay program, which is played, or an image. Everything shown is the engine's own output: answers, numbers,
+backbone, shell tree, connected cores, staircase tree. The page only draws it. A page has at most 5,000 steps: of a longer script several
+calls are one step, and a line on the error output says how many. What goes wrong is one line there that begins with `page: `, and status 1.
 """
 
-import base64
-import json
 import os
-import re
 import sys
-from array import array
 
 HERE = os.path.dirname(os.path.abspath(__file__))
 sys.path.insert(0, os.path.join(HERE, "..", "bindings", "python"))
 
-import summerbugle  # noqa: E402
-
-FRAMES = 600  # how many steps get their shell tree and staircase tree; with more calls, steps evenly spread and the last
-NUMBER = "(0|[1-9][0-9]{0,4})"
-
-
-class Bad(Exception):
-    """A line of another form."""
+from summerbugle import LONGEST_IMAGE, BadLine, Refused, Site  # noqa: E402
+from summerbugle.page import STEPS, page_of_script, together  # noqa: E402
+from summerbugle.script import is_script  # noqa: E402
 
 
-def number(text):
-    value = int(text)
-    if value > 65535:
-        raise ValueError
-    return value
+class Wrong(Exception):
+    """What went wrong, in words."""
 
 
-def parsed(data):
-    """The count of radios and the calls of a script; document 01's form of a line."""
-    lines = data.split(b"\n")
-    if lines[-1] != b"":
-        raise Bad(len(lines))
-    lines = lines[:-1]
-    calls, n = [], 0
-    for at, line in enumerate(lines):
-        form = b"radios %s$" if at == 0 else b"(up|down) %s %s$"
-        found = re.match(form.replace(b"%s", NUMBER.encode()), line)
-        try:
-            values = [number(x) for x in found.groups()[(0 if at == 0 else 1):]]
-        except (AttributeError, ValueError):
-            raise Bad(at + 1) from None
-        if at == 0:
-            n = values[0]
-            if not 1 <= n <= summerbugle.RADIOS:
-                raise Bad(1)
-        else:
-            calls.append((found.group(1) == b"up", values[0], values[1]))
-    if not lines:
-        raise Bad(1)
-    return n, calls
+def said(words):
+    sys.stderr.write("page: %s\n" % words)
 
 
-def packed(values):
-    """16-bit entries, little-endian, as text."""
-    entries = array("H", values)
-    if sys.byteorder == "big":
-        entries.byteswap()
-    return base64.b64encode(entries.tobytes()).decode("ascii")
+def read():
+    try:
+        with open(0, "rb", closefd=False) as f:
+            return f.read()
+    except OSError as wrong:
+        raise Wrong("the input cannot be read: %s" % wrong.strerror) from None
 
 
-def shown(site):
-    """What the engine says of a site beside its numbers."""
-    tree = site.tree()
-    inner = [x for x in tree.nodes if x.name != summerbugle.ROOT]
-    return {
-        "backbone": packed(site.backbone()),
-        "nodes": [[x.name, x.level, x.parent] for x in tree.nodes],
-        "cores": [packed(site.core(x.name, x.level)) for x in inner],
-        "stairs": packed([v for link in site.staircase() for v in link]),
-    }
+def page_of(data):
+    """The page of a script or of an image."""
+    if not data:
+        raise Wrong("the input is empty")
+    if is_script(data):
+        count = data.count(b"\n") - 1
+        if count > STEPS:
+            said("%d calls, %d to a step" % (count, together(count)))
+        return page_of_script(data)
+    if len(data) > LONGEST_IMAGE:
+        raise Wrong("no script, and longer than the longest image, %d bytes" % LONGEST_IMAGE)
+    return Site.read(data).page()
 
 
-def played(n, calls):
-    """The steps: each call with its answer, and the numbers after it; and what is shown of some of them."""
-    site = summerbugle.Site(n)
-    every = max(1, -(-len(calls) // FRAMES))
-    steps, frames = [], {0: shown(site)}
-    for at, (up, a, b) in enumerate(calls, 1):
-        try:
-            change = (site.link_up if up else site.link_down)(a, b)
-            steps.append([int(up), a, b, 0, change.step, packed(change.radios)])
-        except summerbugle.Refused as refused:
-            steps.append([int(up), a, b, refused.number, 0, ""])
-        if at % every == 0 or at == len(calls):
-            frames[at] = shown(site)
-    return {"n": n, "steps": steps, "frames": frames, "meanings": summerbugle.MEANINGS,
-            "numbers": base64.b64encode(bytes(site.numbers)).decode("ascii")}
+def write(page):
+    try:
+        with open(1, "wb", closefd=False) as f:
+            f.write(page.encode("utf-8"))
+    except OSError as wrong:
+        raise Wrong("the output cannot be written: %s" % wrong.strerror) from None
 
 
 def main():
     try:
-        n, calls = parsed(sys.stdin.buffer.read())
-    except Bad as bad:
-        sys.stderr.write("line %d of the script is of another form\n" % bad.args[0])
-        return 1
-    with open(os.path.join(HERE, "page.html"), encoding="utf-8") as f:
-        page = f.read()
-    data = json.dumps(played(n, calls), separators=(",", ":"))
-    sys.stdout.write(page.replace("/*DATA*/null", data))
-    return 0
+        if len(sys.argv) > 1:
+            raise Wrong("the input is standard input: python3 page/make.py <FILE >page.html")
+        write(page_of(read()))
+    except BadLine as bad:
+        said("script, %s" % bad)
+    except Refused as refused:
+        said("no script; image: refused by %s" % refused)
+    except (Wrong, OSError) as wrong:
+        said(wrong)
+    except KeyboardInterrupt:
+        said("stopped")
+    else:
+        return 0
+    return 1
 
 
 if __name__ == "__main__":

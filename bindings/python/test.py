@@ -1,11 +1,19 @@
-"""Tests of summerbugle.py: it has every call and every number of the header; document 01's cases; refusals, which change nothing.
+"""Tests of the package: it has every call and every number of the header; document 01's cases; refusals, which change nothing; numbers that
+are not cut, tables that are not lent, threads; what a test engineer has beside the calls.
 
     bindings/python/build && python3 bindings/python/test.py
 """
 
+import copy
+import ctypes
+import ctypes.util
+import html
 import os
+import pickle
 import re
+import subprocess
 import sys
+import threading
 import unittest
 from array import array
 
@@ -14,7 +22,8 @@ ROOT = os.path.dirname(os.path.dirname(HERE))
 sys.path.insert(0, HERE)
 
 import summerbugle  # noqa: E402
-from summerbugle import Batch, Change, Later, Marks, Node, Pair, Refused, Site, call, entries  # noqa: E402
+from summerbugle import BadLine, Batch, Change, Later, Marks, Node, Pair, Refusal, Refused, Site, call, entries, heard  # noqa: E402
+from summerbugle.refusals import CLASSES, refused  # noqa: E402
 
 
 def linked(n, pairs):
@@ -27,6 +36,18 @@ def linked(n, pairs):
 
 def clique(radios):
     return [(a, b) for a in radios for b in radios if a < b]
+
+
+def words_of(parameters):
+    """The parameters of a declaration, as CALLS says them."""
+    left = [x.strip() for x in parameters.split(",")]
+    words = {"uint32_t": "u32", "int8_t": "step", "size_t": "size", "uint8_t": "bytes", "uint16_t": "entries", "sb_node": "nodes"}
+    for at, parameter in enumerate(left):
+        const, kind, star, _ = re.fullmatch(r"(const )?(\w+) (\*?)(\w+)", parameter).groups()
+        if star:
+            yield words[kind] + ("" if const else "*")
+        elif kind != "size_t" or "*" not in left[at - 1]:
+            yield words[kind]
 
 
 def kept(site):
@@ -42,20 +63,31 @@ class Header(unittest.TestCase):
             self.text = f.read()
 
     def test_every_call(self):
-        declared = re.findall(r"^\w+ (sb_\w+)\(([^)]*)\);", self.text, re.M)
-        self.assertEqual({name for name, _ in declared}, set(summerbugle.CALLS))
-        library = summerbugle.load()
-        for name, parameters in declared:
-            self.assertEqual(len(parameters.split(",")), len(getattr(library, name).argtypes), name)
+        declared = re.findall(r"^(\w+) (sb_\w+)\(([^)]*)\);", self.text, re.M)
+        self.assertEqual({name for _, name, _ in declared}, set(summerbugle.CALLS))
+        for result, name, parameters in declared:
+            kind, words = summerbugle.CALLS[name]
+            self.assertEqual(words, " ".join(words_of(parameters)), name)
+            self.assertEqual(getattr(kind, "_fields_", "u32"), "u32" if result == "uint32_t" else self.fields(result), name)
+
+    def fields(self, name):
+        """The fields of a struct, as ctypes has them."""
+        body = re.search(r"typedef struct \{([^}]*)\} %s;" % name, self.text).group(1)
+        kinds = {"uint32_t": ctypes.c_uint32, "uint16_t": ctypes.c_uint16, "int8_t": ctypes.c_int8, "size_t": ctypes.c_size_t}
+        return [(field, kinds[kind]) for kind, field in re.findall(r"(\w+) (\w+);", body)]
+
+    def test_nodes(self):
+        self.assertEqual(summerbugle.calls._Node._fields_, self.fields("sb_node"))
 
     def test_every_number(self):
-        numbers = {int(x) for x in re.findall(r"^    SB_\w+ = (\d+)", self.text, re.M)}
-        self.assertEqual(numbers - {0}, set(summerbugle.MEANINGS))
+        numbers = {name: int(x) for name, x in re.findall(r"^    SB_(\w+) = (\d+)", self.text, re.M) if x != "0"}
+        self.assertEqual(numbers, {refusal.name: refusal for refusal in Refusal})
+        self.assertEqual(set(numbers.values()), set(summerbugle.MEANINGS))
 
     def test_limits(self):
         for name, value in (("RADIOS", summerbugle.RADIOS), ("NEIGHBOURS", summerbugle.NEIGHBOURS), ("ROW_BYTES", summerbugle.ROW_BYTES),
                             ("ROOT", summerbugle.ROOT), ("NOBODY", summerbugle.NOBODY), ("BLOCK_BYTES", summerbugle.BLOCK_BYTES),
-                            ("PAGE_LINE", summerbugle.PAGE_LINE), ("NAME_BYTES", summerbugle.NAME_BYTES),
+                            ("PAGE_LINE", summerbugle.PAGE_LINE), ("NAME_BYTES", summerbugle.NAME_BYTES), ("PLACE_BYTES", summerbugle.PLACE_BYTES),
                             ("STORE_BYTES", summerbugle.STORE_BYTES)):
             self.assertEqual(int(re.search(r"#define SB_%s (\d+)u" % name, self.text).group(1)), value)
 
@@ -268,6 +300,7 @@ class Sample(unittest.TestCase):
         site = Site(int(lines[0][1]))
         for word, a, b in lines[1:]:
             (site.link_up if word == "up" else site.link_down)(int(a), int(b))
+        self.assertEqual(Site.from_script("".join(" ".join(line) + "\n" for line in lines)), site)
         self.assertEqual((list(site.numbers), list(site.order)), ([1, 1, 1, 2, 2, 2, 1], [6, 0, 1, 2, 5, 3, 4]))
         self.assertEqual([site.number(v) for v in range(7)], list(site.numbers))
         self.assertEqual([site.neighbours(v) for v in range(7)], [2, 1, 3, 3, 2, 2, 1])
@@ -278,6 +311,298 @@ class Sample(unittest.TestCase):
         self.assertEqual(site.core(3, 2), [3, 4, 5])
         self.assertEqual(site.staircase(), [(3, 4), (3, 5), (0, 2), (0, 6), (1, 2), (2, 3)])
         self.assertTrue(site.check())
+
+
+# numbers that no radio, n, level or step has; entries of a list have 16 bits, others 32
+OUTSIDE = (-1, -2**31, -2**32 + 1, 2**32, 2**32 + 1, 2**64 + 1, 10**30)
+NO_NUMBERS = ("1", 1.5, None, b"1", [1], 1j, object())
+
+
+class Numbers(unittest.TestCase):
+    """No number is cut."""
+
+    def setUp(self):
+        self.site = linked(4, [(0, 1), (1, 2)])
+        self.before = kept(self.site)
+
+    def refused(self, number, what, *values):
+        with self.assertRaises(Refused) as caught:
+            what(*values)
+        self.assertEqual((caught.exception.number, kept(self.site)), (number, self.before), (what, values))
+
+    def test_radios(self):
+        site = self.site
+        for v in OUTSIDE + (4, 65535, 65536, 70000):
+            for what in (site.link_up, site.link_down, site.ask_up, site.ask_down, site.linked, site.first):
+                self.refused(4, what, 0, v)
+                self.refused(4, what, v, 0)
+            for what in (site.number, site.neighbours, site.neighbours_of, site.later_of, site.lift):
+                self.refused(4, what, v)
+            self.refused(4, site.core, v, 0)
+            self.assertEqual((site.link_batch([(0, v)]), site.link_batch([(v, 0)])), (Batch(0, 4), Batch(0, 4)))
+            self.assertEqual(kept(site), self.before)
+            self.refused(4, site.commit_up, 0, v, Change(1, [3]))
+            self.refused(16, site.commit_up, 0, 3, Change(1, [v]))
+            self.refused(14, heard, 4, [(0, v)])
+            self.refused(14, heard, 4, [(v, 0)])
+
+    def test_others(self):
+        for x in OUTSIDE:
+            self.refused(8, self.site.core, 0, x)
+            self.refused(1, Site, x)
+            self.refused(1, heard, x, [])
+            self.refused(1, Site.from_links, x, [])
+        for step in OUTSIDE + (257, -255, 255, 128, -128, 127):
+            self.refused(16, self.site.commit_up, 0, 3, Change(step, [3]))
+        self.assertEqual(self.site.commit_up(0, 3, Change(1, [3])), Change(1, [3]))
+        for n in OUTSIDE + (0, 513, 4 + 2**32):
+            self.site.n = n
+            for what in (self.site.check, self.site.tree, self.site.sheet, self.site.script, self.site.image, self.site.clear):
+                with self.assertRaises(summerbugle.SizeRefused):
+                    what()
+            with self.assertRaises(summerbugle.SizeRefused):
+                self.site.hear(bytes(256))
+
+    def test_no_numbers(self):
+        site = self.site
+        for x in NO_NUMBERS:
+            for what, values in ((site.link_up, (0, x)), (site.number, (x,)), (site.core, (0, x)), (site.link_batch, ([(0, x)],)), (Site, (x,)),
+                                 (site.commit_up, (0, 3, Change(x, [3]))), (site.commit_up, (0, 3, Change(1, [x]))), (heard, (4, [(0, x)])),
+                                 (call, ("sb_check", x, site.links, site.numbers, site.order))):
+                with self.assertRaises(TypeError):
+                    what(*values)
+                self.assertEqual(kept(site), self.before)
+
+    def test_pairs(self):
+        for links in ([(0, 1, 2, 3)], [(3,), (1, 2), (0,)], [(0, 2, 3)], [0, 2], ["ab"], [()], [None], 5, None):
+            with self.assertRaises(TypeError):
+                self.site.link_batch(links)
+            self.assertEqual(kept(self.site), self.before)
+        self.assertEqual(self.site.link_batch(iter([[0, 2], (3, 0)])), Batch(2, 0))
+
+
+class Lent(unittest.TestCase):
+    """Tables that are not lent: the call is not made."""
+
+    def setUp(self):
+        self.site = linked(4, [(0, 1)])
+        self.before = kept(self.site)
+
+    def test_read_only(self):
+        for name in ("links", "numbers", "order"):
+            site = self.site.copy()
+            setattr(site, name, memoryview(getattr(site, name)).toreadonly())
+            for what, values in ((site.link_up, (1, 2)), (site.link_down, (0, 1)), (site.link_batch, ([(1, 2)],)), (site.clear, ()),
+                                 (site.hear, (bytes(256),)), (site.read_image, (site.image(),)), (site.commit_up, (1, 2, Change(1, [2])))):
+                with self.assertRaises(TypeError):
+                    what(*values)
+                self.assertEqual(kept(site), self.before)
+            self.assertEqual((site.number(1), site.ask_up(1, 2), site.check()), (1, Change(1, [2]), True))
+        for written in (b"x" * 100, memoryview(bytearray(100)).toreadonly()):
+            with self.assertRaises(TypeError):
+                call("sb_sheet", 4, self.site.links, self.site.numbers, self.site.order, written)
+
+    def test_other_elements(self):
+        site = self.site
+        for order in (array("I", range(4)), bytearray(8), [0, 1, 2, 3], None, 4):
+            with self.assertRaises(TypeError):
+                call("sb_check", 4, site.links, site.numbers, order)
+        for links in (array("H", range(128)), "x" * 256, memoryview(bytearray(512))[::2]):
+            with self.assertRaises(TypeError):
+                call("sb_check", 4, links, site.numbers, site.order)
+        with self.assertRaises(TypeError):
+            call("sb_check", 4, site.links, site.numbers)
+
+    def test_overlaps(self):
+        room = bytearray(1024)
+        view = memoryview(room)
+        for links, numbers in ((view[:256], view[255:259]), (view[4:260], view[:8]), (room[:0] or view[:256], view[:4])):
+            with self.assertRaises(ValueError):
+                call("sb_clear", 4, links, numbers, self.site.order)
+        self.assertEqual(bytes(room), bytes(1024))
+        self.assertEqual(call("sb_clear", 4, view[:256], view[256:260], view[260:268].cast("H")), 0)
+        self.assertEqual(call("sb_check", 4, view[:256], view[256:260], view[260:268].cast("H")).value, 1)
+        with self.assertRaises(ValueError):
+            call("sb_clear", 4, view[:256], view[256:260], view[261:269].cast("H"))
+        self.assertEqual(self.site.hear(self.site.links), [])
+
+
+class Raised(unittest.TestCase):
+    """What a refused call raises."""
+
+    def test_classes(self):
+        for refusal in Refusal:
+            self.assertEqual(CLASSES[refusal].__name__, refusal.name.title().replace("_", "") + "Refused")
+            self.assertIs(getattr(summerbugle, CLASSES[refusal].__name__), CLASSES[refusal])
+            again = pickle.loads(pickle.dumps(refused(refusal, "line 3")))
+            self.assertEqual((type(again), again.number, again.meaning, str(again)),
+                             (CLASSES[refusal], refusal, summerbugle.MEANINGS[refusal], "line 3: %d: %s" % (refusal, refusal.meaning)))
+        with self.assertRaises(summerbugle.LinkStateRefused) as caught:
+            Site(3).link_down(0, 1)
+        self.assertEqual(str(caught.exception), "6: going up the link is up already, going down it is down")
+
+    def test_no_engine(self):
+        for path in ("/nowhere/libsummerbugle.so", __file__, ctypes.util.find_library("c") or "libc.so.6"):
+            run = subprocess.run([sys.executable, "-c", "import summerbugle; summerbugle.Site(4)"], cwd=HERE, env={**os.environ, "SUMMERBUGLE": path},
+                                 stderr=subprocess.PIPE, text=True)
+            self.assertIn("OSError: the engine cannot be loaded", run.stderr)
+            self.assertIn("run bindings/python/build", run.stderr)
+
+
+class Threads(unittest.TestCase):
+    """Calls on one site, and on one store, take turns."""
+
+    def setUp(self):
+        self.interval = sys.getswitchinterval()
+        sys.setswitchinterval(1e-6)
+
+    def tearDown(self):
+        sys.setswitchinterval(self.interval)
+
+    def together(self, *works):
+        wrong = []
+
+        def guarded(work):
+            try:
+                for i in range(1500):
+                    work(i)
+            except Exception as raised:
+                wrong.append(raised)
+
+        threads = [threading.Thread(target=guarded, args=(work,)) for work in works]
+        for thread in threads:
+            thread.start()
+        for thread in threads:
+            thread.join()
+        self.assertEqual(wrong, [])
+
+    def turned(self, site, seed):
+        """A link turned, whatever the other threads do."""
+        def work(i):
+            a = seed * i % 512
+            b = (a + 1 + i % 7) % 512
+            try:
+                (site.link_down if site.linked(a, b) else site.link_up)(a, b)
+            except (summerbugle.LinkStateRefused, summerbugle.NoRoomRefused):
+                pass
+        return work
+
+    def test_site(self):
+        site = linked(512, [(v, v + 1) for v in range(511)])
+        self.together(self.turned(site, 3), self.turned(site, 5), lambda i: site.script() if i % 9 == 0 else site.neighbours_of(i % 512))
+        self.assertTrue(site.check())
+
+    def test_marks(self):
+        marks, sites = Marks(), [linked(8, clique(range(2 + i))) for i in range(3)]
+
+        def work(i, site, name):
+            marks.set(site, name)
+            marks.come_back(site, name)
+            if i % 3 == 0:
+                marks.remove(site, name)
+        self.together(*[lambda i, s=s, name=name: work(i, s, name) if i < 150 else None for s, name in zip(sites, "ABC")])
+        self.assertEqual((marks.names(), sites), (["A", "B", "C"], [linked(8, clique(range(2 + i))) for i in range(3)]))
+
+
+class Beside(unittest.TestCase):
+    """What a test engineer has beside the calls."""
+
+    def setUp(self):
+        self.links = clique([0, 1, 2]) + [(2, 3)]
+        self.site = linked(5, self.links)
+
+    def test_lists(self):
+        self.assertEqual(self.site.link_list(), self.links)
+        self.assertEqual([self.site.neighbours_of(v) for v in range(5)], [[1, 2], [0, 2], [0, 1, 3], [2], []])
+        full = linked(512, [(v, (v + d) % 512) for d in range(1, 21) for v in range(512)])
+        self.assertEqual(len(full.link_list()), 10240)
+        self.assertEqual(full.neighbours_of(511), [*range(20), *range(491, 511)])
+
+    def test_repr(self):
+        self.assertEqual(repr(self.site), "<Site of 5 radios, 4 links, greatest number 2>")
+        self.site.numbers[0] = 9
+        self.assertEqual(repr(self.site), "<Site: 3: the tables are not sound>")
+        self.site.links = None
+        self.assertIn("<Site: ", repr(self.site))
+
+    def test_copies(self):
+        for other in (self.site.copy(), copy.copy(self.site), copy.deepcopy(self.site), pickle.loads(pickle.dumps(self.site))):
+            self.assertEqual(other, self.site)
+            other.link_down(0, 1)
+            self.assertNotEqual(other, self.site)
+            self.assertTrue(other.check() and self.site.check())
+        self.assertNotEqual(self.site, Site(5))
+        self.assertNotEqual(self.site, 5)
+        marks = Marks()
+        marks.set(self.site, "A")
+        self.assertEqual((pickle.loads(pickle.dumps(marks)), marks.copy().names()), (marks, ["A"]))
+
+    def test_from_links(self):
+        self.assertEqual(Site.from_links(5, self.links), self.site)
+        with self.assertRaises(summerbugle.SameEndsRefused) as caught:
+            Site.from_links(5, [(0, 1), (1, 2), (3, 3)])
+        self.assertEqual(caught.exception.where, "link 2 of the list")
+
+    def test_from_script(self):
+        self.assertEqual(Site.from_script(self.site.script()), self.site)
+        self.assertEqual(Site.from_script(self.site.script().encode()).link_list(), self.links)
+        with self.assertRaises(summerbugle.LinkStateRefused) as caught:
+            Site.from_script("radios 3\nup 0 1\nup 1 0\n")
+        self.assertEqual(caught.exception.where, "line 3")
+        for line, text in ((1, ""), (1, "radios 0\n"), (1, "radios 513\n"), (1, "radios 04\n"), (1, "up 0 1\n"), (1, "radios 4"), (1, "\n"),
+                           (2, "radios 4\nup 0 1"), (2, "radios 4\nup 0  1\n"), (2, "radios 4\nup 0 65536\n"), (2, "radios 4\nUP 0 1\n"),
+                           (2, "radios 4\nup 0 1\r\nup 1 2\r\n"), (3, "radios 4\nup 0 1\n\nup 1 2\n"), (2, "radios 4\nup 0 \u0661\n"),
+                           (2, "radios 4\nx\nup 0 1"), (2, "radios 4\nradios 4\n")):
+            with self.assertRaises(BadLine) as caught:
+                Site.from_script(text)
+            self.assertEqual(caught.exception.line, line, text)
+        with self.assertRaises(TypeError):
+            Site.from_script(4)
+
+    def test_heard(self):
+        pairs = [(a, b) for a, b in self.links] + [(b, a) for a, b in self.links[1:]]
+        self.assertEqual(self.site.hear(heard(5, pairs)), [(0, 1)])
+        self.assertEqual(self.site.link_list(), self.links[1:])
+        for pairs in ([(1, 1)], [(0, 5)], [(5, 0)]):
+            with self.assertRaises(summerbugle.HeardRefused):
+                heard(5, pairs)
+
+    def test_mark_names(self):
+        marks = Marks()
+        for name in ("TOWER1", "A", "7"):
+            marks.set(self.site, name)
+        self.assertEqual(marks.names(), ["7", "A", "TOWER1"])
+        for name in ("\u00c4", "LONGNAMES", " A", "a"):
+            with self.assertRaises(summerbugle.MarkRefused):
+                marks.set(self.site, name)
+        for name in (b"A", 7, None):
+            with self.assertRaises(TypeError):
+                marks.set(self.site, name)
+        marks.store[0] = 200
+        with self.assertRaises(summerbugle.MarkRefused):
+            marks.names()
+        with self.assertRaises(summerbugle.LengthRefused):
+            Marks(b"").names()
+        with self.assertRaises(TypeError):
+            Marks(8)
+
+    def test_networkx(self):
+        try:
+            import networkx
+        except ImportError:
+            self.skipTest("no networkx")
+        graph = self.site.to_networkx()
+        self.assertEqual((list(graph), [tuple(x) for x in self.site.link_list()]), ([0, 1, 2, 3, 4], sorted(graph.edges())))
+        self.assertEqual(networkx.core_number(graph), networkx.get_node_attributes(graph, "number"))
+        self.assertEqual(Site.from_networkx(graph), self.site)
+        for other in (networkx.DiGraph(graph), networkx.relabel_nodes(graph, {0: "a"}), networkx.relabel_nodes(graph, {0: 9})):
+            with self.assertRaises(ValueError):
+                Site.from_networkx(other)
+
+    def test_page(self):
+        page = self.site.page()
+        self.assertTrue(page.startswith("<!doctype html>") and "/*DATA*/null" not in page)
+        self.assertEqual(html.unescape(re.search(r'srcdoc="(.*)"', self.site._repr_html_(), re.S).group(1)), page)
 
 
 if __name__ == "__main__":
