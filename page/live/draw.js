@@ -22,12 +22,12 @@ function radioAt(state, x, y, slack) {
   return best;
 }
 
-// The view that shows all radios.
+// The view that shows all radios, beside the buttons at the right.
 function fitted(state, canvas) {
-  const margin = 46, wide = canvas.clientWidth, high = canvas.clientHeight;
+  const left = 30, right = 60, level = 40, wide = canvas.clientWidth - left - right, high = canvas.clientHeight - 2 * level;
   const [l, r, t, b] = [Math.min(...state.x), Math.max(...state.x), Math.min(...state.y), Math.max(...state.y)];
-  const zoom = Math.min((wide - 2 * margin) / Math.max(r - l, 40), (high - 2 * margin) / Math.max(b - t, 40), 2.2);
-  return { zoom, x: wide / 2 - (l + r) / 2 * zoom, y: high / 2 - (t + b) / 2 * zoom };
+  const zoom = Math.min(wide / Math.max(r - l, 40), high / Math.max(b - t, 40), 2.2);
+  return { zoom, x: left + wide / 2 - (l + r) / 2 * zoom, y: level + high / 2 - (t + b) / 2 * zoom };
 }
 
 function draw(state, canvas) {

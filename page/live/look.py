@@ -28,6 +28,23 @@ ANSWERS = """(() => {
     first: radios.map(v => site.call("sb_first", [v, (v * 31 + 5) % site.n]).value), length: site.call("sb_script_length").value };
 })()"""
 
+# what it shows of it
+SHOWN = """({ summary: byId("summary").textContent, links: state.facts.links, backbone: [...state.facts.backbone],
+  stairs: [...state.facts.stairs], scale: byId("scale").childElementCount - 1,
+  tree: [...document.querySelectorAll("[data-node]")].map(x => x.textContent).sort() })"""
+
+# how many dots of the drawing have exactly the colour of risers, of fallers
+DOTS = """(() => {
+  const { width, height } = byId("mesh"), dots = byId("mesh").getContext("2d").getImageData(0, 0, width, height).data;
+  const style = getComputedStyle(document.documentElement), seen = name => {
+    const [r, g, b] = style.getPropertyValue(name).match(/[0-9a-f]{2}/g).map(x => parseInt(x, 16));
+    let count = 0;
+    for (let i = 0; i < dots.length; i += 4) if (dots[i] === r && dots[i + 1] === g && dots[i + 2] === b) count++;
+    return count;
+  };
+  return [seen("--rise"), seen("--fall")];
+})()"""
+
 
 def native_links(site):
     return [[a, b] for a in range(site.n) for b in range(a + 1, site.n) if site.links[64 * a + b // 8] >> b % 8 & 1]
@@ -54,6 +71,20 @@ def native_answers(site):
             "radios": [native_radio(site, v) for v in radios], "cores": [len(c) * 1000 + c[0] for c in cores],
             "lifts": [native_lift(site, v) for v in radios if v % 7 == 0],
             "first": [site.first(v, (v * 31 + 5) % site.n) for v in radios], "length": len(site.script())}
+
+
+def many(count, thing):
+    return "{:,} {}{}".format(count, thing, "" if count == 1 else "s")
+
+
+def native_shown(site):
+    """What the page is to show of the archive's site."""
+    links, top = native_links(site), max(site.numbers)
+    nodes = [x for x in site.tree().nodes if x.name != summerbugle.ROOT]
+    tree = ["level %d, node %d: %s" % (x.level, x.name, many(len(site.core(x.name, x.level)), "radio")) for x in nodes]
+    return {"summary": "%s, %s, greatest number %d" % (many(site.n, "radio"), many(len(links), "link"), top), "links": links,
+            "backbone": site.backbone(), "stairs": [a * summerbugle.RADIOS + b for a, b in site.staircase()], "scale": top,
+            "tree": sorted(["root: " + many(site.n, "radio")] + tree)}
 
 
 def played(text):
@@ -87,10 +118,17 @@ class Hand:
         return self.ask("document.getElementById('say').innerText.trim()")
 
     def agree(self, what):
-        got, wanted = self.ask(ANSWERS), native_answers(self.site)
-        for part, value in wanted.items():
-            same("%s, %s" % (what, part), got[part], value)
-            self.compared += 1
+        for script, native in ((ANSWERS, native_answers), (SHOWN, native_shown)):
+            got = self.ask(script)
+            for part, value in native(self.site).items():
+                same("%s, %s" % (what, part), got[part], value)
+                self.compared += 1
+
+    def badges(self, change):
+        """Risers and fallers have their badge in the drawing, and nothing else has."""
+        rise, fall = self.ask(DOTS)
+        few = 60 * len(change.radios)
+        same("badges", [rise > few, fall > few], [change.step > 0, change.step < 0])
 
     def middle(self, query):
         self.ask("document.querySelector(%r).scrollIntoView({ block: 'nearest' })" % query)
@@ -157,7 +195,7 @@ def try_links(hand):
         hand.push("#take")
         change = (site.commit_up if up else site.commit_down)(a, b, asked)
         same("taken", hand.said(), "commit %s %d %d %s" % (way, a, b, change_words(change, False)))
-        same("marked", hand.ask("[state.change.step, ...state.change.radios]"), [change.step, *change.radios])
+        hand.badges(change)
         hand.agree("taken %d %d" % (a, b))
     hand.push("#askfirst")
     for a, b in ((2, 40), (2, 40), (17, 3)):
@@ -430,7 +468,7 @@ def take_pictures(hand, folder):
     """The sample with a link asked about and taken, and 512 radios; light and dark, desktop and phone."""
     shots = {
         "sample": "openScript('sample', SAMPLE).then(() => lift(state.facts.names.indexOf(65535)))",
-        "taken": "(async () => { await openScript('sample', SAMPLE); takeLink(true, 0, 71); takeLink(true, 3, 70); })()",
+        "taken": "(async () => { await openScript('sample', SAMPLE); lift(51); commitLink(); })()",
         "core": "(async () => { await openScript('sample', SAMPLE); lookAt(state.facts.nodes.at(-1).name); })()",
         "plane": "openPlane(512)", "small": "openPlane(24)",
     }
