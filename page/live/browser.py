@@ -31,10 +31,10 @@ class Browser:
                                         stdout=subprocess.DEVNULL, stderr=subprocess.DEVNULL, preexec_fn=lambda: (os.dup2(reads, 3), os.dup2(writes, 4)))
         os.close(reads)
         os.close(writes)
-        self.next, self.rest, self.session = 0, b"", None
+        self.next, self.rest, self.page = 0, b"", None
         self.do("Browser.setDownloadBehavior", behavior="allow", downloadPath=self.folder)
         target = self.do("Target.createTarget", url="about:blank")["targetId"]
-        self.session = self.do("Target.attachToTarget", targetId=target, flatten=True)["sessionId"]
+        self.page = self.do("Target.attachToTarget", targetId=target, flatten=True)["sessionId"]
         self.do("Page.enable")
 
     def __enter__(self):
@@ -53,8 +53,8 @@ class Browser:
         """A command, and what it came back with."""
         self.next += 1
         message = {"id": self.next, "method": method, "params": params}
-        if self.session:
-            message["sessionId"] = self.session
+        if self.page:
+            message["sessionId"] = self.page
         data = json.dumps(message).encode() + b"\0"
         while data:
             data = data[os.write(self.out, data):]

@@ -136,6 +136,12 @@ function closeMenus(e) {
 
 // ---- the start
 
+// An error of the page itself, which no answer of the engine is.
+function stopped(e) {
+  byId("say").className = "bad";
+  byId("say").textContent = `The page stopped at an error: ${e.message || e.reason}`;
+}
+
 async function start() {
   try {
     if (typeof WebAssembly !== "object") throw new Error("WebAssembly is missing or switched off");
@@ -152,7 +158,7 @@ async function start() {
   wireFiles();
   window.addEventListener("resize", showAll);
   matchMedia("(prefers-color-scheme: dark)").addEventListener("change", () => draw(state, byId("mesh")));
-  window.addEventListener("error", e => { byId("say").textContent = `The page stopped at an error: ${e.message}`; });
+  for (const event of ["error", "unhandledrejection"]) window.addEventListener(event, stopped);
   await openScript("sample", SAMPLE);
 }
 
