@@ -1,5 +1,5 @@
 #include "say.h"
-#include "put.h"
+#include "board.h"
 
 static uint64_t digest = 14695981039346656037u;
 static uint32_t seed = 20261117;

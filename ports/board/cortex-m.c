@@ -1,5 +1,5 @@
 /* The start of a program on a Cortex-M in an emulator. What it prints and its status go out by semihosting, on any board. */
-#include "../put.h"
+#include "../board.h"
 #include <stdint.h>
 
 extern int main(void);

@@ -1,5 +1,5 @@
 /* The output of a program that has a C library. */
-#include "../put.h"
+#include "../board.h"
 #include <stdio.h>
 
 void put(char c) {

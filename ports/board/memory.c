@@ -1,5 +1,5 @@
 /* The two functions that the engine takes from its host, and the two more that a C compiler may call; for programs without a C library. */
-#include <stddef.h>
+#include "../board.h"
 
 void *memcpy(void *to, const void *from, size_t bytes) {
     unsigned char *t = to;

@@ -1,5 +1,5 @@
 /* The start of a program on the machine `virt` of the RISC-V emulator: a serial port, and a device that ends the run. */
-#include "../put.h"
+#include "../board.h"
 #include <stdint.h>
 
 extern int main(void);

@@ -2,6 +2,6 @@
 const file = require("fs").readFileSync(process.argv[2]);
 let text = "";
 const put = (c) => { text += String.fromCharCode(c); };
-const { exports } = new WebAssembly.Instance(new WebAssembly.Module(file), { env: { put } });
-process.exitCode = exports.main();
+const program = new WebAssembly.Instance(new WebAssembly.Module(file), { env: { put } });
+process.exitCode = program.exports.main();
 process.stdout.write(text);

@@ -1,6 +1,6 @@
 /* What the model says to each question. */
 #include "model.h"
-#include <string.h>
+#include "../board.h"
 
 uint32_t model_row(const model *m, uint32_t a, uint8_t *row) {
     memset(row, 0, SB_ROW_BYTES);

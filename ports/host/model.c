@@ -1,5 +1,5 @@
 #include "model.h"
-#include <string.h>
+#include "../board.h"
 
 void model_clear(model *m, uint32_t n) {
     memset(m, 0, sizeof *m);
