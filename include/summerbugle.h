@@ -20,6 +20,11 @@
  *
  * What C cannot check, and the proofs assume: a pointer is not NULL, is aligned, and is good for its count of elements; a table
  * that a call writes overlaps no other table of the call; calls on the same tables do not run at the same time.
+ *
+ * A table of length 0 is never read or written, so its pointer may be NULL (tested, not proved): an empty list of sb_link_batch,
+ * sb_commit_up and sb_commit_down is taken, and every other table of length 0 is refused.
+ *
+ * summerbugle_site.h has the same calls with fewer arguments.
  */
 #ifndef SUMMERBUGLE_H
 #define SUMMERBUGLE_H
@@ -39,9 +44,10 @@ extern "C" {
 #define SB_ROOT 65535u
 /* In place of a radio: no later neighbour. */
 #define SB_NOBODY 65535u
-/* The bytes of a block of an image, and of its payload. The longest image has 86 blocks. */
+/* The bytes of a block of an image, of its payload, and of the longest image, which has 86 blocks. */
 #define SB_BLOCK_BYTES 512u
 #define SB_PAYLOAD_BYTES 504u
+#define SB_IMAGE_BYTES 44032u
 /* The bytes of a line of the site sheet, which has 8 radios and a line feed. The longest sheet has 64 lines. */
 #define SB_PAGE_LINE 65u
 /* The bytes of the longest script: line 1 and 10,240 links. */
@@ -52,9 +58,26 @@ extern "C" {
 #define SB_PLACE_BYTES 44040u
 #define SB_STORE_BYTES 352320u
 
+/*
+ * What to lend for n radios, 1 to 512, in elements; each is a constant where n is. Links, numbers and order have exactly that length, and so
+ * have a heard table and a one-sided one, which are as long as the links; the others may be longer.
+ */
+#define SB_LINKS_FOR(n) (SB_ROW_BYTES * (n))
+#define SB_NUMBERS_FOR(n) (n)
+#define SB_ORDER_FOR(n) (n)
+#define SB_ANSWER_FOR(n) (n)
+#define SB_NODES_FOR(n) ((n) + 1u)
+#define SB_STAIRCASE_FOR(n) (2u * (n))
+#define SB_PAGE_FOR(n) (((n) + 7u) / 8u * SB_PAGE_LINE)
+/* The most links that n radios can have, and room for every image and every script of n radios. */
+#define SB_MOST_LINKS(n) ((n) <= SB_NEIGHBOURS ? (n) * ((n) - 1u) / 2u : (n) * SB_NEIGHBOURS / 2u)
+#define SB_IMAGE_FOR(n) ((1u + ((n) + 251u) / 252u + (SB_MOST_LINKS(n) + 125u) / 126u) * SB_BLOCK_BYTES)
+#define SB_SCRIPT_FOR(n) (8u + SB_DIGITS(n) + SB_MOST_LINKS(n) * (5u + 2u * SB_DIGITS((n) - 1u)))
+#define SB_DIGITS(x) ((x) < 10u ? 1u : (x) < 100u ? 2u : 3u)
+
 /* The refusal numbers: the first question that got "no". */
 enum sb_refusal {
-    SB_OK = 0,
+    SB_OK = 0,          /* accepted */
     SB_SIZE = 1,        /* n is not from 1 to 512 */
     SB_LENGTH = 2,      /* a table has another length */
     SB_UNSOUND = 3,     /* the tables are not sound */
@@ -76,6 +99,34 @@ enum sb_refusal {
     SB_MARKS_FULL = 19, /* a new name finds 8 marks */
     SB_NO_LIFT = 20     /* no link would raise the radio's number */
 };
+
+/* A refusal number in words, those of the list above. Where it is not called it takes no room. */
+static inline const char *sb_words(uint32_t number) {
+    static const char *const words[] = {
+        "accepted",
+        "n is not from 1 to 512",
+        "a table has another length",
+        "the tables are not sound",
+        "a radio named is not below n",
+        "the ends of the link are the same radio",
+        "going up: the link is up already; going down: it is down",
+        "going up: an end has 40 neighbours; of a heard table: a radio has more than 40 agreed links",
+        "the level is above the radio's number",
+        "the buffer does not hold the image; or the length is 0 or no multiple of 512",
+        "a block does not pass its check",
+        "the bytes are the image of no sound tables",
+        "the page is shorter than 65 bytes a line",
+        "the text buffer is shorter than the script",
+        "a heard row marks its own radio or one at n or above",
+        "the bytes are the image of sound tables with another n",
+        "the list or the step is not exactly what asking would give now",
+        "a place of the store, or the name, breaks the rules",
+        "there is no mark of this name",
+        "a new name finds 8 marks",
+        "no link would raise the radio's number",
+    };
+    return number < sizeof words / sizeof words[0] ? words[number] : "no refusal number";
+}
 
 /* The answer of a question: refusal number, and the value asked for (0 when refused). */
 typedef struct {

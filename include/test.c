@@ -1,5 +1,5 @@
 /* What the header says, held against the archive. It is C and C++; include/test builds it by both compilers. */
-#include "summerbugle.h"
+#include "summerbugle_site.h"
 #include <stdio.h>
 #include <string.h>
 
@@ -45,6 +45,63 @@ static void test_limits(void) {
     expect("a step down", sb_link_down(SB_RADIOS, 0, 1, TABLES, ANSWER).step == -1, 1);
     expect("a step up", sb_link_up(SB_RADIOS, 0, 1, TABLES, ANSWER).step == 1, 1);
     expect("neighbours", sb_neighbours(SB_RADIOS, 0, TABLES).value, SB_NEIGHBOURS);
+}
+
+/* As many links as n radios can have: all of them up to 41 radios, then those at most 20 apart in a ring. */
+static uint32_t fill_site(uint32_t n) {
+    static uint16_t list[2 * SB_MOST_LINKS(SB_RADIOS)];
+    uint32_t count = 0;
+    for (uint32_t a = 0; a < n; a++)
+        for (uint32_t b = a + 1; b < n; b++)
+            if (n <= 41 || b - a <= 20 || n - (b - a) <= 20) list[2 * count] = (uint16_t)a, list[2 * count++ + 1] = (uint16_t)b;
+    sb_clear(n, links, SB_LINKS_FOR(n), numbers, SB_NUMBERS_FOR(n), order, SB_ORDER_FOR(n));
+    expect("links taken up", sb_link_batch(n, links, SB_LINKS_FOR(n), numbers, n, order, n, list, 2 * count).value, count);
+    return count;
+}
+
+/* The lengths that the header says, exact where it says so, on the fullest sites. */
+static void test_lengths(void) {
+    static uint8_t room[SB_SCRIPT_BYTES];
+    const uint32_t sizes[] = {1, 2, 8, 9, 10, 11, 40, 41, 42, 100, 101, 252, 253, SB_RADIOS};
+    for (size_t i = 0; i < sizeof sizes / sizeof *sizes; i++) {
+        uint32_t n = sizes[i];
+        const sb_site site = {n, links, numbers, order};
+        expect("most links", fill_site(n), SB_MOST_LINKS(n));
+        expect("longest image", sb_site_image_write(&site, room, SB_IMAGE_FOR(n)).value, SB_IMAGE_FOR(n));
+        expect("a page", sb_site_sheet(&site, room, SB_PAGE_FOR(n)).value, SB_PAGE_FOR(n));
+        expect("a script fits", sb_site_script_write(&site, room, SB_SCRIPT_FOR(n)).number, SB_OK);
+        expect("a tree fits", sb_site_tree(&site, nodes, answer).number, SB_OK);
+        expect("a staircase tree fits", sb_site_staircase(&site, kept).number, SB_OK);
+    }
+    expect("the longest image of all", SB_IMAGE_FOR(SB_RADIOS), SB_IMAGE_BYTES);
+    expect("the longest script of all", SB_SCRIPT_FOR(SB_RADIOS), SB_SCRIPT_BYTES);
+    expect("a script of two radios, whole", SB_SCRIPT_FOR(2u), 16);
+}
+
+SB_SITE(hub, 7);
+
+/* Calls over the struct: a triangle, and a radio that hangs on it. */
+static void test_site(void) {
+    numbers[0] = 9;
+    expect("cleared", sb_site_clear(&hub), SB_OK);
+    for (uint32_t v = 0; v < 3; v++) expect("a link of the triangle", sb_site_link_up(&hub, v, (v + 1) % 3, answer).number, SB_OK);
+    sb_reply asked = sb_site_ask_up(&hub, 2, 6, answer);
+    expect("one radio would rise", asked.count, 1), expect("the sixth", answer[0], 6);
+    expect("it rises", sb_site_commit_up(&hub, 2, 6, asked.step, answer, asked.count).count, 1);
+    expect("number", sb_site_number(&hub, 2).value, 2), expect("linked", sb_site_linked(&hub, 6, 2).value, 1);
+    expect("the core at level 1", sb_site_core(&hub, 6, 1, answer).value, 4), expect("too high", sb_site_core(&hub, 6, 2, answer).number, SB_LEVEL);
+    memset(store, 0, sizeof store);
+    const uint8_t *name = (const uint8_t *)"TRIANGLE";
+    expect("marked", sb_site_mark_set(&hub, name, store), SB_OK), expect("cleared again", sb_site_clear(&hub), SB_OK);
+    expect("come back", sb_site_mark_return(&hub, name, store), SB_OK), expect("as it was", hub.numbers[0], 2);
+    expect("other tables are kept", numbers[0], 9);
+    memset(store, 0, sizeof store);
+}
+
+/* Refusal numbers in words, a line each. */
+static void print_words(void) {
+    for (uint32_t number = SB_OK; number <= SB_NO_LIFT; number++) printf("%u %s\n", (unsigned)number, sb_words(number));
+    expect("no number", strcmp(sb_words(SB_NO_LIFT + 1), "no refusal number"), 0);
 }
 
 /* A star: its leaves stand before its hub but for one, which goes last. */
@@ -213,7 +270,10 @@ static void test_marks(void) {
 }
 
 int main(void) {
+    print_words();
     test_structs();
+    test_lengths();
+    test_site();
     test_limits();
     test_later();
     test_lift();
