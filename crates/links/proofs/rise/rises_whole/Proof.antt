@@ -1,7 +1,7 @@
 -- `rise::rises_whole` meets its contract: the radios passed do not fit, so the others decide (`Stretch-passing`). The measure is the places
 -- that are left.
-use mathlib.Core.Path.{_≡_, sym, ap, _∙_}
-use mathlib.Core.Bool.{Bool, true, false, not}
+use mathlib.Core.Path.{sym, ap, _∙_}
+use mathlib.Core.Bool.{not}
 use Prim.Native.Nat.{_+_, _-_}
 use native.Mathlib.Omega.{arith}
 use borrow.Author.Needs.{needs}
@@ -9,24 +9,12 @@ use Rattle.links.specs.Turns.{stays-linked}
 use Rattle.links.proofs.StretchLoops.{Stretch-passing, passing-none, passing-turn, passing-stop, passing-end}
 use Rattle.links.proofs.rise.rises_whole.Statement.{statement}
 use Rattle.links.proofs.rise.rises_whole.Tie as tie
-use Rattle.links.proofs.rise.rises_whole.Reads as reads
-use Rattle.links.proofs.rise.rises_whole.Lts as lts
-use Rattle.links.proofs.rise.fits.Reads as fits-reads
 
 abbrev Inv-loop : tie.InvT-loop
 Inv-loop rise start size order highs i₀ i = Stretch-passing (stays-linked (rise .a) (rise .b) (rise .most) highs) order start size i
 
 abbrev μ-loop : tie.MeasureT-loop
 μ-loop rise start size order highs i₀ i = size - i
-
-add-v : tie.Need-add-v Inv-loop μ-loop
-add-v c = search needs
-
-mul-v : tie.Need-mul-v Inv-loop μ-loop
-mul-v c = search needs
-
-shared-slice-read-v : tie.Need-shared-slice-read-v Inv-loop μ-loop
-shared-slice-read-v c = search needs
 
 cast-fits : tie.Need-cast-fits Inv-loop μ-loop
 cast-fits c = omega (arith, c .shared-slice-known2 .given (c .before .before .before .before .args .start + c .before .before .loop .i))
@@ -39,26 +27,19 @@ element-copy-out-fits c =
     let at-loop = c .before .before in
     let start = at-loop .before .before in start .pre .1 (start .args .start + at-loop .loop .i) (omega (arith, start .pre .0))
 
-fits-requires : tie.Need-fits-requires Inv-loop μ-loop
-fits-requires c κs = search needs
-
 returns : tie.Need-returns Inv-loop μ-loop
 unfolding stays-linked
 returns c =
     let at-loop = c .before .before .before .before .before in
-    passing-stop _ _ _ _ (at-loop .before .before .pre .0) (at-loop .loop .i) (at-loop .loop .inv) (omega arith) (ap not (sym (c .before .fits2 .ensures) ∙ c .if1 .taken))
-
-add-i : tie.Need-add-i Inv-loop μ-loop
-add-i c = search needs
-
-loop-less : tie.Need-loop-less Inv-loop μ-loop
-loop-less c = search needs
+    passing-stop _ _ _ _ (at-loop .before .before .pre .0) (at-loop .loop .i) (at-loop .loop .inv) (omega arith)
+    (ap not (sym (c .before .fits2 .ensures) ∙ c .if1 .taken))
 
 loop-again : tie.Need-loop-again Inv-loop μ-loop
 unfolding stays-linked
 loop-again c =
     let at-loop = c .before .before .before .before .before in
-    passing-turn _ _ _ _ (at-loop .before .before .pre .0) (at-loop .loop .i) (at-loop .loop .inv) (omega arith) (ap not (sym (c .before .fits2 .ensures) ∙ c .if1 .left))
+    passing-turn _ _ _ _ (at-loop .before .before .pre .0) (at-loop .loop .i) (at-loop .loop .inv) (omega arith)
+    (ap not (sym (c .before .fits2 .ensures) ∙ c .if1 .left))
 
 returns-2 : tie.Need-returns-2 Inv-loop μ-loop
 returns-2 c = passing-end _ _ _ _ (c .before .before .before .pre .0) _ (c .before .loop .inv) (c .loop-test .left)
@@ -66,4 +47,5 @@ returns-2 c = passing-end _ _ _ _ (c .before .before .before .pre .0) _ (c .befo
 pub rises-whole-spec : {M : Type 1} → statement M
 rises-whole-spec =
     tie.close (
-    tie.spec Inv-loop μ-loop (λ c. passing-none _ _ _ _) add-v mul-v shared-slice-read-v cast-fits cast-fits-2 element-copy-out-fits fits-requires returns add-i loop-less loop-again returns-2)
+    tie.spec Inv-loop μ-loop (λ c. passing-none _ _ _ _) (λ c. search needs) (λ c. search needs) (λ c. search needs) cast-fits cast-fits-2
+    element-copy-out-fits (λ c κs. search needs) returns (λ c. search needs) (λ c. search needs) loop-again returns-2)
