@@ -112,28 +112,28 @@ fn sites(sums: &mut play::Counts) {
     site(512, 800, 16, 256, sums);
 }
 
-// A history of n radios in groups, with so many links from the first in the order to others after.
-fn groups(name: &[u8], n: u32, group: u32, reach: u32, calls: u32, sums: &mut play::Counts) {
+// A history of n radios in groups, asked for n times the reach pairs, both ways, with 200 links from the first in the order to others after.
+fn groups(name: &[u8], n: u32, group: u32, reach: u32, pairs: u32, sums: &mut play::Counts) {
     let plan = Plan {
-        pairs: 0,
+        pairs,
         group,
         reach,
         n,
         m: n,
         most: 0,
         ups: 0,
-        calls,
+        calls: std::num::wrapping_add_u32(std::num::wrapping_add_u32(pairs, pairs), 200),
         seed: 521288629362436069,
     };
     history(name, plan, sums);
 }
 
-// Groups: where the first of the order is an end, the others of its level are not to change. The calls are 2 n times the reach and 200 more.
+// Groups: where the first in the order is an end, most radios of its level cannot change.
 fn all_groups(sums: &mut play::Counts) {
-    groups(b"pairs", 512, 2, 1, 1224, sums);
-    groups(b"paths", 126, 3, 1, 452, sums);
-    groups(b"triangles", 126, 3, 2, 704, sums);
-    groups(b"cliques", 128, 4, 3, 968, sums);
+    groups(b"pairs", 512, 2, 1, 512, sums);
+    groups(b"paths", 126, 3, 1, 126, sums);
+    groups(b"triangles", 126, 3, 2, 252, sums);
+    groups(b"cliques", 128, 4, 3, 384, sums);
 }
 
 fn main() {

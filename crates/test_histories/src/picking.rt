@@ -6,7 +6,7 @@ use test_model::model::Model;
 // A history on n radios: the first m of them are used; a radio with `most` neighbours gets none more, on purpose; `ups` of 16
 // calls go up. Where `pairs` is not 0 but m times m, all links between the m radios go up, each asked both ways, and then down. Where `group`
 // is not 0, the radios stand in groups of so many: each is linked with the next `reach` of its group, asked both ways, and then the first in
-// the order with others.
+// the order with others; `pairs` is then n times the reach.
 pub struct Plan {
     pub pairs: u32,
     pub group: u32,
@@ -84,12 +84,12 @@ fn pick_in_group(plan: Plan, i: u32, x: u64) -> Picked {
 
 // Call i of groups: their links, each asked both ways, and then links from the first in the order to others.
 fn pick_in_groups(plan: Plan, i: u32, x: u64, model: &Model) -> Picked {
-    let links = (plan.n % 1024) * (plan.reach % 1024);
-    if i < links {
+    if i < plan.pairs {
         return pick_in_group(plan, i, x);
     }
-    if i < links + links {
-        let back = pick_in_group(plan, i - links, x);
+    let j = i - plan.pairs;
+    if j < plan.pairs {
+        let back = pick_in_group(plan, j, x);
         return Picked {
             up: true,
             a: back.b,
@@ -144,11 +144,11 @@ fn disturbed(plan: Plan, picked: Picked) -> Picked {
 
 // Call i of the history.
 pub fn pick(plan: Plan, i: u32, x: u64, model: &Model) -> Picked {
-    if plan.pairs != 0 {
-        return pick_in_clique(plan, i, x);
-    }
     if plan.group != 0 {
         return pick_in_groups(plan, i, x, model);
+    }
+    if plan.pairs != 0 {
+        return pick_in_clique(plan, i, x);
     }
     disturbed(plan, pick_pair(plan, x, model))
 }
