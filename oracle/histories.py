@@ -58,6 +58,17 @@ def pick_in_clique(m, i):
     return i < m * m, j // m, j % m
 
 
+def pick_in_groups(site, group, reach, i):
+    links = site.n * reach
+    if i >= 2 * links:
+        return True, site.order[0], site.order[5 * i % site.n]
+    a = i % links // reach
+    b = a + 1 + i % reach
+    if a // group != b // group:
+        b = a
+    return (True, a, b) if i < links else (True, b, a)
+
+
 def troubled(n, draws):
     """The refusal that a call's trouble brings, 0 for none."""
     kind = draws.below(112)
@@ -69,11 +80,11 @@ def troubled(n, draws):
     return 3 if 1 <= kind <= 3 else 0
 
 
-def history(n, m, most, ups, calls, seed, clique):
+def history(n, calls, seed, picked):
     """The counts of a history's answers."""
     site, draws, counts = Site(n), Draws(seed), [0] * 11 + [CANARIES]
     for i in range(calls):
-        up, a, b = pick_in_clique(m, i) if clique else pick(site, m, most, ups, draws)
+        up, a, b = picked(site, draws, i)
         number, changed = troubled(n, draws), []
         if not number:
             number, _, changed = site.call(up, a, b)
@@ -83,15 +94,30 @@ def history(n, m, most, ups, calls, seed, clique):
     return counts
 
 
+def random_history(n, m, most, ups, calls, seed):
+    return history(n, calls, seed, lambda site, draws, i: pick(site, m, most, ups, draws))
+
+
+def clique_history(n, m):
+    return history(n, 2 * m * m, 123456789123456789, lambda site, draws, i: pick_in_clique(m, i))
+
+
+def group_history(n, group, reach):
+    return history(n, 2 * n * reach + 200, 521288629362436069, lambda site, draws, i: pick_in_groups(site, group, reach, i))
+
+
 def site_lines(n, calls, m):
-    return [("sparse", n, history(n, n, 4, 10, calls, 88172645463325252, False)),
-            ("dense", n, history(n, min(n, 48), 48, 14, calls, 362436069521288629, False)),
-            ("clique", n, history(n, m, 0, 0, 2 * m * m, 123456789123456789, True))]
+    return [("sparse", n, random_history(n, n, 4, 10, calls, 88172645463325252)),
+            ("dense", n, random_history(n, min(n, 48), 48, 14, calls, 362436069521288629)),
+            ("clique", n, clique_history(n, m))]
 
 
 SITES = [(1, 500, 1), (2, 1000, 2), (41, 1800, 41), (42, 1800, 42), (64, 1800, 42), (253, 800, 16), (512, 800, 16)]
 
+GROUPS = [("pairs", 512, 2, 1), ("paths", 126, 3, 1), ("triangles", 126, 3, 2), ("cliques", 128, 4, 3)]
+
 lines = [line for n, calls, m in SITES for line in site_lines(n, calls, m)]
+lines += [(name, n, group_history(n, group, reach)) for name, n, group, reach in GROUPS]
 lines.append(("all", 0, [sum(column) for column in zip(*(counts for _, _, counts in lines))]))
 text = HEAD + "".join(" ".join(str(x) for x in (name, n, *counts)) + "\n" for name, n, counts in lines)
 if "--check" in sys.argv:

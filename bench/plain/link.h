@@ -48,7 +48,7 @@ static void c_peel(int up, const struct lent *t, uint32_t a, uint32_t b, const u
 
 /* From the same; the counts are used up. */
 static void c_plan_link(int up, const struct lent *t, uint32_t a, uint32_t b, const uint16_t *places, uint8_t *counters, struct c_plan *plan) {
-    if (!up || !c_rise(t, a, b, places, plan)) c_peel(up, t, a, b, places, counters, plan);
+    if (!up || !c_rise(t, a, b, places, counters, plan)) c_peel(up, t, a, b, places, counters, plan);
 }
 
 static unsigned c_plan(int up, const struct lent *t, uint32_t a, uint32_t b, int room, struct c_plan *plan) {

@@ -136,16 +136,28 @@ static void c_go(struct c_walk *w, unsigned first, unsigned size, struct c_plan 
         if (w->held[tail[i]]) list[j++] = tail[i];
 }
 
-/* The plan of a link going up, but where the beginning end leads a level above 0, or the level is small: then 0, and the level is to be
- * peeled. */
-static int c_rise(const struct lent *t, uint32_t a, uint32_t b, const uint16_t *places, struct c_plan *plan) {
+/* The plan of a level that rises whole, as it stands: no radio of it fits with the link. Else 0. */
+static int c_whole(const struct lent *t, uint32_t a, uint32_t b, unsigned level, const uint8_t *counters, struct c_plan *plan) {
+    unsigned start, size;
+    c_stretch(t->n, t->numbers, level, &start, &size);
+    for (unsigned p = start; p < start + size; p++) {
+        unsigned v = t->order[p];
+        if (counters[v] + (v == a || v == b) <= level) return 0;
+    }
+    memcpy(plan->stretch, t->order + start, 2 * size);
+    plan->start = start, plan->size = size, plan->taken = 0;
+    return 1;
+}
+
+/* The plan of a link going up, but where the level is small: then 0, and the level is to be peeled. */
+static int c_rise(const struct lent *t, uint32_t a, uint32_t b, const uint16_t *places, const uint8_t *counters, struct c_plan *plan) {
     const uint8_t *numbers = t->numbers;
     struct c_walk w = {.t = t, .places = places, .a = a, .b = b};
     uint16_t near[NEIGHBOURS + 1];
     unsigned e = numbers[a] < numbers[b] || (numbers[a] == numbers[b] && places[a] < places[b]) ? a : b;
     unsigned first = places[e], start, size;
     w.level = numbers[e];
-    if (w.level && (first == 0 || numbers[t->order[first - 1]] < w.level)) return 0;
+    if (w.level && (first == 0 || numbers[t->order[first - 1]] < w.level) && c_whole(t, a, b, w.level, counters, plan)) return 1;
     if (c_left(&w, near, c_near(&w, e, near), first) <= w.level) {
         plan->start = first, plan->size = plan->taken = 0;
         return 1;

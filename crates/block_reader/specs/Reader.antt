@@ -1,17 +1,29 @@
 -- A step of the block reader, beside its form for C: a struct that holds the image, and the payload as a part of the image.
+--   Part-there  the image has the payload of block i, or no bytes of it are asked for
+--   part-start  where such a part lies
 --   Part-of     a part of the image, and where it lies
 --   Stepped     what a step gives
 --   Moved       the reader after a step
 -- Definitions only.
 use mathlib.Core.Path.{_≡_}
+use mathlib.Core.Logic.{_⊎_}
 use mathlib.Core.List.{List}
-use Prim.Native.Nat.{ℕ, _+_}
+use Prim.Native.Nat.{ℕ, zero, suc, _+_, _*_, _≤_}
 use denote.Ref.{RefT, now}
-use lib.ListN.{take, drop}
+use lib.ListN.{length, take, drop}
+use Rattle.mesh.specs.Image.{block-bytes, payload-bytes}
 use Rattle.calls.specs.Contracts.{Block-contract}
 use Rattle.calls.specs.declared.Block.{Block}
 use Rattle.block_reader.specs.declared.blocks.BlockReader.{BlockReader}
 use Rattle.block_reader.specs.declared.blocks.BlockStep.{BlockStep}
+
+unfoldable pub Part-there : (i count : ℕ) → (image : List ℕ) → Type 0
+Part-there i count bs = (count ≡ 0) ⊎ ((count ≡ payload-bytes) × (block-bytes * i + block-bytes ≤ length bs))
+
+-- the payload of block i, or, of no bytes, the image's start
+unfoldable pub part-start : (i count : ℕ) → ℕ
+part-start i zero = 0
+part-start i (suc k) = block-bytes * i + 4
 
 -- r is the bytes of the image from `at` on: it lies in the image and is no copy
 pub record Part-of (at count : ℕ) (image r : RefT (List ℕ)) : Type 0 where

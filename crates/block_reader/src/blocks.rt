@@ -1,10 +1,8 @@
 // The block reader on an image and the number of its next block. Questions 9 and 10 are put to the whole image once a step;
 // any number, however large, is safe.
 ghost use mathlib.Core.Path.{_≡_};
-ghost use Prim.Native.Nat.{_≤_, _+_};
-ghost use lib.ListN.{length};
 ghost use Rattle.calls.specs.Contracts.{Block-contract};
-ghost use Rattle.block_reader.specs.Reader.{Part-of, Stepped, Moved};
+ghost use Rattle.block_reader.specs.Reader.{Part-there, part-start, Part-of, Stepped, Moved};
 use calls::Block;
 use image::checks;
 use image::layout;
@@ -42,12 +40,15 @@ pub fn block(image: &[u8], next: usize) -> Block
     }
 }
 
-// The `count` bytes of the image from `at` on: that part of it, not a copy.
-fn part_of(image: &[u8], at: usize, count: usize) -> &[u8]
-    requires { ⌜ at + count ≤ length (now image) ⌝ }
-    ensures { λ r. ⌜ Part-of at count (image .entry) r ⌝ }
+// What a step gives of the image: the payload of block i, that part of it and not a copy; where `length` is 0, an empty part.
+fn payload(image: &[u8], i: usize, length: usize) -> &[u8]
+    requires { ⌜ Part-there i length (now image) ⌝ }
+    ensures { λ r. ⌜ Part-of (part-start i length) length (image .entry) r ⌝ }
 {
-    &image[at..at + count]
+    if length == 0 {
+        return &image[0..0];
+    }
+    &image[layout::BLOCK * i + layout::HEAD..layout::BLOCK * i + layout::BODY]
 }
 
 // A reader of blocks: the image, and the number of the next block.
@@ -77,8 +78,9 @@ pub fn step<'a>(r: BlockReader<'a>) -> BlockStep<'a>
     ensures { λ s. ⌜ Stepped (r .entry) s ⌝ }
 {
     let image = r.image;
-    let b = block(image, r.next);
-    let part = part_of(image, b.offset, b.length);
+    let next = r.next;
+    let b = block(image, next);
+    let part = payload(image, next, b.length);
     BlockStep {
         part,
         number: b.number,

@@ -20,6 +20,8 @@ pub mod PlanLevel
 pub mod PlanStart
 pub mod PlanEnd
 pub mod PlanCall
+-- the plan of a level that rises whole
+pub mod RisePlan
 -- the plan of a link going down
 pub mod FallPlan
 -- a plan applied

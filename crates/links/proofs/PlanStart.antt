@@ -156,7 +156,7 @@ module _ {u : Bool} {a b : ℕ} {ts ns os ps cs : List ℕ} (r : Ready u (length
       getD-end-same u k ns b (end-counted u k ns a cs) (omega (arith, b-below r, r .highs-length, length-end-counted u k ns a cs)) (number-is r b (b-below r) ∙ e)
       ∙ rw kept
 
-  counter-other : (v : ℕ) → (v ≡ a → ⊥) → (v ≡ b → ⊥) → getD cs1 v 0 ≡ getD cs v 0
+  pub counter-other : (v : ℕ) → (v ≡ a → ⊥) → (v ≡ b → ⊥) → getD cs1 v 0 ≡ getD cs v 0
   unfolding ends-counted
   counter-other v na nb = getD-end-other u k ns b (end-counted u k ns a cs) v nb ∙ getD-end-other u k ns a cs v na
 

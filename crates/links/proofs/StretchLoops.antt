@@ -1,5 +1,5 @@
 -- The loops over a level's stretch, as invariants over what is left of their lists.
--- In order: numbers counted below a level and at it; the radios of the stretch that a test passes, listed.
+-- In order: what stands at a place of the stretch; its radios that a test passes, listed; whether all of them pass it.
 use mathlib.Core.Path.{_≡_, refl, ap, _∙_}
 use mathlib.Core.Bool.{Bool, true, false}
 use mathlib.Core.List.{List, _∷_}
@@ -8,16 +8,23 @@ use native.Mathlib.Omega.{arith}
 use native.Mathlib.Numerals.{add-one}
 use lib.ListN.{length, getD, set, drop, length-drop, length-set}
 use lib.Seq.{sets, drop-cons, drop-length, getD-take, getD-drop, length-take-le}
-use Rattle.lists.specs.Lists.{filter}
+use Rattle.lists.specs.Lists.{all, filter}
 use Rattle.links.specs.Peels.{stretch}
 
--- ---- radios listed
+-- ---- what stands at a place
 
 pub length-stretch : (os : List ℕ) (start size : ℕ) → start + size ≤ length os → length (stretch os start size) ≡ size
 length-stretch os start size h = length-take-le size (drop start os) (omega (arith, length-drop start os))
 
 pub getD-stretch : (os : List ℕ) (start size i : ℕ) → i < size → getD (stretch os start size) i 0 ≡ getD os (start + i) 0
 getD-stretch os start size i h = getD-take size (drop start os) i 0 h ∙ getD-drop start os i 0
+
+pub stretch-next : (os : List ℕ) (start size i : ℕ) → start + size ≤ length os → i < size
+    → drop i (stretch os start size) ≡ getD os (start + i) 0 ∷ drop (i + 1) (stretch os start size)
+stretch-next os start size i fits l =
+    drop-cons (stretch os start size) i 0 (omega (arith, length-stretch os start size fits)) ∙ rw (getD-stretch os start size i l, add-one i)
+
+-- ---- radios listed
 
 -- the entries of the stretch from place i on that the test passes are left to list
 pub record Stretch-listed (f : ℕ → Bool) (order : List ℕ) (start size taken : ℕ) (old list : List ℕ) (at i : ℕ) : Type 0 where
@@ -33,9 +40,7 @@ module _ (f : ℕ → Bool) (os : List ℕ) (start size taken : ℕ) (old : List
   module _ (fits : start + size ≤ length os) (list : List ℕ) (at i : ℕ) (l : i < size) (h : Stretch-listed f os start size taken old list at i)
       (new : List ℕ) (to : ℕ) where
     next : drop i (stretch os start size) ≡ getD os (start + i) 0 ∷ drop (i + 1) (stretch os start size)
-    next =
-        drop-cons (stretch os start size) i 0 (omega (arith, length-stretch os start size fits))
-        ∙ rw (getD-stretch os start size i l, add-one i)
+    next = stretch-next os start size i fits l
 
     pub stretch-passed : f (getD os (start + i) 0) ≡ true → new ≡ set list at (getD os (start + i) 0) → to ≡ at + 1
         → Stretch-listed f os start size taken old new to (i + 1)
@@ -62,3 +67,29 @@ module _ (f : ℕ → Bool) (os : List ℕ) (start size taken : ℕ) (old : List
       let all : i ≡ length (stretch os start size) = omega (arith, h .low, length-stretch os start size fits) in
       let none = ap (filter f) (ap (λ (k : ℕ). drop k (stretch os start size)) all ∙ drop-length (stretch os start size)) in
       rw none at (h .rest)
+
+-- ---- radios tested
+
+-- the entries before place i of the stretch pass, so the others decide
+pub record Stretch-passing (f : ℕ → Bool) (order : List ℕ) (start size i : ℕ) : Type 0 where
+  pub low : i ≤ size
+  pub rest : all f (drop i (stretch order start size)) ≡ all f (stretch order start size)
+
+module _ (f : ℕ → Bool) (os : List ℕ) (start size : ℕ) where
+  pub passing-none : Stretch-passing f os start size 0
+  passing-none = record { low = omega arith; rest = refl }
+
+  module _ (fits : start + size ≤ length os) (i : ℕ) (h : Stretch-passing f os start size i) where
+    pub passing-turn : i < size → f (getD os (start + i) 0) ≡ true → Stretch-passing f os start size (i + 1)
+    unfolding all
+    passing-turn l e = record { low = omega arith; rest = rw (stretch-next os start size i fits l, e) at (h .rest) }
+
+    pub passing-stop : i < size → f (getD os (start + i) 0) ≡ false → false ≡ all f (stretch os start size)
+    unfolding all
+    passing-stop l e = rw (stretch-next os start size i fits l, e) at (h .rest)
+
+    pub passing-end : size ≤ i → true ≡ all f (stretch os start size)
+    unfolding all
+    passing-end l =
+        let all-passed : i ≡ length (stretch os start size) = omega (arith, h .low, length-stretch os start size fits) in
+        rw (all-passed, drop-length (stretch os start size)) at (h .rest)

@@ -6,6 +6,8 @@
 --   place-marked ns ps k m v cs fs   the fitting places fs with the place of v, where v is of level k and its counter is m
 --   places-released               the fitting places after each radio of vs lost a neighbour
 --   places-fitting os cs m is fs  the fitting places fs with each of the places `is` whose radio has a counter of at most m
+--   fits-linked a b m v c         v has at most m neighbours once the link a-b is up, where it has c without it
+--   stays-linked a b m cs v       it has more, by the counters cs
 --   Releasable                    listed radios that can lose a neighbour: no repeats, and counters of the level above 0
 --   Begin-ready                   ends and places for the first turn
 --   Row-ready                     ends of the link a-b and their rows, and the row of v
@@ -14,7 +16,7 @@
 -- Laws are in proofs/TurnLaws.antt. Definitions only.
 use mathlib.Core.Path.{_≡_}
 use mathlib.Core.Logic.{_⊎_}
-use mathlib.Core.Bool.{Bool, true, false, _&&_, cond}
+use mathlib.Core.Bool.{Bool, true, false, not, _&&_, _||_, cond}
 use mathlib.Core.List.{List, [], _∷_}
 use Prim.Native.Nat.{ℕ, suc, _+_, _*_, _-_, _≤_, _<_, min}
 use lib.Dec.{leb, eqb}
@@ -50,6 +52,12 @@ unfoldable pub places-fitting : (order counters : List ℕ) → (most : ℕ) →
 places-fitting os cs m [] fs = fs
 places-fitting os cs m (i ∷ is) fs =
     places-fitting os cs m is (cond (leb (getD cs (getD os i 0) 0) m) (put-bit true 0 i fs) fs)
+
+unfoldable pub fits-linked : (a b most v count : ℕ) → Bool
+fits-linked a b m v c = leb (c + cond (eqb v a || eqb v b) 1 0) m
+
+unfoldable pub stays-linked : (a b most : ℕ) → (counters : List ℕ) → (v : ℕ) → Bool
+stays-linked a b m cs v = not (fits-linked a b m v (getD cs v 0))
 
 pub record Releasable (numbers places : List ℕ) (k : ℕ) (near counters : List ℕ) : Type 0 where
   pub once : Distinct near

@@ -1,10 +1,14 @@
-// The plan of a link going up: nothing, a walk from the beginning end on, or the peel of its whole level.
+// The plan of a link going up: nothing, the whole level as it stands, a walk from the beginning end on, or the peel of a small level.
 ghost use mathlib.Core.Path.{_≡_};
 ghost use mathlib.Core.Bool.{true};
-ghost use lib.ListN.{length};
+ghost use Prim.Native.Nat.{ℕ, _≤_, _<_, _+_};
+ghost use lib.ListN.{length, getD};
+ghost use Rattle.lists.specs.Lists.{all};
 ghost use Rattle.mesh.specs.Limits.{max-radios};
 ghost use Rattle.mesh.specs.Tables.{tables, graph-in};
+ghost use Rattle.links.specs.Peels.{stretch};
 ghost use Rattle.links.specs.Plans.{Ready, Planned};
+ghost use Rattle.links.specs.Turns.{fits-linked, stays-linked};
 ghost use Rattle.links.specs.Walks.{Begins};
 use super::plan;
 use super::walk;
@@ -59,9 +63,44 @@ fn plan_on(
     walk::walk(rise, part, links, numbers, tail, places, stretch)
 }
 
-// Plans the link a-b going up. Where the beginning end stands first in its level, its neighbours that are not lower, at least K, stand later,
-// and the link adds one: it is never settled. The level is then peeled: where it rises whole the walk reads every row, the peel none. At level 0
-// only ends rise, and the walk reads only their rows.
+// Whether radio v, an end or not, has at most `most` neighbours that are not lower with the link. Without it it has `count`.
+fn fits(rise: Rise, v: u32, count: u8) -> bool
+    ensures { λ r. ⌜ r ≡ fits-linked (rise .a) (rise .b) (rise .most) v count ⌝ }
+{
+    if v == rise.a {
+        return count < rise.most;
+    }
+    if v == rise.b {
+        return count < rise.most;
+    }
+    count <= rise.most
+}
+
+// Whether no radio of the stretch fits with the link. It stops at the first that does, and reads no row.
+fn rises_whole(
+    rise: Rise,
+    start: usize,
+    size: usize,
+    order: &[u16],
+    highs: &[u8; Site::RADIOS as usize],
+) -> bool
+    requires { ⌜ (start + size ≤ length (now order)) × ((p : ℕ) → p < length (now order) → getD (now order) p 0 < max-radios) ⌝ }
+    ensures { λ r. ⌜ r ≡ all (stays-linked (rise .a) (rise .b) (rise .most) (now (highs .entry)))
+        (stretch (now (order .entry)) start size) ⌝ }
+{
+    let mut i: usize = 0;
+    while i < size {
+        let v = order[start + i];
+        if fits(rise, v as u32, highs[v as usize]) {
+            return false;
+        }
+        i += 1;
+    }
+    true
+}
+
+// Plans the link a-b going up. Only where the beginning end stands first in its level can the level rise whole: it does where no radio of it
+// fits with the link, and then it stands as it stood. At level 0 only ends rise, and the walk reads only their rows.
 pub(crate) fn plan_up(
     a: u32,
     b: u32,
@@ -83,7 +122,15 @@ pub(crate) fn plan_up(
     let rise = Rise { a, b, most };
     if 0 < most {
         if ends::leads(first, most, numbers, order) {
-            return plan::plan_peel(a, b, links, numbers, order, places, highs, stretch);
+            let at = stretch::stretch_of(numbers, most);
+            if rises_whole(rise, at.start, at.size, order, highs) {
+                walk::pass(at.start, at.start + at.size, 0, order, stretch);
+                return Plan {
+                    start: at.start,
+                    size: at.size,
+                    taken: 0,
+                };
+            }
         }
     }
     plan_on(rise, first, links, numbers, order, places, highs, stretch)

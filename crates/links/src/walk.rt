@@ -218,8 +218,8 @@ fn back(
     }
 }
 
-// Takes the radios from the front to `until`, as they stand: no candidate is their neighbour.
-fn pass(front: usize, until: usize, taken: usize, tail: &[u16], list: &mut [u16])
+// Lists the radios from the front to `until`, as they stand, from place `taken` of the list on: no candidate is their neighbour.
+pub(crate) fn pass(front: usize, until: usize, taken: usize, tail: &[u16], list: &mut [u16])
     requires { ⌜ (front ≤ until) × (until ≤ length (now tail)) × (taken + (until - front) ≤ length (now list)) ⌝ }
     ensures { λ _. ⌜ now (list .exit) ≡ paste (now (list .entry)) taken (drop front (now (tail .entry))) (until - front) ⌝ }
 {

@@ -2,20 +2,22 @@
 --   puts-place                     the place after a text that fits
 --   one-put, two-put, three-put    a radio from its digits
 --   first-put, word-put, up-put    a line from its parts
---   up-lower, up-higher            the room that its parts have
+--   up-word, up-lower, up-higher   the room that its parts have
 --   Fitting             c is the buffer after the first pieces, and what is left takes it where the whole text takes b, and fits
 --   Ends, Rows          so after i pieces
 --   above-radios        the neighbours above a radio are radios
-use mathlib.Core.Path.{_≡_, refl, ap, _∙_}
+use mathlib.Core.Path.{_≡_, refl, sym, ap, _∙_}
 use mathlib.Core.Bool.{Bool, true, false, cond}
-use mathlib.Core.List.{List, [], _∷_, _++_, flatMap}
-use Prim.Native.Nat.{ℕ, _+_, _*_, _/_, _%_, _≤_, _<_}
+use mathlib.Core.List.{List, [], _∷_, _++_, append-assoc, flatMap}
+use Prim.Native.Nat.{ℕ, _+_, _*_, _-_, _/_, _%_, _≤_, _<_}
 use native.Mathlib.Omega.{arith}
 use native.Mathlib.Numerals.{add-one}
 use lib.Dec.{ltb, leb}
-use lib.ListN.{length, getD, drop, set, length-append, drop-of-length-le}
+use lib.ListN.{length, getD, take, drop, set, length-append, drop-of-length-le}
 use lib.Seq.{drop-cons}
-use Rattle.lists.specs.Lists.{In, Entries-below}
+use borrow.Rule.Slice.PartMut.{midOf, putMid, post-is, mid-len}
+use Rattle.lists.specs.Lists.{overwrite, In, Entries-below}
+use Rattle.lists.proofs.Overwrite.{overwrite-take}
 use Rattle.lists.proofs.Map.{flatMap-append}
 use Rattle.lists.proofs.Filter.{in-filter}
 use Rattle.lists.proofs.Member.{in-getD}
@@ -25,7 +27,7 @@ use Rattle.rows.proofs.RowListLaws.{in-neighbours-of}
 use Rattle.text.specs.Text.{bytes-of, space, line-feed, digit-byte, decimal, further-fields, printed-line}
 use Rattle.text.specs.Print.{Buffer, buffer-at, max-place, Puts}
 use Rattle.text.proofs.DecimalLaws.{decimal-digit, decimal-more}
-use Rattle.text.proofs.PrintLaws.{puts-byte-in, puts-append, puts-as, at-put, Putting, putting-none, putting-piece, putting-end}
+use Rattle.text.proofs.PrintLaws.{put-fits, puts-byte-in, puts-append, puts-as, at-put, Putting, putting-none, putting-piece, putting-end}
 use Rattle.calls.specs.Script.{radios-text, up-text, up-line}
 use Rattle.link_list.specs.Links.{links-to, links-above, links-from}
 use Rattle.link_list.proofs.LinksFrom.{links-from-row, links-from-end}
@@ -70,28 +72,36 @@ pub first-put : {a b c d : Buffer} (n : ℕ) → Puts a (bytes-of "radios ") b �
 unfolding printed-line further-fields
 first-put n p q r = puts-append p (puts-append q r)
 
-pub word-put : (bytes : List ℕ) (at : ℕ) → at + 2 < max-place
-    → Puts (buffer-at bytes at) (bytes-of "up ") (buffer-at (set (set (set bytes at 117) (at + 1) 112) (at + 2) 32) (at + 3))
-word-put bytes at m =
-    let s : at + 1 + 1 ≡ at + 2 = omega arith in
-    let t : at + 2 + 1 ≡ at + 3 = omega arith in
-    let two : Puts (buffer-at bytes at) (117 ∷ 112 ∷ []) (buffer-at (set (set bytes at 117) (at + 1) 112) (at + 2))
-    = rw (← s) (puts-append (puts-byte-in bytes at 117 (omega arith)) (puts-byte-in _ (at + 1) 112 (omega arith))) in
-    rw (← t) (puts-append two (puts-byte-in _ (at + 2) 32 m))
+-- a word copied over a part of the buffer that is as long
+pub word-put : (bytes word new : List ℕ) (at : ℕ) → at + length word ≤ length bytes → length bytes ≤ max-place
+    → new ≡ overwrite (take (length (midOf at (at + length word - at) bytes)) word) (midOf at (at + length word - at) bytes)
+    → Puts (buffer-at bytes at) word (buffer-at (putMid at (at + length word - at) bytes new) (at + length word))
+word-put bytes word new at fits m e =
+    let part = midOf at (at + length word - at) bytes in
+    let is : new ≡ word = e ∙ overwrite-take word part (omega (arith, mid-len at (at + length word) bytes fits)) in
+    record {
+      is = rw (is, post-is at (at + length word) bytes (omega arith))
+          (ap (λ (l : List ℕ). buffer-at l (at + length word)) (sym (append-assoc (take at bytes) word (drop (at + length word) bytes)))
+          ∙ sym (put-fits bytes at word fits m));
+    }
 
 pub up-put : {a b c d e : Buffer} (x y : ℕ) → Puts a (bytes-of "up ") b → Puts b (decimal x) c → Puts c (space ∷ decimal y) d → Puts d (line-feed ∷ []) e
     → Puts a (up-text x y) e
 unfolding printed-line further-fields
 up-put x y p q r s = puts-append p (puts-append q (puts-append r s))
 
--- both radios of a line that fits have room, and so has its line feed
+-- the word of a line that fits has room, and so have both its radios and its line feed
 module _ (bytes : List ℕ) (at a b : ℕ) (room : at + length (up-text a b) ≤ length bytes) (long : length bytes ≤ max-place) where
-  pub up-lower : {xs ys : List ℕ} {s : ℕ} → Puts (buffer-at xs (at + 3)) (decimal a) (buffer-at ys s) → s + 2 + length (decimal b) ≤ length bytes
-  up-lower p = omega (arith, length-up-text a b, puts-place p (omega (arith, length-up-text a b)))
+  pub up-word : {xs : List ℕ} {w : ℕ} → Puts (buffer-at bytes at) (bytes-of "up ") (buffer-at xs w) → w + 2 + length (decimal a) + length (decimal b) ≤ length bytes
+  up-word o = omega (arith, length-up-text a b, puts-place o (omega (arith, length-up-text a b)))
 
-  pub up-higher : {xs ys zs ws : List ℕ} {s f : ℕ} → Puts (buffer-at xs (at + 3)) (decimal a) (buffer-at ys s)
-      → Puts (buffer-at zs (s + 1)) (decimal b) (buffer-at ws f) → f < length bytes
-  up-higher p q = omega (arith, up-lower p, puts-place q (omega (arith, up-lower p)))
+  pub up-lower : {xs ys : List ℕ} {w s : ℕ} → Puts (buffer-at bytes at) (bytes-of "up ") (buffer-at xs w)
+      → Puts (buffer-at xs w) (decimal a) (buffer-at ys s) → s + 2 + length (decimal b) ≤ length bytes
+  up-lower o p = omega (arith, up-word o, puts-place p (omega (arith, up-word o)))
+
+  pub up-higher : {xs ys zs ws : List ℕ} {w s f : ℕ} → Puts (buffer-at bytes at) (bytes-of "up ") (buffer-at xs w)
+      → Puts (buffer-at xs w) (decimal a) (buffer-at ys s) → Puts (buffer-at zs (s + 1)) (decimal b) (buffer-at ws f) → f < length bytes
+  up-higher o p q = omega (arith, up-lower o p, puts-place q (omega (arith, up-lower o p)))
 
 -- ---- a text put by pieces, which fits
 

@@ -19,13 +19,7 @@ use calls::Refusal;
 use calls::Value;
 use mesh::Site;
 use script::lines;
-
-// The letters of `up`, and the space after it.
-const U: u8 = lines::UP[0];
-
-const P: u8 = lines::UP[1];
-
-const SPACE: u8 = lines::UP[2];
+use tables::fill;
 
 // Puts line 1 of a site of n radios.
 fn put_first(buffer: &mut [u8], at: usize, n: u64) -> usize
@@ -64,15 +58,23 @@ fn put_number(buffer: &mut [u8], at: usize, x: u32) -> usize
     at + 3
 }
 
+// Puts a word of a line, which fits.
+fn put_word(buffer: &mut [u8], at: usize, word: &[u8]) -> usize
+    requires { ⌜ at + length (now word) ≤ length (now buffer) ⌝ }
+    ensures { λ r. ⌜ Puts (buffer-at (now (buffer .entry)) at) (now (word .entry)) (buffer-at (now (buffer .exit)) r) ⌝ }
+{
+    let end = at + word.len();
+    fill::copy8(&mut buffer[at..end], word);
+    end
+}
+
 // Puts the line that takes the link between a and b up.
 fn put_up(buffer: &mut [u8], at: usize, a: u32, b: u32) -> usize
     requires { ⌜ (a < 1000) × (b < 1000) × (at + length (up-text a b) ≤ length (now buffer)) ⌝ }
     ensures { λ r. ⌜ Puts (buffer-at (now (buffer .entry)) at) (up-text a b) (buffer-at (now (buffer .exit)) r) ⌝ }
 {
-    buffer[at] = U;
-    buffer[at + 1] = P;
-    buffer[at + 2] = SPACE;
-    let space = put_number(buffer, at + 3, a);
+    let lower = put_word(buffer, at, &lines::UP);
+    let space = put_number(buffer, lower, a);
     buffer[space] = b' ';
     let feed = put_number(buffer, space + 1, b);
     buffer[feed] = b'\n';

@@ -65,6 +65,8 @@ fn least(x: u32, y: u32) -> u32 {
 fn site(n: u32, calls: u32, m: u32, pairs: u32, sums: &mut play::Counts) {
     let sparse = Plan {
         pairs: 0,
+        group: 0,
+        reach: 0,
         n,
         m: n,
         most: 4,
@@ -75,6 +77,8 @@ fn site(n: u32, calls: u32, m: u32, pairs: u32, sums: &mut play::Counts) {
     history(b"sparse", sparse, sums);
     let dense = Plan {
         pairs: 0,
+        group: 0,
+        reach: 0,
         n,
         m: least(n, 48),
         most: 48,
@@ -85,6 +89,8 @@ fn site(n: u32, calls: u32, m: u32, pairs: u32, sums: &mut play::Counts) {
     history(b"dense", dense, sums);
     let clique = Plan {
         pairs,
+        group: 0,
+        reach: 0,
         n,
         m,
         most: 0,
@@ -106,6 +112,30 @@ fn sites(sums: &mut play::Counts) {
     site(512, 800, 16, 256, sums);
 }
 
+// A history of n radios in groups, asked for n times the reach pairs, both ways, with 200 links from the first in the order to others after.
+fn groups(name: &[u8], n: u32, group: u32, reach: u32, pairs: u32, sums: &mut play::Counts) {
+    let plan = Plan {
+        pairs,
+        group,
+        reach,
+        n,
+        m: n,
+        most: 0,
+        ups: 0,
+        calls: std::num::wrapping_add_u32(std::num::wrapping_add_u32(pairs, pairs), 200),
+        seed: 521288629362436069,
+    };
+    history(name, plan, sums);
+}
+
+// Groups: where the first in the order is an end, most radios of its level cannot change.
+fn all_groups(sums: &mut play::Counts) {
+    groups(b"pairs", 512, 2, 1, 512, sums);
+    groups(b"paths", 126, 3, 1, 126, sums);
+    groups(b"triangles", 126, 3, 2, 252, sums);
+    groups(b"cliques", 128, 4, 3, 384, sums);
+}
+
 fn main() {
     let mut sums = [0u64; play::KINDS];
     io::write_all(
@@ -113,5 +143,6 @@ fn main() {
         b"history radios: accepted, refused by 1 to 7, changed radios, calls, differences, canaries\n",
     );
     sites(&mut sums);
+    all_groups(&mut sums);
     say(b"all", 0, &sums);
 }

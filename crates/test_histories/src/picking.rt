@@ -4,9 +4,13 @@ use test_model::model;
 use test_model::model::Model;
 
 // A history on n radios: the first m of them are used; a radio with `most` neighbours gets none more, on purpose; `ups` of 16
-// calls go up. Where `pairs` is not 0 but m times m, all links between the m radios go up, each asked both ways, and then down.
+// calls go up. Where `pairs` is not 0 but m times m, all links between the m radios go up, each asked both ways, and then down. Where `group`
+// is not 0, the radios stand in groups of so many: each is linked with the next `reach` of its group, asked both ways, and then the first in
+// the order with others; `pairs` is then n times the reach.
 pub struct Plan {
     pub pairs: u32,
+    pub group: u32,
+    pub reach: u32,
     pub n: u32,
     pub m: u32,
     pub most: u16,
@@ -64,6 +68,44 @@ fn pick_in_clique(plan: Plan, i: u32, x: u64) -> Picked {
     }
 }
 
+// Pair i of groups: a radio and the one so much further on, where both are of one group; else the radio twice.
+fn pick_in_group(plan: Plan, i: u32, x: u64) -> Picked {
+    let a = random::first_of(i, plan.reach) % 512;
+    let b = a + 1 + random::second_of(i, plan.reach) % 512;
+    let same = random::first_of(a, plan.group) == random::first_of(b, plan.group);
+    let far = if same { b } else { a };
+    Picked {
+        up: true,
+        a,
+        b: far,
+        x,
+    }
+}
+
+// Call i of groups: their links, each asked both ways, and then links from the first in the order to others.
+fn pick_in_groups(plan: Plan, i: u32, x: u64, model: &Model) -> Picked {
+    if i < plan.pairs {
+        return pick_in_group(plan, i, x);
+    }
+    let j = i - plan.pairs;
+    if j < plan.pairs {
+        let back = pick_in_group(plan, j, x);
+        return Picked {
+            up: true,
+            a: back.b,
+            b: back.a,
+            x,
+        };
+    }
+    let place = random::second_of((i % 65536) * 5, plan.n);
+    Picked {
+        up: true,
+        a: model::get(model, model::ORDER, 0) as u32,
+        b: model::get(model, model::ORDER, place as usize) as u32,
+        x,
+    }
+}
+
 // A pseudo-random pair that fits the way it goes, where there is one.
 fn pick_pair(plan: Plan, x: u64, model: &Model) -> Picked {
     let x1 = random::next(x);
@@ -102,6 +144,9 @@ fn disturbed(plan: Plan, picked: Picked) -> Picked {
 
 // Call i of the history.
 pub fn pick(plan: Plan, i: u32, x: u64, model: &Model) -> Picked {
+    if plan.group != 0 {
+        return pick_in_groups(plan, i, x, model);
+    }
     if plan.pairs != 0 {
         return pick_in_clique(plan, i, x);
     }

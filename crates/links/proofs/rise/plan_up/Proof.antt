@@ -1,10 +1,11 @@
 -- `rise::plan_up` meets its contract: the beginning end has a place, and each branch's plan is document 01's; the mathematics is in
--- `proofs.WalkPlan`.
+-- `proofs.RisePlan` and `proofs.WalkPlan`.
 use mathlib.Core.Path.{ap}
 use Prim.Native.Nat.{ℕ}
 use native.Mathlib.Omega.{arith}
 use lib.ListN.{getD}
 use borrow.Author.Needs.{needs}
+use Rattle.links.proofs.RisePlan.{stretch-known, whole-lent}
 use Rattle.links.proofs.WalkPlan.{ends-known, begins-below}
 use Rattle.links.proofs.rise.plan_up.Statement.{statement}
 use Rattle.links.proofs.rise.plan_up.Tie as tie
@@ -33,6 +34,37 @@ cast-first : tie.Need-cast-first
 cast-first c =
     omega (arith, c .shared-slice-known7 .given (c .before .beginning .result))
 
+rises-whole-requires : tie.Need-rises-whole-requires
+rises-whole-requires c κs =
+    let sized = c .before in
+    let most = sized .before .before .before .before .before .before in
+    let start = most .before .before .before .before .before .before .before in
+    let known = stretch-known (start .pre .0) _ (most .lower .ensures) _ _ (sized .stretch-of .ensures) in (known .0, known .2)
+
+add-pass : tie.Need-add-pass
+add-pass c =
+    let sized = c .before .before .before .before in
+    let most = sized .before .before .before .before .before .before in
+    let start = most .before .before .before .before .before .before .before in
+    omega (arith, stretch-known (start .pre .0) _ (most .lower .ensures) _ _ (sized .stretch-of .ensures) .1)
+
+pass-requires : tie.Need-pass-requires
+pass-requires c κs =
+    let sized = c .before .before .before .before .before in
+    let most = sized .before .before .before .before .before .before in
+    let start = most .before .before .before .before .before .before .before in
+    let known = stretch-known (start .pre .0) _ (most .lower .ensures) _ _ (sized .stretch-of .ensures) in
+    (omega arith, known .0, omega (arith, known .1, start .pre .1))
+
+returns : tie.Need-returns
+returns c =
+    let tested = c .before .before .before in
+    let sized = c .before .before .before .before .before .before in
+    let most = sized .before .before .before .before .before .before in
+    let start = most .before .before .before .before .before .before .before in
+    whole-lent (start .pre .0) _ (most .lower .ensures) _ _ (sized .stretch-of .ensures) _ (tested .before .rises-whole .ensures)
+    (tested .if3 .taken) _ _ (start .pre .1) (c .pass .ensures)
+
 plan-on-requires : tie.Need-plan-on-requires
 plan-on-requires c κs =
     let chosen = c .before .before .before .before in
@@ -51,4 +83,5 @@ plan-on-requires c κs =
 pub plan-up-spec : {M : Type 1} → statement M
 plan-up-spec =
     tie.close (
-    tie.spec shared-slice-read-lower shared-slice-read-lower-2 (λ c κs. search needs) (λ c κs. search needs) mul-first shared-slice-read-first cast-first (λ c κs. search needs) (λ c κs. search needs) (λ c. search needs) plan-on-requires (λ c. search needs))
+    tie.spec shared-slice-read-lower shared-slice-read-lower-2 (λ c κs. search needs) (λ c κs. search needs) mul-first shared-slice-read-first
+    cast-first (λ c κs. search needs) (λ c κs. search needs) rises-whole-requires add-pass pass-requires returns plan-on-requires (λ c. search needs))
