@@ -162,12 +162,15 @@ static void put_two(uint8_t *at, uint32_t x) {
     at[0] = (uint8_t)x, at[1] = (uint8_t)(x >> 8);
 }
 
-/* Ends a block: its head, and its check over all bytes before it. */
-static void seal(uint8_t *block, uint8_t kind, uint32_t index) {
+void model_seal(uint8_t *block) {
     uint32_t sum = 0;
-    block[0] = kind, block[1] = 0, put_two(block + 2, index);
     for (uint32_t i = 0; i < 508; i++) sum += block[i] * (i + 1);
     put_two(block + 508, sum), put_two(block + 510, sum >> 16);
+}
+
+static void close_block(uint8_t *image, uint8_t kind, uint32_t index) {
+    uint8_t *block = image + 512 * index;
+    block[0] = kind, block[1] = 0, put_two(block + 2, index), model_seal(block);
 }
 
 static uint32_t put_links(const model *m, uint8_t *image, uint32_t blocks) {
@@ -188,8 +191,6 @@ uint32_t model_image(const model *m, uint8_t *image) {
     put_two(image + 4, m->n), put_two(image + 6, model_links(m));
     for (uint32_t i = 0; i < m->n; i++) put_two(image + 512 * (1 + i / 252) + 4 + 2 * (i % 252), m->order[i]);
     put_links(m, image, 1 + orders);
-    seal(image, 0, 0);
-    for (uint32_t i = 0; i < orders; i++) seal(image + 512 * (1 + i), 1, i + 1);
-    for (uint32_t i = 0; i < links; i++) seal(image + 512 * (1 + orders + i), 2, i + 1 + orders);
+    for (uint32_t i = 0; i < 1 + orders + links; i++) close_block(image, i == 0 ? 0 : i <= orders ? 1 : 2, i);
     return 512 * (1 + orders + links);
 }

@@ -8,7 +8,9 @@ static model marked[NAMES];
 static bool present[NAMES];
 
 static void name_of(uint32_t which, uint8_t *name) {
-    static const char names[NAMES][SB_NAME_BYTES + 1] = {"0       ", "9LIVES  ", "A       ", "A0      ", "AA      ", "MASTNINE", "TOWER1  ", "TOWER10 ", "Z9Z9Z9Z9"};
+    static const char names[NAMES][SB_NAME_BYTES + 1] = {
+        "0       ", "9LIVES  ", "A       ", "A0      ", "AA      ", "MASTNINE", "TOWER1  ", "TOWER10 ", "Z9Z9Z9Z9",
+    };
     memcpy(name, names[which], SB_NAME_BYTES);
 }
 

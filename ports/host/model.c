@@ -33,6 +33,10 @@ static void add_end(model *m, uint32_t a, uint32_t b) {
     m->near[a][i] = (uint16_t)b;
 }
 
+void model_join(model *m, uint32_t a, uint32_t b) {
+    add_end(m, a, b), add_end(m, b, a);
+}
+
 static void strike_end(model *m, uint32_t a, uint32_t b) {
     uint32_t i = 0;
     while (m->near[a][i] != b) i++;
@@ -154,7 +158,7 @@ void model_link(model *m, uint32_t a, uint32_t b, bool up, change *c) {
     static uint8_t before[SB_RADIOS];
     uint32_t level = m->number[a] < m->number[b] ? m->number[a] : m->number[b];
     memcpy(before, m->number, sizeof before);
-    if (up) add_end(m, a, b), add_end(m, b, a);
+    if (up) model_join(m, a, b);
     else strike_end(m, a, b), strike_end(m, b, a);
     model_numbers(m, 0, 0, m->number);
     c->count = 0;

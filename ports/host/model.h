@@ -31,6 +31,8 @@ uint32_t model_refuses(const model *m, uint32_t a, uint32_t b, bool up);
 void model_numbers(const model *m, uint32_t a, uint32_t b, uint8_t *number);
 /* Takes an accepted link up or down. */
 void model_link(model *m, uint32_t a, uint32_t b, bool up, change *c);
+/* Adds a link to the lists alone. */
+void model_join(model *m, uint32_t a, uint32_t b);
 uint32_t model_links(const model *m);
 
 /* The answers; each gives its count or its length. */
@@ -44,5 +46,9 @@ bool model_lifts(const model *m, uint32_t v, uint32_t a, uint32_t b);
 uint32_t model_sheet(const model *m, uint8_t *page);
 uint32_t model_script(const model *m, uint8_t *text);
 uint32_t model_image(const model *m, uint8_t *image);
+/* Puts the check of a block at its end. */
+void model_seal(uint8_t *block);
+/* Whether the bytes, at least a block, are the image of some sound site, and then that site. */
+bool model_read(model *m, const uint8_t *image, uint32_t length);
 
 #endif
