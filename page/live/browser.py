@@ -31,8 +31,8 @@ class Browser:
                                         stdout=subprocess.DEVNULL, stderr=subprocess.DEVNULL, preexec_fn=lambda: (os.dup2(reads, 3), os.dup2(writes, 4)))
         os.close(reads)
         os.close(writes)
-        self.next, self.rest, self.page = 0, b"", None
-        self.do("Browser.setDownloadBehavior", behavior="allow", downloadPath=self.folder)
+        self.next, self.rest, self.page, self.written = 0, b"", None, 0
+        self.do("Browser.setDownloadBehavior", behavior="allow", downloadPath=self.folder, eventsEnabled=True)
         target = self.do("Target.createTarget", url="about:blank")["targetId"]
         self.page = self.do("Target.attachToTarget", targetId=target, flatten=True)["sessionId"]
         self.do("Page.enable")
@@ -60,6 +60,7 @@ class Browser:
             data = data[os.write(self.out, data):]
         while True:
             answer = self.message()
+            self.written += answer.get("method") == "Browser.downloadProgress" and answer["params"]["state"] == "completed"
             if answer.get("id") == self.next:
                 if "error" in answer:
                     raise SystemExit("%s: %s" % (method, answer["error"]["message"]))
@@ -140,12 +141,14 @@ class Browser:
             self.do("Input.dispatchDragEvent", type=kind, x=x, y=y, data=data)
 
     def saved(self, name, seconds=20):
-        """The bytes of a file that the page saved, which is then taken away."""
+        """The bytes of the file that the page saved, once it is written; it is then taken away."""
         path, end = os.path.join(self.folder, name), time.monotonic() + seconds
-        while not os.path.exists(path):
+        while not self.written:
             if time.monotonic() > end:
                 raise SystemExit("never saved: " + name)
             time.sleep(0.02)
+            self.ask("0")
+        self.written -= 1
         with open(path, "rb") as f:
             data = f.read()
         os.unlink(path)

@@ -225,7 +225,7 @@ def try_lift(hand):
     """A radio that some link lifts, and one that none does."""
     site = hand.site
     lifts = [native_lift(site, v) for v in range(site.n)]
-    low = next(v for v in range(site.n) if lifts[v][0] == 0)
+    low = max(v for v in range(site.n) if lifts[v][0] == 0)
     hand.radio(low)
     hand.push("#lift")
     a, b = lifts[low][1:]
