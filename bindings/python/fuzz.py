@@ -1,16 +1,20 @@
-"""Bad arguments by fixed seeds, held against a model: nothing crashes, no nonsense is accepted, and after every exception the tables are as
-they were. What a call must raise or do is worked out here from the arguments and from a plain set of links.
+"""Bad arguments by fixed seeds, held against a separate model (oracle/peeled.py): nothing crashes, no nonsense is accepted, and after every
+exception the tables are as they were. What a call must raise or do is worked out from its arguments and the model.
 
     python3 bindings/python/fuzz.py [ROUNDS]
 """
 
+import copy
 import os
 import random
 import sys
+import zlib
 
-sys.path.insert(0, os.path.dirname(os.path.abspath(__file__)))
+HERE = os.path.dirname(os.path.abspath(__file__))
+sys.path[:0] = [HERE, os.path.join(HERE, "..", "..", "oracle")]
 
-from summerbugle import NEIGHBOURS, Batch, Change, Marks, Refused, Site  # noqa: E402
+import peeled  # noqa: E402
+from summerbugle import Batch, Change, Marks, Refused, Site  # noqa: E402
 
 BIG = (-1, -2**31, 2**16 - 1, 2**16, 2**16 + 1, 2**32 - 1, 2**32, 2**32 + 1, 2**63, 2**64, 10**40)
 NO_NUMBER = ("0", 0.0, 1.5, None, b"\0", [], (), {}, object(), float("nan"), 1j, range(2))
@@ -28,61 +32,30 @@ def number_of(what, *values):
         return type(raised).__name__, None
 
 
-def is_radio(x, n):
-    return 0 <= x < n
+class Model(peeled.Site):
+    """The model, with what Python may hand over in place of a radio."""
 
-
-class Model:
-    """A site as a set of links."""
-
-    def __init__(self, n):
-        self.n = n
-        self.links = set()
-
-    def near(self, v, links=None):
-        return {w for link in (self.links if links is None else links) if v in link for w in link if w != v}
-
-    def numbers(self):
-        """Core numbers, by taking the radios of fewest neighbours away."""
-        near = {v: self.near(v) for v in range(self.n)}
-        numbers, level = [0] * self.n, 0
-        while near:
-            v = min(near, key=lambda x: len(near[x]))
-            level = max(level, len(near[v]))
-            numbers[v] = level
-            for w in near.pop(v):
-                near[w].discard(v)
-        return numbers
-
-    def radios(self, values):
+    def radios(self, *values):
         """What is wrong with these as radios."""
         if any(not isinstance(x, int) for x in values):
             return "TypeError"
-        return 0 if all(is_radio(x, self.n) for x in values) else 4
+        return 0 if all(0 <= x < self.n for x in values) else 4
 
     def link(self, up, a, b):
         """What is wrong with a link call."""
-        wrong = self.radios((a, b))
-        if wrong:
-            return wrong
-        if a == b:
-            return 5
-        if (frozenset((a, b)) in self.links) == up:
-            return 6
-        return 7 if up and max(len(self.near(a)), len(self.near(b))) >= NEIGHBOURS else 0
+        return self.radios(a, b) or self.refusal(up, a, b)
 
     def batch(self, pairs):
-        """What a batch does: the exception's name, or links done and the number of the next."""
-        if any(self.radios(pair) == "TypeError" for pair in pairs):
-            return "TypeError"
-        done = Model(self.n)
-        done.links = set(self.links)
+        """How many links are done, and the number of the next."""
         for at, (a, b) in enumerate(pairs):
-            wrong = done.link(True, a, b)
+            wrong = self.link(True, a, b)
             if wrong:
-                return at, wrong, done.links
-            done.links.add(frozenset((a, b)))
-        return len(pairs), 0, done.links
+                return Batch(at, wrong)
+            self.call(True, a, b)
+        return Batch(len(pairs), 0)
+
+    def links(self):
+        return [(a, b) for a in range(self.n) for b in sorted(self.near[a]) if a < b]
 
 
 class Fuzz:
@@ -90,7 +63,6 @@ class Fuzz:
         self.random = random.Random(seed)
         self.n = self.random.choice((1, 2, 3, 7, 20, 43, 60))
         self.site, self.model, self.marks, self.marked = Site(self.n), Model(self.n), Marks(), {}
-        self.before = None
 
     # ---- values, mostly good
 
@@ -102,7 +74,7 @@ class Fuzz:
 
     def state(self):
         site = self.site
-        return bytes(site.links), bytes(site.numbers), bytes(site.order), bytes(self.marks.store)
+        return bytes(site.links), bytes(site.numbers), bytes(site.order), zlib.crc32(self.marks.store)
 
     def same(self, got, wanted, what):
         if got != wanted:
@@ -125,13 +97,9 @@ class Fuzz:
         asked = self.tried(wanted, self.site.ask_up if up else self.site.ask_down, a, b)
         if self.random.random() < 0.3:
             self.commit(up, a, b, wanted, asked)
-        old = self.model.numbers()
         change = self.tried(wanted, self.site.link_up if up else self.site.link_down, a, b)
         if wanted == 0:
-            self.model.links ^= {frozenset((a, b))}
-            new = self.model.numbers()
-            changed = [v for v in range(self.n) if new[v] != old[v]]
-            self.same(change, Change((1 if up else -1) if changed else 0, changed), "change")
+            self.same(change, Change(*self.model.call(up, a, b)[1:]), "change")
             self.same(asked, change, "asked")
 
     def commit(self, up, a, b, wanted, asked):
@@ -147,23 +115,21 @@ class Fuzz:
         pairs = [(self.number(), self.number()) for _ in range(self.random.randrange(6))]
         for bad in ((0,), (0, 1, 2), 5, None):
             self.tried("TypeError", self.site.link_batch, pairs + [bad])
-        wanted = self.model.batch(pairs)
-        if wanted == "TypeError":
-            self.tried(wanted, self.site.link_batch, pairs)
-            return
-        self.same(self.tried(0, self.site.link_batch, pairs), Batch(*wanted[:2]), ("batch", pairs))
-        self.model.links = wanted[2]
+        if any(self.model.radios(*pair) == "TypeError" for pair in pairs):
+            self.tried("TypeError", self.site.link_batch, pairs)
+        else:
+            self.same(self.tried(0, self.site.link_batch, pairs), self.model.batch(pairs), ("batch", pairs))
 
     def questions(self):
         a, b = self.number(), self.number()
         site, model = self.site, self.model
-        one, two = model.radios((a,)), model.radios((a, b))
-        self.same(self.tried(one, site.neighbours_of, a), None if one else sorted(model.near(a)), "neighbours")
-        self.same(self.tried(one, site.number, a), None if one else model.numbers()[a], "number")
-        self.same(self.tried(two, site.linked, a, b), None if two else frozenset((a, b)) in model.links, "linked")
-        self.tried(two, site.first, a, b)
+        one, two = model.radios(a), model.radios(a, b)
+        self.same(self.tried(one, site.neighbours_of, a), None if one else sorted(model.near[a]), "neighbours")
+        self.same(self.tried(one, site.number, a), None if one else model.numbers[a], "number")
+        self.same(self.tried(two, site.linked, a, b), None if two else b in model.near[a], "linked")
+        self.same(self.tried(two, site.first, a, b), None if two else min(a, b, key=model.order.index), "first")
         self.tried(one, site.later_of, a)
-        level = "TypeError" if not isinstance(b, int) else one or (0 if 0 <= b <= model.numbers()[a] else 8)
+        level = "TypeError" if not isinstance(b, int) else one or (0 if 0 <= b <= model.numbers[a] else 8)
         self.tried(one if one == "TypeError" else level, site.core, a, b)
 
     def hear(self):
@@ -221,18 +187,18 @@ class Fuzz:
         if wrong:
             return
         if what == "set":
-            self.marked[name] = set(self.model.links)
+            self.marked[name] = copy.deepcopy(self.model)
         elif what == "remove":
             del self.marked[name]
         else:
-            self.model.links = set(self.marked[name])
+            self.model = copy.deepcopy(self.marked[name])
         self.same(self.marks.names(), sorted(self.marked), "names")
 
     def turn(self):
         turns = [self.link] * 10 + [self.questions] * 3 + [self.batch] * 2 + [self.hear, self.tables, self.images, self.mark]
         self.random.choice(turns)()
-        self.same([tuple(x) for x in self.site.link_list()], sorted(tuple(sorted(x)) for x in self.model.links), "links")
-        self.same(list(self.site.numbers), self.model.numbers(), "numbers")
+        self.same(self.site.link_list(), self.model.links(), "links")
+        self.same((list(self.site.numbers), list(self.site.order)), (self.model.numbers, self.model.order), "numbers and order")
 
 
 def main():

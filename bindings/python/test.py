@@ -413,6 +413,18 @@ class Lent(unittest.TestCase):
         with self.assertRaises(TypeError):
             call("sb_check", 4, site.links, site.numbers)
 
+    def test_shapes(self):
+        """Tables of a host's own making: a part of something larger, and rows as rows."""
+        room = bytearray(1024)
+        site = self.site.copy()
+        site.links = memoryview(room)[512:768].cast("B", (4, 64))
+        site.numbers = (ctypes.c_uint8 * 4)()
+        site.order = (ctypes.c_uint16 * 4)()
+        site.clear()
+        self.assertEqual(site.link_batch([(0, 1), (1, 2), (0, 3)]), Batch(3, 0))
+        self.assertEqual((site.neighbours_of(0), site.link_list(), repr(site)), ([1, 3], [(0, 1), (0, 3), (1, 2)], "<Site of 4 radios, 3 links, greatest number 1>"))
+        self.assertEqual((room[512], any(room[:512]), any(room[768:]), site.copy()), (10, False, False, site))
+
     def test_overlaps(self):
         room = bytearray(1024)
         view = memoryview(room)
@@ -425,6 +437,10 @@ class Lent(unittest.TestCase):
         with self.assertRaises(ValueError):
             call("sb_clear", 4, view[:256], view[256:260], view[261:269].cast("H"))
         self.assertEqual(self.site.hear(self.site.links), [])
+        tables = (4, self.site.links, self.site.numbers, self.site.order)
+        for name, other in (("sb_backbone", self.site.order), ("sb_link_batch", self.site.order), ("sb_image_read", self.site.numbers)):
+            with self.assertRaises(ValueError):
+                call(name, *tables, other)
 
 
 class Raised(unittest.TestCase):

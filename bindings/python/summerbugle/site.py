@@ -82,7 +82,7 @@ def _copied(table: Any) -> Any:
     return bytearray(view) if view.itemsize == 1 else array("H", view.tobytes())
 
 
-def row(table: Any, a: int) -> list[int]:
+def row(table: Union[bytes, bytearray], a: int) -> list[int]:
     """The radios whose bits row a of a table has, ascending."""
     bits = int.from_bytes(table[ROW_BYTES * a:ROW_BYTES * (a + 1)], "little")
     return [b for b in range(bits.bit_length()) if bits >> b & 1]
@@ -173,7 +173,8 @@ class Site(_Shared):
 
     def __repr__(self) -> str:
         try:
-            return "<Site of %d radios, %d links, greatest number %d>" % (self.n, len(self.link_list()), max(self.numbers))
+            site = self.copy()
+            return "<Site of %d radios, %d links, greatest number %d>" % (site.n, len(site.link_list()), max(site.numbers))
         except Exception as wrong:  # tables may hold anything
             return "<Site: %s>" % wrong
 
@@ -264,7 +265,7 @@ class Site(_Shared):
         """The neighbours of a radio, ascending."""
         with self._lock:
             self.neighbours(v)
-            return row(self.links, index(v))
+            return row(memoryview(self.links).tobytes(), index(v))
 
     def linked(self, a: int, b: int) -> bool:
         """Whether two radios are linked."""
@@ -316,11 +317,9 @@ class Site(_Shared):
     def to_networkx(self) -> Any:
         """A networkx graph of the radios, each with its core number as `number`, and the links."""
         import networkx  # type: ignore[import]
-        graph = networkx.Graph()
-        with self._lock:
-            links = self.link_list()
-            graph.add_nodes_from((v, {"number": number}) for v, number in enumerate(self.numbers))
-        graph.add_edges_from(links)
+        site, graph = self.copy(), networkx.Graph()
+        graph.add_nodes_from((v, {"number": number}) for v, number in enumerate(site.numbers))
+        graph.add_edges_from(site.link_list())
         return graph
 
     # pages and images
