@@ -67,36 +67,40 @@ pub record Linked : Type 0 where
 abbrev pub linked-with : Reply → Tables → (answer : List ℕ) → Linked
 linked-with r t w = record { reply = r; tables = t; answer = w }
 
--- asking
+-- document 02, W-210: asking
 pub record Asked : Type 0 where
   pub reply : Reply
   pub answer : List ℕ
 
+-- document 02, W-210
 abbrev pub asked : Reply → (answer : List ℕ) → Asked
 asked r w = record { reply = r; answer = w }
 
--- committing
+-- document 02, W-210: committing
 pub record Committed : Type 0 where
   pub reply : Reply
   pub tables : Tables
 
+-- document 02, W-210
 abbrev pub committed-with : Reply → Tables → Committed
 committed-with r t = record { reply = r; tables = t }
 
--- a batch
+-- document 02, W-213: a batch
 pub record Batched : Type 0 where
   pub reply : Value
   pub tables : Tables
 
+-- document 02, W-213
 abbrev pub batched : Value → Tables → Batched
 batched r t = record { reply = r; tables = t }
 
--- a hearing; `one-sided` is the further table
+-- document 02, W-205: a hearing; `one-sided` is the further table
 pub record Heard : Type 0 where
   pub reply : Value
   pub tables : Tables
   pub one-sided : List ℕ
 
+-- document 02, W-205
 abbrev pub heard-with : Value → Tables → (one-sided : List ℕ) → Heard
 heard-with r t x = record { reply = r; tables = t; one-sided = x }
 
@@ -147,7 +151,7 @@ link-outcome up n a b t w = link-outcome-within max-neighbours up n a b t w
 
 -- ---- a link call in two steps
 
--- the reply, and the changed radios in front of the answer table
+-- document 02, W-210: the reply, and the changed radios in front of the answer table
 unfoldable pub ask-outcome : (up : Bool) → (n a b : ℕ) → Tables → (answer : List ℕ) → Asked
 ask-outcome up n a b t w =
     let g = graph-in n (t .links) in
@@ -157,7 +161,7 @@ ask-outcome up n a b t w =
     (asked (reply 0 (step-of up cs) (length cs)) (overwrite cs w))
     (λ q. asked (reply q (pos 0) 0) w)
 
--- the reply, and the tables with the link switched
+-- document 02, W-210: the reply, and the tables with the link switched
 unfoldable pub commit-outcome : (up : Bool) → (n a b : ℕ) → (step : ℤ) → (list : List ℕ) → Tables → Committed
 commit-outcome up n a b z xs t =
     let g = graph-in n (t .links) in
@@ -169,19 +173,20 @@ commit-outcome up n a b z xs t =
 
 -- ---- a batch
 
--- links taken up one by one: the number of the link refused, or 0, the count of links done, and the tables with these up
+-- document 02, W-213: links taken up one by one: the number of the link refused, or 0, the count of links done, and the tables with these up
 unfoldable pub links-taken : (n : ℕ) → (list : List ℕ) → Tables → Batched
 links-taken n xs t =
     let ps = graph-in n (t .links) .links in
     batched (value (batch-stop n xs ps) (length (batch-switches n xs ps))) (tables-after n (batch-switches n xs ps) t)
 
+-- document 02, W-213
 unfoldable pub batch-outcome : (n : ℕ) → (list : List ℕ) → Tables → Batched
 batch-outcome n xs t =
     by-number (batch-refusal n (lengths-of t) (length xs) (sound n t)) (links-taken n xs t) (λ q. batched (value q 0) t)
 
 -- ---- a hearing
 
--- the count of one-sided pairs, the tables with the agreed links, and the further table, where w is what it holds before
+-- document 02, W-205: the count of one-sided pairs, the tables with the agreed links, and the further table, where w is what it holds before
 unfoldable pub hear-outcome : (n : ℕ) → (heard : List ℕ) → Tables → (further : List ℕ) → Heard
 hear-outcome n hs t w =
     by-number
@@ -236,14 +241,17 @@ first-outcome n a b t = first-outcome-within max-neighbours n a b t
 
 -- ---- the later neighbours of a radio
 
+-- document 02, W-206
 abbrev pub later : (number count first : ℕ) → Later
 later r c v = record { number = r; count = c; first = v }
 
+-- document 02, W-206
 abbrev pub later-outcome-within : (most n v : ℕ) → Tables → Later
 later-outcome-within most n v t =
     let vs = later-in (linked (graph-in n (t .links))) v (t .order) in
     by-number (radio-refusal n v (lengths-of t) (sound-within most n t)) (later 0 (length vs) (head-or nobody vs)) (λ q. later q 0 0)
 
+-- document 02, W-206
 unfoldable pub later-outcome : (n v : ℕ) → Tables → Later
 later-outcome n v t = later-outcome-within max-neighbours n v t
 
@@ -270,12 +278,13 @@ backbone-outcome-within most n t w =
 unfoldable pub backbone-outcome : (n : ℕ) → Tables → (answer : List ℕ) → Listing
 backbone-outcome n t w = backbone-outcome-within max-neighbours n t w
 
--- the kept links, two entries each
+-- document 02, W-209: the kept links, two entries each
 abbrev pub staircase-outcome-within : (most n : ℕ) → Tables → (table : List ℕ) → Listing
 staircase-outcome-within most n t w =
     let kept = staircase (graph-in n (t .links)) in
     listing-outcome (staircase-refusal n (lengths-of t) (length w) (sound-within most n t)) (length kept) (link-entries kept) w
 
+-- document 02, W-209
 unfoldable pub staircase-outcome : (n : ℕ) → Tables → (table : List ℕ) → Listing
 staircase-outcome n t w = staircase-outcome-within max-neighbours n t w
 
@@ -287,27 +296,33 @@ write-outcome-within most n t w =
 unfoldable pub write-outcome : (n : ℕ) → Tables → (buffer : List ℕ) → Listing
 write-outcome n t w = write-outcome-within max-neighbours n t w
 
+-- document 02, W-201
 abbrev pub sheet-outcome-within : (most n : ℕ) → Tables → (page : List ℕ) → Listing
 sheet-outcome-within most n t w =
     listing-outcome (sheet-refusal n (lengths-of t) (length w) (sound-within most n t)) (sheet-length n) (sheet (t .numbers)) w
 
+-- document 02, W-201
 unfoldable pub sheet-outcome : (n : ℕ) → Tables → (page : List ℕ) → Listing
 sheet-outcome n t w = sheet-outcome-within max-neighbours n t w
 
 -- ---- the script: its length, and the script itself
 
+-- document 02, W-203
 abbrev pub script-length-outcome-within : (most n : ℕ) → Tables → Value
 script-length-outcome-within most n t =
     value-outcome (script-length-refusal n (lengths-of t) (sound-within most n t)) (script-length (graph-in n (t .links)))
 
+-- document 02, W-203
 unfoldable pub script-length-outcome : (n : ℕ) → Tables → Value
 script-length-outcome n t = script-length-outcome-within max-neighbours n t
 
+-- document 02, W-203
 abbrev pub script-outcome-within : (most n : ℕ) → Tables → (text : List ℕ) → Listing
 script-outcome-within most n t w =
     let g = graph-in n (t .links) in
     listing-outcome (script-refusal n (lengths-of t) (length w) (sound-within most n t) g) (script-length g) (script-of g) w
 
+-- document 02, W-203
 unfoldable pub script-outcome : (n : ℕ) → Tables → (text : List ℕ) → Listing
 script-outcome n t w = script-outcome-within max-neighbours n t w
 
