@@ -1,5 +1,7 @@
 -- Document 02, W-208: tables and images from before the limit on neighbours was raised, when it was `former-neighbours`.
 --   Was-sound                formerly sound
+--   As-then f                f gives with the limit what it gave with the former one
+--   Reads-as-then            calls that only read give what they gave then
 --   former-read-refusal      reading's questions then
 --   former-read-outcome      what reading gave then
 --   Older                    what calls give of them: what they gave then, but that a link-up call refused by 7 is taken
@@ -8,22 +10,41 @@ use mathlib.Core.Path.{_≡_}
 use mathlib.Core.Bool.{Bool, true}
 use mathlib.Core.List.{List}
 use Prim.Native.Nat.{ℕ, _≤_}
-use Rattle.mesh.specs.Limits.{max-radios, former-neighbours, size-good}
+use Rattle.mesh.specs.Limits.{max-radios, max-neighbours, former-neighbours, size-good}
 use Rattle.mesh.specs.Tables.{Tables, graph-in, tables-of}
 use Rattle.mesh.specs.Sound.{sound-within}
 use Rattle.mesh.specs.Image.{image-of, image-graph, image-order, is-image-within, is-image}
 use Rattle.mesh.specs.declared.Node.{Node}
 use Rattle.calls.specs.Questions.{ask, Lengths, lengths-of, lent-refusal, blocks-refusal}
-use Rattle.calls.specs.Outcomes.{by-number, Numbered, numbered, read-outcome, link-outcome-within, link-outcome, check-outcome-within, check-outcome}
-use Rattle.calls.specs.Outcomes.{number-outcome-within, number-outcome, neighbours-outcome-within, neighbours-outcome, linked-outcome-within}
-use Rattle.calls.specs.Outcomes.{linked-outcome, first-outcome-within, first-outcome, core-outcome-within, core-outcome, backbone-outcome-within}
-use Rattle.calls.specs.Outcomes.{backbone-outcome, write-outcome-within, write-outcome, tree-outcome-within, tree-outcome, later-outcome-within, later-outcome}
-use Rattle.calls.specs.Outcomes.{sheet-outcome-within, sheet-outcome, script-length-outcome-within, script-length-outcome, script-outcome-within, script-outcome}
-use Rattle.calls.specs.Outcomes.{staircase-outcome-within, staircase-outcome}
+use Rattle.calls.specs.Outcomes.{by-number, Numbered, numbered, read-outcome, link-outcome-within, link-outcome, check-outcome-within}
+use Rattle.calls.specs.Outcomes.{number-outcome-within, neighbours-outcome-within, linked-outcome-within, first-outcome-within, core-outcome-within}
+use Rattle.calls.specs.Outcomes.{backbone-outcome-within, write-outcome-within, tree-outcome-within, later-outcome-within, sheet-outcome-within}
+use Rattle.calls.specs.Outcomes.{script-length-outcome-within, script-outcome-within, staircase-outcome-within}
 
 -- the conditions of soundness, with the former limit
 abbrev pub Was-sound : (n : ℕ) → Tables → Type 0
 Was-sound n t = sound-within former-neighbours n t ≡ true
+
+-- f gives with the limit what it gave with the former one
+abbrev pub As-then : {A : Type 0} → ((most : ℕ) → A) → Type 0
+As-then f = f max-neighbours ≡ f former-neighbours
+
+-- calls that only read (the backbone is W-202's on both sides)
+pub record Reads-as-then (n : ℕ) (t : Tables) : Type 0 where
+  pub check : As-then (λ most. check-outcome-within most n t)
+  pub number : (v : ℕ) → As-then (λ most. number-outcome-within most n v t)
+  pub neighbours : (v : ℕ) → As-then (λ most. neighbours-outcome-within most n v t)
+  pub linked : (a b : ℕ) → As-then (λ most. linked-outcome-within most n a b t)
+  pub first : (a b : ℕ) → As-then (λ most. first-outcome-within most n a b t)
+  pub later : (v : ℕ) → As-then (λ most. later-outcome-within most n v t)
+  pub core : (v k : ℕ) (w : List ℕ) → As-then (λ most. core-outcome-within most n v k t w)
+  pub backbone : (w : List ℕ) → As-then (λ most. backbone-outcome-within most n t w)
+  pub tree : (m : List Node) (w : List ℕ) → As-then (λ most. tree-outcome-within most n t m w)
+  pub staircase : (w : List ℕ) → As-then (λ most. staircase-outcome-within most n t w)
+  pub image-write : (w : List ℕ) → As-then (λ most. write-outcome-within most n t w)
+  pub sheet : (w : List ℕ) → As-then (λ most. sheet-outcome-within most n t w)
+  pub script-length : As-then (λ most. script-length-outcome-within most n t)
+  pub script : (w : List ℕ) → As-then (λ most. script-outcome-within most n t w)
 
 -- the former limit, and 11 for every image that is not one of n radios: 15 is document 02's, W-207
 unfoldable pub former-read-refusal : (n : ℕ) → Lengths → (image : List ℕ) → ℕ
@@ -43,32 +64,8 @@ pub record Older : Type 0 where
   pub seven :
       (up : Bool) (n a b : ℕ) (t : Tables) (w : List ℕ) → Was-sound n t →
       link-outcome-within former-neighbours up n a b t w .reply .number ≡ 7 → link-outcome up n a b t w .reply .number ≡ 0
-  -- calls that only read: as it was (the backbone is W-202's on both sides)
-  pub check : (n : ℕ) (t : Tables) → Was-sound n t → check-outcome n t ≡ check-outcome-within former-neighbours n t
-  pub number : (n v : ℕ) (t : Tables) → Was-sound n t → number-outcome n v t ≡ number-outcome-within former-neighbours n v t
-  pub neighbours :
-      (n v : ℕ) (t : Tables) → Was-sound n t → neighbours-outcome n v t ≡ neighbours-outcome-within former-neighbours n v t
-  pub linked : (n a b : ℕ) (t : Tables) → Was-sound n t → linked-outcome n a b t ≡ linked-outcome-within former-neighbours n a b t
-  pub first : (n a b : ℕ) (t : Tables) → Was-sound n t → first-outcome n a b t ≡ first-outcome-within former-neighbours n a b t
-  pub later : (n v : ℕ) (t : Tables) → Was-sound n t → later-outcome n v t ≡ later-outcome-within former-neighbours n v t
-  pub core :
-      (n v k : ℕ) (t : Tables) (w : List ℕ) → Was-sound n t →
-      core-outcome n v k t w ≡ core-outcome-within former-neighbours n v k t w
-  pub backbone :
-      (n : ℕ) (t : Tables) (w : List ℕ) → Was-sound n t → backbone-outcome n t w ≡ backbone-outcome-within former-neighbours n t w
-  pub tree :
-      (n : ℕ) (t : Tables) (m : List Node) (w : List ℕ) → Was-sound n t →
-      tree-outcome n t m w ≡ tree-outcome-within former-neighbours n t m w
-  pub staircase :
-      (n : ℕ) (t : Tables) (w : List ℕ) → Was-sound n t → staircase-outcome n t w ≡ staircase-outcome-within former-neighbours n t w
-  pub image-write :
-      (n : ℕ) (t : Tables) (w : List ℕ) → Was-sound n t → write-outcome n t w ≡ write-outcome-within former-neighbours n t w
-  pub sheet :
-      (n : ℕ) (t : Tables) (w : List ℕ) → Was-sound n t → sheet-outcome n t w ≡ sheet-outcome-within former-neighbours n t w
-  pub script-length :
-      (n : ℕ) (t : Tables) → Was-sound n t → script-length-outcome n t ≡ script-length-outcome-within former-neighbours n t
-  pub script :
-      (n : ℕ) (t : Tables) (w : List ℕ) → Was-sound n t → script-outcome n t w ≡ script-outcome-within former-neighbours n t w
+  -- calls that only read: as it was
+  pub reads : (n : ℕ) (t : Tables) → Was-sound n t → Reads-as-then n t
   -- an older image: what was written of formerly sound tables
   pub image-written :
       (n : ℕ) (t : Tables) → n ≤ max-radios → Was-sound n t →

@@ -208,10 +208,6 @@ source-refusal n bs = ask 15 (not (other-size n bs)) (ask 11 (is-image n bs) 0)
 unfoldable pub image-refusal : (n : ℕ) → (image : List ℕ) → ℕ
 image-refusal n bs = blocks-refusal bs (source-refusal n bs)
 
--- an image alone, with no tables to read it into: 1, 9, 10, 15, 11
-unfoldable pub alone-refusal : (n : ℕ) → (image : List ℕ) → ℕ
-alone-refusal n bs = ask 1 (size-good n) (image-refusal n bs)
-
 -- reading an image: 1, 2, 9, 10, 15, 11
 unfoldable pub read-refusal : (n : ℕ) → Lengths → (image : List ℕ) → ℕ
 read-refusal n l bs = lent-refusal n l true (image-refusal n bs)

@@ -9,20 +9,16 @@
 --   sheet ns                 the sheet: all radios, ascending along the lines
 --   sheet-lines n            how many lines n radios take
 --   sheet-length n           the sheet's length in bytes
---   digit-column p x         one column of a number: its digit that counts p
---   Cells-fit ns             radios have at most three digits, and their numbers at most two
 --   column-at i c j          the place of column j of cell c of line i
 --   Columns n num bs         what stands in each column of the page bs
 -- That the sheet has this length and these columns is `length-sheet` and `sheet-columns` in proofs/SheetLaws.antt. Definitions only.
 use mathlib.Core.Path.{_≡_}
-use mathlib.Core.Bool.{cond}
 use mathlib.Core.List.{List, [], _∷_, _++_, flatMap}
-use Prim.Native.Nat.{ℕ, _+_, _*_, _-_, _/_, _%_, _≤_, _<_, min}
-use lib.Dec.{ltb}
+use Prim.Native.Nat.{ℕ, _+_, _*_, _-_, _/_, _≤_, _<_, min}
 use lib.ListN.{length, getD, replicate}
 use Rattle.lists.specs.Lists.{range}
 use Rattle.mesh.specs.Sound.{number-in}
-use Rattle.text.specs.Text.{bytes-of, space, line-feed, digit-byte, decimal}
+use Rattle.text.specs.Text.{bytes-of, space, line-feed, decimal}
 
 -- ---- the page
 
@@ -70,14 +66,6 @@ unfoldable pub sheet-length : (n : ℕ) → ℕ
 sheet-length n = line-bytes * sheet-lines n
 
 -- ---- its columns
-
--- a space where x has no such digit
-unfoldable pub digit-column : (p x : ℕ) → ℕ
-digit-column p x = cond (ltb x p) space (digit-byte (x / p % 10))
-
-pub record Cells-fit (ns : List ℕ) : Type 0 where
-  pub radios : length ns ≤ 1000
-  pub two-digits : (v : ℕ) → v < length ns → number-in ns v < 100
 
 abbrev pub column-at : (i c j : ℕ) → ℕ
 column-at i c j = line-bytes * i + (cell-width * c + j)

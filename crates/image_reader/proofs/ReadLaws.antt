@@ -8,7 +8,8 @@ use Rattle.mesh.specs.Limits.{max-radios, row-bytes, size-good}
 use Rattle.mesh.specs.Tables.{Tables}
 use Rattle.mesh.specs.Image.{word-at}
 use Rattle.mesh.proofs.Sizes.{size-good-true, true-size-good}
-use Rattle.calls.specs.Questions.{ask, Lengths, lengths-of, site-lengths, lent-refusal, tables-refusal, source-refusal, image-refusal, alone-refusal}
+use Rattle.calls.specs.Questions.{ask, Lengths, lengths-of, site-lengths, lent-refusal, tables-refusal, source-refusal, image-refusal}
+use Rattle.image_reader.specs.Reading.{alone-refusal}
 use Rattle.calls.specs.Outcomes.{read-outcome}
 use Rattle.calls.specs.Questions.{read-refusal}
 use Rattle.calls.specs.Contracts.{Read-contract}

@@ -4,7 +4,7 @@ ghost use Prim.Native.Nat.{ℕ, _≤_, _*_};
 ghost use lib.ListN.{length, getD};
 ghost use Rattle.mesh.specs.Limits.{row-bytes};
 ghost use Rattle.mesh.specs.Lent.{lent};
-ghost use Rattle.calls.specs.Questions.{alone-refusal};
+ghost use Rattle.image_reader.specs.Reading.{alone-refusal};
 ghost use Rattle.calls.specs.Contracts.{Read-contract};
 ghost use Rattle.tables.specs.Widths.{values};
 ghost use Rattle.image_reader.specs.Reading.{Source-room, Site-read};

@@ -10,7 +10,7 @@ use Rattle.mesh.specs.Tables.{Tables}
 use Rattle.calls.specs.Replay.{closing-lines}
 use Rattle.calls.specs.Book.{Answer}
 use Rattle.calls.specs.Runs.{answer-of}
-use Rattle.calls.specs.Worked.{answer-line, lines}
+use Rattle.calls.specs.Replay.{answer-line, lines}
 use Rattle.script.specs.Lines.{line-of}
 use Rattle.script.specs.declared.lines.Line.{Line}
 use Rattle.script.specs.declared.lines.Line.the-variants.{Radios, Up, Down, Bad}

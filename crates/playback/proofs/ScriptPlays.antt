@@ -28,7 +28,7 @@ use Rattle.calls.specs.Outcomes.{by-number, Linked, linked-with, reply, link-ou
 use Rattle.calls.specs.Contracts.{Link-contract}
 use Rattle.calls.specs.Book.{Answer}
 use Rattle.calls.specs.Runs.{answer-of}
-use Rattle.calls.specs.Worked.{lines}
+use Rattle.calls.specs.Replay.{lines}
 use Rattle.calls.specs.declared.Reply.{Reply}
 use Rattle.calls.proofs.ChainLaws.{ends-yes}
 use Rattle.calls.proofs.RecordLaws.{tables-ext}
@@ -37,7 +37,8 @@ use Rattle.calls.proofs.Holds.{Holds, read-back, switched-holds, all-holds}
 use Rattle.calls.proofs.ByPairs.{link-asked}
 use Rattle.calls.proofs.ScriptLaws.{script-zero, script-right}
 use Rattle.calls.proofs.Rebuilt.{ups, Rebuilt, rebuilt}
-use Rattle.script.specs.Lines.{text-of, Values, line-of}
+use Rattle.script.specs.Texts.{text-of, Values}
+use Rattle.script.specs.Lines.{line-of}
 use Rattle.script.specs.declared.lines.Line.{Line}
 use Rattle.script.specs.declared.lines.Line.the-variants.{Radios, Up}
 use Rattle.script.proofs.Texts.{parse-text}

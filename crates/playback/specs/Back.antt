@@ -9,7 +9,7 @@ use Prim.Native.Nat.{ℕ}
 use lib.ListN.{length}
 use Rattle.mesh.specs.Tables.{Tables, graph-in}
 use Rattle.calls.specs.Book.{Answer}
-use Rattle.calls.specs.Worked.{lines}
+use Rattle.calls.specs.Replay.{lines}
 use Rattle.player.specs.Whole.{Run-prints}
 use Rattle.playback.specs.Plays.{Plays}
 

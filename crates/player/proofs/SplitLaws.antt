@@ -11,7 +11,8 @@ use borrow.Author.Tests.{eq-eqb, ne-eqb, eqb-true, eqb-false}
 use Rattle.lists.proofs.Tests.{bool-cases}
 use Rattle.lists.specs.Lists.{In}
 use Rattle.text.specs.Text.{bytes-of, line-feed, decimal, further-fields, printed-line}
-use Rattle.script.specs.Lines.{line-of, text-of, Values, max-value}
+use Rattle.script.specs.Lines.{line-of, max-value}
+use Rattle.script.specs.Texts.{text-of, Values}
 use Rattle.script.specs.declared.lines.Line.{Line}
 use Rattle.script.specs.declared.lines.Line.the-variants.{Radios, Up, Down, Bad}
 use Rattle.printing.proofs.LengthLaws.{length-line-le}

@@ -1,0 +1,19 @@
+-- The cells of the site sheet as code prints them (document 02, W-201).
+--   digit-column p x   one column of a number: its digit that counts p
+--   Cells-fit ns       radios have at most three digits, and their numbers at most two
+-- Definitions only.
+use mathlib.Core.Bool.{cond}
+use mathlib.Core.List.{List}
+use Prim.Native.Nat.{ℕ, _/_, _%_, _≤_, _<_}
+use lib.Dec.{ltb}
+use lib.ListN.{length}
+use Rattle.mesh.specs.Sound.{number-in}
+use Rattle.text.specs.Text.{space, digit-byte}
+
+-- a space where x has no such digit
+unfoldable pub digit-column : (p x : ℕ) → ℕ
+digit-column p x = cond (ltb x p) space (digit-byte (x / p % 10))
+
+pub record Cells-fit (ns : List ℕ) : Type 0 where
+  pub radios : length ns ≤ 1000
+  pub two-digits : (v : ℕ) → v < length ns → number-in ns v < 100
