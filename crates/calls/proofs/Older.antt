@@ -20,7 +20,9 @@ use Rattle.mesh.proofs.Images.Tables.{valid-graph-in, is-image-within-sound, is
 use Rattle.mesh.proofs.Images.OtherSize.{other-size-iff, is-image-not-other}
 use Rattle.calls.specs.Questions.{ask, Lengths, lengths-of, size-good, are-radios, has-room, lent-refusal, site-refusal, ends-refusal}
 use Rattle.calls.specs.Questions.{link-refusal-within, blocks-refusal, source-refusal, image-refusal, read-refusal}
-use Rattle.calls.specs.Outcomes.{by-number, Numbered, numbered, Linked, read-outcome, link-outcome-within, link-outcome}
+use Rattle.calls.specs.Outcomes.{by-number, Numbered, numbered, Linked, read-outcome, link-outcome-within, link-outcome, check-outcome, number-outcome, neighbours-outcome}
+use Rattle.calls.specs.Outcomes.{linked-outcome, first-outcome, core-outcome, backbone-outcome, write-outcome, tree-outcome, later-outcome, sheet-outcome, staircase-outcome}
+use Rattle.calls.specs.Outcomes.{script-length-outcome, script-outcome}
 use Rattle.calls.specs.Older.{Was-sound, Reads-as-then, former-read-refusal, former-read-outcome, Older}
 use Rattle.calls.proofs.ContractLaws.{number-by}
 use Rattle.calls.proofs.QuestionLaws.{size-good-true, are-radios-true, has-room-true, true-has-room}
@@ -160,7 +162,9 @@ older-other m n bs t s d i e =
 
 -- ---- all calls
 
-reads-as-then : (n : ℕ) (t : Tables) → Was-sound n t → Reads-as-then n t
+reads-as-then :
+    (n : ℕ) (t : Tables) → Was-sound n t → Reads-as-then n t (graph-in n (t .links)) (lengths-of t) (sound-within former-neighbours n t)
+unfolding check-outcome number-outcome neighbours-outcome linked-outcome first-outcome later-outcome core-outcome backbone-outcome staircase-outcome write-outcome tree-outcome sheet-outcome script-length-outcome script-outcome
 reads-as-then n t s = record {
   check = rw (s, now-sound n t s);
   number = λ v. rw (s, now-sound n t s);
