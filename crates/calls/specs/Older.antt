@@ -55,11 +55,9 @@ pub record Reads-as-then (n : ℕ) (t : Tables) (g : Graph) (l : Lengths) (s : B
       (v : ℕ) → let vs = later-in (graphs.linked g) v (t .order) in
       later-outcome n v t ≡ by-number (radio-refusal n v l s) (outcomes.later 0 (length vs) (head-or nobody vs)) (λ q. outcomes.later q 0 0)
   pub core :
-      (v k : ℕ) (w : List ℕ) → let vs = core-of g v k in
-      core-outcome n v k t w ≡ listing-outcome (core-refusal n v k l (length w) s g) (length vs) vs w
+      (v k : ℕ) (w : List ℕ) → let vs = core-of g v k in core-outcome n v k t w ≡ listing-outcome (core-refusal n v k l (length w) s g) (length vs) vs w
   pub backbone :
-      (w : List ℕ) → let vs = connected.backbone g in
-      backbone-outcome n t w ≡ listing-outcome (backbone-refusal n l (length w) s) (length vs) vs w
+      (w : List ℕ) → let vs = connected.backbone g in backbone-outcome n t w ≡ listing-outcome (backbone-refusal n l (length w) s) (length vs) vs w
   pub staircase :
       (w : List ℕ) → let ls = staircases.staircase g in
       staircase-outcome n t w ≡ listing-outcome (staircase-refusal n l (length w) s) (length ls) (link-entries ls) w
@@ -67,10 +65,8 @@ pub record Reads-as-then (n : ℕ) (t : Tables) (g : Graph) (l : Lengths) (s : B
       (m : List Node) (w : List ℕ) → let ns = trees.tree g in
       tree-outcome n t m w ≡ by-number (tree-refusal n l (length m) (length w) s)
       (treed (value 0 (length ns)) (overwrite ns m) (overwrite (node-names g) w)) (λ q. treed (value q 0) m w)
-  pub image-write :
-      (w : List ℕ) → write-outcome n t w ≡ listing-outcome (write-refusal n l (length w) s g) (image-length g) (image-of g (t .order)) w
-  pub sheet :
-      (w : List ℕ) → sheet-outcome n t w ≡ listing-outcome (sheet-refusal n l (length w) s) (sheet-length n) (sheets.sheet (t .numbers)) w
+  pub image-write : (w : List ℕ) → write-outcome n t w ≡ listing-outcome (write-refusal n l (length w) s g) (image-length g) (image-of g (t .order)) w
+  pub sheet : (w : List ℕ) → sheet-outcome n t w ≡ listing-outcome (sheet-refusal n l (length w) s) (sheet-length n) (sheets.sheet (t .numbers)) w
   pub script-length : script-length-outcome n t ≡ value-outcome (script-length-refusal n l s) (scripts.script-length g)
   pub script : (w : List ℕ) → script-outcome n t w ≡ listing-outcome (script-refusal n l (length w) s g) (scripts.script-length g) (script-of g) w
 
@@ -93,8 +89,7 @@ pub record Older : Type 0 where
       (up : Bool) (n a b : ℕ) (t : Tables) (w : List ℕ) → Was-sound n t →
       link-outcome-within former-neighbours up n a b t w .reply .number ≡ 7 → link-outcome up n a b t w .reply .number ≡ 0
   -- calls that only read: as it was
-  pub reads :
-      (n : ℕ) (t : Tables) → Was-sound n t →
+  pub reads : (n : ℕ) (t : Tables) → Was-sound n t →
       Reads-as-then n t (graph-in n (t .links)) (lengths-of t) (sound-within former-neighbours n t)
   -- an older image: what was written of formerly sound tables
   pub image-written :

@@ -126,8 +126,7 @@ treed r m w = record { reply = r; nodes = m; answer = w }
 -- zero links, zero numbers and the order 0 to n - 1
 unfoldable pub clear-outcome : (n : ℕ) → Tables → Numbered
 clear-outcome n t =
-    by-number
-    (tables-refusal n (lengths-of t))
+    by-number (tables-refusal n (lengths-of t))
     (numbered 0 (tables (replicate (row-bytes * n) 0) (replicate n 0) (range 0 n)))
     (λ q. numbered q t)
 
@@ -141,8 +140,7 @@ abbrev pub link-outcome-within : (most : ℕ) → (up : Bool) → (n a b : ℕ) 
 link-outcome-within most up n a b t w =
     let g = graph-in n (t .links) in
     let cs = changed up a b g in
-    by-number
-    (link-refusal-within most up n a b (lengths-of t) (length w) (sound-within most n t) g)
+    by-number (link-refusal-within most up n a b (lengths-of t) (length w) (sound-within most n t) g)
     (linked-with (reply 0 (step-of up cs) (length cs)) (switched n (switch up a b) t) (overwrite cs w))
     (λ q. linked-with (reply q (pos 0) 0) t w)
 
@@ -156,8 +154,7 @@ unfoldable pub ask-outcome : (up : Bool) → (n a b : ℕ) → Tables → (answe
 ask-outcome up n a b t w =
     let g = graph-in n (t .links) in
     let cs = changed up a b g in
-    by-number
-    (link-refusal up n a b (lengths-of t) (length w) (sound n t) g)
+    by-number (link-refusal up n a b (lengths-of t) (length w) (sound n t) g)
     (asked (reply 0 (step-of up cs) (length cs)) (overwrite cs w))
     (λ q. asked (reply q (pos 0) 0) w)
 
@@ -166,8 +163,7 @@ unfoldable pub commit-outcome : (up : Bool) → (n a b : ℕ) → (step : ℤ) �
 commit-outcome up n a b z xs t =
     let g = graph-in n (t .links) in
     let cs = changed up a b g in
-    by-number
-    (commit-refusal up n a b z xs (lengths-of t) (sound n t) g)
+    by-number (commit-refusal up n a b z xs (lengths-of t) (sound n t) g)
     (committed-with (reply 0 (step-of up cs) (length cs)) (switched n (switch up a b) t))
     (λ q. committed-with (reply q (pos 0) 0) t)
 
@@ -189,8 +185,7 @@ batch-outcome n xs t =
 -- document 02, W-205: the count of one-sided pairs, the tables with the agreed links, and the further table, where w is what it holds before
 unfoldable pub hear-outcome : (n : ℕ) → (heard : List ℕ) → Tables → (further : List ℕ) → Heard
 hear-outcome n hs t w =
-    by-number
-    (hear-refusal n (lengths-of t) hs (length w) (sound n t))
+    by-number (hear-refusal n (lengths-of t) hs (length w) (sound n t))
     (heard-with (value 0 (one-sided-count n hs)) (tables-after n (heard-switches (graph-in n (t .links)) hs) t) (one-sided n hs))
     (λ q. heard-with (value q 0) t w)
 
@@ -288,8 +283,7 @@ script-outcome n t w =
 unfoldable pub tree-outcome : (n : ℕ) → Tables → (nodes : List Node) → (answer : List ℕ) → Treed
 tree-outcome n t m w =
     let g = graph-in n (t .links) in
-    by-number
-    (tree-refusal n (lengths-of t) (length m) (length w) (sound-within max-neighbours n t))
+    by-number (tree-refusal n (lengths-of t) (length m) (length w) (sound-within max-neighbours n t))
     (treed (value 0 (length (tree g))) (overwrite (tree g) m) (overwrite (node-names g) w))
     (λ q. treed (value q 0) m w)
 

@@ -38,7 +38,6 @@ bad-line l = printed-line (bytes-of "bad") (decimal l ∷ [])
 
 -- ---- what calls print
 
--- document 02, W-203: the line of an answer
 unfoldable pub answer-line : Answer → List ℕ
 answer-line x = link-line (x .number) (x .step) (x .listed)
 

@@ -9,7 +9,6 @@
 --   sheet ns                 the sheet: all radios, ascending along the lines
 --   sheet-lines n            how many lines n radios take
 --   sheet-length n           the sheet's length in bytes
---   column-at i c j          the place of column j of cell c of line i
 --   Columns n num bs         what stands in each column of the page bs
 -- That the sheet has this length and these columns is `length-sheet` and `sheet-columns` in proofs/SheetLaws.antt. Definitions only.
 use mathlib.Core.Path.{_≡_}
@@ -67,17 +66,14 @@ sheet-length n = line-bytes * sheet-lines n
 
 -- ---- its columns
 
-abbrev pub column-at : (i c j : ℕ) → ℕ
-column-at i c j = line-bytes * i + (cell-width * c + j)
-
 -- a page of n radios, of which v has the number num v
 pub record Columns (n : ℕ) (num : ℕ → ℕ) (bs : List ℕ) : Type 0 where
-  -- cell c of line i is that of radio 8 i + c
+  -- cell c of line i is that of radio 8 i + c; its columns stand from 65 i + 8 c on
   pub cells :
       (i c j : ℕ) → c < line-cells → j < cell-width → (v : ℕ) → v ≡ line-cells * i + c → v < n →
-      getD bs (column-at i c j) 0 ≡ getD (cell v (num v)) j 0
+      getD bs (line-bytes * i + (cell-width * c + j)) 0 ≡ getD (cell v (num v)) j 0
   -- after the last radio the line has spaces
   pub spaces :
-      (i c j : ℕ) → i < sheet-lines n → c < line-cells → j < cell-width → n ≤ line-cells * i + c → getD bs (column-at i c j) 0 ≡ space
+      (i c j : ℕ) → i < sheet-lines n → c < line-cells → j < cell-width → n ≤ line-cells * i + c → getD bs (line-bytes * i + (cell-width * c + j)) 0 ≡ space
   -- and after its columns a line feed
   pub feeds : (i : ℕ) → i < sheet-lines n → getD bs (line-bytes * i + line-width) 0 ≡ line-feed

@@ -1,5 +1,5 @@
--- The machine: the public calls, listed once. They are the exported ones, and the block reader in document 01's own form, a struct that holds the image. Of each its
--- parameters, its result as a machine value, and its outcome.
+-- The machine: the public calls, listed once. They are the exported ones, and the block reader in document 01's own form, a struct that
+-- holds the image. Of each its parameters, its result as a machine value, and its outcome.
 --   Known, Other      the calls that document 01's book knows, and the others
 --   Public            all of them
 --   the-tables        links, numbers and order, as they are lent;   tables-then: the same on return, before what else is lent to be written

@@ -19,7 +19,7 @@ use Rattle.printing.proofs.LengthLaws.{length-line-le}
 use Rattle.script.proofs.Texts.{text-parse}
 use Rattle.player.specs.Lines.{is-call}
 use Rattle.player.specs.Machine.{line-room}
-use Rattle.player.specs.Whole.{glue, lines-of}
+use Rattle.player.specs.Play.{glue, lines-of}
 use Rattle.lists.proofs.Member.{in-right}
 
 -- ---- splitting
