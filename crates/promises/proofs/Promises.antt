@@ -1,23 +1,35 @@
 -- The promises of the engine, proved: `promises`, the statement of specs/Statement.antt over the routines of the exported calls.
 use mathlib.Core.Path.{_≡_, sym, ap}
-use Prim.Native.Nat.{ℕ}
+use Prim.Native.Nat.{ℕ, _*_, _≤_}
+use native.Mathlib.Omega.{arith}
+use mathlib.Core.List.{List}
+use lib.ListN.{length}
 use mir.Val.{Val}
 use prog.Memory.{Memory}
 use Rattle.machine.proofs.Made.{made-ready, ran-one}
 use Rattle.hosts.specs.Public.{given-at, call}
 use Rattle.hosts.proofs.Hosts.{hosts-demand, standing-demand}
 use Rattle.hosts.proofs.Made.{hosts-exist}
+use Rattle.mesh.specs.Limits.{max-neighbours}
+use Rattle.mesh.specs.Tables.{Tables, graph-in}
+use Rattle.mesh.specs.Sound.{sound}
+use Rattle.mesh.specs.Image.{block-bytes, image-of}
+use Rattle.mesh.proofs.Tables.DegreeSum.{block-count-most}
+use Rattle.mesh.proofs.Images.Tables.{valid-graph-in}
 use Rattle.mesh.proofs.Cores.Peeling.{number-core, number-unique}
 use Rattle.mesh.proofs.Trees.Listed.{backbone-one-part}
 use Rattle.mesh.proofs.Images.OtherSize.{other-size-iff}
 use Rattle.mesh.proofs.Marks.Rules.{store-good-iff}
+use Rattle.calls.specs.Questions.{lengths-of, image-length, write-refusal}
+use Rattle.calls.specs.Outcomes.{write-outcome}
+use Rattle.calls.proofs.ChainLaws.{write-zero}
 use Rattle.calls.proofs.Refusals.{clear-keeps, read-keeps, return-keeps, link-keeps, ask-keeps, commit-keeps, hear-keeps, check-keeps, number-keeps}
 use Rattle.calls.proofs.Refusals.{neighbours-keeps}
 use Rattle.calls.proofs.Refusals.{linked-keeps, first-keeps, later-keeps, lift-keeps, core-keeps, backbone-keeps, tree-keeps, staircase-keeps, write-keeps}
 use Rattle.calls.proofs.Refusals.{sheet-keeps}
 use Rattle.calls.proofs.Refusals.{script-length-keeps, script-keeps, set-keeps, remove-keeps, block-keeps}
 use Rattle.calls.proofs.Accepted.{check-right, link-right, number-right, later-right, core-right, backbone-right, tree-right-listed, write-right}
-use Rattle.calls.proofs.Accepted.{ask-right, commit-right, read-what-was-written, read-right, block-right, sheet-right}
+use Rattle.calls.proofs.Accepted.{listing-is, ask-right, commit-right, read-what-was-written, read-right, block-right, sheet-right}
 use Rattle.calls.proofs.Batches.{batch-keeps, batch-right, batch-single}
 use Rattle.calls.proofs.HeardCalls.{hear-right}
 use Rattle.calls.proofs.ScriptLaws.{script-right, script-beforehand}
@@ -39,6 +51,18 @@ use Rattle.block_reader.proofs.Runs.{part-stands}
 use Rattle.summerbugle.proofs.Runs.{routines, runs}
 use Rattle.promises.specs.Statement.{Refusals, Property-1, Property-2, Property-3, Statement}
 use Rattle.promises.specs.Statement as statement
+
+-- W-208: every image of sound tables has at most 86 blocks
+blocks-most :
+    (n : ℕ) (t : Tables) (w : List ℕ) → let o = write-outcome n t w in o .reply .number ≡ 0 → o .reply .value ≤ 86 * block-bytes
+unfolding write-outcome image-length graph-in sound
+blocks-most n t w z =
+    let g = graph-in n (t .links) in
+    let R = write-refusal n (lengths-of t) (length w) (sound n t) g in
+    let c = listing-is R (image-length g) (image-of g (t .order)) w z in
+    let good = write-zero n (lengths-of t) (length w) (sound n t) g (c .0) .0 in
+    let most = block-count-most g (t .order) (good .lent .most) (valid-graph-in max-neighbours n t (good .lent .most) (good .is-sound)) in
+    rw (c .1) (omega (arith, most))
 
 refusals : Refusals
 refusals = record {
