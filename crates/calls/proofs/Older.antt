@@ -23,7 +23,7 @@ use Rattle.calls.specs.Questions.{link-refusal-within, blocks-refusal, s
 use Rattle.calls.specs.Outcomes.{by-number, Numbered, numbered, Linked, read-outcome, link-outcome-within, link-outcome, check-outcome, number-outcome, neighbours-outcome}
 use Rattle.calls.specs.Outcomes.{linked-outcome, first-outcome, core-outcome, backbone-outcome, write-outcome, tree-outcome, later-outcome, sheet-outcome, staircase-outcome}
 use Rattle.calls.specs.Outcomes.{script-length-outcome, script-outcome}
-use Rattle.calls.specs.Older.{Was-sound, former-read-refusal, former-read-outcome, Older}
+use Rattle.calls.specs.Older.{Was-sound, Reads-as-then, former-read-refusal, former-read-outcome, Older}
 use Rattle.calls.proofs.ContractLaws.{number-by}
 use Rattle.calls.proofs.QuestionLaws.{size-good-true, are-radios-true, has-room-true, true-has-room}
 
@@ -162,25 +162,31 @@ older-other m n bs t s d i e =
 
 -- ---- all calls
 
-pub older : Older
+reads-as-then :
+    (n : ℕ) (t : Tables) → Was-sound n t → Reads-as-then n t (graph-in n (t .links)) (lengths-of t) (sound-within former-neighbours n t)
 unfolding check-outcome number-outcome neighbours-outcome linked-outcome first-outcome later-outcome core-outcome backbone-outcome staircase-outcome write-outcome tree-outcome sheet-outcome script-length-outcome script-outcome
+reads-as-then n t s = record {
+  check = rw (s, now-sound n t s);
+  number = λ v. rw (s, now-sound n t s);
+  neighbours = λ v. rw (s, now-sound n t s);
+  linked = λ a b. rw (s, now-sound n t s);
+  first = λ a b. rw (s, now-sound n t s);
+  later = λ v. rw (s, now-sound n t s);
+  core = λ v k w. rw (s, now-sound n t s);
+  backbone = λ w. rw (s, now-sound n t s);
+  staircase = λ w. rw (s, now-sound n t s);
+  tree = λ m w. rw (s, now-sound n t s);
+  image-write = λ w. rw (s, now-sound n t s);
+  sheet = λ w. rw (s, now-sound n t s);
+  script-length = rw (s, now-sound n t s);
+  script = λ w. rw (s, now-sound n t s);
+}
+
+pub older : Older
 older = record {
   link = λ up n a b t w s. older-call up n a b t w s .0;
   seven = λ up n a b t w s. older-call up n a b t w s .1;
-  check = λ n t s. rw (s, now-sound n t s);
-  number = λ n v t s. rw (s, now-sound n t s);
-  neighbours = λ n v t s. rw (s, now-sound n t s);
-  linked = λ n a b t s. rw (s, now-sound n t s);
-  first = λ n a b t s. rw (s, now-sound n t s);
-  later = λ n v t s. rw (s, now-sound n t s);
-  core = λ n v k t w s. rw (s, now-sound n t s);
-  backbone = λ n t w s. rw (s, now-sound n t s);
-  staircase = λ n t w s. rw (s, now-sound n t s);
-  tree = λ n t m w s. rw (s, now-sound n t s);
-  image-write = λ n t w s. rw (s, now-sound n t s);
-  sheet = λ n t w s. rw (s, now-sound n t s);
-  script-length = λ n t s. rw (s, now-sound n t s);
-  script = λ n t w s. rw (s, now-sound n t s);
+  reads = reads-as-then;
   image-written = λ n t l s. is-image-within-sound former-neighbours n t l (omega arith) s;
   image = older-image;
   image-read = older-read;

@@ -31,7 +31,8 @@ use Rattle.mesh.proofs.Images.Tables.{valid-graph-in, number-most}
 use Rattle.text.specs.Text.{bytes-of, space, line-feed, digit-byte, decimal}
 use Rattle.text.proofs.DecimalLaws.{decimal-digit, decimal-more, length-decimal-le}
 use Rattle.calls.specs.Sheet.{cell-width, line-cells, line-width, line-bytes, right-aligned, filled, cell, cells, sheet-line, sheet-lines, sheet}
-use Rattle.calls.specs.Sheet.{sheet-length, digit-column, Cells-fit, column-at, Columns}
+use Rattle.calls.specs.Sheet.{sheet-length, Columns}
+use Rattle.calls.specs.SheetCells.{column-at, digit-column, Cells-fit}
 
 -- ---- texts in columns
 

@@ -33,7 +33,8 @@ use Rattle.text.specs.Text.{bytes-of, digit-byte, digits-in, decimal, further-f
 use Rattle.calls.specs.Replay.{step-text, link-line, numbers-line, order-line, closing-lines}
 use Rattle.calls.specs.Worked.{risen, fallen, unchanged, refused, Want, last-answers, all-numbers, whole-order, shell-tree, connected-core}
 use Rattle.calls.specs.Worked.{backbone-radios, image-checks, printed, soundness, image-reading, same-answers, same-nodes, block-checks}
-use Rattle.calls.specs.Worked.{put-in, answer-line, lines, is-value, Row}
+use Rattle.calls.specs.Worked.{put-in, is-value, Row}
+use Rattle.calls.specs.Replay.{answer-line, lines}
 
 pub record State : Type 0 where
   pub pairs : List Link

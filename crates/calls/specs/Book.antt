@@ -31,6 +31,7 @@ use Rattle.calls.specs.Batches.{batch-refusal, batch-switches, batch-sto
 use Rattle.calls.specs.Heard.{hear-refusal, one-sided-count, heard-switches}
 use Rattle.calls.specs.Marks.{set-refusal, named-refusal, is-marked, mark-image}
 
+-- document 01, with the calls of W-205, W-210, W-211 and W-213
 -- what the book is given of a call, beside the lengths of links, numbers and order: `answer` is the answer table's length, `further` that of
 -- the table that marks one-sided pairs
 pub data Call : Type 0 where
@@ -60,10 +61,11 @@ plain r = record { number = r; step = pos 0; count = 0; listed = [] }
 unfoldable pub reported : (up : Bool) → (changed : List ℕ) → Answer
 reported up cs = record { number = 0; step = step-of up cs; count = length cs; listed = cs }
 
--- an accepted committing
+-- document 02, W-210: an accepted committing
 unfoldable pub committed : (up : Bool) → (changed : List ℕ) → Answer
 committed up cs = record { number = 0; step = step-of up cs; count = length cs; listed = [] }
 
+-- document 01: calls that report a count, W-205's and W-213's
 -- a batch: the number of the link refused, or 0, and the count of links done; a hearing: 0, and the count of one-sided pairs
 unfoldable pub counted : (number count : ℕ) → Answer
 counted r k = record { number = r; step = pos 0; count = k; listed = [] }
@@ -75,13 +77,14 @@ pub data Beginning : Type 0 where
   from-clearing : (n : ℕ) → Beginning
   from-image : (n : ℕ) → (image : List ℕ) → Beginning
 
--- what a call does with the mark of a name (W-211): setting replaces the image that the store had under the name, if it had one
+-- document 02, W-211: what a call does with the mark of a name (W-211): setting replaces the image that the store had under the name, if it had one
 pub data Marking : Type 0 where
   no-mark : Marking
   sets : (name : List ℕ) → (replaced : Option (List ℕ)) → Marking
   removes : (name image : List ℕ) → Marking
   returns : (name : List ℕ) → Marking
 
+-- document 01, with W-211's marking
 -- the answers to be compared, what the call begins anew from, if it does, the links that it takes up or down in turn, and its mark
 pub record Outcome : Type 0 where
   pub answers : List Answer
@@ -89,9 +92,11 @@ pub record Outcome : Type 0 where
   pub switches : List Switch
   pub marking : Marking
 
+-- document 01, with W-211's marking
 abbrev pub outcome-with : List Answer → Option Beginning → List Switch → Marking → Outcome
 outcome-with hs b ss m = record { answers = hs; begins = b; switches = ss; marking = m }
 
+-- document 01, without W-211's marking
 abbrev pub outcome-of : List Answer → Option Beginning → List Switch → Outcome
 outcome-of hs b ss = outcome-with hs b ss no-mark
 
@@ -104,6 +109,7 @@ unless-refused (suc q) o = outcome-of (plain (suc q) ∷ []) none []
 unfoldable pub image-under : (n : ℕ) → (name store : List ℕ) → Option (List ℕ)
 image-under n x bs = cond (is-marked x bs) (some (mark-image n x bs)) none
 
+-- document 01, with the calls of W-205, W-210, W-211 and W-213
 -- each call is put its questions: 3 gets yes, 6 and 7 are asked of the pairs; any other call is passed over
 unfoldable pub outcome : Call → Lengths → (pairs : List Link) → Outcome
 outcome (clearing n) l ps = unless-refused (tables-refusal n l) (outcome-of (plain 0 ∷ []) (some (from-clearing n)) [])
@@ -195,7 +201,7 @@ unfoldable pub beginning-tables : Beginning → Tables
 beginning-tables (from-clearing n) = tables-of (graph n []) (range 0 n)
 beginning-tables (from-image n bs) = tables-of (image-graph n bs) (image-order n bs)
 
--- the image of the tables that a history leaves
+-- document 02, W-211: the image of the tables that a history leaves
 unfoldable pub image-at : History → List ℕ
 image-at h =
     let n = radios (h .began) in
@@ -255,6 +261,7 @@ past-after (c ∷ cs) ps p = let o = booked c ps in past-after cs (pairs-of o ps
 unfoldable pub past-of : List Given → (pairs : List Link) → Beginning → Past
 past-of cs ps b = past-after cs ps (past (fresh b) [])
 
+-- document 01: the link history, with W-211's marks
 unfoldable pub history : List Given → (pairs : List Link) → Beginning → History
 history cs ps b = past-of cs ps b .history
 

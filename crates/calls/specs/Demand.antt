@@ -114,6 +114,7 @@ pub record Call-kept (n : ℕ) (ps : List Link) (o : Outcome) (t : Tables) (hs :
 
 -- ---- a list of calls
 
+-- document 01: after the list, with W-211's marks in its history
 -- g is the graph of the book's pairs after the list, v are the tables that the list leaves; b is what the list began from
 pub record Kept (n : ℕ) (ps : List Link) (b : Beginning) (es : List Event) (g : Graph) (v : Tables) : Type 0 where
   -- the links table marks exactly the book's pairs, and the numbers are the core numbers by these pairs

@@ -3,7 +3,7 @@
 -- `Results` is what a caller has after an accepted call (property 2); `Older` is what calls give of older tables and images; `Replay` is
 -- what the replay program prints; `Heard` and `Hearing` are W-205, links that both ends hear; `Lift` is what lifts a radio (W-212);
 -- `Marks` and `MarkResults` are the named marks of W-211; `Worked` and `Cases` are the worked cases of document 01, `SheetCases` the
--- site sheet's.
+-- site sheet's; `SheetCells` is for the code that prints the sheet.
 pub mod Sheet
 pub mod Script
 pub mod Questions
@@ -27,3 +27,4 @@ pub mod Replay
 pub mod Worked
 pub mod Cases
 pub mod SheetCases
+pub mod SheetCells

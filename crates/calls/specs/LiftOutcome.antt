@@ -11,9 +11,11 @@ use Rattle.calls.specs.Lift.{lifting, first-pair, lift-refusal}
 use Rattle.calls.specs.Outcomes.{by-number}
 use Rattle.calls.specs.declared.Pair.{Pair}
 
+-- document 02, W-212
 abbrev pub pair : (number low high : ℕ) → Pair
 pair r a b = record { number = r; low = a; high = b }
 
+-- document 02, W-212
 unfoldable pub lift-outcome : (n v : ℕ) → Tables → Pair
 lift-outcome n v t =
     let g = graph-in n (t .links) in

@@ -14,12 +14,13 @@ use Rattle.mesh.specs.Image.{image-of}
 use Rattle.mesh.specs.Marks.{store-bytes, is-store, Store-rules, marks-in, found}
 use Rattle.calls.specs.Marks.{is-marked, mark-image}
 
+-- document 02, W-211
 pub record Store-right (n : ℕ) (store : List ℕ) : Type 0 where
   pub long : length store ≡ store-bytes
   pub good : is-store n store ≡ true
   pub rules : Store-rules n store
 
--- bs and cs are the store before and after
+-- document 02, W-211: bs and cs are the store before and after
 pub record Set-right (n : ℕ) (x : List ℕ) (t : Tables) (bs cs : List ℕ) : Type 0 where
   pub store : Store-right n cs
   pub there : is-marked x cs ≡ true
@@ -27,12 +28,14 @@ pub record Set-right (n : ℕ) (x : List ℕ) (t : Tables) (bs cs : List ℕ) : 
   -- one name more, or as many where the name was there
   pub count : length (marks-in cs) + cond (is-marked x bs) 1 0 ≡ suc (length (marks-in bs))
 
+-- document 02, W-211
 pub record Removed-right (n : ℕ) (x bs cs : List ℕ) : Type 0 where
   pub store : Store-right n cs
   pub gone : is-marked x cs ≡ false
   -- one name less
   pub count : suc (length (marks-in cs)) ≡ length (marks-in bs)
 
+-- document 02, W-211
 pub record Same-mark (y bs cs : List ℕ) : Type 0 where
   pub there : is-marked y cs ≡ is-marked y bs
   pub place : found y (marks-in cs) ≡ found y (marks-in bs)

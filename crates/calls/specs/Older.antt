@@ -1,29 +1,74 @@
 -- Document 02, W-208: tables and images from before the limit on neighbours was raised, when it was `former-neighbours`.
 --   Was-sound                formerly sound
+--   Reads-as-then            calls that only read give what they gave then
 --   former-read-refusal      reading's questions then
 --   former-read-outcome      what reading gave then
 --   Older                    what calls give of them: what they gave then, but that a link-up call refused by 7 is taken
 -- That it holds is `older` in proofs/Older.antt. Clearing and the block reader do not ask for the limit. Definitions only.
 use mathlib.Core.Path.{_≡_}
-use mathlib.Core.Bool.{Bool, true}
+use mathlib.Core.Bool.{Bool, true, cond}
 use mathlib.Core.List.{List}
 use Prim.Native.Nat.{ℕ, _≤_}
+use lib.ListN.{length}
+use Rattle.lists.specs.Lists.{head-or, overwrite}
 use Rattle.mesh.specs.Limits.{max-radios, former-neighbours, size-good}
+use Rattle.mesh.specs.Graph.{Graph, degree}
+use Rattle.mesh.specs.Graph as graphs
+use Rattle.mesh.specs.Cores as cores
+use Rattle.mesh.specs.Orders.{later-in, nobody}
+use Rattle.mesh.specs.Connected.{core-of}
+use Rattle.mesh.specs.Connected as connected
+use Rattle.mesh.specs.Staircase.{link-entries}
+use Rattle.mesh.specs.Staircase as staircases
+use Rattle.mesh.specs.Tree.{node-names}
+use Rattle.mesh.specs.Tree as trees
 use Rattle.mesh.specs.Tables.{Tables, graph-in, tables-of}
 use Rattle.mesh.specs.Sound.{sound-within}
 use Rattle.mesh.specs.Image.{image-of, image-graph, image-order, is-image-within, is-image}
 use Rattle.mesh.specs.declared.Node.{Node}
-use Rattle.calls.specs.Questions.{ask, Lengths, lengths-of, lent-refusal, blocks-refusal}
-use Rattle.calls.specs.Outcomes.{by-number, Numbered, numbered, read-outcome, link-outcome-within, link-outcome, check-outcome-within, check-outcome}
-use Rattle.calls.specs.Outcomes.{number-outcome-within, number-outcome, neighbours-outcome-within, neighbours-outcome, linked-outcome-within}
-use Rattle.calls.specs.Outcomes.{linked-outcome, first-outcome-within, first-outcome, core-outcome-within, core-outcome, backbone-outcome-within}
-use Rattle.calls.specs.Outcomes.{backbone-outcome, write-outcome-within, write-outcome, tree-outcome-within, tree-outcome, later-outcome-within, later-outcome}
-use Rattle.calls.specs.Outcomes.{sheet-outcome-within, sheet-outcome, script-length-outcome-within, script-length-outcome, script-outcome-within, script-outcome}
-use Rattle.calls.specs.Outcomes.{staircase-outcome-within, staircase-outcome}
+use Rattle.calls.specs.Questions.{ask, Lengths, lengths-of, image-length, lent-refusal, tables-refusal, blocks-refusal, radio-refusal, pair-refusal}
+use Rattle.calls.specs.Questions.{core-refusal, backbone-refusal, tree-refusal, staircase-refusal, write-refusal, sheet-refusal}
+use Rattle.calls.specs.Questions.{script-length-refusal, script-refusal}
+use Rattle.calls.specs.Sheet.{sheet-length}
+use Rattle.calls.specs.Sheet as sheets
+use Rattle.calls.specs.Script.{script-of}
+use Rattle.calls.specs.Script as scripts
+use Rattle.calls.specs.Outcomes.{by-number, value, Numbered, numbered, treed, read-outcome, link-outcome-within, link-outcome}
+use Rattle.calls.specs.Outcomes as outcomes
+use Rattle.calls.specs.Outcomes.{value-outcome, listing-outcome, first-of-two, check-outcome, number-outcome, neighbours-outcome, linked-outcome}
+use Rattle.calls.specs.Outcomes.{first-outcome, later-outcome, core-outcome, backbone-outcome, staircase-outcome, write-outcome, tree-outcome}
+use Rattle.calls.specs.Outcomes.{sheet-outcome, script-length-outcome, script-outcome}
 
 -- the conditions of soundness, with the former limit
 abbrev pub Was-sound : (n : ℕ) → Tables → Type 0
 Was-sound n t = sound-within former-neighbours n t ≡ true
+
+-- calls that only read, as they were: g and l are the graph and the lengths of the tables, s is what question 3 was answered then.
+-- The backbone is W-202's on both sides
+pub record Reads-as-then (n : ℕ) (t : Tables) (g : Graph) (l : Lengths) (s : Bool) : Type 0 where
+  pub check : check-outcome n t ≡ value-outcome (tables-refusal n l) (cond s 1 0)
+  pub number : (v : ℕ) → number-outcome n v t ≡ value-outcome (radio-refusal n v l s) (cores.number g v)
+  pub neighbours : (v : ℕ) → neighbours-outcome n v t ≡ value-outcome (radio-refusal n v l s) (degree g v)
+  pub linked : (a b : ℕ) → linked-outcome n a b t ≡ value-outcome (pair-refusal n a b l s) (cond (graphs.linked g a b) 1 0)
+  pub first : (a b : ℕ) → first-outcome n a b t ≡ value-outcome (pair-refusal n a b l s) (first-of-two a b (t .order))
+  pub later :
+      (v : ℕ) → let vs = later-in (graphs.linked g) v (t .order) in
+      later-outcome n v t ≡ by-number (radio-refusal n v l s) (outcomes.later 0 (length vs) (head-or nobody vs)) (λ q. outcomes.later q 0 0)
+  pub core :
+      (v k : ℕ) (w : List ℕ) → let vs = core-of g v k in core-outcome n v k t w ≡ listing-outcome (core-refusal n v k l (length w) s g) (length vs) vs w
+  pub backbone :
+      (w : List ℕ) → let vs = connected.backbone g in backbone-outcome n t w ≡ listing-outcome (backbone-refusal n l (length w) s) (length vs) vs w
+  pub staircase :
+      (w : List ℕ) → let ls = staircases.staircase g in
+      staircase-outcome n t w ≡ listing-outcome (staircase-refusal n l (length w) s) (length ls) (link-entries ls) w
+  pub tree :
+      (m : List Node) (w : List ℕ) → let ns = trees.tree g in
+      tree-outcome n t m w ≡ by-number (tree-refusal n l (length m) (length w) s)
+      (treed (value 0 (length ns)) (overwrite ns m) (overwrite (node-names g) w)) (λ q. treed (value q 0) m w)
+  pub image-write : (w : List ℕ) → write-outcome n t w ≡ listing-outcome (write-refusal n l (length w) s g) (image-length g) (image-of g (t .order)) w
+  pub sheet : (w : List ℕ) → sheet-outcome n t w ≡ listing-outcome (sheet-refusal n l (length w) s) (sheet-length n) (sheets.sheet (t .numbers)) w
+  pub script-length : script-length-outcome n t ≡ value-outcome (script-length-refusal n l s) (scripts.script-length g)
+  pub script : (w : List ℕ) → script-outcome n t w ≡ listing-outcome (script-refusal n l (length w) s g) (scripts.script-length g) (script-of g) w
 
 -- the former limit, and 11 for every image that is not one of n radios: 15 is document 02's, W-207
 unfoldable pub former-read-refusal : (n : ℕ) → Lengths → (image : List ℕ) → ℕ
@@ -43,32 +88,9 @@ pub record Older : Type 0 where
   pub seven :
       (up : Bool) (n a b : ℕ) (t : Tables) (w : List ℕ) → Was-sound n t →
       link-outcome-within former-neighbours up n a b t w .reply .number ≡ 7 → link-outcome up n a b t w .reply .number ≡ 0
-  -- calls that only read: as it was (the backbone is W-202's on both sides)
-  pub check : (n : ℕ) (t : Tables) → Was-sound n t → check-outcome n t ≡ check-outcome-within former-neighbours n t
-  pub number : (n v : ℕ) (t : Tables) → Was-sound n t → number-outcome n v t ≡ number-outcome-within former-neighbours n v t
-  pub neighbours :
-      (n v : ℕ) (t : Tables) → Was-sound n t → neighbours-outcome n v t ≡ neighbours-outcome-within former-neighbours n v t
-  pub linked : (n a b : ℕ) (t : Tables) → Was-sound n t → linked-outcome n a b t ≡ linked-outcome-within former-neighbours n a b t
-  pub first : (n a b : ℕ) (t : Tables) → Was-sound n t → first-outcome n a b t ≡ first-outcome-within former-neighbours n a b t
-  pub later : (n v : ℕ) (t : Tables) → Was-sound n t → later-outcome n v t ≡ later-outcome-within former-neighbours n v t
-  pub core :
-      (n v k : ℕ) (t : Tables) (w : List ℕ) → Was-sound n t →
-      core-outcome n v k t w ≡ core-outcome-within former-neighbours n v k t w
-  pub backbone :
-      (n : ℕ) (t : Tables) (w : List ℕ) → Was-sound n t → backbone-outcome n t w ≡ backbone-outcome-within former-neighbours n t w
-  pub tree :
-      (n : ℕ) (t : Tables) (m : List Node) (w : List ℕ) → Was-sound n t →
-      tree-outcome n t m w ≡ tree-outcome-within former-neighbours n t m w
-  pub staircase :
-      (n : ℕ) (t : Tables) (w : List ℕ) → Was-sound n t → staircase-outcome n t w ≡ staircase-outcome-within former-neighbours n t w
-  pub image-write :
-      (n : ℕ) (t : Tables) (w : List ℕ) → Was-sound n t → write-outcome n t w ≡ write-outcome-within former-neighbours n t w
-  pub sheet :
-      (n : ℕ) (t : Tables) (w : List ℕ) → Was-sound n t → sheet-outcome n t w ≡ sheet-outcome-within former-neighbours n t w
-  pub script-length :
-      (n : ℕ) (t : Tables) → Was-sound n t → script-length-outcome n t ≡ script-length-outcome-within former-neighbours n t
-  pub script :
-      (n : ℕ) (t : Tables) (w : List ℕ) → Was-sound n t → script-outcome n t w ≡ script-outcome-within former-neighbours n t w
+  -- calls that only read: as it was
+  pub reads : (n : ℕ) (t : Tables) → Was-sound n t →
+      Reads-as-then n t (graph-in n (t .links)) (lengths-of t) (sound-within former-neighbours n t)
   -- an older image: what was written of formerly sound tables
   pub image-written :
       (n : ℕ) (t : Tables) → n ≤ max-radios → Was-sound n t →

@@ -2,7 +2,7 @@
 --   by-number refusal accepted refused   the outcome by the number that the call's questions give
 --   Numbered .. Treed                    what a call comes to, a struct for each shape
 --   clear-outcome .. block-outcome       the outcome of each contract, from what the call is given
---   ..-outcome-within most               the same with that bound on neighbours in questions 3 and 7
+--   link-outcome-within most             a link call with that bound on neighbours in questions 3 and 7
 -- The contract of a call (Contracts.antt) is that its result and lent tables are this outcome.
 -- Definitions only.
 use mathlib.Core.Bool.{Bool, true, false, cond}
@@ -67,36 +67,40 @@ pub record Linked : Type 0 where
 abbrev pub linked-with : Reply → Tables → (answer : List ℕ) → Linked
 linked-with r t w = record { reply = r; tables = t; answer = w }
 
--- asking
+-- document 02, W-210: asking
 pub record Asked : Type 0 where
   pub reply : Reply
   pub answer : List ℕ
 
+-- document 02, W-210
 abbrev pub asked : Reply → (answer : List ℕ) → Asked
 asked r w = record { reply = r; answer = w }
 
--- committing
+-- document 02, W-210: committing
 pub record Committed : Type 0 where
   pub reply : Reply
   pub tables : Tables
 
+-- document 02, W-210
 abbrev pub committed-with : Reply → Tables → Committed
 committed-with r t = record { reply = r; tables = t }
 
--- a batch
+-- document 02, W-213: a batch
 pub record Batched : Type 0 where
   pub reply : Value
   pub tables : Tables
 
+-- document 02, W-213
 abbrev pub batched : Value → Tables → Batched
 batched r t = record { reply = r; tables = t }
 
--- a hearing; `one-sided` is the further table
+-- document 02, W-205: a hearing; `one-sided` is the further table
 pub record Heard : Type 0 where
   pub reply : Value
   pub tables : Tables
   pub one-sided : List ℕ
 
+-- document 02, W-205
 abbrev pub heard-with : Value → Tables → (one-sided : List ℕ) → Heard
 heard-with r t x = record { reply = r; tables = t; one-sided = x }
 
@@ -122,8 +126,7 @@ treed r m w = record { reply = r; nodes = m; answer = w }
 -- zero links, zero numbers and the order 0 to n - 1
 unfoldable pub clear-outcome : (n : ℕ) → Tables → Numbered
 clear-outcome n t =
-    by-number
-    (tables-refusal n (lengths-of t))
+    by-number (tables-refusal n (lengths-of t))
     (numbered 0 (tables (replicate (row-bytes * n) 0) (replicate n 0) (range 0 n)))
     (λ q. numbered q t)
 
@@ -137,8 +140,7 @@ abbrev pub link-outcome-within : (most : ℕ) → (up : Bool) → (n a b : ℕ) 
 link-outcome-within most up n a b t w =
     let g = graph-in n (t .links) in
     let cs = changed up a b g in
-    by-number
-    (link-refusal-within most up n a b (lengths-of t) (length w) (sound-within most n t) g)
+    by-number (link-refusal-within most up n a b (lengths-of t) (length w) (sound-within most n t) g)
     (linked-with (reply 0 (step-of up cs) (length cs)) (switched n (switch up a b) t) (overwrite cs w))
     (λ q. linked-with (reply q (pos 0) 0) t w)
 
@@ -147,45 +149,43 @@ link-outcome up n a b t w = link-outcome-within max-neighbours up n a b t w
 
 -- ---- a link call in two steps
 
--- the reply, and the changed radios in front of the answer table
+-- document 02, W-210: the reply, and the changed radios in front of the answer table
 unfoldable pub ask-outcome : (up : Bool) → (n a b : ℕ) → Tables → (answer : List ℕ) → Asked
 ask-outcome up n a b t w =
     let g = graph-in n (t .links) in
     let cs = changed up a b g in
-    by-number
-    (link-refusal up n a b (lengths-of t) (length w) (sound n t) g)
+    by-number (link-refusal up n a b (lengths-of t) (length w) (sound n t) g)
     (asked (reply 0 (step-of up cs) (length cs)) (overwrite cs w))
     (λ q. asked (reply q (pos 0) 0) w)
 
--- the reply, and the tables with the link switched
+-- document 02, W-210: the reply, and the tables with the link switched
 unfoldable pub commit-outcome : (up : Bool) → (n a b : ℕ) → (step : ℤ) → (list : List ℕ) → Tables → Committed
 commit-outcome up n a b z xs t =
     let g = graph-in n (t .links) in
     let cs = changed up a b g in
-    by-number
-    (commit-refusal up n a b z xs (lengths-of t) (sound n t) g)
+    by-number (commit-refusal up n a b z xs (lengths-of t) (sound n t) g)
     (committed-with (reply 0 (step-of up cs) (length cs)) (switched n (switch up a b) t))
     (λ q. committed-with (reply q (pos 0) 0) t)
 
 -- ---- a batch
 
--- links taken up one by one: the number of the link refused, or 0, the count of links done, and the tables with these up
+-- document 02, W-213: links taken up one by one: the number of the link refused, or 0, the count of links done, and the tables with these up
 unfoldable pub links-taken : (n : ℕ) → (list : List ℕ) → Tables → Batched
 links-taken n xs t =
     let ps = graph-in n (t .links) .links in
     batched (value (batch-stop n xs ps) (length (batch-switches n xs ps))) (tables-after n (batch-switches n xs ps) t)
 
+-- document 02, W-213
 unfoldable pub batch-outcome : (n : ℕ) → (list : List ℕ) → Tables → Batched
 batch-outcome n xs t =
     by-number (batch-refusal n (lengths-of t) (length xs) (sound n t)) (links-taken n xs t) (λ q. batched (value q 0) t)
 
 -- ---- a hearing
 
--- the count of one-sided pairs, the tables with the agreed links, and the further table, where w is what it holds before
+-- document 02, W-205: the count of one-sided pairs, the tables with the agreed links, and the further table, where w is what it holds before
 unfoldable pub hear-outcome : (n : ℕ) → (heard : List ℕ) → Tables → (further : List ℕ) → Heard
 hear-outcome n hs t w =
-    by-number
-    (hear-refusal n (lengths-of t) hs (length w) (sound n t))
+    by-number (hear-refusal n (lengths-of t) hs (length w) (sound n t))
     (heard-with (value 0 (one-sided-count n hs)) (tables-after n (heard-switches (graph-in n (t .links)) hs) t) (one-sided n hs))
     (λ q. heard-with (value q 0) t w)
 
@@ -195,57 +195,41 @@ hear-outcome n hs t w =
 unfoldable pub value-outcome : (refusal x : ℕ) → Value
 value-outcome R x = by-number R (value 0 x) (λ q. value q 0)
 
-abbrev pub check-outcome-within : (most n : ℕ) → Tables → Value
-check-outcome-within most n t = value-outcome (tables-refusal n (lengths-of t)) (cond (sound-within most n t) 1 0)
-
 unfoldable pub check-outcome : (n : ℕ) → Tables → Value
-check-outcome n t = check-outcome-within max-neighbours n t
-
-abbrev pub number-outcome-within : (most n v : ℕ) → Tables → Value
-number-outcome-within most n v t =
-    value-outcome (radio-refusal n v (lengths-of t) (sound-within most n t)) (number (graph-in n (t .links)) v)
+check-outcome n t = value-outcome (tables-refusal n (lengths-of t)) (cond (sound-within max-neighbours n t) 1 0)
 
 unfoldable pub number-outcome : (n v : ℕ) → Tables → Value
-number-outcome n v t = number-outcome-within max-neighbours n v t
-
-abbrev pub neighbours-outcome-within : (most n v : ℕ) → Tables → Value
-neighbours-outcome-within most n v t =
-    value-outcome (radio-refusal n v (lengths-of t) (sound-within most n t)) (degree (graph-in n (t .links)) v)
+number-outcome n v t =
+    value-outcome (radio-refusal n v (lengths-of t) (sound-within max-neighbours n t)) (number (graph-in n (t .links)) v)
 
 unfoldable pub neighbours-outcome : (n v : ℕ) → Tables → Value
-neighbours-outcome n v t = neighbours-outcome-within max-neighbours n v t
-
-abbrev pub linked-outcome-within : (most n a b : ℕ) → Tables → Value
-linked-outcome-within most n a b t =
-    value-outcome (pair-refusal n a b (lengths-of t) (sound-within most n t)) (cond (linked (graph-in n (t .links)) a b) 1 0)
+neighbours-outcome n v t =
+    value-outcome (radio-refusal n v (lengths-of t) (sound-within max-neighbours n t)) (degree (graph-in n (t .links)) v)
 
 unfoldable pub linked-outcome : (n a b : ℕ) → Tables → Value
-linked-outcome n a b t = linked-outcome-within max-neighbours n a b t
+linked-outcome n a b t =
+    value-outcome (pair-refusal n a b (lengths-of t) (sound-within max-neighbours n t)) (cond (linked (graph-in n (t .links)) a b) 1 0)
 
 -- which of a and b stands first in the list; the same radio twice: that radio; neither of them there: a
 unfoldable pub first-of-two : (a b : ℕ) → List ℕ → ℕ
 first-of-two a b [] = a
 first-of-two a b (x ∷ xs) = let rest = first-of-two a b xs in cond (eqb x a) a (cond (eqb x b) b rest)
 
-abbrev pub first-outcome-within : (most n a b : ℕ) → Tables → Value
-first-outcome-within most n a b t =
-    value-outcome (pair-refusal n a b (lengths-of t) (sound-within most n t)) (first-of-two a b (t .order))
-
 unfoldable pub first-outcome : (n a b : ℕ) → Tables → Value
-first-outcome n a b t = first-outcome-within max-neighbours n a b t
+first-outcome n a b t =
+    value-outcome (pair-refusal n a b (lengths-of t) (sound-within max-neighbours n t)) (first-of-two a b (t .order))
 
 -- ---- the later neighbours of a radio
 
+-- document 02, W-206
 abbrev pub later : (number count first : ℕ) → Later
 later r c v = record { number = r; count = c; first = v }
 
-abbrev pub later-outcome-within : (most n v : ℕ) → Tables → Later
-later-outcome-within most n v t =
-    let vs = later-in (linked (graph-in n (t .links))) v (t .order) in
-    by-number (radio-refusal n v (lengths-of t) (sound-within most n t)) (later 0 (length vs) (head-or nobody vs)) (λ q. later q 0 0)
-
+-- document 02, W-206
 unfoldable pub later-outcome : (n v : ℕ) → Tables → Later
-later-outcome n v t = later-outcome-within max-neighbours n v t
+later-outcome n v t =
+    let vs = later-in (linked (graph-in n (t .links))) v (t .order) in
+    by-number (radio-refusal n v (lengths-of t) (sound-within max-neighbours n t)) (later 0 (length vs) (head-or nobody vs)) (λ q. later q 0 0)
 
 -- ---- a value, and entries in front of a lent list
 
@@ -253,77 +237,55 @@ later-outcome n v t = later-outcome-within max-neighbours n v t
 unfoldable pub listing-outcome : (refusal x : ℕ) → (new old : List ℕ) → Listing
 listing-outcome R x new old = by-number R (listing (value 0 x) (overwrite new old)) (λ q. listing (value q 0) old)
 
-abbrev pub core-outcome-within : (most n v k : ℕ) → Tables → (answer : List ℕ) → Listing
-core-outcome-within most n v k t w =
+unfoldable pub core-outcome : (n v k : ℕ) → Tables → (answer : List ℕ) → Listing
+core-outcome n v k t w =
     let g = graph-in n (t .links) in
     let radios = core-of g v k in
-    listing-outcome (core-refusal n v k (lengths-of t) (length w) (sound-within most n t) g) (length radios) radios w
-
-unfoldable pub core-outcome : (n v k : ℕ) → Tables → (answer : List ℕ) → Listing
-core-outcome n v k t w = core-outcome-within max-neighbours n v k t w
-
-abbrev pub backbone-outcome-within : (most n : ℕ) → Tables → (answer : List ℕ) → Listing
-backbone-outcome-within most n t w =
-    let radios = backbone (graph-in n (t .links)) in
-    listing-outcome (backbone-refusal n (lengths-of t) (length w) (sound-within most n t)) (length radios) radios w
+    listing-outcome (core-refusal n v k (lengths-of t) (length w) (sound-within max-neighbours n t) g) (length radios) radios w
 
 unfoldable pub backbone-outcome : (n : ℕ) → Tables → (answer : List ℕ) → Listing
-backbone-outcome n t w = backbone-outcome-within max-neighbours n t w
+backbone-outcome n t w =
+    let radios = backbone (graph-in n (t .links)) in
+    listing-outcome (backbone-refusal n (lengths-of t) (length w) (sound-within max-neighbours n t)) (length radios) radios w
 
--- the kept links, two entries each
-abbrev pub staircase-outcome-within : (most n : ℕ) → Tables → (table : List ℕ) → Listing
-staircase-outcome-within most n t w =
-    let kept = staircase (graph-in n (t .links)) in
-    listing-outcome (staircase-refusal n (lengths-of t) (length w) (sound-within most n t)) (length kept) (link-entries kept) w
-
+-- document 02, W-209: the kept links, two entries each
 unfoldable pub staircase-outcome : (n : ℕ) → Tables → (table : List ℕ) → Listing
-staircase-outcome n t w = staircase-outcome-within max-neighbours n t w
-
-abbrev pub write-outcome-within : (most n : ℕ) → Tables → (buffer : List ℕ) → Listing
-write-outcome-within most n t w =
-    let g = graph-in n (t .links) in
-    listing-outcome (write-refusal n (lengths-of t) (length w) (sound-within most n t) g) (image-length g) (image-of g (t .order)) w
+staircase-outcome n t w =
+    let kept = staircase (graph-in n (t .links)) in
+    listing-outcome (staircase-refusal n (lengths-of t) (length w) (sound-within max-neighbours n t)) (length kept) (link-entries kept) w
 
 unfoldable pub write-outcome : (n : ℕ) → Tables → (buffer : List ℕ) → Listing
-write-outcome n t w = write-outcome-within max-neighbours n t w
+write-outcome n t w =
+    let g = graph-in n (t .links) in
+    listing-outcome (write-refusal n (lengths-of t) (length w) (sound-within max-neighbours n t) g) (image-length g) (image-of g (t .order)) w
 
-abbrev pub sheet-outcome-within : (most n : ℕ) → Tables → (page : List ℕ) → Listing
-sheet-outcome-within most n t w =
-    listing-outcome (sheet-refusal n (lengths-of t) (length w) (sound-within most n t)) (sheet-length n) (sheet (t .numbers)) w
-
+-- document 02, W-201
 unfoldable pub sheet-outcome : (n : ℕ) → Tables → (page : List ℕ) → Listing
-sheet-outcome n t w = sheet-outcome-within max-neighbours n t w
+sheet-outcome n t w =
+    listing-outcome (sheet-refusal n (lengths-of t) (length w) (sound-within max-neighbours n t)) (sheet-length n) (sheet (t .numbers)) w
 
 -- ---- the script: its length, and the script itself
 
-abbrev pub script-length-outcome-within : (most n : ℕ) → Tables → Value
-script-length-outcome-within most n t =
-    value-outcome (script-length-refusal n (lengths-of t) (sound-within most n t)) (script-length (graph-in n (t .links)))
-
+-- document 02, W-203
 unfoldable pub script-length-outcome : (n : ℕ) → Tables → Value
-script-length-outcome n t = script-length-outcome-within max-neighbours n t
+script-length-outcome n t =
+    value-outcome (script-length-refusal n (lengths-of t) (sound-within max-neighbours n t)) (script-length (graph-in n (t .links)))
 
-abbrev pub script-outcome-within : (most n : ℕ) → Tables → (text : List ℕ) → Listing
-script-outcome-within most n t w =
-    let g = graph-in n (t .links) in
-    listing-outcome (script-refusal n (lengths-of t) (length w) (sound-within most n t) g) (script-length g) (script-of g) w
-
+-- document 02, W-203
 unfoldable pub script-outcome : (n : ℕ) → Tables → (text : List ℕ) → Listing
-script-outcome n t w = script-outcome-within max-neighbours n t w
+script-outcome n t w =
+    let g = graph-in n (t .links) in
+    listing-outcome (script-refusal n (lengths-of t) (length w) (sound-within max-neighbours n t) g) (script-length g) (script-of g) w
 
 -- ---- the shell tree
 
 -- the count with the root, the nodes in front of their list, each radio's node name in front of the answer table
-abbrev pub tree-outcome-within : (most n : ℕ) → Tables → (nodes : List Node) → (answer : List ℕ) → Treed
-tree-outcome-within most n t m w =
+unfoldable pub tree-outcome : (n : ℕ) → Tables → (nodes : List Node) → (answer : List ℕ) → Treed
+tree-outcome n t m w =
     let g = graph-in n (t .links) in
-    by-number
-    (tree-refusal n (lengths-of t) (length m) (length w) (sound-within most n t))
+    by-number (tree-refusal n (lengths-of t) (length m) (length w) (sound-within max-neighbours n t))
     (treed (value 0 (length (tree g))) (overwrite (tree g) m) (overwrite (node-names g) w))
     (λ q. treed (value q 0) m w)
-
-unfoldable pub tree-outcome : (n : ℕ) → Tables → (nodes : List Node) → (answer : List ℕ) → Treed
-tree-outcome n t m w = tree-outcome-within max-neighbours n t m w
 
 -- ---- a step of the block reader
 

@@ -81,13 +81,14 @@ has-level g v k = leb k (number g v)
 
 -- ---- question 16: proposals
 
+-- document 02, W-210
 unfoldable pub same-step : (x y : ℤ) → Bool
 same-step (pos a) (pos b) = eqb a b
 same-step (negsuc a) (negsuc b) = eqb a b
 same-step (pos a) (negsuc b) = false
 same-step (negsuc a) (pos b) = false
 
--- 16. Are the list and the step exactly what asking would give now?
+-- document 02, W-210: 16. Are the list and the step exactly what asking would give now?
 unfoldable pub is-proposal : (up : Bool) → (a b : ℕ) → (step : ℤ) → (list : List ℕ) → Graph → Bool
 is-proposal up a b z xs g = let cs = changed up a b g in same-step z (step-of up cs) && same xs cs
 
@@ -102,13 +103,13 @@ holds-image g room = leb (image-length g) room
 
 -- ---- question 12: pages
 
--- does the page hold the site sheet?
+-- document 02, W-201: does the page hold the site sheet?
 unfoldable pub holds-sheet : (n page : ℕ) → Bool
 holds-sheet n room = leb (sheet-length n) room
 
 -- ---- question 13: scripts
 
--- does the text buffer hold the script?
+-- document 02, W-203: does the text buffer hold the script?
 unfoldable pub holds-script : Graph → (text : ℕ) → Bool
 holds-script g room = leb (script-length g) room
 
@@ -144,7 +145,7 @@ link-refusal-within most up n a b l w sound g =
 unfoldable pub link-refusal : (up : Bool) → (n a b : ℕ) → Lengths → (answer : ℕ) → (sound : Bool) → Graph → ℕ
 link-refusal up n a b l w sound g = link-refusal-within max-neighbours up n a b l w sound g
 
--- committing: 1 to 7 and 16; there is no answer table, and 2 does not ask for the list's length
+-- document 02, W-210: committing: 1 to 7 and 16; there is no answer table, and 2 does not ask for the list's length
 unfoldable pub commit-refusal :
     (up : Bool) → (n a b : ℕ) → (step : ℤ) → (list : List ℕ) → Lengths → (sound : Bool) → Graph → ℕ
 commit-refusal up n a b z xs l sound g =
@@ -175,7 +176,7 @@ backbone-refusal n l w sound = site-refusal n l (answer-length n w) sound 0
 unfoldable pub tree-refusal : (n : ℕ) → Lengths → (nodes answer : ℕ) → (sound : Bool) → ℕ
 tree-refusal n l m w sound = site-refusal n l (nodes-length n m && answer-length n w) sound 0
 
--- the staircase tree: 1 to 3
+-- document 02, W-209: the staircase tree: 1 to 3
 unfoldable pub staircase-refusal : (n : ℕ) → Lengths → (table : ℕ) → (sound : Bool) → ℕ
 staircase-refusal n l w sound = site-refusal n l (staircase-length n w) sound 0
 
@@ -183,15 +184,15 @@ staircase-refusal n l w sound = site-refusal n l (staircase-length n w) sound 0
 unfoldable pub write-refusal : (n : ℕ) → Lengths → (buffer : ℕ) → (sound : Bool) → Graph → ℕ
 write-refusal n l room sound g = site-refusal n l true sound (ask 9 (holds-image g room) 0)
 
--- the site sheet: 1 to 3 and 12
+-- document 02, W-201: the site sheet: 1 to 3 and 12
 unfoldable pub sheet-refusal : (n : ℕ) → Lengths → (page : ℕ) → (sound : Bool) → ℕ
 sheet-refusal n l room sound = site-refusal n l true sound (ask 12 (holds-sheet n room) 0)
 
--- a script's length: 1 to 3
+-- document 02, W-203: a script's length: 1 to 3
 unfoldable pub script-length-refusal : (n : ℕ) → Lengths → (sound : Bool) → ℕ
 script-length-refusal n l sound = site-refusal n l true sound 0
 
--- the script: 1 to 3 and 13
+-- document 02, W-203: the script: 1 to 3 and 13
 unfoldable pub script-refusal : (n : ℕ) → Lengths → (text : ℕ) → (sound : Bool) → Graph → ℕ
 script-refusal n l room sound g = site-refusal n l true sound (ask 13 (holds-script g room) 0)
 
@@ -199,17 +200,13 @@ script-refusal n l room sound g = site-refusal n l true sound (ask 13 (holds-scr
 unfoldable pub blocks-refusal : (image : List ℕ) → (later : ℕ) → ℕ
 blocks-refusal bs later = ask 9 (whole-blocks bs) (ask 10 (checks-good bs) later)
 
--- 15 and 11: of which tables it is the image
+-- document 01, question 11, and W-207's 15: 15 and 11: of which tables it is the image
 abbrev pub source-refusal : (n : ℕ) → (image : List ℕ) → ℕ
 source-refusal n bs = ask 15 (not (other-size n bs)) (ask 11 (is-image n bs) 0)
 
 -- 9, 10, 15, 11
 unfoldable pub image-refusal : (n : ℕ) → (image : List ℕ) → ℕ
 image-refusal n bs = blocks-refusal bs (source-refusal n bs)
-
--- an image alone, with no tables to read it into: 1, 9, 10, 15, 11
-unfoldable pub alone-refusal : (n : ℕ) → (image : List ℕ) → ℕ
-alone-refusal n bs = ask 1 (size-good n) (image-refusal n bs)
 
 -- reading an image: 1, 2, 9, 10, 15, 11
 unfoldable pub read-refusal : (n : ℕ) → Lengths → (image : List ℕ) → ℕ

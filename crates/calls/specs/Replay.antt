@@ -4,11 +4,13 @@
 --   numbers-line ns, order-line xs  the two closing lines
 --   closing-lines ns xs           both
 --   bad-line l                    what ends the run at line l of another form
+--   answer-line h, lines hs ns xs the line of an answer; a line for each, then the closing lines
 -- Decimal numbers and lines of fields are in crate text. Definitions only.
-use mathlib.Core.List.{List, [], _∷_, _++_, map}
+use mathlib.Core.List.{List, [], _∷_, _++_, map, flatMap}
 use Prim.Native.Nat.{ℕ, zero, suc, _+_}
 use lib.IntN.{ℤ, pos, negsuc}
 use Rattle.text.specs.Text.{bytes-of, decimal, printed-line}
+use Rattle.calls.specs.Book.{Answer}
 
 -- ---- numbers and steps
 
@@ -33,3 +35,12 @@ closing-lines ns xs = numbers-line ns ++ order-line xs
 
 unfoldable pub bad-line : (line : ℕ) → List ℕ
 bad-line l = printed-line (bytes-of "bad") (decimal l ∷ [])
+
+-- ---- what calls print
+
+unfoldable pub answer-line : Answer → List ℕ
+answer-line x = link-line (x .number) (x .step) (x .listed)
+
+-- document 02, W-203: a line for each answer, then the closing lines
+unfoldable pub lines : List Answer → (numbers order : List ℕ) → List ℕ
+lines hs ns xs = flatMap answer-line hs ++ closing-lines ns xs

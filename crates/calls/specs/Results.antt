@@ -70,26 +70,26 @@ pub record Link-right (up : Bool) (n a b : ℕ) (t v : Tables) (count : ℕ) (w 
   pub right : Site-right n v
   pub listed : Listed count w x
 
--- g is the graph in the tables; a radio is listed exactly if its core number would differ
+-- document 02, W-210: g is the graph in the tables; a radio is listed exactly if its core number would differ
 pub record Ask-right (up : Bool) (a b : ℕ) (g : Graph) (count : ℕ) (w x : List ℕ) : Type 0 where
   pub exactly :
       (v j k : ℕ) → v < g .n → Core g v j → Core (relinked up a b g) v k → (member v (take count x) ≡ true) ↔ (j ≡ k → ⊥)
   pub listed : Listed count w x
 
--- t and v are the tables before and after
+-- document 02, W-210: t and v are the tables before and after
 pub record Commit-right (up : Bool) (n a b : ℕ) (t v : Tables) : Type 0 where
   pub graph : graph-in n (v .links) ≡ relinked up a b (graph-in n (t .links))
   pub right : Site-right n v
 
 -- ---- a batch
 
--- t and v are the tables before and after: the graph is what the links done make of it, which are all where the number is 0
+-- document 02, W-213: t and v are the tables before and after: the graph is what the links done make of it, which are all where the number is 0
 pub record Batch-right (n : ℕ) (list : List ℕ) (t v : Tables) (r : Value) : Type 0 where
   pub graph : graph-in n (v .links) ≡ graph n (pairs-after (ups (take (2 * r .value) list)) (graph-in n (t .links) .links))
   pub right : Site-right n v
   pub all : r .number ≡ 0 → 2 * r .value ≡ length list
 
--- the links before place `value` of the list are up, as single calls leave them, and the link at that place is refused by that number
+-- document 02, W-213: the links before place `value` of the list are up, as single calls leave them, and the link at that place is refused by that number
 -- of the tables as they are left
 pub record Batch-stopped (n : ℕ) (xs : List ℕ) (t : Tables) (r : Value) (v : Tables) : Type 0 where
   pub there : 2 * r .value + 1 < length xs
@@ -97,7 +97,7 @@ pub record Batch-stopped (n : ℕ) (xs : List ℕ) (t : Tables) (r : Value) (v :
   pub refused :
       r .number ≡ ends-refusal max-neighbours true n (getD xs (2 * r .value) 0) (getD xs (2 * r .value + 1) 0) (graph-in n (v .links))
 
--- the reply and the tables of a single call, the value and the tables of a batch
+-- document 02, W-213: the reply and the tables of a single call, the value and the tables of a batch
 pub record Batch-single (q : Reply) (u : Tables) (r : Value) (v : Tables) : Type 0 where
   pub number : r .number ≡ q .number
   pub value : r .value ≡ cond (eqb (q .number) 0) 1 0
@@ -105,7 +105,7 @@ pub record Batch-single (q : Reply) (u : Tables) (r : Value) (v : Tables) : Type
 
 -- ---- a hearing
 
--- t and v are the tables before and after, x is the further table after
+-- document 02, W-205: t and v are the tables before and after, x is the further table after
 pub record Hear-right (n : ℕ) (heard : List ℕ) (t v : Tables) (r : Value) (x : List ℕ) : Type 0 where
   -- no single call would be refused
   pub allowed : All-allowed n (graph-in n (t .links) .links) (heard-switches (graph-in n (t .links)) heard)
@@ -119,7 +119,7 @@ pub record Hear-right (n : ℕ) (heard : List ℕ) (t v : Tables) (r : Value) (x
 
 -- ---- later neighbours
 
--- xs is the order
+-- document 02, W-206: xs is the order
 pub record Later-right (g : Graph) (v : ℕ) (xs : List ℕ) (count first : ℕ) : Type 0 where
   pub counted : count ≡ length (later-in (linked g) v xs)
   pub some : 0 < count → First-later (linked g) v first xs
@@ -146,25 +146,25 @@ pub record Tree-listed (g : Graph) (count : ℕ) (m p : List Node) (w x : List �
 
 -- ---- the site sheet
 
--- the first `size` bytes are the sheet, 65 a line, with each radio's core number in its cell; later bytes keep their content
+-- document 02, W-201: the first `size` bytes are the sheet, 65 a line, with each radio's core number in its cell; later bytes keep their content
 pub record Sheet-right (n : ℕ) (t : Tables) (size : ℕ) (w x : List ℕ) : Type 0 where
   pub long : size ≡ line-bytes * sheet-lines n
   pub page : take size x ≡ sheet (t .numbers)
   pub columns : Columns n (number (graph-in n (t .links))) x
   pub later-bytes : drop size x ≡ drop size w
 
--- the first `size` bytes are the script; later bytes keep their content
+-- document 02, W-203: the first `size` bytes are the script; later bytes keep their content
 pub record Script-right (n : ℕ) (t : Tables) (size : ℕ) (w x : List ℕ) : Type 0 where
   pub long : size ≡ length (script-of (graph-in n (t .links)))
   pub text : take size x ≡ script-of (graph-in n (t .links))
   pub later-bytes : drop size x ≡ drop size w
 
--- of the same tables: `length` is the length beforehand, `room` the text buffer's; number and value are writing's
+-- document 02, W-203: of the same tables: `length` is the length beforehand, `room` the text buffer's; number and value are writing's
 pub record Script-beforehand (length room number value : ℕ) : Type 0 where
   pub written : length ≤ room → (number ≡ 0) × (value ≡ length)
   pub refused : room < length → (number ≡ 13) × (value ≡ 0)
 
--- w and x are the lent table before and after the call
+-- document 02, W-209: w and x are the lent table before and after the call
 pub record Staircase-listed (g : Graph) (count : ℕ) (w x : List ℕ) : Type 0 where
   -- the kept links stand in front, two entries each; later entries keep their content
   pub counted : count ≡ length (staircase g)

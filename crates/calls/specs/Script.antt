@@ -1,6 +1,6 @@
 -- Document 02, W-203: the event text of the replay program that rebuilds a site, as bytes.
 --   radios-text n        the text of line 1
---   up-text a b, down-text a b   the text of a link call
+--   up-text a b          the text of a link call that takes a link up
 --   up-line l            the line that takes the link l up, lower radio first
 --   script-of g          the script: line 1, then one `up` line for each link of the graph, in its order
 --   script-length g      the script's length in bytes
@@ -18,9 +18,6 @@ radios-text n = printed-line (bytes-of "radios") (decimal n ∷ [])
 
 abbrev pub up-text : (a b : ℕ) → List ℕ
 up-text a b = printed-line (bytes-of "up") (decimal a ∷ decimal b ∷ [])
-
-abbrev pub down-text : (a b : ℕ) → List ℕ
-down-text a b = printed-line (bytes-of "down") (decimal a ∷ decimal b ∷ [])
 
 -- ---- the script
 

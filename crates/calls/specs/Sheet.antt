@@ -9,20 +9,15 @@
 --   sheet ns                 the sheet: all radios, ascending along the lines
 --   sheet-lines n            how many lines n radios take
 --   sheet-length n           the sheet's length in bytes
---   digit-column p x         one column of a number: its digit that counts p
---   Cells-fit ns             radios have at most three digits, and their numbers at most two
---   column-at i c j          the place of column j of cell c of line i
 --   Columns n num bs         what stands in each column of the page bs
 -- That the sheet has this length and these columns is `length-sheet` and `sheet-columns` in proofs/SheetLaws.antt. Definitions only.
 use mathlib.Core.Path.{_≡_}
-use mathlib.Core.Bool.{cond}
 use mathlib.Core.List.{List, [], _∷_, _++_, flatMap}
-use Prim.Native.Nat.{ℕ, _+_, _*_, _-_, _/_, _%_, _≤_, _<_, min}
-use lib.Dec.{ltb}
+use Prim.Native.Nat.{ℕ, _+_, _*_, _-_, _/_, _≤_, _<_, min}
 use lib.ListN.{length, getD, replicate}
 use Rattle.lists.specs.Lists.{range}
 use Rattle.mesh.specs.Sound.{number-in}
-use Rattle.text.specs.Text.{bytes-of, space, line-feed, digit-byte, decimal}
+use Rattle.text.specs.Text.{bytes-of, space, line-feed, decimal}
 
 -- ---- the page
 
@@ -71,25 +66,14 @@ sheet-length n = line-bytes * sheet-lines n
 
 -- ---- its columns
 
--- a space where x has no such digit
-unfoldable pub digit-column : (p x : ℕ) → ℕ
-digit-column p x = cond (ltb x p) space (digit-byte (x / p % 10))
-
-pub record Cells-fit (ns : List ℕ) : Type 0 where
-  pub radios : length ns ≤ 1000
-  pub two-digits : (v : ℕ) → v < length ns → number-in ns v < 100
-
-abbrev pub column-at : (i c j : ℕ) → ℕ
-column-at i c j = line-bytes * i + (cell-width * c + j)
-
 -- a page of n radios, of which v has the number num v
 pub record Columns (n : ℕ) (num : ℕ → ℕ) (bs : List ℕ) : Type 0 where
-  -- cell c of line i is that of radio 8 i + c
+  -- cell c of line i is that of radio 8 i + c; its columns stand from 65 i + 8 c on
   pub cells :
       (i c j : ℕ) → c < line-cells → j < cell-width → (v : ℕ) → v ≡ line-cells * i + c → v < n →
-      getD bs (column-at i c j) 0 ≡ getD (cell v (num v)) j 0
+      getD bs (line-bytes * i + (cell-width * c + j)) 0 ≡ getD (cell v (num v)) j 0
   -- after the last radio the line has spaces
   pub spaces :
-      (i c j : ℕ) → i < sheet-lines n → c < line-cells → j < cell-width → n ≤ line-cells * i + c → getD bs (column-at i c j) 0 ≡ space
+      (i c j : ℕ) → i < sheet-lines n → c < line-cells → j < cell-width → n ≤ line-cells * i + c → getD bs (line-bytes * i + (cell-width * c + j)) 0 ≡ space
   -- and after its columns a line feed
   pub feeds : (i : ℕ) → i < sheet-lines n → getD bs (line-bytes * i + line-width) 0 ≡ line-feed

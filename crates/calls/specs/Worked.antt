@@ -26,7 +26,7 @@ use Rattle.calls.specs.Outcomes.{Linked, Listing, clear-outcome, read-ou
 use Rattle.calls.specs.Book.{Answer, plain, reported}
 use Rattle.calls.specs.Runs.{answer-of}
 use Rattle.text.specs.Text.{bytes-of}
-use Rattle.calls.specs.Replay.{link-line, closing-lines}
+use Rattle.calls.specs.Replay.{lines}
 use Rattle.calls.specs.declared.Value.{Value}
 
 -- ---- what is lent
@@ -135,13 +135,6 @@ block-checks (suc m) bs = take 4 (drop 508 bs) ++ block-checks m (drop block-byt
 unfoldable pub put-in : List Put → List ℕ → List ℕ
 put-in [] bs = bs
 put-in (p ∷ ps) bs = put-in ps (set bs (p .at) (p .byte))
-
-unfoldable pub answer-line : Answer → List ℕ
-answer-line x = link-line (x .number) (x .step) (x .listed)
-
--- a line for each answer, then the closing lines
-unfoldable pub lines : List Answer → (numbers order : List ℕ) → List ℕ
-lines hs ns xs = flatMap answer-line hs ++ closing-lines ns xs
 
 -- ---- is it so
 

@@ -62,7 +62,7 @@ pub struct Value {
     pub value: u32,
 }
 
-// The answer about the later neighbours of a radio: refusal number, their count, and the first of them in the order.
+// document 02, W-206: The answer about the later neighbours of a radio: refusal number, their count, and the first of them in the order.
 #[repr(C)]
 pub struct Later {
     pub number: u32,
@@ -70,7 +70,7 @@ pub struct Later {
     pub first: u32,
 }
 
-// The answer of the question for a link that lifts a radio: refusal number, and the pair, lower radio first.
+// document 02, W-212: The answer of the question for a link that lifts a radio: refusal number, and the pair, lower radio first.
 #[repr(C)]
 pub struct Pair {
     pub number: u32,

@@ -1,4 +1,4 @@
--- A host that makes calls one after the other on one memory, in its cells. Nothing of the program logic is cited here.
+-- The machine: a host that makes calls one after the other on one memory, in its cells. Nothing of the program logic is cited here.
 --   Site              where links, numbers and order of a site are: three places, and how many entries each has
 --   Lie               the tables stand there, in cells
 --   Table-cell        a cell of one of the three;   Untouched: of two memories, these cells are the same;   Spares: a call writes none of them

@@ -1,4 +1,4 @@
--- That hosts exist: from every memory in which a site's tables stand and can be lent, for every list of calls that document 01's book
+-- The machine: that hosts exist. From every memory in which a site's tables stand and can be lent, for every list of calls that document 01's book
 -- knows, with numbers and lists that their types hold, there is a host that makes exactly these calls.
 --   Lendable          each table begins in a live block, aligned; no two have a cell in common; none is longer than an address can say
 --   Fits              numbers and lists of a call are ones that can be passed

@@ -1,5 +1,5 @@
--- The public calls, listed once: the exported ones, and the block reader in document 01's own form, a struct that holds the image. Of each its
--- parameters, its result as a machine value, and its outcome.
+-- The machine: the public calls, listed once. They are the exported ones, and the block reader in document 01's own form, a struct that
+-- holds the image. Of each its parameters, its result as a machine value, and its outcome.
 --   Known, Other      the calls that document 01's book knows, and the others
 --   Public            all of them
 --   the-tables        links, numbers and order, as they are lent;   tables-then: the same on return, before what else is lent to be written
@@ -108,9 +108,11 @@ reply-value r = vstruct (vcons (vint w32 (r .number)) (vcons (vint w8 (ofZ w8 (r
 abbrev pub value-value : Value → Val
 value-value r = vstruct (vcons (vint w32 (r .number)) (vcons (vint w32 (r .value)) vnil))
 
+-- document 02, W-206
 abbrev pub later-value : Later → Val
 later-value r = vstruct (vcons (vint w32 (r .number)) (vcons (vint w32 (r .count)) (vcons (vint w32 (r .first)) vnil)))
 
+-- document 02, W-212
 abbrev pub pair-value : Pair → Val
 pair-value r = vstruct (vcons (vint w32 (r .number)) (vcons (vint w32 (r .low)) (vcons (vint w32 (r .high)) vnil)))
 
@@ -147,6 +149,7 @@ a-call ps {R} v o = record { params = ps; Result = R; value = v; outcome = o }
 abbrev listed : Listing → Value × (List ℕ × Unit {0})
 listed o = (o .reply, (o .lent, tt))
 
+-- document 01, with the calls of W-201, W-203, W-205, W-206, W-209, W-210, W-211, W-212 and W-213
 abbrev pub call : Public → Call
 call (of-book clear) =
     a-call (a-number ∷ tables-lent to-write []) number-value

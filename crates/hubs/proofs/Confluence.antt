@@ -30,8 +30,7 @@ use Rattle.calls.proofs.ChainLaws.{link-zero}
 use Rattle.calls.proofs.Holds.{Holds, read-back, site-asked}
 use Rattle.calls.proofs.Steps.{Stepped, step}
 use Rattle.calls.proofs.WholeList.{start}
-use Rattle.hubs.specs.Hubs.{Cleared, Singles, no-more, single, only-reads, Two-hubs, Equal-sites, Equal-answers, Confluence, Calls-agree}
-use Rattle.hubs.specs.Hubs.{Equal-orders, Equal-images}
+use Rattle.hubs.specs.Hubs.{Cleared, Singles, no-more, single, only-reads, Two-hubs, Equal-sites, Equal-answers}
 use Rattle.hubs.proofs.Balance.{pairs-agree}
 
 -- ---- runs of single link calls, none refused
@@ -139,16 +138,18 @@ module _ (n : ℕ) (v w : Tables) (k : Both n v w) where
     staircase = λ m xs. rw (same-refusal m (staircase-length m (length xs)), same-links);
   }
 
-pub confluence : Confluence
-unfolding Confluence Two-hubs
+pub confluence : Two-hubs Equal-sites
+unfolding Two-hubs
 confluence n t u cs ds ss rs c d a b same = equal-sites n (after cs t) (after ds u) (both n t u cs ds ss rs c d a b same)
 
-pub calls-agree : Calls-agree
-unfolding Calls-agree Two-hubs
+pub calls-agree : Two-hubs (λ n v w. Equal-answers v w)
+unfolding Two-hubs
 calls-agree n t u cs ds ss rs c d a b same = equal-answers n (after cs t) (after ds u) (both n t u cs ds ss rs c d a b same)
 
 -- hubs that always wrote the same image would always have the same order
-pub orders-by-images : Equal-images → Equal-orders
-unfolding Equal-images Equal-orders Two-hubs
+pub orders-by-images :
+    Two-hubs (λ n v w. image-of (graph-in n (v .links)) (v .order) ≡ image-of (graph-in n (w .links)) (w .order))
+    → Two-hubs (λ n v w. v .order ≡ w .order)
+unfolding Two-hubs
 orders-by-images claim n t u cs ds ss rs c d a b same =
     order-by-image n (after cs t) (after ds u) (both n t u cs ds ss rs c d a b same) (claim n t u cs ds ss rs c d a b same)

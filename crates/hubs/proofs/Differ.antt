@@ -13,7 +13,8 @@ use borrow.Author.Tests.{eqb-true}
 use Rattle.lists.specs.Lists.{same}
 use Rattle.lists.proofs.Tests.{and-left, and-right}
 use Rattle.lists.proofs.All.{same-eq}
-use Rattle.mesh.specs.Tables.{Tables}
+use Rattle.mesh.specs.Image.{image-of}
+use Rattle.mesh.specs.Tables.{Tables, graph-in}
 use Rattle.calls.specs.Switches.{Switch}
 use Rattle.calls.specs.Outcomes.{Numbered, numbered, clear-outcome, link-outcome}
 use Rattle.calls.specs.Book.{Answer, linking, reported}
@@ -23,7 +24,7 @@ use Rattle.calls.proofs.Runs.{Does, Run, ended, next, called, run-is, link-done
 use Rattle.calls.specs.Questions.{same-step}
 use Rattle.calls.specs.Worked.{entries, lent-tables, Left, left, left-by, played, after, up, risen, Want, last-answers, all-numbers, whole-order}
 use Rattle.calls.specs.Worked.{row, same-answers, meets, meets-all, right, All-right}
-use Rattle.hubs.specs.Hubs.{Cleared, Singles, single, Two-hubs, Equal-orders, Equal-images}
+use Rattle.hubs.specs.Hubs.{Cleared, Singles, single, Two-hubs}
 use Rattle.hubs.specs.Hubs as hubs
 use Rattle.hubs.specs.Cases.{one-hub, other-hub, cases}
 use Rattle.hubs.proofs.Confluence.{orders-by-images}
@@ -120,8 +121,8 @@ head : List ℕ → ℕ
 head [] = 0
 head (x ∷ xs) = x
 
-pub orders-differ : Equal-orders → ⊥
-unfolding Equal-orders Two-hubs one-hub other-hub head
+pub orders-differ : Two-hubs (λ n v w. v .order ≡ w .order) → ⊥
+unfolding Two-hubs one-hub other-hub head
 orders-differ claim =
     let cs = up 0 1 ∷ up 2 3 ∷ [] in
     let ds = up 2 3 ∷ up 0 1 ∷ [] in
@@ -135,5 +136,6 @@ orders-differ claim =
     let same : v .order ≡ w .order = ap (λ (o : Tables). o .order) (p .1) ∙ e ∙ sym (ap (λ (o : Tables). o .order) (q .1)) in
     absurd (omega (arith, ap head (sym (played-one .order) ∙ same ∙ played-other .order)))
 
-pub images-differ : Equal-images → ⊥
+pub images-differ :
+    Two-hubs (λ n v w. image-of (graph-in n (v .links)) (v .order) ≡ image-of (graph-in n (w .links)) (w .order)) → ⊥
 images-differ claim = orders-differ (orders-by-images claim)

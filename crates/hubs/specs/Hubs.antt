@@ -4,8 +4,8 @@
 --   Cleared n t        the tables t were left by an accepted clearing of n radios
 --   Singles n es ss    the list es is the single link calls ss, none refused; calls that only read may stand between them
 --   Two-hubs C         two hubs that start cleared with the same n and take the same single link calls: C holds of what they hold
---   Confluence         equal links and numbers, and what is worked out from links
---   Calls-agree        the shell tree, backbone and staircase calls with equal lent lists answer equal
+--   Equal-sites        equal links and numbers, and what is worked out from links
+--   Equal-answers      the shell tree, backbone and staircase calls with equal lent lists answer equal
 -- Calls that stand for several link calls, committings, images and coming back to a mark lie outside.
 -- The proofs are `confluence` and `calls-agree` in proofs/Confluence.antt. Definitions only.
 use mathlib.Core.Path.{_≡_}
@@ -17,7 +17,6 @@ use Rattle.mesh.specs.Tables.{Tables, graph-in}
 use Rattle.mesh.specs.Connected.{backbone}
 use Rattle.mesh.specs.Tree.{tree, node-names}
 use Rattle.mesh.specs.Staircase.{staircase}
-use Rattle.mesh.specs.Image.{image-of}
 use Rattle.mesh.specs.declared.Node.{Node}
 use Rattle.calls.specs.Switches.{Switch, switch}
 use Rattle.calls.specs.Outcomes.{numbered, clear-outcome, backbone-outcome, tree-outcome, staircase-outcome}
@@ -77,21 +76,3 @@ pub record Equal-answers (v w : Tables) : Type 0 where
   pub tree : (m : ℕ) (ns : List Node) (xs : List ℕ) → tree-outcome m v ns xs ≡ tree-outcome m w ns xs
   pub backbone : (m : ℕ) (xs : List ℕ) → backbone-outcome m v xs ≡ backbone-outcome m w xs
   pub staircase : (m : ℕ) (xs : List ℕ) → staircase-outcome m v xs ≡ staircase-outcome m w xs
-
--- what two hubs hold is equal
-unfoldable pub Confluence : Type 0
-Confluence = Two-hubs Equal-sites
-
--- what they answer is equal
-unfoldable pub Calls-agree : Type 0
-Calls-agree = Two-hubs (λ n v w. Equal-answers v w)
-
--- ---- what cannot be claimed
-
--- that both have the same order
-unfoldable pub Equal-orders : Type 0
-Equal-orders = Two-hubs (λ n v w. v .order ≡ w .order)
-
--- that both write the same image
-unfoldable pub Equal-images : Type 0
-Equal-images = Two-hubs (λ n v w. image-of (graph-in n (v .links)) (v .order) ≡ image-of (graph-in n (w .links)) (w .order))

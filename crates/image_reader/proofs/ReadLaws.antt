@@ -8,14 +8,14 @@ use Rattle.mesh.specs.Limits.{max-radios, row-bytes, size-good}
 use Rattle.mesh.specs.Tables.{Tables}
 use Rattle.mesh.specs.Image.{word-at}
 use Rattle.mesh.proofs.Sizes.{size-good-true, true-size-good}
-use Rattle.calls.specs.Questions.{ask, Lengths, lengths-of, site-lengths, lent-refusal, tables-refusal, source-refusal, image-refusal, alone-refusal}
+use Rattle.calls.specs.Questions.{ask, Lengths, lengths-of, site-lengths, lent-refusal, tables-refusal, source-refusal, image-refusal}
+use Rattle.image_reader.specs.Reading.{alone-refusal, header-refusal, Source-room, Source-decided, Site-read}
 use Rattle.calls.specs.Outcomes.{read-outcome}
 use Rattle.calls.specs.Questions.{read-refusal}
 use Rattle.calls.specs.Contracts.{Read-contract}
 use Rattle.calls.proofs.ContractLaws.{by-refused}
 use Rattle.calls.proofs.QuestionLaws.{ask-yes}
 use Rattle.calls.proofs.ChainLaws.{Lent-good, lent-zero, lent-yes, Blocks-good, blocks-yes}
-use Rattle.image_reader.specs.Reading.{header-refusal, Source-room, Source-decided, Site-read}
 use Rattle.image_reader.proofs.SourceLaws.{header-stops, header-passes}
 
 -- ---- the header got no refusal

@@ -1,5 +1,6 @@
 -- The reader's questions about an image alone, and what reading leaves where 1, 2, 9 and 10 got yes. An image says its n in its
 -- header, so the header's n is the only one to be tried.
+--   alone-refusal      1, 9, 10, 15, 11
 --   header-refusal     9, 10, and 11 where the header says no size
 --   Image-room         what deciding question 11 wants
 --   Image-decided      whether the bytes are an image of n radios, and then its order and its numbers
@@ -16,8 +17,12 @@ use Rattle.mesh.specs.Limits.{max-radios, size-good}
 use Rattle.mesh.specs.Cores.{number}
 use Rattle.mesh.specs.Tables.{Tables}
 use Rattle.mesh.specs.Image.{word-at, image-order, image-graph, checks-good, is-image}
-use Rattle.calls.specs.Questions.{ask, lengths-of, blocks-refusal, source-refusal, read-refusal}
+use Rattle.calls.specs.Questions.{ask, lengths-of, blocks-refusal, source-refusal, image-refusal, read-refusal}
 use Rattle.calls.specs.Outcomes.{numbered, read-outcome}
+
+-- an image alone, with no tables to read it into: 1, 9, 10, 15, 11
+unfoldable pub alone-refusal : (n : ℕ) → (image : List ℕ) → ℕ
+alone-refusal n bs = ask 1 (size-good n) (image-refusal n bs)
 
 unfoldable pub header-refusal : (image : List ℕ) → ℕ
 header-refusal bs = blocks-refusal bs (ask 11 (size-good (word-at bs 4)) 0)

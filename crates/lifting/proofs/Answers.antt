@@ -8,9 +8,9 @@ use mathlib.Core.Path.{_≡_, refl, sym, ap, _∙_}
 use mathlib.Core.Logic.{_⊎_, inl, inr, _↔_}
 use mathlib.Core.Bool.{true, false}
 use mathlib.Core.List.{List, [], _∷_}
-use Prim.Native.Nat.{ℕ, _<_}
+use Prim.Native.Nat.{ℕ, _≤_, _<_}
 use native.Mathlib.Omega.{arith}
-use lib.ListN.{length}
+use lib.ListN.{length, take}
 use Rattle.lists.specs.Lists.{In, member}
 use Rattle.mesh.specs.Limits.{max-neighbours}
 use Rattle.mesh.specs.Graph.{Link, link-of, Graph, relinked}
@@ -33,7 +33,7 @@ use Rattle.calls.proofs.QuestionLaws.{true-answer-length}
 use Rattle.calls.proofs.ChainLaws.{Site-good, site-yes, ends-yes}
 use Rattle.calls.proofs.ContractLaws.{number-by, accepted-is, by-zero}
 use Rattle.calls.proofs.LiftOutcome.{lift-zero, lift-twenty, lift-unanswered}
-use Rattle.lifting.specs.Results.{First-lift, No-lift, Raises, Listed-up, Lift-right}
+use Rattle.lifting.specs.Results.{First-lift, No-lift, Raises, Lift-right}
 use Rattle.lifting.proofs.Pairs.{lifts-lifted, lifted-lifts}
 use Rattle.lifting.proofs.Search.{lifted-first, lifted-none, none-lifted}
 
@@ -94,7 +94,9 @@ module _ (n v : ℕ) (t : Tables) where
     unfolding graph-in
     raises = lift-core g v given (asked .1) .0 (lift-first .does)
 
-    pub lift-accepted : Listed-up n v t given
+    pub lift-accepted :
+        (w : List ℕ) → n ≤ length w → let o = link-outcome true n (given .low) (given .high) t w in
+        (o .reply .number ≡ 0) × In v (take (o .reply .count) (o .answer))
     unfolding link-outcome link-refusal sound graph-in
     lift-accepted w long = rw (by-zero {o = link-outcome true n a b t w} _ _ _ zero-refusal refl) (refl, rw (take-overwrite (changed true a b g) w) moved)
       where

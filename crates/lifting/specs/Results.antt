@@ -3,7 +3,6 @@
 --   First-lift g r l   l lifts r, and no pair before it does
 --   No-lift g r        no pair lifts r
 --   Raises g v l       with the link l, which a link call would take up now, the core number of v by the largest group is greater
---   Listed-up          a link call that takes l up on these tables is accepted, and lists v among the changed radios
 --   Lift-right         l is the first pair that lifts v; it raises v; taking it up is accepted and lists v
 -- That they hold is `lift-core`, `lift-accepted`, `lift-right` in proofs/Answers.antt. Definitions only.
 use mathlib.Core.Path.{_≡_}
@@ -46,14 +45,11 @@ pub record Raises (g : Graph) (v : ℕ) (l : Link) : Type 0 where
   pub core-after : Core (relinked true (l .low) (l .high) g) v after
   pub greater : before < after
 
--- w is the answer table before, long enough
-abbrev pub Listed-up : (n v : ℕ) → Tables → Link → Type 0
-Listed-up n v t l =
-    (w : List ℕ) → n ≤ length w → let o = link-outcome true n (l .low) (l .high) t w in
-    (o .reply .number ≡ 0) × In v (take (o .reply .count) (o .answer))
-
 -- what the pair given is worth
 pub record Lift-right (n v : ℕ) (t : Tables) (l : Link) : Type 0 where
   pub first : First-lift (graph-in n (t .links)) v l
   pub raises : Raises (graph-in n (t .links)) v l
-  pub listed : Listed-up n v t l
+  -- a link call that takes it up is accepted and lists v; w is the answer table before, long enough
+  pub listed :
+      (w : List ℕ) → n ≤ length w → let o = link-outcome true n (l .low) (l .high) t w in
+      (o .reply .number ≡ 0) × In v (take (o .reply .count) (o .answer))

@@ -1,4 +1,4 @@
--- A call at the machine, in cells of its memory: nothing of the program logic is cited here.
+-- The machine: a call in cells of its memory. Nothing of the program logic is cited here.
 --   Form              how the values of a type are passed and stored: the machine's type, the machine's value of each, and which it can hold
 --   unsigned, signed  the forms of the unsigned and the signed integers
 --   Param             a parameter: a value, a list that is lent to be read, a list that is lent to be written, a struct of a list that is

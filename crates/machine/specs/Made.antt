@@ -1,4 +1,4 @@
--- A memory made for a call: a block for each lent list, in the order of the parameters, and nothing else.
+-- The machine: a memory made for a call: a block for each lent list, in the order of the parameters, and nothing else.
 --   Givens      what is passed, with no places: values and lists
 --   Fitting     each is one that its type holds, and no list is longer than an address can say
 --   blocks      the memory

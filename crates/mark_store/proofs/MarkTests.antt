@@ -12,7 +12,8 @@ use Rattle.mesh.specs.Image.{block-bytes, block-count, order-blocks, blocks-for
 use Rattle.mesh.specs.Marks.{name-bytes, place-bytes, is-name, is-zeros, name-in, image-size, image-in, is-mark}
 use Rattle.lists.proofs.Tests.{bool-cases}
 use Rattle.mesh.proofs.Marks.Laws.{mark-place, length-is-image}
-use Rattle.calls.specs.Questions.{image-refusal, alone-refusal}
+use Rattle.calls.specs.Questions.{image-refusal}
+use Rattle.image_reader.specs.Reading.{alone-refusal}
 use Rattle.calls.proofs.QuestionLaws.{ask-yes, size-good-true}
 use Rattle.calls.proofs.ChainLaws.{image-zero, image-yes}
 use Rattle.calls.proofs.MarkCalls.{image-blocks}

@@ -13,15 +13,16 @@ use Rattle.mesh.proofs.Tables.Laws.{bytes-links-table}
 use Rattle.mesh.proofs.Images.Tables.{valid-graph-in}
 use Rattle.text.specs.Text.{bytes-of}
 use Rattle.calls.specs.Script.{up-line, script-of}
-use Rattle.calls.specs.Book.{Answer}
+use Rattle.calls.specs.Book.{Call}
+use Rattle.calls.specs.Runs.{after}
 use Rattle.calls.specs.Switches.{switched, tables-after}
 use Rattle.calls.specs.Worked.{up, down}
 use Rattle.calls.proofs.WorkedState.{compute}
 use Rattle.calls.proofs.Rebuilt.{ups}
-use Rattle.player.specs.Whole.{cleared}
-use Rattle.playback.specs.Plays.{Plays}
+use Rattle.player.specs.Play.{cleared}
+use Rattle.playback.specs.Plays.{calls-in}
 use Rattle.playback.specs.Cases.{m1-left, m1-script, Order-differs}
-use Rattle.playback.proofs.ScriptPlays.{script-left}
+use Rattle.playback.proofs.ScriptPlays.{script-calls, script-came-up}
 
 unfoldable compute-tables : Unit {0}
 unfolding compute neighbours-in put-digit put-bit put-link row-links graph-in switched tables-after cleared m1-left m1-script up-line script-of ups
@@ -67,7 +68,8 @@ order-differs = record {
   size = m1-size;
   script = ap script-of m1-graph ∙ m1-text;
   order = refl;
-  order-played = λ hs v e.
-      let c = script-left 4 (omega arith) (omega arith) m1-links (m1-left .order) m1-valid hs v (subst (λ (bs : List ℕ). Plays bs hs v) (sym m1-text) e) in
-      ap (λ (u : Tables). u .order) (c .tables) ∙ order-after;
+  order-played =
+      ap (λ (bs : List ℕ). after (calls-in 4 bs) (cleared 4) .order) (sym m1-text)
+      ∙ ap (λ (cs : List Call). after cs (cleared 4) .order) (script-calls 4 (omega arith) (omega arith) m1-links (m1-left .order) m1-valid)
+      ∙ ap (λ (u : Tables). u .order) (script-came-up 4 (omega arith) (omega arith) m1-links (m1-left .order) m1-valid .tables) ∙ order-after;
 }

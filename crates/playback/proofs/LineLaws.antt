@@ -15,7 +15,7 @@ use Rattle.lists.proofs.Tests.{and-left, and-right}
 use Rattle.mesh.specs.Graph.{Link}
 use Rattle.text.specs.Text.{bytes-of, space, line-feed, digit-byte, digits-in, decimal, further-fields, printed-line}
 use Rattle.calls.specs.Script.{radios-text, up-text, up-line}
-use Rattle.player.specs.Whole.{lines-of, front, rest}
+use Rattle.player.specs.Play.{lines-of, front, rest}
 use Rattle.player.proofs.SplitLaws.{No-feed, no-feed-more, lines-ended}
 
 -- ---- bytes that are no line feed

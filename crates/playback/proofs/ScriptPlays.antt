@@ -3,13 +3,15 @@
 --   written-plays   and of the bytes that the call writes
 -- The links of the site come up in their order from a cleared one (calls' `rebuilt`), and the tables hold the pairs after them.
 use mathlib.Core.Path.{_≡_, refl, sym, ap, subst, _∙_}
-use mathlib.Core.Logic.{inl, inr}
+use mathlib.Core.Logic.{_⊎_, inl, inr}
 use mathlib.Core.Bool.{true}
-use mathlib.Core.List.{List, [], _∷_, map, flatMap}
-use Prim.Native.Nat.{ℕ, zero, suc, _≤_, _<_}
+use mathlib.Core.List.{List, [], _∷_, _++_, map, flatMap, append-assoc, List·Memᴰ, List·Memᴰ·cases-cons, List·Memᴰ·not-nil}
+use Prim.Native.Nat.{ℕ, zero, suc, _≤_, _<_, _+_}
 use native.Mathlib.Omega.{arith}
 use lib.ListN.{length, drop, take, replicate, length-append, length-drop, length-replicate}
 use Rattle.lists.specs.Lists.{range, overwrite, Entries-below}
+use Rattle.lists.proofs.Overwrite.{take-overwrite}
+use Rattle.lists.proofs.Map.{length-map}
 use Rattle.mesh.specs.Limits.{max-radios, max-neighbours}
 use Rattle.mesh.specs.Graph.{Link, graph, In-links, Allowed}
 use Rattle.mesh.specs.Levels.{changed, step-of}
@@ -24,12 +26,10 @@ use Rattle.mesh.proofs.Images.Tables.{valid-graph-in, tables-of-graph-in}
 use Rattle.calls.specs.Script.{radios-text, up-line, script-of}
 use Rattle.calls.specs.Questions.{link-refusal, lengths-of, script-refusal}
 use Rattle.calls.specs.Switches.{switch, switched, tables-after, All-allowed}
-use Rattle.calls.specs.Outcomes.{by-number, Linked, linked-with, reply, link-outcome, script-outcome}
-use Rattle.calls.specs.Contracts.{Link-contract}
-use Rattle.calls.specs.Book.{Answer}
-use Rattle.calls.specs.Runs.{answer-of}
-use Rattle.calls.specs.Worked.{lines}
-use Rattle.calls.specs.declared.Reply.{Reply}
+use Rattle.calls.specs.Outcomes.{by-number, linked-with, reply, link-outcome, script-outcome}
+use Rattle.calls.specs.Book.{Answer, Call, linking, reported}
+use Rattle.calls.specs.Runs.{Done, did, answer-of, done, events, answers, after}
+use Rattle.calls.specs.Replay.{answer-line, lines, closing-lines}
 use Rattle.calls.proofs.ChainLaws.{ends-yes}
 use Rattle.calls.proofs.RecordLaws.{tables-ext}
 use Rattle.calls.proofs.Accepted.{listing-is}
@@ -37,17 +37,17 @@ use Rattle.calls.proofs.Holds.{Holds, read-back, switched-holds, all-holds}
 use Rattle.calls.proofs.ByPairs.{link-asked}
 use Rattle.calls.proofs.ScriptLaws.{script-zero, script-right}
 use Rattle.calls.proofs.Rebuilt.{ups, Rebuilt, rebuilt}
-use Rattle.script.specs.Lines.{text-of, Values, line-of}
+use Rattle.script.specs.Texts.{text-of, Values}
+use Rattle.script.specs.Lines.{line-of}
 use Rattle.script.specs.declared.lines.Line.{Line}
 use Rattle.script.specs.declared.lines.Line.the-variants.{Radios, Up}
 use Rattle.script.proofs.Texts.{parse-text}
-use Rattle.player.specs.Play.{site-of, radios-of}
-use Rattle.player.specs.Whole.{lines-of, front, rest, cleared}
+use Rattle.player.specs.Play.{site-of, radios-of, lines-of, front, rest, cleared}
+use Rattle.player.specs.RunText.{call-text, line-text, lines-text, text-from, run-text}
 use Rattle.player.proofs.PlayLaws.{site-of-radios}
-use Rattle.playback.specs.Plays.{Answered, Answers, Lines-play, Plays-from, Plays}
-use Rattle.playback.specs.Back.{None-refused, Rebuilds, Plays-back}
+use Rattle.playback.specs.Plays.{calls-of, calls-in}
+use Rattle.playback.specs.Back.{Rebuilds, Plays-back}
 use Rattle.playback.proofs.LineLaws.{ended-radios, front-ended, rest-ended, lines-of-ups}
-use Rattle.playback.proofs.PlayLaws.{prints-plays}
 
 -- ---- lines
 
@@ -59,46 +59,47 @@ radios-of-text : (n : ℕ) → n ≤ max-radios → radios-of (radios-text n) �
 unfolding radios-of text-of Values
 radios-of-text n h = ap site-of (parse-text (Radios n) (omega arith)) ∙ site-of-radios n h
 
-answer-number : (n a b : ℕ) (t : Tables) (w : List ℕ) (h : Answer) (v : Tables) (x : List ℕ) (d : Answered true n a b t w h v x) →
-    h .number ≡ d .reply .number
-unfolding answer-of
-answer-number n a b t w h v x d = ap (λ (y : Answer). y .number) (d .is)
-
 -- ---- a link that is allowed
 
 module _ (n : ℕ) (least : 1 ≤ n) (ps : List Link) (u : Tables) (k : Holds n ps u) (l : Link)
-    (ok : Allowed max-neighbours true (l .low) (l .high) (graph n ps)) (w : List ℕ) (room : n ≤ length w) where
+    (ok : Allowed max-neighbours true (l .low) (l .high) (graph n ps)) where
   abbrev cs : List ℕ
   cs = changed true (l .low) (l .high) (graph n ps)
 
-  abbrev after : Tables
-  after = switched n (switch true (l .low) (l .high)) u
+  abbrev left : Tables
+  left = switched n (switch true (l .low) (l .high)) u
 
-  outcome-up : link-outcome true n (l .low) (l .high) u w ≡ linked-with (reply 0 (step-of true cs) (length cs)) after (overwrite cs w)
+  outcome-up : (w : List ℕ) → n ≤ length w →
+      link-outcome true n (l .low) (l .high) u w ≡ linked-with (reply 0 (step-of true cs) (length cs)) left (overwrite cs w)
   unfolding link-outcome link-refusal sound by-number
-  outcome-up =
+  outcome-up w room =
       rw (
         link-asked n ps u k least true (l .low) (l .high) (length w) room ∙ ends-yes max-neighbours true (l .low) (l .high) (graph n ps) ok,
         read-back n ps u k,
       )
 
-  room-after : n ≤ length (overwrite cs w)
+  room-after : (w : List ℕ) → n ≤ length w → n ≤ length (overwrite cs w)
   unfolding overwrite
-  room-after = omega (arith, length-append cs (drop (length cs) w), length-drop (length cs) w)
+  room-after w room = omega (arith, length-append cs (drop (length cs) w), length-drop (length cs) w)
 
-  up-only : (r : Reply) (v : Tables) (x : List ℕ) → Link-contract true n (l .low) (l .high) u w r v x →
-      (r .number ≡ 0) × (v ≡ after) × (x ≡ overwrite cs w)
-  unfolding Link-contract
-  up-only r v x d =
-      let same = d ∙ outcome-up in (
-        ap (λ (z : Linked). z .reply .number) same,
-        ap (λ (z : Linked). z .tables) same,
-        ap (λ (z : Linked). z .answer) same,
-      )
+  done-up : done (linking true n (l .low) (l .high) n) u ≡ did (reported true cs ∷ []) left
+  unfolding done answer-of reported
+  done-up = rw (outcome-up (replicate n 0) (omega (arith, length-replicate {A = ℕ} n 0)), take-overwrite cs (replicate n 0))
 
-  up-does : Link-contract true n (l .low) (l .high) u w (reply 0 (step-of true cs) (length cs)) after (overwrite cs w)
-  unfolding Link-contract
-  up-does = sym outcome-up
+  after-up : (ds : List Call) → after (linking true n (l .low) (l .high) n ∷ ds) u ≡ after ds left
+  unfolding after
+  after-up ds = ap (λ (o : Done). after ds (o .tables)) done-up
+
+  answers-up : (ds : List Call) →
+      answers (events (linking true n (l .low) (l .high) n ∷ ds) u) ≡ reported true cs ∷ answers (events ds left)
+  unfolding events answers
+  answers-up ds = ap (λ (o : Done). o .answers ++ answers (events ds (o .tables))) done-up
+
+  -- and the line that is printed
+  line-up : (m : ℕ) (w : List ℕ) → n ≤ length w → (later : Tables → List ℕ → List ℕ) →
+      line-text (Up (l .low) (l .high)) n m u w later ≡ answer-line (reported true cs) ++ later left (overwrite cs w)
+  unfolding line-text call-text answer-line answer-of reported
+  line-up m w room later = rw (outcome-up w room, take-overwrite cs w)
 
 -- ---- links in turn
 
@@ -106,63 +107,63 @@ module _ (n : ℕ) (least : 1 ≤ n) (ps : List Link) (u : Tables) (k : Holds n 
 abbrev Radios-all : List Link → Type 0
 Radios-all ls = (l : Link) → In-links l ls → (l .low < max-radios) × (l .high < max-radios)
 
--- what is left after links came up
-pub record Came-up (n : ℕ) (ls : List Link) (u : Tables) (hs : List Answer) (v : Tables) : Type 0 where
-  pub none-refused : None-refused hs
-  pub line-each : length hs ≡ length ls
-  pub tables : v ≡ tables-after n (ups ls) u
+unfoldable pub up-calls : (n : ℕ) → List Link → List Call
+up-calls n [] = []
+up-calls n (l ∷ ls) = linking true n (l .low) (l .high) n ∷ up-calls n ls
+
+length-up-calls : (n : ℕ) (ls : List Link) → length (up-calls n ls) ≡ length ls
+unfolding up-calls
+length-up-calls n [] = refl
+length-up-calls n (l ∷ ls) = ap suc (length-up-calls n ls)
+
+calls-of-ups : (n : ℕ) (ls : List Link) → Radios-all ls → flatMap (λ (x : List ℕ). calls-of n (line-of x)) (map up-line ls) ≡ up-calls n ls
+unfolding flatMap up-calls calls-of
+calls-of-ups n [] r = refl
+calls-of-ups n (l ∷ ls) r =
+    let ends = r l (inl refl) in rw (line-of-up l (ends .0) (ends .1), calls-of-ups n ls (λ m i. r m (inr i)))
+
+abbrev None-refused : List Answer → Type 0
+None-refused hs = (h : Answer) → List·Memᴰ h hs → h .number ≡ 0
+
+none-refused-more : (h : Answer) (hs : List Answer) → h .number ≡ 0 → None-refused hs → None-refused (h ∷ hs)
+none-refused-more h hs e f x m = go (List·Memᴰ·cases-cons m)
+  where
+    go : (x ≡ h) ⊎ List·Memᴰ x hs → x .number ≡ 0
+    go (inl same) = ap (λ (y : Answer). y .number) same ∙ e
+    go (inr i) = f x i
+
+-- the calls of links, made on the tables u, where the first of them is line m and the answer table holds w
+pub record Came-up (n : ℕ) (ls : List Link) (u : Tables) (m : ℕ) (w : List ℕ) : Type 0 where
+  pub none-refused : None-refused (answers (events (up-calls n ls) u))
+  pub tables : after (up-calls n ls) u ≡ tables-after n (ups ls) u
+  pub text :
+      let v = after (up-calls n ls) u in
+      lines-text n (map up-line ls) m u w ≡ lines (answers (events (up-calls n ls) u)) (v .numbers) (v .order)
+
+came-up-none : (n : ℕ) (u : Tables) (m : ℕ) (w : List ℕ) → Came-up n [] u m w
+unfolding ups tables-after up-calls events answers after lines-text lines flatMap
+came-up-none n u m w = record { none-refused = λ h i. absurd (List·Memᴰ·not-nil i); tables = refl; text = refl }
 
 module _ (n : ℕ) (least : 1 ≤ n) where
-  came-up-more : (l : Link) (ls : List Link) (u : Tables) (h : Answer) (hs : List Answer) (v : Tables) → h .number ≡ 0 →
-      Came-up n ls (switched n (switch true (l .low) (l .high)) u) hs v → Came-up n (l ∷ ls) u (h ∷ hs) v
-  unfolding None-refused ups tables-after
-  came-up-more l ls u h hs v e c = record { none-refused = (e, c .none-refused); line-each = omega (arith, c .line-each); tables = c .tables }
-
-  pub ups-rebuild : (ls ps : List Link) (u : Tables) → Holds n ps u → All-allowed n ps (ups ls) → Radios-all ls → (w : List ℕ) → n ≤ length w →
-      (hs : List Answer) (v : Tables) → Lines-play n (map up-line ls) u w hs v → Came-up n ls u hs v
-  unfolding Lines-play None-refused ups All-allowed tables-after Answers
-  ups-rebuild [] ps u k ok r w room [] v e = record { none-refused = tt; line-each = refl; tables = e }
-  ups-rebuild [] ps u k ok r w room (h ∷ hs) v e = absurd e
-  ups-rebuild (l ∷ ls) ps u k ok r w room [] v e = absurd e
-  ups-rebuild (l ∷ ls) ps u k ok r w room (h ∷ hs) v e =
+  pub came-up : (ls ps : List Link) (u : Tables) → Holds n ps u → All-allowed n ps (ups ls) → Radios-all ls → (m : ℕ) (w : List ℕ) → n ≤ length w →
+      Came-up n ls u m w
+  unfolding ups All-allowed tables-after up-calls lines-text lines flatMap reported
+  came-up [] ps u k ok r m w room = came-up-none n u m w
+  came-up (l ∷ ls) ps u k ok r m w room =
       let ends = r l (inl refl) in
-      let d : Answered true n (l .low) (l .high) u w h (e .after) (e .answer) =
-      subst (λ (x : Line). Answers n x u w h (e .after) (e .answer)) (line-of-up l (ends .0) (ends .1)) (e .answers) in
-      let only = up-only n least ps u k l (ok .0) w room (d .reply) (e .after) (e .answer) (d .does) in
-      let later : Lines-play n (map up-line ls) (after n least ps u k l (ok .0) w room) (overwrite (cs n least ps u k l (ok .0) w room) w) hs v =
-      subst (λ (x : List ℕ). Lines-play n (map up-line ls) (after n least ps u k l (ok .0) w room) x hs v) (only .2)
-      (subst (λ (y : Tables). Lines-play n (map up-line ls) y (e .answer) hs v) (only .1) (e .later)) in
-      came-up-more l ls u h hs v (answer-number n (l .low) (l .high) u w h (e .after) (e .answer) d ∙ only .0)
-      (ups-rebuild ls _ _ (switched-holds n ps u k (switch true (l .low) (l .high)) (ok .0)) (ok .1) (λ m i. r m (inr i)) _
-      (room-after n least ps u k l (ok .0) w room) hs v later)
-
-  -- and so they are played
-  pub record Played-ups (ls : List Link) (u : Tables) (w : List ℕ) : Type 0 where
-    pub answers : List Answer
-    pub left : Tables
-    pub plays : Lines-play n (map up-line ls) u w answers left
-
-  pub ups-played : (ls ps : List Link) (u : Tables) → Holds n ps u → All-allowed n ps (ups ls) → Radios-all ls → (w : List ℕ) → n ≤ length w → Played-ups ls u w
-  unfolding Lines-play ups All-allowed Answers
-  ups-played [] ps u k ok r w room = record { answers = []; left = u; plays = refl }
-  ups-played (l ∷ ls) ps u k ok r w room =
-      let ends = r l (inl refl) in
-      let v = after n least ps u k l (ok .0) w room in
-      let changes = cs n least ps u k l (ok .0) w room in
+      let changes = cs n least ps u k l (ok .0) in
+      let v = left n least ps u k l (ok .0) in
+      let said = answers-up n least ps u k l (ok .0) (up-calls n ls) in
+      let leaves = after-up n least ps u k l (ok .0) (up-calls n ls) in
       let x = overwrite changes w in
-      let y : Reply = reply 0 (step-of true changes) (length changes) in
-      let d : Answered true n (l .low) (l .high) u w (answer-of y x) v x = record { reply = y; does = up-does n least ps u k l (ok .0) w room; is = refl } in
-      let others = ups-played ls _ v (switched-holds n ps u k (switch true (l .low) (l .high)) (ok .0)) (ok .1) (λ m i. r m (inr i)) x
+      let c = came-up ls _ v (switched-holds n ps u k (switch true (l .low) (l .high)) (ok .0)) (ok .1) (λ y i. r y (inr i)) (m + 1) x
       (room-after n least ps u k l (ok .0) w room) in
       record {
-        answers = answer-of y x ∷ others .answers;
-        left = others .left;
-        plays = record {
-          after = v;
-          answer = x;
-          answers = subst (λ (z : Line). Answers n z u w (answer-of y x) v x) (sym (line-of-up l (ends .0) (ends .1))) d;
-          later = others .plays;
-        };
+        none-refused = rw said (none-refused-more (reported true changes) _ refl (c .none-refused));
+        tables = leaves ∙ c .tables;
+        text = rw (line-of-up l (ends .0) (ends .1), line-up n least ps u k l (ok .0) m w room (λ y z. lines-text n (map up-line ls) (m + 1) y z), said, leaves, c .text)
+            (sym (append-assoc (answer-line (reported true changes)) (flatMap answer-line (answers (events (up-calls n ls) v)))
+            (closing-lines (after (up-calls n ls) v .numbers) (after (up-calls n ls) v .order))));
       }
 
 -- ---- the whole script
@@ -176,15 +177,10 @@ cleared-holds n small = record {
   is = tables-ext (cleared n) _ (sym (links-table-cleared n)) (sym (numbers-cleared n)) refl;
 }
 
-lines-from : (n : ℕ) → 1 ≤ n → (bs : List ℕ) (hs : List Answer) (v : Tables) → Plays-from n bs hs v → Lines-play n (lines-of bs) (cleared n) (replicate n 0) hs v
-unfolding Plays-from
-lines-from zero h bs hs v e = absurd e
-lines-from (suc n) h bs hs v e = e
-
-from-lines : (n : ℕ) → 1 ≤ n → (bs : List ℕ) (hs : List Answer) (v : Tables) → Lines-play n (lines-of bs) (cleared n) (replicate n 0) hs v → Plays-from n bs hs v
-unfolding Plays-from
-from-lines zero h bs hs v e = absurd (omega arith)
-from-lines (suc n) h bs hs v e = e
+text-of-lines : (n : ℕ) → 1 ≤ n → (bs : List ℕ) → text-from n bs ≡ lines-text n (lines-of bs) 2 (cleared n) (replicate n 0)
+unfolding text-from
+text-of-lines zero h bs = absurd (omega arith)
+text-of-lines (suc n) h bs = refl
 
 module _ (n : ℕ) (least : 1 ≤ n) (small : n ≤ max-radios) (ls : List Link) where
   abbrev script : List ℕ
@@ -198,17 +194,9 @@ module _ (n : ℕ) (least : 1 ≤ n) (small : n ≤ max-radios) (ls : List Link)
   unfolding script-of
   follows = ap lines-of (rest-ended (radios-text n) (flatMap up-line ls) (ended-radios n)) ∙ lines-of-ups ls
 
-  pub script-lines : (hs : List Answer) (v : Tables) → Plays script hs v → Lines-play n (map up-line ls) (cleared n) (replicate n 0) hs v
-  unfolding Plays
-  script-lines hs v e =
-      subst (λ (xs : List (List ℕ)). Lines-play n xs (cleared n) (replicate n 0) hs v) follows
-      (lines-from n least (rest script) hs v (subst (λ (m : ℕ). Plays-from m (rest script) hs v) names e))
-
-  pub lines-script : (hs : List Answer) (v : Tables) → Lines-play n (map up-line ls) (cleared n) (replicate n 0) hs v → Plays script hs v
-  unfolding Plays
-  lines-script hs v e =
-      subst (λ (m : ℕ). Plays-from m (rest script) hs v) (sym names)
-      (from-lines n least (rest script) hs v (subst (λ (xs : List (List ℕ)). Lines-play n xs (cleared n) (replicate n 0) hs v) (sym follows) e))
+  text-is : run-text script ≡ lines-text n (map up-line ls) 2 (cleared n) (replicate n 0)
+  unfolding run-text
+  text-is = rw (names, text-of-lines n least (rest script), follows)
 
   module _ (xs : List ℕ) (valid : Valid max-neighbours (graph n ls) xs) where
     back : Rebuilt (graph n ls)
@@ -217,15 +205,13 @@ module _ (n : ℕ) (least : 1 ≤ n) (small : n ≤ max-radios) (ls : List Link)
     radios-all : Radios-all ls
     radios-all l i = let p = in-links-proper n ls l (proper-of n ls (valid .links-proper)) i in (omega arith, omega arith)
 
-    room : n ≤ length (replicate {A = ℕ} n 0)
-    room = omega (arith, length-replicate {A = ℕ} n 0)
+    pub script-calls : calls-in n script ≡ up-calls n ls
+    unfolding calls-in
+    script-calls = rw follows (calls-of-ups n ls radios-all)
 
-    pub script-left : (hs : List Answer) (v : Tables) → Plays script hs v → Came-up n ls (cleared n) hs v
-    script-left hs v e =
-        ups-rebuild n least ls [] (cleared n) (cleared-holds n small) (back .allowed) radios-all (replicate n 0) room hs v (script-lines hs v e)
-
-    pub script-played : Played-ups n least ls (cleared n) (replicate n 0)
-    script-played = ups-played n least ls [] (cleared n) (cleared-holds n small) (back .allowed) radios-all (replicate n 0) room
+    pub script-came-up : Came-up n ls (cleared n) 2 (replicate n 0)
+    script-came-up =
+        came-up n least ls [] (cleared n) (cleared-holds n small) (back .allowed) radios-all 2 (replicate n 0) (omega (arith, length-replicate {A = ℕ} n 0))
 
     -- the tables left are the graph's, with some order
     pub left-holds : Holds n ls (tables-after n (ups ls) (cleared n))
@@ -233,47 +219,32 @@ module _ (n : ℕ) (least : 1 ≤ n) (small : n ≤ max-radios) (ls : List Link)
         subst (λ (ps : List Link). Holds n ps (tables-after n (ups ls) (cleared n))) (back .pairs)
         (all-holds n [] (ups ls) (cleared n) (cleared-holds n small) (back .allowed))
 
-pub script-plays : (n : ℕ) (t : Tables) → 1 ≤ n → n ≤ max-radios → Tables-of-size n t → sound n t ≡ true → Plays-back n t (script-of (graph-in n (t .links)))
-unfolding graph-in sound tables-of
-script-plays n t least small size is-sound = record {
-  answers = played .answers;
-  left = played .left;
-  plays = plays;
-  rebuilds = rebuilds;
-  prints = λ text p.
-      prints-plays input (played .answers) (played .left) plays text p
-      ∙ ap (λ (ns : List ℕ). lines (played .answers) ns (played .left .order)) (rebuilds (played .answers) (played .left) plays .numbers);
-}
-  where
-    ls : List Link
-    ls = graph-in n (t .links) .links
-
-    valid : Valid max-neighbours (graph n ls) (t .order)
-    valid = valid-graph-in max-neighbours n t small is-sound
-
-    input : List ℕ
-    input = script-of (graph n ls)
-
-    played : Played-ups n least ls (cleared n) (replicate n 0)
-    played = script-played n least small ls (t .order) valid
-
-    plays : Plays input (played .answers) (played .left)
-    plays = lines-script n least small ls (played .answers) (played .left) (played .plays)
-
-    same : tables-of (graph n ls) (t .order) ≡ t
-    same = tables-of-graph-in n t small size is-sound
-
-    rebuilds : (hs : List Answer) (v : Tables) → Plays input hs v → Rebuilds n t hs v
-    rebuilds hs v e =
-        let c = script-left n least small ls (t .order) valid hs v e in
-        let k = left-holds n least small ls (t .order) valid in
+    pub rebuilds : (t : Tables) → graph-in n (t .links) ≡ graph n ls → tables-of (graph n ls) xs ≡ t →
+        Rebuilds n t script (up-calls n ls) (answers (events (up-calls n ls) (cleared n))) (after (up-calls n ls) (cleared n))
+    unfolding tables-of
+    rebuilds t g same =
+        let c = script-came-up in
+        let k = left-holds in
+        let v = after (up-calls n ls) (cleared n) in
         let is : v ≡ tables-of (graph n ls) (k .xs) = c .tables ∙ k .is in
+        let numbers : v .numbers ≡ t .numbers = ap (λ (u : Tables). u .numbers) is ∙ ap (λ (u : Tables). u .numbers) same in
         record {
+          radios = names;
+          all-calls = length-up-calls n ls ∙ sym (length-map up-line ls) ∙ ap length (sym follows);
+          line-each = rw g (length-up-calls n ls);
           none-refused = c .none-refused;
-          line-each = c .line-each;
           links = ap (λ (u : Tables). u .links) is ∙ ap (λ (u : Tables). u .links) same;
-          numbers = ap (λ (u : Tables). u .numbers) is ∙ ap (λ (u : Tables). u .numbers) same;
+          numbers = numbers;
+          prints = text-is ∙ c .text ∙ ap (λ (ns : List ℕ). lines (answers (events (up-calls n ls) (cleared n))) ns (v .order)) numbers;
         }
+
+pub script-plays : (n : ℕ) (t : Tables) → 1 ≤ n → n ≤ max-radios → Tables-of-size n t → sound n t ≡ true → Plays-back n t (script-of (graph-in n (t .links)))
+unfolding graph-in sound Plays-back
+script-plays n t least small size is-sound =
+    let ls = graph-in n (t .links) .links in
+    let valid = valid-graph-in max-neighbours n t small is-sound in
+    rw (script-calls n least small ls (t .order) valid)
+    (rebuilds n least small ls (t .order) valid t refl (tables-of-graph-in n t small size is-sound))
 
 -- the bytes that the call wrote; that the table's entries are bytes is all that is asked, as of an image that is read back
 pub written-plays :

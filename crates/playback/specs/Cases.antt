@@ -13,11 +13,11 @@ use Rattle.mesh.specs.Tables.{Tables, graph-in, tables-of, Tables-of-size}
 use Rattle.mesh.specs.Sound.{sound}
 use Rattle.text.specs.Text.{bytes-of}
 use Rattle.calls.specs.Script.{script-of}
-use Rattle.calls.specs.Book.{Answer}
 use Rattle.calls.specs.Switches.{tables-after}
+use Rattle.calls.specs.Runs.{after}
 use Rattle.calls.specs.Worked.{up, down}
-use Rattle.player.specs.Whole.{cleared}
-use Rattle.playback.specs.Plays.{Plays}
+use Rattle.player.specs.Play.{cleared}
+use Rattle.playback.specs.Plays.{calls-in}
 
 -- the links 0-2 and 1-2
 unfoldable pub m1-left : Tables
@@ -33,4 +33,4 @@ pub record Order-differs : Type 0 where
   pub size : Tables-of-size 4 m1-left
   pub script : script-of (graph-in 4 (m1-left .links)) ≡ flatMap bytes-of m1-script
   pub order : m1-left .order ≡ 3 ∷ 0 ∷ 2 ∷ 1 ∷ []
-  pub order-played : (hs : List Answer) (v : Tables) → Plays (flatMap bytes-of m1-script) hs v → v .order ≡ 3 ∷ 1 ∷ 0 ∷ 2 ∷ []
+  pub order-played : after (calls-in 4 (flatMap bytes-of m1-script)) (cleared 4) .order ≡ 3 ∷ 1 ∷ 0 ∷ 2 ∷ []

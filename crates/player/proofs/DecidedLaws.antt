@@ -13,8 +13,8 @@ use Rattle.script.specs.Lines.{line-of}
 use Rattle.script.specs.declared.lines.Line.{Line}
 use Rattle.script.specs.declared.lines.Line.the-variants.{Radios, Up, Down, Bad}
 use Rattle.player.specs.Lines.{is-call, Called, Played}
-use Rattle.player.specs.Play.{radios-of}
-use Rattle.player.specs.Whole.{lines-of, front, rest, Line-by, Lines-print, Run-from, Run-prints}
+use Rattle.player.specs.Play.{radios-of, lines-of, front, rest}
+use Rattle.player.specs.Whole.{Line-by, Lines-print, Run-from, Run-prints}
 
 -- two outcomes of a line are the same
 pub record Same-line (text said : List ℕ) (v u : Tables) (x y : List ℕ) : Type 0 where

@@ -30,7 +30,8 @@ use Rattle.player.specs.Lines.{Prints}
 use Rattle.player.specs.Machine.{Spot, spot, Takes, Takes-all, full, line-room, closing, ending}
 use Rattle.player.specs.Reading.{chunk-room, waiting, Writes, room-made, Ready, Site-lent, Site-cleared, Site-sized, Takes-chunk, Ended}
 use Rattle.player.specs.Reading.{Takes-read, Reads-once, Reads-all}
-use Rattle.player.specs.Whole.{lines-of, Lines-print, cleared, Run-from}
+use Rattle.player.specs.Play.{lines-of, cleared}
+use Rattle.player.specs.Whole.{Lines-print, Run-from}
 use Rattle.player.specs.declared.machine.Progress.{Progress}
 use Rattle.player.proofs.BytesLaws.{takes-more, takes-append}
 use Rattle.player.proofs.SizeLaws.{takes-length, takes-number, takes-all-number, closing-length}

@@ -9,14 +9,16 @@ use lib.ListN.{replicate}
 use Rattle.mesh.specs.Tables.{Tables}
 use Rattle.calls.specs.Outcomes.{link-outcome}
 use Rattle.calls.specs.Contracts.{Link-contract}
+use Rattle.calls.specs.Runs.{answer-of}
+use Rattle.calls.specs.Replay.{answer-line}
 use Rattle.script.specs.Lines.{line-of}
 use Rattle.script.specs.declared.lines.Line.{Line}
 use Rattle.script.specs.declared.lines.Line.the-variants.{Radios, Up, Down, Bad}
 use Rattle.player.specs.Lines.{is-call, Called, Played}
-use Rattle.player.specs.Play.{radios-of}
-use Rattle.player.specs.Whole.{lines-of, front, rest, cleared, Line-then, Line-by, Lines-print, Run-from, Run-prints}
+use Rattle.player.specs.Play.{radios-of, lines-of, front, rest, cleared}
+use Rattle.player.specs.Whole.{Line-then, Line-by, Lines-print, Run-from, Run-prints}
 use Rattle.player.proofs.DecidedLaws.{run-decided}
-use Rattle.player.specs.RunText.{call-line, call-text, line-text, lines-text, text-from, run-text}
+use Rattle.player.specs.RunText.{call-text, line-text, lines-text, text-from, run-text}
 
 -- what follows a line: R of each text that `later` gives
 module _ (R : Tables → List ℕ → List ℕ → Type 0) (later : Tables → List ℕ → List ℕ)
@@ -25,16 +27,17 @@ module _ (R : Tables → List ℕ → List ℕ → Type 0) (later : Tables → L
   called : (up : Bool) (x : Line) (n a b : ℕ) (l : List ℕ) (t : Tables) (w : List ℕ) → line-of l ≡ x
       → ((text : List ℕ) (v : Tables) (y : List ℕ) → Called up n a b t w text v y → Played n x t w text v y)
       → Line-then n l t w (call-text (link-outcome up n a b t w) later) R
-  unfolding call-text call-line Link-contract
+  unfolding call-text answer-line answer-of Link-contract
   called up x n a b l t w e plays =
       let o = link-outcome up n a b t w in
+      let says = answer-line (answer-of (o .reply) (o .answer)) in
       record {
         after = o .tables;
         answer = o .answer;
-        first = call-line o;
+        first = says;
         more = later (o .tables) (o .answer);
-        played = subst (λ (z : Line). Played n z t w (call-line o) (o .tables) (o .answer)) (sym e)
-            (plays (call-line o) (o .tables) (o .answer) (record { reply = o .reply; does = refl; says = refl }));
+        played = subst (λ (z : Line). Played n z t w says (o .tables) (o .answer)) (sym e)
+            (plays says (o .tables) (o .answer) (record { reply = o .reply; does = refl; says = refl }));
         later = follows (o .tables) (o .answer);
         whole = refl;
       }

@@ -8,12 +8,13 @@ use Rattle.calls.specs.Questions.{lengths-of, answer-length, site-refusal, link
 use Rattle.calls.specs.Switches.{switched}
 use Rattle.calls.specs.Outcomes.{link-outcome}
 use Rattle.text.specs.Text.{bytes-of}
-use Rattle.calls.specs.Replay.{bad-line}
+use Rattle.calls.specs.Runs.{answer-of}
+use Rattle.calls.specs.Replay.{bad-line, answer-line}
 use Rattle.calls.proofs.WorkedState.{compute}
 use Rattle.script.specs.Lines.{is-digit, digits-on, number-of, ended, last-number-of, starts, radios-line, link-with, link-after, link-from, line-of}
-use Rattle.player.specs.Play.{site-of, radios-of}
-use Rattle.player.specs.Whole.{glue, lines-of, front, rest, cleared, Run-prints}
-use Rattle.player.specs.RunText.{call-line, call-text, line-text, lines-text, text-from, run-text}
+use Rattle.player.specs.Play.{site-of, radios-of, glue, lines-of, front, rest, cleared}
+use Rattle.player.specs.Whole.{Run-prints}
+use Rattle.player.specs.RunText.{call-text, line-text, lines-text, text-from, run-text}
 use Rattle.player.specs.Texts.{Text, Text-right, m1, bad-third, no-first, texts, All-right}
 use Rattle.player.proofs.RunLaws.{run-met, run-only}
 
@@ -27,7 +28,7 @@ unfolding bad-line is-digit digits-on number-of ended last-number-of starts radi
 compute-lines = tt
 
 unfoldable compute-text : Unit {0}
-unfolding compute-calls compute-lines glue lines-of front rest cleared call-line call-text line-text lines-text text-from run-text m1 bad-third no-first
+unfolding compute-calls compute-lines glue lines-of front rest cleared answer-line answer-of call-text line-text lines-text text-from run-text m1 bad-third no-first
 compute-text = tt
 
 -- the text that a run computes

@@ -15,9 +15,9 @@ use Rattle.text.specs.Text.{line-feed}
 use Rattle.calls.specs.Replay.{bad-line}
 use Rattle.script.specs.Lines.{line-of}
 use Rattle.player.specs.Lines.{is-call}
-use Rattle.player.specs.Play.{radios-of}
+use Rattle.player.specs.Play.{radios-of, lines-of, front, rest}
 use Rattle.player.specs.Machine.{Spot, Stopped, Held-on, Line-ends, Ignored, Step, line-room, Takes, Takes-all, closing, ending}
-use Rattle.player.specs.Whole.{lines-of, front, rest, Line-then, Line-by, Lines-print, start, Run-from, Run-prints}
+use Rattle.player.specs.Whole.{Line-then, Line-by, Lines-print, start, Run-from, Run-prints}
 use Rattle.player.proofs.MachineLaws.{step-as}
 use Rattle.player.proofs.SplitLaws.{No-feed, no-feed-more, lines-before, lines-last, first-line, lines-ended, unended-no-call, long-no-call}
 use Rattle.lists.proofs.Tests.{cond-false, cond-true}

@@ -24,7 +24,8 @@ use Rattle.mesh.specs.Tables.{Tables}
 use Rattle.text.specs.Print.{Buffer, max-place}
 use Rattle.reads.specs.Reads.{most-reads}
 use Rattle.player.specs.Machine.{Spot, Takes-all, ending, full}
-use Rattle.player.specs.Whole.{cleared, Run-from}
+use Rattle.player.specs.Play.{cleared}
+use Rattle.player.specs.Whole.{Run-from}
 use Rattle.player.specs.declared.machine.Progress.{Progress}
 
 -- the bytes that one read can bring

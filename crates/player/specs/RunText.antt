@@ -1,5 +1,4 @@
--- What a run prints, executable: the outcome of each link call is calls' `link-outcome`.
---   call-line o                  the line of a link call with the outcome o
+-- Document 01: what a run of the replay program prints, executable. The outcome of each link call is calls' `link-outcome`.
 --   line-text l n k t w later    what a line prints, and then what later lines print on the tables that it leaves
 --   lines-text n ls k t w        the lines from number k on, with the closing lines or `bad L`
 --   run-text input               a whole run
@@ -7,24 +6,19 @@
 use mathlib.Core.Bool.{true, false}
 use mathlib.Core.List.{List, [], _∷_, _++_}
 use Prim.Native.Nat.{ℕ, zero, suc, _+_}
-use lib.ListN.{take, replicate}
+use lib.ListN.{replicate}
 use Rattle.mesh.specs.Tables.{Tables}
 use Rattle.calls.specs.Outcomes.{Linked, link-outcome}
-use Rattle.calls.specs.Replay.{link-line, closing-lines, bad-line}
-use Rattle.calls.specs.declared.Reply.{Reply}
+use Rattle.calls.specs.Runs.{answer-of}
+use Rattle.calls.specs.Replay.{closing-lines, bad-line, answer-line}
 use Rattle.script.specs.Lines.{line-of}
 use Rattle.script.specs.declared.lines.Line.{Line}
 use Rattle.script.specs.declared.lines.Line.the-variants.{Radios, Up, Down, Bad}
-use Rattle.player.specs.Play.{radios-of}
-use Rattle.player.specs.Whole.{lines-of, front, rest, cleared}
-
--- refusal number, step, changed radios
-unfoldable pub call-line : Linked → List ℕ
-call-line o = link-line (o .reply .number) (o .reply .step) (take (o .reply .count) (o .answer))
+use Rattle.player.specs.Play.{radios-of, lines-of, front, rest, cleared}
 
 -- a link call's line, and what later lines print on its tables
 unfoldable pub call-text : Linked → (later : Tables → List ℕ → List ℕ) → List ℕ
-call-text o later = call-line o ++ later (o .tables) (o .answer)
+call-text o later = answer-line (answer-of (o .reply) (o .answer)) ++ later (o .tables) (o .answer)
 
 -- a line by what it says: another form ends the run with its number
 unfoldable pub line-text : Line → (n k : ℕ) → Tables → (w : List ℕ) → (later : Tables → List ℕ → List ℕ) → List ℕ

@@ -1,51 +1,19 @@
 -- What the replay program prints for given input bytes, line by line, as document 01 says it.
---   lines-of input     the lines, each with its line feed; the last may have none
---   front input, rest input   the first line, and what follows it
 --   Lines-print n ls   what the lines after the first print, with the closing lines or `bad L`
 --   start n            where the run stands after the first line
 --   Run-prints input   what a whole run prints
 -- That the bytes taken one by one print exactly this is proved in proofs/WholeLaws.antt. Definitions only.
 use mathlib.Core.Path.{_≡_}
-use mathlib.Core.Bool.{Bool, true, false, cond}
+use mathlib.Core.Bool.{Bool, true, false}
 use mathlib.Core.List.{List, [], _∷_, _++_}
-use Prim.Native.Nat.{ℕ, zero, suc, _+_, _*_}
-use lib.Dec.{eqb}
+use Prim.Native.Nat.{ℕ, zero, suc, _+_}
 use lib.ListN.{replicate}
-use Rattle.mesh.specs.Limits.{row-bytes}
-use Rattle.lists.specs.Lists.{range}
-use Rattle.mesh.specs.Tables.{Tables, tables}
-use Rattle.text.specs.Text.{line-feed}
+use Rattle.mesh.specs.Tables.{Tables}
 use Rattle.calls.specs.Replay.{bad-line, closing-lines}
 use Rattle.script.specs.Lines.{line-of}
 use Rattle.player.specs.Lines.{is-call, Played}
 use Rattle.player.specs.Machine.{Spot}
-use Rattle.player.specs.Play.{radios-of}
-
--- ---- lines
-
--- the byte before the first of the lines
-unfoldable pub glue : (byte : ℕ) → List (List ℕ) → List (List ℕ)
-glue b [] = (b ∷ []) ∷ []
-glue b (l ∷ ls) = (b ∷ l) ∷ ls
-
--- the input split after each line feed
-unfoldable pub lines-of : List ℕ → List (List ℕ)
-lines-of [] = []
-lines-of (b ∷ bs) =
-    let ls = lines-of bs in
-    cond (eqb b line-feed) ((b ∷ []) ∷ ls) (glue b ls)
-
--- the first line, its line feed included
-unfoldable pub front : List ℕ → List ℕ
-front [] = []
-front (b ∷ bs) = b ∷ cond (eqb b line-feed) [] (front bs)
-
--- what follows the first line
-unfoldable pub rest : List ℕ → List ℕ
-rest [] = []
-rest (b ∷ bs) = cond (eqb b line-feed) bs (rest bs)
-
--- ---- what is printed
+use Rattle.player.specs.Play.{radios-of, lines-of, front, rest, cleared}
 
 -- a line that is a call, and then others of which R holds
 pub record Line-then (n : ℕ) (line : List ℕ) (t : Tables) (w text : List ℕ) (R : Tables → List ℕ → List ℕ → Type 0)
@@ -69,10 +37,6 @@ unfoldable pub Lines-print : (n : ℕ) → List (List ℕ) → (k : ℕ) → Tab
 Lines-print n [] k t w text = text ≡ closing-lines (t .numbers) (t .order)
 Lines-print n (l ∷ ls) k t w text =
     Line-by (is-call (line-of l)) n l k t w text (λ v x more. Lines-print n ls (k + 1) v x more)
-
--- a cleared site
-unfoldable pub cleared : (n : ℕ) → Tables
-cleared n = tables (replicate (row-bytes * n) 0) (replicate n 0) (range 0 n)
 
 -- where the run stands after a first line that names n radios
 unfoldable pub start : (n : ℕ) → Spot

@@ -57,7 +57,7 @@ use Rattle.calls.specs.Runs.{events, after, givens}
 use Rattle.calls.specs.Demand.{Start, beginning, Demand-3}
 use Rattle.walks.specs.Results.{Beginning-kept, Each-begins}
 use Rattle.lifting.specs.Results.{No-lift, Raises, Lift-right}
-use Rattle.hubs.specs.Hubs.{Confluence, Calls-agree, Equal-orders, Equal-images}
+use Rattle.hubs.specs.Hubs.{Two-hubs, Equal-sites, Equal-answers}
 use Rattle.playback.specs.Back.{Plays-back}
 
 -- ---- property 1
@@ -371,11 +371,12 @@ pub record W-213 : Type 0 where
 -- arrangements. They hold equal links and numbers, and shell tree, backbone and staircase calls with equal lent lists answer equal
 
 pub record W-214 : Type 0 where
-  pub confluence : Confluence
-  pub calls-agree : Calls-agree
+  pub confluence : Two-hubs Equal-sites
+  pub calls-agree : Two-hubs (λ n v w. Equal-answers v w)
   -- that their orders are always equal, or their images, is false
-  pub orders-differ : Equal-orders → ⊥
-  pub images-differ : Equal-images → ⊥
+  pub orders-differ : Two-hubs (λ n v w. v .order ≡ w .order) → ⊥
+  pub images-differ :
+      Two-hubs (λ n v w. images.image-of (graph-in n (v .links)) (v .order) ≡ images.image-of (graph-in n (w .links)) (w .order)) → ⊥
 
 -- ---- all of them
 

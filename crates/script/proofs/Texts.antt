@@ -12,7 +12,8 @@ use Rattle.lists.proofs.Tests.{bool-cases, never, and-left, and-right}
 use Rattle.text.specs.Text.{bytes-of, space, line-feed, digit-byte, decimal, further-fields, printed-line}
 use Rattle.script.specs.declared.lines.Line.{Line}
 use Rattle.script.specs.declared.lines.Line.the-variants.{Radios, Up, Down, Bad}
-use Rattle.script.specs.Lines.{text-of, Values, max-value, Read, got, none, is-digit, number-of, last-number-of, starts, radios-line, link-with}
+use Rattle.script.specs.Texts.{text-of, Values}
+use Rattle.script.specs.Lines.{max-value, Read, got, none, is-digit, number-of, last-number-of, starts, radios-line, link-with}
 use Rattle.script.specs.Lines.{link-after, link-from, line-of}
 use Rattle.script.proofs.NumberLaws.{number-of-decimal, last-number-of-decimal, number-of-text, last-number-of-text}
 

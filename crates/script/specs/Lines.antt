@@ -1,48 +1,28 @@
 -- The lines of the replay program, as bytes.
---   text-of l         the text of a line, its line feed included
---   Values l          are the line's numbers at most 65,535
+--   max-value         the largest number of a line
 --   Read              what reading at the front of a text gives: a value and what follows it, or none
 --   digits-on v s     the digits at the front of s, read onto v
 --   number-of s       the number at the front of s
 --   last-number-of s  the number at the front of s, with nothing but the line feed after it
 --   link-from up s      what follows `up ` or `down `, read
 --   line-of s         what a text says: `Bad` for every text of another form
---   read-of s r       what the parser's record r says about the text s
--- That line-of takes exactly the texts of the language, and each back to its line, is proved in proofs/Texts.antt.
+-- The texts of the language are in Texts.antt. That line-of takes exactly the texts of the language, and each back to its line, is proved in proofs/Texts.antt.
 -- Definitions only.
 use mathlib.Core.Bool.{Bool, true, false, _&&_, cond}
 use mathlib.Core.List.{List, [], _∷_}
-use Prim.Native.Nat.{ℕ, _+_, _*_, _-_, _≤_}
+use Prim.Native.Nat.{ℕ, _+_, _*_, _-_}
 use lib.Dec.{leb, eqb}
 use lib.ListN.{drop}
 use Rattle.lists.specs.Lists.{same}
 use Rattle.text.specs.Text.{bytes-of, space, line-feed, digit-byte}
-use Rattle.calls.specs.Script.{radios-text, up-text, down-text}
 use Rattle.script.specs.declared.lines.Line.{Line}
 use Rattle.script.specs.declared.lines.Line.the-variants.{Radios, Up, Down, Bad}
-use Rattle.script.specs.declared.lines.Number.{Number}
 
--- ---- the language
-
--- a word, then the numbers in decimal, single spaces between, ended by a line feed; Bad has no text
-unfoldable pub text-of : Line → List ℕ
-text-of (Radios n) = radios-text n
-text-of (Up a b) = up-text a b
-text-of (Down a b) = down-text a b
-text-of Bad = []
+-- ---- numbers
 
 -- the largest number of a line
 abbrev pub max-value : ℕ
 max-value = 65535
-
--- a line of the language: its numbers are not larger
-unfoldable pub Values : Line → Type 0
-Values (Radios n) = n ≤ max-value
-Values (Up a b) = (a ≤ max-value) × (b ≤ max-value)
-Values (Down a b) = (a ≤ max-value) × (b ≤ max-value)
-Values Bad = ⊥
-
--- ---- numbers
 
 -- a value and what follows it, or none
 pub data Read : Type 0 where
@@ -109,9 +89,3 @@ line-of s =
     cond (starts (bytes-of "up ") s) (link-from true (drop 3 s))
     (cond (starts (bytes-of "down ") s) (link-from false (drop 5 s))
     (cond (starts (bytes-of "radios ") s) (radios-line (last-number-of (drop 7 s))) Bad))
-
--- ---- what the parser keeps
-
--- the number found, and what follows it in s
-unfoldable pub read-of : (s : List ℕ) → Number → Read
-read-of s r = cond (r .ok) (got (r .value) (drop (r .next) s)) none

@@ -14,7 +14,8 @@ use Rattle.mesh.specs.Sound.{number-in}
 use Rattle.text.specs.Text.{space, line-feed, digit-byte}
 use Rattle.text.specs.Print.{Buffer, buffer-at, max-place, put, Puts}
 use Rattle.text.proofs.PrintLaws.{puts-byte-in, puts-append, puts-as, Putting, putting-none, putting-piece, putting-end}
-use Rattle.calls.specs.Sheet.{line-cells, line-width, line-bytes, cell-width, filled, digit-column, cell, cells, sheet-line, sheet-lines, sheet, Cells-fit}
+use Rattle.calls.specs.Sheet.{line-cells, line-width, line-bytes, cell-width, filled, cell, cells, sheet-line, sheet-lines, sheet}
+use Rattle.calls.specs.SheetCells.{digit-column, Cells-fit}
 use Rattle.calls.proofs.SheetLaws.{cell-columns, length-cells}
 
 -- ---- columns

@@ -12,7 +12,8 @@ use Rattle.mesh.specs.Tables.{Tables}
 use Rattle.mesh.specs.Sound.{sound}
 use Rattle.text.specs.Print.{Buffer, buffer-at, max-place, put}
 use Rattle.text.proofs.PrintLaws.{put-fits}
-use Rattle.calls.specs.Sheet.{line-bytes, sheet, sheet-lines, sheet-length, Cells-fit}
+use Rattle.calls.specs.Sheet.{line-bytes, sheet, sheet-lines, sheet-length}
+use Rattle.calls.specs.SheetCells.{Cells-fit}
 use Rattle.calls.specs.Questions.{ask, lengths-of, site-refusal, sheet-refusal, holds-sheet}
 use Rattle.calls.specs.Contracts.{Sheet-contract}
 use Rattle.calls.proofs.QuestionLaws.{ask-no}

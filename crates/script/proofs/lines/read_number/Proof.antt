@@ -2,7 +2,7 @@
 use mathlib.Core.Path.{sym, _∙_}
 use native.Mathlib.Omega.{arith}
 use borrow.Author.Needs.{needs}
-use Rattle.script.specs.Lines.{read-of}
+use Rattle.script.specs.Texts.{read-of}
 use Rattle.script.proofs.LineLaws.{read-of-none, digit-below, digit-above, number-end, number-zero, number-other, number-digit}
 use Rattle.script.proofs.lines.read_number.Statement.{statement}
 use Rattle.script.proofs.lines.read_number.Tie as tie
