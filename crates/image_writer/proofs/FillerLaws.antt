@@ -15,7 +15,6 @@ use Rattle.lists.proofs.Parts.{length-flatMap, drop-replicate}
 use Rattle.mesh.proofs.Images.Words.{length-word, length-long}
 use Rattle.lists.proofs.Overwrite.{sets-append}
 use Rattle.image_writer.specs.Filler.{opened, sealed}
-use Rattle.image_writer.specs.Blocks.{links-head}
 use Rattle.lists.proofs.Map.{flatMap-append}
 
 -- ---- a block opened
@@ -27,13 +26,6 @@ opened-sets k i b e = rw e
 pub length-opened : (k i : ℕ) → length (opened k i) ≡ block-bytes
 unfolding opened word
 length-opened k i = refl
-
--- the head of a block of links, stored
-pub head-sets : (b : List ℕ) (at i : ℕ) → sets (set (set b at 2) (at + 1) 0) (at + 2) (word i) ≡ sets b at (links-head i)
-unfolding links-head
-head-sets b at i =
-    let one : at + 1 ≡ suc at = omega arith in
-    let two : at + 2 ≡ suc (suc at) = omega arith in rw (one, two)
 
 -- zeros stored after the first e bytes
 pub zeros-put : (part new : List ℕ) (e k : ℕ) → length part ≡ block-bytes → e ≤ block-bytes → k ≡ block-bytes - e

@@ -1,8 +1,8 @@
 -- Laws of the writer.
 -- a block filled in
 pub mod FillerLaws
--- links written over the blocks
-pub mod LinksWritten
+-- links put into a block
+pub mod LinksPut
 -- the blocks
 pub mod BlockFilling
 -- the writer's outcomes

@@ -3,7 +3,7 @@
 use mathlib.Core.Path.{_≡_, refl, sym, ap, ap₂, _∙_}
 use mathlib.Core.Bool.{true}
 use mathlib.Core.List.{List, _++_, flatMap}
-use Prim.Native.Nat.{ℕ, _+_, _*_, _-_, _≤_, _<_}
+use Prim.Native.Nat.{ℕ, _+_, _*_, _≤_, _<_}
 use native.Mathlib.Omega.{arith}
 use lib.ListN.{length, drop}
 use borrow.Author.Tests.{lt-leb}
@@ -12,7 +12,7 @@ use Rattle.lists.specs.Lists.{range, overwrite}
 use Rattle.mesh.specs.Graph.{Link, Graph, graph}
 use Rattle.mesh.specs.Tables.{Tables, graph-in}
 use Rattle.mesh.specs.Sound.{within, few, sound}
-use Rattle.mesh.specs.Image.{block-bytes, block-links, blocks-for, order-blocks, block-count, block-at, image-of}
+use Rattle.mesh.specs.Image.{block-bytes, blocks-for, order-blocks, block-count, block-at, image-of}
 use Rattle.mesh.proofs.Images.Of.{length-image-of}
 use Rattle.mesh.proofs.Images.Tables.{valid-graph-in}
 use Rattle.mesh.proofs.Tables.DegreeSum.{links-few}
@@ -25,9 +25,8 @@ use Rattle.calls.proofs.ChainLaws.{Site-good, site-zero, site-yes, write-yes, s
 use Rattle.soundness.proofs.SoundSite.{Sound-site, sound-site}
 use Rattle.link_list.specs.Links.{links-from, Rows-listed}
 use Rattle.link_list.proofs.GraphLinks.{rows-listed-few, links-graph-in}
-use Rattle.image_writer.specs.Blocks.{marked-graph, Written, written, links-written, Links-room, links-before, Place-counted, part-filled}
-use Rattle.image_writer.proofs.LinksWritten.{Blocks-written, blocks-written}
-use Rattle.image_writer.proofs.BlockFilling.{image-filled, image-counted, image-place}
+use Rattle.image_writer.specs.Blocks.{marked-graph, Links-fit, All-links-filled, front-block}
+use Rattle.image_writer.proofs.BlockFilling.{image-filled}
 
 -- ---- the outcomes
 
@@ -113,42 +112,34 @@ module _ (n : ℕ) (t : Tables) (w : List ℕ) where
           let long : length (image-of g (t .order)) ≡ block-bytes * blocks = length-image-of g (t .order) ∙ ap (λ (k : ℕ). block-bytes * k) (sym (counted ∙ blocks-are)) in
           listing-answered refusal _ _ w _ x zero-is (sym length-is) (e ∙ ap₂ {C = List ℕ} (λ (xs : List ℕ) (k : ℕ). xs ++ drop k w) front (sym long))
 
-    -- ---- the links written from block `first` on, and the blocks filled in
+    -- ---- the blocks of links from block `first` on, and the blocks before them
 
     module _ (first : ℕ) (h : first ≡ 1 + order-blocks n) (fits : block-bytes * block-count n (length (links-from n (t .links) 0 0)) ≤ length w) where
       abbrev ls : List Link
       ls = links-from n (t .links) 0 0
 
-      few-blocks : block-bytes * block-count n (length ls) ≤ 44032
+      pub write-fit : Links-fit first n (t .links) (length w)
       unfolding block-count order-blocks blocks-for
-      few-blocks = omega (arith, write-few, write-small)
+      write-fit = record {
+        rows = (write-small, omega (arith, write-links));
+        low = omega (arith, h);
+        small = omega (arith, h, write-small);
+        few = write-few;
+        fits = omega (arith, h, fits);
+      }
 
-      pub write-room : Links-room (block-bytes * first - 4) (block-bytes * first - 4) (length ls) (length w)
-      unfolding block-count blocks-for
-      write-room =
-          record {
-            free = 0;
-            blocks = blocks-for (length ls) block-links;
-            here = omega arith;
-            room = omega arith;
-            fits = omega (arith, h, fits);
-            most = omega (arith, h, few-blocks);
-          }
+      module _ (filled : List ℕ) (blocks count : ℕ) (r : All-links-filled first ls w filled blocks count) where
+        pub write-blocks : blocks ≡ block-count n (length ls)
+        unfolding block-count
+        write-blocks = omega (arith, r .ended, h)
 
-      module _ (v : Written) (is : v ≡ links-written (written (block-bytes * first - 4) (block-bytes * first - 4) w) ls) where
-        written-blocks : Blocks-written first (blocks-for (length ls) block-links) ls w v
-        unfolding block-count blocks-for
-        written-blocks =
-            rw is (blocks-written (blocks-for (length ls) block-links) first ls w (omega (arith, h)) (omega arith) (omega arith) (omega (arith, h, fits)))
+        -- so few that their bytes are counted in 32 bits
+        pub write-length : block-bytes * blocks ≤ 44032
+        unfolding block-count order-blocks blocks-for
+        write-length = omega (arith, r .ended, h, write-few, write-small)
 
-        pub write-counted : links-before (v .at) (v .end) first ≡ length ls
-        write-counted = image-counted n first ls (t .order) w v h written-blocks
-
-        pub write-place : Place-counted (v .at) (v .end) first
-        write-place = image-place n first ls (t .order) w v h written-blocks few-blocks
-
-        pub write-done : (m blocks : ℕ) (x : List ℕ) → m ≡ length ls → blocks ≡ block-count n m
-            → x ≡ flatMap (part-filled n m (t .order) (v .bytes)) (range 0 blocks) ++ drop (block-bytes * blocks) (v .bytes)
+        pub write-done : (x : List ℕ) → x ≡ flatMap (front-block n count (t .order)) (range 0 first) ++ drop (block-bytes * first) filled
             → Write-contract n t w (record { number = 0; value = block-bytes * blocks }) x
-        write-done m blocks x e b put =
-            write-accepted blocks (b ∙ ap (block-count n) e) x (rw (b ∙ ap (block-count n) e) fits) (image-filled n first ls (t .order) w v h written-blocks m blocks x e b put)
+        unfolding block-count
+        write-done x put =
+            write-accepted blocks write-blocks x (rw write-blocks fits) (image-filled n first ls (t .order) w h filled x blocks count r (omega (arith, h, fits)) put)

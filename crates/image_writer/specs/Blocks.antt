@@ -1,95 +1,104 @@
 -- The blocks of an image as the writer fills them in: what its functions require and come back with.
---   Written                     the buffer with links written, and where the next one goes
---   link-written, links-written one link more, and links one after the other
---   Links-room                  that so many links more fit the buffer
---   links-before                how many links stand before a place
---   links-filled, block-filled, part-filled   a block of links, of any kind, and each block of a buffer, filled in
--- That what is written and filled in is the image is `image-filled` in proofs/BlockFilling.antt. Definitions only.
+--   marked-graph                the graph of the links that the rows mark
+--   Place at                    a place of a block where a link may stand, or the payload's end
+--   Links-put                   links put into a block from a place on, as many as were done, and what is left of them
+--   Stopped                     nothing is left of a word, or the block is full
+--   row-left, links-left        the links that a cursor leaves of its row, and of all rows
+--   Row-there, Rows-there       the rows that are read
+--   Row-stopped                 nothing is left of a row, or the block is full
+--   Going, Next-link            a cursor after a row, and after a block
+--   Links-filled                a block of links, filled in
+--   Links-fit, All-links-filled what all blocks of links want, and come to
+--   front-block                 a block before them
+-- That these are the image is `image-filled` in proofs/BlockFilling.antt. Definitions only.
 use mathlib.Core.Path.{_≡_}
-use mathlib.Core.Bool.{cond}
-use mathlib.Core.List.{List, [], _∷_, _++_}
-use Prim.Native.Nat.{ℕ, zero, suc, _+_, _*_, _-_, _/_, _≤_, min}
-use lib.Dec.{eqb, ltb}
-use lib.ListN.{take, drop, replicate}
+use mathlib.Core.Logic.{_⊎_}
+use mathlib.Core.List.{List, [], _++_, flatMap}
+use Prim.Native.Nat.{ℕ, zero, suc, _+_, _*_, _-_, _%_, _^_, _≤_, _<_, min}
+use lib.ListN.{length, take, drop}
 use lib.Seq.{sets}
+use Rattle.lists.specs.Lists.{range}
+use Rattle.mesh.specs.Limits.{max-radios, row-bytes}
 use Rattle.mesh.specs.Graph.{Link, Graph, graph}
-use Rattle.mesh.specs.Image.{block-bytes, block-links, word, link-bytes, block, order-blocks, order-payload}
-use Rattle.link_list.specs.Links.{links-from}
-use Rattle.image_writer.specs.Filler.{sealed}
+use Rattle.mesh.specs.Image.{block-bytes, block-links, word, link-bytes, block, blocks-for, order-payload, links-payload}
+use Rattle.rows.specs.Rows.{row-from, set-bits}
+use Rattle.link_list.specs.Links.{links-to, links-from}
 
--- the graph of the links that the rows mark
 abbrev pub marked-graph : (n : ℕ) → (links : List ℕ) → Graph
 marked-graph n ts = graph n (links-from n ts 0 0)
 
--- ---- links written over the blocks of a buffer
+-- ---- links put into a block
 
--- the bytes of the longest image
-abbrev pub most-bytes : ℕ
-most-bytes = 44032
+abbrev pub Place : (at : ℕ) → Type 0
+Place at = (at % 4 ≡ 0) × (at ≤ 508)
 
--- kind, zero and index of a block of links
-unfoldable pub links-head : (index : ℕ) → List ℕ
-links-head i = 2 ∷ 0 ∷ word i
+-- of the links ls, the first `done` stand in the block from `from` on, up to `at`
+pub record Links-put (ls : List Link) (from : ℕ) (old new : List ℕ) (at : ℕ) (left : List Link) : Type 0 where
+  pub done : ℕ
+  pub long : done ≤ length ls
+  pub place : at ≡ from + 4 * done
+  pub within : at ≤ 508
+  pub is : new ≡ sets old from (flatMap link-bytes (take done ls))
+  pub rest : left ≡ drop done ls
 
--- the next link goes to place `at`; where that is the end of its block's payload, into the next block
-pub record Written : Type 0 where
-  pub at : ℕ
-  pub end : ℕ
-  pub bytes : List ℕ
+abbrev pub Stopped : (at rest : ℕ) → Type 0
+Stopped at rest = (rest ≡ 0) ⊎ ((at ≡ 508) × (rest < 2 ^ 64))
 
-abbrev pub written : (at end : ℕ) → (bytes : List ℕ) → Written
-written a e bs = record { at = a; end = e; bytes = bs }
+-- ---- cursors
 
--- a link in the next block, whose head is written before it
-unfoldable pub link-opening : Written → Link → Written
-link-opening w l =
-    written (w .end + 12) (w .end + block-bytes)
-    (sets (sets (w .bytes) (w .end + 4) (links-head ((w .end + 4) / block-bytes))) (w .end + 8) (link-bytes l))
+unfoldable pub row-left : (links : List ℕ) → (row k first rest : ℕ) → List Link
+row-left ts a k first rest = links-to a (set-bits 64 first rest ++ row-from ts a (k + 1))
 
--- a link in the same block
-unfoldable pub link-beside : Written → Link → Written
-link-beside w l = written (w .at + 4) (w .end) (sets (w .bytes) (w .at) (link-bytes l))
+unfoldable pub links-left : (n : ℕ) → (links : List ℕ) → (row k first rest : ℕ) → List Link
+links-left n ts a k first rest = row-left ts a k first rest ++ links-from n ts (a + 1) 0
 
-unfoldable pub link-written : Written → Link → Written
-link-written w l = cond (eqb (w .at) (w .end)) (link-opening w l) (link-beside w l)
+-- nothing is left of the row, or the block is full
+abbrev pub Row-stopped : (links : List ℕ) → (at row k first rest : ℕ) → Type 0
+Row-stopped ts at a k first rest = ((rest ≡ 0) × (row-left ts a k first rest ≡ [])) ⊎ ((rest ≡ 0 → ⊥) × ((at ≡ 508) × (rest < 2 ^ 64)))
 
-unfoldable pub links-written : Written → List Link → Written
-links-written w [] = w
-links-written w (l ∷ ls) = links-written (link-written w l) ls
+abbrev pub Row-there : (a : ℕ) → (links : List ℕ) → Type 0
+Row-there a ts = (a < max-radios) × (row-bytes * a + row-bytes ≤ length ts)
 
--- a buffer of so many bytes has room for m links more: the block of the place has room for `free`, and `blocks` blocks follow it
-pub record Links-room (at end m bytes : ℕ) : Type 0 where
-  pub free : ℕ
-  pub blocks : ℕ
-  pub here : at + 4 * free ≡ end
-  pub room : m ≤ free + block-links * blocks
-  pub fits : end + 4 + block-bytes * blocks ≤ bytes
-  pub most : end + 4 + block-bytes * blocks ≤ most-bytes
+abbrev pub Rows-there : (n : ℕ) → (links : List ℕ) → Type 0
+Rows-there n ts = (n ≤ max-radios) × (row-bytes * n ≤ length ts)
 
--- how many links stand before a place, where the first is in block `first`
-unfoldable pub links-before : (at end first : ℕ) → ℕ
-links-before at end first = block-links * ((end + 4) / block-bytes - first) - (end - at) / 4
+pub record Going (row a k first : ℕ) : Type 0 where
+  pub same : row ≡ a
+  pub low : k < 8
+  pub small : first ≤ max-radios
 
--- a place of that kind
-pub record Place-counted (at end first : ℕ) : Type 0 where
-  pub blocks : ℕ
-  pub last : end + 4 ≡ block-bytes * (first + blocks)
-  pub low : at ≤ end
-  pub high : end ≤ at + 4 * (block-links * blocks)
-  pub most : end + 4 ≤ most-bytes
+-- the block is full and a link is left, or none is
+pub record Next-link (n : ℕ) (links : List ℕ) (at row k first rest : ℕ) : Type 0 where
+  pub low : k < 8
+  pub small : first ≤ max-radios
+  pub either : ((row < n) × (rest ≡ 0 → ⊥) × ((at ≡ 508) × (rest < 2 ^ 64))) ⊎ ((n ≤ row) × (links-left n links row k first rest ≡ []))
 
 -- ---- blocks filled in
 
--- a block whose head and links are written, `used` of them: zeros after them, and the check
-unfoldable pub links-filled : (used : ℕ) → (part : List ℕ) → List ℕ
-links-filled used part = sealed (take (4 + 4 * used) part ++ replicate (block-bytes - (4 + 4 * used)) 0)
+pub record Links-filled (index : ℕ) (ls : List Link) (new : List ℕ) (at : ℕ) (left : List Link) : Type 0 where
+  pub is : new ≡ block 2 index (flatMap link-bytes (take block-links ls))
+  pub place : at ≡ 4 + 4 * min block-links (length ls)
+  pub rest : left ≡ drop block-links ls
 
--- block i of the image of n radios and m links
-unfoldable pub block-filled : (n m : ℕ) → (order part : List ℕ) → (i : ℕ) → List ℕ
-block-filled n m order part zero = block 0 0 (word n ++ word m)
-block-filled n m order part (suc j) =
-    cond (ltb j (order-blocks n)) (block 1 (suc j) (order-payload order j)) (links-filled (min block-links (m - block-links * (j - order-blocks n))) part)
+pub record Links-fit (first n : ℕ) (links : List ℕ) (bytes : ℕ) : Type 0 where
+  pub rows : Rows-there n links
+  pub low : 1 ≤ first
+  pub small : first ≤ 4
+  pub few : length (links-from n links 0 0) ≤ 10240
+  pub fits : block-bytes * (first + blocks-for (length (links-from n links 0 0)) block-links) ≤ bytes
 
--- the same, where the block is part i of a buffer
-unfoldable pub part-filled : (n m : ℕ) → (order buffer : List ℕ) → (i : ℕ) → List ℕ
-part-filled n m order buffer i = block-filled n m order (take block-bytes (drop (block-bytes * i) buffer)) i
+-- block j of the ones from block `first` on
+unfoldable pub links-block : (first : ℕ) → (ls : List Link) → (j : ℕ) → List ℕ
+links-block first ls j = block 2 j (links-payload ls (j - first))
+
+pub record All-links-filled (first : ℕ) (ls : List Link) (start new : List ℕ) (blocks count : ℕ) : Type 0 where
+  pub ended : blocks ≡ first + blocks-for (length ls) block-links
+  pub counted : count ≡ length ls
+  pub long : length new ≡ length start
+  pub is :
+      new ≡ take (block-bytes * first) start ++ (flatMap (links-block first ls) (range first (blocks-for (length ls) block-links))
+      ++ drop (block-bytes * (first + blocks-for (length ls) block-links)) start)
+
+unfoldable pub front-block : (n m : ℕ) → (order : List ℕ) → (i : ℕ) → List ℕ
+front-block n m order zero = block 0 0 (word n ++ word m)
+front-block n m order (suc j) = block 1 (suc j) (order-payload order j)

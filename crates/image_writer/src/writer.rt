@@ -1,22 +1,22 @@
-// The image writer. The links are written first, over the blocks that hold them, and where they end tells how many they are; then each
-// block is filled in through its own part of the buffer.
+// The image writer. Each block is filled in through its own part of the buffer: the blocks of links first, since where they end tells how
+// many links there are, then the others.
 ghost use mathlib.Core.Path.{_≡_};
 ghost use mathlib.Core.List.{_++_, flatMap};
-ghost use Prim.Native.Nat.{_≤_, _<_, _+_, _*_, _/_};
+ghost use Prim.Native.Nat.{_≤_, _<_, _+_, _*_};
 ghost use lib.Dec.{leb};
 ghost use lib.ListN.{length, take, drop};
 ghost use lib.Seq.{sets};
 ghost use Rattle.lists.specs.Lists.{range};
 ghost use Rattle.mesh.specs.Graph.{link-of};
-ghost use Rattle.mesh.specs.Image.{block-bytes, block-entries, block-links, block-count, word, link-bytes, block};
+ghost use Rattle.mesh.specs.Image.{block-bytes, block-entries, block-count, order-blocks, word, link-bytes, block};
 ghost use Rattle.mesh.specs.Limits.{max-radios, max-neighbours, row-bytes};
 ghost use Rattle.mesh.specs.Lent.{lent};
 ghost use Rattle.calls.specs.Contracts.{Write-contract};
-ghost use Rattle.rows.specs.Rows.{neighbours-above, row-from, row-word, set-bits};
+ghost use Rattle.rows.specs.Rows.{row-from, row-word, set-bits};
 ghost use Rattle.link_list.specs.Links.{links-to, links-above, links-from, Rows-listed};
 ghost use Rattle.image_writer.specs.Filler.{opened, sealed};
-ghost use Rattle.image_writer.specs.Blocks.{most-bytes, links-head, written, link-written, links-written, Links-room};
-ghost use Rattle.image_writer.specs.Blocks.{links-before, Place-counted, links-filled, block-filled, part-filled};
+ghost use Rattle.image_writer.specs.Blocks.{Place, Links-put, Stopped, Row-stopped, Row-there, Rows-there, row-left, links-left, Going, Next-link};
+ghost use Rattle.image_writer.specs.Blocks.{Links-filled, Links-fit, All-links-filled, front-block};
 use calls::Refusal;
 use calls::Value;
 use image::checks;
@@ -25,8 +25,6 @@ use mesh::Site;
 
 // The figures that count places.
 const ENTRIES: usize = layout::ENTRIES as usize;
-
-const LINKS: usize = layout::LINKS as usize;
 
 // Writes x as two bytes from `at` on, lowest first.
 fn put_word(part: &mut [u8], at: usize, x: u32)
@@ -101,57 +99,40 @@ fn put_link(part: &mut [u8], at: usize, a: u32, b: u32)
     put_word(part, at + 2, b);
 }
 
-// Where the next link goes: place `at` of the buffer; or, where that is the end of its block's payload, into the next block.
-struct Place {
+// How far the links are written: up to place `at` of a block. Left are the radios that the set bits of `rest` mark, from radio `first` on, in
+// row `row`; then its words after word k; then the rows after it.
+struct Cursor {
     at: usize,
-    end: usize,
+    row: u32,
+    k: u32,
+    first: u32,
+    rest: u64,
 }
 
-// The head of a block of links, which starts at `at`.
-fn put_head(buffer: &mut [u8], at: usize)
-    requires { ⌜ (at + 4 ≤ length (now buffer)) × (at ≤ most-bytes) ⌝ }
-    ensures { λ _. ⌜ now (buffer .exit) ≡ sets (now (buffer .entry)) at (links-head (at / block-bytes)) ⌝ }
-{
-    buffer[at] = 2;
-    buffer[at + 1] = 0;
-    put_word(buffer, at + 2, (at / layout::BLOCK) as u32);
+// How far a word is written.
+struct Bits {
+    at: usize,
+    rest: u64,
 }
 
-// Writes the link of a and b, of which a is the lower, and comes back with the place after it. The next block is opened only by a link
-// that stands in it.
-fn add_link(buffer: &mut [u8], place: Place, a: u32, b: u32) -> Place
-    requires { ⌜ Links-room (place .at) (place .end) 1 (length (now buffer)) ⌝ }
-    ensures { λ r. ⌜ written (r .at) (r .end) (now (buffer .exit))
-        ≡ link-written (written (place .at) (place .end) (now (buffer .entry))) (link-of a b) ⌝ }
+// Writes the links of a to the radios that a word marks, from radio `first` on, into the block from `from` on, until it is full.
+fn put_bits(part: &mut [u8], from: usize, a: u32, first: u32, word: u64) -> Bits
+    requires { ⌜ (length (now part) ≡ block-bytes) × Place from × (first ≤ max-radios) ⌝ }
+    ensures put { λ r. ⌜ Links-put (links-to a (set-bits 64 first word)) from (now (part .entry)) (now (part .exit)) (r .at)
+        (links-to a (set-bits 64 first (r .rest))) ⌝ }
+    ensures stopped { λ r. ⌜ Stopped (r .at) (r .rest) ⌝ }
 {
-    if place.at == place.end {
-        put_head(buffer, place.end + 4);
-        put_link(buffer, place.end + 8, a, b);
-        return Place {
-            at: place.end + 12,
-            end: place.end + layout::BLOCK,
-        };
-    }
-    put_link(buffer, place.at, a, b);
-    Place {
-        at: place.at + 4,
-        end: place.end,
-    }
-}
-
-// Writes the links of a to the radios that a word marks, from radio `first` on.
-fn put_bits(buffer: &mut [u8], from: Place, a: u32, first: u32, word: u64) -> Place
-    requires { ⌜ (first ≤ max-radios) × Links-room (from .at) (from .end) (length (set-bits 64 first word)) (length (now buffer)) ⌝ }
-    ensures { λ r. ⌜ written (r .at) (r .end) (now (buffer .exit))
-        ≡ links-written (written (from .at) (from .end) (now (buffer .entry))) (links-to a (set-bits 64 first word)) ⌝ }
-{
-    let mut place = from;
+    let mut at = from;
     let mut rest = word;
     while rest != 0 {
-        place = add_link(buffer, place, a, first + u64::trailing_zeros(rest));
+        if at == layout::BODY {
+            return Bits { at, rest };
+        }
+        put_link(part, at, a, first + u64::trailing_zeros(rest));
+        at += 4;
         rest = rest & (rest - 1);
     }
-    place
+    Bits { at, rest }
 }
 
 // Word k of row a.
@@ -164,84 +145,179 @@ fn row_word(links: &[u8], a: u32, k: u32) -> u64
     rows::word_of(&links[at..end], 0)
 }
 
-// Writes the links of a to the radios that its row marks from word `first` on.
-fn put_words(buffer: &mut [u8], from: Place, links: &[u8], a: u32, first: u32) -> Place
-    requires { ⌜ (a < max-radios) × (first ≤ 8) × (row-bytes * a + row-bytes ≤ length (now links)) ×
-        Links-room (from .at) (from .end) (length (row-from (now links) a first)) (length (now buffer)) ⌝ }
-    ensures { λ r. ⌜ written (r .at) (r .end) (now (buffer .exit))
-        ≡ links-written (written (from .at) (from .end) (now (buffer .entry))) (links-to a (row-from (now (links .entry)) a first)) ⌝ }
+// Writes the links of a to the radios that its row marks from word `first` on, until the block is full.
+fn put_words(part: &mut [u8], from: usize, links: &[u8], a: u32, first: u32) -> Cursor
+    requires { ⌜ (length (now part) ≡ block-bytes) × Place from × (first ≤ 8) × Row-there a (now links) ⌝ }
+    ensures put { λ r. ⌜ Links-put (links-to a (row-from (now (links .entry)) a first)) from (now (part .entry)) (now (part .exit)) (r .at)
+        (row-left (now (links .entry)) a (r .k) (r .first) (r .rest)) ⌝ }
+    ensures stopped { λ r. ⌜ Row-stopped (now (links .entry)) (r .at) a (r .k) (r .first) (r .rest) × Going (r .row) a (r .k) (r .first) ⌝ }
 {
-    let mut place = from;
+    let mut at = from;
     let mut k = first;
     while k < rows::ROW_WORDS {
-        place = put_bits(buffer, place, a, rows::WORD_BITS * k, row_word(links, a, k));
+        let put = put_bits(part, at, a, rows::WORD_BITS * k, row_word(links, a, k));
+        at = put.at;
+        if put.rest != 0 {
+            return Cursor {
+                at,
+                row: a,
+                k,
+                first: rows::WORD_BITS * k,
+                rest: put.rest,
+            };
+        }
         k += 1;
     }
-    place
+    Cursor {
+        at,
+        row: a,
+        k: rows::ROW_WORDS - 1,
+        first: 0,
+        rest: 0,
+    }
 }
 
-// Writes the links of a to the radios above it that its row marks: the bits up to its own are shifted out of its word.
-fn put_row(buffer: &mut [u8], from: Place, links: &[u8], a: u32) -> Place
-    requires { ⌜ (a < max-radios) × (row-bytes * a + row-bytes ≤ length (now links)) ×
-        Links-room (from .at) (from .end) (length (neighbours-above (now links) a)) (length (now buffer)) ⌝ }
-    ensures { λ r. ⌜ written (r .at) (r .end) (now (buffer .exit))
-        ≡ links-written (written (from .at) (from .end) (now (buffer .entry))) (links-above (now (links .entry)) a) ⌝ }
+// Writes what a cursor leaves of its row, until the block is full.
+fn put_row(part: &mut [u8], links: &[u8], c: Cursor) -> Cursor
+    requires { ⌜ (length (now part) ≡ block-bytes) × Place (c .at) × (c .k < 8) × (c .first ≤ max-radios) × Row-there (c .row) (now links) ⌝ }
+    ensures put { λ r. ⌜ Links-put (row-left (now (links .entry)) (c .row) (c .k) (c .first) (c .rest)) (c .at) (now (part .entry))
+        (now (part .exit)) (r .at) (row-left (now (links .entry)) (c .row) (r .k) (r .first) (r .rest)) ⌝ }
+    ensures stopped { λ r. ⌜ Row-stopped (now (links .entry)) (r .at) (c .row) (r .k) (r .first) (r .rest) × Going (r .row) (c .row) (r .k) (r .first) ⌝ }
+{
+    let own = put_bits(part, c.at, c.row, c.first, c.rest);
+    if own.rest != 0 {
+        return Cursor {
+            at: own.at,
+            row: c.row,
+            k: c.k,
+            first: c.first,
+            rest: own.rest,
+        };
+    }
+    put_words(part, own.at, links, c.row, c.k + 1)
+}
+
+// The cursor before the links of row a to the radios above it: the bits up to its own are shifted out of its word.
+fn row_start(links: &[u8], a: u32, at: usize) -> Cursor
+    requires { ⌜ Row-there a (now links) ⌝ }
+    ensures started { λ r. ⌜ row-left (now (links .entry)) a (r .k) (r .first) (r .rest) ≡ links-above (now (links .entry)) a ⌝ }
+    ensures there { λ r. ⌜ (r .at ≡ at) × (r .row ≡ a) × (r .k < 8) × (r .first ≤ max-radios) ⌝ }
 {
     let k = a / rows::WORD_BITS;
-    let word = row_word(links, a, k) >> (a % rows::WORD_BITS) >> 1;
-    let place = put_bits(buffer, from, a, a + 1, word);
-    put_words(buffer, place, links, a, k + 1)
+    Cursor {
+        at,
+        row: a,
+        k,
+        first: a + 1,
+        rest: row_word(links, a, k) >> (a % rows::WORD_BITS) >> 1,
+    }
 }
 
-// Writes the links that the first n rows mark.
-fn put_links(buffer: &mut [u8], from: Place, n: u32, links: &[u8]) -> Place
-    requires { ⌜ (n ≤ max-radios) × (row-bytes * n ≤ length (now links)) ×
-        Links-room (from .at) (from .end) (length (links-from n (now links) 0 0)) (length (now buffer)) ⌝ }
-    ensures { λ r. ⌜ written (r .at) (r .end) (now (buffer .exit))
-        ≡ links-written (written (from .at) (from .end) (now (buffer .entry))) (links-from n (now (links .entry)) 0 0) ⌝ }
+// Writes the links that the rows from row `first` on mark, until the block is full, and comes back with where the next one is.
+fn put_rows(part: &mut [u8], from: usize, n: u32, links: &[u8], first: u32) -> Cursor
+    requires { ⌜ (length (now part) ≡ block-bytes) × Place from × (first ≤ n) × Rows-there n (now links) ⌝ }
+    ensures put { λ r. ⌜ Links-put (links-from n (now (links .entry)) first 0) from (now (part .entry)) (now (part .exit)) (r .at)
+        (links-left n (now (links .entry)) (r .row) (r .k) (r .first) (r .rest)) ⌝ }
+    ensures stopped { λ r. ⌜ Next-link n (now (links .entry)) (r .at) (r .row) (r .k) (r .first) (r .rest) ⌝ }
 {
-    let mut place = from;
-    let mut a: u32 = 0;
+    let mut at = from;
+    let mut a = first;
     while a < n {
-        place = put_row(buffer, place, links, a);
+        let put = put_row(part, links, row_start(links, a, at));
+        at = put.at;
+        if put.rest != 0 {
+            return put;
+        }
         a += 1;
     }
-    place
+    Cursor {
+        at,
+        row: n,
+        k: rows::ROW_WORDS - 1,
+        first: 0,
+        rest: 0,
+    }
 }
 
-// A block of kind 2, which has its head and `used` links: zeros after them, and the check.
-fn fill_links(part: &mut [u8], used: usize)
-    requires { ⌜ (length (now part) ≡ block-bytes) × (used ≤ block-links) ⌝ }
-    ensures { λ _. ⌜ now (part .exit) ≡ links-filled used (now (part .entry)) ⌝ }
+// Writes the links that a cursor leaves into the payload, as many as a block has, and comes back with where the next one is.
+fn put_links(part: &mut [u8], n: u32, links: &[u8], c: Cursor) -> Cursor
+    requires { ⌜ (length (now part) ≡ block-bytes) × (c .at ≡ 4) × (c .row < n) × (c .k < 8) × (c .first ≤ max-radios) × Rows-there n (now links) ⌝ }
+    ensures put { λ r. ⌜ Links-put (links-left n (now (links .entry)) (c .row) (c .k) (c .first) (c .rest)) 4 (now (part .entry))
+        (now (part .exit)) (r .at) (links-left n (now (links .entry)) (r .row) (r .k) (r .first) (r .rest)) ⌝ }
+    ensures stopped { λ r. ⌜ Next-link n (now (links .entry)) (r .at) (r .row) (r .k) (r .first) (r .rest) ⌝ }
 {
-    let end = layout::HEAD + 4 * used;
+    let own = put_row(part, links, c);
+    if own.rest != 0 {
+        return own;
+    }
+    put_rows(part, own.at, n, links, c.row + 1)
+}
+
+// A block of kind 2: the links that a cursor leaves, as many as it has room for. Comes back with where it ends and the next link is.
+fn fill_links(part: &mut [u8], index: u32, n: u32, links: &[u8], c: Cursor) -> Cursor
+    requires { ⌜ (length (now part) ≡ block-bytes) × (c .row < n) × (c .k < 8) × (c .first ≤ max-radios) × Rows-there n (now links) ⌝ }
+    ensures filled { λ r. ⌜ Links-filled index (links-left n (now (links .entry)) (c .row) (c .k) (c .first) (c .rest)) (now (part .exit)) (r .at)
+        (links-left n (now (links .entry)) (r .row) (r .k) (r .first) (r .rest)) ⌝ }
+    ensures stopped { λ r. ⌜ Next-link n (now (links .entry)) (r .at) (r .row) (r .k) (r .first) (r .rest) ⌝ }
+{
+    part[0] = 2;
+    part[1] = 0;
+    put_word(part, 2, index);
+    let from = Cursor {
+        at: layout::HEAD,
+        row: c.row,
+        k: c.k,
+        first: c.first,
+        rest: c.rest,
+    };
+    let next = put_links(part, n, links, from);
+    let end = next.at;
     tables::fill::fill8(&mut part[end..], 0);
     close_block(part);
+    next
 }
 
-// Block i of the image of n radios and `count` links: where it is one of links, its head and links stand in it already.
+// Where the links end: the number of the block after them, and how many they are.
+struct Ended {
+    blocks: u32,
+    count: u32,
+}
+
+// Fills the blocks of links from block `first` on, each through its own part of the buffer; all other bytes keep their content. A full block
+// takes no link: so the first one is found.
+fn fill_link_blocks(first: u32, n: u32, links: &[u8], buffer: &mut [u8]) -> Ended
+    requires { ⌜ Links-fit first n (now links) (length (now buffer)) ⌝ }
+    ensures { λ r. ⌜ All-links-filled first (links-from n (now (links .entry)) 0 0) (now (buffer .entry)) (now (buffer .exit)) (r .blocks) (r .count) ⌝ }
+{
+    let mut c = put_rows(&mut buffer[0..layout::BLOCK], layout::BODY, n, links, 0);
+    let mut i = first;
+    let mut count: u32 = 0;
+    while c.row < n {
+        let at = layout::BLOCK * i as usize;
+        let end = at + layout::BLOCK;
+        c = fill_links(&mut buffer[at..end], i, n, links, c);
+        count += ((c.at - layout::HEAD) / 4) as u32;
+        i += 1;
+    }
+    Ended { blocks: i, count }
+}
+
+// Block i of the image of n radios and `count` links, of the ones before its links.
 fn fill_block(part: &mut [u8], i: u32, n: u32, count: u32, order: &[u16])
-    requires { ⌜ (length (now part) ≡ block-bytes) × (length (now order) ≡ n) × (i < block-count n count) × (n ≤ max-radios) ⌝ }
-    ensures { λ _. ⌜ now (part .exit) ≡ block-filled n count (now (order .entry)) (now (part .entry)) i ⌝ }
+    requires { ⌜ (length (now part) ≡ block-bytes) × (length (now order) ≡ n) × (i ≤ order-blocks n) × (n ≤ max-radios) ⌝ }
+    ensures { λ _. ⌜ now (part .exit) ≡ front-block n count (now (order .entry)) i ⌝ }
 {
     if i == 0 {
         fill_counts(part, n, count);
         return;
     }
-    let orders = layout::blocks_for(n, layout::ENTRIES);
-    if i <= orders {
-        fill_order(part, i, order, ENTRIES * (i as usize - 1));
-        return;
-    }
-    let before = layout::LINKS * (i - 1 - orders);
-    fill_links(part, tables::fill::least(LINKS, (count - before) as usize));
+    fill_order(part, i, order, ENTRIES * (i as usize - 1));
 }
 
-// Fills the blocks, each through its own part of the buffer; bytes past them keep their content.
+// Fills the blocks before the links, each through its own part of the buffer; bytes past them keep their content.
 fn fill_blocks(blocks: u32, n: u32, count: u32, order: &[u16], buffer: &mut [u8])
-    requires { ⌜ (block-bytes * blocks ≤ length (now buffer)) × (length (now order) ≡ n) × (blocks ≡ block-count n count) × (n ≤ max-radios) ⌝ }
-    ensures { λ _. ⌜ now (buffer .exit)
-        ≡ flatMap (part-filled n count (now (order .entry)) (now (buffer .entry))) (range 0 blocks)
+    requires { ⌜ (block-bytes * blocks ≤ length (now buffer)) × (length (now order) ≡ n) × (blocks ≡ 1 + order-blocks n) × (n ≤ max-radios) ⌝ }
+    ensures { λ _. ⌜ now (buffer .exit) ≡ flatMap (front-block n count (now (order .entry))) (range 0 blocks)
         ++ drop (block-bytes * blocks) (now (buffer .entry)) ⌝ }
 {
     let mut i: u32 = 0;
@@ -268,15 +344,6 @@ fn has_room(n: u32, links: &[u8], bytes: usize) -> bool
     layout::BLOCK * layout::block_count(n, count) as usize <= bytes
 }
 
-// How many links stand before the place, where the first is in block `first`.
-fn links_before(place: Place, first: u32) -> u32
-    requires { ⌜ Place-counted (place .at) (place .end) first ⌝ }
-    ensures { λ r. ⌜ r ≡ links-before (place .at) (place .end) first ⌝ }
-{
-    let blocks = ((place.end + 4) / layout::BLOCK) as u32 - first;
-    layout::LINKS * blocks - ((place.end - place.at) / 4) as u32
-}
-
 // Writes the image of sound tables in front of the buffer; the value is its length in bytes, and bytes past it keep their
 // content. Refused by 1 to 3 and 9: then the value is 0 and the buffer keeps its content.
 pub fn write(n: u32, links: &[u8], numbers: &[u8], order: &[u16], buffer: &mut [u8]) -> Value
@@ -293,13 +360,10 @@ pub fn write(n: u32, links: &[u8], numbers: &[u8], order: &[u16], buffer: &mut [
         };
     }
     let first = 1 + layout::blocks_for(n, layout::ENTRIES);
-    let end = layout::BLOCK * first as usize - 4;
-    let place = put_links(buffer, Place { at: end, end }, n, links);
-    let count = links_before(place, first);
-    let blocks = layout::block_count(n, count);
-    fill_blocks(blocks, n, count, order, buffer);
+    let links_end = fill_link_blocks(first, n, links, buffer);
+    fill_blocks(first, n, links_end.count, order, buffer);
     Value {
         number: 0,
-        value: layout::BLOCK as u32 * blocks,
+        value: layout::BLOCK as u32 * links_end.blocks,
     }
 }

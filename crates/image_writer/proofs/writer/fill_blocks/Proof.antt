@@ -1,19 +1,18 @@
 -- `writer::fill_blocks` meets its contract: the blocks so far stand in front of the buffer, and the rest is as it was. The measure is
 -- the blocks left.
-use mathlib.Core.Path.{_≡_, ap, _∙_}
-use mathlib.Core.List.{List}
-use Prim.Native.Nat.{ℕ, _+_, _*_, _-_, _≤_}
+use Prim.Native.Nat.{_+_, _*_, _-_, _≤_}
+use mathlib.Core.Path.{_≡_}
 use native.Mathlib.Omega.{arith}
 use lib.ListN.{drop, length-drop}
 use lib.Seq.{length-take-le}
 use borrow.Author.Needs.{needs}
-use Rattle.image_writer.specs.Blocks.{block-filled, part-filled}
-use Rattle.image_writer.proofs.BlockFilling.{Filling, filling-none, filling-turn, filling-end, filling-part}
+use Rattle.image_writer.specs.Blocks.{front-block}
+use Rattle.image_writer.proofs.BlockFilling.{Filling, filling-none, filling-turn, filling-end}
 use Rattle.image_writer.proofs.writer.fill_blocks.Statement.{statement}
 use Rattle.image_writer.proofs.writer.fill_blocks.Tie as tie
 
 abbrev Inv-loop : tie.InvT-loop
-Inv-loop blocks n count order buffer₀ i₀ buffer i = (i ≤ blocks) × Filling (part-filled n count order buffer₀) buffer₀ i buffer
+Inv-loop blocks n count order buffer₀ i₀ buffer i = (i ≤ blocks) × Filling (front-block n count order) buffer₀ 0 i buffer
 
 abbrev μ-loop : tie.MeasureT-loop
 μ-loop blocks n count order buffer₀ i₀ buffer i = blocks - i
@@ -31,23 +30,20 @@ fill-block-requires c κs =
     )
 
 loop-again : tie.Need-loop-again Inv-loop μ-loop
-unfolding part-filled
 loop-again c =
     let filled = c .before .before in
     let at-loop = filled .before .before .before in
-    let call = at-loop .before .before .before .args in
     let i = at-loop .loop .i in
     let k = 512 * i + 512 - 512 * i in (
       omega arith,
-      filling-turn _ _ i k _ (at-loop .loop .inv .1) (omega arith) _ (omega (arith, at-loop .loop .inv .1 .long)) (filled .fill-block .kept .0)
-          (filled .fill-block .ensures
-          ∙ ap (λ (part : List ℕ). block-filled (call .n) (call .count) (call .order .now) part i) (filling-part _ _ i k _ (at-loop .loop .inv .1) (omega arith))),
+      filling-turn _ _ 0 i k _ (at-loop .loop .inv .1) (omega arith) _ (omega (arith, at-loop .loop .inv .1 .long)) (filled .fill-block .kept .0)
+          (filled .fill-block .ensures),
     )
 
 pub fill-blocks-spec : {M : Type 1} → statement M
 fill-blocks-spec =
     tie.close (
-    tie.spec Inv-loop μ-loop (λ c. (omega arith, filling-none _ _)) (λ c. search needs) (λ c. omega (arith, c .before .loop .inv .1 .long))
+    tie.spec Inv-loop μ-loop (λ c. (omega arith, filling-none _ _ 0 (omega arith))) (λ c. search needs) (λ c. omega (arith, c .before .loop .inv .1 .long))
     (λ c. omega (arith, c .before .loop .inv .1 .long)) (λ c. omega (arith, c .before .loop .inv .1 .long)) (λ c. omega (arith, c .before .loop .inv .1 .long))
     (λ c. omega (arith, c .before .loop .inv .1 .long)) fill-block-requires (λ c. search needs) (λ c. search needs) loop-again
     (λ c. c .before .loop .inv .1 .long) (λ c. filling-end _ _ _ _ _ (c .before .loop .inv .1) (omega arith)))

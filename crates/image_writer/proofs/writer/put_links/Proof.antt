@@ -1,61 +1,57 @@
--- `writer::put_links` meets its contract: the links of the rows from a on give what all of them give (`Writing`). The measure is the
--- rows left.
-use mathlib.Core.Path.{sym}
-use Prim.Native.Nat.{_+_, _-_, _≤_}
+-- `writer::put_links` meets its contract: what the cursor leaves of its row first; where nothing of that is left, the rows after it.
+use mathlib.Core.Path.{refl, _∙_}
+use mathlib.Core.Logic.{inl}
 use native.Mathlib.Omega.{arith}
 use borrow.Author.Needs.{needs}
-use Rattle.mesh.specs.Graph.{link-of}
-use Rattle.lists.proofs.Map.{length-map}
-use Rattle.rows.specs.Rows.{neighbours-above}
-use Rattle.link_list.specs.Links.{links-above, links-from}
-use Rattle.link_list.proofs.LinksFrom.{links-from-end}
-use Rattle.image_writer.specs.Blocks.{written}
-use Rattle.image_writer.proofs.LinksWritten.{Writing, writing-none, writing-room, writing-part, writing-end, links-rows}
+use Rattle.image_writer.proofs.LinksPut.{left-stop-as, left-turn-as, row-none, row-full}
 use Rattle.image_writer.proofs.writer.put_links.Statement.{statement}
 use Rattle.image_writer.proofs.writer.put_links.Tie as tie
 
-abbrev Inv-loop : tie.InvT-loop
-Inv-loop buffer₀ n links place₀ a₀ buffer place a =
-    (a ≤ n) × Writing (links-from n links 0 0) (written (place₀ .at) (place₀ .end) buffer₀) (links-from n links a 0) (written (place .at) (place .end) buffer)
-
-abbrev μ-loop : tie.MeasureT-loop
-μ-loop buffer₀ n links place₀ a₀ buffer place a = n - a
-
-put-row-requires : tie.Need-put-row-requires Inv-loop μ-loop
-unfolding links-above
+put-row-requires : tie.Need-put-row-requires
 put-row-requires c κs =
-    let turn = c .before in
-    let at-loop = turn .before in
-    let start = at-loop .before .before .before in
-    let call = start .args in
-    let a = at-loop .loop .a in
-    let row = links-rows (call .n) (call .links .now) a (turn .loop-test .taken) in (
-      omega (arith, start .pre .0),
-      omega (arith, start .pre .1),
-      writing-room _ _ (links-above (call .links .now) a) (links-from (call .n) (call .links .now) (a + 1) 0) _ _
-          (sym (length-map (link-of a) (neighbours-above (call .links .now) a))) (rw row at (at-loop .loop .inv .1)),
+    let start = c .before .before .before in
+    let rows = start .pre .5 in (
+      start .pre .0,
+      (omega (arith, start .pre .1), omega (arith, start .pre .1)),
+      start .pre .3,
+      start .pre .4,
+      (omega (arith, start .pre .2, rows .0), omega (arith, start .pre .2, rows .1)),
     )
 
-loop-again : tie.Need-loop-again Inv-loop μ-loop
-loop-again c =
-    let put = c .before .before in
-    let turn = put .before .before in
-    let at-loop = turn .before in
-    let call = at-loop .before .before .before .args in
-    let a = at-loop .loop .a in
-    let row = links-rows (call .n) (call .links .now) a (turn .loop-test .taken) in (
-      omega arith,
-      writing-part _ _ (links-above (call .links .now) a) (links-from (call .n) (call .links .now) (a + 1) 0) _ _ (rw row at (at-loop .loop .inv .1))
-          (put .put-row .ensures) (put .put-row .kept .0),
-    )
-
-returns : tie.Need-returns Inv-loop μ-loop
+returns : tie.Need-returns
 returns c =
-    let call = c .before .before .before .before .args in
-    writing-end _ _ _ _ (links-from-end (call .n) (call .links .now) (c .before .loop .a) 0 (c .loop-test .left)) (c .before .loop .inv .1)
+    let put = c .before .before .before .before in
+    let start = put .before .before .before .before in
+    let went = put .put-row .ensures .1 in (
+      left-stop-as _ _ _ _ _ _ (start .pre .1) _ _ _ (put .put-row .ensures .0) _ (went .1 .same),
+      record {
+        low = went .1 .low;
+        small = went .1 .small;
+        either = inl (omega (arith, went .1 .same, start .pre .2), c .if1 .taken, row-full _ _ _ _ _ _ (went .0) (c .if1 .taken));
+      },
+    )
+
+put-rows-requires : tie.Need-put-rows-requires
+put-rows-requires c κs =
+    let put = c .before .before .before .before .before .before in
+    let start = put .before .before .before .before in (
+      put .put-row .kept .0 ∙ start .pre .0,
+      (omega (arith, start .pre .1, put .put-row .ensures .0 .place), put .put-row .ensures .0 .within),
+      omega (arith, start .pre .2),
+      start .pre .5,
+    )
+
+returns-2 : tie.Need-returns-2
+returns-2 c =
+    let rows = c .before .before in
+    let put = rows .before .before .before .before .before .before .before in
+    let start = put .before .before .before .before in (
+      left-turn-as _ _ _ _ _ _ (start .pre .1) _ _ _ (put .put-row .ensures .0)
+          (row-none _ _ _ _ _ _ (put .put-row .ensures .1 .0) (rows .before .before .before .if1 .left)) _ _ _ (rows .put-rows .ensures .0),
+      rows .put-rows .ensures .1,
+    )
 
 pub put-links-spec : {M : Type 1} → statement M
 put-links-spec =
     tie.close (
-    tie.spec Inv-loop μ-loop (λ c. (omega arith, writing-none _ _ (c .before .before .pre .2))) put-row-requires (λ c. search needs) (λ c. search needs) loop-again
-    (λ c. c .before .loop .inv .1 .long) returns)
+    tie.spec put-row-requires (λ c. search needs) returns (λ c. search needs) put-rows-requires (λ c. search needs) returns-2)

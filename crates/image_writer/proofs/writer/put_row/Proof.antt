@@ -1,73 +1,43 @@
--- `writer::put_row` meets its contract: the links of what is left of the row's own word, and then of the words after it.
-use mathlib.Core.Path.{refl, sym, _∙_}
-use Prim.Native.Nat.{_+_, _/_, _%_, _^_}
+-- `writer::put_row` meets its contract: the cursor's word first; where nothing of it is left, the words after it.
+use mathlib.Core.Path.{refl, _∙_}
+use mathlib.Core.Logic.{inr}
 use native.Mathlib.Omega.{arith}
-use lib.ListN.{length}
 use borrow.Author.Needs.{needs}
-use Rattle.mesh.specs.Graph.{link-of}
-use Rattle.lists.proofs.Map.{length-map}
-use Rattle.rows.specs.Rows.{row-from, set-bits}
-use Rattle.link_list.specs.Links.{links-to}
-use Rattle.image_writer.specs.Blocks.{written}
-use Rattle.image_writer.proofs.LinksWritten.{room-less, writing-room, writing-part, row-writing}
+use Rattle.image_writer.proofs.LinksPut.{row-stop, row-turn, full-of}
 use Rattle.image_writer.proofs.writer.put_row.Statement.{statement}
 use Rattle.image_writer.proofs.writer.put_row.Tie as tie
 
 put-bits-requires : tie.Need-put-bits-requires
-put-bits-requires c κs =
-    let read = c .before in
-    let given = read .before in
-    let start = given .before .before in
-    let call = start .args in
-    let x = read .row-word .result / 2 ^ (call .a % 64) / 2 ^ 1 in
-    let old = written (call .from .at) (call .from .end) (call .buffer .now) in
-    let whole =
-    row-writing (call .links .now) (λ j. given .shared-slice-known .given j .fits) (call .a) (read .row-word .result) x (start .pre .0) (start .pre .1)
-    (read .row-word .ensures) refl old (start .pre .2) in (
-      omega (arith, start .pre .0),
-      writing-room _ old (links-to (call .a) (set-bits 64 (call .a + 1) x)) (links-to (call .a) (row-from (call .links .now) (call .a) (call .a / 64 + 1))) _ old
-          (sym (length-map (link-of (call .a)) (set-bits 64 (call .a + 1) x))) whole,
+put-bits-requires c κs = let start = c .before .before .before in (start .pre .0, start .pre .1, start .pre .3)
+
+returns : tie.Need-returns
+returns c =
+    let put = c .before .before .before .before in
+    let start = put .before .before .before .before in (
+      row-stop (start .args .links .now) _ (start .args .c .k) _ _ _ (put .put-bits .ensures .0),
+      (inr (c .if1 .taken, full-of (put .put-bits .ensures .1) (c .if1 .taken)), record { same = refl; low = start .pre .2; small = start .pre .3 }),
     )
 
 put-words-requires : tie.Need-put-words-requires
 put-words-requires c κs =
-    let put = c .before .before .before in
-    let read = put .before .before in
-    let given = read .before in
-    let start = given .before .before in
-    let call = start .args in
-    let x = read .row-word .result / 2 ^ (call .a % 64) / 2 ^ 1 in
-    let old = written (call .from .at) (call .from .end) (call .buffer .now) in
-    let whole =
-    row-writing (call .links .now) (λ j. given .shared-slice-known .given j .fits) (call .a) (read .row-word .result) x (start .pre .0) (start .pre .1)
-    (read .row-word .ensures) refl old (start .pre .2) in
-    let bs = row-from (call .links .now) (call .a) (call .a / 64 + 1) in
-    let left = writing-part _ old (links-to (call .a) (set-bits 64 (call .a + 1) x)) (links-to (call .a) bs) old _ whole (put .put-bits .ensures) (put .put-bits .kept .0) in (
-      start .pre .0,
-      omega (arith, start .pre .0),
-      start .pre .1,
-      room-less _ _ (length (links-to (call .a) bs)) _ _ (omega (arith, length-map (link-of (call .a)) bs)) (left .room),
+    let put = c .before .before .before .before .before .before in
+    let start = put .before .before .before .before in (
+      put .put-bits .kept .0 ∙ start .pre .0,
+      (omega (arith, start .pre .1 .0, put .put-bits .ensures .0 .place), put .put-bits .ensures .0 .within),
+      omega (arith, start .pre .2),
+      start .pre .4,
     )
 
-returns : tie.Need-returns
-returns c =
+returns-2 : tie.Need-returns-2
+returns-2 c =
     let words = c .before .before in
-    let put = words .before .before .before .before in
-    let read = put .before .before in
-    let given = read .before in
-    let start = given .before .before in
-    let call = start .args in
-    let x = read .row-word .result / 2 ^ (call .a % 64) / 2 ^ 1 in
-    let old = written (call .from .at) (call .from .end) (call .buffer .now) in
-    let whole =
-    row-writing (call .links .now) (λ j. given .shared-slice-known .given j .fits) (call .a) (read .row-word .result) x (start .pre .0) (start .pre .1)
-    (read .row-word .ensures) refl old (start .pre .2) in
-    let bs = row-from (call .links .now) (call .a) (call .a / 64 + 1) in
-    let left = writing-part _ old (links-to (call .a) (set-bits 64 (call .a + 1) x)) (links-to (call .a) bs) old _ whole (put .put-bits .ensures) (put .put-bits .kept .0) in
-    words .put-words .ensures ∙ left .is
+    let put = words .before .before .before .before .before .before .before in
+    let start = put .before .before .before .before in (
+      row-turn (start .args .links .now) _ (start .args .c .k) _ _ _ (put .put-bits .ensures .0) (words .before .before .before .if1 .left) _ _ _ (words .put-words .ensures .0),
+      words .put-words .ensures .1,
+    )
 
 pub put-row-spec : {M : Type 1} → statement M
 put-row-spec =
     tie.close (
-    tie.spec (λ c κs. search needs) (λ c. search needs) (λ c. search needs) (λ c. search needs) put-bits-requires (λ c. search needs) put-words-requires
-    (λ c. search needs) returns)
+    tie.spec put-bits-requires (λ c. search needs) returns (λ c. search needs) put-words-requires (λ c. search needs) returns-2)

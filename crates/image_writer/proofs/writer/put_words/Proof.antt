@@ -1,73 +1,71 @@
--- `writer::put_words` meets its contract: the links from word k on give what all of them give (`Writing`). The measure is the words
--- left.
-use mathlib.Core.Path.{ap, sym}
-use Prim.Native.Nat.{_+_, _*_, _-_, _≤_}
+-- `writer::put_words` meets its contract: what is put so far leaves the links of the words from k on. The measure is the words left.
+use mathlib.Core.Path.{_≡_, refl, _∙_}
+use mathlib.Core.Logic.{inl, inr}
+use Prim.Native.Nat.{_-_, _%_, _≤_}
 use native.Mathlib.Omega.{arith}
 use lib.ListN.{length}
 use borrow.Author.Needs.{needs}
-use Rattle.mesh.specs.Graph.{link-of}
-use Rattle.lists.proofs.Map.{length-map}
-use Rattle.rows.specs.Rows.{row-from, set-bits}
-use Rattle.rows.proofs.RowWords.{row-from-end}
+use Rattle.rows.specs.Rows.{row-from}
 use Rattle.link_list.specs.Links.{links-to}
-use Rattle.image_writer.specs.Blocks.{written}
-use Rattle.image_writer.proofs.LinksWritten.{room-less, Writing, writing-none, writing-room, writing-part, writing-end, links-word}
+use Rattle.image_writer.specs.Blocks.{Links-put}
+use Rattle.image_writer.proofs.LinksPut.{put-none, words-stop, words-turn, words-end, row-left-none, full-of}
 use Rattle.image_writer.proofs.writer.put_words.Statement.{statement}
 use Rattle.image_writer.proofs.writer.put_words.Tie as tie
 
 abbrev Inv-loop : tie.InvT-loop
-Inv-loop buffer₀ links a first place₀ k₀ buffer place k =
-    (k ≤ 8)
-    × Writing (links-to a (row-from links a first)) (written (place₀ .at) (place₀ .end) buffer₀) (links-to a (row-from links a k)) (written (place .at) (place .end) buffer)
+Inv-loop part₀ from links a first at₀ k₀ part at k =
+    (k ≤ 8) × (at % 4 ≡ 0) × (length part ≡ length part₀) × Links-put (links-to a (row-from links a first)) from part₀ part at (links-to a (row-from links a k))
 
 abbrev μ-loop : tie.MeasureT-loop
-μ-loop buffer₀ links a first place₀ k₀ buffer place k = 8 - k
+μ-loop part₀ from links a first at₀ k₀ part at k = 8 - k
 
 loop-holds : tie.Need-loop-holds Inv-loop μ-loop
 loop-holds c =
-    let start = c .before .before in
-    let bs = row-from (start .args .links .now) (start .args .a) (start .args .first) in (
-      start .pre .1,
-      writing-none _ _ (room-less _ _ (length bs) _ _ (omega (arith, length-map (link-of (start .args .a)) bs)) (start .pre .3)),
-    )
+    let start = c .before .before in (start .pre .2, start .pre .1 .0, refl, put-none _ _ _ (start .pre .1 .1))
+
+row-word-requires : tie.Need-row-word-requires Inv-loop μ-loop
+row-word-requires c κs =
+    let start = c .before .before .before .before .before in (start .pre .3 .0, omega arith, start .pre .3 .1)
 
 put-bits-requires : tie.Need-put-bits-requires Inv-loop μ-loop
 put-bits-requires c κs =
-    let turn = c .before .before in
-    let at-loop = turn .before in
-    let given = at-loop .before in
-    let call = given .before .before .args in
-    let k = at-loop .loop .k in
-    let w = c .row-word .result in
-    let word = links-word _ (λ j. given .shared-slice-known .given j .fits) (call .a) k w (turn .loop-test .taken) (c .row-word .ensures) in (
-      omega arith,
-      writing-room _ _ (links-to (call .a) (set-bits 64 (64 * k) w)) (links-to (call .a) (row-from (call .links .now) (call .a) (k + 1))) _ _
-          (sym (length-map (link-of (call .a)) (set-bits 64 (64 * k) w))) (rw word at (at-loop .loop .inv .1)),
+    let at-loop = c .before .before .before in
+    let start = at-loop .before .before .before in
+    let inv = at-loop .loop .inv in (inv .2 ∙ start .pre .0, (inv .1, inv .3 .within), omega arith)
+
+returns : tie.Need-returns Inv-loop μ-loop
+returns c =
+    let put = c .before .before .before .before in
+    let at-loop = put .before .before .before .before in
+    let start = at-loop .before .before .before in (
+      words-stop (start .args .links .now) (λ j. at-loop .before .shared-slice-known .given j .fits) (start .args .a) (at-loop .loop .k) _ (omega arith) (put .before .row-word .ensures)
+          (at-loop .loop .inv .3) _ _ _ (put .put-bits .ensures .0),
+      (inr (c .if1 .taken, full-of (put .put-bits .ensures .1) (c .if1 .taken)), record { same = refl; low = omega arith; small = omega arith }),
     )
 
 loop-again : tie.Need-loop-again Inv-loop μ-loop
 loop-again c =
-    let put = c .before .before in
-    let read = put .before in
-    let turn = read .before .before in
-    let at-loop = turn .before in
-    let given = at-loop .before in
-    let call = given .before .before .args in
-    let k = at-loop .loop .k in
-    let w = read .row-word .result in
-    let word = links-word _ (λ j. given .shared-slice-known .given j .fits) (call .a) k w (turn .loop-test .taken) (read .row-word .ensures) in (
+    let put = c .before .before .before .before in
+    let at-loop = put .before .before .before .before in
+    let start = at-loop .before .before .before in
+    let inv = at-loop .loop .inv in (
       omega arith,
-      writing-part _ _ (links-to (call .a) (set-bits 64 (64 * k) w)) (links-to (call .a) (row-from (call .links .now) (call .a) (k + 1))) _ _ (rw word at (at-loop .loop .inv .1))
-          (put .put-bits .ensures) (put .put-bits .kept .0),
+      omega (arith, inv .1, put .put-bits .ensures .0 .place),
+      put .put-bits .kept .0 ∙ inv .2,
+      words-turn (start .args .links .now) (λ j. at-loop .before .shared-slice-known .given j .fits) (start .args .a) (at-loop .loop .k) _ (omega arith) (put .before .row-word .ensures)
+          (inv .3) _ _ _ (put .put-bits .ensures .0) (c .if1 .left),
     )
 
-returns : tie.Need-returns Inv-loop μ-loop
-returns c =
-    let call = c .before .before .before .before .args in
-    writing-end _ _ _ _ (ap (links-to (call .a)) (row-from-end (call .links .now) (call .a) (c .before .loop .k) (c .loop-test .left))) (c .before .loop .inv .1)
+returns-2 : tie.Need-returns-2 Inv-loop μ-loop
+returns-2 c =
+    let start = c .before .before .before .before in (
+      words-end (start .args .links .now) (start .args .a) (c .before .loop .k) (c .loop-test .left) (c .before .loop .inv .3),
+      (inl (refl, row-left-none (start .args .links .now) (start .args .a) 0 0 refl), record { same = refl; low = omega arith; small = omega arith }),
+    )
 
 pub put-words-spec : {M : Type 1} → statement M
 put-words-spec =
     tie.close (
-    tie.spec Inv-loop μ-loop loop-holds (λ c. search needs) (λ c κs. search needs) put-bits-requires (λ c. search needs) (λ c. search needs) loop-again
-    (λ c. c .before .loop .inv .1 .long) returns)
+    tie.spec Inv-loop μ-loop loop-holds (λ c. search needs) row-word-requires put-bits-requires (λ c. omega arith)
+    (λ c. c .before .before .before .before .put-bits .kept .0 ∙ c .before .before .before .before .before .before .before .before .loop .inv .2) returns (λ c. search needs)
+    (λ c. search needs) loop-again (λ c. search needs) (λ c. c .before .loop .inv .2) returns-2)

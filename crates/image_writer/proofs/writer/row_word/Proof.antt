@@ -3,7 +3,7 @@ use mathlib.Core.Path.{_∙_}
 use Prim.Native.Nat.{_+_, _*_, _-_}
 use native.Mathlib.Omega.{arith}
 use borrow.Author.Needs.{needs}
-use Rattle.image_writer.proofs.LinksWritten.{word-of-part}
+use Rattle.image_writer.proofs.LinksPut.{word-of-part}
 use Rattle.image_writer.proofs.writer.row_word.Statement.{statement}
 use Rattle.image_writer.proofs.writer.row_word.Tie as tie
 
