@@ -36,6 +36,9 @@
 extern "C" {
 #endif
 
+/* The version of the calls and of what they are lent: it goes up where a host that was written for the one before would notice. */
+#define SB_VERSION 1u
+
 /* The limits of a site. */
 #define SB_RADIOS 512u
 #define SB_NEIGHBOURS 40u
@@ -173,6 +176,9 @@ typedef struct {
     size_t length;
     size_t next;
 } sb_block;
+
+/* The version of the archive: SB_VERSION of the header that was made with it. */
+uint32_t sb_version(void);
 
 /**
  * Clear a site: zero links, zero numbers, the order 0 to n - 1.

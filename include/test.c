@@ -37,6 +37,7 @@ static uint8_t store[SB_STORE_BYTES];
 static size_t up(uint32_t a, uint32_t b) { return sb_link_up(SB_RADIOS, a, b, TABLES, ANSWER).number; }
 
 static void test_limits(void) {
+    expect("the version", sb_version(), SB_VERSION);
     expect("clear at the limit", sb_clear(SB_RADIOS, TABLES), SB_OK);
     expect("clear past the limit", sb_clear(SB_RADIOS + 1, TABLES), SB_SIZE);
     expect("a byte short", sb_clear(SB_RADIOS, links, sizeof links - 1, numbers, SB_RADIOS, order, SB_RADIOS), SB_LENGTH);

@@ -30,7 +30,7 @@ class Call:
     def __init__(self, answer, name, text):
         self.answer, self.name, self.text = answer, name, " ".join(text.split())
         self.parameters, self.lengths = [], set()
-        for word in self.text.split(", "):
+        for word in self.text.split(", ") if self.text != "void" else []:
             kind, called = re.fullmatch(r"(.*?[ *])(\w+)", word).groups()
             if called in self.lengths:
                 continue
@@ -56,7 +56,7 @@ class Call:
         else:
             outer, inner, given = "void", ["void *"] + inner, ["&out"] + given
             body += ["    answer_%s out;" % self.answer, "    inner_%s(%s);" % (self.name, ", ".join(given)), "    " + ANSWERS[self.answer]]
-        lines = ["extern %s inner_%s(%s);" % (outer, self.name, ", ".join(inner)), "%s %s(%s) {" % (self.answer, self.name, self.text)]
+        lines = ["extern %s inner_%s(%s);" % (outer, self.name, ", ".join(inner) or "void"), "%s %s(%s) {" % (self.answer, self.name, self.text)]
         return "\n".join(lines + body + ["}"]) + "\n"
 
 

@@ -31,7 +31,7 @@ class Retarget(unittest.TestCase):
         self.assertIn(words, str(stopped.exception))
 
     def test_as_expected(self):
-        self.assertEqual(len(CALLS), 29)
+        self.assertEqual(len(CALLS), 30)
         retarget.check_whole(module())
         retarget.check_calls(module(), CALLS)
         text = retarget.retargeted(module())

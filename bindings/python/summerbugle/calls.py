@@ -57,6 +57,7 @@ _WRITTEN = "bytes* bytes* entries*"
 
 # result and parameters of each call; the tables with a star are those that it writes
 CALLS = {
+    "sb_version": (ctypes.c_uint32, ""),
     "sb_clear": (ctypes.c_uint32, "u32 " + _WRITTEN),
     "sb_check": (_Value, "u32 " + _READ),
     "sb_link_up": (_Reply, "u32 u32 u32 " + _WRITTEN + " entries*"),

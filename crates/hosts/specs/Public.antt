@@ -62,6 +62,7 @@ pub data Other : Type 0 where
   reader-open : Other
   reader-step : Other
   reader-moved : Other
+  version : Other
 
 pub data Public : Type 0 where
   of-book : Known → Public
@@ -139,6 +140,12 @@ step-value s =
 
 abbrev pub given-at : Place → Block → Step-given
 given-at p o = record { place = (p .0, o .offset + p .1); length = o .length; number = o .number; end = o .end; next = o .next }
+
+-- ---- the version
+
+-- of the calls and of what they are lent: it goes up where a host that was written for the one before would notice
+abbrev pub this-version : ℕ
+this-version = 1
 
 -- ---- calls
 
@@ -226,3 +233,4 @@ call (any-other reader-step) =
     a-call (a-reader ∷ []) step-value (λ r. (given-at (place (r .0)) (block-outcome (entries (r .0)) (r .1)), tt))
 call (any-other reader-moved) =
     a-call (a-reader ∷ []) (passes a-reader) (λ r. ((r .0, block-outcome (entries (r .0)) (r .1) .next), tt))
+call (any-other version) = a-call [] number-value (this-version, tt)

@@ -94,12 +94,14 @@ use Rattle.summerbugle.proofs.sb_mark_remove.Symbol as mark-remove-symb
 use Rattle.summerbugle.proofs.sb_mark_remove.Met as mark-remove-proof
 use Rattle.summerbugle.proofs.sb_mark_return.Symbol as mark-return-symbol
 use Rattle.summerbugle.proofs.sb_mark_return.Met as mark-return-proof
+use Rattle.summerbugle.proofs.sb_version.Symbol as version-symbol
+use Rattle.summerbugle.proofs.sb_version.Met as version-proof
 use Rattle.summerbugle.proofs.sb_image_block.Symbol as image-block-symbol
 use Rattle.summerbugle.proofs.sb_image_block.Met as image-block-proof
-use Rattle.hosts.specs.Public.{Public, of-book, any-other, call, the-tables, tables-then}
+use Rattle.hosts.specs.Public.{Public, of-book, any-other, this-version, call, the-tables, tables-then}
 use Rattle.hosts.specs.Public.Known.{clear, image-read, link, commit, link-batch, hear, mark-set, mark-remove, mark-return}
 use Rattle.hosts.specs.Public.Other.{ask, check, number, neighbours, linked, first, later-of, lift, core, backbone, tree, staircase}
-use Rattle.hosts.specs.Public.Other.{image-write, sheet, script-length, script-write, image-block, reader-open, reader-step, reader-moved}
+use Rattle.hosts.specs.Public.Other.{image-write, sheet, script-length, script-write, image-block, reader-open, reader-step, reader-moved, version}
 use Rattle.block_reader.proofs.blocks.open.Symbol as open-symbol
 use Rattle.block_reader.proofs.blocks.step.Symbol as step-symbol
 use Rattle.block_reader.proofs.blocks.moved.Symbol as moved-symbol
@@ -139,6 +141,7 @@ routines (any-other image-block) = image-block-symbol.routine
 routines (any-other reader-open) = open-symbol.routine
 routines (any-other reader-step) = step-symbol.routine
 routines (any-other reader-moved) = moved-symbol.routine
+routines (any-other version) = version-symbol.routine
 
 -- ---- parameters and results, as the logic has them
 
@@ -400,6 +403,11 @@ block-runs =
     (λ i r o e. ap (λ (y : Block). (y, tt)) e)
     (image-block-proof.met 𝓥 Closed.H Closed.model ghost₀ 𝓡)
 
+version-runs : Runs (routines (any-other version)) (call (any-other version))
+version-runs =
+    in-cells 0 [] a-number _ (λ i r o. r ≡ this-version) _ (λ i r o e. ap (λ (y : ℕ). (y, tt)) e)
+    (version-proof.met 𝓥 Closed.H Closed.model ghost₀ 𝓡)
+
 pub runs : (x : Public) → Runs (routines x) (call x)
 runs (of-book clear) = clear-runs
 runs (of-book image-read) = image-read-runs
@@ -433,3 +441,4 @@ runs (any-other image-block) = block-runs
 runs (any-other reader-open) = open-runs
 runs (any-other reader-step) = step-runs
 runs (any-other reader-moved) = moved-runs
+runs (any-other version) = version-runs

@@ -1,6 +1,8 @@
 // The public interface: the calls of the link engine, exported to C, and nothing else. Each is the call of the crate that has
 // it, under the same contract. No call has a `requires`.
+ghost use mathlib.Core.Path.{_≡_};
 ghost use mathlib.Core.Bool.{true, false};
+ghost use Rattle.hosts.specs.Public.{this-version};
 ghost use Rattle.mesh.specs.Lent.{lent};
 ghost use Rattle.calls.specs.Contracts.{Clear-contract, Check-contract, Link-contract, Ask-contract, Commit-contract, Batch-contract, Hear-contract, Read-contract};
 ghost use Rattle.calls.specs.Contracts.{Write-contract, Block-contract, Number-contract, Neighbours-contract, Linked-contract, First-contract, Later-contract};
@@ -18,6 +20,17 @@ mod nodes;
 
 // The most nodes that a tree may have: one for each radio, and the root.
 const PLACES: usize = Site::RADIOS as usize + 1;
+
+// The version of the calls and of what they are lent.
+const VERSION: u32 = 1;
+
+// The version: it goes up where a host that was written for the one before would notice.
+#[no_mangle]
+pub extern "C" fn sb_version() -> u32
+    ensures { λ r. ⌜ r ≡ this-version ⌝ }
+{
+    VERSION
+}
 
 // Clears a site: zero links, zero numbers, the order 0 to n - 1. Refused by 1 and 2: then every table keeps its content.
 #[no_mangle]
