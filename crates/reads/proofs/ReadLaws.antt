@@ -6,7 +6,8 @@ use Prim.Native.Nat.{ℕ, zero, suc, _≤_, _<_, _+_, _-_, min}
 use native.Mathlib.Omega.{arith}
 use lib.Dec.{eqb}
 use lib.IntN.{ℤ, pos, negsuc}
-use lib.ListN.{length, take, length-take}
+use lib.ListN.{length, take, drop, length-take}
+use lib.Seq.{take-at}
 use mir.Syntax.{w32, w64}
 use mir.Val.{SFits, toZ, ofZ}
 use mir.Facts.{toZ-ofZ}
@@ -14,7 +15,7 @@ use borrow.Author.Tests.{eq-eqb, ne-eqb}
 use Rattle.io.specs.Counts.{Counts, clamped}
 use Rattle.io.proofs.Counting.{counts}
 use Rattle.text.specs.Print.{Buffer, buffer-at, put, Puts, max-place}
-use Rattle.text.proofs.PrintLaws.{puts-append, at-put, length-put}
+use Rattle.text.proofs.PrintLaws.{puts-append, at-put, length-put, puts-whole}
 use Rattle.reads.specs.Reads.{goes-on, at-end, unread, is-error, failure, is-failed, by-count, found, Found, Read, input-of, Going, To-end, Fills-on, Fills}
 use Rattle.reads.specs.declared.Brought.{Brought}
 
@@ -121,7 +122,7 @@ pub filled-more : (old mid new : List ℕ) (at : ℕ) (r : Brought) → Filled o
 unfolding input-of Going To-end
 filled-more old mid new at r so on =
     record {
-      reads = record { bytes = on .bytes; state = r .state } ∷ so .reads;
+      reads = record { bytes = on .bytes; state = r .state; none = on .none } ∷ so .reads;
       puts = puts-append (so .puts) (on .puts);
       going = λ e. (e, so .going);
       ended = λ e. (e, so .going);
@@ -143,3 +144,12 @@ put-within old text new at next h m p =
     let place : next ≡ put (buffer-at old at) text .at = ap (λ (b : Buffer). b .at) (p .is) in
     let long : length new ≡ length (put (buffer-at old at) text .bytes) = ap (λ (b : Buffer). length (b .bytes)) (p .is) in
     omega (arith, place, long, at-put (buffer-at old at) text (omega arith), length-put (buffer-at old at) text)
+
+-- the front of the buffer is what the reads brought
+pub fills-front : (old new : List ℕ) (r : Brought) → length old < max-place → r .count ≤ length old → (f : Fills old r new) → take (r .count) new ≡ input-of (f .reads)
+fills-front old new r m l f =
+    let whole = puts-whole (f .puts) (omega arith) m l in
+    let k = length (input-of (f .reads)) in
+    ap (λ (xs : List ℕ). take (r .count) xs) (whole .1)
+    ∙ ap (λ (j : ℕ). take j ([] ++ input-of (f .reads) ++ drop (0 + k) old)) (whole .0)
+    ∙ take-at (input-of (f .reads)) (drop (0 + k) old) (0 + k) (omega arith)

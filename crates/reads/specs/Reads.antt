@@ -7,6 +7,7 @@
 --   Read                 a read of a run: the bytes that it brought, and what it found
 --   input-of rs          what the reads of a run brought, in order; here and below the last read stands first
 --   Going rs             every read brought bytes or was interrupted
+--   Unbroken rs          no read failed
 --   To-end rs            the input is read to its end: the last read is at the end, and none before it failed
 --   Fills-on, Fills      a buffer that a read goes on to fill; a front that reads filled
 -- No contract can say which bytes a read brings: of them `Read` has some. Definitions only.
@@ -101,9 +102,11 @@ pub record Found (room : ℕ) (r : Brought) : Type 0 where
 
 -- ---- the reads of a run
 
+-- one that does not go on brought nothing
 pub record Read : Type 0 where
   pub bytes : List ℕ
   pub state : ℕ
+  pub none : (state ≡ goes-on → ⊥) → bytes ≡ []
 
 unfoldable pub input-of : List Read → List ℕ
 input-of [] = []
@@ -112,6 +115,10 @@ input-of (r ∷ rs) = input-of rs ++ r .bytes
 unfoldable pub Going : List Read → Type 0
 Going [] = Unit {0}
 Going (r ∷ rs) = (r .state ≡ goes-on) × Going rs
+
+unfoldable pub Unbroken : List Read → Type 0
+Unbroken [] = Unit {0}
+Unbroken (r ∷ rs) = (r .state ≤ at-end) × Going rs
 
 unfoldable pub To-end : List Read → Type 0
 To-end [] = ⊥

@@ -10,6 +10,9 @@ ghost use Rattle.reads.specs.Reads.{most-reads, goes-on, failure, found,
 
 pub mod faults;
 
+// What `--version` prints.
+pub const VERSION: [u8; 18] = *b"summerbugle 1.0.0\n";
+
 // Where a run reads and writes.
 pub struct Ends {
     pub input: i32,
