@@ -11,7 +11,7 @@ use script::lines::Line;
 const FIRST_BYTES: usize = 11;
 
 // The radios of a site that the line names; 0 where it is no first line.
-fn radios_of(line: &[u8]) -> u32
+pub fn radios_of(line: &[u8]) -> u32
     ensures { λ r. ⌜ r ≡ radios-of (now (line .entry)) ⌝ }
 {
     match script::lines::parse(line) {

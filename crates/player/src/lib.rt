@@ -13,6 +13,7 @@ mod play;
 mod reading;
 mod words;
 
+pub use first::radios_of;
 use mesh::Site;
 use reads::Ends;
 pub use words::run_words;
