@@ -1,6 +1,6 @@
 // The program `site`: its words are handed to the library. After `--status` the status, 0 or 1, is written to descriptor 3, for
 // bin/site, which ends with it.
-use site_parts::Ends;
+use reads::Ends;
 
 // The longest word that is read; a longer one counts as empty, which no verb and no number is.
 const WORD_BYTES: usize = 32;
@@ -8,8 +8,8 @@ const WORD_BYTES: usize = 32;
 // Where the status goes.
 const STATUS: i32 = 3;
 
-// Runs the verb that is word `at` of the command, with the words after it.
-fn run_at(at: usize) -> u32 {
+// Runs the verb that is word `at` of the command, with the words after it. Where the status is asked for, it is written.
+fn run_at(at: usize, asked: bool) {
     let mut verb = [0u8; WORD_BYTES];
     let mut v = [0u8; WORD_BYTES];
     let mut k = [0u8; WORD_BYTES];
@@ -23,13 +23,25 @@ fn run_at(at: usize) -> u32 {
         output: libc::STDOUT_FILENO,
         errors: libc::STDERR_FILENO,
     };
+    if asked {
+        site_program::run_told(
+            ends,
+            STATUS,
+            &verb[..verb_bytes],
+            count,
+            &v[..v_bytes],
+            &k[..k_bytes],
+        );
+        return;
+    }
     site_program::run(
         ends,
+        usize::MAX,
         &verb[..verb_bytes],
         count,
         &v[..v_bytes],
         &k[..k_bytes],
-    )
+    );
 }
 
 // Whether the first word asks for the status.
@@ -41,9 +53,8 @@ fn is_asked() -> bool {
 
 fn main() {
     if is_asked() {
-        let status = run_at(2);
-        io::print_decimal(STATUS, status as u64);
+        run_at(2, true);
         return;
     }
-    run_at(1);
+    run_at(1, false);
 }
