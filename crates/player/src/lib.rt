@@ -16,7 +16,10 @@ mod words;
 pub use first::radios_of;
 use mesh::Site;
 use reads::Ends;
+pub use words::Start;
 pub use words::run_words;
+pub use words::started;
+pub use words::tell;
 
 // The bytes of a site's largest links table.
 const LINKS_BYTES: usize = Site::ROW_BYTES * Site::RADIOS as usize;

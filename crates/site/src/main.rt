@@ -1,15 +1,11 @@
-// The program `site`: its words are handed to the library. After `--status` the status, 0 or 1, is written to descriptor 3, for
-// bin/site, which ends with it.
+// The program `site`: its words are handed to the library.
 use reads::Ends;
 
 // The longest word that is read; a longer one counts as empty, which no verb and no number is.
 const WORD_BYTES: usize = 32;
 
-// Where the status goes.
-const STATUS: i32 = 3;
-
-// Runs the verb that is word `at` of the command, with the words after it. Where the status is asked for, it is written.
-fn run_at(at: usize, asked: bool) {
+// Runs the verb that is word `at` of the command, with the words after it: the status.
+fn run_at(at: usize) -> u32 {
     let mut verb = [0u8; WORD_BYTES];
     let mut v = [0u8; WORD_BYTES];
     let mut k = [0u8; WORD_BYTES];
@@ -23,17 +19,6 @@ fn run_at(at: usize, asked: bool) {
         output: libc::STDOUT_FILENO,
         errors: libc::STDERR_FILENO,
     };
-    if asked {
-        site_program::run_told(
-            ends,
-            STATUS,
-            &verb[..verb_bytes],
-            count,
-            &v[..v_bytes],
-            &k[..k_bytes],
-        );
-        return;
-    }
     site_program::run(
         ends,
         usize::MAX,
@@ -41,20 +26,11 @@ fn run_at(at: usize, asked: bool) {
         count,
         &v[..v_bytes],
         &k[..k_bytes],
-    );
-}
-
-// Whether the first word asks for the status.
-fn is_asked() -> bool {
-    let mut word = [0u8; WORD_BYTES];
-    let bytes = os::arg(1, &mut word);
-    tables::fill::same8(&word[..bytes], b"--status")
+    )
 }
 
 fn main() {
-    if is_asked() {
-        run_at(2, true);
-        return;
-    }
-    run_at(1, false);
+    let started = player::started();
+    let status = run_at(started.at);
+    player::tell(started.told, status);
 }

@@ -7,9 +7,17 @@ use lib.ListN.{drop}
 use borrow.Author.Tests.{eq-eqb, ne-eqb}
 use Rattle.script.specs.Lines.{got, none, alone-of, read-of}
 use Rattle.script.specs.declared.lines.Number.{Number}
-use Rattle.script.proofs.LineLaws.{read-of-none, read-of-got}
 use Rattle.site_program.specs.Given.{numbers, second, first, given-of}
 use Rattle.site_program.specs.declared.arguments.Numbers.{Numbers}
+
+-- what the parser's record says
+read-of-none : (s : List ℕ) (r : Number) → r .ok ≡ false → read-of s r ≡ none
+unfolding read-of
+read-of-none s r h = rw h
+
+read-of-got : (s : List ℕ) (r : Number) → r .ok ≡ true → read-of s r ≡ got (r .value) (drop (r .next) s)
+unfolding read-of
+read-of-got s r h = rw h
 
 pub given-other : (takes count : ℕ) (v k : List ℕ) → (takes ≡ count → ⊥) → numbers false 0 0 ≡ given-of takes count v k
 unfolding given-of

@@ -77,13 +77,13 @@ module _ (n : ℕ) (t : Tables) (room : ℕ) (long : text-room ≤ room) where
   sound-later x h = lent-later n (lengths-of t) true _ _ (λ lent. ask-later 3 (sound n t) x 0 (λ s. h (lent .most) s))
 
   image-holds : n ≤ max-radios → sound n t ≡ true → ask 9 (holds-image (graph-in n (t .links)) room) 0 ≡ 0
-  unfolding holds-image image-length
+  unfolding holds-image image-length graph-in sound
   image-holds small s =
       let few = block-count-most (graph-in n (t .links)) (t .order) small (valid-graph-in max-neighbours n t small s) in
       ask-yes 9 _ 0 (le-leb _ room (omega (arith, few)))
 
   script-holds : n ≤ max-radios → sound n t ≡ true → ask 13 (holds-script (graph-in n (t .links)) room) 0 ≡ 0
-  unfolding holds-script
+  unfolding holds-script graph-in sound
   script-holds small s =
       let few = script-most (graph-in n (t .links)) (t .order) small (valid-graph-in max-neighbours n t small s) in
       ask-yes 13 _ 0 (le-leb _ room (omega (arith, few)))

@@ -204,9 +204,3 @@ pub fn run(ends: Ends, most: usize, word: &[u8], count: usize, v: &[u8], k: &[u8
     }
     run_verb(ends, most, word, count, v, k)
 }
-
-// Runs a verb, and writes the status, one digit, to the descriptor.
-pub fn run_told(ends: Ends, status: i32, word: &[u8], count: usize, v: &[u8], k: &[u8]) {
-    let number = run(ends, usize::MAX, word, count, v, k);
-    io::print_decimal(status, number as u64);
-}
