@@ -163,6 +163,32 @@ SCRIPTS = {
 # played again with a read for each byte: more than 1,000 reads, each of less than the program has room for
 BY_BYTES = ["m1", "refusals", "clique-41", "radios-very-long", "unterminated", "very-long", "byte-255", "bad-late", "output-4096"]
 
+UNREAD = {"folder": "the input is a folder", "closed": "the input is closed, or not open for reading", "no room": "the input cannot be read"}
+UNWRITTEN = "the output cannot be written"
+HELP = (CRATE.parent / "player/src/words.rt").read_text()
+
+
+def run(text):
+    """What is printed, and the status: 0 where every line was played."""
+    shown = replay(text)
+    return f"{shown}status {int(shown.splitlines()[-1].startswith('bad'))}\n"
+
+
+def fails(words):
+    return f"replay: {words}\nstatus 1\n"
+
+
+def failures():
+    """Runs that cannot be read or written print nothing but their error line; words in place of an input."""
+    yield ".", fails(UNREAD["folder"])
+    yield "closed", fails(UNREAD["closed"])
+    yield "m1", fails(UNREAD["no room"])
+    yield from ((name, fails(UNWRITTEN)) for name in ("m1", "output-4096", "empty"))
+    yield "replay --help", "replay <FILE" + HELP.split('b"replay <FILE')[1].split('",')[0] + "status 0\n"
+    yield "replay --version", "summerbugle 1.0.0\nstatus 0\n"
+    yield "replay m1", fails("no word is taken, and the script is standard input: replay <FILE")
+
+
 # its last answer, its numbers and its order differ from M1's
 last_lines = [replay(SCRIPTS[name]).splitlines()[3:] for name in ("m1", "canary")]
 assert all(x != y for x, y in zip(*last_lines)) and [len(lines) for lines in last_lines] == [3, 3]
@@ -170,9 +196,10 @@ assert all(x != y for x, y in zip(*last_lines)) and [len(lines) for lines in las
 
 def files():
     """What is stored: each script, and what is printed of all."""
-    shown = {name: replay(text) for name, text in SCRIPTS.items()}
+    shown = {name: run(text) for name, text in SCRIPTS.items()}
     stored = {CRATE / "data" / name: text for name, text in SCRIPTS.items()}
-    stored[CRATE / "stdout"] = "".join(f"{name}\n{shown[name]}" for name in [*SCRIPTS, *BY_BYTES]).encode()
+    played = [(name, shown[name]) for name in [*SCRIPTS, *BY_BYTES]]
+    stored[CRATE / "stdout"] = "".join(f"{name}\n{text}" for name, text in [*played, *failures()]).encode()
     return stored
 
 

@@ -17,14 +17,24 @@ import kruskal
 import lift
 import peeled
 import trees
-from scripts import LARGEST, LINE, lines_of, printed
+from scripts import LARGEST, LINE, UNREAD, UNWRITTEN, lines_of, printed
 
 CRATES = Path(__file__).resolve().parent.parent / "crates"
-WORDS = {4: "a radio named is not below the count of radios", 5: "the ends of the link are the same radio",
+WORDS = {1: "the count of radios is not from 1 to 512", 2: "a table has another length", 3: "the tables are not sound",
+         4: "a radio named is not below the count of radios", 5: "the ends of the link are the same radio",
          6: "the link is up already, or down already", 7: "an end has 40 neighbours", 8: "the level is above the radio's number",
          9: "the length is 0 or no multiple of 512", 10: "a block does not pass its check",
-         11: "the bytes are the image of no sound site", 20: "no link would raise the radio's number"}
-FORM = "no line of the language stands here"
+         11: "the bytes are the image of no sound site", 12: "the page is shorter than the sheet",
+         13: "the buffer is shorter than the script", 14: "a heard row marks its own radio or one that is none",
+         15: "the bytes are the image of a site of another size", 16: "the proposal is not what asking would give now",
+         17: "a place of the store or the name breaks the rules", 18: "there is no mark of this name", 19: "a new name finds 8 marks",
+         20: "no link would raise the radio's number"}
+OTHER = "the call is refused"
+FORM, NO_FEED = "no line of the language stands here", "the last line has no line feed"
+CARRIAGE = "a carriage return stands before the line feed"
+LONGEST = 17  # bytes of a line of the language
+VERSION = "summerbugle 1.0.0\n"
+MODULUS, BASE = 4294967291, 65599  # of the digest that the program prints
 VERBS = ["check", "numbers", "sheet", "script", "backbone", "staircase", "tree"]
 HELP = (CRATES / "site_program/src/help.rt").read_text()
 
@@ -48,13 +58,22 @@ class Found:
         self.numbers = self.site.numbers
 
 
+def fault(line):
+    """What is wrong with a line of another form."""
+    if len(line) > LONGEST:
+        return FORM
+    if not line.endswith(b"\n"):
+        return NO_FEED
+    return CARRIAGE if line.endswith(b"\r\n") else FORM
+
+
 def played(script):
     site = None
     for last, line in enumerate(lines_of(script), 1):
         said = LINE.fullmatch(line)
         form = said and max(int(x) for x in (said[1], said[3], said[4]) if x) <= LARGEST and (said[1] is not None) == (last == 1)
         if not form or last == 1 and not 1 <= int(said[1]) <= images.RADIOS:
-            raise Refused(f"script, line {last}: {FORM}")
+            raise Refused(f"script, line {last}: {fault(line)}")
         if last == 1:
             site = peeled.Site(int(said[1]))
             continue
@@ -96,6 +115,8 @@ def read(image):
 
 
 def found(data):
+    if not data:
+        raise Refused("the input is empty")
     return played(data) if data.startswith(b"radios") else read(data)
 
 
@@ -163,12 +184,16 @@ def help_page():
 
 
 def answer(data, verb, words):
-    if verb == "help":
+    if verb in ("help", "--help"):
         return help_page()
+    if verb == "--version":
+        return VERSION
     if verb not in SAYS and verb not in TAKES:
         raise Refused("unknown verb; site help lists them")
     numbers = [number(word) for word in words]
     count, what, says = TAKES.get(verb) or (0, "no number", SAYS.get(verb))
+    if count == 0 and words and not words[0][:1].isdigit():
+        raise Refused(f"{verb} reads standard input: site {verb} <FILE")
     if len(words) != count or None in numbers:
         raise Refused(f"{verb} takes {what}")
     return says(found(data), *numbers)
@@ -213,6 +238,17 @@ def changed(image, at, x):
     return image[:at] + [x] + image[at + 1:]
 
 
+def damaged(image, *blocks):
+    """A byte of each of these blocks is another."""
+    for i in blocks:
+        image = changed(image, 512 * i + 300, image[512 * i + 300] ^ 1)
+    return image
+
+
+def circulant(n, reach):
+    return sorted({tuple(sorted((v, (v + d) % n))) for v in range(n) for d in range(1, reach + 1)})
+
+
 def k_order(n, links):
     """A k-order: a radio with the fewest neighbours left is next."""
     near = {v: set() for v in range(n)}
@@ -251,6 +287,11 @@ def files():
         "refused-6": b"radios 3\nup 0 1\nup 1 0\n", "refused-7": script(42, clique),
         "radios-alone": b"radios", "radios-0": b"radios 0\n", "radios-513": b"radios 513\n", "first-line-only": b"radios 9\n",
         "no-line-feed": b"radios 3\nup 0 1", "second-radios": b"radios 3\nradios 3\n", "empty-line": b"radios 3\n\nup 0 1\n",
+        "form-300": with_checks(changed(out["image-300"], 1, 7)), "damaged-5-and-9": damaged(out["image-512"], 5, 9),
+        "full-512": images.image_of(512, circulant(512, 20), k_order(512, circulant(512, 20))),
+        "script-512": script(512, [link for link in large[512] if link[0] >= 100][:200]),
+        "refused-4-longest": b"radios 3\ndown 65535 65535\n", "carriage-return": b"radios 3\nup 0 1\r\n",
+        "carriage-return-first": b"radios 512\r\nup 0 1\r\n", "no-line-feed-first": b"radios 3",
         "very-long-line": b"radios 3\nup 0 1" + b" " * 5000 + b"\n", "capital": b"radios 3\nUp 0 1\n",
     }
     return {name: bytes(content) for name, content in out.items()}
@@ -263,11 +304,16 @@ def cases():
     for name in ("script-7", "image-7", "image-1", "image-300", "image-512"):
         yield from ((name, verb, [], ("", "")) for verb in VERBS)
     yield "script-7", "help", [], ("", "")
+    yield "script-7", "--help", [], ("", "")
+    yield "script-7", "--version", [], ("", "")
+    yield "script-512", "check", [], ("", "")
+    yield "script-512", "numbers", [], ("", "")
     for name, v, k in [("image-7", "6", "1"), ("script-7", "0", "2"), ("image-7", "6", "2"), ("image-7", "7", "0"), ("image-7", "65535", "65535"),
-                       ("image-7", "65536", "0"), ("image-7", "01", "0"), ("image-7", "", "0"), ("image-7", "1 2", "0"), ("image-7", "0" * 18, "0")]:
+                       ("image-7", "65536", "0"), ("image-7", "01", "0"), ("image-7", "", "0"), ("image-7", "1 2", "0"),
+                       ("image-7", "0", "256"), ("image-7", "512", "0"), ("image-7", "256", "0"), ("image-7", "0", "x"), ("image-7", "0", "01"), ("image-7", "0" * 18, "0")]:
         yield name, "core", [v, k], (v, k)
     for name, v in [("script-7", "6"), ("script-7", "0"), ("script-7", "7"), ("image-7", "6"), ("image-7", "0"), ("image-7", "7"), ("image-7", "65535"),
-                    ("image-7", "65536"), ("image-7", "06"), ("image-7", ""), ("image-1", "0"), ("image-300", "299"), ("image-300", "0"),
+                    ("image-7", "65536"), ("image-7", "06"), ("image-7", ""), ("image-1", "0"), ("image-300", "299"), ("image-300", "0"), ("full-512", "0"),
                     ("refused-6", "0"), ("cut", "0")]:
         yield name, "lift", [v], (v, "")
     yield "script-7", "lift", [], ("", "")
@@ -277,6 +323,8 @@ def cases():
     yield "image-7", "core", [], ("", "")
     yield "image-7", "core", ["6", "1", "1"], ("6", "1")
     yield "image-7", "sheet", ["6"], ("6", "")
+    yield "image-7", "sheet", ["image-7"], ("image-7", "")
+    yield "image-7", "check", ["x", "y"], ("x", "y")
     yield from (("image-7", verb, [], ("", "")) for verb in ("sheets", "", "page"))
     for name, verb in [("empty", "check"), ("empty", "sheet"), ("cut", "check"), ("cut-at-a-block", "check"), ("damaged-first-byte", "check"),
                        ("damaged-check", "numbers"), ("damaged-last-block", "check"), ("two-images", "check"), ("says-0-radios", "check"),
@@ -284,20 +332,59 @@ def cases():
                        ("longer-zeros", "check"), ("refused-4", "numbers"), ("refused-5", "check"), ("refused-6", "image"), ("refused-7", "tree"),
                        ("radios-alone", "check"), ("radios-0", "check"), ("radios-513", "check"), ("first-line-only", "sheet"),
                        ("no-line-feed", "check"), ("second-radios", "check"), ("empty-line", "check"), ("very-long-line", "check"),
-                       ("capital", "check")]:
+                       ("capital", "check"), ("form-300", "check"), ("damaged-5-and-9", "check"), ("refused-4-longest", "check"),
+                       ("carriage-return", "check"), ("carriage-return-first", "check"), ("no-line-feed-first", "check")]:
         yield name, verb, [], ("", "")
 
 
 def long_texts():
-    """Noise, and 32,768 lines that take a link up and down again and again: what they end with decides."""
+    """Noise, and 71,680 lines that take a link up and down again and again: what they end with decides."""
     noise = bytes(10485760)
-    lines = 32768
+    refusal = f"long script\nsite: script, line {71680 + 3}: refused by 6: {WORDS[6]}\nstatus 1\n"
     yield "noise\n" + run(noise, "check")
     yield "noise\n" + run(noise, "check")
     yield f"noise\nsite: script, line 2: {FORM}\nstatus 1\n"
     yield "long script\nnumbers 0 0 0\nstatus 0\n"
     yield "long script\nnumbers 0 1 1\nstatus 0\n"
-    yield f"long script\nsite: script, line {lines + 3}: refused by 6: {WORDS[6]}\nstatus 1\n"
+    yield refusal
+    yield "long script\nnumbers 0 1 1\nstatus 0\n"
+    yield refusal
+
+
+def wrong(words):
+    return f"site: {words}\nstatus 1\n"
+
+
+def read_texts(data):
+    """Reads of one byte; one without room; a folder; a closed input."""
+    yield from (f"{name} {verb}  \n{run(data[name], verb)}" for name, verb in (("script-7", "numbers"), ("image-7", "numbers"), ("no-line-feed", "check")))
+    yield "script-7 numbers  \n" + wrong(UNREAD["no room"])
+    yield ". check  \n" + wrong(UNREAD["folder"])
+    yield "closed\n" + wrong(UNREAD["closed"])
+
+
+def write_texts():
+    for name, verb in (("script-7", "check"), ("image-512", "image"), ("script-7", "help"), ("script-7", "--version")):
+        yield f"{name} {verb}  \n" + wrong(UNWRITTEN)
+
+
+def digest(text):
+    h = 0
+    for x in text:
+        h = (h * BASE + x + 1) % MODULUS
+    return h
+
+
+def full_texts(data):
+    """A site of 10,240 links: of each text the length and the digest."""
+    for verb in ("check", "numbers", "sheet", "script", "image", "backbone", "staircase", "tree"):
+        said = SAYS[verb](found(data["full-512"])).encode("latin-1")
+        yield f"full-512 {verb}  \nstatus 0\nbytes {len(said)}\ndigest {digest(said)}\n"
+
+
+def last_texts():
+    yield "told 0\ntold 1\n"
+    yield from (f"refused by {number}: {WORDS.get(number, OTHER)}\n" for number in range(22))
 
 
 def text(data):
@@ -307,13 +394,14 @@ def text(data):
     for name, image in (("script-7", "image-7"), ("image-512", "image-512")):
         assert SAYS["image"](found(data[name])).encode("latin-1") == data[image]
         out.append(f"{name} image\nstatus 0\nsame 1\n" + run(data[image], "check"))
-    return "".join(out + list(long_texts())).encode()
+    return "".join([*out, *long_texts(), *read_texts(data), *write_texts(), *full_texts(data), *last_texts()]).encode()
 
 
 def stored_files():
     data = files()
     towers = (CRATES.parent / "examples/towers.txt").read_bytes()
-    site = {"stdin": towers, "args": b"sheet\n", "stdout": run(towers, "sheet").removesuffix("status 0\n").encode()}
+    core = run(towers, "core", ["3", "1"]).removesuffix("status 0\n")
+    site = {"stdin": towers, "args": b"--status\n1\ncore\n3\n1\n", "stdout": f"{core}0".encode()}  # the status to the output
     out = {CRATES / "test_site/data" / name: content for name, content in data.items()}
     out[CRATES / "test_site/data/cases"] = "".join(f"{name}|{verb}|{len(words)}|{'|'.join(shown)}\n" for name, verb, words, shown in cases()).encode()
     out |= {CRATES / "site" / name: content for name, content in site.items()}

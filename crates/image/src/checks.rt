@@ -111,7 +111,7 @@ pub fn check_sum(block: &[u8]) -> u32
 }
 
 // Whether block i passes its check.
-fn is_good(image: &[u8], i: usize) -> bool
+pub fn is_good(image: &[u8], i: usize) -> bool
     requires { ⌜ i < length (now image) / block-bytes ⌝ }
     ensures { λ r. ⌜ r ≡ block-check (now (image .entry)) i ⌝ }
 {

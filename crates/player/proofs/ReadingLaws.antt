@@ -9,11 +9,11 @@ use mathlib.Core.List.{List, [], _∷_, _++_, append-assoc, append-nil}
 use Prim.Native.Nat.{ℕ, zero, suc, _+_, _-_, _*_, _≤_, _<_}
 use native.Mathlib.Omega.{arith}
 use native.Mathlib.Numerals.{add-one}
-use lib.Dec.{ltb}
-use lib.ListN.{length, take, drop, getD, replicate, length-append, length-replicate}
+use lib.Dec.{ltb, eqb}
+use lib.ListN.{length, take, drop, getD, replicate, length-append, length-replicate, length-take}
 use lib.Seq.{take-suc, take-at, take-all, length-take-le}
-use borrow.Author.Tests.{ltb-true, lt-ltb, le-ltb}
-use Rattle.lists.proofs.Tests.{bool-cases}
+use borrow.Author.Tests.{ltb-true, lt-ltb, le-ltb, ne-eqb}
+use Rattle.lists.proofs.Tests.{bool-cases, cond-false}
 use Rattle.mesh.specs.Limits.{max-radios, row-bytes}
 use Rattle.mesh.specs.Tables.{Tables, tables}
 use Rattle.lists.specs.Lists.{In}
@@ -24,12 +24,13 @@ use Rattle.calls.specs.Contracts.{Clear-contract}
 use Rattle.calls.proofs.ChainLaws.{lent-yes}
 use Rattle.calls.proofs.ContractLaws.{by-zero}
 use Rattle.text.specs.Print.{Buffer, buffer-at, put, Puts, max-place}
-use Rattle.reads.specs.Reads.{most-reads}
+use Rattle.reads.specs.Reads.{goes-on, at-end, Found, Read, input-of, Going, Unbroken, To-end}
+use Rattle.reads.proofs.ReadLaws.{none-found, take-none}
 use Rattle.text.proofs.PrintLaws.{put-fits}
 use Rattle.player.specs.Lines.{Prints}
-use Rattle.player.specs.Machine.{Spot, spot, Takes, Takes-all, full, line-room, closing, ending}
-use Rattle.player.specs.Reading.{chunk-room, waiting, Writes, room-made, Ready, Site-lent, Site-cleared, Site-sized, Takes-chunk, Ended}
-use Rattle.player.specs.Reading.{Takes-read, Reads-once, Reads-all}
+use Rattle.player.specs.Machine.{Spot, spot, Marked, Takes, Takes-all, full, line-room, closing, ending}
+use Rattle.player.specs.Reading.{chunk-room, waiting, Writes, room-made, Room-made, broken-off, Ready, Site-lent, Site-cleared, Site-sized, Takes-chunk, Ended}
+use Rattle.player.specs.Reading.{Broken, Takes-read, Found-by, Reads-once, Reads-all}
 use Rattle.player.specs.Play.{lines-of, cleared}
 use Rattle.player.specs.Whole.{Lines-print, Run-from}
 use Rattle.player.specs.declared.machine.Progress.{Progress}
@@ -64,25 +65,26 @@ writes-put out text after at next h m p =
     record { written = []; is = sym (ap waiting e ∙ take-at (take at out ++ text) (drop (at + length text) out) (at + length text) front) }
 
 -- a full buffer is written, and nothing waits then
-pub writes-room : (s : Progress) (out : List ℕ) → Writes (buffer-at out (s .at)) [] (buffer-at out (room-made s .at))
+pub writes-room : (f : ℕ) (s : Progress) (out : List ℕ) → Writes (buffer-at out (s .at)) [] (buffer-at out (room-made f s .at))
 unfolding room-made waiting
-writes-room s out = go (ltb (s .at) full)
+writes-room f s out = go (ltb (s .at) full)
   where
     go : (t : Bool) → Writes (buffer-at out (s .at)) [] (buffer-at out (cond t (s .at) 0))
     go true = writes-none (buffer-at out (s .at))
     go false = record { written = take (s .at) out; is = refl }
 
-pub room-made-not : (s : Progress) → s .at < full → s ≡ room-made s
+pub room-made-not : (s : Progress) → s .at < full → s ≡ room-made (s .fault) s
 unfolding room-made
 room-made-not s h = rw (lt-ltb (s .at) full h)
 
-pub room-made-full : (s : Progress) → full ≤ s .at → record { number = s .number; held = s .held; at = 0; live = s .live } ≡ room-made s
+pub room-made-full : (f : ℕ) (s : Progress) → full ≤ s .at
+    → record { number = s .number; held = s .held; at = 0; live = s .live; fault = f } ≡ room-made f s
 unfolding room-made
-room-made-full s h = rw (le-ltb (s .at) full h)
+room-made-full f s h = rw (le-ltb (s .at) full h)
 
-pub room-made-at : (s : Progress) → room-made s .at < full
+pub room-made-at : (f : ℕ) (s : Progress) → room-made f s .at < full
 unfolding room-made
-room-made-at s = go (bool-cases (ltb (s .at) full))
+room-made-at f s = go (bool-cases (ltb (s .at) full))
   where
     go : (ltb (s .at) full ≡ true) ⊎ (ltb (s .at) full ≡ false) → cond (ltb (s .at) full) (s .at) 0 < full
     go (inl e) = rw e (ltb-true (s .at) full e)
@@ -108,7 +110,7 @@ chunk-none m n chunk p s out h =
 
 -- one byte more: x is taken from the spot of s to the one of r, and room is made
 pub chunk-more : (m l n : ℕ) (chunk : List ℕ) (i x : ℕ) (p : Spot) (b : Buffer) (t v : Tables) (w y line kept : List ℕ) (s r d : Progress)
-    (out after : List ℕ) → i < length chunk → x ≡ getD chunk i 0 → l ≡ m → length after ≡ length out → d ≡ room-made r
+    (out after : List ℕ) → i < length chunk → x ≡ getD chunk i 0 → l ≡ m → length after ≡ length out → Room-made r d
     → Chunk-to m n chunk i p b (spot t w line s) s out
     → Prints (λ text. Takes l n x (spot t w line s) text (spot v y kept r)) (buffer-at out (s .at)) (buffer-at after (r .at))
     → Chunk-to m n chunk (i + 1) p b (spot v y kept d) d after
@@ -125,21 +127,21 @@ chunk-more m l n chunk i x p b t v w y line kept s r d out after h e room same m
     let takes : Takes-all m n (take (i + 1) chunk) p whole (spot v y kept r) =
     subst (λ (bs : List ℕ). Takes-all m n bs p whole (spot v y kept r)) (sym more)
     (takes-more m n (take i chunk) (getD chunk i 0) p (spot t w line s) (spot v y kept r) (so .taken .text) (byte .text) (so .taken .takes) taken) in
-    let writes : Writes b (whole ++ []) (buffer-at after (room-made r .at)) =
-    writes-append b (buffer-at after (r .at)) (buffer-at after (room-made r .at)) whole []
-    (writes-append b (buffer-at out (s .at)) (buffer-at after (r .at)) (so .taken .text) (byte .text) (so .taken .writes) put) (writes-room r after) in
+    let writes : Writes b (whole ++ []) (buffer-at after (room-made (d .fault) r .at)) =
+    writes-append b (buffer-at after (r .at)) (buffer-at after (room-made (d .fault) r .at)) whole []
+    (writes-append b (buffer-at out (s .at)) (buffer-at after (r .at)) (so .taken .text) (byte .text) (so .taken .writes) put) (writes-room (d .fault) r after) in
     let number = takes-number m n (getD chunk i 0) (spot t w line s) (byte .text) (spot v y kept r) taken in
-    let rest : Chunk-to m n chunk (i + 1) p b (spot v y kept (room-made r)) (room-made r) after =
+    let rest : Chunk-to m n chunk (i + 1) p b (spot v y kept (room-made (d .fault) r)) (room-made (d .fault) r) after =
     record {
       low = omega arith;
-      ready = record { at = room-made-at r; number = omega (arith, number, so .ready .number); room = omega (arith, so .ready .room) };
+      ready = record { at = room-made-at (d .fault) r; number = omega (arith, number, so .ready .number); room = omega (arith, so .ready .room) };
       taken = record {
         text = whole;
         takes = takes;
-        writes = subst (λ (u : List ℕ). Writes b u (buffer-at after (room-made r .at))) (append-nil whole) writes;
+        writes = subst (λ (u : List ℕ). Writes b u (buffer-at after (room-made (d .fault) r .at))) (append-nil whole) writes;
       };
     } in
-    subst (λ (z : Progress). Chunk-to m n chunk (i + 1) p b (spot v y kept z) z after) (sym made) rest
+    subst (λ (z : Progress). Chunk-to m n chunk (i + 1) p b (spot v y kept z) z after) (sym (made .is)) rest
 
 pub chunk-end : (m n : ℕ) (chunk : List ℕ) (i : ℕ) (p : Spot) (b : Buffer) (q : Spot) (s : Progress) (out : List ℕ) → length chunk ≤ i
     → Chunk-to m n chunk i p b q s out → Takes-chunk m n chunk p b q (buffer-at out (s .at))
@@ -169,28 +171,32 @@ closing-writes held ns xs out after s next h sized f g p =
 abbrev begin : Tables → (w : List ℕ) → Spot
 begin t w = record { tables = t; answer = w; number = 2; held = []; live = true }
 
--- after some reads, k are left: while the run goes on they brought a byte at least each, and the rest can be taken
+-- after some reads, k are left: while the run goes on without a fault they brought all that it took, and the rest can be taken
 pub record Read-to (n k : ℕ) (t : Tables) (w : List ℕ) (b : Buffer) (q : Spot) (s : Progress) (out : List ℕ) : Type 0 where
-  pub bytes : List ℕ
+  pub reads : List Read
   pub text : List ℕ
   pub writes : Writes b text (buffer-at out (s .at))
-  pub takes : s .live ≡ true → Takes-all line-room n bytes (begin t w) text q
-  pub many : s .live ≡ true → most-reads ≤ length bytes + k
+  pub takes : s .live ≡ true → Takes-all line-room n (input-of reads) (begin t w) text q
   pub ready : s .live ≡ true → Ready (chunk-room * k) s out
-  pub over : s .live ≡ false → Lines-print n (lines-of bytes) 2 t w text
+  pub going : s .live ≡ true → s .fault ≡ 0 → Going reads
+  pub over : s .live ≡ false → Lines-print n (lines-of (input-of reads)) 2 t w text
+  pub unbroken : s .live ≡ false → Unbroken reads
+  pub to-end : s .live ≡ false → s .fault ≡ 0 → To-end reads
 
-pub read-none : (n k : ℕ) (t : Tables) (w out : List ℕ) (s : Progress) → k ≡ most-reads → s .live ≡ true → Ready (chunk-room * k) s out
+pub read-none : (n k : ℕ) (t : Tables) (w out : List ℕ) (s : Progress) → s .live ≡ true → Ready (chunk-room * k) s out
     → Read-to n k t w (buffer-at out (s .at)) (begin t w) s out
-unfolding Takes-all
-read-none n k t w out s all live h =
+unfolding Takes-all input-of Going
+read-none n k t w out s live h =
     record {
-      bytes = [];
+      reads = [];
       text = [];
       writes = writes-none (buffer-at out (s .at));
       takes = λ l. record { says = refl; same = refl };
-      many = λ l. omega (arith, all);
       ready = λ l. h;
+      going = λ l f. tt;
       over = λ l. absurd (true≢false (sym live ∙ l));
+      unbroken = λ l. absurd (true≢false (sym live ∙ l));
+      to-end = λ l f. absurd (true≢false (sym live ∙ l));
     }
 
 -- bytes taken to the end of the run print what their lines say
@@ -204,46 +210,86 @@ printed-over n bs t w text q l h =
     subst (λ (u : List ℕ). Lines-print n (lines-of bs) 2 t w u) (ap (λ (x : List ℕ). text ++ x) (ending-dead q l) ∙ append-nil text)
     (printed n bs t w text q h)
 
--- one read more: p and q are the spots of s and r, and bs is what it brought
+-- one read more: p and q are the spots of s and r
 module _ (n l k : ℕ) (t : Tables) (w : List ℕ) (b : Buffer) (p q : Spot) (s r : Progress) (out after : List ℕ) (some : 0 < k) (room : l ≡ line-room)
-    (live : s .live ≡ true) (same : q .live ≡ r .live) (from : p .number ≡ s .number) (to : q .number ≡ r .number)
-    (long : length after ≡ length out) (at : r .live ≡ true → r .at < full) (so : Read-to n k t w b p s out) where
-  read-some : (bs : List ℕ) → 0 < length bs → length bs ≤ chunk-room → Takes-chunk l n bs p (buffer-at out (s .at)) q (buffer-at after (r .at))
+    (live : s .live ≡ true) (none : s .fault ≡ 0) (same : q .live ≡ r .live) (from : p .number ≡ s .number) (to : q .number ≡ r .number)
+    (long : length after ≡ length out) (at : r .live ≡ true → r .at < full) (so : Read-to n k t w b p s out) (read : Read) (found : Found-by (read .state) r) where
+  -- what the last read says of all
+  abbrev So-far : (text : List ℕ) → Type 0
+  So-far text = Writes b text (buffer-at after (r .at)) × (r .live ≡ true → Takes-all line-room n (input-of (so .reads) ++ read .bytes) (begin t w) text q)
+      × (r .live ≡ true → Ready (chunk-room * (k - 1)) r after) × (r .live ≡ false → Lines-print n (lines-of (input-of (so .reads) ++ read .bytes)) 2 t w text)
+
+  read-to : (text : List ℕ) → So-far text → Read-to n (k - 1) t w b q r after
+  unfolding input-of Going Unbroken To-end
+  read-to text h =
+      record {
+        reads = read ∷ so .reads;
+        text = text;
+        writes = h .0;
+        takes = h .1;
+        ready = h .2;
+        going = λ e f. (found .going e f, so .going live none);
+        over = h .3;
+        unbroken = λ e. (found .over e, so .going live none);
+        to-end = λ e f. (found .ended e f, so .going live none);
+      }
+
+  read-some : length (read .bytes) ≤ chunk-room → Takes-chunk l n (read .bytes) p (buffer-at out (s .at)) q (buffer-at after (r .at))
       → Read-to n (k - 1) t w b q r after
-  read-some bs one few chunk =
+  read-some few chunk =
+      let bs = read .bytes in
       let taken : Takes-all line-room n bs p (chunk .text) q = subst (λ (m : ℕ). Takes-all m n bs p (chunk .text) q) room (chunk .takes) in
-      let all = takes-append line-room n (so .bytes) bs (begin t w) p q (so .text) (chunk .text) (so .takes live) taken in
+      let all = takes-append line-room n (input-of (so .reads)) bs (begin t w) p q (so .text) (chunk .text) (so .takes live) taken in
       let number = takes-all-number line-room n bs p (chunk .text) q taken in
       let ready = so .ready live in
-      record {
-        bytes = so .bytes ++ bs;
-        text = so .text ++ chunk .text;
-        writes = writes-append b (buffer-at out (s .at)) (buffer-at after (r .at)) (so .text) (chunk .text) (so .writes) (chunk .writes);
-        takes = λ h. all;
-        many = λ h. omega (arith, so .many live, length-append (so .bytes) bs);
-        ready = λ h. record { at = at h; number = omega (arith, number, ready .number); room = omega (arith, ready .room) };
-        over = λ h. printed-over n (so .bytes ++ bs) t w (so .text ++ chunk .text) q (same ∙ h) all;
-      }
+      read-to (so .text ++ chunk .text) (
+        writes-append b (buffer-at out (s .at)) (buffer-at after (r .at)) (so .text) (chunk .text) (so .writes) (chunk .writes),
+        (λ h. all),
+        (λ h. record { at = at h; number = omega (arith, number, ready .number); room = omega (arith, ready .room) }),
+        (λ h. printed-over n (input-of (so .reads) ++ bs) t w (so .text ++ chunk .text) q (same ∙ h) all),
+      )
 
-  read-over : Ended p (buffer-at out (s .at)) q (buffer-at after (r .at)) → Read-to n (k - 1) t w b q r after
-  read-over end =
-      record {
-        bytes = so .bytes;
-        text = so .text ++ ending p;
-        writes = writes-append b (buffer-at out (s .at)) (buffer-at after (r .at)) (so .text) (ending p) (so .writes) (end .writes);
-        takes = λ h. absurd (true≢false (sym h ∙ sym same ∙ end .over));
-        many = λ h. absurd (true≢false (sym h ∙ sym same ∙ end .over));
-        ready = λ h. absurd (true≢false (sym h ∙ sym same ∙ end .over));
-        over = λ h. printed n (so .bytes) t w (so .text) p (so .takes live);
-      }
+  -- the read brought nothing
+  same-input : (read .state ≡ goes-on → ⊥) → input-of (so .reads) ++ read .bytes ≡ input-of (so .reads)
+  same-input f = ap (λ (xs : List ℕ). input-of (so .reads) ++ xs) (read .none f) ∙ append-nil (input-of (so .reads))
 
-  read-by : (bs : List ℕ) → length bs ≤ chunk-room → Takes-read l n bs p (buffer-at out (s .at)) q (buffer-at after (r .at)) → Read-to n (k - 1) t w b q r after
+  read-over : (read .state ≡ goes-on → ⊥) → Ended p (buffer-at out (s .at)) q (buffer-at after (r .at)) → Read-to n (k - 1) t w b q r after
+  read-over f end =
+      read-to (so .text ++ ending p) (
+        writes-append b (buffer-at out (s .at)) (buffer-at after (r .at)) (so .text) (ending p) (so .writes) (end .writes),
+        (λ h. absurd (true≢false (sym h ∙ sym same ∙ end .over))),
+        (λ h. absurd (true≢false (sym h ∙ sym same ∙ end .over))),
+        (λ h. subst (λ (bs : List ℕ). Lines-print n (lines-of bs) 2 t w (so .text ++ ending p)) (sym (same-input f))
+            (printed n (input-of (so .reads)) t w (so .text) p (so .takes live))),
+      )
+
+  read-broken : (read .state ≡ goes-on → ⊥) → p .live ≡ s .live → Broken p (buffer-at out (s .at)) q (buffer-at after (r .at)) → Read-to n (k - 1) t w b q r after
+  read-broken f on broken =
+      let ready = so .ready live in
+      let number = ap (λ (x : Spot). x .number) (broken .same) in
+      let lives : r .live ≡ true = sym same ∙ ap (λ (x : Spot). x .live) (broken .same) ∙ on ∙ live in
+      read-to (so .text) (
+        subst (λ (c : Buffer). Writes b (so .text) c) (sym (broken .none)) (so .writes),
+        (λ h. subst (λ (x : Spot). Takes-all line-room n (input-of (so .reads) ++ read .bytes) (begin t w) (so .text) x) (sym (broken .same))
+            (subst (λ (bs : List ℕ). Takes-all line-room n bs (begin t w) (so .text) p) (sym (same-input f)) (so .takes live))),
+        (λ h. record { at = at h; number = omega (arith, number, ready .number); room = omega (arith, ready .room) }),
+        (λ h. absurd (true≢false (sym lives ∙ h))),
+      )
+
+  read-by : (state : ℕ) → read .state ≡ state → p .live ≡ s .live → length (read .bytes) ≤ chunk-room
+      → Takes-read l n (read .bytes) state p (buffer-at out (s .at)) q (buffer-at after (r .at)) → Read-to n (k - 1) t w b q r after
   unfolding Takes-read
-  read-by [] few end = read-over end
-  read-by (x ∷ xs) few chunk = read-some (x ∷ xs) (omega arith) few chunk
+  read-by zero e on few chunk = read-some few chunk
+  read-by (suc zero) e on few end = read-over (λ f. absurd (omega (arith, e, f))) end
+  read-by (suc (suc j)) e on few broken = read-broken (λ f. absurd (omega (arith, e, f))) on broken
 
-  pub read-more : Reads-once l n p (buffer-at out (s .at)) q (buffer-at after (r .at)) → Read-to n (k - 1) t w b q r after
-  read-more read = read-by (read .bytes) (read .few) (read .taken)
+pub read-more : (n l k : ℕ) (t : Tables) (w : List ℕ) (b : Buffer) (p q : Spot) (s r : Progress) (out after : List ℕ) → 0 < k → l ≡ line-room
+    → s .live ≡ true → s .fault ≡ 0 → p .live ≡ s .live → q .live ≡ r .live → p .number ≡ s .number → q .number ≡ r .number
+    → length after ≡ length out → (r .live ≡ true → r .at < full) → Read-to n k t w b p s out
+    → Reads-once l n r p (buffer-at out (s .at)) q (buffer-at after (r .at)) → Read-to n (k - 1) t w b q r after
+read-more n l k t w b p q s r out after some room live none on same from to long at so once =
+    read-by n l k t w b p q s r out after some room live none same from to long at so (once .read) (once .found) (once .read .state) refl on (once .few)
+    (once .taken)
 
 -- from a cleared site
 run-lines : (n : ℕ) (bs : List ℕ) (t : Tables) (w text : List ℕ) → Site-cleared n t w → Lines-print n (lines-of bs) 2 t w text → Run-from n bs text
@@ -253,15 +299,18 @@ run-lines (suc n) bs t w text site h =
     subst (λ (y : List ℕ). Lines-print (suc n) (lines-of bs) 2 (cleared (suc n)) y text) (site .answer-zero)
     (subst (λ (v : Tables). Lines-print (suc n) (lines-of bs) 2 v w text) (site .is-cleared) h)
 
--- the run is over, or no read is left
+-- the loop is left
 pub read-end : (n k : ℕ) (t : Tables) (w : List ℕ) (b : Buffer) (q : Spot) (s : Progress) (out : List ℕ) → Site-cleared n t w
-    → (s .live ≡ true → k ≡ 0) → Read-to n k t w b q s out → Reads-all n b (buffer-at out (s .at))
-read-end n k t w b q s out site last so =
-    record { bytes = so .bytes; text = so .text; prints = λ h. run-lines n (so .bytes) t w (so .text) site (go h (bool-cases (s .live))); writes = so .writes }
-  where
-    go : length (so .bytes) < most-reads → (s .live ≡ true) ⊎ (s .live ≡ false) → Lines-print n (lines-of (so .bytes)) 2 t w (so .text)
-    go h (inl l) = absurd (omega (arith, so .many l, last l))
-    go h (inr l) = so .over l
+    → Read-to n k t w b q s out → Reads-all n b s out
+read-end n k t w b q s out site so =
+    record {
+      reads = so .reads;
+      text = so .text;
+      writes = so .writes;
+      unbroken = so .unbroken;
+      prints = λ h. run-lines n (input-of (so .reads)) t w (so .text) site (so .over h);
+      to-end = so .to-end;
+    }
 
 -- ---- the site
 
@@ -332,18 +381,62 @@ turn-ended t w line out after s r live over h =
       writes = subst (λ (u : List ℕ). Writes (buffer-at out (s .at)) u (buffer-at after (r .at))) (sym (ending-live (spot t w line s) live)) h;
     }
 
--- a chunk of no bytes is the end of the input
-pub read-nothing : (m n : ℕ) (bs : List ℕ) (p q : Spot) (b c : Buffer) → length bs ≡ 0 → Ended p b q c → Takes-read m n bs p b q c
+-- what a read brought, by what it found
+pub read-ended : (m n : ℕ) (bs : List ℕ) (state : ℕ) (p q : Spot) (b c : Buffer) → state ≡ at-end → Ended p b q c → Takes-read m n bs state p b q c
 unfolding Takes-read
-read-nothing m n [] p q b c e h = h
-read-nothing m n (x ∷ xs) p q b c e h = absurd (omega arith)
+read-ended m n bs state p q b c e h = rw e h
 
-pub read-bytes : (m n : ℕ) (bs : List ℕ) (p q : Spot) (b c : Buffer) → (length bs ≡ 0 → ⊥) → Takes-chunk m n bs p b q c → Takes-read m n bs p b q c
+pub read-bytes : (m n : ℕ) (bs : List ℕ) (state : ℕ) (p q : Spot) (b c : Buffer) → state ≡ goes-on → Takes-chunk m n bs p b q c → Takes-read m n bs state p b q c
 unfolding Takes-read
-read-bytes m n [] p q b c f h = absurd (f refl)
-read-bytes m n (x ∷ xs) p q b c f h = h
+read-bytes m n bs state p q b c e h = rw e h
+
+pub read-failed : (m n : ℕ) (bs : List ℕ) (state : ℕ) (p q : Spot) (b c : Buffer) → (state ≡ goes-on → ⊥) → (state ≡ at-end → ⊥) → Broken p b q c
+    → Takes-read m n bs state p b q c
+unfolding Takes-read
+read-failed m n bs zero p q b c f g h = absurd (f refl)
+read-failed m n bs (suc zero) p q b c f g h = absurd (g refl)
+read-failed m n bs (suc (suc k)) p q b c f g h = h
+
+-- nothing but the fault is another
+pub turn-broken : (t : Tables) (w line out : List ℕ) (s r : Progress) → r ≡ broken-off (r .fault) s
+    → Broken (spot t w line s) (buffer-at out (s .at)) (spot t w line r) (buffer-at out (r .at))
+unfolding spot broken-off
+turn-broken t w line out s r h = record { same = ap (spot t w line) h; none = ap (λ (x : Progress). buffer-at out (x .at)) h }
+
+pub broken-live : (s r : Progress) → r ≡ broken-off (r .fault) s → r .live ≡ s .live
+unfolding broken-off
+broken-live s r h = ap (λ (x : Progress). x .live) h
+
+pub broken-at : (s r : Progress) → r ≡ broken-off (r .fault) s → r .at ≡ s .at
+unfolding broken-off
+broken-at s r h = ap (λ (x : Progress). x .at) h
 
 -- count bytes of a chunk are read
-pub reads-once : (m n : ℕ) (chunk : List ℕ) (count : ℕ) (p q : Spot) (b c : Buffer) → count ≡ length (take count chunk) → count ≤ length chunk
-    → length chunk ≡ chunk-room → Takes-read m n (take count chunk) p b q c → Reads-once m n p b q c
-reads-once m n chunk count p q b c e few room h = record { bytes = take count chunk; few = omega arith; taken = h }
+pub reads-once : (m n : ℕ) (chunk : List ℕ) (count state size : ℕ) (r : Progress) (p q : Spot) (b c : Buffer) → count ≤ length chunk → length chunk ≡ chunk-room
+    → Found size (record { count = count; state = state }) → Found-by state r → Takes-read m n (take count chunk) state p b q c → Reads-once m n r p b q c
+reads-once m n chunk count state size r p q b c few room found by h =
+    record {
+      read = record { bytes = take count chunk; state = state; none = λ f. take-none count chunk (none-found found f) };
+      few = omega (arith, length-take count chunk);
+      found = by;
+      taken = h;
+    }
+
+-- ---- faults
+
+-- a run that goes on needs no mark
+pub marked-live : (s : Progress) → s .live ≡ true → Marked s
+unfolding Marked
+marked-live s live = λ l f. true≢false (sym live ∙ l)
+
+-- what is marked stays so when room is made
+pub marked-room : (s r : Progress) → Room-made s r → Marked s → Marked r
+unfolding Marked room-made
+marked-room s r h m = λ l f. m (sym (ap (λ (x : Progress). x .live) (h .is)) ∙ l) (h .kept f)
+
+-- the fault that came first: none only where there is none
+pub fault-first : (old new r : ℕ) → r ≡ cond (eqb old 0) new old → r ≡ 0 → (old ≡ 0) × (new ≡ 0)
+fault-first zero new r e h = (refl, sym e ∙ h)
+fault-first (suc k) new r e h =
+    let some : r ≡ suc k = e ∙ cond-false (eqb (suc k) 0) new (suc k) (ne-eqb (suc k) 0 (λ d. absurd (omega (arith, d)))) in
+    absurd (omega (arith, some, h))

@@ -2,6 +2,7 @@
 --   Spot               where a run stands: tables, answer table, the line's number, its bytes so far, whether the run goes on
 --   spot t w line s    the spot of the code's tables, line buffer and progress
 --   Stop-put           `bad L` is put, as the code does it
+--   Marked s           a run that is over has a fault
 --   Stopped, Held-on, Line-taken, Ignored   the four things that a byte can do
 --   Takes m n byte p text q      a byte takes the spot p to q and prints the text; a line has room for m bytes
 --   line-room          the bytes that a line has room for
@@ -43,6 +44,11 @@ pub record Stop-put (s : Progress) (b : List ℕ) (r : Progress) (c : List ℕ) 
   pub number : r .number ≡ s .number
   pub held : r .held ≡ 0
   pub live : r .live ≡ false
+  pub fault : r .fault ≡ 0 → ⊥
+
+-- a run that is over has a fault until the end of the input is taken: a line of another form ended it
+unfoldable pub Marked : Progress → Type 0
+Marked s = s .live ≡ false → s .fault ≡ 0 → ⊥
 
 -- ---- what a byte does
 

@@ -3,26 +3,31 @@
 --   out-room                 the bytes of the printing buffer
 --   waiting b                what waits in the printing buffer
 --   Writes b text c          what waited in b and then the text: written, but for what waits in c
---   room-made s              the progress after a full buffer was written
+--   room-made f s, Room-made the progress after a full buffer was written
+--   broken-off f s           the progress after a read that failed
 --   Ready k s out            the run has room for k bytes more
 --   Site-lent, Site-cleared  the tables before and after clearing
 --   Site-sized               the closing lines have at most as many fields as a site radios
 --   Takes-chunk              a chunk takes the run from spot to spot, and its text is written or waits
---   Ended, Takes-read        what a read brought: nothing at the end of the input, else bytes that are taken
+--   Ended, Broken, Takes-read   what a read brought, by what it found: bytes that are taken, the end of the input, a failure
+--   Found-by                 what a run without a fault says of the last read
 --   Reads-once               one read
---   Reads-all                the reads together: the text of all bytes that they brought
--- No contract can say what a read brings or a write takes: of both there are some bytes, `bytes` and `written` below.
+--   Reads-all                the reads together: the text of all bytes that they brought, in order, to their end
+--   Reads-first              the first line
+-- No contract can say what a read brings or a write takes: of both there are some bytes, `Read` and `written` below.
 -- Definitions only.
 use mathlib.Core.Path.{_≡_}
-use mathlib.Core.Bool.{false, cond}
-use mathlib.Core.List.{List, [], _∷_, _++_}
-use Prim.Native.Nat.{ℕ, _+_, _*_, _≤_, _<_}
+use mathlib.Core.Bool.{true, false, cond}
+use mathlib.Core.List.{List, _++_}
+use Prim.Native.Nat.{ℕ, zero, suc, _+_, _*_, _≤_, _<_}
 use lib.Dec.{ltb}
 use lib.ListN.{length, take, replicate}
 use Rattle.mesh.specs.Limits.{max-radios, row-bytes}
 use Rattle.mesh.specs.Tables.{Tables}
-use Rattle.text.specs.Print.{Buffer, max-place}
-use Rattle.reads.specs.Reads.{most-reads}
+use Rattle.text.specs.Print.{Buffer, buffer-at, max-place}
+use Rattle.reads.specs.Reads.{goes-on, at-end, Read, input-of, Going, Unbroken, To-end}
+use Rattle.player.specs.Play.{radios-of}
+use Rattle.player.specs.declared.first.First.{First}
 use Rattle.player.specs.Machine.{Spot, Takes-all, ending, full}
 use Rattle.player.specs.Play.{cleared}
 use Rattle.player.specs.Whole.{Run-from}
@@ -47,10 +52,19 @@ pub record Writes (b : Buffer) (text : List ℕ) (c : Buffer) : Type 0 where
   pub written : List ℕ
   pub is : waiting b ++ text ≡ written ++ waiting c
 
--- a full buffer is written, and nothing waits then; all else is kept
-unfoldable pub room-made : Progress → Progress
-room-made s =
-    record { number = s .number; held = s .held; at = cond (ltb (s .at) full) (s .at) 0; live = s .live }
+-- a full buffer is written, and nothing waits then; all else is kept, but for the fault f
+unfoldable pub room-made : (f : ℕ) → Progress → Progress
+room-made f s =
+    record { number = s .number; held = s .held; at = cond (ltb (s .at) full) (s .at) 0; live = s .live; fault = f }
+
+-- the same, with a fault wherever there was one
+pub record Room-made (s r : Progress) : Type 0 where
+  pub is : r ≡ room-made (r .fault) s
+  pub kept : r .fault ≡ 0 → s .fault ≡ 0
+
+-- a read failed: nothing but the fault is another
+unfoldable pub broken-off : (f : ℕ) → Progress → Progress
+broken-off f s = record { number = s .number; held = s .held; at = s .at; live = s .live; fault = f }
 
 -- ---- chunks
 
@@ -94,20 +108,43 @@ pub record Ended (p : Spot) (b : Buffer) (q : Spot) (c : Buffer) : Type 0 where
   pub over : q .live ≡ false
   pub writes : Writes b (ending p) c
 
--- what a read brought: at the end of the input nothing, and else bytes that are taken, however few
-unfoldable pub Takes-read : (m n : ℕ) → (bytes : List ℕ) → Spot → Buffer → Spot → Buffer → Type 0
-Takes-read m n [] p b q c = Ended p b q c
-Takes-read m n (x ∷ xs) p b q c = Takes-chunk m n (x ∷ xs) p b q c
+-- a read failed: the run stays where it is
+pub record Broken (p : Spot) (b : Buffer) (q : Spot) (c : Buffer) : Type 0 where
+  pub same : q ≡ p
+  pub none : c ≡ b
 
--- one read
-pub record Reads-once (m n : ℕ) (p : Spot) (b : Buffer) (q : Spot) (c : Buffer) : Type 0 where
-  pub bytes : List ℕ
-  pub few : length bytes ≤ chunk-room
-  pub taken : Takes-read m n bytes p b q c
+-- what a read brought, by what it found: bytes, however few, are taken; at the end the run ends; a failure breaks it off
+unfoldable pub Takes-read : (m n : ℕ) → (bytes : List ℕ) → (state : ℕ) → Spot → Buffer → Spot → Buffer → Type 0
+Takes-read m n bs zero p b q c = Takes-chunk m n bs p b q c
+Takes-read m n bs (suc zero) p b q c = Ended p b q c
+Takes-read m n bs (suc (suc k)) p b q c = Broken p b q c
 
--- all reads after a first line that names n radios: the text of the bytes that they brought
-pub record Reads-all (n : ℕ) (b c : Buffer) : Type 0 where
-  pub bytes : List ℕ
+-- a run without a fault goes on after bytes, and is over at the end of the input alone
+pub record Found-by (state : ℕ) (r : Progress) : Type 0 where
+  pub going : r .live ≡ true → r .fault ≡ 0 → state ≡ goes-on
+  pub ended : r .live ≡ false → r .fault ≡ 0 → state ≡ at-end
+  pub over : r .live ≡ false → state ≤ at-end
+
+-- one read, after which the run's progress is r
+pub record Reads-once (m n : ℕ) (r : Progress) (p : Spot) (b : Buffer) (q : Spot) (c : Buffer) : Type 0 where
+  pub read : Read
+  pub few : length (read .bytes) ≤ chunk-room
+  pub found : Found-by (read .state) r
+  pub taken : Takes-read m n (read .bytes) (read .state) p b q c
+
+-- all reads after a first line that names n radios, the last read first: where the run is over, no read failed, and its text is that of
+-- what they brought; where it has no fault then, they go to the end of the input
+pub record Reads-all (n : ℕ) (b : Buffer) (r : Progress) (out : List ℕ) : Type 0 where
+  pub reads : List Read
   pub text : List ℕ
-  pub prints : length bytes < most-reads → Run-from n bytes text
-  pub writes : Writes b text c
+  pub writes : Writes b text (buffer-at out (r .at))
+  pub unbroken : r .live ≡ false → Unbroken reads
+  pub prints : r .live ≡ false → Run-from n (input-of reads) text
+  pub to-end : r .live ≡ false → r .fault ≡ 0 → To-end reads
+
+-- the first line is what its reads brought
+pub record Reads-first (r : First) : Type 0 where
+  pub reads : List Read
+  pub names : r .n ≡ radios-of (input-of reads)
+  pub going : r .state ≡ goes-on → Going reads
+  pub ended : r .state ≡ at-end → To-end reads

@@ -1,38 +1,48 @@
-// The replay program as a library: reads a descriptor to its end, plays its lines on a site of its own, and prints what each
-// line says to standard output. A line of another form ends the run with `bad L`. No public function has a `requires`.
+// The replay program as a library: reads a descriptor to its end, plays its lines on a site of its own, and then prints what each
+// line says. A line of another form ends the run with `bad L`. What cannot be read, kept or written is one line on the error descriptor. The
+// status is 0 where all was read, played and written, and else 1. No public function has a `requires`.
 ghost use Prim.Native.Nat.{_≤_, _<_};
 ghost use Rattle.mesh.specs.Limits.{max-radios};
 ghost use Rattle.mesh.specs.Tables.{tables};
 ghost use Rattle.player.specs.Reading.{Site-lent};
 
 mod first;
+mod keeping;
 mod machine;
 mod play;
 mod reading;
+mod words;
 
+pub use first::radios_of;
 use mesh::Site;
+use reads::Ends;
+pub use words::Start;
+pub use words::run_words;
+pub use words::started;
+pub use words::tell;
 
 // The bytes of a site's largest links table.
 const LINKS_BYTES: usize = Site::ROW_BYTES * Site::RADIOS as usize;
 
 // Clears the site and plays the lines after the first on it.
 fn play_site(
-    fd: i32,
+    ends: Ends,
+    keep: i32,
     most: usize,
     n: u32,
     links: &mut [u8],
     numbers: &mut [u8],
     order: &mut [u16],
     answer: &mut [u16],
-)
+) -> u32
     requires { ⌜ Site-lent n (tables (now links) (now numbers) (now order)) (now answer) ⌝ }
 {
     tables::clear::clear(n, links, numbers, order);
-    reading::read_all(fd, most, n, links, numbers, order, answer);
+    reading::read_all(ends, keep, most, n, links, numbers, order, answer)
 }
 
 // Plays the lines after the first on a site of n radios, whose tables are parts of the largest ones.
-fn run_site(fd: i32, most: usize, n: u32)
+fn run_site(ends: Ends, keep: i32, most: usize, n: u32) -> u32
     requires some { ⌜ 0 < n ⌝ }
     requires few { ⌜ n ≤ max-radios ⌝ }
 {
@@ -43,22 +53,36 @@ fn run_site(fd: i32, most: usize, n: u32)
     let mut order = [0u16; Site::RADIOS as usize];
     let mut answer = [0u16; Site::RADIOS as usize];
     play_site(
-        fd,
+        ends,
+        keep,
         most,
         n,
         &mut links[..bytes],
         &mut numbers[..many],
         &mut order[..many],
         &mut answer[..many],
-    );
+    )
 }
 
-// Plays what the descriptor holds, to its end. After the first line each read asks for at most `most` bytes.
-pub fn run(fd: i32, most: usize) {
-    let n = first::read_first(fd);
-    if n == 0 {
-        reading::print_bad(1);
-        return;
+// The same with a keep of its own.
+fn run_kept(ends: Ends, most: usize, n: u32) -> u32
+    requires some { ⌜ 0 < n ⌝ }
+    requires few { ⌜ n ≤ max-radios ⌝ }
+{
+    let keep = keeping::new();
+    let status = run_site(ends, keep, most, n);
+    libc::close(keep);
+    status
+}
+
+// Plays what the input holds, to its end: the status. After the first line each read asks for at most `most` bytes.
+pub fn run(ends: Ends, most: usize) -> u32 {
+    let first = first::read_first(ends.input);
+    if reads::END < first.state {
+        return reading::unread(ends, first.state);
     }
-    run_site(fd, most, n);
+    if first.n == 0 {
+        return reading::print_bad(ends);
+    }
+    run_kept(ends, most, first.n)
 }

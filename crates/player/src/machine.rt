@@ -1,13 +1,14 @@
 // The lines after the first, taken byte by byte from what was read: held to their line feeds, played, and printed into a buffer.
 // Nothing is read or written here.
 ghost use mathlib.Core.Path.{_≡_};
-ghost use mathlib.Core.Bool.{false};
-ghost use Prim.Native.Nat.{_<_};
+ghost use mathlib.Core.Bool.{false, cond};
+ghost use Prim.Native.Nat.{_<_, min};
+ghost use lib.Dec.{eqb};
 ghost use lib.ListN.{length, take};
 ghost use Rattle.mesh.specs.Lent.{lent};
 ghost use Rattle.text.specs.Print.{buffer-at, Puts, max-place};
 ghost use Rattle.player.specs.Lines.{Prints};
-ghost use Rattle.player.specs.Machine.{spot, Stop-put, Takes, closing};
+ghost use Rattle.player.specs.Machine.{spot, Stop-put, Marked, Takes, closing};
 ghost use Rattle.player.specs.Reading.{Writes, Ready, Site-sized};
 use super::play;
 
@@ -15,12 +16,28 @@ use super::play;
 pub const FULL: usize = 4096;
 
 // Where the run stands: the number of the line being read, how many of its bytes are held, how many bytes of the printing buffer
-// wait to be written, and whether the run goes on.
+// wait to be written, whether the run goes on, and what is wrong with it: nothing, what a failed read found, or one of the faults below.
 pub struct Progress {
     pub number: u64,
     pub held: usize,
     pub at: usize,
     pub live: bool,
+    pub fault: u32,
+}
+
+// What is wrong with a run beside failed reads: answers that cannot be kept until its end, and a line of another form.
+pub const LOST: u32 = 7;
+
+pub const BAD: u32 = 8;
+
+// The fault that came first.
+pub(crate) fn first_fault(old: u32, new: u32) -> u32
+    ensures { λ r. ⌜ r ≡ cond (eqb old 0) new old ⌝ }
+{
+    if old == 0 {
+        return new;
+    }
+    old
 }
 
 // The run ends at a line of another form.
@@ -33,6 +50,7 @@ fn stopped(s: Progress, out: &mut [u8]) -> Progress
         held: 0,
         at,
         live: false,
+        fault: first_fault(s.fault, BAD),
     }
 }
 
@@ -50,7 +68,8 @@ pub(crate) fn take_byte(
     out: &mut [u8],
 ) -> Progress
     requires { ⌜ s .number < max-place ⌝ }
-    ensures { λ r. ⌜ Prints (λ text. Takes (length (now (line .entry))) n byte
+    ensures marked { λ r. ⌜ (Marked s → Marked r) ⌝ }
+    ensures taken { λ r. ⌜ Prints (λ text. Takes (length (now (line .entry))) n byte
         (spot (lent (links .entry) (numbers .entry) (order .entry)) (now (answer .entry)) (now (line .entry)) s) text
         (spot (lent (links .exit) (numbers .exit) (order .exit)) (now (answer .exit)) (now (line .exit)) r))
         (buffer-at (now (out .entry)) (s .at)) (buffer-at (now (out .exit)) (r .at)) ⌝ }
@@ -70,6 +89,7 @@ pub(crate) fn take_byte(
             held: len,
             at: s.at,
             live: true,
+            fault: s.fault,
         };
     }
     let done = play::play_line(n, &line[..len], links, numbers, order, answer, out, s.at);
@@ -81,6 +101,7 @@ pub(crate) fn take_byte(
         held: 0,
         at: done.at,
         live: true,
+        fault: s.fault,
     }
 }
 
@@ -98,6 +119,16 @@ fn finish(s: Progress, line: &[u8], numbers: &[u8], order: &[u16], out: &mut [u8
     printing::put_order_line(out, place, order)
 }
 
+// What is wrong with a run at the end of the input: a last line without a line feed.
+fn end_fault(s: Progress, line: &[u8]) -> u32
+    ensures { λ r. ⌜ (r ≡ 0 → min (s .held) (length (now (line .entry))) ≡ 0) ⌝ }
+{
+    if tables::fill::least(s.held, line.len()) == 0 {
+        return s.fault;
+    }
+    first_fault(s.fault, BAD)
+}
+
 // The end of the input, and of the run.
 pub(crate) fn end(
     s: Progress,
@@ -109,6 +140,7 @@ pub(crate) fn end(
     requires ready { ⌜ Ready 0 s (now out) ⌝ }
     requires sized { ⌜ Site-sized (now numbers) (now order) ⌝ }
     ensures over { λ r. ⌜ r .live ≡ false ⌝ }
+    ensures whole { λ r. ⌜ (r .fault ≡ 0 → min (s .held) (length (now (line .entry))) ≡ 0) ⌝ }
     ensures closed { λ r. ⌜ Writes (buffer-at (now (out .entry)) (s .at))
         (closing (take (s .held) (now (line .entry))) (now (numbers .entry)) (now (order .entry)) (s .number))
         (buffer-at (now (out .exit)) (r .at)) ⌝ }
@@ -119,5 +151,6 @@ pub(crate) fn end(
         held: 0,
         at,
         live: false,
+        fault: end_fault(s, line),
     }
 }

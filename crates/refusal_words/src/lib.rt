@@ -1,9 +1,13 @@
 // What the refusal numbers mean, 1 to 20, in words, put into a lent buffer. A text that does not fit is cut, and counted whole. No public
 // function has a `requires`.
+ghost use Rattle.text.specs.Print.{buffer-at, Puts};
+ghost use Rattle.refusal_words.specs.Words.{further-words, image-words, table-words, words-of, refused-text};
 use calls::Refusal;
 
 // What 16 to 20 mean: proposals, marks and lifts.
-fn put_further_words(out: &mut [u8], at: usize, number: u32) -> usize {
+fn put_further_words(out: &mut [u8], at: usize, number: u32) -> usize
+    ensures { λ r. ⌜ Puts (buffer-at (now (out .entry)) at) (further-words number) (buffer-at (now (out .exit)) r) ⌝ }
+{
     if number == Refusal::PROPOSAL {
         return text::put_text(out, at, b"the proposal is not what asking would give now");
     }
@@ -27,7 +31,9 @@ fn put_further_words(out: &mut [u8], at: usize, number: u32) -> usize {
 }
 
 // What 9 to 11 and 15 mean: images.
-fn put_image_words(out: &mut [u8], at: usize, number: u32) -> usize {
+fn put_image_words(out: &mut [u8], at: usize, number: u32) -> usize
+    ensures { λ r. ⌜ Puts (buffer-at (now (out .entry)) at) (image-words number) (buffer-at (now (out .exit)) r) ⌝ }
+{
     if number == Refusal::IMAGE_SIZE {
         return text::put_text(out, at, b"the length is 0 or no multiple of 512");
     }
@@ -48,7 +54,9 @@ fn put_image_words(out: &mut [u8], at: usize, number: u32) -> usize {
 }
 
 // What 1 to 3 and 12 to 14 mean: tables.
-fn put_table_words(out: &mut [u8], at: usize, number: u32) -> usize {
+fn put_table_words(out: &mut [u8], at: usize, number: u32) -> usize
+    ensures { λ r. ⌜ Puts (buffer-at (now (out .entry)) at) (table-words number) (buffer-at (now (out .exit)) r) ⌝ }
+{
     if number == Refusal::SIZE {
         return text::put_text(out, at, b"the count of radios is not from 1 to 512");
     }
@@ -75,7 +83,9 @@ fn put_table_words(out: &mut [u8], at: usize, number: u32) -> usize {
 }
 
 // What a number means; here 4 to 8: radios, links and levels.
-fn put_words(out: &mut [u8], at: usize, number: u32) -> usize {
+fn put_words(out: &mut [u8], at: usize, number: u32) -> usize
+    ensures { λ r. ⌜ Puts (buffer-at (now (out .entry)) at) (words-of number) (buffer-at (now (out .exit)) r) ⌝ }
+{
     if number == Refusal::RADIO {
         return text::put_text(out, at, b"a radio named is not below the count of radios");
     }
@@ -95,7 +105,9 @@ fn put_words(out: &mut [u8], at: usize, number: u32) -> usize {
 }
 
 // "refused by", the number, a colon, and the words.
-pub fn put_refused(out: &mut [u8], at: usize, number: u32) -> usize {
+pub fn put_refused(out: &mut [u8], at: usize, number: u32) -> usize
+    ensures { λ r. ⌜ Puts (buffer-at (now (out .entry)) at) (refused-text number) (buffer-at (now (out .exit)) r) ⌝ }
+{
     let word = text::put_text(out, at, b"refused by");
     let digits = text::put_field(out, word, number as u64);
     let colon = text::put_text(out, digits, b": ");

@@ -13,7 +13,7 @@ use Rattle.text.specs.Text.{bytes-of, space, line-feed, digit-byte}
 use Rattle.script.specs.declared.lines.Line.the-variants.{Up, Down, Bad}
 use Rattle.script.specs.declared.lines.Number.{Number}
 use Rattle.script.specs.Lines.{is-digit, Read, got, none, digits-on, number-of, ended, last-number-of, starts, radios-line, link-with, link-after}
-use Rattle.script.specs.Lines.{link-from, line-of}
+use Rattle.script.specs.Lines.{alone, alone-of, link-from, line-of}
 use Rattle.script.specs.Texts.{read-of}
 
 -- ---- read-of
@@ -137,6 +137,22 @@ module _ (s : List ℕ) (p : ℕ) (r : Number) (e : read-of s r ≡ number-of (d
   pub last-is : r .ok ≡ true → same (drop (r .next) s) (line-feed ∷ []) ≡ true → last-number-of (drop p s) ≡ read-of s r
   unfolding last-number-of ended
   last-is h k = rw (← e, read-of-got s r h, k)
+
+-- ---- alone-of
+
+-- r is the number at the front
+module _ (s : List ℕ) (r : Number) (e : read-of s r ≡ number-of s) where
+  pub alone-none : r .ok ≡ false → alone-of s ≡ none
+  unfolding alone-of alone
+  alone-none h = rw (← e, read-of-none s r h)
+
+  pub alone-other : r .ok ≡ true → r .next < length s → alone-of s ≡ none
+  unfolding alone-of alone same
+  alone-other h l = rw (← e, read-of-got s r h, drop-cons s (r .next) 0 l)
+
+  pub alone-is : r .ok ≡ true → length s ≤ r .next → alone-of s ≡ read-of s r
+  unfolding alone-of alone same
+  alone-is h l = rw (← e, read-of-got s r h, drop-of-length-le s l)
 
 -- ---- link-of
 

@@ -4,7 +4,7 @@ ghost use mathlib.Core.Bool.{false};
 ghost use Prim.Native.Nat.{_≤_, _<_};
 ghost use lib.ListN.{length, drop};
 ghost use Rattle.script.specs.Texts.{read-of};
-ghost use Rattle.script.specs.Lines.{digits-on, number-of, last-number-of, link-from, starts, line-of};
+ghost use Rattle.script.specs.Lines.{digits-on, number-of, last-number-of, alone-of, link-from, starts, line-of};
 
 // The bytes of the digits 0 and 9.
 const ZERO: u32 = 48;
@@ -30,10 +30,10 @@ pub enum Line {
 }
 
 // A number found in a text, and the place after it; where ok is false there is none.
-struct Number {
-    ok: bool,
-    value: u32,
-    next: usize,
+pub struct Number {
+    pub ok: bool,
+    pub value: u32,
+    pub next: usize,
 }
 
 // No number.
@@ -148,6 +148,20 @@ fn read_last_number(s: &[u8], p: usize) -> Number
         return none();
     }
     if s.len() - 1 != e {
+        return none();
+    }
+    r
+}
+
+// The number that is the whole of s, in the form that a line's numbers have.
+pub fn read_alone(s: &[u8]) -> Number
+    ensures { λ r. ⌜ read-of (now (s .entry)) r ≡ alone-of (now (s .entry)) ⌝ }
+{
+    let r = read_number(s, 0);
+    if !r.ok {
+        return none();
+    }
+    if r.next < s.len() {
         return none();
     }
     r

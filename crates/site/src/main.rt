@@ -1,14 +1,10 @@
-// The program `site`: its words are handed to the library. After `--status` the status, 0 or 1, is written to descriptor 3, for
-// bin/site, which ends with it.
-use site_parts::Ends;
+// The program `site`: its words are handed to the library.
+use reads::Ends;
 
 // The longest word that is read; a longer one counts as empty, which no verb and no number is.
 const WORD_BYTES: usize = 32;
 
-// Where the status goes.
-const STATUS: i32 = 3;
-
-// Runs the verb that is word `at` of the command, with the words after it.
+// Runs the verb that is word `at` of the command, with the words after it: the status.
 fn run_at(at: usize) -> u32 {
     let mut verb = [0u8; WORD_BYTES];
     let mut v = [0u8; WORD_BYTES];
@@ -25,6 +21,7 @@ fn run_at(at: usize) -> u32 {
     };
     site_program::run(
         ends,
+        usize::MAX,
         &verb[..verb_bytes],
         count,
         &v[..v_bytes],
@@ -32,18 +29,8 @@ fn run_at(at: usize) -> u32 {
     )
 }
 
-// Whether the first word asks for the status.
-fn is_asked() -> bool {
-    let mut word = [0u8; WORD_BYTES];
-    let bytes = os::arg(1, &mut word);
-    tables::fill::same8(&word[..bytes], b"--status")
-}
-
 fn main() {
-    if is_asked() {
-        let status = run_at(2);
-        io::print_decimal(STATUS, status as u64);
-        return;
-    }
-    run_at(1);
+    let started = player::started();
+    let status = run_at(started.at);
+    player::tell(started.told, status);
 }

@@ -1,2 +1,3 @@
--- How the program `site` tells its inputs apart, and the status of a run.
+-- The inputs of the program `site` and the statuses of its runs; what it says where something goes wrong.
 pub mod Inputs
+pub mod Errors

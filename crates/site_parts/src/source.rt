@@ -1,7 +1,6 @@
 // What an input is, by its first bytes: a script or an image.
 ghost use mathlib.Core.Path.{_≡_};
 ghost use Rattle.site_parts.specs.Inputs.{is-script};
-use crate::lengths;
 
 // The word that a script begins with.
 const WORD_BYTES: usize = 6;
@@ -10,6 +9,6 @@ const WORD_BYTES: usize = 6;
 pub fn is_script(front: &[u8]) -> bool
     ensures { λ r. ⌜ r ≡ is-script (now (front .entry)) ⌝ }
 {
-    let count = lengths::within(WORD_BYTES, front);
+    let count = reads::within(WORD_BYTES, front);
     tables::fill::same8(&front[..count], b"radios")
 }

@@ -1,5 +1,7 @@
 // The page that `site help` prints.
 ghost use Prim.Native.Nat.{_≤_};
+use reads::Ends;
+use site_parts::refusals;
 
 // The form, and the verbs of every input.
 fn print_verbs(output: i32) -> bool {
@@ -37,14 +39,14 @@ script shows its line on the error output where that is a terminal. A page to lo
 }
 
 // Prints the page: the status.
-pub(crate) fn print(output: i32) -> u32
+pub(crate) fn print(ends: Ends) -> u32
     ensures { λ r. ⌜ r ≤ 1 ⌝ }
 {
-    if !print_verbs(output) {
-        return 1;
+    if !print_verbs(ends.output) {
+        return refusals::say(ends.errors, b"the output cannot be written");
     }
-    if !print_rest(output) {
-        return 1;
+    if !print_rest(ends.output) {
+        return refusals::say(ends.errors, b"the output cannot be written");
     }
     0
 }

@@ -2,6 +2,7 @@
 ghost use mathlib.Core.Path.{_≡_};
 ghost use Prim.Native.Nat.{_≤_};
 ghost use Rattle.site_parts.specs.Inputs.{wrong};
+ghost use Rattle.site_program.specs.Blocks.{First-bad};
 use calls::Refusal;
 use image::bytes;
 use image::layout;
@@ -24,15 +25,13 @@ pub(crate) fn radios(image: &[u8]) -> u32 {
 }
 
 // The first block that does not pass its check; their count where all pass.
-fn bad_block(image: &[u8]) -> usize {
+fn bad_block(image: &[u8]) -> usize
+    ensures { λ r. ⌜ First-bad (now (image .entry)) r ⌝ }
+{
     let count = image.len() / layout::BLOCK;
     let mut i: usize = 0;
     while i < count {
-        let at = layout::BLOCK * i;
-        let end = at + layout::BLOCK;
-        let check = bytes::word_at(image, at + layout::BODY) as u64
-            + 65536 * bytes::word_at(image, at + layout::BODY + 2) as u64;
-        if image::checks::check_sum(&image[at..end]) as u64 != check {
+        if !image::checks::is_good(image, i) {
             return i;
         }
         i += 1;

@@ -1,6 +1,10 @@
 // The program `site` as a library: reads an image or a script from a descriptor, and prints what a verb says of its site. The input is
 // read to its end and checked before anything is printed. What goes wrong is one line on the error descriptor, and status 1.
+ghost use mathlib.Core.Path.{_≡_};
 ghost use Prim.Native.Nat.{_≤_};
+ghost use lib.ListN.{length};
+ghost use Rattle.site_parts.specs.Inputs.{wrong};
+ghost use Rattle.site_program.specs.Room.{text-room, Held};
 
 mod arguments;
 mod help;
@@ -9,9 +13,9 @@ mod source;
 
 use arguments::Numbers;
 use mesh::Site;
-use site_parts::Ends;
-use site_parts::lengths;
+use reads::Ends;
 use site_parts::refusals;
+use verbs::Text;
 use verbs::Verb;
 
 // The bytes of a site's largest links table.
@@ -19,6 +23,22 @@ const LINKS_BYTES: usize = Site::ROW_BYTES * Site::RADIOS as usize;
 
 // The bytes of the longest text, a script of 10,240 links.
 const TEXT_BYTES: usize = 112651;
+
+// The text of a verb, in a buffer that holds every text: whatever the tables are, no verb is refused by 9, 12 or 13.
+fn text_of<'a>(
+    verb: Verb,
+    given: Numbers,
+    n: u32,
+    links: &'a [u8],
+    numbers: &'a [u8],
+    order: &'a [u16],
+    out: &mut [u8],
+) -> Text
+    requires { ⌜ text-room ≤ length (now out) ⌝ }
+    ensures { λ r. ⌜ Held (r .number) ⌝ }
+{
+    verbs::answer(verb, given.v, given.k, n, links, numbers, order, out)
+}
 
 // Prints what the verb says of the site: the status.
 fn print<'a>(
@@ -33,11 +53,11 @@ fn print<'a>(
     ensures { λ r. ⌜ r ≤ 1 ⌝ }
 {
     let mut out = [0u8; TEXT_BYTES];
-    let text = verbs::answer(verb, given.v, given.k, n, links, numbers, order, &mut out);
+    let text = text_of(verb, given, n, links, numbers, order, &mut out);
     if text.number != 0 {
         return refusals::say_call(ends.errors, text.number);
     }
-    let length = lengths::within(text.length, &out);
+    let length = reads::within(text.length, &out);
     if io::write_all(ends.output, &out[..length]) {
         return 0;
     }
@@ -47,17 +67,19 @@ fn print<'a>(
 // Reads the site into the tables and prints: the status.
 fn run_on(
     ends: Ends,
+    most: usize,
     verb: Verb,
     given: Numbers,
     n: u32,
     front: &[u8],
+    state: u32,
     links: &mut [u8],
     numbers: &mut [u8],
     order: &mut [u16],
 ) -> u32
     ensures { λ r. ⌜ r ≤ 1 ⌝ }
 {
-    let status = source::read(ends, n, front, links, numbers, order);
+    let status = source::read(ends, most, n, front, state, links, numbers, order);
     if status != 0 {
         return status;
     }
@@ -65,7 +87,15 @@ fn run_on(
 }
 
 // The same on a site of n radios, whose tables are parts of the largest ones.
-fn run_site(ends: Ends, verb: Verb, given: Numbers, n: u32, front: &[u8]) -> u32
+fn run_site(
+    ends: Ends,
+    most: usize,
+    verb: Verb,
+    given: Numbers,
+    n: u32,
+    front: &[u8],
+    state: u32,
+) -> u32
     ensures { λ r. ⌜ r ≤ 1 ⌝ }
 {
     let many = tables::fill::least(n as usize, Site::RADIOS as usize);
@@ -75,42 +105,102 @@ fn run_site(ends: Ends, verb: Verb, given: Numbers, n: u32, front: &[u8]) -> u32
     let mut order = [0u16; Site::RADIOS as usize];
     run_on(
         ends,
+        most,
         verb,
         given,
         n,
         front,
+        state,
         &mut links[..bytes],
         &mut numbers[..many],
         &mut order[..many],
     )
 }
 
-// Reads the front of the input, which holds any image whole, and goes on by its kind: the status.
-fn run_input(ends: Ends, verb: Verb, given: Numbers) -> u32
+// Goes on by the kind of the input, of which the front is read: the status.
+fn run_front(ends: Ends, most: usize, verb: Verb, given: Numbers, front: &[u8], state: u32) -> u32
+    ensures { λ r. ⌜ r ≤ 1 ⌝ }
+{
+    if reads::END < state {
+        return refusals::say_unread(ends.errors, state);
+    }
+    if front.len() == 0 {
+        return refusals::say(ends.errors, b"the input is empty");
+    }
+    let n = source::radios(front);
+    if n == 0 {
+        return refusals::say_line(ends.errors, 1, site_script::first_fault(front));
+    }
+    run_site(ends, most, verb, given, n, front, state)
+}
+
+// Reads the front of the input, which holds any image whole, and goes on: the status.
+fn run_input(ends: Ends, most: usize, verb: Verb, given: Numbers) -> u32
     ensures { λ r. ⌜ r ≤ 1 ⌝ }
 {
     let mut front = [0u8; source::FRONT_BYTES];
-    let got = io::read_full(ends.input, &mut front);
-    let n = source::radios(&front[..got]);
-    if n == 0 {
-        return refusals::say_line(ends.errors, 1, refusals::FORM);
-    }
-    run_site(ends, verb, given, n, &front[..got])
+    let got = reads::fill(ends.input, most, false, &mut front);
+    let count = got.count;
+    run_front(ends, most, verb, given, &front[..count], got.state)
 }
 
-// Runs a verb with the words after it, of which there are `count`: the status, 0 or 1.
-pub fn run(ends: Ends, word: &[u8], count: usize, v: &[u8], k: &[u8]) -> u32
+// Whether the word may be a file's name: it does not begin with a digit.
+fn is_name(word: &[u8]) -> bool {
+    if word.len() == 0 {
+        return true;
+    }
+    word[0] < b'0' || b'9' < word[0]
+}
+
+// A verb with words that it does not take.
+fn say_words(errors: i32, verb: Verb, word: &[u8], v: &[u8]) -> u32
+    ensures { λ r. ⌜ r ≡ wrong ⌝ }
+{
+    let takes = verbs::takes(verb);
+    if takes == 0 {
+        if is_name(v) {
+            return refusals::say_file(errors, word);
+        }
+    }
+    refusals::say_usage(errors, word, takes)
+}
+
+// Prints what `--version` prints: the status.
+fn print_version(ends: Ends) -> u32
+    ensures { λ r. ⌜ r ≤ 1 ⌝ }
+{
+    if io::write_all(ends.output, &reads::VERSION) {
+        return 0;
+    }
+    refusals::say(ends.errors, b"the output cannot be written")
+}
+
+// Runs a verb with the words after it, of which there are `count`: the status, 0 or 1. A read asks for at most `most` bytes.
+fn run_verb(ends: Ends, most: usize, word: &[u8], count: usize, v: &[u8], k: &[u8]) -> u32
     ensures { λ r. ⌜ r ≤ 1 ⌝ }
 {
     let verb = verbs::verb_of(word);
     match verb {
         Verb::Unknown => return refusals::say(ends.errors, b"unknown verb; site help lists them"),
-        Verb::Help => return help::print(ends.output),
+        Verb::Help => return help::print(ends),
         _ => {}
     }
     let given = arguments::given(verbs::takes(verb), count, v, k);
     if !given.ok {
-        return refusals::say_usage(ends.errors, word, verbs::takes(verb));
+        return say_words(ends.errors, verb, word, v);
     }
-    run_input(ends, verb, given)
+    run_input(ends, most, verb, given)
+}
+
+// The same, and the words that ask what the program is.
+pub fn run(ends: Ends, most: usize, word: &[u8], count: usize, v: &[u8], k: &[u8]) -> u32
+    ensures { λ r. ⌜ r ≤ 1 ⌝ }
+{
+    if tables::fill::same8(word, b"--help") {
+        return help::print(ends);
+    }
+    if tables::fill::same8(word, b"--version") {
+        return print_version(ends);
+    }
+    run_verb(ends, most, word, count, v, k)
 }

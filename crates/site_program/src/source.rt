@@ -1,9 +1,10 @@
 // The input: an image or a script, told apart by its first bytes.
 ghost use Prim.Native.Nat.{_≤_};
 use crate::images;
-use site_parts::Ends;
+use reads::Ends;
 use site_parts::refusals;
 use site_parts::source::is_script;
+use site_script::Turned;
 
 // As many bytes as the longest image and one block more.
 pub const FRONT_BYTES: usize = 44544;
@@ -16,11 +17,26 @@ pub(crate) fn radios(front: &[u8]) -> u32 {
     images::radios(front)
 }
 
-// Reads the site into its tables: the status.
+// The status of a script that is played: it is refused at a line, or not read to its end, or neither.
+fn played(ends: Ends, end: Turned) -> u32
+    ensures { λ r. ⌜ r ≤ 1 ⌝ }
+{
+    if end.course.number != 0 {
+        return refusals::say_line(ends.errors, end.course.line, end.course.number);
+    }
+    if end.state != reads::END {
+        return refusals::say_unread(ends.errors, end.state);
+    }
+    0
+}
+
+// Reads the site into its tables: the status. `state` is what the last read of the front found.
 pub(crate) fn read(
     ends: Ends,
+    most: usize,
     n: u32,
     front: &[u8],
+    state: u32,
     links: &mut [u8],
     numbers: &mut [u8],
     order: &mut [u16],
@@ -28,11 +44,8 @@ pub(crate) fn read(
     ensures { λ r. ⌜ r ≤ 1 ⌝ }
 {
     if is_script(front) {
-        let end = site_script::play(ends, n, front, links, numbers, order);
-        if end.number == 0 {
-            return 0;
-        }
-        return refusals::say_line(ends.errors, end.line, end.number);
+        let end = site_script::play(ends, most, n, front, state, links, numbers, order);
+        return played(ends, end);
     }
     images::read(ends.errors, n, front, links, numbers, order)
 }

@@ -2,6 +2,7 @@
 use crate::back;
 use crate::say;
 use crate::site;
+use reads::Ends;
 
 // More bytes than any script here has.
 const ROOM: usize = 8192;
@@ -42,7 +43,12 @@ fn through_player(text: &[u8]) {
     os::unlink(&name);
     io::write_all(fd, text);
     libc::lseek(fd, 0, 0);
-    player::run(fd, usize::MAX);
+    let ends = Ends {
+        input: fd,
+        output: libc::STDOUT_FILENO,
+        errors: libc::STDERR_FILENO,
+    };
+    player::run(ends, usize::MAX);
     libc::close(fd);
 }
 

@@ -1,18 +1,89 @@
 // The replay program on each script of data/, in turn: the script's name, then what is printed. The canary is M1's script with
 // another last call: each kind of printed line must differ from M1's. Scripts and expected output are made by oracle/scripts.py.
+// Of each run the errors and the status are printed too; of some, reads and writes fail.
 use libc::STDOUT_FILENO;
+use reads::Ends;
 
-// Plays one script, of which a read asks for at most `most` bytes.
-fn play(path: &[u8], most: usize) {
+// More than an error line has.
+const ERRORS: usize = 512;
+
+fn text(bytes: &[u8]) {
+    io::write_all(STDOUT_FILENO, bytes);
+}
+
+// A new file without a name, open for reading and writing; negative where there is none.
+fn new_file() -> i32 {
+    let mut name = *b"errors-XXXXXX";
+    let fd = os::create_temp(&mut name);
+    if fd < 0 {
+        os::fail(&name);
+        return fd;
+    }
+    os::unlink(&name);
+    fd
+}
+
+// Prints what a file of errors has, and closes it.
+fn print_errors(fd: i32) {
+    let mut bytes = [0u8; ERRORS];
+    libc::lseek(fd, 0, libc::SEEK_SET);
+    let count = io::read_full(fd, &mut bytes);
+    text(&bytes[..count]);
+    libc::close(fd);
+}
+
+// Prints the status.
+fn print_status(status: u32) {
+    text(b"status ");
+    io::print_decimal(STDOUT_FILENO, status as u64);
+    text(b"\n");
+}
+
+// Plays an input, of which a read asks for at most `most` bytes.
+fn run(input: i32, output: i32, most: usize) {
+    let errors = new_file();
+    let ends = Ends {
+        input,
+        output,
+        errors,
+    };
+    let status = player::run(ends, most);
+    print_errors(errors);
+    print_status(status);
+}
+
+// The words of a run on no input.
+fn words(word: &[u8]) {
+    let errors = new_file();
+    let ends = Ends {
+        input: -1,
+        output: STDOUT_FILENO,
+        errors,
+    };
+    text(b"replay ");
+    text(word);
+    text(b"\n");
+    let status = player::run_words(ends, 1, word);
+    print_errors(errors);
+    print_status(status);
+}
+
+// Plays one script, with its output to `output`.
+fn play_to(path: &[u8], output: i32, most: usize) {
     let fd = os::open_read(path);
     if fd < 0 {
         os::fail(path);
         return;
     }
-    io::write_all(STDOUT_FILENO, path);
-    io::write_all(STDOUT_FILENO, b"\n");
-    player::run(fd, most);
+    text(path);
+    text(b"\n");
+    run(fd, output, most);
     libc::close(fd);
+}
+
+// Plays one script, of which a read asks for at most `most` bytes.
+fn play(path: &[u8], most: usize) {
+    play_to(path, STDOUT_FILENO, most);
 }
 
 // Plays one script by reads of all that the player has room for.
@@ -106,6 +177,25 @@ fn by_bytes() {
     play(b"output-4096", 1);
 }
 
+// What cannot be read or written: a folder, a closed input, a read after the first line that has no room; a closed output, for a run that
+// waits in memory and for one that does not.
+fn failures() {
+    play(b".", usize::MAX);
+    text(b"closed\n");
+    run(-1, STDOUT_FILENO, usize::MAX);
+    play(b"m1", 0);
+    play_to(b"m1", -1, usize::MAX);
+    play_to(b"output-4096", -1, usize::MAX);
+    play_to(b"empty", -1, usize::MAX);
+}
+
+// Words in place of an input.
+fn all_words() {
+    words(b"--help");
+    words(b"--version");
+    words(b"m1");
+}
+
 fn main() {
     sites();
     first_lines();
@@ -113,4 +203,6 @@ fn main() {
     long_runs();
     case(b"canary");
     by_bytes();
+    failures();
+    all_words();
 }

@@ -1,12 +1,12 @@
 // Inputs of many reads: noise, and a script of many lines.
 use crate::run;
 
-// The bytes that are written at a time, and how often: 10 MB of noise, 256 KB of lines.
+// The bytes that are written at a time, and how often: 10 MB of noise, 573 KB of lines.
 const CHUNK: usize = 4096;
 
 const CHUNKS: u32 = 2560;
 
-const LINE_CHUNKS: u32 = 64;
+const LINE_CHUNKS: u32 = 140;
 
 // The number after x, by Marsaglia's xorshift over 64 bits.
 fn next(x: u64) -> u64 {
@@ -77,15 +77,15 @@ pub fn noise(front: &[u8]) {
     run::text(b"noise\n");
     io::write_all(fd, front);
     write_noise(fd, CHUNKS);
-    run::last(fd, b"check");
+    run::last(fd, usize::MAX, b"check");
 }
 
-// 32,768 lines that take a link up and down, and then the given ones.
-pub fn script(end: &[u8]) {
+// 71,680 lines that take a link up and down, and then the given ones, read by so many bytes at a time.
+pub fn script(end: &[u8], most: usize) {
     let fd = run::new_file();
     run::text(b"long script\n");
     io::write_all(fd, b"radios 3\n");
     write_lines(fd, LINE_CHUNKS);
     io::write_all(fd, end);
-    run::last(fd, b"numbers");
+    run::last(fd, most, b"numbers");
 }

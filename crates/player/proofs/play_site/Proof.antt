@@ -1,14 +1,14 @@
 -- `play_site` meets its contract: what clearing leaves is a cleared site.
-use borrow.Author.Needs.{needs}
 use Rattle.player.proofs.ReadingLaws.{site-cleared}
+use borrow.Author.Needs.{needs}
 use Rattle.player.proofs.play_site.Statement.{statement}
 use Rattle.player.proofs.play_site.Tie as tie
 
 read-all-requires : tie.Need-read-all-requires
 read-all-requires c κs =
-    let done = c .before .before .before .before .before .before .before .before .before .before in
-    let start = done .before .before .before .before .before .before .before .before in
-    site-cleared _ _ _ _ _ (start .pre) (done .clear .ensures)
+    let at-clear = c .before .before .before .before .before .before .before .before .before .before in
+    let start = at-clear .before .before .before .before .before .before .before .before in
+    site-cleared _ _ _ _ _ (start .pre) (at-clear .clear .ensures)
 
 pub play-site-spec : {M : Type 1} → statement M
 play-site-spec =

@@ -6,10 +6,23 @@ use borrow.Author.Needs.{needs}
 use Rattle.site_program.proofs.run_site.Statement.{statement}
 use Rattle.site_program.proofs.run_site.Tie as tie
 
+slice-aggregate-run-on : tie.Need-slice-aggregate-run-on
+slice-aggregate-run-on c =
+    let at-least = c .before in
+    sym (length-take-le _ _ (omega (arith, at-least .least .ensures)))
+
+slice-aggregate-run-on-2 : tie.Need-slice-aggregate-run-on-2
+slice-aggregate-run-on-2 c =
+    let at-least = c .before .before in
+    sym (length-take-le _ _ (omega (arith, at-least .least .ensures)))
+
+slice-aggregate-run-on-3 : tie.Need-slice-aggregate-run-on-3
+slice-aggregate-run-on-3 c =
+    let at-least = c .before .before .before in
+    sym (length-take-le _ _ (omega (arith, at-least .least .ensures)))
+
 pub run-site-spec : {M : Type 1} → statement M
 run-site-spec =
     tie.close (
-    tie.spec (λ c. search needs) (λ c κs. search needs) (λ c. omega (arith, c .least .ensures)) (λ c. omega (arith, c .least .ensures))
-    (λ c. sym (length-take-le _ _ (omega (arith, c .before .least .ensures)))) (λ c. omega (arith, c .before .least .ensures))
-    (λ c. sym (length-take-le _ _ (omega (arith, c .before .before .least .ensures)))) (λ c. omega (arith, c .before .before .least .ensures))
-    (λ c. sym (length-take-le _ _ (omega (arith, c .before .before .before .least .ensures)))) (λ c κs. search needs) (λ c. search needs))
+    tie.spec (λ c. search needs) (λ c κs. search needs) (λ c. search needs) (λ c. search needs) slice-aggregate-run-on (λ c. search needs)
+    slice-aggregate-run-on-2 (λ c. search needs) slice-aggregate-run-on-3 (λ c κs. search needs) (λ c. search needs))

@@ -1,6 +1,6 @@
 -- `machine::take_byte` meets its contract: each way through it is one thing that the machine does with a byte.
 use mathlib.Core.Path.{refl, sym, _∙_}
-use mathlib.Core.Bool.{true}
+use mathlib.Core.Bool.{true, true≢false}
 use Prim.Native.Nat.{_+_}
 use native.Mathlib.Omega.{arith}
 use lib.ListN.{length-set}
@@ -8,36 +8,47 @@ use lib.Seq.{length-take-le}
 use borrow.Author.Tests.{not-true, not-false}
 use borrow.Author.Needs.{needs}
 use Rattle.mesh.specs.Tables.{tables}
+use Rattle.player.specs.Machine.{Marked}
 use Rattle.player.specs.declared.machine.Progress.{Progress}
 use Rattle.player.proofs.ByteLaws.{byte-over, byte-long, byte-held, byte-call, byte-bad}
 use Rattle.player.proofs.machine.take_byte.Statement.{statement}
 use Rattle.player.proofs.machine.take_byte.Tie as tie
 
 returns : tie.Need-returns
+unfolding Marked
 returns c =
-    let call = c .before .before .before .before .before .before .before .before .args in
-    byte-over (call .n) (call .byte) (call .s) (tables (call .links .now) (call .numbers .now) (call .order .now)) (call .answer .now)
-    (call .line .now) (not-true (call .s .live) (c .if1 .taken))
+    let call = c .before .before .before .before .before .before .before .before .args in (
+      (λ m. m),
+      byte-over (call .n) (call .byte) (call .s) (tables (call .links .now) (call .numbers .now) (call .order .now)) (call .answer .now)
+          (call .line .now) (not-true (call .s .live) (c .if1 .taken)),
+    )
 
 returns-2 : tie.Need-returns-2
+unfolding Marked
 returns-2 c =
     let stopped = c .before .before in
     let long = stopped .before .before in
     let live = long .before in
-    let call = live .before .before .before .before .before .before .before .before .args in
-    byte-long (call .n) (call .byte) (call .s) (stopped .stopped .result) (tables (call .links .now) (call .numbers .now) (call .order .now))
-    (call .answer .now) (call .line .now) (not-false (call .s .live) (live .if1 .left)) (long .if2 .taken) (stopped .stopped .ensures)
+    let call = live .before .before .before .before .before .before .before .before .args in (
+      (λ m l f. stopped .stopped .ensures .fault f),
+      byte-long (call .n) (call .byte) (call .s) (stopped .stopped .result) (tables (call .links .now) (call .numbers .now) (call .order .now))
+          (call .answer .now) (call .line .now) (not-false (call .s .live) (live .if1 .left)) (long .if2 .taken) (stopped .stopped .ensures),
+    )
 
 returns-3 : tie.Need-returns-3
+unfolding Marked
 returns-3 c =
     let room = c .before in
     let live = room .before in
     let call = live .before .before .before .before .before .before .before .before .args in
-    let after : Progress = record { number = call .s .number; held = call .s .held + 1; at = call .s .at; live = true } in
-    byte-held (call .n) (call .byte) (call .s) after (tables (call .links .now) (call .numbers .now) (call .order .now)) (call .answer .now)
-    (call .line .now) (not-false (call .s .live) (live .if1 .left)) (room .if2 .left) (c .if3 .taken) refl refl refl refl
+    let after : Progress = record { number = call .s .number; held = call .s .held + 1; at = call .s .at; live = true; fault = call .s .fault } in (
+      (λ m l f. true≢false l),
+      byte-held (call .n) (call .byte) (call .s) after (tables (call .links .now) (call .numbers .now) (call .order .now)) (call .answer .now)
+          (call .line .now) (not-false (call .s .live) (live .if1 .left)) (room .if2 .left) (c .if3 .taken) refl refl refl refl,
+    )
 
 returns-4 : tie.Need-returns-4
+unfolding Marked
 returns-4 c =
     let stopped = c .before .before in
     let tested = stopped .before .before in
@@ -45,13 +56,16 @@ returns-4 c =
     let ended = played .before .before .before .before .before .before .before in
     let room = ended .before in
     let live = room .before in
-    let call = live .before .before .before .before .before .before .before .before .args in
-    byte-bad (call .n) (call .byte) (call .s) (stopped .stopped2 .result) (tables (call .links .now) (call .numbers .now) (call .order .now)) _
-    (call .answer .now) _ (call .line .now) (not-false (call .s .live) (live .if1 .left)) (room .if2 .left) (ended .if3 .left)
-    (sym (played .play-line .ensures .0) ∙ not-true (played .play-line .result .ok) (tested .if4 .taken)) (played .play-line .ensures .1)
-    (stopped .stopped2 .ensures)
+    let call = live .before .before .before .before .before .before .before .before .args in (
+      (λ m l f. stopped .stopped2 .ensures .fault f),
+      byte-bad (call .n) (call .byte) (call .s) (stopped .stopped2 .result) (tables (call .links .now) (call .numbers .now) (call .order .now)) _
+          (call .answer .now) _ (call .line .now) (not-false (call .s .live) (live .if1 .left)) (room .if2 .left) (ended .if3 .left)
+          (sym (played .play-line .ensures .0) ∙ not-true (played .play-line .result .ok) (tested .if4 .taken)) (played .play-line .ensures .1)
+          (stopped .stopped2 .ensures),
+    )
 
 returns-5 : tie.Need-returns-5
+unfolding Marked
 returns-5 c =
     let tested = c .before in
     let played = tested .before .before .before .before .before .before .before .before .before .before .before .before in
@@ -59,15 +73,26 @@ returns-5 c =
     let room = ended .before in
     let live = room .before in
     let call = live .before .before .before .before .before .before .before .before .args in
-    let after : Progress = record { number = call .s .number + 1; held = 0; at = played .play-line .result .at; live = true } in
-    byte-call (call .n) (call .byte) (call .s) after (tables (call .links .now) (call .numbers .now) (call .order .now)) _ (call .answer .now) _
-    (call .line .now) (not-false (call .s .live) (live .if1 .left)) (room .if2 .left) (ended .if3 .left)
-    (sym (played .play-line .ensures .0) ∙ not-false (played .play-line .result .ok) (tested .if4 .left)) (played .play-line .ensures .1) refl refl refl
+    let after : Progress = record { number = call .s .number + 1; held = 0; at = played .play-line .result .at; live = true; fault = call .s .fault } in (
+      (λ m l f. true≢false l),
+      byte-call (call .n) (call .byte) (call .s) after (tables (call .links .now) (call .numbers .now) (call .order .now)) _ (call .answer .now) _
+          (call .line .now) (not-false (call .s .live) (live .if1 .left)) (room .if2 .left) (ended .if3 .left)
+          (sym (played .play-line .ensures .0) ∙ not-false (played .play-line .result .ok) (tested .if4 .left)) (played .play-line .ensures .1) refl refl refl,
+    )
+
+slice-write-line : tie.Need-slice-write-line
+slice-write-line c = search needs
+
+slice-reshare-prefix-play-line : tie.Need-slice-reshare-prefix-play-line
+slice-reshare-prefix-play-line c = simp length-set (omega arith)
+
+slice-aggregate-play-line : tie.Need-slice-aggregate-play-line
+slice-aggregate-play-line c = sym (length-take-le _ _ (simp length-set (omega arith)))
 
 pub take-byte-spec : {M : Type 1} → statement M
 take-byte-spec =
     tie.close (
-    tie.spec returns (λ c κs. search needs) (λ c. search needs) returns-2 (λ c. search needs) (λ c. search needs) (λ c. search needs) returns-3
-    (λ c. simp length-set (omega arith)) (λ c. sym (length-take-le _ _ (simp length-set (omega arith)))) (λ c κs. search needs) (λ c κs. search needs)
-    (λ c. search needs) (λ c. search needs) (λ c. search needs) (λ c. search needs) (λ c. search needs) (λ c. search needs) returns-4 (λ c. search needs)
-    (λ c. search needs) (λ c. search needs) (λ c. search needs) (λ c. search needs) (λ c. search needs) (λ c. search needs) returns-5)
+    tie.spec returns (λ c κs. search needs) (λ c. search needs) returns-2 slice-write-line (λ c. search needs) (λ c. search needs) returns-3
+    slice-reshare-prefix-play-line slice-aggregate-play-line (λ c κs. search needs) (λ c κs. search needs) (λ c. search needs) (λ c. search needs) (λ c.
+    search needs) (λ c. search needs) (λ c. search needs) (λ c. search needs) returns-4 (λ c. search needs) (λ c. search needs) (λ c. search needs) (λ c.
+    search needs) (λ c. search needs) (λ c. search needs) (λ c. search needs) returns-5)

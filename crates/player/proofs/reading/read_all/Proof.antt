@@ -3,9 +3,13 @@ use borrow.Author.Needs.{needs}
 use Rattle.player.proofs.reading.read_all.Statement.{statement}
 use Rattle.player.proofs.reading.read_all.Tie as tie
 
+read-turns-requires : tie.Need-read-turns-requires
+read-turns-requires c κs =
+    let start = c .before .before .before .before .before .before .before .before .before .before .before in
+    (search needs, (search needs, start .pre))
+
 pub read-all-spec : {M : Type 1} → statement M
 read-all-spec =
     tie.close (
-    tie.spec (λ c. search needs) (λ c. search needs)
-    (λ c κs. (search needs, (search needs, c .before .before .before .before .before .before .before .before .before .before .pre))) (λ c. search needs)
-    (λ c κs. search needs) (λ c. search needs) (λ c. search needs) (λ c. search needs) (λ c. search needs) (λ c. search needs))
+    tie.spec (λ c. search needs) (λ c. search needs) read-turns-requires (λ c. search needs) (λ c κs. search needs) (λ c. search needs) (λ c. search needs)
+    (λ c. search needs) (λ c. search needs) (λ c. search needs))

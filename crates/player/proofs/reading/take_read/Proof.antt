@@ -1,31 +1,65 @@
--- `reading::take_read` meets its contract: a chunk of no bytes is the end of the input, and any other is taken.
-use mathlib.Core.Path.{sym, _∙_}
+-- `reading::take_read` meets its contract: by what the read found.
+use mathlib.Core.Path.{sym, ap, _∙_}
 use mathlib.Core.Bool.{true≢false}
+use native.Mathlib.Omega.{arith}
 use borrow.Author.Needs.{needs}
-use borrow.Author.Tests.{eqb-true, eqb-false}
-use Rattle.player.proofs.ReadingLaws.{turn-ended, read-nothing, read-bytes}
+use Rattle.player.specs.Machine.{Marked}
+use Rattle.player.proofs.ReadingLaws.{turn-ended, read-ended, read-bytes, read-failed, turn-broken, broken-live, broken-at, marked-live}
 use Rattle.player.proofs.reading.take_read.Statement.{statement}
 use Rattle.player.proofs.reading.take_read.Tie as tie
 
 returns : tie.Need-returns
 returns c =
-    let ended = c .before .before in
-    let none = ended .before .before .before .before .before in
-    let asked = none .before in
-    let start = asked .before .before .before .before .before .before .before .before in (
-      (λ l. absurd (true≢false (sym l ∙ ended .end .ensures .0))),
-      read-nothing _ _ _ _ _ _ _ (eqb-true _ _ (sym (asked .is-end .ensures) ∙ none .if1 .taken)) (turn-ended _ _ _ _ _ _ _ (start .pre .0) (ended .end .ensures .0) (ended .end .ensures .1)),
+    let at-end = c .before .before in
+    let at-if1 = at-end .before .before .before .before .before in
+    let start = at-if1 .before .before .before .before .before .before .before .before in (
+      (λ l. absurd (true≢false (sym l ∙ at-end .end .ensures .0))),
+      (
+        record {
+          going = λ l f. absurd (true≢false (sym l ∙ at-end .end .ensures .0));
+          ended = λ l f. at-if1 .if1 .taken;
+          over = λ l. omega (arith, at-if1 .if1 .taken);
+        },
+        read-ended _ _ _ _ _ _ _ _ (at-if1 .if1 .taken) (turn-ended _ _ _ _ _ _ _ (start .pre .0) (at-end .end .ensures .0) (at-end .end .ensures .1 .1)),
+      ),
     )
 
 returns-2 : tie.Need-returns-2
 returns-2 c =
-    let taken = c .before .before .before .before .before .before .before .before .before .before .before .before in
-    let some = taken .before .before .before .before .before .before .before in
-    let asked = some .before in
-    ((λ l. taken .take-chunk .ensures .0), read-bytes _ _ _ _ _ _ _ (eqb-false _ _ (sym (asked .is-end .ensures) ∙ some .if1 .left)) (taken .take-chunk .ensures .1))
+    let at-if2 = c .before in
+    let at-if1 = at-if2 .before in
+    let start = at-if1 .before .before .before .before .before .before .before .before in (
+      (λ l. omega (arith, broken-at _ _ (c .broken .ensures .0), start .pre .1 .0 .at)),
+      (
+        record {
+          going = λ l f. c .broken .ensures .1 f;
+          ended = λ l f. absurd (true≢false (sym (start .pre .0) ∙ sym (broken-live _ _ (c .broken .ensures .0)) ∙ l));
+          over = λ l. absurd (true≢false (sym (start .pre .0) ∙ sym (broken-live _ _ (c .broken .ensures .0)) ∙ l));
+        },
+        read-failed _ _ _ _ _ _ _ _ (at-if2 .if2 .taken) (at-if1 .if1 .left) (turn-broken _ _ _ _ _ _ (c .broken .ensures .0)),
+      ),
+    )
+
+returns-3 : tie.Need-returns-3
+unfolding Marked
+returns-3 c =
+    let at-take-chunk = c .before .before .before .before .before .before .before .before .before .before .before .before in
+    let at-if2 = at-take-chunk .before .before .before .before .before .before .before in
+    let start = at-if2 .before .before .before .before .before .before .before .before .before in (
+      (λ l. at-take-chunk .take-chunk .ensures .0),
+      (
+        record {
+          going = λ l f. at-if2 .if2 .left;
+          ended = λ l f. absurd (at-take-chunk .take-chunk .ensures .1 .0 (marked-live (start .args .s) (start .pre .0)) l f);
+          over = λ l. omega (arith, at-if2 .if2 .left);
+        },
+        read-bytes _ _ _ _ _ _ _ _ (at-if2 .if2 .left) (at-take-chunk .take-chunk .ensures .1 .1),
+      ),
+    )
 
 pub take-read-spec : {M : Type 1} → statement M
 take-read-spec =
     tie.close (
-    tie.spec (λ c κs. search needs) (λ c κs. search needs) (λ c. search needs) (λ c. search needs) (λ c. search needs) (λ c. search needs) returns (λ c κs. search needs)
-    (λ c. search needs) (λ c. search needs) (λ c. search needs) (λ c. search needs) (λ c. search needs) (λ c. search needs) returns-2)
+    tie.spec (λ c κs. search needs) (λ c. search needs) (λ c. search needs) (λ c. search needs) (λ c. search needs) returns (λ c κs. search needs)
+    returns-2 (λ c κs. search needs) (λ c. search needs) (λ c. search needs) (λ c. search needs) (λ c. search needs) (λ c. search needs) (λ c. search
+    needs) returns-3)

@@ -7,20 +7,20 @@ use Rattle.player.proofs.reading.turn.Tie as tie
 
 take-read-requires : tie.Need-take-read-requires
 take-read-requires c κs =
-    let read = c .before .before .before .before .before .before .before .before in
-    let start = read .before .before .before .before .before .before .before .before .before in
-    (start .pre .0, (ready-less (omega (arith, read .read-chunk .ensures .0, read .read-chunk .ensures .1)) (start .pre .1 .0), start .pre .1 .1))
+    let at-read = c .before .before .before .before .before .before .before .before in
+    let start = at-read .before .before .before .before .before .before .before .before .before in
+    (start .pre .0, (ready-less (omega (arith, at-read .read .ensures .0 .0, at-read .read .ensures .0 .1)) (start .pre .1 .0), start .pre .1 .1))
 
 returns : tie.Need-returns
 returns c =
-    let taken = c .before .before .before .before .before .before .before .before .before .before .before .before in
-    let read = taken .before .before .before .before .before .before .before .before .before in (
-      taken .take-read .ensures .0,
-      reads-once _ _ _ _ _ _ _ _ (read .read-chunk .ensures .1) (read .read-chunk .ensures .0) (search needs) (taken .take-read .ensures .1),
+    let at-take-read = c .before .before .before .before .before .before .before .before .before .before .before .before in
+    let at-read = at-take-read .before .before .before .before .before .before .before .before .before in (
+      at-take-read .take-read .ensures .0,
+      reads-once _ _ _ _ _ _ _ _ _ _ _ (at-read .read .ensures .0 .0) (search needs) (at-read .read .ensures .1 .1) (at-take-read .take-read .ensures .1 .0) (at-take-read .take-read .ensures .1 .1),
     )
 
 pub turn-spec : {M : Type 1} → statement M
 turn-spec =
     tie.close (
-    tie.spec (λ c κs. search needs) (λ c. search needs) (λ c κs. search needs) (λ c. search needs) (λ c. search needs) take-read-requires (λ c. search needs)
-    (λ c. search needs) (λ c. search needs) (λ c. search needs) (λ c. search needs) (λ c. search needs) returns)
+    tie.spec (λ c κs. search needs) (λ c. search needs) (λ c κs. search needs) (λ c. search needs) (λ c. search needs) take-read-requires (λ c. search
+    needs) (λ c. search needs) (λ c. search needs) (λ c. search needs) (λ c. search needs) (λ c. search needs) returns)

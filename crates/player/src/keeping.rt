@@ -1,0 +1,47 @@
+// The keep: a file without a name, in which answers wait until the input is read to its end. A short run needs none.
+
+// The largest descriptor of a program's own input, output and errors.
+const OWN: i32 = 2;
+
+// A new keep; negative where there is none.
+pub fn new() -> i32 {
+    let mut name = *b"/tmp/replay-XXXXXX";
+    let fd = os::create_temp(&mut name);
+    if fd < 0 {
+        return fd;
+    }
+    os::unlink(&name);
+    if fd <= OWN {
+        libc::close(fd);
+        return -1;
+    }
+    fd
+}
+
+// One read of the keep, written: what it found.
+fn copy_on(keep: i32, output: i32) -> u32 {
+    let mut chunk = io::large_buffer();
+    let got = reads::read(keep, usize::MAX, &mut chunk);
+    let count = got.count;
+    if !io::write_all(output, &chunk[..count]) {
+        return reads::UNREAD;
+    }
+    got.state
+}
+
+// Writes all that the keep has: whether it was read and taken to its end. Where there is no keep, nothing was put into it.
+pub fn copy(keep: i32, output: i32) -> bool {
+    if keep < 0 {
+        return true;
+    }
+    libc::lseek(keep, 0, libc::SEEK_SET);
+    let mut left = reads::most();
+    while left > 0 {
+        left -= 1;
+        let state = copy_on(keep, output);
+        if state != reads::GOES_ON {
+            return state == reads::END;
+        }
+    }
+    false
+}

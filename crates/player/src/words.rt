@@ -1,0 +1,88 @@
+// The words of the replay program: it takes none, but for two that ask what it is. Also how a program is started, `site` too: with
+// `--status D` before its words it writes its status to descriptor D.
+use reads::Ends;
+
+// The longest word that is read; a longer one counts as empty, which no word of a program is.
+const WORD_BYTES: usize = 32;
+
+// Where the program's own words begin, and the descriptor that its status goes to; negative for none.
+pub struct Start {
+    pub at: usize,
+    pub told: i32,
+}
+
+// The descriptor of a word of one digit; negative where it is none.
+fn descriptor(word: &[u8]) -> i32 {
+    if word.len() != 1 {
+        return -1;
+    }
+    if word[0] < b'0' || b'9' < word[0] {
+        return -1;
+    }
+    (word[0] % 16) as i32
+}
+
+// How the program is started.
+pub fn started() -> Start {
+    let mut first = [0u8; WORD_BYTES];
+    let mut second = [0u8; WORD_BYTES];
+    let first_bytes = os::arg(1, &mut first);
+    let second_bytes = os::arg(2, &mut second);
+    if tables::fill::same8(&first[..first_bytes], b"--status") {
+        return Start {
+            at: 3,
+            told: descriptor(&second[..second_bytes]),
+        };
+    }
+    Start { at: 1, told: -1 }
+}
+
+// Writes the status, one digit, where it is asked for.
+pub fn tell(told: i32, status: u32) {
+    if told >= 0 {
+        io::print_decimal(told, status as u64);
+    }
+}
+
+// Prints a text: the status.
+fn print(ends: Ends, text: &[u8]) -> u32 {
+    if io::write_all(ends.output, text) {
+        return 0;
+    }
+    reads::faults::say(ends.errors, b"replay", b"the output cannot be written");
+    1
+}
+
+// Prints the page of `--help`: the status.
+fn help(ends: Ends) -> u32 {
+    print(
+        ends,
+        b"replay <FILE: plays a script of link calls on a cleared site
+
+Line 1 is `radios N`, N from 1 to 512; every other line is `up A B` or `down A B`. Each call prints its refusal number, its step and the
+radios whose number changed; at the end come all numbers by radio, and the order. A line of another form ends the run with `bad L`.
+
+Nothing is printed before the input is read to its end. The status is 0 where all was read, played and written, and else 1; what cannot be
+read or written is one line on the error output. bin/replay hands the status on: a proved program has none of its own.
+",
+    )
+}
+
+// Runs the program with `count` words, of which the first is given: the status.
+pub fn run_words(ends: Ends, count: usize, word: &[u8]) -> u32 {
+    if count == 0 {
+        return crate::run(ends, usize::MAX);
+    }
+    if tables::fill::same8(word, b"--help") {
+        return help(ends);
+    }
+    if tables::fill::same8(word, b"--version") {
+        return print(ends, &reads::VERSION);
+    }
+    reads::faults::say(
+        ends.errors,
+        b"replay",
+        b"no word is taken, and the script is standard input: replay <FILE",
+    );
+    1
+}

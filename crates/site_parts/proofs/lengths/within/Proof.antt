@@ -1,9 +1,0 @@
--- `lengths::within` meets its contract: either length is one of the buffer.
-use native.Mathlib.Omega.{arith}
-use Rattle.io.proofs.Counting.{counts}
-use borrow.Author.Needs.{needs}
-use Rattle.site_parts.proofs.lengths.within.Statement.{statement}
-use Rattle.site_parts.proofs.lengths.within.Tie as tie
-
-pub within-spec : {M : Type 1} → statement M
-within-spec = tie.close (tie.spec (λ c. (counts _ _ (omega arith), omega arith)) (λ c. (counts _ _ (omega arith), omega arith)))

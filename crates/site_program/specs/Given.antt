@@ -1,0 +1,27 @@
+-- The numbers after a verb.
+--   numbers ok v k        are they of the right form, and the numbers
+--   given-of takes count v k   the numbers of a verb that takes so many, of so many words, of which v and k are the first
+-- Definitions only.
+use mathlib.Core.Bool.{Bool, true, false, cond}
+use mathlib.Core.List.{List}
+use Prim.Native.Nat.{ℕ, zero, suc}
+use lib.Dec.{eqb}
+use Rattle.script.specs.Lines.{Read, got, none, alone-of}
+use Rattle.site_program.specs.declared.arguments.Numbers.{Numbers}
+
+abbrev pub numbers : (ok : Bool) → (v k : ℕ) → Numbers
+numbers ok v k = record { ok = ok; v = v; k = k }
+
+-- the second number is read
+unfoldable pub second : (v : ℕ) → Read → Numbers
+second v none = numbers false 0 0
+second v (got k rest) = numbers true v k
+
+-- the first number is read, and the second where two are taken
+unfoldable pub first : (takes : ℕ) → Read → (k : List ℕ) → Numbers
+first takes none k = numbers false 0 0
+first takes (got v rest) k = cond (eqb takes 1) (numbers true v 0) (second v (alone-of k))
+
+unfoldable pub given-of : (takes count : ℕ) → (v k : List ℕ) → Numbers
+given-of takes count v k =
+    cond (eqb takes count) (cond (eqb takes 0) (numbers true 0 0) (first takes (alone-of v) k)) (numbers false 0 0)

@@ -1,0 +1,14 @@
+-- The buffer for a verb's text.
+--   text-room   its bytes: the longest script
+--   Held q      the number q does not say that the buffer is too short: for an image, a sheet or a script
+-- Definitions only.
+use mathlib.Core.Path.{_≡_}
+use Prim.Native.Nat.{ℕ}
+
+abbrev pub text-room : ℕ
+text-room = 112651
+
+pub record Held (q : ℕ) : Type 0 where
+  pub image : q ≡ 9 → ⊥
+  pub page : q ≡ 12 → ⊥
+  pub text : q ≡ 13 → ⊥
