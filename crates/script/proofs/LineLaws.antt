@@ -13,8 +13,8 @@ use Rattle.text.specs.Text.{bytes-of, space, line-feed, digit-byte}
 use Rattle.script.specs.declared.lines.Line.the-variants.{Up, Down, Bad}
 use Rattle.script.specs.declared.lines.Number.{Number}
 use Rattle.script.specs.Lines.{is-digit, Read, got, none, digits-on, number-of, ended, last-number-of, starts, radios-line, link-with, link-after}
-use Rattle.script.specs.Lines.{alone, alone-of, link-from, line-of}
-use Rattle.script.specs.Texts.{read-of}
+use Rattle.script.specs.Lines.{link-from, line-of}
+use Rattle.script.specs.Texts.{read-of, alone, alone-of}
 
 -- ---- read-of
 

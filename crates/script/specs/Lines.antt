@@ -4,7 +4,6 @@
 --   digits-on v s     the digits at the front of s, read onto v
 --   number-of s       the number at the front of s
 --   last-number-of s  the number at the front of s, with nothing but the line feed after it
---   alone-of s        the number that is the whole of s
 --   link-from up s      what follows `up ` or `down `, read
 --   line-of s         what a text says: `Bad` for every text of another form
 -- The texts of the language are in Texts.antt. That line-of takes exactly the texts of the language, and each back to its line, is proved in proofs/Texts.antt.
@@ -55,15 +54,6 @@ ended (got v rest) = cond (same rest (line-feed ∷ [])) (got v rest) none
 -- the number at the front, where the line ends after it
 unfoldable pub last-number-of : List ℕ → Read
 last-number-of s = ended (number-of s)
-
--- none, unless nothing is left
-unfoldable pub alone : Read → Read
-alone none = none
-alone (got v rest) = cond (same rest []) (got v rest) none
-
--- the number that is the whole of s
-unfoldable pub alone-of : List ℕ → Read
-alone-of s = alone (number-of s)
 
 -- ---- lines
 

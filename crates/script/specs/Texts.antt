@@ -3,6 +3,7 @@
 --   text-of l         the text of a line, its line feed included
 --   Values l          are the line's numbers at most 65,535
 --   read-of s r       what the parser's record r says about the text s
+--   alone-of s        the number that is the whole of s
 -- Definitions only.
 use mathlib.Core.Bool.{cond}
 use mathlib.Core.List.{List, [], _∷_}
@@ -10,7 +11,8 @@ use Prim.Native.Nat.{ℕ, _≤_}
 use lib.ListN.{drop}
 use Rattle.text.specs.Text.{bytes-of, decimal, printed-line}
 use Rattle.calls.specs.Script.{radios-text, up-text}
-use Rattle.script.specs.Lines.{max-value, Read, got, none}
+use Rattle.lists.specs.Lists.{same}
+use Rattle.script.specs.Lines.{max-value, Read, got, none, number-of}
 use Rattle.script.specs.declared.lines.Line.{Line}
 use Rattle.script.specs.declared.lines.Line.the-variants.{Radios, Up, Down, Bad}
 use Rattle.script.specs.declared.lines.Number.{Number}
@@ -39,3 +41,14 @@ Values Bad = ⊥
 -- the number found, and what follows it in s
 unfoldable pub read-of : (s : List ℕ) → Number → Read
 read-of s r = cond (r .ok) (got (r .value) (drop (r .next) s)) none
+
+-- ---- a number alone
+
+-- none, unless nothing is left
+unfoldable pub alone : Read → Read
+alone none = none
+alone (got v rest) = cond (same rest []) (got v rest) none
+
+-- the number that is the whole of s
+unfoldable pub alone-of : List ℕ → Read
+alone-of s = alone (number-of s)

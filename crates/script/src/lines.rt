@@ -3,8 +3,8 @@ ghost use mathlib.Core.Path.{_≡_};
 ghost use mathlib.Core.Bool.{false};
 ghost use Prim.Native.Nat.{_≤_, _<_};
 ghost use lib.ListN.{length, drop};
-ghost use Rattle.script.specs.Texts.{read-of};
-ghost use Rattle.script.specs.Lines.{digits-on, number-of, last-number-of, alone-of, link-from, starts, line-of};
+ghost use Rattle.script.specs.Texts.{read-of, alone-of};
+ghost use Rattle.script.specs.Lines.{digits-on, number-of, last-number-of, link-from, starts, line-of};
 
 // The bytes of the digits 0 and 9.
 const ZERO: u32 = 48;

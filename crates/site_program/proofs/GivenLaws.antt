@@ -5,8 +5,8 @@ use mathlib.Core.List.{List}
 use Prim.Native.Nat.{ℕ}
 use lib.ListN.{drop}
 use borrow.Author.Tests.{eq-eqb, ne-eqb}
-use Rattle.script.specs.Lines.{got, none, alone-of}
-use Rattle.script.specs.Texts.{read-of}
+use Rattle.script.specs.Lines.{got, none}
+use Rattle.script.specs.Texts.{read-of, alone-of}
 use Rattle.script.specs.declared.lines.Number.{Number}
 use Rattle.site_program.specs.Given.{numbers, second, first, given-of}
 use Rattle.site_program.specs.declared.arguments.Numbers.{Numbers}

@@ -6,7 +6,8 @@ use mathlib.Core.Bool.{Bool, true, false, cond}
 use mathlib.Core.List.{List}
 use Prim.Native.Nat.{ℕ, zero, suc}
 use lib.Dec.{eqb}
-use Rattle.script.specs.Lines.{Read, got, none, alone-of}
+use Rattle.script.specs.Lines.{Read, got, none}
+use Rattle.script.specs.Texts.{alone-of}
 use Rattle.site_program.specs.declared.arguments.Numbers.{Numbers}
 
 abbrev pub numbers : (ok : Bool) → (v k : ℕ) → Numbers
