@@ -4,9 +4,9 @@
 use mathlib.Core.Path.{_≡_, refl, ap, _∙_}
 use mathlib.Core.Bool.{Bool, true, _&&_}
 use mathlib.Core.List.{List}
-use Prim.Native.Nat.{ℕ, _+_, _≤_}
+use Prim.Native.Nat.{ℕ, _+_, _*_, _≤_}
 use lib.ListN.{length}
-use Rattle.mesh.specs.Limits.{max-neighbours}
+use Rattle.mesh.specs.Limits.{max-neighbours, row-bytes}
 use Rattle.lists.specs.Lists.{overwrite}
 use Rattle.mesh.specs.Graph.{Link, Graph, graph}
 use Rattle.mesh.specs.Tables.{Tables, graph-in, tables-of}
@@ -14,13 +14,14 @@ use Rattle.mesh.specs.Sound.{sound}
 use Rattle.mesh.specs.Connected.{core-of, backbone}
 use Rattle.mesh.specs.Tree.{tree, node-names}
 use Rattle.mesh.specs.Image.{image-of}
+use Rattle.mesh.specs.Staircase.{staircase, link-entries}
 use Rattle.mesh.specs.declared.Node.{Node}
 use Rattle.mesh.proofs.Cores.Peeling.{length-numbers}
 use Rattle.mesh.proofs.Tables.Laws.{length-links-table}
 use Rattle.mesh.proofs.Images.Sites.{length-order}
 use Rattle.calls.specs.Questions.{lengths-of, answer-length, nodes-length, image-length, holds-image, ask, ends-refusal, level-refusal, site-refusal}
-use Rattle.calls.specs.Questions.{link-refusal, core-refusal, backbone-refusal, tree-refusal, write-refusal}
-use Rattle.calls.specs.Outcomes.{by-number, listing, treed, value, listing-outcome, core-outcome, backbone-outcome, write-outcome, tree-outcome}
+use Rattle.calls.specs.Questions.{link-refusal, core-refusal, backbone-refusal, tree-refusal, write-refusal, staircase-length, staircase-refusal}
+use Rattle.calls.specs.Outcomes.{by-number, listing, treed, value, listing-outcome, core-outcome, backbone-outcome, write-outcome, tree-outcome, staircase-outcome}
 use Rattle.calls.proofs.QuestionLaws.{Site-lengths, ask-yes, true-answer-length, true-nodes-length, true-holds-image}
 use Rattle.calls.proofs.ChainLaws.{site-yes}
 use Rattle.calls.proofs.Holds.{Holds, read-back, is-sound}
@@ -85,3 +86,15 @@ module _ (n : ℕ) (ps : List Link) (t : Tables) (k : Holds n ps t) (least : 1 �
       let e : (nodes-length n (length m) && answer-length n (length w)) ≡ true =
       rw (true-nodes-length n (length m) p, true-answer-length n (length w) q) in
       rw (later-asked (nodes-length n (length m) && answer-length n (length w)) (λ h. 0) e, read-back n ps t k)
+
+  lengths-are : lengths-of t ≡ record { links = row-bytes * n; numbers = n; order = n }
+  unfolding lengths-of
+  lengths-are = rw (lengths .links, lengths .numbers, lengths .order)
+
+  pub staircase-by-pairs :
+      (w : List ℕ) → let kept = staircase g in
+      staircase-outcome n t w
+      ≡ listing-outcome (site-refusal n (record { links = row-bytes * n; numbers = n; order = n }) (staircase-length n (length w)) true 0) (length kept)
+      (link-entries kept) w
+  unfolding sound staircase-outcome staircase-refusal
+  staircase-by-pairs w = rw (is-sound n ps t k, lengths-are, read-back n ps t k)

@@ -12,7 +12,8 @@ use lib.ListN.{length, take, length-map}
 use borrow.Author.Tests.{eqb-true, eq-eqb}
 use Rattle.mesh.specs.Limits.{max-neighbours, row-bytes}
 use Rattle.lists.specs.Lists.{range, same, overwrite}
-use Rattle.mesh.specs.Graph.{Graph, graph, radios}
+use Rattle.mesh.specs.Graph.{Link, Graph, graph, radios}
+use Rattle.mesh.specs.Staircase.{staircase, link-entries}
 use Rattle.mesh.specs.Levels.{changed}
 use Rattle.mesh.specs.Tables.{Tables, graph-in, tables-of}
 use Rattle.mesh.specs.Sound.{sound}
@@ -30,14 +31,14 @@ use Rattle.calls.specs.Switches.{Switch, switched}
 use Rattle.calls.specs.Outcomes.{link-outcome, by-number, Numbered, Listing, reply, value, listing-outcome, clear-outcome, read-outcome, write-outcome, tree-outcome}
 use Rattle.calls.specs.Book.{beginning-tables}
 use Rattle.calls.specs.Worked.{entries, lent-tables, lent-nodes, Left, left, left-by, played, after, Want, last-answers, all-numbers, whole-order}
-use Rattle.calls.specs.Worked.{shell-tree, connected-core, backbone-radios, image-checks, printed, soundness, image-reading, same-nodes, block-checks}
+use Rattle.calls.specs.Worked.{shell-tree, connected-core, backbone-radios, image-checks, printed, soundness, staircase-list, formerly, script, bad-text, image-reading, same-nodes, block-checks}
 use Rattle.calls.specs.Worked.{is-value, is-listing, image-written, meets, meets-all, Row, right, Right, All-right}
 use Rattle.calls.proofs.ContractLaws.{number-by}
 use Rattle.calls.proofs.QuestionLaws.{size-good-true}
 use Rattle.calls.proofs.ChainLaws.{lent-yes, ends-zero}
 use Rattle.calls.proofs.Holds.{Holds, clear-is, clear-holds, read-back, switched-holds}
 use Rattle.calls.proofs.Steps.{answer-accepted, answer-refused}
-use Rattle.calls.proofs.ByPairs.{link-asked, core-by-pairs, backbone-by-pairs, write-by-pairs, tree-by-pairs}
+use Rattle.calls.proofs.ByPairs.{link-asked, core-by-pairs, backbone-by-pairs, write-by-pairs, tree-by-pairs, staircase-by-pairs}
 use Rattle.calls.proofs.WorkedState.{State, state, carried-out, state-played, state-after, right-lengths, state-meets, state-meets-all, state-right}
 use Rattle.calls.proofs.WorkedState.{all-state-right}
 
@@ -97,6 +98,26 @@ listing-right (suc y) r new old xs p =
     let e : suc y ≡ r = eqb-true (suc y) r (and-left (eqb (suc y) r) (same [] xs) p) in
     let d : [] ≡ xs = same-eq [] xs (and-right (eqb (suc y) r) (same [] xs) p) in
     rw (← e, ← d, is-value-refl (suc y) 0)
+
+-- the kept links of a staircase tree, two entries each
+kept-long : (ks : List Link) → 2 * length ks ≡ length (link-entries ks)
+unfolding link-entries
+kept-long [] = refl
+kept-long (l ∷ ls) = omega (arith, kept-long ls)
+
+kept-right :
+    (R r : ℕ) (ks : List Link) (old xs : List ℕ) → (eqb R r && same (by-number R (link-entries ks) (λ x. [])) xs) ≡ true →
+    let o = listing-outcome R (length ks) (link-entries ks) old in
+    (eqb (o .reply .number) r && (eqb (2 * o .reply .value) (length xs) && same (take (length xs) (o .lent)) xs)) ≡ true
+unfolding listing-outcome by-number same
+kept-right zero r ks old xs p =
+    let e : _≡_ {A = ℕ} 0 r = eqb-true 0 r (and-left (eqb 0 r) (same (link-entries ks) xs) p) in
+    let d : link-entries ks ≡ xs = same-eq (link-entries ks) xs (and-right (eqb 0 r) (same (link-entries ks) xs) p) in
+    rw (← e, ← d, eq-eqb (2 * length ks) (length (link-entries ks)) (kept-long ks), take-overwrite (link-entries ks) old, same-refl (link-entries ks))
+kept-right (suc y) r ks old xs p =
+    let e : suc y ≡ r = eqb-true (suc y) r (and-left (eqb (suc y) r) (same [] xs) p) in
+    let d : [] ≡ xs = same-eq [] xs (and-right (eqb (suc y) r) (same [] xs) p) in
+    rw (← e, ← d, eq-eqb (suc y) (suc y) refl)
 
 number-read : (n : ℕ) (bs : List ℕ) (t : Tables) → read-outcome n bs t .reply ≡ read-refusal n (lengths-of t) bs
 unfolding read-outcome
@@ -246,6 +267,11 @@ module _ (f : ℕ → ℕ) (n : ℕ) (size : size-good n ≡ true) where
         and-right (eqb (image-length site) m) checks p))
     meets-by (printed ls) p = rw (k .answers, tables-are) p
     meets-by (soundness ps ns xs b) p = rw tables-are p
+    meets-by (staircase-list i r xs) p =
+        rw (staircase-by-pairs n (q .pairs) (s .tables) (k .holds) least (entries f i), length-entries f i) (kept-right _ r (staircase site) (entries f i) xs p)
+    meets-by (formerly a b r) p = rw (read-back n (q .pairs) (s .tables) (k .holds)) p
+    meets-by (script ls) p = rw (read-back n (q .pairs) (s .tables) (k .holds)) p
+    meets-by (bad-text l x) p = p
     meets-by (image-reading m i ps r) p = rw (number-read m _ (lent-tables f m), lengths-lent f m, written) p
 
     meets-all-by : (ws : List Want) → state-meets-all n q ws ≡ true → meets-all f n s ws ≡ true

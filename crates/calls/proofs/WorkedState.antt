@@ -9,7 +9,7 @@ use mathlib.Core.List.{List, [], _∷_, _++_, flatMap}
 use Prim.Native.Nat.{ℕ, zero, suc, _*_, _-_}
 use lib.Dec.{eqb}
 use lib.ListN.{length, drop, take}
-use Rattle.mesh.specs.Limits.{max-neighbours, row-bytes}
+use Rattle.mesh.specs.Limits.{max-neighbours, former-neighbours, row-bytes}
 use Rattle.lists.specs.Lists.{range, count, filter, member, all, same, head-or}
 use Rattle.mesh.specs.Graph.{Link, graph, radios, other-ends, linked, neighbours-among, degree, link, link-before, same-link, with-link, without-link}
 use Rattle.mesh.specs.Graph.{new-links, relinked, proper, ascending}
@@ -21,18 +21,21 @@ use Rattle.mesh.specs.Tables.{tables, digit, byte-at, marked, from-digits, bit-
 use Rattle.mesh.specs.Sound.{symmetric, irreflexive, within, row-degree, few, rows-proper, enough, sound-within, sound}
 use Rattle.mesh.specs.Connected.{at-least, reached, core-of, greatest, backbone}
 use Rattle.mesh.specs.Tree.{shell, node-name, parent-name, nodes-at, tree, node-names}
+use Rattle.mesh.specs.Staircase.{weight, filter-links, falling, joined, keep, staircase, link-entries, weighs, least, goes-before}
 use Rattle.mesh.specs.Image.{word, long, weighted-sum, check-sum, block, blocks-for, order-blocks, block-count, link-bytes, order-payload, links-payload}
 use Rattle.mesh.specs.Image.{block-at, image-of, word-at, entry-at, image-order, image-link, image-links, image-graph, whole-blocks, block-check, checks-good}
 use Rattle.mesh.specs.Image.{is-image-within, is-image, other-size}
 use Rattle.calls.specs.Questions.{ask, Lengths, lengths-of, size-good, site-lengths, is-radio, are-radios, ends-differ, can-switch, has-room, has-level}
 use Rattle.calls.specs.Questions.{same-step, level-refusal, image-length, lent-refusal, tables-refusal, ends-refusal, blocks-refusal, image-refusal, read-refusal}
+use Rattle.calls.specs.Questions.{site-refusal, staircase-length}
+use Rattle.calls.specs.Script.{up-line, script-of}
 use Rattle.calls.specs.Switches.{Switch}
 use Rattle.calls.specs.Outcomes.{by-number, value-outcome, check-outcome}
 use Rattle.calls.specs.Book.{Answer, plain, reported}
 use Rattle.text.specs.Text.{bytes-of, digit-byte, digits-in, decimal, further-fields, printed-line}
-use Rattle.calls.specs.Replay.{step-text, link-line, numbers-line, order-line, closing-lines}
+use Rattle.calls.specs.Replay.{step-text, link-line, numbers-line, order-line, closing-lines, bad-line}
 use Rattle.calls.specs.Worked.{risen, fallen, unchanged, refused, Want, last-answers, all-numbers, whole-order, shell-tree, connected-core}
-use Rattle.calls.specs.Worked.{backbone-radios, image-checks, printed, soundness, image-reading, same-answers, same-nodes, block-checks}
+use Rattle.calls.specs.Worked.{backbone-radios, image-checks, printed, soundness, staircase-list, formerly, script, bad-text, image-reading, same-answers, same-nodes, block-checks}
 use Rattle.calls.specs.Worked.{put-in, is-value, Row}
 use Rattle.calls.specs.Replay.{answer-line, lines}
 
@@ -82,6 +85,12 @@ state-meets n q (image-checks m cs) =
 state-meets n q (printed ls) = same (lines (q .answers) (numbers (graph n (q .pairs))) (q .order)) (flatMap bytes-of ls)
 state-meets n q (soundness ps ns xs b) =
     is-value (check-outcome n (tables (put-in ps (links-table (graph n (q .pairs)))) ns xs)) 0 (cond b 1 0)
+state-meets n q (staircase-list k r xs) =
+    let R = site-refusal n (right-lengths n) (staircase-length n k) true 0 in
+    eqb R r && same (by-number R (link-entries (staircase (graph n (q .pairs)))) (λ x. [])) xs
+state-meets n q (formerly a b r) = eqb (ends-refusal former-neighbours true n a b (graph n (q .pairs))) r
+state-meets n q (script ls) = same (script-of (graph n (q .pairs))) (flatMap bytes-of ls)
+state-meets n q (bad-text l x) = same (bad-line l) (bytes-of x)
 state-meets n q (image-reading m k ps r) =
     eqb (read-refusal m (right-lengths m) (take k (put-in ps (image-of (graph n (q .pairs)) (q .order))))) r
 
@@ -99,5 +108,5 @@ all-state-right (r ∷ rs) = state-right r && all-state-right rs
 
 -- everything that rows compute with
 unfoldable pub compute : Unit {0}
-unfolding range count filter member all same head-or radios other-ends linked neighbours-among degree link link-before same-link with-link without-link new-links relinked survivors peeled cores-from cores depth number numbers changed step-of lower-level stretch-start stretch-length first-fitting without laid-out stretch-up stretch-down new-stretch with-stretch new-order at-least reached core-of greatest backbone shell node-name parent-name nodes-at tree node-names word long weighted-sum check-sum block blocks-for order-blocks block-count link-bytes order-payload links-payload block-at image-of word-at entry-at image-order image-link image-links image-graph whole-blocks block-check checks-good is-image-within is-image other-size proper ascending each-once rising few-later digit byte-at marked from-digits bit-row bit-table links-table tables-of symmetric irreflexive within row-degree few rows-proper enough sound-within sound ask is-radio are-radios ends-differ can-switch has-room has-level image-length ends-refusal image-refusal digit-byte digits-in decimal step-text further-fields printed-line link-line numbers-line order-line closing-lines risen fallen unchanged refused same-step same-answers same-nodes level-refusal block-checks put-in answer-line flatMap plain reported blocks-refusal is-value lines by-number value-outcome check-outcome tables-refusal lent-refusal size-good site-lengths lengths-of read-refusal carried-out state-played state-after state-meets state-meets-all state-right all-state-right
+unfolding range count filter member all same head-or radios other-ends linked neighbours-among degree link link-before same-link with-link without-link new-links relinked survivors peeled cores-from cores depth number numbers changed step-of lower-level stretch-start stretch-length first-fitting without laid-out stretch-up stretch-down new-stretch with-stretch new-order at-least reached core-of greatest backbone shell node-name parent-name nodes-at tree node-names word long weighted-sum check-sum block blocks-for order-blocks block-count link-bytes order-payload links-payload block-at image-of word-at entry-at image-order image-link image-links image-graph whole-blocks block-check checks-good is-image-within is-image other-size weight filter-links falling joined keep staircase link-entries weighs least goes-before site-refusal staircase-length up-line script-of bad-line proper ascending each-once rising few-later digit byte-at marked from-digits bit-row bit-table links-table tables-of symmetric irreflexive within row-degree few rows-proper enough sound-within sound ask is-radio are-radios ends-differ can-switch has-room has-level image-length ends-refusal image-refusal digit-byte digits-in decimal step-text further-fields printed-line link-line numbers-line order-line closing-lines risen fallen unchanged refused same-step same-answers same-nodes level-refusal block-checks put-in answer-line flatMap plain reported blocks-refusal is-value lines by-number value-outcome check-outcome tables-refusal lent-refusal size-good site-lengths lengths-of read-refusal carried-out state-played state-after state-meets state-meets-all state-right all-state-right
 compute = tt

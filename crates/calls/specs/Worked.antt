@@ -14,19 +14,21 @@ use Prim.Native.Nat.{ℕ, zero, suc, _+_, _*_, _-_}
 use Prim.Native.String.{String}
 use lib.Dec.{eqb}
 use lib.ListN.{length, drop, take, set}
-use Rattle.mesh.specs.Limits.{row-bytes}
+use Rattle.mesh.specs.Limits.{row-bytes, former-neighbours}
 use Rattle.lists.specs.Lists.{range, same}
 use Rattle.mesh.specs.Tables.{Tables, tables, graph-in}
 use Rattle.mesh.specs.Tree.{node}
 use Rattle.mesh.specs.Image.{block-bytes, long}
 use Rattle.mesh.specs.declared.Node.{Node}
-use Rattle.calls.specs.Questions.{image-length, same-step}
+use Rattle.calls.specs.Questions.{image-length, same-step, ends-refusal}
 use Rattle.calls.specs.Switches.{Switch, switch}
 use Rattle.calls.specs.Outcomes.{Linked, Listing, clear-outcome, read-outcome, link-outcome, check-outcome, core-outcome, backbone-outcome, write-outcome, tree-outcome}
+use Rattle.calls.specs.Outcomes.{staircase-outcome}
+use Rattle.calls.specs.Script.{script-of}
 use Rattle.calls.specs.Book.{Answer, plain, reported}
 use Rattle.calls.specs.Runs.{answer-of}
 use Rattle.text.specs.Text.{bytes-of}
-use Rattle.calls.specs.Replay.{lines}
+use Rattle.calls.specs.Replay.{lines, bad-line}
 use Rattle.calls.specs.declared.Value.{Value}
 
 -- ---- what is lent
@@ -110,6 +112,14 @@ pub data Want : Type 0 where
   printed : List String → Want
   -- the soundness check of the links table with these bytes put in, these numbers and this order
   soundness : List Put → (numbers order : List ℕ) → (yes : Bool) → Want
+  -- the staircase tree in a table of so many entries: refusal number and entries
+  staircase-list : (table : ℕ) → (number : ℕ) → (kept : List ℕ) → Want
+  -- the number of questions 4 to 7 for the link a-b going up, with the limit before document 02's W-208
+  formerly : (a b : ℕ) → (number : ℕ) → Want
+  -- the script that rebuilds the site, line by line
+  script : List String → Want
+  -- what ends a run at a line of another form
+  bad-text : (line : ℕ) → String → Want
   -- the number of reading so many bytes of the image, with these put in, for n radios
   image-reading : (n bytes : ℕ) → List Put → (number : ℕ) → Want
 
@@ -165,6 +175,12 @@ meets f n s (image-checks m cs) =
 meets f n s (printed ls) = same (lines (s .answers) (s .tables .numbers) (s .tables .order)) (flatMap bytes-of ls)
 meets f n s (soundness ps ns xs b) =
     is-value (check-outcome n (tables (put-in ps (s .tables .links)) ns xs)) 0 (cond b 1 0)
+meets f n s (staircase-list k r xs) =
+    let o = staircase-outcome n (s .tables) (entries f k) in
+    eqb (o .reply .number) r && (eqb (2 * o .reply .value) (length xs) && same (take (length xs) (o .lent)) xs)
+meets f n s (formerly a b r) = eqb (ends-refusal former-neighbours true n a b (graph-in n (s .tables .links))) r
+meets f n s (script ls) = same (script-of (graph-in n (s .tables .links))) (flatMap bytes-of ls)
+meets f n s (bad-text l x) = same (bad-line l) (bytes-of x)
 meets f n s (image-reading m k ps r) =
     eqb (read-outcome m (take k (put-in ps (image-written f n (s .tables)))) (lent-tables f m) .reply) r
 

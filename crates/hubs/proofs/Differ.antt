@@ -23,12 +23,13 @@ use Rattle.calls.specs.Runs as runs
 use Rattle.calls.proofs.Runs.{Does, Run, ended, next, called, run-is, link-done}
 use Rattle.calls.specs.Questions.{same-step}
 use Rattle.calls.specs.Worked.{entries, lent-tables, Left, left, left-by, played, after, up, risen, Want, last-answers, all-numbers, whole-order}
-use Rattle.calls.specs.Worked.{row, same-answers, meets, meets-all, right, All-right}
+use Rattle.calls.specs.Worked.{row, same-answers, meets, meets-all, right}
 use Rattle.hubs.specs.Hubs.{Cleared, Singles, single, Two-hubs}
 use Rattle.hubs.specs.Hubs as hubs
-use Rattle.hubs.specs.Cases.{one-hub, other-hub, cases}
+use Rattle.calls.specs.Cases.{one-hub, other-hub}
+use Rattle.calls.proofs.Cases.{one-hub-right, other-hub-right}
 use Rattle.hubs.proofs.Confluence.{orders-by-images}
-use Rattle.hubs.proofs.Cases.{cases-right, cases-same}
+use Rattle.hubs.proofs.Cases.{cases-same}
 
 -- ---- calls played one after the other are a run
 
@@ -110,12 +111,12 @@ by-row c d cs ds ns xs ws p =
 -- ---- the pair
 
 played-one : Played (up 0 1) (up 2 3) (2 ∷ 3 ∷ 0 ∷ 1 ∷ [])
-unfolding All-right cases one-hub
-played-one = by-row (up 0 1) (up 2 3) _ _ _ _ _ (cases-right .0 zeros)
+unfolding one-hub
+played-one = by-row (up 0 1) (up 2 3) _ _ _ _ _ (one-hub-right zeros)
 
 played-other : Played (up 2 3) (up 0 1) (0 ∷ 1 ∷ 2 ∷ 3 ∷ [])
-unfolding All-right cases other-hub
-played-other = by-row (up 2 3) (up 0 1) _ _ _ _ _ (cases-right .1 .0 zeros)
+unfolding other-hub
+played-other = by-row (up 2 3) (up 0 1) _ _ _ _ _ (other-hub-right zeros)
 
 head : List ℕ → ℕ
 head [] = 0

@@ -1,3 +1,2 @@
--- Two hubs, one mesh: the statement, and the worked pair of histories.
+-- Two hubs, one mesh: the statement. The worked pair of histories stands in the table of cases of crate calls.
 pub mod Hubs
-pub mod Cases
