@@ -51,7 +51,7 @@ def lines(name, n):
 
 
 CASES = [("none", 0), ("none", 1), ("none", 252), ("none", 253), ("none", 512), ("none", 513),
-         ("line", 126), ("line", 127), ("all", 41), ("all", 42)]
+         ("line", 126), ("line", 127), ("all", 33), ("all", 41), ("all", 42)]
 
 text = ""
 for name, n in CASES:

@@ -45,53 +45,60 @@ static int c_has_room(const struct lent *t, size_t room) {
     return BLOCK * c_blocks(t->n, count) <= room;
 }
 
-/* Where the next link goes, and the end of the payload of its block: at the end, it goes into the next block. */
-struct c_spot {
-    size_t at, end;
+/* How far the links are written: up to place `at` of a block. Left are the set bits of `rest`, from radio `first` on, of a row; its words after word
+ * k; the rows after it. */
+struct c_cursor {
+    size_t at;
+    unsigned row, k, first;
+    uint64_t rest;
 };
 
-static inline struct c_spot put_bits(uint8_t *buffer, struct c_spot p, unsigned a, unsigned first, uint64_t word) {
-    for (; word; word &= word - 1) {
-        if (p.at == p.end) {
-            uint8_t *block = buffer + p.end + 4;
-            block[0] = 2, block[1] = 0;
-            put_word(block + 2, (p.end + 4) / BLOCK);
-            p.at = p.end + 8, p.end += BLOCK;
+/* What is left of a row, until the block is full. */
+static inline struct c_cursor put_row(uint8_t *block, const struct lent *t, struct c_cursor c) {
+    for (;; c.first = 64 * c.k, c.rest = row_word(t->links, c.row, c.k)) {
+        for (; c.rest; c.rest &= c.rest - 1, c.at += 4) {
+            if (c.at == BODY) return c;
+            put_word(block + c.at, c.row), put_word(block + c.at + 2, c.first + __builtin_ctzll(c.rest));
         }
-        put_word(buffer + p.at, a), put_word(buffer + p.at + 2, first + __builtin_ctzll(word));
-        p.at += 4;
+        if (++c.k == ROW / 8) return c;
     }
-    return p;
 }
 
-/* The links, from block `first` on; how many these are. */
-static unsigned put_links(const struct lent *t, uint8_t *buffer, unsigned first) {
-    struct c_spot p = {BLOCK * first - 4, BLOCK * first - 4};
-    for (unsigned a = 0; a < t->n; a++) {
-        p = put_bits(buffer, p, a, a + 1, row_word(t->links, a, a / 64) >> a % 64 >> 1);
-        for (unsigned i = a / 64 + 1; i < ROW / 8; i++) p = put_bits(buffer, p, a, 64 * i, row_word(t->links, a, i));
+/* The rows from row a on, until the block is full. */
+static inline struct c_cursor put_rows(uint8_t *block, const struct lent *t, size_t at, unsigned a) {
+    for (; a < t->n; a++) {
+        struct c_cursor c = {at, a, a / 64, a + 1, row_word(t->links, a, a / 64) >> a % 64 >> 1};
+        c = put_row(block, t, c);
+        if (c.rest) return c;
+        at = c.at;
     }
-    return LINKS * ((p.end + 4) / BLOCK - first) - (p.end - p.at) / 4;
+    return (struct c_cursor){at, t->n, ROW / 8, 0, 0};
 }
 
+/* A block of links; where it ends, and the next link is. */
+static struct c_cursor fill_links(uint8_t *block, unsigned index, const struct lent *t, struct c_cursor c) {
+    block[0] = 2, block[1] = 0;
+    put_word(block + 2, index);
+    c.at = HEAD;
+    c = put_row(block, t, c);
+    if (!c.rest) c = put_rows(block, t, c.at, c.row + 1);
+    memset(block + c.at, 0, BLOCK - c.at);
+    close_block(block);
+    return c;
+}
+
+/* The blocks of links first: where they end tells how many links there are. A full block takes no link, so the first one is found. */
 static struct c_value c_image_write(const struct lent *t, uint8_t *buffer, size_t room) {
-    unsigned number = c_refusal(t, 1), orders = (t->n + ENTRIES - 1) / ENTRIES;
+    unsigned number = c_refusal(t, 1), first = 1 + (t->n + ENTRIES - 1) / ENTRIES, blocks = first, count = 0;
     if (number) return (struct c_value){number, 0};
     if (!c_has_room(t, room)) return (struct c_value){9, 0};
-    unsigned count = put_links(t, buffer, 1 + orders), blocks = c_blocks(t->n, count);
-    for (unsigned i = 0; i < blocks; i++) {
+    for (struct c_cursor c = put_rows(buffer, t, BODY, 0); c.row < t->n; blocks++)
+        c = fill_links(buffer + BLOCK * blocks, blocks, t, c), count += (c.at - HEAD) / 4;
+    for (unsigned i = 0; i < first; i++) {
         uint8_t *block = buffer + BLOCK * i;
-        if (i == 0) {
-            open_block(block, 0, 0);
-            put_word(block + HEAD, t->n), put_word(block + HEAD + 2, count);
-        } else if (i <= orders) {
-            unsigned from = ENTRIES * (i - 1);
-            open_block(block, 1, i);
-            for (unsigned j = 0; j < ENTRIES && from + j < t->n; j++) put_word(block + HEAD + 2 * j, t->order[from + j]);
-        } else {
-            unsigned left = count - LINKS * (i - 1 - orders), used = HEAD + 4 * (left < LINKS ? left : LINKS);
-            memset(block + used, 0, BLOCK - used);
-        }
+        open_block(block, i > 0, i);
+        if (i == 0) put_word(block + HEAD, t->n), put_word(block + HEAD + 2, count);
+        for (unsigned j = 0, from = ENTRIES * (i - 1); i && j < ENTRIES && from + j < t->n; j++) put_word(block + HEAD + 2 * j, t->order[from + j]);
         close_block(block);
     }
     return (struct c_value){0, BLOCK * blocks};

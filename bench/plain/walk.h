@@ -142,7 +142,8 @@ static int c_whole(const struct lent *t, uint32_t a, uint32_t b, unsigned level,
     c_stretch(t->n, t->numbers, level, &start, &size);
     for (unsigned p = start; p < start + size; p++) {
         unsigned v = t->order[p];
-        if (counters[v] + (v == a || v == b) <= level) return 0;
+        unsigned count = counters[v] + (v == a || v == b);
+        if (count <= level) return 0;
     }
     memcpy(plan->stretch, t->order + start, 2 * size);
     plan->start = start, plan->size = size, plan->taken = 0;
