@@ -33,6 +33,7 @@ OTHER = "the call is refused"
 FORM, NO_FEED = "no line of the language stands here", "the last line has no line feed"
 CARRIAGE = "a carriage return stands before the line feed"
 LONGEST = 17  # bytes of a line of the language
+FRONT = 44544  # bytes that are read before an input is told to be a script
 VERSION = "summerbugle 1.0.0\n"
 MODULUS, BASE = 4294967291, 65599  # of the digest that the program prints
 VERBS = ["check", "numbers", "sheet", "script", "backbone", "staircase", "tree"]
@@ -349,6 +350,19 @@ def long_texts():
     yield refusal
     yield "long script\nnumbers 0 1 1\nstatus 0\n"
     yield refusal
+    yield "shown script\n" + shown_text(11 * 4096, 1000)
+
+
+def shown_text(size, most):
+    """A script of that many bytes after line 1, of which the lines are 16 bytes for two: each read after the front shows its line."""
+    read, shown = FRONT, ""
+    while True:
+        line = 2 + 2 * ((read - 9) // 16) + ((read - 9) % 16 >= 7)
+        shown += f"\rline {line}"
+        if read == size + 9:
+            break
+        read = min(read + most, size + 9)
+    return SAYS["check"](played(script(3, []))) + shown + "\r" + 26 * " " + "\r\nstatus 0\n"
 
 
 def wrong(words):

@@ -22,6 +22,7 @@ fn run_at(at: usize) -> u32 {
     site_program::run(
         ends,
         usize::MAX,
+        libc::isatty(libc::STDERR_FILENO) == 1,
         &verb[..verb_bytes],
         count,
         &v[..v_bytes],

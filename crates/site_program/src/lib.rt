@@ -68,6 +68,7 @@ fn print<'a>(
 fn run_on(
     ends: Ends,
     most: usize,
+    shown: bool,
     verb: Verb,
     given: Numbers,
     n: u32,
@@ -79,7 +80,7 @@ fn run_on(
 ) -> u32
     ensures { λ r. ⌜ r ≤ 1 ⌝ }
 {
-    let status = source::read(ends, most, n, front, state, links, numbers, order);
+    let status = source::read(ends, most, shown, n, front, state, links, numbers, order);
     if status != 0 {
         return status;
     }
@@ -90,6 +91,7 @@ fn run_on(
 fn run_site(
     ends: Ends,
     most: usize,
+    shown: bool,
     verb: Verb,
     given: Numbers,
     n: u32,
@@ -106,6 +108,7 @@ fn run_site(
     run_on(
         ends,
         most,
+        shown,
         verb,
         given,
         n,
@@ -118,7 +121,15 @@ fn run_site(
 }
 
 // Goes on by the kind of the input, of which the front is read: the status.
-fn run_front(ends: Ends, most: usize, verb: Verb, given: Numbers, front: &[u8], state: u32) -> u32
+fn run_front(
+    ends: Ends,
+    most: usize,
+    shown: bool,
+    verb: Verb,
+    given: Numbers,
+    front: &[u8],
+    state: u32,
+) -> u32
     ensures { λ r. ⌜ r ≤ 1 ⌝ }
 {
     if reads::END < state {
@@ -131,17 +142,17 @@ fn run_front(ends: Ends, most: usize, verb: Verb, given: Numbers, front: &[u8], 
     if n == 0 {
         return refusals::say_line(ends.errors, 1, site_script::first_fault(front));
     }
-    run_site(ends, most, verb, given, n, front, state)
+    run_site(ends, most, shown, verb, given, n, front, state)
 }
 
 // Reads the front of the input, which holds any image whole, and goes on: the status.
-fn run_input(ends: Ends, most: usize, verb: Verb, given: Numbers) -> u32
+fn run_input(ends: Ends, most: usize, shown: bool, verb: Verb, given: Numbers) -> u32
     ensures { λ r. ⌜ r ≤ 1 ⌝ }
 {
     let mut front = [0u8; source::FRONT_BYTES];
     let got = reads::fill(ends.input, most, false, &mut front);
     let count = got.count;
-    run_front(ends, most, verb, given, &front[..count], got.state)
+    run_front(ends, most, shown, verb, given, &front[..count], got.state)
 }
 
 // Whether the word may be a file's name: it does not begin with a digit.
@@ -175,8 +186,17 @@ fn print_version(ends: Ends) -> u32
     refusals::say(ends.errors, b"the output cannot be written")
 }
 
-// Runs a verb with the words after it, of which there are `count`: the status, 0 or 1. A read asks for at most `most` bytes.
-fn run_verb(ends: Ends, most: usize, word: &[u8], count: usize, v: &[u8], k: &[u8]) -> u32
+// Runs a verb with the words after it, of which there are `count`: the status, 0 or 1. A read asks for at most `most` bytes;
+// where `shown` is set, a long script shows its line on the error descriptor.
+fn run_verb(
+    ends: Ends,
+    most: usize,
+    shown: bool,
+    word: &[u8],
+    count: usize,
+    v: &[u8],
+    k: &[u8],
+) -> u32
     ensures { λ r. ⌜ r ≤ 1 ⌝ }
 {
     let verb = verbs::verb_of(word);
@@ -189,11 +209,19 @@ fn run_verb(ends: Ends, most: usize, word: &[u8], count: usize, v: &[u8], k: &[u
     if !given.ok {
         return say_words(ends.errors, verb, word, v);
     }
-    run_input(ends, most, verb, given)
+    run_input(ends, most, shown, verb, given)
 }
 
 // The same, and the words that ask what the program is.
-pub fn run(ends: Ends, most: usize, word: &[u8], count: usize, v: &[u8], k: &[u8]) -> u32
+pub fn run(
+    ends: Ends,
+    most: usize,
+    shown: bool,
+    word: &[u8],
+    count: usize,
+    v: &[u8],
+    k: &[u8],
+) -> u32
     ensures { λ r. ⌜ r ≤ 1 ⌝ }
 {
     if tables::fill::same8(word, b"--help") {
@@ -202,5 +230,5 @@ pub fn run(ends: Ends, most: usize, word: &[u8], count: usize, v: &[u8], k: &[u8
     if tables::fill::same8(word, b"--version") {
         return print_version(ends);
     }
-    run_verb(ends, most, word, count, v, k)
+    run_verb(ends, most, shown, word, count, v, k)
 }

@@ -34,6 +34,7 @@ fn played(ends: Ends, end: Turned) -> u32
 pub(crate) fn read(
     ends: Ends,
     most: usize,
+    shown: bool,
     n: u32,
     front: &[u8],
     state: u32,
@@ -44,7 +45,7 @@ pub(crate) fn read(
     ensures { λ r. ⌜ r ≤ 1 ⌝ }
 {
     if is_script(front) {
-        let end = site_script::play(ends, most, n, front, state, links, numbers, order);
+        let end = site_script::play(ends, most, shown, n, front, state, links, numbers, order);
         return played(ends, end);
     }
     images::read(ends.errors, n, front, links, numbers, order)

@@ -190,9 +190,9 @@ fn take_chunk(
     s
 }
 
-// How far a run is, where the errors go to a terminal.
-fn show(errors: i32, line: u64) {
-    if libc::isatty(errors) == 1 {
+// How far a run is, where that is shown.
+fn show(errors: i32, shown: bool, line: u64) {
+    if shown {
         let mut out = [0u8; 32];
         let word = text::put_text(&mut out, 0, b"\rline");
         let end = text::put_field(&mut out, word, line);
@@ -202,8 +202,8 @@ fn show(errors: i32, line: u64) {
 }
 
 // Wipes what `show` put.
-fn wipe(errors: i32) {
-    if libc::isatty(errors) == 1 {
+fn wipe(errors: i32, shown: bool) {
+    if shown {
         io::write_all(errors, b"\r                          \r");
     }
 }
@@ -212,6 +212,7 @@ fn wipe(errors: i32) {
 fn turn(
     ends: Ends,
     most: usize,
+    shown: bool,
     s: Course,
     n: u32,
     line: &mut [u8],
@@ -224,7 +225,7 @@ fn turn(
 {
     let mut chunk = io::large_buffer();
     let got = reads::read(ends.input, most, &mut chunk);
-    show(ends.errors, s.line);
+    show(ends.errors, shown, s.line);
     let count = got.count;
     Turned {
         course: take_chunk(s, &chunk[..count], n, line, links, numbers, order),
@@ -237,6 +238,7 @@ fn turn(
 fn read_on(
     ends: Ends,
     most: usize,
+    shown: bool,
     s: Course,
     n: u32,
     line: &mut [u8],
@@ -251,7 +253,7 @@ fn read_on(
     let mut left = reads::most();
     while left > 0 {
         left -= 1;
-        let done = turn(ends, most, s, n, line, links, numbers, order);
+        let done = turn(ends, most, shown, s, n, line, links, numbers, order);
         if done.state != reads::GOES_ON {
             return done;
         }
@@ -270,6 +272,7 @@ fn read_on(
 fn read_rest(
     ends: Ends,
     most: usize,
+    shown: bool,
     front: Turned,
     n: u32,
     line: &mut [u8],
@@ -286,7 +289,17 @@ fn read_rest(
     if front.course.number != 0 {
         return front;
     }
-    read_on(ends, most, front.course, n, line, links, numbers, order)
+    read_on(
+        ends,
+        most,
+        shown,
+        front.course,
+        n,
+        line,
+        links,
+        numbers,
+        order,
+    )
 }
 
 // The end of the input: a last line without a line feed is of another form.
@@ -312,10 +325,12 @@ fn ended(s: Turned) -> Turned
     }
 }
 
-// Plays the script, of which the front is read, from its second line on. `state` is what the last read of the front found.
+// Plays the script, of which the front is read, from its second line on. `state` is what the last read of the front found; where `shown` is
+// set, each later read shows its line on the error descriptor, and the end wipes it.
 pub fn play(
     ends: Ends,
     most: usize,
+    shown: bool,
     n: u32,
     front: &[u8],
     state: u32,
@@ -335,7 +350,17 @@ pub fn play(
     let from = first_end(front, FIRST_BYTES);
     let course = take_chunk(start, &front[from..], n, &mut line, links, numbers, order);
     let first = Turned { course, state };
-    let last = read_rest(ends, most, first, n, &mut line, links, numbers, order);
-    wipe(ends.errors);
+    let last = read_rest(
+        ends,
+        most,
+        shown,
+        first,
+        n,
+        &mut line,
+        links,
+        numbers,
+        order,
+    );
+    wipe(ends.errors, shown);
     ended(last)
 }

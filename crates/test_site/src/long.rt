@@ -8,6 +8,8 @@ const CHUNKS: u32 = 2560;
 
 const LINE_CHUNKS: u32 = 140;
 
+const SHOWN_CHUNKS: u32 = 11;
+
 // The number after x, by Marsaglia's xorshift over 64 bits.
 fn next(x: u64) -> u64 {
     let y = x ^ (x << 13);
@@ -88,4 +90,13 @@ pub fn script(end: &[u8], most: usize) {
     write_lines(fd, LINE_CHUNKS);
     io::write_all(fd, end);
     run::last(fd, most, b"numbers");
+}
+
+// Lines that take more than the front, read by so many bytes at a time, and shown.
+pub fn shown(most: usize) {
+    let fd = run::new_file();
+    run::text(b"shown script\n");
+    io::write_all(fd, b"radios 3\n");
+    write_lines(fd, SHOWN_CHUNKS);
+    run::shown(fd, most);
 }

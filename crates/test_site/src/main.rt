@@ -18,6 +18,7 @@ fn scripts() {
     long::script(b"up 1 2\nup 2 1\n", usize::MAX);
     long::script(b"up 1 2\n", 1000);
     long::script(b"up 1 2\nup 2 1\n", 1000);
+    long::shown(1000);
 }
 
 // Reads that bring a byte each; one that has no room, and so fails; a folder; a closed input.

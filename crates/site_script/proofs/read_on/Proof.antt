@@ -10,12 +10,12 @@ use Rattle.site_script.proofs.read_on.Statement.{statement}
 use Rattle.site_script.proofs.read_on.Tie as tie
 
 abbrev Inv-loop : tie.InvT-loop
-Inv-loop ends most n line₀ links₀ numbers₀ order₀ s₀ left₀ line links numbers order s left =
+Inv-loop ends most shown n line₀ links₀ numbers₀ order₀ s₀ left₀ line links numbers order s left =
     (length line ≡ length line₀) × (length links ≡ length links₀) × (length numbers ≡ length numbers₀) × (length order ≡ length order₀)
     × On-to (length line₀) n (spot (tables links₀ numbers₀ order₀) line₀ s₀) (spot (tables links numbers order) line s)
 
 abbrev μ-loop : tie.MeasureT-loop
-μ-loop ends most n line₀ links₀ numbers₀ order₀ s₀ left₀ line links numbers order s left = left
+μ-loop ends most shown n line₀ links₀ numbers₀ order₀ s₀ left₀ line links numbers order s left = left
 
 loop-holds : tie.Need-loop-holds Inv-loop μ-loop
 loop-holds c = (refl, refl, refl, refl, on-none _ _ _)
