@@ -7,6 +7,7 @@ are not cut, tables that are not lent, threads; what a test engineer has beside 
 import copy
 import ctypes
 import ctypes.util
+import doctest
 import html
 import os
 import pickle
@@ -410,8 +411,9 @@ class Lent(unittest.TestCase):
         for links in (array("H", range(128)), "x" * 256, memoryview(bytearray(512))[::2]):
             with self.assertRaises(TypeError):
                 call("sb_check", 4, links, site.numbers, site.order)
-        with self.assertRaises(TypeError):
-            call("sb_check", 4, site.links, site.numbers)
+        for values in ((), (site.order, site.order)):
+            with self.assertRaises(TypeError):
+                call("sb_check", 4, site.links, site.numbers, *values)
 
     def test_shapes(self):
         """Tables of a host's own making: a part of something larger, and rows as rows."""
@@ -526,6 +528,9 @@ class Beside(unittest.TestCase):
     def setUp(self):
         self.links = clique([0, 1, 2]) + [(2, 3)]
         self.site = linked(5, self.links)
+
+    def test_readme(self):
+        self.assertEqual(doctest.testfile("README.md"), (0, 6))
 
     def test_lists(self):
         self.assertEqual(self.site.link_list(), self.links)
