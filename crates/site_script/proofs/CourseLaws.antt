@@ -12,7 +12,7 @@ use lib.Seq.{take-suc-set, drop-cons, take-all}
 use borrow.Author.Tests.{eq-eqb, ne-eqb, le-leb, lt-leb, lt-ltb, le-ltb}
 use Rattle.mesh.specs.Limits.{max-radios}
 use Rattle.mesh.specs.Tables.{Tables}
-use Rattle.calls.specs.Outcomes.{Linked, link-outcome, clear-outcome}
+use Rattle.calls.specs.Outcomes.{Numbered, Linked, link-outcome, clear-outcome}
 use Rattle.calls.specs.Contracts.{Link-contract, Clear-contract}
 use Rattle.calls.specs.declared.Reply.{Reply}
 use Rattle.text.specs.Text.{line-feed}
@@ -248,7 +248,7 @@ pub plays : (n from state k m : ℕ) (front chunk room spare : List ℕ) (t v af
 unfolding Clear-contract spot begin
 plays n from state k m front chunk room spare t v after p c last r long kept clear part first rest is =
     let start = spot v room (record { line = 2; held = 0; number = k }) in
-    let begun : start ≡ begin n t = ap (λ (x : ℕ × Tables). record { tables = x .1; line = 2; held = []; number = x .0 }) clear in
+    let begun : start ≡ begin n t = ap (λ (x : Numbered). record { tables = x .tables; line = 2; held = []; number = x .reply }) clear in
     let reads = input-of (rest .reads) in
     let taken : p ≡ bytes-taken line-room n (drop from front) (begin n t) =
     first ∙ ap (λ (xs : List ℕ). bytes-taken (length room) n xs start) part ∙ ap (λ (j : ℕ). bytes-taken j n (drop from front) start) long ∙ ap (bytes-taken line-room n (drop from front)) begun in

@@ -123,7 +123,7 @@ line-room = 17
 
 -- after the first line
 unfoldable pub begin : (n : ℕ) → Tables → Spot
-begin n t = record { tables = clear-outcome n t .1; line = 2; held = []; number = clear-outcome n t .0 }
+begin n t = record { tables = clear-outcome n t .tables; line = 2; held = []; number = clear-outcome n t .reply }
 
 -- what the front has after its first line, and then what the reads brought, is taken; the end is found by them or stands in the front
 pub record Plays (n : ℕ) (front : List ℕ) (state : ℕ) (t : Tables) (r : Turned) (after : Tables) : Type 0 where
