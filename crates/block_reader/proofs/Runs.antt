@@ -118,7 +118,8 @@ moved-runs =
     (moved-proof.met 𝓥 Closed.H Closed.model ghost₀ 𝓡)
 
 -- after a step, as before it, the bytes of its part stand in the image's cells where it says: they are not copied
-pub part-stands : (σ : Memory) (r : Input a-reader) → Ready σ (call (any-other reader-step) .params) (r, tt) → (h : Ran step-symbol.routine (call (any-other reader-step)) σ (r, tt))
+pub part-stands : (σ : Memory) (r : Input a-reader) → Ready σ (call (any-other reader-step) .params) (r, tt)
+    → (h : Ran step-symbol.routine (call (any-other reader-step)) σ (r, tt))
     → let o = block-outcome (entries (r .0)) (r .1) in
     Stands (h .memory) (span (unsigned w8) (given-at (place (r .0)) o .place) (take (o .length) (drop (o .offset) (entries (r .0)))))
 part-stands σ r ready h =

@@ -233,7 +233,10 @@ fitting = (
       lit< tt,
       (
         (sevens-held 128, (lit< tt, lit< tt)),
-        (((lit< tt, (lit< tt, tt)), (lit< tt, lit< tt)), (((lit< tt, (lit< tt, tt)), (lit< tt, lit< tt)), (((lit< tt, (lit< tt, tt)), (lit< tt, lit< tt)), tt))),
+        (
+          ((lit< tt, (lit< tt, tt)), (lit< tt, lit< tt)),
+          (((lit< tt, (lit< tt, tt)), (lit< tt, lit< tt)), (((lit< tt, (lit< tt, tt)), (lit< tt, lit< tt)), tt)),
+        ),
       ),
     ),
   ),

@@ -14,7 +14,8 @@ use mathlib.Core.List.{List, [], _∷_}
 use Prim.Native.Nat.{ℕ, _+_, _<_, _^_}
 use mir.Syntax.{w8, w16, w32, w64, tyInt, tyStruct, tcons, tnil}
 use mir.Val.{Val, vint, vstruct, vcons, vnil, ofZ}
-use Rattle.machine.specs.Cells.{Form, unsigned, signed, Param, by-value, to-read, to-write, to-read-with, Place, Lent, place, entries, Outputs, Of-inputs, pointer, passes, Call}
+use Rattle.machine.specs.Cells.{Form, unsigned, signed, Param, by-value, to-read, to-write, to-read-with}
+use Rattle.machine.specs.Cells.{Place, Lent, place, entries, Outputs, Of-inputs, pointer, passes, Call}
 use Rattle.mesh.specs.Tables.{Tables, tables}
 use Rattle.mesh.specs.declared.Node.{Node}
 use Rattle.calls.specs.declared.Reply.{Reply}

@@ -32,7 +32,8 @@ run-both σ b o [] ds h k = subst (λ (j : ℕ). Run-at σ b j ds) (omega arith)
 run-both σ b o (c ∷ cs) ds h k = (h .0, run-both σ b (suc o) cs ds (h .1) (subst (λ (j : ℕ). Run-at σ b j ds) (omega arith) k))
 
 -- the first entries of a list
-pub first-entries : (w : Width) (σ : Memory) (b o : ℕ) (k : ℕ) (xs : List ℕ) → Run-at σ b o (cells-of (unsigned w) xs) → Run-at σ b o (cells-of (unsigned w) (take k xs))
+pub first-entries : (w : Width) (σ : Memory) (b o : ℕ) (k : ℕ) (xs : List ℕ) → Run-at σ b o (cells-of (unsigned w) xs)
+    → Run-at σ b o (cells-of (unsigned w) (take k xs))
 first-entries w σ b o zero xs h = tt
 first-entries w σ b o (suc k) [] h = tt
 first-entries w σ b o (suc k) (x ∷ xs) h =
@@ -80,7 +81,8 @@ list-one w σ b o (x ∷ xs) (y ∷ ys) l p q h k =
     let m = bytes w in
     let c : le m x ≡ le m y = run-one σ b o (le m x) (le m y) (length-le m x ∙ sym (length-le m y))
     (run-front σ b o (le m x) (cells-of (unsigned w) xs) h) (run-front σ b o (le m y) (cells-of (unsigned w) ys) k) in
-    let e : x ≡ y = some-one (sym (unLe-le m x (subst (λ (j : ℕ). x < j) (two-256 w) (p .0))) ∙ ap unLe c ∙ unLe-le m y (subst (λ (j : ℕ). y < j) (two-256 w) (q .0))) in
+    let e : x ≡ y = some-one (sym (unLe-le m x (subst (λ (j : ℕ). x < j) (two-256 w) (p .0))) ∙ ap unLe c
+    ∙ unLe-le m y (subst (λ (j : ℕ). y < j) (two-256 w) (q .0))) in
     let es : xs ≡ ys = list-one w σ b (o + m) xs ys (omega (arith, l)) (p .1) (q .1)
     (subst (λ (j : ℕ). Run-at σ b (o + j) (cells-of (unsigned w) xs)) (length-le m x) (run-back σ b o (le m x) (cells-of (unsigned w) xs) h))
     (subst (λ (j : ℕ). Run-at σ b (o + j) (cells-of (unsigned w) ys)) (length-le m y) (run-back σ b o (le m y) (cells-of (unsigned w) ys) k)) in
@@ -155,7 +157,8 @@ apart-beyond σ s h (w ∷ ws) a = (
   apart-beyond σ s h ws (a .1),
 )
 
-pub apart-before : (σ : Memory) (s : Span) → Stands σ s → (rs ws : List Span) → Above (length σ) rs → All (λ r. All (Apart r) ws) rs → All (λ r. All (Apart r) (s ∷ ws)) rs
+pub apart-before : (σ : Memory) (s : Span) → Stands σ s → (rs ws : List Span) → Above (length σ) rs → All (λ r. All (Apart r) ws) rs
+    → All (λ r. All (Apart r) (s ∷ ws)) rs
 unfolding Above
 apart-before σ s h [] ws a k = tt
 apart-before σ s h (r ∷ rs) ws a k =

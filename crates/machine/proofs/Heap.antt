@@ -116,7 +116,8 @@ row-algn none k = refl
 row-algn (some e) k = refl
 
 -- a run stands where its cells are
-run-step : {A : Type 0} (t : Bool) (o i : ℕ) (c w : A) (x : Option A) (P : ℕ → A → Type 0) → eqb o i ≡ t → P o c → (x ≡ some w → P i w) → or (pick t c) x ≡ some w → P i w
+run-step : {A : Type 0} (t : Bool) (o i : ℕ) (c w : A) (x : Option A) (P : ℕ → A → Type 0) → eqb o i ≡ t → P o c → (x ≡ some w → P i w)
+    → or (pick t c) x ≡ some w → P i w
 unfolding or
 run-step true o i c w x P q h k e = subst (λ (j : ℕ). P j w) (eqb→≡ o i q) (subst (P o) (Option·some-injective c w e) h)
 run-step false o i c w x P q h k e = k e
@@ -176,8 +177,10 @@ row-span-apart b r s h (cell b′ i) =
     let y : (eqb (s .0) b′ ≡ true) × (seg (s .1) (s .2) i ≡ some v) = gate-some (eqb (s .0) b′) (seg (s .1) (s .2) i) v d in
     let z : (s .1 ≤ i) × (i < s .1 + length (s .2)) = seg-range (s .1) (s .2) i v (y .1) in
     h i w (x .1) (eqb→≡ (s .0) b′ (y .0) ∙ sym (eqb→≡ b b′ (x .0)), z .0, z .1))
-row-span-apart b r s h (len b′) = off-of (gate (eqb b b′) (r .1)) (gate (eqb (s .0) b′) none) (λ w v e d. Option·none-ne-some v (sym (gate-none (eqb (s .0) b′)) ∙ d))
-row-span-apart b r s h (algn b′) = off-of (gate (eqb b b′) (r .2)) (gate (eqb (s .0) b′) none) (λ w v e d. Option·none-ne-some v (sym (gate-none (eqb (s .0) b′)) ∙ d))
+row-span-apart b r s h (len b′) = off-of (gate (eqb b b′) (r .1)) (gate (eqb (s .0) b′) none)
+    (λ w v e d. Option·none-ne-some v (sym (gate-none (eqb (s .0) b′)) ∙ d))
+row-span-apart b r s h (algn b′) = off-of (gate (eqb b b′) (r .2)) (gate (eqb (s .0) b′) none)
+    (λ w v e d. Option·none-ne-some v (sym (gate-none (eqb (s .0) b′)) ∙ d))
 
 pub spans-apart : (s t : Span) → machine.Apart s t → Apart Ent-set (map-of s) (map-of t)
 unfolding map-of runRow
@@ -188,7 +191,12 @@ spans-apart s t h = row-span-apart (s .0) (runRow (s .1) (s .2)) t (λ i w e d.
 -- a span that stands is in the memory's table
 run-row : (A : List ℕ) (σ : Memory) (s : Span) → Stands σ s → RSub (runRow (s .1) (s .2)) (rowAt A σ (s .0))
 unfolding runRow RSub
-run-row A σ s h = (λ i w e. row-cell (entryAt σ (s .0)) (getElem? A (s .0)) i ∙ run-in σ (s .0) (s .1) (s .2) h i w e, λ n e. absurd (Option·none-ne-some n e), λ a e. absurd (Option·none-ne-some a e))
+run-row A σ s h = (
+  λ i w e. row-cell (entryAt σ (s .0)) (getElem? A (s .0)) i
+      ∙ run-in σ (s .0) (s .1) (s .2) h i w e,
+  λ n e. absurd (Option·none-ne-some n e),
+  λ a e. absurd (Option·none-ne-some a e),
+)
 
 span-sub : (A : List ℕ) (σ : Memory) (s : Span) → Stands σ s → Sub Ent-set (map-of s) (view A σ)
 unfolding map-of
@@ -234,7 +242,8 @@ own-cells s (t ∷ ss) a = (
   own-cells s ss (a .1),
 )
 
-all-apart : (b : ℕ) (r : Row) (ss : List Span) → All (λ s. (i : ℕ) (w : Cell) → r .0 i ≡ some w → Has s b i → ⊥) ss → All (λ s. Apart Ent-set (only b r) (map-of s)) ss
+all-apart : (b : ℕ) (r : Row) (ss : List Span) → All (λ s. (i : ℕ) (w : Cell) → r .0 i ≡ some w → Has s b i → ⊥) ss
+    → All (λ s. Apart Ent-set (only b r) (map-of s)) ss
 all-apart b r [] a = tt
 all-apart b r (s ∷ ss) a = (row-span-apart b r s (a .0), all-apart b r ss (a .1))
 
@@ -259,7 +268,8 @@ module _ {M : Type 1} (𝓤 : URA M) (ι : UEmb (Table Ent-set) M (Table·op Ent
   parts-of A σ ss h a = cut (view A σ) ss (all-in A σ ss h) a
 
   -- a row of the memory that has no cell of a span is in the rest
-  in-rest : (q : Share) (A : List ℕ) (σ : Memory) (ss : List Span) (b : ℕ) (r : Row) → RSub r (rowAt A σ b) → All (λ s. (i : ℕ) (w : Cell) → r .0 i ≡ some w → Has s b i → ⊥) ss
+  in-rest : (q : Share) (A : List ℕ) (σ : Memory) (ss : List Span) (b : ℕ) (r : Row) → RSub r (rowAt A σ b)
+      → All (λ s. (i : ℕ) (w : Cell) → r .0 i ≡ some w → Has s b i → ⊥) ss
       → ent 𝓤 (owned 𝓤 ι q (rest (view A σ) ss)) (has 𝓤 ι q b r)
   unfolding has
   in-rest q A σ ss b r S a =
@@ -272,7 +282,8 @@ module _ {M : Type 1} (𝓤 : URA M) (ι : UEmb (Table Ent-set) M (Table·op Ent
   abbrev pub shared : List ℕ → Memory → List Span → SProp 𝓤
   shared A σ ss = ex 𝓤 (λ (q : Share). owned 𝓤 ι q (rest (view A σ) ss))
 
-  pub share-row : (A : List ℕ) (σ : Memory) (ss : List Span) (b : ℕ) (r : Row) → RSub r (rowAt A σ b) → All (λ s. (i : ℕ) (w : Cell) → r .0 i ≡ some w → Has s b i → ⊥) ss
+  pub share-row : (A : List ℕ) (σ : Memory) (ss : List Span) (b : ℕ) (r : Row) → RSub r (rowAt A σ b)
+      → All (λ s. (i : ℕ) (w : Cell) → r .0 i ≡ some w → Has s b i → ⊥) ss
       → ent 𝓤 (shared A σ ss) (sep 𝓤 (ex 𝓤 (λ (q : Share). has 𝓤 ι q b r)) (shared A σ ss))
   share-row A σ ss b r S a = exE 𝓤 (λ (q : Share). owned 𝓤 ι q (rest (view A σ) ss)) (λ q.
       via 𝓤 (sep 𝓤 (owned 𝓤 ι (PosShare·left q) (rest (view A σ) ss)) (owned 𝓤 ι (PosShare·right q) (rest (view A σ) ss)))
@@ -281,7 +292,8 @@ module _ {M : Type 1} (𝓤 : URA M) (ι : UEmb (Table Ent-set) M (Table·op Ent
       (exI 𝓤 (λ (q′ : Share). owned 𝓤 ι q′ (rest (view A σ) ss)) (PosShare·right q))))
 
   -- of a block, that it is aligned so
-  pub share-known : (A : List ℕ) (σ : Memory) (ss : List Span) (b k a : ℕ) → getElem? A b ≡ some a → Dv k a → ent 𝓤 (shared A σ ss) (sep 𝓤 (known 𝓤 ι b k) (shared A σ ss))
+  pub share-known : (A : List ℕ) (σ : Memory) (ss : List Span) (b k a : ℕ) → getElem? A b ≡ some a → Dv k a
+      → ent 𝓤 (shared A σ ss) (sep 𝓤 (known 𝓤 ι b k) (shared A σ ss))
   unfolding lies algnRow
   share-known A σ ss b k a h d =
       via 𝓤 (sep 𝓤 (ex 𝓤 (λ (q : Share). has 𝓤 ι q b (algnRow a))) (shared A σ ss)) (share-row A σ ss b (algnRow a) (algn-row A σ b a h) (no-cells b ss))
@@ -292,6 +304,7 @@ module _ {M : Type 1} (𝓤 : URA M) (ι : UEmb (Table Ent-set) M (Table·op Ent
       → ent 𝓤 (shared A σ ss) (sep 𝓤 (ex 𝓤 (λ (q : Share). cells 𝓤 ι q (s .0) (s .1) (s .2))) (shared A σ ss))
   unfolding runRow
   share-cells A σ ss s h a =
-      via 𝓤 (sep 𝓤 (ex 𝓤 (λ (q : Share). has 𝓤 ι q (s .0) (runRow (s .1) (s .2)))) (shared A σ ss)) (share-row A σ ss (s .0) (runRow (s .1) (s .2)) (run-row A σ s h) (own-cells s ss a))
+      via 𝓤 (sep 𝓤 (ex 𝓤 (λ (q : Share). has 𝓤 ι q (s .0) (runRow (s .1) (s .2)))) (shared A σ ss))
+      (share-row A σ ss (s .0) (runRow (s .1) (s .2)) (run-row A σ s h) (own-cells s ss a))
       (monoL 𝓤 (shared A σ ss) (exE 𝓤 (λ (q : Share). has 𝓤 ι q (s .0) (runRow (s .1) (s .2))) (λ q.
       via 𝓤 (cells 𝓤 ι q (s .0) (s .1) (s .2)) (run→cells 𝓤 ι q (s .0) (s .1) (s .2)) (exI 𝓤 (λ (q′ : Share). cells 𝓤 ι q′ (s .0) (s .1) (s .2)) q))))

@@ -22,7 +22,8 @@ use store.View.{HMap, view, Kept, alignsOf, kept-any}
 use store.Cells.{cells}
 use ghost.Atoms.{Atoms, sem}
 use ghost.Model as Closed
-use types.Kit.{‵, raw, _⊛_, some, later, _$_, _∵_, !, qed, by, move, keep, use0, use1, use2, use3, split, join, pick, show, await, updating, now as at-once, suffices, frame, done as finished}
+use types.Kit.{‵, raw, _⊛_, some, later, _$_, _∵_, !, qed, by, move, keep, use0}
+use types.Kit.{use1, use2, use3, split, join, pick, show, await, updating, now as at-once, suffices, frame, done as finished}
 use denote.RattleType.{RattleType, Denots, Valss, owns}
 use denote.Signature.{Slot, Signature, plain, typesAt}
 use denote.Exit.{yes}
@@ -58,13 +59,15 @@ plainly n R = record { row = λ _. R .row; Result = R .row .Denot; told = λ _ x
 
 -- ---- what stands after the call
 
-stoods-lie : {n : ℕ} (ps : List (Lending n)) (i : Inputs (params ps)) (o : Outputs (params ps)) → ent 𝓥 (stoods ps i o) (lie 𝓥 Closed.ι (written (params ps) i o))
+stoods-lie : {n : ℕ} (ps : List (Lending n)) (i : Inputs (params ps)) (o : Outputs (params ps))
+    → ent 𝓥 (stoods ps i o) (lie 𝓥 Closed.ι (written (params ps) i o))
 stoods-lie [] i o = id⊢ 𝓥 (emp 𝓥)
 stoods-lie (by-value R ∷ ps) i o = stoods-lie ps (i .1) o
 stoods-lie (to-read j ok R ∷ ps) i o = stoods-lie ps (i .1) o
 stoods-lie (to-read-with j ok R S T ∷ ps) i o = stoods-lie ps (i .1) o
 stoods-lie (to-write j ok R ∷ ps) i o =
-    mono∗ 𝓥 (via 𝓥 (row-cells R (o .0) (i .0 .0)) (snd∗ 𝓥 (fact 𝓥 (length (o .0) ≡ length (i .0 .1))) (row-cells R (o .0) (i .0 .0))) (cells-out R (o .0) (i .0 .0))) (stoods-lie ps (i .1) (o .1))
+    mono∗ 𝓥 (via 𝓥 (row-cells R (o .0) (i .0 .0)) (snd∗ 𝓥 (fact 𝓥 (length (o .0) ≡ length (i .0 .1))) (row-cells R (o .0) (i .0 .0)))
+    (cells-out R (o .0) (i .0 .0))) (stoods-lie ps (i .1) (o .1))
 
 stoods-long : {n : ℕ} (ps : List (Lending n)) (i : Inputs (params ps)) (o : Outputs (params ps)) → ent 𝓥 (stoods ps i o) (fact 𝓥 (Same-lengths (params ps) i o))
 stoods-long [] i o = factI 𝓥 (Unit {0}) (emp 𝓥) tt
@@ -83,7 +86,8 @@ stoods-held (to-read j ok R ∷ ps) i o = stoods-held ps (i .1) o
 stoods-held (to-read-with j ok R S T ∷ ps) i o = stoods-held ps (i .1) o
 stoods-held (to-write j ok R ∷ ps) i o =
     via 𝓥 (sep 𝓥 (fact 𝓥 (All-held (form R) (o .0))) (fact 𝓥 (Left-held (params ps) (o .1))))
-    (mono∗ 𝓥 (via 𝓥 (row-cells R (o .0) (i .0 .0)) (snd∗ 𝓥 (fact 𝓥 (length (o .0) ≡ length (i .0 .1))) (row-cells R (o .0) (i .0 .0))) (cells-held R (o .0) (i .0 .0))) (stoods-held ps (i .1) (o .1)))
+    (mono∗ 𝓥 (via 𝓥 (row-cells R (o .0) (i .0 .0)) (snd∗ 𝓥 (fact 𝓥 (length (o .0) ≡ length (i .0 .1))) (row-cells R (o .0) (i .0 .0)))
+    (cells-held R (o .0) (i .0 .0))) (stoods-held ps (i .1) (o .1)))
     (both-facts (All-held (form R) (o .0)) (Left-held (params ps) (o .1)))
 
 all-stand : (σ : Memory) (ss : List Span) (P : SProp 𝓥) → ent 𝓥 P (lie 𝓥 Closed.ι ss) → Satisfies 𝓥 Closed.H Closed.model σ P → All (Stands σ) ss
@@ -115,11 +119,14 @@ module _ (n : ℕ) (ps : List (Lending n)) (R : Told n) (routine : Routine) (con
   Promised-at = Meets 𝓥 Closed.H A₀ signature (real 𝓥 Closed.H Closed.model .run routine) (spec 𝓥 Closed.H A₀)
 
   abbrev Entered : Inputs (params ps) → (αs : Nums n) → Names ps → SProp 𝓥
-  Entered i αs γs = sep 𝓥 (sep 𝓥 (sep 𝓥 (alive n αs) ⟦ owns (typesAt (slots ps) (made n αs)) (args (made n αs) ps i γs) (values (made n αs) ps i) ⟧) (emp 𝓥)) (asides (made n αs) ps i γs)
+  Entered i αs γs = sep 𝓥 (sep 𝓥 (sep 𝓥 (alive n αs) ⟦ owns (typesAt (slots ps) (made n αs)) (args (made n αs) ps i γs) (values (made n αs) ps i) ⟧) (emp 𝓥))
+      (asides (made n αs) ps i γs)
 
   enter : (σ : Memory) (i : Inputs (params ps)) → Ready σ (params ps) i → ent 𝓥 (lents ps i) (Closed.H .⇛ (ex 𝓥 (λ (αs : Nums n). ex 𝓥 (Entered i αs))))
-  enter σ i g = qed W₀ (raw (lents ps i) ∷ []) ∵ updating ! $ use0 W₀ (later (some (λ (αs : Nums n). raw (alive n αs)))) (begin n) $ await ! tt $ pick ! (λ αs. move ! (1 ∷ []) $
-      use1 W₀ (later (some (λ (γs : Names ps). ‵ (owns (typesAt (slots ps) (made n αs)) (args (made n αs) ps i γs) (values (made n αs) ps i)) ⊛ raw (asides (made n αs) ps i γs)))) (lend (made n αs) σ ps i (g .good)) $
+  enter σ i g = qed W₀ (raw (lents ps i) ∷ []) ∵ updating ! $ use0 W₀ (later (some (λ (αs : Nums n). raw (alive n αs)))) (begin n) $ await ! tt $ pick !
+      (λ αs. move ! (1 ∷ []) $
+      use1 W₀ (later (some (λ (γs : Names ps). ‵ (owns (typesAt (slots ps) (made n αs)) (args (made n αs) ps i γs) (values (made n αs) ps i)) ⊛ raw
+      (asides (made n αs) ps i γs)))) (lend (made n αs) σ ps i (g .good)) $
       await ! tt $ pick ! (λ γs. split ! $ at-once ! $ show ! (λ (αs′ : Nums n). ex 𝓥 (Entered i αs′)) αs $ show ! (Entered i αs) γs $
       move ! (2 ∷ 0 ∷ []) $ join ! $ use0 W₀ (raw (emp 𝓥)) (id⊢ 𝓥 (emp 𝓥)) $ move ! (1 ∷ 0 ∷ []) $ join ! $ finished !))
 
@@ -127,7 +134,8 @@ module _ (n : ℕ) (ps : List (Lending n)) (R : Told n) (routine : Routine) (con
       → ent 𝓥 (sep 𝓥 (alive n αs) (sep 𝓥 ⟦ lastsOf (made n αs) (slots ps) (all yes (slots ps)) (args (made n αs) ps i γs) ws ⟧ (asides (made n αs) ps i γs)))
       (Closed.H .⇛ (stoods ps i (wrotes (made n αs) ps (args (made n αs) ps i γs) ws)))
   leave i αs γs ws =
-      qed W₀ (raw (alive n αs) ∷ ‵ (lastsOf (made n αs) (slots ps) (all yes (slots ps)) (args (made n αs) ps i γs) ws) ∷ raw (asides (made n αs) ps i γs) ∷ []) ∵ updating ! $
+      qed W₀ (raw (alive n αs) ∷ ‵ (lastsOf (made n αs) (slots ps) (all yes (slots ps)) (args (made n αs) ps i γs) ws) ∷ raw (asides (made n αs) ps i γs) ∷
+      []) ∵ updating ! $
       use1 W₀ (later (raw (over n αs))) (end n αs) $ await ! tt $ move ! (1 ∷ 2 ∷ 0 ∷ []) $
       use3 W₀ (later (raw (stoods ps i (wrotes (made n αs) ps (args (made n αs) ps i γs) ws)))) (back n αs ps i γs ws) $ await ! tt $ at-once ! $ finished !
 

@@ -15,7 +15,8 @@ use prog.Memory.{Memory, size}
 use store.View.{HMap, view, Kept}
 use store.Cells.{cells}
 use ghost.Model as Closed
-use types.Kit.{Given, ‵, raw, _⊛_, some, later, given, _$_, _∵_, !, qed, by, move, keep, use0, use1, use2, use3, drop, learn, split, join, pick, show, await, updating, now as at-once, suffices, fsplit, fjoin, feqL, feqI, frame, done}
+use types.Kit.{Given, ‵, raw, _⊛_, some, later, given, _$_, _∵_, !, qed, by, move, keep, use0, use1, use2}
+use types.Kit.{use3, drop, learn, split, join, pick, show, await, updating, now as at-once, suffices, fsplit, fjoin, feqL, feqI, frame, done}
 use types.Tokens.{lft-new, lft-end, lent-back}
 use types.SemTy as sem-types
 use types.Share.{parts, arr-parts}
@@ -95,7 +96,8 @@ over (suc n) αs = sep 𝓥 (A₀ .dead (αs .0 ∷ [])) (over n (αs .1))
 
 pub begin : (n : ℕ) → ent 𝓥 (emp 𝓥) (Closed.H .⇛ (ex 𝓥 (alive n)))
 begin zero = via 𝓥 (ex 𝓥 (alive zero)) (exI 𝓥 (alive zero) tt) (W₀ .laws .⇛-intro (ex 𝓥 (alive zero)))
-begin (suc n) = qed W₀ [] ∵ updating ! $ lft-new ! tt (λ α. use0 W₀ (later (some (λ (αs : Nums n). raw (alive n αs)))) (begin n) $ await ! tt $ pick ! (λ αs. at-once ! $
+begin (suc n) = qed W₀ [] ∵ updating ! $ lft-new ! tt
+    (λ α. use0 W₀ (later (some (λ (αs : Nums n). raw (alive n αs)))) (begin n) $ await ! tt $ pick ! (λ αs. at-once ! $
     show ! (alive (suc n)) (α, αs) $ move ! (1 ∷ 0 ∷ []) $ done !))
 
 pub end : (n : ℕ) (αs : Nums n) → ent 𝓥 (alive n αs) (Closed.H .⇛ (over n αs))
@@ -157,8 +159,10 @@ module _ {n : ℕ} (κs : Lfts n) where
   Owned p x γ = sep 𝓥 ⟦ slot p .row κs .own (arg κs p x γ) (passes (param p) x ∷ []) ⟧ (aside κs p x γ)
 
   lend-one : (σ : Memory) (p : Lending n) (x : Input (param p)) → Good σ (param p) x → ent 𝓥 (lent p x) (Closed.H .⇛ (ex 𝓥 (Owned p x)))
-  lend-one σ (by-value R) x g = qed W₀ (raw (emp 𝓥) ∷ []) ∵ updating ! $ use0 W₀ (‵ (R .row .own x (R .machine x ∷ []))) (R .makes x g) $ at-once ! $ show ! (Owned (by-value R) x) 0 $ done !
-  lend-one σ (to-write j ok R) x g = lends-slice 𝓥 Closed.H A₀ W₀ (R .row) (named j) (lftAt n j ok κs) (x .1) (x .0 .0) (x .0 .1) (room-of R (length (x .1)) (g .2))
+  lend-one σ (by-value R) x g = qed W₀ (raw (emp 𝓥) ∷ []) ∵ updating ! $ use0 W₀ (‵ (R .row .own x (R .machine x ∷ []))) (R .makes x g) $ at-once ! $ show !
+      (Owned (by-value R) x) 0 $ done !
+  lend-one σ (to-write j ok R) x g = lends-slice 𝓥 Closed.H A₀ W₀ (R .row) (named j) (lftAt n j ok κs) (x .1) (x .0 .0) (x .0 .1)
+      (room-of R (length (x .1)) (g .2))
   lend-one σ (to-read j ok R) x g =
       qed W₀ (raw (row-share R (x .1) (x .0)) ∷ []) ∵ updating ! $
       use1 W₀ (later (some (λ (γ : GName). ‵ (Read j (lftAt n j ok κs) R x γ)))) (lend-read j (lftAt n j ok κs) R x (g .2)) $
@@ -192,9 +196,11 @@ module _ (n : ℕ) (αs : Nums n) where
       → ent 𝓥 (sep 𝓥 ⟦ fsep (finally (R .row) γ w) (feq ℕ (length w) (length (x .1))) ⟧
       (sep 𝓥 (A₀ .lent (lftAt n j ok κs) (Held (R .row) (length (x .1)) (x .0 .0) (x .0 .1) γ)) (over n αs))) (Closed.H .⇛ (stood R x w))
   back-one j ok R x γ w =
-      qed W₀ (‵ (fsep (finally (R .row) γ w) (feq ℕ (length w) (length (x .1)))) ∷ ‵ (flent (lftAt n j ok κs) (Held (R .row) (length (x .1)) (x .0 .0) (x .0 .1) γ)) ∷ raw (over n αs) ∷ []) ∵ updating ! $
+      qed W₀ (‵ (fsep (finally (R .row) γ w) (feq ℕ (length w) (length (x .1)))) ∷ ‵
+      (flent (lftAt n j ok κs) (Held (R .row) (length (x .1)) (x .0 .0) (x .0 .1) γ)) ∷ raw (over n αs) ∷ []) ∵ updating ! $
       move ! (2 ∷ []) $ use1 W₀ (‵ (fdead (lftAt n j ok κs))) (over-at n j ok αs) $ move ! (1 ∷ []) $ fsplit ! $ move ! (2 ∷ 3 ∷ 0 ∷ []) $
-      use3 W₀ (later (‵ (sem-types.Arr (mem (R .row)) (length (x .1)) .lies w (x .0 .0) (x .0 .1)))) (slice-back 𝓥 Closed.H A₀ W₀ (R .row) (lftAt n j ok κs) γ w (length (x .1)) (x .0 .0) (x .0 .1)) $ await ! tt $ at-once ! $
+      use3 W₀ (later (‵ (sem-types.Arr (mem (R .row)) (length (x .1)) .lies w (x .0 .0) (x .0 .1))))
+      (slice-back 𝓥 Closed.H A₀ W₀ (R .row) (lftAt n j ok κs) γ w (length (x .1)) (x .0 .0) (x .0 .1)) $ await ! tt $ at-once ! $
       keep ! (0 ∷ []) $ done !
 
 -- ---- all parameters
@@ -261,7 +267,8 @@ module _ {n : ℕ} (κs : Lfts n) where
       let r : RefT (List (R .row .Denot)) = record { ptr = i .0 .0 .0; name = γs .0; now = i .0 .0 .1 } in
       λ k. (held (T .parts-made (namedLft n j ok κs) r (i .0 .1) k), inputs-are ps (i .1) (γs .1) k)
 
-  pub outputs-are : (ps : List (Lending n)) (a : Denots (typesAt (slots ps) κs)) (ws : Fins κs (slots ps) (all yes (slots ps)) a) → outputs ps (outs κs (slots ps) (all yes (slots ps)) a ws) ≡ wrotes ps a ws
+  pub outputs-are : (ps : List (Lending n)) (a : Denots (typesAt (slots ps) κs)) (ws : Fins κs (slots ps) (all yes (slots ps)) a)
+      → outputs ps (outs κs (slots ps) (all yes (slots ps)) a ws) ≡ wrotes ps a ws
   outputs-are [] a ws = refl
   outputs-are (by-value R ∷ ps) a ws = outputs-are ps (a .1) (ws .1)
   outputs-are (to-read j ok R ∷ ps) a ws = outputs-are ps (a .1) (ws .1)
@@ -278,21 +285,29 @@ module _ {n : ℕ} (κs : Lfts n) where
   pub lend : (σ : Memory) (ps : List (Lending n)) (i : Inputs (params ps)) → All-good σ (params ps) i → ent 𝓥 (lents ps i) (Closed.H .⇛ (ex 𝓥 (Owneds ps i)))
   lend σ [] i g = qed W₀ (raw (emp 𝓥) ∷ []) ∵ updating ! $ at-once ! $ show ! (Owneds [] i) tt $ frame ! $ by ! (id⊢ 𝓥 (emp 𝓥))
   lend σ (p ∷ ps) i g = qed W₀ (raw (lent p (i .0)) ∷ raw (lents ps (i .1)) ∷ []) ∵ updating ! $
-      use1 W₀ (later (some (λ (γ : GName). ‵ (slot p .row κs .own (arg κs p (i .0) γ) (passes (param p) (i .0) ∷ [])) ⊛ raw (aside κs p (i .0) γ)))) (lend-one κs σ p (i .0) (g .0)) $ await ! tt $ pick ! (λ γ. split ! $ move ! (2 ∷ []) $
-      use1 W₀ (later (some (λ (γs : Names ps). ‵ (owns (typesAt (slots ps) κs) (args ps (i .1) γs) (values ps (i .1))) ⊛ raw (asides ps (i .1) γs)))) (lend σ ps (i .1) (g .1)) $ await ! tt $ pick ! (λ γs. split ! $ at-once ! $
+      use1 W₀ (later (some (λ (γ : GName). ‵ (slot p .row κs .own (arg κs p (i .0) γ) (passes (param p) (i .0) ∷ [])) ⊛ raw (aside κs p (i .0) γ))))
+      (lend-one κs σ p (i .0) (g .0)) $ await ! tt $ pick ! (λ γ. split ! $ move ! (2 ∷ []) $
+      use1 W₀ (later (some (λ (γs : Names ps). ‵ (owns (typesAt (slots ps) κs) (args ps (i .1) γs) (values ps (i .1))) ⊛ raw (asides ps (i .1) γs))))
+      (lend σ ps (i .1) (g .1)) $ await ! tt $ pick ! (λ γs. split ! $ at-once ! $
       show ! (Owneds (p ∷ ps) i) (γ, γs) $ move ! (2 ∷ 0 ∷ []) $ fjoin ! $ frame ! $ move ! (1 ∷ 0 ∷ []) $ done !))
 
 module _ (n : ℕ) (αs : Nums n) where
   -- of a parameter that is not written nothing comes back
-  back-rest : (p : Lending n) (ps : List (Lending n)) (i : Inputs (params (p ∷ ps))) (γs : Names (p ∷ ps)) (ws : Fins (made n αs) (slots (p ∷ ps)) (all yes (slots (p ∷ ps))) (args (made n αs) (p ∷ ps) i γs))
-      → ent 𝓥 (sep 𝓥 ⟦ lastsOf (made n αs) (slots ps) (all yes (slots ps)) (args (made n αs) ps (i .1) (γs .1)) (ws .1) ⟧ (sep 𝓥 (asides (made n αs) ps (i .1) (γs .1)) (over n αs)))
+  back-rest : (p : Lending n) (ps : List (Lending n)) (i : Inputs (params (p ∷ ps))) (γs : Names (p ∷ ps))
+      (ws : Fins (made n αs) (slots (p ∷ ps)) (all yes (slots (p ∷ ps))) (args (made n αs) (p ∷ ps) i γs))
+      → ent 𝓥 (sep 𝓥 ⟦ lastsOf (made n αs) (slots ps) (all yes (slots ps)) (args (made n αs) ps (i .1) (γs .1)) (ws .1) ⟧
+      (sep 𝓥 (asides (made n αs) ps (i .1) (γs .1)) (over n αs)))
       (Closed.H .⇛ (stoods ps (i .1) (wrotes (made n αs) ps (args (made n αs) ps (i .1) (γs .1)) (ws .1))))
-      → ent 𝓥 (sep 𝓥 ⟦ lastsOf (made n αs) (slots (p ∷ ps)) (all yes (slots (p ∷ ps))) (args (made n αs) (p ∷ ps) i γs) ws ⟧ (sep 𝓥 (asides (made n αs) (p ∷ ps) i γs) (over n αs)))
+      → ent 𝓥 (sep 𝓥 ⟦ lastsOf (made n αs) (slots (p ∷ ps)) (all yes (slots (p ∷ ps))) (args (made n αs) (p ∷ ps) i γs) ws ⟧
+      (sep 𝓥 (asides (made n αs) (p ∷ ps) i γs) (over n αs)))
       (Closed.H .⇛ (stoods ps (i .1) (wrotes (made n αs) ps (args (made n αs) ps (i .1) (γs .1)) (ws .1))))
   back-rest p ps i γs ws rest =
-      qed W₀ (‵ (fsep (left (slot p .row (made n αs) .exit yes) (arg (made n αs) p (i .0) (γs .0)) (ws .0)) (lastsOf (made n αs) (slots ps) (all yes (slots ps)) (args (made n αs) ps (i .1) (γs .1)) (ws .1)))
-      ∷ (raw (aside (made n αs) p (i .0) (γs .0)) ⊛ raw (asides (made n αs) ps (i .1) (γs .1))) ∷ raw (over n αs) ∷ []) ∵ updating ! $ fsplit ! $ move ! (2 ∷ []) $ split ! $ move ! (3 ∷ 1 ∷ 4 ∷ []) $
-      use3 W₀ (later (raw (stoods ps (i .1) (wrotes (made n αs) ps (args (made n αs) ps (i .1) (γs .1)) (ws .1))))) rest $ await ! tt $ at-once ! $ keep ! (0 ∷ []) $ done !
+      qed W₀ (‵ (fsep (left (slot p .row (made n αs) .exit yes) (arg (made n αs) p (i .0) (γs .0)) (ws .0))
+      (lastsOf (made n αs) (slots ps) (all yes (slots ps)) (args (made n αs) ps (i .1) (γs .1)) (ws .1)))
+      ∷ (raw (aside (made n αs) p (i .0) (γs .0)) ⊛ raw (asides (made n αs) ps (i .1) (γs .1))) ∷ raw (over n αs) ∷ []) ∵ updating ! $ fsplit ! $ move !
+      (2 ∷ []) $ split ! $ move ! (3 ∷ 1 ∷ 4 ∷ []) $
+      use3 W₀ (later (raw (stoods ps (i .1) (wrotes (made n αs) ps (args (made n αs) ps (i .1) (γs .1)) (ws .1))))) rest $ await ! tt $ at-once ! $ keep !
+      (0 ∷ []) $ done !
 
   pub back : (ps : List (Lending n)) (i : Inputs (params ps)) (γs : Names ps) (ws : Fins (made n αs) (slots ps) (all yes (slots ps)) (args (made n αs) ps i γs))
       → ent 𝓥 (sep 𝓥 ⟦ lastsOf (made n αs) (slots ps) (all yes (slots ps)) (args (made n αs) ps i γs) ws ⟧ (sep 𝓥 (asides (made n αs) ps i γs) (over n αs)))
@@ -303,11 +318,14 @@ module _ (n : ℕ) (αs : Nums n) where
   back (to-read-with j ok R S T ∷ ps) i γs ws = back-rest (to-read-with j ok R S T) ps i γs ws (back ps (i .1) (γs .1) (ws .1))
   back (to-write j ok R ∷ ps) i γs ws =
       let p : Lending n = to-write j ok R in
-      qed W₀ (‵ (fsep (left (slot p .row (made n αs) .exit yes) (arg (made n αs) p (i .0) (γs .0)) (ws .0)) (lastsOf (made n αs) (slots ps) (all yes (slots ps)) (args (made n αs) ps (i .1) (γs .1)) (ws .1)))
-      ∷ (raw (aside (made n αs) p (i .0) (γs .0)) ⊛ raw (asides (made n αs) ps (i .1) (γs .1))) ∷ raw (over n αs) ∷ []) ∵ updating ! $ fsplit ! $ move ! (2 ∷ []) $ split ! $ move ! (4 ∷ []) $
+      qed W₀ (‵ (fsep (left (slot p .row (made n αs) .exit yes) (arg (made n αs) p (i .0) (γs .0)) (ws .0))
+      (lastsOf (made n αs) (slots ps) (all yes (slots ps)) (args (made n αs) ps (i .1) (γs .1)) (ws .1)))
+      ∷ (raw (aside (made n αs) p (i .0) (γs .0)) ⊛ raw (asides (made n αs) ps (i .1) (γs .1))) ∷ raw (over n αs) ∷ []) ∵ updating ! $ fsplit ! $ move !
+      (2 ∷ []) $ split ! $ move ! (4 ∷ []) $
       use1 W₀ (raw (over n αs) ⊛ raw (over n αs)) (over-dup n αs) $ split ! $ move ! (4 ∷ 2 ∷ 0 ∷ []) $
       use3 W₀ (later (raw (stood R (i .0) (ws .0)))) (back-one n αs j ok R (i .0) (γs .0) (ws .0)) $ await ! tt $ move ! (3 ∷ 2 ∷ 1 ∷ []) $
-      use3 W₀ (later (raw (stoods ps (i .1) (wrotes (made n αs) ps (args (made n αs) ps (i .1) (γs .1)) (ws .1))))) (back ps (i .1) (γs .1) (ws .1)) $ await ! tt $ at-once ! $ move ! (1 ∷ 0 ∷ []) $ done !
+      use3 W₀ (later (raw (stoods ps (i .1) (wrotes (made n αs) ps (args (made n αs) ps (i .1) (γs .1)) (ws .1))))) (back ps (i .1) (γs .1) (ws .1)) $ await !
+      tt $ at-once ! $ move ! (1 ∷ 0 ∷ []) $ done !
 
 -- ---- cells
 
@@ -327,7 +345,8 @@ pub lents-in : (A : List ℕ) (σ : Memory) → Kept A σ → (ss : List Span) {
     → ent 𝓥 (sep 𝓥 (lie 𝓥 Closed.ι (writes (params ps) i)) (shared 𝓥 Closed.ι A σ ss)) (sep 𝓥 (lents ps i) (shared 𝓥 Closed.ι A σ ss))
 lents-in A σ kept ss [] i g st ap = id⊢ 𝓥 (sep 𝓥 (emp 𝓥) (shared 𝓥 Closed.ι A σ ss))
 lents-in A σ kept ss (by-value R ∷ ps) i g st ap =
-    via 𝓥 (sep 𝓥 (lents ps (i .1)) (shared 𝓥 Closed.ι A σ ss)) (lents-in A σ kept ss ps (i .1) (g .1) st ap) (monoL 𝓥 (shared 𝓥 Closed.ι A σ ss) (emp∗ 𝓥 (lents ps (i .1))))
+    via 𝓥 (sep 𝓥 (lents ps (i .1)) (shared 𝓥 Closed.ι A σ ss)) (lents-in A σ kept ss ps (i .1) (g .1) st ap)
+    (monoL 𝓥 (shared 𝓥 Closed.ι A σ ss) (emp∗ 𝓥 (lents ps (i .1))))
 lents-in A σ kept ss (to-read j ok R ∷ ps) i g st ap =
     read-in A σ kept ss R (i .0) (g .0 .0) (g .0 .1) (st .0) (ap .0) (lie 𝓥 Closed.ι (writes (params ps) (i .1))) (lents ps (i .1))
     (lents-in A σ kept ss ps (i .1) (g .1) (st .1) (ap .1))

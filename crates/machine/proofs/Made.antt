@@ -39,7 +39,13 @@ stands σ k a cs h = run-out σ k 0 cs (λ i w e. ap (λ (X : Option Block). bin
 
 begins : (σ : Memory) (F : Form) (k : ℕ) (xs : List (F .Value)) → entryAt σ k ≡ some (align (F .ty), cells-of F xs) → Aligned σ (F .ty) (k, 0) xs
 begins σ F k [] h = tt
-begins σ F k (x ∷ xs) h = ((align (F .ty), cells-of F (x ∷ xs)), h, both (divides (align (F .ty)) (align (F .ty))) (divides (align (F .ty)) 0) (dv-self (align (F .ty))) (dv-zero (align (F .ty))))
+begins σ F k (x ∷ xs)
+    h = (
+      (align (F .ty), cells-of F (x ∷ xs)),
+      h,
+      both (divides (align (F .ty)) (align (F .ty))) (divides (align (F .ty)) 0) (dv-self (align (F .ty)))
+          (dv-zero (align (F .ty))),
+    )
   where
     both : (s t : Bool) → T s → T t → T (s && t)
     both true t p q = q
@@ -113,9 +119,11 @@ one-more t (r ∷ rs) ws h a = ((λ b i x y. apart-of t r (h .0) b i y x, a .0),
 pub reads-apart : (k : ℕ) (ps : List Param) (g : Givens ps) → All (λ s. All (Apart s) (writes ps (placed k ps g))) (reads ps (placed k ps g))
 reads-apart k [] g = tt
 reads-apart k (by-value F ∷ ps) g = reads-apart k ps (g .1)
-reads-apart k (to-read F ∷ ps) g = (apart-all (span F (k, 0) (g .0)) (writes ps (placed (suc k) ps (g .1))) (writes-above (suc k) ps (g .1)), reads-apart (suc k) ps (g .1))
+reads-apart k (to-read F ∷ ps)
+    g = (apart-all (span F (k, 0) (g .0)) (writes ps (placed (suc k) ps (g .1))) (writes-above (suc k) ps (g .1)), reads-apart (suc k) ps (g .1))
 reads-apart k (to-write F ∷ ps) g =
-    one-more (span F (k, 0) (g .0)) (reads ps (placed (suc k) ps (g .1))) (writes ps (placed (suc k) ps (g .1))) (reads-above (suc k) ps (g .1)) (reads-apart (suc k) ps (g .1))
+    one-more (span F (k, 0) (g .0)) (reads ps (placed (suc k) ps (g .1))) (writes ps (placed (suc k) ps (g .1))) (reads-above (suc k) ps (g .1))
+    (reads-apart (suc k) ps (g .1))
 reads-apart k (to-read-with F G ∷ ps) g =
     (apart-all (span F (k, 0) (g .0 .0)) (writes ps (placed (suc k) ps (g .1))) (writes-above (suc k) ps (g .1)), reads-apart (suc k) ps (g .1))
 
@@ -123,7 +131,8 @@ pub writes-apart : (k : ℕ) (ps : List Param) (g : Givens ps) → All-apart (wr
 writes-apart k [] g = tt
 writes-apart k (by-value F ∷ ps) g = writes-apart k ps (g .1)
 writes-apart k (to-read F ∷ ps) g = writes-apart (suc k) ps (g .1)
-writes-apart k (to-write F ∷ ps) g = (apart-all (span F (k, 0) (g .0)) (writes ps (placed (suc k) ps (g .1))) (writes-above (suc k) ps (g .1)), writes-apart (suc k) ps (g .1))
+writes-apart k (to-write F ∷ ps)
+    g = (apart-all (span F (k, 0) (g .0)) (writes ps (placed (suc k) ps (g .1))) (writes-above (suc k) ps (g .1)), writes-apart (suc k) ps (g .1))
 writes-apart k (to-read-with F G ∷ ps) g = writes-apart (suc k) ps (g .1)
 
 pub made-ready : (ps : List Param) (g : Givens ps) → Fitting ps g → Ready (blocks ps g) ps (placed 0 ps g)
@@ -136,7 +145,8 @@ made-ready ps g f = record {
 }
 
 -- so a call that runs from every ready memory runs from the one that is made for it
-pub made-runs : (ρ : Routine) (C : Call) → Runs ρ C → (g : Givens (C .params)) → Fitting (C .params) g → ∥ Ran ρ C (blocks (C .params) g) (placed 0 (C .params) g) ∥₁
+pub made-runs : (ρ : Routine) (C : Call) → Runs ρ C → (g : Givens (C .params)) → Fitting (C .params) g
+    → ∥ Ran ρ C (blocks (C .params) g) (placed 0 (C .params) g) ∥₁
 made-runs ρ C runs g f = runs (blocks (C .params) g) (placed 0 (C .params) g) (made-ready (C .params) g f)
 
 -- the run is the only one: whatever the routine is done with, at any count of steps, is that value and that memory

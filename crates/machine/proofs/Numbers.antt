@@ -31,7 +31,8 @@ number-row w = record {
   Holds = λ n. n < 2 ^ bits w;
   typed = λ n h. (eqb-refl (bytes w), record { fits = h });
   makes = λ n h. uint-makes 𝓥 Closed.H A₀ W₀ w n (vint w n ∷ []) (refl, h);
-  shows = λ n vs. via 𝓥 (fact 𝓥 (Is (UInt w) n vs)) (shows 𝓥 Closed.H A₀ (UInt w) n vs) (fact-mono 𝓥 (Is (UInt w) n vs) ((vs ≡ vint w n ∷ []) × (n < 2 ^ bits w)) (λ p. (p .0, p .1)));
+  shows = λ n vs. via 𝓥 (fact 𝓥 (Is (UInt w) n vs)) (shows 𝓥 Closed.H A₀ (UInt w) n vs)
+      (fact-mono 𝓥 (Is (UInt w) n vs) ((vs ≡ vint w n ∷ []) × (n < 2 ^ bits w)) (λ p. (p .0, p .1)));
 }
 
 abbrev pub signed-row : Width → Row
@@ -44,7 +45,8 @@ signed-row w = record {
   Holds = λ z. mag z < 2 ^ hbits w;
   typed = λ z h. (eqb-refl (bytes w), ofZ-fits w z (record { sfits = h }));
   makes = λ z h. sint-makes 𝓥 Closed.H A₀ W₀ w z (vint w (ofZ w z) ∷ []) (refl, h);
-  shows = λ z vs. via 𝓥 (fact 𝓥 (Is (SInt w) z vs)) (shows 𝓥 Closed.H A₀ (SInt w) z vs) (fact-mono 𝓥 (Is (SInt w) z vs) ((vs ≡ vint w (ofZ w z) ∷ []) × (mag z < 2 ^ hbits w)) (λ p. (p .0, p .1)));
+  shows = λ z vs. via 𝓥 (fact 𝓥 (Is (SInt w) z vs)) (shows 𝓥 Closed.H A₀ (SInt w) z vs)
+      (fact-mono 𝓥 (Is (SInt w) z vs) ((vs ≡ vint w (ofZ w z) ∷ []) × (mag z < 2 ^ hbits w)) (λ p. (p .0, p .1)));
 }
 
 abbrev pub number-answer : Width → Answer

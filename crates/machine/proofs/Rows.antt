@@ -102,17 +102,20 @@ module _ (R : Row) (q : Share) where
   list-in : (xs : List X) (b o : ℕ) → All-held (form R) xs → ent 𝓥 (els xs b o) (row-parts xs b o)
   list-in [] b o h = id⊢ 𝓥 (emp 𝓥)
   list-in (x ∷ xs) b o h = mono∗ 𝓥 (elem-in x b o (h .0))
-      (subst (λ (s : ℕ). ent 𝓥 (els xs b (o + s)) (row-parts xs b (o + size (lone (R .row .mir))))) (R .size-is) (list-in xs b (o + size (lone (R .row .mir))) (h .1)))
+      (subst (λ (s : ℕ). ent 𝓥 (els xs b (o + s)) (row-parts xs b (o + size (lone (R .row .mir))))) (R .size-is)
+      (list-in xs b (o + size (lone (R .row .mir))) (h .1)))
 
   list-out : (xs : List X) (b o : ℕ) → ent 𝓥 (row-parts xs b o) (els xs b o)
   list-out [] b o = id⊢ 𝓥 (emp 𝓥)
   list-out (x ∷ xs) b o = mono∗ 𝓥 (elem-out x b o)
-      (subst (λ (s : ℕ). ent 𝓥 (row-parts xs b (o + size (lone (R .row .mir)))) (els xs b (o + s))) (R .size-is) (list-out xs b (o + size (lone (R .row .mir)))))
+      (subst (λ (s : ℕ). ent 𝓥 (row-parts xs b (o + size (lone (R .row .mir)))) (els xs b (o + s))) (R .size-is)
+      (list-out xs b (o + size (lone (R .row .mir)))))
 
   pub list-held : (xs : List X) (b o : ℕ) → ent 𝓥 (row-parts xs b o) (fact 𝓥 (All-held (form R) xs))
   list-held [] b o = factI 𝓥 (Unit {0}) (emp 𝓥) tt
   list-held (x ∷ xs) b o =
-      via 𝓥 (sep 𝓥 (fact 𝓥 (R .Holds x)) (fact 𝓥 (All-held (form R) xs))) (mono∗ 𝓥 (elem-held x b o) (list-held xs b (o + size (lone (R .row .mir))))) (both-facts (R .Holds x) (All-held (form R) xs))
+      via 𝓥 (sep 𝓥 (fact 𝓥 (R .Holds x)) (fact 𝓥 (All-held (form R) xs))) (mono∗ 𝓥 (elem-held x b o) (list-held xs b (o + size (lone (R .row .mir)))))
+      (both-facts (R .Holds x) (All-held (form R) xs))
 
   -- ---- as an array
 
@@ -120,10 +123,14 @@ module _ (R : Row) (q : Share) where
   both-T true t p q = q
   both-T false t p q = absurd p
 
-  pub array-typed : (xs : List X) → All-held (form R) xs → T (allN (hasTy (R .ty)) (length xs) (ofList (map (R .machine) xs))) × WTs (ofList (map (R .machine) xs))
+  pub array-typed : (xs : List X) → All-held (form R) xs
+      → T (allN (hasTy (R .ty)) (length xs) (ofList (map (R .machine) xs))) × WTs (ofList (map (R .machine) xs))
   array-typed [] h = (tt, tt)
-  array-typed (x ∷ xs) h =
-      (both-T (hasTy (R .ty) (R .machine x)) (allN (hasTy (R .ty)) (length xs) (ofList (map (R .machine) xs))) (R .typed x (h .0) .0) (array-typed xs (h .1) .0), (R .typed x (h .0) .1, array-typed xs (h .1) .1))
+  array-typed (x ∷ xs) h = (
+    both-T (hasTy (R .ty) (R .machine x)) (allN (hasTy (R .ty)) (length xs) (ofList (map (R .machine) xs))) (R .typed x (h .0) .0)
+        (array-typed xs (h .1) .0),
+    (R .typed x (h .0) .1, array-typed xs (h .1) .1),
+  )
 
   abbrev arr-val : List X → Val
   arr-val xs = vstruct (ofList (map (R .machine) xs))
@@ -138,21 +145,25 @@ module _ (R : Row) (q : Share) where
       via 𝓥 (sep 𝓥 (arr-cells xs b o) (knowN 𝓥 Closed.ι (length xs * size (R .ty)) (align (R .ty)) b))
       (monoR 𝓥 (arr-cells xs b o) (known-knowN 𝓥 Closed.ι (length xs * size (R .ty)) (align (R .ty)) b))
       (guardI 𝓥 ((T (hasTy (tyArray (R .ty) (length xs)) (arr-val xs)) × WT (arr-val xs)) × Off (tyArray (R .ty) (length xs)) o)
-      (sep 𝓥 (arr-cells xs b o) (knowN 𝓥 Closed.ι (length xs * size (R .ty)) (align (R .ty)) b)) (array-typed xs h, off-dv (length xs * size (R .ty)) (align (R .ty)) o d))
+      (sep 𝓥 (arr-cells xs b o) (knowN 𝓥 Closed.ι (length xs * size (R .ty)) (align (R .ty)) b))
+      (array-typed xs h, off-dv (length xs * size (R .ty)) (align (R .ty)) o d))
 
   at-out : (xs : List X) (n b o : ℕ) → ent 𝓥 (Closed.H .at q (tyArray (R .ty) n) b o (arr-val xs)) (arr-cells xs b o)
   unfolding Closed.H Closed.ι heap× heap at Good Off
   at-out xs n b o =
-      guardE 𝓥 ((T (hasTy (tyArray (R .ty) n) (arr-val xs)) × WT (arr-val xs)) × Off (tyArray (R .ty) n) o) (sep 𝓥 (arr-cells xs b o) (knowN 𝓥 Closed.ι (n * size (R .ty)) (align (R .ty)) b))
+      guardE 𝓥 ((T (hasTy (tyArray (R .ty) n) (arr-val xs)) × WT (arr-val xs)) × Off (tyArray (R .ty) n) o)
+      (sep 𝓥 (arr-cells xs b o) (knowN 𝓥 Closed.ι (n * size (R .ty)) (align (R .ty)) b))
       (λ _. fst∗ 𝓥 (arr-cells xs b o) (knowN 𝓥 Closed.ι (n * size (R .ty)) (align (R .ty)) b))
 
   -- from what the logic has in cells to the cells, and back
   pub parts-cells : (xs : List X) (b o : ℕ) → ent 𝓥 (row-parts xs b o) (arr-cells xs b o)
   parts-cells xs b o =
       via 𝓥 (els xs b o) (list-out xs b o)
-      (via 𝓥 (Closed.H .at q (tyArray (R .ty) (length (map (R .machine) xs))) b o (arr-val xs)) (Closed.model .elems-at q (R .ty) b o (map (R .machine) xs)) (at-out xs (length (map (R .machine) xs)) b o))
+      (via 𝓥 (Closed.H .at q (tyArray (R .ty) (length (map (R .machine) xs))) b o (arr-val xs)) (Closed.model .elems-at q (R .ty) b o (map (R .machine) xs))
+      (at-out xs (length (map (R .machine) xs)) b o))
 
-  pub cells-parts : (xs : List X) (b o : ℕ) → All-held (form R) xs → Dv (align (R .ty)) o → ent 𝓥 (sep 𝓥 (arr-cells xs b o) (known 𝓥 Closed.ι b (align (R .ty)))) (row-parts xs b o)
+  pub cells-parts : (xs : List X) (b o : ℕ) → All-held (form R) xs → Dv (align (R .ty)) o
+      → ent 𝓥 (sep 𝓥 (arr-cells xs b o) (known 𝓥 Closed.ι b (align (R .ty)))) (row-parts xs b o)
   cells-parts xs b o h d =
       via 𝓥 (Closed.H .at q (tyArray (R .ty) (length xs)) b o (arr-val xs)) (at-in xs b o h d)
       (via 𝓥 (els xs b o) (Closed.model .at-elems q (R .ty) (length xs) b o (map (R .machine) xs)) (list-in xs b o h))
@@ -168,8 +179,10 @@ module _ (R : Row) (q : Share) where
       let S : SProp 𝓥 = shared 𝓥 Closed.ι A σ ss in
       let e : Block = al .0 in
       via 𝓥 (sep 𝓥 C (sep 𝓥 K S))
-      (monoR 𝓥 C (share-known 𝓥 Closed.ι A σ ss (p .0) (align (R .ty)) (e .0) (kept .1 (p .0) e (al .1)) (and-l (divides (align (R .ty)) (e .0)) (divides (align (R .ty)) (p .1)) (al .2))))
-      (via 𝓥 (sep 𝓥 (sep 𝓥 C K) S) (assoc′ 𝓥 C K S) (monoL 𝓥 S (cells-parts (x ∷ xs) (p .0) (p .1) h (and-r (divides (align (R .ty)) (e .0)) (divides (align (R .ty)) (p .1)) (al .2)))))
+      (monoR 𝓥 C (share-known 𝓥 Closed.ι A σ ss (p .0) (align (R .ty)) (e .0) (kept .1 (p .0) e (al .1))
+      (and-l (divides (align (R .ty)) (e .0)) (divides (align (R .ty)) (p .1)) (al .2))))
+      (via 𝓥 (sep 𝓥 (sep 𝓥 C K) S) (assoc′ 𝓥 C K S)
+      (monoL 𝓥 S (cells-parts (x ∷ xs) (p .0) (p .1) h (and-r (divides (align (R .ty)) (e .0)) (divides (align (R .ty)) (p .1)) (al .2)))))
 
 -- ---- the whole share
 
@@ -190,20 +203,25 @@ cells-out R xs p = via 𝓥 (row-parts R fullShare xs (p .0) (p .1)) (parts-out 
 pub cells-held : (R : Row) (xs : List (R .row .Denot)) (p : Place) → ent 𝓥 (row-cells R xs p) (fact 𝓥 (All-held (form R) xs))
 cells-held R xs p = via 𝓥 (row-parts R fullShare xs (p .0) (p .1)) (parts-out R xs (p .0) (p .1)) (list-held R fullShare xs (p .0) (p .1))
 
-pub lent-cells : (R : Row) (A : List ℕ) (σ : Memory) → Kept A σ → (ss : List Span) (xs : List (R .row .Denot)) (p : Place) → All-held (form R) xs → Aligned σ (R .ty) p xs
-    → ent 𝓥 (sep 𝓥 (cells 𝓥 Closed.ι fullShare (p .0) (p .1) (cells-of (form R) xs)) (shared 𝓥 Closed.ι A σ ss)) (sep 𝓥 (row-cells R xs p) (shared 𝓥 Closed.ι A σ ss))
+pub lent-cells : (R : Row) (A : List ℕ) (σ : Memory) → Kept A σ → (ss : List Span) (xs : List (R .row .Denot)) (p : Place) → All-held (form R) xs
+    → Aligned σ (R .ty) p xs
+    → ent 𝓥 (sep 𝓥 (cells 𝓥 Closed.ι fullShare (p .0) (p .1) (cells-of (form R) xs)) (shared 𝓥 Closed.ι A σ ss))
+    (sep 𝓥 (row-cells R xs p) (shared 𝓥 Closed.ι A σ ss))
 lent-cells R A σ kept ss xs p h al =
-    via 𝓥 (sep 𝓥 (row-parts R fullShare xs (p .0) (p .1)) (shared 𝓥 Closed.ι A σ ss)) (lent-parts R fullShare A σ kept ss xs p h al) (monoL 𝓥 (shared 𝓥 Closed.ι A σ ss) (parts-in R xs (p .0) (p .1)))
+    via 𝓥 (sep 𝓥 (row-parts R fullShare xs (p .0) (p .1)) (shared 𝓥 Closed.ι A σ ss)) (lent-parts R fullShare A σ kept ss xs p h al)
+    (monoL 𝓥 (shared 𝓥 Closed.ι A σ ss) (parts-in R xs (p .0) (p .1)))
 
 -- ---- some share
 
 abbrev pub row-share : (R : Row) → List (R .row .Denot) → Place → SProp 𝓥
 row-share R xs p = ex 𝓥 (λ (q : Share). row-parts R q xs (p .0) (p .1))
 
-pub lent-share : (R : Row) (A : List ℕ) (σ : Memory) → Kept A σ → (ss : List Span) (xs : List (R .row .Denot)) (p : Place) → All-held (form R) xs → Aligned σ (R .ty) p xs → Stands σ (span (form R) p xs) → All (Apart (span (form R) p xs)) ss
+pub lent-share : (R : Row) (A : List ℕ) (σ : Memory) → Kept A σ → (ss : List Span) (xs : List (R .row .Denot)) (p : Place) → All-held (form R) xs
+    → Aligned σ (R .ty) p xs → Stands σ (span (form R) p xs) → All (Apart (span (form R) p xs)) ss
     → ent 𝓥 (shared 𝓥 Closed.ι A σ ss) (sep 𝓥 (row-share R xs p) (shared 𝓥 Closed.ι A σ ss))
 lent-share R A σ kept ss xs p h al st ap =
     let S : SProp 𝓥 = shared 𝓥 Closed.ι A σ ss in
     let C : Share → SProp 𝓥 = λ q. cells 𝓥 Closed.ι q (p .0) (p .1) (cells-of (form R) xs) in
     via 𝓥 (sep 𝓥 (ex 𝓥 C) S) (share-cells 𝓥 Closed.ι A σ ss (span (form R) p xs) st ap)
-    (ex∗ 𝓥 C S (λ q. via 𝓥 (sep 𝓥 (row-parts R q xs (p .0) (p .1)) S) (lent-parts R q A σ kept ss xs p h al) (monoL 𝓥 S (exI 𝓥 (λ (q′ : Share). row-parts R q′ xs (p .0) (p .1)) q))))
+    (ex∗ 𝓥 C S (λ q. via 𝓥 (sep 𝓥 (row-parts R q xs (p .0) (p .1)) S) (lent-parts R q A σ kept ss xs p h al)
+    (monoL 𝓥 S (exI 𝓥 (λ (q′ : Share). row-parts R q′ xs (p .0) (p .1)) q))))

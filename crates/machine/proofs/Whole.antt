@@ -51,9 +51,12 @@ mem-out σ = id⊢ 𝓥 (sep 𝓥 (memH 𝓥 Closed.ι σ) Closed.world)
 abbrev tab : Memory → HeapRA
 tab σ = ●◯ Ent-set fullShare (view (alignsOf σ) σ) (view (alignsOf σ) σ)
 
-two-parts : (σ : Memory) → ent 𝓥 (BI·own (pcs 𝓥) (tab σ, Closed.first)) (sep 𝓥 (BI·own (pcs 𝓥) (tab σ, Closed.𝓖 .one)) (BI·own (pcs 𝓥) (Table·one Ent-set, Closed.first)))
+two-parts : (σ : Memory)
+    → ent 𝓥 (BI·own (pcs 𝓥) (tab σ, Closed.first)) (sep 𝓥 (BI·own (pcs 𝓥) (tab σ, Closed.𝓖 .one)) (BI·own (pcs 𝓥) (Table·one Ent-set, Closed.first)))
 unfolding 𝓗 𝓗×
-two-parts σ = own-op-elim (pcs 𝓥) (Prod·mk-mem-op (Table·op Ent-set) (Closed.𝓖 .op) {a = tab σ} {a′ = Table·one Ent-set} {x = tab σ} {b = Closed.𝓖 .one} {b′ = Closed.first} {y = Closed.first}
+two-parts σ = own-op-elim (pcs 𝓥)
+    (Prod·mk-mem-op (Table·op Ent-set) (Closed.𝓖 .op) {a = tab σ} {a′ = Table·one Ent-set} {x = tab σ} {b = Closed.𝓖 .one} {b′ = Closed.first}
+    {y = Closed.first}
     (mem-op-one 𝓗 (tab σ)) (mem-one-op Closed.𝓖 Closed.first))
 
 heap-part : (σ : Memory) → ent 𝓥 (BI·own (pcs 𝓥) (tab σ, Closed.𝓖 .one)) (sep 𝓥 (memH 𝓥 Closed.ι σ) (own-all (view (alignsOf σ) σ)))
@@ -88,10 +91,12 @@ seen q σ b r P h s = sat-fact 𝓥 Closed.H Closed.model σ P (Seen σ b r)
 
 -- ---- what is owned, read off the memory
 
-pub run-of : (σ : Memory) (b o : ℕ) (cs : List Cell) (P : SProp 𝓥) → ent 𝓥 P (cells 𝓥 Closed.ι fullShare b o cs) → Satisfies 𝓥 Closed.H Closed.model σ P → Run-at σ b o cs
+pub run-of : (σ : Memory) (b o : ℕ) (cs : List Cell) (P : SProp 𝓥) → ent 𝓥 P (cells 𝓥 Closed.ι fullShare b o cs) → Satisfies 𝓥 Closed.H Closed.model σ P
+    → Run-at σ b o cs
 unfolding RSub runRow
 run-of σ b o cs P h s = run-out σ b o cs (λ i w e.
-    ∥∥₁-elim (seen fullShare σ b (runRow o cs) P (via 𝓥 (cells 𝓥 Closed.ι fullShare b o cs) h (cells→run 𝓥 Closed.ι fullShare b o cs)) s) (Option·isSet Cell-set (cell-at σ b i) (some w)) (λ t.
+    ∥∥₁-elim (seen fullShare σ b (runRow o cs) P (via 𝓥 (cells 𝓥 Closed.ι fullShare b o cs) h (cells→run 𝓥 Closed.ι fullShare b o cs)) s)
+    (Option·isSet Cell-set (cell-at σ b i) (some w)) (λ t.
     sym (row-cell (entryAt σ b) (getElem? (t .0) b) i) ∙ t .2 .0 i w e))
 
 pick-some : (t : Bool) (c w : Cell) → pick t c ≡ some w → (t ≡ true) × (c ≡ w)
@@ -113,7 +118,8 @@ module _ (A : List ℕ) (σ : Memory) (kept : Kept A σ) (ss : List Span) (σ′
   still : (b : ℕ) (r : Row) → RSub r (rowAt A σ b) → All (λ s. (i : ℕ) (w : Cell) → r .0 i ≡ some w → Has s b i → ⊥) ss → ∥ Seen σ′ b r ∥₁
   still b r S a =
       ∥∥₁-elim (sat-ex 𝓥 Closed.H Closed.model σ′ (λ (q : Share). has 𝓥 Closed.ι q b r) (sat-weaken 𝓥 Closed.H Closed.model σ′
-      (via 𝓥 (shared 𝓥 Closed.ι A σ ss) left (via 𝓥 (sep 𝓥 (ex 𝓥 (λ (q : Share). has 𝓥 Closed.ι q b r)) (shared 𝓥 Closed.ι A σ ss)) (share-row 𝓥 Closed.ι A σ ss b r S a)
+      (via 𝓥 (shared 𝓥 Closed.ι A σ ss) left
+      (via 𝓥 (sep 𝓥 (ex 𝓥 (λ (q : Share). has 𝓥 Closed.ι q b r)) (shared 𝓥 Closed.ι A σ ss)) (share-row 𝓥 Closed.ι A σ ss b r S a)
       (fst∗ 𝓥 (ex 𝓥 (λ (q : Share). has 𝓥 Closed.ι q b r)) (shared 𝓥 Closed.ι A σ ss)))) s)) ∥∥₁-prop (λ q.
       seen (q .0) σ′ b r (has 𝓥 Closed.ι (q .0) b r) (id⊢ 𝓥 (has 𝓥 Closed.ι (q .0) b r)) (q .1))
 
@@ -126,7 +132,8 @@ module _ (A : List ℕ) (σ : Memory) (kept : Kept A σ) (ss : List Span) (σ′
         λ n d. absurd (Option·none-ne-some n d),
         λ a d. absurd (Option·none-ne-some a d),
       ) (aways ss away))
-      (Option·isSet Cell-set (cell-at σ′ b i) (some c)) (λ t. sym (row-cell (entryAt σ′ b) (getElem? (t .0) b) i) ∙ t .2 .0 i c (ap (λ (t′ : Bool). pick t′ c) (eqb-same i)))
+      (Option·isSet Cell-set (cell-at σ′ b i) (some c)) (λ t. sym (row-cell (entryAt σ′ b) (getElem? (t .0) b) i)
+      ∙ t .2 .0 i c (ap (λ (t′ : Bool). pick t′ c) (eqb-same i)))
     where
       aways : (ss : List Span) → All (λ s. ¬ Has s b i) ss → All (λ s. (j : ℕ) (w : Cell) → pick (eqb i j) c ≡ some w → Has s b j → ⊥) ss
       aways [] h = tt
@@ -135,8 +142,12 @@ module _ (A : List ℕ) (σ : Memory) (kept : Kept A σ) (ss : List Span) (σ′
   as-long : (b : ℕ) (e : Block) → entryAt σ b ≡ some e → long (entryAt σ′ b) ≡ some (length (e .1))
   unfolding RSub lenRow long
   as-long b e h =
-      ∥∥₁-elim (still b (lenRow (length (e .1)))
-      (λ j w d. absurd (Option·none-ne-some w d), λ n d. row-long (entryAt σ b) (getElem? A b) ∙ ap long h ∙ d, λ a d. absurd (Option·none-ne-some a d)) (no-cells b ss))
+      ∥∥₁-elim (still b (lenRow (length (e .1))) (
+        λ j w d. absurd (Option·none-ne-some w d),
+        λ n d. row-long (entryAt σ b) (getElem? A b) ∙ ap long h
+            ∙ d,
+        λ a d. absurd (Option·none-ne-some a d),
+      ) (no-cells b ss))
       (Option·isSet ℕ-set (long (entryAt σ′ b)) (some (length (e .1)))) (λ t. sym (row-long (entryAt σ′ b) (getElem? (t .0) b)) ∙ t .2 .1 (length (e .1)) refl)
 
   as-aligned : (b : ℕ) (e e′ : Block) → entryAt σ b ≡ some e → entryAt σ′ b ≡ some e′ → e′ .0 ≡ e .0
@@ -149,6 +160,7 @@ module _ (A : List ℕ) (σ : Memory) (kept : Kept A σ) (ss : List Span) (σ′
   unfolding long
   blocks-of b e h = go (entryAt σ′ b) refl (as-long b e h)
     where
-      go : (X : Option Block) → entryAt σ′ b ≡ X → long X ≡ some (length (e .1)) → (e′ : Block) × (entryAt σ′ b ≡ some e′) × (e′ .0 ≡ e .0) × (length (e′ .1) ≡ length (e .1))
+      go : (X : Option Block) → entryAt σ′ b ≡ X → long X ≡ some (length (e .1))
+          → (e′ : Block) × (entryAt σ′ b ≡ some e′) × (e′ .0 ≡ e .0) × (length (e′ .1) ≡ length (e .1))
       go none x l = absurd (Option·none-ne-some (length (e .1)) l)
       go (some e′) x l = (e′, x, as-aligned b e e′ h x, Option·some-injective (length (e′ .1)) (length (e .1)) l)

@@ -160,6 +160,13 @@ promises = record {
     restored = restored-list;
   };
   w-212 = record { lift = lift-right; lift-core = lift-core; lift-none = lift-none };
-  w-213 = record { link-begins = link-begins; commit-begins = commit-begins; batch-begins = batch-begins; hear-begins = hear-begins; link-batch = batch-right; batch-single = batch-single };
+  w-213 = record {
+    link-begins = link-begins;
+    commit-begins = commit-begins;
+    batch-begins = batch-begins;
+    hear-begins = hear-begins;
+    link-batch = batch-right;
+    batch-single = batch-single;
+  };
   w-214 = record { confluence = confluence; calls-agree = calls-agree; orders-differ = orders-differ; images-differ = images-differ };
 }
