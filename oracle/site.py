@@ -181,7 +181,7 @@ def number(word):
 
 def help_page():
     """The page stands once, in the program's text."""
-    return "".join(part.split('",\n')[0] for part in HELP.split('b"')[1:])
+    return "".join(part.split('",\n')[0] for part in HELP.split("// Prints the page")[0].split('b"')[1:])
 
 
 def answer(data, verb, words):

@@ -63,9 +63,24 @@ pub(crate) fn run(
         output,
         errors,
     };
-    let status = site_program::run(ends, most, verb, count, v, k);
+    let status = site_program::run(ends, most, false, verb, count, v, k);
     print_file(errors);
     line(b"status ", status as u64);
+}
+
+// The verb `check` on a file, as on a terminal: how far it is is shown. The file is closed.
+pub(crate) fn shown(fd: i32, most: usize) {
+    let errors = new_file();
+    let ends = Ends {
+        input: fd,
+        output: STDOUT_FILENO,
+        errors,
+    };
+    libc::lseek(fd, 0, libc::SEEK_SET);
+    let status = site_program::run(ends, most, true, b"check", 0, b"", b"");
+    print_file(errors);
+    line(b"\nstatus ", status as u64);
+    libc::close(fd);
 }
 
 // Runs a verb without numbers on a file from its beginning.
