@@ -3,6 +3,7 @@
     bindings/python/build && python3 page/test.py
 """
 
+import base64
 import json
 import os
 import random
@@ -10,6 +11,7 @@ import re
 import subprocess
 import sys
 import unittest
+from array import array
 
 HERE = os.path.dirname(os.path.abspath(__file__))
 ROOT = os.path.dirname(HERE)
@@ -30,6 +32,31 @@ def run(data, words=(), stdout=subprocess.PIPE, **more):
 
 def data_of(page):
     return json.loads(re.search(r"const data = (.*);\n", page).group(1))
+
+
+def entries(text):
+    return array("H", base64.b64decode(text))
+
+
+def summed(steps, n):
+    """The links and the numbers that the steps of a page come to."""
+    links, numbers = set(), [0] * n
+    for _, turned, radios, by in steps:
+        flat = entries(turned)
+        links ^= {(min(link), max(link)) for link in zip(flat[::2], flat[1::2])}
+        for i, v in enumerate(entries(radios)):
+            numbers[v] += by[i] if isinstance(by, list) else by
+    return sorted(links), numbers
+
+
+def turning(count):
+    """A script of so many calls, none refused: each link of a ring is turned five times, and then the next."""
+    up, lines = set(), ["radios 20\n"]
+    for i in range(count):
+        a = i // 5 % 20
+        lines.append("%s %d %d\n" % ("down" if a in up else "up", a, (a + 1) % 20))
+        up ^= {a}
+    return "".join(lines)
 
 
 class Made(unittest.TestCase):
@@ -53,13 +80,15 @@ class Made(unittest.TestCase):
         self.assertEqual([step[0] for step in data_of(page)["steps"]], [[1, 0, 1, 0], [1, 1, 0, 6], [1, 0, 3, 4], [1, 2, 2, 5], [0, 0, 2, 6]])
 
     def test_long(self):
-        lines = "".join("%s %d %d\n" % ("up" if i // 20 % 2 == 0 else "down", i % 20, (i % 20 + 1) % 20) for i in range(2 * STEPS + 1))
-        status, page, said = run(("radios 20\n" + lines).encode())
-        data = data_of(page)
-        self.assertEqual((status, said), (0, "page: %d calls, 3 to a step\n" % (2 * STEPS + 1)))
-        self.assertLessEqual(len(data["steps"]), STEPS)
-        self.assertEqual(sum(step[0][0] for step in data["steps"]), 2 * STEPS + 1)
-        self.assertEqual(sum(step[0][1] for step in data["steps"]), 0)
+        for count, together in ((STEPS, 1), (STEPS + 1, 2), (2 * STEPS + 1, 3)):
+            script = turning(count)
+            status, page, said = run(script.encode())
+            self.assertEqual((status, said), (0, "" if together == 1 else "page: %d calls, %d to a step\n" % (count, together)))
+            steps, site = data_of(page)["steps"], Site.from_script(script)
+            self.assertEqual(len(steps), -(-count // together))
+            self.assertEqual(summed(steps, site.n), (site.link_list(), list(site.numbers)))
+            if together > 1:
+                self.assertEqual([sum(x) for x in zip(*(step[0] for step in steps))], [count, 0])
 
 
 class Wrong(unittest.TestCase):

@@ -570,7 +570,7 @@ class Beside(unittest.TestCase):
         with self.assertRaises(summerbugle.LinkStateRefused) as caught:
             Site.from_script("radios 3\nup 0 1\nup 1 0\n")
         self.assertEqual(caught.exception.where, "line 3")
-        for line, text in ((1, ""), (1, "radios 0\n"), (1, "radios 513\n"), (1, "radios 04\n"), (1, "up 0 1\n"), (1, "radios 4"), (1, "\n"),
+        for line, text in ((1, ""), (1, "radios 0\n"), (1, "radios 513\n"), (1, "radios 04\n"), (1, "radios 4 \n"), (1, "up 0 1\n"), (1, "radios 4"), (1, "\n"),
                            (2, "radios 4\nup 0 1"), (2, "radios 4\nup 0  1\n"), (2, "radios 4\nup 0 65536\n"), (2, "radios 4\nUP 0 1\n"),
                            (2, "radios 4\nup 0 1\r\nup 1 2\r\n"), (3, "radios 4\nup 0 1\n\nup 1 2\n"), (2, "radios 4\nup 0 \u0661\n"),
                            (2, "radios 4\nx\nup 0 1"), (2, "radios 4\nradios 4\n")):
@@ -623,7 +623,8 @@ class Beside(unittest.TestCase):
     def test_page(self):
         page = self.site.page()
         self.assertTrue(page.startswith("<!doctype html>") and "/*DATA*/null" not in page)
-        self.assertEqual(html.unescape(re.search(r'srcdoc="(.*)"', self.site._repr_html_(), re.S).group(1)), page)
+        frame = self.site._repr_html_()
+        self.assertEqual((html.unescape(re.search(r'srcdoc="(.*)"', frame, re.S).group(1)), frame.count('"')), (page, 4))
 
 
 if __name__ == "__main__":
