@@ -2,12 +2,12 @@
 use mathlib.Core.Path.{_≡_, refl, sym, ap, _∙_}
 use mathlib.Core.Logic.{_⊎_, inl, inr}
 use mathlib.Core.Bool.{true, false}
-use mathlib.Core.List.{List, [], _∷_, _++_}
+use mathlib.Core.List.{List, [], _∷_, _++_, append-nil, append-assoc}
 use Prim.Native.Nat.{ℕ, zero, suc, _+_, _*_, _/_, _%_, _^_, _≤_, _<_}
 use native.Mathlib.Omega.{arith}
 use native.Mathlib.Nat.{pow-succ'}
 use lib.Dec.{ltb}
-use lib.ListN.{length, length-append}
+use lib.ListN.{length, drop, set, length-append, length-set, drop-of-length-le}
 use borrow.Author.Tests.{ltb-true, ltb-false}
 use Rattle.lists.proofs.Tests.{bool-cases}
 use Rattle.text.specs.Text.{digit-byte, digits-in, decimal}
@@ -76,3 +76,45 @@ length-decimal-le (suc k) x h = go (length-decimal-le k (x / 10)) (bool-cases (l
     go rec (inl e) = omega (arith, length-decimal-digit x (ltb-true x 10 e))
     go rec (inr e) =
         omega (arith, length-decimal-more x (ltb-false x 10 e), rec (omega (arith, pow-succ' 10 (suc k))))
+
+-- ---- digits filled in from the last on, place i the next
+
+pub record Digits (x rest i : ℕ) (ds : List ℕ) : Type 0 where
+  pub inside : i < length ds
+  pub fits : rest < 10 ^ suc i
+  pub are : decimal x ≡ decimal rest ++ drop (suc i) ds
+
+pub digits-start : (x i : ℕ) (ds : List ℕ) → length ds ≡ suc i → x < 10 ^ suc i → Digits x x i ds
+digits-start x i ds l h = let past : length ds ≤ suc i = omega arith in record {
+  inside = omega arith;
+  fits = h;
+  are = sym (append-nil (decimal x)) ∙ ap (λ (xs : List ℕ). decimal x ++ xs) (sym (drop-of-length-le ds past));
+}
+
+-- with two digits to go there is a place before
+pub digits-before : (rest i : ℕ) → 10 ≤ rest → rest < 10 ^ suc i → 0 < i
+digits-before rest zero h k = absurd (omega arith)
+digits-before rest (suc i) h k = omega arith
+
+-- the digit at its place, before those that are there
+digit-set : (i d : ℕ) (ds : List ℕ) → i < length ds → drop i (set ds i d) ≡ d ∷ drop (suc i) ds
+digit-set i d [] h = absurd (omega arith)
+digit-set zero d (x ∷ ds) h = refl
+digit-set (suc i) d (x ∷ ds) h = digit-set i d ds (omega arith)
+
+pub digits-next : {x rest i j : ℕ} {ds : List ℕ} → 10 ≤ rest → i ≡ suc j → Digits x rest i ds
+    → Digits x (rest / 10) j (set ds i (digit-byte (rest % 10)))
+digits-next {x = x} {rest = rest} {i = i} {j = j} {ds = ds} h e p = record {
+  inside = omega (arith, p .inside, length-set ds i (digit-byte (rest % 10)));
+  fits = omega (arith, p .fits, pow-succ' 10 i, ap (λ (k : ℕ). 10 ^ k) e);
+  are = p .are
+      ∙ ap (λ (xs : List ℕ). xs ++ drop (suc i) ds) (decimal-more rest h)
+      ∙ append-assoc (decimal (rest / 10)) (digit-byte (rest % 10) ∷ []) (drop (suc i) ds)
+      ∙ ap (λ (xs : List ℕ). decimal (rest / 10) ++ xs)
+      (sym (digit-set i (digit-byte (rest % 10)) ds (p .inside)) ∙ ap (λ (k : ℕ). drop k (set ds i (digit-byte (rest % 10)))) e);
+}
+
+pub digits-end : {x rest i : ℕ} {ds : List ℕ} → rest < 10 → Digits x rest i ds → drop i (set ds i (digit-byte rest)) ≡ decimal x
+digits-end {x = x} {rest = rest} {i = i} {ds = ds} h p =
+    digit-set i (digit-byte rest) ds (p .inside)
+    ∙ ap (λ (xs : List ℕ). xs ++ drop (suc i) ds) (sym (decimal-digit rest h)) ∙ sym (p .are)

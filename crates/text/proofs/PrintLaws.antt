@@ -3,7 +3,7 @@ use mathlib.Core.Path.{_≡_, refl, sym, ap, _∙_}
 use mathlib.Core.Logic.{_⊎_, inl, inr}
 use mathlib.Core.Bool.{Bool, true, false, cond}
 use mathlib.Core.List.{List, [], _∷_, _++_, map}
-use Prim.Native.Nat.{ℕ, suc, _+_, _-_, _/_, _%_, _≤_, _<_, min}
+use Prim.Native.Nat.{ℕ, suc, _+_, _-_, _≤_, _<_, min}
 use native.Mathlib.Omega.{arith}
 use native.Mathlib.Numerals.{add-one}
 use lib.Dec.{ltb}
@@ -11,8 +11,7 @@ use lib.ListN.{length, take, drop, getD, set, length-set, drop-of-length-le}
 use lib.Seq.{drop-cons, set-out, sets, sets-eq}
 use borrow.Author.Tests.{lt-ltb, le-ltb, ltb-true, ltb-false}
 use Rattle.lists.proofs.Tests.{bool-cases}
-use Rattle.text.specs.Text.{space, line-feed, digit-byte, decimal, further-fields}
-use Rattle.text.proofs.DecimalLaws.{decimal-digit, decimal-more}
+use Rattle.text.specs.Text.{space, line-feed, decimal, further-fields}
 use Rattle.text.specs.Print.{Buffer, buffer-at, max-place, next-place, put, Puts}
 
 -- ---- one byte
@@ -46,15 +45,6 @@ pub puts-as : {b c : Buffer} {xs ys : List ℕ} → xs ≡ ys → Puts b xs c �
 puts-as {b} e p = record { is = p .is ∙ ap (put b) e }
 
 -- ---- decimal
-
--- d is the byte of the last digit
-pub puts-decimal-digit : {b c : Buffer} (x d : ℕ) → x < 10 → d ≡ digit-byte x → Puts b (d ∷ []) c → Puts b (decimal x) c
-puts-decimal-digit x d h e p = puts-as (ap (λ (y : ℕ). y ∷ []) e ∙ sym (decimal-digit x h)) p
-
-pub puts-decimal-more : {b c e : Buffer} (x d : ℕ) → 10 ≤ x → d ≡ digit-byte (x % 10) → Puts b (decimal (x / 10)) c → Puts c (d ∷ []) e
-    → Puts b (decimal x) e
-puts-decimal-more x d h f p q =
-    puts-as (ap (λ (y : ℕ). decimal (x / 10) ++ (y ∷ [])) f ∙ sym (decimal-more x h)) (puts-append p q)
 
 -- ---- a text put by pieces
 

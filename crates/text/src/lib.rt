@@ -3,7 +3,8 @@
 // tells that the text did not fit, and how long the buffer must be. All other bytes keep their content.
 ghost use mathlib.Core.Path.{_≡_};
 ghost use mathlib.Core.List.{[], _∷_, map};
-ghost use Prim.Native.Nat.{_<_};
+ghost use Prim.Native.Nat.{_<_, _≤_};
+ghost use lib.ListN.{length, drop};
 ghost use Rattle.text.specs.Text.{space, digit-byte, decimal, further-fields};
 ghost use Rattle.text.specs.Print.{buffer-at, Puts};
 
@@ -42,15 +43,29 @@ fn digit_byte(digit: u64) -> u8
     b'0' + digit as u8
 }
 
-// Puts x in decimal: the digits before the last, then the last.
+// Fills in the digits of x so that the last stands last, and answers where the first stands.
+fn fill_digits(digits: &mut [u8], x: u64) -> usize
+    requires { ⌜ length (now digits) ≡ 20 ⌝ }
+    ensures { λ r. ⌜ (r ≤ 20) × (drop r (now (digits .exit)) ≡ decimal x) ⌝ }
+{
+    let mut rest = x;
+    let mut i = 19;
+    while rest >= 10 {
+        digits[i] = digit_byte(rest % 10);
+        rest /= 10;
+        i -= 1;
+    }
+    digits[i] = digit_byte(rest);
+    i
+}
+
+// Puts x in decimal. A u64 has at most 20 digits.
 pub fn put_decimal(buffer: &mut [u8], at: usize, x: u64) -> usize
     ensures { λ r. ⌜ Puts (buffer-at (now (buffer .entry)) at) (decimal x) (buffer-at (now (buffer .exit)) r) ⌝ }
 {
-    if x < 10 {
-        return put_byte(buffer, at, digit_byte(x));
-    }
-    let place = put_decimal(buffer, at, x / 10);
-    put_byte(buffer, place, digit_byte(x % 10))
+    let mut digits = [0u8; 20];
+    let from = fill_digits(&mut digits, x);
+    put_text(buffer, at, &digits[from..])
 }
 
 // Puts a further field of a line: a space and a number.
