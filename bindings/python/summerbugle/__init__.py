@@ -29,7 +29,7 @@ from .refusals import (MEANINGS, HeardRefused, ImageCheckRefused, ImageRefused, 
 from .script import BadLine
 from .site import Batch, Change, Later, Marks, Node, Pair, Site, Tree, blocks, heard, padded
 
-__version__ = "0.1.0"
+__version__ = "1.0.0"
 
 __all__ = [
     "BLOCK_BYTES", "BadLine", "Batch", "CALLS", "Change", "HeardRefused", "ImageCheckRefused", "ImageRefused",
