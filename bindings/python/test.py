@@ -41,7 +41,7 @@ def clique(radios):
 
 def words_of(parameters):
     """The parameters of a declaration, as CALLS says them."""
-    left = [x.strip() for x in parameters.split(",")]
+    left = [x.strip() for x in parameters.split(",")] if parameters != "void" else []
     words = {"uint32_t": "u32", "int8_t": "step", "size_t": "size", "uint8_t": "bytes", "uint16_t": "entries", "sb_node": "nodes"}
     for at, parameter in enumerate(left):
         const, kind, star, _ = re.fullmatch(r"(const )?(\w+) (\*?)(\w+)", parameter).groups()
