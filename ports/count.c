@@ -129,7 +129,7 @@ int main(void) {
     COUNT(0), nothing = spent, deepest = 0;
     for (uint32_t i = 0; i < 5; i++) {
         hub.n = sizes[i];
-        ONE("version", sb_version()), ONE("clear", sb_site_clear(&hub));
+        ONE("clear", sb_site_clear(&hub));
         for (uint32_t up = 0; up < 2 * hub.n;) {
             uint32_t a = below(hub.n);
             up += sb_site_link_up(&hub, a, below(hub.n), answer).number == SB_OK;
