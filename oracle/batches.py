@@ -1,27 +1,20 @@
-"""The batches that the program `test_many_links` makes as a host, and the lines that it owes, worked out from document 02 alone.
-oracle/many_links.py writes and checks them.
+"""The batches that the program `test_hosts` makes, and the lines that it owes, worked out from document 02 alone. oracle/hosts.py writes and
+checks what is stored.
 
-A batch is so many single calls, each worked out by oracle/peeled.py, until one is refused. The file has words of 32 bits, lowest byte
-first: the count of calls, and for each its name, of 16 bytes, six words and its list.
+A batch is so many single calls, each worked out by oracle/peeled.py, until one is refused. Its list stands in front of the program's fields.
 """
 
 import random
 
+import host as hosts
 import peeled
 import reference
-import words
+from host import BYTE, ENTRIES, KEPT
 from questions import NEIGHBOURS, RADIOS
+from words import digest
 
-ENTRIES, LIST = 514, 1200  # the program's tables: radios, entries of a list
-BYTE, KEPT = 165, 600  # what they hold before they are written
-MODULUS, BASE = 4294967291, 65599  # of the digest that the program prints
-CLEAR, BATCH, SPOIL = range(3)
-
-
-def digest(h, values):
-    for x in values:
-        h = (h * BASE + x + 1) % MODULUS
-    return h
+LIST = 1200  # the entries of a list, of the program's fields
+CLEAR, BATCH, SPOIL = "clear", "link-batch", "spoil-links"
 
 
 class Host:
@@ -38,9 +31,10 @@ class Host:
         """Lengths that are not given are the right ones."""
         many = min(n, ENTRIES)
         lengths = [y if x is None else x for x, y in zip((links, numbers, order), (64 * many, many, many))]
-        self.words.append([kind, n, *lengths, len(entries), *entries])
+        at = {"a": n, "b": 1} if kind == SPOIL else {"n": n}
+        self.words.append(hosts.call(kind, entries=entries, links=lengths[0], numbers=lengths[1], order=lengths[2], fields=len(entries), **at))
         self.list[:len(entries)] = entries
-        said = (self.clear, self.batch, self.spoil)[kind](n, entries, lengths)
+        said = {CLEAR: self.clear, BATCH: self.batch, SPOIL: self.spoil}[kind](n, entries, lengths)
         h = 0
         for table in (self.links, self.numbers, self.order, self.list):
             h = digest(h, table)
@@ -144,10 +138,9 @@ def sites(host):
 
 
 def made():
-    """The bytes of data/batches, and the lines that the program owes for them."""
+    """data/batches, and the lines that the program owes for it."""
     host = Host()
     worked(host)
     limits(host)
     sites(host)
-    calls = [words.little(words.name(line) + call) for line, call in zip(host.lines, host.words, strict=True)]
-    return words.little([len(calls)]) + b"".join(calls), "".join(host.lines) + f"canaries {host.canaries}\n"
+    return {"batches": hosts.file(host.lines, host.words, fields=LIST)}, "".join(host.lines) + f"canaries {host.canaries}\n"

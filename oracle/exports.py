@@ -1,37 +1,21 @@
-"""The calls that the program `test_exports` makes as a host, and the lines that it owes, worked out from document 01 alone.
+"""The calls of every kind that the program `test_hosts` makes, and the lines that it owes, worked out from document 01 alone. oracle/hosts.py
+writes and checks what is stored.
 
-  python3 oracle/exports.py           write crates/test_exports/data and crates/test_exports/stdout
-  python3 oracle/exports.py --check   say whether the stored files are what would be written
-
-The program counts how many of the tables that it spoils its digest shows; all must be. The file has words of 32 bits, lowest byte first: the count
-of calls, and for each its name, of 16 bytes, and nine words. Tables stand in lists as long as the
+The program counts how many of the tables that it spoils its digest shows; all must be. Tables stand in lists as long as the
 program's; a call is answered from their lent parts and nothing else. Link calls are oracle/peeled.py's, the rest is
 oracle/reference.py's.
 """
 
-import sys
-from pathlib import Path
-
+import host as hosts
 import kruskal
 import peeled
 import reference
-import words
+from host import BYTE, ENTRIES, KEPT, KINDS, PLACES
 from questions import RADIOS
+from words import digest
 
-ENTRIES, PLACES, BUFFER = 514, 515, 4608  # the program's tables: radios, nodes, bytes for an image or a page
-BYTE, KEPT = 165, 600  # what they hold before they are written
-MODULUS, BASE = 4294967291, 65599  # of the digest that the program prints
+BUFFER = 4608  # of the program's buffer what is in the digest: no image or page here is longer
 SIGNED = {1: "+1", -1: "-1", 0: "0"}
-KINDS = ["clear", "check", "link-up", "link-down", "number", "neighbours", "linked", "first", "core", "backbone", "tree",
-         "image-write", "image-read", "image-block", "later-of", "sheet", "staircase", "ask-up", "ask-down", "commit-up", "commit-down",
-         "spoil-links", "spoil-numbers", "spoil-order", "spoil-answer", "spoil-fields", "spoil-buffer"]
-CRATE = Path(__file__).resolve().parent.parent / "crates/test_exports"
-
-
-def digest(h, values):
-    for x in values:
-        h = (h * BASE + x + 1) % MODULUS
-    return h
 
 
 def step_said(word):
@@ -52,7 +36,9 @@ class Host:
         many = min(n, ENTRIES)
         right = 64 * many, many, many, many, {"tree": many + 1, "staircase": 2 * many}.get(kind, BUFFER)
         lengths = [y if x is None else x for x, y in zip((links, numbers, order, answer, room), right)]
-        self.words.append([KINDS.index(kind), n, a, b] + lengths)
+        list_lent = {"tree": 3 * PLACES, "staircase": lengths[4]}.get(kind, lengths[3])
+        self.words.append(hosts.call(kind, said=int(kind == "clear"), n=n, a=a, b=b, links=lengths[0], numbers=lengths[1], order=lengths[2],
+                                     answer=lengths[3], fields=list_lent, room=lengths[4], seen=BUFFER))
         self.answer = [KEPT] * PLACES
         if kind in ("tree", "ask-up", "ask-down"):
             self.fields = [KEPT] * (3 * PLACES)
@@ -540,21 +526,10 @@ def play(host):
         host.call(f"spoil-{table}", 512, len(getattr(host, table)) - 1, 1)
 
 
-def main():
+def made():
+    """data/exports, and the lines that the program owes for it."""
     host = Host()
     play(host)
-    calls = [words.little(words.name(line) + call) for line, call in zip(host.lines, host.words, strict=True)]
     spoiled = sum(line.startswith("spoil ") for line in host.lines)
-    files = {CRATE / "data/calls": words.little([len(calls)]) + b"".join(calls),
-             CRATE / "stdout": ("".join(host.lines) + f"canaries {spoiled}\n").encode()}
-    if "--check" in sys.argv:
-        same = all(path.read_bytes() == content for path, content in files.items())
-        print("crates/test_exports:", "as written by this program" if same else "DIFFERENT")
-        sys.exit(not same)
-    for path, content in files.items():
-        path.parent.mkdir(exist_ok=True)
-        path.write_bytes(content)
-
-
-if __name__ == "__main__":
-    main()
+    file = hosts.file(host.lines, host.words, answer=PLACES, fields=3 * PLACES)
+    return {"exports": file}, "".join(host.lines) + f"canaries {spoiled}\n"

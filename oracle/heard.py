@@ -1,28 +1,20 @@
-"""The hearings that the program `test_many_links` makes as a host, and the lines that it owes, worked out from document 02 alone.
-oracle/many_links.py writes and checks them.
+"""The hearings that the program `test_hosts` makes, and the lines that it owes, worked out from document 02 alone. oracle/hosts.py writes and
+checks what is stored.
 
 A heard table is a set of ordered pairs here: (a, b) where a hears b. A hearing is so many single calls, each worked out by
-oracle/peeled.py; none of them may be refused. The file has words of 32 bits, lowest byte first: the count of calls, and for each its
-name, of 16 bytes, eight words and the bytes of the heard table that change before it, each a place and the bits that are flipped there.
+oracle/peeled.py; none of them may be refused. The one-sided table stands in front of the program's buffer.
 """
 
 import random
 
+import host as hosts
 import peeled
 import reference
-import words
+from host import BYTE, ENTRIES, KEPT
 from questions import NEIGHBOURS, RADIOS
+from words import digest
 
-ENTRIES = 514  # the radios that the program's tables have room for
-BYTE, KEPT = 165, 600  # what they hold before they are written
-MODULUS, BASE = 4294967291, 65599  # of the digest that the program prints
-CLEAR, HEAR, SPOIL = range(3)
-
-
-def digest(h, values):
-    for x in values:
-        h = (h * BASE + x + 1) % MODULUS
-    return h
+CLEAR, HEAR, SPOIL = "clear", "hear", "spoil-links"
 
 
 def both(links):
@@ -56,10 +48,11 @@ class Host:
         lengths = {**right, **lent}
         self.heard = self.heard if hears is None else set(hears)
         shown = table(self.heard, ENTRIES)
-        changes = [256 * at + (x ^ y) for at, (x, y) in enumerate(zip(self.shown, shown)) if x != y]
+        at = {"a": n, "b": 1} if kind == SPOIL else {"n": n}
+        room = {"room": lengths["further"], "seen": 64 * ENTRIES}
+        self.words.append(hosts.call(kind, changes=hosts.changes(self.shown, shown), **{x: lengths[x] for x in lengths if x != "further"}, **at, **room))
         self.shown = shown
-        self.words.append([kind, n, *lengths.values(), len(changes), *changes])
-        said = (self.clear, self.hear, self.spoil)[kind](n, lengths, right)
+        said = {CLEAR: self.clear, HEAR: self.hear, SPOIL: self.spoil}[kind](n, lengths, right)
         h = 0
         for content in (self.links, self.numbers, self.order, self.shown, self.further):
             h = digest(h, content)
@@ -187,10 +180,9 @@ def sites(host):
 
 
 def made():
-    """The bytes of data/hearings, and the lines that the program owes for them."""
+    """data/hearings, and the lines that the program owes for it."""
     host = Host()
     worked(host)
     limits(host)
     sites(host)
-    calls = [words.little(words.name(line) + call) for line, call in zip(host.lines, host.words, strict=True)]
-    return words.little([len(calls)]) + b"".join(calls), "".join(host.lines) + f"canaries {host.canaries}\n"
+    return {"hearings": hosts.file(host.lines, host.words, heard=64 * ENTRIES)}, "".join(host.lines) + f"canaries {host.canaries}\n"

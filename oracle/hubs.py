@@ -1,40 +1,28 @@
 """Two hubs that take the same link calls in two arrangements (document 02, W-214), worked out from documents 01 and 02 alone.
-
-  python3 oracle/hubs.py           write crates/test_hubs/data and crates/test_hubs/stdout
-  python3 oracle/hubs.py --check   say whether the stored files are what would be written
+oracle/answers.py writes and checks what is stored.
 
 Links, numbers and order come from the site of oracle/peeled.py, call by call; shell tree and backbone from that of
 oracle/trees.py, the staircase tree from oracle/kruskal.py, all three from the links in the end.
 
-A file is words of 16 bits, lower byte first: n; then of each hub the count of its calls and the calls, each 1 or 0 for up or
+data/hubs has words of 16 bits, lower byte first: the count of cases; of each its name, of 16 bytes; n; then of each hub the count of its calls and the calls, each 1 or 0 for up or
 down, and two radios. Of `one-more` the second hub has a call more. Of `refused` it has the same calls and refuses one, whose
 link is then up there. Everywhere else no call is refused, and links, numbers, tree, backbone and staircase tree are equal.
 """
 
 import random
-import sys
-from pathlib import Path
 
 import kruskal
 import peeled
 import reference
 import trees
+import words
 
-CRATE = Path(__file__).resolve().parent.parent / "crates/test_hubs"
-WORD, KEPT, NODES = 2 ** 64, 600, 513
+KEPT, NODES = 600, 513
 EQUAL = ("links", "numbers", "tree", "backbone", "staircase", "order")
 
 
-# ---- digests, as crates/test_hubs/src/digest.rt makes them
-
 def digest(values):
-    h = 1
-    for x in values:
-        h = (h + x) % WORD
-        h = (h ^ h << 13) % WORD
-        h ^= h >> 7
-        h = (h ^ h << 17) % WORD
-    return h
+    return words.digest(0, values)
 
 
 def filled(entries, length):
@@ -187,36 +175,19 @@ def known_pair():
     assert (first.checks(), second.checks()) == ([34, 46, 66], [34, 62, 66])
 
 
-def files():
+def made():
+    """data/hubs, and the lines that the program owes for it."""
     written, lines = {}, []
     known_pair()
     for name, (n, *histories) in SITES.items():
         assert (counted(histories[0]) == counted(histories[1])) == (name != "one-more")
-        words = [n]
+        content = [n]
         for calls in histories:
-            words += [len(calls)] + [x for up, a, b in calls for x in (int(up), a, b)]
-        written[name] = b"".join(x.to_bytes(2, "little") for x in words)
+            content += [len(calls)] + [x for up, a, b in calls for x in (int(up), a, b)]
+        written[name] = words.little(content, 2)
         one, other = (hub(n, calls) for calls in histories)
         known(name, one, other)
         for line in (one, other):
             lines.append(name + "".join(f" {word} {x}" for word, x in line.items()) + "\n")
         lines.append(f"{name} equal:" + "".join(f" {word} {int(one[word] == other[word])}" for word in EQUAL) + "\n")
-    return written, "".join(lines)
-
-
-def main():
-    written, text = files()
-    data, out = CRATE / "data", CRATE / "stdout"
-    if "--check" in sys.argv:
-        stored = {path.name: path.read_bytes() for path in data.iterdir()}
-        same = stored == written and out.read_text() == text
-        print("crates/test_hubs:", "as written by this program" if same else "DIFFERENT")
-        sys.exit(not same)
-    data.mkdir(exist_ok=True)
-    for name, content in written.items():
-        (data / name).write_bytes(content)
-    out.write_text(text)
-
-
-if __name__ == "__main__":
-    main()
+    return {"hubs": words.cases(written)}, "".join(lines)

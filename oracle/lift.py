@@ -1,7 +1,5 @@
-"""The sites of which the program `test_lift` asks one link that lifts a radio, and the lines that it owes, worked out from document 02 alone.
-
-  python3 oracle/lift.py           write crates/test_lift/data and crates/test_lift/stdout
-  python3 oracle/lift.py --check   say whether the stored files are what would be written
+"""The sites of which the program `test_answers` asks one link that lifts a radio, and the lines that it owes, worked out from document 02 alone.
+oracle/answers.py writes and checks what is stored.
 
 Of sites of up to 12 radios every pair is tried, and all numbers are worked out anew with its link. Of larger ones too, but whom a link
 raises is found as document 000 finds it, by a search from the lower end: that the two ways agree is asserted on every small site. A file has
@@ -9,22 +7,13 @@ words of 32 bits, lowest byte first: the count of sites, and for each ten words 
 """
 
 import random
-import sys
 from itertools import combinations
-from pathlib import Path
 
 import peeled
+import words
 from questions import NEIGHBOURS, RADIOS
 
 SMALL = 12
-MODULUS, BASE = 4294967291, 65599  # of the digest that the program prints
-CRATE = Path(__file__).resolve().parent.parent / "crates/test_lift"
-
-
-def digest(h, values):
-    for x in values:
-        h = (h * BASE + x + 1) % MODULUS
-    return h
 
 
 # ---- whom a link raises
@@ -110,7 +99,7 @@ class File:
         self.asked += 1
         self.pairs += number == 0
         self.none += number == 20
-        self.h = digest(self.h, (number, low, high))
+        self.h = words.digest(self.h, (number, low, high))
 
     def site(self, n, links, step=1):
         """Every radio is asked for, or every `step`-th, and one that is no radio."""
@@ -252,20 +241,14 @@ FILES = {"worked": worked, "questions": questions, "all-4": lambda: all_graphs(4
          "middle": middle, "regular": regular, "full": full, "large": large}
 
 
-def main():
+def made():
+    """The files of data/ by name, and the lines that the program owes for them."""
     files, lines = {}, []
     for name, make in FILES.items():
         f = make()
-        files[CRATE / "data" / name] = b"".join(x.to_bytes(4, "little") for x in [len_of(f), *f.words])
+        files[name] = words.little([len_of(f), *f.words])
         lines.append(f"{name} sites {f.sites} asked {f.asked} pairs {f.pairs} none {f.none} digest {f.h}\n")
-    files[CRATE / "stdout"] = "".join(lines).encode()
-    if "--check" in sys.argv:
-        same = all(path.read_bytes() == content for path, content in files.items())
-        print("crates/test_lift:", "as written by this program" if same else "DIFFERENT")
-        sys.exit(not same)
-    for path, content in files.items():
-        path.parent.mkdir(parents=True, exist_ok=True)
-        path.write_bytes(content)
+    return files, "".join(lines)
 
 
 def len_of(f):
@@ -275,7 +258,3 @@ def len_of(f):
         at += 10 + f.words[at + 9]
         count += 1
     return count
-
-
-if __name__ == "__main__":
-    main()

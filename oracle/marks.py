@@ -1,34 +1,23 @@
-"""The calls on named marks that the program `test_marks` makes as a host, and the lines that it owes, worked out from documents 01 and 02.
-
-  python3 oracle/marks.py           write crates/test_marks/data and crates/test_marks/stdout
-  python3 oracle/marks.py --check   say whether the stored files are what would be written
+"""The calls on named marks that the program `test_hosts` makes, and the lines that it owes, worked out from documents 01 and 02. oracle/hosts.py
+writes and checks what is stored.
 
 A store keeps the rules when what is read out of it, name by name and site by site, written again gives the same bytes; the program goes
-by the rules one by one. Link calls are oracle/peeled.py's, images oracle/images.py's. The file has words of 32 bits,
-lowest byte first: the count of calls, and for each its name, of 16 bytes, a mark's name, of 8, and six words. The program counts the
-changes of other hands that its digest shows; all must be.
+by the rules one by one. Link calls are oracle/peeled.py's, images oracle/images.py's. The name of a mark stands in front of the
+program's heard table. The program counts the changes of other hands that its digest shows; all must be.
 """
 
 import random
-import sys
-from pathlib import Path
 
+import host as hosts
 import images
 import peeled
-import words
+from host import STORE
+from words import BASE, MODULUS, digest
 
-ENTRIES, PLACE, PLACES = 64, 44040, 8  # the program's tables; the bytes of a place, the places of a store
-STORE = PLACE * PLACES
-MODULUS, BASE = 4294967291, 65599  # of the digest that the program prints
-KINDS = ["clear", "up", "down", "set", "remove", "return", "flip", "spoil", "copy"]
-CRATE = Path(__file__).resolve().parent.parent / "crates/test_marks"
+ENTRIES, PLACE, PLACES = 64, 44040, 8  # the tables' radios that are in the digest; the bytes of a place, the places of a store
+KINDS = {"clear": "clear", "up": "link-up", "down": "link-down", "set": "mark-set", "remove": "mark-remove", "return": "mark-return",
+         "flip": "spoil-buffer", "spoil": "spoil-numbers", "copy": "copy-place"}
 SIGNS = b"ABCDEFGHIJKLMNOPQRSTUVWXYZ0123456789"
-
-
-def digest(h, values):
-    for x in values:
-        h = (h * BASE + x + 1) % MODULUS
-    return h
 
 
 def zeros_digest(h, count):
@@ -93,16 +82,20 @@ class Host:
     def __init__(self):
         self.links, self.numbers, self.order = bytearray([165] * (64 * ENTRIES)), bytearray([165] * ENTRIES), [600] * ENTRIES
         self.store, self.site, self.words, self.lines, self.seen = bytes(STORE + 1), None, [], [], 0
+        self.shown = bytes(9)  # what the heard table has in front
 
     def call(self, kind, a=0, b=0, name=b"", n=None, length=None, room=STORE):
         n = self.site.n if n is None else n
         letters = name[:8].ljust(8, b"\0")
         length = len(name) if length is None else length
-        self.words.append([int.from_bytes(letters[:4], "little"), int.from_bytes(letters[4:], "little"), KINDS.index(kind), n, a, b,
-                           length, room])
+        shown, self.shown = self.shown, letters + b"X"
+        many = min(n, ENTRIES)
+        no_store = kind in ("clear", "up", "down")
+        self.words.append(hosts.call(KINDS[kind], changes=hosts.changes(shown, self.shown), said=1, n=n, a=a, b=b, links=64 * many, numbers=many,
+                                     order=many, answer=ENTRIES, heard=length, room=room, seen=0 if no_store else STORE + 1))
         number = getattr(self, kind)(n, a, b, (letters + b"X")[:length], room)
         h = digest(digest(digest(0, self.links), self.numbers), self.order)
-        self.lines.append(f"{kind} {number} {h if kind in KINDS[:3] else bytes_digest(h, self.store)}\n")
+        self.lines.append(f"{kind} {number} {h if no_store else bytes_digest(h, self.store)}\n")
         return number
 
     # ---- tables
@@ -334,26 +327,9 @@ def sizes(host):
     host.call("return", name=name("SPARSE"))
 
 
-def work_out():
+def made():
+    """data/marks, and the lines that the program owes for it."""
     host = Host()
     for part in (worked, full, damage, sizes):
         part(host)
-    calls = [words.little(words.name(line) + call) for line, call in zip(host.lines, host.words, strict=True)]
-    lines = host.lines + [f"canaries {host.seen}\n"]
-    return {CRATE / "data/calls": words.little([len(calls)]) + b"".join(calls), CRATE / "stdout": "".join(lines).encode()}
-
-
-def main():
-    files = work_out()
-    if "--check" in sys.argv:
-        wrong = [path for path, content in files.items() if not path.exists() or path.read_bytes() != content]
-        print("crates/test_marks:", "DIFFERENT" if wrong else "as written by this program")
-        return 1 if wrong else 0
-    for path, content in files.items():
-        path.parent.mkdir(parents=True, exist_ok=True)
-        path.write_bytes(content)
-    return 0
-
-
-if __name__ == "__main__":
-    sys.exit(main())
+    return {"marks": hosts.file(host.lines, host.words, byte=0, entries=ENTRIES)}, "".join(host.lines) + f"canaries {host.seen}\n"

@@ -1,18 +1,12 @@
-"""Scripts of pseudo-random sites (document 02, W-203), with what crate test_rebuilt owes on each, worked out from the documents alone.
-
-  python3 oracle/rebuilt.py           write crates/test_rebuilt/stdout
-  python3 oracle/rebuilt.py --check   say whether the stored file is what would be written
+"""Scripts of pseudo-random sites (document 02, W-203), with what crate test_scripts owes on each, worked out from the documents alone.
+oracle/scripts.py writes and checks what is stored.
 
 A site is the one of oracle/peeled.py, and what the replay program prints is worked out by oracle/scripts.py.
 """
 
-import sys
-from pathlib import Path
-
 from peeled import Site
 from scripts import printed, replay
 
-STORED = Path(__file__).resolve().parent.parent / "crates/test_rebuilt/stdout"
 MASK = 2 ** 64 - 1
 SITES = [(1, 1, 3, 1), (2, 2, 1, 5), (7, 7, 60, 3), (12, 12, 90, 4), (45, 43, 1200, 5), (100, 100, 120, 6), (512, 512, 150, 7)]
 
@@ -94,18 +88,6 @@ def canary_text():
     return other_link + unsound + twice
 
 
-def text():
-    return "".join(site_text(*site) for site in SITES) + refused_text() + canary_text()
-
-
-def main():
-    expected = text().encode()
-    if "--check" in sys.argv:
-        same = STORED.exists() and STORED.read_bytes() == expected
-        print("crates/test_rebuilt:", "as written by this program" if same else "DIFFERENT")
-        sys.exit(not same)
-    STORED.write_bytes(expected)
-
-
-if __name__ == "__main__":
-    main()
+def made():
+    """No file of data/, and what is printed."""
+    return {}, "".join(site_text(*site) for site in SITES) + refused_text() + canary_text()

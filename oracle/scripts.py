@@ -3,18 +3,16 @@
   python3 oracle/scripts.py           write crates/test_scripts/data and crates/test_scripts/stdout
   python3 oracle/scripts.py --check   say whether the stored files are what would be written
 
-Lines are read by a pattern; a site is the one of oracle/peeled.py.
+What the program prints in the end, of scripts that it writes itself, is oracle/rebuilt.py's. Lines are read by a pattern; a site is the one of oracle/peeled.py.
 """
 
 import re
-import sys
-from pathlib import Path
 
+import stored
 from peeled import Site
 from questions import RADIOS
 
 LARGEST = 65535
-CRATE = Path(__file__).resolve().parent.parent / "crates/test_scripts"
 NUMBER = rb"(0|[1-9][0-9]{0,4})"
 LINE = re.compile(rb"(?:radios " + NUMBER + rb"|(up|down) " + NUMBER + rb" " + NUMBER + rb")\n")
 
@@ -165,7 +163,7 @@ BY_BYTES = ["m1", "refusals", "clique-41", "radios-very-long", "unterminated", "
 
 UNREAD = {"folder": "the input is a folder", "closed": "the input is closed, or not open for reading", "no room": "the input cannot be read"}
 UNWRITTEN = "the output cannot be written"
-HELP = (CRATE.parent / "player/src/words.rt").read_text()
+HELP = (stored.CRATES / "player/src/words.rt").read_text()
 
 
 def run(text):
@@ -194,26 +192,14 @@ last_lines = [replay(SCRIPTS[name]).splitlines()[3:] for name in ("m1", "canary"
 assert all(x != y for x, y in zip(*last_lines)) and [len(lines) for lines in last_lines] == [3, 3]
 
 
-def files():
-    """What is stored: each script, and what is printed of all."""
+def made():
+    """The files of data/ by name, and what is printed of all."""
     shown = {name: run(text) for name, text in SCRIPTS.items()}
-    stored = {CRATE / "data" / name: text for name, text in SCRIPTS.items()}
     played = [(name, shown[name]) for name in [*SCRIPTS, *BY_BYTES]]
-    stored[CRATE / "stdout"] = "".join(f"{name}\n{text}" for name, text in [*played, *failures()]).encode()
-    return stored
-
-
-def main():
-    written = files()
-    if "--check" in sys.argv:
-        stored = {path for path in (CRATE / "data").iterdir()} | {CRATE / "stdout"}
-        same = stored == set(written) and all(path.read_bytes() == text for path, text in written.items())
-        print("crates/test_scripts:", "as written by this program" if same else "DIFFERENT")
-        sys.exit(not same)
-    (CRATE / "data").mkdir(parents=True, exist_ok=True)
-    for path, text in written.items():
-        path.write_bytes(text)
+    return SCRIPTS, "".join(f"{name}\n{text}" for name, text in [*played, *failures()])
 
 
 if __name__ == "__main__":
-    main()
+    import rebuilt
+
+    stored.keep("test_scripts", made(), rebuilt.made())

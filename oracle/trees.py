@@ -1,31 +1,26 @@
 """Shell trees, connected cores, backbones and staircase trees of sites, worked out from document 01 and W-202 and W-209 of document 02
-alone.
-
-  python3 oracle/trees.py           write crates/test_trees/data and crates/test_trees/stdout
-  python3 oracle/trees.py --check   say whether the stored files are what would be written
+alone. oracle/answers.py writes and checks what is stored.
 
 A connected core is a part of the radios with number k or more. The tree is made by comparing
 sets: one node for each different connected core, at the largest k. Small sites are compared with
 `reference`, which looks at all sets of radios. Staircase trees are oracle/kruskal.py's.
 
-A file is words of 16 bits, lower byte first: n; the count of links and the links; the count of
+data/trees has words of 16 bits, lower byte first: the count of sites; of each its name, of 16 bytes; n; the count of links and the links; the count of
 calls and the calls on the site; the same for calls after all numbers are set to 255. A call is
 its kind (1 tree, 2 backbone, 3 core, 4 staircase tree), n, the length of the answer table, for a tree the places for
 nodes, for a core the radio and the level; then what is owed: refusal number, value, for a tree the
 lists of names, levels and parents, and the list in the answer table; a list is its count and its
-entries. In the last file, `canary`, each call owes one wrong value.
+entries. Of the last site, `canary`, each call owes one wrong value.
 """
 
 import random
-import sys
-from pathlib import Path
 
 import kruskal
 import reference
+import words
 from questions import NEIGHBOURS
 
 ROOT, PLACES, ENTRIES = 65535, 515, 1030
-CRATE = Path(__file__).resolve().parent.parent / "crates/test_trees"
 
 
 # ---- a site
@@ -177,10 +172,10 @@ class File:
 
     def bytes(self):
         site = self.site
-        words = [site.n, len(site.links)] + [v for link in site.links for v in link]
+        content = [site.n, len(site.links)] + [v for link in site.links for v in link]
         for calls in (self.calls, self.later):
-            words += [len(calls)] + [x for call in calls for x in call]
-        return b"".join(x.to_bytes(2, "little") for x in words)
+            content += [len(calls)] + [x for call in calls for x in call]
+        return words.little(content, 2)
 
 
 # ---- sites
@@ -298,7 +293,8 @@ def compared_with_reference(site):
             assert sorted(site.core(v, k)) == other.core(v, k)[1]
 
 
-def files():
+def made():
+    """data/trees, and the lines that the program owes for it."""
     written, lines = {}, []
     for name, (n, links) in SITES.items():
         site = Site(n, links)
@@ -320,22 +316,4 @@ def files():
         nodes = Site(*SITES[name]).tree()[0]
         assert [level for _, level, _ in nodes] == list(range(levels + 1))
         assert all(node[2] == below[0] for below, node in zip(nodes, nodes[1:]))
-    return written, "".join(lines)
-
-
-def main():
-    written, text = files()
-    data, out = CRATE / "data", CRATE / "stdout"
-    if "--check" in sys.argv:
-        stored = {path.name: path.read_bytes() for path in data.iterdir()}
-        same = stored == written and out.read_text() == text
-        print("crates/test_trees:", "as written by this program" if same else "DIFFERENT")
-        sys.exit(not same)
-    data.mkdir(exist_ok=True)
-    for name, content in written.items():
-        (data / name).write_bytes(content)
-    out.write_text(text)
-
-
-if __name__ == "__main__":
-    main()
+    return {"trees": words.cases(written)}, "".join(lines)

@@ -4,34 +4,23 @@
 // of 11 expectations that are wrong on purpose are found. What is printed is worked out by oracle/histories.py.
 mod canaries;
 mod engine;
+mod pairs;
 mod picking;
 mod play;
-mod random;
 mod trouble;
 
-use libc::STDOUT_FILENO;
 use picking::Plan;
-
-// Prints a space and a number.
-fn say_field(x: u64) {
-    io::write_all(STDOUT_FILENO, b" ");
-    io::print_decimal(STDOUT_FILENO, x);
-}
-
-fn end_line() {
-    io::write_all(STDOUT_FILENO, b"\n");
-}
+use test_parts::say;
 
 // Prints a line: a name, a number, then the counts.
-fn say(name: &[u8], n: u32, counts: &play::Counts) {
-    io::write_all(STDOUT_FILENO, name);
-    say_field(n as u64);
+fn line(name: &[u8], n: u32, counts: &play::Counts) {
+    say::number(name, n as u64);
     let mut i: usize = 0;
     while i < play::KINDS {
-        say_field(counts[i]);
+        say::field(counts[i]);
         i += 1;
     }
-    end_line();
+    say::text(b"\n");
 }
 
 // Adds a history's counts to the sums of all.
@@ -48,7 +37,7 @@ fn add_up(counts: &play::Counts, sums: &mut play::Counts) {
 fn history(name: &[u8], plan: Plan, sums: &mut play::Counts) {
     let mut counts = [0u64; play::KINDS];
     play::play(plan, &mut counts);
-    say(name, plan.n, &counts);
+    line(name, plan.n, &counts);
     add_up(&counts, sums);
 }
 
@@ -138,11 +127,10 @@ fn all_groups(sums: &mut play::Counts) {
 
 fn main() {
     let mut sums = [0u64; play::KINDS];
-    io::write_all(
-        STDOUT_FILENO,
+    say::text(
         b"history radios: accepted, refused by 1 to 7, changed radios, calls, differences, canaries\n",
     );
     sites(&mut sums);
     all_groups(&mut sums);
-    say(b"all", 0, &sums);
+    line(b"all", 0, &sums);
 }

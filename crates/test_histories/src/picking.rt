@@ -1,7 +1,8 @@
 // The next call of a history: which link, which way, and now and then a call that is to be refused.
-use super::random;
+use super::pairs;
 use test_model::model;
 use test_model::model::Model;
+use test_parts::random;
 
 // A history on n radios: the first m of them are used; a radio with `most` neighbours gets none more, on purpose; `ups` of 16
 // calls go up. Where `pairs` is not 0 but m times m, all links between the m radios go up, each asked both ways, and then down. Where `group`
@@ -43,7 +44,7 @@ fn seek(model: &Model, m: u32, a: u32, b: u32, linked: bool) -> u32 {
         if is_sought(model, a, u, linked) {
             return u;
         }
-        u = random::after(u, m);
+        u = pairs::after(u, m);
         turn += 1;
     }
     b
@@ -54,25 +55,25 @@ fn pick_in_clique(plan: Plan, i: u32, x: u64) -> Picked {
     if i < plan.pairs {
         return Picked {
             up: true,
-            a: random::first_of(i, plan.m),
-            b: random::second_of(i, plan.m),
+            a: pairs::first_of(i, plan.m),
+            b: pairs::second_of(i, plan.m),
             x,
         };
     }
-    let j = random::scattered(i, plan.pairs);
+    let j = pairs::scattered(i, plan.pairs);
     Picked {
         up: false,
-        a: random::first_of(j, plan.m),
-        b: random::second_of(j, plan.m),
+        a: pairs::first_of(j, plan.m),
+        b: pairs::second_of(j, plan.m),
         x,
     }
 }
 
 // Pair i of groups: a radio and the one so much further on, where both are of one group; else the radio twice.
 fn pick_in_group(plan: Plan, i: u32, x: u64) -> Picked {
-    let a = random::first_of(i, plan.reach) % 512;
-    let b = a + 1 + random::second_of(i, plan.reach) % 512;
-    let same = random::first_of(a, plan.group) == random::first_of(b, plan.group);
+    let a = pairs::first_of(i, plan.reach) % 512;
+    let b = a + 1 + pairs::second_of(i, plan.reach) % 512;
+    let same = pairs::first_of(a, plan.group) == pairs::first_of(b, plan.group);
     let far = if same { b } else { a };
     Picked {
         up: true,
@@ -97,7 +98,7 @@ fn pick_in_groups(plan: Plan, i: u32, x: u64, model: &Model) -> Picked {
             x,
         };
     }
-    let place = random::second_of((i % 65536) * 5, plan.n);
+    let place = pairs::second_of((i % 65536) * 5, plan.n);
     Picked {
         up: true,
         a: model::get(model, model::ORDER, 0) as u32,

@@ -1,10 +1,10 @@
 // Comparisons that must differ, made by the functions that all lines go by: where one is switched off, fewer are counted.
-use super::digest;
 use super::pattern;
 use super::reading;
 use super::reading::Outcome;
 use super::sizes;
 use super::tally;
+use test_parts::digest;
 
 // The pattern's byte, or another one.
 fn byte(other: bool) -> u8 {
@@ -25,7 +25,7 @@ fn left(k: u32) -> Outcome {
         number: 10,
         kept: pattern::are_kept(&links, &numbers, &order),
         again: false,
-        digest: digest::tables(&links, &numbers, &order),
+        digest: digest::site(&links, &numbers, &order),
     }
 }
 

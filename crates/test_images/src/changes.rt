@@ -1,12 +1,12 @@
 // Every byte of an image changed in turn, as it is and with the check of its block mended.
 use super::changed;
-use super::digest;
 use super::lines;
 use super::parts;
 use super::reading;
 use super::reading::Outcome;
 use super::tally;
 use super::tally::Tally;
+use test_parts::digest;
 
 // How a byte is changed: below 256 so much is added to it modulo 256; every bit flipped; swapped with the next but one, which
 // changes nothing where the two are equal.

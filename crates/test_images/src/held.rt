@@ -1,8 +1,8 @@
 // The block reader as a struct that holds the image. A function with such a local is proved by hand, and this file has the only
 // one here.
-use super::digest;
 use block_reader::blocks;
 use block_reader::blocks::BlockReader;
+use test_parts::digest;
 
 // The digest with what a reader gave: the number that it was opened with, the step's refusal number, end, part and next number,
 // and the number of the reader that moved on.

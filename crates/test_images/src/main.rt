@@ -4,7 +4,6 @@
 mod canaries;
 mod changed;
 mod changes;
-mod digest;
 mod full;
 mod held;
 mod lines;
@@ -22,6 +21,7 @@ use sites::Links;
 use sites::Numbers;
 use sites::Order;
 use sites::Shape;
+use test_parts::digest;
 
 // Reads the image that the buffer begins with, of n radios, with each length and size and last as it is, then with the n around; writes
 // it again from the tables read, and walks its blocks.
@@ -37,7 +37,7 @@ fn try_image(n: u32, buffer: &[u8], exact: usize) {
 fn try_tables(shape: Shape, links: &[u8], numbers: &[u8], order: &[u16]) {
     let n = shape.radios;
     lines::begin(b"site", &[n as u64, shape.links as u64]);
-    lines::end(&[digest::tables(links, numbers, order)]);
+    lines::end(&[digest::site(links, numbers, order)]);
     let exact = writing::try_writes(n, links, numbers, order);
     try_image(n, &writing::image_of(n, links, numbers, order), exact);
 }

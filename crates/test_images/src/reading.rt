@@ -1,5 +1,4 @@
 // Reading an image, with a line for each case.
-use super::digest;
 use super::lines;
 use super::parts;
 use super::pattern;
@@ -9,6 +8,7 @@ use super::sites::Order;
 use super::writing;
 use image_reader::reader;
 use mesh::Site;
+use test_parts::digest;
 
 // The bytes of the largest links table.
 pub(crate) const LINKS: usize = Site::ROW_BYTES * Site::RADIOS as usize;
@@ -31,7 +31,7 @@ fn seen(n: u32, number: u32, links: &[u8], numbers: &[u8], order: &[u16], image:
         number,
         kept: pattern::are_kept(links, numbers, order),
         again: writing::is_again(n, number, links, numbers, order, image),
-        digest: digest::tables(links, numbers, order),
+        digest: digest::site(links, numbers, order),
     }
 }
 

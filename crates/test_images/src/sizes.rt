@@ -1,6 +1,5 @@
 // Images read with many n into tables of n radios, and asked alone: one n is the image's own, all others are not.
 use super::changed;
-use super::digest;
 use super::lines;
 use super::parts;
 use super::reading;
@@ -8,6 +7,7 @@ use super::tally;
 use super::tally::Tally;
 use image_reader::reader;
 use mesh::Site;
+use test_parts::digest;
 
 // Whether what was read is broken, or the image alone got another number.
 pub(crate) fn is_broken(n: u32, image: &[u8], number: u32, broken: bool) -> bool {

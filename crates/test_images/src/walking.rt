@@ -1,8 +1,8 @@
 // Walking the blocks of an image.
-use super::digest;
 use super::held;
 use super::lines;
 use block_reader::blocks;
+use test_parts::digest;
 
 // Steps of the block reader so far: the number of its next block, the last refusal number, the bytes given, how often it said
 // the end, and a digest of all that was said and given.

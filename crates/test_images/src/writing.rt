@@ -1,5 +1,4 @@
 // Writing an image, with a line for each length of the buffer.
-use super::digest;
 use super::lines;
 use super::parts;
 use super::pattern;
@@ -7,6 +6,7 @@ use super::sites::Links;
 use super::sites::Numbers;
 use super::sites::Order;
 use image_writer::writer;
+use test_parts::digest;
 
 // The bytes of the largest image, of 86 blocks, and two blocks more.
 pub(crate) const BUFFER: usize = 45056;

@@ -1,5 +1,7 @@
-// Parts that several test programs have: a digest of tables, the words of a file, and lines that are printed. No public function has a
-// `requires`.
+// Parts that several test programs have: a digest of tables, files and their words, lines that are printed, and pseudo-random numbers. No
+// public function has a `requires`.
 pub mod digest;
+pub mod files;
+pub mod random;
 pub mod say;
 pub mod words;

@@ -28,8 +28,8 @@ pub fn line(s: &[u8], x: u64) {
     end_line(x);
 }
 
-// The room for a call's name in a file, zeros after it.
-const NAME: usize = 16;
+// A name in a file, zeros after it.
+pub type Name = [u8; 16];
 
 // Where the first zero stands; all bytes without one.
 fn zero_of(s: &[u8]) -> usize {
@@ -51,19 +51,20 @@ fn print_front(s: &[u8]) {
     text(s);
 }
 
-// Prints the name that the file has next.
-pub fn next_name(fd: i32) {
-    let mut name = [0u8; NAME];
+// The name that the file has next.
+pub fn read_name(fd: i32) -> Name {
+    let mut name = [0u8; 16];
     io::read_full(fd, &mut name);
-    print_front(&name);
+    name
 }
 
-// 1 where a spoiled table shows: its digest was h, and is not.
-pub fn canary(spoiled: bool, h: u64, after: u64) -> u32 {
-    if spoiled {
-        if h != after {
-            return 1;
-        }
-    }
-    0
+// Prints a name.
+pub fn name(s: &Name) {
+    print_front(s);
+}
+
+// Prints the name that the file has next.
+pub fn next_name(fd: i32) {
+    let s = read_name(fd);
+    name(&s);
 }

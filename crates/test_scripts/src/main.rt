@@ -1,47 +1,38 @@
 // The replay program on each script of data/, in turn: the script's name, then what is printed. The canary is M1's script with
-// another last call: each kind of printed line must differ from M1's. Scripts and expected output are made by oracle/scripts.py.
-// Of each run the errors and the status are printed too; of some, reads and writes fail.
+// another last call: each kind of printed line must differ from M1's. Of each run the errors and the status are printed too; of some,
+// reads and writes fail. Then scripts of pseudo-random sites, written and played. Scripts and expected output are made by
+// oracle/scripts.py and oracle/rebuilt.py.
+mod back;
+mod rebuilt;
+mod refused;
+mod site;
+mod writing;
+
 use libc::STDOUT_FILENO;
 use reads::Ends;
+use test_parts::files;
+use test_parts::say;
 
 // More than an error line has.
 const ERRORS: usize = 512;
-
-fn text(bytes: &[u8]) {
-    io::write_all(STDOUT_FILENO, bytes);
-}
-
-// A new file without a name, open for reading and writing; negative where there is none.
-fn new_file() -> i32 {
-    let mut name = *b"errors-XXXXXX";
-    let fd = os::create_temp(&mut name);
-    if fd < 0 {
-        os::fail(&name);
-        return fd;
-    }
-    os::unlink(&name);
-    fd
-}
 
 // Prints what a file of errors has, and closes it.
 fn print_errors(fd: i32) {
     let mut bytes = [0u8; ERRORS];
     libc::lseek(fd, 0, libc::SEEK_SET);
     let count = io::read_full(fd, &mut bytes);
-    text(&bytes[..count]);
+    say::text(&bytes[..count]);
     libc::close(fd);
 }
 
 // Prints the status.
 fn print_status(status: u32) {
-    text(b"status ");
-    io::print_decimal(STDOUT_FILENO, status as u64);
-    text(b"\n");
+    say::line(b"status", status as u64);
 }
 
 // Plays an input, of which a read asks for at most `most` bytes.
 fn run(input: i32, output: i32, most: usize) {
-    let errors = new_file();
+    let errors = files::temporary();
     let ends = Ends {
         input,
         output,
@@ -54,15 +45,15 @@ fn run(input: i32, output: i32, most: usize) {
 
 // The words of a run on no input.
 fn words(word: &[u8]) {
-    let errors = new_file();
+    let errors = files::temporary();
     let ends = Ends {
         input: -1,
         output: STDOUT_FILENO,
         errors,
     };
-    text(b"replay ");
-    text(word);
-    text(b"\n");
+    say::text(b"replay ");
+    say::text(word);
+    say::text(b"\n");
     let status = player::run_words(ends, 1, word);
     print_errors(errors);
     print_status(status);
@@ -70,13 +61,9 @@ fn words(word: &[u8]) {
 
 // Plays one script, with its output to `output`.
 fn play_to(path: &[u8], output: i32, most: usize) {
-    let fd = os::open_read(path);
-    if fd < 0 {
-        os::fail(path);
-        return;
-    }
-    text(path);
-    text(b"\n");
+    let fd = files::open(path);
+    say::text(path);
+    say::text(b"\n");
     run(fd, output, most);
     libc::close(fd);
 }
@@ -181,7 +168,7 @@ fn by_bytes() {
 // waits in memory and for one that does not.
 fn failures() {
     play(b".", usize::MAX);
-    text(b"closed\n");
+    say::text(b"closed\n");
     run(-1, STDOUT_FILENO, usize::MAX);
     play(b"m1", 0);
     play_to(b"m1", -1, usize::MAX);
@@ -205,4 +192,5 @@ fn main() {
     by_bytes();
     failures();
     all_words();
+    rebuilt::play();
 }
