@@ -2,7 +2,13 @@
 use crate::asking;
 use crate::reading::Call;
 use crate::say;
-use calls::Value;
+use summerbugle::sb_commit_down;
+use summerbugle::sb_commit_up;
+use summerbugle::sb_link_down;
+use summerbugle::sb_link_up;
+use summerbugle::sb_mark_remove;
+use summerbugle::sb_mark_return;
+use summerbugle::sb_mark_set;
 
 const CLEAR: u32 = 0;
 
@@ -73,11 +79,11 @@ fn ask<'a>(call: Call, links: &'a [u8], numbers: &'a [u8], order: &'a [u16]) {
     let b = call.b;
     let kind = call.kind;
     match kind {
-        CHECK => say::value(0, summerbugle::sb_check(n, links, numbers, order)),
-        NUMBER => say::value(0, summerbugle::sb_number(n, a, links, numbers, order)),
-        NEIGHBOURS => say::value(0, summerbugle::sb_neighbours(n, a, links, numbers, order)),
-        LINKED => say::value(0, summerbugle::sb_linked(n, a, b, links, numbers, order)),
-        FIRST => say::value(0, summerbugle::sb_first(n, a, b, links, numbers, order)),
+        CHECK => say::value(summerbugle::sb_check(n, links, numbers, order)),
+        NUMBER => say::value(summerbugle::sb_number(n, a, links, numbers, order)),
+        NEIGHBOURS => say::value(summerbugle::sb_neighbours(n, a, links, numbers, order)),
+        LINKED => say::value(summerbugle::sb_linked(n, a, b, links, numbers, order)),
+        FIRST => say::value(summerbugle::sb_first(n, a, b, links, numbers, order)),
         LATER_OF => say::later(summerbugle::sb_later_of(n, a, links, numbers, order)),
         _ => {}
     }
@@ -99,30 +105,12 @@ fn list<'a>(
     let kind = call.kind;
     let room = call.room;
     match kind {
-        CORE => say::value(
-            0,
-            summerbugle::sb_core(n, a, b, links, numbers, order, answer),
-        ),
-        BACKBONE => say::value(
-            0,
-            summerbugle::sb_backbone(n, links, numbers, order, answer),
-        ),
-        TREE => say::value(
-            0,
-            asking::ask_within(n, links, numbers, order, room, answer, fields),
-        ),
-        STAIRCASE => say::value(
-            0,
-            summerbugle::sb_staircase(n, links, numbers, order, fields),
-        ),
-        ASK_UP => say::reply(
-            0,
-            summerbugle::sb_ask_up(n, a, b, links, numbers, order, fields),
-        ),
-        ASK_DOWN => say::reply(
-            0,
-            summerbugle::sb_ask_down(n, a, b, links, numbers, order, fields),
-        ),
+        CORE => say::value(summerbugle::sb_core(n, a, b, links, numbers, order, answer)),
+        BACKBONE => say::value(summerbugle::sb_backbone(n, links, numbers, order, answer)),
+        TREE => say::value(asking::ask_within(n, links, numbers, order, room, answer, fields)),
+        STAIRCASE => say::value(summerbugle::sb_staircase(n, links, numbers, order, fields)),
+        ASK_UP => say::reply(summerbugle::sb_ask_up(n, a, b, links, numbers, order, fields)),
+        ASK_DOWN => say::reply(summerbugle::sb_ask_down(n, a, b, links, numbers, order, fields)),
         _ => {}
     }
 }
@@ -133,21 +121,11 @@ fn store(call: Call, links: &[u8], numbers: &[u8], order: &[u16], name: &[u8], b
     let next = call.a as usize * 4294967296 + call.b as usize;
     let kind = call.kind;
     match kind {
-        IMAGE_WRITE => say::value(
-            0,
-            summerbugle::sb_image_write(n, links, numbers, order, buffer),
-        ),
-        SHEET => say::value(0, summerbugle::sb_sheet(n, links, numbers, order, buffer)),
+        IMAGE_WRITE => say::value(summerbugle::sb_image_write(n, links, numbers, order, buffer)),
+        SHEET => say::value(summerbugle::sb_sheet(n, links, numbers, order, buffer)),
         IMAGE_BLOCK => say::block(summerbugle::sb_image_block(buffer, next)),
-        MARK_SET => say::number(summerbugle::sb_mark_set(n, links, numbers, order, name, buffer)),
-        MARK_REMOVE => say::number(summerbugle::sb_mark_remove(
-            n,
-            links,
-            numbers,
-            order,
-            name,
-            buffer,
-        )),
+        MARK_SET => say::number(sb_mark_set(n, links, numbers, order, name, buffer)),
+        MARK_REMOVE => say::number(sb_mark_remove(n, links, numbers, order, name, buffer)),
         _ => {}
     }
 }
@@ -179,31 +157,11 @@ fn link(
     let said = call.said;
     let step = step_of(call.room);
     match kind {
-        LINK_UP => say::reply(
-            said,
-            summerbugle::sb_link_up(n, a, b, links, numbers, order, answer),
-        ),
-        LINK_DOWN => say::reply(
-            said,
-            summerbugle::sb_link_down(n, a, b, links, numbers, order, answer),
-        ),
-        COMMIT_UP => say::reply(
-            0,
-            summerbugle::sb_commit_up(n, a, b, step, links, numbers, order, list),
-        ),
-        COMMIT_DOWN => say::reply(
-            0,
-            summerbugle::sb_commit_down(n, a, b, step, links, numbers, order, list),
-        ),
+        LINK_UP => say::link(said, sb_link_up(n, a, b, links, numbers, order, answer)),
+        LINK_DOWN => say::link(said, sb_link_down(n, a, b, links, numbers, order, answer)),
+        COMMIT_UP => say::reply(sb_commit_up(n, a, b, step, links, numbers, order, list)),
+        COMMIT_DOWN => say::reply(sb_commit_down(n, a, b, step, links, numbers, order, list)),
         _ => {}
-    }
-}
-
-// Clears the tables.
-fn clear(n: u32, links: &mut [u8], numbers: &mut [u8], order: &mut [u16]) -> Value {
-    Value {
-        number: summerbugle::sb_clear(n, links, numbers, order),
-        value: 0,
     }
 }
 
@@ -220,24 +178,11 @@ fn set(
     let n = call.n;
     let kind = call.kind;
     match kind {
-        CLEAR => say::value(call.said, clear(n, links, numbers, order)),
-        LINK_BATCH => say::value(
-            0,
-            summerbugle::sb_link_batch(n, links, numbers, order, list),
-        ),
-        HEAR => say::value(
-            0,
-            summerbugle::sb_hear(n, links, numbers, order, heard, buffer),
-        ),
+        CLEAR => say::cleared(call.said, summerbugle::sb_clear(n, links, numbers, order)),
+        LINK_BATCH => say::value(summerbugle::sb_link_batch(n, links, numbers, order, list)),
+        HEAR => say::value(summerbugle::sb_hear(n, links, numbers, order, heard, buffer)),
         IMAGE_READ => say::number(summerbugle::sb_image_read(n, links, numbers, order, buffer)),
-        MARK_RETURN => say::number(summerbugle::sb_mark_return(
-            n,
-            links,
-            numbers,
-            order,
-            heard,
-            buffer,
-        )),
+        MARK_RETURN => say::number(sb_mark_return(n, links, numbers, order, heard, buffer)),
         _ => {}
     }
 }

@@ -119,8 +119,7 @@ fn refill(kind: u32, fields: &mut Fields, buffer: &mut Buffer) {
 
 // The digest of the tables, as much of each as the file says.
 fn digest_of(
-    sizes: Sizes,
-    seen: usize,
+    call: Call,
     links: &[u8],
     numbers: &[u8],
     order: &[u16],
@@ -129,78 +128,39 @@ fn digest_of(
     heard: &[u8],
     buffer: &[u8],
 ) -> u64 {
+    let sizes = call.sizes;
     let i = tables::fill::least(sizes.links, links.len());
     let j = tables::fill::least(sizes.entries, numbers.len());
     let k = tables::fill::least(sizes.entries, order.len());
     let l = tables::fill::least(sizes.answer, answer.len());
     let f = tables::fill::least(sizes.fields, fields.len());
     let h = tables::fill::least(sizes.heard, heard.len());
-    let m = tables::fill::least(seen, buffer.len());
+    let m = tables::fill::least(call.seen, buffer.len());
     let site = digest::site(&links[..i], &numbers[..j], &order[..k]);
     let listed = digest::entries(digest::entries(site, &answer[..l]), &fields[..f]);
     digest::bytes(digest::bytes(listed, &heard[..h]), &buffer[..m])
 }
 
-// Makes the call, or other hands change a table, and ends the line. Comes back with 1 where the digest shows that a table was changed by other hands.
+// Makes the call, or other hands change a table, and ends the line. Comes back with 1 where the digest shows what other hands did.
 fn line(
-    sizes: Sizes,
     call: Call,
     links: &mut Links,
     numbers: &mut Numbers,
     order: &mut Order,
+    answer: &mut Answer,
     fields: &mut Fields,
     heard: &Links,
     buffer: &mut Buffer,
 ) -> u32 {
-    let seen = call.seen;
-    let mut answer = [KEPT; asking::PLACES];
     if call.kind < SPOIL_LINKS || COPY_PLACE < call.kind {
-        lend(
-            call,
-            links,
-            numbers,
-            order,
-            &mut answer,
-            fields,
-            heard,
-            buffer,
-        );
-        say::end_line(digest_of(
-            sizes,
-            seen,
-            links,
-            numbers,
-            order,
-            &answer,
-            fields,
-            heard,
-            buffer,
-        ));
+        lend(call, links, numbers, order, answer, fields, heard, buffer);
+        let h = digest_of(call, links, numbers, order, answer, fields, heard, buffer);
+        say::end_line(h);
         return 0;
     }
-    let h = digest_of(
-        sizes,
-        seen,
-        links,
-        numbers,
-        order,
-        &answer,
-        fields,
-        heard,
-        buffer,
-    );
-    spoil(call, links, numbers, order, &mut answer, fields, buffer);
-    let after = digest_of(
-        sizes,
-        seen,
-        links,
-        numbers,
-        order,
-        &answer,
-        fields,
-        heard,
-        buffer,
-    );
+    let h = digest_of(call, links, numbers, order, answer, fields, heard, buffer);
+    spoil(call, links, numbers, order, answer, fields, buffer);
+    let after = digest_of(call, links, numbers, order, answer, fields, heard, buffer);
     say::end_line(after);
     (h != after) as u32
 }
@@ -216,12 +176,22 @@ fn one(
     heard: &mut Links,
     buffer: &mut Buffer,
 ) -> u32 {
+    let mut answer = [KEPT; asking::PLACES];
     say::next_name(fd);
-    let call = reading::next_call(fd);
+    let call = reading::next_call(fd, sizes);
     words::entries(fd, call.entries, fields);
     reading::flips(fd, call.changes, heard);
     refill(call.kind, fields, buffer);
-    line(sizes, call, links, numbers, order, fields, heard, buffer)
+    line(
+        call,
+        links,
+        numbers,
+        order,
+        &mut answer,
+        fields,
+        heard,
+        buffer,
+    )
 }
 
 // All calls of the file, after their count. Comes back with how many changes of other hands the digest showed.

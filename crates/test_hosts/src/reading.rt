@@ -43,9 +43,10 @@ pub struct Call {
     pub seen: usize,
     pub entries: usize,
     pub changes: usize,
+    pub sizes: Sizes,
 }
 
-pub fn next_call(fd: i32) -> Call {
+pub fn next_call(fd: i32, sizes: Sizes) -> Call {
     Call {
         kind: word(fd),
         said: word(fd),
@@ -62,6 +63,7 @@ pub fn next_call(fd: i32) -> Call {
         seen: word(fd) as usize,
         entries: word(fd) as usize,
         changes: word(fd) as usize,
+        sizes,
     }
 }
 

@@ -1,4 +1,4 @@
-// What is printed of a call's answer: all of it, or where `said` is 1 its number alone.
+// What is printed of a call's answer. Where `said` is 1, that is its number alone.
 use calls::Block;
 use calls::Later;
 use calls::Reply;
@@ -10,11 +10,17 @@ pub fn number(x: u32) {
     say::field(x as u64);
 }
 
-// The answer of a question; of a clearing the value is 0.
-pub fn value(said: u32, r: Value) {
+// The answer of a question.
+pub fn value(r: Value) {
     number(r.number);
+    say::field(r.value as u64);
+}
+
+// The answer of a clearing, whose value is 0.
+pub fn cleared(said: u32, x: u32) {
+    number(x);
     if said != 1 {
-        say::field(r.value as u64);
+        say::field(0);
     }
 }
 
@@ -42,13 +48,20 @@ fn step(x: i8) {
     say::text(b" no step");
 }
 
-// The answer of a link call.
-pub fn reply(said: u32, r: Reply) {
+// The answer of a commit or a proposal.
+pub fn reply(r: Reply) {
     number(r.number);
-    if said != 1 {
-        step(r.step);
-        say::field(r.count as u64);
+    step(r.step);
+    say::field(r.count as u64);
+}
+
+// The answer of a link call.
+pub fn link(said: u32, r: Reply) {
+    if said == 1 {
+        number(r.number);
+        return;
     }
+    reply(r);
 }
 
 // The answer of the block reader.
