@@ -2,7 +2,7 @@
 // for each: its name, the refusal number and the value (1 sound, 0 not). Changes that do no damage come last: their verdict must
 // differ from the ones above, which so turn on the damage alone. The expected lines are worked out by oracle/damaged.py.
 ghost use Prim.Native.Nat.{_<_};
-use libc::STDOUT_FILENO;
+use test_parts::say;
 
 // The sound tables of the site.
 const NUMBERS: [u8; 5] = [2, 2, 2, 1, 0];
@@ -18,21 +18,17 @@ fn put_site(links: &mut [u8]) {
 }
 
 // Checks the tables and prints the line.
-fn say(name: &[u8], n: u32, links: &[u8], numbers: &[u8], order: &[u16]) {
+fn line(name: &[u8], n: u32, links: &[u8], numbers: &[u8], order: &[u16]) {
     let verdict = soundness::check(n, links, numbers, order);
-    io::write_all(STDOUT_FILENO, name);
-    io::write_all(STDOUT_FILENO, b" ");
-    io::print_decimal(STDOUT_FILENO, verdict.number as u64);
-    io::write_all(STDOUT_FILENO, b" ");
-    io::print_decimal(STDOUT_FILENO, verdict.value as u64);
-    io::write_all(STDOUT_FILENO, b"\n");
+    say::number(name, verdict.number as u64);
+    say::end_line(verdict.value as u64);
 }
 
 // The site of n radios with these numbers and this order.
 fn say_tables(name: &[u8], n: u32, numbers: &[u8], order: &[u16]) {
     let mut links = [0u8; 320];
     put_site(&mut links);
-    say(name, n, &links, numbers, order);
+    line(name, n, &links, numbers, order);
 }
 
 // The site with its own tables, called n radios.
@@ -56,7 +52,7 @@ fn say_bit(name: &[u8], first: bool, last: bool, a: u32, b: u32) {
     put_site(&mut links);
     rows::put_bit(&mut links, first, a, b);
     rows::put_bit(&mut links, last, a, b);
-    say(name, 5, &links, &NUMBERS, &ORDER);
+    line(name, 5, &links, &NUMBERS, &ORDER);
 }
 
 // Links radio k to each of the radios below it.
@@ -72,7 +68,7 @@ fn put_star(links: &mut [u8], k: u32) {
 fn say_star(name: &[u8], n: u32, k: u32, links: &mut [u8], numbers: &[u8], order: &mut [u16]) {
     put_star(links, k);
     tables::fill::index16(order);
-    say(name, n, links, numbers, order);
+    line(name, n, links, numbers, order);
 }
 
 // The last of k + 1 radios linked to all others, and to itself where `own` is set: its row has k or k + 1 bits.

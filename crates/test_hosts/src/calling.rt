@@ -187,7 +187,23 @@ fn set(
     }
 }
 
-// Makes the call on the lent parts: of these functions one has its kind. The name of a mark stands in the heard table.
+// A call that only reads the site's tables. The name of a mark stands in the heard table.
+fn look<'a>(
+    call: Call,
+    links: &'a [u8],
+    numbers: &'a [u8],
+    order: &'a [u16],
+    answer: &mut [u16],
+    fields: &mut [u16],
+    heard: &[u8],
+    buffer: &mut [u8],
+) {
+    ask(call, links, numbers, order);
+    list(call, links, numbers, order, answer, fields);
+    store(call, links, numbers, order, heard, buffer);
+}
+
+// Makes the call on the lent parts: of these functions one has its kind.
 pub fn put(
     call: Call,
     links: &mut [u8],
@@ -198,9 +214,7 @@ pub fn put(
     heard: &[u8],
     buffer: &mut [u8],
 ) {
-    ask(call, links, numbers, order);
-    list(call, links, numbers, order, answer, fields);
-    store(call, links, numbers, order, heard, buffer);
+    look(call, links, numbers, order, answer, fields, heard, buffer);
     link(call, links, numbers, order, answer, fields);
     set(call, links, numbers, order, fields, heard, buffer);
 }

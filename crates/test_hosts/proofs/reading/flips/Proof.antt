@@ -12,11 +12,8 @@ Inv-loop fd count heard₀ i₀ heard i = length heard ≡ length heard₀
 abbrev μ-loop : tie.MeasureT-loop
 μ-loop fd count heard₀ i₀ heard i = count - i
 
-loop-again : tie.Need-loop-again Inv-loop μ-loop
-loop-again c = search needs
-
 pub flips-spec : {M : Type 1} → statement M
 flips-spec =
     tie.close (
     tie.spec Inv-loop μ-loop (λ c. refl) (λ c κs. search needs) (λ c. search needs) (λ c κs. search needs) (λ c. search needs)
-    (λ c. search needs) loop-again (λ c. c .before .loop .inv) (λ c. search needs))
+    (λ c. search needs) (λ c. search needs) (λ c. search needs) (λ c. search needs))
