@@ -4,9 +4,10 @@ oracle/answers.py writes and checks what is stored.
 Links, numbers and order come from the site of oracle/peeled.py, call by call; shell tree and backbone from that of
 oracle/trees.py, the staircase tree from oracle/kruskal.py, all three from the links in the end.
 
-data/hubs has words of 16 bits, lower byte first: the count of cases; of each its name, of 16 bytes; n; then of each hub the count of its calls and the calls, each 1 or 0 for up or
-down, and two radios. Of `one-more` the second hub has a call more. Of `refused` it has the same calls and refuses one, whose
-link is then up there. Everywhere else no call is refused, and links, numbers, tree, backbone and staircase tree are equal.
+data/hubs has words of 16 bits, lower byte first: the count of cases; of each its name, of 16 bytes; n; then of each hub the count of its
+calls and the calls, each 1 or 0 for up or down, and two radios. Of `one-more` the second hub has a call more. Of `refused` it has the same
+calls and refuses one, whose link is then up there. Everywhere else no call is refused, and links, numbers, tree, backbone and staircase
+tree are equal.
 """
 
 import random

@@ -3,7 +3,8 @@
   python3 oracle/scripts.py           write crates/test_scripts/data and crates/test_scripts/stdout
   python3 oracle/scripts.py --check   say whether the stored files are what would be written
 
-What the program prints in the end, of scripts that it writes itself, is oracle/rebuilt.py's. Lines are read by a pattern; a site is the one of oracle/peeled.py.
+What the program prints in the end, of scripts that it writes itself, is oracle/rebuilt.py's. Lines are read by a pattern; a site is the
+one of oracle/peeled.py.
 """
 
 import re

@@ -5,12 +5,12 @@ A connected core is a part of the radios with number k or more. The tree is made
 sets: one node for each different connected core, at the largest k. Small sites are compared with
 `reference`, which looks at all sets of radios. Staircase trees are oracle/kruskal.py's.
 
-data/trees has words of 16 bits, lower byte first: the count of sites; of each its name, of 16 bytes; n; the count of links and the links; the count of
-calls and the calls on the site; the same for calls after all numbers are set to 255. A call is
-its kind (1 tree, 2 backbone, 3 core, 4 staircase tree), n, the length of the answer table, for a tree the places for
-nodes, for a core the radio and the level; then what is owed: refusal number, value, for a tree the
-lists of names, levels and parents, and the list in the answer table; a list is its count and its
-entries. Of the last site, `canary`, each call owes one wrong value.
+data/trees has words of 16 bits, lower byte first: the count of sites; of each its name, of 16
+bytes; n; the count of links and the links; the count of calls and the calls on the site; the
+same for calls after all numbers are set to 255. A call is its kind (1 tree, 2 backbone, 3 core,
+4 staircase tree), n, the length of the answer table, for a tree the places for nodes, for a core
+the radio and the level; then what is owed: refusal number, value, for a tree the lists of names,
+levels and parents, and the list in the answer table; a list is its count and its entries. Of the last site, `canary`, each call owes one wrong value.
 """
 
 import random

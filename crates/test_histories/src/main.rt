@@ -12,15 +12,20 @@ mod trouble;
 use picking::Plan;
 use test_parts::say;
 
+fn end_line() {
+    say::text(b"\n");
+}
+
 // Prints a line: a name, a number, then the counts.
 fn line(name: &[u8], n: u32, counts: &play::Counts) {
-    say::number(name, n as u64);
+    say::text(name);
+    say::field(n as u64);
     let mut i: usize = 0;
     while i < play::KINDS {
         say::field(counts[i]);
         i += 1;
     }
-    say::text(b"\n");
+    end_line();
 }
 
 // Adds a history's counts to the sums of all.
