@@ -181,7 +181,7 @@ def number(word):
 
 def help_page():
     """The page stands once, in the program's text."""
-    return "".join(part.split('",\n')[0] for part in HELP.split("// Prints the page")[0].split('b"')[1:])
+    return HELP.split('b"')[1].split('";\n')[0]
 
 
 def answer(data, verb, words):
@@ -377,6 +377,11 @@ def read_texts(data):
     yield "closed\n" + wrong(UNREAD["closed"])
 
 
+def silent_texts():
+    """Errors that cannot be written: they go nowhere else."""
+    yield "radios-0 check  \nstatus 1\nscript-7 unknown  \nstatus 1\n"
+
+
 def write_texts():
     for name, verb in (("script-7", "check"), ("image-512", "image"), ("script-7", "help"), ("script-7", "--version")):
         yield f"{name} {verb}  \n" + wrong(UNWRITTEN)
@@ -408,7 +413,7 @@ def text(data):
     for name, image in (("script-7", "image-7"), ("image-512", "image-512")):
         assert SAYS["image"](found(data[name])).encode("latin-1") == data[image]
         out.append(f"{name} image\nstatus 0\nsame 1\n" + run(data[image], "check"))
-    return "".join([*out, *long_texts(), *read_texts(data), *write_texts(), *full_texts(data), *last_texts()]).encode()
+    return "".join([*out, *long_texts(), *read_texts(data), *write_texts(), *silent_texts(), *full_texts(data), *last_texts()]).encode()
 
 
 def stored_files():

@@ -319,8 +319,7 @@ pub(crate) fn print_bad(ends: Ends) -> u32
 {
     let mut out = [0u8; 32];
     let at = printing::put_bad_line(&mut out, 0, 1);
-    if !flush(ends.output, &out, at) {
-        return wrong(ends, b"the output cannot be written");
-    }
+    let count = reads::within(at, &out);
+    reads::faults::print(ends, &PROGRAM, &out[..count]);
     1
 }

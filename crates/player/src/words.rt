@@ -61,23 +61,13 @@ pub fn tell(told: i32, status: u32) {
     }
 }
 
-// Prints a text: the status.
-fn print(ends: Ends, text: &[u8]) -> u32
-    ensures { λ r. ⌜ r ≤ 1 ⌝ }
-{
-    if io::write_all(ends.output, text) {
-        return 0;
-    }
-    reads::faults::say(ends.errors, b"replay", b"the output cannot be written");
-    1
-}
-
 // Prints the page of `--help`: the status.
 fn help(ends: Ends) -> u32
     ensures { λ r. ⌜ r ≤ 1 ⌝ }
 {
-    print(
+    reads::faults::print(
         ends,
+        b"replay",
         b"replay <FILE: plays a script of link calls on a cleared site
 
 Line 1 is `radios N`, N from 1 to 512; every other line is `up A B` or `down A B`. Each call prints its refusal number, its step and the
@@ -101,7 +91,7 @@ pub fn run_words(ends: Ends, count: usize, word: &[u8]) -> u32
         return help(ends);
     }
     if tables::fill::same8(word, b"--version") {
-        return print(ends, &reads::VERSION);
+        return reads::faults::print(ends, b"replay", &reads::VERSION);
     }
     reads::faults::say(
         ends.errors,

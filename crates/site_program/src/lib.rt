@@ -4,6 +4,7 @@ ghost use mathlib.Core.Path.{_≡_};
 ghost use Prim.Native.Nat.{_≤_};
 ghost use lib.ListN.{length};
 ghost use Rattle.site_parts.specs.Inputs.{wrong};
+ghost use Rattle.site_program.specs.Given.{is-name};
 ghost use Rattle.site_program.specs.Room.{text-room, Held};
 
 mod arguments;
@@ -14,6 +15,7 @@ mod source;
 use arguments::Numbers;
 use mesh::Site;
 use reads::Ends;
+use reads::faults;
 use site_parts::refusals;
 use verbs::Text;
 use verbs::Verb;
@@ -58,10 +60,7 @@ fn print<'a>(
         return refusals::say_call(ends.errors, text.number);
     }
     let length = reads::within(text.length, &out);
-    if io::write_all(ends.output, &out[..length]) {
-        return 0;
-    }
-    refusals::say(ends.errors, b"the output cannot be written")
+    faults::print(ends, b"site", &out[..length])
 }
 
 // Reads the site into the tables and prints: the status.
@@ -156,11 +155,17 @@ fn run_input(ends: Ends, most: usize, shown: bool, verb: Verb, given: Numbers) -
 }
 
 // Whether the word may be a file's name: it does not begin with a digit.
-fn is_name(word: &[u8]) -> bool {
+fn is_name(word: &[u8]) -> bool
+    ensures { λ r. ⌜ r ≡ is-name (now (word .entry)) ⌝ }
+{
     if word.len() == 0 {
         return true;
     }
-    word[0] < b'0' || b'9' < word[0]
+    let byte = word[0];
+    if byte < b'0' {
+        return true;
+    }
+    b'9' < byte
 }
 
 // A verb with words that it does not take.
@@ -174,16 +179,6 @@ fn say_words(errors: i32, verb: Verb, word: &[u8], v: &[u8]) -> u32
         }
     }
     refusals::say_usage(errors, word, takes)
-}
-
-// Prints what `--version` prints: the status.
-fn print_version(ends: Ends) -> u32
-    ensures { λ r. ⌜ r ≤ 1 ⌝ }
-{
-    if io::write_all(ends.output, &reads::VERSION) {
-        return 0;
-    }
-    refusals::say(ends.errors, b"the output cannot be written")
 }
 
 // Runs a verb with the words after it, of which there are `count`: the status, 0 or 1. A read asks for at most `most` bytes;
@@ -202,7 +197,7 @@ fn run_verb(
     let verb = verbs::verb_of(word);
     match verb {
         Verb::Unknown => return refusals::say(ends.errors, b"unknown verb; site help lists them"),
-        Verb::Help => return help::print(ends),
+        Verb::Help => return faults::print(ends, b"site", &help::PAGE),
         _ => {}
     }
     let given = arguments::given(verbs::takes(verb), count, v, k);
@@ -225,10 +220,10 @@ pub fn run(
     ensures { λ r. ⌜ r ≤ 1 ⌝ }
 {
     if tables::fill::same8(word, b"--help") {
-        return help::print(ends);
+        return faults::print(ends, b"site", &help::PAGE);
     }
     if tables::fill::same8(word, b"--version") {
-        return print_version(ends);
+        return faults::print(ends, b"site", &reads::VERSION);
     }
     run_verb(ends, most, shown, word, count, v, k)
 }
