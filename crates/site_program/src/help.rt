@@ -1,6 +1,7 @@
 // The page that `site help` prints: the form, the verbs, the statuses, and what the program leaves to others.
 
-pub(crate) const PAGE: [u8; 1315] = *b"site VERB [NUMBERS] <FILE: what an image or a script says of its site
+pub(crate) const PAGE: [u8; 1315] =
+    *b"site VERB [NUMBERS] <FILE: what an image or a script says of its site
 
 FILE is an image or a script. One that begins with the word radios is a script, any other is an image.
 

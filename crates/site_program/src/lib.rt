@@ -3,6 +3,7 @@
 ghost use mathlib.Core.Path.{_≡_};
 ghost use Prim.Native.Nat.{_≤_};
 ghost use lib.ListN.{length};
+ghost use Rattle.mesh.specs.Limits.{max-radios};
 ghost use Rattle.site_parts.specs.Inputs.{wrong};
 ghost use Rattle.site_program.specs.Given.{is-name};
 ghost use Rattle.site_program.specs.Room.{text-room, Held};
@@ -10,6 +11,7 @@ ghost use Rattle.site_program.specs.Room.{text-room, Held};
 mod arguments;
 mod help;
 mod images;
+mod sizes;
 mod source;
 
 use arguments::Numbers;
@@ -19,12 +21,6 @@ use reads::faults;
 use site_parts::refusals;
 use verbs::Text;
 use verbs::Verb;
-
-// The bytes of a site's largest links table.
-const LINKS_BYTES: usize = Site::ROW_BYTES * Site::RADIOS as usize;
-
-// The bytes of the longest text, a script of 10,240 links.
-const TEXT_BYTES: usize = 112651;
 
 // The text of a verb, in a buffer that holds every text: whatever the tables are, no verb is refused by 9, 12 or 13.
 fn text_of<'a>(
@@ -54,7 +50,7 @@ fn print<'a>(
 ) -> u32
     ensures { λ r. ⌜ r ≤ 1 ⌝ }
 {
-    let mut out = [0u8; TEXT_BYTES];
+    let mut out = [0u8; sizes::TEXT_BYTES];
     let text = text_of(verb, given, n, links, numbers, order, &mut out);
     if text.number != 0 {
         return refusals::say_call(ends.errors, text.number);
@@ -97,11 +93,12 @@ fn run_site(
     front: &[u8],
     state: u32,
 ) -> u32
+    requires { ⌜ n ≤ max-radios ⌝ }
     ensures { λ r. ⌜ r ≤ 1 ⌝ }
 {
-    let many = tables::fill::least(n as usize, Site::RADIOS as usize);
+    let many = n as usize;
     let bytes = Site::ROW_BYTES * many;
-    let mut links = [0u8; LINKS_BYTES];
+    let mut links = [0u8; sizes::TABLE_BYTES];
     let mut numbers = [0u8; Site::RADIOS as usize];
     let mut order = [0u16; Site::RADIOS as usize];
     run_on(
@@ -148,7 +145,7 @@ fn run_front(
 fn run_input(ends: Ends, most: usize, shown: bool, verb: Verb, given: Numbers) -> u32
     ensures { λ r. ⌜ r ≤ 1 ⌝ }
 {
-    let mut front = [0u8; source::FRONT_BYTES];
+    let mut front = [0u8; sizes::FRONT_BYTES];
     let got = reads::fill(ends.input, most, false, &mut front);
     let count = got.count;
     run_front(ends, most, shown, verb, given, &front[..count], got.state)

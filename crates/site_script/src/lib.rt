@@ -1,5 +1,4 @@
-// A script, played on a site's tables, line by line, as its bytes come. A line of another form or a refused one ends the run. No public
-// function has a `requires`.
+// A script, played on a site's tables, line by line, as its bytes come. A line of another form or a refused one ends the run.
 ghost use mathlib.Core.Path.{_≡_};
 ghost use lib.ListN.{length};
 ghost use Rattle.io.specs.Counts.{Counts};

@@ -14,7 +14,7 @@ returns-2 c =
 
 returns-3 : tie.Need-returns-3
 returns-3 c =
-    let at-if2 = c .before .before .before .before .before in
+    let at-if2 = c .before .before .before .before .before .before in
     (c .print .ensures, λ e. absurd (at-if2 .before .before .before .if1 .left e))
 
 returns-4 : tie.Need-returns-4
@@ -26,4 +26,4 @@ pub run-words-spec : {M : Type 1} → statement M
 run-words-spec =
     tie.close (
     tie.spec (λ c κs. search needs) returns (λ c. search needs) (λ c κs. search needs) (λ c κs. search needs) returns-2 (λ c. search needs)
-    (λ c κs. search needs) (λ c. search needs) (λ c κs. search needs) returns-3 (λ c. search needs) (λ c. search needs) (λ c κs. search needs) returns-4)
+    (λ c κs. search needs) (λ c. search needs) (λ c. search needs) (λ c κs. search needs) returns-3 (λ c. search needs) (λ c. search needs) (λ c κs. search needs) returns-4)
