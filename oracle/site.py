@@ -279,6 +279,7 @@ def files():
         "script-7": script(7, SEVEN), "image-7": image, "image-1": images.image_of(1, [], [0]),
         "empty": [], "cut": image[:-12], "cut-at-a-block": image[:-512], "two-images": image + image,
         "damaged-first-byte": changed(image, 0, 9), "damaged-check": changed(image, 508, image[508] ^ 1),
+        "damaged-check-high": changed(image, 511, image[511] ^ 128), "long-first-line": b"radios 3" + b" " * 30 + b"\n",
         "damaged-last-block": changed(image, len(image) - 400, image[-400] ^ 16),
         "says-0-radios": with_checks(changed(image, 4, 0)), "says-600-radios": with_checks(changed(changed(image, 4, 88), 5, 2)),
         "says-8-radios": with_checks(changed(image, 4, 8)),
@@ -334,7 +335,8 @@ def cases():
                        ("radios-alone", "check"), ("radios-0", "check"), ("radios-513", "check"), ("first-line-only", "sheet"),
                        ("no-line-feed", "check"), ("second-radios", "check"), ("empty-line", "check"), ("very-long-line", "check"),
                        ("capital", "check"), ("form-300", "check"), ("damaged-5-and-9", "check"), ("refused-4-longest", "check"),
-                       ("carriage-return", "check"), ("carriage-return-first", "check"), ("no-line-feed-first", "check")]:
+                       ("carriage-return", "check"), ("carriage-return-first", "check"), ("no-line-feed-first", "check"),
+                       ("damaged-check-high", "check"), ("long-first-line", "check")]:
         yield name, verb, [], ("", "")
 
 
