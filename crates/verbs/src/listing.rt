@@ -61,6 +61,13 @@ pub(crate) fn core<'a>(
     put_list(b"core", reply, &answer, out)
 }
 
+// A radio as it is printed.
+pub(crate) fn wide(x: u16) -> u64
+    ensures { λ r. ⌜ r ≡ x ⌝ }
+{
+    x as u64
+}
+
 // The line of a link.
 fn put_link(out: &mut [u8], at: usize, a: u64, b: u64) -> usize
     ensures { λ r. ⌜ Puts (buffer-at (now (out .entry)) at) (link-line a b) (buffer-at (now (out .exit)) r) ⌝ }
@@ -79,7 +86,7 @@ fn put_links(out: &mut [u8], table: &[u16]) -> usize
     let mut place: usize = 0;
     let mut i: usize = 0;
     while i < count {
-        place = put_link(out, place, table[2 * i] as u64, table[2 * i + 1] as u64);
+        place = put_link(out, place, wide(table[2 * i]), wide(table[2 * i + 1]));
         i += 1;
     }
     place

@@ -8,6 +8,7 @@ ghost use Rattle.text.specs.Print.{buffer-at, Puts};
 ghost use Rattle.verbs.specs.Texts.{radios-line, node-lines, Text-by};
 ghost use Rattle.verbs.specs.Said.{Tree-said};
 use crate::Text;
+use crate::listing::wide;
 use calls::Value;
 use mesh::Site;
 
@@ -38,9 +39,9 @@ fn put_nodes<'a>(out: &mut [u8], names: &'a [u16], levels: &'a [u16], parents: &
         place = put_node(
             out,
             place,
-            names[i] as u64,
-            levels[i] as u64,
-            parents[i] as u64,
+            wide(names[i]),
+            wide(levels[i]),
+            wide(parents[i]),
         );
         i += 1;
     }

@@ -1,9 +1,8 @@
 -- `put_row` meets its contract: the lines that are left take the buffer where all of them do, and fit (`Ends`). The measure is how many
 -- are left.
-use mathlib.Core.Path.{refl}
 use Prim.Native.Nat.{_-_}
 use native.Mathlib.Omega.{arith}
-use lib.ListN.{length, getD}
+use lib.ListN.{length}
 use borrow.Author.Needs.{needs}
 use Rattle.text.specs.Print.{buffer-at}
 use Rattle.text.proofs.PrintLaws.{length-putting}
@@ -19,23 +18,22 @@ abbrev μ-loop : tie.MeasureT-loop
 
 put-up-requires : tie.Need-put-up-requires Inv-loop μ-loop
 put-up-requires c κs =
-    let at-loop = c .before .before .before in
+    let at-loop = c .before .before .before .before in
     let start = at-loop .before .before .before in
-    let list = start .args .list .now in
     let entry = start .pre .0 .1 (at-loop .loop .i) (omega arith) in
-    let room = ends-room (at-loop .loop .inv) (getD list (at-loop .loop .i) 0) (omega arith) refl in (
+    let room = ends-room (at-loop .loop .inv) (c .wide .result) (omega arith) (c .wide .ensures) in (
       omega (arith, start .pre .0 .0),
-      omega (arith, entry),
+      omega (arith, c .wide .ensures, entry),
       omega (arith, room, start .pre .1, length-putting (at-loop .loop .inv .is .is)),
     )
 
 loop-again : tie.Need-loop-again Inv-loop μ-loop
 loop-again c =
     let put = c .before .before in
-    let at-loop = put .before .before .before .before in
-    let start = at-loop .before .before .before in
-    let entry = getD (start .args .list .now) (at-loop .loop .i) 0 in
-    ends-next (at-loop .loop .inv) entry (omega arith) refl (omega (arith, start .pre .1)) (put .put-up .ensures)
+    let at-loop = put .before .before .before .before .before in
+    let entry = put .before .wide in
+    let room = at-loop .before .before .before .pre .1 in
+    ends-next (at-loop .loop .inv) (entry .result) (omega arith) (entry .ensures) (omega (arith, room)) (put .put-up .ensures)
 
 returns : tie.Need-returns Inv-loop μ-loop
 returns c = ends-last (c .before .loop .inv) (omega arith)
@@ -43,5 +41,5 @@ returns c = ends-last (c .before .loop .inv) (omega arith)
 pub put-row-spec : {M : Type 1} → statement M
 put-row-spec =
     tie.close (
-    tie.spec Inv-loop μ-loop (λ c. ends-none _ _) (λ c. omega arith) (λ c. search needs) put-up-requires (λ c. omega arith) (λ c. omega arith)
+    tie.spec Inv-loop μ-loop (λ c. ends-none _ _) (λ c. search needs) (λ c. omega arith) (λ c κs. tt) put-up-requires (λ c. omega arith) (λ c. omega arith)
     loop-again (λ c. length-putting (c .before .loop .inv .is .is)) returns)

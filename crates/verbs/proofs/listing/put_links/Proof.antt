@@ -1,6 +1,5 @@
 -- `listing::put_links` meets its contract: the lines that are left take the buffer where all lines take the lent one. The measure is how
 -- many are left.
-use mathlib.Core.Path.{refl}
 use Prim.Native.Nat.{_≤_, _+_, _*_, _-_, _/_}
 use native.Mathlib.Omega.{arith}
 use lib.ListN.{length, drop}
@@ -22,11 +21,13 @@ abbrev μ-loop : tie.MeasureT-loop
 loop-again : tie.Need-loop-again Inv-loop μ-loop
 loop-again c =
     let put = c .before .before in
-    let at-loop = put .before .before .before .before in
+    let second = put .before in
+    let first = second .before .before in
+    let at-loop = first .before .before .before .before in
     let table = at-loop .before .before .before .args .table .now in
     let i = at-loop .loop .i in (
       omega arith,
-      putting-piece _ _ (pair-next table i _ _ (omega arith) refl refl) (at-loop .loop .inv .1)
+      putting-piece _ _ (pair-next table i _ _ (omega arith) (first .wide .ensures) (second .wide2 .ensures)) (at-loop .loop .inv .1)
           (put .put-link .ensures),
     )
 

@@ -1,6 +1,5 @@
 -- `trees::put_nodes` meets its contract: the lines that are left take the buffer where all lines take the lent one. The measure is how
 -- many are left.
-use mathlib.Core.Path.{refl}
 use Prim.Native.Nat.{_≤_, _+_, _-_}
 use native.Mathlib.Omega.{arith}
 use lib.ListN.{length, drop}
@@ -23,13 +22,16 @@ abbrev μ-loop : tie.MeasureT-loop
 loop-again : tie.Need-loop-again Inv-loop μ-loop
 loop-again c =
     let put = c .before .before in
-    let at-loop = put .before .before .before .before in
+    let third = put .before in
+    let second = third .before .before in
+    let first = second .before .before in
+    let at-loop = first .before .before .before .before in
     let start = at-loop .before .before .before .before .before in
     let call = start .args in
     let i = at-loop .loop .i in (
       omega arith,
       putting-piece _ _ (node-next (call .names .now) (call .levels .now) (call .parents .now) i _ _ _ (omega arith) (omega (arith, start .pre))
-          (omega (arith, start .pre)) refl refl refl) (at-loop .loop .inv .1) (put .put-node .ensures),
+          (omega (arith, start .pre)) (first .wide .ensures) (second .wide2 .ensures) (third .wide3 .ensures)) (at-loop .loop .inv .1) (put .put-node .ensures),
     )
 
 returns : tie.Need-returns Inv-loop μ-loop
