@@ -181,7 +181,7 @@ def number(word):
 
 def help_page():
     """The page stands once, in the program's text."""
-    return "".join(part.split('",\n')[0] for part in HELP.split("// Prints the page")[0].split('b"')[1:])
+    return HELP.split('b"')[1].split('";\n')[0]
 
 
 def answer(data, verb, words):
@@ -279,6 +279,7 @@ def files():
         "script-7": script(7, SEVEN), "image-7": image, "image-1": images.image_of(1, [], [0]),
         "empty": [], "cut": image[:-12], "cut-at-a-block": image[:-512], "two-images": image + image,
         "damaged-first-byte": changed(image, 0, 9), "damaged-check": changed(image, 508, image[508] ^ 1),
+        "damaged-check-high": changed(image, 511, image[511] ^ 128), "long-first-line": b"radios 3" + b" " * 30 + b"\n",
         "damaged-last-block": changed(image, len(image) - 400, image[-400] ^ 16),
         "says-0-radios": with_checks(changed(image, 4, 0)), "says-600-radios": with_checks(changed(changed(image, 4, 88), 5, 2)),
         "says-8-radios": with_checks(changed(image, 4, 8)),
@@ -334,7 +335,8 @@ def cases():
                        ("radios-alone", "check"), ("radios-0", "check"), ("radios-513", "check"), ("first-line-only", "sheet"),
                        ("no-line-feed", "check"), ("second-radios", "check"), ("empty-line", "check"), ("very-long-line", "check"),
                        ("capital", "check"), ("form-300", "check"), ("damaged-5-and-9", "check"), ("refused-4-longest", "check"),
-                       ("carriage-return", "check"), ("carriage-return-first", "check"), ("no-line-feed-first", "check")]:
+                       ("carriage-return", "check"), ("carriage-return-first", "check"), ("no-line-feed-first", "check"),
+                       ("damaged-check-high", "check"), ("long-first-line", "check")]:
         yield name, verb, [], ("", "")
 
 
@@ -377,6 +379,11 @@ def read_texts(data):
     yield "closed\n" + wrong(UNREAD["closed"])
 
 
+def silent_texts():
+    """Errors that cannot be written: they go nowhere else."""
+    yield "radios-0 check  \nstatus 1\nscript-7 unknown  \nstatus 1\n"
+
+
 def write_texts():
     for name, verb in (("script-7", "check"), ("image-512", "image"), ("script-7", "help"), ("script-7", "--version")):
         yield f"{name} {verb}  \n" + wrong(UNWRITTEN)
@@ -408,7 +415,7 @@ def text(data):
     for name, image in (("script-7", "image-7"), ("image-512", "image-512")):
         assert SAYS["image"](found(data[name])).encode("latin-1") == data[image]
         out.append(f"{name} image\nstatus 0\nsame 1\n" + run(data[image], "check"))
-    return "".join([*out, *long_texts(), *read_texts(data), *write_texts(), *full_texts(data), *last_texts()]).encode()
+    return "".join([*out, *long_texts(), *read_texts(data), *write_texts(), *silent_texts(), *full_texts(data), *last_texts()]).encode()
 
 
 def stored_files():

@@ -1,6 +1,6 @@
 """A page to look at: writes one HTML file that shows a site, or a script's mesh step by step.
 
-    bindings/python/build && python3 page/make.py <examples/site.txt >page.html
+    bindings/python/build && bin/page <examples/site.txt >page.html
 
 The input is a script of the replay program, which is played, or an image. Everything shown is the engine's own output: answers, numbers,
 backbone, shell tree, connected cores, staircase tree. The page only draws it. A page has at most 5,000 steps: of a longer script several
@@ -59,7 +59,7 @@ def write(page):
 def main():
     try:
         if len(sys.argv) > 1:
-            raise Wrong("the input is standard input: python3 page/make.py <FILE >page.html")
+            raise Wrong("the input is standard input: bin/page <FILE >page.html")
         write(page_of(read()))
     except BadLine as bad:
         said("script, %s" % bad)

@@ -326,6 +326,8 @@ def try_files(hand):
         refused(hand, name, number)
     hand.drop("bad.txt", b"radios 3\nup 0 1\nup 0  2\n")
     same("bad line", hand.said(), "open bad.txt no line of the language stands in line 3 of the script")
+    hand.drop("none.txt", b"radios 0\n")
+    same("bad first line", hand.said(), "open none.txt no line of the language stands in line 1 of the script")
     hand.drop("cut.txt", b"radios 3\nup 0 1")
     same("no line feed", hand.said(), "open cut.txt no line of the language stands in line 2 of the script")
     hand.drop("long.img", bytes(50000))

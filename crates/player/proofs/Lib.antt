@@ -13,3 +13,5 @@ pub mod ReadingLaws
 pub mod RunLaws
 pub mod Texts
 pub mod DecidedLaws
+mod StatusLaws
+mod WordLaws

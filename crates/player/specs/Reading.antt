@@ -14,6 +14,9 @@
 --   Reads-once               one read
 --   Reads-all                the reads together: the text of all bytes that they brought, in order, to their end
 --   Reads-first              the first line
+--   Played-to-end, Run-to-end   the lines after the first, and a whole input, are read to their end and played
+--   Concluded, Lines-status, Run-status   the status: 0 only there
+--   Copies-once, Copied      one read of the keep; all reads, to its end
 -- No contract can say what a read brings or a write takes: of both there are some bytes, `Read` and `written` below.
 -- Definitions only.
 use mathlib.Core.Path.{_≡_}
@@ -148,3 +151,45 @@ pub record Reads-first (r : First) : Type 0 where
   pub names : r .n ≡ radios-of (input-of reads)
   pub going : r .state ≡ goes-on → Going reads
   pub ended : r .state ≡ at-end → To-end reads
+
+-- ---- the status
+
+-- 0 only where the run is over, without a fault
+pub record Concluded (s : Progress) (r : ℕ) : Type 0 where
+  pub few : r ≤ 1
+  pub over : r ≡ 0 → s .live ≡ false
+  pub right : r ≡ 0 → s .fault ≡ 0
+
+-- the lines after a first line that names n radios are read to their end, and the text is theirs
+pub record Played-to-end (n : ℕ) : Type 0 where
+  pub reads : List Read
+  pub text : List ℕ
+  pub to-end : To-end reads
+  pub prints : Run-from n (input-of reads) text
+
+pub record Lines-status (n r : ℕ) : Type 0 where
+  pub few : r ≤ 1
+  pub whole : r ≡ 0 → Played-to-end n
+
+-- the first line names a site, no read of it failed, and the lines after it are read to their end
+pub record Run-to-end : Type 0 where
+  pub first : List Read
+  pub unbroken : Unbroken first
+  pub named : 0 < radios-of (input-of first)
+  pub lines : Played-to-end (radios-of (input-of first))
+
+pub record Run-status (r : ℕ) : Type 0 where
+  pub few : r ≤ 1
+  pub whole : r ≡ 0 → Run-to-end
+
+-- ---- the keep
+
+-- one read, of which the state tells what it found, unless it or the write after it failed; of its bytes nothing is said
+pub record Copies-once (state : ℕ) : Type 0 where
+  pub read : Read
+  pub found : state ≤ at-end → read .state ≡ state
+
+-- the keep is read to its end
+pub record Copied : Type 0 where
+  pub reads : List Read
+  pub to-end : To-end reads

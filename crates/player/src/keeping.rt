@@ -1,4 +1,8 @@
 // The keep: a file without a name, in which answers wait until the input is read to its end. A short run needs none.
+ghost use mathlib.Core.Path.{_≡_};
+ghost use mathlib.Core.Bool.{true};
+ghost use lib.Signed.{nonNeg};
+ghost use Rattle.player.specs.Reading.{Copies-once, Copied};
 
 // The largest descriptor of a program's own input, output and errors.
 const OWN: i32 = 2;
@@ -19,7 +23,9 @@ pub fn new() -> i32 {
 }
 
 // One read of the keep, written: what it found.
-fn copy_on(keep: i32, output: i32) -> u32 {
+fn copy_on(keep: i32, output: i32) -> u32
+    ensures { λ r. ⌜ Copies-once r ⌝ }
+{
     let mut chunk = io::large_buffer();
     let got = reads::read(keep, usize::MAX, &mut chunk);
     let count = got.count;
@@ -30,11 +36,15 @@ fn copy_on(keep: i32, output: i32) -> u32 {
 }
 
 // Writes all that the keep has: whether it was read and taken to its end. Where there is no keep, nothing was put into it.
-pub fn copy(keep: i32, output: i32) -> bool {
+pub fn copy(keep: i32, output: i32) -> bool
+    ensures { λ r. ⌜ (r ≡ true → nonNeg keep ≡ true → Copied) ⌝ }
+{
     if keep < 0 {
         return true;
     }
-    libc::lseek(keep, 0, libc::SEEK_SET);
+    if libc::lseek(keep, 0, libc::SEEK_SET) != 0 {
+        return false;
+    }
     let mut left = reads::most();
     while left > 0 {
         left -= 1;

@@ -1,10 +1,10 @@
 // The replay program as a library: reads a descriptor to its end, plays its lines on a site of its own, and then prints what each
 // line says. A line of another form ends the run with `bad L`. What cannot be read, kept or written is one line on the error descriptor. The
-// status is 0 where all was read, played and written, and else 1. No public function has a `requires`.
+// status is 0 where all was read, played and written, and else 1.
 ghost use Prim.Native.Nat.{_≤_, _<_};
 ghost use Rattle.mesh.specs.Limits.{max-radios};
 ghost use Rattle.mesh.specs.Tables.{tables};
-ghost use Rattle.player.specs.Reading.{Site-lent};
+ghost use Rattle.player.specs.Reading.{Site-lent, Lines-status, Run-status};
 
 mod first;
 mod keeping;
@@ -36,6 +36,7 @@ fn play_site(
     answer: &mut [u16],
 ) -> u32
     requires { ⌜ Site-lent n (tables (now links) (now numbers) (now order)) (now answer) ⌝ }
+    ensures { λ r. ⌜ Lines-status n r ⌝ }
 {
     tables::clear::clear(n, links, numbers, order);
     reading::read_all(ends, keep, most, n, links, numbers, order, answer)
@@ -45,6 +46,7 @@ fn play_site(
 fn run_site(ends: Ends, keep: i32, most: usize, n: u32) -> u32
     requires some { ⌜ 0 < n ⌝ }
     requires few { ⌜ n ≤ max-radios ⌝ }
+    ensures { λ r. ⌜ Lines-status n r ⌝ }
 {
     let many = n as usize;
     let bytes = Site::ROW_BYTES * many;
@@ -68,6 +70,7 @@ fn run_site(ends: Ends, keep: i32, most: usize, n: u32) -> u32
 fn run_kept(ends: Ends, most: usize, n: u32) -> u32
     requires some { ⌜ 0 < n ⌝ }
     requires few { ⌜ n ≤ max-radios ⌝ }
+    ensures { λ r. ⌜ Lines-status n r ⌝ }
 {
     let keep = keeping::new();
     let status = run_site(ends, keep, most, n);
@@ -76,7 +79,9 @@ fn run_kept(ends: Ends, most: usize, n: u32) -> u32
 }
 
 // Plays what the input holds, to its end: the status. After the first line each read asks for at most `most` bytes.
-pub fn run(ends: Ends, most: usize) -> u32 {
+pub fn run(ends: Ends, most: usize) -> u32
+    ensures { λ r. ⌜ Run-status r ⌝ }
+{
     let first = first::read_first(ends.input);
     if reads::END < first.state {
         return reading::unread(ends, first.state);

@@ -3,14 +3,14 @@
 // executed.
 ghost use mathlib.Core.Path.{_≡_};
 ghost use mathlib.Core.Bool.{true};
-ghost use Prim.Native.Nat.{_<_};
+ghost use Prim.Native.Nat.{_≤_, _<_};
 ghost use lib.ListN.{length};
 ghost use Rattle.mesh.specs.Tables.{tables};
 ghost use Rattle.mesh.specs.Lent.{lent};
 ghost use Rattle.text.specs.Print.{buffer-at};
 ghost use Rattle.player.specs.Machine.{spot, line-room, full, Marked};
 ghost use Rattle.player.specs.Reading.{chunk-room, out-room, Room-made, broken-off, Ready, Site-cleared, Site-sized};
-ghost use Rattle.player.specs.Reading.{Takes-chunk, Found-by, Takes-read, Reads-once, Reads-all};
+ghost use Rattle.player.specs.Reading.{Takes-chunk, Found-by, Takes-read, Reads-once, Reads-all, Concluded, Lines-status};
 use super::keeping;
 use super::machine;
 use super::machine::Progress;
@@ -234,7 +234,10 @@ fn read_turns(
 }
 
 // Writes what was kept, and what waits behind it: the status.
-fn print(ends: Ends, keep: i32, out: &[u8], s: Progress) -> u32 {
+fn print(ends: Ends, keep: i32, out: &[u8], s: Progress) -> u32
+    ensures few { λ r. ⌜ r ≤ 1 ⌝ }
+    ensures right { λ r. ⌜ (r ≡ 0 → s .fault ≡ 0) ⌝ }
+{
     if !keeping::copy(keep, ends.output) {
         return wrong(ends, b"the output cannot be written");
     }
@@ -248,19 +251,25 @@ fn print(ends: Ends, keep: i32, out: &[u8], s: Progress) -> u32 {
 }
 
 // Says what goes wrong: the status.
-fn wrong(ends: Ends, words: &[u8]) -> u32 {
+fn wrong(ends: Ends, words: &[u8]) -> u32
+    ensures { λ r. ⌜ r ≡ 1 ⌝ }
+{
     reads::faults::say(ends.errors, &PROGRAM, words);
     1
 }
 
 // Says that the input was not read to its end: the status.
-pub(crate) fn unread(ends: Ends, state: u32) -> u32 {
+pub(crate) fn unread(ends: Ends, state: u32) -> u32
+    ensures { λ r. ⌜ r ≡ 1 ⌝ }
+{
     reads::faults::say_unread(ends.errors, &PROGRAM, state);
     1
 }
 
 // The end of a run: nothing is printed where a read failed, or where an answer was not kept.
-fn conclude(ends: Ends, keep: i32, out: &[u8], s: Progress) -> u32 {
+fn conclude(ends: Ends, keep: i32, out: &[u8], s: Progress) -> u32
+    ensures { λ r. ⌜ Concluded s r ⌝ }
+{
     if s.fault == machine::LOST {
         return wrong(
             ends,
@@ -285,6 +294,7 @@ pub(crate) fn read_all(
     answer: &mut [u16],
 ) -> u32
     requires { ⌜ Site-cleared n (tables (now links) (now numbers) (now order)) (now answer) ⌝ }
+    ensures { λ r. ⌜ Lines-status n r ⌝ }
 {
     let mut line = [0u8; LINE_BYTES];
     let mut out = [0u8; OUT_BYTES];
@@ -304,11 +314,12 @@ pub(crate) fn read_all(
 }
 
 // Prints that line 1 is missing or of another form: the status.
-pub(crate) fn print_bad(ends: Ends) -> u32 {
+pub(crate) fn print_bad(ends: Ends) -> u32
+    ensures { λ r. ⌜ r ≡ 1 ⌝ }
+{
     let mut out = [0u8; 32];
     let at = printing::put_bad_line(&mut out, 0, 1);
-    if !flush(ends.output, &out, at) {
-        return wrong(ends, b"the output cannot be written");
-    }
+    let count = reads::within(at, &out);
+    reads::faults::print(ends, &PROGRAM, &out[..count]);
     1
 }

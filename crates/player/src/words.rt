@@ -1,5 +1,9 @@
 // The words of the replay program: it takes none, but for two that ask what it is. Also how a program is started, `site` too: with
 // `--status D` before its words it writes its status to descriptor D.
+ghost use mathlib.Core.Path.{_≡_};
+ghost use Prim.Native.Nat.{_≤_};
+ghost use Rattle.player.specs.Reading.{Run-status};
+ghost use Rattle.player.specs.Words.{descriptor-of, start-of};
 use reads::Ends;
 
 // The longest word that is read; a longer one counts as empty, which no word of a program is.
@@ -12,14 +16,33 @@ pub struct Start {
 }
 
 // The descriptor of a word of one digit; negative where it is none.
-fn descriptor(word: &[u8]) -> i32 {
+fn descriptor(word: &[u8]) -> i32
+    ensures { λ r. ⌜ r ≡ descriptor-of (now (word .entry)) ⌝ }
+{
     if word.len() != 1 {
         return -1;
     }
-    if word[0] < b'0' || b'9' < word[0] {
+    let byte = word[0];
+    if byte < b'0' {
         return -1;
     }
-    (word[0] % 16) as i32
+    if b'9' < byte {
+        return -1;
+    }
+    (byte - b'0') as i32
+}
+
+// How a program is started whose first words are these.
+fn start_of(first: &[u8], second: &[u8]) -> Start
+    ensures { λ r. ⌜ r ≡ start-of (now (first .entry)) (now (second .entry)) ⌝ }
+{
+    if tables::fill::same8(first, b"--status") {
+        return Start {
+            at: 3,
+            told: descriptor(second),
+        };
+    }
+    Start { at: 1, told: -1 }
 }
 
 // How the program is started.
@@ -28,13 +51,7 @@ pub fn started() -> Start {
     let mut second = [0u8; WORD_BYTES];
     let first_bytes = os::arg(1, &mut first);
     let second_bytes = os::arg(2, &mut second);
-    if tables::fill::same8(&first[..first_bytes], b"--status") {
-        return Start {
-            at: 3,
-            told: descriptor(&second[..second_bytes]),
-        };
-    }
-    Start { at: 1, told: -1 }
+    start_of(&first[..first_bytes], &second[..second_bytes])
 }
 
 // Writes the status, one digit, where it is asked for.
@@ -44,19 +61,13 @@ pub fn tell(told: i32, status: u32) {
     }
 }
 
-// Prints a text: the status.
-fn print(ends: Ends, text: &[u8]) -> u32 {
-    if io::write_all(ends.output, text) {
-        return 0;
-    }
-    reads::faults::say(ends.errors, b"replay", b"the output cannot be written");
-    1
-}
-
 // Prints the page of `--help`: the status.
-fn help(ends: Ends) -> u32 {
-    print(
+fn help(ends: Ends) -> u32
+    ensures { λ r. ⌜ r ≤ 1 ⌝ }
+{
+    reads::faults::print(
         ends,
+        b"replay",
         b"replay <FILE: plays a script of link calls on a cleared site
 
 Line 1 is `radios N`, N from 1 to 512; every other line is `up A B` or `down A B`. Each call prints its refusal number, its step and the
@@ -69,7 +80,10 @@ read or written is one line on the error output. bin/replay hands the status on:
 }
 
 // Runs the program with `count` words, of which the first is given: the status.
-pub fn run_words(ends: Ends, count: usize, word: &[u8]) -> u32 {
+pub fn run_words(ends: Ends, count: usize, word: &[u8]) -> u32
+    ensures few { λ r. ⌜ r ≤ 1 ⌝ }
+    ensures run { λ r. ⌜ (count ≡ 0 → Run-status r) ⌝ }
+{
     if count == 0 {
         return crate::run(ends, usize::MAX);
     }
@@ -77,7 +91,7 @@ pub fn run_words(ends: Ends, count: usize, word: &[u8]) -> u32 {
         return help(ends);
     }
     if tables::fill::same8(word, b"--version") {
-        return print(ends, &reads::VERSION);
+        return reads::faults::print(ends, b"replay", &reads::VERSION);
     }
     reads::faults::say(
         ends.errors,

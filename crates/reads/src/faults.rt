@@ -1,8 +1,10 @@
 // What goes wrong in a run, as one line on the error descriptor: the program's name, and what in words.
 ghost use mathlib.Core.List.{_++_};
+ghost use Prim.Native.Nat.{_≤_};
 ghost use Rattle.text.specs.Text.{bytes-of};
 ghost use Rattle.text.specs.Print.{buffer-at, Puts};
 ghost use Rattle.reads.specs.Reads.{unread-words};
+use crate::Ends;
 
 // Longer than any line.
 const LINE_BYTES: usize = 256;
@@ -43,6 +45,17 @@ pub fn say(errors: i32, program: &[u8], words: &[u8]) {
     let end = put_line(&mut out, program, words);
     let count = crate::within(end, &out);
     io::write_all(errors, &out[..count]);
+}
+
+// Prints a text: the status, which is 1 where the text cannot be written, and that is said.
+pub fn print(ends: Ends, program: &[u8], text: &[u8]) -> u32
+    ensures { λ r. ⌜ r ≤ 1 ⌝ }
+{
+    if io::write_all(ends.output, text) {
+        return 0;
+    }
+    say(ends.errors, program, b"the output cannot be written");
+    1
 }
 
 // Says why the input cannot be read.

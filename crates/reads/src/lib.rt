@@ -1,9 +1,8 @@
 // The input of a run, for all programs: what a read finds, and a front filled by reads. A failed read is told from the end of the input, and
-// an interrupted one goes on. No public function has a `requires`.
+// an interrupted one goes on.
 ghost use mathlib.Core.Path.{_≡_};
 ghost use mathlib.Core.Bool.{false};
 ghost use Prim.Native.Nat.{_≤_, min};
-ghost use lib.Dec.{eqb};
 ghost use lib.ListN.{length};
 ghost use Rattle.io.specs.Counts.{Counts};
 ghost use Rattle.reads.specs.Reads.{most-reads, goes-on, failure, found, Found, Fills-on, Fills};
@@ -62,13 +61,6 @@ pub fn within(size: usize, buffer: &[u8]) -> usize
     buffer.len()
 }
 
-// Whether a read that brought so many bytes is at the end of the input: it brought none, and one that brought few is not.
-fn is_end(count: usize) -> bool
-    ensures { λ r. ⌜ r ≡ eqb count 0 ⌝ }
-{
-    count == 0
-}
-
 // What a read that failed found, by its error number.
 fn finds(error: i32) -> u32
     ensures { λ r. ⌜ r ≡ failure error ⌝ }
@@ -108,8 +100,9 @@ pub fn told(got: isize, error: i32, chunk: &[u8]) -> Brought
             state: finds(error),
         };
     }
+    // A read that brings few bytes is not the last one.
     let count = io::count(got, chunk);
-    if is_end(count) {
+    if count == 0 {
         return Brought {
             count: 0,
             state: END,

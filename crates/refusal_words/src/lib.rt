@@ -1,5 +1,4 @@
-// What the refusal numbers mean, 1 to 20, in words, put into a lent buffer. A text that does not fit is cut, and counted whole. No public
-// function has a `requires`.
+// What the refusal numbers mean, 1 to 20, in words, put into a lent buffer. A text that does not fit is cut, and counted whole.
 ghost use Rattle.text.specs.Print.{buffer-at, Puts};
 ghost use Rattle.refusal_words.specs.Words.{further-words, image-words, table-words, words-of, refused-text};
 use calls::Refusal;

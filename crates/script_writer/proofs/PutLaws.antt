@@ -31,7 +31,7 @@ use Rattle.text.proofs.PrintLaws.{put-fits, puts-byte-in, puts-append, puts-as,
 use Rattle.calls.specs.Script.{radios-text, up-text, up-line}
 use Rattle.link_list.specs.Links.{links-to, links-above, links-from}
 use Rattle.link_list.proofs.LinksFrom.{links-from-row, links-from-end}
-use Rattle.script_writer.proofs.LengthLaws.{length-up-text}
+use Rattle.script_writer.proofs.ScriptLengths.{length-up-text}
 
 -- ---- the place after a text
 

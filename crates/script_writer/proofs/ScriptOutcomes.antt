@@ -24,6 +24,7 @@ use Rattle.calls.proofs.ScriptLaws.{script-yes, script-no, script-most}
 use Rattle.soundness.proofs.SoundSite.{Sound-site, site-good-sound}
 use Rattle.link_list.specs.Links.{links-from, Rows-listed}
 use Rattle.link_list.proofs.GraphLinks.{rows-listed-few, links-graph-in}
+use Rattle.script_writer.specs.Longest.{longest-script}
 
 module _ (n : ℕ) (t : Tables) where
   abbrev questions : ℕ
@@ -63,7 +64,7 @@ module _ (n : ℕ) (t : Tables) where
     unfolding graph-in
     marks-all = ap (graph n) (links-graph-in n (t .links) (site .small) (site .links-long) (site .within))
 
-    pub script-short : script-length marks ≤ 112651
+    pub script-short : script-length marks ≤ longest-script
     unfolding sound graph-in
     script-short =
         omega (

@@ -1,2 +1,3 @@
--- Worked scripts.
-pub mod Cases
+-- How long a script can be, and worked scripts.
+pub mod Longest
+pub mod Scripts

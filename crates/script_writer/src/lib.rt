@@ -15,6 +15,7 @@ ghost use Rattle.text.specs.Print.{buffer-at, Puts};
 ghost use Rattle.calls.specs.Script.{radios-text, up-text, up-line, script-of, script-length};
 ghost use Rattle.calls.specs.Contracts.{Script-length-contract, Script-contract};
 ghost use Rattle.link_list.specs.Links.{links-to, links-above, links-from, Rows-listed};
+ghost use Rattle.script_writer.specs.Longest.{longest-script};
 use calls::Refusal;
 use calls::Value;
 use mesh::Site;
@@ -81,7 +82,7 @@ fn put_up(buffer: &mut [u8], at: usize, a: u32, b: u32) -> usize
     feed + 1
 }
 
-// A radio as it is printed.
+// A radio as it is printed. As an argument it brings its range along, which the cast needs.
 fn wide(x: u16) -> u32
     ensures { λ r. ⌜ r ≡ x ⌝ }
 {
@@ -186,7 +187,7 @@ fn radio_length(links: &[u8], a: u32) -> usize
 // The bytes of a line for each link that the first n rows mark.
 fn links_length(n: u32, links: &[u8]) -> usize
     requires listed { ⌜ Rows-listed n (now links) max-neighbours ⌝ }
-    requires short { ⌜ length (flatMap up-line (links-from n (now links) 0 0)) ≤ 112651 ⌝ }
+    requires short { ⌜ length (flatMap up-line (links-from n (now links) 0 0)) ≤ longest-script ⌝ }
     ensures { λ r. ⌜ r ≡ length (flatMap up-line (links-from n (now (links .entry)) 0 0)) ⌝ }
 {
     let mut sum: usize = 0;
@@ -201,7 +202,7 @@ fn links_length(n: u32, links: &[u8]) -> usize
 // The script's length, counted by digits: line 1 has `radios`, a space and a line feed beside them.
 fn measure(n: u32, links: &[u8]) -> usize
     requires listed { ⌜ Rows-listed n (now links) max-neighbours ⌝ }
-    requires short { ⌜ script-length (graph n (links-from n (now links) 0 0)) ≤ 112651 ⌝ }
+    requires short { ⌜ script-length (graph n (links-from n (now links) 0 0)) ≤ longest-script ⌝ }
     ensures { λ r. ⌜ r ≡ script-length (graph n (links-from n (now (links .entry)) 0 0)) ⌝ }
 {
     8 + digits(n as u16) + links_length(n, links)

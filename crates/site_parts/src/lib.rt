@@ -1,4 +1,3 @@
-// Parts of the program `site`: a script told from an image, and what goes wrong as one line on the error descriptor. No public function has
-// a `requires`.
+// Parts of the program `site`: a script told from an image, and what goes wrong as one line on the error descriptor.
 pub mod refusals;
 pub mod source;

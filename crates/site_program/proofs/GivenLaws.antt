@@ -1,14 +1,16 @@
 -- The numbers after a verb: a law for each way through `arguments::given`.
-use mathlib.Core.Path.{_≡_, sym, _∙_}
-use mathlib.Core.Bool.{true, false}
-use mathlib.Core.List.{List}
-use Prim.Native.Nat.{ℕ}
-use lib.ListN.{drop}
-use borrow.Author.Tests.{eq-eqb, ne-eqb}
+use mathlib.Core.Path.{_≡_, refl, sym, _∙_}
+use mathlib.Core.Bool.{true, false, cond}
+use mathlib.Core.List.{List, [], _∷_}
+use Prim.Native.Nat.{ℕ, _≤_, _<_}
+use native.Mathlib.Omega.{arith}
+use lib.Dec.{ltb}
+use lib.ListN.{length, drop, getD}
+use borrow.Author.Tests.{eq-eqb, ne-eqb, lt-ltb, le-ltb}
 use Rattle.script.specs.Lines.{got, none}
 use Rattle.script.specs.Texts.{read-of, alone-of}
 use Rattle.script.specs.declared.lines.Number.{Number}
-use Rattle.site_program.specs.Given.{numbers, second, first, given-of}
+use Rattle.site_program.specs.Given.{is-name, numbers, second, first, given-of}
 use Rattle.site_program.specs.declared.arguments.Numbers.{Numbers}
 
 -- what the parser's record says
@@ -48,3 +50,21 @@ module _ (takes count : ℕ) (v k : List ℕ) (many : takes ≡ count) where
         pub given-two : b .ok ≡ true → numbers true (a .value) (b .value) ≡ given-of takes count v k
         unfolding given-of first second
         given-two h = rw (eq-eqb takes count many, ne-eqb takes 0 some, ← e, read-of-got v a ok, ne-eqb takes 1 two, ← f, read-of-got k b h)
+
+-- ---- the name of a file
+
+pub name-none : (w : List ℕ) → length w ≡ 0 → true ≡ is-name w
+unfolding is-name
+name-none [] h = refl
+name-none (b ∷ bs) h = absurd (omega (arith, h))
+
+name-byte : (w : List ℕ) → (length w ≡ 0 → ⊥) → cond (ltb (getD w 0 0) 48) true (ltb 57 (getD w 0 0)) ≡ is-name w
+unfolding is-name
+name-byte [] h = absurd (h refl)
+name-byte (b ∷ bs) h = refl
+
+pub name-below : (w : List ℕ) → (length w ≡ 0 → ⊥) → getD w 0 0 < 48 → true ≡ is-name w
+name-below w some h = rw (← name-byte w some, lt-ltb (getD w 0 0) 48 h)
+
+pub name-above : (w : List ℕ) → (length w ≡ 0 → ⊥) → 48 ≤ getD w 0 0 → ltb 57 (getD w 0 0) ≡ is-name w
+name-above w some h = rw (← name-byte w some, le-ltb (getD w 0 0) 48 h)

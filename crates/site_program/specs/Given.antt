@@ -1,14 +1,20 @@
 -- The numbers after a verb.
 --   numbers ok v k        are they of the right form, and the numbers
+--   is-name word          may the word be a file's name
 --   given-of takes count v k   the numbers of a verb that takes so many, of so many words, of which v and k are the first
 -- Definitions only.
 use mathlib.Core.Bool.{Bool, true, false, cond}
-use mathlib.Core.List.{List}
+use mathlib.Core.List.{List, [], _∷_}
 use Prim.Native.Nat.{ℕ, zero, suc}
-use lib.Dec.{eqb}
+use lib.Dec.{eqb, ltb}
 use Rattle.script.specs.Lines.{Read, got, none}
 use Rattle.script.specs.Texts.{alone-of}
 use Rattle.site_program.specs.declared.arguments.Numbers.{Numbers}
+
+-- it does not begin with a digit: '0' is 48, '9' is 57
+unfoldable pub is-name : (word : List ℕ) → Bool
+is-name [] = true
+is-name (b ∷ bs) = cond (ltb b 48) true (ltb 57 b)
 
 abbrev pub numbers : (ok : Bool) → (v k : ℕ) → Numbers
 numbers ok v k = record { ok = ok; v = v; k = k }

@@ -4,9 +4,10 @@
 -- Definitions only.
 use mathlib.Core.Path.{_≡_}
 use Prim.Native.Nat.{ℕ}
+use Rattle.script_writer.specs.Longest.{longest-script}
 
 abbrev pub text-room : ℕ
-text-room = 112651
+text-room = longest-script
 
 pub record Held (q : ℕ) : Type 0 where
   pub image : q ≡ 9 → ⊥

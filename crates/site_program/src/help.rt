@@ -1,13 +1,7 @@
-// The page that `site help` prints.
-ghost use Prim.Native.Nat.{_≤_};
-use reads::Ends;
-use site_parts::refusals;
+// The page that `site help` prints: the form, the verbs, the statuses, and what the program leaves to others.
 
-// The form, and the verbs of every input.
-fn print_verbs(output: i32) -> bool {
-    io::write_all(
-        output,
-        b"site VERB [NUMBERS] <FILE: what an image or a script says of its site
+pub(crate) const PAGE: [u8; 1315] =
+    *b"site VERB [NUMBERS] <FILE: what an image or a script says of its site
 
 FILE is an image or a script. One that begins with the word radios is a script, any other is an image.
 
@@ -22,31 +16,8 @@ FILE is an image or a script. One that begins with the word radios is a script, 
   tree        the shell tree: a line for each node (name, level, parent), then the node of each radio
   staircase   the staircase tree: a line for each kept link, in the order in which they are taken
   help        this page
-",
-    )
-}
 
-// Statuses, and what the program leaves to others.
-fn print_rest(output: i32) -> bool {
-    io::write_all(
-        output,
-        b"
 Nothing is printed before the input is read to its end and checked. What goes wrong is one line on the error output, which says what
 and where, and the status is 1; else it is 0. bin/site hands the status on: a proved program has none of its own. A long
 script shows its line on the error output where that is a terminal. A page to look at, which needs Python, is page/make.py's.
-",
-    )
-}
-
-// Prints the page: the status.
-pub(crate) fn print(ends: Ends) -> u32
-    ensures { λ r. ⌜ r ≤ 1 ⌝ }
-{
-    if !print_verbs(ends.output) {
-        return refusals::say(ends.errors, b"the output cannot be written");
-    }
-    if !print_rest(ends.output) {
-        return refusals::say(ends.errors, b"the output cannot be written");
-    }
-    0
-}
+";

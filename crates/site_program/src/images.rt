@@ -1,19 +1,20 @@
 // An image, read into a site's tables.
 ghost use mathlib.Core.Path.{_≡_};
 ghost use Prim.Native.Nat.{_≤_};
+ghost use Rattle.mesh.specs.Limits.{max-radios};
 ghost use Rattle.site_parts.specs.Inputs.{wrong};
 ghost use Rattle.site_program.specs.Blocks.{First-bad};
+use crate::sizes;
 use calls::Refusal;
 use image::bytes;
 use image::layout;
 use mesh::Site;
 use site_parts::refusals;
 
-// The bytes of the longest image.
-const LONGEST: usize = 86 * layout::BLOCK;
-
 // How many radios the image says; 1 where that is no size, and then no question but 1 gets another answer.
-pub(crate) fn radios(image: &[u8]) -> u32 {
+pub(crate) fn radios(image: &[u8]) -> u32
+    ensures { λ r. ⌜ r ≤ max-radios ⌝ }
+{
     let n = bytes::word_at(image, layout::RADIOS_AT);
     if n == 0 {
         return 1;
@@ -66,7 +67,7 @@ pub(crate) fn read(
 ) -> u32
     ensures { λ r. ⌜ r ≤ 1 ⌝ }
 {
-    if LONGEST < image.len() {
+    if sizes::IMAGE_BYTES < image.len() {
         return refusals::say(
             errors,
             b"no script, and longer than the longest image, 44032 bytes",

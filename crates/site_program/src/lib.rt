@@ -3,26 +3,24 @@
 ghost use mathlib.Core.Path.{_≡_};
 ghost use Prim.Native.Nat.{_≤_};
 ghost use lib.ListN.{length};
+ghost use Rattle.mesh.specs.Limits.{max-radios};
 ghost use Rattle.site_parts.specs.Inputs.{wrong};
+ghost use Rattle.site_program.specs.Given.{is-name};
 ghost use Rattle.site_program.specs.Room.{text-room, Held};
 
 mod arguments;
 mod help;
 mod images;
+mod sizes;
 mod source;
 
 use arguments::Numbers;
 use mesh::Site;
 use reads::Ends;
+use reads::faults;
 use site_parts::refusals;
 use verbs::Text;
 use verbs::Verb;
-
-// The bytes of a site's largest links table.
-const LINKS_BYTES: usize = Site::ROW_BYTES * Site::RADIOS as usize;
-
-// The bytes of the longest text, a script of 10,240 links.
-const TEXT_BYTES: usize = 112651;
 
 // The text of a verb, in a buffer that holds every text: whatever the tables are, no verb is refused by 9, 12 or 13.
 fn text_of<'a>(
@@ -52,16 +50,13 @@ fn print<'a>(
 ) -> u32
     ensures { λ r. ⌜ r ≤ 1 ⌝ }
 {
-    let mut out = [0u8; TEXT_BYTES];
+    let mut out = [0u8; sizes::TEXT_BYTES];
     let text = text_of(verb, given, n, links, numbers, order, &mut out);
     if text.number != 0 {
         return refusals::say_call(ends.errors, text.number);
     }
     let length = reads::within(text.length, &out);
-    if io::write_all(ends.output, &out[..length]) {
-        return 0;
-    }
-    refusals::say(ends.errors, b"the output cannot be written")
+    faults::print(ends, b"site", &out[..length])
 }
 
 // Reads the site into the tables and prints: the status.
@@ -98,11 +93,12 @@ fn run_site(
     front: &[u8],
     state: u32,
 ) -> u32
+    requires { ⌜ n ≤ max-radios ⌝ }
     ensures { λ r. ⌜ r ≤ 1 ⌝ }
 {
-    let many = tables::fill::least(n as usize, Site::RADIOS as usize);
+    let many = n as usize;
     let bytes = Site::ROW_BYTES * many;
-    let mut links = [0u8; LINKS_BYTES];
+    let mut links = [0u8; sizes::TABLE_BYTES];
     let mut numbers = [0u8; Site::RADIOS as usize];
     let mut order = [0u16; Site::RADIOS as usize];
     run_on(
@@ -149,18 +145,24 @@ fn run_front(
 fn run_input(ends: Ends, most: usize, shown: bool, verb: Verb, given: Numbers) -> u32
     ensures { λ r. ⌜ r ≤ 1 ⌝ }
 {
-    let mut front = [0u8; source::FRONT_BYTES];
+    let mut front = [0u8; sizes::FRONT_BYTES];
     let got = reads::fill(ends.input, most, false, &mut front);
     let count = got.count;
     run_front(ends, most, shown, verb, given, &front[..count], got.state)
 }
 
 // Whether the word may be a file's name: it does not begin with a digit.
-fn is_name(word: &[u8]) -> bool {
+fn is_name(word: &[u8]) -> bool
+    ensures { λ r. ⌜ r ≡ is-name (now (word .entry)) ⌝ }
+{
     if word.len() == 0 {
         return true;
     }
-    word[0] < b'0' || b'9' < word[0]
+    let byte = word[0];
+    if byte < b'0' {
+        return true;
+    }
+    b'9' < byte
 }
 
 // A verb with words that it does not take.
@@ -174,16 +176,6 @@ fn say_words(errors: i32, verb: Verb, word: &[u8], v: &[u8]) -> u32
         }
     }
     refusals::say_usage(errors, word, takes)
-}
-
-// Prints what `--version` prints: the status.
-fn print_version(ends: Ends) -> u32
-    ensures { λ r. ⌜ r ≤ 1 ⌝ }
-{
-    if io::write_all(ends.output, &reads::VERSION) {
-        return 0;
-    }
-    refusals::say(ends.errors, b"the output cannot be written")
 }
 
 // Runs a verb with the words after it, of which there are `count`: the status, 0 or 1. A read asks for at most `most` bytes;
@@ -202,7 +194,7 @@ fn run_verb(
     let verb = verbs::verb_of(word);
     match verb {
         Verb::Unknown => return refusals::say(ends.errors, b"unknown verb; site help lists them"),
-        Verb::Help => return help::print(ends),
+        Verb::Help => return faults::print(ends, b"site", &help::PAGE),
         _ => {}
     }
     let given = arguments::given(verbs::takes(verb), count, v, k);
@@ -225,10 +217,10 @@ pub fn run(
     ensures { λ r. ⌜ r ≤ 1 ⌝ }
 {
     if tables::fill::same8(word, b"--help") {
-        return help::print(ends);
+        return faults::print(ends, b"site", &help::PAGE);
     }
     if tables::fill::same8(word, b"--version") {
-        return print_version(ends);
+        return faults::print(ends, b"site", &reads::VERSION);
     }
     run_verb(ends, most, shown, word, count, v, k)
 }

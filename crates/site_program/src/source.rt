@@ -1,16 +1,16 @@
 // The input: an image or a script, told apart by its first bytes.
 ghost use Prim.Native.Nat.{_≤_};
+ghost use Rattle.mesh.specs.Limits.{max-radios};
 use crate::images;
 use reads::Ends;
 use site_parts::refusals;
 use site_parts::source::is_script;
 use site_script::Turned;
 
-// As many bytes as the longest image and one block more.
-pub const FRONT_BYTES: usize = 44544;
-
 // How many radios the site has; 0 where a script has no first line.
-pub(crate) fn radios(front: &[u8]) -> u32 {
+pub(crate) fn radios(front: &[u8]) -> u32
+    ensures { λ r. ⌜ r ≤ max-radios ⌝ }
+{
     if is_script(front) {
         return site_script::radios(front);
     }

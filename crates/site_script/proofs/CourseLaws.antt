@@ -25,7 +25,7 @@ use Rattle.reads.specs.declared.Brought.{Brought}
 use Rattle.reads.proofs.ReadLaws.{none-found, take-none}
 use Rattle.site_parts.specs.Errors.{form, no-feed, carriage}
 use Rattle.site_script.specs.Course.{form-of, Lined, lined-with, called, lined, Spot, spot, stopped, held-on, line-done, byte-live, byte-taken, bytes-taken}
-use Rattle.site_script.specs.Course.{Reads-once, Reads-on, Reads-rest, ended, line-room, begin, Plays}
+use Rattle.site_script.specs.Course.{first-end, first-room, Reads-once, Reads-on, Reads-rest, ended, line-room, begin, Plays}
 use Rattle.site_script.specs.declared.Course.{Course}
 use Rattle.site_script.specs.declared.Turned.{Turned}
 
@@ -242,25 +242,27 @@ pub front-rest : (from : ℕ) (front : List ℕ) → take (length front - from) 
 front-rest from front = take-all (length front - from) (drop from front) (omega (arith, length-drop from front))
 
 pub plays : (n from state k m : ℕ) (front chunk room spare : List ℕ) (t v after : Tables) (p : Spot) (c : Course) (last r : Turned)
-    → length room ≡ line-room → m ≡ line-room → Clear-contract n t k v
+    → from ≡ first-end first-room front → length room ≡ line-room → m ≡ line-room → Clear-contract n t k v
     → chunk ≡ drop from front → p ≡ bytes-taken (length room) n chunk (spot v room (record { line = 2; held = 0; number = k }))
     → Reads-rest m n (record { course = c; state = state }) p last (spot after spare (last .course)) → r ≡ ended last → Plays n front state t r after
 unfolding Clear-contract spot begin
-plays n from state k m front chunk room spare t v after p c last r long kept clear part first rest is =
+plays n from state k m front chunk room spare t v after p c last r begins long kept clear part first rest is =
     let start = spot v room (record { line = 2; held = 0; number = k }) in
     let begun : start ≡ begin n t = ap (λ (x : Numbered). record { tables = x .tables; line = 2; held = []; number = x .reply }) clear in
     let reads = input-of (rest .reads) in
-    let taken : p ≡ bytes-taken line-room n (drop from front) (begin n t) =
-    first ∙ ap (λ (xs : List ℕ). bytes-taken (length room) n xs start) part ∙ ap (λ (j : ℕ). bytes-taken j n (drop from front) start) long ∙ ap (bytes-taken line-room n (drop from front)) begun in
+    let after-first = drop (first-end first-room front) front in
+    let bytes : chunk ≡ after-first = part ∙ ap (λ (j : ℕ). drop j front) begins in
+    let taken : p ≡ bytes-taken line-room n after-first (begin n t) =
+    first ∙ ap (λ (xs : List ℕ). bytes-taken (length room) n xs start) bytes ∙ ap (λ (j : ℕ). bytes-taken j n after-first start) long
+    ∙ ap (bytes-taken line-room n after-first) begun in
     record {
-      from = from;
       reads = rest .reads;
       room = spare;
       last = last;
       taken = rest .taken
           ∙ ap (λ (j : ℕ). bytes-taken j n reads p) kept
           ∙ ap (bytes-taken line-room n reads) taken
-          ∙ sym (taken-append line-room n (drop from front) reads (begin n t));
+          ∙ sym (taken-append line-room n after-first reads (begin n t));
       is = is;
       to-end = λ e. rest .to-end (sym (ended-state last) ∙ sym (ap (λ (x : Turned). x .state) is) ∙ e);
     }

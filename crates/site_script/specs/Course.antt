@@ -1,5 +1,8 @@
 -- A script played by the program `site`: every call must be accepted, and the first line that is refused or of another form ends the run.
+--   first-end m s          the place after the first line, 0 where it is longer than m bytes or has no line feed
 --   form-of s              what is wrong with the form of a line
+--   named-radios s         the radios that the first line names, 0 where it is of another form or names no size
+--   first-fault s          what is wrong with a first line of another form
 --   Lined, called, lined   what a line does to the tables, and the number that it is refused by, or 0
 --   Spot, spot             where a run stands: tables, the line's number, its bytes so far, the number that ended the run, or 0
 --   byte-taken m n b p     a byte more; a line has room for m bytes
@@ -13,7 +16,7 @@ use mathlib.Core.Path.{_≡_}
 use mathlib.Core.Bool.{Bool, true, false, cond}
 use mathlib.Core.Logic.{_⊎_}
 use mathlib.Core.List.{List, [], _∷_, _++_}
-use Prim.Native.Nat.{ℕ, _-_}
+use Prim.Native.Nat.{ℕ, zero, suc, _+_, _-_}
 use lib.Dec.{leb, ltb, eqb}
 use lib.ListN.{length, take, drop, getD, replicate}
 use Rattle.mesh.specs.Limits.{max-radios}
@@ -24,16 +27,46 @@ use Rattle.text.specs.Print.{next-place}
 use Rattle.script.specs.Lines.{line-of}
 use Rattle.script.specs.declared.lines.Line.{Line}
 use Rattle.script.specs.declared.lines.Line.the-variants.{Radios, Up, Down, Bad}
+use Rattle.player.specs.Play.{radios-of}
 use Rattle.reads.specs.Reads.{goes-on, at-end, Read, input-of, To-end}
 use Rattle.site_parts.specs.Errors.{form, no-feed, carriage}
 use Rattle.site_script.specs.declared.Course.{Course}
 use Rattle.site_script.specs.declared.Turned.{Turned}
 
+-- ---- the first line
+
+-- k bytes further; 0 is no place
+unfoldable pub further : (k place : ℕ) → ℕ
+further k zero = 0
+further k (suc p) = suc p + k
+
+unfoldable pub first-end : (most : ℕ) → List ℕ → ℕ
+first-end zero s = 0
+first-end (suc m) [] = 0
+first-end (suc m) (b ∷ bs) = cond (eqb b line-feed) 1 (further 1 (first-end m bs))
+
+-- the longest first line, `radios 512` and its line feed
+abbrev pub first-room : ℕ
+first-room = 11
+
+unfoldable pub named-radios : (front : List ℕ) → ℕ
+named-radios s = radios-of (take (first-end first-room s) s)
+
 -- ---- a line
+
+-- the longest line of the language, `down 65535 65535` and its line feed: the code's room for a line
+abbrev pub line-room : ℕ
+line-room = 17
 
 -- a carriage return before the last byte is told by name
 unfoldable pub form-of : (line : List ℕ) → ℕ
 form-of s = cond (ltb (length s) 2) form (cond (eqb (getD s (length s - 2) 0) 13) carriage form)
+
+-- a first line of another form; one without a line feed is the whole input where it is shorter than the longest line
+unfoldable pub first-fault : (front : List ℕ) → ℕ
+first-fault s =
+    let end = first-end line-room s in
+    cond (eqb end 0) (cond (ltb (length s) line-room) no-feed form) (form-of (take end s))
 
 -- the number that a line is refused by, or 0, and the tables after it
 pub record Lined : Type 0 where
@@ -117,20 +150,15 @@ ended s =
     let open-line : Turned = record { course = record { line = s .course .line; held = 0; number = no-feed }; state = s .state } in
     cond (eqb (s .state) at-end) (cond (eqb (s .course .number) 0) (cond (eqb (s .course .held) 0) s open-line) s) s
 
--- the longest line of the language, `down 65535 65535` and its line feed: the code's room for a line
-abbrev pub line-room : ℕ
-line-room = 17
-
 -- after the first line
 unfoldable pub begin : (n : ℕ) → Tables → Spot
 begin n t = record { tables = clear-outcome n t .tables; line = 2; held = []; number = clear-outcome n t .reply }
 
 -- what the front has after its first line, and then what the reads brought, is taken; the end is found by them or stands in the front
 pub record Plays (n : ℕ) (front : List ℕ) (state : ℕ) (t : Tables) (r : Turned) (after : Tables) : Type 0 where
-  pub from : ℕ
   pub reads : List Read
   pub room : List ℕ
   pub last : Turned
-  pub taken : spot after room (last .course) ≡ bytes-taken line-room n (drop from front ++ input-of reads) (begin n t)
+  pub taken : spot after room (last .course) ≡ bytes-taken line-room n (drop (first-end first-room front) front ++ input-of reads) (begin n t)
   pub is : r ≡ ended last
   pub to-end : r .state ≡ at-end → (state ≡ at-end) ⊎ To-end reads

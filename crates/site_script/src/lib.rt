@@ -1,12 +1,11 @@
-// A script, played on a site's tables, line by line, as its bytes come. A line of another form or a refused one ends the run. No public
-// function has a `requires`.
+// A script, played on a site's tables, line by line, as its bytes come. A line of another form or a refused one ends the run.
 ghost use mathlib.Core.Path.{_≡_};
 ghost use lib.ListN.{length};
 ghost use Rattle.io.specs.Counts.{Counts};
 ghost use Rattle.script.specs.Lines.{line-of};
 ghost use Rattle.mesh.specs.Lent.{lent};
 ghost use Rattle.text.specs.Print.{next-place};
-ghost use Rattle.site_script.specs.Course.{form-of, lined-with, called, lined, spot, byte-taken, bytes-taken};
+ghost use Rattle.site_script.specs.Course.{first-end, named-radios, first-fault, form-of, lined-with, called, lined, spot, byte-taken, bytes-taken};
 ghost use Rattle.site_script.specs.Course.{ended as Course·ended, Reads-once, Reads-on, Reads-rest, Plays};
 use mesh::Site;
 use reads::Ends;
@@ -34,7 +33,8 @@ pub struct Turned {
 
 // The place after the first line, where it has at most so many bytes; 0 where none of these is a line feed.
 fn first_end(front: &[u8], most: usize) -> usize
-    ensures { λ r. ⌜ Counts r (now (front .entry)) ⌝ }
+    ensures counts { λ r. ⌜ Counts r (now (front .entry)) ⌝ }
+    ensures end { λ r. ⌜ r ≡ first-end most (now (front .entry)) ⌝ }
 {
     let mut i: usize = 0;
     while i < most {
@@ -50,7 +50,9 @@ fn first_end(front: &[u8], most: usize) -> usize
 }
 
 // The radios that the first line names; 0 where it is of another form or names no size.
-pub fn radios(front: &[u8]) -> u32 {
+pub fn radios(front: &[u8]) -> u32
+    ensures { λ r. ⌜ r ≡ named-radios (now (front .entry)) ⌝ }
+{
     let end = first_end(front, FIRST_BYTES);
     player::radios_of(&front[..end])
 }
@@ -69,7 +71,9 @@ fn form_of(line: &[u8]) -> u32
 }
 
 // What is wrong with a first line of another form: that, or no line feed in the whole input.
-pub fn first_fault(front: &[u8]) -> u32 {
+pub fn first_fault(front: &[u8]) -> u32
+    ensures { λ r. ⌜ r ≡ first-fault (now (front .entry)) ⌝ }
+{
     let end = first_end(front, LINE_BYTES);
     if end != 0 {
         return form_of(&front[..end]);

@@ -38,6 +38,8 @@ fn writes() {
     run::unwritten(b"image-512", b"image");
     run::unwritten(b"script-7", b"help");
     run::unwritten(b"script-7", b"--version");
+    run::silent(b"radios-0", b"check");
+    run::silent(b"script-7", b"unknown");
 }
 
 // A site of 10,240 links through every verb.

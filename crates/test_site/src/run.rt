@@ -136,6 +136,20 @@ pub fn unwritten(path: &[u8], verb: &[u8]) {
     libc::close(fd);
 }
 
+// A verb on a file, whose errors cannot be written: they show nowhere else.
+pub fn silent(path: &[u8], verb: &[u8]) {
+    let fd = os::open_read(path);
+    print_words(path, verb, b"", b"");
+    let ends = Ends {
+        input: fd,
+        output: STDOUT_FILENO,
+        errors: -1,
+    };
+    let status = site_program::run(ends, usize::MAX, false, verb, 0, b"", b"");
+    line(b"status ", status as u64);
+    libc::close(fd);
+}
+
 // Prints the length and the digest of what a file has, and closes it.
 fn print_digest(fd: i32) {
     let mut bytes = [0u8; BYTES];

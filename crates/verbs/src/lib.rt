@@ -1,5 +1,5 @@
 // What the program `site` prints, verb by verb: put into a lent buffer from a site's tables, each over one call of the engine. A text
-// that does not fit is cut, and counted whole. No public function has a `requires`.
+// that does not fit is cut, and counted whole.
 mod answers;
 mod listing;
 mod names;

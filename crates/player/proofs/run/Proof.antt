@@ -1,8 +1,9 @@
--- `run` is safe: a first line that names a site names at most 512 radios.
+-- `run` meets its contract: a first line that names a site names at most 512 radios, and the lines after it have a status.
 use native.Mathlib.Omega.{arith}
 use mathlib.Core.Path.{_≡_, refl}
 use Prim.Native.Nat.{ℕ, zero, suc, _<_}
 use borrow.Author.Needs.{needs}
+use Rattle.player.proofs.StatusLaws.{run-wrong, run-status}
 use Rattle.player.proofs.run.Statement.{statement}
 use Rattle.player.proofs.run.Tie as tie
 
@@ -15,8 +16,15 @@ run-kept-requires c κs =
     let at-read-first = c .before .before .before .before in
     (positive _ (c .if2 .left), at-read-first .read-first .ensures .0)
 
+returns-3 : tie.Need-returns-3
+returns-3 c =
+    let at-if2 = c .before in
+    let at-if1 = at-if2 .before .before in
+    let at-read-first = at-if1 .before .before in
+    run-status _ (at-read-first .read-first .result) (at-read-first .read-first .ensures .1) (at-if1 .if1 .left) (at-if2 .if2 .left) (c .run-kept .ensures)
+
 pub run-spec : {M : Type 1} → statement M
 run-spec =
     tie.close (
-    tie.spec (λ c κs. search needs) (λ c κs. search needs) (λ c. search needs) (λ c κs. search needs) (λ c. search needs) run-kept-requires (λ c. search
-    needs))
+    tie.spec (λ c κs. search needs) (λ c κs. search needs) (λ c. run-wrong _ (c .unread .ensures)) (λ c κs. search needs)
+    (λ c. run-wrong _ (c .print-bad .ensures)) run-kept-requires returns-3)

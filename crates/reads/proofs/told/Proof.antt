@@ -1,10 +1,9 @@
 -- `told` meets its contract: no room, a failure, the end, bytes.
-use mathlib.Core.Path.{refl, sym, ap, _∙_}
+use mathlib.Core.Path.{refl, ap, _∙_}
 use native.Mathlib.Omega.{arith}
 use mir.Facts.{toZ-ofZ}
 use Rattle.reads.specs.Reads.{failure}
 use borrow.Author.Needs.{needs}
-use borrow.Author.Tests.{eqb-true, eqb-false}
 use Rattle.reads.proofs.ReadLaws.{found-nowhere, found-failed, found-end, found-bytes}
 use Rattle.reads.proofs.told.Statement.{statement}
 use Rattle.reads.proofs.told.Tie as tie
@@ -21,18 +20,18 @@ returns-2 c =
 
 returns-3 : tie.Need-returns-3
 returns-3 c =
-    let counted = c .before .before in
+    let counted = c .before in
     let asked = counted .before in
     let room = asked .before in
-    ((omega arith, refl), found-end _ _ _ _ (room .if1 .left) (asked .if2 .left) (room .before .before .fits .got) (counted .count .ensures .1) (eqb-true _ _ (sym (c .before .is-end .ensures) ∙ c .if3 .taken)))
+    ((omega arith, refl), found-end _ _ _ _ (room .if1 .left) (asked .if2 .left) (room .before .before .fits .got) (counted .count .ensures .1) (c .if3 .taken))
 
 returns-4 : tie.Need-returns-4
 returns-4 c =
-    let counted = c .before .before in
+    let counted = c .before in
     let asked = counted .before in
     let room = asked .before in
-    (counted .count .ensures .0, found-bytes _ _ _ _ (room .if1 .left) (asked .if2 .left) (room .before .before .fits .got) (counted .count .ensures .1) (eqb-false _ _ (sym (c .before .is-end .ensures) ∙ c .if3 .left)))
+    (counted .count .ensures .0, found-bytes _ _ _ _ (room .if1 .left) (asked .if2 .left) (room .before .before .fits .got) (counted .count .ensures .1) (c .if3 .left))
 
 pub told-spec : {M : Type 1} → statement M
 told-spec =
-    tie.close (tie.spec returns (λ c κs. search needs) returns-2 (λ c κs. search needs) (λ c κs. search needs) returns-3 returns-4)
+    tie.close (tie.spec returns (λ c κs. search needs) returns-2 (λ c κs. search needs) returns-3 returns-4)

@@ -2,7 +2,7 @@
 use mathlib.Core.Path.{sym}
 use native.Mathlib.Omega.{arith}
 use Rattle.text.proofs.DecimalLaws.{length-decimal-digit}
-use Rattle.script_writer.proofs.LengthLaws.{digits-two, digits-three}
+use Rattle.script_writer.proofs.ScriptLengths.{digits-two, digits-three}
 use Rattle.script_writer.proofs.digits.Statement.{statement}
 use Rattle.script_writer.proofs.digits.Tie as tie
 

@@ -3,7 +3,7 @@
 use Prim.Native.Nat.{_-_}
 use native.Mathlib.Omega.{arith}
 use borrow.Author.Needs.{needs}
-use Rattle.script_writer.proofs.LengthLaws.{Rows-counted, rows-counted-none, rows-counted-next, rows-counted-last}
+use Rattle.script_writer.proofs.ScriptLengths.{Rows-counted, rows-counted-none, rows-counted-next, rows-counted-last}
 use Rattle.script_writer.proofs.links_length.Statement.{statement}
 use Rattle.script_writer.proofs.links_length.Tie as tie
 

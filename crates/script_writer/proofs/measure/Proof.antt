@@ -2,7 +2,7 @@
 use native.Mathlib.Omega.{arith}
 use borrow.Author.Needs.{needs}
 use Rattle.link_list.specs.Links.{links-from}
-use Rattle.script_writer.proofs.LengthLaws.{length-script}
+use Rattle.script_writer.proofs.ScriptLengths.{length-script}
 use Rattle.script_writer.proofs.measure.Statement.{statement}
 use Rattle.script_writer.proofs.measure.Tie as tie
 

@@ -3,7 +3,7 @@ use native.Mathlib.Omega.{arith}
 use lib.ListN.{length-set}
 use borrow.Author.Needs.{needs}
 use Rattle.text.proofs.DecimalLaws.{length-decimal-digit}
-use Rattle.script_writer.proofs.LengthLaws.{digits-two, digits-three}
+use Rattle.script_writer.proofs.ScriptLengths.{digits-two, digits-three}
 use Rattle.script_writer.proofs.PutLaws.{one-put, two-put, three-put}
 use Rattle.script_writer.proofs.put_number.Statement.{statement}
 use Rattle.script_writer.proofs.put_number.Tie as tie

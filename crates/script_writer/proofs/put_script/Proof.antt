@@ -4,7 +4,7 @@ use borrow.Author.Needs.{needs}
 use Rattle.text.proofs.PrintLaws.{puts-append}
 use Rattle.calls.specs.Script.{script-of}
 use Rattle.link_list.specs.Links.{links-from}
-use Rattle.script_writer.proofs.LengthLaws.{length-radios, length-script}
+use Rattle.script_writer.proofs.ScriptLengths.{length-radios, length-script}
 use Rattle.script_writer.proofs.PutLaws.{puts-place}
 use Rattle.script_writer.proofs.put_script.Statement.{statement}
 use Rattle.script_writer.proofs.put_script.Tie as tie

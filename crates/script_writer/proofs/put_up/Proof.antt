@@ -4,7 +4,7 @@ use native.Mathlib.Omega.{arith}
 use lib.ListN.{length-set}
 use borrow.Author.Needs.{needs}
 use Rattle.text.proofs.PrintLaws.{puts-byte-in, puts-append}
-use Rattle.script_writer.proofs.LengthLaws.{length-up-text}
+use Rattle.script_writer.proofs.ScriptLengths.{length-up-text}
 use Rattle.script_writer.proofs.PutLaws.{up-put, up-word, up-lower, up-higher}
 use Rattle.script_writer.proofs.put_up.Statement.{statement}
 use Rattle.script_writer.proofs.put_up.Tie as tie

@@ -4,7 +4,7 @@ use Prim.Native.Nat.{_-_}
 use native.Mathlib.Omega.{arith}
 use lib.ListN.{length}
 use borrow.Author.Needs.{needs}
-use Rattle.script_writer.proofs.LengthLaws.{Ends-counted, ends-counted-none, ends-counted-next, ends-counted-last}
+use Rattle.script_writer.proofs.ScriptLengths.{Ends-counted, ends-counted-none, ends-counted-next, ends-counted-last}
 use Rattle.script_writer.proofs.row_length.Statement.{statement}
 use Rattle.script_writer.proofs.row_length.Tie as tie
 

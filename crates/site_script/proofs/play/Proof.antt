@@ -37,7 +37,7 @@ returns c =
     let at-clear = at-first-end .before .before .before .before .before .before .before in
     let start = at-clear .before .before .before .before .before .before .before .before in
     plays (start .args .n) (at-first-end .first-end .result) (start .args .state) (at-clear .clear .result) _ (start .args .front .now) _ (replicate 17 0) _
-    (tables (start .args .links .now) (start .args .numbers .now) (start .args .order .now)) _ _ _ (at-take-chunk .take-chunk .result) (at-read-rest .read-rest .result) _ refl
+    (tables (start .args .links .now) (start .args .numbers .now) (start .args .order .now)) _ _ _ (at-take-chunk .take-chunk .result) (at-read-rest .read-rest .result) _ (at-first-end .first-end .ensures .1) refl
     (omega (arith, at-take-chunk .take-chunk .kept)) (at-clear .clear .ensures)
     (front-rest (at-first-end .first-end .result) (start .args .front .now)) (at-take-chunk .take-chunk .ensures) (at-read-rest .read-rest .ensures) (c .ended .ensures)
 

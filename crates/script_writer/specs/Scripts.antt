@@ -1,4 +1,4 @@
--- Worked scripts of document 02, W-203. That every row is right is `cases-right` in proofs/Cases.antt.
+-- Worked scripts of document 02, W-203. That every row is right is `cases-right` in proofs/Scripts.antt.
 --   Case         a site's radios and links, with the script's lines and its length
 --   case-good    is the row right
 --   cases        the table
