@@ -6,7 +6,6 @@ mod changed;
 mod changes;
 mod digest;
 mod full;
-mod held;
 mod lines;
 mod parts;
 mod pattern;
