@@ -86,26 +86,29 @@ fn check_runs(block: &[u8]) -> u32
     columns_total(&sums, &twice)
 }
 
-// The check of the first 508 bytes, of which `runs` is that of the first 504.
-fn check_rest(block: &[u8], runs: u32) -> u32
-    requires { ⌜ (508 ≤ length (now block)) × (runs ≡ check-sum (take 504 (now block))) ⌝ }
-    ensures { λ r. ⌜ r ≡ check-sum (take 508 (now (block .entry))) ⌝ }
+// The check of the first `count` bytes, of which `start` is that of the first `from`.
+fn check_rest(block: &[u8], from: usize, count: usize, start: u32) -> u32
+    requires { ⌜ (from ≤ count) × (count ≤ 508) × (count ≤ length (now block)) × (start ≡ check-sum (take from (now block))) ⌝ }
+    ensures { λ r. ⌜ r ≡ check-sum (take count (now (block .entry))) ⌝ }
 {
-    let mut sum = runs;
-    let mut i: usize = COLUMNS * RUNS;
-    while i < layout::BODY {
+    let mut sum = start;
+    let mut i = from;
+    while i < count {
         sum += bytes::wide(block[i]) * (i as u32 + 1);
         i += 1;
     }
     sum
 }
 
-// The check of a block: the sum over its first 508 bytes of byte × (position + 1).
+// The check of a block: the sum over its first 508 bytes of byte × (position + 1); over all bytes where there are fewer. As `check_rest` serves
+// both, its loop stays one: with the last four bytes written out the compiler no longer adds eight columns at a time.
 pub fn check_sum(block: &[u8]) -> u32
-    requires { ⌜ 508 ≤ length (now block) ⌝ }
     ensures { λ r. ⌜ r ≡ check-sum (take 508 (now (block .entry))) ⌝ }
 {
-    check_rest(block, check_runs(block))
+    if block.len() < layout::BODY {
+        return check_rest(block, 0, block.len(), 0);
+    }
+    check_rest(block, COLUMNS * RUNS, layout::BODY, check_runs(block))
 }
 
 // Whether block i passes its check.

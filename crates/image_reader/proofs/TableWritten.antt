@@ -2,18 +2,20 @@
 use mathlib.Core.Path.{_≡_, refl, sym, ap, _∙_}
 use mathlib.Core.Bool.{Bool, true, false, _||_, cond}
 use mathlib.Core.List.{List, [], _∷_, _++_}
-use Prim.Native.Nat.{ℕ, _+_, _*_, _≤_, _<_}
+use Prim.Native.Nat.{ℕ, _+_, _*_, _/_, _%_, _^_, _≤_, _<_}
 use native.Mathlib.Omega.{arith}
-use lib.ListN.{length, replicate}
+use lib.Bits.{bitOr}
+use lib.ListN.{length, getD, set, replicate}
 use Rattle.mesh.specs.Limits.{max-radios, row-bytes}
 use Rattle.lists.specs.Lists.{range, member}
 use Rattle.mesh.specs.Graph.{Link, link-of, graph, other-ends, linked, proper}
-use Rattle.mesh.specs.Tables.{put-link, links-table}
+use Rattle.mesh.specs.Tables.{put-bit, put-link, links-table}
 use Rattle.mesh.specs.Image.{image-link}
 use Rattle.mesh.proofs.GraphLaws.{ends, joins, linked-by, linked-by-cons}
 use Rattle.mesh.proofs.Tables.AscendingLinks.{link-eq}
 use Rattle.mesh.proofs.Tables.Laws.{table-eq, length-put-link, bytes-put-link, marked-put-link, length-links-table, bytes-links-table, marked-links-table}
 use Rattle.mesh.proofs.Tables.Laws.{links-table-cleared}
+use Rattle.rows.proofs.MaskLaws.{put-bit-true}
 use Rattle.image_site.specs.Site.{Link-at, links-up-to}
 use Rattle.image_site.proofs.TallyLaws.{links-one-more, proper-pair}
 
@@ -69,3 +71,16 @@ linking-turn n m bs ts after j a b small p l pair s e =
 
 pub linking-at : (n : ℕ) (bs ts : List ℕ) (i j : ℕ) → Linking n bs ts i → i ≡ j → Linking n bs ts j
 linking-at n bs ts i j s e = s ∙ ap (λ (k : ℕ). links-table (graph n (links-up-to n bs k))) e
+
+-- ---- one bit as the code sets it: bits are numbered through all rows
+
+pub put-bit-through : (ts : List ℕ) (a b : ℕ)
+    → set ts ((512 * a + b) / 8) (bitOr (getD ts ((512 * a + b) / 8) 0) (1 * 2 ^ ((512 * a + b) % 8) % 256)) ≡ put-bit true a b ts
+put-bit-through ts a b =
+    let place : (512 * a + b) / 8 ≡ 64 * a + b / 8 = omega arith in
+    let bit : (512 * a + b) % 8 ≡ b % 8 = omega arith in
+    rw (place, bit) (put-bit-true ts a b)
+
+-- the table has the rows of a link
+pub rows-there : (n : ℕ) (bs ts : List ℕ) (j b : ℕ) → Linking n bs ts j → b < n → row-bytes * b + row-bytes ≤ length ts
+rows-there n bs ts j b s l = omega (arith, ap length s, length-links-table (graph n (links-up-to n bs j)))

@@ -83,13 +83,16 @@ part-read-end : tie.Need-part-read-end
 part-read-end c =
     let sized = c .before .before .before in
     let else2 = c .before .before .before .before .before .before in
-    let a = c .before .before .before .before .before .before .before .before .before .before .before .before .before .before .before .before .before .before .before .args in
+    let a =
+    c .before .before .before .before .before .before .before .before .before .before .before .before .before .before .before .before .before .before .before .args
+    in
     let spot = c .before .before .before .before .before .before .before .before .before .before .spot-of in
     let zero = c .before .before .before .before .before .before .before .before .if1 .left in
     let t = tables (a .links .now) (a .numbers .now) (a .order .now) in
     let s = spotted (a .n) (a .name .now) t (a .kept .now) _ (spot .ensures .0) zero _ _ _ (spot .ensures .1 zero) in
     let b = below (a .n) (a .name .now) t (a .kept .now) _ (spot .ensures .0) zero _ _ _ (spot .ensures .1 zero) (not-false _ (else2 .if2 .left)) in
-    let f = fits (a .n) (a .name .now) t (a .kept .now) _ (spot .ensures .0) zero _ _ _ (spot .ensures .1 zero) (not-false _ (else2 .if2 .left)) (sized .image-size .result) (sized .image-size .ensures .0) in
+    let f = fits (a .n) (a .name .now) t (a .kept .now) _ (spot .ensures .0) zero _ _ _ (spot .ensures .1 zero) (not-false _ (else2 .if2 .left))
+    (sized .image-size .result) (sized .image-size .ensures .0) in
     omega (arith, s .long, s .few, b, f)
 
 returns-3 : tie.Need-returns-3
@@ -97,17 +100,22 @@ returns-3 c =
     let done = c .before .before .before .before .before .before in
     let sized = c .before .before .before .before .before .before .before .before .before .before .before in
     let else2 = c .before .before .before .before .before .before .before .before .before .before .before .before .before .before in
-    let a = c .before .before .before .before .before .before .before .before .before .before .before .before .before .before .before .before .before .before .before .before .before .before .before .before .before .before .before .args in
-    let spot = c .before .before .before .before .before .before .before .before .before .before .before .before .before .before .before .before .before .before .spot-of in
+    let a =
+    c .before .before .before .before .before .before .before .before .before .before .before .before .before .before .before .before .before .before .before .before .before .before .before .before .before .before .before .args
+    in
+    let spot =
+    c .before .before .before .before .before .before .before .before .before .before .before .before .before .before .before .before .before .before .spot-of
+    in
     let zero = c .before .before .before .before .before .before .before .before .before .before .before .before .before .before .before .before .if1 .left in
     let t = tables (a .links .now) (a .numbers .now) (a .order .now) in
-    returned (a .n) (a .name .now) t (a .kept .now) _ (spot .ensures .0) zero _ _ _ (spot .ensures .1 zero) (not-false _ (else2 .if2 .left)) (sized .image-size .result)
+    returned (a .n) (a .name .now) t (a .kept .now) _ (spot .ensures .0) zero _ _ _ (spot .ensures .1 zero) (not-false _ (else2 .if2 .left))
+    (sized .image-size .result)
     (sized .image-size .ensures .0) (done .read .result) _ (done .read .ensures)
 
 pub come-back-spec : {M : Type 1} → statement M
 come-back-spec =
     tie.close (
-    tie.spec (λ c κs. search needs) (λ c. search needs) (λ c. search needs) (λ c. search needs) returns 
+    tie.spec (λ c κs. search needs) (λ c. search needs) (λ c. search needs) (λ c. search needs) returns
     (λ c. search needs) (λ c. search needs) (λ c. search needs) returns-2 mul-at add-end add-from (λ c. search needs) (λ c. search needs) part-image-size-end
     (λ c κs. search needs) add-to (λ c. search needs) (λ c. search needs) part-read-end (λ c κs. search needs) (λ c. search needs) (λ c. search needs)
     (λ c. search needs) returns-3)

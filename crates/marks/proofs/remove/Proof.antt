@@ -80,7 +80,9 @@ sub-last : tie.Need-sub-last
 sub-last c =
     let moved = c .before .before .before in
     let else2 = c .before .before .before .before .before .before .before in
-    let a = c .before .before .before .before .before .before .before .before .before .before .before .before .before .before .before .before .before .before .args in
+    let a =
+    c .before .before .before .before .before .before .before .before .before .before .before .before .before .before .before .before .before .before .args
+    in
     let spot = c .before .before .before .before .before .before .before .before .before .before .before .spot-of in
     let zero = c .before .before .before .before .before .before .before .before .before .if1 .left in
     let t = tables (a .links .now) (a .numbers .now) (a .order .now) in
@@ -92,7 +94,9 @@ mul-last : tie.Need-mul-last
 mul-last c =
     let moved = c .before .before .before in
     let else2 = c .before .before .before .before .before .before .before in
-    let a = c .before .before .before .before .before .before .before .before .before .before .before .before .before .before .before .before .before .before .args in
+    let a =
+    c .before .before .before .before .before .before .before .before .before .before .before .before .before .before .before .before .before .before .args
+    in
     let spot = c .before .before .before .before .before .before .before .before .before .before .before .spot-of in
     let zero = c .before .before .before .before .before .before .before .before .before .if1 .left in
     let t = tables (a .links .now) (a .numbers .now) (a .order .now) in
@@ -104,7 +108,9 @@ add-end : tie.Need-add-end
 add-end c =
     let moved = c .before .before .before in
     let else2 = c .before .before .before .before .before .before .before in
-    let a = c .before .before .before .before .before .before .before .before .before .before .before .before .before .before .before .before .before .before .args in
+    let a =
+    c .before .before .before .before .before .before .before .before .before .before .before .before .before .before .before .before .before .before .args
+    in
     let spot = c .before .before .before .before .before .before .before .before .before .before .before .spot-of in
     let zero = c .before .before .before .before .before .before .before .before .before .if1 .left in
     let t = tables (a .links .now) (a .numbers .now) (a .order .now) in
@@ -116,13 +122,16 @@ part-fill8-end : tie.Need-part-fill8-end
 part-fill8-end c =
     let moved = c .before .before .before in
     let else2 = c .before .before .before .before .before .before .before in
-    let a = c .before .before .before .before .before .before .before .before .before .before .before .before .before .before .before .before .before .before .args in
+    let a =
+    c .before .before .before .before .before .before .before .before .before .before .before .before .before .before .before .before .before .before .args
+    in
     let spot = c .before .before .before .before .before .before .before .before .before .before .before .spot-of in
     let zero = c .before .before .before .before .before .before .before .before .before .if1 .left in
     let t = tables (a .links .now) (a .numbers .now) (a .order .now) in
     let s = spotted (a .n) (a .name .now) t (a .kept .now) _ (spot .ensures .0) zero _ _ _ (spot .ensures .1 zero) in
     let b = below (a .n) (a .name .now) t (a .kept .now) _ (spot .ensures .0) zero _ _ _ (spot .ensures .1 zero) (not-false _ (else2 .if2 .left)) in
-    let long = ap length (moved .move-down .ensures) ∙ length-moved-down (a .kept .now) _ _ (omega arith) (omega (arith, b)) (omega (arith, s .long, s .few)) ∙ s .long in
+    let long = ap length (moved .move-down .ensures) ∙ length-moved-down (a .kept .now) _ _ (omega arith) (omega (arith, b))
+    (omega (arith, s .long, s .few)) ∙ s .long in
     omega (arith, long, s .few, b)
 
 returns-3 : tie.Need-returns-3
@@ -130,20 +139,25 @@ returns-3 c =
     let zeroed = c .before .before in
     let moved = c .before .before .before .before .before .before .before in
     let else2 = c .before .before .before .before .before .before .before .before .before .before .before in
-    let a = c .before .before .before .before .before .before .before .before .before .before .before .before .before .before .before .before .before .before .before .before .before .before .args in
+    let a =
+    c .before .before .before .before .before .before .before .before .before .before .before .before .before .before .before .before .before .before .before .before .before .before .args
+    in
     let spot = c .before .before .before .before .before .before .before .before .before .before .before .before .before .before .before .spot-of in
     let zero = c .before .before .before .before .before .before .before .before .before .before .before .before .before .if1 .left in
     let t = tables (a .links .now) (a .numbers .now) (a .order .now) in
     let s = spotted (a .n) (a .name .now) t (a .kept .now) _ (spot .ensures .0) zero _ _ _ (spot .ensures .1 zero) in
     let b = below (a .n) (a .name .now) t (a .kept .now) _ (spot .ensures .0) zero _ _ _ (spot .ensures .1 zero) (not-false _ (else2 .if2 .left)) in
-    let long = ap length (moved .move-down .ensures) ∙ length-moved-down (a .kept .now) _ _ (omega arith) (omega (arith, b)) (omega (arith, s .long, s .few)) ∙ s .long in
+    let long = ap length (moved .move-down .ensures) ∙ length-moved-down (a .kept .now) _ _ (omega arith) (omega (arith, b))
+    (omega (arith, s .long, s .few)) ∙ s .long in
     let ds = moved .move-down .last .0 in
     let i = spot .result .used - 1 in
     let e : place-bytes * i + place-bytes - place-bytes * i ≡ place-bytes = omega arith in
-    removed (a .n) (a .name .now) t (a .kept .now) _ (spot .ensures .0) zero _ _ _ (spot .ensures .1 zero) (not-false _ (else2 .if2 .left)) (length (midOf (place-bytes * i) (place-bytes * i + place-bytes - place-bytes * i) ds)) _
+    removed (a .n) (a .name .now) t (a .kept .now) _ (spot .ensures .0) zero _ _ _ (spot .ensures .1 zero) (not-false _ (else2 .if2 .left))
+    (length (midOf (place-bytes * i) (place-bytes * i + place-bytes - place-bytes * i) ds)) _
     (rw e (length-take-le place-bytes (drop (place-bytes * i) ds) (omega (arith, length-drop (place-bytes * i) ds, long, s .few, b))))
     (placed-at ds i (zeroed .fill8 .last .0) _ (zeroed .fill8 .ensures)
-    ∙ ap (λ (os : List ℕ). put-place os i (replicate (length (midOf (place-bytes * i) (place-bytes * i + place-bytes - place-bytes * i) ds)) 0)) (moved .move-down .ensures))
+    ∙ ap (λ (os : List ℕ). put-place os i (replicate (length (midOf (place-bytes * i) (place-bytes * i + place-bytes - place-bytes * i) ds)) 0))
+    (moved .move-down .ensures))
 
 pub remove-spec : {M : Type 1} → statement M
 remove-spec =

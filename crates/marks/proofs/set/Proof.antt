@@ -88,7 +88,9 @@ put-at-requires-2 c κs =
     let moved = c .before .before .before in
     let else3 = c .before .before .before .before .before .before .before in
     let else2 = c .before .before .before .before .before .before .before .before .before in
-    let a = c .before .before .before .before .before .before .before .before .before .before .before .before .before .before .before .before .before .before .before .args in
+    let a =
+    c .before .before .before .before .before .before .before .before .before .before .before .before .before .before .before .before .before .before .before .args
+    in
     let spot = c .before .before .before .before .before .before .before .before .before .before .before .before .spot-of in
     let zero = c .before .before .before .before .before .before .before .before .before .before .if1 .left in
     let t = tables (a .links .now) (a .numbers .now) (a .order .now) in
@@ -103,7 +105,9 @@ returns-4 c =
     let moved = c .before .before .before .before .before .before in
     let else3 = c .before .before .before .before .before .before .before .before .before .before in
     let else2 = c .before .before .before .before .before .before .before .before .before .before .before .before in
-    let a = c .before .before .before .before .before .before .before .before .before .before .before .before .before .before .before .before .before .before .before .before .before .before .args in
+    let a =
+    c .before .before .before .before .before .before .before .before .before .before .before .before .before .before .before .before .before .before .before .before .before .before .args
+    in
     let spot = c .before .before .before .before .before .before .before .before .before .before .before .before .before .before .before .spot-of in
     let zero = c .before .before .before .before .before .before .before .before .before .before .before .before .before .if1 .left in
     let t = tables (a .links .now) (a .numbers .now) (a .order .now) in

@@ -8,13 +8,13 @@ use Rattle.image.proofs.checks.check_rest.Statement.{statement}
 use Rattle.image.proofs.checks.check_rest.Tie as tie
 
 abbrev Inv-loop : tie.InvT-loop
-Inv-loop block runs sum₀ i₀ sum i = Summing block 508 sum i
+Inv-loop block from count start sum₀ i₀ sum i = Summing block count sum i
 
 abbrev μ-loop : tie.MeasureT-loop
-μ-loop block runs sum₀ i₀ sum i = 508 - i
+μ-loop block from count start sum₀ i₀ sum i = count - i
 
 loop-holds : tie.Need-loop-holds Inv-loop μ-loop
-loop-holds c = let pre = c .before .pre in record { low = omega arith; few = omega arith; whole = pre .0; is = pre .1 }
+loop-holds c = let pre = c .before .pre in record { low = pre .0; few = pre .1; whole = pre .2; is = pre .3 }
 
 mul-sum : tie.Need-mul-sum Inv-loop μ-loop
 mul-sum c = record { fits = product-fits _ _ _ _ _ (c .before .before .before .loop .inv) (omega arith) (c .wide .ensures .0) (c .wide .ensures .1) }
@@ -28,5 +28,5 @@ loop-again c = summing-turn _ _ _ _ _ (c .before .before .before .loop .inv) (om
 pub check-rest-spec : {M : Type 1} → statement M
 check-rest-spec =
     tie.close (
-    tie.spec Inv-loop μ-loop (λ c. search needs) loop-holds (λ c. search needs) (λ c κs. search needs) (λ c. search needs) (λ c. search needs) mul-sum add-sum-2
+    tie.spec Inv-loop μ-loop loop-holds (λ c. search needs) (λ c κs. search needs) (λ c. search needs) (λ c. search needs) mul-sum add-sum-2
     (λ c. search needs) (λ c. search needs) loop-again (λ c. summing-end _ _ _ _ (c .before .loop .inv) (omega arith)))

@@ -21,7 +21,8 @@ unfolding lengths-of
 returns-2 c =
     let call = c .before .before .before .before .before .before .before .before .before .args in
     let t = tables (call .links .now) (call .numbers .now) (call .order .now) in
-    read-not-header _ (call .image .now) t _ (c .before .before .before .before .of-tables .ensures) (c .before .before .before .if1 .left) _ (c .before .before .open .ensures .asked)
+    read-not-header _ (call .image .now) t _ (c .before .before .before .before .of-tables .ensures) (c .before .before .before .if1 .left) _
+    (c .before .before .open .ensures .asked)
     (c .if2 .taken)
 
 read-site-requires : tie.Need-read-site-requires

@@ -11,43 +11,52 @@ use Rattle.image_reader.proofs.reader.read_site.Statement.{statement}
 use Rattle.image_reader.proofs.reader.read_site.Tie as tie
 
 returns : tie.Need-returns
-returns c = source-refused _ _ _ (c .before .before .before .before .before .before .before .before .before .before .before .before .before .before .pre .1 .1) _ _ _ (c .before .before .before .before .before .refusal .ensures) (c .if1 .taken)
+returns c =
+    let source = c .before .before .before .before .before in
+    let start = source .before .before .before .before .before .before .before .before .before in source-refused _ _ _ (start .pre .1 .1) _ _ _ (source .refusal .ensures) (c .if1 .taken)
 
 put-links-requires : tie.Need-put-links-requires
 put-links-requires c κs =
-    let source = c .before .before .before .before .before .before .refusal in
-    let start = c .before .before .before .before .before .before .before .before .before .before .before .before .before .before .before in
+    let else1 = c .before in
+    let source = else1 .before .before .before .before .before in
+    let known = source .before .before .before .before .before in
+    let start = source .before .before .before .before .before .before .before .before .before in
     let room = start .pre .0 .room in
-    let bytes : Bytes (start .args .image .now) = λ j l. c .before .before .before .before .before .before .before .before .before .before .before .shared-slice-known .given j .fits in (
-      links-room _ _ (size-good-true _ (start .pre .0 .this-size) .1) _ _ _ (source-site _ _ _ _ _ (source .ensures) (c .before .if1 .left)) refl bytes
+    let bytes : Bytes (start .args .image .now) = λ j l. known .shared-slice-known .given j .fits in (
+      links-room _ _ (size-good-true _ (start .pre .0 .this-size) .1) _ _ _ (source-site _ _ _ _ _ (source .refusal .ensures) (else1 .if1 .left)) refl bytes
           (room .checked) _ (room .says .links-said) (room .says .links-fit),
       start .pre .1 .0 .0,
     )
 
 put-numbers-requires : tie.Need-put-numbers-requires
 put-numbers-requires c κs =
-    let source = c .before .before .before .before .before .before .before .before .before .before .before .refusal in
-    let start = c .before .before .before .before .before .before .before .before .before .before .before .before .before .before .before .before .before .before .before .before in
+    let else1 = c .before .before .before .before .before .before in
+    let source = else1 .before .before .before .before .before in
+    let start = source .before .before .before .before .before .before .before .before .before in
     let room = start .pre .0 in
     omega (
       arith,
-      source-says _ _ _ _ _ _ (room .this-size) (room .room .says .radios-said) (source .ensures) (c .before .before .before .before .before .before .if1 .left),
-      source .kept .1 .1 .1 .1 .0,
+      source-says _ _ _ _ _ _ (room .this-size) (room .room .says .radios-said) (source .refusal .ensures) (else1 .if1 .left),
+      source .refusal .kept .1 .1 .1 .1 .0,
       room .room .cores-long,
       start .pre .1 .0 .1,
     )
 
 returns-2 : tie.Need-returns-2
 returns-2 c =
-    let source = c .before .before .before .before .before .before .before .before .before .before .before .before .before .before .before .before .before .before .before .refusal .ensures in
-    let none = c .before .before .before .before .before .before .before .before .before .before .before .before .before .before .if1 .left in
-    let start = c .before .before .before .before .before .before .before .before .before .before .before .before .before .before .before .before .before .before .before .before .before .before .before .before .before .before .before .before in
+    let copied = c .before .before in
+    let numbered = copied .before .before .before .before .before in
+    let linked = numbered .before .before .before .before .before in
+    let else1 = linked .before .before in
+    let source = else1 .before .before .before .before .before in
+    let start = source .before .before .before .before .before .before .before .before .before in
     let sized = start .pre .1 .0 in
+    let yes = source .refusal .ensures in
     let t = tables (start .args .links .now) (start .args .numbers .now) (start .args .order .now) in
-    source-accepted _ _ t (start .pre .1 .1) _ _ _ source none _
-    (site-accepted _ _ (size-good-true _ (start .pre .0 .this-size) .1) _ _ _ (source-site _ _ _ _ _ source none) refl
+    source-accepted _ _ t (start .pre .1 .1) _ _ _ yes (else1 .if1 .left) _
+    (site-accepted _ _ (size-good-true _ (start .pre .0 .this-size) .1) _ _ _ (source-site _ _ _ _ _ yes (else1 .if1 .left)) refl
     _ t _ _ _ (start .pre .0 .room .says .links-said) (sized .1) (sized .2)
-    (c .before .before .before .before .before .before .before .before .before .before .before .before .put-links .ensures) (c .before .before .before .before .before .before .before .put-numbers .ensures) (c .before .before .copy16 .ensures))
+    (linked .put-links .ensures) (numbered .put-numbers .ensures) (copied .copy16 .ensures))
 
 pub read-site-spec : {M : Type 1} → statement M
 read-site-spec =

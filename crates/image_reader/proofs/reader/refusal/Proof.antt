@@ -15,7 +15,8 @@ returns c = let size = c .before .is-size in alone-no-size _ _ (sym (size .ensur
 returns-2 : tie.Need-returns-2
 returns-2 c =
     let size = c .before .before .before .before .is-size in
-    alone-header _ _ (sym (size .ensures) ∙ not-false (size .result) (c .before .before .before .if1 .left)) _ (c .before .before .open .ensures .asked) (c .if2 .taken)
+    alone-header _ _ (sym (size .ensures) ∙ not-false (size .result) (c .before .before .before .if1 .left)) _ (c .before .before .open .ensures .asked)
+    (c .if2 .taken)
 
 refusal-requires : tie.Need-refusal-requires
 refusal-requires c κs =
@@ -23,13 +24,16 @@ refusal-requires c κs =
     let opened = c .before .before .before .before .before .open .ensures in
     let zero = c .before .before .before .if2 .left in
     let small = header-small _ _ _ _ opened zero in
-    header-room _ _ _ _ opened zero _ (sym (size .ensures) ∙ not-false (size .result) (c .before .before .before .before .before .before .if1 .left)) _ _ (length-take-le _ _ small)
+    header-room _ _ _ _ opened zero _ (sym (size .ensures) ∙ not-false (size .result) (c .before .before .before .before .before .before .if1 .left)) _ _
+    (length-take-le _ _ small)
     (length-take-le _ _ small)
 
 returns-3 : tie.Need-returns-3
 returns-3 c =
     let size = c .before .before .before .before .before .before .before .before .before .before .is-size in
-    alone-decided _ _ (sym (size .ensures) ∙ not-false (size .result) (c .before .before .before .before .before .before .before .before .before .if1 .left)) _ _ _ (c .before .before .before .before .before .before .before .before .open .ensures) (c .before .before .before .before .before .before .if2 .left)
+    alone-decided _ _
+    (sym (size .ensures) ∙ not-false (size .result) (c .before .before .before .before .before .before .before .before .before .if1 .left)) _ _ _
+    (c .before .before .before .before .before .before .before .before .open .ensures) (c .before .before .before .before .before .before .if2 .left)
     _ _ _ (c .before .before .refusal .ensures)
 
 pub refusal-spec : {M : Type 1} → statement M

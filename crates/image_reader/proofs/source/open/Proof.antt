@@ -14,14 +14,17 @@ header-of-requires c κs = first-block _ _ (c .before .refusal .ensures) (c .if1
 returns-2 : tie.Need-returns-2
 returns-2 c =
     let size = c .before .before .is-size in
-    opened-no-size _ _ (c .before .before .before .before .before .refusal .ensures) (c .before .before .before .before .if1 .left) _ _ (c .before .before .before .header-of .ensures) _ (size .ensures)
+    opened-no-size _ _ (c .before .before .before .before .before .refusal .ensures) (c .before .before .before .before .if1 .left) _ _
+    (c .before .before .before .header-of .ensures) _ (size .ensures)
     (not-true (size .result) (c .before .if2 .taken)) _ _ _ (c .refused2 .ensures)
 
 returns-3 : tie.Need-returns-3
 returns-3 c =
     let size = c .before .is-size in
-    opened-size _ _ (c .before .before .before .before .refusal .ensures) (c .before .before .before .if1 .left) _ _ (c .before .before .header-of .ensures) _ (size .ensures)
+    opened-size _ _ (c .before .before .before .before .refusal .ensures) (c .before .before .before .if1 .left) _ _ (c .before .before .header-of .ensures)
+    _ (size .ensures)
     (not-false (size .result) (c .if2 .left))
 
 pub open-spec : {M : Type 1} → statement M
-open-spec = tie.close (tie.spec (λ c κs. search needs) (λ c κs. search needs) returns header-of-requires (λ c κs. search needs) (λ c κs. search needs) returns-2 returns-3)
+open-spec = tie.close
+    (tie.spec (λ c κs. search needs) (λ c κs. search needs) returns header-of-requires (λ c κs. search needs) (λ c κs. search needs) returns-2 returns-3)

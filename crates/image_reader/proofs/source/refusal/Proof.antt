@@ -9,7 +9,8 @@ returns : tie.Need-returns
 returns c =
     let image = c .before .before .before .before .before in
     let room = image .before .before .before .before .before .before .pre in
-    source-none _ _ _ (room .this-size) (room .room .says .radios-said) (room .says-size) _ _ _ (image .is-image .ensures) (not-true (image .is-image .result) (c .if1 .taken))
+    source-none _ _ _ (room .this-size) (room .room .says .radios-said) (room .says-size) _ _ _ (image .is-image .ensures)
+    (not-true (image .is-image .result) (c .if1 .taken))
 
 returns-2 : tie.Need-returns-2
 returns-2 c =

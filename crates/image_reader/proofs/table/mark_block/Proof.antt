@@ -7,7 +7,7 @@ use borrow.Author.Needs.{needs}
 use Rattle.mesh.specs.Image.{block-links}
 use Rattle.image_site.proofs.BlockLaws.{link-in, link-inside, link-index, block-passed}
 use Rattle.image_site.proofs.TallyLaws.{proper-pair}
-use Rattle.image_reader.proofs.TableWritten.{Linking, linking-at, linking-turn}
+use Rattle.image_reader.proofs.TableWritten.{Linking, linking-at, linking-turn, rows-there}
 use Rattle.image_reader.proofs.table.mark_block.Statement.{statement}
 use Rattle.image_reader.proofs.table.mark_block.Tie as tie
 
@@ -34,6 +34,17 @@ word-at-requires-2 c κs =
     let start = at-loop .before .before .before .before in
     omega (arith, link-inside _ _ _ _ _ (at-loop .before .part-of .ensures) _ _ (start .pre .0 .0 .whole) (start .pre .0 .1) (c .before .before .if1 .taken))
 
+set-link-requires : tie.Need-set-link-requires Inv-loop μ-loop
+set-link-requires c κs =
+    let read = c .before in
+    let at-loop = read .before .before .before .before .before in
+    let part = at-loop .before .part-of .ensures in
+    let start = at-loop .before .before .before .before in
+    let pair = link-in _ _ _ _ _ part _ _ _ _ (read .before .before .before .if1 .taken) (read .before .word-at .ensures .0) (read .word-at2 .ensures .0) in
+    let index = link-index _ _ _ _ _ part _ (read .before .before .before .if1 .taken) in
+    let good = proper-pair _ _ _ _ _ _ (start .pre .0 .0 .is-proper) index pair in
+    (good .0, omega (arith, start .pre .0 .0 .most), rows-there _ _ _ _ _ (at-loop .loop .inv .2) (good .1))
+
 loop-again : tie.Need-loop-again Inv-loop μ-loop
 loop-again c =
     let read = c .before .before .before .before in
@@ -45,8 +56,10 @@ loop-again c =
     let put = c .before .before in
     let e : block-links * (start .args .q) + at-loop .loop .i + 1 ≡ block-links * (start .args .q) + (at-loop .loop .i + 1) = omega arith in (
       omega arith,
-      put .put-link .kept .0 ∙ at-loop .loop .inv .1,
-      linking-at _ _ _ _ _ (linking-turn _ _ _ _ _ _ _ _ (start .pre .0 .0 .most) (start .pre .0 .0 .is-proper) index pair (at-loop .loop .inv .2) (put .put-link .ensures)) e,
+      put .set-link .kept .0 ∙ at-loop .loop .inv .1,
+      linking-at _ _ _ _ _
+          (linking-turn _ _ _ _ _ _ _ _ (start .pre .0 .0 .most) (start .pre .0 .0 .is-proper) index pair (at-loop .loop .inv .2) (put .set-link .ensures))
+          e,
     )
 
 returns : tie.Need-returns Inv-loop μ-loop
@@ -60,4 +73,4 @@ pub mark-block-spec : {M : Type 1} → statement M
 mark-block-spec =
     tie.close (
     tie.spec Inv-loop μ-loop (λ c κs. search needs) loop-holds (λ c. search needs) (λ c. search needs) word-at-requires (λ c. search needs) word-at-requires-2
-    (λ c κs. search needs) (λ c. search needs) (λ c. search needs) loop-again (λ c. c .before .before .loop .inv .1) returns)
+    set-link-requires (λ c. search needs) (λ c. search needs) loop-again (λ c. c .before .before .loop .inv .1) returns)

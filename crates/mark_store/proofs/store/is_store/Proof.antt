@@ -34,7 +34,8 @@ returns-2 c =
     let at-loop = marked .before .before .before in
     let counted = c .before .before .before .before .before .before .before .before .pre .1 .counted in
     sym (store-not-rising _ _ (at-loop .loop .i) (at-loop .loop .inv) (omega (arith, counted)) (marked .is-mark .result) (marked .is-mark .ensures)
-    (not-false (marked .is-mark .result) (else1 .if1 .left)) (rising .is-rising .result) (rising .is-rising .ensures) (not-true (rising .is-rising .result) (c .if2 .taken)))
+    (not-false (marked .is-mark .result) (else1 .if1 .left)) (rising .is-rising .result) (rising .is-rising .ensures)
+    (not-true (rising .is-rising .result) (c .if2 .taken)))
 
 loop-again : tie.Need-loop-again Inv-loop μ-loop
 loop-again c =
@@ -44,12 +45,14 @@ loop-again c =
     let at-loop = marked .before .before .before in
     let counted = c .before .before .before .before .before .before .before .before .pre .1 .counted in
     testing-turn _ _ (at-loop .loop .i) (at-loop .loop .inv) (omega (arith, counted)) (marked .is-mark .result) (marked .is-mark .ensures)
-    (not-false (marked .is-mark .result) (else1 .if1 .left)) (rising .is-rising .result) (rising .is-rising .ensures) (not-false (rising .is-rising .result) (c .if2 .left))
+    (not-false (marked .is-mark .result) (else1 .if1 .left)) (rising .is-rising .result) (rising .is-rising .ensures)
+    (not-false (rising .is-rising .result) (c .if2 .left))
 
 returns-3 : tie.Need-returns-3 Inv-loop μ-loop
 returns-3 c =
     let at-loop = c .before .before .before in
-    store-tested _ _ (at-loop .loop .i) _ (c .are-zeros .result) (at-loop .loop .inv) (omega arith) (c .before .before .before .before .before .pre .1 .counted) (c .are-zeros .ensures)
+    store-tested _ _ (at-loop .loop .i) _ (c .are-zeros .result) (at-loop .loop .inv) (omega arith)
+    (c .before .before .before .before .before .pre .1 .counted) (c .are-zeros .ensures)
 
 pub is-store-spec : {M : Type 1} → statement M
 is-store-spec =

@@ -37,7 +37,8 @@ returns-2 c =
     let a = c .before .before .before .before .before .before .before .before .before .before .before .args in
     let tested = c .before .before .is-store in (
       c .refused2 .ensures
-          ∙ not-store (a .n) _ _ (a .name .now) (a .store .now) _ (c .before .before .before .before .before .refusal .ensures) (c .before .before .before .before .if1 .left)
+          ∙ not-store (a .n) _ _ (a .name .now) (a .store .now) _ (c .before .before .before .before .before .refusal .ensures)
+          (c .before .before .before .before .if1 .left)
           (sym (tested .ensures) ∙ not-true (tested .result) (c .before .if2 .taken)),
       λ z. absurd (omega (arith, c .refused2 .ensures, z)),
     )
@@ -49,8 +50,10 @@ returns-3 c =
     let tested = c .before .before .before .before .is-store in
     let named = c .before .before .is-name in (
       c .refused3 .ensures
-          ∙ not-named (a .n) _ _ (a .name .now) (a .store .now) _ (c .before .before .before .before .before .before .before .refusal .ensures) (c .before .before .before .before .before .before .if1 .left)
-          (sym (tested .ensures) ∙ not-false (tested .result) (c .before .before .before .if2 .left)) (sym (named .ensures) ∙ not-true (named .result) (c .before .if3 .taken)),
+          ∙ not-named (a .n) _ _ (a .name .now) (a .store .now) _ (c .before .before .before .before .before .before .before .refusal .ensures)
+          (c .before .before .before .before .before .before .if1 .left)
+          (sym (tested .ensures) ∙ not-false (tested .result) (c .before .before .before .if2 .left))
+          (sym (named .ensures) ∙ not-true (named .result) (c .before .if3 .taken)),
       λ z. absurd (omega (arith, c .refused3 .ensures, z)),
     )
 
@@ -61,12 +64,15 @@ returns-4 c =
     let tested = c .before .before .before .before .is-store in
     let named = c .before .before .is-name in (
       c .locate .ensures .0
-          ∙ all-good (a .n) _ _ (a .name .now) (a .store .now) _ (c .before .before .before .before .before .before .before .refusal .ensures) (c .before .before .before .before .before .before .if1 .left)
-          (sym (tested .ensures) ∙ not-false (tested .result) (c .before .before .before .if2 .left)) (sym (named .ensures) ∙ not-false (named .result) (c .before .if3 .left)),
+          ∙ all-good (a .n) _ _ (a .name .now) (a .store .now) _ (c .before .before .before .before .before .before .before .refusal .ensures)
+          (c .before .before .before .before .before .before .if1 .left)
+          (sym (tested .ensures) ∙ not-false (tested .result) (c .before .before .before .if2 .left))
+          (sym (named .ensures) ∙ not-false (named .result) (c .before .if3 .left)),
       λ z. c .locate .ensures .1,
     )
 
 pub spot-of-spec : {M : Type 1} → statement M
 spot-of-spec =
     tie.close (
-    tie.spec (λ c κs. search needs) (λ c κs. search needs) returns count-used-requires is-store-requires (λ c κs. search needs) returns-2 (λ c κs. search needs) (λ c κs. search needs) returns-3 (λ c κs. search needs) returns-4)
+    tie.spec (λ c κs. search needs) (λ c κs. search needs) returns count-used-requires is-store-requires (λ c κs. search needs) returns-2
+    (λ c κs. search needs) (λ c κs. search needs) returns-3 (λ c κs. search needs) returns-4)

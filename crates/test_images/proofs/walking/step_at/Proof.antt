@@ -6,10 +6,12 @@ use Rattle.test_images.proofs.walking.step_at.Statement.{statement}
 use Rattle.test_images.proofs.walking.step_at.Tie as tie
 
 add-end : tie.Need-add-end
-add-end c = omega (arith, block-inside (<<Start>> .args .image .now) (<<Start>> .args .i) (<<After-block>> .block .result) (<<After-block>> .block .ensures))
+add-end c = omega
+    (arith, block-inside (c .before .before .before .args .image .now) (c .before .before .before .args .i) (c .before .block .result) (c .before .block .ensures))
 
 part-noted-end : tie.Need-part-noted-end
-part-noted-end c = omega (arith, block-inside (<<Start>> .args .image .now) (<<Start>> .args .i) (<<After-block>> .block .result) (<<After-block>> .block .ensures))
+part-noted-end c = omega
+    (arith, block-inside (c .before .before .before .args .image .now) (c .before .before .before .args .i) (c .before .block .result) (c .before .block .ensures))
 
 pub step-at-spec : {M : Type 1} → statement M
 step-at-spec =
