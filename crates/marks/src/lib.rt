@@ -1,6 +1,6 @@
 // Named marks: set, removed, come back to. Places are moved within the lent store, and nothing of one is copied to the stack.
 ghost use mathlib.Core.Path.{_≡_};
-ghost use Prim.Native.Nat.{_≤_, _<_, _+_};
+ghost use Prim.Native.Nat.{_<_, _+_};
 ghost use lib.ListN.{length};
 ghost use Rattle.mesh.specs.Lent.{lent};
 ghost use Rattle.mesh.specs.Marks.{place-bytes, places, store-bytes};

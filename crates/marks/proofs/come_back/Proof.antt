@@ -1,5 +1,4 @@
 -- `come_back` meets its contract: a refusal touches nothing; accepted, the mark's image is read from its part of the store.
-use mathlib.Core.Path.{_≡_, refl, sym, _∙_}
 use native.Mathlib.Omega.{arith}
 use borrow.Author.Needs.{needs}
 use borrow.Author.Tests.{not-true, not-false}

@@ -1,5 +1,5 @@
 -- `remove` meets its contract: a refusal touches nothing; accepted, later places move down and the last used one is zeroed.
-use mathlib.Core.Path.{_≡_, refl, ap, _∙_}
+use mathlib.Core.Path.{_≡_, ap, _∙_}
 use mathlib.Core.List.{List}
 use Prim.Native.Nat.{ℕ, _+_, _*_, _-_}
 use native.Mathlib.Omega.{arith}

@@ -1,13 +1,12 @@
 -- `set` meets its contract: a refusal touches nothing; a mark of that name is replaced; a new one is put where it belongs, after later
 -- places have moved up.
-use mathlib.Core.Path.{_≡_, refl, ap, _∙_}
+use mathlib.Core.Path.{ap, _∙_}
 use mathlib.Core.List.{List}
-use Prim.Native.Nat.{ℕ, _*_}
+use Prim.Native.Nat.{ℕ}
 use native.Mathlib.Omega.{arith}
 use lib.ListN.{length}
 use borrow.Author.Needs.{needs}
 use Rattle.mesh.specs.Tables.{tables}
-use Rattle.mesh.specs.Marks.{place-bytes}
 use Rattle.marks.specs.Placing.{mark-place, put-place}
 use Rattle.marks.proofs.Moving.{length-moved-up}
 use Rattle.marks.proofs.CallLaws.{set-refused, markable, set-again, set-full, set-new, spotted, room, below}

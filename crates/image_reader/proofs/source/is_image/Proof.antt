@@ -1,5 +1,4 @@
 -- `source::is_image` meets its contract: an image that is not formed is none, and else its site decides.
-use native.Mathlib.Omega.{arith}
 use borrow.Author.Tests.{not-true, not-false}
 use borrow.Author.Needs.{needs}
 use Rattle.lists.specs.Facts.{Bytes}

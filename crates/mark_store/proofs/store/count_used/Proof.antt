@@ -1,5 +1,4 @@
 -- `store::count_used` meets its contract: the places passed are used, so what is left decides. The measure is the places left.
-use mathlib.Core.Path.{_≡_, sym}
 use Prim.Native.Nat.{_-_}
 use native.Mathlib.Omega.{arith}
 use borrow.Author.Needs.{needs}

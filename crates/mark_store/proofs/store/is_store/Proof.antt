@@ -1,6 +1,6 @@
 -- `store::is_store` meets its contract: the used places passed are marks in rising order, so what is left decides. The measure is the
 -- used places left.
-use mathlib.Core.Path.{_≡_, sym}
+use mathlib.Core.Path.{sym}
 use Prim.Native.Nat.{_-_}
 use native.Mathlib.Omega.{arith}
 use borrow.Author.Needs.{needs}

@@ -1,6 +1,5 @@
 -- `store::rank_of` meets its contract: the names passed stand before the given one, so what is left decides. The measure is the used
 -- places left.
-use mathlib.Core.Path.{_≡_, sym}
 use Prim.Native.Nat.{_-_}
 use native.Mathlib.Omega.{arith}
 use borrow.Author.Needs.{needs}
