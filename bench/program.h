@@ -25,7 +25,7 @@
 /* The store of named marks: places, bytes of a name, of a place and of the store. */
 #define MARKS 8
 #define MARK_NAME 8
-#define MARK_PLACE 44040
+#define MARK_PLACE (MARK_NAME + MOST_BLOCKS * BLOCK)
 #define MARK_STORE (MARKS * MARK_PLACE)
 
 /* The tables that a call is lent, with their lengths. */

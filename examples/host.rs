@@ -303,15 +303,18 @@ fn keep(s: &mut Site) {
     print_value("linked 0 6", call!(sb_linked, s, [0, 6], []));
 }
 
+// The bytes of a place of a store of marks: a name and the longest image.
+const PLACE: usize = 8 + 86 * 512;
+
 // Two states named, and the way back to the first.
 fn mark(s: &mut Site) {
-    let mut store = vec![0u8; 8 * 44040];
+    let mut store = vec![0u8; 8 * PLACE];
     let set = |s: &mut Site, store: &mut [u8], name: &str| call!(sb_mark_set, s, [], [name.as_ptr(), name.len(), store.as_mut_ptr(), store.len()]);
     let back = |s: &mut Site, store: &[u8], name: &str| call!(sb_mark_return, s, [], [name.as_ptr(), name.len(), store.as_ptr(), store.len()]);
     println!("set TOWER1: number {}", set(s, &mut store, "TOWER1  "));
     s.down(0, 6);
     println!("set A: number {}", set(s, &mut store, "A       "));
-    let name = |i: usize| std::str::from_utf8(&store[44040 * i..44040 * i + 8]).unwrap();
+    let name = |i: usize| std::str::from_utf8(&store[PLACE * i..PLACE * i + 8]).unwrap();
     println!("first {}, second {}", name(0), name(1));
     println!("set a: number {}", set(s, &mut store, "a       "));
     println!("back to TOWER1: number {}", back(s, &store, "TOWER1  "));

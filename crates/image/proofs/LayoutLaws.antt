@@ -1,15 +1,10 @@
 -- Laws of the layout: how many blocks hold so many entries.
 use mathlib.Core.Path.{_≡_, sym, ap, _∙_}
 use Prim.Native.Nat.{ℕ, _+_, _*_, _-_, _/_, _%_, _≤_, _<_}
-use native.Mathlib.Nat.{div-zero, div-add-mod, mod-lt, mul-comm, le-mul-of-pos-right}
+use native.Mathlib.Nat.{div-add-mod, mod-lt, mul-comm, le-mul-of-pos-right}
 use native.Mathlib.Omega.{arith}
 use lib.Arith.{digits-div}
 use Rattle.mesh.specs.Image.{blocks-for}
-
--- blocks that hold nothing
-pub blocks-none : (x each : ℕ) → each ≡ 0 → blocks-for x each ≡ 0
-unfolding blocks-for
-blocks-none x each e = rw e (div-zero (x + (0 - 1)))
 
 module _ (x each : ℕ) (some : 0 < each) where
   -- x in whole blocks and a rest

@@ -1,3 +1,3 @@
 -- What the contracts of the blocks' code cite beside the definitions of mesh and calls.
-pub mod Bytes
+pub mod Header
 pub mod Columns

@@ -1,6 +1,8 @@
 // The layout of an image: its figures, here once, and how many blocks it has.
 ghost use mathlib.Core.Path.{_≡_};
+ghost use Prim.Native.Nat.{_<_};
 ghost use Rattle.mesh.specs.Image.{blocks-for, block-count};
+use mesh::Site;
 
 // The bytes of a block: its payload stands between its head and its check.
 pub const BLOCK: usize = 512;
@@ -24,13 +26,19 @@ pub const ENTRIES: u32 = 252;
 // Links in a block of kind 2.
 pub const LINKS: u32 = 126;
 
-// How many blocks hold so many entries, `each` a block; none where `each` is 0.
+// The most links that a site may have: each radio its most neighbours.
+pub const MOST_LINKS: u32 = Site::RADIOS * Site::NEIGHBOURS / 2;
+
+// The blocks of the longest image.
+pub const MOST_BLOCKS: u32 = 1
+    + (Site::RADIOS + ENTRIES - 1) / ENTRIES
+    + (MOST_LINKS + LINKS - 1) / LINKS;
+
+// How many blocks hold so many entries, `each` a block.
 pub fn blocks_for(entries: u32, each: u32) -> u32
+    requires { ⌜ 0 < each ⌝ }
     ensures { λ r. ⌜ r ≡ blocks-for entries each ⌝ }
 {
-    if each == 0 {
-        return 0;
-    }
     if entries % each == 0 {
         return entries / each;
     }

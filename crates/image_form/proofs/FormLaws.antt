@@ -1,5 +1,5 @@
 -- Laws of the form of an image.
--- In order: the plan of a block; what the code tests of a block; that a formed image whose checks are good is canonical.
+-- In order: the shape of a block; what the code tests of a block; that a formed image whose checks are good is canonical.
 --   formed-canonical, canonical-formed   the tests hold of an image of n radios, and only of one
 --   is-image-formed                      question 11 of formed bytes: what they list is a valid site
 use mathlib.Core.Path.{_≡_, refl, sym, ap, _∙_}
@@ -23,26 +23,26 @@ use Rattle.mesh.proofs.Images.Canonical.{Canonical, length-image-links, length-
 use Rattle.mesh.specs.Valid.{Valid}
 use Rattle.image_form.specs.Form.{zeros, kind-of, used-of, block-formed, blocks-formed, is-formed}
 
--- ---- the plan of a block, by its kind
+-- ---- the shape of a block, by its kind
 
-pub plan-counts : (n m i : ℕ) → i ≡ 0 → (0 ≡ kind-of n i) × (4 ≡ used-of n m i)
+pub shape-counts : (n m i : ℕ) → i ≡ 0 → (0 ≡ kind-of n i) × (4 ≡ used-of n m i)
 unfolding kind-of used-of
-plan-counts n m zero e = (refl, refl)
-plan-counts n m (suc i) e = absurd (omega arith)
+shape-counts n m zero e = (refl, refl)
+shape-counts n m (suc i) e = absurd (omega arith)
 
-pub plan-order : (n m i : ℕ) → 1 ≤ i → i - 1 < order-blocks n
+pub shape-order : (n m i : ℕ) → 1 ≤ i → i - 1 < order-blocks n
     → (1 ≡ kind-of n i) × (2 * min block-entries (n - block-entries * (i - 1)) ≡ used-of n m i)
 unfolding kind-of used-of
-plan-order n m zero h l = absurd (omega arith)
-plan-order n m (suc j) h l =
+shape-order n m zero h l = absurd (omega arith)
+shape-order n m (suc j) h l =
     let k : suc j - 1 ≡ j = omega arith in
     let t : ltb j (order-blocks n) ≡ true = lt-ltb j (order-blocks n) (omega arith) in rw (t, k) (refl, refl)
 
-pub plan-links : (n m i : ℕ) → 1 ≤ i → order-blocks n ≤ i - 1
+pub shape-links : (n m i : ℕ) → 1 ≤ i → order-blocks n ≤ i - 1
     → (2 ≡ kind-of n i) × (4 * min block-links (m - block-links * (i - 1 - order-blocks n)) ≡ used-of n m i)
 unfolding kind-of used-of
-plan-links n m zero h l = absurd (omega arith)
-plan-links n m (suc j) h l =
+shape-links n m zero h l = absurd (omega arith)
+shape-links n m (suc j) h l =
     let k : suc j - 1 ≡ j = omega arith in
     let t : ltb j (order-blocks n) ≡ false = le-ltb j (order-blocks n) (omega arith) in rw (t, k) (refl, refl)
 

@@ -1,2 +1,2 @@
-// The form of a site image, the first part of question 11. No public function has a `requires`.
+// The form of a site image, the first part of question 11.
 pub mod form;

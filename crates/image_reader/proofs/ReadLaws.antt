@@ -9,7 +9,7 @@ use Rattle.mesh.specs.Tables.{Tables}
 use Rattle.mesh.specs.Image.{word-at}
 use Rattle.mesh.proofs.Sizes.{size-good-true, true-size-good}
 use Rattle.calls.specs.Questions.{ask, Lengths, lengths-of, site-lengths, lent-refusal, tables-refusal, source-refusal, image-refusal}
-use Rattle.image_reader.specs.Reading.{alone-refusal, header-refusal, Source-room, Source-decided, Site-read}
+use Rattle.image_reader.specs.Reading.{alone-refusal, header-refusal, Opened-as, Source-room, Source-decided}
 use Rattle.calls.specs.Outcomes.{read-outcome}
 use Rattle.calls.specs.Questions.{read-refusal}
 use Rattle.calls.specs.Contracts.{Read-contract}
@@ -18,26 +18,28 @@ use Rattle.calls.proofs.QuestionLaws.{ask-yes}
 use Rattle.calls.proofs.ChainLaws.{Lent-good, lent-zero, lent-yes, Blocks-good, blocks-yes}
 use Rattle.image_reader.proofs.SourceLaws.{header-stops, header-passes}
 
--- ---- the header got no refusal
+-- ---- the image is opened
 
-module _ (n : ℕ) (bs : List ℕ) (one : size-good n ≡ true) (p : ℕ) (p-is : p ≡ header-refusal bs) (p-zero : p ≡ 0) where
+module _ (bs : List ℕ) (p radios links : ℕ) (o : Opened-as bs p radios links) (p-zero : p ≡ 0) where
   passed : Blocks-good bs × (size-good (word-at bs 4) ≡ true)
-  passed = header-passes bs (sym p-is ∙ p-zero)
+  passed = header-passes bs (sym (o .asked) ∙ p-zero)
+
+  said-size : size-good radios ≡ true
+  said-size = ap size-good (o .said p-zero .radios-said) ∙ passed .1
+
+  pub header-small : radios ≤ max-radios
+  header-small = size-good-true radios said-size .1
 
   -- 15 and 11 decide
-  pub asked-last : image-refusal n bs ≡ source-refusal n bs
+  asked-last : (n : ℕ) → image-refusal n bs ≡ source-refusal n bs
   unfolding image-refusal
-  asked-last = blocks-yes bs (source-refusal n bs) (passed .0)
+  asked-last n = blocks-yes bs (source-refusal n bs) (passed .0)
 
-  pub header-small : (m : ℕ) → m ≡ word-at bs 4 → m ≤ max-radios
-  header-small m e = size-good-true m (ap size-good e ∙ passed .1) .1
-
-  pub header-room : (m x y : ℕ) → m ≡ word-at bs 4 → x ≡ m → y ≡ m → Source-room n m bs x y
-  header-room m x y e ex ey = record {
+  pub header-room : (n : ℕ) → size-good n ≡ true → (x y : ℕ) → x ≡ radios → y ≡ radios → Source-room n radios links bs x y
+  header-room n one x y ex ey = record {
     this-size = one;
-    says = e;
-    says-size = ap size-good e ∙ passed .1;
-    room = record { most = header-small m e; checked = passed .0 .checks; listed-long = ex; ranks-long = ey };
+    says-size = said-size;
+    room = record { most = header-small; says = o .said p-zero; checked = passed .0 .checks; listed-long = ex; cores-long = ey };
   }
 
 -- ---- an image alone
@@ -54,8 +56,8 @@ module _ (n : ℕ) (bs : List ℕ) (one : size-good n ≡ true) where
   pub alone-header : (p : ℕ) → p ≡ header-refusal bs → (p ≡ 0 → ⊥) → p ≡ alone-refusal n bs
   alone-header p e h = e ∙ sym (header-stops n bs one (λ z. h (e ∙ z))) ∙ sym alone-asked
 
-  pub alone-decided : (p : ℕ) → p ≡ header-refusal bs → p ≡ 0 → (xs ns : List ℕ) (r : ℕ) → Source-decided n bs xs ns r → r ≡ alone-refusal n bs
-  alone-decided p e z xs ns r d = d .answer ∙ sym (asked-last n bs one p e z) ∙ sym alone-asked
+  pub alone-decided : (p x y : ℕ) → Opened-as bs p x y → p ≡ 0 → (xs ns : List ℕ) (r : ℕ) → Source-decided n bs xs ns r → r ≡ alone-refusal n bs
+  alone-decided p x y o z xs ns r d = d .answer ∙ sym (asked-last bs p x y o z n) ∙ sym alone-asked
 
 -- ---- reading
 
@@ -100,6 +102,6 @@ module _ (n : ℕ) (bs : List ℕ) (t : Tables) where
     unfolding lengths-of
     read-sized = (lent .lengths .links, lent .lengths .numbers, lent .lengths .order)
 
-    pub read-asked : (p : ℕ) → p ≡ header-refusal bs → p ≡ 0 → (r : ℕ) (v : Tables) → Site-read n bs t r v → Read-contract n bs t r v
-    unfolding Site-read Read-contract
-    read-asked p e z r v s = s (asked ∙ asked-last n bs read-size p e z)
+    -- the image is opened: 15 and 11 decide
+    pub read-asked : (p x y : ℕ) → Opened-as bs p x y → p ≡ 0 → read-refusal n l bs ≡ source-refusal n bs
+    read-asked p x y o z = asked ∙ asked-last bs p x y o z n

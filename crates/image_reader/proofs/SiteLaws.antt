@@ -5,10 +5,10 @@ use mathlib.Core.Bool.{Bool, true, false, _&&_}
 use mathlib.Core.List.{List}
 use Prim.Native.Nat.{ℕ, _*_, _≤_, _<_}
 use native.Mathlib.Omega.{arith}
-use lib.Dec.{leb, eqb}
+use lib.Dec.{eqb}
 use lib.ListN.{length, getD, take}
 use lib.Seq.{ext-getD}
-use borrow.Author.Tests.{le-leb, eqb-true}
+use borrow.Author.Tests.{eqb-true}
 use Rattle.mesh.specs.Limits.{max-radios, max-neighbours}
 use Rattle.lists.specs.Lists.{overwrite}
 use Rattle.lists.specs.Facts.{Bytes}
@@ -27,6 +27,7 @@ use Rattle.mesh.specs.Valid.{Valid}
 use Rattle.tables.specs.Widths.{values}
 use Rattle.tables.proofs.WidthLaws.{length-values, values-below}
 use Rattle.lists.proofs.Overwrite.{overwrite-take}
+use Rattle.image.specs.Header.{Header-of}
 use Rattle.image_form.specs.Form.{blocks-formed, is-formed}
 use Rattle.image_form.proofs.FormLaws.{is-image-formed}
 use Rattle.image_site.specs.Site.{links-up-to, few-ends, Tally-room, Site-room, Site-decided}
@@ -45,13 +46,13 @@ whole-of n bs m counted h =
     eqb-true (length bs) (block-bytes * block-count n k) (and-left long rest (and-right (eqb (word-at bs 4) n) (long && rest) h))
     ∙ ap (λ (j : ℕ). block-bytes * block-count n j) (sym counted)
 
-module _ (n : ℕ) (bs : List ℕ) (small : n ≤ max-radios) (u : Bool) (u-is : u ≡ (leb n max-radios && is-formed n bs)) where
+module _ (n : ℕ) (bs : List ℕ) (small : n ≤ max-radios) (u : Bool) (u-is : u ≡ is-formed n bs) where
   -- what asking the site wants
-  pub site-room : u ≡ true → (m x y : ℕ) → m ≡ word-at bs 6 → m < 65536 → x ≡ n → y ≡ n → Site-room n m bs x y
-  site-room e m x y counted fits ex ey = record {
+  pub site-room : u ≡ true → (m x y : ℕ) → Header-of bs n m → x ≡ n → y ≡ n → Site-room n m bs x y
+  site-room e m x y h ex ey = record {
     most = small;
-    few = fits;
-    whole = omega (arith, whole-of n bs m counted (and-right (leb n max-radios) (is-formed n bs) (sym u-is ∙ e)));
+    few = h .links-fit;
+    whole = omega (arith, whole-of n bs m (h .links-said) (sym u-is ∙ e));
     order-long = ex;
     numbers-long = ey;
   }
@@ -65,8 +66,7 @@ module _ (n : ℕ) (bs : List ℕ) (small : n ≤ max-radios) (u : Bool) (u-is :
     not-formed xs ns f = record { answer = sym (pick (bool-cases (is-image n bs))); order-is = λ e. never false e refl; numbers-are = λ e. never false e refl }
       where
         pick : (is-image n bs ≡ true) ⊎ (is-image n bs ≡ false) → is-image n bs ≡ false
-        pick (inl e) =
-            never u (u-is ∙ and-both (leb n max-radios) (is-formed n bs) (le-leb n max-radios small) (is-image-formed n bs small b checked .0 e .0)) f
+        pick (inl e) = never u (u-is ∙ is-image-formed n bs small b checked .0 e .0) f
         pick (inr e) = e
 
     module _ (yes : u ≡ true) (m : ℕ) (counted : m ≡ word-at bs 6) (xs ns : List ℕ) (r : Bool) (d : Site-decided n m bs xs ns r) where
@@ -107,7 +107,7 @@ module _ (n : ℕ) (bs : List ℕ) (small : n ≤ max-radios) (u : Bool) (u-is :
       image-decided = record {
         answer = iff-eq r (is-image n bs)
             (λ e. is-image-formed n bs small b checked .1 (
-              and-right (leb n max-radios) (is-formed n bs) (sym u-is ∙ yes),
+              sym u-is ∙ yes,
               subst (λ (k : Graph). Valid max-neighbours k (image-order n bs)) listed-is (to-valid e),
             ))
             (λ h. of-valid (subst (λ (k : Graph). Valid max-neighbours k (image-order n bs)) (sym listed-is) (valid-of h)));
@@ -144,15 +144,14 @@ module _ (n : ℕ) (bs : List ℕ) (small : n ≤ max-radios) (xs ns : List ℕ)
 
   -- what writing the links wants
   pub links-room : Bytes bs → checks-good bs ≡ true → (m : ℕ) → m ≡ word-at bs 6 → m < 65536 → Tally-room n m bs n n
-  links-room b checked m counted fits =
-      record {
-        most = small;
-        few = fits;
-        whole = omega (arith, whole-of n bs m counted (is-image-formed n bs small b checked .0 is-site .0));
-        ranked = refl;
-        counted = refl;
-        is-proper = site-proper m counted;
-      }
+  links-room b checked m counted fits = record {
+    most = small;
+    few = fits;
+    whole = omega (arith, whole-of n bs m counted (is-image-formed n bs small b checked .0 is-site .0));
+    ranked = refl;
+    counted = refl;
+    is-proper = site-proper m counted;
+  }
 
   -- what the writers of the three tables leave
   pub site-accepted : (m : ℕ) (t : Tables) (ls ks os : List ℕ) → m ≡ word-at bs 6 → length (t .numbers) ≡ n → length (t .order) ≡ n

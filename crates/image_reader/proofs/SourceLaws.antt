@@ -1,30 +1,33 @@
 -- Questions 15 and 11 from the n that the header says.
 --   found-none, found-other, found-this   what the two questions give, by whether the bytes are an image of the header's n
 --   header-stops                          the number of the header is the image's
---   header-blocks, header-asked           it is worked out from questions 9 and 10 and the size that the header says
 --   header-passes                         where it is 0, 9 and 10 got yes and the header says a size
+--   opened-blocks, opened-no-size, opened-size   opening's three outcomes
 --   source-none, source-other, source-this   the decision's three outcomes
 --   source-refused, source-accepted       the tables after
 use mathlib.Core.Path.{_≡_, refl, sym, ap, subst, _∙_}
 use mathlib.Core.Logic.{_⊎_, inl, inr}
 use mathlib.Core.Bool.{Bool, true, false, _&&_, not}
 use mathlib.Core.List.{List}
-use Prim.Native.Nat.{ℕ}
+use Prim.Native.Nat.{ℕ, zero, suc, _%_, _≤_}
 use native.Mathlib.Omega.{arith}
 use lib.Dec.{eqb}
-use borrow.Author.Tests.{eq-eqb, ne-eqb}
+use lib.ListN.{length}
+use borrow.Author.Tests.{eq-eqb, ne-eqb, eqb-true}
 use Rattle.mesh.specs.Limits.{size-good}
 use Rattle.mesh.specs.Tables.{Tables, tables-of}
-use Rattle.mesh.specs.Image.{word-at, image-graph, image-order, whole-blocks, checks-good, is-image, other-size}
-use Rattle.lists.proofs.Tests.{bool-cases, never, and-both}
+use Rattle.mesh.specs.Image.{block-bytes, word-at, image-graph, image-order, whole-blocks, checks-good, is-image, other-size}
+use Rattle.lists.proofs.Tests.{bool-cases, never, and-right, and-both}
 use Rattle.mesh.proofs.Sizes.{size-good-true}
 use Rattle.mesh.proofs.Images.Sites.{is-image-radios}
-use Rattle.calls.specs.Questions.{ask, blocks-refusal, block-refusal, source-refusal, image-refusal}
+use Rattle.calls.specs.Questions.{ask, lengths-of, blocks-refusal, block-refusal, source-refusal, image-refusal, read-refusal}
 use Rattle.calls.specs.Outcomes.{read-outcome}
+use Rattle.calls.specs.Contracts.{Read-contract}
 use Rattle.calls.proofs.QuestionLaws.{ask-zero}
 use Rattle.calls.proofs.ContractLaws.{by-accepted, by-refused}
 use Rattle.calls.proofs.ChainLaws.{Blocks-good, blocks-zero, blocks-yes}
-use Rattle.image_reader.specs.Reading.{header-refusal, Image-decided, Source-decided, Site-read}
+use Rattle.image.specs.Header.{Header-of}
+use Rattle.image_reader.specs.Reading.{header-refusal, Opened-as, Image-decided, Source-decided}
 
 -- ---- by the header's n
 
@@ -67,26 +70,53 @@ module _ (n : ℕ) (bs : List ℕ) (one : size-good n ≡ true) where
       go true true false e h = found-none (rw e)
       go true true true e h = absurd (h refl)
 
-pub header-blocks : (bs : List ℕ) (p : ℕ) → p ≡ block-refusal bs → (p ≡ 0 → ⊥) → p ≡ header-refusal bs
-unfolding header-refusal block-refusal blocks-refusal ask
-header-blocks bs p e h = e ∙ go (whole-blocks bs) (checks-good bs) (ask 11 (size-good (word-at bs 4)) 0) (λ z. h (e ∙ z))
-  where
-    go : (a b : Bool) (x : ℕ) → (ask 9 a (ask 10 b 0) ≡ 0 → ⊥) → ask 9 a (ask 10 b 0) ≡ ask 9 a (ask 10 b x)
-    go false b x h = refl
-    go true false x h = refl
-    go true true x h = absurd (h refl)
-
-pub header-asked : (bs : List ℕ) (p : ℕ) → p ≡ block-refusal bs → p ≡ 0 → (m : ℕ) → m ≡ word-at bs 4 → (u c : Bool) → u ≡ size-good m → u ≡ c
-    → ask 11 c 0 ≡ header-refusal bs
-unfolding header-refusal block-refusal
-header-asked bs p e z m m-is u c u-is u-value =
-    ap (λ (x : Bool). ask 11 x 0) (sym u-value ∙ u-is ∙ ap size-good m-is)
-    ∙ sym (blocks-yes bs (ask 11 (size-good (word-at bs 4)) 0) (blocks-zero bs 0 (sym e ∙ z) .0))
-
 pub header-passes : (bs : List ℕ) → header-refusal bs ≡ 0 → Blocks-good bs × (size-good (word-at bs 4) ≡ true)
 unfolding header-refusal
 header-passes bs e =
     let q = blocks-zero bs (ask 11 (size-good (word-at bs 4)) 0) e in (q .0, ask-zero 10 (size-good (word-at bs 4)) 0 (q .1) .0)
+
+-- ---- opening, after questions 9 and 10 gave p
+
+module _ (bs : List ℕ) (p : ℕ) (p-is : p ≡ block-refusal bs) where
+  pub opened-blocks : (p ≡ 0 → ⊥) → (q x y : ℕ) → q ≡ p → Opened-as bs q x y
+  unfolding header-refusal block-refusal blocks-refusal ask
+  opened-blocks h q x y e = record {
+    asked = e ∙ p-is ∙ go (whole-blocks bs) (checks-good bs) (ask 11 (size-good (word-at bs 4)) 0) (λ z. h (p-is ∙ z));
+    said = λ z. absurd (h (sym e ∙ z));
+  }
+    where
+      go : (a b : Bool) (x : ℕ) → (ask 9 a (ask 10 b 0) ≡ 0 → ⊥) → ask 9 a (ask 10 b 0) ≡ ask 9 a (ask 10 b x)
+      go false b x h = refl
+      go true false x h = refl
+      go true true x h = absurd (h refl)
+
+  module _ (z : p ≡ 0) where
+    good : Blocks-good bs
+    unfolding block-refusal
+    good = blocks-zero bs 0 (sym p-is ∙ z) .0
+
+    -- block 0 is there
+    pub first-block : block-bytes ≤ length bs
+    unfolding whole-blocks
+    first-block = go (length bs) (good .whole)
+      where
+        go : (k : ℕ) → (not (eqb k 0) && eqb (k % block-bytes) 0) ≡ true → block-bytes ≤ k
+        go zero h = never false h refl
+        go (suc k) h = omega (arith, eqb-true (suc k % block-bytes) 0 (and-right (not (eqb (suc k) 0)) (eqb (suc k % block-bytes) 0) h))
+
+    module _ (n m : ℕ) (says : Header-of bs n m) (u : Bool) (u-is : u ≡ size-good n) where
+      asked-size : ask 11 u 0 ≡ header-refusal bs
+      unfolding header-refusal
+      asked-size =
+          ap (λ (x : Bool). ask 11 x 0) (u-is ∙ ap size-good (says .radios-said)) ∙ sym (blocks-yes bs (ask 11 (size-good (word-at bs 4)) 0) good)
+
+      pub opened-no-size : u ≡ false → (q x y : ℕ) → q ≡ 11 → Opened-as bs q x y
+      unfolding ask
+      opened-no-size e q x y h = record { asked = h ∙ rw e at asked-size; said = λ z. absurd (omega arith) }
+
+      pub opened-size : u ≡ true → Opened-as bs 0 n m
+      unfolding ask
+      opened-size e = record { asked = rw e at asked-size; said = λ z. says }
 
 -- ---- the decision's outcomes; the bytes were decided for the header's m
 
@@ -121,14 +151,15 @@ module _ (n m : ℕ) (bs : List ℕ) (one : size-good n ≡ true) (m-is : m ≡ 
 
 -- ---- the tables
 
-pub source-refused : (n : ℕ) (bs : List ℕ) (t : Tables) (xs ns : List ℕ) (r : ℕ) → Source-decided n bs xs ns r → (r ≡ 0 → ⊥) → Site-read n bs t r t
-unfolding Site-read read-outcome
-source-refused n bs t xs ns r d h same = by-refused _ _ _ (λ z. h (d .answer ∙ sym same ∙ z)) (rw (d .answer ∙ sym same))
+module _ (n : ℕ) (bs : List ℕ) (t : Tables) (same : read-refusal n (lengths-of t) bs ≡ source-refusal n bs) (xs ns : List ℕ) (r : ℕ)
+    (d : Source-decided n bs xs ns r) where
+  pub source-refused : (r ≡ 0 → ⊥) → Read-contract n bs t r t
+  unfolding Read-contract read-outcome
+  source-refused h = by-refused _ _ _ (λ z. h (d .answer ∙ sym same ∙ z)) (rw (d .answer ∙ sym same))
 
-pub source-accepted : (n : ℕ) (bs : List ℕ) (t : Tables) (xs ns : List ℕ) (q : ℕ) (v : Tables) → Source-decided n bs xs ns q → q ≡ 0
-    → v ≡ tables-of (image-graph n bs) (image-order n bs) → Site-read n bs t 0 v
-unfolding Site-read read-outcome
-source-accepted n bs t xs ns q v d e a same = by-accepted _ _ (same ∙ sym (d .answer) ∙ e) (rw a)
+  pub source-accepted : r ≡ 0 → (v : Tables) → v ≡ tables-of (image-graph n bs) (image-order n bs) → Read-contract n bs t 0 v
+  unfolding Read-contract read-outcome
+  source-accepted e v a = by-accepted _ _ (same ∙ sym (d .answer) ∙ e) (rw a)
 
 -- the bytes are then an image of n radios
 pub source-site : (n : ℕ) (bs xs ns : List ℕ) (r : ℕ) → Source-decided n bs xs ns r → r ≡ 0 → Image-decided n bs xs ns true

@@ -4,50 +4,51 @@ ghost use Prim.Native.Nat.{ℕ, _≤_, _*_};
 ghost use lib.ListN.{length, getD};
 ghost use Rattle.mesh.specs.Limits.{row-bytes};
 ghost use Rattle.mesh.specs.Lent.{lent};
-ghost use Rattle.image_reader.specs.Reading.{alone-refusal, Source-room, Site-read};
+ghost use Rattle.image_reader.specs.Reading.{alone-refusal, Source-room};
+ghost use Rattle.calls.specs.Questions.{lengths-of, source-refusal, read-refusal};
 ghost use Rattle.calls.specs.Contracts.{Read-contract};
 ghost use Rattle.tables.specs.Widths.{values};
 use super::source;
 use super::table;
 use calls::Refusal;
-use image::bytes;
-use image::layout;
+use image::header::Header;
 use mesh::Site;
 
-// The ranks as bytes.
-fn put_numbers(ranks: &[u16], numbers: &mut [u8])
-    requires { ⌜ length (now numbers) ≤ length (now ranks) ⌝ }
-    ensures { λ _. ⌜ now (numbers .exit) ≡ values 8 (λ (v : ℕ). getD (now (ranks .entry)) v 0) (length (now (numbers .entry))) ⌝ }
+// The numbers worked out, as bytes.
+fn put_numbers(cores: &[u16], numbers: &mut [u8])
+    requires { ⌜ length (now numbers) ≤ length (now cores) ⌝ }
+    ensures { λ _. ⌜ now (numbers .exit) ≡ values 8 (λ (v : ℕ). getD (now (cores .entry)) v 0) (length (now (numbers .entry))) ⌝ }
 {
     let mut v: usize = 0;
     while v < numbers.len() {
-        numbers[v] = (ranks[v] % 256) as u8;
+        numbers[v] = (cores[v] % 256) as u8;
         v += 1;
     }
 }
 
-// Reads an image whose blocks pass their checks, and whose header says m radios, into tables of n radios. Refused by 15 and 11.
+// Reads an image that is opened, with the tables' lengths right, so that only questions 15 and 11 are left. Refused by 15 and 11.
 fn read_site(
     n: u32,
-    m: u32,
+    header: Header,
     links: &mut [u8],
     numbers: &mut [u8],
     order: &mut [u16],
     image: &[u8],
     listed: &mut [u16],
-    ranks: &mut [u16],
+    cores: &mut [u16],
 ) -> u32
-    requires room { ⌜ Source-room n m (now image) (length (now listed)) (length (now ranks)) ⌝ }
+    requires room { ⌜ Source-room n (header .radios) (header .links) (now image) (length (now listed)) (length (now cores)) ⌝ }
     requires sized { ⌜ (length (now links) ≡ row-bytes * n) × (length (now numbers) ≡ n) × (length (now order) ≡ n) ⌝ }
-    ensures { λ r. ⌜ Site-read n (now (image .entry)) (lent (links .entry) (numbers .entry) (order .entry)) r
+    requires asked { ⌜ read-refusal n (lengths-of (lent links numbers order)) (now image) ≡ source-refusal n (now image) ⌝ }
+    ensures { λ r. ⌜ Read-contract n (now (image .entry)) (lent (links .entry) (numbers .entry) (order .entry)) r
         (lent (links .exit) (numbers .exit) (order .exit)) ⌝ }
 {
-    let number = source::refusal(n, m, image, listed, ranks);
+    let number = source::refusal(n, header, image, listed, cores);
     if number != 0 {
         return number;
     }
-    table::put_links(image, n, bytes::word_at(image, layout::LINKS_AT), links);
-    put_numbers(ranks, numbers);
+    table::put_links(image, n, header.links, links);
+    put_numbers(cores, numbers);
     tables::fill::copy16(order, listed);
     0
 }
@@ -67,23 +68,22 @@ pub fn read(n: u32, links: &mut [u8], numbers: &mut [u8], order: &mut [u16], ima
     if lengths != 0 {
         return lengths;
     }
-    let header = source::header_refusal(image);
-    if header != 0 {
-        return header;
+    let opened = source::open(image);
+    if opened.number != 0 {
+        return opened.number;
     }
-    let m = bytes::word_at(image, layout::RADIOS_AT);
-    let many = m as usize;
+    let many = opened.header.radios as usize;
     let mut listed = [0u16; Site::RADIOS as usize];
-    let mut ranks = [0u16; Site::RADIOS as usize];
+    let mut cores = [0u16; Site::RADIOS as usize];
     read_site(
         n,
-        m,
+        opened.header,
         links,
         numbers,
         order,
         image,
         &mut listed[..many],
-        &mut ranks[..many],
+        &mut cores[..many],
     )
 }
 
@@ -95,13 +95,18 @@ pub fn refusal(n: u32, image: &[u8]) -> u32
     if !tables::sizes::is_size(Site { radios: n }) {
         return Refusal::SIZE;
     }
-    let header = source::header_refusal(image);
-    if header != 0 {
-        return header;
+    let opened = source::open(image);
+    if opened.number != 0 {
+        return opened.number;
     }
-    let m = bytes::word_at(image, layout::RADIOS_AT);
-    let many = m as usize;
+    let many = opened.header.radios as usize;
     let mut listed = [0u16; Site::RADIOS as usize];
-    let mut ranks = [0u16; Site::RADIOS as usize];
-    source::refusal(n, m, image, &mut listed[..many], &mut ranks[..many])
+    let mut cores = [0u16; Site::RADIOS as usize];
+    source::refusal(
+        n,
+        opened.header,
+        image,
+        &mut listed[..many],
+        &mut cores[..many],
+    )
 }

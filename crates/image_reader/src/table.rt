@@ -1,5 +1,5 @@
-// The links table that an image lists, written block by block. `rows::put_link` asks of each bit whether it is in the table; here the
-// links are known to be proper, so it is.
+// The links table that an image lists, written block by block. The links are known to be proper, so a bit is set without asking whether it
+// is in the table, as `rows::put_bit` does: that is a tenth of reading a dense image.
 ghost use mathlib.Core.Path.{_≡_};
 ghost use mathlib.Core.Bool.{true};
 ghost use Prim.Native.Nat.{_≤_, _<_, _+_, _*_};
@@ -7,20 +7,12 @@ ghost use lib.ListN.{length};
 ghost use Rattle.mesh.specs.Limits.{max-radios, row-bytes};
 ghost use Rattle.mesh.specs.Graph.{graph};
 ghost use Rattle.mesh.specs.Tables.{put-bit, put-link, links-table};
-ghost use Rattle.mesh.specs.Image.{block-links, word-at};
+ghost use Rattle.mesh.specs.Image.{block-links};
 ghost use Rattle.image_site.specs.Site.{links-up-to, passed, Tally-room};
 use image::bytes;
 use image::layout;
 use image_site::blocks;
 use mesh::Site;
-
-// The two bytes from `at` on as one number, lowest byte first.
-fn word_in(image: &[u8], at: usize) -> u32
-    requires { ⌜ at + 2 ≤ length (now image) ⌝ }
-    ensures { λ r. ⌜ (r ≡ word-at (now (image .entry)) at) × (r < 65536) ⌝ }
-{
-    bytes::wide(image[at]) + 256 * bytes::wide(image[at + 1])
-}
 
 // Sets bit b of row a of a table that has the row.
 fn set_bit(links: &mut [u8], a: u32, b: u32)
@@ -51,8 +43,8 @@ fn mark_block(image: &[u8], n: u32, m: u32, q: u32, links: &mut [u8])
     let mut i: usize = 0;
     while i < part.count {
         let at = part.at + 4 * i;
-        let a = word_in(image, at);
-        let b = word_in(image, at + 2);
+        let a = bytes::word_at(image, at);
+        let b = bytes::word_at(image, at + 2);
         set_link(links, a, b);
         i += 1;
     }

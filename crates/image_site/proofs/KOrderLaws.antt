@@ -27,7 +27,7 @@ use Rattle.mesh.proofs.Cores.RunningCertificate.{is-k-order-running, running-nu
 use Rattle.row_conditions.specs.Conditions.{Placed}
 use Rattle.soundness.specs.Checks.{Places-found}
 use Rattle.row_conditions.proofs.RowByRow.{count-later}
-use Rattle.image_site.specs.Site.{tallied, Tallied, few-ends, running-maxima-of, Order-placed, K-order-decided, Sound-decided}
+use Rattle.image_site.specs.Site.{tallied, Tallied, few-ends, running-maxima-of, Order-counted, K-order-decided, Sound-decided}
 use Rattle.image_site.proofs.MaximaLaws.{running-maxima-of-counts}
 
 -- ---- entries compared
@@ -83,15 +83,6 @@ module _ (n : ℕ) (ls : List Link) (p : proper n ls ≡ true) (a : ascending ls
       and-false true = refl
       and-false false = refl
 
-  pub order-placed : (xs ps qs later : List ℕ) (r : Bool) → n ≤ max-radios → length xs ≡ n → length ps ≡ n → Places-found xs ps qs r → r ≡ true
-      → Tallied n qs 0 ls later → Order-placed n ls xs qs later
-  order-placed xs ps qs later r small lx lp d e t = record {
-    long = lx;
-    once = sym (placed-once xs ps qs r small lx lp d) ∙ e;
-    placed = record { at = λ i l. d .placed e .at i (omega arith) };
-    counted = t;
-  }
-
   module _ (xs : List ℕ) (is-once : each-once n xs ≡ true) where
     once : Each-once n xs
     once = each-once-of n xs is-once
@@ -112,13 +103,14 @@ module _ (n : ℕ) (ls : List Link) (p : proper n ls ≡ true) (a : ascending ls
         (λ b. rw (here, add-zero (getD ps b 0)))
         ∙ sym (count-later n xs ps once placed (linked g v) (suc q))
 
-    module _ (ps counts ranks not-lower : List ℕ) (placed : Placed n xs ps) (later : Tallied n ps 0 ls counts)
+    module _ (counts ranks not-lower : List ℕ)
+        (later : (q : ℕ) → q < length xs → getD counts (getD xs q 0) 0 ≡ count (linked g (getD xs q 0)) (drop (suc q) xs))
         (maxima : map (λ v. getD ranks v 0) xs ≡ running-maxima-of (λ v. getD counts v 0) 0 xs) (high : Tallied n ranks 1 ls not-lower) where
       abbrev num : ℕ → ℕ
       num v = getD ranks v 0
 
       runs : map num xs ≡ running-maxima (linked g) 0 xs
-      runs = maxima ∙ running-maxima-of-counts (linked g) (λ v. getD counts v 0) 0 xs (later-at ps counts placed later)
+      runs = maxima ∙ running-maxima-of-counts (linked g) (λ v. getD counts v 0) 0 xs later
 
       high-at : (v : ℕ) → v < n → getD not-lower v 0 ≡ neighbours-in g v (λ w. leb (num v) (num w))
       unfolding neighbours-in radios
@@ -144,9 +136,16 @@ module _ (n : ℕ) (ls : List Link) (p : proper n ls ≡ true) (a : ascending ls
           e ∙ rw long (iff-eq enough (is-k-order g xs) (λ h. d .1 (enough-of h)) (λ h. of-enough (d .0 h))) in
           record { answer = is; numbers = λ f v l. running-number g apart num xs once runs (sym is ∙ f) v l }
 
+  -- an order that holds each radio once, with the counts over its places
+  pub order-counted : (xs ps qs later : List ℕ) (r : Bool) → n ≤ max-radios → length xs ≡ n → length ps ≡ n → Places-found xs ps qs r → r ≡ true
+      → Tallied n qs 0 ls later → Order-counted n ls xs later
+  order-counted xs ps qs later r small lx lp d e t =
+      let once = sym (placed-once xs ps qs r small lx lp d) ∙ e in
+      record { long = lx; once = once; counted = later-at xs once qs later (record { at = λ i l. d .placed e .at i (omega arith) }) t }
+
   -- the parts of the test together
-  pub k-order-decided : (xs ps later ranks not-lower : List ℕ) (r : Bool) → Order-placed n ls xs ps later
+  pub k-order-decided : (xs later ranks not-lower : List ℕ) (r : Bool) → Order-counted n ls xs later
       → map (λ v. getD ranks v 0) xs ≡ running-maxima-of (λ v. getD later v 0) 0 xs → Tallied n ranks 1 ls not-lower → length ranks ≡ n
       → r ≡ all (at-most ranks not-lower) (range 0 (length ranks)) → K-order-decided g xs ranks r
-  k-order-decided xs ps later ranks not-lower r o maxima high lr e =
-      by-counts xs (o .once) ps later ranks not-lower (o .placed) (o .counted) maxima high r lr e
+  k-order-decided xs later ranks not-lower r o maxima high lr e =
+      by-counts xs (o .once) later ranks not-lower (o .counted) maxima high r lr e

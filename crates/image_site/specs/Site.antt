@@ -20,7 +20,7 @@
 --   Tally-room                   what counting over the first m links wants
 --   Part-is                      where the links of a block stand, and how many there are
 --   Order-read                   the first k entries of the image's order are read
---   Order-placed                 an order with each radio once, its places, and the counts of later neighbours
+--   Order-counted                an order with each radio once, and the counts of later neighbours
 --   K-order-decided              whether an order is a k-order, and then the numbers
 --   Sound-decided                whether no radio has too many links, too
 --   Site-room                    what deciding wants
@@ -29,16 +29,15 @@
 use mathlib.Core.Path.{_≡_}
 use mathlib.Core.Bool.{Bool, true, _&&_, cond}
 use mathlib.Core.List.{List, [], _∷_, map}
-use Prim.Native.Nat.{ℕ, _+_, _*_, _-_, _/_, _%_, _≤_, _<_, min, max}
+use Prim.Native.Nat.{ℕ, suc, _+_, _*_, _-_, _/_, _%_, _≤_, _<_, min, max}
 use lib.Dec.{ltb, leb}
-use lib.ListN.{length, getD, set}
+use lib.ListN.{length, getD, set, drop}
 use Rattle.lists.specs.Lists.{range, all, count}
 use Rattle.mesh.specs.Limits.{max-radios, max-neighbours}
-use Rattle.mesh.specs.Graph.{Link, Graph, graph, link-of, link-before, other-ends, proper, ascending}
+use Rattle.mesh.specs.Graph.{Link, Graph, graph, link-of, link-before, other-ends, linked, proper, ascending}
 use Rattle.mesh.specs.Cores.{number}
 use Rattle.mesh.specs.Orders.{each-once, is-k-order}
 use Rattle.mesh.specs.Image.{block-bytes, block-entries, block-links, order-blocks, block-count, word-at, entry-at, image-link, image-order}
-use Rattle.row_conditions.specs.Conditions.{Placed}
 
 -- `image-links` of mesh is this with the image's own count
 unfoldable pub links-up-to : (n : ℕ) → (image : List ℕ) → (m : ℕ) → List Link
@@ -130,11 +129,11 @@ pub record Part-is (n m q at count : ℕ) : Type 0 where
 abbrev pub Order-read : (image : List ℕ) → (k : ℕ) → (order : List ℕ) → Type 0
 Order-read bs k xs = (j : ℕ) → j < k → getD xs j 0 ≡ order-entry bs j
 
-pub record Order-placed (n : ℕ) (links : List Link) (order places later : List ℕ) : Type 0 where
+-- entry q of the order is followed by the radios from place q + 1 on
+pub record Order-counted (n : ℕ) (links : List Link) (order later : List ℕ) : Type 0 where
   pub long : length order ≡ n
   pub once : each-once n order ≡ true
-  pub placed : Placed n order places
-  pub counted : Tallied n places 0 links later
+  pub counted : (q : ℕ) → q < length order → getD later (getD order q 0) 0 ≡ count (linked (graph n links) (getD order q 0)) (drop (suc q) order)
 
 -- xs is the order, and `after` holds a number for each radio
 pub record K-order-decided (g : Graph) (xs after : List ℕ) (r : Bool) : Type 0 where

@@ -1,36 +1,16 @@
 // The blocks of links of an image, each in one loop: where its links stand is worked out once a block. The order's blocks likewise.
 ghost use mathlib.Core.Path.{_≡_};
 ghost use mathlib.Core.List.{[]};
-ghost use Prim.Native.Nat.{_≤_, _<_, _+_, _-_, _*_, min};
+ghost use Prim.Native.Nat.{_≤_, _<_, _+_, _*_, min};
 ghost use mathlib.Core.Bool.{cond};
 ghost use lib.Dec.{ltb};
 ghost use lib.ListN.{length, getD, set};
 ghost use Rattle.mesh.specs.Limits.{max-radios};
-ghost use Rattle.mesh.specs.Image.{block-bytes, block-entries, block-links, word-at};
+ghost use Rattle.mesh.specs.Image.{block-bytes, block-entries, block-links};
 ghost use Rattle.image_site.specs.Site.{links-up-to, passed, key-of, next-key, Listed, Tallied, count-link, Order-read};
 ghost use Rattle.image_site.specs.Site.{Link-fits, Link-there, count-at, Links-room, Tally-room, Part-is};
 use image::bytes;
 use image::layout;
-
-// The two bytes from `at` on as one number, lowest byte first.
-fn word_in(image: &[u8], at: usize) -> u32
-    requires { ⌜ at + 2 ≤ length (now image) ⌝ }
-    ensures { λ r. ⌜ (r ≡ word-at (now (image .entry)) at) × (r < 65536) ⌝ }
-{
-    bytes::wide(image[at]) + 256 * bytes::wide(image[at + 1])
-}
-
-// The four bytes from `at` on as one number, lowest byte first: of a link its low half is the lower radio, its high half the higher one.
-fn long_in(image: &[u8], at: usize) -> u32
-    requires { ⌜ at + 4 ≤ length (now image) ⌝ }
-    ensures { λ r. ⌜ (r ≡ word-at (now (image .entry)) at + 65536 * word-at (now (image .entry)) (at + 2)) ×
-        (word-at (now (image .entry)) at < 65536) × (word-at (now (image .entry)) (at + 2) < 65536) ⌝ }
-{
-    bytes::wide(image[at])
-        + 256 * bytes::wide(image[at + 1])
-        + 65536 * bytes::wide(image[at + 2])
-        + 16777216 * bytes::wide(image[at + 3])
-}
 
 // The links of a block: where the first one stands, and how many there are.
 pub struct Part {
@@ -38,27 +18,16 @@ pub struct Part {
     pub count: usize,
 }
 
-// How many of m links stand in block q of the blocks of links or behind it.
-fn links_from(m: u32, q: u32) -> usize
-    ensures { λ r. ⌜ r ≡ m - block-links * q ⌝ }
-{
-    let before = layout::LINKS as usize * q as usize;
-    let all = m as usize;
-    if all <= before {
-        return 0;
-    }
-    all - before
-}
-
-// The links of block q of the blocks of links, in an image of n radios and m links; none where there is no such block.
+// The links of block q of the blocks of links, in an image of n radios and m links.
 pub fn part_of(n: u32, m: u32, q: u32) -> Part
+    requires { ⌜ block-links * q < m ⌝ }
     ensures { λ r. ⌜ Part-is n m q (r .at) (r .count) ⌝ }
 {
     let orders = layout::blocks_for(n, layout::ENTRIES) as usize;
-    let at = layout::BLOCK * (1 + orders + q as usize) + layout::HEAD;
+    let left = m - layout::LINKS * q;
     Part {
-        at,
-        count: tables::fill::least(layout::LINKS as usize, links_from(m, q)),
+        at: layout::BLOCK * (1 + orders + q as usize) + layout::HEAD,
+        count: tables::fill::least(layout::LINKS as usize, left as usize),
     }
 }
 
@@ -93,7 +62,7 @@ pub(crate) fn list_block(image: &[u8], n: u32, m: u32, q: u32, last: Last) -> La
     let mut key = last.key;
     let mut i: usize = 0;
     while i < part.count {
-        let x = long_in(image, part.at + 4 * i);
+        let x = bytes::long_at(image, part.at + 4 * i);
         good = good & is_next(n, key, x);
         key = key_of(x);
         i += 1;
@@ -144,8 +113,8 @@ fn count_at(image: &[u8], at: usize, places: &[u16], counts: &mut [u16], later: 
     ensures { λ _. ⌜ (now (counts .exit) ≡ count-at [] 1 (now (image .entry)) at (now (counts .entry))) ×
         (now (later .exit) ≡ count-at (now (places .entry)) 0 (now (image .entry)) at (now (later .entry))) ⌝ }
 {
-    let a = word_in(image, at);
-    let b = word_in(image, at + 2);
+    let a = bytes::word_at(image, at);
+    let b = bytes::word_at(image, at + 2);
     count_ends(counts, a, b);
     count_below(later, places, 0, a, b);
 }
@@ -155,8 +124,8 @@ fn tally_at(image: &[u8], at: usize, ranks: &[u16], slack: u16, counts: &mut [u1
     requires { ⌜ Link-there (now image) at (length (now ranks)) (now counts) ⌝ }
     ensures { λ _. ⌜ now (counts .exit) ≡ count-at (now (ranks .entry)) slack (now (image .entry)) at (now (counts .entry)) ⌝ }
 {
-    let a = word_in(image, at);
-    let b = word_in(image, at + 2);
+    let a = bytes::word_at(image, at);
+    let b = bytes::word_at(image, at + 2);
     count_below(counts, ranks, slack, a, b);
 }
 
@@ -231,7 +200,7 @@ pub(crate) fn order_block(image: &[u8], q: usize, order: &mut [u16])
     let count = tables::fill::least(layout::ENTRIES as usize, order.len() - from);
     let mut i: usize = 0;
     while i < count {
-        let x = word_in(image, at + 2 * i);
+        let x = bytes::word_at(image, at + 2 * i);
         order[from + i] = (x % 65536) as u16;
         i += 1;
     }

@@ -1,9 +1,8 @@
 // Whether the links and the order that an image lists make a sound site, and then the numbers. It is put to the image in place: counts
-// over the links, block by block, with a rank and a count for each radio. A test of all entries of a table does not stop at the first no:
+// over the links, block by block, with a count for each radio. A test of all entries of a table does not stop at the first no:
 // the compiler then does many at a time.
 ghost use mathlib.Core.Path.{_≡_};
 ghost use mathlib.Core.Bool.{true, _&&_};
-ghost use mathlib.Core.Logic.{_↔_};
 ghost use mathlib.Core.List.{[], map};
 ghost use Prim.Native.Nat.{ℕ, _≤_, _<_, _+_, _*_, max};
 ghost use lib.Dec.{leb};
@@ -13,10 +12,11 @@ ghost use Rattle.mesh.specs.Limits.{max-radios, max-neighbours};
 ghost use Rattle.mesh.specs.Graph.{graph, proper, ascending};
 ghost use Rattle.mesh.specs.Orders.{each-once};
 ghost use Rattle.mesh.specs.Image.{block-bytes, order-blocks, image-order};
-ghost use Rattle.image_site.specs.Site.{links-up-to, Tallied, running-maxima-of, Links-room, Tally-room, Order-placed};
+ghost use Rattle.image_site.specs.Site.{links-up-to, Tallied, running-maxima-of, Links-room, Tally-room, Order-counted};
 ghost use Rattle.image_site.specs.Site.{K-order-decided, Sound-decided, Site-room, Site-decided};
 use super::blocks;
 use super::blocks::Last;
+use image::header::Header;
 use image::layout;
 use mesh::Site;
 
@@ -116,10 +116,10 @@ fn larger(a: u16, b: u16) -> u16
 }
 
 // Gives each radio of the order the greatest count up to it.
-fn run_maxima(order: &[u16], counts: &[u16], ranks: &mut [u16])
+fn run_maxima(order: &[u16], counts: &[u16], cores: &mut [u16])
     requires { ⌜ (each-once (length (now order)) (now order) ≡ true) × (length (now order) ≤ length (now counts)) ×
-        (length (now order) ≤ length (now ranks)) ⌝ }
-    ensures { λ _. ⌜ map (λ (v : ℕ). getD (now (ranks .exit)) v 0) (now (order .entry))
+        (length (now order) ≤ length (now cores)) ⌝ }
+    ensures { λ _. ⌜ map (λ (v : ℕ). getD (now (cores .exit)) v 0) (now (order .entry))
         ≡ running-maxima-of (λ (v : ℕ). getD (now (counts .entry)) v 0) 0 (now (order .entry)) ⌝ }
 {
     let mut top: u16 = 0;
@@ -127,117 +127,96 @@ fn run_maxima(order: &[u16], counts: &[u16], ranks: &mut [u16])
     while i < order.len() {
         let v = order[i] as usize;
         top = larger(top, counts[v]);
-        ranks[v] = top;
+        cores[v] = top;
         i += 1;
     }
 }
 
 // Whether an order that holds each radio once, whose later neighbours are counted, is a k-order of the first m links: along a k-order the
 // number is the greatest count of later neighbours so far, and every radio has at least its number of neighbours whose number is not
-// below its own. The ranks, which were the places, are then the numbers.
+// below its own. Then `cores` holds the numbers.
 fn is_k_order(
     image: &[u8],
     n: u32,
     m: u32,
     order: &[u16],
     later: &[u16],
-    ranks: &mut [u16],
+    cores: &mut [u16],
     counts: &mut [u16],
 ) -> bool
-    requires room { ⌜ Tally-room n m (now image) (length (now ranks)) (length (now counts)) × (length (now later) ≡ n) ⌝ }
+    requires room { ⌜ Tally-room n m (now image) (length (now cores)) (length (now counts)) × (length (now later) ≡ n) ⌝ }
     requires ascends { ⌜ ascending (links-up-to n (now image) m) ≡ true ⌝ }
-    requires placed { ⌜ Order-placed n (links-up-to n (now image) m) (now order) (now ranks) (now later) ⌝ }
-    ensures { λ r. ⌜ K-order-decided (graph n (links-up-to n (now (image .entry)) m)) (now (order .entry)) (now (ranks .exit)) r ⌝ }
+    requires counted { ⌜ Order-counted n (links-up-to n (now image) m) (now order) (now later) ⌝ }
+    ensures { λ r. ⌜ K-order-decided (graph n (links-up-to n (now (image .entry)) m)) (now (order .entry)) (now (cores .exit)) r ⌝ }
 {
-    run_maxima(order, later, ranks);
-    tally(image, n, m, ranks, 1, counts);
-    each_at_most(ranks, counts)
+    run_maxima(order, later, cores);
+    tally(image, n, m, cores, 1, counts);
+    each_at_most(cores, counts)
 }
 
-// Whether no radio has too many of the first m links, and the order is a k-order of them. The ranks are then the numbers.
+// Whether no radio has too many of the first m links, and the order is a k-order of them. Then `cores` holds the numbers; the places of the
+// radios, which only the counting of later neighbours needs, stand in it before.
 fn is_sound(
     image: &[u8],
     n: u32,
     m: u32,
     order: &[u16],
-    ranks: &mut [u16],
+    cores: &mut [u16],
     counts: &mut [u16],
     later: &mut [u16],
 ) -> bool
-    requires room { ⌜ Tally-room n m (now image) (length (now ranks)) (length (now counts)) × (length (now later) ≡ n) ⌝ }
+    requires room { ⌜ Tally-room n m (now image) (length (now cores)) (length (now counts)) × (length (now later) ≡ n) ⌝ }
     requires ascends { ⌜ ascending (links-up-to n (now image) m) ≡ true ⌝ }
     requires long { ⌜ length (now order) ≡ n ⌝ }
-    ensures { λ r. ⌜ Sound-decided n (links-up-to n (now (image .entry)) m) (now (order .entry)) (now (ranks .exit)) r ⌝ }
+    ensures { λ r. ⌜ Sound-decided n (links-up-to n (now (image .entry)) m) (now (order .entry)) (now (cores .exit)) r ⌝ }
 {
-    if !soundness::places_of(order, ranks) {
+    if !soundness::places_of(order, cores) {
         return false;
     }
-    count_links(image, n, m, ranks, counts, later);
+    count_links(image, n, m, cores, counts, later);
     if !are_few(counts) {
         return false;
     }
-    is_k_order(image, n, m, order, later, ranks, counts)
+    is_k_order(image, n, m, order, later, cores, counts)
 }
 
-// Whether the first m links and the order of the image make a sound site of n radios. Then `listed` holds the order and `ranks` the
+// Whether the first m links and the order of the image make a sound site of n radios. Then `listed` holds the order and `cores` the
 // numbers; else they, and the counts in any case, hold anything.
 fn decide(
     image: &[u8],
     n: u32,
     m: u32,
     listed: &mut [u16],
-    ranks: &mut [u16],
+    cores: &mut [u16],
     counts: &mut [u16],
     later: &mut [u16],
 ) -> bool
-    requires room { ⌜ Site-room n m (now image) (length (now listed)) (length (now ranks)) ⌝ }
+    requires room { ⌜ Site-room n m (now image) (length (now listed)) (length (now cores)) ⌝ }
     requires scratch { ⌜ (length (now counts) ≡ n) × (length (now later) ≡ n) ⌝ }
-    ensures { λ r. ⌜ Site-decided n m (now (image .entry)) (now (listed .exit)) (now (ranks .exit)) r ⌝ }
+    ensures { λ r. ⌜ Site-decided n m (now (image .entry)) (now (listed .exit)) (now (cores .exit)) r ⌝ }
 {
     if !are_listed(image, n, m) {
         return false;
     }
     read_order(image, listed);
-    is_sound(image, n, m, listed, ranks, counts, later)
+    is_sound(image, n, m, listed, cores, counts, later)
 }
 
-// Whether the image has the blocks of n radios and m links, and two tables have an entry for each radio.
-fn has_room(image: &[u8], n: u32, m: u32, listed: usize, ranks: usize) -> bool
-    ensures { λ r. ⌜ (r ≡ true) ↔ Site-room n m (now (image .entry)) listed ranks ⌝ }
+// Whether the links and the order that the image lists make a sound site. Then `listed` holds the order and `cores` the numbers; else they
+// hold anything.
+pub fn is_site(image: &[u8], header: Header, listed: &mut [u16], cores: &mut [u16]) -> bool
+    requires { ⌜ Site-room (header .radios) (header .links) (now image) (length (now listed)) (length (now cores)) ⌝ }
+    ensures { λ r. ⌜ Site-decided (header .radios) (header .links) (now (image .entry)) (now (listed .exit)) (now (cores .exit)) r ⌝ }
 {
-    if Site::RADIOS < n {
-        return false;
-    }
-    if 65536 <= m {
-        return false;
-    }
-    if image.len() < layout::BLOCK * layout::block_count(n, m) as usize {
-        return false;
-    }
-    if listed != n as usize {
-        return false;
-    }
-    ranks == n as usize
-}
-
-// Whether the first m links and the order that the image lists make a sound site of n radios. Then `listed` holds the order and `ranks`
-// the numbers; else they hold anything. Without room the answer is no.
-pub fn is_site(image: &[u8], n: u32, m: u32, listed: &mut [u16], ranks: &mut [u16]) -> bool
-    ensures { λ r. ⌜ (Site-room n m (now (image .entry)) (length (now (listed .entry))) (length (now (ranks .entry)))
-        → Site-decided n m (now (image .entry)) (now (listed .exit)) (now (ranks .exit)) r) ⌝ }
-{
-    if !has_room(image, n, m, listed.len(), ranks.len()) {
-        return false;
-    }
-    let many = n as usize;
+    let many = header.radios as usize;
     let mut counts = [0u16; Site::RADIOS as usize];
     let mut later = [0u16; Site::RADIOS as usize];
     decide(
         image,
-        n,
-        m,
+        header.radios,
+        header.links,
         listed,
-        ranks,
+        cores,
         &mut counts[..many],
         &mut later[..many],
     )

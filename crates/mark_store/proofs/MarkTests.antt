@@ -1,12 +1,12 @@
 -- The size of a place's image; a place tested part by part: name, image, zeros.
-use mathlib.Core.Path.{_≡_, sym, ap, ap₂, _∙_}
+use mathlib.Core.Path.{_≡_, sym, ap, _∙_}
 use mathlib.Core.Logic.{_⊎_, inl, inr}
 use mathlib.Core.Bool.{Bool, true, false, _&&_}
 use mathlib.Core.List.{List}
 use Prim.Native.Nat.{ℕ, _+_, _*_, _-_, _^_, _≤_, _<_}
 use native.Mathlib.Omega.{arith}
 use lib.ListN.{length, take, drop, length-drop}
-use lib.Seq.{getD-drop, take-all, drop-drop}
+use lib.Seq.{take-all, drop-drop}
 use Rattle.mesh.specs.Limits.{size-good}
 use Rattle.mesh.specs.Image.{block-bytes, block-count, order-blocks, blocks-for, word-at, is-image}
 use Rattle.mesh.specs.Marks.{name-bytes, place-bytes, is-name, is-zeros, name-in, image-size, image-in, is-mark}
@@ -21,10 +21,11 @@ use Rattle.mark_names.proofs.Left.{rest-part}
 
 -- ---- the size of a place's image
 
-pub image-size-at : (n m b : ℕ) (p : List ℕ) → m ≡ word-at p 14 → b ≡ block-count n m → block-bytes * b ≡ image-size n (drop name-bytes p)
-unfolding image-size word-at
+pub image-size-at : (n m b : ℕ) (p : List ℕ) → m ≡ word-at (take (length p - name-bytes) (drop name-bytes p)) 6 → b ≡ block-count n m
+    → block-bytes * b ≡ image-size n (drop name-bytes p)
+unfolding image-size
 image-size-at n m b p e f =
-    ap (λ (k : ℕ). block-bytes * k) (f ∙ ap (block-count n) (e ∙ ap₂ {C = ℕ} (λ x y. x + 256 * y) (sym (getD-drop name-bytes p 6 0)) (sym (getD-drop name-bytes p 7 0))))
+    ap (λ (k : ℕ). block-bytes * k) (f ∙ ap (block-count n) (e ∙ ap (λ (bs : List ℕ). word-at bs 6) (rest-part p name-bytes)))
 
 pub image-size-less : (n m b : ℕ) → n < 2 ^ 32 → m < 65536 → b ≡ block-count n m → block-bytes * b < 2 ^ 42
 unfolding block-count order-blocks blocks-for

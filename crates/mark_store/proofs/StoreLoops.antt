@@ -6,7 +6,7 @@ use Prim.Native.Nat.{ℕ, zero, suc, _+_, _*_, _-_, _≤_, _<_}
 use native.Mathlib.Omega.{arith}
 use lib.ListN.{length, take, drop, drop-of-length-le}
 use lib.Seq.{drop-cons, drop-drop}
-use borrow.Author.Tests.{eqb-true, eq-eqb, ne-eqb}
+use borrow.Author.Tests.{eqb-true}
 use Rattle.lists.specs.Lists.{same}
 use Rattle.mesh.specs.Limits.{size-good}
 use Rattle.mesh.specs.Marks.{name-bytes, place-bytes, places, store-bytes, before, is-name, is-zeros, name-in, is-mark, places-of, used, marks-in, are-marks, is-store}
@@ -17,7 +17,7 @@ use Rattle.calls.specs.Questions.{ask, Lengths, site-refusal}
 use Rattle.calls.specs.Marks.{store-length, marks-good, mark-refusal}
 use Rattle.calls.proofs.QuestionLaws.{true-size-good}
 use Rattle.calls.proofs.ChainLaws.{Site-good, site-zero, site-yes, site-stops}
-use Rattle.mark_store.specs.Store.{last-name, Located}
+use Rattle.mark_store.specs.Store.{last-name, Counted, Located}
 use Rattle.mark_names.proofs.Left.{rest-part}
 
 -- ---- counting used places
@@ -209,32 +209,22 @@ ranking-end bs x i k f e l =
 
 -- ---- the spot of a name
 
-pub no-store : (bs x : List ℕ) → (length bs ≡ store-bytes → ⊥) → Located bs x 0 0 false
-unfolding store-length
-no-store bs x h = let e = ne-eqb (length bs) store-bytes h in record { counted = rw e; ranked = rw e; found = rw e }
-
-module _ (bs x : List ℕ) (k r : ℕ) (long : length bs ≡ store-bytes) (k-is : k ≡ length (marks-in bs)) (r-is : r ≡ rank x (marks-in bs)) where
-  sized : store-length bs ≡ true
-  unfolding store-length
-  sized = eq-eqb (length bs) store-bytes long
-
+module _ (bs x : List ℕ) (k r : ℕ) (count : Counted bs k) (r-is : r ≡ rank x (marks-in bs)) where
   located : (t : Bool) → t ≡ heads x (drop r (marks-in bs)) → Located bs x k r t
-  located t e = record {
-    counted = rw sized k-is;
-    ranked = rw sized r-is;
-    found = rw sized (e ∙ ap (λ (j : ℕ). heads x (drop j (marks-in bs))) r-is);
-  }
+  located t e =
+      record { counted = count .counted; ranked = r-is; found = e ∙ ap (λ (j : ℕ). heads x (drop j (marks-in bs))) r-is }
 
   pub located-end : r ≡ k → Located bs x k r false
   unfolding heads
   located-end h =
-      let l : length (marks-in bs) ≤ r = omega arith in
+      let l : length (marks-in bs) ≤ r = omega (arith, count .counted) in
       located false (sym (ap (heads x) (drop-of-length-le (marks-in bs) l)))
 
   pub located-at : (t : Bool) → t ≡ same (take (place-bytes * r + name-bytes - place-bytes * r) (drop (place-bytes * r) bs)) x → r < k → Located bs x k r t
   unfolding heads
   located-at t e h =
-      located t (e ∙ ap (λ (y : List ℕ). same y x) (rising-parts bs r ∙ sym (name-of-place bs r)) ∙ sym (ap (heads x) (from-mark bs r (omega arith))))
+      located t (e ∙ ap (λ (y : List ℕ). same y x) (rising-parts bs r ∙ sym (name-of-place bs r))
+      ∙ sym (ap (heads x) (from-mark bs r (omega (arith, count .counted)))))
 
 -- ---- questions 1, 2, 3 and 17
 

@@ -5,6 +5,7 @@ ghost use Prim.Native.Nat.{_<_, _^_};
 ghost use lib.ListN.{length, drop};
 ghost use Rattle.mesh.specs.Limits.{size-good};
 ghost use Rattle.mesh.specs.Marks.{name-bytes, place-bytes, image-size, is-mark};
+use image::header;
 use image::layout;
 use image_reader::reader;
 use mark_names::bytes;
@@ -12,14 +13,16 @@ use mark_names::names;
 
 pub const NAME: usize = 8;
 
-pub const PLACE: usize = 44040;
+// A place holds the longest image.
+pub const PLACE: usize = NAME + layout::MOST_BLOCKS as usize * layout::BLOCK;
 
 // How many bytes the image of the place has, by its own count of links.
 pub fn image_size(n: u32, place: &[u8]) -> usize
+    requires { ⌜ length (now place) ≡ place-bytes ⌝ }
     ensures { λ r. ⌜ (r ≡ image-size n (drop name-bytes (now (place .entry)))) × (r < 2 ^ 42) ⌝ }
 {
-    let m = image::bytes::word_at(place, NAME + layout::LINKS_AT);
-    layout::BLOCK * layout::block_count(n, m) as usize
+    let header = header::header_of(&place[NAME..]);
+    layout::BLOCK * layout::block_count(n, header.links) as usize
 }
 
 // Whether the place is a mark: a name, an image of sound tables with n radios, and zeros to its end.

@@ -10,7 +10,7 @@ ghost use Rattle.mesh.specs.Marks.{places, store-bytes, before, name-at, marks-
 ghost use Rattle.mesh.specs.MarkPlaces.{rank};
 ghost use Rattle.calls.specs.Questions.{lengths-of};
 ghost use Rattle.calls.specs.Marks.{mark-refusal};
-ghost use Rattle.mark_store.specs.Store.{last-name, Located};
+ghost use Rattle.mark_store.specs.Store.{last-name, Counted, Located};
 use super::places;
 use super::places::NAME;
 use super::places::PLACE;
@@ -21,12 +21,12 @@ use tables::fill;
 
 pub const PLACES: usize = 8;
 
-pub const STORE: usize = 352320;
+pub const STORE: usize = PLACES * PLACE;
 
 // How many places are used: the ones before the first that is all zero.
 fn count_used(store: &[u8]) -> usize
     requires { ⌜ length (now store) ≡ store-bytes ⌝ }
-    ensures { λ r. ⌜ (r ≡ length (marks-in (now (store .entry)))) × (r ≤ places) ⌝ }
+    ensures { λ r. ⌜ Counted (now (store .entry)) r ⌝ }
 {
     let mut i: usize = 0;
     while i < PLACES {
@@ -55,12 +55,11 @@ fn is_rising(store: &[u8], i: usize) -> bool
     names::is_before(&store[last..last_end], &store[at..end])
 }
 
-// Whether the store keeps the rules: the used places are marks in rising order of name, and all after them is zero.
-fn is_store(n: u32, store: &[u8]) -> bool
-    requires { ⌜ (size-good n ≡ true) × (length (now store) ≡ store-bytes) ⌝ }
+// Whether the store keeps the rules: the k used places are marks in rising order of name, and all after them is zero.
+fn is_store(n: u32, store: &[u8], k: usize) -> bool
+    requires { ⌜ (size-good n ≡ true) × Counted (now store) k ⌝ }
     ensures { λ r. ⌜ r ≡ is-store n (now (store .entry)) ⌝ }
 {
-    let k = count_used(store);
     let mut i: usize = 0;
     while i < k {
         let at = PLACE * i;
@@ -79,7 +78,7 @@ fn is_store(n: u32, store: &[u8]) -> bool
 
 // How many of the k used places have names that stand before the given one: where it stands or is to stand.
 fn rank_of(store: &[u8], k: usize, name: &[u8]) -> usize
-    requires { ⌜ (length (now store) ≡ store-bytes) × (k ≡ length (marks-in (now store))) × (k ≤ places) ⌝ }
+    requires { ⌜ Counted (now store) k ⌝ }
     ensures { λ r. ⌜ (r ≡ rank (now (name .entry)) (marks-in (now (store .entry)))) × (r ≤ k) ⌝ }
 {
     let mut i: usize = 0;
@@ -94,29 +93,36 @@ fn rank_of(store: &[u8], k: usize, name: &[u8]) -> usize
     k
 }
 
-// Where a name stands or is to stand in a store: how many places are used, how many names stand before it, and whether the next one
-// is the name.
+// What questions 1, 2, 3 and 17 come to, and where the number is 0 the spot of a name: how many places are used, how many names stand before
+// it, and whether the next one is the name.
 pub struct Spot {
+    pub number: u32,
     pub used: usize,
     pub rank: usize,
     pub there: bool,
 }
 
-// Finds the spot of the name; zeros where the store has another length.
-pub fn locate(store: &[u8], name: &[u8]) -> Spot
-    ensures { λ r. ⌜ Located (now (store .entry)) (now (name .entry)) (r .used) (r .rank) (r .there) ⌝ }
+// No spot is looked for.
+fn refused(number: u32) -> Spot
+    ensures { λ r. ⌜ r .number ≡ number ⌝ }
 {
-    if store.len() != STORE {
-        return Spot {
-            used: 0,
-            rank: 0,
-            there: false,
-        };
+    Spot {
+        number,
+        used: 0,
+        rank: 0,
+        there: false,
     }
-    let used = count_used(store);
+}
+
+// Finds the spot of the name.
+fn locate(store: &[u8], used: usize, name: &[u8]) -> Spot
+    requires { ⌜ Counted (now store) used ⌝ }
+    ensures { λ r. ⌜ (r .number ≡ 0) × Located (now (store .entry)) (now (name .entry)) (r .used) (r .rank) (r .there) ⌝ }
+{
     let rank = rank_of(store, used, name);
     if rank == used {
         return Spot {
+            number: 0,
             used,
             rank,
             there: false,
@@ -125,30 +131,37 @@ pub fn locate(store: &[u8], name: &[u8]) -> Spot
     let at = PLACE * rank;
     let end = at + NAME;
     let there = fill::same8(&store[at..end], name);
-    Spot { used, rank, there }
+    Spot {
+        number: 0,
+        used,
+        rank,
+        there,
+    }
 }
 
-// Questions 1, 2, 3 and 17 of a call on marks.
-pub fn refusal(
+// Questions 1, 2, 3 and 17 of a call on marks, and the spot of the name.
+pub fn spot_of(
     n: u32,
     links: &[u8],
     numbers: &[u8],
     order: &[u16],
     name: &[u8],
     store: &[u8],
-) -> u32
-    ensures { λ r. ⌜ r ≡ mark-refusal n (lengths-of (lent (links .entry) (numbers .entry) (order .entry)))
+) -> Spot
+    ensures asked { λ r. ⌜ r .number ≡ mark-refusal n (lengths-of (lent (links .entry) (numbers .entry) (order .entry)))
         (sound n (lent (links .entry) (numbers .entry) (order .entry))) (now (name .entry)) (now (store .entry)) 0 ⌝ }
+    ensures located { λ r. ⌜ (r .number ≡ 0 → Located (now (store .entry)) (now (name .entry)) (r .used) (r .rank) (r .there)) ⌝ }
 {
     let number = soundness::refusal(n, links, numbers, order, store.len() == STORE);
     if number != 0 {
-        return number;
+        return refused(number);
     }
-    if !is_store(n, store) {
-        return Refusal::MARK;
+    let used = count_used(store);
+    if !is_store(n, store, used) {
+        return refused(Refusal::MARK);
     }
     if !names::is_name(name) {
-        return Refusal::MARK;
+        return refused(Refusal::MARK);
     }
-    0
+    locate(store, used, name)
 }

@@ -6,7 +6,7 @@
 --   returned, return-absent     coming back; 18
 use mathlib.Core.Path.{_≡_, refl, sym, ap, ap₂, subst, _∙_}
 use mathlib.Core.Logic.{_⊎_, inl, inr}
-use mathlib.Core.Bool.{Bool, true, false, _&&_, _||_, cond}
+use mathlib.Core.Bool.{Bool, true, false, _&&_, _||_}
 use mathlib.Core.List.{List, [], _∷_, _++_}
 use Prim.Native.Nat.{ℕ, suc, _+_, _*_, _-_, _≤_, _<_}
 use native.Mathlib.Omega.{arith}
@@ -132,32 +132,22 @@ module _ (n : ℕ) (x : List ℕ) (t : Tables) (bs : List ℕ) (q : ℕ) (e : q 
   -- ---- the spot of the name
 
   module _ (used first : ℕ) (there : Bool) (spot : Located bs x used first there) where
-    sized : store-length bs ≡ true
-    sized = asked .site .lent .further
-
     store-long : eqb (length bs) store-bytes ≡ true
     unfolding store-length
     store-long = asked .site .lent .further
 
-    counted : used ≡ length marks
-    counted = spot .counted ∙ ap (λ (b : Bool). cond b (length marks) 0) sized
-
-    first-is : first ≡ rank x marks
-    first-is = spot .ranked ∙ ap (λ (b : Bool). cond b (rank x marks) 0) sized
-
     there-is : there ≡ has-mark x marks
-    there-is =
-        spot .found ∙ ap (λ (b : Bool). b && heads x (drop (rank x marks) marks)) sized ∙ sym (ranked n x [] marks (asked .store .marks .rising))
+    there-is = spot .found ∙ sym (ranked n x [] marks (asked .store .marks .rising))
 
     are-sized : Sized marks
     are-sized = rising-sized n [] marks (asked .store .marks .rising)
 
     few : used ≤ places
-    few = omega (arith, counted, asked .store .marks .few)
+    few = omega (arith, spot .counted, asked .store .marks .few)
 
     -- the sizes that the code computes with
     pub spotted : Spotted (length bs) used first
-    spotted = record { long = eqb-true (length bs) store-bytes store-long; few = few; low = omega (arith, counted, first-is, rank-most n x marks) }
+    spotted = record { long = eqb-true (length bs) store-bytes store-long; few = few; low = omega (arith, spot .counted, spot .ranked, rank-most n x marks) }
 
     -- a new name finds a place
     pub room : (used ≡ places → ⊥) → used < places
@@ -173,7 +163,7 @@ module _ (n : ℕ) (x : List ℕ) (t : Tables) (bs : List ℕ) (q : ℕ) (e : q 
       where
         go : (rest : List (List ℕ)) → drop (rank x marks) marks ≡ rest → heads x (drop (rank x marks) marks) ≡ true → first < used
         go [] f k = never (heads x []) (ap (heads x) (sym f) ∙ k) (nothing x)
-        go (p ∷ rest) f k = omega (arith, counted, first-is, length-drop (rank x marks) marks, ap length f)
+        go (p ∷ rest) f k = omega (arith, spot .counted, spot .ranked, length-drop (rank x marks) marks, ap length f)
 
     -- ---- setting
 
@@ -186,9 +176,9 @@ module _ (n : ℕ) (x : List ℕ) (t : Tables) (bs : List ℕ) (q : ℕ) (e : q 
     set-again h cs f =
         let p = place-of x image in
         let there′ : has-mark x marks ≡ true = sym there-is ∙ h in
-        let l : rank x marks < length marks = omega (arith, below h, counted, first-is) in
+        let l : rank x marks < length marks = omega (arith, below h, spot .counted, spot .ranked) in
         set-by (ap (λ (b : Bool). b || ltb (length marks) places) there′) cs
-        (f ∙ ap (λ (j : ℕ). take (place-bytes * j) bs ++ (p ++ drop (place-bytes * j + place-bytes) bs)) first-is
+        (f ∙ ap (λ (j : ℕ). take (place-bytes * j) bs ++ (p ++ drop (place-bytes * j + place-bytes) bs)) (spot .ranked)
         ∙ ap (λ (os : List ℕ). take (place-bytes * rank x marks) os ++ (p ++ drop (place-bytes * rank x marks + place-bytes) os)) (asked .store .whole)
         ∙ replaced marks are-sized (asked .store .marks .few) (rank x marks) p l
         ∙ ap store-of (sym (at-name p there′)))
@@ -202,7 +192,7 @@ module _ (n : ℕ) (x : List ℕ) (t : Tables) (bs : List ℕ) (q : ℕ) (e : q 
     unfolding Set-contract set-outcome store-outcome set-refusal has-place is-marked
     set-full h f =
         let none : has-place x bs ≡ false =
-        ap₂ {C = Bool} (λ a b. a || b) (sym there-is ∙ h) (le-ltb (length marks) places (omega (arith, counted))) in
+        ap₂ {C = Bool} (λ a b. a || b) (sym there-is ∙ h) (le-ltb (length marks) places (omega (arith, spot .counted))) in
         let r = further (ask 19 (has-place x bs) 0) ∙ ask-no 19 (has-place x bs) 0 none in
         by-refused _ _ _ (λ z. omega (arith, r)) (rw r)
 
@@ -212,9 +202,9 @@ module _ (n : ℕ) (x : List ℕ) (t : Tables) (bs : List ℕ) (q : ℕ) (e : q 
     set-new h m cs f =
         let p = place-of x image in
         let none : has-mark x marks ≡ false = sym there-is ∙ h in
-        let less : length marks < places = omega (arith, room m, counted) in
+        let less : length marks < places = omega (arith, room m, spot .counted) in
         set-by (ap₂ {C = Bool} (λ a b. a || b) none (lt-ltb (length marks) places less)) cs
-        (f ∙ ap₂ {C = List ℕ} (λ j k. take (place-bytes * j) (moved-up bs (place-bytes * j) (place-bytes * k)) ++ (p ++ drop (place-bytes * j + place-bytes) (moved-up bs (place-bytes * j) (place-bytes * k)))) first-is counted
+        (f ∙ ap₂ {C = List ℕ} (λ j k. take (place-bytes * j) (moved-up bs (place-bytes * j) (place-bytes * k)) ++ (p ++ drop (place-bytes * j + place-bytes) (moved-up bs (place-bytes * j) (place-bytes * k)))) (spot .ranked) (spot .counted)
         ∙ ap (λ (os : List ℕ). take (place-bytes * rank x marks) (moved-up os (place-bytes * rank x marks) (place-bytes * length marks))
         ++ (p ++ drop (place-bytes * rank x marks + place-bytes) (moved-up os (place-bytes * rank x marks) (place-bytes * length marks)))) (asked .store .whole)
         ∙ inserted marks are-sized (asked .store .marks .few) (rank x marks) p (rank-most n x marks) less
@@ -249,13 +239,13 @@ module _ (n : ℕ) (x : List ℕ) (t : Tables) (bs : List ℕ) (q : ℕ) (e : q 
         cs ≡ put-place (moved-down bs (place-bytes * (first + 1)) (place-bytes * used)) (used - 1) (replicate w 0) → Remove-contract n x t bs 0 cs
     unfolding Remove-contract remove-outcome store-outcome removed-store put-place
     removed h w cs g f =
-        let l : rank x marks < length marks = omega (arith, below h, counted, first-is) in
-        let k : length marks ≡ suc (used - 1) = omega (arith, below h, counted) in
-        let i : first + 1 ≡ suc (rank x marks) = omega (arith, first-is) in
+        let l : rank x marks < length marks = omega (arith, below h, spot .counted, spot .ranked) in
+        let k : length marks ≡ suc (used - 1) = omega (arith, below h, spot .counted) in
+        let i : first + 1 ≡ suc (rank x marks) = omega (arith, spot .ranked) in
         by-accepted _ _ (a-mark h) (ap (stored 0)
         (f
         ∙ ap₂ {C = List ℕ} (λ j u. take (place-bytes * (used - 1)) (moved-down bs (place-bytes * j) (place-bytes * u))
-        ++ (replicate w 0 ++ drop (place-bytes * (used - 1) + place-bytes) (moved-down bs (place-bytes * j) (place-bytes * u)))) i counted
+        ++ (replicate w 0 ++ drop (place-bytes * (used - 1) + place-bytes) (moved-down bs (place-bytes * j) (place-bytes * u)))) i (spot .counted)
         ∙ ap (λ (os : List ℕ). take (place-bytes * (used - 1)) (moved-down os (place-bytes * suc (rank x marks)) (place-bytes * length marks))
         ++ (replicate w 0 ++ drop (place-bytes * (used - 1) + place-bytes) (moved-down os (place-bytes * suc (rank x marks)) (place-bytes * length marks))))
         (asked .store .whole)
@@ -267,7 +257,7 @@ module _ (n : ℕ) (x : List ℕ) (t : Tables) (bs : List ℕ) (q : ℕ) (e : q 
     mark-found : there ≡ true → found x marks ≡ place-at bs first
     mark-found h =
         found-at n x [] marks (asked .store .marks .rising) (sym there-is ∙ h)
-        ∙ mark-at bs (rank x marks) (omega (arith, below h, counted, first-is)) ∙ ap (place-at bs) (sym first-is)
+        ∙ mark-at bs (rank x marks) (omega (arith, below h, spot .counted, spot .ranked)) ∙ ap (place-at bs) (sym (spot .ranked))
 
     module _ (h : there ≡ true) (s : ℕ) (size : s ≡ image-size n (drop name-bytes (take (place-bytes * first + place-bytes - place-bytes * first) (drop (place-bytes * first) bs)))) where
       whole-place : take (place-bytes * first + place-bytes - place-bytes * first) (drop (place-bytes * first) bs) ≡ place-at bs first

@@ -1,6 +1,6 @@
 // Named marks: set, removed, come back to. Places are moved within the lent store, and nothing of one is copied to the stack.
 ghost use mathlib.Core.Path.{_≡_};
-ghost use Prim.Native.Nat.{_≤_, _<_, _+_};
+ghost use Prim.Native.Nat.{_<_, _+_};
 ghost use lib.ListN.{length};
 ghost use Rattle.mesh.specs.Lent.{lent};
 ghost use Rattle.mesh.specs.Marks.{place-bytes, places, store-bytes};
@@ -53,11 +53,10 @@ pub fn set(n: u32, links: &[u8], numbers: &[u8], order: &[u16], name: &[u8], kep
     ensures { λ r. ⌜ Set-contract n (now (name .entry)) (lent (links .entry) (numbers .entry) (order .entry)) (now (kept .entry)) r
         (now (kept .exit)) ⌝ }
 {
-    let number = store::refusal(n, links, numbers, order, name, kept);
-    if number != 0 {
-        return number;
+    let spot = store::spot_of(n, links, numbers, order, name, kept);
+    if spot.number != 0 {
+        return spot.number;
     }
-    let spot = store::locate(kept, name);
     if spot.there {
         put_at(n, links, numbers, order, name, kept, spot.rank);
         return 0;
@@ -83,11 +82,10 @@ pub fn remove(
     ensures { λ r. ⌜ Remove-contract n (now (name .entry)) (lent (links .entry) (numbers .entry) (order .entry)) (now (kept .entry)) r
         (now (kept .exit)) ⌝ }
 {
-    let number = store::refusal(n, links, numbers, order, name, kept);
-    if number != 0 {
-        return number;
+    let spot = store::spot_of(n, links, numbers, order, name, kept);
+    if spot.number != 0 {
+        return spot.number;
     }
-    let spot = store::locate(kept, name);
     if !spot.there {
         return Refusal::NO_MARK;
     }
@@ -111,11 +109,10 @@ pub fn come_back(
     ensures { λ r. ⌜ Return-contract n (now (name .entry)) (now (kept .entry)) (lent (links .entry) (numbers .entry) (order .entry)) r
         (lent (links .exit) (numbers .exit) (order .exit)) ⌝ }
 {
-    let number = store::refusal(n, links, numbers, order, name, kept);
-    if number != 0 {
-        return number;
+    let spot = store::spot_of(n, links, numbers, order, name, kept);
+    if spot.number != 0 {
+        return spot.number;
     }
-    let spot = store::locate(kept, name);
     if !spot.there {
         return Refusal::NO_MARK;
     }

@@ -6,7 +6,7 @@ ghost use Rattle.site_parts.specs.Inputs.{wrong};
 ghost use Rattle.site_program.specs.Blocks.{First-bad};
 use crate::sizes;
 use calls::Refusal;
-use image::bytes;
+use image::header;
 use image::layout;
 use mesh::Site;
 use site_parts::refusals;
@@ -15,7 +15,10 @@ use site_parts::refusals;
 pub(crate) fn radios(image: &[u8]) -> u32
     ensures { λ r. ⌜ r ≤ max-radios ⌝ }
 {
-    let n = bytes::word_at(image, layout::RADIOS_AT);
+    if image.len() < layout::BLOCK {
+        return 1;
+    }
+    let n = header::header_of(image).radios;
     if n == 0 {
         return 1;
     }
@@ -40,6 +43,18 @@ fn bad_block(image: &[u8]) -> usize
     count
 }
 
+// Whether the image says n radios, and has the form that its header says.
+fn is_formed(image: &[u8], n: u32) -> bool {
+    if image.len() < layout::BLOCK {
+        return false;
+    }
+    let header = header::header_of(image);
+    if header.radios != n {
+        return false;
+    }
+    image_form::form::is_formed(image, header)
+}
+
 // Where the image got "no": its length, a block, its form or its content.
 fn say_where(errors: i32, n: u32, image: &[u8], number: u32) -> u32
     ensures { λ r. ⌜ r ≡ wrong ⌝ }
@@ -50,7 +65,7 @@ fn say_where(errors: i32, n: u32, image: &[u8], number: u32) -> u32
     if number == Refusal::IMAGE_CHECK {
         return refusals::say_image(errors, number, b"block", bad_block(image) as u64);
     }
-    if image_form::form::is_formed(image, n) {
+    if is_formed(image, n) {
         return refusals::say_image(errors, number, b"order or links of radios", n as u64);
     }
     refusals::say_image(errors, number, b"form of an image of radios", n as u64)

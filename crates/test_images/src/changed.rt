@@ -1,5 +1,4 @@
 // An image of 3 blocks with one or two bytes changed, as it is and with the check of its block mended.
-use super::parts;
 
 // Its bytes.
 pub(crate) const BYTES: usize = 1536;
@@ -30,10 +29,22 @@ fn put_check(image: &mut Image, at: usize, sum: u32) {
     }
 }
 
+// The check of the block from `start` on; 0 where there is none.
+fn check_at(image: &[u8], start: usize) -> u32 {
+    if image.len() < 512 {
+        return 0;
+    }
+    if image.len() - 512 < start {
+        return 0;
+    }
+    let end = start + 512;
+    image::checks::check_sum(&image[start..end])
+}
+
 // Gives the block that has byte `at` its check, lowest byte first.
 fn mend(image: &mut Image, at: usize) {
     let start = at - at % 512;
-    let sum = image::checks::check_sum(parts::rest(image, start));
+    let sum = check_at(image, start);
     put_check(image, std::num::wrapping_add_usize(start, 508), sum);
 }
 

@@ -5,7 +5,6 @@ mod canaries;
 mod changed;
 mod changes;
 mod full;
-mod held;
 mod lines;
 mod parts;
 mod pattern;

@@ -43,10 +43,10 @@ fn try_each(first: u32, end: u32, image: &[u8]) -> Tally {
 // Prints the line of an image: the first n, the end, its length, the n that it says, how often 0, 15, 11 and any other number came, how
 // often a comparison differed, and a digest of the numbers.
 fn try_range(first: u32, end: u32, image: &[u8]) {
-    let says = image::bytes::word_at(image, 4);
+    let says = parts::byte_at(image, 4) as u64 + 256 * parts::byte_at(image, 5) as u64;
     lines::begin(
         b"sizes",
-        &[first as u64, end as u64, image.len() as u64, says as u64],
+        &[first as u64, end as u64, image.len() as u64, says],
     );
     tally::end_line(try_each(first, end, image));
 }

@@ -1,5 +1,4 @@
 // Walking the blocks of an image.
-use super::held;
 use super::lines;
 use block_reader::blocks;
 use test_parts::digest;
@@ -54,6 +53,31 @@ fn steps(image: &[u8], count: usize) -> Walk {
     walk
 }
 
+// The digest with a step of the reader that holds the image, which is opened at block 0, and moves on to the block that the step names.
+fn noted(h: u64, number: u32, end: u32, part: &[u8], next: usize) -> u64 {
+    let first = digest::mixed(digest::mixed(h, 0), number as u64);
+    let ended = digest::mixed(first, end as u64);
+    let numbers = digest::mixed(digest::mixed(ended, next as u64), next as u64);
+    digest::bytes(numbers, part)
+}
+
+// The digest with block i, which is asked for by its number.
+fn step_at(image: &[u8], i: usize, h: u64) -> u64 {
+    let b = blocks::block(image, i);
+    let start = b.offset;
+    let end = start + b.length;
+    noted(h, b.number, b.end, &image[start..end], b.next)
+}
+
+// The digest of as many blocks, each asked for by its number.
+fn steps_at(image: &[u8], count: usize) -> u64 {
+    let mut h: u64 = 0;
+    for i in 0..count {
+        h = step_at(image, i, h);
+    }
+    h
+}
+
 // Prints where the reader stands after the steps, its last number, the payload bytes given, how often it said the end, and the digest.
 fn print_walk(walk: Walk) {
     lines::begin(b"blocks", &[]);
@@ -68,10 +92,9 @@ fn print_walk(walk: Walk) {
     );
 }
 
-// Walks the image, two steps past its last block, and prints the walk; then the digest of the same steps by the reader that holds the
-// image.
+// Walks the image, two steps past its last block, and prints the walk; then the digest of the same blocks, each asked for by its number.
 pub(crate) fn try_blocks(image: &[u8]) {
     let count = image.len() / 512 + 2;
     print_walk(steps(image, count));
-    lines::one(b"held", held::steps(image, count));
+    lines::one(b"held", steps_at(image, count));
 }

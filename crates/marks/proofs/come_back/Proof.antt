@@ -1,5 +1,4 @@
 -- `come_back` meets its contract: a refusal touches nothing; accepted, the mark's image is read from its part of the store.
-use mathlib.Core.Path.{_≡_, refl, sym, _∙_}
 use native.Mathlib.Omega.{arith}
 use borrow.Author.Needs.{needs}
 use borrow.Author.Tests.{not-true, not-false}
@@ -10,112 +9,112 @@ use Rattle.marks.proofs.come_back.Tie as tie
 
 returns : tie.Need-returns
 returns c =
-    let asked = c .before in
-    let a = asked .before .before .before .before .before .before .before .before .before .args in
-    return-refused (a .n) (a .name .now) (tables (a .links .now) (a .numbers .now) (a .order .now)) (a .kept .now) (asked .refusal .result)
-    (asked .refusal .ensures) (c .if1 .taken)
+    let a = c .before .before .before .before .before .before .before .before .before .before .before .args in
+    let spot = c .before .before .spot-of in
+    return-refused (a .n) (a .name .now) (tables (a .links .now) (a .numbers .now) (a .order .now)) (a .kept .now) _
+    (spot .ensures .0) (c .if1 .taken)
 
 returns-2 : tie.Need-returns-2
 returns-2 c =
-    let found = c .before .before in
-    let yes = found .before in
-    let asked = yes .before in
-    let a = asked .before .before .before .before .before .before .before .before .before .args in
-    return-absent (a .n) (a .name .now) (tables (a .links .now) (a .numbers .now) (a .order .now)) (a .kept .now) (asked .refusal .result)
-    (asked .refusal .ensures) (yes .if1 .left) _ _ _ (found .locate .ensures) (not-true _ (c .if2 .taken))
+    let a = c .before .before .before .before .before .before .before .before .before .before .before .before .before .args in
+    let spot = c .before .before .before .before .spot-of in
+    let zero = c .before .before .if1 .left in
+    return-absent (a .n) (a .name .now) (tables (a .links .now) (a .numbers .now) (a .order .now)) (a .kept .now) _
+    (spot .ensures .0) zero _ _ _ (spot .ensures .1 zero) (not-true _ (c .if2 .taken))
 
 mul-at : tie.Need-mul-at
 mul-at c =
     let else2 = c .before in
-    let found = else2 .before .before in
-    let yes = found .before in
-    let asked = yes .before in
-    let a = asked .before .before .before .before .before .before .before .before .before .args in
+    let a = c .before .before .before .before .before .before .before .before .before .before .before .before .before .before .args in
+    let spot = c .before .before .before .before .before .spot-of in
+    let zero = c .before .before .before .if1 .left in
     let t = tables (a .links .now) (a .numbers .now) (a .order .now) in
-    let s = spotted (a .n) (a .name .now) t (a .kept .now) (asked .refusal .result) (asked .refusal .ensures) (yes .if1 .left) _ _ _ (found .locate .ensures) in
-    let b = below (a .n) (a .name .now) t (a .kept .now) (asked .refusal .result) (asked .refusal .ensures) (yes .if1 .left) _ _ _ (found .locate .ensures) (not-false _ (else2 .if2 .left)) in
+    let s = spotted (a .n) (a .name .now) t (a .kept .now) _ (spot .ensures .0) zero _ _ _ (spot .ensures .1 zero) in
+    let b = below (a .n) (a .name .now) t (a .kept .now) _ (spot .ensures .0) zero _ _ _ (spot .ensures .1 zero) (not-false _ (else2 .if2 .left)) in
     record { fits = omega (arith, s .few, b) }
 
 add-end : tie.Need-add-end
 add-end c =
     let else2 = c .before in
-    let found = else2 .before .before in
-    let yes = found .before in
-    let asked = yes .before in
-    let a = asked .before .before .before .before .before .before .before .before .before .args in
+    let a = c .before .before .before .before .before .before .before .before .before .before .before .before .before .before .args in
+    let spot = c .before .before .before .before .before .spot-of in
+    let zero = c .before .before .before .if1 .left in
     let t = tables (a .links .now) (a .numbers .now) (a .order .now) in
-    let s = spotted (a .n) (a .name .now) t (a .kept .now) (asked .refusal .result) (asked .refusal .ensures) (yes .if1 .left) _ _ _ (found .locate .ensures) in
-    let b = below (a .n) (a .name .now) t (a .kept .now) (asked .refusal .result) (asked .refusal .ensures) (yes .if1 .left) _ _ _ (found .locate .ensures) (not-false _ (else2 .if2 .left)) in
+    let s = spotted (a .n) (a .name .now) t (a .kept .now) _ (spot .ensures .0) zero _ _ _ (spot .ensures .1 zero) in
+    let b = below (a .n) (a .name .now) t (a .kept .now) _ (spot .ensures .0) zero _ _ _ (spot .ensures .1 zero) (not-false _ (else2 .if2 .left)) in
     record { fits = omega (arith, s .few, b) }
 
 add-from : tie.Need-add-from
 add-from c =
     let else2 = c .before in
-    let found = else2 .before .before in
-    let yes = found .before in
-    let asked = yes .before in
-    let a = asked .before .before .before .before .before .before .before .before .before .args in
+    let a = c .before .before .before .before .before .before .before .before .before .before .before .before .before .before .args in
+    let spot = c .before .before .before .before .before .spot-of in
+    let zero = c .before .before .before .if1 .left in
     let t = tables (a .links .now) (a .numbers .now) (a .order .now) in
-    let s = spotted (a .n) (a .name .now) t (a .kept .now) (asked .refusal .result) (asked .refusal .ensures) (yes .if1 .left) _ _ _ (found .locate .ensures) in
-    let b = below (a .n) (a .name .now) t (a .kept .now) (asked .refusal .result) (asked .refusal .ensures) (yes .if1 .left) _ _ _ (found .locate .ensures) (not-false _ (else2 .if2 .left)) in
+    let s = spotted (a .n) (a .name .now) t (a .kept .now) _ (spot .ensures .0) zero _ _ _ (spot .ensures .1 zero) in
+    let b = below (a .n) (a .name .now) t (a .kept .now) _ (spot .ensures .0) zero _ _ _ (spot .ensures .1 zero) (not-false _ (else2 .if2 .left)) in
     record { fits = omega (arith, s .few, b) }
 
 part-image-size-end : tie.Need-part-image-size-end
 part-image-size-end c =
     let else2 = c .before in
-    let found = else2 .before .before in
-    let yes = found .before in
-    let asked = yes .before in
-    let a = asked .before .before .before .before .before .before .before .before .before .args in
+    let a = c .before .before .before .before .before .before .before .before .before .before .before .before .before .before .args in
+    let spot = c .before .before .before .before .before .spot-of in
+    let zero = c .before .before .before .if1 .left in
     let t = tables (a .links .now) (a .numbers .now) (a .order .now) in
-    let s = spotted (a .n) (a .name .now) t (a .kept .now) (asked .refusal .result) (asked .refusal .ensures) (yes .if1 .left) _ _ _ (found .locate .ensures) in
-    let b = below (a .n) (a .name .now) t (a .kept .now) (asked .refusal .result) (asked .refusal .ensures) (yes .if1 .left) _ _ _ (found .locate .ensures) (not-false _ (else2 .if2 .left)) in
+    let s = spotted (a .n) (a .name .now) t (a .kept .now) _ (spot .ensures .0) zero _ _ _ (spot .ensures .1 zero) in
+    let b = below (a .n) (a .name .now) t (a .kept .now) _ (spot .ensures .0) zero _ _ _ (spot .ensures .1 zero) (not-false _ (else2 .if2 .left)) in
     omega (arith, s .long, s .few, b)
 
 add-to : tie.Need-add-to
 add-to c =
     let sized = c in
-    let else2 = sized .before .before .before in
-    let found = else2 .before .before in
-    let yes = found .before in
-    let asked = yes .before in
-    let a = asked .before .before .before .before .before .before .before .before .before .args in
+    let else2 = c .before .before .before in
+    let a = c .before .before .before .before .before .before .before .before .before .before .before .before .before .before .before .before .args in
+    let spot = c .before .before .before .before .before .before .before .spot-of in
+    let zero = c .before .before .before .before .before .if1 .left in
     let t = tables (a .links .now) (a .numbers .now) (a .order .now) in
-    let s = spotted (a .n) (a .name .now) t (a .kept .now) (asked .refusal .result) (asked .refusal .ensures) (yes .if1 .left) _ _ _ (found .locate .ensures) in
-    let b = below (a .n) (a .name .now) t (a .kept .now) (asked .refusal .result) (asked .refusal .ensures) (yes .if1 .left) _ _ _ (found .locate .ensures) (not-false _ (else2 .if2 .left)) in
+    let s = spotted (a .n) (a .name .now) t (a .kept .now) _ (spot .ensures .0) zero _ _ _ (spot .ensures .1 zero) in
+    let b = below (a .n) (a .name .now) t (a .kept .now) _ (spot .ensures .0) zero _ _ _ (spot .ensures .1 zero) (not-false _ (else2 .if2 .left)) in
     record { fits = omega (arith, s .few, b, sized .image-size .ensures .1) }
 
 part-read-end : tie.Need-part-read-end
 part-read-end c =
     let sized = c .before .before .before in
-    let else2 = sized .before .before .before in
-    let found = else2 .before .before in
-    let yes = found .before in
-    let asked = yes .before in
-    let a = asked .before .before .before .before .before .before .before .before .before .args in
+    let else2 = c .before .before .before .before .before .before in
+    let a =
+    c .before .before .before .before .before .before .before .before .before .before .before .before .before .before .before .before .before .before .before .args
+    in
+    let spot = c .before .before .before .before .before .before .before .before .before .before .spot-of in
+    let zero = c .before .before .before .before .before .before .before .before .if1 .left in
     let t = tables (a .links .now) (a .numbers .now) (a .order .now) in
-    let s = spotted (a .n) (a .name .now) t (a .kept .now) (asked .refusal .result) (asked .refusal .ensures) (yes .if1 .left) _ _ _ (found .locate .ensures) in
-    let b = below (a .n) (a .name .now) t (a .kept .now) (asked .refusal .result) (asked .refusal .ensures) (yes .if1 .left) _ _ _ (found .locate .ensures) (not-false _ (else2 .if2 .left)) in
-    let f = fits (a .n) (a .name .now) t (a .kept .now) (asked .refusal .result) (asked .refusal .ensures) (yes .if1 .left) _ _ _ (found .locate .ensures) (not-false _ (else2 .if2 .left)) (sized .image-size .result) (sized .image-size .ensures .0) in
+    let s = spotted (a .n) (a .name .now) t (a .kept .now) _ (spot .ensures .0) zero _ _ _ (spot .ensures .1 zero) in
+    let b = below (a .n) (a .name .now) t (a .kept .now) _ (spot .ensures .0) zero _ _ _ (spot .ensures .1 zero) (not-false _ (else2 .if2 .left)) in
+    let f = fits (a .n) (a .name .now) t (a .kept .now) _ (spot .ensures .0) zero _ _ _ (spot .ensures .1 zero) (not-false _ (else2 .if2 .left))
+    (sized .image-size .result) (sized .image-size .ensures .0) in
     omega (arith, s .long, s .few, b, f)
 
 returns-3 : tie.Need-returns-3
 returns-3 c =
     let done = c .before .before .before .before .before .before in
-    let sized = done .before .before .before .before .before in
-    let else2 = sized .before .before .before in
-    let found = else2 .before .before in
-    let yes = found .before in
-    let asked = yes .before in
-    let a = asked .before .before .before .before .before .before .before .before .before .args in
+    let sized = c .before .before .before .before .before .before .before .before .before .before .before in
+    let else2 = c .before .before .before .before .before .before .before .before .before .before .before .before .before .before in
+    let a =
+    c .before .before .before .before .before .before .before .before .before .before .before .before .before .before .before .before .before .before .before .before .before .before .before .before .before .before .before .args
+    in
+    let spot =
+    c .before .before .before .before .before .before .before .before .before .before .before .before .before .before .before .before .before .before .spot-of
+    in
+    let zero = c .before .before .before .before .before .before .before .before .before .before .before .before .before .before .before .before .if1 .left in
     let t = tables (a .links .now) (a .numbers .now) (a .order .now) in
-    returned (a .n) (a .name .now) t (a .kept .now) (asked .refusal .result) (asked .refusal .ensures) (yes .if1 .left) _ _ _ (found .locate .ensures) (not-false _ (else2 .if2 .left)) (sized .image-size .result)
+    returned (a .n) (a .name .now) t (a .kept .now) _ (spot .ensures .0) zero _ _ _ (spot .ensures .1 zero) (not-false _ (else2 .if2 .left))
+    (sized .image-size .result)
     (sized .image-size .ensures .0) (done .read .result) _ (done .read .ensures)
 
 pub come-back-spec : {M : Type 1} → statement M
 come-back-spec =
     tie.close (
-    tie.spec (λ c κs. search needs) (λ c. search needs) (λ c. search needs) (λ c. search needs) returns (λ c κs. search needs)
+    tie.spec (λ c κs. search needs) (λ c. search needs) (λ c. search needs) (λ c. search needs) returns
     (λ c. search needs) (λ c. search needs) (λ c. search needs) returns-2 mul-at add-end add-from (λ c. search needs) (λ c. search needs) part-image-size-end
     (λ c κs. search needs) add-to (λ c. search needs) (λ c. search needs) part-read-end (λ c κs. search needs) (λ c. search needs) (λ c. search needs)
     (λ c. search needs) returns-3)

@@ -1,5 +1,5 @@
 -- `remove` meets its contract: a refusal touches nothing; accepted, later places move down and the last used one is zeroed.
-use mathlib.Core.Path.{_≡_, refl, ap, _∙_}
+use mathlib.Core.Path.{_≡_, ap, _∙_}
 use mathlib.Core.List.{List}
 use Prim.Native.Nat.{ℕ, _+_, _*_, _-_}
 use native.Mathlib.Omega.{arith}
@@ -19,145 +19,149 @@ use Rattle.marks.proofs.remove.Tie as tie
 
 returns : tie.Need-returns
 returns c =
-    let asked = c .before in
-    let a = asked .before .before .before .before .before .before .before .args in
+    let a = c .before .before .before .before .before .before .before .before .before .args in
+    let spot = c .before .before .spot-of in
     let t = tables (a .links .now) (a .numbers .now) (a .order .now) in
-    remove-refused (a .n) (a .name .now) t (a .kept .now) (asked .refusal .result) (asked .refusal .ensures) (c .if1 .taken)
+    remove-refused (a .n) (a .name .now) t (a .kept .now) _ (spot .ensures .0) (c .if1 .taken)
 
 returns-2 : tie.Need-returns-2
 returns-2 c =
-    let found = c .before .before in
-    let yes = found .before .before in
-    let asked = yes .before in
-    let a = asked .before .before .before .before .before .before .before .args in
+    let a = c .before .before .before .before .before .before .before .before .before .before .before .args in
+    let spot = c .before .before .before .before .spot-of in
+    let zero = c .before .before .if1 .left in
     let t = tables (a .links .now) (a .numbers .now) (a .order .now) in
-    remove-absent (a .n) (a .name .now) t (a .kept .now) (asked .refusal .result) (asked .refusal .ensures) (yes .if1 .left) _ _ _ (found .locate .ensures) (not-true _ (c .if2 .taken))
+    remove-absent (a .n) (a .name .now) t (a .kept .now) _ (spot .ensures .0) zero _ _ _ (spot .ensures .1 zero) (not-true _ (c .if2 .taken))
 
 add-move-down : tie.Need-add-move-down
 add-move-down c =
     let else2 = c .before .before in
-    let found = else2 .before .before in
-    let yes = found .before .before in
-    let asked = yes .before in
-    let a = asked .before .before .before .before .before .before .before .args in
+    let a = c .before .before .before .before .before .before .before .before .before .before .before .before .before .args in
+    let spot = c .before .before .before .before .before .before .spot-of in
+    let zero = c .before .before .before .before .if1 .left in
     let t = tables (a .links .now) (a .numbers .now) (a .order .now) in
-    let s = spotted (a .n) (a .name .now) t (a .kept .now) (asked .refusal .result) (asked .refusal .ensures) (yes .if1 .left) _ _ _ (found .locate .ensures) in
-    let b = below (a .n) (a .name .now) t (a .kept .now) (asked .refusal .result) (asked .refusal .ensures) (yes .if1 .left) _ _ _ (found .locate .ensures) (not-false _ (else2 .if2 .left)) in
+    let s = spotted (a .n) (a .name .now) t (a .kept .now) _ (spot .ensures .0) zero _ _ _ (spot .ensures .1 zero) in
+    let b = below (a .n) (a .name .now) t (a .kept .now) _ (spot .ensures .0) zero _ _ _ (spot .ensures .1 zero) (not-false _ (else2 .if2 .left)) in
     record { fits = omega (arith, s .few, b) }
 
 mul-move-down : tie.Need-mul-move-down
 mul-move-down c =
     let else2 = c .before .before in
-    let found = else2 .before .before in
-    let yes = found .before .before in
-    let asked = yes .before in
-    let a = asked .before .before .before .before .before .before .before .args in
+    let a = c .before .before .before .before .before .before .before .before .before .before .before .before .before .args in
+    let spot = c .before .before .before .before .before .before .spot-of in
+    let zero = c .before .before .before .before .if1 .left in
     let t = tables (a .links .now) (a .numbers .now) (a .order .now) in
-    let s = spotted (a .n) (a .name .now) t (a .kept .now) (asked .refusal .result) (asked .refusal .ensures) (yes .if1 .left) _ _ _ (found .locate .ensures) in
-    let b = below (a .n) (a .name .now) t (a .kept .now) (asked .refusal .result) (asked .refusal .ensures) (yes .if1 .left) _ _ _ (found .locate .ensures) (not-false _ (else2 .if2 .left)) in
+    let s = spotted (a .n) (a .name .now) t (a .kept .now) _ (spot .ensures .0) zero _ _ _ (spot .ensures .1 zero) in
+    let b = below (a .n) (a .name .now) t (a .kept .now) _ (spot .ensures .0) zero _ _ _ (spot .ensures .1 zero) (not-false _ (else2 .if2 .left)) in
     record { fits = omega (arith, s .few, b) }
 
 mul-move-down-2 : tie.Need-mul-move-down-2
 mul-move-down-2 c =
     let else2 = c .before .before .before in
-    let found = else2 .before .before in
-    let yes = found .before .before in
-    let asked = yes .before in
-    let a = asked .before .before .before .before .before .before .before .args in
+    let a = c .before .before .before .before .before .before .before .before .before .before .before .before .before .before .args in
+    let spot = c .before .before .before .before .before .before .before .spot-of in
+    let zero = c .before .before .before .before .before .if1 .left in
     let t = tables (a .links .now) (a .numbers .now) (a .order .now) in
-    let s = spotted (a .n) (a .name .now) t (a .kept .now) (asked .refusal .result) (asked .refusal .ensures) (yes .if1 .left) _ _ _ (found .locate .ensures) in
-    let b = below (a .n) (a .name .now) t (a .kept .now) (asked .refusal .result) (asked .refusal .ensures) (yes .if1 .left) _ _ _ (found .locate .ensures) (not-false _ (else2 .if2 .left)) in
+    let s = spotted (a .n) (a .name .now) t (a .kept .now) _ (spot .ensures .0) zero _ _ _ (spot .ensures .1 zero) in
+    let b = below (a .n) (a .name .now) t (a .kept .now) _ (spot .ensures .0) zero _ _ _ (spot .ensures .1 zero) (not-false _ (else2 .if2 .left)) in
     record { fits = omega (arith, s .few, b) }
 
 move-down-requires : tie.Need-move-down-requires
 move-down-requires c κs =
     let else2 = c .before .before .before in
-    let found = else2 .before .before in
-    let yes = found .before .before in
-    let asked = yes .before in
-    let a = asked .before .before .before .before .before .before .before .args in
+    let a = c .before .before .before .before .before .before .before .before .before .before .before .before .before .before .args in
+    let spot = c .before .before .before .before .before .before .before .spot-of in
+    let zero = c .before .before .before .before .before .if1 .left in
     let t = tables (a .links .now) (a .numbers .now) (a .order .now) in
-    let s = spotted (a .n) (a .name .now) t (a .kept .now) (asked .refusal .result) (asked .refusal .ensures) (yes .if1 .left) _ _ _ (found .locate .ensures) in
-    let b = below (a .n) (a .name .now) t (a .kept .now) (asked .refusal .result) (asked .refusal .ensures) (yes .if1 .left) _ _ _ (found .locate .ensures) (not-false _ (else2 .if2 .left)) in
+    let s = spotted (a .n) (a .name .now) t (a .kept .now) _ (spot .ensures .0) zero _ _ _ (spot .ensures .1 zero) in
+    let b = below (a .n) (a .name .now) t (a .kept .now) _ (spot .ensures .0) zero _ _ _ (spot .ensures .1 zero) (not-false _ (else2 .if2 .left)) in
     (omega arith, omega (arith, b), omega (arith, s .long, s .few))
 
 sub-last : tie.Need-sub-last
 sub-last c =
     let moved = c .before .before .before in
-    let else2 = moved .before .before .before .before in
-    let found = else2 .before .before in
-    let yes = found .before .before in
-    let asked = yes .before in
-    let a = asked .before .before .before .before .before .before .before .args in
+    let else2 = c .before .before .before .before .before .before .before in
+    let a =
+    c .before .before .before .before .before .before .before .before .before .before .before .before .before .before .before .before .before .before .args
+    in
+    let spot = c .before .before .before .before .before .before .before .before .before .before .before .spot-of in
+    let zero = c .before .before .before .before .before .before .before .before .before .if1 .left in
     let t = tables (a .links .now) (a .numbers .now) (a .order .now) in
-    let s = spotted (a .n) (a .name .now) t (a .kept .now) (asked .refusal .result) (asked .refusal .ensures) (yes .if1 .left) _ _ _ (found .locate .ensures) in
-    let b = below (a .n) (a .name .now) t (a .kept .now) (asked .refusal .result) (asked .refusal .ensures) (yes .if1 .left) _ _ _ (found .locate .ensures) (not-false _ (else2 .if2 .left)) in
+    let s = spotted (a .n) (a .name .now) t (a .kept .now) _ (spot .ensures .0) zero _ _ _ (spot .ensures .1 zero) in
+    let b = below (a .n) (a .name .now) t (a .kept .now) _ (spot .ensures .0) zero _ _ _ (spot .ensures .1 zero) (not-false _ (else2 .if2 .left)) in
     omega (arith, b)
 
 mul-last : tie.Need-mul-last
 mul-last c =
     let moved = c .before .before .before in
-    let else2 = moved .before .before .before .before in
-    let found = else2 .before .before in
-    let yes = found .before .before in
-    let asked = yes .before in
-    let a = asked .before .before .before .before .before .before .before .args in
+    let else2 = c .before .before .before .before .before .before .before in
+    let a =
+    c .before .before .before .before .before .before .before .before .before .before .before .before .before .before .before .before .before .before .args
+    in
+    let spot = c .before .before .before .before .before .before .before .before .before .before .before .spot-of in
+    let zero = c .before .before .before .before .before .before .before .before .before .if1 .left in
     let t = tables (a .links .now) (a .numbers .now) (a .order .now) in
-    let s = spotted (a .n) (a .name .now) t (a .kept .now) (asked .refusal .result) (asked .refusal .ensures) (yes .if1 .left) _ _ _ (found .locate .ensures) in
-    let b = below (a .n) (a .name .now) t (a .kept .now) (asked .refusal .result) (asked .refusal .ensures) (yes .if1 .left) _ _ _ (found .locate .ensures) (not-false _ (else2 .if2 .left)) in
+    let s = spotted (a .n) (a .name .now) t (a .kept .now) _ (spot .ensures .0) zero _ _ _ (spot .ensures .1 zero) in
+    let b = below (a .n) (a .name .now) t (a .kept .now) _ (spot .ensures .0) zero _ _ _ (spot .ensures .1 zero) (not-false _ (else2 .if2 .left)) in
     record { fits = omega (arith, s .few, b) }
 
 add-end : tie.Need-add-end
 add-end c =
     let moved = c .before .before .before in
-    let else2 = moved .before .before .before .before in
-    let found = else2 .before .before in
-    let yes = found .before .before in
-    let asked = yes .before in
-    let a = asked .before .before .before .before .before .before .before .args in
+    let else2 = c .before .before .before .before .before .before .before in
+    let a =
+    c .before .before .before .before .before .before .before .before .before .before .before .before .before .before .before .before .before .before .args
+    in
+    let spot = c .before .before .before .before .before .before .before .before .before .before .before .spot-of in
+    let zero = c .before .before .before .before .before .before .before .before .before .if1 .left in
     let t = tables (a .links .now) (a .numbers .now) (a .order .now) in
-    let s = spotted (a .n) (a .name .now) t (a .kept .now) (asked .refusal .result) (asked .refusal .ensures) (yes .if1 .left) _ _ _ (found .locate .ensures) in
-    let b = below (a .n) (a .name .now) t (a .kept .now) (asked .refusal .result) (asked .refusal .ensures) (yes .if1 .left) _ _ _ (found .locate .ensures) (not-false _ (else2 .if2 .left)) in
+    let s = spotted (a .n) (a .name .now) t (a .kept .now) _ (spot .ensures .0) zero _ _ _ (spot .ensures .1 zero) in
+    let b = below (a .n) (a .name .now) t (a .kept .now) _ (spot .ensures .0) zero _ _ _ (spot .ensures .1 zero) (not-false _ (else2 .if2 .left)) in
     record { fits = omega (arith, s .few, b) }
 
 part-fill8-end : tie.Need-part-fill8-end
 part-fill8-end c =
     let moved = c .before .before .before in
-    let else2 = moved .before .before .before .before in
-    let found = else2 .before .before in
-    let yes = found .before .before in
-    let asked = yes .before in
-    let a = asked .before .before .before .before .before .before .before .args in
+    let else2 = c .before .before .before .before .before .before .before in
+    let a =
+    c .before .before .before .before .before .before .before .before .before .before .before .before .before .before .before .before .before .before .args
+    in
+    let spot = c .before .before .before .before .before .before .before .before .before .before .before .spot-of in
+    let zero = c .before .before .before .before .before .before .before .before .before .if1 .left in
     let t = tables (a .links .now) (a .numbers .now) (a .order .now) in
-    let s = spotted (a .n) (a .name .now) t (a .kept .now) (asked .refusal .result) (asked .refusal .ensures) (yes .if1 .left) _ _ _ (found .locate .ensures) in
-    let b = below (a .n) (a .name .now) t (a .kept .now) (asked .refusal .result) (asked .refusal .ensures) (yes .if1 .left) _ _ _ (found .locate .ensures) (not-false _ (else2 .if2 .left)) in
-    let long = ap length (moved .move-down .ensures) ∙ length-moved-down (a .kept .now) _ _ (omega arith) (omega (arith, b)) (omega (arith, s .long, s .few)) ∙ s .long in
+    let s = spotted (a .n) (a .name .now) t (a .kept .now) _ (spot .ensures .0) zero _ _ _ (spot .ensures .1 zero) in
+    let b = below (a .n) (a .name .now) t (a .kept .now) _ (spot .ensures .0) zero _ _ _ (spot .ensures .1 zero) (not-false _ (else2 .if2 .left)) in
+    let long = ap length (moved .move-down .ensures) ∙ length-moved-down (a .kept .now) _ _ (omega arith) (omega (arith, b))
+    (omega (arith, s .long, s .few)) ∙ s .long in
     omega (arith, long, s .few, b)
 
 returns-3 : tie.Need-returns-3
 returns-3 c =
     let zeroed = c .before .before in
-    let moved = zeroed .before .before .before .before .before in
-    let else2 = moved .before .before .before .before in
-    let found = else2 .before .before in
-    let yes = found .before .before in
-    let asked = yes .before in
-    let a = asked .before .before .before .before .before .before .before .args in
+    let moved = c .before .before .before .before .before .before .before in
+    let else2 = c .before .before .before .before .before .before .before .before .before .before .before in
+    let a =
+    c .before .before .before .before .before .before .before .before .before .before .before .before .before .before .before .before .before .before .before .before .before .before .args
+    in
+    let spot = c .before .before .before .before .before .before .before .before .before .before .before .before .before .before .before .spot-of in
+    let zero = c .before .before .before .before .before .before .before .before .before .before .before .before .before .if1 .left in
     let t = tables (a .links .now) (a .numbers .now) (a .order .now) in
-    let s = spotted (a .n) (a .name .now) t (a .kept .now) (asked .refusal .result) (asked .refusal .ensures) (yes .if1 .left) _ _ _ (found .locate .ensures) in
-    let b = below (a .n) (a .name .now) t (a .kept .now) (asked .refusal .result) (asked .refusal .ensures) (yes .if1 .left) _ _ _ (found .locate .ensures) (not-false _ (else2 .if2 .left)) in
-    let long = ap length (moved .move-down .ensures) ∙ length-moved-down (a .kept .now) _ _ (omega arith) (omega (arith, b)) (omega (arith, s .long, s .few)) ∙ s .long in
+    let s = spotted (a .n) (a .name .now) t (a .kept .now) _ (spot .ensures .0) zero _ _ _ (spot .ensures .1 zero) in
+    let b = below (a .n) (a .name .now) t (a .kept .now) _ (spot .ensures .0) zero _ _ _ (spot .ensures .1 zero) (not-false _ (else2 .if2 .left)) in
+    let long = ap length (moved .move-down .ensures) ∙ length-moved-down (a .kept .now) _ _ (omega arith) (omega (arith, b))
+    (omega (arith, s .long, s .few)) ∙ s .long in
     let ds = moved .move-down .last .0 in
-    let i = found .locate .result .used - 1 in
+    let i = spot .result .used - 1 in
     let e : place-bytes * i + place-bytes - place-bytes * i ≡ place-bytes = omega arith in
-    removed (a .n) (a .name .now) t (a .kept .now) (asked .refusal .result) (asked .refusal .ensures) (yes .if1 .left) _ _ _ (found .locate .ensures) (not-false _ (else2 .if2 .left)) (length (midOf (place-bytes * i) (place-bytes * i + place-bytes - place-bytes * i) ds)) _
+    removed (a .n) (a .name .now) t (a .kept .now) _ (spot .ensures .0) zero _ _ _ (spot .ensures .1 zero) (not-false _ (else2 .if2 .left))
+    (length (midOf (place-bytes * i) (place-bytes * i + place-bytes - place-bytes * i) ds)) _
     (rw e (length-take-le place-bytes (drop (place-bytes * i) ds) (omega (arith, length-drop (place-bytes * i) ds, long, s .few, b))))
     (placed-at ds i (zeroed .fill8 .last .0) _ (zeroed .fill8 .ensures)
-    ∙ ap (λ (os : List ℕ). put-place os i (replicate (length (midOf (place-bytes * i) (place-bytes * i + place-bytes - place-bytes * i) ds)) 0)) (moved .move-down .ensures))
+    ∙ ap (λ (os : List ℕ). put-place os i (replicate (length (midOf (place-bytes * i) (place-bytes * i + place-bytes - place-bytes * i) ds)) 0))
+    (moved .move-down .ensures))
 
 pub remove-spec : {M : Type 1} → statement M
 remove-spec =
     tie.close (
-    tie.spec (λ c κs. search needs) (λ c. search needs) returns (λ c κs. search needs) (λ c. search needs) returns-2 add-move-down mul-move-down
+    tie.spec (λ c κs. search needs) (λ c. search needs) returns (λ c. search needs) returns-2 add-move-down mul-move-down
     mul-move-down-2 move-down-requires sub-last mul-last add-end (λ c. search needs) (λ c. search needs) part-fill8-end (λ c κs. search needs)
     (λ c. search needs) returns-3)

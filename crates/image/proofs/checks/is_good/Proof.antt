@@ -1,10 +1,15 @@
 -- `checks::is_good` meets its contract: the sum of the block's first 508 bytes is compared with its last four, read as one number.
-use mathlib.Core.Path.{_≡_, sym, ap, _∙_}
-use Prim.Native.Nat.{_+_, _*_, _-_}
+use mathlib.Core.Path.{_≡_, sym, ap, ap₂, _∙_}
+use mathlib.Core.Bool.{Bool}
+use Prim.Native.Nat.{_+_, _*_, _-_, _≤_}
 use native.Mathlib.Omega.{arith}
 use lib.Dec.{eqb}
+use lib.ListN.{drop}
+use lib.Seq.{take-take}
 use borrow.Author.Needs.{needs}
-use Rattle.image.proofs.CheckLaws.{block-check-is}
+use Rattle.mesh.specs.Image.{block-bytes, check-sum}
+use Rattle.mesh.proofs.Images.Checks.{block-check-value}
+use Rattle.image.proofs.CheckLaws.{words-long}
 use Rattle.image.proofs.checks.is_good.Statement.{statement}
 use Rattle.image.proofs.checks.is_good.Tie as tie
 
@@ -14,8 +19,10 @@ returns c =
     let image = start .before .args .image .now in
     let i = start .before .args .i in
     let e : 512 * i + 512 - 512 * i ≡ 512 = omega arith in
-    ap (eqb (c .before .check-sum .result)) (c .long-at .ensures)
-    ∙ sym (block-check-is image (λ j. start .shared-slice-known .given j .fits) i (c .before .check-sum .result) (omega arith) (omega arith) (rw e at (c .before .check-sum .ensures)))
+    ap₂ {C = Bool} eqb
+    (rw e at (c .before .check-sum .ensures) ∙ ap check-sum (take-take 508 block-bytes (drop (block-bytes * i) image) (omega arith)))
+    (c .long-at .ensures .0 ∙ words-long image (block-bytes * i + 508))
+    ∙ sym (block-check-value image i (omega arith) (λ j l. start .shared-slice-known .given j .fits))
 
 pub is-good-spec : {M : Type 1} → statement M
 is-good-spec =

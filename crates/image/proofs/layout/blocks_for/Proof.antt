@@ -2,12 +2,15 @@
 use mathlib.Core.Path.{sym}
 use native.Mathlib.Omega.{arith}
 use borrow.Author.Needs.{needs}
-use Rattle.image.proofs.LayoutLaws.{blocks-none, blocks-even, blocks-more, blocks-most}
+use Rattle.image.proofs.LayoutLaws.{blocks-even, blocks-more, blocks-most}
 use Rattle.image.proofs.layout.blocks_for.Statement.{statement}
 use Rattle.image.proofs.layout.blocks_for.Tie as tie
 
 add-result : tie.Need-add-result
-add-result c = let s = c .before .before .args in omega (arith, blocks-most (s .entries) (s .each) (omega arith) (omega arith))
+add-result c = let s = c .before .args in omega (arith, blocks-most (s .entries) (s .each) (omega arith) (omega arith))
 
 pub blocks-for-spec : {M : Type 1} → statement M
-blocks-for-spec = tie.close (tie.spec (λ c. sym (blocks-none _ _ (c .if1 .taken))) (λ c. search needs) (λ c. search needs) (λ c. sym (blocks-even _ _ (omega arith) (c .if2 .taken))) (λ c. search needs) add-result (λ c. sym (blocks-more _ _ (omega arith) (omega arith))))
+blocks-for-spec =
+    tie.close (
+    tie.spec (λ c. search needs) (λ c. search needs) (λ c. sym (blocks-even _ _ (omega arith) (c .if1 .taken))) (λ c. search needs) add-result
+    (λ c. sym (blocks-more _ _ (omega arith) (omega arith))))

@@ -9,10 +9,10 @@ use Rattle.image_reader.proofs.reader.put_numbers.Statement.{statement}
 use Rattle.image_reader.proofs.reader.put_numbers.Tie as tie
 
 abbrev Inv-loop : tie.InvT-loop
-Inv-loop ranks numbers₀ v₀ numbers v = Writing 8 (λ (i : ℕ). getD ranks i 0) numbers₀ numbers v
+Inv-loop cores numbers₀ v₀ numbers v = Writing 8 (λ (i : ℕ). getD cores i 0) numbers₀ numbers v
 
 abbrev μ-loop : tie.MeasureT-loop
-μ-loop ranks numbers₀ v₀ numbers v = length numbers₀ - v
+μ-loop cores numbers₀ v₀ numbers v = length numbers₀ - v
 
 loop-again : tie.Need-loop-again Inv-loop μ-loop
 loop-again c = writing-turn 8 _ _ _ _ _ (c .before .before .loop .inv) (omega arith) refl

@@ -12,33 +12,34 @@ use Rattle.image_reader.proofs.reader.read_site.Tie as tie
 
 returns : tie.Need-returns
 returns c =
-    let source = c .before .before .before .before .before in source-refused _ _ _ _ _ _ (source .refusal .ensures) (c .if1 .taken)
+    let source = c .before .before .before .before .before in
+    let start = source .before .before .before .before .before .before .before .before .before in source-refused _ _ _ (start .pre .1 .1) _ _ _ (source .refusal .ensures) (c .if1 .taken)
 
 put-links-requires : tie.Need-put-links-requires
 put-links-requires c κs =
-    let word = c .before in
-    let else1 = word .before in
+    let else1 = c .before in
     let source = else1 .before .before .before .before .before in
+    let known = source .before .before .before .before .before in
     let start = source .before .before .before .before .before .before .before .before .before in
-    let bytes : Bytes (start .args .image .now) = λ j l. source .before .before .before .before .before .shared-slice-known .given j .fits in (
+    let room = start .pre .0 .room in
+    let bytes : Bytes (start .args .image .now) = λ j l. known .shared-slice-known .given j .fits in (
       links-room _ _ (size-good-true _ (start .pre .0 .this-size) .1) _ _ _ (source-site _ _ _ _ _ (source .refusal .ensures) (else1 .if1 .left)) refl bytes
-          (start .pre .0 .room .checked) _ (word .word-at .ensures .0) (word .word-at .ensures .1),
-      start .pre .1 .0,
+          (room .checked) _ (room .says .links-said) (room .says .links-fit),
+      start .pre .1 .0 .0,
     )
 
 put-numbers-requires : tie.Need-put-numbers-requires
 put-numbers-requires c κs =
-    let word = c .before .before .before .before .before .before in
-    let else1 = word .before in
+    let else1 = c .before .before .before .before .before .before in
     let source = else1 .before .before .before .before .before in
     let start = source .before .before .before .before .before .before .before .before .before in
     let room = start .pre .0 in
     omega (
       arith,
-      source-says _ _ _ _ _ _ (room .this-size) (room .says) (source .refusal .ensures) (else1 .if1 .left),
+      source-says _ _ _ _ _ _ (room .this-size) (room .room .says .radios-said) (source .refusal .ensures) (else1 .if1 .left),
       source .refusal .kept .1 .1 .1 .1 .0,
-      room .room .ranks-long,
-      start .pre .1 .1,
+      room .room .cores-long,
+      start .pre .1 .0 .1,
     )
 
 returns-2 : tie.Need-returns-2
@@ -46,19 +47,20 @@ returns-2 c =
     let copied = c .before .before in
     let numbered = copied .before .before .before .before .before in
     let linked = numbered .before .before .before .before .before in
-    let word = linked .before .before in
-    let else1 = word .before in
+    let else1 = linked .before .before in
     let source = else1 .before .before .before .before .before in
     let start = source .before .before .before .before .before .before .before .before .before in
+    let sized = start .pre .1 .0 in
+    let yes = source .refusal .ensures in
     let t = tables (start .args .links .now) (start .args .numbers .now) (start .args .order .now) in
-    source-accepted _ _ t _ _ _ _ (source .refusal .ensures) (else1 .if1 .left)
-    (site-accepted _ _ (size-good-true _ (start .pre .0 .this-size) .1) _ _ _ (source-site _ _ _ _ _ (source .refusal .ensures) (else1 .if1 .left)) refl
-    _ t _ _ _ (word .word-at .ensures .0) (start .pre .1 .1) (start .pre .1 .2)
+    source-accepted _ _ t (start .pre .1 .1) _ _ _ yes (else1 .if1 .left) _
+    (site-accepted _ _ (size-good-true _ (start .pre .0 .this-size) .1) _ _ _ (source-site _ _ _ _ _ yes (else1 .if1 .left)) refl
+    _ t _ _ _ (start .pre .0 .room .says .links-said) (sized .1) (sized .2)
     (linked .put-links .ensures) (numbered .put-numbers .ensures) (copied .copy16 .ensures))
 
 pub read-site-spec : {M : Type 1} → statement M
 read-site-spec =
     tie.close (
-    tie.spec (λ c κs. search needs) (λ c. search needs) (λ c. search needs) returns (λ c κs. search needs) put-links-requires
+    tie.spec (λ c κs. search needs) (λ c. search needs) (λ c. search needs) returns put-links-requires
     put-numbers-requires (λ c κs. search needs) (λ c. search needs) (λ c. search needs) (λ c. search needs) (λ c. search needs) (λ c. search needs)
     returns-2)

@@ -9,23 +9,24 @@ returns : tie.Need-returns
 returns c =
     let image = c .before .before .before .before .before in
     let room = image .before .before .before .before .before .before .pre in
-    source-none _ _ _ (room .this-size) (room .says) (room .says-size) _ _ _ (image .is-image .ensures) (not-true (image .is-image .result) (c .if1 .taken))
+    source-none _ _ _ (room .this-size) (room .room .says .radios-said) (room .says-size) _ _ _ (image .is-image .ensures)
+    (not-true (image .is-image .result) (c .if1 .taken))
 
 returns-2 : tie.Need-returns-2
 returns-2 c =
-    let else1 = c .before in
-    let image = else1 .before .before .before .before .before in
-    let room = image .before .before .before .before .before .before .pre in
-    source-other _ _ _ (room .this-size) (room .says) (room .says-size) _ _ _ (image .is-image .ensures) (not-false (image .is-image .result) (else1 .if1 .left))
-    (c .if2 .taken)
+    let else1 = c .before .before in
+    let image = c .before .before .before .before .before .before .before in
+    let room = c .before .before .before .before .before .before .before .before .before .before .before .before .before .pre in
+    source-other _ _ _ (room .this-size) (room .room .says .radios-said) (room .says-size) _ _ _ (image .is-image .ensures)
+    (not-false (image .is-image .result) (else1 .if1 .left)) (c .if2 .taken)
 
 returns-3 : tie.Need-returns-3
 returns-3 c =
-    let else1 = c .before in
-    let image = else1 .before .before .before .before .before in
-    let room = image .before .before .before .before .before .before .pre in
-    source-this _ _ _ (room .this-size) (room .says) (room .says-size) _ _ _ (image .is-image .ensures) (not-false (image .is-image .result) (else1 .if1 .left))
-    (c .if2 .left)
+    let else1 = c .before .before in
+    let image = c .before .before .before .before .before .before .before in
+    let room = c .before .before .before .before .before .before .before .before .before .before .before .before .before .pre in
+    source-this _ _ _ (room .this-size) (room .room .says .radios-said) (room .says-size) _ _ _ (image .is-image .ensures)
+    (not-false (image .is-image .result) (else1 .if1 .left)) (c .if2 .left)
 
 pub refusal-spec : {M : Type 1} → statement M
 refusal-spec =

@@ -22,14 +22,14 @@ loop-holds c =
     let start = c .before .before .before in
     (omega arith, refl, linking-at _ _ _ _ _ (start .pre .1) (omega (arith, start .pre .0 .1)))
 
-word-in-requires : tie.Need-word-in-requires Inv-loop μ-loop
-word-in-requires c κs =
+word-at-requires : tie.Need-word-at-requires Inv-loop μ-loop
+word-at-requires c κs =
     let at-loop = c .before .before .before in
     let start = at-loop .before .before .before .before in
     omega (arith, link-inside _ _ _ _ _ (at-loop .before .part-of .ensures) _ _ (start .pre .0 .0 .whole) (start .pre .0 .1) (c .before .if1 .taken))
 
-word-in-requires-2 : tie.Need-word-in-requires-2 Inv-loop μ-loop
-word-in-requires-2 c κs =
+word-at-requires-2 : tie.Need-word-at-requires-2 Inv-loop μ-loop
+word-at-requires-2 c κs =
     let at-loop = c .before .before .before .before in
     let start = at-loop .before .before .before .before in
     omega (arith, link-inside _ _ _ _ _ (at-loop .before .part-of .ensures) _ _ (start .pre .0 .0 .whole) (start .pre .0 .1) (c .before .before .if1 .taken))
@@ -40,7 +40,7 @@ set-link-requires c κs =
     let at-loop = read .before .before .before .before .before in
     let part = at-loop .before .part-of .ensures in
     let start = at-loop .before .before .before .before in
-    let pair = link-in _ _ _ _ _ part _ _ _ _ (read .before .before .before .if1 .taken) (read .before .word-in .ensures .0) (read .word-in2 .ensures .0) in
+    let pair = link-in _ _ _ _ _ part _ _ _ _ (read .before .before .before .if1 .taken) (read .before .word-at .ensures .0) (read .word-at2 .ensures .0) in
     let index = link-index _ _ _ _ _ part _ (read .before .before .before .if1 .taken) in
     let good = proper-pair _ _ _ _ _ _ (start .pre .0 .0 .is-proper) index pair in
     (good .0, omega (arith, start .pre .0 .0 .most), rows-there _ _ _ _ _ (at-loop .loop .inv .2) (good .1))
@@ -51,13 +51,15 @@ loop-again c =
     let at-loop = read .before .before .before .before .before in
     let part = at-loop .before .part-of .ensures in
     let start = at-loop .before .before .before .before in
-    let pair = link-in _ _ _ _ _ part _ _ _ _ (read .before .before .before .if1 .taken) (read .before .word-in .ensures .0) (read .word-in2 .ensures .0) in
+    let pair = link-in _ _ _ _ _ part _ _ _ _ (read .before .before .before .if1 .taken) (read .before .word-at .ensures .0) (read .word-at2 .ensures .0) in
     let index = link-index _ _ _ _ _ part _ (read .before .before .before .if1 .taken) in
     let put = c .before .before in
     let e : block-links * (start .args .q) + at-loop .loop .i + 1 ≡ block-links * (start .args .q) + (at-loop .loop .i + 1) = omega arith in (
       omega arith,
       put .set-link .kept .0 ∙ at-loop .loop .inv .1,
-      linking-at _ _ _ _ _ (linking-turn _ _ _ _ _ _ _ _ (start .pre .0 .0 .most) (start .pre .0 .0 .is-proper) index pair (at-loop .loop .inv .2) (put .set-link .ensures)) e,
+      linking-at _ _ _ _ _
+          (linking-turn _ _ _ _ _ _ _ _ (start .pre .0 .0 .most) (start .pre .0 .0 .is-proper) index pair (at-loop .loop .inv .2) (put .set-link .ensures))
+          e,
     )
 
 returns : tie.Need-returns Inv-loop μ-loop
@@ -70,5 +72,5 @@ returns c =
 pub mark-block-spec : {M : Type 1} → statement M
 mark-block-spec =
     tie.close (
-    tie.spec Inv-loop μ-loop (λ c κs. search needs) loop-holds (λ c. search needs) (λ c. search needs) word-in-requires (λ c. search needs) word-in-requires-2
+    tie.spec Inv-loop μ-loop (λ c κs. search needs) loop-holds (λ c. search needs) (λ c. search needs) word-at-requires (λ c. search needs) word-at-requires-2
     set-link-requires (λ c. search needs) (λ c. search needs) loop-again (λ c. c .before .before .loop .inv .1) returns)

@@ -11,13 +11,13 @@ count-ends-requires : tie.Need-count-ends-requires
 count-ends-requires c κs =
     let read = c .before in
     let start = read .before .before .before .before .before .before in
-    rw (read .before .word-in .ensures .0, read .word-in2 .ensures .0) (start .pre .0 .fits)
+    rw (read .before .word-at .ensures .0, read .word-at2 .ensures .0) (start .pre .0 .fits)
 
 count-below-requires : tie.Need-count-below-requires
 count-below-requires c κs =
     let read = c .before .before .before .before .before in
     let start = read .before .before .before .before .before .before in
-    rw (read .before .word-in .ensures .0, read .word-in2 .ensures .0) (start .pre .1 .fits, start .pre .1 .ranked)
+    rw (read .before .word-at .ensures .0, read .word-at2 .ensures .0) (start .pre .1 .fits, start .pre .1 .ranked)
 
 returns : tie.Need-returns
 returns c =
@@ -25,8 +25,8 @@ returns c =
     let ends = below .before .before .before .before in
     let read = ends .before .before in
     let start = read .before .before .before .before .before .before in
-    let low = read .before .word-in .ensures .0 in
-    let high = read .word-in2 .ensures .0 in (
+    let low = read .before .word-at .ensures .0 in
+    let high = read .word-at2 .ensures .0 in (
       ends .count-ends .ensures ∙ ap₂ {C = List ℕ} (λ (a b : ℕ). count-link [] 1 a b (start .args .counts .now)) low high,
       below .count-below .ensures
           ∙ ap₂ {C = List ℕ} (λ (a b : ℕ). count-link (start .args .places .now) 0 a b (start .args .later .now)) low high,

@@ -22,8 +22,8 @@ loop-holds c =
     let start = c .before .before in
     (omega arith, listed-at _ _ _ _ _ _ _ (start .pre .1) (omega (arith, start .pre .0 .1)))
 
-long-in-requires : tie.Need-long-in-requires Inv-loop μ-loop
-long-in-requires c κs =
+long-at-requires : tie.Need-long-at-requires Inv-loop μ-loop
+long-at-requires c κs =
     let at-loop = c .before .before .before in
     let start = at-loop .before .before .before in
     link-inside _ _ _ _ _ (at-loop .before .part-of .ensures) _ _ (start .pre .0 .0 .whole) (start .pre .0 .1) (c .before .if1 .taken)
@@ -36,7 +36,7 @@ loop-again c =
     let at-loop = then1 .before .before in
     let start = at-loop .before .before .before in
     let part = at-loop .before .part-of .ensures in
-    let long = read .long-in .ensures in
+    let long = read .long-at .ensures in
     let pair = link-in _ _ _ _ _ part _ _ _ _ (then1 .if1 .taken) refl refl in
     let e : block-links * (start .args .q) + at-loop .loop .i + 1 ≡ block-links * (start .args .q) + (at-loop .loop .i + 1) = omega arith in (
       omega arith,
@@ -54,5 +54,5 @@ returns c =
 pub list-block-spec : {M : Type 1} → statement M
 list-block-spec =
     tie.close (
-    tie.spec Inv-loop μ-loop (λ c κs. search needs) loop-holds (λ c. search needs) (λ c. search needs) long-in-requires (λ c κs. search needs)
+    tie.spec Inv-loop μ-loop (λ c κs. search needs) loop-holds (λ c. search needs) (λ c. search needs) long-at-requires (λ c κs. search needs)
     (λ c κs. search needs) (λ c. search needs) (λ c. search needs) loop-again returns)

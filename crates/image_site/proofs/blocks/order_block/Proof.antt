@@ -25,8 +25,8 @@ loop-holds c =
     let e : min (length xs) (block-entries * q) ≡ block-entries * q + 0 = omega (arith, start .pre .0 .1) in
     (omega arith, refl, order-at (start .args .image .now) xs (min (length xs) (block-entries * q)) (block-entries * q + 0) (start .pre .1) e)
 
-word-in-requires : tie.Need-word-in-requires Inv-loop μ-loop
-word-in-requires c κs =
+word-at-requires : tie.Need-word-at-requires Inv-loop μ-loop
+word-at-requires c κs =
     let start = c .before .before .before .before .before in
     omega (arith, start .pre .0 .2, c .before .before .least .ensures, c .loop-test .taken)
 
@@ -38,14 +38,14 @@ loop-again c =
     let q = start .args .q in
     let i = at-loop .loop .i in
     let xs = at-loop .loop .order in
-    let x = c .word-in .result in
+    let x = c .word-at .result in
     let here : i < block-entries = omega (arith, at-loop .before .least .ensures, c .before .loop-test .taken) in
     let room : block-entries * q + i < length xs = omega (arith, at-loop .before .least .ensures, c .before .loop-test .taken, at-loop .loop .inv .1) in
     let e : block-entries * q + i + 1 ≡ block-entries * q + (i + 1) = omega arith in (
       omega arith,
       length-set xs (block-entries * q + i) (x % 65536) ∙ at-loop .loop .inv .1,
       order-at bs (set xs (block-entries * q + i) (x % 65536)) (block-entries * q + i + 1) (block-entries * q + (i + 1))
-          (order-turn bs xs (block-entries * q + i) x (at-loop .loop .inv .2) room (order-in bs q i x here (c .word-in .ensures .0)) (c .word-in .ensures .1)) e,
+          (order-turn bs xs (block-entries * q + i) x (at-loop .loop .inv .2) room (order-in bs q i x here (c .word-at .ensures .0)) (c .word-at .ensures .1)) e,
     )
 
 returns : tie.Need-returns Inv-loop μ-loop
@@ -62,5 +62,5 @@ pub order-block-spec : {M : Type 1} → statement M
 order-block-spec =
     tie.close (
     tie.spec Inv-loop μ-loop (λ c. search needs) (λ c. search needs) (λ c. search needs) (λ c. search needs) (λ c. search needs) (λ c. search needs)
-    (λ c. search needs) (λ c κs. search needs) loop-holds (λ c. search needs) (λ c. search needs) word-in-requires (λ c. search needs) (λ c. search needs)
+    (λ c. search needs) (λ c κs. search needs) loop-holds (λ c. search needs) (λ c. search needs) word-at-requires (λ c. search needs) (λ c. search needs)
     (λ c. search needs) (λ c. search needs) (λ c. search needs) (λ c. search needs) loop-again (λ c. c .before .loop .inv .1) returns)

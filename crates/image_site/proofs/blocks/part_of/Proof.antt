@@ -8,11 +8,11 @@ use Rattle.image_site.proofs.blocks.part_of.Tie as tie
 
 returns : tie.Need-returns
 unfolding order-blocks
-returns c =
-    let left = c .before in part-is _ _ _ _ _ _ _ (left .before .blocks-for .ensures) refl (left .links-from .ensures) (c .least .ensures)
+returns c = part-is _ _ _ _ _ _ _ (c .before .blocks-for .ensures) refl refl (c .least .ensures)
 
 pub part-of-spec : {M : Type 1} → statement M
 part-of-spec =
     tie.close (
-    tie.spec (λ c κs. search needs) (λ c. search needs) (λ c. search needs) (λ c. search needs) (λ c. search needs) (λ c. search needs)
-    (λ c. search needs) (λ c κs. search needs) (λ c κs. search needs) returns)
+    tie.spec (λ c κs. search needs) (λ c. search needs) (λ c. search needs) (λ c. search needs)
+    (λ c. search needs) (λ c. search needs) (λ c. search needs) (λ c. search needs) (λ c. search needs) (λ c. search needs)
+    (λ c κs. search needs) returns)

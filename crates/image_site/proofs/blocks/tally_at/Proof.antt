@@ -11,7 +11,7 @@ count-below-requires : tie.Need-count-below-requires
 count-below-requires c κs =
     let read = c .before in
     let start = read .before .before .before .before .before in
-    rw (read .before .word-in .ensures .0, read .word-in2 .ensures .0) (start .pre .fits, start .pre .ranked)
+    rw (read .before .word-at .ensures .0, read .word-at2 .ensures .0) (start .pre .fits, start .pre .ranked)
 
 returns : tie.Need-returns
 returns c =
@@ -20,7 +20,7 @@ returns c =
     let start = read .before .before .before .before .before in
     below .count-below .ensures
     ∙ ap₂ {C = List ℕ} (λ (a b : ℕ). count-link (start .args .ranks .now) (start .args .slack) a b (start .args .counts .now))
-    (read .before .word-in .ensures .0) (read .word-in2 .ensures .0)
+    (read .before .word-at .ensures .0) (read .word-at2 .ensures .0)
 
 pub tally-at-spec : {M : Type 1} → statement M
 tally-at-spec =

@@ -11,10 +11,10 @@ use Rattle.image_site.proofs.site.is_k_order.Tie as tie
 run-maxima-requires : tie.Need-run-maxima-requires
 run-maxima-requires c κs =
     let start = c .before .before .before .before .before .before in
-    let placed = start .pre .1 .1 in (
-      ap (λ (k : ℕ). each-once k (start .args .order .now)) (placed .long) ∙ placed .once,
-      omega (arith, placed .long, start .pre .0 .1),
-      omega (arith, placed .long, start .pre .0 .0 .ranked),
+    let counted = start .pre .1 .1 in (
+      ap (λ (k : ℕ). each-once k (start .args .order .now)) (counted .long) ∙ counted .once,
+      omega (arith, counted .long, start .pre .0 .1),
+      omega (arith, counted .long, start .pre .0 .0 .ranked),
     )
 
 tally-requires : tie.Need-tally-requires
@@ -37,7 +37,7 @@ returns c =
     let run = tallied .before .before .before .before .before in
     let start = run .before .before .before .before .before .before .before in
     let room = start .pre .0 .0 in
-    k-order-decided _ _ (room .is-proper) (start .pre .1 .0) _ _ _ _ _ _ (start .pre .1 .1) (run .run-maxima .ensures) (tallied .tally .ensures)
+    k-order-decided _ _ (room .is-proper) (start .pre .1 .0) _ _ _ _ _ (start .pre .1 .1) (run .run-maxima .ensures) (tallied .tally .ensures)
     (run .run-maxima .kept .1 .1 .0 ∙ room .ranked) (c .each-at-most .ensures)
 
 pub is-k-order-spec : {M : Type 1} → statement M

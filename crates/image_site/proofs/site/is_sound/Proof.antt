@@ -2,7 +2,7 @@
 use mathlib.Core.Path.{_∙_}
 use borrow.Author.Tests.{not-true, not-false}
 use borrow.Author.Needs.{needs}
-use Rattle.image_site.proofs.KOrderLaws.{few-tallied, not-placed, order-placed}
+use Rattle.image_site.proofs.KOrderLaws.{few-tallied, not-placed, order-counted}
 use Rattle.image_site.proofs.SoundLaws.{not-few, sound-decided}
 use Rattle.image_site.proofs.site.is_sound.Statement.{statement}
 use Rattle.image_site.proofs.site.is_sound.Tie as tie
@@ -62,7 +62,7 @@ is-k-order-requires c κs =
       ),
       (
         start .pre .1 .0,
-        order-placed _ _ (room .is-proper) (start .pre .1 .0) _ _ _ _ _ (room .most) (start .pre .1 .1) (room .ranked) (placed .places-of .ensures)
+        order-counted _ _ (room .is-proper) (start .pre .1 .0) _ _ _ _ _ (room .most) (start .pre .1 .1) (room .ranked) (placed .places-of .ensures)
             (not-false (placed .places-of .result) (else1 .if1 .left)) (counted .count-links .ensures .1),
       ),
     )

@@ -9,10 +9,10 @@ use Rattle.image_site.proofs.site.run_maxima.Statement.{statement}
 use Rattle.image_site.proofs.site.run_maxima.Tie as tie
 
 abbrev Inv-loop : tie.InvT-loop
-Inv-loop order counts ranks₀ top₀ i₀ ranks top i = Running (λ (v : ℕ). getD counts v 0) order ranks₀ ranks top i
+Inv-loop order counts cores₀ top₀ i₀ cores top i = Running (λ (v : ℕ). getD counts v 0) order cores₀ cores top i
 
 abbrev μ-loop : tie.MeasureT-loop
-μ-loop order counts ranks₀ top₀ i₀ ranks top i = length order - i
+μ-loop order counts cores₀ top₀ i₀ cores top i = length order - i
 
 cast-v : tie.Need-cast-v Inv-loop μ-loop
 cast-v c = omega (arith, c .shared-slice-known3 .given (c .before .before .loop .i))
@@ -26,11 +26,11 @@ shared-slice-read-larger c =
     let start = in-loop .before .before .before .before .before in
     entry-room (start .args .order .now) (start .pre .0) _ (in-loop .loop-test .taken) _ _ (start .pre .1) refl
 
-mul-ranks : tie.Need-mul-ranks Inv-loop μ-loop
-mul-ranks c = omega (arith, c .before .before .shared-slice-known3 .given (c .before .before .before .before .loop .i))
+mul-cores : tie.Need-mul-cores Inv-loop μ-loop
+mul-cores c = omega (arith, c .before .before .shared-slice-known3 .given (c .before .before .before .before .loop .i))
 
-slice-write-ranks : tie.Need-slice-write-ranks Inv-loop μ-loop
-slice-write-ranks c =
+slice-write-cores : tie.Need-slice-write-cores Inv-loop μ-loop
+slice-write-cores c =
     let in-loop = c .before .before .before in
     let start = in-loop .before .before .before .before .before in
     entry-room (start .args .order .now) (start .pre .0) _ (in-loop .loop-test .taken) _ _ (start .pre .2) (in-loop .before .loop .inv .long)
@@ -45,5 +45,5 @@ pub run-maxima-spec : {M : Type 1} → statement M
 run-maxima-spec =
     tie.close (
     tie.spec Inv-loop μ-loop (λ c. running-none _ _ _) (λ c. search needs) (λ c. search needs) cast-v mul-larger shared-slice-read-larger
-    (λ c κs. search needs) mul-ranks slice-write-ranks (λ c. search needs) (λ c. search needs) loop-again (λ c. c .before .loop .inv .long)
+    (λ c κs. search needs) mul-cores slice-write-cores (λ c. search needs) (λ c. search needs) loop-again (λ c. c .before .loop .inv .long)
     (λ c. running-end _ _ _ _ _ _ (c .before .loop .inv) (omega arith)))

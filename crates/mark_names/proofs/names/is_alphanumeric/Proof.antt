@@ -4,22 +4,16 @@ use borrow.Author.Needs.{needs}
 use Rattle.mark_names.proofs.Left.{alphanumeric-low, alphanumeric-digit, alphanumeric-gap, alphanumeric-high}
 use Rattle.mark_names.proofs.names.is_alphanumeric.Statement.{statement}
 use Rattle.mark_names.proofs.names.is_alphanumeric.Tie as tie
-use Rattle.mark_names.proofs.names.is_alphanumeric.Reads as reads
-use Rattle.mark_names.proofs.names.is_alphanumeric.Lts as lts
 
--- src/names.rt:11:9
 returns : tie.Need-returns
 returns c = sym (alphanumeric-low _ (c .if1 .taken))
 
--- src/names.rt:14:9
 returns-2 : tie.Need-returns-2
 returns-2 c = sym (alphanumeric-digit _ (c .before .if1 .left) (c .if2 .taken))
 
--- src/names.rt:17:9
 returns-3 : tie.Need-returns-3
 returns-3 c = sym (alphanumeric-gap _ (c .before .if2 .left) (c .if3 .taken))
 
--- src/names.rt:7:1
 returns-4 : tie.Need-returns-4
 returns-4 c = alphanumeric-high _ (c .before .if2 .left) (c .if3 .left)
 

@@ -8,8 +8,6 @@ use borrow.Author.Needs.{needs}
 use Rattle.mark_names.proofs.Left.{before-short, before-less, before-more, before-pass, before-end}
 use Rattle.mark_names.proofs.names.is_before.Statement.{statement}
 use Rattle.mark_names.proofs.names.is_before.Tie as tie
-use Rattle.mark_names.proofs.names.is_before.Reads as reads
-use Rattle.mark_names.proofs.names.is_before.Lts as lts
 
 abbrev Inv-loop : tie.InvT-loop
 Inv-loop a b i₀ i = before a b ≡ before (drop i a) (drop i b)
@@ -17,59 +15,26 @@ Inv-loop a b i₀ i = before a b ≡ before (drop i a) (drop i b)
 abbrev μ-loop : tie.MeasureT-loop
 μ-loop a b i₀ i = length a - i
 
--- src/names.rt:54:5
 loop-holds : tie.Need-loop-holds Inv-loop μ-loop
 loop-holds c = refl
 
--- src/names.rt:56:13
 returns : tie.Need-returns Inv-loop μ-loop
 returns c = sym (before-short _ _ _ (c .before .before .loop .inv) (c .if1 .taken))
 
--- src/names.rt:58:17
-shared-slice-read-x : tie.Need-shared-slice-read-x Inv-loop μ-loop
-shared-slice-read-x c = search needs
-
--- src/names.rt:59:17
-shared-slice-read-y : tie.Need-shared-slice-read-y Inv-loop μ-loop
-shared-slice-read-y c = search needs
-
--- src/names.rt:61:13
 returns-2 : tie.Need-returns-2 Inv-loop μ-loop
 returns-2 c = let at-loop = c .before .before .before .before .before in sym (before-less _ _ (at-loop .loop .i) (at-loop .loop .inv) (omega arith) (omega arith) (c .if2 .taken))
 
--- src/names.rt:64:13
 returns-3 : tie.Need-returns-3 Inv-loop μ-loop
 returns-3 c = let at-loop = c .before .before .before .before .before .before in sym (before-more _ _ (at-loop .loop .i) (at-loop .loop .inv) (omega arith) (omega arith) (c .before .if2 .left) (c .if3 .taken))
 
--- src/names.rt:66:9
-add-i : tie.Need-add-i Inv-loop μ-loop
-add-i c = search needs
-
--- src/names.rt:54:5
-loop-less : tie.Need-loop-less Inv-loop μ-loop
-loop-less c = search needs
-
--- src/names.rt:54:5
 loop-again : tie.Need-loop-again Inv-loop μ-loop
 loop-again c = let at-loop = c .before .before .before .before .before .before in before-pass _ _ (at-loop .loop .i) (at-loop .loop .inv) (omega arith) (omega arith) (c .before .if2 .left) (c .if3 .left)
 
--- src/names.rt:50:1
 returns-4 : tie.Need-returns-4 Inv-loop μ-loop
 returns-4 c = sym (before-end _ _ (c .before .loop .i) (c .before .loop .inv) (omega arith))
 
 pub is-before-spec : {M : Type 1} → statement M
 is-before-spec =
-    tie.close
-    (tie.spec
-    Inv-loop
-    μ-loop
-    loop-holds
-    returns
-    shared-slice-read-x
-    shared-slice-read-y
-    returns-2
-    returns-3
-    add-i
-    loop-less
-    loop-again
-    returns-4)
+    tie.close (
+    tie.spec Inv-loop μ-loop loop-holds returns (λ c. search needs) (λ c. search needs) returns-2 returns-3 (λ c. search needs) (λ c. search needs)
+    loop-again returns-4)

@@ -1,6 +1,5 @@
 -- `store::rank_of` meets its contract: the names passed stand before the given one, so what is left decides. The measure is the used
 -- places left.
-use mathlib.Core.Path.{_≡_, sym}
 use Prim.Native.Nat.{_-_}
 use native.Mathlib.Omega.{arith}
 use borrow.Author.Needs.{needs}
@@ -20,7 +19,7 @@ returns c =
     let asked = c .before in
     let at-loop = asked .before .before .before in
     let start = at-loop .before .before .before in (
-      ranking-stop _ _ (at-loop .loop .i) (at-loop .loop .inv) (omega (arith, start .pre .1)) (asked .is-before .result) (asked .is-before .ensures)
+      ranking-stop _ _ (at-loop .loop .i) (at-loop .loop .inv) (omega (arith, start .pre .counted)) (asked .is-before .result) (asked .is-before .ensures)
           (not-true (asked .is-before .result) (c .if1 .taken)),
       omega arith,
     )
@@ -30,13 +29,13 @@ loop-again c =
     let asked = c .before in
     let at-loop = asked .before .before .before in
     let start = at-loop .before .before .before in
-    ranking-turn _ _ (at-loop .loop .i) (at-loop .loop .inv) (omega (arith, start .pre .1)) (asked .is-before .result) (asked .is-before .ensures)
+    ranking-turn _ _ (at-loop .loop .i) (at-loop .loop .inv) (omega (arith, start .pre .counted)) (asked .is-before .result) (asked .is-before .ensures)
     (not-false (asked .is-before .result) (c .if1 .left))
 
 returns-2 : tie.Need-returns-2 Inv-loop μ-loop
 returns-2 c =
     let at-loop = c .before in
-    (ranking-end _ _ (at-loop .loop .i) _ (at-loop .loop .inv) (at-loop .before .before .before .pre .1) (omega arith), omega arith)
+    (ranking-end _ _ (at-loop .loop .i) _ (at-loop .loop .inv) (at-loop .before .before .before .pre .counted) (omega arith), omega arith)
 
 pub rank-of-spec : {M : Type 1} → statement M
 rank-of-spec =

@@ -1,11 +1,11 @@
--- `blocks::long_in` meets its contract: two words of two bytes.
+-- `bytes::long_at` meets its contract: two words of two bytes.
 use mathlib.Core.Path.{_≡_}
 use Prim.Native.Nat.{_+_}
 use native.Mathlib.Omega.{arith}
 use borrow.Author.Needs.{needs}
 use Rattle.mesh.specs.Image.{word-at}
-use Rattle.image_site.proofs.blocks.long_in.Statement.{statement}
-use Rattle.image_site.proofs.blocks.long_in.Tie as tie
+use Rattle.image.proofs.bytes.long_at.Statement.{statement}
+use Rattle.image.proofs.bytes.long_at.Tie as tie
 
 returns : tie.Need-returns
 unfolding word-at
@@ -14,8 +14,8 @@ returns c =
     let last : at + 2 + 1 ≡ at + 3 = omega arith in
     rw last (omega arith, omega arith, omega arith)
 
-pub long-in-spec : {M : Type 1} → statement M
-long-in-spec =
+pub long-at-spec : {M : Type 1} → statement M
+long-at-spec =
     tie.close (
     tie.spec (λ c. search needs) (λ c κs. search needs) (λ c. search needs) (λ c. search needs) (λ c κs. search needs) (λ c. search needs)
     (λ c. search needs) (λ c. search needs) (λ c. search needs) (λ c κs. search needs) (λ c. search needs) (λ c. search needs) (λ c. search needs)
