@@ -47,21 +47,41 @@ first-of-set place s (suc m) = go (first-of-set place s m) (bool-cases (s m))
         → ((w : ℕ) → w < suc m → s w ≡ false) ⊎ First place s (suc m)
     go (inl none) (inr e) = inl (split (λ w. s w ≡ false) none e)
     go (inl none) (inl e) =
-        inr (record { x = m; below = omega arith; has = e; before = split (λ w. s w ≡ true → place m ≤ place w)
-        (λ w l q. never (s w) q (none w l)) (λ q. omega arith) })
+        inr (record {
+          x = m;
+          below = omega arith;
+          has = e;
+          before = split (λ w. s w ≡ true → place m ≤ place w)
+              (λ w l q. never (s w) q (none w l)) (λ q. omega arith);
+        })
     go (inr f) (inr e) =
-        inr (record { x = f .x; below = omega (arith, f .below); has = f .has; before = split (λ w. s w ≡ true → place (f .x) ≤ place w)
-        (f .before) (λ q. never (s m) q e) })
+        inr (record {
+          x = f .x;
+          below = omega (arith, f .below);
+          has = f .has;
+          before = split (λ w. s w ≡ true → place (f .x) ≤ place w)
+              (f .before) (λ q. never (s m) q e);
+        })
     go (inr f) (inl e) = pick (bool-cases (leb (place (f .x)) (place m)))
       where
         pick : (leb (place (f .x)) (place m) ≡ true) ⊎ (leb (place (f .x)) (place m) ≡ false)
             → ((w : ℕ) → w < suc m → s w ≡ false) ⊎ First place s (suc m)
         pick (inl q) =
-            inr (record { x = f .x; below = omega (arith, f .below); has = f .has; before = split (λ w. s w ≡ true → place (f .x) ≤ place w)
-            (f .before) (λ p. leb-true (place (f .x)) (place m) q) })
+            inr (record {
+              x = f .x;
+              below = omega (arith, f .below);
+              has = f .has;
+              before = split (λ w. s w ≡ true → place (f .x) ≤ place w)
+                  (f .before) (λ p. leb-true (place (f .x)) (place m) q);
+            })
         pick (inr q) =
-            inr (record { x = m; below = omega arith; has = e; before = split (λ w. s w ≡ true → place m ≤ place w)
-            (λ w l p. omega (arith, f .before w l p, leb-false (place (f .x)) (place m) q)) (λ p. omega arith) })
+            inr (record {
+              x = m;
+              below = omega arith;
+              has = e;
+              before = split (λ w. s w ≡ true → place m ≤ place w)
+                  (λ w l p. omega (arith, f .before w l p, leb-false (place (f .x)) (place m) q)) (λ p. omega arith);
+            })
 
 -- ---- where a pair begins
 
