@@ -11,7 +11,6 @@ use native.Mathlib.Omega.{arith}
 use lib.Dec.{ltb, leb, eqb}
 use lib.ListN.{length, getD, replicate, length-replicate}
 use borrow.Author.Tests.{eqb-true, eq-eqb, ltb-true, ltb-false, lt-ltb, le-leb, lt-leb, leb-true, leb-false, not-true}
-use Rattle.lists.specs.Lists.{head-or}
 use Rattle.lists.proofs.Tests.{bool-cases, never, and-left, and-right, and-both}
 use Rattle.mesh.specs.Limits.{max-radios, max-neighbours, row-bytes}
 use Rattle.mesh.specs.Graph.{Graph, link-of, linked, degree}
@@ -22,7 +21,7 @@ use Rattle.mesh.specs.Valid.{Valid}
 use Rattle.mesh.proofs.Tables.Laws.{marked-replicate}
 use Rattle.calls.specs.Questions.{can-switch, has-room}
 use Rattle.calls.specs.Lift.{lifts}
-use Rattle.rows.specs.Rows.{row-listed, row-count}
+use Rattle.rows.specs.Rows.{row-count}
 use Rattle.soundness.proofs.SoundSite.{linked-marked, degree-counted}
 use Rattle.lifting.specs.Search.{candidate, None-below}
 use Rattle.lifting.specs.Tight.{later, tight, first-end}
@@ -31,7 +30,7 @@ use Rattle.lifting.proofs.Tight.{tight-refutes}
 use Rattle.lifting.proofs.Search.{none-next, first-found, none-found}
 use Rattle.lift_parts.specs.Counters.{room-left}
 use Rattle.lift.specs.Peels.{graph-of}
-use Rattle.lift.specs.Tries.{Search-site, Trying, Tried}
+use Rattle.lift.specs.Tries.{Search-site, Trying, Settling, Settled, Tried}
 use Rattle.lift.specs.Search.{is-free, Free, Search-places, place-in, Tight, may-lift, Marked, Higher-end, Pair-found}
 use Rattle.lift.proofs.PeelSteps.{links-site, links-valid, first-due, none-before}
 use Rattle.lift.proofs.OrderLaws.{places-ordered, tight-is}
@@ -188,6 +187,9 @@ module _ (links numbers highs : List ℕ) (s : Search-site links numbers highs) 
           not-candidate c ac lc (inr q) = q
           not-candidate c ac lc (inl q) = never (marked free 0 a) (candidate-free c ac lc q) off
 
+      pub end-number : marked free 0 a ≡ true → k ≤ number g a
+      end-number on = free-is a la on .0
+
       module _ (on : marked free 0 a ≡ true) (new : List ℕ) (m : Marked a links numbers places free tight-row (replicate row-bytes 0) new) where
         none-past : (c : ℕ) → length numbers ≤ c → c < max-radios → marked new 0 c ≡ false
         unfolding byte-at
@@ -211,30 +213,25 @@ module _ (links numbers highs : List ℕ) (s : Search-site links numbers highs) 
 
   -- ---- a lower end done
 
-  -- b is the lowest untried radio
-  pub record Trying-on (a : ℕ) (untried : List ℕ) (b : ℕ) : Type 0 where
-    pub trying : Trying links r a untried
-    pub first : b ≡ head-or max-radios (row-listed untried 0)
-
-  module _ (a b : ℕ) (old : List ℕ) (h : Trying-on a old b) where
-    below : (c : ℕ) → a < c → c < b → c < g .n → lifts g r (link-of a c) ≡ false
-    below c ac l m =
-        h .trying .rest c ac m (none-before old (h .trying .long) b (h .first) c l (omega
-        (arith, m, graph-radios links numbers highs s, site-small links numbers highs s)))
-
-    pub lowest-on : b < max-radios → marked old 0 b ≡ true
-    lowest-on l = first-due old (h .trying .long) b (h .first) l
-
+  module _ (a b : ℕ) (old base : List ℕ) (h : Settled links k r a old base b) where
     pub end-found : b < max-radios → (new : List ℕ) (x : Bool) → x ≡ true → Tried links r a b old new x → Higher-end links r a b
     end-found l new x e t =
-        let own = h .trying .candidates b l (lowest-on l) in record { found = λ q. (own .0, own .1, t .does e); none-below = below }
+        let at = h .some l in
+        let own = at .trying .candidates b l (first-due old (at .trying .long) b (at .first) l) in
+        record {
+          found = λ q. (own .0, own .1, t .does e);
+          none-below = λ c ac cb m. at .trying .rest c ac m (none-before old (at .trying .long) b (at .first) c cb (omega
+              (arith, m, graph-radios links numbers highs s, site-small links numbers highs s)));
+        }
 
     pub end-none : max-radios ≤ b → Higher-end links r a max-radios
-    end-none l = record { found = λ q. absurd (omega arith); none-below = λ c ac q m. below c ac (omega arith) m }
+    end-none l = record { found = λ q. absurd (omega arith); none-below = λ c ac q m. h .none l c ac m }
 
-    pub trying-next : (new : List ℕ) (x : Bool) (d : ℕ) → x ≡ false → Tried links r a b old new x → d ≡ head-or max-radios (row-listed new 0)
-        → Trying-on a new d
-    trying-next new x d e t f = record { trying = t .next e; first = f }
+    -- the peels go on with what is still untried
+    pub settling-next : b < max-radios → (new : List ℕ) (x : Bool) → x ≡ false → Tried links r a b old new x → Settling links k a r new base
+    settling-next l new x e t =
+        let at = h .some l in
+        record { base = at .base; kept = λ w lw q. inl (at .stay w lw (t .still e w lw q)) }
 
   -- ---- all lower ends
 

@@ -175,16 +175,18 @@ fn higher_end(
     ensures { λ b. ⌜ Higher-end (now (links .entry)) r a b ⌝ }
 {
     let mut untried = [0u8; Site::ROW_BYTES];
+    let mut base = [0u8; Site::RADIOS as usize];
     if !rows::is_marked(free, 0, a) {
         return Site::RADIOS;
     }
     mark_ends(a, links, numbers, places, free, tight, &mut untried);
-    let mut b = rows::first_marked(&untried, 0);
+    tries::start(numbers[r as usize], numbers, highs, &mut base);
+    let mut b = tries::settle(links, numbers, r, a, &mut base, &mut untried);
     while b < Site::RADIOS {
-        if tries::lifts(links, numbers, highs, r, a, b, &mut untried) {
+        if tries::lifts(links, numbers, r, a, b, &base, &mut untried) {
             return b;
         }
-        b = rows::first_marked(&untried, 0);
+        b = tries::settle(links, numbers, r, a, &mut base, &mut untried);
     }
     Site::RADIOS
 }
