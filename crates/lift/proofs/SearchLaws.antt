@@ -3,14 +3,13 @@
 --   checked-..            questions 1 to 3, and what the search reads
 --   answer-..             what the call answers
 use mathlib.Core.Path.{_≡_, refl, sym, ap, subst, _∙_}
-use mathlib.Core.Logic.{_⊎_, inl, inr}
 use mathlib.Core.Bool.{Bool, true, false, _&&_, _||_, not}
 use mathlib.Core.List.{List, []}
 use Prim.Native.Nat.{ℕ, _/_, _≤_, _<_}
 use native.Mathlib.Omega.{arith}
-use lib.Dec.{leb, eqb}
+use lib.Dec.{ltb, leb}
 use lib.ListN.{length, getD}
-use borrow.Author.Tests.{eq-eqb, ne-eqb, lt-ltb, le-ltb, leb-true, leb-false, le-leb, lt-leb, not-true, not-false}
+use borrow.Author.Tests.{lt-ltb, le-ltb, le-leb, lt-leb, not-true, not-false}
 use Rattle.mesh.specs.Limits.{max-radios, max-neighbours, row-bytes}
 use Rattle.mesh.specs.Tables.{Tables, marked, graph-in}
 use Rattle.mesh.specs.Sound.{sound}
@@ -18,8 +17,6 @@ use Rattle.mesh.specs.Graph.{link-of, neighbours-in}
 use Rattle.calls.specs.Questions.{lengths-of, tables-refusal, radio-refusal, ask}
 use Rattle.calls.specs.Lift.{lifting, first-pair, is-lifted}
 use Rattle.calls.specs.LiftOutcome.{pair}
-use Rattle.calls.specs.declared.Pair.{Pair}
-use Rattle.lists.proofs.Tests.{bool-cases}
 use Rattle.calls.specs.Contracts.{Lift-contract}
 use Rattle.calls.proofs.ChainLaws.{Site-good, site-zero}
 use Rattle.calls.proofs.LiftOutcome.{lift-refused, lift-unanswered, lift-answered}
@@ -43,7 +40,7 @@ module _ (k : ℕ) (ts ns : List ℕ) (v : ℕ) where
   unfolding is-free room-left
   free-low h = rw (lt-leb k (getD ns v 0) h)
 
-  pub free-room : (x : ℕ) → k ≤ getD ns v 0 → x ≡ row-count max-neighbours ts v → room-left x ≡ is-free k ts ns v
+  pub free-room : (x : ℕ) → k ≤ getD ns v 0 → x ≡ row-count max-neighbours ts v → ltb x max-neighbours ≡ is-free k ts ns v
   unfolding is-free room-left
   free-room x h e = rw (le-leb k (getD ns v 0) h, e)
 
@@ -151,24 +148,14 @@ module _ (n v : ℕ) (t : Tables) (places highs : List ℕ) (q : ℕ) (c : Check
     asked-all : radio-refusal n v (lengths-of t) (sound n t) ≡ 0
     asked-all = sym (radio-none n v (lengths-of t) (sound n t) q (c .asked) none lv)
 
-    answer-none : lifting (graph-of (t .links)) v ≡ [] → Lift-contract n v t (pair 20 0 0)
+    pub answer-none : lifting (graph-of (t .links)) v ≡ [] → Lift-contract n v t (pair 20 0 0)
     answer-none h = lift-unanswered n v t asked-all (subst (λ (m : ℕ). lifting (graph-in m (t .links)) v ≡ []) rows-are h)
 
-    answer-some : (a b : ℕ) → (is-lifted (lifting (graph-of (t .links)) v) ≡ true) × (first-pair (lifting (graph-of (t .links)) v) ≡ link-of a b)
+    pub answer-some : (a b : ℕ) → (is-lifted (lifting (graph-of (t .links)) v) ≡ true) × (first-pair (lifting (graph-of (t .links)) v) ≡ link-of a b)
         → Lift-contract n v t (pair 0 a b)
     answer-some a b h =
         lift-answered n v t asked-all a b
         (subst (λ (m : ℕ). (is-lifted (lifting (graph-in m (t .links)) v) ≡ true) × (first-pair (lifting (graph-in m (t .links)) v) ≡ link-of a b)) rows-are h)
-
-    -- the pair that the search came back with, or 20
-    pub answer-found : (a b : ℕ) (r : Pair) → (max-radios ≤ a → lifting (graph-of (t .links)) v ≡ [])
-        → (a < max-radios → (is-lifted (lifting (graph-of (t .links)) v) ≡ true) × (first-pair (lifting (graph-of (t .links)) v) ≡ link-of a b))
-        → (max-radios ≤ a → r ≡ pair 20 0 0) → (a < max-radios → r ≡ pair 0 a b) → Lift-contract n v t r
-    answer-found a b r lacks has past found = go (bool-cases (leb max-radios a))
-      where
-        go : (leb max-radios a ≡ true) ⊎ (leb max-radios a ≡ false) → Lift-contract n v t r
-        go (inl e) = let h = leb-true max-radios a e in subst (Lift-contract n v t) (sym (past h)) (answer-none (lacks h))
-        go (inr e) = let h = leb-false max-radios a e in subst (Lift-contract n v t) (sym (found h)) (answer-some a b (has h))
 
 pub answer-refused : (n v : ℕ) (t : Tables) (places highs : List ℕ) (q : ℕ) → Checked n t places highs q → (q ≡ 0 → ⊥) → Lift-contract n v t (pair q 0 0)
 answer-refused n v t places highs q c ne = lift-refused n v t q (radio-no n v (lengths-of t) (sound n t) q (c .asked) ne) ne

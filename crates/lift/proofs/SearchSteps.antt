@@ -21,7 +21,8 @@ use Rattle.mesh.specs.Valid.{Valid}
 use Rattle.mesh.proofs.Tables.Laws.{marked-replicate}
 use Rattle.calls.specs.Questions.{can-switch, has-room}
 use Rattle.calls.specs.Lift.{lifts}
-use Rattle.rows.specs.Rows.{row-count}
+use Rattle.lists.specs.Lists.{head-or}
+use Rattle.rows.specs.Rows.{row-listed, row-count}
 use Rattle.soundness.proofs.SoundSite.{linked-marked, degree-counted}
 use Rattle.lifting.specs.Search.{candidate, None-below}
 use Rattle.lifting.specs.Tight.{later, tight, first-end}
@@ -212,6 +213,14 @@ module _ (links numbers highs : List ℕ) (s : Search-site links numbers highs) 
             own c lc q (inr e) = never (marked new 0 c) q (none-past c (ltb-false c (length numbers) e) lc)
 
   -- ---- a lower end done
+
+  -- no pair of a may lift
+  pub end-empty : (a b : ℕ) (untried : List ℕ) → Trying links r a untried → b ≡ head-or max-radios (row-listed untried 0) → max-radios ≤ b
+      → Higher-end links r a max-radios
+  end-empty a b untried try e l = record {
+    found = λ q. absurd (omega arith);
+    none-below = λ c ac q m. try .rest c ac m (none-before untried (try .long) b e c (omega arith) (omega arith));
+  }
 
   module _ (a b : ℕ) (old base : List ℕ) (h : Settled links k r a old base b) where
     pub end-found : b < max-radios → (new : List ℕ) (x : Bool) → x ≡ true → Tried links r a b old new x → Higher-end links r a b

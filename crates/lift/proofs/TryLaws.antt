@@ -17,7 +17,7 @@ use Rattle.lists.proofs.Tests.{bool-cases, iff-eq}
 use Rattle.mesh.specs.Limits.{max-radios, row-bytes}
 use Rattle.mesh.specs.Tables.{marked, put-bit, byte-at}
 use Rattle.mesh.proofs.Tables.Laws.{marked-replicate, marked-put-bit, length-put-bit}
-use Rattle.lift_parts.specs.Counters.{rules-out}
+use Rattle.lift_parts.proofs.CounterLaws.{rules-above, rules-left, rules-taken}
 use Rattle.lift.specs.Tries.{counter-start, Started, ruled-out, Ruled-out}
 use Rattle.lists.proofs.Parts.{getD-any}
 
@@ -71,9 +71,19 @@ stop-own ns b r k e = rw (eq-eqb (getD ns b 0) k e)
 pub stop-other : (ns : List ℕ) (b r k : ℕ) → (getD ns b 0 ≡ k → ⊥) → r ≡ cond (eqb (getD ns b 0) k) b r
 stop-other ns b r k ne = rw (ne-eqb (getD ns b 0) k ne)
 
-pub ruled-entry : (k : ℕ) (gone : Bool) (ns cs : List ℕ) (c : ℕ) → c < length cs → rules-out k gone (getD ns c 0) (getD cs c 0) ≡ ruled-out k gone ns cs c
-unfolding ruled-out
-ruled-entry k gone ns cs c l = ap (rules-out k gone (getD ns c 0)) (getD-any cs c 0 255 l)
+module _ (k : ℕ) (gone : Bool) (ns cs : List ℕ) (c : ℕ) (l : c < length cs) where
+  pub ruled-above : k < getD ns c 0 → gone ≡ ruled-out k gone ns cs c
+  unfolding ruled-out
+  ruled-above h = rules-above k gone (getD ns c 0) (getD cs c 255) h
+
+  pub ruled-left : getD ns c 0 ≤ k → getD cs c 0 < 128 → gone ≡ ruled-out k gone ns cs c
+  unfolding ruled-out
+  ruled-left h q = rules-left k gone (getD ns c 0) (getD cs c 255) h (omega (arith, getD-any cs c 0 255 l))
+
+  pub ruled-taken : getD ns c 0 ≤ k → 128 ≤ getD cs c 0 → ltb (getD cs c 0) (128 + k) ≡ ruled-out k gone ns cs c
+  unfolding ruled-out
+  ruled-taken h q =
+      ap (λ (x : ℕ). ltb x (128 + k)) (getD-any cs c 0 255 l) ∙ rules-taken k gone (getD ns c 0) (getD cs c 255) h (omega (arith, getD-any cs c 0 255 l))
 
 -- ---- radios ruled out
 

@@ -67,5 +67,16 @@ pub fn lift<'a>(n: u32, v: u32, links: &'a [u8], numbers: &'a [u8], order: &'a [
         };
     }
     let pair = search::first_pair(links, numbers, &places, &highs, v);
-    lift_parts::answer(pair.low, pair.high)
+    if Site::RADIOS <= pair.low {
+        return Pair {
+            number: Refusal::NO_LIFT,
+            low: 0,
+            high: 0,
+        };
+    }
+    Pair {
+        number: 0,
+        low: pair.low,
+        high: pair.high,
+    }
 }

@@ -12,8 +12,10 @@ ghost use Rattle.lists.specs.Lists.{Entries-below, range, count};
 ghost use Rattle.mesh.specs.Tables.{marked};
 ghost use Rattle.lifting.specs.Peeling.{left};
 ghost use Rattle.lift.specs.Peels.{is-due, Due, gone-of, Lowered, Sound-links, Peel-state, Peel-begin, Peel-end};
-use lift_parts::GONE;
 use mesh::Site;
+
+// What a counter grows by when its radio is taken.
+pub(crate) const GONE: u8 = 128;
 
 // The counter of what is no radio of the level.
 pub(crate) const NO_COUNTER: u8 = 255;

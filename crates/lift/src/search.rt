@@ -29,7 +29,7 @@ fn is_free(v: u32, level: u8, links: &[u8], numbers: &[u8]) -> bool
     if numbers[v as usize] < level {
         return false;
     }
-    lift_parts::has_room(rows::row_degree(links, v))
+    (rows::row_degree(links, v) as u32) < Site::NEIGHBOURS
 }
 
 // The radios that may be ends.
@@ -180,6 +180,9 @@ fn higher_end(
         return Site::RADIOS;
     }
     mark_ends(a, links, numbers, places, free, tight, &mut untried);
+    if Site::RADIOS <= rows::first_marked(&untried, 0) {
+        return Site::RADIOS;
+    }
     tries::start(numbers[r as usize], numbers, highs, &mut base);
     let mut b = tries::settle(links, numbers, r, a, &mut base, &mut untried);
     while b < Site::RADIOS {

@@ -13,6 +13,7 @@ ghost use Rattle.lift.specs.Peels.{Sound-links, Peel-begin, Peel-end};
 ghost use Rattle.lift.specs.Tries.{counter-start, Started, ruled-out, Ruled-out, Trying, Tried};
 ghost use Rattle.lift.specs.Tries.{Search-numbers, Settling, Settled-at, Settled};
 use super::peel;
+use super::peel::GONE;
 use super::peel::NO_COUNTER;
 use mesh::Site;
 
@@ -60,12 +61,20 @@ fn peel_around(
     peel::peel(links, r, stop, level, a, held, counters, &mut due)
 }
 
-// Whether the pair of a and c is ruled out: c had too few neighbours to be carried when it was taken, or the radio was taken and c not.
+// Whether the pair of a and c is ruled out: c had too few neighbours for the link to keep it when it was taken, or c stays and no such pair lifts
+// the radio.
 fn is_ruled_out(c: u32, level: u8, gone: bool, numbers: &[u8], counters: &[u8]) -> bool
     requires { ⌜ (c < length (now numbers)) × (c < length (now counters)) ⌝ }
     ensures { λ x. ⌜ x ≡ ruled-out level gone (now (numbers .entry)) (now (counters .entry)) c ⌝ }
 {
-    lift_parts::is_ruled_out(level, gone, numbers[c as usize], counters[c as usize])
+    if level < numbers[c as usize] {
+        return gone;
+    }
+    let x = counters[c as usize];
+    if x < GONE {
+        return gone;
+    }
+    (x as u32) < GONE as u32 + level as u32
 }
 
 // Takes the radios out of the untried that are ruled out.

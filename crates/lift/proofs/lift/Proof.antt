@@ -2,7 +2,7 @@
 use native.Mathlib.Omega.{arith}
 use borrow.Author.Needs.{needs}
 use Rattle.mesh.specs.Tables.{tables}
-use Rattle.lift.proofs.SearchLaws.{checked-radios, answer-refused, answer-past, answer-found}
+use Rattle.lift.proofs.SearchLaws.{checked-radios, answer-refused, answer-past, answer-none, answer-some}
 use Rattle.lift.proofs.lift.Statement.{statement}
 use Rattle.lift.proofs.lift.Tie as tie
 
@@ -28,14 +28,20 @@ first-pair-requires c κs =
 
 returns-3 : tie.Need-returns-3
 returns-3 c =
-    let call = c .before .before .before .before .before .before .before .before .before .before .before .before .before .before .args in
-    let found = c .before .first-pair .ensures in
+    let call = c .before .before .before .before .before .before .before .before .before .before .before .before .before .before .before .args in
     let t = tables (call .links .now) (call .numbers .now) (call .order .now) in
-    answer-found (call .n) (call .v) t _ _ _ (c .before .before .before .before .before .before .before .before .checked .ensures) (c .before .before .before .before .before .if1 .left) (c .before .before .before .before .if2 .left) _ _ _ (found .none) (found .some)
-    (c .answer .ensures .0) (c .answer .ensures .1)
+    answer-none (call .n) (call .v) t _ _ _ (c .before .before .before .before .before .before .before .before .before .checked .ensures) (c .before .before .before .before .before .before .if1 .left) (c .before .before .before .before .before .if2 .left)
+    (c .before .before .first-pair .ensures .none (c .if3 .taken))
+
+returns-4 : tie.Need-returns-4
+returns-4 c =
+    let call = c .before .before .before .before .before .before .before .before .before .before .before .before .before .before .before .args in
+    let t = tables (call .links .now) (call .numbers .now) (call .order .now) in
+    answer-some (call .n) (call .v) t _ _ _ (c .before .before .before .before .before .before .before .before .before .checked .ensures) (c .before .before .before .before .before .before .if1 .left) (c .before .before .before .before .before .if2 .left) _ _
+    (c .before .before .first-pair .ensures .some (c .if3 .left))
 
 pub lift-spec : {M : Type 1} → statement M
 lift-spec =
     tie.close (
     tie.spec (λ c. search needs) (λ c. search needs) (λ c κs. search needs) returns returns-2 (λ c. search needs) (λ c. search needs) first-pair-requires
-    (λ c κs. search needs) returns-3)
+    returns-3 returns-4)
