@@ -1,6 +1,7 @@
 /*
  * One link that lifts a radio, at 512 radios: processor time of a question, mean and worst over all radios of a site, by the engine and by the
- * same algorithm in C; how many radios have a pair, and that both answer alike. bench/lift builds and runs it.
+ * same algorithm in C; how many radios have a pair, and that both answer alike. bench/lift builds and runs it. Files named as arguments, each a
+ * struct site, are measured in place of the sites below.
  */
 #include "../include/summerbugle.h"
 #include "plain/lift.h"
@@ -58,10 +59,21 @@ static int measure(const char *name, struct site *s) {
     return different != 0;
 }
 
-int main(void) {
+/* Whether the file has a whole site. */
+static int read_site(const char *name, struct site *s) {
+    FILE *f = fopen(name, "rb");
+    if (!f) return 0;
+    size_t got = fread(s, sizeof *s, 1, f);
+    fclose(f);
+    return got == 1;
+}
+
+int main(int count, char **names) {
     static struct site s;
     int failed = 0;
     printf("| site | radios with a pair | engine, mean ms | worst | C, mean ms | worst |\n|---|---|---|---|---|---|\n");
+    for (int i = 1; i < count; i++) failed |= read_site(names[i], &s) ? measure(names[i], &s) : 1;
+    if (count > 1) return failed;
     make_site(&s, RADIOS, SPARSE, 0), failed |= measure("sparse", &s);
     make_site(&s, RADIOS, DENSE, 0), failed |= measure("dense", &s);
     make_site(&s, RADIOS, RING, 0), failed |= measure("ring", &s);

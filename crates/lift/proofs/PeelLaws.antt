@@ -10,20 +10,21 @@ use mathlib.Core.List.{List, [], _∷_}
 use Prim.Native.Nat.{ℕ, zero, suc, _+_, _-_, _≤_, _<_}
 use native.Mathlib.Omega.{arith}
 use native.Mathlib.Numerals.{add-one}
-use lib.Dec.{ltb, eqb}
-use lib.ListN.{length, getD, set, drop, length-set, drop-of-length-le}
+use lib.Dec.{ltb, leb, eqb}
+use lib.ListN.{length, getD, set, drop, replicate, length-set, length-replicate, drop-of-length-le}
 use lib.Seq.{getD-set-same, getD-set-other, drop-cons}
-use borrow.Author.Tests.{eqb-true, eqb-false, eq-eqb, ne-eqb, le-leb, lt-leb, lt-ltb, le-ltb}
+use borrow.Author.Tests.{eqb-true, eqb-false, eq-eqb, ne-eqb, ltb-true, ltb-false, le-leb, lt-leb, lt-ltb, le-ltb}
 use Rattle.lists.specs.Lists.{In, member}
 use Rattle.lists.specs.Facts.{Distinct}
-use Rattle.lists.proofs.Tests.{bool-cases, cond-false}
+use Rattle.lists.proofs.Tests.{bool-cases, cond-false, iff-eq}
 use Rattle.lists.proofs.Member.{not-member}
 use Rattle.lists.proofs.Parts.{getD-any}
 use Rattle.mesh.specs.Limits.{max-radios, row-bytes}
 use Rattle.mesh.specs.Tables.{marked, put-bit, byte-at}
-use Rattle.mesh.proofs.Tables.Laws.{marked-put-bit, length-put-bit}
+use Rattle.mesh.proofs.Tables.Laws.{marked-put-bit, marked-replicate, length-put-bit}
 use Rattle.lifting.specs.Peeling.{left}
-use Rattle.lift.specs.Peels.{is-due, Lowered}
+use Rattle.lifting.proofs.Peeling.{below-left, high-left}
+use Rattle.lift.specs.Peels.{is-due, gone-of, Lowered}
 
 -- ---- tests
 
@@ -49,9 +50,94 @@ module _ (k a : ℕ) (held cs : List ℕ) (v : ℕ) (l : v < length cs) where
   unfolding is-due
   due-own h e = rw (le-leb (getD cs v 255) k (omega (arith, getD-any cs v 0 255 l)), eq-eqb v a e)
 
-  pub due-other : (t : Bool) → getD cs v 0 ≤ k → (v ≡ a → ⊥) → t ≡ marked held 0 v → not t ≡ is-due k a held cs v
+  pub due-short : getD cs v 0 < k → (v ≡ a → ⊥) → true ≡ is-due k a held cs v
   unfolding is-due
-  due-other t h ne e = rw (le-leb (getD cs v 255) k (omega (arith, getD-any cs v 0 255 l)), ne-eqb v a ne, e)
+  due-short h ne =
+      let e = getD-any cs v 0 255 l in rw (le-leb (getD cs v 255) k (omega (arith, e)), ne-eqb v a ne, lt-ltb (getD cs v 255) k (omega (arith, e)))
+
+  pub due-other : (t : Bool) → getD cs v 0 ≤ k → (v ≡ a → ⊥) → k ≤ getD cs v 0 → t ≡ marked held 0 v → not t ≡ is-due k a held cs v
+  unfolding is-due
+  due-other t h ne m e =
+      let q = getD-any cs v 0 255 l in
+      rw (le-leb (getD cs v 255) k (omega (arith, q)), ne-eqb v a ne, le-ltb (getD cs v 255) k (omega (arith, q)), e)
+
+-- ---- the end of a peel
+
+pub gone-taken : (k a r : ℕ) (cs : List ℕ) → r < length cs → 128 ≤ getD cs r 0 → true ≡ gone-of k a r cs
+unfolding gone-of
+gone-taken k a r cs l h = rw (high-left cs r (omega (arith, h, getD-any cs r 0 255 l)))
+
+pub gone-short : (k a r : ℕ) (cs : List ℕ) → r < length cs → a < length cs → getD cs r 0 < 128 → ltb (getD cs a 0) k ≡ gone-of k a r cs
+unfolding gone-of
+gone-short k a r cs l m h = rw (below-left cs r (omega (arith, h, getD-any cs r 0 255 l)), getD-any cs a 0 255 m)
+
+pub over-gone : (k a r b : ℕ) (cs : List ℕ) (t : Bool) → t ≡ gone-of k a r cs → t ≡ true → true ≡ (gone-of k a r cs || not (left cs b))
+over-gone k a r b cs t e q = rw (sym e ∙ q)
+
+pub over-stop : (k a r b : ℕ) (cs : List ℕ) (t : Bool) → b < length cs → t ≡ gone-of k a r cs → t ≡ false
+    → leb 128 (getD cs b 0) ≡ (gone-of k a r cs || not (left cs b))
+unfolding left
+over-stop k a r b cs t l e q = rw (sym e ∙ q, getD-any cs b 0 255 l) (turn (getD cs b 255))
+  where
+    turn : (x : ℕ) → leb 128 x ≡ not (ltb x 128)
+    turn x = at (bool-cases (ltb x 128))
+      where
+        at : (ltb x 128 ≡ true) ⊎ (ltb x 128 ≡ false) → leb 128 x ≡ not (ltb x 128)
+        at (inl z) = rw z (lt-leb 128 x (ltb-true x 128 z))
+        at (inr z) = rw z (le-leb 128 x (ltb-false x 128 z))
+
+-- ---- radios put into a set where they pass a test
+
+-- the radios below v are in the set where they pass
+pub record Putting (f : ℕ → Bool) (v : ℕ) (row : List ℕ) : Type 0 where
+  pub long : length row ≡ row-bytes
+  pub is : (w : ℕ) → w < max-radios → marked row 0 w ≡ (ltb w v && f w)
+
+module _ (f : ℕ → Bool) where
+  pub putting-none : (row : List ℕ) → row ≡ replicate row-bytes 0 → Putting f 0 row
+  unfolding byte-at
+  putting-none row e = record {
+    long = ap length e ∙ length-replicate {A = ℕ} row-bytes 0;
+    is = λ w l. ap (λ (xs : List ℕ). marked xs 0 w) e ∙ marked-replicate row-bytes 0 w (omega arith) ∙ rw (le-ltb w 0 (omega arith));
+  }
+
+  pub putting-turn : (v : ℕ) (t : Bool) (row new : List ℕ) → v < max-radios → t ≡ f v → new ≡ cond t (put-bit true 0 v row) row
+      → Putting f v row → Putting f (v + 1) new
+  unfolding byte-at
+  putting-turn v t row new l test e h = record {
+    long = ap length e ∙ long-put t ∙ h .long;
+    is = λ w lw. ap (λ (xs : List ℕ). marked xs 0 w) e ∙ put w lw t ∙ at w lw (bool-cases (eqb v w));
+  }
+    where
+      long-put : (u : Bool) → length (cond u (put-bit true 0 v row) row) ≡ length row
+      long-put true = length-put-bit true 0 v row
+      long-put false = refl
+
+      put : (w : ℕ) → w < max-radios → (u : Bool) → marked (cond u (put-bit true 0 v row) row) 0 w ≡ cond (u && eqb v w) true (marked row 0 w)
+      put w lw true = marked-put-bit true 0 v row 0 w l lw (omega (arith, h .long))
+      put w lw false = refl
+
+      same : (u : Bool) → cond (u && true) true false ≡ u
+      same true = refl
+      same false = refl
+
+      past : (u m : Bool) → cond (u && false) true m ≡ m
+      past true m = refl
+      past false m = refl
+
+      further : (w : ℕ) → (v ≡ w → ⊥) → ltb w v ≡ ltb w (v + 1)
+      further w ne =
+          iff-eq (ltb w v) (ltb w (v + 1)) (λ q. lt-ltb w (v + 1) (omega (arith, ltb-true w v q)))
+          (λ q. let less = ltb-true w (v + 1) q in lt-ltb w v (omega arith))
+
+      at : (w : ℕ) → w < max-radios → (eqb v w ≡ true) ⊎ (eqb v w ≡ false) → cond (t && eqb v w) true (marked row 0 w) ≡ (ltb w (v + 1) && f w)
+      at w lw (inl q) =
+          subst (λ (x : ℕ). cond (t && eqb v x) true (marked row 0 x) ≡ (ltb x (v + 1) && f x)) (eqb-true v w q)
+          (rw (eq-eqb v v refl, h .is v l, le-ltb v v (omega arith), lt-ltb v (v + 1) (omega arith), ← test) (same t))
+      at w lw (inr q) = rw (q, ← further w (eqb-false v w q)) (past t (marked row 0 w) ∙ h .is w lw)
+
+  pub putting-end : (v : ℕ) (row : List ℕ) → max-radios ≤ v → Putting f v row → (w : ℕ) → w < max-radios → marked row 0 w ≡ f w
+  putting-end v row l h w lw = h .is w lw ∙ rw (lt-ltb w v (omega arith))
 
 -- ---- radios marked where they pass a test
 

@@ -10,9 +10,9 @@ use native.Mathlib.Omega.{arith}
 use lib.Dec.{ltb, leb, eqb}
 use lib.ListN.{length, getD, set, take, length-set, List·getD-eq-default}
 use lib.Seq.{getD-set-same, getD-set-other}
-use borrow.Author.Tests.{eqb-true, eqb-false, eq-eqb, ne-eqb, ltb-true, ltb-false, leb-true, leb-false, le-leb, lt-leb, not-true}
+use borrow.Author.Tests.{eqb-true, eqb-false, eq-eqb, ne-eqb, ltb-true, ltb-false, lt-ltb, leb-true, leb-false, le-leb, lt-leb, not-true, not-false}
 use Rattle.lists.specs.Lists.{In, Entries-below, member, count, range, overwrite, head-or}
-use Rattle.lists.proofs.Tests.{bool-cases, never, and-left, and-right, and-both, cond-false, cond-true}
+use Rattle.lists.proofs.Tests.{bool-cases, never, and-left, and-right, and-both, or-cases, or-left, or-right, cond-false, cond-true}
 use Rattle.lists.proofs.Ascending.{head-or-lowest}
 use Rattle.lists.proofs.Member.{in-getD, member-in, head-or-below}
 use Rattle.mesh.specs.Limits.{max-radios, max-neighbours, row-bytes}
@@ -32,7 +32,7 @@ use Rattle.soundness.specs.Checks.{fits-sound}
 use Rattle.soundness.proofs.SoundSite.{Sound-site, fits-sound-site, linked-marked, row-listed-neighbours}
 use Rattle.lifting.specs.Peeling.{left, stays, Taken}
 use Rattle.lifting.proofs.Peeling.{left-below, high-left, below-left, stays-above, stays-left, stays-cases, taken-fewer, peeling-near, peeling-takes}
-use Rattle.lift.specs.Peels.{graph-of, Sound-links, is-due, Lowered, Peel-state, Peel-end}
+use Rattle.lift.specs.Peels.{graph-of, Sound-links, is-due, Due, gone-of, Lowered, Peel-state, Peel-begin, Peel-end}
 use Rattle.lift.proofs.PeelLaws.{or-no}
 use Rattle.lists.proofs.Parts.{getD-any}
 
@@ -79,21 +79,29 @@ module _ (links held : List ℕ) (k a : ℕ) (cs due : List ℕ) (s : Sound-link
   own-due : is-due k a held cs v ≡ true
   own-due = sym (h .due-is v lv) ∙ m
 
+  -- the part of the test after the first
+  abbrev rest-of : Bool
+  rest-of = not (eqb v a) && (ltb (getD cs v 255) k || not (marked held 0 v))
+
   own-low : getD cs v 255 ≤ k
   unfolding is-due
-  own-low = leb-true (getD cs v 255) k (and-left (leb (getD cs v 255) k) (not (eqb v a) && not (marked held 0 v)) own-due)
+  own-low = leb-true (getD cs v 255) k (and-left (leb (getD cs v 255) k) rest-of own-due)
 
   not-low-end : v ≡ a → ⊥
   unfolding is-due
   not-low-end =
       eqb-false v a (not-true (eqb v a)
-      (and-left (not (eqb v a)) (not (marked held 0 v)) (and-right (leb (getD cs v 255) k) (not (eqb v a) && not (marked held 0 v)) own-due)))
+      (and-left (not (eqb v a)) (ltb (getD cs v 255) k || not (marked held 0 v)) (and-right (leb (getD cs v 255) k) rest-of own-due)))
 
-  not-held : marked held 0 v ≡ false
+  own-short : marked held 0 v ≡ true → getD cs v 255 < k
   unfolding is-due
-  not-held =
-      not-true (marked held 0 v)
-      (and-right (not (eqb v a)) (not (marked held 0 v)) (and-right (leb (getD cs v 255) k) (not (eqb v a) && not (marked held 0 v)) own-due))
+  own-short on =
+      at (or-cases (ltb (getD cs v 255) k) (not (marked held 0 v))
+      (and-right (not (eqb v a)) (ltb (getD cs v 255) k || not (marked held 0 v)) (and-right (leb (getD cs v 255) k) rest-of own-due)))
+    where
+      at : (ltb (getD cs v 255) k ≡ true) ⊎ (not (marked held 0 v) ≡ true) → getD cs v 255 < k
+      at (inl q) = ltb-true (getD cs v 255) k q
+      at (inr q) = never (marked held 0 v) on (not-true (marked held 0 v) q)
 
   own-left : left cs v ≡ true
   own-left = below-left cs v (omega (arith, own-low, h .low))
@@ -178,10 +186,22 @@ module _ (links held : List ℕ) (k a : ℕ) (cs due : List ℕ) (s : Sound-link
     due-less : (w : ℕ) → (w ≡ v → ⊥) → is-due k a held cs w ≡ true → is-due k a held ds w ≡ true
     unfolding is-due
     due-less w ne q =
-        and-both (leb (getD ds w 255) k) (not (eqb w a) && not (marked held 0 w))
-        (le-leb (getD ds w 255) k
-        (omega (arith, never-more w ne, leb-true (getD cs w 255) k (and-left (leb (getD cs w 255) k) (not (eqb w a) && not (marked held 0 w)) q))))
-        (and-right (leb (getD cs w 255) k) (not (eqb w a) && not (marked held 0 w)) q)
+        let tail = and-right (leb (getD cs w 255) k) (not (eqb w a) && (ltb (getD cs w 255) k || not (marked held 0 w))) q in
+        and-both (leb (getD ds w 255) k) (not (eqb w a) && (ltb (getD ds w 255) k || not (marked held 0 w)))
+        (le-leb (getD ds w 255) k (omega (
+          arith,
+          never-more w ne,
+          leb-true (getD cs w 255) k (and-left (leb (getD cs w 255) k) (not (eqb w a) && (ltb (getD cs w 255) k || not (marked held 0 w))) q),
+        )))
+        (and-both (not (eqb w a)) (ltb (getD ds w 255) k || not (marked held 0 w))
+        (and-left (not (eqb w a)) (ltb (getD cs w 255) k || not (marked held 0 w)) tail)
+        (less (or-cases (ltb (getD cs w 255) k) (not (marked held 0 w)) (and-right (not (eqb w a)) (ltb (getD cs w 255) k || not (marked held 0 w)) tail))))
+      where
+        less : (ltb (getD cs w 255) k ≡ true) ⊎ (not (marked held 0 w) ≡ true) → (ltb (getD ds w 255) k || not (marked held 0 w)) ≡ true
+        less (inl h) =
+            or-left (ltb (getD ds w 255) k) (not (marked held 0 w))
+            (lt-ltb (getD ds w 255) k (omega (arith, never-more w ne, ltb-true (getD cs w 255) k h)))
+        less (inr h) = or-right (ltb (getD ds w 255) k) (not (marked held 0 w)) h
 
     due-same : (w : ℕ) → getD ds w 255 ≡ getD cs w 255 → is-due k a held cs w ≡ is-due k a held ds w
     unfolding is-due
@@ -207,13 +227,33 @@ module _ (links held : List ℕ) (k a : ℕ) (cs due : List ℕ) (s : Sound-link
         lower .due-after w lw
         ∙ rw (out-of w lw, q, touched w ne, h .due-is w lw) (due-other-after w ne (left cs w && linked (graph-of links) v w) refl)
 
-    -- ---- what is held stays
+    -- ---- what is held stays, or is taken with fewer than k
 
-    kept-after : (w : ℕ) → marked held 0 w ≡ true → (k < number (graph-of links) w) ⊎ (left cs w ≡ true) → stays (graph-of links) k ds w ≡ true
-    kept-after w on (inl q) = stays-above (graph-of links) k ds w q
-    kept-after w on (inr q) =
-        let other : w ≡ v → ⊥ = λ e. never (marked held 0 v) (subst (λ (x : ℕ). marked held 0 x ≡ true) e on) not-held in
-        stays-left (graph-of links) k ds w (below-left ds w (omega (arith, never-more w other, left-below cs w q)))
+    kept-after : (w : ℕ) → marked held 0 w ≡ true
+        → (stays (graph-of links) k cs w ≡ true) ⊎ ((128 ≤ getD cs w 255) × (getD cs w 255 < 128 + k))
+        → (stays (graph-of links) k ds w ≡ true) ⊎ ((128 ≤ getD ds w 255) × (getD ds w 255 < 128 + k))
+    kept-after w on (inr (p, q)) = let e = same-gone in inr (omega arith, omega arith)
+      where
+        gone : left cs w ≡ false
+        gone = high-left cs w p
+
+        other : w ≡ v → ⊥
+        other e = never (left cs w) (subst (λ (x : ℕ). left cs x ≡ true) (sym e) own-left) gone
+
+        same-gone : getD ds w 255 ≡ getD cs w 255
+        same-gone = after-other w other ∙ cond-false (left cs w && linked (graph-of links) v w) (getD cs w 255 - 1) (getD cs w 255) (rw gone)
+    kept-after w on (inl q) = at (stays-cases (graph-of links) k cs w q) (bool-cases (eqb w v))
+      where
+        at : (k < number (graph-of links) w) ⊎ (left cs w ≡ true) → (eqb w v ≡ true) ⊎ (eqb w v ≡ false)
+            → (stays (graph-of links) k ds w ≡ true) ⊎ ((128 ≤ getD ds w 255) × (getD ds w 255 < 128 + k))
+        at (inl h) z = inl (stays-above (graph-of links) k ds w h)
+        at (inr h) (inl z) =
+            let e = eqb-true w v z in
+            let few = own-short (subst (λ (x : ℕ). marked held 0 x ≡ true) e on) in
+            let is : getD ds w 255 ≡ 128 + getD cs v 255 = ap (λ (x : ℕ). getD ds x 255) e ∙ own-after in
+            inr (omega arith, omega arith)
+        at (inr h) (inr z) =
+            inl (stays-left (graph-of links) k ds w (below-left ds w (omega (arith, never-more w (eqb-false w v z), left-below cs w h))))
 
     pub state-takes : Peel-state links held k a ds new
     state-takes = record {
@@ -222,7 +262,7 @@ module _ (links held : List ℕ) (k a : ℕ) (cs due : List ℕ) (s : Sound-link
       long = lower .long ∙ own-long;
       due-long = lower .due-long ∙ ap length out ∙ length-put-bit false 0 v due ∙ h .due-long;
       due-is = λ w lw. due-after w lw (bool-cases (eqb v w));
-      kept = λ w lw on. kept-after w on (stays-cases (graph-of links) k cs w (h .kept w lw on));
+      kept = λ w lw on. kept-after w on (h .kept w lw on);
     }
 
     pub state-fewer : count (left ds) (range 0 max-radios) < count (left cs) (range 0 max-radios)
@@ -263,44 +303,100 @@ inside-left cs w long l = by-test (bool-cases (ltb w max-radios))
 
 due-again : (k a : ℕ) (held cs : List ℕ) (w : ℕ) → leb (getD cs w 255) k ≡ true → (w ≡ a → ⊥) → marked held 0 w ≡ false → is-due k a held cs w ≡ true
 unfolding is-due
-due-again k a held cs w q ne out = rw (q, ne-eqb w a ne, out)
+due-again k a held cs w q ne out = rw (q, ne-eqb w a ne) (or-right (ltb (getD cs w 255) k) (not (marked held 0 w)) (rw out))
 
--- r is left so far, and v is the first radio due
-pub record Peeling-on (links held : List ℕ) (k a r : ℕ) (cs due : List ℕ) (v : ℕ) : Type 0 where
+due-short-again : (k a : ℕ) (held cs : List ℕ) (w : ℕ) → getD cs w 255 < k → (w ≡ a → ⊥) → is-due k a held cs w ≡ true
+unfolding is-due
+due-short-again k a held cs w l ne = rw (le-leb (getD cs w 255) k (omega arith), ne-eqb w a ne, lt-ltb (getD cs w 255) k l)
+
+-- r and b are left so far, a has enough neighbours that stay, and v is the first radio due
+pub record Peeling-on (links held : List ℕ) (k a r b : ℕ) (cs due : List ℕ) (v : ℕ) : Type 0 where
   pub state : Peel-state links held k a cs due
   pub there : left cs r ≡ true
+  pub stop-there : left cs b ≡ true
+  pub fits : k ≤ getD cs a 255
   pub first : v ≡ head-or max-radios (row-listed due 0)
 
-module _ (links held : List ℕ) (k a r : ℕ) (cs due : List ℕ) where
-  -- r is taken
-  pub peel-gone : r < max-radios → 128 ≤ getD cs r 0 → Peel-state links held k a cs due → Peel-end links held k a r cs false
-  peel-gone l q h = record {
-    peeling = h .peeling;
-    long = h .long;
-    kept = h .kept;
-    answer = sym (high-left cs r (omega (arith, q, getD-any cs r 0 255 (omega (arith, h .long)))));
-    done = λ no. never false no refl;
+module _ (links held : List ℕ) (k a r b : ℕ) (cs due : List ℕ) where
+  pub peel-starts : (v : ℕ) → length due ≡ row-bytes → Due k a held cs due → Peel-begin links held k a r b cs → v ≡ head-or max-radios (row-listed due 0)
+      → Peeling-on links held k a r b cs due v
+  peel-starts v long d h e = record {
+    state = record {
+      peeling = h .base .peeling;
+      low = h .base .low;
+      long = h .base .long;
+      due-long = long;
+      due-is = d;
+      kept = h .kept;
+    };
+    there = h .base .there;
+    stop-there = h .stop-there;
+    fits = h .base .fits;
+    first = e;
   }
 
-  -- r is not taken in this turn
-  pub peel-on : (v : ℕ) → r < max-radios → getD cs r 0 < 128 → v ≡ head-or max-radios (row-listed due 0) → Peel-state links held k a cs due
-      → Peeling-on links held k a r cs due v
-  peel-on v l q e h = record { state = h; there = below-left cs r (omega (arith, q, getD-any cs r 0 255 (omega (arith, h .long)))); first = e }
+  module _ (h : Peel-state links held k a cs due) where
+    stopped : (gone-of k a r cs ≡ true) ⊎ (left cs b ≡ false) → Peel-end links held k a r b cs false
+    stopped e = record {
+      peeling = h .peeling;
+      long = h .long;
+      kept = h .kept;
+      base = λ no. never false no refl;
+      stop-left = λ no. never false no refl;
+      held-fit = λ no. never false no refl;
+      full = λ no. never false no refl;
+      ended = λ no. e;
+    }
+
+    pub peel-over : (gone-of k a r cs || not (left cs b)) ≡ true → Peel-end links held k a r b cs false
+    peel-over q = stopped (at (or-cases (gone-of k a r cs) (not (left cs b)) q))
+      where
+        at : (gone-of k a r cs ≡ true) ⊎ (not (left cs b) ≡ true) → (gone-of k a r cs ≡ true) ⊎ (left cs b ≡ false)
+        at (inl e) = inl e
+        at (inr e) = inr (not-true (left cs b) e)
+
+    -- it goes on
+    pub peel-on : (v : ℕ) → (gone-of k a r cs || not (left cs b)) ≡ false → v ≡ head-or max-radios (row-listed due 0) → Peeling-on links held k a r b cs due v
+    unfolding gone-of
+    peel-on v q e =
+        let both = or-none (gone-of k a r cs) (not (left cs b)) q in
+        let own = or-none (not (left cs r)) (ltb (getD cs a 255) k) (both .0) in
+        record {
+          state = h;
+          there = not-false (left cs r) (own .0);
+          stop-there = not-false (left cs b) (both .1);
+          fits = ltb-false (getD cs a 255) k (own .1);
+          first = e;
+        }
+      where
+        or-none : (x y : Bool) → (x || y) ≡ false → (x ≡ false) × (y ≡ false)
+        or-none true y z = never true refl z
+        or-none false y z = (refl, z)
 
   -- nothing is due
-  pub peel-done : (v : ℕ) → max-radios ≤ v → Peeling-on links held k a r cs due v → Peel-end links held k a r cs true
+  pub peel-done : (v : ℕ) → max-radios ≤ v → Peeling-on links held k a r b cs due v → Peel-end links held k a r b cs true
   peel-done v past h = record {
     peeling = h .state .peeling;
     long = h .state .long;
     kept = h .state .kept;
-    answer = sym (h .there);
-    done = λ yes w l ne out. more w l ne out (bool-cases (leb (getD cs w 255) k));
+    base = λ yes. record { peeling = h .state .peeling; low = h .state .low; long = h .state .long; there = h .there; fits = h .fits };
+    stop-left = λ yes. h .stop-there;
+    held-fit = λ yes w l ne. fit w l ne (bool-cases (ltb (getD cs w 255) k));
+    full = λ yes w l ne out. more w l ne out (bool-cases (leb (getD cs w 255) k));
+    ended = λ no. never true refl no;
   }
     where
+      none-due : (w : ℕ) → left cs w ≡ true → is-due k a held cs w ≡ true → ⊥
+      none-due w l q =
+          let small : w < max-radios = inside-left cs w (h .state .long) l in
+          never (is-due k a held cs w) q (sym (h .state .due-is w small)
+          ∙ none-before due (h .state .due-long) v (h .first) w (omega arith) small)
+
+      fit : (w : ℕ) → left cs w ≡ true → (w ≡ a → ⊥) → (ltb (getD cs w 255) k ≡ true) ⊎ (ltb (getD cs w 255) k ≡ false) → k ≤ getD cs w 255
+      fit w l ne (inr q) = ltb-false (getD cs w 255) k q
+      fit w l ne (inl q) = absurd (none-due w l (due-short-again k a held cs w (ltb-true (getD cs w 255) k q) ne))
+
       more : (w : ℕ) → left cs w ≡ true → (w ≡ a → ⊥) → marked held 0 w ≡ false → (leb (getD cs w 255) k ≡ true) ⊎ (leb (getD cs w 255) k ≡ false)
           → k < getD cs w 255
       more w l ne out (inr q) = leb-false (getD cs w 255) k q
-      more w l ne out (inl q) =
-          let small : w < max-radios = inside-left cs w (h .state .long) l in
-          never (is-due k a held cs w) (due-again k a held cs w q ne out) (sym (h .state .due-is w small)
-          ∙ none-before due (h .state .due-long) v (h .first) w (omega arith) small)
+      more w l ne out (inl q) = absurd (none-due w l (due-again k a held cs w q ne out))

@@ -2,15 +2,14 @@
 --   is-free, may-lift     what each test of the code says of them
 --   checked-..            questions 1 to 3, and what the search reads
 --   answer-..             what the call answers
-use mathlib.Core.Path.{_≡_, sym, ap, subst, _∙_}
-use mathlib.Core.Logic.{_⊎_, inl, inr}
+use mathlib.Core.Path.{_≡_, refl, sym, ap, subst, _∙_}
 use mathlib.Core.Bool.{Bool, true, false, _&&_, _||_, not}
 use mathlib.Core.List.{List, []}
 use Prim.Native.Nat.{ℕ, _/_, _≤_, _<_}
 use native.Mathlib.Omega.{arith}
-use lib.Dec.{leb, eqb}
+use lib.Dec.{ltb, leb}
 use lib.ListN.{length, getD}
-use borrow.Author.Tests.{eq-eqb, ne-eqb, lt-ltb, le-ltb, leb-true, leb-false, le-leb, lt-leb, not-true, not-false}
+use borrow.Author.Tests.{lt-ltb, le-ltb, le-leb, lt-leb, not-true, not-false}
 use Rattle.mesh.specs.Limits.{max-radios, max-neighbours, row-bytes}
 use Rattle.mesh.specs.Tables.{Tables, marked, graph-in}
 use Rattle.mesh.specs.Sound.{sound}
@@ -18,8 +17,6 @@ use Rattle.mesh.specs.Graph.{link-of, neighbours-in}
 use Rattle.calls.specs.Questions.{lengths-of, tables-refusal, radio-refusal, ask}
 use Rattle.calls.specs.Lift.{lifting, first-pair, is-lifted}
 use Rattle.calls.specs.LiftOutcome.{pair}
-use Rattle.calls.specs.declared.Pair.{Pair}
-use Rattle.lists.proofs.Tests.{bool-cases}
 use Rattle.calls.specs.Contracts.{Lift-contract}
 use Rattle.calls.proofs.ChainLaws.{Site-good, site-zero}
 use Rattle.calls.proofs.LiftOutcome.{lift-refused, lift-unanswered, lift-answered}
@@ -29,10 +26,12 @@ use Rattle.soundness.proofs.ExamineLaws.{examinable-room, fits-sound-lent, site
 use Rattle.soundness.proofs.RadioLaws.{radio-no, radio-four, radio-none}
 use Rattle.soundness.proofs.HighCounts.{examined-high}
 use Rattle.soundness.proofs.SoundSite.{fits-sound-site}
+use Rattle.row_conditions.specs.Conditions.{Placed}
+use Rattle.lifting.specs.Tight.{first-end}
 use Rattle.lift_parts.specs.Counters.{room-left}
 use Rattle.lift.specs.Peels.{graph-of}
 use Rattle.lift.specs.Tries.{Search-site}
-use Rattle.lift.specs.Search.{is-free, may-lift, Checked}
+use Rattle.lift.specs.Search.{is-free, Search-places, place-in, may-lift, Checked}
 
 -- ---- is-free
 
@@ -41,48 +40,43 @@ module _ (k : ℕ) (ts ns : List ℕ) (v : ℕ) where
   unfolding is-free room-left
   free-low h = rw (lt-leb k (getD ns v 0) h)
 
-  pub free-room : (x : ℕ) → k ≤ getD ns v 0 → x ≡ row-count max-neighbours ts v → room-left x ≡ is-free k ts ns v
+  pub free-room : (x : ℕ) → k ≤ getD ns v 0 → x ≡ row-count max-neighbours ts v → ltb x max-neighbours ≡ is-free k ts ns v
   unfolding is-free room-left
   free-room x h e = rw (le-leb k (getD ns v 0) h, e)
 
 -- ---- may-lift
 
-pub level-first : (ns : List ℕ) (a c k : ℕ) → getD ns a 0 ≡ k → true ≡ (eqb (getD ns a 0) k || eqb (getD ns c 0) k)
-level-first ns a c k e = rw (eq-eqb (getD ns a 0) k e)
+module _ (a : ℕ) (ts ps fs ks : List ℕ) (c : ℕ) where
+  abbrev begins : Bool
+  begins = marked ks 0 (first-end (place-in ps) a c)
 
-pub level-second : (ns : List ℕ) (a c k : ℕ) → (getD ns a 0 ≡ k → ⊥) → eqb (getD ns c 0) k ≡ (eqb (getD ns a 0) k || eqb (getD ns c 0) k)
-level-second ns a c k ne = rw (ne-eqb (getD ns a 0) k ne)
-
-module _ (a k : ℕ) (ts ns fs : List ℕ) (c : ℕ) where
-  abbrev has : Bool
-  has = eqb (getD ns a 0) k || eqb (getD ns c 0) k
-
-  pub lift-low : c ≤ a → false ≡ may-lift a k ts ns fs c
+  pub lift-low : c ≤ a → false ≡ may-lift a ts ps fs ks c
   unfolding may-lift
   lift-low h = rw (le-ltb a c h)
 
-  pub lift-full : (t : Bool) → a < c → t ≡ marked fs 0 c → not t ≡ true → false ≡ may-lift a k ts ns fs c
+  pub lift-full : (t : Bool) → a < c → t ≡ marked fs 0 c → not t ≡ true → false ≡ may-lift a ts ps fs ks c
   unfolding may-lift
   lift-full t h e q = rw (lt-ltb a c h, sym e ∙ not-true t q)
 
-  pub lift-other : (t u : Bool) → a < c → t ≡ marked fs 0 c → not t ≡ false → u ≡ has → not u ≡ true → false ≡ may-lift a k ts ns fs c
+  pub lift-other : (t u : Bool) → a < c → t ≡ marked fs 0 c → not t ≡ false → u ≡ begins → not u ≡ true → false ≡ may-lift a ts ps fs ks c
   unfolding may-lift
   lift-other t u h e q f p = rw (lt-ltb a c h, sym e ∙ not-false t q, sym f ∙ not-true u p)
 
-  pub lift-test : (t u w : Bool) → a < c → t ≡ marked fs 0 c → not t ≡ false → u ≡ has → not u ≡ false → w ≡ marked ts a c → not w ≡ may-lift a k ts ns fs c
+  pub lift-test : (t u w : Bool) → a < c → t ≡ marked fs 0 c → not t ≡ false → u ≡ begins → not u ≡ false → w ≡ marked ts a c → not w ≡ may-lift a ts ps fs ks c
   unfolding may-lift
   lift-test t u w h e q f p m = rw (lt-ltb a c h, sym e ∙ not-false t q, sym f ∙ not-false u p, m)
 
 -- ---- questions 1 to 3
 
-module _ (n : ℕ) (t : Tables) (highs : List ℕ) (q : ℕ) (lent : q ≡ tables-refusal n (lengths-of t)) where
-  pub checked-lengths : (q ≡ 0 → ⊥) → Checked n t highs q
-  checked-lengths h = record {
+module _ (n : ℕ) (t : Tables) (qs highs : List ℕ) (q : ℕ) (lent : q ≡ tables-refusal n (lengths-of t)) where
+  pub checked-lengths : length qs ≡ max-radios → (q ≡ 0 → ⊥) → Checked n t qs highs q
+  checked-lengths long h = record {
+    long = long;
     asked = lent ∙ sym (site-refused n (lengths-of t) true (sound n t) 0 (λ z. h (lent ∙ z)));
     ready = λ z. absurd (h z);
   }
 
-  module _ (zero : q ≡ 0) (ps qs hs : List ℕ) (room : length ps ≡ max-radios) (high-room : length hs ≡ max-radios) where
+  module _ (zero : q ≡ 0) (ps hs : List ℕ) (room : length ps ≡ max-radios) (high-room : length hs ≡ max-radios) where
     answered : (x : Bool) → Examined n t ps qs hs highs x → x ≡ sound n t
     answered x d =
         d .answer
@@ -91,9 +85,10 @@ module _ (n : ℕ) (t : Tables) (highs : List ℕ) (q : ℕ) (lent : q ≡ table
         ∙ examinable-room n t
         ∙ fits-sound-lent n t (sym lent ∙ zero)
 
-    pub checked-unsound : (x : Bool) → Examined n t ps qs hs highs x → not x ≡ true → Checked n t highs 3
+    pub checked-unsound : (x : Bool) → Examined n t ps qs hs highs x → not x ≡ true → Checked n t qs highs 3
     unfolding ask
     checked-unsound x d e = record {
+      long = d .places-long ∙ room;
       asked = sym (site-lent n (lengths-of t) true (sound n t) 0 (sym lent ∙ zero) ∙ rw (sym (answered x d) ∙ not-true x e));
       ready = λ z. absurd (three z);
     }
@@ -101,9 +96,10 @@ module _ (n : ℕ) (t : Tables) (highs : List ℕ) (q : ℕ) (lent : q ≡ table
         three : _≡_ {A = ℕ} 3 0 → ⊥
         three z = omega arith
 
-    pub checked-sound : (x : Bool) → Examined n t ps qs hs highs x → not x ≡ false → Checked n t highs 0
+    pub checked-sound : (x : Bool) → Examined n t ps qs hs highs x → not x ≡ false → Checked n t qs highs 0
     unfolding ask
     checked-sound x d passed = record {
+      long = d .places-long ∙ room;
       asked = sym (site-lent n (lengths-of t) true (sound n t) 0 (sym lent ∙ zero) ∙ rw (sym (answered x d) ∙ not-false x passed));
       ready = λ z. ready (subst (λ (b : Bool). Examined n t ps qs hs highs b) (not-false x passed) d);
     }
@@ -114,18 +110,29 @@ module _ (n : ℕ) (t : Tables) (highs : List ℕ) (q : ℕ) (lent : q ≡ table
         rows : n ≡ length (t .links) / row-bytes
         rows = omega (arith, fits-sound-site n t is-sound .links-long)
 
-        ready : Examined n t ps qs hs highs true → Search-site (t .links) (t .numbers) highs
-        ready examined = record {
-          order = t .order;
-          is-sound = subst (λ (m : ℕ). fits-sound m t ≡ true) rows is-sound;
-          highs-long = omega (arith, fits-sound-site n t is-sound .numbers-long, fits-sound-site n t is-sound .small, examined .highs-long, high-room);
-          counted = λ v l. examined-high examined v (omega (arith, fits-sound-site n t is-sound .numbers-long))
-              ∙ ap (λ (m : ℕ). neighbours-in (graph-in m (t .links)) v (λ w. leb (getD (t .numbers) v 0) (getD (t .numbers) w 0))) rows;
-        }
+        ready : Examined n t ps qs hs highs true → Search-site (t .links) (t .numbers) highs × Search-places (t .links) (t .numbers) qs
+        ready examined = (
+          site examined,
+          record {
+            order = t .order;
+            is-sound = subst (λ (m : ℕ). fits-sound m t ≡ true) rows is-sound;
+            placed = subst (λ (m : ℕ). Placed m (t .order) qs) rows (examined .placed refl);
+            long = omega (arith, fits-sound-site n t is-sound .numbers-long, fits-sound-site n t is-sound .small, examined .places-long, room);
+          },
+        )
+          where
+            site : Examined n t ps qs hs highs true → Search-site (t .links) (t .numbers) highs
+            site examined = record {
+              order = t .order;
+              is-sound = subst (λ (m : ℕ). fits-sound m t ≡ true) rows is-sound;
+              highs-long = omega (arith, fits-sound-site n t is-sound .numbers-long, fits-sound-site n t is-sound .small, examined .highs-long, high-room);
+              counted = λ v l. examined-high examined v (omega (arith, fits-sound-site n t is-sound .numbers-long))
+                  ∙ ap (λ (m : ℕ). neighbours-in (graph-in m (t .links)) v (λ w. leb (getD (t .numbers) v 0) (getD (t .numbers) w 0))) rows;
+            }
 
 -- ---- the answer
 
-module _ (n v : ℕ) (t : Tables) (highs : List ℕ) (q : ℕ) (c : Checked n t highs q) (none : q ≡ 0) where
+module _ (n v : ℕ) (t : Tables) (places highs : List ℕ) (q : ℕ) (c : Checked n t places highs q) (none : q ≡ 0) where
   good : Site-good n (lengths-of t) true (sound n t)
   good = site-zero n (lengths-of t) true (sound n t) 0 (sym (c .asked) ∙ none) .0
 
@@ -141,30 +148,20 @@ module _ (n v : ℕ) (t : Tables) (highs : List ℕ) (q : ℕ) (c : Checked n t 
     asked-all : radio-refusal n v (lengths-of t) (sound n t) ≡ 0
     asked-all = sym (radio-none n v (lengths-of t) (sound n t) q (c .asked) none lv)
 
-    answer-none : lifting (graph-of (t .links)) v ≡ [] → Lift-contract n v t (pair 20 0 0)
+    pub answer-none : lifting (graph-of (t .links)) v ≡ [] → Lift-contract n v t (pair 20 0 0)
     answer-none h = lift-unanswered n v t asked-all (subst (λ (m : ℕ). lifting (graph-in m (t .links)) v ≡ []) rows-are h)
 
-    answer-some : (a b : ℕ) → (is-lifted (lifting (graph-of (t .links)) v) ≡ true) × (first-pair (lifting (graph-of (t .links)) v) ≡ link-of a b)
+    pub answer-some : (a b : ℕ) → (is-lifted (lifting (graph-of (t .links)) v) ≡ true) × (first-pair (lifting (graph-of (t .links)) v) ≡ link-of a b)
         → Lift-contract n v t (pair 0 a b)
     answer-some a b h =
         lift-answered n v t asked-all a b
         (subst (λ (m : ℕ). (is-lifted (lifting (graph-in m (t .links)) v) ≡ true) × (first-pair (lifting (graph-in m (t .links)) v) ≡ link-of a b)) rows-are h)
 
-    -- the pair that the search came back with, or 20
-    pub answer-found : (a b : ℕ) (r : Pair) → (max-radios ≤ a → lifting (graph-of (t .links)) v ≡ [])
-        → (a < max-radios → (is-lifted (lifting (graph-of (t .links)) v) ≡ true) × (first-pair (lifting (graph-of (t .links)) v) ≡ link-of a b))
-        → (max-radios ≤ a → r ≡ pair 20 0 0) → (a < max-radios → r ≡ pair 0 a b) → Lift-contract n v t r
-    answer-found a b r lacks has past found = go (bool-cases (leb max-radios a))
-      where
-        go : (leb max-radios a ≡ true) ⊎ (leb max-radios a ≡ false) → Lift-contract n v t r
-        go (inl e) = let h = leb-true max-radios a e in subst (Lift-contract n v t) (sym (past h)) (answer-none (lacks h))
-        go (inr e) = let h = leb-false max-radios a e in subst (Lift-contract n v t) (sym (found h)) (answer-some a b (has h))
+pub answer-refused : (n v : ℕ) (t : Tables) (places highs : List ℕ) (q : ℕ) → Checked n t places highs q → (q ≡ 0 → ⊥) → Lift-contract n v t (pair q 0 0)
+answer-refused n v t places highs q c ne = lift-refused n v t q (radio-no n v (lengths-of t) (sound n t) q (c .asked) ne) ne
 
-pub answer-refused : (n v : ℕ) (t : Tables) (highs : List ℕ) (q : ℕ) → Checked n t highs q → (q ≡ 0 → ⊥) → Lift-contract n v t (pair q 0 0)
-answer-refused n v t highs q c ne = lift-refused n v t q (radio-no n v (lengths-of t) (sound n t) q (c .asked) ne) ne
-
-pub answer-past : (n v : ℕ) (t : Tables) (highs : List ℕ) (q : ℕ) → Checked n t highs q → q ≡ 0 → n ≤ v → Lift-contract n v t (pair 4 0 0)
-answer-past n v t highs q c none past = lift-refused n v t 4 (radio-four n v (lengths-of t) (sound n t) q (c .asked) none past) four
+pub answer-past : (n v : ℕ) (t : Tables) (places highs : List ℕ) (q : ℕ) → Checked n t places highs q → q ≡ 0 → n ≤ v → Lift-contract n v t (pair 4 0 0)
+answer-past n v t places highs q c none past = lift-refused n v t 4 (radio-four n v (lengths-of t) (sound n t) q (c .asked) none past) four
   where
     four : _≡_ {A = ℕ} 4 0 → ⊥
     four z = omega arith

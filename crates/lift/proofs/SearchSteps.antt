@@ -4,15 +4,14 @@
 --   pair-..         the first pair, or none
 use mathlib.Core.Path.{_≡_, refl, sym, subst, _∙_}
 use mathlib.Core.Logic.{_⊎_, inl, inr}
-use mathlib.Core.Bool.{Bool, true, false, _&&_, _||_, not}
+use mathlib.Core.Bool.{Bool, true, false, _&&_, not, cond}
 use mathlib.Core.List.{List}
 use Prim.Native.Nat.{ℕ, _+_, _/_, _≤_, _<_, min}
 use native.Mathlib.Omega.{arith}
 use lib.Dec.{ltb, leb, eqb}
 use lib.ListN.{length, getD, replicate, length-replicate}
-use borrow.Author.Tests.{eqb-true, eqb-false, eq-eqb, ltb-true, ltb-false, lt-ltb, le-leb, lt-leb, leb-true, leb-false, not-true}
-use Rattle.lists.specs.Lists.{head-or}
-use Rattle.lists.proofs.Tests.{bool-cases, never, and-left, and-right, and-both, or-cases, or-left, or-right}
+use borrow.Author.Tests.{eqb-true, eq-eqb, ltb-true, ltb-false, lt-ltb, le-leb, lt-leb, leb-true, leb-false, not-true}
+use Rattle.lists.proofs.Tests.{bool-cases, never, and-left, and-right, and-both}
 use Rattle.mesh.specs.Limits.{max-radios, max-neighbours, row-bytes}
 use Rattle.mesh.specs.Graph.{Graph, link-of, linked, degree}
 use Rattle.mesh.specs.Cores.{number}
@@ -22,21 +21,21 @@ use Rattle.mesh.specs.Valid.{Valid}
 use Rattle.mesh.proofs.Tables.Laws.{marked-replicate}
 use Rattle.calls.specs.Questions.{can-switch, has-room}
 use Rattle.calls.specs.Lift.{lifts}
+use Rattle.lists.specs.Lists.{head-or}
 use Rattle.rows.specs.Rows.{row-listed, row-count}
 use Rattle.soundness.proofs.SoundSite.{linked-marked, degree-counted}
 use Rattle.lifting.specs.Search.{candidate, None-below}
+use Rattle.lifting.specs.Tight.{later, tight, first-end}
 use Rattle.lifting.proofs.Pairs.{candidate-refutes, candidate-allowed}
-use Rattle.lifting.proofs.Search.{untried-start, none-next, first-found, none-found}
+use Rattle.lifting.proofs.Tight.{tight-refutes}
+use Rattle.lifting.proofs.Search.{none-next, first-found, none-found}
 use Rattle.lift_parts.specs.Counters.{room-left}
 use Rattle.lift.specs.Peels.{graph-of}
-use Rattle.lift.specs.Tries.{Search-site, Trying, Tried}
-use Rattle.lift.specs.Search.{is-free, Free, may-lift, Marked, Higher-end, Pair-found}
+use Rattle.lift.specs.Tries.{Search-site, Trying, Settling, Settled, Tried}
+use Rattle.lift.specs.Search.{is-free, Free, Search-places, place-in, Tight, may-lift, Marked, Higher-end, Pair-found}
 use Rattle.lift.proofs.PeelSteps.{links-site, links-valid, first-due, none-before}
+use Rattle.lift.proofs.OrderLaws.{places-ordered, tight-is}
 use Rattle.lift.proofs.TrySteps.{candidate-level, site-links, site-radios, graph-radios, site-small, number-is, level-is}
-
--- where one number is not the level, the other is
-min-other : (x y u v k : ℕ) → u ≡ x → v ≡ y → min x y ≡ k → (u ≡ k → ⊥) → v ≡ k
-min-other x y u v k e f m ne = omega arith
 
 -- a candidate, from its parts
 candidate-made : (g : Graph) (k a c : ℕ) → min (number g a) (number g c) ≡ k → linked g a c ≡ false → degree g a < max-neighbours → degree g c < max-neighbours
@@ -102,48 +101,81 @@ module _ (links numbers highs : List ℕ) (s : Search-site links numbers highs) 
         ∙ and-both (leb k (getD numbers v 0)) (ltb (row-count max-neighbours links v) max-neighbours) (le-leb k (getD numbers v 0) (omega (arith, number-is links numbers highs s v l)))
         (lt-ltb (row-count max-neighbours links v) max-neighbours (omega (arith, row-degree-is v l)))
 
-    module _ (a : ℕ) (la : a < length numbers) where
-      abbrev has : ℕ → Bool
-      has c = eqb (getD numbers a 0) k || eqb (getD numbers c 0) k
+    module _ (places tight-row : List ℕ) (o : Search-places links numbers places) (tr : Tight k r links numbers places tight-row) (a : ℕ)
+        (la : a < length numbers) where
+      abbrev first : ℕ → ℕ
+      first c = first-end (place-in places) a c
 
-      lower-is : (c : ℕ) → c < length numbers → k ≤ number g a → k ≤ number g c → has c ≡ true → min (number g a) (number g c) ≡ k
-      lower-is c lc ha hc e = go (or-cases (eqb (getD numbers a 0) k) (eqb (getD numbers c 0) k) e)
+      first-radio : (c : ℕ) → c < length numbers → first c < length numbers
+      unfolding first-end
+      first-radio c lc = at (bool-cases (ltb (place-in places c) (place-in places a)))
         where
-          go : (eqb (getD numbers a 0) k ≡ true) ⊎ (eqb (getD numbers c 0) k ≡ true) → min (number g a) (number g c) ≡ k
-          go (inl q) = omega (arith, ha, hc, number-is links numbers highs s a la, eqb-true (getD numbers a 0) k q)
-          go (inr q) = omega (arith, ha, hc, number-is links numbers highs s c lc, eqb-true (getD numbers c 0) k q)
+          at : (ltb (place-in places c) (place-in places a) ≡ true) ⊎ (ltb (place-in places c) (place-in places a) ≡ false)
+              → cond (ltb (place-in places c) (place-in places a)) c a < length numbers
+          at (inl q) = rw q lc
+          at (inr q) = rw q la
 
-      may-candidate : marked free 0 a ≡ true → (c : ℕ) → c < length numbers → may-lift a k links numbers free c ≡ true → (a < c) × (candidate g k a c ≡ true)
+      tight-at : (c : ℕ) → c < length numbers → marked tight-row 0 (first c) ≡ tight g (place-in places) k r (first c)
+      tight-at c lc =
+          tr .is (first c) (first-radio c lc)
+          ∙ tight-is links numbers places o k r (first c) (omega (arith, first-radio c lc, site-radios links numbers highs s))
+
+      -- a tight end has the level
+      lower-is : (c : ℕ) → c < length numbers → k ≤ number g a → k ≤ number g c → marked tight-row 0 (first c) ≡ true → min (number g a) (number g c) ≡ k
+      unfolding tight first-end
+      lower-is c lc ha hc e = at (bool-cases (ltb (place-in places c) (place-in places a))) level
+        where
+          level : number g (first c) ≡ k
+          level =
+              eqb-true (number g (first c)) k
+              (and-left (eqb (number g (first c)) k) (leb (place-in places (first c)) (place-in places r) && eqb (later g (place-in places) (first c)) k)
+              (sym (tight-at c lc) ∙ e))
+
+          at : (ltb (place-in places c) (place-in places a) ≡ true) ⊎ (ltb (place-in places c) (place-in places a) ≡ false)
+              → number g (cond (ltb (place-in places c) (place-in places a)) c a) ≡ k → min (number g a) (number g c) ≡ k
+          at (inl q) e = let h : number g c ≡ k = rw q at e in omega (arith, ha, hc, h)
+          at (inr q) e = let h : number g a ≡ k = rw q at e in omega (arith, ha, hc, h)
+
+      may-candidate : marked free 0 a ≡ true → (c : ℕ) → c < length numbers → may-lift a links places free tight-row c ≡ true
+          → (a < c) × (candidate g k a c ≡ true)
       unfolding may-lift
       may-candidate on c lc e =
-          let rest = and-right (ltb a c) (marked free 0 c && (has c && not (marked links a c))) e in
-          let last = and-right (marked free 0 c) (has c && not (marked links a c)) rest in
+          let begins = marked tight-row 0 (first c) in
+          let rest = and-right (ltb a c) (marked free 0 c && (begins && not (marked links a c))) e in
+          let last = and-right (marked free 0 c) (begins && not (marked links a c)) rest in
           let own = free-is a la on in
-          let other = free-is c lc (and-left (marked free 0 c) (has c && not (marked links a c)) rest) in (
-            ltb-true a c (and-left (ltb a c) (marked free 0 c && (has c && not (marked links a c))) e),
-            candidate-made g k a c (lower-is c lc (own .0) (other .0) (and-left (has c) (not (marked links a c)) last))
-                (linked-is a c la lc ∙ not-true (marked links a c) (and-right (has c) (not (marked links a c)) last)) (own .1) (other .1),
+          let other = free-is c lc (and-left (marked free 0 c) (begins && not (marked links a c)) rest) in (
+            ltb-true a c (and-left (ltb a c) (marked free 0 c && (begins && not (marked links a c))) e),
+            candidate-made g k a c (lower-is c lc (own .0) (other .0) (and-left begins (not (marked links a c)) last))
+                (linked-is a c la lc ∙ not-true (marked links a c) (and-right begins (not (marked links a c)) last)) (own .1) (other .1),
           )
 
-      level-of : (c : ℕ) → c < length numbers → min (number g a) (number g c) ≡ k → has c ≡ true
-      level-of c lc e = go (bool-cases (eqb (getD numbers a 0) k))
-        where
-          go : (eqb (getD numbers a 0) k ≡ true) ⊎ (eqb (getD numbers a 0) k ≡ false) → has c ≡ true
-          go (inl q) = or-left (eqb (getD numbers a 0) k) (eqb (getD numbers c 0) k) q
-          go (inr q) =
-              let ne = eqb-false (getD numbers a 0) k q in
-              or-right (eqb (getD numbers a 0) k) (eqb (getD numbers c 0) k) (eq-eqb (getD numbers c 0) k (min-other (number g a) (number g c)
-              (getD numbers a 0) (getD numbers c 0) k (number-is links numbers highs s a la) (number-is links numbers highs s c lc) e ne))
+      -- a candidate that begins at a tight end is marked
+      candidate-free : (c : ℕ) → a < c → c < length numbers → candidate g k a c ≡ true → marked free 0 a ≡ true
+      candidate-free c ac lc e =
+          let level = candidate-level g k a c e in
+          let room = candidate-allowed g k a c ac (omega (arith, graph-radios links numbers highs s)) e .room refl in
+          is-free-of a la (omega (arith, level)) (room .0)
 
-      candidate-may : (c : ℕ) → a < c → c < length numbers → candidate g k a c ≡ true → (marked free 0 a ≡ true) × (may-lift a k links numbers free c ≡ true)
+      candidate-may : (c : ℕ) → a < c → c < length numbers → candidate g k a c ≡ true → marked tight-row 0 (first c) ≡ true
+          → may-lift a links places free tight-row c ≡ true
       unfolding may-lift
-      candidate-may c ac lc e =
+      candidate-may c ac lc e begins =
           let level = candidate-level g k a c e in
           let ok = candidate-allowed g k a c ac (omega (arith, graph-radios links numbers highs s)) e in
-          let room = ok .room refl in (
-            is-free-of a la (omega (arith, level)) (room .0),
-            rw (lt-ltb a c ac, is-free-of c lc (omega (arith, level)) (room .1), level-of c lc level, sym (linked-is a c la lc) ∙ ok .state),
-          )
+          let room = ok .room refl in
+          rw (lt-ltb a c ac, is-free-of c lc (omega (arith, level)) (room .1), begins, sym (linked-is a c la lc) ∙ ok .state)
+
+      -- and a pair that is not marked does not lift r
+      not-lifts : (c : ℕ) → a < c → c < length numbers → may-lift a links places free tight-row c ≡ false → lifts g r (link-of a c) ≡ false
+      not-lifts c ac lc off = at (bool-cases (candidate g k a c)) (bool-cases (marked tight-row 0 (first c)))
+        where
+          at : (candidate g k a c ≡ true) ⊎ (candidate g k a c ≡ false) → (marked tight-row 0 (first c) ≡ true) ⊎ (marked tight-row 0 (first c) ≡ false)
+              → lifts g r (link-of a c) ≡ false
+          at (inr q) z = candidate-refutes g (s .order) valid k r a c lr-graph kr q
+          at (inl q) (inr z) =
+              tight-refutes g (s .order) valid (place-in places) (places-ordered links numbers places o) k r a c lr-graph kr (sym (tight-at c lc) ∙ z)
+          at (inl q) (inl z) = never (may-lift a links places free tight-row c) (candidate-may c ac lc q z) off
 
       pub end-closed : marked free 0 a ≡ false → Higher-end links r a max-radios
       end-closed off = record {
@@ -154,9 +186,12 @@ module _ (links numbers highs : List ℕ) (s : Search-site links numbers highs) 
         where
           not-candidate : (c : ℕ) → a < c → c < length numbers → (candidate g k a c ≡ true) ⊎ (candidate g k a c ≡ false) → candidate g k a c ≡ false
           not-candidate c ac lc (inr q) = q
-          not-candidate c ac lc (inl q) = never (marked free 0 a) (candidate-may c ac lc q .0) off
+          not-candidate c ac lc (inl q) = never (marked free 0 a) (candidate-free c ac lc q) off
 
-      module _ (on : marked free 0 a ≡ true) (new : List ℕ) (m : Marked a k links numbers free (replicate row-bytes 0) new) where
+      pub end-number : marked free 0 a ≡ true → k ≤ number g a
+      end-number on = free-is a la on .0
+
+      module _ (on : marked free 0 a ≡ true) (new : List ℕ) (m : Marked a links numbers places free tight-row (replicate row-bytes 0) new) where
         none-past : (c : ℕ) → length numbers ≤ c → c < max-radios → marked new 0 c ≡ false
         unfolding byte-at
         none-past c l lc = m .other c l lc ∙ marked-replicate row-bytes 0 c (omega arith)
@@ -165,8 +200,8 @@ module _ (links numbers highs : List ℕ) (s : Search-site links numbers highs) 
         trying-start = record {
           long = m .long ∙ length-replicate {A = ℕ} row-bytes 0;
           candidates = λ c lc q. own c lc q (bool-cases (ltb c (length numbers)));
-          rest = untried-start g (s .order) valid k r a lr-graph kr (marked new 0)
-              (λ c ac lc q. other c ac (omega (arith, graph-radios links numbers highs s)) q (bool-cases (candidate g k a c)));
+          rest = λ c ac lc q. not-lifts c ac (omega (arith, lc, graph-radios links numbers highs s))
+              (sym (m .is c (omega (arith, lc, graph-radios links numbers highs s)) (omega (arith, lc, graph-radios links numbers highs s, site-small links numbers highs s))) ∙ q);
         }
           where
             own : (c : ℕ) → c < max-radios → marked new 0 c ≡ true → (ltb c (length numbers) ≡ true) ⊎ (ltb c (length numbers) ≡ false)
@@ -177,38 +212,35 @@ module _ (links numbers highs : List ℕ) (s : Search-site links numbers highs) 
                 (is .0, omega (arith, l, graph-radios links numbers highs s), subst (λ (x : ℕ). candidate g x a c ≡ true) (sym kr) (is .1))
             own c lc q (inr e) = never (marked new 0 c) q (none-past c (ltb-false c (length numbers) e) lc)
 
-            other : (c : ℕ) → a < c → c < length numbers → marked new 0 c ≡ false → (candidate g k a c ≡ true) ⊎ (candidate g k a c ≡ false)
-                → candidate g k a c ≡ false
-            other c ac lc q (inr e) = e
-            other c ac lc q (inl e) =
-                never (marked new 0 c) (m .is c lc (omega (arith, lc, site-small links numbers highs s)) ∙ candidate-may c ac lc e .1) q
-
   -- ---- a lower end done
 
-  -- b is the lowest untried radio
-  pub record Trying-on (a : ℕ) (untried : List ℕ) (b : ℕ) : Type 0 where
-    pub trying : Trying links r a untried
-    pub first : b ≡ head-or max-radios (row-listed untried 0)
+  -- no pair of a may lift
+  pub end-empty : (a b : ℕ) (untried : List ℕ) → Trying links r a untried → b ≡ head-or max-radios (row-listed untried 0) → max-radios ≤ b
+      → Higher-end links r a max-radios
+  end-empty a b untried try e l = record {
+    found = λ q. absurd (omega arith);
+    none-below = λ c ac q m. try .rest c ac m (none-before untried (try .long) b e c (omega arith) (omega arith));
+  }
 
-  module _ (a b : ℕ) (old : List ℕ) (h : Trying-on a old b) where
-    below : (c : ℕ) → a < c → c < b → c < g .n → lifts g r (link-of a c) ≡ false
-    below c ac l m =
-        h .trying .rest c ac m (none-before old (h .trying .long) b (h .first) c l (omega
-        (arith, m, graph-radios links numbers highs s, site-small links numbers highs s)))
-
-    pub lowest-on : b < max-radios → marked old 0 b ≡ true
-    lowest-on l = first-due old (h .trying .long) b (h .first) l
-
+  module _ (a b : ℕ) (old base : List ℕ) (h : Settled links k r a old base b) where
     pub end-found : b < max-radios → (new : List ℕ) (x : Bool) → x ≡ true → Tried links r a b old new x → Higher-end links r a b
     end-found l new x e t =
-        let own = h .trying .candidates b l (lowest-on l) in record { found = λ q. (own .0, own .1, t .does e); none-below = below }
+        let at = h .some l in
+        let own = at .trying .candidates b l (first-due old (at .trying .long) b (at .first) l) in
+        record {
+          found = λ q. (own .0, own .1, t .does e);
+          none-below = λ c ac cb m. at .trying .rest c ac m (none-before old (at .trying .long) b (at .first) c cb (omega
+              (arith, m, graph-radios links numbers highs s, site-small links numbers highs s)));
+        }
 
     pub end-none : max-radios ≤ b → Higher-end links r a max-radios
-    end-none l = record { found = λ q. absurd (omega arith); none-below = λ c ac q m. below c ac (omega arith) m }
+    end-none l = record { found = λ q. absurd (omega arith); none-below = λ c ac q m. h .none l c ac m }
 
-    pub trying-next : (new : List ℕ) (x : Bool) (d : ℕ) → x ≡ false → Tried links r a b old new x → d ≡ head-or max-radios (row-listed new 0)
-        → Trying-on a new d
-    trying-next new x d e t f = record { trying = t .next e; first = f }
+    -- the peels go on with what is still untried
+    pub settling-next : b < max-radios → (new : List ℕ) (x : Bool) → x ≡ false → Tried links r a b old new x → Settling links k a r new base
+    settling-next l new x e t =
+        let at = h .some l in
+        record { base = at .base; kept = λ w lw q. inl (at .stay w lw (t .still e w lw q)) }
 
   -- ---- all lower ends
 

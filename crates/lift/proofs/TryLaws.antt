@@ -1,29 +1,25 @@
 -- The leaves of a pair tried, as laws of counters and rows.
---   counter-start, carried, ruled-out   what each test of the code says of them
+--   counter-start, stop, ruled-out   what each test of the code says of them
 --   Starting    the counters of the radios below v stand
 --   Ruling      the radios below i are ruled out or stay
---   begin-state, left-early, left-begin, left-late   the two peels of a pair
-use mathlib.Core.Path.{_≡_, refl, sym, ap, ap₂, subst, _∙_}
+--   held-at     a set of one radio
+use mathlib.Core.Path.{_≡_, refl, sym, ap, subst, _∙_}
 use mathlib.Core.Logic.{_⊎_, inl, inr}
 use mathlib.Core.Bool.{Bool, true, false, _&&_, not, cond}
 use mathlib.Core.List.{List}
 use Prim.Native.Nat.{ℕ, _+_, _≤_, _<_}
 use native.Mathlib.Omega.{arith}
-use lib.Dec.{ltb, leb, eqb}
+use lib.Dec.{ltb, eqb}
 use lib.ListN.{length, getD, set, replicate, length-set, length-replicate}
 use lib.Seq.{getD-set-same, getD-set-other}
-use borrow.Author.Tests.{eqb-true, eqb-false, eq-eqb, ne-eqb, ltb-true, lt-ltb, le-ltb, not-true, not-false}
-use Rattle.lists.proofs.Tests.{bool-cases, never, iff-eq}
+use borrow.Author.Tests.{eqb-true, eqb-false, eq-eqb, ne-eqb, ltb-true, lt-ltb, le-ltb}
+use Rattle.lists.proofs.Tests.{bool-cases, iff-eq}
 use Rattle.mesh.specs.Limits.{max-radios, row-bytes}
 use Rattle.mesh.specs.Tables.{marked, put-bit, byte-at}
 use Rattle.mesh.proofs.Tables.Laws.{marked-replicate, marked-put-bit, length-put-bit}
-use Rattle.lifting.specs.Peeling.{stays}
-use Rattle.lifting.proofs.Peeling.{below-left, high-left}
-use Rattle.lift_parts.specs.Counters.{carries, rules-out}
-use Rattle.lift.specs.Peels.{graph-of, Due, Peel-state, Peel-begin, Peel-end}
-use Rattle.lift.specs.Tries.{counter-start, Started, Left-end, carried, ruled-out, Ruled-out}
+use Rattle.lift_parts.proofs.CounterLaws.{rules-above, rules-left, rules-taken}
+use Rattle.lift.specs.Tries.{counter-start, Started, ruled-out, Ruled-out}
 use Rattle.lists.proofs.Parts.{getD-any}
-use Rattle.lift.proofs.PeelSteps.{inside-left}
 
 -- ---- the counters before the peel
 
@@ -69,17 +65,25 @@ module _ (k : ℕ) (ns hs : List ℕ) where
 
 -- ---- tests of entries
 
-carried-entry : (k : ℕ) (cs : List ℕ) (v : ℕ) → v < length cs → carries k (getD cs v 0) ≡ carried k cs v
-unfolding carried
-carried-entry k cs v l = ap (carries k) (getD-any cs v 0 255 l)
+pub stop-own : (ns : List ℕ) (b r k : ℕ) → getD ns b 0 ≡ k → b ≡ cond (eqb (getD ns b 0) k) b r
+stop-own ns b r k e = rw (eq-eqb (getD ns b 0) k e)
 
-pub found-entries : (t : Bool) (k : ℕ) (cs : List ℕ) (a b : ℕ) → a < length cs → b < length cs
-    → (t && (carries k (getD cs a 0) && carries k (getD cs b 0))) ≡ (t && (carried k cs a && carried k cs b))
-found-entries t k cs a b la lb = ap₂ {C = Bool} (λ x y. t && (x && y)) (carried-entry k cs a la) (carried-entry k cs b lb)
+pub stop-other : (ns : List ℕ) (b r k : ℕ) → (getD ns b 0 ≡ k → ⊥) → r ≡ cond (eqb (getD ns b 0) k) b r
+stop-other ns b r k ne = rw (ne-eqb (getD ns b 0) k ne)
 
-pub ruled-entry : (k : ℕ) (gone : Bool) (ns cs : List ℕ) (c : ℕ) → c < length cs → rules-out k gone (getD ns c 0) (getD cs c 0) ≡ ruled-out k gone ns cs c
-unfolding ruled-out
-ruled-entry k gone ns cs c l = ap (rules-out k gone (getD ns c 0)) (getD-any cs c 0 255 l)
+module _ (k : ℕ) (gone : Bool) (ns cs : List ℕ) (c : ℕ) (l : c < length cs) where
+  pub ruled-above : k < getD ns c 0 → gone ≡ ruled-out k gone ns cs c
+  unfolding ruled-out
+  ruled-above h = rules-above k gone (getD ns c 0) (getD cs c 255) h
+
+  pub ruled-left : getD ns c 0 ≤ k → getD cs c 0 < 128 → gone ≡ ruled-out k gone ns cs c
+  unfolding ruled-out
+  ruled-left h q = rules-left k gone (getD ns c 0) (getD cs c 255) h (omega (arith, getD-any cs c 0 255 l))
+
+  pub ruled-taken : getD ns c 0 ≤ k → 128 ≤ getD cs c 0 → ltb (getD cs c 0) (128 + k) ≡ ruled-out k gone ns cs c
+  unfolding ruled-out
+  ruled-taken h q =
+      ap (λ (x : ℕ). ltb x (128 + k)) (getD-any cs c 0 255 l) ∙ rules-taken k gone (getD ns c 0) (getD cs c 255) h (omega (arith, getD-any cs c 0 255 l))
 
 -- ---- radios ruled out
 
@@ -137,50 +141,16 @@ module _ (k : ℕ) (gone : Bool) (ns cs old : List ℕ) (room : length old ≡ r
   pub ruling-end : (i : ℕ) (new : List ℕ) → i ≡ length ns → Ruling k gone ns cs old i new → Ruled-out k gone ns cs old new
   ruling-end i new e h = record { long = h .long; is = rw (← e) (h .is) }
 
--- ---- the two peels
+-- ---- one radio held
 
-pub begin-state : (links held : List ℕ) (k a r : ℕ) (cs due : List ℕ) → length due ≡ row-bytes → Due k a held cs due → Peel-begin links held k a r cs
-    → Peel-state links held k a cs due
-begin-state links held k a r cs due long d h =
-    record { peeling = h .peeling; low = h .low; long = h .long; due-long = long; due-is = d; kept = h .kept }
-
-module _ (links untried : List ℕ) (k a b r : ℕ) (cs : List ℕ) (small : b < max-radios) (on : marked untried 0 b ≡ true) where
-  -- r was taken with all untried held
-  pub left-early : (t : Bool) → t ≡ false → Peel-end links untried k a r cs t → Left-end links k a b r cs false
-  left-early t e h = record {
-    peeling = h .peeling;
-    long = h .long;
-    high-end = h .kept b small on;
-    answer = sym e ∙ h .answer;
-    done = λ no. never false no refl;
-  }
-
-  module _ (held : List ℕ) (put : held ≡ put-bit true 0 b (replicate row-bytes 0)) where
-    held-at : (w : ℕ) → w < max-radios → marked held 0 w ≡ eqb b w
-    unfolding byte-at
-    held-at w lw =
-        ap (λ (xs : List ℕ). marked xs 0 w) put
-        ∙ marked-put-bit true 0 b (replicate row-bytes 0) 0 w small lw (omega (arith, length-replicate {A = ℕ} row-bytes 0))
-        ∙ rw (marked-replicate row-bytes 0 w (omega arith)) (same (eqb b w))
-      where
-        same : (t : Bool) → cond t true false ≡ t
-        same true = refl
-        same false = refl
-
-    pub left-begin : (t : Bool) → t ≡ true → k < 128 → Peel-end links untried k a r cs t → Peel-begin links held k a r cs
-    left-begin t e low h = record {
-      peeling = h .peeling;
-      low = low;
-      long = h .long;
-      kept = λ w lw q. subst (λ (x : ℕ). stays (graph-of links) k cs x ≡ true) (eqb-true b w (sym (held-at w lw) ∙ q)) (h .kept b small on);
-      there = sym (h .answer) ∙ e;
-    }
-
-    pub left-late : (t : Bool) (ds : List ℕ) → Peel-end links held k a r ds t → Left-end links k a b r ds t
-    left-late t ds h = record {
-      peeling = h .peeling;
-      long = h .long;
-      high-end = h .kept b small (held-at b small ∙ eq-eqb b b refl);
-      answer = h .answer;
-      done = λ yes w l na nb. h .done yes w l na (held-at w (inside-left ds w (h .long) l) ∙ ne-eqb b w (λ e. nb (sym e)));
-    }
+module _ (b : ℕ) (small : b < max-radios) (held : List ℕ) (put : held ≡ put-bit true 0 b (replicate row-bytes 0)) where
+  pub held-at : (w : ℕ) → w < max-radios → marked held 0 w ≡ eqb b w
+  unfolding byte-at
+  held-at w lw =
+      ap (λ (xs : List ℕ). marked xs 0 w) put
+      ∙ marked-put-bit true 0 b (replicate row-bytes 0) 0 w small lw (omega (arith, length-replicate {A = ℕ} row-bytes 0))
+      ∙ rw (marked-replicate row-bytes 0 w (omega arith)) (same (eqb b w))
+    where
+      same : (t : Bool) → cond t true false ≡ t
+      same true = refl
+      same false = refl

@@ -1,18 +1,22 @@
 -- The peel of a level: what its functions do to the counters and to the set of radios that are due.
 --   graph-of links     the graph that a links table marks, of as many radios as it has rows
 --   Sound-links        the links table of sound tables
---   is-due             v is to be taken: its counter is at most the level, and it is neither a nor held
+--   is-due             v is to be taken: its counter is at most the level, it is not a, and if it is held the counter is below the level
 --   Due                a set has exactly the radios that are to be taken
 --   Lowered            some radios, where they are left, have one less, and are due where they are then to be taken
---   Peel-state         a peel on its way, with nothing held taken
+--   gone-of            r is taken, or a has fewer neighbours that stay than the level: no pair of a whose other end stays lifts r
+--   Kept               a held radio stays, or was taken with fewer neighbours than the level
+--   Peel-state         a peel on its way
+--   Base               counters of a peel with r left and enough neighbours of a
 --   Peel-begin         what a peel begins with
 --   Peel-end           what the peel comes back with
 -- A set of radios is one row. Definitions only.
 use mathlib.Core.Path.{_≡_}
+use mathlib.Core.Logic.{_⊎_}
 use mathlib.Core.Bool.{Bool, true, false, _&&_, _||_, not, cond}
 use mathlib.Core.List.{List}
-use Prim.Native.Nat.{ℕ, _-_, _/_, _<_}
-use lib.Dec.{leb, eqb}
+use Prim.Native.Nat.{ℕ, _+_, _-_, _/_, _≤_, _<_}
+use lib.Dec.{ltb, leb, eqb}
 use lib.ListN.{length, getD}
 use Rattle.lists.specs.Lists.{member}
 use Rattle.mesh.specs.Limits.{max-radios, row-bytes}
@@ -31,7 +35,7 @@ pub record Sound-links (links : List ℕ) : Type 0 where
   pub is-sound : fits-sound (length links / row-bytes) (tables links numbers order) ≡ true
 
 unfoldable pub is-due : (k a : ℕ) → (held counters : List ℕ) → (v : ℕ) → Bool
-is-due k a held cs v = leb (getD cs v 255) k && (not (eqb v a) && not (marked held 0 v))
+is-due k a held cs v = leb (getD cs v 255) k && (not (eqb v a) && (ltb (getD cs v 255) k || not (marked held 0 v)))
 
 abbrev pub Due : (k a : ℕ) → (held counters due : List ℕ) → Type 0
 Due k a held cs due = (v : ℕ) → v < max-radios → marked due 0 v ≡ is-due k a held cs v
@@ -43,26 +47,42 @@ pub record Lowered (k a : ℕ) (held xs cs due ds new : List ℕ) : Type 0 where
   pub counter-after : (w : ℕ) → getD ds w 255 ≡ cond (left cs w && member w xs) (getD cs w 255 - 1) (getD cs w 255)
   pub due-after : (w : ℕ) → w < max-radios → marked new 0 w ≡ (marked due 0 w || ((left cs w && member w xs) && is-due k a held ds w))
 
--- no held radio is taken
+unfoldable pub gone-of : (k a r : ℕ) → (counters : List ℕ) → Bool
+gone-of k a r cs = not (left cs r) || ltb (getD cs a 255) k
+
+abbrev pub Kept : (links held : List ℕ) → (k : ℕ) → (counters : List ℕ) → Type 0
+Kept links held k cs =
+    (w : ℕ) → w < max-radios → marked held 0 w ≡ true →
+    (stays (graph-of links) k cs w ≡ true) ⊎ ((128 ≤ getD cs w 255) × (getD cs w 255 < 128 + k))
+
 pub record Peel-state (links held : List ℕ) (k a : ℕ) (cs due : List ℕ) : Type 0 where
   pub peeling : Peeling (graph-of links) k a cs
   pub low : k < 128
   pub long : length cs ≡ max-radios
   pub due-long : length due ≡ row-bytes
   pub due-is : Due k a held cs due
-  pub kept : (w : ℕ) → w < max-radios → marked held 0 w ≡ true → stays (graph-of links) k cs w ≡ true
+  pub kept : Kept links held k cs
 
-pub record Peel-begin (links held : List ℕ) (k a r : ℕ) (cs : List ℕ) : Type 0 where
+pub record Base (links : List ℕ) (k a r : ℕ) (cs : List ℕ) : Type 0 where
   pub peeling : Peeling (graph-of links) k a cs
   pub low : k < 128
   pub long : length cs ≡ max-radios
-  pub kept : (w : ℕ) → w < max-radios → marked held 0 w ≡ true → stays (graph-of links) k cs w ≡ true
   pub there : left cs r ≡ true
+  pub fits : k ≤ getD cs a 255
 
--- `is-left` is whether r is left; where it is, what is left, but for a and the held ones, has more than k neighbours that stay
-pub record Peel-end (links held : List ℕ) (k a r : ℕ) (cs : List ℕ) (is-left : Bool) : Type 0 where
+-- b is the radio whose end ends the peel
+pub record Peel-begin (links held : List ℕ) (k a r b : ℕ) (cs : List ℕ) : Type 0 where
+  pub base : Base links k a r cs
+  pub kept : Kept links held k cs
+  pub stop-there : left cs b ≡ true
+
+-- `whole` is whether none is due: then what is left, but for a, has at least k neighbours that stay, and more where it is not held
+pub record Peel-end (links held : List ℕ) (k a r b : ℕ) (cs : List ℕ) (whole : Bool) : Type 0 where
   pub peeling : Peeling (graph-of links) k a cs
   pub long : length cs ≡ max-radios
-  pub kept : (w : ℕ) → w < max-radios → marked held 0 w ≡ true → stays (graph-of links) k cs w ≡ true
-  pub answer : is-left ≡ left cs r
-  pub done : is-left ≡ true → (w : ℕ) → left cs w ≡ true → (w ≡ a → ⊥) → marked held 0 w ≡ false → k < getD cs w 255
+  pub kept : Kept links held k cs
+  pub base : whole ≡ true → Base links k a r cs
+  pub stop-left : whole ≡ true → left cs b ≡ true
+  pub held-fit : whole ≡ true → (w : ℕ) → left cs w ≡ true → (w ≡ a → ⊥) → k ≤ getD cs w 255
+  pub full : whole ≡ true → (w : ℕ) → left cs w ≡ true → (w ≡ a → ⊥) → marked held 0 w ≡ false → k < getD cs w 255
+  pub ended : whole ≡ false → (gone-of k a r cs ≡ true) ⊎ (left cs b ≡ false)

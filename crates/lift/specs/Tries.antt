@@ -2,11 +2,13 @@
 --   Search-site        sound tables and the not-lower counts that the check found
 --   counter-start      the counter of v before the peel
 --   Started            the counters before the peel
---   Left-end           what the peel of a pair comes back with
---   carried            with the link, v would have more neighbours that stay than the level
+--   Search-numbers     sound tables, for what reads no counts
 --   ruled-out          the pair of a and c does not lift the radio: c had too few neighbours when it was taken, or the radio was taken and c not
 --   Ruled-out          the untried radios without the ones ruled out
 --   Trying             untried are higher ends of candidates, and no other pair of a lifts r
+--   Settling           counters that a peel with the untried radios held begins with
+--   Settled-at         such a peel is done: the untried radios stay, and b is the lowest
+--   Settled            what the peel with all untried radios held comes back with
 --   Tried              what trying a pair comes back with
 -- Definitions only.
 use mathlib.Core.Path.{_≡_}
@@ -15,17 +17,18 @@ use mathlib.Core.List.{List}
 use Prim.Native.Nat.{ℕ, _+_, _/_, _≤_, _<_}
 use lib.Dec.{ltb, leb, eqb}
 use lib.ListN.{length, getD}
-use Rattle.lists.specs.Lists.{count, range}
+use Rattle.lists.specs.Lists.{count, range, head-or}
 use Rattle.mesh.specs.Limits.{max-radios, row-bytes}
 use Rattle.mesh.specs.Graph.{link-of, neighbours-in}
 use Rattle.mesh.specs.Cores.{number}
 use Rattle.mesh.specs.Tables.{tables, marked}
 use Rattle.calls.specs.Lift.{lifts}
 use Rattle.soundness.specs.Checks.{fits-sound}
-use Rattle.lifting.specs.Peeling.{left, stays, Peeling}
+use Rattle.lifting.specs.Peeling.{stays}
 use Rattle.lifting.specs.Search.{candidate, Untried}
-use Rattle.lift_parts.specs.Counters.{carries, rules-out}
-use Rattle.lift.specs.Peels.{graph-of}
+use Rattle.rows.specs.Rows.{row-listed}
+use Rattle.lift_parts.specs.Counters.{rules-out}
+use Rattle.lift.specs.Peels.{graph-of, Kept, Base}
 
 -- the order is the one of the tables
 pub record Search-site (links numbers highs : List ℕ) : Type 0 where
@@ -34,24 +37,18 @@ pub record Search-site (links numbers highs : List ℕ) : Type 0 where
   pub highs-long : length numbers ≤ length highs
   pub counted : (v : ℕ) → v < length numbers → getD highs v 0 ≡ neighbours-in (graph-of links) v (λ w. leb (getD numbers v 0) (getD numbers w 0))
 
+-- highs are counts that the check found
+pub record Search-numbers (links numbers : List ℕ) : Type 0 where
+  pub highs : List ℕ
+  pub site : Search-site links numbers highs
+
 unfoldable pub counter-start : (k : ℕ) → (numbers highs : List ℕ) → (v : ℕ) → ℕ
 counter-start k ns hs v = cond (ltb v (length ns) && eqb (getD ns v 0) k) (getD hs v 0) 255
 
 abbrev pub Started : (k : ℕ) → (numbers highs counters : List ℕ) → Type 0
 Started k ns hs cs = (v : ℕ) → v < max-radios → getD cs v 255 ≡ counter-start k ns hs v
 
--- `is-left` is whether r is left; where it is, what is left, but for a and b, has more than k neighbours that stay
-pub record Left-end (links : List ℕ) (k a b r : ℕ) (cs : List ℕ) (is-left : Bool) : Type 0 where
-  pub peeling : Peeling (graph-of links) k a cs
-  pub long : length cs ≡ max-radios
-  pub high-end : stays (graph-of links) k cs b ≡ true
-  pub answer : is-left ≡ left cs r
-  pub done : is-left ≡ true → (w : ℕ) → left cs w ≡ true → (w ≡ a → ⊥) → (w ≡ b → ⊥) → k < getD cs w 255
-
-unfoldable pub carried : (k : ℕ) → (counters : List ℕ) → (v : ℕ) → Bool
-carried k cs v = carries k (getD cs v 255)
-
--- `gone` is whether the radio was taken
+-- `gone` is whether no pair whose other end stays lifts the radio
 unfoldable pub ruled-out : (k : ℕ) → (gone : Bool) → (numbers counters : List ℕ) → (c : ℕ) → Bool
 ruled-out k gone ns cs c = rules-out k gone (getD ns c 0) (getD cs c 255)
 
@@ -67,8 +64,24 @@ pub record Trying (links : List ℕ) (r a : ℕ) (untried : List ℕ) : Type 0 w
       (a < c) × (c < (graph-of links) .n) × (candidate (graph-of links) (number (graph-of links) r) a c ≡ true)
   pub rest : Untried (graph-of links) r a (marked untried 0)
 
+pub record Settling (links : List ℕ) (k a r : ℕ) (untried cs : List ℕ) : Type 0 where
+  pub base : Base links k a r cs
+  pub kept : Kept links untried k cs
+
+pub record Settled-at (links : List ℕ) (k r a : ℕ) (untried cs : List ℕ) (b : ℕ) : Type 0 where
+  pub trying : Trying links r a untried
+  pub base : Base links k a r cs
+  pub stay : (c : ℕ) → c < max-radios → marked untried 0 c ≡ true → stays (graph-of links) k cs c ≡ true
+  pub first : b ≡ head-or max-radios (row-listed untried 0)
+
+-- b is 512 where no pair of a lifts r
+pub record Settled (links : List ℕ) (k r a : ℕ) (untried cs : List ℕ) (b : ℕ) : Type 0 where
+  pub some : b < max-radios → Settled-at links k r a untried cs b
+  pub none : max-radios ≤ b → (c : ℕ) → a < c → c < (graph-of links) .n → lifts (graph-of links) r (link-of a c) ≡ false
+
 -- old before, new after
 pub record Tried (links : List ℕ) (r a b : ℕ) (old new : List ℕ) (found : Bool) : Type 0 where
   pub does : found ≡ true → lifts (graph-of links) r (link-of a b) ≡ true
   pub next : found ≡ false → Trying links r a new
+  pub still : found ≡ false → (c : ℕ) → c < max-radios → marked new 0 c ≡ true → marked old 0 c ≡ true
   pub fewer : found ≡ false → count (marked new 0) (range 0 max-radios) < count (marked old 0) (range 0 max-radios)

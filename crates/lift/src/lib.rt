@@ -1,6 +1,6 @@
 // One link that lifts a radio: the first pair, by lower radio and then higher, whose link is down, would be taken up now, and would raise
-// the radio's core number. Only pairs can whose lower number is the radio's own, K. A peel of level K that shows that a pair does not lift
-// the radio rules others out too. Refused: 1 to 4, and 20 where there is no such pair. Tables are only read. No public function has a
+// the radio's core number. Only pairs can whose lower number is the radio's own, K, and whose first end in the order has exactly K later
+// neighbours and stands no later than the radio. A peel of level K that shows that a pair does not lift the radio rules others out too. Refused: 1 to 4, and 20 where there is no such pair. Tables are only read. No public function has a
 // `requires`.
 ghost use mathlib.Core.Path.{_≡_};
 ghost use lib.ListN.{length};
@@ -16,19 +16,19 @@ mod peel;
 mod search;
 mod tries;
 
-// Questions 1 to 3: the refusal number, or 0. At 0, `highs` holds how many neighbours of each radio have a number that is not below its
-// own; else it holds anything.
+// Questions 1 to 3: the refusal number, or 0. At 0, `places` holds where each radio stands in the order, and `highs` how many of its neighbours
+// have a number that is not below its own; else they hold anything.
 fn checked<'a>(
     n: u32,
     links: &'a [u8],
     numbers: &'a [u8],
     order: &'a [u16],
+    places: &mut [u16],
     highs: &mut [u8],
 ) -> u32
-    requires { ⌜ length (now highs) ≡ max-radios ⌝ }
-    ensures { λ q. ⌜ Checked n (lent (links .entry) (numbers .entry) (order .entry)) (now (highs .exit)) q ⌝ }
+    requires { ⌜ (length (now places) ≡ max-radios) × (length (now highs) ≡ max-radios) ⌝ }
+    ensures { λ q. ⌜ Checked n (lent (links .entry) (numbers .entry) (order .entry)) (now (places .exit)) (now (highs .exit)) q ⌝ }
 {
-    let mut places = [0u16; Site::RADIOS as usize];
     let number = tables::sizes::of_tables(
         Site { radios: n },
         links.len(),
@@ -38,7 +38,7 @@ fn checked<'a>(
     if number != 0 {
         return number;
     }
-    if !soundness::examine(n, links, numbers, order, &mut places, highs) {
+    if !soundness::examine(n, links, numbers, order, places, highs) {
         return Refusal::UNSOUND;
     }
     0
@@ -49,8 +49,9 @@ fn checked<'a>(
 pub fn lift<'a>(n: u32, v: u32, links: &'a [u8], numbers: &'a [u8], order: &'a [u16]) -> Pair
     ensures { λ r. ⌜ Lift-contract n v (lent (links .entry) (numbers .entry) (order .entry)) r ⌝ }
 {
+    let mut places = [0u16; Site::RADIOS as usize];
     let mut highs = [0u8; Site::RADIOS as usize];
-    let number = checked(n, links, numbers, order, &mut highs);
+    let number = checked(n, links, numbers, order, &mut places, &mut highs);
     if number != 0 {
         return Pair {
             number,
@@ -65,6 +66,17 @@ pub fn lift<'a>(n: u32, v: u32, links: &'a [u8], numbers: &'a [u8], order: &'a [
             high: 0,
         };
     }
-    let pair = search::first_pair(links, numbers, &highs, v);
-    lift_parts::answer(pair.low, pair.high)
+    let pair = search::first_pair(links, numbers, &places, &highs, v);
+    if Site::RADIOS <= pair.low {
+        return Pair {
+            number: Refusal::NO_LIFT,
+            low: 0,
+            high: 0,
+        };
+    }
+    Pair {
+        number: 0,
+        low: pair.low,
+        high: pair.high,
+    }
 }

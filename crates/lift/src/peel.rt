@@ -1,45 +1,54 @@
 // The peel of a level, without any new link: radios with at most K neighbours that are left or above are taken, never a, the lower end of
-// the pairs tried, nor a held radio. A counter below 128 is of a radio that is left, 128 more of one that is taken, as it was when it was
+// the pairs tried, and a held radio only with fewer than K, where the link of its pair would not keep it. A counter below 128 is of a radio that is left, 128 more of one that is taken, as it was when it was
 // taken; 255 stands for no radio of the level.
 ghost use mathlib.Core.Path.{_≡_};
-ghost use mathlib.Core.Bool.{true};
+ghost use mathlib.Core.Bool.{true, _||_, not};
 ghost use Prim.Native.Nat.{_≤_, _<_, _-_};
 ghost use mathlib.Core.List.{[], _∷_};
-ghost use lib.ListN.{length, take};
+ghost use lib.ListN.{length, take, replicate};
 ghost use Rattle.mesh.specs.Limits.{max-radios, row-bytes};
 ghost use Rattle.lists.specs.Facts.{Distinct};
 ghost use Rattle.lists.specs.Lists.{Entries-below, range, count};
 ghost use Rattle.mesh.specs.Tables.{marked};
 ghost use Rattle.lifting.specs.Peeling.{left};
-ghost use Rattle.lift.specs.Peels.{is-due, Due, Lowered, Sound-links, Peel-state, Peel-end};
-use lift_parts::GONE;
+ghost use Rattle.lift.specs.Peels.{is-due, Due, gone-of, Lowered, Sound-links, Peel-state, Peel-begin, Peel-end};
 use mesh::Site;
+
+// What a counter grows by when its radio is taken.
+pub(crate) const GONE: u8 = 128;
 
 // The counter of what is no radio of the level.
 pub(crate) const NO_COUNTER: u8 = 255;
 
-// Whether radio v is to be taken: its counter is at most the level, and it is neither a nor held.
+// Whether radio v is to be taken: its counter is at most the level, it is not a, and if it is held the counter is below the level.
 fn is_due(v: u32, level: u8, a: u32, held: &[u8], counters: &[u8]) -> bool
     requires { ⌜ v < length (now counters) ⌝ }
     ensures { λ r. ⌜ r ≡ is-due level a (now (held .entry)) (now (counters .entry)) v ⌝ }
 {
-    if level < counters[v as usize] {
+    let x = counters[v as usize];
+    if level < x {
         return false;
     }
     if v == a {
         return false;
     }
+    if x < level {
+        return true;
+    }
     !rows::is_marked(held, 0, v)
 }
 
-// Makes exactly the radios due that are to be taken.
+// Makes exactly the radios due that are to be taken, where none is due.
 pub(crate) fn mark_due(level: u8, a: u32, held: &[u8], counters: &[u8], due: &mut [u8])
-    requires { ⌜ (length (now counters) ≡ max-radios) × (length (now due) ≡ row-bytes) ⌝ }
-    ensures { λ _. ⌜ Due level a (now (held .entry)) (now (counters .entry)) (now (due .exit)) ⌝ }
+    requires { ⌜ (length (now counters) ≡ max-radios) × (now due ≡ replicate row-bytes 0) ⌝ }
+    ensures long { λ _. ⌜ length (now (due .exit)) ≡ row-bytes ⌝ }
+    ensures is { λ _. ⌜ Due level a (now (held .entry)) (now (counters .entry)) (now (due .exit)) ⌝ }
 {
     let mut v: u32 = 0;
     while v < Site::RADIOS {
-        rows::put_bit(due, is_due(v, level, a, held, counters), 0, v);
+        if is_due(v, level, a, held, counters) {
+            rows::put_bit(due, true, 0, v);
+        }
         v += 1;
     }
 }
@@ -102,24 +111,48 @@ fn take(links: &[u8], v: u32, level: u8, a: u32, held: &[u8], counters: &mut [u8
     lower(&near, k, level, a, held, counters, due);
 }
 
-// Takes the lowest radio due, again and again, until none is due or radio r is taken. Comes back with whether r is left.
+// Whether no pair of a whose other end stays lifts r: r is taken, or a has fewer neighbours that stay than the level.
+pub(crate) fn is_gone(r: u32, a: u32, level: u8, counters: &[u8]) -> bool
+    requires { ⌜ (r < length (now counters)) × (a < length (now counters)) ⌝ }
+    ensures { λ x. ⌜ x ≡ gone-of level a r (now (counters .entry)) ⌝ }
+{
+    if GONE <= counters[r as usize] {
+        return true;
+    }
+    counters[a as usize] < level
+}
+
+// Whether the peel is over before none is due: no such pair lifts r, or radio `stop` is taken.
+fn is_over(r: u32, stop: u32, a: u32, level: u8, counters: &[u8]) -> bool
+    requires { ⌜ (r < length (now counters)) × (stop < length (now counters)) × (a < length (now counters)) ⌝ }
+    ensures { λ x. ⌜ x ≡ (gone-of level a r (now (counters .entry)) || not (left (now (counters .entry)) stop)) ⌝ }
+{
+    if is_gone(r, a, level, counters) {
+        return true;
+    }
+    GONE <= counters[stop as usize]
+}
+
+// Takes the lowest radio due, again and again, until none is due, or radio r or radio `stop` is taken, or a has fewer neighbours that stay than
+// the level. Comes back with whether none is due.
 pub(crate) fn peel(
     links: &[u8],
     r: u32,
+    stop: u32,
     level: u8,
     a: u32,
     held: &[u8],
     counters: &mut [u8],
     due: &mut [u8],
 ) -> bool
-    requires { ⌜ Sound-links (now links) × Peel-state (now links) (now held) level a (now counters) (now due) ×
-        (r < max-radios) × (left (now counters) r ≡ true) ⌝ }
-    ensures { λ x. ⌜ Peel-end (now (links .entry)) (now (held .entry)) level a r (now (counters .exit)) x ⌝ }
+    requires { ⌜ Sound-links (now links) × Peel-begin (now links) (now held) level a r stop (now counters) × (a < max-radios) ×
+        (length (now due) ≡ row-bytes) × Due level a (now held) (now counters) (now due) ⌝ }
+    ensures { λ x. ⌜ Peel-end (now (links .entry)) (now (held .entry)) level a r stop (now (counters .exit)) x ⌝ }
 {
     let mut v = rows::first_marked(due, 0);
     while v < Site::RADIOS {
         take(links, v, level, a, held, counters, due);
-        if GONE <= counters[r as usize] {
+        if is_over(r, stop, a, level, counters) {
             return false;
         }
         v = rows::first_marked(due, 0);

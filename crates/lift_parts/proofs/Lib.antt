@@ -1,2 +1,2 @@
--- Each test of the code as a case of its definition.
-mod CounterLaws
+-- Laws of the tests, case by case.
+pub mod CounterLaws

@@ -115,7 +115,7 @@ module _ (g : Graph) (xs : List ℕ) (valid : Valid max-neighbours g xs) (k r a 
         go (inr e) = omega (arith, unchanged-number true a c g x l e)
 
     -- the radios whose number is then greater than k
-    risen : ℕ → Bool
+    pub risen : ℕ → Bool
     risen x = ltb x (g .n) && leb (suc k) (number t x)
 
     risen-radio : (x : ℕ) → risen x ≡ true → x < g .n
@@ -130,7 +130,7 @@ module _ (g : Graph) (xs : List ℕ) (valid : Valid max-neighbours g xs) (k r a 
     unfolding risen
     in-risen x l m = and-both (ltb x (g .n)) (leb (suc k) (number t x)) (lt-ltb x (g .n) l) (le-leb (suc k) (number t x) m)
 
-    r-risen : risen r ≡ true
+    pub r-risen : risen r ≡ true
     r-risen = in-risen r lr (omega (arith, h .greater))
 
     -- with the link each has k + 1 among them
@@ -188,7 +188,7 @@ module _ (g : Graph) (xs : List ℕ) (valid : Valid max-neighbours g xs) (k r a 
           adds-most apart x (filter risen (range 0 (g .n))) (distinct-filter risen (range 0 (g .n)) (distinct-range 0 (g .n))),
         )
 
-    lift-group : Pair-group g k a c risen
+    pub lift-group : Pair-group g k a c risen
     lift-group = record {
       radio = risen-radio;
       high = λ x e. omega (arith, by-one x (risen-radio x e), risen-number x e);

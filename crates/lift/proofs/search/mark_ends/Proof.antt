@@ -12,19 +12,23 @@ use Rattle.lift.proofs.search.mark_ends.Statement.{statement}
 use Rattle.lift.proofs.search.mark_ends.Tie as tie
 
 abbrev Inv-loop : tie.InvT-loop
-Inv-loop a level links numbers free untried₀ c₀ untried c = Marking (may-lift a level links numbers free) untried₀ c untried × (c ≤ length numbers)
+Inv-loop a links numbers places free tight untried₀ c₀ untried c = Marking (may-lift a links places free tight) untried₀ c untried × (c ≤ length numbers)
 
 abbrev μ-loop : tie.MeasureT-loop
-μ-loop a level links numbers free untried₀ c₀ untried c = length numbers - c
+μ-loop a links numbers places free tight untried₀ c₀ untried c = length numbers - c
 
 loop-holds : tie.Need-loop-holds Inv-loop μ-loop
-loop-holds c = (marking-none _ _ (c .before .before .before .before .pre .1), omega arith)
+loop-holds c = (marking-none _ _ (c .before .before .before .before .before .before .pre .1), omega arith)
+
+may-lift-requires : tie.Need-may-lift-requires Inv-loop μ-loop
+may-lift-requires c κs = (omega (arith, c .before .before .before .before .before .before .before .before .before .pre .2, c .before .before .before .before .before .before .before .before .before .pre .3), omega (arith, c .before .loop-test .taken, c .before .before .before .before .before .before .before .before .before .pre .3))
 
 loop-again : tie.Need-loop-again Inv-loop μ-loop
 loop-again c =
     let at-loop = c .before .before .before .before .before .before in
+    let start = c .before .before .before .before .before .before .before .before .before .before .before .before .before in
     let v = at-loop .loop .c in (
-      marking-turn _ _ (c .before .before .before .before .before .before .before .before .before .before .before .pre .1) v _ _ (omega (arith, c .before .before .before .before .before .before .before .before .before .before .before .pre .0, c .before .before .before .before .before .loop-test .taken))
+      marking-turn _ _ (start .pre .1) v _ _ (omega (arith, start .pre .0, c .before .before .before .before .before .loop-test .taken))
           (c .before .before .put-bit .ensures ∙ ap (λ (t : Bool). put-bit t 0 v (at-loop .loop .untried)) (c .before .before .before .may-lift .ensures)) (at-loop .loop .inv .0),
       omega (arith, c .before .before .before .before .before .loop-test .taken),
     )
@@ -41,5 +45,5 @@ returns c =
 pub mark-ends-spec : {M : Type 1} → statement M
 mark-ends-spec =
     tie.close (
-    tie.spec Inv-loop μ-loop loop-holds (λ c. search needs) (λ c κs. search needs) (λ c. search needs) (λ c κs. search needs) (λ c. search needs) (λ c. search needs) loop-again
-    (λ c. c .before .loop .inv .0 .long) returns)
+    tie.spec Inv-loop μ-loop loop-holds (λ c. search needs) may-lift-requires (λ c. search needs) (λ c κs. search needs) (λ c. search needs) (λ c. search needs)
+    loop-again (λ c. c .before .loop .inv .0 .long) returns)

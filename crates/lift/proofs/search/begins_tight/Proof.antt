@@ -1,0 +1,11 @@
+-- `search::begins_tight` meets its contract: the test picks the end that stands first.
+use borrow.Author.Needs.{needs}
+use Rattle.lift.proofs.OrderLaws.{first-second, first-own}
+use Rattle.lift.proofs.search.begins_tight.Statement.{statement}
+use Rattle.lift.proofs.search.begins_tight.Tie as tie
+
+pub begins-tight-spec : {M : Type 1} → statement M
+begins-tight-spec =
+    tie.close (
+    tie.spec (λ c. search needs) (λ c. search needs) (λ c. search needs) (λ c. search needs) (λ c κs. search needs) (λ c. search (needs, first-second))
+    (λ c κs. search needs) (λ c. search (needs, first-own)))
