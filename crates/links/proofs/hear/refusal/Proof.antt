@@ -1,5 +1,4 @@
 -- `hear::refusal` meets its contract: the tests are the questions, in their order, and the check finds what the first link needs.
-use mathlib.Core.Path.{refl}
 use borrow.Author.Tests.{not-true, not-false}
 use borrow.Author.Needs.{needs}
 use Rattle.mesh.specs.Tables.{tables}
@@ -13,7 +12,7 @@ unfolding lengths-of
 returns c =
     let asked = c .before in
     let x = asked .before .before .before .before .before .args in
-    hear-lengths (x .n) (x .heard .now) (x .further) (tables (x .links .now) (x .numbers .now) (x .order .now)) _ _ (asked .of-tables .result)
+    hear-lengths (x .n) (x .heard .now) (x .further) (tables (x .links .now) (x .numbers .now) (x .order .now)) (asked .of-tables .result)
     (asked .of-tables .ensures) (c .if1 .taken) _ _
 
 returns-2 : tie.Need-returns-2
@@ -21,7 +20,7 @@ unfolding lengths-of
 returns-2 c =
     let asked = c .before .before in
     let x = asked .before .before .before .before .before .args in
-    heard-other (x .n) (x .heard .now) (x .further) (tables (x .links .now) (x .numbers .now) (x .order .now)) _ _ (asked .of-tables .result)
+    heard-other (x .n) (x .heard .now) (x .further) (tables (x .links .now) (x .numbers .now) (x .order .now)) (asked .of-tables .result)
     (asked .of-tables .ensures) (c .before .if1 .left) (c .if2 .taken) _ _
 
 returns-3 : tie.Need-returns-3
@@ -29,7 +28,7 @@ unfolding lengths-of
 returns-3 c =
     let asked = c .before .before .before in
     let x = asked .before .before .before .before .before .args in
-    further-other (x .n) (x .heard .now) (x .further) (tables (x .links .now) (x .numbers .now) (x .order .now)) _ _ (asked .of-tables .result)
+    further-other (x .n) (x .heard .now) (x .further) (tables (x .links .now) (x .numbers .now) (x .order .now)) (asked .of-tables .result)
     (asked .of-tables .ensures) (c .before .before .if1 .left) (c .before .if2 .left) (c .if3 .taken) _ _
 
 returns-4 : tie.Need-returns-4
@@ -38,10 +37,11 @@ returns-4 c =
     let examined = c .before in
     let tested = examined .before .before .before in
     let asked = tested .before .before .before in
-    let x = asked .before .before .before .before .before .args in
-    hear-unsound (x .n) (x .heard .now) (x .further) (tables (x .links .now) (x .numbers .now) (x .order .now)) _ _ (asked .of-tables .result)
+    let s = asked .before .before .before .before .before in
+    let x = s .args in
+    hear-unsound (x .n) (x .heard .now) (x .further) (tables (x .links .now) (x .numbers .now) (x .order .now)) (asked .of-tables .result)
     (asked .of-tables .ensures) (tested .before .before .if1 .left) (tested .before .if2 .left) (tested .if3 .left)
-    (x .places .now) _ (x .highs .now) _ refl refl (examined .examine .result) (examined .examine .ensures)
+    (x .places .now) _ (x .highs .now) _ (s .pre .0) (s .pre .1) (examined .examine .result) (examined .examine .ensures)
     (not-true (examined .examine .result) (c .if4 .taken))
 
 returns-5 : tie.Need-returns-5
@@ -50,10 +50,11 @@ returns-5 c =
     let examined = c .before .before in
     let tested = examined .before .before .before in
     let asked = tested .before .before .before in
-    let x = asked .before .before .before .before .before .args in
-    hear-sound (x .n) (x .heard .now) (x .further) (tables (x .links .now) (x .numbers .now) (x .order .now)) _ _ (asked .of-tables .result)
+    let s = asked .before .before .before .before .before in
+    let x = s .args in
+    hear-sound (x .n) (x .heard .now) (x .further) (tables (x .links .now) (x .numbers .now) (x .order .now)) (asked .of-tables .result)
     (asked .of-tables .ensures) (tested .before .before .if1 .left) (tested .before .if2 .left) (tested .if3 .left)
-    (x .places .now) _ (x .highs .now) _ refl refl (examined .examine .result) (examined .examine .ensures)
+    (x .places .now) _ (x .highs .now) _ (s .pre .0) (s .pre .1) (examined .examine .result) (examined .examine .ensures)
     (not-false (examined .examine .result) (c .before .if4 .left)) _ (c .refusal .ensures)
 
 pub refusal-spec : {M : Type 1} → statement M
