@@ -64,6 +64,10 @@ module _ (n : ℕ) (hs : List ℕ) (f : ℕ) (t : Tables) (q : ℕ) (e : q ≡ t
       heard-long : length hs ≡ row-bytes * n
       heard-long = same ∙ links-long
 
+      -- what the other questions want
+      pub heard-sized : Of-size n hs
+      heard-sized = record { most = most; long = heard-long }
+
       pub further-other : (f ≡ length (t .links) → ⊥) → (places highs : List ℕ) → Hear-asked n hs f t places highs 2
       unfolding heard-lengths ask
       further-other h0 places highs = record {
@@ -84,10 +88,10 @@ module _ (n : ℕ) (hs : List ℕ) (f : ℕ) (t : Tables) (q : ℕ) (e : q ≡ t
         hear-unsound bad =
             record { number = sym (then-asked ∙ rw (sym sound-is ∙ bad)); prepared = λ z. absurd (omega arith) }
 
-        pub hear-sound : r ≡ true → (m : ℕ) → (Of-size n hs → m ≡ rows-refusal n hs) → Hear-asked n hs f t qs js m
+        pub hear-sound : r ≡ true → (m : ℕ) → m ≡ rows-refusal n hs → Hear-asked n hs f t qs js m
         unfolding ask
         hear-sound good m is-asked = record {
-          number = is-asked (record { most = most; long = heard-long }) ∙ sym (then-asked ∙ rw (sym sound-is ∙ good));
+          number = is-asked ∙ sym (then-asked ∙ rw (sym sound-is ∙ good));
           prepared = λ z. record {
             good = fits-sound-lent n t (sym e ∙ yes) ∙ sym sound-is ∙ good;
             places-length = x .places-long ∙ lp;

@@ -3,7 +3,7 @@ use borrow.Author.Tests.{not-true, not-false}
 use borrow.Author.Needs.{needs}
 use Rattle.mesh.specs.Tables.{tables}
 use Rattle.calls.specs.Questions.{lengths-of}
-use Rattle.links.proofs.HearCall.{hear-lengths, heard-other, further-other, hear-unsound, hear-sound}
+use Rattle.links.proofs.HearCall.{heard-sized, hear-lengths, heard-other, further-other, hear-unsound, hear-sound}
 use Rattle.links.proofs.hear.refusal.Statement.{statement}
 use Rattle.links.proofs.hear.refusal.Tie as tie
 
@@ -44,6 +44,15 @@ returns-4 c =
     (x .places .now) _ (x .highs .now) _ (s .pre .0) (s .pre .1) (examined .examine .result) (examined .examine .ensures)
     (not-true (examined .examine .result) (c .if4 .taken))
 
+refusal-requires : tie.Need-refusal-requires
+unfolding lengths-of
+refusal-requires c κs =
+    let tested = c .before .before .before .before in
+    let asked = tested .before .before .before in
+    let x = asked .before .before .before .before .before .args in
+    heard-sized (x .n) (x .heard .now) (x .further) (tables (x .links .now) (x .numbers .now) (x .order .now)) (asked .of-tables .result)
+    (asked .of-tables .ensures) (tested .before .before .if1 .left) (tested .before .if2 .left)
+
 returns-5 : tie.Need-returns-5
 unfolding lengths-of
 returns-5 c =
@@ -60,4 +69,4 @@ returns-5 c =
 pub refusal-spec : {M : Type 1} → statement M
 refusal-spec =
     tie.close (
-    tie.spec (λ c κs. search needs) returns returns-2 returns-3 (λ c κs. search needs) returns-4 (λ c κs. search needs) returns-5)
+    tie.spec (λ c κs. search needs) returns returns-2 returns-3 (λ c κs. search needs) returns-4 refusal-requires returns-5)
