@@ -1,11 +1,19 @@
-// Questions 4 to 7 of a link call, put to the rows of its ends. Nothing is written. No public function has a `requires`.
-ghost use Rattle.end_questions.specs.Ends.{Ends-asked};
+// Questions 4 to 7 of a link call, put to the rows of its ends. Nothing is written. Rows that are not proper have no graph to ask.
+ghost use mathlib.Core.Path.{_≡_};
+ghost use mathlib.Core.Bool.{true};
+ghost use Prim.Native.Nat.{_*_, _≤_};
+ghost use lib.ListN.{length};
+ghost use Rattle.mesh.specs.Limits.{max-radios, max-neighbours, row-bytes};
+ghost use Rattle.mesh.specs.Tables.{graph-in};
+ghost use Rattle.mesh.specs.Sound.{rows-proper};
+ghost use Rattle.calls.specs.Questions.{ends-refusal};
 use calls::Refusal;
 use mesh::Site;
 
 // The refusal number of questions 4 to 7, put in turn to proper rows: 4, 5, 6, 7, or 0 when none got "no".
 pub fn ends_refusal(up: bool, n: u32, a: u32, b: u32, links: &[u8]) -> u32
-    ensures { λ r. ⌜ Ends-asked up n a b (now (links .entry)) r ⌝ }
+    requires { ⌜ (n ≤ max-radios) × (length (now links) ≡ row-bytes * n) × (rows-proper max-neighbours n (now links) ≡ true) ⌝ }
+    ensures { λ r. ⌜ r ≡ ends-refusal max-neighbours up n a b (graph-in n (now (links .entry))) ⌝ }
 {
     if n <= a {
         return Refusal::RADIO;

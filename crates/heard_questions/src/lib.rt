@@ -1,4 +1,4 @@
-// Questions 14 and 7 of a heard table. The table is only read, word by word. No public function has a `requires`.
+// Questions 14 and 7 of a heard table. The table is only read, word by word.
 ghost use mathlib.Core.Path.{_≡_};
 ghost use Prim.Native.Nat.{ℕ, _+_, _*_, _≤_, _<_};
 ghost use lib.Dec.{leb};
@@ -11,8 +11,8 @@ ghost use Rattle.heard_rows.specs.Hearing.{Of-size, hears, none-from, rows-refu
 use calls::Refusal;
 use mesh::Site;
 
-// Whether row a, which is whole in the table, marks no radio at n or above: word by word; of the first the bits below n are shifted out.
-fn is_whole_within(n: u32, heard: &[u8], a: u32) -> bool
+// Whether row a marks no radio at n or above: word by word; of the first the bits below n are shifted out.
+fn is_within(n: u32, heard: &[u8], a: u32) -> bool
     requires { ⌜ row-bytes * a + row-bytes ≤ length (now heard) ⌝ }
     ensures { λ r. ⌜ r ≡ none-from n (now (heard .entry)) a ⌝ }
 {
@@ -29,25 +29,9 @@ fn is_whole_within(n: u32, heard: &[u8], a: u32) -> bool
     true
 }
 
-// Whether row a marks no radio at n or above. A row that is not whole in the table is read bit by bit.
-fn is_within(n: u32, heard: &[u8], a: u32) -> bool
-    ensures { λ r. ⌜ r ≡ none-from n (now (heard .entry)) a ⌝ }
-{
-    if Site::ROW_BYTES * a as usize + Site::ROW_BYTES <= heard.len() {
-        return is_whole_within(n, heard, a);
-    }
-    let mut b = n;
-    while b < Site::RADIOS {
-        if rows::is_marked(heard, a, b) {
-            return false;
-        }
-        b += 1;
-    }
-    true
-}
-
 // Question 14: does no row mark its own radio or one at n or above?
-pub fn is_proper(n: u32, heard: &[u8]) -> bool
+fn is_proper(n: u32, heard: &[u8]) -> bool
+    requires { ⌜ Of-size n (now heard) ⌝ }
     ensures { λ r. ⌜ r ≡ heard-proper n (now (heard .entry)) ⌝ }
 {
     let mut a: u32 = 0;
@@ -105,8 +89,9 @@ fn is_few(heard: &[u8], a: u32) -> bool
 }
 
 // Question 7: has each of n radios at most as many agreed links as a radio may have neighbours? So few radios cannot have more.
-pub fn are_few(n: u32, heard: &[u8]) -> bool
-    ensures { λ r. ⌜ (Of-size n (now (heard .entry)) → r ≡ agreed-few max-neighbours n (now (heard .entry))) ⌝ }
+fn are_few(n: u32, heard: &[u8]) -> bool
+    requires { ⌜ Of-size n (now heard) ⌝ }
+    ensures { λ r. ⌜ r ≡ agreed-few max-neighbours n (now (heard .entry)) ⌝ }
 {
     if n <= Site::NEIGHBOURS {
         return true;
@@ -123,7 +108,8 @@ pub fn are_few(n: u32, heard: &[u8]) -> bool
 
 // The number of questions 14 and 7, or 0.
 pub fn refusal(n: u32, heard: &[u8]) -> u32
-    ensures { λ r. ⌜ (Of-size n (now (heard .entry)) → r ≡ rows-refusal n (now (heard .entry))) ⌝ }
+    requires { ⌜ Of-size n (now heard) ⌝ }
+    ensures { λ r. ⌜ r ≡ rows-refusal n (now (heard .entry)) ⌝ }
 {
     if !is_proper(n, heard) {
         return Refusal::HEARD;

@@ -36,27 +36,20 @@ drop-min zero xs = let e : min 0 (length xs) ≡ 0 = omega arith in rw e
 drop-min (suc k) [] = let e : min (suc k) 0 ≡ 0 = omega arith in rw e
 drop-min (suc k) (x ∷ xs) = let e : min (suc k) (suc (length xs)) ≡ suc (min k (length xs)) = omega arith in rw e (drop-min k xs)
 
-part-up : (k m i j : ℕ) (xs : List ℕ) → j ≡ min m (length xs) → i ≡ min k j → drop k (take m xs) ≡ take (j - i) (drop i xs)
-part-up k m i j xs ej ei =
+pub part-cut : (k m i j : ℕ) (xs : List ℕ) → j ≡ min m (length xs) → i ≡ min k j → drop k (take m xs) ≡ take (j - i) (drop i xs)
+part-cut k m i j xs ej ei =
     let long : length (take j xs) ≡ j = length-take-le j xs (omega arith) in
     let at : min k (length (take j xs)) ≡ i = omega arith in
     let cut : take m xs ≡ take j xs = sym (take-min m xs) ∙ ap (λ (l : ℕ). take l xs) (sym ej) in
     ap (drop k) cut ∙ sym (drop-min k (take j xs)) ∙ ap (λ (l : ℕ). drop l (take j xs)) at ∙ drop-take i j xs
 
-part-down : (k i j : ℕ) (xs : List ℕ) → j ≡ min k (length xs) → i ≡ min 0 j → take k xs ≡ take (j - i) (drop i xs)
-part-down k i j xs ej ei =
-    let none : i ≡ 0 = omega arith in
-    let all : min k (length xs) ≡ j - 0 = omega arith in
-    rw none (sym (take-min k xs) ∙ ap (λ (l : ℕ). take l xs) all)
-
--- s and e are where it starts and ends, whatever the stretch has
-pub changed-part-cut : (up : Bool) (k m i j s e : ℕ) (xs : List ℕ) → e ≡ cond up m k → s ≡ cond up k 0 → j ≡ min e (length xs) → i ≡ min s j
-    → changed-part up k m xs ≡ take (j - i) (drop i xs)
+pub changed-up : (up : Bool) (k m : ℕ) (xs : List ℕ) → up ≡ true → drop k (take m xs) ≡ changed-part up k m xs
 unfolding changed-part
-changed-part-cut true k m i j s e xs pe ps pj pi =
-    part-up k m i j xs (pj ∙ ap (λ (l : ℕ). min l (length xs)) pe) (pi ∙ ap (λ (l : ℕ). min l j) ps)
-changed-part-cut false k m i j s e xs pe ps pj pi =
-    part-down k i j xs (pj ∙ ap (λ (l : ℕ). min l (length xs)) pe) (pi ∙ ap (λ (l : ℕ). min l j) ps)
+changed-up up k m xs e = rw e
+
+pub changed-down : (up : Bool) (k m : ℕ) (xs : List ℕ) → up ≡ false → drop 0 (take k xs) ≡ changed-part up k m xs
+unfolding changed-part
+changed-down up k m xs e = rw e
 
 -- a set has no more radios than a site may have
 pub length-in-order : (xs : List ℕ) → length (in-order xs) ≤ max-radios

@@ -2,7 +2,7 @@
 ghost use mathlib.Core.Bool.{true};
 ghost use mathlib.Core.Path.{_≡_};
 ghost use Prim.Native.Nat.{_+_, _-_, _≤_};
-ghost use lib.ListN.{length, take};
+ghost use lib.ListN.{length, take, drop};
 ghost use lib.Seq.{paste};
 ghost use Rattle.lists.specs.Lists.{overwrite};
 ghost use Rattle.mesh.specs.Lent.{lent};
@@ -103,17 +103,31 @@ fn put_stretch(order: &mut [u16], start: usize, size: usize, taken: usize, stret
     put_before(order, end, &stretch[taken..size]);
 }
 
+// Writes the entries of the stretch from place `start` to before place `end` into the answer table, ascending, and comes back with their
+// count; later entries keep their content. A shorter stretch has what it has.
+fn list_part(start: usize, end: usize, stretch: &[u16], answer: &mut [u16]) -> u32
+    ensures counted { λ r. ⌜ r ≡ length (in-order (drop start (take end (now (stretch .entry))))) ⌝ }
+    ensures listed { λ _. ⌜ now (answer .exit)
+        ≡ overwrite (take (length (now (answer .entry))) (in-order (drop start (take end (now (stretch .entry))))))
+        (now (answer .entry)) ⌝ }
+{
+    let last = fill::least(end, stretch.len());
+    let first = fill::least(start, last);
+    list_ascending(&stretch[first..last], answer)
+}
+
 // Writes the changed radios of a plan into the answer table, ascending, and comes back with their count; later entries keep
-// their content. A stretch that is shorter than the plan says has what it has.
+// their content. Going up the stuck radios rise, going down the taken ones fall.
 fn list_changed(up: bool, taken: usize, size: usize, stretch: &[u16], answer: &mut [u16]) -> u32
     ensures counted { λ r. ⌜ r ≡ length (in-order (changed-part up taken size (now (stretch .entry)))) ⌝ }
     ensures listed { λ _. ⌜ now (answer .exit)
         ≡ overwrite (take (length (now (answer .entry))) (in-order (changed-part up taken size (now (stretch .entry)))))
         (now (answer .entry)) ⌝ }
 {
-    let end = fill::least(change_parts::changed_end(up, taken, size), stretch.len());
-    let start = fill::least(change_parts::changed_start(up, taken), end);
-    list_ascending(&stretch[start..end], answer)
+    if up {
+        return list_part(taken, size, stretch, answer);
+    }
+    list_part(0, taken, stretch, answer)
 }
 
 // What a plan would change: the changed radios stand in front of the answer table, ascending, and the reply tells their count and
@@ -122,7 +136,11 @@ pub fn report(up: bool, plan: Plan, stretch: &[u16], answer: &mut [u16]) -> Repl
     ensures { λ r. ⌜ Reported up (plan .size) (plan .taken) (now (stretch .entry)) (now (answer .entry)) r (now (answer .exit)) ⌝ }
 {
     let count = list_changed(up, plan.taken, plan.size, stretch, answer);
-    change_parts::reply_of(step_of(up, count), count)
+    Reply {
+        number: 0,
+        step: step_of(up, count),
+        count,
+    }
 }
 
 // Writes a plan that fits: the link, the numbers of the first k listed radios, the stretch.

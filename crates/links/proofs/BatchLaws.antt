@@ -28,12 +28,12 @@ use Rattle.links.proofs.StepLaws.{fits-good}
 
 -- ---- the questions
 
-module _ (n k : ℕ) (t : Tables) (p h q : ℕ) (e : q ≡ tables-refusal n (lengths-of t)) where
-  pub batch-lengths : (q ≡ 0 → ⊥) → (places highs : List ℕ) → Batch-asked n k t p h places highs q
+module _ (n k : ℕ) (t : Tables) (q : ℕ) (e : q ≡ tables-refusal n (lengths-of t)) where
+  pub batch-lengths : (q ≡ 0 → ⊥) → (places highs : List ℕ) → Batch-asked n k t places highs q
   unfolding batch-refusal
   batch-lengths h0 places highs = record {
-    number = λ _ _. e ∙ sym (site-refused n (lengths-of t) (list-length k) (sound n t) 0 (λ z. h0 (e ∙ z)));
-    prepared = λ _ _ z. absurd (h0 z);
+    number = e ∙ sym (site-refused n (lengths-of t) (list-length k) (sound n t) 0 (λ z. h0 (e ∙ z)));
+    prepared = λ z. absurd (h0 z);
   }
 
   module _ (yes : q ≡ 0) where
@@ -41,29 +41,29 @@ module _ (n k : ℕ) (t : Tables) (p h q : ℕ) (e : q ≡ tables-refusal n (len
     unfolding batch-refusal
     asked = site-lent n (lengths-of t) (list-length k) (sound n t) 0 (sym e ∙ yes)
 
-    pub batch-odd : (k % 2 ≡ 0 → ⊥) → (places highs : List ℕ) → Batch-asked n k t p h places highs 2
+    pub batch-odd : (k % 2 ≡ 0 → ⊥) → (places highs : List ℕ) → Batch-asked n k t places highs 2
     unfolding list-length ask
     batch-odd odd places highs =
-        record { number = λ _ _. sym (asked ∙ rw (ne-eqb (k % 2) 0 odd)); prepared = λ _ _ z. absurd (omega arith) }
+        record { number = sym (asked ∙ rw (ne-eqb (k % 2) 0 odd)); prepared = λ z. absurd (omega arith) }
 
-    module _ (even : k % 2 ≡ 0) (ps qs hs is : List ℕ) (lp : length ps ≡ p) (lh : length hs ≡ h) (r : Bool) (x : Examined n t ps qs hs is r) where
-      sound-is : p ≡ max-radios → h ≡ max-radios → r ≡ sound n t
-      sound-is ep eh =
-          x .answer ∙ rw (lp ∙ ep, lh ∙ eh) (examinable-room n t) ∙ fits-sound-lent n t (sym e ∙ yes)
+    module _ (even : k % 2 ≡ 0) (ps qs hs is : List ℕ) (lp : length ps ≡ max-radios) (lh : length hs ≡ max-radios) (r : Bool) (x : Examined n t ps qs hs is r) where
+      sound-is : r ≡ sound n t
+      sound-is =
+          x .answer ∙ rw (lp, lh) (examinable-room n t) ∙ fits-sound-lent n t (sym e ∙ yes)
 
-      pub batch-unsound : r ≡ false → Batch-asked n k t p h qs is 3
+      pub batch-unsound : r ≡ false → Batch-asked n k t qs is 3
       unfolding list-length ask
       batch-unsound f =
-          record { number = λ ep eh. sym (asked ∙ rw (eq-eqb (k % 2) 0 even, sym (sound-is ep eh) ∙ f)); prepared = λ _ _ z. absurd (omega arith) }
+          record { number = sym (asked ∙ rw (eq-eqb (k % 2) 0 even, sym sound-is ∙ f)); prepared = λ z. absurd (omega arith) }
 
-      pub batch-sound : r ≡ true → Batch-asked n k t p h qs is 0
+      pub batch-sound : r ≡ true → Batch-asked n k t qs is 0
       unfolding list-length ask
       batch-sound good = record {
-        number = λ ep eh. sym (asked ∙ rw (eq-eqb (k % 2) 0 even, sym (sound-is ep eh) ∙ good));
-        prepared = λ ep eh z. record {
-          good = fits-sound-lent n t (sym e ∙ yes) ∙ sym (sound-is ep eh) ∙ good;
-          places-length = x .places-long ∙ lp ∙ ep;
-          highs-length = x .highs-long ∙ lh ∙ eh;
+        number = sym (asked ∙ rw (eq-eqb (k % 2) 0 even, sym sound-is ∙ good));
+        prepared = λ z. record {
+          good = fits-sound-lent n t (sym e ∙ yes) ∙ sym sound-is ∙ good;
+          places-length = x .places-long ∙ lp;
+          highs-length = x .highs-long ∙ lh;
           placed = x .placed good;
           counted = x .highs good;
         };
@@ -146,23 +146,23 @@ module _ {n : ℕ} {xs : List ℕ} {t u : Tables} {places highs : List ℕ} {don
 
 -- ---- the call
 
-module _ (n : ℕ) (xs : List ℕ) (t : Tables) (p h : ℕ) (ep : p ≡ max-radios) (eh : h ≡ max-radios) (places highs : List ℕ) (q : ℕ)
-    (d : Batch-asked n (length xs) t p h places highs q) where
+module _ (n : ℕ) (xs : List ℕ) (t : Tables) (places highs : List ℕ) (q : ℕ)
+    (d : Batch-asked n (length xs) t places highs q) where
   abbrev R : ℕ
   R = batch-refusal n (lengths-of t) (length xs) (sound n t)
 
   pub batch-refused : (q ≡ 0 → ⊥) → Batch-contract n xs t (value q 0) t
   unfolding Batch-contract batch-outcome
-  batch-refused h0 = by-refused R _ _ (λ z. h0 (d .number ep eh ∙ z)) (rw (d .number ep eh))
+  batch-refused h0 = by-refused R _ _ (λ z. h0 (d .number ∙ z)) (rw (d .number))
 
   module _ (yes : q ≡ 0) where
     pub batch-ready : Prepared n t places highs × (list-length (length xs) ≡ true)
     unfolding batch-refusal
     batch-ready = (
-      d .prepared ep eh yes,
-      site-zero n (lengths-of t) (list-length (length xs)) (sound n t) 0 (sym (d .number ep eh) ∙ yes) .0 .lent .further,
+      d .prepared yes,
+      site-zero n (lengths-of t) (list-length (length xs)) (sound n t) 0 (sym (d .number) ∙ yes) .0 .lent .further,
     )
 
     pub batch-carried : (r : Value) (v : Tables) → batched r v ≡ links-taken n xs t → Batch-contract n xs t r v
     unfolding Batch-contract batch-outcome
-    batch-carried r v c = by-accepted R _ (sym (d .number ep eh) ∙ yes) c
+    batch-carried r v c = by-accepted R _ (sym (d .number) ∙ yes) c

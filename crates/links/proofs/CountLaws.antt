@@ -1,35 +1,36 @@
 -- The not-lower counts after a link: the loops that count radios anew, and which radios keep theirs.
--- In order: a counted list, a listed row, the touched radios, counts anew, counts kept.
+-- In order: a counted list, a listed row, radios put into a set, the touched radios, counts anew, of a word, of a set.
 use mathlib.Core.Path.{_≡_, refl, sym, ap, subst, _∙_}
 use mathlib.Core.Logic.{_⊎_, inl, inr}
-use mathlib.Core.Bool.{Bool, true, false, _||_, cond}
-use mathlib.Core.List.{List, [], _∷_}
-use Prim.Native.Nat.{ℕ, suc, _+_, _*_, _≤_, _<_, min}
+use mathlib.Core.Bool.{Bool, true, false, _||_, cond, or-false}
+use mathlib.Core.List.{List, [], _∷_, _++_}
+use Prim.Native.Nat.{ℕ, suc, _+_, _*_, _-_, _/_, _%_, _^_, _≤_, _<_, min}
 use native.Mathlib.Omega.{arith}
+use native.Mathlib.Numerals.{add-one}
 use mir.Val.{boolByte}
+use lib.Bits.{bitAnd, and-le-l}
+use lib.Count.{trailingZeros}
 use lib.Dec.{leb, eqb}
-use lib.ListN.{length, getD, set, take, replicate, length-replicate, length-set}
-use lib.Seq.{take-all, length-take-le, getD-take, getD-set-same, getD-set-other}
-use borrow.Author.Tests.{eqb-true, eqb-false, eq-eqb, ne-eqb}
+use lib.ListN.{length, getD, set, take, drop, replicate, length-set, drop-of-length-le}
+use lib.Seq.{length-take-le, getD-take, getD-set-same, getD-set-other, drop-cons}
+use borrow.Author.Tests.{eqb-true, eqb-false, eq-eqb}
 use Rattle.mesh.specs.Limits.{max-radios, max-neighbours, row-bytes}
 use Rattle.lists.specs.Facts.{folded}
-use Rattle.lists.specs.Lists.{range, count, member, overwrite, In}
-use Rattle.lists.proofs.Tests.{bool-cases, never, or-cases, or-left, or-right}
-use Rattle.lists.proofs.Member.{in-getD, getD-of-in, member-in, in-member}
-use Rattle.lists.proofs.Filter.{filter-le}
-use Rattle.lists.proofs.Range.{length-range}
-use Rattle.lists.proofs.Overwrite.{take-overwrite}
-use Rattle.lists.proofs.Loops.{Counted-from, counted-turn, length-folded}
-use Rattle.mesh.specs.Tables.{byte-at, marked, put-bit}
-use Rattle.mesh.proofs.Tables.Laws.{length-put-bit, marked-replicate}
-use Rattle.rows.specs.Rows.{neighbours-of, row-listed, row-count}
-use Rattle.rows.proofs.RowListLaws.{row-listed-fits, in-neighbours-of}
-use Rattle.rows.proofs.RowWords.{row-listed-whole}
+use Rattle.lists.specs.Lists.{range, count, filter, member, overwrite, In}
+use Rattle.lists.proofs.Tests.{bool-cases, or-cases, or-left, or-right}
+use Rattle.lists.proofs.Member.{in-getD, getD-of-in, member-in, in-member, member-append, in-left, in-right, in-cases}
+use Rattle.lists.proofs.Filter.{in-filter, member-filter, filter-ext}
+use Rattle.lists.proofs.Range.{in-range}
+use Rattle.lists.proofs.Loops.{Counted-from, counted-turn, folded-append, length-folded}
+use Rattle.mesh.specs.Tables.{digit}
+use Rattle.rows.specs.Rows.{neighbours-of, row-listed, row-count, set-bits}
+use Rattle.rows.proofs.RowListLaws.{row-listed-fits}
+use Rattle.rows.proofs.RowWords.{row-listed-whole, words-from, words-end}
+use Rattle.rows.proofs.WordLaws.{set-bits-nothing, set-bits-lowest}
 use Rattle.row_conditions.specs.Conditions.{high-count}
-use Rattle.link_parts.specs.Changes.{all-marked}
-use Rattle.link_parts.proofs.Marking.{length-all-marked, marked-all-marked}
-use Rattle.links.proofs.TurnLaws.{marked-put}
-use Rattle.links.specs.Steps.{around, all-around, touched, recounted, Rows-known}
+use Rattle.sets.specs.Sets.{in-set, put-in, Row-joined}
+use Rattle.sets.proofs.SetLaws.{in-set-zeros, in-put-in, length-put-in}
+use Rattle.links.specs.Steps.{around, all-around, Joined, set-radios, touched, recounted, Rows-known}
 
 -- ---- a counted list
 
@@ -78,113 +79,136 @@ unfolding high-count
 high-listed n ts ns v r old new k l room e f q h =
     h ∙ ap (count (λ b. leb (getD ns v 0) (getD ns b 0))) (near-listed n ts v r old new (omega (arith, k .links-length)) (k .few v l) room e f)
 
--- a radio and its listed row are marked
-pub marked-around : (ts : List ℕ) (v r : ℕ) (old new s0 s1 s2 : List ℕ) → row-bytes * v + row-bytes ≤ length ts → length (neighbours-of ts v) ≤ max-neighbours
-    → length old ≡ max-neighbours → r ≡ min (length old) (row-count max-neighbours ts v)
-    → new ≡ overwrite (take (min (length old) (suc max-neighbours)) (row-listed ts v)) old → s1 ≡ put-bit true 0 v s0 → s2 ≡ all-marked (take r new) s1
-    → s2 ≡ all-marked (around ts v) s0
-unfolding all-marked folded
-marked-around ts v r old new s0 s1 s2 whole few room e f g h =
-    h ∙ ap (λ (vs : List ℕ). all-marked vs s1) (near-listed 0 ts v r old new whole few room e f) ∙ ap (all-marked (neighbours-of ts v)) g
+-- ---- radios put into a set
+
+-- a radio and its row
+pub joined-around : (ts : List ℕ) (v : ℕ) (s0 s1 s2 : List ℕ) → row-bytes * v + row-bytes ≤ length ts → v < max-radios → length s0 ≡ 8 → s1 ≡ put-in v s0
+    → Row-joined ts v s1 s2 → length s2 ≡ length s1 → Joined (around ts v) s0 s2
+unfolding member
+joined-around ts v s0 s1 s2 whole l long e j same = record {
+  long = same ∙ long1;
+  has = λ w.
+      j .bits long1 w
+      ∙ rw (row-listed-whole ts v whole, e, in-put-in v w s0 (omega (arith, long))) (go (eqb v w) (in-set s0 w) (member w (neighbours-of ts v)));
+}
+  where
+    long1 : length s1 ≡ 8
+    long1 = ap length e ∙ length-put-in v s0 ∙ long
+
+    go : (t x y : Bool) → (cond t true x || y) ≡ (x || (t || y))
+    go true true y = refl
+    go true false y = refl
+    go false true y = refl
+    go false false y = refl
+
+or-assoc : (x y z : Bool) → ((x || y) || z) ≡ (x || (y || z))
+or-assoc true y z = refl
+or-assoc false y z = refl
+
+-- from place i of the list on is left
+module _ (ts xs old : List ℕ) where
+  abbrev pub Joining : (i : ℕ) → (now : List ℕ) → Type 0
+  Joining i now =
+      (i ≤ length xs) × (length now ≡ 8)
+      × ((w : ℕ) → (in-set now w || member w (all-around ts (drop i xs))) ≡ (in-set old w || member w (all-around ts xs)))
+
+  pub joining-none : length old ≡ 8 → Joining 0 old
+  joining-none long = (omega arith, long, λ w. refl)
+
+  pub joining-turn : (i v : ℕ) (now new : List ℕ) → i < length xs → v ≡ getD xs i 0 → Joined (around ts v) now new → Joining i now → Joining (i + 1) new
+  unfolding all-around
+  joining-turn i v now new l e j h = (
+    omega arith,
+    j .long,
+    λ w.
+        rw (j .has w) (or-assoc (in-set now w) (member w (around ts v)) (member w (all-around ts (drop (i + 1) xs))))
+        ∙ ap (λ (t : Bool). in-set now w || t) (sym (member-append w (around ts v) (all-around ts (drop (i + 1) xs))))
+        ∙ ap (λ (ys : List ℕ). in-set now w || member w (all-around ts ys)) (sym cut)
+        ∙ h .2 w,
+  )
+    where
+      cut : drop i xs ≡ v ∷ drop (i + 1) xs
+      cut = drop-cons xs i 0 l ∙ rw (e, add-one i)
+
+  pub joining-end : (i : ℕ) (now : List ℕ) → length xs ≤ i → Joining i now → Joined (all-around ts xs) old now
+  unfolding all-around member
+  joining-end i now l h = record {
+    long = h .1;
+    has = λ w. sym (or-false (in-set now w)) ∙ ap (λ (ys : List ℕ). in-set now w || member w (all-around ts ys)) (sym (drop-of-length-le xs l)) ∙ h .2 w;
+  }
 
 -- ---- the touched radios
 
-length-all-around : (ts vs s : List ℕ) → length (all-around ts vs s) ≡ length s
-unfolding all-around
-length-all-around ts vs s = length-folded (λ v now. all-marked (around ts v) now) (λ v now. length-all-marked (around ts v) now) vs s
+module _ (a b : ℕ) (cs ts : List ℕ) where
+  abbrev is-touched : ℕ → Bool
+  is-touched w = eqb b w || (eqb a w || member w (all-around ts cs))
 
-module _ (ts : List ℕ) (w : ℕ) (l : w < max-radios) where
-  -- once marked, a radio stays marked
-  around-kept : (vs s : List ℕ) → length s ≡ row-bytes → marked s 0 w ≡ true → marked (all-around ts vs s) 0 w ≡ true
-  unfolding all-around folded
-  around-kept [] s e h = h
-  around-kept (v ∷ vs) s e h =
-      around-kept vs (all-marked (around ts v) s) (length-all-marked (around ts v) s ∙ e)
-      (marked-all-marked (around ts v) s w e l ∙ or-right (member w (around ts v)) (marked s 0 w) h)
+  in-around : (v w : ℕ) (xs : List ℕ) → In v xs → In w (around ts v) → In w (all-around ts xs)
+  unfolding all-around
+  in-around v w (x ∷ xs) (inl q) i = in-left w (around ts x) (all-around ts xs) (subst (λ (y : ℕ). In w (around ts y)) (sym q) i)
+  in-around v w (x ∷ xs) (inr m) i = in-right w (around ts x) (all-around ts xs) (in-around v w xs m i)
 
-  around-in : (v : ℕ) (vs s : List ℕ) → length s ≡ row-bytes → In v vs → In w (around ts v) → marked (all-around ts vs s) 0 w ≡ true
-  unfolding all-around folded
-  around-in v (x ∷ vs) s e (inl q) i =
-      around-kept vs (all-marked (around ts x) s) (length-all-marked (around ts x) s ∙ e)
-      (marked-all-marked (around ts x) s w e l ∙ or-left (member w (around ts x)) (marked s 0 w) (in-member w (around ts x) (subst (λ (y : ℕ). In w (around ts y)) (sym q) i)))
-  around-in v (x ∷ vs) s e (inr m) i = around-in v vs (all-marked (around ts x) s) (length-all-marked (around ts x) s ∙ e) m i
-
-  around-of : (vs s : List ℕ) → length s ≡ row-bytes → marked (all-around ts vs s) 0 w ≡ true → (marked s 0 w ≡ true) ⊎ ((v : ℕ) × In v vs × In w (around ts v))
-  unfolding all-around folded
-  around-of [] s e h = inl h
-  around-of (v ∷ vs) s e h = go (around-of vs (all-marked (around ts v) s) (length-all-marked (around ts v) s ∙ e) h)
+  around-of : (w : ℕ) (xs : List ℕ) → In w (all-around ts xs) → (v : ℕ) × In v xs × In w (around ts v)
+  unfolding all-around
+  around-of w [] i = absurd i
+  around-of w (x ∷ xs) i = go (around-of w xs) (in-cases w (around ts x) (all-around ts xs) i)
     where
-      near : (member w (around ts v) ≡ true) ⊎ (marked s 0 w ≡ true) → (marked s 0 w ≡ true) ⊎ ((x : ℕ) × In x (v ∷ vs) × In w (around ts x))
-      near (inl m) = inr (v, inl refl, member-in w (around ts v) m)
-      near (inr m) = inl m
+      go : (In w (all-around ts xs) → (v : ℕ) × In v xs × In w (around ts v)) → In w (around ts x) ⊎ In w (all-around ts xs)
+          → (v : ℕ) × In v (x ∷ xs) × In w (around ts v)
+      go later (inl j) = (x, inl refl, j)
+      go later (inr j) = let r = later j in (r .0, inr (r .1), r .2)
 
-      go : (marked (all-marked (around ts v) s) 0 w ≡ true) ⊎ ((x : ℕ) × In x vs × In w (around ts x))
-          → (marked s 0 w ≡ true) ⊎ ((x : ℕ) × In x (v ∷ vs) × In w (around ts x))
-      go (inl m) = near (or-cases (member w (around ts v)) (marked s 0 w) (sym (marked-all-marked (around ts v) s w e l) ∙ m))
-      go (inr m) = inr (m .0, inr (m .1), m .2)
-
--- the set as the code makes it, in three steps
-pub set-long : (a b : ℕ) (cs ts s0 s1 s2 : List ℕ) → s0 ≡ all-around ts cs (replicate row-bytes 0) → s1 ≡ put-bit true 0 a s0
-    → s2 ≡ put-bit true 0 b s1 → length s2 ≡ row-bytes
-set-long a b cs ts s0 s1 s2 e f g =
-    ap length g ∙ length-put-bit true 0 b s1 ∙ ap length f ∙ length-put-bit true 0 a s0 ∙ ap length e ∙ length-all-around ts cs (replicate row-bytes 0)
-    ∙ length-replicate {A = ℕ} row-bytes 0
-
-module _ (a b : ℕ) (cs ts : List ℕ) (la : a < max-radios) (lb : b < max-radios) where
-  abbrev empty : List ℕ
-  empty = replicate row-bytes 0
-
-  empty-long : length empty ≡ row-bytes
-  empty-long = length-replicate {A = ℕ} row-bytes 0
-
-  base : List ℕ
-  base = all-around ts cs empty
-
-  base-long : length base ≡ row-bytes
-  unfolding base
-  base-long = length-all-around ts cs empty ∙ empty-long
-
-  pub length-touched : length (touched a b cs ts) ≡ row-bytes
-  unfolding touched base
-  length-touched = length-put-bit true 0 b (put-bit true 0 a base) ∙ length-put-bit true 0 a base ∙ base-long
-
-  marked-touched : (w : ℕ) → w < max-radios → marked (touched a b cs ts) 0 w ≡ cond (eqb b w) true (cond (eqb a w) true (marked base 0 w))
-  unfolding touched base
-  marked-touched w l =
-      marked-put true b w (put-bit true 0 a base) (length-put-bit true 0 a base ∙ base-long) lb l
-      ∙ ap (cond (eqb b w) true) (marked-put true a w base base-long la l)
+  member-touched : (w : ℕ) → w < max-radios → member w (touched a b cs ts) ≡ is-touched w
+  unfolding touched
+  member-touched w l = member-filter is-touched (range 0 max-radios) w (in-range 0 max-radios w (omega arith) (omega arith))
 
   -- both ends, the changed radios and their neighbours
-  pub touched-ends : (w : ℕ) → w < max-radios → (w ≡ a) ⊎ (w ≡ b) → marked (touched a b cs ts) 0 w ≡ true
-  touched-ends w l (inl e) = marked-touched w l ∙ rw (eq-eqb a w (sym e)) (either (eqb b w))
-    where
-      either : (t : Bool) → cond t true true ≡ true
-      either true = refl
-      either false = refl
-  touched-ends w l (inr e) = marked-touched w l ∙ rw (eq-eqb b w (sym e)) refl
+  pub touched-ends : (w : ℕ) → w < max-radios → (w ≡ a) ⊎ (w ≡ b) → member w (touched a b cs ts) ≡ true
+  touched-ends w l (inl e) =
+      member-touched w l ∙ or-right (eqb b w) (eqb a w || member w (all-around ts cs)) (or-left (eqb a w) (member w (all-around ts cs)) (eq-eqb a w (sym e)))
+  touched-ends w l (inr e) = member-touched w l ∙ or-left (eqb b w) (eqb a w || member w (all-around ts cs)) (eq-eqb b w (sym e))
 
-  pub touched-around : (v w : ℕ) → w < max-radios → In v cs → In w (around ts v) → marked (touched a b cs ts) 0 w ≡ true
-  unfolding base
-  touched-around v w l i j = marked-touched w l ∙ go (eqb b w) (eqb a w) (around-in ts w l v cs empty empty-long i j)
-    where
-      go : (s t : Bool) → marked base 0 w ≡ true → cond s true (cond t true (marked base 0 w)) ≡ true
-      go true t h = refl
-      go false true h = refl
-      go false false h = h
+  pub touched-around : (v w : ℕ) → w < max-radios → In v cs → In w (around ts v) → member w (touched a b cs ts) ≡ true
+  touched-around v w l i j =
+      member-touched w l
+      ∙ or-right (eqb b w) (eqb a w || member w (all-around ts cs)) (or-right (eqb a w) (member w (all-around ts cs)) (in-member w (all-around ts cs) (in-around v w cs i j)))
 
   -- and no others
-  pub touched-of : (w : ℕ) → w < max-radios → marked (touched a b cs ts) 0 w ≡ true → ((w ≡ a) ⊎ (w ≡ b)) ⊎ ((v : ℕ) × In v cs × In w (around ts v))
-  unfolding base byte-at
-  touched-of w l h = ends (bool-cases (eqb b w)) (bool-cases (eqb a w))
+  touched-of : (w : ℕ) → In w (touched a b cs ts) → ((w ≡ a) ⊎ (w ≡ b)) ⊎ ((v : ℕ) × In v cs × In w (around ts v))
+  unfolding touched
+  touched-of w i = go (or-cases (eqb b w) (eqb a w || member w (all-around ts cs)) (in-filter is-touched (range 0 max-radios) w i .1))
     where
-      rest : (marked empty 0 w ≡ true) ⊎ ((v : ℕ) × In v cs × In w (around ts v)) → ((w ≡ a) ⊎ (w ≡ b)) ⊎ ((v : ℕ) × In v cs × In w (around ts v))
-      rest (inl m) = never (marked empty 0 w) m (marked-replicate row-bytes 0 w (omega arith))
-      rest (inr m) = inr m
+      other : (eqb a w ≡ true) ⊎ (member w (all-around ts cs) ≡ true) → ((w ≡ a) ⊎ (w ≡ b)) ⊎ ((v : ℕ) × In v cs × In w (around ts v))
+      other (inl e) = inl (inl (sym (eqb-true a w e)))
+      other (inr m) = inr (around-of w cs (member-in w (all-around ts cs) m))
 
-      ends : (eqb b w ≡ true) ⊎ (eqb b w ≡ false) → (eqb a w ≡ true) ⊎ (eqb a w ≡ false) → ((w ≡ a) ⊎ (w ≡ b)) ⊎ ((v : ℕ) × In v cs × In w (around ts v))
-      ends (inl e) s = inl (inr (sym (eqb-true b w e)))
-      ends (inr e) (inl s) = inl (inl (sym (eqb-true a w s)))
-      ends (inr e) (inr s) = rest (around-of ts w l cs empty empty-long (rw (e, s) at (sym (marked-touched w l) ∙ h)))
+      go : (eqb b w ≡ true) ⊎ ((eqb a w || member w (all-around ts cs)) ≡ true) → ((w ≡ a) ⊎ (w ≡ b)) ⊎ ((v : ℕ) × In v cs × In w (around ts v))
+      go (inl e) = inl (inr (sym (eqb-true b w e)))
+      go (inr e) = other (or-cases (eqb a w) (member w (all-around ts cs)) e)
+
+  -- the set as the code makes it, in three steps
+  module _ (s1 s2 s3 : List ℕ) (la : a < max-radios) (lb : b < max-radios) (e1 : Joined (all-around ts cs) (replicate 8 0) s1) (e2 : s2 ≡ put-in a s1)
+      (e3 : s3 ≡ put-in b s2) where
+    long2 : length s2 ≡ 8
+    long2 = ap length e2 ∙ length-put-in a s1 ∙ e1 .long
+
+    touched-set : (w : ℕ) → in-set s3 w ≡ is-touched w
+    touched-set w =
+        ap (λ (s : List ℕ). in-set s w) e3 ∙ in-put-in b w s2 (omega (arith, long2))
+        ∙ ap (cond (eqb b w) true) (ap (λ (s : List ℕ). in-set s w) e2 ∙ in-put-in a w s1 (omega (arith, e1 .long)) ∙ ap (cond (eqb a w) true) inner)
+        ∙ go (eqb b w) (eqb a w) (member w (all-around ts cs))
+      where
+        inner : in-set s1 w ≡ member w (all-around ts cs)
+        inner = e1 .has w ∙ rw (in-set-zeros 8 w)
+
+        go : (s t x : Bool) → cond s true (cond t true x) ≡ (s || (t || x))
+        go true t x = refl
+        go false true x = refl
+        go false false x = refl
+
+    pub touched-listed : set-radios s3 ≡ touched a b cs ts
+    unfolding set-radios touched
+    touched-listed = filter-ext (in-set s3) is-touched (range 0 max-radios) (λ w i. touched-set w)
 
 -- ---- counts anew
 
@@ -219,56 +243,114 @@ unfolding recounted
 length-recounted ts ns vs hs =
     length-folded (λ v now. set now v (high-count ns v (neighbours-of ts v))) (λ v now. length-set now v (high-count ns v (neighbours-of ts v))) vs hs
 
--- ---- the touched radios, listed and counted anew
+-- what is left of the radios brings the counts to what all of them bring them to
+pub record Recounting (n : ℕ) (links numbers radios old rest highs : List ℕ) : Type 0 where
+  pub long : length highs ≡ length old
+  pub known : (v : ℕ) → In v rest → v < n
+  pub is : recounted links numbers rest highs ≡ recounted links numbers radios old
+
+module _ (n : ℕ) (ts ns near old : List ℕ) where
+  pub recounting-none : ((v : ℕ) → In v near → v < n) → Recounting n ts ns near old near old
+  recounting-none h = record { long = refl; known = h; is = refl }
+
+  pub recounting-one : (v : ℕ) (rest now new : List ℕ) → new ≡ set now v (high-count ns v (neighbours-of ts v))
+      → Recounting n ts ns near old (v ∷ rest) now → Recounting n ts ns near old rest new
+  unfolding recounted folded
+  recounting-one v rest now new e h = record {
+    long = ap length e ∙ length-set now v (high-count ns v (neighbours-of ts v)) ∙ h .long;
+    known = λ w i. h .known w (inr i);
+    is = rw e (h .is);
+  }
+
+  pub recounting-part : (xs rest now new : List ℕ) → new ≡ recounted ts ns xs now → Recounting n ts ns near old (xs ++ rest) now
+      → Recounting n ts ns near old rest new
+  unfolding recounted
+  recounting-part xs rest now new e h = record {
+    long = ap length e ∙ length-recounted ts ns xs now ∙ h .long;
+    known = λ w i. h .known w (in-right w xs rest i);
+    is = rw e (sym (folded-append (λ v now. set now v (high-count ns v (neighbours-of ts v))) xs rest now) ∙ h .is);
+  }
+
+  pub recounting-end : (rest now : List ℕ) → rest ≡ [] → Recounting n ts ns near old rest now → now ≡ recounted ts ns near old
+  unfolding recounted folded
+  recounting-end rest now e h = rw e at (h .is)
+
+-- the set bits of a word: each turn takes the lowest off
+module _ (n : ℕ) (ts ns : List ℕ) (first word : ℕ) (old : List ℕ) where
+  abbrev pub Word-recounting : (rest : ℕ) → (highs : List ℕ) → Type 0
+  Word-recounting rest now = (rest < 2 ^ 64) × Recounting n ts ns (set-bits 64 first word) old (set-bits 64 first rest) now
+
+  module _ (rest : ℕ) (now : List ℕ) (some : rest ≡ 0 → ⊥) (h : Word-recounting rest now) where
+    abbrev lowest : ℕ
+    lowest = first + trailingZeros 64 rest
+
+    bits-next : Recounting n ts ns (set-bits 64 first word) old (lowest ∷ set-bits 64 first (bitAnd rest (rest - 1))) now
+    bits-next = rw (set-bits-lowest 64 first rest (omega arith) (h .0)) at (h .1)
+
+    pub lowest-known : lowest < n
+    lowest-known = bits-next .known lowest (inl refl)
+
+    pub word-recounted : (new : List ℕ) → new ≡ set now lowest (high-count ns lowest (neighbours-of ts lowest)) → Word-recounting (bitAnd rest (rest - 1)) new
+    word-recounted new e = (
+      omega (arith, and-le-l rest (rest - 1), h .0),
+      recounting-one n ts ns (set-bits 64 first word) old lowest (set-bits 64 first (bitAnd rest (rest - 1))) now new e bits-next,
+    )
+
+  pub word-recounted-end : (rest : ℕ) (now : List ℕ) → rest ≡ 0 → Word-recounting rest now → now ≡ recounted ts ns (set-bits 64 first word) old
+  word-recounted-end rest now e h =
+      recounting-end n ts ns (set-bits 64 first word) old (set-bits 64 first rest) now (ap (set-bits 64 first) e ∙ set-bits-nothing 64 first) (h .1)
+
+-- the words of a set: from word j on is left
+abbrev pub radios-from : (words : List ℕ) → (j : ℕ) → List ℕ
+radios-from ws j = filter (in-set ws) (range (64 * j) (max-radios - 64 * j))
+
+module _ (n : ℕ) (ts ns ws old : List ℕ) where
+  abbrev pub Set-recounting : (j : ℕ) → (highs : List ℕ) → Type 0
+  Set-recounting j now = (j ≤ 8) × Recounting n ts ns (set-radios ws) old (radios-from ws j) now
+
+  pub set-none : ((v : ℕ) → In v (set-radios ws) → v < n) → Set-recounting 0 old
+  unfolding set-radios
+  set-none h = (omega arith, recounting-none n ts ns (set-radios ws) old h)
+
+  module _ (j : ℕ) (now : List ℕ) (l : j < 8) (h : Set-recounting j now) where
+    abbrev bits : List ℕ
+    bits = set-bits 64 (64 * j) (getD ws j 0)
+
+    set-next : Recounting n ts ns (set-radios ws) old (bits ++ radios-from ws (j + 1)) now
+    unfolding in-set
+    set-next = rw (words-from (in-set ws) j (getD ws j 0) l tells) at (h .1)
+      where
+        tells : (b : ℕ) → b < 64 → digit (getD ws ((64 * j + b) / 64) 0) ((64 * j + b) % 64) ≡ digit (getD ws j 0) b
+        tells b lb =
+            let q : (64 * j + b) / 64 ≡ j = omega arith in
+            let r : (64 * j + b) % 64 ≡ b = omega arith in
+            rw (q, r)
+
+    pub bits-known : (v : ℕ) → In v bits → v < n
+    bits-known v i = set-next .known v (in-left v bits (radios-from ws (j + 1)) i)
+
+    pub set-turn : (new : List ℕ) → new ≡ recounted ts ns bits now → Set-recounting (j + 1) new
+    set-turn new e = (omega arith, recounting-part n ts ns (set-radios ws) old bits (radios-from ws (j + 1)) now new e set-next)
+
+  pub set-end : (j : ℕ) (now : List ℕ) → 8 ≤ j → Set-recounting j now → now ≡ recounted ts ns (set-radios ws) old
+  set-end j now l h = recounting-end n ts ns (set-radios ws) old (radios-from ws j) now (words-end (in-set ws) j l) (h .1)
+
+-- ---- what the functions want
 
 module _ (n a b : ℕ) (cs ts : List ℕ) {ns : List ℕ} (k : Rows-known n ts ns) (la : a < n) (lb : b < n)
     (known : (i : ℕ) → i < length cs → getD cs i 0 < n) where
-  pub around-asked : (i : ℕ) → i < length cs → (row-bytes * getD cs i 0 + row-bytes ≤ length ts) × (length (neighbours-of ts (getD cs i 0)) ≤ max-neighbours)
-  around-asked i l = (omega (arith, known i l, k .links-length), k .few (getD cs i 0) (known i l))
-
-  small : (x : ℕ) → x < n → x < max-radios
-  small x l = omega (arith, k .small)
+  pub around-asked : (i : ℕ) → i < length cs → (row-bytes * getD cs i 0 + row-bytes ≤ length ts) × (getD cs i 0 < max-radios)
+  around-asked i l = (omega (arith, known i l, k .links-length), omega (arith, known i l, k .small))
 
   changed-radio : (v : ℕ) → In v cs → v < n
   changed-radio v i =
       let m = getD-of-in v cs i in subst (λ (x : ℕ). x < n) (m .2) (known (m .0) (m .1))
 
-  pub touched-radio : (w : ℕ) → In w (neighbours-of (touched a b cs ts) 0) → w < n
-  touched-radio w i =
-      let m = in-neighbours-of (touched a b cs ts) 0 w i in go (touched-of a b cs ts (small a la) (small b lb) w (m .0) (m .1))
+  pub touched-radio : (w : ℕ) → In w (touched a b cs ts) → w < n
+  touched-radio w i = go (touched-of a b cs ts w i)
     where
       go : ((w ≡ a) ⊎ (w ≡ b)) ⊎ ((v : ℕ) × In v cs × In w (around ts v)) → w < n
       go (inl (inl e)) = omega (arith, e)
       go (inl (inr e)) = omega (arith, e)
       go (inr (v, j, inl e)) = omega (arith, e, changed-radio v j)
       go (inr (v, j, inr m)) = k .radios v w (changed-radio v j) m
-
-  -- as the code names its values
-  module _ (s1 s2 s3 : List ℕ) (e1 : s1 ≡ all-around ts cs (replicate row-bytes 0)) (e2 : s2 ≡ put-bit true 0 a s1) (e3 : s3 ≡ put-bit true 0 b s2)
-      (r : ℕ) (old new : List ℕ) (room : length old ≡ max-radios) (e : r ≡ length (row-listed s3 0))
-      (f : new ≡ overwrite (take (length old) (row-listed s3 0)) old) where
-    touched-is : s3 ≡ touched a b cs ts
-    unfolding touched
-    touched-is = e3 ∙ ap (put-bit true 0 b) (e2 ∙ ap (put-bit true 0 a) e1)
-
-    whole : row-listed s3 0 ≡ neighbours-of (touched a b cs ts) 0
-    whole =
-        ap (λ (s : List ℕ). row-listed s 0) touched-is
-        ∙ row-listed-whole (touched a b cs ts) 0 (omega (arith, length-touched a b cs ts (small a la) (small b lb)))
-
-    many : r ≤ max-radios
-    unfolding neighbours-of
-    many = omega (arith, e, ap length whole, filter-le (λ x. marked (touched a b cs ts) 0 x) (range 0 max-radios) max-radios (length-range 0 max-radios))
-
-    pub touched-listed : take r new ≡ neighbours-of (touched a b cs ts) 0
-    touched-listed =
-        let fits : take (length old) (row-listed s3 0) ≡ row-listed s3 0 = take-all (length old) (row-listed s3 0) (omega (arith, e, many, room)) in
-        rw (e, f, fits) (take-overwrite (row-listed s3 0) old) ∙ whole
-
-    pub touched-asked : length new ≡ length old → (r ≤ length new) × ((i : ℕ) → i < r → getD new i 0 < n)
-    touched-asked long =
-        let fits : r ≤ length new = omega (arith, many, room, long) in (
-          fits,
-          λ i l. touched-radio (getD new i 0)
-              (subst (In (getD new i 0)) touched-listed (rw (← getD-take r new i 0 l) (in-getD (take r new) i (omega (arith, length-take-le r new fits))))),
-        )

@@ -30,12 +30,12 @@ use Rattle.links.proofs.StepLaws.{fits-good}
 
 -- ---- the questions
 
-module _ (n : ℕ) (hs : List ℕ) (f : ℕ) (t : Tables) (p h q : ℕ) (e : q ≡ tables-refusal n (lengths-of t)) where
-  pub hear-lengths : (q ≡ 0 → ⊥) → (places highs : List ℕ) → Hear-asked n hs f t p h places highs q
+module _ (n : ℕ) (hs : List ℕ) (f : ℕ) (t : Tables) (q : ℕ) (e : q ≡ tables-refusal n (lengths-of t)) where
+  pub hear-lengths : (q ≡ 0 → ⊥) → (places highs : List ℕ) → Hear-asked n hs f t places highs q
   unfolding hear-refusal
   hear-lengths h0 places highs = record {
-    number = λ _ _. e ∙ sym (site-refused n (lengths-of t) (heard-lengths n (length hs) f) (sound n t) _ (λ z. h0 (e ∙ z)));
-    prepared = λ _ _ z. absurd (h0 z);
+    number = e ∙ sym (site-refused n (lengths-of t) (heard-lengths n (length hs) f) (sound n t) _ (λ z. h0 (e ∙ z)));
+    prepared = λ z. absurd (h0 z);
   }
 
   module _ (yes : q ≡ 0) where
@@ -51,12 +51,12 @@ module _ (n : ℕ) (hs : List ℕ) (f : ℕ) (t : Tables) (p h q : ℕ) (e : q �
     unfolding tables-refusal
     most = lent-zero n (lengths-of t) true 0 (sym e ∙ yes) .0 .most
 
-    pub heard-other : (length hs ≡ length (t .links) → ⊥) → (places highs : List ℕ) → Hear-asked n hs f t p h places highs 2
+    pub heard-other : (length hs ≡ length (t .links) → ⊥) → (places highs : List ℕ) → Hear-asked n hs f t places highs 2
     unfolding heard-lengths ask
     heard-other h0 places highs =
         record {
-          number = λ _ _. sym (asked ∙ rw (ne-eqb (length hs) (row-bytes * n) (λ z. h0 (z ∙ sym links-long))));
-          prepared = λ _ _ z. absurd
+          number = sym (asked ∙ rw (ne-eqb (length hs) (row-bytes * n) (λ z. h0 (z ∙ sym links-long))));
+          prepared = λ z. absurd
               (omega arith);
         }
 
@@ -64,34 +64,38 @@ module _ (n : ℕ) (hs : List ℕ) (f : ℕ) (t : Tables) (p h q : ℕ) (e : q �
       heard-long : length hs ≡ row-bytes * n
       heard-long = same ∙ links-long
 
-      pub further-other : (f ≡ length (t .links) → ⊥) → (places highs : List ℕ) → Hear-asked n hs f t p h places highs 2
+      -- what the other questions want
+      pub heard-sized : Of-size n hs
+      heard-sized = record { most = most; long = heard-long }
+
+      pub further-other : (f ≡ length (t .links) → ⊥) → (places highs : List ℕ) → Hear-asked n hs f t places highs 2
       unfolding heard-lengths ask
       further-other h0 places highs = record {
-        number = λ _ _. sym (asked ∙ rw (eq-eqb (length hs) (row-bytes * n) heard-long, ne-eqb f (row-bytes * n) (λ z. h0 (z ∙ sym links-long))));
-        prepared = λ _ _ z. absurd (omega arith);
+        number = sym (asked ∙ rw (eq-eqb (length hs) (row-bytes * n) heard-long, ne-eqb f (row-bytes * n) (λ z. h0 (z ∙ sym links-long))));
+        prepared = λ z. absurd (omega arith);
       }
 
-      module _ (like : f ≡ length (t .links)) (ps qs is js : List ℕ) (lp : length ps ≡ p) (lh : length is ≡ h) (r : Bool) (x : Examined n t ps qs is js r) where
-        sound-is : p ≡ max-radios → h ≡ max-radios → r ≡ sound n t
-        sound-is ep eh = x .answer ∙ rw (lp ∙ ep, lh ∙ eh) (examinable-room n t) ∙ fits-sound-lent n t (sym e ∙ yes)
+      module _ (like : f ≡ length (t .links)) (ps qs is js : List ℕ) (lp : length ps ≡ max-radios) (lh : length is ≡ max-radios) (r : Bool) (x : Examined n t ps qs is js r) where
+        sound-is : r ≡ sound n t
+        sound-is = x .answer ∙ rw (lp, lh) (examinable-room n t) ∙ fits-sound-lent n t (sym e ∙ yes)
 
         then-asked : hear-refusal n (lengths-of t) hs f (sound n t) ≡ ask 3 (sound n t) (rows-refusal n hs)
         unfolding heard-lengths ask
         then-asked = asked ∙ rw (eq-eqb (length hs) (row-bytes * n) heard-long, eq-eqb f (row-bytes * n) (like ∙ links-long))
 
-        pub hear-unsound : r ≡ false → Hear-asked n hs f t p h qs js 3
+        pub hear-unsound : r ≡ false → Hear-asked n hs f t qs js 3
         unfolding ask
         hear-unsound bad =
-            record { number = λ ep eh. sym (then-asked ∙ rw (sym (sound-is ep eh) ∙ bad)); prepared = λ _ _ z. absurd (omega arith) }
+            record { number = sym (then-asked ∙ rw (sym sound-is ∙ bad)); prepared = λ z. absurd (omega arith) }
 
-        pub hear-sound : r ≡ true → (m : ℕ) → (Of-size n hs → m ≡ rows-refusal n hs) → Hear-asked n hs f t p h qs js m
+        pub hear-sound : r ≡ true → (m : ℕ) → m ≡ rows-refusal n hs → Hear-asked n hs f t qs js m
         unfolding ask
         hear-sound good m is-asked = record {
-          number = λ ep eh. is-asked (record { most = most; long = heard-long }) ∙ sym (then-asked ∙ rw (sym (sound-is ep eh) ∙ good));
-          prepared = λ ep eh z. record {
-            good = fits-sound-lent n t (sym e ∙ yes) ∙ sym (sound-is ep eh) ∙ good;
-            places-length = x .places-long ∙ lp ∙ ep;
-            highs-length = x .highs-long ∙ lh ∙ eh;
+          number = is-asked ∙ sym (then-asked ∙ rw (sym sound-is ∙ good));
+          prepared = λ z. record {
+            good = fits-sound-lent n t (sym e ∙ yes) ∙ sym sound-is ∙ good;
+            places-length = x .places-long ∙ lp;
+            highs-length = x .highs-long ∙ lh;
             placed = x .placed good;
             counted = x .highs good;
           };
@@ -128,21 +132,21 @@ both-brought {n} {hs} {t} {u} d e = record { between = u; down = λ s p. d .left
 
 -- ---- the call
 
-module _ (n : ℕ) (hs w : List ℕ) (t : Tables) (p h : ℕ) (ep : p ≡ max-radios) (eh : h ≡ max-radios) (places highs : List ℕ) (q : ℕ)
-    (d : Hear-asked n hs (length w) t p h places highs q) where
+module _ (n : ℕ) (hs w : List ℕ) (t : Tables) (places highs : List ℕ) (q : ℕ)
+    (d : Hear-asked n hs (length w) t places highs q) where
   abbrev R : ℕ
   R = hear-refusal n (lengths-of t) hs (length w) (sound n t)
 
   pub hear-refused : (q ≡ 0 → ⊥) → Hear-contract n hs t w (value q 0) t w
   unfolding Hear-contract hear-outcome
-  hear-refused h0 = by-refused R _ _ (λ z. h0 (d .number ep eh ∙ z)) (rw (d .number ep eh))
+  hear-refused h0 = by-refused R _ _ (λ z. h0 (d .number ∙ z)) (rw (d .number))
 
   module _ (yes : q ≡ 0) where
     is-zero : R ≡ 0
-    is-zero = sym (d .number ep eh) ∙ yes
+    is-zero = sym (d .number) ∙ yes
 
     pub hear-prepared : Prepared n t places highs
-    hear-prepared = d .prepared ep eh yes
+    hear-prepared = d .prepared yes
 
     good : Good n t
     good = fits-good n t (hear-prepared .good)

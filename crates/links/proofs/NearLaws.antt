@@ -22,7 +22,7 @@ use Rattle.rows.specs.Rows.{neighbours-of, row-listed, row-count}
 use Rattle.rows.proofs.RowListLaws.{row-listed-fits}
 use Rattle.rows.proofs.RowWords.{row-listed-whole}
 use Rattle.walk_parts.specs.Places.{other-end}
-use Rattle.links.specs.Turns.{released, places-released, Releasable, Row-ready, Near-ready, Lists-neighbours}
+use Rattle.links.specs.Turns.{released, places-released, near-left, Releasable, Row-ready, Near-ready, Lists-neighbours}
 
 -- rows that mark alike list alike
 pub neighbours-of-ext : (ts us : List ℕ) (v w : ℕ) → ((x : ℕ) → x < max-radios → marked ts v x ≡ marked us w x) → neighbours-of ts v ≡ neighbours-of us w
@@ -51,6 +51,12 @@ releasable-same ns ps k cs e h = rw e h
 pub released-same : {xs ys : List ℕ} (ns ps : List ℕ) (k m : ℕ) (cs put fs cs1 fs1 : List ℕ) → xs ≡ ys → put ≡ fs → cs1 ≡ released ns k xs cs
     → fs1 ≡ places-released ns ps k m xs cs put → (cs1 ≡ released ns k ys cs) × (fs1 ≡ places-released ns ps k m ys cs fs)
 released-same ns ps k m cs put fs cs1 fs1 e p f g = rw (← e, ← p) (f, g)
+
+-- rows that list alike, and the same set
+pub near-left-same : (ts us : List ℕ) (v w : ℕ) (set other : List ℕ) → neighbours-of ts v ≡ neighbours-of us w → set ≡ other
+    → near-left ts v set ≡ near-left us w other
+unfolding near-left
+near-left-same ts us v w set other e f = rw (e, f)
 
 -- ---- a row lent as a part of the table: its m bytes from its start on
 

@@ -3,7 +3,7 @@
 -- the bound are the stuck ones.
 use mathlib.Core.Path.{_≡_, refl, sym, ap, _∙_}
 use mathlib.Core.Logic.{_⊎_, inl, inr}
-use mathlib.Core.Bool.{Bool, true, false, _&&_, _||_, cond}
+use mathlib.Core.Bool.{Bool, true, false, not, _&&_, _||_, cond}
 use mathlib.Core.List.{List, [], _∷_, _++_}
 use Prim.Native.Nat.{ℕ, _+_, _-_, _≤_, _<_}
 use native.Mathlib.Omega.{arith}
@@ -16,16 +16,17 @@ use Rattle.lists.specs.Facts.{Distinct, Rising}
 use Rattle.mesh.specs.Tables.{marked, put-bit}
 use Rattle.lists.proofs.Tests.{bool-cases, never, and-left, and-right, bit-false}
 use Rattle.lists.proofs.Member.{in-left, in-right, in-cases, in-drop, member-in, in-member, not-member, split-in}
-use Rattle.lists.proofs.Count.{count-mid, count-pos, count-all}
-use Rattle.lists.proofs.Distinct.{permutation-in, distinct-mid, distinct-right, permutation-distinct}
-use Rattle.lists.proofs.Filter.{filter-ext}
+use Rattle.lists.proofs.Count.{count-append, count-mid, count-pos, count-all}
+use Rattle.lists.proofs.Distinct.{permutation-in, distinct-mid, distinct-right, distinct-apart, permutation-distinct}
+use Rattle.lists.proofs.Filter.{filter-ext, in-filter, filter-in, distinct-filter}
 use Rattle.mesh.proofs.Tables.Laws.{length-put-bit}
 use Rattle.mesh.specs.Peel.{Peels}
 use Rattle.mesh.proofs.Links.Peel.{takes-more, takes-permutation, takes-now-in, takes-taken-in, takes-now-filter}
 use Rattle.rows.specs.Rows.{neighbours-of}
 use Rattle.rows.proofs.RowListLaws.{distinct-neighbours-of, in-neighbours-of, member-neighbours-of}
-use Rattle.links.specs.Turns.{released, places-released, Releasable}
-use Rattle.links.specs.Peels.{stretch, above, Level, Turning}
+use Rattle.sets.specs.Sets.{in-set}
+use Rattle.links.specs.Turns.{released, places-released, near-left, Releasable}
+use Rattle.links.specs.Peels.{stretch, above, Level, Turning, Whole-counted, Left-set}
 use Rattle.links.proofs.TurnLaws.{marked-put, getD-released-level, fits-released, marked-released, marked-released-place}
 use Rattle.links.proofs.TurnLoops.{length-released, length-places-released}
 use Rattle.links.proofs.StretchLoops.{length-stretch}
@@ -47,9 +48,11 @@ module _ {f : ℕ → ℕ → Bool} {ns os ps : List ℕ} {k start size : ℕ} (
     abbrev left : List ℕ
     left = h .rest
 
+    all-distinct : Distinct (taken ++ left)
+    all-distinct = permutation-distinct (taken ++ left) level (λ g. sym (takes-permutation f m high (h .takes) g)) (distinct-stretch lv)
+
     left-distinct : Distinct left
-    left-distinct =
-        distinct-right taken left (permutation-distinct (taken ++ left) level (λ g. sym (takes-permutation f m high (h .takes) g)) (distinct-stretch lv))
+    left-distinct = distinct-right taken left all-distinct
 
     level-cases : (v : ℕ) → In v level → In v taken ⊎ In v left
     level-cases v i = in-cases v taken left (permutation-in level (taken ++ left) (takes-permutation f m high (h .takes)) v i)
@@ -60,6 +63,17 @@ module _ {f : ℕ → ℕ → Bool} {ns os ps : List ℕ} {k start size : ℕ} (
     left-rising : Rising place left
     left-rising =
         rw (takes-now-filter f m high (distinct-stretch lv) (h .takes)) (rising-filter place (λ v. member v left) level (rising-stretch lv))
+
+    -- before the first turn all radios of the level are counted
+    pub whole-none : taken ≡ [] → Whole-counted f os start size taken cs
+    whole-none e v i = go (level-cases v i)
+      where
+        go : In v taken ⊎ In v left → getD cs v 0 + count (f v) taken ≡ count (f v) level + count (f v) high
+        go (inl t) = absurd (nothing (rw e at t))
+          where
+            nothing : In v [] → ⊥
+            nothing q = q
+        go (inr l) = omega (arith, h .counted v l, takes-permutation f m high (h .takes) (f v), count-append (f v) taken left)
 
     pub length-left : length taken + length left ≡ size
     length-left =
@@ -93,7 +107,7 @@ module _ {f : ℕ → ℕ → Bool} {ns os ps : List ℕ} {k start size : ℕ} (
           go v (inr i) (inr e) = never (member v left) (in-member v left i) e
 
       pub turns-end : Peels f m high level taken (filter (λ v. ltb m (getD cs v 0)) level)
-      turns-end = rw (← left-is) (record { takes = h .takes; full = λ v i. omega (arith, left-full v i, h .counted v (left-in v i)) })
+      turns-end = rw (← left-is) (record { takes = h .takes; full = λ v i. omega (arith, left-full v i, h .counted v i) })
 
     -- ---- a turn: the place p is the lowest that fits
 
@@ -125,26 +139,8 @@ module _ {f : ℕ → ℕ → Bool} {ns os ps : List ℕ} {k start size : ℕ} (
       pub taken-room : length taken < size
       taken-room = omega (arith, length-left, count-all left, count-pos (λ x. true) v left taken-left refl)
 
-      -- the neighbours of v after the call, as a row lists them
-      module _ (us : List ℕ) (row-is : (w : ℕ) → w < max-radios → marked us v w ≡ f v w) where
-        abbrev near : List ℕ
-        near = neighbours-of us v
-
-        member-near : (w : ℕ) → w < length os → member w near ≡ f v w
-        member-near w l = let s : w < max-radios = omega (arith, lv .small) in member-neighbours-of us v w s ∙ row-is w s
-
-        near-linked : (w : ℕ) → In w near → f v w ≡ true
-        near-linked w i = let r = in-neighbours-of us v w i in sym (row-is w (r .0)) ∙ r .1
-
-        pub taken-releasable : Releasable ns ps k near cs
-        taken-releasable = record {
-          once = distinct-neighbours-of us v;
-          known = λ w i. (let l = lv .within v w (near-linked w i) in
-              (omega (arith, lv .numbers-length), omega (arith, lv .places-length), omega (arith, h .counters-long), omega (arith, lv .small)));
-          above-zero = λ w i e. (let l = lv .within v w (near-linked w i) in
-              omega (arith, h .counted w (level-stretch lv w l e), count-pos (f w) v left taken-left (lv .symmetric w v ∙ near-linked w i)));
-        }
-
+      -- the radios that v releases: of what is left its neighbours after the call, of the taken any or none
+      module _ (near : List ℕ) (may : Releasable ns ps k near cs) (releases : (w : ℕ) → In w left → member w near ≡ f v w) where
         abbrev cs1 : List ℕ
         cs1 = released ns k near cs
 
@@ -154,11 +150,9 @@ module _ {f : ℕ → ℕ → Bool} {ns os ps : List ℕ} {k start size : ℕ} (
         abbrev fs1 : List ℕ
         fs1 = places-released ns ps k m near cs fs0
 
-        -- one less where v is a neighbour
-        counter-after : (w : ℕ) → In w level → getD cs1 w 0 + cond (f v w) 1 0 ≡ getD cs w 0
-        counter-after w i =
-            let s = stretch-stands lv w i in
-            ap (λ (b : Bool). getD cs1 w 0 + cond b 1 0) (sym (member-near w (s .below))) ∙ getD-released-level ns k ps near cs taken-releasable w (s .level)
+        -- one less where v releases w
+        counter-after : (w : ℕ) → In w level → getD cs1 w 0 + cond (member w near) 1 0 ≡ getD cs w 0
+        counter-after w i = getD-released-level ns k ps near cs may w (stretch-stands lv w i .level)
 
         counter-less-or-same : (w : ℕ) → In w level → getD cs1 w 0 ≤ getD cs w 0
         counter-less-or-same w i = omega (arith, counter-after w i)
@@ -166,11 +160,11 @@ module _ {f : ℕ → ℕ → Bool} {ns os ps : List ℕ} {k start size : ℕ} (
         long-fs0 : length fs0 ≡ row-bytes
         long-fs0 = length-put-bit false 0 p fs ∙ h .fits-long
 
-        place-marked-after : (w : ℕ) → In w level → marked fs1 0 (place w) ≡ (cond (eqb p (place w)) false (marked fs 0 (place w)) || (f v w && eqb (getD cs1 w 0) m))
+        place-marked-after : (w : ℕ) → In w level → marked fs1 0 (place w) ≡ (cond (eqb p (place w)) false (marked fs 0 (place w)) || (member w near && eqb (getD cs1 w 0) m))
         place-marked-after w i =
             let s = stretch-stands lv w i in
-            marked-released-place ns ps k m (place-small lv) (place-apart lv) near cs fs0 long-fs0 taken-releasable w (omega (arith, s .below, lv .numbers-length)) (s .level)
-            ∙ rw (marked-put false p (place w) fs (h .fits-long) some (omega (arith, s .high, lv .fits, lv .small)), member-near w (s .below))
+            marked-released-place ns ps k m (place-small lv) (place-apart lv) near cs fs0 long-fs0 may w (omega (arith, s .below, lv .numbers-length)) (s .level)
+            ∙ rw (marked-put false p (place w) fs (h .fits-long) some (omega (arith, s .high, lv .fits, lv .small)))
 
         -- what is left, cut at v
         module _ (xs ys : List ℕ) (cut : left ≡ xs ++ v ∷ ys) where
@@ -179,7 +173,7 @@ module _ {f : ℕ → ℕ → Bool} {ns os ps : List ℕ} {k start size : ℕ} (
 
           fits-now : count (f v) (xs ++ ys) + count (f v) high ≤ m
           fits-now =
-              omega (arith, taken-few, h .counted v taken-level, ap (count (f v)) cut, count-mid (f v) v xs ys, bit-false (f v v) (lv .irreflexive v))
+              omega (arith, taken-few, h .counted v taken-left, ap (count (f v)) cut, count-mid (f v) v xs ys, bit-false (f v v) (lv .irreflexive v))
 
           before : (w : ℕ) → In w xs → m < count (f w) left + count (f w) high
           before w i = go (bool-cases (eqb (place w) p))
@@ -204,19 +198,27 @@ module _ {f : ℕ → ℕ → Bool} {ns os ps : List ℕ} {k start size : ℕ} (
                   let unmarked = first-marked-least fs p first (place w) (omega (arith, low, eqb-false (place w) p e)) (omega (arith, low)) in
                   omega (
                     arith,
-                    h .counted w at,
+                    h .counted w in-left-now,
                     leb-false (getD cs w 0) m (sym (ap (λ (b : Bool). b && leb (getD cs w 0) m) (in-member w left in-left-now)) ∙ sym (h .fitting w at) ∙ unmarked),
                   )
 
-          counted-after : (w : ℕ) → In w level → getD cs1 w 0 ≡ count (f w) (xs ++ ys) + count (f w) high
+          still-left : (w : ℕ) → In w (xs ++ ys) → In w left
+          still-left w i = rw cut (back (in-cases w xs ys i))
+            where
+              back : In w xs ⊎ In w ys → In w (xs ++ v ∷ ys)
+              back (inl a) = in-left w xs (v ∷ ys) a
+              back (inr b) = in-right w xs (v ∷ ys) (inr b)
+
+          counted-after : (w : ℕ) → In w (xs ++ ys) → getD cs1 w 0 ≡ count (f w) (xs ++ ys) + count (f w) high
           counted-after w i =
+              let at = still-left w i in
               omega (
                 arith,
-                counter-after w i,
-                h .counted w i,
+                counter-after w (left-in w at),
+                h .counted w at,
                 ap (count (f w)) cut,
                 count-mid (f w) v xs ys,
-                ap (λ (b : Bool). cond {A = ℕ} b 1 0) (lv .symmetric w v),
+                ap (λ (b : Bool). cond {A = ℕ} b 1 0) (releases w at ∙ lv .symmetric v w),
               )
 
           member-after : (w : ℕ) → (v ≡ w → ⊥) → member w (xs ++ ys) ≡ member w left
@@ -224,12 +226,7 @@ module _ {f : ℕ → ℕ → Bool} {ns os ps : List ℕ} {k start size : ℕ} (
             where
               go : (member w left ≡ true) ⊎ (member w left ≡ false) → member w (xs ++ ys) ≡ member w left
               go (inl e) = in-member w (xs ++ ys) (in-drop w v xs ys ne (rw cut at (member-in w left e))) ∙ sym e
-              go (inr e) =
-                  not-member w (xs ++ ys) (λ i. never (member w left) (in-member w left (rw cut (back (in-cases w xs ys i)))) e) ∙ sym e
-                where
-                  back : In w xs ⊎ In w ys → In w (xs ++ v ∷ ys)
-                  back (inl a) = in-left w xs (v ∷ ys) a
-                  back (inr b) = in-right w xs (v ∷ ys) (inr b)
+              go (inr e) = not-member w (xs ++ ys) (λ i. never (member w left) (in-member w left (still-left w i)) e) ∙ sym e
 
           taken-unfit : (t : Bool) (x y : ℕ) → y + cond t 1 0 ≡ x → x ≤ m → (t && eqb y m) ≡ false
           taken-unfit false x y e l = refl
@@ -241,19 +238,19 @@ module _ {f : ℕ → ℕ → Bool} {ns os ps : List ℕ} {k start size : ℕ} (
               s : Stands lv w
               s = stretch-stands lv w i
 
-              others : (v ≡ w → ⊥) → (t : Bool) → member w left ≡ t → ((t && leb (getD cs w 0) m) || (f v w && eqb (getD cs1 w 0) m)) ≡ (t && leb (getD cs1 w 0) m)
-              others ne true e = fits-released m (f v w) (getD cs w 0) (getD cs1 w 0) (counter-after w i)
+              others : (v ≡ w → ⊥) → (t : Bool) → member w left ≡ t → ((t && leb (getD cs w 0) m) || (member w near && eqb (getD cs1 w 0) m)) ≡ (t && leb (getD cs1 w 0) m)
+              others ne true e = fits-released m (member w near) (getD cs w 0) (getD cs1 w 0) (counter-after w i)
               others ne false e = used (level-cases w i)
                 where
-                  used : In w taken ⊎ In w left → (f v w && eqb (getD cs1 w 0) m) ≡ false
-                  used (inl t) = taken-unfit (f v w) (getD cs w 0) (getD cs1 w 0) (counter-after w i) (h .spent w t)
+                  used : In w taken ⊎ In w left → (member w near && eqb (getD cs1 w 0) m) ≡ false
+                  used (inl t) = taken-unfit (member w near) (getD cs w 0) (getD cs1 w 0) (counter-after w i) (h .spent w t)
                   used (inr l) = never (member w left) (in-member w left l) e
 
               go : (eqb p (place w) ≡ true) ⊎ (eqb p (place w) ≡ false)
-                  → (cond (eqb p (place w)) false (marked fs 0 (place w)) || (f v w && eqb (getD cs1 w 0) m)) ≡ (member w (xs ++ ys) && leb (getD cs1 w 0) m)
+                  → (cond (eqb p (place w)) false (marked fs 0 (place w)) || (member w near && eqb (getD cs1 w 0) m)) ≡ (member w (xs ++ ys) && leb (getD cs1 w 0) m)
               go (inl e) =
                   let same : v ≡ w = ap (λ (x : ℕ). getD os x 0) (eqb-true p (place w) e) ∙ s .entry in
-                  let self : f v w ≡ false = ap (f v) (sym same) ∙ lv .irreflexive v in
+                  let self : member w near ≡ false = releases w (rw same at taken-left) ∙ ap (f v) (sym same) ∙ lv .irreflexive v in
                   let out : member w (xs ++ ys) ≡ false = not-member w (xs ++ ys) (rw same at (apart .0)) in
                   rw (e, self, out)
               go (inr e) =
@@ -261,7 +258,7 @@ module _ {f : ℕ → ℕ → Bool} {ns os ps : List ℕ} {k start size : ℕ} (
                   rw (e, h .fitting w i, member-after w ne) (others ne (member w left) refl)
 
           standing-after : (q : ℕ) → q < max-radios → marked fs1 0 q ≡ true → (start ≤ q) × (q < start + size)
-          standing-after q l t = go (marked-released ns ps k m (place-small lv) near cs fs0 long-fs0 taken-releasable q l t)
+          standing-after q l t = go (marked-released ns ps k m (place-small lv) near cs fs0 long-fs0 may q l t)
             where
               old : (b : Bool) → eqb p q ≡ b → cond b false (marked fs 0 q) ≡ true → marked fs 0 q ≡ true
               old true e u = never false u refl
@@ -295,3 +292,102 @@ module _ {f : ℕ → ℕ → Bool} {ns os ps : List ℕ} {k start size : ℕ} (
 
         pub turns-more : Turning f m os ps start size (taken ++ (v ∷ [])) cs1 fs1
         turns-more = let r = split-in v left taken-left in turned (r .0) (r .1) (r .2)
+
+      -- the neighbours of v after the call, as a row lists them
+      module _ (us : List ℕ) (row-is : (w : ℕ) → w < max-radios → marked us v w ≡ f v w) where
+        below-radios : (w : ℕ) → In w level → w < max-radios
+        below-radios w i = omega (arith, stretch-stands lv w i .below, lv .small)
+
+        row-linked : (w : ℕ) → In w (neighbours-of us v) → f v w ≡ true
+        row-linked w i = let r = in-neighbours-of us v w i in sym (row-is w (r .0)) ∙ r .1
+
+        row-member : (w : ℕ) → In w level → member w (neighbours-of us v) ≡ f v w
+        row-member w i = member-neighbours-of us v w (below-radios w i) ∙ row-is w (below-radios w i)
+
+        row-releasable : (near : List ℕ) → Distinct near → ((w : ℕ) → In w near → f v w ≡ true)
+            → ((w : ℕ) → In w near → In w level → 1 ≤ getD cs w 0) → Releasable ns ps k near cs
+        row-releasable near once linked some-left = record {
+          once = once;
+          known = λ w i. (let l = lv .within v w (linked w i) in
+              (omega (arith, lv .numbers-length), omega (arith, lv .places-length), omega (arith, h .counters-long), omega (arith, lv .small)));
+          above-zero = λ w i e. some-left w i (level-stretch lv w (lv .within v w (linked w i)) e);
+        }
+
+        -- all of them
+        module _ (whole : Whole-counted f os start size taken cs) where
+          pub taken-releasable : Releasable ns ps k (neighbours-of us v) cs
+          taken-releasable = row-releasable (neighbours-of us v) (distinct-neighbours-of us v) row-linked (λ w i at.
+              omega (
+                arith,
+                whole w at,
+                takes-permutation f m high (h .takes) (f w),
+                count-append (f w) taken left,
+                count-pos (f w) v left taken-left (lv .symmetric w v ∙ row-linked w i),
+              ))
+
+          pub whole-turns : Turning f m os ps start size (taken ++ (v ∷ [])) (released ns k (neighbours-of us v) cs)
+              (places-released ns ps k m (neighbours-of us v) cs (put-bit false 0 p fs))
+          whole-turns = turns-more (neighbours-of us v) taken-releasable (λ w i. row-member w (left-in w i))
+
+          pub whole-after : Whole-counted f os start size (taken ++ (v ∷ [])) (released ns k (neighbours-of us v) cs)
+          unfolding count
+          whole-after w i =
+              omega (
+                arith,
+                whole w i,
+                counter-after (neighbours-of us v) taken-releasable (λ w i. row-member w (left-in w i)) w i,
+                ap (λ (b : Bool). cond {A = ℕ} b 1 0) (row-member w i ∙ lv .symmetric v w),
+                count-append (f w) taken (v ∷ []),
+              )
+
+        -- the ones that are left
+        module _ (set : List ℕ) (is : Left-set (taken ++ (v ∷ [])) set) where
+          abbrev near-set : List ℕ
+          near-set = near-left us v set
+
+          in-near : (w : ℕ) → In w near-set → In w (neighbours-of us v) × (in-set set w ≡ true)
+          unfolding near-left
+          in-near w i = in-filter (in-set set) (neighbours-of us v) w i
+
+          near-in : (w : ℕ) → In w (neighbours-of us v) → in-set set w ≡ true → In w near-set
+          unfolding near-left
+          near-in w i e = filter-in (in-set set) (neighbours-of us v) w i e
+
+          still : (w : ℕ) → In w near-set → In w level → In w left
+          still w i at = go (level-cases w at)
+            where
+              r : In w (neighbours-of us v) × (in-set set w ≡ true)
+              r = in-near w i
+
+              go : In w taken ⊎ In w left → In w left
+              go (inl t) =
+                  let gone : in-set set w ≡ false = is .has w (below-radios w at) ∙ ap not (in-member w (taken ++ (v ∷ [])) (in-left w taken (v ∷ []) t)) in
+                  never (in-set set w) (r .1) gone
+              go (inr l) = l
+
+          pub left-releasable : Releasable ns ps k near-set cs
+          unfolding near-left
+          left-releasable = row-releasable near-set (distinct-filter (in-set set) (neighbours-of us v) (distinct-neighbours-of us v))
+              (λ w i. row-linked w (in-near w i .0))
+              (λ w i at. omega (arith, h .counted w (still w i at), count-pos (f w) v left taken-left (lv .symmetric w v ∙ row-linked w (in-near w i .0))))
+
+          left-member : (w : ℕ) → In w left → member w near-set ≡ f v w
+          left-member w i = go (bool-cases (f v w))
+            where
+              at : In w level
+              at = left-in w i
+
+              go : (f v w ≡ true) ⊎ (f v w ≡ false) → member w near-set ≡ f v w
+              go (inl e) =
+                  let apart-v : v ≡ w → ⊥ = λ q. never (f v v) (ap (f v) q ∙ e) (lv .irreflexive v) in
+                  let out : member w (taken ++ (v ∷ [])) ≡ false = not-member w (taken ++ (v ∷ [])) (λ t. untaken apart-v (in-cases w taken (v ∷ []) t)) in
+                  in-member w near-set (near-in w (member-in w (neighbours-of us v) (row-member w at ∙ e)) (is .has w (below-radios w at) ∙ ap not out)) ∙ sym e
+                where
+                  untaken : (v ≡ w → ⊥) → In w taken ⊎ In w (v ∷ []) → ⊥
+                  untaken ne (inl t) = distinct-apart taken left all-distinct w t i
+                  untaken ne (inr (inl q)) = ne q
+                  untaken ne (inr (inr q)) = absurd q
+              go (inr e) = not-member w near-set (λ t. never (f v w) (row-linked w (in-near w t .0)) e) ∙ sym e
+
+          pub left-turns : Turning f m os ps start size (taken ++ (v ∷ [])) (released ns k near-set cs) (places-released ns ps k m near-set cs (put-bit false 0 p fs))
+          left-turns = turns-more near-set left-releasable left-member

@@ -10,7 +10,7 @@ use lib.Dec.{ltb, leb}
 use lib.ListN.{length, getD, take}
 use borrow.Author.Tests.{ltb-true, ltb-false}
 use Rattle.mesh.specs.Limits.{max-radios, max-neighbours, row-bytes}
-use Rattle.lists.specs.Lists.{range, count, In}
+use Rattle.lists.specs.Lists.{range, count, member, In}
 use Rattle.lists.specs.Facts.{Each-once}
 use Rattle.lists.proofs.Tests.{bool-cases, never, and-left, and-right}
 use Rattle.lists.proofs.Member.{in-getD, in-member, not-member, member-in}
@@ -183,7 +183,7 @@ module _ {up : Bool} {n a b : ℕ} {t : Tables} {places highs : List ℕ} (k : S
           ∙ unchanged-number up a b g w lw (not-member w cs not)
           ∙ sym (getD-numbers (relinked up a b g) w lw)
 
-  counts-after : (new : List ℕ) → new ≡ recounted (after .links) (after .numbers) (neighbours-of (touched a b cs (after .links)) 0) highs
+  counts-after : (new : List ℕ) → new ≡ recounted (after .links) (after .numbers) (touched a b cs (after .links)) highs
       → Highs n (after .links) (after .numbers) new
   unfolding graph-in
   counts-after new e = record { at = λ v l. ap (λ (hs : List ℕ). getD hs v 0) e ∙ count-of v l }
@@ -191,21 +191,15 @@ module _ {up : Bool} {n a b : ℕ} {t : Tables} {places highs : List ℕ} (k : S
       ts : List ℕ
       ts = after .links
 
-      la : a < max-radios
-      la = omega (arith, allowed .a-radio, site .small)
-
-      lb : b < max-radios
-      lb = omega (arith, allowed .b-radio, site .small)
-
-      untouched : (v : ℕ) → v < max-radios → (marked (touched a b cs ts) 0 v ≡ false)
+      untouched : (v : ℕ) → v < max-radios → (member v (touched a b cs ts) ≡ false)
           → (v ≡ a → ⊥) × (v ≡ b → ⊥) × ((w : ℕ) → In w cs → In v (around ts w) → ⊥)
       untouched v lv f = (
-        λ q. never (marked (touched a b cs ts) 0 v) (touched-ends a b cs ts la lb v lv (inl q)) f,
-        λ q. never (marked (touched a b cs ts) 0 v) (touched-ends a b cs ts la lb v lv (inr q)) f,
-        λ w i j. never (marked (touched a b cs ts) 0 v) (touched-around a b cs ts la lb w v lv i j) f,
+        λ q. never (member v (touched a b cs ts)) (touched-ends a b cs ts v lv (inl q)) f,
+        λ q. never (member v (touched a b cs ts)) (touched-ends a b cs ts v lv (inr q)) f,
+        λ w i j. never (member v (touched a b cs ts)) (touched-around a b cs ts w v lv i j) f,
       )
 
-      either : (v : ℕ) → v < n → (m : Bool) → marked (touched a b cs ts) 0 v ≡ m
+      either : (v : ℕ) → v < n → (m : Bool) → member v (touched a b cs ts) ≡ m
           → cond m (high-count (after .numbers) v (neighbours-of ts v)) (getD highs v 0) ≡ high-count (after .numbers) v (neighbours-of ts v)
       either v l true f = refl
       either v l false f =
@@ -213,11 +207,10 @@ module _ {up : Bool} {n a b : ℕ} {t : Tables} {places highs : List ℕ} (k : S
           k .prepared .counted .at v l ∙ kept-count v l (u .0) (u .1) (u .2)
 
       count-of : (v : ℕ) → v < n
-          → getD (recounted ts (after .numbers) (neighbours-of (touched a b cs ts) 0) highs) v 0 ≡ high-count (after .numbers) v (neighbours-of ts v)
+          → getD (recounted ts (after .numbers) (touched a b cs ts) highs) v 0 ≡ high-count (after .numbers) v (neighbours-of ts v)
       count-of v l =
-          getD-recounted ts (after .numbers) v (neighbours-of (touched a b cs ts) 0) highs (omega (arith, k .prepared .highs-length, site .small))
-          ∙ ap (λ (m : Bool). cond m (high-count (after .numbers) v (neighbours-of ts v)) (getD highs v 0)) (member-neighbours-of (touched a b cs ts) 0 v (omega (arith, site .small)))
-          ∙ either v l (marked (touched a b cs ts) 0 v) refl
+          getD-recounted ts (after .numbers) v (touched a b cs ts) highs (omega (arith, k .prepared .highs-length, site .small))
+          ∙ either v l (member v (touched a b cs ts)) refl
 
   -- as the code names its values: v are the tables after the change, k the count of changed radios, which stand in front of `list`
   module _ (v : Tables) (many : ℕ) (list : List ℕ) (start size : ℕ) (d : Changed-by up n a b t v many list start size) where
@@ -267,11 +260,11 @@ module _ {up : Bool} {n a b : ℕ} {t : Tables} {places highs : List ℕ} (k : S
 
     -- the tables after, prepared again
     pub step-carried : (p : List ℕ) → p ≡ places-put (v .order) (range start size) places
-        → (h : List ℕ) → h ≡ recounted (v .links) (v .numbers) (neighbours-of (touched a b (take many list) (v .links)) 0) highs → Carried up n a b t v p h
+        → (h : List ℕ) → h ≡ recounted (v .links) (v .numbers) (touched a b (take many list) (v .links)) highs → Carried up n a b t v p h
     step-carried p f h e =
         let again : Placed n (v .order) p =
         rw f (placed-again n (t .order) (v .order) places start size (once-distinct n (v .order) order-once) order-length (d .part-fits) (λ q l. omega (arith, order-known q l, k .prepared .places-length)) (d .unmoved) (k .prepared .placed)) in
-        let is : h ≡ recounted (after .links) (after .numbers) (neighbours-of (touched a b cs (after .links)) 0) highs =
+        let is : h ≡ recounted (after .links) (after .numbers) (touched a b cs (after .links)) highs =
         e ∙ rw (list-is, d .tables) in
         record {
           tables = d .tables;

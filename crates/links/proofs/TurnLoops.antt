@@ -4,7 +4,7 @@ use mathlib.Core.Path.{_≡_, refl, sym, ap, _∙_}
 use mathlib.Core.Logic.{_⊎_, inl, inr}
 use mathlib.Core.Bool.{Bool, true, false, _&&_, cond}
 use mathlib.Core.List.{List, [], _∷_, _++_}
-use Prim.Native.Nat.{ℕ, suc, _+_, _*_, _-_, _^_, _≤_, _<_}
+use Prim.Native.Nat.{ℕ, suc, _+_, _*_, _-_, _/_, _%_, _^_, _≤_, _<_}
 use native.Mathlib.Omega.{arith}
 use native.Mathlib.Numerals.{add-one}
 use lib.Bits.{bitAnd, and-le-l}
@@ -14,17 +14,20 @@ use lib.ListN.{length, getD, set, drop, length-set}
 use lib.Seq.{drop-cons, getD-set-other, drop-length}
 use borrow.Author.Tests.{eq-eqb, ne-eqb}
 use Rattle.mesh.specs.Limits.{max-radios, row-bytes}
-use Rattle.lists.specs.Lists.{range}
-use Rattle.mesh.specs.Tables.{put-bit}
+use Rattle.lists.specs.Lists.{range, filter}
+use Rattle.mesh.specs.Tables.{digit, marked, put-bit}
 use Rattle.lists.proofs.Tests.{bool-cases}
 use Rattle.lists.proofs.Member.{in-left}
 use Rattle.lists.proofs.Distinct.{distinct-left}
+use Rattle.lists.proofs.Filter.{filter-filter}
 use Rattle.lists.proofs.Parts.{length-cond}
 use Rattle.mesh.proofs.Tables.Laws.{length-put-bit}
-use Rattle.rows.specs.Rows.{neighbours-of, row-from, set-bits, row-word, word-of}
+use Rattle.rows.specs.Rows.{row-from, set-bits, row-word, word-of}
 use Rattle.rows.proofs.WordLaws.{set-bits-nothing, set-bits-lowest}
-use Rattle.rows.proofs.RowWords.{row-from-zero, row-from-word, row-from-end, word-of-whole}
-use Rattle.links.specs.Turns.{end-counted, counter-less, released, place-marked, places-released, places-fitting, Releasable}
+use Rattle.rows.proofs.RowWords.{row-from-zero, row-from-end, row-from-word, words-from, marked-word, word-of-whole}
+use Rattle.sets.specs.Sets.{in-set}
+use Rattle.sets.proofs.SetLaws.{digit-and}
+use Rattle.links.specs.Turns.{end-counted, counter-less, released, place-marked, places-released, places-fitting, near-left, Releasable}
 
 -- ---- lengths
 
@@ -247,34 +250,64 @@ module _ (ns ps : List ℕ) (k m first word : ℕ) (old fold : List ℕ) where
   word-end rest cs fs e h =
       releasing-end ns ps k m (set-bits 64 first word) old fold (set-bits 64 first rest) cs fs (ap (set-bits 64 first) e ∙ set-bits-nothing 64 first) (h .1)
 
--- ---- the words of a row: from word j on is left
+-- ---- the words of a row, or of what is left of it: `from j` are its radios from word j on
 
-module _ (ns ps : List ℕ) (k m : ℕ) (row old fold : List ℕ) where
-  abbrev pub Row-releasing : (j : ℕ) → (counters fits : List ℕ) → Type 0
-  Row-releasing j cs fs = (j ≤ 8) × Releasing ns ps k m (neighbours-of row 0) old fold (row-from row 0 j) cs fs
+module _ (ns ps : List ℕ) (k m : ℕ) (from : ℕ → List ℕ) (old fold : List ℕ) where
+  abbrev pub Words-releasing : (j : ℕ) → (counters fits : List ℕ) → Type 0
+  Words-releasing j cs fs = (j ≤ 8) × Releasing ns ps k m (from 0) old fold (from j) cs fs
 
-  pub row-none : Releasable ns ps k (neighbours-of row 0) old → Row-releasing 0 old fold
-  row-none h = (omega arith, rw (row-from-zero row 0) (releasing-none ns ps k m (neighbours-of row 0) old fold h))
+  pub words-none : Releasable ns ps k (from 0) old → Words-releasing 0 old fold
+  words-none h = (omega arith, releasing-none ns ps k m (from 0) old fold h)
 
-  module _ (long : length row ≡ row-bytes) (bytes : (i : ℕ) → getD row i 0 < 256) (j w : ℕ) (cs fs : List ℕ) (l : j < 8) (e : w ≡ word-of row j)
-      (h : Row-releasing j cs fs) where
+  module _ (j w : ℕ) (cs fs : List ℕ) (l : j < 8) (split : from j ≡ set-bits 64 (64 * j) w ++ from (j + 1)) (h : Words-releasing j cs fs) where
     abbrev bits : List ℕ
     bits = set-bits 64 (64 * j) w
 
-    row-next : Releasing ns ps k m (neighbours-of row 0) old fold (bits ++ row-from row 0 (j + 1)) cs fs
-    row-next =
-        let here : row-bytes * 0 + 8 * j ≡ 8 * j = omega arith in
-        let is : row-word 8 row (row-bytes * 0 + 8 * j) ≡ w = ap (row-word 8 row) here ∙ sym (word-of-whole row j (omega arith)) ∙ sym e in
-        let split : row-from row 0 j ≡ bits ++ row-from row 0 (j + 1) =
-        row-from-word row bytes 0 j l ∙ ap (λ (x : ℕ). set-bits 64 (64 * j) x ++ row-from row 0 (j + 1)) is in
-        rw split at (h .1)
+    words-next : Releasing ns ps k m (from 0) old fold (bits ++ from (j + 1)) cs fs
+    words-next = rw split at (h .1)
 
-    pub row-ready : Releasable ns ps k bits cs
-    row-ready = releasable-part ns ps k bits (row-from row 0 (j + 1)) cs (row-next .ready)
+    pub words-ready : Releasable ns ps k bits cs
+    words-ready = releasable-part ns ps k bits (from (j + 1)) cs (words-next .ready)
 
-    pub row-turn : (cs1 fs1 : List ℕ) → cs1 ≡ released ns k bits cs → fs1 ≡ places-released ns ps k m bits cs fs → Row-releasing (j + 1) cs1 fs1
-    row-turn cs1 fs1 f g = (omega arith, releasing-part ns ps k m (neighbours-of row 0) old fold bits (row-from row 0 (j + 1)) cs fs cs1 fs1 f g row-next)
+    pub words-turn : (cs1 fs1 : List ℕ) → cs1 ≡ released ns k bits cs → fs1 ≡ places-released ns ps k m bits cs fs → Words-releasing (j + 1) cs1 fs1
+    words-turn cs1 fs1 f g = (omega arith, releasing-part ns ps k m (from 0) old fold bits (from (j + 1)) cs fs cs1 fs1 f g words-next)
 
-  pub row-end : (j : ℕ) (cs fs : List ℕ) → 8 ≤ j → Row-releasing j cs fs
-      → (cs ≡ released ns k (neighbours-of row 0) old) × (fs ≡ places-released ns ps k m (neighbours-of row 0) old fold)
-  row-end j cs fs l h = releasing-end ns ps k m (neighbours-of row 0) old fold (row-from row 0 j) cs fs (row-from-end row 0 j l) (h .1)
+  pub words-end : (j : ℕ) (cs fs : List ℕ) → from j ≡ [] → Words-releasing j cs fs
+      → (cs ≡ released ns k (from 0) old) × (fs ≡ places-released ns ps k m (from 0) old fold)
+  words-end j cs fs e h = releasing-end ns ps k m (from 0) old fold (from j) cs fs e (h .1)
+
+-- the radios of a row lent by itself, from word j on, that a set has
+abbrev pub left-from : (row set : List ℕ) → (j : ℕ) → List ℕ
+left-from row ws j = filter (in-set ws) (row-from row 0 j)
+
+pub left-from-zero : (row ws : List ℕ) → left-from row ws 0 ≡ near-left row 0 ws
+unfolding near-left
+left-from-zero row ws = ap (filter (in-set ws)) (row-from-zero row 0)
+
+pub left-from-end : (row ws : List ℕ) (j : ℕ) → 8 ≤ j → left-from row ws j ≡ []
+unfolding filter
+left-from-end row ws j l = ap (filter (in-set ws)) (row-from-end row 0 j l)
+
+-- one word more of a row that is lent by itself, and of what a set has of it
+module _ (row : List ℕ) (long : length row ≡ row-bytes) (bytes : (i : ℕ) → getD row i 0 < 256) (j w : ℕ) (l : j < 8) (e : w ≡ word-of row j) where
+  word-is : row-word 8 row (row-bytes * 0 + 8 * j) ≡ w
+  word-is =
+      let here : row-bytes * 0 + 8 * j ≡ 8 * j = omega arith in
+      ap (row-word 8 row) here ∙ sym (word-of-whole row j (omega arith)) ∙ sym e
+
+  pub row-split : row-from row 0 j ≡ set-bits 64 (64 * j) w ++ row-from row 0 (j + 1)
+  row-split = row-from-word row bytes 0 j l ∙ ap (λ (x : ℕ). set-bits 64 (64 * j) x ++ row-from row 0 (j + 1)) word-is
+
+  pub left-split : (set : List ℕ)
+      → left-from row set j ≡ set-bits 64 (64 * j) (bitAnd w (getD set j 0)) ++ left-from row set (j + 1)
+  unfolding row-from in-set
+  left-split set =
+      filter-filter (in-set set) (λ x. marked row 0 x) (range (64 * j) (max-radios - 64 * j))
+      ∙ words-from (λ x. marked row 0 x && in-set set x) j (bitAnd w (getD set j 0)) l tells
+      ∙ ap (_++_ (set-bits 64 (64 * j) (bitAnd w (getD set j 0)))) (sym (filter-filter (in-set set) (λ x. marked row 0 x) (range (64 * (j + 1)) (max-radios - 64 * (j + 1)))))
+    where
+      tells : (b : ℕ) → b < 64 → (marked row 0 (64 * j + b) && digit (getD set ((64 * j + b) / 64) 0) ((64 * j + b) % 64)) ≡ digit (bitAnd w (getD set j 0)) b
+      tells b h =
+          let q : (64 * j + b) / 64 ≡ j = omega arith in
+          let r : (64 * j + b) % 64 ≡ b = omega arith in
+          rw (marked-word row bytes 0 j b h, word-is, q, r) (sym (digit-and w (getD set j 0) b))

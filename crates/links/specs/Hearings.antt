@@ -10,7 +10,7 @@ use mathlib.Core.Path.{_≡_}
 use mathlib.Core.Bool.{Bool, true, false, _&&_, not, cond}
 use mathlib.Core.List.{List}
 use Prim.Native.Nat.{ℕ, suc, _<_}
-use Rattle.mesh.specs.Limits.{max-radios, max-neighbours}
+use Rattle.mesh.specs.Limits.{max-neighbours}
 use Rattle.mesh.specs.Tables.{Tables}
 use Rattle.mesh.specs.Sound.{sound}
 use Rattle.calls.specs.Questions.{lengths-of}
@@ -44,8 +44,7 @@ pub record Brought (n : ℕ) (hs : List ℕ) (t v : Tables) : Type 0 where
   pub down : (s : Tables) (p : Phase) → p .up ≡ false → Phase-by n hs p → Rows-left n p s 0 t → Rows-left n p s n between
   pub up : (s : Tables) (p : Phase) → p .up ≡ true → Phase-by n hs p → Rows-left n p s 0 between → Rows-left n p s n v
 
--- `further`, `p` and `h` are lengths: of the further table, of the lent places and of the lent not-lower counts, which are for as many
--- radios as a site may have
-pub record Hear-asked (n : ℕ) (hs : List ℕ) (further : ℕ) (t : Tables) (p h : ℕ) (places highs : List ℕ) (r : ℕ) : Type 0 where
-  pub number : p ≡ max-radios → h ≡ max-radios → r ≡ hear-refusal n (lengths-of t) hs further (sound n t)
-  pub prepared : p ≡ max-radios → h ≡ max-radios → r ≡ 0 → Prepared n t places highs
+-- `further` is the further table's length
+pub record Hear-asked (n : ℕ) (hs : List ℕ) (further : ℕ) (t : Tables) (places highs : List ℕ) (r : ℕ) : Type 0 where
+  pub number : r ≡ hear-refusal n (lengths-of t) hs further (sound n t)
+  pub prepared : r ≡ 0 → Prepared n t places highs

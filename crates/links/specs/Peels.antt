@@ -3,12 +3,14 @@
 --   above order start size     the entries after it
 --   linked-after               neighbours after the call
 --   Level                      what the peel is made from: numbers, order and places that fit together, and neighbours after the call
---   Turning                    so many radios are taken, what is left, the counters and the fitting places
+--   Turning                    so many radios are taken, what is left, its counters and the fitting places
+--   Whole-counted              the counters of all radios of the level, taken or not: as the peel of a thin level keeps them
+--   Left-set                   a set that has all radios but the taken
 --   Peel-ready                 the same before the first turn, with rows and room for the loop
 --   Peel-done                  what the loop comes back with: the taken in front of the list, the stuck by their counters
 -- Laws are in proofs/LevelLaws.antt and proofs/PeelTurns.antt. Definitions only.
 use mathlib.Core.Path.{_≡_}
-use mathlib.Core.Bool.{Bool, true, false, _&&_}
+use mathlib.Core.Bool.{Bool, true, false, not, _&&_}
 use mathlib.Core.List.{List, []}
 use Prim.Native.Nat.{ℕ, _+_, _*_, _≤_, _<_}
 use lib.Dec.{ltb, leb}
@@ -18,6 +20,7 @@ use Rattle.lists.specs.Lists.{count, filter, member, In}
 use Rattle.mesh.specs.Graph.{linked, relinked}
 use Rattle.mesh.specs.Tables.{marked, put-link, graph-in}
 use Rattle.mesh.specs.Peel.{Takes, Peels}
+use Rattle.sets.specs.Sets.{in-set}
 use Rattle.walk_parts.specs.Places.{level-start, level-size}
 
 abbrev pub stretch : (order : List ℕ) → (start size : ℕ) → List ℕ
@@ -48,13 +51,22 @@ pub record Turning (f : ℕ → ℕ → Bool) (most : ℕ) (order places : List 
   pub rest : List ℕ
   pub takes : Takes f most (above order start size) (stretch order start size) taken rest
   pub counted :
-      (v : ℕ) → In v (stretch order start size) → getD counters v 0 ≡ count (f v) rest + count (f v) (above order start size)
+      (v : ℕ) → In v rest → getD counters v 0 ≡ count (f v) rest + count (f v) (above order start size)
   pub fitting :
       (v : ℕ) → In v (stretch order start size) → marked fits 0 (getD places v 0) ≡ (member v rest && leb (getD counters v 0) most)
   pub standing : (p : ℕ) → p < max-radios → marked fits 0 p ≡ true → (start ≤ p) × (p < start + size)
   pub spent : (v : ℕ) → In v taken → getD counters v 0 ≤ most
   pub counters-long : length order ≤ length counters
   pub fits-long : length fits ≡ row-bytes
+
+abbrev pub Whole-counted : (f : ℕ → ℕ → Bool) → (order : List ℕ) → (start size : ℕ) → (taken counters : List ℕ) → Type 0
+Whole-counted f os start size ts cs =
+    (v : ℕ) → In v (stretch os start size) →
+    getD cs v 0 + count (f v) ts ≡ count (f v) (stretch os start size) + count (f v) (above os start size)
+
+pub record Left-set (taken left : List ℕ) : Type 0 where
+  pub long : length left ≡ 8
+  pub has : (v : ℕ) → v < max-radios → in-set left v ≡ not (member v taken)
 
 pub record Peel-ready (up : Bool) (a b k most : ℕ) (links numbers order places counters fits : List ℕ) (list-room : ℕ) : Type 0 where
   pub level : Level (linked-after up a b (length order) links) numbers order places k (level-start numbers k) (level-size numbers k)

@@ -6,27 +6,31 @@
 --   Carried          the tables that it leaves, prepared again
 --   Stepped          the number of questions 4 to 7, and the tables after them, prepared again
 --   around ts v      the radio v and its neighbours
---   touched          the set of both ends, of the changed radios and of their neighbours: the radios whose not-lower count may differ
+--   all-around       some radios and their neighbours
+--   Joined           a set with some radios put in
+--   set-radios ws    the radios of the set ws, ascending
+--   touched          both ends, the changed radios and their neighbours, ascending: the radios whose not-lower count may differ
 --   recounted        the not-lower counts, some radios counted anew
 --   Rows-known       rows that can be counted
 -- Laws are in proofs/CountLaws.antt and proofs/StepLaws.antt. Definitions only.
 use mathlib.Core.Path.{_≡_}
 use mathlib.Core.Logic.{_⊎_}
-use mathlib.Core.Bool.{Bool, true}
-use mathlib.Core.List.{List, _∷_}
+use mathlib.Core.Bool.{Bool, true, _||_}
+use mathlib.Core.List.{List, [], _∷_, _++_}
 use Prim.Native.Nat.{ℕ, _+_, _*_, _≤_, _<_}
-use lib.ListN.{length, getD, set, take, replicate}
+use lib.Dec.{eqb}
+use lib.ListN.{length, getD, set, take}
 use Rattle.mesh.specs.Limits.{max-radios, max-neighbours, row-bytes}
 use Rattle.lists.specs.Facts.{folded}
-use Rattle.lists.specs.Lists.{In}
+use Rattle.lists.specs.Lists.{range, filter, member, In}
 use Rattle.mesh.specs.Levels.{changed}
-use Rattle.mesh.specs.Tables.{Tables, put-bit, graph-in}
+use Rattle.mesh.specs.Tables.{Tables, graph-in}
 use Rattle.calls.specs.Questions.{ends-refusal}
 use Rattle.calls.specs.Switches.{switch, switched}
 use Rattle.rows.specs.Rows.{neighbours-of}
 use Rattle.row_conditions.specs.Conditions.{Placed, Highs, high-count}
 use Rattle.soundness.specs.Checks.{fits-sound}
-use Rattle.link_parts.specs.Changes.{all-marked}
+use Rattle.sets.specs.Sets.{in-set}
 
 -- ---- one link
 
@@ -70,12 +74,20 @@ pub record Stepped (up : Bool) (n a b : ℕ) (t : Tables) (r : ℕ) (v : Tables)
 abbrev pub around : (links : List ℕ) → (v : ℕ) → List ℕ
 around ts v = v ∷ neighbours-of ts v
 
--- `radios` and their neighbours, in the set
-unfoldable pub all-around : (links radios set : List ℕ) → List ℕ
-all-around ts vs s = folded (λ v now. all-marked (around ts v) now) vs s
+unfoldable pub all-around : (links radios : List ℕ) → List ℕ
+all-around ts [] = []
+all-around ts (v ∷ vs) = around ts v ++ all-around ts vs
+
+-- ws before, us after
+pub record Joined (radios ws us : List ℕ) : Type 0 where
+  pub long : length us ≡ 8
+  pub has : (w : ℕ) → in-set us w ≡ (in-set ws w || member w radios)
+
+unfoldable pub set-radios : (words : List ℕ) → List ℕ
+set-radios ws = filter (in-set ws) (range 0 max-radios)
 
 unfoldable pub touched : (a b : ℕ) → (changed links : List ℕ) → List ℕ
-touched a b cs ts = put-bit true 0 b (put-bit true 0 a (all-around ts cs (replicate row-bytes 0)))
+touched a b cs ts = filter (λ w. eqb b w || (eqb a w || member w (all-around ts cs))) (range 0 max-radios)
 
 unfoldable pub recounted : (links numbers radios highs : List ℕ) → List ℕ
 recounted ts ns vs hs = folded (λ v now. set now v (high-count ns v (neighbours-of ts v))) vs hs

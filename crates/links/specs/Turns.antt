@@ -6,6 +6,7 @@
 --   place-marked ns ps k m v cs fs   the fitting places fs with the place of v, where v is of level k and its counter is m
 --   places-released               the fitting places after each radio of vs lost a neighbour
 --   places-fitting os cs m is fs  the fitting places fs with each of the places `is` whose radio has a counter of at most m
+--   near-left ts v ws             the radios that row v of the links table ts marks and that are in the set ws, ascending
 --   fits-linked a b m v c         v has at most m neighbours once the link a-b is up, where it has c without it
 --   stays-linked a b m cs v       it has more, by the counters cs
 --   Releasable                    listed radios that can lose a neighbour: no repeats, and counters of the level above 0
@@ -23,9 +24,10 @@ use lib.Dec.{leb, eqb}
 use lib.ListN.{length, getD, set, take}
 use Rattle.mesh.specs.Limits.{max-radios, max-neighbours, row-bytes}
 use Rattle.mesh.specs.Tables.{put-bit, put-link}
-use Rattle.lists.specs.Lists.{In}
+use Rattle.lists.specs.Lists.{filter, In}
 use Rattle.lists.specs.Facts.{Distinct}
 use Rattle.rows.specs.Rows.{neighbours-of}
+use Rattle.sets.specs.Sets.{in-set}
 
 unfoldable pub end-counted : (up : Bool) → (k : ℕ) → (numbers : List ℕ) → (v : ℕ) → (counters : List ℕ) → List ℕ
 end-counted up k ns v cs = cond (eqb (getD ns v 0) k) (set cs v (cond up (getD cs v 0 + 1) (getD cs v 0 - 1))) cs
@@ -52,6 +54,9 @@ unfoldable pub places-fitting : (order counters : List ℕ) → (most : ℕ) →
 places-fitting os cs m [] fs = fs
 places-fitting os cs m (i ∷ is) fs =
     places-fitting os cs m is (cond (leb (getD cs (getD os i 0) 0) m) (put-bit true 0 i fs) fs)
+
+unfoldable pub near-left : (links : List ℕ) → (v : ℕ) → (left : List ℕ) → List ℕ
+near-left ts v ws = filter (in-set ws) (neighbours-of ts v)
 
 unfoldable pub fits-linked : (a b most v count : ℕ) → Bool
 fits-linked a b m v c = leb (c + cond (eqb v a || eqb v b) 1 0) m

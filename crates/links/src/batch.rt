@@ -2,6 +2,7 @@
 ghost use mathlib.Core.Path.{_≡_};
 ghost use mathlib.Core.Bool.{true};
 ghost use lib.ListN.{length};
+ghost use Rattle.mesh.specs.Limits.{max-radios};
 ghost use Rattle.mesh.specs.Lent.{lent};
 ghost use Rattle.mesh.specs.Tables.{graph-in};
 ghost use Rattle.calls.specs.Batches.{list-length, batch-refusal};
@@ -70,8 +71,8 @@ fn refusal(
     places: &mut [u16; Site::RADIOS as usize],
     highs: &mut [u8; Site::RADIOS as usize],
 ) -> u32
-    ensures { λ r. ⌜ Batch-asked n list (lent (links .entry) (numbers .entry) (order .entry)) (length (now (places .entry)))
-        (length (now (highs .entry))) (now (places .exit)) (now (highs .exit)) r ⌝ }
+    requires { ⌜ (length (now places) ≡ max-radios) × (length (now highs) ≡ max-radios) ⌝ }
+    ensures { λ r. ⌜ Batch-asked n list (lent (links .entry) (numbers .entry) (order .entry)) (now (places .exit)) (now (highs .exit)) r ⌝ }
 {
     let number = sizes::of_tables(Site { radios: n }, links.len(), numbers.len(), order.len());
     if number != 0 {

@@ -5,12 +5,10 @@ ghost use Prim.Native.Nat.{ℕ, _+_, _*_, _≤_, _<_};
 ghost use lib.Dec.{leb};
 ghost use lib.ListN.{length, getD, take};
 ghost use Rattle.lists.specs.Lists.{count, In};
-ghost use Rattle.mesh.specs.Limits.{max-neighbours, row-bytes};
-ghost use Rattle.rows.specs.Rows.{neighbours-of, row-listed};
+ghost use Rattle.mesh.specs.Limits.{max-radios, max-neighbours, row-bytes};
+ghost use Rattle.rows.specs.Rows.{neighbours-of, set-bits};
 ghost use Rattle.row_conditions.specs.Conditions.{high-count};
-ghost use Rattle.link_parts.specs.Changes.{all-marked};
-ghost use Rattle.links.specs.Steps.{around, all-around, touched, recounted, Rows-known};
-use link_parts::apply;
+ghost use Rattle.links.specs.Steps.{around, all-around, Joined, set-radios, touched, recounted, Rows-known};
 use mesh::Site;
 
 // How many of the first k listed radios have a number that is not below `number`.
@@ -38,60 +36,74 @@ fn high_of(v: u32, links: &[u8], numbers: &[u8]) -> u8
     count_high(&near, k as usize, numbers[v as usize], numbers)
 }
 
-// Counts the first k listed radios anew.
-fn recount(
-    list: &[u16],
-    k: usize,
+// Counts the radios of a word's set bits, counted from `first`, anew.
+fn recount_word(
+    word: u64,
+    first: u32,
     links: &[u8],
     numbers: &[u8],
     highs: &mut [u8; Site::RADIOS as usize],
 )
     requires { ⌜ Rows-known (length (now numbers)) (now links) (now numbers) × (length (now numbers) ≤ length (now highs)) ×
-        (k ≤ length (now list)) × ((i : ℕ) → i < k → getD (now list) i 0 < length (now numbers)) ⌝ }
+        (first ≤ max-radios) × ((v : ℕ) → In v (set-bits 64 first word) → v < length (now numbers)) ⌝ }
     ensures { λ _. ⌜ now (highs .exit)
-        ≡ recounted (now (links .entry)) (now (numbers .entry)) (take k (now (list .entry))) (now (highs .entry)) ⌝ }
+        ≡ recounted (now (links .entry)) (now (numbers .entry)) (set-bits 64 first word) (now (highs .entry)) ⌝ }
+{
+    let mut rest = word;
+    while rest != 0 {
+        let v = first + u64::trailing_zeros(rest);
+        highs[v as usize] = high_of(v, links, numbers);
+        rest = rest & (rest - 1);
+    }
+}
+
+// Counts the radios of the set anew.
+fn recount(
+    set: &[u64; rows::ROW_WORDS as usize],
+    links: &[u8],
+    numbers: &[u8],
+    highs: &mut [u8; Site::RADIOS as usize],
+)
+    requires { ⌜ Rows-known (length (now numbers)) (now links) (now numbers) × (length (now numbers) ≤ length (now highs)) ×
+        ((v : ℕ) → In v (set-radios (now set)) → v < length (now numbers)) ⌝ }
+    ensures { λ _. ⌜ now (highs .exit)
+        ≡ recounted (now (links .entry)) (now (numbers .entry)) (set-radios (now (set .entry))) (now (highs .entry)) ⌝ }
+{
+    let mut k: u32 = 0;
+    while k < rows::ROW_WORDS {
+        recount_word(set[k as usize], rows::WORD_BITS * k, links, numbers, highs);
+        k += 1;
+    }
+}
+
+// Puts v and its neighbours into the set.
+fn join_around(v: u32, links: &[u8], set: &mut [u64; rows::ROW_WORDS as usize])
+    requires { ⌜ (row-bytes * v + row-bytes ≤ length (now links)) × (v < max-radios) × (length (now set) ≡ 8) ⌝ }
+    ensures { λ _. ⌜ Joined (around (now (links .entry)) v) (now (set .entry)) (now (set .exit)) ⌝ }
+{
+    sets::put_in(set, v);
+    sets::join_row(links, v, set);
+}
+
+// Puts each of the first k listed radios and its neighbours into the set.
+fn join_all(list: &[u16], k: usize, links: &[u8], set: &mut [u64; rows::ROW_WORDS as usize])
+    requires { ⌜ (k ≤ length (now list)) × (length (now set) ≡ 8) × ((i : ℕ) → i < k →
+        (row-bytes * getD (now list) i 0 + row-bytes ≤ length (now links)) × (getD (now list) i 0 < max-radios)) ⌝ }
+    ensures { λ _. ⌜ Joined (all-around (now (links .entry)) (take k (now (list .entry)))) (now (set .entry)) (now (set .exit)) ⌝ }
 {
     let mut i: usize = 0;
     while i < k {
-        let v = list[i];
-        highs[v as usize] = high_of(v as u32, links, numbers);
+        join_around(list[i] as u32, links, set);
         i += 1;
     }
 }
 
-// Marks v and its neighbours in the set.
-fn mark_around(v: u32, links: &[u8], set: &mut [u8; Site::ROW_BYTES])
-    requires { ⌜ (row-bytes * v + row-bytes ≤ length (now links)) ×
-        (length (neighbours-of (now links) v) ≤ max-neighbours) ⌝ }
-    ensures { λ _. ⌜ now (set .exit) ≡ all-marked (around (now (links .entry)) v) (now (set .entry)) ⌝ }
-{
-    let mut near = [0u16; Site::NEIGHBOURS as usize];
-    let k = rows::row_neighbours(links, v, &mut near) as usize;
-    rows::put_bit(set, true, 0, v);
-    apply::mark_all(set, &near[..k]);
-}
-
-// Marks each of the first k listed radios and its neighbours in the set.
-fn mark_all_around(list: &[u16], k: usize, links: &[u8], set: &mut [u8; Site::ROW_BYTES])
-    requires { ⌜ (k ≤ length (now list)) × ((i : ℕ) → i < k →
-        (row-bytes * getD (now list) i 0 + row-bytes ≤ length (now links)) ×
-        (length (neighbours-of (now links) (getD (now list) i 0)) ≤ max-neighbours)) ⌝ }
-    ensures { λ _. ⌜ now (set .exit) ≡ all-around (now (links .entry)) (take k (now (list .entry))) (now (set .entry)) ⌝ }
-{
-    let mut i: usize = 0;
-    while i < k {
-        mark_around(list[i] as u32, links, set);
-        i += 1;
-    }
-}
-
-// After the link a-b changed the first k radios of `list`: both ends, these and their neighbours are counted anew. The list holds anything
-// then.
+// After the link a-b changed the first k radios of `list`: both ends, these and their neighbours are counted anew.
 pub(crate) fn renew(
     a: u32,
     b: u32,
     k: usize,
-    list: &mut [u16; Site::RADIOS as usize],
+    list: &[u16; Site::RADIOS as usize],
     links: &[u8],
     numbers: &[u8],
     highs: &mut [u8; Site::RADIOS as usize],
@@ -100,12 +112,11 @@ pub(crate) fn renew(
         (a < length (now numbers)) × (b < length (now numbers)) × (length (take k (now list)) ≡ k) ×
         ((i : ℕ) → i < length (take k (now list)) → getD (take k (now list)) i 0 < length (now numbers)) ⌝ }
     ensures { λ _. ⌜ now (highs .exit) ≡ recounted (now (links .entry)) (now (numbers .entry))
-        (neighbours-of (touched a b (take k (now (list .entry))) (now (links .entry))) 0) (now (highs .entry)) ⌝ }
+        (touched a b (take k (now (list .entry))) (now (links .entry))) (now (highs .entry)) ⌝ }
 {
-    let mut set = [0u8; Site::ROW_BYTES];
-    mark_all_around(list, k, links, &mut set);
-    walk_parts::places::put(&mut set, true, a);
-    walk_parts::places::put(&mut set, true, b);
-    let many = rows::list_set(&set, list);
-    recount(list, many as usize, links, numbers, highs);
+    let mut set = [0u64; rows::ROW_WORDS as usize];
+    join_all(list, k, links, &mut set);
+    sets::put_in(&mut set, a);
+    sets::put_in(&mut set, b);
+    recount(&set, links, numbers, highs);
 }

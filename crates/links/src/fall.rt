@@ -5,7 +5,7 @@ ghost use lib.ListN.{length};
 ghost use Rattle.mesh.specs.Limits.{max-radios};
 ghost use Rattle.mesh.specs.Tables.{tables, graph-in};
 ghost use Rattle.links.specs.Plans.{Ready, Planned};
-use super::plan;
+use super::peel;
 use super::turn;
 use link_parts::apply::Plan;
 use mesh::Site;
@@ -29,7 +29,7 @@ pub(crate) fn plan_down(
     ensures { λ r. ⌜ Planned false a b (graph-in (length (now (order .entry))) (now (links .entry))) (now (order .entry)) (r .start)
         (r .size) (r .taken) (now (stretch .exit)) ⌝ }
 {
-    let call = plan::call_at(false, a, b, numbers);
+    let call = peel::call_at(false, a, b, numbers);
     let mut fits = [0u8; Site::ROW_BYTES];
     let ends = ends::both(a as u16, b as u16);
     turn::release(
@@ -42,7 +42,7 @@ pub(crate) fn plan_down(
         highs,
         &mut fits,
     );
-    let taken = plan::peel(
+    let taken = peel::peel(
         call,
         links,
         numbers,

@@ -1,4 +1,5 @@
 // A hearing: the site brought to the links that both ends hear, as if by single calls. The tables are checked once.
+ghost use mathlib.Core.Path.{_≡_};
 ghost use Prim.Native.Nat.{_≤_};
 ghost use lib.ListN.{length};
 ghost use Rattle.mesh.specs.Limits.{max-radios};
@@ -122,8 +123,9 @@ fn refusal(
     places: &mut [u16; Site::RADIOS as usize],
     highs: &mut [u8; Site::RADIOS as usize],
 ) -> u32
-    ensures { λ r. ⌜ Hear-asked n (now (heard .entry)) further (lent (links .entry) (numbers .entry) (order .entry)) (length (now (places .entry)))
-        (length (now (highs .entry))) (now (places .exit)) (now (highs .exit)) r ⌝ }
+    requires { ⌜ (length (now places) ≡ max-radios) × (length (now highs) ≡ max-radios) ⌝ }
+    ensures { λ r. ⌜ Hear-asked n (now (heard .entry)) further (lent (links .entry) (numbers .entry) (order .entry)) (now (places .exit))
+        (now (highs .exit)) r ⌝ }
 {
     let number = sizes::of_tables(Site { radios: n }, links.len(), numbers.len(), order.len());
     if number != 0 {

@@ -7,6 +7,7 @@ mod counts;
 mod fall;
 pub mod hear;
 pub mod link;
+mod peel;
 pub mod plan;
 mod questions;
 mod rise;

@@ -10,7 +10,7 @@ ghost use Rattle.links.specs.Peels.{stretch};
 ghost use Rattle.links.specs.Plans.{Ready, Planned};
 ghost use Rattle.links.specs.Turns.{fits-linked, stays-linked};
 ghost use Rattle.links.specs.Walks.{Begins};
-use super::plan;
+use super::peel;
 use super::walk;
 use super::walk::Part;
 use super::walk::Rise;
@@ -47,7 +47,7 @@ fn plan_on(
     }
     let at = stretch::stretch_of(numbers, rise.most);
     if at.size <= SMALL {
-        return plan::plan_peel(
+        return peel::plan_peel(
             rise.a,
             rise.b,
             links,

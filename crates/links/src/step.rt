@@ -96,14 +96,6 @@ pub(crate) fn step(
     let mut changed = [0u16; Site::RADIOS as usize];
     let made = change(up, a, b, links, numbers, order, places, highs, &mut changed);
     put_places(order, made.start, made.size, places);
-    counts::renew(
-        a,
-        b,
-        made.count as usize,
-        &mut changed,
-        links,
-        numbers,
-        highs,
-    );
+    counts::renew(a, b, made.count as usize, &changed, links, numbers, highs);
     0
 }

@@ -8,7 +8,8 @@ ghost use Rattle.lists.specs.Lists.{range};
 ghost use Rattle.mesh.specs.Tables.{put-bit, put-link};
 ghost use Rattle.rows.specs.Rows.{neighbours-of, set-bits};
 ghost use Rattle.links.specs.Turns.{end-counted, counter-less, released, place-marked, places-released, places-fitting, Releasable};
-ghost use Rattle.links.specs.Turns.{Row-ready, Near-ready, Lists-neighbours};
+ghost use Rattle.sets.specs.Sets.{take-out};
+ghost use Rattle.links.specs.Turns.{near-left, Row-ready, Near-ready, Lists-neighbours};
 use mesh::Site;
 use walk_parts::ends;
 use walk_parts::places;
@@ -277,6 +278,94 @@ pub(crate) fn take_radio(
     let end = start + Site::ROW_BYTES;
     release_row(
         &links[start..end],
+        call.level,
+        call.most,
+        numbers,
+        places,
+        counters,
+        fits,
+    );
+}
+
+// Releases the radios that a row marks and that are left.
+fn release_left(
+    row: &[u8],
+    left: &[u64; rows::ROW_WORDS as usize],
+    level: u8,
+    most: u8,
+    numbers: &[u8],
+    places: &[u16],
+    counters: &mut [u8; Site::RADIOS as usize],
+    fits: &mut [u8; Site::ROW_BYTES],
+)
+    requires { ⌜ (length (now row) ≡ row-bytes) × Releasable (now numbers) (now places) level (near-left (now row) 0 (now left)) (now counters) ⌝ }
+    ensures counted { λ _. ⌜ now (counters .exit)
+        ≡ released (now (numbers .entry)) level (near-left (now (row .entry)) 0 (now (left .entry))) (now (counters .entry)) ⌝ }
+    ensures marked { λ _. ⌜ now (fits .exit)
+        ≡ places-released (now (numbers .entry)) (now (places .entry)) level most (near-left (now (row .entry)) 0 (now (left .entry)))
+        (now (counters .entry)) (now (fits .entry)) ⌝ }
+{
+    let mut k: u32 = 0;
+    while k < rows::ROW_WORDS {
+        release_word(
+            rows::word_of(row, k) & left[k as usize],
+            rows::WORD_BITS * k,
+            level,
+            most,
+            numbers,
+            places,
+            counters,
+            fits,
+        );
+        k += 1;
+    }
+}
+
+// Takes the radio v at place p out of what is left: the place fits no more, and of the neighbours that v has after the call the ones that
+// are left are released.
+pub(crate) fn take_left(
+    call: Call,
+    p: u32,
+    v: u32,
+    links: &[u8],
+    numbers: &[u8],
+    places: &[u16],
+    left: &mut [u64; rows::ROW_WORDS as usize],
+    counters: &mut [u8; Site::RADIOS as usize],
+    fits: &mut [u8; Site::ROW_BYTES],
+)
+    requires { ⌜ Row-ready (call .a) (call .b) v (now links) ×
+        Releasable (now numbers) (now places) (call .level)
+        (near-left (put-link (call .up) (call .a) (call .b) (now links)) v (take-out v (now left))) (now counters) ⌝ }
+    ensures counted { λ _. ⌜ now (counters .exit) ≡ released (now (numbers .entry)) (call .level)
+        (near-left (put-link (call .up) (call .a) (call .b) (now (links .entry))) v (take-out v (now (left .entry)))) (now (counters .entry)) ⌝ }
+    ensures marked { λ _. ⌜ now (fits .exit) ≡ places-released (now (numbers .entry)) (now (places .entry)) (call .level) (call .most)
+        (near-left (put-link (call .up) (call .a) (call .b) (now (links .entry))) v (take-out v (now (left .entry)))) (now (counters .entry))
+        (put-bit false 0 p (now (fits .entry))) ⌝ }
+    ensures less { λ _. ⌜ now (left .exit) ≡ take-out v (now (left .entry)) ⌝ }
+{
+    places::put(fits, false, p);
+    sets::take_out(left, v);
+    let w = ends::other_end(call.a, call.b, v);
+    if w != v {
+        let row = end_row(call.up, v, w, links);
+        release_left(
+            &row,
+            left,
+            call.level,
+            call.most,
+            numbers,
+            places,
+            counters,
+            fits,
+        );
+        return;
+    }
+    let start = Site::ROW_BYTES * v as usize;
+    let end = start + Site::ROW_BYTES;
+    release_left(
+        &links[start..end],
+        left,
         call.level,
         call.most,
         numbers,

@@ -44,7 +44,7 @@ lowest-and (suc (suc p)) q h l = absurd (omega arith)
 lowest-and zero (suc (suc q)) h l = absurd (omega arith)
 lowest-and (suc zero) (suc (suc q)) h l = absurd (omega arith)
 
-digit-and : (x y m : ℕ) → digit (bitAnd x y) m ≡ (digit x m && digit y m)
+pub digit-and : (x y m : ℕ) → digit (bitAnd x y) m ≡ (digit x m && digit y m)
 unfolding digit
 digit-and x y m =
     let p = x / 2 ^ m in

@@ -13,29 +13,32 @@ use Rattle.end_questions.proofs.ends_refusal.Statement.{statement}
 use Rattle.end_questions.proofs.ends_refusal.Tie as tie
 
 returns : tie.Need-returns
-returns c small long proper =
+returns c =
     let s = c .before .before in
     let x = s .args in
     let g = graph-in (x .n) (x .links .now) in
     ends-four-first max-neighbours (x .up) (x .n) (x .a) (x .b) g (c .if1 .taken)
 
 returns-2 : tie.Need-returns-2
-returns-2 c small long proper =
+returns-2 c =
     let s = c .before .before .before in
     let x = s .args in
     let g = graph-in (x .n) (x .links .now) in
     ends-four-second max-neighbours (x .up) (x .n) (x .a) (x .b) g (c .before .if1 .left) (c .if2 .taken)
 
 returns-3 : tie.Need-returns-3
-returns-3 c small long proper =
+returns-3 c =
     let s = c .before .before .before .before in
     let x = s .args in
     let g = graph-in (x .n) (x .links .now) in
     ends-five max-neighbours (x .up) (x .n) (x .a) (x .b) g (c .before .before .if1 .left) (c .before .if2 .left) (c .if3 .taken)
 
 returns-4 : tie.Need-returns-4
-returns-4 c small long proper =
+returns-4 c =
     let s = c .before .before .before .before .before .before in
+    let small = s .pre .0 in
+    let long = s .pre .1 in
+    let proper = s .pre .2 in
     let x = s .args in
     let g = graph-in (x .n) (x .links .now) in
     let la = c .before .before .before .before .if1 .left in
@@ -44,8 +47,11 @@ returns-4 c small long proper =
     ends-six max-neighbours (x .up) (x .n) (x .a) (x .b) g la lb (c .before .before .if3 .left) (c .before .is-marked .result) says (c .if4 .taken)
 
 returns-5 : tie.Need-returns-5
-returns-5 c small long proper =
+returns-5 c =
     let s = c .before .before .before .before .before .before .before in
+    let small = s .pre .0 in
+    let long = s .pre .1 in
+    let proper = s .pre .2 in
     let x = s .args in
     let g = graph-in (x .n) (x .links .now) in
     let la = c .before .before .before .before .before .if1 .left in
@@ -55,8 +61,11 @@ returns-5 c small long proper =
 
 returns-6 : tie.Need-returns-6
 unfolding row-count
-returns-6 c small long proper =
+returns-6 c =
     let s = c .before .before .before .before .before .before .before .before .before in
+    let small = s .pre .0 in
+    let long = s .pre .1 in
+    let proper = s .pre .2 in
     let x = s .args in
     let g = graph-in (x .n) (x .links .now) in
     let la = c .before .before .before .before .before .before .before .if1 .left in
@@ -67,8 +76,11 @@ returns-6 c small long proper =
 
 returns-7 : tie.Need-returns-7
 unfolding row-count
-returns-7 c small long proper =
+returns-7 c =
     let s = c .before .before .before .before .before .before .before .before .before .before .before in
+    let small = s .pre .0 in
+    let long = s .pre .1 in
+    let proper = s .pre .2 in
     let x = s .args in
     let g = graph-in (x .n) (x .links .now) in
     let la = c .before .before .before .before .before .before .before .before .before .if1 .left in
@@ -79,8 +91,11 @@ returns-7 c small long proper =
 
 returns-8 : tie.Need-returns-8
 unfolding row-count
-returns-8 c small long proper =
+returns-8 c =
     let s = c .before .before .before .before .before .before .before .before .before .before .before in
+    let small = s .pre .0 in
+    let long = s .pre .1 in
+    let proper = s .pre .2 in
     let x = s .args in
     let g = graph-in (x .n) (x .links .now) in
     let la = c .before .before .before .before .before .before .before .before .before .if1 .left in

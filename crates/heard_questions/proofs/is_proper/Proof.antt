@@ -20,6 +20,9 @@ returns c =
     let tested = c .before in
     proper-own _ _ _ (tested .before .loop-test .taken) (sym (tested .is-marked .ensures) ∙ c .if1 .taken)
 
+is-within-requires : tie.Need-is-within-requires Inv-loop μ-loop
+is-within-requires c κs = omega (arith, c .before .before .before .before .before .pre .long, c .before .before .loop-test .taken)
+
 returns-2 : tie.Need-returns-2 Inv-loop μ-loop
 returns-2 c =
     let tested = c .before in
@@ -37,5 +40,5 @@ returns-3 c = proper-end _ _ _ (c .before .loop .inv) (c .loop-test .left)
 pub is-proper-spec : {M : Type 1} → statement M
 is-proper-spec =
     tie.close (
-    tie.spec Inv-loop μ-loop (λ c. λ x l. absurd (omega (arith, l))) (λ c κs. search needs) returns (λ c κs. search needs) returns-2 (λ c. search needs)
+    tie.spec Inv-loop μ-loop (λ c. λ x l. absurd (omega (arith, l))) (λ c κs. search needs) returns is-within-requires returns-2 (λ c. search needs)
     (λ c. search needs) loop-again returns-3)

@@ -1,35 +1,59 @@
--- `is_within` meets its contract: of a row that is not whole no radio from n on is marked as far as none from b on is. The measure
--- is the radios left.
-use mathlib.Core.Path.{_≡_, refl, sym, _∙_}
-use Prim.Native.Nat.{_-_}
+-- `is_within` meets its contract: no radio from n on is marked as far as none from b on is, and none of the word of b from b
+-- on is where what is left of the word is 0. The measure is the radios left.
+use mathlib.Core.Path.{_≡_, refl, _∙_}
+use Prim.Native.Nat.{ℕ, _+_, _*_, _-_, _/_, _<_}
+use native.Mathlib.Omega.{arith}
+use lib.ListN.{getD}
 use borrow.Author.Needs.{needs}
-use Rattle.mesh.specs.Limits.{max-radios}
+use Rattle.mesh.specs.Limits.{max-radios, row-bytes}
+use Rattle.rows.proofs.RowWords.{word-of-row}
 use Rattle.heard_rows.specs.Hearing.{none-from}
-use Rattle.heard_rows.proofs.AskLaws.{within-end, within-turn, within-no}
+use Rattle.heard_rows.proofs.AskLaws.{within-end, word-turn, word-no}
 use Rattle.heard_questions.proofs.is_within.Statement.{statement}
 use Rattle.heard_questions.proofs.is_within.Tie as tie
 
 abbrev Inv-loop : tie.InvT-loop
-Inv-loop n heard a b₀ b = none-from n heard a ≡ none-from b heard a
+Inv-loop n heard a start end row b₀ b = none-from n heard a ≡ none-from b heard a
 
 abbrev μ-loop : tie.MeasureT-loop
-μ-loop n heard a b₀ b = max-radios - b
+μ-loop n heard a start end row b₀ b = max-radios - b
 
-returns-2 : tie.Need-returns-2 Inv-loop μ-loop
-returns-2 c =
-    let tested = c .before in
-    within-no _ _ _ _ (tested .before .before .loop .inv) (tested .before .loop-test .taken) (sym (tested .is-marked .ensures) ∙ c .if2 .taken)
+part-row-end : tie.Need-part-row-end Inv-loop μ-loop
+part-row-end c = omega (arith, c .before .pre)
+
+returns : tie.Need-returns Inv-loop μ-loop
+returns c =
+    let read = c .before in
+    let at-loop = read .before .before in
+    let given = at-loop .before .before in
+    let x = given .before .args in
+    let l = read .before .loop-test .taken in
+    let bytes : (j : ℕ) → getD (x .heard .now) j 0 < 256 = λ j. given .shared-slice-known .given j .fits in
+    word-no (x .heard .now) bytes (x .a) (at-loop .loop .b) (read .word-of .result) l
+    (read .word-of .ensures
+    ∙ word-of-row (x .heard .now) (x .a) (at-loop .loop .b / 64) (row-bytes * x .a + row-bytes - row-bytes * x .a) (omega arith) (given .before .pre)
+    (omega (arith, l)))
+    (x .n) (at-loop .loop .inv) (c .if1 .taken)
 
 loop-again : tie.Need-loop-again Inv-loop μ-loop
 loop-again c =
-    let tested = c .before in
-    within-turn _ _ _ _ (tested .before .before .loop .inv) (tested .before .loop-test .taken) (sym (tested .is-marked .ensures) ∙ c .if2 .left)
+    let read = c .before in
+    let at-loop = read .before .before in
+    let given = at-loop .before .before in
+    let x = given .before .args in
+    let l = read .before .loop-test .taken in
+    let bytes : (j : ℕ) → getD (x .heard .now) j 0 < 256 = λ j. given .shared-slice-known .given j .fits in
+    word-turn (x .heard .now) bytes (x .a) (at-loop .loop .b) (read .word-of .result) l
+    (read .word-of .ensures
+    ∙ word-of-row (x .heard .now) (x .a) (at-loop .loop .b / 64) (row-bytes * x .a + row-bytes - row-bytes * x .a) (omega arith) (given .before .pre)
+    (omega (arith, l)))
+    (x .n) (at-loop .loop .inv) (c .if1 .left)
 
-returns-3 : tie.Need-returns-3 Inv-loop μ-loop
-returns-3 c = within-end _ _ _ _ (c .before .loop .inv) (c .loop-test .left)
+returns-2 : tie.Need-returns-2 Inv-loop μ-loop
+returns-2 c = within-end _ _ _ _ (c .before .loop .inv) (c .loop-test .left)
 
 pub is-within-spec : {M : Type 1} → statement M
 is-within-spec =
     tie.close (
-    tie.spec Inv-loop μ-loop (λ c. search needs) (λ c. search needs) (λ c κs. search needs) (λ c. c .is-whole-within .ensures) (λ c. refl)
-    (λ c κs. search needs) returns-2 (λ c. search needs) (λ c. search needs) loop-again returns-3)
+    tie.spec Inv-loop μ-loop (λ c. search needs) (λ c. search needs) (λ c. search needs) (λ c. search needs) part-row-end (λ c. refl) (λ c κs. search needs)
+    (λ c. search needs) (λ c. search needs) returns (λ c. search needs) (λ c. search needs) (λ c. search needs) loop-again returns-2)

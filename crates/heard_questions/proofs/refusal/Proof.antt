@@ -7,17 +7,17 @@ use Rattle.heard_questions.proofs.refusal.Statement.{statement}
 use Rattle.heard_questions.proofs.refusal.Tie as tie
 
 returns : tie.Need-returns
-returns c = λ s. refusal-fourteen _ _ (sym (c .before .is-proper .ensures) ∙ not-true _ (c .if1 .taken))
+returns c = refusal-fourteen _ _ (sym (c .before .is-proper .ensures) ∙ not-true _ (c .if1 .taken))
 
 returns-2 : tie.Need-returns-2
-returns-2 c = λ s.
+returns-2 c =
     let proper = sym (c .before .before .before .is-proper .ensures) ∙ not-false _ (c .before .before .if1 .left) in
-    refusal-seven _ _ proper (sym (c .before .are-few .ensures s) ∙ not-true _ (c .if2 .taken))
+    refusal-seven _ _ proper (sym (c .before .are-few .ensures) ∙ not-true _ (c .if2 .taken))
 
 returns-3 : tie.Need-returns-3
-returns-3 c = λ s.
+returns-3 c =
     let proper = sym (c .before .before .before .is-proper .ensures) ∙ not-false _ (c .before .before .if1 .left) in
-    refusal-none _ _ proper (sym (c .before .are-few .ensures s) ∙ not-false _ (c .if2 .left))
+    refusal-none _ _ proper (sym (c .before .are-few .ensures) ∙ not-false _ (c .if2 .left))
 
 pub refusal-spec : {M : Type 1} → statement M
 refusal-spec =

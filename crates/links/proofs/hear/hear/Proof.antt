@@ -10,7 +10,7 @@ returns : tie.Need-returns
 returns c =
     let asked = c .before in
     let x = asked .before .before .before .before .before .before .before .before .before .before .before .args in
-    hear-refused (x .n) (x .heard .now) (x .further .now) (tables (x .links .now) (x .numbers .now) (x .order .now)) _ _ refl refl _ _ (asked .refusal .result)
+    hear-refused (x .n) (x .heard .now) (x .further .now) (tables (x .links .now) (x .numbers .now) (x .order .now)) _ _ (asked .refusal .result)
     (asked .refusal .ensures) (c .if1 .taken)
 
 bring-requires : tie.Need-bring-requires
@@ -19,9 +19,9 @@ bring-requires c κs =
     let asked = marked .before .before .before in
     let x = asked .before .before .before .before .before .before .before .before .before .before .before .args in
     let yes = marked .before .before .if1 .left in (
-      hear-prepared (x .n) (x .heard .now) (x .further .now) (tables (x .links .now) (x .numbers .now) (x .order .now)) _ _ refl refl _ _ (asked .refusal .result)
+      hear-prepared (x .n) (x .heard .now) (x .further .now) (tables (x .links .now) (x .numbers .now) (x .order .now)) _ _ (asked .refusal .result)
           (asked .refusal .ensures) yes,
-      hear-marked (x .n) (x .heard .now) (x .further .now) (tables (x .links .now) (x .numbers .now) (x .order .now)) _ _ refl refl _ _ (asked .refusal .result)
+      hear-marked (x .n) (x .heard .now) (x .further .now) (tables (x .links .now) (x .numbers .now) (x .order .now)) _ _ (asked .refusal .result)
           (asked .refusal .ensures) yes (marked .mark .result) _ (marked .mark .ensures),
     )
 
@@ -31,10 +31,10 @@ returns-2 c =
     let marked = brought .before .before .before .before .before .before .before .before .before in
     let asked = marked .before .before .before in
     let x = asked .before .before .before .before .before .before .before .before .before .before .before .args in
-    hear-done (x .n) (x .heard .now) (x .further .now) (tables (x .links .now) (x .numbers .now) (x .order .now)) _ _ refl refl _ _ (asked .refusal .result)
+    hear-done (x .n) (x .heard .now) (x .further .now) (tables (x .links .now) (x .numbers .now) (x .order .now)) _ _ (asked .refusal .result)
     (asked .refusal .ensures) (marked .before .before .if1 .left) (marked .mark .result) _ (marked .mark .ensures) _ (brought .bring .ensures)
 
 pub hear-spec : {M : Type 1} → statement M
 hear-spec =
     tie.close (
-    tie.spec (λ c κs. search needs) (λ c. search needs) (λ c. search needs) (λ c. search needs) returns (λ c κs. search needs) bring-requires (λ c. search needs) (λ c. search needs) (λ c. search needs) (λ c. search needs) returns-2)
+    tie.spec (λ c κs. (refl, refl)) (λ c. search needs) (λ c. search needs) (λ c. search needs) returns (λ c κs. search needs) bring-requires (λ c. search needs) (λ c. search needs) (λ c. search needs) (λ c. search needs) returns-2)

@@ -28,6 +28,22 @@ returns-2 c =
     let found = checked .examine in
     refused-unsound (x .up) (x .n) (x .a) (x .b) t (x .answer) good (x .places .now) _ (x .highs .now) _ (s .pre .0) (s .pre .1) (found .result) (found .ensures) (not-true (found .result) (c .if2 .taken))
 
+ends-refusal-requires : tie.Need-ends-refusal-requires
+unfolding lengths-of
+ends-refusal-requires c κs =
+    let checked = c .before in
+    let sized = checked .before .before .before .before in
+    let s = sized .before .before .before .before in
+    let x = s .args in
+    let t = tables (x .links .now) (x .numbers .now) (x .order .now) in
+    let good = lent-asked (x .up) (x .n) (x .a) (x .b) t (x .answer) (sized .with-answer .result) (sized .with-answer .ensures) (checked .before .before .before .if1 .left) in
+    let found = checked .examine in (
+      good .most,
+      good .lengths .links,
+      rows-asked (x .up) (x .n) (x .a) (x .b) t (x .answer) good (sound-asked (x .up) (x .n) (x .a) (x .b) t (x .answer) good (x .places .now) _ (x .highs .now) _
+          (s .pre .0) (s .pre .1) (found .result) (found .ensures) (not-false (found .result) (c .if2 .left))),
+    )
+
 returns-3 : tie.Need-returns-3
 unfolding lengths-of
 returns-3 c =
@@ -38,9 +54,10 @@ returns-3 c =
     let t = tables (x .links .now) (x .numbers .now) (x .order .now) in
     let good = lent-asked (x .up) (x .n) (x .a) (x .b) t (x .answer) (sized .with-answer .result) (sized .with-answer .ensures) (checked .before .before .before .if1 .left) in
     let found = checked .examine in
-    asked-all (x .up) (x .n) (x .a) (x .b) t (x .answer) good (x .places .now) _ (x .highs .now) _ (s .pre .0) (s .pre .1) (found .result) (found .ensures) (c .ends-refusal .result) (not-false (found .result) (c .before .if2 .left)) (c .ends-refusal .ensures (good .most) (good .lengths .links) (rows-asked (x .up) (x .n) (x .a) (x .b) t (x .answer) good (sound-asked (x .up) (x .n) (x .a) (x .b) t (x .answer) good (x .places .now) _ (x .highs .now) _ (s .pre .0) (s .pre .1) (found .result) (found .ensures) (not-false (found .result) (c .before .if2 .left)))))
+    asked-all (x .up) (x .n) (x .a) (x .b) t (x .answer) good (x .places .now) _ (x .highs .now) _ (s .pre .0) (s .pre .1) (found .result) (found .ensures)
+    (c .ends-refusal .result) (not-false (found .result) (c .before .if2 .left)) (c .ends-refusal .ensures)
 
 pub refusal-spec : {M : Type 1} → statement M
 refusal-spec =
     tie.close (
-    tie.spec (λ c κs. search needs) returns (λ c κs. search needs) returns-2 (λ c κs. search needs) returns-3)
+    tie.spec (λ c κs. search needs) returns (λ c κs. search needs) returns-2 ends-refusal-requires returns-3)

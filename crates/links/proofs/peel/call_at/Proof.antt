@@ -1,11 +1,11 @@
--- `plan::call_at` meets its contract: going up the bound is the level, going down one less, and the level is then above 0.
+-- `peel::call_at` meets its contract: going up the bound is the level, going down one less, and the level is then above 0.
 use mathlib.Core.Path.{refl, ap, _∙_}
 use Prim.Native.Nat.{ℕ, _-_}
 use native.Mathlib.Omega.{arith}
 use borrow.Author.Needs.{needs}
 use Rattle.links.proofs.BeginLaws.{bound-up, bound-down}
-use Rattle.links.proofs.plan.call_at.Statement.{statement}
-use Rattle.links.proofs.plan.call_at.Tie as tie
+use Rattle.links.proofs.peel.call_at.Statement.{statement}
+use Rattle.links.proofs.peel.call_at.Tie as tie
 
 returns : tie.Need-returns
 returns c =

@@ -1,8 +1,8 @@
--- `plan::begin` meets its contract: the ends differ, so what is counted for one leaves the other's counter.
+-- `peel::begin` meets its contract: the ends differ, so what is counted for one leaves the other's counter.
 use borrow.Author.Needs.{needs}
 use Rattle.links.proofs.BeginLaws.{begin-a, begin-b, begin-done}
-use Rattle.links.proofs.plan.begin.Statement.{statement}
-use Rattle.links.proofs.plan.begin.Tie as tie
+use Rattle.links.proofs.peel.begin.Statement.{statement}
+use Rattle.links.proofs.peel.begin.Tie as tie
 
 count-end-requires-2 : tie.Need-count-end-requires-2
 count-end-requires-2 c κs =

@@ -1,10 +1,10 @@
--- `plan::plan_peel` meets its contract: each call's facts are handed to the next; the mathematics is in `proofs.PlanCall`.
+-- `peel::plan_peel` meets its contract: each call's facts are handed to the next; the mathematics is in `proofs.PlanCall`.
 use mathlib.Core.Path.{_∙_}
 use native.Mathlib.Omega.{arith}
 use borrow.Author.Needs.{needs}
 use Rattle.links.proofs.PlanCall.{plan-level, plan-begin, plan-peel, plan-stuck, plan-done}
-use Rattle.links.proofs.plan.plan_peel.Statement.{statement}
-use Rattle.links.proofs.plan.plan_peel.Tie as tie
+use Rattle.links.proofs.peel.plan_peel.Statement.{statement}
+use Rattle.links.proofs.peel.plan_peel.Tie as tie
 
 begin-requires : tie.Need-begin-requires
 begin-requires c κs = plan-begin (c .before .before .before .before .before .before .before .before .pre .0) (c .before .before .before .call-at .ensures) (c .before .before .stretch-of .ensures)
