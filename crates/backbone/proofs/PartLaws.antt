@@ -346,8 +346,8 @@ unfolding backbone radios members
 parted-all g rest set small h =
     filter-range-within (in-set set) (g .n) max-radios small (λ w l. none w l (bool-cases (ltb w max-radios)))
     ∙ filter-ext (in-set set) (tops-part g) (range 0 (g .n)) (λ w m.
-        let l : w < g .n = omega (arith, range-in 0 (g .n) w m .1) in
-        h .tops w (omega arith) ∙ rw (lt-ltb w (g .n) l, h .below w l))
+    let l : w < g .n = omega (arith, range-in 0 (g .n) w m .1) in
+    h .tops w (omega arith) ∙ rw (lt-ltb w (g .n) l, h .below w l))
   where
     none : (w : ℕ) → g .n ≤ w → (ltb w max-radios ≡ true) ⊎ (ltb w max-radios ≡ false) → in-set set w ≡ false
     none w l (inl e) = h .tops w (ltb-true w max-radios e) ∙ rw (le-ltb w (g .n) l)
