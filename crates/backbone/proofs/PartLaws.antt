@@ -10,36 +10,31 @@ use native.Mathlib.Numerals.{add-one}
 use lib.Dec.{ltb, leb, eqb}
 use lib.ListN.{length, getD, take, replicate, length-replicate}
 use lib.Seq.{take-all}
-use borrow.Author.Tests.{leb-true, le-leb, ltb-true, eqb-true, eqb-false, lt-ltb, le-ltb, eq-eqb, ne-eqb}
-use Rattle.mesh.specs.Limits.{max-radios, row-bytes}
+use borrow.Author.Tests.{leb-true, le-leb, ltb-true, ltb-false, eqb-true, eqb-false, lt-ltb, le-ltb, eq-eqb, ne-eqb}
+use Rattle.mesh.specs.Limits.{max-radios}
 use Rattle.lists.specs.Facts.{folded}
 use Rattle.lists.specs.Lists.{range, member, In, overwrite}
 use Rattle.mesh.specs.Graph.{Graph, radios}
 use Rattle.mesh.specs.Cores.{number}
 use Rattle.mesh.specs.Connected.{at-least, In-core, core-of, greatest, backbone}
-use Rattle.mesh.specs.Tables.{Tables, tables, marked, put-bit, graph-in}
+use Rattle.mesh.specs.Tables.{Tables, tables, graph-in}
 use Rattle.mesh.specs.Sound.{sound}
 use Rattle.lists.proofs.Tests.{bool-cases, never, and-left, or-right}
 use Rattle.lists.proofs.Member.{member-in, in-member}
-use Rattle.lists.proofs.Filter.{filter-le}
-use Rattle.lists.proofs.Range.{length-range}
+use Rattle.lists.proofs.Filter.{filter-le, filter-ext, filter-range-within}
+use Rattle.lists.proofs.Range.{length-range, range-in}
 use Rattle.lists.proofs.Loops.{Folding, folding-front-end, length-folded}
-use Rattle.lists.proofs.Parts.{take-min}
-use Rattle.mesh.proofs.Tables.Laws.{byte-at-less, length-put-bit, marked-put-bit, marked-replicate}
 use Rattle.mesh.proofs.Trees.Reach.{core-of-iff}
 use Rattle.mesh.proofs.Trees.CoreLevels.{in-core-here, in-core-below, in-core-sym, in-core-trans, core-of-same}
 use Rattle.mesh.proofs.Trees.Listed.{number-le-greatest, greatest-map-le, part-top, tops-part, number-le-part-top, part-top-le}
 use Rattle.calls.specs.Questions.{lengths-of, answer-length, site-refusal, backbone-refusal}
 use Rattle.calls.specs.Contracts.{Backbone-contract}
 use Rattle.calls.proofs.ChainLaws.{Site-good, site-zero}
-use Rattle.rows.specs.Rows.{row-listed}
-use Rattle.rows.proofs.RowListLaws.{neighbours-of-filter}
-use Rattle.rows.proofs.RowWords.{row-listed-whole}
 use Rattle.soundness.specs.Checks.{fits-sound}
 use Rattle.soundness.proofs.SoundSite.{Sound-site, fits-sound-site, site-good-fits, number-entry}
-use Rattle.sets.specs.Sets.{in-set}
-use Rattle.floods.specs.Floods.{Level-set, Flood-done, Flooded}
-use Rattle.floods.proofs.FloodSteps.{true-floodable}
+use Rattle.sets.specs.Sets.{in-set, put-in, members, Listed}
+use Rattle.sets.proofs.SetLaws.{in-set-zeros, in-set-past, in-put-in, length-put-in}
+use Rattle.floods.specs.Floods.{Level-set, Flood-done}
 use Rattle.floods.proofs.FloodCore.{level-radios, member-flood}
 use Rattle.backbone.specs.Parts.{part-greatest, top-put, tops-put, part-put, Part-taken, Part-visited, Backbone-put}
 use Rattle.soundness.proofs.SoundSite.{site-good-sound}
@@ -68,8 +63,8 @@ pub length-top-put : (ns : List ℕ) (k w : ℕ) (s : List ℕ) → length (top-
 unfolding top-put
 length-top-put ns k w s = go (eqb (getD ns w 0) k)
   where
-    go : (t : Bool) → length (cond t (put-bit true 0 w s) s) ≡ length s
-    go true = length-put-bit true 0 w s
+    go : (t : Bool) → length (cond t (put-in w s) s) ≡ length s
+    go true = length-put-in w s
     go false = refl
 
 length-part-put : (ns xs s : List ℕ) → length (part-put ns xs s) ≡ length s
@@ -85,35 +80,35 @@ or-none true = refl
 or-none false = refl
 
 module _ (ns : List ℕ) (k w : ℕ) (l : w < max-radios) where
-  marked-top-put : (x : ℕ) (s : List ℕ) → x < max-radios → length s ≡ row-bytes
-      → marked (top-put ns k x s) 0 w ≡ (marked s 0 w || (eqb x w && eqb (getD ns w 0) k))
+  in-top-put : (x : ℕ) (s : List ℕ) → x < max-radios → length s ≡ 8
+      → in-set (top-put ns k x s) w ≡ (in-set s w || (eqb x w && eqb (getD ns w 0) k))
   unfolding top-put
-  marked-top-put x s lx long = go (bool-cases (eqb x w))
+  in-top-put x s lx long = go (bool-cases (eqb x w))
     where
-      bit : marked (put-bit true 0 x s) 0 w ≡ cond (eqb x w) true (marked s 0 w)
-      bit = marked-put-bit true 0 x s 0 w lx l (omega (arith, byte-at-less 1 0 x (omega arith) lx))
+      bit : in-set (put-in x s) w ≡ cond (eqb x w) true (in-set s w)
+      bit = in-put-in x w s (omega arith)
 
-      other : (c : Bool) → eqb x w ≡ false → marked (cond c (put-bit true 0 x s) s) 0 w ≡ marked s 0 w
+      other : (c : Bool) → eqb x w ≡ false → in-set (cond c (put-in x s) s) w ≡ in-set s w
       other true e = bit ∙ rw e
       other false e = refl
 
-      same : (c : Bool) → eqb x w ≡ true → marked (cond c (put-bit true 0 x s) s) 0 w ≡ (marked s 0 w || c)
-      same true e = bit ∙ rw e (sym (or-right (marked s 0 w) true refl))
-      same false e = or-none (marked s 0 w)
+      same : (c : Bool) → eqb x w ≡ true → in-set (cond c (put-in x s) s) w ≡ (in-set s w || c)
+      same true e = bit ∙ rw e (sym (or-right (in-set s w) true refl))
+      same false e = or-none (in-set s w)
 
       go : (eqb x w ≡ true) ⊎ (eqb x w ≡ false)
-          → marked (cond (eqb (getD ns x 0) k) (put-bit true 0 x s) s) 0 w ≡ (marked s 0 w || (eqb x w && eqb (getD ns w 0) k))
+          → in-set (cond (eqb (getD ns x 0) k) (put-in x s) s) w ≡ (in-set s w || (eqb x w && eqb (getD ns w 0) k))
       go (inl e) = same (eqb (getD ns x 0) k) e ∙ rw (e, eqb-true x w e)
-      go (inr e) = other (eqb (getD ns x 0) k) e ∙ rw e (or-none (marked s 0 w))
+      go (inr e) = other (eqb (getD ns x 0) k) e ∙ rw e (or-none (in-set s w))
 
-  marked-tops-put : (xs s : List ℕ) → ((x : ℕ) → In x xs → x < max-radios) → length s ≡ row-bytes
-      → marked (tops-put ns k xs s) 0 w ≡ (marked s 0 w || (member w xs && eqb (getD ns w 0) k))
+  in-tops-put : (xs s : List ℕ) → ((x : ℕ) → In x xs → x < max-radios) → length s ≡ 8
+      → in-set (tops-put ns k xs s) w ≡ (in-set s w || (member w xs && eqb (getD ns w 0) k))
   unfolding tops-put folded member
-  marked-tops-put [] s h long = or-none (marked s 0 w)
-  marked-tops-put (x ∷ xs) s h long =
-      marked-tops-put xs (top-put ns k x s) (λ y m. h y (inr m)) (length-top-put ns k x s ∙ long)
-      ∙ ap (λ (b : Bool). b || (member w xs && eqb (getD ns w 0) k)) (marked-top-put x s (h x (inl refl)) long)
-      ∙ either (marked s 0 w) (eqb x w) (member w xs) (eqb (getD ns w 0) k)
+  in-tops-put [] s h long = or-none (in-set s w)
+  in-tops-put (x ∷ xs) s h long =
+      in-tops-put xs (top-put ns k x s) (λ y m. h y (inr m)) (length-top-put ns k x s ∙ long)
+      ∙ ap (λ (b : Bool). b || (member w xs && eqb (getD ns w 0) k)) (in-top-put x s (h x (inl refl)) long)
+      ∙ either (in-set s w) (eqb x w) (member w xs) (eqb (getD ns w 0) k)
     where
       either : (a b c d : Bool) → ((a || (b && d)) || (c && d)) ≡ (a || ((b || c) && d))
       either true b c d = refl
@@ -127,11 +122,11 @@ module _ (ns : List ℕ) (k w : ℕ) (l : w < max-radios) where
 -- the radios below v are taken, and with a radio its part; the set has the backbone of the parts taken
 pub record Parted (g : Graph) (v : ℕ) (rest set : List ℕ) : Type 0 where
   pub rest-long : length rest ≡ 8
-  pub set-long : length set ≡ row-bytes
+  pub set-long : length set ≡ 8
   pub below : (w : ℕ) → w < v → in-set rest w ≡ false
   pub radios : (w : ℕ) → in-set rest w ≡ true → w < g .n
   pub whole : (w x : ℕ) → w < g .n → in-set rest w ≡ false → In-core g w 0 x → in-set rest x ≡ false
-  pub tops : (w : ℕ) → w < max-radios → marked set 0 w ≡ ((ltb w (g .n) && not (in-set rest w)) && tops-part g w)
+  pub tops : (w : ℕ) → w < max-radios → in-set set w ≡ ((ltb w (g .n) && not (in-set rest w)) && tops-part g w)
 
 module _ (n : ℕ) (t : Tables) (s : Sound-site n t) (v : ℕ) (radio : v < n) where
   abbrev g : Graph
@@ -168,20 +163,20 @@ module _ (n : ℕ) (t : Tables) (s : Sound-site n t) (v : ℕ) (radio : v < n) w
     unfolding graph-in
     part-top-same w r = ap (λ (ys : List ℕ). greatest (map (number g) ys)) (core-of-same g v 0 w radio (omega arith) r)
 
-    marked-part-put : (set : List ℕ) → length set ≡ row-bytes → (w : ℕ) → w < max-radios
-        → marked (part-put (t .numbers) xs set) 0 w ≡ (marked set 0 w || (member w xs && tops-part g w))
+    in-part-put : (set : List ℕ) → length set ≡ 8 → (w : ℕ) → w < max-radios
+        → in-set (part-put (t .numbers) xs set) w ≡ (in-set set w || (member w xs && tops-part g w))
     unfolding part-put graph-in
-    marked-part-put set long w l = go (bool-cases (eqb top 0))
+    in-part-put set long w l = go (bool-cases (eqb top 0))
       where
         top : ℕ
         top = part-greatest (t .numbers) xs
 
         -- what two tests say of the part's radios alike
-        of-part : (a b : Bool) → (In-core g v 0 w → a ≡ b) → (marked set 0 w || (member w xs && a)) ≡ (marked set 0 w || (member w xs && b))
+        of-part : (a b : Bool) → (In-core g v 0 w → a ≡ b) → (in-set set w || (member w xs && a)) ≡ (in-set set w || (member w xs && b))
         of-part a b h = by-member (bool-cases (member w xs))
           where
             by-member : (member w xs ≡ true) ⊎ (member w xs ≡ false)
-                → (marked set 0 w || (member w xs && a)) ≡ (marked set 0 w || (member w xs && b))
+                → (in-set set w || (member w xs && a)) ≡ (in-set set w || (member w xs && b))
             by-member (inl e) = rw (e, h (part-in w (member-in w xs e)))
             by-member (inr e) = rw e
 
@@ -209,13 +204,13 @@ module _ (n : ℕ) (t : Tables) (s : Sound-site n t) (v : ℕ) (radio : v < n) w
                 by-eqb (inr e) = rw e (and-none (ltb 0 x))
 
         go : (eqb top 0 ≡ true) ⊎ (eqb top 0 ≡ false)
-            → marked (cond (eqb top 0) set (tops-put (t .numbers) top xs set)) 0 w ≡ (marked set 0 w || (member w xs && tops-part g w))
-        go (inl e) = rw e (nothing (marked set 0 w) (member w xs) ∙ of-part false (tops-part g w) (none (eqb-true top 0 e)))
+            → in-set (cond (eqb top 0) set (tops-put (t .numbers) top xs set)) w ≡ (in-set set w || (member w xs && tops-part g w))
+        go (inl e) = rw e (nothing (in-set set w) (member w xs) ∙ of-part false (tops-part g w) (none (eqb-true top 0 e)))
         go (inr e) =
-            rw e (marked-tops-put (t .numbers) top w l xs set (λ x m. omega (arith, in-part-below x (part-in x m), s .small)) long
+            rw e (in-tops-put (t .numbers) top w l xs set (λ x m. omega (arith, in-part-below x (part-in x m), s .small)) long
             ∙ of-part (eqb (getD (t .numbers) w 0) top) (tops-part g w) (same (λ z. never (eqb top 0) (eq-eqb top 0 z) e)))
 
-  module _ (rest queue set u p : List ℕ) (parted : Parted g v rest set) (same : length u ≡ length rest) (space : max-radios ≤ length queue) where
+  module _ (rest set u p : List ℕ) (parted : Parted g v rest set) (same : length u ≡ length rest) where
     -- a radio whose part is taken
     parted-passed : in-set rest v ≡ false → (u ≡ rest) × (p ≡ set) → Parted g (suc v) u p
     parted-passed e h = rw (h .0, h .1) (record {
@@ -231,7 +226,7 @@ module _ (n : ℕ) (t : Tables) (s : Sound-site n t) (v : ℕ) (radio : v < n) w
         below w (inl q) l = rw (eqb-true w v q) e
         below w (inr q) l = parted .below w (omega (arith, eqb-false w v q))
 
-    module _ (fresh : in-set rest v ≡ true) (h : Part-taken (t .links) (t .numbers) v rest queue set u p) where
+    module _ (fresh : in-set rest v ≡ true) (h : Part-taken (t .links) (t .numbers) v rest set u p) where
       -- all of its part is among the rest
       part-in-rest : (w : ℕ) → In-core g v 0 w → in-set rest w ≡ true
       unfolding graph-in
@@ -246,7 +241,7 @@ module _ (n : ℕ) (t : Tables) (s : Sound-site n t) (v : ℕ) (radio : v < n) w
       inside w e = (parted .radios w e, le-leb 0 (number g w) (omega arith))
 
       done : Flood-done (t .links) v rest (h .came) u (h .queue-after)
-      done = h .flooded .done (true-floodable v (length rest) (length queue) (record { radio = omega (arith, s .small); words = parted .rest-long; room = space }))
+      done = h .flooded
 
       abbrev part : List ℕ
       part = take (h .came) (h .queue-after)
@@ -284,7 +279,7 @@ module _ (n : ℕ) (t : Tables) (s : Sound-site n t) (v : ℕ) (radio : v < n) w
         below = λ w l. below w (bool-cases (eqb w v)) l;
         radios = λ w e. parted .radios w (and-left (in-set rest w) (not (member w part)) (sym (rest-after w) ∙ e));
         whole = λ w x l e r. whole w x l (gone-cases w e) r;
-        tops = λ w l. ap (λ (z : List ℕ). marked z 0 w) (h .put) ∙ marked-part-put part is-part set (parted .set-long) w l
+        tops = λ w l. ap (λ (z : List ℕ). in-set z w) (h .put) ∙ in-part-put part is-part set (parted .set-long) w l
             ∙ ap (λ (b : Bool). b || (member w part && tops-part g w)) (parted .tops w l)
             ∙ both (ltb w n) (in-set rest w) (member w part) (tops-part g w) (λ m. lt-ltb w n (in-part-below w (part-in part is-part w (member-in w part m))))
             ∙ ap (λ (b : Bool). (ltb w n && not b) && tops-part g w) (sym (rest-after w));
@@ -310,7 +305,7 @@ module _ (n : ℕ) (t : Tables) (s : Sound-site n t) (v : ℕ) (radio : v < n) w
           both false b true c i = never false (i refl) refl
           both false b false c i = refl
 
-    parted-next : Part-visited (t .links) (t .numbers) v rest queue set u p → Parted g (suc v) u p
+    parted-next : Part-visited (t .links) (t .numbers) v rest set u p → Parted g (suc v) u p
     parted-next h = go (bool-cases (in-set rest v))
       where
         go : (in-set rest v ≡ true) ⊎ (in-set rest v ≡ false) → Parted (graph-in n (t .links)) (suc v) u p
@@ -319,16 +314,16 @@ module _ (n : ℕ) (t : Tables) (s : Sound-site n t) (v : ℕ) (radio : v < n) w
 
 -- ---- the radios as a loop
 
-parted-none : (n : ℕ) (t : Tables) → Sound-site n t → (old rest set : List ℕ) → length old ≡ 8 → length rest ≡ 8 → Level-set (t .numbers) 0 old rest
-    → set ≡ replicate row-bytes 0 → Parted (graph-in n (t .links)) 0 rest set
+parted-none : (n : ℕ) (t : Tables) → Sound-site n t → (rest set : List ℕ) → length rest ≡ 8 → Level-set (t .numbers) 0 rest
+    → set ≡ replicate 8 0 → Parted (graph-in n (t .links)) 0 rest set
 unfolding graph-in
-parted-none n t s old rest set long words level e = record {
+parted-none n t s rest set words level e = record {
   rest-long = words;
-  set-long = ap length e ∙ length-replicate {A = ℕ} row-bytes 0;
+  set-long = ap length e ∙ length-replicate {A = ℕ} 8 0;
   below = λ w l. absurd (omega arith);
   radios = λ w m. ltb-true w n (sym (all w) ∙ m);
   whole = λ w x l m r. never (in-set rest w) (all w ∙ lt-ltb w n l) m;
-  tops = λ w l. ap (λ (z : List ℕ). marked z 0 w) e ∙ none w l
+  tops = λ w l. ap (λ (z : List ℕ). in-set z w) e ∙ in-set-zeros 8 w
       ∙ sym (ap (λ (b : Bool). (ltb w n && not b) && tops-part (graph-in n (t .links)) w) (all w) ∙ nobody (ltb w n) (tops-part (graph-in n (t .links)) w));
 }
   where
@@ -338,24 +333,25 @@ parted-none n t s old rest set long words level e = record {
 
     all : (w : ℕ) → in-set rest w ≡ ltb w n
     all w =
-        level-radios n t s 0 old rest long words level w
+        level-radios n t s 0 rest words level w
         ∙ ap (λ (b : Bool). ltb w n && b) (le-leb 0 (number (graph-in n (t .links)) w) (omega arith)) ∙ and-true (ltb w n)
-
-    none : (w : ℕ) → w < max-radios → marked (replicate row-bytes 0) 0 w ≡ false
-    none w l = marked-replicate row-bytes 0 w (omega (arith, byte-at-less 1 0 w (omega arith) l))
 
     nobody : (a b : Bool) → ((a && not a) && b) ≡ false
     nobody true b = refl
     nobody false b = refl
 
 -- all radios are taken: the set is the backbone
-parted-all : (g : Graph) (rest set : List ℕ) → g .n ≤ max-radios → Parted g (g .n) rest set → row-listed set 0 ≡ backbone g
-unfolding backbone radios
+parted-all : (g : Graph) (rest set : List ℕ) → g .n ≤ max-radios → Parted g (g .n) rest set → members set ≡ backbone g
+unfolding backbone radios members
 parted-all g rest set small h =
-    row-listed-whole set 0 (omega (arith, h .set-long))
-    ∙ neighbours-of-filter (g .n) set 0 (tops-part g) small
-    (λ w l. h .tops w (omega arith) ∙ rw (lt-ltb w (g .n) l, h .below w l))
-    (λ w nw l. h .tops w l ∙ rw (le-ltb w (g .n) nw))
+    filter-range-within (in-set set) (g .n) max-radios small (λ w l. none w l (bool-cases (ltb w max-radios)))
+    ∙ filter-ext (in-set set) (tops-part g) (range 0 (g .n)) (λ w m.
+    let l : w < g .n = omega (arith, range-in 0 (g .n) w m .1) in
+    h .tops w (omega arith) ∙ rw (lt-ltb w (g .n) l, h .below w l))
+  where
+    none : (w : ℕ) → g .n ≤ w → (ltb w max-radios ≡ true) ⊎ (ltb w max-radios ≡ false) → in-set set w ≡ false
+    none w l (inl e) = h .tops w (ltb-true w max-radios e) ∙ rw (le-ltb w (g .n) l)
+    none w l (inr e) = in-set-past set w (omega (arith, ltb-false w max-radios e, h .set-long))
 
 -- before radio v: for sound tables the parts are right if they were so at the start
 pub record Parting (ts ns rest₀ queue₀ set₀ : List ℕ) (v : ℕ) (rest queue set : List ℕ) : Type 0 where
@@ -370,55 +366,47 @@ pub parting-none : (ts ns rest queue set : List ℕ) → Parting ts ns rest queu
 parting-none ts ns rest queue set =
     record { within = omega arith; rest-long = refl; queue-long = refl; set-long = refl; right = λ order e h. h }
 
-pub parting-turn : (ts ns rest₀ queue₀ set₀ : List ℕ) (v : ℕ) (rest queue set u q p : List ℕ) → max-radios ≤ length queue₀ → v < length ns
-    → length u ≡ length rest → length q ≡ length queue → length p ≡ length set → Part-visited ts ns v rest queue set u p
+pub parting-turn : (ts ns rest₀ queue₀ set₀ : List ℕ) (v : ℕ) (rest queue set u q p : List ℕ) → v < length ns
+    → length u ≡ length rest → length q ≡ length queue → length p ≡ length set → Part-visited ts ns v rest set u p
     → Parting ts ns rest₀ queue₀ set₀ v rest queue set → Parting ts ns rest₀ queue₀ set₀ (v + 1) u q p
-parting-turn ts ns rest₀ queue₀ set₀ v rest queue set u q p space l su qq sp h a = record {
+parting-turn ts ns rest₀ queue₀ set₀ v rest queue set u q p l su qq sp h a = record {
   within = omega arith;
   rest-long = su ∙ a .rest-long;
   queue-long = qq ∙ a .queue-long;
   set-long = sp ∙ a .set-long;
   right = λ order e start. rw (add-one v) (
-      parted-next (length ns) (tables ts ns order) (fits-sound-site (length ns) (tables ts ns order) e) v l rest queue set u p
-      (a .right order e start) su (omega (arith, a .queue-long)) h);
+      parted-next (length ns) (tables ts ns order) (fits-sound-site (length ns) (tables ts ns order) e) v l rest set u p (a .right order e start) su h);
 }
 
-pub parting-end : (ts ns none rest₀ queue₀ set₀ : List ℕ) (v : ℕ) (rest queue set : List ℕ) → length ns ≤ max-radios → length none ≡ 8 → length rest₀ ≡ 8
-    → Level-set ns 0 none rest₀ → set₀ ≡ replicate row-bytes 0 → length ns ≤ v → Parting ts ns rest₀ queue₀ set₀ v rest queue set → Backbone-put ts ns set
+pub parting-end : (ts ns rest₀ queue₀ set₀ : List ℕ) (v : ℕ) (rest queue set : List ℕ) → length ns ≤ max-radios → length rest₀ ≡ 8
+    → Level-set ns 0 rest₀ → set₀ ≡ replicate 8 0 → length ns ≤ v → Parting ts ns rest₀ queue₀ set₀ v rest queue set → Backbone-put ts ns set
 unfolding Backbone-put graph-in
-parting-end ts ns none rest₀ queue₀ set₀ v rest queue set small zero words level f l a order h =
+parting-end ts ns rest₀ queue₀ set₀ v rest queue set small words level f l a order h =
     let g = graph-in (length ns) ts in
     let site = fits-sound-site (length ns) (tables ts ns order) h in
     let all : v ≡ length ns = omega (arith, a .within) in
-    let start = parted-none (length ns) (tables ts ns order) site none rest₀ set₀ zero words level f in
+    let start = parted-none (length ns) (tables ts ns order) site rest₀ set₀ words level f in
     let last : Parted g (length ns) rest set = rw all at (a .right order h start) in
     parted-all g rest set small last
 
 -- ---- one radio, as the code has it
 
-module _ (ts ns : List ℕ) (v : ℕ) (rest queue set : List ℕ) where
-  pub visited-gone : in-set rest v ≡ false → Part-visited ts ns v rest queue set rest set
+module _ (ts ns : List ℕ) (v : ℕ) (rest set : List ℕ) where
+  pub visited-gone : in-set rest v ≡ false → Part-visited ts ns v rest set rest set
   visited-gone e = record { taken = λ q. never _ q e; passed = λ q. (refl, refl) }
 
-  module _ (fresh : in-set rest v ≡ true) (r k : ℕ) (u p : List ℕ) (flooded : Flooded ts v rest queue r u p)
-      (front : k ≡ min r (length p)) where
-    front-part : take k p ≡ take r p
-    front-part = ap (λ (j : ℕ). take j p) front ∙ take-min r p
+  module _ (fresh : in-set rest v ≡ true) (k : ℕ) (u p : List ℕ) (flooded : Flood-done ts v rest k u p) (top : ℕ)
+      (is-top : top ≡ part-greatest ns (take k p)) where
+    visited-part : (z : List ℕ) → z ≡ part-put ns (take k p) set → Part-visited ts ns v rest set u z
+    visited-part z h = record { taken = λ q. record { came = k; queue-after = p; flooded = flooded; put = h }; passed = λ q. never _ fresh q }
 
-    visited-part : (set-after : List ℕ) → set-after ≡ part-put ns (take k p) set → Part-visited ts ns v rest queue set u set-after
-    visited-part z h = record {
-      taken = λ q. record { came = r; queue-after = p; flooded = flooded; put = h ∙ ap (λ (xs : List ℕ). part-put ns xs set) front-part };
-      passed = λ q. never _ fresh q;
-    }
+    pub visited-none : top ≡ 0 → Part-visited ts ns v rest set u set
+    unfolding part-put
+    visited-none e = visited-part set (rw (← is-top, e))
 
-    module _ (top : ℕ) (is-top : top ≡ part-greatest ns (take k p)) where
-      pub visited-none : top ≡ 0 → Part-visited ts ns v rest queue set u set
-      unfolding part-put
-      visited-none e = visited-part set (rw (← is-top, e))
-
-      pub visited-tops : (top ≡ 0 → ⊥) → (z : List ℕ) → z ≡ tops-put ns top (take k p) set → Part-visited ts ns v rest queue set u z
-      unfolding part-put
-      visited-tops h z e = visited-part z (e ∙ rw (← is-top, ne-eqb top 0 h))
+    pub visited-tops : (top ≡ 0 → ⊥) → (z : List ℕ) → z ≡ tops-put ns top (take k p) set → Part-visited ts ns v rest set u z
+    unfolding part-put
+    visited-tops h z e = visited-part z (e ∙ rw (← is-top, ne-eqb top 0 h))
 
 -- ---- the backbone's contract, met
 
@@ -441,14 +429,14 @@ module _ (n : ℕ) (t : Tables) (old : List ℕ) (q : ℕ) (asked : q ≡ site-r
     unfolding backbone radios graph-in
     length-backbone = filter-le _ (range 0 n) n (length-range 0 n)
 
-    pub backbone-listed : (set : List ℕ) (c : ℕ) (now : List ℕ) → Backbone-put (t .links) (t .numbers) set → c ≡ length (row-listed set 0)
-        → now ≡ overwrite (take (length old) (row-listed set 0)) old → Backbone-contract n t old (value 0 c) now
+    pub backbone-listed : (set : List ℕ) (c : ℕ) (now : List ℕ) → Backbone-put (t .links) (t .numbers) set → Listed set old c now
+        → Backbone-contract n t old (value 0 c) now
     unfolding Backbone-contract backbone-outcome sound backbone-refusal answer-length Backbone-put
-    backbone-listed set c now h counted listed =
+    backbone-listed set c now h listed =
         let long = site .numbers-long in
-        let is : row-listed set 0 ≡ backbone (graph-in n (t .links)) =
+        let is : members set ≡ backbone (graph-in n (t .links)) =
         rw long at (h (t .order) (rw long (site-good-fits n t (leb n (length old)) good))) in
         let room = leb-true n (length old) (good .lent .further) in
-        listing-answered _ _ _ old c now (sym asked ∙ e) (counted ∙ ap length is)
-        (listed ∙ ap (λ (xs : List ℕ). overwrite (take (length old) xs) old) is
+        listing-answered _ _ _ old c now (sym asked ∙ e) (omega (arith, listed .counted, ap length is, length-backbone, room))
+        (listed .listed ∙ ap (λ (xs : List ℕ). overwrite (take (length old) xs) old) is
         ∙ ap (λ (xs : List ℕ). overwrite xs old) (take-all (length old) (backbone (graph-in n (t .links))) (omega (arith, length-backbone))))

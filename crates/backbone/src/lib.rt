@@ -3,9 +3,10 @@
 ghost use mathlib.Core.Path.{_≡_};
 ghost use Prim.Native.Nat.{_≤_};
 ghost use lib.ListN.{length, getD, take, replicate};
-ghost use Rattle.mesh.specs.Limits.{max-radios, row-bytes};
+ghost use Rattle.mesh.specs.Limits.{max-radios};
 ghost use Rattle.mesh.specs.Lent.{lent};
 ghost use Rattle.calls.specs.Contracts.{Backbone-contract};
+ghost use Rattle.floods.specs.Floods.{Floodable};
 ghost use Rattle.backbone.specs.Parts.{part-greatest, top-put, tops-put, Part-visited, Backbone-put};
 use calls::Value;
 use mesh::Site;
@@ -33,17 +34,17 @@ fn greatest_of<'a>(numbers: &'a [u8], list: &'a [u16], k: usize) -> u8
 }
 
 // Puts v into the set where its number is `top`.
-fn put_top(numbers: &[u8], top: u8, v: u16, set: &mut [u8])
+fn put_top(numbers: &[u8], top: u8, v: u16, set: &mut [u64])
     ensures { λ _. ⌜ now (set .exit) ≡ top-put (now (numbers .entry)) top v (now (set .entry)) ⌝ }
 {
     if number_in(numbers, v) != top {
         return;
     }
-    rows::put_bit(set, true, 0, v as u32);
+    sets::put_in(set, v as u32);
 }
 
-// Does so with the first k listed radios.
-fn put_tops<'a>(numbers: &'a [u8], top: u8, list: &'a [u16], k: usize, set: &mut [u8])
+// Puts those of the first k listed radios into the set whose number is `top`.
+fn put_tops<'a>(numbers: &'a [u8], top: u8, list: &'a [u16], k: usize, set: &mut [u64])
     requires { ⌜ k ≤ length (now list) ⌝ }
     ensures { λ _. ⌜ now (set .exit) ≡ tops-put (now (numbers .entry)) top (take k (now (list .entry))) (now (set .entry)) ⌝ }
 {
@@ -62,18 +63,18 @@ fn take_part<'a>(
     v: u32,
     rest: &mut [u64],
     queue: &mut [u16],
-    set: &mut [u8],
+    set: &mut [u64],
 )
+    requires { ⌜ Floodable v (length (now rest)) (length (now queue)) ⌝ }
     ensures { λ _. ⌜
-        Part-visited (now (links .entry)) (now (numbers .entry)) v (now (rest .entry)) (now (queue .entry))
+        Part-visited (now (links .entry)) (now (numbers .entry)) v (now (rest .entry))
         (now (set .entry)) (now (rest .exit)) (now (set .exit))
         ⌝ }
 {
     if !sets::is_in(rest, v) {
         return;
     }
-    let came = floods::flood::flood(links, v, rest, queue);
-    let k = tables::fill::least(came, queue.len());
+    let k = floods::flood::flood(links, v, rest, queue);
     let top = greatest_of(numbers, queue, k);
     if top == 0 {
         return;
@@ -82,8 +83,8 @@ fn take_part<'a>(
 }
 
 // For sound tables: a cleared set is the backbone after.
-fn put_backbone<'a>(links: &'a [u8], numbers: &'a [u8], set: &mut [u8])
-    requires { ⌜ (length (now numbers) ≤ max-radios) × (now set ≡ replicate row-bytes 0) ⌝ }
+fn put_backbone<'a>(links: &'a [u8], numbers: &'a [u8], set: &mut [u64])
+    requires { ⌜ (length (now numbers) ≤ max-radios) × (now set ≡ replicate 8 0) ⌝ }
     ensures { λ _. ⌜ Backbone-put (now (links .entry)) (now (numbers .entry)) (now (set .exit)) ⌝ }
 {
     let mut rest = [0u64; Site::ROW_BYTES / 8];
@@ -114,10 +115,10 @@ pub fn backbone<'a>(
             value: 0,
         };
     }
-    let mut set = [0u8; Site::ROW_BYTES];
+    let mut set = [0u64; Site::ROW_BYTES / 8];
     put_backbone(links, numbers, &mut set);
     Value {
         number: 0,
-        value: rows::list_set(&set, answer),
+        value: sets::list(&set, answer),
     }
 }

@@ -34,19 +34,18 @@ module _ (n : ℕ) (t : Tables) (s : Sound-site n t) (k : ℕ) where
 
   -- ---- the set of a level
 
-  pub level-radios : (old set : List ℕ) → length old ≡ 8 → length set ≡ 8 → Level-set (t .numbers) k old set
-      → (w : ℕ) → in-set set w ≡ (ltb w n && leb k (number g w))
+  pub level-radios : (set : List ℕ) → length set ≡ 8 → Level-set (t .numbers) k set → (w : ℕ) → in-set set w ≡ (ltb w n && leb k (number g w))
   unfolding of-level
-  level-radios old set lo ls h w = go (bool-cases (ltb w n))
+  level-radios set ls h w = go (bool-cases (ltb w n))
     where
       past : n ≤ w → (ltb w max-radios ≡ true) ⊎ (ltb w max-radios ≡ false) → in-set set w ≡ false
-      past l (inl e) = h .radios lo w (ltb-true w max-radios e) ∙ rw (le-ltb w (length (t .numbers)) (omega (arith, s .numbers-long)))
+      past l (inl e) = h w (ltb-true w max-radios e) ∙ rw (le-ltb w (length (t .numbers)) (omega (arith, s .numbers-long)))
       past l (inr e) = in-set-past set w (omega (arith, ltb-false w max-radios e))
 
       go : (ltb w n ≡ true) ⊎ (ltb w n ≡ false) → in-set set w ≡ (ltb w n && leb k (number g w))
       go (inl e) =
           let l = ltb-true w n e in
-          h .radios lo w (omega (arith, s .small)) ∙ rw (e, lt-ltb w (length (t .numbers)) (omega (arith, s .numbers-long)), number-entry n t s w l)
+          h w (omega (arith, s .small)) ∙ rw (e, lt-ltb w (length (t .numbers)) (omega (arith, s .numbers-long)), number-entry n t s w l)
       go (inr e) = past (ltb-false w n e) (bool-cases (ltb w max-radios)) ∙ rw e
 
   module _ (v : ℕ) (old : List ℕ) where

@@ -20,9 +20,8 @@ use Rattle.lists.proofs.Filter.{in-filter, filter-in, distinct-filter}
 use Rattle.lists.proofs.Distinct.{distinct-one, length-sub}
 use Rattle.rows.specs.Rows.{row-listed}
 use Rattle.sets.specs.Sets.{in-set, take-out, common}
-use Rattle.sets.proofs.SetLaws.{in-set-radio, length-take-out, in-take-out, common-filter}
-use Rattle.floods.specs.Floods.{Spread, start, onward, Flood, flood-at, came-in, Marked-by, Layer-taken, floodable, Flood-done, Flooded}
-use Rattle.floods.proofs.FloodSteps.{Floodable, floodable-true}
+use Rattle.sets.proofs.SetLaws.{in-set-radio, length-take-out, in-take-out}
+use Rattle.floods.specs.Floods.{Spread, start, onward, Flood, flood-at, came-in, Marked-by, Layer-taken, Floodable, Flood-done}
 
 distinct-both : (xs ys : List ℕ) → Distinct xs → Distinct ys → ((w : ℕ) → In w xs → In w ys → ⊥) → Distinct (xs ++ ys)
 distinct-both [] ys d e apart = e
@@ -69,14 +68,16 @@ module _ (ts : List ℕ) (v : ℕ) (old : List ℕ) where
     test x = in-set reach x && in-set s x
 
     in-new : (x : ℕ) → In x new → (in-set reach x ≡ true) × (in-set s x ≡ true)
+    unfolding common
     in-new x m =
-        let e = in-filter test (range 0 max-radios) x (rw (common-filter reach s long (h .long)) at m) .1 in
+        let e = in-filter test (range 0 max-radios) x m .1 in
         (and-left (in-set reach x) (in-set s x) e, and-right (in-set reach x) (in-set s x) e)
 
     new-in : (x : ℕ) → in-set reach x ≡ true → in-set s x ≡ true → In x new
+    unfolding common
     new-in x r e =
-        rw (common-filter reach s long (h .long)) (filter-in test (range 0 max-radios) x
-        (in-range 0 max-radios x (omega arith) (omega (arith, in-set-radio s x (h .long) e))) (and-both (in-set reach x) (in-set s x) r e))
+        filter-in test (range 0 max-radios) x (in-range 0 max-radios x (omega arith) (omega (arith, in-set-radio s x (h .long) e)))
+        (and-both (in-set reach x) (in-set s x) r e)
 
     -- a radio of the set is of the old one, and has not come in
     fresh : (x : ℕ) → in-set s x ≡ true → (in-set old x ≡ true) × (In x xs → ⊥)
@@ -92,10 +93,10 @@ module _ (ts : List ℕ) (v : ℕ) (old : List ℕ) where
     spreading-layer : (u : List ℕ) → length u ≡ 8 → ((w : ℕ) → in-set u w ≡ (in-set s w && not (member w new)))
         → ((x : ℕ) → in-set reach x ≡ true → Marked-by ts xs i (length xs) x) → ((x : ℕ) → Marked-by ts xs i (length xs) x → in-set reach x ≡ true)
         → Spreading (length xs) u (xs ++ new)
+    unfolding common
     spreading-layer u lu left some all = record {
       long = lu;
-      distinct = distinct-both xs new (h .distinct)
-          (rw (common-filter reach s long (h .long)) (distinct-filter test (range 0 max-radios) (distinct-range 0 max-radios)))
+      distinct = distinct-both xs new (h .distinct) (distinct-filter test (range 0 max-radios) (distinct-range 0 max-radios))
           (λ w m n. fresh w (in-new w n .1) .1 m);
       below = λ w m. below w (in-cases w xs new m);
       bits = λ w. left w ∙ ap (λ (b : Bool). b && not (member w new)) (h .bits w) ∙ both (in-set old w) (member w xs) (member w new)
@@ -227,7 +228,7 @@ module _ (ts : List ℕ) (v : ℕ) (old : List ℕ) where
       bit false false = refl
 
   -- the queue's end
-  walking-end : (i : ℕ) (f : Flood) → f .count ≤ i → Walking i f → Flood-done ts v old (f .count) (f .set) (f .queue)
+  pub walking-end : (i : ℕ) (f : Flood) → f .count ≤ i → Walking i f → Flood-done ts v old (f .count) (f .set) (f .queue)
   walking-end i f l h =
       let s = h .spreading in
       record {
@@ -249,12 +250,5 @@ module _ (ts : List ℕ) (v : ℕ) (old : List ℕ) where
 
 -- ---- the flood as the code has it
 
-module _ (ts : List ℕ) (v : ℕ) (s q t : List ℕ) (can : floodable v (length s) (length q) ≡ true) (out : t ≡ take-out v s) where
-  sizes : Floodable v (length s) (length q)
-  sizes = floodable-true v (length s) (length q) can
-
-  pub flood-starts : Walking ts v s 0 (flood-at t (set q 0 v) 1)
-  flood-starts = rw out (walking-start ts v s q (sizes .radio) (sizes .words) (sizes .room))
-
-  pub flood-ends : (i : ℕ) (f : Flood) → f .count ≤ i → Walking ts v s i f → Flooded ts v s q (f .count) (f .set) (f .queue)
-  flood-ends i f l h = record { done = λ e. walking-end ts v s i f l h; refused = λ e. never _ can e }
+pub flood-starts : (ts : List ℕ) (v : ℕ) (s q t : List ℕ) → Floodable v (length s) (length q) → t ≡ take-out v s → Walking ts v s 0 (flood-at t (set q 0 v) 1)
+flood-starts ts v s q t sizes out = rw out (walking-start ts v s q (sizes .radio) (sizes .words) (sizes .room))

@@ -100,14 +100,8 @@ level-setting-turn ns k j w t l h a = record {
         let q = eqb-false i j e in
         rw (getD-set-other t j i w 0 q) (a .words i (omega arith) m lm)
 
-pub level-setting-end : (ns : List ℕ) (k j : ℕ) (s t : List ℕ) → 8 ≤ j → length s ≡ 8 → Level-setting ns k j t → Level-set ns k s t
+pub level-setting-end : (ns : List ℕ) (k j : ℕ) (t : List ℕ) → 8 ≤ j → Level-setting ns k j t → Level-set ns k t
 unfolding in-set
-level-setting-end ns k j s t h long a = record {
-  radios = λ e x l.
-      let p : 64 * (x / 64) + x % 64 ≡ x = omega arith in
-      a .words (x / 64) (omega arith) (x % 64) (omega arith) ∙ ap (of-level ns k) p;
-  other = λ no. absurd (no long);
-}
-
-pub level-set-other : (ns : List ℕ) (k : ℕ) (s : List ℕ) → (length s ≡ 8 → ⊥) → Level-set ns k s s
-level-set-other ns k s h = record { radios = λ e. absurd (h e); other = λ no. refl }
+level-setting-end ns k j t h a x l =
+    let p : 64 * (x / 64) + x % 64 ≡ x = omega arith in
+    a .words (x / 64) (omega arith) (x % 64) (omega arith) ∙ ap (of-level ns k) p

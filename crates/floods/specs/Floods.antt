@@ -5,13 +5,13 @@
 --   Marked-by              a radio that stands in a stretch of a list has x as neighbour
 --   Rows-joined            the neighbours of the radios of a stretch, put into a set
 --   Layer-taken            the neighbours of the radios that came in last come in where the set has them
---   floodable              the flood can be carried out: lengths fit, and v may be a radio
---   Flood-done, Flooded    what the flood leaves
+--   Floodable              what the flood wants: lengths fit, and v may be a radio
+--   Flood-done             what the flood leaves
 -- That on sound tables the radios that come in are the connected core is `member-flood` in proofs/FloodCore.antt.
 -- Definitions only.
 use mathlib.Core.Path.{_≡_}
 use mathlib.Core.Logic.{_↔_, _⊎_}
-use mathlib.Core.Bool.{Bool, true, false, _&&_, not}
+use mathlib.Core.Bool.{Bool, true, _&&_, not}
 use mathlib.Core.List.{List}
 use Prim.Native.Nat.{ℕ, _+_, _-_, _≤_, _<_, min}
 use lib.Dec.{ltb, leb, eqb}
@@ -32,10 +32,8 @@ of-level ns k x = ltb x (length ns) && leb k (getD ns x 0)
 abbrev pub Level-word : (numbers : List ℕ) → (level first word : ℕ) → Type 0
 Level-word ns k i w = (m : ℕ) → m < 64 → digit w m ≡ of-level ns k (i + m)
 
--- s is the set before, t after
-pub record Level-set (ns : List ℕ) (k : ℕ) (s t : List ℕ) : Type 0 where
-  pub radios : length s ≡ 8 → (x : ℕ) → x < max-radios → in-set t x ≡ of-level ns k x
-  pub other : (length s ≡ 8 → ⊥) → t ≡ s
+abbrev pub Level-set : (numbers : List ℕ) → (level : ℕ) → (set : List ℕ) → Type 0
+Level-set ns k s = (x : ℕ) → x < max-radios → in-set s x ≡ of-level ns k x
 
 -- ---- whom the flood reaches
 
@@ -81,9 +79,11 @@ pub record Layer-taken (ts : List ℕ) (from : ℕ) (f e : Flood) : Type 0 where
 
 -- ---- the whole flood
 
--- v is below 512, a set of eight words, and a queue with an entry for each of 512 radios
-unfoldable pub floodable : (v set queue : ℕ) → Bool
-floodable v s q = ltb v max-radios && (eqb s 8 && leb max-radios q)
+-- v may be a radio, the set is eight words, and the queue has an entry for each of 512 radios
+pub record Floodable (v set queue : ℕ) : Type 0 where
+  pub radio : v < max-radios
+  pub words : set ≡ 8
+  pub room : max-radios ≤ queue
 
 -- r radios came in, each once, and stand in front of the queue; the set has them no more
 pub record Flood-done (ts : List ℕ) (v : ℕ) (old : List ℕ) (r : ℕ) (set queue : List ℕ) : Type 0 where
@@ -91,8 +91,3 @@ pub record Flood-done (ts : List ℕ) (v : ℕ) (old : List ℕ) (r : ℕ) (set 
   pub once : (w : ℕ) → count (λ x. eqb x w) (take r queue) ≤ 1
   pub radios : (w : ℕ) → (member w (take r queue) ≡ true) ↔ Spread ts old v w
   pub bits : (w : ℕ) → in-set set w ≡ (in-set old w && not (member w (take r queue)))
-
--- s and q are the set and the queue before the flood, t and p after it; where it cannot be carried out they keep their content
-pub record Flooded (ts : List ℕ) (v : ℕ) (s q : List ℕ) (r : ℕ) (t p : List ℕ) : Type 0 where
-  pub done : floodable v (length s) (length q) ≡ true → Flood-done ts v s r t p
-  pub refused : floodable v (length s) (length q) ≡ false → (r ≡ 0) × (t ≡ s) × (p ≡ q)

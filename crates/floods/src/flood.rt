@@ -1,10 +1,10 @@
 // The flood: from a radio, over radios of a set. Whom it reaches leaves the set. No recursion: it goes by layers, breadth first. The rows
 // of the radios that came in last are joined by words, and what the set has of them comes in next.
 ghost use mathlib.Core.Path.{_≡_};
-ghost use Prim.Native.Nat.{_+_, _≤_};
+ghost use Prim.Native.Nat.{_≤_};
 ghost use lib.ListN.{length};
 ghost use Rattle.mesh.specs.Limits.{max-radios};
-ghost use Rattle.floods.specs.Floods.{flood-at, floodable, Rows-joined, Layer-taken, Flooded};
+ghost use Rattle.floods.specs.Floods.{flood-at, Rows-joined, Layer-taken, Floodable, Flood-done};
 use mesh::Site;
 
 // Puts the neighbours of the radios that stand in the list from place `from` on and before place `to` into the set.
@@ -31,28 +31,12 @@ fn take_layer(links: &[u8], set: &mut [u64], queue: &mut [u16], from: usize, cou
     count + sets::take_common(&reach, set, &mut queue[count..])
 }
 
-// Whether v may be a radio, the set is eight words, and the queue has an entry for each of 512 radios.
-fn is_floodable(v: usize, set: usize, queue: usize) -> bool
-    ensures { λ r. ⌜ r ≡ floodable v set queue ⌝ }
-{
-    if Site::RADIOS as usize <= v {
-        return false;
-    }
-    if set != Site::ROW_BYTES / 8 {
-        return false;
-    }
-    Site::RADIOS as usize <= queue
-}
-
 // Takes v out of the set, and with it the radios that links lead to from v over radios of the set. Comes back with how many these
-// are; they stand in front of the queue, each once, and the rest of it holds anything. Where v is 512 or more, the set is not eight
-// words or the queue has less than 512 entries, the answer is 0 and nothing changes.
+// are; they stand in front of the queue, each once, and the rest of it holds anything.
 pub fn flood(links: &[u8], v: u32, set: &mut [u64], queue: &mut [u16]) -> usize
-    ensures { λ r. ⌜ Flooded (now (links .entry)) v (now (set .entry)) (now (queue .entry)) r (now (set .exit)) (now (queue .exit)) ⌝ }
+    requires { ⌜ Floodable v (length (now set)) (length (now queue)) ⌝ }
+    ensures { λ r. ⌜ Flood-done (now (links .entry)) v (now (set .entry)) r (now (set .exit)) (now (queue .exit)) ⌝ }
 {
-    if !is_floodable(v as usize, set.len(), queue.len()) {
-        return 0;
-    }
     sets::take_out(set, v);
     queue[0] = v as u16;
     let mut count: usize = 1;

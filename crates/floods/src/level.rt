@@ -1,9 +1,7 @@
 // The radios whose number is at least a level, as a set of eight words: over whom a flood at the level goes.
 ghost use mathlib.Core.Path.{_≡_};
-ghost use mathlib.Core.Bool.{_&&_};
-ghost use Prim.Native.Nat.{_+_, _≤_, _<_};
-ghost use lib.Dec.{ltb, leb};
-ghost use lib.ListN.{length, getD};
+ghost use Prim.Native.Nat.{_≤_};
+ghost use lib.ListN.{length};
 ghost use Rattle.mesh.specs.Limits.{max-radios};
 ghost use Rattle.floods.specs.Floods.{Level-word, Level-set};
 use mesh::Site;
@@ -26,13 +24,11 @@ fn level_word(numbers: &[u8], level: u8, first: usize) -> u64
     word
 }
 
-// The set holds the radios whose number is at least the level after. Where it is not eight words nothing changes.
+// The set holds the radios whose number is at least the level after.
 pub fn at_least(numbers: &[u8], level: u8, set: &mut [u64])
-    ensures { λ _. ⌜ Level-set (now (numbers .entry)) level (now (set .entry)) (now (set .exit)) ⌝ }
+    requires { ⌜ length (now set) ≡ 8 ⌝ }
+    ensures { λ _. ⌜ Level-set (now (numbers .entry)) level (now (set .exit)) ⌝ }
 {
-    if set.len() != Site::ROW_BYTES / 8 {
-        return;
-    }
     let mut k: usize = 0;
     while k < Site::ROW_BYTES / 8 {
         set[k] = level_word(numbers, level, 64 * k);

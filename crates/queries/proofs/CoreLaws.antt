@@ -1,13 +1,13 @@
 -- The connected core's contract, met: what the flood leaves out of its level's set, listed.
 use mathlib.Core.Path.{_≡_, refl, sym, ap, _∙_}
-use mathlib.Core.Bool.{Bool, true, false, _&&_, not, cond}
+use mathlib.Core.Bool.{Bool, true, false, _&&_, not}
 use mathlib.Core.List.{List}
 use Prim.Native.Nat.{ℕ, _≤_, _<_}
 use native.Mathlib.Omega.{arith}
 use lib.Dec.{ltb, leb}
 use lib.ListN.{length, getD, take}
 use lib.Seq.{take-all}
-use borrow.Author.Tests.{ltb-true, lt-ltb, le-leb, eq-eqb}
+use borrow.Author.Tests.{ltb-true, lt-ltb, le-leb}
 use Rattle.mesh.specs.Limits.{max-radios}
 use Rattle.lists.specs.Lists.{range, filter, member, overwrite}
 use Rattle.mesh.specs.Graph.{Graph, radios}
@@ -26,10 +26,9 @@ use Rattle.calls.specs.Questions.{lengths-of, core-refusal}
 use Rattle.calls.specs.Contracts.{Core-contract}
 use Rattle.calls.proofs.ChainLaws.{core-zero}
 use Rattle.calls.proofs.QuestionLaws.{answer-length-true}
-use Rattle.sets.specs.Sets.{in-set, in-one, gone, Gone-listed}
-use Rattle.floods.specs.Floods.{Level-set, Flood-done, Flooded}
+use Rattle.sets.specs.Sets.{in-set, Set-taken, members, Listed}
+use Rattle.floods.specs.Floods.{Level-set, Flood-done}
 use Rattle.soundness.proofs.SoundSite.{Sound-site, number-entry}
-use Rattle.floods.proofs.FloodSteps.{true-floodable}
 use Rattle.floods.proofs.FloodCore.{level-radios, left-flood}
 use Rattle.soundness.proofs.SoundSite.{site-good-sound}
 use Rattle.calls.specs.Outcomes.{value, core-outcome}
@@ -66,7 +65,7 @@ module _ (n : ℕ) (t : Tables) (s : Sound-site n t) (k v : ℕ) (radio : v < n)
   ascending-core = core-of-ascending g v k radio
 
   -- what the flood over the level's set leaves out of it is the connected core, ascending
-  module _ (set rest : List ℕ) (words : length set ≡ 8) (left : length rest ≡ 8) (has : (w : ℕ) → in-set set w ≡ (ltb w n && leb k (number g w)))
+  module _ (set rest : List ℕ) (has : (w : ℕ) → in-set set w ≡ (ltb w n && leb k (number g w)))
       (r : ℕ) (queue : List ℕ) (done : Flood-done (t .links) v set r rest queue) where
     inside : (w : ℕ) → in-set set w ≡ true → (w < n) × (at-least g k w ≡ true)
     unfolding at-least
@@ -77,28 +76,27 @@ module _ (n : ℕ) (t : Tables) (s : Sound-site n t) (k v : ℕ) (radio : v < n)
     whole : (w : ℕ) → In-core g v k w → in-set set w ≡ true
     whole w h = has w ∙ and-both (ltb w n) (leb k (number g w)) (lt-ltb w n (in-core-radio w h)) (le-leb k (number g w) (in-core-number w h))
 
-    in-one-core : (w : ℕ) → in-one set rest w ≡ member w (core-of g v k)
-    unfolding in-one
-    in-one-core w =
-        ap (λ (b : Bool). cond (in-set set w) (not b) b) (left-flood n t s k v set radio inside whole r rest queue done w)
-        ∙ go (in-set set w) (member w (core-of g v k)) (λ m. whole w (core-radio-in w m))
-      where
-        go : (a m : Bool) → (m ≡ true → a ≡ true) → cond a (not (a && not m)) (a && not m) ≡ m
-        go true true h = refl
-        go true false h = refl
-        go false true h = never false (h refl) refl
-        go false false h = refl
+    module _ (own : List ℕ) (taken : Set-taken rest set own) where
+      in-core : (w : ℕ) → in-set own w ≡ member w (core-of g v k)
+      in-core w =
+          taken .bits w ∙ ap (λ (b : Bool). in-set set w && not b) (left-flood n t s k v set radio inside whole r rest queue done w)
+          ∙ go (in-set set w) (member w (core-of g v k)) (λ m. whole w (core-radio-in w m))
+        where
+          go : (a m : Bool) → (m ≡ true → a ≡ true) → (a && not (a && not m)) ≡ m
+          go true true h = refl
+          go true false h = refl
+          go false true h = never false (h refl) refl
+          go false false h = refl
 
-    pub gone-core : gone set rest ≡ core-of g v k
-    unfolding gone
-    gone-core =
-        rw (eq-eqb (length set) 8 words, eq-eqb (length rest) 8 left)
-        (filter-ext (in-one set rest) (λ w. member w (core-of g v k)) (range 0 max-radios) (λ w m. in-one-core w)
-        ∙ filter-range-within (λ w. member w (core-of g v k)) n max-radios (s .small) (λ w l. not-member w (core-of g v k) (λ m. outside w l (core-radio-in w (in-member w (core-of g v k) m))))
-        ∙ sym ascending-core)
-      where
-        outside : (w : ℕ) → n ≤ w → In-core (graph-in n (t .links)) v k w → ⊥
-        outside w l h = omega (arith, in-core-radio w h)
+      pub members-core : members own ≡ core-of g v k
+      unfolding members
+      members-core =
+          filter-ext (in-set own) (λ w. member w (core-of g v k)) (range 0 max-radios) (λ w m. in-core w)
+          ∙ filter-range-within (λ w. member w (core-of g v k)) n max-radios (s .small) (λ w l. not-member w (core-of g v k) (λ m. outside w l (core-radio-in w (in-member w (core-of g v k) m))))
+          ∙ sym ascending-core
+        where
+          outside : (w : ℕ) → n ≤ w → In-core (graph-in n (t .links)) v k w → ⊥
+          outside w l h = omega (arith, in-core-radio w h)
 
 module _ (n v k : ℕ) (t : Tables) (old : List ℕ) where
   abbrev refusal : ℕ
@@ -129,14 +127,12 @@ module _ (n v k : ℕ) (t : Tables) (old : List ℕ) where
     core-number : k ≤ number (graph-in n (t .links)) v
     core-number = core-zero n v k (lengths-of t) (length old) (sound n t) (graph-in n (t .links)) e .2
 
-    pub core-listed : (none set rest queue : List ℕ) (r : ℕ) (after : List ℕ) (c : ℕ) (now : List ℕ) → length none ≡ 8 → length set ≡ 8 → length rest ≡ 8
-        → length queue ≡ max-radios → Level-set (t .numbers) k none set → Flooded (t .links) v set queue r rest after → Gone-listed set rest old c now
-        → Core-contract n v k t old (value 0 c) now
+    pub core-listed : (set rest own : List ℕ) (r : ℕ) (queue : List ℕ) (c : ℕ) (now : List ℕ) → length set ≡ 8 → Level-set (t .numbers) k set
+        → Flood-done (t .links) v set r rest queue → Set-taken rest set own → Listed own old c now → Core-contract n v k t old (value 0 c) now
     unfolding Core-contract core-outcome sound
-    core-listed none set rest queue r after c now zero words left room level f h =
+    core-listed set rest own r queue c now words level done taken h =
         let s = core-tables in
-        let can = true-floodable v (length set) (length queue) (record { radio = omega (arith, core-radio, s .small); words = words; room = omega arith }) in
-        let is = gone-core n t s k v core-radio core-number set rest words left (level-radios n t s k none set zero words level) r after (f .done can) in
+        let is = members-core n t s k v core-radio core-number set rest (level-radios n t s k set words level) r queue done own taken in
         let few = length-core n t s k v core-radio core-number in
         listing-answered _ _ _ old c now e (omega (arith, h .counted, ap length is, few, core-room))
         (h .listed ∙ ap (λ (xs : List ℕ). overwrite (take (length old) xs) old) is

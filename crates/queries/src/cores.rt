@@ -61,8 +61,9 @@ pub fn core<'a>(
     let mut rest = set;
     let mut queue = [0u16; Site::RADIOS as usize];
     floods::flood::flood(links, v, &mut rest, &mut queue);
+    sets::take_set(&rest, &mut set);
     Value {
         number: 0,
-        value: sets::list_gone(&set, &rest, answer),
+        value: sets::list(&set, answer),
     }
 }

@@ -1,6 +1,6 @@
 -- Sets of eight words.
 -- In order: digits of words joined by `&`, `|` and `^`, one radio tested, taken out and put in, the radios of another set taken out and
--- listed, the lowest radio of two sets, words changed in turn, the radios that one of two sets has.
+-- listed, the lowest radio of two sets, words changed in turn, the radios of a set listed.
 use mathlib.Core.Path.{_≡_, refl, sym, ap, _∙_}
 use mathlib.Core.Logic.{_⊎_, inl, inr}
 use mathlib.Core.Bool.{Bool, true, false, _&&_, _||_, not, cond}
@@ -26,7 +26,7 @@ use Rattle.lists.proofs.Range.{in-range}
 use Rattle.lists.proofs.Tests.{bool-cases, iff-eq}
 use Rattle.mesh.proofs.Tables.Digits.{digit-nothing, digit-put-digit}
 use Rattle.rows.specs.Rows.{neighbours-of, row-listed, set-bits, row-word}
-use Rattle.sets.specs.Sets.{in-set, take-out, put-in, word-left, word-taken, Row-joined, common, Common-taken, Set-taken, in-one, gone, Gone-listed}
+use Rattle.sets.specs.Sets.{in-set, take-out, put-in, word-left, word-taken, Row-joined, common, Common-taken, Set-taken, members, Listed}
 use Rattle.rows.proofs.MaskLaws.{put-digit-true, put-digit-false}
 use Rattle.rows.proofs.WordLaws.{set-bits-nothing, set-bits-lowest, length-set-bits-le}
 use Rattle.rows.proofs.Listing.{Partial-listing, partial-none, partial-part, partial-end}
@@ -207,35 +207,6 @@ module _ (x k : ℕ) (ws list : List ℕ) (n : ℕ) where
   unfolding word-taken word-left
   some-of-word m new room e f = (omega (arith, e), (f, refl))
 
--- nothing of a set of another size
-pub common-first : (x y : List ℕ) → (length x ≡ 8 → ⊥) → common x y ≡ []
-unfolding common
-common-first x y h = rw (ne-eqb (length x) 8 h)
-
-pub common-second : (x y : List ℕ) → length x ≡ 8 → (length y ≡ 8 → ⊥) → common x y ≡ []
-unfolding common
-common-second x y l h = rw (eq-eqb (length x) 8 l, ne-eqb (length y) 8 h)
-
-pub common-filter : (x y : List ℕ) → length x ≡ 8 → length y ≡ 8 → common x y ≡ filter (λ v. in-set x v && in-set y v) (range 0 max-radios)
-unfolding common
-common-filter x y lx ly = rw (eq-eqb (length x) 8 lx, eq-eqb (length y) 8 ly)
-
-pub nothing-taken : (x ws list : List ℕ) → common x ws ≡ [] → Common-taken x ws list 0 ws list
-unfolding overwrite member
-nothing-taken x ws list e = record {
-  counted = omega (arith, ap length e);
-  listed = rw e (nothing (length list));
-  left = λ w. rw e (and-true (in-set ws w));
-}
-  where
-    nothing : (k : ℕ) → list ≡ overwrite (take k []) list
-    nothing zero = refl
-    nothing (suc k) = refl
-
-    and-true : (b : Bool) → b ≡ (b && true)
-    and-true true = refl
-    and-true false = refl
-
 module _ (x ws : List ℕ) where
   abbrev both : ℕ → Bool
   both v = in-set x v && in-set ws v
@@ -320,16 +291,14 @@ module _ (x ws : List ℕ) where
           let l = ltb-false v max-radios e in
           rw (in-set-past us v (omega arith), in-set-past ws v (omega arith))
 
-  pub common-taking-end : (old : List ℕ) (n k : ℕ) (us list : List ℕ) → 8 ≤ k → length x ≡ 8 → length ws ≡ 8
-      → Common-taking old n k us list → Common-taken x ws old n us list
-  common-taking-end old n k us list h lx lw i =
-      let none : both-from k ≡ [] = words-end both k h in
-      let all = common-filter x ws lx lw in
-      let ended = partial-end (both-from k) n list none (i .listing) in
+  pub common-taking-end : (old : List ℕ) (n k : ℕ) (us list : List ℕ) → 8 ≤ k → length ws ≡ 8 → Common-taking old n k us list → Common-taken x ws old n us list
+  unfolding common
+  common-taking-end old n k us list h lw i =
+      let ended = partial-end (both-from k) n list (words-end both k h) (i .listing) in
       record {
-        counted = omega (arith, ended .0, ap length all);
-        listed = ended .1 ∙ sets-front old (both-from 0) ∙ ap (λ (xs : List ℕ). overwrite (take (length old) xs) old) (sym all);
-        left = λ v. left-out us lw (i .long) (λ j l. i .done j (omega arith)) v ∙ ap (λ (xs : List ℕ). in-set ws v && not (member v xs)) (sym all);
+        counted = omega (arith, ended .0);
+        listed = ended .1 ∙ sets-front old (both-from 0);
+        left = left-out us lw (i .long) (λ j l. i .done j (omega arith));
       }
 
 -- ---- the lowest radio that two sets have
@@ -346,27 +315,22 @@ common-search-turn x y k h z i = (
       ∙ ap (λ (r : List ℕ). r ++ both-from x y (k + 1)) (ap (set-bits 64 (64 * k)) z ∙ set-bits-nothing 64 (64 * k)),
 )
 
-module _ (x y : List ℕ) (lx : length x ≡ 8) (ly : length y ≡ 8) where
+module _ (x y : List ℕ) where
   pub common-search-found : (k : ℕ) → k < 8 → getD x k 0 < 2 ^ 64 → getD y k 0 < 2 ^ 64 → (bitAnd (getD x k 0) (getD y k 0) ≡ 0 → ⊥) → Common-search x y k
       → 64 * k + trailingZeros 64 (bitAnd (getD x k 0) (getD y k 0)) ≡ head-or max-radios (common x y)
-  unfolding head-or
+  unfolding head-or common
   common-search-found k h wx wy some i =
       let w = bitAnd (getD x k 0) (getD y k 0) in
       let pos : 0 < w = omega arith in
       sym
       (ap (head-or max-radios)
-      (common-filter x y lx ly
-      ∙ i .1
+      (i .1
       ∙ words-from (both x y) k w h (both-word x y k)
       ∙ ap (λ (r : List ℕ). r ++ both-from x y (k + 1)) (set-bits-lowest 64 (64 * k) w pos (and-lt 64 (getD x k 0) (getD y k 0) wx wy))))
 
   pub common-search-end : (k : ℕ) → 8 ≤ k → Common-search x y k → max-radios ≡ head-or max-radios (common x y)
-  unfolding head-or
-  common-search-end k h i = sym (ap (head-or max-radios) (common-filter x y lx ly ∙ i .1 ∙ words-end (both x y) k h))
-
-pub common-none : (x y : List ℕ) → common x y ≡ [] → max-radios ≡ head-or max-radios (common x y)
-unfolding head-or
-common-none x y e = sym (ap (head-or max-radios) e)
+  unfolding head-or common
+  common-search-end k h i = sym (ap (head-or max-radios) (i .1 ∙ words-end (both x y) k h))
 
 -- ---- every word of a set changed in turn
 
@@ -396,12 +360,9 @@ module _ (f : ℕ → ℕ → ℕ) (ws : List ℕ) where
       done j h (inr z) = getD-set-other us k j w 0 (eqb-false j k z) ∙ i .done j (omega (arith, eqb-false j k z))
 
 -- the radios of another set taken out
-pub set-taken-other : (x ws : List ℕ) → ((length x ≡ 8) × (length ws ≡ 8) → ⊥) → Set-taken x ws ws
-set-taken-other x ws h = record { bits = λ lx lw. absurd (h (lx, lw)); other = λ l. refl }
-
-pub set-taken-end : (x ws us : List ℕ) (k : ℕ) → 8 ≤ k → length x ≡ 8 → length ws ≡ 8 → Changing (λ j w. word-left (getD x j 0) w) ws k us → Set-taken x ws us
+pub set-taken-end : (x ws us : List ℕ) (k : ℕ) → 8 ≤ k → length ws ≡ 8 → Changing (λ j w. word-left (getD x j 0) w) ws k us → Set-taken x ws us
 unfolding in-set
-set-taken-end x ws us k h lx lw i = record { bits = λ p q w. go w (bool-cases (ltb w max-radios)); other = λ l. absurd (l (lx, lw)) }
+set-taken-end x ws us k h lw i = record { bits = λ w. go w (bool-cases (ltb w max-radios)) }
   where
     go : (w : ℕ) → (ltb w max-radios ≡ true) ⊎ (ltb w max-radios ≡ false) → in-set us w ≡ (in-set ws w && not (in-set x w))
     go w (inl e) =
@@ -412,12 +373,9 @@ set-taken-end x ws us k h lx lw i = record { bits = λ p q w. go w (bool-cases (
         rw (in-set-past us w (omega (arith, i .long)), in-set-past ws w (omega arith))
 
 -- the radios of a row put in
-pub row-joined-other : (ts : List ℕ) (a : ℕ) (ws : List ℕ) → (length ws ≡ 8 → ⊥) → Row-joined ts a ws ws
-row-joined-other ts a ws h = record { bits = λ l. absurd (h l); other = λ l. refl }
-
 pub row-joined-short : (ts : List ℕ) (a : ℕ) (ws : List ℕ) → length ts < row-bytes * a + row-bytes → Row-joined ts a ws ws
 unfolding member
-row-joined-short ts a ws h = record { bits = λ l w. rw (row-listed-short ts a h) (or-no (in-set ws w)); other = λ l. refl }
+row-joined-short ts a ws h = record { bits = λ w. rw (row-listed-short ts a h) (or-no (in-set ws w)) }
   where
     or-no : (b : Bool) → b ≡ (b || false)
     or-no true = refl
@@ -430,7 +388,7 @@ module _ (ts : List ℕ) (a : ℕ) (ws : List ℕ) where
   pub row-joining-end : ((j : ℕ) → getD ts j 0 < 256) → (k : ℕ) (us : List ℕ) → 8 ≤ k → row-bytes * a + row-bytes ≤ length ts → length ws ≡ 8
       → Row-joining k us → Row-joined ts a ws us
   unfolding in-set
-  row-joining-end bytes k us h whole long i = record { bits = λ l w. go w (bool-cases (ltb w max-radios)); other = λ l. absurd (l long) }
+  row-joining-end bytes k us h whole long i = record { bits = λ w. go w (bool-cases (ltb w max-radios)) }
     where
       go : (w : ℕ) → (ltb w max-radios ≡ true) ⊎ (ltb w max-radios ≡ false) → in-set us w ≡ (in-set ws w || member w (row-listed ts a))
       go w (inl e) =
@@ -446,64 +404,42 @@ module _ (ts : List ℕ) (a : ℕ) (ws : List ℕ) where
           in-set-past us w (omega (arith, i .long))
           ∙ sym (ap (λ (b : Bool). b || member w (row-listed ts a)) (in-set-past ws w (omega arith)) ∙ ap (member w) (row-listed-whole ts a whole) ∙ not-member w (neighbours-of ts a) (λ m. omega (arith, in-neighbours-of ts a w m .0)))
 
--- ---- the radios that one of two sets has
+-- ---- the radios of a set, listed
 
-pub gone-first : (x y : List ℕ) → (length x ≡ 8 → ⊥) → gone x y ≡ []
-unfolding gone
-gone-first x y h = rw (ne-eqb (length x) 8 h)
+module _ (ws : List ℕ) where
+  abbrev members-from : ℕ → List ℕ
+  members-from k = filter (in-set ws) (range (64 * k) (max-radios - 64 * k))
 
-pub gone-second : (x y : List ℕ) → length x ≡ 8 → (length y ≡ 8 → ⊥) → gone x y ≡ []
-unfolding gone
-gone-second x y l h = rw (eq-eqb (length x) 8 l, ne-eqb (length y) 8 h)
-
-pub nothing-gone : (x y list : List ℕ) → gone x y ≡ [] → Gone-listed x y list 0 list
-unfolding overwrite
-nothing-gone x y list e = record { counted = omega (arith, ap length e); listed = rw e (nothing (length list)) }
-  where
-    nothing : (k : ℕ) → list ≡ overwrite (take k []) list
-    nothing zero = refl
-    nothing (suc k) = refl
-
-module _ (x y : List ℕ) where
-  abbrev one-from : ℕ → List ℕ
-  one-from k = filter (in-one x y) (range (64 * k) (max-radios - 64 * k))
-
-  one-word : (k m : ℕ) → m < 64 → in-one x y (64 * k + m) ≡ digit (bitXor (getD x k 0) (getD y k 0)) m
-  unfolding in-one in-set
-  one-word k m h =
+  member-word : (k m : ℕ) → m < 64 → in-set ws (64 * k + m) ≡ digit (getD ws k 0) m
+  unfolding in-set
+  member-word k m h =
       let q : (64 * k + m) / 64 ≡ k = omega arith in
       let r : (64 * k + m) % 64 ≡ m = omega arith in
-      rw (q, r) (sym (digit-xor (getD x k 0) (getD y k 0) m))
+      rw (q, r)
 
-  pub record Gone-listing (old : List ℕ) (n k : ℕ) (list : List ℕ) : Type 0 where
+  pub record Set-listing (old : List ℕ) (n k : ℕ) (list : List ℕ) : Type 0 where
     pub low : k ≤ 8
     pub few : n ≤ 64 * k
-    pub listing : Partial-listing (one-from 0) 0 old (one-from k) n list
+    pub listing : Partial-listing (members-from 0) 0 old (members-from k) n list
 
-  pub gone-listing-none : (old : List ℕ) → Gone-listing old 0 0 old
-  gone-listing-none old = record { low = omega arith; few = omega arith; listing = partial-none (one-from 0) 0 old (omega arith) }
+  pub set-listing-none : (old : List ℕ) → Set-listing old 0 0 old
+  set-listing-none old = record { low = omega arith; few = omega arith; listing = partial-none (members-from 0) 0 old (omega arith) }
 
-  pub gone-listing-turn : (old : List ℕ) (n k m : ℕ) (list new : List ℕ) → k < 8
-      → m ≡ min (length list - n) (length (set-bits 64 (64 * k) (bitXor (getD x k 0) (getD y k 0))))
-      → new ≡ sets list n (set-bits 64 (64 * k) (bitXor (getD x k 0) (getD y k 0))) → Gone-listing old n k list → Gone-listing old (n + m) (k + 1) new
-  gone-listing-turn old n k m list new l f g i =
-      let bits = set-bits 64 (64 * k) (bitXor (getD x k 0) (getD y k 0)) in
-      let split : one-from k ≡ bits ++ one-from (k + 1) = words-from (in-one x y) k (bitXor (getD x k 0) (getD y k 0)) l (one-word k) in
-      let rest : Partial-listing (one-from 0) 0 old (bits ++ one-from (k + 1)) n list = rw split at (i .listing) in
+  pub set-listing-turn : (old : List ℕ) (n k m : ℕ) (list new : List ℕ) → k < 8 → m ≡ min (length list - n) (length (set-bits 64 (64 * k) (getD ws k 0)))
+      → new ≡ sets list n (set-bits 64 (64 * k) (getD ws k 0)) → Set-listing old n k list → Set-listing old (n + m) (k + 1) new
+  set-listing-turn old n k m list new l f g i =
+      let bits = set-bits 64 (64 * k) (getD ws k 0) in
+      let split : members-from k ≡ bits ++ members-from (k + 1) = words-from (in-set ws) k (getD ws k 0) l (member-word k) in
+      let rest : Partial-listing (members-from 0) 0 old (bits ++ members-from (k + 1)) n list = rw split at (i .listing) in
       let count : n + m ≡ min (length list) (n + length bits) = omega (arith, f, i .listing .inside, i .listing .long) in
       record {
         low = omega arith;
-        few = omega (arith, f, length-set-bits-le 64 (64 * k) (bitXor (getD x k 0) (getD y k 0)), i .few);
-        listing = rw (count, g) (partial-part bits (one-from (k + 1)) n list rest);
+        few = omega (arith, f, length-set-bits-le 64 (64 * k) (getD ws k 0), i .few);
+        listing = rw (count, g) (partial-part bits (members-from (k + 1)) n list rest);
       }
 
-  pub gone-listing-end : (old : List ℕ) (n k : ℕ) (list : List ℕ) → 8 ≤ k → length x ≡ 8 → length y ≡ 8 → Gone-listing old n k list → Gone-listed x y old n list
-  unfolding gone
-  gone-listing-end old n k list h lx ly i =
-      let none : one-from k ≡ [] = words-end (in-one x y) k h in
-      let all : gone x y ≡ one-from 0 = rw (eq-eqb (length x) 8 lx, eq-eqb (length y) 8 ly) in
-      let ended = partial-end (one-from k) n list none (i .listing) in
-      record {
-        counted = omega (arith, ended .0, ap length all);
-        listed = ended .1 ∙ sets-front old (one-from 0) ∙ ap (λ (xs : List ℕ). overwrite (take (length old) xs) old) (sym all);
-      }
+  pub set-listing-end : (old : List ℕ) (n k : ℕ) (list : List ℕ) → 8 ≤ k → Set-listing old n k list → Listed ws old n list
+  unfolding members
+  set-listing-end old n k list h i =
+      let ended = partial-end (members-from k) n list (words-end (in-set ws) k h) (i .listing) in
+      record { counted = omega (arith, ended .0); listed = ended .1 ∙ sets-front old (members-from 0) }

@@ -5,18 +5,17 @@
 --   Row-joined             the radios that row a of the links table ts marks put into a set
 --   word-left x w          the word w without the bits that the word x has
 --   word-taken k x ws      the set ws with its word k without these bits
---   common x y             the radios that the sets x and y both have, ascending; none where one is not eight words
+--   common x y             the radios that the sets x and y both have, ascending
 --   Common-taken           these listed, and taken out of the second set
 --   Set-taken              the radios of another set taken out of a set
---   gone x y               the radios that one of the sets x and y has and the other not, ascending; none where one is not eight words
---   Gone-listed            these listed
+--   members ws             the radios of the set ws, ascending
+--   Listed                 these listed
 -- Laws are in proofs/SetLaws.antt. Definitions only.
 use mathlib.Core.Path.{_≡_}
-use mathlib.Core.Bool.{Bool, true, false, _&&_, _||_, not, cond}
-use mathlib.Core.List.{List, []}
+use mathlib.Core.Bool.{Bool, true, false, _&&_, _||_, not}
+use mathlib.Core.List.{List}
 use Prim.Native.Nat.{ℕ, _/_, _%_, min}
 use lib.Bits.{bitAnd, bitXor}
-use lib.Dec.{eqb}
 use lib.ListN.{length, getD, take, set}
 use Rattle.mesh.specs.Limits.{max-radios}
 use Rattle.lists.specs.Lists.{range, filter, member, overwrite}
@@ -34,8 +33,7 @@ put-in v ws = set ws (v / 64) (put-digit true (getD ws (v / 64) 0) (v % 64))
 
 -- ws before, us after
 pub record Row-joined (ts : List ℕ) (a : ℕ) (ws us : List ℕ) : Type 0 where
-  pub bits : length ws ≡ 8 → (w : ℕ) → in-set us w ≡ (in-set ws w || member w (row-listed ts a))
-  pub other : (length ws ≡ 8 → ⊥) → us ≡ ws
+  pub bits : (w : ℕ) → in-set us w ≡ (in-set ws w || member w (row-listed ts a))
 
 unfoldable pub word-left : (other word : ℕ) → ℕ
 word-left x w = bitXor w (bitAnd x w)
@@ -44,7 +42,7 @@ unfoldable pub word-taken : (k other : ℕ) → (words : List ℕ) → List ℕ
 word-taken k x ws = set ws k (word-left x (getD ws k 0))
 
 unfoldable pub common : (x y : List ℕ) → List ℕ
-common x y = cond (eqb (length x) 8 && eqb (length y) 8) (filter (λ v. in-set x v && in-set y v) (range 0 max-radios)) []
+common x y = filter (λ v. in-set x v && in-set y v) (range 0 max-radios)
 
 -- ws and list before, us and new after; r entries were written
 pub record Common-taken (x ws list : List ℕ) (r : ℕ) (us new : List ℕ) : Type 0 where
@@ -54,15 +52,12 @@ pub record Common-taken (x ws list : List ℕ) (r : ℕ) (us new : List ℕ) : T
 
 -- ws before, us after
 pub record Set-taken (x ws us : List ℕ) : Type 0 where
-  pub bits : length x ≡ 8 → length ws ≡ 8 → (w : ℕ) → in-set us w ≡ (in-set ws w && not (in-set x w))
-  pub other : ((length x ≡ 8) × (length ws ≡ 8) → ⊥) → us ≡ ws
+  pub bits : (w : ℕ) → in-set us w ≡ (in-set ws w && not (in-set x w))
 
-unfoldable pub in-one : (x y : List ℕ) → (v : ℕ) → Bool
-in-one x y v = cond (in-set x v) (not (in-set y v)) (in-set y v)
+unfoldable pub members : (words : List ℕ) → List ℕ
+members ws = filter (in-set ws) (range 0 max-radios)
 
-unfoldable pub gone : (x y : List ℕ) → List ℕ
-gone x y = cond (eqb (length x) 8 && eqb (length y) 8) (filter (in-one x y) (range 0 max-radios)) []
-
-pub record Gone-listed (x y list : List ℕ) (r : ℕ) (new : List ℕ) : Type 0 where
-  pub counted : r ≡ min (length list) (length (gone x y))
-  pub listed : new ≡ overwrite (take (length list) (gone x y)) list
+-- list before, new after; r entries were written
+pub record Listed (ws list : List ℕ) (r : ℕ) (new : List ℕ) : Type 0 where
+  pub counted : r ≡ min (length list) (length (members ws))
+  pub listed : new ≡ overwrite (take (length list) (members ws)) list

@@ -7,7 +7,7 @@ ghost use lib.Seq.{sets};
 ghost use Rattle.mesh.specs.Limits.{max-radios};
 ghost use Rattle.lists.specs.Lists.{head-or};
 ghost use Rattle.rows.specs.Rows.{set-bits};
-ghost use Rattle.sets.specs.Sets.{in-set, take-out, put-in, word-taken, Row-joined, common, Common-taken, Set-taken, Gone-listed};
+ghost use Rattle.sets.specs.Sets.{in-set, take-out, put-in, word-taken, Row-joined, common, Common-taken, Set-taken, Listed};
 
 // Whether v is in the set; past its words it is not.
 pub fn is_in(set: &[u64], v: u32) -> bool
@@ -58,17 +58,14 @@ fn take_word(other: u64, k: u32, set: &mut [u64], list: &mut [u16], n: usize) ->
     n + rows::list_radios(word, k, list, n) as usize
 }
 
-// Puts the radios that row a marks into the set. Where the row is not whole in the table, or the set is not eight words, nothing
-// changes.
+// Puts the radios that row a marks into the set. Where the row is not whole in the table nothing changes.
 pub fn join_row(links: &[u8], a: u32, set: &mut [u64])
+    requires { ⌜ length (now set) ≡ 8 ⌝ }
     ensures { λ _. ⌜ Row-joined (now (links .entry)) a (now (set .entry)) (now (set .exit)) ⌝ }
 {
     let start = mesh::Site::ROW_BYTES * a as usize;
     let end = start + mesh::Site::ROW_BYTES;
     if links.len() < end {
-        return;
-    }
-    if set.len() != rows::ROW_WORDS as usize {
         return;
     }
     let row = &links[start..end];
@@ -81,17 +78,11 @@ pub fn join_row(links: &[u8], a: u32, set: &mut [u64])
 }
 
 // Takes the radios that the other set has too out of the set, writes them into the list, ascending, as many as fit, and comes back
-// with how many it wrote; later entries keep their content. Where one of the sets is not eight words nothing changes and the count
-// is 0.
+// with how many it wrote; later entries keep their content.
 pub fn take_common(other: &[u64], set: &mut [u64], list: &mut [u16]) -> usize
+    requires { ⌜ (length (now other) ≡ 8) × (length (now set) ≡ 8) ⌝ }
     ensures { λ r. ⌜ Common-taken (now (other .entry)) (now (set .entry)) (now (list .entry)) r (now (set .exit)) (now (list .exit)) ⌝ }
 {
-    if other.len() != rows::ROW_WORDS as usize {
-        return 0;
-    }
-    if set.len() != rows::ROW_WORDS as usize {
-        return 0;
-    }
     let mut n: usize = 0;
     let mut k: u32 = 0;
     while k < rows::ROW_WORDS {
@@ -101,16 +92,11 @@ pub fn take_common(other: &[u64], set: &mut [u64], list: &mut [u16]) -> usize
     n
 }
 
-// Takes the radios that the other set has too out of the set. Where one of the sets is not eight words nothing changes.
+// Takes the radios that the other set has too out of the set.
 pub fn take_set(other: &[u64], set: &mut [u64])
+    requires { ⌜ (length (now other) ≡ 8) × (length (now set) ≡ 8) ⌝ }
     ensures { λ _. ⌜ Set-taken (now (other .entry)) (now (set .entry)) (now (set .exit)) ⌝ }
 {
-    if other.len() != rows::ROW_WORDS as usize {
-        return;
-    }
-    if set.len() != rows::ROW_WORDS as usize {
-        return;
-    }
     let mut k: usize = 0;
     while k < rows::ROW_WORDS as usize {
         set[k] = set[k] ^ (other[k] & set[k]);
@@ -118,16 +104,11 @@ pub fn take_set(other: &[u64], set: &mut [u64])
     }
 }
 
-// The lowest radio that both sets have; where there is none, or one of them is not eight words, the most radios that a site may have.
+// The lowest radio that both sets have; where there is none, the most radios that a site may have.
 pub fn first_common<'a>(one: &'a [u64], other: &'a [u64]) -> u32
+    requires { ⌜ (length (now one) ≡ 8) × (length (now other) ≡ 8) ⌝ }
     ensures { λ r. ⌜ r ≡ head-or max-radios (common (now (one .entry)) (now (other .entry))) ⌝ }
 {
-    if one.len() != rows::ROW_WORDS as usize {
-        return mesh::Site::RADIOS;
-    }
-    if other.len() != rows::ROW_WORDS as usize {
-        return mesh::Site::RADIOS;
-    }
     let mut k: u32 = 0;
     while k < rows::ROW_WORDS {
         let word = one[k as usize] & other[k as usize];
@@ -139,22 +120,16 @@ pub fn first_common<'a>(one: &'a [u64], other: &'a [u64]) -> u32
     mesh::Site::RADIOS
 }
 
-// Writes the radios that one of two sets has and the other not into the list, ascending, as many as fit, and comes back with how
-// many it wrote; later entries keep their content. Where one of the sets is not eight words nothing is written.
-pub fn list_gone<'a>(whole: &'a [u64], rest: &'a [u64], list: &mut [u16]) -> u32
-    ensures { λ r. ⌜ Gone-listed (now (whole .entry)) (now (rest .entry)) (now (list .entry)) r (now (list .exit)) ⌝ }
+// Writes the radios of the set into the list, ascending, as many as fit, and comes back with how many it wrote; later entries keep
+// their content.
+pub fn list(set: &[u64], list: &mut [u16]) -> u32
+    requires { ⌜ length (now set) ≡ 8 ⌝ }
+    ensures { λ r. ⌜ Listed (now (set .entry)) (now (list .entry)) r (now (list .exit)) ⌝ }
 {
-    if whole.len() != rows::ROW_WORDS as usize {
-        return 0;
-    }
-    if rest.len() != rows::ROW_WORDS as usize {
-        return 0;
-    }
     let mut n: usize = 0;
     let mut k: u32 = 0;
     while k < rows::ROW_WORDS {
-        let at = k as usize;
-        n += rows::list_radios(whole[at] ^ rest[at], k, list, n) as usize;
+        n += rows::list_radios(set[k as usize], k, list, n) as usize;
         k += 1;
     }
     n as u32

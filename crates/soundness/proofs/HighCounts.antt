@@ -19,9 +19,9 @@ use Rattle.lists.proofs.Filter.{count-filter}
 use Rattle.calls.specs.Questions.{lengths-of}
 use Rattle.rows.specs.Rows.{neighbours-of}
 use Rattle.row_conditions.specs.Conditions.{high-count}
-use Rattle.soundness.specs.Checks.{examinable, Examined}
+use Rattle.soundness.specs.Checks.{Sizes, examinable, Examined}
 use Rattle.rows.proofs.RowListLaws.{neighbours-of-linked}
-use Rattle.soundness.proofs.ExamineLaws.{Sizes, examinable-true}
+use Rattle.soundness.proofs.ExamineLaws.{examinable-true}
 
 module _ (n : ℕ) (t : Tables) (yes : sound n t ≡ true) where
   abbrev ts : List ℕ

@@ -22,16 +22,7 @@ use Rattle.rows.specs.Rows.{neighbours-of, row-listed, row-count}
 use Rattle.rows.proofs.RowListLaws.{row-count-few}
 use Rattle.rows.proofs.RowWords.{row-listed-whole}
 use Rattle.soundness.specs.Checks.{fits-sound}
-
-pub record Sound-site (n : ℕ) (t : Tables) : Type 0 where
-  pub small : n ≤ max-radios
-  pub links-long : length (t .links) ≡ row-bytes * n
-  pub numbers-long : length (t .numbers) ≡ n
-  pub symmetric : symmetric n (t .links) ≡ true
-  pub irreflexive : irreflexive n (t .links) ≡ true
-  pub within : within n (t .links) ≡ true
-  pub few : few max-neighbours n (t .links) ≡ true
-  pub numbers : t .numbers ≡ numbers (graph-in n (t .links))
+pub use Rattle.soundness.specs.Checks.{Sound-site}
 
 pub sound-site : (n : ℕ) (t : Tables) → n ≤ max-radios → Site-lengths n (lengths-of t) → sound n t ≡ true → Sound-site n t
 unfolding sound rows-proper lengths-of

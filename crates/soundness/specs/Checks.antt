@@ -3,11 +3,12 @@
 --   Highest-words            the highest word of each word of a row
 --   Tally                    what is counted of some ends of a row
 --   Sound-radio, Ends-room, Walk-room, Rows-room   what private functions of src/lib.rt want of the tables that they read
---   Placing, Places-found, Tallied, Walked, Ends-counted, Later-counted, Row-checked, Rows-checked, Examined
+--   Placing, Places-found, Tallied, Walked, Ends-counted, Later-counted, Row-checked, Rows-checked, Held, Asked, Examined
 --                            what the functions of src/lib.rt come back with
 --   nowhere                  a place that no entry of an order has
---   examinable               questions 1 and 2 get yes, and the lent tables of places and high counts are long enough
+--   Sizes, examinable        questions 1 and 2 get yes, and the lent tables of places and not-lower counts are long enough
 --   fits-sound               questions 1 to 3 get yes
+--   Sound-site               what sound tables say of the graph that they mark
 -- The conditions on a row that they speak of are in crate row_conditions. Definitions only.
 use mathlib.Core.Path.{_≡_}
 use mathlib.Core.Bool.{Bool, true, _&&_}
@@ -20,8 +21,9 @@ use Rattle.lists.specs.Lists.{range, all, head-or}
 use Rattle.mesh.specs.Orders.{each-once, later-in, nobody}
 use Rattle.mesh.specs.Tables.{Tables, marked, graph-in}
 use Rattle.mesh.specs.Graph.{linked}
-use Rattle.mesh.specs.Sound.{sound}
-use Rattle.calls.specs.Questions.{Lengths, lengths-of, size-good, site-lengths, answer-length}
+use Rattle.mesh.specs.Cores.{numbers}
+use Rattle.mesh.specs.Sound.{symmetric, irreflexive, within, few, sound}
+use Rattle.calls.specs.Questions.{Lengths, lengths-of, size-good, site-lengths, answer-length, site-refusal}
 use Rattle.rows.specs.Rows.{neighbours-of}
 use Rattle.row_conditions.specs.Conditions.{Placed, Highs, later-count, first-key, high-count, ends-good, row-good, highest-word}
 
@@ -128,15 +130,48 @@ pub record Rows-checked (n : ℕ) (links numbers places before after : List ℕ)
   pub highs : r ≡ true → Highs n links numbers after
   pub long : length after ≡ length before
 
--- questions 1 and 2 get yes, and the tables of places and of high counts have an entry for each radio
-unfoldable pub examinable : (n : ℕ) → Lengths → (places highs : ℕ) → Bool
+-- ---- questions 1 to 3
+
+-- questions 1 and 2 got yes, and the tables of places and of not-lower counts, p and h entries long, have one for each radio
+pub record Sizes (n : ℕ) (l : Lengths) (p h : ℕ) : Type 0 where
+  pub small : n ≤ max-radios
+  pub linked : l .links ≡ row-bytes * n
+  pub numbered : l .numbers ≡ n
+  pub ordered : l .order ≡ n
+  pub places : n ≤ p
+  pub counts : n ≤ h
+
+-- whether the tables are sound, and then the places and the not-lower counts
+pub record Held (n : ℕ) (t : Tables) (places not-lower : List ℕ) (r : Bool) : Type 0 where
+  pub answer : r ≡ sound n t
+  pub placed : r ≡ true → Placed n (t .order) places
+  pub counts : r ≡ true → Highs n (t .links) (t .numbers) not-lower
+
+-- the number of questions 1 to 3, and at 0 the places and the not-lower counts
+pub record Asked (n : ℕ) (t : Tables) (others : Bool) (places not-lower : List ℕ) (q : ℕ) : Type 0 where
+  pub number : q ≡ site-refusal n (lengths-of t) others (sound n t) 0
+  pub placed : q ≡ 0 → Placed n (t .order) places
+  pub counts : q ≡ 0 → Highs n (t .links) (t .numbers) not-lower
+
+unfoldable pub examinable : (n : ℕ) → Lengths → (places not-lower : ℕ) → Bool
 examinable n l p h = size-good n && (site-lengths n l && answer-length n (min p h))
 
--- whether the tables are sound, and then the places and the high counts; ps and hs are the tables of places and of high
--- counts before, qs and is the same after
+-- the same, where questions 1 and 2 may get no; ps and hs are the tables of places and of not-lower counts before, qs and is after
 pub record Examined (n : ℕ) (t : Tables) (ps qs hs is : List ℕ) (r : Bool) : Type 0 where
   pub answer : r ≡ (examinable n (lengths-of t) (length ps) (length hs) && sound n t)
   pub placed : r ≡ true → Placed n (t .order) qs
   pub highs : r ≡ true → Highs n (t .links) (t .numbers) is
   pub places-long : length qs ≡ length ps
   pub highs-long : length is ≡ length hs
+
+-- ---- sound tables
+
+pub record Sound-site (n : ℕ) (t : Tables) : Type 0 where
+  pub small : n ≤ max-radios
+  pub links-long : length (t .links) ≡ row-bytes * n
+  pub numbers-long : length (t .numbers) ≡ n
+  pub symmetric : symmetric n (t .links) ≡ true
+  pub irreflexive : irreflexive n (t .links) ≡ true
+  pub within : within n (t .links) ≡ true
+  pub few : few max-neighbours n (t .links) ≡ true
+  pub numbers : t .numbers ≡ numbers (graph-in n (t .links))

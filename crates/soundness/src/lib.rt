@@ -1,5 +1,5 @@
-// The soundness check: document 01's local conditions, decided for any content of tables of the right lengths. An entry is
-// tested before it is used as an index.
+// The soundness check: document 01's local conditions, decided for any content of tables of the right lengths, and questions 1 to 3,
+// which every call over a site puts. An entry is tested before it is used as an index.
 ghost use mathlib.Core.Path.{_≡_};
 ghost use mathlib.Core.Bool.{true};
 ghost use Prim.Native.Nat.{_+_, _*_, _/_, _≤_, _<_};
@@ -8,7 +8,7 @@ ghost use Rattle.mesh.specs.Limits.{max-radios, row-bytes};
 ghost use Rattle.mesh.specs.Orders.{rising};
 ghost use Rattle.mesh.specs.Sound.{number-in, sound};
 ghost use Rattle.mesh.specs.Lent.{lent};
-ghost use Rattle.mesh.specs.Tables.{marked};
+ghost use Rattle.mesh.specs.Tables.{marked, tables};
 ghost use Rattle.calls.specs.Questions.{lengths-of, site-refusal};
 ghost use Rattle.calls.specs.Contracts.{Check-contract};
 ghost use Rattle.tables.specs.Sizes.{lengths};
@@ -17,7 +17,7 @@ ghost use Rattle.rows.specs.Rows.{set-bits};
 ghost use Rattle.row_conditions.specs.Conditions.{sooner-key, highest-word};
 ghost use Rattle.soundness.specs.Checks.{Placing, Places-found, Highest-words, tally, Walk-room, Walked, Ends-room, Ends-counted};
 ghost use Rattle.soundness.specs.Checks.{Rows-room, Row-checked, Rows-checked};
-ghost use Rattle.soundness.specs.Checks.{examinable, Examined, fits-sound};
+ghost use Rattle.soundness.specs.Checks.{Sizes, Held, Asked, examinable, Examined};
 use calls::Refusal;
 use calls::Value;
 use mesh::Site;
@@ -219,7 +219,7 @@ pub(crate) struct Ends {
     pub(crate) first: u16,
 }
 
-// Whether row a marks at most 40 radios, and these are of the site, are not a, and mark a too; how many of them stand later in the
+// Whether row a marks at most `Site::NEIGHBOURS` radios, and these are of the site, are not a, and mark a too; how many of them stand later in the
 // order than a, and the first of these, 65,535 when there are none; and how many have a number that is not below that of a.
 // It is small enough that the compiler gives each caller its own: the check then does not pay for the first.
 pub(crate) fn count_ends(
@@ -321,12 +321,12 @@ fn row_checked(
     }
 }
 
-// Whether document 01's conditions hold of every radio below n, and then `highs` holds for each of them how many of its
-// neighbours have a number that is not below its own; else `highs` holds anything.
-fn rows_checked(n: u32, links: &[u8], numbers: &[u8], places: &[u16], highs: &mut [u8]) -> bool
-    requires { ⌜ Rows-room n (length (now links)) (length (now numbers)) (length (now places)) × (n ≤ length (now highs)) ⌝ }
-    ensures { λ r. ⌜ Rows-checked n (now (links .entry)) (now (numbers .entry)) (now (places .entry)) (now (highs .entry))
-        (now (highs .exit)) r ⌝ }
+// Whether document 01's conditions hold of every radio below n, and then `not_lower` holds for each of them how many of its
+// neighbours have a number that is not below its own; else `not_lower` holds anything.
+fn rows_checked(n: u32, links: &[u8], numbers: &[u8], places: &[u16], not_lower: &mut [u8]) -> bool
+    requires { ⌜ Rows-room n (length (now links)) (length (now numbers)) (length (now places)) × (n ≤ length (now «not_lower»)) ⌝ }
+    ensures { λ r. ⌜ Rows-checked n (now (links .entry)) (now (numbers .entry)) (now (places .entry)) (now («not_lower» .entry))
+        (now («not_lower» .exit)) r ⌝ }
 {
     let highest = highest_words(n);
     let mut a: u32 = 0;
@@ -335,46 +335,137 @@ fn rows_checked(n: u32, links: &[u8], numbers: &[u8], places: &[u16], highs: &mu
         if !row.good {
             return false;
         }
-        highs[a as usize] = row.high;
+        not_lower[a as usize] = row.high;
         a += 1;
     }
     true
 }
 
-// Whether n is from 1 to 512, links, numbers and order have their lengths, and places and highs an entry for each radio.
+// Whether tables of the right lengths are sound. Then `places` holds where each radio stands in the order, and `not_lower` how many of
+// its neighbours have a number that is not below its own; else both hold anything.
+fn is_sound(
+    n: u32,
+    links: &[u8],
+    numbers: &[u8],
+    order: &[u16],
+    places: &mut [u16],
+    not_lower: &mut [u8],
+) -> bool
+    requires { ⌜ Sizes n (lengths-of (tables (now links) (now numbers) (now order))) (length (now places)) (length (now «not_lower»)) ⌝ }
+    ensures { λ r. ⌜ Held n (lent (links .entry) (numbers .entry) (order .entry)) (now (places .exit)) (now («not_lower» .exit)) r ⌝ }
+{
+    if !place(order, places) {
+        return false;
+    }
+    if !rises(numbers, order) {
+        return false;
+    }
+    rows_checked(n, links, numbers, places, not_lower)
+}
+
+// Questions 1 to 3, where `others` is the answer that 2 gets for further tables: the number of the first that got no, or 0. At 0,
+// `places` holds where each radio stands in the order, and `not_lower` how many of its neighbours have a number that is not below its
+// own; else both hold anything.
+pub fn asked(
+    n: u32,
+    links: &[u8],
+    numbers: &[u8],
+    order: &[u16],
+    others: bool,
+    places: &mut [u16],
+    not_lower: &mut [u8],
+) -> u32
+    requires { ⌜ (max-radios ≤ length (now places)) × (max-radios ≤ length (now «not_lower»)) ⌝ }
+    ensures { λ r. ⌜ Asked n (lent (links .entry) (numbers .entry) (order .entry)) others (now (places .exit)) (now («not_lower» .exit)) r ⌝ }
+{
+    let number = tables::sizes::with_others(
+        Site { radios: n },
+        links.len(),
+        numbers.len(),
+        order.len(),
+        others,
+    );
+    if number != 0 {
+        return number;
+    }
+    if !is_sound(n, links, numbers, order, places, not_lower) {
+        return Refusal::UNSOUND;
+    }
+    0
+}
+
+// Questions 1 to 3 alone.
+pub fn refusal(n: u32, links: &[u8], numbers: &[u8], order: &[u16], others: bool) -> u32
+    ensures { λ r. ⌜ r ≡ site-refusal n (lengths-of (lent (links .entry) (numbers .entry) (order .entry))) others
+        (sound n (lent (links .entry) (numbers .entry) (order .entry))) 0 ⌝ }
+{
+    let mut places = [0u16; Site::RADIOS as usize];
+    let mut not_lower = [0u8; Site::RADIOS as usize];
+    asked(
+        n,
+        links,
+        numbers,
+        order,
+        others,
+        &mut places,
+        &mut not_lower,
+    )
+}
+
+// The soundness check: refusal number 1 or 2 and the value 0, or number 0 and the value 1 when the tables are sound, 0 when not.
+pub fn check(n: u32, links: &[u8], numbers: &[u8], order: &[u16]) -> Value
+    ensures { λ r. ⌜ Check-contract n (lent (links .entry) (numbers .entry) (order .entry)) r ⌝ }
+{
+    let number = refusal(n, links, numbers, order, true);
+    if number == 0 {
+        return Value {
+            number: 0,
+            value: 1,
+        };
+    }
+    if number == Refusal::UNSOUND {
+        return Value {
+            number: 0,
+            value: 0,
+        };
+    }
+    Value { number, value: 0 }
+}
+
+// Whether n is from 1 to 512, links, numbers and order have their lengths, and places and not_lower an entry for each radio.
 fn is_examinable(
     n: u32,
     links: usize,
     numbers: usize,
     order: usize,
     places: usize,
-    highs: usize,
+    not_lower: usize,
 ) -> bool
-    ensures { λ r. ⌜ r ≡ examinable n (lengths links numbers order) places highs ⌝ }
+    ensures { λ r. ⌜ r ≡ examinable n (lengths links numbers order) places «not_lower» ⌝ }
 {
     tables::sizes::with_answer(
         Site { radios: n },
         links,
         numbers,
         order,
-        tables::fill::least(places, highs),
+        tables::fill::least(places, not_lower),
     )
         == 0
 }
 
-// Whether the tables are sound. Then `places` holds where each radio stands in the order, and `highs` how many of its
-// neighbours have a number that is not below its own; else both hold anything. Not where n is not from 1 to 512, a table has
-// another length than document 01 says, or `places` or `highs` has fewer than n entries.
+// Whether the tables are sound, for callers that put questions 1 and 2 themselves. Then `places` and `not_lower` are as `asked` leaves
+// them at 0; else both hold anything. Not where n is not from 1 to 512, a table has another length than document 01 says, or `places`
+// or `not_lower` has fewer than n entries.
 pub fn examine(
     n: u32,
     links: &[u8],
     numbers: &[u8],
     order: &[u16],
     places: &mut [u16],
-    highs: &mut [u8],
+    not_lower: &mut [u8],
 ) -> bool
     ensures { λ r. ⌜ Examined n (lent (links .entry) (numbers .entry) (order .entry)) (now (places .entry)) (now (places .exit))
-        (now (highs .entry)) (now (highs .exit)) r ⌝ }
+        (now («not_lower» .entry)) (now («not_lower» .exit)) r ⌝ }
 {
     if !is_examinable(
         n,
@@ -382,66 +473,9 @@ pub fn examine(
         numbers.len(),
         order.len(),
         places.len(),
-        highs.len(),
+        not_lower.len(),
     ) {
         return false;
     }
-    if !place(order, places) {
-        return false;
-    }
-    if !rises(numbers, order) {
-        return false;
-    }
-    rows_checked(n, links, numbers, places, highs)
-}
-
-// Whether n is from 1 to 512, the tables have their lengths, and they are sound.
-pub fn is_sound(n: u32, links: &[u8], numbers: &[u8], order: &[u16]) -> bool
-    ensures { λ r. ⌜ r ≡ fits-sound n (lent (links .entry) (numbers .entry) (order .entry)) ⌝ }
-{
-    let mut places = [0u16; Site::RADIOS as usize];
-    let mut highs = [0u8; Site::RADIOS as usize];
-    examine(n, links, numbers, order, &mut places, &mut highs)
-}
-
-// Questions 1 to 3, where `others` is the answer that 2 gets for further tables: the refusal number so far, 0 when none got no.
-pub fn refusal(n: u32, links: &[u8], numbers: &[u8], order: &[u16], others: bool) -> u32
-    ensures { λ r. ⌜ r ≡ site-refusal n (lengths-of (lent (links .entry) (numbers .entry) (order .entry))) others
-        (sound n (lent (links .entry) (numbers .entry) (order .entry))) 0 ⌝ }
-{
-    let number = tables::sizes::of_tables(
-        Site { radios: n },
-        links.len(),
-        numbers.len(),
-        order.len(),
-    );
-    if number != 0 {
-        return number;
-    }
-    if !others {
-        return Refusal::LENGTH;
-    }
-    if !is_sound(n, links, numbers, order) {
-        return Refusal::UNSOUND;
-    }
-    0
-}
-
-// The soundness check: refusal number 1 or 2 and the value 0, or number 0 and the value 1 when the tables are sound, 0 when not.
-pub fn check(n: u32, links: &[u8], numbers: &[u8], order: &[u16]) -> Value
-    ensures { λ r. ⌜ Check-contract n (lent (links .entry) (numbers .entry) (order .entry)) r ⌝ }
-{
-    let number = tables::sizes::of_tables(
-        Site { radios: n },
-        links.len(),
-        numbers.len(),
-        order.len(),
-    );
-    if number != 0 {
-        return Value { number, value: 0 };
-    }
-    Value {
-        number: 0,
-        value: is_sound(n, links, numbers, order) as u32,
-    }
+    is_sound(n, links, numbers, order, places, not_lower)
 }

@@ -30,8 +30,8 @@ use Rattle.mesh.proofs.Trees.Listed.{getD-le-greatest}
 use Rattle.rows.specs.Rows.{row-listed, neighbours-above}
 use Rattle.rows.proofs.RowListLaws.{in-neighbours-of, member-neighbours-of}
 use Rattle.rows.proofs.RowWords.{row-listed-whole, row-listed-short}
-use Rattle.sets.specs.Sets.{in-set, put-in, Row-joined, common, Common-taken, Set-taken, in-one, gone, Gone-listed}
-use Rattle.sets.proofs.SetLaws.{in-set-zeros, in-set-radio, in-put-in, length-put-in, common-filter}
+use Rattle.sets.specs.Sets.{in-set, put-in, Row-joined, common, Common-taken, Set-taken, members, Listed}
+use Rattle.sets.proofs.SetLaws.{in-set-zeros, in-set-radio, in-put-in, length-put-in}
 use Rattle.link_list.specs.Links.{links-to, links-above, links-from}
 use Rattle.floods.specs.Floods.{of-level, Level-set}
 use Rattle.forests.proofs.Forests.{filter-links-append}
@@ -67,15 +67,15 @@ above-next ns k next reach e less h x l = h x l ∙ ap (λ (b : Bool). ltb x (le
     high (inr a) b = a
 
 -- the radios of higher levels taken out
-pub level-sets : (ns : List ℕ) (k : ℕ) (higher old reach own : List ℕ) → length higher ≡ 8 → length old ≡ 8 → length reach ≡ 8 → length own ≡ 8
-    → Above-set ns k higher → Level-set ns k old reach → Set-taken higher reach own → Level-sets ns k own reach
+pub level-sets : (ns : List ℕ) (k : ℕ) (higher reach own : List ℕ) → length reach ≡ 8 → length own ≡ 8
+    → Above-set ns k higher → Level-set ns k reach → Set-taken higher reach own → Level-sets ns k own reach
 unfolding of-level
-level-sets ns k higher old reach own lh lo lr lw above level taken = record {
+level-sets ns k higher reach own lr lw above level taken = record {
   own-long = lw;
   reach-long = lr;
-  own-radios = λ v l. taken .bits lh lr v ∙ ap₂ (λ (a b : Bool). a && not b) (level .radios lo v l) (above v l)
+  own-radios = λ v l. taken .bits v ∙ ap₂ (λ (a b : Bool). a && not b) (level v l) (above v l)
       ∙ rest v (ltb v (length ns)) (bool-cases (eqb (getD ns v 0) k));
-  reach-radios = λ v l. level .radios lo v l;
+  reach-radios = level;
 }
   where
     rest : (v : ℕ) (a : Bool) → (eqb (getD ns v 0) k ≡ true) ⊎ (eqb (getD ns v 0) k ≡ false)
@@ -149,12 +149,12 @@ neighbours-putting-turn ts list old i set after l same joined h = record {
 }
   where
     stays : (x : ℕ) → in-set set x ≡ true → in-set after x ≡ true
-    stays x m = joined .bits (h .long) x ∙ or-left (in-set set x) (member x (row-listed ts (getD list i 0))) m
+    stays x m = joined .bits x ∙ or-left (in-set set x) (member x (row-listed ts (getD list i 0))) m
 
     go : (j x : ℕ) → (eqb j i ≡ true) ⊎ (eqb j i ≡ false) → j < i + 1 → member x (row-listed ts (getD list j 0)) ≡ true → in-set after x ≡ true
     go j x (inl q) r m =
         let z = eqb-true j i q in
-        joined .bits (h .long) x
+        joined .bits x
         ∙ or-right (in-set set x) (member x (row-listed ts (getD list i 0))) (ap (λ (u : ℕ). member x (row-listed ts (getD list u 0))) (sym z) ∙ m)
     go j x (inr q) r m = let d = eqb-false j i q in stays x (h .near j x (omega (arith, d)) m)
 
@@ -173,21 +173,11 @@ listed-front xs old list r fits counted listed =
 few-radios : (f : ℕ → Bool) → length (filter f (range 0 max-radios)) ≤ max-radios
 few-radios f = filter-le f (range 0 max-radios) max-radios (length-range 0 max-radios)
 
--- the radios of a set, listed against a set without any
-gone-own : (own : List ℕ) → length own ≡ 8 → gone own (replicate 8 0) ≡ filter (in-set own) (range 0 max-radios)
-unfolding gone in-one
-gone-own own long = rw (eq-eqb (length own) 8 long) (filter-ext (in-one own (replicate 8 0)) (in-set own) (range 0 max-radios) (λ v i. rw (in-set-zeros 8 v) (same (in-set own v))))
-  where
-    same : (b : Bool) → cond b true false ≡ b
-    same true = refl
-    same false = refl
-
 module _ (ts own : List ℕ) (long : length own ≡ 8) (old list : List ℕ) (r : ℕ) (room : length old ≡ max-radios)
-    (first : Gone-listed own (replicate 8 0) old r list) where
+    (first : Listed own old r list) where
   own-listed : take r list ≡ filter (in-set own) (range 0 max-radios)
-  own-listed =
-      listed-front (gone own (replicate 8 0)) old list r (omega (arith, ap length (gone-own own long), few-radios (in-set own), room)) (first .counted) (first .listed)
-      ∙ gone-own own long
+  unfolding members
+  own-listed = listed-front (members own) old list r (omega (arith, few-radios (in-set own), room)) (first .counted) (first .listed)
 
   pub own-fits : length list ≡ length old → r ≤ length list
   own-fits same = omega (arith, first .counted, same)
@@ -223,14 +213,14 @@ module _ (ts own : List ℕ) (long : length own ≡ 8) (old list : List ℕ) (r 
   pub level-rows : (reach put set after end : List ℕ) (m : ℕ) → length reach ≡ 8 → length set ≡ 8 → length list ≡ max-radios
       → Radios-put (take r list) put → Neighbours-put ts (take r list) put set
       → Common-taken reach set list m after end → Level-rows ts own reach m end
+  unfolding common
   level-rows reach put set after end m lr ls list-room owns nears taken =
-      let all = common-filter reach set lr ls in
       let few = few-radios (λ v. in-set reach v && in-set set v) in
-      let front = listed-front (common reach set) list end m (omega (arith, ap length all)) (taken .counted) (taken .listed) in
+      let front = listed-front (common reach set) list end m (omega arith) (taken .counted) (taken .listed) in
       record {
         rows = in-set set;
         fits = fits end front;
-        listed = front ∙ all;
+        listed = front;
         own-row = λ a e. place a e (own-place a (in-set-radio own a long e) e);
         near-row = λ a b e i. near a b i (own-place b (in-set-radio own b long e) e);
       }
@@ -242,7 +232,6 @@ module _ (ts own : List ℕ) (long : length own ≡ 8) (old list : List ℕ) (r 
             length-take m xs,
             ap length e,
             taken .counted,
-            ap length (common-filter reach set lr ls),
             few-radios (λ v. in-set reach v && in-set set v),
             list-room,
           )

@@ -21,8 +21,8 @@ ghost use Rattle.staircase.specs.Parts.{Parents, roots, Rooted, Taken};
 ghost use Rattle.staircase.specs.Rows.{row-among, level-row, Rows-whole, Radios-put, Neighbours-put, Level-sets, Level-rows, Mutual};
 use calls::Value;
 use mesh::Site;
+use tables::numbers;
 
-mod labels;
 mod levels;
 
 // The words of a set.
@@ -59,7 +59,7 @@ fn take_link(a: u16, b: u16, parents: &mut [u16], table: &mut [u16], count: u32)
     let at = 2 * count as usize;
     tables::fill::put16(table, at, a);
     tables::fill::put16(table, at + 1, b);
-    parents[labels::higher(x, y) as usize] = labels::lower(x, y);
+    parents[numbers::larger16(x, y) as usize] = numbers::lower16(x, y);
     count + 1
 }
 
@@ -157,7 +157,7 @@ fn take_radio<'a>(
     take_row(links, own, a, parents, table, count)
 }
 
-// Does so with the listed radios, in turn.
+// Takes the links of the level of each listed radio, in turn.
 fn take_rows<'a>(
     links: &'a [u8],
     own: &'a [u64],
@@ -218,11 +218,10 @@ fn list_rows<'a>(
     requires { ⌜ (length (now own) ≡ 8) × (length (now reach) ≡ 8) × (length (now list) ≡ max-radios) ⌝ }
     ensures { λ r. ⌜ Level-rows (now (links .entry)) (now (own .entry)) (now (reach .entry)) r (now (list .exit)) ⌝ }
 {
-    let none = [0u64; WORDS];
     if first {
-        return sets::list_gone(reach, &none, list) as usize;
+        return sets::list(reach, list) as usize;
     }
-    let many = sets::list_gone(own, &none, list) as usize;
+    let many = sets::list(own, list) as usize;
     let mut set = [0u64; WORDS];
     put_radios(&list[..many], &mut set);
     put_neighbours(links, &list[..many], &mut set);

@@ -11,7 +11,11 @@ fn node_at<'a>(names: &'a [u16], levels: &'a [u16], parents: &'a [u16], i: usize
     requires { ⌜ (i < length (now names)) × (i < length (now levels)) × (i < length (now parents)) ⌝ }
     ensures { λ r. ⌜ r ≡ node-in (now (names .entry)) (now (levels .entry)) (now (parents .entry)) i ⌝ }
 {
-    tree_parts::record_of(names[i], levels[i], parents[i])
+    Node {
+        name: names[i],
+        level: levels[i],
+        parent: parents[i],
+    }
 }
 
 // The first `count` nodes of three tables go in front of the lent list; later places keep their content.

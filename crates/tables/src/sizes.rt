@@ -31,8 +31,8 @@ fn are_lengths(site: Site, links: usize, numbers: usize, order: usize) -> bool
     order == n
 }
 
-// The number of questions 1 and 2, where `others` is the answer that 2 gets for further tables.
-fn lent(site: Site, links: usize, numbers: usize, order: usize, others: bool) -> u32
+// Links, numbers and order, where `others` is the answer that question 2 gets for further tables.
+pub fn with_others(site: Site, links: usize, numbers: usize, order: usize, others: bool) -> u32
     ensures { λ r. ⌜ r ≡ lent-refusal (site .radios) (lengths links numbers order) others 0 ⌝ }
 {
     if !is_size(site) {
@@ -51,12 +51,12 @@ fn lent(site: Site, links: usize, numbers: usize, order: usize, others: bool) ->
 pub fn of_tables(site: Site, links: usize, numbers: usize, order: usize) -> u32
     ensures { λ r. ⌜ r ≡ tables-refusal (site .radios) (lengths links numbers order) ⌝ }
 {
-    lent(site, links, numbers, order, true)
+    with_others(site, links, numbers, order, true)
 }
 
 // Links, numbers, order and the answer table.
 pub fn with_answer(site: Site, links: usize, numbers: usize, order: usize, answer: usize) -> u32
     ensures { λ r. ⌜ r ≡ lent-refusal (site .radios) (lengths links numbers order) (answer-length (site .radios) answer) 0 ⌝ }
 {
-    lent(site, links, numbers, order, site.radios as usize <= answer)
+    with_others(site, links, numbers, order, site.radios as usize <= answer)
 }

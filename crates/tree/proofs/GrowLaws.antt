@@ -25,10 +25,10 @@ use Rattle.mesh.proofs.Trees.Reach.{core-of-iff}
 use Rattle.mesh.proofs.Trees.CoreLevels.{in-core-below, in-core-level}
 use Rattle.sets.specs.Sets.{in-set}
 use Rattle.floods.specs.Floods.{Level-set, Flood-done}
-use Rattle.floods.proofs.FloodSteps.{true-floodable}
 use Rattle.floods.proofs.FloodCore.{level-radios, member-flood, left-flood}
 use Rattle.soundness.proofs.SoundSite.{Sound-site, number-entry}
-use Rattle.tree.specs.Trees.{Lists, lists, with-front, Room, entries-set, takes-node, Node-taken, Nothing-taken, Visited, own, covered, present}
+use Rattle.tree.specs.Trees.{Lists, lists, with-front, Room, entries-set, Node-taken, own, covered, present}
+use Rattle.tree.proofs.VisitSteps.{takes-node, Nothing-taken, Visited}
 use Rattle.tree.specs.Trees.{nodes-before, Growing, Marks}
 use Rattle.tree.proofs.ShellCover.{own-lead, own-covered, not-covered-own, core-not-covered, covered-none, covered-next, present-next, present-own}
 use Rattle.tree.proofs.ShellCover.{present-start, present-end}
@@ -103,7 +103,7 @@ module _ (n : ℕ) (t : Tables) (site : Sound-site n t) (k v : ℕ) (radio : v <
         let both = and-left (ltb w (g .n) && leb k (number g w)) (not (covered g k v w)) (sym (marks .bits w) ∙ e) in
         (ltb-true w n (and-left (ltb w (g .n)) (leb k (number g w)) both), and-right (ltb w (g .n)) (leb k (number g w)) both)
 
-  module _ (q : List ℕ) (old before after : Lists) (c r : ℕ) (u : List ℕ) (room : Room n old) (space : max-radios ≤ length q) (marks : Marks g k v s)
+  module _ (old before after : Lists) (c r : ℕ) (u : List ℕ) (room : Room n old) (marks : Marks g k v s)
       (same : length u ≡ length s) (grown : Growing g k v old before c) where
     abbrev At : Type 0
     At = Marks g k (suc v) u × Growing g k (suc v) old after r
@@ -127,7 +127,7 @@ module _ (n : ℕ) (t : Tables) (site : Sound-site n t) (k v : ℕ) (radio : v <
         of-radio w (inl e) = rw (covered-next g k v radio positive w (ltb-true w n e), none (covered g k v w) (member w (core-of g v k)))
         of-radio w (inr e) = rw e
 
-    module _ (o : own g k v ≡ true) (h : Node-taken (t .links) (t .numbers) k v s q before c u after r) where
+    module _ (o : own g k v ≡ true) (h : Node-taken (t .links) k v s before c u after r) where
       nodes-taken : nodes-before g k (suc v) ≡ nodes-before g k v ++ node v k (parent-name g v k) ∷ []
       unfolding graph-in
       nodes-taken = nodes-before-next g k v positive ∙ rw o
@@ -147,7 +147,7 @@ module _ (n : ℕ) (t : Tables) (site : Sound-site n t) (k v : ℕ) (radio : v <
       answer-before = ap (λ (x : Lists). x .answer) (grown .front)
 
       done : Flood-done (t .links) v s (h .core .came) u (h .core .queue)
-      done = h .core .flooded .done (true-floodable v (length s) (length q) (record { radio = omega (arith, site .small); words = marks .long; room = space }))
+      done = h .core .flooded
 
       came-in : (w : ℕ) → member w (take (h .core .came) (h .core .queue)) ≡ member w (core-of g v k)
       came-in w = member-flood n t site k v s radio (inside marks) (whole marks o) (h .core .came) u (h .core .queue) done w
@@ -198,7 +198,7 @@ module _ (n : ℕ) (t : Tables) (site : Sound-site n t) (k v : ℕ) (radio : v <
         },
       )
 
-    pub visited-next : Visited (t .links) (t .numbers) k v s q before c u after r → At
+    pub visited-next : Visited (t .links) (t .numbers) k v s before c u after r → At
     visited-next h = go (bool-cases (own g k v))
       where
         go : (own g k v ≡ true) ⊎ (own g k v ≡ false) → At
@@ -207,12 +207,12 @@ module _ (n : ℕ) (t : Tables) (site : Sound-site n t) (k v : ℕ) (radio : v <
 
 -- ---- the start and the end of a level
 
-pub marks-start : (n : ℕ) (t : Tables) → Sound-site n t → (k : ℕ) (old s : List ℕ) → length old ≡ 8 → length s ≡ 8 → Level-set (t .numbers) k old s
+pub marks-start : (n : ℕ) (t : Tables) → Sound-site n t → (k : ℕ) (s : List ℕ) → length s ≡ 8 → Level-set (t .numbers) k s
     → Marks (graph-in n (t .links)) k 0 s
 unfolding graph-in
-marks-start n t site k old s long words h = record {
+marks-start n t site k s words h = record {
   long = words;
-  bits = λ w. level-radios n t site k old s long words h w ∙ rw (covered-none (graph-in n (t .links)) k w) (and-true (ltb w n && leb k (number (graph-in n (t .links)) w)));
+  bits = λ w. level-radios n t site k s words h w ∙ rw (covered-none (graph-in n (t .links)) k w) (and-true (ltb w n && leb k (number (graph-in n (t .links)) w)));
 }
   where
     and-true : (b : Bool) → b ≡ (b && true)

@@ -1,7 +1,7 @@
 -- Laws of the shell tree's code.
--- loops over one table
-pub mod NodeWrites
--- radios sorted by their numbers
+-- one radio of a level
+pub mod VisitSteps
+-- the radios of a level, from the order
 pub mod ShellSets
 -- names and nodes, level by level
 pub mod ShellCover
@@ -11,5 +11,3 @@ pub mod LevelLoop
 pub mod TreeLoop
 -- the answer, refused and accepted
 pub mod TreeAnswer
--- one radio, as the code has it
-pub mod VisitSteps

@@ -3,19 +3,21 @@ use mathlib.Core.Path.{_≡_, sym, ap, _∙_}
 use mathlib.Core.Bool.{Bool, true, _&&_}
 use mathlib.Core.List.{List}
 use Prim.Native.Nat.{ℕ, _+_, _≤_, min}
+use lib.Dec.{ltb, leb}
+use borrow.Author.Tests.{ltb-true, lt-ltb, leb-true, le-leb}
 use native.Mathlib.Omega.{arith}
 use lib.ListN.{length}
-use Rattle.mesh.specs.Limits.{max-radios}
-use Rattle.mesh.specs.Tables.{tables}
+use Rattle.mesh.specs.Tables.{tables, graph-in}
 use Rattle.mesh.specs.Sound.{sound}
-use Rattle.lists.proofs.Tests.{and-left, and-right}
+use Rattle.lists.proofs.Tests.{and-left, and-right, and-both, iff-eq}
 use Rattle.calls.specs.Questions.{lengths-of, site-refusal, tree-refusal, nodes-length, answer-length}
 use Rattle.calls.specs.declared.Value.{Value}
 use Rattle.calls.proofs.ContractLaws.{by-accepted, by-refused}
 use Rattle.calls.proofs.ChainLaws.{Site-good, site-zero}
 use Rattle.calls.proofs.QuestionLaws.{nodes-length-true, answer-length-true}
+use Rattle.soundness.specs.Checks.{fits-sound}
 use Rattle.soundness.proofs.SoundSite.{site-good-fits}
-use Rattle.tree.specs.Trees.{Lists, Room, Grown, places, tables-outcome, Tables-contract}
+use Rattle.tree.specs.Trees.{Lists, Room, Tree-written, places, tables-outcome, Tables-contract}
 
 -- ---- room
 
@@ -24,6 +26,14 @@ pub places-least : (room : ℕ) (s : Lists) (a b c : ℕ) → a ≡ min (length 
     → c ≡ min room (places s)
 unfolding places
 places-least room s a b c p q r = r ∙ ap (min room) (q ∙ ap (λ (j : ℕ). min j (length (s .parents))) p)
+
+-- question 2 of the list of nodes and of the answer table in one test
+pub room-test : (n nodes answer m : ℕ) → m ≡ min nodes (answer + 1) → ltb n m ≡ (nodes-length n nodes && answer-length n answer)
+unfolding nodes-length answer-length
+room-test n nodes answer m e =
+    iff-eq (ltb n m) (leb (n + 1) nodes && leb n answer)
+    (λ h. let l = ltb-true n m h in and-both (leb (n + 1) nodes) (leb n answer) (le-leb (n + 1) nodes (omega arith)) (le-leb n answer (omega arith)))
+    (λ h. lt-ltb n m (omega (arith, leb-true (n + 1) nodes (and-left (leb (n + 1) nodes) (leb n answer) h), leb-true n answer (and-right (leb (n + 1) nodes) (leb n answer) h))))
 
 -- ---- the number that the questions give
 
@@ -47,9 +57,6 @@ module _ (n room : ℕ) (ts ns xs : List ℕ) (s : Lists) (m q : ℕ) (others : 
     unfolding lengths-of
     tree-numbers = good .lent .lengths .numbers
 
-    pub tree-small : length ns ≤ max-radios
-    tree-small = omega (arith, tree-numbers, good .lent .most)
-
     further : (nodes-length n m && answer-length n (length (s .answer))) ≡ true
     further = sym asked ∙ good .lent .further
 
@@ -65,11 +72,12 @@ module _ (n room : ℕ) (ts ns xs : List ℕ) (s : Lists) (m q : ℕ) (others : 
           answer = answer-length-true n (length (s .answer)) (and-right (nodes-length n m) (answer-length n (length (s .answer))) further);
         }
 
-    pub tree-answer : length ns ≤ length (s .answer)
-    tree-answer = omega (arith, tree-numbers, tree-room .answer)
+    pub tree-ready : (fits-sound (length ns) (tables ts ns xs) ≡ true) × Room (length ns) s
+    tree-ready = (rw tree-numbers (site-good-fits n (tables ts ns xs) others good), rw tree-numbers tree-room)
 
-    pub tree-accepted : (r : Value) (u : Lists) → r .number ≡ 0 → Grown ts ns s (r .value) u → Tables-contract n room (tables ts ns xs) s r u
-    unfolding Tables-contract tables-outcome Grown
+    pub tree-accepted : (r : Value) (u : Lists) → r .number ≡ 0 → Tree-written (graph-in (length ns) ts) s (r .value) u
+        → Tables-contract n room (tables ts ns xs) s r u
+    unfolding Tables-contract tables-outcome
     tree-accepted r u e h =
-        let w = rw tree-numbers at (h xs (rw tree-numbers (site-good-fits n (tables ts ns xs) others good)) (rw tree-numbers tree-room)) in
+        let w = rw tree-numbers at h in
         by-accepted _ _ (sym number-is ∙ zero) (rw (e, w .count, w .front))

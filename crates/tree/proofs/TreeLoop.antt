@@ -1,11 +1,12 @@
 -- All levels as a loop: the root first, then level by level to the greatest number, and what the lists hold at the end.
 use mathlib.Core.Path.{_≡_, refl, sym, ap, ap₂, _∙_}
 use mathlib.Core.Bool.{true, _&&_}
-use mathlib.Core.List.{List, [], _∷_, map}
+use mathlib.Core.List.{List, [], _∷_, _++_, map}
 use Prim.Native.Nat.{ℕ, suc, _+_, _*_, _≤_, _<_, min}
 use native.Mathlib.Omega.{arith}
 use native.Mathlib.Numerals.{add-one}
-use lib.ListN.{length, set, replicate}
+use lib.ListN.{length, take, drop, set, replicate, length-replicate}
+use lib.Seq.{length-take-le}
 use Rattle.mesh.specs.Limits.{max-radios, max-neighbours}
 use Rattle.lists.specs.Lists.{overwrite}
 use Rattle.mesh.specs.Graph.{Graph, radios}
@@ -23,7 +24,7 @@ use Rattle.calls.proofs.SheetLaws.{numbers-two-digits}
 use Rattle.soundness.specs.Checks.{fits-sound}
 use Rattle.lists.proofs.Map.{map-range-constant, map-range-ext}
 use Rattle.soundness.proofs.SoundSite.{fits-sound-site, number-entry}
-use Rattle.tree.specs.Trees.{Lists, with-front, Room, name-before, present, Growing, Levelled, Treed, Tree-written, Grown}
+use Rattle.tree.specs.Trees.{Lists, with-front, Room, name-before, present, Growing, Levelled, Treed, Tree-written}
 use Rattle.tree.proofs.ShellCover.{present-start}
 use Rattle.lists.proofs.Overwrite.{set-overwrite}
 use Rattle.tree.proofs.NodeLists.{nodes-before-start, nodes-before-tree}
@@ -40,20 +41,17 @@ present-first g =
     ∙ map-range-constant root-name 0 (g .n)
 
 pub growing-start : (g : Graph) (old new : Lists) (m : ℕ) → Room (g .n) old → m ≡ g .n → new .names ≡ set (old .names) 0 root-name → new .levels ≡ set (old .levels) 0 0
-    → new .parents ≡ set (old .parents) 0 root-name → new .answer ≡ overwrite (replicate (min m (length (old .answer))) root-name) (old .answer)
+    → new .parents ≡ set (old .parents) 0 root-name → new .answer ≡ overwrite (replicate m root-name) (old .answer)
     → Growing g 1 0 old new 1
 unfolding with-front overwrite
 growing-start g old new m room e names levels parents answer = start
   where
-    all : min m (length (old .answer)) ≡ g .n
-    all = omega (arith, room .answer)
-
     front : new ≡ with-front (root ∷ []) (replicate (g .n) root-name) old
     front = lists-same new (with-front (root ∷ []) (replicate (g .n) root-name) old)
         (names ∙ set-overwrite [] (old .names) 0 root-name refl (omega (arith, room .names)))
         (levels ∙ set-overwrite [] (old .levels) 0 0 refl (omega (arith, room .levels)))
         (parents ∙ set-overwrite [] (old .parents) 0 root-name refl (omega (arith, room .parents)))
-        (answer ∙ ap (λ (j : ℕ). overwrite (replicate j root-name) (old .answer)) all)
+        (answer ∙ ap (λ (j : ℕ). overwrite (replicate j root-name) (old .answer)) e)
 
     start : Growing g 1 0 old new 1
     start = record {
@@ -122,9 +120,10 @@ is-sound n t h = and-right (site-lengths n (lengths-of t)) (sound n t) (and-righ
 -- on sound tables no number is above the most neighbours
 pub grown-all : (ts ns : List ℕ) (old before : Lists) (high top : ℕ) (after : Lists) (c : ℕ) → length ns ≤ max-radios → high ≡ greatest ns → top ≡ min high max-neighbours
     → before .names ≡ set (old .names) 0 root-name → before .levels ≡ set (old .levels) 0 0 → before .parents ≡ set (old .parents) 0 root-name
-    → before .answer ≡ overwrite (replicate (min (length ns) (length (old .answer))) root-name) (old .answer)
-    → Treed ts ns top before after c → Grown ts ns old c after
-unfolding Grown Treed graph-in
+    → before .answer ≡ overwrite (replicate (length ns) root-name) (old .answer)
+    → Treed ts ns top before after c → (order : List ℕ) → fits-sound (length ns) (tables ts ns order) ≡ true → Room (length ns) old
+    → Tree-written (graph-in (length ns) ts) old c after
+unfolding Treed graph-in
 grown-all ts ns old before high top after c small e m names levels parents answer a order h room =
     let g = graph-in (length ns) ts in
     let site = fits-sound-site (length ns) (tables ts ns order) h in
@@ -134,3 +133,9 @@ grown-all ts ns old before high top after c small e m names levels parents answe
     growing-last g top c old after
     (omega (arith, greatest-le ns (length ns) (λ v l. omega (arith, number-entry (length ns) (tables ts ns order) site v l, number-le-n g v))))
     (λ w l. omega (arith, number-entry (length ns) (tables ts ns order) site w l, getD-le-greatest ns w l)) last
+
+-- the first entries of a table filled
+pub filled-front : (list new : List ℕ) (k x : ℕ) → k ≤ length list → new ≡ replicate (length (take k list)) x → new ++ drop k list ≡ overwrite (replicate k x) list
+unfolding overwrite
+filled-front list new k x h e =
+    ap₂ (λ (xs : List ℕ) (j : ℕ). xs ++ drop j list) (e ∙ ap (λ (m : ℕ). replicate m x) (length-take-le k list h)) (sym (length-replicate {A = ℕ} k x))

@@ -1,20 +1,31 @@
--- One radio of a level, as the code has it: whether it brings a node is `takes-node`.
+-- One radio of a level: it brings a node, or nothing.
+--   takes-node   radio v has number k and is in the set
+--   Visited      radio v at level k: a node where it takes one, else nothing
 use mathlib.Core.Path.{_≡_, refl}
-use mathlib.Core.Bool.{true, false}
+use mathlib.Core.Bool.{Bool, true, false, _&&_}
 use mathlib.Core.List.{List}
-use Prim.Native.Nat.{ℕ, _+_}
-use lib.ListN.{getD, set}
+use Prim.Native.Nat.{ℕ}
+use lib.Dec.{eqb}
+use lib.ListN.{getD}
 use Rattle.lists.proofs.Tests.{never}
-use Rattle.tree.specs.Trees.{Lists, lists, Core-named, takes-node, Visited}
+use Rattle.sets.specs.Sets.{in-set}
+use Rattle.tree.specs.Trees.{Lists, Node-taken}
 
-module _ (ts ns : List ℕ) (k v : ℕ) (s q : List ℕ) (old : Lists) (c : ℕ) where
-  -- nothing for v
-  pub visited-none : takes-node ns k s v ≡ false → Visited ts ns k v s q old c s old c
+unfoldable pub takes-node : (numbers : List ℕ) → (level : ℕ) → (set : List ℕ) → (v : ℕ) → Bool
+takes-node ns k s v = eqb (getD ns v 0) k && in-set s v
+
+pub record Nothing-taken (s : List ℕ) (old : Lists) (c : ℕ) (t : List ℕ) (new : Lists) (r : ℕ) : Type 0 where
+  pub set : t ≡ s
+  pub lists : new ≡ old
+  pub counted : r ≡ c
+
+pub record Visited (ts ns : List ℕ) (k v : ℕ) (s : List ℕ) (old : Lists) (c : ℕ) (t : List ℕ) (new : Lists) (r : ℕ) : Type 0 where
+  pub taken : takes-node ns k s v ≡ true → Node-taken ts k v s old c t new r
+  pub passed : takes-node ns k s v ≡ false → Nothing-taken s old c t new r
+
+module _ (ts ns : List ℕ) (k v : ℕ) (s : List ℕ) (old : Lists) (c : ℕ) where
+  pub visited-none : takes-node ns k s v ≡ false → Visited ts ns k v s old c s old c
   visited-none h = record { taken = λ e. never _ e h; passed = λ e. record { set = refl; lists = refl; counted = refl } }
 
-  -- a node
-  pub visited-node : (t : List ℕ) (new : Lists) → takes-node ns k s v ≡ true → new .names ≡ set (old .names) c v → new .levels ≡ set (old .levels) c k
-      → new .parents ≡ set (old .parents) c (getD (old .answer) v 0) → Core-named ts v s q (old .answer) t (new .answer)
-      → Visited ts ns k v s q old c t new (c + 1)
-  visited-node t new brings names levels parents core =
-      record { taken = λ e. record { names = names; levels = levels; parents = parents; core = core; counted = refl }; passed = λ e. never _ brings e }
+  pub visited-node : (t : List ℕ) (new : Lists) (r : ℕ) → takes-node ns k s v ≡ true → Node-taken ts k v s old c t new r → Visited ts ns k v s old c t new r
+  visited-node t new r brings h = record { taken = λ e. h; passed = λ e. never _ brings e }

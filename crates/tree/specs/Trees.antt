@@ -3,8 +3,9 @@
 --   with-front xs ys s      the lists s with the nodes xs and the radios' names ys in front
 --   entries-set x ws t      the table t with x at each place that ws lists
 --   Core-named              a flood from v, and v written for each radio that came in
---   takes-node, Visited     radio v at level k: a node where it has number k and is in the set, else nothing
+--   Node-taken              a node behind the first c: radio v at level k
 --   Shell-set               the radios with number k as a set
+--   Level-from              the radios with number k or more stand in the order from a place on
 --   Level-ready, Levels-ready  what one level, and all of them, want of tables, sets and lengths
 --   own g k v               v has number k and names its own node
 --   covered g k v w         the connected core of w at level k has a radio of number k below v
@@ -12,18 +13,19 @@
 --   present g k v w         the name that w has at level k before v
 --   nodes-before g k v      the root and the nodes that come before v at level k
 --   Growing                 the lists hold these nodes and names in front
---   Levelled, Treed, Grown  what one level, all of them, and these with the root leave for sound tables
+--   Levelled, Treed         what one level, and all of them, leave for sound tables
+--   Tree-written            the whole tree in front
 --   Filled, tables-outcome  what the call over the tables comes to
 --   Tables-contract         document 01: the shell tree, its nodes as three tables: result and lists are that outcome
 -- Definitions only.
 use mathlib.Core.Path.{_≡_}
 use mathlib.Core.Bool.{Bool, true, false, _&&_, not, cond}
 use mathlib.Core.List.{List, [], _∷_, _++_, map, flatMap}
-use Prim.Native.Nat.{ℕ, zero, suc, _+_, _*_, _/_, _%_, _≤_, _<_, min}
+use Prim.Native.Nat.{ℕ, zero, suc, _+_, _*_, _≤_, _<_, min}
 use lib.Dec.{ltb, leb, eqb}
 use lib.ListN.{length, getD, take, set}
 use Rattle.lists.specs.Facts.{folded}
-use Rattle.lists.specs.Lists.{range, filter, head-or, overwrite}
+use Rattle.lists.specs.Lists.{range, filter, head-or, overwrite, In, Entries-below}
 use Rattle.mesh.specs.Limits.{max-radios, max-neighbours}
 use Rattle.mesh.specs.Graph.{Graph, radios}
 use Rattle.mesh.specs.Cores.{number}
@@ -36,8 +38,7 @@ use Rattle.calls.specs.Outcomes.{by-number, value}
 use Rattle.calls.specs.declared.Value.{Value}
 use Rattle.sets.specs.Sets.{in-set}
 use Rattle.soundness.specs.Checks.{fits-sound}
-use Rattle.floods.specs.Floods.{Level-set, Flooded}
-use Rattle.tree_parts.specs.Shells.{has-number}
+use Rattle.floods.specs.Floods.{Level-set, Flood-done}
 
 pub record Lists : Type 0 where
   pub names : List ℕ
@@ -69,38 +70,40 @@ pub record Room (n : ℕ) (s : Lists) : Type 0 where
 unfoldable pub entries-set : (x : ℕ) → (places table : List ℕ) → List ℕ
 entries-set x ws t = folded (λ w now. set now w x) ws t
 
--- s, q and a are the set, the queue and the answer table before, t and b the set and the answer table after
-pub record Core-named (ts : List ℕ) (v : ℕ) (s q a t b : List ℕ) : Type 0 where
+-- s and a are the set and the answer table before, t and b after
+pub record Core-named (ts : List ℕ) (v : ℕ) (s a t b : List ℕ) : Type 0 where
   pub came : ℕ
   pub queue : List ℕ
-  pub flooded : Flooded ts v s q came t queue
+  pub flooded : Flood-done ts v s came t queue
   pub named : b ≡ entries-set v (take came queue) a
 
-unfoldable pub takes-node : (numbers : List ℕ) → (level : ℕ) → (set : List ℕ) → (v : ℕ) → Bool
-takes-node ns k s v = eqb (getD ns v 0) k && in-set s v
-
 -- a node comes behind the first c: v, the level and the name that v had
-pub record Node-taken (ts ns : List ℕ) (k v : ℕ) (s q : List ℕ) (old : Lists) (c : ℕ) (t : List ℕ) (new : Lists) (r : ℕ) : Type 0 where
+pub record Node-taken (ts : List ℕ) (k v : ℕ) (s : List ℕ) (old : Lists) (c : ℕ) (t : List ℕ) (new : Lists) (r : ℕ) : Type 0 where
   pub names : new .names ≡ set (old .names) c v
   pub levels : new .levels ≡ set (old .levels) c k
   pub parents : new .parents ≡ set (old .parents) c (getD (old .answer) v 0)
-  pub core : Core-named ts v s q (old .answer) t (new .answer)
+  pub core : Core-named ts v s (old .answer) t (new .answer)
   pub counted : r ≡ c + 1
 
-pub record Nothing-taken (s : List ℕ) (old : Lists) (c : ℕ) (t : List ℕ) (new : Lists) (r : ℕ) : Type 0 where
-  pub set : t ≡ s
-  pub lists : new ≡ old
-  pub counted : r ≡ c
-
-pub record Visited (ts ns : List ℕ) (k v : ℕ) (s q : List ℕ) (old : Lists) (c : ℕ) (t : List ℕ) (new : Lists) (r : ℕ) : Type 0 where
-  pub taken : takes-node ns k s v ≡ true → Node-taken ts ns k v s q old c t new r
-  pub passed : takes-node ns k s v ≡ false → Nothing-taken s old c t new r
-
 -- ---- the radios of a level
+
+-- x is a radio with number k
+unfoldable pub has-number : (numbers : List ℕ) → (k x : ℕ) → Bool
+has-number ns k x = ltb x (length ns) && eqb (getD ns x 0) k
 
 pub record Shell-set (ns : List ℕ) (k : ℕ) (ws : List ℕ) : Type 0 where
   pub long : length ws ≡ 8
   pub bits : (x : ℕ) → in-set ws x ≡ has-number ns k x
+
+-- along the order, which holds every radio, the numbers never fall; before place i they are below k, and from it on not
+pub record Level-from (ns order : List ℕ) (k i : ℕ) : Type 0 where
+  pub small : length ns ≤ max-radios
+  pub radio : Entries-below (length ns) order
+  pub all : (x : ℕ) → x < length ns → In x order
+  pub rises : (j m : ℕ) → j ≤ m → m < length order → getD ns (getD order j 0) 0 ≤ getD ns (getD order m 0) 0
+  pub within : i ≤ length order
+  pub below : (j : ℕ) → j < i → getD ns (getD order j 0) 0 < k
+  pub above : (j : ℕ) → i ≤ j → j < length order → k ≤ getD ns (getD order j 0) 0
 
 -- `queue` and `answer` are lengths
 pub record Level-ready (ns : List ℕ) (k : ℕ) (shell set : List ℕ) (queue answer count : ℕ) : Type 0 where
@@ -108,17 +111,15 @@ pub record Level-ready (ns : List ℕ) (k : ℕ) (shell set : List ℕ) (queue a
   pub named : length ns ≤ answer
   pub positive : 1 ≤ k
   pub words : length set ≡ 8
-  pub level : Level-set ns k set set
+  pub level : Level-set ns k set
   pub own : Shell-set ns k shell
   pub room : max-radios ≤ queue
   pub few : count ≤ max-radios * k
 
-pub record Levels-ready (ns : List ℕ) (top : ℕ) (shells : List ℕ) (answer : ℕ) : Type 0 where
-  pub small : length ns ≤ max-radios
+pub record Levels-ready (ns order : List ℕ) (top answer : ℕ) : Type 0 where
   pub named : length ns ≤ answer
   pub low : top ≤ max-neighbours
-  pub long : length shells ≡ 8 * (max-neighbours + 1)
-  pub bits : (u : ℕ) → u / 64 < length shells → in-set shells u ≡ has-number ns (u / max-radios) (u % max-radios)
+  pub start : Level-from ns order 0 0
 
 -- ---- the tree on its way
 
@@ -170,10 +171,6 @@ Treed ts ns top s t r =
 pub record Tree-written (g : Graph) (before : Lists) (r : ℕ) (after : Lists) : Type 0 where
   pub count : r ≡ length (tree g)
   pub front : after ≡ with-front (tree g) (node-names g) before
-
-unfoldable pub Grown : (links numbers : List ℕ) → (before : Lists) → (r : ℕ) → (after : Lists) → Type 0
-Grown ts ns s r t =
-    (order : List ℕ) → fits-sound (length ns) (tables ts ns order) ≡ true → Room (length ns) s → Tree-written (graph-in (length ns) ts) s r t
 
 -- ---- the shell tree
 

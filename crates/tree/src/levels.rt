@@ -1,9 +1,15 @@
 // The shell tree in document 01's order: level by level, and in a level radio by radio.
+ghost use mathlib.Core.Path.{_≡_};
+ghost use mathlib.Core.Bool.{true};
 ghost use Prim.Native.Nat.{_+_, _*_, _≤_, _<_};
-ghost use lib.ListN.{length};
+ghost use lib.ListN.{length, replicate};
 ghost use Rattle.mesh.specs.Limits.{max-radios};
 ghost use Rattle.mesh.specs.Lent.{lent};
-ghost use Rattle.tree.specs.Trees.{lists, Visited, Level-ready, Levels-ready, Levelled, Treed, Grown, Tables-contract};
+ghost use Rattle.mesh.specs.Tables.{tables, graph-in};
+ghost use Rattle.soundness.specs.Checks.{fits-sound};
+ghost use Rattle.floods.specs.Floods.{Floodable};
+ghost use Rattle.tree.specs.Trees.{lists, Room, Node-taken, Shell-set, Level-from, Level-ready, Levels-ready, Levelled, Treed};
+ghost use Rattle.tree.specs.Trees.{Tree-written, Tables-contract};
 use calls::Value;
 use mesh::Site;
 
@@ -13,12 +19,10 @@ const ROOT: u16 = 65535;
 // The words of a level's set.
 const SHELL: usize = Site::ROW_BYTES / 8;
 
-// Radio v at a level: where it has the level's number and is in the set, a node comes behind the first `count` of the three tables,
-// with the name that v had as parent; the core of v leaves the set, and v is the name of its radios in the answer table. Else nothing
-// changes. Comes back with the count after. The queue holds anything after.
-fn visit<'a>(
-    links: &'a [u8],
-    numbers: &'a [u8],
+// A node of a level: it comes behind the first `count` of the three tables, named v, with the name that v had as parent; the core of v
+// leaves the set, and v is the name of its radios in the answer table. Comes back with the count after. The queue holds anything after.
+fn take_node(
+    links: &[u8],
     level: u8,
     v: u16,
     set: &mut [u64],
@@ -29,14 +33,11 @@ fn visit<'a>(
     answer: &mut [u16],
     count: u32,
 ) -> u32
-    requires { ⌜ (v < length (now numbers)) × (v < length (now answer)) × (count ≤ max-radios * (level + 1)) ⌝ }
-    ensures { λ r. ⌜ Visited (now (links .entry)) (now (numbers .entry)) level v (now (set .entry)) (now (queue .entry))
+    requires { ⌜ Floodable v (length (now set)) (length (now queue)) × (v < length (now answer)) × (count ≤ max-radios * (level + 1)) ⌝ }
+    ensures { λ r. ⌜ Node-taken (now (links .entry)) level v (now (set .entry))
         (lists (now (names .entry)) (now (levels .entry)) (now (parents .entry)) (now (answer .entry))) count
         (now (set .exit)) (lists (now (names .exit)) (now (levels .exit)) (now (parents .exit)) (now (answer .exit))) r ⌝ }
 {
-    if !tree_parts::takes_node(numbers[v as usize], level, set, v) {
-        return count;
-    }
     crate::nodes::put_node(
         names,
         levels,
@@ -48,6 +49,31 @@ fn visit<'a>(
     );
     crate::nodes::name_core(links, v, set, queue, answer);
     count + 1
+}
+
+// Puts the radios of a level into the set. As numbers never fall along the order, they stand in it from place `from` on; comes back
+// with the place behind them, from which the radios of the next level stand.
+fn put_shell<'a>(
+    numbers: &'a [u8],
+    order: &'a [u16],
+    level: u8,
+    from: usize,
+    set: &mut [u64],
+) -> usize
+    requires { ⌜ Level-from (now numbers) (now order) level from × (now set ≡ replicate 8 0) ⌝ }
+    ensures own { λ _. ⌜ Shell-set (now (numbers .entry)) level (now (set .exit)) ⌝ }
+    ensures next { λ r. ⌜ Level-from (now (numbers .entry)) (now (order .entry)) (level + 1) r ⌝ }
+{
+    let mut i = from;
+    while i < order.len() {
+        let v = order[i];
+        if numbers[v as usize] != level {
+            return i;
+        }
+        sets::put_in(set, v as u32);
+        i += 1;
+    }
+    i
 }
 
 // One level: each of its radios in turn that is still in the set, which starts as the radios of the level and of higher ones; `shell`
@@ -75,9 +101,8 @@ fn take_level<'a>(
     let mut c = count;
     let mut v = sets::first_common(shell, set) as usize;
     while v < numbers.len() {
-        c = visit(
+        c = take_node(
             links,
-            numbers,
             level,
             v as u16,
             set,
@@ -98,14 +123,14 @@ fn take_level<'a>(
 fn take_levels<'a>(
     links: &'a [u8],
     numbers: &'a [u8],
+    order: &'a [u16],
     top: usize,
-    shells: &'a [u64],
     names: &mut [u16],
     levels: &mut [u16],
     parents: &mut [u16],
     answer: &mut [u16],
 ) -> u32
-    requires { ⌜ Levels-ready (now numbers) top (now shells) (length (now answer)) ⌝ }
+    requires { ⌜ Levels-ready (now numbers) (now order) top (length (now answer)) ⌝ }
     ensures { λ r. ⌜ Treed (now (links .entry)) (now (numbers .entry)) top
         (lists (now (names .entry)) (now (levels .entry)) (now (parents .entry)) (now (answer .entry)))
         (lists (now (names .exit)) (now (levels .exit)) (now (parents .exit)) (now (answer .exit))) r ⌝ }
@@ -113,17 +138,19 @@ fn take_levels<'a>(
     let mut queue = [0u16; Site::RADIOS as usize];
     let mut all = [0u64; Site::ROW_BYTES / 8];
     floods::level::at_least(numbers, 1, &mut all);
+    let mut none = [0u64; SHELL];
+    let mut from = put_shell(numbers, order, 0, 0, &mut none);
     let mut count: u32 = 1;
     let mut k: usize = 1;
     while k <= top {
         let mut set = all;
-        let first = SHELL * k;
-        let shell = &shells[first..first + SHELL];
+        let mut shell = [0u64; SHELL];
+        from = put_shell(numbers, order, k as u8, from, &mut shell);
         count = take_level(
             links,
             numbers,
             k as u8,
-            shell,
+            &shell,
             &mut set,
             &mut queue,
             names,
@@ -132,7 +159,7 @@ fn take_levels<'a>(
             answer,
             count,
         );
-        sets::take_set(shell, &mut all);
+        sets::take_set(&shell, &mut all);
         k += 1;
     }
     count
@@ -143,25 +170,26 @@ fn take_levels<'a>(
 fn grow<'a>(
     links: &'a [u8],
     numbers: &'a [u8],
+    order: &'a [u16],
     names: &mut [u16],
     levels: &mut [u16],
     parents: &mut [u16],
     answer: &mut [u16],
 ) -> u32
-    requires { ⌜ (length (now numbers) ≤ max-radios) × (length (now numbers) ≤ length (now answer)) ⌝ }
-    ensures { λ r. ⌜ Grown (now (links .entry)) (now (numbers .entry))
+    requires { ⌜ (fits-sound (length (now numbers)) (tables (now links) (now numbers) (now order)) ≡ true) ×
+        Room (length (now numbers)) (lists (now names) (now levels) (now parents) (now answer)) ⌝ }
+    ensures { λ r. ⌜ Tree-written (graph-in (length (now (numbers .entry))) (now (links .entry)))
         (lists (now (names .entry)) (now (levels .entry)) (now (parents .entry)) (now (answer .entry))) r
         (lists (now (names .exit)) (now (levels .exit)) (now (parents .exit)) (now (answer .exit))) ⌝ }
 {
-    let mut shells = [0u64; SHELL * (Site::NEIGHBOURS as usize + 1)];
-    tree_parts::put_shells(numbers, &mut shells);
-    tree_parts::fill_front(answer, numbers.len(), ROOT);
+    let many = numbers.len();
+    tables::fill::fill16(&mut answer[..many], ROOT);
     crate::nodes::put_node(names, levels, parents, 0, ROOT, 0, ROOT);
     let top = tables::fill::least(
         tables::numbers::greatest(numbers) as usize,
         Site::NEIGHBOURS as usize,
     );
-    take_levels(links, numbers, top, &shells, names, levels, parents, answer)
+    take_levels(links, numbers, order, top, names, levels, parents, answer)
 }
 
 // The shell tree. `room` is how many places the caller has for nodes beside the three tables: the shortest of the four must have
@@ -189,13 +217,13 @@ pub fn shell_tree<'a>(
             parents.len(),
         ),
     );
-    let others = tree_parts::has_room(n, nodes, answer.len());
+    let others = (n as usize) < tables::fill::least(nodes, answer.len() + 1);
     let number = soundness::refusal(n, links, numbers, order, others);
     if number != 0 {
         return Value { number, value: 0 };
     }
     Value {
         number: 0,
-        value: grow(links, numbers, names, levels, parents, answer),
+        value: grow(links, numbers, order, names, levels, parents, answer),
     }
 }

@@ -2,6 +2,7 @@
 ghost use mathlib.Core.Path.{_≡_};
 ghost use Prim.Native.Nat.{_≤_};
 ghost use lib.ListN.{length, take, set};
+ghost use Rattle.floods.specs.Floods.{Floodable};
 ghost use Rattle.tree.specs.Trees.{entries-set, Core-named};
 
 // Writes a node at a place of three tables; past a table nothing changes.
@@ -38,10 +39,9 @@ fn name_all(list: &[u16], k: usize, x: u16, answer: &mut [u16])
 // Floods from v over radios of the set, and writes v in the answer table for each radio that came in. The set has these no more; the
 // queue holds anything after.
 pub fn name_core(links: &[u8], v: u16, set: &mut [u64], queue: &mut [u16], answer: &mut [u16])
-    ensures { λ _. ⌜ Core-named (now (links .entry)) v (now (set .entry)) (now (queue .entry)) (now (answer .entry)) (now (set .exit))
-        (now (answer .exit)) ⌝ }
+    requires { ⌜ Floodable v (length (now set)) (length (now queue)) ⌝ }
+    ensures { λ _. ⌜ Core-named (now (links .entry)) v (now (set .entry)) (now (answer .entry)) (now (set .exit)) (now (answer .exit)) ⌝ }
 {
     let k = floods::flood::flood(links, v as u32, set, queue);
-    let m = tables::fill::least(k, queue.len());
-    name_all(queue, m, v, answer);
+    name_all(queue, k, v, answer);
 }

@@ -26,11 +26,10 @@ returns-2 c =
     let asked = put .before .before .before in
     let call = asked .before .before .before .before .before .args in
     let t = tables (call .links .now) (call .numbers .now) (call .order .now) in
-    backbone-listed (call .n) t (call .answer .now) _ (asked .refusal .ensures) (put .before .before .if1 .left) _ _ _
-    (put .put-backbone .ensures) (listed .list-set .ensures .0) (listed .list-set .ensures .1)
+    backbone-listed (call .n) t (call .answer .now) _ (asked .refusal .ensures) (put .before .before .if1 .left) _ _ _ (put .put-backbone .ensures) (listed .list .ensures)
 
 pub backbone-spec : {M : Type 1} → statement M
 backbone-spec =
     tie.close (
-    tie.spec (λ c κs. search needs) returns (λ c. search needs) put-backbone-requires (λ c. search needs) (λ c κs. search needs)
-    (λ c. search needs) returns-2)
+    tie.spec (λ c κs. search needs) returns (λ c. search needs) put-backbone-requires (λ c. search needs) (λ c κs. search needs) (λ c. search needs)
+    returns-2)

@@ -13,7 +13,7 @@ returns-2 : tie.Need-returns-2
 unfolding top-put
 returns-2 c =
     let at = c .before .before .before .before in
-    rw (← at .before .number-in .ensures, eq-eqb _ _ (at .if1 .left)) (c .before .before .put-bit .ensures)
+    rw (← at .before .number-in .ensures, eq-eqb _ _ (at .if1 .left)) (c .before .before .put-in .ensures)
 
 pub put-top-spec : {M : Type 1} → statement M
 put-top-spec =

@@ -8,7 +8,7 @@ use lib.ListN.{getD}
 use borrow.Author.Needs.{needs}
 use Rattle.mesh.specs.Limits.{row-bytes}
 use Rattle.rows.proofs.RowWords.{word-of-row}
-use Rattle.sets.proofs.SetLaws.{Row-joining, changing-none, changing-turn, row-joining-end, row-joined-short, row-joined-other}
+use Rattle.sets.proofs.SetLaws.{Row-joining, changing-none, changing-turn, row-joining-end, row-joined-short}
 use Rattle.sets.proofs.join_row.Statement.{statement}
 use Rattle.sets.proofs.join_row.Tie as tie
 
@@ -21,39 +21,32 @@ abbrev μ-loop : tie.MeasureT-loop
 returns : tie.Need-returns Inv-loop μ-loop
 returns c = row-joined-short _ (c .before .before .before .args .a) _ (omega (arith, c .if1 .taken))
 
-returns-2 : tie.Need-returns-2 Inv-loop μ-loop
-returns-2 c = row-joined-other _ _ _ (c .if2 .taken)
-
-slice-read-set : tie.Need-slice-read-set Inv-loop μ-loop
-slice-read-set c = omega (arith, c .before .loop-test .taken, c .before .before .loop .inv .long)
-
-slice-write-set : tie.Need-slice-write-set Inv-loop μ-loop
-slice-write-set c = omega (arith, c .before .before .loop-test .taken, c .before .before .before .loop .inv .long)
-
 loop-again : tie.Need-loop-again Inv-loop μ-loop
 loop-again c =
     let test = c .before .before in
     let at-loop = test .before in
-    let tests = at-loop .before .before in
-    let call = tests .before .before .before .before .args in
+    let whole = at-loop .before .before in
+    let call = whole .before .before .before .args in
     let word = c .word-of .ensures
     ∙ word-of-row (call .links .now) (call .a) (at-loop .loop .k) (row-bytes * call .a + row-bytes - row-bytes * call .a) (omega arith)
-    (omega (arith, tests .before .if1 .left)) (test .loop-test .taken) in
-    changing-turn _ (call .set .now) (at-loop .loop .k) _ (at-loop .loop .set) (test .loop-test .taken) (ap (bitOr (getD (at-loop .loop .set) (at-loop .loop .k) 0)) word) (at-loop .loop .inv)
+    (omega (arith, whole .if1 .left)) (test .loop-test .taken) in
+    changing-turn _ (call .set .now) (at-loop .loop .k) _ (at-loop .loop .set) (test .loop-test .taken)
+    (ap (bitOr (getD (at-loop .loop .set) (at-loop .loop .k) 0)) word) (at-loop .loop .inv)
 
-returns-3 : tie.Need-returns-3 Inv-loop μ-loop
-returns-3 c =
+returns-2 : tie.Need-returns-2 Inv-loop μ-loop
+returns-2 c =
     let at-loop = c .before in
-    let tests = at-loop .before .before in
-    let given = tests .before .before .before in
-    let call = given .before .args in
-    row-joining-end (call .links .now) (call .a) (call .set .now) (λ j. given .shared-slice-known .given j .fits) (at-loop .loop .k) (at-loop .loop .set)
-    (c .loop-test .left) (omega (arith, tests .before .if1 .left)) (tests .if2 .left) (at-loop .loop .inv)
+    let whole = at-loop .before .before in
+    let known = whole .before .before in
+    let call = known .before .args in
+    row-joining-end (call .links .now) (call .a) (call .set .now) (λ j. known .shared-slice-known .given j .fits) (at-loop .loop .k) (at-loop .loop .set)
+    (c .loop-test .left) (omega (arith, whole .if1 .left)) (search needs) (at-loop .loop .inv)
 
 pub join-row-spec : {M : Type 1} → statement M
 join-row-spec =
     tie.close (
-    tie.spec Inv-loop μ-loop (λ c. search needs) (λ c. search needs) returns (λ c. search needs) returns-2 (λ c. search needs) (λ c. search needs)
-    (λ c. omega (arith, c .before .if1 .left)) (λ c. changing-none _ _ (c .before .if2 .left)) (λ c. search needs) (λ c. search needs) slice-read-set (λ c κs. search needs)
-    (λ c. search needs) slice-write-set (λ c. search needs) (λ c. search needs) loop-again
-    (λ c. c .before .loop .inv .long ∙ sym (c .before .before .before .if2 .left)) returns-3)
+    tie.spec Inv-loop μ-loop (λ c. search needs) (λ c. search needs) returns (λ c. search needs) (λ c. search needs)
+    (λ c. omega (arith, c .if1 .left)) (λ c. changing-none _ _ (search needs)) (λ c. search needs) (λ c. search needs)
+    (λ c. omega (arith, c .before .loop-test .taken, c .before .before .loop .inv .long)) (λ c κs. search needs) (λ c. search needs)
+    (λ c. omega (arith, c .before .before .loop-test .taken, c .before .before .before .loop .inv .long)) (λ c. search needs) (λ c. search needs)
+    loop-again (λ c. c .before .loop .inv .long ∙ sym (search needs)) returns-2)

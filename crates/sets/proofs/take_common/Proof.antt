@@ -4,7 +4,7 @@ use mathlib.Core.Path.{sym, _∙_}
 use Prim.Native.Nat.{_-_}
 use native.Mathlib.Omega.{arith}
 use borrow.Author.Needs.{needs}
-use Rattle.sets.proofs.SetLaws.{Common-taking, common-taking-none, common-taking-turn, common-taking-end, nothing-taken, common-first, common-second}
+use Rattle.sets.proofs.SetLaws.{Common-taking, common-taking-none, common-taking-turn, common-taking-end}
 use Rattle.sets.proofs.take_common.Statement.{statement}
 use Rattle.sets.proofs.take_common.Tie as tie
 
@@ -14,44 +14,29 @@ Inv-loop other set₀ list₀ n₀ k₀ set list n k = Common-taking other set�
 abbrev μ-loop : tie.MeasureT-loop
 μ-loop other set₀ list₀ n₀ k₀ set list n k = 8 - k
 
-returns : tie.Need-returns Inv-loop μ-loop
-returns c = nothing-taken _ _ _ (common-first _ _ (c .if1 .taken))
-
-returns-2 : tie.Need-returns-2 Inv-loop μ-loop
-returns-2 c = nothing-taken _ _ _ (common-second _ _ (c .before .if1 .left) (c .if2 .taken))
-
-shared-slice-read-take-word : tie.Need-shared-slice-read-take-word Inv-loop μ-loop
-shared-slice-read-take-word c = omega (arith, c .before .loop-test .taken, c .before .before .before .before .if1 .left)
-
 take-word-requires : tie.Need-take-word-requires Inv-loop μ-loop
 take-word-requires c κs =
     let test = c .before .before .before in
-    let at-loop = test .before in (
-      test .loop-test .taken,
-      at-loop .loop .inv .long,
-      omega (arith, at-loop .loop .inv .listing .inside, at-loop .loop .inv .listing .long),
-      at-loop .loop .inv .few,
-    )
+    let inv = test .before .loop .inv in
+    (test .loop-test .taken, inv .long, omega (arith, inv .listing .inside, inv .listing .long), inv .few)
 
 loop-again : tie.Need-loop-again Inv-loop μ-loop
 loop-again c =
     let taken = c .before .before .before .before in
     let test = taken .before .before .before .before in
     let at-loop = test .before in
-    let call = at-loop .before .before .before .before .before .before .args in
+    let call = at-loop .before .before .before .before .args in
     common-taking-turn (call .other .now) (call .set .now) (call .list .now) (at-loop .loop .n) (at-loop .loop .k) _ (at-loop .loop .set) (at-loop .loop .list) _ _
     (test .loop-test .taken) (taken .take-word .ensures .0) (taken .take-word .ensures .1 .0) (taken .take-word .ensures .1 .1) (at-loop .loop .inv)
 
-returns-3 : tie.Need-returns-3 Inv-loop μ-loop
-returns-3 c =
+returns : tie.Need-returns Inv-loop μ-loop
+returns c =
     let at-loop = c .before in
-    let call = at-loop .before .before .before .before .before .before .args in
-    common-taking-end (call .other .now) (call .set .now) (call .list .now) (at-loop .loop .n) (at-loop .loop .k) (at-loop .loop .set) (at-loop .loop .list)
-    (c .loop-test .left) (at-loop .before .before .if1 .left) (at-loop .before .if2 .left) (at-loop .loop .inv)
+    common-taking-end _ _ _ (at-loop .loop .n) (at-loop .loop .k) (at-loop .loop .set) (at-loop .loop .list) (c .loop-test .left) (search needs) (at-loop .loop .inv)
 
 pub take-common-spec : {M : Type 1} → statement M
 take-common-spec =
     tie.close (
-    tie.spec Inv-loop μ-loop (λ c. search needs) returns (λ c. search needs) returns-2 (λ c. common-taking-none _ _ _ (c .if2 .left)) (λ c. search needs)
-    (λ c. search needs) shared-slice-read-take-word take-word-requires (λ c. search needs) (λ c. search needs) loop-again
-    (λ c. c .before .loop .inv .long ∙ sym (c .before .before .if2 .left)) (λ c. c .before .loop .inv .listing .long) returns-3)
+    tie.spec Inv-loop μ-loop (λ c. common-taking-none _ _ _ (search needs)) (λ c. search needs) (λ c. search needs) (λ c. search needs)
+    take-word-requires (λ c. search needs) (λ c. search needs) loop-again (λ c. c .before .loop .inv .long ∙ sym (search needs))
+    (λ c. c .before .loop .inv .listing .long) returns)

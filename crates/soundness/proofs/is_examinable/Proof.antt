@@ -15,7 +15,7 @@ returns c =
     let l = lengths (call .links) (call .numbers) (call .order) in
     ap (λ (x : ℕ). eqb x 0) (c .with-answer .ensures
     ∙ ap (λ (x : ℕ). lent-refusal (call .n) l (answer-length (call .n) x) 0) (c .before .least .ensures))
-    ∙ examinable-refusal (call .n) l (call .places) (call .highs)
+    ∙ examinable-refusal (call .n) l (call .places) (call .not-lower)
 
 pub is-examinable-spec : {M : Type 1} → statement M
 is-examinable-spec = tie.close (tie.spec (λ c κs. search needs) (λ c κs. search needs) returns)

@@ -9,52 +9,46 @@ use Rattle.staircase.proofs.list_rows.Tie as tie
 
 returns : tie.Need-returns
 returns c =
-    let list-at = c .before in
-    let list-gone-at = list-at .before in
-    let start = list-gone-at .before .before .before .before .before .before .before .before in
-    all-rows (start .args .links .now) (start .args .reach .now) (start .pre .1) _ _ _ (start .pre .2) (list-gone-at .list-gone .ensures) _
-    (list-at .list .given)
+    let listed = c .before .before in
+    let start = listed .before .before .before .before .before .before .before in
+    all-rows (start .args .links .now) (start .args .reach .now) (start .pre .1) _ _ _ (start .pre .2) (listed .list .ensures) _ (c .before .list2 .given)
 
 slice-aggregate-put-radios : tie.Need-slice-aggregate-put-radios
 slice-aggregate-put-radios c =
-    let list2-at = c .before .before in
-    let list-gone2-at = list2-at .before in
-    let start = list-gone2-at .before .before .before .before .before .before .before .before in
-    sym (length-take-le _ _ (own-fits (start .args .links .now) _ (start .pre .0) _ _ _ (start .pre .2) (list-gone2-at .list-gone2 .ensures) (list2-at .list2 .given)))
+    let list-at = c .before .before in
+    let listed = list-at .before in
+    let start = listed .before .before .before .before .before .before .before in
+    sym (length-take-le _ _ (own-fits (start .args .links .now) _ (start .pre .0) _ _ _ (start .pre .2) (listed .list3 .ensures) (list-at .list4 .given)))
 
 put-radios-requires : tie.Need-put-radios-requires
 put-radios-requires c κs =
-    let list-gone2-at = c .before .before .before .before in
-    let start = list-gone2-at .before .before .before .before .before .before .before .before in
-    (refl, own-entries (start .args .links .now) (start .args .own .now) (start .pre .0) _ _ _ (start .pre .2) (list-gone2-at .list-gone2 .ensures))
+    let listed = c .before .before .before .before in
+    let start = listed .before .before .before .before .before .before .before in
+    (refl, own-entries (start .args .links .now) (start .args .own .now) (start .pre .0) _ _ _ (start .pre .2) (listed .list3 .ensures))
 
 slice-aggregate-put-neighbours : tie.Need-slice-aggregate-put-neighbours
 slice-aggregate-put-neighbours c =
-    let list2-at = c .before .before .before .before .before .before in
-    let list-gone2-at = list2-at .before in
-    let start = list-gone2-at .before .before .before .before .before .before .before .before in
-    sym (length-take-le _ _ (own-fits (start .args .links .now) _ (start .pre .0) _ _ _ (start .pre .2) (list-gone2-at .list-gone2 .ensures) (list2-at .list2 .given)))
-
-put-neighbours-requires : tie.Need-put-neighbours-requires
-put-neighbours-requires c κs = c .before .before .set2 .given
+    let list-at = c .before .before .before .before .before .before in
+    let listed = list-at .before in
+    let start = listed .before .before .before .before .before .before .before in
+    sym (length-take-le _ _ (own-fits (start .args .links .now) _ (start .pre .0) _ _ _ (start .pre .2) (listed .list3 .ensures) (list-at .list4 .given)))
 
 returns-2 : tie.Need-returns-2
 returns-2 c =
-    let take-common-at = c .before .before .before in
-    let set4-at = take-common-at .before .before .before in
-    let put-neighbours-at = set4-at .before in
-    let put-radios-at = put-neighbours-at .before .before .before .before in
-    let list2-at = put-radios-at .before .before .before .before in
-    let list-gone2-at = list2-at .before in
-    let start = list-gone2-at .before .before .before .before .before .before .before .before in
-    level-rows (start .args .links .now) (start .args .own .now) (start .pre .0) _ _ _ (start .pre .2) (list-gone2-at .list-gone2 .ensures)
-    (start .args .reach .now) _ _ _ _ _ (start .pre .1) (set4-at .set4 .given) (list2-at .list2 .given ∙ start .pre .2)
-    (put-radios-at .put-radios .ensures) (put-neighbours-at .put-neighbours .ensures) (take-common-at .take-common .ensures)
+    let common = c .before .before .before in
+    let set-at = common .before .before .before in
+    let near = set-at .before in
+    let own = near .before .before .before .before in
+    let list-at = own .before .before .before .before in
+    let listed = list-at .before in
+    let start = listed .before .before .before .before .before .before .before in
+    level-rows (start .args .links .now) (start .args .own .now) (start .pre .0) _ _ _ (start .pre .2) (listed .list3 .ensures)
+    (start .args .reach .now) _ _ _ _ _ (start .pre .1) (set-at .set4 .given) (list-at .list4 .given ∙ start .pre .2)
+    (own .put-radios .ensures) (near .put-neighbours .ensures) (common .take-common .ensures)
 
 pub list-rows-spec : {M : Type 1} → statement M
 list-rows-spec =
     tie.close (
-    tie.spec (λ c. search needs) (λ c κs. search needs) (λ c. search needs) (λ c. search needs) returns (λ c. search needs) (λ c κs. search needs)
-    (λ c. search needs) (λ c. search needs) slice-aggregate-put-radios (λ c. search needs) put-radios-requires (λ c. search needs)
-    slice-aggregate-put-neighbours (λ c. search needs) put-neighbours-requires (λ c. search needs) (λ c κs. search needs) (λ c. search needs)
-    returns-2)
+    tie.spec (λ c κs. search needs) (λ c. search needs) (λ c. search needs) returns (λ c κs. search needs) (λ c. search needs) (λ c. search needs)
+    slice-aggregate-put-radios (λ c. search needs) put-radios-requires (λ c. search needs) slice-aggregate-put-neighbours (λ c. search needs)
+    (λ c κs. search needs) (λ c. search needs) (λ c κs. search needs) (λ c. search needs) returns-2)

@@ -61,7 +61,7 @@ take-level-requires c κs =
     let some = turn .loop-test .taken in (
       start .pre .1,
       omega (arith, some),
-      level-sets (call .numbers .now) k _ _ _ _ (at-loop .loop .inv .2) refl (reach2-at .reach2 .given) (own2-at .own2 .given) (at-loop .loop .inv .3)
+      level-sets (call .numbers .now) k _ _ _ (reach2-at .reach2 .given) (own2-at .own2 .given) (at-loop .loop .inv .3)
           (at-least-at .at-least .ensures) (take-set-at .take-set .ensures),
       at-loop .loop .inv .4,
       at-loop .loop .inv .5 .parents,
@@ -95,7 +95,7 @@ loop-again c =
       at-loop .loop .inv .1,
       reach2-at .reach2 .given,
       above-next (call .numbers .now) k _ _ (c .level-below .ensures) (omega (arith, c .level-below .ensures, greatest-below-lt k (call .numbers .now) some))
-          (at-least-at .at-least .ensures .radios refl),
+          (at-least-at .at-least .ensures),
       list2-at .list2 .given,
       rw (c .level-below .ensures)
           (taking-part _ _ _ _ (of-weight (table-weight (call .numbers .now)) k ls) (levels-falling (table-weight (call .numbers .now)) (greatest-below k (call .numbers .now)) ls)

@@ -57,7 +57,7 @@ slice-write-parents c =
       arith,
       higher-radio _ _ _ (start .args .table .now) (start .args .count) _ _ _ _ (root-at .root .ensures) (root2-at .root2 .ensures)
           (parents2-at .parents2 .given ∙ parents-at .parents .given) (ends .0) (ends .1),
-      c .higher .ensures,
+      c .larger16 .ensures,
     )
 
 same-length-2 : tie.Need-same-length-2
@@ -78,8 +78,8 @@ returns-3 c =
     let start = root-at .before .before .before .before .before .before .before in
     let ends = start .pre .1 .inside (link-of (start .args .a) (start .args .b)) (inl refl) in
     taken-new _ _ _ _ _ _ _ _ _ (root-at .root .ensures) (root2-at .root2 .ensures)
-    (parents2-at .parents2 .given ∙ parents-at .parents .given) (ends .0) (ends .1) _ _ _ _ (no .if2 .left) (c .before .lower .ensures)
-    (c .higher .ensures) (put16-at .put16 .ensures) (put162-at .put162 .ensures)
+    (parents2-at .parents2 .given ∙ parents-at .parents .given) (ends .0) (ends .1) _ _ _ _ (no .if2 .left) (c .before .lower16 .ensures)
+    (c .larger16 .ensures) (put16-at .put16 .ensures) (put162-at .put162 .ensures)
 
 pub take-link-spec : {M : Type 1} → statement M
 take-link-spec =

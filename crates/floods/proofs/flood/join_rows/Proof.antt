@@ -29,7 +29,7 @@ loop-again c =
       omega (arith, test .loop-test .taken),
       search needs,
       rows-joined-turn (start .args .links .now) (start .args .list .now) (start .args .from) (at-loop .loop .i) (start .args .set .now) (at-loop .loop .set) _ (inv .0)
-          (inv .2 ∙ start .pre .2) (joined .join-row .ensures) (inv .3),
+          (joined .join-row .ensures) (inv .3),
     )
 
 returns : tie.Need-returns Inv-loop μ-loop

@@ -1,10 +1,10 @@
 -- `cores::core` meets its contract: what the flood leaves out of its level's set is the connected core, and its bits are listed
 -- ascending.
-use mathlib.Core.Path.{refl, sym, _∙_}
+use mathlib.Core.Path.{sym, _∙_}
 use native.Mathlib.Omega.{arith}
 use borrow.Author.Needs.{needs}
 use Rattle.mesh.specs.Tables.{tables}
-use Rattle.queries.proofs.CoreLaws.{core-refused, core-level, core-listed}
+use Rattle.queries.proofs.CoreLaws.{core-refused, core-radio, core-tables, core-level, core-listed}
 use Rattle.queries.proofs.cores.core.Statement.{statement}
 use Rattle.queries.proofs.cores.core.Tie as tie
 
@@ -21,18 +21,33 @@ cast-at-least c =
     let level = core-level (call .n) (call .v) (call .k) t (call .answer .now) (sym (c .before .core-refusal .ensures) ∙ c .if1 .left) in
     omega (arith, level, c .before .before .before .before .shared-slice-known2 .given (call .v))
 
+flood-requires : tie.Need-flood-requires
+flood-requires c κs =
+    let asked = c .before .before .before .before .before in
+    let call = asked .before .before .before .before .before .before .args in
+    let t = tables (call .links .now) (call .numbers .now) (call .order .now) in
+    let zero = sym (asked .before .core-refusal .ensures) ∙ asked .if1 .left in
+    record {
+      radio = omega (arith, core-radio (call .n) (call .v) (call .k) t (call .answer .now) zero, core-tables (call .n) (call .v) (call .k) t (call .answer .now) zero .small);
+      words = search needs;
+      room = omega arith;
+    }
+
 returns-2 : tie.Need-returns-2
 returns-2 c =
-    let flooded = c .before .before .before .before .before .before .before .before in
+    let listed = c .before .before in
+    let taken = listed .before .before .before .before in
+    let flooded = taken .before .before .before .before .before in
     let level = flooded .before .before .before .before in
     let asked = level .before .before in
     let call = asked .before .before .before .before .before .before .args in
     let t = tables (call .links .now) (call .numbers .now) (call .order .now) in
-    core-listed (call .n) (call .v) (call .k) t (call .answer .now) (sym (asked .before .core-refusal .ensures) ∙ asked .if1 .left) _ _ _ _ _ _ _ _
-    refl (search needs) (search needs) refl (level .at-least .ensures) (flooded .flood .ensures) (c .before .before .list-gone .ensures)
+    core-listed (call .n) (call .v) (call .k) t (call .answer .now) (sym (asked .before .core-refusal .ensures) ∙ asked .if1 .left) _ _ _ _ _ _ _
+    (search needs) (level .at-least .ensures) (flooded .flood .ensures) (taken .take-set .ensures) (listed .list .ensures)
 
 pub core-spec : {M : Type 1} → statement M
 core-spec =
     tie.close (
     tie.spec (λ c κs. search needs) returns cast-at-least (λ c. search needs) (λ c κs. search needs) (λ c. search needs) (λ c. search needs)
-    (λ c κs. search needs) (λ c. search needs) (λ c. search needs) (λ c κs. search needs) (λ c. search needs) returns-2)
+    flood-requires (λ c. search needs) (λ c. search needs) (λ c κs. search needs) (λ c. search needs) (λ c κs. search needs) (λ c. search needs)
+    returns-2)

@@ -6,7 +6,7 @@ use Rattle.tables.proofs.sizes.of_tables.Tie as tie
 
 returns : tie.Need-returns
 unfolding tables-refusal
-returns c = c .lent .ensures
+returns c = c .with-others .ensures
 
 pub of-tables-spec : {M : Type 1} → statement M
 of-tables-spec = tie.close (tie.spec (λ c κs. search needs) returns)

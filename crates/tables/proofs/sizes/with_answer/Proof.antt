@@ -6,7 +6,7 @@ use Rattle.tables.proofs.sizes.with_answer.Tie as tie
 
 returns : tie.Need-returns
 unfolding answer-length
-returns c = c .lent .ensures
+returns c = c .with-others .ensures
 
 pub with-answer-spec : {M : Type 1} → statement M
 with-answer-spec = tie.close (tie.spec (λ c. search needs) (λ c κs. search needs) returns)

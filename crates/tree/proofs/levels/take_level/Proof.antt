@@ -1,6 +1,6 @@
 -- `levels::take_level` meets its contract: before radio v, the lowest of the level that the set still has, the set and the lists are right
 -- if they were so at the level's start (`Levelling`). The measure is what is left of the radios.
-use mathlib.Core.Path.{_≡_, sym, _∙_}
+use mathlib.Core.Path.{_≡_, _∙_}
 use Prim.Native.Nat.{_-_, min}
 use native.Mathlib.Omega.{arith}
 use lib.ListN.{length}
@@ -28,23 +28,40 @@ loop-holds c =
     let start = c .before .before .before .before .before .before .before .before .before .before .before in
     let ready = start .pre in (
       c .first-common .ensures,
-      levelling-to (start .args .links .now) (start .args .numbers .now) (start .args .level) (start .args .set .now) (start .args .queue .now) _ _ 0 (c .first-common .result) _ _ _ _ (ready .positive) (ready .room)
+      levelling-to (start .args .links .now) (start .args .numbers .now) (start .args .level) (start .args .set .now) (start .args .queue .now) _ _ 0 (c .first-common .result) _ _ _ _ (ready .positive)
           (omega arith) (omega arith) (takes-none (start .args .links .now) _ _ (start .args .shell .now) (ready .own) _ (ready .words) (c .first-common .result) (c .first-common .ensures))
           (levelling-none _ _ _ _ _ _ _),
     )
 
-cast-visit : tie.Need-cast-visit Inv-loop μ-loop
-cast-visit c = omega (arith, c .loop-test .taken, c .before .before .before .before .before .before .before .before .before .before .before .before .before .pre .small)
+cast-take-node : tie.Need-cast-take-node Inv-loop μ-loop
+cast-take-node c = omega (arith, c .loop-test .taken, c .before .before .before .before .before .before .before .before .before .before .before .before .before .pre .small)
 
-visit-requires : tie.Need-visit-requires Inv-loop μ-loop
-visit-requires c κs =
+take-node-requires : tie.Need-take-node-requires Inv-loop μ-loop
+take-node-requires c κs =
     let test = c .before .before .before .before .before .before in
     let at-loop = test .before in
-    let ready = at-loop .before .before .before .before .before .before .before .before .before .before .before .before .pre in (
-      test .loop-test .taken,
-      omega (arith, test .loop-test .taken, ready .named, at-loop .loop .inv .1 .lengths .answer),
-      omega (arith, test .loop-test .taken, ready .small, ready .few, at-loop .loop .inv .1 .few),
+    let ready = at-loop .before .before .before .before .before .before .before .before .before .before .before .before .pre in
+    let inv = at-loop .loop .inv .1 in (
+      record {
+        radio = omega (arith, test .loop-test .taken, ready .small);
+        words = inv .set-long ∙ ready .words;
+        room = omega (arith, ready .room, inv .queue-long);
+      },
+      omega (arith, test .loop-test .taken, ready .named, inv .lengths .answer),
+      omega (arith, test .loop-test .taken, ready .small, ready .few, inv .few),
     )
+
+first-common-requires : tie.Need-first-common-requires Inv-loop μ-loop
+first-common-requires c κs =
+    let ready = c .before .before .before .before .before .before .before .before .before .before .pre in
+    (ready .own .long, ready .words)
+
+first-common-requires-2 : tie.Need-first-common-requires-2 Inv-loop μ-loop
+first-common-requires-2 c κs =
+    let set-at = c .before .before .before .before .before .before .before .before .before .before .before .before in
+    let at-loop = set-at .before .before .before .before .before .before .before .before .before in
+    let ready = at-loop .before .before .before .before .before .before .before .before .before .before .before .before .pre in
+    (ready .own .long, set-at .set .given ∙ at-loop .loop .inv .1 .set-long ∙ ready .words)
 
 loop-less : tie.Need-loop-less Inv-loop μ-loop
 loop-less c =
@@ -57,8 +74,8 @@ loop-less c =
       arith,
       test .loop-test .taken,
       levelling-later (start .args .links .now) (start .args .numbers .now) (start .args .level) (start .args .shell .now) (ready .own) (start .args .set .now) (start .args .queue .now) _ _ (at-loop .loop .v) _ _ _ _
-          (ready .positive) (ready .room) (ready .words) (ready .small) (test .loop-test .taken) (at-loop .loop .inv .0) (at-loop .loop .inv .1) _ _ _ _ (c .before .before .before .before .before .before .before .before .before .before .before .before .before .set .given)
-          (visited .visit .ensures) (c .first-common2 .ensures),
+          (ready .positive) (ready .words) (ready .small) (test .loop-test .taken) (at-loop .loop .inv .0) (at-loop .loop .inv .1) _ _ _ _ (c .before .before .before .before .before .before .before .before .before .before .before .before .before .set .given)
+          (visited .take-node .ensures) (c .first-common2 .ensures),
     )
 
 loop-again : tie.Need-loop-again Inv-loop μ-loop
@@ -70,8 +87,8 @@ loop-again c =
     let ready = start .pre in (
       c .first-common2 .ensures,
       levelling-next (start .args .links .now) (start .args .numbers .now) (start .args .level) (start .args .shell .now) (ready .own) (start .args .set .now) (start .args .queue .now) _ _ (at-loop .loop .v) _ _ _ _
-          (ready .positive) (ready .room) (ready .words) (ready .small) (test .loop-test .taken) (at-loop .loop .inv .0) (at-loop .loop .inv .1) _ _ _ _ (c .before .before .before .before .before .before .before .before .before .before .before .before .before .set .given)
-          (visited .visit .ensures) (c .first-common2 .ensures) _ (c .before .before .before .before .before .before .before .before .before .before .before .queue .given)
+          (ready .positive) (ready .words) (ready .small) (test .loop-test .taken) (at-loop .loop .inv .0) (at-loop .loop .inv .1) _ _ _ _ (c .before .before .before .before .before .before .before .before .before .before .before .before .before .set .given)
+          (visited .take-node .ensures) (c .first-common2 .ensures) _ (c .before .before .before .before .before .before .before .before .before .before .before .queue .given)
           (record { names = c .before .before .before .before .before .before .before .before .before .names .given; levels = c .before .before .before .before .before .before .before .levels .given; parents = c .before .before .before .before .before .parents .given; answer = c .before .before .before .answer .given }),
     )
 
@@ -88,6 +105,7 @@ returns c =
 pub take-level-spec : {M : Type 1} → statement M
 take-level-spec =
     tie.close (
-    tie.spec Inv-loop μ-loop (λ c κs. search needs) (λ c. search needs) loop-holds cast-visit visit-requires (λ c κs. search needs) (λ c. search needs) loop-less loop-again
-    (λ c. c .before .loop .inv .1 .set-long) (λ c. c .before .loop .inv .1 .queue-long) (λ c. c .before .loop .inv .1 .lengths .names)
-    (λ c. c .before .loop .inv .1 .lengths .levels) (λ c. c .before .loop .inv .1 .lengths .parents) (λ c. c .before .loop .inv .1 .lengths .answer) returns)
+    tie.spec Inv-loop μ-loop first-common-requires (λ c. search needs) loop-holds cast-take-node take-node-requires first-common-requires-2
+    (λ c. search needs) loop-less loop-again (λ c. c .before .loop .inv .1 .set-long) (λ c. c .before .loop .inv .1 .queue-long)
+    (λ c. c .before .loop .inv .1 .lengths .names) (λ c. c .before .loop .inv .1 .lengths .levels) (λ c. c .before .loop .inv .1 .lengths .parents)
+    (λ c. c .before .loop .inv .1 .lengths .answer) returns)

@@ -1,9 +1,9 @@
--- `sizes::lent` meets its contract: each test is a question of the chain, and its "no" the number.
+-- `sizes::with_others` meets its contract: each test is a question of the chain, and its "no" the number.
 use borrow.Author.Needs.{needs}
 use borrow.Author.Tests.{not-true, not-false}
 use Rattle.calls.specs.Questions.{ask, lent-refusal}
-use Rattle.tables.proofs.sizes.lent.Statement.{statement}
-use Rattle.tables.proofs.sizes.lent.Tie as tie
+use Rattle.tables.proofs.sizes.with_others.Statement.{statement}
+use Rattle.tables.proofs.sizes.with_others.Tie as tie
 
 returns : tie.Need-returns
 unfolding lent-refusal ask
@@ -36,7 +36,7 @@ returns-4 c =
     rw (← size .ensures, not-false (size .result) (c .before .before .before .if1 .left), ← long .ensures)
     (rw (not-false (long .result) (c .before .if2 .left), not-false others (c .if3 .left)))
 
-pub lent-spec : {M : Type 1} → statement M
-lent-spec =
+pub with-others-spec : {M : Type 1} → statement M
+with-others-spec =
     tie.close (
     tie.spec (λ c κs. search needs) returns (λ c κs. search needs) returns-2 returns-3 returns-4)

@@ -1,2 +1,0 @@
--- Radios sorted by their numbers.
-pub mod Shells
