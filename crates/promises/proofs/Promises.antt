@@ -7,7 +7,7 @@ use lib.ListN.{length}
 use mir.Val.{Val}
 use prog.Memory.{Memory}
 use Rattle.machine.proofs.Made.{made-ready, ran-one}
-use Rattle.hosts.specs.Public.{given-at, call}
+use Rattle.hosts.specs.Public.{call}
 use Rattle.hosts.proofs.Hosts.{hosts-demand, standing-demand}
 use Rattle.hosts.proofs.Made.{hosts-exist}
 use Rattle.mesh.specs.Limits.{max-neighbours}
@@ -92,7 +92,6 @@ refusals = record {
   mark-remove = remove-keeps;
   mark-return = return-keeps;
   image-block = block-keeps;
-  reader-step = λ p bs i h. ap (given-at p) (block-keeps bs i h);
 }
 
 property-1 : Property-1 routines

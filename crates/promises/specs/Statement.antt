@@ -10,7 +10,7 @@ use mathlib.Core.Path.{_≡_}
 use mathlib.Core.Logic.{_↔_, _⊎_}
 use mathlib.Core.Bool.{Bool, true, false}
 use mathlib.Core.List.{List, [], _∷_, _++_}
-use Prim.Native.Nat.{ℕ, _*_, _≤_, _<_}
+use Prim.Native.Nat.{ℕ, _+_, _*_, _≤_, _<_}
 use lib.IntN.{ℤ, pos}
 use lib.ListN.{length, take, drop}
 use mir.Val.{Val}
@@ -18,8 +18,8 @@ use prog.Memory.{Memory}
 use prog.Machine.{done}
 use prog.Routine.{Routine}
 use Rattle.machine.specs.Cells.{Param, Place, place, entries, Input, Inputs, Stands, span, Ready, Ran, Runs, passed, outcome-of}
-use Rattle.machine.specs.Made.{Givens, Fitting, blocks, placed}
-use Rattle.hosts.specs.Public.{Public, any-other, reader-step, bytes, a-reader, given-at, call}
+use Rattle.machine.specs.Made.{Fitting, blocks, placed}
+use Rattle.hosts.specs.Public.{Public, reader-step, bytes, a-reader, call}
 use Rattle.hosts.specs.Hosts.{Hosts-demand, Standing-demand}
 use Rattle.hosts.specs.Made.{Hosts-exist}
 use Rattle.lists.specs.Lists.{member, same, Entries-below}
@@ -116,10 +116,8 @@ pub record Refusals : Type 0 where
   pub mark-remove :
       (n : ℕ) (x : List ℕ) (t : Tables) (bs : List ℕ) → let o = remove-outcome n x t bs in (o .reply ≡ 0 → ⊥) → o ≡ stored (o .reply) bs
   pub mark-return : (n : ℕ) (x bs : List ℕ) (t : Tables) → let o = return-outcome n x bs t in (o .reply ≡ 0 → ⊥) → o ≡ numbered (o .reply) t
+  -- and a step of the reader, which is this outcome beside the image's place
   pub image-block : (bs : List ℕ) (i : ℕ) → let o = block-outcome bs i in (o .number ≡ 0 → ⊥) → o ≡ no-block (o .number) 0 i
-  pub reader-step :
-      (p : Place) (bs : List ℕ) (i : ℕ) → let s = given-at p (block-outcome bs i) in
-      (s .number ≡ 0 → ⊥) → s ≡ given-at p (no-block (s .number) 0 i)
 
 -- ρ are the routines of the public calls
 pub record Property-1 (ρ : Public → Routine) : Type 1 where
@@ -131,13 +129,13 @@ pub record Property-1 (ρ : Public → Routine) : Type 1 where
       (x : Public) (σ : Memory) (i : Inputs (call x .params)) (h : Ran (ρ x) (call x) σ i) (steps : ℕ) (end : Val × Memory) →
       ρ x .step steps (passed (call x .params) i) σ ≡ done end → (end .0 ≡ call x .value (outcome-of (call x) i .0)) × (end .1 ≡ h .memory)
   -- a memory is ready for whatever numbers and lists their types hold: the one that has a block for each lent list
-  pub ready : (ps : List Param) (g : Givens ps) → Fitting ps g → Ready (blocks ps g) ps (placed 0 ps g)
+  pub ready : (ps : List Param) (i : Inputs ps) → Fitting ps i → Ready (blocks ps i) ps (placed 0 ps i)
   pub refused : Refusals
   -- the part that a step of the block reader gives is the image's own bytes: they stand in its cells, where the step says
   pub reader-part :
-      (σ : Memory) (r : Input a-reader) → Ready σ (call (any-other reader-step) .params) (r, tt) →
-      (h : Ran (ρ (any-other reader-step)) (call (any-other reader-step)) σ (r, tt)) → let o = block-outcome (entries (r .0)) (r .1) in
-      Stands (h .memory) (span bytes (given-at (place (r .0)) o .place) (take (o .length) (drop (o .offset) (entries (r .0)))))
+      (σ : Memory) (r : Input a-reader) → Ready σ (call reader-step .params) (r, tt) →
+      (h : Ran (ρ reader-step) (call reader-step) σ (r, tt)) → let o = block-outcome (entries (r .0)) (r .1) in
+      Stands (h .memory) (span bytes (place (r .0) .0, o .offset + place (r .0) .1) (take (o .length) (drop (o .offset) (entries (r .0)))))
 
 -- ---- property 2
 
