@@ -41,11 +41,11 @@ use Rattle.calls.specs.Marks.{mark-image}
 use Rattle.calls.specs.Lift.{lifts}
 use Rattle.calls.specs.Outcomes.{reply, value, later, numbered, linked-with, asked, committed-with, batched, heard-with, listing, treed}
 use Rattle.calls.specs.Outcomes.{clear-outcome, read-outcome, link-outcome, ask-outcome, commit-outcome, batch-outcome, hear-outcome}
-use Rattle.calls.specs.Outcomes.{check-outcome, number-outcome, neighbours-outcome, linked-outcome, first-outcome, later-outcome, core-outcome}
-use Rattle.calls.specs.Outcomes.{backbone-outcome}
+use Rattle.calls.specs.Outcomes.{check-outcome, number-outcome, later-outcome, core-outcome}
+use Rattle.calls.specs.Outcomes.{value-outcome, listing-outcome, backbone-outcome}
 use Rattle.calls.specs.Outcomes.{staircase-outcome, write-outcome, sheet-outcome, script-length-outcome, script-outcome, tree-outcome, no-block}
 use Rattle.calls.specs.Outcomes.{block-outcome}
-use Rattle.calls.specs.MarkOutcomes.{stored, set-outcome, remove-outcome, return-outcome}
+use Rattle.calls.specs.MarkOutcomes.{stored, store-outcome, set-outcome, remove-outcome, return-outcome}
 use Rattle.calls.specs.LiftOutcome.{pair, lift-outcome}
 use Rattle.calls.specs.Results.{Batch-stopped, Batch-single, Site-right, Link-right, Later-right, Core-listed, Backbone-listed, Tree-listed, Written-right}
 use Rattle.calls.specs.Results.{Read-right, Block-part, Block-end, Script-right, Script-beforehand, Hear-right, Image-answered, Sheet-right, Staircase-listed}
@@ -64,6 +64,13 @@ use Rattle.playback.specs.Back.{Plays-back}
 
 -- what a refusal keeps: the number and zeros, and everything lent as it was
 pub record Refusals : Type 0 where
+  -- check, number, neighbours, linked, first and the script's length are `value-outcome`s; core, backbone, staircase, image, sheet and script
+  -- are `listing-outcome`s; setting and removing a mark are `store-outcome`s, by the number R that their questions give
+  pub values : (R x : ℕ) → let o = value-outcome R x in (o .number ≡ 0 → ⊥) → o ≡ value (o .number) 0
+  pub listings :
+      (R x : ℕ) (new old : List ℕ) → let o = listing-outcome R x new old in
+      (o .reply .number ≡ 0 → ⊥) → o ≡ listing (value (o .reply .number) 0) old
+  pub stores : (R : ℕ) (new old : List ℕ) → let o = store-outcome R new old in (o .reply ≡ 0 → ⊥) → o ≡ stored (o .reply) old
   pub clear : (n : ℕ) (t : Tables) → let o = clear-outcome n t in (o .reply ≡ 0 → ⊥) → o ≡ numbered (o .reply) t
   pub image-read : (n : ℕ) (bs : List ℕ) (t : Tables) → let o = read-outcome n bs t in (o .reply ≡ 0 → ⊥) → o ≡ numbered (o .reply) t
   pub link :
@@ -82,39 +89,11 @@ pub record Refusals : Type 0 where
   pub hear :
       (n : ℕ) (hs : List ℕ) (t : Tables) (w : List ℕ) → let o = hear-outcome n hs t w in
       (o .reply .number ≡ 0 → ⊥) → o ≡ heard-with (value (o .reply .number) 0) t w
-  pub check : (n : ℕ) (t : Tables) → let o = check-outcome n t in (o .number ≡ 0 → ⊥) → o ≡ value (o .number) 0
-  pub number : (n v : ℕ) (t : Tables) → let o = number-outcome n v t in (o .number ≡ 0 → ⊥) → o ≡ value (o .number) 0
-  pub neighbours : (n v : ℕ) (t : Tables) → let o = neighbours-outcome n v t in (o .number ≡ 0 → ⊥) → o ≡ value (o .number) 0
-  pub linked : (n a b : ℕ) (t : Tables) → let o = linked-outcome n a b t in (o .number ≡ 0 → ⊥) → o ≡ value (o .number) 0
-  pub first : (n a b : ℕ) (t : Tables) → let o = first-outcome n a b t in (o .number ≡ 0 → ⊥) → o ≡ value (o .number) 0
   pub later-of : (n v : ℕ) (t : Tables) → let o = later-outcome n v t in (o .number ≡ 0 → ⊥) → o ≡ later (o .number) 0 0
   pub lift : (n v : ℕ) (t : Tables) → let o = lift-outcome n v t in (o .number ≡ 0 → ⊥) → o ≡ pair (o .number) 0 0
-  pub core :
-      (n v k : ℕ) (t : Tables) (w : List ℕ) → let o = core-outcome n v k t w in
-      (o .reply .number ≡ 0 → ⊥) → o ≡ listing (value (o .reply .number) 0) w
-  pub backbone :
-      (n : ℕ) (t : Tables) (w : List ℕ) → let o = backbone-outcome n t w in
-      (o .reply .number ≡ 0 → ⊥) → o ≡ listing (value (o .reply .number) 0) w
   pub tree :
       (n : ℕ) (t : Tables) (m : List Node) (w : List ℕ) → let o = tree-outcome n t m w in
       (o .reply .number ≡ 0 → ⊥) → o ≡ treed (value (o .reply .number) 0) m w
-  pub staircase :
-      (n : ℕ) (t : Tables) (w : List ℕ) → let o = staircase-outcome n t w in
-      (o .reply .number ≡ 0 → ⊥) → o ≡ listing (value (o .reply .number) 0) w
-  pub image-write :
-      (n : ℕ) (t : Tables) (w : List ℕ) → let o = write-outcome n t w in
-      (o .reply .number ≡ 0 → ⊥) → o ≡ listing (value (o .reply .number) 0) w
-  pub sheet :
-      (n : ℕ) (t : Tables) (w : List ℕ) → let o = sheet-outcome n t w in
-      (o .reply .number ≡ 0 → ⊥) → o ≡ listing (value (o .reply .number) 0) w
-  pub script-length : (n : ℕ) (t : Tables) → let o = script-length-outcome n t in (o .number ≡ 0 → ⊥) → o ≡ value (o .number) 0
-  pub script-write :
-      (n : ℕ) (t : Tables) (w : List ℕ) → let o = script-outcome n t w in
-      (o .reply .number ≡ 0 → ⊥) → o ≡ listing (value (o .reply .number) 0) w
-  pub mark-set :
-      (n : ℕ) (x : List ℕ) (t : Tables) (bs : List ℕ) → let o = set-outcome n x t bs in (o .reply ≡ 0 → ⊥) → o ≡ stored (o .reply) bs
-  pub mark-remove :
-      (n : ℕ) (x : List ℕ) (t : Tables) (bs : List ℕ) → let o = remove-outcome n x t bs in (o .reply ≡ 0 → ⊥) → o ≡ stored (o .reply) bs
   pub mark-return : (n : ℕ) (x bs : List ℕ) (t : Tables) → let o = return-outcome n x bs t in (o .reply ≡ 0 → ⊥) → o ≡ numbered (o .reply) t
   -- and a step of the reader, which is this outcome beside the image's place
   pub image-block : (bs : List ℕ) (i : ℕ) → let o = block-outcome bs i in (o .number ≡ 0 → ⊥) → o ≡ no-block (o .number) 0 i
