@@ -3,12 +3,14 @@
 --   open-runs, step-runs, moved-runs      each runs as crate hosts says of it
 --   part-stands                           after a step its part stands in the image's cells
 use mathlib.Core.Path.{_≡_, refl, _∙_, ap, subst}
+use mathlib.Core.Logic.{∥∥₁-map}
 use mathlib.Core.List.{List, [], _∷_}
 use Prim.Native.Nat.{ℕ, _+_, _*_, _≤_}
 use native.Mathlib.Omega.{arith}
 use lib.ListN.{length, take, drop, length-drop}
 use lib.Seq.{length-take-le}
-use mir.Syntax.{w8, w64}
+use mir.Syntax.{w8, w32, w64}
+use mir.Val.{Val, vint, vstruct, vcons, vnil}
 use prog.Memory.{Memory}
 use contract.Lifetimes.{Lfts}
 use contract.Running.{Running, real}
@@ -21,7 +23,7 @@ use denote.Signature.{namedLft}
 use denote.Slice.{ShrSlice, slice-vals}
 use denote.Steps.{nothing}
 use denote.Struct.Rest.{own-shut}
-use Rattle.machine.specs.Cells.{unsigned, place, entries, Input, passes, cells-of, span, Run-at, Stands, Ready, Ran, Runs}
+use Rattle.machine.specs.Cells.{unsigned, Place, place, entries, Input, pointer, passes, cells-of, span, Run-at, Stands, Ready, Ran, Runs}
 use Rattle.machine.proofs.Whole.{𝓥}
 use Rattle.machine.proofs.Rows.{A₀, W₀}
 use Rattle.machine.proofs.Lending.{Holder, to-read, to-read-with}
@@ -33,7 +35,7 @@ use Rattle.calls.specs.Contracts.{Block-contract}
 use Rattle.calls.specs.Outcomes.{block-outcome}
 use Rattle.calls.specs.declared.Block.{Block}
 use Rattle.block_reader.specs.Reader.{Stepped, Moved}
-use Rattle.hosts.specs.Public.{any-other, reader-open, reader-step, reader-moved, a-reader, Step-given, step-value, given-at, call}
+use Rattle.hosts.specs.Public.{reader-open, reader-step, reader-moved, a-reader, call}
 use Rattle.block_reader.specs.declared.blocks.BlockReader.{BlockReader}
 use Rattle.block_reader.specs.declared.blocks.BlockStep.{BlockStep}
 use Rattle.block_reader.proofs.StepLaws.{block-inside}
@@ -72,11 +74,27 @@ abbrev a-reader-told : Told 1
 a-reader-told = declared-told 1 (λ κs. reader.the-row (lifetime κs)) (λ κs. reader-laws.lowers (lifetime κs)) (Input a-reader)
     (λ κs d. ((ptr (d .image), now (d .image)), d .next)) (passes a-reader) (λ κs d. refl)
 
+-- what a step gives: where its part of the image begins, how long it is, and the numbers
+record Step-given : Type 0 where
+  place : Place
+  length : ℕ
+  number : ℕ
+  end : ℕ
+  next : ℕ
+
+abbrev given-value : Step-given → Val
+given-value s =
+    vstruct (vcons (pointer (s .place) (s .length)) (vcons (vint w32 (s .number)) (vcons (vint w32 (s .end)) (vcons (vint w64 (s .next)) vnil))))
+
+-- the step whose form for C is this answer, of an image at that place
+abbrev given-at : Place → Block → Step-given
+given-at p o = record { place = (p .0, o .offset + p .1); length = o .length; number = o .number; end = o .end; next = o .next }
+
 abbrev step-told : BlockStep → Step-given
 step-told s = record { place = ptr (s .part); length = length (now (s .part)); number = s .number; end = s .end; next = s .next }
 
 abbrev a-step-told : Told 1
-a-step-told = declared-told 1 (λ κs. step.the-row (lifetime κs)) (λ κs. step-laws.lowers (lifetime κs)) Step-given (λ κs. step-told) step-value (λ κs s. refl)
+a-step-told = declared-told 1 (λ κs. step.the-row (lifetime κs)) (λ κs. step-laws.lowers (lifetime κs)) Step-given (λ κs. step-told) given-value (λ κs s. refl)
 
 -- ---- what is told is the outcome
 
@@ -99,29 +117,47 @@ moved-is d q h = h .next ∙ ap (λ (o : Block). o .next) (h .answered)
 
 -- ---- the calls
 
-pub open-runs : Runs open-symbol.routine (call (any-other reader-open))
+pub open-runs : Runs open-symbol.routine (call reader-open)
 open-runs =
     in-cells-at 1 (to-read 0 tt (number-row w8) ∷ []) a-reader-told open-symbol.routine (λ κs a r e. (r .image ≡ a .0) × (r .next ≡ 0)) _
     (λ κs a r e h k. (((ptr (h .0 k), now (h .0 k)), h .1 k), tt))
     (open-proof.met 𝓥 Closed.H Closed.model ghost₀ 𝓡)
 
-pub step-runs : Runs step-symbol.routine (call (any-other reader-step))
-step-runs =
+-- by what it gives, and so by the image's place and its form for C
+given-runs : Runs step-symbol.routine (record {
+  params = a-reader ∷ [];
+  Result = Step-given;
+  value = given-value;
+  outcome = λ r. (given-at (place (r .0)) (block-outcome (entries (r .0)) (r .1)), tt);
+})
+given-runs =
     in-cells-at 1 (to-read-with 0 tt (number-row w8) (number-row w64) reader-held ∷ []) a-step-told step-symbol.routine (λ κs a s e. Stepped (a .0) s) _
     (λ κs a s e h k. (step-is (a .0) s h k, tt))
     (step-proof.met 𝓥 Closed.H Closed.model ghost₀ 𝓡)
 
-pub moved-runs : Runs moved-symbol.routine (call (any-other reader-moved))
+pub step-runs : Runs step-symbol.routine (call reader-step)
+step-runs σ i ready = ∥∥₁-map (given-runs σ i ready) (λ h. record {
+  steps = h .steps;
+  memory = h .memory;
+  returns = h .returns;
+  lengths = h .lengths;
+  good = h .good;
+  stand = h .stand;
+  else-kept = h .else-kept;
+  blocks-kept = h .blocks-kept;
+})
+
+pub moved-runs : Runs moved-symbol.routine (call reader-moved)
 moved-runs =
     in-cells-at 1 (to-read-with 0 tt (number-row w8) (number-row w64) reader-held ∷ []) a-reader-told moved-symbol.routine (λ κs a q e. Moved (a .0) q) _
     (λ κs a q e h k. (((ptr (h .image k), now (h .image k)), moved-is (a .0) q h k), tt))
     (moved-proof.met 𝓥 Closed.H Closed.model ghost₀ 𝓡)
 
 -- after a step, as before it, the bytes of its part stand in the image's cells where it says: they are not copied
-pub part-stands : (σ : Memory) (r : Input a-reader) → Ready σ (call (any-other reader-step) .params) (r, tt)
-    → (h : Ran step-symbol.routine (call (any-other reader-step)) σ (r, tt))
+pub part-stands : (σ : Memory) (r : Input a-reader) → Ready σ (call reader-step .params) (r, tt)
+    → (h : Ran step-symbol.routine (call reader-step) σ (r, tt))
     → let o = block-outcome (entries (r .0)) (r .1) in
-    Stands (h .memory) (span (unsigned w8) (given-at (place (r .0)) o .place) (take (o .length) (drop (o .offset) (entries (r .0)))))
+    Stands (h .memory) (span (unsigned w8) (place (r .0) .0, o .offset + place (r .0) .1) (take (o .length) (drop (o .offset) (entries (r .0)))))
 part-stands σ r ready h =
     let o = block-outcome (entries (r .0)) (r .1) in
     let p = place (r .0) in

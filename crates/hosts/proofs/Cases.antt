@@ -17,7 +17,8 @@ use prog.Memory.{Memory}
 use prog.Machine.{done}
 use prog.Routine.{Routine}
 use Rattle.machine.specs.Cells.{Form, Place, Inputs, Stands, All-held, Sized, Good-list, Ready, Ran, Runs, unsigned, span, pointer, passed, writes}
-use Rattle.machine.specs.Made.{Givens, Fitting, blocks, placed}
+use Rattle.machine.specs.Made.{Fitting, blocks, placed}
+use Rattle.machine.proofs.Left.{ran-lengths, ran-held}
 use Rattle.machine.proofs.Made.{made-ready}
 use Rattle.machine.proofs.Again.{stands-still}
 use Rattle.lists.specs.Lists.{overwrite}
@@ -28,8 +29,7 @@ use Rattle.calls.specs.Switches.{switched}
 use Rattle.calls.specs.declared.Reply.{Reply}
 use Rattle.calls.proofs.WorkedState.{compute}
 use Rattle.hosts.specs.Public.{clear, link, Public, of-book, call, bytes, words, number-value, reply-value}
-use Rattle.hosts.specs.Made.{Room-at}
-use Rattle.hosts.proofs.Made.{aligned-of, room-still}
+use Rattle.hosts.proofs.Made.{Room-at, aligned-of, room-still}
 
 -- ---- tables in blocks 0 to 2, the answer table in block 3
 
@@ -124,19 +124,19 @@ module _ (ρ : Public → Routine) (runs : (x : Public) → Runs (ρ x) (call x)
         memory = h .memory;
         returns = h .returns;
         state = record {
-          links = record { stands = h .stand .0; held = h .held .0; room = still (tyInt w8) (0, 0) (q .links .room); long = h .lengths .0 ∙ q .links .long };
+          links = record { stands = h .stand .0; held = ran-held h .0; room = still (tyInt w8) (0, 0) (q .links .room); long = ran-lengths h .0 ∙ q .links .long };
           numbers = record {
             stands = h .stand .1 .0;
-            held = h .held .1 .0;
+            held = ran-held h .1 .0;
             room = still (tyInt w8) (1, 0) (q .numbers .room);
-            long = h .lengths .1 .0
+            long = ran-lengths h .1 .0
                 ∙ q .numbers .long;
           };
           order = record {
             stands = h .stand .1 .1 .0;
-            held = h .held .1 .1 .0;
+            held = ran-held h .1 .1 .0;
             room = still (tyInt w16) (2, 0) (q .order .room);
-            long = h .lengths .1 .1 .0
+            long = ran-lengths h .1 .1 .0
                 ∙ q .order .long;
           };
           answer = record {
@@ -162,26 +162,26 @@ module _ (ρ : Public → Routine) (runs : (x : Public) → Runs (ρ x) (call x)
         memory = h .memory;
         returns = h .returns;
         state = record {
-          links = record { stands = h .stand .0; held = h .held .0; room = still (tyInt w8) (0, 0) (q .links .room); long = h .lengths .0 ∙ q .links .long };
+          links = record { stands = h .stand .0; held = ran-held h .0; room = still (tyInt w8) (0, 0) (q .links .room); long = ran-lengths h .0 ∙ q .links .long };
           numbers = record {
             stands = h .stand .1 .0;
-            held = h .held .1 .0;
+            held = ran-held h .1 .0;
             room = still (tyInt w8) (1, 0) (q .numbers .room);
-            long = h .lengths .1 .0
+            long = ran-lengths h .1 .0
                 ∙ q .numbers .long;
           };
           order = record {
             stands = h .stand .1 .1 .0;
-            held = h .held .1 .1 .0;
+            held = ran-held h .1 .1 .0;
             room = still (tyInt w16) (2, 0) (q .order .room);
-            long = h .lengths .1 .1 .0
+            long = ran-lengths h .1 .1 .0
                 ∙ q .order .long;
           };
           answer = record {
             stands = h .stand .1 .1 .1 .0;
-            held = h .held .1 .1 .1 .0;
+            held = ran-held h .1 .1 .1 .0;
             room = still (tyInt w16) (3, 0) (q .answer .room);
-            long = h .lengths .1 .1 .1 .0 ∙ q .answer .long;
+            long = ran-lengths h .1 .1 .1 .0 ∙ q .answer .long;
           };
         };
       }))
@@ -213,8 +213,8 @@ down-is : link-outcome false 2 0 1 (tables linked (1 ∷ 1 ∷ []) (0 ∷ 1 ∷ 
 unfolding compute link-outcome site-refusal answer-length graph-in row-links switched overwrite put-link put-bit put-digit
 down-is = refl
 
-abbrev at-first : Givens (call (of-book (link true)) .params)
-at-first = (2, (0, (1, (replicate 128 7, (9 ∷ 9 ∷ [], (5 ∷ 5 ∷ [], (8 ∷ 8 ∷ [], tt)))))))
+abbrev at-first : Inputs (call (of-book (link true)) .params)
+at-first = link-inputs true anything (8 ∷ 8 ∷ [])
 
 -- the four blocks
 abbrev pub memory : Memory

@@ -21,6 +21,7 @@ use Rattle.machine.specs.Cells.{Place, Lent, place, entries, Inputs, Span, Stan
 use Rattle.machine.specs.Cells.{writes, outcome-of}
 use Rattle.machine.proofs.Chain.{list-one, cells-count, carried, first-entries}
 use Rattle.machine.proofs.Again.{stands-still}
+use Rattle.machine.proofs.Left.{ran-lengths, ran-held}
 use Rattle.machine.proofs.Made.{ran-one}
 use Rattle.mesh.specs.Graph.{Link, graph}
 use Rattle.mesh.specs.Tables.{Tables, tables}
@@ -180,16 +181,16 @@ module _ (ρ : Public → Routine) (s : Site) (m : ℕ) (t : Tables) where
   unfolding done plain
   clear-shows σ i ready at lie h =
       let o = clear-outcome (i .0) (the-tables (i .1 .0) (i .1 .1 .0) (i .1 .1 .1 .0)) in
-      let w = writer (i .1 .0) (i .1 .1 .0) (i .1 .1 .1 .0) at σ (h .memory) lie (o .tables) (ready .writes-stand) (ready .good .1) (h .stand) (h .lengths)
-      (h .held) in
+      let w = writer (i .1 .0) (i .1 .1 .0) (i .1 .1 .1 .0) at σ (h .memory) lie (o .tables) (ready .writes-stand) (ready .good .1) (h .stand) (ran-lengths h)
+      (ran-held h) in
       subst (Shows s (step-of (on-site clear) σ i m (ran (of-book clear) σ i h))) (w .0) ((plain (o .reply), refl, refl, tt), w .1)
 
   image-read-shows : On image-read
   unfolding done plain
   image-read-shows σ i ready at lie h =
       let o = read-outcome (i .0) (entries (i .1 .1 .1 .1 .0)) (the-tables (i .1 .0) (i .1 .1 .0) (i .1 .1 .1 .0)) in
-      let w = writer (i .1 .0) (i .1 .1 .0) (i .1 .1 .1 .0) at σ (h .memory) lie (o .tables) (ready .writes-stand) (ready .good .1) (h .stand) (h .lengths)
-      (h .held) in
+      let w = writer (i .1 .0) (i .1 .1 .0) (i .1 .1 .1 .0) at σ (h .memory) lie (o .tables) (ready .writes-stand) (ready .good .1) (h .stand) (ran-lengths h)
+      (ran-held h) in
       subst (Shows s (step-of (on-site image-read) σ i m (ran (of-book image-read) σ i h))) (w .0) ((plain (o .reply), refl, refl, tt), w .1)
 
   link-shows : (up : Bool) → On (link up)
@@ -200,8 +201,8 @@ module _ (ρ : Public → Routine) (s : Site) (m : ℕ) (t : Tables) where
       let x = j .1 .1 .1 .0 in
       let k = step-of (on-site (link up)) σ i m (ran (of-book (link up)) σ i h) in
       let o = link-outcome up (i .0) (i .1 .0) (i .1 .1 .0) T (entries x) in
-      let w = writer (j .0) (j .1 .0) (j .1 .1 .0) at σ (h .memory) lie (o .tables) (ready .writes-stand) (ready .good .1 .1 .1) (h .stand) (h .lengths)
-      (h .held) in
+      let w = writer (j .0) (j .1 .0) (j .1 .1 .0) at σ (h .memory) lie (o .tables) (ready .writes-stand) (ready .good .1 .1 .1) (h .stand) (ran-lengths h)
+      (ran-held h) in
       let listed = first-entries w16 (h .memory) (x .0 .0) (x .0 .1) (o .reply .count) (o .answer) (h .stand .1 .1 .1 .0) in
       subst (Shows s k) (w .0) (subst (Came s k) (link-done up (i .0) (i .1 .0) (i .1 .1 .0) T (entries x))
       ((answer-of (o .reply) (o .answer), refl, refl, (listed, tt)), w .1))
@@ -211,8 +212,8 @@ module _ (ρ : Public → Routine) (s : Site) (m : ℕ) (t : Tables) where
   commit-shows up σ i ready at lie h =
       let j = i .1 .1 .1 .1 in
       let o = commit-outcome up (i .0) (i .1 .0) (i .1 .1 .0) (i .1 .1 .1 .0) (entries (j .1 .1 .1 .0)) (the-tables (j .0) (j .1 .0) (j .1 .1 .0)) in
-      let w = writer (j .0) (j .1 .0) (j .1 .1 .0) at σ (h .memory) lie (o .tables) (ready .writes-stand) (ready .good .1 .1 .1 .1) (h .stand) (h .lengths)
-      (h .held) in
+      let w = writer (j .0) (j .1 .0) (j .1 .1 .0) at σ (h .memory) lie (o .tables) (ready .writes-stand) (ready .good .1 .1 .1 .1) (h .stand) (ran-lengths h)
+      (ran-held h) in
       subst (Shows s (step-of (on-site (commit up)) σ i m (ran (of-book (commit up)) σ i h))) (w .0) ((replied (o .reply), refl, refl, tt), w .1)
 
   batch-shows : On link-batch
@@ -220,8 +221,8 @@ module _ (ρ : Public → Routine) (s : Site) (m : ℕ) (t : Tables) where
   batch-shows σ i ready at lie h =
       let j = i .1 in
       let o = batch-outcome (i .0) (entries (j .1 .1 .1 .0)) (the-tables (j .0) (j .1 .0) (j .1 .1 .0)) in
-      let w = writer (j .0) (j .1 .0) (j .1 .1 .0) at σ (h .memory) lie (o .tables) (ready .writes-stand) (ready .good .1) (h .stand) (h .lengths)
-      (h .held) in
+      let w = writer (j .0) (j .1 .0) (j .1 .1 .0) at σ (h .memory) lie (o .tables) (ready .writes-stand) (ready .good .1) (h .stand) (ran-lengths h)
+      (ran-held h) in
       subst (Shows s (step-of (on-site link-batch) σ i m (ran (of-book link-batch) σ i h))) (w .0)
       ((counted (o .reply .number) (o .reply .value), refl, refl, tt), w .1)
 
@@ -232,8 +233,8 @@ module _ (ρ : Public → Routine) (s : Site) (m : ℕ) (t : Tables) where
       let T = the-tables (j .0) (j .1 .0) (j .1 .1 .0) in
       let k = step-of (on-site hear) σ i m (ran (of-book hear) σ i h) in
       let o = hear-outcome (i .0) (entries (j .1 .1 .1 .0)) T (entries (j .1 .1 .1 .1 .0)) in
-      let w = writer (j .0) (j .1 .0) (j .1 .1 .0) at σ (h .memory) lie (o .tables) (ready .writes-stand) (ready .good .1) (h .stand) (h .lengths)
-      (h .held) in
+      let w = writer (j .0) (j .1 .0) (j .1 .1 .0) at σ (h .memory) lie (o .tables) (ready .writes-stand) (ready .good .1) (h .stand) (ran-lengths h)
+      (ran-held h) in
       subst (Shows s k) (w .0) (subst (Came s k) (hear-done (i .0) (entries (j .1 .1 .1 .0)) T (entries (j .1 .1 .1 .1 .0)))
       ((counted (o .reply .number) (o .reply .value), refl, refl, tt), w .1))
 
@@ -242,8 +243,8 @@ module _ (ρ : Public → Routine) (s : Site) (m : ℕ) (t : Tables) where
   return-shows σ i ready at lie h =
       let j = i .1 in
       let o = return-outcome (i .0) (entries (j .1 .1 .1 .0)) (entries (j .1 .1 .1 .1 .0)) (the-tables (j .0) (j .1 .0) (j .1 .1 .0)) in
-      let w = writer (j .0) (j .1 .0) (j .1 .1 .0) at σ (h .memory) lie (o .tables) (ready .writes-stand) (ready .good .1) (h .stand) (h .lengths)
-      (h .held) in
+      let w = writer (j .0) (j .1 .0) (j .1 .1 .0) at σ (h .memory) lie (o .tables) (ready .writes-stand) (ready .good .1) (h .stand) (ran-lengths h)
+      (ran-held h) in
       subst (Shows s (step-of (on-site mark-return) σ i m (ran (of-book mark-return) σ i h))) (w .0) ((plain (o .reply), refl, refl, tt), w .1)
 
   -- a call that is lent the tables to be read, and writes none of their cells
@@ -462,9 +463,7 @@ module _ (ρ : Public → Routine) (runs : (x : Public) → Runs (ρ x) (call x)
       record {
         first = t;
         stood = lie;
-        links-stand = subst (λ (xs : List ℕ). Stands τ (span bytes (s .links) xs)) (kept .links) (w .lie .links);
-        numbers-stand = subst (λ (xs : List ℕ). Stands τ (span bytes (s .numbers) xs)) (kept .numbers) (w .lie .numbers);
-        order-stands = w .lie .order;
+        stand = w .lie;
         agrees = w .agrees n ps (start b);
         carried-out = w .carried-out;
         kept = kept;

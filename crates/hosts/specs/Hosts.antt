@@ -1,6 +1,6 @@
 -- The machine: a host that makes calls one after the other on one memory, in its cells. Nothing of the program logic is cited here.
 --   Site              where links, numbers and order of a site are: three places, and how many entries each has
---   Lie               the tables stand there, in cells
+--   lent-at           the tables, lent at these places;   Lie: they stand there, in cells
 --   Table-cell        a cell of one of the three;   Untouched: of two memories, these cells are the same;   Spares: a call writes none of them
 --   Told              what document 01's book is told of a call on the site, and where the call lists radios;   told: of each call
 --   Turn              how a call is made: on the site, lent its three tables, or elsewhere
@@ -29,10 +29,9 @@ use prog.Memory.{Memory}
 use prog.Machine.{done as returned}
 use prog.Routine.{Routine}
 use Rattle.machine.specs.Cells.{Place, Lent, place, entries, Inputs, of-inputs, Of-inputs, Span, Stands, Has, All, All-held, span, cell-at, Ready, passed}
-use Rattle.machine.specs.Cells.{writes}
+use Rattle.machine.specs.Cells.{writes, to-write}
 use Rattle.mesh.specs.Graph.{Link, graph}
-use Rattle.mesh.specs.Cores.{numbers}
-use Rattle.mesh.specs.Tables.{Tables, links-table}
+use Rattle.mesh.specs.Tables.{Tables}
 use Rattle.mesh.specs.Image.{image-links}
 use Rattle.calls.specs.Questions.{Lengths, lengths-of}
 use Rattle.calls.specs.Outcomes.{reply, value}
@@ -41,8 +40,7 @@ use Rattle.calls.specs.Book.{Given, given, Answer, booked, pairs-of, book-after
 use Rattle.calls.specs.Runs.{done, events, after}
 use Rattle.calls.specs.Demand.{Start, beginning, Kept}
 use Rattle.hosts.specs.Public.{Known, clear, image-read, link, commit, link-batch, hear, mark-set, mark-remove, mark-return, Public, of-book}
-use Rattle.hosts.specs.Public.{any-other, call}
-use Rattle.hosts.specs.Public.{bytes, words, the-tables, number-value, reply-value, value-value}
+use Rattle.hosts.specs.Public.{call, bytes, words, site-params, the-tables, number-value, reply-value, value-value}
 
 -- ---- a site's tables
 
@@ -51,6 +49,10 @@ pub record Site : Type 0 where
   pub links : Place
   pub numbers : Place
   pub order : Place
+
+-- the tables, lent there
+abbrev pub lent-at : Site → Tables → Inputs (site-params 0 to-write [])
+lent-at s t = ((s .links, t .links), ((s .numbers, t .numbers), ((s .order, t .order), tt)))
 
 -- these tables stand there: links and numbers a byte to an entry, the order two
 pub record Lie (s : Site) (σ : Memory) (t : Tables) : Type 0 where
@@ -180,13 +182,11 @@ Carried-out s (k ∷ ks) t =
 pub record Ends (s : Site) (n : ℕ) (ps : List Link) (b : Beginning) (ks : List Step) (σ τ : Memory) : Type 0 where
   pub first : Tables
   pub stood : Lie s σ first
-  -- links and numbers of the book's pairs stand at the site's places, and the order that the list leaves
-  pub links-stand : Stands τ (span bytes (s .links) (links-table (graph n (book-after (fed s ks) ps))))
-  pub numbers-stand : Stands τ (span bytes (s .numbers) (numbers (graph n (book-after (fed s ks) ps))))
-  pub order-stands : Stands τ (span words (s .order) (after (map call-of ks) first .order))
+  -- the tables that the list leaves stand at the site's places: by demand 3, links and numbers of the book's pairs and a k-order
+  pub stand : Lie s τ (after (map call-of ks) first)
   -- every call answered as the book does
   pub agrees : Agrees s ks ps
-  -- the calls are carried out on the tables, and keep demand 3: the order is a k-order, and all else that it says
+  -- the calls are carried out on the tables, and keep demand 3
   pub carried-out : Carried-out s ks first
   pub kept : Kept n ps b (events (map call-of ks) first) (graph n (book-after (fed s ks) ps)) (after (map call-of ks) first)
 

@@ -1,20 +1,21 @@
 -- The machine: the public calls, listed once. They are the exported ones, and the block reader in document 01's own form, a struct that
 -- holds the image. Of each its parameters, its result as a machine value, and its outcome.
---   Known, Other      the calls that document 01's book knows, and the others
---   Public            all of them
+--   Known             the calls that document 01's book knows
+--   Public            all calls
+--   site-params       so many numbers, then links, numbers and order lent in one way, then what else is lent
 --   the-tables        links, numbers and order, as they are lent;   tables-then: the same on return, before what else is lent to be written
+--   on-tables         a function of numbers, tables and what else is lent, as one of what is passed
 --   ..-value          a result as the machine holds it
 --   a-reader          a reader as it is passed, and as it is given back: the image, lent to be read, and the number of the next block
---   Step-given        what a step of the reader gives: where its part of the image begins, how long it is, and the numbers
---   given-at          the step whose form for C is this answer, of an image at that place
+--   step-value        what a step of the reader gives, of an image at that place: the part of the image that its form for C tells of, and the numbers
 --   call              the call
 -- Definitions only.
 use mathlib.Core.Bool.{Bool}
 use mathlib.Core.List.{List, [], _∷_}
-use Prim.Native.Nat.{ℕ, _+_, _<_, _^_}
+use Prim.Native.Nat.{ℕ, zero, suc, _+_, _<_, _^_}
 use mir.Syntax.{w8, w16, w32, w64, tyInt, tyStruct, tcons, tnil}
-use mir.Val.{Val, vint, vstruct, vcons, vnil, ofZ}
-use Rattle.machine.specs.Cells.{Form, unsigned, signed, Param, by-value, to-read, to-write, to-read-with}
+use mir.Val.{Val, vint, vstruct, vcons, vnil, ofList, ofZ}
+use Rattle.machine.specs.Cells.{Form, unsigned, signed, Mode, to-read, to-write, Param, by-value, lent, lent-with}
 use Rattle.machine.specs.Cells.{Place, Lent, place, entries, Outputs, Of-inputs, pointer, passes, Call}
 use Rattle.mesh.specs.Tables.{Tables, tables}
 use Rattle.mesh.specs.declared.Node.{Node}
@@ -42,32 +43,29 @@ pub data Known : Type 0 where
   mark-remove : Known
   mark-return : Known
 
-pub data Other : Type 0 where
-  ask : (up : Bool) → Other
-  check : Other
-  number : Other
-  neighbours : Other
-  linked : Other
-  first : Other
-  later-of : Other
-  lift : Other
-  core : Other
-  backbone : Other
-  tree : Other
-  staircase : Other
-  image-write : Other
-  sheet : Other
-  script-length : Other
-  script-write : Other
-  image-block : Other
-  reader-open : Other
-  reader-step : Other
-  reader-moved : Other
-  version : Other
-
 pub data Public : Type 0 where
   of-book : Known → Public
-  any-other : Other → Public
+  ask : (up : Bool) → Public
+  check : Public
+  number : Public
+  neighbours : Public
+  linked : Public
+  first : Public
+  later-of : Public
+  lift : Public
+  core : Public
+  backbone : Public
+  tree : Public
+  staircase : Public
+  image-write : Public
+  sheet : Public
+  script-length : Public
+  script-write : Public
+  image-block : Public
+  reader-open : Public
+  reader-step : Public
+  reader-moved : Public
+  version : Public
 
 -- ---- parameters
 
@@ -81,15 +79,23 @@ words = unsigned w16
 abbrev pub a-number : Param
 a-number = by-value (unsigned w32)
 
--- links, numbers and order, lent all three in one way
-abbrev pub tables-lent : (lend : Form → Param) → List Param → List Param
-tables-lent lend ps = lend bytes ∷ lend bytes ∷ lend words ∷ ps
+abbrev pub site-params : (numbers : ℕ) → Mode → (others : List Param) → List Param
+site-params zero m ps = lent m bytes ∷ lent m bytes ∷ lent m words ∷ ps
+site-params (suc k) m ps = a-number ∷ site-params k m ps
 
 abbrev pub the-tables : (links numbers order : Lent ℕ) → Tables
 the-tables ls ns os = tables (entries ls) (entries ns) (entries os)
 
 abbrev pub tables-then : {X : Type 0} → Tables → X → List ℕ × (List ℕ × (List ℕ × X))
 tables-then t x = (t .links, (t .numbers, (t .order, x)))
+
+abbrev pub On-tables : (numbers : ℕ) → (others : List Param) → Type 0 → Type 0
+On-tables zero ps A = Tables → Of-inputs ps A
+On-tables (suc k) ps A = ℕ → On-tables k ps A
+
+abbrev pub on-tables : (k : ℕ) (m : Mode) (ps : List Param) (A : Type 0) → On-tables k ps A → Of-inputs (site-params k m ps) A
+on-tables zero m ps A f = λ ls ns os. f (the-tables ls ns os)
+on-tables (suc k) m ps A f = λ n. on-tables k m ps A (f n)
 
 -- ---- structs, as the machine holds them
 
@@ -110,37 +116,22 @@ reply-value r = vstruct (vcons (vint w32 (r .number)) (vcons (vint w8 (ofZ w8 (r
 abbrev pub value-value : Value → Val
 value-value r = vstruct (vcons (vint w32 (r .number)) (vcons (vint w32 (r .value)) vnil))
 
--- document 02, W-206
-abbrev pub later-value : Later → Val
-later-value r = vstruct (vcons (vint w32 (r .number)) (vcons (vint w32 (r .count)) (vcons (vint w32 (r .first)) vnil)))
-
--- document 02, W-212
-abbrev pub pair-value : Pair → Val
-pair-value r = vstruct (vcons (vint w32 (r .number)) (vcons (vint w32 (r .low)) (vcons (vint w32 (r .high)) vnil)))
+abbrev pub three-value : (x y z : ℕ) → Val
+three-value x y z = vstruct (vcons (vint w32 x) (vcons (vint w32 y) (vcons (vint w32 z) vnil)))
 
 abbrev pub block-value : Block → Val
 block-value r =
-    vstruct (vcons (vint w32 (r .number)) (vcons (vint w32 (r .end))
-    (vcons (vint w64 (r .offset)) (vcons (vint w64 (r .length)) (vcons (vint w64 (r .next)) vnil)))))
+    vstruct (ofList (vint w32 (r .number) ∷ vint w32 (r .end) ∷ vint w64 (r .offset) ∷ vint w64 (r .length) ∷ vint w64 (r .next) ∷ []))
 
 -- ---- the block reader
 
 abbrev pub a-reader : Param
-a-reader = to-read-with bytes (unsigned w64)
+a-reader = lent-with bytes (unsigned w64)
 
-pub record Step-given : Type 0 where
-  pub place : Place
-  pub length : ℕ
-  pub number : ℕ
-  pub end : ℕ
-  pub next : ℕ
-
-abbrev pub step-value : Step-given → Val
+abbrev pub step-value : Place × Block → Val
 step-value s =
-    vstruct (vcons (pointer (s .place) (s .length)) (vcons (vint w32 (s .number)) (vcons (vint w32 (s .end)) (vcons (vint w64 (s .next)) vnil))))
-
-abbrev pub given-at : Place → Block → Step-given
-given-at p o = record { place = (p .0, o .offset + p .1); length = o .length; number = o .number; end = o .end; next = o .next }
+    let part = pointer (s .0 .0, s .1 .offset + s .0 .1) (s .1 .length) in
+    vstruct (ofList (part ∷ vint w32 (s .1 .number) ∷ vint w32 (s .1 .end) ∷ vint w64 (s .1 .next) ∷ []))
 
 -- ---- the version
 
@@ -153,85 +144,62 @@ this-version = 1
 abbrev a-call : (ps : List Param) → {R : Type 0} → (R → Val) → Of-inputs ps (R × Outputs ps) → Call
 a-call ps {R} v o = record { params = ps; Result = R; value = v; outcome = o }
 
+abbrev site-call : (k : ℕ) (m : Mode) (ps : List Param) {R : Type 0} → (R → Val) → On-tables k ps (R × Outputs (site-params k m ps)) → Call
+site-call k m ps {R} v o = a-call (site-params k m ps) v (on-tables k m ps (R × Outputs (site-params k m ps)) o)
+
 -- a value, and entries in front of a list that is lent last
 abbrev listed : Listing → Value × (List ℕ × Unit {0})
 listed o = (o .reply, (o .lent, tt))
 
 -- document 01, with the calls of W-201, W-203, W-205, W-206, W-209, W-210, W-211, W-212 and W-213
 abbrev pub call : Public → Call
-call (of-book clear) =
-    a-call (a-number ∷ tables-lent to-write []) number-value
-    (λ n ls ns os. let o = clear-outcome n (the-tables ls ns os) in (o .reply, tables-then (o .tables) tt))
+call (of-book clear) = site-call 1 to-write [] number-value (λ n t. let o = clear-outcome n t in (o .reply, tables-then (o .tables) tt))
 call (of-book image-read) =
-    a-call (a-number ∷ tables-lent to-write (to-read bytes ∷ [])) number-value
-    (λ n ls ns os image. let o = read-outcome n (entries image) (the-tables ls ns os) in (o .reply, tables-then (o .tables) tt))
+    site-call 1 to-write (lent to-read bytes ∷ []) number-value
+    (λ n t image. let o = read-outcome n (entries image) t in (o .reply, tables-then (o .tables) tt))
 call (of-book (link up)) =
-    a-call (a-number ∷ a-number ∷ a-number ∷ tables-lent to-write (to-write words ∷ [])) reply-value
-    (λ n a b ls ns os answer. let o = link-outcome up n a b (the-tables ls ns os) (entries answer) in (o .reply, tables-then (o .tables) (o .answer, tt)))
+    site-call 3 to-write (lent to-write words ∷ []) reply-value
+    (λ n a b t answer. let o = link-outcome up n a b t (entries answer) in (o .reply, tables-then (o .tables) (o .answer, tt)))
 call (of-book (commit up)) =
-    a-call (a-number ∷ a-number ∷ a-number ∷ by-value (signed w8) ∷ tables-lent to-write (to-read words ∷ [])) reply-value
+    a-call (a-number ∷ a-number ∷ a-number ∷ by-value (signed w8) ∷ site-params 0 to-write (lent to-read words ∷ [])) reply-value
     (λ n a b step ls ns os list. let o = commit-outcome up n a b step (entries list) (the-tables ls ns os) in (o .reply, tables-then (o .tables) tt))
 call (of-book link-batch) =
-    a-call (a-number ∷ tables-lent to-write (to-read words ∷ [])) value-value
-    (λ n ls ns os list. let o = batch-outcome n (entries list) (the-tables ls ns os) in (o .reply, tables-then (o .tables) tt))
+    site-call 1 to-write (lent to-read words ∷ []) value-value
+    (λ n t list. let o = batch-outcome n (entries list) t in (o .reply, tables-then (o .tables) tt))
 call (of-book hear) =
-    a-call (a-number ∷ tables-lent to-write (to-read bytes ∷ to-write bytes ∷ [])) value-value
-    (λ n ls ns os heard further.
-    let o = hear-outcome n (entries heard) (the-tables ls ns os) (entries further) in (o .reply, tables-then (o .tables) (o .one-sided, tt)))
+    site-call 1 to-write (lent to-read bytes ∷ lent to-write bytes ∷ []) value-value
+    (λ n t heard further. let o = hear-outcome n (entries heard) t (entries further) in (o .reply, tables-then (o .tables) (o .one-sided, tt)))
 call (of-book mark-set) =
-    a-call (a-number ∷ tables-lent to-read (to-read bytes ∷ to-write bytes ∷ [])) number-value
-    (λ n ls ns os name store. let o = set-outcome n (entries name) (the-tables ls ns os) (entries store) in (o .reply, (o .store, tt)))
+    site-call 1 to-read (lent to-read bytes ∷ lent to-write bytes ∷ []) number-value
+    (λ n t name store. let o = set-outcome n (entries name) t (entries store) in (o .reply, (o .store, tt)))
 call (of-book mark-remove) =
-    a-call (a-number ∷ tables-lent to-read (to-read bytes ∷ to-write bytes ∷ [])) number-value
-    (λ n ls ns os name store. let o = remove-outcome n (entries name) (the-tables ls ns os) (entries store) in (o .reply, (o .store, tt)))
+    site-call 1 to-read (lent to-read bytes ∷ lent to-write bytes ∷ []) number-value
+    (λ n t name store. let o = remove-outcome n (entries name) t (entries store) in (o .reply, (o .store, tt)))
 call (of-book mark-return) =
-    a-call (a-number ∷ tables-lent to-write (to-read bytes ∷ to-read bytes ∷ [])) number-value
-    (λ n ls ns os name store.
-    let o = return-outcome n (entries name) (entries store) (the-tables ls ns os) in (o .reply, tables-then (o .tables) tt))
-call (any-other (ask up)) =
-    a-call (a-number ∷ a-number ∷ a-number ∷ tables-lent to-read (to-write words ∷ [])) reply-value
-    (λ n a b ls ns os answer. let o = ask-outcome up n a b (the-tables ls ns os) (entries answer) in (o .reply, (o .answer, tt)))
-call (any-other check) = a-call (a-number ∷ tables-lent to-read []) value-value (λ n ls ns os. (check-outcome n (the-tables ls ns os), tt))
-call (any-other number) =
-    a-call (a-number ∷ a-number ∷ tables-lent to-read []) value-value (λ n v ls ns os. (number-outcome n v (the-tables ls ns os), tt))
-call (any-other neighbours) =
-    a-call (a-number ∷ a-number ∷ tables-lent to-read []) value-value (λ n v ls ns os. (neighbours-outcome n v (the-tables ls ns os), tt))
-call (any-other linked) =
-    a-call (a-number ∷ a-number ∷ a-number ∷ tables-lent to-read []) value-value (λ n a b ls ns os. (linked-outcome n a b (the-tables ls ns os), tt))
-call (any-other first) =
-    a-call (a-number ∷ a-number ∷ a-number ∷ tables-lent to-read []) value-value (λ n a b ls ns os. (first-outcome n a b (the-tables ls ns os), tt))
-call (any-other later-of) =
-    a-call (a-number ∷ a-number ∷ tables-lent to-read []) later-value (λ n v ls ns os. (later-outcome n v (the-tables ls ns os), tt))
-call (any-other lift) =
-    a-call (a-number ∷ a-number ∷ tables-lent to-read []) pair-value (λ n v ls ns os. (lift-outcome n v (the-tables ls ns os), tt))
-call (any-other core) =
-    a-call (a-number ∷ a-number ∷ a-number ∷ tables-lent to-read (to-write words ∷ [])) value-value
-    (λ n v k ls ns os answer. listed (core-outcome n v k (the-tables ls ns os) (entries answer)))
-call (any-other backbone) =
-    a-call (a-number ∷ tables-lent to-read (to-write words ∷ [])) value-value
-    (λ n ls ns os answer. listed (backbone-outcome n (the-tables ls ns os) (entries answer)))
-call (any-other tree) =
-    a-call (a-number ∷ tables-lent to-read (to-write nodes ∷ to-write words ∷ [])) value-value
-    (λ n ls ns os list answer. let o = tree-outcome n (the-tables ls ns os) (entries list) (entries answer) in (o .reply, (o .nodes, (o .answer, tt))))
-call (any-other staircase) =
-    a-call (a-number ∷ tables-lent to-read (to-write words ∷ [])) value-value
-    (λ n ls ns os table. listed (staircase-outcome n (the-tables ls ns os) (entries table)))
-call (any-other image-write) =
-    a-call (a-number ∷ tables-lent to-read (to-write bytes ∷ [])) value-value
-    (λ n ls ns os buffer. listed (write-outcome n (the-tables ls ns os) (entries buffer)))
-call (any-other sheet) =
-    a-call (a-number ∷ tables-lent to-read (to-write bytes ∷ [])) value-value
-    (λ n ls ns os page. listed (sheet-outcome n (the-tables ls ns os) (entries page)))
-call (any-other script-length) =
-    a-call (a-number ∷ tables-lent to-read []) value-value (λ n ls ns os. (script-length-outcome n (the-tables ls ns os), tt))
-call (any-other script-write) =
-    a-call (a-number ∷ tables-lent to-read (to-write bytes ∷ [])) value-value
-    (λ n ls ns os text. listed (script-outcome n (the-tables ls ns os) (entries text)))
-call (any-other image-block) =
-    a-call (to-read bytes ∷ by-value (unsigned w64) ∷ []) block-value (λ image i. (block-outcome (entries image) i, tt))
-call (any-other reader-open) = a-call (to-read bytes ∷ []) (passes a-reader) (λ image. ((image, 0), tt))
-call (any-other reader-step) =
-    a-call (a-reader ∷ []) step-value (λ r. (given-at (place (r .0)) (block-outcome (entries (r .0)) (r .1)), tt))
-call (any-other reader-moved) =
-    a-call (a-reader ∷ []) (passes a-reader) (λ r. ((r .0, block-outcome (entries (r .0)) (r .1) .next), tt))
-call (any-other version) = a-call [] number-value (this-version, tt)
+    site-call 1 to-write (lent to-read bytes ∷ lent to-read bytes ∷ []) number-value
+    (λ n t name store. let o = return-outcome n (entries name) (entries store) t in (o .reply, tables-then (o .tables) tt))
+call (ask up) =
+    site-call 3 to-read (lent to-write words ∷ []) reply-value
+    (λ n a b t answer. let o = ask-outcome up n a b t (entries answer) in (o .reply, (o .answer, tt)))
+call check = site-call 1 to-read [] value-value (λ n t. (check-outcome n t, tt))
+call number = site-call 2 to-read [] value-value (λ n v t. (number-outcome n v t, tt))
+call neighbours = site-call 2 to-read [] value-value (λ n v t. (neighbours-outcome n v t, tt))
+call linked = site-call 3 to-read [] value-value (λ n a b t. (linked-outcome n a b t, tt))
+call first = site-call 3 to-read [] value-value (λ n a b t. (first-outcome n a b t, tt))
+call later-of = site-call 2 to-read [] (λ (r : Later). three-value (r .number) (r .count) (r .first)) (λ n v t. (later-outcome n v t, tt))
+call lift = site-call 2 to-read [] (λ (r : Pair). three-value (r .number) (r .low) (r .high)) (λ n v t. (lift-outcome n v t, tt))
+call core = site-call 3 to-read (lent to-write words ∷ []) value-value (λ n v k t answer. listed (core-outcome n v k t (entries answer)))
+call backbone = site-call 1 to-read (lent to-write words ∷ []) value-value (λ n t answer. listed (backbone-outcome n t (entries answer)))
+call tree =
+    site-call 1 to-read (lent to-write nodes ∷ lent to-write words ∷ []) value-value
+    (λ n t list answer. let o = tree-outcome n t (entries list) (entries answer) in (o .reply, (o .nodes, (o .answer, tt))))
+call staircase = site-call 1 to-read (lent to-write words ∷ []) value-value (λ n t table. listed (staircase-outcome n t (entries table)))
+call image-write = site-call 1 to-read (lent to-write bytes ∷ []) value-value (λ n t buffer. listed (write-outcome n t (entries buffer)))
+call sheet = site-call 1 to-read (lent to-write bytes ∷ []) value-value (λ n t page. listed (sheet-outcome n t (entries page)))
+call script-length = site-call 1 to-read [] value-value (λ n t. (script-length-outcome n t, tt))
+call script-write = site-call 1 to-read (lent to-write bytes ∷ []) value-value (λ n t text. listed (script-outcome n t (entries text)))
+call image-block = a-call (lent to-read bytes ∷ by-value (unsigned w64) ∷ []) block-value (λ image i. (block-outcome (entries image) i, tt))
+call reader-open = a-call (lent to-read bytes ∷ []) (passes a-reader) (λ image. ((image, 0), tt))
+call reader-step = a-call (a-reader ∷ []) step-value (λ r. ((place (r .0), block-outcome (entries (r .0)) (r .1)), tt))
+call reader-moved = a-call (a-reader ∷ []) (passes a-reader) (λ r. ((r .0, block-outcome (entries (r .0)) (r .1) .next), tt))
+call version = a-call [] number-value (this-version, tt)

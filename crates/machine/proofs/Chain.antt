@@ -132,6 +132,9 @@ cell-entry : (X : Option Block) (i : ℕ) (c : Cell) → bind X (λ x. getElem? 
 cell-entry none i c h = absurd (none-some h)
 cell-entry (some e) i c h = (e, refl)
 
+pub cell-below : (σ : Memory) (b i : ℕ) (c : Cell) → cell-at σ b i ≡ some c → b < length σ
+cell-below σ b i c h = let e = cell-entry (entryAt σ b) i c h in entry-below σ b (e .0) (e .1)
+
 pub cell-kept : (σ μ : Memory) (b i : ℕ) (c : Cell) → cell-at σ b i ≡ some c → cell-at (σ ++ μ) b i ≡ some c
 cell-kept σ μ b i c h =
     let e = cell-entry (entryAt σ b) i c h in

@@ -32,13 +32,14 @@ use denote.Triple.Spec.{Spec, Back, Meets, tripleOf, exits}
 use denote.Triple.Adequate.{adequate}
 use denote.Steps.{only}
 use Rattle.machine.specs.Cells.{Inputs, Outputs, Of-inputs, of-inputs, outcome-of, Ready, Call, Ran, Runs, Stands, Span, All}
-use Rattle.machine.specs.Cells.{All-held, Left-held, Same-lengths, writes, written, passed}
+use Rattle.machine.specs.Cells.{All-held, All-good, left, after-call, writes, passed}
 use Rattle.machine.proofs.Whole.{𝓥, own-all, whole, run-of, else-of, blocks-of}
 use Rattle.machine.proofs.Heap.{owned, shared, lie, parts-of, rest}
 use Rattle.machine.proofs.Rows.{form, A₀, W₀, ⟦_⟧, both-facts, row-cells, cells-out, cells-held}
 use Rattle.machine.proofs.Lending.{Lending, by-value, to-read, to-write, to-read-with, params, slots, Nums, made, fulls, alive, over, begin, end}
 use Rattle.machine.proofs.Lending.{Names, lents, stoods, args, values, asides, inputs, outputs, wrotes, inputs-are, outputs-are, passed-are}
 use Rattle.machine.proofs.Lending.{lend, back, lents-in}
+use Rattle.machine.proofs.Left.{Left-held, Same-lengths, lengths-left, good-left}
 
 -- a result of the logic, whose one machine value is this
 pub record Answer : Type 2 where
@@ -60,7 +61,7 @@ plainly n R = record { row = λ _. R .row; Result = R .row .Denot; told = λ _ x
 -- ---- what stands after the call
 
 stoods-lie : {n : ℕ} (ps : List (Lending n)) (i : Inputs (params ps)) (o : Outputs (params ps))
-    → ent 𝓥 (stoods ps i o) (lie 𝓥 Closed.ι (written (params ps) i o))
+    → ent 𝓥 (stoods ps i o) (lie 𝓥 Closed.ι (writes (params ps) (left (params ps) i o)))
 stoods-lie [] i o = id⊢ 𝓥 (emp 𝓥)
 stoods-lie (by-value R ∷ ps) i o = stoods-lie ps (i .1) o
 stoods-lie (to-read j ok R ∷ ps) i o = stoods-lie ps (i .1) o
@@ -207,17 +208,19 @@ module _ (n : ℕ) (ps : List (Lending n)) (R : Told n) (routine : Routine) (con
             let at-end : (R .told κs r, o) ≡ outcome-of the-call i =
             subst (λ (y : Outputs (params ps)). (R .told κs r, y) ≡ outcome-of the-call i) (outputs-are κs ps a ws)
             (subst (λ (x : Inputs (params ps)). (R .told κs r, outputs κs ps seen) ≡ outcome-of the-call x) (inputs-are κs ps i γs) (is κs a r seen says)) in
+            let kept = blocks-of (alignsOf σ) σ (kept-any σ) (writes (params ps) i) σ′ P to-kept s in
             record {
               steps = steps;
               memory = σ′;
               returns = subst (λ (y : Out). routine .step steps (passed (params ps) i) σ ≡ done (R .machine (y .0), σ′)) at-end
                   (subst (λ (u : Val). routine .step steps (passed (params ps) i) σ ≡ done (u, σ′)) (ap only e) run);
-              lengths = subst (λ (y : Out). Same-lengths (params ps) i (y .1)) at-end long;
-              held = subst (λ (y : Out). Left-held (params ps) (y .1)) at-end held;
-              stand = subst (λ (y : Out). All (Stands σ′) (written (params ps) i (y .1))) at-end
-                  (all-stand σ′ (written (params ps) i o) P (via 𝓥 B (fst∗ 𝓥 B (sep 𝓥 (Shown v r) Kept-back)) (stoods-lie ps i o)) s);
+              lengths = subst (λ (y : Out). passed (params ps) (left (params ps) i (y .1)) ≡ passed (params ps) i) at-end (lengths-left (params ps) i o long);
+              good = subst (λ (y : Out). All-good σ′ (params ps) (left (params ps) i (y .1))) at-end
+                  (good-left σ σ′ kept (params ps) i o (ready .good) long held);
+              stand = subst (λ (y : Out). All (Stands σ′) (writes (params ps) (left (params ps) i (y .1)))) at-end
+                  (all-stand σ′ (writes (params ps) (left (params ps) i o)) P (via 𝓥 B (fst∗ 𝓥 B (sep 𝓥 (Shown v r) Kept-back)) (stoods-lie ps i o)) s);
               else-kept = else-of (alignsOf σ) σ (kept-any σ) (writes (params ps) i) σ′ P to-kept s;
-              blocks-kept = blocks-of (alignsOf σ) σ (kept-any σ) (writes (params ps) i) σ′ P to-kept s;
+              blocks-kept = kept;
             })))
 
         -- the lifetimes are over

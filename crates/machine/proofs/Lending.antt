@@ -55,9 +55,9 @@ pub data Lending (n : ℕ) : Type 2 where
 
 abbrev pub param : {n : ℕ} → Lending n → Param
 param (by-value R) = machine.Param.by-value (form R)
-param (to-read j ok R) = machine.Param.to-read (form R)
-param (to-write j ok R) = machine.Param.to-write (form R)
-param (to-read-with j ok R S T) = machine.Param.to-read-with (form R) (form S)
+param (to-read j ok R) = machine.Param.lent machine.Mode.to-read (form R)
+param (to-write j ok R) = machine.Param.lent machine.Mode.to-write (form R)
+param (to-read-with j ok R S T) = machine.Param.lent-with (form R) (form S)
 
 abbrev pub params : {n : ℕ} → List (Lending n) → List Param
 params [] = []

@@ -14,9 +14,9 @@ use prog.Machine.{done}
 use prog.Routine.{Routine, ends-one}
 use mir.Val.{Val}
 use store.Seg.{seg, seg-nth}
-use Rattle.machine.specs.Cells.{Form, Param, by-value, to-read, to-write, to-read-with, Inputs, Span, Stands, Apart, All, All-apart, All-good, Aligned}
+use Rattle.machine.specs.Cells.{Form, Param, by-value, lent, lent-with, to-read, to-write, Inputs, Span, Stands, Apart, All, All-apart, All-good, Aligned}
 use Rattle.machine.specs.Cells.{reads, writes, cells-of, span, Ready, Call, Ran, Runs, passed, outcome-of}
-use Rattle.machine.specs.Made.{Givens, Fitting, blocks, placed}
+use Rattle.machine.specs.Made.{Fitting, blocks, placed}
 use Rattle.machine.proofs.Heap.{run-out}
 
 -- from block k on the memory has these
@@ -51,30 +51,30 @@ begins σ F k (x ∷ xs)
     both true t p q = q
     both false t p q = absurd p
 
-pub reads-stand : (σ : Memory) (k : ℕ) (ps : List Param) (g : Givens ps) → From σ k (blocks ps g) → All (Stands σ) (reads ps (placed k ps g))
+pub reads-stand : (σ : Memory) (k : ℕ) (ps : List Param) (g : Inputs ps) → From σ k (blocks ps g) → All (Stands σ) (reads ps (placed k ps g))
 unfolding From
 reads-stand σ k [] g h = tt
 reads-stand σ k (by-value F ∷ ps) g h = reads-stand σ k ps (g .1) h
-reads-stand σ k (to-read F ∷ ps) g h = (stands σ k (align (F .ty)) (cells-of F (g .0)) (h .0), reads-stand σ (suc k) ps (g .1) (h .1))
-reads-stand σ k (to-write F ∷ ps) g h = reads-stand σ (suc k) ps (g .1) (h .1)
-reads-stand σ k (to-read-with F G ∷ ps) g h = (stands σ k (align (F .ty)) (cells-of F (g .0 .0)) (h .0), reads-stand σ (suc k) ps (g .1) (h .1))
+reads-stand σ k (lent to-read F ∷ ps) g h = (stands σ k (align (F .ty)) (cells-of F (g .0 .1)) (h .0), reads-stand σ (suc k) ps (g .1) (h .1))
+reads-stand σ k (lent to-write F ∷ ps) g h = reads-stand σ (suc k) ps (g .1) (h .1)
+reads-stand σ k (lent-with F G ∷ ps) g h = (stands σ k (align (F .ty)) (cells-of F (g .0 .0 .1)) (h .0), reads-stand σ (suc k) ps (g .1) (h .1))
 
-pub writes-stand : (σ : Memory) (k : ℕ) (ps : List Param) (g : Givens ps) → From σ k (blocks ps g) → All (Stands σ) (writes ps (placed k ps g))
+pub writes-stand : (σ : Memory) (k : ℕ) (ps : List Param) (g : Inputs ps) → From σ k (blocks ps g) → All (Stands σ) (writes ps (placed k ps g))
 unfolding From
 writes-stand σ k [] g h = tt
 writes-stand σ k (by-value F ∷ ps) g h = writes-stand σ k ps (g .1) h
-writes-stand σ k (to-read F ∷ ps) g h = writes-stand σ (suc k) ps (g .1) (h .1)
-writes-stand σ k (to-write F ∷ ps) g h = (stands σ k (align (F .ty)) (cells-of F (g .0)) (h .0), writes-stand σ (suc k) ps (g .1) (h .1))
-writes-stand σ k (to-read-with F G ∷ ps) g h = writes-stand σ (suc k) ps (g .1) (h .1)
+writes-stand σ k (lent to-read F ∷ ps) g h = writes-stand σ (suc k) ps (g .1) (h .1)
+writes-stand σ k (lent to-write F ∷ ps) g h = (stands σ k (align (F .ty)) (cells-of F (g .0 .1)) (h .0), writes-stand σ (suc k) ps (g .1) (h .1))
+writes-stand σ k (lent-with F G ∷ ps) g h = writes-stand σ (suc k) ps (g .1) (h .1)
 
-pub good : (σ : Memory) (k : ℕ) (ps : List Param) (g : Givens ps) → Fitting ps g → From σ k (blocks ps g) → All-good σ ps (placed k ps g)
+pub good : (σ : Memory) (k : ℕ) (ps : List Param) (g : Inputs ps) → Fitting ps g → From σ k (blocks ps g) → All-good σ ps (placed k ps g)
 unfolding From
 good σ k [] g f h = tt
 good σ k (by-value F ∷ ps) g f h = (f .0, good σ k ps (g .1) (f .1) h)
-good σ k (to-read F ∷ ps) g f h = ((f .0 .0, begins σ F k (g .0) (h .0), f .0 .1), good σ (suc k) ps (g .1) (f .1) (h .1))
-good σ k (to-write F ∷ ps) g f h = ((f .0 .0, begins σ F k (g .0) (h .0), f .0 .1), good σ (suc k) ps (g .1) (f .1) (h .1))
-good σ k (to-read-with F G ∷ ps) g f h =
-    (((f .0 .0 .0, begins σ F k (g .0 .0) (h .0), f .0 .0 .1), f .0 .1), good σ (suc k) ps (g .1) (f .1) (h .1))
+good σ k (lent to-read F ∷ ps) g f h = ((f .0 .0, begins σ F k (g .0 .1) (h .0), f .0 .1), good σ (suc k) ps (g .1) (f .1) (h .1))
+good σ k (lent to-write F ∷ ps) g f h = ((f .0 .0, begins σ F k (g .0 .1) (h .0), f .0 .1), good σ (suc k) ps (g .1) (f .1) (h .1))
+good σ k (lent-with F G ∷ ps) g f h =
+    (((f .0 .0 .0, begins σ F k (g .0 .0 .1) (h .0), f .0 .0 .1), f .0 .1), good σ (suc k) ps (g .1) (f .1) (h .1))
 
 -- ---- blocks are numbered upwards
 
@@ -86,21 +86,21 @@ unfolding Above
 above-less k [] h = tt
 above-less k (s ∷ ss) h = (omega (arith, h .0), above-less k ss (h .1))
 
-pub reads-above : (k : ℕ) (ps : List Param) (g : Givens ps) → Above k (reads ps (placed k ps g))
+pub reads-above : (k : ℕ) (ps : List Param) (g : Inputs ps) → Above k (reads ps (placed k ps g))
 unfolding Above
 reads-above k [] g = tt
 reads-above k (by-value F ∷ ps) g = reads-above k ps (g .1)
-reads-above k (to-read F ∷ ps) g = (omega arith, above-less k (reads ps (placed (suc k) ps (g .1))) (reads-above (suc k) ps (g .1)))
-reads-above k (to-write F ∷ ps) g = above-less k (reads ps (placed (suc k) ps (g .1))) (reads-above (suc k) ps (g .1))
-reads-above k (to-read-with F G ∷ ps) g = (omega arith, above-less k (reads ps (placed (suc k) ps (g .1))) (reads-above (suc k) ps (g .1)))
+reads-above k (lent to-read F ∷ ps) g = (omega arith, above-less k (reads ps (placed (suc k) ps (g .1))) (reads-above (suc k) ps (g .1)))
+reads-above k (lent to-write F ∷ ps) g = above-less k (reads ps (placed (suc k) ps (g .1))) (reads-above (suc k) ps (g .1))
+reads-above k (lent-with F G ∷ ps) g = (omega arith, above-less k (reads ps (placed (suc k) ps (g .1))) (reads-above (suc k) ps (g .1)))
 
-pub writes-above : (k : ℕ) (ps : List Param) (g : Givens ps) → Above k (writes ps (placed k ps g))
+pub writes-above : (k : ℕ) (ps : List Param) (g : Inputs ps) → Above k (writes ps (placed k ps g))
 unfolding Above
 writes-above k [] g = tt
 writes-above k (by-value F ∷ ps) g = writes-above k ps (g .1)
-writes-above k (to-read F ∷ ps) g = above-less k (writes ps (placed (suc k) ps (g .1))) (writes-above (suc k) ps (g .1))
-writes-above k (to-write F ∷ ps) g = (omega arith, above-less k (writes ps (placed (suc k) ps (g .1))) (writes-above (suc k) ps (g .1)))
-writes-above k (to-read-with F G ∷ ps) g = above-less k (writes ps (placed (suc k) ps (g .1))) (writes-above (suc k) ps (g .1))
+writes-above k (lent to-read F ∷ ps) g = above-less k (writes ps (placed (suc k) ps (g .1))) (writes-above (suc k) ps (g .1))
+writes-above k (lent to-write F ∷ ps) g = (omega arith, above-less k (writes ps (placed (suc k) ps (g .1))) (writes-above (suc k) ps (g .1)))
+writes-above k (lent-with F G ∷ ps) g = above-less k (writes ps (placed (suc k) ps (g .1))) (writes-above (suc k) ps (g .1))
 
 apart-of : (s t : Span) → suc (s .0) ≤ t .0 → Apart s t
 apart-of s t h b i x y = omega (arith, h, x .0, y .0)
@@ -116,26 +116,26 @@ unfolding Above
 one-more t [] ws h a = tt
 one-more t (r ∷ rs) ws h a = ((λ b i x y. apart-of t r (h .0) b i y x, a .0), one-more t rs ws (h .1) (a .1))
 
-pub reads-apart : (k : ℕ) (ps : List Param) (g : Givens ps) → All (λ s. All (Apart s) (writes ps (placed k ps g))) (reads ps (placed k ps g))
+pub reads-apart : (k : ℕ) (ps : List Param) (g : Inputs ps) → All (λ s. All (Apart s) (writes ps (placed k ps g))) (reads ps (placed k ps g))
 reads-apart k [] g = tt
 reads-apart k (by-value F ∷ ps) g = reads-apart k ps (g .1)
-reads-apart k (to-read F ∷ ps)
-    g = (apart-all (span F (k, 0) (g .0)) (writes ps (placed (suc k) ps (g .1))) (writes-above (suc k) ps (g .1)), reads-apart (suc k) ps (g .1))
-reads-apart k (to-write F ∷ ps) g =
-    one-more (span F (k, 0) (g .0)) (reads ps (placed (suc k) ps (g .1))) (writes ps (placed (suc k) ps (g .1))) (reads-above (suc k) ps (g .1))
+reads-apart k (lent to-read F ∷ ps)
+    g = (apart-all (span F (k, 0) (g .0 .1)) (writes ps (placed (suc k) ps (g .1))) (writes-above (suc k) ps (g .1)), reads-apart (suc k) ps (g .1))
+reads-apart k (lent to-write F ∷ ps) g =
+    one-more (span F (k, 0) (g .0 .1)) (reads ps (placed (suc k) ps (g .1))) (writes ps (placed (suc k) ps (g .1))) (reads-above (suc k) ps (g .1))
     (reads-apart (suc k) ps (g .1))
-reads-apart k (to-read-with F G ∷ ps) g =
-    (apart-all (span F (k, 0) (g .0 .0)) (writes ps (placed (suc k) ps (g .1))) (writes-above (suc k) ps (g .1)), reads-apart (suc k) ps (g .1))
+reads-apart k (lent-with F G ∷ ps) g =
+    (apart-all (span F (k, 0) (g .0 .0 .1)) (writes ps (placed (suc k) ps (g .1))) (writes-above (suc k) ps (g .1)), reads-apart (suc k) ps (g .1))
 
-pub writes-apart : (k : ℕ) (ps : List Param) (g : Givens ps) → All-apart (writes ps (placed k ps g))
+pub writes-apart : (k : ℕ) (ps : List Param) (g : Inputs ps) → All-apart (writes ps (placed k ps g))
 writes-apart k [] g = tt
 writes-apart k (by-value F ∷ ps) g = writes-apart k ps (g .1)
-writes-apart k (to-read F ∷ ps) g = writes-apart (suc k) ps (g .1)
-writes-apart k (to-write F ∷ ps)
-    g = (apart-all (span F (k, 0) (g .0)) (writes ps (placed (suc k) ps (g .1))) (writes-above (suc k) ps (g .1)), writes-apart (suc k) ps (g .1))
-writes-apart k (to-read-with F G ∷ ps) g = writes-apart (suc k) ps (g .1)
+writes-apart k (lent to-read F ∷ ps) g = writes-apart (suc k) ps (g .1)
+writes-apart k (lent to-write F ∷ ps)
+    g = (apart-all (span F (k, 0) (g .0 .1)) (writes ps (placed (suc k) ps (g .1))) (writes-above (suc k) ps (g .1)), writes-apart (suc k) ps (g .1))
+writes-apart k (lent-with F G ∷ ps) g = writes-apart (suc k) ps (g .1)
 
-pub made-ready : (ps : List Param) (g : Givens ps) → Fitting ps g → Ready (blocks ps g) ps (placed 0 ps g)
+pub made-ready : (ps : List Param) (g : Inputs ps) → Fitting ps g → Ready (blocks ps g) ps (placed 0 ps g)
 made-ready ps g f = record {
   reads-stand = reads-stand (blocks ps g) 0 ps g (from-all (blocks ps g));
   writes-stand = writes-stand (blocks ps g) 0 ps g (from-all (blocks ps g));
@@ -145,7 +145,7 @@ made-ready ps g f = record {
 }
 
 -- so a call that runs from every ready memory runs from the one that is made for it
-pub made-runs : (ρ : Routine) (C : Call) → Runs ρ C → (g : Givens (C .params)) → Fitting (C .params) g
+pub made-runs : (ρ : Routine) (C : Call) → Runs ρ C → (g : Inputs (C .params)) → Fitting (C .params) g
     → ∥ Ran ρ C (blocks (C .params) g) (placed 0 (C .params) g) ∥₁
 made-runs ρ C runs g f = runs (blocks (C .params) g) (placed 0 (C .params) g) (made-ready (C .params) g f)
 

@@ -1,22 +1,23 @@
 -- The machine: a call in cells of its memory. Nothing of the program logic is cited here.
 --   Form              how the values of a type are passed and stored: the machine's type, the machine's value of each, and which it can hold
 --   unsigned, signed  the forms of the unsigned and the signed integers
---   Param             a parameter: a value, a list that is lent to be read, a list that is lent to be written, a struct of a list that is
---                     lent to be read and a value
+--   Mode              whether a list is lent to be read or to be written
+--   Param             a parameter: a value, a list that is lent, a struct of a list that is lent to be read and a value
 --   Inputs, Outputs   what is passed, a place and a list for each lent one; and the lists on return, for each that is lent to be written
+--   left              what was passed, with these lists in place of the ones that were lent to be written
 --   Of-inputs         a function of what is passed that takes the parameters one by one, by name;   of-inputs: its value
 --   passed            the machine's values for what is passed: a lent list as its pointer and its length, and these beside the value in a
 --                     struct that holds both
 --   cells-of          a list as cells, by the machine's own encoding of an array
---   Span              cells side by side: block, offset, cells;   reads, writes: those of what is lent, to be read and to be written;
---                     written: those at the same places on return
+--   Span              cells side by side: block, offset, cells;   reads, writes: those of what is lent, to be read and to be written
 --   Ready             a memory from which a call may be made: each span stands in it; no span that is lent to be written has a cell in
 --                     common with another; each list is aligned as its entries are; each entry and each number is one that its type
 --                     holds; no list is longer than an address can say
---   Call              a call: its parameters, its results as machine values, and its outcome, worked out from what is passed
---   Ran               after so many steps the routine is done; its value is the outcome's; each span that was lent to be written stands
---                     with the outcome's cells, as many entries as there were, each one that its type holds; every other cell of the
---                     memory, and each block's length and alignment, is as it was
+--   Call              a call: its parameters, its results as machine values, and its outcome, worked out from what is passed;
+--                     after-call: what was passed, as it is on return
+--   Ran               after so many steps the routine is done; its value is the outcome's; each list that was lent to be written stands
+--                     with the outcome's entries, where it was and as long as it was, each entry one that its type holds; every other
+--                     cell of the memory, and each block's length and alignment, is as it was
 --   Runs              from every memory that is ready the routine runs so
 -- Definitions only.
 use mathlib.Core.Path.{_≡_}
@@ -50,11 +51,14 @@ signed w = record { Value = ℤ; ty = tyInt w; machine = λ z. vint w (ofZ w z);
 
 -- ---- parameters
 
+pub data Mode : Type 0 where
+  to-read : Mode
+  to-write : Mode
+
 pub data Param : Type 1 where
   by-value : Form → Param
-  to-read : Form → Param
-  to-write : Form → Param
-  to-read-with : Form → Form → Param
+  lent : Mode → Form → Param
+  lent-with : Form → Form → Param
 
 -- a block and an offset in it
 abbrev pub Place : Type 0
@@ -72,9 +76,8 @@ entries x = x .1
 
 abbrev pub Input : Param → Type 0
 Input (by-value F) = F .Value
-Input (to-read F) = Lent (F .Value)
-Input (to-write F) = Lent (F .Value)
-Input (to-read-with F G) = Lent (F .Value) × G .Value
+Input (lent m F) = Lent (F .Value)
+Input (lent-with F G) = Lent (F .Value) × G .Value
 
 abbrev pub Inputs : List Param → Type 0
 Inputs [] = Unit {0}
@@ -83,9 +86,16 @@ Inputs (p ∷ ps) = Input p × Inputs ps
 abbrev pub Outputs : List Param → Type 0
 Outputs [] = Unit {0}
 Outputs (by-value F ∷ ps) = Outputs ps
-Outputs (to-read F ∷ ps) = Outputs ps
-Outputs (to-write F ∷ ps) = List (F .Value) × Outputs ps
-Outputs (to-read-with F G ∷ ps) = Outputs ps
+Outputs (lent to-read F ∷ ps) = Outputs ps
+Outputs (lent to-write F ∷ ps) = List (F .Value) × Outputs ps
+Outputs (lent-with F G ∷ ps) = Outputs ps
+
+abbrev pub left : (ps : List Param) → Inputs ps → Outputs ps → Inputs ps
+left [] i o = tt
+left (by-value F ∷ ps) i o = (i .0, left ps (i .1) o)
+left (lent to-read F ∷ ps) i o = (i .0, left ps (i .1) o)
+left (lent to-write F ∷ ps) i o = ((i .0 .0, o .0), left ps (i .1) (o .1))
+left (lent-with F G ∷ ps) i o = (i .0, left ps (i .1) o)
 
 -- a function of what is passed, and its value
 abbrev pub Of-inputs : List Param → Type 0 → Type 0
@@ -102,9 +112,8 @@ pointer p n = vstruct (vcons (vptr (p .0) (p .1)) (vcons (vint w64 n) vnil))
 
 abbrev pub passes : (p : Param) → Input p → Val
 passes (by-value F) x = F .machine x
-passes (to-read F) x = pointer (x .0) (length (x .1))
-passes (to-write F) x = pointer (x .0) (length (x .1))
-passes (to-read-with F G) x = vstruct (vcons (pointer (x .0 .0) (length (x .0 .1))) (vcons (G .machine (x .1)) vnil))
+passes (lent m F) x = pointer (x .0) (length (x .1))
+passes (lent-with F G) x = vstruct (vcons (pointer (x .0 .0) (length (x .0 .1))) (vcons (G .machine (x .1)) vnil))
 
 abbrev pub passed : (ps : List Param) → Inputs ps → List Val
 passed [] i = []
@@ -138,9 +147,9 @@ Has s b i = (s .0 ≡ b) × (s .1 ≤ i) × (i < s .1 + length (s .2))
 abbrev pub Apart : Span → Span → Type 0
 Apart s t = (b i : ℕ) → Has s b i → Has t b i → ⊥
 
-abbrev pub All : (Span → Type 0) → List Span → Type 0
+abbrev pub All : {A : Type 0} → (A → Type 0) → List A → Type 0
 All P [] = Unit {0}
-All P (s ∷ ss) = P s × All P ss
+All P (x ∷ xs) = P x × All P xs
 
 abbrev pub All-apart : List Span → Type 0
 All-apart [] = Unit {0}
@@ -154,44 +163,21 @@ span F p xs = (p .0, p .1, cells-of F xs)
 abbrev pub reads : (ps : List Param) → Inputs ps → List Span
 reads [] i = []
 reads (by-value F ∷ ps) i = reads ps (i .1)
-reads (to-read F ∷ ps) i = span F (i .0 .0) (i .0 .1) ∷ reads ps (i .1)
-reads (to-write F ∷ ps) i = reads ps (i .1)
-reads (to-read-with F G ∷ ps) i = span F (i .0 .0 .0) (i .0 .0 .1) ∷ reads ps (i .1)
+reads (lent to-read F ∷ ps) i = span F (i .0 .0) (i .0 .1) ∷ reads ps (i .1)
+reads (lent to-write F ∷ ps) i = reads ps (i .1)
+reads (lent-with F G ∷ ps) i = span F (i .0 .0 .0) (i .0 .0 .1) ∷ reads ps (i .1)
 
 abbrev pub writes : (ps : List Param) → Inputs ps → List Span
 writes [] i = []
 writes (by-value F ∷ ps) i = writes ps (i .1)
-writes (to-read F ∷ ps) i = writes ps (i .1)
-writes (to-write F ∷ ps) i = span F (i .0 .0) (i .0 .1) ∷ writes ps (i .1)
-writes (to-read-with F G ∷ ps) i = writes ps (i .1)
-
--- at the same places, with the new entries
-abbrev pub written : (ps : List Param) → Inputs ps → Outputs ps → List Span
-written [] i o = []
-written (by-value F ∷ ps) i o = written ps (i .1) o
-written (to-read F ∷ ps) i o = written ps (i .1) o
-written (to-write F ∷ ps) i o = span F (i .0 .0) (o .0) ∷ written ps (i .1) (o .1)
-written (to-read-with F G ∷ ps) i o = written ps (i .1) o
-
--- as many entries as were lent
-abbrev pub Same-lengths : (ps : List Param) → Inputs ps → Outputs ps → Type 0
-Same-lengths [] i o = Unit {0}
-Same-lengths (by-value F ∷ ps) i o = Same-lengths ps (i .1) o
-Same-lengths (to-read F ∷ ps) i o = Same-lengths ps (i .1) o
-Same-lengths (to-write F ∷ ps) i o = (length (o .0) ≡ length (i .0 .1)) × Same-lengths ps (i .1) (o .1)
-Same-lengths (to-read-with F G ∷ ps) i o = Same-lengths ps (i .1) o
+writes (lent to-read F ∷ ps) i = writes ps (i .1)
+writes (lent to-write F ∷ ps) i = span F (i .0 .0) (i .0 .1) ∷ writes ps (i .1)
+writes (lent-with F G ∷ ps) i = writes ps (i .1)
 
 -- each entry is one that its type holds
 abbrev pub All-held : (F : Form) → List (F .Value) → Type 0
 All-held F [] = Unit {0}
 All-held F (x ∷ xs) = F .Holds x × All-held F xs
-
-abbrev pub Left-held : (ps : List Param) → Outputs ps → Type 0
-Left-held [] o = Unit {0}
-Left-held (by-value F ∷ ps) o = Left-held ps o
-Left-held (to-read F ∷ ps) o = Left-held ps o
-Left-held (to-write F ∷ ps) o = All-held F (o .0) × Left-held ps (o .1)
-Left-held (to-read-with F G ∷ ps) o = Left-held ps o
 
 -- ---- before the call
 
@@ -209,9 +195,8 @@ Good-list σ F p xs = All-held F xs × Aligned σ (F .ty) p xs × Sized (F .ty) 
 
 abbrev pub Good : Memory → (p : Param) → Input p → Type 0
 Good σ (by-value F) x = F .Holds x
-Good σ (to-read F) x = Good-list σ F (x .0) (x .1)
-Good σ (to-write F) x = Good-list σ F (x .0) (x .1)
-Good σ (to-read-with F G) x = Good-list σ F (x .0 .0) (x .0 .1) × G .Holds (x .1)
+Good σ (lent m F) x = Good-list σ F (x .0) (x .1)
+Good σ (lent-with F G) x = Good-list σ F (x .0 .0) (x .0 .1) × G .Holds (x .1)
 
 abbrev pub All-good : Memory → (ps : List Param) → Inputs ps → Type 0
 All-good σ [] i = Unit {0}
@@ -247,13 +232,17 @@ pub record Call : Type 1 where
 abbrev pub outcome-of : (C : Call) → Inputs (C .params) → C .Result × Outputs (C .params)
 outcome-of C i = of-inputs (C .params) (C .outcome) i
 
+-- what was passed, on return
+abbrev pub after-call : (C : Call) → Inputs (C .params) → Inputs (C .params)
+after-call C i = left (C .params) i (outcome-of C i .1)
+
 pub record Ran (ρ : Routine) (C : Call) (σ : Memory) (i : Inputs (C .params)) : Type 0 where
   pub steps : ℕ
   pub memory : Memory
   pub returns : ρ .step steps (passed (C .params) i) σ ≡ done (C .value (outcome-of C i .0), memory)
-  pub lengths : Same-lengths (C .params) i (outcome-of C i .1)
-  pub held : Left-held (C .params) (outcome-of C i .1)
-  pub stand : All (Stands memory) (written (C .params) i (outcome-of C i .1))
+  pub lengths : passed (C .params) (after-call C i) ≡ passed (C .params) i
+  pub good : All-good memory (C .params) (after-call C i)
+  pub stand : All (Stands memory) (writes (C .params) (after-call C i))
   pub else-kept : Else-kept σ memory (writes (C .params) i)
   pub blocks-kept : Block-kept σ memory
 

@@ -1,6 +1,5 @@
 -- The machine: a memory made for a call: a block for each lent list, in the order of the parameters, and nothing else.
---   Givens      what is passed, with no places: values and lists
---   Fitting     each is one that its type holds, and no list is longer than an address can say
+--   Fitting     each number, each entry and each length is one that its type holds; it goes by no place
 --   blocks      the memory
 --   placed      what is passed, each list at the start of its block; the first block is the given one
 -- Definitions only.
@@ -9,32 +8,22 @@ use mathlib.Core.List.{List, [], _∷_}
 use Prim.Native.Nat.{ℕ, suc}
 use lib.ListN.{length}
 use prog.Memory.{Memory, align}
-use Rattle.machine.specs.Cells.{Form, Param, by-value, to-read, to-write, to-read-with, Inputs, All-held, Sized, cells-of}
+use Rattle.machine.specs.Cells.{Form, Param, by-value, lent, lent-with, Inputs, All-held, Sized, cells-of}
 
-abbrev pub Givens : List Param → Type 0
-Givens [] = Unit {0}
-Givens (by-value F ∷ ps) = F .Value × Givens ps
-Givens (to-read F ∷ ps) = List (F .Value) × Givens ps
-Givens (to-write F ∷ ps) = List (F .Value) × Givens ps
-Givens (to-read-with F G ∷ ps) = (List (F .Value) × G .Value) × Givens ps
+abbrev pub Fitting : (ps : List Param) → Inputs ps → Type 0
+Fitting [] i = Unit {0}
+Fitting (by-value F ∷ ps) i = F .Holds (i .0) × Fitting ps (i .1)
+Fitting (lent m F ∷ ps) i = (All-held F (i .0 .1) × Sized (F .ty) (length (i .0 .1))) × Fitting ps (i .1)
+Fitting (lent-with F G ∷ ps) i = ((All-held F (i .0 .0 .1) × Sized (F .ty) (length (i .0 .0 .1))) × G .Holds (i .0 .1)) × Fitting ps (i .1)
 
-abbrev pub Fitting : (ps : List Param) → Givens ps → Type 0
-Fitting [] g = Unit {0}
-Fitting (by-value F ∷ ps) g = F .Holds (g .0) × Fitting ps (g .1)
-Fitting (to-read F ∷ ps) g = (All-held F (g .0) × Sized (F .ty) (length (g .0))) × Fitting ps (g .1)
-Fitting (to-write F ∷ ps) g = (All-held F (g .0) × Sized (F .ty) (length (g .0))) × Fitting ps (g .1)
-Fitting (to-read-with F G ∷ ps) g = ((All-held F (g .0 .0) × Sized (F .ty) (length (g .0 .0))) × G .Holds (g .0 .1)) × Fitting ps (g .1)
+abbrev pub blocks : (ps : List Param) → Inputs ps → Memory
+blocks [] i = []
+blocks (by-value F ∷ ps) i = blocks ps (i .1)
+blocks (lent m F ∷ ps) i = some (align (F .ty), cells-of F (i .0 .1)) ∷ blocks ps (i .1)
+blocks (lent-with F G ∷ ps) i = some (align (F .ty), cells-of F (i .0 .0 .1)) ∷ blocks ps (i .1)
 
-abbrev pub blocks : (ps : List Param) → Givens ps → Memory
-blocks [] g = []
-blocks (by-value F ∷ ps) g = blocks ps (g .1)
-blocks (to-read F ∷ ps) g = some (align (F .ty), cells-of F (g .0)) ∷ blocks ps (g .1)
-blocks (to-write F ∷ ps) g = some (align (F .ty), cells-of F (g .0)) ∷ blocks ps (g .1)
-blocks (to-read-with F G ∷ ps) g = some (align (F .ty), cells-of F (g .0 .0)) ∷ blocks ps (g .1)
-
-abbrev pub placed : ℕ → (ps : List Param) → Givens ps → Inputs ps
-placed k [] g = tt
-placed k (by-value F ∷ ps) g = (g .0, placed k ps (g .1))
-placed k (to-read F ∷ ps) g = (((k, 0), g .0), placed (suc k) ps (g .1))
-placed k (to-write F ∷ ps) g = (((k, 0), g .0), placed (suc k) ps (g .1))
-placed k (to-read-with F G ∷ ps) g = ((((k, 0), g .0 .0), g .0 .1), placed (suc k) ps (g .1))
+abbrev pub placed : ℕ → (ps : List Param) → Inputs ps → Inputs ps
+placed k [] i = tt
+placed k (by-value F ∷ ps) i = (i .0, placed k ps (i .1))
+placed k (lent m F ∷ ps) i = (((k, 0), i .0 .1), placed (suc k) ps (i .1))
+placed k (lent-with F G ∷ ps) i = ((((k, 0), i .0 .0 .1), i .0 .1), placed (suc k) ps (i .1))

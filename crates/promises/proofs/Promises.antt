@@ -7,7 +7,7 @@ use lib.ListN.{length}
 use mir.Val.{Val}
 use prog.Memory.{Memory}
 use Rattle.machine.proofs.Made.{made-ready, ran-one}
-use Rattle.hosts.specs.Public.{given-at, call}
+use Rattle.hosts.specs.Public.{call}
 use Rattle.hosts.proofs.Hosts.{hosts-demand, standing-demand}
 use Rattle.hosts.proofs.Made.{hosts-exist}
 use Rattle.mesh.specs.Limits.{max-neighbours}
@@ -23,11 +23,8 @@ use Rattle.mesh.proofs.Marks.Rules.{store-good-iff}
 use Rattle.calls.specs.Questions.{lengths-of, image-length, write-refusal}
 use Rattle.calls.specs.Outcomes.{write-outcome}
 use Rattle.calls.proofs.ChainLaws.{write-zero}
-use Rattle.calls.proofs.Refusals.{clear-keeps, read-keeps, return-keeps, link-keeps, ask-keeps, commit-keeps, hear-keeps, check-keeps, number-keeps}
-use Rattle.calls.proofs.Refusals.{neighbours-keeps}
-use Rattle.calls.proofs.Refusals.{linked-keeps, first-keeps, later-keeps, lift-keeps, core-keeps, backbone-keeps, tree-keeps, staircase-keeps, write-keeps}
-use Rattle.calls.proofs.Refusals.{sheet-keeps}
-use Rattle.calls.proofs.Refusals.{script-length-keeps, script-keeps, set-keeps, remove-keeps, block-keeps}
+use Rattle.calls.proofs.Refusals.{value-keeps, listing-keeps, store-keeps, clear-keeps, read-keeps, return-keeps, link-keeps, commit-keeps, hear-keeps, later-keeps, lift-keeps}
+use Rattle.calls.proofs.Refusals.{ask-keeps, tree-keeps, block-keeps}
 use Rattle.calls.proofs.Accepted.{check-right, link-right, number-right, later-right, core-right, backbone-right, tree-right-listed, write-right}
 use Rattle.calls.proofs.Accepted.{listing-is, ask-right, commit-right, read-what-was-written, read-right, block-right, sheet-right}
 use Rattle.calls.proofs.Batches.{batch-keeps, batch-right, batch-single}
@@ -66,6 +63,9 @@ blocks-most n t w z =
 
 refusals : Refusals
 refusals = record {
+  values = value-keeps;
+  listings = listing-keeps;
+  stores = store-keeps;
   clear = clear-keeps;
   image-read = read-keeps;
   link = link-keeps;
@@ -73,26 +73,11 @@ refusals = record {
   commit = commit-keeps;
   link-batch = batch-keeps;
   hear = hear-keeps;
-  check = check-keeps;
-  number = number-keeps;
-  neighbours = neighbours-keeps;
-  linked = linked-keeps;
-  first = first-keeps;
   later-of = later-keeps;
   lift = lift-keeps;
-  core = core-keeps;
-  backbone = backbone-keeps;
   tree = tree-keeps;
-  staircase = staircase-keeps;
-  image-write = write-keeps;
-  sheet = sheet-keeps;
-  script-length = script-length-keeps;
-  script-write = script-keeps;
-  mark-set = set-keeps;
-  mark-remove = remove-keeps;
   mark-return = return-keeps;
   image-block = block-keeps;
-  reader-step = λ p bs i h. ap (given-at p) (block-keeps bs i h);
 }
 
 property-1 : Property-1 routines

@@ -10,7 +10,7 @@ use mathlib.Core.Path.{_≡_}
 use mathlib.Core.Logic.{_↔_, _⊎_}
 use mathlib.Core.Bool.{Bool, true, false}
 use mathlib.Core.List.{List, [], _∷_, _++_}
-use Prim.Native.Nat.{ℕ, _*_, _≤_, _<_}
+use Prim.Native.Nat.{ℕ, _+_, _*_, _≤_, _<_}
 use lib.IntN.{ℤ, pos}
 use lib.ListN.{length, take, drop}
 use mir.Val.{Val}
@@ -18,8 +18,8 @@ use prog.Memory.{Memory}
 use prog.Machine.{done}
 use prog.Routine.{Routine}
 use Rattle.machine.specs.Cells.{Param, Place, place, entries, Input, Inputs, Stands, span, Ready, Ran, Runs, passed, outcome-of}
-use Rattle.machine.specs.Made.{Givens, Fitting, blocks, placed}
-use Rattle.hosts.specs.Public.{Public, any-other, reader-step, bytes, a-reader, given-at, call}
+use Rattle.machine.specs.Made.{Fitting, blocks, placed}
+use Rattle.hosts.specs.Public.{Public, reader-step, bytes, a-reader, call}
 use Rattle.hosts.specs.Hosts.{Hosts-demand, Standing-demand}
 use Rattle.hosts.specs.Made.{Hosts-exist}
 use Rattle.lists.specs.Lists.{member, same, Entries-below}
@@ -41,11 +41,11 @@ use Rattle.calls.specs.Marks.{mark-image}
 use Rattle.calls.specs.Lift.{lifts}
 use Rattle.calls.specs.Outcomes.{reply, value, later, numbered, linked-with, asked, committed-with, batched, heard-with, listing, treed}
 use Rattle.calls.specs.Outcomes.{clear-outcome, read-outcome, link-outcome, ask-outcome, commit-outcome, batch-outcome, hear-outcome}
-use Rattle.calls.specs.Outcomes.{check-outcome, number-outcome, neighbours-outcome, linked-outcome, first-outcome, later-outcome, core-outcome}
-use Rattle.calls.specs.Outcomes.{backbone-outcome}
+use Rattle.calls.specs.Outcomes.{check-outcome, number-outcome, later-outcome, core-outcome}
+use Rattle.calls.specs.Outcomes.{value-outcome, listing-outcome, backbone-outcome}
 use Rattle.calls.specs.Outcomes.{staircase-outcome, write-outcome, sheet-outcome, script-length-outcome, script-outcome, tree-outcome, no-block}
 use Rattle.calls.specs.Outcomes.{block-outcome}
-use Rattle.calls.specs.MarkOutcomes.{stored, set-outcome, remove-outcome, return-outcome}
+use Rattle.calls.specs.MarkOutcomes.{stored, store-outcome, set-outcome, remove-outcome, return-outcome}
 use Rattle.calls.specs.LiftOutcome.{pair, lift-outcome}
 use Rattle.calls.specs.Results.{Batch-stopped, Batch-single, Site-right, Link-right, Later-right, Core-listed, Backbone-listed, Tree-listed, Written-right}
 use Rattle.calls.specs.Results.{Read-right, Block-part, Block-end, Script-right, Script-beforehand, Hear-right, Image-answered, Sheet-right, Staircase-listed}
@@ -64,6 +64,13 @@ use Rattle.playback.specs.Back.{Plays-back}
 
 -- what a refusal keeps: the number and zeros, and everything lent as it was
 pub record Refusals : Type 0 where
+  -- check, number, neighbours, linked, first and the script's length are `value-outcome`s; core, backbone, staircase, image, sheet and script
+  -- are `listing-outcome`s; setting and removing a mark are `store-outcome`s, by the number R that their questions give
+  pub values : (R x : ℕ) → let o = value-outcome R x in (o .number ≡ 0 → ⊥) → o ≡ value (o .number) 0
+  pub listings :
+      (R x : ℕ) (new old : List ℕ) → let o = listing-outcome R x new old in
+      (o .reply .number ≡ 0 → ⊥) → o ≡ listing (value (o .reply .number) 0) old
+  pub stores : (R : ℕ) (new old : List ℕ) → let o = store-outcome R new old in (o .reply ≡ 0 → ⊥) → o ≡ stored (o .reply) old
   pub clear : (n : ℕ) (t : Tables) → let o = clear-outcome n t in (o .reply ≡ 0 → ⊥) → o ≡ numbered (o .reply) t
   pub image-read : (n : ℕ) (bs : List ℕ) (t : Tables) → let o = read-outcome n bs t in (o .reply ≡ 0 → ⊥) → o ≡ numbered (o .reply) t
   pub link :
@@ -82,44 +89,14 @@ pub record Refusals : Type 0 where
   pub hear :
       (n : ℕ) (hs : List ℕ) (t : Tables) (w : List ℕ) → let o = hear-outcome n hs t w in
       (o .reply .number ≡ 0 → ⊥) → o ≡ heard-with (value (o .reply .number) 0) t w
-  pub check : (n : ℕ) (t : Tables) → let o = check-outcome n t in (o .number ≡ 0 → ⊥) → o ≡ value (o .number) 0
-  pub number : (n v : ℕ) (t : Tables) → let o = number-outcome n v t in (o .number ≡ 0 → ⊥) → o ≡ value (o .number) 0
-  pub neighbours : (n v : ℕ) (t : Tables) → let o = neighbours-outcome n v t in (o .number ≡ 0 → ⊥) → o ≡ value (o .number) 0
-  pub linked : (n a b : ℕ) (t : Tables) → let o = linked-outcome n a b t in (o .number ≡ 0 → ⊥) → o ≡ value (o .number) 0
-  pub first : (n a b : ℕ) (t : Tables) → let o = first-outcome n a b t in (o .number ≡ 0 → ⊥) → o ≡ value (o .number) 0
   pub later-of : (n v : ℕ) (t : Tables) → let o = later-outcome n v t in (o .number ≡ 0 → ⊥) → o ≡ later (o .number) 0 0
   pub lift : (n v : ℕ) (t : Tables) → let o = lift-outcome n v t in (o .number ≡ 0 → ⊥) → o ≡ pair (o .number) 0 0
-  pub core :
-      (n v k : ℕ) (t : Tables) (w : List ℕ) → let o = core-outcome n v k t w in
-      (o .reply .number ≡ 0 → ⊥) → o ≡ listing (value (o .reply .number) 0) w
-  pub backbone :
-      (n : ℕ) (t : Tables) (w : List ℕ) → let o = backbone-outcome n t w in
-      (o .reply .number ≡ 0 → ⊥) → o ≡ listing (value (o .reply .number) 0) w
   pub tree :
       (n : ℕ) (t : Tables) (m : List Node) (w : List ℕ) → let o = tree-outcome n t m w in
       (o .reply .number ≡ 0 → ⊥) → o ≡ treed (value (o .reply .number) 0) m w
-  pub staircase :
-      (n : ℕ) (t : Tables) (w : List ℕ) → let o = staircase-outcome n t w in
-      (o .reply .number ≡ 0 → ⊥) → o ≡ listing (value (o .reply .number) 0) w
-  pub image-write :
-      (n : ℕ) (t : Tables) (w : List ℕ) → let o = write-outcome n t w in
-      (o .reply .number ≡ 0 → ⊥) → o ≡ listing (value (o .reply .number) 0) w
-  pub sheet :
-      (n : ℕ) (t : Tables) (w : List ℕ) → let o = sheet-outcome n t w in
-      (o .reply .number ≡ 0 → ⊥) → o ≡ listing (value (o .reply .number) 0) w
-  pub script-length : (n : ℕ) (t : Tables) → let o = script-length-outcome n t in (o .number ≡ 0 → ⊥) → o ≡ value (o .number) 0
-  pub script-write :
-      (n : ℕ) (t : Tables) (w : List ℕ) → let o = script-outcome n t w in
-      (o .reply .number ≡ 0 → ⊥) → o ≡ listing (value (o .reply .number) 0) w
-  pub mark-set :
-      (n : ℕ) (x : List ℕ) (t : Tables) (bs : List ℕ) → let o = set-outcome n x t bs in (o .reply ≡ 0 → ⊥) → o ≡ stored (o .reply) bs
-  pub mark-remove :
-      (n : ℕ) (x : List ℕ) (t : Tables) (bs : List ℕ) → let o = remove-outcome n x t bs in (o .reply ≡ 0 → ⊥) → o ≡ stored (o .reply) bs
   pub mark-return : (n : ℕ) (x bs : List ℕ) (t : Tables) → let o = return-outcome n x bs t in (o .reply ≡ 0 → ⊥) → o ≡ numbered (o .reply) t
+  -- and a step of the reader, which is this outcome beside the image's place
   pub image-block : (bs : List ℕ) (i : ℕ) → let o = block-outcome bs i in (o .number ≡ 0 → ⊥) → o ≡ no-block (o .number) 0 i
-  pub reader-step :
-      (p : Place) (bs : List ℕ) (i : ℕ) → let s = given-at p (block-outcome bs i) in
-      (s .number ≡ 0 → ⊥) → s ≡ given-at p (no-block (s .number) 0 i)
 
 -- ρ are the routines of the public calls
 pub record Property-1 (ρ : Public → Routine) : Type 1 where
@@ -131,13 +108,13 @@ pub record Property-1 (ρ : Public → Routine) : Type 1 where
       (x : Public) (σ : Memory) (i : Inputs (call x .params)) (h : Ran (ρ x) (call x) σ i) (steps : ℕ) (end : Val × Memory) →
       ρ x .step steps (passed (call x .params) i) σ ≡ done end → (end .0 ≡ call x .value (outcome-of (call x) i .0)) × (end .1 ≡ h .memory)
   -- a memory is ready for whatever numbers and lists their types hold: the one that has a block for each lent list
-  pub ready : (ps : List Param) (g : Givens ps) → Fitting ps g → Ready (blocks ps g) ps (placed 0 ps g)
+  pub ready : (ps : List Param) (i : Inputs ps) → Fitting ps i → Ready (blocks ps i) ps (placed 0 ps i)
   pub refused : Refusals
   -- the part that a step of the block reader gives is the image's own bytes: they stand in its cells, where the step says
   pub reader-part :
-      (σ : Memory) (r : Input a-reader) → Ready σ (call (any-other reader-step) .params) (r, tt) →
-      (h : Ran (ρ (any-other reader-step)) (call (any-other reader-step)) σ (r, tt)) → let o = block-outcome (entries (r .0)) (r .1) in
-      Stands (h .memory) (span bytes (given-at (place (r .0)) o .place) (take (o .length) (drop (o .offset) (entries (r .0)))))
+      (σ : Memory) (r : Input a-reader) → Ready σ (call reader-step .params) (r, tt) →
+      (h : Ran (ρ reader-step) (call reader-step) σ (r, tt)) → let o = block-outcome (entries (r .0)) (r .1) in
+      Stands (h .memory) (span bytes (place (r .0) .0, o .offset + place (r .0) .1) (take (o .length) (drop (o .offset) (entries (r .0)))))
 
 -- ---- property 2
 

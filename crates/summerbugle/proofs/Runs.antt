@@ -98,10 +98,10 @@ use Rattle.summerbugle.proofs.sb_version.Symbol as version-symbol
 use Rattle.summerbugle.proofs.sb_version.Met as version-proof
 use Rattle.summerbugle.proofs.sb_image_block.Symbol as image-block-symbol
 use Rattle.summerbugle.proofs.sb_image_block.Met as image-block-proof
-use Rattle.hosts.specs.Public.{Public, of-book, any-other, this-version, call, the-tables, tables-then}
+use Rattle.hosts.specs.Public.{Public, of-book, this-version, call, the-tables, tables-then}
 use Rattle.hosts.specs.Public.Known.{clear, image-read, link, commit, link-batch, hear, mark-set, mark-remove, mark-return}
-use Rattle.hosts.specs.Public.Other.{ask, check, number, neighbours, linked, first, later-of, lift, core, backbone, tree, staircase}
-use Rattle.hosts.specs.Public.Other.{image-write, sheet, script-length, script-write, image-block, reader-open, reader-step, reader-moved, version}
+use Rattle.hosts.specs.Public.Public.{ask, check, number, neighbours, linked, first, later-of, lift, core, backbone, tree, staircase}
+use Rattle.hosts.specs.Public.Public.{image-write, sheet, script-length, script-write, image-block, reader-open, reader-step, reader-moved, version}
 use Rattle.block_reader.proofs.blocks.open.Symbol as open-symbol
 use Rattle.block_reader.proofs.blocks.step.Symbol as step-symbol
 use Rattle.block_reader.proofs.blocks.moved.Symbol as moved-symbol
@@ -120,28 +120,28 @@ routines (of-book hear) = hear-symbol.routine
 routines (of-book mark-set) = mark-set-symbol.routine
 routines (of-book mark-remove) = mark-remove-symbol.routine
 routines (of-book mark-return) = mark-return-symbol.routine
-routines (any-other (ask true)) = ask-up-symbol.routine
-routines (any-other (ask false)) = ask-down-symbol.routine
-routines (any-other check) = check-symbol.routine
-routines (any-other number) = number-symbol.routine
-routines (any-other neighbours) = neighbours-symbol.routine
-routines (any-other linked) = linked-symbol.routine
-routines (any-other first) = first-symbol.routine
-routines (any-other later-of) = later-of-symbol.routine
-routines (any-other lift) = lift-symbol.routine
-routines (any-other core) = core-symbol.routine
-routines (any-other backbone) = backbone-symbol.routine
-routines (any-other tree) = tree-symbol.routine
-routines (any-other staircase) = staircase-symbol.routine
-routines (any-other image-write) = image-write-symbol.routine
-routines (any-other sheet) = sheet-symbol.routine
-routines (any-other script-length) = script-length-symbol.routine
-routines (any-other script-write) = script-write-symbol.routine
-routines (any-other image-block) = image-block-symbol.routine
-routines (any-other reader-open) = open-symbol.routine
-routines (any-other reader-step) = step-symbol.routine
-routines (any-other reader-moved) = moved-symbol.routine
-routines (any-other version) = version-symbol.routine
+routines (ask true) = ask-up-symbol.routine
+routines (ask false) = ask-down-symbol.routine
+routines check = check-symbol.routine
+routines number = number-symbol.routine
+routines neighbours = neighbours-symbol.routine
+routines linked = linked-symbol.routine
+routines first = first-symbol.routine
+routines later-of = later-of-symbol.routine
+routines lift = lift-symbol.routine
+routines core = core-symbol.routine
+routines backbone = backbone-symbol.routine
+routines tree = tree-symbol.routine
+routines staircase = staircase-symbol.routine
+routines image-write = image-write-symbol.routine
+routines sheet = sheet-symbol.routine
+routines script-length = script-length-symbol.routine
+routines script-write = script-write-symbol.routine
+routines image-block = image-block-symbol.routine
+routines reader-open = open-symbol.routine
+routines reader-step = step-symbol.routine
+routines reader-moved = moved-symbol.routine
+routines version = version-symbol.routine
 
 -- ---- parameters and results, as the logic has them
 
@@ -270,11 +270,11 @@ ask-runs-params = n32 ∷ n32 ∷ n32 ∷ to-read 0 tt u8 ∷ to-read 0 tt u8 �
 ask-runs : (up : Bool) (ρ : Routine) →
     Promised 2 ask-runs-params a-reply ρ (λ i r o. Ask-contract up (i .0) (i .1 .0) (i .1 .1 .0)
     (the-tables (i .1 .1 .1 .0) (i .1 .1 .1 .1 .0) (i .1 .1 .1 .1 .1 .0)) (entries (i .1 .1 .1 .1 .1 .1 .0)) r (o .0)) →
-    Runs ρ (call (any-other (ask up)))
+    Runs ρ (call (ask up))
 unfolding Ask-contract
 ask-runs up ρ met = in-cells 2 ask-runs-params a-reply ρ _ _ (λ i r o e. ap (λ (y : Asked). (y .reply, (y .answer, tt))) e) met
 
-check-runs : Runs (routines (any-other check)) (call (any-other check))
+check-runs : Runs (routines check) (call check)
 unfolding Check-contract
 check-runs =
     in-cells 1 (n32 ∷ to-read 0 tt u8 ∷ to-read 0 tt u8 ∷ to-read 0 tt u16 ∷ []) a-value _
@@ -282,7 +282,7 @@ check-runs =
     (λ i r o e. ap (λ (y : Value). (y, tt)) e)
     (check-proof.met 𝓥 Closed.H Closed.model ghost₀ 𝓡)
 
-number-runs : Runs (routines (any-other number)) (call (any-other number))
+number-runs : Runs (routines number) (call number)
 unfolding Number-contract
 number-runs =
     in-cells 1 (n32 ∷ n32 ∷ to-read 0 tt u8 ∷ to-read 0 tt u8 ∷ to-read 0 tt u16 ∷ []) a-value _
@@ -290,7 +290,7 @@ number-runs =
     (λ i r o e. ap (λ (y : Value). (y, tt)) e)
     (number-proof.met 𝓥 Closed.H Closed.model ghost₀ 𝓡)
 
-neighbours-runs : Runs (routines (any-other neighbours)) (call (any-other neighbours))
+neighbours-runs : Runs (routines neighbours) (call neighbours)
 unfolding Neighbours-contract
 neighbours-runs =
     in-cells 1 (n32 ∷ n32 ∷ to-read 0 tt u8 ∷ to-read 0 tt u8 ∷ to-read 0 tt u16 ∷ []) a-value _
@@ -298,7 +298,7 @@ neighbours-runs =
     (λ i r o e. ap (λ (y : Value). (y, tt)) e)
     (neighbours-proof.met 𝓥 Closed.H Closed.model ghost₀ 𝓡)
 
-linked-runs : Runs (routines (any-other linked)) (call (any-other linked))
+linked-runs : Runs (routines linked) (call linked)
 unfolding Linked-contract
 linked-runs =
     in-cells 1 (n32 ∷ n32 ∷ n32 ∷ to-read 0 tt u8 ∷ to-read 0 tt u8 ∷ to-read 0 tt u16 ∷ []) a-value _
@@ -306,7 +306,7 @@ linked-runs =
     (λ i r o e. ap (λ (y : Value). (y, tt)) e)
     (linked-proof.met 𝓥 Closed.H Closed.model ghost₀ 𝓡)
 
-first-runs : Runs (routines (any-other first)) (call (any-other first))
+first-runs : Runs (routines first) (call first)
 unfolding First-contract
 first-runs =
     in-cells 1 (n32 ∷ n32 ∷ n32 ∷ to-read 0 tt u8 ∷ to-read 0 tt u8 ∷ to-read 0 tt u16 ∷ []) a-value _
@@ -314,7 +314,7 @@ first-runs =
     (λ i r o e. ap (λ (y : Value). (y, tt)) e)
     (first-proof.met 𝓥 Closed.H Closed.model ghost₀ 𝓡)
 
-later-runs : Runs (routines (any-other later-of)) (call (any-other later-of))
+later-runs : Runs (routines later-of) (call later-of)
 unfolding Later-contract
 later-runs =
     in-cells 1 (n32 ∷ n32 ∷ to-read 0 tt u8 ∷ to-read 0 tt u8 ∷ to-read 0 tt u16 ∷ []) a-later _
@@ -322,7 +322,7 @@ later-runs =
     (λ i r o e. ap (λ (y : Later). (y, tt)) e)
     (later-of-proof.met 𝓥 Closed.H Closed.model ghost₀ 𝓡)
 
-lift-runs : Runs (routines (any-other lift)) (call (any-other lift))
+lift-runs : Runs (routines lift) (call lift)
 unfolding Lift-contract
 lift-runs =
     in-cells 1 (n32 ∷ n32 ∷ to-read 0 tt u8 ∷ to-read 0 tt u8 ∷ to-read 0 tt u16 ∷ []) a-pair _
@@ -330,7 +330,7 @@ lift-runs =
     (λ i r o e. ap (λ (y : Pair). (y, tt)) e)
     (lift-proof.met 𝓥 Closed.H Closed.model ghost₀ 𝓡)
 
-length-runs : Runs (routines (any-other script-length)) (call (any-other script-length))
+length-runs : Runs (routines script-length) (call script-length)
 unfolding Script-length-contract
 length-runs =
     in-cells 3 (n32 ∷ to-read 0 tt u8 ∷ to-read 1 tt u8 ∷ to-read 2 tt u16 ∷ []) a-value _
@@ -338,7 +338,7 @@ length-runs =
     (λ i r o e. ap (λ (y : Value). (y, tt)) e)
     (script-length-proof.met 𝓥 Closed.H Closed.model ghost₀ 𝓡)
 
-core-runs : Runs (routines (any-other core)) (call (any-other core))
+core-runs : Runs (routines core) (call core)
 unfolding Core-contract
 core-runs =
     in-cells 2 (n32 ∷ n32 ∷ n32 ∷ to-read 0 tt u8 ∷ to-read 0 tt u8 ∷ to-read 0 tt u16 ∷ to-write 1 tt u16 ∷ []) a-value _
@@ -347,7 +347,7 @@ core-runs =
     (λ i r o e. ap (λ (y : Listing). (y .reply, (y .lent, tt))) e)
     (core-proof.met 𝓥 Closed.H Closed.model ghost₀ 𝓡)
 
-backbone-runs : Runs (routines (any-other backbone)) (call (any-other backbone))
+backbone-runs : Runs (routines backbone) (call backbone)
 unfolding Backbone-contract
 backbone-runs =
     in-cells 2 (n32 ∷ to-read 0 tt u8 ∷ to-read 0 tt u8 ∷ to-read 0 tt u16 ∷ to-write 1 tt u16 ∷ []) a-value _
@@ -355,7 +355,7 @@ backbone-runs =
     (λ i r o e. ap (λ (y : Listing). (y .reply, (y .lent, tt))) e)
     (backbone-proof.met 𝓥 Closed.H Closed.model ghost₀ 𝓡)
 
-staircase-runs : Runs (routines (any-other staircase)) (call (any-other staircase))
+staircase-runs : Runs (routines staircase) (call staircase)
 unfolding Staircase-contract
 staircase-runs =
     in-cells 2 (n32 ∷ to-read 0 tt u8 ∷ to-read 0 tt u8 ∷ to-read 0 tt u16 ∷ to-write 1 tt u16 ∷ []) a-value _
@@ -363,7 +363,7 @@ staircase-runs =
     (λ i r o e. ap (λ (y : Listing). (y .reply, (y .lent, tt))) e)
     (staircase-proof.met 𝓥 Closed.H Closed.model ghost₀ 𝓡)
 
-write-runs : Runs (routines (any-other image-write)) (call (any-other image-write))
+write-runs : Runs (routines image-write) (call image-write)
 unfolding Write-contract
 write-runs =
     in-cells 4 (n32 ∷ to-read 0 tt u8 ∷ to-read 1 tt u8 ∷ to-read 2 tt u16 ∷ to-write 3 tt u8 ∷ []) a-value _
@@ -371,7 +371,7 @@ write-runs =
     (λ i r o e. ap (λ (y : Listing). (y .reply, (y .lent, tt))) e)
     (image-write-proof.met 𝓥 Closed.H Closed.model ghost₀ 𝓡)
 
-sheet-runs : Runs (routines (any-other sheet)) (call (any-other sheet))
+sheet-runs : Runs (routines sheet) (call sheet)
 unfolding Sheet-contract
 sheet-runs =
     in-cells 4 (n32 ∷ to-read 0 tt u8 ∷ to-read 1 tt u8 ∷ to-read 2 tt u16 ∷ to-write 3 tt u8 ∷ []) a-value _
@@ -379,7 +379,7 @@ sheet-runs =
     (λ i r o e. ap (λ (y : Listing). (y .reply, (y .lent, tt))) e)
     (sheet-proof.met 𝓥 Closed.H Closed.model ghost₀ 𝓡)
 
-script-runs : Runs (routines (any-other script-write)) (call (any-other script-write))
+script-runs : Runs (routines script-write) (call script-write)
 unfolding Script-contract
 script-runs =
     in-cells 4 (n32 ∷ to-read 0 tt u8 ∷ to-read 1 tt u8 ∷ to-read 2 tt u16 ∷ to-write 3 tt u8 ∷ []) a-value _
@@ -387,7 +387,7 @@ script-runs =
     (λ i r o e. ap (λ (y : Listing). (y .reply, (y .lent, tt))) e)
     (script-write-proof.met 𝓥 Closed.H Closed.model ghost₀ 𝓡)
 
-tree-runs : Runs (routines (any-other tree)) (call (any-other tree))
+tree-runs : Runs (routines tree) (call tree)
 unfolding Tree-contract
 tree-runs =
     in-cells 3 (n32 ∷ to-read 0 tt u8 ∷ to-read 0 tt u8 ∷ to-read 0 tt u16 ∷ to-write 1 tt node-row ∷ to-write 2 tt u16 ∷ []) a-value _
@@ -396,14 +396,14 @@ tree-runs =
     (λ i r o e. ap (λ (y : Treed). (y .reply, (y .nodes, (y .answer, tt)))) e)
     (tree-proof.met 𝓥 Closed.H Closed.model ghost₀ 𝓡)
 
-block-runs : Runs (routines (any-other image-block)) (call (any-other image-block))
+block-runs : Runs (routines image-block) (call image-block)
 unfolding Block-contract
 block-runs =
     in-cells 1 (to-read 0 tt u8 ∷ by-value (number-row w64) ∷ []) a-block _ (λ i r o. Block-contract (entries (i .0)) (i .1 .0) r) _
     (λ i r o e. ap (λ (y : Block). (y, tt)) e)
     (image-block-proof.met 𝓥 Closed.H Closed.model ghost₀ 𝓡)
 
-version-runs : Runs (routines (any-other version)) (call (any-other version))
+version-runs : Runs (routines version) (call version)
 version-runs =
     in-cells 0 [] a-number _ (λ i r o. r ≡ this-version) _ (λ i r o e. ap (λ (y : ℕ). (y, tt)) e)
     (version-proof.met 𝓥 Closed.H Closed.model ghost₀ 𝓡)
@@ -420,25 +420,25 @@ runs (of-book hear) = hear-runs
 runs (of-book mark-set) = set-runs
 runs (of-book mark-remove) = remove-runs
 runs (of-book mark-return) = return-runs
-runs (any-other (ask true)) = ask-runs true _ (ask-up-proof.met 𝓥 Closed.H Closed.model ghost₀ 𝓡)
-runs (any-other (ask false)) = ask-runs false _ (ask-down-proof.met 𝓥 Closed.H Closed.model ghost₀ 𝓡)
-runs (any-other check) = check-runs
-runs (any-other number) = number-runs
-runs (any-other neighbours) = neighbours-runs
-runs (any-other linked) = linked-runs
-runs (any-other first) = first-runs
-runs (any-other later-of) = later-runs
-runs (any-other lift) = lift-runs
-runs (any-other core) = core-runs
-runs (any-other backbone) = backbone-runs
-runs (any-other tree) = tree-runs
-runs (any-other staircase) = staircase-runs
-runs (any-other image-write) = write-runs
-runs (any-other sheet) = sheet-runs
-runs (any-other script-length) = length-runs
-runs (any-other script-write) = script-runs
-runs (any-other image-block) = block-runs
-runs (any-other reader-open) = open-runs
-runs (any-other reader-step) = step-runs
-runs (any-other reader-moved) = moved-runs
-runs (any-other version) = version-runs
+runs (ask true) = ask-runs true _ (ask-up-proof.met 𝓥 Closed.H Closed.model ghost₀ 𝓡)
+runs (ask false) = ask-runs false _ (ask-down-proof.met 𝓥 Closed.H Closed.model ghost₀ 𝓡)
+runs check = check-runs
+runs number = number-runs
+runs neighbours = neighbours-runs
+runs linked = linked-runs
+runs first = first-runs
+runs later-of = later-runs
+runs lift = lift-runs
+runs core = core-runs
+runs backbone = backbone-runs
+runs tree = tree-runs
+runs staircase = staircase-runs
+runs image-write = write-runs
+runs sheet = sheet-runs
+runs script-length = length-runs
+runs script-write = script-runs
+runs image-block = block-runs
+runs reader-open = open-runs
+runs reader-step = step-runs
+runs reader-moved = moved-runs
+runs version = version-runs
