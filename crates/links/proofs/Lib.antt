@@ -36,6 +36,8 @@ pub mod WalkTurns
 pub mod WalkMade
 pub mod WalkSteps
 pub mod WalkPlan
+-- the walk by words: its turns
+pub mod WordTurns
 -- not-lower counts after a link
 pub mod CountLaws
 -- places after a link

@@ -15,22 +15,22 @@ use lib.ListN.{length, getD, take, drop, replicate, length-replicate, length-app
 use lib.Seq.{length-take-le, sets, sets-eq, length-sets, take-take, take-at, drop-at, drop-cons, paste}
 use borrow.Author.Tests.{leb-true, leb-false, ltb-true, ltb-false, le-ltb}
 use Rattle.mesh.specs.Limits.{max-radios, max-neighbours, row-bytes}
-use Rattle.lists.specs.Lists.{count, filter, head-or, In}
+use Rattle.lists.specs.Lists.{count, head-or, In}
 use Rattle.mesh.specs.Tables.{byte-at, marked, put-link}
 use Rattle.mesh.specs.Peel.{Peels}
 use Rattle.lists.proofs.Tests.{bool-cases, never}
 use Rattle.lists.proofs.Parts.{getD-zeros}
 use Rattle.lists.proofs.Count.{count-append}
-use Rattle.lists.proofs.Filter.{filter-none}
 use Rattle.lists.proofs.Member.{in-getD}
 use Rattle.mesh.proofs.Tables.Laws.{marked-replicate}
 use Rattle.rows.specs.Rows.{neighbours-of}
 use Rattle.rows.proofs.RowListLaws.{in-neighbours-of}
+use Rattle.walks.specs.Walk.{Walking}
 use Rattle.walks.proofs.Turns as turns
 use Rattle.walks.proofs.Front.{few-from-one}
 use Rattle.links.specs.Turns.{Lists-neighbours}
-use Rattle.links.specs.Peels.{stretch}
-use Rattle.walk_parts.specs.Places.{stop-place, next-place}
+use Rattle.walk_parts.specs.Places.{stop-place, next-place, set-places, entries-at, Stands, Marked-places}
+use Rattle.walk_parts.proofs.EntryLists.{marked-none, marked-stand, marked-listed}
 use Rattle.links.specs.Walks.{is-left, radios-of, joined, Walk-site, Walk-state, Walk-done}
 use Rattle.links.proofs.LevelLaws.{first-marked-least}
 use Rattle.links.proofs.WalkReleased.{marked-small}
@@ -88,10 +88,10 @@ lowest-small [] h = omega arith
 lowest-small (x ∷ xs) h = omega (arith, h x (inl refl))
 
 -- the loop's invariant: so far a state of the walk, and p is where its next turn is
-pub record Walk-from (a b k first size : ℕ) (ts tail ps hs cs ds list : List ℕ) (taken front p : ℕ) : Type 0 where
+pub record Walk-from (a b k first size : ℕ) (ts tail ps hs cs ds ss list : List ℕ) (taken front p : ℕ) : Type 0 where
   pub some : 1 ≤ front
   pub next : p ≡ next-place first size front taken ds
-  pub state : Walk-state a b k first size ts tail ps front taken hs cs ds list
+  pub state : Walk-state a b k first size ts tail ps front taken hs cs ds ss list
 
 module _ {a b k first size : ℕ} {ts ns tail ps : List ℕ} (s : Walk-site a b k first size ts ns tail ps) where
   abbrev f : ℕ → ℕ → Bool
@@ -112,7 +112,7 @@ module _ {a b k first size : ℕ} {ts ns tail ps : List ℕ} (s : Walk-site a b 
   -- ---- before the first turn
 
   pub start-state : (list : List ℕ) → length list ≡ max-radios
-      → Walk-state a b k first size ts tail ps 0 0 (replicate max-radios 0) (replicate max-radios 0) (replicate row-bytes 0) list
+      → Walk-state a b k first size ts tail ps 0 0 (replicate max-radios 0) (replicate max-radios 0) (replicate row-bytes 0) (replicate 8 0) list
   start-state list room = record {
     held-long = omega (arith, s .small, length-replicate {A = ℕ} max-radios 0);
     counters-long = omega (arith, s .small, length-replicate {A = ℕ} max-radios 0);
@@ -120,6 +120,7 @@ module _ {a b k first size : ℕ} {ts ns tail ps : List ℕ} (s : Walk-site a b 
     room = room;
     passed = omega arith;
     low = λ p t. absurd (never (marked (replicate row-bytes 0) 0 p) t (zero-marked p));
+    stays = marked-none first size tail (λ v. eqb (getD (replicate max-radios 0) v 0) 1) (λ v. ap (λ (x : ℕ). eqb x 1) (getD-zeros max-radios v));
     walking = turns.turns-none f k above part pos (turned.is-part s) (λ v. eqb (getD (replicate max-radios 0) v 0) 1) (λ v. getD (replicate max-radios 0) v 0)
         (λ q. marked (replicate row-bytes 0) 0 (first + q)) (λ v. ap (λ (x : ℕ). eqb x 1) (getD-zeros max-radios v)) (λ v. omega (arith, getD-zeros max-radios v))
         (λ p. zero-marked (first + p));
@@ -169,18 +170,13 @@ module _ {a b k first size : ℕ} {ts ns tail ps : List ℕ} (s : Walk-site a b 
           ∙ ap (λ (x : ℕ). count (is-left k x ns ps (replicate max-radios 0)) (neighbours-of us e)) (sym (add-zero first))
           ∙ left ∙ sym (ap (count (f e)) tail-cut ∙ count-append (f e) (drop 1 part) above)
 
-  module _ {front taken : ℕ} {hs cs ds list : List ℕ} (st : Walk-state a b k first size ts tail ps front taken hs cs ds list) where
+  module _ {front taken : ℕ} {hs cs ds ss list : List ℕ} (st : Walk-state a b k first size ts tail ps front taken hs cs ds ss list) where
     pub front-fits : (front ≤ size) × (first + front ≤ max-radios)
     front-fits = (omega (arith, st .walking .room, turned.part-length s), omega (arith, st .walking .room, turned.part-length s, s .fits, s .small))
 
-    -- what `list_stuck` asks
-    pub walk-radios : (0 + front ≤ length tail) × (0 + front ≤ max-radios) × (taken ≤ max-radios) × ((p : ℕ) → p < length tail → getD tail p 0 < max-radios)
-    walk-radios = (
-      omega (arith, front-fits .0, s .fits),
-      omega (arith, front-fits .1),
-      omega (arith, st .passed, front-fits .1),
-      λ p l. omega (arith, s .radios (getD tail p 0) (in-getD tail p l), s .small),
-    )
+    -- what `list_entries` asks
+    pub walk-entries : (taken ≤ max-radios) × Stands first (length tail) (set-places ss)
+    walk-entries = (omega (arith, st .passed, front-fits .1), marked-stand first size tail (st .stays) (s .fits))
 
     module _ (p : ℕ) (turn : (p ≡ next-place first size front taken ds) × (p ≤ max-radios)) where
       at : (taken < front) × (p ≡ head-or max-radios (neighbours-of ds 0)) × ((p < first + front) ⊎ ((first + front ≤ p) × (front < size)))
@@ -214,94 +210,94 @@ module _ {a b k first size : ℕ} {ts ns tail ps : List ℕ} (s : Walk-site a b 
             (ahead, inside, omega (arith, s .fits), omega (arith, st .passed, st .room, s .fits, s .small))
 
         pub step-pass : (list1 : List ℕ) → list1 ≡ paste list taken (drop front tail) (until - front)
-            → Walk-state a b k first size ts tail ps until (taken + (until - front)) hs cs ds list1
+            → Walk-state a b k first size ts tail ps until (taken + (until - front)) hs cs ds ss list1
         step-pass list1 made =
             turned.pass-done s st until (until - front) (omega (arith, pass-place .0)) (pass-place .1) (omega (arith, step-some))
             (undue until (omega (arith, l))) list1 made
 
-  -- ---- the loop
+  -- ---- the end of a walk: no candidate is left, or the part is at its end and nothing is due
 
-  module _ {front taken : ℕ} {hs cs ds list : List ℕ} (st : Walk-state a b k first size ts tail ps front taken hs cs ds list) (some : 1 ≤ front)
-      (p : ℕ) (stop : stop-place ≤ p) (next : p ≡ next-place first size front taken ds) where
-    abbrev stuck : List ℕ
-    stuck = filter (λ v. ltb k (getD cs v 0)) (take front tail)
+  module _ (front taken : ℕ) (list : List ℕ) {ss : List ℕ} {mark : ℕ → Bool} {counter : ℕ → ℕ} {due : ℕ → Bool}
+      (w : Walking f k above part pos (take taken list) front mark counter due) (room : length list ≡ max-radios) (passed : taken ≤ front)
+      (some : 1 ≤ front) (stays : Marked-places first size tail mark ss) where
+    abbrev held : List ℕ
+    held = w .held
 
-    walked : take front tail ≡ take front part
-    walked = sym (take-take front size tail (front-fits st .0))
+    fits : (front ≤ size) × (first + front ≤ max-radios)
+    fits = (omega (arith, w .room, turned.part-length s), omega (arith, w .room, turned.part-length s, s .fits, s .small))
 
     taken-length : length (take taken list) ≡ taken
-    taken-length = length-take-le taken list (omega (arith, st .passed, front-fits st .1, st .room))
+    taken-length = length-take-le taken list (omega (arith, passed, fits .1, room))
 
-    held-length : taken + length (st .walking .held) ≡ front
-    held-length = omega (arith, turns.length-held f k above part pos (turned.is-part s) (st .walking), taken-length)
+    many : taken + length held ≡ front
+    many = omega (arith, turns.length-held f k above part pos (turned.is-part s) w, taken-length)
 
-    -- what is listed of it
-    module _ (list1 : List ℕ) (made : list1 ≡ sets list taken stuck) (many : taken + length stuck ≡ front) where
-      listed : take front list1 ≡ take taken list ++ stuck
+    -- the marked places have the candidates
+    held-entries : entries-at first tail (set-places ss) ≡ held
+    held-entries =
+        marked-listed first size tail stays (s .fits) (omega (arith, s .fits, s .small))
+        ∙ sym (turns.held-listed f k above part pos (turned.is-part s) w)
+
+    module _ (list1 : List ℕ) (made : list1 ≡ sets list taken held) where
+      listed : take front list1 ≡ take taken list ++ held
       listed =
-          ap (take front) (made ∙ sets-eq stuck list taken (omega (arith, many, front-fits st .1, st .room)))
-          ∙ take-at (take taken list ++ stuck) (drop (taken + length stuck) list) front (length-append (take taken list) stuck ∙ omega (arith, taken-length, many))
+          ap (take front) (made ∙ sets-eq held list taken (omega (arith, many, fits .1, room)))
+          ∙ take-at (take taken list ++ held) (drop (taken + length held) list) front (length-append (take taken list) held ∙ omega (arith, taken-length, many))
 
       listed-taken : take taken list1 ≡ take taken list
-      listed-taken = sym (take-take taken front list1 (omega (arith, many))) ∙ ap (take taken) listed ∙ take-at (take taken list) stuck taken taken-length
+      listed-taken = sym (take-take taken front list1 (omega (arith, many))) ∙ ap (take taken) listed ∙ take-at (take taken list) held taken taken-length
 
-      listed-stuck : drop taken (take front list1) ≡ stuck
-      listed-stuck = ap (drop taken) listed ∙ drop-at (take taken list) stuck taken taken-length
+      listed-held : drop taken (take front list1) ≡ held
+      listed-held = ap (drop taken) listed ∙ drop-at (take taken list) held taken taken-length
 
-      done : (taken ≡ front) ⊎ (front ≡ size) → Peels f k above part (take taken list ++ drop front part) stuck → Walk-done a b k first size ts tail front taken list1
+      done : (taken ≡ front) ⊎ (front ≡ size) → Peels f k above part (take taken list ++ drop front part) held
+          → Walk-done a b k first size ts tail front taken list1
       done way peels = record {
-        room = omega (arith, st .room, ap length made, length-sets list taken stuck);
-        passed = st .passed;
-        fits = front-fits st .0;
+        room = omega (arith, room, ap length made, length-sets list taken held);
+        passed = passed;
+        fits = fits .0;
         either = way;
-        peels = rw (listed-taken, listed-stuck) peels;
+        peels = rw (listed-taken, listed-held) peels;
       }
 
-    -- no candidate is left
-    none-left : front ≤ taken → (list1 : List ℕ) → list1 ≡ sets list taken stuck → Walk-done a b k first size ts tail front taken list1
-    none-left l list1 made =
-        let same : taken ≡ front = omega (arith, st .passed) in
-        done list1 made (omega (arith, ap length none, same)) (inl same)
-        (rw none (turns.turns-stop f k above part pos (turned.is-part s) (st .walking) (taken-length ∙ same) (few-from-one f k above part front some (s .few))))
-      where
-        empty : (zs : List ℕ) → length zs ≡ 0 → (v : ℕ) → In v zs → ⊥
-        empty [] q v m = m
-        empty (z ∷ zs) q v m = omega arith
+      none-left : front ≤ taken → Walk-done a b k first size ts tail front taken list1
+      none-left l =
+          let same : taken ≡ front = omega (arith, passed) in
+          done (inl same)
+          (rw (none held (omega (arith, many)))
+          (turns.turns-stop f k above part pos (turned.is-part s) w (taken-length ∙ same) (few-from-one f k above part front some (s .few))))
+        where
+          none : (zs : List ℕ) → length zs ≡ 0 → zs ≡ []
+          none [] q = refl
+          none (z ∷ zs) q = absurd (omega arith)
 
-        none : stuck ≡ []
-        none =
-            filter-none (λ v. ltb k (getD cs v 0)) (take front tail) (λ v m.
-            le-ltb k (getD cs v 0) (st .walking .spent v (empty (st .walking .held) (omega (arith, held-length)) v)))
+      all-walked : ((q : ℕ) → q < front → due q ≡ false) × (size ≤ front) → Walk-done a b k first size ts tail front taken list1
+      all-walked h =
+          let same : front ≡ size = omega (arith, h .1, fits .0) in
+          done (inr same)
+          (rw (gone, append-nil (take taken list))
+          (turns.turns-stuck f k above part pos (turned.is-part s) w (h .0) (omega (arith, same, turned.part-length s))))
+        where
+          gone : drop front part ≡ []
+          gone = drop-of-length-le part {i = front} (omega (arith, h .1, turned.part-length s))
 
-    -- the part is at its end
-    all-walked : (first + front ≤ head-or max-radios (neighbours-of ds 0)) × (size ≤ front) → (list1 : List ℕ) → list1 ≡ sets list taken stuck
-        → Walk-done a b k first size ts tail front taken list1
-    all-walked h list1 made =
-        let same : front ≡ size = omega (arith, h .1, front-fits st .0) in
-        done list1 made (omega (arith, held-length, ap length held-stuck)) (inr same)
-        (rw (gone, append-nil (take taken list), ← whole) (turns.turns-end f k above part pos (turned.is-part s) (st .walking) undue (omega (arith, same, turned.part-length s))))
-      where
-        undue : (q : ℕ) → q < front → marked ds 0 (first + q) ≡ false
-        undue q l = first-marked-least ds (head-or max-radios (neighbours-of ds 0)) refl (first + q) (omega (arith, h .0)) (omega (arith, front-fits st .1))
+    pub walk-over : (front ≤ taken) ⊎ (((q : ℕ) → q < front → due q ≡ false) × (size ≤ front)) → (list1 : List ℕ)
+        → list1 ≡ sets list taken (entries-at first tail (set-places ss)) → Walk-done a b k first size ts tail front taken list1
+    walk-over (inl l) list1 made = none-left list1 (made ∙ ap (sets list taken) held-entries) l
+    walk-over (inr h) list1 made = all-walked list1 (made ∙ ap (sets list taken) held-entries) h
 
-        held-stuck : st .walking .held ≡ stuck
-        held-stuck = turns.held-is f k above part pos (turned.is-part s) (st .walking) undue ∙ ap (filter (λ v. ltb k (getD cs v 0))) (sym walked)
-
-        gone : drop front part ≡ []
-        gone = drop-of-length-le part {i = front} (omega (arith, h .1, turned.part-length s))
-
-        whole : filter (λ v. ltb k (getD cs v 0)) part ≡ stuck
-        whole =
-            let same : size ≡ front = omega (arith, h .1, front-fits st .0) in ap (λ (x : ℕ). filter (λ v. ltb k (getD cs v 0)) (take x tail)) same
-
-    pub walk-end : (list1 : List ℕ) → list1 ≡ sets list taken (filter (λ v. ltb k (getD cs v 0)) (stretch tail 0 front))
-        → Walk-done a b k first size ts tail front taken list1
-    walk-end list1 made =
-        go (stop-at first size front taken ds p next stop (lowest-small (neighbours-of ds 0) (λ v m. in-neighbours-of ds 0 v m .0)))
-      where
-        go : (front ≤ taken) ⊎ ((first + front ≤ head-or max-radios (neighbours-of ds 0)) × (size ≤ front)) → Walk-done a b k first size ts tail front taken list1
-        go (inl l) = none-left l list1 made
-        go (inr h) = all-walked h list1 made
+  pub walk-end : {front taken : ℕ} {hs cs ds ss list : List ℕ} → Walk-state a b k first size ts tail ps front taken hs cs ds ss list → 1 ≤ front
+      → (p : ℕ) → stop-place ≤ p → p ≡ next-place first size front taken ds → (list1 : List ℕ)
+      → list1 ≡ sets list taken (entries-at first tail (set-places ss)) → Walk-done a b k first size ts tail front taken list1
+  walk-end {front} {taken} {hs} {cs} {ds} {ss} {list} st some p stop next list1 made =
+      walk-over front taken list (st .walking) (st .room) (st .passed) some (st .stays)
+      (go (stop-at first size front taken ds p next stop (lowest-small (neighbours-of ds 0) (λ v m. in-neighbours-of ds 0 v m .0)))) list1 made
+    where
+      go : (front ≤ taken) ⊎ ((first + front ≤ head-or max-radios (neighbours-of ds 0)) × (size ≤ front))
+          → (front ≤ taken) ⊎ (((q : ℕ) → q < front → marked ds 0 (first + q) ≡ false) × (size ≤ front))
+      go (inl l) = inl l
+      go (inr h) =
+          inr (λ q l. first-marked-least ds (head-or max-radios (neighbours-of ds 0)) refl (first + q) (omega (arith, h .0)) (omega (arith, front-fits st .1)), h .1)
 
 -- as the code names its values
 pub done-as : {a b k first size front taken at many : ℕ} {ts tail list : List ℕ} → at ≡ front → many ≡ taken → Walk-done a b k first size ts tail front taken list

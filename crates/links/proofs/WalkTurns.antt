@@ -29,6 +29,8 @@ use Rattle.mesh.proofs.Tables.Laws.{length-put-bit}
 use Rattle.mesh.proofs.Links.Peel.{takes-permutation}
 use Rattle.rows.specs.Rows.{neighbours-of}
 use Rattle.rows.proofs.RowListLaws.{in-neighbours-of, member-neighbours-of, distinct-neighbours-of}
+use Rattle.sets.specs.Sets.{put-in, take-out}
+use Rattle.walk_parts.proofs.EntryLists as entries
 use Rattle.walks.specs.Walk.{Part, Walking}
 use Rattle.walks.proofs.Turns as turns
 use Rattle.walks.proofs.Front.{few-front-head, few-from-one}
@@ -104,6 +106,10 @@ module _ {a b k first size : ℕ} {ts ns tail ps : List ℕ} (s : Walk-site a b 
   pub part-at : (i : ℕ) → i < size → getD part i 0 ≡ getD tail i 0
   part-at i l = getD-take size tail i 0 l
 
+  -- no two places have the same radio
+  pub tail-apart : (i j : ℕ) → i < size → j < size → getD tail i 0 ≡ getD tail j 0 → i ≡ j
+  tail-apart i j l m e = omega (arith, s .placed i l, s .placed j m, ap (λ (x : ℕ). getD ps x 0) e)
+
   placed-at : (i : ℕ) → i < length part → pos (getD part i 0) ≡ i
   placed-at i l =
       let h : i < size = omega (arith, part-length) in
@@ -140,7 +146,7 @@ module _ {a b k first size : ℕ} {ts ns tail ps : List ℕ} (s : Walk-site a b 
   place-small v m = omega (arith, part-stands v m .high, s .fits, s .small)
 
   -- a radio of the part that stands late enough
-  late-in : (i v : ℕ) → In v part → i ≤ pos v → In v (drop i part)
+  pub late-in : (i v : ℕ) → In v part → i ≤ pos v → In v (drop i part)
   late-in i v m l =
       let r = turns.in-part f k above part pos is-part v m in
       let at : getD (drop i part) (pos v - i) 0 ≡ v = getD-drop i part (pos v - i) 0 ∙ ap (λ (x : ℕ). getD part x 0) (sum i (pos v) l) ∙ r .1 in
@@ -179,7 +185,7 @@ module _ {a b k first size : ℕ} {ts ns tail ps : List ℕ} (s : Walk-site a b 
     pub near-ready : (nears : ℕ) → nears ≡ max-neighbours → Near-ready true a b x ts nears
     near-ready nears en = record { ready = row-ready; near-long = omega (arith, s .row-few x lx) }
 
-  module _ {front taken : ℕ} {hs cs ds list : List ℕ} (st : Walk-state a b k first size ts tail ps front taken hs cs ds list) where
+  module _ {front taken : ℕ} {hs cs ds ss list : List ℕ} (st : Walk-state a b k first size ts tail ps front taken hs cs ds ss list) where
     abbrev held : List ℕ
     held = st .walking .held
 
@@ -257,6 +263,9 @@ module _ {a b k first size : ℕ} {ts ns tail ps : List ℕ} (s : Walk-site a b 
 
       v-left : In v (held ++ rest)
       v-left = in-right v held rest (rw cut (inl refl))
+
+      tail-v : getD tail front 0 ≡ v
+      tail-v = sym (part-at front front-inside) ∙ sym v-is
 
       place-low : first + front < max-radios
       place-low = omega (arith, s .fits, s .small)
@@ -361,7 +370,7 @@ module _ {a b k first size : ℕ} {ts ns tail ps : List ℕ} (s : Walk-site a b 
             go (inl u) = st .low q (old (bool-cases (eqb (first + front) q)) u)
             go (inr (w, m, u, e)) = omega (arith, later-cases k (first + front) ns ps hs w u .1, e)
 
-        pub look-held : k < c → Walk-state a b k first size ts tail ps (front + 1) taken (set hs v 1) (set cs v c) touched list
+        pub look-held : k < c → Walk-state a b k first size ts tail ps (front + 1) taken (set hs v 1) (set cs v c) touched (put-in (first + front) ss) list
         look-held big = record {
           held-long = omega (arith, st .held-long, length-set hs v 1);
           counters-long = omega (arith, st .counters-long, length-set cs v c);
@@ -369,6 +378,8 @@ module _ {a b k first size : ℕ} {ts ns tail ps : List ℕ} (s : Walk-site a b 
           room = st .room;
           passed = omega (arith, st .passed);
           low = low-touched;
+          stays = entries.marked-put first size tail (st .stays) front v front-inside place-low tail-v (λ i l e. tail-apart i front l front-inside (e ∙ sym tail-v))
+              (λ w. eqb (getD (set hs v 1) w 0) 1) marks-other marks-own;
           walking = rw (add-one front) turned;
         }
           where
@@ -393,7 +404,7 @@ module _ {a b k first size : ℕ} {ts ns tail ps : List ℕ} (s : Walk-site a b 
       look-releasable = releasable hs candidate-held (st .held-long) v front-below v-left
 
       pub look-taken : count (is-left k (first + front) ns ps hs) (neighbours-of us v) ≤ k
-          → Walk-state a b k first size ts tail ps (front + 1) (taken + 1) hs (released hs 1 (neighbours-of us v) cs) freed (set list taken v)
+          → Walk-state a b k first size ts tail ps (front + 1) (taken + 1) hs (released hs 1 (neighbours-of us v) cs) freed ss (set list taken v)
       look-taken fit = record {
         held-long = st .held-long;
         counters-long = omega (arith, st .counters-long, length-released hs 1 (neighbours-of us v) cs);
@@ -401,6 +412,7 @@ module _ {a b k first size : ℕ} {ts ns tail ps : List ℕ} (s : Walk-site a b 
         room = omega (arith, st .room, length-set list taken v);
         passed = omega (arith, st .passed);
         low = low-released hs candidate-held (st .held-long) v front-below v-left (first + front) place-low;
+        stays = st .stays;
         walking = rw (add-one front, listed) turned;
       }
         where
@@ -447,6 +459,9 @@ module _ {a b k first size : ℕ} {ts ns tail ps : List ℕ} (s : Walk-site a b 
       back-part = omega (arith, j-front, st .walking .room, part-length)
 
       module _ (v : ℕ) (v-is : v ≡ getD part j 0) where
+        back-v : getD tail j 0 ≡ v
+        back-v = sym (part-at j back-part) ∙ sym v-is
+
         v-held : In v held
         v-held = rw v-is (st .walking .fallen j j-front j-due)
 
@@ -494,7 +509,7 @@ module _ {a b k first size : ℕ} {ts ns tail ps : List ℕ} (s : Walk-site a b 
         abbrev freed-back : List ℕ
         freed-back = places-released hs1 ps 1 k (neighbours-of us v) cs (put-bit false 0 p ds)
 
-        pub back-done : Walk-state a b k first size ts tail ps front (taken + 1) hs1 (released hs1 1 (neighbours-of us v) cs) freed-back (set list taken v)
+        pub back-done : Walk-state a b k first size ts tail ps front (taken + 1) hs1 (released hs1 1 (neighbours-of us v) cs) freed-back (take-out p ss) (set list taken v)
         back-done = record {
           held-long = long1;
           counters-long = omega (arith, st .counters-long, length-released hs1 1 (neighbours-of us v) cs);
@@ -502,6 +517,8 @@ module _ {a b k first size : ℕ} {ts ns tail ps : List ℕ} (s : Walk-site a b 
           room = omega (arith, st .room, length-set list taken v);
           passed = omega (arith, back-room);
           low = low-released hs1 fewer long1 v back-below back-left p p-small;
+          stays = rw j-is at (entries.marked-taken first size tail (st .stays) j v back-part (omega (arith, j-is, p-small)) back-v (λ i l e. tail-apart i j l back-part (e ∙ sym back-v))
+              (λ w. eqb (getD hs1 w 0) 1) other own);
           walking = rw listed turned;
         }
           where
@@ -533,7 +550,7 @@ module _ {a b k first size : ℕ} {ts ns tail ps : List ℕ} (s : Walk-site a b 
       pub pass-room : taken + m ≤ length list
       pass-room = omega (arith, st .passed, st .room, ends, s .fits, s .small)
 
-      pub pass-done : (list1 : List ℕ) → list1 ≡ paste list taken (drop front tail) m → Walk-state a b k first size ts tail ps until (taken + m) hs cs ds list1
+      pub pass-done : (list1 : List ℕ) → list1 ≡ paste list taken (drop front tail) m → Walk-state a b k first size ts tail ps until (taken + m) hs cs ds ss list1
       pass-done list1 e = record {
         held-long = st .held-long;
         counters-long = st .counters-long;
@@ -541,6 +558,7 @@ module _ {a b k first size : ℕ} {ts ns tail ps : List ℕ} (s : Walk-site a b 
         room = omega (arith, st .room, ap length e, length-paste list taken (drop front tail) m pass-room longs);
         passed = omega (arith, st .passed, ends);
         low = st .low;
+        stays = st .stays;
         walking = rw (listed, ends) turned;
       }
         where

@@ -8,6 +8,8 @@ pub mod Turns
 pub mod Peels
 -- the walk of a link going up
 pub mod Walks
+-- the same by words
+pub mod Words
 -- a link on tables known to be sound
 pub mod Steps
 -- the questions of a batch

@@ -1,5 +1,5 @@
 -- The walk of a link going up, on the tables that it is lent and changes: the order from the beginning end's place on, the candidates (one
--- byte a radio, 1 for a candidate), their counters, and the places due, a set kept as one row.
+-- byte a radio, 1 for a candidate) and their places, a set of words, their counters, and the places due, a set kept as one row.
 --   is-left k p ns ps hs w       w counts for a radio at place p of level k: it is above, stands later in the level, or is a candidate
 --   is-later k p ns ps w         w stands in level k, later than place p
 --   place-touched k p ns ps w ds   the places due ds with the place of w, where w stands later
@@ -24,7 +24,7 @@ use Rattle.mesh.specs.Tables.{marked, put-bit, put-link}
 use Rattle.mesh.specs.Peel.{Peels}
 use Rattle.rows.specs.Rows.{neighbours-of}
 use Rattle.walks.specs.Walk.{Few-front, Walking}
-use Rattle.walk_parts.specs.Places.{beginning-end}
+use Rattle.walk_parts.specs.Places.{beginning-end, Marked-places}
 use Rattle.links.specs.Peels.{linked-after}
 
 unfoldable pub is-left : (k p : ℕ) → (numbers places held : List ℕ) → (w : ℕ) → Bool
@@ -79,13 +79,14 @@ pub record Walk-site (a b k first size : ℕ) (links numbers tail places : List 
   pub row-few : (v : ℕ) → v < radios-of first tail → length (neighbours-of (put-link true a b links) v) ≤ max-neighbours
   pub few : Few-front (joined a b first links tail) k (drop size tail) (drop 1 (take size tail)) []
 
-pub record Walk-state (a b k first size : ℕ) (links tail places : List ℕ) (front taken : ℕ) (held counters due list : List ℕ) : Type 0 where
+pub record Walk-state (a b k first size : ℕ) (links tail places : List ℕ) (front taken : ℕ) (held counters due stay list : List ℕ) : Type 0 where
   pub held-long : radios-of first tail ≤ length held
   pub counters-long : radios-of first tail ≤ length counters
   pub due-long : length due ≡ row-bytes
   pub room : length list ≡ max-radios
   pub passed : taken ≤ front
   pub low : (p : ℕ) → marked due 0 p ≡ true → first ≤ p
+  pub stays : Marked-places first size tail (λ v. eqb (getD held v 0) 1) stay
   pub walking :
       Walking (joined a b first links tail) k (drop size tail) (take size tail) (λ v. getD places v 0 - first) (take taken list) front
       (λ v. eqb (getD held v 0) 1) (λ v. getD counters v 0) (λ q. marked due 0 (first + q))

@@ -15,3 +15,4 @@ mod step;
 mod stretch;
 mod turn;
 mod walk;
+mod words;

@@ -14,6 +14,7 @@ use super::peel;
 use super::walk;
 use super::walk::Part;
 use super::walk::Rise;
+use super::words;
 use link_parts::apply;
 use link_parts::apply::Plan;
 use mesh::Site;
@@ -22,6 +23,9 @@ use walk_parts::stretch;
 
 // A level of so many radios or fewer is peeled: the walk reads the rows of all who rise, the peel the rows of the others.
 const SMALL: usize = 16;
+
+// From this level on radios have so many neighbours that the walk goes by words.
+const WIDE: u8 = 8;
 
 // Plans the link from the beginning end, at place `first`, on. Where that end has at most K later neighbours with the link, nothing moves
 // and nothing rises. A small level is peeled; elsewhere the walk goes from that end on.
@@ -60,6 +64,9 @@ fn plan_on(
     }
     let size = at.start + at.size - first;
     let part = Part { first, size };
+    if WIDE <= rise.most {
+        return words::walk(rise, part, links, tail, places, stretch);
+    }
     walk::walk(rise, part, links, numbers, tail, places, stretch)
 }
 

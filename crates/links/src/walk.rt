@@ -40,9 +40,9 @@ pub(crate) struct Part {
 }
 
 // How far a walk has come: so many radios of the part, and of these so many taken.
-struct Reached {
-    front: usize,
-    taken: usize,
+pub(crate) struct Reached {
+    pub(crate) front: usize,
+    pub(crate) taken: usize,
 }
 
 // Whether w counts for a radio at place p of the level: it is above, stands later in the level, or is a candidate.
@@ -142,14 +142,15 @@ fn look(
     held: &mut [u8; Site::RADIOS as usize],
     counters: &mut [u8; Site::RADIOS as usize],
     due: &mut [u8; Site::ROW_BYTES],
+    stay: &mut [u64; 8],
     list: &mut [u16; Site::RADIOS as usize],
 ) -> Reached
     requires { ⌜ Walk-site (rise .a) (rise .b) (rise .most) (part .first) (part .size) (now links) (now numbers) (now tail) (now places) ×
         Walk-state (rise .a) (rise .b) (rise .most) (part .first) (part .size) (now links) (now tail) (now places) (at .front) (at .taken)
-        (now held) (now counters) (now due) (now list) ×
+        (now held) (now counters) (now due) (now stay) (now list) ×
         ((at .front < part .size) × ((q : ℕ) → q < at .front → marked (now due) 0 (part .first + q) ≡ false)) ⌝ }
     ensures state { λ r. ⌜ Walk-state (rise .a) (rise .b) (rise .most) (part .first) (part .size) (now (links .entry)) (now (tail .entry))
-        (now (places .entry)) (r .front) (r .taken) (now (held .exit)) (now (counters .exit)) (now (due .exit)) (now (list .exit)) ⌝ }
+        (now (places .entry)) (r .front) (r .taken) (now (held .exit)) (now (counters .exit)) (now (due .exit)) (now (stay .exit)) (now (list .exit)) ⌝ }
     ensures further { λ r. ⌜ (r .front ≡ at .front + 1) × (at .taken ≤ r .taken) ⌝ }
 {
     let mut near = [0u16; Site::NEIGHBOURS as usize];
@@ -162,6 +163,7 @@ fn look(
     let c = count_left(&near, k, rise.most, p as u16, numbers, places, held);
     if rise.most < c {
         held[v as usize] = CANDIDATE;
+        sets::put_in(stay, p as u32);
         counters[v as usize] = c;
         touch(&near, k, rise.most, p as u16, numbers, places, due);
         return Reached {
@@ -190,18 +192,20 @@ fn back(
     held: &mut [u8; Site::RADIOS as usize],
     counters: &mut [u8; Site::RADIOS as usize],
     due: &mut [u8; Site::ROW_BYTES],
+    stay: &mut [u64; 8],
     list: &mut [u16; Site::RADIOS as usize],
 ) -> Reached
     requires { ⌜ Walk-site (rise .a) (rise .b) (rise .most) (part .first) (part .size) (now links) (now numbers) (now tail) (now places) ×
         Walk-state (rise .a) (rise .b) (rise .most) (part .first) (part .size) (now links) (now tail) (now places) (at .front) (at .taken)
-        (now held) (now counters) (now due) (now list) ×
+        (now held) (now counters) (now due) (now stay) (now list) ×
         ((p ≡ head-or max-radios (neighbours-of (now due) 0)) × (p < part .first + at .front)) ⌝ }
     ensures state { λ r. ⌜ Walk-state (rise .a) (rise .b) (rise .most) (part .first) (part .size) (now (links .entry)) (now (tail .entry))
-        (now (places .entry)) (r .front) (r .taken) (now (held .exit)) (now (counters .exit)) (now (due .exit)) (now (list .exit)) ⌝ }
+        (now (places .entry)) (r .front) (r .taken) (now (held .exit)) (now (counters .exit)) (now (due .exit)) (now (stay .exit)) (now (list .exit)) ⌝ }
     ensures further { λ r. ⌜ (r .front ≡ at .front) × (r .taken ≡ at .taken + 1) ⌝ }
 {
     let v = tail[p - part.first];
     held[v as usize] = 0;
+    sets::take_out(stay, p as u32);
     let taken = at.taken;
     list[taken] = v;
     let call = Call {
@@ -240,14 +244,15 @@ fn step(
     held: &mut [u8; Site::RADIOS as usize],
     counters: &mut [u8; Site::RADIOS as usize],
     due: &mut [u8; Site::ROW_BYTES],
+    stay: &mut [u64; 8],
     list: &mut [u16; Site::RADIOS as usize],
 ) -> Reached
     requires { ⌜ Walk-site (rise .a) (rise .b) (rise .most) (part .first) (part .size) (now links) (now numbers) (now tail) (now places) ×
         Walk-state (rise .a) (rise .b) (rise .most) (part .first) (part .size) (now links) (now tail) (now places) (at .front) (at .taken)
-        (now held) (now counters) (now due) (now list) ×
+        (now held) (now counters) (now due) (now stay) (now list) ×
         ((p ≡ next-place (part .first) (part .size) (at .front) (at .taken) (now due)) × (p ≤ max-radios)) ⌝ }
     ensures state { λ r. ⌜ Walk-state (rise .a) (rise .b) (rise .most) (part .first) (part .size) (now (links .entry)) (now (tail .entry))
-        (now (places .entry)) (r .front) (r .taken) (now (held .exit)) (now (counters .exit)) (now (due .exit)) (now (list .exit)) ⌝ }
+        (now (places .entry)) (r .front) (r .taken) (now (held .exit)) (now (counters .exit)) (now (due .exit)) (now (stay .exit)) (now (list .exit)) ⌝ }
     ensures further { λ r. ⌜ (1 ≤ r .front) × (at .front + at .taken < r .front + r .taken) ⌝ }
 {
     if p < part.first + at.front {
@@ -263,6 +268,7 @@ fn step(
             held,
             counters,
             due,
+            stay,
             list,
         );
     }
@@ -278,6 +284,7 @@ fn step(
             held,
             counters,
             due,
+            stay,
             list,
         );
     }
@@ -290,7 +297,7 @@ fn step(
 }
 
 // What a walk that came so far plans.
-fn plan_of(part: Part, at: Reached) -> Plan
+pub(crate) fn plan_of(part: Part, at: Reached) -> Plan
     ensures { λ r. ⌜ (r .start ≡ part .first) × (r .size ≡ at .front) × (r .taken ≡ at .taken) ⌝ }
 {
     Plan {
@@ -320,6 +327,7 @@ pub(crate) fn walk(
     let mut held = [0u8; Site::RADIOS as usize];
     let mut counters = [0u8; Site::RADIOS as usize];
     let mut due = [0u8; Site::ROW_BYTES];
+    let mut stay = [0u64; 8];
     let start = Reached { front: 0, taken: 0 };
     let mut at = look(
         rise,
@@ -332,6 +340,7 @@ pub(crate) fn walk(
         &mut held,
         &mut counters,
         &mut due,
+        &mut stay,
         list,
     );
     let mut p = places::next(part.first, part.size, at.front, at.taken, &due);
@@ -348,11 +357,12 @@ pub(crate) fn walk(
             &mut held,
             &mut counters,
             &mut due,
+            &mut stay,
             list,
         );
         p = places::next(part.first, part.size, at.front, at.taken, &due);
     }
-    super::stretch::list_stuck(0, at.front, rise.most, at.taken, tail, &counters, list);
+    places::list_entries(&stay, part.first, tail, at.taken, list);
     plan_of(part, at)
 }
 

@@ -1,6 +1,6 @@
 -- Sets of eight words.
 -- In order: digits of words joined by `&`, `|` and `^`, one radio tested, taken out and put in, the radios of another set taken out and
--- listed, the lowest radio of two sets, words changed in turn, the radios of a set listed.
+-- listed, the lowest radio of two sets, how many they have, words changed in turn, the radios of a set listed.
 use mathlib.Core.Path.{_≡_, refl, sym, ap, _∙_}
 use mathlib.Core.Logic.{_⊎_, inl, inr}
 use mathlib.Core.Bool.{Bool, true, false, _&&_, _||_, not, cond}
@@ -9,9 +9,9 @@ use Prim.Native.Nat.{ℕ, zero, suc, _+_, _*_, _-_, _/_, _%_, _^_, _≤_, _<_, m
 use native.Mathlib.Omega.{arith}
 use native.Mathlib.Nat.{mod-lt, zero-lt-suc, one-mul, mod-eq-of-lt}
 use lib.Bits.{differ, bitAnd, bitOr, bitXor, and-step, or-step, xor-step, and-shr, or-shr, xor-shr, xor-zero-r, and-mask, and-lt}
-use lib.Count.{trailingZeros}
+use lib.Count.{trailingZeros, ones}
 use lib.Dec.{ltb, eqb}
-use lib.ListN.{length, getD, take, set, replicate, length-set, List·getD-eq-default}
+use lib.ListN.{length, getD, take, set, replicate, length-append, length-set, List·getD-eq-default}
 use lib.Pow.{pow-lt}
 use lib.Seq.{sets, set-out, set-getD, getD-set-same, getD-set-other}
 use borrow.Author.Tests.{ltb-true, ltb-false, eqb-true, eqb-false, eq-eqb, ne-eqb}
@@ -28,7 +28,7 @@ use Rattle.mesh.proofs.Tables.Digits.{digit-nothing, digit-put-digit}
 use Rattle.rows.specs.Rows.{neighbours-of, row-listed, set-bits, row-word}
 use Rattle.sets.specs.Sets.{in-set, take-out, put-in, word-left, word-taken, Row-joined, common, Common-taken, Set-taken, members, Listed}
 use Rattle.rows.proofs.MaskLaws.{put-digit-true, put-digit-false}
-use Rattle.rows.proofs.WordLaws.{set-bits-nothing, set-bits-lowest, length-set-bits-le}
+use Rattle.rows.proofs.WordLaws.{set-bits-nothing, set-bits-lowest, length-set-bits, length-set-bits-le}
 use Rattle.rows.proofs.Listing.{Partial-listing, partial-none, partial-part, partial-end}
 use Rattle.rows.proofs.RowListLaws.{in-neighbours-of, member-neighbours-of}
 use Rattle.rows.proofs.RowWords.{marked-word, words-from, words-end, row-listed-whole, row-listed-short}
@@ -207,12 +207,16 @@ module _ (x k : ℕ) (ws list : List ℕ) (n : ℕ) where
   unfolding word-taken word-left
   some-of-word m new room e f = (omega (arith, e), (f, refl))
 
+pub common-filter : (x y : List ℕ) → common x y ≡ filter (λ v. in-set x v && in-set y v) (range 0 max-radios)
+unfolding common
+common-filter x y = refl
+
 module _ (x ws : List ℕ) where
-  abbrev both : ℕ → Bool
+  abbrev pub both : ℕ → Bool
   both v = in-set x v && in-set ws v
 
   -- radios of both from word k on
-  abbrev both-from : ℕ → List ℕ
+  abbrev pub both-from : ℕ → List ℕ
   both-from k = filter both (range (64 * k) (max-radios - 64 * k))
 
   -- words before word k are done: their radios listed and taken out
@@ -234,7 +238,7 @@ module _ (x ws : List ℕ) where
     listing = partial-none (both-from 0) 0 old (omega arith);
   }
 
-  both-word : (k m : ℕ) → m < 64 → both (64 * k + m) ≡ digit (bitAnd (getD x k 0) (getD ws k 0)) m
+  pub both-word : (k m : ℕ) → m < 64 → both (64 * k + m) ≡ digit (bitAnd (getD x k 0) (getD ws k 0)) m
   unfolding in-set
   both-word k m h =
       let q : (64 * k + m) / 64 ≡ k = omega arith in
@@ -331,6 +335,38 @@ module _ (x y : List ℕ) where
   pub common-search-end : (k : ℕ) → 8 ≤ k → Common-search x y k → max-radios ≡ head-or max-radios (common x y)
   unfolding head-or common
   common-search-end k h i = sym (ap (head-or max-radios) (i .1 ∙ words-end (both x y) k h))
+
+-- ---- how many radios two sets have
+
+-- what is counted so far, and the radios from word k on
+pub record Common-counting (x y : List ℕ) (n k : ℕ) : Type 0 where
+  pub low : k ≤ 8
+  pub few : n ≤ 64 * k
+  pub counted : n + length (both-from x y k) ≡ length (both-from x y 0)
+
+module _ (x y : List ℕ) where
+  pub common-counting-none : Common-counting x y 0 0
+  common-counting-none = record { low = omega arith; few = omega arith; counted = omega arith }
+
+  pub common-word-few : (k : ℕ) → getD x k 0 < 2 ^ 64 → getD y k 0 < 2 ^ 64 → ones (bitAnd (getD x k 0) (getD y k 0)) ≤ 64
+  common-word-few k wx wy =
+      let w = bitAnd (getD x k 0) (getD y k 0) in
+      omega (arith, length-set-bits 64 (64 * k) w (and-lt 64 (getD x k 0) (getD y k 0) wx wy), length-set-bits-le 64 (64 * k) w)
+
+  pub common-counting-turn : (n k : ℕ) → k < 8 → getD x k 0 < 2 ^ 64 → getD y k 0 < 2 ^ 64 → Common-counting x y n k
+      → Common-counting x y (n + ones (bitAnd (getD x k 0) (getD y k 0))) (k + 1)
+  common-counting-turn n k h wx wy i =
+      let w = bitAnd (getD x k 0) (getD y k 0) in
+      let split = ap length (words-from (both x y) k w h (both-word x y k)) ∙ length-append (set-bits 64 (64 * k) w) (both-from x y (k + 1)) in
+      record {
+        low = omega arith;
+        few = omega (arith, i .few, common-word-few k wx wy);
+        counted = omega (arith, i .counted, split, length-set-bits 64 (64 * k) w (and-lt 64 (getD x k 0) (getD y k 0) wx wy));
+      }
+
+  pub common-counting-end : (n k : ℕ) → 8 ≤ k → Common-counting x y n k → n ≡ length (common x y)
+  unfolding common
+  common-counting-end n k h i = omega (arith, i .counted, ap length (words-end (both x y) k h))
 
 -- ---- every word of a set changed in turn
 

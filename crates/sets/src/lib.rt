@@ -120,6 +120,20 @@ pub fn first_common<'a>(one: &'a [u64], other: &'a [u64]) -> u32
     mesh::Site::RADIOS
 }
 
+// How many radios both sets have.
+pub fn count_common<'a>(one: &'a [u64], other: &'a [u64]) -> u32
+    requires { ⌜ (length (now one) ≡ 8) × (length (now other) ≡ 8) ⌝ }
+    ensures { λ r. ⌜ r ≡ length (common (now (one .entry)) (now (other .entry))) ⌝ }
+{
+    let mut n: u32 = 0;
+    let mut k: usize = 0;
+    while k < rows::ROW_WORDS as usize {
+        n += u64::count_ones(one[k] & other[k]);
+        k += 1;
+    }
+    n
+}
+
 // Writes the radios of the set into the list, ascending, as many as fit, and comes back with how many it wrote; later entries keep
 // their content.
 pub fn list(set: &[u64], list: &mut [u16]) -> u32

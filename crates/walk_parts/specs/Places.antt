@@ -5,15 +5,21 @@
 --   beginning-end              the lower end, with equal numbers the earlier
 --   stands-first first k ns os   the radio at place `first` stands first in level k
 --   next-place                 where the next turn is, `stop-place` when the walk is at its end
+--   set-places ws              the places of a set of words, ascending
+--   entries-at first tail ps   the entries of `tail`, which stands from place `first` on, at the places ps
+--   Stands first size ps       all of ps are places of it
+--   Marked-places              a set of words that tells the places of marked entries
 -- Laws are in proofs/PlaceLaws.antt. Definitions only.
+use mathlib.Core.Path.{_≡_}
 use mathlib.Core.Bool.{Bool, true, cond}
-use mathlib.Core.List.{List}
-use Prim.Native.Nat.{ℕ, suc, _+_, _-_}
+use mathlib.Core.List.{List, map}
+use Prim.Native.Nat.{ℕ, suc, _+_, _-_, _≤_, _<_}
 use lib.Dec.{ltb, leb, eqb}
-use lib.ListN.{getD}
+use lib.ListN.{length, getD}
 use Rattle.mesh.specs.Limits.{max-radios}
-use Rattle.lists.specs.Lists.{count, head-or}
+use Rattle.lists.specs.Lists.{count, filter, head-or, range, In}
 use Rattle.rows.specs.Rows.{neighbours-of}
+use Rattle.sets.specs.Sets.{in-set}
 
 abbrev pub level-start : (numbers : List ℕ) → (k : ℕ) → ℕ
 level-start ns k = count (λ x. ltb x k) ns
@@ -42,3 +48,18 @@ unfoldable pub next-place : (first size front taken : ℕ) → (due : List ℕ) 
 next-place first size front taken ds =
     let p = head-or max-radios (neighbours-of ds 0) in
     cond (leb front taken) stop-place (cond (ltb p (first + front)) p (cond (leb size front) stop-place p))
+
+abbrev pub set-places : (words : List ℕ) → List ℕ
+set-places ws = filter (in-set ws) (range 0 max-radios)
+
+abbrev pub entries-at : (first : ℕ) → (tail places : List ℕ) → List ℕ
+entries-at first tail ps = map (λ p. getD tail (p - first) 0) ps
+
+abbrev pub Stands : (first size : ℕ) → (places : List ℕ) → Type 0
+Stands first size ps = (p : ℕ) → In p ps → (first ≤ p) × (p - first < size)
+
+-- of the first `size` entries of `tail`, which stands from place `first` on
+pub record Marked-places (first size : ℕ) (tail : List ℕ) (mark : ℕ → Bool) (words : List ℕ) : Type 0 where
+  pub long : length words ≡ 8
+  pub inside : (p : ℕ) → in-set words p ≡ true → (first ≤ p) × (p < first + size)
+  pub is : (q : ℕ) → q < size → in-set words (first + q) ≡ mark (getD tail q 0)

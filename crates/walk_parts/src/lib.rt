@@ -3,3 +3,4 @@
 pub mod ends;
 pub mod places;
 pub mod stretch;
+pub mod words;

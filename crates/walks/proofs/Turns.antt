@@ -7,22 +7,23 @@
 --   turn-hold    x is held
 use mathlib.Core.Path.{_≡_, refl, sym, ap, _∙_}
 use mathlib.Core.Logic.{_⊎_, inl, inr}
-use mathlib.Core.Bool.{Bool, true, false, cond}
+use mathlib.Core.Bool.{Bool, true, false, not, _&&_, cond}
 use mathlib.Core.List.{List, [], _∷_, _++_, append-nil, append-assoc}
 use Prim.Native.Nat.{ℕ, zero, suc, _+_, _-_, _≤_, _<_}
 use native.Mathlib.Omega.{arith}
-use native.Mathlib.Nat.{add-zero, add-suc}
+use native.Mathlib.Nat.{add-zero, add-suc, le-antisymm}
 use lib.Dec.{ltb, leb, eqb}
 use lib.ListN.{length, getD, take, drop, length-drop, length-append, take-append-drop, drop-of-length-le}
 use lib.Seq.{drop-cons, getD-drop, take-at, take-all, take-suc}
-use borrow.Author.Tests.{leb-true, leb-false, le-leb, lt-leb, eqb-true, eqb-false, ltb-true, ltb-false, lt-ltb, le-ltb}
-use Rattle.lists.specs.Lists.{count, filter, member, In}
+use borrow.Author.Tests.{leb-true, leb-false, le-leb, lt-leb, eqb-true, eqb-false, ltb-true, ltb-false, lt-ltb, le-ltb, not-true}
+use Rattle.lists.specs.Lists.{range, count, filter, member, In}
 use Rattle.lists.specs.Facts.{Distinct, Rising}
-use Rattle.lists.proofs.Tests.{bool-cases, never, bit-true, bit-false}
+use Rattle.lists.proofs.Tests.{bool-cases, never, and-left, and-right, and-both, bit-true, bit-false}
 use Rattle.lists.proofs.Member.{in-left, in-right, in-cases, in-drop, split-in, member-in, in-member, not-member, getD-of-in, in-getD}
 use Rattle.lists.proofs.Count.{count-append, count-mid, count-none, count-all}
-use Rattle.lists.proofs.Filter.{filter-all, filter-ext, filter-append}
-use Rattle.lists.proofs.Distinct.{distinct-left, distinct-mid, distinct-right, distinct-apart, permutation-distinct}
+use Rattle.lists.proofs.Filter.{filter-all, filter-none, filter-ext, filter-append}
+use Rattle.lists.proofs.Distinct.{count-sub, distinct-left, distinct-mid, distinct-right, distinct-apart, permutation-in, permutation-distinct}
+use Rattle.lists.proofs.Range.{in-range, range-in, distinct-range}
 use Rattle.mesh.specs.Peel.{Takes, none, Peels}
 use Rattle.mesh.proofs.Links.Peel.{takes-permutation, takes-now-in, takes-now-filter}
 use Rattle.lists.proofs.Ascending.{rising-filter, rising-before}
@@ -237,6 +238,83 @@ module _ (f : ℕ → ℕ → Bool) (most : ℕ) (above part : List ℕ) (pos : 
 
         all-full : (w : ℕ) → In w (h .held) → most < count (f w) (h .held ++ x ∷ after) + count (f w) above
         all-full w m = rw (← cut) (not-due-full w m (not-due w m))
+
+        -- what x has left, counted among the radios below n: entries of the part or above that are not taken
+        module _ (once : Distinct (part ++ above)) (n : ℕ) (below : (w : ℕ) → In w (part ++ above) → w < n) (left-in : ℕ → Bool)
+            (left-is : (w : ℕ) → w < n → left-in w ≡ (member w (part ++ above) && not (member w taken))) where
+          abbrev zs : List ℕ
+          zs = h .held ++ (after ++ above)
+
+          abbrev arranged : List ℕ
+          arranged = taken ++ (h .held ++ x ∷ (after ++ above))
+
+          same : (g : ℕ → Bool) → count g arranged ≡ count g (part ++ above)
+          same g =
+              omega (
+                arith,
+                count-append g taken (h .held ++ x ∷ (after ++ above)),
+                count-mid g x (h .held) (after ++ above),
+                count-append g (h .held) (after ++ above),
+                count-append g after above,
+                takes-permutation f most above takes-now g,
+                count-append g taken (h .held ++ x ∷ after),
+                count-mid g x (h .held) after,
+                count-append g (h .held) after,
+                count-append g part above,
+              )
+
+          arranged-once : Distinct arranged
+          arranged-once = permutation-distinct arranged (part ++ above) same once
+
+          zs-once : Distinct zs
+          zs-once = distinct-mid x (h .held) (after ++ above) (distinct-right taken (h .held ++ x ∷ (after ++ above)) arranged-once) .1
+
+          to : (w : ℕ) → In w (range 0 n) → (f x w && left-in w) ≡ true → In w zs × (f x w ≡ true)
+          to w m e = (mid (in-cases w taken (h .held ++ x ∷ (after ++ above)) there), linked)
+            where
+              linked : f x w ≡ true
+              linked = and-left (f x w) (left-in w) e
+
+              kept : (member w (part ++ above) && not (member w taken)) ≡ true
+              kept = sym (left-is w (omega (arith, range-in 0 n w m))) ∙ and-right (f x w) (left-in w) e
+
+              there : In w arranged
+              there =
+                  permutation-in (part ++ above) arranged (λ g. sym (same g)) w
+                  (member-in w (part ++ above) (and-left (member w (part ++ above)) (not (member w taken)) kept))
+
+              mid : In w taken ⊎ In w (h .held ++ x ∷ (after ++ above)) → In w zs
+              mid (inl i) =
+                  never (member w taken) (in-member w taken i) (not-true (member w taken) (and-right (member w (part ++ above)) (not (member w taken)) kept))
+              mid (inr i) = in-drop w x (h .held) (after ++ above) (λ q. never (f x w) linked (ap (f x) (sym q) ∙ P .irreflexive x)) i
+
+          from : (w : ℕ) → In w zs → f x w ≡ true → In w (range 0 n) × ((f x w && left-in w) ≡ true)
+          from w m e = (
+            in-range 0 n w (omega arith) (omega (arith, l)),
+            and-both (f x w) (left-in w) e (left-is w l ∙ and-both _ _ (in-member w (part ++ above) i) (ap not (not-member w taken out))),
+          )
+            where
+              late : In w (h .held ++ x ∷ (after ++ above))
+              late = go (in-cases w (h .held) (after ++ above) m)
+                where
+                  go : In w (h .held) ⊎ In w (after ++ above) → In w (h .held ++ x ∷ (after ++ above))
+                  go (inl j) = in-left w (h .held) (x ∷ (after ++ above)) j
+                  go (inr j) = in-right w (h .held) (x ∷ (after ++ above)) (inr j)
+
+              i : In w (part ++ above)
+              i = permutation-in arranged (part ++ above) same w (in-right w taken (h .held ++ x ∷ (after ++ above)) late)
+
+              l : w < n
+              l = below w i
+
+              out : In w taken → ⊥
+              out j = distinct-apart taken (h .held ++ x ∷ (after ++ above)) arranged-once w j late
+
+          pub left-count : count (λ w. f x w && left-in w) (range 0 n) ≡ count (f x) (h .held ++ after) + count (f x) above
+          left-count =
+              le-antisymm (count-sub (λ w. f x w && left-in w) (f x) (range 0 n) zs (distinct-range 0 n) to)
+              (count-sub (f x) (λ w. f x w && left-in w) zs (range 0 n) zs-once from)
+              ∙ omega (arith, count-append (f x) (h .held) (after ++ above), count-append (f x) after above, count-append (f x) (h .held) after)
 
         -- x is taken where it stands
         pub turn-take : {new : ℕ → ℕ} {next : ℕ → Bool} → Released x front mark counter new due next
@@ -457,51 +535,75 @@ module _ (f : ℕ → ℕ → Bool) (most : ℕ) (above part : List ℕ) (pos : 
             h .room,
           )
 
+      -- what is left of the walked radios, in their order
+      held-front : h .held ≡ filter (λ v. member v (h .held ++ rest)) (take front part)
+      held-front =
+          let t : ℕ → Bool = λ v. member v (h .held ++ rest) in
+          let parts : h .held ++ rest ≡ filter t (take front part) ++ rest =
+          takes-now-filter f most above (P .distinct) (h .takes)
+          ∙ ap (filter t) (sym (take-append-drop front part))
+          ∙ filter-append t (take front part) rest
+          ∙ ap (λ (z : List ℕ). filter t (take front part) ++ z) (filter-all t rest (λ v m. in-member v (h .held ++ rest) (in-right v (h .held) rest m))) in
+          cancel (h .held) (filter t (take front part)) rest parts
+        where
+          cancel : (us vs zs : List ℕ) → us ++ zs ≡ vs ++ zs → us ≡ vs
+          cancel us vs zs e =
+              let l : length us ≡ length vs = omega (arith, ap length e, length-append us zs, length-append vs zs) in
+              sym (take-at us zs (length us) refl) ∙ ap (take (length us)) e ∙ take-at vs zs (length us) (sym l)
+
+      walked-not-rest : (v : ℕ) → In v (take front part) → In v rest → ⊥
+      walked-not-rest = distinct-apart (take front part) rest (rw (take-append-drop front part) (P .distinct))
+
+      -- a walked radio is left where it is held
+      left-walked : (v : ℕ) → In v (take front part) → member v (h .held ++ rest) ≡ member v (h .held)
+      left-walked v m = go (in-or-not v (h .held))
+        where
+          out : (In v (h .held) → ⊥) → In v (h .held) ⊎ In v rest → ⊥
+          out k (inl i) = k i
+          out k (inr i) = walked-not-rest v m i
+
+          go : In v (h .held) ⊎ (In v (h .held) → ⊥) → member v (h .held ++ rest) ≡ member v (h .held)
+          go (inl i) = in-member v (h .held ++ rest) (in-left v (h .held) rest i) ∙ sym (in-member v (h .held) i)
+          go (inr i) =
+              not-member v (h .held ++ rest) (λ q. out i (in-cases v (h .held) rest q)) ∙ sym (not-member v (h .held) i)
+
+      -- the candidates are the marked radios of the part, in their order
+      pub held-listed : h .held ≡ filter mark part
+      held-listed =
+          held-front
+          ∙ filter-ext (λ v. member v (h .held ++ rest)) mark (take front part) (λ v m. left-walked v m ∙ sym (h .marks v))
+          ∙ sym (append-nil (filter mark (take front part)))
+          ∙ ap (λ (z : List ℕ). filter mark (take front part) ++ z) (sym (filter-none mark rest unmarked))
+          ∙ sym (filter-append mark (take front part) rest)
+          ∙ ap (filter mark) (take-append-drop front part)
+        where
+          unmarked : (v : ℕ) → In v rest → mark v ≡ false
+          unmarked v m = h .marks v ∙ not-member v (h .held) (λ i. omega (arith, h .behind v i, in-rest front v m .0))
+
       module _ (none : (p : ℕ) → p < front → due p ≡ false) where
         held-test : (v : ℕ) → In v (take front part) → member v (h .held ++ rest) ≡ ltb most (counter v)
-        held-test v m = go (in-or-not v (h .held))
+        held-test v m = left-walked v m ∙ go (in-or-not v (h .held))
           where
-            not-rest : In v rest → ⊥
-            not-rest = distinct-apart (take front part) rest (rw (take-append-drop front part) (P .distinct)) v m
-
-            out : (In v (h .held) → ⊥) → In v (h .held) ⊎ In v rest → ⊥
-            out k (inl i) = k i
-            out k (inr i) = not-rest i
-
-            go : In v (h .held) ⊎ (In v (h .held) → ⊥) → member v (h .held ++ rest) ≡ ltb most (counter v)
+            go : In v (h .held) ⊎ (In v (h .held) → ⊥) → member v (h .held) ≡ ltb most (counter v)
             go (inl i) =
-                in-member v (h .held ++ rest) (in-left v (h .held) rest i)
-                ∙ sym (lt-ltb most (counter v) (omega (arith, h .exact v i, not-due-full v i (none (pos v) (h .behind v i)))))
-            go (inr i) =
-                not-member v (h .held ++ rest) (λ q. out i (in-cases v (h .held) rest q)) ∙ sym (le-ltb most (counter v) (h .spent v i))
+                in-member v (h .held) i ∙ sym (lt-ltb most (counter v) (omega (arith, h .exact v i, not-due-full v i (none (pos v) (h .behind v i)))))
+            go (inr i) = not-member v (h .held) i ∙ sym (le-ltb most (counter v) (h .spent v i))
 
         -- the candidates are the walked radios whose counter is above the bound, in their order
         pub held-is : h .held ≡ filter (λ v. ltb most (counter v)) (take front part)
-        held-is =
-            let t : ℕ → Bool = λ v. member v (h .held ++ rest) in
-            let parts : h .held ++ rest ≡ filter t (take front part) ++ rest =
-            takes-now-filter f most above (P .distinct) (h .takes)
-            ∙ ap (filter t) (sym (take-append-drop front part))
-            ∙ filter-append t (take front part) rest
-            ∙ ap (λ (z : List ℕ). filter t (take front part) ++ z) (filter-all t rest (λ v m. in-member v (h .held ++ rest) (in-right v (h .held) rest m))) in
-            cancel (h .held) (filter t (take front part)) rest parts ∙ filter-ext t (λ v. ltb most (counter v)) (take front part) held-test
-          where
-            cancel : (us vs zs : List ℕ) → us ++ zs ≡ vs ++ zs → us ≡ vs
-            cancel us vs zs e =
-                let l : length us ≡ length vs = omega (arith, ap length e, length-append us zs, length-append vs zs) in
-                sym (take-at us zs (length us) refl) ∙ ap (take (length us)) e ∙ take-at vs zs (length us) (sym l)
+        held-is = held-front ∙ filter-ext (λ v. member v (h .held ++ rest)) (λ v. ltb most (counter v)) (take front part) held-test
 
         -- the part is at its end: the candidates are stuck
-        pub turns-end : front ≡ length part → Peels f most above part taken (filter (λ v. ltb most (counter v)) part)
-        turns-end e =
-            rw (← stuck) (walk-end f most above (h .held) (rw gone at (h .takes)) (λ v m.
-            omega (arith, not-due-full v m (none (pos v) (h .behind v m)), ap (λ (z : List ℕ). count (f v) (h .held ++ z)) gone, ap (count (f v)) (append-nil (h .held)))))
+        pub turns-stuck : front ≡ length part → Peels f most above part taken (h .held)
+        turns-stuck e =
+            walk-end f most above (h .held) (rw gone at (h .takes)) (λ v m.
+            omega (arith, not-due-full v m (none (pos v) (h .behind v m)), ap (λ (z : List ℕ). count (f v) (h .held ++ z)) gone, ap (count (f v)) (append-nil (h .held))))
           where
             gone : rest ≡ []
             gone = drop-of-length-le part {i = front} (omega arith)
 
-            stuck : h .held ≡ filter (λ v. ltb most (counter v)) part
-            stuck = held-is ∙ ap (filter (λ v. ltb most (counter v))) (take-all front part (omega arith))
+        pub turns-end : front ≡ length part → Peels f most above part taken (filter (λ v. ltb most (counter v)) part)
+        turns-end e = rw (← (held-is ∙ ap (filter (λ v. ltb most (counter v))) (take-all front part (omega arith)))) (turns-stuck e)
 
       -- no candidate is left: what was not looked at stays
       pub turns-stop : length taken ≡ front → Few-front f most above rest [] → Peels f most above part (taken ++ rest) []
@@ -545,6 +647,23 @@ module _ (f : ℕ → ℕ → Bool) (most : ℕ) (above part : List ℕ) (pos : 
           → ((i : ℕ) → front ≤ i → i < length part → count (f (getD part i 0)) (drop (suc i) part) + count (f (getD part i 0)) above ≤ most)
           → Walks (taken ++ take m (drop front part)) (front + m) mark counter due
       turns-pass m h room undue few = pass-all m (rw (append-nil taken, add-zero front) h) room undue few
+
+    -- the places due told otherwise
+    pub turns-due : {taken : List ℕ} {front : ℕ} {mark : ℕ → Bool} {counter : ℕ → ℕ} {due : ℕ → Bool} → Walks taken front mark counter due
+        → (next : ℕ → Bool) → ((q : ℕ) → due q ≡ next q) → Walks taken front mark counter next
+    turns-due h next same = record {
+      held = h .held;
+      takes = h .takes;
+      room = h .room;
+      behind = h .behind;
+      marks = h .marks;
+      exact = h .exact;
+      fits = λ v m. sym (same _) ∙ h .fits v m;
+      spent = h .spent;
+      fallen = λ p l e. h .fallen p l (same p ∙ e);
+      inside = λ p e. h .inside p (same p ∙ e);
+      touched = λ v w m i e. sym (same _) ∙ h .touched v w m i e;
+    }
 
     -- before the first turn
     pub turns-none : (mark : ℕ → Bool) (counter : ℕ → ℕ) (due : ℕ → Bool) → ((v : ℕ) → mark v ≡ false) → ((v : ℕ) → counter v ≤ most)

@@ -55,23 +55,39 @@ sub-size c =
 
 walk-requires : tie.Need-walk-requires
 walk-requires c κs =
-    let sized = c .before .before .before .before in
-    let start = c .before .before .before .before .before .before .before .before .before .before .before .before in
+    let sized = c .before .before .before .before .before .before in
+    let start = c .before .before .before .before .before .before .before .before .before .before .before .before .before .before in
     let at = start .pre .1 .1 in (
-      site-lent (start .pre .0) _ (at .level) _ refl _ (omega (arith, sized .stretch-of .ensures .0, sized .stretch-of .ensures .1, at .place)) _ (at .place) _ refl,
+      (_, site-lent (start .pre .0) _ (at .level) _ refl _ (omega (arith, sized .stretch-of .ensures .0, sized .stretch-of .ensures .1, at .place)) _ (at .place) _ refl),
       start .pre .1 .0,
     )
 
 returns-3 : tie.Need-returns-3
 returns-3 c =
-    let made = c in
-    let sized = c .before .before .before .before .before in
-    let start = c .before .before .before .before .before .before .before .before .before .before .before .before .before in
+    let sized = c .before .before .before .before .before .before .before in
+    let start = c .before .before .before .before .before .before .before .before .before .before .before .before .before .before .before in
     let at = start .pre .1 .1 in
     walked-lent (start .pre .0) _ (at .level) _ refl _ (omega (arith, sized .stretch-of .ensures .0, sized .stretch-of .ensures .1, at .place)) _ (at .place) _ refl _ _ _ _
-    (made .walk .ensures .0) (made .walk .ensures .1)
+    (c .walk .ensures .0) (c .walk .ensures .1)
+
+walk-requires-2 : tie.Need-walk-requires-2
+walk-requires-2 c κs =
+    let sized = c .before .before .before .before .before .before in
+    let start = c .before .before .before .before .before .before .before .before .before .before .before .before .before .before in
+    let at = start .pre .1 .1 in (
+      site-lent (start .pre .0) _ (at .level) _ refl _ (omega (arith, sized .stretch-of .ensures .0, sized .stretch-of .ensures .1, at .place)) _ (at .place) _ refl,
+      start .pre .1 .0,
+    )
+
+returns-4 : tie.Need-returns-4
+returns-4 c =
+    let sized = c .before .before .before .before .before .before .before in
+    let start = c .before .before .before .before .before .before .before .before .before .before .before .before .before .before .before in
+    let at = start .pre .1 .1 in
+    walked-lent (start .pre .0) _ (at .level) _ refl _ (omega (arith, sized .stretch-of .ensures .0, sized .stretch-of .ensures .1, at .place)) _ (at .place) _ refl _ _ _ _
+    (c .walk2 .ensures .0) (c .walk2 .ensures .1)
 
 pub plan-on-spec : {M : Type 1} → statement M
 plan-on-spec =
     tie.close (
-    tie.spec mul-tail sub-tail part-tail-start (λ c. search needs) settled-requires (λ c κs. search needs) returns (λ c κs. search needs) (λ c κs. search needs) (λ c. search needs) add-size sub-size walk-requires returns-3)
+    tie.spec mul-tail sub-tail part-tail-start (λ c. search needs) settled-requires (λ c κs. search needs) returns (λ c κs. search needs) (λ c κs. search needs) (λ c. search needs) add-size sub-size walk-requires returns-3 walk-requires-2 returns-4)
